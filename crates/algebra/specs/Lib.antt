@@ -1,0 +1,13 @@
+pub mod Ring
+pub mod Fourier
+pub mod Gauss
+pub mod Residue
+pub mod Line
+pub mod Folds
+pub mod Kinds
+pub mod Orbit
+pub mod Cell
+pub mod CellSteps
+pub mod CellTests
+pub mod CellPack
+pub mod CellBook

@@ -1,0 +1,4 @@
+pub mod Prime
+pub mod Value
+pub mod Root
+pub mod Accumulator

@@ -1,0 +1,209 @@
+// Residues modulo one of two primes, values a + b i over them, and the tables of the root's powers.
+//
+// Every function takes the modulus number m: 1 for 86,399 and 2 for 302,399. Contracts speak of the residues and
+// values that the numbers stand for. Products are formed in 64 bits and reduced once.
+ghost use mathlib.Core.Path.{_≡_};
+ghost use Prim.Native.Nat.{ℕ, _+_, _*_, _-_, _/_, _%_, _<_, _≤_};
+ghost use Rattle.algebra.specs.Ring.{Ops};
+ghost use Rattle.algebra.specs.Residue.{Res};
+ghost use Rattle.numbers.specs.Prime.{prime, IsModulus};
+ghost use Rattle.numbers.specs.Value.{Value, ring, field, conj, i, res, value, half, part, real, valueOf, pairOf, Small};
+ghost use mathlib.Core.List.{List};
+ghost use Rattle.numbers.specs.Accumulator.{Accumulated};
+ghost use Rattle.numbers.specs.Root.{entryAt, RealTable, ImaginaryTable, TangentTable, NegatedTable};
+
+// A value of the paper: re + im i.
+pub struct Pair {
+    pub re: u32,
+    pub im: u32,
+}
+
+// Sums that are not reduced yet.
+pub struct Accumulator {
+    pub re: u64,
+    pub im: u64,
+}
+
+pub fn modulus(m: u32) -> u32
+    requires { ⌜ IsModulus m ⌝ }
+    ensures { λ r. ⌜ (r ≡ prime m) × (86399 ≤ r) × (r ≤ 302399) ⌝ }
+{
+    if m == 1 { 86399 } else { 302399 }
+}
+
+// The residue of x. The divisors are constants: twice as fast as a division by a variable.
+pub fn reduce(m: u32, x: u64) -> u32
+    requires { ⌜ IsModulus m ⌝ }
+    ensures { λ r. ⌜ r ≡ res m x .val ⌝ }
+{
+    if m == 1 {
+        (x % 86399) as u32
+    } else {
+        (x % 302399) as u32
+    }
+}
+
+pub fn add(m: u32, a: u32, b: u32) -> u32
+    requires { ⌜ IsModulus m × (a < prime m) × (b < prime m) ⌝ }
+    ensures { λ r. ⌜ r ≡ ring m .add (res m a) (res m b) .val ⌝ }
+{
+    let p = modulus(m);
+    let s = a + b;
+    if s < p { s } else { s - p }
+}
+
+pub fn sub(m: u32, a: u32, b: u32) -> u32
+    requires { ⌜ IsModulus m × (a < prime m) × (b < prime m) ⌝ }
+    ensures { λ r. ⌜ r ≡ ring m .add (res m a) (ring m .neg (res m b)) .val ⌝ }
+{
+    let p = modulus(m);
+    if b <= a { a - b } else { a + (p - b) }
+}
+
+pub fn neg(m: u32, a: u32) -> u32
+    requires { ⌜ IsModulus m × (a < prime m) ⌝ }
+    ensures { λ r. ⌜ r ≡ ring m .neg (res m a) .val ⌝ }
+{
+    let p = modulus(m);
+    if a == 0 { 0 } else { p - a }
+}
+
+// The whole product of two residues.
+fn whole(a: u32, b: u32) -> u64
+    requires { ⌜ (a ≤ 302399) × (b ≤ 302399) ⌝ }
+    ensures { λ r. ⌜ (r ≡ a * b) × (r ≤ 91445155201) ⌝ }
+{
+    (a as u64) * (b as u64)
+}
+
+pub fn mul(m: u32, a: u32, b: u32) -> u32
+    requires { ⌜ IsModulus m × (a < prime m) × (b < prime m) ⌝ }
+    ensures { λ r. ⌜ r ≡ ring m .mul (res m a) (res m b) .val ⌝ }
+{
+    let p = modulus(m);
+    reduce(m, whole(a, b))
+}
+
+// Half of a residue: an odd one is made even by the odd prime.
+pub fn halve(m: u32, a: u32) -> u32
+    requires { ⌜ IsModulus m × (a < prime m) ⌝ }
+    ensures { λ r. ⌜ r ≡ ring m .mul (half m) (res m a) .val ⌝ }
+{
+    let p = modulus(m);
+    if a % 2 == 0 { a / 2 } else { (a + p) / 2 }
+}
+
+// 1/N of an admitted N.
+pub fn reciprocal(m: u32, n: u32) -> u32
+    requires { ⌜ IsModulus m × (2 ≤ n) ⌝ }
+    ensures { λ r. ⌜ (r ≡ part m n .val) × (r < prime m) ⌝ }
+{
+    let p = modulus(m);
+    (p + 1) / n
+}
+
+pub fn sum(m: u32, a: Pair, b: Pair) -> Pair
+    requires { ⌜ IsModulus m × Small (prime m) a × Small (prime m) b ⌝ }
+    ensures { λ r. ⌜ r ≡ pairOf (field m .add (valueOf m a) (valueOf m b)) ⌝ }
+{
+    Pair {
+        re: add(m, a.re, b.re),
+        im: add(m, a.im, b.im),
+    }
+}
+
+pub fn difference(m: u32, a: Pair, b: Pair) -> Pair
+    requires { ⌜ IsModulus m × Small (prime m) a × Small (prime m) b ⌝ }
+    ensures { λ r. ⌜ r ≡ pairOf (field m .add (valueOf m a) (field m .neg (valueOf m b))) ⌝ }
+{
+    Pair {
+        re: sub(m, a.re, b.re),
+        im: sub(m, a.im, b.im),
+    }
+}
+
+pub fn negated(m: u32, a: Pair) -> Pair
+    requires { ⌜ IsModulus m × Small (prime m) a ⌝ }
+    ensures { λ r. ⌜ r ≡ pairOf (field m .neg (valueOf m a)) ⌝ }
+{
+    Pair {
+        re: neg(m, a.re),
+        im: neg(m, a.im),
+    }
+}
+
+pub fn conjugate(m: u32, a: Pair) -> Pair
+    requires { ⌜ IsModulus m × Small (prime m) a ⌝ }
+    ensures { λ r. ⌜ r ≡ pairOf (conj m (valueOf m a)) ⌝ }
+{
+    Pair {
+        re: a.re,
+        im: neg(m, a.im),
+    }
+}
+
+pub fn times_i(m: u32, a: Pair) -> Pair
+    requires { ⌜ IsModulus m × Small (prime m) a ⌝ }
+    ensures { λ r. ⌜ r ≡ pairOf (field m .mul (i m) (valueOf m a)) ⌝ }
+{
+    Pair {
+        re: neg(m, a.im),
+        im: a.re,
+    }
+}
+
+pub fn product(m: u32, a: Pair, b: Pair) -> Pair
+    requires { ⌜ IsModulus m × Small (prime m) a × Small (prime m) b ⌝ }
+    ensures { λ r. ⌜ r ≡ pairOf (field m .mul (valueOf m a) (valueOf m b)) ⌝ }
+{
+    let p = modulus(m);
+    Pair {
+        re: reduce(m, whole(a.re, b.re) + whole(a.im, p - b.im)),
+        im: reduce(m, whole(a.re, b.im) + whole(a.im, b.re)),
+    }
+}
+
+// A value times the residue c.
+pub fn scaled(m: u32, c: u32, a: Pair) -> Pair
+    requires { ⌜ IsModulus m × (c < prime m) × Small (prime m) a ⌝ }
+    ensures { λ r. ⌜ r ≡ pairOf (field m .mul (real m (res m c)) (valueOf m a)) ⌝ }
+{
+    Pair {
+        re: mul(m, c, a.re),
+        im: mul(m, c, a.im),
+    }
+}
+
+pub fn halved(m: u32, a: Pair) -> Pair
+    requires { ⌜ IsModulus m × Small (prime m) a ⌝ }
+    ensures { λ r. ⌜ r ≡ pairOf (field m .mul (real m (half m)) (valueOf m a)) ⌝ }
+{
+    Pair {
+        re: halve(m, a.re),
+        im: halve(m, a.im),
+    }
+}
+
+// One product more. Sixty-four bits hold millions of them.
+pub fn add_product(m: u32, a: Accumulator, x: Pair, y: Pair) -> Accumulator
+    requires { ⌜ IsModulus m × Small (prime m) x × Small (prime m) y ⌝ }
+    requires { ⌜ (a .re ≤ 1000000000000000000) × (a .im ≤ 1000000000000000000) ⌝ }
+    ensures { λ r. ⌜ ((n : ℕ) (z : Value m) → Accumulated m n a z → Accumulated m (n + 1) r (field m .add z (field m .mul (valueOf m x) (valueOf m y)))) ⌝ }
+{
+    let p = modulus(m);
+    Accumulator {
+        re: a.re + (whole(x.re, y.re) + whole(x.im, p - y.im)),
+        im: a.im + (whole(x.re, y.im) + whole(x.im, y.re)),
+    }
+}
+
+// The sum, reduced once.
+pub fn reduced(m: u32, a: Accumulator) -> Pair
+    requires { ⌜ IsModulus m ⌝ }
+    ensures { λ r. ⌜ r ≡ pairOf (value m (a .re) (a .im)) ⌝ }
+{
+    Pair {
+        re: reduce(m, a.re),
+        im: reduce(m, a.im),
+    }
+}

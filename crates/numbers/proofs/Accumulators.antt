@@ -26,3 +26,7 @@ accumulated-next m n a z w s t u v h e hs ht hu hv = record {
   im = omega arith;
   value-is = value-add m (a .re) (a .im) (s + t) (u + v) ∙ cc;
 }
+
+-- five million products leave room for one more
+pub accumulated-room : {m n : ℕ} {a : Accumulator} {z : Value m} → n ≤ 5000000 → Accumulated m n a z → (a .re ≤ 1000000000000000000) × (a .im ≤ 1000000000000000000)
+accumulated-room l h = omega arith

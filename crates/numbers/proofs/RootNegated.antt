@@ -6,8 +6,6 @@ use native.Mathlib.Omega.{arith}
 use native.Mathlib.Decide.{ℕ-discrete}
 use lib.ListN.{length, getD, set, length-set}
 use lib.Seq.{getD-set-same, getD-set-other}
-use Rattle.algebra.specs.Ring.{Ops}
-use Rattle.algebra.specs.Residue.{Res}
 use Rattle.numbers.specs.Value.{ring, res}
 use Rattle.numbers.specs.Root.{AllBelow, NegatedTable}
 

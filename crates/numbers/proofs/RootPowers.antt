@@ -1,18 +1,17 @@
 -- Two tables as the powers of one value: those of r, and, with the imaginary parts negated, those of its conjugate. Every number of a table is a residue.
-use mathlib.Core.Path.{_≡_, refl, sym, _∙_, ap}
+use mathlib.Core.Path.{_≡_, _∙_, ap}
 use mathlib.Core.List.{List}
 use Prim.Native.Nat.{ℕ, _<_}
 use native.Mathlib.Omega.{arith}
 use lib.Dec.{lit<}
 use lib.ListN.{length, getD}
-use Rattle.algebra.specs.Ring.{Ops, pow}
-use Rattle.algebra.specs.Residue.{Res}
+use Rattle.algebra.specs.Ring.{pow}
 use Rattle.algebra.specs.Gauss as Gauss
 use Rattle.algebra.proofs.Laws.{mul-one}
 use Rattle.algebra.proofs.Transform.{pow-zero, pow-suc, inverse-cycle}
 use Rattle.algebra.proofs.Conj.{conj-pow}
 use Rattle.numbers.specs.Prime.{prime, IsModulus}
-use Rattle.numbers.specs.Value.{Value, Residue, ring, field, conj, res, pairOf, Small}
+use Rattle.numbers.specs.Value.{Value, ring, field, conj, pairOf, Small}
 use Rattle.numbers.specs.Root.{root, RealTable, ImaginaryTable, TangentTable, AllBelow, NegatedTable, entryAt, tableRoot, RootTable}
 use Rattle.numbers.proofs.Residues.{res-by, below-by}
 use Rattle.numbers.proofs.Values.{pair-path, value-path, small-by, field-ring, field-star}
@@ -29,12 +28,12 @@ module _ (m : ℕ) where
     unfolding tableRoot
     holds-root = value-path (res-by m ((pow (field m) w 1) .0) (hr 1 (lit< tt))) (res-by m ((pow (field m) w 1) .1) (hi 1 (lit< tt))) ∙ pow-one w
 
-    holds-powers : RootTable m re im
+    holds-entry : (k : ℕ) → k < 2880 → entryAt re im k ≡ pairOf (pow (field m) w k)
     unfolding entryAt pairOf
-    holds-powers = record {
-      cycle = rw holds-root cycle;
-      entry = λ k l. rw holds-root (pair-path (hr k l) (hi k l));
-    }
+    holds-entry k l = pair-path (hr k l) (hi k l)
+
+    holds-powers : RootTable m re im
+    holds-powers = record { cycle = rw holds-root cycle; entry = λ k l. rw holds-root (holds-entry k l) }
 
   pub table-small : {re im : List ℕ} → RootTable m re im → (k : ℕ) → k < 2880 → Small (prime m) (entryAt re im k)
   table-small h k l = small-by m _ (h .entry k l)
@@ -55,6 +54,9 @@ module _ (m : ℕ) (is : IsModulus m) {re im : List ℕ} (hr : RealTable m re) (
   pub table-root : tableRoot m re im ≡ root m
   table-root = holds-root m (root m) (full-turn m is) re im (hr .entry) (hi .entry)
 
+  pub table-entry : (k : ℕ) → k < 2880 → entryAt re im k ≡ pairOf (pow (field m) (root m) k)
+  table-entry = holds-entry m (root m) (full-turn m is) re im (hr .entry) (hi .entry)
+
   module _ {u : List ℕ} (hu : NegatedTable m 2880 im u) where
     conj-full-turn : pow (field m) (conj m (root m)) 2880 ≡ field m .one
     conj-full-turn = inverse-cycle (field-ring m) 2880 (root m) (conj m (root m)) _ (root-of-unity m is)
@@ -72,3 +74,6 @@ module _ (m : ℕ) (is : IsModulus m) {re im : List ℕ} (hr : RealTable m re) (
 
     pub conj-table-root : tableRoot m re u ≡ conj m (root m)
     conj-table-root = holds-root m (conj m (root m)) conj-full-turn re u backward-re backward-im
+
+    pub conj-table-entry : (k : ℕ) → k < 2880 → entryAt re u k ≡ pairOf (pow (field m) (conj m (root m)) k)
+    conj-table-entry = holds-entry m (conj m (root m)) conj-full-turn re u backward-re backward-im

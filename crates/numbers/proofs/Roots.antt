@@ -1,7 +1,7 @@
 -- The root r of order 2,880 for both moduli. Four facts are computed; the others follow from them, and none needs that p is prime.
 use mathlib.Core.Path.{_≡_, refl, sym, _∙_, ap}
-use mathlib.Core.List.{List, [], _∷_}
-use Prim.Native.Nat.{ℕ, _+_, _*_, _-_, _%_, _≤_, _<_}
+use mathlib.Core.List.{[], _∷_}
+use Prim.Native.Nat.{ℕ, _-_, _≤_}
 use native.Mathlib.Omega.{arith}
 use lib.Dec.{lit<}
 use Rattle.algebra.specs.Ring.{Ops, pow}
@@ -16,7 +16,7 @@ use Rattle.algebra.proofs.Divisors.{root-2880}
 use Rattle.algebra.proofs.RootOrder.{order-exact}
 use Rattle.algebra.proofs.RootOrder as RootOrder
 use Rattle.numbers.specs.Prime.{prime, IsModulus}
-use Rattle.numbers.specs.Value.{Value, field, conj, i, value, res, real, half, part}
+use Rattle.numbers.specs.Value.{Value, field, conj, i, value, real, half, part}
 use Rattle.numbers.specs.Root.{root, OrderIs}
 use Rattle.numbers.proofs.Residues.{val-res}
 use Rattle.numbers.proofs.Values.{value-path, field-ring, field-star}

@@ -4,7 +4,7 @@
 // The negated imaginary parts and half tangents are those of 1/r, so that one and the same code serves both directions.
 ghost use mathlib.Core.Path.{_≡_};
 ghost use Prim.Native.Nat.{ℕ, _<_};
-ghost use lib.ListN.{getD, length};
+ghost use lib.ListN.{length};
 ghost use Rattle.numbers.specs.Prime.{prime, IsModulus};
 ghost use Rattle.numbers.specs.Root.{AllBelow, entryAt, RealTable, ImaginaryTable, TangentTable, NegatedTable, RootLaws};
 use crate::Pair;

@@ -1,3 +1,4 @@
+-- Each of the two arrays passes the test of half tangents.
 use mathlib.Core.Path.{sym, subst}
 use Rattle.algebra.proofs.PowerTable.{passes}
 use Rattle.numbers.specs.Prime.{prime}

@@ -1,3 +1,4 @@
+-- The numbers before k are negated, the others stand as they were.
 use Prim.Native.Nat.{_-_}
 use native.Mathlib.Omega.{arith}
 use lib.ListN.{length, length-set}

@@ -1,3 +1,4 @@
+-- What the two tables hold at k.
 use borrow.Author.Needs.{needs}
 use Rattle.numbers.specs.Root.{entryAt}
 use Rattle.numbers.proofs.tables.root_at.Statement.{statement}

@@ -1,3 +1,4 @@
+-- The laws of the root, for both moduli.
 use Rattle.numbers.proofs.RootLaws.{root-laws}
 use Rattle.numbers.proofs.tables.root_laws.Statement.{statement}
 use Rattle.numbers.proofs.tables.root_laws.Tie as tie

@@ -48,11 +48,13 @@ def array(name, numbers):
 
 
 def main():
+    arrays = []
     for number, p in enumerate(PRIMES, 1):
         row = powers(p, root(p), ORDER)
-        print(array(f"REAL_{number}", [c for c, d in row]))
-        print(array(f"IMAGINARY_{number}", [d for c, d in row]))
-        print(array(f"TANGENT_{number}", [d * pow(1 + c, -1, p) % p for c, d in row[: ORDER // 2]]))
+        arrays.append(array(f"REAL_{number}", [c for c, d in row]))
+        arrays.append(array(f"IMAGINARY_{number}", [d for c, d in row]))
+        arrays.append(array(f"TANGENT_{number}", [d * pow(1 + c, -1, p) % p for c, d in row[: ORDER // 2]]))
+    print("\n".join(arrays), end="")
 
 
 if __name__ == "__main__":

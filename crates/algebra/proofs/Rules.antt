@@ -12,6 +12,7 @@ use Rattle.algebra.specs.Axis.{Axis, AxisLaws}
 use Rattle.algebra.specs.Line.{Reflected, Hermitian, AntiHermitian, Alternating, Symmetric, Antisymmetric, sign, re, im, unit, unfold-by, weave, pack-by, unfoldB1, unfoldB2, unfoldB3, unfold4, unfold5, unfoldA1, unfoldA2, unfoldA3}
 use Rattle.algebra.specs.Kinds.{Kind, Kind.plain, Kind.hermitian, Kind.antihermitian, Kind.alternating, Kind.symmetric, Kind.antisymmetric, slots, before, after, pack-before, pack-after, RuleBefore, RuleAfter}
 use Rattle.algebra.proofs.Laws.{along, mul-neg, mul-left-comm, neg-neg, neg-zero, self-neg, pow-add}
+use Rattle.algebra.proofs.StarRules.{quote-star}
 use Rattle.algebra.proofs.Solver.{ring, quote, linear}
 use Rattle.algebra.proofs.Transform.{pow-zero, sign-even}
 use Rattle.algebra.proofs.Conj.{conj-sign}
@@ -59,6 +60,10 @@ module _ {R : Type 0} {𝓞 : Ops R} {conj : R → R} {i : R} (𝓡 : CRing 𝓞
       step i a = linear 𝓡 a (⊖ 𝟙) (ring 𝓡 (i ∷ []) (search quote depth 40 fits 9999) refl)
   unit-norm (suc (suc n)) = unit-norm n
 
+  -- i times a real value is imaginary
+  times-i : (x : R) → conj x ≡ x → conj (i ⊗ x) ≡ ⊖ (i ⊗ x)
+  times-i x r = ring 𝓡 (i ∷ conj x ∷ []) (search (quote-star, 𝓢) depth 40 fits 9999) refl ∙ ap (λ y. ⊖ (i ⊗ y)) r
+
   -- 1. An unfolded line keeps its rule.
   pub unfoldB1-rule : (p : ℕ → R) → Hermitian 𝓞 conj (2 * A) (unfoldB1 𝓞 conj i half A p)
   unfoldB1-rule p = unfold-reflected A _ _ _ p 𝓞 positive (re-real 𝓡 𝓢 half halves _) (im-real 𝓡 𝓢 half halves _) (λ t u x e. conj-conj x)
@@ -66,11 +71,8 @@ module _ {R : Type 0} {𝓞 : Ops R} {conj : R → R} {i : R} (𝓡 : CRing 𝓞
   pub unfoldB2-rule : (p : ℕ → R) → AntiHermitian 𝓞 conj (2 * A) (unfoldB2 𝓞 conj i half A p)
   unfoldB2-rule p = unfold-reflected A _ _ (λ t x. ⊖ conj x) p 𝓞 positive (turn-real _ (re-real 𝓡 𝓢 half halves _)) (turn-real _ (im-real 𝓡 𝓢 half halves _)) (λ t u x e. ap ⊖_ (conj-neg _ ∙ ap ⊖_ (conj-conj x)) ∙ neg-neg 𝓡 x)
     where
-      step : (i x : R) → ⊖ ((⊖ i) ⊗ x) ≡ i ⊗ x
-      step i x = ring 𝓡 (i ∷ x ∷ []) (search quote depth 40 fits 9999) refl
-
       turn-real : (x : R) → conj x ≡ x → ⊖ conj (i ⊗ x) ≡ i ⊗ x
-      turn-real x r = ap ⊖_ (conj-mul _ _ ∙ ap₂ _⊗_ conj-i r) ∙ step i x
+      turn-real x r = ap ⊖_ (times-i x r) ∙ neg-neg 𝓡 _
 
   pub unfoldB3-rule : (p : ℕ → R) → Alternating 𝓞 conj (2 * A) (unfoldB3 𝓞 conj i half A p)
   unfoldB3-rule p = unfold-reflected A _ _ (λ t x. sign 𝓞 t ⊗ conj x) p 𝓞 positive
@@ -115,13 +117,6 @@ module _ {R : Type 0} {𝓞 : Ops R} {conj : R → R} {i : R} (𝓡 : CRing 𝓞
 
   pub unfoldA2-is : (q : ℕ → R) (s : ℕ) → unfoldA2 𝓞 conj i half A q s ≡ i ⊗ unfoldA1 𝓞 conj i half A q s
   unfoldA2-is q s = weave-mul i _ _ s
-
-  -- i times a real value is imaginary
-  times-i : (x : R) → conj x ≡ x → conj (i ⊗ x) ≡ ⊖ (i ⊗ x)
-  times-i x r = conj-mul _ _ ∙ ap₂ _⊗_ conj-i r ∙ step i x
-    where
-      step : (i x : R) → (⊖ i) ⊗ x ≡ ⊖ (i ⊗ x)
-      step i x = ring 𝓡 (i ∷ x ∷ []) (search quote depth 40 fits 9999) refl
 
   pub unfoldA3-low : (q : ℕ → R) (s : ℕ) → s < A → unfoldA3 𝓞 conj i half A q s ≡ q s
   unfoldA3-low q s l = three-lt s A _ _ _ l

@@ -11,4 +11,4 @@ pub mod Cell
 pub mod CellSteps
 pub mod CellTests
 pub mod CellPack
-pub mod CellBook
+pub mod CellModel

@@ -12,7 +12,7 @@ use Rattle.algebra.proofs.Paths.{pair}
 
 module _ {R : Type 0} {𝓞 : Ops R} {conj : R → R} {i : R} (𝓡 : CRing 𝓞) (𝓢 : Star 𝓞 conj i) where
   open Ops 𝓞 using (add as _⊕_, mul as _⊗_, neg as ⊖_, zer as 𝟘, one as 𝟙)
-  open CRing 𝓡 using (add-assoc, add-comm, zero-add, neg-add, mul-assoc, mul-comm, one-mul, left-distrib)
+  open CRing 𝓡 using (add-comm, zero-add)
   open Star 𝓢 using (conj-add, conj-mul, conj-neg, conj-one, conj-conj, i-square, conj-i)
 
   infixl 65 _⊕_

@@ -1,5 +1,5 @@
 -- The properties of the transform that document 001 lists in its Table 1, by its numbers: each for a root v of any order n with its inverse u,
--- whichever of the two roots of an axis it is. The mirror image of a line is X(N - t), indices modulo N.
+-- whichever of the two roots of an axis it is. The mirror image of a line is X(N - t), indices modulo N. Of (2), inversion and inversion-after stand in Transform.
 use mathlib.Core.Path.{_≡_, refl, sym, _∙_, ap, ap₂}
 use mathlib.Core.List.{[], _∷_}
 use Prim.Native.Nat.{ℕ, zero, suc, _+_, _*_, _-_, _%_, _<_}
@@ -17,7 +17,7 @@ use Rattle.algebra.proofs.Conj.{conj-dft, conj-pow, conj-sign, conj-of-
 
 module _ {R : Type 0} {𝓞 : Ops R} (𝓡 : CRing 𝓞) where
   open Ops 𝓞 using (add as _⊕_, mul as _⊗_, neg as ⊖_, zer as 𝟘, one as 𝟙)
-  open CRing 𝓡 using (add-assoc, add-comm, zero-add, mul-assoc, mul-comm, one-mul, left-distrib)
+  open CRing 𝓡 using (add-comm, zero-add, mul-assoc, mul-comm, one-mul)
 
   infixl 65 _⊕_
   infixl 70 _⊗_
@@ -255,8 +255,8 @@ module _ {R : Type 0} {𝓞 : Ops R} (𝓡 : CRing 𝓞) where
 -- With a conjugation, for a root v whose inverse is its conjugate.
 module _ {R : Type 0} {𝓞 : Ops R} {conj : R → R} {i : R} (𝓡 : CRing 𝓞) (𝓢 : Star 𝓞 conj i) where
   open Ops 𝓞 using (add as _⊕_, mul as _⊗_, neg as ⊖_, zer as 𝟘, one as 𝟙)
-  open CRing 𝓡 using (mul-assoc, mul-comm, one-mul)
-  open Star 𝓢 using (conj-add, conj-mul, conj-neg, conj-one, conj-conj)
+  open CRing 𝓡 using (mul-comm)
+  open Star 𝓢 using (conj-mul, conj-neg, conj-conj)
 
   infixl 65 _⊕_
   infixl 70 _⊗_

@@ -23,11 +23,11 @@ use Rattle.algebra.proofs.Unfold.{three-lt, three-eq, three-gt, unfold-
 
 module _ {R : Type 0} {𝓞 : Ops R} {conj : R → R} {i : R} (𝓡 : CRing 𝓞) (𝓢 : Star 𝓞 conj i) {half : R} {axis : Axis R} {tau : ℕ → R} (𝓐 : AxisLaws 𝓞 conj i half axis tau) where
   open Ops 𝓞 using (add as _⊕_, mul as _⊗_, neg as ⊖_, zer as 𝟘, one as 𝟙)
-  open CRing 𝓡 using (zero-add, mul-assoc, mul-comm, one-mul)
-  open Star 𝓢 using (conj-add, conj-mul, conj-neg, conj-one, conj-conj, i-square, conj-i)
+  open CRing 𝓡 using (mul-assoc, mul-comm, one-mul)
+  open Star 𝓢 using (conj-mul, conj-neg, conj-one, conj-conj, i-square, conj-i)
   open Axis axis using (half as A, w, part)
-  open AxisLaws 𝓐 using (positive, root, turn, halves, tan)
-  open Root root using (inverse, cycle, part-of)
+  open AxisLaws 𝓐 using (positive, root, turn, halves)
+  open Root root using (inverse, cycle)
 
   infixl 65 _⊕_
   infixl 70 _⊗_

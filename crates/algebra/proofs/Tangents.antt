@@ -4,7 +4,6 @@ use mathlib.Core.List.{[], _∷_}
 use Prim.Native.Nat.{ℕ, _+_, _<_, _-_}
 use native.Mathlib.Omega.{arith}
 use Rattle.algebra.specs.Ring.{Ops, CRing, Star, pow}
-use Rattle.algebra.specs.Fourier.{Root}
 use Rattle.algebra.specs.Axis.{Axis, AxisLaws}
 use Rattle.algebra.proofs.Laws.{mul-one, pow-add, neg-mul}
 use Rattle.algebra.proofs.Solver.{ring, quote, linear}
@@ -16,11 +15,10 @@ use Rattle.algebra.proofs.Parts.{conj-half}
 
 module _ {R : Type 0} {𝓞 : Ops R} {conj : R → R} {i : R} (𝓡 : CRing 𝓞) (𝓢 : Star 𝓞 conj i) {half : R} {axis : Axis R} {tau : ℕ → R} (𝓐 : AxisLaws 𝓞 conj i half axis tau) where
   open Ops 𝓞 using (add as _⊕_, mul as _⊗_, neg as ⊖_, zer as 𝟘, one as 𝟙)
-  open CRing 𝓡 using (add-assoc, add-comm, zero-add, mul-assoc, mul-comm, one-mul, left-distrib)
-  open Star 𝓢 using (conj-add, conj-mul, conj-neg, conj-one, conj-conj, i-square, conj-i)
-  open Axis axis using (half as A, w, part)
-  open AxisLaws 𝓐 using (positive, root, turn, halves, tan)
-  open Root root using (inverse, cycle, part-of)
+  open CRing 𝓡 using (mul-assoc)
+  open Star 𝓢 using (conj-add, conj-mul, conj-neg, conj-one, i-square, conj-i)
+  open Axis axis using (half as A, w)
+  open AxisLaws 𝓐 using (root, turn, halves, tan)
 
   infixl 65 _⊕_
   infixl 70 _⊗_

@@ -1,3 +1,4 @@
+-- The definitions: rings and the transform, lines and their kinds, orbits and cells.
 pub mod Ring
 pub mod Fourier
 pub mod Gauss

@@ -7,6 +7,7 @@ pub mod GaussRing
 pub mod ResidueRing
 pub mod Conj
 pub mod Divisors
+pub mod Axis
 pub mod StarRules
 pub mod FoldSplit
 pub mod FoldRoot
@@ -18,7 +19,6 @@ pub mod FoldTwo
 pub mod FoldThree
 pub mod FoldMirror
 pub mod FoldBackThree
-pub mod FoldAxis
 pub mod FoldRestore
 pub mod FoldGauss
 pub mod FoldAll
@@ -34,7 +34,6 @@ pub mod CellSteps
 pub mod CellPower
 pub mod OrbitLists
 pub mod CellBox
-pub mod CellRoots
 pub mod CellPack
 pub mod CellLaw
 pub mod OrbitWriter

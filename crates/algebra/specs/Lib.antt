@@ -2,6 +2,7 @@ pub mod Ring
 pub mod Fourier
 pub mod Gauss
 pub mod Residue
+pub mod Axis
 pub mod Line
 pub mod Folds
 pub mod Kinds

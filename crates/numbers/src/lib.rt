@@ -12,6 +12,8 @@ ghost use mathlib.Core.List.{List};
 ghost use Rattle.numbers.specs.Accumulator.{Accumulated};
 ghost use Rattle.numbers.specs.Root.{entryAt, RealTable, ImaginaryTable, TangentTable, NegatedTable};
 
+pub mod tables; // tables.rt: the powers of the root and its half tangents
+
 // A value of the paper: re + im i.
 pub struct Pair {
     pub re: u32,

@@ -3,3 +3,4 @@ pub mod Bounds
 pub mod Filling
 pub mod Rows
 pub mod Sets
+pub mod Values

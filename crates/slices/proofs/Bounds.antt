@@ -1,0 +1,91 @@
+-- Lists of small numbers: read, stored to, and tested.
+use mathlib.Core.Path.{_≡_, refl, sym, ap, _∙_, subst}
+use mathlib.Core.Logic.{_⊎_, inl, inr, ⊎-elim}
+use mathlib.Core.Bool.{Bool, true, false, _&&_}
+use mathlib.Core.List.{List, [], _∷_, _++_}
+use Prim.Native.Nat.{ℕ, zero, suc, _+_, _-_, _*_, _<_, _≤_}
+use native.Mathlib.Nat.{eq-or-lt-of-le}
+use native.Mathlib.Omega.{arith}
+use lib.Dec.{ltb}
+use lib.ListN.{length, getD, set, take, drop, List·getD-eq-default}
+use lib.Seq.{getD-set-same, getD-set-other, set-out}
+use borrow.Author.Tests.{lt-ltb, ltb-true}
+use Rattle.numbers.specs.declared.Pair.{Pair}
+use Rattle.numbers.specs.Value.{Small}
+use Rattle.slices.specs.Pairs.{at, put, puts, fills, tab, Below, allBelow}
+use Rattle.slices.proofs.Pairs.{lt-or-ge, eq-or-ne, by-pairs, length-tab, at-tab}
+
+pub small-at : (m : ℕ) (l : List ℕ) (j : ℕ) → Below m l → Small m (at l j)
+unfolding at
+small-at m l j h = record { re = h .each (2 * j); im = h .each (2 * j + 1) }
+
+-- a pair that was read from a list of small numbers
+pub small-of : {m : ℕ} {v : Pair} (l : List ℕ) (j : ℕ) → v ≡ at l j → Below m l → Small m v
+small-of {m} {v} l j e h = subst (λ (w : Pair). Small m w) (sym e) (small-at m l j h)
+
+-- the numbers of the list itself are enough, where the bound is not 0
+pub below-each : (m : ℕ) (l : List ℕ) → 0 < m → ((k : ℕ) → k < length l → getD l k 0 < m) → Below m l
+below-each m l z h = record {
+  each = λ k. ⊎-elim
+      (λ (lt : k < length l). h k lt)
+      (λ (ge : length l ≤ k). subst (λ (v : ℕ). v < m) (sym (List·getD-eq-default l 0 ge)) z)
+      (lt-or-ge k (length l));
+}
+
+pub below-at : (m n : ℕ) (l : List ℕ) → length l ≡ 2 * n → 0 < m → ((j : ℕ) → j < n → Small m (at l j)) → Below m l
+unfolding at
+below-at m n l e z h = below-each m l z (λ k lt. by-pairs (λ i. getD l i 0 < m) n (λ j lj. h j lj .re) (λ j lj. h j lj .im) k (omega arith))
+
+pub below-tab : (m n : ℕ) (f : ℕ → Pair) → 0 < m → ((j : ℕ) → j < n → Small m (f j)) → Below m (tab n f)
+below-tab m n f z h = below-at m n (tab n f) (length-tab f n) z (λ j l. subst (λ (v : Pair). Small m v) (sym (at-tab f n j l)) (h j l))
+
+-- ---- stores of small numbers keep a list of small numbers so
+
+pub below-set : {m : ℕ} {l : List ℕ} (i v : ℕ) → Below m l → v < m → Below m (set l i v)
+below-set {m} {l} i v h lt = record {
+  each = λ k. ⊎-elim
+      (λ (e : k ≡ i). ⊎-elim
+      (λ (s : i < length l). subst (λ (x : ℕ). getD (set l i v) x 0 < m) (sym e) (rw (getD-set-same l i v 0 s) lt))
+      (λ (s : length l ≤ i). rw (set-out l i v s) (h .each k))
+      (lt-or-ge i (length l)))
+      (λ n. rw (getD-set-other l i k v 0 n) (h .each k))
+      (eq-or-ne k i);
+}
+
+pub below-put : {m : ℕ} {l : List ℕ} {v : Pair} (j : ℕ) → Below m l → Small m v → Below m (put l j v)
+unfolding put
+below-put {m} {l} {v} j h s = below-set (2 * j + 1) (v .im) (below-set (2 * j) (v .re) h (s .re)) (s .im)
+
+pub below-puts : {m : ℕ} {d : List ℕ} (p : ℕ → ℕ) (f : ℕ → Pair) (n : ℕ) → Below m d → ((j : ℕ) → j < n → Small m (f j)) → Below m (puts p f n d)
+unfolding puts
+below-puts p f zero h s = h
+below-puts p f (suc n) h s = below-put (p n) (below-puts p f n h (λ j l. s j (omega arith))) (s n (omega arith))
+
+-- ---- the test
+
+below-head : {m x : ℕ} {l : List ℕ} → Below m (x ∷ l) → x < m
+below-head h = h .each zero
+
+below-tail : {m x : ℕ} {l : List ℕ} → Below m (x ∷ l) → Below m l
+below-tail h = record { each = λ k. h .each (suc k) }
+
+below-cons : {m x : ℕ} {l : List ℕ} → x < m → Below m l → Below m (x ∷ l)
+below-cons h t = record { each = λ k. elim k [ zero ↦ h | suc j ↦ t .each j ] }
+
+pub allBelow-below : (m : ℕ) (l : List ℕ) → Below m l → allBelow m l ≡ true
+unfolding allBelow
+allBelow-below m [] h = refl
+allBelow-below m (x ∷ l) h = rw (lt-ltb x m (below-head h)) (allBelow-below m l (below-tail h))
+
+pub below-allBelow : (m : ℕ) (l : List ℕ) → 0 < m → allBelow m l ≡ true → Below m l
+unfolding allBelow
+below-allBelow m [] z e = record { each = λ k. z }
+below-allBelow m (x ∷ l) z e = below-cons (ltb-true x m (left (ltb x m) (allBelow m l) e)) (below-allBelow m l z (right (ltb x m) (allBelow m l) e))
+  where
+    left : (a b : Bool) → (a && b) ≡ true → a ≡ true
+    left true b q = refl
+    left false b q = q
+
+    right : (a b : Bool) → (a && b) ≡ true → b ≡ true
+    right true b q = q
+    right false b q = cc

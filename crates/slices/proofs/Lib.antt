@@ -1,0 +1,5 @@
+pub mod Pairs
+pub mod Bounds
+pub mod Filling
+pub mod Rows
+pub mod Sets

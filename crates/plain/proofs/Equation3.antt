@@ -8,67 +8,10 @@ use Rattle.algebra.specs.Fourier.{T, dft}
 use Rattle.algebra.proofs.Laws.{along, pow-add, mul-one}
 use Rattle.algebra.proofs.Sums.{sum-cong}
 use Rattle.algebra.proofs.Transform.{pow-mul, pow-mod, cooley-tukey, T-start, T-end}
+use Rattle.slices.proofs.Rows.{row-end, row-col}
 use Rattle.plain.specs.Steps.{e, innerSum, twiddled, outerSum}
 use Rattle.plain.specs.Factors.{Splits}
-
--- a divisor of 2,880 is not 0, and the quotient is known
-pub divisor-pos : (x y : ℕ) → x * y ≡ 2880 → 0 < x
-divisor-pos x y h = N.pos-of-ne-zero (λ z. N.suc-ne-zero 2879 (sym h ∙ ap (λ (k : ℕ). k * y) z ∙ N.zero-mul y))
-
-pub quotient : (x y : ℕ) → x * y ≡ 2880 → 2880 / x ≡ y
-quotient x y h = N.div-eq-of-eq-mul-right {n = x} {m = 2880} {k = y} (divisor-pos x y h) (sym h)
-
-pub divides : (x y : ℕ) → x * y ≡ 2880 → x * (2880 / x) ≡ 2880
-divides x y h = ap (λ (k : ℕ). x * k) (quotient x y h) ∙ h
-
-pub divisor-le : (x y : ℕ) → x * y ≡ 2880 → x ≤ 2880
-divisor-le x y h = subst (λ (k : ℕ). x ≤ k) h (subst (λ (k : ℕ). k ≤ x * y) (N.mul-one x) (N.mul-le-mul-left x (divisor-pos y x (N.mul-comm y x ∙ h))))
-
--- the quotients of 2,880 that a step meets
-module _ {A B M : ℕ} (h : Splits A B M) where
-  abbrev share : ℕ
-  share = 2880 / (A * B * M)
-
-  pub whole-le : A * B * M ≤ 2880
-  whole-le = divisor-le (A * B * M) share (h .divides)
-
-  pub product-share : A * B * (M * share) ≡ 2880
-  product-share = omega (arith, h .divides)
-
-  pub by-product : 2880 / (A * B) ≡ M * share
-  by-product = quotient (A * B) (M * share) product-share
-
-  pub by-inner : 2880 / A ≡ B * (M * share)
-  by-inner = quotient A (B * (M * share)) (omega (arith, h .divides))
-
-  pub by-outer : 2880 / B ≡ A * (M * share)
-  by-outer = quotient B (A * (M * share)) (omega (arith, h .divides))
-
-  -- the step from one root to the next
-  pub inner-share : 2880 / A ≡ 2880 / (A * B) * B
-  inner-share = by-inner ∙ N.mul-comm B (M * share) ∙ ap (λ (k : ℕ). k * B) (sym by-product)
-
-  pub outer-share : 2880 / B ≡ 2880 / (A * B) * A
-  outer-share = by-outer ∙ N.mul-comm A (M * share) ∙ ap (λ (k : ℕ). k * A) (sym by-product)
-
-  pub inner-whole : A * (2880 / A) ≡ 2880
-  inner-whole = divides A (B * (M * share)) (omega (arith, h .divides))
-
-  pub product-pos : 0 < A * B
-  product-pos = divisor-pos (A * B) (M * share) product-share
-
-  pub outer-pos : 0 < B
-  outer-pos = omega (arith, h .low)
-
--- places in rows: row r of l places
-row-of : {l s : ℕ} (r : ℕ) → s < l → (r * l + s) / l ≡ r
-row-of {l} {s} r h = N.mul-add-div-right (omega arith) r s ∙ ap (λ (k : ℕ). r + k) (N.div-eq-of-lt h) ∙ N.add-zero r
-
-col-of : {l s : ℕ} (r : ℕ) → s < l → (r * l + s) % l ≡ s
-col-of {l} {s} r h = N.mul-add-mod-self-right r l s ∙ N.mod-eq-of-lt h
-
-row-end : {j n : ℕ} (l : ℕ) → j < n → j * l + l ≤ n * l
-row-end {j} {n} l h = subst (λ (k : ℕ). k ≤ n * l) (omega (arith, N.suc-mul j l)) (N.mul-le-mul-right l h)
+use Rattle.plain.proofs.Sizes.{outer-pos, inner-share, outer-share, inner-whole}
 
 module _ {R : Type 0} {𝓞 : Ops R} (𝓡 : CRing 𝓞) (W : R) where
   open Ops 𝓞 using (mul as _⊗_, one as 𝟙)
@@ -111,10 +54,10 @@ module _ {R : Type 0} {𝓞 : Ops R} (𝓡 : CRing 𝓞) (W : R) where
       read : (b : ℕ) → twiddled 𝓞 W A B M (innerSum 𝓞 W A (M * B) X) ((b * M + q) * A + s) ≡ e 𝓞 W (A * B) (b * s) ⊗ T 𝓞 X (M * B) A (pow 𝓞 v B) (q + M * b) s
       unfolding twiddled
       read b =
-          let row : ((b * M + q) * A + s) / A ≡ b * M + q = row-of (b * M + q) hs in
-          let col : ((b * M + q) * A + s) % A ≡ s = col-of (b * M + q) hs in
+          let row : ((b * M + q) * A + s) / A ≡ b * M + q = row-col (b * M + q) hs .0 in
+          let col : ((b * M + q) * A + s) % A ≡ s = row-col (b * M + q) hs .1 in
           ap₂ _⊗_
-          (ap (e 𝓞 W (A * B)) (ap₂ _*_ (ap (λ k. k / M) row ∙ row-of b hq) col))
+          (ap (e 𝓞 W (A * B)) (ap₂ _*_ (ap (λ k. k / M) row ∙ row-col b hq .0) col))
           (inner-T A (M * B) X ((b * M + q) * A + s) ∙ ap₂ (T 𝓞 X (M * B) A (pow 𝓞 W (2880 / A))) (row ∙ N.add-comm (b * M) q ∙ ap (λ k. q + k) (N.mul-comm b M)) col
           ∙ ap (λ y. T 𝓞 X (M * B) A y (q + M * b) s) inner-root)
 
@@ -123,13 +66,13 @@ module _ {R : Type 0} {𝓞 : Ops R} (𝓡 : CRing 𝓞) (W : R) where
           let lt : c * A + s < A * B = subst (λ k. c * A + s < k) (N.mul-comm B A) (omega (arith, row-end A hc)) in
           let place : (q * B + c) * A + s ≡ q * (A * B) + (c * A + s) = omega arith in
           inner-T (A * B) M X ((q * B + c) * A + s)
-          ∙ ap₂ (T 𝓞 X M (A * B) v) (ap (λ k. k / (A * B)) place ∙ row-of q lt) (ap (λ k. k % (A * B)) place ∙ col-of q lt ∙ N.add-comm (c * A) s ∙ ap (λ k. s + k) (N.mul-comm c A))
+          ∙ ap₂ (T 𝓞 X M (A * B) v) (ap (λ k. k / (A * B)) place ∙ row-col q lt .0) (ap (λ k. k % (A * B)) place ∙ row-col q lt .1 ∙ N.add-comm (c * A) s ∙ ap (λ k. s + k) (N.mul-comm c A))
           ∙ ap (λ k. T 𝓞 X M k v q (s + A * c)) (N.mul-comm A B)
 
       pub equation-3-at : outerSum 𝓞 W A B M (twiddled 𝓞 W A B M (innerSum 𝓞 W A (M * B) X)) ((q * B + c) * A + s) ≡ innerSum 𝓞 W (A * B) M X ((q * B + c) * A + s)
       unfolding outerSum
       equation-3-at =
-          rw (row-of (q * B + c) hs, col-of (q * B + c) hs, row-of q hc, col-of q hc)
+          rw (row-col (q * B + c) hs .0, row-col (q * B + c) hs .1, row-col q hc .0, row-col q hc .1)
           (sum-cong 𝓡 B _ _ (λ b l. ap (λ y. e 𝓞 W B (b * c) ⊗ y) (read b) ∙ sym (mul-assoc _ _ _) ∙ ap (λ y. y ⊗ T 𝓞 X (M * B) A (pow 𝓞 v B) (q + M * b) s) (factors b s c))
           ∙ sym (cooley-tukey 𝓡 X M A B v inner-cycle q s c) ∙ sym longer)
 

@@ -6,7 +6,7 @@ use Prim.Native.Nat.{ℕ, zero, suc, _+_, _*_, _-_, _/_, _%_, _≤_, _<_}
 use native.Mathlib.Nat as N
 use native.Mathlib.Omega.{arith}
 use Rattle.plain.specs.Factors.{Factored, done, more, octal, product, Factors, none, one, Splits}
-use Rattle.plain.proofs.Equation3.{divisor-pos}
+use Rattle.plain.proofs.Sizes.{divisor-pos}
 
 -- a list of factors packs to a number that is factored by their product
 pub packed : {l : List ℕ} → Factors l → Factored (octal l) (product l)

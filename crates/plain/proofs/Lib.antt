@@ -1,2 +1,5 @@
+pub mod Sizes
 pub mod Equation3
 pub mod Factoring
+pub mod Rowing
+pub mod Passes

@@ -71,6 +71,10 @@ module _ {A B M : ℕ} (h : Splits A B M) where
   pub rows-le : B * M ≤ 2880
   rows-le = omega (arith, rows-wide (B * M) (h .inner), whole-le)
 
+  -- the places of one b
+  pub stride-le : M * A ≤ 2880
+  stride-le = omega (arith, rows-wide (M * A) outer-pos, whole-le)
+
   -- the exponents of a row end below 2,880, in the second pass and in the third
   pub outer-turn : {c : ℕ} → c < B → c * (2880 / B) < 2880
   outer-turn {c} l = subst (λ k. c * (2880 / B) < k) outer-whole (N.mul-lt-mul-of-pos-right l (quotient-pos B (A * (M * share)) outer-product))

@@ -3,3 +3,5 @@ pub mod Equation3
 pub mod Factoring
 pub mod Rowing
 pub mod Passes
+pub mod Buffers
+pub mod Driving

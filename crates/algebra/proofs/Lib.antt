@@ -5,6 +5,7 @@ pub mod Sums
 pub mod Transform
 pub mod GaussRing
 pub mod ResidueRing
+pub mod PowerTable
 pub mod Conj
 pub mod Divisors
 pub mod StarRules

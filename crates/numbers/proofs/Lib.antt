@@ -4,3 +4,5 @@ pub mod Residues
 pub mod Values
 pub mod Parts
 pub mod Accumulators
+pub mod RootCases
+pub mod RootTables

@@ -1,17 +1,17 @@
 -- Lists of values: reading back what was stored, and what a step leaves in the line and in the work slice.
-use mathlib.Core.Path.{_≡_, refl, sym, _∙_, ap, subst}
+use mathlib.Core.Path.{_≡_, sym, _∙_, ap, subst}
 use mathlib.Core.List.{List}
-use Prim.Native.Nat.{ℕ, _+_, _*_, _/_, _%_, _<_, _≤_}
+use Prim.Native.Nat.{ℕ, _+_, _*_, _/_, _%_, _<_}
 use native.Mathlib.Nat as N
 use native.Mathlib.Omega.{arith}
 use lib.ListN.{length}
-use Rattle.algebra.specs.Ring.{Ops, CRing, pow, sum}
+use Rattle.algebra.specs.Ring.{Ops, CRing, pow}
 use Rattle.algebra.proofs.Sums.{sum-cong}
 use Rattle.numbers.specs.Prime.{prime}
 use Rattle.numbers.specs.Value.{Value, field, valueOf, pairOf}
 use Rattle.numbers.proofs.Primes.{prime-pos}
 use Rattle.numbers.proofs.Values.{field-ring, small-pair, value-pair, pair-value}
-use Rattle.slices.specs.Pairs.{at, tab, Below}
+use Rattle.slices.specs.Pairs.{Below}
 use Rattle.slices.proofs.Pairs.{at-tab, tab-cong, is-tab}
 use Rattle.slices.proofs.Bounds.{small-at, below-tab}
 use Rattle.slices.proofs.Rows.{row-end}

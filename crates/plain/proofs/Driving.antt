@@ -2,9 +2,8 @@
 use mathlib.Core.Path.{_≡_, refl, sym, _∙_, ap, subst}
 use mathlib.Core.Logic.{_≢_}
 use mathlib.Core.List.{List}
-use Prim.Native.Nat.{ℕ, _+_, _*_, _/_, _%_, _<_, _≤_}
+use Prim.Native.Nat.{ℕ, _*_, _/_, _%_}
 use native.Mathlib.Nat as N
-use native.Mathlib.Omega.{arith}
 use lib.ListN.{length}
 use Rattle.algebra.specs.Ring.{Ops, pow}
 use Rattle.algebra.specs.Fourier.{dft}
@@ -17,7 +16,7 @@ use Rattle.plain.specs.Steps.{innerSum, twiddled}
 use Rattle.plain.specs.Factors.{Factored, Splits}
 use Rattle.plain.specs.Buffers.{valuesOf, listOf, WorkLeft, untouched, last-step}
 use Rattle.plain.proofs.Equation3.{inner-start, inner-end}
-use Rattle.plain.proofs.Factoring.{Next, next-factor, factored-none, next-splits}
+use Rattle.plain.proofs.Factoring.{next-factor, factored-none, next-splits}
 use Rattle.plain.proofs.Buffers.{list-values, list-cong, below-list, step-work}
 
 -- The factors that are left have the product M, those that are done the product A: the line has the inner sums of length A of what came in.
@@ -81,7 +80,7 @@ module _ {m : ℕ} {W : Value m} {n left A M : ℕ} {line₀ work₀ line work :
 
     pub driving-next : {line′ work′ : List ℕ} → n * (2880 / n) ≡ 2880 → pow (field m) W 2880 ≡ field m .one
         → ((X : ℕ → Value m) → line ≡ listOf (A * (left % 8) * (M / (left % 8))) (innerSum (field m) W A (M / (left % 8) * (left % 8)) X)
-            → line′ ≡ listOf (A * (left % 8) * (M / (left % 8))) (innerSum (field m) W (A * (left % 8)) (M / (left % 8)) X))
+        → line′ ≡ listOf (A * (left % 8) * (M / (left % 8))) (innerSum (field m) W (A * (left % 8)) (M / (left % 8)) X))
         → work′ ≡ listOf (A * (left % 8) * (M / (left % 8))) (twiddled (field m) W A (left % 8) (M / (left % 8)) (valuesOf m line))
         → Driving m W n (left / 8) (A * (left % 8)) (M / (left % 8)) line₀ work₀ line′ work′
     driving-next divides cycle third second =

@@ -1,13 +1,13 @@
 -- The three passes of a step of equation (3) lengthen the inner sums by the step's factor; before the first step they are the line, after the last its transform.
-use mathlib.Core.Path.{_≡_, refl, sym, _∙_, ap, ap₂, subst}
-use Prim.Native.Nat.{ℕ, zero, suc, _+_, _*_, _-_, _/_, _%_, _≤_, _<_}
+use mathlib.Core.Path.{_≡_, sym, _∙_, ap, ap₂, subst}
+use Prim.Native.Nat.{ℕ, _+_, _*_, _/_, _%_, _<_}
 use native.Mathlib.Nat as N
 use native.Mathlib.Omega.{arith}
-use Rattle.algebra.specs.Ring.{Ops, CRing, pow, sum}
+use Rattle.algebra.specs.Ring.{Ops, CRing, pow}
 use Rattle.algebra.specs.Fourier.{T, dft}
-use Rattle.algebra.proofs.Laws.{along, pow-add, mul-one}
+use Rattle.algebra.proofs.Laws.{along, pow-add}
 use Rattle.algebra.proofs.Sums.{sum-cong}
-use Rattle.algebra.proofs.Transform.{pow-mul, pow-mod, cooley-tukey, T-start, T-end}
+use Rattle.algebra.proofs.Transform.{pow-mul, cooley-tukey, T-start, T-end}
 use Rattle.slices.proofs.Rows.{row-end, row-col}
 use Rattle.plain.specs.Steps.{e, innerSum, twiddled, outerSum}
 use Rattle.plain.specs.Factors.{Splits}

@@ -5,3 +5,4 @@ pub mod Rowing
 pub mod Passes
 pub mod Buffers
 pub mod Driving
+pub mod Scaling

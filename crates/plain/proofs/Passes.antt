@@ -1,12 +1,11 @@
 -- What the passes of a step compute, place by place: roots that are read from the tables, the sums of a row, and the places that are read.
 use mathlib.Core.Path.{_≡_, refl, sym, _∙_, ap, ap₂, subst}
 use mathlib.Core.List.{List}
-use Prim.Native.Nat.{ℕ, zero, suc, _+_, _*_, _-_, _/_, _%_, _≤_, _<_}
+use Prim.Native.Nat.{ℕ, _+_, _*_, _/_, _%_, _≤_, _<_}
 use native.Mathlib.Nat as N
 use native.Mathlib.Numerals.{add-one}
 use native.Mathlib.Omega.{arith}
 use Rattle.algebra.specs.Ring.{Ops, CRing, pow, sum}
-use Rattle.algebra.specs.Gauss.{gauss}
 use Rattle.algebra.proofs.Laws.{along}
 use Rattle.algebra.proofs.Sums.{sum-cong}
 use Rattle.algebra.proofs.Transform.{pow-zero, pow-mod}
@@ -55,7 +54,7 @@ module _ {m : ℕ} {re im : List ℕ} (h : RootTable m re im) {k : ℕ} (l : k <
 -- the power 0 changes nothing
 pub turned-not : (m : ℕ) {k : ℕ} {v : Pair} (W : Value m) → k ≡ 0 → Small (prime m) v → v ≡ pairOf (field m .mul (pow (field m) W k) (valueOf m v))
 turned-not m {k} {v} W z s =
-    sym (ap (λ x. pairOf (field m .mul (pow (field m) W x) (valueOf m v)) ) z
+    sym (ap (λ x. pairOf (field m .mul (pow (field m) W x) (valueOf m v))) z
     ∙ ap (λ y. pairOf (field m .mul y (valueOf m v))) (pow-zero (field-ring m) W) ∙ ap pairOf (field-ring m .one-mul (valueOf m v)) ∙ pair-value m s)
 
 -- ---- the sum over b, with its terms in order

@@ -1,6 +1,6 @@
 -- The sizes of a step's numbers: the divisors of 2,880, the quotients that are exponents, and bounds on what the passes compute with.
 use mathlib.Core.Path.{_≡_, sym, _∙_, ap, subst}
-use Prim.Native.Nat.{ℕ, _+_, _*_, _/_, _≤_, _<_}
+use Prim.Native.Nat.{ℕ, _*_, _/_, _≤_, _<_}
 use native.Mathlib.Nat as N
 use native.Mathlib.Omega.{arith}
 use Rattle.slices.proofs.Rows.{rows-wide}

@@ -24,7 +24,15 @@ ghost use Rattle.plain.specs.Factors.{Factored, Splits};
 ghost use Rattle.plain.specs.Buffers.{valuesOf, listOf, WorkLeft};
 
 // The transform of the line, in its natural order.
-pub fn transform(m: u32, re: &[u32; 2880], im: &[u32; 2880], factors: u32, n: usize, line: &mut [u32], work: &mut [u32])
+pub fn transform<'a>(
+    m: u32,
+    re: &'a [u32; 2880],
+    im: &'a [u32; 2880],
+    factors: u32,
+    n: usize,
+    line: &mut [u32],
+    work: &mut [u32],
+)
     requires { ⌜ IsModulus m × RootTable m (now re) (now im) ⌝ }
     requires { ⌜ Factored factors n × (n * (2880 / n) ≡ 2880) ⌝ }
     requires { ⌜ (length (now line) ≡ 2 * n) × (length (now work) ≡ 2 * n) ⌝ }
@@ -45,7 +53,15 @@ pub fn transform(m: u32, re: &[u32; 2880], im: &[u32; 2880], factors: u32, n: us
 }
 
 // The transform divided by n: with the tables of the conjugate root, the inverse.
-pub fn inverse(m: u32, re: &[u32; 2880], im: &[u32; 2880], factors: u32, n: usize, line: &mut [u32], work: &mut [u32])
+pub fn inverse<'a>(
+    m: u32,
+    re: &'a [u32; 2880],
+    im: &'a [u32; 2880],
+    factors: u32,
+    n: usize,
+    line: &mut [u32],
+    work: &mut [u32],
+)
     requires { ⌜ IsModulus m × RootTable m (now re) (now im) ⌝ }
     requires { ⌜ Factored factors n × (n * (2880 / n) ≡ 2880) ⌝ }
     requires { ⌜ (length (now line) ≡ 2 * n) × (length (now work) ≡ 2 * n) ⌝ }
@@ -75,7 +91,16 @@ pub fn scale(m: u32, c: u32, n: usize, line: &mut [u32])
 }
 
 // One step: inner sums of length A, with B times as many lines, become inner sums of length A B.
-fn step(m: u32, re: &[u32; 2880], im: &[u32; 2880], inner: usize, outer: usize, lines: usize, line: &mut [u32], work: &mut [u32])
+fn step<'a>(
+    m: u32,
+    re: &'a [u32; 2880],
+    im: &'a [u32; 2880],
+    inner: usize,
+    outer: usize,
+    lines: usize,
+    line: &mut [u32],
+    work: &mut [u32],
+)
     requires { ⌜ IsModulus m × RootTable m (now re) (now im) ⌝ }
     requires { ⌜ Splits inner outer lines ⌝ }
     requires { ⌜ (length (now line) ≡ 2 * (inner * outer * lines)) × (length (now work) ≡ 2 * (inner * outer * lines)) ⌝ }
@@ -88,7 +113,16 @@ fn step(m: u32, re: &[u32; 2880], im: &[u32; 2880], inner: usize, outer: usize, 
 }
 
 // The second part of (3): the values at place (b M + q) A + s times e(b s/AB), by rows of A places.
-fn twiddle(m: u32, re: &[u32; 2880], im: &[u32; 2880], inner: usize, outer: usize, lines: usize, line: &[u32], work: &mut [u32])
+fn twiddle<'a>(
+    m: u32,
+    re: &'a [u32; 2880],
+    im: &'a [u32; 2880],
+    inner: usize,
+    outer: usize,
+    lines: usize,
+    line: &[u32],
+    work: &mut [u32],
+)
     requires { ⌜ IsModulus m × RootTable m (now re) (now im) ⌝ }
     requires { ⌜ Splits inner outer lines ⌝ }
     requires { ⌜ (length (now line) ≡ 2 * (inner * outer * lines)) × (length (now work) ≡ 2 * (inner * outer * lines)) ⌝ }
@@ -109,7 +143,16 @@ fn twiddle(m: u32, re: &[u32; 2880], im: &[u32; 2880], inner: usize, outer: usiz
 }
 
 // One row: the value at place s of it times W^(turn s).
-fn twiddle_row(m: u32, re: &[u32; 2880], im: &[u32; 2880], inner: usize, turn: usize, row: usize, line: &[u32], work: &mut [u32])
+fn twiddle_row<'a>(
+    m: u32,
+    re: &'a [u32; 2880],
+    im: &'a [u32; 2880],
+    inner: usize,
+    turn: usize,
+    row: usize,
+    line: &[u32],
+    work: &mut [u32],
+)
     requires { ⌜ IsModulus m × RootTable m (now re) (now im) ⌝ }
     requires { ⌜ turn * inner < 2880 ⌝ }
     requires { ⌜ (2 * (row * inner + inner) ≤ length (now line)) × (length (now work) ≡ length (now line)) ⌝ }
@@ -128,7 +171,7 @@ fn twiddle_row(m: u32, re: &[u32; 2880], im: &[u32; 2880], inner: usize, turn: u
 }
 
 // W^k times a value. Each row begins with k = 0, and the first lines have no other.
-fn turned(m: u32, re: &[u32; 2880], im: &[u32; 2880], k: usize, v: Pair) -> Pair
+fn turned<'a>(m: u32, re: &'a [u32; 2880], im: &'a [u32; 2880], k: usize, v: Pair) -> Pair
     requires { ⌜ IsModulus m × RootTable m (now re) (now im) ⌝ }
     requires { ⌜ (k < 2880) × Small (prime m) v ⌝ }
     ensures { λ r. ⌜ r ≡ pairOf (field m .mul (pow (field m) (tableRoot m (now (re .entry)) (now (im .entry))) k) (valueOf m v)) ⌝ }
@@ -136,12 +179,21 @@ fn turned(m: u32, re: &[u32; 2880], im: &[u32; 2880], k: usize, v: Pair) -> Pair
     if k == 0 {
         v
     } else {
-        numbers::product(m, root_at(re, im, k), v)
+        numbers::product(m, numbers::tables::root_at(re, im, k), v)
     }
 }
 
 // The third part of (3): place (q B + c) A + s becomes the sum over b of e(b c/B) times the value at place (b M + q) A + s.
-fn outer_sum(m: u32, re: &[u32; 2880], im: &[u32; 2880], inner: usize, outer: usize, lines: usize, work: &[u32], line: &mut [u32])
+fn outer_sum<'a>(
+    m: u32,
+    re: &'a [u32; 2880],
+    im: &'a [u32; 2880],
+    inner: usize,
+    outer: usize,
+    lines: usize,
+    work: &[u32],
+    line: &mut [u32],
+)
     requires { ⌜ IsModulus m × RootTable m (now re) (now im) ⌝ }
     requires { ⌜ Splits inner outer lines ⌝ }
     requires { ⌜ (length (now work) ≡ 2 * (inner * outer * lines)) × (length (now line) ≡ 2 * (inner * outer * lines)) ⌝ }
@@ -153,7 +205,19 @@ fn outer_sum(m: u32, re: &[u32; 2880], im: &[u32; 2880], inner: usize, outer: us
     let mut q = 0;
     let mut c = 0;
     while q < lines {
-        outer_row(m, re, im, inner, outer, c * turn, q * inner, stride, q * outer + c, work, line);
+        outer_row(
+            m,
+            re,
+            im,
+            inner,
+            outer,
+            c * turn,
+            q * inner,
+            stride,
+            q * outer + c,
+            work,
+            line,
+        );
         c += 1;
         if c == outer {
             c = 0;
@@ -163,7 +227,19 @@ fn outer_sum(m: u32, re: &[u32; 2880], im: &[u32; 2880], inner: usize, outer: us
 }
 
 // One row: place s of it becomes the sum over b of W^(b turn) times the value at place b stride + first + s.
-fn outer_row(m: u32, re: &[u32; 2880], im: &[u32; 2880], inner: usize, outer: usize, turn: usize, first: usize, stride: usize, row: usize, work: &[u32], line: &mut [u32])
+fn outer_row<'a>(
+    m: u32,
+    re: &'a [u32; 2880],
+    im: &'a [u32; 2880],
+    inner: usize,
+    outer: usize,
+    turn: usize,
+    first: usize,
+    stride: usize,
+    row: usize,
+    work: &[u32],
+    line: &mut [u32],
+)
     requires { ⌜ IsModulus m × RootTable m (now re) (now im) ⌝ }
     requires { ⌜ (outer ≤ 5) × (0 < outer) × (turn < 2880) × (first + inner ≤ stride) × (outer * stride ≤ 2880) ⌝ }
     requires { ⌜ (length (now work) ≡ 2 * (outer * stride)) × (2 * (row * inner + inner) ≤ length (now line)) ⌝ }
@@ -180,7 +256,16 @@ fn outer_row(m: u32, re: &[u32; 2880], im: &[u32; 2880], inner: usize, outer: us
 }
 
 // The sum over b of W^(b turn) times the value at place b stride + first, reduced once.
-fn outer_at(m: u32, re: &[u32; 2880], im: &[u32; 2880], outer: usize, turn: usize, first: usize, stride: usize, work: &[u32]) -> Pair
+fn outer_at<'a>(
+    m: u32,
+    re: &'a [u32; 2880],
+    im: &'a [u32; 2880],
+    outer: usize,
+    turn: usize,
+    first: usize,
+    stride: usize,
+    work: &[u32],
+) -> Pair
     requires { ⌜ IsModulus m × RootTable m (now re) (now im) ⌝ }
     requires { ⌜ (outer ≤ 5) × (0 < outer) × (turn < 2880) × (first < stride) × (outer * stride ≤ 2880) ⌝ }
     requires { ⌜ length (now work) ≡ 2 * (outer * stride) ⌝ }
@@ -192,7 +277,12 @@ fn outer_at(m: u32, re: &[u32; 2880], im: &[u32; 2880], outer: usize, turn: usiz
     let mut place = stride + first;
     let mut b = 1;
     while b < outer {
-        a = numbers::add_product(m, a, root_at(re, im, k), slices::get(work, place));
+        a = numbers::add_product(
+            m,
+            a,
+            numbers::tables::root_at(re, im, k),
+            slices::get(work, place),
+        );
         k = (k + turn) % 2880;
         place += stride;
         b += 1;
@@ -209,11 +299,4 @@ fn started(m: u32, v: Pair) -> Accumulator
         re: v.re as u64,
         im: v.im as u64,
     }
-}
-
-fn root_at(re: &[u32; 2880], im: &[u32; 2880], k: usize) -> Pair
-    requires { ⌜ k < 2880 ⌝ }
-    ensures { λ r. ⌜ r ≡ entryAt (now (re .entry)) (now (im .entry)) k ⌝ }
-{
-    Pair { re: re[k], im: im[k] }
 }

@@ -1,5 +1,5 @@
-use mathlib.Core.Path.{_≡_, sym, ap, _∙_}
-use Prim.Native.Nat.{ℕ, _+_, _-_, _*_, _/_, _<_, _≤_}
+use mathlib.Core.Path.{_≡_, ap}
+use Prim.Native.Nat.{_+_, _-_, _*_, _/_, _≤_}
 use native.Mathlib.Nat.{mul-le-mul, div-le-self}
 use native.Mathlib.Omega.{arith}
 use Rattle.algebra.specs.Ring.{Ops}
@@ -13,9 +13,6 @@ use Rattle.plain.proofs.Passes.{twiddled-row}
 use Rattle.plain.proofs.Rowing.{Rowing, InRow, in-row, rowing-start, rowing-next, rowing-block, rowing-done}
 use Rattle.plain.proofs.twiddle.Statement.{statement}
 use Rattle.plain.proofs.twiddle.Tie as tie
-use Rattle.plain.proofs.twiddle.Reads as reads
-use Rattle.plain.proofs.twiddle.Lts as lts
-use Rattle.plain.proofs.twiddle_row.Reads as twiddle-row-reads
 
 abbrev Inv-loop : tie.InvT-loop
 Inv-loop m re im inner outer lines line work₀ turn b₀ q₀ work b q =

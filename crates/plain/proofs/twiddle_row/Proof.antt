@@ -1,23 +1,17 @@
-use mathlib.Core.Path.{_≡_, sym, ap, _∙_, subst}
-use Prim.Native.Nat.{ℕ, _+_, _-_, _*_, _%_, _<_, _≤_}
+use mathlib.Core.Path.{_≡_, _∙_}
+use Prim.Native.Nat.{_+_, _-_, _*_, _≤_}
 use native.Mathlib.Nat.{mul-le-mul-left}
 use native.Mathlib.Omega.{arith}
-use Rattle.algebra.specs.Ring.{Ops, pow, sum}
-use Rattle.numbers.specs.Value.{Value, field, valueOf, pairOf}
+use Rattle.algebra.specs.Ring.{Ops, pow}
+use Rattle.numbers.specs.Value.{field, valueOf, pairOf}
 use Rattle.numbers.specs.Root.{tableRoot}
 use Rattle.slices.specs.Pairs.{Filling}
 use Rattle.slices.proofs.Bounds.{small-of}
 use Rattle.slices.proofs.Rows.{row-end}
 use Rattle.slices.proofs.Filling.{filling-start, filling-next, filling-done}
-use Rattle.slices.proofs.Sets.{fill}
 use Rattle.plain.specs.Buffers.{valuesOf}
 use Rattle.plain.proofs.twiddle_row.Statement.{statement}
 use Rattle.plain.proofs.twiddle_row.Tie as tie
-use Rattle.plain.proofs.twiddle_row.Reads as reads
-use Rattle.plain.proofs.twiddle_row.Lts as lts
-use Rattle.plain.proofs.turned.Reads as turned-reads
-use Rattle.slices.proofs.get.Reads as get-reads
-use Rattle.slices.proofs.store.Reads as store-reads
 
 abbrev Inv-loop : tie.InvT-loop
 Inv-loop m re im inner turn row line work₀ base k₀ s₀ work k s =

@@ -1,0 +1,3 @@
+pub mod Tests
+pub mod Factors
+pub mod Specimens

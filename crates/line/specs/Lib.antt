@@ -1,0 +1,5 @@
+pub mod Refusals
+pub mod Tests
+pub mod Lengths
+pub mod Line
+pub mod Specimens

@@ -2,12 +2,12 @@
 use mathlib.Core.Path.{_≡_, refl, _∙_, sym, ap, subst}
 use mathlib.Core.Bool.{Bool, true, false, _&&_, cond}
 use mathlib.Core.List.{List, [], _∷_}
-use Prim.Native.Nat.{ℕ, zero, suc, _+_, _*_, _^_, _/_, _%_, _≤_, _<_}
+use Prim.Native.Nat.{ℕ, zero, suc, _+_, _-_, _*_, _^_, _/_, _%_, _≤_, _<_}
 use native.Mathlib.Nat.{mul-le-mul, not-suc-le-zero, pow-succ', one-le-pow}
 use native.Mathlib.Numerals.{add-one}
 use native.Mathlib.Omega.{arith}
 use lib.Dec.{leb, eqb}
-use lib.ListN.{length, getD, drop, drop-of-length-le}
+use lib.ListN.{length, getD, drop, drop-of-length-le, length-drop}
 use lib.Seq.{drop-cons}
 use borrow.Author.Tests.{leb-true, ne-eqb, eq-eqb}
 use Rattle.line.specs.Lengths.{isFactor, factorsOk, product, octal, digits, listOf}
@@ -29,6 +29,13 @@ factors-drop l i h = rw (add-one, drop-cons l i 0)
 pub factors-past : (l : List ℕ) (i : ℕ) → length l ≤ i → factorsOk (drop i l) ≡ true
 unfolding factorsOk
 factors-past l i h = rw (drop-of-length-le l h)
+
+-- a list that is walked: the rest of it decides, until a number is no factor
+pub factors-stop : (l : List ℕ) (i : ℕ) → i < length l → isFactor (getD l i 0) ≡ false → factorsOk (drop i l) ≡ factorsOk l → false ≡ factorsOk l
+factors-stop l i h f e = ap (λ (b : Bool). b && factorsOk (drop (i + 1) l)) (sym f) ∙ sym (factors-drop l i h) ∙ e
+
+pub factors-next : (l : List ℕ) (i : ℕ) → i < length l → isFactor (getD l i 0) ≡ true → factorsOk (drop i l) ≡ factorsOk l → factorsOk (drop (i + 1) l) ≡ factorsOk l
+factors-next l i h f e = ap (λ (b : Bool). b && factorsOk (drop (i + 1) l)) (sym f) ∙ sym (factors-drop l i h) ∙ e
 
 pub factors-rest : (l : List ℕ) (i : ℕ) → factorsOk l ≡ true → factorsOk (drop i l) ≡ true
 unfolding factorsOk
@@ -62,6 +69,16 @@ product-positive (f ∷ l) e =
     let h = factors-cons f l e in
     omega (arith, products-le 1 1 f (product l) (omega (arith, h .0)) (product-positive l (h .1)))
 
+-- the product so far, times that of the rest
+pub product-next : (l : List ℕ) (i d f : ℕ) → i < length l → f ≡ getD l i 0 → product l ≡ d * product (drop i l) → product l ≡ d * f * product (drop (i + 1) l)
+product-next l i d f h e p = p ∙ ap (λ (x : ℕ). d * x) (product-drop l i h ∙ ap (λ (x : ℕ). x * product (drop (i + 1) l)) (sym e)) ∙ omega arith
+
+pub product-least : (l : List ℕ) (i d : ℕ) → factorsOk l ≡ true → product l ≡ d * product (drop i l) → d ≤ product l
+product-least l i d e p = omega (arith, products-le d 1 d (product (drop i l)) (omega arith) (product-positive (drop i l) (factors-rest l i e)))
+
+pub product-done : (l : List ℕ) (i d : ℕ) → length l ≤ i → product l ≡ d * product (drop i l) → product l ≡ d
+product-done l i d h p = p ∙ ap (λ (x : ℕ). d * x) (product-past l i h) ∙ omega arith
+
 -- a product below 2^(k + 1) has at most k factors
 pub few : (k : ℕ) (l : List ℕ) → factorsOk l ≡ true → product l < 2 ^ suc k → length l ≤ k
 unfolding product
@@ -91,6 +108,15 @@ octal-below zero (f ∷ l) e h = absurd (not-suc-le-zero h)
 octal-below (suc k) (f ∷ l) e h =
     let c = factors-cons f l e in
     omega (arith, c .0, octal-below k l (c .1) (omega arith), pow-succ' 8 k)
+
+-- a product of at most 1,440 has at most ten factors, and ten octal digits fit thirty bits
+pub octal-small : (l : List ℕ) (i : ℕ) → factorsOk l ≡ true → product l ≤ 1440 → octal (drop i l) < 1073741824
+octal-small l i e h = octal-below 10 (drop i l) (factors-rest l i e) (omega (arith, length-drop i l, few 10 l e (omega arith)))
+
+pub octal-back : (l : List ℕ) (i : ℕ) → 0 < i → i ≤ length l → octal (drop (i - 1) l) ≡ getD l (i - 1) 0 + 8 * octal (drop i l)
+octal-back l i z h =
+    let e : i - 1 + 1 ≡ i = omega arith in
+    octal-drop l (i - 1) (omega arith) ∙ ap (λ (k : ℕ). getD l (i - 1) 0 + 8 * octal (drop k l)) e
 
 -- the first factor and the rest, as the code takes them
 pub octal-head : (f : ℕ) (l : List ℕ) → f ≤ 5 → octal (f ∷ l) % 8 ≡ f

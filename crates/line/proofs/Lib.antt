@@ -1,3 +1,4 @@
 pub mod Tests
 pub mod Factors
+pub mod Counts
 pub mod Specimens

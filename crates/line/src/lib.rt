@@ -1,4 +1,5 @@
 // One line of structure factors: the six kinds, both directions.
+pub mod check;
 
 // Why a call is turned back: one case for each number of the paper.
 pub enum Refusal {

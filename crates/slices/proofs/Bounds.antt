@@ -5,11 +5,12 @@ use mathlib.Core.Bool.{Bool, true, false, _&&_}
 use mathlib.Core.List.{List, [], _∷_, _++_}
 use Prim.Native.Nat.{ℕ, zero, suc, _+_, _-_, _*_, _<_, _≤_}
 use native.Mathlib.Nat.{eq-or-lt-of-le}
+use native.Mathlib.Numerals.{add-one}
 use native.Mathlib.Omega.{arith}
 use lib.Dec.{ltb}
-use lib.ListN.{length, getD, set, take, drop, List·getD-eq-default}
-use lib.Seq.{getD-set-same, getD-set-other, set-out}
-use borrow.Author.Tests.{lt-ltb, ltb-true}
+use lib.ListN.{length, getD, set, drop, drop-of-length-le, List·getD-eq-default}
+use lib.Seq.{getD-set-same, getD-set-other, set-out, drop-cons}
+use borrow.Author.Tests.{lt-ltb, le-ltb, ltb-true}
 use Rattle.numbers.specs.declared.Pair.{Pair}
 use Rattle.numbers.specs.Value.{Small}
 use Rattle.slices.specs.Pairs.{at, put, puts, fills, tab, Below, allBelow}
@@ -62,6 +63,19 @@ below-puts p f zero h s = h
 below-puts p f (suc n) h s = below-put (p n) (below-puts p f n h (λ j l. s j (omega arith))) (s n (omega arith))
 
 -- ---- the test
+
+-- a scan has come to number i: it goes on past a number that is below, and stops at one that is not
+pub allBelow-next : (m : ℕ) (l : List ℕ) (i : ℕ) → i < length l → getD l i 0 < m → allBelow m (drop i l) ≡ allBelow m (drop (i + 1) l)
+unfolding allBelow
+allBelow-next m l i b h = rw (add-one, drop-cons l i 0, lt-ltb (getD l i 0) m h)
+
+pub allBelow-stop : (m : ℕ) (l : List ℕ) (i : ℕ) → i < length l → m ≤ getD l i 0 → allBelow m (drop i l) ≡ false
+unfolding allBelow
+allBelow-stop m l i b h = rw (drop-cons l i 0, le-ltb (getD l i 0) m h)
+
+pub allBelow-end : (m : ℕ) (l : List ℕ) (i : ℕ) → length l ≤ i → allBelow m (drop i l) ≡ true
+unfolding allBelow
+allBelow-end m l i h = ap (allBelow m) (drop-of-length-le l h)
 
 below-head : {m x : ℕ} {l : List ℕ} → Below m (x ∷ l) → x < m
 below-head h = h .each zero

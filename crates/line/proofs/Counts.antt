@@ -5,7 +5,7 @@ use native.Mathlib.Numerals.{add-one}
 use native.Mathlib.Nat.{not-suc-le-zero}
 use native.Mathlib.Omega.{arith}
 use Rattle.algebra.specs.Kinds.{Kind, plain, hermitian, antihermitian, alternating, symmetric, antisymmetric, slots}
-use Rattle.line.specs.Line.{kindOf, pairCount}
+use Rattle.line.specs.Line.{pairCount}
 
 pub count-plain : (kind N : ℕ) → kind ≡ 0 → 2 * (N / 2) ≡ pairCount kind N
 unfolding slots

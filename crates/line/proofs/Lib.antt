@@ -1,4 +1,5 @@
 pub mod Tests
 pub mod Factors
 pub mod Counts
+pub mod Accepted
 pub mod Specimens

@@ -1,6 +1,6 @@
 -- Each row of the table of specimens is computed from the definitions: one test over the whole table, and that the test is enough.
 use mathlib.Core.Path.{_≡_, refl, _∙_, sym, ap, subst}
-use mathlib.Core.Bool.{Bool, true, false, not, _&&_}
+use mathlib.Core.Bool.{Bool, true, false, _&&_}
 use mathlib.Core.List.{List, [], _∷_}
 use Prim.Native.Nat.{ℕ, _≤_}
 use lib.Dec.{T, eqb}
@@ -16,9 +16,9 @@ use Rattle.numbers.specs.Prime.{prime}
 use Rattle.numbers.specs.Value.{half, part, valueOf, pairOf}
 use Rattle.numbers.specs.Root.{root}
 use Rattle.slices.specs.Pairs.{at, put, puts, allBelow}
-use Rattle.line.specs.Tests.{first, accepted}
-use Rattle.line.specs.Lengths.{admitted, factorsOk, product, scratchLength, cleared}
-use Rattle.line.specs.Line.{lineTests, rootOf, transform, transformed, LineOutcome, lineStep}
+use Rattle.line.specs.Tests.{first}
+use Rattle.line.specs.Lengths.{admitted, factorsOk, product, scratchLength}
+use Rattle.line.specs.Line.{lineTests, rootOf, transform, transformed, lineStep}
 use Rattle.line.specs.Specimens.{Specimen, specimens, Shown, AllShown, Specimens}
 use Rattle.line.proofs.Tests.{both}
 

@@ -1,6 +1,6 @@
 -- One line: the six kinds, both directions, by direct sums over the whole line of N values; and what the call answers and leaves for every input.
 -- `before` and `after` of algebra's Kinds are the whole line of what is packed before and after the transform, `forward` and `back` the sums, packed again.
-use mathlib.Core.Bool.{Bool, not}
+use mathlib.Core.Bool.{not}
 use mathlib.Core.List.{List, [], _∷_}
 use Prim.Native.Nat.{ℕ, zero, suc, _*_, _/_}
 use lib.ListN.{length, getD}

@@ -5,7 +5,7 @@ use crate::Checked;
 use crate::Refusal;
 ghost use mathlib.Core.Path.{_≡_};
 ghost use mathlib.Core.Bool.{true};
-ghost use Prim.Native.Nat.{ℕ, _≤_, _<_};
+ghost use Prim.Native.Nat.{_≤_, _<_};
 ghost use lib.Dec.{eqb};
 ghost use Rattle.line.specs.Tests.{first, checkedNumber};
 ghost use Rattle.line.specs.Lengths.{admitted, isFactor, factorsOk, product, octal};
@@ -98,4 +98,44 @@ pub fn pair_count(kind: u32, length: u32) -> usize
         4 => half + 1,
         _ => half - 1,
     }
+}
+
+// The refusals of a line, in the paper's order. Residues are below p; the scratch counts by its length.
+pub fn check_line(
+    p: u32,
+    kind: u32,
+    direction: u32,
+    length: u32,
+    factors: &[u8],
+    line: &[u32],
+    scratch: usize,
+) -> Checked
+    ensures { λ r. ⌜ checkedNumber r ≡ first (lineTests p kind direction length (now (factors .entry)) (now (line .entry)) scratch) ⌝ }
+{
+    if 6 <= kind {
+        return Checked::Failed(Refusal::LineKind);
+    }
+    if 2 <= direction {
+        return Checked::Failed(Refusal::Direction);
+    }
+    if !admitted(length) {
+        return Checked::Failed(Refusal::Length);
+    }
+    if !factors_ok(factors) {
+        return Checked::Failed(Refusal::Factor);
+    }
+    if !has_product(factors, length / 2) {
+        return Checked::Failed(Refusal::Product);
+    }
+    let pairs = pair_count(kind, length);
+    if line.len() != 2 * pairs {
+        return Checked::Failed(Refusal::BufferLength);
+    }
+    if scratch < 11520 {
+        return Checked::Failed(Refusal::ScratchTooShort);
+    }
+    if !slices::all_below(line, p) {
+        return Checked::Failed(Refusal::NotResidue);
+    }
+    Checked::Sound
 }

@@ -1,12 +1,10 @@
 -- `admitted` decides the definition: each return has settled its tests.
 use borrow.Author.Needs.{needs}
 use native.Mathlib.Omega.{arith}
-use borrow.Author.Tests.{le-ltb, lt-ltb, eq-eqb, ne-eqb}
+use borrow.Author.Tests.{lt-ltb, eq-eqb, ne-eqb}
 use Rattle.line.specs.Lengths.{admitted}
 use Rattle.line.proofs.check.admitted.Statement.{statement}
 use Rattle.line.proofs.check.admitted.Tie as tie
-use Rattle.line.proofs.check.admitted.Reads as reads
-use Rattle.line.proofs.check.admitted.Lts as lts
 
 returns : tie.Need-returns
 unfolding admitted

@@ -2,7 +2,7 @@
 use borrow.Author.Needs.{needs}
 use native.Mathlib.Omega.{arith}
 use mathlib.Core.Path.{_≡_, refl, _∙_, sym}
-use Prim.Native.Nat.{ℕ, _-_, _≤_}
+use Prim.Native.Nat.{_-_, _≤_}
 use lib.ListN.{length, drop}
 use denote.Ref.{now}
 use Rattle.line.specs.Lengths.{factorsOk}
@@ -10,9 +10,6 @@ use Rattle.line.proofs.Factors.{factors-stop, factors-next, factors-pas
 use Rattle.line.proofs.Tests.{by-false, by-true}
 use Rattle.line.proofs.check.factors_ok.Statement.{statement}
 use Rattle.line.proofs.check.factors_ok.Tie as tie
-use Rattle.line.proofs.check.factors_ok.Reads as reads
-use Rattle.line.proofs.check.factors_ok.Lts as lts
-use Rattle.line.proofs.check.is_factor.Reads as is-factor-reads
 
 abbrev Inv-loop : tie.InvT-loop
 Inv-loop factors i₀ i = (i ≤ length factors) × (factorsOk (drop i factors) ≡ factorsOk factors)

@@ -2,7 +2,7 @@
 use borrow.Author.Needs.{needs}
 use native.Mathlib.Omega.{arith}
 use native.Mathlib.Nat.{mul-le-mul}
-use mathlib.Core.Path.{_≡_, refl, _∙_, sym, ap}
+use mathlib.Core.Path.{_≡_, sym, ap}
 use Prim.Native.Nat.{ℕ, _+_, _*_, _-_, _≤_}
 use lib.ListN.{length, drop}
 use lib.Dec.{eqb}
@@ -12,9 +12,6 @@ use Rattle.line.specs.Lengths.{product}
 use Rattle.line.proofs.Factors.{factor-at, product-next, product-least, product-done}
 use Rattle.line.proofs.check.has_product.Statement.{statement}
 use Rattle.line.proofs.check.has_product.Tie as tie
-use Rattle.line.proofs.check.has_product.Reads as reads
-use Rattle.line.proofs.check.has_product.Lts as lts
-use Rattle.line.proofs.check.wide.Reads as wide-reads
 
 abbrev Inv-loop : tie.InvT-loop
 Inv-loop factors n done₀ i₀ done i = (i ≤ length factors) × (done ≤ 1440) × (product factors ≡ done * product (drop i factors))

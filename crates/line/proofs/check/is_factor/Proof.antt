@@ -2,8 +2,6 @@
 use borrow.Author.Tests.{lt-leb, le-leb}
 use Rattle.line.proofs.check.is_factor.Statement.{statement}
 use Rattle.line.proofs.check.is_factor.Tie as tie
-use Rattle.line.proofs.check.is_factor.Reads as reads
-use Rattle.line.proofs.check.is_factor.Lts as lts
 
 returns : tie.Need-returns
 returns c = simp (lt-leb _ _ (c .if1 .taken))

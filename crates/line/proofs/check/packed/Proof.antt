@@ -1,17 +1,14 @@
 -- `packed`: from the last factor to the first, the number holds the digits of the rest of the list.
 use borrow.Author.Needs.{needs}
 use native.Mathlib.Omega.{arith}
-use mathlib.Core.Path.{_≡_, refl, _∙_, sym, ap}
+use mathlib.Core.Path.{_≡_, _∙_, sym, ap}
 use Prim.Native.Nat.{ℕ, _+_, _*_, _-_, _≤_, _<_}
-use lib.ListN.{length, getD, drop}
+use lib.ListN.{length, drop}
 use denote.Ref.{now}
 use Rattle.line.specs.Lengths.{octal}
 use Rattle.line.proofs.Factors.{octal-past, octal-back, octal-small}
 use Rattle.line.proofs.check.packed.Statement.{statement}
 use Rattle.line.proofs.check.packed.Tie as tie
-use Rattle.line.proofs.check.packed.Reads as reads
-use Rattle.line.proofs.check.packed.Lts as lts
-use Rattle.line.proofs.check.wide.Reads as wide-reads
 
 abbrev Inv-loop : tie.InvT-loop
 Inv-loop factors number₀ i₀ number i = (i ≤ length factors) × (number ≡ octal (drop i factors))

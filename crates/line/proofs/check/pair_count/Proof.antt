@@ -4,8 +4,6 @@ use native.Mathlib.Omega.{arith}
 use Rattle.line.proofs.Counts.{count-plain, count-half, count-symmetric, count-antisymmetric}
 use Rattle.line.proofs.check.pair_count.Statement.{statement}
 use Rattle.line.proofs.check.pair_count.Tie as tie
-use Rattle.line.proofs.check.pair_count.Reads as reads
-use Rattle.line.proofs.check.pair_count.Lts as lts
 
 cast-half : tie.Need-cast-half
 cast-half c = search needs

@@ -184,6 +184,13 @@ pub fn halved(m: u32, a: Pair) -> Pair
     }
 }
 
+// The empty sum, at either modulus.
+pub fn zero_accumulator() -> Accumulator
+    ensures { λ r. ⌜ ((m : ℕ) → Accumulated m 0 r (field m .zer)) ⌝ }
+{
+    Accumulator { re: 0, im: 0 }
+}
+
 // One product more. Sixty-four bits hold millions of them.
 pub fn add_product(m: u32, a: Accumulator, x: Pair, y: Pair) -> Accumulator
     requires { ⌜ IsModulus m × Small (prime m) x × Small (prime m) y ⌝ }

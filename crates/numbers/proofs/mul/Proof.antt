@@ -1,0 +1,19 @@
+use borrow.Author.Needs.{needs}
+use Rattle.numbers.proofs.Residues.{product-mod}
+use Rattle.numbers.proofs.mul.Statement.{statement}
+use Rattle.numbers.proofs.mul.Tie as tie
+
+modulus-requires : tie.Need-modulus-requires
+modulus-requires c κs = search needs
+
+whole-requires : tie.Need-whole-requires
+whole-requires c κs = search needs
+
+reduce-requires : tie.Need-reduce-requires
+reduce-requires c κs = search needs
+
+returns : tie.Need-returns
+returns c = product-mod _ _ _ (c .before .whole .ensures .0) (c .reduce .ensures)
+
+pub mul-spec : {M : Type 1} → statement M
+mul-spec = tie.close (tie.spec modulus-requires whole-requires reduce-requires returns)

@@ -1,0 +1,2 @@
+pub mod Equation3
+pub mod Factoring

@@ -1,14 +1,12 @@
 -- An accumulator: it starts at zero, takes a product, and is reduced to the pair of its value.
-use mathlib.Core.Path.{_≡_, refl, sym, _∙_, ap}
-use Prim.Native.Nat.{ℕ, _+_, _*_, _-_, _<_, _≤_}
+use mathlib.Core.Path.{_≡_, refl, _∙_, ap}
+use Prim.Native.Nat.{ℕ, _+_, _≤_}
 use native.Mathlib.Omega.{arith}
 use Rattle.algebra.specs.Ring.{Ops}
-use Rattle.algebra.specs.Residue.{residue, residues}
+use Rattle.algebra.specs.Residue.{residues}
 use Rattle.algebra.specs.Gauss.{gauss}
-use Rattle.numbers.specs.declared.Pair.{Pair}
 use Rattle.numbers.specs.declared.Accumulator.{Accumulator}
-use Rattle.numbers.specs.Prime.{prime}
-use Rattle.numbers.specs.Value.{Value, field, value, valueOf, pairOf, Small}
+use Rattle.numbers.specs.Value.{Value, field, value, pairOf}
 use Rattle.numbers.specs.Accumulator.{Accumulated}
 use Rattle.numbers.proofs.Values.{value-add}
 
@@ -28,3 +26,7 @@ accumulated-next m n a z w s t u v h e hs ht hu hv = record {
   im = omega arith;
   value-is = value-add m (a .re) (a .im) (s + t) (u + v) ∙ cc;
 }
+
+-- five million products leave room for one more
+pub accumulated-room : {m n : ℕ} {a : Accumulator} {z : Value m} → n ≤ 5000000 → Accumulated m n a z → (a .re ≤ 1000000000000000000) × (a .im ≤ 1000000000000000000)
+accumulated-room l h = omega arith

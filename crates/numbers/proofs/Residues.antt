@@ -63,11 +63,11 @@ module _ (p : ℕ) where
       ∙ residue-mul p h (c + c)
       ∙ ap (residues p .mul (residue p h)) q)
 
-  pub residue-cast : 0 < p → (n : ℕ) → cast (residues p) n ≡ residue p n
+  pub residue-cast : (n : ℕ) → cast (residues p) n ≡ residue p n
   unfolding cast residues
-  residue-cast h zero = refl
-  residue-cast h (suc n) =
-      ap (residues p .add (residue p 1)) (residue-cast h n) ∙ sym (residue-add p 1 n) ∙ along (residue p) (1 + n) (suc n) (omega arith)
+  residue-cast zero = refl
+  residue-cast (suc n) =
+      ap (residues p .add (residue p 1)) (residue-cast n) ∙ sym (residue-add p 1 n) ∙ along (residue p) (1 + n) (suc n) (omega arith)
 
 -- at the prime that m chooses
 pub res-ring : (m : ℕ) → CRing (ring m)
@@ -81,3 +81,10 @@ res-val m x = residue-val (prime m) x
 
 pub val-res : (m : ℕ) {x : ℕ} → x < prime m → (res m x) .val ≡ x
 val-res m h = val-residue (prime m) _ h
+
+-- a number that the code holds for the residue a
+pub below-by : (m : ℕ) {x : ℕ} (a : Residue m) → x ≡ a .val → x < prime m
+below-by m a e = rw e (val-small m a)
+
+pub res-by : (m : ℕ) {x : ℕ} (a : Residue m) → x ≡ a .val → res m x ≡ a
+res-by m a e = rw e (res-val m a)

@@ -2,9 +2,9 @@
 -- and what the code does with the two numbers of a pair is the operation of that ring.
 use mathlib.Core.Path.{_≡_, refl, sym, _∙_, ap, ap₂}
 use mathlib.Core.List.{List, [], _∷_}
-use Prim.Native.Nat.{ℕ, _+_, _*_, _-_, _<_, _≤_}
+use Prim.Native.Nat.{ℕ, _+_, _*_, _-_, _<_}
 use Rattle.algebra.specs.Ring.{Ops, CRing, Star}
-use Rattle.algebra.specs.Residue.{Res, residue, residues}
+use Rattle.algebra.specs.Residue.{residues}
 use Rattle.algebra.specs.Gauss.{gauss, imag}
 use Rattle.algebra.specs.Gauss as Gauss
 use Rattle.algebra.proofs.Laws.{mul-neg}
@@ -15,7 +15,6 @@ use Rattle.numbers.specs.declared.Pair.{Pair}
 use Rattle.numbers.specs.Prime.{prime}
 use Rattle.numbers.specs.Value.{Value, Residue, field, conj, i, res, value, real, valueOf, pairOf, Small}
 use Rattle.numbers.specs.Value as Value
-use Rattle.numbers.proofs.Primes.{prime-pos}
 use Rattle.numbers.proofs.Residues.{res-ring, val-small, res-val, val-res}
 
 -- pairs, and values, are equal by their parts
@@ -36,6 +35,13 @@ value-pair m z = value-path (res-val m (z .0)) (res-val m (z .1))
 pub pair-value : (m : ℕ) {v : Pair} → Small (prime m) v → pairOf (valueOf m v) ≡ v
 unfolding pairOf valueOf
 pair-value m s = pair-path (val-res m (s .re)) (val-res m (s .im))
+
+-- a pair that the code holds for z
+pub small-by : (m : ℕ) {v : Pair} (z : Value m) → v ≡ pairOf z → Small (prime m) v
+small-by m z e = rw e (small-pair m z)
+
+pub value-by : (m : ℕ) {v : Pair} (z : Value m) → v ≡ pairOf z → valueOf m v ≡ z
+value-by m z e = rw e (value-pair m z)
 
 -- a value is determined by its pair
 pub pair-injective : (m : ℕ) (y z : Value m) → pairOf y ≡ pairOf z → y ≡ z

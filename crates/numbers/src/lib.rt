@@ -80,7 +80,6 @@ pub fn mul(m: u32, a: u32, b: u32) -> u32
     requires { ⌜ IsModulus m × (a < prime m) × (b < prime m) ⌝ }
     ensures { λ r. ⌜ r ≡ ring m .mul (res m a) (res m b) .val ⌝ }
 {
-    let p = modulus(m);
     reduce(m, whole(a, b))
 }
 

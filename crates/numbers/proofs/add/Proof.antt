@@ -1,3 +1,4 @@
+-- A sum of two residues is below 2p: one subtraction reduces it.
 use borrow.Author.Needs.{needs}
 use native.Mathlib.Omega.{arith}
 use Rattle.numbers.proofs.Residues.{sum-below, sum-above}

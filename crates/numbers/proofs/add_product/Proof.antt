@@ -1,3 +1,4 @@
+-- A product's two parts are added without reducing: the value grows by it, and each bound by less than 2 * 302,399^2.
 use borrow.Author.Needs.{needs}
 use native.Mathlib.Omega.{arith}
 use Rattle.numbers.proofs.Values.{whole-products}
@@ -36,7 +37,19 @@ add-t14 : tie.Need-add-t14
 add-t14 c = search needs
 
 returns : tie.Need-returns
-returns c = λ n z h. accumulated-next _ n _ z _ _ _ _ _ h (whole-products _ _ _ _ _ _ _ _ (c .before .before .before .before .before .before .before .modulus .ensures .0) (omega arith) (c .before .before .before .before .before .before .whole .ensures .0) (c .before .before .before .before .whole2 .ensures .0) (c .before .before .whole3 .ensures .0) (c .before .whole4 .ensures .0)) (c .before .before .before .before .before .before .whole .ensures .1) (c .before .before .before .before .whole2 .ensures .1) (c .before .before .whole3 .ensures .1) (c .before .whole4 .ensures .1)
+returns c = λ n z h.
+    accumulated-next _ n _ z _ _ _ _ _ h
+    (whole-products _ _ _ _ _ _ _ _
+    (c .before .before .before .before .before .before .before .modulus .ensures .0)
+    (omega arith)
+    (c .before .before .before .before .before .before .whole .ensures .0)
+    (c .before .before .before .before .whole2 .ensures .0)
+    (c .before .before .whole3 .ensures .0)
+    (c .before .whole4 .ensures .0))
+    (c .before .before .before .before .before .before .whole .ensures .1)
+    (c .before .before .before .before .whole2 .ensures .1)
+    (c .before .before .whole3 .ensures .1)
+    (c .before .whole4 .ensures .1)
 
 pub add-product-spec : {M : Type 1} → statement M
 add-product-spec =

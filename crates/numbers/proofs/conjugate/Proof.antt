@@ -1,3 +1,4 @@
+-- The imaginary part changes its sign.
 use borrow.Author.Needs.{needs}
 use mathlib.Core.Path.{sym}
 use Rattle.algebra.specs.Gauss.{conj}

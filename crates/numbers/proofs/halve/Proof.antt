@@ -1,3 +1,4 @@
+-- An even number is halved as it is, an odd one with p added.
 use borrow.Author.Needs.{needs}
 use native.Mathlib.Omega.{arith}
 use Rattle.numbers.proofs.Parts.{halve-even, halve-odd}

@@ -1,3 +1,4 @@
+-- One half is a real factor, so it goes by parts.
 use borrow.Author.Needs.{needs}
 use mathlib.Core.Path.{sym, _∙_, ap}
 use Rattle.numbers.specs.Value.{valueOf, pairOf}

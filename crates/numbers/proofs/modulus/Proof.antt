@@ -1,3 +1,4 @@
+-- The two primes, by the modulus number.
 use native.Mathlib.Omega.{arith}
 use Rattle.numbers.specs.Prime.{prime}
 use Rattle.numbers.proofs.modulus.Statement.{statement}

@@ -1,3 +1,4 @@
+-- p - a stands for -a, and 0 for -0.
 use borrow.Author.Needs.{needs}
 use native.Mathlib.Omega.{arith}
 use Rattle.numbers.proofs.Primes.{prime-pos}

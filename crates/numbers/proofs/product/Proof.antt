@@ -1,3 +1,4 @@
+-- The product's two parts are sums of two whole products, each reduced once.
 use borrow.Author.Needs.{needs}
 use mathlib.Core.Path.{_∙_, ap}
 use native.Mathlib.Omega.{arith}
@@ -38,7 +39,16 @@ reduce-requires-2 c κs = search needs
 
 returns : tie.Need-returns
 unfolding pairOf
-returns c = pair-path (c .before .before .before .reduce .ensures) (c .reduce2 .ensures) ∙ ap pairOf (whole-products _ _ _ _ _ _ _ _ (c .before .before .before .before .before .before .before .modulus .ensures .0) (omega arith) (c .before .before .before .before .before .before .whole .ensures .0) (c .before .before .before .before .whole2 .ensures .0) (c .before .before .whole3 .ensures .0) (c .before .whole4 .ensures .0))
+returns c =
+    pair-path (c .before .before .before .reduce .ensures) (c .reduce2 .ensures)
+    ∙ ap pairOf
+    (whole-products _ _ _ _ _ _ _ _
+    (c .before .before .before .before .before .before .before .modulus .ensures .0)
+    (omega arith)
+    (c .before .before .before .before .before .before .whole .ensures .0)
+    (c .before .before .before .before .whole2 .ensures .0)
+    (c .before .before .whole3 .ensures .0)
+    (c .before .whole4 .ensures .0))
 
 pub product-spec : {M : Type 1} → statement M
 product-spec =

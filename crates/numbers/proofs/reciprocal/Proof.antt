@@ -1,3 +1,4 @@
+-- (p + 1)/n is below p and stands for 1/n.
 use borrow.Author.Needs.{needs}
 use Rattle.numbers.proofs.Parts.{part-below, part-number}
 use Rattle.numbers.proofs.reciprocal.Statement.{statement}

@@ -1,3 +1,4 @@
+-- The remainder by the constant is the residue modulo the prime that m chooses.
 use borrow.Author.Needs.{needs}
 use Rattle.algebra.specs.Residue.{residue}
 use Rattle.numbers.proofs.Primes.{prime-one, prime-two}

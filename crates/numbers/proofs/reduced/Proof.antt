@@ -1,3 +1,4 @@
+-- Each number is reduced once.
 use borrow.Author.Needs.{needs}
 use Rattle.numbers.specs.Value.{pairOf}
 use Rattle.numbers.proofs.Values.{pair-path}

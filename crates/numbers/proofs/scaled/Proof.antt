@@ -1,3 +1,4 @@
+-- A real factor goes by parts.
 use borrow.Author.Needs.{needs}
 use mathlib.Core.Path.{sym, _∙_, ap}
 use Rattle.numbers.specs.Value.{valueOf, pairOf}

@@ -1,3 +1,4 @@
+-- A difference is taken as it is, or p is added first.
 use borrow.Author.Needs.{needs}
 use native.Mathlib.Omega.{arith}
 use Rattle.numbers.proofs.Residues.{difference-above, difference-below}

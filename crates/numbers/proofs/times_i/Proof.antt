@@ -1,3 +1,4 @@
+-- i (a + b i) is -b + a i.
 use borrow.Author.Needs.{needs}
 use mathlib.Core.Path.{sym, _∙_, ap}
 use Rattle.numbers.specs.Value.{valueOf, pairOf}

@@ -1,3 +1,4 @@
+-- A product of two numbers up to 302,399 fits 64 bits.
 use native.Mathlib.Nat.{mul-le-mul}
 use native.Mathlib.Omega.{arith}
 use Rattle.numbers.proofs.whole.Statement.{statement}

@@ -1,3 +1,4 @@
+-- The empty sum is zero at every modulus.
 use Rattle.numbers.proofs.Accumulators.{accumulated-start}
 use Rattle.numbers.proofs.zero_accumulator.Statement.{statement}
 use Rattle.numbers.proofs.zero_accumulator.Tie as tie

@@ -10,7 +10,8 @@ use lib.Dec.{leb}
 use lib.ListN.{length, getD, drop, drop-of-length-le, length-drop}
 use lib.Seq.{drop-cons}
 use borrow.Author.Tests.{leb-true, ne-eqb}
-use Rattle.line.specs.Lengths.{isFactor, factorsOk, product, octal, digits, listOf}
+use Rattle.plain.specs.Factors.{product, octal, Factors, none, one}
+use Rattle.line.specs.Lengths.{isFactor, factorsOk, digits, octalDigits}
 use Rattle.line.proofs.Tests.{both}
 
 -- ---- a list taken apart
@@ -21,6 +22,11 @@ factor-is f e = let h = both (leb 2 f) (leb f 5) e in (leb-true 2 f (h .0), leb-
 pub factors-cons : (f : ℕ) (l : List ℕ) → factorsOk (f ∷ l) ≡ true → ((2 ≤ f) × (f ≤ 5)) × (factorsOk l ≡ true)
 unfolding factorsOk
 factors-cons f l e = let h = both (isFactor f) (factorsOk l) e in (factor-is f (h .0), h .1)
+
+-- the plain transform's form of the same
+pub factors-of : (l : List ℕ) → factorsOk l ≡ true → Factors l
+factors-of [] e = none
+factors-of (f ∷ l) e = let h = factors-cons f l e in one (h .0 .0) (h .0 .1) (factors-of l (h .1))
 
 pub factors-drop : (l : List ℕ) (i : ℕ) → i < length l → factorsOk (drop i l) ≡ (isFactor (getD l i 0) && factorsOk (drop (i + 1) l))
 unfolding factorsOk
@@ -161,5 +167,5 @@ unfolding octal
 length-octal [] e = omega arith
 length-octal (f ∷ l) e = let c = factors-cons f l e in omega (arith, c .0, length-octal l (c .1))
 
-pub list-octal : (l : List ℕ) → factorsOk l ≡ true → listOf (octal l) ≡ l
-list-octal l e = digits-octal (octal l) l e (length-octal l e)
+pub octal-digits : (l : List ℕ) → factorsOk l ≡ true → octalDigits (octal l) ≡ l
+octal-digits l e = digits-octal (octal l) l e (length-octal l e)

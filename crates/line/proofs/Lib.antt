@@ -1,5 +1,6 @@
 pub mod Tests
 pub mod Factors
+pub mod Divisors
 pub mod Counts
 pub mod Accepted
 pub mod Specimens

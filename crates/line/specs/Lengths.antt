@@ -9,7 +9,7 @@ use lib.Dec.{ltb, leb, eqb}
 unfoldable pub admitted : ℕ → Bool
 admitted N = ltb 0 N && (eqb (N % 2) 0 && eqb (2880 % N) 0)
 
--- A factor list: each number 2 to 5, with the product N/2.
+-- A factor list: each number is 2 to 5.
 abbrev pub isFactor : ℕ → Bool
 isFactor f = leb 2 f && leb f 5
 
@@ -17,22 +17,14 @@ unfoldable pub factorsOk : List ℕ → Bool
 factorsOk [] = true
 factorsOk (f ∷ l) = isFactor f && factorsOk l
 
-unfoldable pub product : List ℕ → ℕ
-product [] = 1
-product (f ∷ l) = f * product l
-
--- A factor list as one number: octal digits, the first factor lowest.
-unfoldable pub octal : List ℕ → ℕ
-octal [] = 0
-octal (f ∷ l) = f + 8 * octal l
-
--- And the list of such a number: digits to a base, the lowest first, of at most `count` digits.
+-- The list that a number holds in its octal digits, the first factor lowest (plain's `octal` is the number of a list):
+-- digits to a base, the lowest first, of at most `count` digits.
 unfoldable pub digits : (base count n : ℕ) → List ℕ
 digits base zero n = []
 digits base (suc c) n = cond (eqb n 0) [] (n % base ∷ digits base c (n / base))
 
-abbrev pub listOf : ℕ → List ℕ
-listOf n = digits 8 n n
+abbrev pub octalDigits : ℕ → List ℕ
+octalDigits n = digits 8 n n
 
 -- What an accepted call leaves of the lent scratch: its first 11,520 numbers zero, the others as they were.
 abbrev pub scratchLength : ℕ

@@ -11,11 +11,12 @@ use Rattle.numbers.specs.Prime.{prime}
 use Rattle.numbers.specs.Value.{Value, field, conj, i, half, part, real, valueOf, pairOf}
 use Rattle.numbers.specs.Root.{root}
 use Rattle.slices.specs.Pairs.{at, tab, allBelow}
+use Rattle.plain.specs.Factors.{product}
 use Rattle.line.specs.declared.LineAnswer.{LineAnswer}
 use Rattle.line.specs.declared.LineAnswer.the-variants.{Transformed, Refused}
 use Rattle.line.specs.Refusals.{numberOf}
 use Rattle.line.specs.Tests.{Test, _⇒_, first, accepted}
-use Rattle.line.specs.Lengths.{admitted, factorsOk, product, scratchLength, cleared}
+use Rattle.line.specs.Lengths.{admitted, factorsOk, scratchLength, cleared}
 
 -- the kinds by the paper's numbers
 abbrev pub kindOf : ℕ → Kind

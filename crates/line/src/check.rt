@@ -8,7 +8,8 @@ ghost use mathlib.Core.Bool.{true};
 ghost use Prim.Native.Nat.{_≤_, _<_};
 ghost use lib.Dec.{eqb};
 ghost use Rattle.line.specs.Tests.{first, checkedNumber};
-ghost use Rattle.line.specs.Lengths.{admitted, isFactor, factorsOk, product, octal};
+ghost use Rattle.plain.specs.Factors.{product, octal};
+ghost use Rattle.line.specs.Lengths.{admitted, isFactor, factorsOk};
 ghost use Rattle.line.specs.Line.{pairCount, lineTests};
 
 // An even divisor of 2,880.

@@ -8,7 +8,7 @@ use lib.ListN.{length, drop}
 use lib.Dec.{eqb}
 use denote.Ref.{now}
 use borrow.Author.Tests.{ne-eqb}
-use Rattle.line.specs.Lengths.{product}
+use Rattle.plain.specs.Factors.{product}
 use Rattle.line.proofs.Factors.{factor-at, product-next, product-least, product-done}
 use Rattle.line.proofs.check.has_product.Statement.{statement}
 use Rattle.line.proofs.check.has_product.Tie as tie

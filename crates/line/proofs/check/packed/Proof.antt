@@ -5,7 +5,7 @@ use mathlib.Core.Path.{_≡_, _∙_, sym, ap}
 use Prim.Native.Nat.{ℕ, _+_, _*_, _-_, _≤_, _<_}
 use lib.ListN.{length, drop}
 use denote.Ref.{now}
-use Rattle.line.specs.Lengths.{octal}
+use Rattle.plain.specs.Factors.{octal}
 use Rattle.line.proofs.Factors.{octal-past, octal-back, octal-small}
 use Rattle.line.proofs.check.packed.Statement.{statement}
 use Rattle.line.proofs.check.packed.Tie as tie

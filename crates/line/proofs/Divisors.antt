@@ -1,11 +1,11 @@
 -- A list of factors 2 to 5 whose product divides 1,440 = 2^5 3^2 5 has at most eight of them.
 --
 -- `primes n` counts the primes 2, 3 and 5 in n. That it falls by one at least with every factor taken off is tested for all n up to 1,440.
-use mathlib.Core.Path.{_≡_, refl, _∙_, sym, ap, subst}
+use mathlib.Core.Path.{_≡_, refl, _∙_, sym, subst}
 use mathlib.Core.Logic.{⊎-elim}
 use mathlib.Core.Bool.{Bool, true, _&&_, _||_, not}
 use mathlib.Core.List.{List, [], _∷_}
-use Prim.Native.Nat.{ℕ, zero, suc, _+_, _*_, _/_, _%_, _≤_, _<_}
+use Prim.Native.Nat.{ℕ, zero, suc, _*_, _/_, _%_, _≤_, _<_}
 use native.Mathlib.Nat.{not-suc-le-zero, eq-zero-or-pos, le-of-suc-le-suc, eq-or-lt-of-le, mul-assoc, mul-mod-right, mul-div-right, mul-le-mul-right}
 use native.Mathlib.Omega.{arith}
 use lib.Dec.{leb, eqb}

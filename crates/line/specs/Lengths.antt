@@ -1,7 +1,7 @@
 -- The lengths of a line, their factor lists, and the scratch.
 use mathlib.Core.Bool.{Bool, true, _&&_, cond}
 use mathlib.Core.List.{List, [], _∷_, _++_}
-use Prim.Native.Nat.{ℕ, zero, suc, _+_, _*_, _/_, _%_}
+use Prim.Native.Nat.{ℕ, zero, suc, _+_, _/_, _%_}
 use lib.ListN.{drop, replicate}
 use lib.Dec.{ltb, leb, eqb}
 

@@ -1,6 +1,8 @@
 // One line of structure factors: the six kinds, both directions.
 pub mod check;
 
+ghost use Rattle.line.specs.Specimens.{Specimens};
+
 // Why a call is turned back: one case for each number of the paper.
 pub enum Refusal {
     LineKind,
@@ -39,3 +41,8 @@ pub enum LineAnswer {
     Transformed,
     Refused(Refusal),
 }
+
+// The paper's starred lines, computed from the definitions.
+pub fn starred_lines()
+    ensures { λ _. ⌜ Specimens ⌝ }
+{}

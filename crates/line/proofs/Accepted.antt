@@ -9,18 +9,14 @@ use mathlib.Core.Logic.{⊎-elim}
 use lib.Dec.{ltb, eqb}
 use lib.ListN.{length}
 use borrow.Author.Tests.{not-false, leb-false, ltb-false, ltb-true, eqb-true}
-use Rattle.numbers.specs.Prime.{prime}
 use Rattle.slices.proofs.Bounds.{below-allBelow}
 use Rattle.plain.specs.Factors.{Factored, product, octal}
 use Rattle.plain.proofs.Factoring.{packed, with-two}
 use Rattle.line.specs.Tests.{first}
-use Rattle.line.specs.Lengths.{admitted, factorsOk, cleared}
-use Rattle.line.specs.Refusals.{numberOf}
-use Rattle.line.specs.declared.Refusal.{Refusal}
-use Rattle.line.specs.declared.LineAnswer.the-variants.{Transformed, Refused}
-use Rattle.line.specs.Line.{kindOf, lineTests, transformed, lineStep, lineOutcome}
+use Rattle.line.specs.Lengths.{admitted, factorsOk}
+use Rattle.line.specs.Line.{kindOf, lineTests}
 use Rattle.line.specs.Accepted.{AdmittedLength, FactorList, Accepted}
-use Rattle.line.proofs.Tests.{both, Passed, passed, fails}
+use Rattle.line.proofs.Tests.{both, Passed, passed}
 use Rattle.line.proofs.Factors.{factors-of, octal-below}
 use Rattle.line.proofs.Divisors.{at-most-eight}
 use Rattle.line.proofs.Counts.{slots-le}
@@ -97,15 +93,3 @@ module _ (p kind direction N : ℕ) (factors line : List ℕ) (scratch : ℕ) (n
     scratch-fits = ltb-false scratch 11520 (tests .1 .1 .1 .1 .1 .1 .0);
     below = below-allBelow p line z (not-false _ (tests .1 .1 .1 .1 .1 .1 .1 .0));
   }
-
--- ---- the outcome, as the call returns it
-
-pub refused-outcome : (m kind direction N : ℕ) (factors line scratch : List ℕ) (r : Refusal) → numberOf r ≡ first (lineTests (prime m) kind direction N factors line (length scratch)) →
-    lineOutcome (Refused r) line scratch ≡ lineStep m kind direction N factors line scratch
-unfolding lineStep
-refused-outcome m kind direction N factors line scratch r e = fails r _ _ (λ n. record { answer = n; line = line; scratch = scratch }) e
-
-pub transformed-outcome : (m kind direction N : ℕ) (factors line scratch line′ scratch′ : List ℕ) → 0 ≡ first (lineTests (prime m) kind direction N factors line (length scratch)) →
-    line′ ≡ transformed m kind direction N line → scratch′ ≡ cleared scratch → lineOutcome Transformed line′ scratch′ ≡ lineStep m kind direction N factors line scratch
-unfolding lineStep
-transformed-outcome m kind direction N factors line scratch line′ scratch′ e l s = rw (← e, l, s)

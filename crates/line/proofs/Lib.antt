@@ -3,4 +3,5 @@ pub mod Factors
 pub mod Divisors
 pub mod Counts
 pub mod Accepted
+pub mod Outcome
 pub mod Specimens

@@ -11,6 +11,10 @@ pub mod Conj
 pub mod Properties
 pub mod GaussRing
 pub mod ResidueRing
+pub mod EveryBelow
+pub mod PowerTable
+pub mod RootOrder
+pub mod HalfTangents
 pub mod Divisors
 pub mod Parts
 pub mod Axis

@@ -12,6 +12,8 @@ ghost use mathlib.Core.List.{List};
 ghost use Rattle.numbers.specs.Accumulator.{Accumulated};
 ghost use Rattle.numbers.specs.Root.{entryAt, RealTable, ImaginaryTable, TangentTable, NegatedTable};
 
+pub mod tables; // tables.rt: the powers of the root and its half tangents
+
 // A value of the paper: re + im i.
 pub struct Pair {
     pub re: u32,
@@ -80,7 +82,6 @@ pub fn mul(m: u32, a: u32, b: u32) -> u32
     requires { ⌜ IsModulus m × (a < prime m) × (b < prime m) ⌝ }
     ensures { λ r. ⌜ r ≡ ring m .mul (res m a) (res m b) .val ⌝ }
 {
-    let p = modulus(m);
     reduce(m, whole(a, b))
 }
 
@@ -182,6 +183,13 @@ pub fn halved(m: u32, a: Pair) -> Pair
         re: halve(m, a.re),
         im: halve(m, a.im),
     }
+}
+
+// The empty sum, at either modulus.
+pub fn zero_accumulator() -> Accumulator
+    ensures { λ r. ⌜ ((m : ℕ) → Accumulated m 0 r (field m .zer)) ⌝ }
+{
+    Accumulator { re: 0, im: 0 }
 }
 
 // One product more. Sixty-four bits hold millions of them.

@@ -5,7 +5,7 @@ use Prim.Native.Nat.{ℕ, zero, suc, _<_}
 use native.Mathlib.Omega.{arith}
 use native.Mathlib.Decide.{ℕ-discrete}
 use lib.Dec.{T}
-use lib.Ieee.Fits.{and-l, and-r}
+use Rattle.algebra.proofs.Bool.{and-l, and-r}
 
 unfoldable pub every : (ℕ → Bool) → ℕ → Bool
 every f zero = true

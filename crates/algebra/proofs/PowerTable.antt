@@ -8,7 +8,6 @@ use native.Mathlib.Nat.{le-of-suc-le-suc, not-suc-le-zero}
 use native.Mathlib.Omega.{arith}
 use lib.Dec.{T}
 use lib.ListN.{getD}
-use lib.Ieee.Fits.{and-l, and-r}
 use Rattle.algebra.specs.Ring.{Ops, CRing, pow}
 use Rattle.algebra.specs.Residue.{Res, residue, residues}
 use Rattle.algebra.specs.Gauss.{gauss}
@@ -16,6 +15,7 @@ use Rattle.algebra.proofs.Laws.{mul-one, mul-neg}
 use Rattle.algebra.proofs.Transform.{pow-zero, pow-suc}
 use Rattle.algebra.proofs.ResidueRing.{residue-ring, residue-val, val-residue, residue-add, residue-mul, residue-neg}
 use Rattle.algebra.proofs.GaussRing.{gauss-ring}
+use Rattle.algebra.proofs.Bool.{and-l, and-r}
 
 -- the parts of a + b i times the power n, handed on to f
 unfoldable pub power-then : {A : Type 0} (p u v n a b : ℕ) → (ℕ → ℕ → A) → A

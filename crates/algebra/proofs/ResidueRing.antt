@@ -1,11 +1,10 @@
 -- The residues modulo p are a commutative ring, and numbers to residues is a homomorphism.
-use mathlib.Core.Path.{_≡_, refl, sym, _∙_, ap}
+use mathlib.Core.Path.{_≡_, sym, _∙_, ap}
 use mathlib.Core.HLevel.{isProp→PathP}
-use Prim.Native.Nat.{ℕ, zero, suc, _+_, _*_, _-_, _/_, _%_, _≤_, _<_}
+use Prim.Native.Nat.{ℕ, zero, suc, _+_, _*_, _-_, _%_, _≤_, _<_}
 use native.Mathlib.Nat as N
 use native.Mathlib.Nat.{ℕ-set}
-use native.Mathlib.Omega.{arith}
-use Rattle.algebra.specs.Ring.{Ops, CRing}
+use Rattle.algebra.specs.Ring.{CRing}
 use Rattle.algebra.specs.Residue.{Res, residue, residues}
 
 -- a remainder may stand for its number in a product

@@ -1,15 +1,13 @@
 -- A root of unity: its order is exact, and where its conjugate is its inverse, conjugation counts its powers backwards.
-use mathlib.Core.Path.{_≡_, refl, sym, _∙_, ap}
-use mathlib.Core.List.{[], _∷_}
+use mathlib.Core.Path.{_≡_, sym, _∙_, ap}
 use Prim.Native.Nat.{ℕ, _-_, _%_, _≤_, _<_}
 use native.Mathlib.Nat as N
 use native.Mathlib.Omega.{arith}
 use native.Mathlib.Decide.{ℕ-discrete}
 use Rattle.algebra.specs.Ring.{Ops, CRing, Star, pow}
 use Rattle.algebra.specs.Fourier.{Root}
-use Rattle.algebra.proofs.Laws.{pow-add, add-neg, mul-zero}
-use Rattle.algebra.proofs.Solver.{ring, quote, linear}
-use Rattle.algebra.proofs.Transform.{pow-mod, inverse-pow}
+use Rattle.algebra.proofs.Laws.{add-neg, mul-zero}
+use Rattle.algebra.proofs.Transform.{pow-mod, pow-across}
 use Rattle.algebra.proofs.Conj.{conj-pow}
 
 module _ {R : Type 0} {𝓞 : Ops R} (𝓡 : CRing 𝓞) where
@@ -37,8 +35,4 @@ module _ {R : Type 0} {𝓞 : Ops R} {conj : R → R} {i : R} (𝓡 : CRing 𝓞
 
   infixl 70 _⊗_
   pub conj-power : (n : ℕ) (w part : R) → Root 𝓞 n w (conj w) part → (k : ℕ) → k ≤ n → conj (pow 𝓞 w k) ≡ pow 𝓞 w (n - k)
-  conj-power n w part 𝓦 k h =
-      conj-pow 𝓡 𝓢 w k ∙ step _ _ _ (inverse-pow 𝓡 n w (conj w) part 𝓦 k) (sym (pow-add 𝓡 w k (n - k)) ∙ ap (pow 𝓞 w) (N.add-sub-of-le h) ∙ 𝓦 .cycle)
-    where
-      step : (x y z : R) → x ⊗ y ≡ 𝟙 → x ⊗ z ≡ 𝟙 → y ≡ z
-      step x y z a b = linear 𝓡 a z (linear 𝓡 (sym b) y (ring 𝓡 (x ∷ y ∷ z ∷ []) (search quote depth 40 fits 9999) refl))
+  conj-power n w part 𝓦 k h = conj-pow 𝓡 𝓢 w k ∙ sym (pow-across 𝓡 w (conj w) n (𝓦 .inverse) (𝓦 .cycle) (n - k) k 1 (omega arith))

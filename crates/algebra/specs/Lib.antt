@@ -1,7 +1,9 @@
+-- The definitions: rings and the transform, lines and their kinds, orbits and cells.
 pub mod Ring
 pub mod Fourier
 pub mod Gauss
 pub mod Residue
+pub mod Axis
 pub mod Line
 pub mod Folds
 pub mod Kinds
@@ -10,4 +12,4 @@ pub mod Cell
 pub mod CellSteps
 pub mod CellTests
 pub mod CellPack
-pub mod CellBook
+pub mod CellModel

@@ -1,0 +1,29 @@
+-- Lists of values: they are read back as they were laid out, and their numbers are residues.
+use mathlib.Core.Path.{_≡_, sym, _∙_, ap}
+use mathlib.Core.List.{List}
+use Prim.Native.Nat.{ℕ, _*_, _<_}
+use lib.ListN.{length}
+use Rattle.numbers.specs.Prime.{prime}
+use Rattle.numbers.specs.Value.{Value, valueOf, pairOf}
+use Rattle.numbers.proofs.Primes.{prime-pos}
+use Rattle.numbers.proofs.Values.{small-pair, value-pair, pair-value}
+use Rattle.slices.specs.Pairs.{at, tab, Below}
+use Rattle.slices.specs.Values.{valuesOf, listOf}
+use Rattle.slices.proofs.Pairs.{length-tab, at-tab, tab-cong, is-tab}
+use Rattle.slices.proofs.Bounds.{below-tab, small-at}
+
+module _ (m n : ℕ) where
+  pub length-list : (f : ℕ → Value m) → length (listOf n f) ≡ 2 * n
+  length-list f = length-tab (λ j. pairOf (f j)) n
+
+  pub below-list : (f : ℕ → Value m) → Below (prime m) (listOf n f)
+  below-list f = below-tab (prime m) n (λ j. pairOf (f j)) (prime-pos m) (λ j h. small-pair m (f j))
+
+  pub values-list : (f : ℕ → Value m) (j : ℕ) → j < n → valuesOf m (listOf n f) j ≡ f j
+  values-list f j h = ap (valueOf m) (at-tab (λ j. pairOf (f j)) n j h) ∙ value-pair m (f j)
+
+  pub list-cong : (f g : ℕ → Value m) → ((j : ℕ) → j < n → f j ≡ g j) → listOf n f ≡ listOf n g
+  list-cong f g e = tab-cong n (λ j. pairOf (f j)) (λ j. pairOf (g j)) (λ j h. ap pairOf (e j h))
+
+  pub list-values : (l : List ℕ) → length l ≡ 2 * n → Below (prime m) l → l ≡ listOf n (valuesOf m l)
+  list-values l e b = is-tab n l (λ j. pairOf (valuesOf m l j)) e (λ j h. sym (pair-value m (small-at (prime m) l j b)))

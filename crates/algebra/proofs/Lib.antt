@@ -11,7 +11,6 @@ pub mod Conj
 pub mod Properties
 pub mod GaussRing
 pub mod ResidueRing
-pub mod EveryBelow
 pub mod PowerTable
 pub mod RootOrder
 pub mod HalfTangents

@@ -10,5 +10,6 @@ pub mod RootTables
 pub mod RootNegated
 pub mod RootPowers
 pub mod RootTangents
+pub mod RootAxis
 pub mod RootChoice
 pub mod RootLaws

@@ -1,7 +1,7 @@
 -- The paper's choice of a: r is ((a + i)/(a - i))^c for a = 14 and a = 4, and for every smaller a one computed test shows that the 720th power is not -i,
 -- or that the 960th is 1 already. With X = (a + i)^c the candidate is X over the conjugate of X, so the test computes no quotient.
 use mathlib.Core.Path.{_≡_, refl, sym, _∙_, ap, ap₂, subst}
-use mathlib.Core.Bool.{Bool, true, false, not, _||_}
+use mathlib.Core.Bool.{Bool, not, _||_}
 use mathlib.Core.List.{[], _∷_}
 use Prim.Native.Nat.{ℕ, zero, suc, _+_, _-_, _%_, _≤_, _<_}
 use native.Mathlib.Nat as N
@@ -15,7 +15,8 @@ use Rattle.algebra.proofs.Laws.{add-zero, neg-zero}
 use Rattle.algebra.proofs.Solver.{ring, quote, linear}
 use Rattle.algebra.proofs.Transform.{mul-pow, one-pow}
 use Rattle.algebra.proofs.Conj.{conj-pow}
-use Rattle.algebra.proofs.EveryBelow.{every, every-at}
+use Rattle.algebra.specs.CellTests.{below}
+use Rattle.algebra.proofs.Bool.{or-e, below-at}
 use Rattle.algebra.proofs.PowerTable.{power-then, power-is}
 use Rattle.numbers.specs.Prime.{prime, exponent, choice, IsModulus}
 use Rattle.numbers.specs.Value.{Value, Residue, field, conj, i, res, value, real}
@@ -33,12 +34,12 @@ excluded m b =
     power-then (prime m) b 1 (exponent m) 1 0
     (λ u v. power-then (prime m) u v 720 1 0 (λ x y. not (eqb ((x + y) % prime m) 0)) || power-then (prime m) u v 960 1 0 (λ x y. eqb y 0))
 
-first-excluded : T (every (λ b. excluded 1 (suc b)) 13)
-unfolding every excluded power-then prime exponent
+first-excluded : T (below 13 (λ b. excluded 1 (suc b)))
+unfolding below excluded power-then prime exponent
 first-excluded = tt
 
-second-excluded : T (every (λ b. excluded 2 (suc b)) 3)
-unfolding every excluded power-then prime exponent
+second-excluded : T (below 3 (λ b. excluded 2 (suc b)))
+unfolding below excluded power-then prime exponent
 second-excluded = tt
 
 first-candidate : Candidate 1 (choice 1) (root 1)
@@ -49,13 +50,9 @@ second-candidate : Candidate 2 (choice 2) (root 2)
 unfolding prime exponent choice root residue residues gauss Gauss.imag pow
 second-candidate = record { inverse = value 2 177882 195670; inverts = by-numbers refl refl; power = by-numbers refl refl }
 
-tested : (m : ℕ) → IsModulus m → T (every (λ b. excluded m (suc b)) (choice m - 1))
+tested : (m : ℕ) → IsModulus m → T (below (choice m - 1) (λ b. excluded m (suc b)))
 unfolding choice
-tested = by-modulus (λ m. T (every (λ b. excluded m (suc b)) (choice m - 1))) first-excluded second-excluded
-
-either : (a b : Bool) {C : Type 0} → T (a || b) → (T a → C) → (T b → C) → C
-either true b t f g = f t
-either false b t f g = g t
+tested = by-modulus (λ m. T (below (choice m - 1) (λ b. excluded m (suc b)))) first-excluded second-excluded
 
 module _ (m b : ℕ) where
   open Ops (field m) using (add as _⊕_, mul as _⊗_, neg as ⊖_, one as 𝟙)
@@ -154,7 +151,7 @@ module _ (m b : ℕ) where
 
     never : Suits m z → T (excluded m b) → ⊥
     never s t =
-        either (not (isSkew (X ^ 720))) (isReal (X ^ 960)) (subst T excluded-is t)
+        or-e (not (isSkew (X ^ 720))) (isReal (X ^ 960)) ⊥ (subst T excluded-is t)
         (λ u. T-not (isSkew (X ^ 720)) u (skewed (s .quarter)))
         (λ u. not-960 (s .order .only 960 (early u)))
       where
@@ -170,4 +167,4 @@ least-choice m is = record {
   where
     least : (b : ℕ) → 1 ≤ b → b < choice m → (z : Value m) → Candidate m b z → Suits m z → ⊥
     least zero p l z h s = absurd (omega arith)
-    least (suc b) p l z h s = never m (suc b) h s (every-at (λ b. excluded m (suc b)) (choice m - 1) (tested m is) b (omega arith))
+    least (suc b) p l z h s = never m (suc b) h s (below-at (choice m - 1) (λ b. excluded m (suc b)) b (tested m is) (omega arith))

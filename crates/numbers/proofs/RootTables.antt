@@ -6,9 +6,9 @@ use Prim.Native.Nat.{ℕ, _+_, _*_, _-_, _%_, _<_}
 use native.Mathlib.Omega.{arith}
 use lib.Dec.{T, eqb, eqb→eq, ltb, ltb→lt}
 use lib.ListN.{getD}
-use lib.Ieee.Fits.{and-l, and-r}
 use Rattle.algebra.specs.Ring.{pow}
 use Rattle.algebra.specs.Residue.{Res, residue, residues}
+use Rattle.algebra.proofs.Bool.{and-l, and-r}
 use Rattle.algebra.proofs.ResidueRing.{residue-val, residue-mod, residue-add, residue-mul}
 use Rattle.algebra.proofs.PowerTable.{passes, rule-at}
 use Rattle.numbers.specs.Prime.{prime, IsModulus}

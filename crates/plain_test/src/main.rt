@@ -1,6 +1,6 @@
 // Runs the plain transform and its inverse for both primes and many lists, on lines of a small generator. Each output line has the
 // modulus number, the length, the packed list, and, for the transform and then for the inverse of another line, a checksum and
-// the last pair. What it must print was computed by direct sums (tools/plain_expected.py).
+// the last pair. The first factor of a list is its lowest octal digit. What it must print was computed by direct sums (tools/plain_expected.py).
 use libc::STDOUT_FILENO;
 ghost use mathlib.Core.Path.{_≡_};
 ghost use Prim.Native.Nat.{ℕ, _+_, _*_, _/_, _<_, _≤_};
@@ -12,31 +12,22 @@ ghost use Rattle.plain.specs.Factors.{Factored};
 
 fn main() {
     both(0, 1);
-    both(2, 2);
-    both(3, 3);
-    both(4, 4);
-    both(5, 5);
-    both(2 + 8 * 3, 6);
-    both(3 + 8 * 2, 6);
-    both(5 + 8 * (3 + 8 * 3), 45);
-    both(3 + 8 * (5 + 8 * 3), 45);
-    both(2 + 8 * (3 + 8 * (4 + 8 * (2 + 8 * 3))), 144);
-    both(4 + 8 * (3 + 8 * (3 + 8 * 4)), 144);
-    both(4 + 8 * (4 + 8 * (4 + 8 * (3 + 8 * 3))), 576);
-    both(3 + 8 * (5 + 8 * (4 + 8 * (3 + 8 * 4))), 720);
-    both(
-        2 + 8 * (2 + 8 * (2 + 8 * (2 + 8 * (2 + 8 * (3 + 8 * (3 + 8 * 5)))))),
-        1440,
-    );
-    both(5 + 8 * (4 + 8 * (4 + 8 * (3 + 8 * (3 + 8 * 2)))), 1440);
-    both(
-        2 + 8 * (2 + 8 * (2 + 8 * (2 + 8 * (2 + 8 * (2 + 8 * (3 + 8 * (3 + 8 * 5))))))),
-        2880,
-    );
-    both(
-        2 + 8 * (5 + 8 * (3 + 8 * (4 + 8 * (3 + 8 * (4 + 8 * 2))))),
-        2880,
-    );
+    both(0o2, 2);
+    both(0o3, 3);
+    both(0o4, 4);
+    both(0o5, 5);
+    both(0o32, 6);
+    both(0o23, 6);
+    both(0o335, 45);
+    both(0o353, 45);
+    both(0o32432, 144);
+    both(0o4334, 144);
+    both(0o33444, 576);
+    both(0o43453, 720);
+    both(0o53322222, 1440);
+    both(0o233445, 1440);
+    both(0o533222222, 2880);
+    both(0o2434352, 2880);
 }
 
 fn both(factors: u32, n: usize)
@@ -55,8 +46,8 @@ fn lend(m: u32, factors: u32, n: usize)
     let im = numbers::tables::imaginary_parts(m);
     let mut back = im;
     numbers::tables::negate(m, &mut back);
-    let mut line = [0u32; 5760];
-    let mut work = [0u32; 5760];
+    let mut line = zeros();
+    let mut work = zeros();
     let e = 2 * n;
     run(
         m,
@@ -68,6 +59,10 @@ fn lend(m: u32, factors: u32, n: usize)
         &mut line[..e],
         &mut work[..e],
     );
+}
+
+fn zeros() -> [u32; 5760] {
+    [0u32; 5760]
 }
 
 fn run<'a>(
@@ -114,8 +109,8 @@ fn report(line: &[u32]) {
     print(checksum(line));
     let n = line.len();
     if 2 <= n {
-        print(line[n - 2] as u64);
-        print(line[n - 1] as u64);
+        print(wide(line[n - 2]));
+        print(wide(line[n - 1]));
     }
 }
 
@@ -130,7 +125,9 @@ fn checksum(line: &[u32]) -> u64 {
     sum
 }
 
-fn wide(x: u32) -> u64 {
+fn wide(x: u32) -> u64
+    ensures { λ r. ⌜ r < 4294967296 ⌝ }
+{
     x as u64
 }
 

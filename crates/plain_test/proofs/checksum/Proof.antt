@@ -1,3 +1,4 @@
+-- The sum stays below its modulus.
 use Prim.Native.Nat.{_-_, _<_, _≤_}
 use native.Mathlib.Omega.{arith}
 use borrow.Author.Needs.{needs}

@@ -1,3 +1,4 @@
+-- The tables hold the powers of r and of its conjugate, and the parts of the buffers have 2 n numbers.
 use mathlib.Core.Path.{_≡_, sym}
 use Prim.Native.Nat.{ℕ, _*_, _/_, _≤_}
 use native.Mathlib.Omega.{arith}

@@ -1,3 +1,4 @@
+-- Every list has factors 2 to 5, by one test, and every length divides 2,880.
 use mathlib.Core.Path.{refl}
 use mathlib.Core.List.{[], _∷_}
 use borrow.Author.Needs.{needs}

@@ -1,3 +1,4 @@
+-- `fill` leaves residues, which is what both directions ask.
 use borrow.Author.Needs.{needs}
 use Rattle.plain_test.proofs.run.Statement.{statement}
 use Rattle.plain_test.proofs.run.Tie as tie

@@ -1,7 +1,7 @@
 -- Packed factor lists: taking the next factor off, and the packed form of a list.
 use mathlib.Core.Path.{_≡_, refl, sym, _∙_, ap}
 use mathlib.Core.Logic.{_≢_}
-use mathlib.Core.List.{List}
+use mathlib.Core.List.{List, [], _∷_}
 use Prim.Native.Nat.{ℕ, _+_, _*_, _/_, _%_, _≤_, _<_}
 use native.Mathlib.Nat as N
 use native.Mathlib.Omega.{arith}
@@ -13,6 +13,20 @@ pub packed : {l : List ℕ} → Factors l → Factored (octal l) (product l)
 unfolding octal product
 packed none = done
 packed (one low high h) = more low high (packed h)
+
+-- and every packed list is that of a list
+pub record Unpacked (factors n : ℕ) : Type 0 where
+  pub list : List ℕ
+  pub each : Factors list
+  pub packs : octal list ≡ factors
+  pub product-is : product list ≡ n
+
+pub unpacked : {factors n : ℕ} → Factored factors n → Unpacked factors n
+unfolding octal product
+unpacked done = record { list = []; each = none; packs = refl; product-is = refl }
+unpacked (more {f} low high h) =
+    let u = unpacked h in
+    record { list = f ∷ u .list; each = one low high (u .each); packs = ap (λ x. f + 8 * x) (u .packs); product-is = ap (λ x. f * x) (u .product-is) }
 
 -- a silent first factor
 pub with-two : {factors k : ℕ} → Factored factors k → Factored (2 + 8 * factors) (2 * k)

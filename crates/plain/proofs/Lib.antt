@@ -6,3 +6,4 @@ pub mod Passes
 pub mod Buffers
 pub mod Driving
 pub mod Scaling
+pub mod Restoring

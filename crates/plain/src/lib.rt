@@ -10,16 +10,16 @@
 use numbers::Accumulator;
 use numbers::Pair;
 ghost use mathlib.Core.Path.{_≡_};
-ghost use Prim.Native.Nat.{ℕ, _+_, _-_, _*_, _/_, _%_, _<_, _≤_};
+ghost use Prim.Native.Nat.{ℕ, _+_, _*_, _/_, _<_, _≤_};
 ghost use lib.ListN.{length};
 ghost use Rattle.algebra.specs.Ring.{Ops, pow, sum};
 ghost use Rattle.algebra.specs.Fourier.{dft};
 ghost use Rattle.numbers.specs.Prime.{prime, IsModulus};
 ghost use Rattle.numbers.specs.Value.{Value, field, res, part, real, valueOf, pairOf, Small};
 ghost use Rattle.numbers.specs.Accumulator.{Accumulated};
-ghost use Rattle.numbers.specs.Root.{entryAt, tableRoot, RootTable};
-ghost use Rattle.slices.specs.Pairs.{at, puts, tab, Below};
-ghost use Rattle.plain.specs.Steps.{e, innerSum, twiddled, outerSum};
+ghost use Rattle.numbers.specs.Root.{tableRoot, RootTable};
+ghost use Rattle.slices.specs.Pairs.{puts, Below};
+ghost use Rattle.plain.specs.Steps.{innerSum, twiddled, outerSum};
 ghost use Rattle.plain.specs.Factors.{Factored, Splits};
 ghost use Rattle.plain.specs.Buffers.{valuesOf, listOf, WorkLeft};
 

@@ -1,3 +1,4 @@
+-- What `transform` leaves, divided by n, or left as it is where n is 1.
 use mathlib.Core.Path.{sym, subst}
 use Prim.Native.Nat.{_/_}
 use native.Mathlib.Omega.{arith}

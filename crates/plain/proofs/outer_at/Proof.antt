@@ -1,3 +1,4 @@
+-- The loop's invariant is `Summing`: the accumulator stands for the sum of the terms that are done.
 use Prim.Native.Nat.{_+_, _-_, _*_, _≤_}
 use native.Mathlib.Omega.{arith}
 use Rattle.slices.proofs.Bounds.{small-of}

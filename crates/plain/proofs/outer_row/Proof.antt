@@ -1,3 +1,4 @@
+-- One place after the other, each by `outer_at`.
 use Prim.Native.Nat.{_+_, _-_, _*_}
 use native.Mathlib.Omega.{arith}
 use Rattle.algebra.specs.Ring.{Ops, sum}

@@ -1,3 +1,4 @@
+-- The rows are filled in order, block q of them for the results of line q (`Rowing`).
 use mathlib.Core.Path.{_≡_, ap}
 use Prim.Native.Nat.{_+_, _-_, _*_, _≤_}
 use native.Mathlib.Omega.{arith}

@@ -1,3 +1,4 @@
+-- In place: the pair that a turn reads is still the one that came in.
 use mathlib.Core.Path.{_≡_, ap, _∙_}
 use Prim.Native.Nat.{_-_}
 use native.Mathlib.Nat.{le-refl}

@@ -1,3 +1,4 @@
+-- One value is a sum of one value, and small enough to stand for a product.
 use borrow.Author.Needs.{needs}
 use Rattle.plain.proofs.Passes.{started-is}
 use Rattle.plain.proofs.started.Statement.{statement}

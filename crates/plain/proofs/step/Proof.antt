@@ -1,3 +1,4 @@
+-- The two passes one after the other; equation (3) then says what they make of inner sums.
 use mathlib.Core.Path.{sym, subst}
 use borrow.Author.Needs.{needs}
 use Rattle.numbers.specs.Prime.{prime}

@@ -1,3 +1,4 @@
+-- The loop's invariant is `Driving`: the line has the inner sums of what came in, for the factors that are done.
 use mathlib.Core.Path.{sym, ap, _∙_}
 use Prim.Native.Nat.{_*_}
 use native.Mathlib.Omega.{arith}

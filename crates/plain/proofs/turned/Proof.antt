@@ -1,3 +1,4 @@
+-- The power 0 is one, and any other is read from the tables.
 use mathlib.Core.Path.{ap, _∙_}
 use borrow.Author.Needs.{needs}
 use Rattle.algebra.specs.Ring.{Ops}

@@ -1,3 +1,4 @@
+-- The rows are filled in order, block b of them with the factors of that b (`Rowing`).
 use mathlib.Core.Path.{_≡_, ap}
 use Prim.Native.Nat.{_+_, _-_, _*_, _/_, _≤_}
 use native.Mathlib.Nat.{mul-le-mul, div-le-self}

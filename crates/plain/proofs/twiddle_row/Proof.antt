@@ -1,3 +1,4 @@
+-- The exponent grows with the place, so that it stays below 2,880 without a remainder.
 use mathlib.Core.Path.{_≡_, _∙_}
 use Prim.Native.Nat.{_+_, _-_, _*_, _≤_}
 use native.Mathlib.Nat.{mul-le-mul-left}

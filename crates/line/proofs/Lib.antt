@@ -5,3 +5,5 @@ pub mod Counts
 pub mod Accepted
 pub mod Outcome
 pub mod Specimens
+pub mod Axes
+pub mod Transforms

@@ -7,3 +7,5 @@ pub mod Outcome
 pub mod Specimens
 pub mod Axes
 pub mod Transforms
+pub mod Reading
+pub mod Demands

@@ -5,3 +5,4 @@ pub mod Line
 pub mod Tables
 pub mod Accepted
 pub mod Specimens
+pub mod Demands

@@ -80,14 +80,14 @@ module _ (m : ℕ) (p : ℕ → Value m) where
 abbrev braidOf : (m A : ℕ) (e x y : Value m) → Value m
 braidOf m A = braid (field m) (conj m) (i m) (real m (half m)) A
 
-abbrev unbraidOf : (m A : ℕ) (e x y : Value m) → Value m
+abbrev pub unbraidOf : (m A : ℕ) (e x y : Value m) → Value m
 unbraidOf m A = unbraid (field m) (conj m) (i m) (real m (half m)) A
 
-abbrev foldOf : (m A : ℕ) (v : Value m) (p : ℕ → Value m) → ℕ → Value m
+abbrev pub foldOf : (m A : ℕ) (v : Value m) (p : ℕ → Value m) → ℕ → Value m
 foldOf m A v p = fold1 (field m) (conj m) (i m) (real m (half m)) A v p
 
 -- with the tables of the conjugate root lent
-abbrev backOf : (m A : ℕ) (part v : Value m) (p : ℕ → Value m) → ℕ → Value m
+abbrev pub backOf : (m A : ℕ) (part v : Value m) (p : ℕ → Value m) → ℕ → Value m
 backOf m A part v p = back1 (field m) (conj m) (i m) (real m (half m)) A part (conj m v) p
 
 module _ (m A : ℕ) (v : Value m) (p : ℕ → Value m) where

@@ -10,13 +10,60 @@ ghost use lib.ListN.{length};
 ghost use Rattle.algebra.specs.Ring.{Ops, pow};
 ghost use Rattle.algebra.specs.Folds.{fold1, back1};
 ghost use Rattle.algebra.specs.Folds as Folds;
+ghost use Rattle.algebra.specs.Kinds.{slots, fold-forward, fold-back};
 ghost use Rattle.numbers.specs.Prime.{prime, IsModulus};
 ghost use Rattle.numbers.specs.Value.{Value, field, conj, i, res, half, part, real, valueOf, pairOf, Small};
 ghost use Rattle.numbers.specs.Root.{tableRoot, RootTable};
 ghost use Rattle.slices.specs.Pairs.{Below};
 ghost use Rattle.slices.specs.Values.{valuesOf, listOf};
+ghost use Rattle.plain.specs.Factors.{Factored};
 ghost use Rattle.folds.specs.Frame.{stride, lineRoot, Frame};
-ghost use Rattle.folds.specs.Hermitian.{straightened, turnedBack, crossed};
+ghost use Rattle.folds.specs.Hermitian.{kindOf, straightened, turnedBack, crossed};
+
+// The transform of a packed line of either kind: antihermitian where `anti` says so. The slices `braided` and `work` are lent for the work.
+pub fn forward<'a>(
+    m: u32,
+    re: &'a [u32; 2880],
+    im: &'a [u32; 2880],
+    anti: bool,
+    factors: u32,
+    a: usize,
+    line: &mut [u32],
+    braided: &mut [u32],
+    work: &mut [u32],
+)
+    requires { ⌜ Frame m a (now re) (now im) × Factored factors a ⌝ }
+    requires { ⌜ (length (now line) ≡ 2 * a) × (length (now braided) ≡ 2 * a) × (length (now work) ≡ 2 * a) ⌝ }
+    requires { ⌜ Below (prime m) (now line) ⌝ }
+    ensures { λ _. ⌜ ((c : Value m) (tau : ℕ → Value m) → now (line .exit) ≡ listOf (slots (kindOf anti) a) (fold-forward (field m) (conj m) (i m) (real m (half m)) a (lineRoot m a (now (re .entry)) (now (im .entry))) c tau (kindOf anti) (valuesOf m (now (line .entry))))) ⌝ }
+{
+    fold(m, re, im, anti, a, line, braided);
+    plain::transform(m, re, im, factors, a, braided, work);
+    slices::copy(braided, line, a);
+}
+
+// The way back, with the tables of the conjugate root lent.
+pub fn inverse<'a>(
+    m: u32,
+    re: &'a [u32; 2880],
+    im: &'a [u32; 2880],
+    anti: bool,
+    factors: u32,
+    a: usize,
+    line: &mut [u32],
+    braided: &mut [u32],
+    work: &mut [u32],
+)
+    requires { ⌜ Frame m a (now re) (now im) × Factored factors a ⌝ }
+    requires { ⌜ (length (now line) ≡ 2 * a) × (length (now braided) ≡ 2 * a) × (length (now work) ≡ 2 * a) ⌝ }
+    requires { ⌜ Below (prime m) (now line) ⌝ }
+    ensures { λ _. ⌜ ((tau : ℕ → Value m) → now (line .exit) ≡ listOf (slots (kindOf anti) a) (fold-back (field m) (conj m) (i m) (real m (half m)) a (conj m (lineRoot m a (now (re .entry)) (now (im .entry)))) (real m (part m (2 * a))) tau (kindOf anti) (valuesOf m (now (line .entry))))) ⌝ }
+{
+    slices::copy(line, braided, a);
+    plain::transform(m, re, im, factors, a, braided, work);
+    let c = numbers::reciprocal(m, (2 * a) as u32);
+    unfold(m, re, im, anti, c, a, braided, line);
+}
 
 // The pass before the transform: the line becomes the braid of its two halves.
 pub fn fold<'a>(

@@ -1,0 +1,2 @@
+pub mod HermitianForms
+pub mod HermitianWhole

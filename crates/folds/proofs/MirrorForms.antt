@@ -2,31 +2,35 @@
 use mathlib.Core.Path.{_≡_, refl, sym, _∙_, ap, ap₂}
 use mathlib.Core.List.{List, [], _∷_}
 use Prim.Native.Nat.{ℕ, zero, suc, _+_, _*_, _-_, _<_, _≤_}
-use native.Mathlib.Numerals.{add-one}
+use native.Mathlib.Nat as N
 use native.Mathlib.Omega.{arith}
 use native.Mathlib.Decide.{ℕ-discrete}
+use lib.ListN.{getD}
 use Rattle.algebra.specs.Ring.{Ops, CRing, sum}
 use Rattle.algebra.specs.Residue.{residues}
 use Rattle.algebra.specs.Gauss.{gauss}
 use Rattle.algebra.specs.Line.{unfold4, unfold5}
+use Rattle.algebra.specs.Folds.{join, finish as finish-of}
 use Rattle.algebra.specs.Kinds.{before}
 use Rattle.algebra.proofs.Laws.{along, neg-zero, neg-neg}
 use Rattle.algebra.proofs.Solver.{ring, quote, linear}
 use Rattle.algebra.proofs.Sums.{sum-cong, sum-mul, sum-rev}
 use Rattle.algebra.proofs.FoldKinds.{at-mirror}
-use Rattle.algebra.proofs.FoldPack.{unfold-zero, unfold-low, unfold-middle, unfold-high, unfold-reflected}
+use Rattle.algebra.proofs.FoldPack.{three-lt, three-eq, unfold-zero, unfold-low, unfold-middle, unfold-high, unfold-reflected}
 use Rattle.numbers.specs.declared.Pair.{Pair}
 use Rattle.numbers.specs.declared.Accumulator.{Accumulator}
 use Rattle.numbers.specs.Accumulator.{Accumulated}
 use Rattle.numbers.specs.Prime.{prime, IsModulus}
-use Rattle.numbers.specs.Value.{Value, field, conj, i, real, half, value, valueOf, pairOf, Small}
+use Rattle.numbers.specs.Value.{Value, field, conj, i, real, res, half, value, valueOf, pairOf, Small}
 use Rattle.numbers.proofs.Primes.{prime-pos, prime-most}
 use Rattle.numbers.proofs.Values.{pair-value, small-by, value-by, value-add, field-ring}
 use Rattle.numbers.proofs.Parts.{half-law}
 use Rattle.slices.specs.Pairs.{at, Below}
 use Rattle.slices.specs.Values.{valuesOf}
 use Rattle.slices.proofs.Bounds.{small-at}
-use Rattle.folds.specs.Mirror.{mirrored, lineOf}
+use Rattle.slices.proofs.Rows.{row-end}
+use Rattle.folds.specs.Frame.{stride}
+use Rattle.folds.specs.Mirror.{mirrored, sigma, lineOf, finished}
 
 -- ---- the line
 
@@ -169,3 +173,83 @@ accumulated-plus m n s x z hr hi h = record {
 -- a residue is small enough for that
 pub residue-most : {m : ℕ} {x : Pair} → IsModulus m → (z : Value m) → x ≡ pairOf z → (x .re ≤ 302399) × (x .im ≤ 302399)
 residue-most {m} {x} c z e = let s : Small (prime m) x = small-by m z e in (omega (arith, prime-most c), omega (arith, prime-most c))
+
+-- ---- the transform from the short one
+
+module _ {R : Type 0} {𝓞 : Ops R} (𝓡 : CRing 𝓞) where
+  open Ops 𝓞 using (add as _⊕_, mul as _⊗_, neg as ⊖_, zer as 𝟘, one as 𝟙)
+
+  infixl 65 _⊕_
+  infixl 70 _⊗_
+  infix 75 ⊖_
+  join-even : (h t i y z : R) → h ⊗ ((y ⊕ z) ⊕ i ⊗ (t ⊗ (y ⊕ ⊖ z))) ≡ join 𝓞 h 𝟙 (i ⊗ t) y z
+  unfolding join
+  join-even h t i y z = ring 𝓡 (h ∷ t ∷ i ∷ y ∷ z ∷ []) (search quote depth 40 fits 9999) refl
+
+  join-odd : (h t i y z : R) → h ⊗ ((y ⊕ ⊖ z) ⊕ i ⊗ (t ⊗ (y ⊕ z))) ≡ join 𝓞 h (⊖ 𝟙) (i ⊗ t) y z
+  unfolding join
+  join-odd h t i y z = ring 𝓡 (h ∷ t ∷ i ∷ y ∷ z ∷ []) (search quote depth 40 fits 9999) refl
+
+-- (x + i tau d)/2 of two values
+abbrev pub halfTurned : (m tau : ℕ) (x d : Value m) → Value m
+halfTurned m tau x d = field m .mul (real m (half m)) (field m .add x (field m .mul (i m) (field m .mul (real m (res m tau)) d)))
+
+-- the two places of the short transform, joined
+abbrev pub joinedBy : (m tau first : ℕ) (y z : Value m) → Value m
+joinedBy m tau first y z = join (field m) (real m (half m)) (sigma (field m) first) (field m .mul (i m) (real m (res m tau))) y z
+
+module _ (m tau first : ℕ) (y z : Value m) {r b d : Pair} (both : b ≡ pairOf (field m .add y z)) (apart : d ≡ pairOf (field m .add y (field m .neg z))) where
+  pub joined-symmetric : first ≡ 0 → r ≡ pairOf (halfTurned m tau (valueOf m b) (valueOf m d)) → r ≡ pairOf (joinedBy m tau first y z)
+  joined-symmetric e h = by-values m (halfTurned m tau) _ _ h both apart ∙ ap pairOf (join-even (field-ring m) _ _ _ y z) ∙ ap (λ f. pairOf (joinedBy m tau f y z)) (sym e)
+
+  pub joined-antisymmetric : first ≤ 1 → (first ≡ 0 → ⊥) → r ≡ pairOf (halfTurned m tau (valueOf m d) (valueOf m b)) → r ≡ pairOf (joinedBy m tau first y z)
+  joined-antisymmetric l n h = by-values m (halfTurned m tau) _ _ h apart both ∙ ap pairOf (join-odd (field-ring m) _ _ _ y z) ∙ ap (λ f. pairOf (joinedBy m tau f y z)) one
+    where
+      one : 1 ≡ first
+      one = omega arith
+
+module _ {R : Type 0} (𝓞 : Ops R) (half : R) (A : ℕ) (th : ℕ → R) (σ : R) (y : ℕ → R) (o : R) where
+  open Ops 𝓞 using (add as _⊕_, neg as ⊖_)
+
+  pub finish-zero : finish-of 𝓞 half A th σ y o 0 ≡ y 0
+  unfolding finish-of
+  finish-zero = refl
+
+  pub finish-middle : (s : ℕ) → 0 < s → s ≡ A → finish-of 𝓞 half A th σ y o s ≡ 𝓞 .add (y 0) (𝓞 .neg (𝓞 .add o o))
+  unfolding finish-of
+  finish-middle zero q e = absurd (omega arith)
+  finish-middle (suc s) q e = three-eq (suc s) A _ _ _ e
+
+  pub finish-between : (s : ℕ) → 0 < s → s < A → finish-of 𝓞 half A th σ y o s ≡ join 𝓞 half σ (th s) (y s) (y (A - s))
+  unfolding finish-of
+  finish-between zero q l = absurd (omega arith)
+  finish-between (suc s) q l = three-lt (suc s) A _ _ _ l
+
+module _ (m A first : ℕ) (tan fold : List ℕ) (o : Value m) (s : ℕ) where
+  pub finished-zero : {r : Pair} → Below (prime m) fold → s ≡ 0 → r ≡ at fold 0 → r ≡ pairOf (finished m A first tan fold o s)
+  finished-zero b e h = read m fold 0 b h ∙ ap pairOf (sym (finish-zero (field m) _ A _ _ _ o)) ∙ ap (λ t. pairOf (finished m A first tan fold o t)) (sym e)
+
+  pub finished-middle : {r v d : Pair} → 0 < A → s ≡ A → d ≡ pairOf (field m .add o o) → v ≡ at fold 0
+      → r ≡ pairOf (field m .add (valueOf m v) (field m .neg (valueOf m d))) → r ≡ pairOf (finished m A first tan fold o s)
+  finished-middle q e hd hv hr =
+      hr
+      ∙ ap pairOf
+      (ap₂ (λ x y. field m .add x (field m .neg y)) (ap (valueOf m) hv) (value-by m _ hd)
+      ∙ sym (finish-middle (field m) _ A _ _ (valuesOf m fold) o s (omega arith) e))
+
+  pub finished-between : {r v w : Pair} (tau : ℕ) → 0 < s → s < A → tau ≡ getD tan (stride A * s) 0 → v ≡ at fold s → w ≡ at fold (A - s)
+      → r ≡ pairOf (joinedBy m tau first (valueOf m v) (valueOf m w)) → r ≡ pairOf (finished m A first tan fold o s)
+  finished-between {v = v} {w = w} tau q l ht hv hw hr =
+      hr
+      ∙ ap pairOf
+      (ap (λ t. joinedBy m t first (valueOf m v) (valueOf m w)) ht
+      ∙ ap₂ (joinedBy m (getD tan (stride A * s) 0) first) (ap (valueOf m) hv) (ap (valueOf m) hw)
+      ∙ sym (finish-between (field m) _ A _ _ (valuesOf m fold) o s q l))
+
+-- the place of a half tangent lies inside the table
+pub tangent-inside : {A step s : ℕ} → step ≡ stride A → A * stride A ≡ 1440 → s < A → step * s < 1440
+tangent-inside {A} {step} {s} h e l = omega (arith, row-end step l, ap (λ k. A * k) h, positive step (ap (λ k. A * k) h ∙ e))
+  where
+    positive : (k : ℕ) → A * k ≡ 1440 → 0 < k
+    positive zero e = absurd (omega (arith, N.mul-zero A))
+    positive (suc k) e = omega arith

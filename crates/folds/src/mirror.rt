@@ -122,3 +122,87 @@ fn plus(s: Accumulator, x: Pair) -> Accumulator
         im: s.im + x.im as u64,
     }
 }
+
+// (x + i tau d)/2.
+fn turned_half(m: u32, tau: u32, x: Pair, d: Pair) -> Pair
+    requires { ⌜ IsModulus m × (tau < prime m) × Small (prime m) x × Small (prime m) d ⌝ }
+    ensures { λ r. ⌜ r ≡ pairOf (field m .mul (real m (half m)) (field m .add (valueOf m x) (field m .mul (i m) (field m .mul (real m (res m tau)) (valueOf m d))))) ⌝ }
+{
+    let turned = numbers::times_i(m, numbers::scaled(m, tau, d));
+    numbers::halved(m, numbers::sum(m, x, turned))
+}
+
+// The transform at a place s between 0 and A, from y and z at the places s and A - s of the short one.
+fn joined(m: u32, first: usize, tau: u32, y: Pair, z: Pair) -> Pair
+    requires { ⌜ IsModulus m × (first ≤ 1) × (tau < prime m) × Small (prime m) y × Small (prime m) z ⌝ }
+    ensures { λ r. ⌜ r ≡ pairOf (join (field m) (real m (half m)) (sigma (field m) first) (field m .mul (i m) (real m (res m tau))) (valueOf m y) (valueOf m z)) ⌝ }
+{
+    let both = numbers::sum(m, y, z);
+    let apart = numbers::difference(m, y, z);
+    if first == 0 {
+        turned_half(m, tau, both, apart)
+    } else {
+        turned_half(m, tau, apart, both)
+    }
+}
+
+// The transform at the place s, up to A.
+fn finish_at(
+    m: u32,
+    tan: &[u32; 1440],
+    step: usize,
+    first: usize,
+    a: usize,
+    o: Pair,
+    fold: &[u32],
+    s: usize,
+) -> Pair
+    requires { ⌜ IsModulus m × Tangents m (now tan) × (first ≤ 1) × Small (prime m) o ⌝ }
+    requires { ⌜ (0 < a) × (step ≡ stride a) × (a * stride a ≡ 1440) × (s ≤ a) ⌝ }
+    requires { ⌜ length (now fold) ≡ 2 * a ⌝ }
+    requires { ⌜ Below (prime m) (now fold) ⌝ }
+    ensures { λ r. ⌜ r ≡ pairOf (finished m a first (now (tan .entry)) (now (fold .entry)) (valueOf m o) s) ⌝ }
+{
+    // At 0 each place counts once: the sum of the whole line, which is that of the fold.
+    if s == 0 {
+        return slices::get(fold, 0);
+    }
+    // At A the odd places count negatively, so twice their sum goes off the same.
+    if s == a {
+        let odds = numbers::sum(m, o, o);
+        return numbers::difference(m, slices::get(fold, 0), odds);
+    }
+    let tau = tan[step * s];
+    let y = slices::get(fold, s);
+    let z = slices::get(fold, a - s);
+    joined(m, first, tau, y, z)
+}
+
+// The pass after the transform.
+fn finish(
+    m: u32,
+    tan: &[u32; 1440],
+    first: usize,
+    a: usize,
+    o: Pair,
+    fold: &[u32],
+    line: &mut [u32],
+)
+    requires { ⌜ IsModulus m × Tangents m (now tan) × (first ≤ 1) × Small (prime m) o ⌝ }
+    requires { ⌜ (0 < a) × (a * stride a ≡ 1440) ⌝ }
+    requires { ⌜ (length (now fold) ≡ 2 * a) × (length (now line) ≡ 2 * stored a first) ⌝ }
+    requires { ⌜ Below (prime m) (now fold) ⌝ }
+    ensures { λ _. ⌜ now (line .exit) ≡ listOf (stored a first) (λ p. finished m a first (now (tan .entry)) (now (fold .entry)) (valueOf m o) (first + p)) ⌝ }
+{
+    let step = 1440 / a;
+    let n = a + 1 - 2 * first;
+    let mut p = 0;
+    while p < n {
+        slices::store(
+            line,
+            p,
+            finish_at(m, tan, step, first, a, o, fold, first + p),
+        );
+        p += 1;
+    }
+}

@@ -5,7 +5,10 @@ pub mod Sums
 pub mod Transform
 pub mod GaussRing
 pub mod ResidueRing
+pub mod EveryBelow
 pub mod PowerTable
+pub mod RootOrder
+pub mod HalfTangents
 pub mod Conj
 pub mod Divisors
 pub mod Axis

@@ -1,1 +1,2 @@
 pub mod MirrorForms
+pub mod MirrorWhole

@@ -246,10 +246,10 @@ module _ (m A first : ℕ) (tan fold : List ℕ) (o : Value m) (s : ℕ) where
       ∙ ap₂ (joinedBy m (getD tan (stride A * s) 0) first) (ap (valueOf m) hv) (ap (valueOf m) hw)
       ∙ sym (finish-between (field m) _ A _ _ (valuesOf m fold) o s q l))
 
--- the place of a half tangent lies inside the table
+-- a part of 1,440 is not 0, and the place of a half tangent lies inside the table
+pub positive-part : (A k : ℕ) → A * k ≡ 1440 → 0 < k
+positive-part A zero e = absurd (omega (arith, N.mul-zero A))
+positive-part A (suc k) e = omega arith
+
 pub tangent-inside : {A step s : ℕ} → step ≡ stride A → A * stride A ≡ 1440 → s < A → step * s < 1440
-tangent-inside {A} {step} {s} h e l = omega (arith, row-end step l, ap (λ k. A * k) h, positive step (ap (λ k. A * k) h ∙ e))
-  where
-    positive : (k : ℕ) → A * k ≡ 1440 → 0 < k
-    positive zero e = absurd (omega (arith, N.mul-zero A))
-    positive (suc k) e = omega arith
+tangent-inside {A} {step} {s} h e l = omega (arith, row-end step l, ap (λ k. A * k) h, positive-part A step (ap (λ k. A * k) h ∙ e))

@@ -1,2 +1,4 @@
 pub mod HermitianForms
 pub mod HermitianWhole
+pub mod MirrorForms
+pub mod MirrorWhole

@@ -1,0 +1,3 @@
+pub mod RealValues
+pub mod AlternatingLine
+pub mod AlternatingPasses

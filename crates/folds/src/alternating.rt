@@ -1,0 +1,172 @@
+// Kind 3, the alternating line: X(2A - t) = (-1)^t conj X(t).
+//
+// The line is lent packed: pair t is X(t) for 0 < t < A. The rule makes X(0) real, and X(A) real for an even A and imaginary for an
+// odd one, so each of the two has one number that can differ from 0, and they share pair 0. After the transform the pairs are
+// X^(0), .., X^(A - 1), and X^(A + s) = conj X^(s).
+//
+// Forward, the short line is Y(t) = X(2t) + i X(2t + 1). By the rule the even places transform to a real E(s), and the odd ones to
+// i e(-s/N) b(s) with a real b(s), so that X^(s) = E(s) + i b(s) and Y^(s) = E(s) - e(-s/N) b(s): its imaginary part is b(s) times the
+// sine and its real part E(s) less b(s) times the cosine of the angle of e(s/N). The sine is 0 at s = 0 alone, where b is summed apart.
+use numbers::Pair;
+ghost use mathlib.Core.Path.{_≡_};
+ghost use Prim.Native.Nat.{ℕ, _+_, _*_, _/_, _<_, _≤_};
+ghost use lib.ListN.{length, getD};
+ghost use Rattle.algebra.specs.Ring.{Ops, sum};
+ghost use Rattle.algebra.specs.Line.{im, unfoldB3};
+ghost use Rattle.algebra.specs.Folds.{woven, csc, cot, finish3};
+ghost use Rattle.numbers.specs.Prime.{prime, IsModulus};
+ghost use Rattle.numbers.specs.Value.{field, conj, i, res, real, half, valueOf, pairOf};
+ghost use Rattle.slices.specs.Pairs.{Below};
+ghost use Rattle.slices.specs.Values.{valuesOf, listOf};
+ghost use Rattle.folds.specs.Frame.{stride, tangent, Tangents};
+
+// The value at place j of the whole line.
+fn value_at(m: u32, a: usize, line: &[u32], j: usize) -> Pair
+    requires { ⌜ IsModulus m × (j < 2 * a) ⌝ }
+    requires { ⌜ (length (now line) ≡ 2 * a) × Below (prime m) (now line) ⌝ }
+    ensures { λ r. ⌜ r ≡ pairOf (unfoldB3 (field m) (conj m) (i m) (real m (half m)) a (valuesOf m (now (line .entry))) j) ⌝ }
+{
+    if j == 0 {
+        // X(0) = conj X(0): the first number of pair 0 is all of it
+        let v = slices::get(line, 0);
+        Pair { re: v.re, im: 0 }
+    } else if j < a {
+        slices::get(line, j)
+    } else if j == a {
+        // X(A) = (-1)^A conj X(A): the second number of pair 0 is its real part for an even A, its imaginary part for an odd A
+        let v = slices::get(line, 0);
+        if a % 2 == 0 {
+            Pair { re: v.im, im: 0 }
+        } else {
+            Pair { re: 0, im: v.im }
+        }
+    } else {
+        // X(j) = (-1)^u conj X(u), u = 2A - j, and u is even where j is
+        let v = numbers::conjugate(m, slices::get(line, 2 * a - j));
+        if j % 2 == 0 {
+            v
+        } else {
+            numbers::negated(m, v)
+        }
+    }
+}
+
+// The short line, before its transform: X(2t) + i X(2t + 1).
+fn weave_at(m: u32, a: usize, line: &[u32], t: usize) -> Pair
+    requires { ⌜ IsModulus m × (t < a) ⌝ }
+    requires { ⌜ (length (now line) ≡ 2 * a) × Below (prime m) (now line) ⌝ }
+    ensures { λ r. ⌜ r ≡ pairOf (woven (field m) (i m) (unfoldB3 (field m) (conj m) (i m) (real m (half m)) a (valuesOf m (now (line .entry)))) t) ⌝ }
+{
+    let even = value_at(m, a, line, 2 * t);
+    let odd = value_at(m, a, line, 2 * t + 1);
+    numbers::sum(m, even, numbers::times_i(m, odd))
+}
+
+fn weave(m: u32, a: usize, line: &[u32], fold: &mut [u32])
+    requires { ⌜ IsModulus m ⌝ }
+    requires { ⌜ (length (now line) ≡ 2 * a) × Below (prime m) (now line) ⌝ }
+    requires { ⌜ length (now fold) ≡ 2 * a ⌝ }
+    ensures { λ _. ⌜ now (fold .exit) ≡ listOf a (woven (field m) (i m) (unfoldB3 (field m) (conj m) (i m) (real m (half m)) a (valuesOf m (now (line .entry))))) ⌝ }
+{
+    let mut t = 0;
+    while t < a {
+        let v = weave_at(m, a, line, t);
+        slices::store(fold, t, v);
+        t += 1;
+    }
+}
+
+// b(0), the sum of the imaginary parts at the odd places: the short transform does not tell it.
+fn odd_imaginary_sum(m: u32, a: usize, line: &[u32]) -> u32
+    requires { ⌜ IsModulus m × (a ≤ 1440) ⌝ }
+    requires { ⌜ (length (now line) ≡ 2 * a) × Below (prime m) (now line) ⌝ }
+    ensures { λ r. ⌜ (r < prime m) × (real m (res m r) ≡ sum (field m) a (λ t. im (field m) (conj m) (i m) (real m (half m)) (unfoldB3 (field m) (conj m) (i m) (real m (half m)) a (valuesOf m (now (line .entry))) (2 * t + 1)))) ⌝ }
+{
+    let mut s: u64 = 0;
+    let mut t = 0;
+    while t < a {
+        let v = value_at(m, a, line, 2 * t + 1);
+        s += v.im as u64;
+        t += 1;
+    }
+    numbers::reduce(m, s)
+}
+
+// tau(s), the half tangent of e(s/N).
+fn half_tangent(m: u32, tan: &[u32; 1440], step: usize, a: usize, s: usize) -> u32
+    requires { ⌜ Tangents m (now tan) ⌝ }
+    requires { ⌜ (step ≡ stride a) × (a * step ≡ 1440) × (s < a) ⌝ }
+    ensures { λ r. ⌜ (r < prime m) × (r ≡ getD (now (tan .entry)) (stride a * s) 0) ⌝ }
+{
+    tan[step * s]
+}
+
+// The cotangent and the cosecant of the angle of e(s/N), from its half tangent tau(s) and tau(A - s) = 1/tau(s).
+fn cotangent(m: u32, tan: &[u32; 1440], step: usize, a: usize, s: usize) -> u32
+    requires { ⌜ IsModulus m × Tangents m (now tan) ⌝ }
+    requires { ⌜ (step ≡ stride a) × (a * step ≡ 1440) × (0 < s) × (s < a) ⌝ }
+    ensures { λ r. ⌜ (r < prime m) × (real m (res m r) ≡ cot (field m) (real m (half m)) a (tangent m a (now (tan .entry))) s) ⌝ }
+{
+    let near = half_tangent(m, tan, step, a, s);
+    let far = half_tangent(m, tan, step, a, a - s);
+    numbers::halve(m, numbers::sub(m, far, near))
+}
+
+fn cosecant(m: u32, tan: &[u32; 1440], step: usize, a: usize, s: usize) -> u32
+    requires { ⌜ IsModulus m × Tangents m (now tan) ⌝ }
+    requires { ⌜ (step ≡ stride a) × (a * step ≡ 1440) × (0 < s) × (s < a) ⌝ }
+    ensures { λ r. ⌜ (r < prime m) × (real m (res m r) ≡ csc (field m) (real m (half m)) a (tangent m a (now (tan .entry))) s) ⌝ }
+{
+    let near = half_tangent(m, tan, step, a, s);
+    let far = half_tangent(m, tan, step, a, a - s);
+    numbers::halve(m, numbers::add(m, near, far))
+}
+
+// One result, from the short transform and the sum of the imaginary parts at the odd places.
+fn finish_at(
+    m: u32,
+    tan: &[u32; 1440],
+    step: usize,
+    a: usize,
+    odd: u32,
+    fold: &[u32],
+    s: usize,
+) -> Pair
+    requires { ⌜ IsModulus m × Tangents m (now tan) × (odd < prime m) ⌝ }
+    requires { ⌜ (step ≡ stride a) × (a * step ≡ 1440) × (s < a) ⌝ }
+    requires { ⌜ (length (now fold) ≡ 2 * a) × Below (prime m) (now fold) ⌝ }
+    ensures { λ r. ⌜ r ≡ pairOf (finish3 (field m) (conj m) (i m) (real m (half m)) a (tangent m a (now (tan .entry))) (valuesOf m (now (fold .entry))) (real m (res m odd)) s) ⌝ }
+{
+    let v = slices::get(fold, s);
+    if s == 0 {
+        // X^(0) = E(0) + i b(0), and Y^(0) = E(0) - b(0)
+        Pair {
+            re: numbers::add(m, v.re, odd),
+            im: odd,
+        }
+    } else {
+        // E(s) = Re Y^(s) + b(s) cos and b(s) = Im Y^(s)/sin
+        let cosine = numbers::mul(m, v.im, cotangent(m, tan, step, a, s));
+        let b = numbers::mul(m, v.im, cosecant(m, tan, step, a, s));
+        Pair {
+            re: numbers::add(m, v.re, cosine),
+            im: b,
+        }
+    }
+}
+
+fn finish(m: u32, tan: &[u32; 1440], a: usize, odd: u32, fold: &[u32], line: &mut [u32])
+    requires { ⌜ IsModulus m × Tangents m (now tan) × (odd < prime m) ⌝ }
+    requires { ⌜ (0 < a) × (a * stride a ≡ 1440) ⌝ }
+    requires { ⌜ (length (now fold) ≡ 2 * a) × Below (prime m) (now fold) ⌝ }
+    requires { ⌜ length (now line) ≡ 2 * a ⌝ }
+    ensures { λ _. ⌜ now (line .exit) ≡ listOf a (finish3 (field m) (conj m) (i m) (real m (half m)) a (tangent m a (now (tan .entry))) (valuesOf m (now (fold .entry))) (real m (res m odd))) ⌝ }
+{
+    let step = 1440 / a;
+    let mut s = 0;
+    while s < a {
+        let v = finish_at(m, tan, step, a, odd, fold, s);
+        slices::store(line, s, v);
+        s += 1;
+    }
+}

@@ -47,7 +47,7 @@ zero-val : (m : ℕ) → 0 ≡ (res m 0) .val
 zero-val m = sym (val-res m (prime-pos m))
 
 -- a value of one number only
-real-pair : (m : ℕ) (z : Value m) (x : ℕ) → x < prime m → z ≡ real m (res m x) → record { re = x; im = 0 } ≡ pairOf z
+pub real-pair : (m : ℕ) (z : Value m) (x : ℕ) → x < prime m → z ≡ real m (res m x) → record { re = x; im = 0 } ≡ pairOf z
 unfolding pairOf
 real-pair m z x l e = pair-path (sym (val-res m l)) (zero-val m) ∙ ap pairOf (sym e)
 

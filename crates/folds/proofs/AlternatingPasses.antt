@@ -1,4 +1,4 @@
--- What the passes of the alternating line compute, place by place.
+-- What the passes of the alternating line's forward transform compute, place by place.
 use mathlib.Core.Path.{_≡_, refl, sym, _∙_, ap, ap₂, subst}
 use mathlib.Core.List.{List, [], _∷_}
 use Prim.Native.Nat.{ℕ, zero, suc, _+_, _*_, _-_, _/_, _%_, _≤_, _<_}
@@ -92,16 +92,16 @@ csc-by m A tan s ex ey ed er =
 -- ---- forward, after the transform
 
 -- a pair from two numbers that stand for its parts
-pair-parts : (m : ℕ) (x y : Residue m) {u v : ℕ} → u ≡ x .val → v ≡ y .val → record { re = u; im = v } ≡ pairOf (field m .add (real m x) (field m .mul (i m) (real m y)))
+pub pair-parts : (m : ℕ) (x y : Residue m) {u v : ℕ} → u ≡ x .val → v ≡ y .val → record { re = u; im = v } ≡ pairOf (field m .add (real m x) (field m .mul (i m) (real m y)))
 unfolding pairOf
 pair-parts m x y eu ev = pair-path eu ev ∙ ap pairOf (sym (parts-value m x y))
 
 -- the parts of a pair that was read
-read-re : (m : ℕ) (l : List ℕ) (s : ℕ) {v : Pair} → v ≡ at l s → real m (res m (v .re)) ≡ re (field m) (conj m) (i m) (real m (half m)) (valuesOf m l s)
+pub read-re : (m : ℕ) (l : List ℕ) (s : ℕ) {v : Pair} → v ≡ at l s → real m (res m (v .re)) ≡ re (field m) (conj m) (i m) (real m (half m)) (valuesOf m l s)
 unfolding valueOf
 read-re m l s e = ap (λ (w : Pair). real m (res m (w .re))) e ∙ sym (re-value m _)
 
-read-im : (m : ℕ) (l : List ℕ) (s : ℕ) {v : Pair} → v ≡ at l s → real m (res m (v .im)) ≡ im (field m) (conj m) (i m) (real m (half m)) (valuesOf m l s)
+pub read-im : (m : ℕ) (l : List ℕ) (s : ℕ) {v : Pair} → v ≡ at l s → real m (res m (v .im)) ≡ im (field m) (conj m) (i m) (real m (half m)) (valuesOf m l s)
 unfolding valueOf
 read-im m l s e = ap (λ (w : Pair). real m (res m (w .im))) e ∙ sym (im-value m _)
 

@@ -1,3 +1,4 @@
 pub mod RealValues
 pub mod AlternatingLine
 pub mod AlternatingPasses
+pub mod AlternatingBack

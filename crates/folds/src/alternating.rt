@@ -9,11 +9,11 @@
 // sine and its real part E(s) less b(s) times the cosine of the angle of e(s/N). The sine is 0 at s = 0 alone, where b is summed apart.
 use numbers::Pair;
 ghost use mathlib.Core.Path.{_≡_};
-ghost use Prim.Native.Nat.{ℕ, _+_, _*_, _/_, _<_, _≤_};
+ghost use Prim.Native.Nat.{ℕ, suc, _+_, _*_, _-_, _/_, _<_, _≤_};
 ghost use lib.ListN.{length, getD};
 ghost use Rattle.algebra.specs.Ring.{Ops, sum};
-ghost use Rattle.algebra.specs.Line.{im, unfoldB3};
-ghost use Rattle.algebra.specs.Folds.{woven, csc, cot, finish3};
+ghost use Rattle.algebra.specs.Line.{im, unfoldB3, packB3};
+ghost use Rattle.algebra.specs.Folds.{mate, woven, csc, cot, finish3, slant, twice-M, line3};
 ghost use Rattle.numbers.specs.Prime.{prime, IsModulus};
 ghost use Rattle.numbers.specs.Value.{field, conj, i, res, real, half, valueOf, pairOf};
 ghost use Rattle.slices.specs.Pairs.{Below};
@@ -168,5 +168,133 @@ fn finish(m: u32, tan: &[u32; 1440], a: usize, odd: u32, fold: &[u32], line: &mu
         let v = finish_at(m, tan, step, a, odd, fold, s);
         slices::store(line, s, v);
         s += 1;
+    }
+}
+
+// The short line of the inverse, before its transform. From X^(s) = E(s) + i b(s) it is the V(s) for which V(s) + conj V(s) = 2 E(s) and
+// V(s) + e(-s/A) conj V(s) = -2 e(-s/N) b(s): one short transform then serves the even places and the odd ones.
+fn slant_at(m: u32, tan: &[u32; 1440], step: usize, a: usize, line: &[u32], s: usize) -> Pair
+    requires { ⌜ IsModulus m × Tangents m (now tan) ⌝ }
+    requires { ⌜ (step ≡ stride a) × (a * step ≡ 1440) × (s < a) ⌝ }
+    requires { ⌜ (length (now line) ≡ 2 * a) × Below (prime m) (now line) ⌝ }
+    ensures { λ r. ⌜ r ≡ pairOf (slant (field m) (conj m) (i m) (real m (half m)) a (tangent m a (now (tan .entry))) (valuesOf m (now (line .entry))) s) ⌝ }
+{
+    let z = slices::get(line, s);
+    if s == 0 {
+        // V(0) = E(0): the first rule alone, as the two disagree there
+        Pair { re: z.re, im: 0 }
+    } else {
+        let along = numbers::mul(m, z.re, cotangent(m, tan, step, a, s));
+        let up = numbers::mul(m, z.im, cosecant(m, tan, step, a, s));
+        Pair {
+            re: z.re,
+            im: numbers::add(m, along, up),
+        }
+    }
+}
+
+fn slant(m: u32, tan: &[u32; 1440], a: usize, line: &[u32], fold: &mut [u32])
+    requires { ⌜ IsModulus m × Tangents m (now tan) ⌝ }
+    requires { ⌜ (0 < a) × (a * stride a ≡ 1440) ⌝ }
+    requires { ⌜ (length (now line) ≡ 2 * a) × Below (prime m) (now line) ⌝ }
+    requires { ⌜ length (now fold) ≡ 2 * a ⌝ }
+    ensures { λ _. ⌜ now (fold .exit) ≡ listOf a (slant (field m) (conj m) (i m) (real m (half m)) a (tangent m a (now (tan .entry))) (valuesOf m (now (line .entry)))) ⌝ }
+{
+    let step = 1440 / a;
+    let mut s = 0;
+    while s < a {
+        let v = slant_at(m, tan, step, a, line, s);
+        slices::store(fold, s, v);
+        s += 1;
+    }
+}
+
+// 2 (E(0) + b(0)), what V(0) + conj V(0) is above the -2 b(0) of the second rule.
+fn twice_sum(m: u32, line: &[u32]) -> u32
+    requires { ⌜ IsModulus m ⌝ }
+    requires { ⌜ (1 < length (now line)) × Below (prime m) (now line) ⌝ }
+    ensures { λ r. ⌜ (r < prime m) × ((A : ℕ) → real m (res m r) ≡ twice-M (field m) (conj m) (i m) (real m (half m)) A (valuesOf m (now (line .entry)))) ⌝ }
+{
+    let z = slices::get(line, 0);
+    let s = numbers::add(m, z.re, z.im);
+    numbers::add(m, s, s)
+}
+
+// The place A - t, and 0 for 0: the short transform's places are counted modulo A.
+fn mate_of(a: usize, t: usize) -> usize
+    requires { ⌜ t < a ⌝ }
+    ensures { λ r. ⌜ (r ≡ mate a t) × (r < a) ⌝ }
+{
+    if t == 0 { 0 } else { a - t }
+}
+
+// X(2t), from the short transform y and 1/N.
+fn even_at(m: u32, part: u32, a: usize, fold: &[u32], t: usize) -> Pair
+    requires { ⌜ IsModulus m × (part < prime m) × (t < a) ⌝ }
+    requires { ⌜ (length (now fold) ≡ 2 * a) × Below (prime m) (now fold) ⌝ }
+    ensures { λ r. ⌜ r ≡ pairOf (field m .mul (real m (res m part)) (field m .add (valuesOf m (now (fold .entry)) t) (conj m (valuesOf m (now (fold .entry)) (mate a t))))) ⌝ }
+{
+    let y = slices::get(fold, t);
+    let c = numbers::conjugate(m, slices::get(fold, mate_of(a, t)));
+    numbers::scaled(m, part, numbers::sum(m, y, c))
+}
+
+// X(2t + 1), from the short transform y, `twice_sum` and 1/N.
+fn odd_at(m: u32, part: u32, twice: u32, a: usize, fold: &[u32], t: usize) -> Pair
+    requires { ⌜ IsModulus m × (part < prime m) × (twice < prime m) × (t < a) ⌝ }
+    requires { ⌜ (length (now fold) ≡ 2 * a) × Below (prime m) (now fold) ⌝ }
+    ensures { λ r. ⌜ r ≡ pairOf (field m .mul (real m (res m part)) (field m .mul (i m) (field m .add (real m (res m twice)) (field m .neg (field m .add (valuesOf m (now (fold .entry)) t) (conj m (valuesOf m (now (fold .entry)) (a - suc t)))))))) ⌝ }
+{
+    let y = slices::get(fold, t);
+    let c = numbers::conjugate(m, slices::get(fold, a - (t + 1)));
+    let d = numbers::difference(m, Pair { re: twice, im: 0 }, numbers::sum(m, y, c));
+    numbers::scaled(m, part, numbers::times_i(m, d))
+}
+
+// X(j), j < N.
+fn line_at(m: u32, part: u32, twice: u32, a: usize, fold: &[u32], j: usize) -> Pair
+    requires { ⌜ IsModulus m × (part < prime m) × (twice < prime m) × (j < 2 * a) ⌝ }
+    requires { ⌜ (length (now fold) ≡ 2 * a) × Below (prime m) (now fold) ⌝ }
+    ensures { λ r. ⌜ r ≡ pairOf (line3 (field m) (conj m) (i m) (real m (half m)) a (real m (res m part)) (valuesOf m (now (fold .entry))) (real m (res m twice)) j) ⌝ }
+{
+    if j % 2 == 0 {
+        even_at(m, part, a, fold, j / 2)
+    } else {
+        odd_at(m, part, twice, a, fold, j / 2)
+    }
+}
+
+// One pair of the packed line.
+fn pack_at(m: u32, part: u32, twice: u32, a: usize, fold: &[u32], t: usize) -> Pair
+    requires { ⌜ IsModulus m × (part < prime m) × (twice < prime m) × (t < a) ⌝ }
+    requires { ⌜ (length (now fold) ≡ 2 * a) × Below (prime m) (now fold) ⌝ }
+    ensures { λ r. ⌜ r ≡ pairOf (packB3 (field m) (conj m) (i m) (real m (half m)) a (line3 (field m) (conj m) (i m) (real m (half m)) a (real m (res m part)) (valuesOf m (now (fold .entry))) (real m (res m twice))) t) ⌝ }
+{
+    let x = line_at(m, part, twice, a, fold, t);
+    if t == 0 {
+        // X(0) is real, and its second number is free for the one number of X(A): the real part for an even A,
+        // and for an odd A the imaginary part, which is at that place already
+        let y = line_at(m, part, twice, a, fold, a);
+        if a % 2 == 0 {
+            numbers::sum(m, x, numbers::times_i(m, y))
+        } else {
+            numbers::sum(m, x, y)
+        }
+    } else {
+        x
+    }
+}
+
+fn pack(m: u32, part: u32, twice: u32, a: usize, fold: &[u32], line: &mut [u32])
+    requires { ⌜ IsModulus m × (part < prime m) × (twice < prime m) ⌝ }
+    requires { ⌜ (length (now fold) ≡ 2 * a) × Below (prime m) (now fold) ⌝ }
+    requires { ⌜ length (now line) ≡ 2 * a ⌝ }
+    ensures { λ _. ⌜ now (line .exit) ≡ listOf a (packB3 (field m) (conj m) (i m) (real m (half m)) a (line3 (field m) (conj m) (i m) (real m (half m)) a (real m (res m part)) (valuesOf m (now (fold .entry))) (real m (res m twice)))) ⌝ }
+{
+    let mut t = 0;
+    while t < a {
+        let v = pack_at(m, part, twice, a, fold, t);
+        slices::store(line, t, v);
+        t += 1;
     }
 }

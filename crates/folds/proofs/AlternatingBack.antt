@@ -8,7 +8,7 @@ use Rattle.algebra.specs.Line.{re, im, unit, weave, pack-by, packB3}
 use Rattle.algebra.specs.Folds.{mate, csc, cot, slant, twice-M, line3}
 use Rattle.algebra.proofs.Solver.{ring, quote, linear}
 use Rattle.algebra.proofs.Laws.{along}
-use Rattle.algebra.proofs.FoldPack.{weave-even, weave-odd}
+use Rattle.algebra.proofs.Unfold.{weave-even, weave-odd}
 use Rattle.numbers.specs.declared.Pair.{Pair}
 use Rattle.numbers.specs.Prime.{prime}
 use Rattle.numbers.specs.Value.{Residue, Value, field, conj, i, res, real, half, valueOf, pairOf}

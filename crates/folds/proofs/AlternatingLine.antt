@@ -11,8 +11,7 @@ use Rattle.algebra.specs.Line.{re, im, unit, unfoldB3}
 use Rattle.algebra.specs.Folds.{woven, csc, cot, finish3}
 use Rattle.algebra.proofs.Solver.{ring, quote}
 use Rattle.algebra.proofs.Laws.{along, neg-zero}
-use Rattle.algebra.proofs.FoldPack.{unfold-zero, unfold-low, unfold-middle}
-use Rattle.algebra.proofs.FoldRead.{read-even, read-odd}
+use Rattle.algebra.proofs.Unfold.{unfold-zero, unfold-low, unfold-middle, read-even, read-odd}
 use Rattle.numbers.specs.declared.Pair.{Pair}
 use Rattle.numbers.specs.Prime.{prime}
 use Rattle.numbers.specs.Value.{Residue, Value, field, conj, i, res, real, half, valueOf, pairOf}

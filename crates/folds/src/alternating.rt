@@ -14,11 +14,60 @@ ghost use lib.ListN.{length, getD};
 ghost use Rattle.algebra.specs.Ring.{Ops, sum};
 ghost use Rattle.algebra.specs.Line.{im, unfoldB3, packB3};
 ghost use Rattle.algebra.specs.Folds.{mate, woven, csc, cot, finish3, slant, twice-M, line3};
+ghost use Rattle.algebra.specs.Kinds.{Kind, Kind.alternating, slots, fold-forward, fold-back};
 ghost use Rattle.numbers.specs.Prime.{prime, IsModulus};
-ghost use Rattle.numbers.specs.Value.{field, conj, i, res, real, half, valueOf, pairOf};
+ghost use Rattle.numbers.specs.Value.{field, conj, i, res, real, half, part, valueOf, pairOf};
 ghost use Rattle.slices.specs.Pairs.{Below};
 ghost use Rattle.slices.specs.Values.{valuesOf, listOf};
-ghost use Rattle.folds.specs.Frame.{stride, tangent, Tangents};
+ghost use Rattle.plain.specs.Factors.{Factored};
+ghost use Rattle.folds.specs.Frame.{stride, lineRoot, tangent, Frame, Tangents};
+
+// The forward transform: the line becomes X^(0), .., X^(A - 1). The tables are those of the root and of its half tangents.
+pub fn forward<'a>(
+    m: u32,
+    re: &'a [u32; 2880],
+    im: &'a [u32; 2880],
+    tan: &'a [u32; 1440],
+    factors: u32,
+    a: usize,
+    line: &mut [u32],
+    fold: &mut [u32],
+    work: &mut [u32],
+)
+    requires { ⌜ Frame m a (now re) (now im) × Tangents m (now tan) × Factored factors a ⌝ }
+    requires { ⌜ (length (now line) ≡ 2 * a) × Below (prime m) (now line) ⌝ }
+    requires { ⌜ (length (now fold) ≡ 2 * a) × (length (now work) ≡ 2 * a) ⌝ }
+    ensures { λ _. ⌜ now (line .exit) ≡ listOf (slots alternating a) (fold-forward (field m) (conj m) (i m) (real m (half m)) a (lineRoot m a (now (re .entry)) (now (im .entry))) (real m (part m (2 * a))) (tangent m a (now (tan .entry))) alternating (valuesOf m (now (line .entry)))) ⌝ }
+{
+    let odd = odd_imaginary_sum(m, a, line);
+    weave(m, a, line, fold);
+    plain::transform(m, re, im, factors, a, fold, work);
+    finish(m, tan, a, odd, fold, line);
+}
+
+// The inverse. The tables of powers are those of the root's conjugate, and the half tangents those of the root itself.
+pub fn inverse<'a>(
+    m: u32,
+    re: &'a [u32; 2880],
+    im: &'a [u32; 2880],
+    tan: &'a [u32; 1440],
+    factors: u32,
+    a: usize,
+    line: &mut [u32],
+    fold: &mut [u32],
+    work: &mut [u32],
+)
+    requires { ⌜ Frame m a (now re) (now im) × Tangents m (now tan) × Factored factors a ⌝ }
+    requires { ⌜ (length (now line) ≡ 2 * a) × Below (prime m) (now line) ⌝ }
+    requires { ⌜ (length (now fold) ≡ 2 * a) × (length (now work) ≡ 2 * a) ⌝ }
+    ensures { λ _. ⌜ now (line .exit) ≡ listOf (slots alternating a) (fold-back (field m) (conj m) (i m) (real m (half m)) a (conj m (lineRoot m a (now (re .entry)) (now (im .entry)))) (real m (part m (2 * a))) (tangent m a (now (tan .entry))) alternating (valuesOf m (now (line .entry)))) ⌝ }
+{
+    let share = numbers::reciprocal(m, (2 * a) as u32);
+    let twice = twice_sum(m, line);
+    slant(m, tan, a, line, fold);
+    plain::transform(m, re, im, factors, a, fold, work);
+    pack(m, share, twice, a, fold, line);
+}
 
 // The value at place j of the whole line.
 fn value_at(m: u32, a: usize, line: &[u32], j: usize) -> Pair

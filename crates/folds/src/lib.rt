@@ -5,4 +5,5 @@
 // The forms are those of document 001, proved equal to the direct sums in the crate above.
 
 pub mod hermitian; // hermitian.rt: kinds 1 and 2
+pub mod alternating; // alternating.rt: kind 3, X(-t) = (-1)^t conj X(t)
 pub mod mirror; // mirror.rt: kinds 4 and 5, the symmetric and the antisymmetric line

@@ -19,34 +19,46 @@ use Rattle.slices.specs.Pairs.{at, Below}
 use Rattle.slices.specs.Values.{valuesOf}
 use Rattle.slices.proofs.Bounds.{small-of}
 use Rattle.folds.specs.Frame.{tangent}
-use Rattle.folds.proofs.RealValues.{real-add, real-mul}
+use Rattle.folds.proofs.RealValues.{real-add, real-neg, real-mul}
 use Rattle.folds.proofs.AlternatingLine.{unit-even, unit-odd, real-pair}
 use Rattle.folds.proofs.AlternatingPasses.{pair-parts, read-re, read-im}
 
 -- ---- before the transform
 
+-- the opposite half tangents give the opposite cotangent and cosecant
+opposite : {R : Type 0} {𝓞 : Ops R} (𝓡 : CRing 𝓞) (h near far u v : R)
+    → 𝓞 .neg (𝓞 .add (𝓞 .mul u (𝓞 .mul h (𝓞 .add far (𝓞 .neg near)))) (𝓞 .mul v (𝓞 .mul h (𝓞 .add near far))))
+    ≡ 𝓞 .add (𝓞 .mul u (𝓞 .mul h (𝓞 .add (𝓞 .neg far) (𝓞 .neg (𝓞 .neg near))))) (𝓞 .mul v (𝓞 .mul h (𝓞 .add (𝓞 .neg near) (𝓞 .neg far))))
+opposite 𝓡 h near far u v = ring 𝓡 (h ∷ near ∷ far ∷ u ∷ v ∷ []) (search quote depth 40 fits 9999) refl
+
 module _ (m A : ℕ) (tan line : List ℕ) where
+  -- the half tangents of the line's root, by those of its conjugate, which are lent
+  abbrev tau : ℕ → Value m
+  tau s = field m .neg (tangent m A tan s)
+
   pub slant-first : (s : ℕ) {z : Pair} → s ≡ 0 → z ≡ at line s → Below (prime m) line
-      → record { re = z .re; im = 0 } ≡ pairOf (slant (field m) (conj m) (i m) (real m (half m)) A (tangent m A tan) (valuesOf m line) s)
+      → record { re = z .re; im = 0 } ≡ pairOf (slant (field m) (conj m) (i m) (real m (half m)) A tau (valuesOf m line) s)
   unfolding slant
   slant-first zero {z} n ez b = real-pair m _ (z .re) (small-of line 0 ez b .re) (sym (read-re m line 0 ez))
   slant-first (suc s) n ez b = absurd (omega arith)
 
-  -- c is the cotangent, d the cosecant
-  pub slant-rest : (s c d : ℕ) {z : Pair} {x y r : ℕ} → (s ≡ 0 → ⊥) → z ≡ at line s → Below (prime m) line
+  -- c is the cotangent, d the cosecant, of the opposite angle
+  pub slant-rest : (s c d : ℕ) {z : Pair} {x y n r : ℕ} → (s ≡ 0 → ⊥) → z ≡ at line s → Below (prime m) line
       → real m (res m c) ≡ cot (field m) (real m (half m)) A (tangent m A tan) s → real m (res m d) ≡ csc (field m) (real m (half m)) A (tangent m A tan) s
       → x ≡ (Value.ring m .mul (res m (z .re)) (res m c)) .val → y ≡ (Value.ring m .mul (res m (z .im)) (res m d)) .val
-      → r ≡ (Value.ring m .add (res m x) (res m y)) .val
-      → record { re = z .re; im = r } ≡ pairOf (slant (field m) (conj m) (i m) (real m (half m)) A (tangent m A tan) (valuesOf m line) s)
-  unfolding slant
-  slant-rest zero c d n ez b ec ed ex ey er = absurd (n refl)
-  slant-rest (suc s) c d {z} n ez b ec ed ex ey er =
+      → n ≡ (Value.ring m .add (res m x) (res m y)) .val → r ≡ (Value.ring m .neg (res m n)) .val
+      → record { re = z .re; im = r } ≡ pairOf (slant (field m) (conj m) (i m) (real m (half m)) A tau (valuesOf m line) s)
+  unfolding slant cot csc
+  slant-rest zero c d o ez b ec ed ex ey en er = absurd (o refl)
+  slant-rest (suc s) c d {z} o ez b ec ed ex ey en er =
       pair-parts m (res m (z .re)) _ (sym (val-res m (small-of line (suc s) ez b .re))) er
       ∙ ap₂ (λ x y. pairOf (field m .add x (field m .mul (i m) y)))
       (read-re m line (suc s) ez)
-      (real-add m _ _ ∙ ap₂ (field m .add)
+      (real-neg m _ ∙ ap (field m .neg)
+      (ap (real m) (res-by m _ en) ∙ real-add m _ _ ∙ ap₂ (field m .add)
       (ap (real m) (res-by m _ ex) ∙ real-mul m _ _ ∙ ap₂ (field m .mul) (read-re m line (suc s) ez) ec)
       (ap (real m) (res-by m _ ey) ∙ real-mul m _ _ ∙ ap₂ (field m .mul) (read-im m line (suc s) ez) ed))
+      ∙ opposite (field-ring m) _ _ _ _ _)
 
 pub twice-by : (m : ℕ) (line : List ℕ) {z : Pair} {x r : ℕ} → z ≡ at line 0 → x ≡ (Value.ring m .add (res m (z .re)) (res m (z .im))) .val
     → r ≡ (Value.ring m .add (res m x) (res m x)) .val → (A : ℕ) → real m (res m r) ≡ twice-M (field m) (conj m) (i m) (real m (half m)) A (valuesOf m line)

@@ -45,7 +45,8 @@ pub fn forward<'a>(
     finish(m, tan, a, odd, fold, line);
 }
 
-// The inverse. The tables of powers are those of the root's conjugate, and the half tangents those of the root itself.
+// The inverse. The tables are those of the root's conjugate and of its half tangents, which are the negated ones: the root of the line is the conjugate
+// of the lent one, and its half tangents are the lent ones negated.
 pub fn inverse<'a>(
     m: u32,
     re: &'a [u32; 2880],
@@ -60,7 +61,7 @@ pub fn inverse<'a>(
     requires { ⌜ Frame m a (now re) (now im) × Tangents m (now tan) × Factored factors a ⌝ }
     requires { ⌜ (length (now line) ≡ 2 * a) × Below (prime m) (now line) ⌝ }
     requires { ⌜ (length (now fold) ≡ 2 * a) × (length (now work) ≡ 2 * a) ⌝ }
-    ensures { λ _. ⌜ now (line .exit) ≡ listOf (slots alternating a) (fold-back (field m) (conj m) (i m) (real m (half m)) a (conj m (lineRoot m a (now (re .entry)) (now (im .entry)))) (real m (part m (2 * a))) (tangent m a (now (tan .entry))) alternating (valuesOf m (now (line .entry)))) ⌝ }
+    ensures { λ _. ⌜ now (line .exit) ≡ listOf (slots alternating a) (fold-back (field m) (conj m) (i m) (real m (half m)) a (conj m (lineRoot m a (now (re .entry)) (now (im .entry)))) (real m (part m (2 * a))) (λ s. field m .neg (tangent m a (now (tan .entry)) s)) alternating (valuesOf m (now (line .entry)))) ⌝ }
 {
     let share = numbers::reciprocal(m, (2 * a) as u32);
     let twice = twice_sum(m, line);
@@ -221,12 +222,13 @@ fn finish(m: u32, tan: &[u32; 1440], a: usize, odd: u32, fold: &[u32], line: &mu
 }
 
 // The short line of the inverse, before its transform. From X^(s) = E(s) + i b(s) it is the V(s) for which V(s) + conj V(s) = 2 E(s) and
-// V(s) + e(-s/A) conj V(s) = -2 e(-s/N) b(s): one short transform then serves the even places and the odd ones.
+// V(s) + e(-s/A) conj V(s) = -2 e(-s/N) b(s): one short transform then serves the even places and the odd ones. Its imaginary part is
+// E(s) times the cotangent and b(s) times the cosecant of the angle of e(s/N); those of the lent half tangents are of the opposite angle.
 fn slant_at(m: u32, tan: &[u32; 1440], step: usize, a: usize, line: &[u32], s: usize) -> Pair
     requires { ⌜ IsModulus m × Tangents m (now tan) ⌝ }
     requires { ⌜ (step ≡ stride a) × (a * step ≡ 1440) × (s < a) ⌝ }
     requires { ⌜ (length (now line) ≡ 2 * a) × Below (prime m) (now line) ⌝ }
-    ensures { λ r. ⌜ r ≡ pairOf (slant (field m) (conj m) (i m) (real m (half m)) a (tangent m a (now (tan .entry))) (valuesOf m (now (line .entry))) s) ⌝ }
+    ensures { λ r. ⌜ r ≡ pairOf (slant (field m) (conj m) (i m) (real m (half m)) a (λ s. field m .neg (tangent m a (now (tan .entry)) s)) (valuesOf m (now (line .entry))) s) ⌝ }
 {
     let z = slices::get(line, s);
     if s == 0 {
@@ -237,7 +239,7 @@ fn slant_at(m: u32, tan: &[u32; 1440], step: usize, a: usize, line: &[u32], s: u
         let up = numbers::mul(m, z.im, cosecant(m, tan, step, a, s));
         Pair {
             re: z.re,
-            im: numbers::add(m, along, up),
+            im: numbers::neg(m, numbers::add(m, along, up)),
         }
     }
 }
@@ -247,7 +249,7 @@ fn slant(m: u32, tan: &[u32; 1440], a: usize, line: &[u32], fold: &mut [u32])
     requires { ⌜ (0 < a) × (a * stride a ≡ 1440) ⌝ }
     requires { ⌜ (length (now line) ≡ 2 * a) × Below (prime m) (now line) ⌝ }
     requires { ⌜ length (now fold) ≡ 2 * a ⌝ }
-    ensures { λ _. ⌜ now (fold .exit) ≡ listOf a (slant (field m) (conj m) (i m) (real m (half m)) a (tangent m a (now (tan .entry))) (valuesOf m (now (line .entry)))) ⌝ }
+    ensures { λ _. ⌜ now (fold .exit) ≡ listOf a (slant (field m) (conj m) (i m) (real m (half m)) a (λ s. field m .neg (tangent m a (now (tan .entry)) s)) (valuesOf m (now (line .entry)))) ⌝ }
 {
     let step = 1440 / a;
     let mut s = 0;

@@ -3,8 +3,9 @@ use borrow.Author.Needs.{needs}
 use mathlib.Core.Path.{_∙_, ap}
 use Prim.Native.Nat.{_*_}
 use native.Mathlib.Omega.{arith}
+use Rattle.algebra.specs.Ring.{Ops}
 use Rattle.numbers.specs.Root.{tableRoot}
-use Rattle.numbers.specs.Value.{res, real, part}
+use Rattle.numbers.specs.Value.{field, res, real, part}
 use Rattle.slices.specs.Values.{valuesOf}
 use Rattle.folds.specs.Frame.{tangent}
 use Rattle.folds.proofs.ShortTransform.{half-most, length-of, below-of, short-divides}
@@ -63,7 +64,7 @@ returns c =
     let r = o .before .before in
     let s = r .before .before .before .before in
     let f = s .pre .0 .0 in
-    back-by (s .args .m) (s .args .a) (f .positive) (f .divides) (tableRoot (s .args .m) (s .args .re .now) (s .args .im .now)) (tangent (s .args .m) (s .args .a) (s .args .tan .now)) (valuesOf (s .args .m) (s .args .line .now))
+    back-by (s .args .m) (s .args .a) (f .positive) (f .divides) (tableRoot (s .args .m) (s .args .re .now) (s .args .im .now)) (λ k. field (s .args .m) .neg (tangent (s .args .m) (s .args .a) (s .args .tan .now) k)) (valuesOf (s .args .m) (s .args .line .now))
     (part (s .args .m) (2 * s .args .a)) (r .reciprocal .result) (real (s .args .m) (res (s .args .m) (o .twice-sum .result)))
     (r .reciprocal .ensures .0) (o .twice-sum .ensures .1 (s .args .a)) (w .slant .ensures) (t .transform .ensures .0) (e .pack .ensures)
 

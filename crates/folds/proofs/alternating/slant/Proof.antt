@@ -1,6 +1,7 @@
 -- s pairs of the short line are there.
 use borrow.Author.Needs.{needs}
 use Prim.Native.Nat.{_-_}
+use Rattle.algebra.specs.Ring.{Ops}
 use Rattle.algebra.specs.Folds.{slant}
 use Rattle.numbers.specs.Value.{field, conj, i, real, half, pairOf}
 use Rattle.slices.specs.Pairs.{Filling}
@@ -12,7 +13,7 @@ use Rattle.folds.proofs.alternating.slant.Statement.{statement}
 use Rattle.folds.proofs.alternating.slant.Tie as tie
 
 abbrev Inv-loop : tie.InvT-loop
-Inv-loop m tan a line fold₀ step s₀ fold s = Filling (λ k. k) (λ s. pairOf (slant (field m) (conj m) (i m) (real m (half m)) a (tangent m a tan) (valuesOf m line) s)) a s fold₀ fold
+Inv-loop m tan a line fold₀ step s₀ fold s = Filling (λ k. k) (λ s. pairOf (slant (field m) (conj m) (i m) (real m (half m)) a (λ s. field m .neg (tangent m a tan s)) (valuesOf m line) s)) a s fold₀ fold
 
 abbrev μ-loop : tie.MeasureT-loop
 μ-loop m tan a line fold₀ step s₀ fold s = a - s

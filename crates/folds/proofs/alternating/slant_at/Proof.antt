@@ -1,7 +1,7 @@
 -- The place 0 has its own formula.
 use borrow.Author.Needs.{needs}
 use Rattle.slices.proofs.Bounds.{small-of}
-use Rattle.folds.proofs.RealValues.{product-small}
+use Rattle.folds.proofs.RealValues.{sum-small, product-small}
 use Rattle.folds.proofs.AlternatingBack.{slant-first, slant-rest}
 use Rattle.folds.proofs.alternating.slant_at.Statement.{statement}
 use Rattle.folds.proofs.alternating.slant_at.Tie as tie
@@ -33,6 +33,9 @@ add-requires c κs =
     let s = x .before .before .before .before .before in
     (s .pre .0 .0, product-small (s .args .m) _ _ (x .mul .ensures), product-small (s .args .m) _ _ (c .mul2 .ensures))
 
+neg-requires : tie.Need-neg-requires
+neg-requires c κs = let s = c .before .before .before .before .before .before .before .before in (s .pre .0 .0, sum-small (s .args .m) _ _ (c .add .ensures))
+
 returns : tie.Need-returns
 returns c =
     let g = c .before in
@@ -41,14 +44,15 @@ returns c =
 
 returns-2 : tie.Need-returns-2
 returns-2 c =
-    let y = c .before in
+    let n = c .before in
+    let y = n .before in
     let e = y .before in
     let x = e .before in
     let k = x .before in
     let g = k .before .before in
     let s = g .before .before in
     slant-rest (s .args .m) (s .args .a) (s .args .tan .now) (s .args .line .now) (s .args .s) _ _ (k .before .if1 .left) (g .get .ensures) (s .pre .1 .1 .1)
-    (k .cotangent .ensures .1) (e .cosecant .ensures .1) (x .mul .ensures) (y .mul2 .ensures) (c .add .ensures)
+    (k .cotangent .ensures .1) (e .cosecant .ensures .1) (x .mul .ensures) (y .mul2 .ensures) (n .add .ensures) (c .neg .ensures)
 
 pub slant-at-spec : {M : Type 1} → statement M
-slant-at-spec = tie.close (tie.spec get-requires cotangent-requires mul-requires cosecant-requires mul-requires-2 add-requires returns returns-2)
+slant-at-spec = tie.close (tie.spec get-requires cotangent-requires mul-requires cosecant-requires mul-requires-2 add-requires neg-requires returns returns-2)

@@ -1,26 +1,25 @@
-// Kinds 1 and 2: the Hermitian lines, X(-t) = conj X(t), and the antihermitian ones, which are i times those.
+// Kinds 1 and 2: the Hermitian lines, X(-t) = conj X(t), and the antihermitian ones, X(-t) = -conj X(t), which are i times those.
 //
 // A packed line has A pairs: pair 0 holds the two reals X(0) and X(A), the others are X(1) .. X(A - 1). The pass before the
-// transform braids X(t) with X(A + t) = conj X(A - t), and the transform of A points then has the N = 2 A real results in
-// order, two in a pair. The pass after the transform of the way back takes the braid apart.
+// transform braids X(t) with X(A + t) = conj X(A - t) to R(t) + i S(t), R = X(t) + X(A + t) and S = e(t/N)(X(t) - X(A + t)).
+// The transform of A points then has the N = 2 A real results in order, two in a pair: those of R at even places, of S at odd.
+// The pass after the transform of the way back takes the braid apart.
 use numbers::Pair;
 ghost use mathlib.Core.Path.{_≡_};
-ghost use Prim.Native.Nat.{ℕ, _+_, _*_, _-_, _/_, _<_, _≤_};
+ghost use Prim.Native.Nat.{ℕ, _+_, _*_, _<_};
 ghost use lib.ListN.{length};
-ghost use Rattle.algebra.specs.Ring.{Ops, pow};
 ghost use Rattle.algebra.specs.Folds.{fold1, back1};
 ghost use Rattle.algebra.specs.Folds as Folds;
 ghost use Rattle.algebra.specs.Kinds.{slots, fold-forward, fold-back};
 ghost use Rattle.numbers.specs.Prime.{prime, IsModulus};
 ghost use Rattle.numbers.specs.Value.{Value, field, conj, i, res, half, part, real, valueOf, pairOf, Small};
-ghost use Rattle.numbers.specs.Root.{tableRoot, RootTable};
 ghost use Rattle.slices.specs.Pairs.{Below};
 ghost use Rattle.slices.specs.Values.{valuesOf, listOf};
 ghost use Rattle.plain.specs.Factors.{Factored};
 ghost use Rattle.folds.specs.Frame.{stride, lineRoot, Frame};
 ghost use Rattle.folds.specs.Hermitian.{kindOf, straightened, turnedBack, crossed};
 
-// The transform of a packed line of either kind: antihermitian where `anti` says so. The slices `braided` and `work` are lent for the work.
+// The transform of a packed line of either kind, antihermitian where `anti` says so. `braided` and `work` are lent for the work.
 pub fn forward<'a>(
     m: u32,
     re: &'a [u32; 2880],

@@ -1,11 +1,13 @@
 -- Pair 0 of the line comes of pair 0 alone, each other of the pairs t and A - t.
-use mathlib.Core.Path.{_∙_, sym, ap}
+use mathlib.Core.Path.{_≡_, _∙_, sym, ap}
 use Prim.Native.Nat.{_*_, _≤_}
 use native.Mathlib.Omega.{arith}
-use Rattle.numbers.specs.Value.{field, i, pairOf}
+use Rattle.numbers.specs.Value.{field, i, res, real, pairOf}
 use Rattle.numbers.proofs.Values.{small-by, value-by}
+use Rattle.slices.specs.Values.{valuesOf}
 use Rattle.slices.proofs.Bounds.{small-of}
-use Rattle.folds.proofs.HermitianForms.{back-first, back-kept, back-turned, unfold-by-zero, unfold-by, place-below, line-root, read-value, held}
+use Rattle.folds.specs.Frame.{lineRoot}
+use Rattle.folds.proofs.HermitianForms.{backOf, back-first, back-kept, back-turned, unfold-by-zero, unfold-by, place-below, line-root, read-value, held}
 use borrow.Author.Needs.{needs}
 use Rattle.folds.proofs.hermitian.unfold_at.Statement.{statement}
 use Rattle.folds.proofs.hermitian.unfold_at.Tie as tie
@@ -66,42 +68,31 @@ returns c =
     unfold-by-zero _ (s .args .a) _ _ _ (b .if1 .taken) (read-value _ _ _ (b .before .get .ensures) (s .pre .1 .1)) (c .before .cross .ensures) (c .scaled .ensures)
     ∙ ap pairOf (sym (back-first _ _ (s .args .anti) (b .if1 .taken)))
 
-returns-2 : tie.Need-returns-2
-returns-2 c =
-    let u = c .before .before in
-    let y = u .before .before .before in
-    let b = y .before .before in
-    let s = b .before .before .before in
-    let m = s .args .m in
-    c .times-i .ensures
-    ∙ ap pairOf
-    (ap (field m .mul (i m))
-    (value-by m _
-    (unfold-by m (s .args .a) _ _ _
-    (b .if1 .left)
-    (u .before .before .root-at .ensures ∙ line-root m _ _ _ (s .pre .0 .0) (s .pre .0 .2) (s .pre .0 .3))
-    (read-value m _ _ (b .before .get .ensures) (s .pre .1 .1))
-    (read-value m _ _ (y .before .get2 .ensures) (s .pre .1 .1))
-    (y .conjugate .ensures)
-    (u .before .unbraid .ensures (s .args .a))
-    (u .scaled2 .ensures)))
-    ∙ sym (back-turned m _ _ (c .before .if2 .taken) (b .if1 .left)))
-
-returns-3 : tie.Need-returns-3
-returns-3 c =
-    let u = c .before in
-    let y = u .before .before .before in
+-- before the turn
+apart : (c : tie.After-scaled2) → let s = c .before .before .before .before .before .before .before .before .args in let m = s .m in
+    c .scaled2 .result ≡ pairOf (backOf m (s .a) (real m (res m (s .c))) (lineRoot m (s .a) (s .re .now) (s .im .now)) (valuesOf m (s .braided .now)) (s .t))
+apart c =
+    let y = c .before .before .before in
     let b = y .before .before in
     let s = b .before .before .before in
     unfold-by _ (s .args .a) _ _ _
     (b .if1 .left)
-    (u .before .before .root-at .ensures ∙ line-root _ _ _ _ (s .pre .0 .0) (s .pre .0 .2) (s .pre .0 .3))
+    (c .before .before .root-at .ensures ∙ line-root _ _ _ _ (s .pre .0 .0) (s .pre .0 .2) (s .pre .0 .3))
     (read-value _ _ _ (b .before .get .ensures) (s .pre .1 .1))
     (read-value _ _ _ (y .before .get2 .ensures) (s .pre .1 .1))
     (y .conjugate .ensures)
-    (u .before .unbraid .ensures (s .args .a))
-    (u .scaled2 .ensures)
-    ∙ ap pairOf (sym (back-kept _ _ _ (c .if2 .left)))
+    (c .before .unbraid .ensures (s .args .a))
+    (c .scaled2 .ensures)
+
+returns-2 : tie.Need-returns-2
+returns-2 c =
+    let u = c .before .before in
+    let b = u .before .before .before .before .before in
+    let m = b .before .before .before .args .m in
+    c .times-i .ensures ∙ ap pairOf (ap (field m .mul (i m)) (value-by m _ (apart u)) ∙ sym (back-turned m _ _ (c .before .if2 .taken) (b .if1 .left)))
+
+returns-3 : tie.Need-returns-3
+returns-3 c = apart (c .before) ∙ ap pairOf (sym (back-kept _ _ _ (c .if2 .left)))
 
 pub unfold-at-spec : {M : Type 1} → statement M
 unfold-at-spec =

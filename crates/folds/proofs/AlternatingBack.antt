@@ -1,7 +1,7 @@
 -- What the passes of the alternating line's inverse compute, place by place.
 use mathlib.Core.Path.{_≡_, refl, sym, _∙_, ap, ap₂}
 use mathlib.Core.List.{List, [], _∷_}
-use Prim.Native.Nat.{ℕ, zero, suc, _+_, _*_, _-_, _/_, _%_, _<_}
+use Prim.Native.Nat.{ℕ, zero, suc, _+_, _*_, _-_, _/_, _%_}
 use native.Mathlib.Omega.{arith}
 use Rattle.algebra.specs.Ring.{Ops, CRing, Star}
 use Rattle.algebra.specs.Line.{re, im, unit, weave, pack-by, packB3}
@@ -11,7 +11,7 @@ use Rattle.algebra.proofs.Laws.{along}
 use Rattle.algebra.proofs.Unfold.{weave-even, weave-odd}
 use Rattle.numbers.specs.declared.Pair.{Pair}
 use Rattle.numbers.specs.Prime.{prime}
-use Rattle.numbers.specs.Value.{Residue, Value, field, conj, i, res, real, half, valueOf, pairOf}
+use Rattle.numbers.specs.Value.{Value, field, conj, i, res, real, half, valueOf, pairOf}
 use Rattle.numbers.specs.Value as Value
 use Rattle.numbers.proofs.Residues.{res-by, val-res}
 use Rattle.numbers.proofs.Values.{field-ring, field-star, value-by}

@@ -1,25 +1,21 @@
 -- The alternating line, as the code reads it: the value at each place of the whole line, and what the passes compute of it.
-use mathlib.Core.Path.{_≡_, refl, sym, _∙_, ap, ap₂}
-use mathlib.Core.List.{List, [], _∷_}
-use Prim.Native.Nat.{ℕ, zero, suc, _+_, _*_, _-_, _/_, _%_, _≤_, _<_}
+use mathlib.Core.Path.{_≡_, refl, sym, _∙_, ap}
+use mathlib.Core.List.{List}
+use Prim.Native.Nat.{ℕ, zero, suc, _+_, _*_, _-_, _/_, _%_, _<_}
 use native.Mathlib.Omega.{arith}
-use lib.ListN.{getD}
-use Rattle.algebra.specs.Ring.{Ops, CRing, sum}
+use Rattle.algebra.specs.Ring.{Ops, CRing}
 use Rattle.algebra.specs.Residue.{residues}
-use Rattle.algebra.specs.Gauss.{gauss, imag}
 use Rattle.algebra.specs.Line.{re, im, unit, unfoldB3}
-use Rattle.algebra.specs.Folds.{woven, csc, cot, finish3}
-use Rattle.algebra.proofs.Solver.{ring, quote}
 use Rattle.algebra.proofs.Laws.{along, neg-zero}
 use Rattle.algebra.proofs.Unfold.{unfold-zero, unfold-low, unfold-middle, read-even, read-odd}
 use Rattle.numbers.specs.declared.Pair.{Pair}
 use Rattle.numbers.specs.Prime.{prime}
-use Rattle.numbers.specs.Value.{Residue, Value, field, conj, i, res, real, half, valueOf, pairOf}
+use Rattle.numbers.specs.Value.{Value, field, conj, i, res, real, half, valueOf, pairOf}
 use Rattle.numbers.specs.Value as Value
-use Rattle.numbers.proofs.Residues.{res-ring, res-by, val-res}
+use Rattle.numbers.proofs.Residues.{res-ring, val-res}
 use Rattle.numbers.proofs.Primes.{prime-pos}
 use Rattle.numbers.proofs.Parts.{re-value, im-value}
-use Rattle.numbers.proofs.Values.{field-ring, pair-path, value-path, i-times, real-times, pair-value, value-by}
+use Rattle.numbers.proofs.Values.{field-ring, pair-path, i-times, pair-value}
 use Rattle.slices.specs.Pairs.{at, Below}
 use Rattle.slices.specs.Values.{valuesOf}
 use Rattle.slices.proofs.Bounds.{small-at}

@@ -1,12 +1,12 @@
 -- What the passes of the alternating line's forward transform compute, place by place.
-use mathlib.Core.Path.{_≡_, refl, sym, _∙_, ap, ap₂, subst}
-use mathlib.Core.List.{List, [], _∷_}
-use Prim.Native.Nat.{ℕ, zero, suc, _+_, _*_, _-_, _/_, _%_, _≤_, _<_}
+use mathlib.Core.Path.{_≡_, refl, sym, _∙_, ap, ap₂}
+use mathlib.Core.List.{List}
+use Prim.Native.Nat.{ℕ, zero, suc, _+_, _*_, _-_, _≤_, _<_}
 use native.Mathlib.Numerals.{add-one}
 use native.Mathlib.Omega.{arith}
 use lib.ListN.{getD}
-use Rattle.algebra.specs.Ring.{Ops, CRing, sum}
-use Rattle.algebra.specs.Residue.{residues, residue}
+use Rattle.algebra.specs.Ring.{Ops, sum}
+use Rattle.algebra.specs.Residue.{residues}
 use Rattle.algebra.specs.Gauss.{gauss}
 use Rattle.algebra.specs.Line.{re, im, unfoldB3}
 use Rattle.algebra.specs.Folds.{woven, csc, cot, finish3}
@@ -19,10 +19,10 @@ use Rattle.numbers.proofs.Primes.{prime-most}
 use Rattle.numbers.proofs.Residues.{res-by, res-val, val-res}
 use Rattle.numbers.proofs.Parts.{re-value, im-value}
 use Rattle.numbers.proofs.Values.{pair-path, small-by, value-by}
-use Rattle.slices.specs.Pairs.{at, Below}
+use Rattle.slices.specs.Pairs.{at}
 use Rattle.slices.specs.Values.{valuesOf}
 use Rattle.slices.proofs.Rows.{row-end}
-use Rattle.folds.specs.Frame.{stride, tangent, Tangents}
+use Rattle.folds.specs.Frame.{stride, tangent}
 use Rattle.folds.proofs.RealValues.{real-add, real-neg, real-mul, parts-value}
 
 -- ---- forward, before the transform

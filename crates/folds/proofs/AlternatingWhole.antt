@@ -1,5 +1,5 @@
 -- The passes and the plain transform between them make up the alternating line's transform, as the algebra's specs/Kinds says it.
-use mathlib.Core.Path.{_≡_, refl, sym, _∙_, ap, ap₂}
+use mathlib.Core.Path.{_≡_, sym, _∙_, ap, ap₂}
 use mathlib.Core.List.{List}
 use Prim.Native.Nat.{ℕ, zero, suc, _+_, _*_, _-_, _/_, _%_, _<_}
 use native.Mathlib.Omega.{arith}
@@ -7,7 +7,7 @@ use Rattle.algebra.specs.Ring.{Ops, Star, pow, sum}
 use Rattle.algebra.specs.Fourier.{dft}
 use Rattle.algebra.specs.Line.{re, im, unit, weave, pack-by, unfoldB3, packB3}
 use Rattle.algebra.specs.Folds.{mate, csc, cot, woven, finish3, slant, twice-M, line3}
-use Rattle.algebra.specs.Kinds.{Kind, Kind.alternating, slots, fold-forward, fold-back}
+use Rattle.algebra.specs.Kinds.{Kind.alternating, slots, fold-forward, fold-back}
 use Rattle.numbers.specs.Value.{Residue, Value, field, conj, i, res, real, half}
 use Rattle.numbers.proofs.Residues.{res-by}
 use Rattle.numbers.proofs.Values.{field-star}

@@ -16,7 +16,7 @@ ghost use Rattle.algebra.specs.Line.{im, unfoldB3, packB3};
 ghost use Rattle.algebra.specs.Folds.{mate, woven, csc, cot, finish3, slant, twice-M, line3};
 ghost use Rattle.algebra.specs.Kinds.{Kind, Kind.alternating, slots, fold-forward, fold-back};
 ghost use Rattle.numbers.specs.Prime.{prime, IsModulus};
-ghost use Rattle.numbers.specs.Value.{field, conj, i, res, real, half, part, valueOf, pairOf};
+ghost use Rattle.numbers.specs.Value.{field, conj, i, res, real, half, part, pairOf};
 ghost use Rattle.slices.specs.Pairs.{Below};
 ghost use Rattle.slices.specs.Values.{valuesOf, listOf};
 ghost use Rattle.plain.specs.Factors.{Factored};

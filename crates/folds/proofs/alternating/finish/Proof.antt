@@ -1,7 +1,6 @@
 -- s results are there.
 use borrow.Author.Needs.{needs}
 use Prim.Native.Nat.{_-_}
-use native.Mathlib.Omega.{arith}
 use Rattle.algebra.specs.Folds.{finish3}
 use Rattle.numbers.specs.Value.{field, conj, i, res, real, half, pairOf}
 use Rattle.slices.specs.Pairs.{Filling}

@@ -1,6 +1,5 @@
 -- The pass before, the plain transform with the lent root, the pass after.
 use borrow.Author.Needs.{needs}
-use mathlib.Core.Path.{_∙_, ap}
 use Prim.Native.Nat.{_*_}
 use native.Mathlib.Omega.{arith}
 use Rattle.algebra.specs.Ring.{Ops}

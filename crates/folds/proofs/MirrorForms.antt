@@ -10,7 +10,7 @@ use Rattle.algebra.specs.Ring.{Ops, CRing, sum}
 use Rattle.algebra.specs.Residue.{residues}
 use Rattle.algebra.specs.Gauss.{gauss}
 use Rattle.algebra.specs.Line.{unfold4, unfold5}
-use Rattle.algebra.specs.Folds.{join, finish as finish-of}
+use Rattle.algebra.specs.Folds.{join, finish}
 use Rattle.algebra.specs.Kinds.{before}
 use Rattle.algebra.proofs.Laws.{along, neg-zero, neg-neg}
 use Rattle.algebra.proofs.Solver.{ring, quote, linear}
@@ -29,7 +29,7 @@ use Rattle.slices.specs.Values.{valuesOf}
 use Rattle.slices.proofs.Bounds.{small-at}
 use Rattle.slices.proofs.Rows.{row-end}
 use Rattle.folds.specs.Frame.{stride}
-use Rattle.folds.specs.Mirror.{mirrored, sigma, lineOf, finished}
+use Rattle.folds.specs.Mirror.{sigma, lineOf, finished}
 
 -- ---- the line
 
@@ -210,17 +210,17 @@ module _ (m tau first : ℕ) (y z : Value m) {r b d : Pair} (both : b ≡ pairOf
 module _ {R : Type 0} (𝓞 : Ops R) (half : R) (A : ℕ) (th : ℕ → R) (σ : R) (y : ℕ → R) (o : R) where
   open Ops 𝓞 using (add as _⊕_, neg as ⊖_)
 
-  pub finish-zero : finish-of 𝓞 half A th σ y o 0 ≡ y 0
-  unfolding finish-of
+  pub finish-zero : finish 𝓞 half A th σ y o 0 ≡ y 0
+  unfolding finish
   finish-zero = refl
 
-  pub finish-middle : (s : ℕ) → 0 < s → s ≡ A → finish-of 𝓞 half A th σ y o s ≡ 𝓞 .add (y 0) (𝓞 .neg (𝓞 .add o o))
-  unfolding finish-of
+  pub finish-middle : (s : ℕ) → 0 < s → s ≡ A → finish 𝓞 half A th σ y o s ≡ 𝓞 .add (y 0) (𝓞 .neg (𝓞 .add o o))
+  unfolding finish
   finish-middle zero q e = absurd (omega arith)
   finish-middle (suc s) q e = three-eq (suc s) A _ _ _ e
 
-  pub finish-between : (s : ℕ) → 0 < s → s < A → finish-of 𝓞 half A th σ y o s ≡ join 𝓞 half σ (th s) (y s) (y (A - s))
-  unfolding finish-of
+  pub finish-between : (s : ℕ) → 0 < s → s < A → finish 𝓞 half A th σ y o s ≡ join 𝓞 half σ (th s) (y s) (y (A - s))
+  unfolding finish
   finish-between zero q l = absurd (omega arith)
   finish-between (suc s) q l = three-lt (suc s) A _ _ _ l
 

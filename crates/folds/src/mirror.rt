@@ -1,10 +1,13 @@
 // Kinds 4 and 5: the symmetric and the antisymmetric line.
 //
-// Both are one piece of code, told apart by the place `first` of the first value that is stored: a symmetric line stores
-// the places 0 .. A, an antisymmetric one, which is zero at 0 and A, the places 1 .. A - 1.
-// With sigma = 1 or -1, so that X(-t) = sigma X(t), the fold is Y(t) = X(2 t) + X(2 t + 1), and the transform is
-// ((Y^(s) + sigma Y^(A - s)) + i tau (Y^(s) - sigma Y^(A - s)))/2, where tau is the half tangent of e(s/N): the even and the odd
-// places have transforms with mirror rules of their own, which tell them apart in Y^.
+// Both are one piece of code, told apart by the place `first` of the first value that is stored: 0 for a symmetric line, which stores
+// the places 0 .. A, and 1 for an antisymmetric one, which is zero at 0 and A and stores 1 .. A - 1. Let sigma be 1 or -1, so that
+// X(-t) = sigma X(t). No two values share a pair, before the transform or after it: the transform has the rule of its line.
+//
+// The fold is Y(t) = X(2 t) + X(2 t + 1). With E and O the short transforms of the even and the odd places, and e = e(s/N), the transform
+// is X^(s) = E(s) + e O(s), and that of the fold Y^ = E + O. The rule of the line says sigma E(A - s) = E(s) and
+// sigma O(A - s) = e^2 O(s), and the half tangent of e is tau with i tau = (e - 1)/(e + 1). So
+// (Y^(s) + sigma Y^(A - s)) + i tau (Y^(s) - sigma Y^(A - s)) = 2 E(s) + (1 + e^2) O(s) - (1 - e)^2 O(s) = 2 X^(s).
 use numbers::Accumulator;
 use numbers::Pair;
 ghost use mathlib.Core.Path.{_≡_};
@@ -23,7 +26,7 @@ ghost use Rattle.plain.specs.Factors.{Factored};
 ghost use Rattle.folds.specs.Frame.{stride, lineRoot, tangent, Frame, Tangents};
 ghost use Rattle.folds.specs.Mirror.{mirrored, sigma, stored, lineOf, finished};
 
-// The transform of a line. The short transform goes from `fold`, with the help of `work`, to `fold`.
+// The transform of a line, from the packed half to the packed half. It has no factor 1/N: what is promised holds for any `part`.
 pub fn forward<'a>(
     m: u32,
     re: &'a [u32; 2880],
@@ -47,8 +50,8 @@ pub fn forward<'a>(
     finish(m, tan, first, a, odds, fold, line);
 }
 
-// The inverse of length N = 2 A, with c = 1/N: the tables lent are those of the conjugate root, and the half tangents its, which are the
-// negated ones. So the root of the line is the conjugate of the lent one, and its half tangents are the lent ones negated.
+// The inverse of a line, c = 1/N: lent are the tables of the conjugate root and the half tangents of that, which are the negated ones.
+// So e(1/N) is the conjugate of the lent root's, and tau the lent half tangent negated.
 pub fn inverse<'a>(
     m: u32,
     re: &'a [u32; 2880],
@@ -219,11 +222,11 @@ fn finish_at(
     requires { ⌜ Below (prime m) (now fold) ⌝ }
     ensures { λ r. ⌜ r ≡ pairOf (finished m a first (now (tan .entry)) (now (fold .entry)) (valueOf m o) s) ⌝ }
 {
-    // At 0 each place counts once: the sum of the whole line, which is that of the fold.
+    // e = 1: the sum of the line, which is that of the fold.
     if s == 0 {
         return slices::get(fold, 0);
     }
-    // At A the odd places count negatively, so twice their sum goes off the same.
+    // e = -1: the odd places count negatively, so twice their sum goes off. No half tangent is there to tell it from Y^.
     if s == a {
         let odds = numbers::sum(m, o, o);
         return numbers::difference(m, slices::get(fold, 0), odds);
@@ -234,7 +237,8 @@ fn finish_at(
     joined(m, first, tau, y, z)
 }
 
-// The transform at a place s between 0 and A, from y and z at the places s and A - s of the short one.
+// The transform at a place s between 0 and A, from y and z at the places s and A - s of the short one: sigma tells which of their
+// sum and difference is turned.
 fn joined(m: u32, first: usize, tau: u32, y: Pair, z: Pair) -> Pair
     requires { ⌜ IsModulus m × (first ≤ 1) × (tau < prime m) × Small (prime m) y × Small (prime m) z ⌝ }
     ensures { λ r. ⌜ r ≡ pairOf (join (field m) (real m (half m)) (sigma (field m) first) (field m .mul (i m) (real m (res m tau))) (valueOf m y) (valueOf m z)) ⌝ }

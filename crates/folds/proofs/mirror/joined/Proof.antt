@@ -1,4 +1,5 @@
 -- `mirror::joined`: the sum and the difference change places with the sign of the line.
+use borrow.Author.Needs.{needs}
 use native.Mathlib.Omega.{arith}
 use Rattle.numbers.proofs.Values.{small-by}
 use Rattle.folds.proofs.MirrorForms.{joined-symmetric, joined-antisymmetric}
@@ -6,10 +7,10 @@ use Rattle.folds.proofs.mirror.joined.Statement.{statement}
 use Rattle.folds.proofs.mirror.joined.Tie as tie
 
 sum-requires : tie.Need-sum-requires
-sum-requires c κs = (c .pre .0, c .pre .3, c .pre .4)
+sum-requires c κs = search needs
 
 difference-requires : tie.Need-difference-requires
-difference-requires c κs = let s = c .before in (s .pre .0, s .pre .3, s .pre .4)
+difference-requires c κs = search needs
 
 turned-half-requires : tie.Need-turned-half-requires
 turned-half-requires c κs =

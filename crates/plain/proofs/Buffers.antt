@@ -1,39 +1,20 @@
--- Lists of values: reading back what was stored, and what a step leaves in the line and in the work slice.
-use mathlib.Core.Path.{_≡_, sym, _∙_, ap, subst}
+-- What a step leaves in the line and in the work slice.
+use mathlib.Core.Path.{_≡_, _∙_, ap, subst}
 use mathlib.Core.List.{List}
 use Prim.Native.Nat.{ℕ, _+_, _*_, _/_, _%_, _<_}
 use native.Mathlib.Nat as N
 use native.Mathlib.Omega.{arith}
-use lib.ListN.{length}
 use Rattle.algebra.specs.Ring.{Ops, CRing, pow}
 use Rattle.algebra.proofs.Sums.{sum-cong}
-use Rattle.numbers.specs.Prime.{prime}
-use Rattle.numbers.specs.Value.{Value, field, valueOf, pairOf}
-use Rattle.numbers.proofs.Primes.{prime-pos}
-use Rattle.numbers.proofs.Values.{field-ring, small-pair, value-pair, pair-value}
-use Rattle.slices.specs.Pairs.{Below}
-use Rattle.slices.proofs.Pairs.{at-tab, tab-cong, is-tab}
-use Rattle.slices.proofs.Bounds.{small-at, below-tab}
+use Rattle.numbers.specs.Value.{Value, field}
+use Rattle.numbers.proofs.Values.{field-ring}
 use Rattle.slices.proofs.Rows.{row-end}
+use Rattle.slices.proofs.Values.{values-list, list-cong}
 use Rattle.plain.specs.Steps.{e, innerSum, twiddled, outerSum}
 use Rattle.plain.specs.Factors.{Splits}
-use Rattle.plain.specs.Buffers.{valuesOf, listOf}
+use Rattle.slices.specs.Values.{valuesOf, listOf}
 use Rattle.plain.proofs.Sizes.{outer-pos}
 use Rattle.plain.proofs.Equation3.{equation-3}
-
-module _ (m n : ℕ) where
-  pub values-list : (f : ℕ → Value m) (j : ℕ) → j < n → valuesOf m (listOf n f) j ≡ f j
-  values-list f j h = ap (valueOf m) (at-tab (λ j. pairOf (f j)) n j h) ∙ value-pair m (f j)
-
-  pub below-list : (f : ℕ → Value m) → Below (prime m) (listOf n f)
-  below-list f = below-tab (prime m) n (λ j. pairOf (f j)) (prime-pos m) (λ j h. small-pair m (f j))
-
-  pub list-cong : (f g : ℕ → Value m) → ((j : ℕ) → j < n → f j ≡ g j) → listOf n f ≡ listOf n g
-  list-cong f g h = tab-cong n (λ j. pairOf (f j)) (λ j. pairOf (g j)) (λ j l. ap pairOf (h j l))
-
-  -- a list of residues is the list of its values
-  pub list-values : (l : List ℕ) → length l ≡ 2 * n → Below (prime m) l → l ≡ listOf n (valuesOf m l)
-  list-values l long below = is-tab n l (λ j. pairOf (valuesOf m l j)) long (λ j h. sym (pair-value m (small-at (prime m) l j below)))
 
 -- ---- the passes read places of the line alone
 

@@ -14,10 +14,12 @@ use Rattle.slices.specs.Pairs.{Below}
 use Rattle.slices.proofs.Pairs.{length-tab}
 use Rattle.plain.specs.Steps.{innerSum, twiddled}
 use Rattle.plain.specs.Factors.{Factored, Splits}
-use Rattle.plain.specs.Buffers.{valuesOf, listOf, WorkLeft, untouched, last-step}
+use Rattle.slices.specs.Values.{valuesOf, listOf}
+use Rattle.plain.specs.Buffers.{WorkLeft, untouched, last-step}
 use Rattle.plain.proofs.Equation3.{inner-start, inner-end}
 use Rattle.plain.proofs.Factoring.{next-factor, factored-none, next-splits}
-use Rattle.plain.proofs.Buffers.{list-values, list-cong, below-list, step-work}
+use Rattle.slices.proofs.Values.{list-values, list-cong, below-list}
+use Rattle.plain.proofs.Buffers.{step-work}
 
 -- The factors that are left have the product M, those that are done the product A: the line has the inner sums of length A of what came in.
 pub record Driving (m : ℕ) (W : Value m) (n left A M : ℕ) (line₀ work₀ line work : List ℕ) : Type 0 where

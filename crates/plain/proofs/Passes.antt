@@ -21,7 +21,7 @@ use Rattle.numbers.proofs.Values.{field-ring, small-pair, value-pair, pair-valu
 use Rattle.slices.specs.Pairs.{at}
 use Rattle.slices.proofs.Rows.{row-col}
 use Rattle.plain.specs.Steps.{e, twiddled, outerSum}
-use Rattle.plain.specs.Buffers.{valuesOf}
+use Rattle.slices.specs.Values.{valuesOf}
 
 -- ---- the two passes by rows
 

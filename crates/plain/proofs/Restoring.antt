@@ -15,9 +15,9 @@ use Rattle.numbers.proofs.Parts.{part-law}
 use Rattle.numbers.proofs.Roots.{root-of-unity}
 use Rattle.numbers.proofs.Values.{field-ring}
 use Rattle.slices.specs.Pairs.{Below}
-use Rattle.plain.specs.Buffers.{valuesOf, listOf}
+use Rattle.slices.specs.Values.{valuesOf, listOf}
 use Rattle.plain.proofs.Sizes.{quotient-pos}
-use Rattle.plain.proofs.Buffers.{values-list, list-cong, list-values}
+use Rattle.slices.proofs.Values.{values-list, list-cong, list-values}
 
 module _ (m n : ℕ) (is : IsModulus m) (divides : n * (2880 / n) ≡ 2880) where
   -- e(1/n), its conjugate and 1/n

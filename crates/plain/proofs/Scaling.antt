@@ -10,8 +10,8 @@ use Rattle.numbers.specs.Prime.{prime}
 use Rattle.numbers.specs.Value.{Value, field, res, real, part}
 use Rattle.numbers.proofs.Residues.{residue-above, res-val}
 use Rattle.numbers.proofs.Values.{field-ring}
-use Rattle.plain.specs.Buffers.{valuesOf, listOf}
-use Rattle.plain.proofs.Buffers.{values-list, list-cong}
+use Rattle.slices.specs.Values.{valuesOf, listOf}
+use Rattle.slices.proofs.Values.{values-list, list-cong}
 
 pub part-one : (m : ℕ) → real m (part m 1) ≡ field m .one
 unfolding part gauss residues

@@ -19,9 +19,10 @@ ghost use Rattle.numbers.specs.Value.{Value, field, res, part, real, valueOf, p
 ghost use Rattle.numbers.specs.Accumulator.{Accumulated};
 ghost use Rattle.numbers.specs.Root.{tableRoot, RootTable};
 ghost use Rattle.slices.specs.Pairs.{puts, Below};
+ghost use Rattle.slices.specs.Values.{valuesOf, listOf};
 ghost use Rattle.plain.specs.Steps.{innerSum, twiddled, outerSum};
 ghost use Rattle.plain.specs.Factors.{Factored, Splits};
-ghost use Rattle.plain.specs.Buffers.{valuesOf, listOf, WorkLeft};
+ghost use Rattle.plain.specs.Buffers.{WorkLeft};
 
 // The transform of the line, in its natural order.
 pub fn transform<'a>(

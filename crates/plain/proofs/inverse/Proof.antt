@@ -6,7 +6,7 @@ use borrow.Author.Needs.{needs}
 use Rattle.numbers.specs.Prime.{prime}
 use Rattle.slices.specs.Pairs.{Below}
 use Rattle.plain.proofs.Sizes.{divisor-pos, divisor-le}
-use Rattle.plain.proofs.Buffers.{below-list}
+use Rattle.slices.proofs.Values.{below-list}
 use Rattle.plain.proofs.Scaling.{scaled-list, unscaled-list}
 use Rattle.plain.proofs.inverse.Statement.{statement}
 use Rattle.plain.proofs.inverse.Tie as tie

@@ -8,7 +8,7 @@ use Rattle.numbers.specs.Root.{tableRoot}
 use Rattle.numbers.proofs.Values.{field-ring}
 use Rattle.slices.proofs.Rows.{row-end}
 use Rattle.plain.specs.Steps.{outerSum}
-use Rattle.plain.specs.Buffers.{valuesOf}
+use Rattle.slices.specs.Values.{valuesOf}
 use Rattle.plain.proofs.Sizes.{outer-pos, rows-le, stride-le, whole-le, outer-turn}
 use Rattle.plain.proofs.Passes.{outer-row}
 use Rattle.plain.proofs.Rowing.{Rowing, InRow, in-row, rowing-start, rowing-next, rowing-block, rowing-done}

@@ -9,7 +9,7 @@ use Rattle.numbers.specs.Value.{field, res, real, valueOf, pairOf}
 use Rattle.slices.specs.Pairs.{at, Filling}
 use Rattle.slices.proofs.Bounds.{small-of}
 use Rattle.slices.proofs.Filling.{filling-start, filling-next, filling-ahead, filling-whole}
-use Rattle.plain.specs.Buffers.{valuesOf}
+use Rattle.slices.specs.Values.{valuesOf}
 use Rattle.plain.proofs.scale.Statement.{statement}
 use Rattle.plain.proofs.scale.Tie as tie
 

@@ -3,7 +3,8 @@ use mathlib.Core.Path.{sym, subst}
 use borrow.Author.Needs.{needs}
 use Rattle.numbers.specs.Prime.{prime}
 use Rattle.slices.specs.Pairs.{Below}
-use Rattle.plain.proofs.Buffers.{below-list, step-line}
+use Rattle.slices.proofs.Values.{below-list}
+use Rattle.plain.proofs.Buffers.{step-line}
 use Rattle.plain.proofs.step.Statement.{statement}
 use Rattle.plain.proofs.step.Tie as tie
 

@@ -8,7 +8,7 @@ use Rattle.numbers.specs.Value.{field, pairOf}
 use Rattle.numbers.specs.Root.{tableRoot}
 use Rattle.numbers.proofs.Values.{field-ring}
 use Rattle.plain.specs.Steps.{twiddled}
-use Rattle.plain.specs.Buffers.{valuesOf}
+use Rattle.slices.specs.Values.{valuesOf}
 use Rattle.plain.proofs.Sizes.{product-le, product-pos, rows-le, twiddle-turn}
 use Rattle.plain.proofs.Passes.{twiddled-row}
 use Rattle.plain.proofs.Rowing.{Rowing, InRow, in-row, rowing-start, rowing-next, rowing-block, rowing-done}

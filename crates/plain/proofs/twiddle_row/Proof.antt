@@ -10,7 +10,7 @@ use Rattle.slices.specs.Pairs.{Filling}
 use Rattle.slices.proofs.Bounds.{small-of}
 use Rattle.slices.proofs.Rows.{row-end}
 use Rattle.slices.proofs.Filling.{filling-start, filling-next, filling-done}
-use Rattle.plain.specs.Buffers.{valuesOf}
+use Rattle.slices.specs.Values.{valuesOf}
 use Rattle.plain.proofs.twiddle_row.Statement.{statement}
 use Rattle.plain.proofs.twiddle_row.Tie as tie
 

@@ -1,13 +1,14 @@
 -- What the functions over all kinds cite: the facts of an admitted length N = 2 A as the folds and the plain transform ask for them, and each result as the transform.
 use mathlib.Core.Path.{_≡_, _∙_, sym, ap, subst}
-use mathlib.Core.List.{List}
+use mathlib.Core.List.{List, _++_}
 use Prim.Native.Nat.{ℕ, _+_, _*_, _/_, _≤_, _<_}
 use native.Mathlib.Omega.{arith}
-use lib.ListN.{length, take}
-use lib.Seq.{length-take-le}
+use lib.ListN.{length, take, drop}
+use lib.Seq.{length-take-le, drop-append-add, drop-drop}
 use Rattle.algebra.specs.Ring.{Ops, pow}
 use Rattle.algebra.specs.Fourier.{dft}
 use Rattle.algebra.specs.Kinds.{Kind, slots, fold-forward, fold-back}
+use Rattle.algebra.proofs.Laws.{along}
 use Rattle.numbers.specs.Prime.{IsModulus}
 use Rattle.numbers.specs.Value.{Value, field, conj, i, res, real, half, part}
 use Rattle.numbers.specs.Root.{tableRoot, RootTable}
@@ -15,6 +16,7 @@ use Rattle.numbers.proofs.Residues.{res-by}
 use Rattle.slices.specs.Values.{valuesOf, listOf}
 use Rattle.plain.specs.Factors.{Factored}
 use Rattle.folds.specs.Frame.{Frame, lineRoot, tangent}
+use Rattle.line.specs.Lengths.{scratchLength}
 use Rattle.line.specs.Line.{kindOf, pairCount, transformed}
 use Rattle.line.specs.Tables.{ForwardTables, BackwardTables}
 use Rattle.line.specs.Accepted.{AdmittedLength, FactorList}
@@ -23,6 +25,24 @@ use Rattle.line.proofs.Transforms.{half-length, forward-line, plain-lin
 -- the part of a slice that is lent on
 pub prefix-length : (n : ℕ) (l : List ℕ) → n ≤ length l → length (take n l) ≡ n
 prefix-length n l h = length-take-le n l h
+
+-- what follows it in a scratch: it is lent from the start, and comes back as long as it was
+pub rest-of : (p s : List ℕ) → scratchLength ≤ length s → length p ≡ length (take 5760 s) → drop scratchLength (p ++ drop 5760 s) ≡ drop scratchLength s
+rest-of p s h e = along (λ n. drop n (p ++ drop 5760 s)) scratchLength (length p + 5760) (omega (arith, prefix-length 5760 s (omega arith))) ∙ drop-append-add p (drop 5760 s) 5760 ∙ drop-drop 5760 5760 s
+
+-- N = 2 (N/2), as the code has it
+module _ {N : ℕ} (size : AdmittedLength N) where
+  pub whole-size : AdmittedLength (2 * (N / 2))
+  whole-size = subst AdmittedLength (sym (size .whole)) size
+
+  pub whole-list : {factors : ℕ} → FactorList N factors → FactorList (2 * (N / 2)) factors
+  whole-list {factors} l = subst (λ n. FactorList n factors) (sym (size .whole)) l
+
+  pub whole-count : (kind : ℕ) {n : ℕ} → n ≡ 2 * pairCount kind N → n ≡ 2 * pairCount kind (2 * (N / 2))
+  whole-count kind e = e ∙ ap (λ n. 2 * pairCount kind n) (sym (size .whole))
+
+  pub whole-result : (m kind direction d : ℕ) (line : List ℕ) {l : List ℕ} → direction ≡ d → l ≡ transformed m kind d (2 * (N / 2)) line → l ≡ transformed m kind direction N line
+  whole-result m kind direction d line e h = h ∙ ap (λ n. transformed m kind d n line) (size .whole) ∙ ap (λ d. transformed m kind d N line) (sym e)
 
 module _ (a : ℕ) (size : AdmittedLength (2 * a)) where
   pub half-positive : 0 < a

@@ -10,3 +10,4 @@ pub mod Transforms
 pub mod Reading
 pub mod Demands
 pub mod Dispatch
+pub mod Tables

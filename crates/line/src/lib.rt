@@ -2,6 +2,13 @@
 pub mod check; // check.rt: the refusals
 pub mod kinds; // kinds.rt: a line of any kind, both directions
 
+ghost use mathlib.Core.Path.{_≡_};
+ghost use lib.ListN.{length as lengthOf, drop};
+ghost use Rattle.numbers.specs.Prime.{prime, IsModulus};
+ghost use Rattle.line.specs.Refusals.{numberOf};
+ghost use Rattle.line.specs.Lengths.{scratchLength};
+ghost use Rattle.line.specs.Accepted.{Accepted};
+ghost use Rattle.line.specs.Line.{transformed, lineStep, lineOutcome};
 ghost use Rattle.line.specs.Specimens.{Specimens};
 ghost use Rattle.line.specs.Demands.{ForwardIsSum, BackIsSum, Restored, RestoredAfter};
 
@@ -42,6 +49,107 @@ pub enum Checked {
 pub enum LineAnswer {
     Transformed,
     Refused(Refusal),
+}
+
+// One line of structure factors, transformed in the lent line, or turned back. Direction 0 is forward, 1 the inverse.
+pub fn line(
+    kind: u32,
+    direction: u32,
+    length: u32,
+    factors: &[u8],
+    line: &mut [u32],
+    scratch: &mut [u32],
+) -> LineAnswer
+    ensures { λ r. ⌜ lineOutcome r (now (line .exit)) (now (scratch .exit)) ≡ lineStep 1 kind direction length (now (factors .entry)) (now (line .entry)) (now (scratch .entry)) ⌝ }
+{
+    let p = numbers::modulus(1);
+    let checked = check::check_line(
+        p,
+        kind,
+        direction,
+        length,
+        factors,
+        &line[..],
+        scratch.len(),
+    );
+    match checked {
+        Checked::Failed(refusal) => LineAnswer::Refused(refusal),
+        Checked::Sound => {
+            transform_line(
+                1,
+                kind,
+                direction,
+                length,
+                check::packed(factors),
+                line,
+                scratch,
+            );
+            slices::clear(scratch, 11520);
+            LineAnswer::Transformed
+        }
+    }
+}
+
+// The transform of an accepted line, in place. The tables are made once, and lent down; the folded line stands in the scratch's first
+// 5,760 numbers, and what it leaves there is not said.
+fn transform_line(
+    m: u32,
+    kind: u32,
+    direction: u32,
+    length: u32,
+    factors: u32,
+    line: &mut [u32],
+    scratch: &mut [u32],
+)
+    requires { ⌜ IsModulus m ⌝ }
+    requires { ⌜ Accepted (prime m) kind direction length factors (now line) (lengthOf (now scratch)) ⌝ }
+    ensures { λ _. ⌜ now (line .exit) ≡ transformed m kind direction length (now (line .entry)) ⌝ }
+    ensures { λ _. ⌜ drop scratchLength (now (scratch .exit)) ≡ drop scratchLength (now (scratch .entry)) ⌝ }
+{
+    let a = (length / 2) as usize;
+    let re = numbers::tables::real_parts(m);
+    let mut im = numbers::tables::imaginary_parts(m);
+    let mut tan = numbers::tables::half_tangents(m);
+    let mut work = [0u32; 5760];
+    let fold = &mut scratch[..5760];
+    if direction == 0 {
+        kinds::forward(m, kind, &re, &im, &tan, factors, a, line, fold, &mut work);
+    } else {
+        numbers::tables::negate(m, &mut im);
+        numbers::tables::negate(m, &mut tan);
+        kinds::inverse(m, kind, &re, &im, &tan, factors, a, line, fold, &mut work);
+    }
+}
+
+// The paper's number of a refusal.
+pub fn number_of(r: Refusal) -> u32
+    ensures { λ n. ⌜ n ≡ numberOf r ⌝ }
+{
+    match r {
+        Refusal::LineKind => 1,
+        Refusal::Direction => 2,
+        Refusal::Length => 3,
+        Refusal::Factor => 4,
+        Refusal::Product => 5,
+        Refusal::BufferLength => 6,
+        Refusal::NotResidue => 7,
+        Refusal::Group => 8,
+        Refusal::VolumeTooLarge => 9,
+        Refusal::Index => 10,
+        Refusal::ZeroValue => 11,
+        Refusal::Contradiction => 12,
+        Refusal::ScratchTooShort => 13,
+        Refusal::Inconsistent => 14,
+        Refusal::FileShape => 15,
+        Refusal::FileVersion => 16,
+        Refusal::NoRecords => 17,
+        Refusal::OutputTooShort => 18,
+        Refusal::NotCollecting => 21,
+        Refusal::NoMap => 22,
+        Refusal::NoFactors => 23,
+        Refusal::Occupied => 24,
+        Refusal::ImpossibleJob => 25,
+    }
 }
 
 // The paper's starred lines, computed from the definitions.

@@ -1,48 +1,3 @@
-# The frame of the public call `line`
-
-The call as it stands once `transform_line` is there: its code, its contract, and its proof. Every need of `line` below was
-checked against the contract of `transform_line` as written here; that contract is what the folds have to meet.
-
-## src/lib.rt
-
-```rust
-ghost use mathlib.Core.Path.{_≡_};
-ghost use lib.ListN.{length as lengthOf, drop};
-ghost use Rattle.numbers.specs.Prime.{prime, IsModulus};
-ghost use Rattle.line.specs.Lengths.{scratchLength};
-ghost use Rattle.line.specs.Accepted.{Accepted};
-ghost use Rattle.line.specs.Line.{transformed, lineStep, lineOutcome};
-ghost use Rattle.line.specs.Specimens.{Specimens};
-
-// The transform of an accepted line, in place. What it leaves in the scratch's first 11,520 numbers is not said.
-fn transform_line(m: u32, kind: u32, direction: u32, length: u32, factors: u32, line: &mut [u32], scratch: &mut [u32])
-    requires { ⌜ IsModulus m ⌝ }
-    requires { ⌜ Accepted (prime m) kind direction length factors (now line) (lengthOf (now scratch)) ⌝ }
-    ensures { λ _. ⌜ now (line .exit) ≡ transformed m kind direction length (now (line .entry)) ⌝ }
-    ensures { λ _. ⌜ drop scratchLength (now (scratch .exit)) ≡ drop scratchLength (now (scratch .entry)) ⌝ }
-{
-}
-
-// One line of structure factors, transformed in the lent line, or turned back.
-pub fn line(kind: u32, direction: u32, length: u32, factors: &[u8], line: &mut [u32], scratch: &mut [u32]) -> LineAnswer
-    ensures { λ r. ⌜ lineOutcome r (now (line .exit)) (now (scratch .exit)) ≡ lineStep 1 kind direction length (now (factors .entry)) (now (line .entry)) (now (scratch .entry)) ⌝ }
-{
-    let p = numbers::modulus(1);
-    let checked = check::check_line(p, kind, direction, length, factors, &line[..], scratch.len());
-    match checked {
-        Checked::Failed(refusal) => LineAnswer::Refused(refusal),
-        Checked::Sound => {
-            transform_line(1, kind, direction, length, check::packed(factors), line, scratch);
-            slices::clear(scratch, 11520);
-            LineAnswer::Transformed
-        }
-    }
-}
-```
-
-## proofs/line/Proof.antt
-
-```text
 -- `line`: what the check says is the number of the first test that holds; a refused call has touched nothing, an accepted one has its line transformed and its scratch cleared.
 use borrow.Author.Needs.{needs}
 use native.Mathlib.Omega.{arith}
@@ -62,13 +17,6 @@ use Rattle.line.proofs.Accepted.{accepted-factors, accepted-line}
 use Rattle.line.proofs.Outcome.{refused-outcome, transformed-outcome}
 use Rattle.line.proofs.line.Statement.{statement}
 use Rattle.line.proofs.line.Tie as tie
-use Rattle.line.proofs.line.Reads as reads
-use Rattle.line.proofs.line.Lts as lts
-use Rattle.line.proofs.check.check_line.Reads as check-line-reads
-use Rattle.line.proofs.check.packed.Reads as packed-reads
-use Rattle.line.proofs.transform_line.Reads as transform-line-reads
-use Rattle.numbers.proofs.modulus.Reads as modulus-reads
-use Rattle.slices.proofs.clear.Reads as clear-reads
 
 -- the check's number is the specification's
 told : (c : tie.After-check-line) → let a = c .before .before .before .before .before .before .args in
@@ -153,4 +101,3 @@ line-spec =
     same-length-2
     same-length-3
     returns-2)
-```

@@ -11,3 +11,4 @@ pub mod Reading
 pub mod Demands
 pub mod Dispatch
 pub mod Tables
+pub mod TakenBack

@@ -4,7 +4,7 @@
 use mathlib.Core.Path.{_≡_}
 use mathlib.Core.Bool.{true}
 use mathlib.Core.List.{List}
-use Prim.Native.Nat.{ℕ, _*_, _/_, _<_}
+use Prim.Native.Nat.{ℕ, _*_, _-_, _/_, _<_}
 use lib.ListN.{length}
 use Rattle.algebra.specs.Ring.{Ops, pow, sum}
 use Rattle.algebra.specs.Kinds.{before, after}
@@ -12,7 +12,7 @@ use Rattle.numbers.specs.Prime.{prime, IsModulus}
 use Rattle.numbers.specs.Value.{Value, field, conj, i, half, part, real}
 use Rattle.slices.specs.Pairs.{Below}
 use Rattle.line.specs.Lengths.{admitted}
-use Rattle.line.specs.Line.{kindOf, pairCount, rootOf, transform, transformed}
+use Rattle.line.specs.Line.{kindOf, pairCount, rootOf, transform, transformed, LineOutcome, lineStep}
 
 -- The whole line of a packed line X before the transform, and of one after it, by the kind's number.
 abbrev pub wholeBefore : (m kind N : ℕ) → (ℕ → Value m) → ℕ → Value m
@@ -40,3 +40,8 @@ pub record Restored : Type 0 where
 pub record RestoredAfter : Type 0 where
   pub restored : (m kind N : ℕ) (line : List ℕ) → IsModulus m → kind < 6 → admitted N ≡ true → length line ≡ 2 * pairCount kind N → Below (prime m) line →
       transformed m kind 0 N (transformed m kind 1 N line) ≡ line
+
+-- An accepted call is taken back by the same call in the other direction: that is accepted too, and leaves the line as it was.
+pub record TakenBack : Type 0 where
+  pub taken-back : (m kind direction N : ℕ) (factors line scratch : List ℕ) → IsModulus m → let o = lineStep m kind direction N factors line scratch in o .answer ≡ 0 →
+      lineStep m kind (1 - direction) N factors (o .line) (o .scratch) ≡ record { answer = 0; line = line; scratch = o .scratch }

@@ -44,17 +44,12 @@ transform m k (suc d) N X = back (field m) (conj m) (i m) (real m (half m)) (N /
 unfoldable pub transformed : (m kind direction N : ℕ) (line : List ℕ) → List ℕ
 transformed m kind direction N line = tab (pairCount kind N) (λ j. pairOf (transform m (kindOf kind) direction N (λ t. valueOf m (at line t)) j))
 
--- Line: 1, 2, 3, 4, 5, 6, 13, 7. The scratch counts by its length alone.
+-- Line: 1, 2, 3, 4, 5, 6, 13, 7: the numbers, the factor list, the line and the scratch, which counts by its length alone.
 abbrev pub lineTests : (p kind direction N : ℕ) (factors line : List ℕ) (scratch : ℕ) → List Test
 lineTests p kind direction N factors line scratch =
-    leb 6 kind ⇒ 1 ∷
-    leb 2 direction ⇒ 2 ∷
-    not (admitted N) ⇒ 3 ∷
-    not (factorsOk factors) ⇒ 4 ∷
-    not (eqb (product factors) (N / 2)) ⇒ 5 ∷
-    not (eqb (length line) (2 * pairCount kind N)) ⇒ 6 ∷
-    ltb scratch scratchLength ⇒ 13 ∷
-    not (allBelow p line) ⇒ 7 ∷
+    leb 6 kind ⇒ 1 ∷ leb 2 direction ⇒ 2 ∷ not (admitted N) ⇒ 3 ∷
+    not (factorsOk factors) ⇒ 4 ∷ not (eqb (product factors) (N / 2)) ⇒ 5 ∷
+    not (eqb (length line) (2 * pairCount kind N)) ⇒ 6 ∷ ltb scratch scratchLength ⇒ 13 ∷ not (allBelow p line) ⇒ 7 ∷
     []
 
 -- What a call answers, 0 or the refusal's number, and what it leaves in the line and in the scratch.

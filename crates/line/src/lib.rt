@@ -10,7 +10,7 @@ ghost use Rattle.line.specs.Lengths.{scratchLength};
 ghost use Rattle.line.specs.Accepted.{Accepted};
 ghost use Rattle.line.specs.Line.{transformed, lineStep, lineOutcome};
 ghost use Rattle.line.specs.Specimens.{Specimens};
-ghost use Rattle.line.specs.Demands.{ForwardIsSum, BackIsSum, Restored, RestoredAfter};
+ghost use Rattle.line.specs.Demands.{ForwardIsSum, BackIsSum, Restored, RestoredAfter, TakenBack};
 
 // Why a call is turned back: one case for each number of the paper.
 pub enum Refusal {
@@ -162,7 +162,7 @@ pub fn direct_sums()
     ensures { λ _. ⌜ ForwardIsSum × BackIsSum ⌝ }
 {}
 
-// .. and each direction restores what the other was lent.
+// .. and each direction restores what the other was lent, call after call.
 pub fn restored()
-    ensures { λ _. ⌜ Restored × RestoredAfter ⌝ }
+    ensures { λ _. ⌜ Restored × RestoredAfter × TakenBack ⌝ }
 {}

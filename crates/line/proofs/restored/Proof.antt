@@ -1,10 +1,11 @@
--- `restored`: the theorems of proofs/Demands.
+-- `restored`: the theorems of proofs/Demands and proofs/TakenBack.
 use Rattle.line.proofs.Demands.{restored, restored-after}
+use Rattle.line.proofs.TakenBack.{taken-back}
 use Rattle.line.proofs.restored.Statement.{statement}
 use Rattle.line.proofs.restored.Tie as tie
 
 returns : tie.Need-returns
-returns c = (restored, restored-after)
+returns c = (restored, restored-after, taken-back)
 
 pub restored-spec : {M : Type 1} → statement M
 restored-spec = tie.close (tie.spec returns)

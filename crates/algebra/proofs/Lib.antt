@@ -1,4 +1,7 @@
 -- The theory.
+pub mod Paths
+pub mod Bool
+pub mod Members
 pub mod Laws
 pub mod Solver
 pub mod Sums

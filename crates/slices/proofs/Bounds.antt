@@ -8,12 +8,13 @@ use native.Mathlib.Nat.{eq-or-lt-of-le}
 use native.Mathlib.Numerals.{add-one}
 use native.Mathlib.Omega.{arith}
 use lib.Dec.{ltb}
-use lib.ListN.{length, getD, set, drop, drop-of-length-le, List·getD-eq-default}
-use lib.Seq.{getD-set-same, getD-set-other, set-out, drop-cons}
+use lib.ListN.{length, getD, set, take, drop, replicate, length-take, length-replicate, getD-replicate, drop-of-length-le, List·getD-eq-default, List·getD-append}
+use lib.Seq.{getD-set-same, getD-set-other, set-out, drop-cons, getD-take, getD-drop, getD-append-add}
 use borrow.Author.Tests.{lt-ltb, le-ltb, ltb-true}
 use Rattle.numbers.specs.declared.Pair.{Pair}
 use Rattle.numbers.specs.Value.{Small}
 use Rattle.slices.specs.Pairs.{at, put, puts, fills, tab, Below, allBelow}
+use Rattle.slices.specs.Segments.{segment, setSegment}
 use Rattle.slices.proofs.Pairs.{lt-or-ge, eq-or-ne, by-pairs, length-tab, at-tab}
 
 pub small-at : (m : ℕ) (l : List ℕ) (j : ℕ) → Below m l → Small m (at l j)
@@ -61,6 +62,36 @@ pub below-puts : {m : ℕ} {d : List ℕ} (p : ℕ → ℕ) (f : ℕ → Pair) (
 unfolding puts
 below-puts p f zero h s = h
 below-puts p f (suc n) h s = below-put (p n) (below-puts p f n h (λ j l. s j (omega arith))) (s n (omega arith))
+
+-- ---- parts of a list of small numbers are such lists, and lists made of such
+
+positive : {m : ℕ} {l : List ℕ} → Below m l → 0 < m
+positive h = omega (arith, h .each 0)
+
+pub below-take : {m : ℕ} {l : List ℕ} (n : ℕ) → Below m l → Below m (take n l)
+below-take {m} {l} n h = below-each m (take n l) (positive h) (λ k lt. rw (getD-take n l k 0 (omega (arith, length-take n l))) (h .each k))
+
+pub below-drop : {m : ℕ} {l : List ℕ} (n : ℕ) → Below m l → Below m (drop n l)
+below-drop {m} {l} n h = record { each = λ k. rw (getD-drop n l k 0) (h .each (n + k)) }
+
+pub below-append : {m : ℕ} {s t : List ℕ} → Below m s → Below m t → Below m (s ++ t)
+below-append {m} {s} {t} h k = record {
+  each = λ i. ⊎-elim
+      (λ (lt : i < length s). rw (List·getD-append s t 0 i lt) (h .each i))
+      (λ (ge : length s ≤ i).
+      let e : length s + (i - length s) ≡ i = omega arith in
+      subst (λ (x : ℕ). getD (s ++ t) x 0 < m) e (rw (getD-append-add s t (i - length s) 0) (k .each (i - length s))))
+      (lt-or-ge i (length s));
+}
+
+pub below-replicate : {m : ℕ} (n v : ℕ) → v < m → Below m (replicate n v)
+below-replicate {m} n v h = below-each m (replicate n v) (omega arith) (λ k lt. rw (getD-replicate n k v 0 (omega (arith, length-replicate {A = ℕ} n v))) h)
+
+pub below-segment : {m : ℕ} {l : List ℕ} (a e : ℕ) → Below m l → Below m (segment a e l)
+below-segment a e h = below-take (e - a) (below-drop a h)
+
+pub below-setSegment : {m : ℕ} {l ys : List ℕ} (a e : ℕ) → Below m l → Below m ys → Below m (setSegment a e l ys)
+below-setSegment a e h k = below-append (below-take a h) (below-append k (below-drop (e - a) (below-drop a h)))
 
 -- ---- the test
 

@@ -2,5 +2,8 @@ pub mod Pairs
 pub mod Bounds
 pub mod Filling
 pub mod Rows
+pub mod Segments
 pub mod Sets
 pub mod Values
+pub mod Sweep
+pub mod Layouts

@@ -37,6 +37,15 @@ ext-at n a b ea eb h = ext-getD 0 a b (omega arith) (λ i l. by-pairs
     (λ j lj. ap (λ (q : Pair). q .im) (h j lj))
     i (omega arith))
 
+-- the same of two lists of any one length, by all pairs, those past the end too
+pub ext-pairs : (a b : List ℕ) → length a ≡ length b → ((k : ℕ) → at a k ≡ at b k) → a ≡ b
+unfolding at
+ext-pairs a b e h = ext-getD 0 a b e (λ i l. by-pairs
+    (λ k. getD a k 0 ≡ getD b k 0) (length a)
+    (λ j lj. ap (λ (q : Pair). q .re) (h j))
+    (λ j lj. ap (λ (q : Pair). q .im) (h j))
+    i (omega arith))
+
 -- ---- one store
 
 pub length-put : (l : List ℕ) (j : ℕ) (v : Pair) → length (put l j v) ≡ length l

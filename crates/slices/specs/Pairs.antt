@@ -10,6 +10,9 @@ use lib.ListN.{length, getD, set, replicate}
 use lib.Dec.{ltb}
 use Rattle.numbers.specs.declared.Pair.{Pair}
 
+abbrev pub zeroPair : Pair
+zeroPair = record { re = 0; im = 0 }
+
 -- the pair at place j
 unfoldable pub at : List ℕ → ℕ → Pair
 at l j = record { re = getD l (2 * j) 0; im = getD l (2 * j + 1) 0 }

@@ -1,0 +1,1 @@
+// Cells of structure factors and maps.

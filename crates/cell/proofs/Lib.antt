@@ -1,1 +1,2 @@
 pub mod VolumeLayout
+pub mod OperationLaws

@@ -1,1 +1,2 @@
 // Cells of structure factors and maps.
+pub mod operations; // operations.rt: the groups' operations, the images of an index and of a point, implied values

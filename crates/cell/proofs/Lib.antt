@@ -1,2 +1,3 @@
 pub mod VolumeLayout
 pub mod OperationLaws
+pub mod PlaceLaws

@@ -2,3 +2,4 @@ pub mod Volume
 pub mod Consistency
 pub mod Sums
 pub mod Operations
+pub mod Places

@@ -115,7 +115,7 @@ pub fn operation_at(group: u32, number: u32) -> Operation
 }
 
 // h or -h on an axis of n, going round.
-fn flipped(minus: bool, n: u32, h: u32) -> u32
+pub fn flipped(minus: bool, n: u32, h: u32) -> u32
     requires { ⌜ Length n × (h < n) ⌝ }
     ensures { λ r. ⌜ (r ≡ flip minus (n / 2) h) × (r < n) ⌝ }
 {

@@ -1,1 +1,3 @@
 pub mod VolumeLayout
+pub mod LineReading
+pub mod Reading

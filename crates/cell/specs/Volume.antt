@@ -18,6 +18,14 @@ use Rattle.slices.specs.Values.{valuesOf}
 abbrev pub groupOf : ℕ → Group
 groupOf n = getD (P1 ∷ P2₁ ∷ Pm ∷ Pa ∷ []) n P1
 
+-- the groups among them
+abbrev pub Admitted : Group → Type 0
+Admitted P1 = Unit {0}
+Admitted P2₁ = Unit {0}
+Admitted Pm = Unit {0}
+Admitted Pa = Unit {0}
+Admitted P2₁2₁2₁ = ⊥
+
 -- The kind of the line along l at h. (P2₁2₁2₁ is in the theory and admitted by no call: `groupOf` never gives it, and its clauses here are to be completed when it is.)
 abbrev pub lineKind : Group → ℕ → Kind
 lineKind P1 h = plain

@@ -19,11 +19,9 @@ use Rattle.algebra.proofs.Bool.{split}
 use Rattle.algebra.proofs.Laws.{along}
 use Rattle.algebra.proofs.Solver.{ring, quote}
 use Rattle.algebra.proofs.FoldPack.{unfold-zero, unfold-low, unfold-middle, unfold-high}
-use Rattle.numbers.specs.Prime.{prime}
 use Rattle.numbers.specs.Value.{Value, field, i, half, real, value}
 use Rattle.numbers.specs.Value as Value
 use Rattle.numbers.proofs.Residues.{res-ring}
-use Rattle.numbers.proofs.Values.{field-ring}
 use Rattle.numbers.proofs.Parts.{re-value, im-value}
 use Rattle.cell.specs.Volume.{firstPair, packed}
 use Rattle.algebra.specs.Cell.{J, Group}

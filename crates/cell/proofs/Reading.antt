@@ -2,17 +2,17 @@
 -- and the packed factors of a cell that obeys group and Friedel are read back as that cell.
 use mathlib.Core.Path.{_≡_, refl, sym, _∙_, ap, ap₂, subst}
 use mathlib.Core.Logic.{_↔_}
-use mathlib.Core.Bool.{Bool, true, false, _&&_, cond}
+use mathlib.Core.Bool.{Bool, true, false, cond}
 use mathlib.Core.List.{List}
 use Prim.Native.Nat.{ℕ, suc, _+_, _*_, _-_, _<_, _≤_}
 use native.Mathlib.Omega.{arith}
-use lib.Dec.{T, eqb, eqb→eq, eqb-refl, leb, ltb, ltb→lt, nltb→le}
+use lib.Dec.{T, eqb, eqb→eq, eqb-refl, leb, ltb, nltb→le}
 use lib.ListN.{length}
-use Rattle.algebra.specs.Ring.{Ops, pow}
+use Rattle.algebra.specs.Ring.{pow}
 use Rattle.algebra.specs.Gauss.{gauss}
 use Rattle.algebra.specs.Residue.{residues}
 use Rattle.algebra.specs.Orbit.{cellOf}
-use Rattle.algebra.specs.Kinds.{Kind, Kind.symmetric, Kind.antisymmetric}
+use Rattle.algebra.specs.Kinds.{Kind.symmetric, Kind.antisymmetric}
 use Rattle.algebra.specs.Cell.{J, Inside, Group, P1, P2₁, Pm, Pa, P2₁2₁2₁, one, friedel, _·_, lineSym, lineRep, rep, span, negI, im, flip, imp, sgn, star, planes, full, Stored, Cell, factorActs}
 use Rattle.algebra.specs.Cell as Cell
 use Rattle.algebra.specs.CellSteps.{Lawful}

@@ -1,3 +1,5 @@
 pub mod VolumeLayout
 pub mod LineReading
 pub mod Reading
+pub mod Consistency
+pub mod Maps

@@ -1,20 +1,22 @@
 -- Records, and the tests behind refusals 12, 14 and 24.
 -- A record at j implies a value at each image of j under the group with Friedel's rule (`full g`); an image is written where it is stored.
-use mathlib.Core.Bool.{Bool, true, false, _&&_, not, cond}
+use mathlib.Core.Path.{_≡_}
+use mathlib.Core.Bool.{Bool, true, _&&_, not, cond}
 use mathlib.Core.List.{List, [], _∷_, _++_}
-use Prim.Native.Nat.{ℕ, suc, _+_, _*_}
+use Prim.Native.Nat.{ℕ, _+_, _*_}
 use lib.ListN.{getD, set}
-use lib.Dec.{ltb, leb, eqb}
+use lib.Dec.{eqb}
 use Rattle.algebra.specs.Residue.{Res}
-use Rattle.algebra.specs.Cell.{J, Sym, Group, P1, P2₁, Pm, Pa, P2₁2₁2₁, Cell, full, ops, im, pim, imp, factorActs}
+use Rattle.algebra.specs.Cell.{J, Inside, Sym, Group, P1, P2₁, Pm, Pa, P2₁2₁2₁, Cell, full, ops, im, pim, imp, factorActs, MapObeys}
 use Rattle.algebra.specs.Cell as Cell
-use Rattle.algebra.specs.Orbit.{recorded}
+use Rattle.algebra.specs.CellSteps.{Lawful}
+use Rattle.algebra.specs.Orbit.{Mem, recorded}
 use Rattle.algebra.specs.CellTests.{every, inBox, imply, storedT, heldT, consistentT}
 use Rattle.algebra.specs.CellPack.{even}
 use Rattle.numbers.specs.declared.Pair.{Pair}
-use Rattle.numbers.specs.Value.{Value, field, conj, value, pairOf}
+use Rattle.numbers.specs.Value.{Value, field, conj, real, pairOf}
 use Rattle.slices.specs.Pairs.{at, put}
-use Rattle.cell.specs.Volume.{lineKind, layers, rows, columns, pairPlace, mapPlace, numbersRead, lineIn}
+use Rattle.cell.specs.Volume.{layers, rows, columns, pairPlace, mapPlace, numbersRead, lineIn, packFactors, packMap}
 
 -- two values have the same numbers
 abbrev pub sameValue : {p : ℕ} → Res p × Res p → Res p × Res p → Bool
@@ -94,3 +96,17 @@ module _ (g : Group) (a : J) where
 
   unfoldable pub consistentMap : List ℕ → Bool
   consistentMap v = inBox (rows g a) (2 * a .1) (layers g a) (pointAgrees v) && inBox (rows g a) 1 (layers g a) (λ x. rowEnds v (x .2) (x .0))
+
+  -- What the two tests decide, in 01's words: some whole cell that obeys group and Friedel has these packed factors; some cell of real values that obeys the group has this map with its zeros.
+  module _ (m : ℕ) where
+    abbrev pub FactorsConsistent : List ℕ → Type 0
+    FactorsConsistent v = (F : Cell (Value m)) × Lawful (field m) (conj m) a g F × (packFactors g a m F ≡ v)
+
+    abbrev pub RealMap : Cell (Value m) → Type 0
+    RealMap M = (x : J) → Inside a x → Cell.at M x ≡ real m ((Cell.at M x) .0)
+
+    abbrev pub ObeysGroup : Cell (Value m) → Type 0
+    ObeysGroup M = (s : Sym) → Mem s (ops g) → MapObeys (conj m) a s M
+
+    abbrev pub MapConsistent : List ℕ → Type 0
+    MapConsistent v = (M : Cell (Value m)) × RealMap M × ObeysGroup M × (packMap g a m M ≡ v)

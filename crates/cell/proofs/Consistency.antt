@@ -5,7 +5,7 @@ use mathlib.Core.Bool.{Bool, true, false, not, cond}
 use mathlib.Core.List.{List}
 use Prim.Native.Nat.{ℕ, _*_, _<_}
 use native.Mathlib.Omega.{arith}
-use lib.Dec.{T, eqb, eqb→eq, eqb-refl}
+use lib.Dec.{T, eqb, eqb→eq}
 use lib.ListN.{length, getD}
 use Rattle.algebra.specs.Gauss.{gauss}
 use Rattle.algebra.specs.Residue.{residues}
@@ -14,9 +14,8 @@ use Rattle.algebra.specs.Cell.{J, Inside, Group, P1, P2₁, Pm, Pa, P2₁2₁2�
 use Rattle.algebra.specs.Cell as Cell
 use Rattle.algebra.specs.CellSteps.{Lawful}
 use Rattle.algebra.specs.CellPack.{even, HasBox}
-use Rattle.algebra.specs.CellTests.{below, inBox, wholeT}
-use Rattle.algebra.proofs.Bool.{and-l, and-r, and-i, imply-iff, below-by}
-use Rattle.algebra.proofs.Bool as Bool
+use Rattle.algebra.specs.CellTests.{wholeT}
+use Rattle.algebra.proofs.Bool.{and-l, and-r, and-i, imply-iff}
 use Rattle.algebra.proofs.CellSym.{im-inside}
 use Rattle.algebra.proofs.CellBox.{Long, box-test}
 use Rattle.algebra.proofs.CellPack.{pack-iff}
@@ -31,22 +30,9 @@ use Rattle.slices.specs.Pairs.{at, Below}
 use Rattle.slices.proofs.Bounds.{small-at}
 use Rattle.cell.specs.Volume.{Admitted, firstPair, pairPlace, rows, columns, volumeLength, factorsIn, packFactors}
 use Rattle.cell.specs.Consistency.{sameValue, zeroPair, zeroEnds, consistentFactors, FactorsConsistent}
+use Rattle.cell.proofs.Tests.{true-iff, eq→eqb, in-box-at, in-box-by}
 use Rattle.cell.proofs.VolumeLayout.{is-volume}
 use Rattle.cell.proofs.Reading.{same-iff, pairsIn, lineAt, EmptyEnds, stored-unpacked, empty-ends, packed-box, has-box, read-packed, length-factors, below-factors}
-
--- ---- tests
-
-pub true-iff : (b : Bool) → (b ≡ true) ↔ T b
-true-iff true = (λ e. tt, λ t. refl)
-true-iff false = (λ e. subst T (sym e) tt, λ t. absurd t)
-
-pub in-box-at : (n m q : ℕ) (P : J → Bool) (j : J) → T (inBox n m q P) → j .0 < n → j .1 < m → j .2 < q → T (P j)
-unfolding inBox
-in-box-at n m q P j t h k l = Bool.below-at q (λ l. P (j .0, j .1, l)) (j .2) (Bool.below-at m (λ k. below q (λ l. P (j .0, k, l))) (j .1) (Bool.below-at n (λ h. below m (λ k. below q (λ l. P (h, k, l)))) (j .0) t h) k) l
-
-pub in-box-by : (n m q : ℕ) (P : J → Bool) → ((j : J) → j .0 < n → j .1 < m → j .2 < q → T (P j)) → T (inBox n m q P)
-unfolding inBox
-in-box-by n m q P f = below-by n _ (λ h hn. below-by m _ (λ k km. below-by q _ (λ l lq. f (h, k, l) hn km lq)))
 
 -- ---- a pair of small numbers stands for zero exactly if both are zero
 
@@ -62,11 +48,8 @@ module _ (a : J) (m : ℕ) (v : List ℕ) (small : Below (prime m) v) where
   unfolding zeroPair at
   zero-pair-test g w h k = let z = zero-pair m (small-at (prime m) v (pairPlace g a w h k) small) in (
     λ t. z .1 (eqb→eq _ _ (and-l (eqb (getD v (2 * pairPlace g a w h k) 0) 0) _ t), eqb→eq _ _ (and-r (eqb (getD v (2 * pairPlace g a w h k) 0) 0) _ t)),
-    λ e. and-i (eqb (getD v (2 * pairPlace g a w h k) 0) 0) _ (zero-test _ (z .0 e .0)) (zero-test _ (z .0 e .1)),
+    λ e. and-i (eqb (getD v (2 * pairPlace g a w h k) 0) 0) _ (eq→eqb (z .0 e .0)) (eq→eqb (z .0 e .1)),
   )
-    where
-      zero-test : (x : ℕ) → x ≡ 0 → T (eqb x 0)
-      zero-test x e = subst (λ y. T (eqb y 0)) (sym e) (eqb-refl 0)
 
   mirror-ends : (b : Bool) → T (not b) ↔ (cond b symmetric antisymmetric ≡ antisymmetric)
   mirror-ends true = (λ t. absurd t, λ e. absurd (omega (arith, ap firstPair e)))

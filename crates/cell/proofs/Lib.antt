@@ -1,3 +1,4 @@
+pub mod Tests
 pub mod VolumeLayout
 pub mod LineReading
 pub mod Reading

@@ -6,7 +6,7 @@ use mathlib.Core.Bool.{Bool, true, false, not}
 use mathlib.Core.List.{List}
 use Prim.Native.Nat.{ℕ, _+_, _*_, _<_}
 use native.Mathlib.Omega.{arith}
-use lib.Dec.{T, eqb, eqb→eq, eqb-refl, lt→ltb, ltb→lt}
+use lib.Dec.{T, eqb, eqb→eq, lt→ltb, ltb→lt}
 use lib.ListN.{length, getD}
 use borrow.Author.Tests.{lt-ltb}
 use Rattle.algebra.specs.Orbit.{Mem, Whole, cellOf}
@@ -26,7 +26,7 @@ use Rattle.slices.specs.Pairs.{Below}
 use Rattle.cell.specs.Volume.{rows, layers, volumeLength, mapPlace, packMap, mapIn}
 use Rattle.cell.specs.Consistency.{pointAgrees, rowEnds, consistentMap, RealMap, ObeysGroup, MapConsistent}
 use Rattle.cell.proofs.VolumeLayout.{map-number, map-end, is-map}
-use Rattle.cell.proofs.Consistency.{true-iff, in-box-at, in-box-by}
+use Rattle.cell.proofs.Tests.{true-iff, eq→eqb, in-box-at, in-box-by}
 
 -- the group's own operations do not conjugate
 abbrev plainT : Sym → Bool
@@ -117,12 +117,9 @@ module _ (g : Group) (a : J) (long : Long a) (m : ℕ) where
   unfolding consistentMap
   map-passes M o =
       and-i (inBox (rows g a) (2 * a .1) (layers g a) (pointAgrees g a (packMap g a m M))) _
-      (in-box-by _ _ _ _ (λ x lx ly lz. every-by (ops g) _ (λ s ms. imply-iff (heldT g a (pim a s x)) _ .1 (λ t. same-test _ _ (same s ms x (lx, ly, layers-fit g a (long .2) (x .2) lz) lz (ltb→lt _ _ t))))))
-      (in-box-by _ _ _ _ (λ x lx ly lz. let e = map-end g a m M (x .0) (x .2) lx lz in and-i (eqb (getD (packMap g a m M) (mapPlace g a (x .0, 2 * a .1, x .2)) 0) 0) _ (same-test _ _ (e .0)) (same-test _ _ (e .1))))
+      (in-box-by _ _ _ _ (λ x lx ly lz. every-by (ops g) _ (λ s ms. imply-iff (heldT g a (pim a s x)) _ .1 (λ t. eq→eqb (same s ms x (lx, ly, layers-fit g a (long .2) (x .2) lz) lz (ltb→lt _ _ t))))))
+      (in-box-by _ _ _ _ (λ x lx ly lz. let e = map-end g a m M (x .0) (x .2) lx lz in and-i (eqb (getD (packMap g a m M) (mapPlace g a (x .0, 2 * a .1, x .2)) 0) 0) _ (eq→eqb (e .0)) (eq→eqb (e .1))))
     where
-      same-test : (x y : ℕ) → x ≡ y → T (eqb x y)
-      same-test x y e = subst (λ z. T (eqb x z)) e (eqb-refl x)
-
       number : (x : J) → Inside a x → Held g a x → getD (packMap g a m M) (mapPlace g a x) 0 ≡ (Cell.at M x) .0 .val
       number x n h = map-number g a m M (x .0) (x .1) (x .2) (n .0) (n .1) h
 

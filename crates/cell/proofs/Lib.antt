@@ -4,3 +4,5 @@ pub mod LineReading
 pub mod Reading
 pub mod Consistency
 pub mod Maps
+pub mod Writing
+pub mod Records

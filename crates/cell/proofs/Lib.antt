@@ -6,3 +6,4 @@ pub mod Consistency
 pub mod Maps
 pub mod Writing
 pub mod Records
+pub mod OrbitNumbers

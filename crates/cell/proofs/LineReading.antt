@@ -76,22 +76,33 @@ module _ (m c : ℕ) where
   unfolding before
   read-plain q l = along q (0 + l) l (omega arith)
 
-  pub read-alternating : 0 < c → (q : ℕ → Value m) (l : ℕ) → l < suc c → readLine alternating q l ≡ unpackAlt (Value.ring m) c q l
-  unfolding before unpackAlt residues
-  read-alternating pos q zero h = unfold-zero c _ _ _ (λ w. q (0 + w)) ∙ re-value m (q 0)
-  read-alternating pos q (suc l) h = split (eqb (suc l) c)
-      (λ b. readLine alternating q (suc l) ≡ cond b (ofPart (Value.ring m) (even c) ((q 0) .1)) (q (suc l)))
-      (λ t. ap (readLine alternating q) (eqb→eq (suc l) c t) ∙ middle)
-      (λ t. unfold-low c _ _ _ (λ w. q (0 + w)) (suc l) (omega arith) (below (λ e. T-not (eqb (suc l) c) t (subst (λ y. T (eqb (suc l) y)) e (eqb-refl (suc l))))) ∙ along q (0 + suc l) (suc l) (omega arith))
-    where
-      below : (suc l ≡ c → ⊥) → suc l < c
-      below e = omega arith
+  -- an alternating line: its first value is the first number of pair 0, its middle one the second number, times 1 or i
+  module _ (q : ℕ → Value m) where
+    pub alternating-first : readLine alternating q 0 ≡ ((q 0) .0, Value.ring m .zer)
+    unfolding before residues
+    alternating-first = unfold-zero c _ _ _ (λ w. q (0 + w)) ∙ re-value m (q 0)
 
-      middle : readLine alternating q c ≡ ofPart (Value.ring m) (even c) ((q 0) .1)
-      middle =
-          unfold-middle c _ _ _ (λ w. q (0 + w)) pos
-          ∙ ap₂ (field m .mul) (unit-is (res-ring m) (real m (half m)) c c) (im-value m (q 0))
-          ∙ unit-part (res-ring m) (even c) ((q 0) .1)
+    pub alternating-middle : 0 < c → readLine alternating q c ≡ ofPart (Value.ring m) (even c) ((q 0) .1)
+    unfolding before residues
+    alternating-middle pos =
+        unfold-middle c _ _ _ (λ w. q (0 + w)) pos
+        ∙ ap₂ (field m .mul) (unit-is (res-ring m) (real m (half m)) c c) (im-value m (q 0))
+        ∙ unit-part (res-ring m) (even c) ((q 0) .1)
+
+    pub alternating-low : (l : ℕ) → 0 < l → l < c → readLine alternating q l ≡ q l
+    unfolding before
+    alternating-low l p h = unfold-low c _ _ _ (λ w. q (0 + w)) l p h ∙ along q (0 + l) l (omega arith)
+
+    pub read-alternating : 0 < c → (l : ℕ) → l < suc c → readLine alternating q l ≡ unpackAlt (Value.ring m) c q l
+    unfolding unpackAlt
+    read-alternating pos zero h = alternating-first
+    read-alternating pos (suc l) h = split (eqb (suc l) c)
+        (λ b. readLine alternating q (suc l) ≡ cond b (ofPart (Value.ring m) (even c) ((q 0) .1)) (q (suc l)))
+        (λ t. ap (readLine alternating q) (eqb→eq (suc l) c t) ∙ alternating-middle pos)
+        (λ t. alternating-low (suc l) (omega arith) (below (λ e. T-not (eqb (suc l) c) t (subst (λ y. T (eqb (suc l) y)) e (eqb-refl (suc l))))))
+      where
+        below : (suc l ≡ c → ⊥) → suc l < c
+        below e = omega arith
 
   pub read-symmetric : 0 < c → (q : ℕ → Value m) (l : ℕ) → l < suc c → readLine symmetric q l ≡ q l
   unfolding before

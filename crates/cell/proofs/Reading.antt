@@ -66,7 +66,7 @@ module _ (m : ℕ) (j : J) (x : Value m) where
   unfolding imp sgn star
   implied-Pa = ap₂ (field m .mul) (pow-even (res-ring m) (j .0)) (field-ring m .one-mul _ ∙ field-ring m .one-mul _)
 
-  implied-friedel : imp (field m) (conj m) friedel j x ≡ conj m x
+  pub implied-friedel : imp (field m) (conj m) friedel j x ≡ conj m x
   unfolding sgn star
   implied-friedel = S.imp-out (field-ring m) (field-star m) true true true true false false false j x ∙ field-ring m .one-mul _ ∙ field-ring m .one-mul _ ∙ field-ring m .one-mul _
 
@@ -100,7 +100,7 @@ module _ (g : Group) (a : J) (m : ℕ) (v : List ℕ) where
 pub line-stored : (g : Group) → Admitted g → (a : J) → 0 < a .2 → (m : ℕ) (v : List ℕ) (h k : ℕ) → EmptyEnds g a m v h k → (l : ℕ) → l < span g (a .2) → lineIn g a m v h k l ≡ unpack (ring m) g a (pairsIn g a m v) (h, k, l)
 unfolding lineIn unpack span
 line-stored P1 ok a pos m v h k e l s = read-plain m (a .2) (λ w. pairsIn P1 a m v w h k) l
-line-stored P2₁ ok a pos m v h k e l s = read-alternating m (a .2) pos (λ w. pairsIn P2₁ a m v w h k) l s
+line-stored P2₁ ok a pos m v h k e l s = read-alternating m (a .2) (λ w. pairsIn P2₁ a m v w h k) pos l s
 line-stored Pm ok a pos m v h k e l s = read-symmetric m (a .2) pos (λ w. pairsIn Pm a m v w h k) l s
 line-stored Pa ok a pos m v h k e l s = mirror-stored Pa a m v pos (even h) (λ w. pairsIn Pa a m v w h k) e l s
 line-stored P2₁2₁2₁ ok a pos m v h k e l s = absurd ok

@@ -7,3 +7,4 @@ pub mod Maps
 pub mod Writing
 pub mod Records
 pub mod OrbitNumbers
+pub mod Points

@@ -25,7 +25,7 @@ use Rattle.numbers.proofs.Values.{field-ring, field-star}
 use Rattle.slices.specs.Pairs.{Below}
 use Rattle.cell.specs.Volume.{rows, layers, volumeLength, mapPlace, packMap, mapIn}
 use Rattle.cell.specs.Consistency.{pointAgrees, rowEnds, consistentMap, RealMap, ObeysGroup, MapConsistent}
-use Rattle.cell.proofs.VolumeLayout.{map-number, map-end, is-map}
+use Rattle.cell.proofs.VolumeLayout.{length-map, map-number, map-end, is-map}
 use Rattle.cell.proofs.Tests.{true-iff, eq→eqb, in-box-at, in-box-by}
 
 -- the group's own operations do not conjugate
@@ -113,6 +113,12 @@ layers-fit Pa a pos z h = omega arith
 layers-fit P2₁2₁2₁ a pos z h = omega arith
 
 module _ (g : Group) (a : J) (long : Long a) (m : ℕ) where
+  -- cells that are equal inside have one map
+  pub map-cong : (M L : Cell (Value m)) → ((x : J) → Inside a x → Cell.at M x ≡ Cell.at L x) → packMap g a m M ≡ packMap g a m L
+  map-cong M L e = is-map g a m L (packMap g a m M) (length-map g a m M)
+      (λ x y z lx ly lz. map-number g a m M x y z lx ly lz ∙ ap (λ q. q .0 .val) (e (x, y, z) (lx, ly, layers-fit g a (long .2) z lz)))
+      (map-end g a m M)
+
   map-passes : (M : Cell (Value m)) → ObeysGroup g a m M → T (consistentMap g a (packMap g a m M))
   unfolding consistentMap
   map-passes M o =

@@ -5,7 +5,6 @@ use mathlib.Core.Bool.{true}
 use mathlib.Core.List.{List}
 use Prim.Native.Nat.{ℕ}
 use lib.ListN.{length}
-use Rattle.algebra.specs.Gauss as Gauss
 use Rattle.algebra.specs.Residue.{residues}
 use Rattle.algebra.specs.Axis.{AxisLaws}
 use Rattle.algebra.specs.Cell.{J, Inside, Group, friedel, pim, pimp, flip, turn, star, Cell}

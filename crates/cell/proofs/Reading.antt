@@ -4,7 +4,7 @@ use mathlib.Core.Path.{_≡_, refl, sym, _∙_, ap, ap₂, subst}
 use mathlib.Core.Logic.{_↔_}
 use mathlib.Core.Bool.{Bool, true, false, cond}
 use mathlib.Core.List.{List}
-use Prim.Native.Nat.{ℕ, suc, _+_, _*_, _-_, _<_, _≤_}
+use Prim.Native.Nat.{ℕ, zero, suc, _+_, _*_, _-_, _<_, _≤_}
 use native.Mathlib.Omega.{arith}
 use lib.Dec.{T, eqb, eqb→eq, eqb-refl, leb, ltb, nltb→le}
 use lib.ListN.{length}
@@ -37,10 +37,18 @@ use Rattle.numbers.proofs.Values.{value-path, small-pair, value-pair, field-rin
 use Rattle.numbers.proofs.Parts.{half-residue}
 use Rattle.slices.specs.Pairs.{at, Below}
 use Rattle.slices.specs.Values.{valuesOf}
-use Rattle.cell.specs.Volume.{Admitted, lineKind, firstPair, pairPlace, rows, columns, layers, volumeLength, lineIn, factorsIn, packed, packFactors}
+use Rattle.cell.specs.Volume.{groupOf, Admitted, lineKind, firstPair, pairPlace, rows, columns, layers, volumeLength, lineIn, factorsIn, packed, packFactors}
 use Rattle.cell.specs.Consistency.{sameValue}
 use Rattle.cell.proofs.VolumeLayout.{length-volume, at-volume, below-volume}
 use Rattle.cell.proofs.LineReading.{readLine, read-plain, read-alternating, read-symmetric, read-antisymmetric, mirror-alternating, mirror-symmetric, mirror-antisymmetric, packed-plain, packed-alternating, packed-symmetric, packed-antisymmetric, packed-first, packed-last}
+
+-- every group that a call admits is one of them
+pub group-admitted : (n : ℕ) → Admitted (groupOf n)
+group-admitted zero = tt
+group-admitted (suc zero) = tt
+group-admitted (suc (suc zero)) = tt
+group-admitted (suc (suc (suc zero))) = tt
+group-admitted (suc (suc (suc (suc n)))) = tt
 
 -- the test of two values
 pub same-iff : (m : ℕ) (x y : Value m) → T (sameValue x y) ↔ (x ≡ y)

@@ -13,11 +13,11 @@ use Rattle.algebra.specs.Kinds.{Kind.symmetric, Kind.antisymmetric}
 use Rattle.algebra.specs.Cell.{J, Inside, Group, P1, P2₁, Pm, Pa, P2₁2₁2₁, im, imp, Cell, factorActs}
 use Rattle.algebra.specs.Cell as Cell
 use Rattle.algebra.specs.CellSteps.{Lawful}
-use Rattle.algebra.specs.CellPack.{even, HasBox}
-use Rattle.algebra.specs.CellTests.{wholeT}
+use Rattle.algebra.specs.CellPack.{even, PackedIn}
+use Rattle.algebra.specs.CellTests.{consistentFactorsT}
 use Rattle.algebra.proofs.Bool.{and-l, and-r, and-i, imply-iff}
 use Rattle.algebra.proofs.CellSym.{im-inside}
-use Rattle.algebra.proofs.CellBox.{Long, box-test}
+use Rattle.algebra.proofs.CellTests.{Positive, factors-test}
 use Rattle.algebra.proofs.CellPack.{pack-iff}
 use Rattle.numbers.specs.declared.Pair.{Pair}
 use Rattle.numbers.specs.Prime.{prime}
@@ -30,9 +30,9 @@ use Rattle.slices.specs.Pairs.{at, Below}
 use Rattle.slices.proofs.Bounds.{small-at}
 use Rattle.cell.specs.Volume.{Admitted, firstPair, pairPlace, rows, columns, volumeLength, factorsIn, packFactors}
 use Rattle.cell.specs.Consistency.{sameValue, zeroPair, zeroEnds, consistentFactors, FactorsConsistent}
-use Rattle.cell.proofs.Tests.{true-iff, eq→eqb, in-box-at, in-box-by}
+use Rattle.cell.proofs.Tests.{true-iff, eq→eqb, every-place-at, every-place-by}
 use Rattle.cell.proofs.VolumeLayout.{is-volume}
-use Rattle.cell.proofs.Reading.{same-iff, pairsIn, lineAt, EmptyEnds, stored-unpacked, empty-ends, packed-box, has-box, read-packed, length-factors, below-factors}
+use Rattle.cell.proofs.Reading.{same-iff, pairsIn, lineAt, EmptyEnds, stored-unpacked, empty-ends, packed-is, packed-holds, read-packed, length-factors, below-factors}
 
 -- ---- a pair of small numbers stands for zero exactly if both are zero
 
@@ -65,12 +65,12 @@ module _ (a : J) (m : ℕ) (v : List ℕ) (small : Below (prime m) v) where
   )
   ends-iff P2₁2₁2₁ h k = (λ t e. absurd (omega (arith, ap firstPair e)), λ f. tt)
 
-module _ (g : Group) (ok : Admitted g) (a : J) (long : Long a) (m : ℕ) where
-  -- a list of residues that holds the box of a cell of the group is that cell's packed factors
-  pub box-list : (F : Cell (Value m)) → Lawful (field m) (conj m) a g F → (v : List ℕ) → length v ≡ volumeLength g a → Below (prime m) v → HasBox (ring m) g a F (pairsIn g a m v) → packFactors g a m F ≡ v
+module _ (g : Group) (ok : Admitted g) (a : J) (long : Positive a) (m : ℕ) where
+  -- a list of residues that stands for the packed factors of a cell of the group is their list
+  pub packed-list : (F : Cell (Value m)) → Lawful (field m) (conj m) a g F → (v : List ℕ) → length v ≡ volumeLength g a → Below (prime m) v → PackedIn (ring m) g a F (pairsIn g a m v) → packFactors g a m F ≡ v
   unfolding packFactors
-  box-list F o v len small b = sym (is-volume g a _ v len (λ w h k lw lh lk.
-      sym (pair-value m (small-at (prime m) v (pairPlace g a w h k) small)) ∙ ap pairOf (sym (packed-box g ok a long m F o w h k lw lh lk ∙ b w h k lw lh (omega arith)))))
+  packed-list F o v len small b = sym (is-volume g a _ v len (λ w h k lw lh lk.
+      sym (pair-value m (small-at (prime m) v (pairPlace g a w h k) small)) ∙ ap pairOf (sym (packed-is g ok a long m F o w h k lw lh lk ∙ b w h k lw lh (omega arith)))))
 
   -- cells that are equal inside
   pub lawful-cong : (F E : Cell (Value m)) → ((j : J) → Inside a j → Cell.at E j ≡ Cell.at F j) → Lawful (field m) (conj m) a g F → Lawful (field m) (conj m) a g E
@@ -78,35 +78,35 @@ module _ (g : Group) (ok : Admitted g) (a : J) (long : Long a) (m : ℕ) where
 
   pub pack-cong : (F E : Cell (Value m)) → ((j : J) → Inside a j → Cell.at E j ≡ Cell.at F j) → Lawful (field m) (conj m) a g F → packFactors g a m E ≡ packFactors g a m F
   pack-cong F E e o = let o′ = lawful-cong F E e o in
-      box-list E o′ (packFactors g a m F) (length-factors g a m F) (below-factors g a m F)
-      (pack-iff (res-ring m) (half m) (half-residue m) a long g E _ o′ .1 (λ j n s. e j n ∙ pack-iff (res-ring m) (half m) (half-residue m) a long g F _ o .0 (has-box g ok a long m F o) j n s))
+      packed-list E o′ (packFactors g a m F) (length-factors g a m F) (below-factors g a m F)
+      (pack-iff (res-ring m) (half m) (half-residue m) a long g E _ o′ .1 (λ j n s. e j n ∙ pack-iff (res-ring m) (half m) (half-residue m) a long g F _ o .0 (packed-holds g ok a long m F o) j n s))
 
   -- the packed factors of a cell of the group pass ..
   packed-passes : (F : Cell (Value m)) → Lawful (field m) (conj m) a g F → T (consistentFactors g a m (packFactors g a m F))
-  unfolding consistentFactors wholeT factorActs
+  unfolding consistentFactors consistentFactorsT factorActs
   packed-passes F o =
-      and-i (wholeT (field m) (conj m) sameValue g a (lineAt g a m (packFactors g a m F))) _
-      (box-test (field-ring m) (field-star m) sameValue (same-iff m) g a long (lineAt g a m (packFactors g a m F)) .1 (
+      and-i (consistentFactorsT (field m) (conj m) sameValue g a (lineAt g a m (packFactors g a m F))) _
+      (factors-test (field-ring m) (field-star m) sameValue (same-iff m) g a long (lineAt g a m (packFactors g a m F)) .1 (
         Cell.at F,
         o,
-        λ j n s. pack-iff (res-ring m) (half m) (half-residue m) a long g F _ o .0 (has-box g ok a long m F o) j n s ∙ sym (stored-unpacked g ok a long m (packFactors g a m F) (empty-ends g a (long .2) m F) j n s),
+        λ j n s. pack-iff (res-ring m) (half m) (half-residue m) a long g F _ o .0 (packed-holds g ok a long m F o) j n s ∙ sym (stored-unpacked g ok a long m (packFactors g a m F) (empty-ends g a (long .2) m F) j n s),
       ))
-      (in-box-by _ _ _ _ (λ j h k l. ends-iff a m (packFactors g a m F) (below-factors g a m F) g (j .0) (j .1) .1 (empty-ends g a (long .2) m F (j .0) (j .1) h k)))
+      (every-place-by _ _ _ _ (λ j h k l. ends-iff a m (packFactors g a m F) (below-factors g a m F) g (j .0) (j .1) .1 (empty-ends g a (long .2) m F (j .0) (j .1) h k)))
 
   module _ (v : List ℕ) (len : length v ≡ volumeLength g a) (small : Below (prime m) v) where
     -- .. and what passes is the packed factors of such a cell
     passing-packed : T (consistentFactors g a m v) → FactorsConsistent g a m v
-    unfolding consistentFactors wholeT factorActs
+    unfolding consistentFactors consistentFactorsT factorActs
     passing-packed t =
-        let f = box-test (field-ring m) (field-star m) sameValue (same-iff m) g a long (lineAt g a m v) .0 (and-l whole _ t) in
+        let f = factors-test (field-ring m) (field-star m) sameValue (same-iff m) g a long (lineAt g a m v) .0 (and-l values-agree _ t) in
         let F : Cell (Value m) = λ h k l. (f .0) (h, k, l) in
-        (F, f .1, box-list F (f .1) v len small (pack-iff (res-ring m) (half m) (half-residue m) a long g F _ (f .1) .1 (λ j n s. f .2 j n s ∙ stored-unpacked g ok a long m v ends j n s)))
+        (F, f .1, packed-list F (f .1) v len small (pack-iff (res-ring m) (half m) (half-residue m) a long g F _ (f .1) .1 (λ j n s. f .2 j n s ∙ stored-unpacked g ok a long m v ends j n s)))
       where
-        whole : Bool
-        whole = wholeT (field m) (conj m) sameValue g a (lineAt g a m v)
+        values-agree : Bool
+        values-agree = consistentFactorsT (field m) (conj m) sameValue g a (lineAt g a m v)
 
         ends : (h k : ℕ) → h < rows g a → k < columns g a → EmptyEnds g a m v h k
-        ends h k lh lk = ends-iff a m v small g h k .0 (in-box-at (rows g a) (columns g a) 1 (λ j. zeroEnds g a m g v (j .0) (j .1)) (h, k, 0) (and-r whole _ t) lh lk (omega arith))
+        ends h k lh lk = ends-iff a m v small g h k .0 (every-place-at (rows g a) (columns g a) 1 (λ j. zeroEnds g a m g v (j .0) (j .1)) (h, k, 0) (and-r values-agree _ t) lh lk (omega arith))
 
     pub factors-consistent : (consistentFactors g a m v ≡ true) ↔ FactorsConsistent g a m v
     factors-consistent = (

@@ -18,7 +18,7 @@ use Rattle.algebra.proofs.Paths.{pair}
 use Rattle.algebra.proofs.Bool.{split}
 use Rattle.algebra.proofs.Laws.{along}
 use Rattle.algebra.proofs.Solver.{ring, quote}
-use Rattle.algebra.proofs.FoldPack.{unfold-zero, unfold-low, unfold-middle, unfold-high}
+use Rattle.algebra.proofs.Unfold.{unfold-zero, unfold-low, unfold-middle, unfold-high}
 use Rattle.numbers.specs.Value.{Value, field, i, half, real, value}
 use Rattle.numbers.specs.Value as Value
 use Rattle.numbers.proofs.Residues.{res-ring}

@@ -9,15 +9,15 @@ use native.Mathlib.Omega.{arith}
 use lib.Dec.{T, eqb, eqb→eq, lt→ltb, ltb→lt}
 use lib.ListN.{length, getD}
 use borrow.Author.Tests.{lt-ltb}
-use Rattle.algebra.specs.Orbit.{Mem, Whole, cellOf}
-use Rattle.algebra.specs.Cell.{J, Inside, Sym, sym as operation, Group, P1, P2₁, Pm, Pa, P2₁2₁2₁, ops, pim, pimp, star, planes, Held, prep, Cell, mapActs}
+use Rattle.algebra.specs.Orbit.{Mem, Consistent, cellOf}
+use Rattle.algebra.specs.Cell.{J, Inside, Sym, sym as operation, Group, P1, P2₁, Pm, Pa, P2₁2₁2₁, ops, pim, pimp, star, planes, StoredPoint, prep, Cell, mapActs}
 use Rattle.algebra.specs.Cell as Cell
-use Rattle.algebra.specs.CellTests.{every, inBox, heldT}
+use Rattle.algebra.specs.CellTests.{every, everyPlace, storedPointT}
 use Rattle.algebra.proofs.Bool.{and-l, and-r, and-i, imply-iff, every-at, every-by}
 use Rattle.algebra.proofs.Orbits as O
 use Rattle.algebra.proofs.CellSym.{pim-one, pim-inside}
 use Rattle.algebra.proofs.CellGroup.{map-action, map-closed, prep-in, prep-st, prep-plain}
-use Rattle.algebra.proofs.CellBox.{Long}
+use Rattle.algebra.proofs.CellTests.{Positive}
 use Rattle.numbers.specs.Prime.{prime}
 use Rattle.numbers.specs.Value.{Value, field, conj, real, value}
 use Rattle.numbers.proofs.Residues.{val-res, res-val}
@@ -26,7 +26,7 @@ use Rattle.slices.specs.Pairs.{Below}
 use Rattle.cell.specs.Volume.{rows, layers, volumeLength, mapPlace, packMap, mapIn}
 use Rattle.cell.specs.Consistency.{pointAgrees, rowEnds, consistentMap, RealMap, ObeysGroup, MapConsistent}
 use Rattle.cell.proofs.VolumeLayout.{length-map, map-number, map-end, is-map}
-use Rattle.cell.proofs.Tests.{true-iff, eq→eqb, in-box-at, in-box-by}
+use Rattle.cell.proofs.Tests.{true-iff, eq→eqb, every-place-at, every-place-by}
 
 -- the group's own operations do not conjugate
 abbrev plainT : Sym → Bool
@@ -48,7 +48,7 @@ ops-plain star′ g s ms x = plain s (every-at (ops g) plainT s (tables g) ms)
     plain (operation true f g h p q r) t = absurd t
 
 -- a point of a stored plane is read where it is
-pub own-plane : (g : Group) (a x : J) → Held g a x → pim a (prep g a x) x ≡ x
+pub own-plane : (g : Group) (a x : J) → StoredPoint g a x → pim a (prep g a x) x ≡ x
 unfolding prep
 own-plane g a x h = rw (lt-ltb (x .2) (planes g (a .2)) h) (pim-one a x)
 
@@ -75,10 +75,10 @@ module _ (g : Group) (a : J) (m : ℕ) where
   read-real v x n = refl
 
 module _ (g : Group) (a : J) (m : ℕ) (v : List ℕ) (len : length v ≡ volumeLength g a) (small : Below (prime m) v) where
-  points-whole : T (inBox (rows g a) (2 * a .1) (layers g a) (pointAgrees g a v)) → Whole (mapActs (field m) (conj m) a) (Inside a) (Held g a) (ops g) (pointIn g a m v)
+  points-consistent : T (everyPlace (rows g a) (2 * a .1) (layers g a) (pointAgrees g a v)) → Consistent (mapActs (field m) (conj m) a) (Inside a) (StoredPoint g a) (ops g) (pointIn g a m v)
   unfolding mapActs
-  points-whole t s ms x n hx hy =
-      ap (λ q. value m q 0) (eqb→eq _ _ (imply-iff (heldT g a (pim a s x)) _ .0 (every-at (ops g) _ s (in-box-at (rows g a) (2 * a .1) (layers g a) (pointAgrees g a v) x t (n .0) (n .1) hx) ms) (lt→ltb _ _ hy)))
+  points-consistent t s ms x n hx hy =
+      ap (λ q. value m q 0) (eqb→eq _ _ (imply-iff (storedPointT g a (pim a s x)) _ .0 (every-at (ops g) _ s (every-place-at (rows g a) (2 * a .1) (layers g a) (pointAgrees g a v) x t (n .0) (n .1) hx) ms) (lt→ltb _ _ hy)))
       ∙ sym (ops-plain (conj m) g s ms _)
 
   -- what passes is the map that is read, with its zeros
@@ -87,12 +87,12 @@ module _ (g : Group) (a : J) (m : ℕ) (v : List ℕ) (len : length v ≡ volume
   passing-map t = (obeys, sym (is-map g a m (mapIn g a m v) v len numbers ends))
     where
       points : Bool
-      points = inBox (rows g a) (2 * a .1) (layers g a) (pointAgrees g a v)
+      points = everyPlace (rows g a) (2 * a .1) (layers g a) (pointAgrees g a v)
 
       obeys : ObeysGroup g a m (mapIn g a m v)
       obeys s ms x n =
           map-read g a m v (pim a s x)
-          ∙ O.whole-obeys (map-action (field-ring m) (field-star m) a) (ops g) (map-closed (field-ring m) (field-star m) a g) (Held g a) (prep g a) (λ x n. prep-in g a x) (λ x n. prep-st g a x n) (pointIn g a m v) (points-whole (and-l points _ t)) s ms x n
+          ∙ O.consistent-obeys (map-action (field-ring m) (field-star m) a) (ops g) (map-closed (field-ring m) (field-star m) a g) (StoredPoint g a) (prep g a) (λ x n. prep-in g a x) (λ x n. prep-st g a x n) (pointIn g a m v) (points-consistent (and-l points _ t)) s ms x n
           ∙ ap (pimp (conj m) s) (sym (map-read g a m v x))
 
       numbers : (x y z : ℕ) → x < rows g a → y < 2 * a .1 → z < layers g a → getD v (mapPlace g a (x, y, z)) 0 ≡ (mapIn g a m v x y z) .0 .val
@@ -100,7 +100,7 @@ module _ (g : Group) (a : J) (m : ℕ) (v : List ℕ) (len : length v ≡ volume
 
       ends : (x z : ℕ) → x < rows g a → z < layers g a → (getD v (mapPlace g a (x, 2 * a .1, z)) 0 ≡ 0) × (getD v (mapPlace g a (x, 2 * a .1 + 1, z)) 0 ≡ 0)
       ends x z lx lz =
-          let e = in-box-at (rows g a) 1 (layers g a) (λ x. rowEnds g a v (x .2) (x .0)) (x, 0, z) (and-r points _ t) lx (omega arith) lz in
+          let e = every-place-at (rows g a) 1 (layers g a) (λ x. rowEnds g a v (x .2) (x .0)) (x, 0, z) (and-r points _ t) lx (omega arith) lz in
           (eqb→eq _ _ (and-l (eqb (getD v (mapPlace g a (x, 2 * a .1, z)) 0) 0) _ e), eqb→eq _ _ (and-r (eqb (getD v (mapPlace g a (x, 2 * a .1, z)) 0) 0) _ e))
 
 -- every stored plane is one of the cell's
@@ -112,7 +112,7 @@ layers-fit Pm a pos z h = omega arith
 layers-fit Pa a pos z h = omega arith
 layers-fit P2₁2₁2₁ a pos z h = omega arith
 
-module _ (g : Group) (a : J) (long : Long a) (m : ℕ) where
+module _ (g : Group) (a : J) (long : Positive a) (m : ℕ) where
   -- cells that are equal inside have one map
   pub map-cong : (M L : Cell (Value m)) → ((x : J) → Inside a x → Cell.at M x ≡ Cell.at L x) → packMap g a m M ≡ packMap g a m L
   map-cong M L e = is-map g a m L (packMap g a m M) (length-map g a m M)
@@ -122,14 +122,14 @@ module _ (g : Group) (a : J) (long : Long a) (m : ℕ) where
   map-passes : (M : Cell (Value m)) → ObeysGroup g a m M → T (consistentMap g a (packMap g a m M))
   unfolding consistentMap
   map-passes M o =
-      and-i (inBox (rows g a) (2 * a .1) (layers g a) (pointAgrees g a (packMap g a m M))) _
-      (in-box-by _ _ _ _ (λ x lx ly lz. every-by (ops g) _ (λ s ms. imply-iff (heldT g a (pim a s x)) _ .1 (λ t. eq→eqb (same s ms x (lx, ly, layers-fit g a (long .2) (x .2) lz) lz (ltb→lt _ _ t))))))
-      (in-box-by _ _ _ _ (λ x lx ly lz. let e = map-end g a m M (x .0) (x .2) lx lz in and-i (eqb (getD (packMap g a m M) (mapPlace g a (x .0, 2 * a .1, x .2)) 0) 0) _ (eq→eqb (e .0)) (eq→eqb (e .1))))
+      and-i (everyPlace (rows g a) (2 * a .1) (layers g a) (pointAgrees g a (packMap g a m M))) _
+      (every-place-by _ _ _ _ (λ x lx ly lz. every-by (ops g) _ (λ s ms. imply-iff (storedPointT g a (pim a s x)) _ .1 (λ t. eq→eqb (same s ms x (lx, ly, layers-fit g a (long .2) (x .2) lz) lz (ltb→lt _ _ t))))))
+      (every-place-by _ _ _ _ (λ x lx ly lz. let e = map-end g a m M (x .0) (x .2) lx lz in and-i (eqb (getD (packMap g a m M) (mapPlace g a (x .0, 2 * a .1, x .2)) 0) 0) _ (eq→eqb (e .0)) (eq→eqb (e .1))))
     where
-      number : (x : J) → Inside a x → Held g a x → getD (packMap g a m M) (mapPlace g a x) 0 ≡ (Cell.at M x) .0 .val
+      number : (x : J) → Inside a x → StoredPoint g a x → getD (packMap g a m M) (mapPlace g a x) 0 ≡ (Cell.at M x) .0 .val
       number x n h = map-number g a m M (x .0) (x .1) (x .2) (n .0) (n .1) h
 
-      same : (s : Sym) → Mem s (ops g) → (x : J) → Inside a x → Held g a x → Held g a (pim a s x) → getD (packMap g a m M) (mapPlace g a (pim a s x)) 0 ≡ getD (packMap g a m M) (mapPlace g a x) 0
+      same : (s : Sym) → Mem s (ops g) → (x : J) → Inside a x → StoredPoint g a x → StoredPoint g a (pim a s x) → getD (packMap g a m M) (mapPlace g a (pim a s x)) 0 ≡ getD (packMap g a m M) (mapPlace g a x) 0
       same s ms x n hx hy = number (pim a s x) (pim-inside a s x n) hy ∙ ap (λ q. q .0 .val) (o s ms x n ∙ ops-plain (conj m) g s ms _) ∙ sym (number x n hx)
 
   module _ (v : List ℕ) (len : length v ≡ volumeLength g a) (small : Below (prime m) v) where

@@ -24,7 +24,7 @@ use Rattle.algebra.proofs.Orbits.{imp-live, orbit-zero}
 use Rattle.algebra.proofs.CellAxis.{neg-pos}
 use Rattle.algebra.proofs.CellSym.{im-one, im-inside}
 use Rattle.algebra.proofs.CellGroup.{factor-action, closed, imp-zero}
-use Rattle.algebra.proofs.CellBox.{Long}
+use Rattle.algebra.proofs.CellTests.{Positive}
 use Rattle.numbers.specs.Prime.{prime}
 use Rattle.numbers.specs.Value.{Value, field, conj, ring, res, valueOf}
 use Rattle.numbers.proofs.Primes.{prime-pos}
@@ -160,7 +160,7 @@ beyond-numbers Pa ok a j n s =
     (numbers-mirror Pa a (j .0) (j .1) (j .2) (negI (a .2) (j .2)) (omega arith) (omega (arith, n .2)) (omega (arith, n .2)) (even (j .0)), omega (arith, n .2))
 beyond-numbers P2₁2₁2₁ ok a j n s = absurd ok
 
-module _ (g : Group) (ok : Admitted g) (a : J) (long : Long a) (m : ℕ) where
+module _ (g : Group) (ok : Admitted g) (a : J) (long : Positive a) (m : ℕ) where
   module _ (v : List ℕ) (small : Below (prime m) v) where
     -- a value is zero exactly if an operation's implied value is
     implied-zero : (s : Sym) (j : J) (x : Value m) → (imp (field m) (conj m) s j x ≡ field m .zer) ↔ (x ≡ field m .zer)

@@ -10,11 +10,11 @@ use Rattle.algebra.specs.Axis.{AxisLaws}
 use Rattle.algebra.specs.Cell.{J, Inside, Group, friedel, pim, pimp, flip, turn, star, Cell}
 use Rattle.algebra.specs.Cell as Cell
 use Rattle.algebra.specs.CellSteps.{Lawful}
-use Rattle.algebra.proofs.FoldGauss.{real-gauss}
+use Rattle.algebra.proofs.Parts.{real-gauss}
 use Rattle.algebra.proofs.CellGroup.{friedel-mem}
 use Rattle.algebra.proofs.CellMap.{factors-cong, factors-map, map-factors}
-use Rattle.algebra.proofs.CellLaw.{ops-full, map-lawful, opened-lawful}
-use Rattle.algebra.proofs.CellBox.{Long}
+use Rattle.algebra.proofs.CellLawful.{ops-full, map-lawful, opened-lawful}
+use Rattle.algebra.proofs.CellTests.{Positive}
 use Rattle.numbers.specs.Prime.{prime}
 use Rattle.numbers.specs.Value.{Value, field, conj, i, half}
 use Rattle.numbers.proofs.Residues.{res-ring}
@@ -29,7 +29,7 @@ use Rattle.cell.proofs.Maps.{read-map, map-cong, consistent-map-read}
 
 module _ (g : Group) (a : J) (m : ℕ) {h : Value m} {tx ty tz : ℕ → Value m}
     (𝓧 : AxisLaws (field m) (conj m) (i m) h (axis m (a .0)) tx) (𝓨 : AxisLaws (field m) (conj m) (i m) h (axis m (a .1)) ty) (𝓩 : AxisLaws (field m) (conj m) (i m) h (axis m (a .2)) tz) where
-  long : Long a
+  long : Positive a
   long = (𝓧 .positive, 𝓨 .positive, 𝓩 .positive)
 
   module _ (F : Cell (Value m)) (lawful : Lawful (field m) (conj m) a g F) where

@@ -16,7 +16,8 @@ use Rattle.algebra.specs.Kinds.{Kind.symmetric, Kind.antisymmetric}
 use Rattle.algebra.specs.Cell.{J, Inside, Group, P1, P2₁, Pm, Pa, P2₁2₁2₁, one, friedel, _·_, lineSym, lineRep, rep, span, negI, im, flip, imp, sgn, star, planes, full, Stored, Cell, factorActs}
 use Rattle.algebra.specs.Cell as Cell
 use Rattle.algebra.specs.CellSteps.{Lawful}
-use Rattle.algebra.specs.CellPack.{even, partOf, ofPart, boxOf, unpack, HasBox}
+use Rattle.algebra.specs.CellPack as Pack
+use Rattle.algebra.specs.CellPack.{even, partOf, ofPart, unpack, PackedIn}
 use Rattle.algebra.proofs.Bool.{and-l, and-r, and-i, split}
 use Rattle.algebra.proofs.Laws.{neg-one-square, neg-one-mul}
 use Rattle.algebra.proofs.ResidueRing.{val-path}
@@ -26,9 +27,10 @@ use Rattle.algebra.proofs.CellSym as S
 use Rattle.algebra.proofs.CellLines.{line-P2₁}
 use Rattle.algebra.proofs.Orbits as O
 use Rattle.algebra.proofs.CellGroup.{factor-action, closed, rep-in, rep-st}
-use Rattle.algebra.proofs.CellBox.{Long, box-read}
+use Rattle.algebra.proofs.CellTests.{Positive}
+use Rattle.algebra.proofs.CellTests as CellTests
 use Rattle.algebra.proofs.CellPack.{pow-even, signOf, self-sign, pack-iff}
-use Rattle.algebra.proofs.CellNumbers.{zero-slot}
+use Rattle.algebra.proofs.CellRefusals as CellRefusals
 use Rattle.numbers.specs.Prime.{prime}
 use Rattle.numbers.specs.Value.{Value, field, conj, ring, half, valueOf, pairOf}
 use Rattle.numbers.proofs.Primes.{prime-pos}
@@ -158,7 +160,7 @@ module _ (g : Group) (ok : Admitted g) (a : J) (m : ℕ) where
 
 -- ---- the packed factors of a cell of the group are the theory's
 
-module _ (a : J) (long : Long a) (m : ℕ) (F : Cell (Value m)) where
+module _ (a : J) (long : Positive a) (m : ℕ) (F : Cell (Value m)) where
   -- an alternating line is real at l = 0; at l = A it has one part
   first-real : Lawful (field m) (conj m) a P2₁ F → (h k : ℕ) → h < 2 * a .0 → k < 2 * a .1 → F h k 0 ≡ ((F h k 0) .0, ring m .zer)
   unfolding even
@@ -174,18 +176,18 @@ module _ (a : J) (long : Long a) (m : ℕ) (F : Cell (Value m)) where
   unfolding gauss residues
   mirror-packed o h k w lh lk lw true e = packed-symmetric Pa a m (F h k) w lw
   mirror-packed o h k w lh lk lw false e = packed-antisymmetric Pa a m (F h k) (long .2)
-      (zero-slot (res-ring m) (half m) (half-residue m) sameValue (same-iff m) a long F o h k 0 lh lk (omega (arith, long .2)) e (neg-zero (a .2)))
-      (zero-slot (res-ring m) (half m) (half-residue m) sameValue (same-iff m) a long F o h k (a .2) lh lk (omega (arith, long .2)) e (neg-pos (a .2) (a .2) (long .2) (omega (arith, long .2)) ∙ omega arith))
+      (CellRefusals.zero-pair (res-ring m) (half m) (half-residue m) sameValue (same-iff m) a long F o h k 0 lh lk (omega (arith, long .2)) e (neg-zero (a .2)))
+      (CellRefusals.zero-pair (res-ring m) (half m) (half-residue m) sameValue (same-iff m) a long F o h k (a .2) lh lk (omega (arith, long .2)) e (neg-pos (a .2) (a .2) (long .2) (omega (arith, long .2)) ∙ omega arith))
       w lw
 
-pub packed-box : (g : Group) → Admitted g → (a : J) → Long a → (m : ℕ) (F : Cell (Value m)) → Lawful (field m) (conj m) a g F
-    → (w h k : ℕ) → w < layers g a → h < rows g a → k < columns g a → packed g a m (lineKind g h) (λ l. F h k l) w ≡ boxOf (ring m) g a F w h k
-unfolding boxOf planes
-packed-box P1 ok a long m F o w h k lw lh lk = packed-plain P1 a m (F h k) w lw
-packed-box P2₁ ok a long m F o w h k lw lh lk = packed-alternating P2₁ a m (F h k) (first-real a long m F o h k lh (omega (arith, long .1))) (middle-part a long m F o h k lh (omega (arith, long .1))) w lw
-packed-box Pm ok a long m F o w h k lw lh lk = packed-symmetric Pm a m (F h k) w lw
-packed-box Pa ok a long m F o w h k lw lh lk = mirror-packed a long m F o h k w lh (omega (arith, long .1)) lw (even h) refl
-packed-box P2₁2₁2₁ ok a long m F o w h k lw lh lk = absurd ok
+pub packed-is : (g : Group) → Admitted g → (a : J) → Positive a → (m : ℕ) (F : Cell (Value m)) → Lawful (field m) (conj m) a g F
+    → (w h k : ℕ) → w < layers g a → h < rows g a → k < columns g a → packed g a m (lineKind g h) (λ l. F h k l) w ≡ Pack.packFactors (ring m) g a F w h k
+unfolding Pack.packFactors planes
+packed-is P1 ok a long m F o w h k lw lh lk = packed-plain P1 a m (F h k) w lw
+packed-is P2₁ ok a long m F o w h k lw lh lk = packed-alternating P2₁ a m (F h k) (first-real a long m F o h k lh (omega (arith, long .1))) (middle-part a long m F o h k lh (omega (arith, long .1))) w lw
+packed-is Pm ok a long m F o w h k lw lh lk = packed-symmetric Pm a m (F h k) w lw
+packed-is Pa ok a long m F o w h k lw lh lk = mirror-packed a long m F o h k w lh (omega (arith, long .1)) lw (even h) refl
+packed-is P2₁2₁2₁ ok a long m F o w h k lw lh lk = absurd ok
 
 module _ (g : Group) (a : J) (m : ℕ) (F : Cell (Value m)) where
   pub length-factors : length (packFactors g a m F) ≡ volumeLength g a
@@ -215,7 +217,7 @@ empty-ends Pa a pos m F h k lh lk e = (
 )
 empty-ends P2₁2₁2₁ a pos m F h k lh lk e = absurd (omega (arith, ap firstPair e))
 
-module _ (g : Group) (ok : Admitted g) (a : J) (long : Long a) (m : ℕ) where
+module _ (g : Group) (ok : Admitted g) (a : J) (long : Positive a) (m : ℕ) where
   -- where the ends are empty, the value that a line stands for is the one that the theory unpacks
   pub stored-unpacked : (v : List ℕ) → ((h k : ℕ) → h < rows g a → k < columns g a → EmptyEnds g a m v h k) → (j : J) → Inside a j → Stored g a j → lineAt g a m v j ≡ unpack (ring m) g a (pairsIn g a m v) j
   stored-unpacked v e j n s = line-stored g ok a (long .2) m v (j .0) (j .1) (e (j .0) (j .1) (n .0) (omega (arith, s .0))) (j .2) (s .1)
@@ -227,12 +229,12 @@ module _ (g : Group) (ok : Admitted g) (a : J) (long : Long a) (m : ℕ) where
       ∙ O.cell-cong (factor-action (field-ring m) (field-star m) a) (full g) (closed (field-ring m) (field-star m) a g) (Stored g a) (rep g a) (λ j n. rep-in g a j) (λ j n. rep-st g a j n) _ _ (stored-unpacked v e) j n
 
   module _ (F : Cell (Value m)) (lawful : Lawful (field m) (conj m) a g F) where
-    pub has-box : HasBox (ring m) g a F (pairsIn g a m (packFactors g a m F))
-    has-box w h k lw lh lk = sym (pairs-factors g a m F w h k lw lh (omega arith) ∙ packed-box g ok a long m F lawful w h k lw lh (omega arith))
+    pub packed-holds : PackedIn (ring m) g a F (pairsIn g a m (packFactors g a m F))
+    packed-holds w h k lw lh lk = sym (pairs-factors g a m F w h k lw lh (omega arith) ∙ packed-is g ok a long m F lawful w h k lw lh (omega arith))
 
     -- the packed factors of a cell of the group are read as that cell
     pub read-packed : (j : J) → Inside a j → Cell.at (factorsIn g a m (packFactors g a m F)) j ≡ Cell.at F j
     unfolding factorActs
     read-packed j n = factors-unpacked (packFactors g a m F) (empty-ends g a (long .2) m F) j n
-        ∙ sym (box-read (field-ring m) (field-star m) sameValue (same-iff m) g a long (unpack (ring m) g a (pairsIn g a m (packFactors g a m F))) (Cell.at F) lawful
-        (pack-iff (res-ring m) (half m) (half-residue m) a long g F (pairsIn g a m (packFactors g a m F)) lawful .0 has-box) j n)
+        ∙ sym (CellTests.factors-read (field-ring m) (field-star m) sameValue (same-iff m) g a long (unpack (ring m) g a (pairsIn g a m (packFactors g a m F))) (Cell.at F) lawful
+        (pack-iff (res-ring m) (half m) (half-residue m) a long g F (pairsIn g a m (packFactors g a m F)) lawful .0 packed-holds) j n)

@@ -1,4 +1,4 @@
--- A value written at a stored place of the list is written into the theory's box, and so is a record with all its images.
+-- A value written at a stored place of the list is written into the theory's packed factors, and so is a record with all its images.
 use mathlib.Core.Path.{_≡_, refl, sym, _∙_, ap, subst}
 use mathlib.Core.Bool.{Bool, true, false, cond}
 use mathlib.Core.List.{List, [], _∷_}
@@ -11,16 +11,16 @@ use borrow.Author.Tests.{eq-eqb, ne-eqb}
 use Rattle.algebra.specs.Ring.{Ops}
 use Rattle.algebra.specs.Orbit.{putAll}
 use Rattle.algebra.specs.Cell.{J, Inside, Sym, Group, P1, P2₁, Pm, Pa, P2₁2₁2₁, im, imp, sameJ, span, planes, Stored, factorActs}
-use Rattle.algebra.specs.CellPack.{even, partOf, upd, putAlt, putBox}
+use Rattle.algebra.specs.CellPack.{FactorVolume, even, partOf, upd, putAlt, putFactor}
 use Rattle.algebra.specs.CellTests.{storedT}
 use Rattle.algebra.proofs.Bool.{split, split-both}
 use Rattle.algebra.proofs.Paths.{triple}
 use Rattle.algebra.proofs.CellSym.{im-inside}
 use Rattle.algebra.proofs.CellGroup.{sameJ-eq, sameJ-refl}
-use Rattle.algebra.proofs.CellBox.{stored-iff}
+use Rattle.algebra.proofs.CellTests.{stored-iff}
 use Rattle.numbers.specs.declared.Pair.{Pair}
 use Rattle.numbers.specs.Prime.{prime}
-use Rattle.numbers.specs.Value.{Value, field, conj, ring, valueOf, pairOf, Small}
+use Rattle.numbers.specs.Value.{Value, Residue, field, conj, ring, valueOf, pairOf, Small}
 use Rattle.numbers.proofs.Residues.{res-val}
 use Rattle.numbers.proofs.Values.{value-path, value-pair, small-pair}
 use Rattle.slices.specs.Pairs.{at, put, Below}
@@ -43,12 +43,12 @@ unfolding put at
 set-second v p n = sym (ap (λ u. set u (2 * p + 1) n) (set-getD v (2 * p) 0))
 
 module _ (g : Group) (a : J) (m : ℕ) where
-  -- the list holds the box B
-  abbrev pub Holds : List ℕ → (ℕ → ℕ → ℕ → Value m) → Type 0
+  -- the list stands for the packed factors B
+  abbrev pub Holds : List ℕ → FactorVolume (Residue m) → Type 0
   Holds v B = (w h k : ℕ) → w < layers g a → h < rows g a → k < columns g a → pairsIn g a m v w h k ≡ B w h k
 
   -- a pair that is stored
-  put-holds : (v : List ℕ) (B : ℕ → ℕ → ℕ → Value m) → length v ≡ volumeLength g a → Holds v B → (w h k : ℕ) → w < layers g a → h < rows g a → k < columns g a → (y : Pair) (x : Value m) → valueOf m y ≡ x → Holds (put v (pairPlace g a w h k) y) (upd (ring m) B w h k x)
+  put-holds : (v : List ℕ) (B : FactorVolume (Residue m)) → length v ≡ volumeLength g a → Holds v B → (w h k : ℕ) → w < layers g a → h < rows g a → k < columns g a → (y : Pair) (x : Value m) → valueOf m y ≡ x → Holds (put v (pairPlace g a w h k) y) (upd (ring m) B w h k x)
   unfolding upd
   put-holds v B len e w h k lw lh lk y x new w′ h′ k′ lw′ lh′ lk′ = split (sameJ (w, h, k) (w′, h′, k′))
       (λ b. pairsIn g a m (put v (pairPlace g a w h k) y) w′ h′ k′ ≡ cond b x (B w′ h′ k′))
@@ -60,7 +60,7 @@ module _ (g : Group) (a : J) (m : ℕ) where
 
 -- ---- an alternating line: one number of pair 0 at each end, else a pair
 
-module _ {K : Type 0} (𝓚 : Ops K) (c : ℕ) (B : ℕ → ℕ → ℕ → K × K) (h k : ℕ) (x : K × K) where
+module _ {K : Type 0} (𝓚 : Ops K) (c : ℕ) (B : FactorVolume K) (h k : ℕ) (x : K × K) where
   put-middle : (l : ℕ) → 0 < l → l ≡ c → putAlt 𝓚 c B h k l x ≡ upd 𝓚 B 0 h k ((B 0 h k) .0, partOf 𝓚 (even c) x)
   unfolding putAlt
   put-middle zero p e = absurd (omega arith)
@@ -71,7 +71,7 @@ module _ {K : Type 0} (𝓚 : Ops K) (c : ℕ) (B : ℕ → ℕ → ℕ → K ×
   put-low zero p e = absurd (omega arith)
   put-low (suc l) p e = rw (ne-eqb (suc l) c (λ q. omega arith))
 
-module _ (a : J) (m : ℕ) (pos : 0 < a .2) (v : List ℕ) (B : ℕ → ℕ → ℕ → Value m) (len : length v ≡ volumeLength P2₁ a) (e : Holds P2₁ a m v B) (h k : ℕ) (lh : h < rows P2₁ a) (lk : k < columns P2₁ a) (x : Value m) where
+module _ (a : J) (m : ℕ) (pos : 0 < a .2) (v : List ℕ) (B : FactorVolume (Residue m)) (len : length v ≡ volumeLength P2₁ a) (e : Holds P2₁ a m v B) (h k : ℕ) (lh : h < rows P2₁ a) (lk : k < columns P2₁ a) (x : Value m) where
   abbrev first : ℕ
   first = pairPlace P2₁ a 0 h k
 
@@ -94,8 +94,8 @@ module _ (a : J) (m : ℕ) (pos : 0 < a .2) (v : List ℕ) (B : ℕ → ℕ → 
 -- ---- a place of any group, and a record
 
 module _ (a : J) (m : ℕ) (pos : 0 < a .2) (v : List ℕ) where
-  write-holds : (g : Group) → Admitted g → length v ≡ volumeLength g a → (B : ℕ → ℕ → ℕ → Value m) → Holds g a m v B → (j : J) → Inside a j → Stored g a j → (x : Value m) → Holds g a m (write g a g v j (pairOf x)) (putBox (ring m) g a B j x)
-  unfolding write putBox span planes
+  write-holds : (g : Group) → Admitted g → length v ≡ volumeLength g a → (B : FactorVolume (Residue m)) → Holds g a m v B → (j : J) → Inside a j → Stored g a j → (x : Value m) → Holds g a m (write g a g v j (pairOf x)) (putFactor (ring m) g a B j x)
+  unfolding write putFactor span planes
   write-holds P1 ok len B e j n s x = put-holds P1 a m v B len e (j .2) (j .0) (j .1) (s .1) (n .0) (omega (arith, s .0)) (pairOf x) x (value-pair m x)
   write-holds P2₁ ok len B e j n s x = alternating-holds a m pos v B len e (j .0) (j .1) (n .0) (omega (arith, s .0)) x (j .2) (s .1)
   write-holds Pm ok len B e j n s x = put-holds Pm a m v B len e (j .2) (j .0) (j .1) (s .1) (n .0) (omega (arith, s .0)) (pairOf x) x (value-pair m x)
@@ -146,9 +146,9 @@ module _ (g : Group) (a : J) where
     below-images [] v b = b
     below-images (s ∷ l) v b = below-images l _ (cond-keeps (Below (prime m)) (storedT g a (im a s j)) (below-write g v (im a s j) _ b (small-pair m _)) b)
 
-    -- the list that holds the box B holds, after the record, the box after the theory's record
-    pub images-hold : Admitted g → 0 < a .2 → Inside a j → (l : List Sym) (v : List ℕ) → length v ≡ volumeLength g a → (B : ℕ → ℕ → ℕ → Value m) → Holds g a m v B
-        → Holds g a m (writeImages g a m l j x v) (putAll (factorActs (field m) (conj m) a) (putBox (ring m) g a) (storedT g a) l B j x)
+    -- a list that stands for B stands, after the record, for what the theory's record makes of B
+    pub images-hold : Admitted g → 0 < a .2 → Inside a j → (l : List Sym) (v : List ℕ) → length v ≡ volumeLength g a → (B : FactorVolume (Residue m)) → Holds g a m v B
+        → Holds g a m (writeImages g a m l j x v) (putAll (factorActs (field m) (conj m) a) (putFactor (ring m) g a) (storedT g a) l B j x)
     unfolding writeImages putAll factorActs
     images-hold ok pos n [] v len B e = e
     images-hold ok pos n (s ∷ l) v len B e = images-hold ok pos n l _

@@ -10,7 +10,7 @@ k < 1,440. Nothing that is proved leans on this program: the proofs test the num
 
 ORDER = 2880
 PRIMES = [86399, 302399]
-IN_A_LINE = 16
+IN_A_LINE = 14  # no divisor of 720, so that no line stands in two tables: d at place k is c at place k + 720
 
 
 def times(p, x, y):

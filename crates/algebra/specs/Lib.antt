@@ -1,3 +1,4 @@
+-- The definitions: rings and the transform, lines and their kinds, orbits and cells.
 pub mod Ring
 pub mod Fourier
 pub mod Gauss
@@ -11,4 +12,4 @@ pub mod Cell
 pub mod CellSteps
 pub mod CellTests
 pub mod CellPack
-pub mod CellBook
+pub mod CellModel

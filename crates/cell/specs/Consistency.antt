@@ -1,20 +1,22 @@
 -- Records, and the tests behind refusals 12, 14 and 24.
 -- A record at j implies a value at each image of j under the group with Friedel's rule (`full g`); an image is written where it is stored.
-use mathlib.Core.Bool.{Bool, true, false, _&&_, not, cond}
+use mathlib.Core.Path.{_≡_}
+use mathlib.Core.Bool.{Bool, true, _&&_, not, cond}
 use mathlib.Core.List.{List, [], _∷_, _++_}
-use Prim.Native.Nat.{ℕ, suc, _+_, _*_}
+use Prim.Native.Nat.{ℕ, _+_, _*_}
 use lib.ListN.{getD, set}
-use lib.Dec.{ltb, leb, eqb}
+use lib.Dec.{eqb}
 use Rattle.algebra.specs.Residue.{Res}
-use Rattle.algebra.specs.Cell.{J, Sym, Group, P1, P2₁, Pm, Pa, P2₁2₁2₁, Cell, full, ops, im, pim, imp, factorActs}
+use Rattle.algebra.specs.Cell.{J, Inside, Sym, Group, P1, P2₁, Pm, Pa, P2₁2₁2₁, Cell, full, ops, im, pim, imp, factorActs, MapObeys}
 use Rattle.algebra.specs.Cell as Cell
-use Rattle.algebra.specs.Orbit.{recorded}
-use Rattle.algebra.specs.CellTests.{every, inBox, imply, storedT, heldT, consistentT}
+use Rattle.algebra.specs.CellSteps.{Lawful}
+use Rattle.algebra.specs.Orbit.{Mem, recorded}
+use Rattle.algebra.specs.CellTests.{every, everyPlace, imply, storedT, storedPointT, agreesT}
 use Rattle.algebra.specs.CellPack.{even}
 use Rattle.numbers.specs.declared.Pair.{Pair}
-use Rattle.numbers.specs.Value.{Value, field, conj, value, pairOf}
+use Rattle.numbers.specs.Value.{Value, field, conj, real, pairOf}
 use Rattle.slices.specs.Pairs.{at, put}
-use Rattle.cell.specs.Volume.{lineKind, layers, rows, columns, pairPlace, mapPlace, numbersRead, lineIn}
+use Rattle.cell.specs.Volume.{layers, rows, columns, pairPlace, mapPlace, numbersRead, lineIn, packFactors, packMap}
 
 -- two values have the same numbers
 abbrev pub sameValue : {p : ℕ} → Res p × Res p → Res p × Res p → Bool
@@ -58,7 +60,7 @@ module _ (g : Group) (a : J) where
 
     -- Refusal 12 is not this: an image of the record that falls on its own index has the record's value.
     unfoldable pub agreesWithItself : J → Value m → Bool
-    agreesWithItself j x = consistentT (field m) (conj m) sameValue g a j x
+    agreesWithItself j x = agreesT (field m) (conj m) sameValue g a j x
 
     -- Refusal 14 of factors is not this: each stored image of each stored place has the implied value, and the pairs of Pa that are no part of a line are zero.
     abbrev pub lineAgrees : List ℕ → J → Bool
@@ -75,7 +77,7 @@ module _ (g : Group) (a : J) where
     zeroEnds P2₁2₁2₁ v h k = true
 
     unfoldable pub consistentFactors : List ℕ → Bool
-    consistentFactors v = inBox (rows g a) (columns g a) (Cell.span g (a .2)) (lineAgrees v) && inBox (rows g a) (columns g a) 1 (λ j. zeroEnds g v (j .0) (j .1))
+    consistentFactors v = everyPlace (rows g a) (columns g a) (Cell.span g (a .2)) (lineAgrees v) && everyPlace (rows g a) (columns g a) 1 (λ j. zeroEnds g v (j .0) (j .1))
 
   -- Refusal 24 is not this: the numbers that hold part of the orbit are zero.
   unfoldable pub orbitNumbers : List Sym → J → List ℕ
@@ -87,10 +89,24 @@ module _ (g : Group) (a : J) where
 
   -- Refusal 14 of a map is not this: points of stored planes that are images of each other have the same number, and each row ends with two zeros.
   abbrev pub pointAgrees : List ℕ → J → Bool
-  pointAgrees v x = every (ops g) (λ s. imply (heldT g a (pim a s x)) (eqb (getD v (mapPlace g a (pim a s x)) 0) (getD v (mapPlace g a x) 0)))
+  pointAgrees v x = every (ops g) (λ s. imply (storedPointT g a (pim a s x)) (eqb (getD v (mapPlace g a (pim a s x)) 0) (getD v (mapPlace g a x) 0)))
 
   abbrev pub rowEnds : List ℕ → (z x : ℕ) → Bool
   rowEnds v z x = eqb (getD v (mapPlace g a (x, 2 * a .1, z)) 0) 0 && eqb (getD v (mapPlace g a (x, 2 * a .1 + 1, z)) 0) 0
 
   unfoldable pub consistentMap : List ℕ → Bool
-  consistentMap v = inBox (rows g a) (2 * a .1) (layers g a) (pointAgrees v) && inBox (rows g a) 1 (layers g a) (λ x. rowEnds v (x .2) (x .0))
+  consistentMap v = everyPlace (rows g a) (2 * a .1) (layers g a) (pointAgrees v) && everyPlace (rows g a) 1 (layers g a) (λ x. rowEnds v (x .2) (x .0))
+
+  -- What the two tests decide, in the paper's words: some whole cell that obeys group and Friedel has these packed factors; some cell of real values that obeys the group has this map with its zeros.
+  module _ (m : ℕ) where
+    abbrev pub FactorsConsistent : List ℕ → Type 0
+    FactorsConsistent v = (F : Cell (Value m)) × Lawful (field m) (conj m) a g F × (packFactors g a m F ≡ v)
+
+    abbrev pub RealMap : Cell (Value m) → Type 0
+    RealMap M = (x : J) → Inside a x → Cell.at M x ≡ real m ((Cell.at M x) .0)
+
+    abbrev pub ObeysGroup : Cell (Value m) → Type 0
+    ObeysGroup M = (s : Sym) → Mem s (ops g) → MapObeys (conj m) a s M
+
+    abbrev pub MapConsistent : List ℕ → Type 0
+    MapConsistent v = (M : Cell (Value m)) × RealMap M × ObeysGroup M × (packMap g a m M ≡ v)

@@ -1,22 +1,30 @@
 -- The volume as a list of numbers: the packed factors (the paper's box) and the map with its zeros, and the cells that both stand for.
 -- An axis is known by its half: a = (N1/2, B, A) with N2 = 2 B and N3 = 2 A. A volume has W * N1 * (B + 1) pairs.
-use mathlib.Core.Bool.{Bool, true, false, _&&_, _||_, not, cond}
-use mathlib.Core.List.{List, [], _∷_, _++_}
+use mathlib.Core.Bool.{_&&_, _||_, cond}
+use mathlib.Core.List.{List, [], _∷_}
 use Prim.Native.Nat.{ℕ, suc, _+_, _*_, _-_, _/_, _%_, min}
 use lib.ListN.{getD}
 use lib.Dec.{ltb, leb, eqb}
 use Rattle.algebra.specs.Kinds.{Kind, Kind.plain, Kind.hermitian, Kind.antihermitian, Kind.alternating, Kind.symmetric, Kind.antisymmetric, slots, before, pack-before}
-use Rattle.algebra.specs.Cell.{J, Sym, Group, P1, P2₁, Pm, Pa, P2₁2₁2₁, Cell, full, im, pim, negI, planes, prep, imp}
+use Rattle.algebra.specs.Cell.{J, Group, P1, P2₁, Pm, Pa, P2₁2₁2₁, Cell, im, pim, negI, planes, prep}
 use Rattle.algebra.specs.CellPack.{even}
 use Rattle.algebra.specs.Residue.{Res}
 use Rattle.numbers.specs.declared.Pair.{Pair}
-use Rattle.numbers.specs.Value.{Value, field, conj, i, half, real, value, valueOf, pairOf}
-use Rattle.slices.specs.Pairs.{at, put, tab}
+use Rattle.numbers.specs.Value.{Value, field, conj, i, half, real, value, pairOf}
+use Rattle.slices.specs.Pairs.{tab}
 use Rattle.slices.specs.Values.{valuesOf}
 
 -- the groups by the paper's numbers
 abbrev pub groupOf : ℕ → Group
 groupOf n = getD (P1 ∷ P2₁ ∷ Pm ∷ Pa ∷ []) n P1
+
+-- the groups among them
+abbrev pub Admitted : Group → Type 0
+Admitted P1 = Unit {0}
+Admitted P2₁ = Unit {0}
+Admitted Pm = Unit {0}
+Admitted Pa = Unit {0}
+Admitted P2₁2₁2₁ = ⊥
 
 -- The kind of the line along l at h. (P2₁2₁2₁ is in the theory and admitted by no call: `groupOf` never gives it, and its clauses here are to be completed when it is.)
 abbrev pub lineKind : Group → ℕ → Kind

@@ -5,4 +5,10 @@ pub mod Values
 pub mod Parts
 pub mod Accumulators
 pub mod RootCases
+pub mod Roots
 pub mod RootTables
+pub mod RootNegated
+pub mod RootPowers
+pub mod RootTangents
+pub mod RootChoice
+pub mod RootLaws

@@ -9,7 +9,7 @@ use Rattle.algebra.specs.Gauss.{gauss}
 use Rattle.algebra.specs.Line.{re, im}
 use Rattle.algebra.proofs.Laws.{along, mul-zero}
 use Rattle.algebra.proofs.ResidueRing.{residue-add, residue-mul}
-use Rattle.algebra.proofs.FoldGauss.{half-gauss, re-gauss, im-gauss}
+use Rattle.algebra.proofs.Parts.{half-gauss, re-gauss, im-gauss}
 use Rattle.numbers.specs.Prime.{prime, exponent}
 use Rattle.numbers.specs.Value.{Value, ring, field, conj, i, res, real, half, part}
 use Rattle.numbers.proofs.Primes.{prime-least, prime-next, prime-half}

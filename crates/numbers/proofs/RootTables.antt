@@ -41,7 +41,7 @@ module _ (m : ℕ) (is : IsModulus m) (t : List ℕ) where
   rule : (test : ℕ → ℕ → ℕ → Bool) (n : ℕ) → Passes test m n t → (k : ℕ) → k < n
       → T (test (getD t k 0) ((pow (field m) (root m) k) .0 .val) ((pow (field m) (root m) k) .1 .val))
   unfolding prime root
-  rule test n = rule-at _ _ _ (omega arith) (omega arith) (omega arith) test n t
+  rule test n = rule-at _ _ _ (omega arith) (omega arith) test n t
 
   pub real-table : Passes real m 2880 t → RealTable m t
   real-table h = record { entry = λ k l. eqb→eq _ _ (rule real 2880 h k l) }

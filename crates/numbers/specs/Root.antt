@@ -1,13 +1,14 @@
--- The root r of order 2,880, and what the tables of its powers and half tangents hold.
+-- The root r of order 2,880: how the paper chooses it, what the tables of its powers and half tangents hold, and the laws that the transforms use.
 use mathlib.Core.Path.{_≡_}
 use mathlib.Core.List.{List}
-use Prim.Native.Nat.{ℕ, _+_, _*_, _-_, _<_}
-use lib.ListN.{getD}
+use Prim.Native.Nat.{ℕ, _+_, _*_, _-_, _%_, _≤_, _<_}
+use lib.ListN.{length, getD}
 use Rattle.algebra.specs.Ring.{Ops, pow}
 use Rattle.algebra.specs.Residue.{Res}
+use Rattle.algebra.specs.Fourier.{Root}
 use Rattle.numbers.specs.declared.Pair.{Pair}
-use Rattle.numbers.specs.Prime.{prime}
-use Rattle.numbers.specs.Value.{Value, value, ring, field, res, pairOf}
+use Rattle.numbers.specs.Prime.{prime, exponent, choice}
+use Rattle.numbers.specs.Value.{Value, value, ring, field, conj, i, res, real, half, part, pairOf}
 
 -- ((a + i)/(a - i))^c for the least a that the paper's rule allows
 unfoldable pub root : (m : ℕ) → Value m
@@ -29,6 +30,10 @@ pub record TangentTable (m : ℕ) (t : List ℕ) : Type 0 where
 unfoldable pub entryAt : (re im : List ℕ) → ℕ → Pair
 entryAt re im k = record { re = getD re k 0; im = getD im k 0 }
 
+-- every number of a table is a residue
+pub record AllBelow (p : ℕ) (t : List ℕ) : Type 0 where
+  pub below : (k : ℕ) → k < length t → getD t k 0 < p
+
 -- every one of the first n numbers is negated
 pub record NegatedTable (m n : ℕ) (t u : List ℕ) : Type 0 where
   pub entry : (k : ℕ) → k < n → getD u k 0 ≡ (ring m .neg (res m (getD t k 0))) .val
@@ -40,3 +45,57 @@ tableRoot m re im = value m (getD re 1 0) (getD im 1 0)
 pub record RootTable (m : ℕ) (re im : List ℕ) : Type 0 where
   pub cycle : pow (field m) (tableRoot m re im) 2880 ≡ field m .one
   pub entry : (k : ℕ) → k < 2880 → entryAt re im k ≡ pairOf (pow (field m) (tableRoot m re im) k)
+
+module _ (m : ℕ) where
+  open Ops (field m) using (add as _⊕_, mul as _⊗_, neg as ⊖_, one as 𝟙)
+
+  infixl 65 _⊕_
+  infixl 70 _⊗_
+  infix 75 ⊖_
+  -- z has order exactly n: z^n = 1, and a power of z is 1 only where n divides the exponent
+  pub record OrderIs (n : ℕ) (z : Value m) : Type 0 where
+    pub cycle : pow (field m) z n ≡ 𝟙
+    pub only : (k : ℕ) → pow (field m) z k ≡ 𝟙 → k % n ≡ 0
+
+  -- z is ((a + i)/(a - i))^c
+  pub record Candidate (a : ℕ) (z : Value m) : Type 0 where
+    pub inverse : Value m
+    pub inverts : (real m (res m a) ⊕ ⊖ i m) ⊗ inverse ≡ 𝟙
+    pub power : z ≡ pow (field m) ((real m (res m a) ⊕ i m) ⊗ inverse) (exponent m)
+
+  -- what the paper asks of the root
+  pub record Suits (z : Value m) : Type 0 where
+    pub order : OrderIs 2880 z
+    pub quarter : pow (field m) z 720 ≡ ⊖ i m
+
+  -- r is ((a + i)/(a - i))^c for the least a from 1 upward for which that suits
+  pub record LeastChoice (a : ℕ) (r : Value m) : Type 0 where
+    pub candidate : Candidate a r
+    pub suits : Suits r
+    pub least : (b : ℕ) → 1 ≤ b → b < a → (z : Value m) → Candidate b z → Suits z → ⊥
+
+  -- what the half tangents are for, with r^k = c + i d: 1/(1 + r^k), 1/d and c/d without a division
+  pub record TangentLaws (t : List ℕ) : Type 0 where
+    pub law : (k : ℕ) → k < 1440 → (𝟙 ⊕ ⊖ (i m ⊗ real m (res m (getD t k 0)))) ⊗ (𝟙 ⊕ pow (field m) (root m) k) ≡ 𝟙 ⊕ 𝟙
+    pub mirror : (k : ℕ) → 0 < k → k < 1440 → ring m .mul (res m (getD t k 0)) (res m (getD t (1440 - k) 0)) ≡ ring m .one
+    pub cosecant : (k : ℕ) → 0 < k → k < 1440
+        → ring m .mul (ring m .mul (half m) (ring m .add (res m (getD t k 0)) (res m (getD t (1440 - k) 0)))) ((pow (field m) (root m) k) .1) ≡ ring m .one
+    pub cotangent : (k : ℕ) → 0 < k → k < 1440
+        → ring m .mul (ring m .mul (half m) (ring m .add (res m (getD t (1440 - k) 0)) (ring m .neg (res m (getD t k 0))))) ((pow (field m) (root m) k) .1) ≡ (pow (field m) (root m) k) .0
+
+  -- the same for the conjugate root and the negated half tangents
+  pub record BackwardTangents (t : List ℕ) : Type 0 where
+    pub law : (k : ℕ) → k < 1440 → (𝟙 ⊕ ⊖ (i m ⊗ real m (res m (getD t k 0)))) ⊗ (𝟙 ⊕ pow (field m) (conj m (root m)) k) ≡ 𝟙 ⊕ 𝟙
+
+  -- everything that is proved of the root
+  pub record RootLaws : Type 0 where
+    pub choice-is : LeastChoice (choice m) (root m)
+    pub unity : Root (field m) 2880 (root m) (conj m (root m)) (real m (part m 2880))
+    pub half-turn : pow (field m) (root m) 1440 ≡ ⊖ 𝟙
+    pub quarter-turn : pow (field m) (root m) 720 ≡ ⊖ i m
+    pub order : OrderIs 2880 (root m)
+    pub conjugate : (k : ℕ) → k ≤ 2880 → conj m (pow (field m) (root m) k) ≡ pow (field m) (root m) (2880 - k)
+    pub table : (re im : List ℕ) → RealTable m re → ImaginaryTable m im → RootTable m re im × (tableRoot m re im ≡ root m)
+    pub backward : (re im u : List ℕ) → RealTable m re → ImaginaryTable m im → NegatedTable m 2880 im u → RootTable m re u × (tableRoot m re u ≡ conj m (root m))
+    pub tangents : (t : List ℕ) → TangentTable m t → TangentLaws t
+    pub backward-tangents : (t u : List ℕ) → TangentTable m t → NegatedTable m 1440 t u → BackwardTangents u

@@ -1,10 +1,9 @@
 -- Lists of small numbers: read, stored to, and tested.
 use mathlib.Core.Path.{_≡_, refl, sym, ap, _∙_, subst}
-use mathlib.Core.Logic.{_⊎_, inl, inr, ⊎-elim}
-use mathlib.Core.Bool.{Bool, true, false, _&&_}
+use mathlib.Core.Logic.{⊎-elim}
+use mathlib.Core.Bool.{Bool, true, false, _&&_, false≢true}
 use mathlib.Core.List.{List, [], _∷_, _++_}
 use Prim.Native.Nat.{ℕ, zero, suc, _+_, _-_, _*_, _<_, _≤_}
-use native.Mathlib.Nat.{eq-or-lt-of-le}
 use native.Mathlib.Numerals.{add-one}
 use native.Mathlib.Omega.{arith}
 use lib.Dec.{ltb}
@@ -13,7 +12,7 @@ use lib.Seq.{getD-set-same, getD-set-other, set-out, drop-cons, getD-take, getD-
 use borrow.Author.Tests.{lt-ltb, le-ltb, ltb-true}
 use Rattle.numbers.specs.declared.Pair.{Pair}
 use Rattle.numbers.specs.Value.{Small}
-use Rattle.slices.specs.Pairs.{at, put, puts, fills, tab, Below, allBelow}
+use Rattle.slices.specs.Pairs.{at, put, puts, tab, Below, allBelow}
 use Rattle.slices.specs.Segments.{segment, setSegment}
 use Rattle.slices.proofs.Pairs.{lt-or-ge, eq-or-ne, by-pairs, length-tab, at-tab}
 
@@ -121,6 +120,9 @@ pub allBelow-below : (m : ℕ) (l : List ℕ) → Below m l → allBelow m l ≡
 unfolding allBelow
 allBelow-below m [] h = refl
 allBelow-below m (x ∷ l) h = rw (lt-ltb x m (below-head h)) (allBelow-below m l (below-tail h))
+
+pub allBelow-not : (m : ℕ) (l : List ℕ) → allBelow m l ≡ false → Below m l → ⊥
+allBelow-not m l e h = false≢true (sym e ∙ allBelow-below m l h)
 
 pub below-allBelow : (m : ℕ) (l : List ℕ) → 0 < m → allBelow m l ≡ true → Below m l
 unfolding allBelow

@@ -1,5 +1,5 @@
 -- The lines of a box of pairs along each of its three indices: they lie inside, have no place in common, and cover the box.
-use mathlib.Core.Path.{_≡_, refl, sym, ap, _∙_, subst}
+use mathlib.Core.Path.{_≡_, sym, ap, _∙_}
 use Prim.Native.Nat.{ℕ, _+_, _*_, _/_, _%_, _<_, _≤_}
 use native.Mathlib.Omega.{arith}
 use Rattle.slices.specs.Sweep.{Disjoint, Covers, alongFirst, alongSecond, alongLast}
@@ -32,6 +32,10 @@ disjoint-second blocks n k b = record {
       let q = block-inj (y / k) (z / k) li lj (w .1) (v .1) e in
       (sym (w .2) ∙ ap (λ (x : ℕ). x * k + y % k) (q .0) ∙ ap (λ (x : ℕ). z / k * k + x) (q .2) ∙ v .2, q .1);
 }
+
+-- what `gather` and `scatter` ask of a line, where its start is that of its block and its column
+pub fits-second : (blocks n k : ℕ) {len y : ℕ} → 2 * (blocks * n * k) ≤ len → y < blocks * k → 2 * (y / k * (n * k) + y % k + n * k) + 2 ≤ len + 2 * k
+fits-second blocks n k b l = let w = row-split blocks l in omega (arith, row-end (n * k) (w .0), w .1)
 
 -- the line of block a and column c
 pub place-second : (blocks n k a c : ℕ) → c < k → (j : ℕ) → alongSecond blocks n k .place (a * k + c) j ≡ (a * n + j) * k + c

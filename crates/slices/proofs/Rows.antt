@@ -41,3 +41,7 @@ pub block-end : {t n k a b c : ℕ} → a < t → b < n → c < k → (a * n + b
 block-end {t} {n} {k} {a} {b} ha hb hc =
     let row : a * n + b < t * n = omega (arith, row-end n ha) in
     omega (arith, row-end k row)
+
+-- the same place, as a start and a number of strides
+pub strided-block : (a n k c j : ℕ) → a * (n * k) + c + j * k ≡ (a * n + j) * k + c
+strided-block a n k c j = omega arith

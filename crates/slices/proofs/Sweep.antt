@@ -1,9 +1,9 @@
 -- The sweep law: where the lines have no place in common and each turn makes its line of that line alone, every place ends
 -- with its line's result on the pairs that the list held at the START, and a place on no line is as it was.
 use mathlib.Core.Path.{_≡_, refl, sym, ap, _∙_, subst}
-use mathlib.Core.Logic.{_≢_, _⊎_, inl, inr, ⊎-elim}
+use mathlib.Core.Logic.{_≢_, ⊎-elim}
 use mathlib.Core.List.{List}
-use Prim.Native.Nat.{ℕ, zero, suc, _+_, _-_, _*_, _/_, _%_, _<_, _≤_}
+use Prim.Native.Nat.{ℕ, zero, suc, _+_, _*_, _<_, _≤_}
 use native.Mathlib.Nat.{not-suc-le-zero, eq-or-lt-of-le, le-of-suc-le-suc}
 use native.Mathlib.Numerals.{add-one}
 use native.Mathlib.Omega.{arith}
@@ -11,7 +11,7 @@ use lib.ListN.{length}
 use Rattle.numbers.specs.declared.Pair.{Pair}
 use Rattle.slices.specs.Pairs.{at, puts, tab, Below}
 use Rattle.slices.specs.Sweep.{Layout, lineOf, setLine, sweep, Disjoint, Covers, Local, KeepsSmall, onLists, Sweeping}
-use Rattle.slices.proofs.Pairs.{length-puts, at-puts, at-puts-other, puts-ext, tab-cong, is-tab}
+use Rattle.slices.proofs.Pairs.{length-puts, at-puts, at-puts-other, puts-same, tab-cong, is-tab}
 use Rattle.slices.proofs.Bounds.{small-at, below-puts}
 
 module _ (L : Layout) (g : ℕ → (ℕ → Pair) → ℕ → Pair) where
@@ -89,14 +89,19 @@ module _ {L : Layout} {g : ℕ → (ℕ → Pair) → ℕ → Pair} {d₀ : List
   unfolding sweep
   sweeping-start = record { le = omega arith; len = refl; is = refl }
 
-  pub sweeping-next : {y : ℕ} {d e : List ℕ} {v : ℕ → Pair} → Sweeping L g y d₀ d → y < L .count → e ≡ setLine L y v d
-      → ((i : ℕ) → i < L .size y → v i ≡ g y (lineOf L y d) i) → Sweeping L g (y + 1) d₀ e
-  sweeping-next {y} {d} {e} {v} h l s w = record {
+  -- the turn of line y, where the code says its places in another way than the layout
+  pub sweeping-turn : {y : ℕ} {d e : List ℕ} {p : ℕ → ℕ} {v : ℕ → Pair} → Sweeping L g y d₀ d → y < L .count → e ≡ puts p v (L .size y) d
+      → ((i : ℕ) → i < L .size y → p i ≡ L .place y i) → ((i : ℕ) → i < L .size y → v i ≡ g y (lineOf L y d) i) → Sweeping L g (y + 1) d₀ e
+  sweeping-turn {y} {d} {e} {p} {v} h l s q w = record {
     le = omega arith;
-    len = ap length s ∙ length-puts (L .place y) v (L .size y) d ∙ h .len;
-    is = s ∙ puts-ext (L .place y) v (g y (lineOf L y d)) (L .size y) d w
+    len = ap length s ∙ length-puts p v (L .size y) d ∙ h .len;
+    is = s ∙ puts-same p (L .place y) v (g y (lineOf L y d)) (L .size y) d q w
         ∙ ap (λ (x : List ℕ). setLine L y (g y (lineOf L y x)) x) (h .is) ∙ sym (sweep-next L g y d₀);
   }
+
+  pub sweeping-next : {y : ℕ} {d e : List ℕ} {v : ℕ → Pair} → Sweeping L g y d₀ d → y < L .count → e ≡ setLine L y v d
+      → ((i : ℕ) → i < L .size y → v i ≡ g y (lineOf L y d) i) → Sweeping L g (y + 1) d₀ e
+  sweeping-next h l s w = sweeping-turn h l s (λ i li. refl) w
 
   pub sweeping-done : {y : ℕ} {d : List ℕ} → Sweeping L g y d₀ d → L .count ≤ y → d ≡ sweep L g (L .count) d₀
   sweeping-done {y} {d} h l =

@@ -3,7 +3,7 @@
 -- What a loop leaves is said as a run of stores: at places 0, 1, .. (`fills`), over a whole list (`tab`), or at any places
 -- (`puts`). That all the rest is untouched is then part of the statement.
 use mathlib.Core.Path.{_≡_}
-use mathlib.Core.Bool.{Bool, true, false, _&&_}
+use mathlib.Core.Bool.{Bool, true, _&&_}
 use mathlib.Core.List.{List, [], _∷_}
 use Prim.Native.Nat.{ℕ, zero, suc, _+_, _*_, _<_, _≤_}
 use lib.ListN.{length, getD, set, replicate}

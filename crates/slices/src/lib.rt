@@ -2,7 +2,7 @@
 // numbers 2 j and 2 j + 1. Nothing here computes with the values.
 use numbers::Pair;
 ghost use mathlib.Core.Path.{_≡_};
-ghost use Prim.Native.Nat.{ℕ, _+_, _*_, _<_, _≤_};
+ghost use Prim.Native.Nat.{_+_, _*_, _<_, _≤_};
 ghost use mathlib.Core.List.{_++_};
 ghost use lib.ListN.{length, replicate, drop};
 ghost use Rattle.slices.specs.Pairs.{at, put, puts, fills, allBelow};

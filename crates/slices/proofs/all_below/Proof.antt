@@ -27,7 +27,7 @@ returns : tie.Need-returns Inv-loop μ-loop
 returns c =
     let l = c .before .before .before in
     let a = l .before .args in
-    sym (l .loop .inv .1 ∙ allBelow-stop (a .p) (a .s .now) (l .loop .i) (c .before .before .loop-test .taken) (c .if1 .taken))
+    sym (l .loop .inv .1 ∙ allBelow-stop (a .p) (a .s .now) (l .loop .i) (c .before .before .loop-test .taken) (omega arith))
 
 add-i : tie.Need-add-i Inv-loop μ-loop
 add-i c = omega arith
@@ -39,7 +39,7 @@ loop-again : tie.Need-loop-again Inv-loop μ-loop
 loop-again c =
     let l = c .before .before .before in
     let a = l .before .args in
-    (omega arith, l .loop .inv .1 ∙ allBelow-next (a .p) (a .s .now) (l .loop .i) (c .before .before .loop-test .taken) (c .if1 .left))
+    (omega arith, l .loop .inv .1 ∙ allBelow-next (a .p) (a .s .now) (l .loop .i) (c .before .before .loop-test .taken) (omega arith))
 
 returns-2 : tie.Need-returns-2 Inv-loop μ-loop
 returns-2 c =

@@ -34,7 +34,7 @@ loop-again c =
     let l = c .before in
     let v = l .loop .inv in (
       omega arith,
-      length-set (l .loop .d) (l .loop .i) 0 ∙ v .1,
+      simp length-set (v .1),
       ap (λ (x : List ℕ). set x (l .loop .i) 0) (v .2) ∙ fill-more (l .loop .i) 0 (l .before .args .d .now) (omega arith),
     )
 

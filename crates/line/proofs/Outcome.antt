@@ -1,0 +1,23 @@
+-- The outcome of a call, refused or accepted, as the call's own parts have it.
+use mathlib.Core.Path.{_≡_}
+use mathlib.Core.List.{List}
+use Prim.Native.Nat.{ℕ}
+use lib.ListN.{length}
+use Rattle.numbers.specs.Prime.{prime}
+use Rattle.line.specs.declared.Refusal.{Refusal}
+use Rattle.line.specs.declared.LineAnswer.the-variants.{Transformed, Refused}
+use Rattle.line.specs.Refusals.{numberOf}
+use Rattle.line.specs.Tests.{first}
+use Rattle.line.specs.Lengths.{cleared}
+use Rattle.line.specs.Line.{lineTests, transformed, lineStep, lineOutcome}
+use Rattle.line.proofs.Tests.{fails}
+
+pub refused-outcome : (m kind direction N : ℕ) (factors line scratch : List ℕ) (r : Refusal) → numberOf r ≡ first (lineTests (prime m) kind direction N factors line (length scratch)) →
+    lineOutcome (Refused r) line scratch ≡ lineStep m kind direction N factors line scratch
+unfolding lineStep
+refused-outcome m kind direction N factors line scratch r e = fails r _ _ (λ n. record { answer = n; line = line; scratch = scratch }) e
+
+pub transformed-outcome : (m kind direction N : ℕ) (factors line scratch line′ scratch′ : List ℕ) → 0 ≡ first (lineTests (prime m) kind direction N factors line (length scratch)) →
+    line′ ≡ transformed m kind direction N line → scratch′ ≡ cleared scratch → lineOutcome Transformed line′ scratch′ ≡ lineStep m kind direction N factors line scratch
+unfolding lineStep
+transformed-outcome m kind direction N factors line scratch line′ scratch′ e l s = rw (← e, l, s)

@@ -1,0 +1,48 @@
+// One line of structure factors: the six kinds, both directions.
+pub mod check;
+
+ghost use Rattle.line.specs.Specimens.{Specimens};
+
+// Why a call is turned back: one case for each number of the paper.
+pub enum Refusal {
+    LineKind,
+    Direction,
+    Length,
+    Factor,
+    Product,
+    BufferLength,
+    NotResidue,
+    Group,
+    VolumeTooLarge,
+    Index,
+    ZeroValue,
+    Contradiction,
+    ScratchTooShort,
+    Inconsistent,
+    FileShape,
+    FileVersion,
+    NoRecords,
+    OutputTooShort,
+    NotCollecting,
+    NoMap,
+    NoFactors,
+    Occupied,
+    ImpossibleJob,
+}
+
+// What a check says.
+pub enum Checked {
+    Sound,
+    Failed(Refusal),
+}
+
+// The answer of a line.
+pub enum LineAnswer {
+    Transformed,
+    Refused(Refusal),
+}
+
+// The paper's starred lines, computed from the definitions.
+pub fn starred_lines()
+    ensures { λ _. ⌜ Specimens ⌝ }
+{}

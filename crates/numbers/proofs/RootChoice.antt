@@ -1,0 +1,166 @@
+-- The paper's choice of a: r is ((a + i)/(a - i))^c for a = 14 and a = 4, and for every smaller a one computed test shows that the 720th power is not -i,
+-- or that the 960th is 1 already. With X = (a + i)^c and its conjugate Y, the candidate z has z Y = X, so no quotient is computed.
+use mathlib.Core.Path.{_≡_, refl, sym, _∙_, ap, ap₂, subst}
+use mathlib.Core.Bool.{Bool, true, false, not, _||_}
+use mathlib.Core.List.{List, [], _∷_}
+use Prim.Native.Nat.{ℕ, zero, suc, _+_, _*_, _-_, _%_, _≤_, _<_}
+use native.Mathlib.Nat as N
+use native.Mathlib.Omega.{arith}
+use lib.Dec.{T, T-not, eqb, eqb→eq, eqb-refl}
+use Rattle.algebra.specs.Ring.{Ops, pow}
+use Rattle.algebra.specs.Residue.{Res, residue, residues}
+use Rattle.algebra.specs.Gauss.{gauss}
+use Rattle.algebra.specs.Gauss as Gauss
+use Rattle.algebra.proofs.Laws.{add-zero, neg-zero}
+use Rattle.algebra.proofs.Solver.{ring, quote, linear}
+use Rattle.algebra.proofs.ResidueRing.{val-path, residue-val, residue-add}
+use Rattle.algebra.proofs.Transform.{mul-pow, one-pow}
+use Rattle.algebra.proofs.Conj.{conj-pow}
+use Rattle.algebra.proofs.EveryBelow.{every, every-at}
+use Rattle.algebra.proofs.PowerTable.{power-then, power-is}
+use Rattle.numbers.specs.Prime.{prime, exponent, choice, IsModulus}
+use Rattle.numbers.specs.Value.{Value, Residue, field, conj, i, res, value, real}
+use Rattle.numbers.specs.Value as Value
+use Rattle.numbers.specs.Root.{root, OrderIs, Candidate, Suits, LeastChoice}
+use Rattle.numbers.proofs.Primes.{prime-least}
+use Rattle.numbers.proofs.Residues.{res-ring, res-val, val-small}
+use Rattle.numbers.proofs.Values.{value-path, conj-real, field-ring, field-star}
+use Rattle.numbers.proofs.Roots.{by-numbers, root-order, quarter-turn}
+use Rattle.numbers.proofs.RootCases.{by-modulus}
+
+-- of X = (b + i)^c: X^720 = x + y i with x + y not 0, or X^960 is real
+unfoldable excluded : (m b : ℕ) → Bool
+excluded m b =
+    power-then (prime m) b 1 (exponent m) 1 0
+    (λ u v. power-then (prime m) u v 720 1 0 (λ x y. not (eqb ((x + y) % prime m) 0)) || power-then (prime m) u v 960 1 0 (λ x y. eqb y 0))
+
+first-excluded : T (every (λ b. excluded 1 (suc b)) 13)
+unfolding every excluded power-then prime exponent
+first-excluded = tt
+
+second-excluded : T (every (λ b. excluded 2 (suc b)) 3)
+unfolding every excluded power-then prime exponent
+second-excluded = tt
+
+first-candidate : Candidate 1 (choice 1) (root 1)
+unfolding prime exponent choice root residue residues gauss Gauss.imag pow
+first-candidate = record { inverse = value 1 14473 56576; inverts = by-numbers refl refl; power = by-numbers refl refl }
+
+second-candidate : Candidate 2 (choice 2) (root 2)
+unfolding prime exponent choice root residue residues gauss Gauss.imag pow
+second-candidate = record { inverse = value 2 177882 195670; inverts = by-numbers refl refl; power = by-numbers refl refl }
+
+tested : (m : ℕ) → IsModulus m → T (every (λ b. excluded m (suc b)) (choice m - 1))
+unfolding choice
+tested = by-modulus (λ m. T (every (λ b. excluded m (suc b)) (choice m - 1))) first-excluded second-excluded
+
+either : (a b : Bool) {C : Type 0} → T (a || b) → (T a → C) → (T b → C) → C
+either true b t f g = f t
+either false b t f g = g t
+
+module _ (m b : ℕ) where
+  open Ops (field m) using (add as _⊕_, mul as _⊗_, neg as ⊖_, one as 𝟙)
+
+  infixl 65 _⊕_
+  infixl 70 _⊗_
+  infix 75 ⊖_
+  -- (b + i)^c
+  abbrev X : Value m
+  X = pow (field m) (real m (res m b) ⊕ i m) (exponent m)
+
+  sum-value : real m (res m b) ⊕ i m ≡ value m b 1
+  unfolding residues gauss Gauss.imag
+  sum-value = value-path (add-zero (res-ring m) (res m b)) (res-ring m .zero-add (res m 1))
+
+  -- what the test reads
+  abbrev isSkew : Value m → Bool
+  isSkew P = eqb ((P .0 .val + P .1 .val) % prime m) 0
+
+  abbrev isReal : Value m → Bool
+  isReal P = eqb (P .1 .val) 0
+
+  excluded-is : excluded m b ≡ (not (isSkew (pow (field m) X 720)) || isReal (pow (field m) X 960))
+  unfolding excluded
+  excluded-is =
+      power-is (prime m) b 1 big big _ (exponent m)
+      ∙ ap (λ W. f (W .0 .val) (W .1 .val)) (ap (λ y. pow (field m) y (exponent m)) (sym sum-value))
+      ∙ ap₂ _||_ (inner (λ x y. not (eqb ((x + y) % prime m) 0)) 720) (inner (λ x y. eqb y 0) 960)
+    where
+      big : 1 < prime m
+      big = omega (arith, prime-least m)
+
+      f : ℕ → ℕ → Bool
+      f u v = power-then (prime m) u v 720 1 0 (λ x y. not (eqb ((x + y) % prime m) 0)) || power-then (prime m) u v 960 1 0 (λ x y. eqb y 0)
+
+      inner : (g : ℕ → ℕ → Bool) (n : ℕ) → power-then (prime m) (X .0 .val) (X .1 .val) n 1 0 g ≡ g ((pow (field m) X n) .0 .val) ((pow (field m) X n) .1 .val)
+      inner g n =
+          power-is (prime m) (X .0 .val) (X .1 .val) big (val-small m (X .1)) g n
+          ∙ ap (λ y. g ((pow (field m) y n) .0 .val) ((pow (field m) y n) .1 .val)) (value-path (res-val m (X .0)) (res-val m (X .1)))
+
+  -- a value whose product with -i times its conjugate gives it back has parts x and y with x + y = 0
+  skew : (P : Value m) → (⊖ i m) ⊗ conj m P ≡ P → (P .0 .val + P .1 .val) % prime m ≡ 0
+  unfolding gauss Gauss.conj Gauss.imag residues residue
+  skew P e = ap (λ x. x .val) (parts (P .0) (P .1) (ap (λ y. y .0) e)) ∙ N.zero-mod (prime m)
+    where
+      parts : (x y : Residue m) → Value.ring m .add (Value.ring m .mul (Value.ring m .neg (Value.ring m .zer)) x) (Value.ring m .neg (Value.ring m .mul (Value.ring m .neg (Value.ring m .one)) (Value.ring m .neg y))) ≡ x → Value.ring m .add x y ≡ Value.ring m .zer
+      parts x y h = linear (res-ring m) h (Value.ring m .neg (Value.ring m .one)) (ring (res-ring m) (x ∷ y ∷ []) (search quote depth 40 fits 9999) refl)
+
+  real-conj : (P : Value m) → P .1 .val ≡ 0 → P ≡ conj m P
+  unfolding Gauss.conj residues
+  real-conj P e = value-path refl (zero ∙ sym (ap (Value.ring m .neg) zero ∙ neg-zero (res-ring m)))
+    where
+      zero : P .1 ≡ Value.ring m .zer
+      zero = sym (res-val m (P .1)) ∙ ap (res m) e
+
+  module _ {z : Value m} (h : Candidate m b z) where
+    -- 1/(b - i)^c, where (b - i)^c is the conjugate of X
+    abbrev Z : Value m
+    Z = pow (field m) (h .inverse) (exponent m)
+
+    divisor : conj m X ⊗ Z ≡ 𝟙
+    divisor =
+        ap (λ y. y ⊗ Z) (conj-pow (field-ring m) (field-star m) _ (exponent m) ∙ ap (λ y. pow (field m) y (exponent m)) conj-sum)
+        ∙ sym (mul-pow (field-ring m) _ (h .inverse) (exponent m))
+        ∙ ap (λ y. pow (field m) y (exponent m)) (h .inverts)
+        ∙ one-pow (field-ring m) (exponent m)
+      where
+        conj-sum : conj m (real m (res m b) ⊕ i m) ≡ real m (res m b) ⊕ ⊖ i m
+        conj-sum = field-star m .conj-add _ _ ∙ ap₂ _⊕_ (conj-real m (res m b)) (field-star m .conj-i)
+
+    quotient : z ≡ X ⊗ Z
+    quotient = h .power ∙ mul-pow (field-ring m) _ (h .inverse) (exponent m)
+
+    raised : (n : ℕ) → pow (field m) z n ≡ pow (field m) X n ⊗ pow (field m) Z n
+    raised n = ap (λ y. pow (field m) y n) quotient ∙ mul-pow (field-ring m) X Z n
+
+    raised-divisor : (n : ℕ) → conj m (pow (field m) X n) ⊗ pow (field m) Z n ≡ 𝟙
+    raised-divisor n = ap (λ y. y ⊗ pow (field m) Z n) (conj-pow (field-ring m) (field-star m) X n) ∙ sym (mul-pow (field-ring m) (conj m X) Z n) ∙ ap (λ y. pow (field m) y n) divisor ∙ one-pow (field-ring m) n
+
+    skewed : pow (field m) z 720 ≡ ⊖ i m → T (isSkew (pow (field m) X 720))
+    skewed h = subst (λ x. T (eqb x 0)) (sym (skew (pow (field m) X 720) (step (i m) _ _ _ (sym h ∙ raised 720) (raised-divisor 720)))) tt
+      where
+        step : (x P C W : Value m) → ⊖ x ≡ P ⊗ W → C ⊗ W ≡ 𝟙 → (⊖ x) ⊗ C ≡ P
+        step x P C W a d = linear (field-ring m) a C (linear (field-ring m) d P (ring (field-ring m) (x ∷ P ∷ C ∷ W ∷ []) (search quote depth 40 fits 9999) refl))
+
+    early : T (isReal (pow (field m) X 960)) → pow (field m) z 960 ≡ 𝟙
+    early t = raised 960 ∙ ap (λ y. y ⊗ pow (field m) Z 960) (real-conj (pow (field m) X 960) (eqb→eq ((pow (field m) X 960) .1 .val) 0 t)) ∙ raised-divisor 960
+
+    never : Suits m z → T (excluded m b) → ⊥
+    never s t =
+        either (not (isSkew (pow (field m) X 720))) (isReal (pow (field m) X 960)) (subst T excluded-is t)
+        (λ u. T-not (isSkew (pow (field m) X 720)) u (skewed (s .quarter)))
+        (λ u. not-960 (s .order .only 960 (early u)))
+      where
+        not-960 : _≡_ {A = ℕ} (960 % 2880) 0 → ⊥
+        not-960 e = omega arith
+
+pub least-choice : (m : ℕ) → IsModulus m → LeastChoice m (choice m) (root m)
+least-choice m is = record {
+  candidate = by-modulus (λ m. Candidate m (choice m) (root m)) first-candidate second-candidate m is;
+  suits = record { order = root-order m is; quarter = quarter-turn m is };
+  least = least;
+}
+  where
+    least : (b : ℕ) → 1 ≤ b → b < choice m → (z : Value m) → Candidate m b z → Suits m z → ⊥
+    least zero p l z h s = absurd (omega arith)
+    least (suc b) p l z h s = never m (suc b) h s (every-at (λ b. excluded m (suc b)) (choice m - 1) (tested m is) b (omega arith))

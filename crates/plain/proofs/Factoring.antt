@@ -1,0 +1,64 @@
+-- Packed factor lists: taking the next factor off, and the packed form of a list.
+use mathlib.Core.Path.{_≡_, refl, sym, _∙_, ap}
+use mathlib.Core.Logic.{_≢_}
+use mathlib.Core.List.{List}
+use Prim.Native.Nat.{ℕ, _+_, _*_, _/_, _%_, _≤_, _<_}
+use native.Mathlib.Nat as N
+use native.Mathlib.Omega.{arith}
+use Rattle.plain.specs.Factors.{Factored, done, more, octal, product, Factors, none, one, Splits}
+use Rattle.plain.proofs.Sizes.{divisor-pos}
+
+-- a list of factors packs to a number that is factored by their product
+pub packed : {l : List ℕ} → Factors l → Factored (octal l) (product l)
+unfolding octal product
+packed none = done
+packed (one low high h) = more low high (packed h)
+
+-- a silent first factor
+pub with-two : {factors k : ℕ} → Factored factors k → Factored (2 + 8 * factors) (2 * k)
+with-two h = more {f = 2} (omega arith) (omega arith) h
+
+-- the empty list
+pub factored-none : {k : ℕ} → Factored 0 k → k ≡ 1
+factored-none {k} h = at h refl
+  where
+    at : {left k : ℕ} → Factored left k → left ≡ 0 → k ≡ 1
+    at done z = refl
+    at (more low high h) z = absurd (omega arith)
+
+-- the next factor of a list that is not empty, and the rest
+pub record Next (left k : ℕ) : Type 0 where
+  pub low : 2 ≤ left % 8
+  pub high : left % 8 ≤ 5
+  pub whole : left % 8 * (k / (left % 8)) ≡ k
+  pub rest : Factored (left / 8) (k / (left % 8))
+
+pub next-factor : {left k : ℕ} → Factored left k → left ≢ 0 → Next left k
+next-factor done z = absurd (z refl)
+next-factor (more {f} {rest} {k} low high h) z =
+    let digit : (f + 8 * rest) % 8 ≡ f = omega arith in
+    let left : (f + 8 * rest) / 8 ≡ rest = omega arith in
+    let shared : f * k / f ≡ k = N.mul-div-right k (omega arith) in
+    record {
+      low = omega arith;
+      high = omega arith;
+      whole = rw (digit, shared);
+      rest = rw (digit, left, shared) h;
+    }
+
+pub factored-pos : {left k : ℕ} → Factored left k → 0 < k
+factored-pos done = omega arith
+factored-pos (more {f} {rest} {k} low high h) = N.mul-pos (omega arith) (factored-pos h)
+
+-- the next step of a line of n points, after steps whose factors have the product A
+pub next-splits : {left k A n : ℕ} → Factored left k → left ≢ 0 → A * k ≡ n → n * (2880 / n) ≡ 2880 → Splits A (left % 8) (k / (left % 8))
+next-splits {left} {k} {A} {n} h z e d =
+    let next = next-factor h z in
+    let whole : A * (left % 8) * (k / (left % 8)) ≡ n = N.mul-assoc A (left % 8) (k / (left % 8)) ∙ ap (λ x. A * x) (next .whole) ∙ e in
+    record {
+      inner = divisor-pos A (k * (2880 / n)) (sym (N.mul-assoc A k (2880 / n)) ∙ ap (λ x. x * (2880 / n)) e ∙ d);
+      low = next .low;
+      high = next .high;
+      lines = factored-pos (next .rest);
+      divides = rw whole d;
+    }

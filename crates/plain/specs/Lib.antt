@@ -1,0 +1,3 @@
+pub mod Steps
+pub mod Factors
+pub mod Buffers

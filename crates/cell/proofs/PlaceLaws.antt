@@ -10,7 +10,7 @@ use lib.ListN.{length, getD}
 use lib.Dec.{eqb, leb, ltb}
 use borrow.Author.Tests.{eq-eqb, ne-eqb, eqb-true, eqb-false, le-leb, lt-leb, lt-ltb, le-ltb}
 use Rattle.algebra.specs.Kinds.{Kind}
-use Rattle.algebra.specs.Cell.{J, Inside, Sym, Group, P1, P2₁, Pm, Pa, one, ops, negI, pim, planes, span, prep, heldSym, Held}
+use Rattle.algebra.specs.Cell.{J, Inside, Sym, Group, P1, P2₁, Pm, Pa, one, ops, negI, pim, planes, span, prep, planeSym}
 use Rattle.algebra.specs.CellPack.{even}
 use Rattle.algebra.proofs.Laws.{along}
 use Rattle.algebra.proofs.CellAxis.{neg-pos}
@@ -202,15 +202,15 @@ pub order-least : (n : ℕ) → n < 4 → 1 ≤ length (ops (groupOf n))
 order-least = by-group (λ g. 1 ≤ length (ops g)) (omega arith) (omega arith) (omega arith) (omega arith)
 
 -- the group's other operation is the last of its list
-last-own : (n : ℕ) → n < 4 → getD (ops (groupOf n)) (length (ops (groupOf n)) - 1) one ≡ heldSym (groupOf n)
-last-own = by-group (λ g. getD (ops g) (length (ops g) - 1) one ≡ heldSym g) refl refl refl refl
+last-own : (n : ℕ) → n < 4 → getD (ops (groupOf n)) (length (ops (groupOf n)) - 1) one ≡ planeSym (groupOf n)
+last-own = by-group (λ g. getD (ops g) (length (ops g) - 1) one ≡ planeSym g) refl refl refl refl
 
 module _ (g : Group) (a x : J) where
   pub stored-plane : x .2 < planes g (a .2) → x ≡ pim a (prep g a x) x
   unfolding prep
   stored-plane l = rw (lt-ltb (x .2) (planes g (a .2)) l) (sym (pim-one a x))
 
-  other-plane : planes g (a .2) ≤ x .2 → heldSym g ≡ prep g a x
+  other-plane : planes g (a .2) ≤ x .2 → planeSym g ≡ prep g a x
   unfolding prep
   other-plane l = rw (le-ltb (x .2) (planes g (a .2)) l)
 

@@ -10,3 +10,5 @@ pub mod OrbitNumbers
 pub mod Points
 pub mod OperationLaws
 pub mod PlaceLaws
+pub mod Scans
+pub mod ReadingLaws

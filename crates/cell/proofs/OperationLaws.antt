@@ -8,7 +8,7 @@ use native.Mathlib.Omega.{arith}
 use lib.ListN.{length, getD, length-append, length-map, List·getD-append}
 use lib.Seq.{getD-append-add}
 use Rattle.algebra.specs.Ring.{Ops, pow}
-use Rattle.algebra.specs.Cell.{J, Inside, Sym, one, friedel, _·_, Group, P1, P2₁, Pm, Pa, ops, full, flip, turn, xor, sgn, star, imp}
+use Rattle.algebra.specs.Cell.{J, Inside, Sym, one, friedel, _·_, Group, P1, P2₁, Pm, Pa, ops, full, lineSym, flip, turn, xor, sgn, star, imp}
 use Rattle.algebra.proofs.Laws.{along, neg-one-mul}
 use Rattle.algebra.proofs.Transform.{sign-even, sign-odd}
 use Rattle.algebra.proofs.CellAxis.{neg-zero, neg-pos, half-low, half-high}
@@ -40,6 +40,9 @@ order-two (suc (suc (suc (suc n)))) l z = absurd (omega arith)
 -- a group has at most two operations, P1 but one
 pub order-most : (n : ℕ) → n < 4 → length (ops (groupOf n)) ≤ 2
 order-most = by-group (λ g. length (ops g) ≤ 2) (omega arith) (omega arith) (omega arith) (omega arith)
+
+pub order-least : (n : ℕ) → n < 4 → 1 ≤ length (ops (groupOf n))
+order-least = by-group (λ g. 1 ≤ length (ops g)) (omega arith) (omega arith) (omega arith) (omega arith)
 
 pub first-own : (n : ℕ) → n < 4 → one ≡ getD (ops (groupOf n)) 0 one
 first-own = by-group (λ g. one ≡ getD (ops g) 0 one) refl refl refl refl
@@ -74,6 +77,20 @@ module _ (l : List Sym) where
       sym (along (λ q. getD twofold q one) k (length l + (k - length l)) (omega arith)
       ∙ getD-append-add l (map (λ s. friedel · s) l) (k - length l) one
       ∙ getD-map (λ s. friedel · s) l (k - length l) one one (omega arith))
+
+-- the operation along l, in each group's list
+pub line-plain : {n : ℕ} → n ≡ 0 → getD (full (groupOf n)) 0 one ≡ lineSym (groupOf n)
+line-plain e = rw e refl
+
+pub line-alternating : {n : ℕ} → n ≡ 1 → getD (full (groupOf n)) 3 one ≡ lineSym (groupOf n)
+line-alternating e = rw e refl
+
+pub line-mirrored : (n : ℕ) → n < 4 → (n ≡ 0 → ⊥) → (n ≡ 1 → ⊥) → getD (full (groupOf n)) 1 one ≡ lineSym (groupOf n)
+line-mirrored zero l y z = absurd (y refl)
+line-mirrored (suc zero) l y z = absurd (z refl)
+line-mirrored (suc (suc zero)) l y z = refl
+line-mirrored (suc (suc (suc zero))) l y z = refl
+line-mirrored (suc (suc (suc (suc n)))) l y z = absurd (omega arith)
 
 -- ---- one axis
 

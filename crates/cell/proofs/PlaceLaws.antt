@@ -25,12 +25,12 @@ use Rattle.cell.proofs.VolumeLayout.{place-inside}
 use Rattle.cell.proofs.OperationLaws.{by-group}
 
 -- the groups that store half of each line
-pub by-half : (P : Group → Type 0) → P P2₁ → P Pm → P Pa → (n : ℕ) → n < 4 → (n ≡ 0 → ⊥) → P (groupOf n)
-by-half P b c d zero l z = absurd (z refl)
-by-half P b c d (suc zero) l z = b
-by-half P b c d (suc (suc zero)) l z = c
-by-half P b c d (suc (suc (suc zero))) l z = d
-by-half P b c d (suc (suc (suc (suc n)))) l z = absurd (omega arith)
+pub by-halved : (P : Group → Type 0) → P P2₁ → P Pm → P Pa → (n : ℕ) → n < 4 → (n ≡ 0 → ⊥) → P (groupOf n)
+by-halved P b c d zero l z = absurd (z refl)
+by-halved P b c d (suc zero) l z = b
+by-halved P b c d (suc (suc zero)) l z = c
+by-halved P b c d (suc (suc (suc zero))) l z = d
+by-halved P b c d (suc (suc (suc (suc n)))) l z = absurd (omega arith)
 
 -- an index below the lengths is one of the theory's
 pub inside-of : {n1 n2 n3 : ℕ} {j : Index} → Length n1 → Length n2 → Length n3 → Within n1 n2 n3 j → Inside (halvesOf n1 n2 n3) (tripleOf j)
@@ -89,7 +89,7 @@ Middle a h k l g = (lineNumbers g a (lineKind g h) h k l ≡ pairNumbers g a (mi
 
 pub middle-numbers : (a : J) (h k l : ℕ) → (l ≡ 0 → ⊥) × (l ≡ a .2 → ⊥) → l < 2 * a .2 → (n : ℕ) → n < 4 → (n ≡ 0 → ⊥) → Middle a h k l (groupOf n)
 unfolding planes
-middle-numbers a h k l z b = by-half (Middle a h k l) (rw (ne-eqb l 0 (z .0), ne-eqb l (a .2) (z .1)) refl, omega arith) (refl, omega arith) (glide (even h), omega arith)
+middle-numbers a h k l z b = by-halved (Middle a h k l) (rw (ne-eqb l 0 (z .0), ne-eqb l (a .2) (z .1)) refl, omega arith) (refl, omega arith) (glide (even h), omega arith)
   where
     glide : (e : Bool) → lineNumbers Pa a (cond e Kind.symmetric Kind.antisymmetric) h k l ≡ pairNumbers Pa a (min l (2 * a .2 - l)) h k
     glide true = refl
@@ -181,7 +181,33 @@ mirrored-layers (suc (suc (suc (suc n)))) c l y z = absurd (omega arith)
 
 pub half-span : (n c : ℕ) → n < 4 → (n ≡ 0 → ⊥) → c + 1 ≡ span (groupOf n) c
 unfolding span
-half-span n c = by-half (λ g. c + 1 ≡ span g c) (omega arith) (omega arith) (omega arith) n
+half-span n c = by-halved (λ g. c + 1 ≡ span g c) (omega arith) (omega arith) (omega arith) n
+
+pub stored-layer : (n c l : ℕ) → n < 4 → (n ≡ 1 → ⊥) → l < span (groupOf n) c → l < planes (groupOf n) c
+unfolding planes span
+stored-layer zero c l b z h = h
+stored-layer (suc zero) c l b z h = absurd (z refl)
+stored-layer (suc (suc zero)) c l b z h = h
+stored-layer (suc (suc (suc zero))) c l b z h = h
+stored-layer (suc (suc (suc (suc n)))) c l b z h = absurd (omega arith)
+
+pub alternating-half : {n c l : ℕ} → n ≡ 1 → l < span (groupOf n) c → l ≤ c
+unfolding span
+alternating-half {n} {c} {l} e h = let s : l < suc c = rw (ap groupOf e) at h in omega arith
+
+-- the pair w of the line of j lies in the volume
+pub pair-inside : {group n1 n2 n3 : ℕ} → Sizes group n1 n2 n3 → (j : Index) → Within n1 n2 n3 j → j .k ≤ n2 / 2 → (w : ℕ) → w < layers (groupOf group) (halvesOf n1 n2 n3)
+    → 2 * pairPlace P1 (halvesOf n1 n2 n3) w (j .h) (j .k) + 1 < volumeLength (groupOf group) (halvesOf n1 n2 n3)
+pair-inside {group} {n1} {n2} {n3} s j i b w l = omega (arith, place-inside (groupOf group) (halvesOf n1 n2 n3) {w = w} {h = j .h} {k = j .k} l (omega arith) (omega arith))
+
+-- pair 0 of an alternating line, which a volume always has
+pub first-inside : {n1 n2 n3 : ℕ} → Sizes 1 n1 n2 n3 → (j : Index) → Within n1 n2 n3 j → j .k ≤ n2 / 2 → 2 * pairPlace P1 (halvesOf n1 n2 n3) 0 (j .h) (j .k) + 1 < volumeLength P2₁ (halvesOf n1 n2 n3)
+unfolding planes
+first-inside s j i b = pair-inside s j i b 0 (omega arith)
+
+pub middle-inside : {n1 n2 n3 : ℕ} → Sizes 1 n1 n2 n3 → (j : Index) → Within n1 n2 n3 j → j .k ≤ n2 / 2 → j .l ≤ n3 / 2 → (j .l ≡ n3 / 2 → ⊥) → 2 * pairPlace P1 (halvesOf n1 n2 n3) (j .l) (j .h) (j .k) + 1 < volumeLength P2₁ (halvesOf n1 n2 n3)
+unfolding planes
+middle-inside s j i b l z = pair-inside s j i b (j .l) (omega arith)
 
 -- ---- the column that a factor is read from
 
@@ -197,9 +223,6 @@ column-numbers g a j i e = go (leb (j .1) (a .1)) ∙ ap numbers (sym e)
     go false = refl
 
 -- ---- the plane of a point
-
-pub order-least : (n : ℕ) → n < 4 → 1 ≤ length (ops (groupOf n))
-order-least = by-group (λ g. 1 ≤ length (ops g)) (omega arith) (omega arith) (omega arith) (omega arith)
 
 -- the group's other operation is the last of its list
 last-own : (n : ℕ) → n < 4 → getD (ops (groupOf n)) (length (ops (groupOf n)) - 1) one ≡ planeSym (groupOf n)

@@ -9,7 +9,7 @@ ghost use mathlib.Core.Bool.{true, false};
 ghost use Prim.Native.Nat.{ℕ, _/_, _<_};
 ghost use lib.ListN.{length, getD};
 ghost use Rattle.algebra.specs.Ring.{Ops};
-ghost use Rattle.algebra.specs.Cell.{Sym, one, friedel, _·_, ops, full, xor, flip, turn, im, pim, sgn, imp};
+ghost use Rattle.algebra.specs.Cell.{Sym, one, friedel, _·_, ops, full, lineSym, xor, flip, turn, im, pim, sgn, imp};
 ghost use Rattle.numbers.specs.Prime.{prime, IsModulus};
 ghost use Rattle.numbers.specs.Value.{field, conj, valueOf, pairOf, Small};
 ghost use Rattle.cell.specs.Volume.{groupOf};
@@ -111,6 +111,20 @@ pub fn operation_at(group: u32, number: u32) -> Operation
         group_operation(group, number)
     } else {
         with_friedel(group_operation(group, number - own))
+    }
+}
+
+// The operation that maps each line along l to itself.
+pub fn line_operation(group: u32) -> Operation
+    requires { ⌜ group < 4 ⌝ }
+    ensures { λ r. ⌜ symOf r ≡ lineSym (groupOf group) ⌝ }
+{
+    if group == 0 {
+        operation_at(group, 0)
+    } else if group == 1 {
+        operation_at(group, 3)
+    } else {
+        operation_at(group, 1)
     }
 }
 

@@ -3,14 +3,15 @@
 use crate::operations;
 use crate::operations::Index;
 ghost use mathlib.Core.Path.{_≡_};
-ghost use mathlib.Core.Bool.{true, _||_, cond};
+ghost use mathlib.Core.Bool.{true, _&&_, _||_, not, cond};
 ghost use Prim.Native.Nat.{ℕ, _+_, _*_, _-_, _/_, _<_, _≤_, min};
 ghost use lib.Dec.{eqb, leb};
 ghost use Rattle.algebra.specs.Cell.{P1, planes, span, negI, pim, prep};
 ghost use Rattle.algebra.specs.CellTests.{storedT};
-ghost use Rattle.cell.specs.Volume.{groupOf, lineKind, pairPlace, volumeLength, lineNumbers, numbersRead, densityPlace};
+ghost use Rattle.algebra.specs.CellPack.{even};
+ghost use Rattle.cell.specs.Volume.{groupOf, pairPlace, volumeLength, numbersRead, densityPlace};
 ghost use Rattle.cell.specs.Operations.{halvesOf, tripleOf, Length, Sizes, Within};
-ghost use Rattle.cell.specs.Places.{IsRun};
+ghost use Rattle.cell.specs.Places.{IsRun, lineNumbersAt};
 
 // Neighbouring numbers of a volume.
 pub struct Run {
@@ -68,6 +69,17 @@ pub fn is_end(n3: u32, l: u32) -> bool
     if l == 0 { true } else { l == n3 / 2 }
 }
 
+// The factor at j is zero by the group's rule and stands nowhere: an end of an antisymmetric line.
+pub fn is_absent(group: u32, n3: u32, j: Index) -> bool
+    ensures { λ r. ⌜ r ≡ (eqb group 3 && (not (even (j .h)) && (eqb (j .l) 0 || eqb (j .l) (n3 / 2)))) ⌝ }
+{
+    if group == 3 {
+        if j.h % 2 == 0 { false } else { is_end(n3, j.l) }
+    } else {
+        false
+    }
+}
+
 // l or -l, whichever is in the first half.
 pub fn folded(n3: u32, l: u32) -> u32
     requires { ⌜ Length n3 × (l < n3) ⌝ }
@@ -107,7 +119,7 @@ fn pair_numbers(n1: u32, n2: u32, w: u32, h: u32, k: u32) -> Run
 // antisymmetric one.
 fn end_numbers(group: u32, n1: u32, n2: u32, n3: u32, j: Index) -> Run
     requires { ⌜ Sizes group n1 n2 n3 × Within n1 n2 n3 j × (j .k ≤ n2 / 2) × (group ≡ 0 → ⊥) × ((eqb (j .l) 0 || eqb (j .l) (n3 / 2)) ≡ true) ⌝ }
-    ensures { λ r. ⌜ IsRun (volumeLength (groupOf group) (halvesOf n1 n2 n3)) (lineNumbers (groupOf group) (halvesOf n1 n2 n3) (lineKind (groupOf group) (j .h)) (j .h) (j .k) (j .l)) r ⌝ }
+    ensures { λ r. ⌜ IsRun (volumeLength (groupOf group) (halvesOf n1 n2 n3)) (lineNumbersAt (groupOf group) (halvesOf n1 n2 n3) (tripleOf j)) r ⌝ }
 {
     if group == 1 {
         let place = 2 * pair_place(n1, n2, 0, j.h, j.k);
@@ -136,7 +148,7 @@ fn end_numbers(group: u32, n1: u32, n2: u32, n3: u32, j: Index) -> Run
 // The numbers of the line (h, k) that the factor at l is read from.
 fn line_numbers(group: u32, n1: u32, n2: u32, n3: u32, j: Index) -> Run
     requires { ⌜ Sizes group n1 n2 n3 × Within n1 n2 n3 j × (j .k ≤ n2 / 2) ⌝ }
-    ensures { λ r. ⌜ IsRun (volumeLength (groupOf group) (halvesOf n1 n2 n3)) (lineNumbers (groupOf group) (halvesOf n1 n2 n3) (lineKind (groupOf group) (j .h)) (j .h) (j .k) (j .l)) r ⌝ }
+    ensures { λ r. ⌜ IsRun (volumeLength (groupOf group) (halvesOf n1 n2 n3)) (lineNumbersAt (groupOf group) (halvesOf n1 n2 n3) (tripleOf j)) r ⌝ }
 {
     if group == 0 {
         pair_numbers(n1, n2, j.l, j.h, j.k)

@@ -3,7 +3,8 @@ use borrow.Author.Needs.{needs}
 use mathlib.Core.Path.{_∙_, subst}
 use Prim.Native.Nat.{_<_, _≤_}
 use native.Mathlib.Omega.{arith}
-use Rattle.cell.proofs.PlaceLaws.{order-least, stored-plane, other-point}
+use Rattle.cell.proofs.OperationLaws.{order-least}
+use Rattle.cell.proofs.PlaceLaws.{stored-plane, other-point}
 use Rattle.cell.proofs.places.stored_point.Statement.{statement}
 use Rattle.cell.proofs.places.stored_point.Tie as tie
 

@@ -12,3 +12,4 @@ pub mod OperationLaws
 pub mod PlaceLaws
 pub mod Scans
 pub mod ReadingLaws
+pub mod RecordLaws

@@ -3,11 +3,9 @@ use mathlib.Core.Path.{_≡_, refl, sym, _∙_, ap, ap₂}
 use mathlib.Core.Bool.{Bool, true, false, _&&_, cond}
 use mathlib.Core.List.{List, [], _∷_, _++_}
 use Prim.Native.Nat.{ℕ, zero, suc, _+_, _*_, _%_, _<_, _≤_}
-use native.Mathlib.Numerals.{add-one}
 use native.Mathlib.Omega.{arith}
 use lib.Dec.{eqb, leb, ltb, leb→le, ltb→lt}
-use lib.ListN.{length, getD, set, drop, drop-of-length-le}
-use lib.Seq.{drop-cons}
+use lib.ListN.{length, getD, set, drop}
 use borrow.Author.Tests.{eq-eqb, ne-eqb, lt-ltb, le-ltb}
 use Rattle.algebra.specs.Cell.{J, Sym, one, Group, P2₁, full, sameJ, im, imp, span}
 use Rattle.algebra.specs.CellTests.{imply, every, storedT, agreesT}
@@ -22,6 +20,7 @@ use Rattle.cell.specs.Volume.{groupOf, pairPlace, numbersRead}
 use Rattle.cell.specs.Consistency.{all, sameValue, writeAlternating, write, writeImages, agreesWithItself, orbitNumbers, orbitFree}
 use Rattle.cell.specs.Places.{allBelowAt}
 use Rattle.cell.proofs.Tests.{true-iff}
+use Rattle.cell.proofs.Scans.{rest-opens, rest-ends}
 
 -- ---- a record that agrees with itself
 
@@ -83,8 +82,8 @@ module _ (g : Group) (a : J) (v : List ℕ) (j : J) where
   orbit-start = zeros-below v (orbitNumbers g a (full g) j) ∙ orbit-every (full g)
 
   -- the code's test, made of the image
-  pub image-free : (s : Sym) {i : J} {t : Bool} → i ≡ im a s j → t ≡ allBelowAt 1 v (numbersRead g a i) → (b : Bool) → t ≡ b → freeUnder g a v j s ≡ b
-  image-free s e f b q = sym (f ∙ ap (λ i. allBelowAt 1 v (numbersRead g a i)) e) ∙ q
+  pub image-free : (s : Sym) {i : J} {t : Bool} → i ≡ im a s j → t ≡ allBelowAt 1 v (numbersRead g a i) → t ≡ freeUnder g a v j s
+  image-free s e f = f ∙ ap (λ i. allBelowAt 1 v (numbersRead g a i)) e
 
 -- ---- a factor written
 
@@ -137,12 +136,12 @@ module _ (g : Group) (a : J) (m : ℕ) (j : J) (x : Value m) where
     pub image-skipped : t ≡ false → v ≡ written v s
     image-skipped q = rw (stored-as false q) refl
 
-  pub images-next : (l : List Sym) (i : ℕ) → i < length l → {s : Sym} → s ≡ getD l i one → (v : List ℕ) {w : List ℕ} → w ≡ written v s → writeImages g a m (drop i l) j x v ≡ writeImages g a m (drop (i + 1) l) j x w
-  unfolding writeImages
-  images-next l i b e v f =
-      ap (λ k. writeImages g a m k j x v) (drop-cons l i one b)
-      ∙ ap₂ (λ k u. writeImages g a m (drop k l) j x u) (sym (add-one i)) (sym (f ∙ ap (written v) e))
+  -- a loop that writes: in its turn i the images of the rest are still to be written
+  module _ (l : List Sym) {count : ℕ} (size : count ≡ length l) (i : ℕ) (v : List ℕ) {r : List ℕ} (done : r ≡ writeImages g a m (drop i l) j x v) where
+    pub images-next : {s : Sym} {w : List ℕ} → i < count → s ≡ getD l i one → w ≡ written v s → r ≡ writeImages g a m (drop (i + 1) l) j x w
+    unfolding writeImages
+    images-next b e f = done ∙ ap (λ k. writeImages g a m k j x v) (rest-opens l size i one b) ∙ ap (writeImages g a m (drop (i + 1) l) j x) (sym (f ∙ ap (written v) e))
 
-  pub images-end : (l : List Sym) (i : ℕ) → length l ≤ i → (v : List ℕ) → writeImages g a m (drop i l) j x v ≡ v
-  unfolding writeImages
-  images-end l i b v = ap (λ k. writeImages g a m k j x v) (drop-of-length-le l b)
+    pub images-end : count ≤ i → v ≡ r
+    unfolding writeImages
+    images-end b = sym (done ∙ ap (λ k. writeImages g a m k j x v) (rest-ends l size i b))

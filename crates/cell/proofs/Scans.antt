@@ -1,7 +1,8 @@
--- Scans that stop at the first test that fails: over a run of places, and over the operations of an orbit. In its turn i a scan has the rest of the list before it.
+-- Loops over a run of places or over the operations of an orbit. In its turn i such a loop has the rest of the list before it: a scan goes on past a test that
+-- holds and stops at one that does not. Each law takes what the loop knows: the count, the turn's test t, and how far the loop has come.
 use mathlib.Core.Path.{_≡_, refl, sym, _∙_, ap}
 use mathlib.Core.Bool.{Bool, true, false, _&&_}
-use mathlib.Core.List.{List, [], _∷_, _++_}
+use mathlib.Core.List.{List, [], _∷_}
 use Prim.Native.Nat.{ℕ, suc, _+_, _-_, _<_, _≤_}
 use native.Mathlib.Numerals.{add-one}
 use native.Mathlib.Omega.{arith}
@@ -14,43 +15,52 @@ use Rattle.cell.specs.Places.{run}
 
 -- ---- a run of places
 
-module _ (P : ℕ → Bool) (first count i : ℕ) where
-  abbrev rest : Bool
-  rest = all P (run (first + i) (count - i))
+module _ (P : ℕ → Bool) (first count : ℕ) where
+  abbrev rest : ℕ → Bool
+  rest i = all P (run (first + i) (count - i))
 
-  opened : i < count → rest ≡ (P (first + i) && all P (run (first + (i + 1)) (count - (i + 1))))
-  unfolding all run
-  opened l =
-      along (λ n. all P (run (first + i) n)) (count - i) (suc (count - (i + 1))) (omega arith)
-      ∙ along (λ q. P (first + i) && all P (run q (count - (i + 1)))) (first + i + 1) (first + (i + 1)) (omega arith)
+  pub run-start : all P (run first count) ≡ rest 0
+  run-start = along (λ f. all P (run f count)) first (first + 0) (omega arith) ∙ along (λ n. all P (run (first + 0) n)) count (count - 0) (omega arith)
 
-  pub run-next : i < count → P (first + i) ≡ true → rest ≡ all P (run (first + (i + 1)) (count - (i + 1)))
-  run-next l e = opened l ∙ rw e refl
+  module _ (i : ℕ) {r : Bool} (done : r ≡ rest i) where
+    opened : i < count → r ≡ (P (first + i) && rest (i + 1))
+    unfolding all run
+    opened l =
+        done
+        ∙ along (λ n. all P (run (first + i) n)) (count - i) (suc (count - (i + 1))) (omega arith)
+        ∙ along (λ q. P (first + i) && all P (run q (count - (i + 1)))) (first + i + 1) (first + (i + 1)) (omega arith)
 
-  pub run-stop : i < count → P (first + i) ≡ false → rest ≡ false
-  run-stop l e = opened l ∙ rw e refl
+    pub run-next : i < count → P (first + i) ≡ true → r ≡ rest (i + 1)
+    run-next l e = opened l ∙ rw e refl
 
-  pub run-end : count ≤ i → rest ≡ true
-  unfolding all run
-  run-end l = along (λ n. all P (run (first + i) n)) (count - i) 0 (omega arith)
+    pub run-stop : i < count → P (first + i) ≡ false → false ≡ r
+    run-stop l e = sym (opened l ∙ rw e refl)
 
-pub run-start : (P : ℕ → Bool) (first count : ℕ) → all P (run first count) ≡ all P (run (first + 0) (count - 0))
-run-start P first count = along (λ f. all P (run f count)) first (first + 0) (omega arith) ∙ along (λ n. all P (run (first + 0) n)) count (count - 0) (omega arith)
+    pub run-end : count ≤ i → true ≡ r
+    unfolding all run
+    run-end l = sym (done ∙ along (λ n. all P (run (first + i) n)) (count - i) 0 (omega arith))
 
 -- ---- the members of a list
 
-module _ {S : Type 0} (l : List S) (P : S → Bool) (d : S) (i : ℕ) where
-  every-opened : i < length l → every (drop i l) P ≡ (P (getD l i d) && every (drop (i + 1) l) P)
-  unfolding every
-  every-opened b = rw (add-one, drop-cons l i d)
+module _ {S : Type 0} (l : List S) {count : ℕ} (size : count ≡ length l) (i : ℕ) where
+  -- the rest begins with member i
+  pub rest-opens : (d : S) → i < count → drop i l ≡ getD l i d ∷ drop (i + 1) l
+  rest-opens d b = drop-cons l i d (omega arith) ∙ ap (λ k. getD l i d ∷ drop k l) (sym (add-one i))
 
-  -- the code has made the test of member i
-  pub every-next : i < length l → {s : S} → s ≡ getD l i d → P s ≡ true → every (drop i l) P ≡ every (drop (i + 1) l) P
-  every-next b e t = every-opened b ∙ rw (sym (ap P e) ∙ t) refl
+  pub rest-ends : count ≤ i → drop i l ≡ []
+  rest-ends b = drop-of-length-le l {i = i} (omega arith)
 
-  pub every-stop : i < length l → {s : S} → s ≡ getD l i d → P s ≡ false → every (drop i l) P ≡ false
-  every-stop b e t = every-opened b ∙ rw (sym (ap P e) ∙ t) refl
+  module _ (P : S → Bool) {r : Bool} (done : r ≡ every (drop i l) P) where
+    tested : (d : S) {s : S} {t : Bool} → i < count → s ≡ getD l i d → t ≡ P s → r ≡ (t && every (drop (i + 1) l) P)
+    unfolding every
+    tested d b e f = done ∙ ap (λ k. every k P) (rest-opens d b) ∙ ap (λ t. t && every (drop (i + 1) l) P) (sym (f ∙ ap P e))
 
-pub every-end : {S : Type 0} (l : List S) (P : S → Bool) (i : ℕ) → length l ≤ i → every (drop i l) P ≡ true
-unfolding every
-every-end l P i b = ap (λ k. every k P) (drop-of-length-le l b)
+    pub every-next : (d : S) {s : S} {t : Bool} → i < count → s ≡ getD l i d → t ≡ P s → t ≡ true → r ≡ every (drop (i + 1) l) P
+    every-next d b e f q = tested d b e f ∙ ap (λ t. t && every (drop (i + 1) l) P) q
+
+    pub every-stop : (d : S) {s : S} {t : Bool} → i < count → s ≡ getD l i d → t ≡ P s → t ≡ false → false ≡ r
+    every-stop d b e f q = sym (tested d b e f ∙ ap (λ t. t && every (drop (i + 1) l) P) q)
+
+    pub every-end : count ≤ i → true ≡ r
+    unfolding every
+    every-end b = sym (done ∙ ap (λ k. every k P) (rest-ends b))

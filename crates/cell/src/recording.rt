@@ -171,11 +171,11 @@ pub fn write_images(
     ensures { λ _. ⌜ now (volume .exit) ≡ recordOn (groupOf group) (halvesOf n1 n2 n3) m (tripleOf j) (valueOf m x) (now (volume .entry)) ⌝ }
 {
     let count = operations::operation_count(group);
-    let mut i = 0;
-    while i < count {
+    let mut number = 0;
+    while number < count {
         write_image(
             m,
-            operations::operation_at(group, i),
+            operations::operation_at(group, number),
             group,
             n1,
             n2,
@@ -184,6 +184,6 @@ pub fn write_images(
             x,
             volume,
         );
-        i += 1;
+        number += 1;
     }
 }

@@ -1,5 +1,5 @@
 -- No number before i stops the scan.
-use mathlib.Core.Path.{_≡_, sym, _∙_}
+use mathlib.Core.Path.{_≡_}
 use Prim.Native.Nat.{_+_, _-_, _≤_}
 use native.Mathlib.Omega.{arith}
 use borrow.Author.Tests.{lt-ltb, le-ltb}
@@ -29,7 +29,7 @@ shared-slice-read-if1 c = omega arith
 returns : tie.Need-returns Inv-loop μ-loop
 returns c =
     let l = c .before .before .before in
-    sym (l .loop .inv .1 ∙ run-stop _ _ _ _ (c .before .before .loop-test .taken) (le-ltb _ _ (c .if1 .taken)))
+    run-stop _ _ _ _ (l .loop .inv .1) (c .before .before .loop-test .taken) (le-ltb _ _ (c .if1 .taken))
 
 add-i : tie.Need-add-i Inv-loop μ-loop
 add-i c = omega arith
@@ -40,12 +40,10 @@ loop-less c = omega arith
 loop-again : tie.Need-loop-again Inv-loop μ-loop
 loop-again c =
     let l = c .before .before .before in
-    (omega arith, l .loop .inv .1 ∙ run-next _ _ _ _ (c .before .before .loop-test .taken) (lt-ltb _ _ (c .if1 .left)))
+    (omega arith, run-next _ _ _ _ (l .loop .inv .1) (c .before .before .loop-test .taken) (lt-ltb _ _ (c .if1 .left)))
 
 returns-2 : tie.Need-returns-2 Inv-loop μ-loop
-returns-2 c =
-    let l = c .before in
-    sym (l .loop .inv .1 ∙ run-end _ _ _ _ (c .loop-test .left))
+returns-2 c = run-end _ _ _ _ (c .before .loop .inv .1) (c .loop-test .left)
 
 pub run-below-spec : {M : Type 1} → statement M
 run-below-spec =

@@ -1,9 +1,9 @@
 -- No operation before i stops the scan.
-use mathlib.Core.Path.{_≡_, sym, _∙_, subst}
-use Prim.Native.Nat.{_-_, _<_, _≤_}
+use mathlib.Core.Path.{_≡_, subst}
+use Prim.Native.Nat.{_-_, _<_}
 use native.Mathlib.Omega.{arith}
-use lib.ListN.{length, drop}
-use Rattle.algebra.specs.Cell.{full}
+use lib.ListN.{drop}
+use Rattle.algebra.specs.Cell.{one, full}
 use Rattle.algebra.specs.CellTests.{every}
 use Rattle.numbers.specs.Value.{valueOf}
 use Rattle.cell.specs.Volume.{groupOf}
@@ -20,10 +20,6 @@ Inv-loop m group n1 n2 n3 j x count i₀ i = agreesWithItself (groupOf group) (h
 abbrev μ-loop : tie.MeasureT-loop
 μ-loop m group n1 n2 n3 j x count i₀ i = count - i
 
--- the operation of a turn is one of the list
-in-list : (c : tie.In-loop Inv-loop μ-loop) → c .before .loop .i < length (full (groupOf (c .before .before .before .args .group)))
-in-list c = subst (λ n. c .before .loop .i < n) (c .before .before .operation-count .ensures) (c .loop-test .taken)
-
 operation-count-requires : tie.Need-operation-count-requires Inv-loop μ-loop
 operation-count-requires c κs = c .pre .2 .known
 
@@ -31,7 +27,7 @@ loop-holds : tie.Need-loop-holds Inv-loop μ-loop
 loop-holds c = agrees-start _ _ _ _ _
 
 operation-at-requires : tie.Need-operation-at-requires Inv-loop μ-loop
-operation-at-requires c κs = (c .before .before .before .pre .2 .known, in-list c)
+operation-at-requires c κs = (c .before .before .before .pre .2 .known, subst (λ n. c .before .loop .i < n) (c .before .before .operation-count .ensures) (c .loop-test .taken))
 
 agrees-under-requires : tie.Need-agrees-under-requires Inv-loop μ-loop
 agrees-under-requires c κs =
@@ -47,19 +43,19 @@ loop-less c = omega arith
 loop-again : tie.Need-loop-again Inv-loop μ-loop
 loop-again c =
     let u = c .before in
-    let l = u .before .before .before in
-    l .loop .inv ∙ every-next _ _ _ _ (in-list (u .before .before)) (u .before .operation-at .ensures) (sym (u .agrees-under .ensures) ∙ c .if1 .taken)
+    let t = u .before .before in
+    let l = t .before in
+    every-next _ (l .before .operation-count .ensures) _ _ (l .loop .inv) one (t .loop-test .taken) (u .before .operation-at .ensures) (u .agrees-under .ensures) (c .if1 .taken)
 
 returns : tie.Need-returns Inv-loop μ-loop
 returns c =
     let u = c .before in
-    let l = u .before .before .before in
-    sym (l .loop .inv ∙ every-stop _ _ _ _ (in-list (u .before .before)) (u .before .operation-at .ensures) (sym (u .agrees-under .ensures) ∙ c .if1 .left))
+    let t = u .before .before in
+    let l = t .before in
+    every-stop _ (l .before .operation-count .ensures) _ _ (l .loop .inv) one (t .loop-test .taken) (u .before .operation-at .ensures) (u .agrees-under .ensures) (c .if1 .left)
 
 returns-2 : tie.Need-returns-2 Inv-loop μ-loop
-returns-2 c =
-    let l = c .before in
-    sym (l .loop .inv ∙ every-end _ _ _ (subst (λ n. n ≤ l .loop .i) (l .before .operation-count .ensures) (c .loop-test .left)))
+returns-2 c = every-end _ (c .before .before .operation-count .ensures) _ _ (c .before .loop .inv) (c .loop-test .left)
 
 pub agrees-spec : {M : Type 1} → statement M
 agrees-spec =

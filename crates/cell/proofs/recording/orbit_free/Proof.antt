@@ -1,10 +1,9 @@
 -- No operation before i stops the scan.
-use mathlib.Core.Path.{_≡_, sym, _∙_, subst}
-use mathlib.Core.Bool.{Bool, true, false}
-use Prim.Native.Nat.{_-_, _<_, _≤_}
+use mathlib.Core.Path.{_≡_, subst}
+use Prim.Native.Nat.{_-_, _<_}
 use native.Mathlib.Omega.{arith}
-use lib.ListN.{length, drop}
-use Rattle.algebra.specs.Cell.{full}
+use lib.ListN.{drop}
+use Rattle.algebra.specs.Cell.{one, full}
 use Rattle.algebra.specs.CellTests.{every}
 use Rattle.cell.specs.Volume.{groupOf}
 use Rattle.cell.specs.Consistency.{orbitFree}
@@ -20,19 +19,13 @@ Inv-loop group n1 n2 n3 j volume count i₀ i = orbitFree (groupOf group) (halve
 abbrev μ-loop : tie.MeasureT-loop
 μ-loop group n1 n2 n3 j volume count i₀ i = count - i
 
--- the operation of a turn is one of the list
-in-list : (c : tie.In-loop Inv-loop μ-loop) → c .before .loop .i < length (full (groupOf (c .before .before .before .before .args .group)))
-in-list c = subst (λ n. c .before .loop .i < n) (c .before .before .operation-count .ensures) (c .loop-test .taken)
-
 -- what the test of a turn says of its operation
-told : (c : tie.After-factor-numbers-below Inv-loop μ-loop) (b : Bool) → c .factor-numbers-below .result ≡ b
-    → let o = c .before .before in
-    let a = o .before .before .before .before .before .args in
-    freeUnder (groupOf (a .group)) (halvesOf (a .n1) (a .n2) (a .n3)) (a .volume .now) (tripleOf (a .j)) (symOf (o .operation-at .result)) ≡ b
-told c b e =
+told : (c : tie.After-factor-numbers-below Inv-loop μ-loop) → let o = c .before .before in let a = o .before .before .before .before .before .args in
+    c .factor-numbers-below .result ≡ freeUnder (groupOf (a .group)) (halvesOf (a .n1) (a .n2) (a .n3)) (a .volume .now) (tripleOf (a .j)) (symOf (o .operation-at .result))
+told c =
     let o = c .before .before in
     let a = o .before .before .before .before .before .args in
-    image-free (groupOf (a .group)) (halvesOf (a .n1) (a .n2) (a .n3)) (a .volume .now) (tripleOf (a .j)) (symOf (o .operation-at .result)) (c .before .image .ensures .0) (c .factor-numbers-below .ensures) b e
+    image-free (groupOf (a .group)) (halvesOf (a .n1) (a .n2) (a .n3)) (a .volume .now) (tripleOf (a .j)) (symOf (o .operation-at .result)) (c .before .image .ensures .0) (c .factor-numbers-below .ensures)
 
 operation-count-requires : tie.Need-operation-count-requires Inv-loop μ-loop
 operation-count-requires c κs = c .before .pre .0 .0 .known
@@ -41,7 +34,7 @@ loop-holds : tie.Need-loop-holds Inv-loop μ-loop
 loop-holds c = orbit-start _ _ _ _
 
 operation-at-requires : tie.Need-operation-at-requires Inv-loop μ-loop
-operation-at-requires c κs = (c .before .before .before .before .pre .0 .0 .known, in-list c)
+operation-at-requires c κs = (c .before .before .before .before .pre .0 .0 .known, subst (λ n. c .before .loop .i < n) (c .before .before .operation-count .ensures) (c .loop-test .taken))
 
 image-requires : tie.Need-image-requires Inv-loop μ-loop
 image-requires c κs =
@@ -61,22 +54,18 @@ loop-less c = omega arith
 
 loop-again : tie.Need-loop-again Inv-loop μ-loop
 loop-again c =
-    let t = c .before in
-    let o = t .before .before in
+    let o = c .before .before .before in
     let l = o .before .before in
-    l .loop .inv ∙ every-next _ _ _ _ (in-list (o .before)) (o .operation-at .ensures) (told t true (c .if1 .taken))
+    every-next _ (l .before .operation-count .ensures) _ _ (l .loop .inv) one (o .before .loop-test .taken) (o .operation-at .ensures) (told (c .before)) (c .if1 .taken)
 
 returns : tie.Need-returns Inv-loop μ-loop
 returns c =
-    let t = c .before in
-    let o = t .before .before in
+    let o = c .before .before .before in
     let l = o .before .before in
-    sym (l .loop .inv ∙ every-stop _ _ _ _ (in-list (o .before)) (o .operation-at .ensures) (told t false (c .if1 .left)))
+    every-stop _ (l .before .operation-count .ensures) _ _ (l .loop .inv) one (o .before .loop-test .taken) (o .operation-at .ensures) (told (c .before)) (c .if1 .left)
 
 returns-2 : tie.Need-returns-2 Inv-loop μ-loop
-returns-2 c =
-    let l = c .before in
-    sym (l .loop .inv ∙ every-end _ _ _ (subst (λ n. n ≤ l .loop .i) (l .before .operation-count .ensures) (c .loop-test .left)))
+returns-2 c = every-end _ (c .before .before .operation-count .ensures) _ _ (c .before .loop .inv) (c .loop-test .left)
 
 pub orbit-free-spec : {M : Type 1} → statement M
 orbit-free-spec =

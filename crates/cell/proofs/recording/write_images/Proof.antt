@@ -1,6 +1,6 @@
--- The operations before i have written; the others are still to come.
-use mathlib.Core.Path.{_≡_, refl, sym, _∙_, subst}
-use Prim.Native.Nat.{_-_, _<_, _≤_}
+-- The operations before this number have written; the others are still to come.
+use mathlib.Core.Path.{_≡_, refl, _∙_, subst}
+use Prim.Native.Nat.{_-_, _<_}
 use native.Mathlib.Omega.{arith}
 use lib.ListN.{length, drop}
 use Rattle.algebra.specs.Cell.{full}
@@ -13,16 +13,12 @@ use Rattle.cell.proofs.recording.write_images.Statement.{statement}
 use Rattle.cell.proofs.recording.write_images.Tie as tie
 
 abbrev Inv-loop : tie.InvT-loop
-Inv-loop m group n1 n2 n3 j x volume₀ count i₀ volume i =
-    (recordOn (groupOf group) (halvesOf n1 n2 n3) m (tripleOf j) (valueOf m x) volume₀ ≡ writeImages (groupOf group) (halvesOf n1 n2 n3) m (drop i (full (groupOf group))) (tripleOf j) (valueOf m x) volume)
+Inv-loop m group n1 n2 n3 j x volume₀ count number₀ volume number =
+    (recordOn (groupOf group) (halvesOf n1 n2 n3) m (tripleOf j) (valueOf m x) volume₀ ≡ writeImages (groupOf group) (halvesOf n1 n2 n3) m (drop number (full (groupOf group))) (tripleOf j) (valueOf m x) volume)
     × (length volume ≡ length volume₀)
 
 abbrev μ-loop : tie.MeasureT-loop
-μ-loop m group n1 n2 n3 j x volume₀ count i₀ volume i = count - i
-
--- the operation of a turn is one of the list
-in-list : (c : tie.In-loop Inv-loop μ-loop) → c .before .loop .i < length (full (groupOf (c .before .before .before .before .args .group)))
-in-list c = subst (λ n. c .before .loop .i < n) (c .before .before .operation-count .ensures) (c .loop-test .taken)
+μ-loop m group n1 n2 n3 j x volume₀ count number₀ volume number = count - number
 
 operation-count-requires : tie.Need-operation-count-requires Inv-loop μ-loop
 operation-count-requires c κs = c .before .pre .0 .2 .known
@@ -31,7 +27,7 @@ loop-holds : tie.Need-loop-holds Inv-loop μ-loop
 loop-holds c = (refl, refl)
 
 operation-at-requires : tie.Need-operation-at-requires Inv-loop μ-loop
-operation-at-requires c κs = (c .before .before .before .before .pre .0 .2 .known, in-list c)
+operation-at-requires c κs = (c .before .before .before .before .pre .0 .2 .known, subst (λ n. c .before .loop .number < n) (c .before .before .operation-count .ensures) (c .loop-test .taken))
 
 write-image-requires : tie.Need-write-image-requires Inv-loop μ-loop
 write-image-requires c κs =
@@ -39,8 +35,8 @@ write-image-requires c κs =
     let p = l .before .before .before .pre in
     (p .0, l .loop .inv .1 ∙ p .1)
 
-add-i : tie.Need-add-i Inv-loop μ-loop
-add-i c = omega arith
+add-number : tie.Need-add-number Inv-loop μ-loop
+add-number c = omega arith
 
 loop-less : tie.Need-loop-less Inv-loop μ-loop
 loop-less c = omega arith
@@ -50,7 +46,7 @@ loop-again c =
     let w = c .before .before in
     let o = w .before .before in
     let l = o .before .before in
-    (l .loop .inv .0 ∙ images-next _ _ _ _ _ _ _ (in-list (o .before)) (o .operation-at .ensures) _ (w .write-image .ensures), omega arith)
+    (images-next _ _ _ _ _ _ (l .before .operation-count .ensures) _ _ (l .loop .inv .0) (o .before .loop-test .taken) (o .operation-at .ensures) (w .write-image .ensures), omega arith)
 
 same-length : tie.Need-same-length Inv-loop μ-loop
 same-length c = omega arith
@@ -58,7 +54,7 @@ same-length c = omega arith
 returns : tie.Need-returns Inv-loop μ-loop
 returns c =
     let l = c .before in
-    sym (l .loop .inv .0 ∙ images-end _ _ _ _ _ _ _ (subst (λ n. n ≤ l .loop .i) (l .before .operation-count .ensures) (c .loop-test .left)) _)
+    images-end _ _ _ _ _ _ (l .before .operation-count .ensures) _ _ (l .loop .inv .0) (c .loop-test .left)
 
 pub write-images-spec : {M : Type 1} → statement M
 write-images-spec =
@@ -70,7 +66,7 @@ write-images-spec =
     loop-holds
     operation-at-requires
     write-image-requires
-    add-i
+    add-number
     loop-less
     loop-again
     same-length

@@ -1,0 +1,5 @@
+// Cells of structure factors and maps.
+pub mod operations; // operations.rt: the groups' operations, the images of an index and of a point, implied values
+pub mod places; // places.rt: where factors and points stand in a volume
+pub mod readings; // readings.rt: the factor at an index
+pub mod recording; // recording.rt: a record's tests, and its images written

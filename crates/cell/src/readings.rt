@@ -1,0 +1,129 @@
+// The factor at any index of the cell, read from a volume of packed factors.
+use crate::operations;
+use crate::operations::Index;
+use crate::places;
+use crate::places::Run;
+use numbers::Pair;
+ghost use mathlib.Core.Path.{_≡_};
+ghost use mathlib.Core.Bool.{true};
+ghost use Prim.Native.Nat.{ℕ, _+_, _/_, _<_, _≤_};
+ghost use lib.ListN.{length};
+ghost use Rattle.algebra.specs.Cell.{P2₁, span};
+ghost use Rattle.numbers.specs.Prime.{prime, IsModulus};
+ghost use Rattle.numbers.specs.Value.{pairOf};
+ghost use Rattle.cell.specs.Volume.{groupOf, volumeLength, numbersRead, factorsIn};
+ghost use Rattle.cell.specs.Operations.{halvesOf, tripleOf, symOf, Sizes, Within};
+ghost use Rattle.cell.specs.Places.{run, allBelowAt, lineNumbersAt, lineFactor};
+
+// The numbers of a run are below p.
+pub fn run_below(r: Run, p: u32, volume: &[u32]) -> bool
+    requires { ⌜ r .first + r .count ≤ length (now volume) ⌝ }
+    ensures { λ b. ⌜ b ≡ allBelowAt p (now (volume .entry)) (run (r .first) (r .count)) ⌝ }
+{
+    let first = r.first;
+    let count = r.count;
+    let mut i = 0;
+    while i < count {
+        if p <= volume[first + i] {
+            return false;
+        }
+        i += 1;
+    }
+    true
+}
+
+// The numbers that the factor at j is read from are below p.
+pub fn factor_numbers_below(
+    group: u32,
+    n1: u32,
+    n2: u32,
+    n3: u32,
+    j: Index,
+    p: u32,
+    volume: &[u32],
+) -> bool
+    requires { ⌜ Sizes group n1 n2 n3 × Within n1 n2 n3 j ⌝ }
+    requires { ⌜ length (now volume) ≡ volumeLength (groupOf group) (halvesOf n1 n2 n3) ⌝ }
+    ensures { λ r. ⌜ r ≡ allBelowAt p (now (volume .entry)) (numbersRead (groupOf group) (halvesOf n1 n2 n3) (tripleOf j)) ⌝ }
+{
+    run_below(places::factor_numbers(group, n1, n2, n3, j), p, volume)
+}
+
+// A stored factor of an alternating line: one number of pair 0 at either end, else a pair.
+fn alternating_value(n1: u32, n2: u32, n3: u32, j: Index, volume: &[u32]) -> Pair
+    requires { ⌜ Sizes 1 n1 n2 n3 × Within n1 n2 n3 j × (j .k ≤ n2 / 2) × (j .l ≤ n3 / 2) ⌝ }
+    requires { ⌜ length (now volume) ≡ volumeLength P2₁ (halvesOf n1 n2 n3) ⌝ }
+    ensures { λ r. ⌜ ((m : ℕ) → allBelowAt (prime m) (now (volume .entry)) (lineNumbersAt P2₁ (halvesOf n1 n2 n3) (tripleOf j)) ≡ true → r ≡ pairOf (lineFactor P2₁ (halvesOf n1 n2 n3) m (now (volume .entry)) (tripleOf j))) ⌝ }
+{
+    let half = n3 / 2;
+    let first = 2 * places::pair_place(n1, n2, 0, j.h, j.k);
+    if j.l == 0 {
+        Pair {
+            re: volume[first],
+            im: 0,
+        }
+    } else if j.l == half {
+        let x = volume[first + 1];
+        if half % 2 == 0 {
+            Pair { re: x, im: 0 }
+        } else {
+            Pair { re: 0, im: x }
+        }
+    } else {
+        slices::get(volume, places::pair_place(n1, n2, j.l, j.h, j.k))
+    }
+}
+
+// A stored factor.
+fn stored_value(group: u32, n1: u32, n2: u32, n3: u32, j: Index, volume: &[u32]) -> Pair
+    requires { ⌜ Sizes group n1 n2 n3 × Within n1 n2 n3 j × (j .k ≤ n2 / 2) × (j .l < span (groupOf group) (n3 / 2)) ⌝ }
+    requires { ⌜ length (now volume) ≡ volumeLength (groupOf group) (halvesOf n1 n2 n3) ⌝ }
+    ensures { λ r. ⌜ ((m : ℕ) → allBelowAt (prime m) (now (volume .entry)) (lineNumbersAt (groupOf group) (halvesOf n1 n2 n3) (tripleOf j)) ≡ true → r ≡ pairOf (lineFactor (groupOf group) (halvesOf n1 n2 n3) m (now (volume .entry)) (tripleOf j))) ⌝ }
+{
+    if group == 1 {
+        alternating_value(n1, n2, n3, j, volume)
+    } else if places::is_absent(group, n3, j) {
+        Pair { re: 0, im: 0 }
+    } else {
+        slices::get(volume, places::pair_place(n1, n2, j.l, j.h, j.k))
+    }
+}
+
+// The factor at (h, k, l), k from 0 to B: stored, or implied by the one at (h, k, -l).
+fn line_value(m: u32, group: u32, n1: u32, n2: u32, n3: u32, j: Index, volume: &[u32]) -> Pair
+    requires { ⌜ IsModulus m × Sizes group n1 n2 n3 × Within n1 n2 n3 j × (j .k ≤ n2 / 2) ⌝ }
+    requires { ⌜ length (now volume) ≡ volumeLength (groupOf group) (halvesOf n1 n2 n3) ⌝ }
+    requires { ⌜ allBelowAt (prime m) (now volume) (lineNumbersAt (groupOf group) (halvesOf n1 n2 n3) (tripleOf j)) ≡ true ⌝ }
+    ensures { λ r. ⌜ r ≡ pairOf (lineFactor (groupOf group) (halvesOf n1 n2 n3) m (now (volume .entry)) (tripleOf j)) ⌝ }
+{
+    if j.l < places::stored_count(group, n3) {
+        stored_value(group, n1, n2, n3, j, volume)
+    } else {
+        let o = operations::line_operation(group);
+        let i = operations::image(o, n1, n2, n3, j);
+        operations::implied(m, o, j, stored_value(group, n1, n2, n3, i, volume))
+    }
+}
+
+// The factor at j, whose numbers are below the prime.
+pub fn factor_at(m: u32, group: u32, n1: u32, n2: u32, n3: u32, j: Index, volume: &[u32]) -> Pair
+    requires { ⌜ IsModulus m × Sizes group n1 n2 n3 × Within n1 n2 n3 j ⌝ }
+    requires { ⌜ length (now volume) ≡ volumeLength (groupOf group) (halvesOf n1 n2 n3) ⌝ }
+    requires { ⌜ allBelowAt (prime m) (now volume) (numbersRead (groupOf group) (halvesOf n1 n2 n3) (tripleOf j)) ≡ true ⌝ }
+    ensures { λ r. ⌜ r ≡ pairOf (factorsIn (groupOf group) (halvesOf n1 n2 n3) m (now (volume .entry)) (j .h) (j .k) (j .l)) ⌝ }
+{
+    let x = line_value(
+        m,
+        group,
+        n1,
+        n2,
+        n3,
+        places::stored_column(n1, n2, n3, j),
+        volume,
+    );
+    if j.k <= n2 / 2 {
+        x
+    } else {
+        numbers::conjugate(m, x)
+    }
+}

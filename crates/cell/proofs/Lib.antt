@@ -1,4 +1,5 @@
 pub mod Tests
+pub mod Scans
 pub mod VolumeLayout
 pub mod LineReading
 pub mod Reading
@@ -10,3 +11,5 @@ pub mod OrbitNumbers
 pub mod Points
 pub mod OperationLaws
 pub mod PlaceLaws
+pub mod StoredFactors
+pub mod TestLaws

@@ -1,5 +1,5 @@
 pub mod Tests
-pub mod Scans
+pub mod Passing
 pub mod VolumeLayout
 pub mod LineReading
 pub mod Reading

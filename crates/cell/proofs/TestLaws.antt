@@ -22,7 +22,7 @@ use Rattle.cell.specs.declared.operations.Index.{Index}
 use Rattle.cell.specs.Operations.{halvesOf, tripleOf, Sizes, Within}
 use Rattle.cell.specs.TestSteps.{IsStored, samePair, isZero, imageAgrees, pointImageAgrees, emptyEnds, emptyIfOdd, rowAgrees}
 use Rattle.cell.proofs.Tests.{true-iff, every-place-by}
-use Rattle.cell.proofs.Scans.{below-one, below-cong, by-rows}
+use Rattle.cell.proofs.Passing.{below-one, below-cong, by-rows}
 use Rattle.cell.proofs.VolumeLayout.{number-even, number-odd}
 use Rattle.cell.proofs.Reading.{same-iff, lineAt}
 use Rattle.cell.proofs.OperationLaws.{by-group}

@@ -3,7 +3,7 @@ use mathlib.Core.Path.{subst}
 use Rattle.cell.specs.Consistency.{consistentFactors}
 use Rattle.cell.specs.Operations.{halvesOf}
 use Rattle.cell.specs.TestSteps.{IsVolume}
-use Rattle.cell.proofs.Scans.{both-passed, first-failed}
+use Rattle.cell.proofs.Passing.{both-passed, first-failed}
 use Rattle.cell.proofs.TestLaws.{ends-tested, ends-none}
 use Rattle.cell.proofs.factor_test.consistent_factors.Statement.{statement}
 use Rattle.cell.proofs.factor_test.consistent_factors.Tie as tie

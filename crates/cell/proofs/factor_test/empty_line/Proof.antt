@@ -4,7 +4,7 @@ use mathlib.Core.Path.{_∙_, ap}
 use native.Mathlib.Omega.{arith}
 use Rattle.algebra.specs.Cell.{planes}
 use Rattle.cell.specs.TestSteps.{isZero}
-use Rattle.cell.proofs.Scans.{both-passed, first-failed}
+use Rattle.cell.proofs.Passing.{both-passed, first-failed}
 use Rattle.cell.proofs.StoredFactors.{pair-inside}
 use Rattle.cell.proofs.factor_test.empty_line.Statement.{statement}
 use Rattle.cell.proofs.factor_test.empty_line.Tie as tie

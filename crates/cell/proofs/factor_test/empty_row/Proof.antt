@@ -5,7 +5,7 @@ use native.Mathlib.Omega.{arith}
 use Rattle.algebra.specs.Cell.{Pa}
 use Rattle.cell.specs.Operations.{halvesOf}
 use Rattle.cell.specs.TestSteps.{emptyEnds}
-use Rattle.cell.proofs.Scans.{Passing, passing-start, passing-next, passing-stop, passing-done}
+use Rattle.cell.proofs.Passing.{Passing, passing-start, passing-next, passing-stop, passing-done}
 use Rattle.cell.proofs.factor_test.empty_row.Statement.{statement}
 use Rattle.cell.proofs.factor_test.empty_row.Tie as tie
 

@@ -6,7 +6,7 @@ use Rattle.algebra.specs.Cell.{one, full}
 use Rattle.cell.specs.Volume.{groupOf}
 use Rattle.cell.specs.Operations.{halvesOf, tripleOf}
 use Rattle.cell.specs.TestSteps.{imageAgrees}
-use Rattle.cell.proofs.Scans.{PassingMembers, members-second, members-next, members-stop, members-done}
+use Rattle.cell.proofs.Passing.{PassingMembers, members-second, members-next, members-stop, members-done}
 use Rattle.cell.proofs.TestLaws.{first-full, identity-agrees}
 use Rattle.cell.proofs.factor_test.factor_agrees.Statement.{statement}
 use Rattle.cell.proofs.factor_test.factor_agrees.Tie as tie

@@ -8,7 +8,7 @@ use Rattle.algebra.specs.CellTests.{below}
 use Rattle.cell.specs.Volume.{groupOf}
 use Rattle.cell.specs.Consistency.{lineAgrees}
 use Rattle.cell.specs.Operations.{halvesOf}
-use Rattle.cell.proofs.Scans.{Passing, passing-start, passing-next, passing-stop, passing-done, by-layers}
+use Rattle.cell.proofs.Passing.{Passing, passing-start, passing-next, passing-stop, passing-done, by-layers}
 use Rattle.cell.proofs.factor_test.factors_agree.Statement.{statement}
 use Rattle.cell.proofs.factor_test.factors_agree.Tie as tie
 

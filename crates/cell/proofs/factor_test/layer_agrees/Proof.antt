@@ -6,7 +6,7 @@ use Rattle.algebra.specs.CellTests.{below}
 use Rattle.cell.specs.Volume.{groupOf}
 use Rattle.cell.specs.Consistency.{lineAgrees}
 use Rattle.cell.specs.Operations.{halvesOf}
-use Rattle.cell.proofs.Scans.{Passing, passing-start, passing-next, passing-stop, passing-done}
+use Rattle.cell.proofs.Passing.{Passing, passing-start, passing-next, passing-stop, passing-done}
 use Rattle.cell.proofs.factor_test.layer_agrees.Statement.{statement}
 use Rattle.cell.proofs.factor_test.layer_agrees.Tie as tie
 

@@ -6,7 +6,7 @@ use Rattle.algebra.specs.Cell.{Pa}
 use Rattle.algebra.specs.CellTests.{below}
 use Rattle.cell.specs.Operations.{halvesOf}
 use Rattle.cell.specs.TestSteps.{emptyIfOdd}
-use Rattle.cell.proofs.Scans.{Passing, passing-start, passing-next, passing-stop, passing-done}
+use Rattle.cell.proofs.Passing.{Passing, passing-start, passing-next, passing-stop, passing-done}
 use Rattle.cell.proofs.factor_test.odd_rows_empty.Statement.{statement}
 use Rattle.cell.proofs.factor_test.odd_rows_empty.Tie as tie
 

@@ -8,7 +8,7 @@ use Rattle.algebra.specs.CellTests.{below}
 use Rattle.cell.specs.Volume.{groupOf}
 use Rattle.cell.specs.Operations.{halvesOf}
 use Rattle.cell.specs.TestSteps.{rowAgrees}
-use Rattle.cell.proofs.Scans.{Passing, passing-start, passing-next, passing-stop, passing-done}
+use Rattle.cell.proofs.Passing.{Passing, passing-start, passing-next, passing-stop, passing-done}
 use Rattle.cell.proofs.TestLaws.{map-tested}
 use Rattle.cell.proofs.map_test.consistent_map.Statement.{statement}
 use Rattle.cell.proofs.map_test.consistent_map.Tie as tie

@@ -6,7 +6,7 @@ use native.Mathlib.Omega.{arith}
 use Rattle.cell.specs.Volume.{groupOf}
 use Rattle.cell.specs.Consistency.{pointAgrees}
 use Rattle.cell.specs.Operations.{halvesOf}
-use Rattle.cell.proofs.Scans.{Passing, passing-start, passing-next, passing-stop, passing-done, both-passed, first-failed}
+use Rattle.cell.proofs.Passing.{Passing, passing-start, passing-next, passing-stop, passing-done, both-passed, first-failed}
 use Rattle.cell.proofs.StoredFactors.{layers-most, pair-inside}
 use Rattle.cell.proofs.TestLaws.{row-ends}
 use Rattle.cell.proofs.map_test.row_agrees.Statement.{statement}

@@ -1,4 +1,5 @@
 pub mod Tests
+pub mod Passing
 pub mod VolumeLayout
 pub mod LineReading
 pub mod Reading
@@ -13,3 +14,5 @@ pub mod PlaceLaws
 pub mod Scans
 pub mod ReadingLaws
 pub mod RecordLaws
+pub mod StoredFactors
+pub mod TestLaws

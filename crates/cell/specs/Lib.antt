@@ -3,3 +3,4 @@ pub mod Consistency
 pub mod Sums
 pub mod Operations
 pub mod Places
+pub mod TestSteps

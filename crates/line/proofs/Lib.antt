@@ -5,3 +5,7 @@ pub mod Counts
 pub mod Accepted
 pub mod Outcome
 pub mod Specimens
+pub mod Axes
+pub mod Transforms
+pub mod Reading
+pub mod Demands

@@ -6,6 +6,7 @@ use Prim.Native.Nat.{ℕ, zero, suc, _*_, _/_}
 use lib.ListN.{length, getD}
 use lib.Dec.{ltb, leb, eqb}
 use Rattle.algebra.specs.Ring.{pow}
+use Rattle.algebra.specs.Axis.{Axis}
 use Rattle.algebra.specs.Kinds.{Kind, plain, hermitian, antihermitian, alternating, symmetric, antisymmetric, slots, forward, back}
 use Rattle.numbers.specs.Prime.{prime}
 use Rattle.numbers.specs.Value.{Value, field, conj, i, half, part, real, valueOf, pairOf}
@@ -29,6 +30,10 @@ pairCount kind N = slots (kindOf kind) (N / 2)
 -- e(1/N), so that e(k/N) is its k-th power
 unfoldable pub rootOf : (m N : ℕ) → Value m
 rootOf m N = pow (field m) (root m) (2880 / N)
+
+-- the axis of length 2 A, for the theory of lines
+abbrev pub axisOf : (m A : ℕ) → Axis (Value m)
+axisOf m A = record { half = A; w = rootOf m (2 * A); part = real m (part m (2 * A)) }
 
 -- The packed line after the transform from the packed line X before it, or for direction 1 the other way.
 unfoldable pub transform : (m : ℕ) → Kind → (direction N : ℕ) → (ℕ → Value m) → ℕ → Value m

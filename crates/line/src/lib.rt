@@ -2,6 +2,7 @@
 pub mod check;
 
 ghost use Rattle.line.specs.Specimens.{Specimens};
+ghost use Rattle.line.specs.Demands.{ForwardIsSum, BackIsSum, Restored, RestoredAfter};
 
 // Why a call is turned back: one case for each number of the paper.
 pub enum Refusal {
@@ -45,4 +46,14 @@ pub enum LineAnswer {
 // The paper's starred lines, computed from the definitions.
 pub fn starred_lines()
     ensures { λ _. ⌜ Specimens ⌝ }
+{}
+
+// The second demand: what is computed is the direct sum over the whole line ..
+pub fn direct_sums()
+    ensures { λ _. ⌜ ForwardIsSum × BackIsSum ⌝ }
+{}
+
+// .. and each direction restores what the other was lent.
+pub fn restored()
+    ensures { λ _. ⌜ Restored × RestoredAfter ⌝ }
 {}

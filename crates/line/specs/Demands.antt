@@ -1,0 +1,42 @@
+-- The second demand: what the call does to a line is the direct sum over the whole line, and each direction undoes the other.
+--
+-- `transform` packs the sums; here the packed result is unfolded again, so that nothing is lost in the packing.
+use mathlib.Core.Path.{_≡_}
+use mathlib.Core.Bool.{true}
+use mathlib.Core.List.{List}
+use Prim.Native.Nat.{ℕ, _*_, _/_, _<_}
+use lib.ListN.{length}
+use Rattle.algebra.specs.Ring.{Ops, pow, sum}
+use Rattle.algebra.specs.Kinds.{before, after}
+use Rattle.numbers.specs.Prime.{prime, IsModulus}
+use Rattle.numbers.specs.Value.{Value, field, conj, i, half, part, real}
+use Rattle.slices.specs.Pairs.{Below}
+use Rattle.line.specs.Lengths.{admitted}
+use Rattle.line.specs.Line.{kindOf, pairCount, rootOf, transform, transformed}
+
+-- The whole line of a packed line X before the transform, and of one after it, by the kind's number.
+abbrev pub wholeBefore : (m kind N : ℕ) → (ℕ → Value m) → ℕ → Value m
+wholeBefore m kind N X = before (field m) (conj m) (i m) (real m (half m)) (N / 2) (kindOf kind) X
+
+abbrev pub wholeAfter : (m kind N : ℕ) → (ℕ → Value m) → ℕ → Value m
+wholeAfter m kind N X = after (field m) (conj m) (i m) (real m (half m)) (N / 2) (kindOf kind) X
+
+-- Direction 0: the value at s is the sum over t of the value at t times e(ts/N).
+pub record ForwardIsSum : Type 0 where
+  pub is-sum : (m kind N : ℕ) (X : ℕ → Value m) (s : ℕ) → IsModulus m → admitted N ≡ true → s < N →
+      wholeAfter m kind N (transform m (kindOf kind) 0 N X) s ≡ sum (field m) N (λ t. field m .mul (wholeBefore m kind N X t) (pow (field m) (rootOf m N) (t * s)))
+
+-- Direction 1: the value at t is the sum over s of the value at s times e(-st/N), divided by N.
+pub record BackIsSum : Type 0 where
+  pub is-sum : (m kind N : ℕ) (X : ℕ → Value m) (t : ℕ) → IsModulus m → admitted N ≡ true → t < N →
+      wholeBefore m kind N (transform m (kindOf kind) 1 N X) t ≡ field m .mul (real m (part m N)) (sum (field m) N (λ s. field m .mul (wholeAfter m kind N X s) (pow (field m) (conj m (rootOf m N)) (s * t))))
+
+-- A line of residues is restored by direction 1 after direction 0 ..
+pub record Restored : Type 0 where
+  pub restored : (m kind N : ℕ) (line : List ℕ) → IsModulus m → kind < 6 → admitted N ≡ true → length line ≡ 2 * pairCount kind N → Below (prime m) line →
+      transformed m kind 1 N (transformed m kind 0 N line) ≡ line
+
+-- .. and by direction 0 after direction 1.
+pub record RestoredAfter : Type 0 where
+  pub restored : (m kind N : ℕ) (line : List ℕ) → IsModulus m → kind < 6 → admitted N ≡ true → length line ≡ 2 * pairCount kind N → Below (prime m) line →
+      transformed m kind 0 N (transformed m kind 1 N line) ≡ line

@@ -1,0 +1,21 @@
+-- The tables that a line's transform is lent: those of the root for direction 0, those of its conjugate for direction 1.
+use mathlib.Core.Path.{_≡_}
+use mathlib.Core.List.{List}
+use Prim.Native.Nat.{ℕ}
+use Rattle.numbers.specs.Value.{conj}
+use Rattle.numbers.specs.Root.{root, tableRoot, RootTable, TangentLaws, BackwardTangents}
+use Rattle.folds.specs.Frame.{Tangents}
+
+-- the powers of the root, and its half tangents
+pub record ForwardTables (m : ℕ) (re im tan : List ℕ) : Type 0 where
+  pub powers : RootTable m re im
+  pub of-root : tableRoot m re im ≡ root m
+  pub tangents : TangentLaws m tan
+  pub small : Tangents m tan
+
+-- the powers of its conjugate, and the negated half tangents, which are the conjugate's
+pub record BackwardTables (m : ℕ) (re im tan : List ℕ) : Type 0 where
+  pub powers : RootTable m re im
+  pub of-root : tableRoot m re im ≡ conj m (root m)
+  pub tangents : BackwardTangents m tan
+  pub small : Tangents m tan

@@ -8,3 +8,7 @@ pub mod Writing
 pub mod Records
 pub mod OrbitNumbers
 pub mod Points
+pub mod LinePairs
+pub mod PackedLines
+pub mod Sweeps
+pub mod Passes

@@ -1,3 +1,4 @@
 pub mod Volume
 pub mod Consistency
 pub mod Sums
+pub mod Passes

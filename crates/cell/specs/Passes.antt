@@ -1,0 +1,110 @@
+-- Synthesis and analysis on the numbers of a volume: every line in its turn, along l by the kind of its group, along h as a plain line, along k as a Hermitian one.
+-- The lines of a job are numbered: first those along l, then h, then k, each by rising place of its first pair.
+use mathlib.Core.Bool.{cond}
+use mathlib.Core.List.{List}
+use Prim.Native.Nat.{ℕ, zero, suc, _+_, _*_, _-_, _/_}
+use lib.Dec.{ltb}
+use Rattle.algebra.specs.Kinds.{Kind, Kind.plain, Kind.hermitian, slots, forward, back}
+use Rattle.algebra.specs.Cell.{J, Group}
+use Rattle.numbers.specs.declared.Pair.{Pair}
+use Rattle.numbers.specs.Value.{Value, field, conj, i, half, real, valueOf, pairOf}
+use Rattle.slices.specs.Pairs.{at, tab, zeroPair}
+use Rattle.slices.specs.Values.{valuesOf, listOf}
+use Rattle.slices.specs.Sweep.{Layout, lineOf, setLine, onLists, alongSecond, alongLast}
+use Rattle.cell.specs.Volume.{lineKind, firstPair, layers, rows, columns}
+use Rattle.cell.specs.Sums.{axis}
+
+-- ---- one line
+
+module _ (m A : ℕ) where
+  -- a packed line of 2 A values, transformed, and back
+  abbrev pub forwardValues : Kind → (ℕ → Value m) → ℕ → Value m
+  forwardValues kind X = forward (field m) (conj m) (i m) (real m (half m)) A (axis m A .w) kind X
+
+  abbrev pub inverseValues : Kind → (ℕ → Value m) → ℕ → Value m
+  inverseValues kind X = back (field m) (conj m) (i m) (real m (half m)) A (axis m A .w) (axis m A .part) kind X
+
+  abbrev pub forwardLine : Kind → List ℕ → List ℕ
+  forwardLine kind l = listOf (slots kind A) (forwardValues kind (valuesOf m l))
+
+  abbrev pub inverseLine : Kind → List ℕ → List ℕ
+  inverseLine kind l = listOf (slots kind A) (inverseValues kind (valuesOf m l))
+
+-- The pairs 0 to B of a k-line, of which pair 0 and pair B are real: the real part of pair B is the second number of pair 0.
+unfoldable pub joined : (B : ℕ) → (ℕ → Pair) → ℕ → Pair
+joined B v zero = record { re = (v 0) .re; im = (v B) .re }
+joined B v (suc t) = v (suc t)
+
+-- and back
+unfoldable pub parted : (B : ℕ) → (ℕ → Pair) → ℕ → Pair
+parted B v zero = record { re = (v 0) .re; im = 0 }
+parted B v (suc t) = cond (ltb (suc t) B) (v (suc t)) (record { re = (v 0) .im; im = 0 })
+
+module _ (m B : ℕ) where
+  -- a row of B + 1 pairs becomes N2 real values and two zeros
+  abbrev pub forwardRow : List ℕ → List ℕ
+  forwardRow l = tab (suc B) (λ t. cond (ltb t B) (pairOf (forwardValues m B hermitian (λ s. valueOf m (joined B (at l) s)) t)) zeroPair)
+
+  abbrev pub inverseRow : List ℕ → List ℕ
+  inverseRow l = tab (suc B) (parted B (λ t. pairOf (inverseValues m B hermitian (valuesOf m l) t)))
+
+-- ---- the lines of a volume
+
+-- line y of the list d becomes what G makes of it
+abbrev pub turnOf : Layout → (ℕ → List ℕ → List ℕ) → ℕ → List ℕ → List ℕ
+turnOf L G y d = setLine L y (onLists L G y (lineOf L y d)) d
+
+-- n turns, from number j on
+unfoldable pub turns : (ℕ → List ℕ → List ℕ) → (j n : ℕ) → List ℕ → List ℕ
+turns step j zero d = d
+turns step j (suc n) d = step (j + n) (turns step j n d)
+
+module _ (g : Group) (a : J) where
+  -- line y = h (B + 1) + k along l, the pairs of its kind
+  abbrev pub kindAt : ℕ → Kind
+  kindAt y = lineKind g (y / columns g a)
+
+  abbrev pub alongL : Layout
+  alongL = record { count = rows g a * columns g a; size = λ y. slots (kindAt y) (a .2); place = λ y j. y + (firstPair (kindAt y) + j) * (rows g a * columns g a) }
+
+  -- line y = w (B + 1) + k along h, and row y = w N1 + h along k
+  abbrev pub alongH : Layout
+  alongH = alongSecond (layers g a) (rows g a) (columns g a)
+
+  abbrev pub alongK : Layout
+  alongK = alongLast (columns g a) (layers g a * rows g a)
+
+  abbrev pub lineCount : ℕ
+  lineCount = alongL .count + alongH .count + alongK .count
+
+  module _ (m : ℕ) where
+    abbrev pub forwardL : ℕ → List ℕ → List ℕ
+    forwardL y = forwardLine m (a .2) (kindAt y)
+
+    abbrev pub forwardH : ℕ → List ℕ → List ℕ
+    forwardH y = forwardLine m (a .0) plain
+
+    abbrev pub forwardK : ℕ → List ℕ → List ℕ
+    forwardK y = forwardRow m (a .1)
+
+    abbrev pub inverseL : ℕ → List ℕ → List ℕ
+    inverseL y = inverseLine m (a .2) (kindAt y)
+
+    abbrev pub inverseH : ℕ → List ℕ → List ℕ
+    inverseH y = inverseLine m (a .0) plain
+
+    abbrev pub inverseK : ℕ → List ℕ → List ℕ
+    inverseK y = inverseRow m (a .1)
+
+    -- line number j of the job
+    unfoldable pub forwardTurn : ℕ → List ℕ → List ℕ
+    forwardTurn j d =
+        cond (ltb j (alongL .count)) (turnOf alongL forwardL j d)
+        (cond (ltb j (alongL .count + alongH .count)) (turnOf alongH forwardH (j - alongL .count) d)
+        (turnOf alongK forwardK (j - (alongL .count + alongH .count)) d))
+
+    unfoldable pub inverseTurn : ℕ → List ℕ → List ℕ
+    inverseTurn j d =
+        cond (ltb j (alongL .count)) (turnOf alongL inverseL j d)
+        (cond (ltb j (alongL .count + alongH .count)) (turnOf alongH inverseH (j - alongL .count) d)
+        (turnOf alongK inverseK (j - (alongL .count + alongH .count)) d))

@@ -12,3 +12,6 @@ pub mod LinePairs
 pub mod PackedLines
 pub mod Sweeps
 pub mod Passes
+pub mod OperationLaws
+pub mod PlaceLaws
+pub mod Turns

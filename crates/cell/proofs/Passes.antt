@@ -41,7 +41,7 @@ use Rattle.slices.proofs.Pairs.{at-tab}
 use Rattle.cell.specs.Volume.{Admitted, lineKind, firstPair, layers, rows, columns, volumeOf, packed, packFactors, mapPair, packMap}
 use Rattle.cell.specs.Consistency.{RealMap, ObeysGroup}
 use Rattle.cell.specs.Sums.{axis, mapOf, factorsOf}
-use Rattle.cell.specs.Passes.{forwardValues, inverseValues, joined, parted, forwardRow, inverseRow, alongL, alongH, alongK, forwardL, forwardH, forwardK, inverseL, inverseH, inverseK}
+use Rattle.cell.specs.Passes.{forwardValues, inverseValues, joined, parted, forwardRow, inverseRow, alongL, alongH, alongK, turnedL, turnedH, turnedK}
 use Rattle.cell.proofs.VolumeLayout.{volume-cong, by-row, mapPair-low, mapPair-end}
 use Rattle.cell.proofs.LineReading.{by-half, packed-in, packed-first, packed-last}
 use Rattle.cell.proofs.Maps.{layers-fit}
@@ -119,7 +119,7 @@ module _ (g : Group) (ok : Admitted g) (a : J) (m : ℕ) {tx ty tz : ℕ → Val
         empty w (inl q) = ap (packed g a m antisymmetric (F h k)) q ∙ packed-first g a m (F h k)
         empty w (inr q) = ap (packed g a m antisymmetric (F h k)) q ∙ packed-last g a m (F h k) (𝓩 .positive)
 
-    pub pass-l : pass (alongL g a) (forwardL g a m) (packFactors g a m F) ≡ planesOf (L F)
+    pub pass-l : pass (alongL g a) (turnedL g a m 0) (packFactors g a m F) ≡ planesOf (L F)
     unfolding packFactors afterL
     pass-l = sweep-l g a ok (𝓩 .positive) m (λ kind. forwardValues m (a .2) kind) boxed (λ w h k. L F h k w)
         (λ h k lh lk p e t lt.
@@ -127,7 +127,7 @@ module _ (g : Group) (ok : Admitted g) (a : J) (m : ℕ) {tx ty tz : ℕ → Val
         ∙ placed-after a m g ok h _ t)
         ends
 
-    pub back-l : pass (alongL g a) (inverseL g a m) (planesOf (L F)) ≡ packFactors g a m F
+    pub back-l : pass (alongL g a) (turnedL g a m 1) (planesOf (L F)) ≡ packFactors g a m F
     unfolding packFactors afterL
     back-l = sweep-l g a ok (𝓩 .positive) m (λ kind. inverseValues m (a .2) kind) (λ w h k. L F h k w) boxed
         (λ h k lh lk p e t lt.
@@ -140,12 +140,12 @@ module _ (g : Group) (ok : Admitted g) (a : J) (m : ℕ) {tx ty tz : ℕ → Val
   -- ---- along h, of any cell
 
   module _ (T : Cell (Value m)) where
-    pub pass-h : pass (alongH g a) (forwardH g a m) (planesOf T) ≡ planesOf (afterH (field m) (axis m (a .0)) T)
+    pub pass-h : pass (alongH g a) (turnedH g a m 0) (planesOf T) ≡ planesOf (afterH (field m) (axis m (a .0)) T)
     unfolding slots before pack-after afterH
     pass-h = sweep-h g a m (forwardValues m (a .0) plain) (λ w h k. T h k w) (λ w h k. afterH (field m) (axis m (a .0)) T h k w)
         (λ w k lw lk p e t lt. dft-cong (field-ring m) (2 * a .0) _ _ _ t e)
 
-    pub back-h : pass (alongH g a) (inverseH g a m) (planesOf T) ≡ planesOf (backH (field m) (conj m) (axis m (a .0)) T)
+    pub back-h : pass (alongH g a) (turnedH g a m 1) (planesOf T) ≡ planesOf (backH (field m) (conj m) (axis m (a .0)) T)
     unfolding slots after pack-before backH
     back-h = sweep-h g a m (inverseValues m (a .0) plain) (λ w h k. T h k w) (λ w h k. backH (field m) (conj m) (axis m (a .0)) T h k w)
         (λ w k lw lk p e t lt. ap (λ y. field m .mul (axis m (a .0) .part) y) (dft-cong (field-ring m) (2 * a .0) _ _ _ t e))
@@ -230,7 +230,7 @@ module _ (g : Group) (ok : Admitted g) (a : J) (m : ℕ) {tx ty tz : ℕ → Val
             same : (y : ℕ) → afterK (field m) (axis m (a .1)) (LH F) x y z ≡ mapOf m a F x y z
             same y = synthesis (field-ring m) (conj m) (axis m (a .0)) (axis m (a .1)) (axis m (a .2)) F x y z
 
-    pub pass-k : pass (alongK g a) (forwardK g a m) (planesOf (LH F)) ≡ packMap g a m (mapOf m a F)
+    pub pass-k : pass (alongK g a) (turnedK g a m 0) (planesOf (LH F)) ≡ packMap g a m (mapOf m a F)
     unfolding packMap
     pass-k = sweep-k g a (forwardRow m (a .1)) (λ w h k. pairOf (LH F h k w)) (mapPair g a (mapOf m a F)) (λ w h lw lh l e t lt.
         at-tab _ (suc (a .1)) t lt
@@ -243,14 +243,14 @@ module _ (g : Group) (ok : Admitted g) (a : J) (m : ℕ) {tx ty tz : ℕ → Val
         pairAt l t = cond (ltb t (a .1)) (pairOf (forwardValues m (a .1) hermitian (λ s. valueOf m (joined (a .1) (at l) s)) t)) zeroPair
 
     -- the whole of synthesis
-    pub synthesis-passes : pass (alongK g a) (forwardK g a m) (pass (alongH g a) (forwardH g a m) (pass (alongL g a) (forwardL g a m) (packFactors g a m F))) ≡ packMap g a m (mapOf m a F)
-    synthesis-passes = ap (λ v. pass (alongK g a) (forwardK g a m) (pass (alongH g a) (forwardH g a m) v)) (pass-l F lawful) ∙ ap (pass (alongK g a) (forwardK g a m)) (pass-h (L F)) ∙ pass-k
+    pub synthesis-passes : pass (alongK g a) (turnedK g a m 0) (pass (alongH g a) (turnedH g a m 0) (pass (alongL g a) (turnedL g a m 0) (packFactors g a m F))) ≡ packMap g a m (mapOf m a F)
+    synthesis-passes = ap (λ v. pass (alongK g a) (turnedK g a m 0) (pass (alongH g a) (turnedH g a m 0) v)) (pass-l F lawful) ∙ ap (pass (alongK g a) (turnedK g a m 0)) (pass-h (L F)) ∙ pass-k
 
   module _ (M : Cell (Value m)) (is-real : RealMap g a m M) where
     real-at : (x y z : ℕ) → x < rows g a → y < 2 * a .1 → z < layers g a → conj m (M x y z) ≡ M x y z
     real-at x y z lx ly lz = let e = is-real (x, y, z) (lx, ly, layers-fit g a (𝓩 .positive) z lz) in ap (conj m) e ∙ conj-real m _ ∙ sym e
 
-    pub back-k : pass (alongK g a) (inverseK g a m) (packMap g a m M) ≡ planesOf (backK (field m) (conj m) (axis m (a .1)) M)
+    pub back-k : pass (alongK g a) (turnedK g a m 1) (packMap g a m M) ≡ planesOf (backK (field m) (conj m) (axis m (a .1)) M)
     unfolding packMap backK slots
     back-k = sweep-k g a (inverseRow m (a .1)) (mapPair g a M) (λ w h k. pairOf (backK (field m) (conj m) (axis m (a .1)) M h k w)) (λ w h lw lh l e t lt.
         at-tab _ (suc (a .1)) t lt
@@ -265,10 +265,10 @@ module _ (g : Group) (ok : Admitted g) (a : J) (m : ℕ) {tx ty tz : ℕ → Val
             (λ s ls. ap (valueOf m) (e s (omega (arith, ls))) ∙ row-pair M x z (λ y ly. real-at x y z lx ly lz) s ls) t lt
 
     -- the whole of analysis, for a map that obeys the group
-    pub analysis-passes : ObeysGroup g a m M → pass (alongL g a) (inverseL g a m) (pass (alongH g a) (inverseH g a m) (pass (alongK g a) (inverseK g a m) (packMap g a m M))) ≡ packFactors g a m (factorsOf m a M)
+    pub analysis-passes : ObeysGroup g a m M → pass (alongL g a) (turnedL g a m 1) (pass (alongH g a) (turnedH g a m 1) (pass (alongK g a) (turnedK g a m 1) (packMap g a m M))) ≡ packFactors g a m (factorsOf m a M)
     analysis-passes o =
-        ap (λ v. pass (alongL g a) (inverseL g a m) (pass (alongH g a) (inverseH g a m) v)) back-k
-        ∙ ap (pass (alongL g a) (inverseL g a m)) (back-h (backK (field m) (conj m) (axis m (a .1)) M) ∙ halfway)
+        ap (λ v. pass (alongL g a) (turnedL g a m 1) (pass (alongH g a) (turnedH g a m 1) v)) back-k
+        ∙ ap (pass (alongL g a) (turnedL g a m 1)) (back-h (backK (field m) (conj m) (axis m (a .1)) M) ∙ halfway)
         ∙ back-l (factorsOf m a M) lawful
       where
         lawful : Lawful (field m) (conj m) a g (factorsOf m a M)

@@ -2,3 +2,5 @@ pub mod Volume
 pub mod Consistency
 pub mod Sums
 pub mod Passes
+pub mod Operations
+pub mod Places

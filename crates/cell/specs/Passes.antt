@@ -30,6 +30,11 @@ module _ (m A : ℕ) where
   abbrev pub inverseLine : Kind → List ℕ → List ℕ
   inverseLine kind l = listOf (slots kind A) (inverseValues kind (valuesOf m l))
 
+  -- by direction
+  abbrev pub turnedLine : ℕ → Kind → List ℕ → List ℕ
+  turnedLine zero = forwardLine
+  turnedLine (suc direction) = inverseLine
+
 -- The pairs 0 to B of a k-line, of which pair 0 and pair B are real: the real part of pair B is the second number of pair 0.
 unfoldable pub joined : (B : ℕ) → (ℕ → Pair) → ℕ → Pair
 joined B v zero = record { re = (v 0) .re; im = (v B) .re }
@@ -47,6 +52,10 @@ module _ (m B : ℕ) where
 
   abbrev pub inverseRow : List ℕ → List ℕ
   inverseRow l = tab (suc B) (parted B (λ t. pairOf (inverseValues m B hermitian (valuesOf m l) t)))
+
+  abbrev pub turnedRow : ℕ → List ℕ → List ℕ
+  turnedRow zero = forwardRow
+  turnedRow (suc direction) = inverseRow
 
 -- ---- the lines of a volume
 
@@ -77,34 +86,20 @@ module _ (g : Group) (a : J) where
   abbrev pub lineCount : ℕ
   lineCount = alongL .count + alongH .count + alongK .count
 
-  module _ (m : ℕ) where
-    abbrev pub forwardL : ℕ → List ℕ → List ℕ
-    forwardL y = forwardLine m (a .2) (kindAt y)
+  -- what becomes of a line: direction 0 is synthesis, 1 analysis
+  module _ (m direction : ℕ) where
+    abbrev pub turnedL : ℕ → List ℕ → List ℕ
+    turnedL y l = turnedLine m (a .2) direction (kindAt y) l
 
-    abbrev pub forwardH : ℕ → List ℕ → List ℕ
-    forwardH y = forwardLine m (a .0) plain
+    abbrev pub turnedH : ℕ → List ℕ → List ℕ
+    turnedH y l = turnedLine m (a .0) direction plain l
 
-    abbrev pub forwardK : ℕ → List ℕ → List ℕ
-    forwardK y = forwardRow m (a .1)
-
-    abbrev pub inverseL : ℕ → List ℕ → List ℕ
-    inverseL y = inverseLine m (a .2) (kindAt y)
-
-    abbrev pub inverseH : ℕ → List ℕ → List ℕ
-    inverseH y = inverseLine m (a .0) plain
-
-    abbrev pub inverseK : ℕ → List ℕ → List ℕ
-    inverseK y = inverseRow m (a .1)
+    abbrev pub turnedK : ℕ → List ℕ → List ℕ
+    turnedK y l = turnedRow m (a .1) direction l
 
     -- line number j of the job
-    unfoldable pub forwardTurn : ℕ → List ℕ → List ℕ
-    forwardTurn j d =
-        cond (ltb j (alongL .count)) (turnOf alongL forwardL j d)
-        (cond (ltb j (alongL .count + alongH .count)) (turnOf alongH forwardH (j - alongL .count) d)
-        (turnOf alongK forwardK (j - (alongL .count + alongH .count)) d))
-
-    unfoldable pub inverseTurn : ℕ → List ℕ → List ℕ
-    inverseTurn j d =
-        cond (ltb j (alongL .count)) (turnOf alongL inverseL j d)
-        (cond (ltb j (alongL .count + alongH .count)) (turnOf alongH inverseH (j - alongL .count) d)
-        (turnOf alongK inverseK (j - (alongL .count + alongH .count)) d))
+    unfoldable pub jobTurn : ℕ → List ℕ → List ℕ
+    jobTurn j d =
+        cond (ltb j (alongL .count)) (turnOf alongL turnedL j d)
+        (cond (ltb j (alongL .count + alongH .count)) (turnOf alongH turnedH (j - alongL .count) d)
+        (turnOf alongK turnedK (j - (alongL .count + alongH .count)) d))

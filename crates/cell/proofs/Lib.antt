@@ -8,7 +8,6 @@ pub mod Writing
 pub mod Records
 pub mod OrbitNumbers
 pub mod Points
-pub mod LinePairs
 pub mod PackedLines
 pub mod Sweeps
 pub mod Passes

@@ -10,7 +10,8 @@ pub mod OrbitNumbers
 pub mod Points
 pub mod PackedLines
 pub mod Sweeps
-pub mod Passes
+pub mod PassLaws
 pub mod OperationLaws
 pub mod PlaceLaws
 pub mod Turns
+pub mod Whole

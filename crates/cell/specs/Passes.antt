@@ -1,9 +1,11 @@
 -- Synthesis and analysis on the numbers of a volume: every line in its turn, along l by the kind of its group, along h as a plain line, along k as a Hermitian one.
 -- The lines of a job are numbered: first those along l, then h, then k, each by rising place of its first pair.
+use mathlib.Core.Path.{_≡_}
 use mathlib.Core.Bool.{cond}
 use mathlib.Core.List.{List}
-use Prim.Native.Nat.{ℕ, zero, suc, _+_, _*_, _-_, _/_}
+use Prim.Native.Nat.{ℕ, zero, suc, _+_, _*_, _-_, _/_, _≤_}
 use lib.Dec.{ltb}
+use lib.ListN.{length, drop}
 use Rattle.algebra.specs.Kinds.{Kind, Kind.plain, Kind.hermitian, slots, forward, back}
 use Rattle.algebra.specs.Cell.{J, Group}
 use Rattle.numbers.specs.declared.Pair.{Pair}
@@ -11,8 +13,11 @@ use Rattle.numbers.specs.Value.{Value, field, conj, i, half, real, valueOf, pai
 use Rattle.slices.specs.Pairs.{at, tab, zeroPair}
 use Rattle.slices.specs.Values.{valuesOf, listOf}
 use Rattle.slices.specs.Sweep.{Layout, lineOf, setLine, onLists, alongSecond, alongLast}
+use Rattle.line.specs.Accepted.{AdmittedLength, FactorList}
+use Rattle.line.specs.Tables.{ForwardTables, BackwardTables}
 use Rattle.cell.specs.Volume.{lineKind, firstPair, layers, rows, columns}
 use Rattle.cell.specs.Sums.{axis}
+use Rattle.cell.specs.Operations.{Sizes}
 
 -- ---- one line
 
@@ -103,3 +108,30 @@ module _ (g : Group) (a : J) where
         cond (ltb j (alongL .count)) (turnOf alongL turnedL j d)
         (cond (ltb j (alongL .count + alongH .count)) (turnOf alongH turnedH (j - alongL .count) d)
         (turnOf alongK turnedK (j - (alongL .count + alongH .count)) d))
+
+-- ---- what the passes ask
+
+-- the tables of a direction
+abbrev pub TablesOf : (m direction : ℕ) (re im tan : List ℕ) → Type 0
+TablesOf m zero re im tan = ForwardTables m re im tan
+TablesOf m (suc direction) re im tan = BackwardTables m re im tan
+
+-- a group, three lengths and their factor lists, as a job that was opened has them
+pub record JobSizes (group n1 n2 n3 f1 f2 f3 : ℕ) : Type 0 where
+  pub sizes : Sizes group n1 n2 n3
+  pub first : AdmittedLength n1
+  pub second : AdmittedLength n2
+  pub third : AdmittedLength n3
+  pub first-list : FactorList n1 f1
+  pub second-list : FactorList n2 f2
+  pub third-list : FactorList n3 f3
+
+-- the lent buffers are long enough
+pub record Lent (scratch fold work : List ℕ) : Type 0 where
+  pub scratch-fits : 11520 ≤ length scratch
+  pub fold-fits : 5760 ≤ length fold
+  pub work-fits : 5760 ≤ length work
+
+-- beyond its first 11,520 numbers the scratch is as it was
+abbrev pub Kept : List ℕ → List ℕ → Type 0
+Kept before after = drop 11520 after ≡ drop 11520 before

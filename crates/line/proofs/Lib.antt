@@ -9,3 +9,4 @@ pub mod Axes
 pub mod Transforms
 pub mod Reading
 pub mod Demands
+pub mod Dispatch

@@ -1,5 +1,6 @@
 // One line of structure factors: the six kinds, both directions.
-pub mod check;
+pub mod check; // check.rt: the refusals
+pub mod kinds; // kinds.rt: a line of any kind, both directions
 
 ghost use Rattle.line.specs.Specimens.{Specimens};
 ghost use Rattle.line.specs.Demands.{ForwardIsSum, BackIsSum, Restored, RestoredAfter};

@@ -15,3 +15,4 @@ pub mod OperationLaws
 pub mod PlaceLaws
 pub mod Turns
 pub mod Whole
+pub mod TurnLaws

@@ -9,6 +9,9 @@ pub mod Writing
 pub mod Records
 pub mod OrbitNumbers
 pub mod Points
+pub mod PackedLines
+pub mod Sweeps
+pub mod PassLaws
 pub mod OperationLaws
 pub mod PlaceLaws
 pub mod Scans
@@ -16,3 +19,6 @@ pub mod ReadingLaws
 pub mod RecordLaws
 pub mod StoredFactors
 pub mod TestLaws
+pub mod Turns
+pub mod Whole
+pub mod TurnLaws

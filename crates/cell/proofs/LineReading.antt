@@ -146,7 +146,7 @@ module _ (m c : ℕ) where
 
 module _ (g : Group) (a : J) (m : ℕ) (X : ℕ → Value m) where
   -- the pairs that belong to the line
-  packed-in : (kind : Kind) (w : ℕ) → firstPair kind ≤ w → w < firstPair kind + slots kind (a .2) → packed g a m kind X w ≡ pack-before (field m) (Value.conj m) (i m) (real m (half m)) (a .2) kind X (w - firstPair kind)
+  pub packed-in : (kind : Kind) (w : ℕ) → firstPair kind ≤ w → w < firstPair kind + slots kind (a .2) → packed g a m kind X w ≡ pack-before (field m) (Value.conj m) (i m) (real m (half m)) (a .2) kind X (w - firstPair kind)
   unfolding packed
   packed-in kind w lo hi = rw (le-leb (firstPair kind) w lo, lt-ltb w (firstPair kind + slots kind (a .2)) hi)
 

@@ -87,15 +87,15 @@ module _ (g : Group) (a : J) where
   pair-numbers v x k z = pair-path (sym (number-even v x k z)) (sym (number-odd v x k z))
 
   -- the pairs of a row are pairs of points, and the two zeros
-  by-row : (P : ℕ → Type 0) → ((k : ℕ) → k < a .1 → P k) → P (a .1) → (k : ℕ) → k < columns g a → P k
+  pub by-row : (P : ℕ → Type 0) → ((k : ℕ) → k < a .1 → P k) → P (a .1) → (k : ℕ) → k < columns g a → P k
   by-row P f e k l = ⊎-elim (λ s. f k s) (λ s. subst P {x = a .1} {y = k} (omega arith) e) (lt-or-ge k (a .1))
 
   module _ (m : ℕ) (M : Cell (Value m)) where
-    mapPair-low : (z x k : ℕ) → k < a .1 → mapPair g a M z x k ≡ record { re = (M x (2 * k) z) .0 .val; im = (M x (2 * k + 1) z) .0 .val }
+    pub mapPair-low : (z x k : ℕ) → k < a .1 → mapPair g a M z x k ≡ record { re = (M x (2 * k) z) .0 .val; im = (M x (2 * k + 1) z) .0 .val }
     unfolding mapPair
     mapPair-low z x k l = rw (lt-ltb k (a .1) l)
 
-    mapPair-end : (z x : ℕ) → mapPair g a M z x (a .1) ≡ record { re = 0; im = 0 }
+    pub mapPair-end : (z x : ℕ) → mapPair g a M z x (a .1) ≡ record { re = 0; im = 0 }
     unfolding mapPair
     mapPair-end z x = rw (le-ltb (a .1) (a .1) (omega arith))
 

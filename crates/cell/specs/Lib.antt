@@ -1,6 +1,7 @@
 pub mod Volume
 pub mod Consistency
 pub mod Sums
+pub mod Passes
 pub mod Operations
 pub mod Places
 pub mod TestSteps

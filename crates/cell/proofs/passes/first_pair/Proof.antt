@@ -1,0 +1,20 @@
+-- Only an antisymmetric line leaves pairs out.
+use borrow.Author.Needs.{needs}
+use mathlib.Core.Path.{refl, ap}
+use native.Mathlib.Omega.{arith}
+use Rattle.cell.proofs.TurnLaws.{first-of, first-other}
+use Rattle.cell.proofs.passes.first_pair.Statement.{statement}
+use Rattle.cell.proofs.passes.first_pair.Tie as tie
+
+returns : tie.Need-returns
+returns c = (first-of _ (c .if1 .taken), omega arith)
+
+returns-2 : tie.Need-returns-2
+returns-2 c = (first-other _ (c .before .pre) (c .if1 .left), omega arith)
+
+pub first-pair-spec : {M : Type 1} → statement M
+first-pair-spec =
+    tie.close
+    (tie.spec
+    returns
+    returns-2)

@@ -7,7 +7,7 @@ use Rattle.cell.specs.Volume.{groupOf}
 use Rattle.cell.specs.Operations.{halvesOf, tripleOf}
 use Rattle.cell.specs.TestSteps.{pointImageAgrees}
 use Rattle.cell.proofs.OperationLaws.{first-own}
-use Rattle.cell.proofs.PlaceLaws.{order-least}
+use Rattle.cell.proofs.OperationLaws.{order-least}
 use Rattle.cell.proofs.Passing.{PassingMembers, members-second, members-next, members-stop, members-done}
 use Rattle.cell.proofs.TestLaws.{identity-point}
 use Rattle.cell.proofs.map_test.point_agrees.Statement.{statement}

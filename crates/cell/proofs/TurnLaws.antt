@@ -1,14 +1,14 @@
 -- What the code of a turn leaves is the turn: a line that was gathered, transformed in the scratch and scattered, and a row that was lent as a part of the volume.
-use mathlib.Core.Path.{_≡_, refl, sym, _∙_, ap, ap₂, subst}
+use mathlib.Core.Path.{_≡_, refl, sym, _∙_, ap, subst}
 use mathlib.Core.Logic.{⊎-elim}
-use mathlib.Core.Bool.{Bool, true, false, cond}
+use mathlib.Core.Bool.{cond}
 use mathlib.Core.List.{List, _++_}
 use Prim.Native.Nat.{ℕ, zero, suc, _+_, _*_, _-_, _/_, _%_, _<_, _≤_}
 use native.Mathlib.Nat.{mul-le-mul, mul-le-mul-right}
 use native.Mathlib.Omega.{arith}
 use lib.ListN.{length, take, drop, getD, set, length-append, length-drop, length-set}
 use lib.Dec.{ltb}
-use lib.Seq.{length-take-le, drop-drop, drop-at, getD-set-same, getD-set-other}
+use lib.Seq.{drop-drop, drop-at, getD-set-same, getD-set-other}
 use borrow.Author.Tests.{lt-ltb, le-ltb}
 use Rattle.algebra.specs.Kinds.{Kind, Kind.hermitian, slots, forward, back}
 use Rattle.algebra.specs.Cell.{J, Group, P1, P2₁, Pm, Pa, P2₁2₁2₁, planes}
@@ -16,7 +16,7 @@ use Rattle.algebra.specs.CellPack.{even}
 use Rattle.algebra.proofs.Laws.{along}
 use Rattle.numbers.specs.declared.Pair.{Pair}
 use Rattle.numbers.specs.Prime.{prime, IsModulus}
-use Rattle.numbers.specs.Value.{Value, field, conj, i, half, real, valueOf, pairOf}
+use Rattle.numbers.specs.Value.{field, conj, i, half, real, valueOf, pairOf}
 use Rattle.numbers.proofs.Primes.{prime-pos}
 use Rattle.numbers.proofs.Values.{field-ring, field-star, pair-path}
 use Rattle.slices.specs.Values.{valuesOf, listOf}
@@ -29,7 +29,7 @@ use Rattle.slices.proofs.Segments.{setSegment-puts, segment-tab, at-take, at-ap
 use Rattle.slices.proofs.Values.{length-list}
 use Rattle.slices.proofs.Rows.{row-end, row-split, strided-block}
 use Rattle.slices.proofs.Layouts.{fits-second}
-use Rattle.slices.proofs.Bounds.{below-tab, below-at, small-at}
+use Rattle.slices.proofs.Bounds.{below-tab, small-at}
 use Rattle.line.specs.Line.{kindOf, pairCount, rootOf, transform, transformed}
 use Rattle.line.specs.Accepted.{AdmittedLength}
 use Rattle.line.specs.Tables.{ForwardTables, BackwardTables}
@@ -42,7 +42,7 @@ use Rattle.cell.proofs.PackedLines.{line-fits}
 use Rattle.cell.proofs.Turns.{turns-next, turn-l, turn-h, turn-k}
 use Rattle.cell.specs.Volume.{Admitted, groupOf, lineKind, firstPair, layers, rows, columns, volumeLength}
 use Rattle.cell.proofs.PlaceLaws.{even-is, odd-is}
-use Rattle.cell.specs.Operations.{halvesOf, Length, Sizes}
+use Rattle.cell.specs.Operations.{halvesOf, Sizes}
 use Rattle.cell.specs.Sums.{axis}
 use Rattle.cell.specs.Passes.{turnedLine, turnOf, forwardValues, inverseValues, joined, parted, forwardRow, inverseRow, turnedRow, lineCount, kindAt, alongL, alongH, alongK, turnedL, turnedH, turnedK, jobTurn, turns, Lent, Kept, TablesOf}
 
@@ -353,9 +353,6 @@ module _ {group n1 n2 n3 : ℕ} (h : Sizes group n1 n2 n3) where
     pub turned-l : (m direction : ℕ) (v v′ : List ℕ) → v′ ≡ puts (λ j. y + f * (n1 * (n2 / 2 + 1)) + j * (n1 * (n2 / 2 + 1))) (at (turnedLine m (n3 / 2) direction (kindOf kind) (tab count (λ j. at v (y + f * (n1 * (n2 / 2 + 1)) + j * (n1 * (n2 / 2 + 1))))))) count v
         → v′ ≡ turnOf (alongL g a) (turnedL g a m direction) y v
     turned-l m direction v v′ = by-places (alongL g a) (turnedL g a m direction) y count _ (turnedLine m (n3 / 2) direction (kindOf kind)) v v′ size-l (λ j l. place-l j) (λ l. ap (λ k. turnedLine m (n3 / 2) direction k l) kind-is)
-
-    pub count-l : count ≡ slots (kindOf kind) (n3 / 2)
-    count-l = ec
 
   -- a row along k
   module _ (y : ℕ) (l : y < layers g a * rows g a) where

@@ -1,7 +1,7 @@
 -- A line along h is gathered from the places of its layout.
 use borrow.Author.Needs.{needs}
-use mathlib.Core.Path.{_≡_, refl, sym, _∙_, ap, subst}
-use Prim.Native.Nat.{_+_, _*_, _/_, _%_}
+use mathlib.Core.Path.{_≡_, refl, sym, subst}
+use Prim.Native.Nat.{_*_, _/_}
 use native.Mathlib.Omega.{arith}
 use Rattle.algebra.specs.Kinds.{slots, Kind.plain}
 use Rattle.line.specs.Accepted.{AdmittedLength, FactorList}

@@ -1,7 +1,7 @@
 -- A row along k is lent as a part of the volume.
 use borrow.Author.Needs.{needs}
-use mathlib.Core.Path.{_≡_, refl, sym, _∙_, ap, subst}
-use Prim.Native.Nat.{_+_, _*_, _/_, _%_}
+use mathlib.Core.Path.{_≡_, sym, _∙_, ap, subst}
+use Prim.Native.Nat.{_+_, _*_, _/_}
 use native.Mathlib.Omega.{arith}
 use Rattle.slices.proofs.Segments.{length-pairs}
 use Rattle.slices.proofs.Bounds.{below-segment}

@@ -16,3 +16,4 @@ pub mod PlaceLaws
 pub mod Turns
 pub mod Whole
 pub mod TurnLaws
+pub mod JobTurns

@@ -10,7 +10,7 @@ use Rattle.cell.specs.Operations.{halvesOf}
 use Rattle.cell.specs.Passes.{jobTurn}
 use Rattle.cell.proofs.Turns.{length-turns, below-turns}
 use Rattle.cell.proofs.Whole.{analysed}
-use Rattle.cell.proofs.TurnLaws.{width-low, plane-low, layers-low, layers-width, layers-rows, count-is, runs-back}
+use Rattle.cell.proofs.JobTurns.{width-low, plane-low, layers-low, layers-width, layers-rows, count-is, runs-back}
 use Rattle.cell.proofs.passes.analyse.Statement.{statement}
 use Rattle.cell.proofs.passes.analyse.Tie as tie
 

@@ -6,7 +6,7 @@ use Rattle.cell.specs.Volume.{groupOf}
 use Rattle.cell.specs.Operations.{halvesOf}
 use Rattle.cell.specs.Passes.{turns, jobTurn}
 use Rattle.cell.proofs.Whole.{synthesised}
-use Rattle.cell.proofs.TurnLaws.{width-low, plane-low, layers-low, layers-width, layers-rows, count-is}
+use Rattle.cell.proofs.JobTurns.{width-low, plane-low, layers-low, layers-width, layers-rows, count-is}
 use Rattle.cell.proofs.passes.synthesise.Statement.{statement}
 use Rattle.cell.proofs.passes.synthesise.Tie as tie
 

@@ -8,7 +8,8 @@ use Rattle.line.specs.Accepted.{AdmittedLength, FactorList}
 use Rattle.cell.specs.Volume.{groupOf}
 use Rattle.cell.specs.Operations.{halvesOf}
 use Rattle.cell.specs.Passes.{turnedLine, alongH, turnedH}
-use Rattle.cell.proofs.TurnLaws.{by-places, twice, width-low, plane-low, start-h, fits-h, place-h}
+use Rattle.cell.proofs.TurnLaws.{by-places}
+use Rattle.cell.proofs.JobTurns.{twice, width-low, plane-low, start-h, fits-h, place-h}
 use Rattle.cell.proofs.passes.turn_h.Statement.{statement}
 use Rattle.cell.proofs.passes.turn_h.Tie as tie
 

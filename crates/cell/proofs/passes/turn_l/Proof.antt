@@ -5,7 +5,7 @@ use Prim.Native.Nat.{_*_, _/_}
 use native.Mathlib.Omega.{arith}
 use Rattle.line.specs.Accepted.{AdmittedLength, FactorList}
 use Rattle.cell.proofs.Reading.{group-admitted}
-use Rattle.cell.proofs.TurnLaws.{width-low, plane-low, rows-low, start-l, fits-l, turned-l}
+use Rattle.cell.proofs.JobTurns.{width-low, plane-low, rows-low, start-l, fits-l, turned-l}
 use Rattle.cell.proofs.passes.turn_l.Statement.{statement}
 use Rattle.cell.proofs.passes.turn_l.Tie as tie
 

@@ -10,7 +10,7 @@ use Rattle.cell.specs.Volume.{groupOf}
 use Rattle.cell.specs.Operations.{halvesOf}
 use Rattle.cell.specs.Passes.{jobTurn}
 use Rattle.cell.proofs.Turns.{length-turns, below-turns}
-use Rattle.cell.proofs.TurnLaws.{Turning, turning-start, turning-next, turning-done, turning-lent, lines-low}
+use Rattle.cell.proofs.JobTurns.{Turning, turning-start, turning-next, turning-done, turning-lent, lines-low}
 use Rattle.cell.proofs.passes.turn_lines.Statement.{statement}
 use Rattle.cell.proofs.passes.turn_lines.Tie as tie
 

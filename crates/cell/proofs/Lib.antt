@@ -22,3 +22,4 @@ pub mod TestLaws
 pub mod Turns
 pub mod Whole
 pub mod TurnLaws
+pub mod JobTurns

@@ -1,18 +1,15 @@
 -- What the transform makes of a packed line that keeps the rule of its kind: the packed transform of the whole line, and back. And the rule that each line along l
 -- of a cell of a group keeps.
-use mathlib.Core.Path.{_≡_, refl, sym, _∙_, ap}
+use mathlib.Core.Path.{_≡_, refl, _∙_, ap}
 use mathlib.Core.Logic.{_⊎_, inl, inr}
 use mathlib.Core.Bool.{Bool, true, false, cond}
-use mathlib.Core.List.{[], _∷_}
-use Prim.Native.Nat.{ℕ, zero, suc, _+_, _*_, _-_, _<_, _≤_}
+use Prim.Native.Nat.{ℕ, suc, _+_, _*_, _<_, _≤_}
 use native.Mathlib.Omega.{arith}
 use native.Mathlib.Decide.{ℕ-discrete}
 use Rattle.algebra.specs.Ring.{Ops, CRing, Star}
-use Rattle.algebra.specs.Residue.{residues}
-use Rattle.algebra.specs.Gauss.{gauss}
 use Rattle.algebra.specs.Fourier.{dft}
 use Rattle.algebra.specs.Axis.{Axis, AxisLaws}
-use Rattle.algebra.specs.Kinds.{Kind, Kind.plain, Kind.alternating, Kind.symmetric, Kind.antisymmetric, slots, pack-before, pack-after, RuleBefore, RuleAfter, forward, back}
+use Rattle.algebra.specs.Kinds.{Kind, Kind.symmetric, Kind.antisymmetric, slots, pack-before, pack-after, RuleBefore, RuleAfter, forward, back}
 use Rattle.algebra.specs.Cell.{J, Group, P1, P2₁, Pm, Pa, P2₁2₁2₁, planes, negI, Cell}
 use Rattle.algebra.specs.CellSteps.{Lawful}
 use Rattle.algebra.specs.CellPack.{even}
@@ -22,7 +19,6 @@ use Rattle.algebra.proofs.Unfold.{at-zero, at-mirror}
 use Rattle.algebra.proofs.Rules.{before-pack, after-pack, pack-before-cong, pack-after-cong, transform-rule}
 use Rattle.algebra.proofs.CellLines.{line-P2₁, line-Pm, line-Pa}
 use Rattle.algebra.proofs.CellPack.{signOf, pow-even}
-use Rattle.algebra.proofs.CellTests.{Positive}
 use Rattle.numbers.specs.Value.{Value, field, conj, i, half, real}
 use Rattle.numbers.proofs.Residues.{res-ring}
 use Rattle.numbers.proofs.Values.{field-ring, field-star}

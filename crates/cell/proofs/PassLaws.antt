@@ -4,17 +4,16 @@ use mathlib.Core.Path.{_≡_, refl, sym, _∙_, ap, ap₂, subst}
 use mathlib.Core.Logic.{_⊎_, inl, inr}
 use mathlib.Core.Bool.{cond}
 use mathlib.Core.List.{List, [], _∷_}
-use Prim.Native.Nat.{ℕ, zero, suc, _+_, _*_, _-_, _<_, _≤_}
+use Prim.Native.Nat.{ℕ, zero, suc, _+_, _*_, _-_, _<_}
 use native.Mathlib.Omega.{arith}
 use lib.Dec.{ltb}
 use borrow.Author.Tests.{lt-ltb, le-ltb}
 use Rattle.algebra.specs.Ring.{Ops, CRing}
 use Rattle.algebra.specs.Residue.{residues}
 use Rattle.algebra.specs.Gauss.{gauss, imag}
-use Rattle.algebra.specs.Fourier.{dft}
-use Rattle.algebra.specs.Axis.{Axis, AxisLaws}
+use Rattle.algebra.specs.Axis.{AxisLaws}
 use Rattle.algebra.specs.Line.{pack-by}
-use Rattle.algebra.specs.Kinds.{Kind, Kind.plain, Kind.hermitian, Kind.antisymmetric, slots, before, after, pack-before, pack-after, RuleBefore, RuleAfter}
+use Rattle.algebra.specs.Kinds.{Kind, Kind.plain, Kind.hermitian, Kind.antisymmetric, slots, before, after, pack-before, pack-after, RuleBefore}
 use Rattle.algebra.specs.Cell.{J, Group, Cell, friedel, negI}
 use Rattle.algebra.specs.CellSteps.{Lawful, afterL, afterH, afterK, backK, backH}
 use Rattle.algebra.proofs.Laws.{along}
@@ -26,7 +25,6 @@ use Rattle.algebra.proofs.Rules.{transform-rule, inverse-rule, pack-before-cong
 use Rattle.algebra.proofs.CellGroup.{friedel-mem}
 use Rattle.algebra.proofs.CellSteps.{synthesis, halfway-h, hermitian as hermitian-lines}
 use Rattle.algebra.proofs.CellLawful.{opened-lawful}
-use Rattle.algebra.proofs.CellTests.{Positive}
 use Rattle.numbers.specs.declared.Pair.{Pair}
 use Rattle.numbers.specs.Value.{Value, field, conj, i, half, real, value, valueOf, pairOf}
 use Rattle.numbers.specs.Value as Value

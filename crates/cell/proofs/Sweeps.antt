@@ -1,24 +1,23 @@
 -- A sweep along each axis of a volume of values: what every pair becomes, where each line's result is known by the values of that line.
-use mathlib.Core.Path.{_≡_, refl, sym, _∙_, ap, subst}
+use mathlib.Core.Path.{_≡_, sym, _∙_, ap, subst}
 use mathlib.Core.Logic.{_⊎_}
 use mathlib.Core.List.{List}
-use Prim.Native.Nat.{ℕ, zero, suc, _+_, _*_, _-_, _/_, _%_, _<_, _≤_}
+use Prim.Native.Nat.{ℕ, _+_, _*_, _-_, _/_, _%_, _<_, _≤_}
 use native.Mathlib.Omega.{arith}
 use lib.ListN.{length}
-use Rattle.algebra.specs.Kinds.{Kind, Kind.plain, Kind.antisymmetric, slots}
+use Rattle.algebra.specs.Kinds.{Kind, Kind.antisymmetric, slots}
 use Rattle.algebra.specs.Cell.{J, Group}
-use Rattle.algebra.proofs.Laws.{along}
 use Rattle.numbers.specs.declared.Pair.{Pair}
 use Rattle.numbers.specs.Value.{Value, valueOf, pairOf}
 use Rattle.numbers.proofs.Values.{value-pair}
 use Rattle.slices.specs.Pairs.{at, tab}
 use Rattle.slices.specs.Values.{valuesOf, listOf}
-use Rattle.slices.specs.Sweep.{Layout, lineOf, sweep, Disjoint, onLists, alongFirst}
+use Rattle.slices.specs.Sweep.{Layout, lineOf, sweep, Disjoint, onLists}
 use Rattle.slices.proofs.Pairs.{at-tab}
 use Rattle.slices.proofs.Rows.{row-end, row-col, row-inj, row-split}
 use Rattle.slices.proofs.Sweep.{length-sweep, at-sweep, at-sweep-other, local-lists}
 use Rattle.slices.proofs.Layouts.{disjoint-second, disjoint-last, place-second}
-use Rattle.cell.specs.Volume.{Admitted, lineKind, firstPair, layers, rows, columns, pairCount, volumeLength, pairPlace, volumeOf}
+use Rattle.cell.specs.Volume.{Admitted, lineKind, firstPair, layers, rows, columns, volumeLength, pairPlace, volumeOf}
 use Rattle.cell.specs.Passes.{alongL, alongH, alongK, kindAt}
 use Rattle.cell.proofs.VolumeLayout.{length-volume, at-volume, is-volume}
 use Rattle.cell.proofs.PackedLines.{by-line, line-fits, off-line}

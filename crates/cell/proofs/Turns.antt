@@ -1,8 +1,8 @@
 -- Line after line of a job: a run of turns is a sweep along each axis, in the order of the lines' numbers; a turn keeps the volume's length and its residues.
-use mathlib.Core.Path.{_≡_, refl, sym, _∙_, ap, subst}
+use mathlib.Core.Path.{_≡_, refl, _∙_, ap}
 use mathlib.Core.Bool.{Bool, true, false, cond}
 use mathlib.Core.List.{List}
-use Prim.Native.Nat.{ℕ, zero, suc, _+_, _*_, _-_, _<_, _≤_}
+use Prim.Native.Nat.{ℕ, zero, suc, _+_, _-_, _<_}
 use native.Mathlib.Nat.{add-zero, add-suc}
 use native.Mathlib.Numerals.{add-one}
 use native.Mathlib.Omega.{arith}
@@ -12,17 +12,16 @@ use borrow.Author.Tests.{lt-ltb, le-ltb}
 use Rattle.algebra.specs.Kinds.{Kind, Kind.plain}
 use Rattle.algebra.specs.Cell.{J, Group}
 use Rattle.algebra.proofs.Laws.{along}
-use Rattle.numbers.specs.declared.Pair.{Pair}
 use Rattle.numbers.specs.Prime.{prime}
 use Rattle.numbers.specs.Value.{Value, Small, pairOf}
 use Rattle.numbers.proofs.Primes.{prime-pos}
 use Rattle.numbers.proofs.Values.{small-pair}
-use Rattle.slices.specs.Pairs.{at, Below, zeroPair}
+use Rattle.slices.specs.Pairs.{Below, zeroPair}
 use Rattle.slices.specs.Sweep.{Layout, sweep, onLists}
 use Rattle.slices.proofs.Pairs.{length-puts}
 use Rattle.slices.proofs.Bounds.{small-at, below-puts, below-tab}
 use Rattle.slices.proofs.Values.{below-list}
-use Rattle.cell.specs.Passes.{turnOf, turns, parted, forwardLine, inverseLine, forwardRow, inverseRow, turnedLine, turnedRow, alongL, alongH, alongK, turnedL, turnedH, turnedK, jobTurn}
+use Rattle.cell.specs.Passes.{turnOf, turns, parted, turnedLine, turnedRow, alongL, alongH, alongK, turnedL, turnedH, turnedK, jobTurn}
 
 module _ (step : ℕ → List ℕ → List ℕ) where
   pub turns-next : (j n : ℕ) (d : List ℕ) → turns step j (n + 1) d ≡ step (j + n) (turns step j n d)

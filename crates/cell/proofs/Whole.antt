@@ -1,24 +1,23 @@
 -- Synthesis and analysis of a whole volume, line after line: what all turns of a job leave.
-use mathlib.Core.Path.{_≡_, refl, sym, _∙_, ap, ap₂, subst}
+use mathlib.Core.Path.{_≡_, sym, _∙_, ap, ap₂}
 use mathlib.Core.Bool.{true}
 use mathlib.Core.List.{List}
-use Prim.Native.Nat.{ℕ, _+_, _*_, _/_, _<_, _≤_}
+use Prim.Native.Nat.{ℕ, _+_, _/_}
 use native.Mathlib.Omega.{arith}
 use lib.ListN.{length}
 use Rattle.algebra.specs.Axis.{AxisLaws}
-use Rattle.algebra.specs.Cell.{J, Group, Cell}
-use Rattle.algebra.specs.CellSteps.{Lawful}
+use Rattle.algebra.specs.Cell.{J, Group}
 use Rattle.algebra.proofs.Laws.{along}
 use Rattle.algebra.proofs.CellTests.{Positive}
 use Rattle.numbers.specs.Prime.{prime, IsModulus}
-use Rattle.numbers.specs.Value.{Value, field, conj, i, half, real}
+use Rattle.numbers.specs.Value.{field, conj, i, half, real}
 use Rattle.slices.specs.Pairs.{Below}
 use Rattle.slices.specs.Sweep.{Layout, sweep, onLists}
 use Rattle.line.specs.Line.{rootOf}
 use Rattle.line.specs.Accepted.{AdmittedLength}
 use Rattle.line.proofs.Axes.{own, axis-own}
-use Rattle.cell.specs.Volume.{Admitted, groupOf, volumeLength, factorsIn, packFactors, mapIn, packMap}
-use Rattle.cell.specs.Consistency.{consistentFactors, consistentMap, RealMap, ObeysGroup}
+use Rattle.cell.specs.Volume.{groupOf, volumeLength, factorsIn, packFactors, mapIn, packMap}
+use Rattle.cell.specs.Consistency.{consistentFactors, consistentMap}
 use Rattle.cell.specs.Sums.{axis, mapOf, factorsOf}
 use Rattle.cell.specs.Operations.{halvesOf}
 use Rattle.cell.specs.Passes.{turns, alongL, alongH, alongK, lineCount, turnedL, turnedH, turnedK, jobTurn, JobSizes}

@@ -1,17 +1,16 @@
 -- The lines along k, then those along h, then those along l.
 use borrow.Author.Needs.{needs}
-use mathlib.Core.Path.{_≡_, refl, sym, _∙_, ap, subst}
-use Prim.Native.Nat.{_+_, _*_, _-_, _≤_}
+use mathlib.Core.Path.{sym, _∙_, ap, subst}
 use native.Mathlib.Omega.{arith}
 use lib.ListN.{length}
 use Rattle.numbers.specs.Prime.{prime}
 use Rattle.slices.specs.Pairs.{Below}
 use Rattle.cell.specs.Volume.{groupOf}
 use Rattle.cell.specs.Operations.{halvesOf}
-use Rattle.cell.specs.Passes.{turns, jobTurn}
+use Rattle.cell.specs.Passes.{jobTurn}
 use Rattle.cell.proofs.Turns.{length-turns, below-turns}
 use Rattle.cell.proofs.Whole.{analysed}
-use Rattle.cell.proofs.TurnLaws.{width-low, plane-low, layers-low, layers-width, layers-rows, count-is, runs-back}
+use Rattle.cell.proofs.JobTurns.{width-low, plane-low, layers-low, layers-width, layers-rows, count-is, runs-back}
 use Rattle.cell.proofs.passes.analyse.Statement.{statement}
 use Rattle.cell.proofs.passes.analyse.Tie as tie
 

@@ -1,6 +1,4 @@
 -- Only an antisymmetric line leaves pairs out.
-use borrow.Author.Needs.{needs}
-use mathlib.Core.Path.{refl, ap}
 use native.Mathlib.Omega.{arith}
 use Rattle.cell.proofs.TurnLaws.{first-of, first-other}
 use Rattle.cell.proofs.passes.first_pair.Statement.{statement}

@@ -1,5 +1,4 @@
 -- The kind of each group's lines along l.
-use borrow.Author.Needs.{needs}
 use native.Mathlib.Omega.{arith}
 use Rattle.cell.proofs.TurnLaws.{kind-P1, kind-P2₁, kind-Pm, kind-even, kind-odd}
 use Rattle.cell.proofs.passes.line_kind.Statement.{statement}

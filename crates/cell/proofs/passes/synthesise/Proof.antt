@@ -1,16 +1,12 @@
 -- All lines in the order of their numbers.
 use borrow.Author.Needs.{needs}
-use mathlib.Core.Path.{_≡_, refl, sym, _∙_, ap, subst}
-use Prim.Native.Nat.{_+_, _*_, _-_, _≤_}
+use mathlib.Core.Path.{_∙_, ap}
 use native.Mathlib.Omega.{arith}
-use lib.ListN.{length}
-use Rattle.numbers.specs.Prime.{prime}
-use Rattle.slices.specs.Pairs.{Below}
 use Rattle.cell.specs.Volume.{groupOf}
 use Rattle.cell.specs.Operations.{halvesOf}
 use Rattle.cell.specs.Passes.{turns, jobTurn}
 use Rattle.cell.proofs.Whole.{synthesised}
-use Rattle.cell.proofs.TurnLaws.{width-low, plane-low, layers-low, layers-width, layers-rows, count-is}
+use Rattle.cell.proofs.JobTurns.{width-low, plane-low, layers-low, layers-width, layers-rows, count-is}
 use Rattle.cell.proofs.passes.synthesise.Statement.{statement}
 use Rattle.cell.proofs.passes.synthesise.Tie as tie
 

@@ -1,14 +1,15 @@
 -- A line along h is gathered from the places of its layout.
 use borrow.Author.Needs.{needs}
-use mathlib.Core.Path.{_≡_, refl, sym, _∙_, ap, subst}
-use Prim.Native.Nat.{_+_, _*_, _/_, _%_}
+use mathlib.Core.Path.{_≡_, refl, sym, subst}
+use Prim.Native.Nat.{_*_, _/_}
 use native.Mathlib.Omega.{arith}
 use Rattle.algebra.specs.Kinds.{slots, Kind.plain}
 use Rattle.line.specs.Accepted.{AdmittedLength, FactorList}
 use Rattle.cell.specs.Volume.{groupOf}
 use Rattle.cell.specs.Operations.{halvesOf}
 use Rattle.cell.specs.Passes.{turnedLine, alongH, turnedH}
-use Rattle.cell.proofs.TurnLaws.{by-places, twice, width-low, plane-low, start-h, fits-h, place-h}
+use Rattle.cell.proofs.TurnLaws.{by-places}
+use Rattle.cell.proofs.JobTurns.{twice, width-low, plane-low, start-h, fits-h, place-h}
 use Rattle.cell.proofs.passes.turn_h.Statement.{statement}
 use Rattle.cell.proofs.passes.turn_h.Tie as tie
 

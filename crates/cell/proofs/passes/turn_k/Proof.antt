@@ -1,7 +1,7 @@
 -- A row along k is lent as a part of the volume.
 use borrow.Author.Needs.{needs}
-use mathlib.Core.Path.{_≡_, refl, sym, _∙_, ap, subst}
-use Prim.Native.Nat.{_+_, _*_, _/_, _%_}
+use mathlib.Core.Path.{_≡_, sym, _∙_, ap, subst}
+use Prim.Native.Nat.{_+_, _*_, _/_}
 use native.Mathlib.Omega.{arith}
 use Rattle.slices.proofs.Segments.{length-pairs}
 use Rattle.slices.proofs.Bounds.{below-segment}
@@ -9,7 +9,8 @@ use Rattle.line.specs.Accepted.{AdmittedLength, FactorList}
 use Rattle.cell.specs.Volume.{groupOf}
 use Rattle.cell.specs.Operations.{halvesOf}
 use Rattle.cell.specs.Passes.{turnOf, alongK, turnedK}
-use Rattle.cell.proofs.TurnLaws.{width-low, row-low, row-fits, row-pairs, turned-k, forward-tables, inverse-tables, other-direction}
+use Rattle.cell.proofs.TurnLaws.{forward-tables, inverse-tables, other-direction}
+use Rattle.cell.proofs.JobTurns.{width-low, row-low, row-fits, row-pairs, turned-k}
 use Rattle.cell.proofs.passes.turn_k.Statement.{statement}
 use Rattle.cell.proofs.passes.turn_k.Tie as tie
 

@@ -1,11 +1,11 @@
 -- A line along l is gathered from the places of its kind.
 use borrow.Author.Needs.{needs}
-use mathlib.Core.Path.{_≡_, refl, sym, _∙_, ap, subst}
-use Prim.Native.Nat.{_+_, _*_, _/_, _%_}
+use mathlib.Core.Path.{_≡_, subst}
+use Prim.Native.Nat.{_*_, _/_}
 use native.Mathlib.Omega.{arith}
 use Rattle.line.specs.Accepted.{AdmittedLength, FactorList}
 use Rattle.cell.proofs.Reading.{group-admitted}
-use Rattle.cell.proofs.TurnLaws.{width-low, plane-low, rows-low, start-l, fits-l, turned-l, count-l}
+use Rattle.cell.proofs.JobTurns.{width-low, plane-low, rows-low, start-l, fits-l, turned-l}
 use Rattle.cell.proofs.passes.turn_l.Statement.{statement}
 use Rattle.cell.proofs.passes.turn_l.Tie as tie
 

@@ -1,9 +1,8 @@
 -- The number of a line tells its axis.
 use borrow.Author.Needs.{needs}
-use mathlib.Core.Path.{_≡_, refl, sym, _∙_, ap, subst}
-use Prim.Native.Nat.{_+_, _*_, _/_, _≤_}
+use mathlib.Core.Path.{refl, sym, _∙_}
 use native.Mathlib.Omega.{arith}
-use Rattle.cell.proofs.TurnLaws.{width-low, plane-low, layers-low, layers-width, layers-rows, in-l, in-h, in-k, job-l, job-h, job-k}
+use Rattle.cell.proofs.JobTurns.{width-low, plane-low, layers-low, layers-width, layers-rows, in-l, in-h, in-k, job-l, job-h, job-k}
 use Rattle.cell.proofs.passes.turn_line.Statement.{statement}
 use Rattle.cell.proofs.passes.turn_line.Tie as tie
 

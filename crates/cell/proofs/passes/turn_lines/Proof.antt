@@ -1,7 +1,7 @@
 -- One line after another.
 use borrow.Author.Needs.{needs}
-use mathlib.Core.Path.{_≡_, refl, sym, _∙_, ap, subst}
-use Prim.Native.Nat.{_+_, _*_, _-_, _≤_}
+use mathlib.Core.Path.{sym, _∙_, ap, subst}
+use Prim.Native.Nat.{_-_}
 use native.Mathlib.Omega.{arith}
 use Rattle.numbers.specs.Prime.{prime}
 use Rattle.slices.specs.Pairs.{Below}
@@ -10,7 +10,7 @@ use Rattle.cell.specs.Volume.{groupOf}
 use Rattle.cell.specs.Operations.{halvesOf}
 use Rattle.cell.specs.Passes.{jobTurn}
 use Rattle.cell.proofs.Turns.{length-turns, below-turns}
-use Rattle.cell.proofs.TurnLaws.{Turning, turning-start, turning-next, turning-done, turning-lent, lines-low}
+use Rattle.cell.proofs.JobTurns.{Turning, turning-start, turning-next, turning-done, turning-lent, lines-low}
 use Rattle.cell.proofs.passes.turn_lines.Statement.{statement}
 use Rattle.cell.proofs.passes.turn_lines.Tie as tie
 

@@ -1,7 +1,6 @@
 -- By direction, the line crate's transform.
 use borrow.Author.Needs.{needs}
-use mathlib.Core.Path.{_≡_, sym, _∙_, ap}
-use native.Mathlib.Omega.{arith}
+use mathlib.Core.Path.{sym, _∙_, ap}
 use Rattle.line.specs.Line.{kindOf}
 use Rattle.cell.specs.Passes.{turnedLine}
 use Rattle.cell.proofs.TurnLaws.{turned-forward, turned-inverse, forward-tables, inverse-tables, line-length, other-direction}

@@ -1,0 +1,15 @@
+pub mod Tests
+pub mod Scans
+pub mod VolumeLayout
+pub mod LineReading
+pub mod Reading
+pub mod Consistency
+pub mod Maps
+pub mod Writing
+pub mod Records
+pub mod OrbitNumbers
+pub mod Points
+pub mod OperationLaws
+pub mod PlaceLaws
+pub mod StoredFactors
+pub mod TestLaws

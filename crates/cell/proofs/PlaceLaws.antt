@@ -1,0 +1,231 @@
+-- The places that the code computes: the pair of an index lies in the volume, the numbers of a factor by kind, the plane of a point.
+use mathlib.Core.Path.{_≡_, refl, sym, _∙_, ap, ap₂, subst}
+use mathlib.Core.Logic.{_⊎_, inl, inr, ⊎-elim}
+use mathlib.Core.Bool.{Bool, true, false, _||_, _&&_, not, cond}
+use mathlib.Core.List.{List, [], _∷_}
+use Prim.Native.Nat.{ℕ, zero, suc, _+_, _*_, _-_, _/_, _%_, _<_, _≤_, min}
+use native.Mathlib.Nat.{mul-le-mul}
+use native.Mathlib.Omega.{arith}
+use lib.ListN.{length, getD}
+use lib.Dec.{eqb, leb, ltb}
+use borrow.Author.Tests.{eq-eqb, ne-eqb, eqb-true, eqb-false, le-leb, lt-leb, lt-ltb, le-ltb}
+use Rattle.algebra.specs.Kinds.{Kind}
+use Rattle.algebra.specs.Cell.{J, Inside, Sym, Group, P1, P2₁, Pm, Pa, one, ops, negI, pim, planes, span, prep, planeSym}
+use Rattle.algebra.specs.CellPack.{even}
+use Rattle.algebra.proofs.Laws.{along}
+use Rattle.algebra.proofs.CellAxis.{neg-pos}
+use Rattle.algebra.proofs.CellSym.{pim-one}
+use Rattle.algebra.proofs.CellGroup.{prep-st}
+use Rattle.cell.specs.Volume.{groupOf, lineKind, layers, rows, columns, pairCount, volumeLength, pairPlace, mapPlace, pairNumbers, lineNumbers, numbersRead, densityPlace}
+use Rattle.cell.specs.declared.operations.Index.{Index}
+use Rattle.cell.specs.declared.places.Run.{Run}
+use Rattle.cell.specs.Operations.{halvesOf, tripleOf, Length, Sizes, Within}
+use Rattle.cell.specs.Places.{run, IsRun}
+use Rattle.cell.proofs.VolumeLayout.{place-inside}
+use Rattle.cell.proofs.OperationLaws.{by-group}
+
+-- the groups that store half of each line
+pub by-half : (P : Group → Type 0) → P P2₁ → P Pm → P Pa → (n : ℕ) → n < 4 → (n ≡ 0 → ⊥) → P (groupOf n)
+by-half P b c d zero l z = absurd (z refl)
+by-half P b c d (suc zero) l z = b
+by-half P b c d (suc (suc zero)) l z = c
+by-half P b c d (suc (suc (suc zero))) l z = d
+by-half P b c d (suc (suc (suc (suc n)))) l z = absurd (omega arith)
+
+-- an index below the lengths is one of the theory's
+pub inside-of : {n1 n2 n3 : ℕ} {j : Index} → Length n1 → Length n2 → Length n3 → Within n1 n2 n3 j → Inside (halvesOf n1 n2 n3) (tripleOf j)
+inside-of a b c w = (omega arith, omega arith, omega arith)
+
+-- ---- parities and ends
+
+even-double : (t : ℕ) → even (2 * t) ≡ true
+unfolding even
+even-double zero = refl
+even-double (suc t) = along even (2 * suc t) (suc (suc (2 * t))) (omega arith) ∙ ap (λ b. not (not b)) (even-double t)
+
+pub even-is : (h : ℕ) → h % 2 ≡ 0 → even h ≡ true
+even-is h e = along even h (2 * (h / 2)) (omega arith) ∙ even-double (h / 2)
+
+pub odd-is : (h : ℕ) → (h % 2 ≡ 0 → ⊥) → even h ≡ false
+unfolding even
+odd-is h e = along even h (suc (2 * (h / 2))) (omega arith) ∙ ap not (even-double (h / 2))
+
+or-cases : (a b : Bool) → (a || b) ≡ true → (a ≡ true) ⊎ (b ≡ true)
+or-cases true b e = inl refl
+or-cases false b e = inr e
+
+pub at-end : (l c : ℕ) → (eqb l 0 || eqb l c) ≡ true → (l ≡ 0) ⊎ (l ≡ c)
+at-end l c e = ⊎-elim (λ p. inl (eqb-true l 0 p)) (λ p. inr (eqb-true l c p)) (or-cases (eqb l 0) (eqb l c) e)
+
+or-left : (a b : Bool) → (a || b) ≡ false → a ≡ false
+or-left true b e = e
+or-left false b e = refl
+
+or-right : (a b : Bool) → (a || b) ≡ false → b ≡ false
+or-right true b e = cc
+or-right false b e = e
+
+pub not-end : (l c : ℕ) → (eqb l 0 || eqb l c) ≡ false → (l ≡ 0 → ⊥) × (l ≡ c → ⊥)
+not-end l c e = (eqb-false l 0 (or-left (eqb l 0) (eqb l c) e), eqb-false l c (or-right (eqb l 0) (eqb l c) e))
+
+-- ---- the numbers of a factor
+
+module _ (g : Group) (a : J) where
+  pub pair-run : {w h k : ℕ} (r : Run) → w < layers g a → h < rows g a → k < columns g a → r .first ≡ 2 * pairPlace g a w h k → r .count ≡ 2 → IsRun (volumeLength g a) (pairNumbers g a w h k) r
+  unfolding run
+  pair-run r lw lh lk e f = record { are = ap₂ run e f; inside = omega (arith, place-inside g a lw lh lk) }
+
+  pub number-run : {w h k : ℕ} (r : Run) (q : ℕ) → w < layers g a → h < rows g a → k < columns g a → q ≤ 2 * pairPlace g a w h k + 1 → r .first ≡ q → r .count ≡ 1 → IsRun (volumeLength g a) (q ∷ []) r
+  unfolding run
+  number-run r q lw lh lk s e f = record { are = ap₂ run e f; inside = omega (arith, place-inside g a lw lh lk) }
+
+  pub empty-run : (r : Run) → r .first ≡ 0 → r .count ≡ 0 → IsRun (volumeLength g a) [] r
+  unfolding run
+  empty-run r e f = record { are = ap₂ run e f; inside = omega arith }
+
+-- in the middle of a line of which half is stored: the pair of l or of -l
+abbrev Middle : J → (h k l : ℕ) → Group → Type 0
+Middle a h k l g = (lineNumbers g a (lineKind g h) h k l ≡ pairNumbers g a (min l (2 * a .2 - l)) h k) × (min l (2 * a .2 - l) < layers g a)
+
+pub middle-numbers : (a : J) (h k l : ℕ) → (l ≡ 0 → ⊥) × (l ≡ a .2 → ⊥) → l < 2 * a .2 → (n : ℕ) → n < 4 → (n ≡ 0 → ⊥) → Middle a h k l (groupOf n)
+unfolding planes
+middle-numbers a h k l z b = by-half (Middle a h k l) (rw (ne-eqb l 0 (z .0), ne-eqb l (a .2) (z .1)) refl, omega arith) (refl, omega arith) (glide (even h), omega arith)
+  where
+    glide : (e : Bool) → lineNumbers Pa a (cond e Kind.symmetric Kind.antisymmetric) h k l ≡ pairNumbers Pa a (min l (2 * a .2 - l)) h k
+    glide true = refl
+    glide false = rw (ne-eqb l 0 (z .0), ne-eqb l (a .2) (z .1)) refl
+
+-- at the ends of a symmetric line: the pair of l itself
+fold-end : (c l : ℕ) → (l ≡ 0) ⊎ (l ≡ c) → (min l (2 * c - l) ≡ l) × (l < suc c)
+fold-end c l e = ⊎-elim (λ z. (omega arith, omega arith)) (λ z. (omega arith, omega arith)) e
+
+module _ {group n1 n2 n3 : ℕ} (s : Sizes group n1 n2 n3) (j : Index) (i : Within n1 n2 n3 j) (b : j .k ≤ n2 / 2) (r : Run) where
+  abbrev a : J
+  a = halvesOf n1 n2 n3
+
+  abbrev Found : ℕ → Type 0
+  Found n = IsRun (volumeLength (groupOf n) a) (lineNumbers (groupOf n) a (lineKind (groupOf n) (j .h)) (j .h) (j .k) (j .l)) r
+
+  in-rows : j .h < rows P1 a
+  in-rows = omega arith
+
+  in-columns : j .k < columns P1 a
+  in-columns = omega arith
+
+  -- the code has found the pair w
+  pub pair-found : (w : ℕ) → r .first ≡ 2 * pairPlace P1 a w (j .h) (j .k) → r .count ≡ 2 → (n : ℕ) → w < layers (groupOf n) a
+      → lineNumbers (groupOf n) a (lineKind (groupOf n) (j .h)) (j .h) (j .k) (j .l) ≡ pairNumbers P1 a w (j .h) (j .k) → Found n
+  pair-found w e f n l q = subst (λ p. IsRun (volumeLength (groupOf n) a) p r) (sym q) (pair-run (groupOf n) a r l in-rows in-columns e f)
+
+  pub plain-found : group ≡ 0 → r .first ≡ 2 * pairPlace P1 a (j .l) (j .h) (j .k) → r .count ≡ 2 → Found group
+  unfolding planes
+  plain-found z e f = subst Found (sym z) (pair-found (j .l) e f 0 (omega arith) refl)
+
+  pub middle-found : (group ≡ 0 → ⊥) → (eqb (j .l) 0 || eqb (j .l) (n3 / 2)) ≡ false → {w : ℕ} → w ≡ min (j .l) (2 * (n3 / 2) - j .l)
+      → r .first ≡ 2 * pairPlace P1 a w (j .h) (j .k) → r .count ≡ 2 → Found group
+  middle-found z t u e f =
+      let q = middle-numbers a (j .h) (j .k) (j .l) (not-end (j .l) (n3 / 2) t) (omega arith) group (s .known) z in
+      pair-found _ (e ∙ ap (λ w. 2 * pairPlace P1 a w (j .h) (j .k)) u) f group (q .1) (q .0)
+
+  -- the ends of an alternating line
+  pub first-found : group ≡ 1 → j .l ≡ 0 → {q : ℕ} → q ≡ pairPlace P1 a 0 (j .h) (j .k) → r .first ≡ 2 * q → r .count ≡ 1 → Found group
+  unfolding planes
+  first-found z l u e f = subst Found (sym z) (rw (eq-eqb (j .l) 0 l) (number-run P2₁ a {w = 0} r _ (omega arith) in-rows in-columns (omega arith) (e ∙ ap (λ q. 2 * q) u) f))
+
+  pub second-found : group ≡ 1 → (j .l ≡ 0 → ⊥) → (eqb (j .l) 0 || eqb (j .l) (n3 / 2)) ≡ true → {q : ℕ} → q ≡ pairPlace P1 a 0 (j .h) (j .k) → r .first ≡ 2 * q + 1 → r .count ≡ 1 → Found group
+  unfolding planes
+  second-found z l t u e f =
+      let q : j .l ≡ n3 / 2 = ⊎-elim (λ p. absurd (l p)) (λ p. p) (at-end (j .l) (n3 / 2) t) in
+      subst Found (sym z) (rw (ne-eqb (j .l) 0 l, eq-eqb (j .l) (n3 / 2) q) (number-run P2₁ a {w = 0} r _ (omega arith) in-rows in-columns (omega arith) (e ∙ ap (λ q. 2 * q + 1) u) f))
+
+  -- the ends of a symmetric line, and those of an antisymmetric one, which are not read
+  pub mirror-found : (group ≡ 0 → ⊥) → (group ≡ 1 → ⊥) → (group ≡ 3 → ⊥) → (eqb (j .l) 0 || eqb (j .l) (n3 / 2)) ≡ true → r .first ≡ 2 * pairPlace P1 a (j .l) (j .h) (j .k) → r .count ≡ 2 → Found group
+  unfolding planes
+  mirror-found x y z t e f =
+      let two : group ≡ 2 = omega arith in
+      let q = fold-end (n3 / 2) (j .l) (at-end (j .l) (n3 / 2) t) in
+      subst Found (sym two) (pair-found (j .l) e f 2 (q .1) (ap (λ w. pairNumbers Pm a w (j .h) (j .k)) (q .0)))
+
+  pub glide-found : group ≡ 3 → j .h % 2 ≡ 0 → (eqb (j .l) 0 || eqb (j .l) (n3 / 2)) ≡ true → r .first ≡ 2 * pairPlace P1 a (j .l) (j .h) (j .k) → r .count ≡ 2 → Found group
+  unfolding planes
+  glide-found z h t e f =
+      let q = fold-end (n3 / 2) (j .l) (at-end (j .l) (n3 / 2) t) in
+      subst Found (sym z) (pair-found (j .l) e f 3 (q .1) (rw (even-is (j .h) h) (ap (λ w. pairNumbers Pa a w (j .h) (j .k)) (q .0))))
+
+  pub zero-found : group ≡ 3 → (j .h % 2 ≡ 0 → ⊥) → (eqb (j .l) 0 || eqb (j .l) (n3 / 2)) ≡ true → r .first ≡ 0 → r .count ≡ 0 → Found group
+  zero-found z h t e f = subst Found (sym z) (rw (odd-is (j .h) h, t) (empty-run Pa a r e f))
+
+-- ---- products of lengths fit
+
+pub place-small : {n1 n2 w h k : ℕ} → Length n1 → Length n2 → w ≤ 2880 → h ≤ 2880 → k ≤ 2880 → (w * n1 + h ≤ 8297280) × ((w * n1 + h) * (n2 / 2 + 1) + k ≤ 12000000000)
+place-small {n1} {n2} {w} {h} a b lw lh lk =
+    let row : w * n1 + h ≤ 8297280 = omega (arith, mul-le-mul lw (a .high)) in
+    let half : n2 / 2 + 1 ≤ 1441 = omega arith in
+    (row, omega (arith, mul-le-mul row half))
+
+pub even-place : (n1 n2 w h k : ℕ) → Length n1 → (w * n1 + h) * (n2 / 2 + 1) + k ≡ pairPlace P1 (halvesOf n1 n2 0) w h k
+even-place n1 n2 w h k even =
+    let twice : n1 ≡ 2 * (n1 / 2) = omega arith in
+    let next : n2 / 2 + 1 ≡ suc (n2 / 2) = omega arith in
+    λ i. (w * twice i + h) * next i + k
+
+-- ---- how many layers and how many stored factors along l
+
+pub mirrored-layers : (n c : ℕ) → n < 4 → (n ≡ 0 → ⊥) → (n ≡ 1 → ⊥) → c + 1 ≡ planes (groupOf n) c
+unfolding planes
+mirrored-layers zero c l y z = absurd (y refl)
+mirrored-layers (suc zero) c l y z = absurd (z refl)
+mirrored-layers (suc (suc zero)) c l y z = omega arith
+mirrored-layers (suc (suc (suc zero))) c l y z = omega arith
+mirrored-layers (suc (suc (suc (suc n)))) c l y z = absurd (omega arith)
+
+pub half-span : (n c : ℕ) → n < 4 → (n ≡ 0 → ⊥) → c + 1 ≡ span (groupOf n) c
+unfolding span
+half-span n c = by-half (λ g. c + 1 ≡ span g c) (omega arith) (omega arith) (omega arith) n
+
+-- ---- the column that a factor is read from
+
+pub column-numbers : (g : Group) (a j i : J) → i ≡ cond (leb (j .1) (a .1)) j (negI (a .0) (j .0), negI (a .1) (j .1), negI (a .2) (j .2)) → numbersRead g a j ≡ lineNumbers g a (lineKind g (i .0)) (i .0) (i .1) (i .2)
+unfolding numbersRead
+column-numbers g a j i e = go (leb (j .1) (a .1)) ∙ ap numbers (sym e)
+  where
+    numbers : J → List ℕ
+    numbers i = lineNumbers g a (lineKind g (i .0)) (i .0) (i .1) (i .2)
+
+    go : (b : Bool) → cond b (numbers j) (numbers (negI (a .0) (j .0), negI (a .1) (j .1), negI (a .2) (j .2))) ≡ numbers (cond b j (negI (a .0) (j .0), negI (a .1) (j .1), negI (a .2) (j .2)))
+    go true = refl
+    go false = refl
+
+-- ---- the plane of a point
+
+pub order-least : (n : ℕ) → n < 4 → 1 ≤ length (ops (groupOf n))
+order-least = by-group (λ g. 1 ≤ length (ops g)) (omega arith) (omega arith) (omega arith) (omega arith)
+
+-- the group's other operation is the last of its list
+last-own : (n : ℕ) → n < 4 → getD (ops (groupOf n)) (length (ops (groupOf n)) - 1) one ≡ planeSym (groupOf n)
+last-own = by-group (λ g. getD (ops g) (length (ops g) - 1) one ≡ planeSym g) refl refl refl refl
+
+module _ (g : Group) (a x : J) where
+  pub stored-plane : x .2 < planes g (a .2) → x ≡ pim a (prep g a x) x
+  unfolding prep
+  stored-plane l = rw (lt-ltb (x .2) (planes g (a .2)) l) (sym (pim-one a x))
+
+  other-plane : planes g (a .2) ≤ x .2 → planeSym g ≡ prep g a x
+  unfolding prep
+  other-plane l = rw (le-ltb (x .2) (planes g (a .2)) l)
+
+-- the image under the last operation of the group, as the code finds it
+pub other-point : (n : ℕ) → n < 4 → (a x : J) {k : ℕ} {s : Sym} → k ≡ length (ops (groupOf n)) → s ≡ getD (ops (groupOf n)) (k - 1) one → planes (groupOf n) (a .2) ≤ x .2 → pim a s x ≡ pim a (prep (groupOf n) a x) x
+other-point n l a x e f p = ap (λ s. pim a s x) (f ∙ ap (λ k. getD (ops (groupOf n)) (k - 1) one) e ∙ last-own n l ∙ other-plane (groupOf n) a x p)
+
+pub point-place : {group n1 n2 n3 : ℕ} (s : Sizes group n1 n2 n3) (x y : Index) (q : ℕ) → Within n1 n2 n3 x → Within n1 n2 n3 y
+    → tripleOf y ≡ pim (halvesOf n1 n2 n3) (prep (groupOf group) (halvesOf n1 n2 n3) (tripleOf x)) (tripleOf x) → q ≡ pairPlace P1 (halvesOf n1 n2 n3) (y .l) (y .h) 0
+    → (2 * q + y .k ≡ densityPlace (groupOf group) (halvesOf n1 n2 n3) (tripleOf x)) × (2 * q + y .k < volumeLength (groupOf group) (halvesOf n1 n2 n3))
+point-place {group} {n1} {n2} {n3} s x y q ix iy e f =
+    let g = groupOf group in
+    let a = halvesOf n1 n2 n3 in
+    let held : y .l < layers g a = subst (λ z. z .2 < layers g a) (sym e) (prep-st g a (tripleOf x) (inside-of (s .first) (s .second) (s .third) ix)) in
+    (number (y .l * (2 * (n1 / 2)) + y .h) f ∙ ap (mapPlace g a) e, omega (arith, place-inside g a {w = y .l} {h = y .h} {k = y .k / 2} held (omega arith) (omega arith)))
+  where
+    number : (r : ℕ) → q ≡ r * suc (n2 / 2) + 0 → 2 * q + y .k ≡ r * (2 * suc (n2 / 2)) + y .k
+    number r p = omega arith

@@ -1,0 +1,64 @@
+-- The map of a cell F that obeys group and Friedel: it is real and obeys the group, its numbers in a volume are read back as it at every point,
+-- and analysis of what is read restores F. And a volume opened as a map: the factors of what is read obey group and Friedel, and their map has these numbers.
+use mathlib.Core.Path.{_≡_, refl, sym, _∙_, ap}
+use mathlib.Core.Bool.{true}
+use mathlib.Core.List.{List}
+use Prim.Native.Nat.{ℕ}
+use lib.ListN.{length}
+use Rattle.algebra.specs.Residue.{residues}
+use Rattle.algebra.specs.Axis.{AxisLaws}
+use Rattle.algebra.specs.Cell.{J, Inside, Group, friedel, pim, pimp, flip, turn, star, Cell}
+use Rattle.algebra.specs.Cell as Cell
+use Rattle.algebra.specs.CellSteps.{Lawful}
+use Rattle.algebra.proofs.Parts.{real-gauss}
+use Rattle.algebra.proofs.CellGroup.{friedel-mem}
+use Rattle.algebra.proofs.CellMap.{factors-cong, factors-map, map-factors}
+use Rattle.algebra.proofs.CellLawful.{ops-full, map-lawful, opened-lawful}
+use Rattle.algebra.proofs.CellTests.{Positive}
+use Rattle.numbers.specs.Prime.{prime}
+use Rattle.numbers.specs.Value.{Value, field, conj, i, half}
+use Rattle.numbers.proofs.Residues.{res-ring}
+use Rattle.numbers.proofs.Values.{value-path, field-ring, field-star, conj-real}
+use Rattle.numbers.proofs.Parts.{half-residue}
+use Rattle.slices.specs.Pairs.{Below}
+use Rattle.cell.specs.Volume.{Admitted, volumeLength, packFactors, packMap, mapIn}
+use Rattle.cell.specs.Consistency.{RealMap, ObeysGroup, consistentMap}
+use Rattle.cell.specs.Sums.{axis, mapOf, factorsOf}
+use Rattle.cell.proofs.Consistency.{pack-cong}
+use Rattle.cell.proofs.Maps.{read-map, map-cong, consistent-map-read}
+
+module _ (g : Group) (a : J) (m : ℕ) {h : Value m} {tx ty tz : ℕ → Value m}
+    (𝓧 : AxisLaws (field m) (conj m) (i m) h (axis m (a .0)) tx) (𝓨 : AxisLaws (field m) (conj m) (i m) h (axis m (a .1)) ty) (𝓩 : AxisLaws (field m) (conj m) (i m) h (axis m (a .2)) tz) where
+  long : Positive a
+  long = (𝓧 .positive, 𝓨 .positive, 𝓩 .positive)
+
+  module _ (F : Cell (Value m)) (lawful : Lawful (field m) (conj m) a g F) where
+    pub map-obeys : ObeysGroup g a m (mapOf m a F)
+    map-obeys s ms = map-lawful (field-ring m) (field-star m) 𝓧 𝓨 𝓩 g F lawful s (ops-full g s ms)
+
+    pub map-real : RealMap g a m (mapOf m a F)
+    unfolding pim pimp flip turn star residues
+    map-real x n = value-path refl (real-gauss (res-ring m) (half m) (half-residue m) (Cell.at (mapOf m a F) x) (sym (map-lawful (field-ring m) (field-star m) 𝓧 𝓨 𝓩 g F lawful friedel (friedel-mem g) x n)))
+
+    -- a point is read off the volume as the triple sum there
+    pub read-point : (x : J) → Inside a x → Cell.at (mapIn g a m (packMap g a m (mapOf m a F))) x ≡ Cell.at (mapOf m a F) x
+    read-point = read-map g a m (mapOf m a F) map-real map-obeys
+
+    -- analysis of the map in the volume restores the factors, and so the packed factors
+    pub analysis-restores : (j : J) → Inside a j → Cell.at (factorsOf m a (mapIn g a m (packMap g a m (mapOf m a F)))) j ≡ Cell.at F j
+    analysis-restores j n =
+        factors-cong (field-ring m) (conj m) (axis m (a .0)) (axis m (a .1)) (axis m (a .2)) _ _ read-point (j .0) (j .1) (j .2)
+        ∙ factors-map (field-ring m) 𝓧 𝓨 𝓩 F (j .0) (j .1) (j .2) (n .0) (n .1) (n .2)
+
+    pub analysis-packed : Admitted g → packFactors g a m (factorsOf m a (mapIn g a m (packMap g a m (mapOf m a F)))) ≡ packFactors g a m F
+    analysis-packed ok = pack-cong g ok a long m F _ analysis-restores lawful
+
+  -- a volume that passes as a map
+  module _ (v : List ℕ) (len : length v ≡ volumeLength g a) (small : Below (prime m) v) (passes : consistentMap g a v ≡ true) where
+    pub opened-factors : Lawful (field m) (conj m) a g (factorsOf m a (mapIn g a m v))
+    opened-factors = let r = consistent-map-read g a long m v len small passes in
+        opened-lawful (field-ring m) (field-star m) 𝓧 𝓨 𝓩 g (mapIn g a m v) (r .1) (λ x n. r .0 x n ∙ sym (conj-real m _) ∙ ap (conj m) (sym (r .0 x n)))
+
+    pub opened-map : packMap g a m (mapOf m a (factorsOf m a (mapIn g a m v))) ≡ v
+    opened-map = let r = consistent-map-read g a long m v len small passes in
+        map-cong g a long m _ _ (λ x n. map-factors (field-ring m) 𝓧 𝓨 𝓩 (mapIn g a m v) (x .0) (x .1) (x .2) (n .0) (n .1) (n .2)) ∙ r .2

@@ -1,0 +1,52 @@
+-- The whole line, the ends of the half line, or its middle.
+use borrow.Author.Needs.{needs}
+use mathlib.Core.Path.{sym, _∙_}
+use Rattle.cell.proofs.PlaceLaws.{plain-found, middle-found}
+use Rattle.cell.proofs.places.line_numbers.Statement.{statement}
+use Rattle.cell.proofs.places.line_numbers.Tie as tie
+
+pair-numbers-requires : tie.Need-pair-numbers-requires
+pair-numbers-requires c κs = search needs
+
+is-end-requires : tie.Need-is-end-requires
+is-end-requires c κs = search needs
+
+end-numbers-requires : tie.Need-end-numbers-requires
+end-numbers-requires c κs =
+    let p = c .before .before .before .pre in
+    (p .0, p .1, p .2, c .before .before .if1 .left, sym (c .before .is-end .ensures) ∙ c .if2 .taken)
+
+folded-requires : tie.Need-folded-requires
+folded-requires c κs = search needs
+
+pair-numbers-requires-2 : tie.Need-pair-numbers-requires-2
+pair-numbers-requires-2 c κs = search needs
+
+returns : tie.Need-returns
+returns c =
+    let p = c .before .before .pre in
+    let e = c .pair-numbers .ensures in
+    plain-found (p .0) _ (p .1) (p .2) _ (c .before .if1 .taken) (e .0) (e .1)
+
+returns-2 : tie.Need-returns-2
+returns-2 c = search needs
+
+returns-3 : tie.Need-returns-3
+returns-3 c =
+    let t = c .before .before .before in
+    let p = t .before .before .pre in
+    let e = c .pair-numbers2 .ensures in
+    middle-found (p .0) _ (p .1) (p .2) _ (t .before .if1 .left) (sym (t .is-end .ensures) ∙ c .before .before .if2 .left) (c .before .folded .ensures) (e .0) (e .1)
+
+pub line-numbers-spec : {M : Type 1} → statement M
+line-numbers-spec =
+    tie.close
+    (tie.spec
+    pair-numbers-requires
+    is-end-requires
+    end-numbers-requires
+    folded-requires
+    pair-numbers-requires-2
+    returns
+    returns-2
+    returns-3)

@@ -1,0 +1,112 @@
+-- Records, and the tests behind refusals 12, 14 and 24.
+-- A record at j implies a value at each image of j under the group with Friedel's rule (`full g`); an image is written where it is stored.
+use mathlib.Core.Path.{_≡_}
+use mathlib.Core.Bool.{Bool, true, _&&_, not, cond}
+use mathlib.Core.List.{List, [], _∷_, _++_}
+use Prim.Native.Nat.{ℕ, _+_, _*_}
+use lib.ListN.{getD, set}
+use lib.Dec.{eqb}
+use Rattle.algebra.specs.Residue.{Res}
+use Rattle.algebra.specs.Cell.{J, Inside, Sym, Group, P1, P2₁, Pm, Pa, P2₁2₁2₁, Cell, full, ops, im, pim, imp, factorActs, MapObeys}
+use Rattle.algebra.specs.Cell as Cell
+use Rattle.algebra.specs.CellSteps.{Lawful}
+use Rattle.algebra.specs.Orbit.{Mem, recorded}
+use Rattle.algebra.specs.CellTests.{every, everyPlace, imply, storedT, storedPointT, agreesT}
+use Rattle.algebra.specs.CellPack.{even}
+use Rattle.numbers.specs.declared.Pair.{Pair}
+use Rattle.numbers.specs.Value.{Value, field, conj, real, pairOf}
+use Rattle.slices.specs.Pairs.{at, put}
+use Rattle.cell.specs.Volume.{layers, rows, columns, pairPlace, mapPlace, numbersRead, lineIn, packFactors, packMap}
+
+-- two values have the same numbers
+abbrev pub sameValue : {p : ℕ} → Res p × Res p → Res p × Res p → Bool
+sameValue x y = eqb (x .0 .val) (y .0 .val) && eqb (x .1 .val) (y .1 .val)
+
+unfoldable pub all : {S : Type 0} → (S → Bool) → List S → Bool
+all P [] = true
+all P (x ∷ l) = P x && all P l
+
+module _ (g : Group) (a : J) where
+  -- The stored image at (h, k, l) gets the pair x: a whole pair, but in an alternating line one number at l = 0 and one at l = A, the part that can differ from 0.
+  unfoldable pub writeAlternating : List ℕ → (h k l : ℕ) → Pair → List ℕ
+  writeAlternating v h k l x =
+      cond (eqb l 0) (set v (2 * pairPlace g a 0 h k) (x .re))
+      (cond (eqb l (a .2)) (set v (2 * pairPlace g a 0 h k + 1) (cond (even l) (x .re) (x .im)))
+      (put v (pairPlace g a l h k) x))
+
+  unfoldable pub write : Group → List ℕ → J → Pair → List ℕ
+  write P1 v j x = put v (pairPlace g a (j .2) (j .0) (j .1)) x
+  write P2₁ v j x = writeAlternating v (j .0) (j .1) (j .2) x
+  write Pm v j x = put v (pairPlace g a (j .2) (j .0) (j .1)) x
+  write Pa v j x = put v (pairPlace g a (j .2) (j .0) (j .1)) x
+  write P2₁2₁2₁ v j x = writeAlternating v (j .0) (j .1) (j .2) x
+
+  module _ (m : ℕ) where
+    -- the value that x at j implies at the image of j
+    abbrev pub implied : Sym → J → Value m → Value m
+    implied s j x = imp (field m) (conj m) s j x
+
+    -- a record: each operation in turn writes its image, where that is stored
+    unfoldable pub writeImages : List Sym → J → Value m → List ℕ → List ℕ
+    writeImages [] j x v = v
+    writeImages (s ∷ l) j x v = writeImages l j x (cond (storedT g a (im a s j)) (write g v (im a s j) (pairOf (implied s j x))) v)
+
+    abbrev pub recordOn : J → Value m → List ℕ → List ℕ
+    recordOn j x v = writeImages (full g) j x v
+
+    -- the cell with x at j and the implied value at each image
+    unfoldable pub recordIn : J → Value m → Cell (Value m) → Cell (Value m)
+    recordIn j x F h k l = recorded (factorActs (field m) (conj m) a) (full g) j x (Cell.at F) (h, k, l)
+
+    -- Refusal 12 is not this: an image of the record that falls on its own index has the record's value.
+    unfoldable pub agreesWithItself : J → Value m → Bool
+    agreesWithItself j x = agreesT (field m) (conj m) sameValue g a j x
+
+    -- Refusal 14 of factors is not this: each stored image of each stored place has the implied value, and the pairs of Pa that are no part of a line are zero.
+    abbrev pub lineAgrees : List ℕ → J → Bool
+    lineAgrees v j = every (full g) (λ s. imply (storedT g a (im a s j)) (sameValue (lineIn g a m v ((im a s j) .0) ((im a s j) .1) ((im a s j) .2)) (implied s j (lineIn g a m v (j .0) (j .1) (j .2)))))
+
+    unfoldable pub zeroPair : List ℕ → (w h k : ℕ) → Bool
+    zeroPair v w h k = eqb (getD v (2 * pairPlace g a w h k) 0) 0 && eqb (getD v (2 * pairPlace g a w h k + 1) 0) 0
+
+    abbrev pub zeroEnds : Group → List ℕ → (h k : ℕ) → Bool
+    zeroEnds P1 v h k = true
+    zeroEnds P2₁ v h k = true
+    zeroEnds Pm v h k = true
+    zeroEnds Pa v h k = imply (not (even h)) (zeroPair v 0 h k && zeroPair v (a .2) h k)
+    zeroEnds P2₁2₁2₁ v h k = true
+
+    unfoldable pub consistentFactors : List ℕ → Bool
+    consistentFactors v = everyPlace (rows g a) (columns g a) (Cell.span g (a .2)) (lineAgrees v) && everyPlace (rows g a) (columns g a) 1 (λ j. zeroEnds g v (j .0) (j .1))
+
+  -- Refusal 24 is not this: the numbers that hold part of the orbit are zero.
+  unfoldable pub orbitNumbers : List Sym → J → List ℕ
+  orbitNumbers [] j = []
+  orbitNumbers (s ∷ l) j = numbersRead g a (im a s j) ++ orbitNumbers l j
+
+  unfoldable pub orbitFree : List ℕ → J → Bool
+  orbitFree v j = all (λ q. eqb (getD v q 0) 0) (orbitNumbers (full g) j)
+
+  -- Refusal 14 of a map is not this: points of stored planes that are images of each other have the same number, and each row ends with two zeros.
+  abbrev pub pointAgrees : List ℕ → J → Bool
+  pointAgrees v x = every (ops g) (λ s. imply (storedPointT g a (pim a s x)) (eqb (getD v (mapPlace g a (pim a s x)) 0) (getD v (mapPlace g a x) 0)))
+
+  abbrev pub rowEnds : List ℕ → (z x : ℕ) → Bool
+  rowEnds v z x = eqb (getD v (mapPlace g a (x, 2 * a .1, z)) 0) 0 && eqb (getD v (mapPlace g a (x, 2 * a .1 + 1, z)) 0) 0
+
+  unfoldable pub consistentMap : List ℕ → Bool
+  consistentMap v = everyPlace (rows g a) (2 * a .1) (layers g a) (pointAgrees v) && everyPlace (rows g a) 1 (layers g a) (λ x. rowEnds v (x .2) (x .0))
+
+  -- What the two tests decide, in the paper's words: some whole cell that obeys group and Friedel has these packed factors; some cell of real values that obeys the group has this map with its zeros.
+  module _ (m : ℕ) where
+    abbrev pub FactorsConsistent : List ℕ → Type 0
+    FactorsConsistent v = (F : Cell (Value m)) × Lawful (field m) (conj m) a g F × (packFactors g a m F ≡ v)
+
+    abbrev pub RealMap : Cell (Value m) → Type 0
+    RealMap M = (x : J) → Inside a x → Cell.at M x ≡ real m ((Cell.at M x) .0)
+
+    abbrev pub ObeysGroup : Cell (Value m) → Type 0
+    ObeysGroup M = (s : Sym) → Mem s (ops g) → MapObeys (conj m) a s M
+
+    abbrev pub MapConsistent : List ℕ → Type 0
+    MapConsistent v = (M : Cell (Value m)) × RealMap M × ObeysGroup M × (packMap g a m M ≡ v)

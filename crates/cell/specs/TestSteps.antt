@@ -1,0 +1,61 @@
+-- The tests of refusal 14 step by step: what they are lent, and what one image, one row must show.
+use mathlib.Core.Path.{_≡_}
+use mathlib.Core.Bool.{Bool, _&&_, not}
+use mathlib.Core.List.{List}
+use Prim.Native.Nat.{ℕ, _+_, _*_, _/_, _<_, _≤_}
+use lib.ListN.{length, getD}
+use lib.Dec.{eqb}
+use Rattle.algebra.specs.Cell.{J, Sym, Group, P1, span, im, pim}
+use Rattle.algebra.specs.CellTests.{below, imply, storedT, storedPointT}
+use Rattle.algebra.specs.CellPack.{even}
+use Rattle.numbers.specs.declared.Pair.{Pair}
+use Rattle.slices.specs.Pairs.{at}
+use Rattle.cell.specs.Volume.{groupOf, pairPlace, mapPlace, volumeLength, lineIn}
+use Rattle.cell.specs.Consistency.{sameValue, implied, pointAgrees, rowEnds}
+use Rattle.cell.specs.declared.operations.Index.{Index}
+use Rattle.cell.specs.Operations.{halvesOf, Length, Sizes}
+
+-- a volume as long as group and axes ask for
+pub record IsVolume (group n1 n2 n3 : ℕ) (v : List ℕ) : Type 0 where
+  pub sizes : Sizes group n1 n2 n3
+  pub long : length v ≡ volumeLength (groupOf group) (halvesOf n1 n2 n3)
+
+-- the pair w of (h, k) lies inside the list
+pub record PairInside (n1 n2 : ℕ) (v : List ℕ) (w h k : ℕ) : Type 0 where
+  pub first : Length n1
+  pub second : Length n2
+  pub layer : w ≤ 2880
+  pub row : h ≤ 2880
+  pub column : k ≤ 2880
+  pub inside : 2 * pairPlace P1 (halvesOf n1 n2 0) w h k + 1 < length v
+
+-- an index whose factor has a place of its own
+pub record IsStored (group n1 n2 n3 : ℕ) (j : Index) : Type 0 where
+  pub h : j .h < n1
+  pub k : j .k ≤ n2 / 2
+  pub l : j .l < span (groupOf group) (n3 / 2)
+
+abbrev pub samePair : Pair → Pair → Bool
+samePair x y = eqb (x .re) (y .re) && eqb (x .im) (y .im)
+
+abbrev pub isZero : Pair → Bool
+isZero x = eqb (x .re) 0 && eqb (x .im) 0
+
+module _ (g : Group) (a : J) where
+  -- one image of a stored factor, and one of a point of a stored plane
+  abbrev pub imageAgrees : (m : ℕ) → List ℕ → J → Sym → Bool
+  imageAgrees m v j s = imply (storedT g a (im a s j)) (sameValue (lineIn g a m v ((im a s j) .0) ((im a s j) .1) ((im a s j) .2)) (implied g a m s j (lineIn g a m v (j .0) (j .1) (j .2))))
+
+  abbrev pub pointImageAgrees : List ℕ → J → Sym → Bool
+  pointImageAgrees v x s = imply (storedPointT g a (pim a s x)) (eqb (getD v (mapPlace g a (pim a s x)) 0) (getD v (mapPlace g a x) 0))
+
+  -- the pairs 0 and A of the line (h, k) are zero; asked only where h is odd: there Pa has no factors in them
+  abbrev pub emptyEnds : List ℕ → (h k : ℕ) → Bool
+  emptyEnds v h k = isZero (at v (pairPlace g a 0 h k)) && isZero (at v (pairPlace g a (a .2) h k))
+
+  abbrev pub emptyIfOdd : List ℕ → (h k : ℕ) → Bool
+  emptyIfOdd v h k = imply (not (even h)) (emptyEnds v h k)
+
+  -- a row of a map: its points, then its two zeros
+  abbrev pub rowAgrees : List ℕ → (z x : ℕ) → Bool
+  rowAgrees v z x = below (2 * a .1) (λ y. pointAgrees g a v (x, y, z)) && rowEnds g a v z x

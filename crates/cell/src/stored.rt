@@ -1,0 +1,92 @@
+// What stands at the stored places of a volume: a pair, a factor, the number of a point.
+use crate::operations::Index;
+use crate::places;
+use numbers::Pair;
+ghost use mathlib.Core.Path.{_≡_};
+ghost use mathlib.Core.Bool.{true, _||_};
+ghost use Prim.Native.Nat.{ℕ, _/_};
+ghost use lib.ListN.{getD};
+ghost use lib.Dec.{eqb};
+ghost use Rattle.algebra.specs.Cell.{P1, P2₁};
+ghost use Rattle.numbers.specs.Prime.{prime};
+ghost use Rattle.numbers.specs.Value.{pairOf};
+ghost use Rattle.slices.specs.Pairs.{at, Below};
+ghost use Rattle.cell.specs.Volume.{groupOf, pairPlace, mapPlace, lineIn};
+ghost use Rattle.cell.specs.Operations.{halvesOf, tripleOf};
+ghost use Rattle.cell.specs.TestSteps.{IsVolume, IsStored, PairInside, samePair, isZero};
+
+// The pair w of (h, k).
+pub fn pair_at(n1: u32, n2: u32, volume: &[u32], w: u32, h: u32, k: u32) -> Pair
+    requires { ⌜ PairInside n1 n2 (now volume) w h k ⌝ }
+    ensures { λ r. ⌜ r ≡ at (now (volume .entry)) (pairPlace P1 (halvesOf n1 n2 0) w h k) ⌝ }
+{
+    slices::get(volume, places::pair_place(n1, n2, w, h, k))
+}
+
+// Two pairs have the same numbers.
+pub fn same(x: Pair, y: Pair) -> bool
+    ensures { λ r. ⌜ r ≡ samePair x y ⌝ }
+{
+    if x.re == y.re { x.im == y.im } else { false }
+}
+
+// Both numbers are zero.
+pub fn is_zero(x: Pair) -> bool
+    ensures { λ r. ⌜ r ≡ isZero x ⌝ }
+{
+    if x.re == 0 { x.im == 0 } else { false }
+}
+
+// The factor at an end of an alternating line: one number of pair 0, real at l = 0 and at an even A, imaginary at an odd A.
+fn alternating_end(n1: u32, n2: u32, n3: u32, volume: &[u32], j: Index) -> Pair
+    requires { ⌜ IsVolume 1 n1 n2 n3 (now volume) × IsStored 1 n1 n2 n3 j × ((eqb (j .l) 0 || eqb (j .l) (n3 / 2)) ≡ true) ⌝ }
+    ensures { λ r. ⌜ ((m : ℕ) → Below (prime m) (now (volume .entry)) → r ≡ pairOf (lineIn P2₁ (halvesOf n1 n2 n3) m (now (volume .entry)) (j .h) (j .k) (j .l))) ⌝ }
+{
+    let x = pair_at(n1, n2, volume, 0, j.h, j.k);
+    if j.l == 0 {
+        Pair { re: x.re, im: 0 }
+    } else if j.l % 2 == 0 {
+        Pair { re: x.im, im: 0 }
+    } else {
+        Pair { re: 0, im: x.im }
+    }
+}
+
+// The factor at an end l = 0 or l = A: in an antisymmetric line it is zero, and not read.
+fn end_factor(group: u32, n1: u32, n2: u32, n3: u32, volume: &[u32], j: Index) -> Pair
+    requires { ⌜ IsVolume group n1 n2 n3 (now volume) × IsStored group n1 n2 n3 j × ((eqb (j .l) 0 || eqb (j .l) (n3 / 2)) ≡ true) ⌝ }
+    ensures { λ r. ⌜ ((m : ℕ) → Below (prime m) (now (volume .entry)) → r ≡ pairOf (lineIn (groupOf group) (halvesOf n1 n2 n3) m (now (volume .entry)) (j .h) (j .k) (j .l))) ⌝ }
+{
+    if group == 1 {
+        alternating_end(n1, n2, n3, volume, j)
+    } else if group == 3 {
+        if j.h % 2 == 0 {
+            pair_at(n1, n2, volume, j.l, j.h, j.k)
+        } else {
+            Pair { re: 0, im: 0 }
+        }
+    } else {
+        pair_at(n1, n2, volume, j.l, j.h, j.k)
+    }
+}
+
+// The factor at a stored place.
+pub fn stored_factor(group: u32, n1: u32, n2: u32, n3: u32, volume: &[u32], j: Index) -> Pair
+    requires { ⌜ IsVolume group n1 n2 n3 (now volume) × IsStored group n1 n2 n3 j ⌝ }
+    ensures { λ r. ⌜ ((m : ℕ) → Below (prime m) (now (volume .entry)) → r ≡ pairOf (lineIn (groupOf group) (halvesOf n1 n2 n3) m (now (volume .entry)) (j .h) (j .k) (j .l))) ⌝ }
+{
+    if places::is_end(n3, j.l) {
+        end_factor(group, n1, n2, n3, volume, j)
+    } else {
+        pair_at(n1, n2, volume, j.l, j.h, j.k)
+    }
+}
+
+// The number of a point of a stored plane.
+pub fn stored_number(n1: u32, n2: u32, volume: &[u32], x: Index) -> u32
+    requires { ⌜ PairInside n1 n2 (now volume) (x .l) (x .h) (x .k / 2) ⌝ }
+    ensures { λ r. ⌜ r ≡ getD (now (volume .entry)) (mapPlace P1 (halvesOf n1 n2 0) (tripleOf x)) 0 ⌝ }
+{
+    let place = 2 * places::pair_place(n1, n2, x.l, x.h, 0) + (x.k as usize);
+    volume[place]
+}

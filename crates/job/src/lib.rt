@@ -2,6 +2,9 @@
 //
 // The job is handed in and handed back by value at each call, beside the volume that the caller lends. Each call is a check, which
 // answers the first refusal of the paper's order, and then the work.
+pub mod header; // header.rt: the tests of an opening's group, lengths and factor lists
+
+use line::Refusal;
 
 // The index of a structure factor, in reciprocal space: h, k, l.
 pub struct Reflection(pub u32, pub u32, pub u32);

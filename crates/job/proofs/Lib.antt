@@ -1,1 +1,3 @@
 pub mod Headers
+pub mod Digits
+pub mod Jobs

@@ -24,7 +24,7 @@ pub fn volume_length(group: u32, n1: u32, n2: u32, n3: u32) -> u64
 }
 
 // The three lengths are admitted.
-fn all_admitted(n1: u32, n2: u32, n3: u32) -> bool
+pub fn all_admitted(n1: u32, n2: u32, n3: u32) -> bool
     ensures { λ r. ⌜ r ≡ (admitted n1 && (admitted n2 && admitted n3)) ⌝ }
 {
     if !check::admitted(n1) {

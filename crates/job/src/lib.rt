@@ -3,6 +3,7 @@
 // The job is handed in and handed back by value at each call, beside the volume that the caller lends. Each call is a check, which
 // answers the first refusal of the paper's order, and then the work.
 pub mod header; // header.rt: the tests of an opening's group, lengths and factor lists
+pub mod valid; // valid.rt: which jobs an opening or a later call could have made
 
 use line::Refusal;
 

@@ -1,17 +1,22 @@
 -- What the tests of a header say of its numbers: three tests in turn, the lengths, and the size of the volume.
-use mathlib.Core.Path.{_≡_, sym, ap}
+use mathlib.Core.Path.{_≡_, refl, sym, ap, subst}
 use mathlib.Core.Bool.{Bool, true, false, _&&_, not}
 use mathlib.Core.List.{List}
 use Prim.Native.Nat.{ℕ, suc, _+_, _*_, _/_, _<_, _≤_}
 use native.Mathlib.Nat.{mul-le-mul}
 use native.Mathlib.Omega.{arith}
+use lib.Dec.{eqb}
+use borrow.Author.Tests.{not-false, eqb-true}
 use Rattle.algebra.specs.Cell.{planes}
+use Rattle.plain.specs.Factors.{product}
+use Rattle.line.specs.Tests.{first}
 use Rattle.line.specs.Lengths.{admitted, factorsOk}
-use Rattle.line.proofs.Tests.{both, by-true, by-false}
+use Rattle.line.proofs.Tests.{both, by-true, by-false, Passed, passed}
 use Rattle.line.proofs.Accepted.{admitted-length}
 use Rattle.cell.specs.Operations.{halvesOf, Length, Sizes}
 use Rattle.cell.specs.Volume.{groupOf, volumeLength}
 use Rattle.cell.proofs.StoredFactors.{layers-most}
+use Rattle.job.specs.Header.{Header, axisTests}
 
 -- ---- three tests in turn: the first that is false settles it, and the last decides
 
@@ -60,6 +65,25 @@ sizes-of {n1 = n1} {n2} {n3} k e =
     let h = all-three (admitted n1) (admitted n2) (admitted n3) e in
     record { known = k; first = length-of _ (h .0); second = length-of _ (h .1); third = length-of _ (h .2) }
 
+-- ---- what is known of a header that no test refuses
+
+module _ (h : Header) (none : 0 ≡ first (axisTests h)) where
+  tests : Passed (axisTests h)
+  tests = passed (axisTests h) tt none
+
+  pub sound-sizes : h .group < 4 → Sizes (h .group) (h .lengths .0) (h .lengths .1) (h .lengths .2)
+  sound-sizes k = sizes-of k (not-false _ (tests .0))
+
+  pub sound-lists : ((factorsOk (h .list1) ≡ true) × (product (h .list1) ≤ 1440)) × ((factorsOk (h .list2) ≡ true) × (product (h .list2) ≤ 1440)) × ((factorsOk (h .list3) ≡ true) × (product (h .list3) ≤ 1440))
+  sound-lists =
+      let n = h .lengths in
+      let m = products-may (n .0) (n .1) (n .2) (h .list1) (h .list2) (h .list3) (not-false _ (tests .0)) (not-false _ (tests .1 .0)) in
+      let q = all-three (eqb (product (h .list1)) (n .0 / 2)) (eqb (product (h .list2)) (n .1 / 2)) (eqb (product (h .list3)) (n .2 / 2)) (not-false _ (tests .1 .1 .0)) in
+      ((m .0 .0, product-small _ _ (q .0) (m .0 .1)), (m .1 .0, product-small _ _ (q .1) (m .1 .1)), (m .2 .0, product-small _ _ (q .2) (m .2 .1)))
+    where
+      product-small : (x y : ℕ) → eqb x y ≡ true → y ≤ 1440 → x ≤ 1440
+      product-small x y e l = omega (arith, eqb-true x y e)
+
 -- ---- the volume
 
 pub layers-small : {group n1 n2 n3 layers : ℕ} → Sizes group n1 n2 n3 → layers ≡ planes (groupOf group) (n3 / 2) → layers * n1 ≤ 8294400
@@ -79,3 +103,11 @@ volume-is {n1 = n1} {n2} s e =
     let twice : n1 ≡ 2 * (n1 / 2) = omega (arith, s .first .even) in
     let next : n2 / 2 + 1 ≡ suc (n2 / 2) = omega arith in
     λ i. 2 * (e i * twice i * next i)
+
+-- a place of the volume is a number of a machine word, in bytes too
+pub place-small : {group n1 n2 n3 : ℕ} (q : ℕ) → Sizes group n1 n2 n3 → q < volumeLength (groupOf group) (halvesOf n1 n2 n3) → q < 24000000000
+place-small {group} {n1} {n2} {n3} q s l =
+    let e = volume-is {layers = planes (groupOf group) (n3 / 2)} s refl in
+    let b = volume-small {layers = planes (groupOf group) (n3 / 2)} s refl in
+    let k : q < 2 * (planes (groupOf group) (n3 / 2) * n1 * (n2 / 2 + 1)) = subst (λ (m : ℕ). q < m) (sym e) l in
+    omega (arith, k, b)

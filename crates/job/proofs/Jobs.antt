@@ -3,11 +3,13 @@ use mathlib.Core.Path.{_≡_, sym, ap, _∙_}
 use mathlib.Core.Bool.{Bool, true, false, _&&_, not}
 use Prim.Native.Nat.{ℕ, zero, suc, _≤_, _<_}
 use lib.Dec.{ltb, eqb}
-use borrow.Author.Tests.{lt-ltb, le-ltb, eq-eqb, ne-eqb}
+use borrow.Author.Tests.{lt-ltb, le-ltb, ltb-true, eq-eqb, ne-eqb, eqb-true}
 use Rattle.line.specs.Tests.{first}
 use Rattle.line.proofs.Tests.{by-true, by-false}
+use Rattle.cell.specs.Operations.{Sizes}
 use Rattle.job.specs.Header.{axisTests, headerOf, validJob}
 use Rattle.job.specs.declared.Job.{Job}
+use Rattle.job.proofs.Headers.{all-three, sound-sizes}
 
 -- a number that is not 0 refuses, 0 does not
 pub refused-at : (n m : ℕ) → (n ≡ 0 → ⊥) → n ≡ m → false ≡ eqb m 0
@@ -30,6 +32,13 @@ module _ (j : Job) where
       let x = sym (lt-ltb _ _ h) in
       let y = sym (by-false _ _ e f) in
       λ i. x i && (y i && ltb (j .state) 3)
+
+  -- the sizes of a valid job
+  pub valid-sizes : validJob j ≡ true → Sizes (j .group) (j .a .length) (j .b .length) (j .c .length)
+  unfolding validJob
+  valid-sizes e =
+      let t = all-three (ltb (j .group) 4) headerOk (ltb (j .state) 3) e in
+      sound-sizes (headerOf j) (sym (eqb-true _ _ (t .1))) (ltb-true _ _ (t .0))
 
   pub valid-state : {r : Bool} → j .group < 4 → r ≡ headerOk → not r ≡ false → ltb (j .state) 3 ≡ validJob j
   unfolding validJob

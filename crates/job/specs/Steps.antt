@@ -16,7 +16,7 @@ use Rattle.cell.specs.Sums.{mapOf, factorsOf}
 use Rattle.job.specs.declared.Job.{Job}
 use Rattle.job.specs.declared.Reflection.{Reflection}
 use Rattle.job.specs.declared.GridPoint.{GridPoint}
-use Rattle.job.specs.Header.{Header, halvesOf, needed, axisTests, collecting, factorsHeld, mapHeld, jobOf, withState, validJob, groupIn, halves}
+use Rattle.job.specs.Header.{Header, headerOf, halvesOf, axisTests, collecting, factorsHeld, mapHeld, jobOf, withState, validJob, groupIn, halves}
 
 abbrev pub p : ℕ
 p = prime 1
@@ -30,16 +30,20 @@ pub record OpenOutcome : Type 0 where
   pub answer : Opening
   pub volume : List ℕ
 
--- Open: 8, 2, then 3, 4, 5 each over the three axes, 9, 6, and for a map (kind 1) 7, 14.
+-- The volume that an opening is lent: 6, and for a map (kind 1) 7, 14.
+abbrev pub volumeTests : (group : ℕ) (lengths : J) (kind : ℕ) → List ℕ → List Test
+volumeTests group n kind v =
+    not (eqb (length v) (volumeLength (groupOf group) (halvesOf n))) ⇒ 6 ∷
+    (eqb kind 1 && not (allBelow p v)) ⇒ 7 ∷
+    (eqb kind 1 && not (consistentMap (groupOf group) (halvesOf n) v)) ⇒ 14 ∷
+    []
+
+-- Open: 8, 2, then 3, 4, 5 each over the three axes, 9, 6, and for a map 7, 14.
 abbrev pub openTests : Header → (kind : ℕ) → List ℕ → List Test
 openTests h kind v =
     leb 4 (h .group) ⇒ 8 ∷
     leb 2 kind ⇒ 2 ∷
-    (axisTests h ++
-    not (eqb (length v) (needed h)) ⇒ 6 ∷
-    (eqb kind 1 && not (allBelow p v)) ⇒ 7 ∷
-    (eqb kind 1 && not (consistentMap (groupOf (h .group)) (halvesOf (h .lengths)) v)) ⇒ 14 ∷
-    [])
+    (axisTests h ++ volumeTests (h .group) (h .lengths) kind v)
 
 unfoldable pub openStep : Header → (kind : ℕ) → List ℕ → OpenOutcome
 openStep h kind v =
@@ -66,8 +70,11 @@ abbrev pub unchanged : Job → List ℕ → ℕ → Outcome
 unchanged j v n = record { answer = refused n; job = j; volume = v }
 
 -- an index or a point has each number below its axis length
+abbrev pub within : (lengths x : J) → Bool
+within n x = ltb (x .0) (n .0) && (ltb (x .1) (n .1) && ltb (x .2) (n .2))
+
 abbrev pub inside : Job → J → Bool
-inside j x = ltb (x .0) (j .a .length) && (ltb (x .1) (j .b .length) && ltb (x .2) (j .c .length))
+inside j x = within (headerOf j .lengths) x
 
 abbrev pub index : Reflection → J
 index at = (at .0, at .1, at .2)
@@ -143,14 +150,17 @@ analysisStep j v scratch =
     (λ n. record { outcome = unchanged j v n; scratch = scratch })
 
 -- Reading a point: 25, 22, 10, 6, 7 (of the number read only).
-abbrev pub pointTests : Job → J → List ℕ → List Test
-pointTests j x v =
-    not (validJob j) ⇒ 25 ∷
-    not (eqb (j .state) mapHeld) ⇒ 22 ∷
-    not (inside j x) ⇒ 10 ∷
-    not (fits j v) ⇒ 6 ∷
-    not (ltb (getD v (densityPlace (groupIn j) (halves j) x) 0) p) ⇒ 7 ∷
+abbrev pub pointTestsOf : (valid : Bool) (state group : ℕ) (lengths x : J) → List ℕ → List Test
+pointTestsOf valid state group n x v =
+    not valid ⇒ 25 ∷
+    not (eqb state mapHeld) ⇒ 22 ∷
+    not (within n x) ⇒ 10 ∷
+    not (eqb (length v) (volumeLength (groupOf group) (halvesOf n))) ⇒ 6 ∷
+    not (ltb (getD v (densityPlace (groupOf group) (halvesOf n) x) 0) p) ⇒ 7 ∷
     []
+
+abbrev pub pointTests : Job → J → List ℕ → List Test
+pointTests j x v = pointTestsOf (validJob j) (j .state) (j .group) (headerOf j .lengths) x v
 
 unfoldable pub pointStep : Job → GridPoint → List ℕ → Outcome
 pointStep j at v =

@@ -4,6 +4,9 @@
 // answers the first refusal of the paper's order, and then the work.
 pub mod header; // header.rt: the tests of an opening's group, lengths and factor lists
 pub mod valid; // valid.rt: which jobs an opening or a later call could have made
+pub mod tests; // tests.rt: tests that several calls share
+pub mod open; // open.rt: the opening
+pub mod point; // point.rt: the reading of a point
 
 use line::Refusal;
 

@@ -2,10 +2,10 @@
 use mathlib.Core.Path.{_≡_, _∙_, ap}
 use mathlib.Core.Bool.{Bool, true, false, _&&_, not, cond}
 use mathlib.Core.List.{List, [], _∷_, _++_}
-use Prim.Native.Nat.{ℕ, _≤_, _<_}
+use Prim.Native.Nat.{ℕ, _<_}
 use native.Mathlib.Omega.{arith}
 use lib.ListN.{length, replicate, drop}
-use lib.Dec.{eqb, leb}
+use lib.Dec.{eqb}
 use borrow.Author.Tests.{eq-eqb, ne-eqb, lt-leb}
 use Rattle.algebra.specs.Cell.{J}
 use Rattle.slices.specs.Pairs.{allBelow}
@@ -13,7 +13,7 @@ use Rattle.slices.proofs.Segments.{cleared-all}
 use Rattle.line.specs.declared.Refusal.{Refusal}
 use Rattle.line.specs.Refusals.{numberOf}
 use Rattle.line.specs.Tests.{Test, first}
-use Rattle.line.proofs.Tests.{stop, pass, none, not-t, by-true, by-false, passed, fails}
+use Rattle.line.proofs.Tests.{stop, pass, none, not-t, passed, fails}
 use Rattle.cell.specs.Volume.{groupOf, volumeLength}
 use Rattle.cell.specs.Consistency.{consistentMap}
 use Rattle.job.specs.declared.Job.{Job}

@@ -1,6 +1,6 @@
 -- A point that is read: where its number stands, and what the reading answers.
 use mathlib.Core.Path.{_≡_, _∙_, sym, ap}
-use mathlib.Core.Bool.{Bool, true, false, _&&_}
+use mathlib.Core.Bool.{true, false}
 use mathlib.Core.List.{List}
 use Prim.Native.Nat.{ℕ, _≤_, _<_}
 use lib.ListN.{getD}
@@ -15,7 +15,7 @@ use Rattle.cell.specs.Volume.{densityPlace}
 use Rattle.job.specs.declared.Job.{Job}
 use Rattle.job.specs.declared.GridPoint.{GridPoint}
 use Rattle.job.specs.Header.{groupIn, halves}
-use Rattle.job.specs.Steps.{within, position, pointTests, pointStep, unchanged, Said, density, refused, Outcome}
+use Rattle.job.specs.Steps.{within, position, pointTests, pointStep, unchanged, density, refused, Outcome}
 use Rattle.job.proofs.Headers.{all-three}
 
 pub within-of : (n1 n2 n3 x y z : ℕ) → within (n1, n2, n3) (x, y, z) ≡ true → Within n1 n2 n3 (record { h = x; k = y; l = z })

@@ -1,15 +1,14 @@
 -- What an opening names, the job that it makes, and which jobs an opening or a later call could have made (refusal 25).
 use mathlib.Core.Bool.{Bool, _&&_, not}
 use mathlib.Core.List.{List, [], _∷_}
-use Prim.Native.Nat.{ℕ, _*_, _/_}
-use lib.Dec.{ltb, leb, eqb}
+use Prim.Native.Nat.{ℕ, _/_}
+use lib.Dec.{ltb, eqb}
 use Rattle.algebra.specs.Cell.{J, Group}
 use Rattle.plain.specs.Factors.{product, octal}
 use Rattle.line.specs.Tests.{Test, _⇒_, first}
 use Rattle.line.specs.Lengths.{admitted, factorsOk, octalDigits}
 use Rattle.cell.specs.Volume.{groupOf, volumeLength}
 use Rattle.job.specs.declared.Job.{Job}
-use Rattle.job.specs.declared.Axis.{Axis}
 
 -- group, lengths and factor lists
 pub record Header : Type 0 where

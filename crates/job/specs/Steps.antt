@@ -1,5 +1,5 @@
 -- The calls of a job: what each answers and what it leaves, for every input, in the paper's order of refusals. The modulus number is 1.
-use mathlib.Core.Bool.{Bool, true, false, _&&_, not, cond}
+use mathlib.Core.Bool.{Bool, _&&_, not, cond}
 use mathlib.Core.List.{List, [], _∷_, _++_}
 use Prim.Native.Nat.{ℕ}
 use lib.ListN.{length, getD, replicate}

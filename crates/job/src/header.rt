@@ -4,7 +4,7 @@ use line::Checked;
 use line::Refusal;
 use line::check;
 ghost use mathlib.Core.Path.{_≡_};
-ghost use mathlib.Core.Bool.{Bool, true, _&&_};
+ghost use mathlib.Core.Bool.{true, _&&_};
 ghost use Prim.Native.Nat.{_/_, _<_};
 ghost use lib.Dec.{eqb};
 ghost use Rattle.plain.specs.Factors.{product};

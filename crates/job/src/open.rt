@@ -1,16 +1,16 @@
 // The opening of a job: to collect records in a volume that is zeroed, or with a volume that is a map.
-use crate::header;
-use crate::tests;
 use crate::Axis;
 use crate::Job;
 use crate::OpenAnswer;
+use crate::header;
+use crate::tests;
 use cell::map_test;
-use line::check;
 use line::Checked;
 use line::Refusal;
+use line::check;
 ghost use mathlib.Core.Path.{_≡_};
 ghost use mathlib.Core.Bool.{true};
-ghost use Prim.Native.Nat.{ℕ, _≤_};
+ghost use Prim.Native.Nat.{_≤_};
 ghost use Rattle.plain.specs.Factors.{product, octal};
 ghost use Rattle.line.specs.Tests.{first, checkedNumber};
 ghost use Rattle.line.specs.Lengths.{factorsOk};
@@ -79,16 +79,7 @@ fn axis(length: u32, factors: &[u8]) -> Axis
 }
 
 // The job of a header that no test refuses.
-fn opened(
-    group: u32,
-    n1: u32,
-    n2: u32,
-    n3: u32,
-    f1: &[u8],
-    f2: &[u8],
-    f3: &[u8],
-    state: u32,
-) -> Job
+fn opened(group: u32, n1: u32, n2: u32, n3: u32, f1: &[u8], f2: &[u8], f3: &[u8], state: u32) -> Job
     requires { ⌜ 0 ≡ first (axisTests (record { group = group; lengths = (n1, n2, n3); list1 = now f1; list2 = now f2; list3 = now f3 })) ⌝ }
     ensures { λ r. ⌜ r ≡ jobOf (record { group = group; lengths = (n1, n2, n3); list1 = now (f1 .entry); list2 = now (f2 .entry); list3 = now (f3 .entry) }) state ⌝ }
 {

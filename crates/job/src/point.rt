@@ -1,9 +1,9 @@
 // The reading of a point of the map.
-use crate::tests;
-use crate::valid;
 use crate::GridPoint;
 use crate::Job;
 use crate::PointAnswer;
+use crate::tests;
+use crate::valid;
 use cell::operations::Index;
 use cell::places;
 use line::Checked;

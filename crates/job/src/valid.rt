@@ -3,7 +3,7 @@
 use crate::Job;
 use crate::header;
 ghost use mathlib.Core.Path.{_≡_};
-ghost use mathlib.Core.Bool.{Bool, true, _&&_};
+ghost use mathlib.Core.Bool.{true, _&&_};
 ghost use Prim.Native.Nat.{_/_, _<_, _≤_};
 ghost use lib.Dec.{eqb};
 ghost use Rattle.plain.specs.Factors.{product};

@@ -2,7 +2,7 @@
 use borrow.Author.Needs.{needs}
 use native.Mathlib.Omega.{arith}
 use mathlib.Core.Path.{_≡_, _∙_, sym, ap, subst}
-use mathlib.Core.Bool.{Bool, true}
+use mathlib.Core.Bool.{Bool}
 use Prim.Native.Nat.{ℕ, _<_}
 use lib.ListN.{length}
 use denote.Ref.{now}
@@ -10,7 +10,7 @@ use borrow.Author.Tests.{not-false, eqb-true}
 use Rattle.line.specs.Tests.{first, checkedNumber}
 use Rattle.line.proofs.Tests.{Passed, passed}
 use Rattle.cell.specs.Operations.{Sizes}
-use Rattle.job.specs.Header.{headerOf, validJob, groupIn, halves}
+use Rattle.job.specs.Header.{headerOf}
 use Rattle.job.specs.Steps.{position, pointTests, pointTestsOf}
 use Rattle.job.proofs.Jobs.{valid-sizes}
 use Rattle.job.proofs.Headers.{place-small}

@@ -1,6 +1,6 @@
 -- Each return is the first test that holds, all the others before it being passed over.
 use borrow.Author.Needs.{needs}
-use mathlib.Core.Path.{_≡_, sym, ap, _∙_, subst}
+use mathlib.Core.Path.{subst}
 use Prim.Native.Nat.{ℕ, _<_, _≤_}
 use Rattle.line.proofs.Tests.{refusals, by-true}
 use Rattle.job.proofs.Headers.{sizes-of}

@@ -1,6 +1,5 @@
 -- Refused by the check, or a job of the header: collecting in a cleared volume, or with the volume as its map.
 use borrow.Author.Needs.{needs}
-use native.Mathlib.Omega.{arith}
 use mathlib.Core.Path.{_≡_, _∙_, sym, ap}
 use denote.Ref.{now}
 use Rattle.line.specs.Tests.{first, checkedNumber}

@@ -1,7 +1,5 @@
 -- The three axes, each of a sound list.
-use mathlib.Core.Path.{_≡_}
 use denote.Ref.{now}
-use Rattle.line.specs.Tests.{first}
 use Rattle.job.specs.Header.{Header}
 use Rattle.job.proofs.Headers.{sound-lists}
 use Rattle.job.proofs.open.opened.Statement.{statement}

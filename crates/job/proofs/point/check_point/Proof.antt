@@ -66,7 +66,7 @@ returns-5 c =
     let d = c .before .before in
     let a = d .before .before .before .before .before .before .before .before .before .args in
     let e : ltb (getD (now (a .volume)) (densityPlace (groupOf (a .group)) (halvesOf (a .n1) (a .n2) (a .n3)) (a .x, a .y, a .z)) 0) (prime 1) ≡ false =
-        number-above (now (a .volume)) (d .density-place .ensures .0) (d .before .modulus .ensures .0) (c .if5 .taken) in
+    number-above (now (a .volume)) (d .density-place .ensures .0) (d .before .modulus .ensures .0) (c .if5 .taken) in
     search refusals depth 20
 
 returns-6 : tie.Need-returns-6
@@ -74,7 +74,7 @@ returns-6 c =
     let d = c .before .before in
     let a = d .before .before .before .before .before .before .before .before .before .args in
     let e : ltb (getD (now (a .volume)) (densityPlace (groupOf (a .group)) (halvesOf (a .n1) (a .n2) (a .n3)) (a .x, a .y, a .z)) 0) (prime 1) ≡ true =
-        number-below (now (a .volume)) (d .density-place .ensures .0) (d .before .modulus .ensures .0) (c .if5 .left) in
+    number-below (now (a .volume)) (d .density-place .ensures .0) (d .before .modulus .ensures .0) (c .if5 .left) in
     search refusals depth 20
 
 pub check-point-spec : {M : Type 1} → statement M

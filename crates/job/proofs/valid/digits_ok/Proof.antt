@@ -1,7 +1,6 @@
 -- The rest of the digits decides, as long as every digit so far is a factor.
 use native.Mathlib.Omega.{arith}
 use mathlib.Core.Path.{_≡_, refl}
-use Prim.Native.Nat.{_%_}
 use Rattle.line.specs.Lengths.{factorsOk, octalDigits}
 use Rattle.job.proofs.Digits.{low-digit, high-digit, factor-digit, ok-stop, ok-next, ok-done}
 use Rattle.job.proofs.valid.digits_ok.Statement.{statement}

@@ -1,7 +1,7 @@
 -- The tests of the header in turn, as in the check of an opening.
 use borrow.Author.Needs.{needs}
 use native.Mathlib.Omega.{arith}
-use mathlib.Core.Path.{_≡_, subst}
+use mathlib.Core.Path.{subst}
 use Prim.Native.Nat.{ℕ, _<_, _≤_}
 use Rattle.line.specs.Tests.{first}
 use Rattle.line.specs.Lengths.{octalDigits}

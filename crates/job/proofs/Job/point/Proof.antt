@@ -1,0 +1,89 @@
+-- Refused by the check, or the number at the point's place.
+use borrow.Author.Needs.{needs}
+use native.Mathlib.Omega.{arith}
+use mathlib.Core.Path.{_≡_, _∙_, sym, ap, subst}
+use mathlib.Core.Bool.{Bool}
+use Prim.Native.Nat.{ℕ, _<_}
+use lib.ListN.{length}
+use denote.Ref.{now}
+use borrow.Author.Tests.{not-false, eqb-true}
+use Rattle.line.specs.Tests.{first, checkedNumber}
+use Rattle.line.proofs.Tests.{Passed, passed}
+use Rattle.cell.specs.Operations.{Sizes}
+use Rattle.job.specs.Header.{headerOf}
+use Rattle.job.specs.Steps.{position, pointTests, pointTestsOf}
+use Rattle.job.proofs.Jobs.{valid-sizes}
+use Rattle.job.proofs.Headers.{place-small}
+use Rattle.job.proofs.Points.{within-of, point-refused, point-read}
+use Rattle.job.proofs.Job.point.Statement.{statement}
+use Rattle.job.proofs.Job.point.Tie as tie
+
+-- the check's number
+told : (c : tie.After-check-point) → let a = c .before .before .before .args in checkedNumber (c .check-point .result) ≡ first (pointTests (a .self) (position (a .at)) (now (a .volume)))
+told c =
+    let a = c .before .before .before .args in
+    c .check-point .ensures ∙ ap (λ (b : Bool). first (pointTestsOf b (a .self .state) (a .self .group) (headerOf (a .self) .lengths) (position (a .at)) (now (a .volume)))) (c .before .valid-job .ensures)
+
+-- no test holds
+none : (c : tie.After-enum-told) → let a = c .before .before .before .before .before .args in 0 ≡ first (pointTests (a .self) (position (a .at)) (now (a .volume)))
+none c = ap checkedNumber (sym (c .enum-told .given .1)) ∙ told (c .before .before)
+
+clear : (c : tie.After-enum-told) → let a = c .before .before .before .before .before .args in Passed (pointTests (a .self) (position (a .at)) (now (a .volume)))
+clear c = let a = c .before .before .before .before .before .args in passed (pointTests (a .self) (position (a .at)) (now (a .volume))) tt (none c)
+
+sizes : (c : tie.After-enum-told) → let j = c .before .before .before .before .before .args .self in Sizes (j .group) (j .a .length) (j .b .length) (j .c .length)
+sizes c = valid-sizes (c .before .before .before .before .before .args .self) (not-false _ (clear c .0))
+
+-- the point's number lies in the volume
+placed : (c : tie.After-density-place) → c .density-place .result < length (now (c .before .before .before .before .before .before .args .volume))
+placed c = subst (λ (n : ℕ). c .density-place .result < n) (sym (eqb-true _ _ (not-false _ (clear (c .before) .1 .1 .1 .0)))) (c .density-place .ensures .1)
+
+valid-job-requires : tie.Need-valid-job-requires
+valid-job-requires c κs = search needs
+
+check-point-requires : tie.Need-check-point-requires
+check-point-requires c κs e = valid-sizes (c .before .before .args .self) (sym (c .valid-job .ensures) ∙ e)
+
+enum-known-checked : tie.Need-enum-known-checked
+enum-known-checked c = search needs
+
+enum-told : tie.Need-enum-told
+enum-told c = search needs
+
+density-place-requires : tie.Need-density-place-requires
+density-place-requires c κs =
+    let a = c .before .before .before .before .before .args in
+    let j = a .self in
+    (sizes c, within-of (j .a .length) (j .b .length) (j .c .length) (a .at .0) (a .at .1) (a .at .2) (not-false _ (clear c .1 .1 .0)))
+
+mul-t14 : tie.Need-mul-t14
+mul-t14 c = omega (arith, place-small _ (sizes (c .before)) (c .density-place .ensures .1))
+
+shared-slice-read-t16 : tie.Need-shared-slice-read-t16
+shared-slice-read-t16 c = placed (c .before)
+
+returns : tie.Need-returns
+returns c =
+    let k = c .before .before .before in
+    let a = k .before .before .before .args in
+    point-refused (a .self) (a .at) (now (a .volume)) (c .before .checked .given .0 .0) (ap checkedNumber (sym (c .before .checked .given .1)) ∙ told k)
+
+returns-2 : tie.Need-returns-2
+returns-2 c =
+    let d = c .before in
+    let a = d .before .before .before .before .before .before .args in
+    point-read (a .self) (a .at) (now (a .volume)) (d .density-place .result) (none (d .before)) (d .density-place .ensures .0)
+
+pub point-spec : {M : Type 1} → statement M
+point-spec =
+    tie.close
+    (tie.spec
+    valid-job-requires
+    check-point-requires
+    enum-known-checked
+    enum-told
+    density-place-requires
+    mul-t14
+    shared-slice-read-t16
+    returns
+    returns-2)

@@ -1,0 +1,48 @@
+-- Which jobs are valid, from the tests of their numbers.
+use mathlib.Core.Path.{_≡_, sym, ap, _∙_}
+use mathlib.Core.Bool.{Bool, true, false, _&&_, not}
+use Prim.Native.Nat.{ℕ, _≤_, _<_}
+use lib.Dec.{ltb, eqb}
+use borrow.Author.Tests.{lt-ltb, le-ltb, ltb-true, eq-eqb, ne-eqb, eqb-true}
+use Rattle.line.specs.Tests.{first}
+use Rattle.line.proofs.Tests.{by-true, by-false}
+use Rattle.cell.specs.Operations.{Sizes}
+use Rattle.job.specs.Header.{axisTests, headerOf, validJob}
+use Rattle.job.specs.declared.Job.{Job}
+use Rattle.job.proofs.Headers.{all-three, sound-sizes}
+
+-- a number that is not 0 refuses, 0 does not
+pub refused-at : (n m : ℕ) → (n ≡ 0 → ⊥) → n ≡ m → false ≡ eqb m 0
+refused-at n m z e = sym (ne-eqb m 0 (λ q. z (e ∙ q)))
+
+pub accepted-at : (m : ℕ) → 0 ≡ m → true ≡ eqb m 0
+accepted-at m e = sym (eq-eqb m 0 (sym e))
+
+module _ (j : Job) where
+  abbrev headerOk : Bool
+  headerOk = eqb (first (axisTests (headerOf j))) 0
+
+  pub invalid-group : 4 ≤ j .group → false ≡ validJob j
+  unfolding validJob
+  invalid-group h = ap (λ (b : Bool). b && (headerOk && ltb (j .state) 3)) (sym (le-ltb _ _ h))
+
+  pub invalid-header : {r : Bool} → j .group < 4 → r ≡ headerOk → not r ≡ true → false ≡ validJob j
+  unfolding validJob
+  invalid-header h e f =
+      let x = sym (lt-ltb _ _ h) in
+      let y = sym (by-false _ _ e f) in
+      λ i. x i && (y i && ltb (j .state) 3)
+
+  -- the sizes of a valid job
+  pub valid-sizes : validJob j ≡ true → Sizes (j .group) (j .a .length) (j .b .length) (j .c .length)
+  unfolding validJob
+  valid-sizes e =
+      let t = all-three (ltb (j .group) 4) headerOk (ltb (j .state) 3) e in
+      sound-sizes (headerOf j) (sym (eqb-true _ _ (t .1))) (ltb-true _ _ (t .0))
+
+  pub valid-state : {r : Bool} → j .group < 4 → r ≡ headerOk → not r ≡ false → ltb (j .state) 3 ≡ validJob j
+  unfolding validJob
+  valid-state h e f =
+      let x = sym (lt-ltb _ _ h) in
+      let y = sym (by-true _ _ e f) in
+      λ i. x i && (y i && ltb (j .state) 3)

@@ -1,0 +1,60 @@
+// A job collects structure factors and turns them into a map, or a map into factors.
+//
+// The job is handed in and handed back by value at each call, beside the volume that the caller lends. Each call is a check, which
+// answers the first refusal of the paper's order, and then the work.
+pub mod header; // header.rt: the tests of an opening's group, lengths and factor lists
+pub mod valid; // valid.rt: which jobs an opening or a later call could have made
+pub mod tests; // tests.rt: tests that several calls share
+pub mod open; // open.rt: the opening
+pub mod point; // point.rt: the reading of a point
+
+use line::Refusal;
+
+// The index of a structure factor, in reciprocal space: h, k, l.
+pub struct Reflection(pub u32, pub u32, pub u32);
+
+// The index of a point of the map, in real space: x, y, z.
+pub struct GridPoint(pub u32, pub u32, pub u32);
+
+// An axis: its length, and its factor list as octal digits, the first factor lowest.
+pub struct Axis {
+    pub length: u32,
+    pub factors: u32,
+}
+
+// The state is 0 collecting, 1 factors held, 2 map held.
+pub struct Job {
+    pub group: u32,
+    pub a: Axis,
+    pub b: Axis,
+    pub c: Axis,
+    pub state: u32,
+}
+
+// The answer of record, synthesis and analysis, beside the job.
+pub enum Answer {
+    Done,
+    Refused(Refusal),
+}
+
+pub struct Answered {
+    pub answer: Answer,
+    pub job: Job,
+}
+
+// The answer of an opening.
+pub enum OpenAnswer {
+    Opened(Job),
+    Refused(Refusal),
+}
+
+// The answers of the two readings.
+pub enum PointAnswer {
+    Density(u32),
+    Refused(Refusal),
+}
+
+pub enum FactorAnswer {
+    Factor(u32, u32),
+    Refused(Refusal),
+}

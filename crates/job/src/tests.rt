@@ -1,0 +1,29 @@
+// Tests that several calls share.
+use crate::header;
+ghost use mathlib.Core.Path.{_≡_};
+ghost use lib.Dec.{eqb};
+ghost use lib.ListN.{length};
+ghost use Rattle.cell.specs.Operations.{halvesOf, Sizes};
+ghost use Rattle.cell.specs.Volume.{groupOf, volumeLength};
+ghost use Rattle.job.specs.Steps.{within};
+
+// The index or the point has each number below its axis length.
+pub fn inside(n1: u32, n2: u32, n3: u32, x: u32, y: u32, z: u32) -> bool
+    ensures { λ r. ⌜ r ≡ within (n1, n2, n3) (x, y, z) ⌝ }
+{
+    if n1 <= x {
+        return false;
+    }
+    if n2 <= y {
+        return false;
+    }
+    z < n3
+}
+
+// The volume is exactly as long as group and lengths ask for.
+pub fn fits(group: u32, n1: u32, n2: u32, n3: u32, volume: &[u32]) -> bool
+    requires { ⌜ Sizes group n1 n2 n3 ⌝ }
+    ensures { λ r. ⌜ r ≡ eqb (length (now (volume .entry))) (volumeLength (groupOf group) (halvesOf n1 n2 n3)) ⌝ }
+{
+    (volume.len() as u64) == header::volume_length(group, n1, n2, n3)
+}

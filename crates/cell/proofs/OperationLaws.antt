@@ -1,6 +1,6 @@
 -- The groups by their numbers, the members of a group's list of operations, and what the code does for an operation:
 -- an index or a point is moved along one axis, a value gets a sign.
-use mathlib.Core.Path.{_≡_, refl, sym, _∙_, ap, ap₂, subst}
+use mathlib.Core.Path.{_≡_, refl, sym, _∙_, ap}
 use mathlib.Core.Bool.{Bool, true, false, not, Bool·beq}
 use mathlib.Core.List.{List, [], _∷_, _++_, map}
 use Prim.Native.Nat.{ℕ, zero, suc, _+_, _*_, _-_, _/_, _%_, _<_, _≤_}
@@ -8,17 +8,16 @@ use native.Mathlib.Omega.{arith}
 use lib.ListN.{length, getD, length-append, length-map, List·getD-append}
 use lib.Seq.{getD-append-add}
 use Rattle.algebra.specs.Ring.{Ops, pow}
-use Rattle.algebra.specs.Cell.{J, Inside, Sym, one, friedel, _·_, Group, P1, P2₁, Pm, Pa, ops, full, lineSym, flip, turn, xor, sgn, star, imp}
+use Rattle.algebra.specs.Cell.{Sym, one, friedel, _·_, Group, P1, P2₁, Pm, Pa, ops, full, lineSym, flip, turn, xor, sgn}
 use Rattle.algebra.proofs.Laws.{along, neg-one-mul}
 use Rattle.algebra.proofs.Transform.{sign-even, sign-odd}
 use Rattle.algebra.proofs.CellAxis.{neg-zero, neg-pos, half-low, half-high}
 use Rattle.numbers.specs.declared.Pair.{Pair}
 use Rattle.numbers.specs.Prime.{prime}
-use Rattle.numbers.specs.Value.{Value, field, conj, valueOf, pairOf, Small}
+use Rattle.numbers.specs.Value.{Value, field, valueOf, pairOf, Small}
 use Rattle.numbers.proofs.Values.{field-ring, pair-value, value-by}
 use Rattle.cell.specs.Volume.{groupOf}
-use Rattle.cell.specs.declared.operations.Index.{Index}
-use Rattle.cell.specs.Operations.{halvesOf, tripleOf, Length, Within}
+use Rattle.cell.specs.Operations.{Length}
 
 -- ---- the groups by their numbers
 

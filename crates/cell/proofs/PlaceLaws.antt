@@ -1,22 +1,21 @@
 -- The places that the code computes: the pair of an index lies in the volume, the numbers of a factor by kind, the plane of a point.
 use mathlib.Core.Path.{_≡_, refl, sym, _∙_, ap, ap₂, subst}
 use mathlib.Core.Logic.{_⊎_, inl, inr, ⊎-elim}
-use mathlib.Core.Bool.{Bool, true, false, _||_, _&&_, not, cond}
+use mathlib.Core.Bool.{Bool, true, false, _||_, not, cond}
 use mathlib.Core.List.{List, [], _∷_}
 use Prim.Native.Nat.{ℕ, zero, suc, _+_, _*_, _-_, _/_, _%_, _<_, _≤_, min}
 use native.Mathlib.Nat.{mul-le-mul}
 use native.Mathlib.Omega.{arith}
 use lib.ListN.{length, getD}
-use lib.Dec.{eqb, leb, ltb}
-use borrow.Author.Tests.{eq-eqb, ne-eqb, eqb-true, eqb-false, le-leb, lt-leb, lt-ltb, le-ltb}
+use lib.Dec.{eqb, leb}
+use borrow.Author.Tests.{eq-eqb, ne-eqb, eqb-true, eqb-false, lt-ltb, le-ltb}
 use Rattle.algebra.specs.Kinds.{Kind}
 use Rattle.algebra.specs.Cell.{J, Inside, Sym, Group, P1, P2₁, Pm, Pa, one, ops, negI, pim, planes, span, prep, planeSym}
 use Rattle.algebra.specs.CellPack.{even}
 use Rattle.algebra.proofs.Laws.{along}
-use Rattle.algebra.proofs.CellAxis.{neg-pos}
 use Rattle.algebra.proofs.CellSym.{pim-one}
 use Rattle.algebra.proofs.CellGroup.{prep-st}
-use Rattle.cell.specs.Volume.{groupOf, lineKind, layers, rows, columns, pairCount, volumeLength, pairPlace, mapPlace, pairNumbers, lineNumbers, numbersRead, densityPlace}
+use Rattle.cell.specs.Volume.{groupOf, lineKind, layers, rows, columns, volumeLength, pairPlace, mapPlace, pairNumbers, lineNumbers, numbersRead, densityPlace}
 use Rattle.cell.specs.declared.operations.Index.{Index}
 use Rattle.cell.specs.declared.places.Run.{Run}
 use Rattle.cell.specs.Operations.{halvesOf, tripleOf, Length, Sizes, Within}

@@ -3,15 +3,15 @@ use mathlib.Core.Path.{_≡_, refl, sym, _∙_, ap, ap₂, subst}
 use mathlib.Core.Logic.{_⊎_, inl, inr, ⊎-elim}
 use mathlib.Core.Bool.{Bool, true, false, _||_, _&&_, not, cond}
 use mathlib.Core.List.{List, [], _∷_}
-use Prim.Native.Nat.{ℕ, zero, suc, _+_, _*_, _-_, _/_, _%_, _<_, _≤_, min}
+use Prim.Native.Nat.{ℕ, zero, suc, _+_, _*_, _-_, _%_, _<_, _≤_, min}
 use native.Mathlib.Omega.{arith}
-use lib.ListN.{length, getD}
+use lib.ListN.{getD}
 use lib.Dec.{eqb, leb, ltb, ltb→lt}
 use borrow.Author.Tests.{eq-eqb, ne-eqb, le-leb, lt-leb}
 use Rattle.algebra.specs.Residue.{residues}
 use Rattle.algebra.specs.Gauss.{gauss}
 use Rattle.algebra.specs.Kinds.{Kind, Kind.alternating, Kind.symmetric, Kind.antisymmetric}
-use Rattle.algebra.specs.Cell.{J, Inside, Sym, Group, P1, P2₁, Pm, Pa, lineSym, negI, im, flip, span, imp}
+use Rattle.algebra.specs.Cell.{J, Inside, Sym, Group, P2₁, Pm, Pa, lineSym, negI, im, flip, span, imp}
 use Rattle.algebra.specs.CellPack.{even, ofPart}
 use Rattle.algebra.proofs.Bool.{and-l, and-r}
 use Rattle.algebra.proofs.Laws.{along}

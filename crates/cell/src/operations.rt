@@ -6,7 +6,7 @@
 use numbers::Pair;
 ghost use mathlib.Core.Path.{_≡_};
 ghost use mathlib.Core.Bool.{true, false};
-ghost use Prim.Native.Nat.{ℕ, _/_, _<_};
+ghost use Prim.Native.Nat.{_/_, _<_, _≤_};
 ghost use lib.ListN.{length, getD};
 ghost use Rattle.algebra.specs.Ring.{Ops};
 ghost use Rattle.algebra.specs.Cell.{Sym, one, friedel, _·_, ops, full, lineSym, xor, flip, turn, im, pim, sgn, imp};
@@ -97,7 +97,7 @@ fn with_friedel(o: Operation) -> Operation
 // How many operations an orbit has: the group's own, with and without Friedel's rule.
 pub fn operation_count(group: u32) -> u32
     requires { ⌜ group < 4 ⌝ }
-    ensures { λ r. ⌜ r ≡ length (full (groupOf group)) ⌝ }
+    ensures { λ r. ⌜ (r ≡ length (full (groupOf group))) × (r ≤ 4) ⌝ }
 {
     2 * group_order(group)
 }

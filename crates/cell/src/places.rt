@@ -4,7 +4,7 @@ use crate::operations;
 use crate::operations::Index;
 ghost use mathlib.Core.Path.{_≡_};
 ghost use mathlib.Core.Bool.{true, _&&_, _||_, not, cond};
-ghost use Prim.Native.Nat.{ℕ, _+_, _*_, _-_, _/_, _<_, _≤_, min};
+ghost use Prim.Native.Nat.{_+_, _*_, _-_, _/_, _<_, _≤_, min};
 ghost use lib.Dec.{eqb, leb};
 ghost use Rattle.algebra.specs.Cell.{P1, planes, span, negI, pim, prep};
 ghost use Rattle.algebra.specs.CellTests.{storedT};

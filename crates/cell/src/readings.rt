@@ -12,7 +12,7 @@ ghost use Rattle.algebra.specs.Cell.{P2₁, span};
 ghost use Rattle.numbers.specs.Prime.{prime, IsModulus};
 ghost use Rattle.numbers.specs.Value.{pairOf};
 ghost use Rattle.cell.specs.Volume.{groupOf, volumeLength, numbersRead, factorsIn};
-ghost use Rattle.cell.specs.Operations.{halvesOf, tripleOf, symOf, Sizes, Within};
+ghost use Rattle.cell.specs.Operations.{halvesOf, tripleOf, Sizes, Within};
 ghost use Rattle.cell.specs.Places.{run, allBelowAt, lineNumbersAt, lineFactor};
 
 // The numbers of a run are below p.

@@ -14,7 +14,7 @@ mul-result : tie.Need-mul-result
 mul-result c = omega (arith, c .group-order .ensures, order-most _ (c .before .pre))
 
 returns : tie.Need-returns
-returns c = ap (λ n. 2 * n) (c .group-order .ensures) ∙ full-length (c .before .args .group)
+returns c = (ap (λ n. 2 * n) (c .group-order .ensures) ∙ full-length (c .before .args .group), omega (arith, c .group-order .ensures, order-most _ (c .before .pre)))
 
 pub operation-count-spec : {M : Type 1} → statement M
 operation-count-spec = tie.close (tie.spec group-order-requires mul-result returns)

@@ -27,7 +27,7 @@ loop-holds : tie.Need-loop-holds Inv-loop μ-loop
 loop-holds c = agrees-start _ _ _ _ _
 
 operation-at-requires : tie.Need-operation-at-requires Inv-loop μ-loop
-operation-at-requires c κs = (c .before .before .before .pre .2 .known, subst (λ n. c .before .loop .i < n) (c .before .before .operation-count .ensures) (c .loop-test .taken))
+operation-at-requires c κs = (c .before .before .before .pre .2 .known, subst (λ n. c .before .loop .i < n) (c .before .before .operation-count .ensures .0) (c .loop-test .taken))
 
 agrees-under-requires : tie.Need-agrees-under-requires Inv-loop μ-loop
 agrees-under-requires c κs =
@@ -45,17 +45,17 @@ loop-again c =
     let u = c .before in
     let t = u .before .before in
     let l = t .before in
-    every-next _ (l .before .operation-count .ensures) _ _ (l .loop .inv) one (t .loop-test .taken) (u .before .operation-at .ensures) (u .agrees-under .ensures) (c .if1 .taken)
+    every-next _ (l .before .operation-count .ensures .0) _ _ (l .loop .inv) one (t .loop-test .taken) (u .before .operation-at .ensures) (u .agrees-under .ensures) (c .if1 .taken)
 
 returns : tie.Need-returns Inv-loop μ-loop
 returns c =
     let u = c .before in
     let t = u .before .before in
     let l = t .before in
-    every-stop _ (l .before .operation-count .ensures) _ _ (l .loop .inv) one (t .loop-test .taken) (u .before .operation-at .ensures) (u .agrees-under .ensures) (c .if1 .left)
+    every-stop _ (l .before .operation-count .ensures .0) _ _ (l .loop .inv) one (t .loop-test .taken) (u .before .operation-at .ensures) (u .agrees-under .ensures) (c .if1 .left)
 
 returns-2 : tie.Need-returns-2 Inv-loop μ-loop
-returns-2 c = every-end _ (c .before .before .operation-count .ensures) _ _ (c .before .loop .inv) (c .loop-test .left)
+returns-2 c = every-end _ (c .before .before .operation-count .ensures .0) _ _ (c .before .loop .inv) (c .loop-test .left)
 
 pub agrees-spec : {M : Type 1} → statement M
 agrees-spec =

@@ -34,7 +34,7 @@ loop-holds : tie.Need-loop-holds Inv-loop μ-loop
 loop-holds c = orbit-start _ _ _ _
 
 operation-at-requires : tie.Need-operation-at-requires Inv-loop μ-loop
-operation-at-requires c κs = (c .before .before .before .before .pre .0 .0 .known, subst (λ n. c .before .loop .i < n) (c .before .before .operation-count .ensures) (c .loop-test .taken))
+operation-at-requires c κs = (c .before .before .before .before .pre .0 .0 .known, subst (λ n. c .before .loop .i < n) (c .before .before .operation-count .ensures .0) (c .loop-test .taken))
 
 image-requires : tie.Need-image-requires Inv-loop μ-loop
 image-requires c κs =
@@ -56,16 +56,16 @@ loop-again : tie.Need-loop-again Inv-loop μ-loop
 loop-again c =
     let o = c .before .before .before in
     let l = o .before .before in
-    every-next _ (l .before .operation-count .ensures) _ _ (l .loop .inv) one (o .before .loop-test .taken) (o .operation-at .ensures) (told (c .before)) (c .if1 .taken)
+    every-next _ (l .before .operation-count .ensures .0) _ _ (l .loop .inv) one (o .before .loop-test .taken) (o .operation-at .ensures) (told (c .before)) (c .if1 .taken)
 
 returns : tie.Need-returns Inv-loop μ-loop
 returns c =
     let o = c .before .before .before in
     let l = o .before .before in
-    every-stop _ (l .before .operation-count .ensures) _ _ (l .loop .inv) one (o .before .loop-test .taken) (o .operation-at .ensures) (told (c .before)) (c .if1 .left)
+    every-stop _ (l .before .operation-count .ensures .0) _ _ (l .loop .inv) one (o .before .loop-test .taken) (o .operation-at .ensures) (told (c .before)) (c .if1 .left)
 
 returns-2 : tie.Need-returns-2 Inv-loop μ-loop
-returns-2 c = every-end _ (c .before .before .operation-count .ensures) _ _ (c .before .loop .inv) (c .loop-test .left)
+returns-2 c = every-end _ (c .before .before .operation-count .ensures .0) _ _ (c .before .loop .inv) (c .loop-test .left)
 
 pub orbit-free-spec : {M : Type 1} → statement M
 orbit-free-spec =

@@ -27,7 +27,7 @@ loop-holds : tie.Need-loop-holds Inv-loop μ-loop
 loop-holds c = (refl, refl)
 
 operation-at-requires : tie.Need-operation-at-requires Inv-loop μ-loop
-operation-at-requires c κs = (c .before .before .before .before .pre .0 .2 .known, subst (λ n. c .before .loop .number < n) (c .before .before .operation-count .ensures) (c .loop-test .taken))
+operation-at-requires c κs = (c .before .before .before .before .pre .0 .2 .known, subst (λ n. c .before .loop .number < n) (c .before .before .operation-count .ensures .0) (c .loop-test .taken))
 
 write-image-requires : tie.Need-write-image-requires Inv-loop μ-loop
 write-image-requires c κs =
@@ -46,7 +46,7 @@ loop-again c =
     let w = c .before .before in
     let o = w .before .before in
     let l = o .before .before in
-    (images-next _ _ _ _ _ _ (l .before .operation-count .ensures) _ _ (l .loop .inv .0) (o .before .loop-test .taken) (o .operation-at .ensures) (w .write-image .ensures), omega arith)
+    (images-next _ _ _ _ _ _ (l .before .operation-count .ensures .0) _ _ (l .loop .inv .0) (o .before .loop-test .taken) (o .operation-at .ensures) (w .write-image .ensures), omega arith)
 
 same-length : tie.Need-same-length Inv-loop μ-loop
 same-length c = omega arith
@@ -54,7 +54,7 @@ same-length c = omega arith
 returns : tie.Need-returns Inv-loop μ-loop
 returns c =
     let l = c .before in
-    images-end _ _ _ _ _ _ (l .before .operation-count .ensures) _ _ (l .loop .inv .0) (c .loop-test .left)
+    images-end _ _ _ _ _ _ (l .before .operation-count .ensures .0) _ _ (l .loop .inv .0) (c .loop-test .left)
 
 pub write-images-spec : {M : Type 1} → statement M
 write-images-spec =

@@ -73,9 +73,6 @@ unchanged j v n = record { answer = refused n; job = j; volume = v }
 abbrev pub within : (lengths x : J) → Bool
 within n x = ltb (x .0) (n .0) && (ltb (x .1) (n .1) && ltb (x .2) (n .2))
 
-abbrev pub inside : Job → J → Bool
-inside j x = within (headerOf j .lengths) x
-
 abbrev pub index : Reflection → J
 index at = (at .0, at .1, at .2)
 
@@ -86,17 +83,20 @@ abbrev pub fits : Job → List ℕ → Bool
 fits j v = eqb (length v) (volumeLength (groupIn j) (halves j))
 
 -- Record: 25, 21, 10, 7, 11, 12, 6, 24.
-abbrev pub recordTests : Job → J → (x y : ℕ) → List ℕ → List Test
-recordTests j at x y v =
-    not (validJob j) ⇒ 25 ∷
-    not (eqb (j .state) collecting) ⇒ 21 ∷
-    not (inside j at) ⇒ 10 ∷
+abbrev pub recordTestsOf : (valid : Bool) (state group : ℕ) (lengths at : J) (x y : ℕ) → List ℕ → List Test
+recordTestsOf valid state group n at x y v =
+    not valid ⇒ 25 ∷
+    not (eqb state collecting) ⇒ 21 ∷
+    not (within n at) ⇒ 10 ∷
     not (ltb x p && ltb y p) ⇒ 7 ∷
     (eqb x 0 && eqb y 0) ⇒ 11 ∷
-    not (agreesWithItself (groupIn j) (halves j) 1 at (value 1 x y)) ⇒ 12 ∷
-    not (fits j v) ⇒ 6 ∷
-    not (orbitFree (groupIn j) (halves j) v at) ⇒ 24 ∷
+    not (agreesWithItself (groupOf group) (halvesOf n) 1 at (value 1 x y)) ⇒ 12 ∷
+    not (eqb (length v) (volumeLength (groupOf group) (halvesOf n))) ⇒ 6 ∷
+    not (orbitFree (groupOf group) (halvesOf n) v at) ⇒ 24 ∷
     []
+
+abbrev pub recordTests : Job → J → (x y : ℕ) → List ℕ → List Test
+recordTests j at x y v = recordTestsOf (validJob j) (j .state) (j .group) (headerOf j .lengths) at x y v
 
 unfoldable pub recordStep : Job → Reflection → (x y : ℕ) → List ℕ → Outcome
 recordStep j at x y v =
@@ -169,14 +169,17 @@ pointStep j at v =
     (unchanged j v)
 
 -- Reading a factor: 25, 23, 10, 6, 7 (of the numbers read only).
-abbrev pub factorTests : Job → J → List ℕ → List Test
-factorTests j at v =
-    not (validJob j) ⇒ 25 ∷
-    eqb (j .state) mapHeld ⇒ 23 ∷
-    not (inside j at) ⇒ 10 ∷
-    not (fits j v) ⇒ 6 ∷
-    not (all (λ q. ltb (getD v q 0) p) (numbersRead (groupIn j) (halves j) at)) ⇒ 7 ∷
+abbrev pub factorTestsOf : (valid : Bool) (state group : ℕ) (lengths at : J) → List ℕ → List Test
+factorTestsOf valid state group n at v =
+    not valid ⇒ 25 ∷
+    eqb state mapHeld ⇒ 23 ∷
+    not (within n at) ⇒ 10 ∷
+    not (eqb (length v) (volumeLength (groupOf group) (halvesOf n))) ⇒ 6 ∷
+    not (all (λ q. ltb (getD v q 0) p) (numbersRead (groupOf group) (halvesOf n) at)) ⇒ 7 ∷
     []
+
+abbrev pub factorTests : Job → J → List ℕ → List Test
+factorTests j at v = factorTestsOf (validJob j) (j .state) (j .group) (headerOf j .lengths) at v
 
 unfoldable pub factorStep : Job → Reflection → List ℕ → Outcome
 factorStep j k v =

@@ -7,6 +7,8 @@ pub mod valid; // valid.rt: which jobs an opening or a later call could have mad
 pub mod tests; // tests.rt: tests that several calls share
 pub mod open; // open.rt: the opening
 pub mod point; // point.rt: the reading of a point
+pub mod factor; // factor.rt: the reading of a structure factor
+pub mod record; // record.rt: the recording of a structure factor
 
 use line::Refusal;
 

@@ -1,0 +1,41 @@
+-- A structure factor that is read or recorded: what either call answers and leaves, refused or accepted.
+use mathlib.Core.Path.{_≡_, refl, _∙_, ap}
+use mathlib.Core.List.{List}
+use Prim.Native.Nat.{ℕ}
+use Rattle.numbers.specs.declared.Pair.{Pair}
+use Rattle.numbers.specs.Value.{value, valueOf, pairOf}
+use Rattle.line.specs.declared.Refusal.{Refusal}
+use Rattle.line.specs.Refusals.{numberOf}
+use Rattle.line.specs.Tests.{first}
+use Rattle.line.proofs.Tests.{fails, passes}
+use Rattle.cell.specs.Volume.{factorsIn}
+use Rattle.cell.specs.Consistency.{recordOn}
+use Rattle.job.specs.declared.Job.{Job}
+use Rattle.job.specs.declared.Reflection.{Reflection}
+use Rattle.job.specs.declared.Answer.the-variants.{Done, Refused}
+use Rattle.job.specs.Header.{groupIn, halves}
+use Rattle.job.specs.Steps.{index, factorTests, factorStep, recordTests, recordStep, unchanged, factor, refused, Outcome}
+use Rattle.job.specs.Said.{outcome}
+
+-- the value of two numbers is that of their pair
+pub pair-of-numbers : (x y : ℕ) → valueOf 1 (record { re = x; im = y }) ≡ value 1 x y
+unfolding valueOf
+pair-of-numbers x y = refl
+
+module _ (j : Job) (at : Reflection) (v : List ℕ) where
+  pub factor-refused : (r : Refusal) → numberOf r ≡ first (factorTests j (index at) v) → refused (numberOf r) ≡ (factorStep j at v) .answer
+  unfolding factorStep
+  factor-refused r e = ap (λ (o : Outcome). o .answer) (fails r _ _ (unchanged j v) e)
+
+  pub factor-read : (x : Pair) → 0 ≡ first (factorTests j (index at) v) → x ≡ pairOf (factorsIn (groupIn j) (halves j) 1 v (at .0) (at .1) (at .2)) → factor (x .re) (x .im) ≡ (factorStep j at v) .answer
+  unfolding factorStep pairOf
+  factor-read x e s = ap (λ (z : Pair). factor (z .re) (z .im)) s ∙ ap (λ (o : Outcome). o .answer) (passes _ _ (unchanged j v) e)
+
+  module _ (x y : ℕ) where
+    pub record-refused : (r : Refusal) → numberOf r ≡ first (recordTests j (index at) x y v) → outcome (record { answer = Refused r; job = j }) v ≡ recordStep j at x y v
+    unfolding recordStep
+    record-refused r e = fails r _ _ (unchanged j v) e
+
+    pub record-written : (v′ : List ℕ) → 0 ≡ first (recordTests j (index at) x y v) → v′ ≡ recordOn (groupIn j) (halves j) 1 (index at) (valueOf 1 (record { re = x; im = y })) v → outcome (record { answer = Done; job = j }) v′ ≡ recordStep j at x y v
+    unfolding recordStep
+    record-written v′ e s = ap (λ (w : List ℕ). outcome (record { answer = Done; job = j }) w) (s ∙ ap (λ z. recordOn (groupIn j) (halves j) 1 (index at) z v) (pair-of-numbers x y)) ∙ passes _ _ (unchanged j v) e

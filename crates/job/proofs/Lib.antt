@@ -3,3 +3,4 @@ pub mod Digits
 pub mod Jobs
 pub mod Openings
 pub mod Points
+pub mod Transforms

@@ -7,6 +7,7 @@ pub mod valid; // valid.rt: which jobs an opening or a later call could have mad
 pub mod tests; // tests.rt: tests that several calls share
 pub mod open; // open.rt: the opening
 pub mod point; // point.rt: the reading of a point
+pub mod synthesis; // synthesis.rt: from factors to the map
 
 use line::Refusal;
 

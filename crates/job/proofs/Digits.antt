@@ -2,12 +2,12 @@
 use mathlib.Core.Path.{_≡_, refl, _∙_, sym, ap}
 use mathlib.Core.Bool.{Bool, true, false, _&&_, cond}
 use mathlib.Core.List.{List, [], _∷_}
-use Prim.Native.Nat.{ℕ, zero, suc, _*_, _/_, _%_, _≤_, _<_}
+use Prim.Native.Nat.{ℕ, zero, suc, _+_, _*_, _/_, _%_, _≤_, _<_}
 use native.Mathlib.Nat.{mul-le-mul, not-suc-le-zero}
 use native.Mathlib.Omega.{arith}
 use lib.Dec.{leb, eqb}
 use borrow.Author.Tests.{ne-eqb, le-leb, lt-leb}
-use Rattle.plain.specs.Factors.{product}
+use Rattle.plain.specs.Factors.{product, octal}
 use Rattle.line.specs.Lengths.{isFactor, factorsOk, digits, octalDigits}
 use Rattle.line.proofs.Factors.{factors-cons, product-positive}
 
@@ -83,3 +83,21 @@ product-at-least f n d e p =
 pub product-ends : (f n d : ℕ) → n ≡ 0 → product (octalDigits f) ≡ d * product (octalDigits n) → product (octalDigits f) ≡ d
 unfolding product digits
 product-ends f n d z p = p ∙ ap (λ (k : ℕ). d * product (octalDigits k)) z ∙ omega arith
+
+-- ---- the digits of a number give it back
+
+octal-of-count : (c n : ℕ) → n ≤ c → octal (digits 8 c n) ≡ n
+unfolding digits octal
+octal-of-count zero zero h = refl
+octal-of-count zero (suc n) h = absurd (not-suc-le-zero h)
+octal-of-count (suc c) zero h = refl
+octal-of-count (suc c) (suc n) h =
+    let e : octal (digits 8 c (suc n / 8)) ≡ suc n / 8 = octal-of-count c (suc n / 8) (omega arith) in
+    let f : suc n % 8 + 8 * octal (digits 8 c (suc n / 8)) ≡ suc n = omega (arith, e) in
+    ap (λ (b : Bool). octal (cond b [] (suc n % 8 ∷ digits 8 c (suc n / 8)))) (ne-eqb (suc n) 0 (not-zero n)) ∙ f
+  where
+    not-zero : (n : ℕ) → suc n ≡ 0 → ⊥
+    not-zero n q = omega arith
+
+pub octal-of-digits : (n : ℕ) → octal (octalDigits n) ≡ n
+octal-of-digits n = octal-of-count n n (omega arith)

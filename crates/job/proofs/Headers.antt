@@ -8,11 +8,12 @@ use native.Mathlib.Omega.{arith}
 use lib.Dec.{eqb}
 use borrow.Author.Tests.{not-false, eqb-true}
 use Rattle.algebra.specs.Cell.{planes}
-use Rattle.plain.specs.Factors.{product}
+use Rattle.plain.specs.Factors.{product, octal}
 use Rattle.line.specs.Tests.{first}
 use Rattle.line.specs.Lengths.{admitted, factorsOk}
 use Rattle.line.proofs.Tests.{both, by-true, by-false, Passed, passed}
-use Rattle.line.proofs.Accepted.{admitted-length}
+use Rattle.line.specs.Accepted.{AdmittedLength, FactorList}
+use Rattle.line.proofs.Accepted.{admitted-length, factor-list}
 use Rattle.cell.specs.Operations.{halvesOf, Length, Sizes}
 use Rattle.cell.specs.Volume.{groupOf, volumeLength}
 use Rattle.cell.proofs.StoredFactors.{layers-most}
@@ -67,12 +68,28 @@ sizes-of {n1 = n1} {n2} {n3} k e =
 
 -- ---- what is known of a header that no test refuses
 
+pub record Sound (n : ℕ) (l : List ℕ) : Type 0 where
+  pub size : AdmittedLength n
+  pub list : FactorList n (octal l)
+
+sound-axis : {n : ℕ} {l : List ℕ} → admitted n ≡ true → factorsOk l ≡ true → eqb (product l) (n / 2) ≡ true → Sound n l
+sound-axis {n} {l} a f q = record { size = admitted-length n a; list = factor-list l (admitted-length n a) f (eqb-true _ _ q) }
+
 module _ (h : Header) (none : 0 ≡ first (axisTests h)) where
   tests : Passed (axisTests h)
   tests = passed (axisTests h) tt none
 
   pub sound-sizes : h .group < 4 → Sizes (h .group) (h .lengths .0) (h .lengths .1) (h .lengths .2)
   sound-sizes k = sizes-of k (not-false _ (tests .0))
+
+  -- each length is admitted, and each list is one of its half
+  pub sound-axes : Sound (h .lengths .0) (h .list1) × Sound (h .lengths .1) (h .list2) × Sound (h .lengths .2) (h .list3)
+  sound-axes =
+      let n = h .lengths in
+      let a = all-three (admitted (n .0)) (admitted (n .1)) (admitted (n .2)) (not-false _ (tests .0)) in
+      let f = all-three (factorsOk (h .list1)) (factorsOk (h .list2)) (factorsOk (h .list3)) (not-false _ (tests .1 .0)) in
+      let q = all-three (eqb (product (h .list1)) (n .0 / 2)) (eqb (product (h .list2)) (n .1 / 2)) (eqb (product (h .list3)) (n .2 / 2)) (not-false _ (tests .1 .1 .0)) in
+      (sound-axis (a .0) (f .0) (q .0), sound-axis (a .1) (f .1) (q .1), sound-axis (a .2) (f .2) (q .2))
 
   pub sound-lists : ((factorsOk (h .list1) ≡ true) × (product (h .list1) ≤ 1440)) × ((factorsOk (h .list2) ≡ true) × (product (h .list2) ≤ 1440)) × ((factorsOk (h .list3) ≡ true) × (product (h .list3) ≤ 1440))
   sound-lists =

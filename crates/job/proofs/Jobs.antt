@@ -1,15 +1,20 @@
 -- Which jobs are valid, from the tests of their numbers.
-use mathlib.Core.Path.{_≡_, sym, ap, _∙_}
+use mathlib.Core.Path.{_≡_, sym, ap, subst, _∙_}
 use mathlib.Core.Bool.{Bool, true, false, _&&_, not}
 use Prim.Native.Nat.{ℕ, _≤_, _<_}
 use lib.Dec.{ltb, eqb}
 use borrow.Author.Tests.{lt-ltb, le-ltb, ltb-true, eq-eqb, ne-eqb, eqb-true}
+use Rattle.plain.specs.Factors.{octal}
 use Rattle.line.specs.Tests.{first}
+use Rattle.line.specs.Lengths.{octalDigits}
+use Rattle.line.specs.Accepted.{FactorList}
 use Rattle.line.proofs.Tests.{by-true, by-false}
 use Rattle.cell.specs.Operations.{Sizes}
+use Rattle.cell.specs.Passes.{JobSizes}
 use Rattle.job.specs.Header.{axisTests, headerOf, validJob}
 use Rattle.job.specs.declared.Job.{Job}
-use Rattle.job.proofs.Headers.{all-three, sound-sizes}
+use Rattle.job.proofs.Headers.{all-three, sound-sizes, sound-axes}
+use Rattle.job.proofs.Digits.{octal-of-digits}
 
 -- a number that is not 0 refuses, 0 does not
 pub refused-at : (n m : ℕ) → (n ≡ 0 → ⊥) → n ≡ m → false ≡ eqb m 0
@@ -39,6 +44,25 @@ module _ (j : Job) where
   valid-sizes e =
       let t = all-three (ltb (j .group) 4) headerOk (ltb (j .state) 3) e in
       sound-sizes (headerOf j) (sym (eqb-true _ _ (t .1))) (ltb-true _ _ (t .0))
+
+  -- .. and what its lines are lent
+  pub valid-job-sizes : validJob j ≡ true → JobSizes (j .group) (j .a .length) (j .b .length) (j .c .length) (j .a .factors) (j .b .factors) (j .c .factors)
+  unfolding validJob
+  valid-job-sizes e =
+      let t = all-three (ltb (j .group) 4) headerOk (ltb (j .state) 3) e in
+      let s = sound-axes (headerOf j) (sym (eqb-true _ _ (t .1))) in
+      record {
+        sizes = valid-sizes e;
+        first = s .0 .size;
+        second = s .1 .size;
+        third = s .2 .size;
+        first-list = listed (j .a .length) (j .a .factors) (s .0 .list);
+        second-list = listed (j .b .length) (j .b .factors) (s .1 .list);
+        third-list = listed (j .c .length) (j .c .factors) (s .2 .list);
+      }
+    where
+      listed : (n f : ℕ) → FactorList n (octal (octalDigits f)) → FactorList n f
+      listed n f l = subst (FactorList n) (octal-of-digits f) l
 
   pub valid-state : {r : Bool} → j .group < 4 → r ≡ headerOk → not r ≡ false → ltb (j .state) 3 ≡ validJob j
   unfolding validJob

@@ -4,3 +4,4 @@ pub mod Jobs
 pub mod Openings
 pub mod Points
 pub mod Reflections
+pub mod Transforms

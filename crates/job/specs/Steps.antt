@@ -110,15 +110,18 @@ pub record Worked : Type 0 where
   pub scratch : List ℕ
 
 -- Synthesis: 25, 23, 6, 13, 7, 14.
-abbrev pub synthesisTests : Job → (v : List ℕ) (scratch : ℕ) → List Test
-synthesisTests j v scratch =
-    not (validJob j) ⇒ 25 ∷
-    eqb (j .state) mapHeld ⇒ 23 ∷
-    not (fits j v) ⇒ 6 ∷
+abbrev pub synthesisTestsOf : (valid : Bool) (state group : ℕ) (lengths : J) (v : List ℕ) (scratch : ℕ) → List Test
+synthesisTestsOf valid state group n v scratch =
+    not valid ⇒ 25 ∷
+    eqb state mapHeld ⇒ 23 ∷
+    not (eqb (length v) (volumeLength (groupOf group) (halvesOf n))) ⇒ 6 ∷
     ltb scratch scratchLength ⇒ 13 ∷
     not (allBelow p v) ⇒ 7 ∷
-    not (consistentFactors (groupIn j) (halves j) 1 v) ⇒ 14 ∷
+    not (consistentFactors (groupOf group) (halvesOf n) 1 v) ⇒ 14 ∷
     []
+
+abbrev pub synthesisTests : Job → (v : List ℕ) (scratch : ℕ) → List Test
+synthesisTests j v scratch = synthesisTestsOf (validJob j) (j .state) (j .group) (headerOf j .lengths) v scratch
 
 abbrev pub synthesised : Job → List ℕ → List ℕ
 synthesised j v = packMap (groupIn j) (halves j) 1 (mapOf 1 (halves j) (factorsIn (groupIn j) (halves j) 1 v))
@@ -130,15 +133,18 @@ synthesisStep j v scratch =
     (λ n. record { outcome = unchanged j v n; scratch = scratch })
 
 -- Analysis: 25, 22, 6, 13, 7, 14.
-abbrev pub analysisTests : Job → (v : List ℕ) (scratch : ℕ) → List Test
-analysisTests j v scratch =
-    not (validJob j) ⇒ 25 ∷
-    not (eqb (j .state) mapHeld) ⇒ 22 ∷
-    not (fits j v) ⇒ 6 ∷
+abbrev pub analysisTestsOf : (valid : Bool) (state group : ℕ) (lengths : J) (v : List ℕ) (scratch : ℕ) → List Test
+analysisTestsOf valid state group n v scratch =
+    not valid ⇒ 25 ∷
+    not (eqb state mapHeld) ⇒ 22 ∷
+    not (eqb (length v) (volumeLength (groupOf group) (halvesOf n))) ⇒ 6 ∷
     ltb scratch scratchLength ⇒ 13 ∷
     not (allBelow p v) ⇒ 7 ∷
-    not (consistentMap (groupIn j) (halves j) v) ⇒ 14 ∷
+    not (consistentMap (groupOf group) (halvesOf n) v) ⇒ 14 ∷
     []
+
+abbrev pub analysisTests : Job → (v : List ℕ) (scratch : ℕ) → List Test
+analysisTests j v scratch = analysisTestsOf (validJob j) (j .state) (j .group) (headerOf j .lengths) v scratch
 
 abbrev pub analysed : Job → List ℕ → List ℕ
 analysed j v = packFactors (groupIn j) (halves j) 1 (factorsOf 1 (halves j) (mapIn (groupIn j) (halves j) 1 v))

@@ -9,6 +9,7 @@ pub mod open; // open.rt: the opening
 pub mod point; // point.rt: the reading of a point
 pub mod factor; // factor.rt: the reading of a structure factor
 pub mod record; // record.rt: the recording of a structure factor
+pub mod synthesis; // synthesis.rt: from factors to the map
 
 use line::Refusal;
 

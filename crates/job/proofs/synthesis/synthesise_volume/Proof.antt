@@ -1,0 +1,72 @@
+-- The tables are those of the root, and the scratch is cleared of what the lines left there.
+use borrow.Author.Needs.{needs}
+use native.Mathlib.Omega.{arith}
+use mathlib.Core.Path.{_≡_, _∙_, ap}
+use mathlib.Core.List.{List, _++_}
+use Prim.Native.Nat.{ℕ}
+use lib.ListN.{replicate}
+use Rattle.numbers.specs.Prime.{IsModulus}
+use Rattle.line.specs.Lengths.{cleared}
+use Rattle.line.proofs.Tables.{forward-tables}
+use Rattle.job.proofs.synthesis.synthesise_volume.Statement.{statement}
+use Rattle.job.proofs.synthesis.synthesise_volume.Tie as tie
+
+first-modulus : IsModulus 1
+first-modulus = record { low = omega arith; high = omega arith }
+
+real-parts-requires : tie.Need-real-parts-requires
+real-parts-requires c κs = search needs
+
+imaginary-parts-requires : tie.Need-imaginary-parts-requires
+imaginary-parts-requires c κs = search needs
+
+half-tangents-requires : tie.Need-half-tangents-requires
+half-tangents-requires c κs = search needs
+
+slice-aggregate-synthesise : tie.Need-slice-aggregate-synthesise
+slice-aggregate-synthesise c = search needs
+
+slice-aggregate-synthesise-2 : tie.Need-slice-aggregate-synthesise-2
+slice-aggregate-synthesise-2 c = search needs
+
+synthesise-requires : tie.Need-synthesise-requires
+synthesise-requires c κs =
+    let h = c .before .before .before .before .before .before .before in
+    let s = h .before .before .before .before .before in (
+      (first-modulus, forward-tables first-modulus (h .before .before .real-parts .ensures) (h .before .imaginary-parts .ensures) (h .half-tangents .ensures), s .pre .0),
+      (s .pre .1 .0, (s .pre .1 .1 .0, record { scratch-fits = s .pre .1 .1 .1; fold-fits = omega arith; work-fits = omega arith })),
+    )
+
+clear-requires : tie.Need-clear-requires
+clear-requires c κs =
+    let t = c .before .before .before .before in
+    let s = t .before .before .before .before .before .before .before .before .before .before .before .before .before .before .before .before in
+    omega (arith, t .scratch .given, s .pre .1 .1 .1)
+
+same-length : tie.Need-same-length
+same-length c = search needs
+
+same-length-2 : tie.Need-same-length-2
+same-length-2 c = search needs
+
+returns : tie.Need-returns
+unfolding cleared
+returns c =
+    let k = c .before .before in
+    let t = k .before .before .before .before .before .before .before .before in
+    (t .synthesise .ensures .0, k .clear .ensures ∙ ap (λ (s : List ℕ). replicate 11520 0 ++ s) (t .synthesise .ensures .1))
+
+pub synthesise-volume-spec : {M : Type 1} → statement M
+synthesise-volume-spec =
+    tie.close
+    (tie.spec
+    real-parts-requires
+    imaginary-parts-requires
+    half-tangents-requires
+    slice-aggregate-synthesise
+    slice-aggregate-synthesise-2
+    synthesise-requires
+    clear-requires
+    same-length
+    same-length-2
+    returns)

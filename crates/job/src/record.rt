@@ -71,7 +71,15 @@ fn check_record(
     if both_zero(a, b) {
         return Checked::Failed(Refusal::ZeroValue);
     }
-    if !recording::agrees(1, group, n1, n2, n3, Index { h, k, l }, Pair { re: a, im: b }) {
+    if !recording::agrees(
+        1,
+        group,
+        n1,
+        n2,
+        n3,
+        Index { h, k, l },
+        Pair { re: a, im: b },
+    ) {
         return Checked::Failed(Refusal::Contradiction);
     }
     if !tests::fits(group, n1, n2, n3, volume) {
@@ -85,7 +93,7 @@ fn check_record(
 
 impl Job {
     // The value a + b i goes to its index, and what it implies to the images that are stored.
-    pub fn record(self, at: Reflection, a: u32, b: u32, volume: &mut [u32]) -> Answered
+    pub fn record(mut self, at: Reflection, a: u32, b: u32, volume: &mut [u32]) -> Answered
         ensures { λ r. ⌜ outcome r (now (volume .exit)) ≡ recordStep self at a b (now (volume .entry)) ⌝ }
     {
         let group = self.group;

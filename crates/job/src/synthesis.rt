@@ -1,5 +1,9 @@
-// Synthesis, the factors of a job become its map: its check and its work.
+// Synthesis: the factors of a job become its map.
+use crate::Answer;
+use crate::Answered;
+use crate::Job;
 use crate::tests;
+use crate::valid;
 use cell::factor_test;
 use cell::passes;
 use line::Checked;
@@ -17,10 +21,11 @@ ghost use Rattle.cell.specs.Volume.{groupOf, volumeLength, factorsIn, packMap};
 ghost use Rattle.cell.specs.Consistency.{consistentFactors};
 ghost use Rattle.cell.specs.Sums.{mapOf};
 ghost use Rattle.cell.specs.Passes.{JobSizes};
-ghost use Rattle.job.specs.Steps.{synthesisTestsOf};
+ghost use Rattle.job.specs.Steps.{synthesisTestsOf, synthesisStep};
+ghost use Rattle.job.specs.Said.{worked};
 
 // 25, 23, 6, 13, 7, 14.
-pub fn check_synthesis(
+fn check_synthesis(
     valid: bool,
     state: u32,
     group: u32,
@@ -56,7 +61,7 @@ pub fn check_synthesis(
 }
 
 // The work of an accepted call. The tables are made once, and lent down.
-pub fn synthesise_volume(
+fn synthesise_volume(
     group: u32,
     n1: u32,
     f1: u32,
@@ -96,4 +101,46 @@ pub fn synthesise_volume(
         &mut work,
     );
     slices::clear(scratch, 11520);
+}
+
+impl Job {
+    // The factors that the volume holds become the map that they stand for; a refused call changes nothing.
+    pub fn synthesis(mut self, volume: &mut [u32], scratch: &mut [u32]) -> Answered
+        ensures { λ r. ⌜ worked r (now (volume .exit)) (now (scratch .exit)) ≡ synthesisStep self (now (volume .entry)) (now (scratch .entry)) ⌝ }
+    {
+        let checked = check_synthesis(
+            valid::valid_job(self),
+            self.state,
+            self.group,
+            self.a.length,
+            self.b.length,
+            self.c.length,
+            &volume[..],
+            scratch.len(),
+        );
+        match checked {
+            Checked::Failed(refusal) => Answered {
+                answer: Answer::Refused(refusal),
+                job: self,
+            },
+            Checked::Sound => {
+                synthesise_volume(
+                    self.group,
+                    self.a.length,
+                    self.a.factors,
+                    self.b.length,
+                    self.b.factors,
+                    self.c.length,
+                    self.c.factors,
+                    volume,
+                    scratch,
+                );
+                self.state = 2;
+                Answered {
+                    answer: Answer::Done,
+                    job: self,
+                }
+            }
+        }
+    }
 }

@@ -1,4 +1,4 @@
--- The outcome of a synthesis, refused or accepted, as the call's own parts have it.
+-- The outcome of a synthesis or an analysis, refused or accepted, as the call's own parts have it.
 use mathlib.Core.Path.{_≡_}
 use mathlib.Core.List.{List}
 use Prim.Native.Nat.{ℕ}
@@ -10,8 +10,8 @@ use Rattle.line.specs.Lengths.{cleared}
 use Rattle.line.proofs.Tests.{fails}
 use Rattle.job.specs.declared.Job.{Job}
 use Rattle.job.specs.declared.Answer.the-variants.{Done, Refused}
-use Rattle.job.specs.Header.{withState, mapHeld}
-use Rattle.job.specs.Steps.{synthesisTests, synthesised, synthesisStep, unchanged}
+use Rattle.job.specs.Header.{withState, factorsHeld, mapHeld}
+use Rattle.job.specs.Steps.{synthesisTests, synthesised, synthesisStep, analysisTests, analysed, analysisStep, unchanged}
 use Rattle.job.specs.Said.{worked}
 
 module _ (j : Job) (v scratch : List ℕ) where
@@ -23,3 +23,12 @@ module _ (j : Job) (v scratch : List ℕ) where
       worked (record { answer = Done; job = withState j mapHeld }) v′ scratch′ ≡ synthesisStep j v scratch
   unfolding synthesisStep
   synthesis-done v′ scratch′ e l s = rw (← e, l, s)
+
+  pub analysis-refused : (r : Refusal) → numberOf r ≡ first (analysisTests j v (length scratch)) → worked (record { answer = Refused r; job = j }) v scratch ≡ analysisStep j v scratch
+  unfolding analysisStep
+  analysis-refused r e = fails r _ _ (λ n. record { outcome = unchanged j v n; scratch = scratch }) e
+
+  pub analysis-done : (v′ scratch′ : List ℕ) → 0 ≡ first (analysisTests j v (length scratch)) → v′ ≡ analysed j v → scratch′ ≡ cleared scratch →
+      worked (record { answer = Done; job = withState j factorsHeld }) v′ scratch′ ≡ analysisStep j v scratch
+  unfolding analysisStep
+  analysis-done v′ scratch′ e l s = rw (← e, l, s)

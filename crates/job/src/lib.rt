@@ -10,6 +10,7 @@ pub mod point; // point.rt: the reading of a point
 pub mod factor; // factor.rt: the reading of a structure factor
 pub mod record; // record.rt: the recording of a structure factor
 pub mod synthesis; // synthesis.rt: from factors to the map
+pub mod analysis; // analysis.rt: from the map to its factors
 
 use line::Refusal;
 

@@ -1,0 +1,546 @@
+"""Jobs by brute force: what the test programs' expected output is computed with.
+
+It works on whole cells: factors are a table over every (h, k, l), orbits are enumerated, maps are triple sums over all factors, and packed
+factors are consistent if the cell read from them obeys every rule and packs to the same numbers. It never folds a line and shares no code
+with the crates.
+"""
+P = 86399
+SCRATCH = 11520
+LIMIT = 16777216
+
+
+# ---- values a + b i
+
+def mul(x, y):
+    return ((x[0] * y[0] - x[1] * y[1]) % P, (x[0] * y[1] + x[1] * y[0]) % P)
+
+
+def add(x, y):
+    return ((x[0] + y[0]) % P, (x[1] + y[1]) % P)
+
+
+def neg(x):
+    return (-x[0] % P, -x[1] % P)
+
+
+def conj(x):
+    return (x[0], -x[1] % P)
+
+
+def find_root():
+    """((a + i)/(a - i))^30 for the least a for which it has order exactly 2,880 and its 720th power is -i."""
+    a = 1
+    while True:
+        n = pow(a * a + 1, P - 2, P)
+        q = mul(mul((a, 1), (a, 1)), (n, 0))
+        r = (1, 0)
+        for _ in range(30):
+            r = mul(r, q)
+        powers = [(1, 0)]
+        while True:
+            x = mul(powers[-1], r)
+            if x == (1, 0) or len(powers) > 2880:
+                break
+            powers.append(x)
+        if len(powers) == 2880 and powers[720] == (0, P - 1):
+            return powers
+        a += 1
+
+
+ROOT = find_root()
+
+
+def e(k, n):
+    return ROOT[2880 // n * k % 2880]
+
+
+# ---- groups: an operation takes (h, k, l) to an image and the value there
+
+def operations(g, n):
+    n1, n2, n3 = n
+    ops = [lambda j, v: (j, v)]
+    if g == 1:
+        ops.append(lambda j, v: ((-j[0] % n1, -j[1] % n2, j[2]), neg(v) if j[2] % 2 else v))
+    if g == 2:
+        ops.append(lambda j, v: ((j[0], j[1], -j[2] % n3), v))
+    if g == 3:
+        ops.append(lambda j, v: ((j[0], j[1], -j[2] % n3), neg(v) if j[0] % 2 else v))
+    return ops
+
+
+def images(g, n, j, v):
+    """Every image of a factor, with Friedel's rule."""
+    out = []
+    for op in operations(g, n):
+        i, w = op(j, v)
+        out.append((i, w))
+        out.append((tuple(-c % m for c, m in zip(i, n)), conj(w)))
+    return out
+
+
+def point_images(g, n, x):
+    n1, n2, n3 = n
+    out = [x]
+    if g == 1:
+        out.append((-x[0] % n1, -x[1] % n2, (x[2] + n3 // 2) % n3))
+    if g == 2:
+        out.append((x[0], x[1], -x[2] % n3))
+    if g == 3:
+        out.append(((x[0] + n1 // 2) % n1, x[1], -x[2] % n3))
+    return out
+
+
+def planes(g, n):
+    a = n[2] // 2
+    return [n[2], a, a + 1, a + 1][g]
+
+
+def volume_length(g, n):
+    return 2 * planes(g, n) * n[0] * (n[1] // 2 + 1)
+
+
+def all_points(n):
+    return [(x, y, z) for x in range(n[0]) for y in range(n[1]) for z in range(n[2])]
+
+
+# ---- where a factor stands: a list of (place, part) for k up to B; part 0 or 1; nothing for a known zero
+
+def standing(g, n, j):
+    h, k, l = j
+    b1 = n[1] // 2 + 1
+    a = n[2] // 2
+
+    def pair(w):
+        return 2 * ((w * n[0] + h) * b1 + k)
+
+    if g == 0:
+        return [(pair(l), 0), (pair(l) + 1, 1)]
+    if g == 1:
+        if l == 0:
+            return [(pair(0), 0)]
+        if l == a:
+            return [(pair(0) + 1, a % 2)]
+    if g == 3 and h % 2 and l in (0, a):
+        return []
+    return [(pair(l), 0), (pair(l) + 1, 1)]
+
+
+def along_l(g, n, j, value):
+    """The rule of a line: the value at (h, k, -l) from that at (h, k, l)."""
+    if g == 1:
+        w = conj(value)
+        return neg(w) if j[2] % 2 else w
+    if g == 3 and j[0] % 2:
+        return neg(value)
+    return value
+
+
+def read_factor(g, n, v, j):
+    """A factor and the places of the numbers read."""
+    h, k, l = j
+    if k > n[1] // 2:
+        x, places = read_factor(g, n, v, tuple(-c % m for c, m in zip(j, n)))
+        return conj(x), places
+    flipped = g != 0 and l > n[2] // 2
+    at = (h, k, n[2] - l) if flipped else j
+    parts = [0, 0]
+    places = []
+    for place, part in standing(g, n, at):
+        parts[part] = v[place]
+        places.append(place)
+    x = tuple(c % P for c in parts)
+    return (along_l(g, n, at, x) if flipped else x), places
+
+
+def read_cell(g, n, v):
+    return {j: read_factor(g, n, v, j)[0] for j in all_points(n)}
+
+
+def pack_cell(g, n, F):
+    v = [0] * volume_length(g, n)
+    for h in range(n[0]):
+        for k in range(n[1] // 2 + 1):
+            for l in range(n[2] if g == 0 else n[2] // 2 + 1):
+                for place, part in standing(g, n, (h, k, l)):
+                    v[place] = F[(h, k, l)][part]
+    return v
+
+
+def consistent(g, n, v):
+    F = read_cell(g, n, v)
+    for j in F:
+        for i, w in images(g, n, j, F[j]):
+            if F[i] != w:
+                return False
+    return pack_cell(g, n, F) == v
+
+
+def density_place(g, n, x):
+    for i in point_images(g, n, x):
+        if i[2] < planes(g, n):
+            return (i[2] * n[0] + i[0]) * (n[1] + 2) + i[1]
+    raise AssertionError
+
+
+def read_map(g, n, v):
+    return {x: v[density_place(g, n, x)] for x in all_points(n)}
+
+
+def pack_map(g, n, M):
+    v = []
+    for z in range(planes(g, n)):
+        for x in range(n[0]):
+            v += [M[(x, y, z)] for y in range(n[1])] + [0, 0]
+    return v
+
+
+def consistent_map(g, n, v):
+    M = read_map(g, n, v)
+    for x in M:
+        if any(M[i] != M[x] for i in point_images(g, n, x)):
+            return False
+    return pack_map(g, n, M) == v
+
+
+def triple(n, X, sign):
+    """The sum over the whole cell of X times e(+-hx/N1) e(+-ky/N2) e(+-lz/N3)."""
+    terms = [(j, x) for j, x in X.items() if x != (0, 0)]
+    out = {}
+    for q in all_points(n):
+        re = im = 0
+        for j, x in terms:
+            t = sum(sign * 2880 // m * a * b for a, b, m in zip(j, q, n)) % 2880
+            w = ROOT[t]
+            re += x[0] * w[0] - x[1] * w[1]
+            im += x[0] * w[1] + x[1] * w[0]
+        out[q] = (re % P, im % P)
+    return out
+
+
+def synthesised(g, n, v):
+    M = triple(n, read_cell(g, n, v), 1)
+    assert all(x[1] == 0 for x in M.values())
+    return pack_map(g, n, {q: x[0] for q, x in M.items()})
+
+
+def analysed(g, n, v):
+    part = pow(n[0] * n[1] * n[2], P - 2, P)
+    F = triple(n, {x: (d, 0) for x, d in read_map(g, n, v).items()}, -1)
+    return pack_cell(g, n, {j: mul(x, (part, 0)) for j, x in F.items()})
+
+
+# ---- the calls
+
+def admitted(n):
+    return 0 < n and n % 2 == 0 and 2880 % n == 0
+
+
+def product(fs):
+    p = 1
+    for f in fs:
+        p *= f
+    return p
+
+
+def octal(fs):
+    return sum(f << (3 * i) for i, f in enumerate(fs))
+
+
+def digits(x):
+    out = []
+    while x:
+        out.append(x % 8)
+        x //= 8
+    return out
+
+
+def header_fault(g, n, lists):
+    if not all(admitted(m) for m in n):
+        return 3
+    if not all(2 <= f <= 5 for fs in lists for f in fs):
+        return 4
+    if not all(product(fs) == m // 2 for fs, m in zip(lists, n)):
+        return 5
+    if volume_length(g, n) > LIMIT:
+        return 9
+    return 0
+
+
+class Machine:
+    """A job and the buffers that a test program keeps."""
+
+    def __init__(self):
+        self.job = [0] * 8
+        self.volume = [0] * 4096
+        self.length = 0
+        self.lists = [[], [], []]
+        self.scratch = [0] * 12032
+
+    def checksum(self, v):
+        h = 7
+        for x in v:
+            h = (h * 31 + x + 1) % 2147483647
+        return h
+
+    def lent(self):
+        return self.volume[:self.length]
+
+    def keep(self, v):
+        self.volume[:self.length] = v
+
+    def parts(self):
+        g, n1, f1, n2, f2, n3, f3, s = self.job
+        return g, (n1, n2, n3), [digits(f1), digits(f2), digits(f3)], s
+
+    def valid(self):
+        g, n, lists, s = self.parts()
+        return g < 4 and s < 3 and header_fault(g, n, lists) == 0
+
+    def open(self, g, kind, *n):
+        v = self.lent()
+        if g > 3:
+            return 8, 0, 0
+        if kind > 1:
+            return 2, 0, 0
+        fault = header_fault(g, n, self.lists)
+        if fault:
+            return fault, 0, 0
+        if len(v) != volume_length(g, n):
+            return 6, 0, 0
+        if kind == 1:
+            if any(x >= P for x in v):
+                return 7, 0, 0
+            if not consistent_map(g, n, v):
+                return 14, 0, 0
+        fs = [octal(l) for l in self.lists]
+        self.job = [g, n[0], fs[0], n[1], fs[1], n[2], fs[2], 2 if kind else 0]
+        if kind == 0:
+            self.keep([0] * len(v))
+        return 0, 0, 0
+
+    def record(self, h, k, l, a, b):
+        g, n, _, s = self.parts()
+        j = (h, k, l)
+        if not self.valid():
+            return 25, 0, 0
+        if s != 0:
+            return 21, 0, 0
+        if any(c >= m for c, m in zip(j, n)):
+            return 10, 0, 0
+        if a >= P or b >= P:
+            return 7, 0, 0
+        if a == 0 and b == 0:
+            return 11, 0, 0
+        orbit = images(g, n, j, (a, b))
+        if any(i == j and w != (a, b) for i, w in orbit):
+            return 12, 0, 0
+        v = self.lent()
+        if len(v) != volume_length(g, n):
+            return 6, 0, 0
+        if any(v[place] for i, _ in orbit for place in read_factor(g, n, v, i)[1]):
+            return 24, 0, 0
+        for i, w in orbit:
+            if i[1] <= n[1] // 2 and (g == 0 or i[2] <= n[2] // 2):
+                for place, part in standing(g, n, i):
+                    v[place] = w[part]
+        self.keep(v)
+        return 0, 0, 0
+
+    def work(self, scratch, wants_map):
+        g, n, _, s = self.parts()
+        if not self.valid():
+            return 25, 0, 0
+        if (s == 2) != wants_map:
+            return (22 if wants_map else 23), 0, 0
+        v = self.lent()
+        if len(v) != volume_length(g, n):
+            return 6, 0, 0
+        if scratch < SCRATCH:
+            return 13, 0, 0
+        if any(x >= P for x in v):
+            return 7, 0, 0
+        if not (consistent_map(g, n, v) if wants_map else consistent(g, n, v)):
+            return 14, 0, 0
+        self.keep(analysed(g, n, v) if wants_map else synthesised(g, n, v))
+        self.job[7] = 1 if wants_map else 2
+        self.scratch[:SCRATCH] = [0] * SCRATCH
+        return 0, 0, 0
+
+    def point(self, x, y, z):
+        g, n, _, s = self.parts()
+        if not self.valid():
+            return 25, 0, 0
+        if s != 2:
+            return 22, 0, 0
+        if any(c >= m for c, m in zip((x, y, z), n)):
+            return 10, 0, 0
+        v = self.lent()
+        if len(v) != volume_length(g, n):
+            return 6, 0, 0
+        d = v[density_place(g, n, (x, y, z))]
+        if d >= P:
+            return 7, 0, 0
+        return 0, d, 0
+
+    def factor(self, h, k, l):
+        g, n, _, s = self.parts()
+        if not self.valid():
+            return 25, 0, 0
+        if s == 2:
+            return 23, 0, 0
+        if any(c >= m for c, m in zip((h, k, l), n)):
+            return 10, 0, 0
+        v = self.lent()
+        if len(v) != volume_length(g, n):
+            return 6, 0, 0
+        x, places = read_factor(g, n, v, (h, k, l))
+        if any(v[q] >= P for q in places):
+            return 7, 0, 0
+        return 0, x[0], x[1]
+
+
+# ---- the book: a state and F for every (h, k, l), fed the calls' arguments alone
+
+class Book:
+    """What the calls from an accepted opening on must answer, and the volume that they must leave."""
+
+    def __init__(self, g, n, lists):
+        self.g, self.n, self.lists = g, n, lists
+        self.state = 0
+        self.F = {j: (0, 0) for j in all_points(n)}
+        self.map = None
+
+    def outside(self, j):
+        return any(c >= m for c, m in zip(j, self.n))
+
+    def record(self, h, k, l, a, b):
+        j = (h, k, l)
+        if self.state != 0:
+            return 21, 0, 0
+        if self.outside(j):
+            return 10, 0, 0
+        if a >= P or b >= P:
+            return 7, 0, 0
+        if a == 0 and b == 0:
+            return 11, 0, 0
+        orbit = images(self.g, self.n, j, (a, b))
+        if any(i == j and w != (a, b) for i, w in orbit):
+            return 12, 0, 0
+        if self.F[j] != (0, 0):
+            return 24, 0, 0
+        for i, w in orbit:
+            self.F[i] = w
+        self.map = None
+        return 0, 0, 0
+
+    def synthesis(self, scratch):
+        if self.state == 2:
+            return 23, 0, 0
+        if scratch < SCRATCH:
+            return 13, 0, 0
+        self.state = 2
+        return 0, 0, 0
+
+    def analysis(self, scratch):
+        if self.state != 2:
+            return 22, 0, 0
+        if scratch < SCRATCH:
+            return 13, 0, 0
+        self.state = 1
+        return 0, 0, 0
+
+    def densities(self):
+        if self.map is None:
+            sums = triple(self.n, self.F, 1)
+            assert all(x[1] == 0 for x in sums.values())
+            self.map = {q: x[0] for q, x in sums.items()}
+        return self.map
+
+    def point(self, x, y, z):
+        if self.state != 2:
+            return 22, 0, 0
+        if self.outside((x, y, z)):
+            return 10, 0, 0
+        return 0, self.densities()[(x, y, z)], 0
+
+    def factor(self, h, k, l):
+        if self.state == 2:
+            return 23, 0, 0
+        if self.outside((h, k, l)):
+            return 10, 0, 0
+        return 0, *self.F[(h, k, l)]
+
+    def job(self):
+        fs = [octal(l) for l in self.lists]
+        return [self.g, self.n[0], fs[0], self.n[1], fs[1], self.n[2], fs[2], self.state]
+
+    def volume(self):
+        if self.state == 2:
+            return pack_map(self.g, self.n, self.densities())
+        return pack_cell(self.g, self.n, self.F)
+
+
+# ---- the factor file
+
+def number(b):
+    return int.from_bytes(b, "big")
+
+
+def open_file(file, lent):
+    """The refusal's number or 0, the record's place, and the book; lent is how many numbers the volume has."""
+    if len(file) < 5 or number(file[:4]) != len(file) - 4:
+        return 15, 0, None
+    if file[4] != 1:
+        return 16, 0, None
+    at = 12
+    lists = []
+    for _ in range(3):
+        if at >= len(file):
+            return 15, 0, None
+        count = file[at]
+        lists.append(list(file[at + 1:at + 1 + count]))
+        at += 1 + count
+    if at + 4 > len(file):
+        return 15, 0, None
+    count = number(file[at:at + 4])
+    at += 4
+    if at + 14 * count != len(file):
+        return 15, 0, None
+    if count == 0:
+        return 17, 0, None
+    g = file[5]
+    n = tuple(number(file[q:q + 2]) for q in (6, 8, 10))
+    if g > 3:
+        return 8, 0, None
+    fault = header_fault(g, n, lists)
+    if fault:
+        return fault, 0, None
+    if lent != volume_length(g, n):
+        return 6, 0, None
+    book = Book(g, n, lists)
+    for place in range(count):
+        r = file[at + 14 * place:at + 14 * place + 14]
+        refused = book.record(number(r[0:2]), number(r[2:4]), number(r[4:6]), number(r[6:10]), number(r[10:14]))[0]
+        if refused:
+            return refused, place, None
+    return 0, 0, book
+
+
+def file_bytes(g, n, lists, records):
+    body = bytes([1, g]) + b"".join(m.to_bytes(2, "big") for m in n)
+    for fs in lists:
+        body += bytes([len(fs)]) + bytes(fs)
+    body += len(records).to_bytes(4, "big")
+    for h, k, l, a, b in records:
+        body += b"".join(c.to_bytes(2, "big") for c in (h, k, l)) + a.to_bytes(4, "big") + b.to_bytes(4, "big")
+    return len(body).to_bytes(4, "big") + body
+
+
+def factor_lists(p):
+    """Every factor list with the product p."""
+    if p == 1:
+        yield []
+    for f in (2, 3, 4, 5):
+        if p % f == 0:
+            for rest in factor_lists(p // f):
+                yield [f] + rest

@@ -1,0 +1,206 @@
+#!/usr/bin/env python3
+"""The file test: factor files, sound and damaged, and lists of calls on the jobs that they open, by brute force.
+
+    file_cases.py cases   writes the cases to standard output, a record of 48 bytes each
+    file_cases.py answers writes what the test program must print
+
+A record is an operation (1 byte, 3 unused) and eleven numbers (4 bytes each, big-endian):
+    0 new       the file and the script are empty
+    1 bytes     count, then up to 40 bytes that are added to the file
+    2 length    how many numbers of the buffer are lent as the volume
+    3 open      opens the file; the job goes on if there is one
+    4 damage    opens every part of the file that starts with its first byte, then the file with each of its bytes in turn 1, 128 and 255 more
+    5 call      six numbers: a call of the script
+    6 replay    lengths of the scratch and of the answers: the script is replayed on the job
+Before each opening the volume is filled with the number 7, before a replay the scratch with 7 and the answers with 9.
+A line is printed for each opening: the refusal's number or 0, the record's place, checksums of the job (of 0s where there is none) and the volume.
+For a replay: how many numbers of answers were written, checksums of the job, the volume and the scratch, then a line with every number lent for answers.
+
+The answers are those of the book in brute_force.py, which is fed the calls' arguments alone. The seed is fixed.
+"""
+import random
+import struct
+import sys
+
+from brute_force import P, SCRATCH, factor_lists, file_bytes, images, open_file, volume_length
+
+SEED = 1974
+LENT_MOST = 2048
+
+
+def checksum(v):
+    h = 7
+    for x in v:
+        h = (h * 31 + x + 1) % 2147483647
+    return h
+
+
+class TestProgram:
+    """What the test program keeps, and the lines that it prints."""
+
+    def __init__(self):
+        self.file = b""
+        self.script = []
+        self.length = 0
+        self.book = None
+
+    def opening(self, file):
+        refused, place, book = open_file(file, self.length)
+        if book:
+            volume = book.volume()
+        elif place or refused in (10, 11, 12, 24) or refused == 7:
+            volume = [0] * self.length
+        else:
+            volume = [7] * self.length
+        job = book.job() if book else [0] * 8
+        return book, "%d %d %d %d" % (refused, place, checksum(job), checksum(volume))
+
+    def replay(self, scratch, room):
+        book = self.book
+        calls = [self.script[i:i + 6] for i in range(0, len(self.script), 6)][:room // 3]
+        out = []
+        left = [7] * scratch
+        for op, h, k, l, a, b in calls:
+            if op == 0:
+                out += book.record(h, k, l, a, b)
+            elif op == 1 or op == 2:
+                answer = book.synthesis(scratch) if op == 1 else book.analysis(scratch)
+                if answer[0] == 0:
+                    left[:SCRATCH] = [0] * SCRATCH
+                out += answer
+            elif op == 3:
+                out += book.point(h, k, l)
+            else:
+                out += book.factor(h, k, l)
+        written = len(out)
+        out += [9] * (room - written)
+        yield "%d %d %d %d" % (written, checksum(book.job()), checksum(book.volume()), checksum(left))
+        yield " ".join(str(x) for x in out)
+
+    def run(self, op, payload):
+        w = struct.unpack(">11I", payload)
+        if op == 0:
+            self.file, self.script = b"", []
+        elif op == 1:
+            self.file += payload[4:4 + w[0]]
+        elif op == 2:
+            self.length = w[0]
+        elif op == 3:
+            book, line = self.opening(self.file)
+            if book:
+                self.book = book
+            yield line
+        elif op == 4:
+            for n in range(len(self.file) + 1):
+                yield self.opening(self.file[:n])[1]
+            for q in range(len(self.file)):
+                for more in (1, 128, 255):
+                    yield self.opening(self.file[:q] + bytes([(self.file[q] + more) % 256]) + self.file[q + 1:])[1]
+        elif op == 5:
+            self.script += w[:6]
+        else:
+            yield from self.replay(w[0], w[1])
+
+
+def cases():
+    rng = random.Random(SEED)
+    out = []
+
+    def say(op, *w):
+        out.append((op, struct.pack(">11I", *w, *[0] * (11 - len(w)))))
+
+    def say_file(file):
+        say(0)
+        for i in range(0, len(file), 40):
+            part = file[i:i + 40]
+            out.append((1, struct.pack(">I", len(part)) + part + bytes(40 - len(part))))
+
+    def index(n):
+        return tuple(rng.choice([0, m // 2, rng.randrange(m), rng.randrange(m)]) for m in n)
+
+    def sound(g, n, j):
+        """A value at j that agrees with its own images, or None."""
+        a, b = rng.randrange(1, P), rng.randrange(1, P)
+        for v in ((a, b), (a, 0), (0, b)):
+            if all(i != j or w == v for i, w in images(g, n, j, v)):
+                return v
+        return None
+
+    def records(g, n, most):
+        taken = set()
+        found = []
+        for _ in range(40):
+            j = index(n)
+            v = sound(g, n, j)
+            if v is None or j in taken or len(found) == most:
+                continue
+            taken.update(i for i, _ in images(g, n, j, v))
+            found.append((*j, *v))
+        return found
+
+    def lists(n):
+        return [rng.choice(list(factor_lists(m // 2))) for m in n]
+
+    # the paper's specimen, and small files of all groups, at every byte and length
+    specimen = bytes.fromhex("0000001D" "01" "00" "0002" "0002" "0002" "00" "00" "00" "00000001" "0001" "0000" "0000" "00000003" "00000000")
+    damaged = [(0, (2, 2, 2), specimen)]
+    for g in range(4):
+        n = [(4, 4, 4), (4, 4, 6), (2, 4, 8), (4, 2, 12)][g]
+        damaged.append((g, n, file_bytes(g, n, lists(n), records(g, n, 4))))
+    for g, n, file in damaged:
+        say_file(file)
+        say(2, volume_length(g, n))
+        say(3)
+        say(4)
+
+    # lengths of the volume, no records, faults of the header, records out of order and refused records of every kind, at the first and at a later place
+    for g in range(4):
+        n = (4, 6, 4)
+        rs = records(g, n, 5)
+        length = volume_length(g, n)
+        files = [file_bytes(g, n, lists(n), rs), file_bytes(g, n, lists(n), rs[::-1]), file_bytes(g, n, lists(n), []), file_bytes(g, n, [[2], [3], [4]], rs), file_bytes(g, (4, 6, 14), lists(n), rs), file_bytes(g + 4, n, lists(n), rs), file_bytes(g, n, [[2], [7], [2]], rs)]
+        for spoilt in ((4, 0, 0, 1, 1), (0, 6, 0, 1, 1), (0, 0, 4, 1, 1), (1, 1, 1, P, 1), (1, 1, 1, 1, P), (1, 2, 1, 0, 0), (0, 0, 0, 1, 1), rs[0]):
+            files.append(file_bytes(g, n, lists(n), [spoilt] + rs))
+            files.append(file_bytes(g, n, lists(n), rs[:3] + [spoilt] + rs[3:]))
+        for file in files:
+            say_file(file)
+            for lent in (length, length - 1, length + 1):
+                say(2, lent)
+                say(3)
+
+    # lists of calls, refused ones among them, on the jobs of accepted files
+    for g in range(4):
+        for n in [(2, 2, 2), (4, 4, 4), (6, 4, 2), (4, 6, 6), (2, 8, 6), (4, 4, 10), (6, 6, 6)]:
+            for _ in range(2):
+                say_file(file_bytes(g, n, lists(n), records(g, n, 3)))
+                say(2, volume_length(g, n))
+                say(3)
+                count = 0
+                for _ in range(24):
+                    op = rng.choice([0, 0, 0, 0, 1, 2, 3, 3, 4, 5])
+                    j = index(n)
+                    v = sound(g, n, j) if rng.randrange(4) else (rng.randrange(P), rng.randrange(P))
+                    if rng.randrange(8) == 0:
+                        j = tuple(c + rng.choice([0, m]) for c, m in zip(j, n))
+                    if rng.randrange(12) == 0:
+                        v = rng.choice([(0, 0), (P, 0), (1, 4294967295)])
+                    say(5, op, *j, *(v or (3, 4)))
+                    count += 1
+                say(6, rng.choice([SCRATCH, SCRATCH, SCRATCH + 480, SCRATCH - 1]), rng.choice([3 * count, 3 * count, 3 * count + 2, 3 * count - 1, 0]))
+    return out
+
+
+def main():
+    if sys.argv[1:] == ["cases"]:
+        for op, payload in cases():
+            sys.stdout.buffer.write(bytes([op, 0, 0, 0]) + payload)
+    elif sys.argv[1:] == ["answers"]:
+        program = TestProgram()
+        for op, payload in cases():
+            for line in program.run(op, payload):
+                print(line)
+    else:
+        sys.exit(__doc__)
+
+
+main()

@@ -1,5 +1,5 @@
 #!/usr/bin/env python3
-"""The constant tables of the root's powers, as crates/numbers/src/tables.rt has them.
+"""The constant tables of the root's powers, as crates/roots/src/lib.rt has them.
 
     python3 tools/root_tables.py        prints the six arrays, for the end of that file
 

@@ -15,11 +15,11 @@ use Rattle.algebra.proofs.Bool.{and-l, and-r, and-i, imply-iff, every-a
 use Rattle.algebra.proofs.Orbits as O
 use Rattle.algebra.proofs.CellGroup.{factor-action, map-action, closed, map-closed, rep-in, rep-st, prep-in, prep-st, sameJ-eq, sameJ-refl}
 
-every-place-at : (n m q : ℕ) (P : J → Bool) (j : J) → T (everyPlace n m q P) → j .0 < n → j .1 < m → j .2 < q → T (P j)
+pub every-place-at : (n m q : ℕ) (P : J → Bool) (j : J) → T (everyPlace n m q P) → j .0 < n → j .1 < m → j .2 < q → T (P j)
 unfolding everyPlace
 every-place-at n m q P j t h k l = below-at q (λ l. P (j .0, j .1, l)) (j .2) (below-at m (λ k. below q (λ l. P (j .0, k, l))) (j .1) (below-at n (λ h. below m (λ k. below q (λ l. P (h, k, l)))) (j .0) t h) k) l
 
-every-place-by : (n m q : ℕ) (P : J → Bool) → ((j : J) → j .0 < n → j .1 < m → j .2 < q → T (P j)) → T (everyPlace n m q P)
+pub every-place-by : (n m q : ℕ) (P : J → Bool) → ((j : J) → j .0 < n → j .1 < m → j .2 < q → T (P j)) → T (everyPlace n m q P)
 unfolding everyPlace
 every-place-by n m q P f = below-by n _ (λ h hn. below-by m _ (λ k km. below-by q _ (λ l lq. f (h, k, l) hn km lq)))
 

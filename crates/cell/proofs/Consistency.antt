@@ -17,7 +17,7 @@ use Rattle.algebra.specs.CellPack.{even, PackedIn}
 use Rattle.algebra.specs.CellTests.{consistentFactorsT}
 use Rattle.algebra.proofs.Bool.{and-l, and-r, and-i, imply-iff}
 use Rattle.algebra.proofs.CellSym.{im-inside}
-use Rattle.algebra.proofs.CellTests.{Positive, factors-test}
+use Rattle.algebra.proofs.CellTests.{Positive, every-place-at, every-place-by, factors-test}
 use Rattle.algebra.proofs.CellPack.{pack-iff}
 use Rattle.numbers.specs.declared.Pair.{Pair}
 use Rattle.numbers.specs.Prime.{prime}
@@ -30,7 +30,7 @@ use Rattle.slices.specs.Pairs.{at, Below}
 use Rattle.slices.proofs.Bounds.{small-at}
 use Rattle.cell.specs.Volume.{Admitted, firstPair, pairPlace, rows, columns, volumeLength, factorsIn, packFactors}
 use Rattle.cell.specs.Consistency.{sameValue, zeroPair, zeroEnds, consistentFactors, FactorsConsistent}
-use Rattle.cell.proofs.Tests.{true-iff, eq→eqb, every-place-at, every-place-by}
+use Rattle.cell.proofs.Tests.{true-iff, eq→eqb}
 use Rattle.cell.proofs.VolumeLayout.{is-volume}
 use Rattle.cell.proofs.Reading.{same-iff, pairsIn, lineAt, EmptyEnds, stored-unpacked, empty-ends, packed-is, packed-holds, read-packed, length-factors, below-factors}
 

@@ -9,9 +9,6 @@ pub mod Writing
 pub mod Records
 pub mod OrbitNumbers
 pub mod Points
-pub mod PackedLines
-pub mod Sweeps
-pub mod PassLaws
 pub mod OperationLaws
 pub mod PlaceLaws
 pub mod Scans
@@ -19,7 +16,3 @@ pub mod ReadingLaws
 pub mod RecordLaws
 pub mod StoredFactors
 pub mod TestLaws
-pub mod Turns
-pub mod Whole
-pub mod TurnLaws
-pub mod JobTurns

@@ -17,7 +17,7 @@ use Rattle.algebra.proofs.Bool.{and-l, and-r, and-i, imply-iff, every-at, every
 use Rattle.algebra.proofs.Orbits as O
 use Rattle.algebra.proofs.CellSym.{pim-one, pim-inside}
 use Rattle.algebra.proofs.CellGroup.{map-action, map-closed, prep-in, prep-st, prep-plain}
-use Rattle.algebra.proofs.CellTests.{Positive}
+use Rattle.algebra.proofs.CellTests.{Positive, every-place-at, every-place-by}
 use Rattle.numbers.specs.Prime.{prime}
 use Rattle.numbers.specs.Value.{Value, field, conj, real, value}
 use Rattle.numbers.proofs.Residues.{val-res, res-val}
@@ -26,7 +26,7 @@ use Rattle.slices.specs.Pairs.{Below}
 use Rattle.cell.specs.Volume.{rows, layers, volumeLength, mapPlace, packMap, mapIn}
 use Rattle.cell.specs.Consistency.{pointAgrees, rowEnds, consistentMap, RealMap, ObeysGroup, MapConsistent}
 use Rattle.cell.proofs.VolumeLayout.{length-map, map-number, map-end, is-map}
-use Rattle.cell.proofs.Tests.{true-iff, eq→eqb, every-place-at, every-place-by}
+use Rattle.cell.proofs.Tests.{true-iff, eq→eqb}
 
 -- the group's own operations do not conjugate
 abbrev plainT : Sym → Bool

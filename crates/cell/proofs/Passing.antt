@@ -11,7 +11,7 @@ use lib.ListN.{length, getD}
 use Rattle.algebra.specs.Cell.{J}
 use Rattle.algebra.specs.CellTests.{below, every, everyPlace}
 use Rattle.algebra.proofs.Bool.{and-l, and-r, and-i, same-test, below-at, below-by}
-use Rattle.cell.proofs.Tests.{every-place-at, every-place-by}
+use Rattle.algebra.proofs.CellTests.{every-place-at, every-place-by}
 
 -- ---- one more number, and the first that fails
 

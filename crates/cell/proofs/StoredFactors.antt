@@ -1,16 +1,19 @@
--- The factor at a stored place: the value of its own pair, but at the ends of an alternating line that of one number of pair 0, and zero at those of an antisymmetric line.
-use mathlib.Core.Path.{_≡_, refl, sym, _∙_, ap, subst}
-use mathlib.Core.Logic.{_⊎_, ⊎-elim}
-use mathlib.Core.Bool.{Bool, true, false, _||_, cond, false≢true}
-use mathlib.Core.List.{List}
-use Prim.Native.Nat.{ℕ, zero, suc, _+_, _*_, _/_, _%_, _<_, _≤_}
+-- The factor at a stored place is the line's: the value of its own pair, but at the ends of an alternating line that of one number of pair 0, and zero at those of an antisymmetric line.
+use mathlib.Core.Path.{_≡_, refl, sym, _∙_, ap}
+use mathlib.Core.Logic.{⊎-elim}
+use mathlib.Core.Bool.{Bool, true, false, _||_, _&&_, not, cond}
+use mathlib.Core.List.{List, [], _∷_}
+use Prim.Native.Nat.{ℕ, zero, suc, _+_, _*_, _-_, _/_, _%_, _<_, _≤_, min}
 use native.Mathlib.Omega.{arith}
-use lib.Dec.{eqb}
-use Rattle.algebra.specs.Gauss.{gauss}
+use lib.ListN.{getD}
+use lib.Dec.{eqb, ltb, ltb→lt}
+use borrow.Author.Tests.{eq-eqb, ne-eqb, lt-ltb}
 use Rattle.algebra.specs.Residue.{residues}
-use Rattle.algebra.specs.Kinds.{Kind.symmetric, Kind.antisymmetric}
-use Rattle.algebra.specs.Cell.{J, Group, P1, P2₁, Pa, span, planes}
+use Rattle.algebra.specs.Gauss.{gauss}
+use Rattle.algebra.specs.Kinds.{Kind.alternating, Kind.symmetric, Kind.antisymmetric}
+use Rattle.algebra.specs.Cell.{J, Group, P2₁, Pa, span, planes}
 use Rattle.algebra.specs.CellPack.{even, ofPart}
+use Rattle.algebra.proofs.Bool.{and-l, and-r}
 use Rattle.numbers.specs.declared.Pair.{Pair}
 use Rattle.numbers.specs.Prime.{prime}
 use Rattle.numbers.specs.Value.{Value, field, ring, valueOf, pairOf, Small}
@@ -18,16 +21,19 @@ use Rattle.numbers.proofs.Primes.{prime-pos}
 use Rattle.numbers.proofs.Residues.{val-res}
 use Rattle.numbers.proofs.Values.{pair-path, pair-value}
 use Rattle.slices.specs.Pairs.{at, Below}
-use Rattle.slices.proofs.Bounds.{small-at}
-use Rattle.cell.specs.Volume.{groupOf, pairPlace, lineIn}
+use Rattle.slices.specs.Values.{valuesOf}
+use Rattle.cell.specs.Volume.{groupOf, pairPlace, pairNumbers, lineNumbers, lineIn}
+use Rattle.cell.specs.Consistency.{all}
 use Rattle.cell.specs.declared.operations.Index.{Index}
 use Rattle.cell.specs.Operations.{halvesOf, Length}
+use Rattle.cell.specs.Places.{allBelowAt, lineNumbersAt, lineFactor}
 use Rattle.cell.specs.TestSteps.{IsVolume, IsStored, PairInside}
+use Rattle.cell.proofs.Tests.{true-iff}
 use Rattle.cell.proofs.VolumeLayout.{place-inside}
 use Rattle.cell.proofs.LineReading.{readLine, read-plain, read-symmetric, alternating-first, alternating-middle, alternating-low, read-first, read-last, read-between}
 use Rattle.cell.proofs.Reading.{pairsIn}
 use Rattle.cell.proofs.OperationLaws.{by-group}
-use Rattle.cell.proofs.PlaceLaws.{at-end, not-end, even-is, odd-is}
+use Rattle.cell.proofs.PlaceLaws.{even-is, odd-is, at-end, not-end, stored-layer, alternating-half}
 
 -- ---- pairs that lie in the volume
 
@@ -48,127 +54,158 @@ module _ {group n1 n2 n3 : ℕ} {v : List ℕ} (volume : IsVolume group n1 n2 n3
         inside = omega (arith, volume .long, place-inside (groupOf group) (halvesOf n1 n2 n3) {w = w} {h = h} {k = k} lw (omega (arith, s .first .even)) (omega arith));
       }
 
--- ---- by kind
+  -- the pair of a stored index; in an alternating line the ends have none of their own
+  pub own-inside : {j : Index} → IsStored group n1 n2 n3 j → j .l < planes (groupOf group) (n3 / 2) → PairInside n1 n2 v (j .l) (j .h) (j .k)
+  own-inside {j} stored l = pair-inside (j .l) (j .h) (j .k) l (stored .h) (stored .k)
 
-module _ (a : J) (m : ℕ) (v : List ℕ) (h k : ℕ) where
-  -- the value of the pair w of the line
-  abbrev pairOfLine : ℕ → Value m
-  pairOfLine w = pairsIn P1 a m v w h k
+  pub stored-inside : {j : Index} → IsStored group n1 n2 n3 j → (group ≡ 1 → ⊥) → PairInside n1 n2 v (j .l) (j .h) (j .k)
+  stored-inside {j} stored z = own-inside stored (stored-layer group (n3 / 2) (j .l) (volume .sizes .known) z (stored .l))
 
-  -- between the ends a line of any kind has its own pair
-  abbrev Own : (l : ℕ) → Group → Type 0
-  Own l g = l < span g (a .2) → (lineIn g a m v h k l ≡ pairOfLine l) × (l < planes g (a .2))
+module _ {n1 n2 n3 : ℕ} {v : List ℕ} (volume : IsVolume 1 n1 n2 n3 v) {j : Index} (stored : IsStored 1 n1 n2 n3 j) where
+  pub first-inside : PairInside n1 n2 v 0 (j .h) (j .k)
+  unfolding planes
+  first-inside = pair-inside volume 0 (j .h) (j .k) (omega (arith, volume .sizes .third .low)) (stored .h) (stored .k)
 
-  own-glide : 0 < a .2 → (b : Bool) (l : ℕ) → 0 < l → l < a .2 → readLine m (a .2) (cond b symmetric antisymmetric) pairOfLine l ≡ pairOfLine l
-  own-glide pos true l p q = read-symmetric m (a .2) pos pairOfLine l (omega arith)
-  own-glide pos false l p q = read-between m (a .2) pairOfLine l p q
+  pub middle-inside : (j .l ≡ n3 / 2 → ⊥) → PairInside n1 n2 v (j .l) (j .h) (j .k)
+  unfolding planes
+  middle-inside z = own-inside volume stored (omega (arith, alternating-half refl (stored .l)))
 
-  pub between-own : 0 < a .2 → (l : ℕ) → (l ≡ 0 → ⊥) × (l ≡ a .2 → ⊥) → (n : ℕ) → n < 4 → Own l (groupOf n)
-  unfolding lineIn span planes
-  between-own pos l z = by-group (Own l)
-      (λ s. (read-plain m (a .2) pairOfLine l, s))
-      (λ s. (alternating-low m (a .2) pairOfLine l (omega arith) (omega arith), omega arith))
-      (λ s. (read-symmetric m (a .2) pos pairOfLine l s, s))
-      (λ s. (own-glide pos (even h) l (omega arith) (omega arith), s))
+-- ---- numbers below the prime stand for themselves
 
-  -- so has one that is neither alternating nor antisymmetric, at its ends too
-  pub whole-own : 0 < a .2 → (l : ℕ) (n : ℕ) → n < 4 → (n ≡ 1 → ⊥) → (n ≡ 3 → ⊥) → Own l (groupOf n)
-  unfolding lineIn span planes
-  whole-own pos l zero c x y s = (read-plain m (a .2) pairOfLine l, s)
-  whole-own pos l (suc zero) c x y s = absurd (x refl)
-  whole-own pos l (suc (suc zero)) c x y s = (read-symmetric m (a .2) pos pairOfLine l s, s)
-  whole-own pos l (suc (suc (suc zero))) c x y s = absurd (y refl)
-  whole-own pos l (suc (suc (suc (suc n)))) c x y s = absurd (omega arith)
+-- so they are all, where the whole volume is below it
+pub all-below-at : {p : ℕ} {v : List ℕ} → Below p v → (places : List ℕ) → allBelowAt p v places ≡ true
+unfolding all
+all-below-at small [] = refl
+all-below-at {p} {v} small (q ∷ l) = rw (lt-ltb (getD v q 0) p (small .each q)) (all-below-at small l)
 
-  own-even : 0 < a .2 → (b : Bool) (l : ℕ) → l < suc (a .2) → b ≡ true → readLine m (a .2) (cond b symmetric antisymmetric) pairOfLine l ≡ pairOfLine l
-  own-even pos true l s e = read-symmetric m (a .2) pos pairOfLine l s
-  own-even pos false l s e = absurd (false≢true e)
+module _ (m : ℕ) (v : List ℕ) where
+  low-number : (q : ℕ) → allBelowAt (prime m) v (q ∷ []) ≡ true → getD v q 0 < prime m
+  unfolding all
+  low-number q e = ltb→lt _ _ (and-l (ltb (getD v q 0) (prime m)) true (true-iff _ .0 e))
 
-  pub glide-own : 0 < a .2 → (l : ℕ) → even h ≡ true → Own l Pa
-  unfolding lineIn span planes
-  glide-own pos l e s = (own-even pos (even h) l s e, s)
+  low-pair : (p : ℕ) → allBelowAt (prime m) v (2 * p ∷ (2 * p + 1) ∷ []) ≡ true → Small (prime m) (at v p)
+  unfolding all at
+  low-pair p e =
+      let t = true-iff (ltb (getD v (2 * p) 0) (prime m) && (ltb (getD v (2 * p + 1) 0) (prime m) && true)) .0 e in
+      record { re = ltb→lt _ _ (and-l (ltb (getD v (2 * p) 0) (prime m)) _ t); im = ltb→lt _ _ (and-l (ltb (getD v (2 * p + 1) 0) (prime m)) true (and-r (ltb (getD v (2 * p) 0) (prime m)) _ t)) }
 
-  -- an odd h's line of Pa is zero at its ends
-  zero-odd : 0 < a .2 → (b : Bool) (l : ℕ) → b ≡ false → (l ≡ 0) ⊎ (l ≡ a .2) → readLine m (a .2) (cond b symmetric antisymmetric) pairOfLine l ≡ field m .zer
-  zero-odd pos true l e z = absurd (false≢true (sym e))
-  zero-odd pos false l e z = ⊎-elim
-      (λ q. ap (readLine m (a .2) antisymmetric pairOfLine) q ∙ read-first m (a .2) pairOfLine)
-      (λ q. ap (readLine m (a .2) antisymmetric pairOfLine) q ∙ read-last m (a .2) pos pairOfLine)
-      z
+  -- one number of the pair at p, which the code holds as x
+  module _ (p : ℕ) {x : Pair} (e : x ≡ at v p) where
+    first-number : getD v (2 * p) 0 < prime m → record { re = x .re; im = 0 } ≡ pairOf ((valuesOf m v p) .0, ring m .zer)
+    unfolding valueOf at pairOf residues
+    first-number l = ap (λ x. record { re = x .re; im = 0 }) e ∙ pair-path (sym (val-res m l)) (sym (val-res m (prime-pos m)))
 
-  pub glide-zero : 0 < a .2 → (l : ℕ) → even h ≡ false → (l ≡ 0) ⊎ (l ≡ a .2) → lineIn Pa a m v h k l ≡ field m .zer
+    second-even : getD v (2 * p + 1) 0 < prime m → record { re = x .im; im = 0 } ≡ pairOf (ofPart (ring m) true ((valuesOf m v p) .1))
+    unfolding valueOf at pairOf residues
+    second-even l = ap (λ x. record { re = x .im; im = 0 }) e ∙ pair-path (sym (val-res m l)) (sym (val-res m (prime-pos m)))
+
+    second-odd : getD v (2 * p + 1) 0 < prime m → record { re = 0; im = x .im } ≡ pairOf (ofPart (ring m) false ((valuesOf m v p) .1))
+    unfolding valueOf at pairOf residues
+    second-odd l = ap (λ x. record { re = 0; im = x .im }) e ∙ pair-path (sym (val-res m (prime-pos m))) (sym (val-res m l))
+
+zero-pair : (m : ℕ) → record { re = 0; im = 0 } ≡ pairOf (field m .zer)
+unfolding pairOf gauss residues
+zero-pair m = pair-path (sym (val-res m (prime-pos m))) (sym (val-res m (prime-pos m)))
+
+-- ---- a stored factor
+
+-- the pair r is the factor at j, if the numbers that it is read from are below the prime
+abbrev pub Reads : Group → J → (m : ℕ) → List ℕ → J → Pair → Type 0
+Reads g a m v j r = allBelowAt (prime m) v (lineNumbersAt g a j) ≡ true → r ≡ pairOf (lineFactor g a m v j)
+
+module _ (g : Group) (a : J) (m : ℕ) (v : List ℕ) (j : J) where
+  reads-by : {places : List ℕ} {z : Value m} {r : Pair} → lineNumbersAt g a j ≡ places → lineFactor g a m v j ≡ z → (allBelowAt (prime m) v places ≡ true → r ≡ pairOf z) → Reads g a m v j r
+  reads-by e f h t = h (sym (ap (allBelowAt (prime m) v) e) ∙ t) ∙ sym (ap pairOf f)
+
+  pub pair-reads : (lineNumbersAt g a j ≡ pairNumbers g a (j .2) (j .0) (j .1)) × (lineFactor g a m v j ≡ pairsIn g a m v (j .2) (j .0) (j .1)) → {x : Pair} → x ≡ at v (pairPlace g a (j .2) (j .0) (j .1)) → Reads g a m v j x
+  pair-reads e x = reads-by (e .0) (e .1) (λ t. x ∙ sym (pair-value m (low-pair m v (pairPlace g a (j .2) (j .0) (j .1)) t)))
+
+own-pair : (c l : ℕ) → l ≤ c → min l (2 * c - l) ≡ l
+own-pair c l s = omega arith
+
+-- an alternating line: one number at either end, else a pair
+module _ (a : J) (pos : 0 < a .2) (m : ℕ) (v : List ℕ) (j : J) where
+  abbrev line : ℕ → Value m
+  line w = pairsIn P2₁ a m v w (j .0) (j .1)
+
+  abbrev first : ℕ
+  first = pairPlace P2₁ a 0 (j .0) (j .1)
+
+  pub first-value : j .2 ≡ 0 → {x : Pair} → x ≡ at v first → Reads P2₁ a m v j (record { re = x .re; im = 0 })
   unfolding lineIn
-  glide-zero pos l e z = zero-odd pos (even h) l e z
+  first-value z e = reads-by P2₁ a m v j
+      (rw (eq-eqb (j .2) 0 z) refl)
+      (ap (readLine m (a .2) alternating line) z ∙ alternating-first m (a .2) line)
+      (λ t. first-number m v first e (low-number m v (2 * first) t))
 
-  module _ (small : Below (prime m) v) where
-    -- as pairs of numbers
-    pub own-pair : (l : ℕ) {x : Value m} → x ≡ pairOfLine l → at v (pairPlace P1 a l h k) ≡ pairOf x
-    own-pair l e = sym (ap pairOf e ∙ pair-value m (small-at (prime m) v (pairPlace P1 a l h k) small))
-
-    zero-number : (ring m .zer) .val ≡ 0
-    unfolding residues
-    zero-number = val-res m (prime-pos m)
-
-    pub zero-is : {x : Value m} → x ≡ field m .zer → record { re = 0; im = 0 } ≡ pairOf x
-    unfolding pairOf gauss
-    zero-is e = sym (ap pairOf e ∙ pair-path zero-number zero-number)
-
-    numbers : Small (prime m) (at v (pairPlace P1 a 0 h k))
-    numbers = small-at (prime m) v (pairPlace P1 a 0 h k) small
-
-    -- one number of pair 0, which the code holds as x
-    module _ {x : Pair} (e : x ≡ at v (pairPlace P1 a 0 h k)) {l : ℕ} where
-      pub first-is : l ≡ 0 → record { re = x .re; im = 0 } ≡ pairOf (lineIn P2₁ a m v h k l)
-      unfolding lineIn pairOf valueOf
-      first-is z = ap (λ y. record { re = y .re; im = 0 }) e
-          ∙ sym (ap pairOf (ap (λ q. lineIn P2₁ a m v h k q) z ∙ alternating-first m (a .2) pairOfLine) ∙ pair-path (val-res m (numbers .re)) zero-number)
-
-      middle : 0 < a .2 → l ≡ a .2 → (b : Bool) → even l ≡ b → pairOf (lineIn P2₁ a m v h k l) ≡ pairOf (ofPart (ring m) b ((pairOfLine 0) .1))
+  module _ (y : j .2 ≡ 0 → ⊥) where
+    module _ (z : j .2 ≡ a .2) {x : Pair} (e : x ≡ at v first) where
+      second-by : {r : Pair} (b : Bool) → even (a .2) ≡ b → (getD v (2 * first + 1) 0 < prime m → r ≡ pairOf (ofPart (ring m) b ((line 0) .1))) → Reads P2₁ a m v j r
       unfolding lineIn
-      middle pos z b q = ap pairOf (ap (λ q. lineIn P2₁ a m v h k q) z ∙ alternating-middle m (a .2) pairOfLine pos ∙ ap (λ c. ofPart (ring m) c ((pairOfLine 0) .1)) (ap even (sym z) ∙ q))
+      second-by b p h = reads-by P2₁ a m v j
+          (rw (ne-eqb (j .2) 0 y, eq-eqb (j .2) (a .2) z) refl)
+          (ap (readLine m (a .2) alternating line) z ∙ alternating-middle m (a .2) line pos ∙ ap (λ b. ofPart (ring m) b ((line 0) .1)) p)
+          (λ t. h (low-number m v (2 * first + 1) t))
 
-      pub middle-real : 0 < a .2 → l ≡ a .2 → even l ≡ true → record { re = x .im; im = 0 } ≡ pairOf (lineIn P2₁ a m v h k l)
-      unfolding pairOf valueOf
-      middle-real pos z q = ap (λ y. record { re = y .im; im = 0 }) e ∙ sym (middle pos z true q ∙ pair-path (val-res m (numbers .im)) zero-number)
+      pub second-value-even : a .2 % 2 ≡ 0 → Reads P2₁ a m v j (record { re = x .im; im = 0 })
+      second-value-even b = second-by true (even-is (a .2) b) (second-even m v first e)
 
-      pub middle-imaginary : 0 < a .2 → l ≡ a .2 → even l ≡ false → record { re = 0; im = x .im } ≡ pairOf (lineIn P2₁ a m v h k l)
-      unfolding pairOf valueOf
-      middle-imaginary pos z q = ap (λ y. record { re = 0; im = y .im }) e ∙ sym (middle pos z false q ∙ pair-path zero-number (val-res m (numbers .im)))
+      pub second-value-odd : (a .2 % 2 ≡ 0 → ⊥) → Reads P2₁ a m v j (record { re = 0; im = x .im })
+      second-value-odd b = second-by false (odd-is (a .2) b) (second-odd m v first e)
 
--- ---- as the code reads
+    pub middle-value : (j .2 ≡ a .2 → ⊥) → j .2 ≤ a .2 → {x : Pair} → x ≡ at v (pairPlace P2₁ a (j .2) (j .0) (j .1)) → Reads P2₁ a m v j x
+    unfolding lineIn
+    middle-value z l = pair-reads P2₁ a m v j (
+      rw (ne-eqb (j .2) 0 y, ne-eqb (j .2) (a .2) z) (ap (λ w. pairNumbers P2₁ a w (j .0) (j .1)) (own-pair (a .2) (j .2) l)),
+      alternating-low m (a .2) line (j .2) (omega arith) (omega arith),
+    )
 
-module _ {group n1 n2 n3 : ℕ} {v : List ℕ} (volume : IsVolume group n1 n2 n3 v) {j : Index} (stored : IsStored group n1 n2 n3 j) where
-  abbrev a : J
-  a = halvesOf n1 n2 n3
+-- in the other groups: a pair, or nothing at the ends of an antisymmetric line
+abbrev pub absent : (n : ℕ) → (a j : J) → Bool
+absent n a j = eqb n 3 && (not (even (j .0)) && (eqb (j .2) 0 || eqb (j .2) (a .2)))
 
-  -- the place has its own pair; r is the factor there
-  abbrev pub HasPair : Type 0
-  HasPair = (m : ℕ) → Own a m v (j .h) (j .k) (j .l) (groupOf group)
+module _ (a : J) (pos : 0 < a .2) (m : ℕ) (v : List ℕ) (j : J) where
+  abbrev InPair : Group → Type 0
+  InPair g = (lineNumbersAt g a j ≡ pairNumbers g a (j .2) (j .0) (j .1)) × (lineFactor g a m v j ≡ pairsIn g a m v (j .2) (j .0) (j .1))
 
-  abbrev pub IsFactor : Pair → Type 0
-  IsFactor r = (m : ℕ) → Below (prime m) v → r ≡ pairOf (lineIn (groupOf group) a m v (j .h) (j .k) (j .l))
+  abbrev row : ℕ → Value m
+  row w = pairsIn Pa a m v w (j .0) (j .1)
 
-  pub some-half : 0 < n3 / 2
-  some-half = omega (arith, volume .sizes .third .low)
+  half-pair : j .2 ≤ a .2 → pairNumbers Pa a (min (j .2) (2 * a .2 - j .2)) (j .0) (j .1) ≡ pairNumbers Pa a (j .2) (j .0) (j .1)
+  half-pair l = ap (λ w. pairNumbers Pa a w (j .0) (j .1)) (own-pair (a .2) (j .2) l)
 
-  pub between-ends : (eqb (j .l) 0 || eqb (j .l) (n3 / 2)) ≡ false → HasPair
-  between-ends e m = between-own a m v (j .h) (j .k) some-half (j .l) (not-end (j .l) (n3 / 2) e) group (volume .sizes .known)
+  glide-pair : (b : Bool) → (not b && (eqb (j .2) 0 || eqb (j .2) (a .2))) ≡ false → j .2 ≤ a .2
+      → (lineNumbers Pa a (cond b symmetric antisymmetric) (j .0) (j .1) (j .2) ≡ pairNumbers Pa a (j .2) (j .0) (j .1)) × (readLine m (a .2) (cond b symmetric antisymmetric) row (j .2) ≡ row (j .2))
+  glide-pair true e l = (half-pair l, read-symmetric m (a .2) pos row (j .2) (omega arith))
+  glide-pair false e l =
+      let n = not-end (j .2) (a .2) e in
+      (rw e (half-pair l), read-between m (a .2) row (j .2) (positive (n .0)) (less (n .1)))
+    where
+      positive : (j .2 ≡ 0 → ⊥) → 0 < j .2
+      positive n = omega arith
 
-  pub whole-line : (group ≡ 1 → ⊥) → (group ≡ 3 → ⊥) → HasPair
-  whole-line x y m = whole-own a m v (j .h) (j .k) some-half (j .l) group (volume .sizes .known) x y
+      less : (j .2 ≡ a .2 → ⊥) → j .2 < a .2
+      less n = omega arith
 
-  pub even-line : group ≡ 3 → j .h % 2 ≡ 0 → HasPair
-  even-line z e m = subst (λ n. Own a m v (j .h) (j .k) (j .l) (groupOf n)) (sym z) (glide-own a m v (j .h) (j .k) some-half (j .l) (even-is (j .h) e))
+  pub stored-pair : (n : ℕ) → n < 4 → (n ≡ 1 → ⊥) → absent n a j ≡ false → j .2 < span (groupOf n) (a .2) → InPair (groupOf n)
+  unfolding lineIn span
+  stored-pair zero l y e s = (refl, read-plain m (a .2) row (j .2))
+  stored-pair (suc zero) l y e s = absurd (y refl)
+  stored-pair (suc (suc zero)) l y e s = (half-pair (omega arith), read-symmetric m (a .2) pos row (j .2) s)
+  stored-pair (suc (suc (suc zero))) l y e s = glide-pair (even (j .0)) e (omega arith)
+  stored-pair (suc (suc (suc (suc n)))) l y e s = absurd (omega arith)
 
-  pub own-inside : HasPair → PairInside n1 n2 v (j .l) (j .h) (j .k)
-  own-inside own = pair-inside volume (j .l) (j .h) (j .k) (own 1 (stored .l) .1) (stored .h) (stored .k)
-
-  pub own-factor : HasPair → {r : Pair} → r ≡ at v (pairPlace P1 a (j .l) (j .h) (j .k)) → IsFactor r
-  own-factor own e m small = e ∙ own-pair a m v (j .h) (j .k) small (j .l) (own m (stored .l) .0)
-
-  pub odd-line : group ≡ 3 → (j .h % 2 ≡ 0 → ⊥) → (eqb (j .l) 0 || eqb (j .l) (n3 / 2)) ≡ true → IsFactor (record { re = 0; im = 0 })
-  odd-line z e t m small = zero-is a m v (j .h) (j .k) small
-      (subst (λ n. lineIn (groupOf n) a m v (j .h) (j .k) (j .l) ≡ field m .zer) (sym z) (glide-zero a m v (j .h) (j .k) some-half (j .l) (odd-is (j .h) e) (at-end (j .l) (n3 / 2) t)))
+  pub absent-value : (n : ℕ) → n < 4 → absent n a j ≡ true → Reads (groupOf n) a m v j (record { re = 0; im = 0 })
+  unfolding lineIn
+  absent-value zero l e t = cc
+  absent-value (suc zero) l e t = cc
+  absent-value (suc (suc zero)) l e t = cc
+  absent-value (suc (suc (suc zero))) l e t = zero-pair m ∙ sym (ap pairOf (glide (even (j .0)) e))
+    where
+      glide : (b : Bool) → (not b && (eqb (j .2) 0 || eqb (j .2) (a .2))) ≡ true → readLine m (a .2) (cond b symmetric antisymmetric) row (j .2) ≡ field m .zer
+      glide true e = cc
+      glide false e = ⊎-elim (λ z. ap (readLine m (a .2) antisymmetric row) z ∙ read-first m (a .2) row) (λ z. ap (readLine m (a .2) antisymmetric row) z ∙ read-last m (a .2) pos row) (at-end (j .2) (a .2) e)
+  absent-value (suc (suc (suc (suc n)))) l e t = absurd (omega arith)
 
 -- ---- the number of a point
 

@@ -12,6 +12,7 @@ use Rattle.algebra.specs.CellPack.{even}
 use Rattle.algebra.specs.CellTests.{below, everyPlace, imply, storedT}
 use Rattle.algebra.proofs.Bool.{and-l, and-r, imply-iff, below-by}
 use Rattle.algebra.proofs.CellSym.{im-one, pim-one, imp-one}
+use Rattle.algebra.proofs.CellTests.{every-place-by}
 use Rattle.numbers.specs.declared.Pair.{Pair}
 use Rattle.numbers.specs.Value.{Value, field, conj, valueOf, pairOf}
 use Rattle.numbers.proofs.Values.{value-by, field-ring, field-star}
@@ -21,7 +22,7 @@ use Rattle.cell.specs.Consistency.{sameValue, implied, zeroPair, zeroEnd
 use Rattle.cell.specs.declared.operations.Index.{Index}
 use Rattle.cell.specs.Operations.{halvesOf, tripleOf, Sizes, Within}
 use Rattle.cell.specs.TestSteps.{IsStored, samePair, isZero, imageAgrees, pointImageAgrees, emptyEnds, emptyIfOdd, rowAgrees}
-use Rattle.cell.proofs.Tests.{true-iff, every-place-by}
+use Rattle.cell.proofs.Tests.{true-iff}
 use Rattle.cell.proofs.Passing.{below-one, below-cong, by-rows}
 use Rattle.cell.proofs.VolumeLayout.{number-even, number-odd}
 use Rattle.cell.proofs.Reading.{same-iff, lineAt}

@@ -1,7 +1,6 @@
 pub mod Volume
 pub mod Consistency
 pub mod Sums
-pub mod Passes
 pub mod Operations
 pub mod Places
 pub mod TestSteps

@@ -6,4 +6,3 @@ pub mod recording; // recording.rt: a record's tests, and its images written
 pub mod stored; // stored.rt: what stands at the stored places of a volume
 pub mod factor_test; // factor_test.rt: refusal 14 of packed factors
 pub mod map_test; // map_test.rt: refusal 14 of a map
-pub mod passes; // passes.rt: synthesis and analysis of a volume, line by line

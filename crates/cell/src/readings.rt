@@ -3,12 +3,12 @@ use crate::operations;
 use crate::operations::Index;
 use crate::places;
 use crate::places::Run;
+use crate::stored;
 use numbers::Pair;
 ghost use mathlib.Core.Path.{_≡_};
 ghost use mathlib.Core.Bool.{true};
-ghost use Prim.Native.Nat.{ℕ, _+_, _/_, _<_, _≤_};
+ghost use Prim.Native.Nat.{_+_, _/_, _≤_};
 ghost use lib.ListN.{length};
-ghost use Rattle.algebra.specs.Cell.{P2₁, span};
 ghost use Rattle.numbers.specs.Prime.{prime, IsModulus};
 ghost use Rattle.numbers.specs.Value.{pairOf};
 ghost use Rattle.cell.specs.Volume.{groupOf, volumeLength, numbersRead, factorsIn};
@@ -49,46 +49,6 @@ pub fn factor_numbers_below(
     run_below(places::factor_numbers(group, n1, n2, n3, j), p, volume)
 }
 
-// A stored factor of an alternating line: one number of pair 0 at either end, else a pair.
-fn alternating_value(n1: u32, n2: u32, n3: u32, j: Index, volume: &[u32]) -> Pair
-    requires { ⌜ Sizes 1 n1 n2 n3 × Within n1 n2 n3 j × (j .k ≤ n2 / 2) × (j .l ≤ n3 / 2) ⌝ }
-    requires { ⌜ length (now volume) ≡ volumeLength P2₁ (halvesOf n1 n2 n3) ⌝ }
-    ensures { λ r. ⌜ ((m : ℕ) → allBelowAt (prime m) (now (volume .entry)) (lineNumbersAt P2₁ (halvesOf n1 n2 n3) (tripleOf j)) ≡ true → r ≡ pairOf (lineFactor P2₁ (halvesOf n1 n2 n3) m (now (volume .entry)) (tripleOf j))) ⌝ }
-{
-    let half = n3 / 2;
-    let first = 2 * places::pair_place(n1, n2, 0, j.h, j.k);
-    if j.l == 0 {
-        Pair {
-            re: volume[first],
-            im: 0,
-        }
-    } else if j.l == half {
-        let x = volume[first + 1];
-        if half % 2 == 0 {
-            Pair { re: x, im: 0 }
-        } else {
-            Pair { re: 0, im: x }
-        }
-    } else {
-        slices::get(volume, places::pair_place(n1, n2, j.l, j.h, j.k))
-    }
-}
-
-// A stored factor.
-fn stored_value(group: u32, n1: u32, n2: u32, n3: u32, j: Index, volume: &[u32]) -> Pair
-    requires { ⌜ Sizes group n1 n2 n3 × Within n1 n2 n3 j × (j .k ≤ n2 / 2) × (j .l < span (groupOf group) (n3 / 2)) ⌝ }
-    requires { ⌜ length (now volume) ≡ volumeLength (groupOf group) (halvesOf n1 n2 n3) ⌝ }
-    ensures { λ r. ⌜ ((m : ℕ) → allBelowAt (prime m) (now (volume .entry)) (lineNumbersAt (groupOf group) (halvesOf n1 n2 n3) (tripleOf j)) ≡ true → r ≡ pairOf (lineFactor (groupOf group) (halvesOf n1 n2 n3) m (now (volume .entry)) (tripleOf j))) ⌝ }
-{
-    if group == 1 {
-        alternating_value(n1, n2, n3, j, volume)
-    } else if places::is_absent(group, n3, j) {
-        Pair { re: 0, im: 0 }
-    } else {
-        slices::get(volume, places::pair_place(n1, n2, j.l, j.h, j.k))
-    }
-}
-
 // The factor at (h, k, l), k from 0 to B: stored, or implied by the one at (h, k, -l).
 fn line_value(m: u32, group: u32, n1: u32, n2: u32, n3: u32, j: Index, volume: &[u32]) -> Pair
     requires { ⌜ IsModulus m × Sizes group n1 n2 n3 × Within n1 n2 n3 j × (j .k ≤ n2 / 2) ⌝ }
@@ -97,11 +57,12 @@ fn line_value(m: u32, group: u32, n1: u32, n2: u32, n3: u32, j: Index, volume: &
     ensures { λ r. ⌜ r ≡ pairOf (lineFactor (groupOf group) (halvesOf n1 n2 n3) m (now (volume .entry)) (tripleOf j)) ⌝ }
 {
     if j.l < places::stored_count(group, n3) {
-        stored_value(group, n1, n2, n3, j, volume)
+        stored::stored_factor(group, n1, n2, n3, volume, j)
     } else {
         let o = operations::line_operation(group);
         let i = operations::image(o, n1, n2, n3, j);
-        operations::implied(m, o, j, stored_value(group, n1, n2, n3, i, volume))
+        let x = stored::stored_factor(group, n1, n2, n3, volume, i);
+        operations::implied(m, o, j, x)
     }
 }
 

@@ -6,11 +6,11 @@ use crate::operations::Index;
 use crate::operations::Operation;
 use crate::places;
 use crate::readings;
+use crate::stored;
 use numbers::Pair;
 ghost use mathlib.Core.Path.{_≡_};
-ghost use mathlib.Core.Bool.{_&&_, cond};
+ghost use mathlib.Core.Bool.{cond};
 ghost use Prim.Native.Nat.{_/_, _<_, _≤_};
-ghost use lib.Dec.{eqb};
 ghost use lib.ListN.{length};
 ghost use Rattle.algebra.specs.Cell.{P2₁, sameJ, im, imp, span};
 ghost use Rattle.algebra.specs.CellTests.{imply, storedT};
@@ -31,12 +31,6 @@ fn same_index(i: Index, j: Index) -> bool
     }
 }
 
-fn same_pair(x: Pair, y: Pair) -> bool
-    ensures { λ r. ⌜ r ≡ (eqb (x .re) (y .re) && eqb (x .im) (y .im)) ⌝ }
-{
-    if x.re == y.re { x.im == y.im } else { false }
-}
-
 // If the image of j is j itself, the implied value is x.
 fn agrees_under(m: u32, o: Operation, n1: u32, n2: u32, n3: u32, j: Index, x: Pair) -> bool
     requires { ⌜ IsModulus m × Small (prime m) x ⌝ }
@@ -44,7 +38,7 @@ fn agrees_under(m: u32, o: Operation, n1: u32, n2: u32, n3: u32, j: Index, x: Pa
     ensures { λ r. ⌜ r ≡ imply (sameJ (im (halvesOf n1 n2 n3) (symOf o) (tripleOf j)) (tripleOf j)) (sameValue (imp (field m) (conj m) (symOf o) (tripleOf j) (valueOf m x)) (valueOf m x)) ⌝ }
 {
     if same_index(operations::image(o, n1, n2, n3, j), j) {
-        same_pair(operations::implied(m, o, j, x), x)
+        stored::same(operations::implied(m, o, j, x), x)
     } else {
         true
     }

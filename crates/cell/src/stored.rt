@@ -3,16 +3,16 @@ use crate::operations::Index;
 use crate::places;
 use numbers::Pair;
 ghost use mathlib.Core.Path.{_≡_};
-ghost use mathlib.Core.Bool.{true, _||_};
+ghost use mathlib.Core.Bool.{true};
 ghost use Prim.Native.Nat.{ℕ, _/_};
 ghost use lib.ListN.{getD};
-ghost use lib.Dec.{eqb};
 ghost use Rattle.algebra.specs.Cell.{P1, P2₁};
 ghost use Rattle.numbers.specs.Prime.{prime};
 ghost use Rattle.numbers.specs.Value.{pairOf};
-ghost use Rattle.slices.specs.Pairs.{at, Below};
-ghost use Rattle.cell.specs.Volume.{groupOf, pairPlace, mapPlace, lineIn};
+ghost use Rattle.slices.specs.Pairs.{at};
+ghost use Rattle.cell.specs.Volume.{groupOf, pairPlace, mapPlace};
 ghost use Rattle.cell.specs.Operations.{halvesOf, tripleOf};
+ghost use Rattle.cell.specs.Places.{allBelowAt, lineNumbersAt, lineFactor};
 ghost use Rattle.cell.specs.TestSteps.{IsVolume, IsStored, PairInside, samePair, isZero};
 
 // The pair w of (h, k).
@@ -37,46 +37,37 @@ pub fn is_zero(x: Pair) -> bool
     if x.re == 0 { x.im == 0 } else { false }
 }
 
-// The factor at an end of an alternating line: one number of pair 0, real at l = 0 and at an even A, imaginary at an odd A.
-fn alternating_end(n1: u32, n2: u32, n3: u32, volume: &[u32], j: Index) -> Pair
-    requires { ⌜ IsVolume 1 n1 n2 n3 (now volume) × IsStored 1 n1 n2 n3 j × ((eqb (j .l) 0 || eqb (j .l) (n3 / 2)) ≡ true) ⌝ }
-    ensures { λ r. ⌜ ((m : ℕ) → Below (prime m) (now (volume .entry)) → r ≡ pairOf (lineIn P2₁ (halvesOf n1 n2 n3) m (now (volume .entry)) (j .h) (j .k) (j .l))) ⌝ }
+// The factor at a stored index of an alternating line: at l = 0 and at l = A one number of pair 0, real at l = 0 and at an
+// even A, imaginary at an odd A; else a pair.
+fn alternating_factor(n1: u32, n2: u32, n3: u32, volume: &[u32], j: Index) -> Pair
+    requires { ⌜ IsVolume 1 n1 n2 n3 (now volume) × IsStored 1 n1 n2 n3 j ⌝ }
+    ensures { λ r. ⌜ ((m : ℕ) → allBelowAt (prime m) (now (volume .entry)) (lineNumbersAt P2₁ (halvesOf n1 n2 n3) (tripleOf j)) ≡ true → r ≡ pairOf (lineFactor P2₁ (halvesOf n1 n2 n3) m (now (volume .entry)) (tripleOf j))) ⌝ }
 {
-    let x = pair_at(n1, n2, volume, 0, j.h, j.k);
+    let half = n3 / 2;
     if j.l == 0 {
+        let x = pair_at(n1, n2, volume, 0, j.h, j.k);
         Pair { re: x.re, im: 0 }
-    } else if j.l % 2 == 0 {
-        Pair { re: x.im, im: 0 }
-    } else {
-        Pair { re: 0, im: x.im }
-    }
-}
-
-// The factor at an end l = 0 or l = A: in an antisymmetric line it is zero, and not read.
-fn end_factor(group: u32, n1: u32, n2: u32, n3: u32, volume: &[u32], j: Index) -> Pair
-    requires { ⌜ IsVolume group n1 n2 n3 (now volume) × IsStored group n1 n2 n3 j × ((eqb (j .l) 0 || eqb (j .l) (n3 / 2)) ≡ true) ⌝ }
-    ensures { λ r. ⌜ ((m : ℕ) → Below (prime m) (now (volume .entry)) → r ≡ pairOf (lineIn (groupOf group) (halvesOf n1 n2 n3) m (now (volume .entry)) (j .h) (j .k) (j .l))) ⌝ }
-{
-    if group == 1 {
-        alternating_end(n1, n2, n3, volume, j)
-    } else if group == 3 {
-        if j.h % 2 == 0 {
-            pair_at(n1, n2, volume, j.l, j.h, j.k)
+    } else if j.l == half {
+        let x = pair_at(n1, n2, volume, 0, j.h, j.k);
+        if half % 2 == 0 {
+            Pair { re: x.im, im: 0 }
         } else {
-            Pair { re: 0, im: 0 }
+            Pair { re: 0, im: x.im }
         }
     } else {
         pair_at(n1, n2, volume, j.l, j.h, j.k)
     }
 }
 
-// The factor at a stored place.
+// The factor at a stored index, if the numbers that it is read from are below the prime.
 pub fn stored_factor(group: u32, n1: u32, n2: u32, n3: u32, volume: &[u32], j: Index) -> Pair
     requires { ⌜ IsVolume group n1 n2 n3 (now volume) × IsStored group n1 n2 n3 j ⌝ }
-    ensures { λ r. ⌜ ((m : ℕ) → Below (prime m) (now (volume .entry)) → r ≡ pairOf (lineIn (groupOf group) (halvesOf n1 n2 n3) m (now (volume .entry)) (j .h) (j .k) (j .l))) ⌝ }
+    ensures { λ r. ⌜ ((m : ℕ) → allBelowAt (prime m) (now (volume .entry)) (lineNumbersAt (groupOf group) (halvesOf n1 n2 n3) (tripleOf j)) ≡ true → r ≡ pairOf (lineFactor (groupOf group) (halvesOf n1 n2 n3) m (now (volume .entry)) (tripleOf j))) ⌝ }
 {
-    if places::is_end(n3, j.l) {
-        end_factor(group, n1, n2, n3, volume, j)
+    if group == 1 {
+        alternating_factor(n1, n2, n3, volume, j)
+    } else if places::is_absent(group, n3, j) {
+        Pair { re: 0, im: 0 }
     } else {
         pair_at(n1, n2, volume, j.l, j.h, j.k)
     }

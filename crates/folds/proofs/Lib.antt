@@ -1,10 +1,2 @@
-pub mod HermitianForms
-pub mod HermitianWhole
-pub mod MirrorForms
-pub mod MirrorWhole
-pub mod RealValues
+pub mod Frames
 pub mod ShortTransform
-pub mod AlternatingLine
-pub mod AlternatingPasses
-pub mod AlternatingBack
-pub mod AlternatingWhole

@@ -6,14 +6,15 @@ use lib.Dec.{ltb, eqb}
 use borrow.Author.Tests.{lt-ltb, le-ltb, ltb-true, eq-eqb, ne-eqb, eqb-true}
 use Rattle.plain.specs.Factors.{octal}
 use Rattle.line.specs.Tests.{first}
-use Rattle.line.specs.Lengths.{octalDigits}
+use Rattle.line.specs.Lengths.{factorsOk, octalDigits}
 use Rattle.line.specs.Accepted.{FactorList}
 use Rattle.line.proofs.Tests.{by-true, by-false}
+use Rattle.line.proofs.Factors.{octal-digits}
 use Rattle.cell.specs.Operations.{Sizes}
-use Rattle.cell.specs.Passes.{JobSizes}
-use Rattle.job.specs.Header.{axisTests, headerOf, validJob}
+use Rattle.passes.specs.Passes.{JobSizes}
+use Rattle.job.specs.Header.{Header, axisTests, jobOf, headerOf, validJob}
 use Rattle.job.specs.declared.Job.{Job}
-use Rattle.job.proofs.Headers.{all-three, sound-sizes, sound-axes}
+use Rattle.job.proofs.Headers.{all-three, sound-sizes, sound-axes, sound-lists}
 use Rattle.job.proofs.Digits.{octal-of-digits}
 
 -- a number that is not 0 refuses, 0 does not
@@ -70,3 +71,20 @@ module _ (j : Job) where
       let x = sym (lt-ltb _ _ h) in
       let y = sym (by-true _ _ e f) in
       λ i. x i && (y i && ltb (j .state) 3)
+
+-- the job of a header that no test refuses is valid: its lists are read back from their octal digits
+pub opened-valid : (h : Header) (s : ℕ) → h .group < 4 → 0 ≡ first (axisTests h) → s < 3 → validJob (jobOf h s) ≡ true
+unfolding validJob
+opened-valid h s g e l =
+    let t = sound-lists h e in
+    let x = lt-ltb _ _ g in
+    let y = ap (λ k. eqb (first (axisTests k)) 0) (read-back h (t .0 .0) (t .1 .0) (t .2 .0)) ∙ eq-eqb _ 0 (sym e) in
+    let z = lt-ltb _ _ l in
+    λ i. x i && (y i && z i)
+  where
+    read-back : (h : Header) → factorsOk (h .list1) ≡ true → factorsOk (h .list2) ≡ true → factorsOk (h .list3) ≡ true → headerOf (jobOf h s) ≡ h
+    read-back h e f g =
+        let a = octal-digits (h .list1) e in
+        let b = octal-digits (h .list2) f in
+        let c = octal-digits (h .list3) g in
+        λ i. record { group = h .group; lengths = h .lengths; list1 = a i; list2 = b i; list3 = c i }

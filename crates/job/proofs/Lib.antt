@@ -5,3 +5,4 @@ pub mod Openings
 pub mod Points
 pub mod Reflections
 pub mod Transforms
+pub mod Specimens

@@ -1,8 +1,8 @@
 -- The tests of an opening in their order, and its outcome, refused or accepted.
-use mathlib.Core.Path.{_≡_, _∙_, ap}
+use mathlib.Core.Path.{_≡_, refl, _∙_, ap}
 use mathlib.Core.Bool.{Bool, true, false, _&&_, not, cond}
 use mathlib.Core.List.{List, [], _∷_, _++_}
-use Prim.Native.Nat.{ℕ, _<_}
+use Prim.Native.Nat.{ℕ, zero, suc, _<_}
 use native.Mathlib.Omega.{arith}
 use lib.ListN.{length, replicate, drop}
 use lib.Dec.{eqb}
@@ -12,14 +12,14 @@ use Rattle.slices.specs.Pairs.{allBelow}
 use Rattle.slices.proofs.Segments.{cleared-all}
 use Rattle.line.specs.declared.Refusal.{Refusal}
 use Rattle.line.specs.Refusals.{numberOf}
-use Rattle.line.specs.Tests.{Test, first}
+use Rattle.line.specs.Tests.{Test, first, accepted}
 use Rattle.line.proofs.Tests.{stop, pass, none, not-t, passed, fails}
 use Rattle.cell.specs.Volume.{groupOf, volumeLength}
 use Rattle.cell.specs.Consistency.{consistentMap}
 use Rattle.job.specs.declared.Job.{Job}
 use Rattle.job.specs.declared.OpenAnswer.the-variants.{Opened, Refused}
 use Rattle.job.specs.Header.{Header, halvesOf, axisTests, jobOf, collecting, mapHeld}
-use Rattle.job.specs.Steps.{p, volumeTests, openTests, openStep, notOpened}
+use Rattle.job.specs.Steps.{p, volumeTests, openTests, openStep, OpenOutcome, opened, notOpened}
 use Rattle.job.specs.Said.{openOutcome}
 
 -- ---- no refusal has the number 0
@@ -96,3 +96,15 @@ module _ (h : Header) (kind : ℕ) (v : List ℕ) where
   pub open-map : (j : Job) → 0 ≡ first (openTests h kind v) → (kind ≡ 0 → ⊥) → j ≡ jobOf h mapHeld → openOutcome (Opened j) v ≡ openStep h kind v
   unfolding openStep
   open-map j e k s = rw (← e, s, ne-eqb kind 0 k)
+
+-- an opening to collect that gave a job: no test held, and the job is the header's
+pub opened-collecting : (h : Header) (v : List ℕ) {j : Job} {v′ : List ℕ} → openStep h 0 v ≡ record { answer = opened j; volume = v′ } → (0 ≡ first (openTests h 0 v)) × (j ≡ jobOf h collecting)
+unfolding openStep
+opened-collecting h v e = by-number (first (openTests h 0 v)) (jobOf h collecting) (replicate (length v) 0) e
+  where
+    by-number : (n : ℕ) (k : Job) (w : List ℕ) {j : Job} {v′ : List ℕ} → _≡_ {A = OpenOutcome} (accepted n (record { answer = opened k; volume = w }) (λ n. record { answer = notOpened n 0; volume = v })) (record { answer = opened j; volume = v′ }) → (0 ≡ n) × (j ≡ k)
+    by-number zero k w e = let a = ap (λ (o : OpenOutcome). o .answer) e in (refl, cc)
+    by-number (suc n) k w e =
+        let a = ap (λ (o : OpenOutcome). o .answer) e in
+        let z : _≡_ {A = ℕ} 0 1 = cc in
+        absurd (omega arith)

@@ -87,8 +87,7 @@ abbrev pub recordTestsOf : (valid : Bool) (state group : ℕ) (lengths at : J) (
 recordTestsOf valid state group n at x y v =
     not valid ⇒ 25 ∷
     not (eqb state collecting) ⇒ 21 ∷
-    not (within n at) ⇒ 10 ∷
-    not (ltb x p && ltb y p) ⇒ 7 ∷
+    not (within n at) ⇒ 10 ∷ not (ltb x p && ltb y p) ⇒ 7 ∷
     (eqb x 0 && eqb y 0) ⇒ 11 ∷
     not (agreesWithItself (groupOf group) (halvesOf n) 1 at (value 1 x y)) ⇒ 12 ∷
     not (eqb (length v) (volumeLength (groupOf group) (halvesOf n))) ⇒ 6 ∷

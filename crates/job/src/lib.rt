@@ -1,7 +1,8 @@
 // A job collects structure factors and turns them into a map, or a map into factors.
 //
 // The job is handed in and handed back by value at each call, beside the volume that the caller lends. Each call is a check, which
-// answers the first refusal of the paper's order, and then the work.
+// answers the first refusal of the paper's order, and then the work. What a caller holds or hands in by value has the layout of C,
+// so that crate exported can pass it on.
 pub mod header; // header.rt: the tests of an opening's group, lengths and factor lists
 pub mod valid; // valid.rt: which jobs an opening or a later call could have made
 pub mod tests; // tests.rt: tests that several calls share
@@ -13,20 +14,25 @@ pub mod synthesis; // synthesis.rt: from factors to the map
 pub mod analysis; // analysis.rt: from the map to its factors
 
 use line::Refusal;
+ghost use Rattle.job.specs.Specimens.{Specimens};
 
 // The index of a structure factor, in reciprocal space: h, k, l.
+#[repr(C)]
 pub struct Reflection(pub u32, pub u32, pub u32);
 
 // The index of a point of the map, in real space: x, y, z.
+#[repr(C)]
 pub struct GridPoint(pub u32, pub u32, pub u32);
 
 // An axis: its length, and its factor list as octal digits, the first factor lowest.
+#[repr(C)]
 pub struct Axis {
     pub length: u32,
     pub factors: u32,
 }
 
 // The state is 0 collecting, 1 factors held, 2 map held.
+#[repr(C)]
 pub struct Job {
     pub group: u32,
     pub a: Axis,
@@ -62,3 +68,8 @@ pub enum FactorAnswer {
     Factor(u32, u32),
     Refused(Refusal),
 }
+
+// The paper's starred records, refused by the definitions whatever the cell and the value.
+pub fn starred_records()
+    ensures { λ _. ⌜ Specimens ⌝ }
+{}

@@ -111,11 +111,11 @@ fn folded<'a>(
     ensures { λ _. ⌜ now (line .exit) ≡ transformed m kind 0 (2 * a) (now (line .entry)) ⌝ }
 {
     match kind {
-        1 => folds::hermitian::forward(m, re, im, false, factors, a, line, fold, work),
-        2 => folds::hermitian::forward(m, re, im, true, factors, a, line, fold, work),
-        3 => folds::alternating::forward(m, re, im, tan, factors, a, line, fold, work),
-        4 => folds::mirror::forward(m, re, im, tan, factors, 0, a, line, fold, work),
-        _ => folds::mirror::forward(m, re, im, tan, factors, 1, a, line, fold, work),
+        1 => hermitian::forward(m, re, im, false, factors, a, line, fold, work),
+        2 => hermitian::forward(m, re, im, true, factors, a, line, fold, work),
+        3 => alternating::forward(m, re, im, tan, factors, a, line, fold, work),
+        4 => mirror::forward(m, re, im, tan, factors, 0, a, line, fold, work),
+        _ => mirror::forward(m, re, im, tan, factors, 1, a, line, fold, work),
     }
 }
 
@@ -140,10 +140,10 @@ fn unfolded<'a>(
 {
     let share = numbers::reciprocal(m, (2 * a) as u32);
     match kind {
-        1 => folds::hermitian::inverse(m, re, im, false, factors, a, line, fold, work),
-        2 => folds::hermitian::inverse(m, re, im, true, factors, a, line, fold, work),
-        3 => folds::alternating::inverse(m, re, im, tan, factors, a, line, fold, work),
-        4 => folds::mirror::inverse(m, re, im, tan, factors, share, 0, a, line, fold, work),
-        _ => folds::mirror::inverse(m, re, im, tan, factors, share, 1, a, line, fold, work),
+        1 => hermitian::inverse(m, re, im, false, factors, a, line, fold, work),
+        2 => hermitian::inverse(m, re, im, true, factors, a, line, fold, work),
+        3 => alternating::inverse(m, re, im, tan, factors, a, line, fold, work),
+        4 => mirror::inverse(m, re, im, tan, factors, share, 0, a, line, fold, work),
+        _ => mirror::inverse(m, re, im, tan, factors, share, 1, a, line, fold, work),
     }
 }

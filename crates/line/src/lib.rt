@@ -107,9 +107,9 @@ fn transform_line(
     ensures { λ _. ⌜ drop scratchLength (now (scratch .exit)) ≡ drop scratchLength (now (scratch .entry)) ⌝ }
 {
     let a = (length / 2) as usize;
-    let re = numbers::tables::real_parts(m);
-    let mut im = numbers::tables::imaginary_parts(m);
-    let mut tan = numbers::tables::half_tangents(m);
+    let re = roots::real_parts(m);
+    let mut im = roots::imaginary_parts(m);
+    let mut tan = roots::half_tangents(m);
     let mut work = [0u32; 5760];
     let fold = &mut scratch[..5760];
     if direction == 0 {

@@ -8,11 +8,9 @@ ghost use Rattle.algebra.specs.Ring.{Ops};
 ghost use Rattle.algebra.specs.Residue.{Res};
 ghost use Rattle.numbers.specs.Prime.{prime, IsModulus};
 ghost use Rattle.numbers.specs.Value.{Value, ring, field, conj, i, res, value, half, part, real, valueOf, pairOf, Small};
-ghost use mathlib.Core.List.{List};
 ghost use Rattle.numbers.specs.Accumulator.{Accumulated};
-ghost use Rattle.numbers.specs.Root.{entryAt, RealTable, ImaginaryTable, TangentTable, NegatedTable};
 
-pub mod tables; // tables.rt: the powers of the root and its half tangents
+pub mod tables; // tables.rt: tables of the root's powers and half tangents, lent
 
 // A value of the paper: re + im i.
 pub struct Pair {

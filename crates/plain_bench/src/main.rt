@@ -85,8 +85,8 @@ fn run<'a>(re: &'a [u32; 2880], im: &'a [u32; 2880], line: &mut [u32], work: &mu
 }
 
 fn main() {
-    let re = numbers::tables::real_parts(1);
-    let im = numbers::tables::imaginary_parts(1);
+    let re = roots::real_parts(1);
+    let im = roots::imaginary_parts(1);
     let mut line = [0u32; 2880];
     let mut work = [0u32; 2880];
     fill(&mut line);

@@ -42,8 +42,8 @@ fn lend(m: u32, factors: u32, n: usize)
     requires { ⌜ IsModulus m ⌝ }
     requires { ⌜ Factored factors n × (n * (2880 / n) ≡ 2880) ⌝ }
 {
-    let re = numbers::tables::real_parts(m);
-    let im = numbers::tables::imaginary_parts(m);
+    let re = roots::real_parts(m);
+    let im = roots::imaginary_parts(m);
     let mut back = im;
     numbers::tables::negate(m, &mut back);
     let mut line = zeros();

@@ -8,8 +8,8 @@ use Rattle.plain_bench.proofs.main.Reads as reads
 use Rattle.plain_bench.proofs.main.Lts as lts
 use Rattle.io.proofs.print_decimal.Reads as print-decimal-reads
 use Rattle.io.proofs.write_all.Reads as write-all-reads
-use Rattle.numbers.proofs.tables.imaginary_parts.Reads as imaginary-parts-reads
-use Rattle.numbers.proofs.tables.real_parts.Reads as real-parts-reads
+use Rattle.roots.proofs.imaginary_parts.Reads as imaginary-parts-reads
+use Rattle.roots.proofs.real_parts.Reads as real-parts-reads
 use Rattle.plain_bench.proofs.checksum.Reads as checksum-reads
 use Rattle.plain_bench.proofs.fill.Reads as fill-reads
 use Rattle.plain_bench.proofs.repeats.Reads as repeats-reads

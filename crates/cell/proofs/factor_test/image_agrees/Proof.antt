@@ -2,6 +2,7 @@
 use borrow.Author.Needs.{needs}
 use Rattle.numbers.proofs.Values.{small-by}
 use Rattle.cell.specs.Operations.{symOf}
+use Rattle.cell.proofs.StoredFactors.{all-below-at}
 use Rattle.cell.proofs.TestLaws.{stored-within, stored-by, image-tested, image-skipped}
 use Rattle.cell.proofs.factor_test.image_agrees.Statement.{statement}
 use Rattle.cell.proofs.factor_test.image_agrees.Tie as tie
@@ -27,7 +28,7 @@ stored-factor-requires-2 c κs =
 implied-requires : tie.Need-implied-requires
 implied-requires c κs =
     let p = c .before .before .before .before .before .before .pre in
-    (p .1, small-by _ _ (c .before .stored-factor .ensures _ (p .2)))
+    (p .1, small-by _ _ (c .before .stored-factor .ensures _ (all-below-at (p .2) _)))
 
 same-requires : tie.Need-same-requires
 same-requires c κs = search needs
@@ -38,7 +39,7 @@ returns c =
     let t = f .before .before in
     let p = t .before .before .before in
     image-tested _ _ _ _ _ (symOf (p .args .o)) (t .before .image .ensures .0) (t .is-stored .ensures) (f .before .if1 .taken)
-    (f .stored-factor .ensures _ (p .pre .2)) (c .before .before .stored-factor2 .ensures _ (p .pre .2)) (c .before .implied .ensures) (c .same .ensures)
+    (f .stored-factor .ensures _ (all-below-at (p .pre .2) _)) (c .before .before .stored-factor2 .ensures _ (all-below-at (p .pre .2) _)) (c .before .implied .ensures) (c .same .ensures)
 
 returns-2 : tie.Need-returns-2
 returns-2 c =

@@ -14,15 +14,15 @@ same-index-requires c κs = search needs
 implied-requires : tie.Need-implied-requires
 implied-requires c κs = search needs
 
-same-pair-requires : tie.Need-same-pair-requires
-same-pair-requires c κs = search needs
+same-requires : tie.Need-same-requires
+same-requires c κs = search needs
 
 returns : tie.Need-returns
 returns c =
     let i = c .before .before .before in
     let s = i .before .before in
     let a = s .args in
-    same-agrees (halvesOf (a .n1) (a .n2) (a .n3)) (a .m) (tripleOf (a .j)) (symOf (a .o)) (i .before .image .ensures .0) (i .same-index .ensures) (a .x) (s .pre .0 .1) (c .before .before .if1 .taken) (c .before .implied .ensures) (c .same-pair .ensures)
+    same-agrees (halvesOf (a .n1) (a .n2) (a .n3)) (a .m) (tripleOf (a .j)) (symOf (a .o)) (i .before .image .ensures .0) (i .same-index .ensures) (a .x) (s .pre .0 .1) (c .before .before .if1 .taken) (c .before .implied .ensures) (c .same .ensures)
 
 returns-2 : tie.Need-returns-2
 returns-2 c =
@@ -37,6 +37,6 @@ agrees-under-spec =
     image-requires
     same-index-requires
     implied-requires
-    same-pair-requires
+    same-requires
     returns
     returns-2)

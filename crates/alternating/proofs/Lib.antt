@@ -1,0 +1,4 @@
+pub mod Line
+pub mod Passes
+pub mod Back
+pub mod Whole

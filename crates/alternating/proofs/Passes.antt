@@ -1,0 +1,123 @@
+-- What the passes of the alternating line's forward transform compute, place by place.
+use mathlib.Core.Path.{_≡_, refl, sym, _∙_, ap, ap₂}
+use mathlib.Core.List.{List}
+use Prim.Native.Nat.{ℕ, zero, suc, _+_, _*_, _-_, _≤_, _<_}
+use native.Mathlib.Numerals.{add-one}
+use native.Mathlib.Omega.{arith}
+use lib.ListN.{getD}
+use Rattle.algebra.specs.Ring.{Ops, sum}
+use Rattle.algebra.specs.Residue.{residues}
+use Rattle.algebra.specs.Gauss.{gauss}
+use Rattle.algebra.specs.Line.{re, im, unfoldB3}
+use Rattle.algebra.specs.Folds.{woven, csc, cot, finish3}
+use Rattle.algebra.proofs.ResidueRing.{residue-add}
+use Rattle.numbers.specs.declared.Pair.{Pair}
+use Rattle.numbers.specs.Prime.{prime, IsModulus}
+use Rattle.numbers.specs.Value.{Residue, Value, field, conj, i, res, real, half, valueOf, pairOf}
+use Rattle.numbers.specs.Value as Value
+use Rattle.numbers.proofs.Primes.{prime-most}
+use Rattle.numbers.proofs.Residues.{res-by, res-val, val-res}
+use Rattle.numbers.proofs.Parts.{re-value, im-value}
+use Rattle.numbers.proofs.Values.{pair-path, small-by, value-by}
+use Rattle.slices.specs.Pairs.{at}
+use Rattle.slices.specs.Values.{valuesOf}
+use Rattle.folds.specs.Frame.{stride, tangent}
+use Rattle.numbers.proofs.RealValues.{real-add, real-neg, real-mul, parts-value}
+
+-- ---- forward, before the transform
+
+pub woven-by : (m : ℕ) (X : ℕ → Value m) (t : ℕ) {x y z r : Pair} → x ≡ pairOf (X (2 * t)) → y ≡ pairOf (X (2 * t + 1))
+    → z ≡ pairOf (field m .mul (i m) (valueOf m y)) → r ≡ pairOf (field m .add (valueOf m x) (valueOf m z)) → r ≡ pairOf (woven (field m) (i m) X t)
+unfolding woven
+woven-by m X t ex ey ez er =
+    er ∙ ap pairOf (ap₂ (field m .add) (value-by m _ ex) (value-by m _ ez ∙ ap (field m .mul (i m)) (value-by m _ ey)))
+
+-- the sum of the imaginary parts at the odd places: t of them are in s, not reduced
+abbrev imaginary-odd : (m A : ℕ) (line : List ℕ) → ℕ → Value m
+imaginary-odd m A line t = im (field m) (conj m) (i m) (real m (half m)) (unfoldB3 (field m) (conj m) (i m) (real m (half m)) A (valuesOf m line) (2 * t + 1))
+
+imaginary-part : (m : ℕ) (z : Value m) {v : Pair} → v ≡ pairOf z → real m (res m (v .im)) ≡ im (field m) (conj m) (i m) (real m (half m)) z
+unfolding pairOf
+imaginary-part m z e = ap (real m) (ap (λ (w : Pair). res m (w .im)) e ∙ res-val m _) ∙ sym (im-value m z)
+
+pub record OddSum (m A : ℕ) (line : List ℕ) (s t : ℕ) : Type 0 where
+  pub le : t ≤ A
+  pub bound : s ≤ 302399 * t
+  pub sum-is : real m (res m s) ≡ sum (field m) t (imaginary-odd m A line)
+
+module _ {m A : ℕ} {line : List ℕ} where
+  pub odd-sum-start : OddSum m A line 0 0
+  unfolding sum gauss residues
+  odd-sum-start = record { le = omega arith; bound = omega arith; sum-is = refl }
+
+  pub odd-sum-next : {s t : ℕ} {v : Pair} → IsModulus m → OddSum m A line s t → t < A
+      → v ≡ pairOf (unfoldB3 (field m) (conj m) (i m) (real m (half m)) A (valuesOf m line) (2 * t + 1)) → OddSum m A line (s + v .im) (t + 1)
+  unfolding sum
+  odd-sum-next {s} {t} {v} is h l e = record {
+    le = omega arith;
+    bound = omega (arith, h .bound, prime-most is, small-by m _ e .im);
+    sum-is = ap (real m) (residue-add (prime m) s (v .im)) ∙ real-add m _ _ ∙ ap₂ (field m .add) (h .sum-is) (imaginary-part m _ e) ∙ ap (λ n. sum (field m) n (imaginary-odd m A line)) (sym (add-one t));
+  }
+
+  pub odd-sum-done : {s t r : ℕ} → OddSum m A line s t → A ≤ t → r ≡ (res m s) .val → real m (res m r) ≡ sum (field m) A (imaginary-odd m A line)
+  odd-sum-done {s} {t} h l e = ap (real m) (res-by m (res m s) e) ∙ h .sum-is ∙ ap (λ n. sum (field m) n (imaginary-odd m A line)) (omega (arith, h .le))
+
+-- ---- the half tangents
+
+tau : (m A : ℕ) (tan : List ℕ) (t : ℕ) {x : ℕ} → x ≡ getD tan (stride A * t) 0 → real m (res m x) ≡ tangent m A tan t
+tau m A tan t e = ap (λ x. real m (res m x)) e
+
+pub cot-by : (m A : ℕ) (tan : List ℕ) (s : ℕ) {x y d r : ℕ} → x ≡ getD tan (stride A * s) 0 → y ≡ getD tan (stride A * (A - s)) 0
+    → d ≡ (Value.ring m .add (res m y) (Value.ring m .neg (res m x))) .val → r ≡ (Value.ring m .mul (half m) (res m d)) .val
+    → real m (res m r) ≡ cot (field m) (real m (half m)) A (tangent m A tan) s
+unfolding cot
+cot-by m A tan s ex ey ed er =
+    ap (real m) (res-by m _ er) ∙ real-mul m _ _
+    ∙ ap (field m .mul (real m (half m))) (ap (real m) (res-by m _ ed) ∙ real-add m _ _ ∙ ap₂ (field m .add) (tau m A tan (A - s) ey) (real-neg m _ ∙ ap (field m .neg) (tau m A tan s ex)))
+
+pub csc-by : (m A : ℕ) (tan : List ℕ) (s : ℕ) {x y d r : ℕ} → x ≡ getD tan (stride A * s) 0 → y ≡ getD tan (stride A * (A - s)) 0
+    → d ≡ (Value.ring m .add (res m x) (res m y)) .val → r ≡ (Value.ring m .mul (half m) (res m d)) .val
+    → real m (res m r) ≡ csc (field m) (real m (half m)) A (tangent m A tan) s
+unfolding csc
+csc-by m A tan s ex ey ed er =
+    ap (real m) (res-by m _ er) ∙ real-mul m _ _
+    ∙ ap (field m .mul (real m (half m))) (ap (real m) (res-by m _ ed) ∙ real-add m _ _ ∙ ap₂ (field m .add) (tau m A tan s ex) (tau m A tan (A - s) ey))
+
+-- ---- forward, after the transform
+
+-- a pair from two numbers that stand for its parts
+pub pair-parts : (m : ℕ) (x y : Residue m) {u v : ℕ} → u ≡ x .val → v ≡ y .val → record { re = u; im = v } ≡ pairOf (field m .add (real m x) (field m .mul (i m) (real m y)))
+unfolding pairOf
+pair-parts m x y eu ev = pair-path eu ev ∙ ap pairOf (sym (parts-value m x y))
+
+-- the parts of a pair that was read
+pub read-re : (m : ℕ) (l : List ℕ) (s : ℕ) {v : Pair} → v ≡ at l s → real m (res m (v .re)) ≡ re (field m) (conj m) (i m) (real m (half m)) (valuesOf m l s)
+unfolding valueOf
+read-re m l s e = ap (λ (w : Pair). real m (res m (w .re))) e ∙ sym (re-value m _)
+
+pub read-im : (m : ℕ) (l : List ℕ) (s : ℕ) {v : Pair} → v ≡ at l s → real m (res m (v .im)) ≡ im (field m) (conj m) (i m) (real m (half m)) (valuesOf m l s)
+unfolding valueOf
+read-im m l s e = ap (λ (w : Pair). real m (res m (w .im))) e ∙ sym (im-value m _)
+
+module _ (m A : ℕ) (tan fold : List ℕ) (odd : ℕ) where
+  pub finish-first : (s : ℕ) {v : Pair} {r : ℕ} → s ≡ 0 → v ≡ at fold s → odd < prime m → r ≡ (Value.ring m .add (res m (v .re)) (res m odd)) .val
+      → record { re = r; im = odd } ≡ pairOf (finish3 (field m) (conj m) (i m) (real m (half m)) A (tangent m A tan) (valuesOf m fold) (real m (res m odd)) s)
+  unfolding finish3
+  finish-first zero z ev l e =
+      pair-parts m _ (res m odd) e (sym (val-res m l))
+      ∙ ap (λ x. pairOf (field m .add x (field m .mul (i m) (real m (res m odd))))) (real-add m _ _ ∙ ap (λ x. field m .add x (real m (res m odd))) (read-re m fold 0 ev))
+  finish-first (suc s) z ev l e = absurd (omega arith)
+
+  -- c is the cotangent, d the cosecant
+  pub finish-rest : (s c d : ℕ) {v : Pair} {x y r : ℕ} → (s ≡ 0 → ⊥) → v ≡ at fold s
+      → real m (res m c) ≡ cot (field m) (real m (half m)) A (tangent m A tan) s → real m (res m d) ≡ csc (field m) (real m (half m)) A (tangent m A tan) s
+      → x ≡ (Value.ring m .mul (res m (v .im)) (res m c)) .val → y ≡ (Value.ring m .mul (res m (v .im)) (res m d)) .val
+      → r ≡ (Value.ring m .add (res m (v .re)) (res m x)) .val
+      → record { re = r; im = y } ≡ pairOf (finish3 (field m) (conj m) (i m) (real m (half m)) A (tangent m A tan) (valuesOf m fold) (real m (res m odd)) s)
+  unfolding finish3
+  finish-rest zero c d z ev ec ed ex ey er = absurd (z refl)
+  finish-rest (suc s) c d z ev ec ed ex ey er =
+      pair-parts m _ _ er ey
+      ∙ ap₂ (λ x y. pairOf (field m .add x (field m .mul (i m) y)))
+      (real-add m _ _ ∙ ap₂ (field m .add) (read-re m fold (suc s) ev) (ap (real m) (res-by m _ ex) ∙ real-mul m _ _ ∙ ap₂ (field m .mul) (read-im m fold (suc s) ev) ec))
+      (real-mul m _ _ ∙ ap₂ (field m .mul) (read-im m fold (suc s) ev) ed)

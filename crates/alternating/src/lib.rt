@@ -1,0 +1,351 @@
+// Kind 3, the alternating line: X(2A - t) = (-1)^t conj X(t).
+//
+// The line is lent packed: pair t is X(t) for 0 < t < A. The rule makes X(0) real, and X(A) real for an even A and imaginary for an
+// odd one, so each of the two has one number that can differ from 0, and they share pair 0. After the transform the pairs are
+// X^(0), .., X^(A - 1), and X^(A + s) = conj X^(s).
+//
+// Forward, the short line is Y(t) = X(2t) + i X(2t + 1). By the rule the even places transform to a real E(s), and the odd ones to
+// i e(-s/N) b(s) with a real b(s), so that X^(s) = E(s) + i b(s) and Y^(s) = E(s) - e(-s/N) b(s): its imaginary part is b(s) times the
+// sine and its real part E(s) less b(s) times the cosine of the angle of e(s/N). The sine is 0 at s = 0 alone, where b is summed apart.
+use numbers::Pair;
+ghost use mathlib.Core.Path.{_≡_};
+ghost use Prim.Native.Nat.{ℕ, suc, _+_, _*_, _-_, _/_, _<_, _≤_};
+ghost use lib.ListN.{length, getD};
+ghost use Rattle.algebra.specs.Ring.{Ops, sum};
+ghost use Rattle.algebra.specs.Line.{im, unfoldB3, packB3};
+ghost use Rattle.algebra.specs.Folds.{mate, woven, csc, cot, finish3, slant, twice-M, line3};
+ghost use Rattle.algebra.specs.Kinds.{Kind, Kind.alternating, slots, fold-forward, fold-back};
+ghost use Rattle.numbers.specs.Prime.{prime, IsModulus};
+ghost use Rattle.numbers.specs.Value.{field, conj, i, res, real, half, part, pairOf};
+ghost use Rattle.slices.specs.Pairs.{Below};
+ghost use Rattle.slices.specs.Values.{valuesOf, listOf};
+ghost use Rattle.plain.specs.Factors.{Factored};
+ghost use Rattle.folds.specs.Frame.{stride, lineRoot, tangent, Frame, Tangents};
+
+// The forward transform: the line becomes X^(0), .., X^(A - 1). The tables are those of the root and of its half tangents.
+pub fn forward<'a>(
+    m: u32,
+    re: &'a [u32; 2880],
+    im: &'a [u32; 2880],
+    tan: &'a [u32; 1440],
+    factors: u32,
+    a: usize,
+    line: &mut [u32],
+    fold: &mut [u32],
+    work: &mut [u32],
+)
+    requires { ⌜ Frame m a (now re) (now im) × Tangents m (now tan) × Factored factors a ⌝ }
+    requires { ⌜ (length (now line) ≡ 2 * a) × Below (prime m) (now line) ⌝ }
+    requires { ⌜ (length (now fold) ≡ 2 * a) × (length (now work) ≡ 2 * a) ⌝ }
+    ensures { λ _. ⌜ now (line .exit) ≡ listOf (slots alternating a) (fold-forward (field m) (conj m) (i m) (real m (half m)) a (lineRoot m a (now (re .entry)) (now (im .entry))) (real m (part m (2 * a))) (tangent m a (now (tan .entry))) alternating (valuesOf m (now (line .entry)))) ⌝ }
+{
+    let odd = odd_imaginary_sum(m, a, line);
+    weave(m, a, line, fold);
+    plain::transform(m, re, im, factors, a, fold, work);
+    finish(m, tan, a, odd, fold, line);
+}
+
+// The inverse. The tables are those of the root's conjugate and of its half tangents, which are the negated ones: the root of the line is the conjugate
+// of the lent one, and its half tangents are the lent ones negated.
+pub fn inverse<'a>(
+    m: u32,
+    re: &'a [u32; 2880],
+    im: &'a [u32; 2880],
+    tan: &'a [u32; 1440],
+    factors: u32,
+    a: usize,
+    line: &mut [u32],
+    fold: &mut [u32],
+    work: &mut [u32],
+)
+    requires { ⌜ Frame m a (now re) (now im) × Tangents m (now tan) × Factored factors a ⌝ }
+    requires { ⌜ (length (now line) ≡ 2 * a) × Below (prime m) (now line) ⌝ }
+    requires { ⌜ (length (now fold) ≡ 2 * a) × (length (now work) ≡ 2 * a) ⌝ }
+    ensures { λ _. ⌜ now (line .exit) ≡ listOf (slots alternating a) (fold-back (field m) (conj m) (i m) (real m (half m)) a (conj m (lineRoot m a (now (re .entry)) (now (im .entry)))) (real m (part m (2 * a))) (λ s. field m .neg (tangent m a (now (tan .entry)) s)) alternating (valuesOf m (now (line .entry)))) ⌝ }
+{
+    let share = numbers::reciprocal(m, (2 * a) as u32);
+    let twice = twice_sum(m, line);
+    slant(m, tan, a, line, fold);
+    plain::transform(m, re, im, factors, a, fold, work);
+    pack(m, share, twice, a, fold, line);
+}
+
+// The value at place j of the whole line.
+fn value_at(m: u32, a: usize, line: &[u32], j: usize) -> Pair
+    requires { ⌜ IsModulus m × (j < 2 * a) ⌝ }
+    requires { ⌜ (length (now line) ≡ 2 * a) × Below (prime m) (now line) ⌝ }
+    ensures { λ r. ⌜ r ≡ pairOf (unfoldB3 (field m) (conj m) (i m) (real m (half m)) a (valuesOf m (now (line .entry))) j) ⌝ }
+{
+    if j == 0 {
+        // X(0) = conj X(0): the first number of pair 0 is all of it
+        let v = slices::get(line, 0);
+        Pair { re: v.re, im: 0 }
+    } else if j < a {
+        slices::get(line, j)
+    } else if j == a {
+        // X(A) = (-1)^A conj X(A): the second number of pair 0 is its real part for an even A, its imaginary part for an odd A
+        let v = slices::get(line, 0);
+        if a % 2 == 0 {
+            Pair { re: v.im, im: 0 }
+        } else {
+            Pair { re: 0, im: v.im }
+        }
+    } else {
+        // X(j) = (-1)^u conj X(u), u = 2A - j, and u is even where j is
+        let v = numbers::conjugate(m, slices::get(line, 2 * a - j));
+        if j % 2 == 0 {
+            v
+        } else {
+            numbers::negated(m, v)
+        }
+    }
+}
+
+// The short line, before its transform: X(2t) + i X(2t + 1).
+fn weave_at(m: u32, a: usize, line: &[u32], t: usize) -> Pair
+    requires { ⌜ IsModulus m × (t < a) ⌝ }
+    requires { ⌜ (length (now line) ≡ 2 * a) × Below (prime m) (now line) ⌝ }
+    ensures { λ r. ⌜ r ≡ pairOf (woven (field m) (i m) (unfoldB3 (field m) (conj m) (i m) (real m (half m)) a (valuesOf m (now (line .entry)))) t) ⌝ }
+{
+    let even = value_at(m, a, line, 2 * t);
+    let odd = value_at(m, a, line, 2 * t + 1);
+    numbers::sum(m, even, numbers::times_i(m, odd))
+}
+
+fn weave(m: u32, a: usize, line: &[u32], fold: &mut [u32])
+    requires { ⌜ IsModulus m ⌝ }
+    requires { ⌜ (length (now line) ≡ 2 * a) × Below (prime m) (now line) ⌝ }
+    requires { ⌜ length (now fold) ≡ 2 * a ⌝ }
+    ensures { λ _. ⌜ now (fold .exit) ≡ listOf a (woven (field m) (i m) (unfoldB3 (field m) (conj m) (i m) (real m (half m)) a (valuesOf m (now (line .entry))))) ⌝ }
+{
+    let mut t = 0;
+    while t < a {
+        let v = weave_at(m, a, line, t);
+        slices::store(fold, t, v);
+        t += 1;
+    }
+}
+
+// b(0), the sum of the imaginary parts at the odd places: the short transform does not tell it.
+fn odd_imaginary_sum(m: u32, a: usize, line: &[u32]) -> u32
+    requires { ⌜ IsModulus m × (a ≤ 1440) ⌝ }
+    requires { ⌜ (length (now line) ≡ 2 * a) × Below (prime m) (now line) ⌝ }
+    ensures { λ r. ⌜ (r < prime m) × (real m (res m r) ≡ sum (field m) a (λ t. im (field m) (conj m) (i m) (real m (half m)) (unfoldB3 (field m) (conj m) (i m) (real m (half m)) a (valuesOf m (now (line .entry))) (2 * t + 1)))) ⌝ }
+{
+    let mut s: u64 = 0;
+    let mut t = 0;
+    while t < a {
+        let v = value_at(m, a, line, 2 * t + 1);
+        s += v.im as u64;
+        t += 1;
+    }
+    numbers::reduce(m, s)
+}
+
+// tau(s), the half tangent of e(s/N).
+fn half_tangent(m: u32, tan: &[u32; 1440], step: usize, a: usize, s: usize) -> u32
+    requires { ⌜ Tangents m (now tan) ⌝ }
+    requires { ⌜ (step ≡ stride a) × (a * step ≡ 1440) × (s < a) ⌝ }
+    ensures { λ r. ⌜ (r < prime m) × (r ≡ getD (now (tan .entry)) (stride a * s) 0) ⌝ }
+{
+    tan[step * s]
+}
+
+// The cotangent and the cosecant of the angle of e(s/N), from its half tangent tau(s) and tau(A - s) = 1/tau(s).
+fn cotangent(m: u32, tan: &[u32; 1440], step: usize, a: usize, s: usize) -> u32
+    requires { ⌜ IsModulus m × Tangents m (now tan) ⌝ }
+    requires { ⌜ (step ≡ stride a) × (a * step ≡ 1440) × (0 < s) × (s < a) ⌝ }
+    ensures { λ r. ⌜ (r < prime m) × (real m (res m r) ≡ cot (field m) (real m (half m)) a (tangent m a (now (tan .entry))) s) ⌝ }
+{
+    let near = half_tangent(m, tan, step, a, s);
+    let far = half_tangent(m, tan, step, a, a - s);
+    numbers::halve(m, numbers::sub(m, far, near))
+}
+
+fn cosecant(m: u32, tan: &[u32; 1440], step: usize, a: usize, s: usize) -> u32
+    requires { ⌜ IsModulus m × Tangents m (now tan) ⌝ }
+    requires { ⌜ (step ≡ stride a) × (a * step ≡ 1440) × (0 < s) × (s < a) ⌝ }
+    ensures { λ r. ⌜ (r < prime m) × (real m (res m r) ≡ csc (field m) (real m (half m)) a (tangent m a (now (tan .entry))) s) ⌝ }
+{
+    let near = half_tangent(m, tan, step, a, s);
+    let far = half_tangent(m, tan, step, a, a - s);
+    numbers::halve(m, numbers::add(m, near, far))
+}
+
+// One result, from the short transform and the sum of the imaginary parts at the odd places.
+fn finish_at(
+    m: u32,
+    tan: &[u32; 1440],
+    step: usize,
+    a: usize,
+    odd: u32,
+    fold: &[u32],
+    s: usize,
+) -> Pair
+    requires { ⌜ IsModulus m × Tangents m (now tan) × (odd < prime m) ⌝ }
+    requires { ⌜ (step ≡ stride a) × (a * step ≡ 1440) × (s < a) ⌝ }
+    requires { ⌜ (length (now fold) ≡ 2 * a) × Below (prime m) (now fold) ⌝ }
+    ensures { λ r. ⌜ r ≡ pairOf (finish3 (field m) (conj m) (i m) (real m (half m)) a (tangent m a (now (tan .entry))) (valuesOf m (now (fold .entry))) (real m (res m odd)) s) ⌝ }
+{
+    let v = slices::get(fold, s);
+    if s == 0 {
+        // X^(0) = E(0) + i b(0), and Y^(0) = E(0) - b(0)
+        Pair {
+            re: numbers::add(m, v.re, odd),
+            im: odd,
+        }
+    } else {
+        // E(s) = Re Y^(s) + b(s) cos and b(s) = Im Y^(s)/sin
+        let cosine = numbers::mul(m, v.im, cotangent(m, tan, step, a, s));
+        let b = numbers::mul(m, v.im, cosecant(m, tan, step, a, s));
+        Pair {
+            re: numbers::add(m, v.re, cosine),
+            im: b,
+        }
+    }
+}
+
+fn finish(m: u32, tan: &[u32; 1440], a: usize, odd: u32, fold: &[u32], line: &mut [u32])
+    requires { ⌜ IsModulus m × Tangents m (now tan) × (odd < prime m) ⌝ }
+    requires { ⌜ (0 < a) × (a * stride a ≡ 1440) ⌝ }
+    requires { ⌜ (length (now fold) ≡ 2 * a) × Below (prime m) (now fold) ⌝ }
+    requires { ⌜ length (now line) ≡ 2 * a ⌝ }
+    ensures { λ _. ⌜ now (line .exit) ≡ listOf a (finish3 (field m) (conj m) (i m) (real m (half m)) a (tangent m a (now (tan .entry))) (valuesOf m (now (fold .entry))) (real m (res m odd))) ⌝ }
+{
+    let step = 1440 / a;
+    let mut s = 0;
+    while s < a {
+        let v = finish_at(m, tan, step, a, odd, fold, s);
+        slices::store(line, s, v);
+        s += 1;
+    }
+}
+
+// The short line of the inverse, before its transform. From X^(s) = E(s) + i b(s) it is the V(s) for which V(s) + conj V(s) = 2 E(s) and
+// V(s) + e(-s/A) conj V(s) = -2 e(-s/N) b(s): one short transform then serves the even places and the odd ones. Its imaginary part is
+// E(s) times the cotangent and b(s) times the cosecant of the angle of e(s/N); those of the lent half tangents are of the opposite angle.
+fn slant_at(m: u32, tan: &[u32; 1440], step: usize, a: usize, line: &[u32], s: usize) -> Pair
+    requires { ⌜ IsModulus m × Tangents m (now tan) ⌝ }
+    requires { ⌜ (step ≡ stride a) × (a * step ≡ 1440) × (s < a) ⌝ }
+    requires { ⌜ (length (now line) ≡ 2 * a) × Below (prime m) (now line) ⌝ }
+    ensures { λ r. ⌜ r ≡ pairOf (slant (field m) (conj m) (i m) (real m (half m)) a (λ s. field m .neg (tangent m a (now (tan .entry)) s)) (valuesOf m (now (line .entry))) s) ⌝ }
+{
+    let z = slices::get(line, s);
+    if s == 0 {
+        // V(0) = E(0): the first rule alone, as the two disagree there
+        Pair { re: z.re, im: 0 }
+    } else {
+        let along = numbers::mul(m, z.re, cotangent(m, tan, step, a, s));
+        let up = numbers::mul(m, z.im, cosecant(m, tan, step, a, s));
+        Pair {
+            re: z.re,
+            im: numbers::neg(m, numbers::add(m, along, up)),
+        }
+    }
+}
+
+fn slant(m: u32, tan: &[u32; 1440], a: usize, line: &[u32], fold: &mut [u32])
+    requires { ⌜ IsModulus m × Tangents m (now tan) ⌝ }
+    requires { ⌜ (0 < a) × (a * stride a ≡ 1440) ⌝ }
+    requires { ⌜ (length (now line) ≡ 2 * a) × Below (prime m) (now line) ⌝ }
+    requires { ⌜ length (now fold) ≡ 2 * a ⌝ }
+    ensures { λ _. ⌜ now (fold .exit) ≡ listOf a (slant (field m) (conj m) (i m) (real m (half m)) a (λ s. field m .neg (tangent m a (now (tan .entry)) s)) (valuesOf m (now (line .entry)))) ⌝ }
+{
+    let step = 1440 / a;
+    let mut s = 0;
+    while s < a {
+        let v = slant_at(m, tan, step, a, line, s);
+        slices::store(fold, s, v);
+        s += 1;
+    }
+}
+
+// 2 (E(0) + b(0)), what V(0) + conj V(0) is above the -2 b(0) of the second rule.
+fn twice_sum(m: u32, line: &[u32]) -> u32
+    requires { ⌜ IsModulus m ⌝ }
+    requires { ⌜ (1 < length (now line)) × Below (prime m) (now line) ⌝ }
+    ensures { λ r. ⌜ (r < prime m) × ((A : ℕ) → real m (res m r) ≡ twice-M (field m) (conj m) (i m) (real m (half m)) A (valuesOf m (now (line .entry)))) ⌝ }
+{
+    let z = slices::get(line, 0);
+    let s = numbers::add(m, z.re, z.im);
+    numbers::add(m, s, s)
+}
+
+// The place A - t, and 0 for 0: the short transform's places are counted modulo A.
+fn mate_of(a: usize, t: usize) -> usize
+    requires { ⌜ t < a ⌝ }
+    ensures { λ r. ⌜ (r ≡ mate a t) × (r < a) ⌝ }
+{
+    if t == 0 { 0 } else { a - t }
+}
+
+// X(2t), from the short transform y and 1/N.
+fn even_at(m: u32, part: u32, a: usize, fold: &[u32], t: usize) -> Pair
+    requires { ⌜ IsModulus m × (part < prime m) × (t < a) ⌝ }
+    requires { ⌜ (length (now fold) ≡ 2 * a) × Below (prime m) (now fold) ⌝ }
+    ensures { λ r. ⌜ r ≡ pairOf (field m .mul (real m (res m part)) (field m .add (valuesOf m (now (fold .entry)) t) (conj m (valuesOf m (now (fold .entry)) (mate a t))))) ⌝ }
+{
+    let y = slices::get(fold, t);
+    let c = numbers::conjugate(m, slices::get(fold, mate_of(a, t)));
+    numbers::scaled(m, part, numbers::sum(m, y, c))
+}
+
+// X(2t + 1), from the short transform y, `twice_sum` and 1/N.
+fn odd_at(m: u32, part: u32, twice: u32, a: usize, fold: &[u32], t: usize) -> Pair
+    requires { ⌜ IsModulus m × (part < prime m) × (twice < prime m) × (t < a) ⌝ }
+    requires { ⌜ (length (now fold) ≡ 2 * a) × Below (prime m) (now fold) ⌝ }
+    ensures { λ r. ⌜ r ≡ pairOf (field m .mul (real m (res m part)) (field m .mul (i m) (field m .add (real m (res m twice)) (field m .neg (field m .add (valuesOf m (now (fold .entry)) t) (conj m (valuesOf m (now (fold .entry)) (a - suc t)))))))) ⌝ }
+{
+    let y = slices::get(fold, t);
+    let c = numbers::conjugate(m, slices::get(fold, a - (t + 1)));
+    let d = numbers::difference(m, Pair { re: twice, im: 0 }, numbers::sum(m, y, c));
+    numbers::scaled(m, part, numbers::times_i(m, d))
+}
+
+// X(j), j < N.
+fn line_at(m: u32, part: u32, twice: u32, a: usize, fold: &[u32], j: usize) -> Pair
+    requires { ⌜ IsModulus m × (part < prime m) × (twice < prime m) × (j < 2 * a) ⌝ }
+    requires { ⌜ (length (now fold) ≡ 2 * a) × Below (prime m) (now fold) ⌝ }
+    ensures { λ r. ⌜ r ≡ pairOf (line3 (field m) (conj m) (i m) (real m (half m)) a (real m (res m part)) (valuesOf m (now (fold .entry))) (real m (res m twice)) j) ⌝ }
+{
+    if j % 2 == 0 {
+        even_at(m, part, a, fold, j / 2)
+    } else {
+        odd_at(m, part, twice, a, fold, j / 2)
+    }
+}
+
+// One pair of the packed line.
+fn pack_at(m: u32, part: u32, twice: u32, a: usize, fold: &[u32], t: usize) -> Pair
+    requires { ⌜ IsModulus m × (part < prime m) × (twice < prime m) × (t < a) ⌝ }
+    requires { ⌜ (length (now fold) ≡ 2 * a) × Below (prime m) (now fold) ⌝ }
+    ensures { λ r. ⌜ r ≡ pairOf (packB3 (field m) (conj m) (i m) (real m (half m)) a (line3 (field m) (conj m) (i m) (real m (half m)) a (real m (res m part)) (valuesOf m (now (fold .entry))) (real m (res m twice))) t) ⌝ }
+{
+    let x = line_at(m, part, twice, a, fold, t);
+    if t == 0 {
+        // X(0) is real, and its second number is free for the one number of X(A): the real part for an even A,
+        // and for an odd A the imaginary part, which is at that place already
+        let y = line_at(m, part, twice, a, fold, a);
+        if a % 2 == 0 {
+            numbers::sum(m, x, numbers::times_i(m, y))
+        } else {
+            numbers::sum(m, x, y)
+        }
+    } else {
+        x
+    }
+}
+
+fn pack(m: u32, part: u32, twice: u32, a: usize, fold: &[u32], line: &mut [u32])
+    requires { ⌜ IsModulus m × (part < prime m) × (twice < prime m) ⌝ }
+    requires { ⌜ (length (now fold) ≡ 2 * a) × Below (prime m) (now fold) ⌝ }
+    requires { ⌜ length (now line) ≡ 2 * a ⌝ }
+    ensures { λ _. ⌜ now (line .exit) ≡ listOf a (packB3 (field m) (conj m) (i m) (real m (half m)) a (line3 (field m) (conj m) (i m) (real m (half m)) a (real m (res m part)) (valuesOf m (now (fold .entry))) (real m (res m twice)))) ⌝ }
+{
+    let mut t = 0;
+    while t < a {
+        let v = pack_at(m, part, twice, a, fold, t);
+        slices::store(line, t, v);
+        t += 1;
+    }
+}

@@ -1,0 +1,169 @@
+-- Kinds 1 and 2: the forms of the folds at the places 0 and t > 0, as the code computes them.
+use borrow.Author.Needs.{needs}
+use mathlib.Core.Path.{_≡_, refl, sym, _∙_, ap, ap₂}
+use mathlib.Core.Bool.{Bool, true, false}
+use mathlib.Core.List.{List, [], _∷_}
+use Prim.Native.Nat.{ℕ, zero, suc, _*_, _-_, _/_, _<_, _≤_}
+use native.Mathlib.Omega.{arith}
+use Rattle.algebra.specs.Ring.{Ops, CRing, pow}
+use Rattle.algebra.specs.Residue.{residues}
+use Rattle.algebra.specs.Gauss.{gauss, imag}
+use Rattle.algebra.specs.Line.{re, im}
+use Rattle.algebra.specs.Folds.{turned, braid, fold1, unbraid, back1}
+use Rattle.algebra.proofs.Laws.{neg-mul}
+use Rattle.algebra.proofs.Solver.{ring, quote}
+use Rattle.algebra.proofs.Transform.{pow-mul}
+use Rattle.numbers.specs.declared.Pair.{Pair}
+use Rattle.numbers.specs.Prime.{prime}
+use Rattle.numbers.specs.Value.{Value, field, conj, i, real, half, valueOf, pairOf}
+use Rattle.numbers.specs.Value as Value
+use Rattle.numbers.specs.Root.{entryAt, tableRoot}
+use Rattle.numbers.proofs.Residues.{res-ring}
+use Rattle.numbers.proofs.Values.{value-path, pair-value, small-by, value-by, field-ring, field-star}
+use Rattle.numbers.proofs.Parts.{re-value, im-value}
+use Rattle.slices.specs.Pairs.{at, Below}
+use Rattle.slices.specs.Values.{valuesOf}
+use Rattle.slices.proofs.Bounds.{small-at, small-of}
+use Rattle.folds.specs.Frame.{stride, lineRoot, Frame}
+use Rattle.folds.proofs.Frames.{stride-inside}
+use Rattle.hermitian.specs.Hermitian.{straightened, turnedBack, crossed}
+
+-- ---- pair 0: the sum and the difference of two reals
+
+crossed-in : {R : Type 0} {𝓞 : Ops R} (𝓡 : CRing 𝓞) (a b : R)
+    → gauss 𝓞 .add (gauss 𝓞 .add (a, 𝓞 .zer) (b, 𝓞 .zer)) (gauss 𝓞 .mul (imag 𝓞) (gauss 𝓞 .add (a, 𝓞 .zer) (gauss 𝓞 .neg (b, 𝓞 .zer)))) ≡ (𝓞 .add a b, 𝓞 .add a (𝓞 .neg b))
+unfolding gauss imag
+crossed-in 𝓡 a b =
+    value-path
+    (ring 𝓡 (a ∷ b ∷ []) (search quote depth 40 fits 9999) refl)
+    (ring 𝓡 (a ∷ b ∷ []) (search quote depth 40 fits 9999) refl)
+
+pub crossed-parts : (m : ℕ) (z : Value m) → crossed m z ≡ (Value.ring m .add (z .0) (z .1), Value.ring m .add (z .0) (Value.ring m .neg (z .1)))
+unfolding crossed residues
+crossed-parts m z =
+    ap₂ (λ x y. field m .add (field m .add x y) (field m .mul (i m) (field m .add x (field m .neg y)))) (re-value m z) (im-value m z)
+    ∙ crossed-in (res-ring m) (z .0) (z .1)
+
+-- ---- the turn of the antihermitian lines
+
+module _ (m : ℕ) (p : ℕ → Value m) where
+  pub straight-zero : (anti : Bool) {t : ℕ} → t ≡ 0 → straightened m anti p t ≡ p t
+  unfolding straightened turned
+  straight-zero false e = refl
+  straight-zero true e = rw e
+
+  pub straight-kept : {anti : Bool} (t : ℕ) → anti ≡ false → straightened m anti p t ≡ p t
+  unfolding straightened
+  straight-kept t e = rw e
+
+  pub straight-turned : {anti : Bool} (t : ℕ) → anti ≡ true → (t ≡ 0 → ⊥) → straightened m anti p t ≡ field m .neg (field m .mul (i m) (p t))
+  unfolding straightened turned
+  straight-turned zero e n = absurd (n refl)
+  straight-turned (suc t) e n = rw e (neg-mul (field-ring m) (i m) (p (suc t)))
+
+  pub back-first : (anti : Bool) {t : ℕ} → t ≡ 0 → turnedBack m anti p t ≡ p t
+  unfolding turnedBack turned
+  back-first false e = refl
+  back-first true e = rw e
+
+  pub back-kept : {anti : Bool} (t : ℕ) → anti ≡ false → turnedBack m anti p t ≡ p t
+  unfolding turnedBack
+  back-kept t e = rw e
+
+  pub back-turned : {anti : Bool} (t : ℕ) → anti ≡ true → (t ≡ 0 → ⊥) → turnedBack m anti p t ≡ field m .mul (i m) (p t)
+  unfolding turnedBack turned
+  back-turned zero e n = absurd (n refl)
+  back-turned (suc t) e n = rw e
+
+-- ---- the forms
+
+abbrev braidOf : (m A : ℕ) (e x y : Value m) → Value m
+braidOf m A = braid (field m) (conj m) (i m) (real m (half m)) A
+
+abbrev pub unbraidOf : (m A : ℕ) (e x y : Value m) → Value m
+unbraidOf m A = unbraid (field m) (conj m) (i m) (real m (half m)) A
+
+abbrev pub foldOf : (m A : ℕ) (v : Value m) (p : ℕ → Value m) → ℕ → Value m
+foldOf m A v p = fold1 (field m) (conj m) (i m) (real m (half m)) A v p
+
+-- with the tables of the conjugate root lent
+abbrev pub backOf : (m A : ℕ) (part v : Value m) (p : ℕ → Value m) → ℕ → Value m
+backOf m A part v p = back1 (field m) (conj m) (i m) (real m (half m)) A part (conj m v) p
+
+module _ (m A : ℕ) (v : Value m) (p : ℕ → Value m) where
+  fold-zero : {t : ℕ} → t ≡ 0 → foldOf m A v p t ≡ crossed m (p t)
+  unfolding fold1 crossed
+  fold-zero e = rw e
+
+  fold-more : (t : ℕ) → (t ≡ 0 → ⊥) → foldOf m A v p t ≡ braidOf m A (pow (field m) v t) (p t) (conj m (p (A - t)))
+  unfolding fold1
+  fold-more zero n = absurd (n refl)
+  fold-more (suc t) n = refl
+
+module _ (m A : ℕ) (part v : Value m) (p : ℕ → Value m) where
+  back-zero : {t : ℕ} → t ≡ 0 → backOf m A part v p t ≡ field m .mul part (crossed m (p t))
+  unfolding back1 crossed
+  back-zero e = rw e
+
+  back-more : (t : ℕ) → (t ≡ 0 → ⊥) → backOf m A part v p t ≡ field m .mul part (unbraidOf m A (pow (field m) v t) (p t) (conj m (p (A - t))))
+  unfolding back1
+  back-more zero n = absurd (n refl)
+  back-more (suc t) n = ap (λ u. field m .mul part (unbraidOf m A (pow (field m) u (suc t)) (p (suc t)) (conj m (p (A - suc t))))) (field-star m .conj-conj v)
+
+-- ---- the tables
+
+-- the entry of e(t/N)
+pub line-root : (m A : ℕ) {re im : List ℕ} (d t : ℕ) → Frame m A re im → d ≡ stride A → t < A → entryAt re im (d * t) ≡ pairOf (pow (field m) (lineRoot m A re im) t)
+line-root m A {re} {im} d t f h l =
+    f .table .entry (d * t) (omega (arith, stride-inside h (f .divides) l))
+    ∙ ap pairOf (ap (λ k. pow (field m) (tableRoot m re im) (k * t)) h ∙ pow-mul (field-ring m) (tableRoot m re im) (stride A) t)
+
+-- ---- what the code holds, step by step
+
+three-paths : {X Y Z W : Type 0} (f : X → Y → Z → W) {a b : X} {c d : Y} {x y : Z} → a ≡ b → c ≡ d → x ≡ y → f a c x ≡ f b d y
+three-paths f p q r = λ j. f (p j) (q j) (r j)
+
+module _ (m A : ℕ) (e x y : Value m) where
+  pub braid-by : {d s q u r : Pair} → d ≡ pairOf (field m .add x (field m .neg y)) → s ≡ pairOf (field m .mul e (valueOf m d)) → q ≡ pairOf (field m .add x y)
+      → u ≡ pairOf (field m .mul (i m) (valueOf m s)) → r ≡ pairOf (field m .add (valueOf m q) (valueOf m u)) → r ≡ pairOf (braidOf m A e x y)
+  unfolding braid
+  braid-by hd hs hq hu hr =
+      hr ∙ ap pairOf (ap₂ (field m .add) (value-by m _ hq) (value-by m _ hu ∙ ap (field m .mul (i m)) (value-by m _ hs ∙ ap (field m .mul e) (value-by m _ hd))))
+
+  pub unbraid-by : {d s q u g r : Pair} → d ≡ pairOf (field m .add x (field m .neg y)) → s ≡ pairOf (field m .mul e (valueOf m d)) → q ≡ pairOf (field m .add x y)
+      → u ≡ pairOf (field m .mul (i m) (valueOf m s)) → g ≡ pairOf (field m .add (valueOf m q) (field m .neg (valueOf m u)))
+      → r ≡ pairOf (field m .mul (real m (half m)) (valueOf m g)) → r ≡ pairOf (unbraidOf m A e x y)
+  unfolding unbraid
+  unbraid-by hd hs hq hu hg hr =
+      hr
+      ∙ ap (λ z. pairOf (field m .mul (real m (half m)) z))
+      (value-by m _ hg
+      ∙ ap₂ (λ y z. field m .add y (field m .neg z)) (value-by m _ hq) (value-by m _ hu ∙ ap (field m .mul (i m)) (value-by m _ hs ∙ ap (field m .mul e) (value-by m _ hd))))
+
+-- e, x, y and z are e(t/N), the values at t and A - t, and the conjugate of the second
+module _ (m A : ℕ) (v : Value m) (p : ℕ → Value m) where
+  pub fold-by-zero : {t : ℕ} {x r : Pair} → t ≡ 0 → x ≡ pairOf (p t) → r ≡ pairOf (crossed m (valueOf m x)) → r ≡ pairOf (foldOf m A v p t)
+  fold-by-zero n hx hr = hr ∙ ap pairOf (ap (crossed m) (value-by m _ hx) ∙ sym (fold-zero m A v p n))
+
+  pub fold-by : {t : ℕ} {e x y z r : Pair} → (t ≡ 0 → ⊥) → e ≡ pairOf (pow (field m) v t) → x ≡ pairOf (p t) → y ≡ pairOf (p (A - t)) → z ≡ pairOf (conj m (valueOf m y))
+      → r ≡ pairOf (braidOf m A (valueOf m e) (valueOf m x) (valueOf m z)) → r ≡ pairOf (foldOf m A v p t)
+  fold-by {t} n he hx hy hz hr =
+      hr
+      ∙ ap pairOf
+      (three-paths (braidOf m A) (value-by m _ he) (value-by m _ hx) (value-by m _ hz ∙ ap (conj m) (value-by m _ hy)) ∙ sym (fold-more m A v p t n))
+
+module _ (m A : ℕ) (part v : Value m) (p : ℕ → Value m) where
+  pub unfold-by-zero : {t : ℕ} {x g r : Pair} → t ≡ 0 → x ≡ pairOf (p t) → g ≡ pairOf (crossed m (valueOf m x)) → r ≡ pairOf (field m .mul part (valueOf m g)) → r ≡ pairOf (backOf m A part v p t)
+  unfold-by-zero n hx hg hr =
+      hr ∙ ap pairOf (ap (field m .mul part) (value-by m _ hg ∙ ap (crossed m) (value-by m _ hx)) ∙ sym (back-zero m A part v p n))
+
+  pub unfold-by : {t : ℕ} {e x y z g r : Pair} → (t ≡ 0 → ⊥) → e ≡ pairOf (pow (field m) v t) → x ≡ pairOf (p t) → y ≡ pairOf (p (A - t)) → z ≡ pairOf (conj m (valueOf m y))
+      → g ≡ pairOf (unbraidOf m A (valueOf m e) (valueOf m x) (valueOf m z)) → r ≡ pairOf (field m .mul part (valueOf m g)) → r ≡ pairOf (backOf m A part v p t)
+  unfold-by {t} n he hx hy hz hg hr =
+      hr
+      ∙ ap pairOf
+      (ap (field m .mul part) (value-by m _ hg ∙ three-paths (unbraidOf m A) (value-by m _ he) (value-by m _ hx) (value-by m _ hz ∙ ap (conj m) (value-by m _ hy)))
+      ∙ sym (back-more m A part v p t n))
+
+-- small pairs by what they stand for
+pub ruleset held = (needs, small-by, small-of)

@@ -1,0 +1,79 @@
+-- Pair 0 of the braid comes of pair 0 alone, each other of the pairs t and A - t.
+use mathlib.Core.Path.{_∙_}
+use Prim.Native.Nat.{_*_, _<_}
+use native.Mathlib.Omega.{arith}
+use Rattle.numbers.proofs.Values.{small-by}
+use Rattle.folds.proofs.Frames.{stride-inside}
+use Rattle.hermitian.proofs.Forms.{fold-by-zero, fold-by, line-root, held}
+use borrow.Author.Needs.{needs}
+use Rattle.hermitian.proofs.fold_at.Statement.{statement}
+use Rattle.hermitian.proofs.fold_at.Tie as tie
+
+straight-at-requires : tie.Need-straight-at-requires
+straight-at-requires c κs = search needs
+
+cross-requires : tie.Need-cross-requires
+cross-requires c κs = search held
+
+sub-straight-at : tie.Need-sub-straight-at
+sub-straight-at c = search needs
+
+straight-at-requires-2 : tie.Need-straight-at-requires-2
+straight-at-requires-2 c κs = search needs
+
+conjugate-requires : tie.Need-conjugate-requires
+conjugate-requires c κs = search held
+
+-- e(t/N) stands inside the tables
+inside : (c : tie.After-conjugate) → let s = c .before .before .before .before .before .args in s .step * s .t < 1440
+inside c =
+    let s = c .before .before .before .before .before in
+    stride-inside (s .pre .0 .1) (s .pre .0 .0 .divides) (s .pre .0 .2)
+
+mul-root-at : tie.Need-mul-root-at
+mul-root-at c = omega (arith, inside c)
+
+root-at-requires : tie.Need-root-at-requires
+root-at-requires c κs = omega (arith, inside c)
+
+braid-requires : tie.Need-braid-requires
+braid-requires c κs =
+    let x = c .before .before .before .before in
+    let s = x .before .before in
+    let m = s .args .m in (
+      s .pre .0 .0 .modulus,
+      small-by m _ (c .root-at .ensures ∙ line-root m _ _ _ (s .pre .0 .0) (s .pre .0 .1) (s .pre .0 .2)),
+      small-by m _ (x .straight-at .ensures),
+      small-by m _ (c .before .conjugate .ensures),
+    )
+
+returns : tie.Need-returns
+returns c = fold-by-zero _ _ _ _ (c .before .if1 .taken) (c .before .before .straight-at .ensures) (c .cross .ensures)
+
+returns-2 : tie.Need-returns-2
+returns-2 c =
+    let y = c .before .before in
+    let b = y .before .before in
+    let s = b .before .before .before in
+    fold-by _ (s .args .a) _ _
+    (b .if1 .left)
+    (c .before .root-at .ensures ∙ line-root _ _ _ _ (s .pre .0 .0) (s .pre .0 .1) (s .pre .0 .2))
+    (b .before .straight-at .ensures)
+    (y .before .straight-at2 .ensures)
+    (y .conjugate .ensures)
+    (c .braid .ensures (s .args .a))
+
+pub fold-at-spec : {M : Type 1} → statement M
+fold-at-spec =
+    tie.close
+    (tie.spec
+    straight-at-requires
+    cross-requires
+    sub-straight-at
+    straight-at-requires-2
+    conjugate-requires
+    mul-root-at
+    root-at-requires
+    braid-requires
+    returns
+    returns-2)

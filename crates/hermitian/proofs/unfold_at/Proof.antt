@@ -1,0 +1,116 @@
+-- Pair 0 of the line comes of pair 0 alone, each other of the pairs t and A - t.
+use mathlib.Core.Path.{_≡_, _∙_, sym, ap}
+use Prim.Native.Nat.{_*_, _<_}
+use native.Mathlib.Omega.{arith}
+use Rattle.numbers.specs.Value.{field, i, res, real, pairOf}
+use Rattle.numbers.proofs.Values.{small-by, value-by}
+use Rattle.slices.specs.Values.{valuesOf}
+use Rattle.slices.proofs.Bounds.{small-of}
+use Rattle.folds.specs.Frame.{lineRoot}
+use Rattle.folds.proofs.Frames.{stride-inside}
+use Rattle.slices.proofs.Values.{read-value}
+use Rattle.hermitian.proofs.Forms.{backOf, back-first, back-kept, back-turned, unfold-by-zero, unfold-by, line-root, held}
+use borrow.Author.Needs.{needs}
+use Rattle.hermitian.proofs.unfold_at.Statement.{statement}
+use Rattle.hermitian.proofs.unfold_at.Tie as tie
+
+get-requires : tie.Need-get-requires
+get-requires c κs = search needs
+
+cross-requires : tie.Need-cross-requires
+cross-requires c κs = search held
+
+scaled-requires : tie.Need-scaled-requires
+scaled-requires c κs = search held
+
+sub-get : tie.Need-sub-get
+sub-get c = search needs
+
+get-requires-2 : tie.Need-get-requires-2
+get-requires-2 c κs = search needs
+
+conjugate-requires : tie.Need-conjugate-requires
+conjugate-requires c κs = search held
+
+-- e(t/N) stands inside the tables
+inside : (c : tie.After-conjugate) → let s = c .before .before .before .before .before .args in s .step * s .t < 1440
+inside c =
+    let s = c .before .before .before .before .before in
+    stride-inside (s .pre .0 .2) (s .pre .0 .0 .divides) (s .pre .0 .3)
+
+mul-root-at : tie.Need-mul-root-at
+mul-root-at c = omega (arith, inside c)
+
+root-at-requires : tie.Need-root-at-requires
+root-at-requires c κs = omega (arith, inside c)
+
+unbraid-requires : tie.Need-unbraid-requires
+unbraid-requires c κs =
+    let x = c .before .before .before .before in
+    let s = x .before .before in
+    let m = s .args .m in (
+      s .pre .0 .0 .modulus,
+      small-by m _ (c .root-at .ensures ∙ line-root m _ _ _ (s .pre .0 .0) (s .pre .0 .2) (s .pre .0 .3)),
+      small-of _ _ (x .get .ensures) (s .pre .1 .1),
+      small-by m _ (c .before .conjugate .ensures),
+    )
+
+scaled-requires-2 : tie.Need-scaled-requires-2
+scaled-requires-2 c κs =
+    let s = c .before .before .before .before .before .before .before in
+    (s .pre .0 .0 .modulus, s .pre .0 .1, small-by (s .args .m) _ (c .unbraid .ensures 0))
+
+times-i-requires : tie.Need-times-i-requires
+times-i-requires c κs = search held
+
+returns : tie.Need-returns
+returns c =
+    let b = c .before .before in
+    let s = b .before .before .before in
+    unfold-by-zero _ (s .args .a) _ _ _ (b .if1 .taken) (read-value _ _ _ (b .before .get .ensures) (s .pre .1 .1)) (c .before .cross .ensures) (c .scaled .ensures)
+    ∙ ap pairOf (sym (back-first _ _ (s .args .anti) (b .if1 .taken)))
+
+-- before the turn
+apart : (c : tie.After-scaled2) → let s = c .before .before .before .before .before .before .before .before .args in let m = s .m in
+    c .scaled2 .result ≡ pairOf (backOf m (s .a) (real m (res m (s .c))) (lineRoot m (s .a) (s .re .now) (s .im .now)) (valuesOf m (s .braided .now)) (s .t))
+apart c =
+    let y = c .before .before .before in
+    let b = y .before .before in
+    let s = b .before .before .before in
+    unfold-by _ (s .args .a) _ _ _
+    (b .if1 .left)
+    (c .before .before .root-at .ensures ∙ line-root _ _ _ _ (s .pre .0 .0) (s .pre .0 .2) (s .pre .0 .3))
+    (read-value _ _ _ (b .before .get .ensures) (s .pre .1 .1))
+    (read-value _ _ _ (y .before .get2 .ensures) (s .pre .1 .1))
+    (y .conjugate .ensures)
+    (c .before .unbraid .ensures (s .args .a))
+    (c .scaled2 .ensures)
+
+returns-2 : tie.Need-returns-2
+returns-2 c =
+    let u = c .before .before in
+    let b = u .before .before .before .before .before in
+    let m = b .before .before .before .args .m in
+    c .times-i .ensures ∙ ap pairOf (ap (field m .mul (i m)) (value-by m _ (apart u)) ∙ sym (back-turned m _ _ (c .before .if2 .taken) (b .if1 .left)))
+
+returns-3 : tie.Need-returns-3
+returns-3 c = apart (c .before) ∙ ap pairOf (sym (back-kept _ _ _ (c .if2 .left)))
+
+pub unfold-at-spec : {M : Type 1} → statement M
+unfold-at-spec =
+    tie.close
+    (tie.spec
+    get-requires
+    cross-requires
+    scaled-requires
+    sub-get
+    get-requires-2
+    conjugate-requires
+    mul-root-at
+    root-at-requires
+    unbraid-requires
+    scaled-requires-2
+    times-i-requires
+    returns
+    returns-2
+    returns-3)

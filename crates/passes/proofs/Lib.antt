@@ -1,0 +1,7 @@
+pub mod PackedLines
+pub mod Sweeps
+pub mod PassLaws
+pub mod Turns
+pub mod Whole
+pub mod TurnLaws
+pub mod JobTurns

@@ -1,0 +1,121 @@
+-- Line after line of a job: a run of turns is a sweep along each axis, in the order of the lines' numbers; a turn keeps the volume's length and its residues.
+use mathlib.Core.Path.{_≡_, refl, _∙_, ap}
+use mathlib.Core.Bool.{Bool, true, false, cond}
+use mathlib.Core.List.{List}
+use Prim.Native.Nat.{ℕ, zero, suc, _+_, _-_, _<_}
+use native.Mathlib.Nat.{add-zero, add-suc}
+use native.Mathlib.Numerals.{add-one}
+use native.Mathlib.Omega.{arith}
+use lib.Dec.{ltb}
+use lib.ListN.{length}
+use borrow.Author.Tests.{lt-ltb, le-ltb}
+use Rattle.algebra.specs.Kinds.{Kind, Kind.plain}
+use Rattle.algebra.specs.Cell.{J, Group}
+use Rattle.algebra.proofs.Laws.{along}
+use Rattle.numbers.specs.Prime.{prime}
+use Rattle.numbers.specs.Value.{Value, Small, pairOf}
+use Rattle.numbers.proofs.Primes.{prime-pos}
+use Rattle.numbers.proofs.Values.{small-pair}
+use Rattle.slices.specs.Pairs.{Below, zeroPair}
+use Rattle.slices.specs.Sweep.{Layout, sweep, onLists}
+use Rattle.slices.proofs.Pairs.{length-puts}
+use Rattle.slices.proofs.Bounds.{small-at, below-puts, below-tab}
+use Rattle.slices.proofs.Values.{below-list}
+use Rattle.passes.specs.Passes.{turnOf, turns, parted, turnedLine, turnedRow, alongL, alongH, alongK, turnedL, turnedH, turnedK, jobTurn}
+
+module _ (step : ℕ → List ℕ → List ℕ) where
+  pub turns-next : (j n : ℕ) (d : List ℕ) → turns step j (n + 1) d ≡ step (j + n) (turns step j n d)
+  unfolding turns
+  turns-next j n d = rw add-one
+
+  pub turns-add : (j n p : ℕ) (d : List ℕ) → turns step j (n + p) d ≡ turns step (j + n) p (turns step j n d)
+  unfolding turns
+  turns-add j n zero d = rw add-zero
+  turns-add j n (suc p) d = rw add-suc (ap (step (j + (n + p))) (turns-add j n p d) ∙ along (λ q. step q (turns step (j + n) p (turns step j n d))) (j + (n + p)) (j + n + p) (omega arith))
+
+  pub turns-sweep : (L : Layout) (G : ℕ → List ℕ → List ℕ) (j n : ℕ) (d : List ℕ) → ((y : ℕ) → y < n → (d : List ℕ) → step (j + y) d ≡ turnOf L G y d) → turns step j n d ≡ sweep L (onLists L G) n d
+  unfolding turns sweep
+  turns-sweep L G j zero d e = refl
+  turns-sweep L G j (suc n) d e = e n (omega arith) (turns step j n d) ∙ ap (turnOf L G n) (turns-sweep L G j n d (λ y l. e y (omega arith)))
+
+  -- what every turn keeps, a run of turns keeps
+  pub turns-keep : (P : List ℕ → Type 0) → ((j : ℕ) (d : List ℕ) → P d → P (step j d)) → (j n : ℕ) (d : List ℕ) → P d → P (turns step j n d)
+  unfolding turns
+  turns-keep P k j zero d h = h
+  turns-keep P k j (suc n) d h = k (j + n) (turns step j n d) (turns-keep P k j n d h)
+
+pub length-turn : (L : Layout) (G : ℕ → List ℕ → List ℕ) (y : ℕ) (d : List ℕ) → length (turnOf L G y d) ≡ length d
+length-turn L G y d = length-puts (L .place y) _ (L .size y) d
+
+pub below-turn : {p : ℕ} (L : Layout) (G : ℕ → List ℕ → List ℕ) (y : ℕ) (d : List ℕ) → ((l : List ℕ) → Below p (G y l)) → Below p d → Below p (turnOf L G y d)
+below-turn {p} L G y d b h = below-puts (L .place y) _ (L .size y) h (λ t lt. small-at p (G y _) t (b _))
+
+-- the numbers of a transformed line and of a row are residues
+module _ (m A : ℕ) where
+  pub below-line : (direction : ℕ) (k : Kind) (l : List ℕ) → Below (prime m) (turnedLine m A direction k l)
+  below-line zero k l = below-list m _ _
+  below-line (suc d) k l = below-list m _ _
+
+  zero-small : Small (prime m) zeroPair
+  zero-small = record { re = prime-pos m; im = prime-pos m }
+
+  forward-small : (b : Bool) (z : Value m) → Small (prime m) (cond b (pairOf z) zeroPair)
+  forward-small true z = small-pair m z
+  forward-small false z = zero-small
+
+  parted-small : (v : ℕ → Value m) (t : ℕ) → Small (prime m) (parted A (λ t. pairOf (v t)) t)
+  unfolding parted
+  parted-small v zero = record { re = small-pair m (v 0) .re; im = prime-pos m }
+  parted-small v (suc t) = go (ltb (suc t) A)
+    where
+      go : (b : Bool) → Small (prime m) (cond b (pairOf (v (suc t))) (record { re = (pairOf (v 0)) .im; im = 0 }))
+      go true = small-pair m (v (suc t))
+      go false = record { re = small-pair m (v 0) .im; im = prime-pos m }
+
+  pub below-row : (direction : ℕ) (l : List ℕ) → Below (prime m) (turnedRow m A direction l)
+  below-row zero l = below-tab (prime m) (suc A) _ (prime-pos m) (λ t lt. forward-small (ltb t A) _)
+  below-row (suc d) l = below-tab (prime m) (suc A) _ (prime-pos m) (λ t lt. parted-small _ t)
+
+module _ (g : Group) (a : J) (m direction : ℕ) where
+  -- which turn a number stands for
+  pub turn-l : (y : ℕ) → y < alongL g a .count → (d : List ℕ) → jobTurn g a m direction (0 + y) d ≡ turnOf (alongL g a) (turnedL g a m direction) y d
+  unfolding jobTurn
+  turn-l y l d = along (λ q. jobTurn g a m direction q d) (0 + y) y (omega arith) ∙ rw (lt-ltb y (alongL g a .count) l) refl
+
+  pub turn-h : (y : ℕ) → y < alongH g a .count → (d : List ℕ) → jobTurn g a m direction (alongL g a .count + y) d ≡ turnOf (alongH g a) (turnedH g a m direction) y d
+  unfolding jobTurn
+  turn-h y l d =
+      rw (le-ltb (alongL g a .count + y) (alongL g a .count) (omega arith), lt-ltb (alongL g a .count + y) (alongL g a .count + alongH g a .count) (omega arith))
+      (along (λ y. turnOf (alongH g a) (turnedH g a m direction) y d) (alongL g a .count + y - alongL g a .count) y (omega arith))
+
+  pub turn-k : (y : ℕ) → (d : List ℕ) → jobTurn g a m direction (alongL g a .count + alongH g a .count + y) d ≡ turnOf (alongK g a) (turnedK g a m direction) y d
+  unfolding jobTurn
+  turn-k y d =
+      rw (le-ltb (alongL g a .count + alongH g a .count + y) (alongL g a .count) (omega arith), le-ltb (alongL g a .count + alongH g a .count + y) (alongL g a .count + alongH g a .count) (omega arith))
+      (along (λ y. turnOf (alongK g a) (turnedK g a m direction) y d) (alongL g a .count + alongH g a .count + y - (alongL g a .count + alongH g a .count)) y (omega arith))
+
+  by-turn : (P : List ℕ → Type 0) (j : ℕ) (d : List ℕ)
+      → ((y : ℕ) → P (turnOf (alongL g a) (turnedL g a m direction) y d)) → ((y : ℕ) → P (turnOf (alongH g a) (turnedH g a m direction) y d)) → ((y : ℕ) → P (turnOf (alongK g a) (turnedK g a m direction) y d))
+      → P (jobTurn g a m direction j d)
+  unfolding jobTurn
+  by-turn P j d l h k = go (ltb j (alongL g a .count)) (ltb j (alongL g a .count + alongH g a .count))
+    where
+      go : (b c : Bool) → P (cond b (turnOf (alongL g a) (turnedL g a m direction) j d) (cond c (turnOf (alongH g a) (turnedH g a m direction) (j - alongL g a .count) d) (turnOf (alongK g a) (turnedK g a m direction) (j - (alongL g a .count + alongH g a .count)) d)))
+      go true c = l _
+      go false true = h _
+      go false false = k _
+
+  pub length-job-turn : (j : ℕ) (d : List ℕ) → length (jobTurn g a m direction j d) ≡ length d
+  length-job-turn j d = by-turn (λ v. length v ≡ length d) j d (λ y. length-turn (alongL g a) (turnedL g a m direction) y d) (λ y. length-turn (alongH g a) (turnedH g a m direction) y d) (λ y. length-turn (alongK g a) (turnedK g a m direction) y d)
+
+  pub below-job-turn : (j : ℕ) (d : List ℕ) → Below (prime m) d → Below (prime m) (jobTurn g a m direction j d)
+  below-job-turn j d b = by-turn (Below (prime m)) j d
+      (λ y. below-turn (alongL g a) (turnedL g a m direction) y d (below-line m (a .2) direction _) b)
+      (λ y. below-turn (alongH g a) (turnedH g a m direction) y d (below-line m (a .0) direction plain) b)
+      (λ y. below-turn (alongK g a) (turnedK g a m direction) y d (below-row m (a .1) direction) b)
+
+  pub length-turns : (j n : ℕ) (d : List ℕ) → length (turns (jobTurn g a m direction) j n d) ≡ length d
+  length-turns j n d = turns-keep (jobTurn g a m direction) (λ v. length v ≡ length d) (λ j v e. length-job-turn j v ∙ e) j n d refl
+
+  pub below-turns : (j n : ℕ) (d : List ℕ) → Below (prime m) d → Below (prime m) (turns (jobTurn g a m direction) j n d)
+  below-turns j n d b = turns-keep (jobTurn g a m direction) (Below (prime m)) below-job-turn j n d b

@@ -1,0 +1,4 @@
+pub mod Shapes
+pub mod Reading
+pub mod Feeding
+pub mod Openings

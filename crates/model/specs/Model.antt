@@ -1,0 +1,148 @@
+-- The reference model (the paper's book): a state, and F for every (h, k, l) of the whole cell. It is fed the calls' arguments without job and volume,
+-- save a volume opened as a map, and knows no packing: its refusals follow from arguments and state alone.
+use mathlib.Core.Bool.{_&&_, not, cond}
+use mathlib.Core.List.{List, [], _∷_}
+use Prim.Native.Nat.{ℕ, suc}
+use lib.ListN.{length}
+use lib.Dec.{ltb, leb, eqb}
+use Rattle.algebra.specs.Cell.{J, Group, Cell, at}
+use Rattle.numbers.specs.Value.{Value, value}
+use Rattle.line.specs.Tests.{Test, _⇒_, first, accepted}
+use Rattle.line.specs.Lengths.{scratchLength}
+use Rattle.cell.specs.Volume.{groupOf, packFactors, mapIn, packMap}
+use Rattle.cell.specs.Consistency.{sameValue, recordIn, agreesWithItself}
+use Rattle.cell.specs.Sums.{mapOf, factorsOf}
+use Rattle.job.specs.declared.Job.{Job}
+use Rattle.job.specs.declared.Reflection.{Reflection}
+use Rattle.job.specs.declared.GridPoint.{GridPoint}
+use Rattle.job.specs.Header.{Header, halvesOf, axisTests, collecting, factorsHeld, mapHeld, jobOf}
+use Rattle.job.specs.Steps.{p, within, index, position, Said, done, density, factor, refused}
+use Rattle.factor_file.specs.declared.FileRecord.{FileRecord}
+use Rattle.factor_file.specs.File.{indexOf, headerIn, recordsIn, shapeTests}
+
+-- The header is the opening's. The model uses its group and its lengths; the factor lists are in the job that is given back.
+-- F is meant below the lengths: an image goes round the cell, and a call that names an index beyond it is refused.
+pub record Model : Type 0 where
+  pub header : Header
+  pub state : ℕ
+  pub F : Cell (Value 1)
+
+abbrev pub group : Model → Group
+group m = groupOf (m .header .group)
+
+abbrev pub half : Model → J
+half m = halvesOf (m .header .lengths)
+
+-- the structure factor at an index, and the map over F at a point
+abbrev pub factorOf : Model → J → Value 1
+factorOf m j = at (m .F) j
+
+abbrev pub densityOf : Model → J → Value 1
+densityOf m x = at (mapOf 1 (half m) (m .F)) x
+
+-- ---- calls
+
+-- A call's arguments. Synthesis and analysis are lent a scratch.
+pub data Call : Type 0 where
+  recording : Reflection → (x y : ℕ) → Call
+  synthesis : (scratch : List ℕ) → Call
+  analysis : (scratch : List ℕ) → Call
+  readPoint : GridPoint → Call
+  readFactor : Reflection → Call
+
+-- The refusals of a call, in the paper's order. Faults of job or volume (25, 6, 14, and 7 in the volume) do not arise.
+abbrev pub modelTests : Model → Call → List Test
+modelTests m (recording k x y) =
+    not (eqb (m .state) collecting) ⇒ 21 ∷
+    not (within (m .header .lengths) (index k)) ⇒ 10 ∷
+    not (ltb x p && ltb y p) ⇒ 7 ∷
+    (eqb x 0 && eqb y 0) ⇒ 11 ∷
+    not (agreesWithItself (group m) (half m) 1 (index k) (value 1 x y)) ⇒ 12 ∷
+    not (sameValue (factorOf m (index k)) (value 1 0 0)) ⇒ 24 ∷
+    []
+modelTests m (synthesis scratch) = eqb (m .state) mapHeld ⇒ 23 ∷ ltb (length scratch) scratchLength ⇒ 13 ∷ []
+modelTests m (analysis scratch) = not (eqb (m .state) mapHeld) ⇒ 22 ∷ ltb (length scratch) scratchLength ⇒ 13 ∷ []
+modelTests m (readPoint x) = not (eqb (m .state) mapHeld) ⇒ 22 ∷ not (within (m .header .lengths) (position x)) ⇒ 10 ∷ []
+modelTests m (readFactor k) = eqb (m .state) mapHeld ⇒ 23 ∷ not (within (m .header .lengths) (index k)) ⇒ 10 ∷ []
+
+-- what an accepted call says ..
+abbrev pub modelSays : Model → Call → Said
+modelSays m (recording k x y) = done
+modelSays m (synthesis scratch) = done
+modelSays m (analysis scratch) = done
+modelSays m (readPoint x) = density (densityOf m (position x) .0 .val)
+modelSays m (readFactor k) = factor (factorOf m (index k) .0 .val) (factorOf m (index k) .1 .val)
+
+-- .. and what the model is after it: a record puts its value at its index and the implied value at each image, synthesis and analysis change the state alone
+abbrev pub inState : Model → ℕ → Model
+inState m s = record { header = m .header; state = s; F = m .F }
+
+abbrev pub modelNext : Model → Call → Model
+modelNext m (recording k x y) = record { header = m .header; state = m .state; F = recordIn (group m) (half m) 1 (index k) (value 1 x y) (m .F) }
+modelNext m (synthesis scratch) = inState m mapHeld
+modelNext m (analysis scratch) = inState m factorsHeld
+modelNext m (readPoint x) = m
+modelNext m (readFactor k) = m
+
+-- a refused call answers its number and changes nothing
+unfoldable pub modelSaid : Model → Call → Said
+modelSaid m c = accepted (first (modelTests m c)) (modelSays m c) refused
+
+unfoldable pub modelAfter : Model → Call → Model
+modelAfter m c = accepted (first (modelTests m c)) (modelNext m c) (λ n. m)
+
+-- ---- what the model says of job and volume
+
+-- The packed factors (the paper's box), and the map with its zeros.
+abbrev pub factorVolume : Model → List ℕ
+factorVolume m = packFactors (group m) (half m) 1 (m .F)
+
+abbrev pub mapVolume : Model → List ℕ
+mapVolume m = packMap (group m) (half m) 1 (mapOf 1 (half m) (m .F))
+
+-- The packed factors stand in the volume while collecting or factors held, the map while map held.
+unfoldable pub modelVolume : Model → List ℕ
+modelVolume m = cond (eqb (m .state) mapHeld) (mapVolume m) (factorVolume m)
+
+-- A job given back is the opening's but for its state, which is the model's.
+abbrev pub modelJob : Model → Job
+modelJob m = jobOf (m .header) (m .state)
+
+-- ---- beginnings
+
+-- What an opening or a file begins: a model, or the refusal's number and the place of the record at fault (0 where it is no record).
+pub data Beginning : Type 0 where
+  begun : Model → Beginning
+  notBegun : (number place : ℕ) → Beginning
+
+-- 8, 2, then 3, 4, 5 each over the three axes, 9. Faults of the volume (6, 7, 14) do not arise.
+abbrev pub beginningTests : Header → (kind : ℕ) → List Test
+beginningTests h kind = leb 4 (h .group) ⇒ 8 ∷ leb 2 kind ⇒ 2 ∷ axisTests h
+
+-- kind 0: F is zero everywhere
+abbrev pub zeroModel : Header → Model
+zeroModel h = record { header = h; state = collecting; F = λ h k l. value 1 0 0 }
+
+-- kind 1: F is the analysis of the whole map, of which the volume has the stored planes
+abbrev pub mapModel : Header → List ℕ → Model
+mapModel h v = record { header = h; state = mapHeld; F = factorsOf 1 (halvesOf (h .lengths)) (mapIn (groupOf (h .group)) (halvesOf (h .lengths)) 1 v) }
+
+abbrev pub openingModel : Header → (kind : ℕ) → List ℕ → Model
+openingModel h kind v = cond (eqb kind 0) (zeroModel h) (mapModel h v)
+
+unfoldable pub modelOpen : Header → (kind : ℕ) → List ℕ → Beginning
+modelOpen h kind v = accepted (first (beginningTests h kind)) (begun (openingModel h kind v)) (λ n. notBegun n 0)
+
+-- a file: an opening with kind 0, then its records
+abbrev pub recordingOf : FileRecord → Call
+recordingOf c = recording (indexOf c) (c .a) (c .b)
+
+unfoldable pub modelFeed : List FileRecord → (place : ℕ) → Model → Beginning
+modelFeed [] place m = begun m
+modelFeed (c ∷ cs) place m = accepted (first (modelTests m (recordingOf c))) (modelFeed cs (suc place) (modelNext m (recordingOf c))) (λ n. notBegun n place)
+
+unfoldable pub modelFile : List ℕ → Beginning
+modelFile file =
+    accepted (first (shapeTests file))
+    (accepted (first (beginningTests (headerIn file) 0)) (modelFeed (recordsIn file) 0 (zeroModel (headerIn file))) (λ n. notBegun n 0))
+    (λ n. notBegun n 0)

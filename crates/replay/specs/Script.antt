@@ -1,0 +1,117 @@
+-- A script of calls as numbers, and what replaying it on a job and a volume answers and leaves.
+-- A call is six numbers: its operation, three of an index or a point, two of a value. Operation 0 records, 1 is synthesis, 2 analysis, 3 reads a point, any other a factor.
+-- An answer is three numbers: the refusal's number or 0, then the density and 0, or the two numbers of the factor, or twice 0.
+use mathlib.Core.List.{List, [], _∷_, _++_}
+use Prim.Native.Nat.{ℕ, zero, suc, _+_, _*_, _/_, min}
+use lib.ListN.{length, getD, drop}
+use Rattle.line.specs.Lengths.{cleared}
+use Rattle.job.specs.declared.Job.{Job}
+use Rattle.job.specs.Steps.{Said, done, density, factor, refused}
+use Rattle.model.specs.Model.{Model, Call, recording, synthesis, analysis, readPoint, readFactor}
+use Rattle.model.specs.Calls.{step, Ran, run, modelRan}
+use Rattle.replay.specs.declared.call.Reply.{Reply}
+use Rattle.replay.specs.declared.call.Called.{Called}
+use Rattle.replay.specs.declared.Replayed.{Replayed}
+
+-- ---- calls
+
+-- A synthesis or an analysis is said with the scratch as it was lent at first: of a scratch its call asks the length alone.
+unfoldable pub callOf : (scratch : List ℕ) (operation h k l x y : ℕ) → Call
+callOf scratch zero h k l x y = recording (record { 0 = h; 1 = k; 2 = l }) x y
+callOf scratch (suc zero) h k l x y = synthesis scratch
+callOf scratch (suc (suc zero)) h k l x y = analysis scratch
+callOf scratch (suc (suc (suc zero))) h k l x y = readPoint (record { 0 = h; 1 = k; 2 = l })
+callOf scratch (suc (suc (suc (suc o)))) h k l x y = readFactor (record { 0 = h; 1 = k; 2 = l })
+
+abbrev pub callAt : (scratch script : List ℕ) (i : ℕ) → Call
+callAt scratch script i = callOf scratch (getD script (6 * i) 0) (getD script (6 * i + 1) 0) (getD script (6 * i + 2) 0) (getD script (6 * i + 3) 0) (getD script (6 * i + 4) 0) (getD script (6 * i + 5) 0)
+
+-- n calls from number i on
+unfoldable pub calls : (scratch script : List ℕ) (i n : ℕ) → List Call
+calls scratch script i zero = []
+calls scratch script i (suc n) = callAt scratch script i ∷ calls scratch script (i + 1) n
+
+-- ---- answers
+
+abbrev pub answerNumbers : Said → List ℕ
+answerNumbers done = 0 ∷ 0 ∷ 0 ∷ []
+answerNumbers (density n) = 0 ∷ n ∷ 0 ∷ []
+answerNumbers (factor x y) = 0 ∷ x ∷ y ∷ []
+answerNumbers (refused n) = n ∷ 0 ∷ 0 ∷ []
+
+unfoldable pub allNumbers : List Said → List ℕ
+allNumbers [] = []
+allNumbers (a ∷ l) = answerNumbers a ++ allNumbers l
+
+-- an accepted synthesis or analysis clears the scratch
+abbrev pub clearedIfDone : Said → List ℕ → List ℕ
+clearedIfDone done s = cleared s
+clearedIfDone (density n) s = s
+clearedIfDone (factor x y) s = s
+clearedIfDone (refused n) s = s
+
+abbrev pub scratchLeft : Call → Said → List ℕ → List ℕ
+scratchLeft (recording k x y) a s = s
+scratchLeft (synthesis lent) a s = clearedIfDone a s
+scratchLeft (analysis lent) a s = clearedIfDone a s
+scratchLeft (readPoint x) a s = s
+scratchLeft (readFactor k) a s = s
+
+unfoldable pub scratchAfter : List Call → List Said → List ℕ → List ℕ
+scratchAfter [] answers s = s
+scratchAfter (c ∷ l) [] s = s
+scratchAfter (c ∷ l) (a ∷ answers) s = scratchAfter l answers (scratchLeft c a s)
+
+-- ---- one call
+
+-- the three numbers that it answers, and what it leaves
+pub record CallOutcome : Type 0 where
+  pub reply : List ℕ
+  pub job : Job
+  pub volume : List ℕ
+  pub scratch : List ℕ
+
+abbrev pub replyNumbers : Reply → List ℕ
+replyNumbers r = r .number ∷ r .x ∷ r .y ∷ []
+
+abbrev pub callOutcome : Called → (volume scratch : List ℕ) → CallOutcome
+callOutcome r v s = record { reply = replyNumbers (r .reply); job = r .job; volume = v; scratch = s }
+
+unfoldable pub callStep : Job → (volume scratch : List ℕ) → Call → CallOutcome
+callStep j v s c = let o = step j v c in record { reply = answerNumbers (o .answer); job = o .job; volume = o .volume; scratch = scratchLeft c (o .answer) s }
+
+-- ---- a replay
+
+pub record ReplayOutcome : Type 0 where
+  pub job : Job
+  pub written : ℕ
+  pub volume : List ℕ
+  pub scratch : List ℕ
+  pub answers : List ℕ
+
+abbrev pub replayOutcome : Replayed → (volume scratch answers : List ℕ) → ReplayOutcome
+replayOutcome r v s out = record { job = r .job; written = r .written; volume = v; scratch = s; answers = out }
+
+-- as many calls as the script has whole and the output has room to answer
+abbrev pub callCount : (script out : List ℕ) → ℕ
+callCount script out = min (length script / 6) (length out / 3)
+
+abbrev pub scriptCalls : (scratch script out : List ℕ) → List Call
+scriptCalls scratch script out = calls scratch script 0 (callCount script out)
+
+-- what is left, given what the calls answered and left: the places of the output beyond the answers are as they were
+unfoldable pub ended : Ran → (script scratch out : List ℕ) → ReplayOutcome
+ended r script scratch out = record {
+  job = r .job;
+  written = 3 * callCount script out;
+  volume = r .volume;
+  scratch = scratchAfter (scriptCalls scratch script out) (r .answers) scratch;
+  answers = allNumbers (r .answers) ++ drop (3 * callCount script out) out;
+}
+
+abbrev pub replayStep : Job → (script volume scratch out : List ℕ) → ReplayOutcome
+replayStep j script v scratch out = ended (run j v (scriptCalls scratch script out)) script scratch out
+
+-- the same script in the reference model, which is handed no job and no volume
+abbrev pub modelReplay : Model → (script scratch out : List ℕ) → ReplayOutcome
+modelReplay m script scratch out = ended (modelRan m (scriptCalls scratch script out)) script scratch out

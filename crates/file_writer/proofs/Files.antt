@@ -1,0 +1,120 @@
+-- The file and the outcome of writing it, from what the parts stored and the tests found.
+use mathlib.Core.Path.{_≡_, refl, sym, _∙_, ap}
+use mathlib.Core.Bool.{Bool, true, false, cond, false≢true}
+use mathlib.Core.List.{List, [], _∷_, _++_, append-assoc}
+use Prim.Native.Nat.{ℕ, _+_, _*_, _<_, _≤_}
+use native.Mathlib.Omega.{arith}
+use lib.ListN.{length, drop, length-append}
+use lib.Seq.{sets-eq}
+use lib.Dec.{eqb, ltb}
+use borrow.Author.Tests.{eq-eqb, ne-eqb, lt-ltb, le-ltb, eqb-true, ltb-false}
+use Rattle.algebra.specs.Cell.{J}
+use Rattle.numbers.specs.Value.{Value}
+use Rattle.line.specs.declared.Refusal.{Refusal}
+use Rattle.line.specs.Refusals.{numberOf}
+use Rattle.line.specs.Tests.{Test, first, accepted}
+use Rattle.line.proofs.Tests.{Passed, passed, fails}
+use Rattle.cell.specs.Volume.{volumeLength}
+use Rattle.job.specs.declared.Job.{Job}
+use Rattle.job.specs.Header.{Header, headerOf, axisTests, validJob, groupIn, halves}
+use Rattle.job.proofs.Headers.{all-three}
+use Rattle.file_writer.specs.declared.WriteAnswer.{WriteAnswer}
+use Rattle.file_writer.specs.declared.WriteAnswer.the-variants.{Refused}
+use Rattle.file_writer.specs.Writing.{bytes, headerBytes, allBytes, body, fileOf, jobRecords, jobFile, written, notWritten, WriteOutcome, writeTests, writeStep, writeOutcome}
+use Rattle.file_writer.specs.Steps.{Put, recordsWith, fileWith, heldTests, fileTests, filed}
+use Rattle.file_writer.proofs.ByteLaws.{length-bytes, length-all}
+
+-- ---- the file, part by part
+
+pub length-body : (h : Header) (cs : List (J × Value 1)) → length (body h cs) ≡ length (headerBytes h) + 4 + 14 * length cs
+length-body h cs = omega (arith, length-append (headerBytes h ++ bytes 4 (length cs)) (allBytes cs), length-append (headerBytes h) (bytes 4 (length cs)), length-bytes 4 (length cs), length-all cs)
+
+pub length-file : (h : Header) (cs : List (J × Value 1)) → length (fileOf h cs) ≡ length (headerBytes h) + 8 + 14 * length cs
+unfolding fileOf
+length-file h cs = omega (arith, length-append (bytes 4 (length (body h cs))) (body h cs), length-bytes 4 (length (body h cs)), length-body h cs)
+
+-- the parts as they are stored one after another; m is the count of the bytes that follow, n that of the records
+pub file-parts : (h : Header) (cs : List (J × Value 1)) (m n : ℕ) → m ≡ length (body h cs) → n ≡ length cs →
+    bytes 4 m ++ headerBytes h ++ bytes 4 n ++ allBytes cs ≡ fileOf h cs
+unfolding fileOf
+file-parts h cs m n e f =
+    append-assoc (bytes 4 m ++ headerBytes h) (bytes 4 n) (allBytes cs)
+    ∙ append-assoc (bytes 4 m) (headerBytes h) (bytes 4 n ++ allBytes cs)
+    ∙ ap (λ (l : List ℕ). bytes 4 m ++ l) (sym (append-assoc (headerBytes h) (bytes 4 n) (allBytes cs)))
+    ∙ (λ i. bytes 4 (e i) ++ (headerBytes h ++ bytes 4 (f i) ++ allBytes cs))
+
+-- ---- the outcome; n is the count of the records as the code holds it
+
+-- what the number of the first test makes of it
+abbrev pub told : (file output : List ℕ) → ℕ → WriteOutcome
+told file output k = accepted k (record { answer = written (length file); output = file ++ drop (length file) output }) (λ n. record { answer = notWritten n; output = output })
+
+module _ (n : ℕ) (cs : List (J × Value 1)) (file output : List ℕ) (e : n ≡ length cs) where
+  pub filed-none : n ≡ 0 → record { answer = notWritten 17; output = output } ≡ filed (length cs) file output
+  unfolding first
+  filed-none z = ap (λ b. told file output (cond b 17 (cond (ltb (length output) (length file)) 18 0))) (sym (eq-eqb (length cs) 0 (sym e ∙ z)))
+
+  module _ (z : n ≡ 0 → ⊥) where
+    some : eqb (length cs) 0 ≡ false
+    some = ne-eqb (length cs) 0 (λ q. z (e ∙ q))
+
+    pub filed-short : length output < length file → record { answer = notWritten 18; output = output } ≡ filed (length cs) file output
+    unfolding first
+    filed-short h = let t = lt-ltb (length output) (length file) h in λ i. told file output (cond (sym some i) 17 (cond (sym t i) 18 0))
+
+    pub filed-whole : {r : ℕ} {after : List ℕ} → length file ≤ length output → Put 0 file output r after → record { answer = written r; output = after } ≡ filed (length cs) file output
+    unfolding first
+    filed-whole {r} {after} h p =
+        let t = le-ltb (length output) (length file) h in
+        let room : 0 + length file ≤ length output = omega arith in
+        let zero-more : 0 + length file ≡ length file = omega arith in
+        let a : r ≡ length file = omega (arith, p .next) in
+        let o : after ≡ file ++ drop (length file) output = p .stored ∙ sets-eq file output 0 room ∙ ap (λ k. file ++ drop k output) zero-more in
+        (λ i. record { answer = written (a i); output = o i }) ∙ (λ i. told file output (cond (sym some i) 17 (cond (sym t i) 18 0)))
+
+-- ---- tests in two parts, the first of which no test or some test of holds
+
+pub passed-on : (ts us : List Test) → Passed ts → first (ts ++ us) ≡ first us
+unfolding first
+passed-on [] us p = refl
+passed-on (t ∷ ts) us p = ap (λ b. cond b (t .number) (first (ts ++ us))) (p .0) ∙ passed-on ts us (p .1)
+
+pub failed-first : (ts us : List Test) (n : ℕ) → (n ≡ 0 → ⊥) → n ≡ first ts → n ≡ first (ts ++ us)
+unfolding first
+failed-first [] us n z e = absurd (z e)
+failed-first (t ∷ ts) us n z e = go (t .fails) (failed-first ts us n z) e
+  where
+    go : (b : Bool) → (n ≡ first ts → n ≡ first (ts ++ us)) → n ≡ cond b (t .number) (first ts) → n ≡ cond b (t .number) (first (ts ++ us))
+    go true f e = e
+    go false f e = f e
+
+-- ---- a job's file
+
+-- a refusal has a number
+nonzero : (r : Refusal) → numberOf r ≡ 0 → ⊥
+nonzero r e = false≢true (sym (fails r (numberOf r) false (λ n. true) refl ∙ ap (λ n. accepted n false (λ n. true)) e))
+
+module _ (j : Job) (v output : List ℕ) where
+  abbrev pub held : List Test
+  held = heldTests (validJob j) (j .state) (j .group) (headerOf j .lengths) v
+
+  rest : List Test
+  rest = fileTests (length (jobRecords j v)) (length (jobFile j v)) (length output)
+
+  pub write-refused : (r : Refusal) → numberOf r ≡ first held → writeOutcome (Refused r) output ≡ writeStep j v output
+  unfolding writeStep rest
+  write-refused r e = fails r (first (writeTests j v output)) _ (λ n. record { answer = notWritten n; output = output }) (failed-first held rest (numberOf r) (nonzero r) e)
+
+  pub write-filed : (r : WriteAnswer) (after : List ℕ) → Passed held →
+      writeOutcome r after ≡ filed (length (recordsWith (j .group) (j .a .length) (j .b .length) (j .c .length) v)) (fileWith (j .group) (j .a .length) (j .b .length) (j .c .length) (j .a .factors) (j .b .factors) (j .c .factors) v) output →
+      writeOutcome r after ≡ writeStep j v output
+  unfolding writeStep rest jobFile jobRecords
+  write-filed r after p e = e ∙ ap (told (jobFile j v) output) (sym (passed-on held rest p))
+
+-- the volume of a valid job is one that an opening admits
+pub valid-volume : (j : Job) → validJob j ≡ true → volumeLength (groupIn j) (halves j) ≤ 16777216
+unfolding validJob
+valid-volume j e =
+    let t = all-three (ltb (j .group) 4) (eqb (first (axisTests (headerOf j))) 0) (ltb (j .state) 3) e in
+    let p = passed (axisTests (headerOf j)) tt (sym (eqb-true _ _ (t .1))) in
+    ltb-false 16777216 (volumeLength (groupIn j) (halves j)) (p .1 .1 .1 .0)

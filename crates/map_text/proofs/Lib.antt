@@ -1,0 +1,9 @@
+pub mod Specimen
+pub mod Decimals
+pub mod Writing
+pub mod Printing
+pub mod Outcomes
+pub mod Refusals
+pub mod Synthesised
+pub mod Files
+pub mod Needs

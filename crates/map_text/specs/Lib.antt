@@ -1,0 +1,4 @@
+pub mod Text
+pub mod Writing
+pub mod Printed
+pub mod Specimen

@@ -1,0 +1,24 @@
+-- What the public call answers and leaves, coded.
+use borrow.Author.Needs.{needs}
+use Rattle.exported.proofs.Coding.{work-coded}
+use Rattle.exported.proofs.recorder_analysis.Statement.{statement}
+use Rattle.exported.proofs.recorder_analysis.Tie as tie
+
+analysis-requires : tie.Need-analysis-requires
+analysis-requires c κs = search needs
+
+answer-number-requires : tie.Need-answer-number-requires
+answer-number-requires c κs = search needs
+
+same-length : tie.Need-same-length
+same-length c = search needs
+
+same-length-2 : tie.Need-same-length-2
+same-length-2 c = search needs
+
+returns : tie.Need-returns
+returns c = work-coded (c .before .before .before .before .before .before .analysis .result) _ (c .answer-number .ensures) _ _ _ (c .before .before .before .before .before .before .analysis .ensures)
+
+pub recorder-analysis-spec : {M : Type 1} → statement M
+recorder-analysis-spec =
+    tie.close (tie.spec analysis-requires answer-number-requires same-length same-length-2 returns)

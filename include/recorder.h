@@ -1,0 +1,102 @@
+/* The map recorder for programs in C: the functions of crates/exported, which `rt staticlib exported` writes to
+   target/staticlib/libexported.a. Each is proved to do what its contract in crates/exported/src/lib.rt says, for every input; nothing
+   checks this header against that file.
+
+   Numbers. A residue is 0 to 86,398. A value a + b i is two neighbouring residues, a pair. Every answer has a number: 0 for an
+   accepted call, else the number of the first refusal that applies, in the order given at each call. A refused call changes no buffer
+   and no job; what only an accepted call gives is then 0.
+
+   Buffers. A buffer is a pointer and the count of its elements. The pointer is not null and is aligned, even for no elements; the
+   memory is the caller's, initialised, and no two buffers of one call overlap. No call keeps a pointer.
+   - The volume has exactly W * N1 * (N2/2 + 1) pairs, where W is N3 in group 0, N3/2 in group 1, N3/2 + 1 in groups 2 and 3: twice as
+     many numbers, at most 16,777,216. It is filled as the scope lays out: packed factors, or the map with two zeros after each row.
+   - The scratch has at least 11,520 numbers. An accepted call leaves its first 11,520 numbers zero and the others untouched.
+   - A factor list has the numbers 2 to 5 in any order, with the product N/2; it is empty for N = 2.
+
+   Lengths N1, N2, N3 are even divisors of 2,880. Groups: 0 P1, 1 P2_1 with axis c, 2 Pm with its mirror across c, 3 Pa with its mirror
+   across c and its glide along a. */
+#ifndef RECORDER_H
+#define RECORDER_H
+
+#include <stddef.h>
+#include <stdint.h>
+
+#ifdef __cplusplus
+extern "C" {
+#endif
+
+/* A reflection's index (h, k, l) and a grid point's index (x, y, z): no call takes one for the other. */
+typedef struct { uint32_t h, k, l; } recorder_reflection;
+typedef struct { uint32_t x, y, z; } recorder_grid_point;
+
+/* An axis: its length, and its factor list as octal digits, the first factor lowest. */
+typedef struct { uint32_t length, factors; } recorder_axis;
+
+/* A job is handed in and handed back by value. Its state is 0 collecting, 1 factors held, 2 map held. A job that no call could have
+   given back is refused with 25. */
+typedef struct {
+    uint32_t group;
+    recorder_axis a, b, c;
+    uint32_t state;
+} recorder_job;
+
+typedef struct { uint32_t number; recorder_job job; } recorder_answer;
+typedef struct { uint32_t number, place; recorder_job job; } recorder_file_answer;
+typedef struct { uint32_t number; size_t written; } recorder_write_answer;
+typedef struct { uint32_t number, density; } recorder_density;
+typedef struct { uint32_t number, a, b; } recorder_factor_value;
+
+/* Opens a job. Kind 0 zeroes the volume and collects; kind 1 takes the volume as a map. A refused opening gives a job of zeros, which
+   every call refuses.
+   Refusals: 8 group not 0 to 3, 2 kind not 0 or 1, then each over the three axes 3 length not admitted, 4 a factor not 2 to 5,
+   5 product not N/2; 9 volume above 16,777,216 numbers, 6 volume not exactly as long as required; for a map 7 a number of 86,399 or
+   more, 14 no cell that obeys the group has this map with its zeros. */
+recorder_answer recorder_open(uint32_t group, uint32_t kind, uint32_t n1, uint32_t n2, uint32_t n3,
+                              const uint8_t *factors1, size_t count1, const uint8_t *factors2, size_t count2,
+                              const uint8_t *factors3, size_t count3, uint32_t *volume, size_t volume_length);
+
+/* Opens a job by a factor file of any bytes: an opening with kind 0, then its records. A refused record gives its place from 0 and
+   leaves the volume zero; every other refusal changes nothing. A refused file gives a job of zeros, which every call refuses.
+   Refusals: 15 the count is not the bytes that follow, 16 version not 1, 15 header, lists and records do not fill the file, 17 no
+   records, then those of an opening, then those of each record in its turn. */
+recorder_file_answer recorder_open_file(const uint8_t *file, size_t file_length, uint32_t *volume, size_t volume_length);
+
+/* Writes the factor file of a job that holds factors: one record for each orbit with a value other than zero, at its lowest (h, k, l),
+   rising. Returns the count of bytes written; the places beyond are untouched.
+   Refusals: 25, 23 no factors held, 6 volume not exactly as long as required, 7, 14, 17 no records, 18 output too short. */
+recorder_write_answer recorder_write_file(recorder_job job, const uint32_t *volume, size_t volume_length, uint8_t *out, size_t out_length);
+
+/* Records a + b i at an index, and the implied values at all images.
+   Refusals: 25, 21 not collecting, 10 an index not below its length, 7 a or b of 86,399 or more, 11 the value zero, 12 an image falls on
+   the index itself with another value, 6 volume not exactly as long as required, 24 a number that holds part of the orbit is not 0. */
+recorder_answer recorder_record(recorder_job job, recorder_reflection at, uint32_t a, uint32_t b,
+                                uint32_t *volume, size_t volume_length);
+
+/* From factors to the map: the job then holds a map.
+   Refusals: 25, 23 no factors held (collecting counts as held), 6 volume not exactly as long as required, 13 scratch too short, 7 a
+   number of 86,399 or more, 14 no whole cell that obeys group and Friedel has these factors. */
+recorder_answer recorder_synthesis(recorder_job job, uint32_t *volume, size_t volume_length,
+                                   uint32_t *scratch, size_t scratch_length);
+
+/* From the map to its factors: the job then holds factors. Refusals: 25, 22 no map held, 6, 13, 7, 14 as of an opening with a map. */
+recorder_answer recorder_analysis(recorder_job job, uint32_t *volume, size_t volume_length,
+                                  uint32_t *scratch, size_t scratch_length);
+
+/* The density at a point anywhere in the cell. Refusals: 25, 22 no map held, 10, 6, 7 of the number read. */
+recorder_density recorder_point(recorder_job job, recorder_grid_point at, const uint32_t *volume, size_t volume_length);
+
+/* The structure factor a + b i at an index anywhere in the cell. Refusals: 25, 23 no factors held, 10, 6, 7 of the numbers read. */
+recorder_factor_value recorder_factor(recorder_job job, recorder_reflection at, const uint32_t *volume, size_t volume_length);
+
+/* Transforms one line in place, direction 0 forward, 1 inverse; returns the number. Kinds: 0 plain, 1 Hermitian, 2 anti-Hermitian,
+   3 alternating, 4 symmetric, 5 antisymmetric.
+   Refusals: 1 kind not 0 to 5, 2 direction not 0 or 1, 3 length not admitted, 4 a factor not 2 to 5, 5 product not N/2, 6 line not
+   exactly as long as its kind asks, 13 scratch too short, 7 a number of 86,399 or more. */
+uint32_t recorder_line(uint32_t kind, uint32_t direction, uint32_t length, const uint8_t *factors, size_t count,
+                       uint32_t *line, size_t line_length, uint32_t *scratch, size_t scratch_length);
+
+#ifdef __cplusplus
+}
+#endif
+
+#endif

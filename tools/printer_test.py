@@ -1,0 +1,101 @@
+#!/usr/bin/env python3
+"""The printer test: runs the map printer on factor files and compares what it prints with the text that brute force gives.
+
+    printer_test.py PROGRAM
+
+Files of all four groups with random records, the paper's specimen, refused files of every kind, files cut at every length, a file of more than
+8,192 bytes and grids that need more than 2,048 numbers. The maps are those of the book in brute_force.py (triple sums over the whole cell). The
+seed is fixed. Prints how many files agreed; the exit status is 1 where one did not.
+"""
+import random
+import subprocess
+import sys
+
+from brute_force import P, factor_lists, file_bytes, images, number, open_file, planes
+
+SEED = 1975
+FILE_LIMIT = 8192
+VOLUME_LIMIT = 2048
+
+
+def lent(file):
+    """How many numbers the printer lends: what the header asks for, at most 2,048."""
+    part = file + bytes(12)
+    n = [number(part[q:q + 2]) for q in (6, 8, 10)]
+    group = part[5] if part[5] < 4 else 0
+    halves = [m // 2 for m in n]
+    layers = [2 * halves[2], halves[2], halves[2] + 1, halves[2] + 1][group]
+    return min(2 * layers * 2 * halves[0] * (halves[1] + 1), VOLUME_LIMIT)
+
+
+def printed(file):
+    if len(file) > FILE_LIMIT:
+        return "refused 15 at 0\n"
+    refused, place, book = open_file(file, lent(file))
+    if refused:
+        return "refused %d at %d\n" % (refused, place)
+    g, n = book.g, book.n
+    book.synthesis(11520)
+    M = book.densities()
+    lines = ["map %d %d %d %d" % (g, *n)]
+    for z in range(planes(g, n)):
+        for x in range(n[0]):
+            lines.append(" ".join(str(c) for c in [z, x] + [M[(x, y, z)] for y in range(n[1])]))
+    return "\n".join(lines) + "\n"
+
+
+def files():
+    rng = random.Random(SEED)
+
+    def lists(n):
+        return [rng.choice(list(factor_lists(m // 2))) for m in n]
+
+    def records(g, n, count):
+        found, taken = [], set()
+        for _ in range(8 * count):
+            j = tuple(rng.randrange(m) for m in n)
+            for v in ((rng.randrange(1, P), rng.randrange(1, P)), (rng.randrange(1, P), 0), (0, rng.randrange(1, P))):
+                orbit = images(g, n, j, v)
+                if j not in taken and len(found) < count and all(i != j or w == v for i, w in orbit):
+                    found.append((*j, *v))
+                    taken.update(i for i, _ in orbit)
+                    break
+        return found
+
+    specimen = bytes.fromhex("0000001D" "01" "00" "0002" "0002" "0002" "00" "00" "00" "00000001" "0001" "0000" "0000" "00000003" "00000000")
+    yield specimen
+    for k in range(len(specimen)):
+        yield specimen[:k]
+        yield specimen[:k] + bytes([specimen[k] ^ 1]) + specimen[k + 1:]
+    for g in range(4):
+        for n in [(2, 2, 2), (4, 2, 2), (2, 4, 6), (4, 4, 4), (6, 4, 2), (4, 6, 6), (2, 8, 10), (8, 4, 4), (6, 6, 6), (4, 10, 12), (16, 6, 8)]:
+            rs = records(g, n, 5)
+            yield file_bytes(g, n, lists(n), rs)
+            yield file_bytes(g, n, lists(n), rs + rs[:1])
+            yield file_bytes(g, n, lists(n), rs + [(n[0], 0, 0, 1, 0)])
+            yield file_bytes(g, n, lists(n), [(0, 0, 0, 1, 1)] + rs)
+            yield file_bytes(g, n, lists(n), [])
+            yield file_bytes(g + 4, n, lists(n), rs)
+            yield file_bytes(g, n, [[7]] + lists(n)[1:], rs)
+        for n in [(24, 24, 24), (240, 240, 240), (288, 288, 288)]:
+            yield file_bytes(g, n, lists(n), [(1, 2, 3, 4, 5)])
+        n = (4, 4, 4)
+        yield file_bytes(g, n, lists(n), records(g, n, 2) + [(1, 1, 1, 0, 0)] * 700)
+
+
+def main():
+    program = sys.argv[1]
+    agreed = wrong = 0
+    for file in files():
+        want = printed(file)
+        got = subprocess.run([program], input=file, stdout=subprocess.PIPE, check=True).stdout.decode()
+        if got == want:
+            agreed += 1
+        else:
+            wrong += 1
+            print("file %s: printed %r, expected %r" % (file[:40].hex(), got[:60], want[:60]))
+    print("%d files agree, %d do not" % (agreed, wrong))
+    sys.exit(1 if wrong else 0)
+
+
+main()

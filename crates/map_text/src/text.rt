@@ -41,7 +41,8 @@ fn put_values(out: &mut [u8], at: usize, volume: &[u32], start: usize, n: usize)
     let mut place = at;
     let mut y = 0;
     while y < n {
-        place = output::put_field(out, place, volume[start + y]);
+        let value = volume[start + y];
+        place = output::put_field(out, place, value);
         y += 1;
     }
     place

@@ -22,14 +22,14 @@ abbrev μ-loop : tie.MeasureT-loop
 loop-holds : tie.Need-loop-holds Inv-loop μ-loop
 loop-holds c = (omega arith, each-none _ _ _)
 
-add-put-field : tie.Need-add-put-field Inv-loop μ-loop
-add-put-field c = omega arith
+add-value : tie.Need-add-value Inv-loop μ-loop
+add-value c = omega arith
 
-mul-put-field : tie.Need-mul-put-field Inv-loop μ-loop
-mul-put-field c = omega arith
+mul-value : tie.Need-mul-value Inv-loop μ-loop
+mul-value c = omega arith
 
-shared-slice-read-put-field : tie.Need-shared-slice-read-put-field Inv-loop μ-loop
-shared-slice-read-put-field c = omega arith
+shared-slice-read-value : tie.Need-shared-slice-read-value Inv-loop μ-loop
+shared-slice-read-value c = omega arith
 
 put-field-requires : tie.Need-put-field-requires Inv-loop μ-loop
 put-field-requires c κs =
@@ -67,9 +67,9 @@ put-values-spec =
     Inv-loop
     μ-loop
     loop-holds
-    add-put-field
-    mul-put-field
-    shared-slice-read-put-field
+    add-value
+    mul-value
+    shared-slice-read-value
     put-field-requires
     add-y
     loop-less

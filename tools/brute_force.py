@@ -398,6 +398,32 @@ class Machine:
             return 7, 0, 0
         return 0, x[0], x[1]
 
+    def write(self, room):
+        """The file with one record for each orbit that has a value, at its lowest index: the refusal's number or 0, and its bytes."""
+        g, n, lists, s = self.parts()
+        if not self.valid():
+            return 25, b""
+        if s == 2:
+            return 23, b""
+        v = self.lent()
+        if len(v) != volume_length(g, n):
+            return 6, b""
+        if any(x >= P for x in v):
+            return 7, b""
+        if not consistent(g, n, v):
+            return 14, b""
+        F = read_cell(g, n, v)
+        seen = set()
+        records = []
+        for j in sorted(F):
+            if F[j] != (0, 0) and j not in seen:
+                records.append((*j, *F[j]))
+                seen.update(i for i, _ in images(g, n, j, F[j]))
+        if not records:
+            return 17, b""
+        file = file_bytes(g, n, lists, records)
+        return (18, b"") if len(file) > room else (0, file)
+
 
 # ---- the book: a state and F for every (h, k, l), fed the calls' arguments alone
 

@@ -1,5 +1,5 @@
 #!/usr/bin/env python3
-"""The file test: factor files, sound and damaged, and lists of calls on the jobs that they open, by brute force.
+"""The file test: factor files, sound and damaged, lists of calls on the jobs that they open, and the files of those jobs, by brute force.
 
     file_cases.py cases   writes the cases to standard output, a record of 48 bytes each
     file_cases.py answers writes what the test program must print
@@ -12,17 +12,23 @@ A record is an operation (1 byte, 3 unused) and eleven numbers (4 bytes each, bi
     4 damage    opens every part of the file that starts with its first byte, then the file with each of its bytes in turn 1, 128 and 255 more
     5 call      six numbers: a call of the script
     6 replay    lengths of the scratch and of the answers: the script is replayed on the job
-Before each opening the volume is filled with the number 7, before a replay the scratch with 7 and the answers with 9.
+    7 write     length of the output: the file of the job is written
+    8 poke      place, value: one number of the volume
+    9 job       group, N1, list, N2, list, N3, list, state: the job itself (lists as octal digits)
+Before each opening the volume is filled with the number 7, before a replay the scratch with 7 and the answers with 9, before a writing
+the output with 7.
 A line is printed for each opening: the refusal's number or 0, the record's place, checksums of the job (of 0s where there is none) and the volume.
 For a replay: how many numbers of answers were written, checksums of the job, the volume and the scratch, then a line with every number lent for answers.
+For a writing: the refusal's number or 0, how many bytes were written and a checksum of the output.
 
-The answers are those of the book in brute_force.py, which is fed the calls' arguments alone. The seed is fixed.
+The answers of openings and replays are those of the book in brute_force.py, which is fed the calls' arguments alone; a file is written
+from the job and the volume that the calls left. The seed is fixed.
 """
 import random
 import struct
 import sys
 
-from brute_force import P, SCRATCH, factor_lists, file_bytes, images, open_file, volume_length
+from brute_force import P, SCRATCH, Machine, factor_lists, file_bytes, images, open_file, volume_length
 
 SEED = 1974
 LENT_MOST = 2048
@@ -43,6 +49,17 @@ class TestProgram:
         self.script = []
         self.length = 0
         self.book = None
+        self.left = Machine()
+
+    def leave(self):
+        """The job and the volume that the book's calls leave."""
+        self.left.job = self.book.job()
+        self.left.volume[:self.length] = self.book.volume()
+
+    def writing(self, room):
+        self.left.length = self.length
+        refused, file = self.left.write(room)
+        return "%d %d %d" % (refused, len(file), checksum(file + bytes([7]) * (room - len(file))))
 
     def opening(self, file):
         refused, place, book = open_file(file, self.length)
@@ -72,6 +89,7 @@ class TestProgram:
                 out += book.point(h, k, l)
             else:
                 out += book.factor(h, k, l)
+        self.leave()
         written = len(out)
         out += [9] * (room - written)
         yield "%d %d %d %d" % (written, checksum(book.job()), checksum(book.volume()), checksum(left))
@@ -89,6 +107,7 @@ class TestProgram:
             book, line = self.opening(self.file)
             if book:
                 self.book = book
+                self.leave()
             yield line
         elif op == 4:
             for n in range(len(self.file) + 1):
@@ -98,8 +117,14 @@ class TestProgram:
                     yield self.opening(self.file[:q] + bytes([(self.file[q] + more) % 256]) + self.file[q + 1:])[1]
         elif op == 5:
             self.script += w[:6]
-        else:
+        elif op == 6:
             yield from self.replay(w[0], w[1])
+        elif op == 7:
+            yield self.writing(w[0])
+        elif op == 8:
+            self.left.volume[w[0]] = w[1]
+        else:
+            self.left.job = list(w[:8])
 
 
 def cases():
@@ -187,6 +212,45 @@ def cases():
                     say(5, op, *j, *(v or (3, 4)))
                     count += 1
                 say(6, rng.choice([SCRATCH, SCRATCH, SCRATCH + 480, SCRATCH - 1]), rng.choice([3 * count, 3 * count, 3 * count + 2, 3 * count - 1, 0]))
+                say(7, 4096)
+
+    # files of jobs: outputs of every length around the file's, each refusal, and those of spoilt jobs and volumes
+    for g in range(4):
+        for n in [(2, 2, 2), (4, 4, 4), (6, 4, 2), (4, 6, 6), (4, 2, 12), (2, 8, 10)]:
+            file = file_bytes(g, n, lists(n), records(g, n, rng.choice([1, 3, 12])))
+            book = open_file(file, volume_length(g, n))[2]
+            length = len(file)
+            say_file(file)
+            say(2, volume_length(g, n))
+            say(3)
+            for room in (length, length - 1, length + 5, 4096, 4, 0):
+                say(7, room)
+            for call in ((1, 2, 0), (1,)):
+                say(0)
+                for op in call:
+                    say(5, op)
+                say(6, SCRATCH, 9)
+                say(7, 4096)
+            say_file(file)
+            say(3)
+            job, volume = book.job(), book.volume()
+            for _ in range(6):
+                place = rng.randrange(len(volume))
+                say(8, place, rng.choice([0, 1, P - 1, P, rng.randrange(P)]))
+                say(7, 4096)
+                say(8, place, volume[place])
+            for change in ((0, 4), (1, 14), (2, 7), (3, 0), (4, 2), (5, 2880), (7, 1), (7, 2), (7, 3)):
+                say(9, *job[:change[0]], change[1], *job[change[0] + 1:])
+                say(7, 4096)
+            say(9, *job)
+            for lent in (len(volume) - 1, len(volume) + 1):
+                say(2, lent)
+                say(7, 4096)
+            say(2, len(volume))
+            for place, x in enumerate(volume):
+                if x:
+                    say(8, place, 0)
+            say(7, 4096)
     return out
 
 

@@ -1,10 +1,12 @@
-// Opens factor files from standard input, sound and damaged, and replays scripts of calls on the jobs that they open. tools/file_cases.py
-// writes the cases, says what a record of 48 bytes holds and what is printed, and computes by brute force what this program must print.
+// Opens factor files from standard input, sound and damaged, replays scripts of calls on the jobs that they open, and writes their files.
+// tools/file_cases.py writes the cases, says what a record of 48 bytes holds and what is printed, and computes by brute force what this
+// program must print.
 ghost use mathlib.Core.Path.{_≡_};
 ghost use Prim.Native.Nat.{_+_, _<_, _≤_};
 ghost use lib.ListN.{length};
 use factor_file::FileAnswer;
 use factor_file::open_file;
+use file_writer::WriteAnswer;
 use job::Axis;
 use job::Job;
 use libc::STDIN_FILENO;
@@ -286,6 +288,84 @@ fn replay_next(
     )
 }
 
+fn fill_bytes(v: &mut [u8], x: u8) {
+    let mut j: usize = 0;
+    while j < v.len() {
+        v[j] = x;
+        j += 1;
+    }
+}
+
+fn bytes_checksum(v: &[u8]) -> u64 {
+    let mut h: u64 = 7;
+    let mut j: usize = 0;
+    while j < v.len() {
+        h = more(h, wide(v[j]));
+        j += 1;
+    }
+    h
+}
+
+// Writes the job's file into an output of sevens and prints the answer and what it left.
+fn written(job: Job, volume: &[u32], out: &mut [u8]) {
+    fill_bytes(out, 7);
+    let answer = file_writer::write_file(job, volume, out);
+    match answer {
+        WriteAnswer::Written(count) => {
+            print(0);
+            print(count as u64);
+        }
+        WriteAnswer::Refused(refusal) => {
+            print(line::number_of(refusal) as u64);
+            print(0);
+        }
+    }
+    print_last(bytes_checksum(out));
+}
+
+fn write_next(c: &[u8], held: Held, volume: &[u32])
+    requires { ⌜ length (now c) ≡ 48 ⌝ }
+{
+    let mut out = [0u8; 4096];
+    let lent = held.volume;
+    let room = word(c, 0) as usize;
+    if volume.len() < lent {
+        return;
+    }
+    if 4096 < room {
+        return;
+    }
+    written(held.job, &volume[..lent], &mut out[..room]);
+}
+
+// The job itself, whether or not any opening could have made it.
+fn job_said(c: &[u8]) -> Job
+    requires { ⌜ length (now c) ≡ 48 ⌝ }
+{
+    Job {
+        group: word(c, 0),
+        a: Axis {
+            length: word(c, 1),
+            factors: word(c, 2),
+        },
+        b: Axis {
+            length: word(c, 3),
+            factors: word(c, 4),
+        },
+        c: Axis {
+            length: word(c, 5),
+            factors: word(c, 6),
+        },
+        state: word(c, 7),
+    }
+}
+
+fn put_at(volume: &mut [u32], place: usize, x: u32) {
+    if place < volume.len() {
+        volume[place] = x;
+    }
+}
+
 fn keep(job: Job, file: usize, volume: usize, script: usize) -> Held {
     Held {
         job,
@@ -326,6 +406,17 @@ fn next(
     }
     if op == 5 {
         return keep(job, bytes, lent, add_call(c, script, calls));
+    }
+    if op == 7 {
+        write_next(c, before, volume);
+        return before;
+    }
+    if op == 8 {
+        put_at(volume, word(c, 0) as usize, word(c, 1));
+        return before;
+    }
+    if op == 9 {
+        return keep(job_said(c), bytes, lent, calls);
     }
     keep(
         replay_next(c, before, script, volume, scratch, answers),

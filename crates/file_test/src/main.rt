@@ -10,72 +10,26 @@ use file_writer::WriteAnswer;
 use job::Axis;
 use job::Job;
 use libc::STDIN_FILENO;
-use libc::STDOUT_FILENO;
 
-fn wide(b: u8) -> u32
-    ensures { λ r. ⌜ r < 256 ⌝ }
-{
-    b as u32
-}
-
-fn wide64(x: u32) -> u64
-    ensures { λ r. ⌜ r < 4294967296 ⌝ }
-{
-    x as u64
-}
-
-// The big-endian number i of a record.
+// Number i of a record.
 fn word(c: &[u8], i: usize) -> u32
-    requires { ⌜ (i < 11) × (length (now c) ≡ 48) ⌝ }
+    requires { ⌜ i < 11 ⌝ }
 {
-    let at = 4 + 4 * i;
-    let high = wide(c[at]) * 256 + wide(c[at + 1]);
-    let low = wide(c[at + 2]) * 256 + wide(c[at + 3]);
-    high * 65536 + low
+    cases::number(c, 4 + 4 * i)
 }
 
-fn fill_with(v: &mut [u32], x: u32) {
-    let mut j: usize = 0;
-    while j < v.len() {
-        v[j] = x;
-        j += 1;
-    }
-}
-
-fn more(h: u64, x: u32) -> u64
-    requires { ⌜ h < 2147483647 ⌝ }
-    ensures { λ r. ⌜ r < 2147483647 ⌝ }
-{
-    (h * 31 + wide64(x) + 1) % 2147483647
-}
-
-fn checksum(v: &[u32]) -> u64 {
-    let mut h: u64 = 7;
-    let mut j: usize = 0;
-    while j < v.len() {
-        h = more(h, v[j]);
-        j += 1;
-    }
-    h
-}
-
-fn job_checksum(j: Job) -> u64 {
-    let h = more(more(more(7, j.group), j.a.length), j.a.factors);
-    let k = more(
-        more(more(more(h, j.b.length), j.b.factors), j.c.length),
+fn job_checksum(j: Job) -> u32 {
+    let numbers = [
+        j.group,
+        j.a.length,
+        j.a.factors,
+        j.b.length,
+        j.b.factors,
+        j.c.length,
         j.c.factors,
-    );
-    more(k, j.state)
-}
-
-fn print(n: u64) {
-    io::print_decimal(STDOUT_FILENO, n);
-    io::write_all(STDOUT_FILENO, b" ");
-}
-
-fn print_last(n: u64) {
-    io::print_decimal(STDOUT_FILENO, n);
-    io::write_all(STDOUT_FILENO, b"\n");
+        j.state,
+    ];
+    cases::checksum(&numbers)
 }
 
 fn no_job() -> Job {
@@ -100,23 +54,23 @@ struct Held {
     script: usize,
 }
 
-// Opens a file on a volume of sevens and prints the answer and what it left; the job that goes on.
+// Prints what an opening answered and left.
+fn print_opening(number: u32, place: u32, job: Job, volume: &[u32]) {
+    let said = [number, place, job_checksum(job), cases::checksum(volume)];
+    cases::print_line(&said);
+}
+
+// Opens a file on a volume of sevens; the job that goes on.
 fn opened(file: &[u8], volume: &mut [u32], before: Job) -> Job {
-    fill_with(volume, 7);
+    cases::fill_with(volume, 7);
     let answer = open_file::open_file(file, volume);
     match answer {
         FileAnswer::Opened(job) => {
-            print(0);
-            print(0);
-            print(job_checksum(job));
-            print_last(checksum(volume));
+            print_opening(0, 0, job, volume);
             job
         }
         FileAnswer::Refused(refusal, place) => {
-            print(line::number_of(refusal) as u64);
-            print(place as u64);
-            print(job_checksum(no_job()));
-            print_last(checksum(volume));
+            print_opening(line::number_of(refusal), place, no_job(), volume);
             before
         }
     }
@@ -137,7 +91,7 @@ fn changed(file: &mut [u8], volume: &mut [u32], job: Job, q: usize, d: u32)
     requires { ⌜ (q < length (now file)) × (d < 256) ⌝ }
 {
     let old = file[q];
-    file[q] = ((wide(old) + d) % 256) as u8;
+    file[q] = ((cases::wide(old) + d) % 256) as u8;
     opened(&file[..], volume, job);
     file[q] = old;
 }
@@ -153,24 +107,6 @@ fn damage(file: &mut [u8], volume: &mut [u32], job: Job) {
     }
 }
 
-// The number j of a line: a blank stands before all but the first.
-fn print_next(j: usize, x: u32) {
-    if 0 < j {
-        io::write_all(STDOUT_FILENO, b" ");
-    }
-    io::print_decimal(STDOUT_FILENO, wide64(x));
-}
-
-// The numbers lent for answers, on one line.
-fn print_answers(answers: &[u32]) {
-    let mut j: usize = 0;
-    while j < answers.len() {
-        print_next(j, answers[j]);
-        j += 1;
-    }
-    io::write_all(STDOUT_FILENO, b"\n");
-}
-
 fn replayed(
     job: Job,
     script: &[u32],
@@ -178,16 +114,18 @@ fn replayed(
     scratch: &mut [u32],
     answers: &mut [u32],
 ) -> Job {
-    fill_with(scratch, 7);
-    fill_with(answers, 9);
+    cases::fill_with(scratch, 7);
+    cases::fill_with(answers, 9);
     let r = replay::replay(job, script, volume, scratch, answers);
-    let next = r.job;
-    print(r.written as u64);
-    print(job_checksum(next));
-    print(checksum(volume));
-    print_last(checksum(scratch));
-    print_answers(answers);
-    next
+    let said = [
+        cases::count(r.written),
+        job_checksum(r.job),
+        cases::checksum(volume),
+        cases::checksum(scratch),
+    ];
+    cases::print_line(&said);
+    cases::print_line(answers);
+    r.job
 }
 
 // One more byte of a file, where there is room; the place after it.
@@ -208,23 +146,19 @@ fn put_number(script: &mut [u32], q: usize, x: u32) -> usize {
 }
 
 // The bytes from 8 on are added to the file.
-fn add_bytes(c: &[u8], file: &mut [u8], at: usize) -> usize
-    requires { ⌜ length (now c) ≡ 48 ⌝ }
-{
+fn add_bytes(c: &[u8], file: &mut [u8], at: usize) -> usize {
     let count = (word(c, 0) % 41) as usize;
     let mut i: usize = 0;
     let mut q = at;
     while i < count {
-        q = put_byte(file, q, c[8 + i]);
+        q = put_byte(file, q, cases::byte(c, 8 + i));
         i += 1;
     }
     q
 }
 
 // Six numbers are added to the script.
-fn add_call(c: &[u8], script: &mut [u32], at: usize) -> usize
-    requires { ⌜ length (now c) ≡ 48 ⌝ }
-{
+fn add_call(c: &[u8], script: &mut [u32], at: usize) -> usize {
     let mut i: usize = 0;
     let mut q = at;
     while i < 6 {
@@ -259,9 +193,7 @@ fn replay_next(
     volume: &mut [u32],
     scratch: &mut [u32],
     answers: &mut [u32],
-) -> Job
-    requires { ⌜ length (now c) ≡ 48 ⌝ }
-{
+) -> Job {
     let n = held.script;
     let lent = held.volume;
     let job = held.job;
@@ -296,36 +228,31 @@ fn fill_bytes(v: &mut [u8], x: u8) {
     }
 }
 
-fn bytes_checksum(v: &[u8]) -> u64 {
-    let mut h: u64 = 7;
-    let mut j: usize = 0;
-    while j < v.len() {
-        h = more(h, wide(v[j]));
-        j += 1;
-    }
-    h
-}
-
 // Writes the job's file into an output of sevens and prints the answer and what it left.
 fn written(job: Job, volume: &[u32], out: &mut [u8]) {
     fill_bytes(out, 7);
     let answer = file_writer::write_file(job, volume, out);
-    match answer {
-        WriteAnswer::Written(count) => {
-            print(0);
-            print(count as u64);
-        }
-        WriteAnswer::Refused(refusal) => {
-            print(line::number_of(refusal) as u64);
-            print(0);
-        }
-    }
-    print_last(bytes_checksum(out));
+    let number = refusal_of(answer);
+    let count = count_of(answer);
+    let said = [number, count, cases::byte_checksum(out)];
+    cases::print_line(&said);
 }
 
-fn write_next(c: &[u8], held: Held, volume: &[u32])
-    requires { ⌜ length (now c) ≡ 48 ⌝ }
-{
+fn refusal_of(answer: WriteAnswer) -> u32 {
+    match answer {
+        WriteAnswer::Written(count) => 0,
+        WriteAnswer::Refused(refusal) => line::number_of(refusal),
+    }
+}
+
+fn count_of(answer: WriteAnswer) -> u32 {
+    match answer {
+        WriteAnswer::Written(count) => cases::count(count),
+        WriteAnswer::Refused(refusal) => 0,
+    }
+}
+
+fn write_next(c: &[u8], held: Held, volume: &[u32]) {
     let mut out = [0u8; 4096];
     let lent = held.volume;
     let room = word(c, 0) as usize;
@@ -339,9 +266,7 @@ fn write_next(c: &[u8], held: Held, volume: &[u32])
 }
 
 // The job itself, whether or not any opening could have made it.
-fn job_said(c: &[u8]) -> Job
-    requires { ⌜ length (now c) ≡ 48 ⌝ }
-{
+fn job_said(c: &[u8]) -> Job {
     Job {
         group: word(c, 0),
         a: Axis {
@@ -360,12 +285,6 @@ fn job_said(c: &[u8]) -> Job
     }
 }
 
-fn put_at(volume: &mut [u32], place: usize, x: u32) {
-    if place < volume.len() {
-        volume[place] = x;
-    }
-}
-
 fn keep(job: Job, file: usize, volume: usize, script: usize) -> Held {
     Held {
         job,
@@ -375,55 +294,64 @@ fn keep(job: Job, file: usize, volume: usize, script: usize) -> Held {
     }
 }
 
+fn with_job(held: Held, job: Job) -> Held {
+    keep(job, held.file, held.volume, held.script)
+}
+
+// What a record adds to the file or the script, or sets of the job and the lent volume's length.
+fn prepared(op: u32, held: Held, c: &[u8], file: &mut [u8], script: &mut [u32]) -> Held {
+    if op == 0 {
+        return keep(held.job, 0, held.volume, 0);
+    }
+    if op == 1 {
+        let bytes = add_bytes(c, file, held.file);
+        return keep(held.job, bytes, held.volume, held.script);
+    }
+    if op == 2 {
+        return keep(held.job, held.file, word(c, 0) as usize, held.script);
+    }
+    if op == 5 {
+        let calls = add_call(c, script, held.script);
+        return keep(held.job, held.file, held.volume, calls);
+    }
+    with_job(held, job_said(c))
+}
+
+// What a record does with the volume: openings, a writing, one number changed.
+fn on_volume(op: u32, held: Held, c: &[u8], file: &mut [u8], volume: &mut [u32]) -> Held {
+    if op < 5 {
+        return with_job(held, open_next(op, held, file, volume));
+    }
+    if op == 7 {
+        write_next(c, held, volume);
+        return held;
+    }
+    cases::put_at(volume, word(c, 0) as usize, word(c, 1));
+    held
+}
+
+fn prepares(op: u32) -> bool {
+    op < 3 || op == 5 || op == 9
+}
+
 // What a record of the input asks.
 fn next(
-    before: Held,
+    held: Held,
     c: &[u8],
     file: &mut [u8],
     script: &mut [u32],
     volume: &mut [u32],
     scratch: &mut [u32],
     answers: &mut [u32],
-) -> Held
-    requires { ⌜ length (now c) ≡ 48 ⌝ }
-{
-    let op = wide(c[0]);
-    let job = before.job;
-    let bytes = before.file;
-    let lent = before.volume;
-    let calls = before.script;
-    if op == 0 {
-        return keep(job, 0, lent, 0);
+) -> Held {
+    let op = cases::wide(cases::byte(c, 0));
+    if prepares(op) {
+        return prepared(op, held, c, file, script);
     }
-    if op == 1 {
-        return keep(job, add_bytes(c, file, bytes), lent, calls);
+    if op == 6 {
+        return with_job(held, replay_next(c, held, script, volume, scratch, answers));
     }
-    if op == 2 {
-        return keep(job, bytes, word(c, 0) as usize, calls);
-    }
-    if op < 5 {
-        return keep(open_next(op, before, file, volume), bytes, lent, calls);
-    }
-    if op == 5 {
-        return keep(job, bytes, lent, add_call(c, script, calls));
-    }
-    if op == 7 {
-        write_next(c, before, volume);
-        return before;
-    }
-    if op == 8 {
-        put_at(volume, word(c, 0) as usize, word(c, 1));
-        return before;
-    }
-    if op == 9 {
-        return keep(job_said(c), bytes, lent, calls);
-    }
-    keep(
-        replay_next(c, before, script, volume, scratch, answers),
-        bytes,
-        lent,
-        calls,
-    )
+    on_volume(op, held, c, file, volume)
 }
 
 fn main() {

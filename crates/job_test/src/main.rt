@@ -14,84 +14,26 @@ use job::OpenAnswer;
 use job::PointAnswer;
 use job::Reflection;
 use libc::STDIN_FILENO;
-use libc::STDOUT_FILENO;
 
-fn wide(b: u8) -> u32
-    ensures { λ r. ⌜ r < 256 ⌝ }
-{
-    b as u32
-}
-
-fn wide64(x: u32) -> u64
-    ensures { λ r. ⌜ r < 4294967296 ⌝ }
-{
-    x as u64
-}
-
-// The big-endian number i of a record.
+// Number i of a record.
 fn word(c: &[u8], i: usize) -> u32
-    requires { ⌜ (i < 11) × (length (now c) ≡ 48) ⌝ }
+    requires { ⌜ i < 11 ⌝ }
 {
-    let at = 4 + 4 * i;
-    let high = wide(c[at]) * 256 + wide(c[at + 1]);
-    let low = wide(c[at + 2]) * 256 + wide(c[at + 3]);
-    high * 65536 + low
+    cases::number(c, 4 + 4 * i)
 }
 
-// Residues by a linear congruential generator.
-fn fill(v: &mut [u32], seed: u32) {
-    let mut state = seed as u64;
-    let mut j: usize = 0;
-    while j < v.len() {
-        state = (state * 1103515245 + 12345) % 2147483648;
-        v[j] = (state / 8 % 86399) as u32;
-        j += 1;
-    }
-}
-
-fn fill_with(v: &mut [u32], x: u32) {
-    let mut j: usize = 0;
-    while j < v.len() {
-        v[j] = x;
-        j += 1;
-    }
-}
-
-fn poke(v: &mut [u32], place: usize, x: u32) {
-    if place < v.len() {
-        v[place] = x;
-    }
-}
-
-fn more(h: u64, x: u32) -> u64
-    requires { ⌜ h < 2147483647 ⌝ }
-    ensures { λ r. ⌜ r < 2147483647 ⌝ }
-{
-    (h * 31 + wide64(x) + 1) % 2147483647
-}
-
-fn checksum(v: &[u32]) -> u64 {
-    let mut h: u64 = 7;
-    let mut j: usize = 0;
-    while j < v.len() {
-        h = more(h, v[j]);
-        j += 1;
-    }
-    h
-}
-
-fn job_checksum(j: Job) -> u64 {
-    let h = more(more(more(7, j.group), j.a.length), j.a.factors);
-    let k = more(
-        more(more(more(h, j.b.length), j.b.factors), j.c.length),
+fn job_checksum(j: Job) -> u32 {
+    let numbers = [
+        j.group,
+        j.a.length,
+        j.a.factors,
+        j.b.length,
+        j.b.factors,
+        j.c.length,
         j.c.factors,
-    );
-    more(k, j.state)
-}
-
-fn print(n: u64) {
-    io::print_decimal(STDOUT_FILENO, n);
-    io::write_all(STDOUT_FILENO, b" ");
+        j.state,
+    ];
+    cases::checksum(&numbers)
 }
 
 // What a call answered: the refusal's number, two values, and the job that goes on.
@@ -141,12 +83,12 @@ fn count(lists: &[u8], axis: usize) -> usize
     requires { ⌜ (axis < 3) × (length (now lists) ≡ 51) ⌝ }
     ensures { λ r. ⌜ r ≤ 16 ⌝ }
 {
-    (wide(lists[48 + axis]) % 17) as usize
+    (cases::wide(lists[48 + axis]) % 17) as usize
 }
 
 // The three factor lists have 16 bytes each.
 fn open(job: Job, c: &[u8], lists: &[u8], volume: &mut [u32]) -> Said
-    requires { ⌜ (length (now c) ≡ 48) × (length (now lists) ≡ 51) ⌝ }
+    requires { ⌜ length (now lists) ≡ 51 ⌝ }
 {
     let e1 = count(lists, 0);
     let e2 = 16 + count(lists, 1);
@@ -166,7 +108,7 @@ fn open(job: Job, c: &[u8], lists: &[u8], volume: &mut [u32]) -> Said
 }
 
 fn call(op: u32, job: Job, c: &[u8], lists: &[u8], volume: &mut [u32], scratch: &mut [u32]) -> Said
-    requires { ⌜ (length (now c) ≡ 48) × (length (now lists) ≡ 51) ⌝ }
+    requires { ⌜ length (now lists) ≡ 51 ⌝ }
 {
     if op == 0 {
         return open(job, c, lists, volume);
@@ -191,23 +133,25 @@ fn call(op: u32, job: Job, c: &[u8], lists: &[u8], volume: &mut [u32], scratch: 
 
 // A call on exactly the volume and the scratch that are lent, and what it said.
 fn run(op: u32, job: Job, c: &[u8], lists: &[u8], volume: &mut [u32], scratch: &mut [u32]) -> Job
-    requires { ⌜ (length (now c) ≡ 48) × (length (now lists) ≡ 51) ⌝ }
+    requires { ⌜ length (now lists) ≡ 51 ⌝ }
 {
     let s = call(op, job, c, lists, volume, scratch);
-    print(op as u64);
-    print(s.number as u64);
-    print(s.x as u64);
-    print(s.y as u64);
-    print(job_checksum(s.job));
-    print(checksum(volume));
-    io::print_decimal(STDOUT_FILENO, checksum(scratch));
-    io::write_all(STDOUT_FILENO, b"\n");
+    let said = [
+        op,
+        s.number,
+        s.x,
+        s.y,
+        job_checksum(s.job),
+        cases::checksum(volume),
+        cases::checksum(scratch),
+    ];
+    cases::print_line(&said);
     s.job
 }
 
 // The bytes from 12 on are the list of the axis.
 fn set_list(c: &[u8], lists: &mut [u8])
-    requires { ⌜ (length (now c) ≡ 48) × (length (now lists) ≡ 51) ⌝ }
+    requires { ⌜ length (now lists) ≡ 51 ⌝ }
 {
     let axis = word(c, 0) as usize;
     if 2 < axis {
@@ -216,13 +160,13 @@ fn set_list(c: &[u8], lists: &mut [u8])
     lists[48 + axis] = (word(c, 1) % 17) as u8;
     let mut i: usize = 0;
     while i < 16 {
-        lists[16 * axis + i] = c[12 + i];
+        lists[16 * axis + i] = cases::byte(c, 12 + i);
         i += 1;
     }
 }
 
 fn axis(c: &[u8], i: usize) -> Axis
-    requires { ⌜ (i < 6) × (length (now c) ≡ 48) ⌝ }
+    requires { ⌜ i < 6 ⌝ }
 {
     Axis {
         length: word(c, i),
@@ -230,9 +174,7 @@ fn axis(c: &[u8], i: usize) -> Axis
     }
 }
 
-fn named(c: &[u8]) -> Job
-    requires { ⌜ length (now c) ≡ 48 ⌝ }
-{
+fn named(c: &[u8]) -> Job {
     Job {
         group: word(c, 0),
         a: axis(c, 1),
@@ -249,15 +191,13 @@ struct Held {
 }
 
 // How long the lent scratch is: a synthesis or an analysis names it, and finds it full of sevens.
-fn lend(op: u32, c: &[u8], scratch: &mut [u32]) -> usize
-    requires { ⌜ length (now c) ≡ 48 ⌝ }
-{
+fn lend(op: u32, c: &[u8], scratch: &mut [u32]) -> usize {
     if op == 2 {
-        fill_with(scratch, 7);
+        cases::fill_with(scratch, 7);
         return word(c, 0) as usize;
     }
     if op == 3 {
-        fill_with(scratch, 7);
+        cases::fill_with(scratch, 7);
         return word(c, 0) as usize;
     }
     11520
@@ -272,7 +212,7 @@ fn call_next(
     volume: &mut [u32],
     scratch: &mut [u32],
 ) -> Held
-    requires { ⌜ (length (now c) ≡ 48) × (length (now lists) ≡ 51) ⌝ }
+    requires { ⌜ length (now lists) ≡ 51 ⌝ }
 {
     let n = held.length;
     let job = held.job;
@@ -291,9 +231,9 @@ fn call_next(
 
 // What a record of the input asks.
 fn next(held: Held, c: &[u8], lists: &mut [u8], volume: &mut [u32], scratch: &mut [u32]) -> Held
-    requires { ⌜ (length (now c) ≡ 48) × (length (now lists) ≡ 51) ⌝ }
+    requires { ⌜ length (now lists) ≡ 51 ⌝ }
 {
-    let op = wide(c[0]);
+    let op = cases::wide(cases::byte(c, 0));
     let n = held.length;
     if op < 6 {
         return call_next(op, held, c, lists, volume, scratch);
@@ -303,7 +243,7 @@ fn next(held: Held, c: &[u8], lists: &mut [u8], volume: &mut [u32], scratch: &mu
         return held;
     }
     if op == 7 {
-        poke(volume, word(c, 0) as usize, word(c, 1));
+        cases::put_at(volume, word(c, 0) as usize, word(c, 1));
         return held;
     }
     if op == 8 {
@@ -325,7 +265,7 @@ fn next(held: Held, c: &[u8], lists: &mut [u8], volume: &mut [u32], scratch: &mu
 
 fn fill_first(volume: &mut [u32], n: usize, seed: u32) {
     if n <= volume.len() {
-        fill(&mut volume[..n], seed);
+        cases::fill(&mut volume[..n], seed);
     }
 }
 

@@ -7,7 +7,7 @@ use Rattle.file_test.proofs.add_bytes.Statement.{statement}
 use Rattle.file_test.proofs.add_bytes.Tie as tie
 
 abbrev Inv-loop : tie.InvT-loop
-Inv-loop c file₀ at count i₀ q₀ file i q = (i ≤ count) × (count ≤ 40) × (length c ≡ 48) × (length file ≡ length file₀)
+Inv-loop c file₀ at count i₀ q₀ file i q = (i ≤ count) × (count ≤ 40) × (length file ≡ length file₀)
 
 abbrev μ-loop : tie.MeasureT-loop
 μ-loop c file₀ at count i₀ q₀ file i q = count - i
@@ -21,11 +21,11 @@ cast-count c = omega arith
 loop-holds : tie.Need-loop-holds Inv-loop μ-loop
 loop-holds c = omega arith
 
-add-put-byte : tie.Need-add-put-byte Inv-loop μ-loop
-add-put-byte c = omega arith
+add-byte : tie.Need-add-byte Inv-loop μ-loop
+add-byte c = omega arith
 
-shared-slice-read-put-byte : tie.Need-shared-slice-read-put-byte Inv-loop μ-loop
-shared-slice-read-put-byte c = omega arith
+byte-requires : tie.Need-byte-requires Inv-loop μ-loop
+byte-requires c κs = search needs
 
 put-byte-requires : tie.Need-put-byte-requires Inv-loop μ-loop
 put-byte-requires c κs = search needs
@@ -54,8 +54,8 @@ add-bytes-spec =
     word-requires
     cast-count
     loop-holds
-    add-put-byte
-    shared-slice-read-put-byte
+    add-byte
+    byte-requires
     put-byte-requires
     add-i
     loop-less

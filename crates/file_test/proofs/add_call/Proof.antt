@@ -7,7 +7,7 @@ use Rattle.file_test.proofs.add_call.Statement.{statement}
 use Rattle.file_test.proofs.add_call.Tie as tie
 
 abbrev Inv-loop : tie.InvT-loop
-Inv-loop c script₀ at i₀ q₀ script i q = (i ≤ 6) × (length c ≡ 48) × (length script ≡ length script₀)
+Inv-loop c script₀ at i₀ q₀ script i q = (i ≤ 6) × (length script ≡ length script₀)
 
 abbrev μ-loop : tie.MeasureT-loop
 μ-loop c script₀ at i₀ q₀ script i q = 6 - i

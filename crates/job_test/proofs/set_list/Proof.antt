@@ -36,17 +36,17 @@ slice-write-lists c = omega arith
 loop-holds : tie.Need-loop-holds Inv-loop μ-loop
 loop-holds c = simp length-set (omega arith)
 
-add-lists-2 : tie.Need-add-lists-2 Inv-loop μ-loop
-add-lists-2 c = omega arith
+add-byte : tie.Need-add-byte Inv-loop μ-loop
+add-byte c = omega arith
 
-shared-slice-read-lists : tie.Need-shared-slice-read-lists Inv-loop μ-loop
-shared-slice-read-lists c = omega arith
+byte-requires : tie.Need-byte-requires Inv-loop μ-loop
+byte-requires c κs = search needs
 
 mul-lists : tie.Need-mul-lists Inv-loop μ-loop
 mul-lists c = omega arith
 
-add-lists-3 : tie.Need-add-lists-3 Inv-loop μ-loop
-add-lists-3 c = omega arith
+add-lists-2 : tie.Need-add-lists-2 Inv-loop μ-loop
+add-lists-2 c = omega arith
 
 slice-write-lists-2 : tie.Need-slice-write-lists-2 Inv-loop μ-loop
 slice-write-lists-2 c = omega arith
@@ -80,10 +80,10 @@ set-list-spec =
     add-lists
     slice-write-lists
     loop-holds
-    add-lists-2
-    shared-slice-read-lists
+    add-byte
+    byte-requires
     mul-lists
-    add-lists-3
+    add-lists-2
     slice-write-lists-2
     add-i
     loop-less

@@ -23,20 +23,20 @@ wide-requires c κs = search needs
 cast-count : tie.Need-cast-count
 cast-count c = search needs
 
-slice-aggregate-word : tie.Need-slice-aggregate-word
-slice-aggregate-word c = search needs
+slice-aggregate-number : tie.Need-slice-aggregate-number
+slice-aggregate-number c = search needs
 
-word-requires : tie.Need-word-requires
-word-requires c κs = search needs
+number-requires : tie.Need-number-requires
+number-requires c κs = search needs
 
 cast-of-line : tie.Need-cast-of-line
 cast-of-line c = search needs
 
-slice-aggregate-word-2 : tie.Need-slice-aggregate-word-2
-slice-aggregate-word-2 c = search needs
+slice-aggregate-number-2 : tie.Need-slice-aggregate-number-2
+slice-aggregate-number-2 c = search needs
 
-word-requires-2 : tie.Need-word-requires-2
-word-requires-2 c κs = search needs
+number-requires-2 : tie.Need-number-requires-2
+number-requires-2 c κs = search needs
 
 cast-of-scratch : tie.Need-cast-of-scratch
 cast-of-scratch c = search needs
@@ -87,11 +87,11 @@ next-spec =
     array-read-wide
     wide-requires
     cast-count
-    slice-aggregate-word
-    word-requires
+    slice-aggregate-number
+    number-requires
     cast-of-line
-    slice-aggregate-word-2
-    word-requires-2
+    slice-aggregate-number-2
+    number-requires-2
     cast-of-scratch
     returns-2
     returns-3

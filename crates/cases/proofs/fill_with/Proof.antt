@@ -4,8 +4,8 @@ use borrow.Author.Needs.{needs}
 use mathlib.Core.Path.{_≡_, refl}
 use Prim.Native.Nat.{_+_, _≤_, _<_, _-_}
 use lib.ListN.{length, length-set}
-use Rattle.file_test.proofs.fill_with.Statement.{statement}
-use Rattle.file_test.proofs.fill_with.Tie as tie
+use Rattle.cases.proofs.fill_with.Statement.{statement}
+use Rattle.cases.proofs.fill_with.Tie as tie
 
 abbrev Inv-loop : tie.InvT-loop
 Inv-loop v₀ x j₀ v j = (j ≤ length v) × (length v ≡ length v₀)

@@ -3,8 +3,8 @@ use borrow.Author.Needs.{needs}
 use mathlib.Core.Path.{_≡_, refl}
 use Prim.Native.Nat.{_+_, _≤_, _<_, _-_}
 use lib.ListN.{length, length-set, length-take}
-use Rattle.file_test.proofs.print_answers.Statement.{statement}
-use Rattle.file_test.proofs.print_answers.Tie as tie
+use Rattle.cases.proofs.print_line.Statement.{statement}
+use Rattle.cases.proofs.print_line.Tie as tie
 
 abbrev Inv-loop : tie.InvT-loop
 Inv-loop answers j₀ t3 j = (j ≤ length answers)
@@ -42,8 +42,8 @@ write-all-requires c κs = search needs
 returns : tie.Need-returns Inv-loop μ-loop
 returns c = omega arith
 
-pub print-answers-spec : {M : Type 1} → statement M
-print-answers-spec =
+pub print-line-spec : {M : Type 1} → statement M
+print-line-spec =
     tie.close
     (tie.spec
     Inv-loop

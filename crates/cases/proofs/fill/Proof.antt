@@ -1,17 +1,17 @@
--- `fill`: the generator's state stays below 2^32, and the line keeps its length.
+-- `fill`: the generator's state stays below 2^32, and the v keeps its length.
 use native.Mathlib.Omega.{arith}
 use borrow.Author.Needs.{needs}
 use mathlib.Core.Path.{_≡_, refl}
 use Prim.Native.Nat.{_+_, _≤_, _<_, _-_}
 use lib.ListN.{length, length-set}
-use Rattle.line_test.proofs.fill.Statement.{statement}
-use Rattle.line_test.proofs.fill.Tie as tie
+use Rattle.cases.proofs.fill.Statement.{statement}
+use Rattle.cases.proofs.fill.Tie as tie
 
 abbrev Inv-loop : tie.InvT-loop
-Inv-loop line₀ seed state₀ j₀ line state j = (j ≤ length line) × (state < 4294967296) × (length line ≡ length line₀)
+Inv-loop v₀ seed state₀ j₀ v state j = (j ≤ length v) × (state < 4294967296) × (length v ≡ length v₀)
 
 abbrev μ-loop : tie.MeasureT-loop
-μ-loop line₀ seed state₀ j₀ line state j = length line₀ - j
+μ-loop v₀ seed state₀ j₀ v state j = length v₀ - j
 
 loop-holds : tie.Need-loop-holds Inv-loop μ-loop
 loop-holds c = omega arith
@@ -22,14 +22,14 @@ mul-state c = omega arith
 add-state : tie.Need-add-state Inv-loop μ-loop
 add-state c = omega arith
 
-cast-line : tie.Need-cast-line Inv-loop μ-loop
-cast-line c = omega arith
+cast-v : tie.Need-cast-v Inv-loop μ-loop
+cast-v c = omega arith
 
-mul-line : tie.Need-mul-line Inv-loop μ-loop
-mul-line c = omega arith
+mul-v : tie.Need-mul-v Inv-loop μ-loop
+mul-v c = omega arith
 
-slice-write-line : tie.Need-slice-write-line Inv-loop μ-loop
-slice-write-line c = omega arith
+slice-write-v : tie.Need-slice-write-v Inv-loop μ-loop
+slice-write-v c = omega arith
 
 add-j : tie.Need-add-j Inv-loop μ-loop
 add-j c = omega arith
@@ -55,9 +55,9 @@ fill-spec =
     loop-holds
     mul-state
     add-state
-    cast-line
-    mul-line
-    slice-write-line
+    cast-v
+    mul-v
+    slice-write-v
     add-j
     loop-less
     loop-again

@@ -1,0 +1,109 @@
+// What the test programs share: numbers of a record of the input, buffers filled, checksums, lines of numbers printed.
+use libc::STDOUT_FILENO;
+ghost use mathlib.Core.Path.{_≡_};
+ghost use Prim.Native.Nat.{_<_};
+
+pub fn wide(b: u8) -> u32
+    ensures { λ r. ⌜ r < 256 ⌝ }
+{
+    b as u32
+}
+
+fn wide64(x: u32) -> u64
+    ensures { λ r. ⌜ r < 4294967296 ⌝ }
+{
+    x as u64
+}
+
+// The byte at a place of a record, 0 beyond it.
+pub fn byte(c: &[u8], at: usize) -> u8 {
+    if at < c.len() {
+        return c[at];
+    }
+    0
+}
+
+// The big-endian number from a place of a record on.
+pub fn number(c: &[u8], at: usize) -> u32
+    requires { ⌜ at < 256 ⌝ }
+{
+    let high = wide(byte(c, at)) * 256 + wide(byte(c, at + 1));
+    let low = wide(byte(c, at + 2)) * 256 + wide(byte(c, at + 3));
+    high * 65536 + low
+}
+
+// A count that is printed: what a test writes has fewer than 2^32 of anything.
+pub fn count(n: usize) -> u32 {
+    (n % 4294967296) as u32
+}
+
+// Residues by a linear congruential generator.
+pub fn fill(v: &mut [u32], seed: u32) {
+    let mut state = seed as u64;
+    let mut j: usize = 0;
+    while j < v.len() {
+        state = (state * 1103515245 + 12345) % 2147483648;
+        v[j] = (state / 8 % 86399) as u32;
+        j += 1;
+    }
+}
+
+pub fn fill_with(v: &mut [u32], x: u32) {
+    let mut j: usize = 0;
+    while j < v.len() {
+        v[j] = x;
+        j += 1;
+    }
+}
+
+// Another number at one place, where the buffer has it.
+pub fn put_at(v: &mut [u32], place: usize, x: u32) {
+    if place < v.len() {
+        v[place] = x;
+    }
+}
+
+fn more(h: u64, x: u32) -> u64
+    requires { ⌜ h < 2147483647 ⌝ }
+    ensures { λ r. ⌜ r < 2147483647 ⌝ }
+{
+    (h * 31 + wide64(x) + 1) % 2147483647
+}
+
+// Of every number and its place.
+pub fn checksum(v: &[u32]) -> u32 {
+    let mut h: u64 = 7;
+    let mut j: usize = 0;
+    while j < v.len() {
+        h = more(h, v[j]);
+        j += 1;
+    }
+    h as u32
+}
+
+pub fn byte_checksum(v: &[u8]) -> u32 {
+    let mut h: u64 = 7;
+    let mut j: usize = 0;
+    while j < v.len() {
+        h = more(h, wide(v[j]));
+        j += 1;
+    }
+    h as u32
+}
+
+// The number j of a line: a blank stands before all but the first.
+fn print_next(j: usize, x: u32) {
+    if 0 < j {
+        io::write_all(STDOUT_FILENO, b" ");
+    }
+    io::print_decimal(STDOUT_FILENO, wide64(x));
+}
+
+pub fn print_line(v: &[u32]) {
+    let mut j: usize = 0;
+    while j < v.len() {
+        print_next(j, v[j]);
+        j += 1;
+    }
+    io::write_all(STDOUT_FILENO, b"\n");
+}

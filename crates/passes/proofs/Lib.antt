@@ -5,3 +5,5 @@ pub mod Turns
 pub mod Whole
 pub mod TurnLaws
 pub mod JobTurns
+pub mod AxisLines
+pub mod RowLaws

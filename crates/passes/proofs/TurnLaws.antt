@@ -125,12 +125,6 @@ module _ (m : ℕ) (is : IsModulus m) (b : ℕ) (size : AdmittedLength (2 * b)) 
     unfolding slots
     half-length-r = ap length turned ∙ length-turned m b 0 hermitian _
 
-    pub forward-long : length (r ++ drop (2 * b) l₁) ≡ 2 * (b + 1)
-    forward-long = simp (length-append, length-drop, length-set) (omega (arith, half-length-r, long))
-
-    pub forward-same : length l₂ ≡ length l
-    forward-same = simp length-set (forward-long ∙ sym long)
-
     joined-at : (s : ℕ) → s < b → valueOf m (at (take (2 * b) l₁) s) ≡ valueOf m (joined b (at l) s)
     unfolding joined at
     joined-at zero h = ap (valueOf m) (at-take b l₁ 0 h ∙ pair-path (getD-set-other l 1 0 _ 0 (λ e. omega arith)) (getD-set-same l 1 _ 0 (omega arith)))
@@ -170,12 +164,6 @@ module _ (m : ℕ) (is : IsModulus m) (b : ℕ) (size : AdmittedLength (2 * b)) 
     half-counted : length r ≡ 2 * b
     unfolding slots
     half-counted = ap length turned ∙ length-turned m b 1 hermitian _
-
-    pub inverse-long : length k₁ ≡ 2 * (b + 1)
-    inverse-long = simp (length-append, length-drop) (omega (arith, half-counted, long))
-
-    pub inverse-same : length k₂ ≡ length l
-    inverse-same = simp length-set (inverse-long ∙ sym long)
 
     returned-long : length k₁ ≡ 2 * (b + 1)
     returned-long = simp (length-append, length-drop) (omega (arith, half-counted, long))

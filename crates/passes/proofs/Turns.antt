@@ -21,7 +21,7 @@ use Rattle.slices.specs.Sweep.{Layout, sweep, onLists}
 use Rattle.slices.proofs.Pairs.{length-puts}
 use Rattle.slices.proofs.Bounds.{small-at, below-puts, below-tab}
 use Rattle.slices.proofs.Values.{below-list}
-use Rattle.passes.specs.Passes.{turnOf, turns, parted, turnedLine, turnedRow, alongL, alongH, alongK, turnedL, turnedH, turnedK, jobTurn}
+use Rattle.passes.specs.Passes.{turnOf, turns, parted, turnedLine, turnedRow, alongL, alongH, alongK, lineCount, lineOfTurn, turnedL, turnedH, turnedK, jobTurn}
 
 module _ (step : ℕ → List ℕ → List ℕ) where
   pub turns-next : (j n : ℕ) (d : List ℕ) → turns step j (n + 1) d ≡ step (j + n) (turns step j n d)
@@ -43,6 +43,29 @@ module _ (step : ℕ → List ℕ → List ℕ) where
   unfolding turns
   turns-keep P k j zero d h = h
   turns-keep P k j (suc n) d h = k (j + n) (turns step j n d) (turns-keep P k j n d h)
+
+-- the same turns under other numbers
+pub turns-shift : (step other : ℕ → List ℕ → List ℕ) (i j n : ℕ) (d : List ℕ) → ((y : ℕ) → y < n → (d : List ℕ) → step (i + y) d ≡ other (j + y) d) → turns step i n d ≡ turns other j n d
+unfolding turns
+turns-shift step other i j zero d e = refl
+turns-shift step other i j (suc n) d e = e n (omega arith) (turns step i n d) ∙ ap (other (j + n)) (turns-shift step other i j n d (λ y l. e y (omega arith)))
+
+-- three runs, the last numbers first
+pub turns-back : (step : ℕ → List ℕ → List ℕ) (order : ℕ → ℕ) (f s t : ℕ) → ((y : ℕ) → y < t → order (0 + y) ≡ f + s + y) → ((y : ℕ) → y < s → order (t + y) ≡ f + y) → ((y : ℕ) → y < f → order (t + s + y) ≡ 0 + y) → (d : List ℕ)
+    → turns (λ n. step (order n)) 0 (f + s + t) d ≡ turns step 0 f (turns step f s (turns step (f + s) t d))
+turns-back step order f s t k h l d =
+    along (λ n. turns taken 0 n d) (f + s + t) (t + s + f) (omega arith)
+    ∙ turns-add taken 0 (t + s) f d
+    ∙ along (λ j. turns taken j f (turns taken 0 (t + s) d)) (0 + (t + s)) (t + s) (omega arith)
+    ∙ turns-shift taken step (t + s) 0 f _ (λ y lt v. ap (λ q. step q v) (l y lt))
+    ∙ ap (turns step 0 f)
+    (turns-add taken 0 t s d
+    ∙ along (λ j. turns taken j s (turns taken 0 t d)) (0 + t) t (omega arith)
+    ∙ turns-shift taken step t f s _ (λ y lt v. ap (λ q. step q v) (h y lt))
+    ∙ ap (turns step f s) (turns-shift taken step 0 (f + s) t d (λ y lt v. ap (λ q. step q v) (k y lt))))
+  where
+    taken : ℕ → List ℕ → List ℕ
+    taken n v = step (order n) v
 
 pub length-turn : (L : Layout) (G : ℕ → List ℕ → List ℕ) (y : ℕ) (d : List ℕ) → length (turnOf L G y d) ≡ length d
 length-turn L G y d = length-puts (L .place y) _ (L .size y) d
@@ -75,6 +98,24 @@ module _ (m A : ℕ) where
   pub below-row : (direction : ℕ) (l : List ℕ) → Below (prime m) (turnedRow m A direction l)
   below-row zero l = below-tab (prime m) (suc A) _ (prime-pos m) (λ t lt. forward-small (ltb t A) _)
   below-row (suc d) l = below-tab (prime m) (suc A) _ (prime-pos m) (λ t lt. parted-small _ t)
+
+module _ (g : Group) (a : J) where
+  -- the order of analysis
+  pub order-k : (y : ℕ) → y < alongK g a .count → lineOfTurn g a 1 (0 + y) ≡ alongL g a .count + alongH g a .count + y
+  unfolding lineOfTurn
+  order-k y l = along (λ q. lineOfTurn g a 1 q) (0 + y) y (omega arith) ∙ rw (lt-ltb y (alongK g a .count) l) refl
+
+  pub order-h : (y : ℕ) → y < alongH g a .count → lineOfTurn g a 1 (alongK g a .count + y) ≡ alongL g a .count + y
+  unfolding lineOfTurn
+  order-h y l =
+      rw (le-ltb (alongK g a .count + y) (alongK g a .count) (omega arith), lt-ltb (alongK g a .count + y) (alongK g a .count + alongH g a .count) (omega arith))
+      (along (λ q. alongL g a .count + q) (alongK g a .count + y - alongK g a .count) y (omega arith))
+
+  pub order-l : (y : ℕ) → y < alongL g a .count → lineOfTurn g a 1 (alongK g a .count + alongH g a .count + y) ≡ 0 + y
+  unfolding lineOfTurn
+  order-l y l =
+      rw (le-ltb (alongK g a .count + alongH g a .count + y) (alongK g a .count) (omega arith), le-ltb (alongK g a .count + alongH g a .count + y) (alongK g a .count + alongH g a .count) (omega arith))
+      (omega arith)
 
 module _ (g : Group) (a : J) (m direction : ℕ) where
   -- which turn a number stands for
@@ -114,8 +155,22 @@ module _ (g : Group) (a : J) (m direction : ℕ) where
       (λ y. below-turn (alongH g a) (turnedH g a m direction) y d (below-line m (a .0) direction plain) b)
       (λ y. below-turn (alongK g a) (turnedK g a m direction) y d (below-row m (a .1) direction) b)
 
-  pub length-turns : (j n : ℕ) (d : List ℕ) → length (turns (jobTurn g a m direction) j n d) ≡ length d
-  length-turns j n d = turns-keep (jobTurn g a m direction) (λ v. length v ≡ length d) (λ j v e. length-job-turn j v ∙ e) j n d refl
+  -- in whatever order the lines are taken
+  module _ (order : ℕ → ℕ) where
+    abbrev taken : ℕ → List ℕ → List ℕ
+    taken n d = jobTurn g a m direction (order n) d
 
-  pub below-turns : (j n : ℕ) (d : List ℕ) → Below (prime m) d → Below (prime m) (turns (jobTurn g a m direction) j n d)
-  below-turns j n d b = turns-keep (jobTurn g a m direction) (Below (prime m)) below-job-turn j n d b
+    pub length-turns : (n : ℕ) (d : List ℕ) → length (turns taken 0 n d) ≡ length d
+    length-turns n d = turns-keep taken (λ v. length v ≡ length d) (λ j v e. length-job-turn (order j) v ∙ e) 0 n d refl
+
+    pub below-turns : (n : ℕ) (d : List ℕ) → Below (prime m) d → Below (prime m) (turns taken 0 n d)
+    below-turns n d b = turns-keep taken (Below (prime m)) (λ j v. below-job-turn (order j) v) 0 n d b
+
+  -- analysis takes the axes in the other order
+  pub turned-back : (d : List ℕ) → turns (λ n v. jobTurn g a m direction (lineOfTurn g a 1 n) v) 0 (lineCount g a) d
+      ≡ turns (jobTurn g a m direction) 0 (alongL g a .count) (turns (jobTurn g a m direction) (alongL g a .count) (alongH g a .count) (turns (jobTurn g a m direction) (alongL g a .count + alongH g a .count) (alongK g a .count) d))
+  turned-back d = turns-back (jobTurn g a m direction) (lineOfTurn g a 1) (alongL g a .count) (alongH g a .count) (alongK g a .count) (order-k g a) (order-h g a) (order-l g a) d
+
+  pub turned-along : (n : ℕ) (d : List ℕ) → turns (λ n v. jobTurn g a m direction (lineOfTurn g a 0 n) v) 0 n d ≡ turns (jobTurn g a m direction) 0 n d
+  unfolding lineOfTurn
+  turned-along n d = refl

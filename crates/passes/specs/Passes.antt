@@ -91,6 +91,14 @@ module _ (g : Group) (a : J) where
   abbrev pub lineCount : ℕ
   lineCount = alongL .count + alongH .count + alongK .count
 
+  -- the line of turn n: synthesis takes them by their numbers, analysis those along k first and those along l last
+  unfoldable pub lineOfTurn : (direction n : ℕ) → ℕ
+  lineOfTurn zero n = n
+  lineOfTurn (suc direction) n =
+      cond (ltb n (alongK .count)) (alongL .count + alongH .count + n)
+      (cond (ltb n (alongK .count + alongH .count)) (alongL .count + (n - alongK .count))
+      (n - (alongK .count + alongH .count)))
+
   -- what becomes of a line: direction 0 is synthesis, 1 analysis
   module _ (m direction : ℕ) where
     abbrev pub turnedL : ℕ → List ℕ → List ℕ

@@ -4,13 +4,14 @@
 // The lines of a job are numbered: first those along l, then h, then k, each by rising place of its first pair. A line
 // along l or h is gathered into the scratch, transformed there and scattered back; a line along k is a row of neighbouring
 // pairs and is worked on as a part of the volume.
+pub mod axes; // axes.rt: the plan of a job, its lines by their numbers
 mod lines; // lines.rt: one line along l or h
 mod rows; // rows.rt: one row along k
 
-use cell::places;
+use axes::Plan;
 ghost use mathlib.Core.Path.{_≡_};
 ghost use mathlib.Core.Bool.{true};
-ghost use Prim.Native.Nat.{_+_, _<_, _≤_};
+ghost use Prim.Native.Nat.{_<_};
 ghost use lib.ListN.{length};
 ghost use Rattle.numbers.specs.Prime.{prime, IsModulus};
 ghost use Rattle.slices.specs.Pairs.{Below};
@@ -18,7 +19,8 @@ ghost use Rattle.cell.specs.Volume.{groupOf, volumeLength, factorsIn, packFacto
 ghost use Rattle.cell.specs.Consistency.{consistentFactors, consistentMap};
 ghost use Rattle.cell.specs.Sums.{mapOf, factorsOf};
 ghost use Rattle.cell.specs.Operations.{halvesOf};
-ghost use Rattle.passes.specs.Passes.{turns, lineCount, jobTurn, TablesOf, JobSizes, Lent, Kept};
+ghost use Rattle.passes.specs.Passes.{turns, lineCount, TablesOf, JobSizes, Lent, Kept};
+ghost use Rattle.passes.specs.Lines.{groupIn, halvesIn, Planned, Fitting, lineTurn, planTurn};
 
 // Synthesis: the packed factors become the map of the cell that they stand for.
 pub fn synthesise<'a>(
@@ -44,13 +46,9 @@ pub fn synthesise<'a>(
     requires { ⌜ Lent (now scratch) (now fold) (now work) ⌝ }
     ensures { λ _. ⌜ (now (volume .exit) ≡ packMap (groupOf group) (halvesOf n1 n2 n3) m (mapOf m (halvesOf n1 n2 n3) (factorsIn (groupOf group) (halvesOf n1 n2 n3) m (now (volume .entry))))) × Kept (now (scratch .entry)) (now (scratch .exit)) ⌝ }
 {
-    let width = (n2 / 2 + 1) as usize;
-    let rows = n1 as usize;
-    let layers = places::layer_count(group, n3) as usize;
-    let count = rows * width + layers * width + layers * rows;
-    turn_lines(
+    let plan = Plan {
         m,
-        0,
+        direction: 0,
         group,
         n1,
         n2,
@@ -58,16 +56,8 @@ pub fn synthesise<'a>(
         f1,
         f2,
         f3,
-        re,
-        im,
-        tan,
-        0,
-        count,
-        volume,
-        scratch,
-        fold,
-        work,
-    );
+    };
+    turn_volume(plan, re, im, tan, volume, scratch, fold, work);
 }
 
 // Analysis: the map becomes the packed factors of the cell whose map it is. The axes go in the other order.
@@ -94,15 +84,9 @@ pub fn analyse<'a>(
     requires { ⌜ Lent (now scratch) (now fold) (now work) ⌝ }
     ensures { λ _. ⌜ (now (volume .exit) ≡ packFactors (groupOf group) (halvesOf n1 n2 n3) m (factorsOf m (halvesOf n1 n2 n3) (mapIn (groupOf group) (halvesOf n1 n2 n3) m (now (volume .entry))))) × Kept (now (scratch .entry)) (now (scratch .exit)) ⌝ }
 {
-    let width = (n2 / 2 + 1) as usize;
-    let rows = n1 as usize;
-    let layers = places::layer_count(group, n3) as usize;
-    let first = rows * width;
-    let second = layers * width;
-    let third = layers * rows;
-    turn_lines(
+    let plan = Plan {
         m,
-        1,
+        direction: 1,
         group,
         n1,
         n2,
@@ -110,121 +94,38 @@ pub fn analyse<'a>(
         f1,
         f2,
         f3,
-        re,
-        im,
-        tan,
-        first + second,
-        third,
-        volume,
-        scratch,
-        fold,
-        work,
-    );
-    turn_lines(
-        m,
-        1,
-        group,
-        n1,
-        n2,
-        n3,
-        f1,
-        f2,
-        f3,
-        re,
-        im,
-        tan,
-        first,
-        second,
-        volume,
-        scratch,
-        fold,
-        work,
-    );
-    turn_lines(
-        m,
-        1,
-        group,
-        n1,
-        n2,
-        n3,
-        f1,
-        f2,
-        f3,
-        re,
-        im,
-        tan,
-        0,
-        first,
-        volume,
-        scratch,
-        fold,
-        work,
-    );
+    };
+    turn_volume(plan, re, im, tan, volume, scratch, fold, work);
 }
 
-// The lines of the numbers from, from + 1, .., count of them. The buffers stay long enough for the next run.
-pub fn turn_lines<'a>(
-    m: u32,
-    direction: u32,
-    group: u32,
-    n1: u32,
-    n2: u32,
-    n3: u32,
-    f1: u32,
-    f2: u32,
-    f3: u32,
+// Every line of the job, one after the other.
+fn turn_volume<'a>(
+    plan: Plan,
     re: &'a [u32; 2880],
     im: &'a [u32; 2880],
     tan: &'a [u32; 1440],
-    from: usize,
-    count: usize,
     volume: &mut [u32],
     scratch: &mut [u32],
     fold: &mut [u32],
     work: &mut [u32],
 )
-    requires { ⌜ IsModulus m × (direction < 2) × TablesOf m direction (now re) (now im) (now tan) × JobSizes group n1 n2 n3 f1 f2 f3 ⌝ }
-    requires { ⌜ (length (now volume) ≡ volumeLength (groupOf group) (halvesOf n1 n2 n3)) × Below (prime m) (now volume) ⌝ }
-    requires { ⌜ from + count ≤ lineCount (groupOf group) (halvesOf n1 n2 n3) ⌝ }
+    requires { ⌜ Planned plan × TablesOf (plan .m) (plan .direction) (now re) (now im) (now tan) ⌝ }
+    requires { ⌜ Fitting plan (now volume) ⌝ }
     requires { ⌜ Lent (now scratch) (now fold) (now work) ⌝ }
-    ensures { λ _. ⌜ (now (volume .exit) ≡ turns (jobTurn (groupOf group) (halvesOf n1 n2 n3) m direction) from count (now (volume .entry))) × Kept (now (scratch .entry)) (now (scratch .exit)) × Lent (now (scratch .exit)) (now (fold .exit)) (now (work .exit)) ⌝ }
+    ensures { λ _. ⌜ (now (volume .exit) ≡ turns (planTurn plan) 0 (lineCount (groupIn plan) (halvesIn plan)) (now (volume .entry))) × Kept (now (scratch .entry)) (now (scratch .exit)) ⌝ }
 {
+    let count = axes::line_count(plan);
     let mut n = 0;
     while n < count {
-        turn_line(
-            m,
-            direction,
-            group,
-            n1,
-            n2,
-            n3,
-            f1,
-            f2,
-            f3,
-            re,
-            im,
-            tan,
-            from + n,
-            volume,
-            scratch,
-            fold,
-            work,
-        );
+        let j = axes::line_of_turn(plan, n);
+        turn_line(plan, re, im, tan, j, volume, scratch, fold, work);
         n += 1;
     }
 }
 
 // Line number j of the job.
 pub fn turn_line<'a>(
-    m: u32,
-    direction: u32,
-    group: u32,
-    n1: u32,
-    n2: u32,
-    n3: u32,
-    f1: u32,
-    f2: u32,
-    f3: u32,
+    plan: Plan,
     re: &'a [u32; 2880],
     im: &'a [u32; 2880],
     tan: &'a [u32; 1440],
@@ -234,68 +135,15 @@ pub fn turn_line<'a>(
     fold: &mut [u32],
     work: &mut [u32],
 )
-    requires { ⌜ IsModulus m × (direction < 2) × TablesOf m direction (now re) (now im) (now tan) × JobSizes group n1 n2 n3 f1 f2 f3 ⌝ }
-    requires { ⌜ (length (now volume) ≡ volumeLength (groupOf group) (halvesOf n1 n2 n3)) × Below (prime m) (now volume) ⌝ }
-    requires { ⌜ j < lineCount (groupOf group) (halvesOf n1 n2 n3) ⌝ }
+    requires { ⌜ Planned plan × TablesOf (plan .m) (plan .direction) (now re) (now im) (now tan) ⌝ }
+    requires { ⌜ Fitting plan (now volume) × (j < lineCount (groupIn plan) (halvesIn plan)) ⌝ }
     requires { ⌜ Lent (now scratch) (now fold) (now work) ⌝ }
-    ensures { λ _. ⌜ (now (volume .exit) ≡ jobTurn (groupOf group) (halvesOf n1 n2 n3) m direction j (now (volume .entry))) × Kept (now (scratch .entry)) (now (scratch .exit)) ⌝ }
+    ensures { λ _. ⌜ (now (volume .exit) ≡ lineTurn plan j (now (volume .entry))) × Kept (now (scratch .entry)) (now (scratch .exit)) ⌝ }
 {
-    let width = (n2 / 2 + 1) as usize;
-    let first = (n1 as usize) * width;
-    let layers = places::layer_count(group, n3) as usize;
-    let second = first + layers * width;
-    if j < first {
-        lines::turn_l(
-            m,
-            direction,
-            group,
-            n1,
-            n2,
-            n3,
-            f3,
-            re,
-            im,
-            tan,
-            j,
-            volume,
-            scratch,
-            fold,
-            work,
-        );
-    } else if j < second {
-        lines::turn_h(
-            m,
-            direction,
-            group,
-            n1,
-            n2,
-            n3,
-            f1,
-            re,
-            im,
-            tan,
-            j - first,
-            volume,
-            scratch,
-            fold,
-            work,
-        );
+    let line = axes::line_at(plan, j);
+    if line.kind == 1 {
+        rows::turn_part(line, re, im, tan, volume, fold, work);
     } else {
-        rows::turn_k(
-            m,
-            direction,
-            group,
-            n1,
-            n2,
-            n3,
-            f2,
-            re,
-            im,
-            tan,
-            j - second,
-            volume,
-            fold,
-            work,
-        );
+        lines::turn_gathered(line, re, im, tan, volume, scratch, fold, work);
     }
 }

@@ -1,8 +1,8 @@
 -- Only an antisymmetric line leaves pairs out.
 use native.Mathlib.Omega.{arith}
 use Rattle.passes.proofs.TurnLaws.{first-of, first-other}
-use Rattle.passes.proofs.lines.first_pair.Statement.{statement}
-use Rattle.passes.proofs.lines.first_pair.Tie as tie
+use Rattle.passes.proofs.axes.first_pair.Statement.{statement}
+use Rattle.passes.proofs.axes.first_pair.Tie as tie
 
 returns : tie.Need-returns
 returns c = (first-of _ (c .if1 .taken), omega arith)

@@ -1,0 +1,168 @@
+//! The commands. Each reads its input, makes the proved calls and writes the result.
+use crate::arguments::{self, Given};
+use crate::factor_file;
+use crate::failure::Failure;
+use crate::ffi::{GridPoint, Reflection};
+use crate::header::{list_text, Header};
+use crate::help;
+use crate::input::{self, Entry};
+use crate::map_file;
+use crate::output;
+use crate::progress::{during, during_output};
+use crate::recorder::{self, Recorder};
+use crate::text;
+use crate::times::Times;
+use std::ffi::OsString;
+use std::io::{self, Read};
+
+struct Command {
+    name: &'static str,
+    words: &'static [&'static str],
+    help: &'static str,
+    run: fn(&Given) -> Result<(), Failure>,
+}
+
+const COMMANDS: [Command; 7] = [
+    Command { name: "map", words: &["FILE"], help: help::MAP, run: map },
+    Command { name: "factors", words: &["FILE"], help: help::FACTORS, run: factors },
+    Command { name: "check", words: &["FILE"], help: help::CHECK, run: check },
+    Command { name: "info", words: &["FILE"], help: help::INFO, run: info },
+    Command { name: "point", words: &["FILE", "x", "y", "z"], help: help::POINT, run: point },
+    Command { name: "factor", words: &["FILE", "h", "k", "l"], help: help::FACTOR, run: factor },
+    Command { name: "line", words: &["KIND", "DIRECTION", "N", "LIST"], help: help::LINE, run: line },
+];
+
+/// Runs the command that the arguments name.
+pub fn run(mut arguments: impl Iterator<Item = OsString>) -> Result<(), Failure> {
+    let name = arguments.next().ok_or_else(|| Failure::Usage("no command was given".into()))?;
+    let given = Given::sorted(arguments)?;
+    match (name.to_str(), COMMANDS.iter().find(|command| name == command.name)) {
+        (Some("--help" | "-h"), _) => output::print(help::ALL),
+        (_, None) => Err(Failure::Usage(format!("there is no command {name:?}"))),
+        (_, Some(command)) if given.help => output::print(command.help),
+        (_, Some(command)) => {
+            fit(command, &given)?;
+            (command.run)(&given)
+        }
+    }
+}
+
+/// Whether a command was given the words and options that it takes.
+fn fit(command: &Command, given: &Given) -> Result<(), Failure> {
+    let (name, words) = (command.name, command.words);
+    if given.words.len() != words.len() {
+        return Err(Failure::Usage(format!("{name} takes {}, not {} words", words.join(" "), given.words.len())));
+    }
+    if given.output.is_some() && name != "map" && name != "factors" {
+        return Err(Failure::Usage(format!("{name} takes no -o")));
+    }
+    if given.times && name != "map" {
+        return Err(Failure::Usage(format!("{name} takes no --times")));
+    }
+    Ok(())
+}
+
+fn map(given: &Given) -> Result<(), Failure> {
+    let mut times = Times::start();
+    let held = input::open(&given.words[0]).and_then(|recorder| {
+        times.took("reading");
+        with_map(recorder)
+    });
+    if let (Err(Failure::Refused(refusal)), None) = (&held, given.output()) {
+        output::print_even_unread(&(refusal.line() + "\n"))?;
+    }
+    let recorder = held?;
+    times.took("synthesis");
+    let to = given.output();
+    during_output(output::is_standard(to), "writing", |told| {
+        output::write(to, |mut out| match to {
+            None => text::write(&recorder, &mut out, told),
+            Some(_) => map_file::write(&recorder, &mut out, told),
+        })
+    })?;
+    times.took("writing");
+    if given.times {
+        times.say();
+    }
+    Ok(())
+}
+
+fn factors(given: &Given) -> Result<(), Failure> {
+    let to = given.output().ok_or_else(|| Failure::Usage("factors needs -o and the name of the file to write".into()))?;
+    let recorder = with_factors(input::open(&given.words[0])?)?;
+    let file = during("collecting records", |_| recorder.factor_file())?;
+    output::write(Some(to), |out| out.write_all(&file))
+}
+
+fn check(given: &Given) -> Result<(), Failure> {
+    match input::open(&given.words[0]) {
+        Ok(_) => output::print("accepted\n"),
+        Err(Failure::Refused(refusal)) => {
+            output::print_even_unread(&format!("{}\n{}", refusal.line(), refusal.explained()))?;
+            Err(Failure::Reported)
+        }
+        Err(failure) => Err(failure),
+    }
+}
+
+fn info(given: &Given) -> Result<(), Failure> {
+    let name = &given.words[0];
+    let text = match input::entry(name)? {
+        Entry::Factors(file) => {
+            let header = recorder::factor_file_header(&file)?;
+            described("factor file", &header) + &format!("records {}\n", factor_file::records(&file, &header))
+        }
+        Entry::Map(mut rest) => {
+            let header = map_file::read_header(name, &mut rest)?;
+            described("map file", &header) + &format!("densities {}\n", header.densities())
+        }
+    };
+    output::print(&text)
+}
+
+fn described(kind: &str, header: &Header) -> String {
+    let [n1, n2, n3] = header.lengths;
+    let [f1, f2, f3] = header.lists.each_ref().map(|list| list_text(list));
+    let numbers = header.volume_length();
+    format!(
+        "{kind}, version {}\ngroup {} {}\nlengths {n1} {n2} {n3}\nlists {f1} {f2} {f3}\nplanes {}\nvolume {numbers} numbers, {} bytes\n",
+        header.version,
+        header.group,
+        header.group_name(),
+        header.planes(),
+        4 * numbers
+    )
+}
+
+fn point(given: &Given) -> Result<(), Failure> {
+    let [x, y, z] = given.indices(1)?;
+    let recorder = with_map(input::open(&given.words[0])?)?;
+    output::print(&format!("{}\n", recorder.point(GridPoint { x, y, z })?))
+}
+
+fn factor(given: &Given) -> Result<(), Failure> {
+    let [h, k, l] = given.indices(1)?;
+    let recorder = with_factors(input::open(&given.words[0])?)?;
+    let (a, b) = recorder.factor(Reflection { h, k, l })?;
+    output::print(&format!("{a} {b}\n"))
+}
+
+fn line(given: &Given) -> Result<(), Failure> {
+    let [kind, direction, length] = given.indices(0)?;
+    let list = arguments::list(&given.words[3])?;
+    let mut text = String::new();
+    io::stdin().read_to_string(&mut text).map_err(|error| Failure::unread("standard input".as_ref(), &error))?;
+    let mut numbers = text.split_ascii_whitespace().map(arguments::number).collect::<Result<Vec<u32>, Failure>>()?;
+    recorder::line(kind, direction, length, &list, &mut numbers)?;
+    output::write(None, |mut out| text::write_numbers(&numbers, &mut out))
+}
+
+fn with_map(mut recorder: Recorder) -> Result<Recorder, Failure> {
+    during("synthesis", |_| recorder.hold_map())?;
+    Ok(recorder)
+}
+
+fn with_factors(mut recorder: Recorder) -> Result<Recorder, Failure> {
+    during("analysis", |_| recorder.hold_factors())?;
+    Ok(recorder)
+}

@@ -1,0 +1,217 @@
+//! The proved calls of include/recorder.h, and the only unsafe code of the tool.
+//!
+//! Each call is lent slices, so what the header asks of a buffer holds: the pointer is not null and is aligned, the memory is initialised, and
+//! no two buffers of a call overlap. The library keeps no pointer. tools/interface_test.py holds the declarations here to the header and
+//! the header to crates/exported/src/lib.rt; the test below holds the structs' layouts to those of a C compiler.
+#![allow(unsafe_code)]
+
+/// A reflection's index.
+#[repr(C)]
+#[derive(Clone, Copy)]
+pub struct Reflection {
+    pub h: u32,
+    pub k: u32,
+    pub l: u32,
+}
+
+/// A grid point's index.
+#[repr(C)]
+#[derive(Clone, Copy)]
+pub struct GridPoint {
+    pub x: u32,
+    pub y: u32,
+    pub z: u32,
+}
+
+/// An axis: its length, and its factor list as octal digits.
+#[repr(C)]
+#[derive(Clone, Copy)]
+pub struct Axis {
+    pub length: u32,
+    pub factors: u32,
+}
+
+/// A job, handed in and handed back by value.
+#[repr(C)]
+#[derive(Clone, Copy)]
+pub struct Job {
+    pub group: u32,
+    pub a: Axis,
+    pub b: Axis,
+    pub c: Axis,
+    pub state: u32,
+}
+
+#[repr(C)]
+pub struct Answer {
+    pub number: u32,
+    pub job: Job,
+}
+
+#[repr(C)]
+pub struct FileAnswer {
+    pub number: u32,
+    pub place: u32,
+    pub job: Job,
+}
+
+#[repr(C)]
+pub struct WriteAnswer {
+    pub number: u32,
+    pub written: usize,
+}
+
+#[repr(C)]
+pub struct Density {
+    pub number: u32,
+    pub density: u32,
+}
+
+#[repr(C)]
+pub struct FactorValue {
+    pub number: u32,
+    pub a: u32,
+    pub b: u32,
+}
+
+extern "C" {
+    fn recorder_open(
+        group: u32,
+        kind: u32,
+        n1: u32,
+        n2: u32,
+        n3: u32,
+        factors1: *const u8,
+        count1: usize,
+        factors2: *const u8,
+        count2: usize,
+        factors3: *const u8,
+        count3: usize,
+        volume: *mut u32,
+        volume_length: usize,
+    ) -> Answer;
+    fn recorder_open_file(file: *const u8, file_length: usize, volume: *mut u32, volume_length: usize) -> FileAnswer;
+    fn recorder_write_file(job: Job, volume: *const u32, volume_length: usize, out: *mut u8, out_length: usize) -> WriteAnswer;
+    fn recorder_record(job: Job, at: Reflection, a: u32, b: u32, volume: *mut u32, volume_length: usize) -> Answer;
+    fn recorder_synthesis(job: Job, volume: *mut u32, volume_length: usize, scratch: *mut u32, scratch_length: usize) -> Answer;
+    fn recorder_analysis(job: Job, volume: *mut u32, volume_length: usize, scratch: *mut u32, scratch_length: usize) -> Answer;
+    fn recorder_point(job: Job, at: GridPoint, volume: *const u32, volume_length: usize) -> Density;
+    fn recorder_factor(job: Job, at: Reflection, volume: *const u32, volume_length: usize) -> FactorValue;
+    fn recorder_line(
+        kind: u32,
+        direction: u32,
+        length: u32,
+        factors: *const u8,
+        count: usize,
+        line: *mut u32,
+        line_length: usize,
+        scratch: *mut u32,
+        scratch_length: usize,
+    ) -> u32;
+}
+
+pub fn open(group: u32, kind: u32, lengths: [u32; 3], lists: [&[u8]; 3], volume: &mut [u32]) -> Answer {
+    let [n1, n2, n3] = lengths;
+    let [f1, f2, f3] = lists;
+    unsafe {
+        recorder_open(group, kind, n1, n2, n3, f1.as_ptr(), f1.len(), f2.as_ptr(), f2.len(), f3.as_ptr(), f3.len(), volume.as_mut_ptr(), volume.len())
+    }
+}
+
+pub fn open_file(file: &[u8], volume: &mut [u32]) -> FileAnswer {
+    unsafe { recorder_open_file(file.as_ptr(), file.len(), volume.as_mut_ptr(), volume.len()) }
+}
+
+pub fn write_file(job: Job, volume: &[u32], out: &mut [u8]) -> WriteAnswer {
+    unsafe { recorder_write_file(job, volume.as_ptr(), volume.len(), out.as_mut_ptr(), out.len()) }
+}
+
+pub fn record(job: Job, at: Reflection, a: u32, b: u32, volume: &mut [u32]) -> Answer {
+    unsafe { recorder_record(job, at, a, b, volume.as_mut_ptr(), volume.len()) }
+}
+
+pub fn synthesis(job: Job, volume: &mut [u32], scratch: &mut [u32]) -> Answer {
+    unsafe { recorder_synthesis(job, volume.as_mut_ptr(), volume.len(), scratch.as_mut_ptr(), scratch.len()) }
+}
+
+pub fn analysis(job: Job, volume: &mut [u32], scratch: &mut [u32]) -> Answer {
+    unsafe { recorder_analysis(job, volume.as_mut_ptr(), volume.len(), scratch.as_mut_ptr(), scratch.len()) }
+}
+
+pub fn point(job: Job, at: GridPoint, volume: &[u32]) -> Density {
+    unsafe { recorder_point(job, at, volume.as_ptr(), volume.len()) }
+}
+
+pub fn factor(job: Job, at: Reflection, volume: &[u32]) -> FactorValue {
+    unsafe { recorder_factor(job, at, volume.as_ptr(), volume.len()) }
+}
+
+pub fn line(kind: u32, direction: u32, length: u32, list: &[u8], line: &mut [u32], scratch: &mut [u32]) -> u32 {
+    unsafe { recorder_line(kind, direction, length, list.as_ptr(), list.len(), line.as_mut_ptr(), line.len(), scratch.as_mut_ptr(), scratch.len()) }
+}
+
+#[cfg(test)]
+mod layout {
+    use super::*;
+    use std::mem::{align_of, offset_of, size_of};
+    use std::path::{Path, PathBuf};
+    use std::process::Command;
+
+    /// A struct's name in recorder.h, its size and alignment here, and its fields with their offsets.
+    struct Layout(&'static str, usize, usize, Vec<(&'static str, usize)>);
+
+    macro_rules! layout {
+        ($name:literal, $kind:ident, $($field:ident),+) => {
+            Layout($name, size_of::<$kind>(), align_of::<$kind>(), vec![$((stringify!($field), offset_of!($kind, $field))),+])
+        };
+    }
+
+    fn layouts() -> Vec<Layout> {
+        vec![
+            layout!("recorder_reflection", Reflection, h, k, l),
+            layout!("recorder_grid_point", GridPoint, x, y, z),
+            layout!("recorder_axis", Axis, length, factors),
+            layout!("recorder_job", Job, group, a, b, c, state),
+            layout!("recorder_answer", Answer, number, job),
+            layout!("recorder_file_answer", FileAnswer, number, place, job),
+            layout!("recorder_write_answer", WriteAnswer, number, written),
+            layout!("recorder_density", Density, number, density),
+            layout!("recorder_factor_value", FactorValue, number, a, b),
+        ]
+    }
+
+    /// A C program that fails to compile where a layout differs.
+    fn assertions() -> String {
+        let mut text = String::from("#include \"recorder.h\"\n");
+        for Layout(name, size, alignment, fields) in layouts() {
+            text += &format!("_Static_assert(sizeof({name}) == {size}, \"size of {name}\");\n");
+            text += &format!("_Static_assert(_Alignof({name}) == {alignment}, \"alignment of {name}\");\n");
+            for (field, offset) in fields {
+                text += &format!("_Static_assert(offsetof({name}, {field}) == {offset}, \"{name}.{field}\");\n");
+            }
+        }
+        text
+    }
+
+    fn compiles(name: &str, text: &str) -> bool {
+        let source: PathBuf = std::env::temp_dir().join(format!("{name}_{}.c", std::process::id()));
+        std::fs::write(&source, text).expect("a temporary file");
+        let header = Path::new(env!("CARGO_MANIFEST_DIR")).join("../include");
+        let said = Command::new("gcc").args(["-std=c11", "-fsyntax-only", "-I"]).arg(header).arg(&source).output();
+        std::fs::remove_file(&source).expect("the temporary file again");
+        let said = said.expect("gcc runs");
+        eprint!("{}", String::from_utf8_lossy(&said.stderr));
+        said.status.success()
+    }
+
+    #[test]
+    fn structs_are_laid_out_as_the_header_says() {
+        assert!(compiles("layout", &assertions()));
+    }
+
+    #[test]
+    fn another_layout_is_noticed() {
+        let other = assertions().replace("offsetof(recorder_job, state) == 28", "offsetof(recorder_job, state) == 24");
+        assert!(other != assertions() && !compiles("other", &other));
+    }
+}

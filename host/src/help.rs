@@ -1,0 +1,67 @@
+//! What `--help` prints.
+
+pub const ALL: &str = "\
+recorder: maps of unit cells from their structure factors, and back, modulo 86,399
+
+  recorder map FILE [-o OUT] [--times]   the map, as text or as a map file
+  recorder factors FILE -o OUT           the factor file
+  recorder check FILE                    whether a file is accepted, and why not
+  recorder info FILE                     group, lengths, lists, volume, count of records
+  recorder point FILE x y z              the density at a point
+  recorder factor FILE h k l             the structure factor at an index
+  recorder line KIND DIRECTION N LIST    one line, its numbers from standard input
+  recorder COMMAND --help                more about a command
+
+A FILE is a factor file or a map file, told apart by its first four bytes; - is standard input. Exit status: 0 done, 1 the input was refused,
+2 a wrong command line or a file that cannot be read or written.
+";
+
+pub const MAP: &str = "\
+recorder map FILE [-o OUT] [--times]
+
+Synthesises the map of a factor file (of a map file: the map it has). Without -o it is printed as text: group and lengths, then a line for each
+stored plane z and each x, with z, x and the values by y. A refusal prints 'refused NUMBER at PLACE' there and its reason on standard error.
+With -o it is written to OUT (- is standard output) as a map file, big-endian: the letters RMAP, then as in a factor file version 1, group
+(1 byte), N1, N2, N3 (2 bytes each), three factor lists (a count byte, then a byte each), then the densities on the stored planes by
+rising z, x, y, 4 bytes each. --times says on standard error how long reading, synthesis and writing took.
+";
+
+pub const FACTORS: &str = "\
+recorder factors FILE -o OUT
+
+Analyses the map of a map file and writes its factor file to OUT (- is standard output): a record for each orbit with a value other than zero, at
+its lowest h, k, l, rising. A file of that form, made a map and written again, is the same byte for byte. Of a factor file it writes that form.
+";
+
+pub const CHECK: &str = "\
+recorder check FILE
+
+Prints 'accepted', or the refusal's number and the record's place, then why, what was found there and what to do. Exit status 0 or 1.
+";
+
+pub const INFO: &str = "\
+recorder info FILE
+
+Prints a line each for the kind of file, group, lengths, factor lists (- is none), stored planes, volume and count of records (of a map file:
+densities). The header is judged, the records are not.
+";
+
+pub const POINT: &str = "\
+recorder point FILE x y z
+
+Prints the density at a point anywhere in the cell, 0 to 86,398.
+";
+
+pub const FACTOR: &str = "\
+recorder factor FILE h k l
+
+Prints the structure factor a + b i at an index anywhere in the cell, as 'a b'.
+";
+
+pub const LINE: &str = "\
+recorder line KIND DIRECTION N LIST
+
+Transforms one line of N values, whose packed numbers are read from standard input with blanks between them, and prints the packed result.
+KIND: 0 plain, 1 Hermitian, 2 anti-Hermitian, 3 alternating, 4 symmetric, 5 antisymmetric. DIRECTION: 0 forward, 1 inverse.
+LIST: the factors of N/2 with commas between them, each 2 to 5; - for N = 2. Example: echo 1 2 3 4 | recorder line 1 0 4 2
+";

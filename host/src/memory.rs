@@ -1,0 +1,12 @@
+//! Memory for the buffers that grow with the grid. The system may have none: that is said, not a crash.
+use crate::failure::Failure;
+
+pub fn zeros<T: Clone + Default>(count: usize) -> Result<Vec<T>, Failure> {
+    let mut buffer = Vec::new();
+    let bytes = count * size_of::<T>();
+    buffer
+        .try_reserve_exact(count)
+        .map_err(|_| Failure::Trouble(format!("there is no memory for {bytes} bytes; close other programs, or use a smaller grid")))?;
+    buffer.resize(count, T::default());
+    Ok(buffer)
+}

@@ -1,0 +1,156 @@
+//! The recorder with its buffers: a job, its volume and the scratch, so that the proved calls can be made without thinking of either.
+//!
+//! No refusal is decided here. A file's header is judged by the proved call on an empty volume: 6, volume not exactly as long as required, comes
+//! after every refusal of a header, so it says that the header is sound, and only then is memory asked for.
+use crate::factor_file::{self, Record};
+use crate::failure::Failure;
+use crate::ffi::{self, Answer, GridPoint, Job, Reflection};
+use crate::header::Header;
+use crate::memory::zeros;
+use crate::words::{Refusal, SHAPE};
+
+const SCRATCH: usize = 11_520;
+const COLLECT: u32 = 0;
+const MAP: u32 = 1;
+const MAP_HELD: u32 = 2;
+const VOLUME_LENGTH: u32 = 6;
+const TAKEN: u32 = 24;
+
+pub struct Recorder {
+    pub header: Header,
+    job: Job,
+    volume: Vec<u32>,
+    scratch: Vec<u32>,
+}
+
+/// The header of a factor file, if file and header are sound; the records are not looked at.
+pub fn factor_file_header(file: &[u8]) -> Result<Header, Refusal> {
+    let answer = ffi::open_file(file, &mut []);
+    match (answer.number, Header::read(&mut file.get(4..).unwrap_or(&[]))) {
+        (VOLUME_LENGTH, Ok(header)) => Ok(header),
+        (SHAPE, _) => Err(Refusal::of_shape(factor_file::filling(file))),
+        (number, found) => Err(Refusal::of_header(number, found.ok().as_ref())),
+    }
+}
+
+/// Whether a job can be opened with a header.
+pub fn judge(header: &Header) -> Result<(), Refusal> {
+    match opened(header, COLLECT, &mut []).number {
+        VOLUME_LENGTH => Ok(()),
+        number => Err(Refusal::of_header(number, Some(header))),
+    }
+}
+
+impl Recorder {
+    /// The job of a factor file, collecting.
+    pub fn of_factor_file(file: &[u8]) -> Result<Recorder, Failure> {
+        let header = factor_file_header(file)?;
+        let mut volume = zeros(header.volume_length())?;
+        let answer = ffi::open_file(file, &mut volume);
+        let record = |place| factor_file::record(file, &header, place);
+        let found = match answer.number {
+            0 => return Ok(Recorder::new(header, answer.job, volume)),
+            TAKEN => {
+                let taker = (0..answer.place).map(record).find(takes(&header, &record(answer.place), &mut volume));
+                format!("{}; its orbit has a value by {}", record(answer.place), taker.map_or("none".into(), |taker| taker.to_string()))
+            }
+            _ => record(answer.place).to_string(),
+        };
+        Err(Refusal::of_record(answer.number, answer.place, found).into())
+    }
+
+    /// The job of a map: the volume has the map's rows, each with its two zeros.
+    pub fn of_map(header: Header, mut volume: Vec<u32>) -> Result<Recorder, Refusal> {
+        let answer = opened(&header, MAP, &mut volume);
+        match answer.number {
+            0 => Ok(Recorder::new(header, answer.job, volume)),
+            number => Err(Refusal::of_map(number, &header, &volume)),
+        }
+    }
+
+    fn new(header: Header, job: Job, volume: Vec<u32>) -> Recorder {
+        Recorder { header, job, volume, scratch: vec![0; SCRATCH] }
+    }
+
+    /// Synthesis, where no map is held.
+    pub fn hold_map(&mut self) -> Result<(), Refusal> {
+        if self.job.state == MAP_HELD {
+            return Ok(());
+        }
+        let answer = ffi::synthesis(self.job, &mut self.volume, &mut self.scratch);
+        self.keep(answer)
+    }
+
+    /// Analysis, where no factors are held.
+    pub fn hold_factors(&mut self) -> Result<(), Refusal> {
+        if self.job.state != MAP_HELD {
+            return Ok(());
+        }
+        let answer = ffi::analysis(self.job, &mut self.volume, &mut self.scratch);
+        self.keep(answer)
+    }
+
+    fn keep(&mut self, answer: Answer) -> Result<(), Refusal> {
+        self.job = answer.job;
+        accepted(answer.number)
+    }
+
+    pub fn point(&self, at: GridPoint) -> Result<u32, Refusal> {
+        let answer = ffi::point(self.job, at, &self.volume);
+        accepted(answer.number)?;
+        Ok(answer.density)
+    }
+
+    pub fn factor(&self, at: Reflection) -> Result<(u32, u32), Refusal> {
+        let answer = ffi::factor(self.job, at, &self.volume);
+        accepted(answer.number)?;
+        Ok((answer.a, answer.b))
+    }
+
+    /// The factor file of the held factors.
+    pub fn factor_file(&self) -> Result<Vec<u8>, Failure> {
+        let mut out = zeros(factor_file::length(&self.header, self.most_records()))?;
+        let answer = ffi::write_file(self.job, &self.volume, &mut out);
+        accepted(answer.number)?;
+        out.truncate(answer.written);
+        Ok(out)
+    }
+
+    /// No fewer than the records of the held factors: each record's factor stands in a pair that is not zero, and only pairs of the first
+    /// plane hold two factors (P2_1 keeps l = 0 and l = N3/2 in one).
+    fn most_records(&self) -> usize {
+        let filled = |part: &[u32]| part.chunks_exact(2).filter(|pair| pair[0] != 0 || pair[1] != 0).count();
+        filled(&self.volume) + filled(&self.volume[..self.volume.len() / self.header.planes()])
+    }
+
+    /// The rows of a held map: plane z, x and the values by y, rising.
+    pub fn rows(&self) -> impl Iterator<Item = (usize, usize, &[u32])> {
+        let (across, along) = (self.header.length(0), self.header.length(1));
+        self.volume.chunks_exact(along + 2).enumerate().map(move |(row, values)| (row / across, row % across, &values[..along]))
+    }
+}
+
+/// Transforms one line in place.
+pub fn line(kind: u32, direction: u32, length: u32, list: &[u8], line: &mut [u32]) -> Result<(), Refusal> {
+    accepted(ffi::line(kind, direction, length, list, line, &mut vec![0; SCRATCH]))
+}
+
+/// Whether a record takes a place that another needs: recorded after it in an empty volume, it is refused with 24. Records of which none has
+/// been refused before take no place of each other, so one volume serves to try them all.
+fn takes<'a>(header: &Header, other: &Record, volume: &'a mut [u32]) -> impl FnMut(&Record) -> bool + use<'a> {
+    let empty = opened(header, COLLECT, volume).job;
+    let job = ffi::record(empty, other.at, other.a, other.b, volume).job;
+    move |record| ffi::record(job, record.at, record.a, record.b, volume).number == TAKEN
+}
+
+fn opened(header: &Header, kind: u32, volume: &mut [u32]) -> Answer {
+    let [f1, f2, f3] = &header.lists;
+    ffi::open(u32::from(header.group), kind, header.lengths.map(u32::from), [f1, f2, f3], volume)
+}
+
+fn accepted(number: u32) -> Result<(), Refusal> {
+    match number {
+        0 => Ok(()),
+        number => Err(Refusal::plain(number)),
+    }
+}

@@ -1,0 +1,107 @@
+//! Refusals in words: what the scope's number says, what was found, and what to do about it.
+use crate::header::Header;
+
+pub const MODULUS: u32 = 86_399;
+
+/// A refusal: its number, the record's place (0 where no record is at fault), and what was found in the input.
+pub struct Refusal {
+    pub number: u32,
+    pub place: u32,
+    found: String,
+}
+
+impl Refusal {
+    pub fn plain(number: u32) -> Refusal {
+        Refusal { number, place: 0, found: String::new() }
+    }
+
+    /// Of a header, as far as there is one.
+    pub fn of_header(number: u32, found: Option<&Header>) -> Refusal {
+        let found = match found {
+            None => String::new(),
+            Some(header) if number == VERSION => format!("version {}", header.version),
+            Some(header) if number == TOO_LARGE => format!("{}: {} numbers", header.described(), header.volume_length()),
+            Some(header) => header.described(),
+        };
+        Refusal { number, place: 0, found }
+    }
+
+    pub fn of_record(number: u32, place: u32, found: String) -> Refusal {
+        Refusal { number, place, found }
+    }
+
+    /// Of a map's densities.
+    pub fn of_map(number: u32, header: &Header, volume: &[u32]) -> Refusal {
+        let row = header.length(1) + 2;
+        let found = match volume.iter().position(|&density| density >= MODULUS) {
+            Some(at) => format!("density {} at x {}, y {}, z {}", volume[at], at / row % header.length(0), at % row, at / row / header.length(0)),
+            None => header.described(),
+        };
+        Refusal { number, place: 0, found }
+    }
+
+    /// Of a file that does not end where its header says.
+    pub fn of_shape(found: String) -> Refusal {
+        Refusal { number: SHAPE, place: 0, found }
+    }
+
+    /// The printer's line.
+    pub fn line(&self) -> String {
+        format!("refused {} at {}", self.number, self.place)
+    }
+
+    /// Why it was refused, what was found and what to do, a line each.
+    pub fn explained(&self) -> String {
+        let (why, remedy) = words(self.number);
+        let mut text = format!("why: {why}\n");
+        if !self.found.is_empty() {
+            text += &format!("found: {}\n", self.found);
+        }
+        text + &format!("what to do: {remedy}\n")
+    }
+}
+
+const TOO_LARGE: u32 = 9;
+pub const SHAPE: u32 = 15;
+pub const VERSION: u32 = 16;
+
+/// What a refusal's number says, and what to do.
+fn words(number: u32) -> (&'static str, &'static str) {
+    match number {
+        1 => ("the kind of line is not 0 to 5", "give a kind from 0 (plain) to 5 (antisymmetric)"),
+        2 => ("the direction is not 0 or 1", "give 0 for forward or 1 for inverse"),
+        3 => ("a length is not admitted", "use even divisors of 2,880, from 2 to 2,880"),
+        4 => ("a factor is not 2, 3, 4 or 5", "write the list with 2, 3, 4 and 5 alone"),
+        5 => ("the product of a factor list is not half its length", "give factors of N/2; no factors for N = 2"),
+        6 => (
+            "the line is not exactly as long as its kind and length ask",
+            "give 2N numbers for kind 0, N for kinds 1 to 3, N + 2 for kind 4, N - 2 for kind 5",
+        ),
+        7 => ("a number is 86,399 or more", "write residues modulo 86,399: 0 to 86,398"),
+        8 => ("the group is not 0 to 3", "use 0 for P1, 1 for P2_1, 2 for Pm, 3 for Pa"),
+        9 => ("the volume would have more than 16,777,216 numbers", "use shorter lengths; P2_1, Pm and Pa need half of what P1 does"),
+        10 => ("an index is not below its axis length", "bring each index into the cell: 0 to length - 1"),
+        11 => ("the record's value is zero", "leave the record out: what no record names is zero"),
+        12 => (
+            "an image of the record falls on its own index with another value",
+            "correct the value, or leave the record out: by group and Friedel's rule it must be its own image",
+        ),
+        13 => ("the scratch is too short", SHOULD_NOT_BE),
+        14 => ("no cell that obeys the group has these numbers", "correct the numbers that are images of each other, or the group"),
+        15 => (
+            "the file does not have the bytes that its count and header ask for",
+            "fetch or write the file again: it was cut, lengthened or is no such file",
+        ),
+        16 => ("the version is not 1", "write the file as version 1"),
+        17 => ("there are no records", "give at least one record; a map of zeros has no factors to write"),
+        18 => ("the output is too short", SHOULD_NOT_BE),
+        21 => ("a record came while not collecting", SHOULD_NOT_BE),
+        22 => ("no map is held", SHOULD_NOT_BE),
+        23 => ("no factors are held", SHOULD_NOT_BE),
+        24 => ("an earlier record gave this reflection or one of its images a value", "leave one of the two records out"),
+        25 => ("no call could have made this job", SHOULD_NOT_BE),
+        _ => ("the number is not known to this tool", SHOULD_NOT_BE),
+    }
+}
+
+const SHOULD_NOT_BE: &str = "report it: this tool should never be refused so";

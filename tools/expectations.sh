@@ -1,0 +1,24 @@
+#!/usr/bin/env bash
+# Computes anew, by direct sums and brute force, what the test programs are given and must print, and holds what is stored to it. The other
+# scripts of this folder store it.
+set -eu
+cd "$(dirname "$0")/.."
+made=$(mktemp -d)
+trap 'rm -r "$made"' EXIT
+cc -O2 -std=c11 -Wall -Wextra -o "$made/line_expected" tools/line_expected.c
+held() {
+    local stored=$1
+    shift
+    if ! "$@" | cmp - "$stored"; then
+        echo "$stored is not what $* gives" >&2
+        exit 1
+    fi
+}
+held crates/plain_test/stdout python3 tools/plain_expected.py
+held crates/line_test/stdin python3 tools/line_cases.py
+held crates/line_test/stdout "$made/line_expected" < crates/line_test/stdin
+held crates/job_test/stdin python3 tools/job_cases.py calls
+held crates/job_test/stdout python3 tools/job_cases.py answers
+held crates/file_test/stdin python3 tools/file_cases.py cases
+held crates/file_test/stdout python3 tools/file_cases.py answers
+echo "7 stored expectations agree with what is computed anew"

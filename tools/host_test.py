@@ -1,0 +1,409 @@
+#!/usr/bin/env python3
+"""The test of the command line tool: runs it on files of all four groups and compares all that it prints and writes with brute force.
+
+    host_test.py PROGRAM
+
+Small grids: the printer test's files, their maps as text and as map files, the factor files written from those, readings of points and factors,
+all against the book of brute_force.py. Every refusal that a file, a map file or a line can give. Files that are damaged, empty, missing or
+not to be written; pipes that are closed; no memory. P1 at 240^3 and P2_1 at 288^3 there and back, byte for byte, with some densities summed
+directly. The seed is fixed. Prints how many comparisons agreed; the exit status is 1 where one did not.
+"""
+import filecmp
+import os
+import pty
+import random
+import re
+import resource
+import subprocess
+import sys
+import tempfile
+
+from brute_force import LIMIT, P, ROOT, e, file_bytes, images, number, open_file, planes, volume_length
+from printer_test import files
+
+SEED = 1973
+# Every refusal that the tool's input can give, readings outside the cell and the writing of an empty map among them.
+REFUSALS = {"factor file": {3, 4, 5, 7, 8, 9, 10, 11, 12, 15, 16, 17, 24}, "map file": {3, 4, 5, 7, 8, 9, 10, 14, 15, 16, 17},
+            "line": {1, 2, 3, 4, 5, 6, 7}}
+COMMANDS = ["map", "factors", "check", "info", "point", "factor", "line"]
+LARGE = [(0, 240, [4, 5, 3, 2]), (1, 288, [4, 4, 3, 3])]
+RECORDS = 7000
+
+
+class Tool:
+    """The program, a folder for its files, and the count of comparisons."""
+
+    def __init__(self, program, folder):
+        self.program, self.folder = program, folder
+        self.agreed = self.wrong = 0
+        self.seen = {kind: set() for kind in REFUSALS}
+
+    def path(self, name):
+        return os.path.join(self.folder, name)
+
+    def file(self, name, contents):
+        with open(self.path(name), "wb") as out:
+            out.write(contents)
+        return self.path(name)
+
+    def run(self, *words, given=b"", **more):
+        more = {"stdout": subprocess.PIPE, "stderr": subprocess.PIPE, **more}
+        done = subprocess.run([self.program, *map(str, words)], input=given, check=False, **more)
+        return done.returncode, done.stdout, done.stderr
+
+    def expect(self, what, got, want):
+        if got == want:
+            self.agreed += 1
+        else:
+            self.wrong += 1
+            print("%s: got %.300r, expected %.300r" % (what, got, want))
+
+    def refused(self, what, words, refusal, place=0, given=b""):
+        """A command that must be refused: with its number and words on standard error, and nothing else."""
+        status, out, err = self.run(*words, given=given)
+        self.seen[kind_of(words)].add(refusal)
+        self.expect(what, (status, out), (1, b"refused %d at %d\n" % (refusal, place) if words[0] == "map" and "-o" not in words else b""))
+        self.expect(what + ", its words", re.sub(rb"(?m)^found: .*\n", b"", err).count(b"\n"), 3)
+        self.expect(what + ", its number", err.split(b"\n")[0], b"recorder: refused %d at %d" % (refusal, place))
+
+    def fails(self, what, words, part, given=b"", **more):
+        """A command that cannot do what it is asked: status 2 and some words on what to do."""
+        status, out, err = self.run(*words, given=given, **more)
+        self.expect(what, (status, out or b"", part in (err or b"")), (2, b"", True))
+
+
+# ---- what the tool must say
+
+def kind_of(words):
+    """What a command works on."""
+    if words[0] == "line":
+        return "line"
+    with open(words[1], "rb") as file:
+        return "map file" if file.read(4) == b"RMAP" else "factor file"
+
+
+def needed(file):
+    """How many numbers a file's volume has, 0 where the header is not sound."""
+    part = file + bytes(12)
+    return volume_length(part[5] % 4, [number(part[q:q + 2]) for q in (6, 8, 10)])
+
+
+def map_text(g, n, M):
+    lines = ["map %d %d %d %d" % (g, *n)]
+    for z in range(planes(g, n)):
+        for x in range(n[0]):
+            lines.append(" ".join(str(c) for c in [z, x] + [M[(x, y, z)] for y in range(n[1])]))
+    return ("\n".join(lines) + "\n").encode()
+
+
+def map_head(g, n, lists, version=1):
+    return b"RMAP" + bytes([version]) + file_bytes(g, n, lists, [])[5:-4]
+
+
+def map_bytes(g, n, lists, M):
+    rows = [(x, y, z) for z in range(planes(g, n)) for x in range(n[0]) for y in range(n[1])]
+    return map_head(g, n, lists) + b"".join(M[q].to_bytes(4, "big") for q in rows)
+
+
+def written(book):
+    """The writer's file: a record for each orbit with a value other than zero, at its lowest index, rising."""
+    found = []
+    for j in sorted(book.F):
+        if book.F[j] != (0, 0) and j == min(i for i, _ in images(book.g, book.n, j, book.F[j])):
+            found.append((*j, *book.F[j]))
+    return file_bytes(book.g, book.n, book.lists, found)
+
+
+# ---- small grids
+
+def sample(tool):
+    """The repository's sample: its map is brute force's, and the text beside it."""
+    folder = os.path.join(os.path.dirname(os.path.abspath(__file__)), "../samples")
+    path = os.path.join(folder, "p21.factors")
+    with open(path, "rb") as file, open(os.path.join(folder, "p21.map.txt"), "rb") as text:
+        contents, shown = file.read(), text.read()
+    book = open_file(contents, needed(contents))[2]
+    tool.expect("the sample's text", shown, map_text(book.g, book.n, book.densities()))
+    tool.expect("the sample's form", contents, written(book))
+    accepted_file(tool, random.Random(SEED), path, book, 6)
+
+
+def accepted_file(tool, rng, path, book, count):
+    g, n = book.g, book.n
+    what = "group %d, %s" % (g, n)
+    F, M = dict(book.F), book.densities()
+    tool.expect(what + ": map", tool.run("map", path), (0, map_text(g, n, M), b""))
+    tool.expect(what + ": check", tool.run("check", path), (0, b"accepted\n", b""))
+    shape = "group %d %s\nlengths %d %d %d\nlists %s\nplanes %d\nvolume %d numbers, %d bytes\n" % (
+        g, ["P1", "P2_1", "Pm", "Pa"][g], *n, " ".join(",".join(map(str, fs)) or "-" for fs in book.lists),
+        planes(g, n), volume_length(g, n), 4 * volume_length(g, n))
+    tool.expect(what + ": info", tool.run("info", path), (0, ("factor file, version 1\n" + shape + "records %d\n" % count).encode(), b""))
+    made, back = tool.path("made.map"), tool.path("back")
+    tool.expect(what + ": map -o", tool.run("map", path, "-o", made), (0, b"", b""))
+    tool.expect(what + ": the map file", open(made, "rb").read(), map_bytes(g, n, book.lists, M))
+    tool.expect(what + ": map of a map", tool.run("map", made), (0, map_text(g, n, M), b""))
+    points = planes(g, n) * n[0] * n[1]
+    tool.expect(what + ": info of a map", tool.run("info", made), (0, ("map file, version 1\n" + shape + "densities %d\n" % points).encode(), b""))
+    tool.expect(what + ": factors", tool.run("factors", made, "-o", back), (0, b"", b""))
+    tool.expect(what + ": the factor file", open(back, "rb").read(), written(book))
+    tool.expect(what + ": factors of factors", tool.run("factors", path, "-o", "-"), (0, written(book), b""))
+    for source in (path, made):
+        j = tuple(rng.randrange(m) for m in n)
+        tool.expect(what + ": point", tool.run("point", source, *j), (0, b"%d\n" % M[j], b""))
+        tool.expect(what + ": factor", tool.run("factor", source, *j), (0, b"%d %d\n" % F[j], b""))
+        tool.refused(what + ": a point outside", ("point", source, j[0], n[1], j[2]), 10)
+        tool.refused(what + ": a factor outside", ("factor", source, n[0], j[1], 2 ** 40), 10)
+
+
+def small_grids(tool):
+    rng = random.Random(SEED)
+    for file in files():
+        if 40000 < needed(file) <= LIMIT:
+            continue  # brute force would take too long: large_grids has such ones
+        refused, place, book = open_file(file, needed(file))
+        path = tool.file("small", file)
+        if book:
+            accepted_file(tool, rng, path, book, number(file[15 + sum(map(len, book.lists)):][:4]))
+            continue
+        what = "file %s" % file[:40].hex()
+        tool.refused(what, ("map", path), refused, place)
+        tool.refused(what, ("map", path, "-o", tool.path("none")), refused, place)
+        status, out, err = tool.run("check", path)
+        tool.expect(what + ": check", (status, out.split(b"\n")[0], err), (1, b"refused %d at %d" % (refused, place), b""))
+
+
+# ---- refusals
+
+def refused_records(tool):
+    """What check says of a record: its place, its contents, and of 24 the record that was there before."""
+    n, lists = (4, 4, 4), [[2], [2], [2]]
+    first = (1, 2, 3, 4, 5)
+    for g, record, refusal in [(0, (1, 1, 4, 3, 0), 10), (1, (1, 65535, 1, 3, 0), 10), (2, (1, 1, 1, P, 0), 7), (3, (1, 1, 1, 3, 2 ** 32 - 1), 7),
+                               (0, (1, 1, 1, 0, 0), 11), (0, (0, 2, 0, 1, 1), 12), (1, (0, 0, 1, 5, 7), 12), (3, (1, 0, 0, 5, 7), 12),
+                               (2, (1, 2, 1, 4, 5), 24), (0, (3, 2, 1, 9, 9), 24)]:
+        path = tool.file("records", file_bytes(g, n, lists, [(0, 0, 0, 1, 0), first, record, (3, 3, 3, 3, 3)]))
+        status, out, err = tool.run("check", path)
+        head, _, found, _, end = out.decode().split("\n")
+        contents = "found: record 2, from byte 50 on: h %d, k %d, l %d, a %d, b %d" % record
+        if refusal == 24:
+            contents += "; its orbit has a value by record 1, from byte 36 on: h 1, k 2, l 3, a 4, b 5"
+        what = "group %d, record %s" % (g, record)
+        tool.expect(what, (status, head, found, end, err), (1, "refused %d at 2" % refusal, contents, "", b""))
+        tool.refused(what, ("point", path, 0, 0, 0), refusal, 2)
+        tool.refused(what, ("factors", path, "-o", tool.path("none")), refusal, 2)
+
+
+def refused_headers(tool):
+    """Headers in a factor file and in a map file: every refusal of an opening."""
+    for g, n, lists, refusal in [(4, (2, 2, 2), [[], [], []], 8), (255, (2, 2, 2), [[], [], []], 8), (0, (2, 0, 2), [[], [], []], 3),
+                                 (1, (2, 2, 14), [[], [], [7]], 3), (2, (5760, 2, 2), [[], [], []], 3), (3, (8, 8, 8), [[4], [6], [4]], 4),
+                                 (0, (8, 8, 8), [[4], [4], [1, 4]], 4), (0, (8, 8, 8), [[4], [2], [4]], 5), (0, (2, 2, 4), [[], [], []], 5),
+                                 (0, (2, 2, 2), [[], [2] * 255, []], 5), (0, (288, 288, 288), [[4, 4, 3, 3]] * 3, 9),
+                                 (2, (2880, 2880, 2880), [[5, 4, 4, 3, 3, 2]] * 3, 9)]:
+        what = "header %d %s %s" % (g, n, lists)
+        factors = tool.file("factors", file_bytes(g, n, lists, [(0, 0, 0, 1, 0)]))
+        densities = tool.file("densities", map_head(g, n, lists) + bytes(64))
+        for path in (factors, densities):
+            for words in (("map", path), ("info", path), ("factors", path, "-o", tool.path("none")), ("factor", path, 0, 0, 0)):
+                tool.refused(what, words, refusal)
+
+
+def refused_maps(tool):
+    """Map files that are cut, lengthened, of another version, or hold no map."""
+    n, lists = (2, 4, 2), [[], [2], []]
+    M = {(x, y, z): 7 + 10 * x * (z == 0) + y for x in range(2) for y in range(4) for z in range(2)}
+    whole = map_bytes(0, n, lists, M)
+    path = tool.file("maps", whole)
+    tool.expect("a map", tool.run("check", path), (0, b"accepted\n", b""))
+    for length in range(4, len(whole)):
+        tool.refused("a map cut at %d" % length, ("map", tool.file("maps", whole[:length])), 15)
+    tool.refused("a longer map", ("map", tool.file("maps", whole + b"x")), 15)
+    tool.refused("version 2", ("map", tool.file("maps", map_head(0, n, lists, 2) + whole[16:])), 16)
+    tool.refused("a map of 86,399", ("factors", tool.file("maps", whole[:-4] + P.to_bytes(4, "big")), "-o", tool.path("none")), 7)
+    status, out, _ = tool.run("check", path)
+    tool.expect("its place", (status, b"found: density 86399 at x 1, y 3, z 1\n" in out), (1, True))
+    tool.refused("a map that is not Pa's", ("map", tool.file("maps", map_bytes(3, n, lists, M))), 14)
+    tool.refused("no records", ("factors", tool.file("maps", map_head(0, n, lists) + bytes(64)), "-o", tool.path("none")), 17)
+    tool.expect("refused commands write no file", os.path.exists(tool.path("none")), False)
+
+
+# ---- lines
+
+def unpacked(kind, n, line):
+    """A line's n values from its packed half before the transform."""
+    pair = list(zip(line[0::2], line[1::2]))
+    half = n // 2
+    if kind == 0:
+        return pair
+    if kind in (1, 2, 3):
+        ends = [(line[0], 0), (line[1], 0)] if kind == 1 else [(0, line[0]), (0, line[1])]
+        if kind == 3:
+            ends = [(line[0], 0), (0, line[1]) if half % 2 else (line[1], 0)]
+        X = [ends[0]] + pair[1:] + [ends[1]]
+    else:
+        X = pair if kind == 4 else [(0, 0)] + pair + [(0, 0)]
+    for t in range(half + 1, n):
+        a, b = X[n - t]
+        sign = [1, 1, -1, (-1) ** t, 1, -1][kind]
+        X.append((sign * a % P, sign * (b if kind > 3 else -b) % P))
+    return X
+
+
+def packed_sums(kind, n, X):
+    """The packed result: direct sums over the whole line."""
+    sums = []
+    for s in range(n):
+        terms = [(x, e(t * s, n)) for t, x in enumerate(X)]
+        sums.append((sum(x[0] * w[0] - x[1] * w[1] for x, w in terms) % P, sum(x[0] * w[1] + x[1] * w[0] for x, w in terms) % P))
+    if kind in (1, 2):
+        return [x[kind - 1] for x in sums]
+    part = {0: sums, 3: sums[:n // 2], 4: sums[:n // 2 + 1], 5: sums[1:n // 2]}[kind]
+    return [c for x in part for c in x]
+
+
+def lines(tool):
+    rng = random.Random(SEED)
+    for kind in range(6):
+        for n, fs in [(2, "-"), (4, "2"), (6, "3"), (12, "2,3"), (16, "2,4"), (20, "5,2"), (24, "3,4"), (30, "5,3")]:
+            line = [rng.randrange(P) for _ in range([2 * n, n, n, n, n + 2, n - 2][kind])]
+            after = packed_sums(kind, n, unpacked(kind, n, line))
+            said = [(" ".join(map(str, numbers)) + "\n").encode() for numbers in (line, after)]
+            what = "line of kind %d, %d values" % (kind, n)
+            tool.expect(what, tool.run("line", kind, 0, n, fs, given=said[0]), (0, said[1], b""))
+            tool.expect(what + ", inverse", tool.run("line", kind, 1, n, fs, given=said[1].replace(b" ", b"\n\t")), (0, said[0], b""))
+    for words, given, refusal in [((6, 2, 3, 9), b"1", 1), ((2 ** 32 + 1, 0, 4, 2), b"1 2 3 4", 1), ((1, 2, 14, 9), b"1", 2), ((1, 0, 14, 7), b"1", 3),
+                                  ((1, 0, 0, "-"), b"", 3), ((1, 0, 5760, 2), b"", 3), ((1, 0, 8, 6), b"1", 4), ((1, 0, 8, "258,2"), b"1", 4),
+                                  ((1, 0, 8, 2), b"1", 5), ((1, 0, 4, 2), b"1 2 86399", 6), ((1, 0, 4, 2), b"1 2 3 4 5", 6),
+                                  ((1, 0, 4, 2), b"1 2 3 86399", 7), ((1, 0, 4, 2), b"1 2 3 99999999999", 7)]:
+        tool.refused("line %s" % (words,), ("line", *words), refusal, given=given)
+    tool.fails("a line of words", ("line", 1, 0, 4, 2), b"whole number", given=b"1 2 x 4")
+    tool.fails("a line below zero", ("line", 1, 0, 4, 2), b"whole number", given=b"1 2 -3 4")
+
+
+# ---- files, streams and the command line
+
+def command_line(tool):
+    status, out, err = tool.run("--help")
+    tool.expect("help", (status, err, [name for name in COMMANDS if b"recorder " + name.encode() not in out]), (0, b"", []))
+    for name in COMMANDS:
+        for words in ((name, "--help"), (name, "some", "-h")):
+            status, out, err = tool.run(*words)
+            tool.expect("help of " + name, (status, out.startswith(b"recorder " + name.encode() + b" "), err), (0, True, b""))
+    path = tool.file("sound", file_bytes(0, (2, 2, 2), [[], [], []], [(1, 0, 0, 3, 0)]))
+    for words in ((), ("paint",), ("map",), ("map", path, path), ("map", path, "-o"), ("map", path, "--fast"), ("factors", path), ("check", path, "-o", "x"),
+                  ("info", path, "--times"), ("point", path, 1, 2), ("point", path, 1, 2, "z"), ("factor", path, 1, 2, "-3"), ("line", 1, 0, 4, "2;3")):
+        tool.fails("usage %s" % (words,), words, b"--help")
+    status, out, err = tool.run("map", path, "--times")
+    tool.expect("times", (status, bool(re.fullmatch(rb"times: reading [0-9.]+ s synthesis [0-9.]+ s writing [0-9.]+ s\n", err))), (0, True))
+    tool.expect("standard input", tool.run("map", "-", given=open(path, "rb").read()), tool.run("map", path))
+
+
+def files_and_streams(tool):
+    path = tool.path("sound")
+    tool.refused("an empty file", ("map", tool.file("empty", b"")), 15)
+    tool.refused("an endless file", ("map", "/dev/zero"), 15)
+    for name in COMMANDS[:6]:
+        more = ["-o", tool.path("none")] if name == "factors" else [0, 0, 0] if name in ("point", "factor") else []
+        tool.fails(name + " of a missing file", (name, tool.path("missing"), *more), b"check its name and folder")
+        tool.fails(name + " of a folder", (name, tool.folder, *more), b"name a file in it")
+    tool.fails("a folder that is not there", ("map", path, "-o", tool.path("no/where")), b"make its folder first")
+    tool.fails("a folder as output", ("map", path, "-o", tool.folder), b"name a file in it")
+    tool.fails("a full disk", ("map", path, "-o", "/dev/full"), b"make room")
+    with open("/dev/full", "wb") as full:
+        for words in (("map", path), ("map", path, "-o", "-"), ("check", path), ("info", path), ("point", path, 0, 0, 0), ("map", "--help")):
+            tool.fails("a full output of %s" % words[0], words, b"make room", stdout=full)
+        tool.expect("a full standard error", tool.run("check", tool.path("missing"), stderr=full)[0], 2)
+        tool.expect("a full standard error", tool.run("map", tool.path("empty"), stderr=full)[0], 1)
+
+
+def closed_pipe(tool):
+    """A reader that closes its pipe after some bytes, or at once: no panic, no words, and a refusal stays one."""
+    for words in (("map", tool.path("large0")), ("map", tool.path("large0"), "-o", "-")):
+        with subprocess.Popen([tool.program, *words], stdout=subprocess.PIPE, stderr=subprocess.PIPE) as run:
+            run.stdout.read(5)
+            run.stdout.close()
+            tool.expect("a pipe closed early", (run.stderr.read(), run.wait()), (b"", 0))
+    for words, status in ((("check", tool.path("sound")), 0), (("check", tool.path("empty")), 1), (("map", tool.path("empty")), 1), (("--help",), 0)):
+        reading, writing = os.pipe()
+        os.close(reading)
+        got = tool.run(*words, stdout=writing)
+        os.close(writing)
+        tool.expect("a closed pipe", (got[0], b"panic" in got[2]), (status, False))
+
+
+# ---- large grids
+
+def large_file(rng, g, n, lists):
+    """A file as the writer writes it: the lowest index of each orbit, rising."""
+    found = {}
+    while len(found) < RECORDS:
+        j = tuple(rng.randrange(m) for m in n)
+        v = (rng.randrange(1, P), rng.randrange(P))
+        orbit = images(g, n, j, v)
+        if all(i != j or w == v for i, w in orbit):
+            lowest, value = min(orbit)
+            found[lowest] = value
+    return found, file_bytes(g, n, lists, [(*j, *found[j]) for j in sorted(found)])
+
+
+def direct_density(g, n, found, q):
+    """The triple sum at a point over every factor that the records imply."""
+    total = 0
+    for j, v in found.items():
+        for i, w in set(images(g, n, j, v)):
+            root = ROOT[sum(2880 // m * a * b for a, b, m in zip(i, q, n)) % 2880]
+            total += w[0] * root[0] - w[1] * root[1]
+    return total % P
+
+
+def bounded(volume):
+    """Room for the volume and 24 megabytes beside it: program, file, scratch and buffers."""
+    return lambda: resource.setrlimit(resource.RLIMIT_AS, (4 * volume + 24 * 2 ** 20,) * 2)
+
+
+def large_grids(tool):
+    rng = random.Random(SEED)
+    for g, length, fs in LARGE:
+        n, what = (length,) * 3, "group %d at %d^3" % (g, length)
+        found, contents = large_file(rng, g, n, [fs] * 3)
+        path, made, back = tool.file("large%d" % g, contents), tool.path("large.map"), tool.path("large.back")
+        limit = bounded(volume_length(g, n))
+        tool.expect(what + ": map", tool.run("map", path, "-o", made, preexec_fn=limit), (0, b"", b""))
+        tool.expect(what + ": factors", tool.run("factors", made, "-o", back, preexec_fn=limit), (0, b"", b""))
+        tool.expect(what + ": the same file", filecmp.cmp(path, back, shallow=False), True)
+        with open(made, "rb") as densities:
+            for _ in range(6):
+                q = tuple(rng.randrange(m) for m in (*n[:2], planes(g, n)))
+                densities.seek(len(map_head(g, n, [fs] * 3)) + 4 * ((q[2] * length + q[0]) * length + q[1]))
+                tool.expect(what + ": the density at %s" % (q,), number(densities.read(4)), direct_density(g, n, found, q))
+    tool.fails("no memory", ("map", tool.path("large0")), b"no memory", preexec_fn=bounded(0))
+
+
+def progress(tool):
+    """On a terminal long work is told, and nothing of it stays; elsewhere nothing is said (large_grids)."""
+    ours, theirs = pty.openpty()
+    with subprocess.Popen([tool.program, "map", tool.path("large0"), "-o", tool.path("large.map")], stderr=theirs) as run:
+        os.close(theirs)
+        said = b""
+        try:
+            while part := os.read(ours, 4096):
+                said += part
+        except OSError:
+            pass  # a terminal whose other end is closed
+        tool.expect("progress", (run.wait(), said.startswith(b"\rsynthesis: "), said.endswith(b" \r")), (0, True, True))
+    os.close(ours)
+
+
+def main():
+    with tempfile.TemporaryDirectory() as folder:
+        tool = Tool(os.path.abspath(sys.argv[1]), folder)
+        for part in (sample, small_grids, refused_records, refused_headers, refused_maps, lines, command_line, files_and_streams, large_grids,
+                     closed_pipe, progress):
+            part(tool)
+        tool.expect("the refusals", tool.seen, REFUSALS)
+    print("%d comparisons agree, %d do not" % (tool.agreed, tool.wrong))
+    sys.exit(1 if tool.wrong else 0)
+
+
+if __name__ == "__main__":
+    main()

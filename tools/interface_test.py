@@ -1,0 +1,163 @@
+#!/usr/bin/env python3
+"""The interface test: include/recorder.h against the functions that crates/exported exports, and host/src/ffi.rs against include/recorder.h.
+
+    interface_test.py [HEADER SOURCE FFI]
+
+Every function of the header must be one of the source and the other way round, with the same types in the same order; every struct must have
+the same fields. The tool's declarations must be those of the header. (The layouts in bytes are held to a C compiler's by `cargo test` in host/.)
+Prints what differs; the exit status is 1 where anything does. It then damages each of the three texts in turn and demands to notice it.
+"""
+import os
+import re
+import sys
+
+TOP = os.path.join(os.path.dirname(os.path.abspath(__file__)), "..")
+FILES = ["include/recorder.h", "crates/exported/src/lib.rt", "host/src/ffi.rs"]
+JOB = "crates/job/src/lib.rt"
+
+# The names of the header's types in the Rattle source and in the tool.
+SOURCE_NAMES = {"Reflection": "recorder_reflection", "GridPoint": "recorder_grid_point", "Axis": "recorder_axis", "Job": "recorder_job",
+                "JobCoded": "recorder_answer", "FileCoded": "recorder_file_answer", "WriteCoded": "recorder_write_answer",
+                "PointCoded": "recorder_density", "FactorCoded": "recorder_factor_value"}
+FFI_NAMES = {"Reflection": "recorder_reflection", "GridPoint": "recorder_grid_point", "Axis": "recorder_axis", "Job": "recorder_job",
+             "Answer": "recorder_answer", "FileAnswer": "recorder_file_answer", "WriteAnswer": "recorder_write_answer",
+             "Density": "recorder_density", "FactorValue": "recorder_factor_value"}
+# A struct that lacks the mark is not found, and so differs.
+LAID_OUT = r"#\[repr\(C\)\]\s*(?:#\[derive\([^)]*\)\]\s*)?"
+NUMBERS = {"u8": "uint8_t", "u32": "uint32_t", "usize": "size_t"}
+
+
+def read(name):
+    with open(os.path.join(TOP, name), encoding="utf-8") as text:
+        return text.read()
+
+
+def without_comments(text):
+    return re.sub(r"/\*.*?\*/|//[^\n]*", "", text, flags=re.S)
+
+
+def words(text):
+    return " ".join(text.split())
+
+
+def parts(text):
+    return [words(part) for part in text.split(",") if part.strip()]
+
+
+# ---- C: a declaration 'type name' with the star at the name
+
+def c_type(declaration):
+    return words(re.sub(r"\w+$", "", declaration).replace("*", " * "))
+
+
+def c_structs(text):
+    found = {}
+    for body, name in re.findall(r"typedef struct \{(.*?)\}\s*(\w+);", text, re.S):
+        fields = []
+        for line in filter(str.strip, body.split(";")):
+            first, *others = parts(line)
+            kind, field = first.rsplit(" ", 1)
+            fields += [(field, kind)] + [(other, kind) for other in others]
+        found[name] = fields
+    return found
+
+
+def c_functions(text):
+    return {name: ([c_type(p) for p in parts(taken)], given)
+            for given, name, taken in re.findall(r"^(\w+) (recorder_\w+)\((.*?)\);", text, re.S | re.M)}
+
+
+# ---- Rattle and Rust: 'name: type'
+
+def named_type(kind, names):
+    """The C types that a type is passed as."""
+    if kind in NUMBERS:
+        return [NUMBERS[kind]]
+    lent = re.fullmatch(r"&(mut )?\[(\w+)\]", kind)
+    if lent:
+        return [("" if lent[1] else "const ") + NUMBERS[lent[2]] + " *", "size_t"]
+    pointer = re.fullmatch(r"\*(const|mut) (\w+)", kind)
+    if pointer:
+        return [("const " if pointer[1] == "const" else "") + NUMBERS[pointer[2]] + " *"]
+    return [names.get(kind, "unknown type " + kind)]
+
+
+def typed(declaration, names):
+    name, kind = declaration.split(":")
+    return name.strip().removeprefix("pub "), named_type(kind.strip(), names)
+
+
+def named_structs(text, names):
+    found = {}
+    for name, body in re.findall(LAID_OUT + r"pub struct (\w+) \{(.*?)\n\}", text, re.S):
+        fields = [typed(field, names) for field in parts(body)]
+        found[names.get(name, name)] = [(field, kinds[0]) for field, kinds in fields]
+    return found
+
+
+def named_functions(text, pattern, names):
+    found = {}
+    for name, taken, given in re.findall(pattern, text, re.S):
+        kinds = [kind for p in parts(taken) for kind in typed(p, names)[1]]
+        found[name] = (kinds, named_type(given, names)[0])
+    return found
+
+
+# ---- the comparisons
+
+def differing(what, some, others):
+    said = []
+    for name in sorted(set(some) | set(others)):
+        if some.get(name) != others.get(name):
+            said.append("%s %s: %s, but %s" % (what, name, some.get(name, "missing"), others.get(name, "missing")))
+    return said
+
+
+def source_structs(text, structs):
+    """The structs of the source; the fields of a tuple struct have no names and take the header's where their types are the same."""
+    found = named_structs(text, SOURCE_NAMES)
+    for name, kinds in re.findall(LAID_OUT + r"pub struct (\w+)\((.*?)\);", text, re.S):
+        ours = structs.get(SOURCE_NAMES.get(name), [])
+        fields = [named_type(kind.removeprefix("pub "), SOURCE_NAMES)[0] for kind in parts(kinds)]
+        found[SOURCE_NAMES.get(name)] = ours if fields == [kind for _, kind in ours] else fields
+    return {name: fields for name, fields in found.items() if name in SOURCE_NAMES.values()}
+
+
+def differences(header, source, ffi):
+    header, source, ffi = map(without_comments, (header, source, ffi))
+    structs, functions = c_structs(header), c_functions(header)
+    exported = named_functions(source, r'pub extern "C" fn (\w+)\((.*?)\)\s*->\s*(\w+)', SOURCE_NAMES)
+    declared = named_functions(ffi, r"\n    fn (recorder_\w+)\((.*?)\)\s*->\s*(\w+);", FFI_NAMES)
+    said = [] if functions else ["no function was found"]
+    said += differing("function of header and source:", functions, exported)
+    said += differing("struct of header and source:", structs, source_structs(source + without_comments(read(JOB)), structs))
+    said += differing("function of header and tool:", functions, declared)
+    return said + differing("struct of header and tool:", structs, named_structs(ffi, FFI_NAMES))
+
+
+# One small change to each text: a parameter's type, a field left out, two fields exchanged, a function under another name.
+DAMAGES = [
+    (0, "recorder_grid_point at,", "recorder_reflection at,"), (0, "uint32_t number, place;", "uint32_t place, number;"),
+    (0, "const uint32_t *volume, size_t volume_length, uint8_t *out", "uint32_t *volume, size_t volume_length, uint8_t *out"),
+    (1, "pub place: u32,", ""), (1, "fn recorder_analysis(", "fn recorder_analyse("),
+    (1, "#[repr(C)]", ""), (2, "#[repr(C)]", ""),
+    (2, "pub written: usize", "pub written: u32"), (2, "direction: u32,\n        length: u32,", "direction: u32,"),
+]
+
+
+def main():
+    texts = [read(name) for name in (sys.argv[1:] or FILES)]
+    said = differences(*texts)
+    for line in said:
+        print(line)
+    for at, old, new in DAMAGES:
+        damaged = [text.replace(old, new, 1) if at == place else text for place, text in enumerate(texts)]
+        if damaged == texts or not differences(*damaged):
+            said.append(old)
+            print("not noticed: %r in the place of %r" % (new, old))
+    print("interface: %d functions, %d differences" % (len(c_functions(without_comments(texts[0]))), len(said)))
+    sys.exit(1 if said else 0)
+
+
+if __name__ == "__main__":
+    main()

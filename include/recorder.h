@@ -1,6 +1,6 @@
 /* The map recorder for programs in C: the functions of crates/exported, which `rt staticlib exported` writes to
-   target/staticlib/libexported.a. Each is proved to do what its contract in crates/exported/src/lib.rt says, for every input; nothing
-   checks this header against that file.
+   target/staticlib/libexported.a. Each is proved to do what its contract in crates/exported/src/lib.rt says, for every input.
+   tools/interface_test.py holds the names and types of this header to that file.
 
    Numbers. A residue is 0 to 86,398. A value a + b i is two neighbouring residues, a pair. Every answer has a number: 0 for an
    accepted call, else the number of the first refusal that applies, in the order given at each call. A refused call changes no buffer

@@ -47,15 +47,15 @@ impl Recorder {
         let header = factor_file_header(file)?;
         let mut volume = zeros(header.volume_length())?;
         let answer = ffi::open_file(file, &mut volume);
-        let record = |place| factor_file::record(file, &header, place);
-        let found = match answer.number {
-            0 => return Ok(Recorder::new(header, answer.job, volume)),
-            TAKEN => {
-                let taker = (0..answer.place).map(record).find(takes(&header, &record(answer.place), &mut volume));
-                format!("{}; its orbit has a value by {}", record(answer.place), taker.map_or("none".into(), |taker| taker.to_string()))
-            }
-            _ => record(answer.place).to_string(),
-        };
+        if answer.number == 0 {
+            return Ok(Recorder::new(header, answer.job, volume));
+        }
+        let refused = factor_file::record(file, &header, answer.place);
+        let mut found = refused.to_string();
+        if answer.number == TAKEN {
+            let taker = taker(file, &header, &refused, answer.place, &mut volume);
+            found += &taker.map_or(String::new(), |taker| format!("; its orbit has a value by {taker}"));
+        }
         Err(Refusal::of_record(answer.number, answer.place, found).into())
     }
 
@@ -135,12 +135,13 @@ pub fn line(kind: u32, direction: u32, length: u32, list: &[u8], line: &mut [u32
     accepted(ffi::line(kind, direction, length, list, line, &mut vec![0; SCRATCH]))
 }
 
-/// Whether a record takes a place that another needs: recorded after it in an empty volume, it is refused with 24. Records of which none has
-/// been refused before take no place of each other, so one volume serves to try them all.
-fn takes<'a>(header: &Header, other: &Record, volume: &'a mut [u32]) -> impl FnMut(&Record) -> bool + use<'a> {
+/// The record before a place that has the orbit of the one refused there. With the refused one alone in the volume, the others are recorded in
+/// their turn: they were accepted together, so the first that is refused now is the one.
+fn taker(file: &[u8], header: &Header, refused: &Record, place: u32, volume: &mut [u32]) -> Option<Record> {
     let empty = opened(header, COLLECT, volume).job;
-    let job = ffi::record(empty, other.at, other.a, other.b, volume).job;
-    move |record| ffi::record(job, record.at, record.a, record.b, volume).number == TAKEN
+    let job = ffi::record(empty, refused.at, refused.a, refused.b, volume).job;
+    let mut earlier = (0..place).map(|place| factor_file::record(file, header, place));
+    earlier.find(|record| ffi::record(job, record.at, record.a, record.b, volume).number == TAKEN)
 }
 
 fn opened(header: &Header, kind: u32, volume: &mut [u32]) -> Answer {

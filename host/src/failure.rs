@@ -41,6 +41,7 @@ impl Failure {
             io::ErrorKind::NotFound => "check its name and folder",
             io::ErrorKind::PermissionDenied => "ask for the right to read it",
             io::ErrorKind::IsADirectory => "name a file in it",
+            io::ErrorKind::OutOfMemory => "close other programs",
             _ => "see that it is a whole, readable file",
         };
         Failure::trouble("cannot read", name, error, advice)

@@ -17,15 +17,21 @@ pub enum Entry {
 
 /// Opens a file; a minus sign names standard input.
 pub fn entry(name: &OsStr) -> Result<Entry, Failure> {
-    let source: Box<dyn Read> = match name.to_str() {
-        Some("-") => Box::new(io::stdin()),
-        _ => Box::new(File::open(name).map_err(|error| Failure::unread(name, &error))?),
+    let unread = |error| Failure::unread(name, &error);
+    let (source, length): (Box<dyn Read>, u64) = match name.to_str() {
+        Some("-") => (Box::new(io::stdin()), 0),
+        _ => {
+            let file = File::open(name).map_err(unread)?;
+            let length = file.metadata().map_err(unread)?.len();
+            (Box::new(file), length)
+        }
     };
-    sorted(BufReader::with_capacity(BUFFER, source)).map_err(|error| Failure::unread(name, &error))
+    sorted(BufReader::with_capacity(BUFFER, source), length).map_err(unread)
 }
 
-/// No more is read of a factor file than one byte beyond its count: with that byte it is refused, whatever follows.
-fn sorted(mut source: BufReader<Box<dyn Read>>) -> io::Result<Entry> {
+/// No more is read of a factor file than one byte beyond its count: with that byte it is refused, whatever follows. Where the length is known,
+/// the memory is asked for at once and not by doubling.
+fn sorted(mut source: BufReader<Box<dyn Read>>, length: u64) -> io::Result<Entry> {
     let mut bytes = Vec::new();
     source.by_ref().take(4).read_to_end(&mut bytes)?;
     let Ok(first) = <[u8; 4]>::try_from(bytes.as_slice()) else {
@@ -34,7 +40,9 @@ fn sorted(mut source: BufReader<Box<dyn Read>>) -> io::Result<Entry> {
     if first == map_file::LETTERS {
         return Ok(Entry::Map(Box::new(source)));
     }
-    source.take(u64::from(u32::from_be_bytes(first)) + 1).read_to_end(&mut bytes)?;
+    let count = u64::from(u32::from_be_bytes(first));
+    bytes.try_reserve_exact(length.min(count + 1) as usize)?;
+    source.take(count + 1).read_to_end(&mut bytes)?;
     Ok(Entry::Factors(bytes))
 }
 

@@ -1,24 +1,6 @@
-/* The plain transform of crates/plain, pass by pass, in C: the same tables, the same two passes a step, the same reductions. */
-#include <stdint.h>
-#include <stddef.h>
-
-#define P 86399u
-
-typedef struct { uint32_t re, im; } pair;
-typedef struct { uint64_t re, im; } sums;
-
-static uint32_t table_re[2880], table_im[2880];
-
-static uint64_t whole(uint32_t a, uint32_t b) { return (uint64_t)a * b; }
-
-static pair product(pair a, pair b)
-{
-    pair r = { (whole(a.re, b.re) + whole(a.im, P - b.im)) % P, (whole(a.re, b.im) + whole(a.im, b.re)) % P };
-    return r;
-}
-
-static pair get(const uint32_t *s, size_t j) { pair r = { s[2 * j], s[2 * j + 1] }; return r; }
-static void store(uint32_t *d, size_t j, pair v) { d[2 * j] = v.re; d[2 * j + 1] = v.im; }
+/* The plain transform of crates/plain, pass by pass, in C: the same tables, the same two passes a step, the same reductions. With
+   BUTTERFLIES defined the outer sums are those of butterflies.h. */
+#include "residues.h"
 
 static void twiddle(const uint32_t *re, const uint32_t *im, size_t inner, size_t outer, size_t lines, const uint32_t *line, uint32_t *work)
 {
@@ -35,6 +17,9 @@ static void twiddle(const uint32_t *re, const uint32_t *im, size_t inner, size_t
         }
 }
 
+#ifdef BUTTERFLIES
+#include "butterflies.h"
+#else
 static pair outer_at(const uint32_t *re, const uint32_t *im, size_t outer, size_t turn, size_t first, size_t stride, const uint32_t *work)
 {
     pair x = get(work, first);
@@ -62,6 +47,7 @@ static void outer_sum(const uint32_t *re, const uint32_t *im, size_t inner, size
                 store(line, base + s, outer_at(re, im, outer, c * turn, q * inner + s, stride, work));
         }
 }
+#endif
 
 static void transform(const uint32_t *re, const uint32_t *im, uint32_t factors, size_t n, uint32_t *line, uint32_t *work)
 {
@@ -74,11 +60,4 @@ static void transform(const uint32_t *re, const uint32_t *im, uint32_t factors, 
         inner *= outer;
         factors /= 8;
     }
-}
-
-/* The 2,880 powers of the root. */
-static void make_tables(void)
-{
-    pair x = { 1, 0 }, r = { 125, 48584 };
-    for (int k = 0; k < 2880; k++) { table_re[k] = x.re; table_im[k] = x.im; x = product(x, r); }
 }

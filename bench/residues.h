@@ -16,8 +16,11 @@ static uint32_t table_re[2880], table_im[2880], table_tan[1440];
 
 static uint64_t whole(uint32_t a, uint32_t b) { return (uint64_t)a * b; }
 
-static uint32_t add(uint32_t a, uint32_t b) { uint32_t s = a + b; return s < P ? s : s - P; }
-static uint32_t sub(uint32_t a, uint32_t b) { return b <= a ? a - b : a + (P - b); }
+/* P is added back where the top bit tells that the difference went below zero: no branch, as in the machine code of the proved functions.
+   gcc makes a branch of a conditional expression here, and every second one goes wrong. */
+static uint32_t back_above_zero(uint32_t d) { return d + (P & -(d >> 31)); }
+static uint32_t add(uint32_t a, uint32_t b) { return back_above_zero(a + b - P); }
+static uint32_t sub(uint32_t a, uint32_t b) { return back_above_zero(a - b); }
 static uint32_t neg(uint32_t a) { return a ? P - a : 0; }
 static uint32_t halve(uint32_t a) { return a % 2 ? (a + P) / 2 : a / 2; }
 static uint32_t mul(uint32_t a, uint32_t b) { return whole(a, b) % P; }

@@ -1,5 +1,4 @@
 pub mod Tests
-pub mod Passing
 pub mod VolumeLayout
 pub mod LineReading
 pub mod Reading
@@ -13,6 +12,4 @@ pub mod OperationLaws
 pub mod PlaceLaws
 pub mod Scans
 pub mod ReadingLaws
-pub mod RecordLaws
 pub mod StoredFactors
-pub mod TestLaws

@@ -7,7 +7,7 @@ pub mod lowest; // lowest.rt: the place at which an orbit has its record
 pub mod records; // records.rt: the records of a volume, counted and written
 pub mod header; // header.rt: version, group, lengths and factor lists
 
-use cell::factor_test;
+use consistency::factor_test;
 use job::Job;
 use job::tests;
 use job::valid;

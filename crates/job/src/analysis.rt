@@ -4,7 +4,7 @@ use crate::Answered;
 use crate::Job;
 use crate::tests;
 use crate::valid;
-use cell::map_test;
+use consistency::map_test;
 use line::Checked;
 use line::Refusal;
 ghost use mathlib.Core.Path.{_≡_};

@@ -4,7 +4,7 @@ use crate::Job;
 use crate::OpenAnswer;
 use crate::header;
 use crate::tests;
-use cell::map_test;
+use consistency::map_test;
 use line::Checked;
 use line::Refusal;
 use line::check;

@@ -6,7 +6,6 @@ use crate::Reflection;
 use crate::tests;
 use crate::valid;
 use cell::operations::Index;
-use cell::recording;
 use line::Checked;
 use line::Refusal;
 use numbers::Pair;

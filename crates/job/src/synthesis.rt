@@ -4,7 +4,7 @@ use crate::Answered;
 use crate::Job;
 use crate::tests;
 use crate::valid;
-use cell::factor_test;
+use consistency::factor_test;
 use line::Checked;
 use line::Refusal;
 ghost use mathlib.Core.Path.{_≡_};

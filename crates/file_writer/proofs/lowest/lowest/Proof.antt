@@ -7,8 +7,8 @@ use Rattle.algebra.specs.Cell.{one, full, im}
 use Rattle.algebra.specs.CellTests.{lexLe}
 use Rattle.cell.specs.Volume.{groupOf}
 use Rattle.cell.specs.Operations.{halvesOf, tripleOf, symOf}
-use Rattle.cell.proofs.Passing.{PassingMembers, members-second, members-next, members-stop, members-done}
-use Rattle.cell.proofs.TestLaws.{first-full}
+use Rattle.consistency.proofs.Passing.{PassingMembers, members-second, members-next, members-stop, members-done}
+use Rattle.consistency.proofs.TestLaws.{first-full}
 use Rattle.file_writer.proofs.PlaceOrder.{identity-no-later}
 use Rattle.file_writer.proofs.lowest.lowest.Statement.{statement}
 use Rattle.file_writer.proofs.lowest.lowest.Tie as tie

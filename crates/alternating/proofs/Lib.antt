@@ -1,4 +1,3 @@
-pub mod Line
 pub mod Passes
 pub mod Back
 pub mod Whole

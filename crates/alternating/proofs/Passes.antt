@@ -1,66 +1,23 @@
 -- What the passes of the alternating line's forward transform compute, place by place.
 use mathlib.Core.Path.{_≡_, refl, sym, _∙_, ap, ap₂}
 use mathlib.Core.List.{List}
-use Prim.Native.Nat.{ℕ, zero, suc, _+_, _*_, _-_, _≤_, _<_}
-use native.Mathlib.Numerals.{add-one}
+use Prim.Native.Nat.{ℕ, zero, suc, _*_, _-_, _<_}
 use native.Mathlib.Omega.{arith}
 use lib.ListN.{getD}
-use Rattle.algebra.specs.Ring.{Ops, sum}
-use Rattle.algebra.specs.Residue.{residues}
-use Rattle.algebra.specs.Gauss.{gauss}
-use Rattle.algebra.specs.Line.{re, im, unfoldB3}
-use Rattle.algebra.specs.Folds.{woven, csc, cot, finish3}
-use Rattle.algebra.proofs.ResidueRing.{residue-add}
+use Rattle.algebra.specs.Ring.{Ops}
+use Rattle.algebra.specs.Line.{re, im}
+use Rattle.algebra.specs.Folds.{csc, cot, finish3}
 use Rattle.numbers.specs.declared.Pair.{Pair}
-use Rattle.numbers.specs.Prime.{prime, IsModulus}
+use Rattle.numbers.specs.Prime.{prime}
 use Rattle.numbers.specs.Value.{Residue, Value, field, conj, i, res, real, half, valueOf, pairOf}
 use Rattle.numbers.specs.Value as Value
-use Rattle.numbers.proofs.Primes.{prime-most}
-use Rattle.numbers.proofs.Residues.{res-by, res-val, val-res}
+use Rattle.numbers.proofs.Residues.{res-by, val-res}
 use Rattle.numbers.proofs.Parts.{re-value, im-value}
-use Rattle.numbers.proofs.Values.{pair-path, small-by, value-by}
+use Rattle.numbers.proofs.Values.{pair-path}
 use Rattle.slices.specs.Pairs.{at}
 use Rattle.slices.specs.Values.{valuesOf}
 use Rattle.folds.specs.Frame.{stride, tangent}
 use Rattle.numbers.proofs.RealValues.{real-add, real-neg, real-mul, parts-value}
-
--- ---- forward, before the transform
-
-pub woven-by : (m : ℕ) (X : ℕ → Value m) (t : ℕ) {x y z r : Pair} → x ≡ pairOf (X (2 * t)) → y ≡ pairOf (X (2 * t + 1))
-    → z ≡ pairOf (field m .mul (i m) (valueOf m y)) → r ≡ pairOf (field m .add (valueOf m x) (valueOf m z)) → r ≡ pairOf (woven (field m) (i m) X t)
-unfolding woven
-woven-by m X t ex ey ez er =
-    er ∙ ap pairOf (ap₂ (field m .add) (value-by m _ ex) (value-by m _ ez ∙ ap (field m .mul (i m)) (value-by m _ ey)))
-
--- the sum of the imaginary parts at the odd places: t of them are in s, not reduced
-abbrev imaginary-odd : (m A : ℕ) (line : List ℕ) → ℕ → Value m
-imaginary-odd m A line t = im (field m) (conj m) (i m) (real m (half m)) (unfoldB3 (field m) (conj m) (i m) (real m (half m)) A (valuesOf m line) (2 * t + 1))
-
-imaginary-part : (m : ℕ) (z : Value m) {v : Pair} → v ≡ pairOf z → real m (res m (v .im)) ≡ im (field m) (conj m) (i m) (real m (half m)) z
-unfolding pairOf
-imaginary-part m z e = ap (real m) (ap (λ (w : Pair). res m (w .im)) e ∙ res-val m _) ∙ sym (im-value m z)
-
-pub record OddSum (m A : ℕ) (line : List ℕ) (s t : ℕ) : Type 0 where
-  pub le : t ≤ A
-  pub bound : s ≤ 302399 * t
-  pub sum-is : real m (res m s) ≡ sum (field m) t (imaginary-odd m A line)
-
-module _ {m A : ℕ} {line : List ℕ} where
-  pub odd-sum-start : OddSum m A line 0 0
-  unfolding sum gauss residues
-  odd-sum-start = record { le = omega arith; bound = omega arith; sum-is = refl }
-
-  pub odd-sum-next : {s t : ℕ} {v : Pair} → IsModulus m → OddSum m A line s t → t < A
-      → v ≡ pairOf (unfoldB3 (field m) (conj m) (i m) (real m (half m)) A (valuesOf m line) (2 * t + 1)) → OddSum m A line (s + v .im) (t + 1)
-  unfolding sum
-  odd-sum-next {s} {t} {v} is h l e = record {
-    le = omega arith;
-    bound = omega (arith, h .bound, prime-most is, small-by m _ e .im);
-    sum-is = ap (real m) (residue-add (prime m) s (v .im)) ∙ real-add m _ _ ∙ ap₂ (field m .add) (h .sum-is) (imaginary-part m _ e) ∙ ap (λ n. sum (field m) n (imaginary-odd m A line)) (sym (add-one t));
-  }
-
-  pub odd-sum-done : {s t r : ℕ} → OddSum m A line s t → A ≤ t → r ≡ (res m s) .val → real m (res m r) ≡ sum (field m) A (imaginary-odd m A line)
-  odd-sum-done {s} {t} h l e = ap (real m) (res-by m (res m s) e) ∙ h .sum-is ∙ ap (λ n. sum (field m) n (imaginary-odd m A line)) (omega (arith, h .le))
 
 -- ---- the half tangents
 

@@ -9,11 +9,11 @@
 // sine and its real part E(s) less b(s) times the cosine of the angle of e(s/N). The sine is 0 at s = 0 alone, where b is summed apart.
 use numbers::Pair;
 ghost use mathlib.Core.Path.{_≡_};
-ghost use Prim.Native.Nat.{ℕ, suc, _+_, _*_, _-_, _/_, _<_, _≤_};
+ghost use Prim.Native.Nat.{ℕ, suc, _*_, _-_, _<_};
 ghost use lib.ListN.{length, getD};
-ghost use Rattle.algebra.specs.Ring.{Ops, sum};
-ghost use Rattle.algebra.specs.Line.{im, unfoldB3, packB3};
-ghost use Rattle.algebra.specs.Folds.{mate, woven, csc, cot, finish3, slant, twice-M, line3};
+ghost use Rattle.algebra.specs.Ring.{Ops};
+ghost use Rattle.algebra.specs.Line.{packB3};
+ghost use Rattle.algebra.specs.Folds.{mate, csc, cot, finish3, slant, twice-M, line3};
 ghost use Rattle.algebra.specs.Kinds.{Kind, Kind.alternating, slots, fold-forward, fold-back};
 ghost use Rattle.numbers.specs.Prime.{prime, IsModulus};
 ghost use Rattle.numbers.specs.Value.{field, conj, i, res, real, half, part, pairOf};
@@ -39,8 +39,8 @@ pub fn forward<'a>(
     requires { ⌜ (length (now fold) ≡ 2 * a) × (length (now work) ≡ 2 * a) ⌝ }
     ensures { λ _. ⌜ now (line .exit) ≡ listOf (slots alternating a) (fold-forward (field m) (conj m) (i m) (real m (half m)) a (lineRoot m a (now (re .entry)) (now (im .entry))) (real m (part m (2 * a))) (tangent m a (now (tan .entry))) alternating (valuesOf m (now (line .entry)))) ⌝ }
 {
-    let odd = odd_imaginary_sum(m, a, line);
-    weave(m, a, line, fold);
+    let odd = weaving::odd_imaginary_sum(m, a, line);
+    weaving::weave(m, a, line, fold);
     plain::transform(m, re, im, factors, a, fold, work);
     finish(m, tan, a, odd, fold, line);
 }
@@ -68,78 +68,6 @@ pub fn inverse<'a>(
     slant(m, tan, a, line, fold);
     plain::transform(m, re, im, factors, a, fold, work);
     pack(m, share, twice, a, fold, line);
-}
-
-// The value at place j of the whole line.
-fn value_at(m: u32, a: usize, line: &[u32], j: usize) -> Pair
-    requires { ⌜ IsModulus m × (j < 2 * a) ⌝ }
-    requires { ⌜ (length (now line) ≡ 2 * a) × Below (prime m) (now line) ⌝ }
-    ensures { λ r. ⌜ r ≡ pairOf (unfoldB3 (field m) (conj m) (i m) (real m (half m)) a (valuesOf m (now (line .entry))) j) ⌝ }
-{
-    if j == 0 {
-        // X(0) = conj X(0): the first number of pair 0 is all of it
-        let v = slices::get(line, 0);
-        Pair { re: v.re, im: 0 }
-    } else if j < a {
-        slices::get(line, j)
-    } else if j == a {
-        // X(A) = (-1)^A conj X(A): the second number of pair 0 is its real part for an even A, its imaginary part for an odd A
-        let v = slices::get(line, 0);
-        if a % 2 == 0 {
-            Pair { re: v.im, im: 0 }
-        } else {
-            Pair { re: 0, im: v.im }
-        }
-    } else {
-        // X(j) = (-1)^u conj X(u), u = 2A - j, and u is even where j is
-        let v = numbers::conjugate(m, slices::get(line, 2 * a - j));
-        if j % 2 == 0 {
-            v
-        } else {
-            numbers::negated(m, v)
-        }
-    }
-}
-
-// The short line, before its transform: X(2t) + i X(2t + 1).
-fn weave_at(m: u32, a: usize, line: &[u32], t: usize) -> Pair
-    requires { ⌜ IsModulus m × (t < a) ⌝ }
-    requires { ⌜ (length (now line) ≡ 2 * a) × Below (prime m) (now line) ⌝ }
-    ensures { λ r. ⌜ r ≡ pairOf (woven (field m) (i m) (unfoldB3 (field m) (conj m) (i m) (real m (half m)) a (valuesOf m (now (line .entry)))) t) ⌝ }
-{
-    let even = value_at(m, a, line, 2 * t);
-    let odd = value_at(m, a, line, 2 * t + 1);
-    numbers::sum(m, even, numbers::times_i(m, odd))
-}
-
-fn weave(m: u32, a: usize, line: &[u32], fold: &mut [u32])
-    requires { ⌜ IsModulus m ⌝ }
-    requires { ⌜ (length (now line) ≡ 2 * a) × Below (prime m) (now line) ⌝ }
-    requires { ⌜ length (now fold) ≡ 2 * a ⌝ }
-    ensures { λ _. ⌜ now (fold .exit) ≡ listOf a (woven (field m) (i m) (unfoldB3 (field m) (conj m) (i m) (real m (half m)) a (valuesOf m (now (line .entry))))) ⌝ }
-{
-    let mut t = 0;
-    while t < a {
-        let v = weave_at(m, a, line, t);
-        slices::store(fold, t, v);
-        t += 1;
-    }
-}
-
-// b(0), the sum of the imaginary parts at the odd places: the short transform does not tell it.
-fn odd_imaginary_sum(m: u32, a: usize, line: &[u32]) -> u32
-    requires { ⌜ IsModulus m × (a ≤ 1440) ⌝ }
-    requires { ⌜ (length (now line) ≡ 2 * a) × Below (prime m) (now line) ⌝ }
-    ensures { λ r. ⌜ (r < prime m) × (real m (res m r) ≡ sum (field m) a (λ t. im (field m) (conj m) (i m) (real m (half m)) (unfoldB3 (field m) (conj m) (i m) (real m (half m)) a (valuesOf m (now (line .entry))) (2 * t + 1)))) ⌝ }
-{
-    let mut s: u64 = 0;
-    let mut t = 0;
-    while t < a {
-        let v = value_at(m, a, line, 2 * t + 1);
-        s += v.im as u64;
-        t += 1;
-    }
-    numbers::reduce(m, s)
 }
 
 // tau(s), the half tangent of e(s/N).

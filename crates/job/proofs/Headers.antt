@@ -12,7 +12,7 @@ use Rattle.plain.specs.Factors.{product, octal}
 use Rattle.line.specs.Tests.{first}
 use Rattle.line.specs.Lengths.{admitted, factorsOk}
 use Rattle.line.proofs.Tests.{both, by-true, by-false, Passed, passed}
-use Rattle.line.specs.Accepted.{AdmittedLength, FactorList}
+use Rattle.kinds.specs.Admitted.{AdmittedLength, FactorList}
 use Rattle.line.proofs.Accepted.{admitted-length, factor-list}
 use Rattle.cell.specs.Operations.{halvesOf, Length, Sizes}
 use Rattle.cell.specs.Volume.{groupOf, volumeLength}

@@ -7,7 +7,7 @@ use borrow.Author.Tests.{lt-ltb, le-ltb, ltb-true, eq-eqb, ne-eqb, eqb-true}
 use Rattle.plain.specs.Factors.{octal}
 use Rattle.line.specs.Tests.{first}
 use Rattle.line.specs.Lengths.{factorsOk, octalDigits}
-use Rattle.line.specs.Accepted.{FactorList}
+use Rattle.kinds.specs.Admitted.{FactorList}
 use Rattle.line.proofs.Tests.{by-true, by-false}
 use Rattle.line.proofs.Factors.{octal-digits}
 use Rattle.cell.specs.Operations.{Sizes}

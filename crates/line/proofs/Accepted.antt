@@ -12,14 +12,16 @@ use borrow.Author.Tests.{not-false, leb-false, ltb-false, ltb-true, eqb-true}
 use Rattle.slices.proofs.Bounds.{below-allBelow}
 use Rattle.plain.specs.Factors.{Factored, product, octal}
 use Rattle.plain.proofs.Factoring.{packed, with-two}
+use Rattle.kinds.specs.Transform.{kindOf}
+use Rattle.kinds.specs.Admitted.{AdmittedLength, FactorList}
+use Rattle.kinds.proofs.Counts.{slots-le}
 use Rattle.line.specs.Tests.{first}
 use Rattle.line.specs.Lengths.{admitted, factorsOk}
-use Rattle.line.specs.Line.{kindOf, lineTests}
-use Rattle.line.specs.Accepted.{AdmittedLength, FactorList, Accepted}
+use Rattle.line.specs.Line.{lineTests}
+use Rattle.line.specs.Accepted.{Accepted}
 use Rattle.line.proofs.Tests.{both, Passed, passed}
 use Rattle.line.proofs.Factors.{factors-of, octal-below}
 use Rattle.line.proofs.Divisors.{at-most-eight}
-use Rattle.line.proofs.Counts.{slots-le}
 
 -- ---- the length: N = 2 A and q N = 2,880
 

@@ -1,14 +1,9 @@
 pub mod Tests
 pub mod Factors
 pub mod Divisors
-pub mod Counts
 pub mod Accepted
+pub mod Whole
 pub mod Outcome
 pub mod Specimens
-pub mod Axes
-pub mod Transforms
-pub mod Reading
 pub mod Demands
-pub mod Dispatch
-pub mod Tables
 pub mod TakenBack

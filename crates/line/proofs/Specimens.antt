@@ -17,9 +17,10 @@ use Rattle.numbers.specs.Value.{half, part, valueOf, pairOf}
 use Rattle.numbers.specs.Root.{root}
 use Rattle.slices.specs.Pairs.{at, put, puts, allBelow}
 use Rattle.plain.specs.Factors.{product}
+use Rattle.kinds.specs.Transform.{rootOf, transform, transformed}
 use Rattle.line.specs.Tests.{first}
 use Rattle.line.specs.Lengths.{admitted, factorsOk, scratchLength}
-use Rattle.line.specs.Line.{lineTests, rootOf, transform, transformed, lineStep}
+use Rattle.line.specs.Line.{lineTests, lineStep}
 use Rattle.line.specs.Specimens.{Specimen, specimens, Shown, AllShown, Specimens}
 use Rattle.line.proofs.Tests.{both}
 

@@ -12,9 +12,10 @@ use Rattle.slices.specs.Pairs.{Below}
 use Rattle.slices.specs.Values.{valuesOf}
 use Rattle.slices.proofs.Bounds.{below-allBelow, allBelow-below}
 use Rattle.slices.proofs.Values.{length-list, below-list}
+use Rattle.kinds.specs.Transform.{kindOf, pairCount, transform, transformed}
 use Rattle.line.specs.Tests.{first, accepted}
 use Rattle.line.specs.Lengths.{scratchLength, cleared}
-use Rattle.line.specs.Line.{kindOf, pairCount, transform, transformed, lineTests, LineOutcome, lineStep}
+use Rattle.line.specs.Line.{lineTests, LineOutcome, lineStep}
 use Rattle.line.specs.Demands.{Restored, RestoredAfter, TakenBack}
 use Rattle.line.proofs.Tests.{Passed, passed, pass, none, not-t}
 use Rattle.line.proofs.Demands.{restored, restored-after}

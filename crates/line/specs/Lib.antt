@@ -2,7 +2,6 @@ pub mod Refusals
 pub mod Tests
 pub mod Lengths
 pub mod Line
-pub mod Tables
 pub mod Accepted
 pub mod Specimens
 pub mod Demands

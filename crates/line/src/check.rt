@@ -5,12 +5,12 @@ use crate::Checked;
 use crate::Refusal;
 ghost use mathlib.Core.Path.{_≡_};
 ghost use mathlib.Core.Bool.{true};
-ghost use Prim.Native.Nat.{_≤_, _<_};
+ghost use Prim.Native.Nat.{_≤_};
 ghost use lib.Dec.{eqb};
 ghost use Rattle.line.specs.Tests.{first, checkedNumber};
 ghost use Rattle.plain.specs.Factors.{product, octal};
 ghost use Rattle.line.specs.Lengths.{admitted, isFactor, factorsOk};
-ghost use Rattle.line.specs.Line.{pairCount, lineTests};
+ghost use Rattle.line.specs.Line.{lineTests};
 
 // An even divisor of 2,880.
 pub fn admitted(length: u32) -> bool
@@ -87,20 +87,6 @@ pub fn packed(factors: &[u8]) -> u32
     number
 }
 
-// How many pairs a packed line has.
-pub fn pair_count(kind: u32, length: u32) -> usize
-    requires { ⌜ (kind < 6) × (2 ≤ length) × (length ≤ 2880) ⌝ }
-    ensures { λ r. ⌜ (r ≡ pairCount kind length) × (r ≤ 2880) ⌝ }
-{
-    let half = (length / 2) as usize;
-    match kind {
-        0 => 2 * half,
-        1 | 2 | 3 => half,
-        4 => half + 1,
-        _ => half - 1,
-    }
-}
-
 // The refusals of a line, in the paper's order. Residues are below p; the scratch counts by its length.
 pub fn check_line(
     p: u32,
@@ -128,7 +114,7 @@ pub fn check_line(
     if !has_product(factors, length / 2) {
         return Checked::Failed(Refusal::Product);
     }
-    let pairs = pair_count(kind, length);
+    let pairs = kinds::pair_count(kind, length);
     if line.len() != 2 * pairs {
         return Checked::Failed(Refusal::BufferLength);
     }

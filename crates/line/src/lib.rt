@@ -1,14 +1,14 @@
 // One line of structure factors: the six kinds, both directions.
 pub mod check; // check.rt: the refusals
-pub mod kinds; // kinds.rt: a line of any kind, both directions
 
 ghost use mathlib.Core.Path.{_≡_};
 ghost use lib.ListN.{length as lengthOf, drop};
 ghost use Rattle.numbers.specs.Prime.{prime, IsModulus};
+ghost use Rattle.kinds.specs.Transform.{transformed};
 ghost use Rattle.line.specs.Refusals.{numberOf};
 ghost use Rattle.line.specs.Lengths.{scratchLength};
 ghost use Rattle.line.specs.Accepted.{Accepted};
-ghost use Rattle.line.specs.Line.{transformed, lineStep, lineOutcome};
+ghost use Rattle.line.specs.Line.{lineStep, lineOutcome};
 ghost use Rattle.line.specs.Specimens.{Specimens};
 ghost use Rattle.line.specs.Demands.{ForwardIsSum, BackIsSum, Restored, RestoredAfter, TakenBack};
 

@@ -22,7 +22,7 @@ use Rattle.algebra.proofs.CellPack.{signOf, pow-even}
 use Rattle.numbers.specs.Value.{Value, field, conj, i, half, real}
 use Rattle.numbers.proofs.Residues.{res-ring}
 use Rattle.numbers.proofs.Values.{field-ring, field-star}
-use Rattle.line.proofs.Reading.{forward-cong, back-cong}
+use Rattle.kinds.proofs.Reading.{forward-cong, back-cong}
 use Rattle.cell.specs.Volume.{Admitted, lineKind, firstPair, layers}
 
 module _ {R : Type 0} {𝓞 : Ops R} {conj : R → R} {i : R} (𝓡 : CRing 𝓞) (𝓢 : Star 𝓞 conj i) {half : R} {axis : Axis R} {tau : ℕ → R} (𝓐 : AxisLaws 𝓞 conj i half axis tau) where

@@ -24,13 +24,13 @@ use Rattle.slices.proofs.Pairs.{lt-or-ge, puts-same, puts-ext, tab-cong, is-tab
 use Rattle.slices.proofs.Segments.{at-take, at-append-left, take-fills, drop-fills}
 use Rattle.slices.proofs.Values.{length-list}
 use Rattle.slices.proofs.Bounds.{below-tab, small-at}
-use Rattle.line.specs.Line.{kindOf, pairCount, rootOf, transform, transformed}
-use Rattle.line.specs.Accepted.{AdmittedLength}
-use Rattle.line.specs.Tables.{ForwardTables, BackwardTables}
-use Rattle.line.proofs.Transforms.{half-length}
-use Rattle.line.proofs.Dispatch.{half-positive, half-divides}
-use Rattle.line.proofs.Axes.{own, axis-own}
-use Rattle.line.proofs.Reading.{forward-cong, back-cong}
+use Rattle.kinds.specs.Transform.{kindOf, pairCount, rootOf, transform, transformed}
+use Rattle.kinds.specs.Admitted.{AdmittedLength}
+use Rattle.kinds.specs.Tables.{ForwardTables, BackwardTables}
+use Rattle.kinds.proofs.Transforms.{half-length}
+use Rattle.kinds.proofs.Dispatch.{half-positive, half-divides}
+use Rattle.kinds.proofs.Axes.{own, axis-own}
+use Rattle.kinds.proofs.Reading.{forward-cong, back-cong}
 use Rattle.cell.proofs.LineReading.{by-half}
 use Rattle.cell.specs.Volume.{groupOf, lineKind, firstPair}
 use Rattle.cell.proofs.PlaceLaws.{even-is, odd-is}

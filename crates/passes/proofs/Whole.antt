@@ -13,9 +13,9 @@ use Rattle.numbers.specs.Prime.{prime, IsModulus}
 use Rattle.numbers.specs.Value.{field, conj, i, half, real}
 use Rattle.slices.specs.Pairs.{Below}
 use Rattle.slices.specs.Sweep.{Layout, sweep, onLists}
-use Rattle.line.specs.Line.{rootOf}
-use Rattle.line.specs.Accepted.{AdmittedLength}
-use Rattle.line.proofs.Axes.{own, axis-own}
+use Rattle.kinds.specs.Transform.{rootOf}
+use Rattle.kinds.specs.Admitted.{AdmittedLength}
+use Rattle.kinds.proofs.Axes.{own, axis-own}
 use Rattle.cell.specs.Volume.{groupOf, volumeLength, factorsIn, packFactors, mapIn, packMap}
 use Rattle.cell.specs.Consistency.{consistentFactors, consistentMap}
 use Rattle.cell.specs.Sums.{axis, mapOf, factorsOf}

@@ -7,7 +7,7 @@ ghost use lib.ListN.{length};
 ghost use Rattle.algebra.specs.Kinds.{slots};
 ghost use Rattle.numbers.specs.Prime.{prime};
 ghost use Rattle.slices.specs.Pairs.{Below};
-ghost use Rattle.line.specs.Line.{kindOf};
+ghost use Rattle.kinds.specs.Transform.{kindOf};
 ghost use Rattle.passes.specs.Passes.{Lent, Kept};
 ghost use Rattle.passes.specs.Lines.{Sound, Spaced, TablesFor, turnedPacked, gatheredTurn};
 
@@ -49,7 +49,7 @@ pub fn turn_packed<'a>(
     ensures { λ _. ⌜ now (packed .exit) ≡ turnedPacked line (now (packed .entry)) ⌝ }
 {
     if line.direction == 0 {
-        line::kinds::forward(
+        kinds::forward(
             line.m,
             line.kind,
             re,
@@ -62,7 +62,7 @@ pub fn turn_packed<'a>(
             work,
         );
     } else {
-        line::kinds::inverse(
+        kinds::inverse(
             line.m,
             line.kind,
             re,

@@ -4,8 +4,9 @@ use native.Mathlib.Omega.{arith}
 use mathlib.Core.Path.{_≡_, sym}
 use lib.ListN.{length}
 use Rattle.numbers.proofs.RootPowers.{imaginary-below, tangent-below}
-use Rattle.line.proofs.Dispatch.{prefix-length, rest-of, whole-size, whole-list, whole-count, whole-result}
-use Rattle.line.proofs.Tables.{forward-tables, backward-tables}
+use Rattle.kinds.proofs.Dispatch.{prefix-length}
+use Rattle.kinds.proofs.Tables.{forward-tables, backward-tables}
+use Rattle.line.proofs.Whole.{rest-of, whole-size, whole-list, whole-count, whole-result}
 use Rattle.line.proofs.transform_line.Statement.{statement}
 use Rattle.line.proofs.transform_line.Tie as tie
 

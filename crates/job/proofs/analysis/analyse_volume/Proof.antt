@@ -8,7 +8,7 @@ use lib.ListN.{length, replicate}
 use Rattle.numbers.proofs.Primes.{first-modulus}
 use Rattle.numbers.proofs.RootPowers.{imaginary-below, tangent-below}
 use Rattle.line.specs.Lengths.{cleared}
-use Rattle.line.proofs.Tables.{backward-tables}
+use Rattle.kinds.proofs.Tables.{backward-tables}
 use Rattle.job.proofs.analysis.analyse_volume.Statement.{statement}
 use Rattle.job.proofs.analysis.analyse_volume.Tie as tie
 

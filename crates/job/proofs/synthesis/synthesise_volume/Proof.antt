@@ -7,7 +7,7 @@ use Prim.Native.Nat.{ℕ}
 use lib.ListN.{replicate}
 use Rattle.numbers.specs.Prime.{IsModulus}
 use Rattle.line.specs.Lengths.{cleared}
-use Rattle.line.proofs.Tables.{forward-tables}
+use Rattle.kinds.proofs.Tables.{forward-tables}
 use Rattle.job.proofs.synthesis.synthesise_volume.Statement.{statement}
 use Rattle.job.proofs.synthesis.synthesise_volume.Tie as tie
 

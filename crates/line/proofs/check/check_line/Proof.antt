@@ -4,8 +4,8 @@ use native.Mathlib.Omega.{arith}
 use mathlib.Core.Path.{_≡_, ap}
 use Prim.Native.Nat.{ℕ, _*_}
 use lib.ListN.{length}
-use Rattle.line.specs.Accepted.{AdmittedLength}
-use Rattle.line.specs.Line.{pairCount}
+use Rattle.kinds.specs.Admitted.{AdmittedLength}
+use Rattle.kinds.specs.Transform.{pairCount}
 use Rattle.line.proofs.Tests.{refusals, by-true, by-eq, by-ne}
 use Rattle.line.proofs.Accepted.{admitted-length}
 use Rattle.line.proofs.check.check_line.Statement.{statement}

@@ -6,8 +6,8 @@ use Prim.Native.Nat.{_+_, _*_}
 use lib.ListN.{length}
 use Rattle.slices.specs.Pairs.{at}
 use Rattle.slices.proofs.Pairs.{length-fills}
-use Rattle.line.specs.Line.{kindOf}
-use Rattle.line.proofs.Dispatch.{prefix-length}
+use Rattle.kinds.specs.Transform.{kindOf}
+use Rattle.kinds.proofs.Dispatch.{prefix-length}
 use Rattle.passes.proofs.TurnLaws.{turned-line, kept, below-lent, returned-fits}
 use Rattle.passes.proofs.lines.turn_gathered.Statement.{statement}
 use Rattle.passes.proofs.lines.turn_gathered.Tie as tie

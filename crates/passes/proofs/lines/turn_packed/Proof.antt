@@ -1,7 +1,7 @@
 -- By direction, the line crate's transform.
 use mathlib.Core.Path.{sym, _∙_, ap}
 use Rattle.passes.proofs.TurnLaws.{turned-forward, turned-inverse, forward-tables, inverse-tables, line-length, other-direction}
-use Rattle.line.specs.Line.{kindOf}
+use Rattle.kinds.specs.Transform.{kindOf}
 use Rattle.passes.specs.Passes.{turnedLine}
 use Rattle.passes.proofs.lines.turn_packed.Statement.{statement}
 use Rattle.passes.proofs.lines.turn_packed.Tie as tie

@@ -4,7 +4,7 @@ use native.Mathlib.Omega.{arith}
 use mathlib.Core.Path.{sym, _∙_, ap}
 use Prim.Native.Nat.{_*_}
 use lib.ListN.{length}
-use Rattle.line.proofs.Dispatch.{prefix-length, half-positive}
+use Rattle.kinds.proofs.Dispatch.{prefix-length, half-positive}
 use Rattle.passes.proofs.RowLaws.{length-opened, opened-packed, row-returned, row-whole}
 use Rattle.passes.proofs.rows.turn_row.Statement.{statement}
 use Rattle.passes.proofs.rows.turn_row.Tie as tie

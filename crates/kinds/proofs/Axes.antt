@@ -1,0 +1,145 @@
+-- The laws of every admitted length N = 2 A, where d = 1440 / A: e(1/N) is the power d of the root, and every d-th number of a table of half tangents is one of its own.
+use mathlib.Core.Path.{_≡_, refl, sym, _∙_, ap, subst}
+use mathlib.Core.List.{List, [], _∷_}
+use Prim.Native.Nat.{ℕ, zero, suc, _+_, _*_, _/_, _<_}
+use native.Mathlib.Nat as N
+use native.Mathlib.Omega.{arith}
+use native.Mathlib.Decide.{decLt}
+use Rattle.algebra.specs.Ring.{Ops, pow, cast}
+use Rattle.algebra.specs.Fourier.{Root}
+use Rattle.algebra.specs.Axis.{AxisLaws}
+use Rattle.algebra.proofs.Laws.{pow-add}
+use Rattle.algebra.proofs.Solver.{ring, quote, linear}
+use Rattle.algebra.proofs.StarRules.{quote-star}
+use Rattle.algebra.proofs.Transform.{pow-mul, root-of}
+use Rattle.algebra.proofs.Conj.{conj-pow}
+use Rattle.numbers.specs.Prime.{IsModulus}
+use Rattle.numbers.specs.Value.{Value, field, conj, i, real, half, part}
+use Rattle.numbers.specs.Root.{root, tableRoot, TangentLaws, BackwardTangents}
+use Rattle.numbers.proofs.Values.{field-ring, field-star, conj-real}
+use Rattle.numbers.proofs.Parts.{part-law, half-law}
+use Rattle.numbers.proofs.Roots.{root-of-unity, half-turn}
+use Rattle.folds.specs.Frame.{lineRoot, tangent}
+use Rattle.kinds.specs.Transform.{rootOf, axisOf}
+
+-- the law of a half tangent t of e goes over to the conjugate, whose half tangent is -t
+module _ (m : ℕ) where
+  open Ops (field m) using (add as _⊕_, mul as _⊗_, neg as ⊖_, one as 𝟙)
+
+  infixl 65 _⊕_
+  infixl 70 _⊗_
+  infix 75 ⊖_
+  conj-law : (t e : Value m) → conj m t ≡ t → (𝟙 ⊕ ⊖ (i m ⊗ t)) ⊗ (𝟙 ⊕ e) ≡ 𝟙 ⊕ 𝟙 → (𝟙 ⊕ ⊖ (i m ⊗ ⊖ t)) ⊗ (𝟙 ⊕ conj m e) ≡ 𝟙 ⊕ 𝟙
+  conj-law t e r h =
+      ap (λ y. (𝟙 ⊕ ⊖ (i m ⊗ ⊖ y)) ⊗ (𝟙 ⊕ conj m e)) (sym r)
+      ∙ ring (field-ring m) (i m ∷ conj m t ∷ conj m e ∷ []) (search (quote-star, field-star m) depth 40 fits 9999) refl
+      ∙ ap (conj m) h
+      ∙ ring (field-ring m) [] (search (quote-star, field-star m) depth 40 fits 9999) refl
+
+module _ (m : ℕ) (is : IsModulus m) (A : ℕ) (pos : 0 < A) (divides : A * (1440 / A) ≡ 1440) where
+  open Ops (field m) using (add as _⊕_, mul as _⊗_, neg as ⊖_, one as 𝟙)
+
+  infixl 65 _⊕_
+  infixl 70 _⊗_
+  infix 75 ⊖_
+  abbrev d : ℕ
+  d = 1440 / A
+
+  abbrev w : Value m
+  w = pow (field m) (root m) (1440 / A)
+
+  root-is : rootOf m (2 * A) ≡ w
+  unfolding rootOf
+  root-is = ap (pow (field m) (root m)) (N.div-eq-of-eq-mul-left (omega arith) (omega arith))
+
+  step-pos : 0 < d
+  step-pos = go d divides
+    where
+      go : (d : ℕ) → A * d ≡ 1440 → 0 < d
+      go zero e = absurd (omega arith)
+      go (suc d) e = omega arith
+
+  below : (s : ℕ) → s < A → d * s < 1440
+  below s l = omega (arith, N.mul-lt-mul-of-pos-left l step-pos)
+
+  -- every power of w is one of the root
+  power : (s : ℕ) → pow (field m) (root m) (d * s) ≡ pow (field m) w s
+  power s = pow-mul (field-ring m) (root m) d s
+
+  conj-power : (s : ℕ) → conj m (pow (field m) (conj m (root m)) (d * s)) ≡ pow (field m) w s
+  conj-power s = conj-pow (field-ring m) (field-star m) (conj m (root m)) (d * s) ∙ ap (λ y. pow (field m) y (d * s)) (field-star m .conj-conj (root m)) ∙ power s
+
+  order : Root (field m) (2 * A) w (conj m w) (real m (part m (2 * A)))
+  order = record {
+    inverse = ap (λ y. w ⊗ y) (conj-pow (field-ring m) (field-star m) (root m) d) ∙ u .inverse;
+    cycle = u .cycle;
+    apart = u .apart;
+    part-of = part-law m (2 * A) d (omega arith);
+  }
+    where
+      u : Root (field m) (2 * A) w (pow (field m) (conj m (root m)) d) (real m (part m 2880) ⊗ cast (field m) d)
+      u = root-of (field-ring m) d (2 * A) (root m) (conj m (root m)) (real m (part m 2880)) step-pos (subst (λ n. Root (field m) n (root m) (conj m (root m)) (real m (part m 2880))) (omega arith) (root-of-unity m is))
+
+  turned : pow (field m) w A ≡ ⊖ 𝟙
+  turned = sym (power A) ∙ ap (pow (field m) (root m)) (N.mul-comm d A ∙ divides) ∙ half-turn m is
+
+  -- with any half tangents that keep the law of w's powers
+  abbrev HalfTangents : (ℕ → Value m) → Type 0
+  HalfTangents tau = (s : ℕ) → 0 < s → s < A → (𝟙 ⊕ ⊖ (i m ⊗ tau s)) ⊗ (𝟙 ⊕ pow (field m) w s) ≡ 𝟙 ⊕ 𝟙
+
+  axis-by : (tau : ℕ → Value m) → HalfTangents tau → AxisLaws (field m) (conj m) (i m) (real m (half m)) (axisOf m A) tau
+  axis-by tau h = record {
+    positive = pos;
+    root = rw root-is order;
+    turn = ap (λ y. pow (field m) y A) root-is ∙ turned;
+    halves = half-law m;
+    tan = λ s p l. rw root-is (h s p l);
+  }
+
+  -- The half tangents that w itself gives, for what is said of a length and of no table: 1 + w^s has an inverse, since w^(A + s) - 1 has one.
+  inverse-at : (s : ℕ) → s < A → (v : Value m) × (v ⊗ (pow (field m) w (A + s) ⊕ ⊖ 𝟙) ≡ 𝟙)
+  inverse-at s l = order .apart (A + s) (omega arith) (omega arith)
+
+  own-at : (s : ℕ) → Dec (s < A) → Value m
+  own-at s (yes l) = let v = inverse-at s l .0 in ⊖ (i m ⊗ (𝟙 ⊕ (v ⊕ v)))
+  own-at s (no n) = 𝟙
+
+  own-law : (s : ℕ) → s < A → (h : Dec (s < A)) → (𝟙 ⊕ ⊖ (i m ⊗ own-at s h)) ⊗ (𝟙 ⊕ pow (field m) w s) ≡ 𝟙 ⊕ 𝟙
+  unfolding own-at
+  own-law s l (no n) = absurd (n l)
+  own-law s l (yes h) = step (i m) (inverse-at s h .0) (pow (field m) w s) (pow (field m) w (A + s)) (inverse-at s h .1) (pow-add (field-ring m) w A s ∙ ap (λ y. y ⊗ pow (field m) w s) turned) (field-star m .i-square)
+    where
+      step : (j v e f : Value m) → v ⊗ (f ⊕ ⊖ 𝟙) ≡ 𝟙 → f ≡ ⊖ 𝟙 ⊗ e → j ⊗ j ≡ ⊖ 𝟙 → (𝟙 ⊕ ⊖ (j ⊗ ⊖ (j ⊗ (𝟙 ⊕ (v ⊕ v))))) ⊗ (𝟙 ⊕ e) ≡ 𝟙 ⊕ 𝟙
+      step j v e f a b c =
+          linear (field-ring m) a (𝟙 ⊕ 𝟙)
+          (linear (field-ring m) b (⊖ (v ⊕ v))
+          (linear (field-ring m) c ((𝟙 ⊕ (v ⊕ v)) ⊗ (𝟙 ⊕ e))
+          (ring (field-ring m) (j ∷ v ∷ e ∷ f ∷ []) (search quote depth 40 fits 9999) refl)))
+
+  pub own : ℕ → Value m
+  own s = own-at s (decLt s A)
+
+  pub axis-own : AxisLaws (field m) (conj m) (i m) (real m (half m)) (axisOf m A) own
+  unfolding own
+  axis-own = axis-by own (λ s p l. own-law s l (decLt s A))
+
+  module _ {tan : List ℕ} where
+    pub axis-forward : TangentLaws m tan → AxisLaws (field m) (conj m) (i m) (real m (half m)) (axisOf m A) (tangent m A tan)
+    axis-forward h = axis-by (tangent m A tan) (λ s p l. rw (← power s) (h .law (d * s) (below s l)))
+
+    pub axis-backward : BackwardTangents m tan → AxisLaws (field m) (conj m) (i m) (real m (half m)) (axisOf m A) (λ s. ⊖ tangent m A tan s)
+    axis-backward h =
+        axis-by (λ s. ⊖ tangent m A tan s)
+        (λ s p l. ap (λ y. (𝟙 ⊕ ⊖ (i m ⊗ ⊖ tangent m A tan s)) ⊗ (𝟙 ⊕ y)) (sym (conj-power s)) ∙ conj-law m (tangent m A tan s) _ (conj-real m _) (h .law (d * s) (below s l)))
+
+  module _ (re im : List ℕ) where
+    pub line-root : tableRoot m re im ≡ root m → lineRoot m A re im ≡ rootOf m (2 * A)
+    line-root e = ap (λ y. pow (field m) y d) e ∙ sym root-is
+
+    -- for the lent tables of the conjugate root
+    pub conj-line-root : tableRoot m re im ≡ conj m (root m) → conj m (lineRoot m A re im) ≡ rootOf m (2 * A)
+    conj-line-root e =
+        conj-pow (field-ring m) (field-star m) (tableRoot m re im) d
+        ∙ ap (λ y. pow (field m) (conj m y) d) e
+        ∙ ap (λ y. pow (field m) y d) (field-star m .conj-conj (root m))
+        ∙ sym root-is

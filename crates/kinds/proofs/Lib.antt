@@ -1,0 +1,6 @@
+pub mod Counts
+pub mod Axes
+pub mod Transforms
+pub mod Reading
+pub mod Dispatch
+pub mod Tables

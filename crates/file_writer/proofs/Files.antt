@@ -17,7 +17,7 @@ use Rattle.line.proofs.Tests.{Passed, passed, fails}
 use Rattle.cell.specs.Volume.{volumeLength}
 use Rattle.job.specs.declared.Job.{Job}
 use Rattle.job.specs.Header.{Header, headerOf, axisTests, validJob, groupIn, halves}
-use Rattle.job.proofs.Headers.{all-three}
+use Rattle.refusals.proofs.Headers.{all-three}
 use Rattle.file_writer.specs.declared.WriteAnswer.{WriteAnswer}
 use Rattle.file_writer.specs.declared.WriteAnswer.the-variants.{Refused}
 use Rattle.file_writer.specs.Writing.{bytes, headerBytes, allBytes, body, fileOf, jobRecords, jobFile, written, notWritten, WriteOutcome, writeTests, writeStep, writeOutcome}

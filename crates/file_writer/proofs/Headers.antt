@@ -6,7 +6,7 @@ use native.Mathlib.Omega.{arith}
 use lib.ListN.{length, length-append}
 use Rattle.line.specs.Lengths.{digits, octalDigits}
 use Rattle.job.specs.Header.{Header}
-use Rattle.job.proofs.Digits.{digit-cons}
+use Rattle.refusals.proofs.Digits.{digit-cons}
 use Rattle.file_writer.specs.Writing.{bytes, listBytes, headerBytes}
 use Rattle.file_writer.specs.Steps.{Room, Put}
 use Rattle.file_writer.proofs.Stores.{put-none, put-then, put-as, put-length}

@@ -38,8 +38,8 @@ use Rattle.cell.proofs.Consistency.{pack-cong, consistent-read}
 use Rattle.job.specs.declared.Job.{Job}
 use Rattle.job.specs.Header.{headerOf, axisTests, collecting, jobOf, withState, validJob, groupIn, halves}
 use Rattle.job.specs.Steps.{opened, openTests, volumeTests}
-use Rattle.job.proofs.Headers.{all-three, sound-lists}
-use Rattle.job.proofs.Digits.{octal-of-digits}
+use Rattle.refusals.proofs.Headers.{all-three, sound-lists}
+use Rattle.refusals.proofs.Digits.{octal-of-digits}
 use Rattle.job.proofs.Jobs.{valid-sizes}
 use Rattle.factor_file.specs.declared.FileRecord.{FileRecord}
 use Rattle.factor_file.specs.File.{recordsIn, fileStep}

@@ -9,10 +9,10 @@ pub mod header; // header.rt: version, group, lengths and factor lists
 
 use consistency::factor_test;
 use job::Job;
-use job::tests;
 use job::valid;
 use line::Checked;
 use line::Refusal;
+use refusals::tests;
 ghost use mathlib.Core.Path.{_≡_};
 ghost use mathlib.Core.Bool.{true};
 ghost use Prim.Native.Nat.{_≤_};

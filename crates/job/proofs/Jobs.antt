@@ -3,7 +3,7 @@ use mathlib.Core.Path.{_≡_, sym, ap, subst, _∙_}
 use mathlib.Core.Bool.{Bool, true, false, _&&_, not}
 use Prim.Native.Nat.{ℕ, _≤_, _<_}
 use lib.Dec.{ltb, eqb}
-use borrow.Author.Tests.{lt-ltb, le-ltb, ltb-true, eq-eqb, ne-eqb, eqb-true}
+use borrow.Author.Tests.{lt-ltb, le-ltb, ltb-true, eq-eqb, eqb-true}
 use Rattle.plain.specs.Factors.{octal}
 use Rattle.line.specs.Tests.{first}
 use Rattle.line.specs.Lengths.{factorsOk, octalDigits}
@@ -14,15 +14,8 @@ use Rattle.cell.specs.Operations.{Sizes}
 use Rattle.passes.specs.Passes.{JobSizes}
 use Rattle.job.specs.Header.{Header, axisTests, jobOf, headerOf, validJob}
 use Rattle.job.specs.declared.Job.{Job}
-use Rattle.job.proofs.Headers.{all-three, sound-sizes, sound-axes, sound-lists}
-use Rattle.job.proofs.Digits.{octal-of-digits}
-
--- a number that is not 0 refuses, 0 does not
-pub refused-at : (n m : ℕ) → (n ≡ 0 → ⊥) → n ≡ m → false ≡ eqb m 0
-refused-at n m z e = sym (ne-eqb m 0 (λ q. z (e ∙ q)))
-
-pub accepted-at : (m : ℕ) → 0 ≡ m → true ≡ eqb m 0
-accepted-at m e = sym (eq-eqb m 0 (sym e))
+use Rattle.refusals.proofs.Headers.{all-three, sound-sizes, sound-axes, sound-lists}
+use Rattle.refusals.proofs.Digits.{octal-of-digits}
 
 module _ (j : Job) where
   abbrev headerOk : Bool

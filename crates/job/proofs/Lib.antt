@@ -1,5 +1,3 @@
-pub mod Headers
-pub mod Digits
 pub mod Jobs
 pub mod Openings
 pub mod Points

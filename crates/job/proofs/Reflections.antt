@@ -1,26 +1,22 @@
 -- A structure factor that is read or recorded: what either call answers and leaves, refused or accepted.
-use mathlib.Core.Path.{_≡_, refl, _∙_, ap}
+use mathlib.Core.Path.{_≡_, _∙_, ap}
 use mathlib.Core.List.{List}
 use Prim.Native.Nat.{ℕ}
 use Rattle.numbers.specs.declared.Pair.{Pair}
-use Rattle.numbers.specs.Value.{value, valueOf, pairOf}
+use Rattle.numbers.specs.Value.{valueOf, pairOf}
 use Rattle.line.specs.declared.Refusal.{Refusal}
 use Rattle.line.specs.Refusals.{numberOf}
 use Rattle.line.specs.Tests.{first}
 use Rattle.line.proofs.Tests.{fails, passes}
 use Rattle.cell.specs.Volume.{factorsIn}
 use Rattle.cell.specs.Consistency.{recordOn}
+use Rattle.refusals.proofs.Reflections.{pair-of-numbers}
 use Rattle.job.specs.declared.Job.{Job}
 use Rattle.job.specs.declared.Reflection.{Reflection}
 use Rattle.job.specs.declared.Answer.the-variants.{Done, Refused}
 use Rattle.job.specs.Header.{groupIn, halves}
 use Rattle.job.specs.Steps.{index, factorTests, factorStep, recordTests, recordStep, unchanged, factor, refused, Outcome}
 use Rattle.job.specs.Said.{outcome}
-
--- the value of two numbers is that of their pair
-pub pair-of-numbers : (x y : ℕ) → valueOf 1 (record { re = x; im = y }) ≡ value 1 x y
-unfolding valueOf
-pair-of-numbers x y = refl
 
 module _ (j : Job) (at : Reflection) (v : List ℕ) where
   pub factor-refused : (r : Refusal) → numberOf r ≡ first (factorTests j (index at) v) → refused (numberOf r) ≡ (factorStep j at v) .answer

@@ -29,9 +29,10 @@ use Rattle.cell.proofs.Records.{agrees-iff}
 use Rattle.job.specs.Header.{Header, axisTests, halvesOf, jobOf, collecting}
 use Rattle.job.specs.Steps.{p, within, index, recordTests, recordStep, unchanged}
 use Rattle.job.specs.Specimens.{Specimen, specimens, Shown, AllShown, Specimens}
-use Rattle.job.proofs.Headers.{sound-sizes}
+use Rattle.refusals.proofs.Headers.{sound-sizes}
 use Rattle.job.proofs.Jobs.{opened-valid}
-use Rattle.job.proofs.Openings.{header-passed, opened-collecting}
+use Rattle.refusals.proofs.Openings.{header-passed}
+use Rattle.job.proofs.Openings.{opened-collecting}
 
 -- a test that cannot be true
 is-false : (b : Bool) → (b ≡ true → ⊥) → b ≡ false

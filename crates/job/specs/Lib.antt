@@ -1,4 +1,5 @@
 pub mod Header
 pub mod Steps
 pub mod Said
+pub mod Tables
 pub mod Specimens

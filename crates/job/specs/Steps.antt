@@ -1,25 +1,22 @@
--- The calls of a job: what each answers and what it leaves, for every input, in the paper's order of refusals. The modulus number is 1.
-use mathlib.Core.Bool.{Bool, _&&_, not, cond}
-use mathlib.Core.List.{List, [], _∷_, _++_}
+-- The calls of a job: what each answers and what it leaves, for every input. The tests of each call, in the paper's order of refusals, are those of
+-- crate refusals, put to a job's numbers here.
+pub use Rattle.refusals.specs.Tests.{p, volumeTests, openTests, within, recordTestsOf, synthesisTestsOf, analysisTestsOf, pointTestsOf, factorTestsOf}
+use mathlib.Core.Bool.{Bool, cond}
+use mathlib.Core.List.{List}
 use Prim.Native.Nat.{ℕ}
 use lib.ListN.{length, getD, replicate}
-use lib.Dec.{ltb, leb, eqb}
+use lib.Dec.{eqb}
 use Rattle.algebra.specs.Cell.{J, at}
-use Rattle.numbers.specs.Prime.{prime}
 use Rattle.numbers.specs.Value.{value}
-use Rattle.slices.specs.Pairs.{allBelow}
-use Rattle.line.specs.Tests.{Test, _⇒_, first, accepted}
-use Rattle.line.specs.Lengths.{scratchLength, cleared}
-use Rattle.cell.specs.Volume.{groupOf, volumeLength, factorsIn, packFactors, numbersRead, densityPlace, mapIn, packMap}
-use Rattle.cell.specs.Consistency.{all, recordOn, agreesWithItself, orbitFree, consistentFactors, consistentMap}
+use Rattle.line.specs.Tests.{Test, first, accepted}
+use Rattle.line.specs.Lengths.{cleared}
+use Rattle.cell.specs.Volume.{volumeLength, factorsIn, packFactors, densityPlace, mapIn, packMap}
+use Rattle.cell.specs.Consistency.{recordOn}
 use Rattle.cell.specs.Sums.{mapOf, factorsOf}
 use Rattle.job.specs.declared.Job.{Job}
 use Rattle.job.specs.declared.Reflection.{Reflection}
 use Rattle.job.specs.declared.GridPoint.{GridPoint}
-use Rattle.job.specs.Header.{Header, headerOf, halvesOf, axisTests, collecting, factorsHeld, mapHeld, jobOf, withState, validJob, groupIn, halves}
-
-abbrev pub p : ℕ
-p = prime 1
+use Rattle.job.specs.Header.{Header, headerOf, collecting, factorsHeld, mapHeld, jobOf, withState, validJob, groupIn, halves}
 
 -- What an opening or a file answers: a job, or the refusal's number and the place of the record at fault (0 where it is no record).
 pub data Opening : Type 0 where
@@ -29,21 +26,6 @@ pub data Opening : Type 0 where
 pub record OpenOutcome : Type 0 where
   pub answer : Opening
   pub volume : List ℕ
-
--- The volume that an opening is lent: 6, and for a map (kind 1) 7, 14.
-abbrev pub volumeTests : (group : ℕ) (lengths : J) (kind : ℕ) → List ℕ → List Test
-volumeTests group n kind v =
-    not (eqb (length v) (volumeLength (groupOf group) (halvesOf n))) ⇒ 6 ∷
-    (eqb kind 1 && not (allBelow p v)) ⇒ 7 ∷
-    (eqb kind 1 && not (consistentMap (groupOf group) (halvesOf n) v)) ⇒ 14 ∷
-    []
-
--- Open: 8, 2, then 3, 4, 5 each over the three axes, 9, 6, and for a map 7, 14.
-abbrev pub openTests : Header → (kind : ℕ) → List ℕ → List Test
-openTests h kind v =
-    leb 4 (h .group) ⇒ 8 ∷
-    leb 2 kind ⇒ 2 ∷
-    (axisTests h ++ volumeTests (h .group) (h .lengths) kind v)
 
 unfoldable pub openStep : Header → (kind : ℕ) → List ℕ → OpenOutcome
 openStep h kind v =
@@ -69,10 +51,6 @@ pub record Outcome : Type 0 where
 abbrev pub unchanged : Job → List ℕ → ℕ → Outcome
 unchanged j v n = record { answer = refused n; job = j; volume = v }
 
--- an index or a point has each number below its axis length
-abbrev pub within : (lengths x : J) → Bool
-within n x = ltb (x .0) (n .0) && (ltb (x .1) (n .1) && ltb (x .2) (n .2))
-
 abbrev pub index : Reflection → J
 index at = (at .0, at .1, at .2)
 
@@ -81,18 +59,6 @@ position at = (at .0, at .1, at .2)
 
 abbrev pub fits : Job → List ℕ → Bool
 fits j v = eqb (length v) (volumeLength (groupIn j) (halves j))
-
--- Record: 25, 21, 10, 7, 11, 12, 6, 24.
-abbrev pub recordTestsOf : (valid : Bool) (state group : ℕ) (lengths at : J) (x y : ℕ) → List ℕ → List Test
-recordTestsOf valid state group n at x y v =
-    not valid ⇒ 25 ∷
-    not (eqb state collecting) ⇒ 21 ∷
-    not (within n at) ⇒ 10 ∷ not (ltb x p && ltb y p) ⇒ 7 ∷
-    (eqb x 0 && eqb y 0) ⇒ 11 ∷
-    not (agreesWithItself (groupOf group) (halvesOf n) 1 at (value 1 x y)) ⇒ 12 ∷
-    not (eqb (length v) (volumeLength (groupOf group) (halvesOf n))) ⇒ 6 ∷
-    not (orbitFree (groupOf group) (halvesOf n) v at) ⇒ 24 ∷
-    []
 
 abbrev pub recordTests : Job → J → (x y : ℕ) → List ℕ → List Test
 recordTests j at x y v = recordTestsOf (validJob j) (j .state) (j .group) (headerOf j .lengths) at x y v
@@ -108,17 +74,6 @@ pub record Worked : Type 0 where
   pub outcome : Outcome
   pub scratch : List ℕ
 
--- Synthesis: 25, 23, 6, 13, 7, 14.
-abbrev pub synthesisTestsOf : (valid : Bool) (state group : ℕ) (lengths : J) (v : List ℕ) (scratch : ℕ) → List Test
-synthesisTestsOf valid state group n v scratch =
-    not valid ⇒ 25 ∷
-    eqb state mapHeld ⇒ 23 ∷
-    not (eqb (length v) (volumeLength (groupOf group) (halvesOf n))) ⇒ 6 ∷
-    ltb scratch scratchLength ⇒ 13 ∷
-    not (allBelow p v) ⇒ 7 ∷
-    not (consistentFactors (groupOf group) (halvesOf n) 1 v) ⇒ 14 ∷
-    []
-
 abbrev pub synthesisTests : Job → (v : List ℕ) (scratch : ℕ) → List Test
 synthesisTests j v scratch = synthesisTestsOf (validJob j) (j .state) (j .group) (headerOf j .lengths) v scratch
 
@@ -130,17 +85,6 @@ synthesisStep j v scratch =
     accepted (first (synthesisTests j v (length scratch)))
     (record { outcome = record { answer = done; job = withState j mapHeld; volume = synthesised j v }; scratch = cleared scratch })
     (λ n. record { outcome = unchanged j v n; scratch = scratch })
-
--- Analysis: 25, 22, 6, 13, 7, 14.
-abbrev pub analysisTestsOf : (valid : Bool) (state group : ℕ) (lengths : J) (v : List ℕ) (scratch : ℕ) → List Test
-analysisTestsOf valid state group n v scratch =
-    not valid ⇒ 25 ∷
-    not (eqb state mapHeld) ⇒ 22 ∷
-    not (eqb (length v) (volumeLength (groupOf group) (halvesOf n))) ⇒ 6 ∷
-    ltb scratch scratchLength ⇒ 13 ∷
-    not (allBelow p v) ⇒ 7 ∷
-    not (consistentMap (groupOf group) (halvesOf n) v) ⇒ 14 ∷
-    []
 
 abbrev pub analysisTests : Job → (v : List ℕ) (scratch : ℕ) → List Test
 analysisTests j v scratch = analysisTestsOf (validJob j) (j .state) (j .group) (headerOf j .lengths) v scratch
@@ -154,16 +98,6 @@ analysisStep j v scratch =
     (record { outcome = record { answer = done; job = withState j factorsHeld; volume = analysed j v }; scratch = cleared scratch })
     (λ n. record { outcome = unchanged j v n; scratch = scratch })
 
--- Reading a point: 25, 22, 10, 6, 7 (of the number read only).
-abbrev pub pointTestsOf : (valid : Bool) (state group : ℕ) (lengths x : J) → List ℕ → List Test
-pointTestsOf valid state group n x v =
-    not valid ⇒ 25 ∷
-    not (eqb state mapHeld) ⇒ 22 ∷
-    not (within n x) ⇒ 10 ∷
-    not (eqb (length v) (volumeLength (groupOf group) (halvesOf n))) ⇒ 6 ∷
-    not (ltb (getD v (densityPlace (groupOf group) (halvesOf n) x) 0) p) ⇒ 7 ∷
-    []
-
 abbrev pub pointTests : Job → J → List ℕ → List Test
 pointTests j x v = pointTestsOf (validJob j) (j .state) (j .group) (headerOf j .lengths) x v
 
@@ -172,16 +106,6 @@ pointStep j at v =
     accepted (first (pointTests j (position at) v))
     (record { answer = density (getD v (densityPlace (groupIn j) (halves j) (position at)) 0); job = j; volume = v })
     (unchanged j v)
-
--- Reading a factor: 25, 23, 10, 6, 7 (of the numbers read only).
-abbrev pub factorTestsOf : (valid : Bool) (state group : ℕ) (lengths at : J) → List ℕ → List Test
-factorTestsOf valid state group n at v =
-    not valid ⇒ 25 ∷
-    eqb state mapHeld ⇒ 23 ∷
-    not (within n at) ⇒ 10 ∷
-    not (eqb (length v) (volumeLength (groupOf group) (halvesOf n))) ⇒ 6 ∷
-    not (all (λ q. ltb (getD v q 0) p) (numbersRead (groupOf group) (halvesOf n) at)) ⇒ 7 ∷
-    []
 
 abbrev pub factorTests : Job → J → List ℕ → List Test
 factorTests j at v = factorTestsOf (validJob j) (j .state) (j .group) (headerOf j .lengths) at v

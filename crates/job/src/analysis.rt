@@ -2,97 +2,45 @@
 use crate::Answer;
 use crate::Answered;
 use crate::Job;
-use crate::tests;
+use crate::tables;
 use crate::valid;
-use consistency::map_test;
 use line::Checked;
-use line::Refusal;
 ghost use mathlib.Core.Path.{_≡_};
 ghost use mathlib.Core.Bool.{true};
 ghost use Prim.Native.Nat.{_≤_};
 ghost use lib.ListN.{length};
 ghost use Rattle.numbers.specs.Prime.{prime};
 ghost use Rattle.slices.specs.Pairs.{Below};
-ghost use Rattle.line.specs.Tests.{first, checkedNumber};
 ghost use Rattle.line.specs.Lengths.{cleared};
-ghost use Rattle.cell.specs.Operations.{halvesOf, Sizes};
-ghost use Rattle.cell.specs.Volume.{groupOf, volumeLength, mapIn, packFactors};
+ghost use Rattle.cell.specs.Volume.{volumeLength};
 ghost use Rattle.cell.specs.Consistency.{consistentMap};
-ghost use Rattle.cell.specs.Sums.{factorsOf};
 ghost use Rattle.passes.specs.Passes.{JobSizes};
-ghost use Rattle.job.specs.Steps.{analysisTestsOf, analysisStep};
+ghost use Rattle.job.specs.Header.{groupIn, halves};
+ghost use Rattle.job.specs.Steps.{analysed, analysisStep};
 ghost use Rattle.job.specs.Said.{worked};
 
-// 25, 22, 6, 13, 7, 14.
-fn check_analysis(
-    valid: bool,
-    state: u32,
-    group: u32,
-    n1: u32,
-    n2: u32,
-    n3: u32,
-    volume: &[u32],
-    scratch: usize,
-) -> Checked
-    requires { ⌜ (valid ≡ true → Sizes group n1 n2 n3) ⌝ }
-    ensures { λ r. ⌜ checkedNumber r ≡ first (analysisTestsOf valid state group (n1, n2, n3) (now (volume .entry)) scratch) ⌝ }
-{
-    if !valid {
-        return Checked::Failed(Refusal::ImpossibleJob);
-    }
-    if state != 2 {
-        return Checked::Failed(Refusal::NoMap);
-    }
-    if !tests::fits(group, n1, n2, n3, volume) {
-        return Checked::Failed(Refusal::BufferLength);
-    }
-    if scratch < 11520 {
-        return Checked::Failed(Refusal::ScratchTooShort);
-    }
-    let p = numbers::modulus(1);
-    if !slices::all_below(volume, p) {
-        return Checked::Failed(Refusal::NotResidue);
-    }
-    if !map_test::consistent_map(group, n1, n2, n3, volume) {
-        return Checked::Failed(Refusal::Inconsistent);
-    }
-    Checked::Sound
-}
-
 // The work of an accepted call. The tables are made once, and lent down.
-fn analyse_volume(
-    group: u32,
-    n1: u32,
-    f1: u32,
-    n2: u32,
-    f2: u32,
-    n3: u32,
-    f3: u32,
-    volume: &mut [u32],
-    scratch: &mut [u32],
-)
-    requires { ⌜ JobSizes group n1 n2 n3 f1 f2 f3 ⌝ }
-    requires { ⌜ (length (now volume) ≡ volumeLength (groupOf group) (halvesOf n1 n2 n3)) × Below (prime 1) (now volume) ⌝ }
-    requires { ⌜ consistentMap (groupOf group) (halvesOf n1 n2 n3) (now volume) ≡ true ⌝ }
+fn analyse_volume(job: Job, volume: &mut [u32], scratch: &mut [u32])
+    requires { ⌜ JobSizes (job .group) (job .a .length) (job .b .length) (job .c .length) (job .a .factors) (job .b .factors) (job .c .factors) ⌝ }
+    requires { ⌜ (length (now volume) ≡ volumeLength (groupIn job) (halves job)) × Below (prime 1) (now volume) ⌝ }
+    requires { ⌜ consistentMap (groupIn job) (halves job) (now volume) ≡ true ⌝ }
     requires { ⌜ 11520 ≤ length (now scratch) ⌝ }
-    ensures { λ _. ⌜ (now (volume .exit) ≡ packFactors (groupOf group) (halvesOf n1 n2 n3) 1 (factorsOf 1 (halvesOf n1 n2 n3) (mapIn (groupOf group) (halvesOf n1 n2 n3) 1 (now (volume .entry))))) × (now (scratch .exit) ≡ cleared (now (scratch .entry))) ⌝ }
+    ensures { λ _. ⌜ (now (volume .exit) ≡ analysed job (now (volume .entry))) × (now (scratch .exit) ≡ cleared (now (scratch .entry))) ⌝ }
 {
     let re = roots::real_parts(1);
-    let mut im = roots::imaginary_parts(1);
-    let mut tan = roots::half_tangents(1);
-    numbers::tables::negate(1, &mut im);
-    numbers::tables::negate(1, &mut tan);
+    let im = tables::conjugate_parts();
+    let tan = tables::conjugate_tangents();
     let mut fold = [0u32; 5760];
     let mut work = [0u32; 5760];
     passes::analyse(
         1,
-        group,
-        n1,
-        n2,
-        n3,
-        f1,
-        f2,
-        f3,
+        job.group,
+        job.a.length,
+        job.b.length,
+        job.c.length,
+        job.a.factors,
+        job.b.factors,
+        job.c.factors,
         &re,
         &im,
         &tan,
@@ -109,7 +57,7 @@ impl Job {
     pub fn analysis(mut self, volume: &mut [u32], scratch: &mut [u32]) -> Answered
         ensures { λ r. ⌜ worked r (now (volume .exit)) (now (scratch .exit)) ≡ analysisStep self (now (volume .entry)) (now (scratch .entry)) ⌝ }
     {
-        let checked = check_analysis(
+        let checked = refusals::analysis::check_analysis(
             valid::valid_job(self),
             self.state,
             self.group,
@@ -125,17 +73,7 @@ impl Job {
                 job: self,
             },
             Checked::Sound => {
-                analyse_volume(
-                    self.group,
-                    self.a.length,
-                    self.a.factors,
-                    self.b.length,
-                    self.b.factors,
-                    self.c.length,
-                    self.c.factors,
-                    volume,
-                    scratch,
-                );
+                analyse_volume(self, volume, scratch);
                 self.state = 1;
                 Answered {
                     answer: Answer::Done,

@@ -1,17 +1,16 @@
 // A job collects structure factors and turns them into a map, or a map into factors.
 //
-// The job is handed in and handed back by value at each call, beside the volume that the caller lends. Each call is a check, which
-// answers the first refusal of the paper's order, and then the work. What a caller holds or hands in by value has the layout of C,
+// The job is handed in and handed back by value at each call, beside the volume that the caller lends. Each call is a check of crate
+// refusals, which answers the first refusal of the paper's order, and then the work. What a caller holds or hands in by value has the layout of C,
 // so that crate exported can pass it on.
-pub mod header; // header.rt: the tests of an opening's group, lengths and factor lists
 pub mod valid; // valid.rt: which jobs an opening or a later call could have made
-pub mod tests; // tests.rt: tests that several calls share
 pub mod open; // open.rt: the opening
 pub mod point; // point.rt: the reading of a point
 pub mod factor; // factor.rt: the reading of a structure factor
 pub mod record; // record.rt: the recording of a structure factor
 pub mod synthesis; // synthesis.rt: from factors to the map
 pub mod analysis; // analysis.rt: from the map to its factors
+mod tables; // tables.rt: the tables of the conjugate root, for an analysis
 
 use line::Refusal;
 ghost use Rattle.job.specs.Specimens.{Specimens};

@@ -2,70 +2,17 @@
 use crate::Axis;
 use crate::Job;
 use crate::OpenAnswer;
-use crate::header;
-use crate::tests;
-use consistency::map_test;
 use line::Checked;
-use line::Refusal;
 use line::check;
 ghost use mathlib.Core.Path.{_≡_};
 ghost use mathlib.Core.Bool.{true};
 ghost use Prim.Native.Nat.{_≤_};
 ghost use Rattle.plain.specs.Factors.{product, octal};
-ghost use Rattle.line.specs.Tests.{first, checkedNumber};
+ghost use Rattle.line.specs.Tests.{first};
 ghost use Rattle.line.specs.Lengths.{factorsOk};
-ghost use Rattle.cell.specs.Operations.{Sizes};
 ghost use Rattle.job.specs.Header.{axisTests, jobOf};
-ghost use Rattle.job.specs.Steps.{volumeTests, openTests, openStep};
+ghost use Rattle.job.specs.Steps.{openStep};
 ghost use Rattle.job.specs.Said.{openOutcome};
-
-// 6, and for a map 7, 14.
-fn check_volume(group: u32, kind: u32, n1: u32, n2: u32, n3: u32, volume: &[u32]) -> Checked
-    requires { ⌜ Sizes group n1 n2 n3 ⌝ }
-    ensures { λ r. ⌜ checkedNumber r ≡ first (volumeTests group (n1, n2, n3) kind (now (volume .entry))) ⌝ }
-{
-    if !tests::fits(group, n1, n2, n3, volume) {
-        return Checked::Failed(Refusal::BufferLength);
-    }
-    if kind != 1 {
-        return Checked::Sound;
-    }
-    let p = numbers::modulus(1);
-    if !slices::all_below(volume, p) {
-        return Checked::Failed(Refusal::NotResidue);
-    }
-    if !map_test::consistent_map(group, n1, n2, n3, volume) {
-        return Checked::Failed(Refusal::Inconsistent);
-    }
-    Checked::Sound
-}
-
-// 8, 2, the header's, the volume's.
-fn check_open(
-    group: u32,
-    kind: u32,
-    n1: u32,
-    n2: u32,
-    n3: u32,
-    f1: &[u8],
-    f2: &[u8],
-    f3: &[u8],
-    volume: &[u32],
-) -> Checked
-    ensures { λ r. ⌜ checkedNumber r ≡ first (openTests (record { group = group; lengths = (n1, n2, n3); list1 = now (f1 .entry); list2 = now (f2 .entry); list3 = now (f3 .entry) }) kind (now (volume .entry))) ⌝ }
-{
-    if 4 <= group {
-        return Checked::Failed(Refusal::Group);
-    }
-    if 2 <= kind {
-        return Checked::Failed(Refusal::Direction);
-    }
-    let checked = header::check_header(group, n1, n2, n3, f1, f2, f3);
-    match checked {
-        Checked::Failed(refusal) => Checked::Failed(refusal),
-        Checked::Sound => check_volume(group, kind, n1, n2, n3, volume),
-    }
-}
 
 // An axis of a job: the list goes on as octal digits.
 fn axis(length: u32, factors: &[u8]) -> Axis
@@ -106,7 +53,7 @@ pub fn open(
 ) -> OpenAnswer
     ensures { λ r. ⌜ openOutcome r (now (volume .exit)) ≡ openStep (record { group = group; lengths = (n1, n2, n3); list1 = now (f1 .entry); list2 = now (f2 .entry); list3 = now (f3 .entry) }) kind (now (volume .entry)) ⌝ }
 {
-    let checked = check_open(group, kind, n1, n2, n3, f1, f2, f3, &volume[..]);
+    let checked = refusals::open::check_open(group, kind, n1, n2, n3, f1, f2, f3, &volume[..]);
     match checked {
         Checked::Failed(refusal) => OpenAnswer::Refused(refusal),
         Checked::Sound => {

@@ -17,7 +17,7 @@ use Rattle.cell.proofs.VolumeLayout.{place-inside}
 use Rattle.cell.proofs.StoredFactors.{layers-most, number-place}
 use Rattle.job.specs.declared.Job.{Job}
 use Rattle.job.specs.Header.{groupIn, halves, validJob, headerOf, axisTests}
-use Rattle.job.proofs.Headers.{all-three}
+use Rattle.refusals.proofs.Headers.{all-three}
 use Rattle.job.proofs.Jobs.{valid-sizes}
 use Rattle.map_text.specs.Text.{decimal, blank, lineFeed, each, headLine, rowLine, mapText}
 use Rattle.map_text.specs.Writing.{Printable, Ends}

@@ -20,7 +20,7 @@ use Rattle.job.specs.declared.Answered.{Answered}
 use Rattle.job.specs.Header.{headerOf, axisTests, validJob, withState, mapHeld, groupIn, halves}
 use Rattle.job.specs.Steps.{Said, done, refused, Outcome, Worked, unchanged, synthesisTests, synthesised, synthesisStep}
 use Rattle.job.specs.Said.{said, worked}
-use Rattle.job.proofs.Headers.{all-three}
+use Rattle.refusals.proofs.Headers.{all-three}
 use Rattle.map_text.specs.Text.{mapText, refusalText}
 use Rattle.map_text.specs.Writing.{Printable}
 use Rattle.map_text.specs.Printed.{synthesisText}

@@ -36,8 +36,8 @@ use Rattle.cell.proofs.Consistency.{packed-list}
 use Rattle.cell.proofs.Points.{opened-factors, opened-map}
 use Rattle.job.specs.Header.{Header, halvesOf, headerOf, axisTests, collecting, mapHeld, jobOf, validJob}
 use Rattle.job.specs.Steps.{p, volumeTests, openTests, openStep, opened, notOpened, OpenOutcome}
-use Rattle.job.proofs.Headers.{sound-axes, sound-lists}
-use Rattle.job.proofs.Openings.{header-passed}
+use Rattle.refusals.proofs.Headers.{sound-axes, sound-lists}
+use Rattle.refusals.proofs.Openings.{header-passed}
 use Rattle.model.specs.Model.{Model, modelJob, modelVolume, zeroModel, mapModel, openingModel, beginningTests}
 use Rattle.model.proofs.Sound.{Sound, axis-laws}
 

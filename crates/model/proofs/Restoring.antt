@@ -19,7 +19,7 @@ use Rattle.cell.proofs.Consistency.{consistent-read}
 use Rattle.job.specs.declared.Job.{Job}
 use Rattle.job.specs.Header.{factorsHeld, mapHeld, headerOf, withState, validJob, groupIn, halves}
 use Rattle.job.specs.Steps.{p, done, refused, Outcome, Worked, unchanged, synthesisTests, synthesised, synthesisStep, analysisStep}
-use Rattle.job.proofs.Digits.{octal-of-digits}
+use Rattle.refusals.proofs.Digits.{octal-of-digits}
 use Rattle.job.proofs.Jobs.{valid-job-sizes}
 use Rattle.model.specs.Model.{Model, group, half, analysis, inState, factorVolume, modelVolume, modelJob}
 use Rattle.model.specs.Demands.{AnalysisRestores}

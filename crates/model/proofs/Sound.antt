@@ -42,7 +42,7 @@ use Rattle.cell.proofs.Records.{record-lawful, record-packed}
 use Rattle.cell.proofs.OrbitNumbers.{orbit-free}
 use Rattle.job.specs.Header.{Header, headerOf, axisTests, mapHeld, jobOf, validJob}
 use Rattle.job.specs.Steps.{within}
-use Rattle.job.proofs.Headers.{all-three}
+use Rattle.refusals.proofs.Headers.{all-three}
 use Rattle.job.proofs.Jobs.{valid-job-sizes}
 use Rattle.model.specs.Model.{Model, group, half, factorOf, densityOf, factorVolume, mapVolume, modelVolume, modelJob}
 

@@ -11,7 +11,7 @@ use Rattle.cell.specs.Operations.{Sizes}
 use Rattle.job.specs.Header.{headerOf}
 use Rattle.job.specs.Steps.{index, factorTests, factorTestsOf}
 use Rattle.job.proofs.Jobs.{valid-sizes}
-use Rattle.job.proofs.Points.{within-of}
+use Rattle.refusals.proofs.Points.{within-of}
 use Rattle.job.proofs.Reflections.{factor-refused, factor-read}
 use Rattle.job.proofs.Job.factor.Statement.{statement}
 use Rattle.job.proofs.Job.factor.Tie as tie
@@ -49,7 +49,7 @@ factor-at-requires c κs =
     let a = c .before .before .before .before .before .args in
     let j = a .self in
     let t = clear c .1 .1 in
-    ((first-modulus, sizes c, within-of (j .a .length) (j .b .length) (j .c .length) (a .at .0) (a .at .1) (a .at .2) (not-false _ (t .0))), (eqb-true _ _ (not-false _ (t .1 .0)), not-false _ (t .1 .1 .0)))
+    ((first-modulus, sizes c, within-of (j .a .length) (j .b .length) (j .c .length) (record { h = a .at .0; k = a .at .1; l = a .at .2 }) (not-false _ (t .0))), (eqb-true _ _ (not-false _ (t .1 .0)), not-false _ (t .1 .1 .0)))
 
 returns : tie.Need-returns
 returns c =

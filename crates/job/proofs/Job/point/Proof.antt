@@ -13,8 +13,9 @@ use Rattle.cell.specs.Operations.{Sizes}
 use Rattle.job.specs.Header.{headerOf}
 use Rattle.job.specs.Steps.{position, pointTests, pointTestsOf}
 use Rattle.job.proofs.Jobs.{valid-sizes}
-use Rattle.job.proofs.Headers.{place-small}
-use Rattle.job.proofs.Points.{within-of, point-refused, point-read}
+use Rattle.refusals.proofs.Headers.{place-small}
+use Rattle.refusals.proofs.Points.{within-of}
+use Rattle.job.proofs.Points.{point-refused, point-read}
 use Rattle.job.proofs.Job.point.Statement.{statement}
 use Rattle.job.proofs.Job.point.Tie as tie
 
@@ -54,13 +55,13 @@ density-place-requires : tie.Need-density-place-requires
 density-place-requires c κs =
     let a = c .before .before .before .before .before .args in
     let j = a .self in
-    (sizes c, within-of (j .a .length) (j .b .length) (j .c .length) (a .at .0) (a .at .1) (a .at .2) (not-false _ (clear c .1 .1 .0)))
+    (sizes c, within-of (j .a .length) (j .b .length) (j .c .length) (record { h = a .at .0; k = a .at .1; l = a .at .2 }) (not-false _ (clear c .1 .1 .0)))
 
-mul-t14 : tie.Need-mul-t14
-mul-t14 c = omega (arith, place-small _ (sizes (c .before)) (c .density-place .ensures .1))
+mul-t10 : tie.Need-mul-t10
+mul-t10 c = omega (arith, place-small _ (sizes (c .before)) (c .density-place .ensures .1))
 
-shared-slice-read-t16 : tie.Need-shared-slice-read-t16
-shared-slice-read-t16 c = placed (c .before)
+shared-slice-read-t12 : tie.Need-shared-slice-read-t12
+shared-slice-read-t12 c = placed (c .before)
 
 returns : tie.Need-returns
 returns c =
@@ -83,7 +84,7 @@ point-spec =
     enum-known-checked
     enum-told
     density-place-requires
-    mul-t14
-    shared-slice-read-t16
+    mul-t10
+    shared-slice-read-t12
     returns
     returns-2)

@@ -10,7 +10,7 @@ use Rattle.line.proofs.Tests.{Passed, passed, both}
 use Rattle.job.specs.Header.{headerOf}
 use Rattle.job.specs.Steps.{index, recordTests, recordTestsOf}
 use Rattle.job.proofs.Jobs.{valid-sizes}
-use Rattle.job.proofs.Points.{within-of}
+use Rattle.refusals.proofs.Points.{within-of}
 use Rattle.job.proofs.Reflections.{record-refused, record-written}
 use Rattle.job.proofs.Job.record.Statement.{statement}
 use Rattle.job.proofs.Job.record.Tie as tie
@@ -46,7 +46,7 @@ write-images-requires c κs =
     let j = a .self in
     let t = clear (c .before) in
     let s = both _ _ (not-false _ (t .1 .1 .1 .0)) in
-    ((first-modulus, record { re = ltb-true _ _ (s .0); im = ltb-true _ _ (s .1) }, valid-sizes j (not-false _ (t .0)), within-of (j .a .length) (j .b .length) (j .c .length) (a .at .0) (a .at .1) (a .at .2) (not-false _ (t .1 .1 .0))), eqb-true _ _ (not-false _ (t .1 .1 .1 .1 .1 .1 .0)))
+    ((first-modulus, record { re = ltb-true _ _ (s .0); im = ltb-true _ _ (s .1) }, valid-sizes j (not-false _ (t .0)), within-of (j .a .length) (j .b .length) (j .c .length) (record { h = a .at .0; k = a .at .1; l = a .at .2 }) (not-false _ (t .1 .1 .0))), eqb-true _ _ (not-false _ (t .1 .1 .1 .1 .1 .1 .0)))
 
 same-length : tie.Need-same-length
 same-length c = search needs

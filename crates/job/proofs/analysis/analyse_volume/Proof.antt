@@ -1,44 +1,24 @@
 -- The tables are those of the conjugate root, and the scratch is cleared of what the lines left there.
 use borrow.Author.Needs.{needs}
 use native.Mathlib.Omega.{arith}
-use mathlib.Core.Path.{_≡_, _∙_, ap}
+use mathlib.Core.Path.{_∙_, ap}
 use mathlib.Core.List.{List, _++_}
 use Prim.Native.Nat.{ℕ}
-use lib.ListN.{length, replicate}
+use lib.ListN.{replicate}
 use Rattle.numbers.proofs.Primes.{first-modulus}
-use Rattle.numbers.proofs.RootPowers.{imaginary-below, tangent-below}
 use Rattle.line.specs.Lengths.{cleared}
 use Rattle.kinds.proofs.Tables.{backward-tables}
 use Rattle.job.proofs.analysis.analyse_volume.Statement.{statement}
 use Rattle.job.proofs.analysis.analyse_volume.Tie as tie
 
--- an array lent as a slice has its own length
-imaginary-length : (c : tie.After-im) → length (c .before .before .imaginary-parts .result) ≡ 2880
-imaginary-length c = omega arith
-
-tangent-length : (c : tie.After-tan) → length (c .before .before .before .before .half-tangents .result) ≡ 1440
-tangent-length c = omega arith
-
 real-parts-requires : tie.Need-real-parts-requires
 real-parts-requires c κs = search needs
 
-imaginary-parts-requires : tie.Need-imaginary-parts-requires
-imaginary-parts-requires c κs = search needs
+conjugate-parts-requires : tie.Need-conjugate-parts-requires
+conjugate-parts-requires c κs = search needs
 
-half-tangents-requires : tie.Need-half-tangents-requires
-half-tangents-requires c κs = search needs
-
-slice-aggregate-negate : tie.Need-slice-aggregate-negate
-slice-aggregate-negate c = search needs
-
-negate-requires : tie.Need-negate-requires
-negate-requires c κs = (first-modulus, imaginary-below 1 (c .before .before .imaginary-parts .ensures) (imaginary-length c))
-
-slice-aggregate-negate-2 : tie.Need-slice-aggregate-negate-2
-slice-aggregate-negate-2 c = search needs
-
-negate-requires-2 : tie.Need-negate-requires-2
-negate-requires-2 c κs = (first-modulus, tangent-below 1 (c .before .before .before .before .half-tangents .ensures) (tangent-length c))
+conjugate-tangents-requires : tie.Need-conjugate-tangents-requires
+conjugate-tangents-requires c κs = search needs
 
 slice-aggregate-analyse : tie.Need-slice-aggregate-analyse
 slice-aggregate-analyse c = search needs
@@ -48,17 +28,18 @@ slice-aggregate-analyse-2 c = search needs
 
 analyse-requires : tie.Need-analyse-requires
 analyse-requires c κs =
-    let n = c .before .before .before .before .before .before .before .before in
-    let h = n .before .before .before .before .before in
+    let h = c .before .before .before .before .before .before .before in
+    let p = h .before .conjugate-parts .ensures in
+    let t = h .conjugate-tangents .ensures in
     let s = h .before .before .before .before .before in (
-      (first-modulus, backward-tables first-modulus (h .before .before .real-parts .ensures) (h .before .imaginary-parts .ensures) (h .half-tangents .ensures) (imaginary-length (n .before .before .before .before)) (tangent-length (n .before)) (n .before .before .before .negate .ensures) (n .negate2 .ensures), s .pre .0),
+      (first-modulus, backward-tables first-modulus (h .before .before .real-parts .ensures) (p .table) (t .table) (p .count) (t .count) (p .negated) (t .negated), s .pre .0),
       (s .pre .1 .0, (s .pre .1 .1 .0, record { scratch-fits = s .pre .1 .1 .1; fold-fits = omega arith; work-fits = omega arith })),
     )
 
 clear-requires : tie.Need-clear-requires
 clear-requires c κs =
     let t = c .before .before .before .before in
-    let s = t .before .before .before .before .before .before .before .before .before .before .before .before .before .before .before .before .before .before .before .before .before .before in
+    let s = t .before .before .before .before .before .before .before .before .before .before .before .before .before .before .before .before in
     omega (arith, t .scratch .given, s .pre .1 .1 .1)
 
 same-length : tie.Need-same-length
@@ -79,12 +60,8 @@ analyse-volume-spec =
     tie.close
     (tie.spec
     real-parts-requires
-    imaginary-parts-requires
-    half-tangents-requires
-    slice-aggregate-negate
-    negate-requires
-    slice-aggregate-negate-2
-    negate-requires-2
+    conjugate-parts-requires
+    conjugate-tangents-requires
     slice-aggregate-analyse
     slice-aggregate-analyse-2
     analyse-requires

@@ -5,7 +5,8 @@ use denote.Ref.{now}
 use Rattle.line.specs.Tests.{first, checkedNumber}
 use Rattle.job.specs.Header.{Header}
 use Rattle.job.specs.Steps.{openTests}
-use Rattle.job.proofs.Openings.{header-passed, open-refused, open-collects, open-map}
+use Rattle.refusals.proofs.Openings.{header-passed}
+use Rattle.job.proofs.Openings.{open-refused, open-collects, open-map}
 use Rattle.job.proofs.open.open.Statement.{statement}
 use Rattle.job.proofs.open.open.Tie as tie
 

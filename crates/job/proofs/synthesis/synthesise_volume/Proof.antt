@@ -1,18 +1,15 @@
 -- The tables are those of the root, and the scratch is cleared of what the lines left there.
 use borrow.Author.Needs.{needs}
 use native.Mathlib.Omega.{arith}
-use mathlib.Core.Path.{_≡_, _∙_, ap}
+use mathlib.Core.Path.{_∙_, ap}
 use mathlib.Core.List.{List, _++_}
 use Prim.Native.Nat.{ℕ}
 use lib.ListN.{replicate}
-use Rattle.numbers.specs.Prime.{IsModulus}
+use Rattle.numbers.proofs.Primes.{first-modulus}
 use Rattle.line.specs.Lengths.{cleared}
 use Rattle.kinds.proofs.Tables.{forward-tables}
 use Rattle.job.proofs.synthesis.synthesise_volume.Statement.{statement}
 use Rattle.job.proofs.synthesis.synthesise_volume.Tie as tie
-
-first-modulus : IsModulus 1
-first-modulus = record { low = omega arith; high = omega arith }
 
 real-parts-requires : tie.Need-real-parts-requires
 real-parts-requires c κs = search needs

@@ -1,0 +1,5 @@
+pub mod Headers
+pub mod Digits
+pub mod Openings
+pub mod Points
+pub mod Reflections

@@ -1,0 +1,91 @@
+-- The tests of each call of a job, in the paper's order of refusals, on plain numbers. The modulus number is 1.
+use mathlib.Core.Bool.{Bool, _&&_, not}
+use mathlib.Core.List.{List, [], _∷_, _++_}
+use Prim.Native.Nat.{ℕ}
+use lib.ListN.{length, getD}
+use lib.Dec.{ltb, leb, eqb}
+use Rattle.algebra.specs.Cell.{J}
+use Rattle.numbers.specs.Prime.{prime}
+use Rattle.numbers.specs.Value.{value}
+use Rattle.slices.specs.Pairs.{allBelow}
+use Rattle.line.specs.Tests.{Test, _⇒_}
+use Rattle.line.specs.Lengths.{scratchLength}
+use Rattle.cell.specs.Volume.{groupOf, volumeLength, numbersRead, densityPlace}
+use Rattle.cell.specs.Consistency.{all, agreesWithItself, orbitFree, consistentFactors, consistentMap}
+use Rattle.refusals.specs.Header.{Header, halvesOf, axisTests, collecting, mapHeld}
+
+abbrev pub p : ℕ
+p = prime 1
+
+-- The volume that an opening is lent: 6, and for a map (kind 1) 7, 14.
+abbrev pub volumeTests : (group : ℕ) (lengths : J) (kind : ℕ) → List ℕ → List Test
+volumeTests group n kind v =
+    not (eqb (length v) (volumeLength (groupOf group) (halvesOf n))) ⇒ 6 ∷
+    (eqb kind 1 && not (allBelow p v)) ⇒ 7 ∷
+    (eqb kind 1 && not (consistentMap (groupOf group) (halvesOf n) v)) ⇒ 14 ∷
+    []
+
+-- Open: 8, 2, then 3, 4, 5 each over the three axes, 9, 6, and for a map 7, 14.
+abbrev pub openTests : Header → (kind : ℕ) → List ℕ → List Test
+openTests h kind v =
+    leb 4 (h .group) ⇒ 8 ∷
+    leb 2 kind ⇒ 2 ∷
+    (axisTests h ++ volumeTests (h .group) (h .lengths) kind v)
+
+-- an index or a point has each number below its axis length
+abbrev pub within : (lengths x : J) → Bool
+within n x = ltb (x .0) (n .0) && (ltb (x .1) (n .1) && ltb (x .2) (n .2))
+
+-- Record: 25, 21, 10, 7, 11, 12, 6, 24.
+abbrev pub recordTestsOf : (valid : Bool) (state group : ℕ) (lengths at : J) (x y : ℕ) → List ℕ → List Test
+recordTestsOf valid state group n at x y v =
+    not valid ⇒ 25 ∷
+    not (eqb state collecting) ⇒ 21 ∷
+    not (within n at) ⇒ 10 ∷ not (ltb x p && ltb y p) ⇒ 7 ∷
+    (eqb x 0 && eqb y 0) ⇒ 11 ∷
+    not (agreesWithItself (groupOf group) (halvesOf n) 1 at (value 1 x y)) ⇒ 12 ∷
+    not (eqb (length v) (volumeLength (groupOf group) (halvesOf n))) ⇒ 6 ∷
+    not (orbitFree (groupOf group) (halvesOf n) v at) ⇒ 24 ∷
+    []
+
+-- Synthesis: 25, 23, 6, 13, 7, 14.
+abbrev pub synthesisTestsOf : (valid : Bool) (state group : ℕ) (lengths : J) (v : List ℕ) (scratch : ℕ) → List Test
+synthesisTestsOf valid state group n v scratch =
+    not valid ⇒ 25 ∷
+    eqb state mapHeld ⇒ 23 ∷
+    not (eqb (length v) (volumeLength (groupOf group) (halvesOf n))) ⇒ 6 ∷
+    ltb scratch scratchLength ⇒ 13 ∷
+    not (allBelow p v) ⇒ 7 ∷
+    not (consistentFactors (groupOf group) (halvesOf n) 1 v) ⇒ 14 ∷
+    []
+
+-- Analysis: 25, 22, 6, 13, 7, 14.
+abbrev pub analysisTestsOf : (valid : Bool) (state group : ℕ) (lengths : J) (v : List ℕ) (scratch : ℕ) → List Test
+analysisTestsOf valid state group n v scratch =
+    not valid ⇒ 25 ∷
+    not (eqb state mapHeld) ⇒ 22 ∷
+    not (eqb (length v) (volumeLength (groupOf group) (halvesOf n))) ⇒ 6 ∷
+    ltb scratch scratchLength ⇒ 13 ∷
+    not (allBelow p v) ⇒ 7 ∷
+    not (consistentMap (groupOf group) (halvesOf n) v) ⇒ 14 ∷
+    []
+
+-- Reading a point: 25, 22, 10, 6, 7 (of the number read only).
+abbrev pub pointTestsOf : (valid : Bool) (state group : ℕ) (lengths x : J) → List ℕ → List Test
+pointTestsOf valid state group n x v =
+    not valid ⇒ 25 ∷
+    not (eqb state mapHeld) ⇒ 22 ∷
+    not (within n x) ⇒ 10 ∷
+    not (eqb (length v) (volumeLength (groupOf group) (halvesOf n))) ⇒ 6 ∷
+    not (ltb (getD v (densityPlace (groupOf group) (halvesOf n) x) 0) p) ⇒ 7 ∷
+    []
+
+-- Reading a factor: 25, 23, 10, 6, 7 (of the numbers read only).
+abbrev pub factorTestsOf : (valid : Bool) (state group : ℕ) (lengths at : J) → List ℕ → List Test
+factorTestsOf valid state group n at v =
+    not valid ⇒ 25 ∷
+    eqb state mapHeld ⇒ 23 ∷
+    not (within n at) ⇒ 10 ∷
+    not (eqb (length v) (volumeLength (groupOf group) (halvesOf n))) ⇒ 6 ∷
+    not (all (λ q. ltb (getD v q 0) p) (numbersRead (groupOf group) (halvesOf n) at)) ⇒ 7 ∷
+    []

@@ -1,0 +1,74 @@
+// The tests of a record.
+use crate::tests;
+use cell::operations::Index;
+use line::Checked;
+use line::Refusal;
+use numbers::Pair;
+ghost use mathlib.Core.Path.{_≡_};
+ghost use mathlib.Core.Bool.{true, _&&_};
+ghost use lib.Dec.{ltb, eqb};
+ghost use Rattle.line.specs.Tests.{first, checkedNumber};
+ghost use Rattle.cell.specs.Operations.{tripleOf, Sizes};
+ghost use Rattle.refusals.specs.Tests.{p, recordTestsOf};
+
+// Both numbers of a value are below the prime.
+fn residues(a: u32, b: u32) -> bool
+    ensures { λ r. ⌜ r ≡ (ltb a p && ltb b p) ⌝ }
+{
+    let bound = numbers::modulus(1);
+    if bound <= a {
+        return false;
+    }
+    b < bound
+}
+
+fn both_zero(a: u32, b: u32) -> bool
+    ensures { λ r. ⌜ r ≡ (eqb a 0 && eqb b 0) ⌝ }
+{
+    if a != 0 {
+        return false;
+    }
+    b == 0
+}
+
+// 25, 21, 10, 7, 11, 12, 6, 24.
+pub fn check_record(
+    valid: bool,
+    state: u32,
+    group: u32,
+    n1: u32,
+    n2: u32,
+    n3: u32,
+    at: Index,
+    x: Pair,
+    volume: &[u32],
+) -> Checked
+    requires { ⌜ (valid ≡ true → Sizes group n1 n2 n3) ⌝ }
+    ensures { λ r. ⌜ checkedNumber r ≡ first (recordTestsOf valid state group (n1, n2, n3) (tripleOf at) (x .re) (x .im) (now (volume .entry))) ⌝ }
+{
+    if !valid {
+        return Checked::Failed(Refusal::ImpossibleJob);
+    }
+    if state != 0 {
+        return Checked::Failed(Refusal::NotCollecting);
+    }
+    if !tests::inside(n1, n2, n3, at) {
+        return Checked::Failed(Refusal::Index);
+    }
+    if !residues(x.re, x.im) {
+        return Checked::Failed(Refusal::NotResidue);
+    }
+    if both_zero(x.re, x.im) {
+        return Checked::Failed(Refusal::ZeroValue);
+    }
+    if !recording::agrees(1, group, n1, n2, n3, at, x) {
+        return Checked::Failed(Refusal::Contradiction);
+    }
+    if !tests::fits(group, n1, n2, n3, volume) {
+        return Checked::Failed(Refusal::BufferLength);
+    }
+    if !recording::orbit_free(group, n1, n2, n3, at, volume) {
+        return Checked::Failed(Refusal::Occupied);
+    }
+    Checked::Sound
+}

@@ -1,0 +1,45 @@
+// The tests of a synthesis.
+use crate::tests;
+use consistency::factor_test;
+use line::Checked;
+use line::Refusal;
+ghost use mathlib.Core.Path.{_≡_};
+ghost use mathlib.Core.Bool.{true};
+ghost use Rattle.line.specs.Tests.{first, checkedNumber};
+ghost use Rattle.cell.specs.Operations.{Sizes};
+ghost use Rattle.refusals.specs.Tests.{synthesisTestsOf};
+
+// 25, 23, 6, 13, 7, 14.
+pub fn check_synthesis(
+    valid: bool,
+    state: u32,
+    group: u32,
+    n1: u32,
+    n2: u32,
+    n3: u32,
+    volume: &[u32],
+    scratch: usize,
+) -> Checked
+    requires { ⌜ (valid ≡ true → Sizes group n1 n2 n3) ⌝ }
+    ensures { λ r. ⌜ checkedNumber r ≡ first (synthesisTestsOf valid state group (n1, n2, n3) (now (volume .entry)) scratch) ⌝ }
+{
+    if !valid {
+        return Checked::Failed(Refusal::ImpossibleJob);
+    }
+    if state == 2 {
+        return Checked::Failed(Refusal::NoFactors);
+    }
+    if !tests::fits(group, n1, n2, n3, volume) {
+        return Checked::Failed(Refusal::BufferLength);
+    }
+    if scratch < 11520 {
+        return Checked::Failed(Refusal::ScratchTooShort);
+    }
+    if !tests::all_residues(volume) {
+        return Checked::Failed(Refusal::NotResidue);
+    }
+    if !factor_test::consistent_factors(1, group, n1, n2, n3, volume) {
+        return Checked::Failed(Refusal::Inconsistent);
+    }
+    Checked::Sound
+}

@@ -1,7 +1,6 @@
 #!/usr/bin/env bash
 # Times synthesis and analysis of the proved calls beside the same passes in C at -O3 and FFTW's double transforms, then records and factor
 # files: processor time, the least of three alternating runs, less than two minutes once the library is proved.
-#   butterflies  the C passes take the outer sums of bench/butterflies.h
 #   profile      instead, the shares of the proved functions in a synthesis of P1 at 240^3, by perf
 set -eu
 cd "$(dirname "$0")/.."
@@ -10,7 +9,6 @@ out=$(mktemp -d)
 trap 'rm -rf "$out"' EXIT
 options=()
 libraries=()
-if [[ " $* " = *" butterflies "* ]]; then options+=(-DBUTTERFLIES); fi
 if echo '#include <fftw3.h>
 int main(void) { fftw_cleanup(); return 0; }' | gcc -x c -o "$out/probe" - -lfftw3 -lm 2>/dev/null; then
     options+=(-DFFTW)

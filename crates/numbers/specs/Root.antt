@@ -1,5 +1,6 @@
 -- The root r of order 2,880: how the paper chooses it, what the tables of its powers and half tangents hold, and the laws that the transforms use.
 use mathlib.Core.Path.{_≡_}
+use mathlib.Core.Logic.{_⊎_}
 use mathlib.Core.List.{List}
 use Prim.Native.Nat.{ℕ, _+_, _*_, _-_, _%_, _≤_, _<_}
 use lib.ListN.{length, getD}
@@ -38,12 +39,15 @@ pub record NegatedTable (m n : ℕ) (t u : List ℕ) : Type 0 where
   pub entry : (k : ℕ) → k < n → getD u k 0 ≡ (ring m .neg (res m (getD t k 0))) .val
 
 -- The value at place 1 of two tables, and that they hold its powers: so the tables of r, or of its conjugate, serve one and the same code.
+-- Butterflies need besides that the value is on the unit circle, and which of i and -i is its quarter turn.
 unfoldable pub tableRoot : (m : ℕ) (re im : List ℕ) → Value m
 tableRoot m re im = value m (getD re 1 0) (getD im 1 0)
 
 pub record RootTable (m : ℕ) (re im : List ℕ) : Type 0 where
   pub cycle : pow (field m) (tableRoot m re im) 2880 ≡ field m .one
   pub entry : (k : ℕ) → k < 2880 → entryAt re im k ≡ pairOf (pow (field m) (tableRoot m re im) k)
+  pub circle : field m .mul (tableRoot m re im) (conj m (tableRoot m re im)) ≡ field m .one
+  pub quarter : (pow (field m) (tableRoot m re im) 720 ≡ i m) ⊎ (pow (field m) (tableRoot m re im) 720 ≡ field m .neg (i m))
 
 module _ (m : ℕ) where
   open Ops (field m) using (add as _⊕_, mul as _⊗_, neg as ⊖_, one as 𝟙)

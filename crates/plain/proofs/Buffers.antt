@@ -10,10 +10,9 @@ use Rattle.numbers.specs.Value.{Value, field}
 use Rattle.numbers.proofs.Values.{field-ring}
 use Rattle.slices.proofs.Rows.{row-end}
 use Rattle.slices.proofs.Values.{values-list, list-cong}
-use Rattle.plain.specs.Steps.{e, innerSum, twiddled, outerSum}
-use Rattle.plain.specs.Factors.{Splits}
+use Rattle.butterflies.specs.Steps.{e, innerSum, twiddled, outerSum, Splits}
 use Rattle.slices.specs.Values.{valuesOf, listOf}
-use Rattle.plain.proofs.Sizes.{outer-pos}
+use Rattle.butterflies.proofs.Sizes.{outer-pos}
 use Rattle.plain.proofs.Equation3.{equation-3}
 
 -- ---- the passes read places of the line alone

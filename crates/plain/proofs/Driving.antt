@@ -12,8 +12,8 @@ use Rattle.numbers.specs.Value.{Value, field}
 use Rattle.numbers.proofs.Values.{field-ring}
 use Rattle.slices.specs.Pairs.{Below}
 use Rattle.slices.proofs.Pairs.{length-tab}
-use Rattle.plain.specs.Steps.{innerSum, twiddled}
-use Rattle.plain.specs.Factors.{Factored, Splits}
+use Rattle.butterflies.specs.Steps.{innerSum, twiddled, Splits}
+use Rattle.plain.specs.Factors.{Factored}
 use Rattle.slices.specs.Values.{valuesOf, listOf}
 use Rattle.plain.specs.Buffers.{WorkLeft, untouched, last-step}
 use Rattle.plain.proofs.Equation3.{inner-start, inner-end}

@@ -5,8 +5,9 @@ use mathlib.Core.List.{List, [], _∷_}
 use Prim.Native.Nat.{ℕ, _+_, _*_, _/_, _%_, _≤_, _<_}
 use native.Mathlib.Nat as N
 use native.Mathlib.Omega.{arith}
-use Rattle.plain.specs.Factors.{Factored, done, more, octal, product, Factors, none, one, Splits}
-use Rattle.plain.proofs.Sizes.{divisor-pos}
+use Rattle.butterflies.specs.Steps.{Splits}
+use Rattle.plain.specs.Factors.{Factored, done, more, octal, product, Factors, none, one}
+use Rattle.butterflies.proofs.Sizes.{divisor-pos}
 
 -- a list of factors packs to a number that is factored by their product
 pub packed : {l : List ℕ} → Factors l → Factored (octal l) (product l)

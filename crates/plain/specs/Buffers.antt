@@ -4,7 +4,7 @@ use mathlib.Core.List.{List}
 use Prim.Native.Nat.{ℕ, _*_}
 use Rattle.numbers.specs.Value.{Value, field}
 use Rattle.slices.specs.Values.{listOf}
-use Rattle.plain.specs.Steps.{innerSum, twiddled}
+use Rattle.butterflies.specs.Steps.{innerSum, twiddled}
 
 -- What the work slice, which held `before`, holds once the inner sums of the line X have the length A, with M lines: nothing is changed where no step was done,
 -- else it has the second pass of the last step, whose inner length and factor have the product A.

@@ -1,7 +1,6 @@
 -- Factor lists: the factors of a length, 2 to 5 each, packed as octal digits with the first factor lowest.
 use mathlib.Core.List.{List, [], _∷_}
-use Prim.Native.Nat.{ℕ, _+_, _*_, _/_, _≤_, _<_}
-use mathlib.Core.Path.{_≡_}
+use Prim.Native.Nat.{ℕ, _+_, _*_, _≤_}
 
 -- the packed list, and the product of its factors
 pub data Factored : ℕ → ℕ → Type 0 where
@@ -21,11 +20,3 @@ product (f ∷ l) = f * product l
 pub data Factors : List ℕ → Type 0 where
   none : Factors []
   one : {f : ℕ} {l : List ℕ} → 2 ≤ f → f ≤ 5 → Factors l → Factors (f ∷ l)
-
--- What one step needs of its numbers: the inner length A, the factor B of this step and the count M of the lines, whose product divides 2,880.
-pub record Splits (A B M : ℕ) : Type 0 where
-  pub inner : 0 < A
-  pub low : 2 ≤ B
-  pub high : B ≤ 5
-  pub lines : 0 < M
-  pub divides : A * B * M * (2880 / (A * B * M)) ≡ 2880

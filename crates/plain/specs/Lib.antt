@@ -1,3 +1,2 @@
-pub mod Steps
 pub mod Factors
 pub mod Buffers

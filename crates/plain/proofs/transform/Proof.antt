@@ -3,7 +3,7 @@ use mathlib.Core.Path.{sym, ap, _∙_}
 use Prim.Native.Nat.{_*_}
 use native.Mathlib.Omega.{arith}
 use Rattle.numbers.specs.Root.{tableRoot}
-use Rattle.plain.proofs.Sizes.{product-le}
+use Rattle.butterflies.proofs.Sizes.{product-le}
 use Rattle.plain.proofs.Driving.{Driving, driving-start, driving-below, driving-long, driving-line, driving-work, driving-splits, driving-length, driving-next}
 use Rattle.plain.proofs.transform.Statement.{statement}
 use Rattle.plain.proofs.transform.Tie as tie

@@ -1,0 +1,10 @@
+pub mod Sizes
+pub mod Rowing
+pub mod Passes
+pub mod OuterSums
+pub mod Unreduced
+pub mod Turns
+pub mod Cases
+pub mod Butterflies
+pub mod Spreading
+pub mod Passing

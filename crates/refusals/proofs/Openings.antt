@@ -1,5 +1,5 @@
 -- The tests of an opening in their order.
-use mathlib.Core.Path.{_≡_, ap}
+use mathlib.Core.Path.{_≡_, _∙_, sym, ap}
 use mathlib.Core.Bool.{Bool, true, false, _&&_, not, cond}
 use mathlib.Core.List.{List, [], _∷_, _++_}
 use Prim.Native.Nat.{ℕ, _<_}
@@ -11,12 +11,12 @@ use Rattle.algebra.specs.Cell.{J}
 use Rattle.slices.specs.Pairs.{allBelow}
 use Rattle.line.specs.declared.Refusal.{Refusal}
 use Rattle.line.specs.Refusals.{numberOf}
-use Rattle.line.specs.Tests.{Test, first}
-use Rattle.line.proofs.Tests.{stop, pass, none, not-t, passed, fails}
+use Rattle.line.specs.Tests.{Test, _⇒_, first}
+use Rattle.line.proofs.Tests.{pass, none, not-t, passed, fails}
 use Rattle.cell.specs.Volume.{groupOf, volumeLength}
 use Rattle.cell.specs.Consistency.{consistentMap}
 use Rattle.refusals.specs.Header.{Header, halvesOf, axisTests}
-use Rattle.refusals.specs.Tests.{p, volumeTests, openTests}
+use Rattle.refusals.specs.Tests.{p, volumeTests, mapTests, openTests}
 
 -- ---- no refusal has the number 0
 
@@ -39,9 +39,6 @@ append-stop n (t ∷ ts) us z e = append-one (t .fails) n (t .number) (first ts)
 skipped : (kind : ℕ) (b : Bool) → (kind ≡ 1 → ⊥) → (eqb kind 1 && b) ≡ false
 skipped kind b h = ap (λ (x : Bool). x && b) (ne-eqb kind 1 h)
 
-asked : (kind : ℕ) (b c : Bool) → kind ≡ 1 → b ≡ c → (eqb kind 1 && not b) ≡ not c
-asked kind b c h e = let x = eq-eqb kind 1 h in λ i. x i && not (e i)
-
 module _ (group : ℕ) (n : J) (kind : ℕ) (v : List ℕ) (fit : eqb (length v) (volumeLength (groupOf group) (halvesOf n)) ≡ true) where
   abbrev below : Bool
   below = allBelow p v
@@ -52,14 +49,9 @@ module _ (group : ℕ) (n : J) (kind : ℕ) (v : List ℕ) (fit : eqb (length v)
   pub volume-collects : (kind ≡ 1 → ⊥) → 0 ≡ first (volumeTests group n kind v)
   volume-collects k = pass 6 _ (not-t _ fit) (pass 7 _ (skipped kind (not below) k) (pass 14 _ (skipped kind (not consistent) k) none))
 
-  pub volume-not-residues : kind ≡ 1 → below ≡ false → 7 ≡ first (volumeTests group n kind v)
-  volume-not-residues k b = pass 6 _ (not-t _ fit) (stop _ (asked kind below false k b))
-
-  pub volume-inconsistent : kind ≡ 1 → below ≡ true → consistent ≡ false → 14 ≡ first (volumeTests group n kind v)
-  volume-inconsistent k b c = pass 6 _ (not-t _ fit) (pass 7 _ (asked kind below true k b) (stop _ (asked kind consistent false k c)))
-
-  pub volume-is-map : kind ≡ 1 → below ≡ true → consistent ≡ true → 0 ≡ first (volumeTests group n kind v)
-  volume-is-map k b c = pass 6 _ (not-t _ fit) (pass 7 _ (asked kind below true k b) (pass 14 _ (asked kind consistent true k c) none))
+  -- a map is put to the tests of a map
+  pub volume-held : {m : ℕ} → kind ≡ 1 → m ≡ first (mapTests group n v) → m ≡ first (volumeTests group n kind v)
+  volume-held k e = pass 6 _ (not-t _ fit) (e ∙ ap (λ (b : Bool). first ((b && not below) ⇒ 7 ∷ (b && not consistent) ⇒ 14 ∷ [])) (sym (eq-eqb kind 1 k)))
 
 -- ---- all tests of an opening
 

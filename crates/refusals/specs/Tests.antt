@@ -36,6 +36,14 @@ openTests h kind v =
 abbrev pub within : (lengths x : J) → Bool
 within n x = ltb (x .0) (n .0) && (ltb (x .1) (n .1) && ltb (x .2) (n .2))
 
+-- What a value implies at the images of its index: 12, 6, 24.
+abbrev pub orbitTests : (group : ℕ) (lengths at : J) (x y : ℕ) → List ℕ → List Test
+orbitTests group n at x y v =
+    not (agreesWithItself (groupOf group) (halvesOf n) 1 at (value 1 x y)) ⇒ 12 ∷
+    not (eqb (length v) (volumeLength (groupOf group) (halvesOf n))) ⇒ 6 ∷
+    not (orbitFree (groupOf group) (halvesOf n) v at) ⇒ 24 ∷
+    []
+
 -- Record: 25, 21, 10, 7, 11, 12, 6, 24.
 abbrev pub recordTestsOf : (valid : Bool) (state group : ℕ) (lengths at : J) (x y : ℕ) → List ℕ → List Test
 recordTestsOf valid state group n at x y v =
@@ -43,9 +51,19 @@ recordTestsOf valid state group n at x y v =
     not (eqb state collecting) ⇒ 21 ∷
     not (within n at) ⇒ 10 ∷ not (ltb x p && ltb y p) ⇒ 7 ∷
     (eqb x 0 && eqb y 0) ⇒ 11 ∷
-    not (agreesWithItself (groupOf group) (halvesOf n) 1 at (value 1 x y)) ⇒ 12 ∷
-    not (eqb (length v) (volumeLength (groupOf group) (halvesOf n))) ⇒ 6 ∷
-    not (orbitFree (groupOf group) (halvesOf n) v at) ⇒ 24 ∷
+    orbitTests group n at x y v
+
+-- A volume that is held as factors, as a map: 7, 14.
+abbrev pub factorsTests : (group : ℕ) (lengths : J) → List ℕ → List Test
+factorsTests group n v =
+    not (allBelow p v) ⇒ 7 ∷
+    not (consistentFactors (groupOf group) (halvesOf n) 1 v) ⇒ 14 ∷
+    []
+
+abbrev pub mapTests : (group : ℕ) (lengths : J) → List ℕ → List Test
+mapTests group n v =
+    not (allBelow p v) ⇒ 7 ∷
+    not (consistentMap (groupOf group) (halvesOf n) v) ⇒ 14 ∷
     []
 
 -- Synthesis: 25, 23, 6, 13, 7, 14.
@@ -55,9 +73,7 @@ synthesisTestsOf valid state group n v scratch =
     eqb state mapHeld ⇒ 23 ∷
     not (eqb (length v) (volumeLength (groupOf group) (halvesOf n))) ⇒ 6 ∷
     ltb scratch scratchLength ⇒ 13 ∷
-    not (allBelow p v) ⇒ 7 ∷
-    not (consistentFactors (groupOf group) (halvesOf n) 1 v) ⇒ 14 ∷
-    []
+    factorsTests group n v
 
 -- Analysis: 25, 22, 6, 13, 7, 14.
 abbrev pub analysisTestsOf : (valid : Bool) (state group : ℕ) (lengths : J) (v : List ℕ) (scratch : ℕ) → List Test
@@ -66,8 +82,13 @@ analysisTestsOf valid state group n v scratch =
     not (eqb state mapHeld) ⇒ 22 ∷
     not (eqb (length v) (volumeLength (groupOf group) (halvesOf n))) ⇒ 6 ∷
     ltb scratch scratchLength ⇒ 13 ∷
-    not (allBelow p v) ⇒ 7 ∷
-    not (consistentMap (groupOf group) (halvesOf n) v) ⇒ 14 ∷
+    mapTests group n v
+
+-- The number of a point: 6, 7.
+abbrev pub densityTests : (group : ℕ) (lengths x : J) → List ℕ → List Test
+densityTests group n x v =
+    not (eqb (length v) (volumeLength (groupOf group) (halvesOf n))) ⇒ 6 ∷
+    not (ltb (getD v (densityPlace (groupOf group) (halvesOf n) x) 0) p) ⇒ 7 ∷
     []
 
 -- Reading a point: 25, 22, 10, 6, 7 (of the number read only).
@@ -76,8 +97,13 @@ pointTestsOf valid state group n x v =
     not valid ⇒ 25 ∷
     not (eqb state mapHeld) ⇒ 22 ∷
     not (within n x) ⇒ 10 ∷
+    densityTests group n x v
+
+-- The numbers that a factor is read from: 6, 7.
+abbrev pub storedTests : (group : ℕ) (lengths at : J) → List ℕ → List Test
+storedTests group n at v =
     not (eqb (length v) (volumeLength (groupOf group) (halvesOf n))) ⇒ 6 ∷
-    not (ltb (getD v (densityPlace (groupOf group) (halvesOf n) x) 0) p) ⇒ 7 ∷
+    not (all (λ q. ltb (getD v q 0) p) (numbersRead (groupOf group) (halvesOf n) at)) ⇒ 7 ∷
     []
 
 -- Reading a factor: 25, 23, 10, 6, 7 (of the numbers read only).
@@ -86,6 +112,4 @@ factorTestsOf valid state group n at v =
     not valid ⇒ 25 ∷
     eqb state mapHeld ⇒ 23 ∷
     not (within n at) ⇒ 10 ∷
-    not (eqb (length v) (volumeLength (groupOf group) (halvesOf n))) ⇒ 6 ∷
-    not (all (λ q. ltb (getD v q 0) p) (numbersRead (groupOf group) (halvesOf n) at)) ⇒ 7 ∷
-    []
+    storedTests group n at v

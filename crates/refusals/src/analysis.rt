@@ -1,6 +1,5 @@
 // The tests of an analysis.
 use crate::tests;
-use consistency::map_test;
 use line::Checked;
 use line::Refusal;
 ghost use mathlib.Core.Path.{_≡_};
@@ -9,7 +8,7 @@ ghost use Rattle.line.specs.Tests.{first, checkedNumber};
 ghost use Rattle.cell.specs.Operations.{Sizes};
 ghost use Rattle.refusals.specs.Tests.{analysisTestsOf};
 
-// 25, 22, 6, 13, 7, 14.
+// 25, 22, 6, 13, then the map's.
 pub fn check_analysis(
     valid: bool,
     state: u32,
@@ -35,11 +34,5 @@ pub fn check_analysis(
     if scratch < 11520 {
         return Checked::Failed(Refusal::ScratchTooShort);
     }
-    if !tests::all_residues(volume) {
-        return Checked::Failed(Refusal::NotResidue);
-    }
-    if !map_test::consistent_map(group, n1, n2, n3, volume) {
-        return Checked::Failed(Refusal::Inconsistent);
-    }
-    Checked::Sound
+    tests::check_map(group, n1, n2, n3, volume)
 }

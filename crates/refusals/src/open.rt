@@ -1,7 +1,6 @@
 // The tests of an opening.
 use crate::header;
 use crate::tests;
-use consistency::map_test;
 use line::Checked;
 use line::Refusal;
 ghost use mathlib.Core.Path.{_≡_};
@@ -20,13 +19,7 @@ fn check_volume(group: u32, kind: u32, n1: u32, n2: u32, n3: u32, volume: &[u32]
     if kind != 1 {
         return Checked::Sound;
     }
-    if !tests::all_residues(volume) {
-        return Checked::Failed(Refusal::NotResidue);
-    }
-    if !map_test::consistent_map(group, n1, n2, n3, volume) {
-        return Checked::Failed(Refusal::Inconsistent);
-    }
-    Checked::Sound
+    tests::check_map(group, n1, n2, n3, volume)
 }
 
 // 8, 2, the header's, the volume's.

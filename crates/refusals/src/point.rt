@@ -7,10 +7,26 @@ use line::Refusal;
 ghost use mathlib.Core.Path.{_≡_};
 ghost use mathlib.Core.Bool.{true};
 ghost use Rattle.line.specs.Tests.{first, checkedNumber};
-ghost use Rattle.cell.specs.Operations.{tripleOf, Sizes};
-ghost use Rattle.refusals.specs.Tests.{pointTestsOf};
+ghost use Rattle.cell.specs.Operations.{tripleOf, Sizes, Within};
+ghost use Rattle.refusals.specs.Tests.{densityTests, pointTestsOf};
 
-// 25, 22, 10, 6, 7.
+// 6, 7: the number of the point.
+fn check_density(group: u32, n1: u32, n2: u32, n3: u32, at: Index, volume: &[u32]) -> Checked
+    requires { ⌜ Sizes group n1 n2 n3 × Within n1 n2 n3 at ⌝ }
+    ensures { λ r. ⌜ checkedNumber r ≡ first (densityTests group (n1, n2, n3) (tripleOf at) (now (volume .entry))) ⌝ }
+{
+    if !tests::fits(group, n1, n2, n3, volume) {
+        return Checked::Failed(Refusal::BufferLength);
+    }
+    let p = numbers::modulus(1);
+    let place = places::density_place(group, n1, n2, n3, at);
+    if p <= volume[place] {
+        return Checked::Failed(Refusal::NotResidue);
+    }
+    Checked::Sound
+}
+
+// 25, 22, 10, then the number's.
 pub fn check_point(
     valid: bool,
     state: u32,
@@ -33,13 +49,5 @@ pub fn check_point(
     if !tests::inside(n1, n2, n3, at) {
         return Checked::Failed(Refusal::Index);
     }
-    if !tests::fits(group, n1, n2, n3, volume) {
-        return Checked::Failed(Refusal::BufferLength);
-    }
-    let p = numbers::modulus(1);
-    let place = places::density_place(group, n1, n2, n3, at);
-    if p <= volume[place] {
-        return Checked::Failed(Refusal::NotResidue);
-    }
-    Checked::Sound
+    check_density(group, n1, n2, n3, at, volume)
 }

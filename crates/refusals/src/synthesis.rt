@@ -5,11 +5,27 @@ use line::Checked;
 use line::Refusal;
 ghost use mathlib.Core.Path.{_≡_};
 ghost use mathlib.Core.Bool.{true};
+ghost use lib.ListN.{length};
 ghost use Rattle.line.specs.Tests.{first, checkedNumber};
-ghost use Rattle.cell.specs.Operations.{Sizes};
-ghost use Rattle.refusals.specs.Tests.{synthesisTestsOf};
+ghost use Rattle.cell.specs.Operations.{halvesOf, Sizes};
+ghost use Rattle.cell.specs.Volume.{groupOf, volumeLength};
+ghost use Rattle.refusals.specs.Tests.{factorsTests, synthesisTestsOf};
 
-// 25, 23, 6, 13, 7, 14.
+// 7, 14: a volume of the right length is held as factors.
+fn check_factors(group: u32, n1: u32, n2: u32, n3: u32, volume: &[u32]) -> Checked
+    requires { ⌜ Sizes group n1 n2 n3 × (length (now volume) ≡ volumeLength (groupOf group) (halvesOf n1 n2 n3)) ⌝ }
+    ensures { λ r. ⌜ checkedNumber r ≡ first (factorsTests group (n1, n2, n3) (now (volume .entry))) ⌝ }
+{
+    if !tests::all_residues(volume) {
+        return Checked::Failed(Refusal::NotResidue);
+    }
+    if !factor_test::consistent_factors(1, group, n1, n2, n3, volume) {
+        return Checked::Failed(Refusal::Inconsistent);
+    }
+    Checked::Sound
+}
+
+// 25, 23, 6, 13, then the factors'.
 pub fn check_synthesis(
     valid: bool,
     state: u32,
@@ -35,11 +51,5 @@ pub fn check_synthesis(
     if scratch < 11520 {
         return Checked::Failed(Refusal::ScratchTooShort);
     }
-    if !tests::all_residues(volume) {
-        return Checked::Failed(Refusal::NotResidue);
-    }
-    if !factor_test::consistent_factors(1, group, n1, n2, n3, volume) {
-        return Checked::Failed(Refusal::Inconsistent);
-    }
-    Checked::Sound
+    check_factors(group, n1, n2, n3, volume)
 }

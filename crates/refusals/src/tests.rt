@@ -1,13 +1,17 @@
 // Tests that several calls share.
 use crate::header;
+use consistency::map_test;
 use cell::operations::Index;
+use line::Checked;
+use line::Refusal;
 ghost use mathlib.Core.Path.{_≡_};
 ghost use lib.Dec.{eqb};
 ghost use lib.ListN.{length};
 ghost use Rattle.slices.specs.Pairs.{allBelow};
+ghost use Rattle.line.specs.Tests.{first, checkedNumber};
 ghost use Rattle.cell.specs.Operations.{halvesOf, tripleOf, Sizes};
 ghost use Rattle.cell.specs.Volume.{groupOf, volumeLength};
-ghost use Rattle.refusals.specs.Tests.{p, within};
+ghost use Rattle.refusals.specs.Tests.{p, within, mapTests};
 
 // The index or the point has each number below its axis length.
 pub fn inside(n1: u32, n2: u32, n3: u32, at: Index) -> bool
@@ -35,4 +39,18 @@ pub fn all_residues(volume: &[u32]) -> bool
     ensures { λ r. ⌜ r ≡ allBelow p (now (volume .entry)) ⌝ }
 {
     slices::all_below(volume, numbers::modulus(1))
+}
+
+// 7, 14: a volume of the right length is a map.
+pub fn check_map(group: u32, n1: u32, n2: u32, n3: u32, volume: &[u32]) -> Checked
+    requires { ⌜ Sizes group n1 n2 n3 × (length (now volume) ≡ volumeLength (groupOf group) (halvesOf n1 n2 n3)) ⌝ }
+    ensures { λ r. ⌜ checkedNumber r ≡ first (mapTests group (n1, n2, n3) (now (volume .entry))) ⌝ }
+{
+    if !all_residues(volume) {
+        return Checked::Failed(Refusal::NotResidue);
+    }
+    if !map_test::consistent_map(group, n1, n2, n3, volume) {
+        return Checked::Failed(Refusal::Inconsistent);
+    }
+    Checked::Sound
 }

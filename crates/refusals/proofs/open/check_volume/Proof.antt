@@ -6,10 +6,10 @@ use lib.ListN.{length}
 use lib.Dec.{eqb}
 use denote.Ref.{now}
 use borrow.Author.Tests.{eqb-true}
-use Rattle.line.proofs.Tests.{refusals, by-true, by-false}
+use Rattle.line.proofs.Tests.{refusals, by-true}
 use Rattle.cell.specs.Operations.{halvesOf}
 use Rattle.cell.specs.Volume.{groupOf, volumeLength}
-use Rattle.refusals.proofs.Openings.{volume-collects, volume-not-residues, volume-inconsistent, volume-is-map}
+use Rattle.refusals.proofs.Openings.{volume-collects, volume-held}
 use Rattle.refusals.proofs.open.check_volume.Statement.{statement}
 use Rattle.refusals.proofs.open.check_volume.Tie as tie
 
@@ -29,34 +29,15 @@ returns-2 c =
     let a = t .before .before .before .args in
     volume-collects (a .group) (a .n1, a .n2, a .n3) (a .kind) (now (a .volume)) (fit t) (c .if2 .taken)
 
-all-residues-requires : tie.Need-all-residues-requires
-all-residues-requires c κs = search needs
+check-map-requires : tie.Need-check-map-requires
+check-map-requires c κs = let t = c .before in (t .before .before .before .pre, eqb-true _ _ (fit t))
 
 returns-3 : tie.Need-returns-3
 returns-3 c =
-    let u = c .before .before in
+    let u = c .before in
     let t = u .before in
     let a = t .before .before .before .args in
-    volume-not-residues (a .group) (a .n1, a .n2, a .n3) (a .kind) (now (a .volume)) (fit t) (u .if2 .left) (by-false _ _ (c .before .all-residues .ensures) (c .if3 .taken))
-
-consistent-map-requires : tie.Need-consistent-map-requires
-consistent-map-requires c κs = let t = c .before .before .before in (t .before .before .before .pre, eqb-true _ _ (fit t))
-
-returns-4 : tie.Need-returns-4
-returns-4 c =
-    let w = c .before .before in
-    let u = w .before .before in
-    let t = u .before in
-    let a = t .before .before .before .args in
-    volume-inconsistent (a .group) (a .n1, a .n2, a .n3) (a .kind) (now (a .volume)) (fit t) (u .if2 .left) (by-true _ _ (w .before .all-residues .ensures) (w .if3 .left)) (by-false _ _ (c .before .consistent-map .ensures) (c .if4 .taken))
-
-returns-5 : tie.Need-returns-5
-returns-5 c =
-    let w = c .before .before in
-    let u = w .before .before in
-    let t = u .before in
-    let a = t .before .before .before .args in
-    volume-is-map (a .group) (a .n1, a .n2, a .n3) (a .kind) (now (a .volume)) (fit t) (u .if2 .left) (by-true _ _ (w .before .all-residues .ensures) (w .if3 .left)) (by-true _ _ (c .before .consistent-map .ensures) (c .if4 .left))
+    volume-held (a .group) (a .n1, a .n2, a .n3) (a .kind) (now (a .volume)) (fit t) (u .if2 .left) (c .check-map .ensures)
 
 pub check-volume-spec : {M : Type 1} → statement M
 check-volume-spec =
@@ -65,8 +46,5 @@ check-volume-spec =
     fits-requires
     returns
     returns-2
-    all-residues-requires
-    returns-3
-    consistent-map-requires
-    returns-4
-    returns-5)
+    check-map-requires
+    returns-3)

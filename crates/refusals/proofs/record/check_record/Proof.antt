@@ -1,21 +1,15 @@
 -- Each return is the first test that holds, all the others before it being passed over.
 use borrow.Author.Needs.{needs}
-use mathlib.Core.Path.{_≡_, _∙_, sym, ap}
+use mathlib.Core.Path.{_≡_, _∙_, sym}
 use mathlib.Core.Bool.{true, false, not, _&&_}
-use lib.ListN.{length}
 use lib.Dec.{ltb, eqb}
-use denote.Ref.{now}
-use borrow.Author.Tests.{not-false, ltb-true, eq-eqb, ne-eqb, eqb-true}
+use borrow.Author.Tests.{not-false, ltb-true, eq-eqb, ne-eqb}
 use Rattle.numbers.specs.Prime.{prime}
-use Rattle.numbers.specs.Value.{value, Small}
-use Rattle.numbers.proofs.Primes.{first-modulus}
-use Rattle.line.proofs.Tests.{stop, pass, none, not-t, not-f, by-true, by-false, both}
-use Rattle.cell.specs.Operations.{halvesOf, tripleOf, Sizes, Within}
-use Rattle.cell.specs.Volume.{groupOf, volumeLength}
-use Rattle.cell.specs.Consistency.{agreesWithItself}
+use Rattle.numbers.specs.Value.{Small}
+use Rattle.line.proofs.Tests.{stop, pass, not-t, not-f, by-true, by-false, both}
+use Rattle.cell.specs.Operations.{tripleOf, Sizes, Within}
 use Rattle.refusals.specs.Tests.{within}
 use Rattle.refusals.proofs.Points.{within-of}
-use Rattle.refusals.proofs.Reflections.{pair-of-numbers}
 use Rattle.refusals.proofs.record.check_record.Statement.{statement}
 use Rattle.refusals.proofs.record.check_record.Tie as tie
 
@@ -38,15 +32,6 @@ small c = let t = both _ _ (below c) in record { re = ltb-true _ _ (t .0); im = 
 
 nonzero : (c : tie.Else5) → let a = c .before .before .before .before .before .before .before .before .before .args in (eqb (a .x .re) 0 && eqb (a .x .im) 0) ≡ false
 nonzero c = sym (c .before .both-zero .ensures) ∙ c .if5 .left
-
--- what the tests of the value and of the orbit say
-own : (c : tie.After-agrees) → let a = c .before .before .before .before .before .before .before .before .before .before .args in c .agrees .result ≡ agreesWithItself (groupOf (a .group)) (halvesOf (a .n1) (a .n2) (a .n3)) 1 (tripleOf (a .at)) (value 1 (a .x .re) (a .x .im))
-own c =
-    let a = c .before .before .before .before .before .before .before .before .before .before .args in
-    c .agrees .ensures ∙ ap (agreesWithItself (groupOf (a .group)) (halvesOf (a .n1) (a .n2) (a .n3)) 1 (tripleOf (a .at))) (pair-of-numbers (a .x .re) (a .x .im))
-
-fit : (c : tie.Else7) → let a = c .before .before .before .before .before .before .before .before .before .before .before .before .before .args in eqb (length (now (a .volume))) (volumeLength (groupOf (a .group)) (halvesOf (a .n1) (a .n2) (a .n3))) ≡ true
-fit c = by-true _ _ (c .before .fits2 .ensures) (c .if7 .left)
 
 -- ---- the needs
 
@@ -86,54 +71,19 @@ returns-5 c =
     let e = i .before .before in
     pass 25 _ (e .before .if1 .left) (pass 21 _ (collects e) (pass 10 _ (not-t _ (inside i)) (pass 7 _ (not-t _ (below s)) (stop _ (sym (c .before .both-zero .ensures) ∙ c .if5 .taken)))))
 
-agrees-requires : tie.Need-agrees-requires
-agrees-requires c κs =
+check-orbit-requires : tie.Need-check-orbit-requires
+check-orbit-requires c κs =
     let s = c .before .before in
     let i = s .before .before in
-    (first-modulus, small s, sizes (i .before .before .before), placed i)
+    (sizes (i .before .before .before), placed i, small s)
 
 returns-6 : tie.Need-returns-6
 returns-6 c =
-    let z = c .before .before in
+    let z = c .before in
     let s = z .before .before in
     let i = s .before .before in
     let e = i .before .before in
-    pass 25 _ (e .before .if1 .left) (pass 21 _ (collects e) (pass 10 _ (not-t _ (inside i)) (pass 7 _ (not-t _ (below s)) (pass 11 _ (nonzero z) (stop _ (not-f _ (by-false _ _ (own (c .before)) (c .if6 .taken))))))))
-
-fits-requires : tie.Need-fits-requires
-fits-requires c κs = sizes (c .before .before .before .before .before .before .before .before .before)
-
-returns-7 : tie.Need-returns-7
-returns-7 c =
-    let g = c .before .before in
-    let z = g .before .before in
-    let s = z .before .before in
-    let i = s .before .before in
-    let e = i .before .before in
-    pass 25 _ (e .before .if1 .left) (pass 21 _ (collects e) (pass 10 _ (not-t _ (inside i)) (pass 7 _ (not-t _ (below s)) (pass 11 _ (nonzero z) (pass 12 _ (not-t _ (by-true _ _ (own (g .before)) (g .if6 .left))) (stop _ (not-f _ (by-false _ _ (c .before .fits2 .ensures) (c .if7 .taken)))))))))
-
-orbit-free-requires : tie.Need-orbit-free-requires
-orbit-free-requires c κs = ((sizes (c .before .before .before .before .before .before .before .before .before .before .before), placed (c .before .before .before .before .before .before .before .before)), eqb-true _ _ (fit c))
-
-returns-8 : tie.Need-returns-8
-returns-8 c =
-    let f = c .before .before in
-    let g = f .before .before in
-    let z = g .before .before in
-    let s = z .before .before in
-    let i = s .before .before in
-    let e = i .before .before in
-    pass 25 _ (e .before .if1 .left) (pass 21 _ (collects e) (pass 10 _ (not-t _ (inside i)) (pass 7 _ (not-t _ (below s)) (pass 11 _ (nonzero z) (pass 12 _ (not-t _ (by-true _ _ (own (g .before)) (g .if6 .left))) (pass 6 _ (not-t _ (fit f)) (stop _ (not-f _ (by-false _ _ (c .before .orbit-free .ensures) (c .if8 .taken))))))))))
-
-returns-9 : tie.Need-returns-9
-returns-9 c =
-    let f = c .before .before in
-    let g = f .before .before in
-    let z = g .before .before in
-    let s = z .before .before in
-    let i = s .before .before in
-    let e = i .before .before in
-    pass 25 _ (e .before .if1 .left) (pass 21 _ (collects e) (pass 10 _ (not-t _ (inside i)) (pass 7 _ (not-t _ (below s)) (pass 11 _ (nonzero z) (pass 12 _ (not-t _ (by-true _ _ (own (g .before)) (g .if6 .left))) (pass 6 _ (not-t _ (fit f)) (pass 24 _ (not-t _ (by-true _ _ (c .before .orbit-free .ensures) (c .if8 .left))) none)))))))
+    pass 25 _ (e .before .if1 .left) (pass 21 _ (collects e) (pass 10 _ (not-t _ (inside i)) (pass 7 _ (not-t _ (below s)) (pass 11 _ (nonzero z) (c .check-orbit .ensures)))))
 
 pub check-record-spec : {M : Type 1} → statement M
 check-record-spec =
@@ -147,10 +97,5 @@ check-record-spec =
     returns-4
     both-zero-requires
     returns-5
-    agrees-requires
-    returns-6
-    fits-requires
-    returns-7
-    orbit-free-requires
-    returns-8
-    returns-9)
+    check-orbit-requires
+    returns-6)

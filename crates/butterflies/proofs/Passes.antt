@@ -1,7 +1,9 @@
 -- What the passes of a step compute, place by place: roots that are read from the tables, and the places that are read.
-use mathlib.Core.Path.{_≡_, sym, _∙_, ap, ap₂, subst}
+use mathlib.Core.Path.{_≡_, refl, sym, _∙_, ap, ap₂, subst}
+use mathlib.Core.Logic.{_⊎_, inl, inr}
 use mathlib.Core.List.{List}
-use Prim.Native.Nat.{ℕ, _+_, _*_, _/_, _<_}
+use Prim.Native.Nat.{ℕ, _+_, _*_, _/_, _%_, _<_}
+use native.Mathlib.Nat as N
 use native.Mathlib.Omega.{arith}
 use Rattle.algebra.specs.Ring.{Ops, CRing, pow}
 use Rattle.algebra.proofs.Laws.{along}
@@ -12,7 +14,10 @@ use Rattle.numbers.specs.Prime.{prime}
 use Rattle.numbers.specs.Value.{Value, field, valueOf, pairOf, Small}
 use Rattle.numbers.specs.Root.{entryAt, tableRoot, RootTable}
 use Rattle.numbers.proofs.Values.{field-ring, small-pair, value-pair, pair-value}
+use Rattle.slices.specs.Pairs.{at, Below}
+use Rattle.slices.specs.Values.{valuesOf}
 use Rattle.slices.proofs.Rows.{row-col}
+use Rattle.slices.proofs.Bounds.{small-of}
 use Rattle.butterflies.specs.Steps.{e, twiddled, outerAt, outerSum}
 
 -- ---- the two passes by rows
@@ -45,3 +50,16 @@ pub turned-not : (m : ℕ) {k : ℕ} {v : Pair} (W : Value m) → k ≡ 0 → Sm
 turned-not m {k} {v} W z s =
     sym (ap (λ x. pairOf (field m .mul (pow (field m) W x) (valueOf m v))) z
     ∙ ap (λ y. pairOf (field m .mul y (valueOf m v))) (pow-zero (field-ring m) W) ∙ ap pairOf (field-ring m .one-mul (valueOf m v)) ∙ pair-value m s)
+
+-- ---- the blocks whose factors are one
+
+power-of-one : {A n M j : ℕ} → (n ≡ 1) ⊎ (A ≡ 1) → 0 < A → 0 < M → j < n * M * A → j / A / M * (j % A) ≡ 0
+power-of-one {A} {n} {M} {j} (inl e) hA hM l =
+    let first : j < M * A = subst (λ k. j < k) (ap (λ k. k * M * A) e ∙ ap (λ k. k * A) (N.one-mul M)) l in
+    ap (λ k. k * (j % A)) (N.div-eq-of-lt (N.div-lt-iff-lt-mul hA .1 first)) ∙ N.zero-mul (j % A)
+power-of-one {A} {n} {M} {j} (inr e) hA hM l = ap (λ k. j / A / M * k) (ap (λ k. j % k) e ∙ N.mod-one j) ∙ N.mul-zero (j / A / M)
+
+pub twiddled-not : (m A B M n j : ℕ) (line : List ℕ) (W : Value m) → (n ≡ 1) ⊎ (A ≡ 1) → 0 < A → 0 < M → Below (prime m) line → j < n * M * A → at line j ≡ pairOf (twiddled (field m) W A B M (valuesOf m line) j)
+unfolding twiddled e
+twiddled-not m A B M n j line W o hA hM b l =
+    turned-not m W (ap (λ k. 2880 / (A * B) * k) (power-of-one {A = A} {n = n} {M = M} {j = j} o hA hM l) ∙ N.mul-zero (2880 / (A * B))) (small-of line j refl b)

@@ -1,14 +1,15 @@
 -- A loop that fills a list row by row, where the rows stand in blocks and both are counted: row q of block b has the places (b r + q) w + s, s < w.
-use mathlib.Core.Path.{_≡_, subst}
+use mathlib.Core.Path.{_≡_, _∙_, ap, subst}
 use mathlib.Core.List.{List}
 use Prim.Native.Nat.{ℕ, _+_, _*_, _<_, _≤_}
 use native.Mathlib.Nat.{mul-le-mul-right}
 use native.Mathlib.Omega.{arith}
 use lib.ListN.{length}
 use Rattle.numbers.specs.declared.Pair.{Pair}
-use Rattle.slices.specs.Pairs.{puts, tab, Filling}
+use Rattle.slices.specs.Pairs.{puts, fills, tab, Filling}
+use Rattle.slices.proofs.Pairs.{length-puts, puts-ext}
 use Rattle.slices.proofs.Rows.{row-end}
-use Rattle.slices.proofs.Filling.{filling-start, filling-row, filling-whole}
+use Rattle.slices.proofs.Filling.{filling-row, filling-whole}
 
 -- a row of a block is among all rows, and its places among all places
 pub record InRow (blocks rows width n b q : ℕ) : Type 0 where
@@ -26,11 +27,16 @@ pub record Rowing (f : ℕ → Pair) (blocks rows width n b q : ℕ) (d₀ d : L
   pub row : q < rows
   pub filled : Filling (λ j. j) f n ((b * rows + q) * width) d₀ d
 
-pub rowing-start : {f : ℕ → Pair} {blocks rows width n : ℕ} {d₀ : List ℕ} → 0 < rows → Rowing f blocks rows width n 0 0 d₀ d₀
-rowing-start {f} {blocks} {rows} {width} {n} {d₀} h = record {
-  block = omega arith;
+-- the first blocks were copied
+pub rowing-from : {f : ℕ → Pair} {blocks rows width n b : ℕ} {d₀ d : List ℕ} (g : ℕ → Pair) → blocks * rows * width ≡ n → 0 < rows → b ≤ blocks → d ≡ fills g (b * rows * width) d₀ → ((j : ℕ) → j < b * rows * width → g j ≡ f j) → Rowing f blocks rows width n b 0 d₀ d
+rowing-from {f} {blocks} {rows} {width} {n} {b} {d₀} {d} g whole h l e w = record {
+  block = l;
   row = h;
-  filled = subst (λ k. Filling (λ j. j) f n k d₀ d₀) {x = 0} {y = (0 * rows + 0) * width} (omega arith) filling-start;
+  filled = subst (λ k. Filling (λ j. j) f n k d₀ d) {x = b * rows * width} {y = (b * rows + 0) * width} (omega arith) (record {
+    le = subst (λ k. b * rows * width ≤ k) whole (mul-le-mul-right width (mul-le-mul-right rows l));
+    len = ap length e ∙ length-puts (λ j. j) g (b * rows * width) d₀;
+    is = e ∙ puts-ext (λ j. j) g f (b * rows * width) d₀ w;
+  });
 }
 
 module _ {f : ℕ → Pair} {blocks rows width n b q : ℕ} {d₀ d e : List ℕ} {g : ℕ → Pair} (whole : blocks * rows * width ≡ n)

@@ -3,6 +3,7 @@
 -- A is the product of the factors before, B the factor of this step, and A B M the length of the line.
 -- W is a root of order 2,880, so that e(1/k) is W^(2880/k) for every k that divides 2,880.
 use mathlib.Core.Path.{_≡_}
+use mathlib.Core.Logic.{_⊎_}
 use Prim.Native.Nat.{ℕ, _+_, _*_, _/_, _%_, _≤_, _<_}
 use Rattle.algebra.specs.Ring.{Ops, pow, sum}
 
@@ -37,3 +38,9 @@ pub record Splits (A B M : ℕ) : Type 0 where
   pub high : B ≤ 5
   pub lines : 0 < M
   pub divides : A * B * M * (2880 / (A * B * M)) ≡ 2880
+
+-- The factors e(b s/AB) of the first n of the B blocks are one: that of b = 0 alone, or all where A is one.
+pub record OfOne (A B n : ℕ) : Type 0 where
+  pub low : 1 ≤ n
+  pub high : n ≤ B
+  pub which : (n ≡ 1) ⊎ (A ≡ 1)

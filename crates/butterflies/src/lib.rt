@@ -15,7 +15,7 @@ ghost use Rattle.numbers.specs.Value.{field, valueOf, pairOf, Small};
 ghost use Rattle.numbers.specs.Root.{tableRoot, RootTable};
 ghost use Rattle.slices.specs.Pairs.{puts, Below};
 ghost use Rattle.slices.specs.Values.{valuesOf, listOf};
-ghost use Rattle.butterflies.specs.Steps.{twiddled, outerAt, outerSum, Splits};
+ghost use Rattle.butterflies.specs.Steps.{twiddled, outerAt, outerSum, Splits, OfOne};
 
 mod formulas; // formulas.rt: the butterflies
 mod places; // places.rt: where their pairs are read and stored
@@ -165,7 +165,7 @@ fn five_at<'a>(
     places::store_five(line, base, gap, formulas::five(m, re, im, v));
 }
 
-// The second part of (3): the values at place (b M + q) A + s times e(b s/AB), by rows of A places.
+// The second part of (3): the values at place (b M + q) A + s times e(b s/AB), by rows of A places. The first blocks are copied.
 pub fn twiddle<'a>(
     m: u32,
     re: &'a [u32; 2880],
@@ -183,7 +183,9 @@ pub fn twiddle<'a>(
     ensures { λ _. ⌜ now (work .exit) ≡ listOf (inner * outer * lines) (twiddled (field m) (tableRoot m (now (re .entry)) (now (im .entry))) inner outer lines (valuesOf m (now (line .entry)))) ⌝ }
 {
     let turn = 2880 / (inner * outer);
-    let mut b = 0;
+    let copied = blocks_of_one(inner, outer);
+    slices::copy(line, work, copied * lines * inner);
+    let mut b = copied;
     let mut q = 0;
     while b < outer {
         twiddle_row(m, re, im, inner, b * turn, b * lines + q, line, work);
@@ -193,6 +195,17 @@ pub fn twiddle<'a>(
             b += 1;
         }
     }
+}
+
+// How many of the first blocks b have the factor one throughout: that of b = 0, and all in the first step, where s is 0.
+fn blocks_of_one(inner: usize, outer: usize) -> usize
+    requires { ⌜ 1 ≤ outer ⌝ }
+    ensures { λ r. ⌜ OfOne inner outer r ⌝ }
+{
+    if inner == 1 {
+        return outer;
+    }
+    1
 }
 
 // One row: the value at place s of it times W^(turn s).
@@ -223,7 +236,7 @@ fn twiddle_row<'a>(
     }
 }
 
-// W^k times a value. Each row begins with k = 0, and the first lines have no other.
+// W^k times a value. Each row begins with k = 0.
 fn turned<'a>(m: u32, re: &'a [u32; 2880], im: &'a [u32; 2880], k: usize, v: Pair) -> Pair
     requires { ⌜ IsModulus m × RootTable m (now re) (now im) ⌝ }
     requires { ⌜ (k < 2880) × Small (prime m) v ⌝ }

@@ -1,7 +1,7 @@
 // Tests that several calls share.
 use crate::header;
-use consistency::map_test;
 use cell::operations::Index;
+use consistency::map_test;
 use line::Checked;
 use line::Refusal;
 ghost use mathlib.Core.Path.{_≡_};

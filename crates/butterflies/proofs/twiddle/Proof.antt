@@ -1,29 +1,34 @@
--- The rows are filled in order, block b of them with the factors of that b (`Rowing`).
-use mathlib.Core.Path.{_≡_, ap}
-use Prim.Native.Nat.{_+_, _-_, _*_, _/_, _≤_}
-use native.Mathlib.Nat.{mul-le-mul, div-le-self}
+-- The first blocks are copied, as their factors are one; the rows of the others are filled in order, block b of them with the factors of that b (`Rowing`).
+use mathlib.Core.Path.{_≡_, ap, subst}
+use mathlib.Core.List.{List}
+use Prim.Native.Nat.{ℕ, _+_, _-_, _*_, _/_, _≤_}
+use native.Mathlib.Nat.{mul-le-mul, mul-le-mul-right, div-le-self}
 use native.Mathlib.Omega.{arith}
+use lib.ListN.{length}
 use Rattle.algebra.specs.Ring.{Ops}
 use Rattle.numbers.specs.Value.{field, pairOf}
 use Rattle.numbers.specs.Root.{tableRoot}
 use Rattle.numbers.proofs.Values.{field-ring}
-use Rattle.butterflies.specs.Steps.{twiddled}
+use Rattle.butterflies.specs.Steps.{twiddled, OfOne}
+use Rattle.slices.specs.Pairs.{at}
 use Rattle.slices.specs.Values.{valuesOf}
-use Rattle.butterflies.proofs.Sizes.{product-le, product-pos, rows-le, twiddle-turn}
-use Rattle.butterflies.proofs.Passes.{twiddled-row}
-use Rattle.butterflies.proofs.Rowing.{Rowing, InRow, in-row, rowing-start, rowing-next, rowing-block, rowing-done}
+use Rattle.butterflies.proofs.Sizes.{product-le, product-pos, rows-le, whole-le, twiddle-turn}
+use Rattle.butterflies.proofs.Passes.{twiddled-row, twiddled-not}
+use Rattle.butterflies.proofs.Rowing.{Rowing, InRow, in-row, rowing-from, rowing-next, rowing-block, rowing-done}
 use Rattle.butterflies.proofs.twiddle.Statement.{statement}
 use Rattle.butterflies.proofs.twiddle.Tie as tie
 
 abbrev Inv-loop : tie.InvT-loop
-Inv-loop m re im inner outer lines line work₀ turn b₀ q₀ work b q =
-    Rowing (λ j. pairOf (twiddled (field m) (tableRoot m re im) inner outer lines (valuesOf m line) j)) outer lines inner (inner * outer * lines) b q work₀ work
+Inv-loop m re im inner outer lines line work₀ turn copied b₀ q₀ work b q =
+    (lent : List ℕ)
+    × (length lent ≡ 2 * (inner * outer * lines))
+    × Rowing (λ j. pairOf (twiddled (field m) (tableRoot m re im) inner outer lines (valuesOf m line) j)) outer lines inner (inner * outer * lines) b q lent work
 
 abbrev μ-loop : tie.MeasureT-loop
-μ-loop m re im inner outer lines line work₀ turn b₀ q₀ work b q = outer * lines - (b * lines + q)
+μ-loop m re im inner outer lines line work₀ turn copied b₀ q₀ work b q = outer * lines - (b * lines + q)
 
 abbrev St : tie.In-loop Inv-loop μ-loop → tie.Start Inv-loop μ-loop
-St i = i .before .before .before .before
+St i = i .before .before .before .before .before .before .before .before .before
 
 abbrev At : tie.In-loop Inv-loop μ-loop → tie.At-loop Inv-loop μ-loop
 At i = i .before
@@ -32,8 +37,15 @@ At i = i .before
 whole : (s : tie.Start Inv-loop μ-loop) → s .args .outer * s .args .lines * s .args .inner ≡ s .args .inner * s .args .outer * s .args .lines
 whole s = omega arith
 
+-- what is copied lies inside
+copied-rows : (s : tie.Start Inv-loop μ-loop) {n : ℕ} → OfOne (s .args .inner) (s .args .outer) n → n * s .args .lines ≤ s .args .outer * s .args .lines
+copied-rows s o = mul-le-mul-right (s .args .lines) (o .high)
+
+copied-places : (s : tie.Start Inv-loop μ-loop) {n : ℕ} → OfOne (s .args .inner) (s .args .outer) n → n * s .args .lines * s .args .inner ≤ s .args .inner * s .args .outer * s .args .lines
+copied-places s {n} o = subst (λ k. n * s .args .lines * s .args .inner ≤ k) (whole s) (mul-le-mul-right (s .args .inner) (copied-rows s o))
+
 inside : (i : tie.In-loop Inv-loop μ-loop) → InRow (St i .args .outer) (St i .args .lines) (St i .args .inner) (St i .args .inner * St i .args .outer * St i .args .lines) (At i .loop .b) (At i .loop .q)
-inside i = in-row (St i .args .inner) _ (whole (St i)) (i .loop-test .taken) (At i .loop .inv .row)
+inside i = in-row (St i .args .inner) _ (whole (St i)) (i .loop-test .taken) (At i .loop .inv .2 .row)
 
 turn-le : (i : tie.In-loop Inv-loop μ-loop) → At i .loop .b * (2880 / (St i .args .inner * St i .args .outer)) ≤ 14400
 turn-le i = mul-le-mul {n₂ = 5} {m₂ = 2880} (omega arith) (div-le-self 2880 _)
@@ -44,8 +56,26 @@ mul-turn c = omega (arith, product-le (c .before .before .pre .1 .0))
 div-turn : tie.Need-div-turn Inv-loop μ-loop
 div-turn c = omega (arith, product-pos (c .before .before .pre .1 .0))
 
+blocks-of-one-requires : tie.Need-blocks-of-one-requires Inv-loop μ-loop
+blocks-of-one-requires c κs = omega (arith, c .before .before .pre .1 .0 .low)
+
+mul-copy : tie.Need-mul-copy Inv-loop μ-loop
+mul-copy c = let b = c .before in let s = b .before .before .before in omega (arith, copied-rows s (b .blocks-of-one .ensures), rows-le (s .pre .1 .0))
+
+mul-copy-2 : tie.Need-mul-copy-2 Inv-loop μ-loop
+mul-copy-2 c = let b = c .before in let s = b .before .before .before in omega (arith, copied-places s (b .blocks-of-one .ensures), whole-le (s .pre .1 .0))
+
+copy-requires : tie.Need-copy-requires Inv-loop μ-loop
+copy-requires c κs = let b = c .before in let s = b .before .before .before in (omega (arith, copied-places s (b .blocks-of-one .ensures)), omega (arith, copied-places s (b .blocks-of-one .ensures)))
+
 loop-holds : tie.Need-loop-holds Inv-loop μ-loop
-loop-holds c = rowing-start (c .before .before .pre .1 .0 .lines)
+loop-holds c =
+    let k = c .before .before in
+    let b = k .before .before in
+    let s = b .before .before .before in
+    let o = b .blocks-of-one .ensures in
+    let h = s .pre .1 .0 in
+    (s .args .work .now, s .pre .1 .1 .0 .1, rowing-from (at (s .args .line .now)) (whole s) (h .lines) (o .high) (k .copy .ensures) (λ j l. twiddled-not (s .args .m) (s .args .inner) (s .args .outer) (s .args .lines) _ j (s .args .line .now) _ (o .which) (h .inner) (h .lines) (s .pre .1 .1 .1) l))
 
 mul-twiddle-row : tie.Need-mul-twiddle-row Inv-loop μ-loop
 mul-twiddle-row c = omega (arith, turn-le c)
@@ -75,7 +105,7 @@ loop-again : tie.Need-loop-again Inv-loop μ-loop
 loop-again c =
     let t = c .before .before .before in
     let i = t .before .before in
-    rowing-block (whole (St i)) (At i .loop .inv) (i .loop-test .taken) (t .twiddle-row .ensures) (λ s hs. ap pairOf (twiddled-row (field-ring _) _ _ _ _ _ hs _ (At i .loop .inv .row))) (c .if1 .taken)
+    (At i .loop .inv .0, At i .loop .inv .1, rowing-block (whole (St i)) (At i .loop .inv .2) (i .loop-test .taken) (t .twiddle-row .ensures) (λ s hs. ap pairOf (twiddled-row (field-ring _) _ _ _ _ _ hs _ (At i .loop .inv .2 .row))) (c .if1 .taken))
 
 loop-less-2 : tie.Need-loop-less-2 Inv-loop μ-loop
 loop-less-2 c = omega (arith, inside (c .before .before .before .before .before))
@@ -84,13 +114,13 @@ loop-again-2 : tie.Need-loop-again-2 Inv-loop μ-loop
 loop-again-2 c =
     let t = c .before .before .before in
     let i = t .before .before in
-    rowing-next (whole (St i)) (At i .loop .inv) (i .loop-test .taken) (t .twiddle-row .ensures) (λ s hs. ap pairOf (twiddled-row (field-ring _) _ _ _ _ _ hs _ (At i .loop .inv .row))) (c .if1 .left)
+    (At i .loop .inv .0, At i .loop .inv .1, rowing-next (whole (St i)) (At i .loop .inv .2) (i .loop-test .taken) (t .twiddle-row .ensures) (λ s hs. ap pairOf (twiddled-row (field-ring _) _ _ _ _ _ hs _ (At i .loop .inv .2 .row))) (c .if1 .left))
 
 same-length : tie.Need-same-length Inv-loop μ-loop
-same-length c = omega arith
+same-length c = let v = c .before .loop .inv in omega (arith, v .1, v .2 .filled .len)
 
 returns : tie.Need-returns Inv-loop μ-loop
-returns c = let s = c .before .before .before .before in rowing-done (whole s) (c .before .loop .inv) (c .loop-test .left) (s .pre .1 .1 .0 .1)
+returns c = let v = c .before .loop .inv in let s = c .before .before .before .before .before .before .before .before .before in rowing-done (whole s) (v .2) (c .loop-test .left) (v .1)
 
 pub twiddle-spec : {M : Type 1} → statement M
 twiddle-spec =
@@ -100,6 +130,10 @@ twiddle-spec =
     μ-loop
     mul-turn
     div-turn
+    blocks-of-one-requires
+    mul-copy
+    mul-copy-2
+    copy-requires
     loop-holds
     mul-twiddle-row
     mul-twiddle-row-2

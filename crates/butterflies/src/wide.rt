@@ -72,7 +72,7 @@ pub fn total(m: u32, a: Accumulator, b: Accumulator) -> Pair
         re: a.re + b.re,
         im: a.im + b.im,
     };
-    numbers::reduced(m, c)
+    numbers::reduced_below(m, c)
 }
 
 // a - b, reduced: 418,031,539,216 is 16 times the product of both primes, so that it stands for 0 at either modulus.
@@ -84,5 +84,5 @@ pub fn rest(m: u32, a: Accumulator, b: Accumulator) -> Pair
         re: a.re + (418031539216 - b.re),
         im: a.im + (418031539216 - b.im),
     };
-    numbers::reduced(m, c)
+    numbers::reduced_below(m, c)
 }

@@ -9,11 +9,11 @@ use Rattle.numbers.proofs.mul.Tie as tie
 whole-requires : tie.Need-whole-requires
 whole-requires c κs = omega (arith, prime-most (c .pre .0))
 
-reduce-requires : tie.Need-reduce-requires
-reduce-requires c κs = search needs
+reduce-below-requires : tie.Need-reduce-below-requires
+reduce-below-requires c κs = search needs
 
 returns : tie.Need-returns
-returns c = product-mod _ _ _ (c .before .whole .ensures .0) (c .reduce .ensures)
+returns c = product-mod _ _ _ (c .before .whole .ensures .0) (c .reduce-below .ensures)
 
 pub mul-spec : {M : Type 1} → statement M
-mul-spec = tie.close (tie.spec whole-requires reduce-requires returns)
+mul-spec = tie.close (tie.spec whole-requires reduce-below-requires returns)

@@ -19,11 +19,11 @@ sub-whole c = search needs
 whole-requires-2 : tie.Need-whole-requires-2
 whole-requires-2 c κs = search needs
 
-add-reduce : tie.Need-add-reduce
-add-reduce c = search needs
+add-reduce-below : tie.Need-add-reduce-below
+add-reduce-below c = search needs
 
-reduce-requires : tie.Need-reduce-requires
-reduce-requires c κs = search needs
+reduce-below-requires : tie.Need-reduce-below-requires
+reduce-below-requires c κs = search needs
 
 whole-requires-3 : tie.Need-whole-requires-3
 whole-requires-3 c κs = search needs
@@ -31,16 +31,16 @@ whole-requires-3 c κs = search needs
 whole-requires-4 : tie.Need-whole-requires-4
 whole-requires-4 c κs = search needs
 
-add-reduce-2 : tie.Need-add-reduce-2
-add-reduce-2 c = search needs
+add-reduce-below-2 : tie.Need-add-reduce-below-2
+add-reduce-below-2 c = search needs
 
-reduce-requires-2 : tie.Need-reduce-requires-2
-reduce-requires-2 c κs = search needs
+reduce-below-requires-2 : tie.Need-reduce-below-requires-2
+reduce-below-requires-2 c κs = search needs
 
 returns : tie.Need-returns
 unfolding pairOf
 returns c =
-    pair-path (c .before .before .before .reduce .ensures) (c .reduce2 .ensures)
+    pair-path (c .before .before .before .reduce-below .ensures) (c .reduce-below2 .ensures)
     ∙ ap pairOf
     (whole-products _ _ _ _ _ _ _ _
     (c .before .before .before .before .before .before .before .modulus .ensures .0)
@@ -58,10 +58,10 @@ product-spec =
     whole-requires
     sub-whole
     whole-requires-2
-    add-reduce
-    reduce-requires
+    add-reduce-below
+    reduce-below-requires
     whole-requires-3
     whole-requires-4
-    add-reduce-2
-    reduce-requires-2
+    add-reduce-below-2
+    reduce-below-requires-2
     returns)

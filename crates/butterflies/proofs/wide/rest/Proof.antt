@@ -16,11 +16,11 @@ sub-t7 c = search needs
 add-t8 : tie.Need-add-t8
 add-t8 c = search needs
 
-reduced-requires : tie.Need-reduced-requires
-reduced-requires c κs = search needs
+reduced-below-requires : tie.Need-reduced-below-requires
+reduced-below-requires c κs = search needs
 
 returns : tie.Need-returns
-returns c = λ n k y z ha hb. let s = c .before .before .before .before .before in rest-value (s .pre .0) (s .pre .2) ha hb (c .reduced .ensures)
+returns c = λ n k y z ha hb. let s = c .before .before .before .before .before in rest-value (s .pre .0) (s .pre .2) ha hb (c .reduced-below .ensures)
 
 pub rest-spec : {M : Type 1} → statement M
-rest-spec = tie.close (tie.spec sub-t5 add-t6 sub-t7 add-t8 reduced-requires returns)
+rest-spec = tie.close (tie.spec sub-t5 add-t6 sub-t7 add-t8 reduced-below-requires returns)

@@ -10,11 +10,11 @@ add-t5 c = search needs
 add-t6 : tie.Need-add-t6
 add-t6 c = search needs
 
-reduced-requires : tie.Need-reduced-requires
-reduced-requires c κs = search needs
+reduced-below-requires : tie.Need-reduced-below-requires
+reduced-below-requires c κs = search needs
 
 returns : tie.Need-returns
-returns c = λ n k y z ha hb. total-value ha hb (c .reduced .ensures)
+returns c = λ n k y z ha hb. total-value ha hb (c .reduced-below .ensures)
 
 pub total-spec : {M : Type 1} → statement M
-total-spec = tie.close (tie.spec add-t5 add-t6 reduced-requires returns)
+total-spec = tie.close (tie.spec add-t5 add-t6 reduced-below-requires returns)

@@ -1,8 +1,7 @@
 -- The outer sums of 2, 3, 4 and 5 values as butterflies have them: the powers of e(1/B) go round, and those of a conjugate pair share their products.
 use mathlib.Core.Path.{_≡_, refl, sym, _∙_, ap}
 use mathlib.Core.List.{[], _∷_}
-use Prim.Native.Nat.{ℕ, zero, suc, _*_, _/_, _%_, _<_}
-use native.Mathlib.Omega.{arith}
+use Prim.Native.Nat.{ℕ, _*_, _/_, _%_}
 use Rattle.algebra.specs.Ring.{Ops, CRing, pow, sum}
 use Rattle.algebra.proofs.Solver.{ring, quote}
 use Rattle.algebra.proofs.Sums.{sum-cong}

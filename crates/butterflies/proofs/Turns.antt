@@ -2,11 +2,11 @@
 use mathlib.Core.Path.{_≡_, refl, sym, _∙_, ap}
 use mathlib.Core.Logic.{_⊎_, ⊎-elim}
 use mathlib.Core.List.{List, [], _∷_}
-use Prim.Native.Nat.{ℕ, _+_, _*_, _-_, _≤_, _<_}
+use Prim.Native.Nat.{ℕ, _+_, _-_, _≤_, _<_}
 use native.Mathlib.Omega.{arith}
 use lib.Dec.{lit<}
 use Rattle.algebra.specs.Ring.{Ops, CRing, Star, pow}
-use Rattle.algebra.specs.Residue.{residue, residues}
+use Rattle.algebra.specs.Residue.{residues}
 use Rattle.algebra.specs.Gauss.{gauss, imag}
 use Rattle.algebra.specs.Gauss as Gauss
 use Rattle.algebra.proofs.Laws.{mul-neg, pow-add}

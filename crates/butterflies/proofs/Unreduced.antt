@@ -2,7 +2,6 @@
 use mathlib.Core.Path.{_≡_, refl, sym, _∙_, ap, ap₂}
 use mathlib.Core.List.{[], _∷_}
 use Prim.Native.Nat.{ℕ, _+_, _*_, _-_, _≤_}
-use native.Mathlib.Nat as N
 use native.Mathlib.Omega.{arith}
 use Rattle.algebra.specs.Ring.{Ops}
 use Rattle.algebra.specs.Residue.{residue, residues}
@@ -13,7 +12,7 @@ use Rattle.algebra.proofs.ResidueRing.{val-path, residue-add, residue-mul, resi
 use Rattle.numbers.specs.declared.Pair.{Pair}
 use Rattle.numbers.specs.declared.Accumulator.{Accumulator}
 use Rattle.numbers.specs.Prime.{prime, IsModulus}
-use Rattle.numbers.specs.Value.{Value, Residue, field, i, res, value, real, valueOf, pairOf, Small}
+use Rattle.numbers.specs.Value.{Value, field, i, res, value, real, valueOf, pairOf, Small}
 use Rattle.numbers.specs.Value as Value
 use Rattle.numbers.specs.Accumulator.{Accumulated}
 use Rattle.numbers.proofs.Primes.{prime-most}

@@ -7,7 +7,7 @@
 // The roots are lent as tables of the powers of W: those of r, or those of its conjugate for the other direction.
 use numbers::Pair;
 ghost use mathlib.Core.Path.{_≡_};
-ghost use Prim.Native.Nat.{ℕ, _+_, _*_, _/_, _<_, _≤_};
+ghost use Prim.Native.Nat.{_+_, _*_, _/_, _<_, _≤_};
 ghost use lib.ListN.{length};
 ghost use Rattle.algebra.specs.Ring.{Ops, pow};
 ghost use Rattle.numbers.specs.Prime.{prime, IsModulus};

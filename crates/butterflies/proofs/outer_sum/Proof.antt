@@ -1,6 +1,6 @@
 -- Each turn fills the places of one butterfly (`Passing`).
-use mathlib.Core.Path.{_≡_, ap}
-use Prim.Native.Nat.{_+_, _-_, _*_, _<_}
+use mathlib.Core.Path.{ap}
+use Prim.Native.Nat.{_-_, _*_}
 use native.Mathlib.Omega.{arith}
 use Rattle.numbers.specs.Value.{field, pairOf}
 use Rattle.numbers.specs.Root.{tableRoot}

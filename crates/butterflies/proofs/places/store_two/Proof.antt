@@ -1,6 +1,6 @@
 -- The places are stored to one after the other.
 use borrow.Author.Needs.{needs}
-use Prim.Native.Nat.{_+_, _*_}
+use Prim.Native.Nat.{_+_}
 use native.Mathlib.Omega.{arith}
 use Rattle.butterflies.specs.Butterfly.{ofTwo}
 use Rattle.butterflies.proofs.Spreading.{spread-none, spread-more}

@@ -67,15 +67,16 @@ module _ (m A : ℕ) {reals imags : List ℕ} (f : Frame m A reals imags) (tau p
   forward-by odd share eo ed ee el =
       el ∙ list-cong m A _ _ (λ s h. finish3-cong (field m) (conj m) (i m) (real m (half m)) A tau _ _ _ _ s (short-transform f _ ed ee s h) eo)
 
-  pub back-by : (share : Residue m) (x : ℕ) (twice : Value m) {d e l : List ℕ}
+  -- what the last pass leaves comes first: x, twice and e are then as its call has them
+  pub back-by : (share : Residue m) {x : ℕ} {twice : Value m} {d e l : List ℕ}
+      → l ≡ listOf A (packB3 (field m) (conj m) (i m) (real m (half m)) A (line3 (field m) (conj m) (i m) (real m (half m)) A (real m (res m x)) (valuesOf m e) twice))
       → x ≡ share .val
       → twice ≡ twice-M (field m) (conj m) (i m) (real m (half m)) A p
       → d ≡ listOf A (slant (field m) (conj m) (i m) (real m (half m)) A tau p)
       → e ≡ listOf A (dft (field m) A (pow (field m) (tableRoot m reals imags) (2880 / A)) (valuesOf m d))
-      → l ≡ listOf A (packB3 (field m) (conj m) (i m) (real m (half m)) A (line3 (field m) (conj m) (i m) (real m (half m)) A (real m (res m x)) (valuesOf m e) twice))
       → l ≡ listOf (slots alternating A) (fold-back (field m) (conj m) (i m) (real m (half m)) A (conj m v) (real m share) tau alternating p)
   unfolding slots fold-back
-  back-by share x twice {d} {e} ex et ed ee el =
+  back-by share {x} {twice} {d} {e} el ex et ed ee =
       el
       ∙ list-cong m A _ _ (λ t h. packed-cong (field m) (conj m) (i m) (real m (half m)) A (real m (res m x)) (valuesOf m e) _ twice short t h)
       ∙ ap₂ (λ u n. listOf A (packB3 (field m) (conj m) (i m) (real m (half m)) A (line3 (field m) (conj m) (i m) (real m (half m)) A (real m u) (dft (field m) A (pow (field m) (conj m (conj m v)) 2) (slant (field m) (conj m) (i m) (real m (half m)) A tau p)) n))) (res-by m share ex) et

@@ -3,7 +3,7 @@ use borrow.Author.Needs.{needs}
 use Prim.Native.Nat.{_*_}
 use native.Mathlib.Omega.{arith}
 use Rattle.algebra.specs.Ring.{Ops}
-use Rattle.numbers.specs.Value.{field, res, real, part}
+use Rattle.numbers.specs.Value.{field, part}
 use Rattle.slices.specs.Values.{valuesOf}
 use Rattle.folds.specs.Frame.{tangent}
 use Rattle.slices.proofs.Values.{length-of, below-of}
@@ -64,8 +64,7 @@ returns c =
     let s = r .before .before .before .before in
     let f = s .pre .0 .0 in
     back-by (s .args .m) (s .args .a) f (λ k. field (s .args .m) .neg (tangent (s .args .m) (s .args .a) (s .args .tan .now) k)) (valuesOf (s .args .m) (s .args .line .now))
-    (part (s .args .m) (2 * s .args .a)) (r .reciprocal .result) (real (s .args .m) (res (s .args .m) (o .twice-sum .result)))
-    (r .reciprocal .ensures .0) (o .twice-sum .ensures .1 (s .args .a)) (w .slant .ensures) (t .transform .ensures .0) (e .pack .ensures)
+    (part (s .args .m) (2 * s .args .a)) (e .pack .ensures) (r .reciprocal .ensures .0) (o .twice-sum .ensures .1 (s .args .a)) (w .slant .ensures) (t .transform .ensures .0)
 
 pub inverse-spec : {M : Type 1} → statement M
 inverse-spec =

@@ -8,7 +8,7 @@ use Rattle.algebra.specs.Kinds.{Kind.hermitian, slots}
 use Rattle.numbers.specs.Prime.{prime, IsModulus}
 use Rattle.slices.specs.Pairs.{at, puts, Below}
 use Rattle.slices.specs.Segments.{segment, setSegment, WholePairs}
-use Rattle.slices.proofs.Pairs.{length-tab}
+use Rattle.slices.proofs.Pairs.{length-puts, length-tab}
 use Rattle.slices.proofs.Segments.{length-pairs, setSegment-puts, segment-tab}
 use Rattle.slices.proofs.Bounds.{below-set, below-take}
 use Rattle.kinds.specs.Transform.{kindOf}
@@ -89,3 +89,6 @@ module _ (x : Line) (v : List ℕ) (h : Beside (length v) x) where
   row-placed r e =
       setSegment-puts row-pairs r (ap length e ∙ length-row (x .direction) _)
       ∙ ap (λ l. puts (λ j. x .start + j) (at l) (x .count) v) (e ∙ ap (turnedRow (x .m) (x .half) (x .direction)) (segment-tab row-pairs))
+
+  pub part-same : (r : List ℕ) → r ≡ turnedRow (x .m) (x .half) (x .direction) (segment (2 * x .start) (2 * x .start + 2 * x .count) v) → length (setSegment (2 * x .start) (2 * x .start + 2 * x .count) v r) ≡ length v
+  part-same r e = ap length (row-placed r e) ∙ length-puts (λ j. x .start + j) _ (x .count) v

@@ -123,7 +123,7 @@ fn turn_volume<'a>(
     }
 }
 
-// Line number j of the job.
+// Line number j of the job. A row along k is lent as a part of the volume from its offset on.
 pub fn turn_line<'a>(
     plan: Plan,
     re: &'a [u32; 2880],
@@ -142,7 +142,9 @@ pub fn turn_line<'a>(
 {
     let line = axes::line_at(plan, j);
     if line.kind == 1 {
-        rows::turn_part(line, re, im, tan, volume, fold, work);
+        let start = 2 * line.start;
+        let end = start + 2 * line.count;
+        rows::turn_row(line, re, im, tan, &mut volume[start..end], fold, work);
     } else {
         lines::turn_gathered(line, re, im, tan, volume, scratch, fold, work);
     }

@@ -7,30 +7,10 @@ ghost use lib.ListN.{length};
 ghost use Rattle.numbers.specs.Prime.{prime};
 ghost use Rattle.slices.specs.Pairs.{Below};
 ghost use Rattle.passes.specs.Passes.{turnedRow};
-ghost use Rattle.passes.specs.Lines.{Sound, Beside, TablesFor, rowTurn, opened, closed};
-
-// A row, which is a part of the volume from its offset on.
-pub fn turn_part<'a>(
-    line: Line,
-    re: &'a [u32; 2880],
-    im: &'a [u32; 2880],
-    tan: &'a [u32; 1440],
-    volume: &mut [u32],
-    fold: &mut [u32],
-    work: &mut [u32],
-)
-    requires { ⌜ Beside (length (now volume)) line × TablesFor line (now re) (now im) (now tan) ⌝ }
-    requires { ⌜ Below (prime (line .m)) (now volume) ⌝ }
-    requires { ⌜ (5760 ≤ length (now fold)) × (5760 ≤ length (now work)) ⌝ }
-    ensures { λ _. ⌜ now (volume .exit) ≡ rowTurn line (now (volume .entry)) ⌝ }
-{
-    let start = 2 * line.start;
-    let end = start + 2 * line.count;
-    turn_row(line, re, im, tan, &mut volume[start..end], fold, work);
-}
+ghost use Rattle.passes.specs.Lines.{Sound, TablesFor, opened, closed};
 
 // A row of B + 1 pairs, of which the first and the last are real, becomes N2 = 2 B real values and two zeros, or back.
-fn turn_row<'a>(
+pub fn turn_row<'a>(
     line: Line,
     re: &'a [u32; 2880],
     im: &'a [u32; 2880],

@@ -3,8 +3,9 @@
 
 static void twiddle(const uint32_t *re, const uint32_t *im, size_t inner, size_t outer, size_t lines, const uint32_t *line, uint32_t *work)
 {
-    size_t turn = 2880 / (inner * outer);
-    for (size_t b = 0; b < outer; b++)
+    size_t turn = 2880 / (inner * outer), copied = inner == 1 ? outer : 1;
+    for (size_t j = 0; j < copied * lines * inner; j++) store(work, j, get(line, j));
+    for (size_t b = copied; b < outer; b++)
         for (size_t q = 0; q < lines; q++) {
             size_t base = (b * lines + q) * inner, k = 0;
             for (size_t s = 0; s < inner; s++) {

@@ -1,7 +1,7 @@
--- The starred records: the group's other operation leads the index to itself with the negative value, and no value but zero is its own negative.
+-- The starred specimens. Lines are computed in crate line. Of a record: the group's other operation leads the index to itself with the negative value, and no value but zero is its own negative.
 use mathlib.Core.Path.{_≡_, refl, sym, _∙_, ap}
 use mathlib.Core.Bool.{Bool, true, false, _&&_}
-use mathlib.Core.List.{List, [], _∷_}
+use mathlib.Core.List.{List, [], _∷_, _++_, map}
 use Prim.Native.Nat.{ℕ, _<_}
 use native.Mathlib.Omega.{arith}
 use lib.Dec.{ltb, eqb}
@@ -20,7 +20,9 @@ use Rattle.numbers.specs.Value.{Value, field, conj, real, half, value}
 use Rattle.numbers.proofs.Residues.{val-res}
 use Rattle.numbers.proofs.Values.{field-ring}
 use Rattle.numbers.proofs.Parts.{half-law}
+use Rattle.line.specs.Specimens as Lines
 use Rattle.line.specs.Tests.{first}
+use Rattle.line.proofs.Specimens.{specimens-shown as lines-shown}
 use Rattle.line.proofs.Tests.{stop, pass, not-t, not-f, both}
 use Rattle.cell.specs.Operations.{Sizes}
 use Rattle.cell.specs.Volume.{groupOf}
@@ -28,7 +30,7 @@ use Rattle.cell.specs.Consistency.{agreesWithItself}
 use Rattle.cell.proofs.Records.{agrees-iff}
 use Rattle.job.specs.Header.{Header, axisTests, halvesOf, jobOf, collecting}
 use Rattle.job.specs.Steps.{p, within, index, recordTests, recordStep, unchanged}
-use Rattle.job.specs.Specimens.{Specimen, specimens, Shown, AllShown, Specimens}
+use Rattle.job.specs.Specimens.{Specimen, records, Shown, Starred, transformed, recorded, AllHold, Specimens}
 use Rattle.refusals.proofs.Headers.{sound-sizes}
 use Rattle.job.proofs.Jobs.{opened-valid}
 use Rattle.refusals.proofs.Openings.{header-passed}
@@ -57,7 +59,7 @@ abbrev AllReversed : List Specimen → Type 0
 AllReversed [] = Unit
 AllReversed (x ∷ l) = Reversed x × AllReversed l
 
-computed : AllReversed specimens
+computed : AllReversed records
 unfolding im flip imp sgn star pow
 computed = (
   record {
@@ -127,9 +129,13 @@ module _ (x : Specimen) (r : Reversed x) where
       let o = opened-collecting h lent e in
       rw (o .1) (refused h g (header-passed h 0 lent (o .0)) v a b la lb n)
 
-all-shown : (l : List Specimen) → AllReversed l → AllShown l
-all-shown [] r = tt
-all-shown (x ∷ l) r = (shown x (r .0), all-shown l (r .1))
+hold-records : (l : List Specimen) → AllReversed l → AllHold (map recorded l)
+hold-records [] r = tt
+hold-records (x ∷ l) r = (shown x (r .0), hold-records l (r .1))
 
-pub specimens-shown : Specimens
-specimens-shown = record { shown = all-shown specimens computed }
+hold-lines : (l : List Lines.Specimen) → Lines.AllShown l → (rest : List Starred) → AllHold rest → AllHold (map transformed l ++ rest)
+hold-lines [] h rest k = k
+hold-lines (x ∷ l) h rest k = (h .0, hold-lines l (h .1) rest k)
+
+pub specimens-hold : Specimens
+specimens-hold = record { hold = hold-lines Lines.specimens (lines-shown .shown) (map recorded records) (hold-records records computed) }

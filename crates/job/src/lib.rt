@@ -68,7 +68,7 @@ pub enum FactorAnswer {
     Refused(Refusal),
 }
 
-// The paper's starred records, refused by the definitions whatever the cell and the value.
-pub fn starred_records()
+// The paper's starred specimens: the lines, and the records, refused whatever the cell and the value.
+pub fn starred_specimens()
     ensures { λ _. ⌜ Specimens ⌝ }
 {}

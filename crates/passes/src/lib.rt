@@ -57,7 +57,7 @@ pub fn synthesise<'a>(
         f2,
         f3,
     };
-    turn_volume(plan, re, im, tan, volume, scratch, fold, work);
+    turn_volume(m, plan, re, im, tan, volume, scratch, fold, work);
 }
 
 // Analysis: the map becomes the packed factors of the cell whose map it is. The axes go in the other order.
@@ -95,11 +95,13 @@ pub fn analyse<'a>(
         f2,
         f3,
     };
-    turn_volume(plan, re, im, tan, volume, scratch, fold, work);
+    turn_volume(m, plan, re, im, tan, volume, scratch, fold, work);
 }
 
-// Every line of the job, one after the other.
+// Every line of the job, one after the other. The modulus goes down beside the plan as a number of its own, so that the
+// compiler can see the constant that the calls hand in.
 fn turn_volume<'a>(
+    m: u32,
     plan: Plan,
     re: &'a [u32; 2880],
     im: &'a [u32; 2880],
@@ -109,7 +111,7 @@ fn turn_volume<'a>(
     fold: &mut [u32],
     work: &mut [u32],
 )
-    requires { ⌜ Planned plan × TablesOf (plan .m) (plan .direction) (now re) (now im) (now tan) ⌝ }
+    requires { ⌜ Planned plan × TablesOf (plan .m) (plan .direction) (now re) (now im) (now tan) × (m ≡ plan .m) ⌝ }
     requires { ⌜ Fitting plan (now volume) ⌝ }
     requires { ⌜ Lent (now scratch) (now fold) (now work) ⌝ }
     ensures { λ _. ⌜ (now (volume .exit) ≡ turns (planTurn plan) 0 (lineCount (groupIn plan) (halvesIn plan)) (now (volume .entry))) × Kept (now (scratch .entry)) (now (scratch .exit)) ⌝ }
@@ -118,13 +120,14 @@ fn turn_volume<'a>(
     let mut n = 0;
     while n < count {
         let j = axes::line_of_turn(plan, n);
-        turn_line(plan, re, im, tan, j, volume, scratch, fold, work);
+        turn_line(m, plan, re, im, tan, j, volume, scratch, fold, work);
         n += 1;
     }
 }
 
 // Line number j of the job. A row along k is lent as a part of the volume from its offset on.
 pub fn turn_line<'a>(
+    m: u32,
     plan: Plan,
     re: &'a [u32; 2880],
     im: &'a [u32; 2880],
@@ -135,7 +138,7 @@ pub fn turn_line<'a>(
     fold: &mut [u32],
     work: &mut [u32],
 )
-    requires { ⌜ Planned plan × TablesOf (plan .m) (plan .direction) (now re) (now im) (now tan) ⌝ }
+    requires { ⌜ Planned plan × TablesOf (plan .m) (plan .direction) (now re) (now im) (now tan) × (m ≡ plan .m) ⌝ }
     requires { ⌜ Fitting plan (now volume) × (j < lineCount (groupIn plan) (halvesIn plan)) ⌝ }
     requires { ⌜ Lent (now scratch) (now fold) (now work) ⌝ }
     ensures { λ _. ⌜ (now (volume .exit) ≡ lineTurn plan j (now (volume .entry))) × Kept (now (scratch .entry)) (now (scratch .exit)) ⌝ }
@@ -144,8 +147,8 @@ pub fn turn_line<'a>(
     if line.kind == 1 {
         let start = 2 * line.start;
         let end = start + 2 * line.count;
-        rows::turn_row(line, re, im, tan, &mut volume[start..end], fold, work);
+        rows::turn_row(m, line, re, im, tan, &mut volume[start..end], fold, work);
     } else {
-        lines::turn_gathered(line, re, im, tan, volume, scratch, fold, work);
+        lines::turn_gathered(m, line, re, im, tan, volume, scratch, fold, work);
     }
 }

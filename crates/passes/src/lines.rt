@@ -13,6 +13,7 @@ ghost use Rattle.passes.specs.Lines.{Sound, Spaced, TablesFor, turnedPac
 
 // A line whose pairs stand apart.
 pub fn turn_gathered<'a>(
+    m: u32,
     line: Line,
     re: &'a [u32; 2880],
     im: &'a [u32; 2880],
@@ -22,19 +23,20 @@ pub fn turn_gathered<'a>(
     fold: &mut [u32],
     work: &mut [u32],
 )
-    requires { ⌜ Spaced (length (now volume)) line × TablesFor line (now re) (now im) (now tan) ⌝ }
+    requires { ⌜ Spaced (length (now volume)) line × TablesFor line (now re) (now im) (now tan) × (m ≡ line .m) ⌝ }
     requires { ⌜ Below (prime (line .m)) (now volume) ⌝ }
     requires { ⌜ Lent (now scratch) (now fold) (now work) ⌝ }
     ensures { λ _. ⌜ (now (volume .exit) ≡ gatheredTurn line (now (volume .entry))) × Kept (now (scratch .entry)) (now (scratch .exit)) ⌝ }
 {
     slices::gather(volume, line.start, line.stride, scratch, line.count);
     let size = 2 * line.count;
-    turn_packed(line, re, im, tan, &mut scratch[..size], fold, work);
+    turn_packed(m, line, re, im, tan, &mut scratch[..size], fold, work);
     slices::scatter(scratch, line.start, line.stride, volume, line.count);
 }
 
 // The numbers of a packed line.
 pub fn turn_packed<'a>(
+    m: u32,
     line: Line,
     re: &'a [u32; 2880],
     im: &'a [u32; 2880],
@@ -43,14 +45,14 @@ pub fn turn_packed<'a>(
     fold: &mut [u32],
     work: &mut [u32],
 )
-    requires { ⌜ Sound line × TablesFor line (now re) (now im) (now tan) ⌝ }
+    requires { ⌜ Sound line × TablesFor line (now re) (now im) (now tan) × (m ≡ line .m) ⌝ }
     requires { ⌜ (length (now packed) ≡ 2 * slots (kindOf (line .kind)) (line .half)) × Below (prime (line .m)) (now packed) ⌝ }
     requires { ⌜ (5760 ≤ length (now fold)) × (5760 ≤ length (now work)) ⌝ }
     ensures { λ _. ⌜ now (packed .exit) ≡ turnedPacked line (now (packed .entry)) ⌝ }
 {
     if line.direction == 0 {
         kinds::forward(
-            line.m,
+            m,
             line.kind,
             re,
             im,
@@ -63,7 +65,7 @@ pub fn turn_packed<'a>(
         );
     } else {
         kinds::inverse(
-            line.m,
+            m,
             line.kind,
             re,
             im,

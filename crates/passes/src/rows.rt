@@ -11,6 +11,7 @@ ghost use Rattle.passes.specs.Lines.{Sound, TablesFor, opened, closed};
 
 // A row of B + 1 pairs, of which the first and the last are real, becomes N2 = 2 B real values and two zeros, or back.
 pub fn turn_row<'a>(
+    m: u32,
     line: Line,
     re: &'a [u32; 2880],
     im: &'a [u32; 2880],
@@ -19,14 +20,14 @@ pub fn turn_row<'a>(
     fold: &mut [u32],
     work: &mut [u32],
 )
-    requires { ⌜ Sound line × (line .kind ≡ 1) × TablesFor line (now re) (now im) (now tan) ⌝ }
+    requires { ⌜ Sound line × (line .kind ≡ 1) × TablesFor line (now re) (now im) (now tan) × (m ≡ line .m) ⌝ }
     requires { ⌜ (length (now row) ≡ 2 * (line .half + 1)) × Below (prime (line .m)) (now row) ⌝ }
     requires { ⌜ (5760 ≤ length (now fold)) × (5760 ≤ length (now work)) ⌝ }
     ensures { λ _. ⌜ now (row .exit) ≡ turnedRow (line .m) (line .half) (line .direction) (now (row .entry)) ⌝ }
 {
     let size = 2 * line.half;
     open_row(line.direction, size, row);
-    lines::turn_packed(line, re, im, tan, &mut row[..size], fold, work);
+    lines::turn_packed(m, line, re, im, tan, &mut row[..size], fold, work);
     close_row(line.direction, size, row);
 }
 

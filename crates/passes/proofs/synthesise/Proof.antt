@@ -1,6 +1,6 @@
 -- All lines in the order of their numbers.
 use native.Mathlib.Omega.{arith}
-use mathlib.Core.Path.{_∙_}
+use mathlib.Core.Path.{refl, _∙_}
 use Rattle.cell.specs.Volume.{groupOf}
 use Rattle.cell.specs.Operations.{halvesOf}
 use Rattle.passes.specs.Passes.{lineCount}
@@ -10,7 +10,7 @@ use Rattle.passes.proofs.synthesise.Statement.{statement}
 use Rattle.passes.proofs.synthesise.Tie as tie
 
 turn-volume-requires : tie.Need-turn-volume-requires
-turn-volume-requires c κs = let s = c .before .before .before .before .before .before .before .before in ((record { modulus = s .pre .0 .0; directed = omega arith; sizes = s .pre .0 .2 }, s .pre .0 .1), (record { long = s .pre .1 .0 .0; small = s .pre .1 .0 .1 }, s .pre .1 .1 .1))
+turn-volume-requires c κs = let s = c .before .before .before .before .before .before .before .before in ((record { modulus = s .pre .0 .0; directed = omega arith; sizes = s .pre .0 .2 }, s .pre .0 .1, refl), (record { long = s .pre .1 .0 .0; small = s .pre .1 .0 .1 }, s .pre .1 .1 .1))
 
 same-length : tie.Need-same-length
 same-length c = c .before .before .before .before .before .before .before .volume .given

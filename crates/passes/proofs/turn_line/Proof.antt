@@ -1,6 +1,6 @@
 -- The kind of a line tells whether it is a row, which is lent as a part of the volume.
 use native.Mathlib.Omega.{arith}
-use mathlib.Core.Path.{refl, _∙_}
+use mathlib.Core.Path.{refl, sym, _∙_}
 use Prim.Native.Nat.{_+_, _*_}
 use lib.ListN.{length}
 use Rattle.numbers.specs.Prime.{prime}
@@ -57,15 +57,16 @@ turn-row-requires c κs =
     let s = start i in
     let x = row i in
     let b = ready i in
-    ((b .0 .0 .sound, b .0 .0 .hermitian, b .0 .1), ((row-long x (s .args .volume .now) (b .0 .0), below-segment (2 * x .start) (2 * x .start + 2 * x .count) (b .1)), (s .pre .1 .1 .fold-fits, s .pre .1 .1 .work-fits)))
+    ((b .0 .0 .sound, b .0 .0 .hermitian, b .0 .1, s .pre .0 .2 ∙ sym (found i .modulus)), ((row-long x (s .args .volume .now) (b .0 .0), below-segment (2 * x .start) (2 * x .start + 2 * x .count) (b .1)), (s .pre .1 .1 .fold-fits, s .pre .1 .1 .work-fits)))
 
 turn-gathered-requires : tie.Need-turn-gathered-requires
 turn-gathered-requires c κs =
     let i = c .before .before .before .before in
     let l = i .before .before in
     let s = l .before .before .before .before .before in
-    let g = gathered-ready (s .args .plan) (l .line-at .result) (s .args .volume .now) (s .args .re .now) (s .args .im .now) (s .args .tan .now) (s .pre .1 .0 .0) (s .pre .0 .1) (gathered-found (s .args .plan) (s .args .j) (l .line-at .result) (l .line-at .ensures) (i .if1 .left)) in
-    (g .0, (g .1, s .pre .1 .1))
+    let g = gathered-found (s .args .plan) (s .args .j) (l .line-at .result) (l .line-at .ensures) (i .if1 .left) in
+    let b = gathered-ready (s .args .plan) (l .line-at .result) (s .args .volume .now) (s .args .re .now) (s .args .im .now) (s .args .tan .now) (s .pre .1 .0 .0) (s .pre .0 .1) g in
+    ((b .0 .0, b .0 .1, s .pre .0 .2 ∙ sym (g .modulus)), (b .1, s .pre .1 .1))
 
 same-length : tie.Need-same-length
 same-length c =

@@ -13,10 +13,10 @@ use Rattle.passes.proofs.turn_volume.Statement.{statement}
 use Rattle.passes.proofs.turn_volume.Tie as tie
 
 abbrev Inv-loop : tie.InvT-loop
-Inv-loop plan re im tan volume₀ scratch₀ fold₀ work₀ count n₀ volume scratch fold work n = Turning (planTurn plan) count n volume₀ volume scratch₀ scratch fold₀ fold work₀ work
+Inv-loop m plan re im tan volume₀ scratch₀ fold₀ work₀ count n₀ volume scratch fold work n = Turning (planTurn plan) count n volume₀ volume scratch₀ scratch fold₀ fold work₀ work
 
 abbrev μ-loop : tie.MeasureT-loop
-μ-loop plan re im tan volume₀ scratch₀ fold₀ work₀ count n₀ volume scratch fold work n = count - n
+μ-loop m plan re im tan volume₀ scratch₀ fold₀ work₀ count n₀ volume scratch fold work n = count - n
 
 line-count-requires : tie.Need-line-count-requires Inv-loop μ-loop
 line-count-requires c κs = c .before .before .before .before .pre .0 .0 .sizes

@@ -31,7 +31,7 @@ turn-packed-requires : tie.Need-turn-packed-requires
 turn-packed-requires c κs =
     let o = c .before .before .before .before .before in
     let s = o .before .before .before .before .before .before in
-    ((s .pre .0 .0, s .pre .0 .2), (opened-packed (s .args .line) (s .pre .0 .1) (s .args .row .now) _ (s .pre .1 .0 .0) (s .pre .1 .0 .1) (o .open-row .ensures), s .pre .1 .1))
+    ((s .pre .0 .0, s .pre .0 .2, s .pre .0 .3), (opened-packed (s .args .line) (s .pre .0 .1) (s .args .row .now) _ (s .pre .1 .0 .0) (s .pre .1 .0 .1) (o .open-row .ensures), s .pre .1 .1))
 
 close-row-requires : tie.Need-close-row-requires
 close-row-requires c κs =

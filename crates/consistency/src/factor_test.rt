@@ -8,6 +8,7 @@ use cell::operations::Operation;
 use cell::places;
 use cell::stored;
 ghost use mathlib.Core.Path.{_≡_};
+ghost use mathlib.Core.Bool.{true};
 ghost use Prim.Native.Nat.{suc, _*_, _/_, _<_, _≤_};
 ghost use lib.ListN.{length};
 ghost use Rattle.algebra.specs.Cell.{Pa, span};
@@ -59,8 +60,31 @@ fn image_agrees(
     }
 }
 
-// Every stored image of j agrees. The first operation leaves j where it is, and need not be tried.
+// Every stored image of j agrees. Each operation but the first changes the sign of k or l (in P1 that of k), and leads an index between
+// the ends of both out of what is stored: nothing is to be tried there.
 fn factor_agrees(m: u32, group: u32, n1: u32, n2: u32, n3: u32, volume: &[u32], j: Index) -> bool
+    requires { ⌜ IsVolume group n1 n2 n3 (now volume) × IsModulus m × Below (prime m) (now volume) × IsStored group n1 n2 n3 j ⌝ }
+    ensures { λ r. ⌜ r ≡ lineAgrees (groupOf group) (halvesOf n1 n2 n3) m (now (volume .entry)) (tripleOf j) ⌝ }
+{
+    if between(j.k, n2 / 2) {
+        if group == 0 {
+            return true;
+        }
+        if between(j.l, n3 / 2) {
+            return true;
+        }
+    }
+    images_agree(m, group, n1, n2, n3, volume, j)
+}
+
+fn between(x: u32, end: u32) -> bool
+    ensures { λ r. ⌜ (r ≡ true → (0 < x) × (x < end)) ⌝ }
+{
+    if x == 0 { false } else { x < end }
+}
+
+// The first operation leaves j where it is, and need not be tried.
+fn images_agree(m: u32, group: u32, n1: u32, n2: u32, n3: u32, volume: &[u32], j: Index) -> bool
     requires { ⌜ IsVolume group n1 n2 n3 (now volume) × IsModulus m × Below (prime m) (now volume) × IsStored group n1 n2 n3 j ⌝ }
     ensures { λ r. ⌜ r ≡ lineAgrees (groupOf group) (halvesOf n1 n2 n3) m (now (volume .entry)) (tripleOf j) ⌝ }
 {

@@ -1,75 +1,51 @@
--- The operations that were tried agree; the first is the identity.
+-- Between the ends nothing else is stored; at the ends the images are tried.
 use borrow.Author.Needs.{needs}
-use Prim.Native.Nat.{_-_}
-use native.Mathlib.Omega.{arith}
-use Rattle.algebra.specs.Cell.{one, full}
+use mathlib.Core.Path.{_≡_, sym, ap, _∙_}
+use Prim.Native.Nat.{_/_}
 use Rattle.cell.specs.Volume.{groupOf}
+use Rattle.cell.specs.Consistency.{lineAgrees}
 use Rattle.cell.specs.Operations.{halvesOf, tripleOf}
-use Rattle.cell.specs.TestSteps.{imageAgrees}
-use Rattle.consistency.proofs.Passing.{PassingMembers, members-second, members-next, members-stop, members-done}
-use Rattle.consistency.proofs.TestLaws.{first-full, identity-agrees}
+use Rattle.consistency.proofs.Interior.{inner-P1, inner}
 use Rattle.consistency.proofs.factor_test.factor_agrees.Statement.{statement}
 use Rattle.consistency.proofs.factor_test.factor_agrees.Tie as tie
 
-abbrev Inv-loop : tie.InvT-loop
-Inv-loop m group n1 n2 n3 volume j count number₀ number =
-    PassingMembers (full (groupOf group)) one (imageAgrees (groupOf group) (halvesOf n1 n2 n3) m volume (tripleOf j)) number
+between-requires : tie.Need-between-requires
+between-requires c κs = search needs
 
-abbrev μ-loop : tie.MeasureT-loop
-μ-loop m group n1 n2 n3 volume j count number₀ number = count - number
-
-operation-count-requires : tie.Need-operation-count-requires Inv-loop μ-loop
-operation-count-requires c κs = search needs
-
-loop-holds : tie.Need-loop-holds Inv-loop μ-loop
-loop-holds c =
-    let s = c .before .before in
-    let first = first-full (s .args .group) (s .pre .0 .sizes .known) in
-    members-second (first .0) (first .1) (identity-agrees (groupOf (s .args .group)) (halvesOf (s .args .n1) (s .args .n2) (s .args .n3)) (s .args .m) (s .args .volume .now) (tripleOf (s .args .j)))
-
-operation-at-requires : tie.Need-operation-at-requires Inv-loop μ-loop
-operation-at-requires c κs =
-    let t = c .before .before in
-    (t .before .before .pre .0 .sizes .known, omega (arith, t .operation-count .ensures))
-
-image-agrees-requires : tie.Need-image-agrees-requires Inv-loop μ-loop
-image-agrees-requires c κs = search needs
-
-add-number : tie.Need-add-number Inv-loop μ-loop
-add-number c = omega arith
-
-loop-less : tie.Need-loop-less Inv-loop μ-loop
-loop-less c = omega arith
-
-loop-again : tie.Need-loop-again Inv-loop μ-loop
-loop-again c =
-    let t = c .before .before in
-    let l = t .before .before in
-    members-next (l .loop .inv) (omega (arith, l .before .operation-count .ensures)) (t .operation-at .ensures) (c .before .image-agrees .ensures) (c .if1 .taken)
-
-returns : tie.Need-returns Inv-loop μ-loop
+returns : tie.Need-returns
 returns c =
-    let t = c .before .before in
-    let l = t .before .before in
-    members-stop (l .loop .inv) (omega (arith, l .before .operation-count .ensures)) (t .operation-at .ensures) (c .before .image-agrees .ensures) (c .if1 .left)
+    let b = c .before .before in
+    let s = b .before .before in
+    let r = b .between .ensures (c .before .if1 .taken) in
+    let a = halvesOf (s .args .n1) (s .args .n2) (s .args .n3) in
+    sym (ap (λ n. lineAgrees (groupOf n) a (s .args .m) (s .args .volume .now) (tripleOf (s .args .j))) (c .if2 .taken) ∙ inner-P1 a (s .args .m) (s .args .volume .now) (tripleOf (s .args .j)) (r .0) (r .1))
 
-returns-2 : tie.Need-returns-2 Inv-loop μ-loop
+between-requires-2 : tie.Need-between-requires-2
+between-requires-2 c κs = search needs
+
+returns-2 : tie.Need-returns-2
 returns-2 c =
-    let l = c .before in
-    members-done (l .loop .inv) (omega (arith, l .before .operation-count .ensures))
+    let t = c .before in
+    let i = t .before .before in
+    let b = i .before in
+    let s = b .before .before in
+    let r = b .between .ensures (i .if1 .taken) in
+    let q = t .between2 .ensures (c .if3 .taken) in
+    sym (inner (halvesOf (s .args .n1) (s .args .n2) (s .args .n3)) (s .args .m) (s .args .volume .now) (tripleOf (s .args .j)) (r .0) (r .1) (s .args .group) (s .pre .0 .sizes .known) (q .0) (q .1))
+
+images-agree-requires : tie.Need-images-agree-requires
+images-agree-requires c κs = search needs
+
+returns-3 : tie.Need-returns-3
+returns-3 c = search needs
 
 pub factor-agrees-spec : {M : Type 1} → statement M
 factor-agrees-spec =
     tie.close
     (tie.spec
-    Inv-loop
-    μ-loop
-    operation-count-requires
-    loop-holds
-    operation-at-requires
-    image-agrees-requires
-    add-number
-    loop-less
-    loop-again
+    between-requires
     returns
-    returns-2)
+    between-requires-2
+    returns-2
+    images-agree-requires
+    returns-3)

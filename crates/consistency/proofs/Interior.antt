@@ -1,0 +1,61 @@
+-- An index between the ends of k and of l: no operation but the identity leads to a stored index.
+use mathlib.Core.Path.{_≡_, refl, sym, _∙_, ap}
+use mathlib.Core.Bool.{Bool, true, false, _&&_}
+use mathlib.Core.List.{List, [], _∷_}
+use Prim.Native.Nat.{ℕ, suc, _≤_, _<_}
+use native.Mathlib.Omega.{arith}
+use lib.Dec.{leb, ltb}
+use borrow.Author.Tests.{le-ltb, lt-leb}
+use Rattle.algebra.specs.Cell.{J, Sym, Sym.sym as op, friedel, Group, P1, P2₁, Pm, Pa, span, im, flip, negI}
+use Rattle.algebra.specs.CellTests.{every, storedT}
+use Rattle.algebra.proofs.CellAxis.{neg-pos}
+use Rattle.cell.specs.Volume.{groupOf}
+use Rattle.cell.specs.Consistency.{lineAgrees}
+use Rattle.cell.specs.TestSteps.{imageAgrees}
+use Rattle.cell.proofs.OperationLaws.{by-group}
+use Rattle.consistency.proofs.TestLaws.{identity-agrees, image-skipped}
+
+module _ {A : Type 0} (P : A → Bool) where
+  both : {s t : A} → P s ≡ true → P t ≡ true → every (s ∷ t ∷ []) P ≡ true
+  unfolding every
+  both e f = λ i. e i && (f i && true)
+
+  four : {s t u v : A} → P s ≡ true → P t ≡ true → P u ≡ true → P v ≡ true → every (s ∷ t ∷ u ∷ v ∷ []) P ≡ true
+  unfolding every
+  four e f g h = λ i. e i && (f i && (g i && (h i && true)))
+
+and-false : (b : Bool) → (b && false) ≡ false
+and-false true = refl
+and-false false = refl
+
+module _ (a : J) (m : ℕ) (v : List ℕ) (j : J) where
+  -- the sign of k changes
+  k-skipped : (g : Group) (s : Sym) → (im a s j) .1 ≡ negI (a .1) (j .1) → 0 < j .1 → j .1 < a .1 → imageAgrees g a m v j s ≡ true
+  k-skipped g s e lo hi =
+      let out : a .1 < (im a s j) .1 = omega (arith, e, neg-pos (a .1) (j .1) lo (omega arith)) in
+      sym (image-skipped g a m v j s refl (sym (ap (λ b. b && ltb ((im a s j) .2) (span g (a .2))) (lt-leb _ _ out))) refl)
+
+  -- the sign of l changes, where the lines are stored up to A
+  l-skipped : (g : Group) (s : Sym) → span g (a .2) ≡ suc (a .2) → (im a s j) .2 ≡ negI (a .2) (j .2) → 0 < j .2 → j .2 < a .2 → imageAgrees g a m v j s ≡ true
+  l-skipped g s w e lo hi =
+      let out : span g (a .2) ≤ (im a s j) .2 = omega (arith, w, e, neg-pos (a .2) (j .2) lo (omega arith)) in
+      sym (image-skipped g a m v j s refl (sym (ap (λ b. leb ((im a s j) .1) (a .1) && b) (le-ltb _ _ out) ∙ and-false (leb ((im a s j) .1) (a .1)))) refl)
+
+  module _ (lo : 0 < j .1) (hi : j .1 < a .1) where
+    -- Friedel's rule changes every sign
+    mate : (g : Group) → imageAgrees g a m v j friedel ≡ true
+    unfolding im flip
+    mate g = k-skipped g friedel refl lo hi
+
+    pub inner-P1 : lineAgrees P1 a m v j ≡ true
+    inner-P1 = both (imageAgrees P1 a m v j) (identity-agrees P1 a m v j) (mate P1)
+
+    pub inner : (n : ℕ) → n < 4 → 0 < j .2 → j .2 < a .2 → lineAgrees (groupOf n) a m v j ≡ true
+    unfolding im flip span
+    inner n l lo′ hi′ =
+        by-group (λ g. lineAgrees g a m v j ≡ true)
+        inner-P1
+        (four (imageAgrees P2₁ a m v j) (identity-agrees P2₁ a m v j) (k-skipped P2₁ (op false true true false false false true) refl lo hi) (mate P2₁) (l-skipped P2₁ (op true false false true false false true) refl refl lo′ hi′))
+        (four (imageAgrees Pm a m v j) (identity-agrees Pm a m v j) (l-skipped Pm (op false false false true false false false) refl refl lo′ hi′) (mate Pm) (k-skipped Pm (op true true true false false false false) refl lo hi))
+        (four (imageAgrees Pa a m v j) (identity-agrees Pa a m v j) (l-skipped Pa (op false false false true true false false) refl refl lo′ hi′) (mate Pa) (k-skipped Pa (op true true true false true false false) refl lo hi))
+        n l

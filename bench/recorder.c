@@ -6,7 +6,7 @@
 #include "files.h"
 #include "fftw.h"
 
-enum { TURNS = 3, SCRATCH = 11520 };
+enum { TURNS = 5, SCRATCH = 11520 };
 
 typedef struct { double synthesis, analysis; } call_times;
 typedef struct { const char *name; int group; uint32_t n; const char *list; call_times proved, plain; } measured;

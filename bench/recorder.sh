@@ -1,6 +1,6 @@
 #!/usr/bin/env bash
 # Times synthesis and analysis of the proved calls beside the same passes in C at -O3 and FFTW's double transforms, then records and factor
-# files: processor time, the least of three alternating runs, less than two minutes once the library is proved.
+# files: processor time, the least of five alternating runs, less than three minutes once the library is proved.
 #   profile      instead, the shares of the proved functions in a synthesis of P1 at 240^3, by perf
 set -eu
 cd "$(dirname "$0")/.."

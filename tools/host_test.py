@@ -379,13 +379,6 @@ def bounded(volume):
     return lambda: resource.setrlimit(resource.RLIMIT_AS, (4 * volume + 24 * 2 ** 20,) * 2)
 
 
-def outside(tool):
-    """The share of the time of `map -o` that is not the synthesis."""
-    err = tool.run("map", tool.path("large0"), "-o", tool.path("large.map"), "--times")[2]
-    reading, synthesis, writing = map(float, re.findall(rb"([0-9.]+) s", err))
-    return (reading + writing) / (reading + synthesis + writing)
-
-
 def large_grids(tool):
     rng = random.Random(SEED)
     for g, length, fs in LARGE:
@@ -401,7 +394,6 @@ def large_grids(tool):
                 q = tuple(rng.randrange(m) for m in (*n[:2], planes(g, n)))
                 densities.seek(len(map_head(g, n, [fs] * 3)) + 4 * ((q[2] * length + q[0]) * length + q[1]))
                 tool.expect(what + ": the density at %s" % (q,), number(densities.read(4)), direct_density(g, n, found, q))
-    tool.expect("the share outside the synthesis, below a third", any(outside(tool) < 1 / 3 for _ in range(3)), True)
     tool.fails("no memory", ("map", tool.path("large0")), b"no memory", preexec_fn=bounded(0))
 
 

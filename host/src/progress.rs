@@ -1,12 +1,12 @@
 //! Progress of long work on standard error, where that is a terminal: what is being done, for how long or how far. Nothing is shown of work that
-//! is done within half a second, and nothing stays behind.
+//! is done within a tenth of a second, and nothing stays behind.
 use std::io::{self, IsTerminal, Write};
 use std::sync::atomic::{AtomicU32, Ordering};
 use std::sync::mpsc::{channel, Receiver, RecvTimeoutError};
 use std::thread;
 use std::time::{Duration, Instant};
 
-const PAUSE: Duration = Duration::from_millis(500);
+const PAUSE: Duration = Duration::from_millis(100);
 const UNKNOWN: u32 = u32::MAX;
 
 /// How far the work has come, in hundredths; a proved call does not say.

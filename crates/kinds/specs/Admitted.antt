@@ -1,6 +1,6 @@
 -- The lengths that are transformed, and their factor lists.
 use mathlib.Core.Path.{_≡_}
-use Prim.Native.Nat.{ℕ, _+_, _*_, _/_, _≤_, _<_}
+use Prim.Native.Nat.{ℕ, _*_, _/_, _≤_, _<_}
 use Rattle.plain.specs.Factors.{Factored}
 
 -- A length N = 2 A that divides 2,880: e(1/N) is the root's power 2,880/N, e(A/N) its power 1,440, and e(1/A) the square of e(1/N).
@@ -15,8 +15,7 @@ pub record AdmittedLength (N : ℕ) : Type 0 where
   pub square : 2880 / (N / 2) ≡ 2 * (2880 / N)
   pub square-turns : N / 2 * (2880 / (N / 2)) ≡ 2880
 
--- A factor list in octal digits, as the plain transform takes it: for the A points of a folded line, and with a silent factor 2 for the N points of a plain one.
+-- A factor list in octal digits, as the plain transform takes it, of the A points of a folded line.
 pub record FactorList (N factors : ℕ) : Type 0 where
   pub small : factors < 16777216
   pub folded : Factored factors (N / 2)
-  pub unfolded : Factored (2 + 8 * factors) N

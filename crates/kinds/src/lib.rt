@@ -1,7 +1,7 @@
 // A line of any kind, transformed in place with the tables that are lent: `forward` is direction 0, with those of the root, and `inverse` direction 1,
 // with those of its conjugate. These two are called for every line, of the line's own call and of a volume's.
 //
-// A plain line is transformed over its N = 2 A points, with a silent factor 2 before the lent ones; every other kind over A points.
+// A plain line is transformed over its N = 2 A points, by the list of twice the length; every other kind over A points.
 ghost use mathlib.Core.Path.{_≡_};
 ghost use Prim.Native.Nat.{_*_, _<_, _≤_};
 ghost use lib.ListN.{length};
@@ -33,7 +33,15 @@ pub fn forward<'a>(
     if kind == 0 {
         let n = 2 * a;
         let size = 2 * n;
-        plain::transform(m, re, im, 2 + 8 * factors, n, line, &mut work[..size]);
+        plain::transform(
+            m,
+            re,
+            im,
+            plain::doubled(factors),
+            n,
+            line,
+            &mut work[..size],
+        );
     } else {
         let size = 2 * a;
         folded(
@@ -73,7 +81,15 @@ pub fn inverse<'a>(
     if kind == 0 {
         let n = 2 * a;
         let size = 2 * n;
-        plain::inverse(m, re, im, 2 + 8 * factors, n, line, &mut work[..size]);
+        plain::inverse(
+            m,
+            re,
+            im,
+            plain::doubled(factors),
+            n,
+            line,
+            &mut work[..size],
+        );
     } else {
         let size = 2 * a;
         unfolded(

@@ -11,7 +11,7 @@ use lib.ListN.{length}
 use borrow.Author.Tests.{not-false, leb-false, ltb-false, ltb-true, eqb-true}
 use Rattle.slices.proofs.Bounds.{below-allBelow}
 use Rattle.plain.specs.Factors.{Factored, product, octal}
-use Rattle.plain.proofs.Factoring.{packed, with-two}
+use Rattle.plain.proofs.Factoring.{packed}
 use Rattle.kinds.specs.Transform.{kindOf}
 use Rattle.kinds.specs.Admitted.{AdmittedLength, FactorList}
 use Rattle.kinds.proofs.Counts.{slots-le}
@@ -67,8 +67,7 @@ pub factor-list : {N : ℕ} (factors : List ℕ) → AdmittedLength N → factor
 factor-list {N} factors size e p =
     let t = factors-of factors e in
     let eight : length factors ≤ 8 = at-most-eight factors (1440 / (N / 2)) t (ap (λ (x : ℕ). x * (1440 / (N / 2))) p ∙ size .half-turns) in
-    let half : Factored (octal factors) (N / 2) = subst (Factored (octal factors)) p (packed t) in
-    record { small = octal-below 8 factors e eight; folded = half; unfolded = subst (Factored (2 + 8 * octal factors)) (size .whole) (with-two half) }
+    record { small = octal-below 8 factors e eight; folded = subst (Factored (octal factors)) p (packed t) }
 
 -- ---- all of it
 

@@ -29,10 +29,6 @@ unpacked (more {f} low high h) =
     let u = unpacked h in
     record { list = f ∷ u .list; each = one low high (u .each); packs = ap (λ x. f + 8 * x) (u .packs); product-is = ap (λ x. f * x) (u .product-is) }
 
--- a silent first factor
-pub with-two : {factors k : ℕ} → Factored factors k → Factored (2 + 8 * factors) (2 * k)
-with-two h = more {f = 2} (omega arith) (omega arith) h
-
 -- the empty list
 pub factored-none : {k : ℕ} → Factored 0 k → k ≡ 1
 factored-none {k} h = at h refl

@@ -1,5 +1,6 @@
 pub mod Equation3
 pub mod Factoring
+pub mod Doubling
 pub mod Buffers
 pub mod Driving
 pub mod Scaling

@@ -88,6 +88,23 @@ pub fn scale(m: u32, c: u32, n: usize, line: &mut [u32])
     }
 }
 
+// The list of twice the length: a 2 of it becomes a 4, or, where it has none, a 2 is added at its end.
+pub fn doubled(factors: u32) -> u32
+    requires { ⌜ factors < 16777216 ⌝ }
+    ensures { λ r. ⌜ ((n : ℕ) → Factored factors n → Factored r (2 * n)) ⌝ }
+{
+    let mut left = factors;
+    let mut place = 1;
+    while left != 0 {
+        if left % 8 == 2 {
+            return factors + 2 * place;
+        }
+        left = left / 8;
+        place = place * 8;
+    }
+    factors + 2 * place
+}
+
 // One step: inner sums of length A, with B times as many lines, become inner sums of length A B.
 fn step<'a>(
     m: u32,

@@ -1,10 +1,5 @@
-pub mod Sizes
-pub mod Rowing
-pub mod Passes
 pub mod OuterSums
 pub mod Unreduced
 pub mod Turns
 pub mod Cases
 pub mod Butterflies
-pub mod Spreading
-pub mod Passing

@@ -6,7 +6,7 @@ use Rattle.algebra.specs.Ring.{Ops, CRing, pow, sum}
 use Rattle.algebra.proofs.Solver.{ring, quote}
 use Rattle.algebra.proofs.Sums.{sum-cong}
 use Rattle.algebra.proofs.Transform.{pow-mul, pow-mod}
-use Rattle.butterflies.specs.Steps.{e, outerAt}
+use Rattle.butterflies.specs.Outer.{e, outerAt}
 
 module _ {R : Type 0} {𝓞 : Ops R} (𝓡 : CRing 𝓞) where
   open Ops 𝓞 using (add as _⊕_, mul as _⊗_, neg as ⊖_, zer as 𝟘, one as 𝟙)
@@ -65,28 +65,28 @@ module _ {R : Type 0} {𝓞 : Ops R} (𝓡 : CRing 𝓞) where
 
     -- the powers 1, c + i s, c - i s
     module _ (i c s : R) (h1 : P 1 ≡ c ⊕ i ⊗ s) (h2 : P 2 ≡ c ⊕ ⊖ (i ⊗ s)) where
-      pub three-0 : sum 𝓞 3 (λ b. P (b * 0 % 3) ⊗ X b) ≡ X 0 ⊕ 𝟙 ⊗ (X 1 ⊕ X 2)
+      pub three-0 : sum 𝓞 3 (λ b. P (b * 0 % 3) ⊗ X b) ≡ X 0 ⊕ (X 1 ⊕ X 2)
       three-0 = weighed-3 (λ b. P (b * 0 % 3)) X h0 h0 h0 ∙ ring 𝓡 (X 0 ∷ X 1 ∷ X 2 ∷ []) (search quote depth 40 fits 9999) refl
 
-      pub three-1 : sum 𝓞 3 (λ b. P (b * 1 % 3) ⊗ X b) ≡ (X 0 ⊕ c ⊗ (X 1 ⊕ X 2)) ⊕ (𝟘 ⊕ s ⊗ (i ⊗ (X 1 ⊕ ⊖ X 2)))
+      pub three-1 : sum 𝓞 3 (λ b. P (b * 1 % 3) ⊗ X b) ≡ (X 0 ⊕ c ⊗ (X 1 ⊕ X 2)) ⊕ s ⊗ (i ⊗ (X 1 ⊕ ⊖ X 2))
       three-1 = weighed-3 (λ b. P (b * 1 % 3)) X h0 h1 h2 ∙ ring 𝓡 (i ∷ c ∷ s ∷ X 0 ∷ X 1 ∷ X 2 ∷ []) (search quote depth 40 fits 9999) refl
 
-      pub three-2 : sum 𝓞 3 (λ b. P (b * 2 % 3) ⊗ X b) ≡ (X 0 ⊕ c ⊗ (X 1 ⊕ X 2)) ⊕ ⊖ (𝟘 ⊕ s ⊗ (i ⊗ (X 1 ⊕ ⊖ X 2)))
+      pub three-2 : sum 𝓞 3 (λ b. P (b * 2 % 3) ⊗ X b) ≡ (X 0 ⊕ c ⊗ (X 1 ⊕ X 2)) ⊕ ⊖ (s ⊗ (i ⊗ (X 1 ⊕ ⊖ X 2)))
       three-2 = weighed-3 (λ b. P (b * 2 % 3)) X h0 h2 h1 ∙ ring 𝓡 (i ∷ c ∷ s ∷ X 0 ∷ X 1 ∷ X 2 ∷ []) (search quote depth 40 fits 9999) refl
 
     -- the powers 1, c + i s, d + i t, d - i t, c - i s
     module _ (i c s d t : R) (h1 : P 1 ≡ c ⊕ i ⊗ s) (h2 : P 2 ≡ d ⊕ i ⊗ t) (h3 : P 3 ≡ d ⊕ ⊖ (i ⊗ t)) (h4 : P 4 ≡ c ⊕ ⊖ (i ⊗ s)) where
-      pub five-0 : sum 𝓞 5 (λ b. P (b * 0 % 5) ⊗ X b) ≡ X 0 ⊕ 𝟙 ⊗ (X 1 ⊕ X 4) ⊕ 𝟙 ⊗ (X 2 ⊕ X 3)
+      pub five-0 : sum 𝓞 5 (λ b. P (b * 0 % 5) ⊗ X b) ≡ X 0 ⊕ (X 1 ⊕ X 4) ⊕ (X 2 ⊕ X 3)
       five-0 = weighed-5 (λ b. P (b * 0 % 5)) X h0 h0 h0 h0 h0 ∙ ring 𝓡 (X 0 ∷ X 1 ∷ X 2 ∷ X 3 ∷ X 4 ∷ []) (search quote depth 40 fits 9999) refl
 
-      pub five-1 : sum 𝓞 5 (λ b. P (b * 1 % 5) ⊗ X b) ≡ (X 0 ⊕ c ⊗ (X 1 ⊕ X 4) ⊕ d ⊗ (X 2 ⊕ X 3)) ⊕ (𝟘 ⊕ s ⊗ (i ⊗ (X 1 ⊕ ⊖ X 4)) ⊕ t ⊗ (i ⊗ (X 2 ⊕ ⊖ X 3)))
+      pub five-1 : sum 𝓞 5 (λ b. P (b * 1 % 5) ⊗ X b) ≡ (X 0 ⊕ (c ⊗ (X 1 ⊕ X 4) ⊕ d ⊗ (X 2 ⊕ X 3))) ⊕ (s ⊗ (i ⊗ (X 1 ⊕ ⊖ X 4)) ⊕ t ⊗ (i ⊗ (X 2 ⊕ ⊖ X 3)))
       five-1 = weighed-5 (λ b. P (b * 1 % 5)) X h0 h1 h2 h3 h4 ∙ ring 𝓡 (i ∷ c ∷ s ∷ d ∷ t ∷ X 0 ∷ X 1 ∷ X 2 ∷ X 3 ∷ X 4 ∷ []) (search quote depth 40 fits 9999) refl
 
-      pub five-2 : sum 𝓞 5 (λ b. P (b * 2 % 5) ⊗ X b) ≡ (X 0 ⊕ d ⊗ (X 1 ⊕ X 4) ⊕ c ⊗ (X 2 ⊕ X 3)) ⊕ (𝟘 ⊕ t ⊗ (i ⊗ (X 1 ⊕ ⊖ X 4)) ⊕ s ⊗ (i ⊗ (X 3 ⊕ ⊖ X 2)))
+      pub five-2 : sum 𝓞 5 (λ b. P (b * 2 % 5) ⊗ X b) ≡ (X 0 ⊕ (d ⊗ (X 1 ⊕ X 4) ⊕ c ⊗ (X 3 ⊕ X 2))) ⊕ (t ⊗ (i ⊗ (X 1 ⊕ ⊖ X 4)) ⊕ s ⊗ (i ⊗ (X 3 ⊕ ⊖ X 2)))
       five-2 = weighed-5 (λ b. P (b * 2 % 5)) X h0 h2 h4 h1 h3 ∙ ring 𝓡 (i ∷ c ∷ s ∷ d ∷ t ∷ X 0 ∷ X 1 ∷ X 2 ∷ X 3 ∷ X 4 ∷ []) (search quote depth 40 fits 9999) refl
 
-      pub five-3 : sum 𝓞 5 (λ b. P (b * 3 % 5) ⊗ X b) ≡ (X 0 ⊕ d ⊗ (X 1 ⊕ X 4) ⊕ c ⊗ (X 2 ⊕ X 3)) ⊕ ⊖ (𝟘 ⊕ t ⊗ (i ⊗ (X 1 ⊕ ⊖ X 4)) ⊕ s ⊗ (i ⊗ (X 3 ⊕ ⊖ X 2)))
+      pub five-3 : sum 𝓞 5 (λ b. P (b * 3 % 5) ⊗ X b) ≡ (X 0 ⊕ (d ⊗ (X 1 ⊕ X 4) ⊕ c ⊗ (X 3 ⊕ X 2))) ⊕ ⊖ (t ⊗ (i ⊗ (X 1 ⊕ ⊖ X 4)) ⊕ s ⊗ (i ⊗ (X 3 ⊕ ⊖ X 2)))
       five-3 = weighed-5 (λ b. P (b * 3 % 5)) X h0 h3 h1 h4 h2 ∙ ring 𝓡 (i ∷ c ∷ s ∷ d ∷ t ∷ X 0 ∷ X 1 ∷ X 2 ∷ X 3 ∷ X 4 ∷ []) (search quote depth 40 fits 9999) refl
 
-      pub five-4 : sum 𝓞 5 (λ b. P (b * 4 % 5) ⊗ X b) ≡ (X 0 ⊕ c ⊗ (X 1 ⊕ X 4) ⊕ d ⊗ (X 2 ⊕ X 3)) ⊕ ⊖ (𝟘 ⊕ s ⊗ (i ⊗ (X 1 ⊕ ⊖ X 4)) ⊕ t ⊗ (i ⊗ (X 2 ⊕ ⊖ X 3)))
+      pub five-4 : sum 𝓞 5 (λ b. P (b * 4 % 5) ⊗ X b) ≡ (X 0 ⊕ (c ⊗ (X 1 ⊕ X 4) ⊕ d ⊗ (X 2 ⊕ X 3))) ⊕ ⊖ (s ⊗ (i ⊗ (X 1 ⊕ ⊖ X 4)) ⊕ t ⊗ (i ⊗ (X 2 ⊕ ⊖ X 3)))
       five-4 = weighed-5 (λ b. P (b * 4 % 5)) X h0 h4 h3 h2 h1 ∙ ring 𝓡 (i ∷ c ∷ s ∷ d ∷ t ∷ X 0 ∷ X 1 ∷ X 2 ∷ X 3 ∷ X 4 ∷ []) (search quote depth 40 fits 9999) refl

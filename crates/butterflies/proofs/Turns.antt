@@ -1,5 +1,5 @@
 -- The powers of a table's root that butterflies use: the half turn, the quarter turn, and conjugate pairs.
-use mathlib.Core.Path.{_≡_, refl, sym, _∙_, ap}
+use mathlib.Core.Path.{_≡_, refl, sym, _∙_, ap, subst}
 use mathlib.Core.Logic.{_⊎_, ⊎-elim}
 use mathlib.Core.List.{List, [], _∷_}
 use Prim.Native.Nat.{ℕ, _+_, _-_, _≤_, _<_}
@@ -16,14 +16,13 @@ use Rattle.algebra.proofs.ResidueRing.{residue-neg}
 use Rattle.algebra.proofs.Conj.{conj-pow}
 use Rattle.numbers.specs.declared.Pair.{Pair}
 use Rattle.numbers.specs.Prime.{prime, IsModulus}
-use Rattle.numbers.specs.Value.{Value, Residue, field, conj, i, res, real, valueOf, pairOf}
+use Rattle.numbers.specs.Value.{Value, Residue, field, conj, i, res, real, valueOf, pairOf, Small}
 use Rattle.numbers.specs.Value as Value
 use Rattle.numbers.specs.Root.{entryAt, tableRoot, RootTable}
 use Rattle.numbers.proofs.Primes.{prime-least, prime-most}
 use Rattle.numbers.proofs.Residues.{val-res}
 use Rattle.numbers.proofs.RealValues.{real-neg, parts-value}
-use Rattle.numbers.proofs.Values.{field-ring, field-star}
-use Rattle.butterflies.proofs.Passes.{root-small, root-value}
+use Rattle.numbers.proofs.Values.{field-ring, field-star, small-pair, value-pair}
 
 -- the conjugate by its parts
 conj-parts : (m : ℕ) (x y : Residue m) → conj m (x, y) ≡ field m .add (real m x) (field m .neg (field m .mul (i m) (real m y)))
@@ -66,15 +65,21 @@ module _ {m : ℕ} {re im : List ℕ} (h : RootTable m re im) where
 
   -- a power by the parts that the tables hold, and that of its mate
   module _ {k : ℕ} (l : k < 2880) {r : Pair} (e : r ≡ entryAt re im k) where
+    pub root-small : Small (prime m) r
+    root-small = subst (Small (prime m)) (sym (e ∙ h .entry k l)) (small-pair m _)
+
+    pub root-value : valueOf m r ≡ pow (field m) W k
+    root-value = ap (valueOf m) (e ∙ h .entry k l) ∙ value-pair m _
+
     pub root-most : IsModulus m → (r .re ≤ 302399) × (r .im ≤ 302399)
-    root-most is = let s = root-small h l e in (omega (arith, prime-most is, s .re), omega (arith, prime-most is, s .im))
+    root-most is = let s = root-small in (omega (arith, prime-most is, s .re), omega (arith, prime-most is, s .im))
 
     pub power-parts : pow (field m) W k ≡ field m .add (real m (res m (r .re))) (field m .mul (i m) (real m (res m (r .im))))
     unfolding valueOf
-    power-parts = sym (root-value h l e) ∙ sym (parts-value m (res m (r .re)) (res m (r .im)))
+    power-parts = sym (root-value) ∙ sym (parts-value m (res m (r .re)) (res m (r .im)))
 
     pub mate-parts : (j : ℕ) → j + k ≡ 2880 → pow (field m) W j ≡ field m .add (real m (res m (r .re))) (field m .neg (field m .mul (i m) (real m (res m (r .im)))))
     unfolding valueOf
     mate-parts j whole =
         pow-across (field-ring m) W (conj m W) 2880 (h .circle) (h .cycle) j k 1 whole
-        ∙ sym (conj-pow (field-ring m) (field-star m) W k) ∙ ap (conj m) (sym (root-value h l e)) ∙ conj-parts m (res m (r .re)) (res m (r .im))
+        ∙ sym (conj-pow (field-ring m) (field-star m) W k) ∙ ap (conj m) (sym (root-value)) ∙ conj-parts m (res m (r .re)) (res m (r .im))

@@ -1,106 +1,154 @@
 -- What the unreduced sums stand for, and how large they are.
-use mathlib.Core.Path.{_≡_, refl, sym, _∙_, ap, ap₂}
+use mathlib.Core.Path.{_≡_, refl, sym, _∙_, ap, ap₂, subst}
 use mathlib.Core.List.{[], _∷_}
-use Prim.Native.Nat.{ℕ, _+_, _*_, _-_, _≤_}
+use Prim.Native.Nat.{ℕ, _+_, _*_, _-_, _≤_, _<_}
+use native.Mathlib.Nat.{mul-le-mul}
 use native.Mathlib.Omega.{arith}
-use Rattle.algebra.specs.Ring.{Ops}
+use Rattle.algebra.specs.Ring.{Ops, CRing}
 use Rattle.algebra.specs.Residue.{residue, residues}
 use Rattle.algebra.specs.Gauss.{gauss}
 use Rattle.algebra.proofs.Laws.{along, neg-unique}
 use Rattle.algebra.proofs.Solver.{ring, quote}
-use Rattle.algebra.proofs.ResidueRing.{val-path, residue-add, residue-mul, residue-neg}
+use Rattle.algebra.proofs.ResidueRing.{val-path, residue-add, residue-mul}
 use Rattle.numbers.specs.declared.Pair.{Pair}
 use Rattle.numbers.specs.declared.Accumulator.{Accumulator}
 use Rattle.numbers.specs.Prime.{prime, IsModulus}
-use Rattle.numbers.specs.Value.{Value, field, i, res, value, real, valueOf, pairOf, Small}
+use Rattle.numbers.specs.Value.{Value, field, i, res, value, real, valueOf}
 use Rattle.numbers.specs.Value as Value
 use Rattle.numbers.specs.Accumulator.{Accumulated}
-use Rattle.numbers.proofs.Primes.{prime-most}
 use Rattle.numbers.proofs.Residues.{res-ring}
-use Rattle.numbers.proofs.Values.{value-path, value-add, i-times, real-times}
+use Rattle.numbers.proofs.Values.{field-ring, value-path, value-add, i-times, real-times}
 use Rattle.numbers.proofs.RootCases.{by-modulus}
-use Rattle.butterflies.specs.Unreduced.{Wide, Room}
+use Rattle.butterflies.specs.Unreduced.{meant, Room}
+use Rattle.butterflies.specs.Butterfly.{AllRoom}
 
--- a residue of either modulus
-pub small-most : {m : ℕ} {v : Pair} → IsModulus m → Small (prime m) v → Small 302399 v
-small-most is h = record { re = omega (arith, prime-most is); im = omega (arith, prime-most is) }
+-- ---- how large they are
 
--- ---- pairs
-
-pub wide-sum : (m : ℕ) (x y : Pair) → Small 302399 x → Small 302399 y → Wide m (record { re = x .re + y .re; im = x .im + y .im }) (field m .add (valueOf m x) (valueOf m y))
-unfolding valueOf
-wide-sum m x y hx hy = record { re = omega arith; im = omega arith; value-is = value-add m (x .re) (x .im) (y .re) (y .im) }
-
-residue-apart : (p a b : ℕ) → b ≤ p → (b ≡ p → ⊥) → residue p (a + (p - b)) ≡ residues p .add (residue p a) (residues p .neg (residue p b))
-residue-apart p a b h n = residue-add p a (p - b) ∙ ap (residues p .add (residue p a)) (residue-neg p b (omega arith))
-
-pub wide-turned : {m p : ℕ} (x y : Pair) → IsModulus m → p ≡ prime m → Small (prime m) x → Small (prime m) y
-    → Wide m (record { re = y .im + (p - x .im); im = x .re + (p - y .re) }) (field m .mul (i m) (field m .add (valueOf m x) (field m .neg (valueOf m y))))
-unfolding valueOf gauss
-wide-turned {m} {p} x y is e hx hy = record {
-  re = omega (arith, prime-most is);
-  im = omega (arith, prime-most is);
-  value-is = ap (λ p. value m (y .im + (p - x .im)) (x .re + (p - y .re))) e
-      ∙ value-path
-      (residue-apart (prime m) (y .im) (x .im) (omega arith) (λ z. omega arith) ∙ ring (res-ring m) (res m (x .im) ∷ res m (y .im) ∷ []) (search quote depth 40 fits 9999) refl)
-      (residue-apart (prime m) (x .re) (y .re) (omega arith) (λ z. omega arith))
-      ∙ sym (i-times m (Value.ring m .add (res m (x .re)) (Value.ring m .neg (res m (y .re))), Value.ring m .add (res m (x .im)) (Value.ring m .neg (res m (y .im)))));
-}
-
--- ---- accumulators
-
-pub accumulated-one : (m : ℕ) {v : Pair} → Small 302399 v → Accumulated m 1 (record { re = v .re; im = v .im }) (valueOf m v)
-unfolding valueOf
-accumulated-one m h = record { re = omega arith; im = omega arith; value-is = refl }
-
-pub accumulated-scaled : (m n c : ℕ) {a : Accumulator} {s u : ℕ} {t : Pair} (y z : Value m) → s ≡ c * t .re → s ≤ 182890310402 → u ≡ c * t .im → u ≤ 182890310402
-    → Accumulated m n a y → Wide m t z → Accumulated m (n + 1) (record { re = a .re + s; im = a .im + u }) (field m .add y (field m .mul (real m (res m c)) z))
-unfolding valueOf
-accumulated-scaled m n c {a} {s} {u} {t} y z es ls eu lu h w = record {
-  re = omega (arith, h .re);
-  im = omega (arith, h .im);
-  value-is = value-add m (a .re) (a .im) s u ∙ ap₂ (field m .add) (h .value-is)
-      (ap₂ (value m) es eu ∙ value-path (residue-mul (prime m) c (t .re)) (residue-mul (prime m) c (t .im))
-      ∙ sym (real-times m (res m c) (value m (t .re) (t .im))) ∙ ap (field m .mul (real m (res m c))) (w .value-is));
-}
-
--- room for the next products, and for the difference
+-- room for what is added to it, by the count of its products
 pub room : {m n : ℕ} {a : Accumulator} {z : Value m} (most : ℕ) → 182890310402 * n ≤ most → Accumulated m n a z → Room most a
 room most l h = record { re = omega (arith, h .re); im = omega (arith, h .im) }
 
--- the bound of what was added to, whatever it stands for
-pub scaled-room : {a r : Accumulator} {t : Pair} (c : ℕ) → Room 182890310402 a → t .re ≤ 604798 → t .im ≤ 604798
-    → ((m n : ℕ) (y z : Value m) → Accumulated m n a y → Wide m t z → Accumulated m (n + 1) r (field m .add y (field m .mul (real m (res m c)) z))) → Room 1000000000000000000 r
-scaled-room {a} {r} {t} c h lr li add =
-    room 1000000000000000000 (omega arith)
-    (add 1 1 (value 1 (a .re) (a .im)) (valueOf 1 t) (record { re = omega (arith, h .re); im = omega (arith, h .im); value-is = refl }) (record { re = lr; im = li; value-is = refl }))
+-- a sum with room counts as so many products
+pub counted : (m n : ℕ) {most : ℕ} {a : Accumulator} → most ≤ 182890310402 * n → Room most a → Accumulated m n a (meant m a)
+unfolding meant
+counted m n l h = record { re = omega (arith, h .re); im = omega (arith, h .im); value-is = refl }
 
-pub total-value : {m n k : ℕ} {a b : Accumulator} {y z : Value m} {r : Pair} → Accumulated m n a y → Accumulated m k b z
-    → r ≡ pairOf (value m (a .re + b .re) (a .im + b .im)) → r ≡ pairOf (field m .add y z)
-total-value {m} {a = a} {b = b} ha hb e = e ∙ ap pairOf (value-add m (a .re) (a .im) (b .re) (b .im) ∙ ap₂ (field m .add) (ha .value-is) (hb .value-is))
+pub counted-one : (m : ℕ) {a : Accumulator} → Room 182890310402 a → Accumulated m 1 a (meant m a)
+counted-one m h = counted m 1 (omega arith) h
 
--- 16 times the product of both primes stands for 0
-record Nothing (m : ℕ) : Type 0 where
-  is : residue (prime m) 418031539216 ≡ residue (prime m) 0
+-- two sums that can be added or subtracted
+pub rooms : {m n k : ℕ} {x y : Accumulator} {a b : Value m} → n ≤ 2733879 → k ≤ 2428551 → Accumulated m n x a → Accumulated m k y b → Room 500000000000000000 x × Room 444158510417000000 y
+rooms l r hx hy = (room 500000000000000000 (omega arith) hx, room 444158510417000000 (omega arith) hy)
 
-nothing-first : Nothing 1
+-- what a butterfly is given
+module _ {B : ℕ} {x : ℕ → Accumulator} (h : AllRoom B x) (b : ℕ) (l : b < B) where
+  pub given : (m : ℕ) → Accumulated m 1 (x b) (meant m (x b))
+  given m = counted-one m (h .each b l)
+
+  pub given-both : (c : ℕ) → c < B → Room 500000000000000000 (x b) × Room 444158510417000000 (x c)
+  given-both c r = rooms (omega arith) (omega arith) (counted-one 1 (h .each b l)) (counted-one 1 (h .each c r))
+
+-- ---- a value, and a product
+
+pub of-pair-means : (m : ℕ) (v : Pair) → meant m (record { re = v .re; im = v .im }) ≡ valueOf m v
+unfolding meant valueOf
+of-pair-means m v = refl
+
+pub product-means : {m : ℕ} {a : Accumulator} {z : Value m} → Accumulated m 1 a (field m .add (field m .zer) z) → meant m a ≡ z
+unfolding meant
+product-means {m} {z = z} h = h .value-is ∙ field-ring m .zero-add z
+
+-- ---- sums, and products by a residue
+
+pub accumulated-sum : (m n k : ℕ) {x y : Accumulator} (a b : Value m) → Accumulated m n x a → Accumulated m k y b
+    → Accumulated m (n + k) (record { re = x .re + y .re; im = x .im + y .im }) (field m .add a b)
+accumulated-sum m n k {x} {y} a b hx hy = record {
+  re = omega (arith, hx .re, hy .re);
+  im = omega (arith, hx .im, hy .im);
+  value-is = value-add m (x .re) (x .im) (y .re) (y .im) ∙ ap₂ (field m .add) (hx .value-is) (hy .value-is);
+}
+
+pub accumulated-scaled : (m n : ℕ) {c : ℕ} {x : Accumulator} (a : Value m) → c ≤ 302399 → Accumulated m n x a
+    → Accumulated m (302399 * n) (record { re = c * x .re; im = c * x .im }) (field m .mul (real m (res m c)) a)
+accumulated-scaled m n {c} {x} a l h = record {
+  re = omega (arith, mul-le-mul l (h .re));
+  im = omega (arith, mul-le-mul l (h .im));
+  value-is = value-path (residue-mul (prime m) c (x .re)) (residue-mul (prime m) c (x .im))
+      ∙ sym (real-times m (res m c) (value m (x .re) (x .im))) ∙ ap (field m .mul (real m (res m c))) (h .value-is);
+}
+
+-- ---- differences: multiples of the product of both primes stand for 0
+
+record Nothing (big m : ℕ) : Type 0 where
+  is : residue (prime m) big ≡ residue (prime m) 0
+
+-- 17,000,000 times that product
+large-first : Nothing 444158510417000000 1
 unfolding prime residue
-nothing-first = record { is = val-path refl }
+large-first = record { is = val-path refl }
 
-nothing-second : Nothing 2
+large-second : Nothing 444158510417000000 2
 unfolding prime residue
-nothing-second = record { is = val-path refl }
+large-second = record { is = val-path refl }
 
-residue-taken : (m n : ℕ) → IsModulus m → n ≤ 418031539216 → res m (418031539216 - n) ≡ Value.ring m .neg (res m n)
-unfolding residues
-residue-taken m n is l =
-    neg-unique (res-ring m) (res m n) (res m (418031539216 - n))
-    (sym (residue-add (prime m) n (418031539216 - n)) ∙ along (residue (prime m)) (n + (418031539216 - n)) 418031539216 (omega arith) ∙ by-modulus Nothing nothing-first nothing-second m is .is)
+-- 16 times
+small-first : Nothing 418031539216 1
+unfolding prime residue
+small-first = record { is = val-path refl }
 
-pub rest-value : {m n k : ℕ} {a b : Accumulator} {y z : Value m} {r : Pair} → IsModulus m → Room 418031539216 b → Accumulated m n a y → Accumulated m k b z
-    → r ≡ pairOf (value m (a .re + (418031539216 - b .re)) (a .im + (418031539216 - b .im))) → r ≡ pairOf (field m .add y (field m .neg z))
-unfolding gauss
-rest-value {m} {a = a} {b = b} is l ha hb e =
-    e ∙ ap pairOf
-    (value-add m (a .re) (a .im) (418031539216 - b .re) (418031539216 - b .im)
-    ∙ ap₂ (field m .add) (ha .value-is) (value-path (residue-taken m (b .re) is (l .re)) (residue-taken m (b .im) is (l .im)) ∙ ap (field m .neg) (hb .value-is)))
+small-second : Nothing 418031539216 2
+unfolding prime residue
+small-second = record { is = val-path refl }
+
+module _ {big m : ℕ} (none : Nothing big m) where
+  residue-taken : (n : ℕ) → n ≤ big → res m (big - n) ≡ Value.ring m .neg (res m n)
+  unfolding residues
+  residue-taken n l =
+      neg-unique (res-ring m) (res m n) (res m (big - n))
+      (sym (residue-add (prime m) n (big - n)) ∙ along (residue (prime m)) (n + (big - n)) big (omega arith) ∙ none .is)
+
+  residue-apart : (a n : ℕ) → n ≤ big → res m (a + (big - n)) ≡ Value.ring m .add (res m a) (Value.ring m .neg (res m n))
+  residue-apart a n l = residue-add (prime m) a (big - n) ∙ ap (Value.ring m .add (res m a)) (residue-taken n l)
+
+  value-apart : (a b u v : ℕ) → u ≤ big → v ≤ big → value m (a + (big - u)) (b + (big - v)) ≡ field m .add (value m a b) (field m .neg (value m u v))
+  unfolding gauss
+  value-apart a b u v lu lv = value-path (residue-apart a u lu) (residue-apart b v lv)
+
+  value-turned : (a b u v : ℕ) → b ≤ big → u ≤ big → value m (v + (big - b)) (a + (big - u)) ≡ field m .mul (i m) (field m .add (value m a b) (field m .neg (value m u v)))
+  unfolding gauss
+  value-turned a b u v lb lu =
+      value-path
+      (residue-apart v b lb ∙ ring (res-ring m) (res m b ∷ res m v ∷ []) (search quote depth 40 fits 9999) refl)
+      (residue-apart a u lu)
+      ∙ sym (i-times m (Value.ring m .add (res m a) (Value.ring m .neg (res m u)), Value.ring m .add (res m b) (Value.ring m .neg (res m v))))
+
+pub accumulated-apart : (m n k : ℕ) {x y : Accumulator} (a b : Value m) → IsModulus m → Room 444158510417000000 y → Accumulated m n x a → Accumulated m k y b
+    → Accumulated m (n + 2428552) (record { re = x .re + (444158510417000000 - y .re); im = x .im + (444158510417000000 - y .im) }) (field m .add a (field m .neg b))
+accumulated-apart m n k {x} {y} a b is l hx hy = record {
+  re = omega (arith, hx .re);
+  im = omega (arith, hx .im);
+  value-is = value-apart (by-modulus (Nothing 444158510417000000) large-first large-second m is) (x .re) (x .im) (y .re) (y .im) (l .re) (l .im)
+      ∙ ap₂ (λ a b. field m .add a (field m .neg b)) (hx .value-is) (hy .value-is);
+}
+
+pub accumulated-turned : (m : ℕ) {x y : Accumulator} → IsModulus m → Room 182890310402 x → Room 182890310402 y
+    → Accumulated m 4 (record { re = y .im + (418031539216 - x .im); im = x .re + (418031539216 - y .re) }) (field m .mul (i m) (field m .add (meant m x) (field m .neg (meant m y))))
+unfolding meant
+accumulated-turned m {x} {y} is hx hy = record {
+  re = omega (arith, hy .im);
+  im = omega (arith, hx .re);
+  value-is = value-turned (by-modulus (Nothing 418031539216) small-first small-second m is) (x .re) (x .im) (y .re) (y .im) (omega (arith, hx .im)) (omega (arith, hy .re));
+}
+
+-- ---- the quarter turn w, which is i or -i
+
+stands : {m n : ℕ} {r : Accumulator} {a b : Value m} → a ≡ b → Accumulated m n r a → Accumulated m n r b
+stands {m} {n} {r} e h = subst (Accumulated m n r) e h
+
+pub turned-forth : (m : ℕ) {r : Accumulator} {w : Value m} (x y : Value m) → w ≡ i m → Accumulated m 4 r (field m .mul (i m) (field m .add x (field m .neg y))) → Accumulated m 4 r (field m .mul w (field m .add x (field m .neg y)))
+turned-forth m x y e h = stands (ap (λ w. field m .mul w (field m .add x (field m .neg y))) (sym e)) h
+
+pub turned-back : (m : ℕ) {r : Accumulator} {w : Value m} (x y : Value m) → w ≡ field m .neg (i m) → Accumulated m 4 r (field m .mul (i m) (field m .add y (field m .neg x))) → Accumulated m 4 r (field m .mul w (field m .add x (field m .neg y)))
+turned-back m x y e h =
+    stands
+    (ring (field-ring m) (i m ∷ x ∷ y ∷ []) (search quote depth 40 fits 9999) refl ∙ ap (λ w. field m .mul w (field m .add x (field m .neg y))) (sym e)) h

@@ -1,3 +1,3 @@
-pub mod Steps
-pub mod Butterfly
+pub mod Outer
 pub mod Unreduced
+pub mod Butterfly

@@ -2,23 +2,48 @@
 //
 // e(1/2) is -1 and e(1/4) is i or -i, so that radix 2 and 4 need no product. At radix 3 and 5 the powers of w = e(1/B) come in conjugate
 // pairs, w^(B - k) = c - i s where w^k = c + i s: the values a and b that they multiply enter every sum as c (a + b) and s i (a - b), and
-// the sums 1 and B - 1, or 2 and 3, differ in the sign of the second. The products are residues times a value, added in 64 bits and reduced once.
+// the sums 1 and B - 1, or 2 and 3, differ in the sign of the second. Everything is added in 64 bits, and each result is reduced once.
 use crate::wide;
 use numbers::Accumulator;
 use numbers::Pair;
-use numbers::difference;
-use numbers::reduced;
-use numbers::sum;
 ghost use mathlib.Core.Path.{_≡_};
-ghost use Prim.Native.Nat.{ℕ, _+_, _≤_};
+ghost use Prim.Native.Nat.{ℕ, _+_, _*_, _≤_};
 ghost use Rattle.algebra.specs.Ring.{Ops, pow};
-ghost use Rattle.numbers.specs.Prime.{prime, IsModulus};
-ghost use Rattle.numbers.specs.Value.{Value, field, res, real, valueOf, pairOf, Small};
+ghost use Rattle.numbers.specs.Prime.{IsModulus};
+ghost use Rattle.numbers.specs.Value.{Value, field, res, real, pairOf};
 ghost use Rattle.numbers.specs.Accumulator.{Accumulated};
 ghost use Rattle.numbers.specs.Root.{tableRoot, RootTable};
-ghost use Rattle.butterflies.specs.Unreduced.{Wide, Room};
-ghost use Rattle.butterflies.specs.Butterfly.{ofTwo, ofThree, ofFour, ofFive, AllSmall, Butterfly};
+ghost use Rattle.butterflies.specs.Unreduced.{meant, Room};
+ghost use Rattle.butterflies.specs.Butterfly.{ofTwo, ofThree, ofFour, ofFive, ofTwoSums, ofThreeSums, ofFourSums, ofFiveSums, AllRoom, Butterfly, evenPart, oddPart};
 
+// What a butterfly takes: values that are not reduced.
+pub struct TwoSums {
+    pub x0: Accumulator,
+    pub x1: Accumulator,
+}
+
+pub struct ThreeSums {
+    pub x0: Accumulator,
+    pub x1: Accumulator,
+    pub x2: Accumulator,
+}
+
+pub struct FourSums {
+    pub x0: Accumulator,
+    pub x1: Accumulator,
+    pub x2: Accumulator,
+    pub x3: Accumulator,
+}
+
+pub struct FiveSums {
+    pub x0: Accumulator,
+    pub x1: Accumulator,
+    pub x2: Accumulator,
+    pub x3: Accumulator,
+    pub x4: Accumulator,
+}
+
+// What it gives.
 pub struct TwoPairs {
     pub x0: Pair,
     pub x1: Pair,
@@ -46,80 +71,93 @@ pub struct FivePairs {
 }
 
 // Radix 2.
-pub fn two(m: u32, v: TwoPairs) -> TwoPairs
-    requires { ⌜ IsModulus m × AllSmall (prime m) 2 (ofTwo v) ⌝ }
-    ensures { λ r. ⌜ ((W : Value m) → pow (field m) W 1440 ≡ field m .neg (field m .one) → Butterfly m W 2 (ofTwo v) (ofTwo r)) ⌝ }
+pub fn two(m: u32, v: TwoSums) -> TwoPairs
+    requires { ⌜ IsModulus m × AllRoom 2 (ofTwoSums v) ⌝ }
+    ensures { λ r. ⌜ ((W : Value m) → pow (field m) W 1440 ≡ field m .neg (field m .one) → Butterfly m W 2 (λ b. meant m (ofTwoSums v b)) (ofTwo r)) ⌝ }
 {
     let a = v.x0;
     let b = v.x1;
+    both_ways(m, a, b)
+}
+
+// x + y and x - y, reduced.
+fn both_ways(m: u32, x: Accumulator, y: Accumulator) -> TwoPairs
+    requires { ⌜ IsModulus m ⌝ }
+    requires { ⌜ Room 500000000000000000 x × Room 444158510417000000 y ⌝ }
+    ensures { λ r. ⌜ ((n k : ℕ) (a b : Value m) → Accumulated m n x a → Accumulated m k y b → (r .x0 ≡ pairOf (field m .add a b)) × (r .x1 ≡ pairOf (field m .add a (field m .neg b)))) ⌝ }
+{
     TwoPairs {
-        x0: sum(m, a, b),
-        x1: difference(m, a, b),
+        x0: wide::total(m, x, y),
+        x1: wide::rest(m, x, y),
     }
 }
 
 // Radix 3: w = e(1/3).
-pub fn three<'a>(m: u32, re: &'a [u32; 2880], im: &'a [u32; 2880], v: ThreePairs) -> ThreePairs
+pub fn three<'a>(m: u32, re: &'a [u32; 2880], im: &'a [u32; 2880], v: ThreeSums) -> ThreePairs
     requires { ⌜ IsModulus m × RootTable m (now re) (now im) ⌝ }
-    requires { ⌜ AllSmall (prime m) 3 (ofThree v) ⌝ }
-    ensures { λ r. ⌜ Butterfly m (tableRoot m (now (re .entry)) (now (im .entry))) 3 (ofThree v) (ofThree r) ⌝ }
+    requires { ⌜ AllRoom 3 (ofThreeSums v) ⌝ }
+    ensures { λ r. ⌜ Butterfly m (tableRoot m (now (re .entry)) (now (im .entry))) 3 (λ b. meant m (ofThreeSums v b)) (ofThree r) ⌝ }
 {
     let a = v.x0;
     let b = v.x1;
     let c = v.x2;
     let w = numbers::tables::root_at(re, im, 960);
     let t = wide::sum(b, c);
-    let u = wide::turned_difference(m, b, c);
-    let first = wide::of_pair(a);
-    let even = wide::add_scaled(first, w.re, t);
-    let odd = wide::add_scaled(numbers::zero_accumulator(), w.im, u);
+    let even = wide::sum(a, wide::scaled(w.re, t));
+    let odd = wide::scaled(w.im, wide::turned(b, c));
+    let mates = both_ways(m, even, odd);
+    let x1 = mates.x0;
+    let x2 = mates.x1;
     ThreePairs {
-        x0: reduced(m, wide::add_scaled(first, 1, t)),
-        x1: wide::total(m, even, odd),
-        x2: wide::rest(m, even, odd),
+        x0: wide::total(m, a, t),
+        x1,
+        x2,
     }
 }
 
 // Radix 4.
-pub fn four<'a>(m: u32, re: &'a [u32; 2880], im: &'a [u32; 2880], v: FourPairs) -> FourPairs
+pub fn four<'a>(m: u32, re: &'a [u32; 2880], im: &'a [u32; 2880], v: FourSums) -> FourPairs
     requires { ⌜ IsModulus m × RootTable m (now re) (now im) ⌝ }
-    requires { ⌜ AllSmall (prime m) 4 (ofFour v) ⌝ }
-    ensures { λ r. ⌜ Butterfly m (tableRoot m (now (re .entry)) (now (im .entry))) 4 (ofFour v) (ofFour r) ⌝ }
+    requires { ⌜ AllRoom 4 (ofFourSums v) ⌝ }
+    ensures { λ r. ⌜ Butterfly m (tableRoot m (now (re .entry)) (now (im .entry))) 4 (λ b. meant m (ofFourSums v b)) (ofFour r) ⌝ }
 {
     let a = v.x0;
     let b = v.x1;
     let c = v.x2;
     let d = v.x3;
-    let even = sum(m, a, c);
-    let odd = sum(m, b, d);
-    let apart = difference(m, a, c);
-    let turned = quarter_turned(m, re, im, difference(m, b, d));
-    FourPairs {
-        x0: sum(m, even, odd),
-        x1: sum(m, apart, turned),
-        x2: difference(m, even, odd),
-        x3: difference(m, apart, turned),
-    }
+    let near = both_ways(m, wide::sum(a, c), wide::sum(b, d));
+    let far = both_ways(m, wide::apart(a, c), quarter_turned(m, re, im, b, d));
+    let x0 = near.x0;
+    let x1 = far.x0;
+    let x2 = near.x1;
+    let x3 = far.x1;
+    FourPairs { x0, x1, x2, x3 }
 }
 
-// W^720 times a value: that power is i or -i.
-fn quarter_turned<'a>(m: u32, re: &'a [u32; 2880], im: &'a [u32; 2880], v: Pair) -> Pair
+// W^720 (x - y): that power is i or -i.
+fn quarter_turned<'a>(
+    m: u32,
+    re: &'a [u32; 2880],
+    im: &'a [u32; 2880],
+    x: Accumulator,
+    y: Accumulator,
+) -> Accumulator
     requires { ⌜ IsModulus m × RootTable m (now re) (now im) ⌝ }
-    requires { ⌜ Small (prime m) v ⌝ }
-    ensures { λ r. ⌜ r ≡ pairOf (field m .mul (pow (field m) (tableRoot m (now (re .entry)) (now (im .entry))) 720) (valueOf m v)) ⌝ }
+    requires { ⌜ Room 182890310402 x × Room 182890310402 y ⌝ }
+    ensures { λ r. ⌜ Accumulated m 4 r (field m .mul (pow (field m) (tableRoot m (now (re .entry)) (now (im .entry))) 720) (field m .add (meant m x) (field m .neg (meant m y)))) ⌝ }
 {
     if numbers::tables::root_at(re, im, 720).im == 1 {
-        numbers::times_i(m, v)
+        wide::turned(x, y)
     } else {
-        numbers::times_i(m, numbers::negated(m, v))
+        wide::turned(y, x)
     }
 }
 
-// Radix 5: w = e(1/5), z = e(2/5).
-pub fn five<'a>(m: u32, re: &'a [u32; 2880], im: &'a [u32; 2880], v: FivePairs) -> FivePairs
+// Radix 5: w = e(1/5), z = e(2/5). In the sums 2 and 3 they change places, since e(4/5) is the conjugate of w.
+pub fn five<'a>(m: u32, re: &'a [u32; 2880], im: &'a [u32; 2880], v: FiveSums) -> FivePairs
     requires { ⌜ IsModulus m × RootTable m (now re) (now im) ⌝ }
-    requires { ⌜ AllSmall (prime m) 5 (ofFive v) ⌝ }
-    ensures { λ r. ⌜ Butterfly m (tableRoot m (now (re .entry)) (now (im .entry))) 5 (ofFive v) (ofFive r) ⌝ }
+    requires { ⌜ AllRoom 5 (ofFiveSums v) ⌝ }
+    ensures { λ r. ⌜ Butterfly m (tableRoot m (now (re .entry)) (now (im .entry))) 5 (λ b. meant m (ofFiveSums v b)) (ofFive r) ⌝ }
 {
     let a = v.x0;
     let b = v.x1;
@@ -128,29 +166,47 @@ pub fn five<'a>(m: u32, re: &'a [u32; 2880], im: &'a [u32; 2880], v: FivePairs) 
     let e = v.x4;
     let w = numbers::tables::root_at(re, im, 576);
     let z = numbers::tables::root_at(re, im, 1152);
-    let t = wide::sum(b, e);
-    let s = wide::sum(c, d);
-    let first = wide::of_pair(a);
-    let near = weighed(first, w.re, t, z.re, s);
-    let far = weighed(first, z.re, t, w.re, s);
-    let none = numbers::zero_accumulator();
-    let u = wide::turned_difference(m, b, e);
-    let near_odd = weighed(none, w.im, u, z.im, wide::turned_difference(m, c, d));
-    let far_odd = weighed(none, z.im, u, w.im, wide::turned_difference(m, d, c));
+    let near = conjugates(m, w, z, a, b, c, d, e);
+    let far = conjugates(m, z, w, a, b, d, c, e);
+    let all = wide::sum(a, wide::sum(b, e));
+    let x1 = near.x0;
+    let x2 = far.x0;
+    let x3 = far.x1;
+    let x4 = near.x1;
     FivePairs {
-        x0: reduced(m, weighed(first, 1, t, 1, s)),
-        x1: wide::total(m, near, near_odd),
-        x2: wide::total(m, far, far_odd),
-        x3: wide::rest(m, far, far_odd),
-        x4: wide::rest(m, near, near_odd),
+        x0: wide::total(m, all, wide::sum(c, d)),
+        x1,
+        x2,
+        x3,
+        x4,
     }
 }
 
-// a + c t + d s.
-fn weighed(a: Accumulator, c: u32, t: Pair, d: u32, s: Pair) -> Accumulator
-    requires { ⌜ Room 182890310402 a × (c ≤ 302399) × (d ≤ 302399) ⌝ }
-    requires { ⌜ (t .re ≤ 604798) × (t .im ≤ 604798) × (s .re ≤ 604798) × (s .im ≤ 604798) ⌝ }
-    ensures { λ r. ⌜ ((m n : ℕ) (x y z : Value m) → Accumulated m n a x → Wide m t y → Wide m s z → Accumulated m (n + 1 + 1) r (field m .add (field m .add x (field m .mul (real m (res m c)) y)) (field m .mul (real m (res m d)) z))) ⌝ }
+// a + w b + z c + z' d + w' e, where w' and z' are the conjugates of w and z, and the same with these exchanged for w and z.
+fn conjugates(
+    m: u32,
+    w: Pair,
+    z: Pair,
+    a: Accumulator,
+    b: Accumulator,
+    c: Accumulator,
+    d: Accumulator,
+    e: Accumulator,
+) -> TwoPairs
+    requires { ⌜ IsModulus m × (w .re ≤ 302399) × (w .im ≤ 302399) × (z .re ≤ 302399) × (z .im ≤ 302399) ⌝ }
+    requires { ⌜ Room 182890310402 a × Room 182890310402 b × Room 182890310402 c × Room 182890310402 d × Room 182890310402 e ⌝ }
+    ensures { λ r. ⌜ (r .x0 ≡ pairOf (field m .add (evenPart m w z (meant m a) (meant m b) (meant m c) (meant m d) (meant m e)) (oddPart m w z (meant m b) (meant m c) (meant m d) (meant m e))))
+        × (r .x1 ≡ pairOf (field m .add (evenPart m w z (meant m a) (meant m b) (meant m c) (meant m d) (meant m e)) (field m .neg (oddPart m w z (meant m b) (meant m c) (meant m d) (meant m e))))) ⌝ }
 {
-    wide::add_scaled(wide::add_scaled(a, c, t), d, s)
+    let even = wide::sum(a, weighed(w.re, wide::sum(b, e), z.re, wide::sum(c, d)));
+    let odd = weighed(w.im, wide::turned(b, e), z.im, wide::turned(c, d));
+    both_ways(m, even, odd)
+}
+
+// c t + d s.
+fn weighed(c: u32, t: Accumulator, d: u32, s: Accumulator) -> Accumulator
+    requires { ⌜ (c ≤ 302399) × (d ≤ 302399) × Room 731561241608 t × Room 731561241608 s ⌝ }
+    ensures { λ r. ⌜ ((m n k : ℕ) (x y : Value m) → Accumulated m n t x → Accumulated m k s y → Accumulated m (302399 * n + 302399 * k) r (field m .add (field m .mul (real m (res m c)) x) (field m .mul (real m (res m d)) y))) ⌝ }
+{
+    wide::sum(wide::scaled(c, t), wide::scaled(d, s))
 }

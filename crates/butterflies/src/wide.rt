@@ -1,4 +1,8 @@
-// Sums that are not reduced yet: of two pairs, and of pairs times residues. 64 bits hold any that a butterfly needs.
+// Sums that are not reduced yet, and what butterflies do with them. 64 bits hold any that a butterfly needs.
+//
+// One product of two values is at most 182,890,310,402 in either part; `Accumulated` counts in this unit. For a difference the second
+// is taken from a number that stands for 0 at either modulus, a multiple of the product of both primes. The bounds that `sum` and
+// `apart` ask for keep every result below 2^60.
 use numbers::Accumulator;
 use numbers::Pair;
 ghost use mathlib.Core.Path.{_≡_};
@@ -7,35 +11,12 @@ ghost use Rattle.algebra.specs.Ring.{Ops};
 ghost use Rattle.numbers.specs.Prime.{prime, IsModulus};
 ghost use Rattle.numbers.specs.Value.{Value, field, i, res, real, valueOf, pairOf, Small};
 ghost use Rattle.numbers.specs.Accumulator.{Accumulated};
-ghost use Rattle.butterflies.specs.Unreduced.{Wide, Room};
-
-// x + y.
-pub fn sum(x: Pair, y: Pair) -> Pair
-    requires { ⌜ Small 302399 x × Small 302399 y ⌝ }
-    ensures { λ r. ⌜ ((m : ℕ) → Wide m r (field m .add (valueOf m x) (valueOf m y))) ⌝ }
-{
-    Pair {
-        re: x.re + y.re,
-        im: x.im + y.im,
-    }
-}
-
-// i (x - y).
-pub fn turned_difference(m: u32, x: Pair, y: Pair) -> Pair
-    requires { ⌜ IsModulus m × Small (prime m) x × Small (prime m) y ⌝ }
-    ensures { λ r. ⌜ Wide m r (field m .mul (i m) (field m .add (valueOf m x) (field m .neg (valueOf m y)))) ⌝ }
-{
-    let p = numbers::modulus(m);
-    Pair {
-        re: y.im + (p - x.im),
-        im: x.re + (p - y.re),
-    }
-}
+ghost use Rattle.butterflies.specs.Unreduced.{meant, Room};
 
 // A value as a sum of one.
 pub fn of_pair(v: Pair) -> Accumulator
     requires { ⌜ Small 302399 v ⌝ }
-    ensures { λ r. ⌜ ((m : ℕ) → Accumulated m 1 r (valueOf m v)) ⌝ }
+    ensures { λ r. ⌜ Room 182890310402 r × ((m : ℕ) → meant m r ≡ valueOf m v) ⌝ }
 {
     Accumulator {
         re: v.re as u64,
@@ -43,46 +24,72 @@ pub fn of_pair(v: Pair) -> Accumulator
     }
 }
 
-// The whole product of a residue and a number of a wide pair.
-fn whole(a: u32, b: u32) -> u64
-    requires { ⌜ (a ≤ 302399) × (b ≤ 604798) ⌝ }
-    ensures { λ r. ⌜ (r ≡ a * b) × (r ≤ 182890310402) ⌝ }
+// x y, not reduced.
+pub fn product(m: u32, x: Pair, y: Pair) -> Accumulator
+    requires { ⌜ IsModulus m × Small (prime m) x × Small (prime m) y ⌝ }
+    ensures { λ r. ⌜ Room 182890310402 r × (meant m r ≡ field m .mul (valueOf m x) (valueOf m y)) ⌝ }
 {
-    (a as u64) * (b as u64)
+    numbers::add_product(m, numbers::zero_accumulator(), x, y)
 }
 
-// The residue c times the value t more.
-pub fn add_scaled(a: Accumulator, c: u32, t: Pair) -> Accumulator
-    requires { ⌜ Room 1000000000000000000 a ⌝ }
-    requires { ⌜ (c ≤ 302399) × (t .re ≤ 604798) × (t .im ≤ 604798) ⌝ }
-    ensures { λ r. ⌜ ((m n : ℕ) (y z : Value m) → Accumulated m n a y → Wide m t z → Accumulated m (n + 1) r (field m .add y (field m .mul (real m (res m c)) z))) ⌝ }
+// x + y.
+pub fn sum(x: Accumulator, y: Accumulator) -> Accumulator
+    requires { ⌜ Room 500000000000000000 x × Room 444158510417000000 y ⌝ }
+    ensures { λ r. ⌜ ((m n k : ℕ) (a b : Value m) → Accumulated m n x a → Accumulated m k y b → Accumulated m (n + k) r (field m .add a b)) ⌝ }
 {
     Accumulator {
-        re: a.re + whole(c, t.re),
-        im: a.im + whole(c, t.im),
+        re: x.re + y.re,
+        im: x.im + y.im,
     }
 }
 
-// a + b, reduced.
-pub fn total(m: u32, a: Accumulator, b: Accumulator) -> Pair
-    requires { ⌜ IsModulus m × Room 1000000000000000000 a × Room 418031539216 b ⌝ }
-    ensures { λ r. ⌜ ((n k : ℕ) (y z : Value m) → Accumulated m n a y → Accumulated m k b z → r ≡ pairOf (field m .add y z)) ⌝ }
+// x - y: 444,158,510,417,000,000 is 17,000,000 times the product of both primes, and less than 2,428,552 products.
+pub fn apart(x: Accumulator, y: Accumulator) -> Accumulator
+    requires { ⌜ Room 500000000000000000 x × Room 444158510417000000 y ⌝ }
+    ensures { λ r. ⌜ ((m n k : ℕ) (a b : Value m) → IsModulus m → Accumulated m n x a → Accumulated m k y b → Accumulated m (n + 2428552) r (field m .add a (field m .neg b))) ⌝ }
 {
-    let c = Accumulator {
-        re: a.re + b.re,
-        im: a.im + b.im,
-    };
-    numbers::reduced_below(m, c)
+    Accumulator {
+        re: x.re + (444158510417000000 - y.re),
+        im: x.im + (444158510417000000 - y.im),
+    }
 }
 
-// a - b, reduced: 418,031,539,216 is 16 times the product of both primes, so that it stands for 0 at either modulus.
-pub fn rest(m: u32, a: Accumulator, b: Accumulator) -> Pair
-    requires { ⌜ IsModulus m × Room 1000000000000000000 a × Room 418031539216 b ⌝ }
-    ensures { λ r. ⌜ ((n k : ℕ) (y z : Value m) → Accumulated m n a y → Accumulated m k b z → r ≡ pairOf (field m .add y (field m .neg z))) ⌝ }
+// i (x - y) of two products: 418,031,539,216 is 16 times the product of both primes, so that the result is no larger than four products.
+pub fn turned(x: Accumulator, y: Accumulator) -> Accumulator
+    requires { ⌜ Room 182890310402 x × Room 182890310402 y ⌝ }
+    ensures { λ r. ⌜ ((m : ℕ) → IsModulus m → Accumulated m 4 r (field m .mul (i m) (field m .add (meant m x) (field m .neg (meant m y))))) ⌝ }
 {
-    let c = Accumulator {
-        re: a.re + (418031539216 - b.re),
-        im: a.im + (418031539216 - b.im),
-    };
-    numbers::reduced_below(m, c)
+    Accumulator {
+        re: y.im + (418031539216 - x.im),
+        im: x.re + (418031539216 - y.re),
+    }
+}
+
+// The residue c times x, of four products at most.
+pub fn scaled(c: u32, x: Accumulator) -> Accumulator
+    requires { ⌜ (c ≤ 302399) × Room 731561241608 x ⌝ }
+    ensures { λ r. ⌜ ((m n : ℕ) (a : Value m) → Accumulated m n x a → Accumulated m (302399 * n) r (field m .mul (real m (res m c)) a)) ⌝ }
+{
+    Accumulator {
+        re: (c as u64) * x.re,
+        im: (c as u64) * x.im,
+    }
+}
+
+// x + y, reduced.
+pub fn total(m: u32, x: Accumulator, y: Accumulator) -> Pair
+    requires { ⌜ IsModulus m ⌝ }
+    requires { ⌜ Room 500000000000000000 x × Room 444158510417000000 y ⌝ }
+    ensures { λ r. ⌜ ((n k : ℕ) (a b : Value m) → Accumulated m n x a → Accumulated m k y b → r ≡ pairOf (field m .add a b)) ⌝ }
+{
+    numbers::reduced_below(m, sum(x, y))
+}
+
+// x - y, reduced.
+pub fn rest(m: u32, x: Accumulator, y: Accumulator) -> Pair
+    requires { ⌜ IsModulus m ⌝ }
+    requires { ⌜ Room 500000000000000000 x × Room 444158510417000000 y ⌝ }
+    ensures { λ r. ⌜ ((n k : ℕ) (a b : Value m) → Accumulated m n x a → Accumulated m k y b → r ≡ pairOf (field m .add a (field m .neg b))) ⌝ }
+{
+    numbers::reduced_below(m, apart(x, y))
 }

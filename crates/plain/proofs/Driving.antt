@@ -1,8 +1,9 @@
--- The driver's loop over the factors: what stands in the line and in the work slice before each step, and at the end.
+-- The driver's loop over the factors: what stands in the line and in the work slice before each turn of two steps, and at the end.
 use mathlib.Core.Path.{_≡_, refl, sym, _∙_, ap, subst}
+use mathlib.Core.Bool.{Bool, true, false, not}
 use mathlib.Core.Logic.{_≢_}
 use mathlib.Core.List.{List}
-use Prim.Native.Nat.{ℕ, _*_, _/_, _%_}
+use Prim.Native.Nat.{ℕ, _*_, _/_}
 use native.Mathlib.Nat as N
 use lib.ListN.{length}
 use Rattle.algebra.specs.Ring.{Ops, pow}
@@ -10,88 +11,98 @@ use Rattle.algebra.specs.Fourier.{dft}
 use Rattle.numbers.specs.Prime.{prime}
 use Rattle.numbers.specs.Value.{Value, field}
 use Rattle.numbers.proofs.Values.{field-ring}
-use Rattle.slices.specs.Pairs.{Below}
-use Rattle.slices.proofs.Pairs.{length-tab}
-use Rattle.butterflies.specs.Steps.{innerSum, twiddled, Splits}
-use Rattle.plain.specs.Factors.{Factored}
+use Rattle.slices.specs.Pairs.{at, fills, Below}
 use Rattle.slices.specs.Values.{valuesOf, listOf}
-use Rattle.plain.specs.Buffers.{WorkLeft, untouched, last-step}
+use Rattle.slices.proofs.Pairs.{fills-whole}
+use Rattle.slices.proofs.Values.{list-values, list-cong, length-of, below-of}
+use Rattle.steps.specs.Steps.{innerSum}
+use Rattle.plain.specs.declared.Stage.{Stage}
+use Rattle.plain.specs.Factors.{Factored}
+use Rattle.plain.specs.Stages.{points, after, Reached, start, next, Ahead, sumsAt, WorkLeft, untouched, last-odd}
 use Rattle.plain.proofs.Equation3.{inner-start, inner-end}
-use Rattle.plain.proofs.Factoring.{next-factor, factored-none, next-splits}
-use Rattle.slices.proofs.Values.{list-values, list-cong, below-list}
-use Rattle.plain.proofs.Buffers.{step-work}
+use Rattle.plain.proofs.Factoring.{next-factor, next-length, factored-none}
 
--- The factors that are left have the product M, those that are done the product A: the line has the inner sums of length A of what came in.
-pub record Driving (m : ℕ) (W : Value m) (n left A M : ℕ) (line₀ work₀ line work : List ℕ) : Type 0 where
-  pub factors : Factored left M
-  pub whole : A * M ≡ n
-  pub line-is : line ≡ listOf n (innerSum (field m) W A M (valuesOf m line₀))
-  pub work-is : WorkLeft m n W A M (valuesOf m line₀) work₀ work
-  pub work-long : length work ≡ 2 * n
+-- ---- the stages of a list
 
-pub driving-start : {m n factors : ℕ} (W : Value m) {line work : List ℕ} → Factored factors n → length line ≡ 2 * n → length work ≡ 2 * n → Below (prime m) line → Driving m W n factors 1 n line work line work
-driving-start {m} {n} W {line} h long work-long below = record {
-  factors = h;
-  whole = N.one-mul n;
-  line-is = list-values m n line long below ∙ list-cong m n _ _ (λ j l. sym (inner-start (field-ring m) W n (valuesOf m line) j));
-  work-is = untouched refl refl;
-  work-long = work-long;
+module _ {factors n : ℕ} (list : Factored factors n) where
+  -- what is left of the list, and the length, which stays
+  pub reached-list : {odd : Bool} {s : Stage} → Reached factors n odd s → Factored (s .left) (s .lines)
+  unfolding after
+  reached-list start = list
+  reached-list (next r more) = next-factor (reached-list r) more .rest
+
+  pub reached-points : {odd : Bool} {s : Stage} → Reached factors n odd s → points s ≡ n
+  unfolding after
+  reached-points start = N.one-mul n
+  reached-points (next {s = s} r more) = next-length (s .inner) (reached-list r) more ∙ reached-points r
+
+-- A slice holds the inner sums of the line X at a stage.
+pub record Standing (m : ℕ) (W : Value m) (factors n : ℕ) (odd : Bool) (s : Stage) (X : ℕ → Value m) (slice : List ℕ) : Type 0 where
+  pub reached : Reached factors n odd s
+  pub holds : slice ≡ sumsAt m W s X
+
+pub standing-start : {m n : ℕ} (W : Value m) (factors : ℕ) {line : List ℕ} → length line ≡ 2 * n → Below (prime m) line
+    → Standing m W factors n false (record { left = factors; inner = 1; lines = n }) (valuesOf m line) line
+standing-start {m} {n} W factors {line} long below = record {
+  reached = start;
+  holds =
+      list-values m n line long below ∙ list-cong m n _ _ (λ j l. sym (inner-start (field-ring m) W n (valuesOf m line) j))
+      ∙ ap (λ k. listOf k (innerSum (field m) W 1 n (valuesOf m line))) (sym (N.one-mul n));
 }
 
-module _ {m : ℕ} {W : Value m} {n left A M : ℕ} {line₀ work₀ line work : List ℕ} (h : Driving m W n left A M line₀ work₀ line work) where
-  pub driving-below : Below (prime m) line
-  driving-below = subst (Below (prime m)) (sym (h .line-is)) (below-list m n _)
+-- the list after a step
+pub after-left : (s : Stage) {s′ : Stage} → s′ ≡ after s → s′ .left ≡ s .left / 8
+unfolding after
+after-left s e = ap (λ (t : Stage). t .left) e
 
-  pub driving-long : length line ≡ 2 * n
-  driving-long = ap length (h .line-is) ∙ length-tab _ n
+module _ {m : ℕ} {W : Value m} {factors n : ℕ} {odd : Bool} {s : Stage} {X : ℕ → Value m} {slice : List ℕ} (list : Factored factors n) (h : Standing m W factors n odd s X slice) where
+  pub standing-long : length slice ≡ 2 * n
+  standing-long = length-of m (points s) _ (h .holds) ∙ ap (λ k. 2 * k) (reached-points list (h .reached))
 
-  -- all factors are done
-  pub driving-done : left ≡ 0 → (A ≡ n) × (M ≡ 1)
-  driving-done z =
-      let one : M ≡ 1 = factored-none (subst (λ k. Factored k M) z (h .factors)) in
-      (sym (N.mul-one A) ∙ ap (λ k. A * k) (sym one) ∙ h .whole, one)
+  -- no factor is left
+  pub standing-end : s .left ≡ 0 → slice ≡ listOf n (dft (field m) n (pow (field m) W (2880 / n)) X)
+  standing-end z =
+      let one : s .lines ≡ 1 = factored-none (subst (λ k. Factored k (s .lines)) z (reached-list list (h .reached))) in
+      let all : s .inner ≡ n = sym (N.mul-one (s .inner)) ∙ ap (λ k. s .inner * k) (sym one) ∙ reached-points list (h .reached) in
+      h .holds
+      ∙ ap (λ k. listOf k (innerSum (field m) W (s .inner) (s .lines) X)) (reached-points list (h .reached))
+      ∙ ap (λ k. listOf n (innerSum (field m) W k (s .lines) X)) all
+      ∙ ap (λ k. listOf n (innerSum (field m) W n k X)) one
+      ∙ list-cong m n _ _ (λ j l. inner-end (field-ring m) W n X j l)
 
-  pub driving-line : left ≡ 0 → line ≡ listOf n (dft (field m) n (pow (field m) W (2880 / n)) (valuesOf m line₀))
-  driving-line z =
-      h .line-is
-      ∙ ap (λ k. listOf n (innerSum (field m) W k M (valuesOf m line₀))) (driving-done z .0)
-      ∙ ap (λ k. listOf n (innerSum (field m) W n k (valuesOf m line₀))) (driving-done z .1)
-      ∙ list-cong m n _ _ (λ j l. inner-end (field-ring m) W n (valuesOf m line₀) j l)
+  -- the next step
+  module _ (more : s .left ≢ 0) where
+    pub step-asks : n * (2880 / n) ≡ 2880 → {other : ℕ} → other ≡ 2 * n
+        → Ahead s × (((length slice ≡ 2 * points s) × (other ≡ 2 * points s)) × Below (prime m) slice)
+    step-asks divides long =
+        let whole : points s ≡ n = reached-points list (h .reached) in (
+          record { factors = reached-list list (h .reached); more = more; divides = rw whole divides },
+          ((length-of m (points s) _ (h .holds), long ∙ ap (λ k. 2 * k) (sym whole)), below-of m (points s) _ (h .holds)),
+        )
 
-  pub driving-work : left ≡ 0 → WorkLeft m n W n 1 (valuesOf m line₀) work₀ work
-  driving-work z =
-      subst (λ k. WorkLeft m n W n k (valuesOf m line₀) work₀ work) (driving-done z .1)
-      (subst (λ k. WorkLeft m n W k M (valuesOf m line₀) work₀ work) (driving-done z .0) (h .work-is))
+    pub standing-next : {s′ : Stage} {to : List ℕ} → s′ ≡ after s → ((Y : ℕ → Value m) → slice ≡ sumsAt m W s Y → to ≡ sumsAt m W (after s) Y) → Standing m W factors n (not odd) s′ X to
+    standing-next {to = to} e step = subst (λ (t : Stage). Standing m W factors n (not odd) t X to) (sym e) (record { reached = next (h .reached) more; holds = step X (h .holds) })
 
-  -- the next step, with the factor left % 8
-  module _ (more : left ≢ 0) where
-    pub driving-splits : n * (2880 / n) ≡ 2880 → Splits A (left % 8) (M / (left % 8))
-    driving-splits divides = next-splits (h .factors) more (h .whole) divides
+-- ---- the loop
 
-    pub driving-length : A * (left % 8) * (M / (left % 8)) ≡ n
-    driving-length = N.mul-assoc A (left % 8) (M / (left % 8)) ∙ ap (λ x. A * x) (next-factor (h .factors) more .whole) ∙ h .whole
+-- An even number of steps is done, and the line has the inner sums of what came in.
+pub record Driving (m : ℕ) (W : Value m) (factors n : ℕ) (s : Stage) (line₀ work₀ line work : List ℕ) : Type 0 where
+  pub stands : Standing m W factors n false s (valuesOf m line₀) line
+  pub work-is : WorkLeft m n W factors (s .left) (valuesOf m line₀) work₀ work
+  pub work-long : length work ≡ 2 * n
 
-    lines-before : M ≡ M / (left % 8) * (left % 8)
-    lines-before = sym (N.mul-comm (M / (left % 8)) (left % 8) ∙ next-factor (h .factors) more .whole)
+pub driving-start : {m n : ℕ} (W : Value m) (factors : ℕ) {line work : List ℕ} → length line ≡ 2 * n → length work ≡ 2 * n → Below (prime m) line
+    → Driving m W factors n (record { left = factors; inner = 1; lines = n }) line work line work
+driving-start W factors long work-long below = record { stands = standing-start W factors long below; work-is = untouched refl refl; work-long = work-long }
 
-    line-before : line ≡ listOf (A * (left % 8) * (M / (left % 8))) (innerSum (field m) W A (M / (left % 8) * (left % 8)) (valuesOf m line₀))
-    line-before =
-        h .line-is
-        ∙ ap (λ k. listOf n (innerSum (field m) W A k (valuesOf m line₀))) lines-before
-        ∙ ap (λ k. listOf k (innerSum (field m) W A (M / (left % 8) * (left % 8)) (valuesOf m line₀))) (sym driving-length)
+-- a step into the work slice, and one back into the line
+pub driving-next : {m : ℕ} {W : Value m} {factors n : ℕ} {s s′ : Stage} (line₀ work₀ : List ℕ) {line work : List ℕ} → Factored factors n
+    → Standing m W factors n true s (valuesOf m line₀) work → Standing m W factors n false s′ (valuesOf m line₀) line → s′ ≡ after s → Driving m W factors n s′ line₀ work₀ line work
+driving-next {s = s} line₀ work₀ list h h′ e = record { stands = h′; work-is = last-odd (h .reached) (sym (after-left s e)) (h .holds); work-long = standing-long list h }
 
-    pub driving-next : {line′ work′ : List ℕ} → n * (2880 / n) ≡ 2880 → pow (field m) W 2880 ≡ field m .one
-        → ((X : ℕ → Value m) → line ≡ listOf (A * (left % 8) * (M / (left % 8))) (innerSum (field m) W A (M / (left % 8) * (left % 8)) X)
-        → line′ ≡ listOf (A * (left % 8) * (M / (left % 8))) (innerSum (field m) W (A * (left % 8)) (M / (left % 8)) X))
-        → work′ ≡ listOf (A * (left % 8) * (M / (left % 8))) (twiddled (field m) W A (left % 8) (M / (left % 8)) (valuesOf m line))
-        → Driving m W n (left / 8) (A * (left % 8)) (M / (left % 8)) line₀ work₀ line′ work′
-    driving-next divides cycle third second =
-        record {
-          factors = next-factor (h .factors) more .rest;
-          whole = driving-length;
-          line-is = third (valuesOf m line₀) line-before ∙ ap (λ k. listOf k (innerSum (field m) W (A * (left % 8)) (M / (left % 8)) (valuesOf m line₀))) driving-length;
-          work-is = last-step A (left % 8) refl
-              (step-work m W cycle (driving-splits divides) (valuesOf m line₀) line-before second
-              ∙ ap (λ k. listOf k (twiddled (field m) W A (left % 8) (M / (left % 8)) (innerSum (field m) W A (M / (left % 8) * (left % 8)) (valuesOf m line₀)))) driving-length);
-          work-long = ap length second ∙ length-tab _ _ ∙ ap (λ k. 2 * k) driving-length;
-        }
+-- a last step into the work slice, copied into the line
+pub driving-last : {m : ℕ} {W : Value m} {factors n : ℕ} {s : Stage} (line₀ work₀ before : List ℕ) {line work : List ℕ} → Factored factors n → Standing m W factors n true s (valuesOf m line₀) work → s .left ≡ 0
+    → length before ≡ 2 * n → line ≡ fills (at work) n before
+    → (line ≡ listOf n (dft (field m) n (pow (field m) W (2880 / n)) (valuesOf m line₀))) × WorkLeft m n W factors 0 (valuesOf m line₀) work₀ work
+driving-last {n = n} line₀ work₀ before {work = work} list h z long copied =
+    (copied ∙ fills-whole n work before (standing-long list h) long ∙ standing-end list h z, last-odd (h .reached) (ap (λ k. k / 8) z) (h .holds))

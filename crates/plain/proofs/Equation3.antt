@@ -1,4 +1,4 @@
--- The three passes of a step of equation (3) lengthen the inner sums by the step's factor; before the first step they are the line, after the last its transform.
+-- A step of equation (3) lengthens the inner sums by its factor; before the first step they are the line, after the last its transform.
 use mathlib.Core.Path.{_≡_, sym, _∙_, ap, ap₂, subst}
 use Prim.Native.Nat.{ℕ, _+_, _*_, _/_, _%_, _<_}
 use native.Mathlib.Nat as N
@@ -9,8 +9,9 @@ use Rattle.algebra.proofs.Laws.{along, pow-add}
 use Rattle.algebra.proofs.Sums.{sum-cong}
 use Rattle.algebra.proofs.Transform.{pow-mul, cooley-tukey, T-start, T-end}
 use Rattle.slices.proofs.Rows.{row-end, row-col}
-use Rattle.butterflies.specs.Steps.{e, innerSum, twiddled, outerSum, Splits}
-use Rattle.butterflies.proofs.Sizes.{outer-pos, inner-share, outer-share, inner-whole}
+use Rattle.butterflies.specs.Outer.{e}
+use Rattle.steps.specs.Steps.{innerSum, twiddled, outerSum, Splits}
+use Rattle.steps.proofs.Sizes.{outer-pos, inner-share, outer-share, inner-whole}
 
 module _ {R : Type 0} {𝓞 : Ops R} (𝓡 : CRing 𝓞) (W : R) where
   open Ops 𝓞 using (mul as _⊗_, one as 𝟙)

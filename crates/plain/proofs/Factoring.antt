@@ -5,9 +5,9 @@ use mathlib.Core.List.{List, [], _∷_}
 use Prim.Native.Nat.{ℕ, _+_, _*_, _/_, _%_, _≤_, _<_}
 use native.Mathlib.Nat as N
 use native.Mathlib.Omega.{arith}
-use Rattle.butterflies.specs.Steps.{Splits}
+use Rattle.steps.specs.Steps.{Splits}
 use Rattle.plain.specs.Factors.{Factored, done, more, octal, product, Factors, none, one}
-use Rattle.butterflies.proofs.Sizes.{divisor-pos}
+use Rattle.steps.proofs.Sizes.{divisor-pos}
 
 -- a list of factors packs to a number that is factored by their product
 pub packed : {l : List ℕ} → Factors l → Factored (octal l) (product l)
@@ -61,15 +61,18 @@ pub factored-pos : {left k : ℕ} → Factored left k → 0 < k
 factored-pos done = omega arith
 factored-pos (more {f} {rest} {k} low high h) = N.mul-pos (omega arith) (factored-pos h)
 
--- the next step of a line of n points, after steps whose factors have the product A
-pub next-splits : {left k A n : ℕ} → Factored left k → left ≢ 0 → A * k ≡ n → n * (2880 / n) ≡ 2880 → Splits A (left % 8) (k / (left % 8))
-next-splits {left} {k} {A} {n} h z e d =
-    let next = next-factor h z in
-    let whole : A * (left % 8) * (k / (left % 8)) ≡ n = N.mul-assoc A (left % 8) (k / (left % 8)) ∙ ap (λ x. A * x) (next .whole) ∙ e in
-    record {
-      inner = divisor-pos A (k * (2880 / n)) (sym (N.mul-assoc A k (2880 / n)) ∙ ap (λ x. x * (2880 / n)) e ∙ d);
-      low = next .low;
-      high = next .high;
-      lines = factored-pos (next .rest);
-      divides = rw whole d;
-    }
+-- the next step, after steps whose factors have the product A
+module _ {left k : ℕ} (A : ℕ) (h : Factored left k) (z : left ≢ 0) where
+  pub next-length : A * (left % 8) * (k / (left % 8)) ≡ A * k
+  next-length = N.mul-assoc A (left % 8) (k / (left % 8)) ∙ ap (λ x. A * x) (next-factor h z .whole)
+
+  pub next-splits : A * k * (2880 / (A * k)) ≡ 2880 → Splits A (left % 8) (k / (left % 8))
+  next-splits divides =
+      let next = next-factor h z in
+      record {
+        inner = divisor-pos A (k * (2880 / (A * k))) (sym (N.mul-assoc A k (2880 / (A * k))) ∙ divides);
+        low = next .low;
+        high = next .high;
+        lines = factored-pos (next .rest);
+        divides = rw next-length divides;
+      }

@@ -1,7 +1,7 @@
 pub mod Equation3
 pub mod Factoring
 pub mod Doubling
-pub mod Buffers
+pub mod Stepping
 pub mod Driving
 pub mod Scaling
 pub mod Restoring

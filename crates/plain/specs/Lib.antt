@@ -1,2 +1,2 @@
 pub mod Factors
-pub mod Buffers
+pub mod Stages

@@ -3,8 +3,8 @@
 // A line has n pairs, where n divides 2,880 and is the product of the list's factors. Each factor is a step, and a step does the
 // transforms of A B points that (3) makes of transforms of A points, for all the interleaved lines at once:
 // `inner` is the paper's A, the product of the factors before, `outer` its B, the factor of the step, and `lines` the number of lines.
-// The inner sums are what the line holds already; the two passes of the crate butterflies go to the work slice and back into the line.
-// So the result is in its natural order, and in the line, after any number of steps.
+// The inner sums are what the slice that is read holds already. The steps go to and fro between the line and the work slice,
+// and after an odd number of them the result is copied into the line. It is in its natural order after any number of steps.
 //
 // The roots are lent as tables of the powers of W: those of r, or those of its conjugate for the other direction.
 ghost use mathlib.Core.Path.{_≡_};
@@ -17,9 +17,16 @@ ghost use Rattle.numbers.specs.Value.{Value, field, res, part, real};
 ghost use Rattle.numbers.specs.Root.{tableRoot, RootTable};
 ghost use Rattle.slices.specs.Pairs.{Below};
 ghost use Rattle.slices.specs.Values.{valuesOf, listOf};
-ghost use Rattle.butterflies.specs.Steps.{innerSum, twiddled, Splits};
 ghost use Rattle.plain.specs.Factors.{Factored};
-ghost use Rattle.plain.specs.Buffers.{WorkLeft};
+ghost use Rattle.plain.specs.Stages.{points, after, Ahead, sumsAt, WorkLeft};
+
+// A stage of a transform: the factors that are left, the product of those that are done, and the number of lines, which is the product of those
+// that are left.
+struct Stage {
+    left: u32,
+    inner: usize,
+    lines: usize,
+}
 
 // The transform of the line, in its natural order.
 pub fn transform<'a>(
@@ -36,17 +43,20 @@ pub fn transform<'a>(
     requires { ⌜ (length (now line) ≡ 2 * n) × (length (now work) ≡ 2 * n) ⌝ }
     requires { ⌜ Below (prime m) (now line) ⌝ }
     ensures { λ _. ⌜ now (line .exit) ≡ listOf n (dft (field m) n (pow (field m) (tableRoot m (now (re .entry)) (now (im .entry))) (2880 / n)) (valuesOf m (now (line .entry)))) ⌝ }
-    ensures { λ _. ⌜ WorkLeft m n (tableRoot m (now (re .entry)) (now (im .entry))) n 1 (valuesOf m (now (line .entry))) (now (work .entry)) (now (work .exit)) ⌝ }
+    ensures { λ _. ⌜ WorkLeft m n (tableRoot m (now (re .entry)) (now (im .entry))) factors 0 (valuesOf m (now (line .entry))) (now (work .entry)) (now (work .exit)) ⌝ }
 {
-    let mut left = factors;
-    let mut inner = 1;
-    let mut lines = n;
-    while left != 0 {
-        let outer = (left % 8) as usize;
-        lines = lines / outer;
-        step(m, re, im, inner, outer, lines, line, work);
-        inner = inner * outer;
-        left = left / 8;
+    let mut at = Stage {
+        left: factors,
+        inner: 1,
+        lines: n,
+    };
+    while 8 <= at.left {
+        at = step(m, re, im, at, line, work);
+        at = step(m, re, im, at, work, line);
+    }
+    if at.left != 0 {
+        step(m, re, im, at, line, work);
+        slices::copy(work, line, n);
     }
 }
 
@@ -65,7 +75,7 @@ pub fn inverse<'a>(
     requires { ⌜ (length (now line) ≡ 2 * n) × (length (now work) ≡ 2 * n) ⌝ }
     requires { ⌜ Below (prime m) (now line) ⌝ }
     ensures { λ _. ⌜ now (line .exit) ≡ listOf n (λ t. field m .mul (real m (part m n)) (dft (field m) n (pow (field m) (tableRoot m (now (re .entry)) (now (im .entry))) (2880 / n)) (valuesOf m (now (line .entry))) t)) ⌝ }
-    ensures { λ _. ⌜ WorkLeft m n (tableRoot m (now (re .entry)) (now (im .entry))) n 1 (valuesOf m (now (line .entry))) (now (work .entry)) (now (work .exit)) ⌝ }
+    ensures { λ _. ⌜ WorkLeft m n (tableRoot m (now (re .entry)) (now (im .entry))) factors 0 (valuesOf m (now (line .entry))) (now (work .entry)) (now (work .exit)) ⌝ }
 {
     transform(m, re, im, factors, n, line, work);
     if 1 < n {
@@ -105,24 +115,30 @@ pub fn doubled(factors: u32) -> u32
     factors + 2 * place
 }
 
-// One step: inner sums of length A, with B times as many lines, become inner sums of length A B.
+// The next step: inner sums of length A, with B times as many lines, become inner sums of length A B.
 fn step<'a>(
     m: u32,
     re: &'a [u32; 2880],
     im: &'a [u32; 2880],
-    inner: usize,
-    outer: usize,
-    lines: usize,
-    line: &mut [u32],
-    work: &mut [u32],
-)
+    at: Stage,
+    from: &[u32],
+    to: &mut [u32],
+) -> Stage
     requires { ⌜ IsModulus m × RootTable m (now re) (now im) ⌝ }
-    requires { ⌜ Splits inner outer lines ⌝ }
-    requires { ⌜ (length (now line) ≡ 2 * (inner * outer * lines)) × (length (now work) ≡ 2 * (inner * outer * lines)) ⌝ }
-    requires { ⌜ Below (prime m) (now line) ⌝ }
-    ensures { λ _. ⌜ ((X : ℕ → Value m) → now (line .entry) ≡ listOf (inner * outer * lines) (innerSum (field m) (tableRoot m (now (re .entry)) (now (im .entry))) inner (lines * outer) X) → now (line .exit) ≡ listOf (inner * outer * lines) (innerSum (field m) (tableRoot m (now (re .entry)) (now (im .entry))) (inner * outer) lines X)) ⌝ }
-    ensures { λ _. ⌜ now (work .exit) ≡ listOf (inner * outer * lines) (twiddled (field m) (tableRoot m (now (re .entry)) (now (im .entry))) inner outer lines (valuesOf m (now (line .entry)))) ⌝ }
+    requires { ⌜ Ahead at ⌝ }
+    requires { ⌜ (length (now from) ≡ 2 * points at) × (length (now to) ≡ 2 * points at) ⌝ }
+    requires { ⌜ Below (prime m) (now from) ⌝ }
+    ensures { λ r. ⌜ r ≡ after at ⌝ }
+    ensures { λ _. ⌜ ((X : ℕ → Value m) → now (from .entry) ≡ sumsAt m (tableRoot m (now (re .entry)) (now (im .entry))) at X → now (to .exit) ≡ sumsAt m (tableRoot m (now (re .entry)) (now (im .entry))) (after at) X) ⌝ }
 {
-    butterflies::twiddle(m, re, im, inner, outer, lines, line, work);
-    butterflies::outer_sum(m, re, im, inner, outer, lines, work, line);
+    let outer = (at.left % 8) as usize;
+    let inner = at.inner;
+    let lines = at.lines / outer;
+    steps::step(m, re, im, inner, outer, lines, from, to);
+    let longer = inner * outer;
+    Stage {
+        left: at.left / 8,
+        inner: longer,
+        lines,
+    }
 }

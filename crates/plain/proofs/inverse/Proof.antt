@@ -5,7 +5,7 @@ use native.Mathlib.Omega.{arith}
 use borrow.Author.Needs.{needs}
 use Rattle.numbers.specs.Prime.{prime}
 use Rattle.slices.specs.Pairs.{Below}
-use Rattle.butterflies.proofs.Sizes.{divisor-pos, divisor-le}
+use Rattle.steps.proofs.Sizes.{divisor-pos, divisor-le}
 use Rattle.slices.proofs.Values.{below-list}
 use Rattle.plain.proofs.Scaling.{scaled-list, unscaled-list}
 use Rattle.plain.proofs.inverse.Statement.{statement}

@@ -1,65 +1,105 @@
 -- The loop's invariant is `Driving`: the line has the inner sums of what came in, for the factors that are done.
-use mathlib.Core.Path.{sym, ap, _∙_}
-use Prim.Native.Nat.{_*_}
+use mathlib.Core.Path.{_≡_}
 use native.Mathlib.Omega.{arith}
 use Rattle.numbers.specs.Root.{tableRoot}
-use Rattle.butterflies.proofs.Sizes.{product-le}
-use Rattle.plain.proofs.Driving.{Driving, driving-start, driving-below, driving-long, driving-line, driving-work, driving-splits, driving-length, driving-next}
+use Rattle.plain.proofs.Driving.{standing-long, standing-end, standing-next, step-asks, after-left, Driving, driving-start, driving-next, driving-last}
 use Rattle.plain.proofs.transform.Statement.{statement}
 use Rattle.plain.proofs.transform.Tie as tie
 
 abbrev Inv-loop : tie.InvT-loop
-Inv-loop m re im factors n line₀ work₀ left₀ inner₀ lines₀ line work left inner lines = Driving m (tableRoot m re im) n left inner lines line₀ work₀ line work
+Inv-loop m re im factors n line₀ work₀ at₀ line work at = Driving m (tableRoot m re im) factors n at line₀ work₀ line work
 
 abbrev μ-loop : tie.MeasureT-loop
-μ-loop m re im factors n line₀ work₀ left₀ inner₀ lines₀ line work left inner lines = left
+μ-loop m re im factors n line₀ work₀ at₀ line work at = at .left
 
-abbrev St : tie.In-loop Inv-loop μ-loop → tie.Start Inv-loop μ-loop
-St i = i .before .before .before .before
-
-abbrev At : tie.In-loop Inv-loop μ-loop → tie.At-loop Inv-loop μ-loop
-At i = i .before
+abbrev St : tie.At-loop Inv-loop μ-loop → tie.Start Inv-loop μ-loop
+St l = l .before .before .before
 
 loop-holds : tie.Need-loop-holds Inv-loop μ-loop
-loop-holds c = let s = c .before .before in driving-start _ (s .pre .1 .0 .0) (s .pre .1 .1 .0 .0) (s .pre .1 .1 .0 .1) (s .pre .1 .1 .1)
-
-cast-outer : tie.Need-cast-outer Inv-loop μ-loop
-cast-outer c = omega arith
-
-div-lines : tie.Need-div-lines Inv-loop μ-loop
-div-lines c = omega (arith, driving-splits (At c .loop .inv) (c .loop-test .taken) (St c .pre .1 .0 .1) .low)
+loop-holds c = let s = c .before .before in driving-start _ (s .args .factors) (s .pre .1 .1 .0 .0) (s .pre .1 .1 .0 .1) (s .pre .1 .1 .1)
 
 step-requires : tie.Need-step-requires Inv-loop μ-loop
 step-requires c κs =
-    let i = c .before .before in
-    let s = St i in
-    let h = At i .loop .inv in
-    let more = i .loop-test .taken in
-    let long = driving-length h more in
-    (s .pre .0, (driving-splits h more (s .pre .1 .0 .1), ((driving-long h ∙ ap (λ k. 2 * k) (sym long), h .work-long ∙ ap (λ k. 2 * k) (sym long)), driving-below h)))
+    let l = c .before .before .before .before in
+    let s = St l in
+    (s .pre .0, step-asks (s .pre .1 .0 .0) (l .loop .inv .stands) (omega arith) (s .pre .1 .0 .1) (l .loop .inv .work-long))
 
-mul-inner : tie.Need-mul-inner Inv-loop μ-loop
-mul-inner c =
-    let i = c .before .before .before .before .before .before .before in
-    omega (arith, product-le (driving-splits (At i .loop .inv) (i .loop-test .taken) (St i .pre .1 .0 .1)))
+-- where the turn of a first step began
+abbrev Turn : tie.After-step Inv-loop μ-loop → tie.At-loop Inv-loop μ-loop
+Turn t = t .before .before .before .before .before
+
+step-requires-2 : tie.Need-step-requires-2 Inv-loop μ-loop
+step-requires-2 c κs =
+    let t = c .before .before .before .before in
+    let l = Turn t in
+    let s = St l in
+    let list = s .pre .1 .0 .0 in
+    let e = t .step .ensures .0 in
+    let h = standing-next list (l .loop .inv .stands) (omega arith) e (t .step .ensures .1) in
+    (s .pre .0, step-asks list h (omega (arith, after-left (l .loop .at) e)) (s .pre .1 .0 .1) (standing-long list (l .loop .inv .stands)))
 
 loop-less : tie.Need-loop-less Inv-loop μ-loop
-loop-less c = omega arith
+loop-less c =
+    let u = c .before .before in
+    let t = u .before .before .before .before .before in
+    omega (arith, after-left (Turn t .loop .at) (t .step .ensures .0), after-left (t .step .result) (u .step2 .ensures .0))
 
 loop-again : tie.Need-loop-again Inv-loop μ-loop
 loop-again c =
-    let t = c .before .before .before .before in
-    let i = t .before .before .before in
-    driving-next (At i .loop .inv) (i .loop-test .taken) (St i .pre .1 .0 .1) (St i .pre .0 .1 .cycle) (t .step .ensures .0) (t .step .ensures .1)
+    let u = c .before .before in
+    let t = u .before .before .before .before .before in
+    let l = Turn t in
+    let s = St l in
+    let list = s .pre .1 .0 .0 in
+    let e = t .step .ensures .0 in
+    let h = standing-next list (l .loop .inv .stands) (omega arith) e (t .step .ensures .1) in
+    driving-next (s .args .line .now) (s .args .work .now) list h (standing-next list h (omega (arith, after-left (l .loop .at) e)) (u .step2 .ensures .0) (u .step2 .ensures .1)) (u .step2 .ensures .0)
+
+step-requires-3 : tie.Need-step-requires-3 Inv-loop μ-loop
+step-requires-3 c κs =
+    let l = c .before .before .before .before .before .before in
+    let s = St l in
+    (s .pre .0, step-asks (s .pre .1 .0 .0) (l .loop .inv .stands) (omega arith) (s .pre .1 .0 .1) (l .loop .inv .work-long))
+
+copy-requires : tie.Need-copy-requires Inv-loop μ-loop
+copy-requires c κs =
+    let w = c .before .before .before in
+    let l = w .before .before .before .before .before .before .before .before in
+    (omega (arith, w .work2 .given, l .loop .inv .work-long), omega (arith, standing-long (St l .pre .1 .0 .0) (l .loop .inv .stands)))
 
 same-length : tie.Need-same-length Inv-loop μ-loop
-same-length c = omega (arith, driving-long (c .before .loop .inv))
+same-length c =
+    let l = c .before .before .before .before .before .before .before .before .before .before .before .before .before .before in
+    omega (arith, c .before .line2 .given, standing-long (St l .pre .1 .0 .0) (l .loop .inv .stands))
 
 same-length-2 : tie.Need-same-length-2 Inv-loop μ-loop
-same-length-2 c = omega (arith, c .before .loop .inv .work-long)
+same-length-2 c =
+    let w = c .before .before .before .before .before .before in
+    let l = w .before .before .before .before .before .before .before .before in
+    omega (arith, w .work2 .given, l .loop .inv .work-long, St l .pre .1 .1 .0 .1)
 
 returns : tie.Need-returns Inv-loop μ-loop
-returns c = (driving-line (c .before .loop .inv) (omega arith), driving-work (c .before .loop .inv) (omega arith))
+returns c =
+    let k = c .before .before in
+    let t = k .before .before .before .before .before in
+    let l = t .before .before .before .before .before .before .before in
+    let s = St l in
+    let list = s .pre .1 .0 .0 in
+    let e = t .step3 .ensures .0 in
+    let h = standing-next list (l .loop .inv .stands) (omega arith) e (t .step3 .ensures .1) in
+    driving-last (s .args .line .now) (s .args .work .now) (l .loop .line) list h (omega (arith, after-left (l .loop .at) e, t .before .before .before .before .before .if1 .left)) (standing-long list (l .loop .inv .stands)) (k .copy .ensures)
+
+same-length-3 : tie.Need-same-length-3 Inv-loop μ-loop
+same-length-3 c = let l = c .before .before .before .before in omega (arith, standing-long (St l .pre .1 .0 .0) (l .loop .inv .stands))
+
+same-length-4 : tie.Need-same-length-4 Inv-loop μ-loop
+same-length-4 c = omega (arith, c .before .before .before .before .loop .inv .work-long)
+
+returns-2 : tie.Need-returns-2 Inv-loop μ-loop
+returns-2 c =
+    let l = c .before .before .before .before in
+    let z : l .loop .at .left ≡ 0 = omega arith in
+    (standing-end (St l .pre .1 .0 .0) (l .loop .inv .stands) z, rw z at (l .loop .inv .work-is))
 
 pub transform-spec : {M : Type 1} → statement M
 transform-spec =
@@ -68,12 +108,15 @@ transform-spec =
     Inv-loop
     μ-loop
     loop-holds
-    cast-outer
-    div-lines
     step-requires
-    mul-inner
+    step-requires-2
     loop-less
     loop-again
+    step-requires-3
+    copy-requires
     same-length
     same-length-2
-    returns)
+    returns
+    same-length-3
+    same-length-4
+    returns-2)

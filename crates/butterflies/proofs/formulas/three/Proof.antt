@@ -1,10 +1,8 @@
 -- e(1/3) and e(2/3) are conjugate.
 use borrow.Author.Needs.{needs}
-use mathlib.Core.Path.{_∙_}
 use native.Mathlib.Omega.{arith}
 use lib.Dec.{lit<}
-use Rattle.numbers.proofs.Accumulators.{accumulated-pair}
-use Rattle.butterflies.proofs.Unreduced.{small-most, room}
+use Rattle.butterflies.proofs.Unreduced.{room, rooms, given, given-both}
 use Rattle.butterflies.proofs.Turns.{root-most}
 use Rattle.butterflies.proofs.Butterflies.{three-butterfly}
 use Rattle.butterflies.proofs.formulas.three.Statement.{statement}
@@ -16,94 +14,73 @@ root-at-requires c κs = search needs
 sum-requires : tie.Need-sum-requires
 sum-requires c κs =
     let s = c .before .before .before .before in
-    (small-most (s .pre .0 .0) (s .pre .1 .each 1 (lit< tt)), small-most (s .pre .0 .0) (s .pre .1 .each 2 (lit< tt)))
+    (given-both (s .pre .1) 1 (lit< tt) 2 (lit< tt))
 
-turned-difference-requires : tie.Need-turned-difference-requires
-turned-difference-requires c κs =
-    let s = c .before .before .before .before .before in
-    (s .pre .0 .0, s .pre .1 .each 1 (lit< tt), s .pre .1 .each 2 (lit< tt))
-
-of-pair-requires : tie.Need-of-pair-requires
-of-pair-requires c κs =
-    let s = c .before .before .before .before .before .before in
-    small-most (s .pre .0 .0) (s .pre .1 .each 0 (lit< tt))
-
-add-scaled-requires : tie.Need-add-scaled-requires
-add-scaled-requires c κs =
-    let at-sum = c .before .before in
-    let at-root-at = at-sum .before in
+scaled-requires : tie.Need-scaled-requires
+scaled-requires c κs =
+    let at-root-at = c .before in
     let s = at-root-at .before .before .before .before in
     let m = s .args .m in
-    (room 1000000000000000000 (omega arith) (c .of-pair .ensures m), (root-most (s .pre .0 .1) (lit< tt) (at-root-at .root-at .ensures) (s .pre .0 .0) .0, at-sum .sum .ensures m .re, at-sum .sum .ensures m .im))
+    let t = c .sum .ensures m 1 1 _ _ (given (s .pre .1) 1 (lit< tt) m) (given (s .pre .1) 2 (lit< tt) m) in
+    (root-most (s .pre .0 .1) (lit< tt) (at-root-at .root-at .ensures) (s .pre .0 .0) .0, room 731561241608 (omega arith) t)
 
-zero-accumulator-requires : tie.Need-zero-accumulator-requires
-zero-accumulator-requires c κs = search needs
-
-add-scaled-requires-2 : tie.Need-add-scaled-requires-2
-add-scaled-requires-2 c κs =
-    let at-turned-difference = c .before .before .before in
-    let at-root-at = at-turned-difference .before .before in
-    let s = at-root-at .before .before .before .before in
-    let m = s .args .m in
-    (room 1000000000000000000 (omega arith) (c .zero-accumulator .ensures m), (root-most (s .pre .0 .1) (lit< tt) (at-root-at .root-at .ensures) (s .pre .0 .0) .1, at-turned-difference .turned-difference .ensures .re, at-turned-difference .turned-difference .ensures .im))
-
-add-scaled-requires-3 : tie.Need-add-scaled-requires-3
-add-scaled-requires-3 c κs =
-    let at-of-pair = c .before .before .before in
-    let at-sum = at-of-pair .before .before in
+sum-requires-2 : tie.Need-sum-requires-2
+sum-requires-2 c κs =
+    let at-sum = c .before in
     let s = at-sum .before .before .before .before .before in
     let m = s .args .m in
-    (room 1000000000000000000 (omega arith) (at-of-pair .of-pair .ensures m), (omega arith, at-sum .sum .ensures m .re, at-sum .sum .ensures m .im))
+    let t = at-sum .sum .ensures m 1 1 _ _ (given (s .pre .1) 1 (lit< tt) m) (given (s .pre .1) 2 (lit< tt) m) in
+    rooms (omega arith) (omega arith) (given (s .pre .1) 0 (lit< tt) m) (c .scaled .ensures m 2 _ t)
 
-reduced-requires : tie.Need-reduced-requires
-reduced-requires c κs =
-    let s = c .before .before .before .before .before .before .before .before .before .before .before in
-    s .pre .0 .0
+turned-requires : tie.Need-turned-requires
+turned-requires c κs =
+    let s = c .before .before .before .before .before .before .before in
+    (s .pre .1 .each 1 (lit< tt), s .pre .1 .each 2 (lit< tt))
+
+scaled-requires-2 : tie.Need-scaled-requires-2
+scaled-requires-2 c κs =
+    let at-root-at = c .before .before .before .before in
+    let s = at-root-at .before .before .before .before in
+    (root-most (s .pre .0 .1) (lit< tt) (at-root-at .root-at .ensures) (s .pre .0 .0) .1, room 731561241608 (omega arith) (c .turned .ensures (s .args .m) (s .pre .0 .0)))
+
+both-ways-requires : tie.Need-both-ways-requires
+both-ways-requires c κs =
+    let at-turned = c .before in
+    let at-sum2 = at-turned .before in
+    let at-scaled = at-sum2 .before in
+    let at-sum = at-scaled .before in
+    let s = at-sum .before .before .before .before .before in
+    let m = s .args .m in
+    let t = at-sum .sum .ensures m 1 1 _ _ (given (s .pre .1) 1 (lit< tt) m) (given (s .pre .1) 2 (lit< tt) m) in
+    let even = at-sum2 .sum2 .ensures m 1 604798 _ _ (given (s .pre .1) 0 (lit< tt) m) (at-scaled .scaled .ensures m 2 _ t) in
+    let odd = c .scaled2 .ensures m 4 _ (at-turned .turned .ensures m (s .pre .0 .0)) in
+    (s .pre .0 .0, rooms (omega arith) (omega arith) even odd)
 
 total-requires : tie.Need-total-requires
 total-requires c κs =
-    let at-add-scaled2 = c .before .before in
-    let at-zero-accumulator = at-add-scaled2 .before in
-    let at-add-scaled = at-zero-accumulator .before in
-    let at-of-pair = at-add-scaled .before in
-    let at-turned-difference = at-of-pair .before in
-    let at-sum = at-turned-difference .before in
+    let at-sum = c .before .before .before .before .before .before .before in
     let s = at-sum .before .before .before .before .before in
     let m = s .args .m in
-    (s .pre .0 .0, room 1000000000000000000 (omega arith) (at-add-scaled .add-scaled .ensures m 1 _ _ (at-of-pair .of-pair .ensures m) (at-sum .sum .ensures m)), room 418031539216 (omega arith) (at-add-scaled2 .add-scaled2 .ensures m 0 _ _ (at-zero-accumulator .zero-accumulator .ensures m) (at-turned-difference .turned-difference .ensures)))
-
-rest-requires : tie.Need-rest-requires
-rest-requires c κs =
-    let at-add-scaled2 = c .before .before .before in
-    let at-zero-accumulator = at-add-scaled2 .before in
-    let at-add-scaled = at-zero-accumulator .before in
-    let at-of-pair = at-add-scaled .before in
-    let at-turned-difference = at-of-pair .before in
-    let at-sum = at-turned-difference .before in
-    let s = at-sum .before .before .before .before .before in
-    let m = s .args .m in
-    (s .pre .0 .0, room 1000000000000000000 (omega arith) (at-add-scaled .add-scaled .ensures m 1 _ _ (at-of-pair .of-pair .ensures m) (at-sum .sum .ensures m)), room 418031539216 (omega arith) (at-add-scaled2 .add-scaled2 .ensures m 0 _ _ (at-zero-accumulator .zero-accumulator .ensures m) (at-turned-difference .turned-difference .ensures)))
+    let t = at-sum .sum .ensures m 1 1 _ _ (given (s .pre .1) 1 (lit< tt) m) (given (s .pre .1) 2 (lit< tt) m) in
+    (s .pre .0 .0, rooms (omega arith) (omega arith) (given (s .pre .1) 0 (lit< tt) m) t)
 
 returns : tie.Need-returns
 returns c =
-    let at-total = c .before in
-    let at-reduced = at-total .before in
-    let at-add-scaled3 = at-reduced .before in
-    let at-add-scaled2 = at-add-scaled3 .before in
-    let at-zero-accumulator = at-add-scaled2 .before in
-    let at-add-scaled = at-zero-accumulator .before in
-    let at-of-pair = at-add-scaled .before in
-    let at-turned-difference = at-of-pair .before in
-    let at-sum = at-turned-difference .before in
+    let at-both-ways = c .before .before .before in
+    let at-scaled2 = at-both-ways .before in
+    let at-turned = at-scaled2 .before in
+    let at-sum2 = at-turned .before in
+    let at-scaled = at-sum2 .before in
+    let at-sum = at-scaled .before in
     let at-root-at = at-sum .before in
     let s = at-root-at .before .before .before .before in
     let m = s .args .m in
-    let even = at-add-scaled .add-scaled .ensures m 1 _ _ (at-of-pair .of-pair .ensures m) (at-sum .sum .ensures m) in
-    let odd = at-add-scaled2 .add-scaled2 .ensures m 0 _ _ (at-zero-accumulator .zero-accumulator .ensures m) (at-turned-difference .turned-difference .ensures) in
-    three-butterfly m (s .pre .0 .1) (s .args .v) _ (at-root-at .root-at .ensures)
-    (at-reduced .reduced .ensures ∙ accumulated-pair (at-add-scaled3 .add-scaled3 .ensures m 1 _ _ (at-of-pair .of-pair .ensures m) (at-sum .sum .ensures m)))
-    (at-total .total .ensures 2 1 _ _ even odd)
-    (c .rest .ensures 2 1 _ _ even odd)
+    let a = given (s .pre .1) 0 (lit< tt) m in
+    let t = at-sum .sum .ensures m 1 1 _ _ (given (s .pre .1) 1 (lit< tt) m) (given (s .pre .1) 2 (lit< tt) m) in
+    let even = at-sum2 .sum2 .ensures m 1 604798 _ _ a (at-scaled .scaled .ensures m 2 _ t) in
+    let odd = at-scaled2 .scaled2 .ensures m 4 _ (at-turned .turned .ensures m (s .pre .0 .0)) in
+    let mates = at-both-ways .both-ways .ensures 604799 1209596 _ _ even odd in
+    three-butterfly m (s .pre .0 .1) _ _ (at-root-at .root-at .ensures) (c .total .ensures 1 2 _ _ a t) (mates .0) (mates .1)
 
 pub three-spec : {M : Type 1} → statement M
 three-spec =
@@ -111,13 +88,10 @@ three-spec =
     (tie.spec
     root-at-requires
     sum-requires
-    turned-difference-requires
-    of-pair-requires
-    add-scaled-requires
-    zero-accumulator-requires
-    add-scaled-requires-2
-    add-scaled-requires-3
-    reduced-requires
+    scaled-requires
+    sum-requires-2
+    turned-requires
+    scaled-requires-2
+    both-ways-requires
     total-requires
-    rest-requires
     returns)

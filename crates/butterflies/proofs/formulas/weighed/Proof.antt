@@ -1,22 +1,23 @@
--- Two products more.
+-- Two products by residues.
 use borrow.Author.Needs.{needs}
-use Prim.Native.Nat.{_+_}
-use Rattle.butterflies.proofs.Unreduced.{scaled-room}
+use native.Mathlib.Omega.{arith}
+use Rattle.butterflies.proofs.Unreduced.{counted, rooms}
 use Rattle.butterflies.proofs.formulas.weighed.Statement.{statement}
 use Rattle.butterflies.proofs.formulas.weighed.Tie as tie
 
-add-scaled-requires : tie.Need-add-scaled-requires
-add-scaled-requires c κs = search needs
+scaled-requires : tie.Need-scaled-requires
+scaled-requires c κs = search needs
 
-add-scaled-requires-2 : tie.Need-add-scaled-requires-2
-add-scaled-requires-2 c κs =
-    let s = c .before in
-    (scaled-room (s .args .c) (s .pre .0 .0) (s .pre .1 .0) (s .pre .1 .1) (c .add-scaled .ensures), (s .pre .0 .2, s .pre .1 .2, s .pre .1 .3))
+scaled-requires-2 : tie.Need-scaled-requires-2
+scaled-requires-2 c κs = search needs
+
+sum-requires : tie.Need-sum-requires
+sum-requires c κs =
+    let s = c .before .before in
+    rooms (omega arith) (omega arith) (c .before .scaled .ensures 1 4 _ (counted 1 4 (omega arith) (s .pre .2))) (c .scaled2 .ensures 1 4 _ (counted 1 4 (omega arith) (s .pre .3)))
 
 returns : tie.Need-returns
-returns c =
-    let at-add-scaled = c .before in
-    λ m n x y z ha ht hs. c .add-scaled2 .ensures m (n + 1) _ z (at-add-scaled .add-scaled .ensures m n x y ha ht) hs
+returns c = λ m n k x y ht hs. c .sum .ensures m _ _ _ _ (c .before .before .scaled .ensures m n x ht) (c .before .scaled2 .ensures m k y hs)
 
 pub weighed-spec : {M : Type 1} → statement M
-weighed-spec = tie.close (tie.spec add-scaled-requires add-scaled-requires-2 returns)
+weighed-spec = tie.close (tie.spec scaled-requires scaled-requires-2 sum-requires returns)

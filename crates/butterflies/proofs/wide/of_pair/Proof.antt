@@ -1,6 +1,7 @@
--- One value is a sum of one value, and small enough to stand for a product.
+-- One value is small enough to stand for a product.
 use borrow.Author.Needs.{needs}
-use Rattle.butterflies.proofs.Unreduced.{accumulated-one}
+use native.Mathlib.Omega.{arith}
+use Rattle.butterflies.proofs.Unreduced.{of-pair-means}
 use Rattle.butterflies.proofs.wide.of_pair.Statement.{statement}
 use Rattle.butterflies.proofs.wide.of_pair.Tie as tie
 
@@ -11,7 +12,9 @@ cast-t3 : tie.Need-cast-t3
 cast-t3 c = search needs
 
 returns : tie.Need-returns
-returns c = λ m. accumulated-one m (c .before .before .pre)
+returns c =
+    let s = c .before .before in
+    (record { re = omega (arith, s .pre .re); im = omega (arith, s .pre .im) }, λ m. of-pair-means m (s .args .v))
 
 pub of-pair-spec : {M : Type 1} → statement M
 of-pair-spec = tie.close (tie.spec cast-t2 cast-t3 returns)

@@ -1,26 +1,24 @@
--- b is taken from a number that stands for 0.
+-- The result is reduced once.
 use borrow.Author.Needs.{needs}
-use Rattle.butterflies.proofs.Unreduced.{rest-value}
+use mathlib.Core.Path.{_∙_}
+use native.Mathlib.Omega.{arith}
+use Rattle.numbers.proofs.Accumulators.{accumulated-pair}
+use Rattle.butterflies.proofs.Unreduced.{counted}
 use Rattle.butterflies.proofs.wide.rest.Statement.{statement}
 use Rattle.butterflies.proofs.wide.rest.Tie as tie
 
-sub-t5 : tie.Need-sub-t5
-sub-t5 c = search needs
-
-add-t6 : tie.Need-add-t6
-add-t6 c = search needs
-
-sub-t7 : tie.Need-sub-t7
-sub-t7 c = search needs
-
-add-t8 : tie.Need-add-t8
-add-t8 c = search needs
+apart-requires : tie.Need-apart-requires
+apart-requires c κs = search needs
 
 reduced-below-requires : tie.Need-reduced-below-requires
-reduced-below-requires c κs = search needs
+reduced-below-requires c κs =
+    let s = c .before in
+    let m = s .args .m in
+    let most = c .apart .ensures m 2733880 2428552 _ _ (s .pre .0) (counted m 2733880 (omega arith) (s .pre .1 .0)) (counted m 2428552 (omega arith) (s .pre .1 .1)) in
+    (s .pre .0, omega (arith, most .re), omega (arith, most .im))
 
 returns : tie.Need-returns
-returns c = λ n k y z ha hb. let s = c .before .before .before .before .before in rest-value (s .pre .0) (s .pre .2) ha hb (c .reduced-below .ensures)
+returns c = λ n k a b hx hy. let s = c .before .before in c .reduced-below .ensures ∙ accumulated-pair (c .before .apart .ensures _ n k a b (s .pre .0) hx hy)
 
 pub rest-spec : {M : Type 1} → statement M
-rest-spec = tie.close (tie.spec sub-t5 add-t6 sub-t7 add-t8 reduced-below-requires returns)
+rest-spec = tie.close (tie.spec apart-requires reduced-below-requires returns)

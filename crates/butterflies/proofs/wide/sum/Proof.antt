@@ -1,6 +1,6 @@
 -- Sums go by parts.
 use borrow.Author.Needs.{needs}
-use Rattle.butterflies.proofs.Unreduced.{wide-sum}
+use Rattle.butterflies.proofs.Unreduced.{accumulated-sum}
 use Rattle.butterflies.proofs.wide.sum.Statement.{statement}
 use Rattle.butterflies.proofs.wide.sum.Tie as tie
 
@@ -11,7 +11,7 @@ add-t4 : tie.Need-add-t4
 add-t4 c = search needs
 
 returns : tie.Need-returns
-returns c = λ m. let s = c .before .before .before .before in wide-sum m _ _ (s .pre .0) (s .pre .1)
+returns c = λ m n k a b hx hy. accumulated-sum m n k a b hx hy
 
 pub sum-spec : {M : Type 1} → statement M
 sum-spec = tie.close (tie.spec add-t3 add-t4 returns)

@@ -1,20 +1,24 @@
--- The sum is reduced once.
+-- The result is reduced once.
 use borrow.Author.Needs.{needs}
-use Rattle.butterflies.proofs.Unreduced.{total-value}
+use mathlib.Core.Path.{_∙_}
+use native.Mathlib.Omega.{arith}
+use Rattle.numbers.proofs.Accumulators.{accumulated-pair}
+use Rattle.butterflies.proofs.Unreduced.{counted}
 use Rattle.butterflies.proofs.wide.total.Statement.{statement}
 use Rattle.butterflies.proofs.wide.total.Tie as tie
 
-add-t5 : tie.Need-add-t5
-add-t5 c = search needs
-
-add-t6 : tie.Need-add-t6
-add-t6 c = search needs
+sum-requires : tie.Need-sum-requires
+sum-requires c κs = search needs
 
 reduced-below-requires : tie.Need-reduced-below-requires
-reduced-below-requires c κs = search needs
+reduced-below-requires c κs =
+    let s = c .before in
+    let m = s .args .m in
+    let most = c .sum .ensures m 2733880 2428552 _ _ (counted m 2733880 (omega arith) (s .pre .1 .0)) (counted m 2428552 (omega arith) (s .pre .1 .1)) in
+    (s .pre .0, omega (arith, most .re), omega (arith, most .im))
 
 returns : tie.Need-returns
-returns c = λ n k y z ha hb. total-value ha hb (c .reduced-below .ensures)
+returns c = λ n k a b hx hy. let s = c .before .before in c .reduced-below .ensures ∙ accumulated-pair (c .before .sum .ensures _ n k a b hx hy)
 
 pub total-spec : {M : Type 1} → statement M
-total-spec = tie.close (tie.spec add-t5 add-t6 reduced-below-requires returns)
+total-spec = tie.close (tie.spec sum-requires reduced-below-requires returns)

@@ -1,0 +1,5 @@
+pub mod Sizes
+pub mod Passes
+pub mod Passing
+pub mod Loading
+pub mod Spreading

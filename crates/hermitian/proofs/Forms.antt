@@ -124,21 +124,24 @@ three-paths : {X Y Z W : Type 0} (f : X → Y → Z → W) {a b : X} {c d : Y} {
 three-paths f p q r = λ j. f (p j) (q j) (r j)
 
 module _ (m A : ℕ) (e x y : Value m) where
-  pub braid-by : {d s q u r : Pair} → d ≡ pairOf (field m .add x (field m .neg y)) → s ≡ pairOf (field m .mul e (valueOf m d)) → q ≡ pairOf (field m .add x y)
-      → u ≡ pairOf (field m .mul (i m) (valueOf m s)) → r ≡ pairOf (field m .add (valueOf m q) (valueOf m u)) → r ≡ pairOf (braidOf m A e x y)
+  pub braid-by : {d u r : Pair} → d ≡ pairOf (field m .add x (field m .neg y)) → u ≡ pairOf (field m .mul (i m) (valueOf m d))
+      → r ≡ pairOf (field m .add (field m .add x y) (field m .mul e (valueOf m u))) → r ≡ pairOf (braidOf m A e x y)
   unfolding braid
-  braid-by hd hs hq hu hr =
-      hr ∙ ap pairOf (ap₂ (field m .add) (value-by m _ hq) (value-by m _ hu ∙ ap (field m .mul (i m)) (value-by m _ hs ∙ ap (field m .mul e) (value-by m _ hd))))
+  braid-by hd hu hr =
+      hr ∙ ap pairOf
+      (ap (λ z. field m .add (field m .add x y) (field m .mul e z)) (value-by m _ hu ∙ ap (field m .mul (i m)) (value-by m _ hd))
+      ∙ ring (field-ring m) (e ∷ x ∷ y ∷ i m ∷ []) (search quote depth 40 fits 9999) refl)
 
-  pub unbraid-by : {d s q u g r : Pair} → d ≡ pairOf (field m .add x (field m .neg y)) → s ≡ pairOf (field m .mul e (valueOf m d)) → q ≡ pairOf (field m .add x y)
-      → u ≡ pairOf (field m .mul (i m) (valueOf m s)) → g ≡ pairOf (field m .add (valueOf m q) (field m .neg (valueOf m u)))
+  pub unbraid-by : {d u g r : Pair} → d ≡ pairOf (field m .add y (field m .neg x)) → u ≡ pairOf (field m .mul (i m) (valueOf m d))
+      → g ≡ pairOf (field m .add (field m .add x y) (field m .mul e (valueOf m u)))
       → r ≡ pairOf (field m .mul (real m (half m)) (valueOf m g)) → r ≡ pairOf (unbraidOf m A e x y)
   unfolding unbraid
-  unbraid-by hd hs hq hu hg hr =
+  unbraid-by hd hu hg hr =
       hr
       ∙ ap (λ z. pairOf (field m .mul (real m (half m)) z))
       (value-by m _ hg
-      ∙ ap₂ (λ y z. field m .add y (field m .neg z)) (value-by m _ hq) (value-by m _ hu ∙ ap (field m .mul (i m)) (value-by m _ hs ∙ ap (field m .mul e) (value-by m _ hd))))
+      ∙ ap (λ z. field m .add (field m .add x y) (field m .mul e z)) (value-by m _ hu ∙ ap (field m .mul (i m)) (value-by m _ hd))
+      ∙ ring (field-ring m) (e ∷ x ∷ y ∷ i m ∷ []) (search quote depth 40 fits 9999) refl)
 
 -- e, x, y and z are e(t/N), the values at t and A - t, and the conjugate of the second
 module _ (m A : ℕ) (v : Value m) (p : ℕ → Value m) where

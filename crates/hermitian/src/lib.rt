@@ -148,8 +148,8 @@ fn braid(m: u32, e: Pair, x: Pair, y: Pair) -> Pair
     requires { ⌜ IsModulus m × Small (prime m) e × Small (prime m) x × Small (prime m) y ⌝ }
     ensures { λ r. ⌜ ((A : ℕ) → r ≡ pairOf (Folds.braid (field m) (conj m) (i m) (real m (half m)) A (valueOf m e) (valueOf m x) (valueOf m y))) ⌝ }
 {
-    let s = numbers::product(m, e, numbers::difference(m, x, y));
-    numbers::sum(m, numbers::sum(m, x, y), numbers::times_i(m, s))
+    let turned = numbers::times_i(m, numbers::difference(m, x, y));
+    numbers::plus_product(m, x, y, e, turned)
 }
 
 // The pass after the transform of the way back: the braid is taken apart and divided by N, c = 1/N.
@@ -214,9 +214,6 @@ fn unbraid(m: u32, e: Pair, x: Pair, y: Pair) -> Pair
     requires { ⌜ IsModulus m × Small (prime m) e × Small (prime m) x × Small (prime m) y ⌝ }
     ensures { λ r. ⌜ ((A : ℕ) → r ≡ pairOf (Folds.unbraid (field m) (conj m) (i m) (real m (half m)) A (valueOf m e) (valueOf m x) (valueOf m y))) ⌝ }
 {
-    let s = numbers::product(m, e, numbers::difference(m, x, y));
-    numbers::halved(
-        m,
-        numbers::difference(m, numbers::sum(m, x, y), numbers::times_i(m, s)),
-    )
+    let turned = numbers::times_i(m, numbers::difference(m, y, x));
+    numbers::halved(m, numbers::plus_product(m, x, y, e, turned))
 }

@@ -2,7 +2,9 @@
 use mathlib.Core.Path.{_≡_}
 use Prim.Native.Nat.{ℕ, _+_, _*_, _-_, _/_, _<_, _≤_}
 use native.Mathlib.Omega.{arith}
+use Rattle.numbers.specs.declared.Pair.{Pair}
 use Rattle.numbers.specs.Prime.{prime, exponent, IsModulus}
+use Rattle.numbers.specs.Value.{Small}
 
 pub first-modulus : IsModulus 1
 first-modulus = record { low = omega arith; high = omega arith }
@@ -25,6 +27,10 @@ prime-least m = omega arith
 pub prime-most : {m : ℕ} → IsModulus m → prime m ≤ 302399
 unfolding prime
 prime-most c = omega arith
+
+-- a pair of residues of either modulus
+pub small-most : {m : ℕ} {v : Pair} → IsModulus m → Small (prime m) v → Small 302399 v
+small-most c h = record { re = omega (arith, prime-most c); im = omega (arith, prime-most c) }
 
 pub prime-pos : (m : ℕ) → 0 < prime m
 prime-pos m = omega (arith, prime-least m)

@@ -233,3 +233,15 @@ pub fn reduced_below(m: u32, a: Accumulator) -> Pair
         im: reduce_below(m, a.im),
     }
 }
+
+// x + y + e d, reduced once.
+pub fn plus_product(m: u32, x: Pair, y: Pair, e: Pair, d: Pair) -> Pair
+    requires { ⌜ IsModulus m × Small (prime m) x × Small (prime m) y × Small (prime m) e × Small (prime m) d ⌝ }
+    ensures { λ r. ⌜ r ≡ pairOf (field m .add (field m .add (valueOf m x) (valueOf m y)) (field m .mul (valueOf m e) (valueOf m d))) ⌝ }
+{
+    let s = Accumulator {
+        re: (x.re + y.re) as u64,
+        im: (x.im + y.im) as u64,
+    };
+    reduced_below(m, add_product(m, s, e, d))
+}

@@ -7,30 +7,17 @@ use Rattle.hermitian.proofs.braid.Tie as tie
 difference-requires : tie.Need-difference-requires
 difference-requires c κs = search needs
 
-product-requires : tie.Need-product-requires
-product-requires c κs = search held
-
-sum-requires : tie.Need-sum-requires
-sum-requires c κs = search needs
-
 times-i-requires : tie.Need-times-i-requires
 times-i-requires c κs = search held
 
-sum-requires-2 : tie.Need-sum-requires-2
-sum-requires-2 c κs = search held
+plus-product-requires : tie.Need-plus-product-requires
+plus-product-requires c κs = search held
 
 returns : tie.Need-returns
 returns c =
-    let p = c .before .before .before in
-    λ A. braid-by _ A _ _ _ (p .before .difference .ensures) (p .product .ensures) (c .before .before .sum .ensures) (c .before .times-i .ensures) (c .sum2 .ensures)
+    let t = c .before in
+    λ A. braid-by _ A _ _ _ (t .before .difference .ensures) (t .times-i .ensures) (c .plus-product .ensures)
 
 pub braid-spec : {M : Type 1} → statement M
 braid-spec =
-    tie.close
-    (tie.spec
-    difference-requires
-    product-requires
-    sum-requires
-    times-i-requires
-    sum-requires-2
-    returns)
+    tie.close (tie.spec difference-requires times-i-requires plus-product-requires returns)

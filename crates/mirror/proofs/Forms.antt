@@ -21,7 +21,8 @@ use Rattle.numbers.specs.Accumulator.{Accumulated}
 use Rattle.numbers.specs.Prime.{prime, IsModulus}
 use Rattle.numbers.specs.Value.{Value, field, conj, i, real, res, half, value, valueOf, pairOf, Small}
 use Rattle.numbers.proofs.Primes.{prime-pos, prime-most}
-use Rattle.numbers.proofs.Values.{pair-value, small-by, value-by, value-add, field-ring}
+use Rattle.numbers.proofs.Residues.{res-ring}
+use Rattle.numbers.proofs.Values.{pair-value, small-by, value-by, value-path, value-add, field-ring, i-times}
 use Rattle.numbers.proofs.Parts.{half-law}
 use Rattle.slices.specs.Pairs.{at, Below}
 use Rattle.slices.specs.Values.{valuesOf}
@@ -183,20 +184,31 @@ module _ {R : Type 0} {𝓞 : Ops R} (𝓡 : CRing 𝓞) where
   unfolding join
   join-odd h t i y z = ring 𝓡 (h ∷ t ∷ i ∷ y ∷ z ∷ []) (search quote depth 40 fits 9999) refl
 
--- (x + i tau d)/2 of two values
-abbrev pub halfTurned : (m tau : ℕ) (x d : Value m) → Value m
-halfTurned m tau x d = field m .mul (real m (half m)) (field m .add x (field m .mul (i m) (field m .mul (real m (res m tau)) d)))
+-- a number beside i
+pub turn-value : (m tau : ℕ) → valueOf m (record { re = 0; im = tau }) ≡ field m .mul (i m) (real m (res m tau))
+unfolding valueOf residues
+turn-value m tau = sym (i-times m (real m (res m tau)) ∙ value-path (ring (res-ring m) [] (search quote depth 40 fits 9999) refl) refl)
+
+-- (x + w + i tau d)/2 of values
+abbrev pub halfTurned : (m tau : ℕ) (x w d : Value m) → Value m
+halfTurned m tau x w d = field m .mul (real m (half m)) (field m .add (field m .add x w) (field m .mul (i m) (field m .mul (real m (res m tau)) d)))
+
+pub half-turned : (m tau : ℕ) (x w d : Value m) {g r : Pair} → g ≡ pairOf (field m .add (field m .add x w) (field m .mul (valueOf m (record { re = 0; im = tau })) d))
+    → r ≡ pairOf (field m .mul (real m (half m)) (valueOf m g)) → r ≡ pairOf (halfTurned m tau x w d)
+half-turned m tau x w d hg hr =
+    hr ∙ ap (λ z. pairOf (field m .mul (real m (half m)) z))
+    (value-by m _ hg ∙ ap (λ t. field m .add (field m .add x w) (field m .mul t d)) (turn-value m tau) ∙ ap (field m .add (field m .add x w)) (field-ring m .mul-assoc _ _ _))
 
 -- the two places of the short transform, joined
 abbrev pub joinedBy : (m tau first : ℕ) (y z : Value m) → Value m
 joinedBy m tau first y z = join (field m) (real m (half m)) (sigma (field m) first) (field m .mul (i m) (real m (res m tau))) y z
 
-module _ (m tau first : ℕ) (y z : Value m) {r b d : Pair} (both : b ≡ pairOf (field m .add y z)) (apart : d ≡ pairOf (field m .add y (field m .neg z))) where
-  pub joined-symmetric : first ≡ 0 → r ≡ pairOf (halfTurned m tau (valueOf m b) (valueOf m d)) → r ≡ pairOf (joinedBy m tau first y z)
-  joined-symmetric e h = by-values m (halfTurned m tau) _ _ h both apart ∙ ap pairOf (join-even (field-ring m) _ _ _ y z) ∙ ap (λ f. pairOf (joinedBy m tau f y z)) (sym e)
+module _ (m tau first : ℕ) (y z : Value m) {r d : Pair} where
+  pub joined-symmetric : d ≡ pairOf (field m .add y (field m .neg z)) → first ≡ 0 → r ≡ pairOf (halfTurned m tau y z (valueOf m d)) → r ≡ pairOf (joinedBy m tau first y z)
+  joined-symmetric apart e h = h ∙ ap (λ x. pairOf (halfTurned m tau y z x)) (value-by m _ apart) ∙ ap pairOf (join-even (field-ring m) _ _ _ y z) ∙ ap (λ f. pairOf (joinedBy m tau f y z)) (sym e)
 
-  pub joined-antisymmetric : first ≤ 1 → (first ≡ 0 → ⊥) → r ≡ pairOf (halfTurned m tau (valueOf m d) (valueOf m b)) → r ≡ pairOf (joinedBy m tau first y z)
-  joined-antisymmetric l n h = by-values m (halfTurned m tau) _ _ h apart both ∙ ap pairOf (join-odd (field-ring m) _ _ _ y z) ∙ ap (λ f. pairOf (joinedBy m tau f y z)) one
+  pub joined-antisymmetric : {n : Pair} → d ≡ pairOf (field m .add y z) → n ≡ pairOf (field m .neg z) → first ≤ 1 → (first ≡ 0 → ⊥) → r ≡ pairOf (halfTurned m tau y (valueOf m n) (valueOf m d)) → r ≡ pairOf (joinedBy m tau first y z)
+  joined-antisymmetric both negated l n h = by-values m (halfTurned m tau y) _ _ h negated both ∙ ap pairOf (join-odd (field-ring m) _ _ _ y z) ∙ ap (λ f. pairOf (joinedBy m tau f y z)) one
     where
       one : 1 ≡ first
       one = omega arith

@@ -243,20 +243,20 @@ fn joined(m: u32, first: usize, tau: u32, y: Pair, z: Pair) -> Pair
     requires { ⌜ IsModulus m × (first ≤ 1) × (tau < prime m) × Small (prime m) y × Small (prime m) z ⌝ }
     ensures { λ r. ⌜ r ≡ pairOf (join (field m) (real m (half m)) (sigma (field m) first) (field m .mul (i m) (real m (res m tau))) (valueOf m y) (valueOf m z)) ⌝ }
 {
-    let both = numbers::sum(m, y, z);
-    let apart = numbers::difference(m, y, z);
     if first == 0 {
-        turned_half(m, tau, both, apart)
+        let apart = numbers::difference(m, y, z);
+        turned_half(m, tau, y, z, apart)
     } else {
-        turned_half(m, tau, apart, both)
+        let both = numbers::sum(m, y, z);
+        turned_half(m, tau, y, numbers::negated(m, z), both)
     }
 }
 
-// (x + i tau d)/2.
-fn turned_half(m: u32, tau: u32, x: Pair, d: Pair) -> Pair
-    requires { ⌜ IsModulus m × (tau < prime m) × Small (prime m) x × Small (prime m) d ⌝ }
-    ensures { λ r. ⌜ r ≡ pairOf (field m .mul (real m (half m)) (field m .add (valueOf m x) (field m .mul (i m) (field m .mul (real m (res m tau)) (valueOf m d))))) ⌝ }
+// (x + w + i tau d)/2.
+fn turned_half(m: u32, tau: u32, x: Pair, w: Pair, d: Pair) -> Pair
+    requires { ⌜ IsModulus m × (tau < prime m) × Small (prime m) x × Small (prime m) w × Small (prime m) d ⌝ }
+    ensures { λ r. ⌜ r ≡ pairOf (field m .mul (real m (half m)) (field m .add (field m .add (valueOf m x) (valueOf m w)) (field m .mul (i m) (field m .mul (real m (res m tau)) (valueOf m d))))) ⌝ }
 {
-    let turned = numbers::times_i(m, numbers::scaled(m, tau, d));
-    numbers::halved(m, numbers::sum(m, x, turned))
+    let turn = Pair { re: 0, im: tau };
+    numbers::halved(m, numbers::plus_product(m, x, w, turn, d))
 }

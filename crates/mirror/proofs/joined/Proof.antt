@@ -6,41 +6,45 @@ use Rattle.mirror.proofs.Forms.{joined-symmetric, joined-antisymmetric}
 use Rattle.mirror.proofs.joined.Statement.{statement}
 use Rattle.mirror.proofs.joined.Tie as tie
 
-sum-requires : tie.Need-sum-requires
-sum-requires c κs = search needs
-
 difference-requires : tie.Need-difference-requires
 difference-requires c κs = search needs
 
 turned-half-requires : tie.Need-turned-half-requires
 turned-half-requires c κs =
-    let d = c .before in
-    let s = d .before .before in
-    (s .pre .0, s .pre .2, small-by _ _ (d .before .sum .ensures), small-by _ _ (d .difference .ensures))
+    let s = c .before .before in
+    (s .pre .0, s .pre .2, s .pre .3, s .pre .4, small-by _ _ (c .difference .ensures))
+
+sum-requires : tie.Need-sum-requires
+sum-requires c κs = search needs
+
+negated-requires : tie.Need-negated-requires
+negated-requires c κs = search needs
 
 turned-half-requires-2 : tie.Need-turned-half-requires-2
 turned-half-requires-2 c κs =
-    let d = c .before in
-    let s = d .before .before in
-    (s .pre .0, s .pre .2, small-by _ _ (d .difference .ensures), small-by _ _ (d .before .sum .ensures))
+    let b = c .before in
+    let s = b .before .before in
+    (s .pre .0, s .pre .2, s .pre .3, small-by _ _ (c .negated .ensures), small-by _ _ (b .sum .ensures))
 
 returns : tie.Need-returns
 returns c =
-    let d = c .before .before in
-    joined-symmetric _ _ _ _ _ (d .before .sum .ensures) (d .difference .ensures) (c .before .if1 .taken) (c .turned-half .ensures)
+    let d = c .before in
+    joined-symmetric _ _ _ _ _ (d .difference .ensures) (d .before .if1 .taken) (c .turned-half .ensures)
 
 returns-2 : tie.Need-returns-2
 returns-2 c =
-    let d = c .before .before in
-    joined-antisymmetric _ _ _ _ _ (d .before .sum .ensures) (d .difference .ensures) (omega arith) (c .before .if1 .left) (c .turned-half2 .ensures)
+    let n = c .before in
+    let b = n .before in
+    joined-antisymmetric _ _ _ _ _ (b .sum .ensures) (n .negated .ensures) (omega arith) (b .before .if1 .left) (c .turned-half2 .ensures)
 
 pub joined-spec : {M : Type 1} → statement M
 joined-spec =
     tie.close
     (tie.spec
-    sum-requires
     difference-requires
     turned-half-requires
+    sum-requires
+    negated-requires
     turned-half-requires-2
     returns
     returns-2)

@@ -24,6 +24,15 @@ static pair root(tables t, size_t k) { pair r = { t.re[k], t.im[k] }; return r; 
 
 static void scale(uint32_t c, size_t n, uint32_t *line) { for (size_t j = 0; j < n; j++) store(line, j, scaled(c, get(line, j))); }
 
+/* x + y + e d, reduced once. */
+static pair plus_product(pair x, pair y, pair e, pair d)
+{
+    sums s = { x.re + y.re, x.im + y.im };
+    s.re += whole(e.re, d.re) + whole(e.im, P - d.im);
+    s.im += whole(e.re, d.im) + whole(e.im, d.re);
+    return reduced(s);
+}
+
 /* Kind 1, Hermitian. */
 static pair cross(pair v) { pair r = { add(v.re, v.im), sub(v.re, v.im) }; return r; }
 
@@ -33,8 +42,7 @@ static void hermitian(tables tab, uint32_t factors, size_t a, uint32_t *line, ui
     store(fold, 0, cross(get(line, 0)));
     for (size_t t = 1; t < a; t++) {
         pair x = get(line, t), y = conjugate(get(line, a - t));
-        pair s = product(root(tab, step * t), difference(x, y));
-        store(fold, t, sum(sum(x, y), times_i(s)));
+        store(fold, t, plus_product(x, y, root(tab, step * t), times_i(difference(x, y))));
     }
     transform(tab.re, tab.im, factors, a, fold, work);
     memcpy(line, fold, 2 * a * sizeof *line);
@@ -49,8 +57,7 @@ static void hermitian_inverse(tables tab, uint32_t factors, size_t a, uint32_t *
     store(line, 0, scaled(c, cross(get(fold, 0))));
     for (size_t t = 1; t < a; t++) {
         pair x = get(fold, t), y = conjugate(get(fold, a - t));
-        pair s = product(root(tab, step * t), difference(x, y));
-        store(line, t, scaled(c, halved(difference(sum(x, y), times_i(s)))));
+        store(line, t, scaled(c, halved(plus_product(x, y, root(tab, step * t), times_i(difference(y, x))))));
     }
 }
 
@@ -125,9 +132,8 @@ static pair mirror_result(tables tab, size_t first, size_t a, pair odds, const u
 {
     if (s == 0) return get(fold, 0);
     if (s == a) return difference(get(fold, 0), sum(odds, odds));
-    pair y = get(fold, s), z = get(fold, a - s), both = sum(y, z), apart = difference(y, z);
-    pair turned = times_i(scaled(tab.tan[1440 / a * s], first ? both : apart));
-    return halved(sum(first ? apart : both, turned));
+    pair y = get(fold, s), z = get(fold, a - s), turn = { 0, tab.tan[1440 / a * s] };
+    return halved(first ? plus_product(y, negated(z), turn, sum(y, z)) : plus_product(y, z, turn, difference(y, z)));
 }
 
 static void mirror(tables tab, size_t first, uint32_t factors, size_t a, uint32_t *line, uint32_t *fold, uint32_t *work)
@@ -152,7 +158,7 @@ static void turn_line(int kind, int inverse, uint32_t factors, size_t a, uint32_
 {
     tables tab = tables_of(inverse);
     switch (kind) {
-    case 0: transform(tab.re, tab.im, 2 + 8 * factors, 2 * a, line, work); break;
+    case 0: transform(tab.re, tab.im, doubled(factors), 2 * a, line, work); break;
     case 1: (inverse ? hermitian_inverse : hermitian)(tab, factors, a, line, fold, work); return;
     case 3: (inverse ? alternating_inverse : alternating)(tab, factors, a, line, fold, work); return;
     default: mirror(tab, kind - 4, factors, a, line, fold, work);

@@ -1,33 +1,31 @@
-/* The plain transform of crates/plain, pass by pass, in C: the same tables, the same two passes a step, the same butterflies and reductions. */
-#include "residues.h"
-
-static void twiddle(const uint32_t *re, const uint32_t *im, size_t inner, size_t outer, size_t lines, const uint32_t *line, uint32_t *work)
-{
-    size_t turn = 2880 / (inner * outer), copied = inner == 1 ? outer : 1;
-    for (size_t j = 0; j < copied * lines * inner; j++) store(work, j, get(line, j));
-    for (size_t b = copied; b < outer; b++)
-        for (size_t q = 0; q < lines; q++) {
-            size_t base = (b * lines + q) * inner, k = 0;
-            for (size_t s = 0; s < inner; s++) {
-                pair v = get(line, base + s);
-                if (k) { pair w = { re[k], im[k] }; v = product(w, v); }
-                store(work, base + s, v);
-                k += b * turn;
-            }
-        }
-}
-
+/* The plain transform of crates/plain in C: the same tables, the same butterflies and reductions, one pass a step, to and fro between line and
+   work slice. */
 #include "butterflies.h"
 
 static void transform(const uint32_t *re, const uint32_t *im, uint32_t factors, size_t n, uint32_t *line, uint32_t *work)
 {
-    size_t inner = 1, lines = n;
-    while (factors) {
-        size_t outer = factors % 8;
+    size_t inner = 1, lines = n, outer;
+    while (factors >= 8) {
+        outer = factors % 8;
         lines /= outer;
-        twiddle(re, im, inner, outer, lines, line, work);
-        outer_sum(re, im, inner, outer, lines, work, line);
+        step(re, im, inner, outer, lines, line, work);
+        inner *= outer;
+        factors /= 8;
+        outer = factors % 8;
+        lines /= outer;
+        step(re, im, inner, outer, lines, work, line);
         inner *= outer;
         factors /= 8;
     }
+    if (!factors) return;
+    step(re, im, inner, factors, lines / factors, line, work);
+    for (size_t j = 0; j < n; j++) store(line, j, get(work, j));
+}
+
+/* The list of twice the length: its first 2 becomes a 4, or a 2 is added at its end. */
+static uint32_t doubled(uint32_t factors)
+{
+    uint32_t place = 1;
+    for (uint32_t left = factors; left && left % 8 != 2; left /= 8) place *= 8;
+    return factors + 2 * place;
 }

@@ -31,7 +31,7 @@ static cell cell_of(const measured *m)
     return c;
 }
 
-/* The sum of the factors of the three passes: a plain line has a silent 2, and only P1 has plain lines along l. */
+/* The sum of the factors of the three passes: a plain line has a silent 2, which turns a 2 into a 4, and only P1 has plain lines along l. */
 static uint32_t factor_sum(const measured *m)
 {
     uint32_t total = m->group ? 2 : 4;

@@ -2,9 +2,9 @@
 use mathlib.Core.Path.{_≡_, _∙_, sym, ap, ap₂}
 use mathlib.Core.List.{List}
 use Prim.Native.Nat.{ℕ}
-use Rattle.line.specs.declared.Refusal.{Refusal}
+use Rattle.refusal_order.specs.declared.Refusal.{Refusal}
 use Rattle.line.specs.declared.LineAnswer.{LineAnswer}
-use Rattle.line.specs.Refusals.{numberOf}
+use Rattle.refusal_order.specs.Refusals.{numberOf}
 use Rattle.line.specs.Line.{LineOutcome, saidLine, lineOutcome}
 use Rattle.job.specs.declared.Job.{Job}
 use Rattle.job.specs.declared.Answered.{Answered}

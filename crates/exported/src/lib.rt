@@ -81,7 +81,7 @@ pub extern "C" fn recorder_open(
             job: opened,
         },
         OpenAnswer::Refused(refusal) => JobCoded {
-            number: line::number_of(refusal),
+            number: refusal_order::number_of(refusal),
             job: no_job(),
         },
     }
@@ -100,7 +100,7 @@ pub extern "C" fn recorder_open_file(file: &[u8], volume: &mut [u32]) -> FileCod
             job: opened,
         },
         FileAnswer::Refused(refusal, place) => FileCoded {
-            number: line::number_of(refusal),
+            number: refusal_order::number_of(refusal),
             place,
             job: no_job(),
         },
@@ -116,7 +116,7 @@ pub extern "C" fn recorder_write_file(held: Job, volume: &[u32], out: &mut [u8])
     match answer {
         WriteAnswer::Written(written) => WriteCoded { number: 0, written },
         WriteAnswer::Refused(refusal) => WriteCoded {
-            number: line::number_of(refusal),
+            number: refusal_order::number_of(refusal),
             written: 0,
         },
     }
@@ -179,7 +179,7 @@ pub extern "C" fn recorder_point(held: Job, at: GridPoint, volume: &[u32]) -> Po
     match answer {
         PointAnswer::Density(density) => PointCoded { number: 0, density },
         PointAnswer::Refused(refusal) => PointCoded {
-            number: line::number_of(refusal),
+            number: refusal_order::number_of(refusal),
             density: 0,
         },
     }
@@ -194,7 +194,7 @@ pub extern "C" fn recorder_factor(held: Job, at: Reflection, volume: &[u32]) -> 
     match answer {
         FactorAnswer::Factor(a, b) => FactorCoded { number: 0, a, b },
         FactorAnswer::Refused(refusal) => FactorCoded {
-            number: line::number_of(refusal),
+            number: refusal_order::number_of(refusal),
             a: 0,
             b: 0,
         },
@@ -222,7 +222,7 @@ fn answer_number(answer: Answer) -> u32
 {
     match answer {
         Answer::Done => 0,
-        Answer::Refused(refusal) => line::number_of(refusal),
+        Answer::Refused(refusal) => refusal_order::number_of(refusal),
     }
 }
 
@@ -231,7 +231,7 @@ fn line_number(answer: LineAnswer) -> u32
 {
     match answer {
         LineAnswer::Transformed => 0,
-        LineAnswer::Refused(refusal) => line::number_of(refusal),
+        LineAnswer::Refused(refusal) => refusal_order::number_of(refusal),
     }
 }
 

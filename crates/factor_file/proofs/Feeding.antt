@@ -5,7 +5,7 @@ use Prim.Native.Nat.{ℕ, suc, _+_, _*_, _-_, _<_, _≤_}
 use native.Mathlib.Omega.{arith}
 use native.Mathlib.Numerals.{add-one}
 use lib.ListN.{length, replicate}
-use Rattle.line.specs.Tests.{first}
+use Rattle.refusal_order.specs.Tests.{first}
 use Rattle.job.specs.declared.Job.{Job}
 use Rattle.job.specs.Steps.{opened, notOpened, OpenOutcome, done, refused, Outcome, recordStep}
 use Rattle.factor_file.specs.declared.FileRecord.{FileRecord}

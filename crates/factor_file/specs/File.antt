@@ -6,7 +6,7 @@ use mathlib.Core.List.{List, [], _∷_}
 use Prim.Native.Nat.{ℕ, zero, suc, _+_, _*_, _-_}
 use lib.ListN.{length, getD, take, drop, replicate}
 use lib.Dec.{ltb, eqb}
-use Rattle.line.specs.Tests.{Test, _⇒_, first, accepted}
+use Rattle.refusal_order.specs.Tests.{Test, _⇒_, first, accepted}
 use Rattle.job.specs.declared.Job.{Job}
 use Rattle.job.specs.declared.Reflection.{Reflection}
 use Rattle.job.specs.Header.{Header}

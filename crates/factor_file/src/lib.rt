@@ -5,7 +5,7 @@ pub mod shape; // shape.rt: whether header, lists and records fill the file, and
 pub mod open_file; // open_file.rt: the opening of a job by a file
 
 use job::Job;
-use line::Refusal;
+use refusal_order::Refusal;
 
 // A record of a file: an index and the two numbers of its value.
 pub struct FileRecord {

@@ -1,10 +1,10 @@
 // The shape of a file: its count, its version, the places of its lists and of its record count, and whether header, lists and records fill it exactly.
 use crate::big_endian;
-use line::Checked;
-use line::Refusal;
+use refusal_order::Checked;
+use refusal_order::Refusal;
 ghost use mathlib.Core.Path.{_≡_};
 ghost use Prim.Native.Nat.{_+_, _≤_, _<_};
-ghost use Rattle.line.specs.Tests.{first, checkedNumber};
+ghost use Rattle.refusal_order.specs.Tests.{first, checkedNumber};
 ghost use Rattle.factor_file.specs.File.{byteAt, afterList, shapeTests};
 ghost use Rattle.factor_file.specs.Reading.{PlacesOf};
 

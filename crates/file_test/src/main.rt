@@ -70,7 +70,7 @@ fn opened(file: &[u8], volume: &mut [u32], before: Job) -> Job {
             job
         }
         FileAnswer::Refused(refusal, place) => {
-            print_opening(line::number_of(refusal), place, no_job(), volume);
+            print_opening(refusal_order::number_of(refusal), place, no_job(), volume);
             before
         }
     }
@@ -241,7 +241,7 @@ fn written(job: Job, volume: &[u32], out: &mut [u8]) {
 fn refusal_of(answer: WriteAnswer) -> u32 {
     match answer {
         WriteAnswer::Written(count) => 0,
-        WriteAnswer::Refused(refusal) => line::number_of(refusal),
+        WriteAnswer::Refused(refusal) => refusal_order::number_of(refusal),
     }
 }
 

@@ -4,7 +4,7 @@ use mathlib.Core.List.{List, [], _∷_, _++_, append-assoc, append-nil}
 use Prim.Native.Nat.{ℕ, zero, suc, _+_, _/_, _%_, _^_, _<_, _≤_}
 use native.Mathlib.Omega.{arith}
 use lib.ListN.{length, length-append}
-use Rattle.line.specs.Lengths.{digits, octalDigits}
+use Rattle.lengths.specs.Lengths.{digits, octalDigits}
 use Rattle.job.specs.Header.{Header}
 use Rattle.refusals.proofs.Digits.{digit-cons}
 use Rattle.file_writer.specs.Writing.{bytes, listBytes, headerBytes}

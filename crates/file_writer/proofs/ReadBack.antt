@@ -26,10 +26,10 @@ use Rattle.numbers.proofs.Values.{field-ring, field-star}
 use Rattle.slices.specs.Pairs.{Below}
 use Rattle.slices.proofs.Bounds.{below-allBelow}
 use Rattle.plain.specs.Factors.{product}
-use Rattle.line.specs.Tests.{first}
-use Rattle.line.specs.Lengths.{factorsOk}
-use Rattle.line.proofs.Tests.{Passed, passed, pass, none, not-t}
-use Rattle.line.proofs.Factors.{factors-cons}
+use Rattle.refusal_order.specs.Tests.{first}
+use Rattle.lengths.specs.Lengths.{factorsOk}
+use Rattle.refusal_order.proofs.Tests.{Passed, passed, pass, none, not-t}
+use Rattle.lengths.proofs.Factors.{factors-cons}
 use Rattle.cell.specs.Volume.{volumeLength, factorsIn, packFactors}
 use Rattle.cell.specs.Operations.{Sizes}
 use Rattle.cell.specs.Consistency.{sameValue}

@@ -12,8 +12,8 @@ use Rattle.numbers.specs.declared.Pair.{Pair}
 use Rattle.numbers.specs.Prime.{prime}
 use Rattle.numbers.specs.Value.{Value, value}
 use Rattle.slices.specs.Pairs.{Below, allBelow}
-use Rattle.line.specs.Tests.{Test, _⇒_, first, accepted}
-use Rattle.line.specs.Lengths.{octalDigits}
+use Rattle.refusal_order.specs.Tests.{Test, _⇒_, first, accepted}
+use Rattle.lengths.specs.Lengths.{octalDigits}
 use Rattle.cell.specs.Volume.{groupOf, volumeLength, factorsIn}
 use Rattle.cell.specs.Operations.{halvesOf}
 use Rattle.cell.specs.Consistency.{consistentFactors}

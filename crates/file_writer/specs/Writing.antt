@@ -10,8 +10,8 @@ use Rattle.algebra.specs.CellTests as Tests
 use Rattle.algebra.specs.CellTests.{lexLe, placesOf}
 use Rattle.numbers.specs.Value.{Value, field, conj}
 use Rattle.slices.specs.Pairs.{allBelow}
-use Rattle.line.specs.Tests.{Test, _⇒_, first, accepted}
-use Rattle.line.specs.Refusals.{numberOf}
+use Rattle.refusal_order.specs.Tests.{Test, _⇒_, first, accepted}
+use Rattle.refusal_order.specs.Refusals.{numberOf}
 use Rattle.cell.specs.Volume.{factorsIn}
 use Rattle.cell.specs.Consistency.{sameValue, consistentFactors}
 use Rattle.job.specs.declared.Job.{Job}

@@ -3,7 +3,7 @@ use crate::bytes;
 ghost use mathlib.Core.Path.{_≡_};
 ghost use Prim.Native.Nat.{ℕ, _<_, _≤_};
 ghost use lib.ListN.{length};
-ghost use Rattle.line.specs.Lengths.{octalDigits};
+ghost use Rattle.lengths.specs.Lengths.{octalDigits};
 ghost use Rattle.file_writer.specs.Writing.{listBytes, headerBytes};
 ghost use Rattle.file_writer.specs.Steps.{Room, Put, headerWith};
 

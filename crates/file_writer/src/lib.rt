@@ -10,14 +10,14 @@ pub mod header; // header.rt: version, group, lengths and factor lists
 use consistency::factor_test;
 use job::Job;
 use job::valid;
-use line::Checked;
-use line::Refusal;
+use refusal_order::Checked;
+use refusal_order::Refusal;
 use refusals::tests;
 ghost use mathlib.Core.Path.{_≡_};
 ghost use mathlib.Core.Bool.{true};
 ghost use Prim.Native.Nat.{_≤_};
 ghost use lib.ListN.{length};
-ghost use Rattle.line.specs.Tests.{first, checkedNumber};
+ghost use Rattle.refusal_order.specs.Tests.{first, checkedNumber};
 ghost use Rattle.cell.specs.Operations.{Sizes};
 ghost use Rattle.file_writer.specs.Writing.{writeStep, writeOutcome};
 ghost use Rattle.file_writer.specs.Demands.{ReadsBack};

@@ -5,11 +5,11 @@ use Prim.Native.Nat.{ℕ, _≤_, _<_}
 use lib.Dec.{ltb, eqb}
 use borrow.Author.Tests.{lt-ltb, le-ltb, ltb-true, eq-eqb, eqb-true}
 use Rattle.plain.specs.Factors.{octal}
-use Rattle.line.specs.Tests.{first}
-use Rattle.line.specs.Lengths.{factorsOk, octalDigits}
-use Rattle.kinds.specs.Admitted.{FactorList}
-use Rattle.line.proofs.Tests.{by-true, by-false}
-use Rattle.line.proofs.Factors.{octal-digits}
+use Rattle.refusal_order.specs.Tests.{first}
+use Rattle.lengths.specs.Lengths.{factorsOk, octalDigits}
+use Rattle.lengths.specs.Admitted.{FactorList}
+use Rattle.refusal_order.proofs.Tests.{by-true, by-false}
+use Rattle.lengths.proofs.Factors.{octal-digits}
 use Rattle.cell.specs.Operations.{Sizes}
 use Rattle.passes.specs.Passes.{JobSizes}
 use Rattle.job.specs.Header.{Header, axisTests, jobOf, headerOf, validJob}

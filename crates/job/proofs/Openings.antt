@@ -6,10 +6,10 @@ use native.Mathlib.Omega.{arith}
 use lib.ListN.{length, replicate, drop}
 use borrow.Author.Tests.{eq-eqb, ne-eqb}
 use Rattle.slices.proofs.Segments.{cleared-all}
-use Rattle.line.specs.declared.Refusal.{Refusal}
-use Rattle.line.specs.Refusals.{numberOf}
-use Rattle.line.specs.Tests.{first, accepted}
-use Rattle.line.proofs.Tests.{fails}
+use Rattle.refusal_order.specs.declared.Refusal.{Refusal}
+use Rattle.refusal_order.specs.Refusals.{numberOf}
+use Rattle.refusal_order.specs.Tests.{first, accepted}
+use Rattle.refusal_order.proofs.Tests.{fails}
 use Rattle.job.specs.declared.Job.{Job}
 use Rattle.job.specs.declared.OpenAnswer.the-variants.{Opened, Refused}
 use Rattle.job.specs.Header.{Header, jobOf, collecting, mapHeld}

@@ -4,10 +4,10 @@ use mathlib.Core.List.{List}
 use Prim.Native.Nat.{ℕ}
 use Rattle.numbers.specs.declared.Pair.{Pair}
 use Rattle.numbers.specs.Value.{valueOf, pairOf}
-use Rattle.line.specs.declared.Refusal.{Refusal}
-use Rattle.line.specs.Refusals.{numberOf}
-use Rattle.line.specs.Tests.{first}
-use Rattle.line.proofs.Tests.{fails, passes}
+use Rattle.refusal_order.specs.declared.Refusal.{Refusal}
+use Rattle.refusal_order.specs.Refusals.{numberOf}
+use Rattle.refusal_order.specs.Tests.{first}
+use Rattle.refusal_order.proofs.Tests.{fails, passes}
 use Rattle.cell.specs.Volume.{factorsIn}
 use Rattle.cell.specs.Consistency.{recordOn}
 use Rattle.refusals.proofs.Reflections.{pair-of-numbers}

@@ -21,9 +21,9 @@ use Rattle.numbers.proofs.Residues.{val-res}
 use Rattle.numbers.proofs.Values.{field-ring}
 use Rattle.numbers.proofs.Parts.{half-law}
 use Rattle.line.specs.Specimens as Lines
-use Rattle.line.specs.Tests.{first}
+use Rattle.refusal_order.specs.Tests.{first}
 use Rattle.line.proofs.Specimens.{specimens-shown as lines-shown}
-use Rattle.line.proofs.Tests.{stop, pass, not-t, not-f, both}
+use Rattle.refusal_order.proofs.Tests.{stop, pass, not-t, not-f, both}
 use Rattle.cell.specs.Operations.{Sizes}
 use Rattle.cell.specs.Volume.{groupOf}
 use Rattle.cell.specs.Consistency.{agreesWithItself}

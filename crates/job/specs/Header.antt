@@ -5,8 +5,8 @@ use Prim.Native.Nat.{ℕ, _/_}
 use lib.Dec.{ltb, eqb}
 use Rattle.algebra.specs.Cell.{J, Group}
 use Rattle.plain.specs.Factors.{octal}
-use Rattle.line.specs.Tests.{first}
-use Rattle.line.specs.Lengths.{octalDigits}
+use Rattle.refusal_order.specs.Tests.{first}
+use Rattle.lengths.specs.Lengths.{octalDigits}
 use Rattle.cell.specs.Volume.{groupOf}
 use Rattle.job.specs.declared.Job.{Job}
 

@@ -8,8 +8,8 @@ use lib.ListN.{length, getD, replicate}
 use lib.Dec.{eqb}
 use Rattle.algebra.specs.Cell.{J, at}
 use Rattle.numbers.specs.Value.{value}
-use Rattle.line.specs.Tests.{Test, first, accepted}
-use Rattle.line.specs.Lengths.{cleared}
+use Rattle.refusal_order.specs.Tests.{Test, first, accepted}
+use Rattle.lengths.specs.Lengths.{cleared}
 use Rattle.cell.specs.Volume.{volumeLength, factorsIn, packFactors, densityPlace, mapIn, packMap}
 use Rattle.cell.specs.Consistency.{recordOn}
 use Rattle.cell.specs.Sums.{mapOf, factorsOf}

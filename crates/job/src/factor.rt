@@ -5,7 +5,7 @@ use crate::Reflection;
 use crate::valid;
 use cell::operations::Index;
 use cell::readings;
-use line::Checked;
+use refusal_order::Checked;
 ghost use mathlib.Core.Path.{_≡_};
 ghost use Rattle.job.specs.Steps.{factorStep};
 ghost use Rattle.job.specs.Said.{saidFactor};

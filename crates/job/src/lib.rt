@@ -12,7 +12,7 @@ pub mod synthesis; // synthesis.rt: from factors to the map
 pub mod analysis; // analysis.rt: from the map to its factors
 mod tables; // tables.rt: the tables of the conjugate root, for an analysis
 
-use line::Refusal;
+use refusal_order::Refusal;
 ghost use Rattle.job.specs.Specimens.{Specimens};
 
 // The index of a structure factor, in reciprocal space: h, k, l.

@@ -2,14 +2,13 @@
 use crate::Axis;
 use crate::Job;
 use crate::OpenAnswer;
-use line::Checked;
-use line::check;
+use refusal_order::Checked;
 ghost use mathlib.Core.Path.{_≡_};
 ghost use mathlib.Core.Bool.{true};
 ghost use Prim.Native.Nat.{_≤_};
 ghost use Rattle.plain.specs.Factors.{product, octal};
-ghost use Rattle.line.specs.Tests.{first};
-ghost use Rattle.line.specs.Lengths.{factorsOk};
+ghost use Rattle.refusal_order.specs.Tests.{first};
+ghost use Rattle.lengths.specs.Lengths.{factorsOk};
 ghost use Rattle.job.specs.Header.{axisTests, jobOf};
 ghost use Rattle.job.specs.Steps.{openStep};
 ghost use Rattle.job.specs.Said.{openOutcome};
@@ -21,7 +20,7 @@ fn axis(length: u32, factors: &[u8]) -> Axis
 {
     Axis {
         length,
-        factors: check::packed(factors),
+        factors: lengths::packed(factors),
     }
 }
 

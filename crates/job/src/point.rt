@@ -5,7 +5,7 @@ use crate::PointAnswer;
 use crate::valid;
 use cell::operations::Index;
 use cell::places;
-use line::Checked;
+use refusal_order::Checked;
 ghost use mathlib.Core.Path.{_≡_};
 ghost use Rattle.job.specs.Steps.{pointStep};
 ghost use Rattle.job.specs.Said.{saidPoint};

@@ -53,28 +53,28 @@ fn of_answered(r: Answered) -> Said {
     let job = r.job;
     match answer {
         Answer::Done => tell(0, 0, 0, job),
-        Answer::Refused(refusal) => tell(line::number_of(refusal), 0, 0, job),
+        Answer::Refused(refusal) => tell(refusal_order::number_of(refusal), 0, 0, job),
     }
 }
 
 fn of_open(r: OpenAnswer, before: Job) -> Said {
     match r {
         OpenAnswer::Opened(job) => tell(0, 0, 0, job),
-        OpenAnswer::Refused(refusal) => tell(line::number_of(refusal), 0, 0, before),
+        OpenAnswer::Refused(refusal) => tell(refusal_order::number_of(refusal), 0, 0, before),
     }
 }
 
 fn of_point(r: PointAnswer, before: Job) -> Said {
     match r {
         PointAnswer::Density(x) => tell(0, x, 0, before),
-        PointAnswer::Refused(refusal) => tell(line::number_of(refusal), 0, 0, before),
+        PointAnswer::Refused(refusal) => tell(refusal_order::number_of(refusal), 0, 0, before),
     }
 }
 
 fn of_factor(r: FactorAnswer, before: Job) -> Said {
     match r {
         FactorAnswer::Factor(x, y) => tell(0, x, y, before),
-        FactorAnswer::Refused(refusal) => tell(line::number_of(refusal), 0, 0, before),
+        FactorAnswer::Refused(refusal) => tell(refusal_order::number_of(refusal), 0, 0, before),
     }
 }
 

@@ -18,10 +18,11 @@ use Rattle.plain.specs.Factors.{Factored}
 use Rattle.folds.specs.Frame.{Frame, lineRoot, tangent}
 use Rattle.hermitian.specs.Hermitian.{kindOf as hermitianKind}
 use Rattle.mirror.specs.Mirror.{mirrored}
-use Rattle.kinds.specs.Transform.{kindOf, pairCount, transformed}
+use Rattle.lengths.specs.Counts.{kindOf, pairCount}
+use Rattle.kinds.specs.Transform.{transformed}
 use Rattle.kinds.specs.Tables.{ForwardTables, BackwardTables}
-use Rattle.kinds.specs.Admitted.{AdmittedLength, FactorList}
-use Rattle.kinds.proofs.Counts.{count-half}
+use Rattle.lengths.specs.Admitted.{AdmittedLength, FactorList}
+use Rattle.lengths.proofs.Counts.{count-half}
 use Rattle.kinds.proofs.Transforms.{half-length, forward-line, plain-line, back-line, plain-back-line}
 
 -- the part of a slice that is lent on

@@ -1,4 +1,3 @@
-pub mod Counts
 pub mod Axes
 pub mod Transforms
 pub mod Reading

@@ -17,7 +17,8 @@ use Rattle.numbers.proofs.Values.{field-ring, field-star}
 use Rattle.slices.specs.Values.{valuesOf, listOf}
 use Rattle.slices.proofs.Values.{list-cong}
 use Rattle.folds.specs.Frame.{lineRoot, tangent}
-use Rattle.kinds.specs.Transform.{kindOf, rootOf, axisOf, transform, transformed}
+use Rattle.lengths.specs.Counts.{kindOf}
+use Rattle.kinds.specs.Transform.{rootOf, axisOf, transform, transformed}
 use Rattle.kinds.specs.Tables.{ForwardTables, BackwardTables}
 use Rattle.kinds.proofs.Axes.{axis-forward, axis-backward, line-root, conj-line-root}
 

@@ -1,3 +1,2 @@
 pub mod Transform
-pub mod Admitted
 pub mod Tables

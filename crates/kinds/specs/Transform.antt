@@ -1,22 +1,14 @@
 -- What a transform of a line computes: the six kinds, both directions, by direct sums over the whole line of N values.
 -- `before` and `after` of algebra's Kinds are the whole line of what is packed before and after the transform, `forward` and `back` the sums, packed again.
-use mathlib.Core.List.{List, [], _∷_}
+use mathlib.Core.List.{List}
 use Prim.Native.Nat.{ℕ, zero, suc, _*_, _/_}
-use lib.ListN.{getD}
 use Rattle.algebra.specs.Ring.{pow}
 use Rattle.algebra.specs.Axis.{Axis}
-use Rattle.algebra.specs.Kinds.{Kind, plain, hermitian, antihermitian, alternating, symmetric, antisymmetric, slots, forward, back}
+use Rattle.algebra.specs.Kinds.{Kind, forward, back}
 use Rattle.numbers.specs.Value.{Value, field, conj, i, half, part, real, valueOf, pairOf}
 use Rattle.numbers.specs.Root.{root}
 use Rattle.slices.specs.Pairs.{at, tab}
-
--- the kinds by the paper's numbers
-abbrev pub kindOf : ℕ → Kind
-kindOf n = getD (plain ∷ hermitian ∷ antihermitian ∷ alternating ∷ symmetric ∷ antisymmetric ∷ []) n plain
-
--- how many pairs a packed line of a kind and a length has
-abbrev pub pairCount : (kind N : ℕ) → ℕ
-pairCount kind N = slots (kindOf kind) (N / 2)
+use Rattle.lengths.specs.Counts.{kindOf, pairCount}
 
 -- e(1/N), so that e(k/N) is its k-th power
 unfoldable pub rootOf : (m N : ℕ) → Value m

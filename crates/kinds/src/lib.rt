@@ -7,9 +7,10 @@ ghost use Prim.Native.Nat.{_*_, _<_, _≤_};
 ghost use lib.ListN.{length};
 ghost use Rattle.numbers.specs.Prime.{prime, IsModulus};
 ghost use Rattle.slices.specs.Pairs.{Below};
-ghost use Rattle.kinds.specs.Transform.{pairCount, transformed};
+ghost use Rattle.lengths.specs.Counts.{pairCount};
+ghost use Rattle.kinds.specs.Transform.{transformed};
 ghost use Rattle.kinds.specs.Tables.{ForwardTables, BackwardTables};
-ghost use Rattle.kinds.specs.Admitted.{AdmittedLength, FactorList};
+ghost use Rattle.lengths.specs.Admitted.{AdmittedLength, FactorList};
 
 // Direction 0. The slices `fold` and `work` are lent for the work, and left with anything.
 pub fn forward<'a>(
@@ -104,20 +105,6 @@ pub fn inverse<'a>(
             &mut fold[..size],
             &mut work[..size],
         );
-    }
-}
-
-// How many pairs a packed line has.
-pub fn pair_count(kind: u32, length: u32) -> usize
-    requires { ⌜ (kind < 6) × (2 ≤ length) × (length ≤ 2880) ⌝ }
-    ensures { λ r. ⌜ (r ≡ pairCount kind length) × (r ≤ 2880) ⌝ }
-{
-    let half = (length / 2) as usize;
-    match kind {
-        0 => 2 * half,
-        1 | 2 | 3 => half,
-        4 => half + 1,
-        _ => half - 1,
     }
 }
 

@@ -18,13 +18,14 @@ use Rattle.numbers.proofs.Values.{field-ring, field-star}
 use Rattle.slices.specs.Pairs.{Below}
 use Rattle.slices.specs.Values.{valuesOf, listOf}
 use Rattle.slices.proofs.Values.{list-cong, list-values, values-list}
-use Rattle.kinds.specs.Transform.{kindOf, pairCount, rootOf, axisOf, transform, transformed}
-use Rattle.kinds.specs.Admitted.{AdmittedLength}
+use Rattle.lengths.specs.Counts.{kindOf, pairCount}
+use Rattle.kinds.specs.Transform.{rootOf, axisOf, transform, transformed}
+use Rattle.lengths.specs.Admitted.{AdmittedLength}
 use Rattle.kinds.proofs.Axes.{own, axis-own}
 use Rattle.kinds.proofs.Reading.{forward-cong, back-cong}
-use Rattle.line.specs.Lengths.{admitted}
+use Rattle.lengths.specs.Lengths.{admitted}
 use Rattle.line.specs.Demands.{wholeBefore, wholeAfter, ForwardIsSum, BackIsSum, Restored, RestoredAfter}
-use Rattle.line.proofs.Accepted.{admitted-length}
+use Rattle.lengths.proofs.AdmittedLengths.{admitted-length}
 
 -- The theory at an admitted length, with A = N/2.
 module _ (m : ℕ) (is : IsModulus m) (N : ℕ) (size : AdmittedLength N) where

@@ -1,6 +1,3 @@
-pub mod Tests
-pub mod Factors
-pub mod Divisors
 pub mod Accepted
 pub mod Whole
 pub mod Outcome

@@ -5,13 +5,14 @@ use Prim.Native.Nat.{ℕ}
 use lib.ListN.{length}
 use Rattle.numbers.specs.Prime.{prime}
 use Rattle.kinds.specs.Transform.{transformed}
-use Rattle.line.specs.declared.Refusal.{Refusal}
+use Rattle.refusal_order.specs.declared.Refusal.{Refusal}
 use Rattle.line.specs.declared.LineAnswer.the-variants.{Transformed, Refused}
-use Rattle.line.specs.Refusals.{numberOf}
-use Rattle.line.specs.Tests.{first}
-use Rattle.line.specs.Lengths.{cleared}
-use Rattle.line.specs.Line.{lineTests, lineStep, lineOutcome}
-use Rattle.line.proofs.Tests.{fails}
+use Rattle.refusal_order.specs.Refusals.{numberOf}
+use Rattle.refusal_order.specs.Tests.{first}
+use Rattle.lengths.specs.Lengths.{cleared}
+use Rattle.line_refusals.specs.LineTests.{lineTests}
+use Rattle.line.specs.Line.{lineStep, lineOutcome}
+use Rattle.refusal_order.proofs.Tests.{fails}
 
 pub refused-outcome : (m kind direction N : ℕ) (factors line scratch : List ℕ) (r : Refusal) → numberOf r ≡ first (lineTests (prime m) kind direction N factors line (length scratch)) →
     lineOutcome (Refused r) line scratch ≡ lineStep m kind direction N factors line scratch

@@ -18,11 +18,12 @@ use Rattle.numbers.specs.Root.{root}
 use Rattle.slices.specs.Pairs.{at, put, puts, allBelow}
 use Rattle.plain.specs.Factors.{product}
 use Rattle.kinds.specs.Transform.{rootOf, transform, transformed}
-use Rattle.line.specs.Tests.{first}
-use Rattle.line.specs.Lengths.{admitted, factorsOk, scratchLength}
-use Rattle.line.specs.Line.{lineTests, lineStep}
+use Rattle.refusal_order.specs.Tests.{first}
+use Rattle.lengths.specs.Lengths.{admitted, factorsOk, scratchLength}
+use Rattle.line_refusals.specs.LineTests.{lineTests}
+use Rattle.line.specs.Line.{lineStep}
 use Rattle.line.specs.Specimens.{Specimen, specimens, Shown, AllShown, Specimens}
-use Rattle.line.proofs.Tests.{both}
+use Rattle.refusal_order.proofs.Tests.{both}
 
 unfoldable sameList : List ℕ → List ℕ → Bool
 sameList [] [] = true

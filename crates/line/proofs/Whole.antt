@@ -6,10 +6,11 @@ use native.Mathlib.Omega.{arith}
 use lib.ListN.{length, take, drop}
 use lib.Seq.{drop-append-add, drop-drop}
 use Rattle.algebra.proofs.Laws.{along}
-use Rattle.kinds.specs.Transform.{pairCount, transformed}
-use Rattle.kinds.specs.Admitted.{AdmittedLength, FactorList}
+use Rattle.lengths.specs.Counts.{pairCount}
+use Rattle.kinds.specs.Transform.{transformed}
+use Rattle.lengths.specs.Admitted.{AdmittedLength, FactorList}
 use Rattle.kinds.proofs.Dispatch.{prefix-length}
-use Rattle.line.specs.Lengths.{scratchLength}
+use Rattle.lengths.specs.Lengths.{scratchLength}
 
 -- what follows the lent part in a scratch: the part is lent from the start, and comes back as long as it was
 pub rest-of : (p s : List ℕ) → scratchLength ≤ length s → length p ≡ length (take 5760 s) → drop scratchLength (p ++ drop 5760 s) ≡ drop scratchLength s

@@ -4,9 +4,9 @@ use mathlib.Core.List.{List}
 use Prim.Native.Nat.{ℕ, _*_, _≤_, _<_}
 use lib.ListN.{length}
 use Rattle.slices.specs.Pairs.{Below}
-use Rattle.kinds.specs.Transform.{pairCount}
-use Rattle.kinds.specs.Admitted.{AdmittedLength, FactorList}
-use Rattle.line.specs.Lengths.{scratchLength}
+use Rattle.lengths.specs.Counts.{pairCount}
+use Rattle.lengths.specs.Admitted.{AdmittedLength, FactorList}
+use Rattle.lengths.specs.Lengths.{scratchLength}
 
 -- The factors are the octal digits of the list.
 pub record Accepted (p kind direction N factors : ℕ) (line : List ℕ) (scratch : ℕ) : Type 0 where

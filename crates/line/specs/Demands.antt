@@ -11,8 +11,9 @@ use Rattle.algebra.specs.Kinds.{before, after}
 use Rattle.numbers.specs.Prime.{prime, IsModulus}
 use Rattle.numbers.specs.Value.{Value, field, conj, i, half, part, real}
 use Rattle.slices.specs.Pairs.{Below}
-use Rattle.kinds.specs.Transform.{kindOf, pairCount, rootOf, transform, transformed}
-use Rattle.line.specs.Lengths.{admitted}
+use Rattle.lengths.specs.Counts.{kindOf, pairCount}
+use Rattle.kinds.specs.Transform.{rootOf, transform, transformed}
+use Rattle.lengths.specs.Lengths.{admitted}
 use Rattle.line.specs.Line.{LineOutcome, lineStep}
 
 -- The whole line of a packed line X before the transform, and of one after it, by the kind's number.

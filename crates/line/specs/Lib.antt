@@ -1,6 +1,3 @@
-pub mod Refusals
-pub mod Tests
-pub mod Lengths
 pub mod Line
 pub mod Accepted
 pub mod Specimens

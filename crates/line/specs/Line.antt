@@ -1,26 +1,15 @@
 -- One line: what the call answers and leaves for every input. `transformed` is its line after the transform, by direct sums (crates/kinds/specs/Transform.antt).
-use mathlib.Core.Bool.{not}
-use mathlib.Core.List.{List, [], _∷_}
-use Prim.Native.Nat.{ℕ, _*_, _/_}
+use mathlib.Core.List.{List}
+use Prim.Native.Nat.{ℕ}
 use lib.ListN.{length}
-use lib.Dec.{ltb, leb, eqb}
 use Rattle.numbers.specs.Prime.{prime}
-use Rattle.slices.specs.Pairs.{allBelow}
-use Rattle.plain.specs.Factors.{product}
-use Rattle.kinds.specs.Transform.{pairCount, transformed}
+use Rattle.kinds.specs.Transform.{transformed}
+use Rattle.refusal_order.specs.Refusals.{numberOf}
+use Rattle.refusal_order.specs.Tests.{first, accepted}
+use Rattle.lengths.specs.Lengths.{cleared}
+use Rattle.line_refusals.specs.LineTests.{lineTests}
 use Rattle.line.specs.declared.LineAnswer.{LineAnswer}
 use Rattle.line.specs.declared.LineAnswer.the-variants.{Transformed, Refused}
-use Rattle.line.specs.Refusals.{numberOf}
-use Rattle.line.specs.Tests.{Test, _⇒_, first, accepted}
-use Rattle.line.specs.Lengths.{admitted, factorsOk, scratchLength, cleared}
-
--- Line: 1, 2, 3, 4, 5, 6, 13, 7: the numbers, the factor list, the line and the scratch, which counts by its length alone.
-abbrev pub lineTests : (p kind direction N : ℕ) (factors line : List ℕ) (scratch : ℕ) → List Test
-lineTests p kind direction N factors line scratch =
-    leb 6 kind ⇒ 1 ∷ leb 2 direction ⇒ 2 ∷ not (admitted N) ⇒ 3 ∷
-    not (factorsOk factors) ⇒ 4 ∷ not (eqb (product factors) (N / 2)) ⇒ 5 ∷
-    not (eqb (length line) (2 * pairCount kind N)) ⇒ 6 ∷ ltb scratch scratchLength ⇒ 13 ∷ not (allBelow p line) ⇒ 7 ∷
-    []
 
 -- What a call answers, 0 or the refusal's number, and what it leaves in the line and in the scratch.
 pub record LineOutcome : Type 0 where

@@ -3,7 +3,7 @@ use mathlib.Core.Path.{_≡_}
 use mathlib.Core.List.{List, [], _∷_}
 use Prim.Native.Nat.{ℕ, _≤_}
 use lib.ListN.{length}
-use Rattle.line.specs.Lengths.{scratchLength, cleared}
+use Rattle.lengths.specs.Lengths.{scratchLength, cleared}
 use Rattle.line.specs.Line.{lineStep}
 
 pub record Specimen : Type 0 where

@@ -1,49 +1,15 @@
 // One line of structure factors: the six kinds, both directions.
-pub mod check; // check.rt: the refusals
-
+use refusal_order::Checked;
+use refusal_order::Refusal;
 ghost use mathlib.Core.Path.{_≡_};
 ghost use lib.ListN.{length as lengthOf, drop};
 ghost use Rattle.numbers.specs.Prime.{prime, IsModulus};
 ghost use Rattle.kinds.specs.Transform.{transformed};
-ghost use Rattle.line.specs.Refusals.{numberOf};
-ghost use Rattle.line.specs.Lengths.{scratchLength};
+ghost use Rattle.lengths.specs.Lengths.{scratchLength};
 ghost use Rattle.line.specs.Accepted.{Accepted};
 ghost use Rattle.line.specs.Line.{lineStep, lineOutcome};
 ghost use Rattle.line.specs.Specimens.{Specimens};
 ghost use Rattle.line.specs.Demands.{ForwardIsSum, BackIsSum, Restored, RestoredAfter, TakenBack};
-
-// Why a call is turned back: one case for each number of the paper.
-pub enum Refusal {
-    LineKind,
-    Direction,
-    Length,
-    Factor,
-    Product,
-    BufferLength,
-    NotResidue,
-    Group,
-    VolumeTooLarge,
-    Index,
-    ZeroValue,
-    Contradiction,
-    ScratchTooShort,
-    Inconsistent,
-    FileShape,
-    FileVersion,
-    NoRecords,
-    OutputTooShort,
-    NotCollecting,
-    NoMap,
-    NoFactors,
-    Occupied,
-    ImpossibleJob,
-}
-
-// What a check says.
-pub enum Checked {
-    Sound,
-    Failed(Refusal),
-}
 
 // The answer of a line.
 pub enum LineAnswer {
@@ -63,7 +29,7 @@ pub fn line(
     ensures { λ r. ⌜ lineOutcome r (now (line .exit)) (now (scratch .exit)) ≡ lineStep 1 kind direction length (now (factors .entry)) (now (line .entry)) (now (scratch .entry)) ⌝ }
 {
     let p = numbers::modulus(1);
-    let checked = check::check_line(
+    let checked = line_refusals::check_line(
         p,
         kind,
         direction,
@@ -80,7 +46,7 @@ pub fn line(
                 kind,
                 direction,
                 length,
-                check::packed(factors),
+                lengths::packed(factors),
                 line,
                 scratch,
             );
@@ -118,37 +84,6 @@ fn transform_line(
         numbers::tables::negate(m, &mut im);
         numbers::tables::negate(m, &mut tan);
         kinds::inverse(m, kind, &re, &im, &tan, factors, a, line, fold, &mut work);
-    }
-}
-
-// The paper's number of a refusal.
-pub fn number_of(r: Refusal) -> u32
-    ensures { λ n. ⌜ n ≡ numberOf r ⌝ }
-{
-    match r {
-        Refusal::LineKind => 1,
-        Refusal::Direction => 2,
-        Refusal::Length => 3,
-        Refusal::Factor => 4,
-        Refusal::Product => 5,
-        Refusal::BufferLength => 6,
-        Refusal::NotResidue => 7,
-        Refusal::Group => 8,
-        Refusal::VolumeTooLarge => 9,
-        Refusal::Index => 10,
-        Refusal::ZeroValue => 11,
-        Refusal::Contradiction => 12,
-        Refusal::ScratchTooShort => 13,
-        Refusal::Inconsistent => 14,
-        Refusal::FileShape => 15,
-        Refusal::FileVersion => 16,
-        Refusal::NoRecords => 17,
-        Refusal::OutputTooShort => 18,
-        Refusal::NotCollecting => 21,
-        Refusal::NoMap => 22,
-        Refusal::NoFactors => 23,
-        Refusal::Occupied => 24,
-        Refusal::ImpossibleJob => 25,
     }
 }
 

@@ -10,7 +10,7 @@ use line::LineAnswer;
 fn number(answer: LineAnswer) -> u32 {
     match answer {
         LineAnswer::Transformed => 0,
-        LineAnswer::Refused(r) => line::number_of(r),
+        LineAnswer::Refused(r) => refusal_order::number_of(r),
     }
 }
 

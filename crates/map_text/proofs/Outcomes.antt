@@ -7,11 +7,11 @@ use native.Mathlib.Omega.{arith}
 use lib.Dec.{ltb}
 use lib.ListN.{length}
 use borrow.Author.Tests.{not-false, eqb-true, ltb-false, eq-eqb, lt-ltb, le-ltb}
-use Rattle.line.specs.declared.Refusal.{Refusal}
-use Rattle.line.specs.declared.Refusal.the-variants.{OutputTooShort}
-use Rattle.line.specs.Refusals.{numberOf}
-use Rattle.line.specs.Tests.{first, accepted}
-use Rattle.line.proofs.Tests.{passed, passes, fails}
+use Rattle.refusal_order.specs.declared.Refusal.{Refusal}
+use Rattle.refusal_order.specs.declared.Refusal.the-variants.{OutputTooShort}
+use Rattle.refusal_order.specs.Refusals.{numberOf}
+use Rattle.refusal_order.specs.Tests.{first, accepted}
+use Rattle.refusal_order.proofs.Tests.{passed, passes, fails}
 use Rattle.cell.specs.Volume.{volumeLength}
 use Rattle.job.specs.declared.Job.{Job}
 use Rattle.job.specs.Header.{groupIn, halves, mapHeld}

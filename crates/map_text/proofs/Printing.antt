@@ -9,8 +9,8 @@ use lib.Dec.{ltb, eqb}
 use lib.ListN.{length, getD, length-append}
 use borrow.Author.Tests.{eqb-true, ltb-false}
 use Rattle.algebra.specs.Cell.{P1, planes}
-use Rattle.line.specs.Tests.{first}
-use Rattle.line.proofs.Tests.{passed}
+use Rattle.refusal_order.specs.Tests.{first}
+use Rattle.refusal_order.proofs.Tests.{passed}
 use Rattle.cell.specs.Operations.{halvesOf, Length, Sizes}
 use Rattle.cell.specs.Volume.{layers, rows, columns, pairPlace, mapPlace, volumeLength}
 use Rattle.cell.proofs.VolumeLayout.{place-inside}

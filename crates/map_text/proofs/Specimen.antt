@@ -4,8 +4,8 @@ use Rattle.cell.specs.Volume.{volumeOf, lineIn, factorsIn, packed, packFactors,
 use Rattle.cell.specs.Consistency.{all, writeAlternating, write, writeImages, recordIn, agreesWithItself, zeroPair, consistentFactors, orbitNumbers, orbitFree, consistentMap}
 use Rattle.job.specs.Header.{validJob}
 use Rattle.job.specs.Steps.{openStep, recordStep, synthesisStep, analysisStep, pointStep, factorStep}
-use Rattle.line.specs.Lengths.{admitted, factorsOk, digits, cleared}
-use Rattle.line.specs.Tests.{first}
+use Rattle.lengths.specs.Lengths.{admitted, factorsOk, digits, cleared}
+use Rattle.refusal_order.specs.Tests.{first}
 use Rattle.algebra.specs.Cell.{negI, halfI, flip, turn, im, pim, span, lineRep, rep, planes, prep, mapOf, factorsOf, sgn, star, pimp, imp, factorActs, mapActs}
 use Rattle.algebra.specs.CellTests.{below, every, everyPlace, agreesT, consistentFactorsT, consistentMapT, zeroT, lineFrom, planeFrom, cellFrom, recordsOf}
 use Rattle.algebra.specs.CellPack.{even, packAlt, unpackAlt, timesI, overI, packFactors as packFactors-algebra, unpack, upd, putAlt, putFactor}

@@ -7,11 +7,11 @@ use native.Mathlib.Omega.{arith}
 use lib.Dec.{ltb, eqb}
 use lib.ListN.{length}
 use borrow.Author.Tests.{not-false}
-use Rattle.line.specs.declared.Refusal.{Refusal}
-use Rattle.line.specs.Refusals.{numberOf}
-use Rattle.line.specs.Tests.{first, accepted}
-use Rattle.line.specs.Lengths.{cleared}
-use Rattle.line.proofs.Tests.{passed}
+use Rattle.refusal_order.specs.declared.Refusal.{Refusal}
+use Rattle.refusal_order.specs.Refusals.{numberOf}
+use Rattle.refusal_order.specs.Tests.{first, accepted}
+use Rattle.lengths.specs.Lengths.{cleared}
+use Rattle.refusal_order.proofs.Tests.{passed}
 use Rattle.cell.proofs.VolumeLayout.{length-map}
 use Rattle.job.specs.declared.Job.{Job}
 use Rattle.job.specs.declared.Answer.{Answer}

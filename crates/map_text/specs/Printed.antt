@@ -5,7 +5,7 @@ use mathlib.Core.List.{List, []}
 use Prim.Native.Nat.{ℕ, min}
 use lib.ListN.{length, replicate}
 use lib.Dec.{ltb}
-use Rattle.line.specs.Lengths.{scratchLength}
+use Rattle.lengths.specs.Lengths.{scratchLength}
 use Rattle.job.specs.declared.Job.{Job}
 use Rattle.job.specs.Header.{needed}
 use Rattle.job.specs.Steps.{Opening, opened, notOpened, OpenOutcome, Said, done, density, factor, refused, Outcome, Worked, synthesisStep}

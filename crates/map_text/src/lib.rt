@@ -4,7 +4,7 @@ pub mod text; // text.rt: the text of a map that a job holds
 pub mod lent; // lent.rt: how many numbers the printer lends to a file
 pub mod printer; // printer.rt: from a factor file to the text of its map
 
-use line::Refusal;
+use refusal_order::Refusal;
 ghost use Rattle.map_text.specs.Specimen.{PrintedSpecimen};
 
 // How many bytes of text were written, or why none were.

@@ -7,11 +7,11 @@ use factor_file::FileAnswer;
 use factor_file::open_file;
 use job::Answer;
 use job::Job;
-use line::Refusal;
+use refusal_order::Refusal;
 ghost use mathlib.Core.Path.{_≡_};
 ghost use lib.ListN.{length, replicate};
-ghost use Rattle.line.specs.Refusals.{numberOf};
-ghost use Rattle.line.specs.Lengths.{scratchLength};
+ghost use Rattle.refusal_order.specs.Refusals.{numberOf};
+ghost use Rattle.lengths.specs.Lengths.{scratchLength};
 ghost use Rattle.job.specs.Steps.{synthesisStep};
 ghost use Rattle.factor_file.specs.File.{fileStep};
 ghost use Rattle.map_text.specs.Text.{refusalText, putText, textOutcome};
@@ -40,7 +40,7 @@ fn refusal_length(number: u32, place: u32) -> usize
 fn refusal_text(refusal: Refusal, place: u32, out: &mut [u8]) -> TextAnswer
     ensures { λ r. ⌜ textOutcome r (now (out .exit)) ≡ putText (refusalText (numberOf refusal) place) (now (out .entry)) ⌝ }
 {
-    let number = line::number_of(refusal);
+    let number = refusal_order::number_of(refusal);
     if out.len() < refusal_length(number, place) {
         return TextAnswer::Refused(Refusal::OutputTooShort);
     }

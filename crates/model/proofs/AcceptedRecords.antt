@@ -13,8 +13,8 @@ use Rattle.algebra.specs.Cell.{J, Inside, Sym, full, factorActs}
 use Rattle.algebra.specs.Orbit.{Mem, first as first-of, later, Acts, recordAll, Fit, Accepted}
 use Rattle.algebra.proofs.Members.{none, mem-cons}
 use Rattle.numbers.specs.Value.{Value, field, conj, value, valueOf}
-use Rattle.line.specs.Tests.{first, accepted}
-use Rattle.line.proofs.Tests.{both, passed, not-t, pass, none as no-test}
+use Rattle.refusal_order.specs.Tests.{first, accepted}
+use Rattle.refusal_order.proofs.Tests.{both, passed, not-t, pass, none as no-test}
 use Rattle.cell.specs.Consistency.{sameValue, recordIn}
 use Rattle.cell.proofs.Tests.{true-iff}
 use Rattle.cell.proofs.Reading.{same-iff}

@@ -12,8 +12,8 @@ use Rattle.algebra.specs.Cell.{Sym, ops, pim}
 use Rattle.algebra.specs.Orbit.{Mem}
 use Rattle.algebra.proofs.CellSym.{pim-inside}
 use Rattle.numbers.specs.Value.{value, conj}
-use Rattle.line.specs.Tests.{Test, _⇒_, first, accepted}
-use Rattle.line.proofs.Tests.{none, not-t, pass, passed}
+use Rattle.refusal_order.specs.Tests.{Test, _⇒_, first, accepted}
+use Rattle.refusal_order.proofs.Tests.{none, not-t, pass, passed}
 use Rattle.cell.specs.Volume.{groupOf}
 use Rattle.cell.specs.Consistency.{sameValue}
 use Rattle.cell.proofs.Tests.{true-iff}

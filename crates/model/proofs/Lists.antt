@@ -2,7 +2,7 @@
 use mathlib.Core.Path.{_≡_, refl, ap, _∙_}
 use mathlib.Core.List.{List, [], _∷_}
 use Prim.Native.Nat.{ℕ, zero, suc}
-use Rattle.line.specs.Tests.{first, accepted}
+use Rattle.refusal_order.specs.Tests.{first, accepted}
 use Rattle.job.specs.Steps.{Outcome}
 use Rattle.model.specs.Model.{Model, Call, recording, synthesis, analysis, readPoint, readFactor, modelTests, modelNext, modelSaid, modelAfter, modelVolume, modelJob}
 use Rattle.model.specs.Calls.{answering, run, modelAnswers, modelEnd, modelRan}

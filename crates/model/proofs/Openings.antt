@@ -25,9 +25,9 @@ use Rattle.numbers.proofs.Values.{field-ring, field-star}
 use Rattle.slices.specs.Pairs.{Below, allBelow}
 use Rattle.slices.proofs.Bounds.{below-replicate, below-allBelow}
 use Rattle.slices.proofs.Segments.{at-zeros}
-use Rattle.line.specs.Tests.{Test, first, accepted}
-use Rattle.line.proofs.Tests.{and-left, and-right, both, Passed, passed}
-use Rattle.line.proofs.Factors.{octal-digits}
+use Rattle.refusal_order.specs.Tests.{Test, first, accepted}
+use Rattle.refusal_order.proofs.Tests.{and-left, and-right, both, Passed, passed}
+use Rattle.lengths.proofs.Factors.{octal-digits}
 use Rattle.cell.specs.Volume.{groupOf, Admitted, volumeLength, packFactors}
 use Rattle.cell.specs.Consistency.{consistentMap}
 use Rattle.cell.proofs.VolumeLayout.{place-inside}

@@ -14,7 +14,7 @@ use Rattle.algebra.specs.Orbit.{Mem, first as first-of, later, Perm, p-nil, p-s
 use Rattle.algebra.proofs.Orbits.{reorder}
 use Rattle.algebra.proofs.CellGroup.{factor-action, closed}
 use Rattle.numbers.proofs.Values.{field-ring, field-star}
-use Rattle.line.specs.Tests.{_⇒_, first, accepted}
+use Rattle.refusal_order.specs.Tests.{_⇒_, first, accepted}
 use Rattle.cell.specs.Volume.{groupOf, packFactors, mapIn, packMap}
 use Rattle.cell.specs.Sums.{mapOf, factorsOf}
 use Rattle.job.specs.declared.Job.{Job}

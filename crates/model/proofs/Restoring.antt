@@ -10,9 +10,9 @@ use Rattle.algebra.specs.CellSteps.{Lawful}
 use Rattle.numbers.specs.Value.{field, conj}
 use Rattle.numbers.proofs.Primes.{prime-pos}
 use Rattle.slices.proofs.Bounds.{below-allBelow}
-use Rattle.line.specs.Tests.{first, accepted}
-use Rattle.line.specs.Lengths.{scratchLength, cleared}
-use Rattle.line.proofs.Tests.{none, pass, Passed, passed}
+use Rattle.refusal_order.specs.Tests.{first, accepted}
+use Rattle.lengths.specs.Lengths.{scratchLength, cleared}
+use Rattle.refusal_order.proofs.Tests.{none, pass, Passed, passed}
 use Rattle.cell.specs.Volume.{factorsIn}
 use Rattle.cell.proofs.Reading.{group-admitted}
 use Rattle.cell.proofs.Consistency.{consistent-read}

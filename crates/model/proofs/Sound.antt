@@ -24,9 +24,9 @@ use Rattle.numbers.proofs.Residues.{val-res}
 use Rattle.numbers.proofs.Values.{field-ring}
 use Rattle.slices.specs.Pairs.{Below}
 use Rattle.plain.specs.Factors.{octal}
-use Rattle.line.specs.Tests.{first}
+use Rattle.refusal_order.specs.Tests.{first}
 use Rattle.kinds.specs.Transform.{rootOf}
-use Rattle.kinds.specs.Admitted.{AdmittedLength}
+use Rattle.lengths.specs.Admitted.{AdmittedLength}
 use Rattle.kinds.proofs.Axes.{own, axis-own}
 use Rattle.cell.specs.Volume.{Admitted, volumeLength, factorsIn, packFactors, packMap, densityPlace, mapIn}
 use Rattle.cell.specs.Consistency.{sameValue, orbitFree, recordOn, recordIn, agreesWithItself, consistentFactors, consistentMap, RealMap, ObeysGroup}

@@ -5,7 +5,7 @@ use mathlib.Core.List.{List, [], _∷_}
 use Prim.Native.Nat.{ℕ, zero, suc}
 use native.Mathlib.Omega.{arith}
 use lib.ListN.{length, replicate}
-use Rattle.line.specs.Tests.{first, accepted}
+use Rattle.refusal_order.specs.Tests.{first, accepted}
 use Rattle.job.specs.declared.Job.{Job}
 use Rattle.job.specs.Header.{Header}
 use Rattle.job.specs.Steps.{openTests, Opening, opened, notOpened, OpenOutcome, done, density, factor, refused, Outcome}

@@ -10,8 +10,8 @@ use lib.Dec.{eqb}
 use Rattle.algebra.specs.Cell.{J, Inside, Sym, ops, full, pim, at, factorActs}
 use Rattle.algebra.specs.Orbit.{Mem, Perm, recordAll}
 use Rattle.numbers.specs.Value.{Value, field, conj, value}
-use Rattle.line.specs.Tests.{first}
-use Rattle.line.specs.Lengths.{scratchLength}
+use Rattle.refusal_order.specs.Tests.{first}
+use Rattle.lengths.specs.Lengths.{scratchLength}
 use Rattle.job.specs.declared.Job.{Job}
 use Rattle.job.specs.declared.Reflection.{Reflection}
 use Rattle.job.specs.declared.GridPoint.{GridPoint}

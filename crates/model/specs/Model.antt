@@ -7,8 +7,8 @@ use lib.ListN.{length}
 use lib.Dec.{ltb, leb, eqb}
 use Rattle.algebra.specs.Cell.{J, Group, Cell, at}
 use Rattle.numbers.specs.Value.{Value, value}
-use Rattle.line.specs.Tests.{Test, _⇒_, first, accepted}
-use Rattle.line.specs.Lengths.{scratchLength}
+use Rattle.refusal_order.specs.Tests.{Test, _⇒_, first, accepted}
+use Rattle.lengths.specs.Lengths.{scratchLength}
 use Rattle.cell.specs.Volume.{groupOf, packFactors, mapIn, packMap}
 use Rattle.cell.specs.Consistency.{sameValue, recordIn, agreesWithItself}
 use Rattle.cell.specs.Sums.{mapOf, factorsOf}

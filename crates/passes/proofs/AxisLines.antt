@@ -9,8 +9,8 @@ use Rattle.algebra.specs.Kinds.{slots, Kind.plain}
 use Rattle.algebra.proofs.Laws.{along}
 use Rattle.numbers.specs.Prime.{prime}
 use Rattle.slices.specs.Pairs.{Below}
-use Rattle.kinds.specs.Transform.{kindOf, pairCount}
-use Rattle.kinds.specs.Admitted.{AdmittedLength, FactorList}
+use Rattle.lengths.specs.Counts.{kindOf, pairCount}
+use Rattle.lengths.specs.Admitted.{AdmittedLength, FactorList}
 use Rattle.cell.specs.Volume.{lineKind, firstPair, volumeLength}
 use Rattle.cell.specs.Operations.{Sizes}
 use Rattle.cell.proofs.Reading.{group-admitted}

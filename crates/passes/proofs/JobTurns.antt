@@ -12,7 +12,7 @@ use Rattle.algebra.proofs.Laws.{along}
 use Rattle.numbers.specs.Value.{i}
 use Rattle.slices.proofs.Rows.{row-end, row-split, strided-block}
 use Rattle.slices.proofs.Layouts.{fits-second}
-use Rattle.kinds.specs.Transform.{kindOf, pairCount}
+use Rattle.lengths.specs.Counts.{kindOf, pairCount}
 use Rattle.passes.proofs.PackedLines.{line-fits}
 use Rattle.passes.proofs.Turns.{turns-next}
 use Rattle.cell.specs.Volume.{Admitted, groupOf, lineKind, firstPair, layers, rows, columns, volumeLength}

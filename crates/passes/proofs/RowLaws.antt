@@ -11,9 +11,9 @@ use Rattle.slices.specs.Segments.{segment, setSegment, WholePairs}
 use Rattle.slices.proofs.Pairs.{length-puts, length-tab}
 use Rattle.slices.proofs.Segments.{length-pairs, setSegment-puts, segment-tab}
 use Rattle.slices.proofs.Bounds.{below-set, below-take}
-use Rattle.kinds.specs.Transform.{kindOf}
+use Rattle.lengths.specs.Counts.{kindOf}
 use Rattle.kinds.proofs.Dispatch.{prefix-length}
-use Rattle.kinds.specs.Admitted.{AdmittedLength}
+use Rattle.lengths.specs.Admitted.{AdmittedLength}
 use Rattle.passes.specs.Passes.{turnedLine, turnedRow}
 use Rattle.passes.specs.Lines.{opened, closed, Sound, Beside, turnedPacked, rowTurn}
 use Rattle.passes.specs.declared.axes.Line.{Line}

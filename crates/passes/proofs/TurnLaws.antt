@@ -24,8 +24,9 @@ use Rattle.slices.proofs.Pairs.{lt-or-ge, puts-same, puts-ext, tab-cong, is-tab
 use Rattle.slices.proofs.Segments.{at-take, at-append-left, take-fills, drop-fills}
 use Rattle.slices.proofs.Values.{length-list}
 use Rattle.slices.proofs.Bounds.{below-tab, small-at}
-use Rattle.kinds.specs.Transform.{kindOf, pairCount, rootOf, transform, transformed}
-use Rattle.kinds.specs.Admitted.{AdmittedLength}
+use Rattle.lengths.specs.Counts.{kindOf, pairCount}
+use Rattle.kinds.specs.Transform.{rootOf, transform, transformed}
+use Rattle.lengths.specs.Admitted.{AdmittedLength}
 use Rattle.kinds.specs.Tables.{ForwardTables, BackwardTables}
 use Rattle.kinds.proofs.Transforms.{half-length}
 use Rattle.kinds.proofs.Dispatch.{half-positive, half-divides}

@@ -14,7 +14,7 @@ use Rattle.numbers.specs.Value.{field, conj, i, half, real}
 use Rattle.slices.specs.Pairs.{Below}
 use Rattle.slices.specs.Sweep.{Layout, sweep, onLists}
 use Rattle.kinds.specs.Transform.{rootOf}
-use Rattle.kinds.specs.Admitted.{AdmittedLength}
+use Rattle.lengths.specs.Admitted.{AdmittedLength}
 use Rattle.kinds.proofs.Axes.{own, axis-own}
 use Rattle.cell.specs.Volume.{groupOf, volumeLength, factorsIn, packFactors, mapIn, packMap}
 use Rattle.cell.specs.Consistency.{consistentFactors, consistentMap}

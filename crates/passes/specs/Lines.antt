@@ -8,8 +8,8 @@ use Rattle.algebra.specs.Kinds.{slots}
 use Rattle.algebra.specs.Cell.{J, Group}
 use Rattle.numbers.specs.Prime.{prime, IsModulus}
 use Rattle.slices.specs.Pairs.{at, tab, puts, Below}
-use Rattle.kinds.specs.Transform.{kindOf}
-use Rattle.kinds.specs.Admitted.{AdmittedLength, FactorList}
+use Rattle.lengths.specs.Counts.{kindOf}
+use Rattle.lengths.specs.Admitted.{AdmittedLength, FactorList}
 use Rattle.cell.specs.Volume.{groupOf, volumeLength}
 use Rattle.cell.specs.Operations.{halvesOf}
 use Rattle.passes.specs.Passes.{turnedLine, turnedRow, alongL, alongH, alongK, jobTurn, lineOfTurn, JobSizes, TablesOf}

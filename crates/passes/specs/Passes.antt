@@ -13,7 +13,7 @@ use Rattle.numbers.specs.Value.{Value, field, conj, i, half, real, valueOf, pai
 use Rattle.slices.specs.Pairs.{at, tab, zeroPair}
 use Rattle.slices.specs.Values.{valuesOf, listOf}
 use Rattle.slices.specs.Sweep.{Layout, lineOf, setLine, onLists, alongSecond, alongLast}
-use Rattle.kinds.specs.Admitted.{AdmittedLength, FactorList}
+use Rattle.lengths.specs.Admitted.{AdmittedLength, FactorList}
 use Rattle.kinds.specs.Tables.{ForwardTables, BackwardTables}
 use Rattle.cell.specs.Volume.{lineKind, firstPair, layers, rows, columns}
 use Rattle.cell.specs.Sums.{axis}

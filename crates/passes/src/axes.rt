@@ -3,7 +3,7 @@
 ghost use mathlib.Core.Path.{_≡_};
 ghost use Prim.Native.Nat.{_*_, _<_, _≤_};
 ghost use Rattle.cell.specs.Volume.{groupOf, lineKind, firstPair};
-ghost use Rattle.kinds.specs.Transform.{kindOf};
+ghost use Rattle.lengths.specs.Counts.{kindOf};
 ghost use Rattle.passes.specs.Passes.{lineCount, lineOfTurn, turnOf, alongL, alongH, alongK, turnedL, turnedH, turnedK};
 ghost use Rattle.passes.specs.Lines.{groupIn, halvesIn, SizesIn, Planned, Counted, Gathered, Row, LineAt};
 
@@ -111,7 +111,7 @@ fn along_l(plan: Plan, y: usize) -> Line
         half: (plan.n3 / 2) as usize,
         start: y + first_pair(kind) * stride,
         stride,
-        count: kinds::pair_count(kind, plan.n3),
+        count: lengths::pair_count(kind, plan.n3),
     }
 }
 

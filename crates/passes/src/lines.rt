@@ -7,7 +7,7 @@ ghost use lib.ListN.{length};
 ghost use Rattle.algebra.specs.Kinds.{slots};
 ghost use Rattle.numbers.specs.Prime.{prime};
 ghost use Rattle.slices.specs.Pairs.{Below};
-ghost use Rattle.kinds.specs.Transform.{kindOf};
+ghost use Rattle.lengths.specs.Counts.{kindOf};
 ghost use Rattle.passes.specs.Passes.{Lent, Kept};
 ghost use Rattle.passes.specs.Lines.{Sound, Spaced, TablesFor, turnedPacked, gatheredTurn};
 

@@ -8,8 +8,8 @@ use native.Mathlib.Omega.{arith}
 use lib.Dec.{leb, eqb}
 use borrow.Author.Tests.{ne-eqb, le-leb, lt-leb}
 use Rattle.plain.specs.Factors.{product, octal}
-use Rattle.line.specs.Lengths.{isFactor, factorsOk, digits, octalDigits}
-use Rattle.line.proofs.Factors.{factors-cons, product-positive}
+use Rattle.lengths.specs.Lengths.{isFactor, factorsOk, digits, octalDigits}
+use Rattle.lengths.proofs.Factors.{factors-cons, product-positive}
 
 -- more digits than the number has are not taken
 digits-enough : (c d n : ℕ) → n ≤ c → n ≤ d → digits 8 c n ≡ digits 8 d n

@@ -9,11 +9,11 @@ use lib.Dec.{eqb}
 use borrow.Author.Tests.{not-false, eqb-true, eq-eqb, ne-eqb}
 use Rattle.algebra.specs.Cell.{planes}
 use Rattle.plain.specs.Factors.{product, octal}
-use Rattle.line.specs.Tests.{first}
-use Rattle.line.specs.Lengths.{admitted, factorsOk}
-use Rattle.line.proofs.Tests.{both, by-true, by-false, Passed, passed}
-use Rattle.kinds.specs.Admitted.{AdmittedLength, FactorList}
-use Rattle.line.proofs.Accepted.{admitted-length, factor-list}
+use Rattle.refusal_order.specs.Tests.{first}
+use Rattle.lengths.specs.Lengths.{admitted, factorsOk}
+use Rattle.refusal_order.proofs.Tests.{both, by-true, by-false, Passed, passed}
+use Rattle.lengths.specs.Admitted.{AdmittedLength, FactorList}
+use Rattle.lengths.proofs.AdmittedLengths.{admitted-length, factor-list}
 use Rattle.cell.specs.Operations.{halvesOf, Length, Sizes}
 use Rattle.cell.specs.Volume.{groupOf, volumeLength}
 use Rattle.cell.proofs.StoredFactors.{layers-most}

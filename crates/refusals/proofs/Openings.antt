@@ -9,10 +9,10 @@ use lib.Dec.{eqb}
 use borrow.Author.Tests.{eq-eqb, ne-eqb, lt-leb}
 use Rattle.algebra.specs.Cell.{J}
 use Rattle.slices.specs.Pairs.{allBelow}
-use Rattle.line.specs.declared.Refusal.{Refusal}
-use Rattle.line.specs.Refusals.{numberOf}
-use Rattle.line.specs.Tests.{Test, _⇒_, first}
-use Rattle.line.proofs.Tests.{pass, none, not-t, passed, fails}
+use Rattle.refusal_order.specs.declared.Refusal.{Refusal}
+use Rattle.refusal_order.specs.Refusals.{numberOf}
+use Rattle.refusal_order.specs.Tests.{Test, _⇒_, first}
+use Rattle.refusal_order.proofs.Tests.{pass, none, not-t, passed, fails}
 use Rattle.cell.specs.Volume.{groupOf, volumeLength}
 use Rattle.cell.specs.Consistency.{consistentMap}
 use Rattle.refusals.specs.Header.{Header, halvesOf, axisTests}

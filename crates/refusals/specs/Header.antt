@@ -5,8 +5,8 @@ use Prim.Native.Nat.{ℕ, _/_}
 use lib.Dec.{ltb, eqb}
 use Rattle.algebra.specs.Cell.{J}
 use Rattle.plain.specs.Factors.{product}
-use Rattle.line.specs.Tests.{Test, _⇒_}
-use Rattle.line.specs.Lengths.{admitted, factorsOk}
+use Rattle.refusal_order.specs.Tests.{Test, _⇒_}
+use Rattle.lengths.specs.Lengths.{admitted, factorsOk}
 use Rattle.cell.specs.Volume.{groupOf, volumeLength}
 
 -- group, lengths and factor lists

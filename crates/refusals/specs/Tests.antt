@@ -8,8 +8,8 @@ use Rattle.algebra.specs.Cell.{J}
 use Rattle.numbers.specs.Prime.{prime}
 use Rattle.numbers.specs.Value.{value}
 use Rattle.slices.specs.Pairs.{allBelow}
-use Rattle.line.specs.Tests.{Test, _⇒_}
-use Rattle.line.specs.Lengths.{scratchLength}
+use Rattle.refusal_order.specs.Tests.{Test, _⇒_}
+use Rattle.lengths.specs.Lengths.{scratchLength}
 use Rattle.cell.specs.Volume.{groupOf, volumeLength, numbersRead, densityPlace}
 use Rattle.cell.specs.Consistency.{all, agreesWithItself, orbitFree, consistentFactors, consistentMap}
 use Rattle.refusals.specs.Header.{Header, halvesOf, axisTests, collecting, mapHeld}

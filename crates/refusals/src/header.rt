@@ -1,15 +1,14 @@
 // The tests of a header: what an opening names besides the volume. They are those of a job's own numbers too.
 use cell::places;
-use line::Checked;
-use line::Refusal;
-use line::check;
+use refusal_order::Checked;
+use refusal_order::Refusal;
 ghost use mathlib.Core.Path.{_≡_};
 ghost use mathlib.Core.Bool.{true, _&&_};
 ghost use Prim.Native.Nat.{_/_, _<_};
 ghost use lib.Dec.{eqb};
 ghost use Rattle.plain.specs.Factors.{product};
-ghost use Rattle.line.specs.Tests.{first, checkedNumber};
-ghost use Rattle.line.specs.Lengths.{admitted, factorsOk};
+ghost use Rattle.refusal_order.specs.Tests.{first, checkedNumber};
+ghost use Rattle.lengths.specs.Lengths.{admitted, factorsOk};
 ghost use Rattle.cell.specs.Operations.{halvesOf, Sizes};
 ghost use Rattle.cell.specs.Volume.{groupOf, volumeLength};
 ghost use Rattle.refusals.specs.Header.{axisTests};
@@ -27,26 +26,26 @@ pub fn volume_length(group: u32, n1: u32, n2: u32, n3: u32) -> u64
 pub fn all_admitted(n1: u32, n2: u32, n3: u32) -> bool
     ensures { λ r. ⌜ r ≡ (admitted n1 && (admitted n2 && admitted n3)) ⌝ }
 {
-    if !check::admitted(n1) {
+    if !lengths::admitted(n1) {
         return false;
     }
-    if !check::admitted(n2) {
+    if !lengths::admitted(n2) {
         return false;
     }
-    check::admitted(n3)
+    lengths::admitted(n3)
 }
 
 // Every number of the three lists is a factor.
 fn all_factors(f1: &[u8], f2: &[u8], f3: &[u8]) -> bool
     ensures { λ r. ⌜ r ≡ (factorsOk (now (f1 .entry)) && (factorsOk (now (f2 .entry)) && factorsOk (now (f3 .entry)))) ⌝ }
 {
-    if !check::factors_ok(f1) {
+    if !lengths::factors_ok(f1) {
         return false;
     }
-    if !check::factors_ok(f2) {
+    if !lengths::factors_ok(f2) {
         return false;
     }
-    check::factors_ok(f3)
+    lengths::factors_ok(f3)
 }
 
 // The product of each list is half of its axis.
@@ -55,13 +54,13 @@ fn all_products(f1: &[u8], f2: &[u8], f3: &[u8], n1: u32, n2: u32, n3: u32) -> b
     requires { ⌜ (factorsOk (now f1) && (factorsOk (now f2) && factorsOk (now f3))) ≡ true ⌝ }
     ensures { λ r. ⌜ r ≡ (eqb (product (now (f1 .entry))) (n1 / 2) && (eqb (product (now (f2 .entry))) (n2 / 2) && eqb (product (now (f3 .entry))) (n3 / 2))) ⌝ }
 {
-    if !check::has_product(f1, n1 / 2) {
+    if !lengths::has_product(f1, n1 / 2) {
         return false;
     }
-    if !check::has_product(f2, n2 / 2) {
+    if !lengths::has_product(f2, n2 / 2) {
         return false;
     }
-    check::has_product(f3, n3 / 2)
+    lengths::has_product(f3, n3 / 2)
 }
 
 // 3, 4, 5, each over the three axes, then 9.

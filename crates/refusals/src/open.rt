@@ -1,10 +1,10 @@
 // The tests of an opening.
 use crate::header;
 use crate::tests;
-use line::Checked;
-use line::Refusal;
+use refusal_order::Checked;
+use refusal_order::Refusal;
 ghost use mathlib.Core.Path.{_≡_};
-ghost use Rattle.line.specs.Tests.{first, checkedNumber};
+ghost use Rattle.refusal_order.specs.Tests.{first, checkedNumber};
 ghost use Rattle.cell.specs.Operations.{Sizes};
 ghost use Rattle.refusals.specs.Tests.{volumeTests, openTests};
 

@@ -1,14 +1,14 @@
 // The tests of a record.
 use crate::tests;
 use cell::operations::Index;
-use line::Checked;
-use line::Refusal;
+use refusal_order::Checked;
+use refusal_order::Refusal;
 use numbers::Pair;
 ghost use mathlib.Core.Path.{_≡_};
 ghost use mathlib.Core.Bool.{true, _&&_};
 ghost use lib.Dec.{ltb, eqb};
 ghost use Rattle.numbers.specs.Value.{Small};
-ghost use Rattle.line.specs.Tests.{first, checkedNumber};
+ghost use Rattle.refusal_order.specs.Tests.{first, checkedNumber};
 ghost use Rattle.cell.specs.Operations.{tripleOf, Sizes, Within};
 ghost use Rattle.refusals.specs.Tests.{p, orbitTests, recordTestsOf};
 

@@ -1,12 +1,12 @@
 // The tests of a synthesis.
 use crate::tests;
 use consistency::factor_test;
-use line::Checked;
-use line::Refusal;
+use refusal_order::Checked;
+use refusal_order::Refusal;
 ghost use mathlib.Core.Path.{_≡_};
 ghost use mathlib.Core.Bool.{true};
 ghost use lib.ListN.{length};
-ghost use Rattle.line.specs.Tests.{first, checkedNumber};
+ghost use Rattle.refusal_order.specs.Tests.{first, checkedNumber};
 ghost use Rattle.cell.specs.Operations.{halvesOf, Sizes};
 ghost use Rattle.cell.specs.Volume.{groupOf, volumeLength};
 ghost use Rattle.refusals.specs.Tests.{factorsTests, synthesisTestsOf};

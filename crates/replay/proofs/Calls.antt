@@ -3,8 +3,8 @@ use mathlib.Core.Path.{_≡_, refl, _∙_, sym, ap}
 use mathlib.Core.List.{List}
 use Prim.Native.Nat.{ℕ, zero, suc}
 use lib.ListN.{length}
-use Rattle.line.specs.Tests.{first, accepted}
-use Rattle.line.specs.Lengths.{cleared}
+use Rattle.refusal_order.specs.Tests.{first, accepted}
+use Rattle.lengths.specs.Lengths.{cleared}
 use Rattle.job.specs.declared.Answered.{Answered}
 use Rattle.job.specs.declared.Job.{Job}
 use Rattle.job.specs.declared.Reflection.{Reflection}

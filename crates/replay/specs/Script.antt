@@ -4,7 +4,7 @@
 use mathlib.Core.List.{List, [], _∷_, _++_}
 use Prim.Native.Nat.{ℕ, zero, suc, _+_, _*_, _/_, min}
 use lib.ListN.{length, getD, drop}
-use Rattle.line.specs.Lengths.{cleared}
+use Rattle.lengths.specs.Lengths.{cleared}
 use Rattle.job.specs.declared.Job.{Job}
 use Rattle.job.specs.Steps.{Said, done, density, factor, refused}
 use Rattle.model.specs.Model.{Model, Call, recording, synthesis, analysis, readPoint, readFactor}

@@ -11,7 +11,7 @@ use Rattle.numbers.specs.Prime.{prime}
 use Rattle.numbers.proofs.Primes.{prime-pos}
 use Rattle.slices.specs.Pairs.{allBelow}
 use Rattle.slices.proofs.Bounds.{below-allBelow}
-use Rattle.line.proofs.Tests.{refusals, by-true, by-false}
+use Rattle.refusal_order.proofs.Tests.{refusals, by-true, by-false}
 use Rattle.cell.specs.Operations.{halvesOf, Sizes}
 use Rattle.cell.specs.Volume.{groupOf, volumeLength}
 use Rattle.file_writer.proofs.check_factors.Statement.{statement}

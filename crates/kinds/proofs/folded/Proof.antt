@@ -5,7 +5,7 @@ use Prim.Native.Nat.{_*_}
 use Rattle.numbers.specs.Value.{real, part}
 use Rattle.plain.specs.Factors.{Factored}
 use Rattle.folds.specs.Frame.{Frame, tangent}
-use Rattle.kinds.specs.Transform.{kindOf}
+use Rattle.lengths.specs.Counts.{kindOf}
 use Rattle.kinds.proofs.Dispatch.{hermitian-kind, mirror-kind, frame-of, half-list, half-count, count-of, forward-by}
 use Rattle.kinds.proofs.folded.Statement.{statement}
 use Rattle.kinds.proofs.folded.Tie as tie

@@ -5,7 +5,7 @@ use Rattle.algebra.specs.Ring.{Ops}
 use Rattle.numbers.specs.Value.{field}
 use Rattle.plain.specs.Factors.{Factored}
 use Rattle.folds.specs.Frame.{Frame, tangent}
-use Rattle.kinds.specs.Transform.{kindOf}
+use Rattle.lengths.specs.Counts.{kindOf}
 use Rattle.kinds.proofs.Dispatch.{hermitian-kind, mirror-kind, frame-of, half-list, half-count, count-of, back-by, back-share-by}
 use Rattle.kinds.proofs.unfolded.Statement.{statement}
 use Rattle.kinds.proofs.unfolded.Tie as tie

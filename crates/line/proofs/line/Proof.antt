@@ -9,9 +9,9 @@ use denote.Ref.{now}
 use Rattle.numbers.specs.Prime.{prime}
 use Rattle.numbers.proofs.Primes.{prime-pos}
 use Rattle.plain.specs.Factors.{octal}
-use Rattle.line.specs.Tests.{first, checkedNumber}
-use Rattle.line.specs.Lengths.{cleared}
-use Rattle.line.specs.Line.{lineTests}
+use Rattle.refusal_order.specs.Tests.{first, checkedNumber}
+use Rattle.lengths.specs.Lengths.{cleared}
+use Rattle.line_refusals.specs.LineTests.{lineTests}
 use Rattle.line.specs.Accepted.{Accepted}
 use Rattle.line.proofs.Accepted.{accepted-factors, accepted-line}
 use Rattle.line.proofs.Outcome.{refused-outcome, transformed-outcome}

@@ -4,7 +4,7 @@ use native.Mathlib.Omega.{arith}
 use mathlib.Core.Path.{_≡_}
 use Prim.Native.Nat.{_+_}
 use lib.ListN.{length}
-use Rattle.line.specs.Lengths.{octalDigits}
+use Rattle.lengths.specs.Lengths.{octalDigits}
 use Rattle.file_writer.specs.Writing.{bytes, headerBytes}
 use Rattle.file_writer.specs.Steps.{headerWith}
 use Rattle.file_writer.proofs.Stores.{put-then}

@@ -7,8 +7,8 @@ use Prim.Native.Nat.{ℕ, _<_}
 use lib.ListN.{length}
 use denote.Ref.{now}
 use borrow.Author.Tests.{not-false, eqb-true}
-use Rattle.line.specs.Tests.{first, checkedNumber}
-use Rattle.line.proofs.Tests.{Passed, passed}
+use Rattle.refusal_order.specs.Tests.{first, checkedNumber}
+use Rattle.refusal_order.proofs.Tests.{Passed, passed}
 use Rattle.cell.specs.Operations.{Sizes}
 use Rattle.job.specs.Header.{headerOf}
 use Rattle.job.specs.Steps.{position, pointTests, pointTestsOf}

@@ -5,8 +5,8 @@ use mathlib.Core.Bool.{Bool}
 use denote.Ref.{now}
 use borrow.Author.Tests.{not-false, ltb-true, eqb-true}
 use Rattle.numbers.proofs.Primes.{first-modulus}
-use Rattle.line.specs.Tests.{first, checkedNumber}
-use Rattle.line.proofs.Tests.{Passed, passed, both}
+use Rattle.refusal_order.specs.Tests.{first, checkedNumber}
+use Rattle.refusal_order.proofs.Tests.{Passed, passed, both}
 use Rattle.job.specs.Header.{headerOf}
 use Rattle.job.specs.Steps.{index, recordTests, recordTestsOf}
 use Rattle.job.proofs.Jobs.{valid-sizes}

@@ -6,7 +6,7 @@ use mathlib.Core.List.{List, _++_}
 use Prim.Native.Nat.{ℕ}
 use lib.ListN.{replicate}
 use Rattle.numbers.proofs.Primes.{first-modulus}
-use Rattle.line.specs.Lengths.{cleared}
+use Rattle.lengths.specs.Lengths.{cleared}
 use Rattle.kinds.proofs.Tables.{backward-tables}
 use Rattle.job.proofs.analysis.analyse_volume.Statement.{statement}
 use Rattle.job.proofs.analysis.analyse_volume.Tie as tie

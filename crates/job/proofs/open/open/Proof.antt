@@ -2,7 +2,7 @@
 use borrow.Author.Needs.{needs}
 use mathlib.Core.Path.{_≡_, _∙_, sym, ap}
 use denote.Ref.{now}
-use Rattle.line.specs.Tests.{first, checkedNumber}
+use Rattle.refusal_order.specs.Tests.{first, checkedNumber}
 use Rattle.job.specs.Header.{Header}
 use Rattle.job.specs.Steps.{openTests}
 use Rattle.refusals.proofs.Openings.{header-passed}

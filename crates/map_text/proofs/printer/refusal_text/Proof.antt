@@ -3,7 +3,7 @@ use borrow.Author.Needs.{needs}
 use mathlib.Core.Path.{_≡_, ap, subst, _∙_}
 use Prim.Native.Nat.{ℕ, _<_, _≤_}
 use lib.ListN.{length}
-use Rattle.line.specs.Refusals.{numberOf}
+use Rattle.refusal_order.specs.Refusals.{numberOf}
 use Rattle.map_text.specs.Text.{refusalText}
 use Rattle.map_text.specs.Writing.{Wrote}
 use Rattle.map_text.proofs.Outcomes.{put-refused, put-written}

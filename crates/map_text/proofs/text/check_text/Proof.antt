@@ -6,8 +6,8 @@ use mathlib.Core.Bool.{true, false, not}
 use Prim.Native.Nat.{ℕ, _<_, _≤_}
 use lib.Dec.{eqb, ltb}
 use lib.ListN.{length}
-use Rattle.line.specs.Tests.{first}
-use Rattle.line.proofs.Tests.{stop, pass, none, not-t, not-f, by-false, by-true}
+use Rattle.refusal_order.specs.Tests.{first}
+use Rattle.refusal_order.proofs.Tests.{stop, pass, none, not-t, not-f, by-false, by-true}
 use Rattle.job.specs.Header.{validJob, mapHeld}
 use Rattle.job.specs.Steps.{fits}
 use Rattle.job.proofs.Jobs.{valid-sizes}

@@ -2,7 +2,7 @@
 use borrow.Author.Needs.{needs}
 use mathlib.Core.Path.{_≡_, sym, ap, _∙_}
 use lib.ListN.{length}
-use Rattle.line.specs.Tests.{first, checkedNumber}
+use Rattle.refusal_order.specs.Tests.{first, checkedNumber}
 use Rattle.map_text.specs.Text.{textTests}
 use Rattle.map_text.proofs.Outcomes.{text-refused, text-printable, text-written}
 use Rattle.map_text.proofs.text.map_text.Statement.{statement}

@@ -6,7 +6,7 @@ use Prim.Native.Nat.{_+_, _*_}
 use lib.ListN.{length}
 use Rattle.slices.specs.Pairs.{at}
 use Rattle.slices.proofs.Pairs.{length-fills}
-use Rattle.kinds.specs.Transform.{kindOf}
+use Rattle.lengths.specs.Counts.{kindOf}
 use Rattle.kinds.proofs.Dispatch.{prefix-length}
 use Rattle.passes.proofs.TurnLaws.{turned-line, kept, below-lent, returned-fits}
 use Rattle.passes.proofs.lines.turn_gathered.Statement.{statement}

@@ -4,7 +4,7 @@ use Rattle.numbers.specs.Prime.{prime, IsModulus}
 use Rattle.slices.specs.Pairs.{Below}
 use Rattle.kinds.specs.Tables.{ForwardTables, BackwardTables}
 use Rattle.passes.proofs.TurnLaws.{turned-forward, turned-inverse, forward-tables, inverse-tables, line-length, other-direction}
-use Rattle.kinds.specs.Transform.{kindOf}
+use Rattle.lengths.specs.Counts.{kindOf}
 use Rattle.passes.specs.Passes.{turnedLine}
 use Rattle.passes.proofs.lines.turn_packed.Statement.{statement}
 use Rattle.passes.proofs.lines.turn_packed.Tie as tie

@@ -7,7 +7,7 @@ use lib.ListN.{length}
 use denote.Ref.{now}
 use borrow.Author.Tests.{eqb-true}
 use Rattle.numbers.specs.Prime.{prime}
-use Rattle.line.proofs.Tests.{refusals, by-true, by-false}
+use Rattle.refusal_order.proofs.Tests.{refusals, by-true, by-false}
 use Rattle.cell.specs.Operations.{halvesOf, tripleOf}
 use Rattle.cell.specs.Volume.{groupOf, numbersRead, volumeLength}
 use Rattle.cell.specs.Places.{allBelowAt}

@@ -1,6 +1,6 @@
 -- Three tests in turn.
 use borrow.Author.Needs.{needs}
-use Rattle.line.specs.Lengths.{admitted}
+use Rattle.lengths.specs.Lengths.{admitted}
 use Rattle.refusals.proofs.Headers.{first-fails, second-fails, third-decides}
 use Rattle.refusals.proofs.header.all_admitted.Statement.{statement}
 use Rattle.refusals.proofs.header.all_admitted.Tie as tie

@@ -1,7 +1,7 @@
 -- Three tests in turn.
 use borrow.Author.Needs.{needs}
 use denote.Ref.{now}
-use Rattle.line.specs.Lengths.{factorsOk}
+use Rattle.lengths.specs.Lengths.{factorsOk}
 use Rattle.refusals.proofs.Headers.{first-fails, second-fails, third-decides}
 use Rattle.refusals.proofs.header.all_factors.Statement.{statement}
 use Rattle.refusals.proofs.header.all_factors.Tie as tie

@@ -2,7 +2,7 @@
 use borrow.Author.Needs.{needs}
 use mathlib.Core.Path.{subst}
 use Prim.Native.Nat.{ℕ, _<_, _≤_}
-use Rattle.line.proofs.Tests.{refusals, by-true}
+use Rattle.refusal_order.proofs.Tests.{refusals, by-true}
 use Rattle.refusals.proofs.Headers.{sizes-of}
 use Rattle.refusals.proofs.header.check_header.Statement.{statement}
 use Rattle.refusals.proofs.header.check_header.Tie as tie

@@ -2,8 +2,8 @@
 use borrow.Author.Needs.{needs}
 use mathlib.Core.Path.{_≡_, _∙_, sym, ap}
 use denote.Ref.{now}
-use Rattle.line.specs.Tests.{first, checkedNumber}
-use Rattle.line.proofs.Tests.{refusals}
+use Rattle.refusal_order.specs.Tests.{first, checkedNumber}
+use Rattle.refusal_order.proofs.Tests.{refusals}
 use Rattle.refusals.specs.Header.{Header, axisTests}
 use Rattle.refusals.proofs.Headers.{sound-sizes}
 use Rattle.refusals.proofs.Openings.{header-refused, volume-decides}

@@ -6,7 +6,7 @@ use lib.ListN.{length}
 use lib.Dec.{eqb}
 use denote.Ref.{now}
 use borrow.Author.Tests.{eqb-true}
-use Rattle.line.proofs.Tests.{refusals, by-true}
+use Rattle.refusal_order.proofs.Tests.{refusals, by-true}
 use Rattle.cell.specs.Operations.{halvesOf}
 use Rattle.cell.specs.Volume.{groupOf, volumeLength}
 use Rattle.refusals.proofs.Openings.{volume-collects, volume-held}

@@ -2,7 +2,7 @@
 use Prim.Native.Nat.{_/_}
 use lib.Dec.{eqb}
 use Rattle.plain.specs.Factors.{product}
-use Rattle.line.specs.Lengths.{octalDigits}
+use Rattle.lengths.specs.Lengths.{octalDigits}
 use Rattle.refusals.proofs.Headers.{first-fails, second-fails, third-decides, products-may}
 use Rattle.refusals.proofs.packed.all_digit_products.Statement.{statement}
 use Rattle.refusals.proofs.packed.all_digit_products.Tie as tie

@@ -1,6 +1,6 @@
 -- Three tests in turn.
 use borrow.Author.Needs.{needs}
-use Rattle.line.specs.Lengths.{factorsOk, octalDigits}
+use Rattle.lengths.specs.Lengths.{factorsOk, octalDigits}
 use Rattle.refusals.proofs.Headers.{first-fails, second-fails, third-decides}
 use Rattle.refusals.proofs.packed.all_digits.Statement.{statement}
 use Rattle.refusals.proofs.packed.all_digits.Tie as tie

@@ -1,7 +1,7 @@
 -- The rest of the digits decides, as long as every digit so far is a factor.
 use native.Mathlib.Omega.{arith}
 use mathlib.Core.Path.{_≡_, refl}
-use Rattle.line.specs.Lengths.{factorsOk, octalDigits}
+use Rattle.lengths.specs.Lengths.{factorsOk, octalDigits}
 use Rattle.refusals.proofs.Digits.{low-digit, high-digit, factor-digit, ok-stop, ok-next, ok-done}
 use Rattle.refusals.proofs.packed.digits_ok.Statement.{statement}
 use Rattle.refusals.proofs.packed.digits_ok.Tie as tie

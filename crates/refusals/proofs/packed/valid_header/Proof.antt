@@ -3,9 +3,9 @@ use borrow.Author.Needs.{needs}
 use native.Mathlib.Omega.{arith}
 use mathlib.Core.Path.{subst}
 use Prim.Native.Nat.{ℕ, _<_, _≤_}
-use Rattle.line.specs.Tests.{first}
-use Rattle.line.specs.Lengths.{octalDigits}
-use Rattle.line.proofs.Tests.{refusals, by-true}
+use Rattle.refusal_order.specs.Tests.{first}
+use Rattle.lengths.specs.Lengths.{octalDigits}
+use Rattle.refusal_order.proofs.Tests.{refusals, by-true}
 use Rattle.refusals.specs.Header.{axisTests}
 use Rattle.refusals.proofs.Headers.{sizes-of, refused-at, accepted-at}
 use Rattle.refusals.proofs.packed.valid_header.Statement.{statement}

@@ -9,7 +9,7 @@ use lib.Dec.{ltb}
 use denote.Ref.{now}
 use borrow.Author.Tests.{eqb-true}
 use Rattle.numbers.specs.Prime.{prime}
-use Rattle.line.proofs.Tests.{refusals, by-true}
+use Rattle.refusal_order.proofs.Tests.{refusals, by-true}
 use Rattle.cell.specs.Operations.{halvesOf, tripleOf}
 use Rattle.cell.specs.Volume.{groupOf, densityPlace, volumeLength}
 use Rattle.refusals.proofs.Headers.{place-small}

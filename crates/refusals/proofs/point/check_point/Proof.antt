@@ -3,7 +3,7 @@ use borrow.Author.Needs.{needs}
 use mathlib.Core.Path.{_≡_}
 use mathlib.Core.Bool.{true}
 use borrow.Author.Tests.{not-false, eq-eqb}
-use Rattle.line.proofs.Tests.{refusals, pass, not-t, by-true}
+use Rattle.refusal_order.proofs.Tests.{refusals, pass, not-t, by-true}
 use Rattle.cell.specs.Operations.{tripleOf, Sizes}
 use Rattle.refusals.specs.Tests.{within}
 use Rattle.refusals.proofs.Points.{within-of}

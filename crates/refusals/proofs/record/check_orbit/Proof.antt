@@ -7,7 +7,7 @@ use denote.Ref.{now}
 use borrow.Author.Tests.{eqb-true}
 use Rattle.numbers.specs.Value.{value}
 use Rattle.numbers.proofs.Primes.{first-modulus}
-use Rattle.line.proofs.Tests.{stop, pass, none, not-t, not-f, by-true, by-false}
+use Rattle.refusal_order.proofs.Tests.{stop, pass, none, not-t, not-f, by-true, by-false}
 use Rattle.cell.specs.Operations.{halvesOf, tripleOf}
 use Rattle.cell.specs.Volume.{groupOf, volumeLength}
 use Rattle.cell.specs.Consistency.{agreesWithItself}

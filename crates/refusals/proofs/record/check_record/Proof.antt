@@ -6,7 +6,7 @@ use lib.Dec.{ltb, eqb}
 use borrow.Author.Tests.{not-false, ltb-true, eq-eqb, ne-eqb}
 use Rattle.numbers.specs.Prime.{prime}
 use Rattle.numbers.specs.Value.{Small}
-use Rattle.line.proofs.Tests.{stop, pass, not-t, not-f, by-true, by-false, both}
+use Rattle.refusal_order.proofs.Tests.{stop, pass, not-t, not-f, by-true, by-false, both}
 use Rattle.cell.specs.Operations.{tripleOf, Sizes, Within}
 use Rattle.refusals.specs.Tests.{within}
 use Rattle.refusals.proofs.Points.{within-of}

@@ -5,7 +5,7 @@ use denote.Ref.{now}
 use Rattle.numbers.specs.Prime.{prime}
 use Rattle.numbers.proofs.Primes.{prime-pos}
 use Rattle.slices.proofs.Bounds.{below-allBelow}
-use Rattle.line.proofs.Tests.{refusals, by-true}
+use Rattle.refusal_order.proofs.Tests.{refusals, by-true}
 use Rattle.refusals.proofs.synthesis.check_factors.Statement.{statement}
 use Rattle.refusals.proofs.synthesis.check_factors.Tie as tie
 

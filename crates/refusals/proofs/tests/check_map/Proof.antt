@@ -1,6 +1,6 @@
 -- Each return is the first test that holds, all the others before it being passed over.
 use borrow.Author.Needs.{needs}
-use Rattle.line.proofs.Tests.{refusals}
+use Rattle.refusal_order.proofs.Tests.{refusals}
 use Rattle.refusals.proofs.tests.check_map.Statement.{statement}
 use Rattle.refusals.proofs.tests.check_map.Tie as tie
 

@@ -1,0 +1,4 @@
+pub mod Factors
+pub mod Divisors
+pub mod Counts
+pub mod AdmittedLengths

@@ -10,7 +10,7 @@ use Rattle.refusal_order.specs.Tests.{first}
 use Rattle.refusal_order.proofs.Tests.{fails, passes}
 use Rattle.cell.specs.Volume.{factorsIn}
 use Rattle.cell.specs.Consistency.{recordOn}
-use Rattle.refusals.proofs.Reflections.{pair-of-numbers}
+use Rattle.record_refusals.proofs.Reflections.{pair-of-numbers}
 use Rattle.job.specs.declared.Job.{Job}
 use Rattle.job.specs.declared.Reflection.{Reflection}
 use Rattle.job.specs.declared.Answer.the-variants.{Done, Refused}

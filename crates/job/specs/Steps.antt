@@ -1,6 +1,8 @@
 -- The calls of a job: what each answers and what it leaves, for every input. The tests of each call, in the paper's order of refusals, are those of
--- crate refusals, put to a job's numbers here.
-pub use Rattle.refusals.specs.Tests.{p, volumeTests, openTests, within, recordTestsOf, synthesisTestsOf, analysisTestsOf, pointTestsOf, factorTestsOf}
+-- the crates refusals, record_refusals and reading_refusals, put to a job's numbers here.
+pub use Rattle.refusals.specs.Tests.{p, volumeTests, openTests, within, synthesisTestsOf, analysisTestsOf}
+pub use Rattle.record_refusals.specs.RecordTests.{recordTestsOf}
+pub use Rattle.reading_refusals.specs.ReadingTests.{pointTestsOf, factorTestsOf}
 use mathlib.Core.Bool.{Bool, cond}
 use mathlib.Core.List.{List}
 use Prim.Native.Nat.{ℕ}

@@ -20,7 +20,7 @@ impl Job {
             k: at.1,
             l: at.2,
         };
-        let checked = refusals::factor::check_factor(
+        let checked = reading_refusals::factor::check_factor(
             valid::valid_job(self),
             self.state,
             self.group,

@@ -20,7 +20,7 @@ impl Job {
             k: at.1,
             l: at.2,
         };
-        let checked = refusals::point::check_point(
+        let checked = reading_refusals::point::check_point(
             valid::valid_job(self),
             self.state,
             self.group,

@@ -22,7 +22,7 @@ impl Job {
             l: at.2,
         };
         let x = Pair { re: a, im: b };
-        let checked = refusals::record::check_record(
+        let checked = record_refusals::check_record(
             valid::valid_job(self),
             self.state,
             self.group,

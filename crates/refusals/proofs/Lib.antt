@@ -2,4 +2,3 @@ pub mod Headers
 pub mod Digits
 pub mod Openings
 pub mod Points
-pub mod Reflections

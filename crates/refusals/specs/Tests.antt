@@ -1,18 +1,17 @@
--- The tests of each call of a job, in the paper's order of refusals, on plain numbers. The modulus number is 1.
+-- The tests of a job's opening, synthesis and analysis, in the paper's order of refusals, on plain numbers. The modulus number is 1.
 use mathlib.Core.Bool.{Bool, _&&_, not}
 use mathlib.Core.List.{List, [], _∷_, _++_}
 use Prim.Native.Nat.{ℕ}
-use lib.ListN.{length, getD}
+use lib.ListN.{length}
 use lib.Dec.{ltb, leb, eqb}
 use Rattle.algebra.specs.Cell.{J}
 use Rattle.numbers.specs.Prime.{prime}
-use Rattle.numbers.specs.Value.{value}
 use Rattle.slices.specs.Pairs.{allBelow}
 use Rattle.refusal_order.specs.Tests.{Test, _⇒_}
 use Rattle.lengths.specs.Lengths.{scratchLength}
-use Rattle.cell.specs.Volume.{groupOf, volumeLength, numbersRead, densityPlace}
-use Rattle.cell.specs.Consistency.{all, agreesWithItself, orbitFree, consistentFactors, consistentMap}
-use Rattle.refusals.specs.Header.{Header, halvesOf, axisTests, collecting, mapHeld}
+use Rattle.cell.specs.Volume.{groupOf, volumeLength}
+use Rattle.cell.specs.Consistency.{consistentFactors, consistentMap}
+use Rattle.refusals.specs.Header.{Header, halvesOf, axisTests, mapHeld}
 
 abbrev pub p : ℕ
 p = prime 1
@@ -35,23 +34,6 @@ openTests h kind v =
 -- an index or a point has each number below its axis length
 abbrev pub within : (lengths x : J) → Bool
 within n x = ltb (x .0) (n .0) && (ltb (x .1) (n .1) && ltb (x .2) (n .2))
-
--- What a value implies at the images of its index: 12, 6, 24.
-abbrev pub orbitTests : (group : ℕ) (lengths at : J) (x y : ℕ) → List ℕ → List Test
-orbitTests group n at x y v =
-    not (agreesWithItself (groupOf group) (halvesOf n) 1 at (value 1 x y)) ⇒ 12 ∷
-    not (eqb (length v) (volumeLength (groupOf group) (halvesOf n))) ⇒ 6 ∷
-    not (orbitFree (groupOf group) (halvesOf n) v at) ⇒ 24 ∷
-    []
-
--- Record: 25, 21, 10, 7, 11, 12, 6, 24.
-abbrev pub recordTestsOf : (valid : Bool) (state group : ℕ) (lengths at : J) (x y : ℕ) → List ℕ → List Test
-recordTestsOf valid state group n at x y v =
-    not valid ⇒ 25 ∷
-    not (eqb state collecting) ⇒ 21 ∷
-    not (within n at) ⇒ 10 ∷ not (ltb x p && ltb y p) ⇒ 7 ∷
-    (eqb x 0 && eqb y 0) ⇒ 11 ∷
-    orbitTests group n at x y v
 
 -- A volume that is held as factors, as a map: 7, 14.
 abbrev pub factorsTests : (group : ℕ) (lengths : J) → List ℕ → List Test
@@ -83,33 +65,3 @@ analysisTestsOf valid state group n v scratch =
     not (eqb (length v) (volumeLength (groupOf group) (halvesOf n))) ⇒ 6 ∷
     ltb scratch scratchLength ⇒ 13 ∷
     mapTests group n v
-
--- The number of a point: 6, 7.
-abbrev pub densityTests : (group : ℕ) (lengths x : J) → List ℕ → List Test
-densityTests group n x v =
-    not (eqb (length v) (volumeLength (groupOf group) (halvesOf n))) ⇒ 6 ∷
-    not (ltb (getD v (densityPlace (groupOf group) (halvesOf n) x) 0) p) ⇒ 7 ∷
-    []
-
--- Reading a point: 25, 22, 10, 6, 7 (of the number read only).
-abbrev pub pointTestsOf : (valid : Bool) (state group : ℕ) (lengths x : J) → List ℕ → List Test
-pointTestsOf valid state group n x v =
-    not valid ⇒ 25 ∷
-    not (eqb state mapHeld) ⇒ 22 ∷
-    not (within n x) ⇒ 10 ∷
-    densityTests group n x v
-
--- The numbers that a factor is read from: 6, 7.
-abbrev pub storedTests : (group : ℕ) (lengths at : J) → List ℕ → List Test
-storedTests group n at v =
-    not (eqb (length v) (volumeLength (groupOf group) (halvesOf n))) ⇒ 6 ∷
-    not (all (λ q. ltb (getD v q 0) p) (numbersRead (groupOf group) (halvesOf n) at)) ⇒ 7 ∷
-    []
-
--- Reading a factor: 25, 23, 10, 6, 7 (of the numbers read only).
-abbrev pub factorTestsOf : (valid : Bool) (state group : ℕ) (lengths at : J) → List ℕ → List Test
-factorTestsOf valid state group n at v =
-    not valid ⇒ 25 ∷
-    eqb state mapHeld ⇒ 23 ∷
-    not (within n at) ⇒ 10 ∷
-    storedTests group n at v

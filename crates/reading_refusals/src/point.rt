@@ -1,0 +1,53 @@
+// The tests of a point's reading.
+use cell::operations::Index;
+use cell::places;
+use refusal_order::Checked;
+use refusal_order::Refusal;
+use refusals::tests;
+ghost use mathlib.Core.Path.{_≡_};
+ghost use mathlib.Core.Bool.{true};
+ghost use Rattle.refusal_order.specs.Tests.{first, checkedNumber};
+ghost use Rattle.cell.specs.Operations.{tripleOf, Sizes, Within};
+ghost use Rattle.reading_refusals.specs.ReadingTests.{densityTests, pointTestsOf};
+
+// 6, 7: the number of the point.
+fn check_density(group: u32, n1: u32, n2: u32, n3: u32, at: Index, volume: &[u32]) -> Checked
+    requires { ⌜ Sizes group n1 n2 n3 × Within n1 n2 n3 at ⌝ }
+    ensures { λ r. ⌜ checkedNumber r ≡ first (densityTests group (n1, n2, n3) (tripleOf at) (now (volume .entry))) ⌝ }
+{
+    if !tests::fits(group, n1, n2, n3, volume) {
+        return Checked::Failed(Refusal::BufferLength);
+    }
+    let p = numbers::modulus(1);
+    let place = places::density_place(group, n1, n2, n3, at);
+    if p <= volume[place] {
+        return Checked::Failed(Refusal::NotResidue);
+    }
+    Checked::Sound
+}
+
+// 25, 22, 10, then the number's.
+pub fn check_point(
+    valid: bool,
+    state: u32,
+    group: u32,
+    n1: u32,
+    n2: u32,
+    n3: u32,
+    at: Index,
+    volume: &[u32],
+) -> Checked
+    requires { ⌜ (valid ≡ true → Sizes group n1 n2 n3) ⌝ }
+    ensures { λ r. ⌜ checkedNumber r ≡ first (pointTestsOf valid state group (n1, n2, n3) (tripleOf at) (now (volume .entry))) ⌝ }
+{
+    if !valid {
+        return Checked::Failed(Refusal::ImpossibleJob);
+    }
+    if state != 2 {
+        return Checked::Failed(Refusal::NoMap);
+    }
+    if !tests::inside(n1, n2, n3, at) {
+        return Checked::Failed(Refusal::Index);
+    }
+    check_density(group, n1, n2, n3, at, volume)
+}

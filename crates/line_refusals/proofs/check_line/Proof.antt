@@ -6,7 +6,8 @@ use Prim.Native.Nat.{ℕ, _*_}
 use lib.ListN.{length}
 use Rattle.lengths.specs.Admitted.{AdmittedLength}
 use Rattle.lengths.specs.Counts.{pairCount}
-use Rattle.refusal_order.proofs.Tests.{refusals, by-true, by-eq, by-ne}
+use borrow.Author.Tests.{lt-leb, lt-ltb}
+use Rattle.refusal_order.proofs.Tests.{refusals, stop, pass, not-t, by-true, by-eq, by-ne}
 use Rattle.lengths.proofs.AdmittedLengths.{admitted-length}
 use Rattle.line_refusals.proofs.check_line.Statement.{statement}
 use Rattle.line_refusals.proofs.check_line.Tie as tie
@@ -53,7 +54,13 @@ returns-6 : tie.Need-returns-6
 returns-6 c = let e = by-ne _ _ _ (count (c .before)) (c .if6 .taken) in search refusals depth 20
 
 returns-7 : tie.Need-returns-7
-returns-7 c = let e = by-eq _ _ _ (count (c .before .before)) (c .before .if6 .left) in search refusals depth 20
+returns-7 c =
+    let f = c .before in
+    let h = f .before .before in
+    let o = h .before .before in
+    let l = o .before .before in
+    let d = l .before .before in
+    pass 1 _ (lt-leb _ _ (d .before .if1 .left)) (pass 2 _ (lt-leb _ _ (d .if2 .left)) (pass 3 _ (not-t _ (by-true _ _ (l .before .admitted .ensures) (l .if3 .left))) (pass 4 _ (not-t _ (by-true _ _ (o .before .factors-ok .ensures) (o .if4 .left))) (pass 5 _ (not-t _ (by-true _ _ (h .before .has-product .ensures) (h .if5 .left))) (pass 6 _ (not-t _ (by-eq _ _ _ (count (f .before)) (f .if6 .left))) (stop _ (lt-ltb _ _ (c .if7 .taken))))))))
 
 all-below-requires : tie.Need-all-below-requires
 all-below-requires c κs = search needs

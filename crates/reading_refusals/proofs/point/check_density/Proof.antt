@@ -5,11 +5,11 @@ use mathlib.Core.Path.{_≡_, sym, subst}
 use mathlib.Core.Bool.{true, false}
 use Prim.Native.Nat.{ℕ, _<_}
 use lib.ListN.{length, getD}
-use lib.Dec.{ltb}
+use lib.Dec.{ltb, eqb}
 use denote.Ref.{now}
 use borrow.Author.Tests.{eqb-true}
 use Rattle.numbers.specs.Prime.{prime}
-use Rattle.refusal_order.proofs.Tests.{refusals, by-true}
+use Rattle.refusal_order.proofs.Tests.{refusals, stop, pass, not-t, not-f, by-true}
 use Rattle.cell.specs.Operations.{halvesOf, tripleOf}
 use Rattle.cell.specs.Volume.{groupOf, densityPlace, volumeLength}
 use Rattle.refusals.proofs.Headers.{place-small}
@@ -17,8 +17,11 @@ use Rattle.reading_refusals.proofs.Numbers.{number-above, number-below}
 use Rattle.reading_refusals.proofs.point.check_density.Statement.{statement}
 use Rattle.reading_refusals.proofs.point.check_density.Tie as tie
 
+fit-test : (c : tie.Else1) → let a = c .before .before .before .args in eqb (length (now (a .volume))) (volumeLength (groupOf (a .group)) (halvesOf (a .n1) (a .n2) (a .n3))) ≡ true
+fit-test c = by-true _ _ (c .before .fits2 .ensures) (c .if1 .left)
+
 fit : (c : tie.Else1) → let a = c .before .before .before .args in length (now (a .volume)) ≡ volumeLength (groupOf (a .group)) (halvesOf (a .n1) (a .n2) (a .n3))
-fit c = eqb-true _ _ (by-true _ _ (c .before .fits2 .ensures) (c .if1 .left))
+fit c = eqb-true _ _ (fit-test c)
 
 -- the point's number lies in the volume
 placed : (c : tie.After-density-place) → c .density-place .result < length (now (c .before .before .before .before .before .args .volume))
@@ -48,7 +51,7 @@ returns-2 c =
     let a = d .before .before .before .before .before .args in
     let e : ltb (getD (now (a .volume)) (densityPlace (groupOf (a .group)) (halvesOf (a .n1) (a .n2) (a .n3)) (tripleOf (a .at))) 0) (prime 1) ≡ false =
     number-above (now (a .volume)) (d .density-place .ensures .0) (d .before .modulus .ensures .0) (c .if2 .taken) in
-    search refusals depth 20
+    pass 6 _ (not-t _ (fit-test (d .before .before))) (stop _ (not-f _ e))
 
 returns-3 : tie.Need-returns-3
 returns-3 c =

@@ -11,7 +11,7 @@ use Rattle.lengths.specs.Admitted.{FactorList}
 use Rattle.refusal_order.proofs.Tests.{by-true, by-false}
 use Rattle.lengths.proofs.Factors.{octal-digits}
 use Rattle.cell.specs.Operations.{Sizes}
-use Rattle.passes.specs.Passes.{JobSizes}
+use Rattle.axes.specs.Axes.{JobSizes}
 use Rattle.job.specs.Header.{Header, axisTests, jobOf, headerOf, validJob}
 use Rattle.job.specs.declared.Job.{Job}
 use Rattle.refusals.proofs.Headers.{all-three, sound-sizes, sound-axes, sound-lists}

@@ -14,7 +14,7 @@ ghost use Rattle.slices.specs.Pairs.{Below};
 ghost use Rattle.lengths.specs.Lengths.{cleared};
 ghost use Rattle.cell.specs.Volume.{volumeLength};
 ghost use Rattle.cell.specs.Consistency.{consistentMap};
-ghost use Rattle.passes.specs.Passes.{JobSizes};
+ghost use Rattle.axes.specs.Axes.{JobSizes};
 ghost use Rattle.job.specs.Header.{groupIn, halves};
 ghost use Rattle.job.specs.Steps.{analysed, analysisStep};
 ghost use Rattle.job.specs.Said.{worked};

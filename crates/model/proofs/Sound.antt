@@ -31,7 +31,7 @@ use Rattle.kinds.proofs.Axes.{own, axis-own}
 use Rattle.cell.specs.Volume.{Admitted, volumeLength, factorsIn, packFactors, packMap, densityPlace, mapIn}
 use Rattle.cell.specs.Consistency.{sameValue, orbitFree, recordOn, recordIn, agreesWithItself, consistentFactors, consistentMap, RealMap, ObeysGroup}
 use Rattle.cell.specs.Sums.{axis, mapOf, factorsOf}
-use Rattle.passes.specs.Passes.{JobSizes}
+use Rattle.axes.specs.Axes.{JobSizes}
 use Rattle.cell.proofs.Tests.{true-iff}
 use Rattle.cell.proofs.Reading.{group-admitted, same-iff, length-factors, below-factors, read-packed}
 use Rattle.cell.proofs.Consistency.{factors-consistent}

@@ -3,7 +3,4 @@ pub mod Sweeps
 pub mod PassLaws
 pub mod Turns
 pub mod Whole
-pub mod TurnLaws
 pub mod JobTurns
-pub mod AxisLines
-pub mod RowLaws

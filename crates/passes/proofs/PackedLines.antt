@@ -74,19 +74,6 @@ module _ (a : J) where
   by-line Pa ok pos h w l on off = mirror-pairs pos (even h) w l on off
   by-line P2₁2₁2₁ ok pos h w l on off = absurd ok
 
-  mirror-fits : 0 < a .2 → (b : Bool) → firstPair (cond b symmetric antisymmetric) + slots (cond b symmetric antisymmetric) (a .2) ≤ suc (a .2)
-  unfolding slots
-  mirror-fits pos true = omega arith
-  mirror-fits pos false = omega arith
-
-  pub line-fits : (g : Group) → Admitted g → 0 < a .2 → (h : ℕ) → firstPair (lineKind g h) + slots (lineKind g h) (a .2) ≤ layers g a
-  unfolding slots planes
-  line-fits P1 ok pos h = omega arith
-  line-fits P2₁ ok pos h = omega arith
-  line-fits Pm ok pos h = omega arith
-  line-fits Pa ok pos h = mirror-fits pos (even h)
-  line-fits P2₁2₁2₁ ok pos h = absurd ok
-
   -- the ends of an antisymmetric line are on no line
   pub off-line : 0 < a .2 → {k : Kind} → k ≡ antisymmetric → (w : ℕ) → (w ≡ 0) ⊎ (w ≡ a .2) → (t : ℕ) → t < slots k (a .2) → firstPair k + t ≡ w → ⊥
   unfolding slots

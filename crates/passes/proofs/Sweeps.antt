@@ -18,9 +18,10 @@ use Rattle.slices.proofs.Rows.{row-end, row-col, row-inj, row-split}
 use Rattle.slices.proofs.Sweep.{length-sweep, at-sweep, at-sweep-other, local-lists}
 use Rattle.slices.proofs.Layouts.{disjoint-second, disjoint-last, place-second}
 use Rattle.cell.specs.Volume.{Admitted, lineKind, firstPair, layers, rows, columns, volumeLength, pairPlace, volumeOf}
-use Rattle.passes.specs.Passes.{alongL, alongH, alongK, kindAt}
+use Rattle.axes.specs.Axes.{alongL, alongH, alongK, kindAt}
 use Rattle.cell.proofs.VolumeLayout.{length-volume, at-volume, is-volume}
-use Rattle.passes.proofs.PackedLines.{by-line, line-fits, off-line}
+use Rattle.passes.proofs.PackedLines.{by-line, off-line}
+use Rattle.axes.proofs.JobTurns.{line-fits}
 
 -- what a line has become
 swept : (L : Layout) (G : ℕ → List ℕ → List ℕ) {len : ℕ} → Disjoint L len → (y t : ℕ) (d : List ℕ) → length d ≡ len → y < L .count → t < L .size y

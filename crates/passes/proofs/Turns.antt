@@ -8,7 +8,6 @@ use native.Mathlib.Numerals.{add-one}
 use native.Mathlib.Omega.{arith}
 use lib.Dec.{ltb}
 use lib.ListN.{length}
-use borrow.Author.Tests.{lt-ltb, le-ltb}
 use Rattle.algebra.specs.Kinds.{Kind, Kind.plain}
 use Rattle.algebra.specs.Cell.{J, Group}
 use Rattle.algebra.proofs.Laws.{along}
@@ -21,7 +20,10 @@ use Rattle.slices.specs.Sweep.{Layout, sweep, onLists}
 use Rattle.slices.proofs.Pairs.{length-puts}
 use Rattle.slices.proofs.Bounds.{small-at, below-puts, below-tab}
 use Rattle.slices.proofs.Values.{below-list}
-use Rattle.passes.specs.Passes.{turnOf, turns, parted, turnedLine, turnedRow, alongL, alongH, alongK, lineCount, lineOfTurn, turnedL, turnedH, turnedK, jobTurn}
+use Rattle.axes.specs.Axes.{turnOf, alongL, alongH, alongK, lineCount, lineOfTurn, turnedL, turnedH, turnedK, jobTurn}
+use Rattle.axes.proofs.Numbered.{order-k, order-h, order-l}
+use Rattle.passes.specs.Passes.{turns}
+use Rattle.volume_lines.specs.Turned.{parted, turnedLine, turnedRow}
 
 module _ (step : ℕ → List ℕ → List ℕ) where
   pub turns-next : (j n : ℕ) (d : List ℕ) → turns step j (n + 1) d ≡ step (j + n) (turns step j n d)
@@ -99,42 +101,7 @@ module _ (m A : ℕ) where
   below-row zero l = below-tab (prime m) (suc A) _ (prime-pos m) (λ t lt. forward-small (ltb t A) _)
   below-row (suc d) l = below-tab (prime m) (suc A) _ (prime-pos m) (λ t lt. parted-small _ t)
 
-module _ (g : Group) (a : J) where
-  -- the order of analysis
-  pub order-k : (y : ℕ) → y < alongK g a .count → lineOfTurn g a 1 (0 + y) ≡ alongL g a .count + alongH g a .count + y
-  unfolding lineOfTurn
-  order-k y l = along (λ q. lineOfTurn g a 1 q) (0 + y) y (omega arith) ∙ rw (lt-ltb y (alongK g a .count) l) refl
-
-  pub order-h : (y : ℕ) → y < alongH g a .count → lineOfTurn g a 1 (alongK g a .count + y) ≡ alongL g a .count + y
-  unfolding lineOfTurn
-  order-h y l =
-      rw (le-ltb (alongK g a .count + y) (alongK g a .count) (omega arith), lt-ltb (alongK g a .count + y) (alongK g a .count + alongH g a .count) (omega arith))
-      (along (λ q. alongL g a .count + q) (alongK g a .count + y - alongK g a .count) y (omega arith))
-
-  pub order-l : (y : ℕ) → y < alongL g a .count → lineOfTurn g a 1 (alongK g a .count + alongH g a .count + y) ≡ 0 + y
-  unfolding lineOfTurn
-  order-l y l =
-      rw (le-ltb (alongK g a .count + alongH g a .count + y) (alongK g a .count) (omega arith), le-ltb (alongK g a .count + alongH g a .count + y) (alongK g a .count + alongH g a .count) (omega arith))
-      (omega arith)
-
 module _ (g : Group) (a : J) (m direction : ℕ) where
-  -- which turn a number stands for
-  pub turn-l : (y : ℕ) → y < alongL g a .count → (d : List ℕ) → jobTurn g a m direction (0 + y) d ≡ turnOf (alongL g a) (turnedL g a m direction) y d
-  unfolding jobTurn
-  turn-l y l d = along (λ q. jobTurn g a m direction q d) (0 + y) y (omega arith) ∙ rw (lt-ltb y (alongL g a .count) l) refl
-
-  pub turn-h : (y : ℕ) → y < alongH g a .count → (d : List ℕ) → jobTurn g a m direction (alongL g a .count + y) d ≡ turnOf (alongH g a) (turnedH g a m direction) y d
-  unfolding jobTurn
-  turn-h y l d =
-      rw (le-ltb (alongL g a .count + y) (alongL g a .count) (omega arith), lt-ltb (alongL g a .count + y) (alongL g a .count + alongH g a .count) (omega arith))
-      (along (λ y. turnOf (alongH g a) (turnedH g a m direction) y d) (alongL g a .count + y - alongL g a .count) y (omega arith))
-
-  pub turn-k : (y : ℕ) → (d : List ℕ) → jobTurn g a m direction (alongL g a .count + alongH g a .count + y) d ≡ turnOf (alongK g a) (turnedK g a m direction) y d
-  unfolding jobTurn
-  turn-k y d =
-      rw (le-ltb (alongL g a .count + alongH g a .count + y) (alongL g a .count) (omega arith), le-ltb (alongL g a .count + alongH g a .count + y) (alongL g a .count + alongH g a .count) (omega arith))
-      (along (λ y. turnOf (alongK g a) (turnedK g a m direction) y d) (alongL g a .count + alongH g a .count + y - (alongL g a .count + alongH g a .count)) y (omega arith))
-
   by-turn : (P : List ℕ → Type 0) (j : ℕ) (d : List ℕ)
       → ((y : ℕ) → P (turnOf (alongL g a) (turnedL g a m direction) y d)) → ((y : ℕ) → P (turnOf (alongH g a) (turnedH g a m direction) y d)) → ((y : ℕ) → P (turnOf (alongK g a) (turnedK g a m direction) y d))
       → P (jobTurn g a m direction j d)

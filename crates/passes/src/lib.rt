@@ -1,13 +1,7 @@
 // Synthesis and analysis of a whole volume: every line along l, h and k in its turn, in the lent volume. Direction 0 is
 // synthesis, with the tables of the root, direction 1 analysis, with those of its conjugate.
 //
-// The lines of a job are numbered: first those along l, then h, then k, each by rising place of its first pair. A line
-// along l or h is gathered into the scratch, transformed there and scattered back; a line along k is a row of neighbouring
-// pairs and is worked on as a part of the volume.
-pub mod axes; // axes.rt: the plan of a job, its lines by their numbers
-mod lines; // lines.rt: one line along l or h
-mod rows; // rows.rt: one row along k
-
+// Crate axes says what line each number stands for, and volume_lines turns it.
 use axes::Plan;
 ghost use mathlib.Core.Path.{_≡_};
 ghost use mathlib.Core.Bool.{true};
@@ -19,8 +13,10 @@ ghost use Rattle.cell.specs.Volume.{groupOf, volumeLength, factorsIn, packFacto
 ghost use Rattle.cell.specs.Consistency.{consistentFactors, consistentMap};
 ghost use Rattle.cell.specs.Sums.{mapOf, factorsOf};
 ghost use Rattle.cell.specs.Operations.{halvesOf};
-ghost use Rattle.passes.specs.Passes.{turns, lineCount, TablesOf, JobSizes, Lent, Kept};
-ghost use Rattle.passes.specs.Lines.{groupIn, halvesIn, Planned, Fitting, lineTurn, planTurn};
+ghost use Rattle.passes.specs.Passes.{turns};
+ghost use Rattle.axes.specs.Axes.{lineCount, JobSizes};
+ghost use Rattle.volume_lines.specs.Lines.{TablesOf, Lent, Kept};
+ghost use Rattle.axes.specs.Plans.{groupIn, halvesIn, Planned, Fitting, lineTurn, planTurn};
 
 // Synthesis: the packed factors become the map of the cell that they stand for.
 pub fn synthesise<'a>(
@@ -125,8 +121,8 @@ fn turn_volume<'a>(
     }
 }
 
-// Line number j of the job. A row along k is lent as a part of the volume from its offset on.
-pub fn turn_line<'a>(
+// Line number j of the job.
+fn turn_line<'a>(
     m: u32,
     plan: Plan,
     re: &'a [u32; 2880],
@@ -144,11 +140,5 @@ pub fn turn_line<'a>(
     ensures { λ _. ⌜ (now (volume .exit) ≡ lineTurn plan j (now (volume .entry))) × Kept (now (scratch .entry)) (now (scratch .exit)) ⌝ }
 {
     let line = axes::line_at(plan, j);
-    if line.kind == 1 {
-        let start = 2 * line.start;
-        let end = start + 2 * line.count;
-        rows::turn_row(m, line, re, im, tan, &mut volume[start..end], fold, work);
-    } else {
-        lines::turn_gathered(m, line, re, im, tan, volume, scratch, fold, work);
-    }
+    volume_lines::turn(m, line, re, im, tan, volume, scratch, fold, work);
 }

@@ -3,7 +3,7 @@ use native.Mathlib.Omega.{arith}
 use mathlib.Core.Path.{refl, _∙_}
 use Rattle.cell.specs.Volume.{groupOf}
 use Rattle.cell.specs.Operations.{halvesOf}
-use Rattle.passes.specs.Passes.{lineCount}
+use Rattle.axes.specs.Axes.{lineCount}
 use Rattle.passes.proofs.Turns.{turned-along}
 use Rattle.passes.proofs.Whole.{synthesised}
 use Rattle.passes.proofs.synthesise.Statement.{statement}

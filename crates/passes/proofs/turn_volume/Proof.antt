@@ -5,8 +5,9 @@ use Prim.Native.Nat.{_-_}
 use lib.ListN.{length}
 use Rattle.numbers.specs.Prime.{prime}
 use Rattle.slices.specs.Pairs.{Below}
-use Rattle.passes.specs.Passes.{turns, lineOfTurn}
-use Rattle.passes.specs.Lines.{groupIn, halvesIn, planTurn}
+use Rattle.passes.specs.Passes.{turns}
+use Rattle.axes.specs.Axes.{lineOfTurn}
+use Rattle.axes.specs.Plans.{groupIn, halvesIn, planTurn}
 use Rattle.passes.proofs.Turns.{length-turns, below-turns}
 use Rattle.passes.proofs.JobTurns.{Turning, turning-start, planned-next, turning-done, turning-lent}
 use Rattle.passes.proofs.turn_volume.Statement.{statement}

@@ -1,0 +1,170 @@
+-- The line that the code makes of a number is that line of the job; and what is known of it once the code has found it.
+use mathlib.Core.Path.{_≡_, refl, sym, _∙_, ap, subst}
+use mathlib.Core.Logic.{inl, inr}
+use mathlib.Core.List.{List}
+use Prim.Native.Nat.{ℕ, _+_, _*_, _-_, _/_, _%_, _<_, _≤_}
+use native.Mathlib.Omega.{arith}
+use lib.ListN.{length}
+use Rattle.algebra.specs.Kinds.{slots, Kind.plain}
+use Rattle.algebra.proofs.Laws.{along}
+use Rattle.numbers.specs.Prime.{prime}
+use Rattle.slices.specs.Pairs.{Below}
+use Rattle.lengths.specs.Counts.{kindOf, pairCount}
+use Rattle.lengths.specs.Admitted.{AdmittedLength, FactorList}
+use Rattle.cell.specs.Volume.{lineKind, firstPair, volumeLength}
+use Rattle.cell.specs.Operations.{Sizes}
+use Rattle.cell.proofs.Reading.{group-admitted}
+use Rattle.volume_lines.specs.Turned.{turnedLine, turnedRow}
+use Rattle.axes.specs.Axes.{turnOf, alongL, alongH, alongK, lineCount, lineOfTurn, turnedL, turnedH, turnedK}
+use Rattle.volume_lines.specs.Lines.{TablesOf, Sound, TablesFor, Placed, lineTurned}
+use Rattle.volume_lines.proofs.RowLaws.{row-is, gathered-is}
+use Rattle.axes.specs.Plans.{groupIn, halvesIn, Planned, Fitting, lineTurn, Counted, Gathered, Row, LineAt}
+use Rattle.axes.specs.declared.Plan.{Plan}
+use Rattle.axes.specs.declared.Counts.{Counts}
+use Rattle.volume_lines.specs.declared.Line.{Line}
+use Rattle.axes.proofs.Numbered.{by-places, turn-l, turn-h, turn-k, order-k, order-h, order-l}
+use Rattle.axes.proofs.JobTurns.{twice, next, fits-l, turned-l, fits-h, place-h, row-fits, row-low}
+
+-- ---- the lines along each axis
+
+module _ (p : Plan) (ok : Planned p) where
+  abbrev sizes : Sizes (p .group) (p .n1) (p .n2) (p .n3)
+  sizes = ok .sizes .sizes
+
+  abbrev width : ℕ
+  width = p .n2 / 2 + 1
+
+  -- a line of length n = 2 (n / 2) along one of the axes
+  sound : (kind n factors start stride count : ℕ) → kind < 6 → n ≡ 2 * (n / 2) → AdmittedLength n → FactorList n factors
+      → Sound (record { m = p .m; direction = p .direction; kind = kind; factors = factors; half = n / 2; start = start; stride = stride; count = count })
+  sound kind n factors start stride count known e size list = record {
+    modulus = ok .modulus;
+    directed = ok .directed;
+    known = known;
+    size = subst AdmittedLength e size;
+    list = subst (λ n. FactorList n factors) e list;
+  }
+
+  module _ (y kind f count : ℕ) (l : y < alongL (groupIn p) (halvesIn p) .count) (known : kind < 6) (e : kindOf kind ≡ lineKind (groupIn p) (y / width)) (other : kind ≡ 1 → ⊥)
+      (ef : f ≡ firstPair (kindOf kind)) (low : f ≤ 1) (ec : count ≡ pairCount kind (p .n3)) (few : count ≤ 2880) where
+    pub gathered-l : Gathered p (turnOf (alongL (groupIn p) (halvesIn p)) (turnedL (groupIn p) (halvesIn p) (p .m) (p .direction)) y)
+        (record { m = p .m; direction = p .direction; kind = kind; factors = p .f3; half = p .n3 / 2; start = y + f * (p .n1 * width); stride = p .n1 * width; count = count })
+    gathered-l = record {
+      modulus = refl;
+      direction = refl;
+      other = other;
+      placed = record {
+        sound = sound kind (p .n3) (p .f3) _ _ _ known (omega (arith, sizes .third .even)) (ok .sizes .third) (ok .sizes .third-list);
+        counted = ec;
+        low = few;
+        fits = fits-l sizes y kind f count e ef low ec (group-admitted (p .group)) l;
+      };
+      turn = turned-l sizes y kind f count e ef low ec (p .m) (p .direction);
+    }
+
+  module _ (y : ℕ) (l : y < alongH (groupIn p) (halvesIn p) .count) where
+    pub gathered-h : Gathered p (turnOf (alongH (groupIn p) (halvesIn p)) (turnedH (groupIn p) (halvesIn p) (p .m) (p .direction)) y)
+        (record { m = p .m; direction = p .direction; kind = 0; factors = p .f1; half = p .n1 / 2; start = y / width * (p .n1 * width) + y % width; stride = width; count = p .n1 })
+    unfolding slots
+    gathered-h = record {
+      modulus = refl;
+      direction = refl;
+      other = λ e. omega arith;
+      placed = record {
+        sound = sound 0 (p .n1) (p .f1) _ _ _ (omega arith) (twice sizes) (ok .sizes .first) (ok .sizes .first-list);
+        counted = twice sizes;
+        low = sizes .first .high;
+        fits = fits-h sizes y l;
+      };
+      turn = λ v. by-places (alongH (groupIn p) (halvesIn p)) (turnedH (groupIn p) (halvesIn p) (p .m) (p .direction)) y (p .n1) _ (turnedLine (p .m) (p .n1 / 2) (p .direction) plain) v _ (twice sizes) (λ j lj. place-h sizes y l j) (λ x. refl) refl;
+    }
+
+  module _ (y : ℕ) (l : y < alongK (groupIn p) (halvesIn p) .count) where
+    pub row-k : Row p (turnOf (alongK (groupIn p) (halvesIn p)) (turnedK (groupIn p) (halvesIn p) (p .m) (p .direction)) y)
+        (record { m = p .m; direction = p .direction; kind = 1; factors = p .f2; half = p .n2 / 2; start = y * width; stride = 1; count = width })
+    row-k = record {
+      modulus = refl;
+      direction = refl;
+      placed = record {
+        sound = sound 1 (p .n2) (p .f2) _ _ _ (omega arith) (omega (arith, sizes .second .even)) (ok .sizes .second) (ok .sizes .second-list);
+        hermitian = refl;
+        counted = refl;
+        fits = row-fits sizes y l;
+        low = row-low sizes y l;
+      };
+      turn = λ v. by-places (alongK (groupIn p) (halvesIn p)) (turnedK (groupIn p) (halvesIn p) (p .m) (p .direction)) y width (λ j. y * width + j) (turnedRow (p .m) (p .n2 / 2) (p .direction)) v _ (next sizes) (λ j lj. ap (λ k. y * k + j) (next sizes)) (λ x. refl) refl;
+    }
+
+-- ---- which line a number stands for
+
+module _ {p : Plan} {x : Line} {step other : List ℕ → List ℕ} (e : (v : List ℕ) → other v ≡ step v) where
+  gathered-as : Gathered p step x → Gathered p other x
+  gathered-as g = record { modulus = g .modulus; direction = g .direction; other = g .other; placed = g .placed; turn = λ v. g .turn v ∙ sym (e v) }
+
+  row-as : Row p step x → Row p other x
+  row-as r = record { modulus = r .modulus; direction = r .direction; placed = r .placed; turn = λ v. r .turn v ∙ sym (e v) }
+
+module _ (p : Plan) (c : Counts) (counts : Counted p c) (j : ℕ) {x : Line} where
+  pub at-l : j < c .l → Gathered p (turnOf (alongL (groupIn p) (halvesIn p)) (turnedL (groupIn p) (halvesIn p) (p .m) (p .direction)) j) x → LineAt p j x
+  at-l lt g = inl (gathered-as
+      (λ v. along (λ q. lineTurn p q v) j (0 + j) (omega arith) ∙ turn-l (groupIn p) (halvesIn p) (p .m) (p .direction) j (omega (arith, counts .l)) v) g)
+
+  pub at-h : c .l ≤ j → j < c .l + c .h → Gathered p (turnOf (alongH (groupIn p) (halvesIn p)) (turnedH (groupIn p) (halvesIn p) (p .m) (p .direction)) (j - c .l)) x → LineAt p j x
+  at-h ge lt g = inl (gathered-as
+      (λ v. along (λ q. lineTurn p q v) j (alongL (groupIn p) (halvesIn p) .count + (j - c .l)) (omega (arith, counts .l)) ∙ turn-h (groupIn p) (halvesIn p) (p .m) (p .direction) (j - c .l) (omega (arith, counts .h)) v) g)
+
+  pub at-k : c .l + c .h ≤ j → Row p (turnOf (alongK (groupIn p) (halvesIn p)) (turnedK (groupIn p) (halvesIn p) (p .m) (p .direction)) (j - (c .l + c .h))) x → LineAt p j x
+  at-k ge r = inr (row-as
+      (λ v. along (λ q. lineTurn p q v) j (alongL (groupIn p) (halvesIn p) .count + alongH (groupIn p) (halvesIn p) .count + (j - (c .l + c .h))) (omega (arith, counts .l, counts .h)) ∙ turn-k (groupIn p) (halvesIn p) (p .m) (p .direction) (j - (c .l + c .h)) v) r)
+
+-- ---- the line that was found
+
+module _ (p : Plan) (j : ℕ) (x : Line) where
+  pub modulus-is : LineAt p j x → x .m ≡ p .m
+  modulus-is (inl g) = g .modulus
+  modulus-is (inr r) = r .modulus
+
+  pub turned-as : LineAt p j x → (v : List ℕ) → lineTurned x v ≡ lineTurn p j v
+  turned-as (inl g) v = sym (gathered-is x v (g .other)) ∙ g .turn v
+  turned-as (inr r) v = sym (row-is x v (r .placed .hermitian)) ∙ r .turn v
+
+  -- it can be turned in a volume of the job, with the job's tables
+  module _ (v re im tan : List ℕ) (f : Fitting p v) (t : TablesOf (p .m) (p .direction) re im tan) where
+    ready : x .m ≡ p .m → x .direction ≡ p .direction → Placed (volumeLength (groupIn p) (halvesIn p)) x → (Placed (length v) x × TablesFor x re im tan) × Below (prime (x .m)) v
+    ready em ed placed = (
+      (subst (λ n. Placed n x) (sym (f .long)) placed, subst (λ d. TablesOf (x .m) d re im tan) (sym ed) (subst (λ m. TablesOf m (p .direction) re im tan) (sym em) t)),
+      subst (λ m. Below (prime m) v) (sym em) (f .small),
+    )
+
+    pub line-ready : LineAt p j x → (Placed (length v) x × TablesFor x re im tan) × Below (prime (x .m)) v
+    line-ready (inl g) = ready (g .modulus) (g .direction) (inl (g .other, g .placed))
+    line-ready (inr r) = ready (r .modulus) (r .direction) (inr (r .placed))
+
+-- ---- the order of the turns
+
+module _ (p : Plan) (c : Counts) (counts : Counted p c) (n : ℕ) (low : n < lineCount (groupIn p) (halvesIn p)) where
+  abbrev TurnOf : ℕ → Type 0
+  TurnOf j = (j ≡ lineOfTurn (groupIn p) (halvesIn p) (p .direction) n) × (j < lineCount (groupIn p) (halvesIn p))
+
+  pub turn-same : p .direction ≡ 0 → TurnOf n
+  unfolding lineOfTurn
+  turn-same e = (ap (λ d. lineOfTurn (groupIn p) (halvesIn p) d n) (sym e), low)
+
+  module _ (back : p .direction ≡ 1) where
+    taken : (j : ℕ) → j ≡ lineOfTurn (groupIn p) (halvesIn p) 1 n → j < lineCount (groupIn p) (halvesIn p) → TurnOf j
+    taken j e l = (e ∙ ap (λ d. lineOfTurn (groupIn p) (halvesIn p) d n) (sym back), l)
+
+    pub turn-back-k : n < c .k → TurnOf (c .l + c .h + n)
+    turn-back-k l = taken _
+        (omega (arith, counts .l, counts .h, along (lineOfTurn (groupIn p) (halvesIn p) 1) n (0 + n) (omega arith) ∙ order-k (groupIn p) (halvesIn p) n (omega (arith, counts .k))))
+        (omega (arith, counts .l, counts .h, counts .k))
+
+    pub turn-back-h : c .k ≤ n → n < c .k + c .h → TurnOf (c .l + (n - c .k))
+    turn-back-h g l = taken _
+        (omega (arith, counts .l, along (lineOfTurn (groupIn p) (halvesIn p) 1) n (alongK (groupIn p) (halvesIn p) .count + (n - c .k)) (omega (arith, counts .k)) ∙ order-h (groupIn p) (halvesIn p) (n - c .k) (omega (arith, counts .h))))
+        (omega (arith, counts .l, counts .h, counts .k))
+
+    pub turn-back-l : c .k + c .h ≤ n → TurnOf (n - (c .k + c .h))
+    turn-back-l g = taken _
+        (omega (arith, along (lineOfTurn (groupIn p) (halvesIn p) 1) n (alongK (groupIn p) (halvesIn p) .count + alongH (groupIn p) (halvesIn p) .count + (n - (c .k + c .h))) (omega (arith, counts .k, counts .h)) ∙ order-l (groupIn p) (halvesIn p) (n - (c .k + c .h)) (omega (arith, counts .k, counts .h))))
+        (omega (arith, counts .l, counts .h, counts .k))

@@ -29,7 +29,7 @@ pub struct Counts {
 }
 
 // How many lines there are along each axis.
-pub fn line_counts(plan: Plan) -> Counts
+fn line_counts(plan: Plan) -> Counts
     requires { ⌜ SizesIn plan ⌝ }
     ensures { λ r. ⌜ Counted plan r ⌝ }
 {
@@ -52,8 +52,16 @@ pub fn line_count(plan: Plan) -> usize
     counts.l + counts.h + counts.k
 }
 
-// The number of the line that turn n transforms: analysis takes the axes in the other order.
-pub fn line_of_turn(plan: Plan, n: usize) -> usize
+// The line that turn n transforms.
+pub fn line_in_turn(plan: Plan, n: usize) -> Line
+    requires { ⌜ Planned plan × (n < lineCount (groupIn plan) (halvesIn plan)) ⌝ }
+    ensures { λ r. ⌜ LineAt plan (lineOfTurn (groupIn plan) (halvesIn plan) (plan .direction) n) r ⌝ }
+{
+    line_at(plan, line_of_turn(plan, n))
+}
+
+// Its number: analysis takes the axes in the other order.
+fn line_of_turn(plan: Plan, n: usize) -> usize
     requires { ⌜ Planned plan × (n < lineCount (groupIn plan) (halvesIn plan)) ⌝ }
     ensures { λ r. ⌜ (r ≡ lineOfTurn (groupIn plan) (halvesIn plan) (plan .direction) n) × (r < lineCount (groupIn plan) (halvesIn plan)) ⌝ }
 {
@@ -70,7 +78,7 @@ pub fn line_of_turn(plan: Plan, n: usize) -> usize
 }
 
 // Line number j.
-pub fn line_at(plan: Plan, j: usize) -> Line
+fn line_at(plan: Plan, j: usize) -> Line
     requires { ⌜ Planned plan × (j < lineCount (groupIn plan) (halvesIn plan)) ⌝ }
     ensures { λ r. ⌜ LineAt plan j r ⌝ }
 {
@@ -105,7 +113,7 @@ fn along_l(plan: Plan, y: usize) -> Line
 }
 
 // The kind of the line along l at h.
-pub fn line_kind(group: u32, h: usize) -> u32
+fn line_kind(group: u32, h: usize) -> u32
     requires { ⌜ group < 4 ⌝ }
     ensures { λ r. ⌜ (r < 6) × (kindOf r ≡ lineKind (groupOf group) h) × (r ≡ 1 → ⊥) ⌝ }
 {
@@ -123,7 +131,7 @@ pub fn line_kind(group: u32, h: usize) -> u32
 }
 
 // The first of the W pairs that belongs to a line of the kind.
-pub fn first_pair(kind: u32) -> usize
+fn first_pair(kind: u32) -> usize
     requires { ⌜ kind < 6 ⌝ }
     ensures { λ r. ⌜ (r ≡ firstPair (kindOf kind)) × (r ≤ 1) ⌝ }
 {

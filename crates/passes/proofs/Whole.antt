@@ -20,13 +20,13 @@ use Rattle.cell.specs.Volume.{groupOf, volumeLength, factorsIn, packFactors, ma
 use Rattle.cell.specs.Consistency.{consistentFactors, consistentMap}
 use Rattle.cell.specs.Sums.{axis, mapOf, factorsOf}
 use Rattle.cell.specs.Operations.{halvesOf}
-use Rattle.passes.specs.Passes.{turns}
+use Rattle.turns.specs.Turns.{turns}
 use Rattle.axes.specs.Axes.{alongL, alongH, alongK, lineCount, turnedL, turnedH, turnedK, jobTurn, JobSizes}
 use Rattle.cell.proofs.Reading.{group-admitted}
 use Rattle.cell.proofs.Consistency.{consistent-read}
 use Rattle.cell.proofs.Maps.{consistent-map-read}
 use Rattle.passes.proofs.PassLaws.{synthesis-passes, analysis-passes}
-use Rattle.passes.proofs.Turns.{turns-add, turns-sweep}
+use Rattle.turns.proofs.Turns.{turns-add, turns-sweep}
 use Rattle.axes.proofs.Numbered.{turn-l, turn-h, turn-k}
 
 module _ (g : Group) (a : J) (m direction : ℕ) where

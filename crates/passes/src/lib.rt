@@ -1,11 +1,10 @@
 // Synthesis and analysis of a whole volume: every line along l, h and k in its turn, in the lent volume. Direction 0 is
 // synthesis, with the tables of the root, direction 1 analysis, with those of its conjugate.
 //
-// Crate axes says what line each number stands for, and volume_lines turns it.
+// Crate turns has the loop. Here it is shown that its turns together are the triple sum and its inverse.
 use axes::Plan;
 ghost use mathlib.Core.Path.{_≡_};
 ghost use mathlib.Core.Bool.{true};
-ghost use Prim.Native.Nat.{_<_};
 ghost use lib.ListN.{length};
 ghost use Rattle.numbers.specs.Prime.{prime, IsModulus};
 ghost use Rattle.slices.specs.Pairs.{Below};
@@ -13,10 +12,8 @@ ghost use Rattle.cell.specs.Volume.{groupOf, volumeLength, factorsIn, packFacto
 ghost use Rattle.cell.specs.Consistency.{consistentFactors, consistentMap};
 ghost use Rattle.cell.specs.Sums.{mapOf, factorsOf};
 ghost use Rattle.cell.specs.Operations.{halvesOf};
-ghost use Rattle.passes.specs.Passes.{turns};
-ghost use Rattle.axes.specs.Axes.{lineCount, JobSizes};
+ghost use Rattle.axes.specs.Axes.{JobSizes};
 ghost use Rattle.volume_lines.specs.Lines.{TablesOf, Lent, Kept};
-ghost use Rattle.axes.specs.Plans.{groupIn, halvesIn, Planned, Fitting, lineTurn, planTurn};
 
 // Synthesis: the packed factors become the map of the cell that they stand for.
 pub fn synthesise<'a>(
@@ -53,7 +50,7 @@ pub fn synthesise<'a>(
         f2,
         f3,
     };
-    turn_volume(m, plan, re, im, tan, volume, scratch, fold, work);
+    turns::turn_volume(m, plan, re, im, tan, volume, scratch, fold, work);
 }
 
 // Analysis: the map becomes the packed factors of the cell whose map it is. The axes go in the other order.
@@ -91,54 +88,5 @@ pub fn analyse<'a>(
         f2,
         f3,
     };
-    turn_volume(m, plan, re, im, tan, volume, scratch, fold, work);
-}
-
-// Every line of the job, one after the other. The modulus goes down beside the plan as a number of its own, so that the
-// compiler can see the constant that the calls hand in.
-fn turn_volume<'a>(
-    m: u32,
-    plan: Plan,
-    re: &'a [u32; 2880],
-    im: &'a [u32; 2880],
-    tan: &'a [u32; 1440],
-    volume: &mut [u32],
-    scratch: &mut [u32],
-    fold: &mut [u32],
-    work: &mut [u32],
-)
-    requires { ⌜ Planned plan × TablesOf (plan .m) (plan .direction) (now re) (now im) (now tan) × (m ≡ plan .m) ⌝ }
-    requires { ⌜ Fitting plan (now volume) ⌝ }
-    requires { ⌜ Lent (now scratch) (now fold) (now work) ⌝ }
-    ensures { λ _. ⌜ (now (volume .exit) ≡ turns (planTurn plan) 0 (lineCount (groupIn plan) (halvesIn plan)) (now (volume .entry))) × Kept (now (scratch .entry)) (now (scratch .exit)) ⌝ }
-{
-    let count = axes::line_count(plan);
-    let mut n = 0;
-    while n < count {
-        let j = axes::line_of_turn(plan, n);
-        turn_line(m, plan, re, im, tan, j, volume, scratch, fold, work);
-        n += 1;
-    }
-}
-
-// Line number j of the job.
-fn turn_line<'a>(
-    m: u32,
-    plan: Plan,
-    re: &'a [u32; 2880],
-    im: &'a [u32; 2880],
-    tan: &'a [u32; 1440],
-    j: usize,
-    volume: &mut [u32],
-    scratch: &mut [u32],
-    fold: &mut [u32],
-    work: &mut [u32],
-)
-    requires { ⌜ Planned plan × TablesOf (plan .m) (plan .direction) (now re) (now im) (now tan) × (m ≡ plan .m) ⌝ }
-    requires { ⌜ Fitting plan (now volume) × (j < lineCount (groupIn plan) (halvesIn plan)) ⌝ }
-    requires { ⌜ Lent (now scratch) (now fold) (now work) ⌝ }
-    ensures { λ _. ⌜ (now (volume .exit) ≡ lineTurn plan j (now (volume .entry))) × Kept (now (scratch .entry)) (now (scratch .exit)) ⌝ }
-{
-    let line = axes::line_at(plan, j);
-    volume_lines::turn(m, line, re, im, tan, volume, scratch, fold, work);
+    turns::turn_volume(m, plan, re, im, tan, volume, scratch, fold, work);
 }

@@ -3,7 +3,7 @@ use native.Mathlib.Omega.{arith}
 use mathlib.Core.Path.{refl, _∙_}
 use Rattle.cell.specs.Volume.{groupOf}
 use Rattle.cell.specs.Operations.{halvesOf}
-use Rattle.passes.proofs.Turns.{turned-back}
+use Rattle.turns.proofs.Turns.{turned-back}
 use Rattle.passes.proofs.Whole.{analysed}
 use Rattle.passes.proofs.analyse.Statement.{statement}
 use Rattle.passes.proofs.analyse.Tie as tie

@@ -4,7 +4,7 @@ use mathlib.Core.Path.{refl, _∙_}
 use Rattle.cell.specs.Volume.{groupOf}
 use Rattle.cell.specs.Operations.{halvesOf}
 use Rattle.axes.specs.Axes.{lineCount}
-use Rattle.passes.proofs.Turns.{turned-along}
+use Rattle.turns.proofs.Turns.{turned-along}
 use Rattle.passes.proofs.Whole.{synthesised}
 use Rattle.passes.proofs.synthesise.Statement.{statement}
 use Rattle.passes.proofs.synthesise.Tie as tie

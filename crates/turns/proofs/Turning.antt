@@ -1,16 +1,18 @@
 -- The loop over the lines of a job.
-use mathlib.Core.Path.{_≡_, refl, sym, _∙_, ap}
+use mathlib.Core.Path.{_≡_, refl, sym, _∙_, ap, subst}
 use mathlib.Core.List.{List}
 use Prim.Native.Nat.{ℕ, _+_, _<_, _≤_}
 use native.Mathlib.Omega.{arith}
 use lib.ListN.{length}
 use Rattle.algebra.proofs.Laws.{along}
+use Rattle.numbers.specs.Prime.{prime}
+use Rattle.slices.specs.Pairs.{Below}
 use Rattle.volume_lines.specs.Lines.{Lent, Kept}
 use Rattle.axes.specs.Axes.{lineOfTurn}
-use Rattle.axes.specs.Plans.{groupIn, halvesIn, lineTurn, planTurn}
+use Rattle.axes.specs.Plans.{groupIn, halvesIn, Fitting, planTurn}
 use Rattle.axes.specs.declared.Plan.{Plan}
-use Rattle.passes.specs.Passes.{turns}
-use Rattle.passes.proofs.Turns.{turns-next}
+use Rattle.turns.specs.Turns.{turns}
+use Rattle.turns.proofs.Turns.{turns-next, length-turns, below-turns}
 
 -- n of count turns are done
 pub record Turning (step : ℕ → List ℕ → List ℕ) (count n : ℕ) (v₀ v s₀ s fold₀ fold work₀ work : List ℕ) : Type 0 where
@@ -43,8 +45,13 @@ module _ {step : ℕ → List ℕ → List ℕ} {count n : ℕ} {v₀ v s₀ s f
   pub turning-lent : Turning step count n v₀ v s₀ s fold₀ fold work₀ work → Lent s₀ fold₀ work₀ → Lent s fold work
   turning-lent t l = record { scratch-fits = omega (arith, t .scratch-long, l .scratch-fits); fold-fits = omega (arith, t .fold-long, l .fold-fits); work-fits = omega (arith, t .work-long, l .work-fits) }
 
-module _ {count n : ℕ} {v₀ v s₀ s fold₀ fold work₀ work : List ℕ} where
-  -- the turn of the plan's line j
-  pub planned-next : (p : Plan) (j : ℕ) {v′ s′ fold′ work′ : List ℕ} → Turning (planTurn p) count n v₀ v s₀ s fold₀ fold work₀ work → n < count → v′ ≡ lineTurn p j v → j ≡ lineOfTurn (groupIn p) (halvesIn p) (p .direction) n → Kept s s′ → length s′ ≡ length s → length fold′ ≡ length fold → length work′ ≡ length work
-      → Turning (planTurn p) count (n + 1) v₀ v′ s₀ s′ fold₀ fold′ work₀ work′
-  planned-next p j t l e q = turning-next t l (e ∙ ap (λ j. lineTurn p j v) q)
+-- the volume of a job remains one
+module _ (p : Plan) {count n : ℕ} {v₀ v s₀ s fold₀ fold work₀ work : List ℕ} (t : Turning (planTurn p) count n v₀ v s₀ s fold₀ fold work₀ work) where
+  pub turning-length : length v ≡ length v₀
+  turning-length = ap length (t .is) ∙ length-turns (groupIn p) (halvesIn p) (p .m) (p .direction) (lineOfTurn (groupIn p) (halvesIn p) (p .direction)) n v₀
+
+  pub turning-fits : Fitting p v₀ → Fitting p v
+  turning-fits f = record {
+    long = turning-length ∙ f .long;
+    small = subst (Below (prime (p .m))) (sym (t .is)) (below-turns (groupIn p) (halvesIn p) (p .m) (p .direction) (lineOfTurn (groupIn p) (halvesIn p) (p .direction)) n v₀ (f .small));
+  }

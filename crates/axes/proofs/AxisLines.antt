@@ -1,27 +1,25 @@
 -- The line that the code makes of a number is that line of the job; and what is known of it once the code has found it.
 use mathlib.Core.Path.{_≡_, refl, sym, _∙_, ap, subst}
 use mathlib.Core.Logic.{inl, inr}
+use mathlib.Core.Bool.{cond}
 use mathlib.Core.List.{List}
 use Prim.Native.Nat.{ℕ, _+_, _*_, _-_, _/_, _%_, _<_, _≤_}
 use native.Mathlib.Omega.{arith}
-use lib.ListN.{length}
+use borrow.Author.Tests.{eq-eqb, ne-eqb}
 use Rattle.algebra.specs.Kinds.{slots, Kind.plain}
 use Rattle.algebra.proofs.Laws.{along}
-use Rattle.numbers.specs.Prime.{prime}
-use Rattle.slices.specs.Pairs.{Below}
 use Rattle.lengths.specs.Counts.{kindOf, pairCount}
 use Rattle.lengths.specs.Admitted.{AdmittedLength, FactorList}
-use Rattle.cell.specs.Volume.{lineKind, firstPair, volumeLength}
+use Rattle.cell.specs.Volume.{lineKind, firstPair}
 use Rattle.cell.specs.Operations.{Sizes}
 use Rattle.cell.proofs.Reading.{group-admitted}
-use Rattle.volume_lines.specs.Turned.{turnedLine, turnedRow}
+use Rattle.axes.specs.Turned.{turnedLine, turnedRow}
 use Rattle.axes.specs.Axes.{turnOf, alongL, alongH, alongK, lineCount, lineOfTurn, turnedL, turnedH, turnedK}
-use Rattle.volume_lines.specs.Lines.{TablesOf, Sound, TablesFor, Placed, lineTurned}
-use Rattle.volume_lines.proofs.RowLaws.{row-is, gathered-is}
-use Rattle.axes.specs.Plans.{groupIn, halvesIn, Planned, Fitting, lineTurn, Counted, Gathered, Row, LineAt}
+use Rattle.axes.specs.Lines.{Sound, gatheredTurn, rowTurn, lineTurned}
+use Rattle.axes.specs.Plans.{groupIn, halvesIn, Planned, lineTurn, Counted, Gathered, Row, LineAt}
 use Rattle.axes.specs.declared.Plan.{Plan}
 use Rattle.axes.specs.declared.Counts.{Counts}
-use Rattle.volume_lines.specs.declared.Line.{Line}
+use Rattle.axes.specs.declared.Line.{Line}
 use Rattle.axes.proofs.Numbered.{by-places, turn-l, turn-h, turn-k, order-k, order-h, order-l}
 use Rattle.axes.proofs.JobTurns.{twice, next, fits-l, turned-l, fits-h, place-h, row-fits, row-low}
 
@@ -119,6 +117,13 @@ module _ (p : Plan) (c : Counts) (counts : Counted p c) (j : ℕ) {x : Line} whe
 
 -- ---- the line that was found
 
+module _ (x : Line) (v : List ℕ) where
+  pub row-is : x .kind ≡ 1 → rowTurn x v ≡ lineTurned x v
+  row-is e = ap (λ b. cond b (rowTurn x v) (gatheredTurn x v)) (sym (eq-eqb _ _ e))
+
+  pub gathered-is : (x .kind ≡ 1 → ⊥) → gatheredTurn x v ≡ lineTurned x v
+  gathered-is n = ap (λ b. cond b (rowTurn x v) (gatheredTurn x v)) (sym (ne-eqb _ _ n))
+
 module _ (p : Plan) (j : ℕ) (x : Line) where
   pub modulus-is : LineAt p j x → x .m ≡ p .m
   modulus-is (inl g) = g .modulus
@@ -127,18 +132,6 @@ module _ (p : Plan) (j : ℕ) (x : Line) where
   pub turned-as : LineAt p j x → (v : List ℕ) → lineTurned x v ≡ lineTurn p j v
   turned-as (inl g) v = sym (gathered-is x v (g .other)) ∙ g .turn v
   turned-as (inr r) v = sym (row-is x v (r .placed .hermitian)) ∙ r .turn v
-
-  -- it can be turned in a volume of the job, with the job's tables
-  module _ (v re im tan : List ℕ) (f : Fitting p v) (t : TablesOf (p .m) (p .direction) re im tan) where
-    ready : x .m ≡ p .m → x .direction ≡ p .direction → Placed (volumeLength (groupIn p) (halvesIn p)) x → (Placed (length v) x × TablesFor x re im tan) × Below (prime (x .m)) v
-    ready em ed placed = (
-      (subst (λ n. Placed n x) (sym (f .long)) placed, subst (λ d. TablesOf (x .m) d re im tan) (sym ed) (subst (λ m. TablesOf m (p .direction) re im tan) (sym em) t)),
-      subst (λ m. Below (prime m) v) (sym em) (f .small),
-    )
-
-    pub line-ready : LineAt p j x → (Placed (length v) x × TablesFor x re im tan) × Below (prime (x .m)) v
-    line-ready (inl g) = ready (g .modulus) (g .direction) (inl (g .other, g .placed))
-    line-ready (inr r) = ready (r .modulus) (r .direction) (inr (r .placed))
 
 -- ---- the order of the turns
 

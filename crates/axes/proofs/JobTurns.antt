@@ -13,8 +13,8 @@ use Rattle.slices.proofs.Layouts.{fits-second}
 use Rattle.lengths.specs.Counts.{kindOf, pairCount}
 use Rattle.cell.specs.Volume.{Admitted, groupOf, lineKind, firstPair, layers, rows, columns, volumeLength}
 use Rattle.cell.specs.Operations.{halvesOf, Sizes}
-use Rattle.volume_lines.specs.Turned.{turnedLine}
-use Rattle.volume_lines.specs.Lines.{turnedAt}
+use Rattle.axes.specs.Turned.{turnedLine}
+use Rattle.axes.specs.Lines.{turnedAt}
 use Rattle.axes.specs.Axes.{turnOf, kindAt, alongL, alongH, alongK, turnedL}
 use Rattle.axes.proofs.Numbered.{by-places}
 

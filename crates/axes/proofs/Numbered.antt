@@ -90,3 +90,8 @@ kind-even group h l a b c q = rw (ap groupOf (third-group group l a b c), even-i
 
 pub kind-odd : (group h : ℕ) → group < 4 → (group ≡ 0 → ⊥) → (group ≡ 1 → ⊥) → (group ≡ 2 → ⊥) → (h % 2 ≡ 0 → ⊥) → kindOf 5 ≡ lineKind (groupOf group) h
 kind-odd group h l a b c q = rw (ap groupOf (third-group group l a b c), odd-is h q) refl
+
+-- ---- directions
+
+pub other-direction : (direction : ℕ) → direction < 2 → (direction ≡ 0 → ⊥) → direction ≡ 1
+other-direction direction l e = omega arith

@@ -10,7 +10,7 @@ use Rattle.slices.specs.Sweep.{Layout, lineOf, setLine, onLists, alongSecond, a
 use Rattle.lengths.specs.Admitted.{AdmittedLength, FactorList}
 use Rattle.cell.specs.Volume.{lineKind, firstPair, layers, rows, columns}
 use Rattle.cell.specs.Operations.{Sizes}
-use Rattle.volume_lines.specs.Turned.{turnedLine, turnedRow}
+use Rattle.axes.specs.Turned.{turnedLine, turnedRow}
 
 -- line y of the list d becomes what G makes of it
 abbrev pub turnOf : Layout → (ℕ → List ℕ → List ℕ) → ℕ → List ℕ → List ℕ

@@ -1,2 +1,4 @@
+pub mod Turned
+pub mod Lines
 pub mod Axes
 pub mod Plans

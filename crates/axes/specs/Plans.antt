@@ -9,8 +9,8 @@ use Rattle.numbers.specs.Prime.{prime, IsModulus}
 use Rattle.slices.specs.Pairs.{Below}
 use Rattle.cell.specs.Volume.{groupOf, volumeLength}
 use Rattle.cell.specs.Operations.{halvesOf}
-use Rattle.volume_lines.specs.declared.Line.{Line}
-use Rattle.volume_lines.specs.Lines.{gatheredTurn, rowTurn, Spaced, Beside}
+use Rattle.axes.specs.declared.Line.{Line}
+use Rattle.axes.specs.Lines.{gatheredTurn, rowTurn, Spaced, Beside}
 use Rattle.axes.specs.Axes.{alongL, alongH, alongK, jobTurn, lineOfTurn, JobSizes}
 use Rattle.axes.specs.declared.Plan.{Plan}
 use Rattle.axes.specs.declared.Counts.{Counts}

@@ -1,6 +1,5 @@
 // The lines of a job, by their numbers: first those along l, then h, then k, each by rising place of its first pair. All
 // that a line's turn has to know of the job is computed here, so that the turns themselves carry few numbers.
-use volume_lines::Line;
 ghost use mathlib.Core.Path.{_≡_};
 ghost use Prim.Native.Nat.{_*_, _<_, _≤_};
 ghost use Rattle.cell.specs.Volume.{groupOf, lineKind, firstPair};
@@ -26,6 +25,18 @@ pub struct Counts {
     pub l: usize,
     pub h: usize,
     pub k: usize,
+}
+
+// A packed line of 2 half values, and its pairs in the volume: count of them, at start, start + stride, ..
+pub struct Line {
+    pub m: u32,
+    pub direction: u32,
+    pub kind: u32,
+    pub factors: u32,
+    pub half: usize,
+    pub start: usize,
+    pub stride: usize,
+    pub count: usize,
 }
 
 // How many lines there are along each axis.

@@ -39,7 +39,7 @@ use Rattle.slices.proofs.Pairs.{at-tab}
 use Rattle.cell.specs.Volume.{Admitted, lineKind, firstPair, layers, rows, columns, volumeOf, packed, packFactors, mapPair, packMap}
 use Rattle.cell.specs.Consistency.{RealMap, ObeysGroup}
 use Rattle.cell.specs.Sums.{axis, mapOf, factorsOf}
-use Rattle.volume_lines.specs.Turned.{forwardValues, inverseValues, joined, parted, forwardRow, inverseRow}
+use Rattle.axes.specs.Turned.{forwardValues, inverseValues, joined, parted, forwardRow, inverseRow}
 use Rattle.axes.specs.Axes.{alongL, alongH, alongK, turnedL, turnedH, turnedK}
 use Rattle.cell.proofs.VolumeLayout.{volume-cong, by-row, mapPair-low, mapPair-end}
 use Rattle.cell.proofs.LineReading.{by-half, packed-in, packed-first, packed-last}

@@ -1,2 +1,3 @@
 pub mod Turns
 pub mod Turning
+pub mod Ready

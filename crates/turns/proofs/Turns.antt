@@ -23,7 +23,7 @@ use Rattle.slices.proofs.Values.{below-list}
 use Rattle.axes.specs.Axes.{turnOf, alongL, alongH, alongK, lineCount, lineOfTurn, turnedL, turnedH, turnedK, jobTurn}
 use Rattle.axes.proofs.Numbered.{order-k, order-h, order-l}
 use Rattle.turns.specs.Turns.{turns}
-use Rattle.volume_lines.specs.Turned.{parted, turnedLine, turnedRow}
+use Rattle.axes.specs.Turned.{parted, turnedLine, turnedRow}
 
 module _ (step : ℕ → List ℕ → List ℕ) where
   pub turns-next : (j n : ℕ) (d : List ℕ) → turns step j (n + 1) d ≡ step (j + n) (turns step j n d)

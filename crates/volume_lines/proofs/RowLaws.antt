@@ -1,12 +1,10 @@
 -- A row along k that is lent as a part of the volume: what it is after the numbers of its ends have moved, and what the volume then holds.
 use mathlib.Core.Path.{_≡_, refl, sym, _∙_, ap, subst}
 use mathlib.Core.Logic.{inl, inr}
-use mathlib.Core.Bool.{cond}
 use mathlib.Core.List.{List, _++_}
-use Prim.Native.Nat.{ℕ, zero, suc, _+_, _*_, _<_}
+use Prim.Native.Nat.{ℕ, zero, suc, _+_, _*_}
 use native.Mathlib.Omega.{arith}
 use lib.ListN.{length, take, drop, getD, set, length-append, length-drop, length-set}
-use borrow.Author.Tests.{eq-eqb, ne-eqb}
 use Rattle.algebra.specs.Kinds.{Kind.hermitian, slots}
 use Rattle.numbers.specs.Prime.{prime, IsModulus}
 use Rattle.slices.specs.Pairs.{at, puts, Below}
@@ -17,9 +15,10 @@ use Rattle.slices.proofs.Bounds.{below-set, below-take}
 use Rattle.lengths.specs.Counts.{kindOf}
 use Rattle.kinds.proofs.Dispatch.{prefix-length}
 use Rattle.lengths.specs.Admitted.{AdmittedLength}
-use Rattle.volume_lines.specs.Turned.{turnedLine, turnedRow}
-use Rattle.volume_lines.specs.Lines.{opened, closed, Sound, Spaced, Beside, Placed, turnedPacked, gatheredTurn, rowTurn, lineTurned}
-use Rattle.volume_lines.specs.declared.Line.{Line}
+use Rattle.axes.specs.Turned.{turnedLine, turnedRow}
+use Rattle.volume_lines.specs.Lines.{opened, closed}
+use Rattle.axes.specs.Lines.{Sound, Spaced, Beside, Placed, turnedPacked, rowTurn}
+use Rattle.axes.specs.declared.Line.{Line}
 use Rattle.volume_lines.proofs.TurnLaws.{length-turned, row-forward, row-inverse}
 
 -- ---- the ends of a row
@@ -106,10 +105,3 @@ module _ {len : ℕ} (x : Line) where
   pub spaced : Placed len x → (x .kind ≡ 1 → ⊥) → Spaced len x
   spaced (inl s) n = s .1
   spaced (inr b) n = absurd (n (b .hermitian))
-
-module _ (x : Line) (v : List ℕ) where
-  pub row-is : x .kind ≡ 1 → rowTurn x v ≡ lineTurned x v
-  row-is e = ap (λ b. cond b (rowTurn x v) (gatheredTurn x v)) (sym (eq-eqb _ _ e))
-
-  pub gathered-is : (x .kind ≡ 1 → ⊥) → gatheredTurn x v ≡ lineTurned x v
-  gathered-is n = ap (λ b. cond b (rowTurn x v) (gatheredTurn x v)) (sym (ne-eqb _ _ n))

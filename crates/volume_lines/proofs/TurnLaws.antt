@@ -33,7 +33,7 @@ use Rattle.kinds.proofs.Axes.{own, axis-own}
 use Rattle.kinds.proofs.Reading.{forward-cong, back-cong}
 use Rattle.cell.proofs.LineReading.{by-half}
 use Rattle.cell.specs.Sums.{axis}
-use Rattle.volume_lines.specs.Turned.{turnedLine, forwardValues, inverseValues, joined, parted, forwardRow, inverseRow}
+use Rattle.axes.specs.Turned.{turnedLine, forwardValues, inverseValues, joined, parted, forwardRow, inverseRow}
 use Rattle.volume_lines.specs.Lines.{Kept, TablesOf}
 
 -- ---- a packed line
@@ -204,8 +204,3 @@ module _ (m : ℕ) (is : IsModulus m) (b : ℕ) (size : AdmittedLength (2 * b)) 
     pub row-inverse : k₂ ≡ inverseRow m b l
     row-inverse = is-tab (suc b) k₂ (parted b pairs) (simp length-set (omega (arith, returned-long)))
         (by-half b (λ t. at k₂ t ≡ parted b pairs t) first-pair (last-pair ∙ sym (parted-last b (half-positive b size))) (λ t p h. between-pairs t p h ∙ sym (parted-between t p h)))
-
--- ---- directions
-
-pub other-direction : (direction : ℕ) → direction < 2 → (direction ≡ 0 → ⊥) → direction ≡ 1
-other-direction direction l e = omega arith

@@ -5,23 +5,13 @@
 mod lines; // lines.rt: one line along l or h
 mod rows; // rows.rt: one row along k
 
+use axes::Line;
 ghost use mathlib.Core.Path.{_≡_};
 ghost use lib.ListN.{length};
 ghost use Rattle.numbers.specs.Prime.{prime};
 ghost use Rattle.slices.specs.Pairs.{Below};
-ghost use Rattle.volume_lines.specs.Lines.{Lent, Kept, TablesFor, Placed, lineTurned};
-
-// A packed line of 2 half values, and its pairs in the volume: count of them, at start, start + stride, ..
-pub struct Line {
-    pub m: u32,
-    pub direction: u32,
-    pub kind: u32,
-    pub factors: u32,
-    pub half: usize,
-    pub start: usize,
-    pub stride: usize,
-    pub count: usize,
-}
+ghost use Rattle.volume_lines.specs.Lines.{Lent, Kept, TablesFor};
+ghost use Rattle.axes.specs.Lines.{Placed, lineTurned};
 
 // The line of its kind: a Hermitian one is a row, and lent as a part of the volume from its offset on.
 pub fn turn<'a>(

@@ -1,6 +1,6 @@
 // One line along l or h: its pairs stand apart in the volume, so it is gathered into the scratch, transformed there by the
 // line's own kind, and scattered back.
-use crate::Line;
+use axes::Line;
 ghost use mathlib.Core.Path.{_≡_};
 ghost use Prim.Native.Nat.{_*_, _≤_};
 ghost use lib.ListN.{length};
@@ -8,7 +8,8 @@ ghost use Rattle.algebra.specs.Kinds.{slots};
 ghost use Rattle.numbers.specs.Prime.{prime};
 ghost use Rattle.slices.specs.Pairs.{Below};
 ghost use Rattle.lengths.specs.Counts.{kindOf};
-ghost use Rattle.volume_lines.specs.Lines.{Lent, Kept, Sound, Spaced, TablesFor, turnedPacked, gatheredTurn};
+ghost use Rattle.volume_lines.specs.Lines.{Lent, Kept, TablesFor};
+ghost use Rattle.axes.specs.Lines.{Sound, Spaced, turnedPacked, gatheredTurn};
 
 // A line whose pairs stand apart.
 pub fn turn_gathered<'a>(

@@ -1,13 +1,14 @@
 // One row along k: neighbouring pairs, lent as a part of the volume and transformed as a Hermitian line in their place.
-use crate::Line;
 use crate::lines;
+use axes::Line;
 ghost use mathlib.Core.Path.{_≡_};
 ghost use Prim.Native.Nat.{_+_, _*_, _<_, _≤_};
 ghost use lib.ListN.{length};
 ghost use Rattle.numbers.specs.Prime.{prime};
 ghost use Rattle.slices.specs.Pairs.{Below};
-ghost use Rattle.volume_lines.specs.Turned.{turnedRow};
-ghost use Rattle.volume_lines.specs.Lines.{Sound, TablesFor, opened, closed};
+ghost use Rattle.axes.specs.Turned.{turnedRow};
+ghost use Rattle.axes.specs.Lines.{Sound};
+ghost use Rattle.volume_lines.specs.Lines.{TablesFor, opened, closed};
 
 // A row of B + 1 pairs, of which the first and the last are real, becomes N2 = 2 B real values and two zeros, or back.
 pub fn turn_row<'a>(

@@ -1,6 +1,6 @@
 -- The axes in their order, or in the other one.
 use native.Mathlib.Omega.{arith}
-use Rattle.volume_lines.proofs.TurnLaws.{other-direction}
+use Rattle.axes.proofs.Numbered.{other-direction}
 use Rattle.axes.proofs.AxisLines.{turn-same, turn-back-k, turn-back-h, turn-back-l}
 use Rattle.axes.proofs.line_of_turn.Statement.{statement}
 use Rattle.axes.proofs.line_of_turn.Tie as tie

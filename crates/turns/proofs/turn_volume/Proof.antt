@@ -4,7 +4,8 @@ use mathlib.Core.Path.{sym, _∙_, ap}
 use Prim.Native.Nat.{_-_}
 use Rattle.axes.specs.Axes.{lineOfTurn}
 use Rattle.axes.specs.Plans.{groupIn, halvesIn, planTurn}
-use Rattle.axes.proofs.AxisLines.{modulus-is, turned-as, line-ready}
+use Rattle.axes.proofs.AxisLines.{modulus-is, turned-as}
+use Rattle.turns.proofs.Ready.{line-ready}
 use Rattle.turns.specs.Turns.{turns}
 use Rattle.turns.proofs.Turning.{Turning, turning-start, turning-next, turning-done, turning-lent, turning-length, turning-fits}
 use Rattle.turns.proofs.turn_volume.Statement.{statement}

@@ -4,8 +4,9 @@ use mathlib.Core.Path.{refl, _∙_}
 use Prim.Native.Nat.{_+_, _*_}
 use lib.ListN.{length}
 use Rattle.slices.proofs.Bounds.{below-segment}
-use Rattle.volume_lines.specs.Lines.{Beside}
-use Rattle.volume_lines.proofs.RowLaws.{row-long, row-placed, part-same, beside, spaced, row-is, gathered-is}
+use Rattle.axes.specs.Lines.{Beside}
+use Rattle.volume_lines.proofs.RowLaws.{row-long, row-placed, part-same, beside, spaced}
+use Rattle.axes.proofs.AxisLines.{row-is, gathered-is}
 use Rattle.volume_lines.proofs.turn.Statement.{statement}
 use Rattle.volume_lines.proofs.turn.Tie as tie
 

@@ -5,7 +5,7 @@
 use libc::STDIN_FILENO;
 use libc::STDOUT_FILENO;
 use map_text::TextAnswer;
-use map_text::printer;
+use printing::printer;
 
 fn print(text: &[u8], count: usize) {
     if count <= text.len() {

@@ -1,9 +1,3 @@
-pub mod Specimen
-pub mod Decimals
-pub mod Writing
 pub mod Printing
 pub mod Outcomes
 pub mod Refusals
-pub mod Synthesised
-pub mod Files
-pub mod Needs

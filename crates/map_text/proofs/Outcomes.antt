@@ -17,8 +17,9 @@ use Rattle.job.specs.declared.Job.{Job}
 use Rattle.job.specs.Header.{groupIn, halves, mapHeld}
 use Rattle.map_text.specs.declared.TextAnswer.the-variants.{Written, Refused}
 use Rattle.map_text.specs.Text.{mapText, written, notWritten, textTests, put, putText, textStep, textOutcome}
-use Rattle.map_text.specs.Writing.{Wrote, Printable}
-use Rattle.map_text.proofs.Writing.{wrote-whole}
+use Rattle.output.specs.Writing.{Wrote}
+use Rattle.map_text.specs.Printable.{Printable}
+use Rattle.output.proofs.Writing.{wrote-whole}
 
 -- ---- a text that goes to an output if that is long enough
 

@@ -19,9 +19,11 @@ use Rattle.job.specs.declared.Job.{Job}
 use Rattle.job.specs.Header.{groupIn, halves, validJob, headerOf, axisTests}
 use Rattle.refusals.proofs.Headers.{all-three}
 use Rattle.job.proofs.Jobs.{valid-sizes}
-use Rattle.map_text.specs.Text.{decimal, blank, lineFeed, each, headLine, rowLine, mapText}
-use Rattle.map_text.specs.Writing.{Printable, Ends}
-use Rattle.map_text.proofs.Decimals.{decimal-short}
+use Rattle.output.specs.Decimal.{decimal, blank, lineFeed, each}
+use Rattle.map_text.specs.Text.{headLine, rowLine, mapText}
+use Rattle.output.specs.Writing.{Ends}
+use Rattle.map_text.specs.Printable.{Printable}
+use Rattle.output.proofs.Decimals.{decimal-short}
 
 -- ---- lengths of texts
 

@@ -4,8 +4,8 @@ use Prim.Native.Nat.{ℕ, _≤_}
 use native.Mathlib.Omega.{arith}
 use lib.ListN.{length, length-append}
 use Rattle.map_text.specs.Text.{refusalText}
-use Rattle.map_text.specs.Writing.{Ends}
-use Rattle.map_text.proofs.Decimals.{decimal-short}
+use Rattle.output.specs.Writing.{Ends}
+use Rattle.output.proofs.Decimals.{decimal-short}
 
 pub refusal-short : (n place : ℕ) → length (refusalText n place) ≤ 33
 unfolding refusalText

@@ -1,4 +1,2 @@
 pub mod Text
-pub mod Writing
-pub mod Printed
-pub mod Specimen
+pub mod Printable

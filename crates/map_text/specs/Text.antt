@@ -2,37 +2,18 @@
 -- one blank between. Bytes are those of ASCII, and every line ends with a line feed.
 use mathlib.Core.Bool.{not, cond}
 use mathlib.Core.List.{List, [], _∷_, _++_}
-use Prim.Native.Nat.{ℕ, zero, suc, _+_, _/_, _%_}
+use Prim.Native.Nat.{ℕ}
 use lib.ListN.{length, getD, drop}
 use lib.Dec.{ltb, eqb}
-use Rattle.refusal_order.specs.Tests.{Test, _⇒_, first, accepted}
-use Rattle.refusal_order.specs.Refusals.{numberOf}
+use Rattle.output.specs.Decimal.{decimal, blank, lineFeed, each}
+use Rattle.line.specs.Tests.{Test, _⇒_, first, accepted}
+use Rattle.line.specs.Refusals.{numberOf}
 use Rattle.cell.specs.Volume.{layers, mapPlace}
 use Rattle.job.specs.declared.Job.{Job}
 use Rattle.job.specs.Header.{groupIn, halves, validJob, mapHeld}
 use Rattle.job.specs.Steps.{fits}
 use Rattle.map_text.specs.declared.TextAnswer.{TextAnswer}
 use Rattle.map_text.specs.declared.TextAnswer.the-variants.{Written, Refused}
-
--- a number in decimal, of at most `count` digits
-unfoldable pub digitsOf : (count n : ℕ) → List ℕ
-digitsOf zero n = []
-digitsOf (suc c) n = cond (ltb n 10) ((48 + n) ∷ []) (digitsOf c (n / 10) ++ (48 + n % 10) ∷ [])
-
--- a number of 32 bits has at most ten
-abbrev pub decimal : ℕ → List ℕ
-decimal n = digitsOf 10 n
-
-abbrev pub blank : ℕ
-blank = 32
-
-abbrev pub lineFeed : ℕ
-lineFeed = 10
-
--- n things in a row
-unfoldable pub each : (n : ℕ) → (ℕ → List ℕ) → List ℕ
-each zero f = []
-each (suc n) f = each n f ++ f n
 
 -- "map 0 2 2 2"
 unfoldable pub headLine : Job → List ℕ

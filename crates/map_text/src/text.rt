@@ -1,8 +1,5 @@
 // The text of a map: a head line, then a line for each row of the volume.
-//
-// A text is measured by writing it to an output of no bytes. So a call that the output is too short for has touched nothing.
 use crate::TextAnswer;
-use crate::output;
 use cell::places;
 use job::Job;
 use job::valid;
@@ -10,14 +7,15 @@ use refusal_order::Checked;
 use refusal_order::Refusal;
 use refusals::tests;
 ghost use mathlib.Core.Path.{_≡_};
-ghost use mathlib.Core.List.{_∷_};
-ghost use Prim.Native.Nat.{_+_, _≤_, _<_};
-ghost use lib.ListN.{length, getD};
-ghost use Rattle.refusal_order.specs.Tests.{first, checkedNumber};
+ghost use Prim.Native.Nat.{_<_};
+ghost use lib.ListN.{length};
+ghost use Rattle.line.specs.Tests.{first, checkedNumber};
 ghost use Rattle.cell.specs.Volume.{layers};
 ghost use Rattle.job.specs.Header.{groupIn, halves};
-ghost use Rattle.map_text.specs.Text.{decimal, blank, each, headLine, rowLine, mapText, textTests, textStep, textOutcome};
-ghost use Rattle.map_text.specs.Writing.{Wrote, Ends, Printable};
+ghost use Rattle.output.specs.Decimal.{each};
+ghost use Rattle.output.specs.Writing.{Wrote, Ends};
+ghost use Rattle.map_text.specs.Text.{headLine, rowLine, mapText, textTests, textStep, textOutcome};
+ghost use Rattle.map_text.specs.Printable.{Printable};
 
 // "map", the group and the lengths.
 fn put_head(out: &mut [u8], at: usize, job: Job) -> usize
@@ -32,22 +30,6 @@ fn put_head(out: &mut [u8], at: usize, job: Job) -> usize
     output::put_byte(out, third, b'\n')
 }
 
-// The n numbers of the volume from `start` on, a blank before each.
-fn put_values(out: &mut [u8], at: usize, volume: &[u32], start: usize, n: usize) -> usize
-    requires { ⌜ start + n ≤ length (now volume) ⌝ }
-    requires { ⌜ Ends at (each n (λ y. blank ∷ decimal (getD (now volume) (start + y) 0))) ⌝ }
-    ensures { λ r. ⌜ Wrote at (each n (λ y. blank ∷ decimal (getD (now (volume .entry)) (start + y) 0))) (now (out .entry)) r (now (out .exit)) ⌝ }
-{
-    let mut place = at;
-    let mut y = 0;
-    while y < n {
-        let value = volume[start + y];
-        place = output::put_field(out, place, value);
-        y += 1;
-    }
-    place
-}
-
 // The row at z, x: both, and the values by y.
 fn put_row(out: &mut [u8], at: usize, job: Job, volume: &[u32], z: u32, x: u32) -> usize
     requires { ⌜ Printable job (now volume) × (z < layers (groupIn job) (halves job)) × (x < job .a .length) ⌝ }
@@ -58,7 +40,7 @@ fn put_row(out: &mut [u8], at: usize, job: Job, volume: &[u32], z: u32, x: u32) 
     let start = 2 * places::pair_place(job.a.length, n2, z, x, 0);
     let plane = output::put_decimal(out, at, z);
     let row = output::put_field(out, plane, x);
-    let values = put_values(out, row, volume, start, n2 as usize);
+    let values = output::put_values(out, row, volume, start, n2 as usize);
     output::put_byte(out, values, b'\n')
 }
 

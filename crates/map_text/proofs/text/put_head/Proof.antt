@@ -1,7 +1,7 @@
 -- A word, four numbers and a line feed in a row.
 use borrow.Author.Needs.{needs}
 use Rattle.map_text.specs.Text.{headLine}
-use Rattle.map_text.proofs.Writing.{wrote-append, ends-left, ends-right}
+use Rattle.output.proofs.Writing.{wrote-append, ends-left, ends-right}
 use Rattle.map_text.proofs.text.put_head.Statement.{statement}
 use Rattle.map_text.proofs.text.put_head.Tie as tie
 

@@ -1,7 +1,7 @@
 -- The head line, then the planes.
 use borrow.Author.Needs.{needs}
 use Rattle.map_text.specs.Text.{mapText}
-use Rattle.map_text.proofs.Writing.{wrote-append, ends-left, ends-right}
+use Rattle.output.proofs.Writing.{wrote-append, ends-left, ends-right}
 use Rattle.map_text.proofs.Printing.{map-ends}
 use Rattle.map_text.proofs.text.put_map.Statement.{statement}
 use Rattle.map_text.proofs.text.put_map.Tie as tie

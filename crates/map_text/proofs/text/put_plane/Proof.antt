@@ -3,9 +3,10 @@ use mathlib.Core.List.{List}
 use Prim.Native.Nat.{ℕ, _-_, _≤_}
 use native.Mathlib.Omega.{arith}
 use Rattle.job.specs.declared.Job.{Job}
-use Rattle.map_text.specs.Text.{each, rowLine}
-use Rattle.map_text.specs.Writing.{Wrote}
-use Rattle.map_text.proofs.Writing.{each-none, each-ends, each-next, each-done, wrote-length}
+use Rattle.output.specs.Decimal.{each}
+use Rattle.map_text.specs.Text.{rowLine}
+use Rattle.output.specs.Writing.{Wrote}
+use Rattle.output.proofs.Writing.{each-none, each-ends, each-next, each-done, wrote-length}
 use Rattle.map_text.proofs.text.put_plane.Statement.{statement}
 use Rattle.map_text.proofs.text.put_plane.Tie as tie
 

@@ -6,9 +6,10 @@ use native.Mathlib.Omega.{arith}
 use Rattle.cell.specs.Volume.{layers}
 use Rattle.job.specs.declared.Job.{Job}
 use Rattle.job.specs.Header.{groupIn, halves}
-use Rattle.map_text.specs.Text.{each, rowLine}
-use Rattle.map_text.specs.Writing.{Wrote}
-use Rattle.map_text.proofs.Writing.{each-none, each-ends, each-next, each-done, wrote-length}
+use Rattle.output.specs.Decimal.{each}
+use Rattle.map_text.specs.Text.{rowLine}
+use Rattle.output.specs.Writing.{Wrote}
+use Rattle.output.proofs.Writing.{each-none, each-ends, each-next, each-done, wrote-length}
 use Rattle.map_text.proofs.Printing.{printable-sizes}
 use Rattle.map_text.proofs.text.put_planes.Statement.{statement}
 use Rattle.map_text.proofs.text.put_planes.Tie as tie

@@ -3,9 +3,10 @@ use borrow.Author.Needs.{needs}
 use mathlib.Core.Path.{_≡_}
 use mathlib.Core.List.{[], _∷_, _++_}
 use Prim.Native.Nat.{_*_}
-use Rattle.map_text.specs.Text.{rowLine, lineFeed}
-use Rattle.map_text.specs.Writing.{Ends}
-use Rattle.map_text.proofs.Writing.{wrote-append, ends-left, ends-right}
+use Rattle.output.specs.Decimal.{lineFeed}
+use Rattle.map_text.specs.Text.{rowLine}
+use Rattle.output.specs.Writing.{Ends}
+use Rattle.output.proofs.Writing.{wrote-append, ends-left, ends-right}
 use Rattle.map_text.proofs.Printing.{valuesFrom, values, row-asked, row-inside, row-values}
 use Rattle.map_text.proofs.text.put_row.Statement.{statement}
 use Rattle.map_text.proofs.text.put_row.Tie as tie

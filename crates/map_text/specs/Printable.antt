@@ -1,0 +1,14 @@
+-- What a map needs to be printed: the word of the contracts below the call.
+use mathlib.Core.Path.{_≡_}
+use mathlib.Core.Bool.{true}
+use mathlib.Core.List.{List}
+use Prim.Native.Nat.{ℕ}
+use lib.ListN.{length}
+use Rattle.cell.specs.Volume.{volumeLength}
+use Rattle.job.specs.declared.Job.{Job}
+use Rattle.job.specs.Header.{groupIn, halves, validJob}
+
+-- a job and a volume as long as it needs
+pub record Printable (j : Job) (v : List ℕ) : Type 0 where
+  pub valid : validJob j ≡ true
+  pub long : length v ≡ volumeLength (groupIn j) (halves j)

@@ -1,0 +1,39 @@
+-- Numbers in decimal: enough places are enough, and how long they are.
+use mathlib.Core.Path.{_≡_, refl, ap, sym, _∙_}
+use mathlib.Core.Bool.{Bool, true, false, cond}
+use mathlib.Core.List.{List, [], _∷_, _++_}
+use Prim.Native.Nat.{ℕ, zero, suc, _+_, _*_, _/_, _%_, _^_, _<_, _≤_}
+use native.Mathlib.Omega.{arith}
+use lib.Dec.{ltb}
+use lib.ListN.{length, length-append}
+use borrow.Author.Tests.{lt-ltb, le-ltb, ltb-true, ltb-false}
+use Rattle.output.specs.Decimal.{digitsOf, decimal}
+
+-- one digit
+pub decimal-one : (n : ℕ) → n < 10 → decimal n ≡ (48 + n) ∷ []
+unfolding digitsOf
+decimal-one n h = rw (lt-ltb n 10 h)
+
+-- one place more than the number has digits changes nothing
+more-places : (c n : ℕ) → n < 10 ^ suc c → digitsOf (suc (suc c)) n ≡ digitsOf (suc c) n
+unfolding digitsOf
+more-places zero n h = rw (lt-ltb n 10 h)
+more-places (suc c) n h = ap (λ (l : List ℕ). cond (ltb n 10) ((48 + n) ∷ []) (l ++ (48 + n % 10) ∷ [])) (more-places c (n / 10) (omega (arith, h)))
+
+-- the digits before the last one, and the last
+pub decimal-more : (n : ℕ) → 10 ≤ n → n < 4294967296 → decimal n ≡ decimal (n / 10) ++ (48 + n % 10) ∷ []
+unfolding digitsOf
+decimal-more n h k = rw (le-ltb n 10 h) (ap (λ (l : List ℕ). l ++ (48 + n % 10) ∷ []) (sym (more-places 8 (n / 10) (omega (arith, k)))))
+
+-- at most ten digits
+digits-short : (c n : ℕ) → length (digitsOf c n) ≤ c
+unfolding digitsOf
+digits-short zero n = omega arith
+digits-short (suc c) n = either (ltb n 10) (48 + n) (digitsOf c (n / 10)) (48 + n % 10) (digits-short c (n / 10))
+  where
+    either : (b : Bool) (x : ℕ) (l : List ℕ) (y : ℕ) → length l ≤ c → length (cond b (x ∷ []) (l ++ y ∷ [])) ≤ suc c
+    either true x l y h = omega arith
+    either false x l y h = rw length-append (omega (arith, h))
+
+pub decimal-short : (n : ℕ) → length (decimal n) ≤ 10
+decimal-short n = digits-short 10 n

@@ -1,0 +1,3 @@
+pub mod Specimen
+pub mod Synthesised
+pub mod Files

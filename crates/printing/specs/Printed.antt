@@ -1,0 +1,27 @@
+-- The map printer: the text that it prints for the bytes on its standard input.
+-- The file is lent a volume as long as it needs, and of 2,048 numbers where it needs more: that is refused 6 in its place among the file's refusals.
+use mathlib.Core.Bool.{cond}
+use mathlib.Core.List.{List, []}
+use Prim.Native.Nat.{ℕ, min}
+use lib.ListN.{length, replicate}
+use lib.Dec.{ltb}
+use Rattle.lengths.specs.Lengths.{scratchLength}
+use Rattle.job.specs.declared.Job.{Job}
+use Rattle.job.specs.Header.{needed}
+use Rattle.job.specs.Steps.{Opening, opened, notOpened, OpenOutcome, Said, done, density, factor, refused, Outcome, Worked, synthesisStep}
+use Rattle.factor_file.specs.File.{headerIn, fileStep}
+use Rattle.map_text.specs.Text.{mapText, refusalText, TextOutcome, putText}
+use Rattle.limits.specs.Limits.{fileLimit, volumeLimit}
+
+-- The synthesis of an accepted file is never refused (demand 3); the text of a refusal stands here for completeness.
+abbrev pub synthesisText : Outcome → List ℕ
+synthesisText o = elim (o .answer) [ done ↦ mapText (o .job) (o .volume) | refused n ↦ refusalText n 0 | density n ↦ [] | factor x y ↦ [] ]
+
+abbrev pub openedText : OpenOutcome → List ℕ
+openedText o = elim (o .answer) [ opened j ↦ synthesisText (synthesisStep j (o .volume) (replicate scratchLength 0) .outcome) | notOpened n place ↦ refusalText n place ]
+
+unfoldable pub printed : List ℕ → List ℕ
+printed input = cond (ltb fileLimit (length input)) (refusalText 15 0) (openedText (fileStep input (replicate (min (needed (headerIn input)) volumeLimit) 0)))
+
+unfoldable pub printStep : (input output : List ℕ) → TextOutcome
+printStep input output = putText (printed input) output

@@ -1,0 +1,52 @@
+// From the bytes of a factor file to the text of its map, or of its refusal.
+use factor_file::FileAnswer;
+use factor_file::open_file;
+use job::Answer;
+use job::Job;
+use line::Refusal;
+use map_text::TextAnswer;
+use map_text::refusal;
+use map_text::text;
+ghost use mathlib.Core.Path.{_≡_};
+ghost use lib.ListN.{replicate};
+ghost use Rattle.line.specs.Lengths.{scratchLength};
+ghost use Rattle.job.specs.Steps.{synthesisStep};
+ghost use Rattle.factor_file.specs.File.{fileStep};
+ghost use Rattle.map_text.specs.Text.{putText, textOutcome};
+ghost use Rattle.printing.specs.Printed.{synthesisText, openedText, printStep};
+
+// The map of the factors that a job holds.
+fn print_job(job: Job, volume: &mut [u32], out: &mut [u8]) -> TextAnswer
+    ensures { λ r. ⌜ textOutcome r (now (out .exit)) ≡ putText (synthesisText (synthesisStep job (now (volume .entry)) (replicate scratchLength 0) .outcome)) (now (out .entry)) ⌝ }
+{
+    let mut scratch = [0u32; 11520];
+    let answered = job.synthesis(volume, &mut scratch);
+    let answer = answered.answer;
+    match answer {
+        Answer::Refused(refusal) => return refusal::refusal_text(refusal, 0, out),
+        Answer::Done => return text::map_text(answered.job, volume, out),
+    }
+}
+
+// The map of a file that is lent a volume.
+fn print_opened(file: &[u8], volume: &mut [u32], out: &mut [u8]) -> TextAnswer
+    ensures { λ r. ⌜ textOutcome r (now (out .exit)) ≡ putText (openedText (fileStep (now (file .entry)) (now (volume .entry)))) (now (out .entry)) ⌝ }
+{
+    let answer = open_file::open_file(file, volume);
+    match answer {
+        FileAnswer::Refused(refusal, place) => return refusal::refusal_text(refusal, place, out),
+        FileAnswer::Opened(job) => return print_job(job, volume, out),
+    }
+}
+
+// The text of a file's map, or of its refusal, goes to the output's first bytes.
+pub fn print_file(file: &[u8], out: &mut [u8]) -> TextAnswer
+    ensures { λ r. ⌜ textOutcome r (now (out .exit)) ≡ printStep (now (file .entry)) (now (out .entry)) ⌝ }
+{
+    if limits::too_long(file) {
+        return refusal::refusal_text(Refusal::FileShape, 0, out);
+    }
+    let mut numbers = [0u32; 2048];
+    let count = limits::lent_to(file);
+    print_opened(file, &mut numbers[..count], out)
+}

@@ -1,47 +1,32 @@
--- The file and the outcome of writing it, from what the parts stored and the tests found.
+-- The outcome of writing a file, from what was stored and the tests found.
 use mathlib.Core.Path.{_≡_, refl, sym, _∙_, ap}
-use mathlib.Core.Bool.{Bool, true, false, cond, false≢true}
-use mathlib.Core.List.{List, [], _∷_, _++_, append-assoc}
-use Prim.Native.Nat.{ℕ, _+_, _*_, _<_, _≤_}
+use mathlib.Core.Bool.{Bool, true, false, not, cond, false≢true}
+use mathlib.Core.List.{List, [], _∷_, _++_}
+use Prim.Native.Nat.{ℕ, _+_, _<_, _≤_}
 use native.Mathlib.Omega.{arith}
-use lib.ListN.{length, drop, length-append}
+use lib.ListN.{length, drop}
 use lib.Seq.{sets-eq}
 use lib.Dec.{eqb, ltb}
 use borrow.Author.Tests.{eq-eqb, ne-eqb, lt-ltb, le-ltb, eqb-true, ltb-false}
 use Rattle.algebra.specs.Cell.{J}
 use Rattle.numbers.specs.Value.{Value}
-use Rattle.refusal_order.specs.declared.Refusal.{Refusal}
-use Rattle.refusal_order.specs.Refusals.{numberOf}
-use Rattle.refusal_order.specs.Tests.{Test, first, accepted}
-use Rattle.refusal_order.proofs.Tests.{Passed, passed, fails}
+use Rattle.line.specs.declared.Refusal.{Refusal}
+use Rattle.line.specs.Refusals.{numberOf}
+use Rattle.line.specs.Tests.{Test, _⇒_, first, accepted}
+use Rattle.line.specs.Lengths.{scratchLength}
+use Rattle.line.proofs.Tests.{Passed, passed, fails}
 use Rattle.cell.specs.Volume.{volumeLength}
 use Rattle.job.specs.declared.Job.{Job}
-use Rattle.job.specs.Header.{Header, headerOf, axisTests, validJob, groupIn, halves}
+use Rattle.job.specs.Header.{headerOf, axisTests, validJob, mapHeld, groupIn, halves}
+use Rattle.job.specs.Steps.{fits, synthesisTests}
+use Rattle.refusals.specs.Tests.{factorsTests}
 use Rattle.refusals.proofs.Headers.{all-three}
 use Rattle.file_writer.specs.declared.WriteAnswer.{WriteAnswer}
 use Rattle.file_writer.specs.declared.WriteAnswer.the-variants.{Refused}
-use Rattle.file_writer.specs.Writing.{bytes, headerBytes, allBytes, body, fileOf, jobRecords, jobFile, written, notWritten, WriteOutcome, writeTests, writeStep, writeOutcome}
-use Rattle.file_writer.specs.Steps.{Put, recordsWith, fileWith, heldTests, fileTests, filed}
-use Rattle.file_writer.proofs.ByteLaws.{length-bytes, length-all}
-
--- ---- the file, part by part
-
-pub length-body : (h : Header) (cs : List (J × Value 1)) → length (body h cs) ≡ length (headerBytes h) + 4 + 14 * length cs
-length-body h cs = omega (arith, length-append (headerBytes h ++ bytes 4 (length cs)) (allBytes cs), length-append (headerBytes h) (bytes 4 (length cs)), length-bytes 4 (length cs), length-all cs)
-
-pub length-file : (h : Header) (cs : List (J × Value 1)) → length (fileOf h cs) ≡ length (headerBytes h) + 8 + 14 * length cs
-unfolding fileOf
-length-file h cs = omega (arith, length-append (bytes 4 (length (body h cs))) (body h cs), length-bytes 4 (length (body h cs)), length-body h cs)
-
--- the parts as they are stored one after another; m is the count of the bytes that follow, n that of the records
-pub file-parts : (h : Header) (cs : List (J × Value 1)) (m n : ℕ) → m ≡ length (body h cs) → n ≡ length cs →
-    bytes 4 m ++ headerBytes h ++ bytes 4 n ++ allBytes cs ≡ fileOf h cs
-unfolding fileOf
-file-parts h cs m n e f =
-    append-assoc (bytes 4 m ++ headerBytes h) (bytes 4 n) (allBytes cs)
-    ∙ append-assoc (bytes 4 m) (headerBytes h) (bytes 4 n ++ allBytes cs)
-    ∙ ap (λ (l : List ℕ). bytes 4 m ++ l) (sym (append-assoc (headerBytes h) (bytes 4 n) (allBytes cs)))
-    ∙ (λ i. bytes 4 (e i) ++ (headerBytes h ++ bytes 4 (f i) ++ allBytes cs))
+use Rattle.file_writer.specs.Writing.{jobRecords, jobFile, written, notWritten, WriteOutcome, writeTests, writeStep, writeOutcome}
+use Rattle.file_bytes.specs.Stores.{Put}
+use Rattle.file_bytes.specs.Steps.{recordsWith, fileWith}
+use Rattle.file_writer.specs.Steps.{fileTests, filed}
 
 -- ---- the outcome; n is the count of the records as the code holds it
 
@@ -95,8 +80,14 @@ nonzero : (r : Refusal) → numberOf r ≡ 0 → ⊥
 nonzero r e = false≢true (sym (fails r (numberOf r) false (λ n. true) refl ∙ ap (λ n. accepted n false (λ n. true)) e))
 
 module _ (j : Job) (v output : List ℕ) where
+  -- 25, 23, 6, 7, 14: the job holds factors, and the volume is those of a cell
   abbrev pub held : List Test
-  held = heldTests (validJob j) (j .state) (j .group) (headerOf j .lengths) v
+  held = not (validJob j) ⇒ 25 ∷ eqb (j .state) mapHeld ⇒ 23 ∷ not (fits j v) ⇒ 6 ∷ factorsTests (j .group) (headerOf j .lengths) v
+
+  -- they are those of a synthesis with a scratch that is long enough
+  pub held-first : first (synthesisTests j v scratchLength) ≡ first held
+  unfolding first
+  held-first = refl
 
   rest : List Test
   rest = fileTests (length (jobRecords j v)) (length (jobFile j v)) (length output)

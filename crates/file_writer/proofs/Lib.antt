@@ -1,10 +1,2 @@
-pub mod Stores
-pub mod ByteLaws
-pub mod Places
-pub mod PlaceOrder
-pub mod RecordLaws
-pub mod Headers
 pub mod Files
-pub mod Parsing
-pub mod WrittenFiles
 pub mod ReadBack

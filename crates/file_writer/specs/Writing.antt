@@ -1,58 +1,26 @@
--- The factor file of a job that holds factors: its bytes, and what writing it answers and leaves. factor_file's File says how a file is read.
--- One record for each orbit with a value other than zero, at its lowest (h, k, l), by rising h, k, l (the paper leaves the order of records open).
+-- The factor file of a job that holds factors, and what writing it answers and leaves. file_layout's Bytes has the bytes of a file, file_bytes' Records
+-- the records of a volume.
 use mathlib.Core.Bool.{not}
 use mathlib.Core.List.{List, [], _∷_, _++_}
-use Prim.Native.Nat.{ℕ, zero, suc, _/_, _%_}
+use Prim.Native.Nat.{ℕ}
 use lib.ListN.{length, drop}
 use lib.Dec.{ltb, eqb}
-use Rattle.algebra.specs.Cell.{J, Group, full, at, factorActs}
-use Rattle.algebra.specs.CellTests as Tests
-use Rattle.algebra.specs.CellTests.{lexLe, placesOf}
-use Rattle.numbers.specs.Value.{Value, field, conj}
+use Rattle.algebra.specs.Cell.{J}
+use Rattle.algebra.specs.CellTests.{placesOf}
+use Rattle.numbers.specs.Value.{Value}
 use Rattle.slices.specs.Pairs.{allBelow}
-use Rattle.refusal_order.specs.Tests.{Test, _⇒_, first, accepted}
-use Rattle.refusal_order.specs.Refusals.{numberOf}
-use Rattle.cell.specs.Volume.{factorsIn}
-use Rattle.cell.specs.Consistency.{sameValue, consistentFactors}
+use Rattle.line.specs.Tests.{Test, _⇒_, first, accepted}
+use Rattle.line.specs.Refusals.{numberOf}
+use Rattle.cell.specs.Consistency.{consistentFactors}
 use Rattle.job.specs.declared.Job.{Job}
-use Rattle.job.specs.Header.{Header, headerOf, groupIn, halves, validJob, mapHeld}
+use Rattle.job.specs.Header.{headerOf, groupIn, halves, validJob, mapHeld}
 use Rattle.job.specs.Steps.{p, fits}
+use Rattle.file_layout.specs.Bytes.{fileOf}
+use Rattle.file_bytes.specs.Records.{recordsAt}
 use Rattle.file_writer.specs.declared.WriteAnswer.{WriteAnswer}
 use Rattle.file_writer.specs.declared.WriteAnswer.the-variants.{Written, Refused}
 
--- ---- the bytes of a file
-
--- n big-endian bytes of a number
-unfoldable pub bytes : (n x : ℕ) → List ℕ
-bytes zero x = []
-bytes (suc n) x = bytes n (x / 256) ++ x % 256 ∷ []
-
-abbrev pub listBytes : List ℕ → List ℕ
-listBytes l = length l ∷ l
-
--- a record: an index and a value
-unfoldable pub recordBytes : J × Value 1 → List ℕ
-recordBytes c = bytes 2 (c .0 .0) ++ bytes 2 (c .0 .1) ++ bytes 2 (c .0 .2) ++ bytes 4 (c .1 .0 .val) ++ bytes 4 (c .1 .1 .val)
-
-unfoldable pub allBytes : List (J × Value 1) → List ℕ
-allBytes [] = []
-allBytes (c ∷ cs) = recordBytes c ++ allBytes cs
-
--- version, group, lengths and lists; then the count of the records and the records
-unfoldable pub headerBytes : Header → List ℕ
-headerBytes h = 1 ∷ h .group ∷ (bytes 2 (h .lengths .0) ++ bytes 2 (h .lengths .1) ++ bytes 2 (h .lengths .2) ++ listBytes (h .list1) ++ listBytes (h .list2) ++ listBytes (h .list3))
-
-abbrev pub body : Header → List (J × Value 1) → List ℕ
-body h cs = headerBytes h ++ bytes 4 (length cs) ++ allBytes cs
-
-unfoldable pub fileOf : Header → List (J × Value 1) → List ℕ
-fileOf h cs = bytes 4 (length (body h cs)) ++ body h cs
-
 -- ---- the file of a job
-
--- of the places of a list, each that is the lowest of its orbit and has a factor other than zero gives a record
-abbrev pub recordsAt : Group → J → List ℕ → List J → List (J × Value 1)
-recordsAt g a v places = Tests.recordsOf (factorActs (field 1) (conj 1) a) lexLe sameValue (full g) (at (factorsIn g a 1 v)) places
 
 unfoldable pub jobRecords : Job → List ℕ → List (J × Value 1)
 jobRecords j v = recordsAt (groupIn j) (halves j) v (placesOf (halves j))

@@ -3,15 +3,15 @@ use borrow.Author.Needs.{needs}
 use native.Mathlib.Omega.{arith}
 use mathlib.Core.Path.{_≡_}
 use mathlib.Core.List.{List}
-use Prim.Native.Nat.{_+_, _*_, _≤_}
+use Prim.Native.Nat.{_≤_}
 use lib.ListN.{length}
 use Rattle.algebra.specs.Cell.{J}
 use Rattle.numbers.specs.Value.{Value}
 use Rattle.job.specs.Header.{Header}
-use Rattle.file_writer.specs.Writing.{fileOf}
-use Rattle.file_writer.specs.Steps.{headerWith, recordsWith}
-use Rattle.file_writer.proofs.RecordLaws.{admitted-few}
-use Rattle.file_writer.proofs.Files.{length-file, filed-none, filed-short, filed-whole}
+use Rattle.file_layout.specs.Bytes.{fileOf, headerWith}
+use Rattle.file_bytes.specs.Steps.{recordsWith}
+use Rattle.file_bytes.proofs.RecordLaws.{admitted-few}
+use Rattle.file_writer.proofs.Files.{filed-none, filed-short, filed-whole}
 use Rattle.file_writer.proofs.write_factors.Statement.{statement}
 use Rattle.file_writer.proofs.write_factors.Tie as tie
 
@@ -25,14 +25,13 @@ module _ (s : tie.Start) where
   few : length records ≤ 33554432
   few = let f = s .pre .0 in admitted-few (f .volume .sizes) (s .args .volume .now) (f .volume .long) (s .pre .1)
 
--- how long the file is, as the code measures it
-measured : (c : tie.After-header-length) → let n = c .before .before in let s = n .before .before .before in
-    (c .header-length .result + 8 + 14 * n .count-records .result ≡ length (fileOf (head s) (records s))) × (c .header-length .result ≤ 44) × (n .count-records .result ≤ 33554432)
+-- how long the file is
+measured : (c : tie.After-file-length) → let s = c .before .before .before .before .before in c .file-length .result ≡ length (fileOf (head s) (records s))
 measured c =
     let n = c .before .before in
     let s = n .before .before .before in
     let a = s .args in
-    (omega (arith, c .header-length .ensures .0 (a .group) (a .n1) (a .n2) (a .n3), n .count-records .ensures, length-file (head s) (records s)), c .header-length .ensures .1, omega (arith, n .count-records .ensures, few s))
+    c .file-length .ensures .0 (a .group) (a .n1) (a .n2) (a .n3) (records s) (n .count-records .ensures)
 
 count-records-requires : tie.Need-count-records-requires
 count-records-requires c κs = c .before .before .pre .0
@@ -43,17 +42,8 @@ returns c =
     let s = n .before .before .before in
     filed-none (n .count-records .result) (records s) (fileOf (head s) (records s)) (s .args .out .now) (n .count-records .ensures) (c .if1 .taken)
 
-header-length-requires : tie.Need-header-length-requires
-header-length-requires c κs = search needs
-
-add-if2 : tie.Need-add-if2
-add-if2 c = omega (arith, measured c)
-
-mul-if2 : tie.Need-mul-if2
-mul-if2 c = omega (arith, measured c)
-
-add-if2-2 : tie.Need-add-if2-2
-add-if2-2 c = omega (arith, measured c)
+file-length-requires : tie.Need-file-length-requires
+file-length-requires c κs = let n = c .before in omega (arith, n .count-records .ensures, few (n .before .before .before))
 
 returns-2 : tie.Need-returns-2
 returns-2 c =
@@ -87,10 +77,7 @@ write-factors-spec =
     (tie.spec
     count-records-requires
     returns
-    header-length-requires
-    add-if2
-    mul-if2
-    add-if2-2
+    file-length-requires
     returns-2
     put-file-requires
     same-length

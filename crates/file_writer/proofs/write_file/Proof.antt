@@ -8,20 +8,23 @@ use borrow.Author.Tests.{not-false, eqb-true}
 use Rattle.numbers.specs.Prime.{prime}
 use Rattle.numbers.proofs.Primes.{prime-pos}
 use Rattle.slices.proofs.Bounds.{below-allBelow}
-use Rattle.refusal_order.specs.Tests.{first, checkedNumber}
-use Rattle.refusal_order.proofs.Tests.{Passed, passed}
+use Rattle.line.specs.Tests.{first, checkedNumber}
+use Rattle.line.proofs.Tests.{Passed, passed}
+use Rattle.line.specs.Lengths.{scratchLength}
+use Rattle.refusals.specs.Tests.{synthesisTestsOf}
 use Rattle.job.specs.Header.{headerOf}
 use Rattle.job.proofs.Jobs.{valid-sizes}
-use Rattle.file_writer.specs.Steps.{heldTests}
-use Rattle.file_writer.proofs.Files.{held, write-refused, write-filed, valid-volume}
+use Rattle.file_writer.proofs.Files.{held, held-first, write-refused, write-filed, valid-volume}
 use Rattle.file_writer.proofs.write_file.Statement.{statement}
 use Rattle.file_writer.proofs.write_file.Tie as tie
 
 -- the check's number
-told : (c : tie.After-check-factors) → let a = c .before .before .before .before .args in checkedNumber (c .check-factors .result) ≡ first (held (a .job) (now (a .volume)) (now (a .out)))
+told : (c : tie.After-check-synthesis) → let a = c .before .before .before .before .args in checkedNumber (c .check-synthesis .result) ≡ first (held (a .job) (now (a .volume)) (now (a .out)))
 told c =
     let a = c .before .before .before .before .args in
-    c .check-factors .ensures ∙ ap (λ (b : Bool). first (heldTests b (a .job .state) (a .job .group) (headerOf (a .job) .lengths) (now (a .volume)))) (c .before .valid-job .ensures)
+    c .check-synthesis .ensures
+    ∙ ap (λ (b : Bool). first (synthesisTestsOf b (a .job .state) (a .job .group) (headerOf (a .job) .lengths) (now (a .volume)) scratchLength)) (c .before .valid-job .ensures)
+    ∙ held-first (a .job) (now (a .volume)) (now (a .out))
 
 -- no test holds
 clear : (c : tie.After-enum-told) → let a = c .before .before .before .before .before .before .args in Passed (held (a .job) (now (a .volume)) (now (a .out)))
@@ -32,11 +35,17 @@ clear c =
 valid-job-requires : tie.Need-valid-job-requires
 valid-job-requires c κs = search needs
 
-check-factors-requires : tie.Need-check-factors-requires
-check-factors-requires c κs e = valid-sizes (c .before .before .before .args .job) (sym (c .valid-job .ensures) ∙ e)
+check-synthesis-requires : tie.Need-check-synthesis-requires
+check-synthesis-requires c κs e = valid-sizes (c .before .before .before .args .job) (sym (c .valid-job .ensures) ∙ e)
 
 enum-known-checked : tie.Need-enum-known-checked
 enum-known-checked c = search needs
+
+returns : tie.Need-returns
+returns c =
+    let k = c .before .before .before in
+    let a = k .before .before .before .before .args in
+    write-refused (a .job) (now (a .volume)) (now (a .out)) (c .before .checked .given .0 .0) (ap checkedNumber (sym (c .before .checked .given .1)) ∙ told k)
 
 enum-told : tie.Need-enum-told
 enum-told c = search needs
@@ -49,12 +58,6 @@ write-factors-requires c κs =
     let ok = not-false _ (p .0) in
     let long = eqb-true _ _ (not-false _ (p .1 .1 .0)) in
     (record { volume = record { sizes = valid-sizes (a .job) ok; long = long }; small = below-allBelow (prime 1) (now (a .volume)) (prime-pos 1) (not-false _ (p .1 .1 .1 .0)) }, omega (arith, long, valid-volume (a .job) ok))
-
-returns : tie.Need-returns
-returns c =
-    let k = c .before .before .before in
-    let a = k .before .before .before .before .args in
-    write-refused (a .job) (now (a .volume)) (now (a .out)) (c .before .checked .given .0 .0) (ap checkedNumber (sym (c .before .checked .given .1)) ∙ told k)
 
 same-length : tie.Need-same-length
 same-length c = search needs
@@ -71,10 +74,10 @@ write-file-spec =
     tie.close
     (tie.spec
     valid-job-requires
-    check-factors-requires
+    check-synthesis-requires
     enum-known-checked
+    returns
     enum-told
     write-factors-requires
-    returns
     same-length
     returns-2)

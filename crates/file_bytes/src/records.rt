@@ -1,0 +1,192 @@
+// The records of a volume of packed factors, counted and written: one for each orbit whose factor is not zero, at its lowest
+// place, by rising h, k, l. Counting and writing each go over the places of a line, of a plane and of the cell.
+use crate::bytes;
+use cell::operations::Index;
+use cell::readings;
+use cell::stored;
+use numbers::Pair;
+ghost use mathlib.Core.Path.{_≡_};
+ghost use mathlib.Core.List.{[], _∷_};
+ghost use Prim.Native.Nat.{_<_};
+ghost use lib.ListN.{length};
+ghost use Rattle.algebra.specs.CellTests.{lineFrom, planeFrom, placesOf};
+ghost use Rattle.numbers.specs.Value.{pairOf};
+ghost use Rattle.cell.specs.Volume.{groupOf};
+ghost use Rattle.cell.specs.Operations.{halvesOf, tripleOf, Within};
+ghost use Rattle.file_layout.specs.Bytes.{allBytes};
+ghost use Rattle.file_bytes.specs.Records.{recordsAt};
+ghost use Rattle.file_bytes.specs.Stores.{Room, Put};
+ghost use Rattle.file_bytes.specs.Steps.{IsFactors, recordValue, pairBytes};
+
+// ---- one place
+
+// The factor that a record at j would give: where j is no lowest place of an orbit, zero, which no record has.
+fn record_value(group: u32, n1: u32, n2: u32, n3: u32, j: Index, volume: &[u32]) -> Pair
+    requires { ⌜ IsFactors group n1 n2 n3 (now volume) × Within n1 n2 n3 j ⌝ }
+    ensures { λ r. ⌜ r ≡ pairOf (recordValue (groupOf group) (halvesOf n1 n2 n3) (now (volume .entry)) (tripleOf j)) ⌝ }
+{
+    if orbits::lowest(group, n1, n2, n3, j) {
+        readings::factor_at(1, group, n1, n2, n3, j, volume)
+    } else {
+        Pair { re: 0, im: 0 }
+    }
+}
+
+// How many records the place j has: one or none.
+fn count_place(group: u32, n1: u32, n2: u32, n3: u32, j: Index, volume: &[u32]) -> usize
+    requires { ⌜ IsFactors group n1 n2 n3 (now volume) × Within n1 n2 n3 j ⌝ }
+    ensures { λ r. ⌜ r ≡ length (recordsAt (groupOf group) (halvesOf n1 n2 n3) (now (volume .entry)) (tripleOf j ∷ [])) ⌝ }
+{
+    if stored::is_zero(record_value(group, n1, n2, n3, j, volume)) {
+        0
+    } else {
+        1
+    }
+}
+
+// A record: an index and the two numbers of its value.
+fn put_record(j: Index, x: Pair, out: &mut [u8], at: usize) -> usize
+    requires { ⌜ (j .h < 65536) × (j .k < 65536) × (j .l < 65536) × Room at 14 (now out) ⌝ }
+    ensures { λ r. ⌜ Put at (pairBytes (tripleOf j) x) (now (out .entry)) r (now (out .exit)) ⌝ }
+{
+    let k = bytes::put_two(j.h, out, at);
+    let l = bytes::put_two(j.k, out, k);
+    let a = bytes::put_two(j.l, out, l);
+    let b = bytes::put_four(x.re, out, a);
+    bytes::put_four(x.im, out, b)
+}
+
+// The record of the place j, where it has one.
+fn put_place(
+    group: u32,
+    n1: u32,
+    n2: u32,
+    n3: u32,
+    j: Index,
+    volume: &[u32],
+    out: &mut [u8],
+    at: usize,
+) -> usize
+    requires { ⌜ IsFactors group n1 n2 n3 (now volume) × Within n1 n2 n3 j ⌝ }
+    requires { ⌜ Room at (length (allBytes (recordsAt (groupOf group) (halvesOf n1 n2 n3) (now volume) (tripleOf j ∷ [])))) (now out) ⌝ }
+    ensures { λ r. ⌜ Put at (allBytes (recordsAt (groupOf group) (halvesOf n1 n2 n3) (now (volume .entry)) (tripleOf j ∷ []))) (now (out .entry)) r (now (out .exit)) ⌝ }
+{
+    let x = record_value(group, n1, n2, n3, j, volume);
+    if stored::is_zero(x) {
+        at
+    } else {
+        put_record(j, x, out, at)
+    }
+}
+
+// ---- all places, counted
+
+fn count_line(group: u32, n1: u32, n2: u32, n3: u32, h: u32, k: u32, volume: &[u32]) -> usize
+    requires { ⌜ IsFactors group n1 n2 n3 (now volume) × (h < n1) × (k < n2) ⌝ }
+    ensures { λ r. ⌜ r ≡ length (recordsAt (groupOf group) (halvesOf n1 n2 n3) (now (volume .entry)) (lineFrom h k 0 n3)) ⌝ }
+{
+    let mut count: usize = 0;
+    let mut l = 0;
+    while l < n3 {
+        count += count_place(group, n1, n2, n3, Index { h, k, l }, volume);
+        l += 1;
+    }
+    count
+}
+
+fn count_plane(group: u32, n1: u32, n2: u32, n3: u32, h: u32, volume: &[u32]) -> usize
+    requires { ⌜ IsFactors group n1 n2 n3 (now volume) × (h < n1) ⌝ }
+    ensures { λ r. ⌜ r ≡ length (recordsAt (groupOf group) (halvesOf n1 n2 n3) (now (volume .entry)) (planeFrom n3 h 0 n2)) ⌝ }
+{
+    let mut count: usize = 0;
+    let mut k = 0;
+    while k < n2 {
+        count += count_line(group, n1, n2, n3, h, k, volume);
+        k += 1;
+    }
+    count
+}
+
+pub fn count_records(group: u32, n1: u32, n2: u32, n3: u32, volume: &[u32]) -> usize
+    requires { ⌜ IsFactors group n1 n2 n3 (now volume) ⌝ }
+    ensures { λ r. ⌜ r ≡ length (recordsAt (groupOf group) (halvesOf n1 n2 n3) (now (volume .entry)) (placesOf (halvesOf n1 n2 n3))) ⌝ }
+{
+    let mut count: usize = 0;
+    let mut h = 0;
+    while h < n1 {
+        count += count_plane(group, n1, n2, n3, h, volume);
+        h += 1;
+    }
+    count
+}
+
+// ---- all places, written
+
+fn put_line(
+    group: u32,
+    n1: u32,
+    n2: u32,
+    n3: u32,
+    h: u32,
+    k: u32,
+    volume: &[u32],
+    out: &mut [u8],
+    start: usize,
+) -> usize
+    requires { ⌜ IsFactors group n1 n2 n3 (now volume) × (h < n1) × (k < n2) ⌝ }
+    requires { ⌜ Room start (length (allBytes (recordsAt (groupOf group) (halvesOf n1 n2 n3) (now volume) (lineFrom h k 0 n3)))) (now out) ⌝ }
+    ensures { λ r. ⌜ Put start (allBytes (recordsAt (groupOf group) (halvesOf n1 n2 n3) (now (volume .entry)) (lineFrom h k 0 n3))) (now (out .entry)) r (now (out .exit)) ⌝ }
+{
+    let mut at = start;
+    let mut l = 0;
+    while l < n3 {
+        at = put_place(group, n1, n2, n3, Index { h, k, l }, volume, out, at);
+        l += 1;
+    }
+    at
+}
+
+fn put_plane(
+    group: u32,
+    n1: u32,
+    n2: u32,
+    n3: u32,
+    h: u32,
+    volume: &[u32],
+    out: &mut [u8],
+    start: usize,
+) -> usize
+    requires { ⌜ IsFactors group n1 n2 n3 (now volume) × (h < n1) ⌝ }
+    requires { ⌜ Room start (length (allBytes (recordsAt (groupOf group) (halvesOf n1 n2 n3) (now volume) (planeFrom n3 h 0 n2)))) (now out) ⌝ }
+    ensures { λ r. ⌜ Put start (allBytes (recordsAt (groupOf group) (halvesOf n1 n2 n3) (now (volume .entry)) (planeFrom n3 h 0 n2))) (now (out .entry)) r (now (out .exit)) ⌝ }
+{
+    let mut at = start;
+    let mut k = 0;
+    while k < n2 {
+        at = put_line(group, n1, n2, n3, h, k, volume, out, at);
+        k += 1;
+    }
+    at
+}
+
+pub fn put_records(
+    group: u32,
+    n1: u32,
+    n2: u32,
+    n3: u32,
+    volume: &[u32],
+    out: &mut [u8],
+    start: usize,
+) -> usize
+    requires { ⌜ IsFactors group n1 n2 n3 (now volume) ⌝ }
+    requires { ⌜ Room start (length (allBytes (recordsAt (groupOf group) (halvesOf n1 n2 n3) (now volume) (placesOf (halvesOf n1 n2 n3))))) (now out) ⌝ }
+    ensures { λ r. ⌜ Put start (allBytes (recordsAt (groupOf group) (halvesOf n1 n2 n3) (now (volume .entry)) (placesOf (halvesOf n1 n2 n3)))) (now (out .entry)) r (now (out .exit)) ⌝ }
+{
+    let mut at = start;
+    let mut h = 0;
+    while h < n1 {
+        at = put_plane(group, n1, n2, n3, h, volume, out, at);
+        h += 1;
+    }
+    at
+}

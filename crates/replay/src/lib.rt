@@ -1,6 +1,4 @@
 // A script of calls replayed on a job and a volume: call after call, each on what the one before left, and the answers as numbers.
-mod call; // call.rt: one call of a script
-
 use job::Job;
 ghost use mathlib.Core.Path.{_≡_};
 ghost use Prim.Native.Nat.{_/_, min};
@@ -42,10 +40,10 @@ pub fn replay(
     let mut held = job;
     let mut i: usize = 0;
     while i < count {
-        let called = call::call_at(held, script, i, volume, scratch);
+        let called = calls::call_at(held, script, i, volume, scratch);
         let reply = called.reply;
         let next = called.job;
-        call::write_reply(answers, i, reply);
+        calls::replies::write_reply(answers, i, reply);
         held = next;
         i += 1;
     }

@@ -5,7 +5,8 @@ use mathlib.Core.Path.{_≡_, refl, _∙_}
 use Prim.Native.Nat.{_-_}
 use lib.ListN.{length}
 use denote.Ref.{now}
-use Rattle.replay.specs.Script.{callOutcome, replayStep}
+use Rattle.calls.specs.Call.{callOutcome}
+use Rattle.replay.specs.Script.{replayStep}
 use Rattle.replay.proofs.Replaying.{Replaying, resumed-none, replaying-next, replaying-all}
 use Rattle.replay.proofs.Modelled.{replay-modelled}
 use Rattle.replay.proofs.replay.Statement.{statement}

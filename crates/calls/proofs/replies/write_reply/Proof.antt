@@ -2,10 +2,10 @@
 use native.Mathlib.Omega.{arith}
 use lib.ListN.{length-set}
 use denote.Ref.{now}
-use Rattle.replay.proofs.Replaying.{placed-three}
+use Rattle.calls.proofs.Placed.{placed-three}
 use borrow.Author.Needs.{needs}
-use Rattle.replay.proofs.call.write_reply.Statement.{statement}
-use Rattle.replay.proofs.call.write_reply.Tie as tie
+use Rattle.calls.proofs.replies.write_reply.Statement.{statement}
+use Rattle.calls.proofs.replies.write_reply.Tie as tie
 
 mul-at : tie.Need-mul-at
 mul-at c = search needs

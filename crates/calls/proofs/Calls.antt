@@ -1,10 +1,11 @@
 -- One call of a script, from what the job's own call answered and left.
 use mathlib.Core.Path.{_≡_, refl, _∙_, sym, ap}
 use mathlib.Core.List.{List}
-use Prim.Native.Nat.{ℕ, zero, suc}
-use lib.ListN.{length}
-use Rattle.refusal_order.specs.Tests.{first, accepted}
-use Rattle.lengths.specs.Lengths.{cleared}
+use Prim.Native.Nat.{ℕ, zero, suc, _+_, _*_, _≤_}
+use native.Mathlib.Omega.{arith}
+use lib.ListN.{length, getD}
+use Rattle.line.specs.Tests.{first, accepted}
+use Rattle.line.specs.Lengths.{cleared}
 use Rattle.job.specs.declared.Answered.{Answered}
 use Rattle.job.specs.declared.Job.{Job}
 use Rattle.job.specs.declared.Reflection.{Reflection}
@@ -14,18 +15,35 @@ use Rattle.job.specs.Steps.{Said, done, Outcome, Worked, unchanged, position, i
 use Rattle.job.specs.Said.{said, outcome, worked}
 use Rattle.model.specs.Model.{Call, recording, synthesis, analysis, readPoint, readFactor}
 use Rattle.model.specs.Calls.{step}
-use Rattle.replay.specs.declared.call.Called.{Called}
-use Rattle.replay.specs.Script.{callOf, answerNumbers, clearedIfDone, scratchLeft, replyNumbers, callOutcome, callStep}
+use Rattle.calls.specs.declared.Called.{Called}
+use Rattle.calls.specs.Call.{callOf, callAt, answerNumbers, clearedIfDone, scratchLeft, replyNumbers, callOutcome, callStep}
 
 -- ---- what an operation's number stands for
 
-call-other : (s : List ℕ) (o h k l x y : ℕ) → (o ≡ 0 → ⊥) → (o ≡ 1 → ⊥) → (o ≡ 2 → ⊥) → (o ≡ 3 → ⊥) → callOf s o h k l x y ≡ readFactor (record { 0 = h; 1 = k; 2 = l })
+call-other : (s : List ℕ) (o h k l x y : ℕ) → 4 ≤ o → callOf s o h k l x y ≡ readFactor (record { 0 = h; 1 = k; 2 = l })
 unfolding callOf
-call-other s zero h k l x y p q r t = absurd (p refl)
-call-other s (suc zero) h k l x y p q r t = absurd (q refl)
-call-other s (suc (suc zero)) h k l x y p q r t = absurd (r refl)
-call-other s (suc (suc (suc zero))) h k l x y p q r t = absurd (t refl)
-call-other s (suc (suc (suc (suc o)))) h k l x y p q r t = refl
+call-other s zero h k l x y p = absurd (omega arith)
+call-other s (suc zero) h k l x y p = absurd (omega arith)
+call-other s (suc (suc zero)) h k l x y p = absurd (omega arith)
+call-other s (suc (suc (suc zero))) h k l x y p = absurd (omega arith)
+call-other s (suc (suc (suc (suc o)))) h k l x y p = refl
+
+-- no number but the four
+pub four-on : (o : ℕ) → (o ≡ 0 → ⊥) → (o ≡ 1 → ⊥) → (o ≡ 2 → ⊥) → (o ≡ 3 → ⊥) → 4 ≤ o
+four-on zero p q r t = absurd (p refl)
+four-on (suc zero) p q r t = absurd (q refl)
+four-on (suc (suc zero)) p q r t = absurd (r refl)
+four-on (suc (suc (suc zero))) p q r t = absurd (t refl)
+four-on (suc (suc (suc (suc o)))) p q r t = omega arith
+
+module _ (s script : List ℕ) (i : ℕ) where
+  pub is-synthesis : getD script (6 * i) 0 ≡ 1 → synthesis s ≡ callAt s script i
+  unfolding callOf
+  is-synthesis z = rw z refl
+
+  pub is-analysis : getD script (6 * i) 0 ≡ 2 → analysis s ≡ callAt s script i
+  unfolding callOf
+  is-analysis z = rw z refl
 
 -- ---- a reading leaves job and volume
 
@@ -106,26 +124,28 @@ module _ (j : Job) (v : List ℕ) (r : Called) where
       let d = b ∙ ap (λ (q : Outcome). q .job) e in
       λ i. record { reply = p i; job = d i; volume = e i .volume; scratch = t i }
 
-  module _ (s : List ℕ) (h k l x y : ℕ) where
-    module _ (a : Answered) (v′ : List ℕ) (says : replyNumbers (r .reply) ≡ answerNumbers (said (a .answer))) (goes : r .job ≡ a .job) where
-      pub call-record : {o : ℕ} → o ≡ 0 → outcome a v′ ≡ recordStep j (record { 0 = h; 1 = k; 2 = l }) x y v → callOutcome r v′ s ≡ callStep j v s (callOf s o h k l x y)
-      unfolding callOf
-      call-record z e = rw z (of-outcome (outcome a v′) (recording (record { 0 = h; 1 = k; 2 = l }) x y) s s e says goes refl)
-
-      pub call-synthesis : {o : ℕ} (s′ : List ℕ) → o ≡ 1 → worked a v′ s′ ≡ synthesisStep j v s → callOutcome r v′ s′ ≡ callStep j v s (callOf s o h k l x y)
-      unfolding callOf
-      call-synthesis s′ z e = rw z (of-outcome (outcome a v′) (synthesis s) s s′ (ap (λ (w : Worked). w .outcome) e) says goes (ap (λ (w : Worked). w .scratch) e ∙ synthesis-scratch j v s))
-
-      pub call-analysis : {o : ℕ} (s′ : List ℕ) → o ≡ 2 → worked a v′ s′ ≡ analysisStep j v s → callOutcome r v′ s′ ≡ callStep j v s (callOf s o h k l x y)
-      unfolding callOf
-      call-analysis s′ z e = rw z (of-outcome (outcome a v′) (analysis s) s s′ (ap (λ (w : Worked). w .outcome) e) says goes (ap (λ (w : Worked). w .scratch) e ∙ analysis-scratch j v s))
-
-    pub call-point : {o : ℕ} (a : Said) → o ≡ 3 → a ≡ pointStep j (record { 0 = h; 1 = k; 2 = l }) v .answer → replyNumbers (r .reply) ≡ answerNumbers a → r .job ≡ j → callOutcome r v s ≡ callStep j v s (callOf s o h k l x y)
+  module _ (a : Answered) (v′ : List ℕ) (says : replyNumbers (r .reply) ≡ answerNumbers (said (a .answer))) (goes : r .job ≡ a .job) where
+    pub call-record : (s script : List ℕ) (i : ℕ) {k : Reflection} → getD script (6 * i) 0 ≡ 0 → k ≡ record { 0 = getD script (6 * i + 1) 0; 1 = getD script (6 * i + 2) 0; 2 = getD script (6 * i + 3) 0 } →
+        outcome a v′ ≡ recordStep j k (getD script (6 * i + 4) 0) (getD script (6 * i + 5) 0) v → callOutcome r v′ s ≡ callStep j v s (callAt s script i)
     unfolding callOf
-    call-point a z e says goes = rw z (of-outcome (reading a j v) (readPoint (record { 0 = h; 1 = k; 2 = l })) s s (ap (λ (b : Said). reading b j v) e ∙ point-keeps j v (record { 0 = h; 1 = k; 2 = l })) says goes refl)
+    call-record s script i {k} z d e =
+        of-outcome (outcome a v′) (recording k (getD script (6 * i + 4) 0) (getD script (6 * i + 5) 0)) s s e says goes refl
+        ∙ rw (z, d) refl
 
-    pub call-factor : {o : ℕ} (a : Said) → (o ≡ 0 → ⊥) → (o ≡ 1 → ⊥) → (o ≡ 2 → ⊥) → (o ≡ 3 → ⊥) → a ≡ factorStep j (record { 0 = h; 1 = k; 2 = l }) v .answer → replyNumbers (r .reply) ≡ answerNumbers a → r .job ≡ j →
-        callOutcome r v s ≡ callStep j v s (callOf s o h k l x y)
-    call-factor {o} a n0 n1 n2 n3 e says goes =
-        of-outcome (reading a j v) (readFactor (record { 0 = h; 1 = k; 2 = l })) s s (ap (λ (b : Said). reading b j v) e ∙ factor-keeps j v (record { 0 = h; 1 = k; 2 = l })) says goes refl
-        ∙ ap (callStep j v s) (sym (call-other s o h k l x y n0 n1 n2 n3))
+    pub call-synthesis : (s s′ : List ℕ) → worked a v′ s′ ≡ synthesisStep j v s → callOutcome r v′ s′ ≡ callStep j v s (synthesis s)
+    call-synthesis s s′ e = of-outcome (outcome a v′) (synthesis s) s s′ (ap (λ (w : Worked). w .outcome) e) says goes (ap (λ (w : Worked). w .scratch) e ∙ synthesis-scratch j v s)
+
+    pub call-analysis : (s s′ : List ℕ) → worked a v′ s′ ≡ analysisStep j v s → callOutcome r v′ s′ ≡ callStep j v s (analysis s)
+    call-analysis s s′ e = of-outcome (outcome a v′) (analysis s) s s′ (ap (λ (w : Worked). w .outcome) e) says goes (ap (λ (w : Worked). w .scratch) e ∙ analysis-scratch j v s)
+
+  module _ (a : Said) (says : replyNumbers (r .reply) ≡ answerNumbers a) (goes : r .job ≡ j) (s script : List ℕ) (i : ℕ) where
+    pub call-point : {x : GridPoint} → getD script (6 * i) 0 ≡ 3 → x ≡ record { 0 = getD script (6 * i + 1) 0; 1 = getD script (6 * i + 2) 0; 2 = getD script (6 * i + 3) 0 } → a ≡ pointStep j x v .answer → callOutcome r v s ≡ callStep j v s (callAt s script i)
+    unfolding callOf
+    call-point {x} z d e =
+        of-outcome (reading a j v) (readPoint x) s s (ap (λ (b : Said). reading b j v) e ∙ point-keeps j v x) says goes refl
+        ∙ rw (z, d) refl
+
+    pub call-factor : {k : Reflection} → 4 ≤ getD script (6 * i) 0 → k ≡ record { 0 = getD script (6 * i + 1) 0; 1 = getD script (6 * i + 2) 0; 2 = getD script (6 * i + 3) 0 } → a ≡ factorStep j k v .answer → callOutcome r v s ≡ callStep j v s (callAt s script i)
+    call-factor {k} z d e =
+        of-outcome (reading a j v) (readFactor k) s s (ap (λ (b : Said). reading b j v) e ∙ factor-keeps j v k) says goes refl
+        ∙ ap (callStep j v s) (ap readFactor d ∙ sym (call-other s _ _ _ _ _ _ z))

@@ -16,8 +16,8 @@ use Rattle.job.specs.declared.FactorAnswer.{FactorAnswer}
 use Rattle.job.specs.declared.FactorAnswer.the-variants as F
 use Rattle.job.specs.Steps.{OpenOutcome, Said, Outcome, Worked}
 use Rattle.job.specs.Said.{said, saidPoint, saidFactor, openOutcome, outcome, worked}
-use Rattle.factor_file.specs.declared.FileAnswer.{FileAnswer}
-use Rattle.factor_file.specs.declared.FileAnswer.the-variants as I
+use Rattle.feeding.specs.declared.FileAnswer.{FileAnswer}
+use Rattle.feeding.specs.declared.FileAnswer.the-variants as I
 use Rattle.factor_file.specs.Said.{fileOutcome}
 use Rattle.file_writer.specs.declared.WriteAnswer.{WriteAnswer}
 use Rattle.file_writer.specs.declared.WriteAnswer.the-variants as W

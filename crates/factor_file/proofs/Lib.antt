@@ -1,4 +1,1 @@
-pub mod Shapes
-pub mod Reading
-pub mod Feeding
 pub mod Openings

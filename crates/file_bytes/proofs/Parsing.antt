@@ -12,7 +12,7 @@ use Rattle.algebra.proofs.Laws.{along}
 use Rattle.numbers.specs.Prime.{prime}
 use Rattle.numbers.specs.Value.{Value}
 use Rattle.numbers.proofs.Residues.{val-small}
-use Rattle.factor_file.specs.declared.FileRecord.{FileRecord}
+use Rattle.file_shape.specs.declared.FileRecord.{FileRecord}
 use Rattle.factor_file.specs.File.{byteAt, twoBytes, fourBytes, listAt, afterList, recordAt, recordsFrom}
 use Rattle.file_layout.specs.Bytes.{bytes, listBytes, recordBytes, allBytes}
 

@@ -5,7 +5,7 @@ use Rattle.job.specs.declared.Job.{Job}
 use Rattle.job.specs.declared.Reflection.{Reflection}
 use Rattle.job.specs.Header.{Header}
 use Rattle.job.specs.Steps.{Said, done, density, factor, refused, OpenOutcome, openStep, Outcome, recordStep, synthesisStep, analysisStep, pointStep, factorStep}
-use Rattle.factor_file.specs.declared.FileRecord.{FileRecord}
+use Rattle.file_shape.specs.declared.FileRecord.{FileRecord}
 use Rattle.factor_file.specs.File.{headerIn, recordsIn, fileStep}
 use Rattle.model.specs.Model.{Model, Call, recording, synthesis, analysis, readPoint, readFactor, modelSaid, modelAfter, modelVolume, modelJob, Beginning, openingModel, modelOpen, modelFile}
 

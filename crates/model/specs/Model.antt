@@ -17,7 +17,7 @@ use Rattle.job.specs.declared.Reflection.{Reflection}
 use Rattle.job.specs.declared.GridPoint.{GridPoint}
 use Rattle.job.specs.Header.{Header, halvesOf, axisTests, collecting, factorsHeld, mapHeld, jobOf}
 use Rattle.job.specs.Steps.{p, within, index, position, Said, done, density, factor, refused}
-use Rattle.factor_file.specs.declared.FileRecord.{FileRecord}
+use Rattle.file_shape.specs.declared.FileRecord.{FileRecord}
 use Rattle.factor_file.specs.File.{indexOf, headerIn, recordsIn, shapeTests}
 
 -- The header is the opening's. The model uses its group and its lengths; the factor lists are in the job that is given back.

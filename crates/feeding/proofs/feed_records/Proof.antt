@@ -1,0 +1,140 @@
+-- The invariant is `Feeding`: what is left of the records leads from job and volume, as they are, to the outcome of the whole.
+use borrow.Author.Needs.{needs}
+use mathlib.Core.Path.{_≡_, refl, _∙_, sym, ap}
+use mathlib.Core.List.{List}
+use Prim.Native.Nat.{ℕ, _+_, _-_, _<_, _≤_}
+use native.Mathlib.Omega.{arith}
+use lib.ListN.{length, replicate}
+use denote.Ref.{now}
+use Rattle.slices.proofs.Segments.{cleared-all}
+use Rattle.job.specs.Said.{said}
+use Rattle.file_shape.specs.declared.reader.Found.the-variants.{Record}
+use Rattle.file_shape.specs.Shape.{byteAt, countAt, recordsIn}
+use Rattle.file_shape.specs.Reading.{foundAt}
+use Rattle.file_shape.proofs.Shapes.{four-bytes-fit}
+use Rattle.file_shape.proofs.Reading.{record-inside}
+use Rattle.feeding.specs.declared.FileAnswer.the-variants.{Refused}
+use Rattle.feeding.specs.Feed.{feed}
+use Rattle.feeding.specs.Said.{fileOutcome}
+use Rattle.feeding.proofs.Feeding.{Feeding, feeding-start, feeding-end, record-left, feeding-next, feeding-refused}
+use Rattle.feeding.proofs.feed_records.Statement.{statement}
+use Rattle.feeding.proofs.feed_records.Tie as tie
+
+abbrev Inv-loop : tie.InvT-loop
+Inv-loop file job volume₀ at₀ place₀ volume at place = (length volume ≡ length volume₀) × Feeding file (feed (recordsIn file) 0 job volume₀) at place job volume
+
+abbrev μ-loop : tie.MeasureT-loop
+μ-loop file job volume₀ at₀ place₀ volume at place = length file - at
+
+-- the record at the reader's place
+reading : (c : tie.After-found Inv-loop μ-loop) → Record (c .found .given .0 .0) ≡ foundAt (now (c .before .before .before .before .before .before .before .args .file)) (c .before .before .before .loop .at)
+reading c = sym (c .found .given .1) ∙ c .before .before .read-record .ensures
+
+-- its bytes are there, and its place fits
+inside : (c : tie.After-found Inv-loop μ-loop) → c .before .before .before .loop .at + 14 ≤ length (now (c .before .before .before .before .before .before .before .args .file))
+inside c = record-inside _ _ (c .found .given .0 .0) (reading c)
+
+bytes : (c : tie.After-shared-slice-known Inv-loop μ-loop) (i : ℕ) → byteAt (now (c .before .args .file)) i < 256
+bytes c i = omega (arith, c .shared-slice-known .given i)
+
+place-fits : (c : tie.After-found Inv-loop μ-loop) → c .before .before .before .loop .place + 1 < 4294967296
+place-fits c =
+    let l = c .before .before .before in
+    let s = l .before .before .before in
+    let file = now (s .before .args .file) in
+    omega (arith, record-left (l .loop .inv .1) (s .before .pre) (c .found .given .0 .0) (reading c), four-bytes-fit file (countAt file) (bytes s))
+
+count-place-requires : tie.Need-count-place-requires Inv-loop μ-loop
+count-place-requires c κs = search needs
+
+add-at : tie.Need-add-at Inv-loop μ-loop
+add-at c = omega (arith, c .count-place .ensures .1)
+
+loop-holds : tie.Need-loop-holds Inv-loop μ-loop
+loop-holds c = let a = c .before .before .before .args in (refl, feeding-start (now (a .file)) (c .count-place .result) (a .job) (now (a .volume)) (c .count-place .ensures .0))
+
+read-record-requires : tie.Need-read-record-requires Inv-loop μ-loop
+read-record-requires c κs = search needs
+
+enum-known-found : tie.Need-enum-known-found Inv-loop μ-loop
+enum-known-found c = search needs
+
+enum-told : tie.Need-enum-told Inv-loop μ-loop
+enum-told c = search needs
+
+same-length : tie.Need-same-length Inv-loop μ-loop
+same-length c = c .before .before .before .loop .inv .0
+
+returns : tie.Need-returns Inv-loop μ-loop
+returns c =
+    let l = c .before .before .before in
+    feeding-end (l .loop .inv .1) (l .before .before .before .before .pre) (sym (c .enum-told .given .1) ∙ c .before .before .read-record .ensures)
+
+record-requires : tie.Need-record-requires Inv-loop μ-loop
+record-requires c κs = search needs
+
+enum-known-answer : tie.Need-enum-known-answer Inv-loop μ-loop
+enum-known-answer c = search needs
+
+clear-requires : tie.Need-clear-requires Inv-loop μ-loop
+clear-requires c κs = search needs
+
+same-length-2 : tie.Need-same-length-2 Inv-loop μ-loop
+same-length-2 c =
+    let r = c .before .before .before .before .before .before .before .before .before in
+    c .before .before .clear .kept .0 ∙ r .«record» .kept .1 .1 .1 .1 .0 ∙ r .before .before .before .before .before .before .loop .inv .0
+
+returns-2 : tie.Need-returns-2 Inv-loop μ-loop
+returns-2 c =
+    let a = c .before .before .before .before .before in
+    let r = a .before .before .before .before in
+    let f = r .before .before .before in
+    let l = f .before .before .before in
+    let v = r .«record» .last .1 .1 .1 .1 .0 in
+    let zero = c .before .before .clear .ensures ∙ cleared-all (length v) v (omega arith) ∙ ap (λ (n : ℕ). replicate n 0) (r .«record» .kept .1 .1 .1 .1 .0) in
+    ap (λ (v : List ℕ). fileOutcome (Refused (a .answer .given .0 .0) (l .loop .place)) v) zero
+    ∙ feeding-refused (l .loop .inv .1) (l .before .before .before .before .pre) (f .found .given .0 .0) (reading f) _ (r .«record» .ensures) _ (ap said (a .answer .given .1))
+
+enum-told-2 : tie.Need-enum-told-2 Inv-loop μ-loop
+enum-told-2 c = search needs
+
+add-place : tie.Need-add-place Inv-loop μ-loop
+add-place c = omega (arith, place-fits (c .before .before .before .before .before .before .before))
+
+add-at-2 : tie.Need-add-at-2 Inv-loop μ-loop
+add-at-2 c = omega (arith, inside (c .before .before .before .before .before .before .before), c .before .before .before .before .before .before .before .before .before .before .before .before .before .before .good .0)
+
+loop-less : tie.Need-loop-less Inv-loop μ-loop
+loop-less c = omega (arith, inside (c .before .before .before .before .before .before .before))
+
+loop-again : tie.Need-loop-again Inv-loop μ-loop
+loop-again c =
+    let r = c .before .before .before .before in
+    let f = r .before .before .before in
+    let l = f .before .before .before in
+    (r .«record» .kept .1 .1 .1 .1 .0 ∙ l .loop .inv .0, feeding-next (l .loop .inv .1) (l .before .before .before .before .pre) (f .found .given .0 .0) (reading f) _ (r .«record» .ensures) (ap said (c .enum-told2 .given .1)))
+
+pub feed-records-spec : {M : Type 1} → statement M
+feed-records-spec =
+    tie.close
+    (tie.spec
+    Inv-loop
+    μ-loop
+    count-place-requires
+    add-at
+    loop-holds
+    read-record-requires
+    enum-known-found
+    enum-told
+    same-length
+    returns
+    record-requires
+    enum-known-answer
+    clear-requires
+    same-length-2
+    returns-2
+    enum-told-2
+    add-place
+    add-at-2
+    loop-less
+    loop-again)

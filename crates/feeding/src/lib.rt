@@ -1,0 +1,44 @@
+// The records of a factor file, recorded in a job one after another.
+// A refused record ends it: its place is answered, and the volume is left zero.
+use file_shape::reader;
+use file_shape::reader::Found;
+use file_shape::shape;
+use job::Answer;
+use job::Job;
+use job::Reflection;
+use line::Refusal;
+ghost use mathlib.Core.Path.{_≡_};
+ghost use Rattle.line.specs.Tests.{first};
+ghost use Rattle.file_shape.specs.Shape.{shapeTests, recordsIn};
+ghost use Rattle.feeding.specs.Feed.{feed};
+ghost use Rattle.feeding.specs.Said.{fileOutcome};
+
+// The answer of the opening of a file: a job, or the refusal and the place, from 0, of the record at fault (0 where it is no record).
+pub enum FileAnswer {
+    Opened(Job),
+    Refused(Refusal, u32),
+}
+
+// The records of a file of sound shape, one after another. A record leaves the job as it is.
+pub fn feed_records(file: &[u8], job: Job, volume: &mut [u32]) -> FileAnswer
+    requires { ⌜ 0 ≡ first (shapeTests (now file)) ⌝ }
+    ensures { λ r. ⌜ fileOutcome r (now (volume .exit)) ≡ feed (recordsIn (now (file .entry))) 0 job (now (volume .entry)) ⌝ }
+{
+    let mut at = shape::count_place(file) + 4;
+    let mut place: u32 = 0;
+    loop {
+        let found = reader::read_record(file, at);
+        let Found::Record(c) = found else {
+            return FileAnswer::Opened(job);
+        };
+        let answered = job.record(Reflection(c.h, c.k, c.l), c.a, c.b, volume);
+        let answer = answered.answer;
+        if let Answer::Refused(refusal) = answer {
+            let count = volume.len();
+            slices::clear(volume, count);
+            return FileAnswer::Refused(refusal, place);
+        }
+        place += 1;
+        at += 14;
+    }
+}

@@ -4,8 +4,8 @@ use mathlib.Core.List.{List}
 use Prim.Native.Nat.{ℕ, zero, suc, _+_, _*_, _≤_}
 use native.Mathlib.Omega.{arith}
 use lib.ListN.{length, getD}
-use Rattle.line.specs.Tests.{first, accepted}
-use Rattle.line.specs.Lengths.{cleared}
+use Rattle.refusal_order.specs.Tests.{first, accepted}
+use Rattle.lengths.specs.Lengths.{cleared}
 use Rattle.job.specs.declared.Answered.{Answered}
 use Rattle.job.specs.declared.Job.{Job}
 use Rattle.job.specs.declared.Reflection.{Reflection}

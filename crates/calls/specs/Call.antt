@@ -4,7 +4,7 @@
 use mathlib.Core.List.{List, [], _∷_}
 use Prim.Native.Nat.{ℕ, zero, suc, _+_, _*_}
 use lib.ListN.{getD}
-use Rattle.line.specs.Lengths.{cleared}
+use Rattle.lengths.specs.Lengths.{cleared}
 use Rattle.job.specs.declared.Job.{Job}
 use Rattle.job.specs.Steps.{Said, done, density, factor, refused}
 use Rattle.model.specs.Model.{Call, recording, synthesis, analysis, readPoint, readFactor}

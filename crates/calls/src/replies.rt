@@ -3,12 +3,12 @@ use crate::Reply;
 use job::Answer;
 use job::FactorAnswer;
 use job::PointAnswer;
-use line::Refusal;
+use refusal_order::Refusal;
 ghost use mathlib.Core.Path.{_≡_};
 ghost use mathlib.Core.List.{_++_};
 ghost use Prim.Native.Nat.{_+_, _*_, _≤_};
 ghost use lib.ListN.{length, take, drop};
-ghost use Rattle.line.specs.Refusals.{numberOf};
+ghost use Rattle.refusal_order.specs.Refusals.{numberOf};
 ghost use Rattle.job.specs.Steps.{refused};
 ghost use Rattle.job.specs.Said.{said, saidPoint, saidFactor};
 ghost use Rattle.calls.specs.Call.{answerNumbers, replyNumbers};
@@ -17,7 +17,7 @@ fn refusal_reply(refusal: Refusal) -> Reply
     ensures { λ r. ⌜ replyNumbers r ≡ answerNumbers (refused (numberOf refusal)) ⌝ }
 {
     Reply {
-        number: line::number_of(refusal),
+        number: refusal_order::number_of(refusal),
         x: 0,
         y: 0,
     }

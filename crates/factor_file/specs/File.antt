@@ -5,7 +5,7 @@ unfoldable pub use Rattle.feeding.specs.Feed.{feed}
 pub use Rattle.feeding.specs.Feed.{indexOf}
 use mathlib.Core.List.{List}
 use Prim.Native.Nat.{ℕ}
-use Rattle.line.specs.Tests.{first, accepted}
+use Rattle.refusal_order.specs.Tests.{first, accepted}
 use Rattle.job.specs.Header.{Header}
 use Rattle.job.specs.Steps.{Opening, opened, notOpened, OpenOutcome, openStep}
 

@@ -3,7 +3,7 @@ use feeding::FileAnswer;
 use file_shape::big_endian;
 use file_shape::shape;
 use job::OpenAnswer;
-use line::Checked;
+use refusal_order::Checked;
 ghost use mathlib.Core.Path.{_≡_};
 ghost use Rattle.refusal_order.specs.Tests.{first};
 ghost use Rattle.job.specs.Steps.{openStep};

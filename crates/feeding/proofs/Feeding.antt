@@ -5,7 +5,7 @@ use Prim.Native.Nat.{ℕ, zero, suc, _+_, _*_, _-_, _<_, _≤_}
 use native.Mathlib.Omega.{arith}
 use native.Mathlib.Numerals.{add-one}
 use lib.ListN.{length, replicate}
-use Rattle.line.specs.Tests.{first, accepted}
+use Rattle.refusal_order.specs.Tests.{first, accepted}
 use Rattle.job.specs.declared.Job.{Job}
 use Rattle.job.specs.Steps.{opened, notOpened, OpenOutcome, done, refused, Outcome, unchanged, index, recordTests, recordStep}
 use Rattle.file_shape.specs.declared.FileRecord.{FileRecord}

@@ -4,7 +4,7 @@ use mathlib.Core.List.{List, [], _∷_, _++_, append-assoc, append-nil}
 use Prim.Native.Nat.{ℕ, _/_, _%_}
 use native.Mathlib.Omega.{arith}
 use lib.ListN.{length, length-append}
-use Rattle.line.specs.Lengths.{octalDigits}
+use Rattle.lengths.specs.Lengths.{octalDigits}
 use Rattle.refusals.proofs.Digits.{digit-cons}
 use Rattle.file_layout.proofs.Digits.{no-digits, digit-more}
 use Rattle.file_bytes.specs.Stores.{Room, Put}

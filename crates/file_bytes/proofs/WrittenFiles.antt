@@ -9,8 +9,8 @@ use borrow.Author.Tests.{eq-eqb, ne-eqb, le-ltb}
 use Rattle.algebra.specs.Cell.{J}
 use Rattle.algebra.specs.Orbit.{Mem}
 use Rattle.numbers.specs.Value.{Value}
-use Rattle.line.specs.Tests.{first}
-use Rattle.line.proofs.Tests.{pass, none, not-t}
+use Rattle.refusal_order.specs.Tests.{first}
+use Rattle.refusal_order.proofs.Tests.{pass, none, not-t}
 use Rattle.refusals.specs.Header.{Header}
 use Rattle.factor_file.specs.File.{byteAt, fourBytes, list2At, list3At, countAt, headerIn, recordCount, recordsIn, recordsFrom, shapeTests}
 use Rattle.file_layout.specs.Bytes.{bytes, listBytes, headerBytes, allBytes, body, fileOf}

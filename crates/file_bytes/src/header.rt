@@ -2,7 +2,7 @@
 use crate::bytes;
 ghost use Prim.Native.Nat.{_<_};
 ghost use lib.ListN.{length};
-ghost use Rattle.line.specs.Lengths.{octalDigits};
+ghost use Rattle.lengths.specs.Lengths.{octalDigits};
 ghost use Rattle.file_layout.specs.Bytes.{listBytes, headerBytes, headerWith};
 ghost use Rattle.file_bytes.specs.Stores.{Room, Put};
 

@@ -4,7 +4,7 @@ use mathlib.Core.List.{[]}
 use Prim.Native.Nat.{ℕ, zero, suc, _/_, _^_, _<_, _≤_}
 use native.Mathlib.Omega.{arith}
 use lib.ListN.{length}
-use Rattle.line.specs.Lengths.{digits, octalDigits}
+use Rattle.lengths.specs.Lengths.{digits, octalDigits}
 use Rattle.refusals.proofs.Digits.{digit-cons}
 
 pub no-digits : (n : ℕ) → n ≡ 0 → octalDigits n ≡ []

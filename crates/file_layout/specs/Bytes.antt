@@ -4,7 +4,7 @@ use Prim.Native.Nat.{ℕ, zero, suc, _/_, _%_}
 use lib.ListN.{length}
 use Rattle.algebra.specs.Cell.{J}
 use Rattle.numbers.specs.Value.{Value}
-use Rattle.line.specs.Lengths.{octalDigits}
+use Rattle.lengths.specs.Lengths.{octalDigits}
 use Rattle.refusals.specs.Header.{Header}
 
 -- n big-endian bytes of a number

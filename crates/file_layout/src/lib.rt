@@ -6,7 +6,7 @@ ghost use Prim.Native.Nat.{ℕ, _+_, _*_, _≤_};
 ghost use lib.ListN.{length};
 ghost use Rattle.algebra.specs.Cell.{J};
 ghost use Rattle.numbers.specs.Value.{Value};
-ghost use Rattle.line.specs.Lengths.{octalDigits};
+ghost use Rattle.lengths.specs.Lengths.{octalDigits};
 ghost use Rattle.file_layout.specs.Bytes.{headerBytes, fileOf, headerWith};
 
 // How many octal digits a number has.

@@ -7,8 +7,8 @@ use native.Mathlib.Omega.{arith}
 use lib.ListN.{length, take, drop}
 use lib.Dec.{ltb, eqb}
 use borrow.Author.Tests.{lt-ltb, le-ltb, eq-eqb, ne-eqb, eqb-true, not-false}
-use Rattle.line.specs.Tests.{_⇒_, first}
-use Rattle.line.proofs.Tests.{stop, pass, none, not-t, not-f, passed}
+use Rattle.refusal_order.specs.Tests.{_⇒_, first}
+use Rattle.refusal_order.proofs.Tests.{stop, pass, none, not-t, not-f, passed}
 use Rattle.file_shape.specs.declared.shape.Places.{Places}
 use Rattle.file_shape.specs.Shape.{byteAt, twoBytes, fourBytes, listAt, afterList, list2At, list3At, countAt, recordCount, shapeTests}
 use Rattle.file_shape.specs.Reading.{PlacesOf}

@@ -6,7 +6,7 @@ use mathlib.Core.List.{List, [], _∷_}
 use Prim.Native.Nat.{ℕ, zero, suc, _+_, _*_, _-_}
 use lib.ListN.{length, getD, take, drop}
 use lib.Dec.{ltb, eqb}
-use Rattle.line.specs.Tests.{Test, _⇒_}
+use Rattle.refusal_order.specs.Tests.{Test, _⇒_}
 use Rattle.file_shape.specs.declared.FileRecord.{FileRecord}
 
 -- ---- numbers. A place beyond the file reads as 0.

@@ -4,7 +4,7 @@ use refusal_order::Checked;
 use refusal_order::Refusal;
 ghost use mathlib.Core.Path.{_≡_};
 ghost use Prim.Native.Nat.{_+_, _≤_, _<_};
-ghost use Rattle.line.specs.Tests.{first, checkedNumber};
+ghost use Rattle.refusal_order.specs.Tests.{first, checkedNumber};
 ghost use Rattle.file_shape.specs.Shape.{byteAt, afterList, countAt, shapeTests};
 ghost use Rattle.file_shape.specs.Reading.{PlacesOf};
 

@@ -10,11 +10,11 @@ use lib.Dec.{eqb, ltb}
 use borrow.Author.Tests.{eq-eqb, ne-eqb, lt-ltb, le-ltb, eqb-true, ltb-false}
 use Rattle.algebra.specs.Cell.{J}
 use Rattle.numbers.specs.Value.{Value}
-use Rattle.line.specs.declared.Refusal.{Refusal}
-use Rattle.line.specs.Refusals.{numberOf}
-use Rattle.line.specs.Tests.{Test, _⇒_, first, accepted}
-use Rattle.line.specs.Lengths.{scratchLength}
-use Rattle.line.proofs.Tests.{Passed, passed, fails}
+use Rattle.refusal_order.specs.declared.Refusal.{Refusal}
+use Rattle.refusal_order.specs.Refusals.{numberOf}
+use Rattle.refusal_order.specs.Tests.{Test, _⇒_, first, accepted}
+use Rattle.lengths.specs.Lengths.{scratchLength}
+use Rattle.refusal_order.proofs.Tests.{Passed, passed, fails}
 use Rattle.cell.specs.Volume.{volumeLength}
 use Rattle.job.specs.declared.Job.{Job}
 use Rattle.job.specs.Header.{headerOf, axisTests, validJob, mapHeld, groupIn, halves}

@@ -3,7 +3,7 @@ use mathlib.Core.List.{List, [], _∷_, _++_}
 use Prim.Native.Nat.{ℕ}
 use lib.ListN.{length, drop}
 use lib.Dec.{ltb, eqb}
-use Rattle.line.specs.Tests.{Test, _⇒_, first, accepted}
+use Rattle.refusal_order.specs.Tests.{Test, _⇒_, first, accepted}
 use Rattle.file_writer.specs.Writing.{written, notWritten, WriteOutcome}
 
 -- 17, 18: there is a record, and the file fits

@@ -9,8 +9,8 @@ use Rattle.algebra.specs.Cell.{J}
 use Rattle.algebra.specs.CellTests.{placesOf}
 use Rattle.numbers.specs.Value.{Value}
 use Rattle.slices.specs.Pairs.{allBelow}
-use Rattle.line.specs.Tests.{Test, _⇒_, first, accepted}
-use Rattle.line.specs.Refusals.{numberOf}
+use Rattle.refusal_order.specs.Tests.{Test, _⇒_, first, accepted}
+use Rattle.refusal_order.specs.Refusals.{numberOf}
 use Rattle.cell.specs.Consistency.{consistentFactors}
 use Rattle.job.specs.declared.Job.{Job}
 use Rattle.job.specs.Header.{headerOf, groupIn, halves, validJob, mapHeld}

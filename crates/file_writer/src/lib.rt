@@ -5,8 +5,8 @@
 use file_bytes::records;
 use job::Job;
 use job::valid;
-use line::Checked;
-use line::Refusal;
+use refusal_order::Checked;
+use refusal_order::Refusal;
 use refusals::synthesis;
 ghost use mathlib.Core.Path.{_≡_};
 ghost use Prim.Native.Nat.{_≤_};

@@ -6,8 +6,8 @@ use Prim.Native.Nat.{ℕ}
 use lib.ListN.{length, getD, drop}
 use lib.Dec.{ltb, eqb}
 use Rattle.output.specs.Decimal.{decimal, blank, lineFeed, each}
-use Rattle.line.specs.Tests.{Test, _⇒_, first, accepted}
-use Rattle.line.specs.Refusals.{numberOf}
+use Rattle.refusal_order.specs.Tests.{Test, _⇒_, first, accepted}
+use Rattle.refusal_order.specs.Refusals.{numberOf}
 use Rattle.cell.specs.Volume.{layers, mapPlace}
 use Rattle.job.specs.declared.Job.{Job}
 use Rattle.job.specs.Header.{groupIn, halves, validJob, mapHeld}

@@ -4,7 +4,7 @@
 pub mod text; // text.rt: the text of a map that a job holds
 pub mod refusal; // refusal.rt: the text of a refusal
 
-use line::Refusal;
+use refusal_order::Refusal;
 
 // How many bytes of text were written, or why none were.
 pub enum TextAnswer {

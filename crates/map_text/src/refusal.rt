@@ -1,10 +1,10 @@
 // The text of a refusal: its number, and the place of the record at fault.
 use crate::TextAnswer;
-use line::Refusal;
+use refusal_order::Refusal;
 ghost use mathlib.Core.Path.{_≡_};
 ghost use lib.ListN.{length};
 ghost use Rattle.output.specs.Writing.{Wrote};
-ghost use Rattle.line.specs.Refusals.{numberOf};
+ghost use Rattle.refusal_order.specs.Refusals.{numberOf};
 ghost use Rattle.map_text.specs.Text.{refusalText, putText, textOutcome};
 
 // "refused 12 at 0", from the output's first byte on.
@@ -30,7 +30,7 @@ fn refusal_length(number: u32, place: u32) -> usize
 pub fn refusal_text(refusal: Refusal, place: u32, out: &mut [u8]) -> TextAnswer
     ensures { λ r. ⌜ textOutcome r (now (out .exit)) ≡ putText (refusalText (numberOf refusal) place) (now (out .entry)) ⌝ }
 {
-    let number = line::number_of(refusal);
+    let number = refusal_order::number_of(refusal);
     if out.len() < refusal_length(number, place) {
         return TextAnswer::Refused(Refusal::OutputTooShort);
     }

@@ -9,7 +9,7 @@ use refusals::tests;
 ghost use mathlib.Core.Path.{_≡_};
 ghost use Prim.Native.Nat.{_<_};
 ghost use lib.ListN.{length};
-ghost use Rattle.line.specs.Tests.{first, checkedNumber};
+ghost use Rattle.refusal_order.specs.Tests.{first, checkedNumber};
 ghost use Rattle.cell.specs.Volume.{layers};
 ghost use Rattle.job.specs.Header.{groupIn, halves};
 ghost use Rattle.output.specs.Decimal.{each};

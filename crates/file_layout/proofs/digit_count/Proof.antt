@@ -3,7 +3,7 @@ use mathlib.Core.Path.{_≡_}
 use Prim.Native.Nat.{_+_}
 use native.Mathlib.Omega.{arith}
 use lib.ListN.{length}
-use Rattle.line.specs.Lengths.{octalDigits}
+use Rattle.lengths.specs.Lengths.{octalDigits}
 use Rattle.file_layout.proofs.Digits.{digit-more, digit-none, word-digits}
 use Rattle.file_layout.proofs.digit_count.Statement.{statement}
 use Rattle.file_layout.proofs.digit_count.Tie as tie

@@ -8,9 +8,9 @@ use borrow.Author.Tests.{not-false, eqb-true}
 use Rattle.numbers.specs.Prime.{prime}
 use Rattle.numbers.proofs.Primes.{prime-pos}
 use Rattle.slices.proofs.Bounds.{below-allBelow}
-use Rattle.line.specs.Tests.{first, checkedNumber}
-use Rattle.line.proofs.Tests.{Passed, passed}
-use Rattle.line.specs.Lengths.{scratchLength}
+use Rattle.refusal_order.specs.Tests.{first, checkedNumber}
+use Rattle.refusal_order.proofs.Tests.{Passed, passed}
+use Rattle.lengths.specs.Lengths.{scratchLength}
 use Rattle.refusals.specs.Tests.{synthesisTestsOf}
 use Rattle.job.specs.Header.{headerOf}
 use Rattle.job.proofs.Jobs.{valid-sizes}

@@ -4,7 +4,7 @@ use native.Mathlib.Omega.{arith}
 use mathlib.Core.Path.{_≡_}
 use Prim.Native.Nat.{_+_}
 use lib.ListN.{length}
-use Rattle.line.specs.Lengths.{octalDigits}
+use Rattle.lengths.specs.Lengths.{octalDigits}
 use Rattle.file_layout.specs.Bytes.{bytes, headerBytes, headerWith}
 use Rattle.file_bytes.proofs.Stores.{put-then}
 use Rattle.file_layout.proofs.FileParts.{length-header}

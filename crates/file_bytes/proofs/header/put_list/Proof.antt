@@ -4,7 +4,7 @@ use native.Mathlib.Omega.{arith}
 use mathlib.Core.Path.{ap}
 use mathlib.Core.List.{_∷_}
 use Prim.Native.Nat.{ℕ}
-use Rattle.line.specs.Lengths.{octalDigits}
+use Rattle.lengths.specs.Lengths.{octalDigits}
 use Rattle.file_bytes.proofs.Stores.{put-then, put-as, room-rest}
 use Rattle.file_layout.proofs.Digits.{word-digits}
 use Rattle.file_bytes.proofs.header.put_list.Statement.{statement}

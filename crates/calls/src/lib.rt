@@ -34,10 +34,10 @@ pub fn call_at(
 {
     let operation = script[6 * i];
     match operation {
-        0 => operations::record_call(job, script, i, volume),
-        1 => operations::synthesis_call(job, volume, scratch),
-        2 => operations::analysis_call(job, volume, scratch),
-        3 => operations::point_call(job, script, i, &volume[..]),
-        _ => operations::factor_call(job, script, i, &volume[..]),
+        0 => return operations::record_call(job, script, i, volume),
+        1 => return operations::synthesis_call(job, volume, scratch),
+        2 => return operations::analysis_call(job, volume, scratch),
+        3 => return operations::point_call(job, script, i, &volume[..]),
+        _ => return operations::factor_call(job, script, i, &volume[..]),
     }
 }

@@ -41,10 +41,8 @@ pub fn replay(
     let mut i: usize = 0;
     while i < count {
         let called = calls::call_at(held, script, i, volume, scratch);
-        let reply = called.reply;
-        let next = called.job;
-        calls::replies::write_reply(answers, i, reply);
-        held = next;
+        calls::replies::write_reply(answers, i, called.reply);
+        held = called.job;
         i += 1;
     }
     Replayed {

@@ -34,20 +34,20 @@ write-reply-requires : tie.Need-write-reply-requires Inv-loop μ-loop
 write-reply-requires c κs = omega arith
 
 add-i : tie.Need-add-i Inv-loop μ-loop
-add-i c = omega (arith, c .before .before .before .before .before .before .before .before .before .before .before .before .before .before .before .call-count .ensures, c .before .before .before .before .before .before .before .before .before .before .before .before .before .before .before .before .before .before .before .before .good .1 .0)
+add-i c = omega (arith, c .before .before .before .before .before .before .before .before .before .before .before .before .before .before .call-count .ensures, c .before .before .before .before .before .before .before .before .before .before .before .before .before .before .before .before .before .before .before .good .1 .0)
 
 loop-less : tie.Need-loop-less Inv-loop μ-loop
 loop-less c = omega arith
 
 loop-again : tie.Need-loop-again Inv-loop μ-loop
 loop-again c =
-    let d = c .before .before .before .before .before .before .before .before .before .before .call-at in
-    let l = c .before .before .before .before .before .before .before .before .before .before .before .before .before .before in
-    let w = c .before .before .write-reply in
-    (d .kept .1 .1 .1 .0 ∙ l .loop .inv .0, replaying-next (callOutcome (d .result) (d .last .1 .1 .1 .0) (d .last .1 .1 .1 .1 .0)) (w .last .0) (l .loop .inv .1) (c .before .before .before .before .before .before .before .before .before .before .before .before .before .loop-test .taken) (omega (arith, l .before .call-count .ensures)) (d .kept .1 .1 .1 .1 .0) (w .kept .0) (d .ensures) (w .ensures))
+    let d = c .before .before .before .before .before .before .before .before .before .call-at in
+    let l = c .before .before .before .before .before .before .before .before .before .before .before .before .before in
+    let w = c .before .before .before .write-reply in
+    (d .kept .1 .1 .1 .0 ∙ l .loop .inv .0, replaying-next (callOutcome (d .result) (d .last .1 .1 .1 .0) (d .last .1 .1 .1 .1 .0)) (w .last .0) (l .loop .inv .1) (c .before .before .before .before .before .before .before .before .before .before .before .before .loop-test .taken) (omega (arith, l .before .call-count .ensures)) (d .kept .1 .1 .1 .1 .0) (w .kept .0) (d .ensures) (w .ensures))
 
-mul-t12 : tie.Need-mul-t12 Inv-loop μ-loop
-mul-t12 c = omega arith
+mul-t10 : tie.Need-mul-t10 Inv-loop μ-loop
+mul-t10 c = omega arith
 
 same-length : tie.Need-same-length Inv-loop μ-loop
 same-length c = c .before .loop .inv .0
@@ -77,7 +77,7 @@ replay-spec =
     add-i
     loop-less
     loop-again
-    mul-t12
+    mul-t10
     same-length
     same-length-2
     same-length-3

@@ -1,5 +1,5 @@
 /* Synthesis and analysis of cubic cells of all four groups by the proved calls, beside the same passes in C (passes.h) and FFTW's double
-   transforms of the same grid (fftw.h), then records and files (files.h), in one run. The runs alternate: three turns, each over all
+   transforms of the same grid (fftw.h), then records and files (files.h), in one run. The runs alternate: five turns, each over all
    cells, grids and files, and of each the least processor time. The small cells are run three times a turn, as their times are uneven.
    Both volumes are compared after every call. */
 #define _POSIX_C_SOURCE 199309L

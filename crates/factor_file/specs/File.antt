@@ -1,24 +1,13 @@
--- The factor file: the header that it holds, and what opening it answers and leaves. Its layout is told in `Shape` of the crate `file_shape`, what its records lead to in `Feed` of the crate `feeding`.
+-- The factor file: what opening it answers and leaves. Its layout is told in `Shape` of the crate `file_shape`, the header that it holds in `HeaderIn` of the crate `file_layout`, what its records lead to in `Feed` of the crate `feeding`.
 unfoldable pub use Rattle.file_shape.specs.Shape.{twoBytes, fourBytes, listAt, list2At, list3At, countAt, recordAt, recordsFrom}
 pub use Rattle.file_shape.specs.Shape.{byteAt, afterList, list1At, recordCount, recordsIn, shapeTests}
 unfoldable pub use Rattle.feeding.specs.Feed.{feed}
 pub use Rattle.feeding.specs.Feed.{indexOf}
+pub use Rattle.file_layout.specs.HeaderIn.{headerIn}
 use mathlib.Core.List.{List}
 use Prim.Native.Nat.{ℕ}
 use Rattle.refusal_order.specs.Tests.{first, accepted}
-use Rattle.job.specs.Header.{Header}
 use Rattle.job.specs.Steps.{Opening, opened, notOpened, OpenOutcome, openStep}
-
--- ---- the header
-
-abbrev pub headerIn : List ℕ → Header
-headerIn file = record {
-  group = byteAt file 5;
-  lengths = (twoBytes file 6, twoBytes file 8, twoBytes file 10);
-  list1 = listAt file list1At;
-  list2 = listAt file (list2At file);
-  list3 = listAt file (list3At file);
-}
 
 -- ---- the opening of a file
 

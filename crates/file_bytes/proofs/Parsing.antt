@@ -13,7 +13,7 @@ use Rattle.numbers.specs.Prime.{prime}
 use Rattle.numbers.specs.Value.{Value}
 use Rattle.numbers.proofs.Residues.{val-small}
 use Rattle.file_shape.specs.declared.FileRecord.{FileRecord}
-use Rattle.factor_file.specs.File.{byteAt, twoBytes, fourBytes, listAt, afterList, recordAt, recordsFrom}
+use Rattle.file_shape.specs.Shape.{byteAt, twoBytes, fourBytes, listAt, afterList, recordAt, recordsFrom}
 use Rattle.file_layout.specs.Bytes.{bytes, listBytes, recordBytes, allBytes}
 
 -- a record of a file by its numbers, and one whose index two bytes can hold

@@ -12,7 +12,8 @@ use Rattle.numbers.specs.Value.{Value}
 use Rattle.refusal_order.specs.Tests.{first}
 use Rattle.refusal_order.proofs.Tests.{pass, none, not-t}
 use Rattle.refusals.specs.Header.{Header}
-use Rattle.factor_file.specs.File.{byteAt, fourBytes, list2At, list3At, countAt, headerIn, recordCount, recordsIn, recordsFrom, shapeTests}
+use Rattle.file_shape.specs.Shape.{byteAt, fourBytes, list2At, list3At, countAt, recordCount, recordsIn, recordsFrom, shapeTests}
+use Rattle.file_layout.specs.HeaderIn.{headerIn}
 use Rattle.file_layout.specs.Bytes.{bytes, listBytes, headerBytes, allBytes, body, fileOf}
 use Rattle.file_layout.proofs.ByteLaws.{length-all}
 use Rattle.file_layout.proofs.FileParts.{length-body, length-file}

@@ -7,8 +7,9 @@ use Rattle.algebra.specs.Cell.{planes}
 use Rattle.cell.specs.Operations.{halvesOf}
 use Rattle.cell.specs.Volume.{groupOf, volumeLength}
 use mathlib.Core.List.{List}
-use Rattle.job.specs.Header.{needed}
-use Rattle.factor_file.specs.File.{byteAt, twoBytes, headerIn}
+use Rattle.refusals.specs.Header.{needed}
+use Rattle.file_shape.specs.Shape.{byteAt, twoBytes}
+use Rattle.file_layout.specs.HeaderIn.{headerIn}
 
 -- the planes of each group, and of a number that no group has
 pub planes-half : {n : ℕ} (c : ℕ) → n ≡ 1 → c ≡ planes (groupOf n) c

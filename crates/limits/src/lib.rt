@@ -1,6 +1,6 @@
 // The map printer's limits: it reads files of at most 8,192 bytes, and lends a file as many numbers as its header asks for, or 2,048
 // where that asks for more. The file is any list of bytes, so the header's lengths are any numbers of two bytes here.
-use factor_file::big_endian;
+use file_shape::big_endian;
 ghost use mathlib.Core.Path.{_≡_};
 ghost use Prim.Native.Nat.{_<_, _≤_, min};
 ghost use lib.ListN.{length};
@@ -8,8 +8,9 @@ ghost use lib.Dec.{ltb};
 ghost use Rattle.algebra.specs.Cell.{planes};
 ghost use Rattle.cell.specs.Operations.{halvesOf};
 ghost use Rattle.cell.specs.Volume.{groupOf, volumeLength};
-ghost use Rattle.job.specs.Header.{needed};
-ghost use Rattle.factor_file.specs.File.{byteAt, twoBytes, headerIn};
+ghost use Rattle.refusals.specs.Header.{needed};
+ghost use Rattle.file_shape.specs.Shape.{byteAt, twoBytes};
+ghost use Rattle.file_layout.specs.HeaderIn.{headerIn};
 ghost use Rattle.limits.specs.Limits.{fileLimit, volumeLimit};
 
 // Whether a file is longer than the printer reads.

@@ -2,8 +2,8 @@
 use borrow.Author.Needs.{needs}
 use mathlib.Core.Path.{_≡_}
 use native.Mathlib.Omega.{arith}
-use Rattle.job.specs.Header.{needed}
-use Rattle.factor_file.specs.File.{headerIn}
+use Rattle.refusals.specs.Header.{needed}
+use Rattle.file_layout.specs.HeaderIn.{headerIn}
 use Rattle.limits.proofs.Needs.{header-needs}
 use Rattle.limits.proofs.lent_to.Statement.{statement}
 use Rattle.limits.proofs.lent_to.Tie as tie

@@ -1,0 +1,14 @@
+-- The header that a factor file holds.
+use mathlib.Core.List.{List}
+use Prim.Native.Nat.{ℕ}
+use Rattle.file_shape.specs.Shape.{byteAt, twoBytes, listAt, list1At, list2At, list3At}
+use Rattle.refusals.specs.Header.{Header}
+
+abbrev pub headerIn : List ℕ → Header
+headerIn file = record {
+  group = byteAt file 5;
+  lengths = (twoBytes file 6, twoBytes file 8, twoBytes file 10);
+  list1 = listAt file list1At;
+  list2 = listAt file (list2At file);
+  list3 = listAt file (list3At file);
+}

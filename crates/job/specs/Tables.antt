@@ -1,13 +1,18 @@
--- Tables of the conjugate root.
+-- Tables of the root or of its conjugate, by the direction of a transform.
 use mathlib.Core.Path.{_≡_}
 use mathlib.Core.List.{List}
-use Prim.Native.Nat.{ℕ}
+use Prim.Native.Nat.{ℕ, zero, suc}
 use lib.ListN.{length}
 use Rattle.numbers.specs.Root.{NegatedTable}
 
--- the n numbers of a table of the root, negated
-pub record Negated (Table : List ℕ → Type 0) (n : ℕ) (u : List ℕ) : Type 0 where
+-- direction 0 takes a table as it is, direction 1 negated
+abbrev pub Turned : (direction : ℕ) (of u : List ℕ) → Type 0
+Turned zero of u = u ≡ of
+Turned (suc direction) of u = NegatedTable 1 (length of) of u
+
+-- the n numbers of a table of the root, for a direction
+pub record Directed (Table : List ℕ → Type 0) (n direction : ℕ) (u : List ℕ) : Type 0 where
   pub of : List ℕ
   pub count : length of ≡ n
   pub table : Table of
-  pub negated : NegatedTable 1 (length of) of u
+  pub turned : Turned direction of u

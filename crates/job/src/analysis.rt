@@ -2,55 +2,12 @@
 use crate::Answer;
 use crate::Answered;
 use crate::Job;
-use crate::tables;
 use crate::valid;
+use crate::work;
 use refusal_order::Checked;
 ghost use mathlib.Core.Path.{_≡_};
-ghost use mathlib.Core.Bool.{true};
-ghost use Prim.Native.Nat.{_≤_};
-ghost use lib.ListN.{length};
-ghost use Rattle.numbers.specs.Prime.{prime};
-ghost use Rattle.slices.specs.Pairs.{Below};
-ghost use Rattle.lengths.specs.Lengths.{cleared};
-ghost use Rattle.cell.specs.Volume.{volumeLength};
-ghost use Rattle.cell.specs.Consistency.{consistentMap};
-ghost use Rattle.axes.specs.Axes.{JobSizes};
-ghost use Rattle.job.specs.Header.{groupIn, halves};
-ghost use Rattle.job.specs.Steps.{analysed, analysisStep};
+ghost use Rattle.job.specs.Steps.{analysisStep};
 ghost use Rattle.job.specs.Said.{worked};
-
-// The work of an accepted call. The tables are made once, and lent down.
-fn analyse_volume(job: Job, volume: &mut [u32], scratch: &mut [u32])
-    requires { ⌜ JobSizes (job .group) (job .a .length) (job .b .length) (job .c .length) (job .a .factors) (job .b .factors) (job .c .factors) ⌝ }
-    requires { ⌜ (length (now volume) ≡ volumeLength (groupIn job) (halves job)) × Below (prime 1) (now volume) ⌝ }
-    requires { ⌜ consistentMap (groupIn job) (halves job) (now volume) ≡ true ⌝ }
-    requires { ⌜ 11520 ≤ length (now scratch) ⌝ }
-    ensures { λ _. ⌜ (now (volume .exit) ≡ analysed job (now (volume .entry))) × (now (scratch .exit) ≡ cleared (now (scratch .entry))) ⌝ }
-{
-    let re = roots::real_parts(1);
-    let im = tables::conjugate_parts();
-    let tan = tables::conjugate_tangents();
-    let mut fold = [0u32; 5760];
-    let mut work = [0u32; 5760];
-    passes::analyse(
-        1,
-        job.group,
-        job.a.length,
-        job.b.length,
-        job.c.length,
-        job.a.factors,
-        job.b.factors,
-        job.c.factors,
-        &re,
-        &im,
-        &tan,
-        volume,
-        scratch,
-        &mut fold,
-        &mut work,
-    );
-    slices::clear(scratch, 11520);
-}
 
 impl Job {
     // The map that the volume holds becomes its factors; a refused call changes nothing.
@@ -73,7 +30,7 @@ impl Job {
                 job: self,
             },
             Checked::Sound => {
-                analyse_volume(self, volume, scratch);
+                work::turn_lines(self, 1, volume, scratch);
                 self.state = 1;
                 Answered {
                     answer: Answer::Done,

@@ -10,7 +10,8 @@ pub mod factor; // factor.rt: the reading of a structure factor
 pub mod record; // record.rt: the recording of a structure factor
 pub mod synthesis; // synthesis.rt: from factors to the map
 pub mod analysis; // analysis.rt: from the map to its factors
-mod tables; // tables.rt: the tables of the conjugate root, for an analysis
+mod work; // work.rt: every line of the volume in its turn
+mod tables; // tables.rt: the tables of the root and of its conjugate
 
 use refusal_order::Refusal;
 ghost use Rattle.job.specs.Specimens.{Specimens};

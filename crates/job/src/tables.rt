@@ -1,21 +1,28 @@
-// The tables of the conjugate root: those of the root with the imaginary parts and the half tangents negated.
+// The tables of a direction: those of the root for direction 0, and for direction 1 those of its conjugate, with the imaginary parts
+// and the half tangents negated.
 ghost use Rattle.numbers.specs.Root.{ImaginaryTable, TangentTable};
-ghost use Rattle.job.specs.Tables.{Negated};
+ghost use Rattle.job.specs.Tables.{Directed};
 
-// The imaginary parts of its powers.
-pub fn conjugate_parts() -> [u32; 2880]
-    ensures { λ r. ⌜ Negated (ImaginaryTable 1) 2880 r ⌝ }
+// The imaginary parts of the powers.
+pub fn imaginary_parts(direction: u32) -> [u32; 2880]
+    ensures { λ r. ⌜ Directed (ImaginaryTable 1) 2880 direction r ⌝ }
 {
     let mut im = roots::imaginary_parts(1);
+    if direction == 0 {
+        return im;
+    }
     numbers::tables::negate(1, &mut im);
     im
 }
 
-// Its half tangents.
-pub fn conjugate_tangents() -> [u32; 1440]
-    ensures { λ r. ⌜ Negated (TangentTable 1) 1440 r ⌝ }
+// The half tangents.
+pub fn half_tangents(direction: u32) -> [u32; 1440]
+    ensures { λ r. ⌜ Directed (TangentTable 1) 1440 direction r ⌝ }
 {
     let mut tan = roots::half_tangents(1);
+    if direction == 0 {
+        return tan;
+    }
     numbers::tables::negate(1, &mut tan);
     tan
 }

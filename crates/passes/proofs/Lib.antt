@@ -1,3 +1,4 @@
+pub mod Turns
 pub mod PackedLines
 pub mod Sweeps
 pub mod PassLaws

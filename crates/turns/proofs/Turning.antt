@@ -11,8 +11,8 @@ use Rattle.volume_lines.specs.Lines.{Lent, Kept}
 use Rattle.axes.specs.Axes.{lineOfTurn}
 use Rattle.axes.specs.Plans.{groupIn, halvesIn, Fitting, planTurn}
 use Rattle.axes.specs.declared.Plan.{Plan}
-use Rattle.turns.specs.Turns.{turns}
-use Rattle.turns.proofs.Turns.{turns-next, length-turns, below-turns}
+use Rattle.passes.specs.Turns.{turns}
+use Rattle.passes.proofs.Turns.{turns-next, length-turns, below-turns}
 
 -- n of count turns are done
 pub record Turning (step : ℕ → List ℕ → List ℕ) (count n : ℕ) (v₀ v s₀ s fold₀ fold work₀ work : List ℕ) : Type 0 where

@@ -5,7 +5,7 @@ ghost use mathlib.Core.Path.{_≡_};
 ghost use Rattle.volume_lines.specs.Lines.{TablesOf, Lent, Kept};
 ghost use Rattle.axes.specs.Axes.{lineCount};
 ghost use Rattle.axes.specs.Plans.{groupIn, halvesIn, Planned, Fitting, planTurn};
-ghost use Rattle.turns.specs.Turns.{turns};
+ghost use Rattle.passes.specs.Turns.{turns};
 
 // Every line of the job, one after the other. The modulus goes down beside the plan as a number of its own, so that the
 // compiler can see the constant that the calls hand in.

@@ -1,16 +1,20 @@
 -- Refused by the check, or the volume synthesised and the scratch cleared.
 use borrow.Author.Needs.{needs}
+use native.Mathlib.Omega.{arith}
 use mathlib.Core.Path.{_≡_, _∙_, sym, ap}
 use mathlib.Core.Bool.{Bool}
 use lib.ListN.{length}
 use denote.Ref.{now}
 use borrow.Author.Tests.{not-false, ltb-false, eqb-true}
 use Rattle.numbers.specs.Prime.{prime}
-use Rattle.numbers.proofs.Primes.{prime-pos}
+use Rattle.numbers.proofs.Primes.{prime-pos, first-modulus}
+use Rattle.slices.specs.Pairs.{Below}
 use Rattle.slices.proofs.Bounds.{below-allBelow}
 use Rattle.refusal_order.specs.Tests.{first, checkedNumber}
 use Rattle.refusal_order.proofs.Tests.{Passed, passed}
-use Rattle.job.specs.Header.{headerOf}
+use Rattle.cell.specs.Volume.{volumeLength}
+use Rattle.passes.proofs.Whole.{synthesised}
+use Rattle.job.specs.Header.{headerOf, groupIn, halves}
 use Rattle.job.specs.Steps.{synthesisTests, synthesisTestsOf}
 use Rattle.job.proofs.Jobs.{valid-sizes, valid-job-sizes}
 use Rattle.job.proofs.Transforms.{synthesis-refused, synthesis-done}
@@ -30,6 +34,13 @@ none c = ap checkedNumber (sym (c .enum-told .given .1)) ∙ told (c .before .be
 clear : (c : tie.After-enum-told) → let a = c .before .before .before .before .before .before .before .args in Passed (synthesisTests (a .self) (now (a .volume)) (length (now (a .scratch))))
 clear c = let a = c .before .before .before .before .before .before .before .args in passed (synthesisTests (a .self) (now (a .volume)) (length (now (a .scratch)))) tt (none c)
 
+-- the volume is one of the job
+long : (c : tie.After-enum-told) → let a = c .before .before .before .before .before .before .before .args in length (now (a .volume)) ≡ volumeLength (groupIn (a .self)) (halves (a .self))
+long c = eqb-true _ _ (not-false _ (clear c .1 .1 .0))
+
+small : (c : tie.After-enum-told) → let a = c .before .before .before .before .before .before .before .args in Below (prime 1) (now (a .volume))
+small c = let a = c .before .before .before .before .before .before .before .args in below-allBelow (prime 1) (now (a .volume)) (prime-pos 1) (not-false _ (clear c .1 .1 .1 .1 .0))
+
 valid-job-requires : tie.Need-valid-job-requires
 valid-job-requires c κs = search needs
 
@@ -42,12 +53,12 @@ enum-known-checked c = search needs
 enum-told : tie.Need-enum-told
 enum-told c = search needs
 
-synthesise-volume-requires : tie.Need-synthesise-volume-requires
-synthesise-volume-requires c κs =
+turn-lines-requires : tie.Need-turn-lines-requires
+turn-lines-requires c κs =
     let k = c .before .before in
     let a = k .before .before .before .before .before .before .before .args in
     let t = clear k in
-    (valid-job-sizes (a .self) (not-false _ (t .0)), ((eqb-true _ _ (not-false _ (t .1 .1 .0)), below-allBelow (prime 1) (now (a .volume)) (prime-pos 1) (not-false _ (t .1 .1 .1 .1 .0))), (not-false _ (t .1 .1 .1 .1 .1 .0), ltb-false _ 11520 (t .1 .1 .1 .0))))
+    ((omega arith, valid-job-sizes (a .self) (not-false _ (t .0))), ((long k, small k), ltb-false _ 11520 (t .1 .1 .1 .0)))
 
 same-length : tie.Need-same-length
 same-length c = search needs
@@ -69,7 +80,7 @@ returns-2 c =
     let w = c .before .before .before .before in
     let t = w .before .before .before in
     let a = t .before .before .before .before .before .before .before .args in
-    synthesis-done (a .self) (now (a .volume)) (now (a .scratch)) _ _ (none t) (w .synthesise-volume .ensures .0) (w .synthesise-volume .ensures .1)
+    synthesis-done (a .self) (now (a .volume)) (now (a .scratch)) _ _ (none t) (w .turn-lines .ensures .0 ∙ synthesised 1 first-modulus (valid-job-sizes (a .self) (not-false _ (clear t .0))) (now (a .volume)) (long t) (small t) (not-false _ (clear t .1 .1 .1 .1 .1 .0))) (w .turn-lines .ensures .1)
 
 pub synthesis-spec : {M : Type 1} → statement M
 synthesis-spec =
@@ -79,7 +90,7 @@ synthesis-spec =
     check-synthesis-requires
     enum-known-checked
     enum-told
-    synthesise-volume-requires
+    turn-lines-requires
     same-length
     returns
     same-length-2

@@ -22,7 +22,7 @@ use Rattle.slices.proofs.Bounds.{small-at, below-puts, below-tab}
 use Rattle.slices.proofs.Values.{below-list}
 use Rattle.axes.specs.Axes.{turnOf, alongL, alongH, alongK, lineCount, lineOfTurn, turnedL, turnedH, turnedK, jobTurn}
 use Rattle.axes.proofs.Numbered.{order-k, order-h, order-l}
-use Rattle.turns.specs.Turns.{turns}
+use Rattle.passes.specs.Turns.{turns}
 use Rattle.axes.specs.Turned.{parted, turnedLine, turnedRow}
 
 module _ (step : ℕ → List ℕ → List ℕ) where

@@ -1,0 +1,23 @@
+-- The tables of a direction are those that its lines are lent.
+use mathlib.Core.Path.{_≡_, refl, sym, subst}
+use mathlib.Core.List.{List}
+use Prim.Native.Nat.{ℕ, zero, suc}
+use lib.ListN.{length}
+use Rattle.numbers.specs.Root.{RealTable, ImaginaryTable, TangentTable, NegatedTable}
+use Rattle.numbers.proofs.Primes.{first-modulus}
+use Rattle.kinds.proofs.Tables.{forward-tables, backward-tables}
+use Rattle.volume_lines.specs.Lines.{TablesOf}
+use Rattle.job.specs.Tables.{Turned, Directed}
+
+module _ {Table : List ℕ → Type 0} {n : ℕ} {of : List ℕ} (count : length of ≡ n) (table : Table of) where
+  pub as-it-is : {direction : ℕ} → direction ≡ 0 → Directed Table n direction of
+  as-it-is e = record { of = of; count = count; table = table; turned = subst (λ d. Turned d of of) (sym e) refl }
+
+  pub turned-over : (direction : ℕ) {u : List ℕ} → (direction ≡ 0 → ⊥) → NegatedTable 1 (length of) of u → Directed Table n direction u
+  turned-over zero e h = absurd (e refl)
+  turned-over (suc d) e h = record { of = of; count = count; table = table; turned = h }
+
+module _ {re im tan : List ℕ} (hr : RealTable 1 re) where
+  pub tables-of : (direction : ℕ) → Directed (ImaginaryTable 1) 2880 direction im → Directed (TangentTable 1) 1440 direction tan → TablesOf 1 direction re im tan
+  tables-of zero i t = forward-tables first-modulus hr (subst (ImaginaryTable 1) (sym (i .turned)) (i .table)) (subst (TangentTable 1) (sym (t .turned)) (t .table))
+  tables-of (suc d) i t = backward-tables first-modulus hr (i .table) (t .table) (i .count) (t .count) (i .turned) (t .turned)

@@ -1,8 +1,8 @@
 -- The braid of two values taken apart, operation by operation.
-use Rattle.hermitian.proofs.Forms.{unbraid-by, held}
+use Rattle.braiding.proofs.Forms.{unbraid-by, held}
 use borrow.Author.Needs.{needs}
-use Rattle.hermitian.proofs.unbraid.Statement.{statement}
-use Rattle.hermitian.proofs.unbraid.Tie as tie
+use Rattle.braiding.proofs.unbraid.Statement.{statement}
+use Rattle.braiding.proofs.unbraid.Tie as tie
 
 difference-requires : tie.Need-difference-requires
 difference-requires c κs = search needs

@@ -3,10 +3,10 @@ use mathlib.Core.Path.{_∙_, sym, ap}
 use Rattle.numbers.specs.Value.{field, i, pairOf}
 use Rattle.numbers.proofs.Values.{value-by}
 use Rattle.slices.proofs.Values.{read-value}
-use Rattle.hermitian.proofs.Forms.{straight-zero, straight-kept, straight-turned, held}
+use Rattle.braiding.proofs.Forms.{straight-zero, straight-kept, straight-turned, held}
 use borrow.Author.Needs.{needs}
-use Rattle.hermitian.proofs.straight_at.Statement.{statement}
-use Rattle.hermitian.proofs.straight_at.Tie as tie
+use Rattle.braiding.proofs.straight_at.Statement.{statement}
+use Rattle.braiding.proofs.straight_at.Tie as tie
 
 get-requires : tie.Need-get-requires
 get-requires c κs = search needs

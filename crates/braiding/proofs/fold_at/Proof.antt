@@ -4,10 +4,10 @@ use Prim.Native.Nat.{_*_, _<_}
 use native.Mathlib.Omega.{arith}
 use Rattle.numbers.proofs.Values.{small-by}
 use Rattle.folds.proofs.Frames.{stride-inside}
-use Rattle.hermitian.proofs.Forms.{fold-by-zero, fold-by, line-root, held}
+use Rattle.braiding.proofs.Forms.{fold-by-zero, fold-by, line-root, held}
 use borrow.Author.Needs.{needs}
-use Rattle.hermitian.proofs.fold_at.Statement.{statement}
-use Rattle.hermitian.proofs.fold_at.Tie as tie
+use Rattle.braiding.proofs.fold_at.Statement.{statement}
+use Rattle.braiding.proofs.fold_at.Tie as tie
 
 straight-at-requires : tie.Need-straight-at-requires
 straight-at-requires c κs = search needs

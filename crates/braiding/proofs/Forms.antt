@@ -26,7 +26,7 @@ use Rattle.slices.specs.Values.{valuesOf}
 use Rattle.slices.proofs.Bounds.{small-at, small-of}
 use Rattle.folds.specs.Frame.{stride, lineRoot, Frame}
 use Rattle.folds.proofs.Frames.{stride-inside}
-use Rattle.hermitian.specs.Hermitian.{straightened, turnedBack, crossed}
+use Rattle.braiding.specs.Braiding.{straightened, turnedBack, crossed}
 
 -- ---- pair 0: the sum and the difference of two reals
 

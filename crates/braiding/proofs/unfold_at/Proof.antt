@@ -9,10 +9,10 @@ use Rattle.slices.proofs.Bounds.{small-of}
 use Rattle.folds.specs.Frame.{lineRoot}
 use Rattle.folds.proofs.Frames.{stride-inside}
 use Rattle.slices.proofs.Values.{read-value}
-use Rattle.hermitian.proofs.Forms.{backOf, back-first, back-kept, back-turned, unfold-by-zero, unfold-by, line-root, held}
+use Rattle.braiding.proofs.Forms.{backOf, back-first, back-kept, back-turned, unfold-by-zero, unfold-by, line-root, held}
 use borrow.Author.Needs.{needs}
-use Rattle.hermitian.proofs.unfold_at.Statement.{statement}
-use Rattle.hermitian.proofs.unfold_at.Tie as tie
+use Rattle.braiding.proofs.unfold_at.Statement.{statement}
+use Rattle.braiding.proofs.unfold_at.Tie as tie
 
 get-requires : tie.Need-get-requires
 get-requires c κs = search needs

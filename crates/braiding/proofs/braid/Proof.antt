@@ -1,8 +1,8 @@
 -- The braid of two values, operation by operation.
-use Rattle.hermitian.proofs.Forms.{braid-by, held}
+use Rattle.braiding.proofs.Forms.{braid-by, held}
 use borrow.Author.Needs.{needs}
-use Rattle.hermitian.proofs.braid.Statement.{statement}
-use Rattle.hermitian.proofs.braid.Tie as tie
+use Rattle.braiding.proofs.braid.Statement.{statement}
+use Rattle.braiding.proofs.braid.Tie as tie
 
 difference-requires : tie.Need-difference-requires
 difference-requires c κs = search needs

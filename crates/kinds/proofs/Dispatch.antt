@@ -17,7 +17,7 @@ use Rattle.slices.specs.Values.{valuesOf, listOf}
 use Rattle.plain.specs.Factors.{Factored}
 use Rattle.folds.specs.Frame.{Frame, lineRoot, tangent}
 use Rattle.hermitian.specs.Hermitian.{kindOf as hermitianKind}
-use Rattle.mirror.specs.Mirror.{mirrored}
+use Rattle.pairing.specs.Pairing.{mirrored}
 use Rattle.lengths.specs.Counts.{kindOf, pairCount}
 use Rattle.kinds.specs.Transform.{transformed}
 use Rattle.kinds.specs.Tables.{ForwardTables, BackwardTables}

@@ -21,8 +21,9 @@ use Rattle.slices.specs.Values.{valuesOf, listOf}
 use Rattle.slices.proofs.Values.{values-list, list-cong}
 use Rattle.folds.specs.Frame.{lineRoot, tangent, Frame}
 use Rattle.folds.proofs.ShortTransform.{short-transform}
-use Rattle.mirror.specs.Mirror.{mirrored, sigma, stored, lineOf, finished}
-use Rattle.mirror.proofs.Forms.{finish-zero, finish-middle, finish-between}
+use Rattle.pairing.specs.Pairing.{mirrored, stored, lineOf}
+use Rattle.joining.specs.Joining.{sigma, finished}
+use Rattle.joining.proofs.Forms.{finish-zero, finish-middle, finish-between}
 
 stored-slots : (A first : ℕ) → first ≤ 1 → stored A first ≡ slots (mirrored first) A
 unfolding slots

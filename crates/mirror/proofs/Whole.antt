@@ -82,7 +82,7 @@ module _ {R : Type 0} {𝓞 : Ops R} {conj : R → R} {i : R} (𝓡 : CRing 𝓞
   back-form half A v part q tau p (suc n) t = finish-turned half A v part tau _ _ _ (suc t)
 
 module _ (m A first : ℕ) (re im tan line : List ℕ) (frame : Frame m A re im) (one : first ≤ 1) where
-  abbrev forwardOf : Value m → ℕ → Value m
+  abbrev pub forwardOf : Value m → ℕ → Value m
   forwardOf q = fold-forward (field m) (conj m) (i m) (real m (half m)) A (lineRoot m A re im) q (tangent m A tan) (mirrored first) (valuesOf m line)
 
   -- the pass before, the short transform, the sum of the odd places, and the pass after

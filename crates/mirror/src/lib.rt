@@ -60,6 +60,7 @@ pub fn inverse<'a>(
     requires { ⌜ Below (prime m) (now line) ⌝ }
     ensures { λ _. ⌜ now (line .exit) ≡ listOf (slots (mirrored first) a) (fold-back (field m) (conj m) (i m) (real m (half m)) a (conj m (lineRoot m a (now (re .entry)) (now (im .entry)))) (real m (res m c)) (λ s. field m .neg (tangent m a (now (tan .entry)) s)) (mirrored first) (valuesOf m (now (line .entry)))) ⌝ }
 {
+    let n = a + 1 - 2 * first;
     forward(m, re, im, tan, factors, first, a, line, fold, work);
-    plain::scale(m, c, a + 1 - 2 * first, line);
+    plain::scale(m, c, n, line);
 }

@@ -1,9 +1,10 @@
 -- Kinds 1 and 2: the forms of the folds at the places 0 and t > 0, as the code computes them.
-use borrow.Author.Needs.{needs}
 use mathlib.Core.Path.{_≡_, refl, sym, _∙_, ap, ap₂}
 use mathlib.Core.Bool.{Bool, true, false}
 use mathlib.Core.List.{List, [], _∷_}
-use Prim.Native.Nat.{ℕ, zero, suc, _*_, _-_, _/_, _<_, _≤_}
+use Prim.Native.Nat.{ℕ, zero, suc, _+_, _*_, _-_, _<_}
+use mir.Syntax.{w64}
+use mir.Val.{Fits}
 use native.Mathlib.Omega.{arith}
 use Rattle.algebra.specs.Ring.{Ops, CRing, pow}
 use Rattle.algebra.specs.Residue.{residues}
@@ -19,11 +20,8 @@ use Rattle.numbers.specs.Value.{Value, field, conj, i, real, half, valueOf, pai
 use Rattle.numbers.specs.Value as Value
 use Rattle.numbers.specs.Root.{entryAt, tableRoot}
 use Rattle.numbers.proofs.Residues.{res-ring}
-use Rattle.numbers.proofs.Values.{value-path, pair-value, small-by, value-by, field-ring, field-star}
+use Rattle.numbers.proofs.Values.{value-path, value-by, field-ring, field-star}
 use Rattle.numbers.proofs.Parts.{re-value, im-value}
-use Rattle.slices.specs.Pairs.{at, Below}
-use Rattle.slices.specs.Values.{valuesOf}
-use Rattle.slices.proofs.Bounds.{small-at, small-of}
 use Rattle.folds.specs.Frame.{stride, lineRoot, Frame}
 use Rattle.folds.proofs.Frames.{stride-inside}
 use Rattle.braiding.specs.Braiding.{straightened, turnedBack, crossed}
@@ -118,6 +116,22 @@ line-root m A {re} {im} d t f h l =
     f .table .entry (d * t) (omega (arith, stride-inside h (f .divides) l))
     ∙ ap pairOf (ap (λ k. pow (field m) (tableRoot m re im) (k * t)) h ∙ pow-mul (field-ring m) (tableRoot m re im) (stride A) t)
 
+-- ---- the places
+
+-- pair t of A pairs, and its mate
+pub pair-inside : {t A n : ℕ} → t < A → n ≡ 2 * A → 2 * t + 1 < n
+pair-inside l e = omega arith
+
+pub mate-inside : {t A n : ℕ} → (t ≡ 0 → ⊥) → t < A → n ≡ 2 * A → 2 * (A - t) + 1 < n
+mate-inside z l e = omega arith
+
+-- a place of the first half of the tables
+pub place-fits : {k : ℕ} → k < 1440 → Fits w64 k
+place-fits l = omega arith
+
+pub place-inside : {k : ℕ} → k < 1440 → k < 2880
+place-inside l = omega arith
+
 -- ---- what the code holds, step by step
 
 three-paths : {X Y Z W : Type 0} (f : X → Y → Z → W) {a b : X} {c d : Y} {x y : Z} → a ≡ b → c ≡ d → x ≡ y → f a c x ≡ f b d y
@@ -167,6 +181,3 @@ module _ (m A : ℕ) (part v : Value m) (p : ℕ → Value m) where
       ∙ ap pairOf
       (ap (field m .mul part) (value-by m _ hg ∙ three-paths (unbraidOf m A) (value-by m _ he) (value-by m _ hx) (value-by m _ hz ∙ ap (conj m) (value-by m _ hy)))
       ∙ sym (back-more m A part v p t n))
-
--- small pairs by what they stand for
-pub ruleset held = (needs, small-by, small-of)

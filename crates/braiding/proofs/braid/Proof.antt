@@ -1,17 +1,17 @@
 -- The braid of two values, operation by operation.
-use Rattle.braiding.proofs.Forms.{braid-by, held}
-use borrow.Author.Needs.{needs}
+use Rattle.numbers.proofs.Values.{small-by}
+use Rattle.braiding.proofs.Forms.{braid-by}
 use Rattle.braiding.proofs.braid.Statement.{statement}
 use Rattle.braiding.proofs.braid.Tie as tie
 
 difference-requires : tie.Need-difference-requires
-difference-requires c κs = search needs
+difference-requires c κs = (c .pre .0, c .pre .2, c .pre .3)
 
 times-i-requires : tie.Need-times-i-requires
-times-i-requires c κs = search held
+times-i-requires c κs = (c .before .pre .0, small-by _ _ (c .difference .ensures))
 
 plus-product-requires : tie.Need-plus-product-requires
-plus-product-requires c κs = search held
+plus-product-requires c κs = let p = c .before .before .pre in (p .0, p .2, p .3, p .1, small-by _ _ (c .times-i .ensures))
 
 returns : tie.Need-returns
 returns c =

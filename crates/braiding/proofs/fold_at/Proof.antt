@@ -1,28 +1,36 @@
 -- Pair 0 of the braid comes of pair 0 alone, each other of the pairs t and A - t.
 use mathlib.Core.Path.{_∙_}
 use Prim.Native.Nat.{_*_, _<_}
-use native.Mathlib.Omega.{arith}
+use native.Mathlib.Nat.{le-of-lt}
 use Rattle.numbers.proofs.Values.{small-by}
 use Rattle.folds.proofs.Frames.{stride-inside}
-use Rattle.braiding.proofs.Forms.{fold-by-zero, fold-by, line-root, held}
-use borrow.Author.Needs.{needs}
+use Rattle.braiding.proofs.Forms.{fold-by-zero, fold-by, line-root, pair-inside, mate-inside, place-fits, place-inside}
 use Rattle.braiding.proofs.fold_at.Statement.{statement}
 use Rattle.braiding.proofs.fold_at.Tie as tie
 
 straight-at-requires : tie.Need-straight-at-requires
-straight-at-requires c κs = search needs
+straight-at-requires c κs =
+    let p = c .before .pre in
+    ((p .0 .0 .modulus, pair-inside (p .0 .2) (p .1 .0)), p .1 .1)
 
 cross-requires : tie.Need-cross-requires
-cross-requires c κs = search held
+cross-requires c κs =
+    let x = c .before in
+    let s = x .before .before in
+    (s .pre .0 .0 .modulus, small-by (s .args .m) _ (x .straight-at .ensures))
 
 sub-straight-at : tie.Need-sub-straight-at
-sub-straight-at c = search needs
+sub-straight-at c = le-of-lt (c .before .before .before .pre .0 .2)
 
 straight-at-requires-2 : tie.Need-straight-at-requires-2
-straight-at-requires-2 c κs = search needs
+straight-at-requires-2 c κs =
+    let p = c .before .before .before .pre in
+    ((p .0 .0 .modulus, mate-inside (c .if1 .left) (p .0 .2) (p .1 .0)), p .1 .1)
 
 conjugate-requires : tie.Need-conjugate-requires
-conjugate-requires c κs = search held
+conjugate-requires c κs =
+    let s = c .before .before .before .before in
+    (s .pre .0 .0 .modulus, small-by (s .args .m) _ (c .straight-at2 .ensures))
 
 -- e(t/N) stands inside the tables
 inside : (c : tie.After-conjugate) → let s = c .before .before .before .before .before .args in s .step * s .t < 1440
@@ -31,10 +39,10 @@ inside c =
     stride-inside (s .pre .0 .1) (s .pre .0 .0 .divides) (s .pre .0 .2)
 
 mul-root-at : tie.Need-mul-root-at
-mul-root-at c = omega (arith, inside c)
+mul-root-at c = place-fits (inside c)
 
 root-at-requires : tie.Need-root-at-requires
-root-at-requires c κs = omega (arith, inside c)
+root-at-requires c κs = place-inside (inside c)
 
 braid-requires : tie.Need-braid-requires
 braid-requires c κs =

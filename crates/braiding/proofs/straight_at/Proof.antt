@@ -1,21 +1,26 @@
 -- The pair is read, and turned by -i where the line is antihermitian.
 use mathlib.Core.Path.{_∙_, sym, ap}
 use Rattle.numbers.specs.Value.{field, i, pairOf}
-use Rattle.numbers.proofs.Values.{value-by}
+use Rattle.numbers.proofs.Values.{small-by, value-by}
+use Rattle.slices.proofs.Bounds.{small-of}
 use Rattle.slices.proofs.Values.{read-value}
-use Rattle.braiding.proofs.Forms.{straight-zero, straight-kept, straight-turned, held}
-use borrow.Author.Needs.{needs}
+use Rattle.braiding.proofs.Forms.{straight-zero, straight-kept, straight-turned}
 use Rattle.braiding.proofs.straight_at.Statement.{statement}
 use Rattle.braiding.proofs.straight_at.Tie as tie
 
 get-requires : tie.Need-get-requires
-get-requires c κs = search needs
+get-requires c κs = c .before .pre .0 .1
 
 times-i-requires : tie.Need-times-i-requires
-times-i-requires c κs = search held
+times-i-requires c κs =
+    let g = c .before .before in
+    let p = g .before .before .pre in
+    (p .0 .0, small-of _ _ (g .get .ensures) (p .1))
 
 negated-requires : tie.Need-negated-requires
-negated-requires c κs = search held
+negated-requires c κs =
+    let s = c .before .before .before .before .before in
+    (s .pre .0 .0, small-by (s .args .m) _ (c .times-i .ensures))
 
 returns : tie.Need-returns
 returns c =

@@ -1,20 +1,20 @@
 -- The braid of two values taken apart, operation by operation.
-use Rattle.braiding.proofs.Forms.{unbraid-by, held}
-use borrow.Author.Needs.{needs}
+use Rattle.numbers.proofs.Values.{small-by}
+use Rattle.braiding.proofs.Forms.{unbraid-by}
 use Rattle.braiding.proofs.unbraid.Statement.{statement}
 use Rattle.braiding.proofs.unbraid.Tie as tie
 
 difference-requires : tie.Need-difference-requires
-difference-requires c κs = search needs
+difference-requires c κs = (c .pre .0, c .pre .3, c .pre .2)
 
 times-i-requires : tie.Need-times-i-requires
-times-i-requires c κs = search held
+times-i-requires c κs = (c .before .pre .0, small-by _ _ (c .difference .ensures))
 
 plus-product-requires : tie.Need-plus-product-requires
-plus-product-requires c κs = search held
+plus-product-requires c κs = let p = c .before .before .pre in (p .0, p .2, p .3, p .1, small-by _ _ (c .times-i .ensures))
 
 halved-requires : tie.Need-halved-requires
-halved-requires c κs = search held
+halved-requires c κs = (c .before .before .before .pre .0, small-by _ _ (c .plus-product .ensures))
 
 returns : tie.Need-returns
 returns c =

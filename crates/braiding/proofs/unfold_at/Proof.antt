@@ -1,36 +1,42 @@
 -- Pair 0 of the line comes of pair 0 alone, each other of the pairs t and A - t.
 use mathlib.Core.Path.{_≡_, _∙_, sym, ap}
 use Prim.Native.Nat.{_*_, _<_}
-use native.Mathlib.Omega.{arith}
-use Rattle.numbers.specs.Value.{field, i, res, real, pairOf}
+use native.Mathlib.Nat.{le-of-lt}
+use Rattle.numbers.specs.Value.{field, i, res, real, valueOf, pairOf}
 use Rattle.numbers.proofs.Values.{small-by, value-by}
 use Rattle.slices.specs.Values.{valuesOf}
 use Rattle.slices.proofs.Bounds.{small-of}
 use Rattle.folds.specs.Frame.{lineRoot}
 use Rattle.folds.proofs.Frames.{stride-inside}
 use Rattle.slices.proofs.Values.{read-value}
-use Rattle.braiding.proofs.Forms.{backOf, back-first, back-kept, back-turned, unfold-by-zero, unfold-by, line-root, held}
-use borrow.Author.Needs.{needs}
+use Rattle.braiding.proofs.Forms.{unbraidOf, backOf, back-first, back-kept, back-turned, unfold-by-zero, unfold-by, line-root, pair-inside, mate-inside, place-fits, place-inside}
 use Rattle.braiding.proofs.unfold_at.Statement.{statement}
 use Rattle.braiding.proofs.unfold_at.Tie as tie
 
 get-requires : tie.Need-get-requires
-get-requires c κs = search needs
+get-requires c κs = let p = c .before .pre in pair-inside (p .0 .3) (p .1 .0)
 
 cross-requires : tie.Need-cross-requires
-cross-requires c κs = search held
+cross-requires c κs =
+    let x = c .before in
+    let p = x .before .before .pre in
+    (p .0 .0 .modulus, small-of _ _ (x .get .ensures) (p .1 .1))
 
 scaled-requires : tie.Need-scaled-requires
-scaled-requires c κs = search held
+scaled-requires c κs =
+    let s = c .before .before .before .before in
+    (s .pre .0 .0 .modulus, s .pre .0 .1, small-by (s .args .m) _ (c .cross .ensures))
 
 sub-get : tie.Need-sub-get
-sub-get c = search needs
+sub-get c = le-of-lt (c .before .before .before .pre .0 .3)
 
 get-requires-2 : tie.Need-get-requires-2
-get-requires-2 c κs = search needs
+get-requires-2 c κs = let p = c .before .before .before .pre in mate-inside (c .if1 .left) (p .0 .3) (p .1 .0)
 
 conjugate-requires : tie.Need-conjugate-requires
-conjugate-requires c κs = search held
+conjugate-requires c κs =
+    let p = c .before .before .before .before .pre in
+    (p .0 .0 .modulus, small-of _ _ (c .get2 .ensures) (p .1 .1))
 
 -- e(t/N) stands inside the tables
 inside : (c : tie.After-conjugate) → let s = c .before .before .before .before .before .args in s .step * s .t < 1440
@@ -39,10 +45,10 @@ inside c =
     stride-inside (s .pre .0 .2) (s .pre .0 .0 .divides) (s .pre .0 .3)
 
 mul-root-at : tie.Need-mul-root-at
-mul-root-at c = omega (arith, inside c)
+mul-root-at c = place-fits (inside c)
 
 root-at-requires : tie.Need-root-at-requires
-root-at-requires c κs = omega (arith, inside c)
+root-at-requires c κs = place-inside (inside c)
 
 unbraid-requires : tie.Need-unbraid-requires
 unbraid-requires c κs =
@@ -57,11 +63,19 @@ unbraid-requires c κs =
 
 scaled-requires-2 : tie.Need-scaled-requires-2
 scaled-requires-2 c κs =
-    let s = c .before .before .before .before .before .before .before in
-    (s .pre .0 .0 .modulus, s .pre .0 .1, small-by (s .args .m) _ (c .unbraid .ensures 0))
+    let e = c .before in
+    let z = e .before in
+    let x = z .before .before .before in
+    let s = x .before .before in
+    let m = s .args .m in
+    (s .pre .0 .0 .modulus, s .pre .0 .1, small-by m (unbraidOf m 0 (valueOf m (e .root-at .result)) (valueOf m (x .get .result)) (valueOf m (z .conjugate .result))) (c .unbraid .ensures 0))
 
 times-i-requires : tie.Need-times-i-requires
-times-i-requires c κs = search held
+times-i-requires c κs =
+    let v = c .before in
+    let s = v .before .before .before .before .before .before .before .before in
+    let m = s .args .m in
+    (s .pre .0 .0 .modulus, small-by m (field m .mul (real m (res m (s .args .c))) (valueOf m (v .before .unbraid .result))) (v .scaled2 .ensures))
 
 returns : tie.Need-returns
 returns c =

@@ -1,46 +1,24 @@
 -- Kinds 1 and 2: the forms of the folds at the places 0 and t > 0, as the code computes them.
-use mathlib.Core.Path.{_≡_, refl, sym, _∙_, ap, ap₂}
+use mathlib.Core.Path.{_≡_, refl, sym, _∙_, ap}
 use mathlib.Core.Bool.{Bool, true, false}
-use mathlib.Core.List.{List, [], _∷_}
+use mathlib.Core.List.{List}
 use Prim.Native.Nat.{ℕ, zero, suc, _+_, _*_, _-_, _<_}
 use mir.Syntax.{w64}
 use mir.Val.{Fits}
 use native.Mathlib.Omega.{arith}
-use Rattle.algebra.specs.Ring.{Ops, CRing, pow}
-use Rattle.algebra.specs.Residue.{residues}
-use Rattle.algebra.specs.Gauss.{gauss, imag}
-use Rattle.algebra.specs.Line.{re, im}
-use Rattle.algebra.specs.Folds.{turned, braid, fold1, unbraid, back1}
+use Rattle.algebra.specs.Ring.{Ops, pow}
+use Rattle.algebra.specs.Folds.{turned, fold1, back1}
 use Rattle.algebra.proofs.Laws.{neg-mul}
-use Rattle.algebra.proofs.Solver.{ring, quote}
 use Rattle.algebra.proofs.Transform.{pow-mul}
 use Rattle.numbers.specs.declared.Pair.{Pair}
-use Rattle.numbers.specs.Prime.{prime}
 use Rattle.numbers.specs.Value.{Value, field, conj, i, real, half, valueOf, pairOf}
-use Rattle.numbers.specs.Value as Value
 use Rattle.numbers.specs.Root.{entryAt, tableRoot}
-use Rattle.numbers.proofs.Residues.{res-ring}
-use Rattle.numbers.proofs.Values.{value-path, value-by, field-ring, field-star}
-use Rattle.numbers.proofs.Parts.{re-value, im-value}
+use Rattle.numbers.proofs.Values.{value-by, field-ring, field-star}
 use Rattle.folds.specs.Frame.{stride, lineRoot, Frame}
 use Rattle.folds.proofs.Frames.{stride-inside}
-use Rattle.braiding.specs.Braiding.{straightened, turnedBack, crossed}
-
--- ---- pair 0: the sum and the difference of two reals
-
-crossed-in : {R : Type 0} {𝓞 : Ops R} (𝓡 : CRing 𝓞) (a b : R)
-    → gauss 𝓞 .add (gauss 𝓞 .add (a, 𝓞 .zer) (b, 𝓞 .zer)) (gauss 𝓞 .mul (imag 𝓞) (gauss 𝓞 .add (a, 𝓞 .zer) (gauss 𝓞 .neg (b, 𝓞 .zer)))) ≡ (𝓞 .add a b, 𝓞 .add a (𝓞 .neg b))
-unfolding gauss imag
-crossed-in 𝓡 a b =
-    value-path
-    (ring 𝓡 (a ∷ b ∷ []) (search quote depth 40 fits 9999) refl)
-    (ring 𝓡 (a ∷ b ∷ []) (search quote depth 40 fits 9999) refl)
-
-pub crossed-parts : (m : ℕ) (z : Value m) → crossed m z ≡ (Value.ring m .add (z .0) (z .1), Value.ring m .add (z .0) (Value.ring m .neg (z .1)))
-unfolding crossed residues
-crossed-parts m z =
-    ap₂ (λ x y. field m .add (field m .add x y) (field m .mul (i m) (field m .add x (field m .neg y)))) (re-value m z) (im-value m z)
-    ∙ crossed-in (res-ring m) (z .0) (z .1)
+use Rattle.braids.specs.Braids.{crossed}
+use Rattle.braids.proofs.Forms.{braidOf, unbraidOf}
+use Rattle.braiding.specs.Braiding.{straightened, turnedBack}
 
 -- ---- the turn of the antihermitian lines
 
@@ -74,12 +52,6 @@ module _ (m : ℕ) (p : ℕ → Value m) where
   back-turned (suc t) e n = rw e
 
 -- ---- the forms
-
-abbrev braidOf : (m A : ℕ) (e x y : Value m) → Value m
-braidOf m A = braid (field m) (conj m) (i m) (real m (half m)) A
-
-abbrev pub unbraidOf : (m A : ℕ) (e x y : Value m) → Value m
-unbraidOf m A = unbraid (field m) (conj m) (i m) (real m (half m)) A
 
 abbrev pub foldOf : (m A : ℕ) (v : Value m) (p : ℕ → Value m) → ℕ → Value m
 foldOf m A v p = fold1 (field m) (conj m) (i m) (real m (half m)) A v p
@@ -136,26 +108,6 @@ place-inside l = omega arith
 
 three-paths : {X Y Z W : Type 0} (f : X → Y → Z → W) {a b : X} {c d : Y} {x y : Z} → a ≡ b → c ≡ d → x ≡ y → f a c x ≡ f b d y
 three-paths f p q r = λ j. f (p j) (q j) (r j)
-
-module _ (m A : ℕ) (e x y : Value m) where
-  pub braid-by : {d u r : Pair} → d ≡ pairOf (field m .add x (field m .neg y)) → u ≡ pairOf (field m .mul (i m) (valueOf m d))
-      → r ≡ pairOf (field m .add (field m .add x y) (field m .mul e (valueOf m u))) → r ≡ pairOf (braidOf m A e x y)
-  unfolding braid
-  braid-by hd hu hr =
-      hr ∙ ap pairOf
-      (ap (λ z. field m .add (field m .add x y) (field m .mul e z)) (value-by m _ hu ∙ ap (field m .mul (i m)) (value-by m _ hd))
-      ∙ ring (field-ring m) (e ∷ x ∷ y ∷ i m ∷ []) (search quote depth 40 fits 9999) refl)
-
-  pub unbraid-by : {d u g r : Pair} → d ≡ pairOf (field m .add y (field m .neg x)) → u ≡ pairOf (field m .mul (i m) (valueOf m d))
-      → g ≡ pairOf (field m .add (field m .add x y) (field m .mul e (valueOf m u)))
-      → r ≡ pairOf (field m .mul (real m (half m)) (valueOf m g)) → r ≡ pairOf (unbraidOf m A e x y)
-  unfolding unbraid
-  unbraid-by hd hu hg hr =
-      hr
-      ∙ ap (λ z. pairOf (field m .mul (real m (half m)) z))
-      (value-by m _ hg
-      ∙ ap (λ z. field m .add (field m .add x y) (field m .mul e z)) (value-by m _ hu ∙ ap (field m .mul (i m)) (value-by m _ hd))
-      ∙ ring (field-ring m) (e ∷ x ∷ y ∷ i m ∷ []) (search quote depth 40 fits 9999) refl)
 
 -- e, x, y and z are e(t/N), the values at t and A - t, and the conjugate of the second
 module _ (m A : ℕ) (v : Value m) (p : ℕ → Value m) where

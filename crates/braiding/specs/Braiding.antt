@@ -3,9 +3,8 @@
 -- Pair 0 holds the imaginary parts of X(0) and X(A) themselves, which are the reals of that Hermitian line: nothing is turned there.
 use mathlib.Core.Bool.{Bool, true, false}
 use Prim.Native.Nat.{ℕ}
-use Rattle.algebra.specs.Line.{re, im}
 use Rattle.algebra.specs.Folds.{turned}
-use Rattle.numbers.specs.Value.{Value, field, conj, i, real, half}
+use Rattle.numbers.specs.Value.{Value, field, i}
 
 -- the packed Hermitian line of a packed line of either kind, and the packed line of either kind that a Hermitian one stands for
 unfoldable pub straightened : (m : ℕ) → Bool → (ℕ → Value m) → ℕ → Value m
@@ -15,10 +14,3 @@ straightened m true p = turned (field m) (field m .neg (i m)) p
 unfoldable pub turnedBack : (m : ℕ) → Bool → (ℕ → Value m) → ℕ → Value m
 turnedBack m false p = p
 turnedBack m true p = turned (field m) (i m) p
-
--- (x + y) + i (x - y) of the two reals x and y that share a pair
-unfoldable pub crossed : (m : ℕ) → Value m → Value m
-crossed m z =
-    let x = re (field m) (conj m) (i m) (real m (half m)) z in
-    let y = im (field m) (conj m) (i m) (real m (half m)) z in
-    field m .add (field m .add x y) (field m .mul (i m) (field m .add x (field m .neg y)))

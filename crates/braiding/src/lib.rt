@@ -6,16 +6,15 @@
 // The pass after the transform of the way back takes the braid apart.
 use numbers::Pair;
 ghost use mathlib.Core.Path.{_≡_};
-ghost use Prim.Native.Nat.{ℕ, _+_, _*_, _<_};
+ghost use Prim.Native.Nat.{_+_, _*_, _<_};
 ghost use lib.ListN.{length};
 ghost use Rattle.algebra.specs.Folds.{fold1, back1};
-ghost use Rattle.algebra.specs.Folds as Folds;
 ghost use Rattle.numbers.specs.Prime.{prime, IsModulus};
-ghost use Rattle.numbers.specs.Value.{field, conj, i, res, half, real, valueOf, pairOf, Small};
+ghost use Rattle.numbers.specs.Value.{field, conj, i, res, half, real, pairOf};
 ghost use Rattle.slices.specs.Pairs.{Below};
 ghost use Rattle.slices.specs.Values.{valuesOf, listOf};
 ghost use Rattle.folds.specs.Frame.{stride, lineRoot, Frame};
-ghost use Rattle.braiding.specs.Braiding.{straightened, turnedBack, crossed};
+ghost use Rattle.braiding.specs.Braiding.{straightened, turnedBack};
 
 // The pass before the transform: the line becomes the braid of its two halves.
 pub fn fold<'a>(
@@ -59,10 +58,10 @@ fn fold_at<'a>(
     let x = straight_at(m, anti, t, line);
     if t == 0 {
         // The mate of X(0) is X(A), which shares its pair: R(0) and S(0) are their sum and difference, since e(0) is 1.
-        cross(m, x)
+        braids::cross(m, x)
     } else {
         let y = numbers::conjugate(m, straight_at(m, anti, a - t, line));
-        braid(m, numbers::tables::root_at(re, im, step * t), x, y)
+        braids::braid(m, numbers::tables::root_at(re, im, step * t), x, y)
     }
 }
 
@@ -83,26 +82,6 @@ fn straight_at(m: u32, anti: bool, t: usize, line: &[u32]) -> Pair
             v
         }
     }
-}
-
-// x + y and x - y of the two reals that share a pair: again two reals that share a pair.
-fn cross(m: u32, v: Pair) -> Pair
-    requires { ⌜ IsModulus m × Small (prime m) v ⌝ }
-    ensures { λ r. ⌜ r ≡ pairOf (crossed m (valueOf m v)) ⌝ }
-{
-    Pair {
-        re: numbers::add(m, v.re, v.im),
-        im: numbers::sub(m, v.re, v.im),
-    }
-}
-
-// R + i S, where R = x + y and S = e (x - y).
-fn braid(m: u32, e: Pair, x: Pair, y: Pair) -> Pair
-    requires { ⌜ IsModulus m × Small (prime m) e × Small (prime m) x × Small (prime m) y ⌝ }
-    ensures { λ r. ⌜ ((A : ℕ) → r ≡ pairOf (Folds.braid (field m) (conj m) (i m) (real m (half m)) A (valueOf m e) (valueOf m x) (valueOf m y))) ⌝ }
-{
-    let turned = numbers::times_i(m, numbers::difference(m, x, y));
-    numbers::plus_product(m, x, y, e, turned)
 }
 
 // The pass after the transform of the way back: the braid is taken apart and divided by N, c = 1/N.
@@ -150,23 +129,14 @@ fn unfold_at<'a>(
     if t == 0 {
         // The mate of pair 0 is pair 0 itself: R(0) = (x + conj x)/2 is its real part and S(0) its imaginary part, so that the
         // halves are taken already, and X(0) and X(A) are their sum and difference.
-        numbers::scaled(m, c, cross(m, x))
+        numbers::scaled(m, c, braids::cross(m, x))
     } else {
         let y = numbers::conjugate(m, slices::get(braided, a - t));
         let v = numbers::scaled(
             m,
             c,
-            unbraid(m, numbers::tables::root_at(re, im, step * t), x, y),
+            braids::unbraid(m, numbers::tables::root_at(re, im, step * t), x, y),
         );
         if anti { numbers::times_i(m, v) } else { v }
     }
-}
-
-// R + e S, where R = (x + y)/2 and i S = (x - y)/2.
-fn unbraid(m: u32, e: Pair, x: Pair, y: Pair) -> Pair
-    requires { ⌜ IsModulus m × Small (prime m) e × Small (prime m) x × Small (prime m) y ⌝ }
-    ensures { λ r. ⌜ ((A : ℕ) → r ≡ pairOf (Folds.unbraid (field m) (conj m) (i m) (real m (half m)) A (valueOf m e) (valueOf m x) (valueOf m y))) ⌝ }
-{
-    let turned = numbers::times_i(m, numbers::difference(m, y, x));
-    numbers::halved(m, numbers::plus_product(m, x, y, e, turned))
 }

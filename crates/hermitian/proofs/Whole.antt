@@ -18,8 +18,10 @@ use Rattle.slices.proofs.Values.{values-list, list-cong}
 use Rattle.folds.specs.Frame.{lineRoot, Frame}
 use Rattle.folds.proofs.Frames.{short-root}
 use Rattle.folds.proofs.ShortTransform.{short-values}
-use Rattle.braiding.specs.Braiding.{straightened, turnedBack, crossed}
-use Rattle.braiding.proofs.Forms.{unbraidOf, foldOf, backOf}
+use Rattle.braids.specs.Braids.{crossed}
+use Rattle.braids.proofs.Forms.{unbraidOf}
+use Rattle.braiding.specs.Braiding.{straightened, turnedBack}
+use Rattle.braiding.proofs.Forms.{foldOf, backOf}
 use Rattle.hermitian.specs.Hermitian.{kindOf}
 
 -- ---- the fold of the kind, as the two passes make it

@@ -9,7 +9,8 @@ use Rattle.slices.proofs.Bounds.{small-of}
 use Rattle.folds.specs.Frame.{lineRoot}
 use Rattle.folds.proofs.Frames.{stride-inside}
 use Rattle.slices.proofs.Values.{read-value}
-use Rattle.braiding.proofs.Forms.{unbraidOf, backOf, back-first, back-kept, back-turned, unfold-by-zero, unfold-by, line-root, pair-inside, mate-inside, place-fits, place-inside}
+use Rattle.braids.proofs.Forms.{unbraidOf}
+use Rattle.braiding.proofs.Forms.{backOf, back-first, back-kept, back-turned, unfold-by-zero, unfold-by, line-root, pair-inside, mate-inside, place-fits, place-inside}
 use Rattle.braiding.proofs.unfold_at.Statement.{statement}
 use Rattle.braiding.proofs.unfold_at.Tie as tie
 

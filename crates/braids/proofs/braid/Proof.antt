@@ -1,8 +1,8 @@
 -- The braid of two values, operation by operation.
 use Rattle.numbers.proofs.Values.{small-by}
-use Rattle.braiding.proofs.Forms.{braid-by}
-use Rattle.braiding.proofs.braid.Statement.{statement}
-use Rattle.braiding.proofs.braid.Tie as tie
+use Rattle.braids.proofs.Forms.{braid-by}
+use Rattle.braids.proofs.braid.Statement.{statement}
+use Rattle.braids.proofs.braid.Tie as tie
 
 difference-requires : tie.Need-difference-requires
 difference-requires c κs = (c .pre .0, c .pre .2, c .pre .3)

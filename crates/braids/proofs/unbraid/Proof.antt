@@ -1,8 +1,8 @@
 -- The braid of two values taken apart, operation by operation.
 use Rattle.numbers.proofs.Values.{small-by}
-use Rattle.braiding.proofs.Forms.{unbraid-by}
-use Rattle.braiding.proofs.unbraid.Statement.{statement}
-use Rattle.braiding.proofs.unbraid.Tie as tie
+use Rattle.braids.proofs.Forms.{unbraid-by}
+use Rattle.braids.proofs.unbraid.Statement.{statement}
+use Rattle.braids.proofs.unbraid.Tie as tie
 
 difference-requires : tie.Need-difference-requires
 difference-requires c κs = (c .pre .0, c .pre .3, c .pre .2)

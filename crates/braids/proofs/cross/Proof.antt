@@ -2,10 +2,10 @@
 use mathlib.Core.Path.{_∙_, sym, ap}
 use Rattle.numbers.specs.Value.{valueOf, pairOf}
 use Rattle.numbers.proofs.Values.{pair-path}
-use Rattle.braiding.proofs.Forms.{crossed-parts}
+use Rattle.braids.proofs.Forms.{crossed-parts}
 use borrow.Author.Needs.{needs}
-use Rattle.braiding.proofs.cross.Statement.{statement}
-use Rattle.braiding.proofs.cross.Tie as tie
+use Rattle.braids.proofs.cross.Statement.{statement}
+use Rattle.braids.proofs.cross.Tie as tie
 
 add-requires : tie.Need-add-requires
 add-requires c κs = search needs

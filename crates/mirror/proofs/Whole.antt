@@ -5,7 +5,6 @@ use mathlib.Core.List.{List, [], _∷_}
 use Prim.Native.Nat.{ℕ, zero, suc, _+_, _*_, _-_, _/_, _<_, _≤_}
 use native.Mathlib.Omega.{arith}
 use native.Mathlib.Decide.{ℕ-discrete}
-use lib.ListN.{length}
 use Rattle.algebra.specs.Ring.{Ops, CRing, Star, pow, sum}
 use Rattle.algebra.specs.Fourier.{dft}
 use Rattle.algebra.specs.Folds.{paired, join, finish}
@@ -13,7 +12,6 @@ use Rattle.algebra.specs.Kinds.{slots, before, fold-forward, fold-back}
 use Rattle.algebra.proofs.Laws.{along}
 use Rattle.algebra.proofs.Solver.{ring, quote}
 use Rattle.numbers.specs.declared.Pair.{Pair}
-use Rattle.numbers.specs.Prime.{prime}
 use Rattle.numbers.specs.Value.{Value, field, conj, i, real, res, half, valueOf, pairOf}
 use Rattle.numbers.specs.Root.{tableRoot}
 use Rattle.numbers.proofs.Values.{value-by, field-ring, field-star}

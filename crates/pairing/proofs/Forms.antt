@@ -85,6 +85,10 @@ module _ (m : ℕ) where
   pub by-values : {a b r : Pair} (f : Value m → Value m → Value m) (x y : Value m) → r ≡ pairOf (f (valueOf m a) (valueOf m b)) → a ≡ pairOf x → b ≡ pairOf y → r ≡ pairOf (f x y)
   by-values f x y h p q = h ∙ ap pairOf (ap₂ f (value-by m x p) (value-by m y q))
 
+-- the two places that make place t of the fold
+pub pair-places : {t A : ℕ} → t < A → (0 < A) × (2 * t < 2 * A) × (2 * t + 1 < 2 * A)
+pair-places l = (omega arith, omega arith, omega arith)
+
 -- ---- the sum of the odd places
 
 -- a number that is its own negative is zero, where one half is there; the odd places of an antisymmetric line cancel in pairs

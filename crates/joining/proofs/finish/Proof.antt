@@ -1,11 +1,10 @@
 -- `joining::finish`: p places of the line are stored.
 use mathlib.Core.Path.{refl}
-use Prim.Native.Nat.{_+_, _-_, _*_}
+use Prim.Native.Nat.{_+_, _-_}
 use native.Mathlib.Omega.{arith}
 use Rattle.numbers.specs.Value.{valueOf, pairOf}
 use Rattle.slices.specs.Pairs.{Filling}
 use Rattle.slices.proofs.Filling.{filling-start, filling-next, filling-whole}
-use Rattle.slices.proofs.Sets.{fill}
 use Rattle.pairing.specs.Pairing.{stored}
 use Rattle.joining.specs.Joining.{finished}
 use Rattle.joining.proofs.finish.Statement.{statement}

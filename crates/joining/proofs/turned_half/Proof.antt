@@ -1,5 +1,4 @@
 -- `joining::turned_half`: the half tangent stands beside i.
-use borrow.Author.Needs.{needs}
 use native.Mathlib.Omega.{arith}
 use Rattle.numbers.proofs.Values.{small-by}
 use Rattle.numbers.proofs.Primes.{prime-pos}

@@ -4,7 +4,7 @@ use Rattle.algebra.specs.Ring.{Ops}
 use Rattle.algebra.specs.Folds.{paired}
 use Rattle.numbers.specs.Value.{field}
 use Rattle.numbers.proofs.Values.{small-by}
-use Rattle.pairing.proofs.Forms.{by-values}
+use Rattle.pairing.proofs.Forms.{by-values, pair-places}
 use Rattle.pairing.proofs.pair_at.Statement.{statement}
 use Rattle.pairing.proofs.pair_at.Tie as tie
 
@@ -12,7 +12,10 @@ mul-value-at : tie.Need-mul-value-at
 mul-value-at c = search needs
 
 value-at-requires : tie.Need-value-at-requires
-value-at-requires c κs = search needs
+value-at-requires c κs =
+    let p = c .before .pre in
+    let h = pair-places (p .0 .2) in
+    ((p .0 .0, p .0 .1, h .0, h .1), (p .1 .0, p .1 .1))
 
 mul-value-at-2 : tie.Need-mul-value-at-2
 mul-value-at-2 c = search needs
@@ -21,7 +24,10 @@ add-value-at : tie.Need-add-value-at
 add-value-at c = search needs
 
 value-at-requires-2 : tie.Need-value-at-requires-2
-value-at-requires-2 c κs = search needs
+value-at-requires-2 c κs =
+    let p = c .before .before .pre in
+    let h = pair-places (p .0 .2) in
+    ((p .0 .0, p .0 .1, h .0, h .2), (p .1 .0, p .1 .1))
 
 sum-requires : tie.Need-sum-requires
 sum-requires c κs =

@@ -19,7 +19,7 @@ ghost use Rattle.numbers.specs.Prime.{prime, IsModulus};
 ghost use Rattle.numbers.specs.Value.{field, conj, i, res, real, half, part, pairOf};
 ghost use Rattle.slices.specs.Pairs.{Below};
 ghost use Rattle.slices.specs.Values.{valuesOf, listOf};
-ghost use Rattle.plain.specs.Factors.{Factored};
+ghost use Rattle.factors.specs.Factors.{Factored};
 ghost use Rattle.folds.specs.Frame.{stride, lineRoot, tangent, Frame, Tangents};
 
 // The forward transform: the line becomes X^(0), .., X^(A - 1). The tables are those of the root and of its half tangents.

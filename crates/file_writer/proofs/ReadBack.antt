@@ -25,7 +25,7 @@ use Rattle.numbers.proofs.Residues.{res-val, val-small}
 use Rattle.numbers.proofs.Values.{field-ring, field-star}
 use Rattle.slices.specs.Pairs.{Below}
 use Rattle.slices.proofs.Bounds.{below-allBelow}
-use Rattle.plain.specs.Factors.{product}
+use Rattle.factors.specs.Factors.{product}
 use Rattle.refusal_order.specs.Tests.{first}
 use Rattle.lengths.specs.Lengths.{factorsOk}
 use Rattle.refusal_order.proofs.Tests.{Passed, passed, pass, none, not-t}

@@ -10,7 +10,7 @@ ghost use Rattle.numbers.specs.Prime.{prime};
 ghost use Rattle.numbers.specs.Value.{Value, field, conj, i, half, part, real};
 ghost use Rattle.slices.specs.Pairs.{Below};
 ghost use Rattle.slices.specs.Values.{valuesOf, listOf};
-ghost use Rattle.plain.specs.Factors.{Factored};
+ghost use Rattle.factors.specs.Factors.{Factored};
 ghost use Rattle.folds.specs.Frame.{lineRoot, Frame};
 ghost use Rattle.hermitian.specs.Hermitian.{kindOf};
 

@@ -4,7 +4,7 @@ use mathlib.Core.Bool.{Bool, true, false, _&&_, not}
 use Prim.Native.Nat.{ℕ, _≤_, _<_}
 use lib.Dec.{ltb, eqb}
 use borrow.Author.Tests.{lt-ltb, le-ltb, ltb-true, eq-eqb, eqb-true}
-use Rattle.plain.specs.Factors.{octal}
+use Rattle.factors.specs.Factors.{octal}
 use Rattle.refusal_order.specs.Tests.{first}
 use Rattle.lengths.specs.Lengths.{factorsOk, octalDigits}
 use Rattle.lengths.specs.Admitted.{FactorList}

@@ -4,7 +4,7 @@ use mathlib.Core.Bool.{Bool, _&&_}
 use Prim.Native.Nat.{ℕ, _/_}
 use lib.Dec.{ltb, eqb}
 use Rattle.algebra.specs.Cell.{J, Group}
-use Rattle.plain.specs.Factors.{octal}
+use Rattle.factors.specs.Factors.{octal}
 use Rattle.refusal_order.specs.Tests.{first}
 use Rattle.lengths.specs.Lengths.{octalDigits}
 use Rattle.cell.specs.Volume.{groupOf}

@@ -6,7 +6,7 @@ use refusal_order::Checked;
 ghost use mathlib.Core.Path.{_≡_};
 ghost use mathlib.Core.Bool.{true};
 ghost use Prim.Native.Nat.{_≤_};
-ghost use Rattle.plain.specs.Factors.{product, octal};
+ghost use Rattle.factors.specs.Factors.{product, octal};
 ghost use Rattle.refusal_order.specs.Tests.{first};
 ghost use Rattle.lengths.specs.Lengths.{factorsOk};
 ghost use Rattle.job.specs.Header.{axisTests, jobOf};

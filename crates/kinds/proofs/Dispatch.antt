@@ -14,7 +14,7 @@ use Rattle.numbers.specs.Value.{Value, field, conj, i, res, real, half, part}
 use Rattle.numbers.specs.Root.{tableRoot, RootTable}
 use Rattle.numbers.proofs.Residues.{res-by}
 use Rattle.slices.specs.Values.{valuesOf, listOf}
-use Rattle.plain.specs.Factors.{Factored}
+use Rattle.factors.specs.Factors.{Factored}
 use Rattle.folds.specs.Frame.{Frame, lineRoot, tangent}
 use Rattle.hermitian.specs.Hermitian.{kindOf as hermitianKind}
 use Rattle.pairing.specs.Pairing.{mirrored}

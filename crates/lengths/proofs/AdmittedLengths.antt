@@ -9,8 +9,8 @@ use mathlib.Core.Logic.{⊎-elim}
 use lib.Dec.{ltb, eqb}
 use lib.ListN.{length}
 use borrow.Author.Tests.{ltb-true, eqb-true}
-use Rattle.plain.specs.Factors.{Factored, product, octal}
-use Rattle.plain.proofs.Factoring.{packed}
+use Rattle.factors.specs.Factors.{Factored, product, octal}
+use Rattle.factors.proofs.Factoring.{packed}
 use Rattle.refusal_order.proofs.Tests.{both}
 use Rattle.lengths.specs.Lengths.{admitted, factorsOk}
 use Rattle.lengths.specs.Admitted.{AdmittedLength, FactorList}

@@ -10,7 +10,7 @@ use lib.Dec.{leb}
 use lib.ListN.{length, getD, drop, drop-of-length-le, length-drop}
 use lib.Seq.{drop-cons}
 use borrow.Author.Tests.{leb-true, ne-eqb}
-use Rattle.plain.specs.Factors.{product, octal, Factors, none, one}
+use Rattle.factors.specs.Factors.{product, octal, Factors, none, one}
 use Rattle.lengths.specs.Lengths.{isFactor, factorsOk, digits, octalDigits}
 use Rattle.refusal_order.proofs.Tests.{both}
 

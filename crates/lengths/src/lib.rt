@@ -5,7 +5,7 @@ ghost use mathlib.Core.Path.{_≡_};
 ghost use mathlib.Core.Bool.{true};
 ghost use Prim.Native.Nat.{_<_, _≤_};
 ghost use lib.Dec.{eqb};
-ghost use Rattle.plain.specs.Factors.{product, octal};
+ghost use Rattle.factors.specs.Factors.{product, octal};
 ghost use Rattle.lengths.specs.Lengths.{admitted, isFactor, factorsOk};
 ghost use Rattle.lengths.specs.Counts.{pairCount};
 

@@ -6,7 +6,7 @@ use Prim.Native.Nat.{ℕ, _/_, _≤_, _<_}
 use native.Mathlib.Omega.{arith}
 use borrow.Author.Tests.{not-false, leb-false, ltb-false, eqb-true}
 use Rattle.slices.proofs.Bounds.{below-allBelow}
-use Rattle.plain.specs.Factors.{product, octal}
+use Rattle.factors.specs.Factors.{product, octal}
 use Rattle.refusal_order.specs.Tests.{first}
 use Rattle.refusal_order.proofs.Tests.{Passed, passed}
 use Rattle.lengths.specs.Lengths.{factorsOk}

@@ -16,7 +16,7 @@ use Rattle.numbers.specs.Prime.{prime}
 use Rattle.numbers.specs.Value.{half, part, valueOf, pairOf}
 use Rattle.numbers.specs.Root.{root}
 use Rattle.slices.specs.Pairs.{at, put, puts, allBelow}
-use Rattle.plain.specs.Factors.{product}
+use Rattle.factors.specs.Factors.{product}
 use Rattle.kinds.specs.Transform.{rootOf, transform, transformed}
 use Rattle.refusal_order.specs.Tests.{first}
 use Rattle.lengths.specs.Lengths.{admitted, factorsOk, scratchLength}

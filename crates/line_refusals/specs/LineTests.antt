@@ -5,7 +5,7 @@ use Prim.Native.Nat.{ℕ, _*_, _/_}
 use lib.ListN.{length}
 use lib.Dec.{ltb, leb, eqb}
 use Rattle.slices.specs.Pairs.{allBelow}
-use Rattle.plain.specs.Factors.{product}
+use Rattle.factors.specs.Factors.{product}
 use Rattle.refusal_order.specs.Tests.{Test, _⇒_}
 use Rattle.lengths.specs.Lengths.{admitted, factorsOk, scratchLength}
 use Rattle.lengths.specs.Counts.{pairCount}

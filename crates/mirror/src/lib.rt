@@ -12,7 +12,7 @@ ghost use Rattle.numbers.specs.Prime.{prime};
 ghost use Rattle.numbers.specs.Value.{Value, field, conj, i, res, real, half};
 ghost use Rattle.slices.specs.Pairs.{Below};
 ghost use Rattle.slices.specs.Values.{valuesOf, listOf};
-ghost use Rattle.plain.specs.Factors.{Factored};
+ghost use Rattle.factors.specs.Factors.{Factored};
 ghost use Rattle.folds.specs.Frame.{lineRoot, tangent, Frame, Tangents};
 ghost use Rattle.pairing.specs.Pairing.{mirrored};
 
@@ -62,5 +62,5 @@ pub fn inverse<'a>(
 {
     let n = a + 1 - 2 * first;
     forward(m, re, im, tan, factors, first, a, line, fold, work);
-    plain::scale(m, c, n, line);
+    scaling::scale(m, c, n, line);
 }

@@ -23,7 +23,7 @@ use Rattle.numbers.proofs.Primes.{first-modulus, prime-pos}
 use Rattle.numbers.proofs.Residues.{val-res}
 use Rattle.numbers.proofs.Values.{field-ring}
 use Rattle.slices.specs.Pairs.{Below}
-use Rattle.plain.specs.Factors.{octal}
+use Rattle.factors.specs.Factors.{octal}
 use Rattle.refusal_order.specs.Tests.{first}
 use Rattle.kinds.specs.Transform.{rootOf}
 use Rattle.lengths.specs.Admitted.{AdmittedLength}

@@ -1,7 +1,5 @@
+pub mod Splitting
 pub mod Equation3
-pub mod Factoring
-pub mod Doubling
 pub mod Stepping
 pub mod Driving
-pub mod Scaling
 pub mod Restoring

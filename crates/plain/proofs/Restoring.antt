@@ -16,7 +16,7 @@ use Rattle.numbers.proofs.Roots.{root-of-unity}
 use Rattle.numbers.proofs.Values.{field-ring}
 use Rattle.slices.specs.Pairs.{Below}
 use Rattle.slices.specs.Values.{valuesOf, listOf}
-use Rattle.steps.proofs.Sizes.{quotient-pos}
+use Rattle.factors.proofs.Divisors.{quotient-pos}
 use Rattle.slices.proofs.Values.{values-list, list-cong, list-values}
 
 module _ (m n : ℕ) (is : IsModulus m) (divides : n * (2880 / n) ≡ 2880) where

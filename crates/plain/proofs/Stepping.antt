@@ -14,9 +14,11 @@ use Rattle.butterflies.specs.Outer.{e}
 use Rattle.steps.specs.Steps.{innerSum, twiddled, outerSum, Splits}
 use Rattle.slices.specs.Values.{valuesOf, listOf}
 use Rattle.steps.proofs.Sizes.{outer-pos}
-use Rattle.plain.specs.declared.Stage.{Stage}
-use Rattle.plain.specs.Stages.{points, after, Ahead, sumsAt}
-use Rattle.plain.proofs.Factoring.{next-factor, next-length, next-splits}
+use Rattle.factors.specs.declared.Stage.{Stage}
+use Rattle.factors.specs.Stages.{points, after, Ahead}
+use Rattle.plain.specs.Stages.{sumsAt}
+use Rattle.factors.proofs.Factoring.{next-factor, next-length}
+use Rattle.plain.proofs.Splitting.{next-splits}
 use Rattle.plain.proofs.Equation3.{equation-3}
 
 -- ---- a step reads places of the line alone
@@ -52,24 +54,41 @@ module _ (m : ℕ) (W : Value m) (cycle : pow (field m) W 2880 ≡ field m .one)
 -- ---- the same from a stage to the next
 
 module _ {s : Stage} (a : Ahead s) where
-  pub ahead-splits : Splits (s .inner) (s .left % 8) (s .lines / (s .left % 8))
+  ahead-splits : Splits (s .inner) (s .left % 8) (s .lines / (s .left % 8))
   ahead-splits = next-splits (s .inner) (a .factors) (a .more) (a .divides)
 
-  pub ahead-length : s .inner * (s .left % 8) * (s .lines / (s .left % 8)) ≡ points s
+  ahead-length : s .inner * (s .left % 8) * (s .lines / (s .left % 8)) ≡ points s
   ahead-length = next-length (s .inner) (a .factors) (a .more)
 
   lines-before : s .lines ≡ s .lines / (s .left % 8) * (s .left % 8)
   lines-before = sym (N.mul-comm (s .lines / (s .left % 8)) (s .left % 8) ∙ next-factor (a .factors) (a .more) .whole)
 
-  module _ (m : ℕ) (W : Value m) (cycle : pow (field m) W 2880 ≡ field m .one) where
-    pub next-sums : {from to : List ℕ} →
-        to ≡ listOf (s .inner * (s .left % 8) * (s .lines / (s .left % 8)))
-        (outerSum (field m) W (s .inner) (s .left % 8) (s .lines / (s .left % 8)) (twiddled (field m) W (s .inner) (s .left % 8) (s .lines / (s .left % 8)) (valuesOf m from)))
-        → (X : ℕ → Value m) → from ≡ sumsAt m W s X → to ≡ sumsAt m W (after s) X
+  ahead-sums : (m : ℕ) (W : Value m) → pow (field m) W 2880 ≡ field m .one → {from to : List ℕ} →
+      to ≡ listOf (s .inner * (s .left % 8) * (s .lines / (s .left % 8)))
+      (outerSum (field m) W (s .inner) (s .left % 8) (s .lines / (s .left % 8)) (twiddled (field m) W (s .inner) (s .left % 8) (s .lines / (s .left % 8)) (valuesOf m from)))
+      → (X : ℕ → Value m) → from ≡ sumsAt m W s X → to ≡ sumsAt m W (after s) X
+  unfolding after
+  ahead-sums m W cycle pass X came =
+      longer-sums m W cycle ahead-splits X
+      (came
+      ∙ ap (λ k. listOf (points s) (innerSum (field m) W (s .inner) k X)) lines-before
+      ∙ ap (λ k. listOf k (innerSum (field m) W (s .inner) (s .lines / (s .left % 8) * (s .left % 8)) X)) (sym ahead-length))
+      pass
+
+  -- s′ is the stage that the step comes to
+  module _ {s′ : Stage} (e : s′ ≡ after s) where
+    lines-after : s .lines / (s .left % 8) ≡ s′ .lines
     unfolding after
-    next-sums pass X came =
-        longer-sums m W cycle ahead-splits X
-        (came
-        ∙ ap (λ k. listOf (points s) (innerSum (field m) W (s .inner) k X)) lines-before
-        ∙ ap (λ k. listOf k (innerSum (field m) W (s .inner) (s .lines / (s .left % 8) * (s .left % 8)) X)) (sym ahead-length))
-        pass
+    lines-after = sym (ap (λ (t : Stage). t .lines) e)
+
+    pub step-splits : Splits (s .inner) (s .left % 8) (s′ .lines)
+    step-splits = subst (Splits (s .inner) (s .left % 8)) lines-after ahead-splits
+
+    pub step-long : {k : ℕ} → k ≡ 2 * points s → k ≡ 2 * (s .inner * (s .left % 8) * s′ .lines)
+    step-long long = long ∙ ap (λ k. 2 * k) (sym ahead-length) ∙ ap (λ k. 2 * (s .inner * (s .left % 8) * k)) lines-after
+
+    pub step-sums : (m : ℕ) (W : Value m) → pow (field m) W 2880 ≡ field m .one → {from to : List ℕ} →
+        to ≡ listOf (s .inner * (s .left % 8) * s′ .lines)
+        (outerSum (field m) W (s .inner) (s .left % 8) (s′ .lines) (twiddled (field m) W (s .inner) (s .left % 8) (s′ .lines) (valuesOf m from)))
+        → (X : ℕ → Value m) → from ≡ sumsAt m W s X → to ≡ sumsAt m W (after s) X
+    step-sums m W cycle {from} {to} pass = ahead-sums m W cycle (subst (λ M. to ≡ listOf (s .inner * (s .left % 8) * M) (outerSum (field m) W (s .inner) (s .left % 8) M (twiddled (field m) W (s .inner) (s .left % 8) M (valuesOf m from)))) (sym lines-after) pass)

@@ -7,26 +7,20 @@
 // and after an odd number of them the result is copied into the line. It is in its natural order after any number of steps.
 //
 // The roots are lent as tables of the powers of W: those of r, or those of its conjugate for the other direction.
+use factors::Stage;
 ghost use mathlib.Core.Path.{_≡_};
-ghost use Prim.Native.Nat.{ℕ, _*_, _/_, _<_};
+ghost use Prim.Native.Nat.{ℕ, _*_, _/_};
 ghost use lib.ListN.{length};
 ghost use Rattle.algebra.specs.Ring.{Ops, pow};
 ghost use Rattle.algebra.specs.Fourier.{dft};
 ghost use Rattle.numbers.specs.Prime.{prime, IsModulus};
-ghost use Rattle.numbers.specs.Value.{Value, field, res, part, real};
+ghost use Rattle.numbers.specs.Value.{Value, field, part, real};
 ghost use Rattle.numbers.specs.Root.{tableRoot, RootTable};
+ghost use Rattle.factors.specs.Factors.{Factored};
+ghost use Rattle.factors.specs.Stages.{points, after, Ahead};
 ghost use Rattle.slices.specs.Pairs.{Below};
 ghost use Rattle.slices.specs.Values.{valuesOf, listOf};
-ghost use Rattle.plain.specs.Factors.{Factored};
-ghost use Rattle.plain.specs.Stages.{points, after, Ahead, sumsAt, WorkLeft};
-
-// A stage of a transform: the factors that are left, the product of those that are done, and the number of lines, which is the product of those
-// that are left.
-struct Stage {
-    left: u32,
-    inner: usize,
-    lines: usize,
-}
+ghost use Rattle.plain.specs.Stages.{sumsAt, WorkLeft};
 
 // The transform of the line, in its natural order.
 pub fn transform<'a>(
@@ -78,41 +72,7 @@ pub fn inverse<'a>(
     ensures { λ _. ⌜ WorkLeft m n (tableRoot m (now (re .entry)) (now (im .entry))) factors 0 (valuesOf m (now (line .entry))) (now (work .entry)) (now (work .exit)) ⌝ }
 {
     transform(m, re, im, factors, n, line, work);
-    if 1 < n {
-        scale(m, numbers::reciprocal(m, n as u32), n, line);
-    }
-}
-
-// Every pair of the line times the residue c.
-pub fn scale(m: u32, c: u32, n: usize, line: &mut [u32])
-    requires { ⌜ IsModulus m × (c < prime m) ⌝ }
-    requires { ⌜ length (now line) ≡ 2 * n ⌝ }
-    requires { ⌜ Below (prime m) (now line) ⌝ }
-    ensures { λ _. ⌜ now (line .exit) ≡ listOf n (λ t. field m .mul (real m (res m c)) (valuesOf m (now (line .entry)) t)) ⌝ }
-{
-    let mut j = 0;
-    while j < n {
-        let v = slices::get(line, j);
-        slices::store(line, j, numbers::scaled(m, c, v));
-        j += 1;
-    }
-}
-
-// The list of twice the length: a 2 of it becomes a 4, or, where it has none, a 2 is added at its end.
-pub fn doubled(factors: u32) -> u32
-    requires { ⌜ factors < 16777216 ⌝ }
-    ensures { λ r. ⌜ ((n : ℕ) → Factored factors n → Factored r (2 * n)) ⌝ }
-{
-    let mut left = factors;
-    let mut place = 1;
-    while left != 0 {
-        if left % 8 == 2 {
-            return factors + 2 * place;
-        }
-        left = left / 8;
-        place = place * 8;
-    }
-    factors + 2 * place
+    scaling::divide(m, n, line);
 }
 
 // The next step: inner sums of length A, with B times as many lines, become inner sums of length A B.
@@ -131,14 +91,16 @@ fn step<'a>(
     ensures { λ r. ⌜ r ≡ after at ⌝ }
     ensures { λ _. ⌜ ((X : ℕ → Value m) → now (from .entry) ≡ sumsAt m (tableRoot m (now (re .entry)) (now (im .entry))) at X → now (to .exit) ≡ sumsAt m (tableRoot m (now (re .entry)) (now (im .entry))) (after at) X) ⌝ }
 {
-    let outer = (at.left % 8) as usize;
-    let inner = at.inner;
-    let lines = at.lines / outer;
-    steps::step(m, re, im, inner, outer, lines, from, to);
-    let longer = inner * outer;
-    Stage {
-        left: at.left / 8,
-        inner: longer,
-        lines,
-    }
+    let next = factors::next(at);
+    steps::step(
+        m,
+        re,
+        im,
+        at.inner,
+        (at.left % 8) as usize,
+        next.lines,
+        from,
+        to,
+    );
+    next
 }

@@ -12,8 +12,8 @@ use lib.Seq.{getD-set-same, getD-set-other}
 use Rattle.numbers.specs.Prime.{prime}
 use Rattle.numbers.specs.Value.{res}
 use Rattle.numbers.proofs.Residues.{val-small}
-use Rattle.plain.specs.Factors.{Factored, octal, product, Factors, none, one}
-use Rattle.plain.proofs.Factoring.{packed}
+use Rattle.factors.specs.Factors.{Factored, octal, product, Factors, none, one}
+use Rattle.factors.proofs.Factoring.{packed}
 
 unfoldable pub twoToFive : List ℕ → Bool
 twoToFive [] = true

@@ -8,7 +8,7 @@ ghost use lib.ListN.{length};
 ghost use Rattle.numbers.specs.Prime.{prime, IsModulus};
 ghost use Rattle.numbers.specs.Root.{RootTable};
 ghost use Rattle.slices.specs.Pairs.{Below};
-ghost use Rattle.plain.specs.Factors.{Factored};
+ghost use Rattle.factors.specs.Factors.{Factored};
 
 fn main() {
     both(0, 1);

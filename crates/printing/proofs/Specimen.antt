@@ -20,7 +20,7 @@ use Rattle.numbers.specs.Prime.{prime, exponent, choice}
 use Rattle.numbers.specs.Root.{root, entryAt, tableRoot}
 use Rattle.numbers.specs.Value.{half, part, valueOf, pairOf}
 use Rattle.slices.specs.Pairs.{at, put, puts, allBelow}
-use Rattle.plain.specs.Factors.{octal, product}
+use Rattle.factors.specs.Factors.{octal, product}
 use Rattle.factor_file.specs.File.{twoBytes, fourBytes, listAt, list2At, list3At, countAt, recordAt, recordsFrom, feed, fileStep}
 use Rattle.output.specs.Decimal.{digitsOf, each}
 use Rattle.map_text.specs.Text.{headLine, rowLine, mapText, refusalText}

@@ -7,7 +7,7 @@ use native.Mathlib.Nat.{mul-le-mul, not-suc-le-zero}
 use native.Mathlib.Omega.{arith}
 use lib.Dec.{leb, eqb}
 use borrow.Author.Tests.{ne-eqb, le-leb, lt-leb}
-use Rattle.plain.specs.Factors.{product, octal}
+use Rattle.factors.specs.Factors.{product, octal}
 use Rattle.lengths.specs.Lengths.{isFactor, factorsOk, digits, octalDigits}
 use Rattle.lengths.proofs.Factors.{factors-cons, product-positive}
 

@@ -8,7 +8,7 @@ use native.Mathlib.Omega.{arith}
 use lib.Dec.{eqb}
 use borrow.Author.Tests.{not-false, eqb-true, eq-eqb, ne-eqb}
 use Rattle.algebra.specs.Cell.{planes}
-use Rattle.plain.specs.Factors.{product, octal}
+use Rattle.factors.specs.Factors.{product, octal}
 use Rattle.refusal_order.specs.Tests.{first}
 use Rattle.lengths.specs.Lengths.{admitted, factorsOk}
 use Rattle.refusal_order.proofs.Tests.{both, by-true, by-false, Passed, passed}

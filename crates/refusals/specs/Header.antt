@@ -4,7 +4,7 @@ use mathlib.Core.List.{List, [], _∷_}
 use Prim.Native.Nat.{ℕ, _/_}
 use lib.Dec.{ltb, eqb}
 use Rattle.algebra.specs.Cell.{J}
-use Rattle.plain.specs.Factors.{product}
+use Rattle.factors.specs.Factors.{product}
 use Rattle.refusal_order.specs.Tests.{Test, _⇒_}
 use Rattle.lengths.specs.Lengths.{admitted, factorsOk}
 use Rattle.cell.specs.Volume.{groupOf, volumeLength}

@@ -4,7 +4,7 @@ ghost use mathlib.Core.Path.{_≡_};
 ghost use mathlib.Core.Bool.{true, _&&_};
 ghost use Prim.Native.Nat.{_/_, _<_, _≤_};
 ghost use lib.Dec.{eqb};
-ghost use Rattle.plain.specs.Factors.{product};
+ghost use Rattle.factors.specs.Factors.{product};
 ghost use Rattle.refusal_order.specs.Tests.{first};
 ghost use Rattle.lengths.specs.Lengths.{admitted, factorsOk, octalDigits};
 ghost use Rattle.refusals.specs.Header.{axisTests};

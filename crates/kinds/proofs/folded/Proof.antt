@@ -3,7 +3,7 @@ use native.Mathlib.Omega.{arith}
 use mathlib.Core.Path.{_≡_, ap}
 use Prim.Native.Nat.{_*_}
 use Rattle.numbers.specs.Value.{real, part}
-use Rattle.plain.specs.Factors.{Factored}
+use Rattle.factors.specs.Factors.{Factored}
 use Rattle.folds.specs.Frame.{Frame, tangent}
 use Rattle.lengths.specs.Counts.{kindOf}
 use Rattle.kinds.proofs.Dispatch.{hermitian-kind, mirror-kind, frame-of, half-list, half-count, count-of, forward-by}

@@ -3,7 +3,7 @@ use native.Mathlib.Omega.{arith}
 use mathlib.Core.Path.{_≡_, ap}
 use Rattle.algebra.specs.Ring.{Ops}
 use Rattle.numbers.specs.Value.{field}
-use Rattle.plain.specs.Factors.{Factored}
+use Rattle.factors.specs.Factors.{Factored}
 use Rattle.folds.specs.Frame.{Frame, tangent}
 use Rattle.lengths.specs.Counts.{kindOf}
 use Rattle.kinds.proofs.Dispatch.{hermitian-kind, mirror-kind, frame-of, half-list, half-count, count-of, back-by, back-share-by}

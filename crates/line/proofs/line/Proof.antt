@@ -8,7 +8,7 @@ use lib.ListN.{length, replicate}
 use denote.Ref.{now}
 use Rattle.numbers.specs.Prime.{prime}
 use Rattle.numbers.proofs.Primes.{prime-pos}
-use Rattle.plain.specs.Factors.{octal}
+use Rattle.factors.specs.Factors.{octal}
 use Rattle.refusal_order.specs.Tests.{first, checkedNumber}
 use Rattle.lengths.specs.Lengths.{cleared}
 use Rattle.line_refusals.specs.LineTests.{lineTests}

@@ -5,7 +5,7 @@ use native.Mathlib.Omega.{arith}
 use lib.ListN.{length, take, length-take}
 use Rattle.numbers.proofs.RootPowers.{imaginary-below, root-table, conj-root-table}
 use Rattle.numbers.proofs.RootNegated.{negated-first}
-use Rattle.steps.proofs.Sizes.{divisor-le}
+use Rattle.factors.proofs.Divisors.{divisor-le}
 use borrow.Author.Needs.{needs}
 use Rattle.plain_test.proofs.lend.Statement.{statement}
 use Rattle.plain_test.proofs.lend.Tie as tie

@@ -2,7 +2,7 @@
 use Prim.Native.Nat.{_/_}
 use lib.Dec.{eqb}
 use denote.Ref.{now}
-use Rattle.plain.specs.Factors.{product}
+use Rattle.factors.specs.Factors.{product}
 use Rattle.refusals.proofs.Headers.{first-fails, second-fails, third-decides, products-may}
 use Rattle.refusals.proofs.header.all_products.Statement.{statement}
 use Rattle.refusals.proofs.header.all_products.Tie as tie

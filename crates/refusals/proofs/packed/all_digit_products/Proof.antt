@@ -1,7 +1,7 @@
 -- Three tests in turn; the lengths are admitted and the digits are factors.
 use Prim.Native.Nat.{_/_}
 use lib.Dec.{eqb}
-use Rattle.plain.specs.Factors.{product}
+use Rattle.factors.specs.Factors.{product}
 use Rattle.lengths.specs.Lengths.{octalDigits}
 use Rattle.refusals.proofs.Headers.{first-fails, second-fails, third-decides, products-may}
 use Rattle.refusals.proofs.packed.all_digit_products.Statement.{statement}

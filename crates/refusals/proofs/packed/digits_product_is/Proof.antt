@@ -6,7 +6,7 @@ use mathlib.Core.Bool.{true}
 use Prim.Native.Nat.{ℕ, _*_, _/_, _%_, _≤_}
 use lib.Dec.{eqb}
 use borrow.Author.Tests.{ne-eqb}
-use Rattle.plain.specs.Factors.{product}
+use Rattle.factors.specs.Factors.{product}
 use Rattle.lengths.specs.Lengths.{factorsOk, octalDigits}
 use Rattle.refusals.proofs.Digits.{ok-rest, product-cons, product-at-least, product-ends}
 use Rattle.refusals.proofs.packed.digits_product_is.Statement.{statement}

@@ -4,8 +4,8 @@ use mathlib.Core.Logic.{_≢_}
 use Prim.Native.Nat.{ℕ, _+_, _*_, _/_, _%_, _≤_}
 use native.Mathlib.Nat as N
 use native.Mathlib.Omega.{arith}
-use Rattle.plain.specs.Factors.{Factored, done, more}
-use Rattle.plain.proofs.Factoring.{next-factor, factored-none}
+use Rattle.factors.specs.Factors.{Factored, done, more}
+use Rattle.factors.proofs.Factoring.{next-factor, factored-none}
 
 -- a list of n, of which `left` is left after what is passed: a list of twice the rest's product behind the same factors is one of 2 n
 pub record Behind (n passed left place : ℕ) : Type 0 where

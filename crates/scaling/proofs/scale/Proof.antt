@@ -10,8 +10,8 @@ use Rattle.slices.specs.Pairs.{at, Filling}
 use Rattle.slices.proofs.Bounds.{small-of}
 use Rattle.slices.proofs.Filling.{filling-start, filling-next, filling-ahead, filling-whole}
 use Rattle.slices.specs.Values.{valuesOf}
-use Rattle.plain.proofs.scale.Statement.{statement}
-use Rattle.plain.proofs.scale.Tie as tie
+use Rattle.scaling.proofs.scale.Statement.{statement}
+use Rattle.scaling.proofs.scale.Tie as tie
 
 abbrev Inv-loop : tie.InvT-loop
 Inv-loop m c n line₀ j₀ line j = Filling (λ k. k) (λ t. pairOf (field m .mul (real m (res m c)) (valuesOf m line₀ t))) n j line₀ line

@@ -1,13 +1,11 @@
 -- Packed factor lists: taking the next factor off, and the packed form of a list.
-use mathlib.Core.Path.{_≡_, refl, sym, _∙_, ap}
+use mathlib.Core.Path.{_≡_, refl, _∙_, ap}
 use mathlib.Core.Logic.{_≢_}
 use mathlib.Core.List.{List, [], _∷_}
 use Prim.Native.Nat.{ℕ, _+_, _*_, _/_, _%_, _≤_, _<_}
 use native.Mathlib.Nat as N
 use native.Mathlib.Omega.{arith}
-use Rattle.steps.specs.Steps.{Splits}
-use Rattle.plain.specs.Factors.{Factored, done, more, octal, product, Factors, none, one}
-use Rattle.steps.proofs.Sizes.{divisor-pos}
+use Rattle.factors.specs.Factors.{Factored, done, more, octal, product, Factors, none, one}
 
 -- a list of factors packs to a number that is factored by their product
 pub packed : {l : List ℕ} → Factors l → Factored (octal l) (product l)
@@ -61,18 +59,7 @@ pub factored-pos : {left k : ℕ} → Factored left k → 0 < k
 factored-pos done = omega arith
 factored-pos (more {f} {rest} {k} low high h) = N.mul-pos (omega arith) (factored-pos h)
 
--- the next step, after steps whose factors have the product A
+-- the length, after factors whose product is A
 module _ {left k : ℕ} (A : ℕ) (h : Factored left k) (z : left ≢ 0) where
   pub next-length : A * (left % 8) * (k / (left % 8)) ≡ A * k
   next-length = N.mul-assoc A (left % 8) (k / (left % 8)) ∙ ap (λ x. A * x) (next-factor h z .whole)
-
-  pub next-splits : A * k * (2880 / (A * k)) ≡ 2880 → Splits A (left % 8) (k / (left % 8))
-  next-splits divides =
-      let next = next-factor h z in
-      record {
-        inner = divisor-pos A (k * (2880 / (A * k))) (sym (N.mul-assoc A k (2880 / (A * k))) ∙ divides);
-        low = next .low;
-        high = next .high;
-        lines = factored-pos (next .rest);
-        divides = rw next-length divides;
-      }

@@ -1,8 +1,8 @@
 -- The loop's invariant is `Doubling`: the factors that are passed are kept.
 use native.Mathlib.Omega.{arith}
-use Rattle.plain.proofs.Doubling.{Doubling, doubling-start, doubled-end, doubled-here, doubling-next, place-low}
-use Rattle.plain.proofs.doubled.Statement.{statement}
-use Rattle.plain.proofs.doubled.Tie as tie
+use Rattle.factors.proofs.Doubling.{Doubling, doubling-start, doubled-end, doubled-here, doubling-next, place-low}
+use Rattle.factors.proofs.doubled.Statement.{statement}
+use Rattle.factors.proofs.doubled.Tie as tie
 
 abbrev Inv-loop : tie.InvT-loop
 Inv-loop factors left₀ place₀ left place = Doubling factors left place

@@ -1,0 +1,4 @@
+pub mod Divisors
+pub mod Factoring
+pub mod Staging
+pub mod Doubling

@@ -1,5 +1,4 @@
 pub mod OuterSums
-pub mod Unreduced
-pub mod Turns
+pub mod Given
 pub mod Cases
 pub mod Butterflies

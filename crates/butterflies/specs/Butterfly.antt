@@ -6,15 +6,15 @@ use Rattle.numbers.specs.declared.Pair.{Pair}
 use Rattle.numbers.specs.declared.Accumulator.{Accumulator}
 use Rattle.numbers.specs.Value.{Value, field, i, res, real, pairOf}
 use Rattle.butterflies.specs.Outer.{outerAt}
-use Rattle.butterflies.specs.Unreduced.{Room}
-use Rattle.butterflies.specs.declared.formulas.TwoPairs.{TwoPairs}
-use Rattle.butterflies.specs.declared.formulas.ThreePairs.{ThreePairs}
-use Rattle.butterflies.specs.declared.formulas.FourPairs.{FourPairs}
-use Rattle.butterflies.specs.declared.formulas.FivePairs.{FivePairs}
-use Rattle.butterflies.specs.declared.formulas.TwoSums.{TwoSums}
-use Rattle.butterflies.specs.declared.formulas.ThreeSums.{ThreeSums}
-use Rattle.butterflies.specs.declared.formulas.FourSums.{FourSums}
-use Rattle.butterflies.specs.declared.formulas.FiveSums.{FiveSums}
+use Rattle.unreduced.specs.Unreduced.{Room}
+use Rattle.butterflies.specs.declared.TwoPairs.{TwoPairs}
+use Rattle.butterflies.specs.declared.ThreePairs.{ThreePairs}
+use Rattle.butterflies.specs.declared.FourPairs.{FourPairs}
+use Rattle.butterflies.specs.declared.FivePairs.{FivePairs}
+use Rattle.butterflies.specs.declared.TwoSums.{TwoSums}
+use Rattle.butterflies.specs.declared.ThreeSums.{ThreeSums}
+use Rattle.butterflies.specs.declared.FourSums.{FourSums}
+use Rattle.butterflies.specs.declared.FiveSums.{FiveSums}
 
 -- the pairs in order
 abbrev pub ofTwo : TwoPairs → ℕ → Pair

@@ -1,3 +1,2 @@
 pub mod Outer
-pub mod Unreduced
 pub mod Butterfly

@@ -1,6 +1,202 @@
 // The butterflies of equation (3) of document 001: the outer sums of B values, for B of 2, 3, 4 and 5.
 //
-// They are functions of values: a step of the transform (crate `steps`) says where those stand. A butterfly takes values that are not
+// They are functions of values: a step of the transform (crate `radices`) says where those stand. A butterfly takes values that are not
 // reduced, such as products with their factors e(b s/AB), adds in 64 bits, and reduces each of its results once.
-pub mod formulas; // formulas.rt: the butterflies
-pub mod wide; // wide.rt: sums that are not reduced yet
+//
+// e(1/2) is -1 and e(1/4) is i or -i, so that radix 2 and 4 need no product. At radix 3 and 5 the powers of w = e(1/B) come in conjugate
+// pairs, w^(B - k) = c - i s where w^k = c + i s: the values a and b that they multiply enter every sum as c (a + b) and s i (a - b), and
+// the sums 1 and B - 1, or 2 and 3, differ in the sign of the second.
+use numbers::Accumulator;
+use numbers::Pair;
+ghost use mathlib.Core.Path.{_≡_};
+ghost use Prim.Native.Nat.{ℕ, _+_, _*_, _≤_};
+ghost use Rattle.algebra.specs.Ring.{Ops, pow};
+ghost use Rattle.numbers.specs.Prime.{IsModulus};
+ghost use Rattle.numbers.specs.Value.{Value, field, res, real, pairOf};
+ghost use Rattle.numbers.specs.Accumulator.{Accumulated};
+ghost use Rattle.numbers.specs.Root.{tableRoot, RootTable};
+ghost use Rattle.unreduced.specs.Unreduced.{meant, Room};
+ghost use Rattle.butterflies.specs.Butterfly.{ofTwo, ofThree, ofFour, ofFive, ofTwoSums, ofThreeSums, ofFourSums, ofFiveSums, AllRoom, Butterfly, evenPart, oddPart};
+
+// What a butterfly takes: values that are not reduced.
+pub struct TwoSums {
+    pub x0: Accumulator,
+    pub x1: Accumulator,
+}
+
+pub struct ThreeSums {
+    pub x0: Accumulator,
+    pub x1: Accumulator,
+    pub x2: Accumulator,
+}
+
+pub struct FourSums {
+    pub x0: Accumulator,
+    pub x1: Accumulator,
+    pub x2: Accumulator,
+    pub x3: Accumulator,
+}
+
+pub struct FiveSums {
+    pub x0: Accumulator,
+    pub x1: Accumulator,
+    pub x2: Accumulator,
+    pub x3: Accumulator,
+    pub x4: Accumulator,
+}
+
+// What it gives.
+pub struct TwoPairs {
+    pub x0: Pair,
+    pub x1: Pair,
+}
+
+pub struct ThreePairs {
+    pub x0: Pair,
+    pub x1: Pair,
+    pub x2: Pair,
+}
+
+pub struct FourPairs {
+    pub x0: Pair,
+    pub x1: Pair,
+    pub x2: Pair,
+    pub x3: Pair,
+}
+
+pub struct FivePairs {
+    pub x0: Pair,
+    pub x1: Pair,
+    pub x2: Pair,
+    pub x3: Pair,
+    pub x4: Pair,
+}
+
+// Radix 2.
+pub fn two(m: u32, v: TwoSums) -> TwoPairs
+    requires { ⌜ IsModulus m × AllRoom 2 (ofTwoSums v) ⌝ }
+    ensures { λ r. ⌜ ((W : Value m) → pow (field m) W 1440 ≡ field m .neg (field m .one) → Butterfly m W 2 (λ b. meant m (ofTwoSums v b)) (ofTwo r)) ⌝ }
+{
+    let a = v.x0;
+    let b = v.x1;
+    both_ways(m, a, b)
+}
+
+// x + y and x - y, reduced.
+fn both_ways(m: u32, x: Accumulator, y: Accumulator) -> TwoPairs
+    requires { ⌜ IsModulus m ⌝ }
+    requires { ⌜ Room 500000000000000000 x × Room 444158510417000000 y ⌝ }
+    ensures { λ r. ⌜ ((n k : ℕ) (a b : Value m) → Accumulated m n x a → Accumulated m k y b → (r .x0 ≡ pairOf (field m .add a b)) × (r .x1 ≡ pairOf (field m .add a (field m .neg b)))) ⌝ }
+{
+    TwoPairs {
+        x0: unreduced::total(m, x, y),
+        x1: unreduced::rest(m, x, y),
+    }
+}
+
+// Radix 3: w = e(1/3).
+pub fn three<'a>(m: u32, re: &'a [u32; 2880], im: &'a [u32; 2880], v: ThreeSums) -> ThreePairs
+    requires { ⌜ IsModulus m × RootTable m (now re) (now im) ⌝ }
+    requires { ⌜ AllRoom 3 (ofThreeSums v) ⌝ }
+    ensures { λ r. ⌜ Butterfly m (tableRoot m (now (re .entry)) (now (im .entry))) 3 (λ b. meant m (ofThreeSums v b)) (ofThree r) ⌝ }
+{
+    let a = v.x0;
+    let b = v.x1;
+    let c = v.x2;
+    let w = numbers::tables::root_at(re, im, 960);
+    let t = unreduced::sum(b, c);
+    let even = unreduced::sum(a, unreduced::scaled(w.re, t));
+    let odd = unreduced::scaled(w.im, unreduced::turned(b, c));
+    let mates = both_ways(m, even, odd);
+    let x1 = mates.x0;
+    let x2 = mates.x1;
+    ThreePairs {
+        x0: unreduced::total(m, a, t),
+        x1,
+        x2,
+    }
+}
+
+// Radix 4.
+pub fn four<'a>(m: u32, re: &'a [u32; 2880], im: &'a [u32; 2880], v: FourSums) -> FourPairs
+    requires { ⌜ IsModulus m × RootTable m (now re) (now im) ⌝ }
+    requires { ⌜ AllRoom 4 (ofFourSums v) ⌝ }
+    ensures { λ r. ⌜ Butterfly m (tableRoot m (now (re .entry)) (now (im .entry))) 4 (λ b. meant m (ofFourSums v b)) (ofFour r) ⌝ }
+{
+    let a = v.x0;
+    let b = v.x1;
+    let c = v.x2;
+    let d = v.x3;
+    let near = both_ways(m, unreduced::sum(a, c), unreduced::sum(b, d));
+    let far = both_ways(
+        m,
+        unreduced::apart(a, c),
+        unreduced::quarter_turned(m, re, im, b, d),
+    );
+    let x0 = near.x0;
+    let x1 = far.x0;
+    let x2 = near.x1;
+    let x3 = far.x1;
+    FourPairs { x0, x1, x2, x3 }
+}
+
+// Radix 5: w = e(1/5), z = e(2/5). In the sums 2 and 3 they change places, since e(4/5) is the conjugate of w.
+pub fn five<'a>(m: u32, re: &'a [u32; 2880], im: &'a [u32; 2880], v: FiveSums) -> FivePairs
+    requires { ⌜ IsModulus m × RootTable m (now re) (now im) ⌝ }
+    requires { ⌜ AllRoom 5 (ofFiveSums v) ⌝ }
+    ensures { λ r. ⌜ Butterfly m (tableRoot m (now (re .entry)) (now (im .entry))) 5 (λ b. meant m (ofFiveSums v b)) (ofFive r) ⌝ }
+{
+    let a = v.x0;
+    let b = v.x1;
+    let c = v.x2;
+    let d = v.x3;
+    let e = v.x4;
+    let w = numbers::tables::root_at(re, im, 576);
+    let z = numbers::tables::root_at(re, im, 1152);
+    let near = conjugates(m, w, z, a, b, c, d, e);
+    let far = conjugates(m, z, w, a, b, d, c, e);
+    let all = unreduced::sum(a, unreduced::sum(b, e));
+    let x1 = near.x0;
+    let x2 = far.x0;
+    let x3 = far.x1;
+    let x4 = near.x1;
+    FivePairs {
+        x0: unreduced::total(m, all, unreduced::sum(c, d)),
+        x1,
+        x2,
+        x3,
+        x4,
+    }
+}
+
+// a + w b + z c + z' d + w' e, where w' and z' are the conjugates of w and z, and the same with these exchanged for w and z.
+fn conjugates(
+    m: u32,
+    w: Pair,
+    z: Pair,
+    a: Accumulator,
+    b: Accumulator,
+    c: Accumulator,
+    d: Accumulator,
+    e: Accumulator,
+) -> TwoPairs
+    requires { ⌜ IsModulus m × (w .re ≤ 302399) × (w .im ≤ 302399) × (z .re ≤ 302399) × (z .im ≤ 302399) ⌝ }
+    requires { ⌜ Room 182890310402 a × Room 182890310402 b × Room 182890310402 c × Room 182890310402 d × Room 182890310402 e ⌝ }
+    ensures { λ r. ⌜ (r .x0 ≡ pairOf (field m .add (evenPart m w z (meant m a) (meant m b) (meant m c) (meant m d) (meant m e)) (oddPart m w z (meant m b) (meant m c) (meant m d) (meant m e))))
+        × (r .x1 ≡ pairOf (field m .add (evenPart m w z (meant m a) (meant m b) (meant m c) (meant m d) (meant m e)) (field m .neg (oddPart m w z (meant m b) (meant m c) (meant m d) (meant m e))))) ⌝ }
+{
+    let even = unreduced::sum(
+        a,
+        weighed(w.re, unreduced::sum(b, e), z.re, unreduced::sum(c, d)),
+    );
+    let odd = weighed(w.im, unreduced::turned(b, e), z.im, unreduced::turned(c, d));
+    both_ways(m, even, odd)
+}
+
+// c t + d s.
+fn weighed(c: u32, t: Accumulator, d: u32, s: Accumulator) -> Accumulator
+    requires { ⌜ (c ≤ 302399) × (d ≤ 302399) × Room 731561241608 t × Room 731561241608 s ⌝ }
+    ensures { λ r. ⌜ ((m n k : ℕ) (x y : Value m) → Accumulated m n t x → Accumulated m k s y → Accumulated m (302399 * n + 302399 * k) r (field m .add (field m .mul (real m (res m c)) x) (field m .mul (real m (res m d)) y))) ⌝ }
+{
+    unreduced::sum(unreduced::scaled(c, t), unreduced::scaled(d, s))
+}

@@ -4,16 +4,12 @@ use Prim.Native.Nat.{ℕ, _+_, _*_, _/_, _<_}
 use native.Mathlib.Omega.{arith}
 use Rattle.algebra.specs.Ring.{Ops, CRing, pow}
 use Rattle.algebra.proofs.Laws.{along}
-use Rattle.algebra.proofs.Sums.{sum-cong}
 use Rattle.slices.proofs.Rows.{row-col}
 use Rattle.butterflies.specs.Outer.{e, outerAt}
+use Rattle.radices.proofs.Spreading.{outer-cong}
 use Rattle.steps.specs.Steps.{twiddled, outerSum}
 
 module _ {R : Type 0} {𝓞 : Ops R} (𝓡 : CRing 𝓞) (W : R) where
-  pub outer-cong : (B : ℕ) (X Y : ℕ → R) (c : ℕ) → ((b : ℕ) → b < B → X b ≡ Y b) → outerAt 𝓞 W B X c ≡ outerAt 𝓞 W B Y c
-  unfolding outerAt
-  outer-cong B X Y c h = sum-cong 𝓡 B _ _ (λ b l. ap (𝓞 .mul (e 𝓞 W B (b * c))) (h b l))
-
   module _ (A B M : ℕ) (Y : ℕ → R) {s : ℕ} (hs : s < A) where
     outer-row : {c : ℕ} (q : ℕ) → c < B → outerSum 𝓞 W A B M Y ((q * B + c) * A + s) ≡ outerAt 𝓞 W B (λ b. Y ((b * M + q) * A + s)) c
     unfolding outerAt outerSum
@@ -35,4 +31,4 @@ module _ {R : Type 0} {𝓞 : Ops R} (𝓡 : CRing 𝓞) (W : R) where
         ∙ sym (twiddled-row A B M Y hs b hq)
 
     pub outer-place : {c : ℕ} → c < B → outerAt 𝓞 W B (λ b. 𝓞 .mul (pow 𝓞 W (b * k)) (Y (b * (M * A) + first))) c ≡ outerSum 𝓞 W A B M (twiddled 𝓞 W A B M Y) ((q * B + c) * A + s)
-    outer-place {c} hc = outer-cong B _ _ c (λ b l. turned-value b) ∙ sym (outer-row A B M (twiddled 𝓞 W A B M Y) hs q hc)
+    outer-place {c} hc = outer-cong 𝓡 W B _ _ c (λ b l. turned-value b) ∙ sym (outer-row A B M (twiddled 𝓞 W A B M Y) hs q hc)

@@ -2,13 +2,12 @@
 //
 // `inner` is the paper's A, the length of the inner sums that the slice `from` holds, `outer` its B, the factor of the step, and `lines`
 // the number M of lines. The inner sums are multiplied by e(b s/AB) and summed over b into the slice `to`, all B sums of a place by one
-// butterfly: its B values are read and multiplied by their factors (places.rt), and the products are added without being reduced before.
+// butterfly: its B values are read and multiplied by their factors (crate `places`), and the products are added without being reduced before.
 //
 // The roots are lent as tables of the powers of W: those of r, or those of its conjugate for the other direction.
-use crate::places::Places;
-use butterflies::formulas;
+use places::Places;
 ghost use mathlib.Core.Path.{_≡_};
-ghost use Prim.Native.Nat.{_*_, _≤_};
+ghost use Prim.Native.Nat.{_*_};
 ghost use lib.ListN.{length};
 ghost use Rattle.numbers.specs.Prime.{prime, IsModulus};
 ghost use Rattle.numbers.specs.Value.{field};
@@ -16,9 +15,6 @@ ghost use Rattle.numbers.specs.Root.{tableRoot, RootTable};
 ghost use Rattle.slices.specs.Pairs.{Below};
 ghost use Rattle.slices.specs.Values.{valuesOf, listOf};
 ghost use Rattle.steps.specs.Steps.{twiddled, outerSum, Splits};
-ghost use Rattle.steps.specs.Places.{Reads, Stores, summed};
-
-mod places; // places.rt: where the values of a butterfly are read, with what factors, and where its sums go
 
 // Place (q B + c) A + s of `to` becomes the sum over b of e(b c/B) e(b s/AB) times the value at place (b M + q) A + s of `from`.
 // `first` is the place q A + s that is read for b = 0, `base` the place q B A + s that c = 0 goes to, and W^k is the factor e(s/AB) of b = 1.
@@ -53,7 +49,7 @@ pub fn step<'a>(
             base: base,
             gap: inner,
         };
-        butterfly(m, re, im, outer, at, from, to);
+        radices::butterfly(m, re, im, outer, at, from, to);
         first += 1;
         s += 1;
         base += 1;
@@ -64,94 +60,4 @@ pub fn step<'a>(
             k = 0;
         }
     }
-}
-
-// One butterfly, by its radix.
-fn butterfly<'a>(
-    m: u32,
-    re: &'a [u32; 2880],
-    im: &'a [u32; 2880],
-    outer: usize,
-    at: Places,
-    from: &[u32],
-    to: &mut [u32],
-)
-    requires { ⌜ IsModulus m × RootTable m (now re) (now im) ⌝ }
-    requires { ⌜ (2 ≤ outer) × (outer ≤ 5) × Reads outer at (now from) × Stores outer at (now to) ⌝ }
-    requires { ⌜ Below (prime m) (now from) ⌝ }
-    ensures { λ _. ⌜ now (to .exit) ≡ summed m (tableRoot m (now (re .entry)) (now (im .entry))) outer at (now (from .entry)) (now (to .entry)) ⌝ }
-{
-    if outer == 4 {
-        four_at(m, re, im, at, from, to);
-    } else if outer == 2 {
-        two_at(m, re, im, at, from, to);
-    } else if outer == 3 {
-        three_at(m, re, im, at, from, to);
-    } else {
-        five_at(m, re, im, at, from, to);
-    }
-}
-
-fn two_at<'a>(
-    m: u32,
-    re: &'a [u32; 2880],
-    im: &'a [u32; 2880],
-    at: Places,
-    from: &[u32],
-    to: &mut [u32],
-)
-    requires { ⌜ IsModulus m × RootTable m (now re) (now im) ⌝ }
-    requires { ⌜ Reads 2 at (now from) × Stores 2 at (now to) × Below (prime m) (now from) ⌝ }
-    ensures { λ _. ⌜ now (to .exit) ≡ summed m (tableRoot m (now (re .entry)) (now (im .entry))) 2 at (now (from .entry)) (now (to .entry)) ⌝ }
-{
-    let v = places::load_two(m, re, im, at, from);
-    places::store_two(to, at, formulas::two(m, v));
-}
-
-fn three_at<'a>(
-    m: u32,
-    re: &'a [u32; 2880],
-    im: &'a [u32; 2880],
-    at: Places,
-    from: &[u32],
-    to: &mut [u32],
-)
-    requires { ⌜ IsModulus m × RootTable m (now re) (now im) ⌝ }
-    requires { ⌜ Reads 3 at (now from) × Stores 3 at (now to) × Below (prime m) (now from) ⌝ }
-    ensures { λ _. ⌜ now (to .exit) ≡ summed m (tableRoot m (now (re .entry)) (now (im .entry))) 3 at (now (from .entry)) (now (to .entry)) ⌝ }
-{
-    let v = places::load_three(m, re, im, at, from);
-    places::store_three(to, at, formulas::three(m, re, im, v));
-}
-
-fn four_at<'a>(
-    m: u32,
-    re: &'a [u32; 2880],
-    im: &'a [u32; 2880],
-    at: Places,
-    from: &[u32],
-    to: &mut [u32],
-)
-    requires { ⌜ IsModulus m × RootTable m (now re) (now im) ⌝ }
-    requires { ⌜ Reads 4 at (now from) × Stores 4 at (now to) × Below (prime m) (now from) ⌝ }
-    ensures { λ _. ⌜ now (to .exit) ≡ summed m (tableRoot m (now (re .entry)) (now (im .entry))) 4 at (now (from .entry)) (now (to .entry)) ⌝ }
-{
-    let v = places::load_four(m, re, im, at, from);
-    places::store_four(to, at, formulas::four(m, re, im, v));
-}
-
-fn five_at<'a>(
-    m: u32,
-    re: &'a [u32; 2880],
-    im: &'a [u32; 2880],
-    at: Places,
-    from: &[u32],
-    to: &mut [u32],
-)
-    requires { ⌜ IsModulus m × RootTable m (now re) (now im) ⌝ }
-    requires { ⌜ Reads 5 at (now from) × Stores 5 at (now to) × Below (prime m) (now from) ⌝ }
-    ensures { λ _. ⌜ now (to .exit) ≡ summed m (tableRoot m (now (re .entry)) (now (im .entry))) 5 at (now (from .entry)) (now (to .entry)) ⌝ }
-{
-    let v = places::load_five(m, re, im, at, from);
-    places::store_five(to, at, formulas::five(m, re, im, v));
 }

@@ -1,0 +1,31 @@
+-- The values are read one after the other.
+use lib.Dec.{lit<}
+use Rattle.numbers.specs.Root.{tableRoot}
+use Rattle.butterflies.proofs.Cases.{below-4}
+use Rattle.butterflies.specs.Butterfly.{ofFourSums}
+use Rattle.places.specs.Places.{Loaded}
+use Rattle.radices.proofs.loads.load_four.Statement.{statement}
+use Rattle.radices.proofs.loads.load_four.Tie as tie
+
+turned-at-requires : tie.Need-turned-at-requires
+turned-at-requires c κs = let s = c .before in (s .pre .0, (s .pre .1 .0 .inside 0 (lit< tt), s .pre .1 .0 .exponents 0 (lit< tt), s .pre .1 .1))
+
+turned-at-requires-2 : tie.Need-turned-at-requires-2
+turned-at-requires-2 c κs = let s = c .before .before in (s .pre .0, (s .pre .1 .0 .inside 1 (lit< tt), s .pre .1 .0 .exponents 1 (lit< tt), s .pre .1 .1))
+
+turned-at-requires-3 : tie.Need-turned-at-requires-3
+turned-at-requires-3 c κs = let s = c .before .before .before in (s .pre .0, (s .pre .1 .0 .inside 2 (lit< tt), s .pre .1 .0 .exponents 2 (lit< tt), s .pre .1 .1))
+
+turned-at-requires-4 : tie.Need-turned-at-requires-4
+turned-at-requires-4 c κs = let s = c .before .before .before .before in (s .pre .0, (s .pre .1 .0 .inside 3 (lit< tt), s .pre .1 .0 .exponents 3 (lit< tt), s .pre .1 .1))
+
+returns : tie.Need-returns
+returns c =
+    let at-turned-at3 = c .before in
+    let at-turned-at2 = at-turned-at3 .before in
+    let at-turned-at = at-turned-at2 .before in
+    let s = at-turned-at .before .before in
+    record { each = below-4 (λ b. Loaded (s .args .m) (tableRoot (s .args .m) (s .args .re .now) (s .args .im .now)) (s .args .at) (s .args .from .now) b (ofFourSums _ b)) (at-turned-at .turned-at .ensures) (at-turned-at2 .turned-at2 .ensures) (at-turned-at3 .turned-at3 .ensures) (c .turned-at4 .ensures) }
+
+pub load-four-spec : {M : Type 1} → statement M
+load-four-spec = tie.close (tie.spec turned-at-requires turned-at-requires-2 turned-at-requires-3 turned-at-requires-4 returns)

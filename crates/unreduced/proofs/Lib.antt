@@ -1,0 +1,2 @@
+pub mod Unreduced
+pub mod Turns

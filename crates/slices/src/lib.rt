@@ -1,11 +1,11 @@
-// Pairs in a slice of u32: read, stored, cleared, copied, gathered, scattered and scanned. The pair at place j is the
-// numbers 2 j and 2 j + 1. Nothing here computes with the values.
+// Pairs in a slice of u32: read, stored, cleared, copied and scanned. The pair at place j is the numbers 2 j and 2 j + 1.
+// Nothing here computes with the values.
 use numbers::Pair;
 ghost use mathlib.Core.Path.{_≡_};
 ghost use Prim.Native.Nat.{_+_, _*_, _<_, _≤_};
 ghost use mathlib.Core.List.{_++_};
 ghost use lib.ListN.{length, replicate, drop};
-ghost use Rattle.slices.specs.Pairs.{at, put, puts, fills, allBelow};
+ghost use Rattle.slices.specs.Pairs.{at, put, fills, allBelow};
 
 // The pair at place j.
 pub fn get(s: &[u32], j: usize) -> Pair
@@ -50,32 +50,6 @@ pub fn copy(src: &[u32], dst: &mut [u32], n: usize)
     let mut j = 0;
     while j < n {
         store(dst, j, get(src, j));
-        j += 1;
-    }
-}
-
-// The pairs at start, start + stride, .. of s go to places 0, 1, .. of d. The last of the n places lies inside s.
-pub fn gather(s: &[u32], start: usize, stride: usize, d: &mut [u32], n: usize)
-    requires { ⌜ 2 * (start + n * stride) + 2 ≤ length (now s) + 2 * stride ⌝ }
-    requires { ⌜ 2 * n ≤ length (now d) ⌝ }
-    ensures { λ _. ⌜ now (d .exit) ≡ fills (λ j. at (now (s .entry)) (start + j * stride)) n (now (d .entry)) ⌝ }
-{
-    let mut j = 0;
-    while j < n {
-        store(d, j, get(s, start + j * stride));
-        j += 1;
-    }
-}
-
-// Its inverse: the pairs at 0, 1, .. of s go to places start, start + stride, .. of d.
-pub fn scatter(s: &[u32], start: usize, stride: usize, d: &mut [u32], n: usize)
-    requires { ⌜ 2 * n ≤ length (now s) ⌝ }
-    requires { ⌜ 2 * (start + n * stride) + 2 ≤ length (now d) + 2 * stride ⌝ }
-    ensures { λ _. ⌜ now (d .exit) ≡ puts (λ j. start + j * stride) (at (now (s .entry))) n (now (d .entry)) ⌝ }
-{
-    let mut j = 0;
-    while j < n {
-        store(d, start + j * stride, get(s, j));
         j += 1;
     }
 }

@@ -28,10 +28,10 @@ pub fn turn_gathered<'a>(
     requires { ⌜ Lent (now scratch) (now fold) (now work) ⌝ }
     ensures { λ _. ⌜ (now (volume .exit) ≡ gatheredTurn line (now (volume .entry))) × Kept (now (scratch .entry)) (now (scratch .exit)) ⌝ }
 {
-    slices::gather(volume, line.start, line.stride, scratch, line.count);
+    gathering::gather(volume, line.start, line.stride, scratch, line.count);
     let size = 2 * line.count;
     turn_packed(m, line, re, im, tan, &mut scratch[..size], fold, work);
-    slices::scatter(scratch, line.start, line.stride, volume, line.count);
+    gathering::scatter(scratch, line.start, line.stride, volume, line.count);
 }
 
 // The numbers of a packed line.

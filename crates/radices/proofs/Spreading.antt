@@ -13,7 +13,7 @@ use Rattle.slices.proofs.Pairs.{puts-next, puts-ext}
 use Rattle.unreduced.specs.Unreduced.{meant}
 use Rattle.butterflies.specs.Outer.{e, outerAt}
 use Rattle.butterflies.specs.Butterfly.{AllRoom, Butterfly}
-use Rattle.places.specs.declared.Places.{Places}
+use Rattle.twiddles.specs.declared.Places.{Places}
 use Rattle.radices.specs.Summed.{spread, summed, AllLoaded}
 
 module _ (p : Places) (f : ℕ → Pair) (d₀ : List ℕ) where

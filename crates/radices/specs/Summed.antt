@@ -7,8 +7,8 @@ use Rattle.numbers.specs.declared.Accumulator.{Accumulator}
 use Rattle.numbers.specs.Value.{Value, field, pairOf}
 use Rattle.slices.specs.Pairs.{puts}
 use Rattle.butterflies.specs.Outer.{outerAt}
-use Rattle.places.specs.declared.Places.{Places}
-use Rattle.places.specs.Places.{turned, Loaded}
+use Rattle.twiddles.specs.declared.Places.{Places}
+use Rattle.twiddles.specs.Places.{turned, Loaded}
 
 -- d with f 0, f 1, .. at the places of the first B sums
 abbrev pub spread : Places → (ℕ → Pair) → (B : ℕ) → List ℕ → List ℕ

@@ -1,6 +1,6 @@
 // One butterfly of a step of equation (3) of document 001, by its radix: its values are read at their places and multiplied by their
 // factors, summed, and the sums stored at theirs (specs/Summed.antt).
-use places::Places;
+use twiddles::Places;
 ghost use mathlib.Core.Path.{_≡_};
 ghost use Prim.Native.Nat.{_≤_};
 ghost use Rattle.numbers.specs.Prime.{prime, IsModulus};

@@ -3,7 +3,7 @@ use butterflies::FiveSums;
 use butterflies::FourSums;
 use butterflies::ThreeSums;
 use butterflies::TwoSums;
-use places::Places;
+use twiddles::Places;
 ghost use Rattle.numbers.specs.Prime.{prime, IsModulus};
 ghost use Rattle.numbers.specs.Root.{tableRoot, RootTable};
 ghost use Rattle.slices.specs.Pairs.{Below};
@@ -22,8 +22,8 @@ pub fn load_two<'a>(
     ensures { λ r. ⌜ AllLoaded m (tableRoot m (now (re .entry)) (now (im .entry))) 2 at (now (from .entry)) (ofTwoSums r) ⌝ }
 {
     TwoSums {
-        x0: places::turned_at(m, re, im, at, 0, from),
-        x1: places::turned_at(m, re, im, at, 1, from),
+        x0: twiddles::turned_at(m, re, im, at, 0, from),
+        x1: twiddles::turned_at(m, re, im, at, 1, from),
     }
 }
 
@@ -39,9 +39,9 @@ pub fn load_three<'a>(
     ensures { λ r. ⌜ AllLoaded m (tableRoot m (now (re .entry)) (now (im .entry))) 3 at (now (from .entry)) (ofThreeSums r) ⌝ }
 {
     ThreeSums {
-        x0: places::turned_at(m, re, im, at, 0, from),
-        x1: places::turned_at(m, re, im, at, 1, from),
-        x2: places::turned_at(m, re, im, at, 2, from),
+        x0: twiddles::turned_at(m, re, im, at, 0, from),
+        x1: twiddles::turned_at(m, re, im, at, 1, from),
+        x2: twiddles::turned_at(m, re, im, at, 2, from),
     }
 }
 
@@ -57,10 +57,10 @@ pub fn load_four<'a>(
     ensures { λ r. ⌜ AllLoaded m (tableRoot m (now (re .entry)) (now (im .entry))) 4 at (now (from .entry)) (ofFourSums r) ⌝ }
 {
     FourSums {
-        x0: places::turned_at(m, re, im, at, 0, from),
-        x1: places::turned_at(m, re, im, at, 1, from),
-        x2: places::turned_at(m, re, im, at, 2, from),
-        x3: places::turned_at(m, re, im, at, 3, from),
+        x0: twiddles::turned_at(m, re, im, at, 0, from),
+        x1: twiddles::turned_at(m, re, im, at, 1, from),
+        x2: twiddles::turned_at(m, re, im, at, 2, from),
+        x3: twiddles::turned_at(m, re, im, at, 3, from),
     }
 }
 
@@ -76,10 +76,10 @@ pub fn load_five<'a>(
     ensures { λ r. ⌜ AllLoaded m (tableRoot m (now (re .entry)) (now (im .entry))) 5 at (now (from .entry)) (ofFiveSums r) ⌝ }
 {
     FiveSums {
-        x0: places::turned_at(m, re, im, at, 0, from),
-        x1: places::turned_at(m, re, im, at, 1, from),
-        x2: places::turned_at(m, re, im, at, 2, from),
-        x3: places::turned_at(m, re, im, at, 3, from),
-        x4: places::turned_at(m, re, im, at, 4, from),
+        x0: twiddles::turned_at(m, re, im, at, 0, from),
+        x1: twiddles::turned_at(m, re, im, at, 1, from),
+        x2: twiddles::turned_at(m, re, im, at, 2, from),
+        x3: twiddles::turned_at(m, re, im, at, 3, from),
+        x4: twiddles::turned_at(m, re, im, at, 4, from),
     }
 }

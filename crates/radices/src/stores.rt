@@ -4,7 +4,7 @@ use butterflies::FourPairs;
 use butterflies::ThreePairs;
 use butterflies::TwoPairs;
 use numbers::Pair;
-use places::Places;
+use twiddles::Places;
 ghost use mathlib.Core.Path.{_≡_};
 ghost use Prim.Native.Nat.{_+_, _*_, _<_};
 ghost use lib.ListN.{length};

@@ -15,8 +15,8 @@ use Rattle.slices.specs.Values.{valuesOf}
 use Rattle.slices.proofs.Pairs.{lt-or-ge, eq-or-ne, length-puts, at-puts, at-puts-other, is-tab}
 use Rattle.slices.proofs.Rows.{row-end, rows-wide, row-inj, row-split, block-inj, block-end}
 use Rattle.butterflies.specs.Outer.{outerAt}
-use Rattle.places.specs.declared.Places.{Places}
-use Rattle.places.specs.Places.{turned}
+use Rattle.twiddles.specs.declared.Places.{Places}
+use Rattle.twiddles.specs.Places.{turned}
 use Rattle.radices.specs.Summed.{spread, summed, Reads, Stores}
 use Rattle.steps.specs.Steps.{twiddled, outerSum, Splits}
 use Rattle.steps.proofs.Sizes.{whole-le, product-le, outer-pos, outer-share, twiddle-turn}

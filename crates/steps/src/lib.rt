@@ -2,10 +2,10 @@
 //
 // `inner` is the paper's A, the length of the inner sums that the slice `from` holds, `outer` its B, the factor of the step, and `lines`
 // the number M of lines. The inner sums are multiplied by e(b s/AB) and summed over b into the slice `to`, all B sums of a place by one
-// butterfly: its B values are read and multiplied by their factors (crate `places`), and the products are added without being reduced before.
+// butterfly: its B values are read and multiplied by their factors (crate `twiddles`), and the products are added without being reduced before.
 //
 // The roots are lent as tables of the powers of W: those of r, or those of its conjugate for the other direction.
-use places::Places;
+use twiddles::Places;
 ghost use mathlib.Core.Path.{_≡_};
 ghost use Prim.Native.Nat.{_*_};
 ghost use lib.ListN.{length};

@@ -3,7 +3,7 @@ use lib.Dec.{lit<}
 use Rattle.numbers.specs.Root.{tableRoot}
 use Rattle.butterflies.proofs.Cases.{below-4}
 use Rattle.butterflies.specs.Butterfly.{ofFourSums}
-use Rattle.places.specs.Places.{Loaded}
+use Rattle.twiddles.specs.Places.{Loaded}
 use Rattle.radices.proofs.loads.load_four.Statement.{statement}
 use Rattle.radices.proofs.loads.load_four.Tie as tie
 

@@ -3,7 +3,7 @@ use lib.Dec.{lit<}
 use Rattle.numbers.specs.Root.{tableRoot}
 use Rattle.butterflies.proofs.Cases.{below-3}
 use Rattle.butterflies.specs.Butterfly.{ofThreeSums}
-use Rattle.places.specs.Places.{Loaded}
+use Rattle.twiddles.specs.Places.{Loaded}
 use Rattle.radices.proofs.loads.load_three.Statement.{statement}
 use Rattle.radices.proofs.loads.load_three.Tie as tie
 

@@ -3,7 +3,7 @@ use lib.Dec.{lit<}
 use Rattle.numbers.specs.Root.{tableRoot}
 use Rattle.butterflies.proofs.Cases.{below-2}
 use Rattle.butterflies.specs.Butterfly.{ofTwoSums}
-use Rattle.places.specs.Places.{Loaded}
+use Rattle.twiddles.specs.Places.{Loaded}
 use Rattle.radices.proofs.loads.load_two.Statement.{statement}
 use Rattle.radices.proofs.loads.load_two.Tie as tie
 

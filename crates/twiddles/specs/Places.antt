@@ -7,7 +7,7 @@ use Rattle.numbers.specs.declared.Accumulator.{Accumulator}
 use Rattle.numbers.specs.Value.{Value, field}
 use Rattle.slices.specs.Values.{valuesOf}
 use Rattle.unreduced.specs.Unreduced.{meant, Room}
-use Rattle.places.specs.declared.Places.{Places}
+use Rattle.twiddles.specs.declared.Places.{Places}
 
 -- the value for b times its factor W^(b k)
 unfoldable pub turned : (m : ℕ) → Value m → Places → List ℕ → ℕ → Value m

@@ -4,9 +4,9 @@ use native.Mathlib.Omega.{arith}
 use Rattle.numbers.proofs.Primes.{prime-most}
 use Rattle.slices.proofs.Bounds.{small-of}
 use Rattle.unreduced.proofs.Turns.{root-small}
-use Rattle.places.proofs.Loading.{loaded-one, loaded-product}
-use Rattle.places.proofs.turned_at.Statement.{statement}
-use Rattle.places.proofs.turned_at.Tie as tie
+use Rattle.twiddles.proofs.Loading.{loaded-one, loaded-product}
+use Rattle.twiddles.proofs.turned_at.Statement.{statement}
+use Rattle.twiddles.proofs.turned_at.Tie as tie
 
 mul-k : tie.Need-mul-k
 mul-k c = search needs

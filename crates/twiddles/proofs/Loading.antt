@@ -12,8 +12,8 @@ use Rattle.numbers.proofs.Values.{field-ring}
 use Rattle.slices.specs.Pairs.{at}
 use Rattle.unreduced.proofs.Turns.{root-value}
 use Rattle.unreduced.specs.Unreduced.{meant, Room}
-use Rattle.places.specs.declared.Places.{Places}
-use Rattle.places.specs.Places.{turned, Loaded}
+use Rattle.twiddles.specs.declared.Places.{Places}
+use Rattle.twiddles.specs.Places.{turned, Loaded}
 
 module _ (m : ℕ) (p : Places) (l : List ℕ) (b : ℕ) {v : Pair} {a : Accumulator} (read : v ≡ at l (b * p .stride + p .first)) where
   pub loaded-one : (W : Value m) → b * p .k ≡ 0 → Room 182890310402 a → meant m a ≡ valueOf m v → Loaded m W p l b a

@@ -1,12 +1,13 @@
-// The places of one butterfly of a step of equation (3) of document 001: its values are read a stride apart and multiplied by their
-// factors e(b s/AB), and its sums go to places a gap apart. This crate reads one value; the butterflies by their radix are crate `radices`.
+// The values of one butterfly of a step of equation (3) of document 001 and their twiddle factors: they are read a stride apart and
+// multiplied by e(b s/AB), and the butterfly's sums go to places a gap apart. This crate reads one value; the butterflies by their
+// radix are crate `radices`.
 use numbers::Accumulator;
 ghost use Prim.Native.Nat.{_+_, _*_, _<_};
 ghost use lib.ListN.{length};
 ghost use Rattle.numbers.specs.Prime.{prime, IsModulus};
 ghost use Rattle.numbers.specs.Root.{tableRoot, RootTable};
 ghost use Rattle.slices.specs.Pairs.{Below};
-ghost use Rattle.places.specs.Places.{Loaded};
+ghost use Rattle.twiddles.specs.Places.{Loaded};
 
 // The value for b is read at first + b stride and has the factor W^(b k). The sum for c goes to base + c gap.
 pub struct Places {

@@ -1,7 +1,7 @@
 #!/usr/bin/env python3
-"""The constant tables of the root's powers, as crates/roots/src/lib.rt has them.
+"""The constant tables of the root's powers, as src/lib.rt of crates/cosines (real parts) and crates/roots (the others) has them.
 
-    python3 tools/root_tables.py        prints the six arrays, for the end of that file
+    python3 tools/root_tables.py        prints the six arrays, for the ends of those files
 
 For each prime p = 2,880 c - 1: r = ((a + i)/(a - i))^c for the least a from 1 upward for which r has order 2,880 and
 r^720 = -i, the real and the imaginary parts of r^k for k < 2,880, and the half tangents d/(1 + c) of r^k = c + d i for

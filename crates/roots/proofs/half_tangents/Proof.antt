@@ -5,7 +5,7 @@ use Rattle.numbers.specs.Prime.{prime}
 use Rattle.numbers.specs.Root.{TangentTable}
 use Rattle.numbers.proofs.Primes.{first-modulus, second-modulus}
 use Rattle.numbers.proofs.RootCases.{second}
-use Rattle.roots.proofs.Tables.{tangent-table}
+use Rattle.cosines.proofs.Tables.{tangent-table}
 use Rattle.roots.proofs.half_tangents.Statement.{statement}
 use Rattle.roots.proofs.half_tangents.Tie as tie
 

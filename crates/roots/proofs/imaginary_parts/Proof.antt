@@ -5,7 +5,7 @@ use Rattle.numbers.specs.Prime.{prime}
 use Rattle.numbers.specs.Root.{ImaginaryTable}
 use Rattle.numbers.proofs.Primes.{first-modulus, second-modulus}
 use Rattle.numbers.proofs.RootCases.{second}
-use Rattle.roots.proofs.Tables.{imaginary-table}
+use Rattle.cosines.proofs.Tables.{imaginary-table}
 use Rattle.roots.proofs.imaginary_parts.Statement.{statement}
 use Rattle.roots.proofs.imaginary_parts.Tie as tie
 

@@ -5,9 +5,9 @@ use Rattle.numbers.specs.Prime.{prime}
 use Rattle.numbers.specs.Root.{RealTable}
 use Rattle.numbers.proofs.Primes.{first-modulus, second-modulus}
 use Rattle.numbers.proofs.RootCases.{second}
-use Rattle.roots.proofs.Tables.{real-table}
-use Rattle.roots.proofs.real_parts.Statement.{statement}
-use Rattle.roots.proofs.real_parts.Tie as tie
+use Rattle.cosines.proofs.Tables.{real-table}
+use Rattle.cosines.proofs.real_parts.Statement.{statement}
+use Rattle.cosines.proofs.real_parts.Tie as tie
 
 returns : tie.Need-returns
 unfolding passes prime

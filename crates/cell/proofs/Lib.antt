@@ -11,5 +11,4 @@ pub mod Points
 pub mod OperationLaws
 pub mod PlaceLaws
 pub mod Scans
-pub mod ReadingLaws
 pub mod StoredFactors

@@ -2,8 +2,6 @@
 // place, by rising h, k, l. Counting and writing each go over the places of a line, of a plane and of the cell.
 use crate::bytes;
 use cell::operations::Index;
-use cell::readings;
-use cell::stored;
 use numbers::Pair;
 ghost use mathlib.Core.Path.{_≡_};
 ghost use mathlib.Core.List.{[], _∷_};

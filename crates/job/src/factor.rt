@@ -4,7 +4,6 @@ use crate::Job;
 use crate::Reflection;
 use crate::valid;
 use cell::operations::Index;
-use cell::readings;
 use refusal_order::Checked;
 ghost use mathlib.Core.Path.{_≡_};
 ghost use Rattle.job.specs.Steps.{factorStep};

@@ -1,6 +1,5 @@
 // The tests of a factor's reading.
 use cell::operations::Index;
-use cell::readings;
 use refusal_order::Checked;
 use refusal_order::Refusal;
 use refusals::tests;

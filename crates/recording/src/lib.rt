@@ -5,8 +5,6 @@ use cell::operations;
 use cell::operations::Index;
 use cell::operations::Operation;
 use cell::places;
-use cell::readings;
-use cell::stored;
 use numbers::Pair;
 ghost use mathlib.Core.Path.{_≡_};
 ghost use mathlib.Core.Bool.{cond};

@@ -3,13 +3,13 @@ use borrow.Author.Needs.{needs}
 use mathlib.Core.Path.{sym, _∙_, ap}
 use Rattle.numbers.specs.Prime.{prime}
 use Rattle.numbers.proofs.Values.{small-by}
 use Rattle.cell.specs.Volume.{groupOf}
 use Rattle.cell.specs.Operations.{halvesOf, tripleOf}
 use Rattle.cell.specs.Places.{allBelowAt}
 use Rattle.cell.proofs.PlaceLaws.{column-numbers}
-use Rattle.cell.proofs.ReadingLaws.{own-column, mate-column}
-use Rattle.cell.proofs.readings.factor_at.Statement.{statement}
-use Rattle.cell.proofs.readings.factor_at.Tie as tie
+use Rattle.readings.proofs.ReadingLaws.{own-column, mate-column}
+use Rattle.readings.proofs.factor_at.Statement.{statement}
+use Rattle.readings.proofs.factor_at.Tie as tie
 
 stored-column-requires : tie.Need-stored-column-requires
 stored-column-requires c κs = search needs

@@ -6,13 +6,13 @@ use native.Mathlib.Omega.{arith}
 use Rattle.algebra.specs.Cell.{J, im, span}
 use Rattle.numbers.specs.Prime.{prime}
 use Rattle.numbers.proofs.Values.{small-by}
 use Rattle.cell.specs.Volume.{groupOf}
 use Rattle.cell.specs.Operations.{halvesOf, tripleOf, symOf}
 use Rattle.cell.specs.Places.{allBelowAt, lineNumbersAt}
 use Rattle.cell.proofs.PlaceLaws.{inside-of}
-use Rattle.cell.proofs.ReadingLaws.{beyond-image, beyond-value}
-use Rattle.cell.proofs.readings.line_value.Statement.{statement}
-use Rattle.cell.proofs.readings.line_value.Tie as tie
+use Rattle.readings.proofs.ReadingLaws.{beyond-image, beyond-value}
+use Rattle.readings.proofs.line_value.Statement.{statement}
+use Rattle.readings.proofs.line_value.Tie as tie
 
 -- the image is stored, and read from the same numbers
 beyond : (c : tie.After-line-operation) {i : J} → let s = c .before .before .before .before .before in let a = s .args in i ≡ im (halvesOf (a .n1) (a .n2) (a .n3)) (symOf (c .line-operation .result)) (tripleOf (a .j))

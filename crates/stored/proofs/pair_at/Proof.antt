@@ -2,8 +2,8 @@
 use borrow.Author.Needs.{needs}
 use mathlib.Core.Path.{_∙_, ap}
 use Rattle.slices.specs.Pairs.{at}
-use Rattle.cell.proofs.stored.pair_at.Statement.{statement}
-use Rattle.cell.proofs.stored.pair_at.Tie as tie
+use Rattle.stored.proofs.pair_at.Statement.{statement}
+use Rattle.stored.proofs.pair_at.Tie as tie
 
 pair-place-requires : tie.Need-pair-place-requires
 pair-place-requires c κs = search needs

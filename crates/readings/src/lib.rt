@@ -1,9 +1,9 @@
-// The factor at any index of the cell, read from a volume of packed factors.
-use crate::operations;
-use crate::operations::Index;
-use crate::places;
-use crate::places::Run;
-use crate::stored;
+// The factor at any index of the cell, read from a volume of packed factors: the one at its own stored place, or what the
+// one at the stored index of its orbit implies; and whether the numbers it is read from are residues.
+use cell::operations;
+use cell::operations::Index;
+use cell::places;
+use cell::places::Run;
 use numbers::Pair;
 ghost use mathlib.Core.Path.{_≡_};
 ghost use mathlib.Core.Bool.{true};

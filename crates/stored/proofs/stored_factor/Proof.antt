@@ -2,12 +2,12 @@
 use borrow.Author.Needs.{needs}
 use mathlib.Core.Path.{sym, _∙_, subst}
 use native.Mathlib.Omega.{arith}
 use Rattle.cell.specs.Volume.{groupOf}
 use Rattle.cell.specs.Operations.{halvesOf, tripleOf}
 use Rattle.cell.specs.TestSteps.{IsVolume, IsStored}
 use Rattle.cell.proofs.StoredFactors.{stored-inside, Reads, pair-reads, stored-pair, absent-value}
-use Rattle.cell.proofs.stored.stored_factor.Statement.{statement}
-use Rattle.cell.proofs.stored.stored_factor.Tie as tie
+use Rattle.stored.proofs.stored_factor.Statement.{statement}
+use Rattle.stored.proofs.stored_factor.Tie as tie
 
 alternating-factor-requires : tie.Need-alternating-factor-requires
 alternating-factor-requires c κs =

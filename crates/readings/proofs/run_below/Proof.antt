@@ -3,10 +3,10 @@ use mathlib.Core.Path.{_≡_}
 use Prim.Native.Nat.{_+_, _-_, _≤_}
 use native.Mathlib.Omega.{arith}
 use borrow.Author.Tests.{lt-ltb, le-ltb}
 use Rattle.cell.specs.Places.{run, allBelowAt}
 use Rattle.cell.proofs.Scans.{run-start, run-next, run-stop, run-end}
-use Rattle.cell.proofs.readings.run_below.Statement.{statement}
-use Rattle.cell.proofs.readings.run_below.Tie as tie
+use Rattle.readings.proofs.run_below.Statement.{statement}
+use Rattle.readings.proofs.run_below.Tie as tie
 
 abbrev Inv-loop : tie.InvT-loop
 Inv-loop p volume first count i₀ i = (i ≤ count) × (allBelowAt p volume (run first count) ≡ allBelowAt p volume (run (first + i) (count - i)))

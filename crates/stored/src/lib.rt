@@ -1,6 +1,9 @@
 // What stands at the stored places of a volume: a pair, a factor, the number of a point.
-use crate::operations::Index;
-use crate::places;
+//
+// A crate of its own because the tests of refusal 14 and the readings of a factor both stand on it, and the layout of a
+// volume (`cell`) is known without reading one.
+use cell::operations::Index;
+use cell::places;
 use numbers::Pair;
 ghost use mathlib.Core.Path.{_≡_};
 ghost use mathlib.Core.Bool.{true};

@@ -2,9 +2,9 @@
 use borrow.Author.Needs.{needs}
 use mathlib.Core.Path.{ap}
 use lib.ListN.{getD}
 use Rattle.cell.proofs.StoredFactors.{number-place}
-use Rattle.cell.proofs.stored.stored_number.Statement.{statement}
-use Rattle.cell.proofs.stored.stored_number.Tie as tie
+use Rattle.stored.proofs.stored_number.Statement.{statement}
+use Rattle.stored.proofs.stored_number.Tie as tie
 
 pair-place-requires : tie.Need-pair-place-requires
 pair-place-requires c κs = search needs

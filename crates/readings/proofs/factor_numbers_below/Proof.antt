@@ -1,9 +1,9 @@
 -- The numbers of the factor are a run.
 use borrow.Author.Needs.{needs}
 use mathlib.Core.Path.{_∙_, ap}
 use Rattle.cell.specs.Places.{allBelowAt}
-use Rattle.cell.proofs.readings.factor_numbers_below.Statement.{statement}
-use Rattle.cell.proofs.readings.factor_numbers_below.Tie as tie
+use Rattle.readings.proofs.factor_numbers_below.Statement.{statement}
+use Rattle.readings.proofs.factor_numbers_below.Tie as tie
 
 factor-numbers-requires : tie.Need-factor-numbers-requires
 factor-numbers-requires c κs = search needs

@@ -1,10 +1,10 @@
 -- The ends are one number each of pair 0.
 use mathlib.Core.Path.{refl}
 use native.Mathlib.Omega.{arith}
 use Rattle.cell.proofs.PlaceLaws.{alternating-half}
 use Rattle.cell.proofs.StoredFactors.{first-inside, middle-inside, first-value, second-value-even, second-value-odd, middle-value}
-use Rattle.cell.proofs.stored.alternating_factor.Statement.{statement}
-use Rattle.cell.proofs.stored.alternating_factor.Tie as tie
+use Rattle.stored.proofs.alternating_factor.Statement.{statement}
+use Rattle.stored.proofs.alternating_factor.Tie as tie
 
 pair-at-requires : tie.Need-pair-at-requires
 pair-at-requires c κs = let p = c .before .before .before .pre in first-inside (p .0) (p .1)

@@ -9,9 +9,9 @@ use Rattle.cell.specs.Volume.{groupOf}
 use Rattle.cell.specs.Consistency.{orbitFree}
 use Rattle.cell.specs.Operations.{halvesOf, tripleOf, symOf}
 use Rattle.cell.proofs.Scans.{every-next, every-stop, every-end}
-use Rattle.recording.proofs.RecordLaws.{freeUnder, orbit-start, image-free}
-use Rattle.recording.proofs.orbit_free.Statement.{statement}
-use Rattle.recording.proofs.orbit_free.Tie as tie
+use Rattle.record_tests.proofs.TestLaws.{freeUnder, orbit-start, image-free}
+use Rattle.record_tests.proofs.orbit_free.Statement.{statement}
+use Rattle.record_tests.proofs.orbit_free.Tie as tie
 
 abbrev Inv-loop : tie.InvT-loop
 Inv-loop group n1 n2 n3 j volume count i₀ i = orbitFree (groupOf group) (halvesOf n1 n2 n3) volume (tripleOf j) ≡ every (drop i (full (groupOf group))) (freeUnder (groupOf group) (halvesOf n1 n2 n3) volume (tripleOf j))

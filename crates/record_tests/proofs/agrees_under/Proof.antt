@@ -1,9 +1,9 @@
 -- The value is asked only where the image is the index itself.
 use borrow.Author.Needs.{needs}
 use Rattle.cell.specs.Operations.{halvesOf, tripleOf, symOf}
-use Rattle.recording.proofs.RecordLaws.{same-agrees, other-agrees}
-use Rattle.recording.proofs.agrees_under.Statement.{statement}
-use Rattle.recording.proofs.agrees_under.Tie as tie
+use Rattle.record_tests.proofs.TestLaws.{same-agrees, other-agrees}
+use Rattle.record_tests.proofs.agrees_under.Statement.{statement}
+use Rattle.record_tests.proofs.agrees_under.Tie as tie
 
 image-requires : tie.Need-image-requires
 image-requires c κs = search needs

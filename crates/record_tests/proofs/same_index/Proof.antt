@@ -1,7 +1,7 @@
 -- One test after the other.
 use borrow.Author.Tests.{eq-eqb, ne-eqb}
-use Rattle.recording.proofs.same_index.Statement.{statement}
-use Rattle.recording.proofs.same_index.Tie as tie
+use Rattle.record_tests.proofs.same_index.Statement.{statement}
+use Rattle.record_tests.proofs.same_index.Tie as tie
 
 returns : tie.Need-returns
 returns c = rw (eq-eqb _ _ (c .before .before .before .before .before .if1 .taken), eq-eqb _ _ (c .before .before .if2 .taken))

@@ -1,7 +1,7 @@
 -- By the parity.
 use Rattle.cell.proofs.PlaceLaws.{even-is, odd-is}
-use Rattle.recording.proofs.alternating_part.Statement.{statement}
-use Rattle.recording.proofs.alternating_part.Tie as tie
+use Rattle.storing.proofs.alternating_part.Statement.{statement}
+use Rattle.storing.proofs.alternating_part.Tie as tie
 
 returns : tie.Need-returns
 returns c = rw (even-is _ (c .if1 .taken))

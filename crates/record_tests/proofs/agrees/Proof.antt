@@ -10,9 +10,9 @@ use Rattle.cell.specs.Volume.{groupOf}
 use Rattle.cell.specs.Consistency.{agreesWithItself}
 use Rattle.cell.specs.Operations.{halvesOf, tripleOf}
 use Rattle.cell.proofs.Scans.{every-next, every-stop, every-end}
-use Rattle.recording.proofs.RecordLaws.{agreesUnder, agrees-start}
-use Rattle.recording.proofs.agrees.Statement.{statement}
-use Rattle.recording.proofs.agrees.Tie as tie
+use Rattle.record_tests.proofs.TestLaws.{agreesUnder, agrees-start}
+use Rattle.record_tests.proofs.agrees.Statement.{statement}
+use Rattle.record_tests.proofs.agrees.Tie as tie
 
 abbrev Inv-loop : tie.InvT-loop
 Inv-loop m group n1 n2 n3 j x count i₀ i = agreesWithItself (groupOf group) (halvesOf n1 n2 n3) m (tripleOf j) (valueOf m x) ≡ every (drop i (full (groupOf group))) (agreesUnder (halvesOf n1 n2 n3) m (tripleOf j) (valueOf m x))

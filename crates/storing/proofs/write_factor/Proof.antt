@@ -5,9 +5,9 @@ use native.Mathlib.Omega.{arith}
 use Rattle.cell.specs.Volume.{groupOf, volumeLength}
 use Rattle.cell.specs.Operations.{halvesOf}
 use Rattle.cell.proofs.PlaceLaws.{alternating-half, pair-inside, stored-layer}
-use Rattle.recording.proofs.RecordLaws.{alternating-written, factor-written}
-use Rattle.recording.proofs.write_factor.Statement.{statement}
-use Rattle.recording.proofs.write_factor.Tie as tie
+use Rattle.storing.proofs.WrittenFactors.{alternating-written, factor-written}
+use Rattle.storing.proofs.write_factor.Statement.{statement}
+use Rattle.storing.proofs.write_factor.Tie as tie
 
 write-alternating-requires : tie.Need-write-alternating-requires
 write-alternating-requires c κs =

@@ -2,9 +2,9 @@
 use borrow.Author.Needs.{needs}
 use native.Mathlib.Omega.{arith}
 use Rattle.cell.proofs.PlaceLaws.{first-inside, middle-inside}
-use Rattle.recording.proofs.RecordLaws.{first-written, second-written, pair-written}
-use Rattle.recording.proofs.write_alternating.Statement.{statement}
-use Rattle.recording.proofs.write_alternating.Tie as tie
+use Rattle.storing.proofs.WrittenFactors.{first-written, second-written, pair-written}
+use Rattle.storing.proofs.write_alternating.Statement.{statement}
+use Rattle.storing.proofs.write_alternating.Tie as tie
 
 pair-place-requires : tie.Need-pair-place-requires
 pair-place-requires c κs = search needs

@@ -9,7 +9,7 @@ use Rattle.algebra.specs.Line.{re, im, unit, weave, pack-by, unfoldB3, packB3}
 use Rattle.algebra.specs.Folds.{mate, csc, cot, woven, finish3, slant, twice-M, line3}
 use Rattle.algebra.specs.Kinds.{Kind.alternating, slots, fold-forward, fold-back}
 use Rattle.numbers.specs.Value.{Residue, Value, field, conj, i, res, real, half}
-use Rattle.numbers.specs.Root.{tableRoot}
+use Rattle.root.specs.Root.{tableRoot}
 use Rattle.numbers.proofs.Residues.{res-by}
 use Rattle.numbers.proofs.Values.{field-star}
 use Rattle.slices.specs.Values.{valuesOf, listOf}

@@ -12,7 +12,7 @@ use Rattle.algebra.proofs.Laws.{neg-mul}
 use Rattle.algebra.proofs.Transform.{pow-mul}
 use Rattle.numbers.specs.declared.Pair.{Pair}
 use Rattle.numbers.specs.Value.{Value, field, conj, i, real, half, valueOf, pairOf}
-use Rattle.numbers.specs.Root.{entryAt, tableRoot}
+use Rattle.root.specs.Root.{entryAt, tableRoot}
 use Rattle.numbers.proofs.Values.{value-by, field-ring, field-star}
 use Rattle.folds.specs.Frame.{stride, lineRoot, Frame}
 use Rattle.folds.proofs.Frames.{stride-inside}

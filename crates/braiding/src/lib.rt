@@ -61,7 +61,7 @@ fn fold_at<'a>(
         braids::cross(m, x)
     } else {
         let y = numbers::conjugate(m, straight_at(m, anti, a - t, line));
-        braids::braid(m, numbers::tables::root_at(re, im, step * t), x, y)
+        braids::braid(m, root::root_at(re, im, step * t), x, y)
     }
 }
 
@@ -135,7 +135,7 @@ fn unfold_at<'a>(
         let v = numbers::scaled(
             m,
             c,
-            braids::unbraid(m, numbers::tables::root_at(re, im, step * t), x, y),
+            braids::unbraid(m, root::root_at(re, im, step * t), x, y),
         );
         if anti { numbers::times_i(m, v) } else { v }
     }

@@ -8,7 +8,7 @@ use Rattle.algebra.proofs.Laws.{pow-add, mul-one, neg-one-mul}
 use Rattle.algebra.proofs.Transform.{pow-zero, pow-suc, pow-mul, sign-even}
 use Rattle.numbers.specs.declared.Pair.{Pair}
 use Rattle.numbers.specs.Value.{Value, field, i, res, real, pairOf}
-use Rattle.numbers.specs.Root.{entryAt, tableRoot, RootTable}
+use Rattle.root.specs.Root.{entryAt, tableRoot, RootTable}
 use Rattle.numbers.proofs.Values.{field-ring}
 use Rattle.butterflies.specs.Outer.{outerAt}
 use Rattle.butterflies.specs.Butterfly.{Butterfly, evenPart, oddPart}

@@ -14,7 +14,7 @@ ghost use Rattle.algebra.specs.Ring.{Ops, pow};
 ghost use Rattle.numbers.specs.Prime.{IsModulus};
 ghost use Rattle.numbers.specs.Value.{Value, field, res, real, pairOf};
 ghost use Rattle.numbers.specs.Accumulator.{Accumulated};
-ghost use Rattle.numbers.specs.Root.{tableRoot, RootTable};
+ghost use Rattle.root.specs.Root.{tableRoot, RootTable};
 ghost use Rattle.unreduced.specs.Unreduced.{meant, Room};
 ghost use Rattle.butterflies.specs.Butterfly.{ofTwo, ofThree, ofFour, ofFive, ofTwoSums, ofThreeSums, ofFourSums, ofFiveSums, AllRoom, Butterfly, evenPart, oddPart};
 
@@ -103,7 +103,7 @@ pub fn three<'a>(m: u32, re: &'a [u32; 2880], im: &'a [u32; 2880], v: ThreeSums)
     let a = v.x0;
     let b = v.x1;
     let c = v.x2;
-    let w = numbers::tables::root_at(re, im, 960);
+    let w = root::root_at(re, im, 960);
     let t = unreduced::sum(b, c);
     let even = unreduced::sum(a, unreduced::scaled(w.re, t));
     let odd = unreduced::scaled(w.im, unreduced::turned(b, c));
@@ -151,8 +151,8 @@ pub fn five<'a>(m: u32, re: &'a [u32; 2880], im: &'a [u32; 2880], v: FiveSums) -
     let c = v.x2;
     let d = v.x3;
     let e = v.x4;
-    let w = numbers::tables::root_at(re, im, 576);
-    let z = numbers::tables::root_at(re, im, 1152);
+    let w = root::root_at(re, im, 576);
+    let z = root::root_at(re, im, 1152);
     let near = conjugates(m, w, z, a, b, c, d, e);
     let far = conjugates(m, z, w, a, b, d, c, e);
     let all = unreduced::sum(a, unreduced::sum(b, e));

@@ -13,7 +13,7 @@ use Rattle.algebra.proofs.ResidueRing.{residue-val, residue-mod, residue-add, r
 use Rattle.algebra.proofs.PowerTable.{passes, rule-at}
 use Rattle.numbers.specs.Prime.{prime, IsModulus}
 use Rattle.numbers.specs.Value.{field}
-use Rattle.numbers.specs.Root.{root, RealTable, ImaginaryTable, TangentTable}
+use Rattle.root.specs.Root.{root, RealTable, ImaginaryTable, TangentTable}
 
 -- the tests of a number x at the place of the power a + b i
 abbrev real : ℕ → ℕ → ℕ → Bool

@@ -6,7 +6,7 @@
 // for r and for its conjugate, in `roots` those that change their sign.
 ghost use mathlib.Core.Path.{_≡_};
 ghost use Rattle.numbers.specs.Prime.{IsModulus};
-ghost use Rattle.numbers.specs.Root.{RealTable};
+ghost use Rattle.root.specs.Root.{RealTable};
 
 pub fn real_parts(m: u32) -> [u32; 2880]
     requires { ⌜ IsModulus m ⌝ }

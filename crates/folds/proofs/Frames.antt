@@ -7,7 +7,7 @@ use native.Mathlib.Omega.{arith}
 use Rattle.algebra.specs.Ring.{pow}
 use Rattle.algebra.proofs.Transform.{pow-mul}
 use Rattle.numbers.specs.Value.{field}
-use Rattle.numbers.specs.Root.{tableRoot}
+use Rattle.root.specs.Root.{tableRoot}
 use Rattle.numbers.proofs.Values.{field-ring}
 use Rattle.slices.proofs.Rows.{row-end, rows-wide}
 use Rattle.folds.specs.Frame.{stride, lineRoot, Frame}

@@ -6,7 +6,7 @@ use Rattle.algebra.specs.Ring.{pow}
 use Rattle.algebra.specs.Fourier.{dft}
 use Rattle.algebra.proofs.Transform.{dft-cong}
 use Rattle.numbers.specs.Value.{Value, field}
-use Rattle.numbers.specs.Root.{tableRoot}
+use Rattle.root.specs.Root.{tableRoot}
 use Rattle.numbers.proofs.Values.{field-ring}
 use Rattle.slices.specs.Values.{valuesOf, listOf}
 use Rattle.slices.proofs.Values.{values-list}

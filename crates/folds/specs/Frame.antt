@@ -8,7 +8,7 @@ use lib.ListN.{getD}
 use Rattle.algebra.specs.Ring.{pow}
 use Rattle.numbers.specs.Prime.{prime, IsModulus}
 use Rattle.numbers.specs.Value.{Value, field, real, res}
-use Rattle.numbers.specs.Root.{tableRoot, RootTable}
+use Rattle.root.specs.Root.{tableRoot, RootTable}
 
 -- the step of the tables' places: e(k/N) is the power k (1440 / A) of the lent root
 abbrev pub stride : ℕ → ℕ

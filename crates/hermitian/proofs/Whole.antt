@@ -10,7 +10,7 @@ use Rattle.algebra.specs.Folds.{turned, back1}
 use Rattle.algebra.specs.Kinds.{slots, fold-forward, fold-back}
 use Rattle.algebra.proofs.Transform.{dft-cong}
 use Rattle.numbers.specs.Value.{Value, field, conj, i, res, real, half, part}
-use Rattle.numbers.specs.Root.{tableRoot}
+use Rattle.root.specs.Root.{tableRoot}
 use Rattle.numbers.proofs.Residues.{res-by}
 use Rattle.numbers.proofs.Values.{field-ring, field-star}
 use Rattle.slices.specs.Values.{valuesOf, listOf}

@@ -3,7 +3,7 @@ use mathlib.Core.Path.{_≡_, refl, sym, subst}
 use mathlib.Core.List.{List}
 use Prim.Native.Nat.{ℕ, zero, suc}
 use lib.ListN.{length}
-use Rattle.numbers.specs.Root.{RealTable, ImaginaryTable, TangentTable, NegatedTable}
+use Rattle.root.specs.Root.{RealTable, ImaginaryTable, TangentTable, NegatedTable}
 use Rattle.numbers.proofs.Primes.{first-modulus}
 use Rattle.kinds.proofs.Tables.{forward-tables, backward-tables}
 use Rattle.volume_lines.specs.Lines.{TablesOf}

@@ -3,7 +3,7 @@ use mathlib.Core.Path.{_≡_}
 use mathlib.Core.List.{List}
 use Prim.Native.Nat.{ℕ, zero, suc}
 use lib.ListN.{length}
-use Rattle.numbers.specs.Root.{NegatedTable}
+use Rattle.root.specs.Root.{NegatedTable}
 
 -- direction 0 takes a table as it is, direction 1 negated
 abbrev pub Turned : (direction : ℕ) (of u : List ℕ) → Type 0

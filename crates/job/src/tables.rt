@@ -1,6 +1,6 @@
 // The tables of a direction: those of the root for direction 0, and for direction 1 those of its conjugate, with the imaginary parts
 // and the half tangents negated.
-ghost use Rattle.numbers.specs.Root.{ImaginaryTable, TangentTable};
+ghost use Rattle.root.specs.Root.{ImaginaryTable, TangentTable};
 ghost use Rattle.job.specs.Tables.{Directed};
 
 // The imaginary parts of the powers.
@@ -11,7 +11,7 @@ pub fn imaginary_parts(direction: u32) -> [u32; 2880]
     if direction == 0 {
         return im;
     }
-    numbers::tables::negate(1, &mut im);
+    root::negate(1, &mut im);
     im
 }
 
@@ -23,6 +23,6 @@ pub fn half_tangents(direction: u32) -> [u32; 1440]
     if direction == 0 {
         return tan;
     }
-    numbers::tables::negate(1, &mut tan);
+    root::negate(1, &mut tan);
     tan
 }

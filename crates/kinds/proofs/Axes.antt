@@ -15,10 +15,10 @@ use Rattle.algebra.proofs.Transform.{pow-mul, root-of}
 use Rattle.algebra.proofs.Conj.{conj-pow}
 use Rattle.numbers.specs.Prime.{IsModulus}
 use Rattle.numbers.specs.Value.{Value, field, conj, i, real, half, part}
-use Rattle.numbers.specs.Root.{root, tableRoot, TangentLaws, BackwardTangents}
+use Rattle.root.specs.Root.{root, tableRoot, TangentLaws, BackwardTangents}
 use Rattle.numbers.proofs.Values.{field-ring, field-star, conj-real}
 use Rattle.numbers.proofs.Parts.{part-law, half-law}
-use Rattle.numbers.proofs.Roots.{root-of-unity, half-turn}
+use Rattle.root.proofs.Roots.{root-of-unity, half-turn}
 use Rattle.folds.specs.Frame.{lineRoot, tangent}
 use Rattle.kinds.specs.Transform.{rootOf, axisOf}
 

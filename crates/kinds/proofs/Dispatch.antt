@@ -11,7 +11,7 @@ use Rattle.algebra.specs.Fourier.{dft}
 use Rattle.algebra.specs.Kinds.{Kind, slots, fold-forward, fold-back}
 use Rattle.numbers.specs.Prime.{IsModulus}
 use Rattle.numbers.specs.Value.{Value, field, conj, i, res, real, half, part}
-use Rattle.numbers.specs.Root.{tableRoot, RootTable}
+use Rattle.root.specs.Root.{tableRoot, RootTable}
 use Rattle.numbers.proofs.Residues.{res-by}
 use Rattle.slices.specs.Values.{valuesOf, listOf}
 use Rattle.factors.specs.Factors.{Factored}

@@ -6,9 +6,9 @@ use lib.ListN.{length, getD}
 use Rattle.algebra.specs.Ring.{Ops}
 use Rattle.numbers.specs.Prime.{IsModulus}
 use Rattle.numbers.specs.Value.{ring, res}
-use Rattle.numbers.specs.Root.{RealTable, ImaginaryTable, TangentTable, NegatedTable}
+use Rattle.root.specs.Root.{RealTable, ImaginaryTable, TangentTable, NegatedTable}
 use Rattle.numbers.proofs.Residues.{below-by}
-use Rattle.numbers.proofs.RootLaws.{root-laws}
+use Rattle.root.proofs.RootLaws.{root-laws}
 use Rattle.kinds.specs.Tables.{ForwardTables, BackwardTables}
 
 module _ {m : ℕ} (is : IsModulus m) {re im tan : List ℕ} (hr : RealTable m re) (hi : ImaginaryTable m im) (ht : TangentTable m tan) where

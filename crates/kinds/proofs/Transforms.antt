@@ -12,7 +12,7 @@ use Rattle.algebra.proofs.FoldAll.{forward-is, back-is}
 use Rattle.algebra.proofs.Conj.{conj-pow}
 use Rattle.numbers.specs.Prime.{IsModulus}
 use Rattle.numbers.specs.Value.{Value, field, conj, i, real, half, part}
-use Rattle.numbers.specs.Root.{root, tableRoot}
+use Rattle.root.specs.Root.{root, tableRoot}
 use Rattle.numbers.proofs.Values.{field-ring, field-star}
 use Rattle.slices.specs.Values.{valuesOf, listOf}
 use Rattle.slices.proofs.Values.{list-cong}

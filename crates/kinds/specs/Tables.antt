@@ -3,7 +3,7 @@ use mathlib.Core.Path.{_≡_}
 use mathlib.Core.List.{List}
 use Prim.Native.Nat.{ℕ}
 use Rattle.numbers.specs.Value.{conj}
-use Rattle.numbers.specs.Root.{root, tableRoot, RootTable, TangentLaws, BackwardTangents}
+use Rattle.root.specs.Root.{root, tableRoot, RootTable, TangentLaws, BackwardTangents}
 use Rattle.folds.specs.Frame.{Tangents}
 
 -- the powers of the root, and its half tangents

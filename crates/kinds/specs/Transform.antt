@@ -6,7 +6,7 @@ use Rattle.algebra.specs.Ring.{pow}
 use Rattle.algebra.specs.Axis.{Axis}
 use Rattle.algebra.specs.Kinds.{Kind, forward, back}
 use Rattle.numbers.specs.Value.{Value, field, conj, i, half, part, real, valueOf, pairOf}
-use Rattle.numbers.specs.Root.{root}
+use Rattle.root.specs.Root.{root}
 use Rattle.slices.specs.Pairs.{at, tab}
 use Rattle.lengths.specs.Counts.{kindOf, pairCount}
 

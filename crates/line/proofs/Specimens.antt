@@ -14,7 +14,7 @@ use Rattle.algebra.specs.Line.{three, re, im, unit, unfold-by, pack-by, weave}
 use Rattle.algebra.specs.Kinds.{slots, before, after, pack-before, pack-after}
 use Rattle.numbers.specs.Prime.{prime}
 use Rattle.numbers.specs.Value.{half, part, valueOf, pairOf}
-use Rattle.numbers.specs.Root.{root}
+use Rattle.root.specs.Root.{root}
 use Rattle.slices.specs.Pairs.{at, put, puts, allBelow}
 use Rattle.factors.specs.Factors.{product}
 use Rattle.kinds.specs.Transform.{rootOf, transform, transformed}

@@ -81,8 +81,8 @@ fn transform_line(
     if direction == 0 {
         kinds::forward(m, kind, &re, &im, &tan, factors, a, line, fold, &mut work);
     } else {
-        numbers::tables::negate(m, &mut im);
-        numbers::tables::negate(m, &mut tan);
+        root::negate(m, &mut im);
+        root::negate(m, &mut tan);
         kinds::inverse(m, kind, &re, &im, &tan, factors, a, line, fold, &mut work);
     }
 }

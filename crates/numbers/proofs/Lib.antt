@@ -1,15 +1,8 @@
--- The laws that everything above cites: primes, residues, values, real values, accumulators, the root and its tables.
+-- The laws that everything above cites: primes, residues, values, real values, accumulators.
 pub mod Primes
 pub mod Residues
 pub mod Values
 pub mod Parts
 pub mod RealValues
 pub mod Accumulators
-pub mod RootCases
-pub mod Roots
-pub mod RootNegated
-pub mod RootPowers
-pub mod RootTangents
-pub mod RootAxis
-pub mod RootChoice
-pub mod RootLaws
+pub mod ModulusCases

@@ -1,4 +1,3 @@
 pub mod Prime
 pub mod Value
-pub mod Root
 pub mod Accumulator

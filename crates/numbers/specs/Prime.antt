@@ -4,12 +4,9 @@ use Prim.Native.Nat.{ℕ, _+_, _*_, _-_, _/_, _≤_}
 unfoldable pub prime : ℕ → ℕ
 prime m = 86399 + 216000 * (m - 1)
 
--- the paper's exponent in r = ((a + i)/(a - i))^c, and its least a
+-- the paper's exponent in r = ((a + i)/(a - i))^c
 unfoldable pub exponent : ℕ → ℕ
 exponent m = (prime m + 1) / 2880
-
-unfoldable pub choice : ℕ → ℕ
-choice m = 14 - 10 * (m - 1)
 
 pub record IsModulus (m : ℕ) : Type 0 where
   pub low : 1 ≤ m

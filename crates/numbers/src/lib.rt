@@ -1,4 +1,4 @@
-// Residues modulo one of two primes, values a + b i over them, and the tables of the root's powers.
+// Residues modulo one of two primes, and values a + b i over them.
 //
 // Every function takes the modulus number m: 1 for 86,399 and 2 for 302,399. Contracts speak of the residues and
 // values that the numbers stand for. Products are formed in 64 bits and reduced once.
@@ -9,8 +9,6 @@ ghost use Rattle.algebra.specs.Residue.{Res};
 ghost use Rattle.numbers.specs.Prime.{prime, IsModulus};
 ghost use Rattle.numbers.specs.Value.{Value, ring, field, conj, i, res, value, half, part, real, valueOf, pairOf, Small};
 ghost use Rattle.numbers.specs.Accumulator.{Accumulated};
-
-pub mod tables; // tables.rt: tables of the root's powers and half tangents, lent
 
 // A value of the paper: re + im i.
 pub struct Pair {

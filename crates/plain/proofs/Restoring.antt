@@ -10,9 +10,9 @@ use Rattle.algebra.proofs.Sums.{sum-cong}
 use Rattle.algebra.proofs.Transform.{root-of, inversion}
 use Rattle.numbers.specs.Prime.{prime, IsModulus}
 use Rattle.numbers.specs.Value.{Value, field, conj, real, part}
-use Rattle.numbers.specs.Root.{root}
+use Rattle.root.specs.Root.{root}
 use Rattle.numbers.proofs.Parts.{part-law}
-use Rattle.numbers.proofs.Roots.{root-of-unity}
+use Rattle.root.proofs.Roots.{root-of-unity}
 use Rattle.numbers.proofs.Values.{field-ring}
 use Rattle.slices.specs.Pairs.{Below}
 use Rattle.slices.specs.Values.{valuesOf, listOf}

@@ -15,7 +15,7 @@ ghost use Rattle.algebra.specs.Ring.{Ops, pow};
 ghost use Rattle.algebra.specs.Fourier.{dft};
 ghost use Rattle.numbers.specs.Prime.{prime, IsModulus};
 ghost use Rattle.numbers.specs.Value.{Value, field, part, real};
-ghost use Rattle.numbers.specs.Root.{tableRoot, RootTable};
+ghost use Rattle.root.specs.Root.{tableRoot, RootTable};
 ghost use Rattle.factors.specs.Factors.{Factored};
 ghost use Rattle.factors.specs.Stages.{points, after, Ahead};
 ghost use Rattle.slices.specs.Pairs.{Below};

@@ -6,7 +6,7 @@ ghost use mathlib.Core.Path.{_≡_};
 ghost use Prim.Native.Nat.{_*_, _/_, _<_};
 ghost use lib.ListN.{length};
 ghost use Rattle.numbers.specs.Prime.{prime, IsModulus};
-ghost use Rattle.numbers.specs.Root.{RootTable};
+ghost use Rattle.root.specs.Root.{RootTable};
 ghost use Rattle.slices.specs.Pairs.{Below};
 ghost use Rattle.factors.specs.Factors.{Factored};
 
@@ -45,7 +45,7 @@ fn lend(m: u32, factors: u32, n: usize)
     let re = roots::real_parts(m);
     let im = roots::imaginary_parts(m);
     let mut back = im;
-    numbers::tables::negate(m, &mut back);
+    root::negate(m, &mut back);
     let mut line = zeros();
     let mut work = zeros();
     let e = 2 * n;

@@ -16,8 +16,8 @@ use Rattle.algebra.specs.Gauss.{gauss, conj, imag}
 use Rattle.algebra.specs.Residue.{residue, residues}
 use Rattle.algebra.specs.Fourier.{dft}
 use Rattle.algebra.specs.Line.{three, re, im as im-algebra, unfold-by, pack-by, weave, unit}
-use Rattle.numbers.specs.Prime.{prime, exponent, choice}
-use Rattle.numbers.specs.Root.{root, entryAt, tableRoot}
+use Rattle.numbers.specs.Prime.{prime, exponent}
+use Rattle.root.specs.Root.{choice, root, entryAt, tableRoot}
 use Rattle.numbers.specs.Value.{half, part, valueOf, pairOf}
 use Rattle.slices.specs.Pairs.{at, put, puts, allBelow}
 use Rattle.factors.specs.Factors.{octal, product}

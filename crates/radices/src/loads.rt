@@ -5,7 +5,7 @@ use butterflies::ThreeSums;
 use butterflies::TwoSums;
 use twiddles::Places;
 ghost use Rattle.numbers.specs.Prime.{prime, IsModulus};
-ghost use Rattle.numbers.specs.Root.{tableRoot, RootTable};
+ghost use Rattle.root.specs.Root.{tableRoot, RootTable};
 ghost use Rattle.slices.specs.Pairs.{Below};
 ghost use Rattle.butterflies.specs.Butterfly.{ofTwoSums, ofThreeSums, ofFourSums, ofFiveSums};
 ghost use Rattle.radices.specs.Summed.{Reads, AllLoaded};

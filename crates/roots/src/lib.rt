@@ -6,7 +6,7 @@
 pub use cosines::real_parts;
 ghost use mathlib.Core.Path.{_≡_};
 ghost use Rattle.numbers.specs.Prime.{IsModulus};
-ghost use Rattle.numbers.specs.Root.{ImaginaryTable, TangentTable};
+ghost use Rattle.root.specs.Root.{ImaginaryTable, TangentTable};
 
 // The imaginary parts of the powers of r.
 pub fn imaginary_parts(m: u32) -> [u32; 2880]

@@ -11,7 +11,7 @@ ghost use Prim.Native.Nat.{_*_};
 ghost use lib.ListN.{length};
 ghost use Rattle.numbers.specs.Prime.{prime, IsModulus};
 ghost use Rattle.numbers.specs.Value.{field};
-ghost use Rattle.numbers.specs.Root.{tableRoot, RootTable};
+ghost use Rattle.root.specs.Root.{tableRoot, RootTable};
 ghost use Rattle.slices.specs.Pairs.{Below};
 ghost use Rattle.slices.specs.Values.{valuesOf, listOf};
 ghost use Rattle.steps.specs.Steps.{twiddled, outerSum, Splits};

@@ -7,7 +7,7 @@ use Rattle.algebra.proofs.Transform.{pow-zero}
 use Rattle.numbers.specs.declared.Pair.{Pair}
 use Rattle.numbers.specs.declared.Accumulator.{Accumulator}
 use Rattle.numbers.specs.Value.{Value, field, valueOf}
-use Rattle.numbers.specs.Root.{entryAt, tableRoot, RootTable}
+use Rattle.root.specs.Root.{entryAt, tableRoot, RootTable}
 use Rattle.numbers.proofs.Values.{field-ring}
 use Rattle.slices.specs.Pairs.{at}
 use Rattle.unreduced.proofs.Turns.{root-value}

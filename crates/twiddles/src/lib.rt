@@ -5,7 +5,7 @@ use numbers::Accumulator;
 ghost use Prim.Native.Nat.{_+_, _*_, _<_};
 ghost use lib.ListN.{length};
 ghost use Rattle.numbers.specs.Prime.{prime, IsModulus};
-ghost use Rattle.numbers.specs.Root.{tableRoot, RootTable};
+ghost use Rattle.root.specs.Root.{tableRoot, RootTable};
 ghost use Rattle.slices.specs.Pairs.{Below};
 ghost use Rattle.twiddles.specs.Places.{Loaded};
 
@@ -36,6 +36,6 @@ pub fn turned_at<'a>(
     if k == 0 {
         unreduced::of_pair(v)
     } else {
-        unreduced::product(m, numbers::tables::root_at(re, im, k), v)
+        unreduced::product(m, root::root_at(re, im, k), v)
     }
 }

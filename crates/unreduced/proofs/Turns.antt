@@ -18,7 +18,7 @@ use Rattle.numbers.specs.declared.Pair.{Pair}
 use Rattle.numbers.specs.Prime.{prime, IsModulus}
 use Rattle.numbers.specs.Value.{Value, Residue, field, conj, i, res, real, valueOf, pairOf, Small}
 use Rattle.numbers.specs.Value as Value
-use Rattle.numbers.specs.Root.{entryAt, tableRoot, RootTable}
+use Rattle.root.specs.Root.{entryAt, tableRoot, RootTable}
 use Rattle.numbers.proofs.Primes.{prime-least, prime-most}
 use Rattle.numbers.proofs.Residues.{val-res}
 use Rattle.numbers.proofs.RealValues.{real-neg, parts-value}

@@ -18,7 +18,7 @@ use Rattle.numbers.specs.Value as Value
 use Rattle.numbers.specs.Accumulator.{Accumulated}
 use Rattle.numbers.proofs.Residues.{res-ring}
 use Rattle.numbers.proofs.Values.{field-ring, value-path, value-add, i-times, real-times}
-use Rattle.numbers.proofs.RootCases.{by-modulus}
+use Rattle.numbers.proofs.ModulusCases.{by-modulus}
 use Rattle.unreduced.specs.Unreduced.{meant, Room}
 
 -- ---- how large they are

@@ -11,7 +11,7 @@ ghost use Rattle.algebra.specs.Ring.{Ops, pow};
 ghost use Rattle.numbers.specs.Prime.{prime, IsModulus};
 ghost use Rattle.numbers.specs.Value.{Value, field, i, res, real, valueOf, pairOf, Small};
 ghost use Rattle.numbers.specs.Accumulator.{Accumulated};
-ghost use Rattle.numbers.specs.Root.{tableRoot, RootTable};
+ghost use Rattle.root.specs.Root.{tableRoot, RootTable};
 ghost use Rattle.unreduced.specs.Unreduced.{meant, Room};
 
 // A value as a sum of one.
@@ -78,7 +78,7 @@ pub fn quarter_turned<'a>(
     requires { ⌜ Room 182890310402 x × Room 182890310402 y ⌝ }
     ensures { λ r. ⌜ Accumulated m 4 r (field m .mul (pow (field m) (tableRoot m (now (re .entry)) (now (im .entry))) 720) (field m .add (meant m x) (field m .neg (meant m y)))) ⌝ }
 {
-    if numbers::tables::root_at(re, im, 720).im == 1 {
+    if root::root_at(re, im, 720).im == 1 {
         turned(x, y)
     } else {
         turned(y, x)

@@ -4,7 +4,7 @@ use native.Mathlib.Omega.{arith}
 use lib.Dec.{lit<}
 use Rattle.algebra.specs.Ring.{Ops, pow}
 use Rattle.numbers.specs.Value.{Value, field}
-use Rattle.numbers.specs.Root.{tableRoot}
+use Rattle.root.specs.Root.{tableRoot}
 use Rattle.butterflies.specs.declared.FourSums.{FourSums}
 use Rattle.unreduced.specs.Unreduced.{meant}
 use Rattle.unreduced.proofs.Unreduced.{rooms}

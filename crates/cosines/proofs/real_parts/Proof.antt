@@ -2,9 +2,9 @@
 use mathlib.Core.Path.{sym, subst}
 use Rattle.algebra.proofs.PowerTable.{passes}
 use Rattle.numbers.specs.Prime.{prime}
-use Rattle.numbers.specs.Root.{RealTable}
+use Rattle.root.specs.Root.{RealTable}
 use Rattle.numbers.proofs.Primes.{first-modulus, second-modulus}
-use Rattle.numbers.proofs.RootCases.{second}
+use Rattle.numbers.proofs.ModulusCases.{second}
 use Rattle.cosines.proofs.Tables.{real-table}
 use Rattle.cosines.proofs.real_parts.Statement.{statement}
 use Rattle.cosines.proofs.real_parts.Tie as tie

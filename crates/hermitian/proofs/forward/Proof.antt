@@ -5,7 +5,7 @@ use native.Mathlib.Nat.{le-of-eq}
 use Rattle.algebra.specs.Ring.{pow}
 use Rattle.algebra.specs.Fourier.{dft}
 use Rattle.numbers.specs.Value.{field}
-use Rattle.numbers.specs.Root.{tableRoot}
+use Rattle.root.specs.Root.{tableRoot}
 use Rattle.slices.specs.Values.{valuesOf}
 use Rattle.slices.proofs.Pairs.{fills-whole}
 use Rattle.slices.proofs.Values.{length-of, below-of}

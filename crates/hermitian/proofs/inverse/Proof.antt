@@ -8,7 +8,7 @@ use Rattle.algebra.specs.Ring.{pow}
 use Rattle.algebra.specs.Fourier.{dft}
 use Rattle.numbers.specs.Prime.{prime}
 use Rattle.numbers.specs.Value.{field}
-use Rattle.numbers.specs.Root.{tableRoot}
+use Rattle.root.specs.Root.{tableRoot}
 use Rattle.slices.specs.Pairs.{Below}
 use Rattle.slices.specs.Values.{valuesOf}
 use Rattle.slices.proofs.Pairs.{fills-whole}

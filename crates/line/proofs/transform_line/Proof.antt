@@ -3,7 +3,7 @@ use borrow.Author.Needs.{needs}
 use native.Mathlib.Omega.{arith}
 use mathlib.Core.Path.{_≡_, sym}
 use lib.ListN.{length}
-use Rattle.numbers.proofs.RootPowers.{imaginary-below, tangent-below}
+use Rattle.root.proofs.RootPowers.{imaginary-below, tangent-below}
 use Rattle.kinds.proofs.Dispatch.{prefix-length}
 use Rattle.kinds.proofs.Tables.{forward-tables, backward-tables}
 use Rattle.line.proofs.Whole.{rest-of, whole-size, whole-list, whole-count, whole-result}

@@ -5,7 +5,7 @@ use Rattle.algebra.specs.Ring.{pow, sum}
 use Rattle.algebra.specs.Fourier.{dft}
 use Rattle.algebra.specs.Folds.{paired}
 use Rattle.numbers.specs.Value.{field}
-use Rattle.numbers.specs.Root.{tableRoot}
+use Rattle.root.specs.Root.{tableRoot}
 use Rattle.numbers.proofs.Values.{small-by}
 use Rattle.slices.specs.Values.{valuesOf}
 use Rattle.slices.proofs.Values.{length-of, below-of}

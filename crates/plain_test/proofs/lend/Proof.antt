@@ -3,8 +3,8 @@ use mathlib.Core.Path.{_≡_, sym}
 use Prim.Native.Nat.{ℕ, _*_, _/_, _≤_}
 use native.Mathlib.Omega.{arith}
 use lib.ListN.{length, take, length-take}
-use Rattle.numbers.proofs.RootPowers.{imaginary-below, root-table, conj-root-table}
-use Rattle.numbers.proofs.RootNegated.{negated-first}
+use Rattle.root.proofs.RootPowers.{imaginary-below, root-table, conj-root-table}
+use Rattle.root.proofs.RootNegated.{negated-first}
 use Rattle.factors.proofs.Divisors.{divisor-le}
 use borrow.Author.Needs.{needs}
 use Rattle.plain_test.proofs.lend.Statement.{statement}

@@ -5,7 +5,7 @@ use mathlib.Core.List.{List}
 use Prim.Native.Nat.{ℕ, _≤_}
 use native.Mathlib.Omega.{arith}
 use Rattle.numbers.specs.Prime.{prime}
-use Rattle.numbers.specs.Root.{tableRoot}
+use Rattle.root.specs.Root.{tableRoot}
 use Rattle.slices.specs.Pairs.{Below}
 use Rattle.radices.specs.Summed.{Reads, Stores, summed}
 use Rattle.radices.proofs.butterfly.Statement.{statement}

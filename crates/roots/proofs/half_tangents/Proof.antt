@@ -2,9 +2,9 @@
 use mathlib.Core.Path.{sym, subst}
 use Rattle.algebra.proofs.PowerTable.{passes}
 use Rattle.numbers.specs.Prime.{prime}
-use Rattle.numbers.specs.Root.{TangentTable}
+use Rattle.root.specs.Root.{TangentTable}
 use Rattle.numbers.proofs.Primes.{first-modulus, second-modulus}
-use Rattle.numbers.proofs.RootCases.{second}
+use Rattle.numbers.proofs.ModulusCases.{second}
 use Rattle.cosines.proofs.Tables.{tangent-table}
 use Rattle.roots.proofs.half_tangents.Statement.{statement}
 use Rattle.roots.proofs.half_tangents.Tie as tie

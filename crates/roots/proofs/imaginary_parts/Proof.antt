@@ -2,9 +2,9 @@
 use mathlib.Core.Path.{sym, subst}
 use Rattle.algebra.proofs.PowerTable.{passes}
 use Rattle.numbers.specs.Prime.{prime}
-use Rattle.numbers.specs.Root.{ImaginaryTable}
+use Rattle.root.specs.Root.{ImaginaryTable}
 use Rattle.numbers.proofs.Primes.{first-modulus, second-modulus}
-use Rattle.numbers.proofs.RootCases.{second}
+use Rattle.numbers.proofs.ModulusCases.{second}
 use Rattle.cosines.proofs.Tables.{imaginary-table}
 use Rattle.roots.proofs.imaginary_parts.Statement.{statement}
 use Rattle.roots.proofs.imaginary_parts.Tie as tie

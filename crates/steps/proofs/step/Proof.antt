@@ -1,7 +1,7 @@
 -- Each turn fills the places of one butterfly (`Passing`).
 use Prim.Native.Nat.{_-_, _*_}
 use native.Mathlib.Omega.{arith}
-use Rattle.numbers.specs.Root.{tableRoot}
+use Rattle.root.specs.Root.{tableRoot}
 use Rattle.slices.proofs.Rows.{rows-wide}
 use Rattle.steps.proofs.Sizes.{outer-pos, product-le, product-pos, stride-le}
 use Rattle.steps.proofs.Passing.{Passing, passing-start, passing-reads, passing-stores, passing-column, passing-base, passing-exponent, passing-next, passing-again, passing-done}

@@ -4,7 +4,7 @@ use native.Mathlib.Omega.{arith}
 use mathlib.Core.Path.{_≡_}
 use lib.ListN.{length}
 use Rattle.numbers.proofs.Primes.{first-modulus}
-use Rattle.numbers.proofs.RootPowers.{tangent-below}
+use Rattle.root.proofs.RootPowers.{tangent-below}
 use Rattle.job.proofs.Directions.{as-it-is, turned-over}
 use Rattle.job.proofs.tables.half_tangents.Statement.{statement}
 use Rattle.job.proofs.tables.half_tangents.Tie as tie

@@ -4,7 +4,7 @@ use native.Mathlib.Omega.{arith}
 use mathlib.Core.Path.{_≡_}
 use lib.ListN.{length}
 use Rattle.numbers.proofs.Primes.{first-modulus}
-use Rattle.numbers.proofs.RootPowers.{imaginary-below}
+use Rattle.root.proofs.RootPowers.{imaginary-below}
 use Rattle.job.proofs.Directions.{as-it-is, turned-over}
 use Rattle.job.proofs.tables.imaginary_parts.Statement.{statement}
 use Rattle.job.proofs.tables.imaginary_parts.Tie as tie

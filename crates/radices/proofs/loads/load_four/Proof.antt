@@ -1,6 +1,6 @@
 -- The values are read one after the other.
 use lib.Dec.{lit<}
-use Rattle.numbers.specs.Root.{tableRoot}
+use Rattle.root.specs.Root.{tableRoot}
 use Rattle.butterflies.proofs.Cases.{below-4}
 use Rattle.butterflies.specs.Butterfly.{ofFourSums}
 use Rattle.twiddles.specs.Places.{Loaded}

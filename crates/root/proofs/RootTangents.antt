@@ -15,14 +15,14 @@ use Rattle.algebra.proofs.Solver.{ring, quote, linear}
 use Rattle.algebra.proofs.Transform.{pow-zero, inverse-pow}
 use Rattle.algebra.proofs.Conj.{conj-pow}
 use Rattle.algebra.proofs.HalfTangents.{circle-parts, sine-inverse, tan-sine, tan-mirror, tan-cosecant, tan-cotangent, tan-law, tan-real}
 use Rattle.numbers.specs.Prime.{IsModulus}
 use Rattle.numbers.specs.Value.{Value, Residue, field, conj, i, res, real, half}
 use Rattle.numbers.specs.Value as Value
-use Rattle.numbers.specs.Root.{root, TangentTable, NegatedTable, TangentLaws, BackwardTangents}
+use Rattle.root.specs.Root.{root, TangentTable, NegatedTable, TangentLaws, BackwardTangents}
 use Rattle.numbers.proofs.Residues.{res-ring, res-by}
 use Rattle.numbers.proofs.Values.{field-ring, field-star}
 use Rattle.numbers.proofs.Parts.{half-residue, re-value, im-value}
-use Rattle.numbers.proofs.Roots.{root-of-unity, half-turn}
+use Rattle.root.proofs.Roots.{root-of-unity, half-turn}
 
 module _ (m : ℕ) (is : IsModulus m) where
   open Ops (field m) using (add as _⊕_, mul as _⊗_, neg as ⊖_, one as 𝟙)

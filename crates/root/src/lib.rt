@@ -1,14 +1,14 @@
-// Tables of the powers of the root r of order 2,880 and of its half tangents: how they are read and negated, and the laws of the root.
+// The root r of order 2,880: its laws, and how tables of its powers and of its half tangents are read and negated.
 //
 // The negated imaginary parts and half tangents are those of 1/r, so that one and the same code serves both directions.
-// The tables themselves are the crate `roots`.
+// The tables themselves are the crates `cosines` and `roots`.
 ghost use mathlib.Core.Path.{_≡_};
 ghost use Prim.Native.Nat.{ℕ, _<_};
 ghost use lib.ListN.{length};
 ghost use Rattle.numbers.specs.Prime.{prime, IsModulus};
-ghost use Rattle.numbers.specs.Root.{AllBelow, entryAt, NegatedTable, RootLaws};
-use crate::Pair;
-use crate::neg;
+ghost use Rattle.root.specs.Root.{AllBelow, entryAt, NegatedTable, RootLaws};
+use numbers::Pair;
+use numbers::neg;
 
 // The power at place k of two tables.
 pub fn root_at<'a>(re: &'a [u32; 2880], im: &'a [u32; 2880], k: usize) -> Pair

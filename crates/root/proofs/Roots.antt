@@ -15,13 +15,13 @@ use Rattle.algebra.proofs.Transform.{pow-mul}
 use Rattle.algebra.proofs.Divisors.{root-2880}
 use Rattle.algebra.proofs.RootOrder.{order-exact}
 use Rattle.algebra.proofs.RootOrder as RootOrder
 use Rattle.numbers.specs.Prime.{prime, IsModulus}
 use Rattle.numbers.specs.Value.{Value, field, conj, i, value, real, half, part}
-use Rattle.numbers.specs.Root.{root, OrderIs}
+use Rattle.root.specs.Root.{root, OrderIs}
 use Rattle.numbers.proofs.Residues.{val-res}
 use Rattle.numbers.proofs.Values.{value-path, field-ring, field-star}
 use Rattle.numbers.proofs.Parts.{part-law, half-law}
-use Rattle.numbers.proofs.RootCases.{by-modulus}
+use Rattle.numbers.proofs.ModulusCases.{by-modulus}
 
 -- values are equal by their numbers
 pub by-numbers : {p : ℕ} {x y : Res p × Res p} → x .0 .val ≡ y .0 .val → x .1 .val ≡ y .1 .val → x ≡ y

@@ -1,8 +1,8 @@
 -- What the two tables hold at k.
 use borrow.Author.Needs.{needs}
-use Rattle.numbers.specs.Root.{entryAt}
-use Rattle.numbers.proofs.tables.root_at.Statement.{statement}
-use Rattle.numbers.proofs.tables.root_at.Tie as tie
+use Rattle.root.specs.Root.{entryAt}
+use Rattle.root.proofs.root_at.Statement.{statement}
+use Rattle.root.proofs.root_at.Tie as tie
 
 mul-t4 : tie.Need-mul-t4
 mul-t4 c = search needs

@@ -9,13 +9,13 @@ use Rattle.algebra.specs.Ring.{cast}
 use Rattle.algebra.specs.Axis.{axisFrom, AxisLaws}
 use Rattle.algebra.proofs.Laws.{inverse-unique}
 use Rattle.algebra.proofs.Axis.{axis-of}
 use Rattle.numbers.specs.Prime.{IsModulus}
 use Rattle.numbers.specs.Value.{field, conj, i, res, real, half, part}
-use Rattle.numbers.specs.Root.{root, TangentTable}
+use Rattle.root.specs.Root.{root, TangentTable}
 use Rattle.numbers.proofs.Values.{field-ring, field-star}
 use Rattle.numbers.proofs.Parts.{half-law, part-law}
-use Rattle.numbers.proofs.Roots.{root-of-unity, half-turn}
-use Rattle.numbers.proofs.RootTangents.{tangent-rule}
+use Rattle.root.proofs.Roots.{root-of-unity, half-turn}
+use Rattle.root.proofs.RootTangents.{tangent-rule}
 
 module _ (m : ℕ) (is : IsModulus m) {t : List ℕ} (h : TangentTable m t) (d a : ℕ) (e : d * a ≡ 1440) where
   pub root-axis : AxisLaws (field m) (conj m) (i m) (real m (half m)) (axisFrom (field m) (root m) (real m (part m 2880)) d a) (λ s. real m (res m (getD t (d * s) 0)))

@@ -11,12 +11,12 @@ use Rattle.algebra.specs.Gauss as Gauss
 use Rattle.algebra.proofs.Laws.{mul-one, neg-neg}
 use Rattle.algebra.proofs.Transform.{pow-zero, pow-suc, inverse-cycle}
 use Rattle.algebra.proofs.Conj.{conj-pow}
 use Rattle.numbers.specs.Prime.{prime, IsModulus}
 use Rattle.numbers.specs.Value.{Value, ring, field, conj, i, pairOf, Small}
-use Rattle.numbers.specs.Root.{root, RealTable, ImaginaryTable, TangentTable, AllBelow, NegatedTable, entryAt, tableRoot, RootTable}
+use Rattle.root.specs.Root.{root, RealTable, ImaginaryTable, TangentTable, AllBelow, NegatedTable, entryAt, tableRoot, RootTable}
 use Rattle.numbers.proofs.Residues.{res-by, below-by}
 use Rattle.numbers.proofs.Values.{pair-path, value-path, small-by, field-ring, field-star}
-use Rattle.numbers.proofs.Roots.{full-turn, root-inverse, quarter-turn, root-of-unity}
+use Rattle.root.proofs.Roots.{full-turn, root-inverse, quarter-turn, root-of-unity}
 
 module _ (m : ℕ) where
   pow-one : (w : Value m) → pow (field m) w 1 ≡ w

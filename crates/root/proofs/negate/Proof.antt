@@ -2,9 +2,9 @@
 use Prim.Native.Nat.{_-_}
 use native.Mathlib.Omega.{arith}
 use lib.ListN.{length, length-set}
-use Rattle.numbers.proofs.RootNegated.{Negating, negating-start, negating-below, negating-next, negating-done}
-use Rattle.numbers.proofs.tables.negate.Statement.{statement}
-use Rattle.numbers.proofs.tables.negate.Tie as tie
+use Rattle.root.proofs.RootNegated.{Negating, negating-start, negating-below, negating-next, negating-done}
+use Rattle.root.proofs.negate.Statement.{statement}
+use Rattle.root.proofs.negate.Tie as tie
 
 abbrev Inv-loop : tie.InvT-loop
 Inv-loop m t₀ k₀ t k = Negating m t₀ t k

@@ -18,15 +18,15 @@ use Rattle.algebra.proofs.Conj.{conj-pow}
 use Rattle.algebra.specs.CellTests.{below}
 use Rattle.algebra.proofs.Bool.{or-e, below-at}
 use Rattle.algebra.proofs.PowerTable.{power-then, power-is}
-use Rattle.numbers.specs.Prime.{prime, exponent, choice, IsModulus}
+use Rattle.numbers.specs.Prime.{prime, exponent, IsModulus}
 use Rattle.numbers.specs.Value.{Value, Residue, field, conj, i, res, value, real}
 use Rattle.numbers.specs.Value as Value
-use Rattle.numbers.specs.Root.{root, Candidate, Suits, LeastChoice}
+use Rattle.root.specs.Root.{choice, root, Candidate, Suits, LeastChoice}
 use Rattle.numbers.proofs.Primes.{prime-least}
 use Rattle.numbers.proofs.Residues.{res-ring, res-val, val-small}
 use Rattle.numbers.proofs.Values.{value-path, conj-real, field-ring, field-star}
-use Rattle.numbers.proofs.Roots.{by-numbers, root-order, quarter-turn}
-use Rattle.numbers.proofs.RootCases.{by-modulus}
+use Rattle.root.proofs.Roots.{by-numbers, root-order, quarter-turn}
+use Rattle.numbers.proofs.ModulusCases.{by-modulus}
 
 -- of X = (b + i)^c: X^720 = x + y i with x + y not 0, or X^960 is real
 unfoldable excluded : (m b : ℕ) → Bool

@@ -6,9 +6,13 @@ use Prim.Native.Nat.{ℕ, _+_, _*_, _-_, _%_, _≤_, _<_}
 use lib.ListN.{length, getD}
 use Rattle.algebra.specs.Ring.{Ops, pow}
 use Rattle.algebra.specs.Fourier.{Root}
 use Rattle.numbers.specs.declared.Pair.{Pair}
-use Rattle.numbers.specs.Prime.{prime, exponent, choice}
+use Rattle.numbers.specs.Prime.{prime, exponent}
 use Rattle.numbers.specs.Value.{Value, Residue, value, ring, field, conj, i, res, real, half, part, pairOf}
+
+-- the paper's least a in r = ((a + i)/(a - i))^c
+unfoldable pub choice : ℕ → ℕ
+choice m = 14 - 10 * (m - 1)
 
 -- ((a + i)/(a - i))^c for the least a that the paper's rule allows
 unfoldable pub root : (m : ℕ) → Value m

@@ -1,11 +1,11 @@
 -- Everything that is proved of the root, gathered for both moduli.
 use Prim.Native.Nat.{ℕ}
 use Rattle.numbers.specs.Prime.{IsModulus}
-use Rattle.numbers.specs.Root.{RootLaws}
-use Rattle.numbers.proofs.Roots.{root-of-unity, half-turn, quarter-turn, root-order, conj-power}
-use Rattle.numbers.proofs.RootPowers.{root-table, table-root, conj-root-table, conj-table-root}
-use Rattle.numbers.proofs.RootTangents.{tangent-laws, backward-tangents}
-use Rattle.numbers.proofs.RootChoice.{least-choice}
+use Rattle.root.specs.Root.{RootLaws}
+use Rattle.root.proofs.Roots.{root-of-unity, half-turn, quarter-turn, root-order, conj-power}
+use Rattle.root.proofs.RootPowers.{root-table, table-root, conj-root-table, conj-table-root}
+use Rattle.root.proofs.RootTangents.{tangent-laws, backward-tangents}
+use Rattle.root.proofs.RootChoice.{least-choice}
 
 pub root-laws : (m : ℕ) → IsModulus m → RootLaws m
 root-laws m is = record {

@@ -1,0 +1,8 @@
+-- The laws of the root and of the tables of its powers, that the transforms cite.
+pub mod Roots
+pub mod RootNegated
+pub mod RootPowers
+pub mod RootTangents
+pub mod RootAxis
+pub mod RootChoice
+pub mod RootLaws

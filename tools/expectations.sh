@@ -17,8 +17,10 @@ held() {
 held crates/plain_test/stdout python3 tools/plain_expected.py
 held crates/line_test/stdin python3 tools/line_cases.py
 held crates/line_test/stdout "$made/line_expected" < crates/line_test/stdin
-held crates/job_test/stdin python3 tools/job_cases.py calls
-held crates/job_test/stdout python3 tools/job_cases.py answers
-held crates/file_test/stdin python3 tools/file_cases.py cases
-held crates/file_test/stdout python3 tools/file_cases.py answers
-echo "7 stored expectations agree with what is computed anew"
+both() {
+    python3 tools/job_cases.py "$1"
+    python3 tools/file_cases.py "$1"
+}
+held crates/recorder_test/stdin both cases
+held crates/recorder_test/stdout both answers
+echo "5 stored expectations agree with what is computed anew"

@@ -1,44 +1,32 @@
 #!/usr/bin/env python3
-"""The file test: factor files, sound and damaged, lists of calls on the jobs that they open, and the files of those jobs, by brute force.
+"""The recorder test's factor files, sound and damaged, lists of calls on the jobs that they open, and the files of those jobs, by brute force.
 
-    file_cases.py cases   writes the cases to standard output, a record of 48 bytes each
+    file_cases.py cases   writes the recorder test's input to standard output
     file_cases.py answers writes what the test program must print
 
-A record is an operation (1 byte, 3 unused) and eleven numbers (4 bytes each, big-endian):
+test_records.py says what the input holds and what is printed. The cases are made of
     0 new       the file and the script are empty
-    1 bytes     count, then up to 40 bytes that are added to the file
+    1 bytes     bytes that are added to the file
     2 length    how many numbers of the buffer are lent as the volume
     3 open      opens the file; the job goes on if there is one
     4 damage    opens every part of the file that starts with its first byte, then the file with each of its bytes in turn 1, 128 and 255 more
-    5 call      six numbers: a call of the script
+    5 call      six numbers: a call of the script (0 for those not named)
     6 replay    lengths of the scratch and of the answers: the script is replayed on the job
     7 write     length of the output: the file of the job is written
     8 poke      place, value: one number of the volume
     9 job       group, N1, list, N2, list, N3, list, state: the job itself (lists as octal digits)
-Before each opening the volume is filled with the number 7, before a replay the scratch with 7 and the answers with 9, before a writing
-the output with 7.
-A line is printed for each opening: the refusal's number or 0, the record's place, checksums of the job (of 0s where there is none) and the volume.
-For a replay: how many numbers of answers were written, checksums of the job, the volume and the scratch, then a line with every number lent for answers.
-For a writing: the refusal's number or 0, how many bytes were written and a checksum of the output.
 
 The answers of openings and replays are those of the book in brute_force.py, which is fed the calls' arguments alone; a file is written
 from the job and the volume that the calls left. The seed is fixed.
 """
 import random
-import struct
 import sys
 
+import test_records
 from brute_force import P, SCRATCH, Machine, factor_lists, file_bytes, images, open_file, volume_length
+from test_records import JOB, POKE, WRITE, checksum
 
 SEED = 1974
-LENT_MOST = 2048
-
-
-def checksum(v):
-    h = 7
-    for x in v:
-        h = (h * 31 + x + 1) % 2147483647
-    return h
 
 
 class TestProgram:
@@ -70,7 +58,10 @@ class TestProgram:
         else:
             volume = [7] * self.length
         job = book.job() if book else [0] * 8
-        return book, "%d %d %d %d" % (refused, place, checksum(job), checksum(volume))
+        if book:
+            self.book = book
+            self.leave()
+        return "%d %d %d %d" % (refused, place, checksum(job), checksum(volume))
 
     def replay(self, scratch, room):
         book = self.book
@@ -95,36 +86,55 @@ class TestProgram:
         yield "%d %d %d %d" % (written, checksum(book.job()), checksum(book.volume()), checksum(left))
         yield " ".join(str(x) for x in out)
 
-    def run(self, op, payload):
-        w = struct.unpack(">11I", payload)
+    def damaged(self):
+        """Every part of the file that starts with its first byte, then the file with each of its bytes in turn changed."""
+        for n in range(len(self.file) + 1):
+            yield self.file[:n]
+        for q in range(len(self.file)):
+            for more in (1, 128, 255):
+                yield self.file[:q] + bytes([(self.file[q] + more) % 256]) + self.file[q + 1:]
+
+    def set(self, op, w):
+        """The file, the script and how much of the volume is lent."""
         if op == 0:
             self.file, self.script = b"", []
         elif op == 1:
-            self.file += payload[4:4 + w[0]]
+            self.file += w[0]
         elif op == 2:
             self.length = w[0]
-        elif op == 3:
-            book, line = self.opening(self.file)
-            if book:
-                self.book = book
-                self.leave()
-            yield line
-        elif op == 4:
-            for n in range(len(self.file) + 1):
-                yield self.opening(self.file[:n])[1]
-            for q in range(len(self.file)):
-                for more in (1, 128, 255):
-                    yield self.opening(self.file[:q] + bytes([(self.file[q] + more) % 256]) + self.file[q + 1:])[1]
         elif op == 5:
-            self.script += w[:6]
+            self.script += [*w, *[0] * (6 - len(w))]
+
+    def packed(self, op, w):
+        """The records of the input."""
+        self.set(op, w)
+        if op == 3:
+            yield test_records.file(self.length, self.file)
+        elif op == 4:
+            for file in self.damaged():
+                yield test_records.file(self.length, file)
         elif op == 6:
-            yield from self.replay(w[0], w[1])
+            yield test_records.replay(self.length, self.script, *w)
+        elif op > 6:
+            yield test_records.record({7: WRITE, 8: POKE, 9: JOB}[op], self.length, *w)
+
+    def lines(self, op, w):
+        """The lines that are printed."""
+        self.set(op, w)
+        if op == 3:
+            yield self.opening(self.file)
+        elif op == 4:
+            for file in self.damaged():
+                yield self.opening(file)
+        elif op == 6:
+            yield from self.replay(*w)
         elif op == 7:
-            yield self.writing(w[0])
+            yield self.writing(*w)
         elif op == 8:
+            assert w[0] < self.length
             self.left.volume[w[0]] = w[1]
-        else:
-            self.left.job = list(w[:8])
+        elif op == 9:
+            self.left.job = list(w)
 
 
 def cases():
@@ -132,13 +142,11 @@ def cases():
     out = []
 
     def say(op, *w):
-        out.append((op, struct.pack(">11I", *w, *[0] * (11 - len(w)))))
+        out.append((op, w))
 
     def say_file(file):
         say(0)
-        for i in range(0, len(file), 40):
-            part = file[i:i + 40]
-            out.append((1, struct.pack(">I", len(part)) + part + bytes(40 - len(part))))
+        say(1, file)
 
     def index(n):
         return tuple(rng.choice([0, m // 2, rng.randrange(m), rng.randrange(m)]) for m in n)
@@ -255,13 +263,14 @@ def cases():
 
 
 def main():
+    program = TestProgram()
     if sys.argv[1:] == ["cases"]:
-        for op, payload in cases():
-            sys.stdout.buffer.write(bytes([op, 0, 0, 0]) + payload)
+        for op, w in cases():
+            for record in program.packed(op, w):
+                sys.stdout.buffer.write(record)
     elif sys.argv[1:] == ["answers"]:
-        program = TestProgram()
-        for op, payload in cases():
-            for line in program.run(op, payload):
+        for op, w in cases():
+            for line in program.lines(op, w):
                 print(line)
     else:
         sys.exit(__doc__)

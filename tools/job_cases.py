@@ -1,10 +1,10 @@
 #!/usr/bin/env python3
-"""The job test: random lists of calls, and what they must answer and leave, by brute force.
+"""The recorder test's calls of jobs: random lists of calls, and what they must answer and leave, by brute force.
 
-    job_cases.py calls   writes the calls to standard output, a record of 48 bytes each
+    job_cases.py cases   writes the recorder test's input to standard output
     job_cases.py answers writes what the test program must print
 
-A record is an operation (1 byte, 3 unused) and eleven numbers (4 bytes each, big-endian):
+test_records.py says what the input holds and what is printed. Each call of a job is a script of its own. The lists are made of
     0 open       group, kind, N1, N2, N3                (lists as set by 8)
     1 record     h, k, l, a, b
     2 synthesis  length of the scratch
@@ -13,53 +13,65 @@ A record is an operation (1 byte, 3 unused) and eleven numbers (4 bytes each, bi
     5 factor     h, k, l
     6 fill       seed: the volume's numbers by a linear congruential generator
     7 poke       place, value: one number of the volume
-    8 list       axis, count, then the bytes of a factor list (16 bytes)
+    8 list       axis, a factor list
     9 job        group, N1, list, N2, list, N3, list, state: the job itself (lists as octal digits)
    10 length     how many numbers of the buffer are lent as the volume
-A line is printed for each of the calls 0 to 5: the operation, the refusal's number or 0, two values (a density or a factor, else 0),
-and checksums of the job, the volume and the scratch.
 
 The answers are those of brute_force.py. The seed is fixed.
 """
 import random
-import struct
 import sys
 
+import test_records
 from brute_force import P, SCRATCH, Machine, factor_lists, images, octal, volume_length
+from test_records import FILL, JOB, POKE, checksum
 
 SEED = 1973
 
 
 class TestProgram(Machine):
-    """What the test program keeps, and the line that it prints for a call."""
+    """What the test program keeps, its input and the lines that it prints."""
 
-    def run(self, op, w):
-        """A line for the calls 0 to 5, None for the others."""
+    def set(self, op, w):
+        """The volume, the job, and what the next openings and calls are lent."""
         if op == 6:
             state = w[0]
             for j in range(self.length):
                 state = (state * 1103515245 + 12345) % 2147483648
                 self.volume[j] = state // 8 % P
-            return None
-        if op == 7:
+        elif op == 7:
+            assert w[0] < self.length
             self.volume[w[0]] = w[1]
-            return None
-        if op == 8:
-            self.lists[w[0]] = list(struct.pack(">IIII", *w[2:6])[:w[1]])
-            return None
-        if op == 9:
-            self.job = list(w[:8])
-            return None
-        if op == 10:
+        elif op == 8:
+            self.lists[w[0]] = w[1]
+        elif op == 9:
+            self.job = list(w)
+        else:
             self.length = w[0]
-            return None
-        lent = SCRATCH
-        if op in (2, 3):
-            lent = w[0]
-            self.scratch = [7] * 12032
-        answer = [lambda: self.open(*w[:5]), lambda: self.record(*w[:5]), lambda: self.work(w[0], False), lambda: self.work(w[0], True),
-                  lambda: self.point(*w[:3]), lambda: self.factor(*w[:3])][op]()
-        return "%d %d %d %d %d %d %d" % (op, *answer, self.checksum(self.job), self.checksum(self.lent()), self.checksum(self.scratch[:lent]))
+
+    def packed(self, op, w):
+        """The records of the input."""
+        if op > 5:
+            self.set(op, w)
+            kinds = {6: FILL, 7: POKE, 9: JOB}
+            return test_records.record(kinds[op], self.length, *w) if op in kinds else b""
+        if op == 0:
+            return test_records.opening(self.length, *w[:2], w[2:], self.lists)
+        numbers = [] if op in (2, 3) else list(w)
+        return test_records.replay(self.length, [op - 1] + numbers + [0] * (5 - len(numbers)), w[0] if op in (2, 3) else SCRATCH, 3)
+
+    def lines(self, op, w):
+        """The lines of an opening or a call, none for the others."""
+        if op > 5:
+            self.set(op, w)
+            return []
+        if op == 0:
+            return ["%d 0 %d %d" % (self.open(*w)[0], checksum(self.job), checksum(self.lent()))]
+        self.scratch = [7] * 12032
+        lent = w[0] if op in (2, 3) else SCRATCH
+        answer = [lambda: self.record(*w), lambda: self.work(w[0], False), lambda: self.work(w[0], True),
+                  lambda: self.point(*w), lambda: self.factor(*w)][op - 1]()
+        return ["3 %d %d %d" % (checksum(self.job), checksum(self.lent()), checksum(self.scratch[:lent])), "%d %d %d" % answer]
 
 
 # ---- the lists of calls
@@ -69,7 +81,7 @@ def scripts():
     calls = []
 
     def say(op, *w):
-        calls.append((op, list(w) + [0] * (11 - len(w))))
+        calls.append((op, w))
 
     def lists(n):
         for axis, m in enumerate(n):
@@ -77,8 +89,7 @@ def scripts():
             set_list(axis, fs)
 
     def set_list(axis, fs):
-        b = bytes(fs[:16]) + bytes(16 - len(fs[:16]))
-        say(8, axis, len(fs), *struct.unpack(">IIII", b))
+        say(8, axis, fs)
 
     def value():
         kind = rng.randrange(6)
@@ -272,15 +283,13 @@ def scripts():
 
 
 def main():
-    calls = scripts()
-    if sys.argv[1:] == ["calls"]:
-        for op, w in calls:
-            sys.stdout.buffer.write(struct.pack(">B3x11I", op, *w))
+    program = TestProgram()
+    if sys.argv[1:] == ["cases"]:
+        for op, w in scripts():
+            sys.stdout.buffer.write(program.packed(op, w))
     elif sys.argv[1:] == ["answers"]:
-        machine = TestProgram()
-        for op, w in calls:
-            line = machine.run(op, w)
-            if line is not None:
+        for op, w in scripts():
+            for line in program.lines(op, w):
                 print(line)
     else:
         sys.exit(__doc__)

@@ -1,7 +1,8 @@
-// What the test programs share: numbers of a record of the input, buffers filled, checksums, lines of numbers printed.
+// What the test programs share: numbers of the input, buffers filled, checksums, lines of numbers printed.
+use libc::STDIN_FILENO;
 use libc::STDOUT_FILENO;
 ghost use mathlib.Core.Path.{_≡_};
-ghost use Prim.Native.Nat.{_<_};
+ghost use Prim.Native.Nat.{_<_, _≤_};
 
 pub fn wide(b: u8) -> u32
     ensures { λ r. ⌜ r < 256 ⌝ }
@@ -30,6 +31,39 @@ pub fn number(c: &[u8], at: usize) -> u32
     let high = wide(byte(c, at)) * 256 + wide(byte(c, at + 1));
     let low = wide(byte(c, at + 2)) * 256 + wide(byte(c, at + 3));
     high * 65536 + low
+}
+
+// The next bytes of the input; whether it has as many.
+pub fn read_bytes(v: &mut [u8]) -> bool {
+    let wanted = v.len();
+    let got = io::read_full(STDIN_FILENO, v);
+    got == wanted
+}
+
+// The next big-endian numbers of the input; whether it has as many.
+pub fn read_numbers(v: &mut [u32]) -> bool {
+    let mut j: usize = 0;
+    while j < v.len() {
+        let mut c = [0u8; 4];
+        let whole = read_bytes(&mut c);
+        if !whole {
+            return false;
+        }
+        v[j] = number(&c, 0);
+        j += 1;
+    }
+    true
+}
+
+// A length that the input names, where a buffer has it.
+pub fn at_most(x: u32, most: usize) -> usize
+    ensures { λ r. ⌜ r ≤ most ⌝ }
+{
+    let n = x as usize;
+    if n < most {
+        return n;
+    }
+    most
 }
 
 // A count that is printed: what a test writes has fewer than 2^32 of anything.

@@ -1,23 +1,26 @@
+use borrow.Author.Needs.{needs}
 use mathlib.Core.Path.{_≡_}
 use lib.ListN.{length}
-use borrow.Author.Needs.{needs}
-use Rattle.job_test.proofs.main.Statement.{statement}
-use Rattle.job_test.proofs.main.Tie as tie
+use Rattle.recorder_test.proofs.main.Statement.{statement}
+use Rattle.recorder_test.proofs.main.Tie as tie
 
 abbrev Inv-loop : tie.InvT-loop
-Inv-loop volume₀ scratch₀ lists₀ held₀ turns₀ volume scratch lists held turns = (length volume ≡ 4096) × (length scratch ≡ 12032) × (length lists ≡ 51)
+Inv-loop volume₀ job₀ turns₀ volume job turns = length volume ≡ 4096
 
 abbrev μ-loop : tie.MeasureT-loop
-μ-loop volume₀ scratch₀ lists₀ held₀ turns₀ volume scratch lists held turns = turns
+μ-loop volume₀ job₀ turns₀ volume job turns = turns
+
+no-job-requires : tie.Need-no-job-requires Inv-loop μ-loop
+no-job-requires c κs = search needs
 
 loop-holds : tie.Need-loop-holds Inv-loop μ-loop
 loop-holds c = search needs
 
-slice-aggregate-read-full : tie.Need-slice-aggregate-read-full Inv-loop μ-loop
-slice-aggregate-read-full c = search needs
+slice-aggregate-read-numbers : tie.Need-slice-aggregate-read-numbers Inv-loop μ-loop
+slice-aggregate-read-numbers c = search needs
 
-read-full-requires : tie.Need-read-full-requires Inv-loop μ-loop
-read-full-requires c κs = search needs
+read-numbers-requires : tie.Need-read-numbers-requires Inv-loop μ-loop
+read-numbers-requires c κs = search needs
 
 returns : tie.Need-returns Inv-loop μ-loop
 returns c = search needs
@@ -27,12 +30,6 @@ slice-aggregate-next c = search needs
 
 slice-aggregate-next-2 : tie.Need-slice-aggregate-next-2 Inv-loop μ-loop
 slice-aggregate-next-2 c = search needs
-
-slice-aggregate-next-3 : tie.Need-slice-aggregate-next-3 Inv-loop μ-loop
-slice-aggregate-next-3 c = search needs
-
-slice-aggregate-next-4 : tie.Need-slice-aggregate-next-4 Inv-loop μ-loop
-slice-aggregate-next-4 c = search needs
 
 next-requires : tie.Need-next-requires Inv-loop μ-loop
 next-requires c κs = search needs
@@ -55,14 +52,13 @@ main-spec =
     (tie.spec
     Inv-loop
     μ-loop
+    no-job-requires
     loop-holds
-    slice-aggregate-read-full
-    read-full-requires
+    slice-aggregate-read-numbers
+    read-numbers-requires
     returns
     slice-aggregate-next
     slice-aggregate-next-2
-    slice-aggregate-next-3
-    slice-aggregate-next-4
     next-requires
     sub-turns
     loop-less

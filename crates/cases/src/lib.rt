@@ -55,6 +55,14 @@ pub fn read_numbers(v: &mut [u32]) -> bool {
     true
 }
 
+// The number at a place of a record, 0 beyond it.
+pub fn at(r: &[u32], i: usize) -> u32 {
+    if i < r.len() {
+        return r[i];
+    }
+    0
+}
+
 // A length that the input names, where a buffer has it.
 pub fn at_most(x: u32, most: usize) -> usize
     ensures { λ r. ⌜ r ≤ most ⌝ }
@@ -67,7 +75,7 @@ pub fn at_most(x: u32, most: usize) -> usize
 }
 
 // A count that is printed: what a test writes has fewer than 2^32 of anything.
-pub fn count(n: usize) -> u32 {
+fn count(n: usize) -> u32 {
     (n % 4294967296) as u32
 }
 
@@ -90,11 +98,26 @@ pub fn fill_with(v: &mut [u32], x: u32) {
     }
 }
 
+// A file from the input, and a volume of sevens to open it on.
+pub fn prepare(file: &mut [u8], volume: &mut [u32]) {
+    read_bytes(file);
+    fill_with(volume, 7);
+}
+
 // Another number at one place, where the buffer has it.
 pub fn put_at(v: &mut [u32], place: usize, x: u32) {
     if place < v.len() {
         v[place] = x;
     }
+}
+
+// A record that fills a buffer by the generator (operation 5), or changes one number of it.
+pub fn change(r: &[u32], v: &mut [u32]) {
+    if at(r, 0) == 5 {
+        fill(v, at(r, 2));
+        return;
+    }
+    put_at(v, at_most(at(r, 2), v.len()), at(r, 3));
 }
 
 fn more(h: u64, x: u32) -> u64
@@ -115,7 +138,7 @@ pub fn checksum(v: &[u32]) -> u32 {
     h as u32
 }
 
-pub fn byte_checksum(v: &[u8]) -> u32 {
+fn byte_checksum(v: &[u8]) -> u32 {
     let mut h: u64 = 7;
     let mut j: usize = 0;
     while j < v.len() {
@@ -140,4 +163,23 @@ pub fn print_line(v: &[u32]) {
         j += 1;
     }
     io::write_all(STDOUT_FILENO, b"\n");
+}
+
+// What an opening answered and left: a refusal's number or 0, a place or 0, the job's checksum and that of the volume.
+pub fn print_opening(number: u32, place: u32, job: u32, volume: &[u32]) {
+    let said = [number, place, job, checksum(volume)];
+    print_line(&said);
+}
+
+// What a script of calls answered and left: how many numbers it wrote, the job's checksum and those of two buffers, then every answer.
+pub fn print_replay(written: usize, job: u32, volume: &[u32], scratch: &[u32], answers: &[u32]) {
+    let said = [count(written), job, checksum(volume), checksum(scratch)];
+    print_line(&said);
+    print_line(answers);
+}
+
+// What a writing answered and left.
+pub fn print_writing(number: u32, written: usize, out: &[u8]) {
+    let said = [number, count(written), byte_checksum(out)];
+    print_line(&said);
 }

@@ -27,15 +27,13 @@ fn no_job() -> Job {
 }
 
 // The job itself, whether or not any opening could have made it.
-fn job_said(r: &[u32]) -> Job
-    requires { ⌜ length (now r) ≡ 10 ⌝ }
-{
+fn job_said(r: &[u32]) -> Job {
     Job {
-        group: r[2],
-        a: axis(r[3], r[4]),
-        b: axis(r[5], r[6]),
-        c: axis(r[7], r[8]),
-        state: r[9],
+        group: cases::at(r, 2),
+        a: axis(cases::at(r, 3), cases::at(r, 4)),
+        b: axis(cases::at(r, 5), cases::at(r, 6)),
+        c: axis(cases::at(r, 7), cases::at(r, 8)),
+        state: cases::at(r, 9),
     }
 }
 
@@ -53,17 +51,12 @@ fn job_checksum(j: Job) -> u32 {
     cases::checksum(&numbers)
 }
 
-// Prints what an opening answered and left.
 fn print_opening(number: u32, place: u32, job: Job, volume: &[u32]) {
-    let said = [number, place, job_checksum(job), cases::checksum(volume)];
-    cases::print_line(&said);
+    cases::print_opening(number, place, job_checksum(job), volume);
 }
 
-// Opens the file whose bytes follow on a volume of sevens; the job that goes on.
-fn open_bytes(before: Job, file: &mut [u8], volume: &mut [u32]) -> Job {
-    cases::read_bytes(file);
-    cases::fill_with(volume, 7);
-    let answer = open_file::open_file(&file[..], volume);
+// Prints what the opening of a file answered and left; the job that goes on.
+fn of_file(answer: FileAnswer, before: Job, volume: &[u32]) -> Job {
     match answer {
         FileAnswer::Opened(job) => {
             print_opening(0, 0, job, volume);
@@ -74,12 +67,6 @@ fn open_bytes(before: Job, file: &mut [u8], volume: &mut [u32]) -> Job {
             before
         }
     }
-}
-
-fn file_opened(before: Job, bytes: u32, volume: &mut [u32]) -> Job {
-    let mut file = [0u8; 1024];
-    let n = cases::at_most(bytes, 1024);
-    open_bytes(before, &mut file[..n], volume)
 }
 
 // Prints what an opening by group, kind, lengths and lists answered and left; the job that goes on.
@@ -96,36 +83,49 @@ fn of_open(answer: OpenAnswer, before: Job, volume: &[u32]) -> Job {
     }
 }
 
-// The three factor lists have 16 bytes each.
-fn open_lists(r: &[u32], lists: &[u8], volume: &mut [u32]) -> OpenAnswer
-    requires { ⌜ (length (now r) ≡ 10) × (length (now lists) ≡ 48) ⌝ }
-{
-    let e1 = cases::at_most(r[7], 16);
-    let e2 = 16 + cases::at_most(r[8], 16);
-    let e3 = 32 + cases::at_most(r[9], 16);
+fn open_bytes(before: Job, file: &mut [u8], volume: &mut [u32]) -> Job {
+    cases::prepare(file, volume);
+    of_file(open_file::open_file(&file[..], volume), before, &volume[..])
+}
+
+// The opening of the file that follows.
+fn file_opened(before: Job, r: &[u32], volume: &mut [u32]) -> Job {
+    let mut file = [0u8; 1024];
+    let n = cases::at_most(cases::at(r, 2), 1024);
+    open_bytes(before, &mut file[..n], volume)
+}
+
+fn open_lists(r: &[u32], f1: &[u8], f2: &[u8], f3: &[u8], volume: &mut [u32]) -> OpenAnswer {
     job::open::open(
-        r[2],
-        r[3],
-        r[4],
-        r[5],
-        r[6],
-        &lists[0..e1],
-        &lists[16..e2],
-        &lists[32..e3],
+        cases::at(r, 2),
+        cases::at(r, 3),
+        cases::at(r, 4),
+        cases::at(r, 5),
+        cases::at(r, 6),
+        f1,
+        f2,
+        f3,
         volume,
     )
 }
 
-// The opening by group, kind, lengths and the lists that follow.
-fn opened(before: Job, r: &[u32], volume: &mut [u32]) -> Job
-    requires { ⌜ length (now r) ≡ 10 ⌝ }
+// The three factor lists have 16 bytes each.
+fn open_listed(r: &[u32], lists: &[u8], volume: &mut [u32]) -> OpenAnswer
+    requires { ⌜ length (now lists) ≡ 48 ⌝ }
 {
-    let mut lists = [0u8; 48];
-    cases::read_bytes(&mut lists);
-    of_open(open_lists(r, &lists, volume), before, &volume[..])
+    let e1 = cases::at_most(cases::at(r, 7), 16);
+    let e2 = 16 + cases::at_most(cases::at(r, 8), 16);
+    let e3 = 32 + cases::at_most(cases::at(r, 9), 16);
+    open_lists(r, &lists[0..e1], &lists[16..e2], &lists[32..e3], volume)
 }
 
-// The calls that follow, on a scratch and an output that are lent.
+// The opening by group, kind, lengths and the lists that follow.
+fn opened(before: Job, r: &[u32], volume: &mut [u32]) -> Job {
+    let mut lists = [0u8; 48];
+    cases::read_bytes(&mut lists);
+    of_open(open_listed(r, &lists, volume), before, &volume[..])
+}
+
 fn replay_calls(
     job: Job,
     script: &mut [u32],
@@ -135,27 +135,24 @@ fn replay_calls(
 ) -> Job {
     cases::read_numbers(script);
     let r = replay::replay(job, &script[..], volume, scratch, answers);
-    let said = [
-        cases::count(r.written),
+    cases::print_replay(
+        r.written,
         job_checksum(r.job),
-        cases::checksum(volume),
-        cases::checksum(scratch),
-    ];
-    cases::print_line(&said);
-    cases::print_line(answers);
+        &volume[..],
+        &scratch[..],
+        &answers[..],
+    );
     r.job
 }
 
-// A script, with a scratch of sevens and answers of nines.
-fn replayed(job: Job, r: &[u32], volume: &mut [u32]) -> Job
-    requires { ⌜ length (now r) ≡ 10 ⌝ }
-{
+// The script that follows, with a scratch of sevens and answers of nines.
+fn replayed(job: Job, r: &[u32], volume: &mut [u32]) -> Job {
     let mut script = [0u32; 150];
     let mut scratch = [7u32; 12032];
     let mut answers = [9u32; 80];
-    let n = cases::at_most(r[2], 150);
-    let room = cases::at_most(r[3], 12032);
-    let space = cases::at_most(r[4], 80);
+    let n = cases::at_most(cases::at(r, 2), 150);
+    let room = cases::at_most(cases::at(r, 3), 12032);
+    let space = cases::at_most(cases::at(r, 4), 80);
     replay_calls(
         job,
         &mut script[..n],
@@ -165,71 +162,59 @@ fn replayed(job: Job, r: &[u32], volume: &mut [u32]) -> Job
     )
 }
 
-fn print_writing(number: u32, count: u32, out: &[u8]) {
-    let said = [number, count, cases::byte_checksum(out)];
-    cases::print_line(&said);
-}
-
-fn write_bytes(job: Job, volume: &[u32], out: &mut [u8]) {
-    let answer = file_writer::write_file(job, volume, out);
+fn of_writing(answer: WriteAnswer, out: &[u8]) {
     match answer {
-        WriteAnswer::Written(count) => print_writing(0, cases::count(count), out),
-        WriteAnswer::Refused(refusal) => print_writing(refusal_order::number_of(refusal), 0, out),
+        WriteAnswer::Written(written) => cases::print_writing(0, written, out),
+        WriteAnswer::Refused(refusal) => {
+            cases::print_writing(refusal_order::number_of(refusal), 0, out)
+        }
     }
 }
 
+fn write_bytes(job: Job, volume: &[u32], out: &mut [u8]) {
+    of_writing(file_writer::write_file(job, volume, out), &out[..]);
+}
+
 // The job's file, into an output of sevens.
-fn written(job: Job, bytes: u32, volume: &[u32]) -> Job {
+fn written(job: Job, r: &[u32], volume: &[u32]) -> Job {
     let mut out = [7u8; 4096];
-    let n = cases::at_most(bytes, 4096);
+    let n = cases::at_most(cases::at(r, 2), 4096);
     write_bytes(job, volume, &mut out[..n]);
     job
 }
 
-// The volume filled by the generator, or one number of it changed.
-fn changed(job: Job, r: &[u32], volume: &mut [u32]) -> Job
-    requires { ⌜ length (now r) ≡ 10 ⌝ }
-{
-    if r[0] == 5 {
-        cases::fill(volume, r[2]);
-        return job;
+// What a record sets: the job, or numbers of the volume.
+fn set(job: Job, r: &[u32], volume: &mut [u32]) -> Job {
+    if cases::at(r, 0) == 4 {
+        return job_said(r);
     }
-    cases::put_at(volume, cases::at_most(r[2], 4096), r[3]);
+    cases::change(r, volume);
     job
 }
 
 // What a record asks of the part of the volume that it lends; the job that goes on.
-fn asked(job: Job, r: &[u32], volume: &mut [u32]) -> Job
-    requires { ⌜ length (now r) ≡ 10 ⌝ }
-{
-    let operation = r[0];
+fn asked(job: Job, r: &[u32], volume: &mut [u32]) -> Job {
+    let operation = cases::at(r, 0);
     match operation {
         0 => return opened(job, r, volume),
-        1 => return file_opened(job, r[2], volume),
+        1 => return file_opened(job, r, volume),
         2 => return replayed(job, r, volume),
-        3 => return written(job, r[2], &volume[..]),
-        4 => return job_said(r),
-        _ => return changed(job, r, volume),
+        3 => return written(job, r, &volume[..]),
+        _ => return set(job, r, volume),
     }
 }
 
-fn next(job: Job, r: &[u32], volume: &mut [u32]) -> Job
-    requires { ⌜ length (now r) ≡ 10 ⌝ }
-{
-    let lent = cases::at_most(r[1], volume.len());
+fn next(job: Job, r: &[u32], volume: &mut [u32]) -> Job {
+    let lent = cases::at_most(cases::at(r, 1), volume.len());
     asked(job, r, &mut volume[..lent])
 }
 
 fn main() {
     let mut volume = [0u32; 4096];
     let mut job = no_job();
+    let mut r = [0u32; 10];
     let mut turns = u32::MAX;
-    while turns > 0 {
-        let mut r = [0u32; 10];
-        let whole = cases::read_numbers(&mut r);
-        if !whole {
-            return;
-        }
+    while turns > 0 && cases::read_numbers(&mut r) {
         job = next(job, &r, &mut volume);
         turns -= 1;
     }

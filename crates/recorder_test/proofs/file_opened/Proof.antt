@@ -5,6 +5,9 @@ use lib.ListN.{length, length-take}
 use Rattle.recorder_test.proofs.file_opened.Statement.{statement}
 use Rattle.recorder_test.proofs.file_opened.Tie as tie
 
+at-requires : tie.Need-at-requires
+at-requires c κs = search needs
+
 at-most-requires : tie.Need-at-most-requires
 at-most-requires c κs = search needs
 
@@ -27,6 +30,7 @@ pub file-opened-spec : {M : Type 1} → statement M
 file-opened-spec =
     tie.close
     (tie.spec
+    at-requires
     at-most-requires
     array-borrow-prefix-file
     slice-aggregate-open-bytes

@@ -5,10 +5,10 @@ use Rattle.recorder_test.proofs.main.Statement.{statement}
 use Rattle.recorder_test.proofs.main.Tie as tie
 
 abbrev Inv-loop : tie.InvT-loop
-Inv-loop volume₀ job₀ turns₀ volume job turns = length volume ≡ 4096
+Inv-loop volume₀ job₀ r₀ turns₀ volume job r turns = (length volume ≡ 4096) × (length r ≡ 10)
 
 abbrev μ-loop : tie.MeasureT-loop
-μ-loop volume₀ job₀ turns₀ volume job turns = turns
+μ-loop volume₀ job₀ r₀ turns₀ volume job r turns = turns
 
 no-job-requires : tie.Need-no-job-requires Inv-loop μ-loop
 no-job-requires c κs = search needs
@@ -21,9 +21,6 @@ slice-aggregate-read-numbers c = search needs
 
 read-numbers-requires : tie.Need-read-numbers-requires Inv-loop μ-loop
 read-numbers-requires c κs = search needs
-
-returns : tie.Need-returns Inv-loop μ-loop
-returns c = search needs
 
 slice-aggregate-next : tie.Need-slice-aggregate-next Inv-loop μ-loop
 slice-aggregate-next c = search needs
@@ -43,6 +40,9 @@ loop-less c = search needs
 loop-again : tie.Need-loop-again Inv-loop μ-loop
 loop-again c = search needs
 
+returns : tie.Need-returns Inv-loop μ-loop
+returns c = search needs
+
 returns-2 : tie.Need-returns-2 Inv-loop μ-loop
 returns-2 c = search needs
 
@@ -56,11 +56,11 @@ main-spec =
     loop-holds
     slice-aggregate-read-numbers
     read-numbers-requires
-    returns
     slice-aggregate-next
     slice-aggregate-next-2
     next-requires
     sub-turns
     loop-less
     loop-again
+    returns
     returns-2)

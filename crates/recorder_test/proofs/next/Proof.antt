@@ -5,8 +5,8 @@ use lib.ListN.{length, length-take}
 use Rattle.recorder_test.proofs.next.Statement.{statement}
 use Rattle.recorder_test.proofs.next.Tie as tie
 
-shared-slice-read-at-most : tie.Need-shared-slice-read-at-most
-shared-slice-read-at-most c = search needs
+at-requires : tie.Need-at-requires
+at-requires c κs = search needs
 
 at-most-requires : tie.Need-at-most-requires
 at-most-requires c κs = search needs
@@ -30,7 +30,7 @@ pub next-spec : {M : Type 1} → statement M
 next-spec =
     tie.close
     (tie.spec
-    shared-slice-read-at-most
+    at-requires
     at-most-requires
     slice-relend-prefix-asked
     slice-aggregate-asked

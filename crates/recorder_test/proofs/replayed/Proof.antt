@@ -5,20 +5,20 @@ use lib.ListN.{length, length-take}
 use Rattle.recorder_test.proofs.replayed.Statement.{statement}
 use Rattle.recorder_test.proofs.replayed.Tie as tie
 
-shared-slice-read-at-most : tie.Need-shared-slice-read-at-most
-shared-slice-read-at-most c = search needs
+at-requires : tie.Need-at-requires
+at-requires c κs = search needs
 
 at-most-requires : tie.Need-at-most-requires
 at-most-requires c κs = search needs
 
-shared-slice-read-at-most-2 : tie.Need-shared-slice-read-at-most-2
-shared-slice-read-at-most-2 c = search needs
+at-requires-2 : tie.Need-at-requires-2
+at-requires-2 c κs = search needs
 
 at-most-requires-2 : tie.Need-at-most-requires-2
 at-most-requires-2 c κs = search needs
 
-shared-slice-read-at-most-3 : tie.Need-shared-slice-read-at-most-3
-shared-slice-read-at-most-3 c = search needs
+at-requires-3 : tie.Need-at-requires-3
+at-requires-3 c κs = search needs
 
 at-most-requires-3 : tie.Need-at-most-requires-3
 at-most-requires-3 c κs = search needs
@@ -54,11 +54,11 @@ pub replayed-spec : {M : Type 1} → statement M
 replayed-spec =
     tie.close
     (tie.spec
-    shared-slice-read-at-most
+    at-requires
     at-most-requires
-    shared-slice-read-at-most-2
+    at-requires-2
     at-most-requires-2
-    shared-slice-read-at-most-3
+    at-requires-3
     at-most-requires-3
     array-borrow-prefix-script
     slice-aggregate-replay-calls

@@ -5,6 +5,9 @@ use lib.ListN.{length, length-take}
 use Rattle.recorder_test.proofs.written.Statement.{statement}
 use Rattle.recorder_test.proofs.written.Tie as tie
 
+at-requires : tie.Need-at-requires
+at-requires c κs = search needs
+
 at-most-requires : tie.Need-at-most-requires
 at-most-requires c κs = search needs
 
@@ -24,6 +27,7 @@ pub written-spec : {M : Type 1} → statement M
 written-spec =
     tie.close
     (tie.spec
+    at-requires
     at-most-requires
     array-borrow-prefix-out
     slice-aggregate-write-bytes

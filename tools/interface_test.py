@@ -13,7 +13,8 @@ import sys
 
 TOP = os.path.join(os.path.dirname(os.path.abspath(__file__)), "..")
 FILES = ["include/recorder.h", "crates/exported/src/lib.rt", "host/src/ffi.rs"]
-JOB = "crates/job/src/lib.rt"
+# What the source passes on: the structs of jobs and of their answers.
+PASSED_ON = ["crates/job/src/lib.rt", "crates/answers/src/lib.rt"]
 
 # The names of the header's types in the Rattle source and in the tool.
 SOURCE_NAMES = {"Reflection": "recorder_reflection", "GridPoint": "recorder_grid_point", "Axis": "recorder_axis", "Job": "recorder_job",
@@ -130,7 +131,7 @@ def differences(header, source, ffi):
     declared = named_functions(ffi, r"\n    fn (recorder_\w+)\((.*?)\)\s*->\s*(\w+);", FFI_NAMES)
     said = [] if functions else ["no function was found"]
     said += differing("function of header and source:", functions, exported)
-    said += differing("struct of header and source:", structs, source_structs(source + without_comments(read(JOB)), structs))
+    said += differing("struct of header and source:", structs, source_structs(source, structs))
     said += differing("function of header and tool:", functions, declared)
     return said + differing("struct of header and tool:", structs, named_structs(ffi, FFI_NAMES))
 
@@ -147,6 +148,7 @@ DAMAGES = [
 
 def main():
     texts = [read(name) for name in (sys.argv[1:] or FILES)]
+    texts[1] += "".join(map(read, PASSED_ON))
     said = differences(*texts)
     for line in said:
         print(line)

@@ -3,54 +3,23 @@
 //
 // A job, an index and a point go in and come back by value; a buffer is a pointer and a length. Every answer has a number: 0, or
 // the paper's number of the refusal. What only an accepted call gives is zero in a refused one.
-use factor_file::FileAnswer;
+use answers::FactorCoded;
+use answers::FileCoded;
+use answers::JobCoded;
+use answers::PointCoded;
 use factor_file::open_file;
 use file_writer::WriteAnswer;
-use job::Answer;
-use job::Axis;
-use job::FactorAnswer;
 use job::GridPoint;
 use job::Job;
-use job::OpenAnswer;
-use job::PointAnswer;
 use job::Reflection;
 use line::LineAnswer;
 ghost use mathlib.Core.Path.{_≡_};
 ghost use Rattle.line.specs.Line.{lineStep, saidLine};
 ghost use Rattle.job.specs.Steps.{openStep, recordStep, synthesisStep, analysisStep, pointStep, factorStep};
-ghost use Rattle.job.specs.Said.{said};
 ghost use Rattle.factor_file.specs.File.{fileStep};
 ghost use Rattle.file_writer.specs.Writing.{writeStep};
-ghost use Rattle.exported.specs.Coded.{numberSaid, noJob, openCoded, fileCoded, writeCoded, recordCoded, workCoded, pointCoded, factorCoded, lineCoded};
-
-// The answer of an opening, a record, a synthesis and an analysis.
-#[repr(C)]
-pub struct JobCoded {
-    pub number: u32,
-    pub job: Job,
-}
-
-// The answers of the two readings.
-#[repr(C)]
-pub struct PointCoded {
-    pub number: u32,
-    pub density: u32,
-}
-
-#[repr(C)]
-pub struct FactorCoded {
-    pub number: u32,
-    pub a: u32,
-    pub b: u32,
-}
-
-// The answer of the opening of a file: the place is that of the refused record.
-#[repr(C)]
-pub struct FileCoded {
-    pub number: u32,
-    pub place: u32,
-    pub job: Job,
-}
+ghost use Rattle.answers.specs.Coded.{openCoded, fileCoded, recordCoded, workCoded, pointCoded, factorCoded};
+ghost use Rattle.exported.specs.Coded.{writeCoded, lineCoded};
 
 // The answer of the writer.
 #[repr(C)]
@@ -74,17 +43,7 @@ pub extern "C" fn recorder_open(
 ) -> JobCoded
     ensures { λ r. ⌜ (r, now (volume .exit)) ≡ openCoded (openStep (record { group = group; lengths = (n1, n2, n3); list1 = now (f1 .entry); list2 = now (f2 .entry); list3 = now (f3 .entry) }) kind (now (volume .entry))) ⌝ }
 {
-    let answer = job::open::open(group, kind, n1, n2, n3, f1, f2, f3, volume);
-    match answer {
-        OpenAnswer::Opened(opened) => JobCoded {
-            number: 0,
-            job: opened,
-        },
-        OpenAnswer::Refused(refusal) => JobCoded {
-            number: refusal_order::number_of(refusal),
-            job: no_job(),
-        },
-    }
+    answers::opening_coded(job::open::open(group, kind, n1, n2, n3, f1, f2, f3, volume))
 }
 
 // Opens a job by a factor file. A refused file gives a job of zeros, which every call refuses.
@@ -92,19 +51,7 @@ pub extern "C" fn recorder_open(
 pub extern "C" fn recorder_open_file(file: &[u8], volume: &mut [u32]) -> FileCoded
     ensures { λ r. ⌜ (r, now (volume .exit)) ≡ fileCoded (fileStep (now (file .entry)) (now (volume .entry))) ⌝ }
 {
-    let answer = open_file::open_file(file, volume);
-    match answer {
-        FileAnswer::Opened(opened) => FileCoded {
-            number: 0,
-            place: 0,
-            job: opened,
-        },
-        FileAnswer::Refused(refusal, place) => FileCoded {
-            number: refusal_order::number_of(refusal),
-            place,
-            job: no_job(),
-        },
-    }
+    answers::file_coded(open_file::open_file(file, volume))
 }
 
 // Writes the factor file of a job that holds factors.
@@ -133,13 +80,7 @@ pub extern "C" fn recorder_record(
 ) -> JobCoded
     ensures { λ r. ⌜ (r, now (volume .exit)) ≡ recordCoded (recordStep held at a b (now (volume .entry))) ⌝ }
 {
-    let answered = held.record(at, a, b, volume);
-    let answer = answered.answer;
-    let next = answered.job;
-    JobCoded {
-        number: answer_number(answer),
-        job: next,
-    }
+    answers::answered_coded(held.record(at, a, b, volume))
 }
 
 // From factors to the map.
@@ -147,13 +88,7 @@ pub extern "C" fn recorder_record(
 pub extern "C" fn recorder_synthesis(held: Job, volume: &mut [u32], scratch: &mut [u32]) -> JobCoded
     ensures { λ r. ⌜ (r, now (volume .exit), now (scratch .exit)) ≡ workCoded (synthesisStep held (now (volume .entry)) (now (scratch .entry))) ⌝ }
 {
-    let answered = held.synthesis(volume, scratch);
-    let answer = answered.answer;
-    let next = answered.job;
-    JobCoded {
-        number: answer_number(answer),
-        job: next,
-    }
+    answers::answered_coded(held.synthesis(volume, scratch))
 }
 
 // From the map to its factors.
@@ -161,13 +96,7 @@ pub extern "C" fn recorder_synthesis(held: Job, volume: &mut [u32], scratch: &mu
 pub extern "C" fn recorder_analysis(held: Job, volume: &mut [u32], scratch: &mut [u32]) -> JobCoded
     ensures { λ r. ⌜ (r, now (volume .exit), now (scratch .exit)) ≡ workCoded (analysisStep held (now (volume .entry)) (now (scratch .entry))) ⌝ }
 {
-    let answered = held.analysis(volume, scratch);
-    let answer = answered.answer;
-    let next = answered.job;
-    JobCoded {
-        number: answer_number(answer),
-        job: next,
-    }
+    answers::answered_coded(held.analysis(volume, scratch))
 }
 
 // Reads a point of the map.
@@ -175,14 +104,7 @@ pub extern "C" fn recorder_analysis(held: Job, volume: &mut [u32], scratch: &mut
 pub extern "C" fn recorder_point(held: Job, at: GridPoint, volume: &[u32]) -> PointCoded
     ensures { λ r. ⌜ r ≡ pointCoded (pointStep held at (now (volume .entry)) .answer) ⌝ }
 {
-    let answer = held.point(at, volume);
-    match answer {
-        PointAnswer::Density(density) => PointCoded { number: 0, density },
-        PointAnswer::Refused(refusal) => PointCoded {
-            number: refusal_order::number_of(refusal),
-            density: 0,
-        },
-    }
+    answers::point_coded(held.point(at, volume))
 }
 
 // Reads a structure factor.
@@ -190,15 +112,7 @@ pub extern "C" fn recorder_point(held: Job, at: GridPoint, volume: &[u32]) -> Po
 pub extern "C" fn recorder_factor(held: Job, at: Reflection, volume: &[u32]) -> FactorCoded
     ensures { λ r. ⌜ r ≡ factorCoded (factorStep held at (now (volume .entry)) .answer) ⌝ }
 {
-    let answer = held.factor(at, volume);
-    match answer {
-        FactorAnswer::Factor(a, b) => FactorCoded { number: 0, a, b },
-        FactorAnswer::Refused(refusal) => FactorCoded {
-            number: refusal_order::number_of(refusal),
-            a: 0,
-            b: 0,
-        },
-    }
+    answers::factor_coded(held.factor(at, volume))
 }
 
 // Transforms one line.
@@ -216,42 +130,11 @@ pub extern "C" fn recorder_line(
     line_number(line::line(kind, direction, length, factors, line, scratch))
 }
 
-// The number of what a call of a job says.
-fn answer_number(answer: Answer) -> u32
-    ensures { λ n. ⌜ n ≡ numberSaid (said answer) ⌝ }
-{
-    match answer {
-        Answer::Done => 0,
-        Answer::Refused(refusal) => refusal_order::number_of(refusal),
-    }
-}
-
 fn line_number(answer: LineAnswer) -> u32
     ensures { λ n. ⌜ n ≡ saidLine answer ⌝ }
 {
     match answer {
         LineAnswer::Transformed => 0,
         LineAnswer::Refused(refusal) => refusal_order::number_of(refusal),
-    }
-}
-
-fn no_job() -> Job
-    ensures { λ r. ⌜ r ≡ noJob ⌝ }
-{
-    Job {
-        group: 0,
-        a: Axis {
-            length: 0,
-            factors: 0,
-        },
-        b: Axis {
-            length: 0,
-            factors: 0,
-        },
-        c: Axis {
-            length: 0,
-            factors: 0,
-        },
-        state: 0,
     }
 }

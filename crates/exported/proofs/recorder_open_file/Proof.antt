@@ -1,46 +1,20 @@
 -- What the public call answers and leaves, coded.
 use borrow.Author.Needs.{needs}
-use Rattle.exported.proofs.Coding.{file-opened-coded, file-refused-coded}
+use Rattle.exported.proofs.Coding.{file-coded}
 use Rattle.exported.proofs.recorder_open_file.Statement.{statement}
 use Rattle.exported.proofs.recorder_open_file.Tie as tie
 
 open-file-requires : tie.Need-open-file-requires
 open-file-requires c κs = search needs
 
-enum-known-answer : tie.Need-enum-known-answer
-enum-known-answer c = search needs
-
-enum-known-answer-2 : tie.Need-enum-known-answer-2
-enum-known-answer-2 c = search needs
-
-number-of-requires : tie.Need-number-of-requires
-number-of-requires c κs = search needs
-
-no-job-requires : tie.Need-no-job-requires
-no-job-requires c κs = search needs
+file-coded-requires : tie.Need-file-coded-requires
+file-coded-requires c κs = search needs
 
 same-length : tie.Need-same-length
 same-length c = search needs
 
 returns : tie.Need-returns
-returns c = file-opened-coded _ _ _ (c .before .before .before .before .before .open-file .ensures) _ (c .before .answer .given .1)
-
-same-length-2 : tie.Need-same-length-2
-same-length-2 c = search needs
-
-returns-2 : tie.Need-returns-2
-returns-2 c = file-refused-coded _ _ _ (c .before .before .before .before .before .before .before .open-file .ensures) _ _ _ _ (c .before .before .before .answer2 .given .1) (c .before .number-of .ensures) (c .no-job .ensures)
+returns c = let w = c .before .before .before .open-file in file-coded (w .result) _ _ _ (c .file-coded .ensures) (w .ensures)
 
 pub recorder-open-file-spec : {M : Type 1} → statement M
-recorder-open-file-spec =
-    tie.close
-    (tie.spec
-    open-file-requires
-    enum-known-answer
-    enum-known-answer-2
-    number-of-requires
-    no-job-requires
-    same-length
-    returns
-    same-length-2
-    returns-2)
+recorder-open-file-spec = tie.close (tie.spec open-file-requires file-coded-requires same-length returns)

@@ -1,34 +1,17 @@
--- What the public call answers, coded.
+-- What the public call answers and leaves, coded.
 use borrow.Author.Needs.{needs}
-use Rattle.exported.proofs.Coding.{density-coded, unread-point-coded}
+use Rattle.exported.proofs.Coding.{point-coded}
 use Rattle.exported.proofs.recorder_point.Statement.{statement}
 use Rattle.exported.proofs.recorder_point.Tie as tie
 
 point-requires : tie.Need-point-requires
 point-requires c κs = search needs
 
-enum-known-answer : tie.Need-enum-known-answer
-enum-known-answer c = search needs
-
-enum-known-answer-2 : tie.Need-enum-known-answer-2
-enum-known-answer-2 c = search needs
-
-number-of-requires : tie.Need-number-of-requires
-number-of-requires c κs = search needs
+point-coded-requires : tie.Need-point-coded-requires
+point-coded-requires c κs = search needs
 
 returns : tie.Need-returns
-returns c = density-coded _ _ (c .before .before .before .point .ensures) _ (c .before .answer .given .1)
-
-returns-2 : tie.Need-returns-2
-returns-2 c = unread-point-coded _ _ (c .before .before .before .before .point .ensures) _ _ (c .before .before .answer2 .given .1) (c .number-of .ensures)
+returns c = let w = c .before .point in point-coded (w .result) _ _ (c .point-coded .ensures) (w .ensures)
 
 pub recorder-point-spec : {M : Type 1} → statement M
-recorder-point-spec =
-    tie.close
-    (tie.spec
-    point-requires
-    enum-known-answer
-    enum-known-answer-2
-    number-of-requires
-    returns
-    returns-2)
+recorder-point-spec = tie.close (tie.spec point-requires point-coded-requires returns)

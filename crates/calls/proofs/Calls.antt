@@ -1,9 +1,9 @@
 -- One call of a script, from what the job's own call answered and left.
 use mathlib.Core.Path.{_≡_, refl, _∙_, sym, ap}
 use mathlib.Core.List.{List}
-use Prim.Native.Nat.{ℕ, zero, suc, _+_, _*_, _≤_}
+use Prim.Native.Nat.{ℕ, zero, suc, _≤_}
 use native.Mathlib.Omega.{arith}
-use lib.ListN.{length, getD}
+use lib.ListN.{length}
 use Rattle.refusal_order.specs.Tests.{first, accepted}
 use Rattle.lengths.specs.Lengths.{cleared}
 use Rattle.job.specs.declared.Answered.{Answered}
@@ -13,10 +13,10 @@ use Rattle.job.specs.declared.GridPoint.{GridPoint}
 use Rattle.job.specs.Header.{withState, factorsHeld, mapHeld}
 use Rattle.job.specs.Steps.{Said, done, Outcome, Worked, unchanged, position, index, recordStep, synthesisTests, synthesised, synthesisStep, analysisTests, analysed, analysisStep, pointTests, pointStep, factorTests, factorStep}
 use Rattle.job.specs.Said.{said, outcome, worked}
-use Rattle.model.specs.Model.{Call, recording, synthesis, analysis, readPoint, readFactor}
-use Rattle.model.specs.Calls.{step}
+use Rattle.scripts.specs.declared.CallNumbers.{CallNumbers}
+use Rattle.scripts.specs.Call.{Call, recording, synthesis, analysis, readPoint, readFactor, step, callOf, callAt, numbersAt, callSaid, answerNumbers, clearedIfDone, scratchLeft, replyNumbers, callStep}
 use Rattle.calls.specs.declared.Called.{Called}
-use Rattle.calls.specs.Call.{callOf, callAt, answerNumbers, clearedIfDone, scratchLeft, replyNumbers, callOutcome, callStep}
+use Rattle.calls.specs.Call.{callOutcome}
 
 -- ---- what an operation's number stands for
 
@@ -36,14 +36,18 @@ four-on (suc (suc zero)) p q r t = absurd (r refl)
 four-on (suc (suc (suc zero))) p q r t = absurd (t refl)
 four-on (suc (suc (suc (suc o)))) p q r t = omega arith
 
-module _ (s script : List ℕ) (i : ℕ) where
-  pub is-synthesis : getD script (6 * i) 0 ≡ 1 → synthesis s ≡ callAt s script i
+module _ (s : List ℕ) (n : CallNumbers) where
+  pub is-synthesis : n .operation ≡ 1 → synthesis s ≡ callSaid s n
   unfolding callOf
   is-synthesis z = rw z refl
 
-  pub is-analysis : getD script (6 * i) 0 ≡ 2 → analysis s ≡ callAt s script i
+  pub is-analysis : n .operation ≡ 2 → analysis s ≡ callSaid s n
   unfolding callOf
   is-analysis z = rw z refl
+
+-- a call by its numbers is the script's
+pub call-in-script : (j : Job) (v s script : List ℕ) (i : ℕ) (n : CallNumbers) → n ≡ numbersAt script i → callStep j v s (callSaid s n) ≡ callStep j v s (callAt s script i)
+call-in-script j v s script i n e = ap (λ (m : CallNumbers). callStep j v s (callSaid s m)) e
 
 -- ---- a reading leaves job and volume
 
@@ -125,12 +129,11 @@ module _ (j : Job) (v : List ℕ) (r : Called) where
       λ i. record { reply = p i; job = d i; volume = e i .volume; scratch = t i }
 
   module _ (a : Answered) (v′ : List ℕ) (says : replyNumbers (r .reply) ≡ answerNumbers (said (a .answer))) (goes : r .job ≡ a .job) where
-    pub call-record : (s script : List ℕ) (i : ℕ) {k : Reflection} → getD script (6 * i) 0 ≡ 0 → k ≡ record { 0 = getD script (6 * i + 1) 0; 1 = getD script (6 * i + 2) 0; 2 = getD script (6 * i + 3) 0 } →
-        outcome a v′ ≡ recordStep j k (getD script (6 * i + 4) 0) (getD script (6 * i + 5) 0) v → callOutcome r v′ s ≡ callStep j v s (callAt s script i)
+    pub call-record : (s : List ℕ) (n : CallNumbers) → n .operation ≡ 0 → outcome a v′ ≡ recordStep j (record { 0 = n .h; 1 = n .k; 2 = n .l }) (n .x) (n .y) v → callOutcome r v′ s ≡ callStep j v s (callSaid s n)
     unfolding callOf
-    call-record s script i {k} z d e =
-        of-outcome (outcome a v′) (recording k (getD script (6 * i + 4) 0) (getD script (6 * i + 5) 0)) s s e says goes refl
-        ∙ rw (z, d) refl
+    call-record s n z e =
+        of-outcome (outcome a v′) (recording (record { 0 = n .h; 1 = n .k; 2 = n .l }) (n .x) (n .y)) s s e says goes refl
+        ∙ rw z refl
 
     pub call-synthesis : (s s′ : List ℕ) → worked a v′ s′ ≡ synthesisStep j v s → callOutcome r v′ s′ ≡ callStep j v s (synthesis s)
     call-synthesis s s′ e = of-outcome (outcome a v′) (synthesis s) s s′ (ap (λ (w : Worked). w .outcome) e) says goes (ap (λ (w : Worked). w .scratch) e ∙ synthesis-scratch j v s)
@@ -138,14 +141,16 @@ module _ (j : Job) (v : List ℕ) (r : Called) where
     pub call-analysis : (s s′ : List ℕ) → worked a v′ s′ ≡ analysisStep j v s → callOutcome r v′ s′ ≡ callStep j v s (analysis s)
     call-analysis s s′ e = of-outcome (outcome a v′) (analysis s) s s′ (ap (λ (w : Worked). w .outcome) e) says goes (ap (λ (w : Worked). w .scratch) e ∙ analysis-scratch j v s)
 
-  module _ (a : Said) (says : replyNumbers (r .reply) ≡ answerNumbers a) (goes : r .job ≡ j) (s script : List ℕ) (i : ℕ) where
-    pub call-point : {x : GridPoint} → getD script (6 * i) 0 ≡ 3 → x ≡ record { 0 = getD script (6 * i + 1) 0; 1 = getD script (6 * i + 2) 0; 2 = getD script (6 * i + 3) 0 } → a ≡ pointStep j x v .answer → callOutcome r v s ≡ callStep j v s (callAt s script i)
+  module _ (a : Said) (says : replyNumbers (r .reply) ≡ answerNumbers a) (goes : r .job ≡ j) (s : List ℕ) (n : CallNumbers) where
+    pub call-point : n .operation ≡ 3 → a ≡ pointStep j (record { 0 = n .h; 1 = n .k; 2 = n .l }) v .answer → callOutcome r v s ≡ callStep j v s (callSaid s n)
     unfolding callOf
-    call-point {x} z d e =
+    call-point z e =
+        let x : GridPoint = record { 0 = n .h; 1 = n .k; 2 = n .l } in
         of-outcome (reading a j v) (readPoint x) s s (ap (λ (b : Said). reading b j v) e ∙ point-keeps j v x) says goes refl
-        ∙ rw (z, d) refl
+        ∙ rw z refl
 
-    pub call-factor : {k : Reflection} → 4 ≤ getD script (6 * i) 0 → k ≡ record { 0 = getD script (6 * i + 1) 0; 1 = getD script (6 * i + 2) 0; 2 = getD script (6 * i + 3) 0 } → a ≡ factorStep j k v .answer → callOutcome r v s ≡ callStep j v s (callAt s script i)
-    call-factor {k} z d e =
+    pub call-factor : 4 ≤ n .operation → a ≡ factorStep j (record { 0 = n .h; 1 = n .k; 2 = n .l }) v .answer → callOutcome r v s ≡ callStep j v s (callSaid s n)
+    call-factor z e =
+        let k : Reflection = record { 0 = n .h; 1 = n .k; 2 = n .l } in
         of-outcome (reading a j v) (readFactor k) s s (ap (λ (b : Said). reading b j v) e ∙ factor-keeps j v k) says goes refl
-        ∙ ap (callStep j v s) (ap readFactor d ∙ sym (call-other s _ _ _ _ _ _ z))
+        ∙ ap (callStep j v s) (sym (call-other s _ _ _ _ _ _ z))

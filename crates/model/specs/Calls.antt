@@ -2,11 +2,11 @@
 use mathlib.Core.List.{List, [], _∷_}
 use Prim.Native.Nat.{ℕ}
 use Rattle.job.specs.declared.Job.{Job}
-use Rattle.job.specs.declared.Reflection.{Reflection}
 use Rattle.job.specs.Header.{Header}
-use Rattle.job.specs.Steps.{Said, done, density, factor, refused, OpenOutcome, openStep, Outcome, recordStep, synthesisStep, analysisStep, pointStep, factorStep}
+use Rattle.job.specs.Steps.{Said, done, density, factor, refused, OpenOutcome, openStep}
 use Rattle.file_shape.specs.declared.FileRecord.{FileRecord}
 use Rattle.factor_file.specs.File.{headerIn, recordsIn, fileStep}
+pub use Rattle.scripts.specs.Call.{step}
 use Rattle.model.specs.Model.{Model, Call, recording, synthesis, analysis, readPoint, readFactor, modelSaid, modelAfter, modelVolume, modelJob, Beginning, openingModel, modelOpen, modelFile}
 
 -- ---- how a job begins: an opening or a file, each with the volume that it is lent
@@ -45,13 +45,6 @@ abbrev pub firstModel : Start → Model
 firstModel s = openingModel (startHeader s) (startKind s) (startVolume s)
 
 -- ---- a list of calls; each is handed the job and the volume that the one before left
-
-abbrev pub step : Job → List ℕ → Call → Outcome
-step j v (recording k x y) = recordStep j k x y v
-step j v (synthesis scratch) = synthesisStep j v scratch .outcome
-step j v (analysis scratch) = analysisStep j v scratch .outcome
-step j v (readPoint x) = pointStep j x v
-step j v (readFactor k) = factorStep j k v
 
 pub record Ran : Type 0 where
   pub answers : List Said

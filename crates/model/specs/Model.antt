@@ -13,12 +13,11 @@ use Rattle.cell.specs.Volume.{groupOf, packFactors, mapIn, packMap}
 use Rattle.cell.specs.Consistency.{sameValue, recordIn, agreesWithItself}
 use Rattle.cell.specs.Sums.{mapOf, factorsOf}
 use Rattle.job.specs.declared.Job.{Job}
-use Rattle.job.specs.declared.Reflection.{Reflection}
-use Rattle.job.specs.declared.GridPoint.{GridPoint}
 use Rattle.job.specs.Header.{Header, halvesOf, axisTests, collecting, factorsHeld, mapHeld, jobOf}
 use Rattle.job.specs.Steps.{p, within, index, position, Said, done, density, factor, refused}
 use Rattle.file_shape.specs.declared.FileRecord.{FileRecord}
 use Rattle.factor_file.specs.File.{indexOf, headerIn, recordsIn, shapeTests}
+pub use Rattle.scripts.specs.Call.{Call, recording, synthesis, analysis, readPoint, readFactor}
 
 -- The header is the opening's. The model uses its group and its lengths; the factor lists are in the job that is given back.
 -- F is meant below the lengths: an image goes round the cell, and a call that names an index beyond it is refused.
@@ -41,14 +40,6 @@ abbrev pub densityOf : Model → J → Value 1
 densityOf m x = at (mapOf 1 (half m) (m .F)) x
 
 -- ---- calls
-
--- A call's arguments. Synthesis and analysis are lent a scratch.
-pub data Call : Type 0 where
-  recording : Reflection → (x y : ℕ) → Call
-  synthesis : (scratch : List ℕ) → Call
-  analysis : (scratch : List ℕ) → Call
-  readPoint : GridPoint → Call
-  readFactor : Reflection → Call
 
 -- The refusals of a call, in the paper's order. Faults of job or volume (25, 6, 14, and 7 in the volume) do not arise.
 abbrev pub modelTests : Model → Call → List Test

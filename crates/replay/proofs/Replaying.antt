@@ -8,9 +8,9 @@ use lib.ListN.{length, take, drop, take-append-drop}
 use Rattle.job.specs.declared.Job.{Job}
 use Rattle.job.specs.Steps.{Said, done, density, factor, refused}
 use Rattle.model.specs.Calls.{step, run}
-use Rattle.calls.specs.Call.{callAt, answerNumbers, scratchLeft, CallOutcome, callStep}
+use Rattle.scripts.specs.Call.{callAt, answerNumbers, scratchLeft, CallOutcome, callStep}
 use Rattle.calls.proofs.Calls.{call-by-length}
-use Rattle.calls.proofs.Placed.{placed, take-placed, drop-placed}
+use Rattle.scripts.proofs.Placed.{placed, take-placed, drop-placed}
 use Rattle.replay.specs.Script.{calls, allNumbers, scratchAfter, ReplayOutcome, callCount, ended, replayStep}
 
 -- ---- an answer among the others

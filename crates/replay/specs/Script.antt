@@ -1,4 +1,4 @@
--- A script of calls as numbers, and what replaying it on a job and a volume answers and leaves. A call and its answer as numbers are those of the crate `calls`.
+-- A script of calls as numbers, and what replaying it on a job and a volume answers and leaves. A call and its answer as numbers are those of the crate `scripts`.
 use mathlib.Core.List.{List, [], _∷_, _++_}
 use Prim.Native.Nat.{ℕ, zero, suc, _+_, _*_, _/_, min}
 use lib.ListN.{length, drop}
@@ -6,7 +6,7 @@ use Rattle.job.specs.declared.Job.{Job}
 use Rattle.job.specs.Steps.{Said}
 use Rattle.model.specs.Model.{Model, Call}
 use Rattle.model.specs.Calls.{Ran, run, modelRan}
-use Rattle.calls.specs.Call.{callAt, answerNumbers, scratchLeft}
+use Rattle.scripts.specs.Call.{callAt, answerNumbers, scratchLeft}
 use Rattle.replay.specs.declared.Replayed.{Replayed}
 
 -- ---- calls

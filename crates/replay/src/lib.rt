@@ -41,7 +41,7 @@ pub fn replay(
     let mut i: usize = 0;
     while i < count {
         let called = calls::call_at(held, script, i, volume, scratch);
-        calls::replies::write_reply(answers, i, called.reply);
+        scripts::write_reply(answers, i, called.reply);
         held = called.job;
         i += 1;
     }

@@ -1,4 +1,4 @@
--- The job's own reading at the numbers of the script, its answer said as numbers.
+-- The job's own reading at the numbers, its answer said as numbers.
 use mathlib.Core.Path.{refl}
 use denote.Ref.{now}
 use Rattle.job.specs.Said.{saidFactor}
@@ -6,9 +6,6 @@ use Rattle.calls.proofs.Calls.{call-factor}
 use borrow.Author.Needs.{needs}
 use Rattle.calls.proofs.operations.factor_call.Statement.{statement}
 use Rattle.calls.proofs.operations.factor_call.Tie as tie
-
-reflection-at-requires : tie.Need-reflection-at-requires
-reflection-at-requires c κs = search needs
 
 factor-requires : tie.Need-factor-requires
 factor-requires c κs = search needs
@@ -19,9 +16,9 @@ factor-reply-requires c κs = search needs
 returns : tie.Need-returns
 returns c =
     let w = c .before .factor in
-    let a = c .before .before .before .before .before .args in
-    λ s. call-factor (a .job) (now (a .volume)) (record { reply = c .factor-reply .result; job = a .job }) (saidFactor (w .result)) (c .factor-reply .ensures) refl s (now (a .script)) (a .i) (c .before .before .before .before .before .pre .1) (c .before .before .reflection-at .ensures) (w .ensures)
+    let b = c .before .before .before in
+    let a = b .args in
+    λ s. call-factor (a .job) (now (a .volume)) (record { reply = c .factor-reply .result; job = a .job }) (saidFactor (w .result)) (c .factor-reply .ensures) refl s (a .n) (b .pre) (w .ensures)
 
 pub factor-call-spec : {M : Type 1} → statement M
-factor-call-spec =
-    tie.close (tie.spec reflection-at-requires factor-requires factor-reply-requires returns)
+factor-call-spec = tie.close (tie.spec factor-requires factor-reply-requires returns)

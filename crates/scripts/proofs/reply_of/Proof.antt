@@ -3,9 +3,9 @@ use borrow.Author.Needs.{needs}
 use mathlib.Core.Path.{sym, ap, _∙_}
 use Rattle.job.specs.declared.Answer.{Answer}
 use Rattle.job.specs.Said.{said}
-use Rattle.calls.specs.Call.{answerNumbers}
-use Rattle.calls.proofs.replies.reply_of.Statement.{statement}
-use Rattle.calls.proofs.replies.reply_of.Tie as tie
+use Rattle.scripts.specs.Call.{answerNumbers}
+use Rattle.scripts.proofs.reply_of.Statement.{statement}
+use Rattle.scripts.proofs.reply_of.Tie as tie
 
 enum-told : tie.Need-enum-told
 enum-told c = search needs

@@ -1,5 +1,4 @@
-// An answer as three numbers, and where they go.
-use crate::Reply;
+// A call of a script and its answer as numbers: the six numbers of a call, an answer as three numbers, and where they go.
 use job::Answer;
 use job::FactorAnswer;
 use job::PointAnswer;
@@ -11,7 +10,46 @@ ghost use lib.ListN.{length, take, drop};
 ghost use Rattle.refusal_order.specs.Refusals.{numberOf};
 ghost use Rattle.job.specs.Steps.{refused};
 ghost use Rattle.job.specs.Said.{said, saidPoint, saidFactor};
-ghost use Rattle.calls.specs.Call.{answerNumbers, replyNumbers};
+ghost use Rattle.scripts.specs.Call.{numbersAt, answerNumbers, replyNumbers};
+
+// A call as numbers: its operation, three of an index or a point, two of a value.
+pub struct CallNumbers {
+    pub operation: u32,
+    pub h: u32,
+    pub k: u32,
+    pub l: u32,
+    pub x: u32,
+    pub y: u32,
+}
+
+// An answer as numbers: the refusal's number or 0, then the density and 0, or the two numbers of the factor, or twice 0.
+pub struct Reply {
+    pub number: u32,
+    pub x: u32,
+    pub y: u32,
+}
+
+// The numbers of call i.
+pub fn numbers_at(script: &[u32], i: usize) -> CallNumbers
+    requires { ⌜ 6 * i + 6 ≤ length (now script) ⌝ }
+    ensures { λ r. ⌜ r ≡ numbersAt (now (script .entry)) i ⌝ }
+{
+    let at = 6 * i;
+    let operation = script[at];
+    let h = script[at + 1];
+    let k = script[at + 2];
+    let l = script[at + 3];
+    let x = script[at + 4];
+    let y = script[at + 5];
+    CallNumbers {
+        operation,
+        h,
+        k,
+        l,
+        x,
+        y,
+    }
+}
 
 fn refusal_reply(refusal: Refusal) -> Reply
     ensures { λ r. ⌜ replyNumbers r ≡ answerNumbers (refused (numberOf refusal)) ⌝ }

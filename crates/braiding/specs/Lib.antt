@@ -1,1 +1,2 @@
 pub mod Braiding
+pub mod Hermitian

@@ -22,7 +22,7 @@ use Rattle.braids.specs.Braids.{crossed}
 use Rattle.braids.proofs.Forms.{unbraidOf}
 use Rattle.braiding.specs.Braiding.{straightened, turnedBack}
 use Rattle.braiding.proofs.Forms.{foldOf, backOf}
-use Rattle.hermitian.specs.Hermitian.{kindOf}
+use Rattle.braiding.specs.Hermitian.{kindOf}
 
 -- ---- the fold of the kind, as the two passes make it
 

@@ -12,7 +12,7 @@ ghost use Rattle.slices.specs.Pairs.{Below};
 ghost use Rattle.slices.specs.Values.{valuesOf, listOf};
 ghost use Rattle.factors.specs.Factors.{Factored};
 ghost use Rattle.folds.specs.Frame.{lineRoot, Frame};
-ghost use Rattle.hermitian.specs.Hermitian.{kindOf};
+ghost use Rattle.braiding.specs.Hermitian.{kindOf};
 
 // The transform of a packed line of either kind, antihermitian where `anti` says so. `braided` and `work` are lent for the work.
 pub fn forward<'a>(

@@ -16,7 +16,7 @@ use Rattle.numbers.proofs.Residues.{res-by}
 use Rattle.slices.specs.Values.{valuesOf, listOf}
 use Rattle.factors.specs.Factors.{Factored}
 use Rattle.folds.specs.Frame.{Frame, lineRoot, tangent}
-use Rattle.hermitian.specs.Hermitian.{kindOf as hermitianKind}
+use Rattle.braiding.specs.Hermitian.{kindOf as hermitianKind}
 use Rattle.pairing.specs.Pairing.{mirrored}
 use Rattle.lengths.specs.Counts.{kindOf, pairCount}
 use Rattle.kinds.specs.Transform.{transformed}

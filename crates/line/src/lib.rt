@@ -79,11 +79,11 @@ fn transform_line(
     let mut work = [0u32; 5760];
     let fold = &mut scratch[..5760];
     if direction == 0 {
-        kinds::forward(m, kind, &re, &im, &tan, factors, a, line, fold, &mut work);
+        forward_lines::forward(m, kind, &re, &im, &tan, factors, a, line, fold, &mut work);
     } else {
         root::negate(m, &mut im);
         root::negate(m, &mut tan);
-        kinds::inverse(m, kind, &re, &im, &tan, factors, a, line, fold, &mut work);
+        inverse_lines::inverse(m, kind, &re, &im, &tan, factors, a, line, fold, &mut work);
     }
 }
 

@@ -51,7 +51,7 @@ pub fn turn_packed<'a>(
     ensures { λ _. ⌜ now (packed .exit) ≡ turnedPacked line (now (packed .entry)) ⌝ }
 {
     if line.direction == 0 {
-        kinds::forward(
+        forward_lines::forward(
             m,
             line.kind,
             re,
@@ -64,7 +64,7 @@ pub fn turn_packed<'a>(
             work,
         );
     } else {
-        kinds::inverse(
+        inverse_lines::inverse(
             m,
             line.kind,
             re,

@@ -1,14 +1,14 @@
--- `unfolded`: the kind's number tells the kind, whose fold backwards is the inverse transform.
+-- `folded`: the kind's number tells the kind, whose fold is the transform.
 use native.Mathlib.Omega.{arith}
 use mathlib.Core.Path.{_≡_, ap}
-use Rattle.algebra.specs.Ring.{Ops}
-use Rattle.numbers.specs.Value.{field}
+use Prim.Native.Nat.{_*_}
+use Rattle.numbers.specs.Value.{real, part}
 use Rattle.factors.specs.Factors.{Factored}
 use Rattle.folds.specs.Frame.{Frame, tangent}
 use Rattle.lengths.specs.Counts.{kindOf}
-use Rattle.kinds.proofs.Dispatch.{hermitian-kind, mirror-kind, frame-of, half-list, half-count, count-of, back-by, back-share-by}
-use Rattle.kinds.proofs.unfolded.Statement.{statement}
-use Rattle.kinds.proofs.unfolded.Tie as tie
+use Rattle.kinds.proofs.Dispatch.{hermitian-kind, mirror-kind, frame-of, half-list, half-count, count-of, forward-by}
+use Rattle.forward_lines.proofs.folded.Statement.{statement}
+use Rattle.forward_lines.proofs.folded.Tie as tie
 
 frame : (s : tie.Start) → Frame (s .args .m) (s .args .a) (s .args .re .now) (s .args .im .now)
 frame s = frame-of (s .args .a) (s .pre .1 .0 .0) (s .pre .0 .0) (s .pre .0 .3 .powers)
@@ -16,13 +16,13 @@ frame s = frame-of (s .args .a) (s .pre .1 .0 .0) (s .pre .0 .0) (s .pre .0 .3 .
 list : (s : tie.Start) → Factored (s .args .factors) (s .args .a)
 list s = half-list (s .args .a) (s .pre .1 .0 .0) (s .pre .1 .0 .1)
 
-inverse-requires : tie.Need-inverse-requires
-inverse-requires c κs =
+forward-requires : tie.Need-forward-requires
+forward-requires c κs =
     let s = c .before .before .before .before .before .before .before in
     ((frame s, list s), ((half-count (s .args .a) (s .pre .1 .0 .0) (s .args .kind) (s .pre .0 .1) (omega arith) (s .pre .1 .1 .0 .0), s .pre .1 .1 .1 .0, s .pre .1 .1 .1 .1), s .pre .1 .1 .0 .1))
 
-inverse-requires-2 : tie.Need-inverse-requires-2
-inverse-requires-2 c κs =
+forward-requires-2 : tie.Need-forward-requires-2
+forward-requires-2 c κs =
     let s = c .before .before .before .before .before .before .before .before in
     ((frame s, s .pre .0 .3 .small, list s), ((half-count (s .args .a) (s .pre .1 .0 .0) (s .args .kind) (s .pre .0 .1) (omega arith) (s .pre .1 .1 .0 .0), s .pre .1 .1 .0 .1), (s .pre .1 .1 .1 .0, s .pre .1 .1 .1 .1)))
 
@@ -32,19 +32,10 @@ sub-first c = omega arith
 cast-first : tie.Need-cast-first
 cast-first c = omega arith
 
-mul-reciprocal : tie.Need-mul-reciprocal
-mul-reciprocal c = omega (arith, c .before .before .before .before .before .pre .1 .0 .0 .short)
-
-cast-reciprocal : tie.Need-cast-reciprocal
-cast-reciprocal c = omega (arith, c .before .before .before .before .before .pre .1 .0 .0 .short)
-
-reciprocal-requires : tie.Need-reciprocal-requires
-reciprocal-requires c κs = let s = c .before .before .before .before .before in (s .pre .0 .0, omega (arith, s .pre .1 .0 .0 .positive))
-
-inverse-requires-3 : tie.Need-inverse-requires-3
-inverse-requires-3 c κs =
-    let s = c .before .before .before .before .before .before .before .before .before in
-    ((frame s, s .pre .0 .3 .small, list s, omega arith, c .before .before .before .reciprocal .ensures .1), ((count-of (s .args .a) (s .pre .1 .0 .0) (s .args .kind) (mirror-kind (s .args .kind) (omega arith) (s .pre .0 .2)) (s .pre .1 .1 .0 .0), s .pre .1 .1 .1 .0, s .pre .1 .1 .1 .1), s .pre .1 .1 .0 .1))
+forward-requires-3 : tie.Need-forward-requires-3
+forward-requires-3 c κs =
+    let s = c .before .before .before .before .before .before .before .before in
+    ((frame s, s .pre .0 .3 .small, list s, omega arith), ((count-of (s .args .a) (s .pre .1 .0 .0) (s .args .kind) (mirror-kind (s .args .kind) (omega arith) (s .pre .0 .2)) (s .pre .1 .1 .0 .0), s .pre .1 .1 .1 .0, s .pre .1 .1 .1 .1), s .pre .1 .1 .0 .1))
 
 same-length : tie.Need-same-length
 same-length c = c .before .before .before .before .before .line .given
@@ -59,7 +50,7 @@ returns : tie.Need-returns
 returns c =
     let r = c .before .before .before .before .before .before in
     let s = r .before .before .before .before .before .before .before .before in
-    back-by (s .args .a) (s .pre .1 .0 .0) (s .args .m) (s .pre .0 .0) (s .args .kind) (hermitian-kind (s .args .kind) (s .pre .0 .1) (omega arith)) (s .args .line .now) (s .pre .0 .3) (r .inverse .ensures (λ k. field (s .args .m) .neg (tangent (s .args .m) (s .args .a) (s .args .tan .now) k)))
+    forward-by (s .args .a) (s .pre .1 .0 .0) (s .args .m) (s .pre .0 .0) (s .args .kind) (hermitian-kind (s .args .kind) (s .pre .0 .1) (omega arith)) (s .args .line .now) (s .pre .0 .3) (r .forward .ensures (real (s .args .m) (part (s .args .m) (2 * s .args .a))) (tangent (s .args .m) (s .args .a) (s .args .tan .now)))
 
 same-length-4 : tie.Need-same-length-4
 same-length-4 c = c .before .before .before .before .before .line2 .given
@@ -75,7 +66,7 @@ returns-2 c =
     let r = c .before .before .before .before .before .before in
     let s = r .before .before .before .before .before .before .before .before .before in
     let e : s .args .kind ≡ 3 = omega arith in
-    back-by (s .args .a) (s .pre .1 .0 .0) (s .args .m) (s .pre .0 .0) (s .args .kind) (ap kindOf e) (s .args .line .now) (s .pre .0 .3) (r .inverse2 .ensures)
+    forward-by (s .args .a) (s .pre .1 .0 .0) (s .args .m) (s .pre .0 .0) (s .args .kind) (ap kindOf e) (s .args .line .now) (s .pre .0 .3) (r .forward2 .ensures)
 
 same-length-7 : tie.Need-same-length-7
 same-length-7 c = c .before .before .before .before .before .line3 .given
@@ -89,21 +80,18 @@ same-length-9 c = c .before .work3 .given
 returns-3 : tie.Need-returns-3
 returns-3 c =
     let r = c .before .before .before .before .before .before in
-    let s = r .before .before .before .before .before .before .before .before .before .before in
-    back-share-by (s .args .a) (s .pre .1 .0 .0) (s .args .m) (s .pre .0 .0) (s .args .kind) (mirror-kind (s .args .kind) (omega arith) (s .pre .0 .2)) (s .args .line .now) (s .pre .0 .3) (r .before .before .before .before .reciprocal .ensures .0) (r .inverse3 .ensures)
+    let s = r .before .before .before .before .before .before .before .before .before in
+    forward-by (s .args .a) (s .pre .1 .0 .0) (s .args .m) (s .pre .0 .0) (s .args .kind) (mirror-kind (s .args .kind) (omega arith) (s .pre .0 .2)) (s .args .line .now) (s .pre .0 .3) (r .forward3 .ensures (real (s .args .m) (part (s .args .m) (2 * s .args .a))))
 
-pub unfolded-spec : {M : Type 1} → statement M
-unfolded-spec =
+pub folded-spec : {M : Type 1} → statement M
+folded-spec =
     tie.close
     (tie.spec
-    inverse-requires
-    inverse-requires-2
+    forward-requires
+    forward-requires-2
     sub-first
     cast-first
-    mul-reciprocal
-    cast-reciprocal
-    reciprocal-requires
-    inverse-requires-3
+    forward-requires-3
     same-length
     same-length-2
     same-length-3

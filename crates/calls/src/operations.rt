@@ -33,13 +33,13 @@ pub fn record_call(job: Job, n: CallNumbers, volume: &mut [u32]) -> Called
 pub fn synthesis_call(job: Job, volume: &mut [u32], scratch: &mut [u32]) -> Called
     ensures { λ r. ⌜ callOutcome r (now (volume .exit)) (now (scratch .exit)) ≡ callStep job (now (volume .entry)) (now (scratch .entry)) (synthesis (now (scratch .entry))) ⌝ }
 {
-    of_answered(job.synthesis(volume, scratch))
+    of_answered(transforms::synthesis(job, volume, scratch))
 }
 
 pub fn analysis_call(job: Job, volume: &mut [u32], scratch: &mut [u32]) -> Called
     ensures { λ r. ⌜ callOutcome r (now (volume .exit)) (now (scratch .exit)) ≡ callStep job (now (volume .entry)) (now (scratch .entry)) (analysis (now (scratch .entry))) ⌝ }
 {
-    of_answered(job.analysis(volume, scratch))
+    of_answered(transforms::analysis(job, volume, scratch))
 }
 
 // A reading hands no job back: the one that was handed in goes on.

@@ -1,4 +1,4 @@
-// A job collects structure factors and turns them into a map, or a map into factors.
+// A job collects structure factors in a volume that the caller lends, or holds the map that they stand for.
 //
 // The job is handed in and handed back by value at each call, beside the volume that the caller lends. Each call is a check of crate
 // refusals, which answers the first refusal of the paper's order, and then the work. What a caller holds or hands in by value has the layout of C,
@@ -8,13 +8,8 @@ pub mod open; // open.rt: the opening
 pub mod point; // point.rt: the reading of a point
 pub mod factor; // factor.rt: the reading of a structure factor
 pub mod record; // record.rt: the recording of a structure factor
-pub mod synthesis; // synthesis.rt: from factors to the map
-pub mod analysis; // analysis.rt: from the map to its factors
-mod work; // work.rt: every line of the volume in its turn
-mod tables; // tables.rt: the tables of the root and of its conjugate
 
 use refusal_order::Refusal;
-ghost use Rattle.job.specs.Specimens.{Specimens};
 
 // The index of a structure factor, in reciprocal space: h, k, l.
 #[repr(C)]
@@ -68,8 +63,3 @@ pub enum FactorAnswer {
     Factor(u32, u32),
     Refused(Refusal),
 }
-
-// The paper's starred specimens: the lines, and the records, refused whatever the cell and the value.
-pub fn starred_specimens()
-    ensures { λ _. ⌜ Specimens ⌝ }
-{}

@@ -1,0 +1,14 @@
+-- The tables of a direction are those that its lines are lent.
+use mathlib.Core.Path.{sym, subst}
+use mathlib.Core.List.{List}
+use Prim.Native.Nat.{ℕ, zero, suc}
+use Rattle.root.specs.Root.{RealTable, ImaginaryTable, TangentTable}
+use Rattle.numbers.proofs.Primes.{first-modulus}
+use Rattle.tables.specs.Tables.{Directed}
+use Rattle.kinds.proofs.Tables.{forward-tables, backward-tables}
+use Rattle.volume_lines.specs.Lines.{TablesOf}
+
+module _ {re im tan : List ℕ} (hr : RealTable 1 re) where
+  pub tables-of : (direction : ℕ) → Directed (ImaginaryTable 1) 2880 direction im → Directed (TangentTable 1) 1440 direction tan → TablesOf 1 direction re im tan
+  tables-of zero i t = forward-tables first-modulus hr (subst (ImaginaryTable 1) (sym (i .turned)) (i .table)) (subst (TangentTable 1) (sym (t .turned)) (t .table))
+  tables-of (suc d) i t = backward-tables first-modulus hr (i .table) (t .table) (i .count) (t .count) (i .turned) (t .turned)

@@ -1,0 +1,34 @@
+-- The outcome of a synthesis or an analysis, refused or accepted, as the call's own parts have it.
+use mathlib.Core.Path.{_≡_}
+use mathlib.Core.List.{List}
+use Prim.Native.Nat.{ℕ}
+use lib.ListN.{length}
+use Rattle.refusal_order.specs.declared.Refusal.{Refusal}
+use Rattle.refusal_order.specs.Refusals.{numberOf}
+use Rattle.refusal_order.specs.Tests.{first}
+use Rattle.lengths.specs.Lengths.{cleared}
+use Rattle.refusal_order.proofs.Tests.{fails}
+use Rattle.job.specs.declared.Job.{Job}
+use Rattle.job.specs.declared.Answer.the-variants.{Done, Refused}
+use Rattle.job.specs.Header.{withState, factorsHeld, mapHeld}
+use Rattle.job.specs.Steps.{synthesisTests, synthesised, synthesisStep, analysisTests, analysed, analysisStep, unchanged}
+use Rattle.job.specs.Said.{worked}
+
+module _ (j : Job) (v scratch : List ℕ) where
+  pub synthesis-refused : (r : Refusal) → numberOf r ≡ first (synthesisTests j v (length scratch)) → worked (record { answer = Refused r; job = j }) v scratch ≡ synthesisStep j v scratch
+  unfolding synthesisStep
+  synthesis-refused r e = fails r _ _ (λ n. record { outcome = unchanged j v n; scratch = scratch }) e
+
+  pub synthesis-done : (v′ scratch′ : List ℕ) → 0 ≡ first (synthesisTests j v (length scratch)) → v′ ≡ synthesised j v → scratch′ ≡ cleared scratch →
+      worked (record { answer = Done; job = withState j mapHeld }) v′ scratch′ ≡ synthesisStep j v scratch
+  unfolding synthesisStep
+  synthesis-done v′ scratch′ e l s = rw (← e, l, s)
+
+  pub analysis-refused : (r : Refusal) → numberOf r ≡ first (analysisTests j v (length scratch)) → worked (record { answer = Refused r; job = j }) v scratch ≡ analysisStep j v scratch
+  unfolding analysisStep
+  analysis-refused r e = fails r _ _ (λ n. record { outcome = unchanged j v n; scratch = scratch }) e
+
+  pub analysis-done : (v′ scratch′ : List ℕ) → 0 ≡ first (analysisTests j v (length scratch)) → v′ ≡ analysed j v → scratch′ ≡ cleared scratch →
+      worked (record { answer = Done; job = withState j factorsHeld }) v′ scratch′ ≡ analysisStep j v scratch
+  unfolding analysisStep
+  analysis-done v′ scratch′ e l s = rw (← e, l, s)

@@ -1,13 +1,15 @@
-// One call of a script: its six numbers told apart by the first, the job's own call, and its answer as three numbers.
-// Each operation has a function of its own; `call_at` only tells them apart.
-pub mod operations; // operations.rt: a call of each operation
-
+// The calls of a script that a job answers itself: a record and the two readings, by their numbers, each answered as three numbers.
+use job::Answered;
+use job::GridPoint;
 use job::Job;
+use job::Reflection;
+use scripts::CallNumbers;
 use scripts::Reply;
 ghost use mathlib.Core.Path.{_≡_};
-ghost use Prim.Native.Nat.{_+_, _*_, _≤_};
-ghost use lib.ListN.{length};
-ghost use Rattle.scripts.specs.Call.{callAt, callStep};
+ghost use mathlib.Core.List.{List};
+ghost use Prim.Native.Nat.{ℕ, _≤_};
+ghost use Rattle.job.specs.Said.{said};
+ghost use Rattle.scripts.specs.Call.{callSaid, answerNumbers, replyNumbers, callStep};
 ghost use Rattle.calls.specs.Call.{callOutcome};
 
 pub struct Called {
@@ -15,24 +17,41 @@ pub struct Called {
     pub job: Job,
 }
 
-// The call number i of a script.
-pub fn call_at(
-    job: Job,
-    script: &[u32],
-    i: usize,
-    volume: &mut [u32],
-    scratch: &mut [u32],
-) -> Called
-    requires { ⌜ 6 * i + 6 ≤ length (now script) ⌝ }
-    ensures { λ r. ⌜ callOutcome r (now (volume .exit)) (now (scratch .exit)) ≡ callStep job (now (volume .entry)) (now (scratch .entry)) (callAt (now (scratch .entry)) (now (script .entry)) i) ⌝ }
+pub fn of_answered(r: Answered) -> Called
+    ensures { λ c. ⌜ (replyNumbers (c .reply) ≡ answerNumbers (said (r .answer))) × (c .job ≡ r .job) ⌝ }
 {
-    let numbers = scripts::numbers_at(script, i);
-    let operation = numbers.operation;
-    match operation {
-        0 => return operations::record_call(job, numbers, volume),
-        1 => return operations::synthesis_call(job, volume, scratch),
-        2 => return operations::analysis_call(job, volume, scratch),
-        3 => return operations::point_call(job, numbers, &volume[..]),
-        _ => return operations::factor_call(job, numbers, &volume[..]),
+    let answer = r.answer;
+    let job = r.job;
+    Called {
+        reply: scripts::reply_of(answer),
+        job,
+    }
+}
+
+pub fn record_call(job: Job, n: CallNumbers, volume: &mut [u32]) -> Called
+    requires { ⌜ n .operation ≡ 0 ⌝ }
+    ensures { λ r. ⌜ ((s : List ℕ) → callOutcome r (now (volume .exit)) s ≡ callStep job (now (volume .entry)) s (callSaid s n)) ⌝ }
+{
+    of_answered(job.record(Reflection(n.h, n.k, n.l), n.x, n.y, volume))
+}
+
+// A reading hands no job back: the one that was handed in goes on.
+pub fn point_call(job: Job, n: CallNumbers, volume: &[u32]) -> Called
+    requires { ⌜ n .operation ≡ 3 ⌝ }
+    ensures { λ r. ⌜ ((s : List ℕ) → callOutcome r (now (volume .entry)) s ≡ callStep job (now (volume .entry)) s (callSaid s n)) ⌝ }
+{
+    Called {
+        reply: scripts::point_reply(job.point(GridPoint(n.h, n.k, n.l), volume)),
+        job,
+    }
+}
+
+pub fn factor_call(job: Job, n: CallNumbers, volume: &[u32]) -> Called
+    requires { ⌜ 4 ≤ n .operation ⌝ }
+    ensures { λ r. ⌜ ((s : List ℕ) → callOutcome r (now (volume .entry)) s ≡ callStep job (now (volume .entry)) s (callSaid s n)) ⌝ }
+{
+    Called {
+        reply: scripts::factor_reply(job.factor(Reflection(n.h, n.k, n.l), volume)),
+        job,
     }
 }

@@ -1,4 +1,6 @@
 // A script of calls replayed on a job and a volume: call after call, each on what the one before left, and the answers as numbers.
+mod call; // call.rt: one call of a script
+
 use job::Job;
 ghost use mathlib.Core.Path.{_≡_};
 ghost use Prim.Native.Nat.{_/_, min};
@@ -40,7 +42,7 @@ pub fn replay(
     let mut held = job;
     let mut i: usize = 0;
     while i < count {
-        let called = calls::call_at(held, script, i, volume, scratch);
+        let called = call::call_at(held, script, i, volume, scratch);
         scripts::write_reply(answers, i, called.reply);
         held = called.job;
         i += 1;

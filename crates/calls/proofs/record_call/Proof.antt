@@ -2,8 +2,8 @@
 use denote.Ref.{now}
 use Rattle.calls.proofs.Calls.{call-record}
 use borrow.Author.Needs.{needs}
-use Rattle.calls.proofs.operations.record_call.Statement.{statement}
-use Rattle.calls.proofs.operations.record_call.Tie as tie
+use Rattle.calls.proofs.record_call.Statement.{statement}
+use Rattle.calls.proofs.record_call.Tie as tie
 
 record-requires : tie.Need-record-requires
 record-requires c κs = search needs

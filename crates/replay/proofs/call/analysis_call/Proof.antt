@@ -1,9 +1,9 @@
 -- The job's own call, its answer said as numbers.
 use denote.Ref.{now}
 use Rattle.calls.proofs.Calls.{call-analysis}
 use borrow.Author.Needs.{needs}
-use Rattle.calls.proofs.operations.analysis_call.Statement.{statement}
-use Rattle.calls.proofs.operations.analysis_call.Tie as tie
+use Rattle.replay.proofs.call.analysis_call.Statement.{statement}
+use Rattle.replay.proofs.call.analysis_call.Tie as tie
 
 analysis-requires : tie.Need-analysis-requires
 analysis-requires c κs = search needs

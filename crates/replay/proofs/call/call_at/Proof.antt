@@ -2,10 +2,10 @@
 use mathlib.Core.Path.{refl, _∙_, ap}
 use denote.Ref.{now}
 use Rattle.scripts.specs.Call.{callStep}
 use Rattle.calls.proofs.Calls.{four-on, is-synthesis, is-analysis, call-in-script}
 use borrow.Author.Needs.{needs}
-use Rattle.calls.proofs.call_at.Statement.{statement}
-use Rattle.calls.proofs.call_at.Tie as tie
+use Rattle.replay.proofs.call.call_at.Statement.{statement}
+use Rattle.replay.proofs.call.call_at.Tie as tie
 
 numbers-at-requires : tie.Need-numbers-at-requires
 numbers-at-requires c κs = search needs

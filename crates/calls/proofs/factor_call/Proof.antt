@@ -4,8 +4,8 @@ use denote.Ref.{now}
 use Rattle.job.specs.Said.{saidFactor}
 use Rattle.calls.proofs.Calls.{call-factor}
 use borrow.Author.Needs.{needs}
-use Rattle.calls.proofs.operations.factor_call.Statement.{statement}
-use Rattle.calls.proofs.operations.factor_call.Tie as tie
+use Rattle.calls.proofs.factor_call.Statement.{statement}
+use Rattle.calls.proofs.factor_call.Tie as tie
 
 factor-requires : tie.Need-factor-requires
 factor-requires c κs = search needs

@@ -1,9 +1,9 @@
 -- The job's own call, its answer said as numbers.
 use denote.Ref.{now}
 use Rattle.calls.proofs.Calls.{call-synthesis}
 use borrow.Author.Needs.{needs}
-use Rattle.calls.proofs.operations.synthesis_call.Statement.{statement}
-use Rattle.calls.proofs.operations.synthesis_call.Tie as tie
+use Rattle.replay.proofs.call.synthesis_call.Statement.{statement}
+use Rattle.replay.proofs.call.synthesis_call.Tie as tie
 
 synthesis-requires : tie.Need-synthesis-requires
 synthesis-requires c κs = search needs

@@ -4,8 +4,8 @@ use denote.Ref.{now}
 use Rattle.job.specs.Said.{saidPoint}
 use Rattle.calls.proofs.Calls.{call-point}
 use borrow.Author.Needs.{needs}
-use Rattle.calls.proofs.operations.point_call.Statement.{statement}
-use Rattle.calls.proofs.operations.point_call.Tie as tie
+use Rattle.calls.proofs.point_call.Statement.{statement}
+use Rattle.calls.proofs.point_call.Tie as tie
 
 point-requires : tie.Need-point-requires
 point-requires c κs = search needs

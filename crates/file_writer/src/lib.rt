@@ -12,7 +12,6 @@ ghost use mathlib.Core.Path.{_≡_};
 ghost use Prim.Native.Nat.{_≤_};
 ghost use lib.ListN.{length};
 ghost use Rattle.file_writer.specs.Writing.{writeStep, writeOutcome};
-ghost use Rattle.file_writer.specs.Demands.{ReadsBack};
 ghost use Rattle.file_bytes.specs.Steps.{IsFactors, recordsWith, fileWith};
 ghost use Rattle.file_writer.specs.Steps.{filed};
 
@@ -79,8 +78,3 @@ pub fn write_file(job: Job, volume: &[u32], out: &mut [u8]) -> WriteAnswer
         out,
     )
 }
-
-// The file that was written, read back, gives the job and its factors. The function does nothing; its promise is the statement.
-pub fn reads_back()
-    ensures { λ _. ⌜ ReadsBack ⌝ }
-{}

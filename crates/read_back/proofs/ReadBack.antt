@@ -49,12 +49,12 @@ use Rattle.model.proofs.Openings.{opening-sound}
 use Rattle.model.proofs.Starts.{file-gives}
 use Rattle.model.proofs.AcceptedRecords.{actsOn, accepted-fed}
 use Rattle.file_layout.specs.Bytes.{fileOf}
 use Rattle.file_writer.specs.Writing.{jobRecords, jobFile, written, writeTests, writeStep}
-use Rattle.file_writer.specs.Demands.{ReadsBack}
+use Rattle.read_back.specs.Demands.{ReadsBack}
 use Rattle.file_layout.proofs.FileParts.{length-header}
 use Rattle.file_bytes.proofs.RecordLaws.{admitted-few}
 use Rattle.file_layout.proofs.FileParts.{length-body}
 use Rattle.file_writer.proofs.Files.{told, passed-on, valid-volume}
 use Rattle.file_bytes.proofs.Parsing.{fileRecord, Short}
 use Rattle.file_bytes.proofs.WrittenFiles.{Writable, header-read, records-read, well-shaped}
 

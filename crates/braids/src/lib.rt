@@ -26,7 +26,7 @@ pub fn braid(m: u32, e: Pair, x: Pair, y: Pair) -> Pair
     ensures { λ r. ⌜ ((A : ℕ) → r ≡ pairOf (Folds.braid (field m) (conj m) (i m) (real m (half m)) A (valueOf m e) (valueOf m x) (valueOf m y))) ⌝ }
 {
     let turned = numbers::times_i(m, numbers::difference(m, x, y));
-    numbers::plus_product(m, x, y, e, turned)
+    unreduced::plus_product(m, x, y, e, turned)
 }
 
 // R + e S, where R = (x + y)/2 and i S = (x - y)/2.
@@ -35,5 +35,5 @@ pub fn unbraid(m: u32, e: Pair, x: Pair, y: Pair) -> Pair
     ensures { λ r. ⌜ ((A : ℕ) → r ≡ pairOf (Folds.unbraid (field m) (conj m) (i m) (real m (half m)) A (valueOf m e) (valueOf m x) (valueOf m y))) ⌝ }
 {
     let turned = numbers::times_i(m, numbers::difference(m, y, x));
-    numbers::halved(m, numbers::plus_product(m, x, y, e, turned))
+    numbers::halved(m, unreduced::plus_product(m, x, y, e, turned))
 }

@@ -14,7 +14,7 @@ use Rattle.butterflies.specs.Outer.{outerAt}
 use Rattle.butterflies.specs.Butterfly.{Butterfly, evenPart, oddPart}
 use Rattle.butterflies.proofs.Cases.{below-2, below-3, below-4, below-5}
 use Rattle.butterflies.proofs.OuterSums.{outer-powers, two-0, two-1, three-0, three-1, three-2, four-0, four-1, four-2, four-3, five-0, five-1, five-2, five-3, five-4}
-use Rattle.unreduced.proofs.Turns.{half-turn, power-parts, mate-parts}
+use Rattle.quarter_turns.proofs.Turns.{half-turn, power-parts, mate-parts}
 
 module _ (m : ℕ) where
   open Ops (field m) using (add as _⊕_, mul as _⊗_, neg as ⊖_, one as 𝟙)

@@ -106,7 +106,7 @@ pub fn three<'a>(m: u32, re: &'a [u32; 2880], im: &'a [u32; 2880], v: ThreeSums)
     let w = root::root_at(re, im, 960);
     let t = unreduced::sum(b, c);
     let even = unreduced::sum(a, unreduced::scaled(w.re, t));
-    let odd = unreduced::scaled(w.im, unreduced::turned(b, c));
+    let odd = unreduced::scaled(w.im, quarter_turns::turned(b, c));
     let mates = both_ways(m, even, odd);
     let x1 = mates.x0;
     let x2 = mates.x1;
@@ -131,7 +131,7 @@ pub fn four<'a>(m: u32, re: &'a [u32; 2880], im: &'a [u32; 2880], v: FourSums) -
     let far = both_ways(
         m,
         unreduced::apart(a, c),
-        unreduced::quarter_turned(m, re, im, b, d),
+        quarter_turns::quarter_turned(m, re, im, b, d),
     );
     let x0 = near.x0;
     let x1 = far.x0;
@@ -189,7 +189,12 @@ fn conjugates(
         a,
         weighed(w.re, unreduced::sum(b, e), z.re, unreduced::sum(c, d)),
     );
-    let odd = weighed(w.im, unreduced::turned(b, e), z.im, unreduced::turned(c, d));
+    let odd = weighed(
+        w.im,
+        quarter_turns::turned(b, e),
+        z.im,
+        quarter_turns::turned(c, d),
+    );
     both_ways(m, even, odd)
 }
 

@@ -35,7 +35,7 @@ pub fn feed_records(file: &[u8], job: Job, volume: &mut [u32]) -> FileAnswer
         let answer = answered.answer;
         if let Answer::Refused(refusal) = answer {
             let count = volume.len();
-            slices::clear(volume, count);
+            buffers::clear(volume, count);
             return FileAnswer::Refused(refusal, place);
         }
         place += 1;

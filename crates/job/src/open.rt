@@ -58,7 +58,7 @@ pub fn open(
         Checked::Sound => {
             if kind == 0 {
                 let count = volume.len();
-                slices::clear(volume, count);
+                buffers::clear(volume, count);
                 OpenAnswer::Opened(opened(group, n1, n2, n3, f1, f2, f3, 0))
             } else {
                 OpenAnswer::Opened(opened(group, n1, n2, n3, f1, f2, f3, 2))

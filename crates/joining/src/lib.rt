@@ -101,5 +101,5 @@ fn turned_half(m: u32, tau: u32, x: Pair, w: Pair, d: Pair) -> Pair
     ensures { λ r. ⌜ r ≡ pairOf (field m .mul (real m (half m)) (field m .add (field m .add (valueOf m x) (valueOf m w)) (field m .mul (i m) (field m .mul (real m (res m tau)) (valueOf m d))))) ⌝ }
 {
     let turn = Pair { re: 0, im: tau };
-    numbers::halved(m, numbers::plus_product(m, x, w, turn, d))
+    numbers::halved(m, unreduced::plus_product(m, x, w, turn, d))
 }

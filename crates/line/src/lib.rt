@@ -50,7 +50,7 @@ pub fn line(
                 line,
                 scratch,
             );
-            slices::clear(scratch, 11520);
+            buffers::clear(scratch, 11520);
             LineAnswer::Transformed
         }
     }

@@ -41,7 +41,7 @@ pub fn check_line(
     if scratch < 11520 {
         return Checked::Failed(Refusal::ScratchTooShort);
     }
-    if !slices::all_below(line, p) {
+    if !buffers::all_below(line, p) {
         return Checked::Failed(Refusal::NotResidue);
     }
     Checked::Sound

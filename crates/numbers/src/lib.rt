@@ -3,11 +3,11 @@
 // Every function takes the modulus number m: 1 for 86,399 and 2 for 302,399. Contracts speak of the residues and
 // values that the numbers stand for. Products are formed in 64 bits and reduced once.
 ghost use mathlib.Core.Path.{_≡_};
-ghost use Prim.Native.Nat.{ℕ, _+_, _*_, _-_, _/_, _%_, _<_, _≤_};
+ghost use Prim.Native.Nat.{ℕ, _*_, _<_, _≤_};
 ghost use Rattle.algebra.specs.Ring.{Ops};
 ghost use Rattle.algebra.specs.Residue.{Res};
 ghost use Rattle.numbers.specs.Prime.{prime, IsModulus};
-ghost use Rattle.numbers.specs.Value.{Value, ring, field, conj, i, res, value, half, part, real, valueOf, pairOf, Small};
+ghost use Rattle.numbers.specs.Value.{ring, field, conj, i, res, value, half, real, valueOf, pairOf, Small};
 ghost use Rattle.numbers.specs.Accumulator.{Accumulated};
 
 // A value of the paper: re + im i.
@@ -76,7 +76,7 @@ pub fn neg(m: u32, a: u32) -> u32
 }
 
 // The whole product of two residues.
-fn whole(a: u32, b: u32) -> u64
+pub fn whole(a: u32, b: u32) -> u64
     requires { ⌜ (a ≤ 302399) × (b ≤ 302399) ⌝ }
     ensures { λ r. ⌜ (r ≡ a * b) × (r ≤ 91445155201) ⌝ }
 {
@@ -97,15 +97,6 @@ pub fn halve(m: u32, a: u32) -> u32
 {
     let p = modulus(m);
     if a % 2 == 0 { a / 2 } else { (a + p) / 2 }
-}
-
-// 1/N of an admitted N.
-pub fn reciprocal(m: u32, n: u32) -> u32
-    requires { ⌜ IsModulus m × (2 ≤ n) ⌝ }
-    ensures { λ r. ⌜ (r ≡ part m n .val) × (r < prime m) ⌝ }
-{
-    let p = modulus(m);
-    (p + 1) / n
 }
 
 pub fn sum(m: u32, a: Pair, b: Pair) -> Pair
@@ -158,17 +149,6 @@ pub fn times_i(m: u32, a: Pair) -> Pair
     }
 }
 
-pub fn product(m: u32, a: Pair, b: Pair) -> Pair
-    requires { ⌜ IsModulus m × Small (prime m) a × Small (prime m) b ⌝ }
-    ensures { λ r. ⌜ r ≡ pairOf (field m .mul (valueOf m a) (valueOf m b)) ⌝ }
-{
-    let p = modulus(m);
-    Pair {
-        re: reduce_below(m, whole(a.re, b.re) + whole(a.im, p - b.im)),
-        im: reduce_below(m, whole(a.re, b.im) + whole(a.im, b.re)),
-    }
-}
-
 // A value times the residue c.
 pub fn scaled(m: u32, c: u32, a: Pair) -> Pair
     requires { ⌜ IsModulus m × (c < prime m) × Small (prime m) a ⌝ }
@@ -197,19 +177,6 @@ pub fn zero_accumulator() -> Accumulator
     Accumulator { re: 0, im: 0 }
 }
 
-// One product more. Sixty-four bits hold millions of them.
-pub fn add_product(m: u32, a: Accumulator, x: Pair, y: Pair) -> Accumulator
-    requires { ⌜ IsModulus m × Small (prime m) x × Small (prime m) y ⌝ }
-    requires { ⌜ (a .re ≤ 1000000000000000000) × (a .im ≤ 1000000000000000000) ⌝ }
-    ensures { λ r. ⌜ ((n : ℕ) (z : Value m) → Accumulated m n a z → Accumulated m (n + 1) r (field m .add z (field m .mul (valueOf m x) (valueOf m y)))) ⌝ }
-{
-    let p = modulus(m);
-    Accumulator {
-        re: a.re + (whole(x.re, y.re) + whole(x.im, p - y.im)),
-        im: a.im + (whole(x.re, y.im) + whole(x.im, y.re)),
-    }
-}
-
 // The sum, reduced once.
 pub fn reduced(m: u32, a: Accumulator) -> Pair
     requires { ⌜ IsModulus m ⌝ }
@@ -230,16 +197,4 @@ pub fn reduced_below(m: u32, a: Accumulator) -> Pair
         re: reduce_below(m, a.re),
         im: reduce_below(m, a.im),
     }
-}
-
-// x + y + e d, reduced once.
-pub fn plus_product(m: u32, x: Pair, y: Pair, e: Pair, d: Pair) -> Pair
-    requires { ⌜ IsModulus m × Small (prime m) x × Small (prime m) y × Small (prime m) e × Small (prime m) d ⌝ }
-    ensures { λ r. ⌜ r ≡ pairOf (field m .add (field m .add (valueOf m x) (valueOf m y)) (field m .mul (valueOf m e) (valueOf m d))) ⌝ }
-{
-    let s = Accumulator {
-        re: (x.re + y.re) as u64,
-        im: (x.im + y.im) as u64,
-    };
-    reduced_below(m, add_product(m, s, e, d))
 }

@@ -38,7 +38,7 @@ pub fn fits(group: u32, n1: u32, n2: u32, n3: u32, volume: &[u32]) -> bool
 pub fn all_residues(volume: &[u32]) -> bool
     ensures { λ r. ⌜ r ≡ allBelow p (now (volume .entry)) ⌝ }
 {
-    slices::all_below(volume, numbers::modulus(1))
+    buffers::all_below(volume, numbers::modulus(1))
 }
 
 // 7, 14: a volume of the right length is a map.

@@ -16,7 +16,7 @@ pub fn divide(m: u32, n: usize, line: &mut [u32])
     ensures { λ _. ⌜ now (line .exit) ≡ listOf n (λ t. field m .mul (real m (part m n)) (valuesOf m (now (line .entry)) t)) ⌝ }
 {
     if 1 < n {
-        scale(m, numbers::reciprocal(m, n as u32), n, line);
+        scale(m, reciprocals::reciprocal(m, n as u32), n, line);
     }
 }
 

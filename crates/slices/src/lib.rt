@@ -1,11 +1,10 @@
-// Pairs in a slice of u32: read, stored, cleared, copied and scanned. The pair at place j is the numbers 2 j and 2 j + 1.
+// Pairs in a slice of u32: read, stored and copied. The pair at place j is the numbers 2 j and 2 j + 1.
 // Nothing here computes with the values.
 use numbers::Pair;
 ghost use mathlib.Core.Path.{_≡_};
 ghost use Prim.Native.Nat.{_+_, _*_, _<_, _≤_};
-ghost use mathlib.Core.List.{_++_};
-ghost use lib.ListN.{length, replicate, drop};
-ghost use Rattle.slices.specs.Pairs.{at, put, fills, allBelow};
+ghost use lib.ListN.{length};
+ghost use Rattle.slices.specs.Pairs.{at, put, fills};
 
 // The pair at place j.
 pub fn get(s: &[u32], j: usize) -> Pair
@@ -29,18 +28,6 @@ pub fn store(d: &mut [u32], j: usize, v: Pair)
     d[a + 1] = v.im;
 }
 
-// The first n numbers become zero.
-pub fn clear(d: &mut [u32], n: usize)
-    requires { ⌜ n ≤ length (now d) ⌝ }
-    ensures { λ _. ⌜ now (d .exit) ≡ replicate n 0 ++ drop n (now (d .entry)) ⌝ }
-{
-    let mut i = 0;
-    while i < n {
-        d[i] = 0;
-        i += 1;
-    }
-}
-
 // The first n pairs of src go to the first n places of dst.
 pub fn copy(src: &[u32], dst: &mut [u32], n: usize)
     requires { ⌜ 2 * n ≤ length (now src) ⌝ }
@@ -52,18 +39,4 @@ pub fn copy(src: &[u32], dst: &mut [u32], n: usize)
         store(dst, j, get(src, j));
         j += 1;
     }
-}
-
-// Every number of s is below p.
-pub fn all_below(s: &[u32], p: u32) -> bool
-    ensures { λ r. ⌜ r ≡ allBelow p (now (s .entry)) ⌝ }
-{
-    let mut i = 0;
-    while i < s.len() {
-        if p <= s[i] {
-            return false;
-        }
-        i += 1;
-    }
-    true
 }

@@ -46,5 +46,5 @@ pub fn turn_lines(job: Job, direction: u32, volume: &mut [u32], scratch: &mut [u
         &mut fold,
         &mut work,
     );
-    slices::clear(scratch, 11520);
+    buffers::clear(scratch, 11520);
 }

@@ -10,7 +10,7 @@ use Rattle.numbers.specs.Value.{Value, field, valueOf}
 use Rattle.root.specs.Root.{entryAt, tableRoot, RootTable}
 use Rattle.numbers.proofs.Values.{field-ring}
 use Rattle.slices.specs.Pairs.{at}
-use Rattle.unreduced.proofs.Turns.{root-value}
+use Rattle.quarter_turns.proofs.Turns.{root-value}
 use Rattle.unreduced.specs.Unreduced.{meant, Room}
 use Rattle.twiddles.specs.declared.Places.{Places}
 use Rattle.twiddles.specs.Places.{turned, Loaded}

@@ -1,2 +1,1 @@
 pub mod Unreduced
-pub mod Turns

@@ -17,7 +17,7 @@ use Rattle.numbers.specs.Value.{Value, field, i, res, value, real, valueOf}
 use Rattle.numbers.specs.Value as Value
 use Rattle.numbers.specs.Accumulator.{Accumulated}
 use Rattle.numbers.proofs.Residues.{res-ring}
-use Rattle.numbers.proofs.Values.{field-ring, value-path, value-add, i-times, real-times}
+use Rattle.numbers.proofs.Values.{field-ring, value-path, value-add, i-times, real-times, whole-products}
 use Rattle.numbers.proofs.ModulusCases.{by-modulus}
 use Rattle.unreduced.specs.Unreduced.{meant, Room}
 
@@ -45,9 +45,16 @@ pub of-pair-means : (m : ℕ) (v : Pair) → meant m (record { re = v .re; im = 
 unfolding meant valueOf
 of-pair-means m v = refl
 
-pub product-means : {m : ℕ} {a : Accumulator} {z : Value m} → Accumulated m 1 a (field m .add (field m .zer) z) → meant m a ≡ z
+pub product-means : (m p : ℕ) (x y : Pair) (s t u v : ℕ) → p ≡ prime m → y .im < prime m
+    → s ≡ x .re * y .re → t ≡ x .im * (p - y .im) → u ≡ x .re * y .im → v ≡ x .im * y .re
+    → meant m (record { re = s + t; im = u + v }) ≡ field m .mul (valueOf m x) (valueOf m y)
 unfolding meant
-product-means {m} {z = z} h = h .value-is ∙ field-ring m .zero-add z
+product-means = whole-products
+
+-- what has room for one product and stands for z
+pub stands-for : {m : ℕ} {a : Accumulator} {z : Value m} → Room 182890310402 a → meant m a ≡ z → Accumulated m 1 a z
+unfolding meant
+stands-for h e = record { re = h .re; im = h .im; value-is = e }
 
 -- ---- sums, and products by a residue
 

@@ -1,4 +1,4 @@
-// Sums that are not reduced yet, and what butterflies do with them. 64 bits hold any that a butterfly needs.
+// Sums that are not reduced yet: products, sums and differences. 64 bits hold any that a butterfly needs.
 //
 // One product of two values is at most 182,890,310,402 in either part; `Accumulated` counts in this unit. For a difference the second
 // is taken from a number that stands for 0 at either modulus, a multiple of the product of both primes. The bounds that `sum` and
@@ -7,11 +7,10 @@ use numbers::Accumulator;
 use numbers::Pair;
 ghost use mathlib.Core.Path.{_≡_};
 ghost use Prim.Native.Nat.{ℕ, _+_, _*_, _≤_};
-ghost use Rattle.algebra.specs.Ring.{Ops, pow};
+ghost use Rattle.algebra.specs.Ring.{Ops};
 ghost use Rattle.numbers.specs.Prime.{prime, IsModulus};
-ghost use Rattle.numbers.specs.Value.{Value, field, i, res, real, valueOf, pairOf, Small};
+ghost use Rattle.numbers.specs.Value.{Value, field, res, real, valueOf, pairOf, Small};
 ghost use Rattle.numbers.specs.Accumulator.{Accumulated};
-ghost use Rattle.root.specs.Root.{tableRoot, RootTable};
 ghost use Rattle.unreduced.specs.Unreduced.{meant, Room};
 
 // A value as a sum of one.
@@ -30,7 +29,11 @@ pub fn product(m: u32, x: Pair, y: Pair) -> Accumulator
     requires { ⌜ IsModulus m × Small (prime m) x × Small (prime m) y ⌝ }
     ensures { λ r. ⌜ Room 182890310402 r × (meant m r ≡ field m .mul (valueOf m x) (valueOf m y)) ⌝ }
 {
-    numbers::add_product(m, numbers::zero_accumulator(), x, y)
+    let p = numbers::modulus(m);
+    Accumulator {
+        re: numbers::whole(x.re, y.re) + numbers::whole(x.im, p - y.im),
+        im: numbers::whole(x.re, y.im) + numbers::whole(x.im, y.re),
+    }
 }
 
 // x + y.
@@ -52,36 +55,6 @@ pub fn apart(x: Accumulator, y: Accumulator) -> Accumulator
     Accumulator {
         re: x.re + (444158510417000000 - y.re),
         im: x.im + (444158510417000000 - y.im),
-    }
-}
-
-// i (x - y) of two products: 418,031,539,216 is 16 times the product of both primes, so that the result is no larger than four products.
-pub fn turned(x: Accumulator, y: Accumulator) -> Accumulator
-    requires { ⌜ Room 182890310402 x × Room 182890310402 y ⌝ }
-    ensures { λ r. ⌜ ((m : ℕ) → IsModulus m → Accumulated m 4 r (field m .mul (i m) (field m .add (meant m x) (field m .neg (meant m y))))) ⌝ }
-{
-    Accumulator {
-        re: y.im + (418031539216 - x.im),
-        im: x.re + (418031539216 - y.re),
-    }
-}
-
-// W^720 (x - y): that power is i or -i.
-pub fn quarter_turned<'a>(
-    m: u32,
-    re: &'a [u32; 2880],
-    im: &'a [u32; 2880],
-    x: Accumulator,
-    y: Accumulator,
-) -> Accumulator
-    requires { ⌜ IsModulus m × RootTable m (now re) (now im) ⌝ }
-    requires { ⌜ Room 182890310402 x × Room 182890310402 y ⌝ }
-    ensures { λ r. ⌜ Accumulated m 4 r (field m .mul (pow (field m) (tableRoot m (now (re .entry)) (now (im .entry))) 720) (field m .add (meant m x) (field m .neg (meant m y)))) ⌝ }
-{
-    if root::root_at(re, im, 720).im == 1 {
-        turned(x, y)
-    } else {
-        turned(y, x)
     }
 }
 
@@ -112,4 +85,12 @@ pub fn rest(m: u32, x: Accumulator, y: Accumulator) -> Pair
     ensures { λ r. ⌜ ((n k : ℕ) (a b : Value m) → Accumulated m n x a → Accumulated m k y b → r ≡ pairOf (field m .add a (field m .neg b))) ⌝ }
 {
     numbers::reduced_below(m, apart(x, y))
+}
+
+// x + y + e d, reduced once.
+pub fn plus_product(m: u32, x: Pair, y: Pair, e: Pair, d: Pair) -> Pair
+    requires { ⌜ IsModulus m × Small (prime m) x × Small (prime m) y × Small (prime m) e × Small (prime m) d ⌝ }
+    ensures { λ r. ⌜ r ≡ pairOf (field m .add (field m .add (valueOf m x) (valueOf m y)) (field m .mul (valueOf m e) (valueOf m d))) ⌝ }
+{
+    total(m, sum(of_pair(x), of_pair(y)), product(m, e, d))
 }

@@ -1,6 +1,6 @@
 -- Read, summed and stored.
 use borrow.Author.Needs.{needs}
-use Rattle.unreduced.proofs.Turns.{half-turn}
+use Rattle.quarter_turns.proofs.Turns.{half-turn}
 use Rattle.radices.proofs.Spreading.{all-room, butterfly-stored}
 use Rattle.radices.proofs.two_at.Statement.{statement}
 use Rattle.radices.proofs.two_at.Tie as tie

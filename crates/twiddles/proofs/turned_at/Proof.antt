@@ -3,7 +3,7 @@ use borrow.Author.Needs.{needs}
 use native.Mathlib.Omega.{arith}
 use Rattle.numbers.proofs.Primes.{prime-most}
 use Rattle.slices.proofs.Bounds.{small-of}
-use Rattle.unreduced.proofs.Turns.{root-small}
+use Rattle.quarter_turns.proofs.Turns.{root-small}
 use Rattle.twiddles.proofs.Loading.{loaded-one, loaded-product}
 use Rattle.twiddles.proofs.turned_at.Statement.{statement}
 use Rattle.twiddles.proofs.turned_at.Tie as tie

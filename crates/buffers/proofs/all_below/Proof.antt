@@ -1,12 +1,12 @@
--- `slices::all_below`: no number before i stops the scan.
+-- `buffers::all_below`: no number before i stops the scan.
 use mathlib.Core.Path.{_≡_, refl, sym, _∙_}
 use Prim.Native.Nat.{_≤_, _-_}
 use native.Mathlib.Omega.{arith}
 use lib.ListN.{length, drop}
 use Rattle.slices.specs.Pairs.{allBelow}
 use Rattle.slices.proofs.Bounds.{allBelow-next, allBelow-stop, allBelow-end}
-use Rattle.slices.proofs.all_below.Statement.{statement}
-use Rattle.slices.proofs.all_below.Tie as tie
+use Rattle.buffers.proofs.all_below.Statement.{statement}
+use Rattle.buffers.proofs.all_below.Tie as tie
 
 abbrev Inv-loop : tie.InvT-loop
 Inv-loop s p i₀ i = (i ≤ length s) × (allBelow p s ≡ allBelow p (drop i s))

@@ -1,12 +1,12 @@
--- `slices::clear`: i numbers are zero.
+-- `buffers::clear`: i numbers are zero.
 use mathlib.Core.Path.{_≡_, refl, ap, _∙_, subst}
 use mathlib.Core.List.{List, _++_}
 use Prim.Native.Nat.{ℕ, _+_, _-_, _≤_}
 use native.Mathlib.Omega.{arith}
 use lib.ListN.{length, replicate, drop, set, length-set}
 use borrow.Author.Fill.{fill-none, fill-more}
-use Rattle.slices.proofs.clear.Statement.{statement}
-use Rattle.slices.proofs.clear.Tie as tie
+use Rattle.buffers.proofs.clear.Statement.{statement}
+use Rattle.buffers.proofs.clear.Tie as tie
 
 abbrev Inv-loop : tie.InvT-loop
 Inv-loop d₀ n i₀ d i = (i ≤ n) × (length d ≡ length d₀) × (d ≡ replicate i 0 ++ drop i d₀)

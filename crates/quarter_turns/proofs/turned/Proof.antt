@@ -1,8 +1,8 @@
 -- Both are taken from a number that stands for 0, and i (a + b i) is -b + a i.
 use borrow.Author.Needs.{needs}
 use Rattle.unreduced.proofs.Unreduced.{accumulated-turned}
-use Rattle.unreduced.proofs.turned.Statement.{statement}
-use Rattle.unreduced.proofs.turned.Tie as tie
+use Rattle.quarter_turns.proofs.turned.Statement.{statement}
+use Rattle.quarter_turns.proofs.turned.Tie as tie
 
 sub-t3 : tie.Need-sub-t3
 sub-t3 c = search needs

@@ -1,8 +1,8 @@
 -- (p + 1)/n is below p and stands for 1/n.
 use borrow.Author.Needs.{needs}
 use Rattle.numbers.proofs.Parts.{part-below, part-number}
-use Rattle.numbers.proofs.reciprocal.Statement.{statement}
-use Rattle.numbers.proofs.reciprocal.Tie as tie
+use Rattle.reciprocals.proofs.reciprocal.Statement.{statement}
+use Rattle.reciprocals.proofs.reciprocal.Tie as tie
 
 modulus-requires : tie.Need-modulus-requires
 modulus-requires c κs = search needs

@@ -1,9 +1,9 @@
 -- The table tells which quarter turn it is.
 use borrow.Author.Needs.{needs}
-use Rattle.unreduced.proofs.Turns.{quarter-is, quarter-other}
+use Rattle.quarter_turns.proofs.Turns.{quarter-is, quarter-other}
 use Rattle.unreduced.proofs.Unreduced.{turned-forth, turned-back}
-use Rattle.unreduced.proofs.quarter_turned.Statement.{statement}
-use Rattle.unreduced.proofs.quarter_turned.Tie as tie
+use Rattle.quarter_turns.proofs.quarter_turned.Statement.{statement}
+use Rattle.quarter_turns.proofs.quarter_turned.Tie as tie
 
 root-at-requires : tie.Need-root-at-requires
 root-at-requires c κs = search needs

@@ -1,11 +1,10 @@
-// The lines of a job, by their numbers: first those along l, then h, then k, each by rising place of its first pair. All
-// that a line's turn has to know of the job is computed here, so that the turns themselves carry few numbers.
+// The lines of a job: what is to be done with a volume, how many lines it has along each axis, and those along h and k, which are of
+// one kind in every group. All that a line's turn has to know of the job is computed here and in `line_numbers`, so that the turns
+// themselves carry few numbers.
 ghost use mathlib.Core.Path.{_≡_};
-ghost use Prim.Native.Nat.{_*_, _<_, _≤_};
-ghost use Rattle.cell.specs.Volume.{groupOf, lineKind, firstPair};
-ghost use Rattle.lengths.specs.Counts.{kindOf};
-ghost use Rattle.axes.specs.Axes.{lineCount, lineOfTurn, turnOf, alongL, alongH, alongK, turnedL, turnedH, turnedK};
-ghost use Rattle.axes.specs.Plans.{groupIn, halvesIn, SizesIn, Planned, Counted, Gathered, Row, LineAt};
+ghost use Prim.Native.Nat.{_<_};
+ghost use Rattle.axes.specs.Axes.{turnOf, alongH, alongK, turnedH, turnedK};
+ghost use Rattle.axes.specs.Plans.{groupIn, halvesIn, SizesIn, Planned, Counted, Gathered, Row};
 
 // What is to be done with a whole volume: modulus and direction, the group, the three lengths and their factor lists.
 pub struct Plan {
@@ -40,7 +39,7 @@ pub struct Line {
 }
 
 // How many lines there are along each axis.
-fn line_counts(plan: Plan) -> Counts
+pub fn line_counts(plan: Plan) -> Counts
     requires { ⌜ SizesIn plan ⌝ }
     ensures { λ r. ⌜ Counted plan r ⌝ }
 {
@@ -54,103 +53,8 @@ fn line_counts(plan: Plan) -> Counts
     }
 }
 
-// How many there are in all.
-pub fn line_count(plan: Plan) -> usize
-    requires { ⌜ SizesIn plan ⌝ }
-    ensures { λ r. ⌜ (r ≡ lineCount (groupIn plan) (halvesIn plan)) × (r ≤ 16594560) ⌝ }
-{
-    let counts = line_counts(plan);
-    counts.l + counts.h + counts.k
-}
-
-// The line that turn n transforms.
-pub fn line_in_turn(plan: Plan, n: usize) -> Line
-    requires { ⌜ Planned plan × (n < lineCount (groupIn plan) (halvesIn plan)) ⌝ }
-    ensures { λ r. ⌜ LineAt plan (lineOfTurn (groupIn plan) (halvesIn plan) (plan .direction) n) r ⌝ }
-{
-    line_at(plan, line_of_turn(plan, n))
-}
-
-// Its number: analysis takes the axes in the other order.
-fn line_of_turn(plan: Plan, n: usize) -> usize
-    requires { ⌜ Planned plan × (n < lineCount (groupIn plan) (halvesIn plan)) ⌝ }
-    ensures { λ r. ⌜ (r ≡ lineOfTurn (groupIn plan) (halvesIn plan) (plan .direction) n) × (r < lineCount (groupIn plan) (halvesIn plan)) ⌝ }
-{
-    let counts = line_counts(plan);
-    if plan.direction == 0 {
-        n
-    } else if n < counts.k {
-        counts.l + counts.h + n
-    } else if n < counts.k + counts.h {
-        counts.l + (n - counts.k)
-    } else {
-        n - (counts.k + counts.h)
-    }
-}
-
-// Line number j.
-fn line_at(plan: Plan, j: usize) -> Line
-    requires { ⌜ Planned plan × (j < lineCount (groupIn plan) (halvesIn plan)) ⌝ }
-    ensures { λ r. ⌜ LineAt plan j r ⌝ }
-{
-    let counts = line_counts(plan);
-    if j < counts.l {
-        along_l(plan, j)
-    } else if j < counts.l + counts.h {
-        along_h(plan, j - counts.l)
-    } else {
-        row_at(plan, j - (counts.l + counts.h))
-    }
-}
-
-// Line y = h (B + 1) + k along l, by the kind of its group.
-fn along_l(plan: Plan, y: usize) -> Line
-    requires { ⌜ Planned plan × (y < alongL (groupIn plan) (halvesIn plan) .count) ⌝ }
-    ensures { λ r. ⌜ Gathered plan (turnOf (alongL (groupIn plan) (halvesIn plan)) (turnedL (groupIn plan) (halvesIn plan) (plan .m) (plan .direction)) y) r ⌝ }
-{
-    let width = (plan.n2 / 2 + 1) as usize;
-    let stride = (plan.n1 as usize) * width;
-    let kind = line_kind(plan.group, y / width);
-    Line {
-        m: plan.m,
-        direction: plan.direction,
-        kind,
-        factors: plan.f3,
-        half: (plan.n3 / 2) as usize,
-        start: y + first_pair(kind) * stride,
-        stride,
-        count: lengths::pair_count(kind, plan.n3),
-    }
-}
-
-// The kind of the line along l at h.
-fn line_kind(group: u32, h: usize) -> u32
-    requires { ⌜ group < 4 ⌝ }
-    ensures { λ r. ⌜ (r < 6) × (kindOf r ≡ lineKind (groupOf group) h) × (r ≡ 1 → ⊥) ⌝ }
-{
-    if group == 0 {
-        0
-    } else if group == 1 {
-        3
-    } else if group == 2 {
-        4
-    } else if h % 2 == 0 {
-        4
-    } else {
-        5
-    }
-}
-
-// The first of the W pairs that belongs to a line of the kind.
-fn first_pair(kind: u32) -> usize
-    requires { ⌜ kind < 6 ⌝ }
-    ensures { λ r. ⌜ (r ≡ firstPair (kindOf kind)) × (r ≤ 1) ⌝ }
-{
-    if kind == 5 { 1 } else { 0 }
-}
-
 // Line y = w (B + 1) + k along h, a plain one.
-fn along_h(plan: Plan, y: usize) -> Line
+pub fn along_h(plan: Plan, y: usize) -> Line
     requires { ⌜ Planned plan × (y < alongH (groupIn plan) (halvesIn plan) .count) ⌝ }
     ensures { λ r. ⌜ Gathered plan (turnOf (alongH (groupIn plan) (halvesIn plan)) (turnedH (groupIn plan) (halvesIn plan) (plan .m) (plan .direction)) y) r ⌝ }
 {
@@ -169,7 +73,7 @@ fn along_h(plan: Plan, y: usize) -> Line
 }
 
 // Row y = w N1 + h along k.
-fn row_at(plan: Plan, y: usize) -> Line
+pub fn row_at(plan: Plan, y: usize) -> Line
     requires { ⌜ Planned plan × (y < alongK (groupIn plan) (halvesIn plan) .count) ⌝ }
     ensures { λ r. ⌜ Row plan (turnOf (alongK (groupIn plan) (halvesIn plan)) (turnedK (groupIn plan) (halvesIn plan) (plan .m) (plan .direction)) y) r ⌝ }
 {

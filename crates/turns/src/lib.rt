@@ -1,4 +1,4 @@
-// All lines of a job in their turn: the loop of synthesis and of analysis, in the lent volume. Crate axes says what line each
+// All lines of a job in their turn: the loop of synthesis and of analysis, in the lent volume. Crate line_numbers says what line each
 // number stands for, and volume_lines turns it.
 use axes::Plan;
 ghost use mathlib.Core.Path.{_≡_};
@@ -25,10 +25,10 @@ pub fn turn_volume<'a>(
     requires { ⌜ Lent (now scratch) (now fold) (now work) ⌝ }
     ensures { λ _. ⌜ (now (volume .exit) ≡ turns (planTurn plan) 0 (lineCount (groupIn plan) (halvesIn plan)) (now (volume .entry))) × Kept (now (scratch .entry)) (now (scratch .exit)) ⌝ }
 {
-    let count = axes::line_count(plan);
+    let count = line_numbers::line_count(plan);
     let mut n = 0;
     while n < count {
-        let line = axes::line_in_turn(plan, n);
+        let line = line_numbers::line_in_turn(plan, n);
         volume_lines::turn(m, line, re, im, tan, volume, scratch, fold, work);
         n += 1;
     }

@@ -1,9 +1,9 @@
 -- The axes in their order, or in the other one.
 use native.Mathlib.Omega.{arith}
 use Rattle.axes.proofs.Numbered.{other-direction}
 use Rattle.axes.proofs.AxisLines.{turn-same, turn-back-k, turn-back-h, turn-back-l}
-use Rattle.axes.proofs.line_of_turn.Statement.{statement}
-use Rattle.axes.proofs.line_of_turn.Tie as tie
+use Rattle.line_numbers.proofs.line_of_turn.Statement.{statement}
+use Rattle.line_numbers.proofs.line_of_turn.Tie as tie
 
 line-counts-requires : tie.Need-line-counts-requires
 line-counts-requires c κs = c .pre .0 .sizes

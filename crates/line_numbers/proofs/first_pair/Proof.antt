@@ -1,8 +1,8 @@
 -- Only an antisymmetric line leaves pairs out.
 use native.Mathlib.Omega.{arith}
 use Rattle.axes.proofs.Numbered.{first-of, first-other}
-use Rattle.axes.proofs.first_pair.Statement.{statement}
-use Rattle.axes.proofs.first_pair.Tie as tie
+use Rattle.line_numbers.proofs.first_pair.Statement.{statement}
+use Rattle.line_numbers.proofs.first_pair.Tie as tie
 
 returns : tie.Need-returns
 returns c = (first-of _ (c .if1 .taken), omega arith)

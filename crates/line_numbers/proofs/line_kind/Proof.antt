@@ -1,8 +1,8 @@
 -- The kind of each group's lines along l.
 use native.Mathlib.Omega.{arith}
 use Rattle.axes.proofs.Numbered.{kind-P1, kind-P2₁, kind-Pm, kind-even, kind-odd}
-use Rattle.axes.proofs.line_kind.Statement.{statement}
-use Rattle.axes.proofs.line_kind.Tie as tie
+use Rattle.line_numbers.proofs.line_kind.Statement.{statement}
+use Rattle.line_numbers.proofs.line_kind.Tie as tie
 
 returns : tie.Need-returns
 returns c = (omega arith, kind-P1 _ _ (c .if1 .taken), λ e. omega arith)

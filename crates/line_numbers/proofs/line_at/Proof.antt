@@ -1,8 +1,8 @@
 -- The number of a line tells its axis.
 use native.Mathlib.Omega.{arith}
 use Rattle.axes.proofs.AxisLines.{at-l, at-h, at-k}
-use Rattle.axes.proofs.line_at.Statement.{statement}
-use Rattle.axes.proofs.line_at.Tie as tie
+use Rattle.line_numbers.proofs.line_at.Statement.{statement}
+use Rattle.line_numbers.proofs.line_at.Tie as tie
 
 line-counts-requires : tie.Need-line-counts-requires
 line-counts-requires c κs = c .pre .0 .sizes

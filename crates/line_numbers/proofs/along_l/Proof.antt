@@ -1,10 +1,10 @@
 -- A line along l has the places of its kind.
 use borrow.Author.Needs.{needs}
 use native.Mathlib.Omega.{arith}
 use Rattle.axes.proofs.JobTurns.{width-low, plane-low, rows-low, start-l}
 use Rattle.axes.proofs.AxisLines.{gathered-l}
-use Rattle.axes.proofs.along_l.Statement.{statement}
-use Rattle.axes.proofs.along_l.Tie as tie
+use Rattle.line_numbers.proofs.along_l.Statement.{statement}
+use Rattle.line_numbers.proofs.along_l.Tie as tie
 
 add-width : tie.Need-add-width
 add-width c = let s = c .before in omega (arith, width-low (s .pre .0 .sizes .sizes))

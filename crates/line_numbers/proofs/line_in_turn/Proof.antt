@@ -1,8 +1,8 @@
 -- The line of the number.
 use mathlib.Core.Path.{subst}
 use Rattle.axes.specs.Plans.{LineAt}
-use Rattle.axes.proofs.line_in_turn.Statement.{statement}
-use Rattle.axes.proofs.line_in_turn.Tie as tie
+use Rattle.line_numbers.proofs.line_in_turn.Statement.{statement}
+use Rattle.line_numbers.proofs.line_in_turn.Tie as tie
 
 line-of-turn-requires : tie.Need-line-of-turn-requires
 line-of-turn-requires c κs = c .pre

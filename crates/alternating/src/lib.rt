@@ -63,7 +63,7 @@ pub fn inverse<'a>(
     requires { ⌜ (length (now fold) ≡ 2 * a) × (length (now work) ≡ 2 * a) ⌝ }
     ensures { λ _. ⌜ now (line .exit) ≡ listOf (slots alternating a) (fold-back (field m) (conj m) (i m) (real m (half m)) a (conj m (lineRoot m a (now (re .entry)) (now (im .entry)))) (real m (part m (2 * a))) (λ s. field m .neg (tangent m a (now (tan .entry)) s)) alternating (valuesOf m (now (line .entry)))) ⌝ }
 {
-    let share = reciprocals::reciprocal(m, (2 * a) as u32);
+    let share = folds::share(m, a);
     let twice = twice_sum(m, line);
     slant(m, tan, a, line, fold);
     plain::transform(m, re, im, factors, a, fold, work);

@@ -8,7 +8,6 @@ use mir.Val.{Fits}
 use native.Mathlib.Omega.{arith}
 use Rattle.algebra.specs.Ring.{Ops, pow}
 use Rattle.algebra.specs.Folds.{turned, fold1, back1}
-use Rattle.algebra.proofs.Laws.{neg-mul}
 use Rattle.algebra.proofs.Transform.{pow-mul}
 use Rattle.numbers.specs.declared.Pair.{Pair}
 use Rattle.numbers.specs.Value.{Value, field, conj, i, real, half, valueOf, pairOf}
@@ -16,7 +15,7 @@ use Rattle.root.specs.Root.{entryAt, tableRoot}
 use Rattle.numbers.proofs.Values.{value-by, field-ring, field-star}
 use Rattle.folds.specs.Frame.{stride, lineRoot, Frame}
 use Rattle.folds.proofs.Frames.{stride-inside}
-use Rattle.braids.specs.Braids.{crossed}
+use Rattle.braids.specs.Braids.{crossed, straight}
 use Rattle.braids.proofs.Forms.{braidOf, unbraidOf}
 use Rattle.braiding.specs.Braiding.{straightened, turnedBack}
 
@@ -28,14 +27,11 @@ module _ (m : ℕ) (p : ℕ → Value m) where
   straight-zero false e = refl
   straight-zero true e = rw e
 
-  pub straight-kept : {anti : Bool} (t : ℕ) → anti ≡ false → straightened m anti p t ≡ p t
-  unfolding straightened
-  straight-kept t e = rw e
-
-  pub straight-turned : {anti : Bool} (t : ℕ) → anti ≡ true → (t ≡ 0 → ⊥) → straightened m anti p t ≡ field m .neg (field m .mul (i m) (p t))
-  unfolding straightened turned
-  straight-turned zero e n = absurd (n refl)
-  straight-turned (suc t) e n = rw e (neg-mul (field-ring m) (i m) (p (suc t)))
+  pub straight-more : (anti : Bool) (t : ℕ) → (t ≡ 0 → ⊥) → straightened m anti p t ≡ straight m anti (p t)
+  unfolding straightened straight turned
+  straight-more anti zero n = absurd (n refl)
+  straight-more false (suc t) n = refl
+  straight-more true (suc t) n = refl
 
   pub back-first : (anti : Bool) {t : ℕ} → t ≡ 0 → turnedBack m anti p t ≡ p t
   unfolding turnedBack turned

@@ -76,11 +76,7 @@ fn straight_at(m: u32, anti: bool, t: usize, line: &[u32]) -> Pair
         // The two numbers of pair 0 are reals of the Hermitian line as they are.
         v
     } else {
-        if anti {
-            numbers::negated(m, numbers::times_i(m, v))
-        } else {
-            v
-        }
+        braids::straight(m, anti, v)
     }
 }
 

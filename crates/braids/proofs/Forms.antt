@@ -1,19 +1,22 @@
 -- A braid of two values, as the code computes it.
-use mathlib.Core.Path.{_≡_, refl, _∙_, ap, ap₂}
+use mathlib.Core.Path.{_≡_, refl, _∙_, sym, ap, ap₂}
+use mathlib.Core.Bool.{Bool, true, false}
 use mathlib.Core.List.{[], _∷_}
 use Prim.Native.Nat.{ℕ}
 use Rattle.algebra.specs.Ring.{Ops, CRing}
 use Rattle.algebra.specs.Residue.{residues}
 use Rattle.algebra.specs.Gauss.{gauss, imag}
 use Rattle.algebra.specs.Folds.{braid, unbraid}
+use Rattle.algebra.proofs.Laws.{neg-mul}
 use Rattle.algebra.proofs.Solver.{ring, quote}
 use Rattle.numbers.specs.declared.Pair.{Pair}
-use Rattle.numbers.specs.Value.{Value, field, conj, i, real, half, valueOf, pairOf}
+use Rattle.numbers.specs.Prime.{prime}
+use Rattle.numbers.specs.Value.{Value, field, conj, i, real, half, valueOf, pairOf, Small}
 use Rattle.numbers.specs.Value as Value
 use Rattle.numbers.proofs.Residues.{res-ring}
-use Rattle.numbers.proofs.Values.{value-path, value-by, field-ring}
+use Rattle.numbers.proofs.Values.{value-path, value-by, pair-value, field-ring}
 use Rattle.numbers.proofs.Parts.{re-value, im-value}
-use Rattle.braids.specs.Braids.{crossed}
+use Rattle.braids.specs.Braids.{crossed, straight}
 
 -- ---- pair 0: the sum and the difference of two reals
 
@@ -58,3 +61,14 @@ module _ (m A : ℕ) (e x y : Value m) where
       (value-by m _ hg
       ∙ ap (λ z. field m .add (field m .add x y) (field m .mul e z)) (value-by m _ hu ∙ ap (field m .mul (i m)) (value-by m _ hd))
       ∙ ring (field-ring m) (e ∷ x ∷ y ∷ i m ∷ []) (search quote depth 40 fits 9999) refl)
+
+-- ---- the values of the two kinds
+
+module _ (m : ℕ) {anti : Bool} where
+  pub straight-kept : {v : Pair} → anti ≡ false → Small (prime m) v → v ≡ pairOf (straight m anti (valueOf m v))
+  unfolding straight
+  straight-kept e h = rw e (sym (pair-value m h))
+
+  pub straight-turned : (v : Pair) {u r : Pair} → anti ≡ true → u ≡ pairOf (field m .mul (i m) (valueOf m v)) → r ≡ pairOf (field m .neg (valueOf m u)) → r ≡ pairOf (straight m anti (valueOf m v))
+  unfolding straight
+  straight-turned v e hu hr = rw e (hr ∙ ap pairOf (ap (field m .neg) (value-by m _ hu) ∙ sym (neg-mul (field-ring m) (i m) (valueOf m v))))

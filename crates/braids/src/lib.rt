@@ -7,7 +7,7 @@ ghost use Prim.Native.Nat.{ℕ};
 ghost use Rattle.algebra.specs.Folds as Folds;
 ghost use Rattle.numbers.specs.Prime.{prime, IsModulus};
 ghost use Rattle.numbers.specs.Value.{field, conj, i, half, real, valueOf, pairOf, Small};
-ghost use Rattle.braids.specs.Braids.{crossed};
+ghost use Rattle.braids.specs.Braids.{crossed, straight};
 
 // x + y and x - y of the two reals that share a pair: again two reals that share a pair.
 pub fn cross(m: u32, v: Pair) -> Pair
@@ -36,4 +36,16 @@ pub fn unbraid(m: u32, e: Pair, x: Pair, y: Pair) -> Pair
 {
     let turned = numbers::times_i(m, numbers::difference(m, y, x));
     numbers::halved(m, unreduced::plus_product(m, x, y, e, turned))
+}
+
+// -i v, the value of the Hermitian line of which an antihermitian one is i times; a Hermitian line's own value as it is.
+pub fn straight(m: u32, anti: bool, v: Pair) -> Pair
+    requires { ⌜ IsModulus m × Small (prime m) v ⌝ }
+    ensures { λ r. ⌜ r ≡ pairOf (straight m anti (valueOf m v)) ⌝ }
+{
+    if anti {
+        numbers::negated(m, numbers::times_i(m, v))
+    } else {
+        v
+    }
 }

@@ -3,4 +3,16 @@
 //
 // A line of N = 2 A values is lent packed, as its kind says. Each pass reads one slice and fills another; the formula of one
 // pair is a function of its own, and the ends of a line (the pair 0, the middle) are cases of that function.
-// The forms are those of document 001, proved equal to the direct sums in the crate `line`. No run-time code is shared.
+// The forms are those of document 001, proved equal to the direct sums in the crate `line`.
+ghost use mathlib.Core.Path.{_≡_};
+ghost use Prim.Native.Nat.{_*_, _<_, _≤_};
+ghost use Rattle.numbers.specs.Prime.{prime, IsModulus};
+ghost use Rattle.numbers.specs.Value.{part};
+
+// 1/N, by which the inverse of every folded line is multiplied: N = 2 A is the length of the line, not that of the short transform.
+pub fn share(m: u32, a: usize) -> u32
+    requires { ⌜ IsModulus m × (0 < a) × (a ≤ 1440) ⌝ }
+    ensures { λ r. ⌜ (r ≡ part m (2 * a) .val) × (r < prime m) ⌝ }
+{
+    reciprocals::reciprocal(m, (2 * a) as u32)
+}

@@ -53,7 +53,7 @@ pub fn inverse<'a>(
     requires { ⌜ Below (prime m) (now line) ⌝ }
     ensures { λ _. ⌜ ((tau : ℕ → Value m) → now (line .exit) ≡ listOf (slots (kindOf anti) a) (fold-back (field m) (conj m) (i m) (real m (half m)) a (conj m (lineRoot m a (now (re .entry)) (now (im .entry)))) (real m (part m (2 * a))) tau (kindOf anti) (valuesOf m (now (line .entry))))) ⌝ }
 {
-    let c = reciprocals::reciprocal(m, (2 * a) as u32);
+    let c = folds::share(m, a);
     slices::copy(line, braided, a);
     plain::transform(m, re, im, factors, a, braided, work);
     braiding::unfold(m, re, im, anti, c, a, braided, line);

@@ -85,7 +85,6 @@ fn unfolded<'a>(
         alternating::inverse(m, re, im, tan, factors, a, line, fold, work);
     } else {
         let first = (kind - 4) as usize;
-        let share = reciprocals::reciprocal(m, (2 * a) as u32);
-        mirror::inverse(m, re, im, tan, factors, share, first, a, line, fold, work);
+        mirror::inverse(m, re, im, tan, factors, first, a, line, fold, work);
     }
 }

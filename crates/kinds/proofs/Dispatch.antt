@@ -10,9 +10,8 @@ use Rattle.algebra.specs.Ring.{Ops, pow}
 use Rattle.algebra.specs.Fourier.{dft}
 use Rattle.algebra.specs.Kinds.{Kind, slots, fold-forward, fold-back}
 use Rattle.numbers.specs.Prime.{IsModulus}
-use Rattle.numbers.specs.Value.{Value, field, conj, i, res, real, half, part}
+use Rattle.numbers.specs.Value.{Value, field, conj, i, real, half, part}
 use Rattle.root.specs.Root.{tableRoot, RootTable}
-use Rattle.numbers.proofs.Residues.{res-by}
 use Rattle.slices.specs.Values.{valuesOf, listOf}
 use Rattle.factors.specs.Factors.{Factored}
 use Rattle.folds.specs.Frame.{Frame, lineRoot, tangent}
@@ -73,14 +72,6 @@ module _ (a : ℕ) (size : AdmittedLength (2 * a)) where
     pub back-by : BackwardTables m re im tan → {l : List ℕ} →
         l ≡ listOf (slots k a) (fold-back (field m) (conj m) (i m) (real m (half m)) a (conj m (lineRoot m a re im)) (real m (part m (2 * a))) (λ s. field m .neg (tangent m a tan s)) k (valuesOf m line)) → l ≡ transformed m kind 1 (2 * a) line
     back-by h el = el ∙ back-line m is a half-positive half-divides h kind e line
-
-    -- with 1/N as the number that the code holds for it
-    pub back-share-by : BackwardTables m re im tan → {c : ℕ} {l : List ℕ} → c ≡ (part m (2 * a)) .val →
-        l ≡ listOf (slots k a) (fold-back (field m) (conj m) (i m) (real m (half m)) a (conj m (lineRoot m a re im)) (real m (res m c)) (λ s. field m .neg (tangent m a tan s)) k (valuesOf m line)) → l ≡ transformed m kind 1 (2 * a) line
-    back-share-by h ec el =
-        el
-        ∙ ap (λ x. listOf (slots k a) (fold-back (field m) (conj m) (i m) (real m (half m)) a (conj m (lineRoot m a re im)) (real m x) (λ s. field m .neg (tangent m a tan s)) k (valuesOf m line))) (res-by m (part m (2 * a)) ec)
-        ∙ back-line m is a half-positive half-divides h kind e line
 
   module _ (m : ℕ) (is : IsModulus m) (kind : ℕ) (e : kind ≡ 0) (line : List ℕ) {re im tan : List ℕ} where
     pub plain-by : ForwardTables m re im tan → {l : List ℕ} →

@@ -12,8 +12,9 @@ use Rattle.algebra.specs.Kinds.{slots, before, fold-forward, fold-back}
 use Rattle.algebra.proofs.Laws.{along}
 use Rattle.algebra.proofs.Solver.{ring, quote}
 use Rattle.numbers.specs.declared.Pair.{Pair}
-use Rattle.numbers.specs.Value.{Value, field, conj, i, real, res, half, valueOf, pairOf}
+use Rattle.numbers.specs.Value.{Value, field, conj, i, real, res, half, part, valueOf, pairOf}
 use Rattle.root.specs.Root.{tableRoot}
+use Rattle.numbers.proofs.Residues.{res-by}
 use Rattle.numbers.proofs.Values.{value-by, field-ring, field-star}
 use Rattle.slices.specs.Values.{valuesOf, listOf}
 use Rattle.slices.proofs.Values.{values-list, list-cong}
@@ -100,13 +101,13 @@ module _ (m A first : ℕ) (re im tan line : List ℕ) (frame : Frame m A re im)
           ∙ finish-cong (field m) _ A _ _ _ _ _ (frame .positive) (short-transform frame _ hf hs) (first + p) (omega arith)
           ∙ forward-form (field m) (conj m) (i m) (real m (half m)) A _ q _ _ first one p
 
-  -- the way back, with the tables of the other root and the half tangents negated lent: each pair of the way forward times c
-  pub back-list : {result scaled : List ℕ} (c : ℕ) → ((q : Value m) → result ≡ listOf (slots (mirrored first) A) (forwardOf q))
+  -- the way back, with the tables of the other root and the half tangents negated lent: each pair of the way forward times the number c that holds 1/N
+  pub back-list : {result scaled : List ℕ} {c : ℕ} → ((q : Value m) → result ≡ listOf (slots (mirrored first) A) (forwardOf q)) → c ≡ part m (2 * A) .val
       → scaled ≡ listOf (stored A first) (λ t. field m .mul (real m (res m c)) (valuesOf m result t))
-      → scaled ≡ listOf (slots (mirrored first) A) (fold-back (field m) (conj m) (i m) (real m (half m)) A (conj m (lineRoot m A re im)) (real m (res m c)) (λ s. field m .neg (tangent m A tan s)) (mirrored first) (valuesOf m line))
-  back-list {result} {scaled} c hr hs =
+      → scaled ≡ listOf (slots (mirrored first) A) (fold-back (field m) (conj m) (i m) (real m (half m)) A (conj m (lineRoot m A re im)) (real m (part m (2 * A))) (λ s. field m .neg (tangent m A tan s)) (mirrored first) (valuesOf m line))
+  back-list {result} hr hc hs =
       hs
-      ∙ ap (λ n. listOf n (λ t. field m .mul (real m (res m c)) (valuesOf m result t))) (stored-slots A first one)
+      ∙ ap₂ (λ n x. listOf n (λ t. field m .mul (real m x) (valuesOf m result t))) (stored-slots A first one) (res-by m (part m (2 * A)) hc)
       ∙ list-cong m (slots (mirrored first) A) _ _ (λ t l.
-      ap (field m .mul (real m (res m c))) (ap (λ d. valuesOf m d t) (hr (field m .one)) ∙ values-list m (slots (mirrored first) A) (forwardOf (field m .one)) t l)
-      ∙ back-form (field-ring m) (field-star m) (real m (half m)) A (lineRoot m A re im) (real m (res m c)) (field m .one) (tangent m A tan) (valuesOf m line) first t)
+      ap (field m .mul (real m (part m (2 * A)))) (ap (λ d. valuesOf m d t) (hr (field m .one)) ∙ values-list m (slots (mirrored first) A) (forwardOf (field m .one)) t l)
+      ∙ back-form (field-ring m) (field-star m) (real m (half m)) A (lineRoot m A re im) (real m (part m (2 * A))) (field m .one) (tangent m A tan) (valuesOf m line) first t)

@@ -4,12 +4,12 @@
 // the places 0 .. A, and 1 for an antisymmetric one, which is zero at 0 and A and stores 1 .. A - 1. No two values share a pair, before
 // the transform or after it: the transform has the rule of its line, and the way back is the way forward with the other root, divided by N.
 ghost use mathlib.Core.Path.{_≡_};
-ghost use Prim.Native.Nat.{_*_, _<_, _≤_};
+ghost use Prim.Native.Nat.{_*_, _≤_};
 ghost use lib.ListN.{length};
 ghost use Rattle.algebra.specs.Ring.{Ops};
 ghost use Rattle.algebra.specs.Kinds.{slots, fold-forward, fold-back};
 ghost use Rattle.numbers.specs.Prime.{prime};
-ghost use Rattle.numbers.specs.Value.{Value, field, conj, i, res, real, half};
+ghost use Rattle.numbers.specs.Value.{Value, field, conj, i, part, real, half};
 ghost use Rattle.slices.specs.Pairs.{Below};
 ghost use Rattle.slices.specs.Values.{valuesOf, listOf};
 ghost use Rattle.factors.specs.Factors.{Factored};
@@ -40,7 +40,7 @@ pub fn forward<'a>(
     joining::finish(m, tan, first, a, odds, fold, line);
 }
 
-// The inverse of a line, c = 1/N: lent are the tables of the conjugate root and the half tangents of that, which are the negated ones.
+// The inverse of a line, divided by N: lent are the tables of the conjugate root and the half tangents of that, which are the negated ones.
 // So e(1/N) is the conjugate of the lent root's, and tau the lent half tangent negated.
 pub fn inverse<'a>(
     m: u32,
@@ -48,18 +48,18 @@ pub fn inverse<'a>(
     im: &'a [u32; 2880],
     tan: &[u32; 1440],
     factors: u32,
-    c: u32,
     first: usize,
     a: usize,
     line: &mut [u32],
     fold: &mut [u32],
     work: &mut [u32],
 )
-    requires { ⌜ Frame m a (now re) (now im) × Tangents m (now tan) × Factored factors a × (first ≤ 1) × (c < prime m) ⌝ }
+    requires { ⌜ Frame m a (now re) (now im) × Tangents m (now tan) × Factored factors a × (first ≤ 1) ⌝ }
     requires { ⌜ (length (now line) ≡ 2 * slots (mirrored first) a) × (length (now fold) ≡ 2 * a) × (length (now work) ≡ 2 * a) ⌝ }
     requires { ⌜ Below (prime m) (now line) ⌝ }
-    ensures { λ _. ⌜ now (line .exit) ≡ listOf (slots (mirrored first) a) (fold-back (field m) (conj m) (i m) (real m (half m)) a (conj m (lineRoot m a (now (re .entry)) (now (im .entry)))) (real m (res m c)) (λ s. field m .neg (tangent m a (now (tan .entry)) s)) (mirrored first) (valuesOf m (now (line .entry)))) ⌝ }
+    ensures { λ _. ⌜ now (line .exit) ≡ listOf (slots (mirrored first) a) (fold-back (field m) (conj m) (i m) (real m (half m)) a (conj m (lineRoot m a (now (re .entry)) (now (im .entry)))) (real m (part m (2 * a))) (λ s. field m .neg (tangent m a (now (tan .entry)) s)) (mirrored first) (valuesOf m (now (line .entry)))) ⌝ }
 {
+    let c = folds::share(m, a);
     let n = a + 1 - 2 * first;
     forward(m, re, im, tan, factors, first, a, line, fold, work);
     scaling::scale(m, c, n, line);

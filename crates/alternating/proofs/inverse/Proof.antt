@@ -12,14 +12,8 @@ use Rattle.alternating.proofs.Whole.{back-by}
 use Rattle.alternating.proofs.inverse.Statement.{statement}
 use Rattle.alternating.proofs.inverse.Tie as tie
 
-mul-reciprocal : tie.Need-mul-reciprocal
-mul-reciprocal c = search needs
-
-cast-reciprocal : tie.Need-cast-reciprocal
-cast-reciprocal c = let s = c .before .before .before in omega (arith, half-most (s .pre .0 .0))
-
-reciprocal-requires : tie.Need-reciprocal-requires
-reciprocal-requires c κs = let s = c .before .before .before in (s .pre .0 .0 .modulus, omega (arith, s .pre .0 .0 .positive))
+share-requires : tie.Need-share-requires
+share-requires c κs = let f = c .before .before .before .pre .0 .0 in (f .modulus, f .positive, half-most f)
 
 twice-sum-requires : tie.Need-twice-sum-requires
 twice-sum-requires c κs =
@@ -43,7 +37,7 @@ pack-requires c κs =
     let r = o .before .before in
     let s = r .before .before .before .before in
     let f = s .pre .0 .0 in
-    ((f .modulus, r .reciprocal .ensures .1, o .twice-sum .ensures .0), ((length-of (s .args .m) (s .args .a) _ (t .transform .ensures .0), below-of (s .args .m) (s .args .a) _ (t .transform .ensures .0)), s .pre .1 .0 .0))
+    ((f .modulus, r .share .ensures .1, o .twice-sum .ensures .0), ((length-of (s .args .m) (s .args .a) _ (t .transform .ensures .0), below-of (s .args .m) (s .args .a) _ (t .transform .ensures .0)), s .pre .1 .0 .0))
 
 same-length : tie.Need-same-length
 same-length c = search needs
@@ -64,15 +58,13 @@ returns c =
     let s = r .before .before .before .before in
     let f = s .pre .0 .0 in
     back-by (s .args .m) (s .args .a) f (λ k. field (s .args .m) .neg (tangent (s .args .m) (s .args .a) (s .args .tan .now) k)) (valuesOf (s .args .m) (s .args .line .now))
-    (part (s .args .m) (2 * s .args .a)) (e .pack .ensures) (r .reciprocal .ensures .0) (o .twice-sum .ensures .1 (s .args .a)) (w .slant .ensures) (t .transform .ensures .0)
+    (part (s .args .m) (2 * s .args .a)) (e .pack .ensures) (r .share .ensures .0) (o .twice-sum .ensures .1 (s .args .a)) (w .slant .ensures) (t .transform .ensures .0)
 
 pub inverse-spec : {M : Type 1} → statement M
 inverse-spec =
     tie.close
     (tie.spec
-    mul-reciprocal
-    cast-reciprocal
-    reciprocal-requires
+    share-requires
     twice-sum-requires
     slant-requires
     transform-requires

@@ -2,7 +2,6 @@
 use mathlib.Core.Path.{_≡_, _∙_, sym, ap, subst}
 use Prim.Native.Nat.{_/_}
 use native.Mathlib.Nat.{le-of-eq}
-use native.Mathlib.Omega.{arith}
 use lib.ListN.{length}
 use Rattle.algebra.specs.Ring.{pow}
 use Rattle.algebra.specs.Fourier.{dft}
@@ -15,18 +14,11 @@ use Rattle.slices.proofs.Pairs.{fills-whole}
 use Rattle.slices.proofs.Values.{length-of, below-of}
 use Rattle.folds.proofs.Frames.{half-divides, half-most}
 use Rattle.hermitian.proofs.Whole.{back-list}
-use borrow.Author.Needs.{needs}
 use Rattle.hermitian.proofs.inverse.Statement.{statement}
 use Rattle.hermitian.proofs.inverse.Tie as tie
 
-mul-reciprocal : tie.Need-mul-reciprocal
-mul-reciprocal c = search needs
-
-cast-reciprocal : tie.Need-cast-reciprocal
-cast-reciprocal c = omega (arith, half-most (c .before .before .before .pre .0 .0))
-
-reciprocal-requires : tie.Need-reciprocal-requires
-reciprocal-requires c κs = let f = c .before .before .before .pre .0 .0 in (f .modulus, omega (arith, f .positive))
+share-requires : tie.Need-share-requires
+share-requires c κs = let f = c .before .before .before .pre .0 .0 in (f .modulus, f .positive, half-most f)
 
 copy-requires : tie.Need-copy-requires
 copy-requires c κs = let s = c .before .before .before .before .before .before in (le-of-eq (sym (s .pre .1 .0 .0)), le-of-eq (sym (s .pre .1 .0 .1)))
@@ -54,7 +46,7 @@ unfold-requires c κs =
     let m = s .args .m in
     let a = s .args .a in
     let g = dft (field m) a (pow (field m) (tableRoot m (s .args .re .now) (s .args .im .now)) (2880 / a)) (valuesOf m (k .copy .last .1 .0)) in
-    ((s .pre .0 .0, k .before .before .before .reciprocal .ensures .1), ((length-of m a g (t .transform .ensures .0), s .pre .1 .0 .0), below-of m a g (t .transform .ensures .0)))
+    ((s .pre .0 .0, k .before .before .before .share .ensures .1), ((length-of m a g (t .transform .ensures .0), s .pre .1 .0 .0), below-of m a g (t .transform .ensures .0)))
 
 same-length : tie.Need-same-length
 same-length c = c .before .before .«unfold» .kept .1 .1 .1 .1 .1 .1 .1 .0
@@ -74,15 +66,13 @@ returns c =
     let k = t .before .before .before .before .before in
     let r = k .before .before .before in
     let s = r .before .before .before .before in
-    back-list (s .args .m) (s .args .a) (s .pre .0 .0) (s .args .anti) (copied k) (t .transform .ensures .0) (r .reciprocal .ensures .0) (u .«unfold» .ensures)
+    back-list (s .args .m) (s .args .a) (s .pre .0 .0) (s .args .anti) (copied k) (t .transform .ensures .0) (r .share .ensures .0) (u .«unfold» .ensures)
 
 pub inverse-spec : {M : Type 1} → statement M
 inverse-spec =
     tie.close
     (tie.spec
-    mul-reciprocal
-    cast-reciprocal
-    reciprocal-requires
+    share-requires
     copy-requires
     transform-requires
     unfold-requires

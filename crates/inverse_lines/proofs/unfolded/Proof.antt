@@ -6,7 +6,7 @@ use Rattle.numbers.specs.Value.{field}
 use Rattle.factors.specs.Factors.{Factored}
 use Rattle.folds.specs.Frame.{Frame, tangent}
 use Rattle.lengths.specs.Counts.{kindOf}
-use Rattle.kinds.proofs.Dispatch.{hermitian-kind, mirror-kind, frame-of, half-list, half-count, count-of, back-by, back-share-by}
+use Rattle.kinds.proofs.Dispatch.{hermitian-kind, mirror-kind, frame-of, half-list, half-count, count-of, back-by}
 use Rattle.inverse_lines.proofs.unfolded.Statement.{statement}
 use Rattle.inverse_lines.proofs.unfolded.Tie as tie
 
@@ -32,19 +32,10 @@ sub-first c = omega arith
 cast-first : tie.Need-cast-first
 cast-first c = omega arith
 
-mul-reciprocal : tie.Need-mul-reciprocal
-mul-reciprocal c = omega (arith, c .before .before .before .before .before .pre .1 .0 .0 .short)
-
-cast-reciprocal : tie.Need-cast-reciprocal
-cast-reciprocal c = omega (arith, c .before .before .before .before .before .pre .1 .0 .0 .short)
-
-reciprocal-requires : tie.Need-reciprocal-requires
-reciprocal-requires c κs = let s = c .before .before .before .before .before in (s .pre .0 .0, omega (arith, s .pre .1 .0 .0 .positive))
-
 inverse-requires-3 : tie.Need-inverse-requires-3
 inverse-requires-3 c κs =
-    let s = c .before .before .before .before .before .before .before .before .before in
-    ((frame s, s .pre .0 .3 .small, list s, omega arith, c .before .before .before .reciprocal .ensures .1), ((count-of (s .args .a) (s .pre .1 .0 .0) (s .args .kind) (mirror-kind (s .args .kind) (omega arith) (s .pre .0 .2)) (s .pre .1 .1 .0 .0), s .pre .1 .1 .1 .0, s .pre .1 .1 .1 .1), s .pre .1 .1 .0 .1))
+    let s = c .before .before .before .before .before .before .before .before in
+    ((frame s, s .pre .0 .3 .small, list s, omega arith), ((count-of (s .args .a) (s .pre .1 .0 .0) (s .args .kind) (mirror-kind (s .args .kind) (omega arith) (s .pre .0 .2)) (s .pre .1 .1 .0 .0), s .pre .1 .1 .1 .0, s .pre .1 .1 .1 .1), s .pre .1 .1 .0 .1))
 
 same-length : tie.Need-same-length
 same-length c = c .before .before .before .before .before .line .given
@@ -89,8 +80,8 @@ same-length-9 c = c .before .work3 .given
 returns-3 : tie.Need-returns-3
 returns-3 c =
     let r = c .before .before .before .before .before .before in
-    let s = r .before .before .before .before .before .before .before .before .before .before in
-    back-share-by (s .args .a) (s .pre .1 .0 .0) (s .args .m) (s .pre .0 .0) (s .args .kind) (mirror-kind (s .args .kind) (omega arith) (s .pre .0 .2)) (s .args .line .now) (s .pre .0 .3) (r .before .before .before .before .reciprocal .ensures .0) (r .inverse3 .ensures)
+    let s = r .before .before .before .before .before .before .before .before .before in
+    back-by (s .args .a) (s .pre .1 .0 .0) (s .args .m) (s .pre .0 .0) (s .args .kind) (mirror-kind (s .args .kind) (omega arith) (s .pre .0 .2)) (s .args .line .now) (s .pre .0 .3) (r .inverse3 .ensures)
 
 pub unfolded-spec : {M : Type 1} → statement M
 unfolded-spec =
@@ -100,9 +91,6 @@ unfolded-spec =
     inverse-requires-2
     sub-first
     cast-first
-    mul-reciprocal
-    cast-reciprocal
-    reciprocal-requires
     inverse-requires-3
     same-length
     same-length-2

@@ -80,6 +80,14 @@ unfolding mate
 mate-rest a zero e = absurd (e refl)
 mate-rest a (suc t) e = refl
 
+-- the mate of the places 2t and 2t + 1
+pub mate-even : (A j : ℕ) → j % 2 ≡ 0 → mate A ((j + 1) / 2) ≡ mate A (j / 2)
+mate-even A j e = along (mate A) ((j + 1) / 2) (j / 2) (omega arith)
+
+pub mate-odd : (A j : ℕ) → (j % 2 ≡ 0 → ⊥) → mate A ((j + 1) / 2) ≡ A - suc (j / 2)
+unfolding mate
+mate-odd A j e = along (mate A) ((j + 1) / 2) (suc (j / 2)) (omega arith)
+
 -- the sum of one value and the conjugate of another
 pub folded-by : (m : ℕ) (l : List ℕ) (j k : ℕ) {y z c r : Pair} → y ≡ at l j → z ≡ at l k → c ≡ pairOf (conj m (valueOf m z)) → r ≡ pairOf (field m .add (valueOf m y) (valueOf m c))
     → r ≡ pairOf (field m .add (valuesOf m l j) (conj m (valuesOf m l k)))

@@ -13,7 +13,7 @@ use Rattle.numbers.specs.Value.{Residue, Value, field, conj, i, res, real, half
 use Rattle.numbers.specs.Value as Value
 use Rattle.numbers.proofs.Residues.{res-by, val-res}
 use Rattle.numbers.proofs.Parts.{re-value, im-value}
-use Rattle.numbers.proofs.Values.{pair-path}
+use Rattle.numbers.proofs.Values.{pair-path, real-times}
 use Rattle.slices.specs.Pairs.{at}
 use Rattle.slices.specs.Values.{valuesOf}
 use Rattle.folds.specs.Frame.{stride, tangent}
@@ -65,16 +65,19 @@ module _ (m A : ℕ) (tan fold : List ℕ) (odd : ℕ) where
       ∙ ap (λ x. pairOf (field m .add x (field m .mul (i m) (real m (res m odd))))) (real-add m _ _ ∙ ap (λ x. field m .add x (real m (res m odd))) (read-re m fold 0 ev))
   finish-first (suc s) z ev l e = absurd (omega arith)
 
-  -- c is the cotangent, d the cosecant
-  pub finish-rest : (s c d : ℕ) {v : Pair} {x y r : ℕ} → (s ≡ 0 → ⊥) → v ≡ at fold s
-      → real m (res m c) ≡ cot (field m) (real m (half m)) A (tangent m A tan) s → real m (res m d) ≡ csc (field m) (real m (half m)) A (tangent m A tan) s
-      → x ≡ (Value.ring m .mul (res m (v .im)) (res m c)) .val → y ≡ (Value.ring m .mul (res m (v .im)) (res m d)) .val
-      → r ≡ (Value.ring m .add (res m (v .re)) (res m x)) .val
-      → record { re = r; im = y } ≡ pairOf (finish3 (field m) (conj m) (i m) (real m (half m)) A (tangent m A tan) (valuesOf m fold) (real m (res m odd)) s)
-  unfolding finish3
-  finish-rest zero c d z ev ec ed ex ey er = absurd (z refl)
-  finish-rest (suc s) c d z ev ec ed ex ey er =
-      pair-parts m _ _ er ey
+  -- w holds the cotangent and the cosecant
+  pub finish-rest : (s : ℕ) (w : Pair) {v b : Pair} {r : ℕ} → (s ≡ 0 → ⊥) → v ≡ at fold s
+      → real m (res m (w .re)) ≡ cot (field m) (real m (half m)) A (tangent m A tan) s → real m (res m (w .im)) ≡ csc (field m) (real m (half m)) A (tangent m A tan) s
+      → b ≡ pairOf (field m .mul (real m (res m (v .im))) (valueOf m w))
+      → r ≡ (Value.ring m .add (res m (v .re)) (res m (b .re))) .val
+      → record { re = r; im = b .im } ≡ pairOf (finish3 (field m) (conj m) (i m) (real m (half m)) A (tangent m A tan) (valuesOf m fold) (real m (res m odd)) s)
+  unfolding finish3 valueOf pairOf
+  finish-rest zero w z ev ec ed eb er = absurd (z refl)
+  finish-rest (suc s) w {v} {b} z ev ec ed eb er =
+      pair-parts m _ _ er (ap (λ (p : Pair). p .im) parts)
       ∙ ap₂ (λ x y. pairOf (field m .add x (field m .mul (i m) y)))
-      (real-add m _ _ ∙ ap₂ (field m .add) (read-re m fold (suc s) ev) (ap (real m) (res-by m _ ex) ∙ real-mul m _ _ ∙ ap₂ (field m .mul) (read-im m fold (suc s) ev) ec))
+      (real-add m _ _ ∙ ap₂ (field m .add) (read-re m fold (suc s) ev) (ap (real m) (res-by m _ (ap (λ (p : Pair). p .re) parts)) ∙ real-mul m _ _ ∙ ap₂ (field m .mul) (read-im m fold (suc s) ev) ec))
       (real-mul m _ _ ∙ ap₂ (field m .mul) (read-im m fold (suc s) ev) ed)
+    where
+      parts : b ≡ pairOf (Value.ring m .mul (res m (v .im)) (res m (w .re)), Value.ring m .mul (res m (v .im)) (res m (w .im)))
+      parts = eb ∙ ap pairOf (real-times m (res m (v .im)) (valueOf m w))

@@ -9,14 +9,14 @@
 // sine and its real part E(s) less b(s) times the cosine of the angle of e(s/N). The sine is 0 at s = 0 alone, where b is summed apart.
 use numbers::Pair;
 ghost use mathlib.Core.Path.{_≡_};
-ghost use Prim.Native.Nat.{ℕ, suc, _*_, _-_, _<_};
-ghost use lib.ListN.{length, getD};
+ghost use Prim.Native.Nat.{ℕ, _*_, _<_, _≤_};
+ghost use lib.ListN.{length};
 ghost use Rattle.algebra.specs.Ring.{Ops};
 ghost use Rattle.algebra.specs.Line.{packB3};
 ghost use Rattle.algebra.specs.Folds.{mate, csc, cot, finish3, slant, twice-M, line3};
 ghost use Rattle.algebra.specs.Kinds.{Kind, Kind.alternating, slots, fold-forward, fold-back};
 ghost use Rattle.numbers.specs.Prime.{prime, IsModulus};
-ghost use Rattle.numbers.specs.Value.{field, conj, i, res, real, half, part, pairOf};
+ghost use Rattle.numbers.specs.Value.{field, conj, i, res, real, half, part, pairOf, Small};
 ghost use Rattle.slices.specs.Pairs.{Below};
 ghost use Rattle.slices.specs.Values.{valuesOf, listOf};
 ghost use Rattle.factors.specs.Factors.{Factored};
@@ -70,34 +70,18 @@ pub fn inverse<'a>(
     pack(m, share, twice, a, fold, line);
 }
 
-// tau(s), the half tangent of e(s/N).
-fn half_tangent(m: u32, tan: &[u32; 1440], step: usize, a: usize, s: usize) -> u32
-    requires { ⌜ Tangents m (now tan) ⌝ }
-    requires { ⌜ (step ≡ stride a) × (a * step ≡ 1440) × (s < a) ⌝ }
-    ensures { λ r. ⌜ (r < prime m) × (r ≡ getD (now (tan .entry)) (stride a * s) 0) ⌝ }
-{
-    tan[step * s]
-}
-
-// The cotangent and the cosecant of the angle of e(s/N), from its half tangent tau(s) and tau(A - s) = 1/tau(s).
-fn cotangent(m: u32, tan: &[u32; 1440], step: usize, a: usize, s: usize) -> u32
+// The cotangent and the cosecant of the angle of e(s/N), as the parts of a pair: from its half tangent tau(s) and tau(A - s) = 1/tau(s).
+fn angle(m: u32, tan: &[u32; 1440], step: usize, a: usize, s: usize) -> Pair
     requires { ⌜ IsModulus m × Tangents m (now tan) ⌝ }
     requires { ⌜ (step ≡ stride a) × (a * step ≡ 1440) × (0 < s) × (s < a) ⌝ }
-    ensures { λ r. ⌜ (r < prime m) × (real m (res m r) ≡ cot (field m) (real m (half m)) a (tangent m a (now (tan .entry))) s) ⌝ }
+    ensures { λ r. ⌜ Small (prime m) r × (real m (res m (r .re)) ≡ cot (field m) (real m (half m)) a (tangent m a (now (tan .entry))) s) × (real m (res m (r .im)) ≡ csc (field m) (real m (half m)) a (tangent m a (now (tan .entry))) s) ⌝ }
 {
-    let near = half_tangent(m, tan, step, a, s);
-    let far = half_tangent(m, tan, step, a, a - s);
-    numbers::halve(m, numbers::sub(m, far, near))
-}
-
-fn cosecant(m: u32, tan: &[u32; 1440], step: usize, a: usize, s: usize) -> u32
-    requires { ⌜ IsModulus m × Tangents m (now tan) ⌝ }
-    requires { ⌜ (step ≡ stride a) × (a * step ≡ 1440) × (0 < s) × (s < a) ⌝ }
-    ensures { λ r. ⌜ (r < prime m) × (real m (res m r) ≡ csc (field m) (real m (half m)) a (tangent m a (now (tan .entry))) s) ⌝ }
-{
-    let near = half_tangent(m, tan, step, a, s);
-    let far = half_tangent(m, tan, step, a, a - s);
-    numbers::halve(m, numbers::add(m, near, far))
+    let near = tan[step * s];
+    let far = tan[step * (a - s)];
+    Pair {
+        re: numbers::halve(m, numbers::sub(m, far, near)),
+        im: numbers::halve(m, numbers::add(m, near, far)),
+    }
 }
 
 // One result, from the short transform and the sum of the imaginary parts at the odd places.
@@ -124,11 +108,10 @@ fn finish_at(
         }
     } else {
         // E(s) = Re Y^(s) + b(s) cos and b(s) = Im Y^(s)/sin
-        let cosine = numbers::mul(m, v.im, cotangent(m, tan, step, a, s));
-        let b = numbers::mul(m, v.im, cosecant(m, tan, step, a, s));
+        let b = numbers::scaled(m, v.im, angle(m, tan, step, a, s));
         Pair {
-            re: numbers::add(m, v.re, cosine),
-            im: b,
+            re: numbers::add(m, v.re, b.re),
+            im: b.im,
         }
     }
 }
@@ -163,8 +146,9 @@ fn slant_at(m: u32, tan: &[u32; 1440], step: usize, a: usize, line: &[u32], s: u
         // V(0) = E(0): the first rule alone, as the two disagree there
         Pair { re: z.re, im: 0 }
     } else {
-        let along = numbers::mul(m, z.re, cotangent(m, tan, step, a, s));
-        let up = numbers::mul(m, z.im, cosecant(m, tan, step, a, s));
+        let of = angle(m, tan, step, a, s);
+        let along = numbers::mul(m, z.re, of.re);
+        let up = numbers::mul(m, z.im, of.im);
         Pair {
             re: z.re,
             im: numbers::neg(m, numbers::add(m, along, up)),
@@ -201,45 +185,26 @@ fn twice_sum(m: u32, line: &[u32]) -> u32
 
 // The place A - t, and 0 for 0: the short transform's places are counted modulo A.
 fn mate_of(a: usize, t: usize) -> usize
-    requires { ⌜ t < a ⌝ }
+    requires { ⌜ (0 < a) × (t ≤ a) ⌝ }
     ensures { λ r. ⌜ (r ≡ mate a t) × (r < a) ⌝ }
 {
     if t == 0 { 0 } else { a - t }
 }
 
-// X(2t), from the short transform y and 1/N.
-fn even_at(m: u32, part: u32, a: usize, fold: &[u32], t: usize) -> Pair
-    requires { ⌜ IsModulus m × (part < prime m) × (t < a) ⌝ }
-    requires { ⌜ (length (now fold) ≡ 2 * a) × Below (prime m) (now fold) ⌝ }
-    ensures { λ r. ⌜ r ≡ pairOf (field m .mul (real m (res m part)) (field m .add (valuesOf m (now (fold .entry)) t) (conj m (valuesOf m (now (fold .entry)) (mate a t))))) ⌝ }
-{
-    let y = slices::get(fold, t);
-    let c = numbers::conjugate(m, slices::get(fold, mate_of(a, t)));
-    numbers::scaled(m, part, numbers::sum(m, y, c))
-}
-
-// X(2t + 1), from the short transform y, `twice_sum` and 1/N.
-fn odd_at(m: u32, part: u32, twice: u32, a: usize, fold: &[u32], t: usize) -> Pair
-    requires { ⌜ IsModulus m × (part < prime m) × (twice < prime m) × (t < a) ⌝ }
-    requires { ⌜ (length (now fold) ≡ 2 * a) × Below (prime m) (now fold) ⌝ }
-    ensures { λ r. ⌜ r ≡ pairOf (field m .mul (real m (res m part)) (field m .mul (i m) (field m .add (real m (res m twice)) (field m .neg (field m .add (valuesOf m (now (fold .entry)) t) (conj m (valuesOf m (now (fold .entry)) (a - suc t)))))))) ⌝ }
-{
-    let y = slices::get(fold, t);
-    let c = numbers::conjugate(m, slices::get(fold, a - (t + 1)));
-    let d = numbers::difference(m, Pair { re: twice, im: 0 }, numbers::sum(m, y, c));
-    numbers::scaled(m, part, numbers::times_i(m, d))
-}
-
-// X(j), j < N.
+// X(j), j < N, from the short transform y, `twice_sum` and 1/N. With y(t) go the conjugates of y(A - t) for X(2t), and of y(A - t - 1) for X(2t + 1).
 fn line_at(m: u32, part: u32, twice: u32, a: usize, fold: &[u32], j: usize) -> Pair
     requires { ⌜ IsModulus m × (part < prime m) × (twice < prime m) × (j < 2 * a) ⌝ }
     requires { ⌜ (length (now fold) ≡ 2 * a) × Below (prime m) (now fold) ⌝ }
     ensures { λ r. ⌜ r ≡ pairOf (line3 (field m) (conj m) (i m) (real m (half m)) a (real m (res m part)) (valuesOf m (now (fold .entry))) (real m (res m twice)) j) ⌝ }
 {
+    let y = slices::get(fold, j / 2);
+    let c = numbers::conjugate(m, slices::get(fold, mate_of(a, (j + 1) / 2)));
+    let both = numbers::sum(m, y, c);
     if j % 2 == 0 {
-        even_at(m, part, a, fold, j / 2)
+        numbers::scaled(m, part, both)
     } else {
-        odd_at(m, part, twice, a, fold, j / 2)
+        let d = numbers::difference(m, Pair { re: twice, im: 0 }, both);
+        numbers::scaled(m, part, numbers::times_i(m, d))
     }
 }
 

@@ -7,7 +7,7 @@ use job::Job;
 use job::valid;
 use refusal_order::Checked;
 use refusal_order::Refusal;
-use refusals::synthesis;
+use volume_refusals::synthesis;
 ghost use mathlib.Core.Path.{_≡_};
 ghost use Prim.Native.Nat.{_≤_};
 ghost use lib.ListN.{length};

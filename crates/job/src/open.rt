@@ -52,7 +52,17 @@ pub fn open(
 ) -> OpenAnswer
     ensures { λ r. ⌜ openOutcome r (now (volume .exit)) ≡ openStep (record { group = group; lengths = (n1, n2, n3); list1 = now (f1 .entry); list2 = now (f2 .entry); list3 = now (f3 .entry) }) kind (now (volume .entry)) ⌝ }
 {
-    let checked = refusals::open::check_open(group, kind, n1, n2, n3, f1, f2, f3, &volume[..]);
+    let checked = volume_refusals::open::check_open(
+        group,
+        kind,
+        n1,
+        n2,
+        n3,
+        f1,
+        f2,
+        f3,
+        &volume[..],
+    );
     match checked {
         Checked::Failed(refusal) => OpenAnswer::Refused(refusal),
         Checked::Sound => {

@@ -9,47 +9,23 @@ use refusals::tests;
 ghost use mathlib.Core.Path.{_≡_};
 ghost use mathlib.Core.Bool.{true, _&&_};
 ghost use lib.Dec.{ltb, eqb};
-ghost use Rattle.numbers.specs.Value.{Small};
 ghost use Rattle.refusal_order.specs.Tests.{first, checkedNumber};
-ghost use Rattle.cell.specs.Operations.{tripleOf, Sizes, Within};
+ghost use Rattle.cell.specs.Operations.{tripleOf, Sizes};
 ghost use Rattle.refusals.specs.Tests.{p};
-ghost use Rattle.record_refusals.specs.RecordTests.{orbitTests, recordTestsOf};
+ghost use Rattle.record_refusals.specs.RecordTests.{recordTestsOf};
 
 // Both numbers of a value are below the prime.
 fn residues(a: u32, b: u32) -> bool
     ensures { λ r. ⌜ r ≡ (ltb a p && ltb b p) ⌝ }
 {
     let bound = numbers::modulus(1);
-    if bound <= a {
-        return false;
-    }
-    b < bound
+    (a < bound) & (b < bound)
 }
 
 fn both_zero(a: u32, b: u32) -> bool
     ensures { λ r. ⌜ r ≡ (eqb a 0 && eqb b 0) ⌝ }
 {
-    if a != 0 {
-        return false;
-    }
-    b == 0
-}
-
-// 12, 6, 24: what the value implies at the images of its index.
-fn check_orbit(group: u32, n1: u32, n2: u32, n3: u32, at: Index, x: Pair, volume: &[u32]) -> Checked
-    requires { ⌜ Sizes group n1 n2 n3 × Within n1 n2 n3 at × Small p x ⌝ }
-    ensures { λ r. ⌜ checkedNumber r ≡ first (orbitTests group (n1, n2, n3) (tripleOf at) (x .re) (x .im) (now (volume .entry))) ⌝ }
-{
-    if !recording::agrees(1, group, n1, n2, n3, at, x) {
-        return Checked::Failed(Refusal::Contradiction);
-    }
-    if !tests::fits(group, n1, n2, n3, volume) {
-        return Checked::Failed(Refusal::BufferLength);
-    }
-    if !recording::orbit_free(group, n1, n2, n3, at, volume) {
-        return Checked::Failed(Refusal::Occupied);
-    }
-    Checked::Sound
+    (a == 0) & (b == 0)
 }
 
 // 25, 21, 10, 7, 11, then the orbit's.
@@ -82,5 +58,5 @@ pub fn check_record(
     if both_zero(x.re, x.im) {
         return Checked::Failed(Refusal::ZeroValue);
     }
-    check_orbit(group, n1, n2, n3, at, x, volume)
+    orbit_refusals::check_orbit(group, n1, n2, n3, at, x, volume)
 }

@@ -5,11 +5,10 @@ use mathlib.Core.List.{List, [], _∷_}
 use Prim.Native.Nat.{ℕ, zero, suc, _+_, _*_, _/_, _%_, _≤_, _<_}
 use native.Mathlib.Nat.{mul-le-mul, not-suc-le-zero}
 use native.Mathlib.Omega.{arith}
-use lib.Dec.{leb, eqb}
-use borrow.Author.Tests.{ne-eqb, le-leb, lt-leb}
+use lib.Dec.{eqb}
+use borrow.Author.Tests.{ne-eqb}
 use Rattle.factors.specs.Factors.{product, octal}
 use Rattle.lengths.specs.Lengths.{isFactor, factorsOk, digits, octalDigits}
-use Rattle.lengths.proofs.Factors.{factors-cons, product-positive}
 
 -- more digits than the number has are not taken
 digits-enough : (c d n : ℕ) → n ≤ c → n ≤ d → digits 8 c n ≡ digits 8 d n
@@ -31,42 +30,20 @@ digit-cons (suc m) h =
     let e : digits 8 m (suc m / 8) ≡ octalDigits (suc m / 8) = digits-enough m (suc m / 8) (suc m / 8) (omega arith) (omega arith) in
     ap (λ (b : Bool). cond b [] (suc m % 8 ∷ digits 8 m (suc m / 8))) (ne-eqb (suc m) 0 h) ∙ ap (λ (t : List ℕ). suc m % 8 ∷ t) e
 
--- ---- one digit
-
-pub low-digit : (f : ℕ) → f < 2 → isFactor f ≡ false
-low-digit f h = ap (λ (b : Bool). b && leb f 5) (lt-leb _ _ h)
-
-pub high-digit : (f : ℕ) → 5 < f → isFactor f ≡ false
-high-digit f h =
-    let l : 2 ≤ f = omega arith in
-    let x = le-leb _ _ l in
-    let y = lt-leb _ _ h in
-    λ i. x i && y i
-
-pub factor-digit : (f : ℕ) → 2 ≤ f → f ≤ 5 → isFactor f ≡ true
-factor-digit f l h =
-    let x = le-leb _ _ l in
-    let y = le-leb _ _ h in
-    λ i. x i && y i
-
--- ---- the rest n of the digits of f decides, until a digit is no factor
+-- ---- whether every digit is a factor: what is settled so far, and the rest n of the digits of f
 
 ok-cons : (n : ℕ) → (n ≡ 0 → ⊥) → factorsOk (octalDigits n) ≡ (isFactor (n % 8) && factorsOk (octalDigits (n / 8)))
 unfolding factorsOk
 ok-cons n z = ap factorsOk (digit-cons n z)
 
-pub ok-stop : (f n : ℕ) → (n ≡ 0 → ⊥) → isFactor (n % 8) ≡ false → factorsOk (octalDigits n) ≡ factorsOk (octalDigits f) → false ≡ factorsOk (octalDigits f)
-ok-stop f n z e h = ap (λ (b : Bool). b && factorsOk (octalDigits (n / 8))) (sym e) ∙ sym (ok-cons n z) ∙ h
+pub ok-next : (ok : Bool) (f n : ℕ) → (n ≡ 0 → ⊥) → (ok && factorsOk (octalDigits n)) ≡ factorsOk (octalDigits f) → ((ok && isFactor (n % 8)) && factorsOk (octalDigits (n / 8))) ≡ factorsOk (octalDigits f)
+ok-next true f n z h = sym (ok-cons n z) ∙ h
+ok-next false f n z h = h
 
-pub ok-next : (f n : ℕ) → (n ≡ 0 → ⊥) → isFactor (n % 8) ≡ true → factorsOk (octalDigits n) ≡ factorsOk (octalDigits f) → factorsOk (octalDigits (n / 8)) ≡ factorsOk (octalDigits f)
-ok-next f n z e h = ap (λ (b : Bool). b && factorsOk (octalDigits (n / 8))) (sym e) ∙ sym (ok-cons n z) ∙ h
-
-pub ok-done : (f n : ℕ) → n ≡ 0 → factorsOk (octalDigits n) ≡ factorsOk (octalDigits f) → true ≡ factorsOk (octalDigits f)
+pub ok-ends : (ok : Bool) (f n : ℕ) → n ≡ 0 → (ok && factorsOk (octalDigits n)) ≡ factorsOk (octalDigits f) → ok ≡ factorsOk (octalDigits f)
 unfolding factorsOk digits
-ok-done f n z h = ap (λ (k : ℕ). factorsOk (octalDigits k)) (sym z) ∙ h
-
-pub ok-rest : (n : ℕ) → (n ≡ 0 → ⊥) → factorsOk (octalDigits n) ≡ true → factorsOk (octalDigits (n / 8)) ≡ true
-ok-rest n z e = factors-cons (n % 8) (octalDigits (n / 8)) (ap factorsOk (sym (digit-cons n z)) ∙ e) .1
+ok-ends true f n z h = ap (λ (k : ℕ). factorsOk (octalDigits k)) (sym z) ∙ h
+ok-ends false f n z h = h
 
 -- ---- the product d so far, times that of the rest n
 
@@ -74,15 +51,24 @@ pub product-cons : (f n d : ℕ) → (n ≡ 0 → ⊥) → product (octalDigits 
 unfolding product
 product-cons f n d z p = p ∙ ap (λ (l : List ℕ). d * product l) (digit-cons n z) ∙ omega arith
 
-pub product-at-least : (f n d : ℕ) → factorsOk (octalDigits n) ≡ true → product (octalDigits f) ≡ d * product (octalDigits n) → d ≤ product (octalDigits f)
-product-at-least f n d e p =
-    let one : 1 ≤ product (octalDigits n) = product-positive (octalDigits n) e in
-    let same : d ≤ d = omega arith in
-    omega (arith, p, mul-le-mul same one)
-
 pub product-ends : (f n d : ℕ) → n ≡ 0 → product (octalDigits f) ≡ d * product (octalDigits n) → product (octalDigits f) ≡ d
 unfolding product digits
 product-ends f n d z p = p ∙ ap (λ (k : ℕ). d * product (octalDigits k)) z ∙ omega arith
+
+-- the product so far, times the number that the rest of the digits make, is at most the number of all of them
+pub product-room : (f n d : ℕ) → (n ≡ 0 → ⊥) → d * n ≤ f → d * (n % 8) ≤ f
+product-room f n d z h =
+    let low : n % 8 ≤ n = omega arith in
+    let same : d ≤ d = omega arith in
+    omega (arith, mul-le-mul same low)
+
+pub product-small : (f n d : ℕ) → d * n ≤ f → d * (n % 8) * (n / 8) ≤ f
+product-small f n d h =
+    let digit : n % 8 ≤ 7 = omega arith in
+    let rest : n / 8 ≤ n / 8 = omega arith in
+    let both : n % 8 * (n / 8) ≤ n = omega (arith, mul-le-mul digit rest) in
+    let same : d ≤ d = omega arith in
+    omega (arith, mul-le-mul same both)
 
 -- ---- the digits of a number give it back
 

@@ -1,40 +1,28 @@
 -- What the tests of a header say of its numbers: three tests in turn, the lengths, and the size of the volume.
 use mathlib.Core.Path.{_≡_, refl, _∙_, sym, ap, subst}
 use mathlib.Core.Bool.{Bool, true, false, _&&_, not}
-use mathlib.Core.List.{List}
+use mathlib.Core.List.{List, [], _∷_}
 use Prim.Native.Nat.{ℕ, suc, _+_, _*_, _/_, _<_, _≤_}
 use native.Mathlib.Nat.{mul-le-mul}
 use native.Mathlib.Omega.{arith}
-use lib.Dec.{eqb}
-use borrow.Author.Tests.{not-false, eqb-true, eq-eqb, ne-eqb}
+use lib.Dec.{T, leb, ltb, eqb}
+use borrow.Author.Tests.{not-false, eqb-true, leb-true, leb-false, eq-eqb, ne-eqb, lt-ltb, le-ltb}
 use Rattle.algebra.specs.Cell.{planes}
 use Rattle.factors.specs.Factors.{product, octal}
-use Rattle.refusal_order.specs.Tests.{first}
+use Rattle.refusal_order.specs.Tests.{first, _⇒_}
 use Rattle.lengths.specs.Lengths.{admitted, factorsOk}
-use Rattle.refusal_order.proofs.Tests.{both, by-true, by-false, Passed, passed}
+use Rattle.refusal_order.proofs.Tests.{both, stop, pass, none, not-t, Passed, passed}
 use Rattle.lengths.specs.Admitted.{AdmittedLength, FactorList}
 use Rattle.lengths.proofs.AdmittedLengths.{admitted-length, factor-list}
 use Rattle.cell.specs.Operations.{halvesOf, Length, Sizes}
 use Rattle.cell.specs.Volume.{groupOf, volumeLength}
 use Rattle.cell.proofs.StoredFactors.{layers-most}
-use Rattle.refusals.specs.Header.{Header, axisTests}
+use Rattle.refusals.specs.Header.{Header, volumeLimit, needed, axisTests}
 
--- ---- three tests in turn: the first that is false settles it, and the last decides
+-- ---- three tests together
 
-pub first-fails : {r a : Bool} (b c : Bool) → r ≡ a → not r ≡ true → false ≡ (a && (b && c))
-first-fails b c e h = ap (λ (x : Bool). x && (b && c)) (sym (by-false _ _ e h))
-
-pub second-fails : {r a s b : Bool} (c : Bool) → r ≡ a → not r ≡ false → s ≡ b → not s ≡ true → false ≡ (a && (b && c))
-second-fails c e h f k =
-    let x = sym (by-true _ _ e h) in
-    let y = sym (by-false _ _ f k) in
-    λ i. x i && (y i && c)
-
-pub third-decides : {r a s b t c : Bool} → r ≡ a → not r ≡ false → s ≡ b → not s ≡ false → t ≡ c → t ≡ (a && (b && c))
-third-decides e h f k g =
-    let x = sym (by-true _ _ e h) in
-    let y = sym (by-true _ _ f k) in
-    λ i. x i && (y i && g i)
+pub three : {r a s b t c : Bool} → r ≡ a → s ≡ b → t ≡ c → (r && (s && t)) ≡ (a && (b && c))
+three e f g = λ i. e i && (f i && g i)
 
 -- three tests that are all true
 pub all-three : (a b c : Bool) → (a && (b && c)) ≡ true → (a ≡ true) × (b ≡ true) × (c ≡ true)
@@ -108,6 +96,64 @@ module _ (h : Header) (none : 0 ≡ first (axisTests h)) where
     where
       product-small : (x y : ℕ) → eqb x y ≡ true → y ≤ 1440 → x ≤ 1440
       product-small x y e l = omega (arith, eqb-true x y e)
+
+-- ---- the tests of a header axis by axis
+
+-- the length is admitted, and the list has its half as product
+abbrev pub validAxis : ℕ → List ℕ → Bool
+validAxis n l = admitted n && (factorsOk l && eqb (product l) (n / 2))
+
+-- a number is within a limit or refused for it
+limit-decides : (limit v : ℕ) → leb v limit ≡ eqb (first (ltb limit v ⇒ 9 ∷ [])) 0
+limit-decides limit v = go (leb v limit) refl
+  where
+    go : (b : Bool) → leb v limit ≡ b → b ≡ eqb (first (ltb limit v ⇒ 9 ∷ [])) 0
+    go true e = accepted-at _ (pass 9 _ (le-ltb limit v (leb-true v limit e)) none)
+    go false e = refused-at 9 _ (omega arith) (stop _ (lt-ltb limit v (leb-false v limit e)))
+
+module _ (h : Header) where
+  abbrev pub axes : Bool
+  axes = validAxis (h .lengths .0) (h .list1) && (validAxis (h .lengths .1) (h .list2) && validAxis (h .lengths .2) (h .list3))
+
+  abbrev lengthsFit : Bool
+  lengthsFit = admitted (h .lengths .0) && (admitted (h .lengths .1) && admitted (h .lengths .2))
+
+  abbrev listsFit : Bool
+  listsFit = factorsOk (h .list1) && (factorsOk (h .list2) && factorsOk (h .list3))
+
+  abbrev productsFit : Bool
+  productsFit = eqb (product (h .list1)) (h .lengths .0 / 2) && (eqb (product (h .list2)) (h .lengths .1 / 2) && eqb (product (h .list3)) (h .lengths .2 / 2))
+
+  -- axis by axis as test by test
+  axes-tests : axes ≡ true → (lengthsFit ≡ true) × (listsFit ≡ true) × (productsFit ≡ true)
+  axes-tests e =
+      let v = all-three (validAxis (h .lengths .0) (h .list1)) (validAxis (h .lengths .1) (h .list2)) (validAxis (h .lengths .2) (h .list3)) e in
+      let x = all-three (admitted (h .lengths .0)) (factorsOk (h .list1)) (eqb (product (h .list1)) (h .lengths .0 / 2)) (v .0) in
+      let y = all-three (admitted (h .lengths .1)) (factorsOk (h .list2)) (eqb (product (h .list2)) (h .lengths .1 / 2)) (v .1) in
+      let z = all-three (admitted (h .lengths .2)) (factorsOk (h .list3)) (eqb (product (h .list3)) (h .lengths .2 / 2)) (v .2) in
+      (three (x .0) (y .0) (z .0), three (x .1) (y .1) (z .1), three (x .2) (y .2) (z .2))
+
+  tests-axes : lengthsFit ≡ true → listsFit ≡ true → productsFit ≡ true → axes ≡ true
+  tests-axes a f q =
+      let x = all-three (admitted (h .lengths .0)) (admitted (h .lengths .1)) (admitted (h .lengths .2)) a in
+      let y = all-three (factorsOk (h .list1)) (factorsOk (h .list2)) (factorsOk (h .list3)) f in
+      let z = all-three (eqb (product (h .list1)) (h .lengths .0 / 2)) (eqb (product (h .list2)) (h .lengths .1 / 2)) (eqb (product (h .list3)) (h .lengths .2 / 2)) q in
+      three (three (x .0) (y .0) (z .0)) (three (x .1) (y .1) (z .1)) (three (x .2) (y .2) (z .2))
+
+  pub axes-sizes : h .group < 4 → axes ≡ true → Sizes (h .group) (h .lengths .0) (h .lengths .1) (h .lengths .2)
+  axes-sizes k e = sizes-of k (axes-tests e .0)
+
+  -- with its axes valid a header is refused for its volume alone
+  pub axes-valid : {v : ℕ} → axes ≡ true → v ≡ needed h → leb v volumeLimit ≡ eqb (first (axisTests h)) 0
+  axes-valid {v} e n =
+      let t = axes-tests e in
+      limit-decides volumeLimit v ∙ ap (λ (k : ℕ). eqb (first (ltb volumeLimit k ⇒ 9 ∷ [])) 0) n ∙ ap (λ (k : ℕ). eqb k 0) (pass 3 _ (not-t _ (t .0)) (pass 4 _ (not-t _ (t .1)) (pass 5 _ (not-t _ (t .2)) refl)))
+
+  pub axes-refused : axes ≡ false → false ≡ eqb (first (axisTests h)) 0
+  axes-refused e = sym (ne-eqb (first (axisTests h)) 0 (λ q. subst T (sym (sound (sym q)) ∙ e) tt))
+    where
+      sound : 0 ≡ first (axisTests h) → axes ≡ true
+      sound q = let t = passed (axisTests h) tt q in tests-axes (not-false _ (t .0)) (not-false _ (t .1 .0)) (not-false _ (t .1 .1 .0))
 
 -- ---- the volume
 

@@ -26,26 +26,14 @@ pub fn volume_length(group: u32, n1: u32, n2: u32, n3: u32) -> u64
 pub fn all_admitted(n1: u32, n2: u32, n3: u32) -> bool
     ensures { λ r. ⌜ r ≡ (admitted n1 && (admitted n2 && admitted n3)) ⌝ }
 {
-    if !lengths::admitted(n1) {
-        return false;
-    }
-    if !lengths::admitted(n2) {
-        return false;
-    }
-    lengths::admitted(n3)
+    lengths::admitted(n1) & (lengths::admitted(n2) & lengths::admitted(n3))
 }
 
 // Every number of the three lists is a factor.
 fn all_factors(f1: &[u8], f2: &[u8], f3: &[u8]) -> bool
     ensures { λ r. ⌜ r ≡ (factorsOk (now (f1 .entry)) && (factorsOk (now (f2 .entry)) && factorsOk (now (f3 .entry)))) ⌝ }
 {
-    if !lengths::factors_ok(f1) {
-        return false;
-    }
-    if !lengths::factors_ok(f2) {
-        return false;
-    }
-    lengths::factors_ok(f3)
+    lengths::factors_ok(f1) & (lengths::factors_ok(f2) & lengths::factors_ok(f3))
 }
 
 // The product of each list is half of its axis.
@@ -54,13 +42,8 @@ fn all_products(f1: &[u8], f2: &[u8], f3: &[u8], n1: u32, n2: u32, n3: u32) -> b
     requires { ⌜ (factorsOk (now f1) && (factorsOk (now f2) && factorsOk (now f3))) ≡ true ⌝ }
     ensures { λ r. ⌜ r ≡ (eqb (product (now (f1 .entry))) (n1 / 2) && (eqb (product (now (f2 .entry))) (n2 / 2) && eqb (product (now (f3 .entry))) (n3 / 2))) ⌝ }
 {
-    if !lengths::has_product(f1, n1 / 2) {
-        return false;
-    }
-    if !lengths::has_product(f2, n2 / 2) {
-        return false;
-    }
-    lengths::has_product(f3, n3 / 2)
+    lengths::has_product(f1, n1 / 2)
+        & (lengths::has_product(f2, n2 / 2) & lengths::has_product(f3, n3 / 2))
 }
 
 // 3, 4, 5, each over the three axes, then 9.

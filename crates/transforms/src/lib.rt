@@ -16,7 +16,7 @@ ghost use Rattle.job.specs.Said.{worked};
 pub fn synthesis(mut job: Job, volume: &mut [u32], scratch: &mut [u32]) -> Answered
     ensures { λ r. ⌜ worked r (now (volume .exit)) (now (scratch .exit)) ≡ synthesisStep job (now (volume .entry)) (now (scratch .entry)) ⌝ }
 {
-    let checked = refusals::synthesis::check_synthesis(
+    let checked = volume_refusals::synthesis::check_synthesis(
         valid::valid_job(job),
         job.state,
         job.group,
@@ -46,7 +46,7 @@ pub fn synthesis(mut job: Job, volume: &mut [u32], scratch: &mut [u32]) -> Answe
 pub fn analysis(mut job: Job, volume: &mut [u32], scratch: &mut [u32]) -> Answered
     ensures { λ r. ⌜ worked r (now (volume .exit)) (now (scratch .exit)) ≡ analysisStep job (now (volume .entry)) (now (scratch .entry)) ⌝ }
 {
-    let checked = refusals::analysis::check_analysis(
+    let checked = volume_refusals::analysis::check_analysis(
         valid::valid_job(job),
         job.state,
         job.group,

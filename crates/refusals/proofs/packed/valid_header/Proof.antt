@@ -1,61 +1,47 @@
--- The tests of the header in turn, as in the check of an opening.
+-- The axes one by one, then the volume.
 use borrow.Author.Needs.{needs}
-use native.Mathlib.Omega.{arith}
-use mathlib.Core.Path.{subst}
-use Prim.Native.Nat.{ℕ, _<_, _≤_}
-use Rattle.refusal_order.specs.Tests.{first}
+use mathlib.Core.Path.{_≡_, _∙_, sym}
+use mathlib.Core.Bool.{Bool, true, false}
 use Rattle.lengths.specs.Lengths.{octalDigits}
-use Rattle.refusal_order.proofs.Tests.{refusals, by-true}
-use Rattle.refusals.specs.Header.{axisTests}
-use Rattle.refusals.proofs.Headers.{sizes-of, refused-at, accepted-at}
+use Rattle.refusals.specs.Header.{Header}
+use Rattle.refusals.proofs.Headers.{three, axes, axes-sizes, axes-valid, axes-refused}
 use Rattle.refusals.proofs.packed.valid_header.Statement.{statement}
 use Rattle.refusals.proofs.packed.valid_header.Tie as tie
 
--- the number of the first test that holds
-abbrev told : tie.Start → ℕ
-told s = let a = s .args in first (axisTests (record { group = a .group; lengths = (a .n1, a .n2, a .n3); list1 = octalDigits (a .f1); list2 = octalDigits (a .f2); list3 = octalDigits (a .f3) }))
+-- the header that the numbers make
+abbrev header : tie.Start → Header
+header s = let a = s .args in record { group = a .group; lengths = (a .n1, a .n2, a .n3); list1 = octalDigits (a .f1); list2 = octalDigits (a .f2); list3 = octalDigits (a .f3) }
 
-all-admitted-requires : tie.Need-all-admitted-requires
-all-admitted-requires c κs = search needs
+valid : (c : tie.Then1) → axes (header (c .before .before .before .before)) ≡ true
+valid c = let k = c .before in sym (three (k .before .before .valid-axis .ensures) (k .before .valid-axis2 .ensures) (k .valid-axis3 .ensures)) ∙ c .if1 .taken
 
-returns : tie.Need-returns
-returns c = refused-at 3 (told (c .before .before)) (omega arith) (search refusals depth 20)
+valid-axis-requires : tie.Need-valid-axis-requires
+valid-axis-requires c κs = search needs
 
-all-digits-requires : tie.Need-all-digits-requires
-all-digits-requires c κs = search needs
+valid-axis-requires-2 : tie.Need-valid-axis-requires-2
+valid-axis-requires-2 c κs = search needs
 
-returns-2 : tie.Need-returns-2
-returns-2 c = refused-at 4 (told (c .before .before .before .before)) (omega arith) (search refusals depth 20)
-
-all-digit-products-requires : tie.Need-all-digit-products-requires
-all-digit-products-requires c κs = let t = c .before .before in (by-true _ _ (t .before .all-admitted .ensures) (t .if1 .left), by-true _ _ (c .before .all-digits .ensures) (c .if2 .left))
-
-returns-3 : tie.Need-returns-3
-returns-3 c = refused-at 5 (told (c .before .before .before .before .before .before)) (omega arith) (search refusals depth 20)
+valid-axis-requires-3 : tie.Need-valid-axis-requires-3
+valid-axis-requires-3 c κs = search needs
 
 volume-length-requires : tie.Need-volume-length-requires
-volume-length-requires c κs = let t = c .before .before .before .before in sizes-of (t .before .before .pre) (by-true _ _ (t .before .all-admitted .ensures) (t .if1 .left))
+volume-length-requires c κs = let s = c .before .before .before .before in axes-sizes (header s) (s .pre) (valid c)
 
-returns-4 : tie.Need-returns-4
-returns-4 c =
-    let e = subst (λ (n : ℕ). 16777216 < n) (c .before .volume-length .ensures) (c .if4 .taken) in
-    refused-at 9 (told (c .before .before .before .before .before .before .before .before)) (omega arith) (search refusals depth 20)
+returns : tie.Need-returns
+returns c = axes-valid (header (c .before .before .before .before .before)) (valid (c .before)) (c .volume-length .ensures)
 
-returns-5 : tie.Need-returns-5
-returns-5 c =
-    let e = subst (λ (n : ℕ). n ≤ 16777216) (c .before .volume-length .ensures) (c .if4 .left) in
-    accepted-at (told (c .before .before .before .before .before .before .before .before)) (search refusals depth 20)
+returns-2 : tie.Need-returns-2
+returns-2 c =
+    let k = c .before in
+    axes-refused (header (k .before .before .before)) (sym (three (k .before .before .valid-axis .ensures) (k .before .valid-axis2 .ensures) (k .valid-axis3 .ensures)) ∙ c .if1 .left)
 
 pub valid-header-spec : {M : Type 1} → statement M
 valid-header-spec =
     tie.close
     (tie.spec
-    all-admitted-requires
-    returns
-    all-digits-requires
-    returns-2
-    all-digit-products-requires
-    returns-3
+    valid-axis-requires
+    valid-axis-requires-2
+    valid-axis-requires-3
     volume-length-requires
-    returns-4
-    returns-5)
+    returns
+    returns-2)

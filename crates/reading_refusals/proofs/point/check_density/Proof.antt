@@ -9,7 +9,7 @@ use lib.Dec.{ltb, eqb}
 use denote.Ref.{now}
 use borrow.Author.Tests.{eqb-true}
 use Rattle.numbers.specs.Prime.{prime}
-use Rattle.refusal_order.proofs.Tests.{refusals, stop, pass, not-t, not-f, by-true}
+use Rattle.refusal_order.proofs.Tests.{stop, pass, none, not-t, not-f, by-true, by-false}
 use Rattle.cell.specs.Operations.{halvesOf, tripleOf}
 use Rattle.cell.specs.Volume.{groupOf, densityPlace, volumeLength}
 use Rattle.refusals.proofs.Headers.{place-small}
@@ -31,7 +31,7 @@ fits-requires : tie.Need-fits-requires
 fits-requires c κs = c .before .pre .0
 
 returns : tie.Need-returns
-returns c = search refusals depth 20
+returns c = stop _ (not-f _ (by-false _ _ (c .before .fits2 .ensures) (c .if1 .taken)))
 
 modulus-requires : tie.Need-modulus-requires
 modulus-requires c κs = search needs
@@ -59,7 +59,7 @@ returns-3 c =
     let a = d .before .before .before .before .before .args in
     let e : ltb (getD (now (a .volume)) (densityPlace (groupOf (a .group)) (halvesOf (a .n1) (a .n2) (a .n3)) (tripleOf (a .at))) 0) (prime 1) ≡ true =
     number-below (now (a .volume)) (d .density-place .ensures .0) (d .before .modulus .ensures .0) (c .if2 .left) in
-    search refusals depth 20
+    pass 6 _ (not-t _ (fit-test (d .before .before))) (pass 7 _ (not-t _ e) none)
 
 pub check-density-spec : {M : Type 1} → statement M
 check-density-spec =

@@ -3,7 +3,8 @@ use borrow.Author.Needs.{needs}
 use mathlib.Core.Path.{_≡_, _∙_, sym, ap}
 use denote.Ref.{now}
 use Rattle.refusal_order.specs.Tests.{first, checkedNumber}
-use Rattle.refusal_order.proofs.Tests.{refusals}
+use borrow.Author.Tests.{le-leb, lt-leb}
+use Rattle.refusal_order.proofs.Tests.{stop, pass}
 use Rattle.refusals.specs.Header.{Header, axisTests}
 use Rattle.refusals.proofs.Headers.{sound-sizes}
 use Rattle.refusals.proofs.Openings.{header-refused, volume-decides}
@@ -18,10 +19,10 @@ none : (c : tie.After-enum-told) → 0 ≡ first (axisTests (header (c .before .
 none c = ap checkedNumber (sym (c .enum-told .given .1)) ∙ c .before .before .check-header .ensures
 
 returns : tie.Need-returns
-returns c = search refusals depth 20
+returns c = stop _ (le-leb _ _ (c .if1 .taken))
 
 returns-2 : tie.Need-returns-2
-returns-2 c = search refusals depth 20
+returns-2 c = pass 8 _ (lt-leb _ _ (c .before .if1 .left)) (stop _ (le-leb _ _ (c .if2 .taken)))
 
 check-header-requires : tie.Need-check-header-requires
 check-header-requires c κs = c .before .if1 .left

@@ -6,7 +6,7 @@ use lib.ListN.{length}
 use lib.Dec.{eqb}
 use denote.Ref.{now}
 use borrow.Author.Tests.{eqb-true}
-use Rattle.refusal_order.proofs.Tests.{refusals, by-true}
+use Rattle.refusal_order.proofs.Tests.{stop, not-f, by-true, by-false}
 use Rattle.cell.specs.Operations.{halvesOf}
 use Rattle.cell.specs.Volume.{groupOf, volumeLength}
 use Rattle.refusals.proofs.Openings.{volume-collects, volume-held}
@@ -21,7 +21,7 @@ fits-requires : tie.Need-fits-requires
 fits-requires c κs = search needs
 
 returns : tie.Need-returns
-returns c = search refusals depth 20
+returns c = stop _ (not-f _ (by-false _ _ (c .before .fits2 .ensures) (c .if1 .taken)))
 
 returns-2 : tie.Need-returns-2
 returns-2 c =

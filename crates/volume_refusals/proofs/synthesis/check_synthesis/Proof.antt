@@ -4,8 +4,8 @@ use mathlib.Core.Bool.{true}
 use lib.ListN.{length}
 use lib.Dec.{eqb}
 use denote.Ref.{now}
-use borrow.Author.Tests.{not-false, eqb-true, ne-eqb, le-ltb}
-use Rattle.refusal_order.proofs.Tests.{refusals, pass, not-t, by-true}
+use borrow.Author.Tests.{not-false, eqb-true, eq-eqb, ne-eqb, lt-ltb, le-ltb}
+use Rattle.refusal_order.proofs.Tests.{stop, pass, not-t, not-f, by-true, by-false}
 use Rattle.cell.specs.Operations.{halvesOf, Sizes}
 use Rattle.cell.specs.Volume.{groupOf, volumeLength}
 use Rattle.volume_refusals.proofs.synthesis.check_synthesis.Statement.{statement}
@@ -18,19 +18,22 @@ fit : (c : tie.Else3) → let a = c .before .before .before .before .before .arg
 fit c = by-true _ _ (c .before .fits2 .ensures) (c .if3 .left)
 
 returns : tie.Need-returns
-returns c = search refusals depth 20
+returns c = stop _ (c .if1 .taken)
 
 returns-2 : tie.Need-returns-2
-returns-2 c = search refusals depth 20
+returns-2 c = pass 25 _ (c .before .if1 .left) (stop _ (eq-eqb _ _ (c .if2 .taken)))
 
 fits-requires : tie.Need-fits-requires
 fits-requires c κs = sizes (c .before)
 
 returns-3 : tie.Need-returns-3
-returns-3 c = search refusals depth 20
+returns-3 c = let e = c .before .before in pass 25 _ (e .before .if1 .left) (pass 23 _ (ne-eqb _ _ (e .if2 .left)) (stop _ (not-f _ (by-false _ _ (c .before .fits2 .ensures) (c .if3 .taken)))))
 
 returns-4 : tie.Need-returns-4
-returns-4 c = search refusals depth 20
+returns-4 c =
+    let f = c .before in
+    let e = f .before .before in
+    pass 25 _ (e .before .if1 .left) (pass 23 _ (ne-eqb _ _ (e .if2 .left)) (pass 6 _ (not-t _ (fit f)) (stop _ (lt-ltb _ _ (c .if4 .taken)))))
 
 check-factors-requires : tie.Need-check-factors-requires
 check-factors-requires c κs = let f = c .before in (sizes (f .before .before .before), eqb-true _ _ (fit f))

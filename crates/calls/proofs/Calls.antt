@@ -13,7 +13,7 @@ use Rattle.job.specs.declared.GridPoint.{GridPoint}
 use Rattle.job.specs.Header.{withState, factorsHeld, mapHeld}
 use Rattle.job.specs.Steps.{Said, done, Outcome, Worked, unchanged, position, index, recordStep, synthesisTests, synthesised, synthesisStep, analysisTests, analysed, analysisStep, pointTests, pointStep, factorTests, factorStep}
 use Rattle.job.specs.Said.{said, outcome, worked}
-use Rattle.scripts.specs.declared.CallNumbers.{CallNumbers}
+use Rattle.call_numbers.specs.declared.CallNumbers.{CallNumbers}
 use Rattle.scripts.specs.Call.{Call, recording, synthesis, analysis, readPoint, readFactor, step, callOf, callAt, numbersAt, callSaid, answerNumbers, clearedIfDone, scratchLeft, replyNumbers, callStep}
 use Rattle.calls.specs.declared.Called.{Called}
 use Rattle.calls.specs.Call.{callOutcome}

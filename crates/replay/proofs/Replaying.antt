@@ -10,7 +10,7 @@ use Rattle.job.specs.Steps.{Said, done, density, factor, refused}
 use Rattle.model.specs.Calls.{step, run}
 use Rattle.scripts.specs.Call.{callAt, answerNumbers, scratchLeft, CallOutcome, callStep}
 use Rattle.calls.proofs.Calls.{call-by-length}
-use Rattle.scripts.proofs.Placed.{placed, take-placed, drop-placed}
+use Rattle.call_numbers.proofs.Placed.{placed, take-placed, drop-placed}
 use Rattle.replay.specs.Script.{calls, allNumbers, scratchAfter, ReplayOutcome, callCount, ended, replayStep}
 
 -- ---- an answer among the others

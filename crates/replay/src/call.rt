@@ -18,7 +18,7 @@ pub fn call_at(
     requires { ⌜ 6 * i + 6 ≤ length (now script) ⌝ }
     ensures { λ r. ⌜ callOutcome r (now (volume .exit)) (now (scratch .exit)) ≡ callStep job (now (volume .entry)) (now (scratch .entry)) (callAt (now (scratch .entry)) (now (script .entry)) i) ⌝ }
 {
-    let numbers = scripts::numbers_at(script, i);
+    let numbers = call_numbers::numbers_at(script, i);
     let operation = numbers.operation;
     match operation {
         0 => return calls::record_call(job, numbers, volume),

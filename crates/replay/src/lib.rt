@@ -43,7 +43,7 @@ pub fn replay(
     let mut i: usize = 0;
     while i < count {
         let called = call::call_at(held, script, i, volume, scratch);
-        scripts::write_reply(answers, i, called.reply);
+        call_numbers::write_reply(answers, i, called.reply);
         held = called.job;
         i += 1;
     }

@@ -9,8 +9,8 @@ use Rattle.job.specs.declared.Job.{Job}
 use Rattle.job.specs.declared.Reflection.{Reflection}
 use Rattle.job.specs.declared.GridPoint.{GridPoint}
 use Rattle.job.specs.Steps.{Said, done, density, factor, refused, Outcome, recordStep, synthesisStep, analysisStep, pointStep, factorStep}
-use Rattle.scripts.specs.declared.CallNumbers.{CallNumbers}
-use Rattle.scripts.specs.declared.Reply.{Reply}
+use Rattle.call_numbers.specs.declared.CallNumbers.{CallNumbers}
+pub use Rattle.call_numbers.specs.Numbers.{numbersAt, replyNumbers}
 
 -- ---- the call
 
@@ -40,9 +40,6 @@ callOf scratch (suc (suc (suc (suc o)))) h k l x y = readFactor (record { 0 = h;
 
 abbrev pub callAt : (scratch script : List ℕ) (i : ℕ) → Call
 callAt scratch script i = callOf scratch (getD script (6 * i) 0) (getD script (6 * i + 1) 0) (getD script (6 * i + 2) 0) (getD script (6 * i + 3) 0) (getD script (6 * i + 4) 0) (getD script (6 * i + 5) 0)
-
-abbrev pub numbersAt : (script : List ℕ) (i : ℕ) → CallNumbers
-numbersAt script i = record { operation = getD script (6 * i) 0; h = getD script (6 * i + 1) 0; k = getD script (6 * i + 2) 0; l = getD script (6 * i + 3) 0; x = getD script (6 * i + 4) 0; y = getD script (6 * i + 5) 0 }
 
 abbrev pub callSaid : (scratch : List ℕ) → CallNumbers → Call
 callSaid scratch n = callOf scratch (n .operation) (n .h) (n .k) (n .l) (n .x) (n .y)
@@ -77,9 +74,6 @@ pub record CallOutcome : Type 0 where
   pub job : Job
   pub volume : List ℕ
   pub scratch : List ℕ
-
-abbrev pub replyNumbers : Reply → List ℕ
-replyNumbers r = r .number ∷ r .x ∷ r .y ∷ []
 
 unfoldable pub callStep : Job → (volume scratch : List ℕ) → Call → CallOutcome
 callStep j v s c = let o = step j v c in record { reply = answerNumbers (o .answer); job = o .job; volume = o .volume; scratch = scratchLeft c (o .answer) s }

@@ -2,10 +2,10 @@
 use native.Mathlib.Omega.{arith}
 use lib.ListN.{length-set}
 use denote.Ref.{now}
-use Rattle.scripts.proofs.Placed.{placed-three}
+use Rattle.call_numbers.proofs.Placed.{placed-three}
 use borrow.Author.Needs.{needs}
-use Rattle.scripts.proofs.write_reply.Statement.{statement}
-use Rattle.scripts.proofs.write_reply.Tie as tie
+use Rattle.call_numbers.proofs.write_reply.Statement.{statement}
+use Rattle.call_numbers.proofs.write_reply.Tie as tie
 
 mul-at : tie.Need-mul-at
 mul-at c = search needs

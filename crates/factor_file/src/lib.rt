@@ -2,4 +2,3 @@
 pub mod open_file; // open_file.rt: the opening of a job by a file
 
 pub use feeding::FileAnswer;
-pub use file_shape::big_endian;

@@ -1,7 +1,5 @@
 // The opening of a job by a file: the header opens it with kind 0, then its records are fed to it.
 use feeding::FileAnswer;
-use file_shape::big_endian;
-use file_shape::shape;
 use job::OpenAnswer;
 use refusal_order::Checked;
 ghost use mathlib.Core.Path.{_≡_};
@@ -16,18 +14,18 @@ fn open_header(file: &[u8], volume: &mut [u32]) -> OpenAnswer
     requires { ⌜ 0 ≡ first (shapeTests (now file)) ⌝ }
     ensures { λ r. ⌜ openOutcome r (now (volume .exit)) ≡ openStep (headerIn (now (file .entry))) 0 (now (volume .entry)) ⌝ }
 {
-    let places = shape::places_of(file);
+    let places = file_places::places_of(file);
     let end1 = places.list2;
     let start2 = end1 + 1;
     let end2 = places.list3;
     let start3 = end2 + 1;
     let end3 = places.count;
     job::open::open(
-        big_endian::wide(file[5]),
+        file_numbers::wide(file[5]),
         0,
-        big_endian::two_bytes(file, 6),
-        big_endian::two_bytes(file, 8),
-        big_endian::two_bytes(file, 10),
+        file_numbers::two_bytes(file, 6),
+        file_numbers::two_bytes(file, 8),
+        file_numbers::two_bytes(file, 10),
         &file[13..end1],
         &file[start2..end2],
         &file[start3..end3],
@@ -51,7 +49,7 @@ fn open_sound(file: &[u8], volume: &mut [u32]) -> FileAnswer
 pub fn open_file(file: &[u8], volume: &mut [u32]) -> FileAnswer
     ensures { λ r. ⌜ fileOutcome r (now (volume .exit)) ≡ fileStep (now (file .entry)) (now (volume .entry)) ⌝ }
 {
-    let checked = shape::check_shape(file);
+    let checked = file_shape::check_shape(file);
     match checked {
         Checked::Failed(refusal) => return FileAnswer::Refused(refusal, 0),
         Checked::Sound => return open_sound(file, volume),

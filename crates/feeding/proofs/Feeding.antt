@@ -8,12 +8,12 @@ use lib.ListN.{length, replicate}
 use Rattle.refusal_order.specs.Tests.{first, accepted}
 use Rattle.job.specs.declared.Job.{Job}
 use Rattle.job.specs.Steps.{opened, notOpened, OpenOutcome, done, refused, Outcome, unchanged, index, recordTests, recordStep}
-use Rattle.file_shape.specs.declared.FileRecord.{FileRecord}
-use Rattle.file_shape.specs.declared.reader.Found.the-variants.{Record, End}
+use Rattle.file_records.specs.declared.FileRecord.{FileRecord}
+use Rattle.file_records.specs.declared.reader.Found.the-variants.{Record, End}
 use Rattle.file_shape.specs.Shape.{countAt, recordCount, recordsFrom, recordsIn, shapeTests}
-use Rattle.file_shape.specs.Reading.{foundAt}
+use Rattle.file_records.specs.Records.{foundAt}
 use Rattle.file_shape.proofs.Shapes.{filled-by}
-use Rattle.file_shape.proofs.Reading.{end-found, record-inside, record-found}
+use Rattle.file_records.proofs.Reading.{end-found, record-inside, record-found}
 use Rattle.feeding.specs.Feed.{indexOf, feed}
 
 -- ---- one record, by what its recording said
@@ -52,11 +52,12 @@ pub record Feeding (file : List ℕ) (whole : OpenOutcome) (at place : ℕ) (j :
   pub behind : at ≡ countAt file + 4 + 14 * place
   pub rest : whole ≡ feed (recordsFrom file at (recordCount file - place)) place j v
 
-pub feeding-start : (file : List ℕ) (count : ℕ) (j : Job) (v : List ℕ) → count ≡ countAt file → Feeding file (feed (recordsIn file) 0 j v) (count + 4) 0 j v
-feeding-start file count j v e =
-    let n : recordCount file ≡ recordCount file - 0 = omega arith in
+pub feeding-start : (file : List ℕ) (at place : ℕ) (j : Job) (v : List ℕ) → at ≡ countAt file + 4 → place ≡ 0 → Feeding file (feed (recordsIn file) 0 j v) at place j v
+feeding-start file at place j v e z =
+    let n : recordCount file ≡ recordCount file - place = omega arith in
     let a = sym e in
-    record { some = omega arith; behind = omega arith; rest = λ i. feed (recordsFrom file (a i + 4) (n i)) 0 j v }
+    let p = sym z in
+    record { some = omega arith; behind = omega arith; rest = λ i. feed (recordsFrom file (a i) (n i)) (p i) j v }
 
 module _ {file : List ℕ} {whole : OpenOutcome} {at place : ℕ} {j : Job} {v : List ℕ} (s : Feeding file whole at place j v) (sound : 0 ≡ first (shapeTests file)) where
   -- the end of the file: all records are recorded

@@ -1,8 +1,7 @@
 // The records of a factor file, recorded in a job one after another.
 // A refused record ends it: its place is answered, and the volume is left zero.
-use file_shape::reader;
-use file_shape::reader::Found;
-use file_shape::shape;
+use file_records::reader;
+use file_records::reader::Found;
 use job::Answer;
 use job::Job;
 use job::Reflection;
@@ -24,18 +23,18 @@ pub fn feed_records(file: &[u8], job: Job, volume: &mut [u32]) -> FileAnswer
     requires { ⌜ 0 ≡ first (shapeTests (now file)) ⌝ }
     ensures { λ r. ⌜ fileOutcome r (now (volume .exit)) ≡ feed (recordsIn (now (file .entry))) 0 job (now (volume .entry)) ⌝ }
 {
-    let mut at = shape::count_place(file) + 4;
-    let mut place: u32 = 0;
+    let start = file_places::first_record(file);
+    let mut at = start.at;
+    let mut place = start.place;
     loop {
         let found = reader::read_record(file, at);
         let Found::Record(c) = found else {
             return FileAnswer::Opened(job);
         };
-        let answered = job.record(Reflection(c.h, c.k, c.l), c.a, c.b, volume);
-        let answer = answered.answer;
+        let answer = job.record(Reflection(c.h, c.k, c.l), c.a, c.b, volume)
+            .answer;
         if let Answer::Refused(refusal) = answer {
-            let count = volume.len();
-            buffers::clear(volume, count);
+            zeroing::zero(volume);
             return FileAnswer::Refused(refusal, place);
         }
         place += 1;

@@ -12,7 +12,7 @@ use Rattle.algebra.proofs.Laws.{along}
 use Rattle.numbers.specs.Prime.{prime}
 use Rattle.numbers.specs.Value.{Value}
 use Rattle.numbers.proofs.Residues.{val-small}
-use Rattle.file_shape.specs.declared.FileRecord.{FileRecord}
+use Rattle.file_records.specs.declared.FileRecord.{FileRecord}
 use Rattle.file_shape.specs.Shape.{byteAt, twoBytes, fourBytes, listAt, afterList, recordAt, recordsFrom}
 use Rattle.file_layout.specs.Bytes.{bytes, listBytes, recordBytes, allBytes}
 

@@ -1,7 +1,8 @@
 -- The header that a factor file holds.
 use mathlib.Core.List.{List}
 use Prim.Native.Nat.{ℕ}
-use Rattle.file_shape.specs.Shape.{byteAt, twoBytes, listAt, list1At, list2At, list3At}
+use Rattle.file_numbers.specs.Numbers.{byteAt, twoBytes}
+use Rattle.file_places.specs.Places.{listAt, list1At, list2At, list3At}
 use Rattle.refusals.specs.Header.{Header}
 
 abbrev pub headerIn : List ℕ → Header

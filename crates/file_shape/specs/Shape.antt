@@ -1,59 +1,24 @@
--- The shape of a factor file, as bytes: where its parts stand, its records, and what is refused of its shape.
+-- The shape of a factor file, as bytes, and what is refused of it.
 -- Layout: count of the bytes that follow (4 bytes), version 1, group (1), N1, N2, N3 (2 each), three factor lists (a count byte, then a byte each),
 -- record count (4), records of 14 bytes: h, k, l (2 each), a, b (4 each). Numbers are big-endian.
-use mathlib.Core.Bool.{_||_, not}
+-- The numbers are told in `Numbers` of the crate `file_numbers`, where the parts stand in `Places` of `file_places`, the records in `Records` of `file_records`.
+use mathlib.Core.Bool.{Bool, _||_, not}
 use mathlib.Core.List.{List, [], _∷_}
-use Prim.Native.Nat.{ℕ, zero, suc, _+_, _*_, _-_}
-use lib.ListN.{length, getD, take, drop}
+use Prim.Native.Nat.{ℕ, _+_, _*_, _-_}
+use lib.ListN.{length}
 use lib.Dec.{ltb, eqb}
 use Rattle.refusal_order.specs.Tests.{Test, _⇒_}
-use Rattle.file_shape.specs.declared.FileRecord.{FileRecord}
-
--- ---- numbers. A place beyond the file reads as 0.
-
-abbrev pub byteAt : List ℕ → ℕ → ℕ
-byteAt file q = getD file q 0
-
-unfoldable pub twoBytes : List ℕ → ℕ → ℕ
-twoBytes file q = byteAt file q * 256 + byteAt file (q + 1)
-
-unfoldable pub fourBytes : List ℕ → ℕ → ℕ
-fourBytes file q = twoBytes file q * 65536 + twoBytes file (q + 2)
-
--- ---- the lists
-
--- the list whose count byte stands at q, and the place after it
-unfoldable pub listAt : List ℕ → ℕ → List ℕ
-listAt file q = take (byteAt file q) (drop (q + 1) file)
-
-abbrev pub afterList : List ℕ → ℕ → ℕ
-afterList file q = q + 1 + byteAt file q
-
--- the places of the three lists and of the record count
-abbrev pub list1At : ℕ
-list1At = 12
-
-unfoldable pub list2At : List ℕ → ℕ
-list2At file = afterList file list1At
-
-unfoldable pub list3At : List ℕ → ℕ
-list3At file = afterList file (list2At file)
-
-unfoldable pub countAt : List ℕ → ℕ
-countAt file = afterList file (list3At file)
+use Rattle.file_records.specs.declared.FileRecord.{FileRecord}
+pub use Rattle.file_numbers.specs.Numbers.{byteAt}
+unfoldable pub use Rattle.file_numbers.specs.Numbers.{twoBytes, fourBytes}
+pub use Rattle.file_places.specs.Places.{afterList, list1At}
+unfoldable pub use Rattle.file_places.specs.Places.{listAt, list2At, list3At, countAt}
+unfoldable pub use Rattle.file_records.specs.Records.{recordAt, recordsFrom}
 
 -- ---- the records
 
 abbrev pub recordCount : List ℕ → ℕ
 recordCount file = fourBytes file (countAt file)
-
-unfoldable pub recordAt : List ℕ → ℕ → FileRecord
-recordAt file q = record { h = twoBytes file q; k = twoBytes file (q + 2); l = twoBytes file (q + 4); a = fourBytes file (q + 6); b = fourBytes file (q + 10) }
-
--- n records from place q on
-unfoldable pub recordsFrom : List ℕ → (q n : ℕ) → List FileRecord
-recordsFrom file q zero = []
-recordsFrom file q (suc n) = recordAt file q ∷ recordsFrom file (q + 14) n
 
 abbrev pub recordsIn : List ℕ → List FileRecord
 recordsIn file = recordsFrom file (countAt file + 4) (recordCount file)
@@ -65,6 +30,17 @@ abbrev pub shapeTests : List ℕ → List Test
 shapeTests file =
     (ltb (length file) 5 || not (eqb (fourBytes file 0) (length file - 4))) ⇒ 15 ∷
     not (eqb (byteAt file 4) 1) ⇒ 16 ∷
+    not (eqb (countAt file + 4 + 14 * recordCount file) (length file)) ⇒ 15 ∷
+    eqb (recordCount file) 0 ⇒ 17 ∷
+    []
+
+-- ---- its parts: the first test, and those behind the version
+
+abbrev pub miscounted : List ℕ → Bool
+miscounted file = ltb (length file) 5 || not (eqb (fourBytes file 0) (length file - 4))
+
+abbrev pub fillingTests : List ℕ → List Test
+fillingTests file =
     not (eqb (countAt file + 4 + 14 * recordCount file) (length file)) ⇒ 15 ∷
     eqb (recordCount file) 0 ⇒ 17 ∷
     []

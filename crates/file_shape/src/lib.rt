@@ -1,14 +1,49 @@
-// The shape of a factor file, a header and records of structure factors, as bytes: its big-endian numbers, where its parts stand and whether they fill it, and the reader that walks it.
+// The shape of a factor file: whether its count, its version, its header, lists and records fill it exactly, and whether it has a record.
 // Nothing here knows what a job makes of the header and the records.
-pub mod big_endian; // big_endian.rt: numbers of two and of four bytes
-pub mod reader; // reader.rt: the reader, which walks the file and hands out one record after another
-pub mod shape; // shape.rt: whether header, lists and records fill the file, and where they stand
+use refusal_order::Checked;
+use refusal_order::Refusal;
+ghost use mathlib.Core.Path.{_≡_};
+ghost use Rattle.refusal_order.specs.Tests.{first, checkedNumber};
+ghost use Rattle.file_shape.specs.Shape.{miscounted, fillingTests, shapeTests};
 
-// A record of a file: an index and the two numbers of its value.
-pub struct FileRecord {
-    pub h: u32,
-    pub k: u32,
-    pub l: u32,
-    pub a: u32,
-    pub b: u32,
+// Whether the first four bytes do not count the bytes that follow, or no version follows.
+fn is_miscounted(file: &[u8]) -> bool
+    ensures { λ r. ⌜ r ≡ miscounted (now (file .entry)) ⌝ }
+{
+    let length = file.len();
+    if length < 5 {
+        return true;
+    }
+    file_numbers::four_bytes(file, 0) as usize != length - 4
+}
+
+// The tests behind the version: 15 where header, lists and records do not fill the file, 17 where it has no record.
+fn check_filling(file: &[u8]) -> Checked
+    ensures { λ r. ⌜ checkedNumber r ≡ first (fillingTests (now (file .entry))) ⌝ }
+{
+    let at = file_places::count_place(file) + 4;
+    if file.len() < at {
+        return Checked::Failed(Refusal::FileShape);
+    }
+    let records = file_numbers::four_bytes(file, at - 4) as usize;
+    if at + 14 * records != file.len() {
+        return Checked::Failed(Refusal::FileShape);
+    }
+    if records == 0 {
+        return Checked::Failed(Refusal::NoRecords);
+    }
+    Checked::Sound
+}
+
+// 15 for the count, 16 for the version, then the rest.
+pub fn check_shape(file: &[u8]) -> Checked
+    ensures { λ r. ⌜ checkedNumber r ≡ first (shapeTests (now (file .entry))) ⌝ }
+{
+    if is_miscounted(file) {
+        return Checked::Failed(Refusal::FileShape);
+    }
+    if file[4] != 1 {
+        return Checked::Failed(Refusal::FileVersion);
+    }
+    check_filling(file)
 }

@@ -8,7 +8,7 @@ use Rattle.cell.specs.Operations.{halvesOf}
 use Rattle.cell.specs.Volume.{groupOf, volumeLength}
 use mathlib.Core.List.{List}
 use Rattle.refusals.specs.Header.{needed}
-use Rattle.file_shape.specs.Shape.{byteAt, twoBytes}
+use Rattle.file_numbers.specs.Numbers.{byteAt, twoBytes}
 use Rattle.file_layout.specs.HeaderIn.{headerIn}
 
 -- the planes of each group, and of a number that no group has

@@ -1,6 +1,5 @@
 // The map printer's limits: it reads files of at most 8,192 bytes, and lends a file as many numbers as its header asks for, or 2,048
 // where that asks for more. The file is any list of bytes, so the header's lengths are any numbers of two bytes here.
-use file_shape::big_endian;
 ghost use mathlib.Core.Path.{_≡_};
 ghost use Prim.Native.Nat.{_<_, _≤_, min};
 ghost use lib.ListN.{length};
@@ -9,7 +8,7 @@ ghost use Rattle.algebra.specs.Cell.{planes};
 ghost use Rattle.cell.specs.Operations.{halvesOf};
 ghost use Rattle.cell.specs.Volume.{groupOf, volumeLength};
 ghost use Rattle.refusals.specs.Header.{needed};
-ghost use Rattle.file_shape.specs.Shape.{byteAt, twoBytes};
+ghost use Rattle.file_numbers.specs.Numbers.{twoBytes};
 ghost use Rattle.file_layout.specs.HeaderIn.{headerIn};
 ghost use Rattle.limits.specs.Limits.{fileLimit, volumeLimit};
 
@@ -20,21 +19,12 @@ pub fn too_long(file: &[u8]) -> bool
     8192 < file.len()
 }
 
-// The byte at place q, 0 beyond the file.
-fn byte_at(file: &[u8], q: usize) -> u32
-    ensures { λ r. ⌜ (r ≡ byteAt (now (file .entry)) q) × (r < 256) ⌝ }
-{
-    if file.len() <= q {
-        return 0;
-    }
-    big_endian::wide(file[q])
-}
-
+// The number of the two bytes from place q on, whether the file has them or not.
 fn two_bytes(file: &[u8], q: usize) -> u32
     requires { ⌜ q < 256 ⌝ }
     ensures { λ r. ⌜ (r ≡ twoBytes (now (file .entry)) q) × (r < 65536) ⌝ }
 {
-    byte_at(file, q) * 256 + byte_at(file, q + 1)
+    file_numbers::byte_at(file, q) * 256 + file_numbers::byte_at(file, q + 1)
 }
 
 // How many planes of the map a group stores; a number that no group has reads as P1.
@@ -69,7 +59,7 @@ pub fn lent_to(file: &[u8]) -> usize
     ensures { λ r. ⌜ r ≡ min (needed (headerIn (now (file .entry)))) volumeLimit ⌝ }
 {
     let length = volume_length(
-        byte_at(file, 5),
+        file_numbers::byte_at(file, 5),
         two_bytes(file, 6),
         two_bytes(file, 8),
         two_bytes(file, 10),

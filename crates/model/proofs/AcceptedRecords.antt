@@ -24,7 +24,7 @@ use Rattle.job.specs.declared.Job.{Job}
 use Rattle.job.specs.declared.Reflection.{Reflection}
 use Rattle.job.specs.Header.{collecting, factorsHeld, mapHeld}
 use Rattle.job.specs.Steps.{p, index, done, refused, openTests}
-use Rattle.file_shape.specs.declared.FileRecord.{FileRecord}
+use Rattle.file_records.specs.declared.FileRecord.{FileRecord}
 use Rattle.factor_file.specs.File.{indexOf, headerIn, recordsIn, shapeTests}
 use Rattle.model.specs.Model.{Model, group, half, factorOf, Call, recording, synthesis, analysis, readPoint, readFactor, modelTests, modelNext, modelSaid, modelAfter, inState, begun, notBegun, beginningTests, openingModel, modelOpen, modelFile, zeroModel, recordingOf, modelFeed}
 use Rattle.model.specs.Calls.{Start, opening, reading, startHeader, startKind, startVolume, startRecords, firstModel, run, modelAnswers, modelEnd, acceptedRecord, acceptedRecords}

@@ -20,7 +20,7 @@ use Rattle.cell.specs.Sums.{mapOf, factorsOf}
 use Rattle.job.specs.declared.Job.{Job}
 use Rattle.job.specs.Header.{Header, halvesOf, needed, axisTests, factorsHeld, mapHeld}
 use Rattle.job.specs.Steps.{opened, openTests}
-use Rattle.file_shape.specs.declared.FileRecord.{FileRecord}
+use Rattle.file_records.specs.declared.FileRecord.{FileRecord}
 use Rattle.factor_file.specs.File.{headerIn, recordsIn, shapeTests, fileStep}
 use Rattle.model.specs.Model.{Model, group, half, factorOf, Call, recording, synthesis, analysis, readPoint, readFactor, modelTests, modelNext, modelSaid, modelAfter, inState, factorVolume, mapVolume, modelVolume, begun, zeroModel, mapModel, modelFeed}
 use Rattle.model.specs.Calls.{Start, reading, startHeader, startKind, startVolume, startRecords, firstModel, run, modelAnswers, modelEnd, acceptedRecords}

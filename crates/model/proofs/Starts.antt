@@ -9,7 +9,7 @@ use Rattle.refusal_order.specs.Tests.{first, accepted}
 use Rattle.job.specs.declared.Job.{Job}
 use Rattle.job.specs.Header.{Header}
 use Rattle.job.specs.Steps.{openTests, Opening, opened, notOpened, OpenOutcome, done, density, factor, refused, Outcome}
-use Rattle.file_shape.specs.declared.FileRecord.{FileRecord}
+use Rattle.file_records.specs.declared.FileRecord.{FileRecord}
 use Rattle.factor_file.specs.File.{headerIn, recordsIn, shapeTests, feed, fileStep}
 use Rattle.model.specs.Model.{Model, Call, modelTests, modelNext, modelSaid, modelAfter, modelJob, modelVolume, zeroModel, beginningTests, Beginning, begun, notBegun, openingModel, modelOpen, recordingOf, modelFeed, modelFile}
 use Rattle.model.specs.Calls.{Start, opening, reading, start, modelStart, startHeader, startKind, startVolume, run, modelRan}

@@ -4,7 +4,7 @@ use Prim.Native.Nat.{ℕ}
 use Rattle.job.specs.declared.Job.{Job}
 use Rattle.job.specs.Header.{Header}
 use Rattle.job.specs.Steps.{Said, done, density, factor, refused, OpenOutcome, openStep}
-use Rattle.file_shape.specs.declared.FileRecord.{FileRecord}
+use Rattle.file_records.specs.declared.FileRecord.{FileRecord}
 use Rattle.factor_file.specs.File.{headerIn, recordsIn, fileStep}
 pub use Rattle.scripts.specs.Call.{step}
 use Rattle.model.specs.Model.{Model, Call, recording, synthesis, analysis, readPoint, readFactor, modelSaid, modelAfter, modelVolume, modelJob, Beginning, openingModel, modelOpen, modelFile}

@@ -17,7 +17,7 @@ use Rattle.job.specs.declared.Reflection.{Reflection}
 use Rattle.job.specs.declared.GridPoint.{GridPoint}
 use Rattle.job.specs.Header.{mapHeld, factorsHeld, withState}
 use Rattle.job.specs.Steps.{within, index, position, Opening, opened, notOpened, OpenOutcome, Said, done, density, refused, Outcome, Worked, recordStep, synthesisStep, analysisStep, pointStep}
-use Rattle.file_shape.specs.declared.FileRecord.{FileRecord}
+use Rattle.file_records.specs.declared.FileRecord.{FileRecord}
 use Rattle.factor_file.specs.File.{indexOf, headerIn, recordsIn, shapeTests, fileStep}
 use Rattle.model.specs.Model.{Model, group, half, factorOf, densityOf, Call, modelVolume, modelJob, factorVolume, mapVolume, Beginning, begun, notBegun}
 use Rattle.model.specs.Calls.{Start, start, modelStart, startHeader, startKind, startVolume, startRecords, firstModel, Ran, run, modelRan, modelEnd, acceptedRecords}

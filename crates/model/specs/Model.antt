@@ -15,7 +15,7 @@ use Rattle.cell.specs.Sums.{mapOf, factorsOf}
 use Rattle.job.specs.declared.Job.{Job}
 use Rattle.job.specs.Header.{Header, halvesOf, axisTests, collecting, factorsHeld, mapHeld, jobOf}
 use Rattle.job.specs.Steps.{p, within, index, position, Said, done, density, factor, refused}
-use Rattle.file_shape.specs.declared.FileRecord.{FileRecord}
+use Rattle.file_records.specs.declared.FileRecord.{FileRecord}
 use Rattle.factor_file.specs.File.{indexOf, headerIn, recordsIn, shapeTests}
 pub use Rattle.scripts.specs.Call.{Call, recording, synthesis, analysis, readPoint, readFactor}
 

@@ -41,7 +41,7 @@ use Rattle.job.specs.Steps.{opened, openTests, volumeTests}
 use Rattle.refusals.proofs.Headers.{all-three, sound-lists}
 use Rattle.refusals.proofs.Digits.{octal-of-digits}
 use Rattle.job.proofs.Jobs.{valid-sizes}
-use Rattle.file_shape.specs.declared.FileRecord.{FileRecord}
+use Rattle.file_records.specs.declared.FileRecord.{FileRecord}
 use Rattle.factor_file.specs.File.{recordsIn, fileStep}
 use Rattle.model.specs.Model.{Model, zeroModel, modelVolume, modelFeed, begun}
 use Rattle.model.specs.Demands.{entry}

@@ -6,13 +6,12 @@ use Prim.Native.Nat.{ℕ, _+_, _-_, _<_, _≤_}
 use native.Mathlib.Omega.{arith}
 use lib.ListN.{length, replicate}
 use denote.Ref.{now}
-use Rattle.slices.proofs.Segments.{cleared-all}
 use Rattle.job.specs.Said.{said}
-use Rattle.file_shape.specs.declared.reader.Found.the-variants.{Record}
+use Rattle.file_records.specs.declared.reader.Found.the-variants.{Record}
 use Rattle.file_shape.specs.Shape.{byteAt, countAt, recordsIn}
-use Rattle.file_shape.specs.Reading.{foundAt}
-use Rattle.file_shape.proofs.Shapes.{four-bytes-fit}
-use Rattle.file_shape.proofs.Reading.{record-inside}
+use Rattle.file_records.specs.Records.{foundAt}
+use Rattle.file_numbers.proofs.Numbers.{four-bytes-fit}
+use Rattle.file_records.proofs.Reading.{record-inside}
 use Rattle.feeding.specs.declared.FileAnswer.the-variants.{Refused}
 use Rattle.feeding.specs.Feed.{feed}
 use Rattle.feeding.specs.Said.{fileOutcome}
@@ -44,14 +43,14 @@ place-fits c =
     let file = now (s .before .args .file) in
     omega (arith, record-left (l .loop .inv .1) (s .before .pre) (c .found .given .0 .0) (reading c), four-bytes-fit file (countAt file) (bytes s))
 
-count-place-requires : tie.Need-count-place-requires Inv-loop μ-loop
-count-place-requires c κs = search needs
-
-add-at : tie.Need-add-at Inv-loop μ-loop
-add-at c = omega (arith, c .count-place .ensures .1)
+first-record-requires : tie.Need-first-record-requires Inv-loop μ-loop
+first-record-requires c κs = search needs
 
 loop-holds : tie.Need-loop-holds Inv-loop μ-loop
-loop-holds c = let a = c .before .before .before .args in (refl, feeding-start (now (a .file)) (c .count-place .result) (a .job) (now (a .volume)) (c .count-place .ensures .0))
+loop-holds c =
+    let a = c .before .before .before .args in
+    let start = c .first-record in
+    (refl, feeding-start (now (a .file)) (start .result .at) (start .result .place) (a .job) (now (a .volume)) (start .ensures .0) (start .ensures .1))
 
 read-record-requires : tie.Need-read-record-requires Inv-loop μ-loop
 read-record-requires c κs = search needs
@@ -76,13 +75,13 @@ record-requires c κs = search needs
 enum-known-answer : tie.Need-enum-known-answer Inv-loop μ-loop
 enum-known-answer c = search needs
 
-clear-requires : tie.Need-clear-requires Inv-loop μ-loop
-clear-requires c κs = search needs
+zero-requires : tie.Need-zero-requires Inv-loop μ-loop
+zero-requires c κs = search needs
 
 same-length-2 : tie.Need-same-length-2 Inv-loop μ-loop
 same-length-2 c =
     let r = c .before .before .before .before .before .before .before .before .before in
-    c .before .before .clear .kept .0 ∙ r .«record» .kept .1 .1 .1 .1 .0 ∙ r .before .before .before .before .before .before .loop .inv .0
+    c .before .before .zero .kept .0 ∙ r .«record» .kept .1 .1 .1 .1 .0 ∙ r .before .before .before .before .before .before .loop .inv .0
 
 returns-2 : tie.Need-returns-2 Inv-loop μ-loop
 returns-2 c =
@@ -90,8 +89,7 @@ returns-2 c =
     let r = a .before .before .before .before in
     let f = r .before .before .before in
     let l = f .before .before .before in
-    let v = r .«record» .last .1 .1 .1 .1 .0 in
-    let zero = c .before .before .clear .ensures ∙ cleared-all (length v) v (omega arith) ∙ ap (λ (n : ℕ). replicate n 0) (r .«record» .kept .1 .1 .1 .1 .0) in
+    let zero = c .before .before .zero .ensures ∙ ap (λ (n : ℕ). replicate n 0) (r .«record» .kept .1 .1 .1 .1 .0) in
     ap (λ (v : List ℕ). fileOutcome (Refused (a .answer .given .0 .0) (l .loop .place)) v) zero
     ∙ feeding-refused (l .loop .inv .1) (l .before .before .before .before .pre) (f .found .given .0 .0) (reading f) _ (r .«record» .ensures) _ (ap said (a .answer .given .1))
 
@@ -101,8 +99,8 @@ enum-told-2 c = search needs
 add-place : tie.Need-add-place Inv-loop μ-loop
 add-place c = omega (arith, place-fits (c .before .before .before .before .before .before .before))
 
-add-at-2 : tie.Need-add-at-2 Inv-loop μ-loop
-add-at-2 c = omega (arith, inside (c .before .before .before .before .before .before .before), c .before .before .before .before .before .before .before .before .before .before .before .before .before .before .good .0)
+add-at : tie.Need-add-at Inv-loop μ-loop
+add-at c = omega (arith, inside (c .before .before .before .before .before .before .before), c .before .before .before .before .before .before .before .before .before .before .before .before .before .before .good .0)
 
 loop-less : tie.Need-loop-less Inv-loop μ-loop
 loop-less c = omega (arith, inside (c .before .before .before .before .before .before .before))
@@ -120,8 +118,7 @@ feed-records-spec =
     (tie.spec
     Inv-loop
     μ-loop
-    count-place-requires
-    add-at
+    first-record-requires
     loop-holds
     read-record-requires
     enum-known-found
@@ -130,11 +127,11 @@ feed-records-spec =
     returns
     record-requires
     enum-known-answer
-    clear-requires
+    zero-requires
     same-length-2
     returns-2
     enum-told-2
     add-place
-    add-at-2
+    add-at
     loop-less
     loop-again)

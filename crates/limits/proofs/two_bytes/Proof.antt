@@ -2,7 +2,7 @@
 use borrow.Author.Needs.{needs}
 use native.Mathlib.Omega.{arith}
 use Prim.Native.Nat.{_+_, _*_}
-use Rattle.file_shape.specs.Shape.{twoBytes}
+use Rattle.file_numbers.specs.Numbers.{twoBytes}
 use Rattle.limits.proofs.two_bytes.Statement.{statement}
 use Rattle.limits.proofs.two_bytes.Tie as tie
 

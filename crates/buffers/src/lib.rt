@@ -17,6 +17,14 @@ pub fn clear(d: &mut [u32], n: usize)
     }
 }
 
+// Every number becomes zero, however many there are.
+pub fn zero(volume: &mut [u32])
+    ensures { λ _. ⌜ now (volume .exit) ≡ replicate (length (now (volume .entry))) 0 ⌝ }
+{
+    let count = volume.len();
+    clear(volume, count);
+}
+
 // Every number of s is below p.
 pub fn all_below(s: &[u32], p: u32) -> bool
     ensures { λ r. ⌜ r ≡ allBelow p (now (s .entry)) ⌝ }

@@ -34,7 +34,7 @@ pub fn feed_records(file: &[u8], job: Job, volume: &mut [u32]) -> FileAnswer
         let answer = job.record(Reflection(c.h, c.k, c.l), c.a, c.b, volume)
             .answer;
         if let Answer::Refused(refusal) = answer {
-            zeroing::zero(volume);
+            buffers::zero(volume);
             return FileAnswer::Refused(refusal, place);
         }
         place += 1;

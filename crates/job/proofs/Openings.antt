@@ -1,11 +1,9 @@
 -- The outcome of an opening, refused or accepted.
 use mathlib.Core.Path.{_≡_, refl, _∙_, ap}
-use mathlib.Core.List.{List, _++_}
+use mathlib.Core.List.{List}
 use Prim.Native.Nat.{ℕ, zero, suc}
-use native.Mathlib.Omega.{arith}
-use lib.ListN.{length, replicate, drop}
+use lib.ListN.{length, replicate}
 use borrow.Author.Tests.{eq-eqb, ne-eqb}
-use Rattle.slices.proofs.Segments.{cleared-all}
 use Rattle.refusal_order.specs.declared.Refusal.{Refusal}
 use Rattle.refusal_order.specs.Refusals.{numberOf}
 use Rattle.refusal_order.specs.Tests.{first, accepted}
@@ -21,11 +19,9 @@ module _ (h : Header) (kind : ℕ) (v : List ℕ) where
   unfolding openStep
   open-refused r e = fails r _ _ (λ n. record { answer = notOpened n 0; volume = v }) e
 
-  pub open-collects : (j : Job) (v′ : List ℕ) → 0 ≡ first (openTests h kind v) → kind ≡ 0 → j ≡ jobOf h collecting → v′ ≡ replicate (length v) 0 ++ drop (length v) v → openOutcome (Opened j) v′ ≡ openStep h kind v
+  pub open-collects : (j : Job) (v′ : List ℕ) → 0 ≡ first (openTests h kind v) → kind ≡ 0 → j ≡ jobOf h collecting → v′ ≡ replicate (length v) 0 → openOutcome (Opened j) v′ ≡ openStep h kind v
   unfolding openStep
-  open-collects j v′ e k s w =
-      let z : v′ ≡ replicate (length v) 0 = w ∙ cleared-all (length v) v (omega arith) in
-      rw (← e, s, z, eq-eqb kind 0 k)
+  open-collects j v′ e k s z = rw (← e, s, z, eq-eqb kind 0 k)
 
   pub open-map : (j : Job) → 0 ≡ first (openTests h kind v) → (kind ≡ 0 → ⊥) → j ≡ jobOf h mapHeld → openOutcome (Opened j) v ≡ openStep h kind v
   unfolding openStep

@@ -67,8 +67,7 @@ pub fn open(
         Checked::Failed(refusal) => OpenAnswer::Refused(refusal),
         Checked::Sound => {
             if kind == 0 {
-                let count = volume.len();
-                buffers::clear(volume, count);
+                buffers::zero(volume);
                 OpenAnswer::Opened(opened(group, n1, n2, n3, f1, f2, f3, 0))
             } else {
                 OpenAnswer::Opened(opened(group, n1, n2, n3, f1, f2, f3, 2))

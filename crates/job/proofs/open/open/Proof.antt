@@ -30,12 +30,12 @@ enum-known-checked c = search needs
 enum-told : tie.Need-enum-told
 enum-told c = search needs
 
-clear-requires : tie.Need-clear-requires
-clear-requires c κs = search needs
+zero-requires : tie.Need-zero-requires
+zero-requires c κs = search needs
 
 opened-requires : tie.Need-opened-requires
 opened-requires c κs =
-    let t = c .before .before .before .before .before in
+    let t = c .before .before .before .before in
     let s = t .before .before .before .before .before .before .before .before in
     header-passed (header s) (s .args .kind) (now (s .args .volume)) (none t)
 
@@ -60,10 +60,10 @@ same-length-2 c = search needs
 returns-2 : tie.Need-returns-2
 returns-2 c =
     let l = c .before .before .before in
-    let i = l .before .before in
+    let i = l .before in
     let t = i .before in
     let s = t .before .before .before .before .before .before .before .before in
-    open-collects (header s) (s .args .kind) (now (s .args .volume)) _ _ (none t) (i .if1 .taken) (c .opened .ensures) (l .clear .ensures)
+    open-collects (header s) (s .args .kind) (now (s .args .volume)) _ _ (none t) (i .if1 .taken) (c .opened .ensures) (l .zero .ensures)
 
 same-length-3 : tie.Need-same-length-3
 same-length-3 c = search needs
@@ -82,7 +82,7 @@ open-spec =
     check-open-requires
     enum-known-checked
     enum-told
-    clear-requires
+    zero-requires
     opened-requires
     opened-requires-2
     same-length

@@ -5,8 +5,8 @@ use native.Mathlib.Omega.{arith}
 use lib.ListN.{length}
 use denote.Ref.{now}
 use Rattle.slices.proofs.Segments.{cleared-all}
-use Rattle.zeroing.proofs.zero.Statement.{statement}
-use Rattle.zeroing.proofs.zero.Tie as tie
+use Rattle.buffers.proofs.zero.Statement.{statement}
+use Rattle.buffers.proofs.zero.Tie as tie
 
 clear-requires : tie.Need-clear-requires
 clear-requires c κs = search needs

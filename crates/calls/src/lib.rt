@@ -1,10 +1,10 @@
 // The calls of a script that a job answers itself: a record and the two readings, by their numbers, each answered as three numbers.
+use call_numbers::CallNumbers;
+use call_numbers::Reply;
 use job::Answered;
 use job::GridPoint;
 use job::Job;
 use job::Reflection;
-use call_numbers::CallNumbers;
-use call_numbers::Reply;
 ghost use mathlib.Core.Path.{_≡_};
 ghost use mathlib.Core.List.{List};
 ghost use Prim.Native.Nat.{ℕ, _≤_};

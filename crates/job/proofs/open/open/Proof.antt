@@ -35,7 +35,7 @@ zero-requires c κs = search needs
 
 opened-requires : tie.Need-opened-requires
 opened-requires c κs =
-    let t = c .before .before .before .before in
+    let t = c .before .before .before .before .before in
     let s = t .before .before .before .before .before .before .before .before in
     header-passed (header s) (s .args .kind) (now (s .args .volume)) (none t)
 
@@ -60,7 +60,7 @@ same-length-2 c = search needs
 returns-2 : tie.Need-returns-2
 returns-2 c =
     let l = c .before .before .before in
-    let i = l .before in
+    let i = l .before .before in
     let t = i .before in
     let s = t .before .before .before .before .before .before .before .before in
     open-collects (header s) (s .args .kind) (now (s .args .volume)) _ _ (none t) (i .if1 .taken) (c .opened .ensures) (l .zero .ensures)

@@ -55,29 +55,21 @@ pub fn is_stored(group: u32, n2: u32, n3: u32, j: Index) -> bool
     requires { ⌜ (group < 4) × Length n3 ⌝ }
     ensures { λ r. ⌜ r ≡ storedT (groupOf group) (halvesOf 0 n2 n3) (tripleOf j) ⌝ }
 {
-    if j.k <= n2 / 2 {
-        j.l < stored_count(group, n3)
-    } else {
-        false
-    }
+    (j.k <= n2 / 2) & (j.l < stored_count(group, n3))
 }
 
 // l is an end of the half line: its own negative.
 pub fn is_end(n3: u32, l: u32) -> bool
     ensures { λ r. ⌜ r ≡ (eqb l 0 || eqb l (n3 / 2)) ⌝ }
 {
-    if l == 0 { true } else { l == n3 / 2 }
+    (l == 0) | (l == n3 / 2)
 }
 
 // The factor at j is zero by the group's rule and stands nowhere: an end of an antisymmetric line.
 pub fn is_absent(group: u32, n3: u32, j: Index) -> bool
     ensures { λ r. ⌜ r ≡ (eqb group 3 && (not (even (j .h)) && (eqb (j .l) 0 || eqb (j .l) (n3 / 2)))) ⌝ }
 {
-    if group == 3 {
-        if j.h % 2 == 0 { false } else { is_end(n3, j.l) }
-    } else {
-        false
-    }
+    (group == 3) & ((j.h % 2 != 0) & is_end(n3, j.l))
 }
 
 // l or -l, whichever is in the first half.

@@ -65,21 +65,17 @@ fn factor_agrees(m: u32, group: u32, n1: u32, n2: u32, n3: u32, volume: &[u32], 
     requires { ⌜ IsVolume group n1 n2 n3 (now volume) × IsModulus m × Below (prime m) (now volume) × IsStored group n1 n2 n3 j ⌝ }
     ensures { λ r. ⌜ r ≡ lineAgrees (groupOf group) (halvesOf n1 n2 n3) m (now (volume .entry)) (tripleOf j) ⌝ }
 {
-    if between(j.k, n2 / 2) {
-        if group == 0 {
-            return true;
-        }
-        if between(j.l, n3 / 2) {
-            return true;
-        }
+    if between(j.k, n2 / 2) & ((group == 0) | between(j.l, n3 / 2)) {
+        true
+    } else {
+        images_agree(m, group, n1, n2, n3, volume, j)
     }
-    images_agree(m, group, n1, n2, n3, volume, j)
 }
 
 fn between(x: u32, end: u32) -> bool
     ensures { λ r. ⌜ (r ≡ true → (0 < x) × (x < end)) ⌝ }
 {
-    if x == 0 { false } else { x < end }
+    (0 < x) & (x < end)
 }
 
 // The first operation leaves j where it is, and need not be tried.
@@ -154,11 +150,9 @@ fn empty_line(n1: u32, n2: u32, n3: u32, volume: &[u32], h: u32, k: u32) -> bool
     requires { ⌜ IsVolume 3 n1 n2 n3 (now volume) × (h < n1) × (k ≤ n2 / 2) ⌝ }
     ensures { λ r. ⌜ r ≡ emptyEnds Pa (halvesOf n1 n2 n3) (now (volume .entry)) h k ⌝ }
 {
-    if stored::is_zero(stored::pair_at(n1, n2, volume, 0, h, k)) {
-        stored::is_zero(stored::pair_at(n1, n2, volume, n3 / 2, h, k))
-    } else {
-        false
-    }
+    let first = stored::pair_at(n1, n2, volume, 0, h, k);
+    let last = stored::pair_at(n1, n2, volume, n3 / 2, h, k);
+    stored::is_zero(first) & stored::is_zero(last)
 }
 
 // The same for all k.

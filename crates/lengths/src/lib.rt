@@ -25,10 +25,7 @@ pub fn admitted(length: u32) -> bool
 fn is_factor(x: u8) -> bool
     ensures { λ r. ⌜ r ≡ isFactor x ⌝ }
 {
-    if x < 2 {
-        return false;
-    }
-    x <= 5
+    (2 <= x) & (x <= 5)
 }
 
 // Every number is 2, 3, 4 or 5.

@@ -13,19 +13,7 @@ ghost use Rattle.orbits.specs.Lowest.{isLowest};
 fn no_later(i: Index, j: Index) -> bool
     ensures { λ r. ⌜ r ≡ lexLe (tripleOf i) (tripleOf j) ⌝ }
 {
-    if i.h < j.h {
-        return true;
-    }
-    if j.h < i.h {
-        return false;
-    }
-    if i.k < j.k {
-        return true;
-    }
-    if j.k < i.k {
-        return false;
-    }
-    i.l <= j.l
+    (i.h < j.h) | ((i.h == j.h) & ((i.k < j.k) | ((i.k == j.k) & (i.l <= j.l))))
 }
 
 // No image of j comes before it. The first operation leaves j where it is, and need not be tried.

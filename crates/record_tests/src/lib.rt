@@ -49,11 +49,7 @@ fn agrees_under(m: u32, o: Operation, n1: u32, n2: u32, n3: u32, j: Index, x: Pa
 fn same_index(i: Index, j: Index) -> bool
     ensures { λ r. ⌜ r ≡ sameJ (tripleOf i) (tripleOf j) ⌝ }
 {
-    if i.h == j.h {
-        if i.k == j.k { i.l == j.l } else { false }
-    } else {
-        false
-    }
+    (i.h == j.h) & ((i.k == j.k) & (i.l == j.l))
 }
 
 // The numbers that hold part of the record's orbit are zero: those of each image are below 1.

@@ -5,8 +5,6 @@ use cell::operations::Index;
 use cell::operations::Operation;
 use cell::places;
 use numbers::Pair;
-pub use record_tests::agrees;
-pub use record_tests::orbit_free;
 ghost use mathlib.Core.Path.{_≡_};
 ghost use mathlib.Core.Bool.{cond};
 ghost use lib.ListN.{length};

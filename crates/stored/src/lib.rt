@@ -30,14 +30,14 @@ pub fn pair_at(n1: u32, n2: u32, volume: &[u32], w: u32, h: u32, k: u32) -> Pair
 pub fn same(x: Pair, y: Pair) -> bool
     ensures { λ r. ⌜ r ≡ samePair x y ⌝ }
 {
-    if x.re == y.re { x.im == y.im } else { false }
+    (x.re == y.re) & (x.im == y.im)
 }
 
 // Both numbers are zero.
 pub fn is_zero(x: Pair) -> bool
     ensures { λ r. ⌜ r ≡ isZero x ⌝ }
 {
-    if x.re == 0 { x.im == 0 } else { false }
+    (x.re == 0) & (x.im == 0)
 }
 
 // The factor at a stored index of an alternating line: at l = 0 and at l = A one number of pair 0, real at l = 0 and at an

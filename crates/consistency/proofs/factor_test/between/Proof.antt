@@ -1,16 +1,14 @@
 -- Not 0, and before the end.
 use mathlib.Core.Path.{_≡_, sym, subst}
-use native.Mathlib.Omega.{arith}
-use lib.Dec.{T}
-use borrow.Author.Tests.{ltb-true}
+use lib.Dec.{T, ltb, ltb→lt}
+use Rattle.algebra.proofs.Bool.{and-l, and-r}
 use Rattle.consistency.proofs.factor_test.between.Statement.{statement}
 use Rattle.consistency.proofs.factor_test.between.Tie as tie
 
 returns : tie.Need-returns
-returns c = λ e. absurd (subst T (sym e) tt)
-
-returns-2 : tie.Need-returns-2
-returns-2 c = λ e. (omega (arith, c .if1 .left), ltb-true _ _ e)
+returns c =
+    let a = c .args in
+    λ e. let t = subst T (sym e) tt in (ltb→lt _ _ (and-l (ltb 0 (a .x)) (ltb (a .x) (a .end)) t), ltb→lt _ _ (and-r (ltb 0 (a .x)) (ltb (a .x) (a .end)) t))
 
 pub between-spec : {M : Type 1} → statement M
-between-spec = tie.close (tie.spec returns returns-2)
+between-spec = tie.close (tie.spec returns)

@@ -16,10 +16,7 @@ pub fn admitted(length: u32) -> bool
     if length == 0 {
         return false;
     }
-    if length % 2 != 0 {
-        return false;
-    }
-    2880 % length == 0
+    (length % 2 == 0) & (2880 % length == 0)
 }
 
 fn is_factor(x: u8) -> bool

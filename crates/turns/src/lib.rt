@@ -1,8 +1,19 @@
 // All lines of a job in their turn: the loop of synthesis and of analysis, in the lent volume. Crate line_numbers says what line each
-// number stands for, and volume_lines turns it.
+// number stands for, and each is transformed in its place. A line along l or h is gathered into the scratch, transformed there and
+// scattered back; a line along k is a row of neighbouring pairs and is worked on as a part of the volume.
+//
+// Direction 0 is synthesis, with the tables of the root, direction 1 analysis, with those of its conjugate.
+mod lines; // lines.rt: one line along l or h
+mod rows; // rows.rt: one row along k
+
+use axes::Line;
 use axes::Plan;
 ghost use mathlib.Core.Path.{_≡_};
-ghost use Rattle.volume_lines.specs.Lines.{TablesOf, Lent, Kept};
+ghost use lib.ListN.{length};
+ghost use Rattle.numbers.specs.Prime.{prime};
+ghost use Rattle.slices.specs.Pairs.{Below};
+ghost use Rattle.volume_lines.specs.Lines.{TablesOf, TablesFor, Lent, Kept};
+ghost use Rattle.axes.specs.Lines.{Placed, lineTurned};
 ghost use Rattle.axes.specs.Axes.{lineCount};
 ghost use Rattle.axes.specs.Plans.{groupIn, halvesIn, Planned, Fitting, planTurn};
 ghost use Rattle.passes.specs.Turns.{turns};
@@ -29,7 +40,33 @@ pub fn turn_volume<'a>(
     let mut n = 0;
     while n < count {
         let line = line_numbers::line_in_turn(plan, n);
-        volume_lines::turn(m, line, re, im, tan, volume, scratch, fold, work);
+        turn(m, line, re, im, tan, volume, scratch, fold, work);
         n += 1;
+    }
+}
+
+// The line of its kind: a Hermitian one is a row, and lent as a part of the volume from its offset on.
+fn turn<'a>(
+    m: u32,
+    line: Line,
+    re: &'a [u32; 2880],
+    im: &'a [u32; 2880],
+    tan: &'a [u32; 1440],
+    volume: &mut [u32],
+    scratch: &mut [u32],
+    fold: &mut [u32],
+    work: &mut [u32],
+)
+    requires { ⌜ Placed (length (now volume)) line × TablesFor line (now re) (now im) (now tan) × (m ≡ line .m) ⌝ }
+    requires { ⌜ Below (prime (line .m)) (now volume) ⌝ }
+    requires { ⌜ Lent (now scratch) (now fold) (now work) ⌝ }
+    ensures { λ _. ⌜ (now (volume .exit) ≡ lineTurned line (now (volume .entry))) × Kept (now (scratch .entry)) (now (scratch .exit)) ⌝ }
+{
+    if line.kind == 1 {
+        let start = 2 * line.start;
+        let end = start + 2 * line.count;
+        rows::turn_row(m, line, re, im, tan, &mut volume[start..end], fold, work);
+    } else {
+        lines::turn_gathered(m, line, re, im, tan, volume, scratch, fold, work);
     }
 }

@@ -1,40 +1,33 @@
-// One line of a volume, transformed in its place. A line along l or h is gathered into the scratch, transformed there and
-// scattered back; a line along k is a row of neighbouring pairs and is worked on as a part of the volume.
+// One line of a volume, as it is lent to be transformed in its place: what the tables and the slices beside it are, and the two ends of
+// a row along k, which is a Hermitian line in another packing.
 //
-// Direction 0 is synthesis, with the tables of the root, direction 1 analysis, with those of its conjugate.
-mod lines; // lines.rt: one line along l or h
-mod rows; // rows.rt: one row along k
-
-use axes::Line;
+// A row has B + 1 pairs, of which the first and the last are real; the packed line has B. Direction 0 is synthesis, 1 analysis.
 ghost use mathlib.Core.Path.{_≡_};
+ghost use Prim.Native.Nat.{_+_, _<_};
 ghost use lib.ListN.{length};
-ghost use Rattle.numbers.specs.Prime.{prime};
-ghost use Rattle.slices.specs.Pairs.{Below};
-ghost use Rattle.volume_lines.specs.Lines.{Lent, Kept, TablesFor};
-ghost use Rattle.axes.specs.Lines.{Placed, lineTurned};
+ghost use Rattle.volume_lines.specs.Lines.{opened, closed};
 
-// The line of its kind: a Hermitian one is a row, and lent as a part of the volume from its offset on.
-pub fn turn<'a>(
-    m: u32,
-    line: Line,
-    re: &'a [u32; 2880],
-    im: &'a [u32; 2880],
-    tan: &'a [u32; 1440],
-    volume: &mut [u32],
-    scratch: &mut [u32],
-    fold: &mut [u32],
-    work: &mut [u32],
-)
-    requires { ⌜ Placed (length (now volume)) line × TablesFor line (now re) (now im) (now tan) × (m ≡ line .m) ⌝ }
-    requires { ⌜ Below (prime (line .m)) (now volume) ⌝ }
-    requires { ⌜ Lent (now scratch) (now fold) (now work) ⌝ }
-    ensures { λ _. ⌜ (now (volume .exit) ≡ lineTurned line (now (volume .entry))) × Kept (now (scratch .entry)) (now (scratch .exit)) ⌝ }
+// The packed Hermitian line has the real part of pair B in the second number of pair 0: before synthesis it goes there.
+pub fn open_row(direction: u32, size: usize, row: &mut [u32])
+    requires { ⌜ (1 < size) × (length (now row) ≡ size + 2) ⌝ }
+    ensures { λ _. ⌜ now (row .exit) ≡ opened direction size (now (row .entry)) ⌝ }
 {
-    if line.kind == 1 {
-        let start = 2 * line.start;
-        let end = start + 2 * line.count;
-        rows::turn_row(m, line, re, im, tan, &mut volume[start..end], fold, work);
+    if direction == 0 {
+        row[1] = row[size];
+    }
+}
+
+// The pair B is not part of the transformed line: synthesis leaves zeros there, analysis the factor that it came with.
+pub fn close_row(direction: u32, size: usize, row: &mut [u32])
+    requires { ⌜ (1 < size) × (length (now row) ≡ size + 2) ⌝ }
+    ensures { λ _. ⌜ now (row .exit) ≡ closed direction size (now (row .entry)) ⌝ }
+{
+    if direction == 0 {
+        row[size] = 0;
+        row[size + 1] = 0;
     } else {
-        lines::turn_gathered(m, line, re, im, tan, volume, scratch, fold, work);
+        row[size] = row[1];
+        row[size + 1] = 0;
+        row[1] = 0;
     }
 }

@@ -3,12 +3,12 @@ use mathlib.Core.Path.{sym, _∙_, ap, subst}
 use Rattle.numbers.specs.Prime.{prime, IsModulus}
 use Rattle.slices.specs.Pairs.{Below}
 use Rattle.kinds.specs.Tables.{ForwardTables, BackwardTables}
 use Rattle.volume_lines.proofs.TurnLaws.{turned-forward, turned-inverse, forward-tables, inverse-tables, line-length}
 use Rattle.axes.proofs.Numbered.{other-direction}
 use Rattle.lengths.specs.Counts.{kindOf}
 use Rattle.axes.specs.Turned.{turnedLine}
-use Rattle.volume_lines.proofs.lines.turn_packed.Statement.{statement}
-use Rattle.volume_lines.proofs.lines.turn_packed.Tie as tie
+use Rattle.turns.proofs.lines.turn_packed.Statement.{statement}
+use Rattle.turns.proofs.lines.turn_packed.Tie as tie
 
 forward-requires : tie.Need-forward-requires
 forward-requires c κs =

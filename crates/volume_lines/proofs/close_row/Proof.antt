@@ -5,8 +5,8 @@ use mathlib.Core.Path.{sym, ap}
 use lib.ListN.{length-set}
 use Rattle.volume_lines.specs.Lines.{closed}
 use Rattle.volume_lines.proofs.RowLaws.{otherwise-closed}
-use Rattle.volume_lines.proofs.rows.close_row.Statement.{statement}
-use Rattle.volume_lines.proofs.rows.close_row.Tie as tie
+use Rattle.volume_lines.proofs.close_row.Statement.{statement}
+use Rattle.volume_lines.proofs.close_row.Tie as tie
 
 mul-row : tie.Need-mul-row
 mul-row c = let s = c .before in omega (arith, s .pre .1)

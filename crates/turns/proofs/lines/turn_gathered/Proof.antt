@@ -8,9 +8,9 @@ use Rattle.slices.specs.Pairs.{at}
 use Rattle.slices.proofs.Pairs.{length-fills}
 use Rattle.lengths.specs.Counts.{kindOf}
 use Rattle.kinds.proofs.Dispatch.{prefix-length}
 use Rattle.volume_lines.proofs.TurnLaws.{turned-line, kept, below-lent, returned-fits}
-use Rattle.volume_lines.proofs.lines.turn_gathered.Statement.{statement}
-use Rattle.volume_lines.proofs.lines.turn_gathered.Tie as tie
+use Rattle.turns.proofs.lines.turn_gathered.Statement.{statement}
+use Rattle.turns.proofs.lines.turn_gathered.Tie as tie
 
 gather-requires : tie.Need-gather-requires
 gather-requires c κs = let s = c .before .before .before .before .before .before in (s .pre .0 .0 .fits, omega (arith, s .pre .0 .0 .low, s .pre .1 .1 .scratch-fits))

@@ -5,9 +5,9 @@ use mathlib.Core.Path.{sym, _∙_, ap}
 use Prim.Native.Nat.{_*_}
 use lib.ListN.{length}
 use Rattle.kinds.proofs.Dispatch.{prefix-length, half-positive}
 use Rattle.volume_lines.proofs.RowLaws.{length-opened, opened-packed, row-returned, row-whole}
-use Rattle.volume_lines.proofs.rows.turn_row.Statement.{statement}
-use Rattle.volume_lines.proofs.rows.turn_row.Tie as tie
+use Rattle.turns.proofs.rows.turn_row.Statement.{statement}
+use Rattle.turns.proofs.rows.turn_row.Tie as tie
 
 mul-size : tie.Need-mul-size
 mul-size c = let s = c .before .before .before .before in omega (arith, s .pre .0 .0 .size .short)

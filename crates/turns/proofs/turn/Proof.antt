@@ -5,10 +5,10 @@ use Prim.Native.Nat.{_+_, _*_}
 use lib.ListN.{length}
 use Rattle.slices.proofs.Bounds.{below-segment}
 use Rattle.axes.specs.Lines.{Beside}
 use Rattle.volume_lines.proofs.RowLaws.{row-long, row-placed, part-same, beside, spaced}
 use Rattle.axes.proofs.AxisLines.{row-is, gathered-is}
-use Rattle.volume_lines.proofs.turn.Statement.{statement}
-use Rattle.volume_lines.proofs.turn.Tie as tie
+use Rattle.turns.proofs.turn.Statement.{statement}
+use Rattle.turns.proofs.turn.Tie as tie
 
 -- the row, and the volume that it is a part of
 module _ (i : tie.Then1) where

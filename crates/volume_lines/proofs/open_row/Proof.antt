@@ -4,8 +4,8 @@ use native.Mathlib.Omega.{arith}
 use mathlib.Core.Path.{sym, ap}
 use Rattle.volume_lines.specs.Lines.{opened}
 use Rattle.volume_lines.proofs.RowLaws.{not-opened}
-use Rattle.volume_lines.proofs.rows.open_row.Statement.{statement}
-use Rattle.volume_lines.proofs.rows.open_row.Tie as tie
+use Rattle.volume_lines.proofs.open_row.Statement.{statement}
+use Rattle.volume_lines.proofs.open_row.Tie as tie
 
 mul-row : tie.Need-mul-row
 mul-row c = let s = c .before in omega (arith, s .pre .1)

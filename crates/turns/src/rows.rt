@@ -2,13 +2,13 @@
 use crate::lines;
 use axes::Line;
 ghost use mathlib.Core.Path.{_≡_};
-ghost use Prim.Native.Nat.{_+_, _*_, _<_, _≤_};
+ghost use Prim.Native.Nat.{_+_, _*_, _≤_};
 ghost use lib.ListN.{length};
 ghost use Rattle.numbers.specs.Prime.{prime};
 ghost use Rattle.slices.specs.Pairs.{Below};
 ghost use Rattle.axes.specs.Turned.{turnedRow};
 ghost use Rattle.axes.specs.Lines.{Sound};
-ghost use Rattle.volume_lines.specs.Lines.{TablesFor, opened, closed};
+ghost use Rattle.volume_lines.specs.Lines.{TablesFor};
 
 // A row of B + 1 pairs, of which the first and the last are real, becomes N2 = 2 B real values and two zeros, or back.
 pub fn turn_row<'a>(
@@ -27,32 +27,7 @@ pub fn turn_row<'a>(
     ensures { λ _. ⌜ now (row .exit) ≡ turnedRow (line .m) (line .half) (line .direction) (now (row .entry)) ⌝ }
 {
     let size = 2 * line.half;
-    open_row(line.direction, size, row);
+    volume_lines::open_row(line.direction, size, row);
     lines::turn_packed(m, line, re, im, tan, &mut row[..size], fold, work);
-    close_row(line.direction, size, row);
-}
-
-// The packed Hermitian line has the real part of pair B in the second number of pair 0: before synthesis it goes there.
-fn open_row(direction: u32, size: usize, row: &mut [u32])
-    requires { ⌜ (1 < size) × (length (now row) ≡ size + 2) ⌝ }
-    ensures { λ _. ⌜ now (row .exit) ≡ opened direction size (now (row .entry)) ⌝ }
-{
-    if direction == 0 {
-        row[1] = row[size];
-    }
-}
-
-// The pair B is not part of the transformed line: synthesis leaves zeros there, analysis the factor that it came with.
-fn close_row(direction: u32, size: usize, row: &mut [u32])
-    requires { ⌜ (1 < size) × (length (now row) ≡ size + 2) ⌝ }
-    ensures { λ _. ⌜ now (row .exit) ≡ closed direction size (now (row .entry)) ⌝ }
-{
-    if direction == 0 {
-        row[size] = 0;
-        row[size + 1] = 0;
-    } else {
-        row[size] = row[1];
-        row[size + 1] = 0;
-        row[1] = 0;
-    }
+    volume_lines::close_row(line.direction, size, row);
 }

@@ -23,21 +23,21 @@ ofTwo v (suc b) = v .x1
 
 abbrev pub ofThree : ThreePairs → ℕ → Pair
 ofThree v zero = v .x0
-ofThree v (suc zero) = v .x1
-ofThree v (suc (suc b)) = v .x2
+ofThree v (suc zero) = v .mates .x0
+ofThree v (suc (suc b)) = v .mates .x1
 
 abbrev pub ofFour : FourPairs → ℕ → Pair
-ofFour v zero = v .x0
-ofFour v (suc zero) = v .x1
-ofFour v (suc (suc zero)) = v .x2
-ofFour v (suc (suc (suc b))) = v .x3
+ofFour v zero = v .near .x0
+ofFour v (suc zero) = v .far .x0
+ofFour v (suc (suc zero)) = v .near .x1
+ofFour v (suc (suc (suc b))) = v .far .x1
 
 abbrev pub ofFive : FivePairs → ℕ → Pair
 ofFive v zero = v .x0
-ofFive v (suc zero) = v .x1
-ofFive v (suc (suc zero)) = v .x2
-ofFive v (suc (suc (suc zero))) = v .x3
-ofFive v (suc (suc (suc (suc b)))) = v .x4
+ofFive v (suc zero) = v .near .x0
+ofFive v (suc (suc zero)) = v .far .x0
+ofFive v (suc (suc (suc zero))) = v .far .x1
+ofFive v (suc (suc (suc (suc b)))) = v .near .x1
 
 -- the sums in order
 abbrev pub ofTwoSums : TwoSums → ℕ → Accumulator

@@ -45,31 +45,29 @@ pub struct FiveSums {
     pub x4: Accumulator,
 }
 
-// What it gives.
+// What it gives. Radix 3 to 5 give pairs of sums that differ in one sign: those of 3 and 5 belong to conjugate powers.
 pub struct TwoPairs {
     pub x0: Pair,
     pub x1: Pair,
 }
 
+// The sum 0, and the sums 1 and 2.
 pub struct ThreePairs {
     pub x0: Pair,
-    pub x1: Pair,
-    pub x2: Pair,
+    pub mates: TwoPairs,
 }
 
+// The sums 0 and 2, and the sums 1 and 3.
 pub struct FourPairs {
-    pub x0: Pair,
-    pub x1: Pair,
-    pub x2: Pair,
-    pub x3: Pair,
+    pub near: TwoPairs,
+    pub far: TwoPairs,
 }
 
+// The sum 0, the sums 1 and 4, and the sums 2 and 3.
 pub struct FivePairs {
     pub x0: Pair,
-    pub x1: Pair,
-    pub x2: Pair,
-    pub x3: Pair,
-    pub x4: Pair,
+    pub near: TwoPairs,
+    pub far: TwoPairs,
 }
 
 // Radix 2.
@@ -77,9 +75,7 @@ pub fn two(m: u32, v: TwoSums) -> TwoPairs
     requires { ⌜ IsModulus m × AllRoom 2 (ofTwoSums v) ⌝ }
     ensures { λ r. ⌜ ((W : Value m) → pow (field m) W 1440 ≡ field m .neg (field m .one) → Butterfly m W 2 (λ b. meant m (ofTwoSums v b)) (ofTwo r)) ⌝ }
 {
-    let a = v.x0;
-    let b = v.x1;
-    both_ways(m, a, b)
+    both_ways(m, v.x0, v.x1)
 }
 
 // x + y and x - y, reduced.
@@ -100,20 +96,13 @@ pub fn three<'a>(m: u32, re: &'a [u32; 2880], im: &'a [u32; 2880], v: ThreeSums)
     requires { ⌜ AllRoom 3 (ofThreeSums v) ⌝ }
     ensures { λ r. ⌜ Butterfly m (tableRoot m (now (re .entry)) (now (im .entry))) 3 (λ b. meant m (ofThreeSums v b)) (ofThree r) ⌝ }
 {
-    let a = v.x0;
-    let b = v.x1;
-    let c = v.x2;
     let w = root::root_at(re, im, 960);
-    let t = unreduced::sum(b, c);
-    let even = unreduced::sum(a, unreduced::scaled(w.re, t));
-    let odd = unreduced::scaled(w.im, quarter_turns::turned(b, c));
-    let mates = both_ways(m, even, odd);
-    let x1 = mates.x0;
-    let x2 = mates.x1;
+    let t = unreduced::sum(v.x1, v.x2);
+    let even = unreduced::sum(v.x0, unreduced::scaled(w.re, t));
+    let odd = unreduced::scaled(w.im, quarter_turns::turned(v.x1, v.x2));
     ThreePairs {
-        x0: unreduced::total(m, a, t),
-        x1,
-        x2,
+        x0: unreduced::total(m, v.x0, t),
+        mates: both_ways(m, even, odd),
     }
 }
 
@@ -123,21 +112,13 @@ pub fn four<'a>(m: u32, re: &'a [u32; 2880], im: &'a [u32; 2880], v: FourSums) -
     requires { ⌜ AllRoom 4 (ofFourSums v) ⌝ }
     ensures { λ r. ⌜ Butterfly m (tableRoot m (now (re .entry)) (now (im .entry))) 4 (λ b. meant m (ofFourSums v b)) (ofFour r) ⌝ }
 {
-    let a = v.x0;
-    let b = v.x1;
-    let c = v.x2;
-    let d = v.x3;
-    let near = both_ways(m, unreduced::sum(a, c), unreduced::sum(b, d));
+    let near = both_ways(m, unreduced::sum(v.x0, v.x2), unreduced::sum(v.x1, v.x3));
     let far = both_ways(
         m,
-        unreduced::apart(a, c),
-        quarter_turns::quarter_turned(m, re, im, b, d),
+        unreduced::apart(v.x0, v.x2),
+        quarter_turns::quarter_turned(m, re, im, v.x1, v.x3),
     );
-    let x0 = near.x0;
-    let x1 = far.x0;
-    let x2 = near.x1;
-    let x3 = far.x1;
-    FourPairs { x0, x1, x2, x3 }
+    FourPairs { near, far }
 }
 
 // Radix 5: w = e(1/5), z = e(2/5). In the sums 2 and 3 they change places, since e(4/5) is the conjugate of w.
@@ -146,26 +127,13 @@ pub fn five<'a>(m: u32, re: &'a [u32; 2880], im: &'a [u32; 2880], v: FiveSums) -
     requires { ⌜ AllRoom 5 (ofFiveSums v) ⌝ }
     ensures { λ r. ⌜ Butterfly m (tableRoot m (now (re .entry)) (now (im .entry))) 5 (λ b. meant m (ofFiveSums v b)) (ofFive r) ⌝ }
 {
-    let a = v.x0;
-    let b = v.x1;
-    let c = v.x2;
-    let d = v.x3;
-    let e = v.x4;
     let w = root::root_at(re, im, 576);
     let z = root::root_at(re, im, 1152);
-    let near = conjugates(m, w, z, a, b, c, d, e);
-    let far = conjugates(m, z, w, a, b, d, c, e);
-    let all = unreduced::sum(a, unreduced::sum(b, e));
-    let x1 = near.x0;
-    let x2 = far.x0;
-    let x3 = far.x1;
-    let x4 = near.x1;
+    let all = unreduced::sum(v.x0, unreduced::sum(v.x1, v.x4));
     FivePairs {
-        x0: unreduced::total(m, all, unreduced::sum(c, d)),
-        x1,
-        x2,
-        x3,
-        x4,
+        x0: unreduced::total(m, all, unreduced::sum(v.x2, v.x3)),
+        near: conjugates(m, w, z, v.x0, v.x1, v.x2, v.x3, v.x4),
+        far: conjugates(m, z, w, v.x0, v.x1, v.x3, v.x2, v.x4),
     }
 }
 

@@ -1,5 +1,9 @@
 // One butterfly of a step of equation (3) of document 001, by its radix: its values are read at their places and multiplied by their
 // factors, summed, and the sums stored at theirs (specs/Summed.antt).
+use butterflies::FiveSums;
+use butterflies::FourSums;
+use butterflies::ThreeSums;
+use butterflies::TwoSums;
 use twiddles::Places;
 ghost use mathlib.Core.Path.{_≡_};
 ghost use Prim.Native.Nat.{_≤_};
@@ -8,7 +12,6 @@ ghost use Rattle.root.specs.Root.{tableRoot, RootTable};
 ghost use Rattle.slices.specs.Pairs.{Below};
 ghost use Rattle.radices.specs.Summed.{Reads, Stores, summed};
 
-mod loads; // loads.rt: the values of a butterfly, with their factors
 mod stores; // stores.rt: its sums at their places
 
 // One butterfly, by its radix.
@@ -49,8 +52,12 @@ fn two_at<'a>(
     requires { ⌜ Reads 2 at (now from) × Stores 2 at (now to) × Below (prime m) (now from) ⌝ }
     ensures { λ _. ⌜ now (to .exit) ≡ summed m (tableRoot m (now (re .entry)) (now (im .entry))) 2 at (now (from .entry)) (now (to .entry)) ⌝ }
 {
-    let v = loads::load_two(m, re, im, at, from);
-    stores::store_two(to, at, butterflies::two(m, v));
+    let v = TwoSums {
+        x0: twiddles::turned_at(m, re, im, at, 0, from),
+        x1: twiddles::turned_at(m, re, im, at, 1, from),
+    };
+    let y = butterflies::two(m, v);
+    stores::store_next(to, at, 0, y.x0, y.x1);
 }
 
 fn three_at<'a>(
@@ -65,8 +72,14 @@ fn three_at<'a>(
     requires { ⌜ Reads 3 at (now from) × Stores 3 at (now to) × Below (prime m) (now from) ⌝ }
     ensures { λ _. ⌜ now (to .exit) ≡ summed m (tableRoot m (now (re .entry)) (now (im .entry))) 3 at (now (from .entry)) (now (to .entry)) ⌝ }
 {
-    let v = loads::load_three(m, re, im, at, from);
-    stores::store_three(to, at, butterflies::three(m, re, im, v));
+    let v = ThreeSums {
+        x0: twiddles::turned_at(m, re, im, at, 0, from),
+        x1: twiddles::turned_at(m, re, im, at, 1, from),
+        x2: twiddles::turned_at(m, re, im, at, 2, from),
+    };
+    let y = butterflies::three(m, re, im, v);
+    stores::store_at(to, at, 0, y.x0);
+    stores::store_next(to, at, 1, y.mates.x0, y.mates.x1);
 }
 
 fn four_at<'a>(
@@ -81,8 +94,15 @@ fn four_at<'a>(
     requires { ⌜ Reads 4 at (now from) × Stores 4 at (now to) × Below (prime m) (now from) ⌝ }
     ensures { λ _. ⌜ now (to .exit) ≡ summed m (tableRoot m (now (re .entry)) (now (im .entry))) 4 at (now (from .entry)) (now (to .entry)) ⌝ }
 {
-    let v = loads::load_four(m, re, im, at, from);
-    stores::store_four(to, at, butterflies::four(m, re, im, v));
+    let v = FourSums {
+        x0: twiddles::turned_at(m, re, im, at, 0, from),
+        x1: twiddles::turned_at(m, re, im, at, 1, from),
+        x2: twiddles::turned_at(m, re, im, at, 2, from),
+        x3: twiddles::turned_at(m, re, im, at, 3, from),
+    };
+    let y = butterflies::four(m, re, im, v);
+    stores::store_next(to, at, 0, y.near.x0, y.far.x0);
+    stores::store_next(to, at, 2, y.near.x1, y.far.x1);
 }
 
 fn five_at<'a>(
@@ -97,6 +117,15 @@ fn five_at<'a>(
     requires { ⌜ Reads 5 at (now from) × Stores 5 at (now to) × Below (prime m) (now from) ⌝ }
     ensures { λ _. ⌜ now (to .exit) ≡ summed m (tableRoot m (now (re .entry)) (now (im .entry))) 5 at (now (from .entry)) (now (to .entry)) ⌝ }
 {
-    let v = loads::load_five(m, re, im, at, from);
-    stores::store_five(to, at, butterflies::five(m, re, im, v));
+    let v = FiveSums {
+        x0: twiddles::turned_at(m, re, im, at, 0, from),
+        x1: twiddles::turned_at(m, re, im, at, 1, from),
+        x2: twiddles::turned_at(m, re, im, at, 2, from),
+        x3: twiddles::turned_at(m, re, im, at, 3, from),
+        x4: twiddles::turned_at(m, re, im, at, 4, from),
+    };
+    let y = butterflies::five(m, re, im, v);
+    stores::store_at(to, at, 0, y.x0);
+    stores::store_next(to, at, 1, y.near.x0, y.far.x0);
+    stores::store_next(to, at, 3, y.far.x1, y.near.x1);
 }

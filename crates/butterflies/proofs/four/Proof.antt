@@ -19,18 +19,17 @@ turned-4 m W v = field m .mul (pow (field m) W 720) (field m .add (meant m (v .x
 
 sum-requires : tie.Need-sum-requires
 sum-requires c κs =
-    let s = c .before .before .before .before in
-    (given-both (s .pre .1) 0 (lit< tt) 2 (lit< tt))
+    given-both (c .pre .1) 0 (lit< tt) 2 (lit< tt)
 
 sum-requires-2 : tie.Need-sum-requires-2
 sum-requires-2 c κs =
-    let s = c .before .before .before .before .before in
-    (given-both (s .pre .1) 1 (lit< tt) 3 (lit< tt))
+    let s = c .before in
+    given-both (s .pre .1) 1 (lit< tt) 3 (lit< tt)
 
 both-ways-requires : tie.Need-both-ways-requires
 both-ways-requires c κs =
     let at-sum = c .before in
-    let s = at-sum .before .before .before .before .before in
+    let s = at-sum .before in
     let m = s .args .m in
     let even = at-sum .sum .ensures m 1 1 _ _ (given (s .pre .1) 0 (lit< tt) m) (given (s .pre .1) 2 (lit< tt) m) in
     let odd = c .sum2 .ensures m 1 1 _ _ (given (s .pre .1) 1 (lit< tt) m) (given (s .pre .1) 3 (lit< tt) m) in
@@ -38,18 +37,18 @@ both-ways-requires c κs =
 
 apart-requires : tie.Need-apart-requires
 apart-requires c κs =
-    let s = c .before .before .before .before .before .before .before in
+    let s = c .before .before .before in
     (given-both (s .pre .1) 0 (lit< tt) 2 (lit< tt))
 
 quarter-turned-requires : tie.Need-quarter-turned-requires
 quarter-turned-requires c κs =
-    let s = c .before .before .before .before .before .before .before .before in
+    let s = c .before .before .before .before in
     (s .pre .0, (s .pre .1 .each 1 (lit< tt), s .pre .1 .each 3 (lit< tt)))
 
 both-ways-requires-2 : tie.Need-both-ways-requires-2
 both-ways-requires-2 c κs =
     let at-apart = c .before in
-    let s = at-apart .before .before .before .before .before .before .before .before in
+    let s = at-apart .before .before .before .before in
     let m = s .args .m in
     let W = tableRoot m (s .args .re .now) (s .args .im .now) in
     let away = at-apart .apart .ensures m 1 1 _ _ (s .pre .0 .0) (given (s .pre .1) 0 (lit< tt) m) (given (s .pre .1) 2 (lit< tt) m) in
@@ -57,20 +56,19 @@ both-ways-requires-2 c κs =
 
 returns : tie.Need-returns
 returns c =
-    let at-both-ways2 = c .before .before .before .before in
-    let at-quarter-turned = at-both-ways2 .before in
+    let at-quarter-turned = c .before in
     let at-apart = at-quarter-turned .before in
     let at-both-ways = at-apart .before in
     let at-sum2 = at-both-ways .before in
     let at-sum = at-sum2 .before in
-    let s = at-sum .before .before .before .before .before in
+    let s = at-sum .before in
     let m = s .args .m in
     let a = given (s .pre .1) 0 (lit< tt) m in
     let b = given (s .pre .1) 2 (lit< tt) m in
     let odd = at-sum2 .sum2 .ensures m 1 1 _ _ (given (s .pre .1) 1 (lit< tt) m) (given (s .pre .1) 3 (lit< tt) m) in
     let near = at-both-ways .both-ways .ensures 2 2 _ _ (at-sum .sum .ensures m 1 1 _ _ a b) odd in
     let W = tableRoot m (s .args .re .now) (s .args .im .now) in
-    let far = at-both-ways2 .both-ways2 .ensures 2428553 4 _ (turned-4 m W (s .args .v)) (at-apart .apart .ensures m 1 1 _ _ (s .pre .0 .0) a b) (at-quarter-turned .quarter-turned .ensures) in
+    let far = c .both-ways2 .ensures 2428553 4 _ (turned-4 m W (s .args .v)) (at-apart .apart .ensures m 1 1 _ _ (s .pre .0 .0) a b) (at-quarter-turned .quarter-turned .ensures) in
     four-butterfly m (s .pre .0 .1) _ _ (near .0) (far .0) (near .1) (far .1)
 
 pub four-spec : {M : Type 1} → statement M

@@ -7,12 +7,11 @@ use Rattle.butterflies.proofs.two.Tie as tie
 
 both-ways-requires : tie.Need-both-ways-requires
 both-ways-requires c κs =
-    let s = c .before .before in
-    (s .pre .0, given-both (s .pre .1) 0 (lit< tt) 1 (lit< tt))
+    (c .pre .0, given-both (c .pre .1) 0 (lit< tt) 1 (lit< tt))
 
 returns : tie.Need-returns
 returns c =
-    let s = c .before .before .before in
+    let s = c .before in
     let m = s .args .m in
     let sums = c .both-ways .ensures 1 1 _ _ (given (s .pre .1) 0 (lit< tt) m) (given (s .pre .1) 1 (lit< tt) m) in
     λ W half. two-butterfly m W half _ _ (sums .0) (sums .1)

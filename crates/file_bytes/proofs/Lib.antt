@@ -2,5 +2,3 @@ pub mod Stores
 pub mod Spelling
 pub mod Places
 pub mod RecordLaws
-pub mod Parsing
-pub mod WrittenFiles

@@ -1,9 +1,2 @@
 pub mod Sound
 pub mod OneCall
-pub mod Lists
-pub mod Corollaries
-pub mod Restoring
-pub mod Openings
-pub mod Starts
-pub mod AcceptedRecords
-pub mod Order

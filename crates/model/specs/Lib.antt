@@ -1,3 +1,1 @@
 pub mod Model
-pub mod Calls
-pub mod Demands

@@ -16,7 +16,9 @@ use Rattle.job.specs.declared.Job.{Job}
 use Rattle.job.specs.Header.{Header, halvesOf, axisTests, collecting, factorsHeld, mapHeld, jobOf}
 use Rattle.job.specs.Steps.{p, within, index, position, Said, done, density, factor, refused}
 use Rattle.file_records.specs.declared.FileRecord.{FileRecord}
-use Rattle.factor_file.specs.File.{indexOf, headerIn, recordsIn, shapeTests}
+use Rattle.file_shape.specs.Shape.{recordsIn, shapeTests}
+use Rattle.file_layout.specs.HeaderIn.{headerIn}
+use Rattle.feeding.specs.Feed.{indexOf}
 pub use Rattle.scripts.specs.Call.{Call, recording, synthesis, analysis, readPoint, readFactor}
 
 -- The header is the opening's. The model uses its group and its lengths; the factor lists are in the job that is given back.

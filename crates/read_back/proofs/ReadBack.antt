@@ -44,10 +44,10 @@ use Rattle.job.proofs.Jobs.{valid-sizes}
 use Rattle.file_records.specs.declared.FileRecord.{FileRecord}
 use Rattle.factor_file.specs.File.{recordsIn, fileStep}
 use Rattle.model.specs.Model.{Model, zeroModel, modelVolume, modelFeed, begun}
-use Rattle.model.specs.Demands.{entry}
-use Rattle.model.proofs.Openings.{opening-sound}
-use Rattle.model.proofs.Starts.{file-gives}
-use Rattle.model.proofs.AcceptedRecords.{actsOn, accepted-fed}
+use Rattle.agreement.specs.Demands.{entry}
+use Rattle.agreement.proofs.Openings.{opening-sound}
+use Rattle.agreement.proofs.Starts.{file-gives}
+use Rattle.agreement.proofs.AcceptedRecords.{actsOn, accepted-fed}
 use Rattle.file_layout.specs.Bytes.{fileOf}
 use Rattle.file_writer.specs.Writing.{jobRecords, jobFile, written, writeTests, writeStep}
 use Rattle.read_back.specs.Demands.{ReadsBack}
@@ -55,8 +55,8 @@ use Rattle.file_layout.proofs.FileParts.{length-header}
 use Rattle.file_bytes.proofs.RecordLaws.{admitted-few}
 use Rattle.file_layout.proofs.FileParts.{length-body}
 use Rattle.file_writer.proofs.Files.{told, passed-on, valid-volume}
-use Rattle.file_bytes.proofs.Parsing.{fileRecord, Short}
-use Rattle.file_bytes.proofs.WrittenFiles.{Writable, header-read, records-read, well-shaped}
+use Rattle.read_back.proofs.Parsing.{fileRecord, Short}
+use Rattle.read_back.proofs.WrittenFiles.{Writable, header-read, records-read, well-shaped}
 
 -- ---- records of a file and what they stand for
 

@@ -4,9 +4,9 @@ use mathlib.Core.List.{List}
 use Prim.Native.Nat.{ℕ}
 use Rattle.job.specs.declared.Job.{Job}
 use Rattle.model.specs.Model.{Model}
-use Rattle.model.specs.Calls.{Start, Ran}
-use Rattle.model.specs.Demands.{Started}
-use Rattle.model.proofs.Starts.{every-start}
+use Rattle.agreement.specs.Calls.{Start, Ran}
+use Rattle.agreement.specs.Demands.{Started}
+use Rattle.agreement.proofs.Starts.{every-start}
 use Rattle.replay.specs.Script.{scriptCalls, ended, replayStep, modelReplay}
 
 pub replay-modelled : (s : Start) (m : Model) (j : Job) (script v scratch out : List ℕ) → Started s j v m → replayStep j script v scratch out ≡ modelReplay m script scratch out

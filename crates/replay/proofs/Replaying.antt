@@ -7,7 +7,7 @@ use native.Mathlib.Omega.{arith}
 use lib.ListN.{length, take, drop, take-append-drop}
 use Rattle.job.specs.declared.Job.{Job}
 use Rattle.job.specs.Steps.{Said, done, density, factor, refused}
-use Rattle.model.specs.Calls.{step, run}
+use Rattle.agreement.specs.Calls.{step, run}
 use Rattle.scripts.specs.Call.{callAt, answerNumbers, scratchLeft, CallOutcome, callStep}
 use Rattle.calls.proofs.Calls.{call-by-length}
 use Rattle.call_numbers.proofs.Placed.{placed, take-placed, drop-placed}

@@ -5,7 +5,7 @@ use lib.ListN.{length, drop}
 use Rattle.job.specs.declared.Job.{Job}
 use Rattle.job.specs.Steps.{Said}
 use Rattle.model.specs.Model.{Model, Call}
-use Rattle.model.specs.Calls.{Ran, run, modelRan}
+use Rattle.agreement.specs.Calls.{Ran, run, modelRan}
 use Rattle.scripts.specs.Call.{callAt, answerNumbers, scratchLeft}
 use Rattle.replay.specs.declared.Replayed.{Replayed}
 

@@ -5,8 +5,8 @@ use job::Job;
 ghost use mathlib.Core.Path.{_≡_};
 ghost use Prim.Native.Nat.{_/_, min};
 ghost use Rattle.model.specs.Model.{Model};
-ghost use Rattle.model.specs.Calls.{Start};
-ghost use Rattle.model.specs.Demands.{Started};
+ghost use Rattle.agreement.specs.Calls.{Start};
+ghost use Rattle.agreement.specs.Demands.{Started};
 ghost use Rattle.replay.specs.Script.{replayOutcome, replayStep, modelReplay};
 
 // The job after the calls, and how many numbers of answers were written.

@@ -1,0 +1,7 @@
+pub mod Lists
+pub mod Corollaries
+pub mod Restoring
+pub mod Openings
+pub mod Starts
+pub mod AcceptedRecords
+pub mod Order

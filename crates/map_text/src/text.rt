@@ -40,7 +40,7 @@ fn put_row(out: &mut [u8], at: usize, job: Job, volume: &[u32], z: u32, x: u32) 
     let start = 2 * places::pair_place(job.a.length, n2, z, x, 0);
     let plane = output::put_decimal(out, at, z);
     let row = output::put_field(out, plane, x);
-    let values = output::put_values(out, row, volume, start, n2 as usize);
+    let values = row_values::put_values(out, row, volume, start, n2 as usize);
     output::put_byte(out, values, b'\n')
 }
 

@@ -1,9 +1,7 @@
 // Bytes, words and numbers that go to an output. Each function starts at a place and returns the place after its text; a byte
 // beyond the output is counted and not stored, so that a text is measured by the functions that write it.
 ghost use mathlib.Core.List.{[], _∷_};
-ghost use Prim.Native.Nat.{_+_, _≤_};
-ghost use lib.ListN.{length, getD};
-ghost use Rattle.output.specs.Decimal.{decimal, blank, each};
+ghost use Rattle.output.specs.Decimal.{decimal, blank};
 ghost use Rattle.output.specs.Writing.{Wrote, Ends};
 
 pub fn put_byte(out: &mut [u8], at: usize, byte: u8) -> usize
@@ -51,20 +49,4 @@ pub fn put_field(out: &mut [u8], at: usize, n: u32) -> usize
 {
     let number = put_byte(out, at, b' ');
     put_decimal(out, number, n)
-}
-
-// The n numbers of a volume from `start` on, a blank before each.
-pub fn put_values(out: &mut [u8], at: usize, volume: &[u32], start: usize, n: usize) -> usize
-    requires { ⌜ start + n ≤ length (now volume) ⌝ }
-    requires { ⌜ Ends at (each n (λ y. blank ∷ decimal (getD (now volume) (start + y) 0))) ⌝ }
-    ensures { λ r. ⌜ Wrote at (each n (λ y. blank ∷ decimal (getD (now (volume .entry)) (start + y) 0))) (now (out .entry)) r (now (out .exit)) ⌝ }
-{
-    let mut place = at;
-    let mut y = 0;
-    while y < n {
-        let value = volume[start + y];
-        place = put_field(out, place, value);
-        y += 1;
-    }
-    place
 }

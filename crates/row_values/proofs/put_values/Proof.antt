@@ -4,11 +4,11 @@ use mathlib.Core.List.{List, _∷_}
 use Prim.Native.Nat.{ℕ, _+_, _-_, _≤_}
 use native.Mathlib.Omega.{arith}
 use lib.ListN.{length, getD}
 use Rattle.output.specs.Decimal.{each, blank, decimal}
 use Rattle.output.specs.Writing.{Wrote}
 use Rattle.output.proofs.Writing.{each-none, each-ends, each-next, each-done, wrote-length}
-use Rattle.output.proofs.put_values.Statement.{statement}
-use Rattle.output.proofs.put_values.Tie as tie
+use Rattle.row_values.proofs.put_values.Statement.{statement}
+use Rattle.row_values.proofs.put_values.Tie as tie
 
 abbrev field : List ℕ → ℕ → ℕ → List ℕ
 field volume start y = blank ∷ decimal (getD volume (start + y) 0)

@@ -2,7 +2,8 @@
 use libc::STDIN_FILENO;
 use libc::STDOUT_FILENO;
 ghost use mathlib.Core.Path.{_≡_};
-ghost use Prim.Native.Nat.{_<_, _≤_};
+ghost use Prim.Native.Nat.{_+_, _<_, _≤_};
+ghost use lib.ListN.{length};
 
 pub fn wide(b: u8) -> u32
     ensures { λ r. ⌜ r < 256 ⌝ }
@@ -16,20 +17,10 @@ fn wide64(x: u32) -> u64
     x as u64
 }
 
-// The byte at a place of a record, 0 beyond it.
-pub fn byte(c: &[u8], at: usize) -> u8 {
-    if at < c.len() {
-        return c[at];
-    }
-    0
-}
-
-// The big-endian number from a place of a record on.
-pub fn number(c: &[u8], at: usize) -> u32
-    requires { ⌜ at < 256 ⌝ }
-{
-    let high = wide(byte(c, at)) * 256 + wide(byte(c, at + 1));
-    let low = wide(byte(c, at + 2)) * 256 + wide(byte(c, at + 3));
+// A big-endian number.
+fn number(c: &[u8; 4]) -> u32 {
+    let high = wide(c[0]) * 256 + wide(c[1]);
+    let low = wide(c[2]) * 256 + wide(c[3]);
     high * 65536 + low
 }
 
@@ -38,6 +29,12 @@ pub fn read_bytes(v: &mut [u8]) -> bool {
     let wanted = v.len();
     let got = io::read_full(STDIN_FILENO, v);
     got == wanted
+}
+
+// What the next bytes of the input are.
+pub fn bytes_read(v: &mut [u8]) -> &[u8] {
+    read_bytes(v);
+    v
 }
 
 // The next big-endian numbers of the input; whether it has as many.
@@ -49,10 +46,16 @@ pub fn read_numbers(v: &mut [u32]) -> bool {
         if !whole {
             return false;
         }
-        v[j] = number(&c, 0);
+        v[j] = number(&c);
         j += 1;
     }
     true
+}
+
+// What the next numbers of the input are.
+pub fn numbers_read(v: &mut [u32]) -> &[u32] {
+    read_numbers(v);
+    v
 }
 
 // The number at a place of a record, 0 beyond it.
@@ -63,8 +66,14 @@ pub fn at(r: &[u32], i: usize) -> u32 {
     0
 }
 
-// A length that the input names, where a buffer has it.
-pub fn at_most(x: u32, most: usize) -> usize
+// The length that a record names at a place, as much of it as a buffer has.
+pub fn length_at(r: &[u32], i: usize, most: usize) -> usize
+    ensures { λ r. ⌜ r ≤ most ⌝ }
+{
+    at_most(at(r, i), most)
+}
+
+fn at_most(x: u32, most: usize) -> usize
     ensures { λ r. ⌜ r ≤ most ⌝ }
 {
     let n = x as usize;
@@ -72,6 +81,14 @@ pub fn at_most(x: u32, most: usize) -> usize
         return n;
     }
     most
+}
+
+// The bytes from a place of a record on, as many as it says, and no more than it has for them.
+pub fn part(c: &[u8], start: usize, count: u32, most: usize) -> &[u8]
+    requires { ⌜ (start + most ≤ length (now c)) × (start + most < 256) ⌝ }
+{
+    let end = start + at_most(count, most);
+    &c[start..end]
 }
 
 // A count that is printed: what a test writes has fewer than 2^32 of anything.
@@ -98,26 +115,12 @@ pub fn fill_with(v: &mut [u32], x: u32) {
     }
 }
 
-// A file from the input, and a volume of sevens to open it on.
-pub fn prepare(file: &mut [u8], volume: &mut [u32]) {
-    read_bytes(file);
-    fill_with(volume, 7);
-}
-
 // Another number at one place, where the buffer has it.
-pub fn put_at(v: &mut [u32], place: usize, x: u32) {
-    if place < v.len() {
-        v[place] = x;
+pub fn put_at(v: &mut [u32], place: u32, x: u32) {
+    let i = place as usize;
+    if i < v.len() {
+        v[i] = x;
     }
-}
-
-// A record that fills a buffer by the generator (operation 5), or changes one number of it.
-pub fn change(r: &[u32], v: &mut [u32]) {
-    if at(r, 0) == 5 {
-        fill(v, at(r, 2));
-        return;
-    }
-    put_at(v, at_most(at(r, 2), v.len()), at(r, 3));
 }
 
 fn more(h: u64, x: u32) -> u64
@@ -163,12 +166,6 @@ pub fn print_line(v: &[u32]) {
         j += 1;
     }
     io::write_all(STDOUT_FILENO, b"\n");
-}
-
-// What an opening answered and left: a refusal's number or 0, a place or 0, the job's checksum and that of the volume.
-pub fn print_opening(number: u32, place: u32, job: u32, volume: &[u32]) {
-    let said = [number, place, job, checksum(volume)];
-    print_line(&said);
 }
 
 // What a script of calls answered and left: how many numbers it wrote, the job's checksum and those of two buffers, then every answer.

@@ -2,9 +2,8 @@
 // or 0, a checksum of the line, a checksum of the scratch. tools/line_cases.py writes the calls and says what a record
 // of 48 bytes holds; tools/line_expected.c computes by direct sums what this program must print.
 ghost use mathlib.Core.Path.{_≡_};
-ghost use Prim.Native.Nat.{_+_, _<_, _≤_};
+ghost use Prim.Native.Nat.{_≤_};
 ghost use lib.ListN.{length};
-use libc::STDIN_FILENO;
 use line::LineAnswer;
 
 fn number(answer: LineAnswer) -> u32 {
@@ -14,19 +13,15 @@ fn number(answer: LineAnswer) -> u32 {
     }
 }
 
-// One call on a line and a scratch of exactly the lengths that it names.
-fn run(c: &[u8], count: usize, line: &mut [u32], scratch: &mut [u32])
-    requires { ⌜ (length (now c) ≡ 48) × (count ≤ 15) ⌝ }
-{
-    cases::fill(line, cases::number(c, 32));
-    cases::put_at(line, cases::number(c, 36) as usize, cases::number(c, 40));
-    cases::fill_with(scratch, 7);
-    let end = 13 + count;
+// One call on a line and a scratch of exactly the lengths that it names, the line by its seed and one number of it changed.
+fn run(head: &[u32], list: &[u8], tail: &[u32], line: &mut [u32], scratch: &mut [u32]) {
+    cases::fill(line, cases::at(tail, 1));
+    cases::put_at(line, cases::at(tail, 2), cases::at(tail, 3));
     let answer = line::line(
-        cases::number(c, 0),
-        cases::number(c, 4),
-        cases::number(c, 8),
-        &c[13..end],
+        cases::at(head, 0),
+        cases::at(head, 1),
+        cases::at(head, 2),
+        list,
         line,
         scratch,
     );
@@ -38,34 +33,42 @@ fn run(c: &[u8], count: usize, line: &mut [u32], scratch: &mut [u32])
     cases::print_line(&said);
 }
 
-// Reads a call and runs it; answers whether to go on. A record that asks for more than the buffers hold ends the run.
-fn next(line: &mut [u32], scratch: &mut [u32]) -> bool {
-    let mut c = [0u8; 48];
-    let got = io::read_full(STDIN_FILENO, &mut c);
-    if got < 48 {
-        return false;
+fn factors(list: &[u8; 16]) -> &[u8] {
+    cases::part(list, 1, cases::wide(list[0]), 15)
+}
+
+// Makes the buffers of a call: the scratch has sevens.
+fn lend(head: &[u32], list: &[u8; 16], tail: &[u32]) {
+    let mut line = [0u32; 6016];
+    let mut scratch = [7u32; 12032];
+    let n = cases::length_at(tail, 0, 6016);
+    let room = cases::length_at(tail, 4, 12032);
+    run(
+        head,
+        factors(list),
+        tail,
+        &mut line[..n],
+        &mut scratch[..room],
+    )
+}
+
+// Reads a call and runs it; answers whether to go on. The numbers before the list, the list with its length, the numbers behind it.
+fn next() -> bool {
+    let mut before = [0u32; 3];
+    let mut list = [0u8; 16];
+    let mut tail = [0u32; 5];
+    let head = cases::numbers_read(&mut before);
+    cases::read_bytes(&mut list);
+    let whole = cases::read_numbers(&mut tail);
+    if whole {
+        lend(head, &list, &tail);
     }
-    let count = cases::wide(c[12]) as usize;
-    let of_line = cases::number(&c, 28) as usize;
-    let of_scratch = cases::number(&c, 44) as usize;
-    if 15 < count {
-        return false;
-    }
-    if line.len() < of_line {
-        return false;
-    }
-    if scratch.len() < of_scratch {
-        return false;
-    }
-    run(&c, count, &mut line[..of_line], &mut scratch[..of_scratch]);
-    true
+    whole
 }
 
 fn main() {
-    let mut line = [0u32; 6016];
-    let mut scratch = [0u32; 12032];
     let mut turns = u32::MAX;
-    while turns > 0 && next(&mut line, &mut scratch) {
+    while turns > 0 && next() {
         turns -= 1;
     }
 }

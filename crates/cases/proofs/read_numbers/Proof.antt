@@ -28,9 +28,6 @@ same-length c = omega arith
 returns : tie.Need-returns Inv-loop μ-loop
 returns c = search needs
 
-slice-aggregate-number : tie.Need-slice-aggregate-number Inv-loop μ-loop
-slice-aggregate-number c = search needs
-
 number-requires : tie.Need-number-requires Inv-loop μ-loop
 number-requires c κs = search needs
 
@@ -66,7 +63,6 @@ read-numbers-spec =
     read-bytes-requires
     same-length
     returns
-    slice-aggregate-number
     number-requires
     mul-v
     slice-write-v

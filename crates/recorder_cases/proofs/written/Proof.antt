@@ -1,15 +1,11 @@
 use native.Mathlib.Omega.{arith}
+use lib.ListN.{length-take}
 use borrow.Author.Needs.{needs}
-use mathlib.Core.Path.{_≡_}
-use lib.ListN.{length, length-take}
-use Rattle.recorder_test.proofs.written.Statement.{statement}
-use Rattle.recorder_test.proofs.written.Tie as tie
+use Rattle.recorder_cases.proofs.written.Statement.{statement}
+use Rattle.recorder_cases.proofs.written.Tie as tie
 
-at-requires : tie.Need-at-requires
-at-requires c κs = search needs
-
-at-most-requires : tie.Need-at-most-requires
-at-most-requires c κs = search needs
+length-at-requires : tie.Need-length-at-requires
+length-at-requires c κs = search needs
 
 array-borrow-prefix-out : tie.Need-array-borrow-prefix-out
 array-borrow-prefix-out c = search needs
@@ -27,8 +23,7 @@ pub written-spec : {M : Type 1} → statement M
 written-spec =
     tie.close
     (tie.spec
-    at-requires
-    at-most-requires
+    length-at-requires
     array-borrow-prefix-out
     slice-aggregate-write-bytes
     write-bytes-requires

@@ -1,0 +1,183 @@
+// The records of the recorder test that ask for one call: openings by group, lengths and lists, openings of factor files, sound and
+// damaged, the files of jobs; and those that set a job or numbers of the volume. Each prints what its call answers and leaves.
+// tools/test_records.py says what a record holds and what is printed.
+ghost use mathlib.Core.Path.{_≡_};
+ghost use Prim.Native.Nat.{_<_};
+ghost use lib.ListN.{length};
+use factor_file::FileAnswer;
+use factor_file::open_file;
+use file_writer::WriteAnswer;
+use job::Axis;
+use job::Job;
+use job::OpenAnswer;
+
+// What a record asks of the part of the volume that it lends; the job that goes on.
+pub fn asked(job: Job, r: &[u32], volume: &mut [u32]) -> Job {
+    let operation = cases::at(r, 0);
+    match operation {
+        0 => return opened(job, r, volume),
+        1 => return file_opened(job, r, volume),
+        3 => written(job, r, &volume[..]),
+        4 => return job_said(r),
+        5 => cases::fill(volume, cases::at(r, 2)),
+        _ => cases::put_at(volume, cases::at(r, 2), cases::at(r, 3)),
+    }
+    job
+}
+
+pub fn no_job() -> Job {
+    let none = Axis {
+        length: 0,
+        factors: 0,
+    };
+    Job {
+        group: 0,
+        a: none,
+        b: none,
+        c: none,
+        state: 0,
+    }
+}
+
+pub fn job_checksum(j: Job) -> u32 {
+    let numbers = [
+        j.group,
+        j.a.length,
+        j.a.factors,
+        j.b.length,
+        j.b.factors,
+        j.c.length,
+        j.c.factors,
+        j.state,
+    ];
+    cases::checksum(&numbers)
+}
+
+// The job itself, whether or not any opening could have made it.
+fn job_said(r: &[u32]) -> Job {
+    Job {
+        group: cases::at(r, 2),
+        a: axis_said(r, 3),
+        b: axis_said(r, 5),
+        c: axis_said(r, 7),
+        state: cases::at(r, 9),
+    }
+}
+
+fn axis_said(r: &[u32], i: usize) -> Axis
+    requires { ⌜ i < 10 ⌝ }
+{
+    Axis {
+        length: cases::at(r, i),
+        factors: cases::at(r, i + 1),
+    }
+}
+
+// What an opening said: the refusal's number or 0, the record's place or 0, the job that is printed and the job that goes on.
+struct Opening {
+    number: u32,
+    place: u32,
+    printed: Job,
+    kept: Job,
+}
+
+// Prints what an opening said and left; the job that goes on.
+fn print_opening(o: Opening, volume: &[u32]) -> Job {
+    let said = [
+        o.number,
+        o.place,
+        job_checksum(o.printed),
+        cases::checksum(volume),
+    ];
+    cases::print_line(&said);
+    o.kept
+}
+
+fn of_file(answer: FileAnswer, before: Job) -> Opening {
+    match answer {
+        FileAnswer::Opened(job) => Opening {
+            number: 0,
+            place: 0,
+            printed: job,
+            kept: job,
+        },
+        FileAnswer::Refused(refusal, place) => Opening {
+            number: refusal_order::number_of(refusal),
+            place,
+            printed: no_job(),
+            kept: before,
+        },
+    }
+}
+
+fn of_open(answer: OpenAnswer, before: Job) -> Opening {
+    match answer {
+        OpenAnswer::Opened(job) => Opening {
+            number: 0,
+            place: 0,
+            printed: job,
+            kept: job,
+        },
+        OpenAnswer::Refused(refusal) => Opening {
+            number: refusal_order::number_of(refusal),
+            place: 0,
+            printed: before,
+            kept: before,
+        },
+    }
+}
+
+// The opening of the file that follows, on a volume of sevens.
+fn file_opened(before: Job, r: &[u32], volume: &mut [u32]) -> Job {
+    let mut bytes = [0u8; 1024];
+    let n = cases::length_at(r, 2, 1024);
+    let file = cases::bytes_read(&mut bytes[..n]);
+    cases::fill_with(volume, 7);
+    let answer = open_file::open_file(file, volume);
+    print_opening(of_file(answer, before), &volume[..])
+}
+
+// The opening by group, kind, lengths and the lists that follow.
+fn opened(before: Job, r: &[u32], volume: &mut [u32]) -> Job {
+    let mut lists = [0u8; 48];
+    cases::read_bytes(&mut lists);
+    let answer = open_listed(r, &lists, volume);
+    print_opening(of_open(answer, before), &volume[..])
+}
+
+// The three factor lists have 16 bytes each.
+fn open_listed(r: &[u32], lists: &[u8], volume: &mut [u32]) -> OpenAnswer
+    requires { ⌜ length (now lists) ≡ 48 ⌝ }
+{
+    job::open::open(
+        cases::at(r, 2),
+        cases::at(r, 3),
+        cases::at(r, 4),
+        cases::at(r, 5),
+        cases::at(r, 6),
+        cases::part(lists, 0, cases::at(r, 7), 16),
+        cases::part(lists, 16, cases::at(r, 8), 16),
+        cases::part(lists, 32, cases::at(r, 9), 16),
+        volume,
+    )
+}
+
+// The job's file, into an output of sevens.
+fn written(job: Job, r: &[u32], volume: &[u32]) {
+    let mut out = [7u8; 4096];
+    let n = cases::length_at(r, 2, 4096);
+    write_bytes(job, volume, &mut out[..n])
+}
+
+fn write_bytes(job: Job, volume: &[u32], out: &mut [u8]) {
+    of_writing(file_writer::write_file(job, volume, out), &out[..])
+}
+
+fn of_writing(answer: WriteAnswer, out: &[u8]) {
+    match answer {
+        WriteAnswer::Written(written) => cases::print_writing(0, written, out),
+        WriteAnswer::Refused(refusal) => {
+            cases::print_writing(refusal_order::number_of(refusal), 0, out)
+        }
+    }
+}

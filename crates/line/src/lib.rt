@@ -79,11 +79,11 @@ fn transform_line(
     let mut work = [0u32; 5760];
     let fold = &mut scratch[..5760];
     if direction == 0 {
-        forward_lines::forward(m, kind, &re, &im, &tan, factors, a, line, fold, &mut work);
+        line_transforms::forward(m, kind, &re, &im, &tan, factors, a, line, fold, &mut work);
     } else {
         root::negate(m, &mut im);
         root::negate(m, &mut tan);
-        inverse_lines::inverse(m, kind, &re, &im, &tan, factors, a, line, fold, &mut work);
+        line_transforms::inverse(m, kind, &re, &im, &tan, factors, a, line, fold, &mut work);
     }
 }
 

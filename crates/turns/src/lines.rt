@@ -51,7 +51,7 @@ pub fn turn_packed<'a>(
     ensures { λ _. ⌜ now (packed .exit) ≡ turnedPacked line (now (packed .entry)) ⌝ }
 {
     if line.direction == 0 {
-        forward_lines::forward(
+        line_transforms::forward(
             m,
             line.kind,
             re,
@@ -64,7 +64,7 @@ pub fn turn_packed<'a>(
             work,
         );
     } else {
-        inverse_lines::inverse(
+        line_transforms::inverse(
             m,
             line.kind,
             re,

@@ -1,0 +1,3 @@
+pub mod HermitianLine
+pub mod MirrorLine
+pub mod AlternatingLine

@@ -1,17 +1,12 @@
 -- The transform of a symmetric or an antisymmetric line, kinds 4 and 5 of the paper, from that of its fold: `first` is 0 for a symmetric line and 1 for
 -- an antisymmetric one.
 use mathlib.Core.List.{List}
-use Prim.Native.Nat.{ℕ, zero, suc}
-use Rattle.algebra.specs.Ring.{Ops}
+use Prim.Native.Nat.{ℕ}
 use Rattle.algebra.specs.Folds.{finish}
 use Rattle.numbers.specs.Value.{Value, field, i, real, half}
 use Rattle.slices.specs.Values.{valuesOf}
 use Rattle.folds.specs.Frame.{tangent}
-
--- X(-t) = sigma X(t)
-abbrev pub sigma : {R : Type 0} → Ops R → ℕ → R
-sigma 𝓞 zero = 𝓞 .one
-sigma 𝓞 (suc n) = 𝓞 .neg (𝓞 .one)
+use Rattle.pair_formulas.specs.Joining.{sigma}
 
 -- the transform at the places 0 .. A, from the short transform that `fold` holds and the sum o of the line's odd places
 abbrev pub finished : (m A first : ℕ) (tan fold : List ℕ) (o : Value m) → ℕ → Value m

@@ -9,15 +9,13 @@ use numbers::Pair;
 ghost use mathlib.Core.Path.{_≡_};
 ghost use Prim.Native.Nat.{_+_, _*_, _<_, _≤_};
 ghost use lib.ListN.{length};
-ghost use Rattle.algebra.specs.Ring.{Ops};
-ghost use Rattle.algebra.specs.Folds.{join};
 ghost use Rattle.numbers.specs.Prime.{prime, IsModulus};
-ghost use Rattle.numbers.specs.Value.{field, i, res, real, half, valueOf, pairOf, Small};
+ghost use Rattle.numbers.specs.Value.{valueOf, pairOf, Small};
 ghost use Rattle.slices.specs.Pairs.{Below};
 ghost use Rattle.slices.specs.Values.{listOf};
 ghost use Rattle.folds.specs.Frame.{stride, Tangents};
 ghost use Rattle.pairing.specs.Pairing.{stored};
-ghost use Rattle.joining.specs.Joining.{sigma, finished};
+ghost use Rattle.joining.specs.Joining.{finished};
 
 // The pass after the transform.
 pub fn finish(
@@ -77,29 +75,5 @@ fn finish_at(
     let tau = tan[step * s];
     let y = slices::get(fold, s);
     let z = slices::get(fold, a - s);
-    joined(m, first, tau, y, z)
-}
-
-// The transform at a place s between 0 and A, from y and z at the places s and A - s of the short one: sigma tells which of their
-// sum and difference is turned.
-fn joined(m: u32, first: usize, tau: u32, y: Pair, z: Pair) -> Pair
-    requires { ⌜ IsModulus m × (first ≤ 1) × (tau < prime m) × Small (prime m) y × Small (prime m) z ⌝ }
-    ensures { λ r. ⌜ r ≡ pairOf (join (field m) (real m (half m)) (sigma (field m) first) (field m .mul (i m) (real m (res m tau))) (valueOf m y) (valueOf m z)) ⌝ }
-{
-    if first == 0 {
-        let apart = numbers::difference(m, y, z);
-        turned_half(m, tau, y, z, apart)
-    } else {
-        let both = numbers::sum(m, y, z);
-        turned_half(m, tau, y, numbers::negated(m, z), both)
-    }
-}
-
-// (x + w + i tau d)/2.
-fn turned_half(m: u32, tau: u32, x: Pair, w: Pair, d: Pair) -> Pair
-    requires { ⌜ IsModulus m × (tau < prime m) × Small (prime m) x × Small (prime m) w × Small (prime m) d ⌝ }
-    ensures { λ r. ⌜ r ≡ pairOf (field m .mul (real m (half m)) (field m .add (field m .add (valueOf m x) (valueOf m w)) (field m .mul (i m) (field m .mul (real m (res m tau)) (valueOf m d))))) ⌝ }
-{
-    let turn = Pair { re: 0, im: tau };
-    numbers::halved(m, unreduced::plus_product(m, x, w, turn, d))
+    pair_formulas::joined(m, first, tau, y, z)
 }

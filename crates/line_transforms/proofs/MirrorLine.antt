@@ -21,7 +21,8 @@ use Rattle.slices.proofs.Values.{values-list, list-cong}
 use Rattle.folds.specs.Frame.{lineRoot, tangent, Frame}
 use Rattle.folds.proofs.ShortTransform.{short-transform}
 use Rattle.pairing.specs.Pairing.{mirrored, stored, lineOf}
-use Rattle.joining.specs.Joining.{sigma, finished}
+use Rattle.pair_formulas.specs.Joining.{sigma}
+use Rattle.joining.specs.Joining.{finished}
 use Rattle.joining.proofs.Forms.{finish-zero, finish-middle, finish-between}
 
 stored-slots : (A first : ℕ) → first ≤ 1 → stored A first ≡ slots (mirrored first) A

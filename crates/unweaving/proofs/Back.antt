@@ -20,7 +20,7 @@ use Rattle.slices.specs.Values.{valuesOf}
 use Rattle.slices.proofs.Bounds.{small-of}
 use Rattle.folds.specs.Frame.{tangent}
 use Rattle.numbers.proofs.RealValues.{real-add, real-neg, real-mul}
-use Rattle.weaving.proofs.Line.{unit-even, unit-odd, real-pair}
+use Rattle.pair_formulas.proofs.Middles.{unit-even, unit-odd, real-pair}
 use Rattle.unweaving.proofs.Passes.{pair-parts, read-re, read-im}
 
 -- ---- before the transform

@@ -1,58 +1,24 @@
 -- The alternating line, as the code reads it: the value at each place of the whole line, and what the passes compute of it.
-use mathlib.Core.Path.{_≡_, refl, sym, _∙_, ap}
+use mathlib.Core.Path.{_≡_, sym, _∙_, ap}
 use mathlib.Core.List.{List}
-use Prim.Native.Nat.{ℕ, zero, suc, _+_, _*_, _-_, _/_, _%_, _<_}
+use Prim.Native.Nat.{ℕ, suc, _+_, _*_, _-_, _/_, _%_, _<_}
 use native.Mathlib.Omega.{arith}
-use Rattle.algebra.specs.Ring.{Ops, CRing}
-use Rattle.algebra.specs.Residue.{residues}
+use Rattle.algebra.specs.Ring.{Ops}
 use Rattle.algebra.specs.Line.{re, im, unit, unfoldB3}
-use Rattle.algebra.proofs.Laws.{along, neg-zero}
+use Rattle.algebra.proofs.Laws.{along}
 use Rattle.algebra.proofs.Unfold.{unfold-zero, unfold-low, unfold-middle, read-even, read-odd}
 use Rattle.numbers.specs.declared.Pair.{Pair}
 use Rattle.numbers.specs.Prime.{prime}
 use Rattle.numbers.specs.Value.{Value, field, conj, i, res, real, half, valueOf, pairOf}
-use Rattle.numbers.specs.Value as Value
-use Rattle.numbers.proofs.Residues.{res-ring, val-res}
-use Rattle.numbers.proofs.Primes.{prime-pos}
 use Rattle.numbers.proofs.Parts.{re-value, im-value}
-use Rattle.numbers.proofs.Values.{field-ring, pair-path, i-times}
+use Rattle.numbers.proofs.Values.{field-ring}
 use Rattle.slices.specs.Pairs.{at, Below}
 use Rattle.slices.specs.Values.{valuesOf}
 use Rattle.slices.proofs.Bounds.{small-at}
 use Rattle.slices.proofs.Values.{read-value}
-
--- ---- the ring: 1 for even n, i for odd n
-
-module _ {R : Type 0} (𝓞 : Ops R) (conj : R → R) (i half : R) (A : ℕ) where
-  pub unit-even : (n : ℕ) → n % 2 ≡ 0 → unit 𝓞 conj i half A n ≡ 𝓞 .one
-  unfolding unit
-  unit-even zero e = refl
-  unit-even (suc zero) e = absurd (omega arith)
-  unit-even (suc (suc n)) e = unit-even n (omega arith)
-
-  pub unit-odd : (n : ℕ) → (n % 2 ≡ 0 → ⊥) → unit 𝓞 conj i half A n ≡ i
-  unfolding unit
-  unit-odd zero e = absurd (e refl)
-  unit-odd (suc zero) e = refl
-  unit-odd (suc (suc n)) e = unit-odd n (λ h. e (omega arith))
+use Rattle.pair_formulas.proofs.Middles.{real-pair}
 
 -- ---- the whole line
-
--- the number 0 stands for the residue 0
-zero-val : (m : ℕ) → 0 ≡ (res m 0) .val
-zero-val m = sym (val-res m (prime-pos m))
-
--- a value of one number only
-pub real-pair : (m : ℕ) (z : Value m) (x : ℕ) → x < prime m → z ≡ real m (res m x) → record { re = x; im = 0 } ≡ pairOf z
-unfolding pairOf
-real-pair m z x l e = pair-path (sym (val-res m l)) (zero-val m) ∙ ap pairOf (sym e)
-
-imaginary-pair : (m : ℕ) (z : Value m) (x : ℕ) → x < prime m → z ≡ field m .mul (i m) (real m (res m x)) → record { re = 0; im = x } ≡ pairOf z
-unfolding pairOf residues
-imaginary-pair m z x l e = pair-path (zero-val m) (sym (val-res m l)) ∙ ap pairOf (sym (e ∙ i-times m _ ∙ ap (λ y. (y, res m x)) nought))
-  where
-    nought : Value.ring m .neg (res m 0) ≡ res m 0
-    nought = neg-zero (res-ring m)
 
 module _ (m A : ℕ) (line : List ℕ) (small : Below (prime m) line) where
   abbrev X : ℕ → Value m
@@ -73,13 +39,10 @@ module _ (m A : ℕ) (line : List ℕ) (small : Below (prime m) line) where
   unfolding valueOf
   whole-middle j e l = ap X e ∙ unfold-middle A _ _ _ (valuesOf m line) l ∙ ap (field m .mul (unit (field m) (conj m) (i m) (real m (half m)) A A)) (im-value m _)
 
-  pub whole-middle-even : {v : Pair} (j : ℕ) → j ≡ A → 0 < A → A % 2 ≡ 0 → v ≡ at line 0 → record { re = v .im; im = 0 } ≡ pairOf (unfoldB3 (field m) (conj m) (i m) (real m (half m)) A (valuesOf m line) j)
-  whole-middle-even {v} j e l h q = ap (λ (w : Pair). record { re = w .im; im = 0 }) q ∙ real-pair m (X j) _ (small-at (prime m) line 0 small .im)
-      (whole-middle j e l ∙ ap (λ y. field m .mul y (real m (res m (at line 0 .im)))) (unit-even (field m) (conj m) (i m) (real m (half m)) A A h) ∙ field-ring m .one-mul _)
-
-  pub whole-middle-odd : {v : Pair} (j : ℕ) → j ≡ A → 0 < A → (A % 2 ≡ 0 → ⊥) → v ≡ at line 0 → record { re = 0; im = v .im } ≡ pairOf (unfoldB3 (field m) (conj m) (i m) (real m (half m)) A (valuesOf m line) j)
-  whole-middle-odd {v} j e l h q = ap (λ (w : Pair). record { re = 0; im = w .im }) q ∙ imaginary-pair m (X j) _ (small-at (prime m) line 0 small .im)
-      (whole-middle j e l ∙ ap (λ y. field m .mul y (real m (res m (at line 0 .im)))) (unit-odd (field m) (conj m) (i m) (real m (half m)) A A h))
+  pub whole-middle-by : {v r : Pair} (j : ℕ) → j ≡ A → 0 < A → v ≡ at line 0 → r ≡ pairOf (field m .mul (unit (field m) (conj m) (i m) (real m (half m)) A A) (real m (res m (v .im))))
+      → r ≡ pairOf (unfoldB3 (field m) (conj m) (i m) (real m (half m)) A (valuesOf m line) j)
+  whole-middle-by j e l hv hr =
+      hr ∙ ap pairOf (ap (λ (w : Pair). field m .mul (unit (field m) (conj m) (i m) (real m (half m)) A A) (real m (res m (w .im)))) hv ∙ sym (whole-middle j e l))
 
 -- the second half: the mate's conjugate at the even places, and its negative at the odd ones
 module _ (m A : ℕ) (line : List ℕ) (j : ℕ) (low : A < j) (high : j < 2 * A) where

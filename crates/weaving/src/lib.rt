@@ -69,13 +69,9 @@ fn value_at(m: u32, a: usize, line: &[u32], j: usize) -> Pair
     } else if j < a {
         slices::get(line, j)
     } else if j == a {
-        // X(A) = (-1)^A conj X(A): the second number of pair 0 is its real part for an even A, its imaginary part for an odd A
+        // X(A) = (-1)^A conj X(A): the second number of pair 0 is all of it
         let v = slices::get(line, 0);
-        if a % 2 == 0 {
-            Pair { re: v.im, im: 0 }
-        } else {
-            Pair { re: 0, im: v.im }
-        }
+        pair_formulas::middle(a, v.im)
     } else {
         // X(j) = (-1)^u conj X(u), u = 2A - j, and u is even where j is
         let v = numbers::conjugate(m, slices::get(line, 2 * a - j));

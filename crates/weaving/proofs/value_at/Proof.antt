@@ -6,7 +6,7 @@ use Rattle.algebra.specs.Ring.{Ops}
 use Rattle.numbers.specs.Value.{field, conj, valueOf, pairOf}
 use Rattle.numbers.proofs.Values.{small-by, value-by}
 use Rattle.slices.proofs.Bounds.{small-of}
-use Rattle.weaving.proofs.Line.{whole-zero, whole-low, whole-middle-even, whole-middle-odd, whole-high-even, whole-high-odd}
+use Rattle.weaving.proofs.Line.{whole-zero, whole-low, whole-middle-by, whole-high-even, whole-high-odd}
 use Rattle.weaving.proofs.value_at.Statement.{statement}
 use Rattle.weaving.proofs.value_at.Tie as tie
 
@@ -18,6 +18,9 @@ get-requires-2 c κs = search needs
 
 get-requires-3 : tie.Need-get-requires-3
 get-requires-3 c κs = search needs
+
+middle-requires : tie.Need-middle-requires
+middle-requires c κs = search needs
 
 mul-get : tie.Need-mul-get
 mul-get c = search needs
@@ -50,28 +53,25 @@ returns-2 c =
 
 returns-3 : tie.Need-returns-3
 returns-3 c =
-    let s = c .before .before .before .before .before .before in
-    whole-middle-even (s .args .m) (s .args .a) (s .args .line .now) (s .pre .1 .1) (s .args .j) (c .before .before .if3 .taken) (omega arith) (c .if4 .taken) (c .before .get3 .ensures)
+    let g = c .before in
+    let s = g .before .before .before .before .before in
+    whole-middle-by (s .args .m) (s .args .a) (s .args .line .now) (s .pre .1 .1) (s .args .j) (g .before .if3 .taken) (omega arith) (g .get3 .ensures)
+    (c .middle .ensures (s .args .m) (small-of (s .args .line .now) _ (g .get3 .ensures) (s .pre .1 .1) .im))
 
 returns-4 : tie.Need-returns-4
 returns-4 c =
-    let s = c .before .before .before .before .before .before in
-    whole-middle-odd (s .args .m) (s .args .a) (s .args .line .now) (s .pre .1 .1) (s .args .j) (c .before .before .if3 .taken) (omega arith) (c .if4 .left) (c .before .get3 .ensures)
-
-returns-5 : tie.Need-returns-5
-returns-5 c =
     let k = c .before in
     let s = k .before .before .before .before .before .before in
     k .conjugate .ensures
-    ∙ ap pairOf (ap (λ v. conj (s .args .m) (valueOf (s .args .m) v)) (k .before .get4 .ensures) ∙ whole-high-even (s .args .m) (s .args .a) (s .args .line .now) (s .args .j) (omega arith) (omega arith) (c .if5 .taken))
+    ∙ ap pairOf (ap (λ v. conj (s .args .m) (valueOf (s .args .m) v)) (k .before .get4 .ensures) ∙ whole-high-even (s .args .m) (s .args .a) (s .args .line .now) (s .args .j) (omega arith) (omega arith) (c .if4 .taken))
 
-returns-6 : tie.Need-returns-6
-returns-6 c =
+returns-5 : tie.Need-returns-5
+returns-5 c =
     let k = c .before .before in
     let s = k .before .before .before .before .before .before in
     c .negated .ensures
     ∙ ap (λ z. pairOf (field (s .args .m) .neg z)) (value-by (s .args .m) _ (k .conjugate .ensures) ∙ ap (λ v. conj (s .args .m) (valueOf (s .args .m) v)) (k .before .get4 .ensures))
-    ∙ ap pairOf (whole-high-odd (s .args .m) (s .args .a) (s .args .line .now) (s .args .j) (omega arith) (omega arith) (c .before .if5 .left))
+    ∙ ap pairOf (whole-high-odd (s .args .m) (s .args .a) (s .args .line .now) (s .args .j) (omega arith) (omega arith) (c .before .if4 .left))
 
 pub value-at-spec : {M : Type 1} → statement M
 value-at-spec =
@@ -80,6 +80,7 @@ value-at-spec =
     get-requires
     get-requires-2
     get-requires-3
+    middle-requires
     mul-get
     sub-get
     get-requires-4
@@ -89,5 +90,4 @@ value-at-spec =
     returns-2
     returns-3
     returns-4
-    returns-5
-    returns-6)
+    returns-5)

@@ -1,10 +1,10 @@
--- `joining::joined`: the sum and the difference change places with the sign of the line.
+-- `pair_formulas::joined`: the sum and the difference change places with the sign of the line.
 use borrow.Author.Needs.{needs}
 use Rattle.numbers.specs.Value.{valueOf}
 use Rattle.numbers.proofs.Values.{small-by}
-use Rattle.joining.proofs.Forms.{joined-symmetric, joined-antisymmetric}
-use Rattle.joining.proofs.joined.Statement.{statement}
-use Rattle.joining.proofs.joined.Tie as tie
+use Rattle.pair_formulas.proofs.Joins.{joined-symmetric, joined-antisymmetric}
+use Rattle.pair_formulas.proofs.joined.Statement.{statement}
+use Rattle.pair_formulas.proofs.joined.Tie as tie
 
 difference-requires : tie.Need-difference-requires
 difference-requires c κs = search needs

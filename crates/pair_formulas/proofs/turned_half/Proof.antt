@@ -1,10 +1,10 @@
--- `joining::turned_half`: the half tangent stands beside i.
+-- `pair_formulas::turned_half`: the half tangent stands beside i.
 use native.Mathlib.Omega.{arith}
 use Rattle.numbers.proofs.Values.{small-by}
 use Rattle.numbers.proofs.Primes.{prime-pos}
-use Rattle.joining.proofs.Forms.{half-turned}
-use Rattle.joining.proofs.turned_half.Statement.{statement}
-use Rattle.joining.proofs.turned_half.Tie as tie
+use Rattle.pair_formulas.proofs.Joins.{half-turned}
+use Rattle.pair_formulas.proofs.turned_half.Statement.{statement}
+use Rattle.pair_formulas.proofs.turned_half.Tie as tie
 
 plus-product-requires : tie.Need-plus-product-requires
 plus-product-requires c κs =

@@ -3,8 +3,8 @@
 
     python3 tools/plain_expected.py > crates/plain_test/stdout
 
-For each case: the modulus number, the length n, the packed list; then a checksum and the last pair of the transform
-X^(s) = sum over t of X(t) e(ts/n) of a line X from seed 1, and of the inverse (1/n) sum over s of Y(s) e(-ts/n) of a
+For each list, each prime and each direction: the modulus number, the direction (0 or 1), the packed list, and a checksum of the transform
+X^(s) = sum over t of X(t) e(ts/n) of a line X from seed 1, or of the inverse (1/n) sum over s of Y(s) e(-ts/n) of a
 line Y from seed 2. Every sum is formed term by term; the list plays no part in it. e(1/n) is r^(2880/n), where r is
 found anew by the paper's rule: r = ((a + i)/(a - i))^c for the least a for which r has order 2,880 and r^720 = -i.
 """
@@ -57,20 +57,20 @@ def direct(p, row, values, sign):
     return result
 
 
-def generated(p, seed, n):
-    """A line of the test program's generator."""
+def generated(seed, n):
+    """A line of the test programs' generator."""
     x, numbers = seed, []
     for _ in range(2 * n):
         x = (x * 1103515245 + 12345) % 2147483648
-        numbers.append(x // 64 % p)
+        numbers.append(x // 8 % PRIMES[0])
     return list(zip(numbers[::2], numbers[1::2]))
 
 
-def report(values):
-    total = 0
+def checksum(values):
+    total = 7
     for number in (x for pair in values for x in pair):
-        total = (total * 31 + number + 1) % 4294967291
-    return f"{total} {values[-1][0]} {values[-1][1]} "
+        total = (total * 31 + number + 1) % 2147483647
+    return total
 
 
 def main():
@@ -85,10 +85,11 @@ def main():
             if (m, n) not in said:
                 row = roots(p)
                 part = pow(n, -1, p)
-                forward = direct(p, row, generated(p, 1, n), 1)
-                inverse = [(part * a % p, part * b % p) for a, b in direct(p, row, generated(p, 2, n), -1)]
-                said[m, n] = report(forward) + report(inverse)
-            print(f"{m} {n} {packed} {said[m, n]}")
+                forward = direct(p, row, generated(1, n), 1)
+                inverse = [(part * a % p, part * b % p) for a, b in direct(p, row, generated(2, n), -1)]
+                said[m, n] = checksum(forward), checksum(inverse)
+            for direction in range(2):
+                print(m, direction, packed, said[m, n][direction])
 
 
 if __name__ == "__main__":

@@ -2,8 +2,8 @@
 use libc::STDIN_FILENO;
 use libc::STDOUT_FILENO;
 ghost use mathlib.Core.Path.{_≡_};
-ghost use Prim.Native.Nat.{_+_, _<_, _≤_};
-ghost use lib.ListN.{length};
+ghost use Prim.Native.Nat.{ℕ, _+_, _<_, _≤_};
+ghost use lib.ListN.{length, getD};
 
 pub fn wide(b: u8) -> u32
     ensures { λ r. ⌜ r < 256 ⌝ }
@@ -97,7 +97,9 @@ fn count(n: usize) -> u32 {
 }
 
 // Residues by a linear congruential generator.
-pub fn fill(v: &mut [u32], seed: u32) {
+pub fn fill(v: &mut [u32], seed: u32)
+    ensures { λ _. ⌜ ((k : ℕ) → k < length (now (v .exit)) → getD (now (v .exit)) k 0 < 86399) ⌝ }
+{
     let mut state = seed as u64;
     let mut j: usize = 0;
     while j < v.len() {

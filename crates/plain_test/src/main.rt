@@ -5,6 +5,7 @@ ghost use mathlib.Core.Path.{_≡_};
 ghost use Prim.Native.Nat.{_*_, _/_, _<_};
 ghost use lib.ListN.{length};
 ghost use Rattle.numbers.specs.Prime.{IsModulus};
+ghost use Rattle.root.specs.Root.{RealTable, ImaginaryTable, RootTable};
 ghost use Rattle.factors.specs.Factors.{Factored};
 
 fn main() {
@@ -27,42 +28,84 @@ fn main() {
     each(0o2434352, 2880);
 }
 
-// Each prime and each direction.
+// Each prime.
 fn each(factors: u32, n: usize)
     requires { ⌜ Factored factors n × (n * (2880 / n) ≡ 2880) ⌝ }
 {
-    lend(1, 0, factors, n);
-    lend(1, 1, factors, n);
-    lend(2, 0, factors, n);
-    lend(2, 1, factors, n);
+    each_way(
+        1,
+        roots::real_parts(1),
+        roots::imaginary_parts(1),
+        factors,
+        n,
+    );
+    each_way(
+        2,
+        roots::real_parts(2),
+        roots::imaginary_parts(2),
+        factors,
+        n,
+    );
+}
+
+// Each direction. The negated imaginary parts are those of the inverse's root.
+fn each_way(m: u32, re: [u32; 2880], im: [u32; 2880], factors: u32, n: usize)
+    requires { ⌜ IsModulus m × RealTable m re × ImaginaryTable m im ⌝ }
+    requires { ⌜ Factored factors n × (n * (2880 / n) ≡ 2880) ⌝ }
+{
+    lend(m, 0, &re, &im, factors, n);
+    let mut back = im;
+    root::negate(m, &mut back);
+    lend(m, 1, &re, &back, factors, n);
 }
 
 // Makes the buffers.
-fn lend(m: u32, direction: u32, factors: u32, n: usize)
-    requires { ⌜ IsModulus m × (direction < 2) ⌝ }
+fn lend<'a>(
+    m: u32,
+    direction: u32,
+    re: &'a [u32; 2880],
+    im: &'a [u32; 2880],
+    factors: u32,
+    n: usize,
+)
+    requires { ⌜ IsModulus m × (direction < 2) × RootTable m (now re) (now im) ⌝ }
     requires { ⌜ Factored factors n × (n * (2880 / n) ≡ 2880) ⌝ }
 {
     let mut line = [0u32; 5760];
     let mut work = [0u32; 5760];
     let e = 2 * n;
-    run(m, direction, factors, n, &mut line[..e], &mut work[..e])
+    run(
+        m,
+        direction,
+        re,
+        im,
+        factors,
+        n,
+        &mut line[..e],
+        &mut work[..e],
+    )
 }
 
-// The negated imaginary parts are those of the inverse's root.
-fn run(m: u32, direction: u32, factors: u32, n: usize, line: &mut [u32], work: &mut [u32])
-    requires { ⌜ IsModulus m × (direction < 2) ⌝ }
+fn run<'a>(
+    m: u32,
+    direction: u32,
+    re: &'a [u32; 2880],
+    im: &'a [u32; 2880],
+    factors: u32,
+    n: usize,
+    line: &mut [u32],
+    work: &mut [u32],
+)
+    requires { ⌜ IsModulus m × (direction < 2) × RootTable m (now re) (now im) ⌝ }
     requires { ⌜ Factored factors n × (n * (2880 / n) ≡ 2880) ⌝ }
     requires { ⌜ (length (now line) ≡ 2 * n) × (length (now work) ≡ 2 * n) ⌝ }
 {
     cases::fill(line, direction + 1);
-    let re = roots::real_parts(m);
-    let mut im = roots::imaginary_parts(m);
     if direction == 0 {
-        plain::transform(m, &re, &im, factors, n, line, work);
+        plain::transform(m, re, im, factors, n, line, work);
         report(m, direction, factors, &line[..])
     } else {
-        root::negate(m, &mut im);
-        plain::inverse(m, &re, &im, factors, n, line, work);
+        plain::inverse(m, re, im, factors, n, line, work);
         report(m, direction, factors, &line[..])
     }
 }

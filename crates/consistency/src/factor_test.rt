@@ -171,27 +171,15 @@ fn empty_row(n1: u32, n2: u32, n3: u32, volume: &[u32], h: u32) -> bool
     true
 }
 
-// In Pa an odd h's lines have no factors in the pairs 0 and A; an even h's lines have.
-fn empty_if_odd(n1: u32, n2: u32, n3: u32, volume: &[u32], h: u32) -> bool
-    requires { ⌜ IsVolume 3 n1 n2 n3 (now volume) × (h < n1) ⌝ }
-    ensures { λ r. ⌜ r ≡ below (suc (n2 / 2)) (λ k. emptyIfOdd Pa (halvesOf n1 n2 n3) (now (volume .entry)) h k) ⌝ }
-{
-    if h % 2 == 0 {
-        true
-    } else {
-        empty_row(n1, n2, n3, volume, h)
-    }
-}
-
-// The same for all h.
+// The same for every odd h: in Pa its lines have no factors in the pairs 0 and A; an even h's lines have.
 fn odd_rows_empty(n1: u32, n2: u32, n3: u32, volume: &[u32]) -> bool
     requires { ⌜ IsVolume 3 n1 n2 n3 (now volume) ⌝ }
     ensures { λ r. ⌜ r ≡ below (2 * (n1 / 2)) (λ h. below (suc (n2 / 2)) (λ k. emptyIfOdd Pa (halvesOf n1 n2 n3) (now (volume .entry)) h k)) ⌝ }
 {
-    let mut h = 0;
+    let mut h = 1;
     while h < n1 {
-        if empty_if_odd(n1, n2, n3, volume, h) {
-            h += 1;
+        if empty_row(n1, n2, n3, volume, h) {
+            h += 2;
         } else {
             return false;
         }

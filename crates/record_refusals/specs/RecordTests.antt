@@ -7,7 +7,7 @@ use Rattle.algebra.specs.Cell.{J}
 use Rattle.refusal_order.specs.Tests.{Test, _⇒_}
 use Rattle.refusals.specs.Header.{collecting}
 use Rattle.refusals.specs.Tests.{p, within}
-use Rattle.orbit_refusals.specs.OrbitTests.{orbitTests}
+use Rattle.record_tests.specs.OrbitTests.{orbitTests}
 
 -- Record: 25, 21, 10, 7, 11, 12, 6, 24.
 abbrev pub recordTestsOf : (valid : Bool) (state group : ℕ) (lengths at : J) (x y : ℕ) → List ℕ → List Test

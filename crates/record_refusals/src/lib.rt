@@ -58,5 +58,5 @@ pub fn check_record(
     if both_zero(x.re, x.im) {
         return Checked::Failed(Refusal::ZeroValue);
     }
-    orbit_refusals::check_orbit(group, n1, n2, n3, at, x, volume)
+    record_tests::check_orbit(group, n1, n2, n3, at, x, volume)
 }

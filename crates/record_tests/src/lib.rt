@@ -1,23 +1,55 @@
-// The tests of a record: whether it agrees with itself, and whether its orbit is free.
+// The tests of a record at the images of its index: whether it agrees with itself, and whether its orbit is free; and the refusals
+// that they lead to, in the paper's order.
 //
-// Each is one loop over the operations of the orbit, with a function for what one operation asks. They write nothing: the
+// Each test is one loop over the operations of the orbit, with a function for what one operation asks. They write nothing: the
 // checks of a call stand on them, and the images written (`recording`) do not.
 use cell::operations;
 use cell::operations::Index;
 use cell::operations::Operation;
 use numbers::Pair;
+use refusal_order::Checked;
+use refusal_order::Refusal;
+use refusals::tests;
 ghost use mathlib.Core.Path.{_≡_};
 ghost use lib.ListN.{length};
 ghost use Rattle.algebra.specs.Cell.{sameJ, im, imp};
 ghost use Rattle.algebra.specs.CellTests.{imply};
 ghost use Rattle.numbers.specs.Prime.{prime, IsModulus};
 ghost use Rattle.numbers.specs.Value.{field, conj, valueOf, Small};
+ghost use Rattle.refusal_order.specs.Tests.{first, checkedNumber};
 ghost use Rattle.cell.specs.Volume.{groupOf, volumeLength};
 ghost use Rattle.cell.specs.Consistency.{sameValue, agreesWithItself, orbitFree};
 ghost use Rattle.cell.specs.Operations.{halvesOf, tripleOf, symOf, Length, Sizes, Within};
+ghost use Rattle.refusals.specs.Tests.{p};
+ghost use Rattle.record_tests.specs.OrbitTests.{orbitTests};
+
+// 12, 6, 24: what the value implies at the images of its index, which is inside the cell; the value's numbers are residues.
+pub fn check_orbit(
+    group: u32,
+    n1: u32,
+    n2: u32,
+    n3: u32,
+    at: Index,
+    x: Pair,
+    volume: &[u32],
+) -> Checked
+    requires { ⌜ Sizes group n1 n2 n3 × Within n1 n2 n3 at × Small p x ⌝ }
+    ensures { λ r. ⌜ checkedNumber r ≡ first (orbitTests group (n1, n2, n3) (tripleOf at) (x .re) (x .im) (now (volume .entry))) ⌝ }
+{
+    if !agrees(1, group, n1, n2, n3, at, x) {
+        return Checked::Failed(Refusal::Contradiction);
+    }
+    if !tests::fits(group, n1, n2, n3, volume) {
+        return Checked::Failed(Refusal::BufferLength);
+    }
+    if !orbit_free(group, n1, n2, n3, at, volume) {
+        return Checked::Failed(Refusal::Occupied);
+    }
+    Checked::Sound
+}
 
 // No image of the record falls on its own index with another value.
-pub fn agrees(m: u32, group: u32, n1: u32, n2: u32, n3: u32, j: Index, x: Pair) -> bool
+fn agrees(m: u32, group: u32, n1: u32, n2: u32, n3: u32, j: Index, x: Pair) -> bool
     requires { ⌜ IsModulus m × Small (prime m) x × Sizes group n1 n2 n3 × Within n1 n2 n3 j ⌝ }
     ensures { λ r. ⌜ r ≡ agreesWithItself (groupOf group) (halvesOf n1 n2 n3) m (tripleOf j) (valueOf m x) ⌝ }
 {
@@ -53,7 +85,7 @@ fn same_index(i: Index, j: Index) -> bool
 }
 
 // The numbers that hold part of the record's orbit are zero: those of each image are below 1.
-pub fn orbit_free(group: u32, n1: u32, n2: u32, n3: u32, j: Index, volume: &[u32]) -> bool
+fn orbit_free(group: u32, n1: u32, n2: u32, n3: u32, j: Index, volume: &[u32]) -> bool
     requires { ⌜ Sizes group n1 n2 n3 × Within n1 n2 n3 j ⌝ }
     requires { ⌜ length (now volume) ≡ volumeLength (groupOf group) (halvesOf n1 n2 n3) ⌝ }
     ensures { λ r. ⌜ r ≡ orbitFree (groupOf group) (halvesOf n1 n2 n3) (now (volume .entry)) (tripleOf j) ⌝ }

@@ -11,9 +11,9 @@ use Rattle.refusal_order.proofs.Tests.{stop, pass, none, not-t, not-f, by-true,
 use Rattle.cell.specs.Operations.{halvesOf, tripleOf}
 use Rattle.cell.specs.Volume.{groupOf, volumeLength}
 use Rattle.cell.specs.Consistency.{agreesWithItself}
-use Rattle.orbit_refusals.proofs.Reflections.{pair-of-numbers}
-use Rattle.orbit_refusals.proofs.check_orbit.Statement.{statement}
-use Rattle.orbit_refusals.proofs.check_orbit.Tie as tie
+use Rattle.record_tests.proofs.Reflections.{pair-of-numbers}
+use Rattle.record_tests.proofs.check_orbit.Statement.{statement}
+use Rattle.record_tests.proofs.check_orbit.Tie as tie
 
 -- what the test of the value says
 own : (c : tie.After-agrees) → let a = c .before .before .args in c .agrees .result ≡ agreesWithItself (groupOf (a .group)) (halvesOf (a .n1) (a .n2) (a .n3)) 1 (tripleOf (a .at)) (value 1 (a .x .re) (a .x .im))

@@ -9,7 +9,7 @@ ghost use mathlib.Core.Path.{_≡_};
 ghost use Prim.Native.Nat.{ℕ, _+_, _-_, _*_, _<_, _≤_};
 ghost use lib.ListN.{length};
 ghost use Rattle.algebra.specs.Ring.{Ops, sum};
-ghost use Rattle.algebra.specs.Line.{unfold4, unfold5};
+ghost use Rattle.algebra.specs.Line.{unfold5};
 ghost use Rattle.algebra.specs.Folds.{paired};
 ghost use Rattle.numbers.specs.Prime.{prime, IsModulus};
 ghost use Rattle.numbers.specs.Value.{Value, field, conj, i, real, half, valueOf, pairOf};
@@ -71,21 +71,14 @@ fn value_at(m: u32, first: usize, a: usize, line: &[u32], j: usize) -> Pair
     ensures { λ r. ⌜ r ≡ pairOf (lineOf m a first (now (line .entry)) j) ⌝ }
 {
     if first == 0 {
-        symmetric_at(a, line, j)
+        // the second half of a symmetric line is the first read backwards
+        if j <= a {
+            slices::get(line, j)
+        } else {
+            slices::get(line, 2 * a - j)
+        }
     } else {
         antisymmetric_at(m, a, line, j)
-    }
-}
-
-// The value at place j of a symmetric line: the second half is the first read backwards.
-fn symmetric_at(a: usize, line: &[u32], j: usize) -> Pair
-    requires { ⌜ (0 < a) × (j < 2 * a) × (length (now line) ≡ 2 * (a + 1)) ⌝ }
-    ensures { λ r. ⌜ ((m : ℕ) → Below (prime m) (now (line .entry)) → r ≡ pairOf (unfold4 (field m) (conj m) (i m) (real m (half m)) a (valuesOf m (now (line .entry))) j)) ⌝ }
-{
-    if j <= a {
-        slices::get(line, j)
-    } else {
-        slices::get(line, 2 * a - j)
     }
 }
 

@@ -14,7 +14,7 @@ pub fn line_count(plan: Plan) -> usize
     requires { ⌜ SizesIn plan ⌝ }
     ensures { λ r. ⌜ (r ≡ lineCount (groupIn plan) (halvesIn plan)) × (r ≤ 16594560) ⌝ }
 {
-    let counts = axes::line_counts(plan);
+    let counts = axis_lines::line_counts(plan);
     counts.l + counts.h + counts.k
 }
 
@@ -31,7 +31,7 @@ fn line_of_turn(plan: Plan, n: usize) -> usize
     requires { ⌜ Planned plan × (n < lineCount (groupIn plan) (halvesIn plan)) ⌝ }
     ensures { λ r. ⌜ (r ≡ lineOfTurn (groupIn plan) (halvesIn plan) (plan .direction) n) × (r < lineCount (groupIn plan) (halvesIn plan)) ⌝ }
 {
-    let counts = axes::line_counts(plan);
+    let counts = axis_lines::line_counts(plan);
     if plan.direction == 0 {
         n
     } else if n < counts.k {
@@ -48,13 +48,13 @@ fn line_at(plan: Plan, j: usize) -> Line
     requires { ⌜ Planned plan × (j < lineCount (groupIn plan) (halvesIn plan)) ⌝ }
     ensures { λ r. ⌜ LineAt plan j r ⌝ }
 {
-    let counts = axes::line_counts(plan);
+    let counts = axis_lines::line_counts(plan);
     if j < counts.l {
         along_l(plan, j)
     } else if j < counts.l + counts.h {
-        axes::along_h(plan, j - counts.l)
+        axis_lines::along_h(plan, j - counts.l)
     } else {
-        axes::row_at(plan, j - (counts.l + counts.h))
+        axis_lines::row_at(plan, j - (counts.l + counts.h))
     }
 }
 

@@ -1,10 +1,10 @@
 -- A row along k has neighbouring places.
 use borrow.Author.Needs.{needs}
 use native.Mathlib.Omega.{arith}
 use Rattle.axes.proofs.JobTurns.{row-low}
 use Rattle.axes.proofs.AxisLines.{row-k}
-use Rattle.axes.proofs.row_at.Statement.{statement}
-use Rattle.axes.proofs.row_at.Tie as tie
+use Rattle.axis_lines.proofs.row_at.Statement.{statement}
+use Rattle.axis_lines.proofs.row_at.Tie as tie
 
 cast-half : tie.Need-cast-half
 cast-half c = search needs

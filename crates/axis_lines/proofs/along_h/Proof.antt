@@ -1,10 +1,10 @@
 -- A line along h has the places of its layout.
 use borrow.Author.Needs.{needs}
 use native.Mathlib.Omega.{arith}
 use Rattle.axes.proofs.JobTurns.{width-low, plane-low, start-h}
 use Rattle.axes.proofs.AxisLines.{gathered-h}
-use Rattle.axes.proofs.along_h.Statement.{statement}
-use Rattle.axes.proofs.along_h.Tie as tie
+use Rattle.axis_lines.proofs.along_h.Statement.{statement}
+use Rattle.axis_lines.proofs.along_h.Tie as tie
 
 add-width : tie.Need-add-width
 add-width c = let s = c .before in omega (arith, width-low (s .pre .0 .sizes .sizes))

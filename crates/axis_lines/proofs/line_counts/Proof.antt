@@ -1,9 +1,9 @@
 -- Each axis has as many lines as the other two have places.
 use borrow.Author.Needs.{needs}
 use native.Mathlib.Omega.{arith}
 use Rattle.axes.proofs.JobTurns.{plane-low, layers-width, layers-rows, first-is, second-is, third-is}
-use Rattle.axes.proofs.line_counts.Statement.{statement}
-use Rattle.axes.proofs.line_counts.Tie as tie
+use Rattle.axis_lines.proofs.line_counts.Statement.{statement}
+use Rattle.axis_lines.proofs.line_counts.Tie as tie
 
 add-width : tie.Need-add-width
 add-width c = search needs

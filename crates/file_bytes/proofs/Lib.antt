@@ -1,4 +1,5 @@
 pub mod Stores
 pub mod Spelling
 pub mod Places
+pub mod Walks
 pub mod RecordLaws

@@ -1,16 +1,18 @@
--- The places of a line, a plane and the cell, one after another, and the records that they give.
+-- The places of a line, a plane and the cell from one place on, and the records that they give.
 use mathlib.Core.Path.{_≡_, refl, sym, _∙_, ap}
 use mathlib.Core.Bool.{Bool, true, false, _&&_, not, cond}
-use mathlib.Core.List.{List, [], _∷_, _++_, append-assoc, append-nil}
-use Prim.Native.Nat.{ℕ, zero, suc, _+_, _*_, _≤_}
-use native.Mathlib.Nat.{zero-mul}
+use mathlib.Core.Logic.{⊎-elim}
+use mathlib.Core.List.{List, [], _∷_, _++_, append-assoc}
+use Prim.Native.Nat.{ℕ, zero, suc, _-_, _*_, _<_, _≤_}
+use native.Mathlib.Nat.{zero-mul, eq-zero-or-pos}
 use native.Mathlib.Omega.{arith}
 use lib.ListN.{length, length-append}
+use borrow.Author.Tests.{lt-ltb, le-ltb}
 use Rattle.algebra.specs.Orbit.{Acts}
 use Rattle.algebra.specs.Cell.{J}
 use Rattle.algebra.specs.CellTests.{lineFrom, planeFrom, cellFrom, lowest, recordsOf}
 use Rattle.algebra.proofs.Laws.{along}
-use Rattle.file_bytes.proofs.Stores.{joined}
+use Rattle.file_bytes.specs.Steps.{placesFrom}
 
 -- ---- lists of lists: what is made of places one after another is made of all of them
 
@@ -18,50 +20,72 @@ pub record Spreads {A : Type 0} (R : List J → List A) : Type 0 where
   pub nil : R [] ≡ []
   pub append : (l m : List J) → R (l ++ m) ≡ R l ++ R m
 
-joined-of : {A : Type 0} {R : List J → List A} → Spreads R → (places more : ℕ → List J) → places 0 ≡ [] → ((n : ℕ) → places (suc n) ≡ places n ++ more n) → (n : ℕ) → joined (λ i. R (more i)) n ≡ R (places n)
-unfolding joined
-joined-of {R = R} s places more e f zero = sym (ap R e ∙ s .nil)
-joined-of {R = R} s places more e f (suc n) = ap (λ l. l ++ R (more n)) (joined-of s places more e f n) ∙ sym (ap R (f n) ∙ s .append (places n) (more n))
+-- ---- the places from one on
 
--- ---- one more place, line and plane
+module _ (n1 n2 n3 : ℕ) where
+  abbrev rest : J → List J
+  rest j = lineFrom (j .0) (j .1) (j .2) (n3 - j .2) ++ (planeFrom n3 (j .0) (suc (j .1)) (n2 - suc (j .1)) ++ cellFrom n3 n2 (suc (j .0)) (n1 - suc (j .0)))
 
-abbrev only : (h k l : ℕ) → List J
-only h k l = (h, k, l) ∷ []
+  from-inside : (j : J) → j .0 < n1 → placesFrom n1 n2 n3 j ≡ rest j
+  unfolding placesFrom
+  from-inside j h = ap (λ b. cond b (rest j) []) (lt-ltb (j .0) n1 h)
 
-shift : (l n : ℕ) → suc l + n ≡ l + suc n
-shift l n = omega arith
+  pub from-beyond : (j : J) → n1 ≤ j .0 → placesFrom n1 n2 n3 j ≡ []
+  unfolding placesFrom
+  from-beyond j h = ap (λ b. cond b (rest j) []) (le-ltb (j .0) n1 h)
 
-line-more : (h k l n : ℕ) → lineFrom h k l (suc n) ≡ lineFrom h k l n ++ only h k (l + n)
-unfolding lineFrom
-line-more h k l zero = along (only h k) l (l + 0) (omega arith)
-line-more h k l (suc n) = ap (λ t. (h, k, l) ∷ t) (line-more h k (suc l) n ∙ along (λ m. lineFrom h k (suc l) n ++ only h k m) (suc l + n) (l + suc n) (shift l n))
-
-plane-more : (q h k n : ℕ) → planeFrom q h k (suc n) ≡ planeFrom q h k n ++ lineFrom h (k + n) 0 q
-unfolding planeFrom
-plane-more q h k zero = append-nil (lineFrom h k 0 q) ∙ along (λ m. lineFrom h m 0 q) k (k + 0) (omega arith)
-plane-more q h k (suc n) = ap (λ t. lineFrom h k 0 q ++ t) (plane-more q h (suc k) n ∙ along (λ m. planeFrom q h (suc k) n ++ lineFrom h m 0 q) (suc k + n) (k + suc n) (shift k n)) ∙ sym (append-assoc (lineFrom h k 0 q) (planeFrom q h (suc k) n) (lineFrom h (k + suc n) 0 q))
-
-cell-more : (q m h n : ℕ) → cellFrom q m h (suc n) ≡ cellFrom q m h n ++ planeFrom q (h + n) 0 m
-unfolding cellFrom
-cell-more q m h zero = append-nil (planeFrom q h 0 m) ∙ along (λ t. planeFrom q t 0 m) h (h + 0) (omega arith)
-cell-more q m h (suc n) = ap (λ t. planeFrom q h 0 m ++ t) (cell-more q m (suc h) n ∙ along (λ t. cellFrom q m (suc h) n ++ planeFrom q t 0 m) (suc h + n) (h + suc n) (shift h n)) ∙ sym (append-assoc (planeFrom q h 0 m) (cellFrom q m (suc h) n) (planeFrom q (h + suc n) 0 m))
-
-module _ {A : Type 0} {R : List J → List A} (s : Spreads R) where
-  pub line-joined : (h k n : ℕ) → joined (λ l. R ((h, k, l) ∷ [])) n ≡ R (lineFrom h k 0 n)
-  unfolding lineFrom
-  line-joined h k = joined-of s (lineFrom h k 0) (only h k) refl (λ n. line-more h k 0 n ∙ along (λ m. lineFrom h k 0 n ++ only h k m) (0 + n) n (omega arith))
-
-  pub plane-joined : (q h n : ℕ) → joined (λ k. R (lineFrom h k 0 q)) n ≡ R (planeFrom q h 0 n)
+  -- a plane begins with its first line
+  plane-first : (h k : ℕ) → k < n2 → planeFrom n3 h k (n2 - k) ≡ lineFrom h k 0 n3 ++ planeFrom n3 h (suc k) (n2 - suc k)
   unfolding planeFrom
-  plane-joined q h = joined-of s (planeFrom q h 0) (λ k. lineFrom h k 0 q) refl (λ n. plane-more q h 0 n ∙ along (λ m. planeFrom q h 0 n ++ lineFrom h m 0 q) (0 + n) n (omega arith))
+  plane-first h k l = along (planeFrom n3 h k) (n2 - k) (suc (n2 - suc k)) (omega arith)
 
-  pub cell-joined : (q m n : ℕ) → joined (λ h. R (planeFrom q h 0 m)) n ≡ R (cellFrom q m 0 n)
+  -- from the first place of a line on
+  line-start : (h k : ℕ) → h < n1 → k < n2 → placesFrom n1 n2 n3 (h, k, 0) ≡ planeFrom n3 h k (n2 - k) ++ cellFrom n3 n2 (suc h) (n1 - suc h)
+  line-start h k a b =
+      let below = planeFrom n3 h (suc k) (n2 - suc k) in
+      let behind = cellFrom n3 n2 (suc h) (n1 - suc h) in
+      from-inside (h, k, 0) a
+      ∙ along (λ n. lineFrom h k 0 n ++ (below ++ behind)) (n3 - 0) n3 (omega arith)
+      ∙ sym (append-assoc (lineFrom h k 0 n3) below behind)
+      ∙ ap (λ t. t ++ behind) (sym (plane-first h k b))
+
+  -- from the first place of a plane on
+  pub plane-start : (h : ℕ) → 0 < n2 → placesFrom n1 n2 n3 (h, 0, 0) ≡ cellFrom n3 n2 h (n1 - h)
   unfolding cellFrom
-  cell-joined q m = joined-of s (cellFrom q m 0) (λ h. planeFrom q h 0 m) refl (λ n. cell-more q m 0 n ∙ along (λ t. cellFrom q m 0 n ++ planeFrom q t 0 m) (0 + n) n (omega arith))
+  plane-start h b = ⊎-elim
+      (λ (e : n1 - h ≡ 0). from-beyond (h, 0, 0) (omega arith) ∙ sym (ap (cellFrom n3 n2 h) e))
+      (λ (l : 0 < n1 - h). line-start h 0 (omega arith) b ∙ along (λ n. planeFrom n3 h 0 n ++ cellFrom n3 n2 (suc h) (n1 - suc h)) (n2 - 0) n2 (omega arith) ∙ sym (along (cellFrom n3 n2 h) (n1 - h) (suc (n1 - suc h)) (omega arith)))
+      (eq-zero-or-pos (n1 - h))
+
+  -- the place after one: on its line, on the next line, on the next plane
+  module _ (h k l : ℕ) (a : h < n1) (b : k < n2) (c : l < n3) where
+    abbrev behind : List J
+    behind = planeFrom n3 h (suc k) (n2 - suc k) ++ cellFrom n3 n2 (suc h) (n1 - suc h)
+
+    -- the places from one on begin with it
+    pub here : placesFrom n1 n2 n3 (h, k, l) ≡ (h, k, l) ∷ (lineFrom h k (suc l) (n3 - suc l) ++ behind)
+    unfolding lineFrom
+    here = from-inside (h, k, l) a ∙ along (λ n. lineFrom h k l n ++ behind) (n3 - l) (suc (n3 - suc l)) (omega arith)
+
+    pub on-line : suc l < n3 → placesFrom n1 n2 n3 (h, k, l) ≡ (h, k, l) ∷ placesFrom n1 n2 n3 (h, k, suc l)
+    on-line d = here ∙ ap (λ t. (h, k, l) ∷ t) (sym (from-inside (h, k, suc l) a))
+
+    last-on-line : n3 ≤ suc l → placesFrom n1 n2 n3 (h, k, l) ≡ (h, k, l) ∷ behind
+    unfolding lineFrom
+    last-on-line d = from-inside (h, k, l) a ∙ along (λ n. lineFrom h k l n ++ behind) (n3 - l) 1 (omega arith)
+
+    pub on-plane : n3 ≤ suc l → suc k < n2 → placesFrom n1 n2 n3 (h, k, l) ≡ (h, k, l) ∷ placesFrom n1 n2 n3 (h, suc k, 0)
+    on-plane d e = last-on-line d ∙ ap (λ t. (h, k, l) ∷ t) (sym (line-start h (suc k) a e))
+
+    pub in-cell : n3 ≤ suc l → n2 ≤ suc k → placesFrom n1 n2 n3 (h, k, l) ≡ (h, k, l) ∷ placesFrom n1 n2 n3 (suc h, 0, 0)
+    unfolding planeFrom
+    in-cell d e = last-on-line d
+        ∙ along (λ n. (h, k, l) ∷ (planeFrom n3 h (suc k) n ++ cellFrom n3 n2 (suc h) (n1 - suc h))) (n2 - suc k) 0 (omega arith)
+        ∙ ap (λ t. (h, k, l) ∷ t) (sym (plane-start (suc h) (omega arith)))
 
 -- ---- how many places
 
-pub length-line : (h k l n : ℕ) → length (lineFrom h k l n) ≡ n
+length-line : (h k l n : ℕ) → length (lineFrom h k l n) ≡ n
 unfolding lineFrom
 length-line h k l zero = refl
 length-line h k l (suc n) = ap suc (length-line h k (suc l) n)
@@ -69,7 +93,7 @@ length-line h k l (suc n) = ap suc (length-line h k (suc l) n)
 add-row : (l m : List J) (q n : ℕ) → length l ≡ q → length m ≡ n * q → length (l ++ m) ≡ suc n * q
 add-row l m q n e f = omega (arith, length-append l m, e, f)
 
-pub length-plane : (q h k n : ℕ) → length (planeFrom q h k n) ≡ n * q
+length-plane : (q h k n : ℕ) → length (planeFrom q h k n) ≡ n * q
 unfolding planeFrom
 length-plane q h k zero = sym (zero-mul q)
 length-plane q h k (suc n) = add-row (lineFrom h k 0 q) (planeFrom q h (suc k) n) q n (length-line h k 0 q) (length-plane q h (suc k) n)

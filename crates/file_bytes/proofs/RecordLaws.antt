@@ -10,7 +10,7 @@ use borrow.Author.Tests.{lt-ltb}
 use Rattle.algebra.specs.Gauss.{gauss}
 use Rattle.algebra.specs.Residue.{residue, residues}
 use Rattle.algebra.specs.Cell.{J, Group, full, planes, at, factorActs}
-use Rattle.algebra.specs.CellTests.{lineFrom, planeFrom, cellFrom, placesOf, lexLe, recordsOf}
+use Rattle.algebra.specs.CellTests.{cellFrom, placesOf, lexLe, recordsOf}
 use Rattle.numbers.specs.declared.Pair.{Pair}
 use Rattle.numbers.specs.Prime.{prime}
 use Rattle.numbers.specs.Value.{Value, field, conj, value, pairOf}
@@ -28,7 +28,7 @@ use Rattle.file_bytes.specs.Stores.{Put}
 use Rattle.file_bytes.specs.Steps.{recordValue, pairBytes, recordsWith}
 use Rattle.file_bytes.proofs.Stores.{put-none, put-as}
 use Rattle.file_layout.proofs.ByteLaws.{all-append}
-use Rattle.file_bytes.proofs.Places.{Spreads, length-line, length-plane, length-cell, records-most, records-spread}
+use Rattle.file_bytes.proofs.Places.{Spreads, length-cell, records-most, records-spread}
 
 -- ---- the numbers that a factor is read from are small, whichever they are
 
@@ -112,12 +112,6 @@ module _ {group n1 n2 n3 : ℕ} (s : Sizes group n1 n2 n3) where
   module _ (v : List ℕ) where
     abbrev count : List J → ℕ
     count places = length (recordsAt (groupOf group) (halvesOf n1 n2 n3) v places)
-
-    pub line-few : (h k : ℕ) → count (lineFrom h k 0 n3) ≤ 2880
-    line-few h k = omega (arith, few-records (groupOf group) (halvesOf n1 n2 n3) v (lineFrom h k 0 n3), length-line h k 0 n3, s .third .high)
-
-    pub plane-few : (h : ℕ) → count (planeFrom n3 h 0 n2) ≤ 8294400
-    plane-few h = omega (arith, few-records (groupOf group) (halvesOf n1 n2 n3) v (planeFrom n3 h 0 n2), length-plane n3 h 0 n2, mul-le-mul (s .second .high) (s .third .high))
 
     pub cell-few : count (cellFrom n3 n2 0 n1) ≤ 23887872000
     cell-few = omega (arith, few-records (groupOf group) (halvesOf n1 n2 n3) v (cellFrom n3 n2 0 n1), length-cell n3 n2 0 n1, mul-le-mul (s .first .high) (mul-le-mul (s .second .high) (s .third .high)))

@@ -1,15 +1,18 @@
 -- The file step by step: what its functions are lent, the record of one place, and the file by the numbers of a job.
+use mathlib.Core.Path.{_≡_}
 use mathlib.Core.Bool.{cond}
-use mathlib.Core.List.{List, _++_}
-use Prim.Native.Nat.{ℕ}
+use mathlib.Core.List.{List, [], _∷_, _++_}
+use Prim.Native.Nat.{ℕ, suc, _-_, _<_}
+use lib.Dec.{ltb}
 use Rattle.algebra.specs.Cell.{J, Group, at}
-use Rattle.algebra.specs.CellTests.{placesOf}
+use Rattle.algebra.specs.CellTests.{lineFrom, planeFrom, cellFrom, placesOf}
 use Rattle.numbers.specs.declared.Pair.{Pair}
 use Rattle.numbers.specs.Prime.{prime}
 use Rattle.numbers.specs.Value.{Value, value}
 use Rattle.slices.specs.Pairs.{Below}
 use Rattle.cell.specs.Volume.{groupOf, factorsIn}
-use Rattle.cell.specs.Operations.{halvesOf}
+use Rattle.cell.specs.declared.operations.Index.{Index}
+use Rattle.cell.specs.Operations.{halvesOf, tripleOf}
 use Rattle.cell.specs.TestSteps.{IsVolume}
 use Rattle.orbits.specs.Lowest.{isLowest}
 use Rattle.file_layout.specs.Bytes.{bytes, fileOf, headerWith}
@@ -23,6 +26,16 @@ pub record IsFactors (group n1 n2 n3 : ℕ) (v : List ℕ) : Type 0 where
 -- the factor at the lowest place of an orbit; elsewhere zero, which no record has
 unfoldable pub recordValue : Group → J → List ℕ → J → Value 1
 recordValue g a v j = cond (isLowest g a j) (at (factorsIn g a 1 v) j) (value 1 0 0)
+
+-- the places of the cell from j on, rising in h, then k, then l: the rest of its line, of its plane, and of the cell
+unfoldable pub placesFrom : (n1 n2 n3 : ℕ) → J → List J
+placesFrom n1 n2 n3 j = cond (ltb (j .0) n1) (lineFrom (j .0) (j .1) (j .2) (n3 - j .2) ++ (planeFrom n3 (j .0) (suc (j .1)) (n2 - suc (j .1)) ++ cellFrom n3 n2 (suc (j .0)) (n1 - suc (j .0)))) []
+
+-- r is the place after j
+pub record Next (n1 n2 n3 : ℕ) (j r : Index) : Type 0 where
+  pub left : placesFrom n1 n2 n3 (tripleOf j) ≡ tripleOf j ∷ placesFrom n1 n2 n3 (tripleOf r)
+  pub k : r .k < n2
+  pub l : r .l < n3
 
 -- the bytes of a record by its numbers
 abbrev pub pairBytes : J → Pair → List ℕ

@@ -1,20 +1,20 @@
 // The records of a volume of packed factors, counted and written: one for each orbit whose factor is not zero, at its lowest
-// place, by rising h, k, l. Counting and writing each go over the places of a line, of a plane and of the cell.
+// place, by rising h, k, l. Counting and writing each go over all places of the cell.
 use crate::bytes;
 use cell::operations::Index;
 use numbers::Pair;
 ghost use mathlib.Core.Path.{_≡_};
 ghost use mathlib.Core.List.{[], _∷_};
-ghost use Prim.Native.Nat.{_<_};
+ghost use Prim.Native.Nat.{ℕ, _<_};
 ghost use lib.ListN.{length};
-ghost use Rattle.algebra.specs.CellTests.{lineFrom, planeFrom, placesOf};
+ghost use Rattle.algebra.specs.CellTests.{placesOf};
 ghost use Rattle.numbers.specs.Value.{pairOf};
 ghost use Rattle.cell.specs.Volume.{groupOf};
 ghost use Rattle.cell.specs.Operations.{halvesOf, tripleOf, Within};
 ghost use Rattle.file_layout.specs.Bytes.{allBytes};
 ghost use Rattle.file_bytes.specs.Records.{recordsAt};
 ghost use Rattle.file_bytes.specs.Stores.{Room, Put};
-ghost use Rattle.file_bytes.specs.Steps.{IsFactors, recordValue, pairBytes};
+ghost use Rattle.file_bytes.specs.Steps.{IsFactors, recordValue, pairBytes, Next};
 
 // ---- one place
 
@@ -77,32 +77,32 @@ fn put_place(
     }
 }
 
-// ---- all places, counted
+// ---- all places
 
-fn count_line(group: u32, n1: u32, n2: u32, n3: u32, h: u32, k: u32, volume: &[u32]) -> usize
-    requires { ⌜ IsFactors group n1 n2 n3 (now volume) × (h < n1) × (k < n2) ⌝ }
-    ensures { λ r. ⌜ r ≡ length (recordsAt (groupOf group) (halvesOf n1 n2 n3) (now (volume .entry)) (lineFrom h k 0 n3)) ⌝ }
+// The place after j.
+fn next_place(n2: u32, n3: u32, j: Index) -> Index
+    requires { ⌜ (j .h < 65536) × (j .k < n2) × (j .l < n3) ⌝ }
+    ensures { λ r. ⌜ ((n1 : ℕ) → j .h < n1 → Next n1 n2 n3 j r) ⌝ }
 {
-    let mut count: usize = 0;
-    let mut l = 0;
-    while l < n3 {
-        count += count_place(group, n1, n2, n3, Index { h, k, l }, volume);
-        l += 1;
+    if j.l + 1 < n3 {
+        Index {
+            h: j.h,
+            k: j.k,
+            l: j.l + 1,
+        }
+    } else if j.k + 1 < n2 {
+        Index {
+            h: j.h,
+            k: j.k + 1,
+            l: 0,
+        }
+    } else {
+        Index {
+            h: j.h + 1,
+            k: 0,
+            l: 0,
+        }
     }
-    count
-}
-
-fn count_plane(group: u32, n1: u32, n2: u32, n3: u32, h: u32, volume: &[u32]) -> usize
-    requires { ⌜ IsFactors group n1 n2 n3 (now volume) × (h < n1) ⌝ }
-    ensures { λ r. ⌜ r ≡ length (recordsAt (groupOf group) (halvesOf n1 n2 n3) (now (volume .entry)) (planeFrom n3 h 0 n2)) ⌝ }
-{
-    let mut count: usize = 0;
-    let mut k = 0;
-    while k < n2 {
-        count += count_line(group, n1, n2, n3, h, k, volume);
-        k += 1;
-    }
-    count
 }
 
 pub fn count_records(group: u32, n1: u32, n2: u32, n3: u32, volume: &[u32]) -> usize
@@ -110,61 +110,12 @@ pub fn count_records(group: u32, n1: u32, n2: u32, n3: u32, volume: &[u32]) -> u
     ensures { λ r. ⌜ r ≡ length (recordsAt (groupOf group) (halvesOf n1 n2 n3) (now (volume .entry)) (placesOf (halvesOf n1 n2 n3))) ⌝ }
 {
     let mut count: usize = 0;
-    let mut h = 0;
-    while h < n1 {
-        count += count_plane(group, n1, n2, n3, h, volume);
-        h += 1;
+    let mut j = Index { h: 0, k: 0, l: 0 };
+    while j.h < n1 {
+        count += count_place(group, n1, n2, n3, j, volume);
+        j = next_place(n2, n3, j);
     }
     count
-}
-
-// ---- all places, written
-
-fn put_line(
-    group: u32,
-    n1: u32,
-    n2: u32,
-    n3: u32,
-    h: u32,
-    k: u32,
-    volume: &[u32],
-    out: &mut [u8],
-    start: usize,
-) -> usize
-    requires { ⌜ IsFactors group n1 n2 n3 (now volume) × (h < n1) × (k < n2) ⌝ }
-    requires { ⌜ Room start (length (allBytes (recordsAt (groupOf group) (halvesOf n1 n2 n3) (now volume) (lineFrom h k 0 n3)))) (now out) ⌝ }
-    ensures { λ r. ⌜ Put start (allBytes (recordsAt (groupOf group) (halvesOf n1 n2 n3) (now (volume .entry)) (lineFrom h k 0 n3))) (now (out .entry)) r (now (out .exit)) ⌝ }
-{
-    let mut at = start;
-    let mut l = 0;
-    while l < n3 {
-        at = put_place(group, n1, n2, n3, Index { h, k, l }, volume, out, at);
-        l += 1;
-    }
-    at
-}
-
-fn put_plane(
-    group: u32,
-    n1: u32,
-    n2: u32,
-    n3: u32,
-    h: u32,
-    volume: &[u32],
-    out: &mut [u8],
-    start: usize,
-) -> usize
-    requires { ⌜ IsFactors group n1 n2 n3 (now volume) × (h < n1) ⌝ }
-    requires { ⌜ Room start (length (allBytes (recordsAt (groupOf group) (halvesOf n1 n2 n3) (now volume) (planeFrom n3 h 0 n2)))) (now out) ⌝ }
-    ensures { λ r. ⌜ Put start (allBytes (recordsAt (groupOf group) (halvesOf n1 n2 n3) (now (volume .entry)) (planeFrom n3 h 0 n2))) (now (out .entry)) r (now (out .exit)) ⌝ }
-{
-    let mut at = start;
-    let mut k = 0;
-    while k < n2 {
-        at = put_line(group, n1, n2, n3, h, k, volume, out, at);
-        k += 1;
-    }
-    at
 }
 
 pub fn put_records(
@@ -181,10 +132,10 @@ pub fn put_records(
     ensures { λ r. ⌜ Put start (allBytes (recordsAt (groupOf group) (halvesOf n1 n2 n3) (now (volume .entry)) (placesOf (halvesOf n1 n2 n3)))) (now (out .entry)) r (now (out .exit)) ⌝ }
 {
     let mut at = start;
-    let mut h = 0;
-    while h < n1 {
-        at = put_plane(group, n1, n2, n3, h, volume, out, at);
-        h += 1;
+    let mut j = Index { h: 0, k: 0, l: 0 };
+    while j.h < n1 {
+        at = put_place(group, n1, n2, n3, j, volume, out, at);
+        j = next_place(n2, n3, j);
     }
     at
 }

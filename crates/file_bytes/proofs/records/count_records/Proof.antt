@@ -1,55 +1,75 @@
--- The planes before h are counted.
+-- The places before j are counted.
 use native.Mathlib.Omega.{arith}
-use mathlib.Core.Path.{_≡_, sym, _∙_, ap}
-use Prim.Native.Nat.{_-_}
-use Rattle.algebra.specs.CellTests.{planeFrom, cellFrom}
+use mathlib.Core.Path.{sym, _∙_, ap}
+use mathlib.Core.List.{List}
+use lib.ListN.{length}
+use Rattle.algebra.specs.Cell.{J}
+use Rattle.numbers.specs.Value.{Value}
 use Rattle.cell.specs.Volume.{groupOf}
-use Rattle.cell.specs.Operations.{halvesOf}
+use Rattle.cell.specs.Operations.{halvesOf, tripleOf}
 use Rattle.file_bytes.specs.Records.{recordsAt}
-use Rattle.file_bytes.proofs.Stores.{joined, Counting, counting-start, counting-next, counting-most, counting-done}
-use Rattle.file_bytes.proofs.Places.{cell-joined}
+use Rattle.file_bytes.specs.Steps.{placesFrom, Next}
+use Rattle.file_bytes.proofs.Places.{Spreads}
+use Rattle.file_bytes.proofs.Walks.{Counting, counting-start, counting-next, counting-most, counting-done, fewer}
 use Rattle.file_bytes.proofs.RecordLaws.{volume-records, cell-places, cell-few}
 use Rattle.file_bytes.proofs.records.count_records.Statement.{statement}
 use Rattle.file_bytes.proofs.records.count_records.Tie as tie
 
 abbrev Inv-loop : tie.InvT-loop
-Inv-loop group n1 n2 n3 volume count₀ h₀ count h = Counting (λ h. recordsAt (groupOf group) (halvesOf n1 n2 n3) volume (planeFrom n3 h 0 n2)) n1 h count
+Inv-loop group n1 n2 n3 volume count₀ j₀ count j = Counting (recordsAt (groupOf group) (halvesOf n1 n2 n3) volume) n1 n2 n3 count j
 
 abbrev μ-loop : tie.MeasureT-loop
-μ-loop group n1 n2 n3 volume count₀ h₀ count h = n1 - h
+μ-loop group n1 n2 n3 volume count₀ j₀ count j = length (placesFrom n1 n2 n3 (tripleOf j))
 
-whole : (s : tie.Start Inv-loop μ-loop) → let a = s .args in joined (λ h. recordsAt (groupOf (a .group)) (halvesOf (a .n1) (a .n2) (a .n3)) (a .volume .now) (planeFrom (a .n3) h 0 (a .n2))) (a .n1) ≡ recordsAt (groupOf (a .group)) (halvesOf (a .n1) (a .n2) (a .n3)) (a .volume .now) (cellFrom (a .n3) (a .n2) 0 (a .n1))
-whole s = let a = s .args in cell-joined (volume-records (groupOf (a .group)) (halvesOf (a .n1) (a .n2) (a .n3)) (a .volume .now)) (a .n3) (a .n2) (a .n1)
+module _ (s : tie.Start Inv-loop μ-loop) where
+  abbrev records : List J → List (J × Value 1)
+  records = recordsAt (groupOf (s .args .group)) (halvesOf (s .args .n1) (s .args .n2) (s .args .n3)) (s .args .volume .now)
+
+  spread : Spreads records
+  spread = volume-records (groupOf (s .args .group)) (halvesOf (s .args .n1) (s .args .n2) (s .args .n3)) (s .args .volume .now)
 
 loop-holds : tie.Need-loop-holds Inv-loop μ-loop
-loop-holds c = counting-start
+loop-holds c =
+    let s = c .before in
+    let z = s .pre .volume .sizes in
+    counting-start (records s) (s .args .n1) (s .args .n2) (s .args .n3) (omega (arith, z .second .low)) (omega (arith, z .third .low))
 
-count-plane-requires : tie.Need-count-plane-requires Inv-loop μ-loop
-count-plane-requires c κs =
-    let s = c .before .before .before in
-    (s .pre, c .loop-test .taken)
+count-place-requires : tie.Need-count-place-requires Inv-loop μ-loop
+count-place-requires c κs =
+    let l = c .before .before in
+    (l .before .before .pre, record { h = c .if1 .taken; k = l .loop .inv .k; l = l .loop .inv .l })
 
 add-count : tie.Need-add-count Inv-loop μ-loop
 add-count c =
     let t = c .before in
-    let s = t .before .before .before in
-    omega (arith, counting-most (t .before .loop .inv) (t .loop-test .taken) (c .count-plane .ensures) (whole s), cell-few (s .pre .volume .sizes) (s .args .volume .now))
+    let l = t .before .before in
+    let s = l .before .before in
+    omega (arith, counting-most (spread s) (l .loop .inv) (c .count-place .ensures) (t .if1 .taken), cell-few (s .pre .volume .sizes) (s .args .volume .now))
 
-add-h : tie.Need-add-h Inv-loop μ-loop
-add-h c = omega arith
+next-place-requires : tie.Need-next-place-requires Inv-loop μ-loop
+next-place-requires c κs =
+    let t = c .before in
+    let l = t .before .before in
+    (omega (arith, t .if1 .taken, l .before .before .pre .volume .sizes .first .high), l .loop .inv .k, l .loop .inv .l)
+
+-- the place after j
+next : (c : tie.After-next-place Inv-loop μ-loop) → let l = c .before .before .before .before in Next (l .before .before .args .n1) (l .before .before .args .n2) (l .before .before .args .n3) (l .loop .j) (c .next-place .result)
+next c = let t = c .before .before in c .next-place .ensures (t .before .before .before .before .args .n1) (t .if1 .taken)
 
 loop-less : tie.Need-loop-less Inv-loop μ-loop
-loop-less c = omega arith
+loop-less c = fewer (next c)
 
 loop-again : tie.Need-loop-again Inv-loop μ-loop
 loop-again c =
-    let t = c .before in
-    counting-next (t .before .loop .inv) (t .loop-test .taken) (c .count-plane .ensures)
+    let p = c .before in
+    let l = p .before .before .before in
+    counting-next (spread (l .before .before)) (l .loop .inv) (p .count-place .ensures) (next c)
 
 returns : tie.Need-returns Inv-loop μ-loop
 returns c =
-    let s = c .before .before .before in
-    counting-done (c .before .loop .inv) (c .loop-test .left) (whole s ∙ ap (recordsAt (groupOf (s .args .group)) (halvesOf (s .args .n1) (s .args .n2) (s .args .n3)) (s .args .volume .now)) (sym (cell-places (s .pre .volume .sizes))))
+    let l = c .before .before in
+    let s = l .before .before in
+    counting-done (spread s) (l .loop .inv) (c .if1 .left) ∙ ap (λ t. length (records s t)) (sym (cell-places (s .pre .volume .sizes)))
 
 pub count-records-spec : {M : Type 1} → statement M
 count-records-spec =
@@ -58,9 +78,9 @@ count-records-spec =
     Inv-loop
     μ-loop
     loop-holds
-    count-plane-requires
+    count-place-requires
     add-count
-    add-h
+    next-place-requires
     loop-less
     loop-again
     returns)

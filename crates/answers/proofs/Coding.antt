@@ -11,9 +11,9 @@ use Rattle.job.specs.declared.PointAnswer.the-variants as P
 use Rattle.job.specs.declared.FactorAnswer.{FactorAnswer}
 use Rattle.job.specs.declared.FactorAnswer.the-variants as F
 use Rattle.job.specs.Said.{saidOpen, saidPoint, saidFactor}
-use Rattle.feeding.specs.declared.FileAnswer.{FileAnswer}
-use Rattle.feeding.specs.declared.FileAnswer.the-variants as I
-use Rattle.feeding.specs.Said.{saidFile}
+use Rattle.factor_file.specs.declared.FileAnswer.{FileAnswer}
+use Rattle.factor_file.specs.declared.FileAnswer.the-variants as I
+use Rattle.factor_file.specs.Said.{saidFile}
 use Rattle.answers.specs.declared.JobCoded.{JobCoded}
 use Rattle.answers.specs.declared.FileCoded.{FileCoded}
 use Rattle.answers.specs.declared.PointCoded.{PointCoded}

@@ -1,7 +1,7 @@
 // What the calls of a job and of a factor file answer, as numbers, for programs in C: crate exported passes them on.
 //
 // Every answer has a number: 0, or the paper's number of the refusal. What only an accepted call gives is zero in a refused one.
-use feeding::FileAnswer;
+use factor_file::FileAnswer;
 use job::Answer;
 use job::Answered;
 use job::Axis;
@@ -11,7 +11,7 @@ use job::OpenAnswer;
 use job::PointAnswer;
 ghost use mathlib.Core.Path.{_≡_};
 ghost use Rattle.job.specs.Said.{said, saidOpen, saidPoint, saidFactor};
-ghost use Rattle.feeding.specs.Said.{saidFile};
+ghost use Rattle.factor_file.specs.Said.{saidFile};
 ghost use Rattle.answers.specs.Coded.{numberSaid, noJob, openingCoded, fileAnswerCoded, pointCoded, factorCoded};
 
 // The answer of an opening, a record, a synthesis and an analysis.

@@ -12,7 +12,7 @@ use Rattle.job.specs.declared.PointAnswer.{PointAnswer}
 use Rattle.job.specs.declared.FactorAnswer.{FactorAnswer}
 use Rattle.job.specs.Steps.{OpenOutcome, Said, Outcome, Worked}
 use Rattle.job.specs.Said.{said, saidOpen, saidPoint, saidFactor, openOutcome, outcome, worked}
-use Rattle.feeding.specs.declared.FileAnswer.{FileAnswer}
+use Rattle.factor_file.specs.declared.FileAnswer.{FileAnswer}
 use Rattle.factor_file.specs.Said.{saidFile, fileOutcome}
 use Rattle.file_writer.specs.declared.WriteAnswer.{WriteAnswer}
 use Rattle.file_writer.specs.declared.WriteAnswer.the-variants as W

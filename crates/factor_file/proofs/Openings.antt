@@ -11,7 +11,7 @@ use Rattle.job.specs.declared.OpenAnswer.the-variants as O
 use Rattle.job.specs.Header.{Header}
 use Rattle.job.specs.Steps.{notOpened, OpenOutcome, openStep}
 use Rattle.job.specs.Said.{openOutcome}
-use Rattle.feeding.specs.declared.FileAnswer.the-variants.{Opened, Refused}
+use Rattle.factor_file.specs.declared.FileAnswer.the-variants.{Opened, Refused}
 use Rattle.factor_file.specs.File.{headerIn, recordsIn, shapeTests, feed, fileStep}
 use Rattle.factor_file.specs.Said.{fileOutcome}
 

@@ -1,8 +1,8 @@
--- The factor file: what opening it answers and leaves. Its layout is told in `Shape` of the crate `file_shape`, the header that it holds in `HeaderIn` of the crate `file_layout`, what its records lead to in `Feed` of the crate `feeding`.
+-- The factor file: what opening it answers and leaves. Its layout is told in `Shape` of the crate `file_shape`, the header that it holds in `HeaderIn` of the crate `file_layout`, what its records lead to in `Feed`.
 unfoldable pub use Rattle.file_shape.specs.Shape.{twoBytes, fourBytes, listAt, list2At, list3At, countAt, recordAt, recordsFrom}
 pub use Rattle.file_shape.specs.Shape.{byteAt, afterList, list1At, recordCount, recordsIn, shapeTests}
-unfoldable pub use Rattle.feeding.specs.Feed.{feed}
-pub use Rattle.feeding.specs.Feed.{indexOf}
+unfoldable pub use Rattle.factor_file.specs.Feed.{feed}
+pub use Rattle.factor_file.specs.Feed.{indexOf}
 pub use Rattle.file_layout.specs.HeaderIn.{headerIn}
 use mathlib.Core.List.{List}
 use Prim.Native.Nat.{ℕ}

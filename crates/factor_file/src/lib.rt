@@ -1,4 +1,12 @@
 // The factor file: the opening of a job by its bytes, a header and records of structure factors.
 pub mod open_file; // open_file.rt: the opening of a job by a file
+mod records; // records.rt: its records, recorded in the job one after another
 
-pub use feeding::FileAnswer;
+use job::Job;
+use refusal_order::Refusal;
+
+// The answer of the opening of a file: a job, or the refusal and the place, from 0, of the record at fault (0 where it is no record).
+pub enum FileAnswer {
+    Opened(Job),
+    Refused(Refusal, u32),
+}

@@ -1,5 +1,6 @@
 // The opening of a job by a file: the header opens it with kind 0, then its records are fed to it.
-use feeding::FileAnswer;
+use crate::FileAnswer;
+use crate::records;
 use job::OpenAnswer;
 use refusal_order::Checked;
 ghost use mathlib.Core.Path.{_≡_};
@@ -41,7 +42,7 @@ fn open_sound(file: &[u8], volume: &mut [u32]) -> FileAnswer
     let answer = open_header(file, volume);
     match answer {
         OpenAnswer::Refused(refusal) => return FileAnswer::Refused(refusal, 0),
-        OpenAnswer::Opened(job) => return feeding::feed_records(file, job, volume),
+        OpenAnswer::Opened(job) => return records::feed_records(file, job, volume),
     }
 }
 

@@ -18,7 +18,7 @@ use Rattle.job.specs.Steps.{p, within, index, position, Said, done, density, fa
 use Rattle.file_records.specs.declared.FileRecord.{FileRecord}
 use Rattle.file_shape.specs.Shape.{recordsIn, shapeTests}
 use Rattle.file_layout.specs.HeaderIn.{headerIn}
-use Rattle.feeding.specs.Feed.{indexOf}
+use Rattle.factor_file.specs.Feed.{indexOf}
 pub use Rattle.scripts.specs.Call.{Call, recording, synthesis, analysis, readPoint, readFactor}
 
 -- The header is the opening's. The model uses its group and its lengths; the factor lists are in the job that is given back.

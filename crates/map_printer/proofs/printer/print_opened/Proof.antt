@@ -4,7 +4,7 @@ use mathlib.Core.Path.{_≡_, sym, ap, _∙_}
 use mathlib.Core.List.{List}
 use Prim.Native.Nat.{ℕ}
 use Rattle.job.specs.Steps.{OpenOutcome}
-use Rattle.feeding.specs.declared.FileAnswer.{FileAnswer}
+use Rattle.factor_file.specs.declared.FileAnswer.{FileAnswer}
 use Rattle.factor_file.specs.Said.{fileOutcome}
 use Rattle.map_text.specs.Text.{TextOutcome, putText}
 use Rattle.map_printer.specs.Printed.{openedText}

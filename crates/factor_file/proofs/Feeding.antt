@@ -14,7 +14,7 @@ use Rattle.file_shape.specs.Shape.{countAt, recordCount, recordsFrom, recordsIn
 use Rattle.file_records.specs.Records.{foundAt}
 use Rattle.file_shape.proofs.Shapes.{filled-by}
 use Rattle.file_records.proofs.Reading.{end-found, record-inside, record-found}
-use Rattle.feeding.specs.Feed.{indexOf, feed}
+use Rattle.factor_file.specs.Feed.{indexOf, feed}
 
 -- ---- one record, by what its recording said
 

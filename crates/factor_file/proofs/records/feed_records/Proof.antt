@@ -12,12 +12,12 @@ use Rattle.file_shape.specs.Shape.{byteAt, countAt, recordsIn}
 use Rattle.file_records.specs.Records.{foundAt}
 use Rattle.file_numbers.proofs.Numbers.{four-bytes-fit}
 use Rattle.file_records.proofs.Reading.{record-inside}
-use Rattle.feeding.specs.declared.FileAnswer.the-variants.{Refused}
-use Rattle.feeding.specs.Feed.{feed}
-use Rattle.feeding.specs.Said.{fileOutcome}
-use Rattle.feeding.proofs.Feeding.{Feeding, feeding-start, feeding-end, record-left, feeding-next, feeding-refused}
-use Rattle.feeding.proofs.feed_records.Statement.{statement}
-use Rattle.feeding.proofs.feed_records.Tie as tie
+use Rattle.factor_file.specs.declared.FileAnswer.the-variants.{Refused}
+use Rattle.factor_file.specs.Feed.{feed}
+use Rattle.factor_file.specs.Said.{fileOutcome}
+use Rattle.factor_file.proofs.Feeding.{Feeding, feeding-start, feeding-end, record-left, feeding-next, feeding-refused}
+use Rattle.factor_file.proofs.records.feed_records.Statement.{statement}
+use Rattle.factor_file.proofs.records.feed_records.Tie as tie
 
 abbrev Inv-loop : tie.InvT-loop
 Inv-loop file job volume₀ at₀ place₀ volume at place = (length volume ≡ length volume₀) × Feeding file (feed (recordsIn file) 0 job volume₀) at place job volume

@@ -1,22 +1,16 @@
 // The records of a factor file, recorded in a job one after another.
 // A refused record ends it: its place is answered, and the volume is left zero.
+use crate::FileAnswer;
 use file_records::reader;
 use file_records::reader::Found;
 use job::Answer;
 use job::Job;
 use job::Reflection;
-use refusal_order::Refusal;
 ghost use mathlib.Core.Path.{_≡_};
 ghost use Rattle.refusal_order.specs.Tests.{first};
 ghost use Rattle.file_shape.specs.Shape.{shapeTests, recordsIn};
-ghost use Rattle.feeding.specs.Feed.{feed};
-ghost use Rattle.feeding.specs.Said.{fileOutcome};
-
-// The answer of the opening of a file: a job, or the refusal and the place, from 0, of the record at fault (0 where it is no record).
-pub enum FileAnswer {
-    Opened(Job),
-    Refused(Refusal, u32),
-}
+ghost use Rattle.factor_file.specs.Feed.{feed};
+ghost use Rattle.factor_file.specs.Said.{fileOutcome};
 
 // The records of a file of sound shape, one after another. A record leaves the job as it is.
 pub fn feed_records(file: &[u8], job: Job, volume: &mut [u32]) -> FileAnswer

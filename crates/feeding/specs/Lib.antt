@@ -1,2 +1,0 @@
-pub mod Feed
-pub mod Said

@@ -6,7 +6,7 @@ use Rattle.job.specs.Header.{Header}
 use Rattle.job.specs.Steps.{Said, done, density, factor, refused, OpenOutcome, openStep}
 use Rattle.file_records.specs.declared.FileRecord.{FileRecord}
 use Rattle.factor_file.specs.File.{headerIn, recordsIn, fileStep}
-pub use Rattle.scripts.specs.Call.{step}
+pub use Rattle.job.specs.Calls.{step}
 use Rattle.model.specs.Model.{Model, Call, recording, synthesis, analysis, readPoint, readFactor, modelSaid, modelAfter, modelVolume, modelJob, Beginning, openingModel, modelOpen, modelFile}
 
 -- ---- how a job begins: an opening or a file, each with the volume that it is lent

@@ -1,3 +1,4 @@
 pub mod Header
 pub mod Steps
 pub mod Said
+pub mod Calls

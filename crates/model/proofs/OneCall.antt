@@ -22,7 +22,7 @@ use Rattle.job.specs.declared.GridPoint.{GridPoint}
 use Rattle.job.specs.Header.{collecting, factorsHeld, mapHeld, validJob}
 use Rattle.job.specs.Steps.{p, within, index, position, Said, Outcome, Worked, unchanged, recordTests, recordStep, synthesisTests, synthesised, synthesisStep, analysisTests, analysed, analysisStep, pointTests, pointStep, factorTests, factorStep}
 use Rattle.model.specs.Model.{Model, group, half, factorOf, Call, recording, synthesis, analysis, readPoint, readFactor, modelTests, modelSays, modelNext, modelSaid, modelAfter, inState, modelVolume, modelJob}
-use Rattle.scripts.specs.Call.{step}
+use Rattle.job.specs.Calls.{step}
 use Rattle.model.proofs.Sound.{Sound, valid-in, holds-map, holds-factors, model-length, model-below, within-inside, factors-pass, factor-read, orbit-zero, lawful-recorded, recorded-packed, map-passes, density-read, synthesis-gives, analysis-gives}
 
 -- ---- tests

@@ -18,8 +18,7 @@ use Rattle.job.specs.Steps.{p, within, index, position, Said, done, density, fa
 use Rattle.file_records.specs.declared.FileRecord.{FileRecord}
 use Rattle.file_shape.specs.Shape.{recordsIn, shapeTests}
 use Rattle.file_layout.specs.HeaderIn.{headerIn}
-use Rattle.factor_file.specs.Feed.{indexOf}
-pub use Rattle.scripts.specs.Call.{Call, recording, synthesis, analysis, readPoint, readFactor}
+pub use Rattle.job.specs.Calls.{Call, recording, synthesis, analysis, readPoint, readFactor}
 
 -- The header is the opening's. The model uses its group and its lengths; the factor lists are in the job that is given back.
 -- F is meant below the lengths: an image goes round the cell, and a call that names an index beyond it is refused.
@@ -128,7 +127,7 @@ modelOpen h kind v = accepted (first (beginningTests h kind)) (begun (openingMod
 
 -- a file: an opening with kind 0, then its records
 abbrev pub recordingOf : FileRecord → Call
-recordingOf c = recording (indexOf c) (c .a) (c .b)
+recordingOf c = recording (record { 0 = c .h; 1 = c .k; 2 = c .l }) (c .a) (c .b)
 
 unfoldable pub modelFeed : List FileRecord → (place : ℕ) → Model → Beginning
 modelFeed [] place m = begun m

@@ -1,4 +1,4 @@
--- One call as its arguments and as numbers, and what it answers and leaves of a job, a volume and a scratch.
+-- One call of a job as numbers, and what it answers and leaves of a job, a volume and a scratch.
 -- A call is six numbers: its operation, three of an index or a point, two of a value. Operation 0 records, 1 is synthesis, 2 analysis, 3 reads a point, any other a factor.
 -- An answer is three numbers: the refusal's number or 0, then the density and 0, or the two numbers of the factor, or twice 0.
 use mathlib.Core.List.{List, [], _∷_}
@@ -6,29 +6,12 @@ use Prim.Native.Nat.{ℕ, zero, suc, _+_, _*_}
 use lib.ListN.{getD}
 use Rattle.lengths.specs.Lengths.{cleared}
 use Rattle.job.specs.declared.Job.{Job}
-use Rattle.job.specs.declared.Reflection.{Reflection}
-use Rattle.job.specs.declared.GridPoint.{GridPoint}
-use Rattle.job.specs.Steps.{Said, done, density, factor, refused, Outcome, recordStep, synthesisStep, analysisStep, pointStep, factorStep}
+use Rattle.job.specs.Steps.{Said, done, density, factor, refused}
 use Rattle.call_numbers.specs.declared.CallNumbers.{CallNumbers}
+pub use Rattle.job.specs.Calls.{Call, recording, synthesis, analysis, readPoint, readFactor, step}
 pub use Rattle.call_numbers.specs.Numbers.{numbersAt, replyNumbers}
 
 -- ---- the call
-
--- A call's arguments. Synthesis and analysis are lent a scratch.
-pub data Call : Type 0 where
-  recording : Reflection → (x y : ℕ) → Call
-  synthesis : (scratch : List ℕ) → Call
-  analysis : (scratch : List ℕ) → Call
-  readPoint : GridPoint → Call
-  readFactor : Reflection → Call
-
--- each call by its own promise
-abbrev pub step : Job → List ℕ → Call → Outcome
-step j v (recording k x y) = recordStep j k x y v
-step j v (synthesis scratch) = synthesisStep j v scratch .outcome
-step j v (analysis scratch) = analysisStep j v scratch .outcome
-step j v (readPoint x) = pointStep j x v
-step j v (readFactor k) = factorStep j k v
 
 -- A synthesis or an analysis is said with the scratch as it was lent at first: of a scratch its call asks the length alone.
 unfoldable pub callOf : (scratch : List ℕ) (operation h k l x y : ℕ) → Call

@@ -6,25 +6,10 @@ use refusals::tests;
 ghost use mathlib.Core.Path.{_≡_};
 ghost use mathlib.Core.Bool.{true};
 ghost use Rattle.refusal_order.specs.Tests.{first, checkedNumber};
-ghost use Rattle.cell.specs.Operations.{tripleOf, Sizes, Within};
-ghost use Rattle.reading_refusals.specs.ReadingTests.{storedTests, factorTestsOf};
+ghost use Rattle.cell.specs.Operations.{tripleOf, Sizes};
+ghost use Rattle.reading_refusals.specs.ReadingTests.{factorTestsOf};
 
-// 6, 7: the numbers that the factor is read from.
-fn check_stored(group: u32, n1: u32, n2: u32, n3: u32, at: Index, volume: &[u32]) -> Checked
-    requires { ⌜ Sizes group n1 n2 n3 × Within n1 n2 n3 at ⌝ }
-    ensures { λ r. ⌜ checkedNumber r ≡ first (storedTests group (n1, n2, n3) (tripleOf at) (now (volume .entry))) ⌝ }
-{
-    if !tests::fits(group, n1, n2, n3, volume) {
-        return Checked::Failed(Refusal::BufferLength);
-    }
-    let p = numbers::modulus(1);
-    if !readings::factor_numbers_below(group, n1, n2, n3, at, p, volume) {
-        return Checked::Failed(Refusal::NotResidue);
-    }
-    Checked::Sound
-}
-
-// 25, 23, 10, then the numbers'.
+// 25, 23, 10, 6, 7: the last of the numbers that the factor is read from alone.
 pub fn check_factor(
     valid: bool,
     state: u32,
@@ -47,5 +32,12 @@ pub fn check_factor(
     if !tests::inside(n1, n2, n3, at) {
         return Checked::Failed(Refusal::Index);
     }
-    check_stored(group, n1, n2, n3, at, volume)
+    if !tests::fits(group, n1, n2, n3, volume) {
+        return Checked::Failed(Refusal::BufferLength);
+    }
+    let p = numbers::modulus(1);
+    if !readings::factor_numbers_below(group, n1, n2, n3, at, p, volume) {
+        return Checked::Failed(Refusal::NotResidue);
+    }
+    Checked::Sound
 }

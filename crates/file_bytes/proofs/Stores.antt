@@ -19,6 +19,12 @@ sets-append : (l : List ℕ) (q : ℕ) (xs ys : List ℕ) → sets l q (xs ++ ys
 sets-append l q [] ys = sets-from l ys q (q + 0) (omega arith)
 sets-append l q (x ∷ xs) ys = sets-append (set l q x) (suc q) xs ys ∙ sets-from (sets (set l q x) (suc q) xs) ys (suc q + length xs) (q + suc (length xs)) (shifted q (length xs))
 
+-- two bytes beside each other
+pub put-pair : (q a b : ℕ) (l : List ℕ) → Put q (a ∷ b ∷ []) l (q + 2) (set (set l q a) (q + 1) b)
+put-pair q a b l =
+    let e : q + 1 ≡ suc q = omega arith in
+    record { next = refl; stored = ap (λ (k : ℕ). set (set l q a) k b) e }
+
 pub put-none : (q : ℕ) (l : List ℕ) → Put q [] l q l
 put-none q l = record { next = omega arith; stored = refl }
 

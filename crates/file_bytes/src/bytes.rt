@@ -17,8 +17,9 @@ pub fn put_two(x: u32, out: &mut [u8], at: usize) -> usize
     requires { ⌜ (x < 65536) × Room at 2 (now out) ⌝ }
     ensures { λ r. ⌜ Put at (bytes 2 x) (now (out .entry)) r (now (out .exit)) ⌝ }
 {
-    let second = put_byte((x / 256) as u8, out, at);
-    put_byte((x % 256) as u8, out, second)
+    out[at] = (x / 256) as u8;
+    out[at + 1] = (x % 256) as u8;
+    at + 2
 }
 
 // A number in four bytes.

@@ -1,39 +1,48 @@
 -- The high byte, then the low one.
 use borrow.Author.Needs.{needs}
-use Rattle.file_bytes.proofs.Stores.{put-then, put-as}
+use native.Mathlib.Omega.{arith}
+use Prim.Native.Nat.{_/_, _%_}
+use lib.ListN.{length-set}
+use Rattle.file_bytes.proofs.Stores.{put-pair, put-as}
 use Rattle.file_layout.proofs.ByteLaws.{two-bytes}
 use Rattle.file_bytes.proofs.bytes.put_two.Statement.{statement}
 use Rattle.file_bytes.proofs.bytes.put_two.Tie as tie
 
-cast-put-byte : tie.Need-cast-put-byte
-cast-put-byte c = search needs
+cast-out : tie.Need-cast-out
+cast-out c = search needs
 
-put-byte-requires : tie.Need-put-byte-requires
-put-byte-requires c κs = search needs
+slice-write-out : tie.Need-slice-write-out
+slice-write-out c = search needs
 
-cast-put-byte-2 : tie.Need-cast-put-byte-2
-cast-put-byte-2 c = search needs
+cast-out-2 : tie.Need-cast-out-2
+cast-out-2 c = search needs
 
-put-byte-requires-2 : tie.Need-put-byte-requires-2
-put-byte-requires-2 c κs = search needs
+add-out : tie.Need-add-out
+add-out c = search needs
+
+slice-write-out-2 : tie.Need-slice-write-out-2
+slice-write-out-2 c = simp length-set (omega arith)
+
+add-result : tie.Need-add-result
+add-result c = search needs
 
 same-length : tie.Need-same-length
 same-length c = search needs
 
 returns : tie.Need-returns
 returns c =
-    let low = c .before .before in
-    let high = low .before .before .before .before in
-    let s = high .before .before .before in
-    put-as (put-then (high .put-byte .ensures) (low .put-byte2 .ensures)) (two-bytes (s .args .x) (s .pre .0))
+    let a = c .args in
+    put-as (put-pair (a .at) (a .x / 256) (a .x % 256) (a .out .now)) (two-bytes (a .x) (c .pre .0))
 
 pub put-two-spec : {M : Type 1} → statement M
 put-two-spec =
     tie.close
     (tie.spec
-    cast-put-byte
-    put-byte-requires
-    cast-put-byte-2
-    put-byte-requires-2
+    cast-out
+    slice-write-out
+    cast-out-2
+    add-out
+    slice-write-out-2
+    add-result
     same-length
     returns)

@@ -1,6 +1,13 @@
 -- The pass before, the plain transform, the pass after.
 use borrow.Author.Needs.{needs}
-use Rattle.numbers.specs.Value.{res, real}
+use mathlib.Core.Path.{_∙_}
+use Prim.Native.Nat.{_/_}
+use Rattle.algebra.specs.Ring.{pow}
+use Rattle.algebra.specs.Fourier.{dft}
+use Rattle.algebra.specs.Line.{unfoldB3}
+use Rattle.algebra.specs.Folds.{woven}
+use Rattle.numbers.specs.Value.{field, conj, i, res, real, half}
+use Rattle.root.specs.Root.{tableRoot}
 use Rattle.slices.specs.Values.{valuesOf}
 use Rattle.folds.specs.Frame.{tangent}
 use Rattle.slices.proofs.Values.{length-of, below-of}
@@ -22,24 +29,33 @@ transform-requires c κs =
     let w = c .before .before .before .before in
     let s = w .before .before .before .before .before .before .before .before in
     let f = s .pre .0 .0 in
-    ((f .modulus, f .table), ((s .pre .0 .2, half-divides f), ((length-of (s .args .m) (s .args .a) _ (w .weave .ensures), s .pre .1 .1 .1), below-of (s .args .m) (s .args .a) _ (w .weave .ensures))))
+    let m = s .args .m in
+    let a = s .args .a in
+    let g = woven (field m) (i m) (unfoldB3 (field m) (conj m) (i m) (real m (half m)) a (valuesOf m (s .args .line .now))) in
+    ((f .modulus, f .table), ((s .pre .0 .2, half-divides f), ((length-of m a g (w .weave .ensures), s .pre .1 .1 .1), below-of m a g (w .weave .ensures))))
 
 finish-requires : tie.Need-finish-requires
 finish-requires c κs =
     let t = c .before .before .before .before .before .before in
-    let o = t .before .before .before .before .before .before .before .before in
+    let w = t .before .before .before .before .before in
+    let o = w .before .before .before in
     let s = o .before .before .before .before .before in
     let f = s .pre .0 .0 in
-    ((f .modulus, s .pre .0 .1, o .odd-imaginary-sum .ensures .0), ((f .positive, f .divides), ((length-of (s .args .m) (s .args .a) _ (t .transform .ensures .0), below-of (s .args .m) (s .args .a) _ (t .transform .ensures .0)), s .pre .1 .0 .0)))
+    let m = s .args .m in
+    let a = s .args .a in
+    let g = dft (field m) a (pow (field m) (tableRoot m (s .args .re .now) (s .args .im .now)) (2880 / a)) (valuesOf m (w .weave .last .1 .1 .1 .0)) in
+    ((f .modulus, s .pre .0 .1, o .odd-imaginary-sum .ensures .0), ((f .positive, f .divides), ((length-of m a g (t .transform .ensures .0), below-of m a g (t .transform .ensures .0)), s .pre .1 .0 .0)))
 
 same-length : tie.Need-same-length
-same-length c = search needs
+same-length c = c .before .before .finish .kept .1 .1 .1 .1 .1 .0
 
 same-length-2 : tie.Need-same-length-2
-same-length-2 c = search needs
+same-length-2 c =
+    let t = c .before .before .before .before .before .before .before .before .before in
+    t .transform .kept .1 .1 .1 .1 .1 .0 ∙ t .before .before .before .before .before .weave .kept .1 .1 .1 .0
 
 same-length-3 : tie.Need-same-length-3
-same-length-3 c = search needs
+same-length-3 c = c .before .before .before .before .before .before .before .before .before .transform .kept .1 .1 .1 .1 .1 .1 .0
 
 returns : tie.Need-returns
 returns c =

@@ -1,12 +1,11 @@
 // A line of any kind, transformed in place with the tables that are lent: forward with those of the root, direction 0, and back with
 // those of its conjugate, direction 1. This is called for every line, of the line's own call and of a volume's.
 //
-// A plain line is transformed over its N = 2 A points, by the list of twice the length; every other kind over A points, with a pass
-// before the plain transform and a pass after it.
-mod alternating; // alternating.rt: kind 3
-mod hermitian; // hermitian.rt: kinds 1 and 2
-mod mirror; // mirror.rt: kinds 4 and 5
-
+// A plain line is transformed over its N = 2 A points, by the list of twice the length; every other kind over A points, by its
+// module of crate folded_lines.
+use folded_lines::alternating;
+use folded_lines::hermitian;
+use folded_lines::mirror;
 ghost use mathlib.Core.Path.{_≡_};
 ghost use Prim.Native.Nat.{_*_, _<_, _≤_};
 ghost use lib.ListN.{length};

@@ -11,9 +11,9 @@ use Rattle.slices.specs.Values.{valuesOf}
 use Rattle.slices.proofs.Values.{length-of, below-of}
 use Rattle.folds.proofs.Frames.{half-most, half-divides}
 use Rattle.pairing.specs.Pairing.{lineOf}
-use Rattle.line_transforms.proofs.MirrorLine.{stored-length, forward-list}
-use Rattle.line_transforms.proofs.mirror.forward.Statement.{statement}
-use Rattle.line_transforms.proofs.mirror.forward.Tie as tie
+use Rattle.folded_lines.proofs.MirrorLine.{stored-length, forward-list}
+use Rattle.folded_lines.proofs.mirror.forward.Statement.{statement}
+use Rattle.folded_lines.proofs.mirror.forward.Tie as tie
 
 odd-sum-requires : tie.Need-odd-sum-requires
 odd-sum-requires c κs =

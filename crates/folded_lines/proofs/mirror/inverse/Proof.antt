@@ -7,9 +7,9 @@ use Rattle.numbers.specs.Value.{field}
 use Rattle.slices.proofs.Values.{below-of}
 use Rattle.folds.proofs.Frames.{half-most}
 use Rattle.pairing.specs.Pairing.{mirrored}
-use Rattle.line_transforms.proofs.MirrorLine.{forwardOf, stored-length, back-list}
-use Rattle.line_transforms.proofs.mirror.inverse.Statement.{statement}
-use Rattle.line_transforms.proofs.mirror.inverse.Tie as tie
+use Rattle.folded_lines.proofs.MirrorLine.{forwardOf, stored-length, back-list}
+use Rattle.folded_lines.proofs.mirror.inverse.Statement.{statement}
+use Rattle.folded_lines.proofs.mirror.inverse.Tie as tie
 
 share-requires : tie.Need-share-requires
 share-requires c κs = let f = c .before .before .before .pre .0 .0 in (f .modulus, f .positive, half-most f)

@@ -12,9 +12,9 @@ use Rattle.slices.specs.Values.{valuesOf}
 use Rattle.folds.specs.Frame.{tangent}
 use Rattle.slices.proofs.Values.{length-of, below-of}
 use Rattle.folds.proofs.Frames.{half-most, half-divides}
-use Rattle.line_transforms.proofs.AlternatingLine.{forward-by}
-use Rattle.line_transforms.proofs.alternating.forward.Statement.{statement}
-use Rattle.line_transforms.proofs.alternating.forward.Tie as tie
+use Rattle.folded_lines.proofs.AlternatingLine.{forward-by}
+use Rattle.folded_lines.proofs.alternating.forward.Statement.{statement}
+use Rattle.folded_lines.proofs.alternating.forward.Tie as tie
 
 odd-imaginary-sum-requires : tie.Need-odd-imaginary-sum-requires
 odd-imaginary-sum-requires c κs =

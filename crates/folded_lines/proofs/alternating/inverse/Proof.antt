@@ -12,9 +12,9 @@ use Rattle.slices.specs.Values.{valuesOf}
 use Rattle.folds.specs.Frame.{tangent}
 use Rattle.slices.proofs.Values.{length-of, below-of}
 use Rattle.folds.proofs.Frames.{half-most, half-divides}
-use Rattle.line_transforms.proofs.AlternatingLine.{back-by}
-use Rattle.line_transforms.proofs.alternating.inverse.Statement.{statement}
-use Rattle.line_transforms.proofs.alternating.inverse.Tie as tie
+use Rattle.folded_lines.proofs.AlternatingLine.{back-by}
+use Rattle.folded_lines.proofs.alternating.inverse.Statement.{statement}
+use Rattle.folded_lines.proofs.alternating.inverse.Tie as tie
 
 share-requires : tie.Need-share-requires
 share-requires c κs = let f = c .before .before .before .pre .0 .0 in (f .modulus, f .positive, half-most f)

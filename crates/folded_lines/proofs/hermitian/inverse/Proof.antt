@@ -13,9 +13,9 @@ use Rattle.slices.specs.Values.{valuesOf}
 use Rattle.slices.proofs.Pairs.{fills-whole}
 use Rattle.slices.proofs.Values.{length-of, below-of}
 use Rattle.folds.proofs.Frames.{half-divides, half-most}
-use Rattle.line_transforms.proofs.HermitianLine.{back-list}
-use Rattle.line_transforms.proofs.hermitian.inverse.Statement.{statement}
-use Rattle.line_transforms.proofs.hermitian.inverse.Tie as tie
+use Rattle.folded_lines.proofs.HermitianLine.{back-list}
+use Rattle.folded_lines.proofs.hermitian.inverse.Statement.{statement}
+use Rattle.folded_lines.proofs.hermitian.inverse.Tie as tie
 
 share-requires : tie.Need-share-requires
 share-requires c κs = let f = c .before .before .before .pre .0 .0 in (f .modulus, f .positive, half-most f)

@@ -13,9 +13,9 @@ use Rattle.folds.specs.Frame.{lineRoot}
 use Rattle.folds.proofs.Frames.{half-divides}
 use Rattle.braiding.specs.Braiding.{straightened}
 use Rattle.braiding.proofs.Forms.{foldOf}
-use Rattle.line_transforms.proofs.HermitianLine.{forward-list}
-use Rattle.line_transforms.proofs.hermitian.forward.Statement.{statement}
-use Rattle.line_transforms.proofs.hermitian.forward.Tie as tie
+use Rattle.folded_lines.proofs.HermitianLine.{forward-list}
+use Rattle.folded_lines.proofs.hermitian.forward.Statement.{statement}
+use Rattle.folded_lines.proofs.hermitian.forward.Tie as tie
 
 returns : tie.Need-returns
 returns c =

@@ -2,12 +2,16 @@
 //
 // One byte more than the longest file is read, so that a longer one is seen. A text is shorter than the output: a file that is accepted
 // has at most 2,048 numbers, of ten digits at most.
-mod printer; // printer.rt: from a factor file to the text of its map
-
 use libc::STDIN_FILENO;
 use libc::STDOUT_FILENO;
 use map_text::TextAnswer;
-ghost use Rattle.map_printer.specs.Specimen.{PrintedSpecimen};
+use printing::printer;
+
+fn print(text: &[u8], count: usize) {
+    if count <= text.len() {
+        io::write_all(STDOUT_FILENO, &text[..count]);
+    }
+}
 
 fn main() {
     let mut file = [0u8; 8193];
@@ -19,14 +23,3 @@ fn main() {
         TextAnswer::Refused(_) => {}
     }
 }
-
-fn print(text: &[u8], count: usize) {
-    if count <= text.len() {
-        io::write_all(STDOUT_FILENO, &text[..count]);
-    }
-}
-
-// The paper's printed specimen follows from the definitions.
-pub fn printed_specimen()
-    ensures { λ _. ⌜ PrintedSpecimen ⌝ }
-{}

@@ -4,9 +4,9 @@ use mathlib.Core.Path.{sym, _∙_}
 use Rattle.job.specs.Header.{needed}
 use Rattle.factor_file.specs.File.{headerIn}
 use Rattle.limits.specs.Limits.{volumeLimit}
-use Rattle.map_printer.proofs.Files.{lent-length, lent-zeros, printed-long, printed-lent}
-use Rattle.map_printer.proofs.printer.print_file.Statement.{statement}
-use Rattle.map_printer.proofs.printer.print_file.Tie as tie
+use Rattle.printing.proofs.Files.{lent-length, lent-zeros, printed-long, printed-lent}
+use Rattle.printing.proofs.printer.print_file.Statement.{statement}
+use Rattle.printing.proofs.printer.print_file.Tie as tie
 
 too-long-requires : tie.Need-too-long-requires
 too-long-requires c κs = search needs

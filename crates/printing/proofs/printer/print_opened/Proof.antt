@@ -7,9 +7,9 @@ use Rattle.job.specs.Steps.{OpenOutcome}
 use Rattle.factor_file.specs.declared.FileAnswer.{FileAnswer}
 use Rattle.factor_file.specs.Said.{fileOutcome}
 use Rattle.map_text.specs.Text.{TextOutcome, putText}
-use Rattle.map_printer.specs.Printed.{openedText}
-use Rattle.map_printer.proofs.printer.print_opened.Statement.{statement}
-use Rattle.map_printer.proofs.printer.print_opened.Tie as tie
+use Rattle.printing.specs.Printed.{openedText}
+use Rattle.printing.proofs.printer.print_opened.Statement.{statement}
+use Rattle.printing.proofs.printer.print_opened.Tie as tie
 
 -- the text of an outcome, by its answer
 told : {r a : FileAnswer} {v : List ℕ} {o : OpenOutcome} (out : List ℕ) → fileOutcome r v ≡ o → r ≡ a → putText (openedText (fileOutcome a v)) out ≡ putText (openedText o) out

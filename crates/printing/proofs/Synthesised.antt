@@ -23,7 +23,7 @@ use Rattle.job.specs.Said.{said, worked}
 use Rattle.refusals.proofs.Headers.{all-three}
 use Rattle.map_text.specs.Text.{mapText, refusalText}
 use Rattle.map_text.specs.Printable.{Printable}
-use Rattle.map_printer.specs.Printed.{synthesisText}
+use Rattle.printing.specs.Printed.{synthesisText}
 
 -- a job is valid in every state
 valid-held : (j : Job) → validJob j ≡ true → validJob (withState j mapHeld) ≡ true

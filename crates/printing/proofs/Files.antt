@@ -11,7 +11,7 @@ use Rattle.job.specs.Header.{needed}
 use Rattle.factor_file.specs.File.{headerIn, fileStep}
 use Rattle.map_text.specs.Text.{refusalText, putText}
 use Rattle.limits.specs.Limits.{fileLimit, volumeLimit}
-use Rattle.map_printer.specs.Printed.{openedText, printed, printStep}
+use Rattle.printing.specs.Printed.{openedText, printed, printStep}
 
 -- ---- the numbers that are lent: the first n of m zeros
 

@@ -1,5 +1,4 @@
-// From the bytes of a factor file to the text of its map, or of its refusal. The file is opened in a volume of the printer's own, of the
-// length that crate limits says; the map is synthesised there, and crate map_text writes it.
+// From the bytes of a factor file to the text of its map, or of its refusal.
 use factor_file::FileAnswer;
 use factor_file::open_file;
 use job::Answer;
@@ -14,7 +13,7 @@ ghost use Rattle.lengths.specs.Lengths.{scratchLength};
 ghost use Rattle.job.specs.Steps.{synthesisStep};
 ghost use Rattle.factor_file.specs.File.{fileStep};
 ghost use Rattle.map_text.specs.Text.{putText, textOutcome};
-ghost use Rattle.map_printer.specs.Printed.{synthesisText, openedText, printStep};
+ghost use Rattle.printing.specs.Printed.{synthesisText, openedText, printStep};
 
 // The map of the factors that a job holds.
 fn print_job(job: Job, volume: &mut [u32], out: &mut [u8]) -> TextAnswer

@@ -24,8 +24,8 @@ use Rattle.factors.specs.Factors.{octal, product}
 use Rattle.factor_file.specs.File.{twoBytes, fourBytes, listAt, list2At, list3At, countAt, recordAt, recordsFrom, feed, fileStep}
 use Rattle.output.specs.Decimal.{digitsOf, each}
 use Rattle.map_text.specs.Text.{headLine, rowLine, mapText, refusalText}
-use Rattle.map_printer.specs.Printed.{printed}
-use Rattle.map_printer.specs.Specimen.{PrintedSpecimen}
+use Rattle.printing.specs.Printed.{printed}
+use Rattle.printing.specs.Specimen.{PrintedSpecimen}
 
 pub specimen-printed : PrintedSpecimen
 unfolding volumeOf lineIn factorsIn packed packFactors mapPair packMap mapIn numbersRead all writeAlternating write writeImages recordIn agreesWithItself zeroPair consistentFactors orbitNumbers orbitFree consistentMap validJob openStep recordStep synthesisStep analysisStep pointStep factorStep admitted factorsOk digits cleared first negI halfI flip turn im pim span lineRep rep planes prep mapOf factorsOf sgn star pimp imp factorActs mapActs below every everyPlace agreesT consistentFactorsT consistentMapT zeroT lineFrom planeFrom cellFrom recordsOf even packAlt unpackAlt timesI overI packFactors-algebra unpack upd putAlt putFactor written recorded recordAll Accepted cellOf OffAll Sound putAll slots before after pack-before pack-after fold-forward fold-back pow cast sum gauss conj imag residue residues dft three re im-algebra unfold-by pack-by weave unit prime exponent choice root entryAt tableRoot half part valueOf pairOf at put puts allBelow octal product twoBytes fourBytes listAt list2At list3At countAt recordAt recordsFrom feed fileStep digitsOf each headLine rowLine mapText refusalText printed

@@ -5,9 +5,9 @@ use mathlib.Core.List.{List}
 use Prim.Native.Nat.{ℕ}
 use Rattle.map_text.specs.Text.{putText}
 use Rattle.map_text.proofs.Outcomes.{text-held}
-use Rattle.map_printer.proofs.Synthesised.{refused-text, done-text, done-held}
-use Rattle.map_printer.proofs.printer.print_job.Statement.{statement}
-use Rattle.map_printer.proofs.printer.print_job.Tie as tie
+use Rattle.printing.proofs.Synthesised.{refused-text, done-text, done-held}
+use Rattle.printing.proofs.printer.print_job.Statement.{statement}
+use Rattle.printing.proofs.printer.print_job.Tie as tie
 
 slice-aggregate-synthesis : tie.Need-slice-aggregate-synthesis
 slice-aggregate-synthesis c = search needs

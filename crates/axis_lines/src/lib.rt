@@ -3,8 +3,9 @@
 use axes::Counts;
 use axes::Line;
 use axes::Plan;
-ghost use Prim.Native.Nat.{_<_};
-ghost use Rattle.axes.specs.Axes.{turnOf, alongH, alongK, turnedH, turnedK};
+ghost use mathlib.Core.Path.{_≡_};
+ghost use Prim.Native.Nat.{_<_, _≤_};
+ghost use Rattle.axes.specs.Axes.{lineCount, turnOf, alongH, alongK, turnedH, turnedK};
 ghost use Rattle.axes.specs.Plans.{groupIn, halvesIn, SizesIn, Planned, Counted, Gathered, Row};
 
 // How many lines there are along each axis.
@@ -20,6 +21,15 @@ pub fn line_counts(plan: Plan) -> Counts
         h: layers * width,
         k: layers * rows,
     }
+}
+
+// How many there are in all.
+pub fn line_count(plan: Plan) -> usize
+    requires { ⌜ SizesIn plan ⌝ }
+    ensures { λ r. ⌜ (r ≡ lineCount (groupIn plan) (halvesIn plan)) × (r ≤ 16594560) ⌝ }
+{
+    let counts = line_counts(plan);
+    counts.l + counts.h + counts.k
 }
 
 // Line y = w (B + 1) + k along h, a plain one.

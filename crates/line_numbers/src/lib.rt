@@ -7,16 +7,7 @@ ghost use Prim.Native.Nat.{_<_, _≤_};
 ghost use Rattle.cell.specs.Volume.{groupOf, lineKind, firstPair};
 ghost use Rattle.lengths.specs.Counts.{kindOf};
 ghost use Rattle.axes.specs.Axes.{lineCount, lineOfTurn, turnOf, alongL, turnedL};
-ghost use Rattle.axes.specs.Plans.{groupIn, halvesIn, SizesIn, Planned, Gathered, LineAt};
-
-// How many there are in all.
-pub fn line_count(plan: Plan) -> usize
-    requires { ⌜ SizesIn plan ⌝ }
-    ensures { λ r. ⌜ (r ≡ lineCount (groupIn plan) (halvesIn plan)) × (r ≤ 16594560) ⌝ }
-{
-    let counts = axis_lines::line_counts(plan);
-    counts.l + counts.h + counts.k
-}
+ghost use Rattle.axes.specs.Plans.{groupIn, halvesIn, Planned, Gathered, LineAt};
 
 // The line that turn n transforms.
 pub fn line_in_turn(plan: Plan, n: usize) -> Line

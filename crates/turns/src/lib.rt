@@ -36,7 +36,7 @@ pub fn turn_volume<'a>(
     requires { ⌜ Lent (now scratch) (now fold) (now work) ⌝ }
     ensures { λ _. ⌜ (now (volume .exit) ≡ turns (planTurn plan) 0 (lineCount (groupIn plan) (halvesIn plan)) (now (volume .entry))) × Kept (now (scratch .entry)) (now (scratch .exit)) ⌝ }
 {
-    let count = line_numbers::line_count(plan);
+    let count = axis_lines::line_count(plan);
     let mut n = 0;
     while n < count {
         let line = line_numbers::line_in_turn(plan, n);

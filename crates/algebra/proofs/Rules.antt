@@ -10,7 +10,7 @@ use Rattle.algebra.specs.Ring.{Ops, CRing, Star, pow}
 use Rattle.algebra.specs.Fourier.{Root, dft}
 use Rattle.algebra.specs.Axis.{Axis, AxisLaws}
 use Rattle.algebra.specs.Line.{Reflected, Hermitian, AntiHermitian, Alternating, Symmetric, Antisymmetric, sign, re, im, unit, unfold-by, weave, pack-by, unfoldB1, unfoldB2, unfoldB3, unfold4, unfold5, unfoldA1, unfoldA2, unfoldA3}
-use Rattle.algebra.specs.Kinds.{Kind, Kind.plain, Kind.hermitian, Kind.antihermitian, Kind.alternating, Kind.symmetric, Kind.antisymmetric, slots, before, after, pack-before, pack-after, RuleBefore, RuleAfter}
+use Rattle.algebra.specs.Kinds.{Kind, Kind.plain, Kind.hermitian, Kind.antihermitian, Kind.alternating, Kind.symmetric, Kind.antisymmetric, slots, unfoldBefore, unfoldAfter, packBefore, packAfter, RuleBefore, RuleAfter}
 use Rattle.algebra.proofs.Laws.{along, mul-neg, mul-left-comm, neg-neg, neg-zero, self-neg, pow-add}
 use Rattle.algebra.proofs.StarRules.{quote-star}
 use Rattle.algebra.proofs.Solver.{ring, quote, linear}
@@ -86,8 +86,8 @@ module _ {R : Type 0} {𝓞 : Ops R} {conj : R → R} {i : R} (𝓡 : CRing 𝓞
   pub unfold5-rule : (p : ℕ → R) → Antisymmetric 𝓞 (2 * A) (unfold5 𝓞 conj i half A p)
   unfold5-rule p = unfold-reflected A _ _ (λ t x. ⊖ x) p 𝓞 positive (neg-zero 𝓡) (neg-zero 𝓡) (λ t u x e. neg-neg 𝓡 x)
 
-  pub before-rule : (k : Kind) (p : ℕ → R) → RuleBefore 𝓞 conj i half A k (before 𝓞 conj i half A k p)
-  unfolding before
+  pub before-rule : (k : Kind) (p : ℕ → R) → RuleBefore 𝓞 conj i half A k (unfoldBefore 𝓞 conj i half A k p)
+  unfolding unfoldBefore
   before-rule plain p = tt
   before-rule hermitian p = unfoldB1-rule p
   before-rule antihermitian p = unfoldB2-rule p
@@ -125,8 +125,8 @@ module _ {R : Type 0} {𝓞 : Ops R} {conj : R → R} {i : R} (𝓡 : CRing 𝓞
   unfoldA3-high q zero l = three-eq (A + 0) A _ _ _ (omega arith) ∙ along (λ k. conj (q k)) (A + 0 - A) 0 (omega arith)
   unfoldA3-high q (suc s) l = three-gt (A + suc s) A _ _ _ (omega arith) ∙ along (λ k. conj (q k)) (A + suc s - A) (suc s) (omega arith)
 
-  pub after-rule : (k : Kind) (q : ℕ → R) → RuleAfter 𝓞 conj i half A k (after 𝓞 conj i half A k q)
-  unfolding after
+  pub after-rule : (k : Kind) (q : ℕ → R) → RuleAfter 𝓞 conj i half A k (unfoldAfter 𝓞 conj i half A k q)
+  unfolding unfoldAfter
   after-rule plain q = tt
   after-rule hermitian q = λ s l. unfoldA1-rule q s
   after-rule antihermitian q = λ s l. ap conj (unfoldA2-is q s) ∙ times-i _ (unfoldA1-rule q s) ∙ ap ⊖_ (sym (unfoldA2-is q s))
@@ -216,8 +216,8 @@ module _ {R : Type 0} {𝓞 : Ops R} {conj : R → R} {i : R} (𝓡 : CRing 𝓞
   real-im : (x : R) → ℑ x ≡ conj (ℑ x)
   real-im x = sym (im-real 𝓡 𝓢 half halves x)
 
-  pub before-pack : (k : Kind) (X : ℕ → R) → RuleBefore 𝓞 conj i half A k X → (t : ℕ) → t < 2 * A → before 𝓞 conj i half A k (pack-before 𝓞 conj i half A k X) t ≡ X t
-  unfolding before pack-before
+  pub before-pack : (k : Kind) (X : ℕ → R) → RuleBefore 𝓞 conj i half A k X → (t : ℕ) → t < 2 * A → unfoldBefore 𝓞 conj i half A k (packBefore 𝓞 conj i half A k X) t ≡ X t
+  unfolding unfoldBefore packBefore
   before-pack plain X r = λ t l. refl
   before-pack hermitian X r = unfold-again (λ t x. conj x) X r _ _ (ap ℜ (pack-first _ X) ∙ pair-re _ _ (at-first (λ t x. conj x) X r) (at-middle (λ t x. conj x) X r)) (ap ℑ (pack-first _ X) ∙ pair-im _ _ (at-first (λ t x. conj x) X r) (at-middle (λ t x. conj x) X r)) _ (pack-low _ X)
   before-pack antihermitian X r = unfold-again (λ t x. ⊖ conj x) X r _ _ (ap (λ y. i ⊗ y) (ap ℜ (pack-first _ X) ∙ pair-re _ _ (real-im _) (real-im _)) ∙ im-back _ (at-first (λ t x. ⊖ conj x) X r)) (ap (λ y. i ⊗ y) (ap ℑ (pack-first _ X) ∙ pair-im _ _ (real-im _) (real-im _)) ∙ im-back _ (at-middle (λ t x. ⊖ conj x) X r)) _ (pack-low _ X)
@@ -228,8 +228,8 @@ module _ {R : Type 0} {𝓞 : Ops R} {conj : R → R} {i : R} (𝓡 : CRing 𝓞
   before-pack symmetric X r = unfold-again (λ t x. x) X r _ _ refl refl _ (λ t p l. refl)
   before-pack antisymmetric X r = unfold-again (λ t x. ⊖ x) X r _ _ (sym (self-neg 𝓡 half halves _ (at-first (λ t x. ⊖ x) X r))) (sym (self-neg 𝓡 half halves _ (at-middle (λ t x. ⊖ x) X r))) _ (λ t p l. along X (suc (t - 1)) t (omega arith))
 
-  pub after-pack : (k : Kind) (Z : ℕ → R) → RuleAfter 𝓞 conj i half A k Z → (s : ℕ) → s < 2 * A → after 𝓞 conj i half A k (pack-after 𝓞 conj i half A k Z) s ≡ Z s
-  unfolding after pack-after
+  pub after-pack : (k : Kind) (Z : ℕ → R) → RuleAfter 𝓞 conj i half A k Z → (s : ℕ) → s < 2 * A → unfoldAfter 𝓞 conj i half A k (packAfter 𝓞 conj i half A k Z) s ≡ Z s
+  unfolding unfoldAfter packAfter
   after-pack plain Z r = λ s l. refl
   after-pack hermitian Z r = λ s l. sym (weave-all _ _ A Z (λ s l. sym (re-pair 𝓡 𝓢 half halves _ _ (r (2 * s) (omega arith)) (r (2 * s + 1) (omega arith)))) (λ s l. sym (im-pair 𝓡 𝓢 half halves _ _ (r (2 * s) (omega arith)) (r (2 * s + 1) (omega arith)))) s l)
   after-pack antihermitian Z r = λ s l. sym (weave-all _ _ A Z
@@ -260,8 +260,8 @@ module _ {R : Type 0} {𝓞 : Ops R} {conj : R → R} {i : R} (𝓡 : CRing 𝓞
   pack-unfold first middle again f p e zero l = e
   pack-unfold first middle again f p e (suc t) l = unfold-low A _ _ f p (suc t) (omega arith) l
 
-  pub pack-before-unfolded : (k : Kind) (p : ℕ → R) (t : ℕ) → t < slots k A → pack-before 𝓞 conj i half A k (before 𝓞 conj i half A k p) t ≡ p t
-  unfolding slots before pack-before
+  pub pack-before-unfolded : (k : Kind) (p : ℕ → R) (t : ℕ) → t < slots k A → packBefore 𝓞 conj i half A k (unfoldBefore 𝓞 conj i half A k p) t ≡ p t
+  unfolding slots unfoldBefore packBefore
   pack-before-unfolded plain p t l = refl
   pack-before-unfolded hermitian p t l = pack-unfold _ _ _ _ p (ap₂ (λ x y. x ⊕ i ⊗ y) (unfold-zero A _ _ _ p) (unfold-middle A _ _ _ p positive) ∙ parts 𝓡 𝓢 half halves (p 0)) t l
   pack-before-unfolded antihermitian p t l = pack-unfold _ _ _ _ p (ap₂ (λ x y. x ⊕ i ⊗ y) (ap ℑ (unfold-zero A _ _ _ p) ∙ im-turn 𝓡 𝓢 half halves _ (re-real 𝓡 𝓢 half halves _)) (ap ℑ (unfold-middle A _ _ _ p positive) ∙ im-turn 𝓡 𝓢 half halves _ (im-real 𝓡 𝓢 half halves _)) ∙ parts 𝓡 𝓢 half halves (p 0)) t l
@@ -269,8 +269,8 @@ module _ {R : Type 0} {𝓞 : Ops R} {conj : R → R} {i : R} (𝓡 : CRing 𝓞
   pack-before-unfolded symmetric p t l = unfold4-at p t l
   pack-before-unfolded antisymmetric p t l = unfold5-at p t l
 
-  pub pack-after-unfolded : (k : Kind) (q : ℕ → R) (s : ℕ) → s < slots k A → pack-after 𝓞 conj i half A k (after 𝓞 conj i half A k q) s ≡ q s
-  unfolding slots after pack-after
+  pub pack-after-unfolded : (k : Kind) (q : ℕ → R) (s : ℕ) → s < slots k A → packAfter 𝓞 conj i half A k (unfoldAfter 𝓞 conj i half A k q) s ≡ q s
+  unfolding slots unfoldAfter packAfter
   pack-after-unfolded plain q s l = refl
   pack-after-unfolded hermitian q s l = ap₂ (λ x y. x ⊕ i ⊗ y) (weave-even _ _ s) (weave-odd _ _ s) ∙ parts 𝓡 𝓢 half halves (q s)
   pack-after-unfolded antihermitian q s l = ap₂ (λ x y. x ⊕ i ⊗ y) (ap ℑ (weave-even _ _ s) ∙ im-turn 𝓡 𝓢 half halves _ (re-real 𝓡 𝓢 half halves _)) (ap ℑ (weave-odd _ _ s) ∙ im-turn 𝓡 𝓢 half halves _ (im-real 𝓡 𝓢 half halves _)) ∙ parts 𝓡 𝓢 half halves (q s)
@@ -284,8 +284,8 @@ module _ {R : Type 0} {𝓞 : Ops R} {conj : R → R} {i : R} (𝓡 : CRing 𝓞
   pack-cong x y X Y e f zero l = e
   pack-cong x y X Y e f (suc t) l = f (suc t) (omega arith)
 
-  pub pack-before-cong : (k : Kind) (X Y : ℕ → R) → ((t : ℕ) → t < 2 * A → X t ≡ Y t) → (t : ℕ) → t < slots k A → pack-before 𝓞 conj i half A k X t ≡ pack-before 𝓞 conj i half A k Y t
-  unfolding slots pack-before
+  pub pack-before-cong : (k : Kind) (X Y : ℕ → R) → ((t : ℕ) → t < 2 * A → X t ≡ Y t) → (t : ℕ) → t < slots k A → packBefore 𝓞 conj i half A k X t ≡ packBefore 𝓞 conj i half A k Y t
+  unfolding slots packBefore
   pack-before-cong plain X Y e t l = e t l
   pack-before-cong hermitian X Y e t l = pack-cong _ _ X Y (ap₂ (λ x y. x ⊕ i ⊗ y) (e 0 (omega arith)) (e A (omega arith))) e t l
   pack-before-cong antihermitian X Y e t l = pack-cong _ _ X Y (ap₂ (λ x y. ℑ x ⊕ i ⊗ ℑ y) (e 0 (omega arith)) (e A (omega arith))) e t l
@@ -293,8 +293,8 @@ module _ {R : Type 0} {𝓞 : Ops R} {conj : R → R} {i : R} (𝓡 : CRing 𝓞
   pack-before-cong symmetric X Y e t l = e t (omega arith)
   pack-before-cong antisymmetric X Y e t l = e (suc t) (omega arith)
 
-  pub pack-after-cong : (k : Kind) (X Y : ℕ → R) → ((t : ℕ) → t < 2 * A → X t ≡ Y t) → (s : ℕ) → s < slots k A → pack-after 𝓞 conj i half A k X s ≡ pack-after 𝓞 conj i half A k Y s
-  unfolding slots pack-after
+  pub pack-after-cong : (k : Kind) (X Y : ℕ → R) → ((t : ℕ) → t < 2 * A → X t ≡ Y t) → (s : ℕ) → s < slots k A → packAfter 𝓞 conj i half A k X s ≡ packAfter 𝓞 conj i half A k Y s
+  unfolding slots packAfter
   pack-after-cong plain X Y e s l = e s l
   pack-after-cong hermitian X Y e s l = ap₂ (λ x y. x ⊕ i ⊗ y) (e (2 * s) (omega arith)) (e (2 * s + 1) (omega arith))
   pack-after-cong antihermitian X Y e s l = ap₂ (λ x y. ℑ x ⊕ i ⊗ ℑ y) (e (2 * s) (omega arith)) (e (2 * s + 1) (omega arith))

@@ -6,6 +6,7 @@ pub mod Residue
 pub mod Axis
 pub mod Line
 pub mod Folds
+pub mod FoldKinds
 pub mod Kinds
 pub mod Orbit
 pub mod Cell

@@ -3,7 +3,7 @@ use mathlib.Core.Bool.{cond}
 use mathlib.Core.List.{List}
 use Prim.Native.Nat.{ℕ, zero, suc}
 use lib.Dec.{ltb}
-use Rattle.algebra.specs.Kinds.{Kind, Kind.hermitian, slots, forward, back}
+use Rattle.algebra.specs.Kinds.{Kind, Kind.hermitian, slots, forward, inverse}
 use Rattle.numbers.specs.declared.Pair.{Pair}
 use Rattle.numbers.specs.Value.{Value, field, conj, i, half, real, valueOf, pairOf}
 use Rattle.slices.specs.Pairs.{at, tab, zeroPair}
@@ -16,7 +16,7 @@ module _ (m A : ℕ) where
   forwardValues kind X = forward (field m) (conj m) (i m) (real m (half m)) A (axis m A .w) kind X
 
   abbrev pub inverseValues : Kind → (ℕ → Value m) → ℕ → Value m
-  inverseValues kind X = back (field m) (conj m) (i m) (real m (half m)) A (axis m A .w) (axis m A .part) kind X
+  inverseValues kind X = inverse (field m) (conj m) (i m) (real m (half m)) A (axis m A .w) (axis m A .part) kind X
 
   abbrev pub forwardLine : Kind → List ℕ → List ℕ
   forwardLine kind l = listOf (slots kind A) (forwardValues kind (valuesOf m l))

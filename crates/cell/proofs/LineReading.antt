@@ -12,7 +12,7 @@ use Rattle.algebra.specs.Ring.{Ops, CRing, pow}
 use Rattle.algebra.specs.Gauss.{gauss, conj, imag}
 use Rattle.algebra.specs.Residue.{residues}
 use Rattle.algebra.specs.Line.{unit, unfold-by, pack-by}
-use Rattle.algebra.specs.Kinds.{Kind, Kind.plain, Kind.alternating, Kind.symmetric, Kind.antisymmetric, slots, before, pack-before}
+use Rattle.algebra.specs.Kinds.{Kind, Kind.plain, Kind.alternating, Kind.symmetric, Kind.antisymmetric, slots, unfoldBefore, packBefore}
 use Rattle.algebra.specs.CellPack.{even, partOf, ofPart, packAlt, unpackAlt}
 use Rattle.algebra.proofs.Paths.{pair}
 use Rattle.algebra.proofs.Bool.{split}
@@ -68,29 +68,29 @@ module _ {K : Type 0} {𝓚 : Ops K} (𝓡 : CRing 𝓚) where
 module _ (m c : ℕ) where
   -- the line of the pairs q
   abbrev pub readLine : Kind → (ℕ → Value m) → ℕ → Value m
-  readLine kind q l = before (field m) (Value.conj m) (i m) (real m (half m)) c kind (λ w. q (firstPair kind + w)) l
+  readLine kind q l = unfoldBefore (field m) (Value.conj m) (i m) (real m (half m)) c kind (λ w. q (firstPair kind + w)) l
 
   -- ---- the stored half
 
   pub read-plain : (q : ℕ → Value m) (l : ℕ) → readLine plain q l ≡ q l
-  unfolding before
+  unfolding unfoldBefore
   read-plain q l = along q (0 + l) l (omega arith)
 
   -- an alternating line: its first value is the first number of pair 0, its middle one the second number, times 1 or i
   module _ (q : ℕ → Value m) where
     pub alternating-first : readLine alternating q 0 ≡ ((q 0) .0, Value.ring m .zer)
-    unfolding before residues
+    unfolding unfoldBefore residues
     alternating-first = unfold-zero c _ _ _ (λ w. q (0 + w)) ∙ re-value m (q 0)
 
     pub alternating-middle : 0 < c → readLine alternating q c ≡ ofPart (Value.ring m) (even c) ((q 0) .1)
-    unfolding before residues
+    unfolding unfoldBefore residues
     alternating-middle pos =
         unfold-middle c _ _ _ (λ w. q (0 + w)) pos
         ∙ ap₂ (field m .mul) (unit-is (res-ring m) (real m (half m)) c c) (im-value m (q 0))
         ∙ unit-part (res-ring m) (even c) ((q 0) .1)
 
     pub alternating-low : (l : ℕ) → 0 < l → l < c → readLine alternating q l ≡ q l
-    unfolding before
+    unfolding unfoldBefore
     alternating-low l p h = unfold-low c _ _ _ (λ w. q (0 + w)) l p h ∙ along q (0 + l) l (omega arith)
 
     pub read-alternating : 0 < c → (l : ℕ) → l < suc c → readLine alternating q l ≡ unpackAlt (Value.ring m) c q l
@@ -105,7 +105,7 @@ module _ (m c : ℕ) where
         below e = omega arith
 
   pub read-symmetric : 0 < c → (q : ℕ → Value m) (l : ℕ) → l < suc c → readLine symmetric q l ≡ q l
-  unfolding before
+  unfolding unfoldBefore
   read-symmetric pos q = by-half c (λ l. readLine symmetric q l ≡ q l)
       (unfold-zero c _ _ _ (λ w. q (0 + w)))
       (unfold-middle c _ _ _ (λ w. q (0 + w)) pos ∙ along q (0 + c) c (omega arith))
@@ -113,15 +113,15 @@ module _ (m c : ℕ) where
 
   -- an antisymmetric line: its pairs 1 to c - 1, and zero at both ends
   pub read-first : (q : ℕ → Value m) → readLine antisymmetric q 0 ≡ field m .zer
-  unfolding before
+  unfolding unfoldBefore
   read-first q = unfold-zero c _ _ _ (λ t. q (1 + (t - 1)))
 
   pub read-last : 0 < c → (q : ℕ → Value m) → readLine antisymmetric q c ≡ field m .zer
-  unfolding before
+  unfolding unfoldBefore
   read-last pos q = unfold-middle c _ _ _ (λ t. q (1 + (t - 1))) pos
 
   pub read-between : (q : ℕ → Value m) (l : ℕ) → 0 < l → l < c → readLine antisymmetric q l ≡ q l
-  unfolding before
+  unfolding unfoldBefore
   read-between q l p h = unfold-low c _ _ _ (λ t. q (1 + (t - 1))) l p h ∙ along q (1 + (l - 1)) l (omega arith)
 
   pub read-antisymmetric : 0 < c → (q : ℕ → Value m) → q 0 ≡ field m .zer → q c ≡ field m .zer → (l : ℕ) → l < suc c → readLine antisymmetric q l ≡ q l
@@ -131,42 +131,42 @@ module _ (m c : ℕ) where
 
   module _ (q : ℕ → Value m) (l u : ℕ) (high : c < l) (pos : 0 < u) (e : l + u ≡ 2 * c) where
     pub mirror-alternating : readLine alternating q l ≡ field m .mul (pow (field m) (field m .neg (field m .one)) u) (Value.conj m (readLine alternating q u))
-    unfolding before
+    unfolding unfoldBefore
     mirror-alternating = unfold-mirror c _ _ _ (λ w. q (0 + w)) l u high pos e
 
     pub mirror-symmetric : readLine symmetric q l ≡ readLine symmetric q u
-    unfolding before
+    unfolding unfoldBefore
     mirror-symmetric = unfold-mirror c _ _ _ (λ w. q (0 + w)) l u high pos e
 
     pub mirror-antisymmetric : readLine antisymmetric q l ≡ field m .neg (readLine antisymmetric q u)
-    unfolding before
+    unfolding unfoldBefore
     mirror-antisymmetric = unfold-mirror c _ _ _ (λ t. q (1 + (t - 1))) l u high pos e
 
 -- ---- and back
 
 module _ (g : Group) (a : J) (m : ℕ) (X : ℕ → Value m) where
   -- the pairs that belong to the line
-  pub packed-in : (kind : Kind) (w : ℕ) → firstPair kind ≤ w → w < firstPair kind + slots kind (a .2) → packed g a m kind X w ≡ pack-before (field m) (Value.conj m) (i m) (real m (half m)) (a .2) kind X (w - firstPair kind)
+  pub packed-in : (kind : Kind) (w : ℕ) → firstPair kind ≤ w → w < firstPair kind + slots kind (a .2) → packed g a m kind X w ≡ packBefore (field m) (Value.conj m) (i m) (real m (half m)) (a .2) kind X (w - firstPair kind)
   unfolding packed
   packed-in kind w lo hi = rw (le-leb (firstPair kind) w lo, lt-ltb w (firstPair kind + slots kind (a .2)) hi)
 
   pub packed-plain : (w : ℕ) → w < 2 * a .2 → packed g a m plain X w ≡ X w
-  unfolding slots pack-before
+  unfolding slots packBefore
   packed-plain w h = packed-in plain w (omega arith) (omega arith) ∙ along X (w - 0) w (omega arith)
 
   pub packed-symmetric : (w : ℕ) → w < suc (a .2) → packed g a m symmetric X w ≡ X w
-  unfolding slots pack-before
+  unfolding slots packBefore
   packed-symmetric w h = packed-in symmetric w (omega arith) (omega arith) ∙ along X (w - 0) w (omega arith)
 
   -- an alternating line whose ends have their part alone
   pub packed-alternating : X 0 ≡ ((X 0) .0, Value.ring m .zer) → X (a .2) ≡ ofPart (Value.ring m) (even (a .2)) (partOf (Value.ring m) (even (a .2)) (X (a .2)))
       → (w : ℕ) → w < a .2 → packed g a m alternating X w ≡ packAlt (Value.ring m) (a .2) X w
-  unfolding slots pack-before pack-by packAlt
+  unfolding slots packBefore pack-by packAlt
   packed-alternating e0 ec zero h =
       packed-in alternating 0 (omega arith) (omega arith)
       ∙ ap₂ (λ x y. field m .add x (field m .mul (i m) y)) e0 (ap₂ (λ u y. field m .mul (Value.conj m u) y) (unit-is (res-ring m) (real m (half m)) (a .2) (a .2)) ec)
       ∙ pack-part (res-ring m) (even (a .2)) ((X 0) .0) (partOf (Value.ring m) (even (a .2)) (X (a .2)))
-  packed-alternating e0 ec (suc w) h = packed-in alternating (suc w) (omega arith) (omega arith) ∙ along (λ k. pack-before (field m) (Value.conj m) (i m) (real m (half m)) (a .2) alternating X k) (suc w - 0) (suc w) (omega arith)
+  packed-alternating e0 ec (suc w) h = packed-in alternating (suc w) (omega arith) (omega arith) ∙ along (λ k. packBefore (field m) (Value.conj m) (i m) (real m (half m)) (a .2) alternating X k) (suc w - 0) (suc w) (omega arith)
 
   -- an antisymmetric line: no pair of its own at both ends
   pub packed-first : packed g a m antisymmetric X 0 ≡ value m 0 0
@@ -178,6 +178,6 @@ module _ (g : Group) (a : J) (m : ℕ) (X : ℕ → Value m) where
   packed-last pos = rw (le-leb 1 (a .2) pos, le-ltb (a .2) (1 + (a .2 - 1)) (omega arith))
 
   pub packed-antisymmetric : 0 < a .2 → X 0 ≡ value m 0 0 → X (a .2) ≡ value m 0 0 → (w : ℕ) → w < suc (a .2) → packed g a m antisymmetric X w ≡ X w
-  unfolding slots pack-before
+  unfolding slots packBefore
   packed-antisymmetric pos e0 ec = by-half (a .2) (λ w. packed g a m antisymmetric X w ≡ X w) (packed-first ∙ sym e0) (packed-last pos ∙ sym ec)
       (λ w p h. packed-in antisymmetric w (omega arith) (omega arith) ∙ along X (suc (w - 1)) w (omega arith))

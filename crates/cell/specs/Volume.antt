@@ -5,7 +5,7 @@ use mathlib.Core.List.{List, [], _∷_}
 use Prim.Native.Nat.{ℕ, suc, _+_, _*_, _-_, _/_, _%_, min}
 use lib.ListN.{getD}
 use lib.Dec.{ltb, leb, eqb}
-use Rattle.algebra.specs.Kinds.{Kind, Kind.plain, Kind.hermitian, Kind.antihermitian, Kind.alternating, Kind.symmetric, Kind.antisymmetric, slots, before, pack-before}
+use Rattle.algebra.specs.Kinds.{Kind, Kind.plain, Kind.hermitian, Kind.antihermitian, Kind.alternating, Kind.symmetric, Kind.antisymmetric, slots, unfoldBefore, packBefore}
 use Rattle.algebra.specs.Cell.{J, Group, P1, P2₁, Pm, Pa, P2₁2₁2₁, Cell, im, pim, negI, planes, prep}
 use Rattle.algebra.specs.CellPack.{even}
 use Rattle.algebra.specs.Residue.{Res}
@@ -74,7 +74,7 @@ module _ (g : Group) (a : J) where
     packedLine v h k w = valuesOf m v (pairPlace (firstPair (lineKind g h) + w) h k)
 
     unfoldable pub lineIn : List ℕ → (h k : ℕ) → ℕ → Value m
-    lineIn v h k l = before (field m) (conj m) (i m) (real m (half m)) (a .2) (lineKind g h) (packedLine v h k) l
+    lineIn v h k l = unfoldBefore (field m) (conj m) (i m) (real m (half m)) (a .2) (lineKind g h) (packedLine v h k) l
 
     -- The factors that a volume stands for: k above B through the line of (-h, -k), any other from its own.
     unfoldable pub factorsIn : List ℕ → Cell (Value m)
@@ -82,7 +82,7 @@ module _ (g : Group) (a : J) where
 
     -- and back: the line F(h, k, l) along l packed by its kind, as before the transform
     unfoldable pub packed : Kind → (ℕ → Value m) → ℕ → Value m
-    packed kind X w = cond (leb (firstPair kind) w && ltb w (firstPair kind + slots kind (a .2))) (pack-before (field m) (conj m) (i m) (real m (half m)) (a .2) kind X (w - firstPair kind)) (value m 0 0)
+    packed kind X w = cond (leb (firstPair kind) w && ltb w (firstPair kind + slots kind (a .2))) (packBefore (field m) (conj m) (i m) (real m (half m)) (a .2) kind X (w - firstPair kind)) (value m 0 0)
 
     unfoldable pub packFactors : Cell (Value m) → List ℕ
     packFactors F = volumeOf (λ w h k. pairOf (packed (lineKind g h) (λ l. F h k l) w))

@@ -7,7 +7,8 @@ use Rattle.algebra.specs.Ring.{Ops, Star, pow, sum}
 use Rattle.algebra.specs.Fourier.{dft}
 use Rattle.algebra.specs.Line.{re, im, unit, weave, pack-by, unfoldB3, packB3}
 use Rattle.algebra.specs.Folds.{mate, csc, cot, woven, finish3, slant, twice-M, line3}
-use Rattle.algebra.specs.Kinds.{Kind.alternating, slots, fold-forward, fold-back}
+use Rattle.algebra.specs.Kinds.{Kind.alternating, slots}
+use Rattle.algebra.specs.FoldKinds.{fold-forward, fold-back}
 use Rattle.numbers.specs.Value.{Residue, Value, field, conj, i, res, real, half}
 use Rattle.root.specs.Root.{tableRoot}
 use Rattle.numbers.proofs.Residues.{res-by}

@@ -7,7 +7,8 @@ use native.Mathlib.Omega.{arith}
 use Rattle.algebra.specs.Ring.{pow}
 use Rattle.algebra.specs.Fourier.{dft}
 use Rattle.algebra.specs.Folds.{turned, back1}
-use Rattle.algebra.specs.Kinds.{slots, fold-forward, fold-back}
+use Rattle.algebra.specs.Kinds.{slots}
+use Rattle.algebra.specs.FoldKinds.{fold-forward, fold-back}
 use Rattle.algebra.proofs.Transform.{dft-cong}
 use Rattle.numbers.specs.Value.{Value, field, conj, i, res, real, half, part}
 use Rattle.root.specs.Root.{tableRoot}

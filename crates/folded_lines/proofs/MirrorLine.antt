@@ -8,7 +8,8 @@ use native.Mathlib.Decide.{ℕ-discrete}
 use Rattle.algebra.specs.Ring.{Ops, CRing, Star, pow, sum}
 use Rattle.algebra.specs.Fourier.{dft}
 use Rattle.algebra.specs.Folds.{paired, join, finish}
-use Rattle.algebra.specs.Kinds.{slots, before, fold-forward, fold-back}
+use Rattle.algebra.specs.Kinds.{slots, unfoldBefore}
+use Rattle.algebra.specs.FoldKinds.{fold-forward, fold-back}
 use Rattle.algebra.proofs.Laws.{along}
 use Rattle.algebra.proofs.Solver.{ring, quote}
 use Rattle.numbers.specs.declared.Pair.{Pair}
@@ -52,12 +53,12 @@ module _ {R : Type 0} (𝓞 : Ops R) (half : R) (A : ℕ) (th : ℕ → R) (σ :
 module _ {R : Type 0} (𝓞 : Ops R) (conj : R → R) (i half : R) (A : ℕ) where
   -- the fold of either kind, from its line
   abbrev X : ℕ → (ℕ → R) → ℕ → R
-  X first p = before 𝓞 conj i half A (mirrored first) p
+  X first p = unfoldBefore 𝓞 conj i half A (mirrored first) p
 
   forward-form : (w part : R) (tau p : ℕ → R) (first : ℕ) → first ≤ 1 → (s : ℕ)
       → finish 𝓞 half A (λ s. 𝓞 .mul i (tau s)) (sigma 𝓞 first) (dft 𝓞 A (pow 𝓞 w 2) (paired 𝓞 (X first p))) (sum 𝓞 A (λ t. X first p (2 * t + 1))) (first + s)
       ≡ fold-forward 𝓞 conj i half A w part tau (mirrored first) p s
-  unfolding before fold-forward
+  unfolding unfoldBefore fold-forward
   forward-form w part tau p zero l s = along (finish 𝓞 half A _ _ _ _) (0 + s) s (omega arith)
   forward-form w part tau p (suc n) l s = along (finish 𝓞 half A _ _ _ _) (suc n + s) (suc s) (omega arith)
 

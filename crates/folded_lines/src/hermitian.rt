@@ -5,7 +5,8 @@
 ghost use mathlib.Core.Path.{_≡_};
 ghost use Prim.Native.Nat.{ℕ, _*_};
 ghost use lib.ListN.{length};
-ghost use Rattle.algebra.specs.Kinds.{slots, fold-forward, fold-back};
+ghost use Rattle.algebra.specs.Kinds.{slots};
+ghost use Rattle.algebra.specs.FoldKinds.{fold-forward, fold-back};
 ghost use Rattle.numbers.specs.Prime.{prime};
 ghost use Rattle.numbers.specs.Value.{Value, field, conj, i, half, part, real};
 ghost use Rattle.slices.specs.Pairs.{Below};

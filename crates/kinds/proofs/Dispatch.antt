@@ -8,7 +8,8 @@ use lib.ListN.{length, take}
 use lib.Seq.{length-take-le}
 use Rattle.algebra.specs.Ring.{Ops, pow}
 use Rattle.algebra.specs.Fourier.{dft}
-use Rattle.algebra.specs.Kinds.{Kind, slots, fold-forward, fold-back}
+use Rattle.algebra.specs.Kinds.{Kind, slots}
+use Rattle.algebra.specs.FoldKinds.{fold-forward, fold-back}
 use Rattle.numbers.specs.Prime.{IsModulus}
 use Rattle.numbers.specs.Value.{Value, field, conj, i, real, half, part}
 use Rattle.root.specs.Root.{tableRoot, RootTable}

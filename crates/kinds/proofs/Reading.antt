@@ -7,7 +7,7 @@ use Rattle.algebra.specs.Ring.{Ops, CRing, Star}
 use Rattle.algebra.specs.Fourier.{dft}
 use Rattle.algebra.specs.Axis.{Axis, AxisLaws}
 use Rattle.algebra.specs.Line.{re, im, unit, unfold-by, weave, unfoldA3}
-use Rattle.algebra.specs.Kinds.{Kind, Kind.plain, Kind.hermitian, Kind.antihermitian, Kind.alternating, Kind.symmetric, Kind.antisymmetric, slots, before, after, forward, back}
+use Rattle.algebra.specs.Kinds.{Kind, Kind.plain, Kind.hermitian, Kind.antihermitian, Kind.alternating, Kind.symmetric, Kind.antisymmetric, slots, unfoldBefore, unfoldAfter, forward, inverse}
 use Rattle.algebra.proofs.Transform.{dft-cong}
 use Rattle.algebra.proofs.Rules.{pack-before-cong, pack-after-cong}
 use Rattle.algebra.proofs.Unfold.{three-lt, three-eq, three-gt, unfold-zero, unfold-low, unfold-middle, unfold-high, weave-all, weave-even, weave-odd}
@@ -47,8 +47,8 @@ module _ {R : Type 0} (𝓞 : Ops R) (conj : R → R) (i half : R) (A : ℕ) (po
       go (no n) (yes h) = three-eq s A _ _ _ h ∙ ap conj (e (s - A) (omega arith)) ∙ sym (three-eq s A _ _ _ h)
       go (no n) (no o) = three-gt s A _ _ _ (omega arith) ∙ ap conj (e (s - A) (omega arith)) ∙ sym (three-gt s A _ _ _ (omega arith))
 
-  pub before-cong : (k : Kind) (p q : ℕ → R) → ((j : ℕ) → j < slots k A → p j ≡ q j) → (t : ℕ) → t < 2 * A → before 𝓞 conj i half A k p t ≡ before 𝓞 conj i half A k q t
-  unfolding slots before
+  pub before-cong : (k : Kind) (p q : ℕ → R) → ((j : ℕ) → j < slots k A → p j ≡ q j) → (t : ℕ) → t < 2 * A → unfoldBefore 𝓞 conj i half A k p t ≡ unfoldBefore 𝓞 conj i half A k q t
+  unfolding slots unfoldBefore
   before-cong plain p q e t l = e t l
   before-cong hermitian p q e t l = unfold-cong A pos _ p q (ap ℜ (e 0 pos)) (ap ℑ (e 0 pos)) (λ t o l. e t l) t l
   before-cong antihermitian p q e t l = unfold-cong A pos _ p q (ap (λ y. i ⊗ ℜ y) (e 0 pos)) (ap (λ y. i ⊗ ℑ y) (e 0 pos)) (λ t o l. e t l) t l
@@ -56,8 +56,8 @@ module _ {R : Type 0} (𝓞 : Ops R) (conj : R → R) (i half : R) (A : ℕ) (po
   before-cong symmetric p q e t l = unfold-cong A pos _ p q (e 0 (omega arith)) (e A (omega arith)) (λ t o l. e t (omega arith)) t l
   before-cong antisymmetric p q e t l = unfold-cong A pos _ (λ t. p (t - 1)) (λ t. q (t - 1)) refl refl (λ t o l. e (t - 1) (omega arith)) t l
 
-  pub after-cong : (k : Kind) (p q : ℕ → R) → ((j : ℕ) → j < slots k A → p j ≡ q j) → (s : ℕ) → s < 2 * A → after 𝓞 conj i half A k p s ≡ after 𝓞 conj i half A k q s
-  unfolding slots after
+  pub after-cong : (k : Kind) (p q : ℕ → R) → ((j : ℕ) → j < slots k A → p j ≡ q j) → (s : ℕ) → s < 2 * A → unfoldAfter 𝓞 conj i half A k p s ≡ unfoldAfter 𝓞 conj i half A k q s
+  unfolding slots unfoldAfter
   after-cong plain p q e s l = e s l
   after-cong hermitian p q e s l = weave-cong A pos _ _ _ _ (λ s l. ap ℜ (e s l)) (λ s l. ap ℑ (e s l)) s l
   after-cong antihermitian p q e s l = weave-cong A pos _ _ _ _ (λ s l. ap (λ y. i ⊗ ℜ y) (e s l)) (λ s l. ap (λ y. i ⊗ ℑ y) (e s l)) s l
@@ -72,5 +72,5 @@ module _ {R : Type 0} {𝓞 : Ops R} {conj : R → R} {i : R} (𝓡 : CRing 𝓞
   pub forward-cong : (k : Kind) (p q : ℕ → R) → ((j : ℕ) → j < slots k A → p j ≡ q j) → (s : ℕ) → s < slots k A → forward 𝓞 conj i half A w k p s ≡ forward 𝓞 conj i half A w k q s
   forward-cong k p q e s l = pack-after-cong 𝓡 𝓢 𝓐 k _ _ (λ s l. dft-cong 𝓡 (2 * A) w _ _ s (before-cong 𝓞 conj i half A positive k p q e)) s l
 
-  pub back-cong : (k : Kind) (p q : ℕ → R) → ((j : ℕ) → j < slots k A → p j ≡ q j) → (t : ℕ) → t < slots k A → back 𝓞 conj i half A w part k p t ≡ back 𝓞 conj i half A w part k q t
+  pub back-cong : (k : Kind) (p q : ℕ → R) → ((j : ℕ) → j < slots k A → p j ≡ q j) → (t : ℕ) → t < slots k A → inverse 𝓞 conj i half A w part k p t ≡ inverse 𝓞 conj i half A w part k q t
   back-cong k p q e t l = pack-before-cong 𝓡 𝓢 𝓐 k _ _ (λ t l. ap (𝓞 .mul part) (dft-cong 𝓡 (2 * A) (conj w) _ _ t (after-cong 𝓞 conj i half A positive k p q e))) t l

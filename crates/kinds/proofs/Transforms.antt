@@ -6,7 +6,8 @@ use native.Mathlib.Omega.{arith}
 use Rattle.algebra.specs.Ring.{Ops, pow}
 use Rattle.algebra.specs.Fourier.{dft}
 use Rattle.algebra.specs.Axis.{AxisLaws}
-use Rattle.algebra.specs.Kinds.{Kind, Kind.plain, slots, before, after, pack-before, pack-after, forward, back, fold-forward, fold-back}
+use Rattle.algebra.specs.Kinds.{Kind, Kind.plain, slots, unfoldBefore, unfoldAfter, packBefore, packAfter, forward, inverse}
+use Rattle.algebra.specs.FoldKinds.{fold-forward, fold-back}
 use Rattle.algebra.proofs.Laws.{along}
 use Rattle.algebra.proofs.FoldAll.{forward-is, back-is}
 use Rattle.algebra.proofs.Conj.{conj-pow}
@@ -31,9 +32,9 @@ module _ (m A : ℕ) (k : Kind) (X : ℕ → Value m) (s : ℕ) where
   unfolding transform
   transform-forward = along (λ a. forward (field m) (conj m) (i m) (real m (half m)) a (rootOf m (2 * A)) k X s) (2 * A / 2) A (half-length A)
 
-  pub transform-back : transform m k 1 (2 * A) X s ≡ back (field m) (conj m) (i m) (real m (half m)) A (rootOf m (2 * A)) (real m (part m (2 * A))) k X s
+  pub transform-back : transform m k 1 (2 * A) X s ≡ inverse (field m) (conj m) (i m) (real m (half m)) A (rootOf m (2 * A)) (real m (part m (2 * A))) k X s
   unfolding transform
-  transform-back = along (λ a. back (field m) (conj m) (i m) (real m (half m)) a (rootOf m (2 * A)) (real m (part m (2 * A))) k X s) (2 * A / 2) A (half-length A)
+  transform-back = along (λ a. inverse (field m) (conj m) (i m) (real m (half m)) a (rootOf m (2 * A)) (real m (part m (2 * A))) k X s) (2 * A / 2) A (half-length A)
 
 -- a list of values that are those of the transform
 transformed-by : (m A kind direction : ℕ) {k : Kind} → kindOf kind ≡ k → (line : List ℕ) (f : ℕ → Value m) → ((j : ℕ) → j < slots k A → f j ≡ transform m k direction (2 * A) (valuesOf m line) j) →
@@ -64,7 +65,7 @@ module _ (m : ℕ) (is : IsModulus m) (A : ℕ) (pos : 0 < A) (divides : A * (14
 
     -- a plain line, whose transform has N points
     pub plain-line : (line : List ℕ) → listOf (2 * A) (dft (field m) (2 * A) (pow (field m) (tableRoot m re im) (2880 / (2 * A))) (valuesOf m line)) ≡ transformed m 0 0 (2 * A) line
-    unfolding slots before pack-after rootOf
+    unfolding slots unfoldBefore packAfter rootOf
     plain-line line =
         transformed-by m A 0 0 refl line _
         (λ j l. ap (λ v. dft (field m) (2 * A) (pow (field m) v (2880 / (2 * A))) (valuesOf m line) j) (h .of-root) ∙ sym (transform-forward m A plain (valuesOf m line) j))
@@ -83,7 +84,7 @@ module _ (m : ℕ) (is : IsModulus m) (A : ℕ) (pos : 0 < A) (divides : A * (14
 
     pub plain-back-line : (line : List ℕ) →
         listOf (2 * A) (λ t. real m (part m (2 * A)) ⊗ dft (field m) (2 * A) (pow (field m) (tableRoot m re im) (2880 / (2 * A))) (valuesOf m line) t) ≡ transformed m 0 1 (2 * A) line
-    unfolding slots after pack-before rootOf
+    unfolding slots unfoldAfter packBefore rootOf
     plain-back-line line =
         transformed-by m A 0 1 refl line _
         (λ j l. ap (λ v. real m (part m (2 * A)) ⊗ dft (field m) (2 * A) v (valuesOf m line) j)

@@ -4,7 +4,7 @@ use mathlib.Core.List.{List}
 use Prim.Native.Nat.{ℕ, zero, suc, _*_, _/_}
 use Rattle.algebra.specs.Ring.{pow}
 use Rattle.algebra.specs.Axis.{Axis}
-use Rattle.algebra.specs.Kinds.{Kind, forward, back}
+use Rattle.algebra.specs.Kinds.{Kind, forward, inverse}
 use Rattle.numbers.specs.Value.{Value, field, conj, i, half, part, real, valueOf, pairOf}
 use Rattle.root.specs.Root.{root}
 use Rattle.slices.specs.Pairs.{at, tab}
@@ -21,7 +21,7 @@ axisOf m A = record { half = A; w = rootOf m (2 * A); part = real m (part m (2 *
 -- The packed line after the transform from the packed line X before it, or for direction 1 the other way.
 unfoldable pub transform : (m : ℕ) → Kind → (direction N : ℕ) → (ℕ → Value m) → ℕ → Value m
 transform m k zero N X = forward (field m) (conj m) (i m) (real m (half m)) (N / 2) (rootOf m N) k X
-transform m k (suc d) N X = back (field m) (conj m) (i m) (real m (half m)) (N / 2) (rootOf m N) (real m (part m N)) k X
+transform m k (suc d) N X = inverse (field m) (conj m) (i m) (real m (half m)) (N / 2) (rootOf m N) (real m (part m N)) k X
 
 -- the same on the numbers of a line: pair j is the numbers 2 j and 2 j + 1
 unfoldable pub transformed : (m kind direction N : ℕ) (line : List ℕ) → List ℕ

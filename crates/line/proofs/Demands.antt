@@ -8,7 +8,7 @@ use lib.ListN.{length}
 use Rattle.algebra.specs.Ring.{Ops, pow, sum}
 use Rattle.algebra.specs.Fourier.{dft}
 use Rattle.algebra.specs.Axis.{AxisLaws}
-use Rattle.algebra.specs.Kinds.{Kind, slots, before, after, forward, back}
+use Rattle.algebra.specs.Kinds.{Kind, slots, unfoldBefore, unfoldAfter, forward, inverse}
 use Rattle.algebra.proofs.Laws.{along}
 use Rattle.algebra.proofs.FoldAll.{restores, restores-after}
 use Rattle.algebra.proofs.Rules.{before-rule, after-rule, before-pack, after-pack, transform-rule, inverse-rule}
@@ -44,17 +44,17 @@ module _ (m : ℕ) (is : IsModulus m) (N : ℕ) (size : AdmittedLength N) where
     unfolding transform
     forward-back X Y e s l = forward-cong (field-ring m) (field-star m) axis k Y _ e s l ∙ restores-after (field-ring m) (field-star m) axis k X s l
 
-    whole-forward : (X : ℕ → Value m) (s : ℕ) → s < N → after (field m) (conj m) (i m) (real m (half m)) A k (transform m k 0 N X) s ≡ dft (field m) N (rootOf m N) (before (field m) (conj m) (i m) (real m (half m)) A k X) s
+    whole-forward : (X : ℕ → Value m) (s : ℕ) → s < N → unfoldAfter (field m) (conj m) (i m) (real m (half m)) A k (transform m k 0 N X) s ≡ dft (field m) N (rootOf m N) (unfoldBefore (field m) (conj m) (i m) (real m (half m)) A k X) s
     unfolding transform
     whole-forward X s l =
         after-pack (field-ring m) (field-star m) axis k _ (transform-rule (field-ring m) (field-star m) axis k _ (before-rule (field-ring m) (field-star m) axis k X)) s (omega (arith, size .whole))
-        ∙ ap (λ n. dft (field m) n (rootOf m N) (before (field m) (conj m) (i m) (real m (half m)) A k X) s) (size .whole)
+        ∙ ap (λ n. dft (field m) n (rootOf m N) (unfoldBefore (field m) (conj m) (i m) (real m (half m)) A k X) s) (size .whole)
 
-    whole-back : (X : ℕ → Value m) (t : ℕ) → t < N → before (field m) (conj m) (i m) (real m (half m)) A k (transform m k 1 N X) t ≡ field m .mul (real m (part m N)) (dft (field m) N (conj m (rootOf m N)) (after (field m) (conj m) (i m) (real m (half m)) A k X) t)
+    whole-back : (X : ℕ → Value m) (t : ℕ) → t < N → unfoldBefore (field m) (conj m) (i m) (real m (half m)) A k (transform m k 1 N X) t ≡ field m .mul (real m (part m N)) (dft (field m) N (conj m (rootOf m N)) (unfoldAfter (field m) (conj m) (i m) (real m (half m)) A k X) t)
     unfolding transform
     whole-back X t l =
         before-pack (field-ring m) (field-star m) axis k _ (inverse-rule (field-ring m) (field-star m) axis k _ (after-rule (field-ring m) (field-star m) axis k X)) t (omega (arith, size .whole))
-        ∙ ap (λ n. field m .mul (real m (part m N)) (dft (field m) n (conj m (rootOf m N)) (after (field m) (conj m) (i m) (real m (half m)) A k X) t)) (size .whole)
+        ∙ ap (λ n. field m .mul (real m (part m N)) (dft (field m) n (conj m (rootOf m N)) (unfoldAfter (field m) (conj m) (i m) (real m (half m)) A k X) t)) (size .whole)
 
   module _ (kind : ℕ) (line : List ℕ) (len : length line ≡ 2 * pairCount kind N) (small : Below (prime m) line) where
     list-restored : transformed m kind 1 N (transformed m kind 0 N line) ≡ line

@@ -11,7 +11,7 @@ use Rattle.algebra.specs.Fourier.{dft}
 use Rattle.algebra.specs.Residue.{residue, residues}
 use Rattle.algebra.specs.Gauss.{gauss, conj, imag}
 use Rattle.algebra.specs.Line.{three, re, im, unit, unfold-by, pack-by, weave}
-use Rattle.algebra.specs.Kinds.{slots, before, after, pack-before, pack-after}
+use Rattle.algebra.specs.Kinds.{slots, unfoldBefore, unfoldAfter, packBefore, packAfter}
 use Rattle.numbers.specs.Prime.{prime}
 use Rattle.numbers.specs.Value.{half, part, valueOf, pairOf}
 use Rattle.root.specs.Root.{root}
@@ -68,7 +68,7 @@ all-shown (x ∷ l) e =
     (shown x (eqb-true 0 (number x) (g .0)) (same-list (result x) (x .after) (g .1)), all-shown l (h .1))
 
 computed : shows specimens ≡ true
-unfolding shows sameList first admitted factorsOk product allBelow transformed transform rootOf root prime half part valueOf pairOf at put puts slots before after pack-before pack-after dft sum pow gauss residues residue conj imag re im unit unfold-by pack-by weave three
+unfolding shows sameList first admitted factorsOk product allBelow transformed transform rootOf root prime half part valueOf pairOf at put puts slots unfoldBefore unfoldAfter packBefore packAfter dft sum pow gauss residues residue conj imag re im unit unfold-by pack-by weave three
 computed = refl
 
 pub specimens-shown : Specimens

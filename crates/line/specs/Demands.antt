@@ -7,7 +7,7 @@ use mathlib.Core.List.{List}
 use Prim.Native.Nat.{ℕ, _*_, _-_, _/_, _<_}
 use lib.ListN.{length}
 use Rattle.algebra.specs.Ring.{Ops, pow, sum}
-use Rattle.algebra.specs.Kinds.{before, after}
+use Rattle.algebra.specs.Kinds.{unfoldBefore, unfoldAfter}
 use Rattle.numbers.specs.Prime.{prime, IsModulus}
 use Rattle.numbers.specs.Value.{Value, field, conj, i, half, part, real}
 use Rattle.slices.specs.Pairs.{Below}
@@ -18,10 +18,10 @@ use Rattle.line.specs.Line.{LineOutcome, lineStep}
 
 -- The whole line of a packed line X before the transform, and of one after it, by the kind's number.
 abbrev pub wholeBefore : (m kind N : ℕ) → (ℕ → Value m) → ℕ → Value m
-wholeBefore m kind N X = before (field m) (conj m) (i m) (real m (half m)) (N / 2) (kindOf kind) X
+wholeBefore m kind N X = unfoldBefore (field m) (conj m) (i m) (real m (half m)) (N / 2) (kindOf kind) X
 
 abbrev pub wholeAfter : (m kind N : ℕ) → (ℕ → Value m) → ℕ → Value m
-wholeAfter m kind N X = after (field m) (conj m) (i m) (real m (half m)) (N / 2) (kindOf kind) X
+wholeAfter m kind N X = unfoldAfter (field m) (conj m) (i m) (real m (half m)) (N / 2) (kindOf kind) X
 
 -- Direction 0: the value at s is the sum over t of the value at t times e(ts/N).
 pub record ForwardIsSum : Type 0 where

@@ -8,7 +8,7 @@ use Rattle.algebra.specs.Ring.{Ops, CRing, sum}
 use Rattle.algebra.specs.Residue.{residues}
 use Rattle.algebra.specs.Gauss.{gauss}
 use Rattle.algebra.specs.Line.{unfold4, unfold5}
-use Rattle.algebra.specs.Kinds.{before}
+use Rattle.algebra.specs.Kinds.{unfoldBefore}
 use Rattle.algebra.proofs.Laws.{along, neg-zero, neg-neg}
 use Rattle.algebra.proofs.Solver.{ring, quote, linear}
 use Rattle.algebra.proofs.Sums.{sum-cong, sum-mul, sum-rev}
@@ -69,11 +69,11 @@ module _ (m A : ℕ) (l : List ℕ) where
 
     -- the line that `first` tells
     pub line-symmetric : {first : ℕ} {r : Pair} → first ≡ 0 → r ≡ pairOf (even j) → r ≡ pairOf (lineOf m A first l j)
-    unfolding before
+    unfolding unfoldBefore
     line-symmetric e h = h ∙ ap (λ f. pairOf (lineOf m A f l j)) (sym e)
 
     pub line-antisymmetric : {first : ℕ} {r : Pair} → first ≤ 1 → (first ≡ 0 → ⊥) → r ≡ pairOf (odd j) → r ≡ pairOf (lineOf m A first l j)
-    unfolding before
+    unfolding unfoldBefore
     line-antisymmetric {first} n e h = h ∙ ap (λ f. pairOf (lineOf m A f l j)) one
       where
         one : 1 ≡ first
@@ -123,7 +123,7 @@ module _ (m A first : ℕ) (l : List ℕ) where
   oddSum n = sum (field m) n (λ t. lineOf m A first l (2 * t + 1))
 
   pub odd-sum-none : first ≡ 1 → 0 < A → record { re = 0; im = 0 } ≡ pairOf (oddSum A)
-  unfolding before
+  unfolding unfoldBefore
   odd-sum-none e q =
       zero-pair m
       ∙ ap pairOf (sym (odd-places (field-ring m) (conj m) (i m) (real m (half m)) A (λ t. valuesOf m l (t - 1)) (half-law m) q))

@@ -9,7 +9,7 @@ use native.Mathlib.Decide.{ℕ-discrete}
 use Rattle.algebra.specs.Ring.{Ops, CRing, Star}
 use Rattle.algebra.specs.Fourier.{dft}
 use Rattle.algebra.specs.Axis.{Axis, AxisLaws}
-use Rattle.algebra.specs.Kinds.{Kind, Kind.symmetric, Kind.antisymmetric, slots, pack-before, pack-after, RuleBefore, RuleAfter, forward, back}
+use Rattle.algebra.specs.Kinds.{Kind, Kind.symmetric, Kind.antisymmetric, slots, packBefore, packAfter, RuleBefore, RuleAfter, forward, inverse}
 use Rattle.algebra.specs.Cell.{J, Group, P1, P2₁, Pm, Pa, P2₁2₁2₁, planes, negI, Cell}
 use Rattle.algebra.specs.CellSteps.{Lawful}
 use Rattle.algebra.specs.CellPack.{even}
@@ -31,16 +31,16 @@ module _ {R : Type 0} {𝓞 : Ops R} {conj : R → R} {i : R} (𝓡 : CRing 𝓞
 
   infixl 70 _⊗_
   infix 75 ⊖_
-  pub forward-packed : (k : Kind) (X p : ℕ → R) → RuleBefore 𝓞 conj i half A k X → ((t : ℕ) → t < slots k A → p t ≡ pack-before 𝓞 conj i half A k X t)
-      → (s : ℕ) → s < slots k A → forward 𝓞 conj i half A w k p s ≡ pack-after 𝓞 conj i half A k (dft 𝓞 (2 * A) w X) s
+  pub forward-packed : (k : Kind) (X p : ℕ → R) → RuleBefore 𝓞 conj i half A k X → ((t : ℕ) → t < slots k A → p t ≡ packBefore 𝓞 conj i half A k X t)
+      → (s : ℕ) → s < slots k A → forward 𝓞 conj i half A w k p s ≡ packAfter 𝓞 conj i half A k (dft 𝓞 (2 * A) w X) s
   forward-packed k X p r e s l =
-      forward-cong 𝓡 𝓢 𝓐 k p (pack-before 𝓞 conj i half A k X) e s l
+      forward-cong 𝓡 𝓢 𝓐 k p (packBefore 𝓞 conj i half A k X) e s l
       ∙ pack-after-cong 𝓡 𝓢 𝓐 k _ _ (λ s l. dft-cong 𝓡 (2 * A) w _ _ s (before-pack 𝓡 𝓢 𝓐 k X r)) s l
 
-  pub back-packed : (k : Kind) (Z q : ℕ → R) → RuleAfter 𝓞 conj i half A k Z → ((s : ℕ) → s < slots k A → q s ≡ pack-after 𝓞 conj i half A k Z s)
-      → (t : ℕ) → t < slots k A → back 𝓞 conj i half A w part k q t ≡ pack-before 𝓞 conj i half A k (λ t. part ⊗ dft 𝓞 (2 * A) (conj w) Z t) t
+  pub back-packed : (k : Kind) (Z q : ℕ → R) → RuleAfter 𝓞 conj i half A k Z → ((s : ℕ) → s < slots k A → q s ≡ packAfter 𝓞 conj i half A k Z s)
+      → (t : ℕ) → t < slots k A → inverse 𝓞 conj i half A w part k q t ≡ packBefore 𝓞 conj i half A k (λ t. part ⊗ dft 𝓞 (2 * A) (conj w) Z t) t
   back-packed k Z q r e t l =
-      back-cong 𝓡 𝓢 𝓐 k q (pack-after 𝓞 conj i half A k Z) e t l
+      back-cong 𝓡 𝓢 𝓐 k q (packAfter 𝓞 conj i half A k Z) e t l
       ∙ pack-before-cong 𝓡 𝓢 𝓐 k _ _ (λ t l. ap (λ y. part ⊗ y) (dft-cong 𝓡 (2 * A) (conj w) _ _ t (after-pack 𝓡 𝓢 𝓐 k Z r))) t l
 
   -- an antisymmetric line's transform is zero at both ends
@@ -82,13 +82,13 @@ module _ (a : J) where
 
   module _ (m : ℕ) where
     -- what is packed after the transform stands at its own places
-    mirror-placed : (b : Bool) (Z : ℕ → Value m) (t : ℕ) → pack-after (field m) (conj m) (i m) (real m (half m)) (a .2) (cond b symmetric antisymmetric) Z t ≡ Z (firstPair (cond b symmetric antisymmetric) + t)
-    unfolding pack-after
+    mirror-placed : (b : Bool) (Z : ℕ → Value m) (t : ℕ) → packAfter (field m) (conj m) (i m) (real m (half m)) (a .2) (cond b symmetric antisymmetric) Z t ≡ Z (firstPair (cond b symmetric antisymmetric) + t)
+    unfolding packAfter
     mirror-placed true Z t = along Z t (0 + t) (omega arith)
     mirror-placed false Z t = along Z (suc t) (1 + t) (omega arith)
 
-    pub placed-after : (g : Group) → Admitted g → (h : ℕ) (Z : ℕ → Value m) (t : ℕ) → pack-after (field m) (conj m) (i m) (real m (half m)) (a .2) (lineKind g h) Z t ≡ Z (firstPair (lineKind g h) + t)
-    unfolding pack-after
+    pub placed-after : (g : Group) → Admitted g → (h : ℕ) (Z : ℕ → Value m) (t : ℕ) → packAfter (field m) (conj m) (i m) (real m (half m)) (a .2) (lineKind g h) Z t ≡ Z (firstPair (lineKind g h) + t)
+    unfolding packAfter
     placed-after P1 ok h Z t = along Z t (0 + t) (omega arith)
     placed-after P2₁ ok h Z t = along Z t (0 + t) (omega arith)
     placed-after Pm ok h Z t = along Z t (0 + t) (omega arith)

@@ -13,7 +13,7 @@ use Rattle.algebra.specs.Residue.{residues}
 use Rattle.algebra.specs.Gauss.{gauss, imag}
 use Rattle.algebra.specs.Axis.{AxisLaws}
 use Rattle.algebra.specs.Line.{pack-by}
-use Rattle.algebra.specs.Kinds.{Kind, Kind.plain, Kind.hermitian, Kind.antisymmetric, slots, before, after, pack-before, pack-after, RuleBefore}
+use Rattle.algebra.specs.Kinds.{Kind, Kind.plain, Kind.hermitian, Kind.antisymmetric, slots, unfoldBefore, unfoldAfter, packBefore, packAfter, RuleBefore}
 use Rattle.algebra.specs.Cell.{J, Group, Cell, friedel, negI}
 use Rattle.algebra.specs.CellSteps.{Lawful, afterL, afterH, afterK, backK, backH}
 use Rattle.algebra.proofs.Laws.{along}
@@ -99,10 +99,10 @@ module _ (g : Group) (ok : Admitted g) (a : J) (m : ℕ) {tx ty tz : ℕ → Val
     abbrev boxed : ℕ → ℕ → ℕ → Value m
     boxed w h k = packed g a m (lineKind g h) (λ l. F h k l) w
 
-    boxed-in : (h k t : ℕ) → t < slots (lineKind g h) (a .2) → boxed (firstPair (lineKind g h) + t) h k ≡ pack-before (field m) (conj m) (i m) (real m (half m)) (a .2) (lineKind g h) (F h k) t
+    boxed-in : (h k t : ℕ) → t < slots (lineKind g h) (a .2) → boxed (firstPair (lineKind g h) + t) h k ≡ packBefore (field m) (conj m) (i m) (real m (half m)) (a .2) (lineKind g h) (F h k) t
     boxed-in h k t lt =
         packed-in g a m (F h k) (lineKind g h) (firstPair (lineKind g h) + t) (omega arith) (omega (arith, lt))
-        ∙ along (pack-before (field m) (conj m) (i m) (real m (half m)) (a .2) (lineKind g h) (F h k)) (firstPair (lineKind g h) + t - firstPair (lineKind g h)) t (omega arith)
+        ∙ along (packBefore (field m) (conj m) (i m) (real m (half m)) (a .2) (lineKind g h) (F h k)) (firstPair (lineKind g h) + t - firstPair (lineKind g h)) t (omega arith)
 
     -- the pairs that are no part of a line are zero before and after
     ends : (h k : ℕ) → h < rows g a → k < columns g a → lineKind g h ≡ antisymmetric → (w : ℕ) → (w ≡ 0) ⊎ (w ≡ a .2) → boxed w h k ≡ L F h k w
@@ -140,12 +140,12 @@ module _ (g : Group) (ok : Admitted g) (a : J) (m : ℕ) {tx ty tz : ℕ → Val
 
   module _ (T : Cell (Value m)) where
     pub pass-h : pass (alongH g a) (turnedH g a m 0) (planesOf T) ≡ planesOf (afterH (field m) (axis m (a .0)) T)
-    unfolding slots before pack-after afterH
+    unfolding slots unfoldBefore packAfter afterH
     pass-h = sweep-h g a m (forwardValues m (a .0) plain) (λ w h k. T h k w) (λ w h k. afterH (field m) (axis m (a .0)) T h k w)
         (λ w k lw lk p e t lt. dft-cong (field-ring m) (2 * a .0) _ _ _ t e)
 
     pub back-h : pass (alongH g a) (turnedH g a m 1) (planesOf T) ≡ planesOf (backH (field m) (conj m) (axis m (a .0)) T)
-    unfolding slots after pack-before backH
+    unfolding slots unfoldAfter packBefore backH
     back-h = sweep-h g a m (inverseValues m (a .0) plain) (λ w h k. T h k w) (λ w h k. backH (field m) (conj m) (axis m (a .0)) T h k w)
         (λ w k lw lk p e t lt. ap (λ y. field m .mul (axis m (a .0) .part) y) (dft-cong (field-ring m) (2 * a .0) _ _ _ t e))
 
@@ -160,16 +160,16 @@ module _ (g : Group) (ok : Admitted g) (a : J) (m : ℕ) {tx ty tz : ℕ → Val
     last-real = sym (at-mirror (field-ring m) (2 * a .1) (λ t x. conj m x) X rule (a .1) (a .1) (𝓨 .positive) (𝓨 .positive) (omega arith))
 
     joined-values : (v : ℕ → Pair) → ((t : ℕ) → t < columns g a → v t ≡ pairOf (X t)) → (t : ℕ) → t < a .1
-        → valueOf m (joined (a .1) v t) ≡ pack-before (field m) (conj m) (i m) (real m (half m)) (a .1) hermitian X t
-    unfolding joined pack-before pack-by pairOf
+        → valueOf m (joined (a .1) v t) ≡ packBefore (field m) (conj m) (i m) (real m (half m)) (a .1) hermitian X t
+    unfolding joined packBefore pack-by pairOf
     joined-values v e zero l =
         ap₂ (λ x y. valueOf m (record { re = x .re; im = y .re })) (e 0 (omega arith)) (e (a .1) (omega arith))
         ∙ value-numbers m (X 0) (X (a .1)) ∙ sym (joined-reals m (X 0) (X (a .1)) first-real last-real)
     joined-values v e (suc t) l = ap (valueOf m) (e (suc t) (omega arith)) ∙ value-pair m (X (suc t))
 
-    parted-values : (v : ℕ → Value m) → ((t : ℕ) → t < a .1 → v t ≡ pack-before (field m) (conj m) (i m) (real m (half m)) (a .1) hermitian X t)
+    parted-values : (v : ℕ → Value m) → ((t : ℕ) → t < a .1 → v t ≡ packBefore (field m) (conj m) (i m) (real m (half m)) (a .1) hermitian X t)
         → (t : ℕ) → t < columns g a → parted (a .1) (λ t. pairOf (v t)) t ≡ pairOf (X t)
-    unfolding parted pairOf pack-before pack-by
+    unfolding parted pairOf packBefore pack-by
     parted-values v e = by-half (a .1) (λ t. parted (a .1) (λ t. pairOf (v t)) t ≡ pairOf (X t)) first last between
       where
         both : v 0 ≡ ((X 0) .0, (X (a .1)) .0)
@@ -191,15 +191,15 @@ module _ (g : Group) (ok : Admitted g) (a : J) (m : ℕ) {tx ty tz : ℕ → Val
 
   -- a row of a real map
   row-pair : (M : Cell (Value m)) (x z : ℕ) → ((y : ℕ) → y < 2 * a .1 → conj m (M x y z) ≡ M x y z) → (t : ℕ) → t < a .1
-      → valueOf m (mapPair g a M z x t) ≡ pack-after (field m) (conj m) (i m) (real m (half m)) (a .1) hermitian (λ y. M x y z) t
-  unfolding pack-after
+      → valueOf m (mapPair g a M z x t) ≡ packAfter (field m) (conj m) (i m) (real m (half m)) (a .1) hermitian (λ y. M x y z) t
+  unfolding packAfter
   row-pair M x z r t l =
       ap (valueOf m) (mapPair-low g a m M z x t l) ∙ value-numbers m (M x (2 * t) z) (M x (2 * t + 1) z)
       ∙ sym (joined-reals m (M x (2 * t) z) (M x (2 * t + 1) z) (r (2 * t) (omega arith)) (r (2 * t + 1) (omega arith)))
 
   pair-row : (M : Cell (Value m)) (x z : ℕ) → ((y : ℕ) → y < 2 * a .1 → conj m (M x y z) ≡ M x y z) → (t : ℕ) → t < a .1
-      → pairOf (pack-after (field m) (conj m) (i m) (real m (half m)) (a .1) hermitian (λ y. M x y z) t) ≡ mapPair g a M z x t
-  unfolding pack-after pairOf
+      → pairOf (packAfter (field m) (conj m) (i m) (real m (half m)) (a .1) hermitian (λ y. M x y z) t) ≡ mapPair g a M z x t
+  unfolding packAfter pairOf
   pair-row M x z r t l =
       ap pairOf (joined-reals m (M x (2 * t) z) (M x (2 * t + 1) z) (r (2 * t) (omega arith)) (r (2 * t + 1) (omega arith)))
       ∙ sym (mapPair-low g a m M z x t l)
@@ -259,7 +259,7 @@ module _ (g : Group) (ok : Admitted g) (a : J) (m : ℕ) {tx ty tz : ℕ → Val
         rule x z lx lz = inverse-rule (field-ring m) (field-star m) 𝓨 hermitian (λ y. M x y z) (λ y ly. real-at x y z lx ly lz)
 
         unparted : (x z : ℕ) → x < rows g a → z < layers g a → (l : List ℕ) → ((t : ℕ) → t < columns g a → at l t ≡ mapPair g a M z x t) → (t : ℕ) → t < a .1
-            → inverseValues m (a .1) hermitian (valuesOf m l) t ≡ pack-before (field m) (conj m) (i m) (real m (half m)) (a .1) hermitian (λ k. backK (field m) (conj m) (axis m (a .1)) M x k z) t
+            → inverseValues m (a .1) hermitian (valuesOf m l) t ≡ packBefore (field m) (conj m) (i m) (real m (half m)) (a .1) hermitian (λ k. backK (field m) (conj m) (axis m (a .1)) M x k z) t
         unparted x z lx lz l e t lt = back-packed (field-ring m) (field-star m) 𝓨 hermitian (λ y. M x y z) (valuesOf m l) (λ y ly. real-at x y z lx ly lz)
             (λ s ls. ap (valueOf m) (e s (omega (arith, ls))) ∙ row-pair M x z (λ y ly. real-at x y z lx ly lz) s ls) t lt
 

@@ -10,7 +10,8 @@ use Rattle.algebra.specs.Cell.{negI, halfI, flip, turn, im, pim, span, lineRep,
 use Rattle.algebra.specs.CellTests.{below, every, everyPlace, agreesT, consistentFactorsT, consistentMapT, zeroT, lineFrom, planeFrom, cellFrom, recordsOf}
 use Rattle.algebra.specs.CellPack.{even, packAlt, unpackAlt, timesI, overI, packFactors as packFactors-algebra, unpack, upd, putAlt, putFactor}
 use Rattle.algebra.specs.Orbit.{written, recorded, recordAll, Accepted, cellOf, OffAll, Sound, putAll}
-use Rattle.algebra.specs.Kinds.{slots, before, after, pack-before, pack-after, fold-forward, fold-back}
+use Rattle.algebra.specs.Kinds.{slots, unfoldBefore, unfoldAfter, packBefore, packAfter}
+use Rattle.algebra.specs.FoldKinds.{fold-forward, fold-back}
 use Rattle.algebra.specs.Ring.{pow, cast, sum}
 use Rattle.algebra.specs.Gauss.{gauss, conj, imag}
 use Rattle.algebra.specs.Residue.{residue, residues}
@@ -28,5 +29,5 @@ use Rattle.printing.specs.Printed.{printed}
 use Rattle.printing.specs.Specimen.{PrintedSpecimen}
 
 pub specimen-printed : PrintedSpecimen
-unfolding volumeOf lineIn factorsIn packed packFactors mapPair packMap mapIn numbersRead all writeAlternating write writeImages recordIn agreesWithItself zeroPair consistentFactors orbitNumbers orbitFree consistentMap validJob openStep recordStep synthesisStep analysisStep pointStep factorStep admitted factorsOk digits cleared first negI halfI flip turn im pim span lineRep rep planes prep mapOf factorsOf sgn star pimp imp factorActs mapActs below every everyPlace agreesT consistentFactorsT consistentMapT zeroT lineFrom planeFrom cellFrom recordsOf even packAlt unpackAlt timesI overI packFactors-algebra unpack upd putAlt putFactor written recorded recordAll Accepted cellOf OffAll Sound putAll slots before after pack-before pack-after fold-forward fold-back pow cast sum gauss conj imag residue residues dft three re im-algebra unfold-by pack-by weave unit prime exponent choice root entryAt tableRoot half part valueOf pairOf at put puts allBelow octal product twoBytes fourBytes listAt list2At list3At countAt recordAt recordsFrom feed fileStep digitsOf each headLine rowLine mapText refusalText printed
+unfolding volumeOf lineIn factorsIn packed packFactors mapPair packMap mapIn numbersRead all writeAlternating write writeImages recordIn agreesWithItself zeroPair consistentFactors orbitNumbers orbitFree consistentMap validJob openStep recordStep synthesisStep analysisStep pointStep factorStep admitted factorsOk digits cleared first negI halfI flip turn im pim span lineRep rep planes prep mapOf factorsOf sgn star pimp imp factorActs mapActs below every everyPlace agreesT consistentFactorsT consistentMapT zeroT lineFrom planeFrom cellFrom recordsOf even packAlt unpackAlt timesI overI packFactors-algebra unpack upd putAlt putFactor written recorded recordAll Accepted cellOf OffAll Sound putAll slots unfoldBefore unfoldAfter packBefore packAfter fold-forward fold-back pow cast sum gauss conj imag residue residues dft three re im-algebra unfold-by pack-by weave unit prime exponent choice root entryAt tableRoot half part valueOf pairOf at put puts allBelow octal product twoBytes fourBytes listAt list2At list3At countAt recordAt recordsFrom feed fileStep digitsOf each headLine rowLine mapText refusalText printed
 specimen-printed = record { shown = refl }

@@ -9,7 +9,7 @@ use lib.ListN.{length, take, drop, getD, set, length-append, length-drop, length
 use lib.Dec.{ltb}
 use lib.Seq.{drop-drop, drop-at, getD-set-same, getD-set-other}
 use borrow.Author.Tests.{lt-ltb, le-ltb}
-use Rattle.algebra.specs.Kinds.{Kind, Kind.hermitian, slots, forward, back}
+use Rattle.algebra.specs.Kinds.{Kind, Kind.hermitian, slots, forward, inverse}
 use Rattle.algebra.proofs.Laws.{along}
 use Rattle.numbers.specs.declared.Pair.{Pair}
 use Rattle.numbers.specs.Prime.{prime, IsModulus}
@@ -50,7 +50,7 @@ module _ (m a kind : ℕ) (l : List ℕ) where
 
   pub turned-inverse : transformed m kind 1 (2 * a) l ≡ turnedLine m a 1 (kindOf kind) l
   unfolding transformed transform rootOf
-  turned-inverse = along (λ c. listOf (slots (kindOf kind) c) (back (field m) (conj m) (i m) (real m (half m)) c (axis m a .w) (axis m a .part) (kindOf kind) (valuesOf m l))) (2 * a / 2) a (half-length a)
+  turned-inverse = along (λ c. listOf (slots (kindOf kind) c) (inverse (field m) (conj m) (i m) (real m (half m)) c (axis m a .w) (axis m a .part) (kindOf kind) (valuesOf m l))) (2 * a / 2) a (half-length a)
 
 -- by the direction that the code has tested
 module _ {m direction : ℕ} {re im tan : List ℕ} (tables : TablesOf m direction re im tan) where

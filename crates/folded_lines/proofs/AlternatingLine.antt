@@ -1,4 +1,4 @@
--- The passes and the plain transform between them make up the alternating line's transform, as the algebra's specs/Kinds says it.
+-- The passes and the plain transform between them make up the alternating line's transform, as the algebra's specs/FoldKinds says it.
 use mathlib.Core.Path.{_≡_, sym, _∙_, ap, ap₂}
 use mathlib.Core.List.{List}
 use Prim.Native.Nat.{ℕ, zero, suc, _+_, _*_, _-_, _/_, _%_, _<_}

@@ -1,5 +1,5 @@
 -- What a transform of a line computes: the six kinds, both directions, by direct sums over the whole line of N values.
--- `before` and `after` of algebra's Kinds are the whole line of what is packed before and after the transform, `forward` and `back` the sums, packed again.
+-- `unfoldBefore` and `unfoldAfter` of algebra's Kinds are the whole line of what is packed before and after the transform, `forward` and `inverse` the sums, packed again.
 use mathlib.Core.List.{List}
 use Prim.Native.Nat.{ℕ, zero, suc, _*_, _/_}
 use Rattle.algebra.specs.Ring.{pow}

@@ -88,7 +88,7 @@ pub extern "C" fn recorder_record(
 pub extern "C" fn recorder_synthesis(held: Job, volume: &mut [u32], scratch: &mut [u32]) -> JobCoded
     ensures { λ r. ⌜ (r, now (volume .exit), now (scratch .exit)) ≡ workCoded (synthesisStep held (now (volume .entry)) (now (scratch .entry))) ⌝ }
 {
-    answers::answered_coded(transforms::synthesis(held, volume, scratch))
+    answers::answered_coded(held.synthesis(volume, scratch))
 }
 
 // From the map to its factors.
@@ -96,7 +96,7 @@ pub extern "C" fn recorder_synthesis(held: Job, volume: &mut [u32], scratch: &mu
 pub extern "C" fn recorder_analysis(held: Job, volume: &mut [u32], scratch: &mut [u32]) -> JobCoded
     ensures { λ r. ⌜ (r, now (volume .exit), now (scratch .exit)) ≡ workCoded (analysisStep held (now (volume .entry)) (now (scratch .entry))) ⌝ }
 {
-    answers::answered_coded(transforms::analysis(held, volume, scratch))
+    answers::answered_coded(held.analysis(volume, scratch))
 }
 
 // Reads a point of the map.

@@ -2,3 +2,4 @@ pub mod Header
 pub mod Steps
 pub mod Said
 pub mod Calls
+pub mod Plans

@@ -8,6 +8,9 @@ pub mod open; // open.rt: the opening
 pub mod point; // point.rt: the reading of a point
 pub mod factor; // factor.rt: the reading of a structure factor
 pub mod record; // record.rt: the recording of a structure factor
+pub mod synthesis; // synthesis.rt: from the factors to the map
+pub mod analysis; // analysis.rt: from the map to the factors
+mod plan; // plan.rt: a job's numbers as the lines of its volume take them
 
 use refusal_order::Refusal;
 

@@ -20,7 +20,7 @@ fn print_job(job: Job, volume: &mut [u32], out: &mut [u8]) -> TextAnswer
     ensures { λ r. ⌜ textOutcome r (now (out .exit)) ≡ putText (synthesisText (synthesisStep job (now (volume .entry)) (replicate scratchLength 0) .outcome)) (now (out .entry)) ⌝ }
 {
     let mut scratch = [0u32; 11520];
-    let answered = transforms::synthesis(job, volume, &mut scratch);
+    let answered = job.synthesis(volume, &mut scratch);
     let answer = answered.answer;
     match answer {
         Answer::Refused(refusal) => return refusal::refusal_text(refusal, 0, out),

@@ -32,11 +32,11 @@ pub fn call_at(
 fn synthesis_call(job: Job, volume: &mut [u32], scratch: &mut [u32]) -> Called
     ensures { λ r. ⌜ callOutcome r (now (volume .exit)) (now (scratch .exit)) ≡ callStep job (now (volume .entry)) (now (scratch .entry)) (synthesis (now (scratch .entry))) ⌝ }
 {
-    calls::of_answered(transforms::synthesis(job, volume, scratch))
+    calls::of_answered(job.synthesis(volume, scratch))
 }
 
 fn analysis_call(job: Job, volume: &mut [u32], scratch: &mut [u32]) -> Called
     ensures { λ r. ⌜ callOutcome r (now (volume .exit)) (now (scratch .exit)) ≡ callStep job (now (volume .entry)) (now (scratch .entry)) (analysis (now (scratch .entry))) ⌝ }
 {
-    calls::of_answered(transforms::analysis(job, volume, scratch))
+    calls::of_answered(job.analysis(volume, scratch))
 }

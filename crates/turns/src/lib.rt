@@ -9,18 +9,45 @@ mod rows; // rows.rt: one row along k
 use axes::Line;
 use axes::Plan;
 ghost use mathlib.Core.Path.{_≡_};
+ghost use Prim.Native.Nat.{_≤_};
 ghost use lib.ListN.{length};
 ghost use Rattle.numbers.specs.Prime.{prime};
 ghost use Rattle.slices.specs.Pairs.{Below};
+ghost use Rattle.lengths.specs.Lengths.{scratchLength, cleared};
 ghost use Rattle.volume_lines.specs.Lines.{TablesOf, TablesFor, Lent, Kept};
 ghost use Rattle.axes.specs.Lines.{Placed, lineTurned};
 ghost use Rattle.axes.specs.Axes.{lineCount};
 ghost use Rattle.axes.specs.Plans.{groupIn, halvesIn, Planned, Fitting, planTurn};
 ghost use Rattle.passes.specs.Turns.{turns};
 
+// A whole volume. The tables are made once, and lent down; the scratch is cleared of what the lines left there.
+pub fn transform_volume(plan: Plan, volume: &mut [u32], scratch: &mut [u32])
+    requires { ⌜ Planned plan × (plan .m ≡ 1) ⌝ }
+    requires { ⌜ Fitting plan (now volume) × (scratchLength ≤ length (now scratch)) ⌝ }
+    ensures { λ _. ⌜ (now (volume .exit) ≡ turns (planTurn plan) 0 (lineCount (groupIn plan) (halvesIn plan)) (now (volume .entry))) × (now (scratch .exit) ≡ cleared (now (scratch .entry))) ⌝ }
+{
+    let re = roots::real_parts(1);
+    let im = tables::imaginary_parts(plan.direction);
+    let tan = tables::half_tangents(plan.direction);
+    let mut fold = [0u32; 5760];
+    let mut work = [0u32; 5760];
+    turn_volume(
+        1,
+        plan,
+        &re,
+        &im,
+        &tan,
+        volume,
+        scratch,
+        &mut fold,
+        &mut work,
+    );
+    buffers::clear(scratch, 11520);
+}
+
 // Every line of the job, one after the other. The modulus goes down beside the plan as a number of its own, so that the
 // compiler can see the constant that the calls hand in.
-pub fn turn_volume<'a>(
+fn turn_volume<'a>(
     m: u32,
     plan: Plan,
     re: &'a [u32; 2880],

@@ -1,15 +1,14 @@
 -- The tables are those of the direction, and the scratch is cleared of what the lines left there.
 use borrow.Author.Needs.{needs}
 use native.Mathlib.Omega.{arith}
-use mathlib.Core.Path.{refl, _∙_, ap}
+use mathlib.Core.Path.{_∙_, sym, ap}
 use mathlib.Core.List.{List, _++_}
 use Prim.Native.Nat.{ℕ}
 use lib.ListN.{replicate}
-use Rattle.numbers.proofs.Primes.{first-modulus}
 use Rattle.lengths.specs.Lengths.{cleared}
-use Rattle.transforms.proofs.Directions.{tables-of}
-use Rattle.transforms.proofs.work.turn_lines.Statement.{statement}
-use Rattle.transforms.proofs.work.turn_lines.Tie as tie
+use Rattle.turns.proofs.Directions.{tables-of}
+use Rattle.turns.proofs.transform_volume.Statement.{statement}
+use Rattle.turns.proofs.transform_volume.Tie as tie
 
 real-parts-requires : tie.Need-real-parts-requires
 real-parts-requires c κs = search needs
@@ -30,8 +29,8 @@ turn-volume-requires : tie.Need-turn-volume-requires
 turn-volume-requires c κs =
     let h = c .before .before .before .before .before .before .before in
     let s = h .before .before .before .before .before in (
-      (record { modulus = first-modulus; directed = s .pre .0 .0; sizes = s .pre .0 .1 }, tables-of (h .before .before .real-parts .ensures) (s .args .direction) (h .before .imaginary-parts .ensures) (h .half-tangents .ensures), refl),
-      (record { long = s .pre .1 .0 .0; small = s .pre .1 .0 .1 }, record { scratch-fits = s .pre .1 .1; fold-fits = omega arith; work-fits = omega arith }),
+      (s .pre .0 .0, tables-of (h .before .before .real-parts .ensures) (s .pre .0 .1) (s .args .plan .direction) (h .before .imaginary-parts .ensures) (h .half-tangents .ensures), sym (s .pre .0 .1)),
+      (s .pre .1 .0, record { scratch-fits = s .pre .1 .1; fold-fits = omega arith; work-fits = omega arith }),
     )
 
 clear-requires : tie.Need-clear-requires
@@ -53,8 +52,8 @@ returns c =
     let t = k .before .before .before .before .before .before .before .before in
     (t .turn-volume .ensures .0, k .clear .ensures ∙ ap (λ (s : List ℕ). replicate 11520 0 ++ s) (t .turn-volume .ensures .1))
 
-pub turn-lines-spec : {M : Type 1} → statement M
-turn-lines-spec =
+pub transform-volume-spec : {M : Type 1} → statement M
+transform-volume-spec =
     tie.close
     (tie.spec
     real-parts-requires

@@ -1,2 +1,0 @@
-pub mod Directions
-pub mod Outcomes

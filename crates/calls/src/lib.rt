@@ -1,4 +1,4 @@
-// The calls of a script that a job answers itself: a record and the two readings, by their numbers, each answered as three numbers.
+// The calls of a script that transform nothing: a record and the two readings, by their numbers, each answered as three numbers.
 use call_numbers::CallNumbers;
 use call_numbers::Reply;
 use job::Answered;

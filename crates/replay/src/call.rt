@@ -1,4 +1,4 @@
-// One call of a script: its six numbers told apart by the first, the job's own call or its transform, and the answer as three numbers.
+// One call of a script: its six numbers told apart by the first, the job's call that they stand for, and the answer as three numbers.
 use calls::Called;
 use job::Job;
 ghost use mathlib.Core.Path.{_≡_};

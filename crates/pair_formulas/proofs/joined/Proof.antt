@@ -18,7 +18,7 @@ sum-requires : tie.Need-sum-requires
 sum-requires c κs = let s = c .before in (s .pre .0, s .pre .3, s .pre .4)
 
 negated-requires : tie.Need-negated-requires
-negated-requires c κs = let s = c .before .before in (s .pre .0, s .pre .4)
+negated-requires c κs = search needs
 
 turned-half-requires-2 : tie.Need-turned-half-requires-2
 turned-half-requires-2 c κs =

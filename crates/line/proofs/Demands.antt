@@ -24,7 +24,7 @@ use Rattle.lengths.specs.Admitted.{AdmittedLength}
 use Rattle.kinds.proofs.Axes.{own, axis-own}
 use Rattle.kinds.proofs.Reading.{forward-cong, back-cong}
 use Rattle.lengths.specs.Lengths.{admitted}
-use Rattle.line.specs.Demands.{wholeBefore, wholeAfter, ForwardIsSum, BackIsSum, Restored, RestoredAfter}
+use Rattle.line.specs.Demands.{wholeBefore, wholeAfter, RulesKept, ForwardIsSum, BackIsSum, Restored, RestoredAfter}
 use Rattle.lengths.proofs.AdmittedLengths.{admitted-length}
 
 -- The theory at an admitted length, with A = N/2.
@@ -68,6 +68,14 @@ module _ (m : ℕ) (is : IsModulus m) (N : ℕ) (size : AdmittedLength N) where
     list-restored-after =
         list-cong m (pairCount kind N) _ (valuesOf m line) (forward-back (kindOf kind) (valuesOf m line) _ (values-list m (pairCount kind N) (transform m (kindOf kind) 1 N (valuesOf m line))))
         ∙ sym (list-values m (pairCount kind N) line len small)
+
+pub rules-kept : RulesKept
+rules-kept = record {
+  kept-before = λ m kind N X is e. before-rule (field-ring m) (field-star m) (axis m is N (admitted-length N e)) (kindOf kind) X;
+  kept-after = λ m kind N X is e. after-rule (field-ring m) (field-star m) (axis m is N (admitted-length N e)) (kindOf kind) X;
+  whole-before = λ m kind N X is e r t l. let h = admitted-length N e in before-pack (field-ring m) (field-star m) (axis m is N h) (kindOf kind) X r t (omega (arith, h .whole));
+  whole-after = λ m kind N X is e r s l. let h = admitted-length N e in after-pack (field-ring m) (field-star m) (axis m is N h) (kindOf kind) X r s (omega (arith, h .whole));
+}
 
 pub forward-is-sum : ForwardIsSum
 unfolding dft

@@ -7,7 +7,7 @@ use mathlib.Core.List.{List}
 use Prim.Native.Nat.{ℕ, _*_, _-_, _/_, _<_}
 use lib.ListN.{length}
 use Rattle.algebra.specs.Ring.{Ops, pow, sum}
-use Rattle.algebra.specs.Kinds.{unfoldBefore, unfoldAfter}
+use Rattle.algebra.specs.Kinds.{unfoldBefore, unfoldAfter, packBefore, packAfter, RuleBefore, RuleAfter}
 use Rattle.numbers.specs.Prime.{prime, IsModulus}
 use Rattle.numbers.specs.Value.{Value, field, conj, i, half, part, real}
 use Rattle.slices.specs.Pairs.{Below}
@@ -22,6 +22,16 @@ wholeBefore m kind N X = unfoldBefore (field m) (conj m) (i m) (real m (half m))
 
 abbrev pub wholeAfter : (m kind N : ℕ) → (ℕ → Value m) → ℕ → Value m
 wholeAfter m kind N X = unfoldAfter (field m) (conj m) (i m) (real m (half m)) (N / 2) (kindOf kind) X
+
+-- What a packed line stands for keeps the rule of its kind, before the transform and after it; and what is packed of a line that keeps the rule stands for
+-- that line. So the packing loses nothing, and the sums below are those of every line of the kind.
+pub record RulesKept : Type 0 where
+  pub kept-before : (m kind N : ℕ) (X : ℕ → Value m) → IsModulus m → admitted N ≡ true → RuleBefore (field m) (conj m) (i m) (real m (half m)) (N / 2) (kindOf kind) (wholeBefore m kind N X)
+  pub kept-after : (m kind N : ℕ) (X : ℕ → Value m) → IsModulus m → admitted N ≡ true → RuleAfter (field m) (conj m) (i m) (real m (half m)) (N / 2) (kindOf kind) (wholeAfter m kind N X)
+  pub whole-before : (m kind N : ℕ) (X : ℕ → Value m) → IsModulus m → admitted N ≡ true → RuleBefore (field m) (conj m) (i m) (real m (half m)) (N / 2) (kindOf kind) X → (t : ℕ) → t < N →
+      wholeBefore m kind N (packBefore (field m) (conj m) (i m) (real m (half m)) (N / 2) (kindOf kind) X) t ≡ X t
+  pub whole-after : (m kind N : ℕ) (X : ℕ → Value m) → IsModulus m → admitted N ≡ true → RuleAfter (field m) (conj m) (i m) (real m (half m)) (N / 2) (kindOf kind) X → (s : ℕ) → s < N →
+      wholeAfter m kind N (packAfter (field m) (conj m) (i m) (real m (half m)) (N / 2) (kindOf kind) X) s ≡ X s
 
 -- Direction 0: the value at s is the sum over t of the value at t times e(ts/N).
 pub record ForwardIsSum : Type 0 where

@@ -9,7 +9,7 @@ ghost use Rattle.lengths.specs.Lengths.{scratchLength};
 ghost use Rattle.line.specs.Accepted.{Accepted};
 ghost use Rattle.line.specs.Line.{lineStep, lineOutcome};
 ghost use Rattle.line.specs.Specimens.{Specimens};
-ghost use Rattle.line.specs.Demands.{ForwardIsSum, BackIsSum, Restored, RestoredAfter, TakenBack};
+ghost use Rattle.line.specs.Demands.{RulesKept, ForwardIsSum, BackIsSum, Restored, RestoredAfter, TakenBack};
 
 // The answer of a line.
 pub enum LineAnswer {
@@ -92,9 +92,9 @@ pub fn starred_lines()
     ensures { λ _. ⌜ Specimens ⌝ }
 {}
 
-// The second demand: what is computed is the direct sum over the whole line ..
+// The second demand: a packed line stands for a whole line of its kind, and what is computed is the direct sum over that ..
 pub fn direct_sums()
-    ensures { λ _. ⌜ ForwardIsSum × BackIsSum ⌝ }
+    ensures { λ _. ⌜ RulesKept × ForwardIsSum × BackIsSum ⌝ }
 {}
 
 // .. and each direction restores what the other was lent, call after call.

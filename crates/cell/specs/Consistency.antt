@@ -1,10 +1,11 @@
 -- Records, and the tests behind refusals 12, 14 and 24.
 -- A record at j implies a value at each image of j under the group with Friedel's rule (`full g`); an image is written where it is stored.
 use mathlib.Core.Path.{_≡_}
+use mathlib.Core.Logic.{_↔_}
 use mathlib.Core.Bool.{Bool, true, _&&_, not, cond}
 use mathlib.Core.List.{List, [], _∷_, _++_}
-use Prim.Native.Nat.{ℕ, _+_, _*_}
-use lib.ListN.{getD, set}
+use Prim.Native.Nat.{ℕ, _+_, _*_, _≤_}
+use lib.ListN.{length, getD, set}
 use lib.Dec.{eqb}
 use Rattle.algebra.specs.Residue.{Res}
 use Rattle.algebra.specs.Cell.{J, Inside, Sym, Group, P1, P2₁, Pm, Pa, P2₁2₁2₁, Cell, full, ops, im, pim, imp, factorActs, MapObeys}
@@ -14,9 +15,10 @@ use Rattle.algebra.specs.Orbit.{Mem, recorded}
 use Rattle.algebra.specs.CellTests.{every, everyPlace, imply, storedT, storedPointT, agreesT}
 use Rattle.algebra.specs.CellPack.{even}
 use Rattle.numbers.specs.declared.Pair.{Pair}
+use Rattle.numbers.specs.Prime.{prime}
 use Rattle.numbers.specs.Value.{Value, field, conj, real, pairOf}
-use Rattle.slices.specs.Pairs.{at, put}
-use Rattle.cell.specs.Volume.{layers, rows, columns, pairPlace, mapPlace, numbersRead, lineIn, packFactors, packMap}
+use Rattle.slices.specs.Pairs.{at, put, Below}
+use Rattle.cell.specs.Volume.{Admitted, volumeLength, layers, rows, columns, pairPlace, mapPlace, numbersRead, lineIn, packFactors, packMap}
 
 -- two values have the same numbers
 abbrev pub sameValue : {p : ℕ} → Res p × Res p → Res p × Res p → Bool
@@ -110,3 +112,8 @@ module _ (g : Group) (a : J) where
 
     abbrev pub MapConsistent : List ℕ → Type 0
     MapConsistent v = (M : Cell (Value m)) × RealMap M × ObeysGroup M × (packMap g a m M ≡ v)
+
+-- Refusal 14, which stands behind the refusals of a volume's length and of numbers that are no residues, is exactly this for any axes.
+pub record ConsistentExactly : Type 0 where
+  pub factors : (g : Group) → Admitted g → (a : J) → (1 ≤ a .0) × (1 ≤ a .1) × (1 ≤ a .2) → (m : ℕ) (v : List ℕ) → length v ≡ volumeLength g a → Below (prime m) v → (consistentFactors g a m v ≡ true) ↔ FactorsConsistent g a m v
+  pub maps : (g : Group) (a : J) → (1 ≤ a .0) × (1 ≤ a .1) × (1 ≤ a .2) → (m : ℕ) (v : List ℕ) → length v ≡ volumeLength g a → Below (prime m) v → (consistentMap g a v ≡ true) ↔ MapConsistent g a m v

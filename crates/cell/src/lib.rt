@@ -1,3 +1,11 @@
 // Cells of structure factors and maps.
 pub mod operations; // operations.rt: the groups' operations, the images of an index and of a point, implied values
 pub mod places; // places.rt: where factors and points stand in a volume
+
+ghost use Rattle.cell.specs.Consistency.{ConsistentExactly};
+
+// Refusal 14 in the paper's words: the tests decide whether a whole cell that obeys the group, and Friedel's rule, has these packed
+// factors or this map. The function does nothing: it is there for its promise.
+pub fn consistent_exactly()
+    ensures { λ _. ⌜ ConsistentExactly ⌝ }
+{}

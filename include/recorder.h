@@ -4,7 +4,8 @@
 
    Numbers. A residue is 0 to 86,398. A value a + b i is two neighbouring residues, a pair. Every answer has a number: 0 for an
    accepted call, else the number of the first refusal that applies, in the order given at each call. A refused call changes no buffer
-   and no job; what only an accepted call gives is then 0.
+   and no job, but for recorder_open_file, which leaves the volume zero where it refuses a record; what only an accepted call gives is
+   then 0.
 
    Buffers. A buffer is a pointer and the count of its elements. The pointer is not null and is aligned, even for no elements; the
    memory is the caller's, initialised, and no two buffers of one call overlap. No call keeps a pointer.

@@ -47,6 +47,7 @@ pub record Beside (len : ℕ) (x : Line) : Type 0 where
   pub hermitian : x .kind ≡ 1
   pub counted : x .count ≡ x .half + 1
   pub fits : 2 * x .start + 2 * x .count ≤ len
+  -- 2 * 2880 * 2880 * 1441: no lengths have a longer volume
   pub low : 2 * x .start + 2 * x .count ≤ 23904460800
 
 -- a line that is gathered, or a row

@@ -48,6 +48,7 @@ pub record Counted (p : Plan) (c : Counts) : Type 0 where
   pub l : c .l ≡ alongL (groupIn p) (halvesIn p) .count
   pub h : c .h ≡ alongH (groupIn p) (halvesIn p) .count
   pub k : c .k ≡ alongK (groupIn p) (halvesIn p) .count
+  -- 2 * 2880 * 1441 + 2880 * 2880: no lengths have more lines
   pub low : c .l + c .h + c .k ≤ 16594560
 
 -- ---- the line of a number

@@ -1,6 +1,7 @@
 // Two values of a Hermitian line braided to one, and a braid taken apart: the formulas of one pair, which the passes of `braiding` cite.
 //
-// x and y are X(t) and X(A + t), e is e(t/N); at t = 0 both are reals, which share a pair.
+// x and y are X(t) and X(A + t), e is e(t/N); at t = 0 both are reals, which share a pair. On the way back x and y are Y(t) and
+// conj Y(A - t) of the braid, and e is e(-t/N).
 use numbers::Pair;
 ghost use mathlib.Core.Path.{_≡_};
 ghost use Prim.Native.Nat.{ℕ};

@@ -1,6 +1,6 @@
 -- What every fold is lent: the tables of a root of order 2,880 and the half of an admitted length N = 2 A.
--- The forms that the folds compute are those of the algebra's specs/Folds and specs/FoldKinds, over the values of modulus number m; the line crate's theorems say
--- that they are the direct sums over the whole line.
+-- The forms that the folds compute are those of the algebra's specs/Folds and specs/FoldKinds, over the values of modulus number m; the theorems of crate
+-- kinds say that they are the direct sums over the whole line.
 use mathlib.Core.Path.{_≡_}
 use mathlib.Core.List.{List}
 use Prim.Native.Nat.{ℕ, _*_, _/_, _<_}

@@ -3,7 +3,7 @@
 //
 // A line of N = 2 A values is lent packed, as its kind says. Each pass reads one slice and fills another; the formula of one
 // pair is a function of its own, and the ends of a line (the pair 0, the middle) are cases of that function.
-// The forms are those of document 001, proved equal to the direct sums in the crate `line`.
+// The forms are those of document 001, proved equal to the direct sums in the crate `kinds`.
 ghost use mathlib.Core.Path.{_≡_};
 ghost use Prim.Native.Nat.{_*_, _<_, _≤_};
 ghost use Rattle.numbers.specs.Prime.{prime, IsModulus};

@@ -46,7 +46,7 @@ pub fn finish(
     }
 }
 
-// The transform at the place s, up to A.
+// The transform at the place s, up to A. An antisymmetric line asks for neither end: it is zero at both, and they are not stored.
 fn finish_at(
     m: u32,
     tan: &[u32; 1440],

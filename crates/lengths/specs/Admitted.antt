@@ -17,5 +17,6 @@ pub record AdmittedLength (N : ℕ) : Type 0 where
 
 -- A factor list in octal digits, as the plain transform takes it, of the A points of a folded line.
 pub record FactorList (N factors : ℕ) : Type 0 where
+  -- eight octal digits: 1440 = 2^5 * 3^2 * 5 has no more factors
   pub small : factors < 16777216
   pub folded : Factored factors (N / 2)

@@ -17,7 +17,7 @@ unfoldable pub factorsOk : List ℕ → Bool
 factorsOk [] = true
 factorsOk (f ∷ l) = isFactor f && factorsOk l
 
--- The list that a number holds in its octal digits, the first factor lowest (plain's `octal` is the number of a list):
+-- The list that a number holds in its octal digits, the first factor lowest (`octal` of crate factors is the number of a list):
 -- digits to a base, the lowest first, of at most `count` digits.
 unfoldable pub digits : (base count n : ℕ) → List ℕ
 digits base zero n = []

@@ -17,7 +17,8 @@ pub fn open_row(direction: u32, size: usize, row: &mut [u32])
     }
 }
 
-// The pair B is not part of the transformed line: synthesis leaves zeros there, analysis the factor that it came with.
+// The pair B is no part of the packed line. Synthesis leaves two zeros there; analysis puts the factor of k = B there, which is real and
+// which the packed line has in the second number of pair 0.
 pub fn close_row(direction: u32, size: usize, row: &mut [u32])
     requires { ⌜ (1 < size) × (length (now row) ≡ size + 2) ⌝ }
     ensures { λ _. ⌜ now (row .exit) ≡ closed direction size (now (row .entry)) ⌝ }

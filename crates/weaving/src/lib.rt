@@ -29,7 +29,8 @@ pub fn weave(m: u32, a: usize, line: &[u32], fold: &mut [u32])
     }
 }
 
-// b(0), the sum of the imaginary parts at the odd places: the short transform does not tell it.
+// b(0) of X^(0) = E(0) + i b(0) (crate unweaving): the sum of the imaginary parts at the odd places. The short transform at s = 0 is
+// E(0) - b(0) and does not tell the two apart.
 pub fn odd_imaginary_sum(m: u32, a: usize, line: &[u32]) -> u32
     requires { ⌜ IsModulus m × (a ≤ 1440) ⌝ }
     requires { ⌜ (length (now line) ≡ 2 * a) × Below (prime m) (now line) ⌝ }

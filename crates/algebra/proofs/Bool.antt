@@ -55,11 +55,6 @@ pub split-both : {A B : Type 0} (P : A → B → Type 0) (b : Bool) {x y : A} {u
 split-both P true f g = f tt
 split-both P false f g = g tt
 
--- a test that holds
-pub cond-true : {A : Type 0} (P : A → Type 0) (b : Bool) {x : A} (y : A) → T b → P x → P (cond b x y)
-cond-true P true y t p = p
-cond-true P false y t p = absurd t
-
 -- a test at every member of a list, and at every number below n
 pub every-at : {S : Type 0} (l : List S) (P : S → Bool) (s : S) → T (every l P) → Mem s l → T (P s)
 unfolding every

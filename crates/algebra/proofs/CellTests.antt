@@ -8,9 +8,9 @@ use native.Mathlib.Omega.{arith}
 use lib.Dec.{T, leb, leb→le, ltb→lt, le→leb, lt→ltb}
 use Rattle.algebra.specs.Ring.{Ops, CRing, Star}
 use Rattle.algebra.specs.Orbit.{Perm, Acts, AgreesWithItself, Obeying, recordAll, Accepted, cellOf, Consistent}
-use Rattle.algebra.specs.Cell.{J, Inside, Sym, Group, P1, P2₁, Pm, Pa, P2₁2₁2₁, ops, full, im, pim, sameJ, span, Stored, rep, planes, StoredPoint, prep, Cell, at, imp, factorActs, mapActs}
+use Rattle.algebra.specs.Cell.{J, Inside, Sym, Group, P1, P2₁, Pm, Pa, P2₁2₁2₁, ops, full, im, pim, sameJ, span, Stored, rep, planes, StoredPoint, prep, Cell, imp, factorActs, mapActs}
 use Rattle.algebra.specs.CellSteps.{Lawful}
-use Rattle.algebra.specs.CellTests.{below, everyPlace, storedT, storedPointT, agreesT, consistentFactorsT, consistentMapT, zeroT}
+use Rattle.algebra.specs.CellTests.{below, everyPlace, storedT, storedPointT, agreesT, consistentFactorsT, consistentMapT}
 use Rattle.algebra.proofs.Bool.{and-l, and-r, and-i, imply-iff, every-at, every-by, below-at, below-by}
 use Rattle.algebra.proofs.Orbits as O
 use Rattle.algebra.proofs.CellGroup.{factor-action, map-action, closed, map-closed, rep-in, rep-st, prep-in, prep-st, sameJ-eq, sameJ-refl}
@@ -87,15 +87,6 @@ module _ {R : Type 0} {𝓞 : Ops R} {conj : R → R} {i : R} (𝓡 : CRing 𝓞
   unfolding factorActs cellOf
   factor-read F o j n = inv (O.cell-of-obeying (factor-action 𝓡 𝓢 a) (full g) (closed 𝓡 𝓢 a g) (Stored g a) (rep g a) (λ j n. rep-in g a j) (λ j n. rep-st g a j n) F o j n)
 
-  -- 24
-  pub zero-test : (F : J → R) → Obeying 𝓐 (Inside a) (full g) F → (j : J) → Inside a j → T (zeroT 𝓞 conj eq g a F j) ↔ (F j ≡ 𝟘)
-  unfolding zeroT factorActs
-  zero-test F o j n =
-      let m = rep-in g a j in (
-        λ t. O.orbit-zero (factor-action 𝓡 𝓢 a) (full g) (closed 𝓡 𝓢 a g) (rep g a j) j F n m o .0 (eq-iff _ _ .0 (imply-iff (storedT g a (im a (rep g a j) j)) _ .0 (every-at (full g) _ (rep g a j) t m) (stored-iff g a (im a (rep g a j) j) .1 (rep-st g a j n)))),
-        λ e. every-by (full g) _ (λ s ms. imply-iff (storedT g a (im a s j)) _ .1 (λ t. eq-iff _ _ .1 (O.orbit-zero (factor-action 𝓡 𝓢 a) (full g) (closed 𝓡 𝓢 a g) s j F n ms o .1 e))),
-      )
-
   -- 14 of a map
   consistent-map-test : (m : J → R) → T (consistentMapT 𝓞 conj eq g a m) ↔ Consistent 𝓜 (Inside a) (StoredPoint g a) (ops g) m
   unfolding consistentMapT mapActs
@@ -104,25 +95,10 @@ module _ {R : Type 0} {𝓞 : Ops R} {conj : R → R} {i : R} (𝓡 : CRing 𝓞
     λ w. every-place-by _ _ _ _ (λ j hn km lq. every-by (ops g) _ (λ s m. imply-iff (storedPointT g a (pim a s j)) _ .1 (λ t. eq-iff _ _ .1 (w s m j (hn, km, omega (arith, planes-fit g (a .2) (long .2))) lq (ltb→lt _ _ t))))),
   )
 
-  pub map-test : (m : J → R) → T (consistentMapT 𝓞 conj eq g a m) ↔ ((M : J → R) × Obeying 𝓜 (Inside a) (ops g) M × ((x : J) → Inside a x → StoredPoint g a x → M x ≡ m x))
-  unfolding mapActs
-  map-test b = let w = O.consistent-iff (map-action 𝓡 𝓢 a) (ops g) (map-closed 𝓡 𝓢 a g) (StoredPoint g a) (prep g a) (λ j n. prep-in g a j) (λ j n. prep-st g a j n) b in
-      (λ t. w .0 (consistent-map-test b .0 t), λ f. consistent-map-test b .1 (w .1 f))
-
   pub map-read : (m M : J → R) → Obeying 𝓜 (Inside a) (ops g) M → ((x : J) → Inside a x → StoredPoint g a x → M x ≡ m x) → (x : J) → Inside a x → M x ≡ cellOf 𝓜 (prep g a) m x
   unfolding mapActs
   map-read m M = O.consistent-one (map-action 𝓡 𝓢 a) (ops g) (map-closed 𝓡 𝓢 a g) (StoredPoint g a) (prep g a) (λ j n. prep-in g a j) (λ j n. prep-st g a j n) m M
 
-  -- an accepted list of records: the cell obeys; in another order it is accepted too, and leaves the same cell
-  pub records-obey : (rs : List (J × R)) (F : J → R) → Accepted 𝓐 (Inside a) (full g) rs F → Obeying 𝓐 (Inside a) (full g) F → Obeying 𝓐 (Inside a) (full g) (recordAll 𝓐 (full g) rs F)
-  unfolding factorActs
-  records-obey = O.all-obeys (factor-action 𝓡 𝓢 a) (full g) (closed 𝓡 𝓢 a g)
-
   pub records-order : {rs qs : List (J × R)} → Perm rs qs → (F : J → R) → Accepted 𝓐 (Inside a) (full g) rs F → Accepted 𝓐 (Inside a) (full g) qs F × (recordAll 𝓐 (full g) rs F ≡ recordAll 𝓐 (full g) qs F)
   unfolding factorActs
   records-order = O.reorder (factor-action 𝓡 𝓢 a) (full g) (closed 𝓡 𝓢 a g)
-
-  -- obeying, said of a curried cell
-  pub lawful-obeying : (F : Cell R) → Lawful 𝓞 conj a g F ↔ Obeying 𝓐 (Inside a) (full g) (at F)
-  unfolding factorActs
-  lawful-obeying F = (λ o. o, λ o. o)

@@ -56,14 +56,3 @@ module _ {R : Type 0} {𝓞 : Ops R} (𝓡 : CRing 𝓞) where
 
       im : (𝟙 ⊕ ⊖ (𝟘 ⊗ t ⊕ ⊖ (𝟙 ⊗ 𝟘))) ⊗ (𝟘 ⊕ d) ⊕ (𝟘 ⊕ ⊖ (𝟘 ⊗ 𝟘 ⊕ 𝟙 ⊗ t)) ⊗ (𝟙 ⊕ c) ≡ 𝟘 ⊕ 𝟘
       im = linear 𝓡 up (⊖ 𝟙) (ring 𝓡 (c ∷ d ∷ t ∷ []) (search quote depth 40 fits 9999) refl)
-
-  -- the rule t (1 + c) = d, of real values
-  pub tan-real : (c d t : R) → t ⊗ (𝟙 ⊕ c) ≡ d → gauss 𝓞 .mul (t, 𝟘) (gauss 𝓞 .add (gauss 𝓞 .one) (c, 𝟘)) ≡ (d, 𝟘)
-  unfolding gauss
-  tan-real c d t up = λ j. (re j, im j)
-    where
-      re : t ⊗ (𝟙 ⊕ c) ⊕ ⊖ (𝟘 ⊗ (𝟘 ⊕ 𝟘)) ≡ d
-      re = linear 𝓡 up 𝟙 (ring 𝓡 (c ∷ d ∷ t ∷ []) (search quote depth 40 fits 9999) refl)
-
-      im : t ⊗ (𝟘 ⊕ 𝟘) ⊕ 𝟘 ⊗ (𝟙 ⊕ c) ≡ 𝟘
-      im = ring 𝓡 (c ∷ t ∷ []) (search quote depth 40 fits 9999) refl

@@ -44,4 +44,3 @@ pub mod CellPack
 pub mod CellRecord
 pub mod CellRefusals
 pub mod CellWriter
-pub mod CellModel

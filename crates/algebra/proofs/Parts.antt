@@ -122,9 +122,3 @@ module _ {R : Type 0} {𝓞 : Ops R} (𝓡 : CRing 𝓞) (h : R) (halves : 𝓞 
   pub real-gauss : (z : R × R) → conjG 𝓞 z ≡ z → z .1 ≡ 𝟘
   unfolding conjG
   real-gauss z r = self-neg 𝓡 h halves (z .1) (sym (ap (λ y. y .1) r))
-
-  -- x + i y of two reals is the pair of their numbers
-  pub pair-gauss : (x y : R × R) → conjG 𝓞 x ≡ x → conjG 𝓞 y ≡ y → (gauss 𝓞) .add x ((gauss 𝓞) .mul (imag 𝓞) y) ≡ (x .0, y .0)
-  unfolding gauss imag
-  pair-gauss x y rx ry = pair (ap (λ b. x .0 ⊕ (𝟘 ⊗ y .0 ⊕ ⊖ (𝟙 ⊗ b))) (real-gauss y ry) ∙ ring 𝓡 (x .0 ∷ y .0 ∷ []) (search quote depth 40 fits 9999) refl)
-      (ap₂ (λ a b. a ⊕ (𝟘 ⊗ b ⊕ 𝟙 ⊗ y .0)) (real-gauss x rx) (real-gauss y ry) ∙ ring 𝓡 (y .0 ∷ []) (search quote depth 40 fits 9999) refl)

@@ -57,9 +57,6 @@ module _ (p : ℕ) where
   unfolding residue
   residue-less x h = val-path (sym (N.mod-eq-sub-mod h))
 
-  pub residue-injective : (x y : ℕ) → x < p → y < p → residue p x ≡ residue p y → x ≡ y
-  residue-injective x y hx hy e = sym (val-residue x hx) ∙ ap (λ a. a .val) e ∙ val-residue y hy
-
   pub residue-ring : 0 < p → CRing (residues p)
   unfolding residues residue
   residue-ring pos = record {

@@ -1,11 +1,11 @@
 -- The half tangents of an axis: their laws at both roots, and the cosecant and the cotangent that they give.
 use mathlib.Core.Path.{_≡_, refl, sym, _∙_, ap, ap₂}
 use mathlib.Core.List.{[], _∷_}
-use Prim.Native.Nat.{ℕ, _+_, _<_, _-_}
+use Prim.Native.Nat.{ℕ, _<_, _-_}
 use native.Mathlib.Omega.{arith}
 use Rattle.algebra.specs.Ring.{Ops, CRing, Star, pow}
 use Rattle.algebra.specs.Axis.{Axis, AxisLaws}
-use Rattle.algebra.proofs.Laws.{mul-one, pow-add, neg-mul}
+use Rattle.algebra.proofs.Laws.{pow-add, neg-mul}
 use Rattle.algebra.proofs.Solver.{ring, quote, linear}
 use Rattle.algebra.proofs.Conj.{conj-pow}
 use native.Mathlib.Nat as N
@@ -55,19 +55,6 @@ module _ {R : Type 0} {𝓞 : Ops R} {conj : R → R} {i : R} (𝓡 : CRing 𝓞
 
       step : (i t c f u : R) → i ⊗ i ≡ ⊖ 𝟙 → ⊖ (i ⊗ c) ⊗ (𝟙 ⊕ f) ≡ ⊖ (i ⊗ t) ⊗ (𝟙 ⊕ f) → u ⊗ (𝟙 ⊕ f) ≡ 𝟙 → c ≡ t
       step i t c f u a b k = linear 𝓡 b (i ⊗ u) (linear 𝓡 a (u ⊗ (𝟙 ⊕ f) ⊗ (c ⊕ ⊖ t)) (linear 𝓡 k (t ⊕ ⊖ c) (ring 𝓡 (i ∷ t ∷ c ∷ f ∷ u ∷ []) (search quote depth 40 fits 9999) refl)))
-
-  pub tau-mirror : (s u : ℕ) → 0 < s → 0 < u → s + u ≡ A → tau s ⊗ tau u ≡ 𝟙
-  tau-mirror s u p q e = step i (tau s) (tau u) (pow 𝓞 w s) (pow 𝓞 w u) (half ⊗ (𝟙 ⊕ ⊖ (i ⊗ tau s))) (half ⊗ (𝟙 ⊕ ⊖ (i ⊗ tau u))) i-square (tan-up s p (omega arith)) (tan-up u q (omega arith)) (below s p (omega arith)) (below u q (omega arith)) (sym (pow-add 𝓡 w s u) ∙ ap (pow 𝓞 w) e ∙ turn)
-    where
-      -- i t (1 + e) i v (1 + f) = (e - 1)(f - 1), and e f = -1 makes (e - 1)(f - 1) = - (1 + e)(1 + f)
-      step : (i t v e f a b : R) → i ⊗ i ≡ ⊖ 𝟙 → i ⊗ t ⊗ (𝟙 ⊕ e) ≡ e ⊕ ⊖ 𝟙 → i ⊗ v ⊗ (𝟙 ⊕ f) ≡ f ⊕ ⊖ 𝟙 → a ⊗ (𝟙 ⊕ e) ≡ 𝟙 → b ⊗ (𝟙 ⊕ f) ≡ 𝟙 → e ⊗ f ≡ ⊖ 𝟙 → t ⊗ v ≡ 𝟙
-      step i t v e f a b ii ht hv ha hb ef = sym (unit (t ⊗ v)) ∙ ap (λ y. a ⊗ b ⊗ y) (core ∙ sym (mul-one 𝓡 _)) ∙ unit 𝟙
-        where
-          unit : (x : R) → a ⊗ b ⊗ ((𝟙 ⊕ e) ⊗ (𝟙 ⊕ f) ⊗ x) ≡ x
-          unit x = linear 𝓡 ha (b ⊗ (𝟙 ⊕ f) ⊗ x) (linear 𝓡 hb x (ring 𝓡 (a ∷ b ∷ e ∷ f ∷ x ∷ []) (search quote depth 40 fits 9999) refl))
-
-          core : (𝟙 ⊕ e) ⊗ (𝟙 ⊕ f) ⊗ (t ⊗ v) ≡ (𝟙 ⊕ e) ⊗ (𝟙 ⊕ f)
-          core = linear 𝓡 ii ((𝟙 ⊕ e) ⊗ (𝟙 ⊕ f) ⊗ (t ⊗ v)) (linear 𝓡 ht (⊖ (i ⊗ v ⊗ (𝟙 ⊕ f))) (linear 𝓡 hv (𝟙 ⊕ ⊖ e) (linear 𝓡 ef (⊖ (𝟙 ⊕ 𝟙)) (ring 𝓡 (i ∷ t ∷ v ∷ e ∷ f ∷ []) (search quote depth 40 fits 9999) refl))))
 
   -- cosecant and cotangent out of two half tangents
   abbrev pub csc : ℕ → R

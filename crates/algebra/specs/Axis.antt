@@ -1,7 +1,7 @@
 -- An axis of even length: its data, which is all that a contract cites, and its laws, which folds and cells ask for.
 use mathlib.Core.Path.{_≡_}
 use Prim.Native.Nat.{ℕ, _*_, _<_}
-use Rattle.algebra.specs.Ring.{Ops, pow, cast}
+use Rattle.algebra.specs.Ring.{Ops, pow}
 use Rattle.algebra.specs.Fourier.{Root}
 
 -- half the length N = 2 * half, the root w = e(1/N), and 1/N; the other root is the conjugate of w
@@ -16,10 +16,6 @@ module _ {R : Type 0} (𝓞 : Ops R) where
   infixl 65 _⊕_
   infixl 70 _⊗_
   infix 75 ⊖_
-  -- the axis of length 2 * a, from a root r of order d * (2 * a) and the inverse of that order
-  abbrev pub axisFrom : (r part : R) (d a : ℕ) → Axis R
-  axisFrom r part d a = record { half = a; w = pow 𝓞 r d; part = part ⊗ cast 𝓞 d }
-
   -- half is 1/2; tau s is the tangent of half the angle of w^s
   pub record AxisLaws (conj : R → R) (i half : R) (axis : Axis R) (tau : ℕ → R) : Type 0 where
     pub positive : 0 < axis .half

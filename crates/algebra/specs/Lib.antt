@@ -13,4 +13,3 @@ pub mod Cell
 pub mod CellSteps
 pub mod CellTests
 pub mod CellPack
-pub mod CellModel

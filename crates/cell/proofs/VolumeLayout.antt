@@ -1,5 +1,5 @@
 -- The layout of a volume: which pair stands at a place, and that a list of the volume's length is known by its pairs, a map by its numbers.
-use mathlib.Core.Path.{_≡_, refl, sym, _∙_, ap, subst}
+use mathlib.Core.Path.{_≡_, sym, _∙_, ap, subst}
 use mathlib.Core.Logic.{⊎-elim}
 use mathlib.Core.List.{List}
 use Prim.Native.Nat.{ℕ, _+_, _*_, _/_, _%_, _<_}
@@ -57,10 +57,6 @@ module _ (g : Group) (a : J) where
 
     pub below-volume : (p : ℕ) → 0 < p → ((w h k : ℕ) → w < layers g a → h < rows g a → k < columns g a → Small p (f w h k)) → Below p (volumeOf g a f)
     below-volume p z s = below-at p (pairCount g a) (volumeOf g a f) length-volume z (by-place (λ j. Small p (at (volumeOf g a f) j)) (λ w h k lw lh lk. subst (Small p) (sym (at-volume w h k lw lh lk)) (s w h k lw lh lk)))
-
-  -- a list is the volume of its own pairs
-  pub volume-at : (v : List ℕ) → length v ≡ volumeLength g a → v ≡ volumeOf g a (λ w h k. at v (pairPlace g a w h k))
-  volume-at v ev = is-volume _ v ev (λ w h k lw lh lk. refl)
 
   pub volume-cong : (f f′ : ℕ → ℕ → ℕ → Pair) → ((w h k : ℕ) → w < layers g a → h < rows g a → k < columns g a → f w h k ≡ f′ w h k) → volumeOf g a f ≡ volumeOf g a f′
   volume-cong f f′ e = is-volume f′ (volumeOf g a f) (length-volume f) (λ w h k lw lh lk. at-volume f w h k lw lh lk ∙ e w h k lw lh lk)

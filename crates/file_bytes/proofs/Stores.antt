@@ -43,8 +43,5 @@ module _ {q r : ℕ} {xs l m : List ℕ} (p : Put q xs l r m) where
 
 -- ---- room for a list: for what stands in front of it, and for what is left once that is stored
 
-pub room-front : (q : ℕ) (l xs ys : List ℕ) → Room q (length (xs ++ ys)) l → Room q (length xs) l
-room-front q l xs ys r = omega (arith, r, length-append xs ys)
-
 pub room-rest : {q r : ℕ} {xs l m : List ℕ} (ys : List ℕ) → Put q xs l r m → Room q (length (xs ++ ys)) l → Room r (length ys) m
 room-rest {xs = xs} ys p w = omega (arith, p .next, w, length-append xs ys, put-length p)

@@ -1,6 +1,6 @@
 -- Values a + b i and the pairs that hold them: each stands for the other, the values are a commutative ring with a conjugation,
 -- and what the code does with the two numbers of a pair is the operation of that ring.
-use mathlib.Core.Path.{_≡_, refl, sym, _∙_, ap, ap₂}
+use mathlib.Core.Path.{_≡_, refl, _∙_, ap, ap₂}
 use mathlib.Core.List.{List, [], _∷_}
 use Prim.Native.Nat.{ℕ, _+_, _*_, _-_, _<_}
 use Rattle.algebra.specs.Ring.{Ops, CRing, Star}
@@ -42,10 +42,6 @@ small-by m z e = rw e (small-pair m z)
 
 pub value-by : (m : ℕ) {v : Pair} (z : Value m) → v ≡ pairOf z → valueOf m v ≡ z
 value-by m z e = rw e (value-pair m z)
-
--- a value is determined by its pair
-pub pair-injective : (m : ℕ) (y z : Value m) → pairOf y ≡ pairOf z → y ≡ z
-pair-injective m y z e = sym (value-pair m y) ∙ ap (valueOf m) e ∙ value-pair m z
 
 pub field-ring : (m : ℕ) → CRing (field m)
 field-ring m = gauss-ring (res-ring m)

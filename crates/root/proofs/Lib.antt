@@ -3,6 +3,5 @@ pub mod Roots
 pub mod RootNegated
 pub mod RootPowers
 pub mod RootTangents
-pub mod RootAxis
 pub mod RootChoice
 pub mod RootLaws

@@ -15,7 +15,7 @@ use Rattle.numbers.specs.Prime.{prime, IsModulus}
 use Rattle.numbers.specs.Value.{Value, ring, field, conj, i, pairOf, Small}
 use Rattle.root.specs.Root.{root, RealTable, ImaginaryTable, TangentTable, AllBelow, NegatedTable, entryAt, tableRoot, RootTable}
 use Rattle.numbers.proofs.Residues.{res-by, below-by}
-use Rattle.numbers.proofs.Values.{pair-path, value-path, small-by, field-ring, field-star}
+use Rattle.numbers.proofs.Values.{pair-path, value-path, field-ring, field-star}
 use Rattle.root.proofs.Roots.{full-turn, root-inverse, quarter-turn, root-of-unity}
 
 module _ (m : ℕ) where
@@ -47,12 +47,6 @@ module _ (m : ℕ) where
       quarter = rw holds-root (turning .quarter);
     }
 
-  pub table-small : {re im : List ℕ} → RootTable m re im → (k : ℕ) → k < 2880 → Small (prime m) (entryAt re im k)
-  table-small h k l = small-by m _ (h .entry k l)
-
-  pub real-below : {t : List ℕ} → RealTable m t → length t ≡ 2880 → AllBelow (prime m) t
-  real-below h e = record { below = λ k l. below-by m ((pow (field m) (root m) k) .0) (h .entry k (omega arith)) }
-
   pub imaginary-below : {t : List ℕ} → ImaginaryTable m t → length t ≡ 2880 → AllBelow (prime m) t
   imaginary-below h e = record { below = λ k l. below-by m ((pow (field m) (root m) k) .1) (h .entry k (omega arith)) }
 
@@ -83,9 +77,6 @@ module _ (m : ℕ) (is : IsModulus m) {re im : List ℕ} (hr : RealTable m re) (
   pub table-root : tableRoot m re im ≡ root m
   table-root = holds-root m (root m) (root-turning m is) re im (hr .entry) (hi .entry)
 
-  pub table-entry : (k : ℕ) → k < 2880 → entryAt re im k ≡ pairOf (pow (field m) (root m) k)
-  table-entry = holds-entry m (root m) (root-turning m is) re im (hr .entry) (hi .entry)
-
   module _ {u : List ℕ} (hu : NegatedTable m 2880 im u) where
     backward-re : (k : ℕ) → k < 2880 → getD re k 0 ≡ (pow (field m) (conj m (root m)) k) .0 .val
     unfolding Gauss.conj
@@ -100,6 +91,3 @@ module _ (m : ℕ) (is : IsModulus m) {re im : List ℕ} (hr : RealTable m re) (
 
     pub conj-table-root : tableRoot m re u ≡ conj m (root m)
     conj-table-root = holds-root m (conj m (root m)) (conj-turning m is) re u backward-re backward-im
-
-    pub conj-table-entry : (k : ℕ) → k < 2880 → entryAt re u k ≡ pairOf (pow (field m) (conj m (root m)) k)
-    conj-table-entry = holds-entry m (conj m (root m)) (conj-turning m is) re u backward-re backward-im

@@ -8,20 +8,19 @@ use lib.ListN.{getD}
 use Rattle.algebra.specs.Ring.{Ops, pow}
 use Rattle.algebra.specs.Residue.{residues}
 use Rattle.algebra.specs.Gauss.{gauss}
-use Rattle.algebra.specs.Line.{re, im}
 use Rattle.algebra.specs.Gauss as Gauss
 use Rattle.algebra.proofs.Laws.{pow-add, neg-neg, neg-mul, mul-neg}
 use Rattle.algebra.proofs.Solver.{ring, quote, linear}
 use Rattle.algebra.proofs.Transform.{pow-zero, inverse-pow}
 use Rattle.algebra.proofs.Conj.{conj-pow}
-use Rattle.algebra.proofs.HalfTangents.{circle-parts, sine-inverse, tan-sine, tan-mirror, tan-cosecant, tan-cotangent, tan-law, tan-real}
+use Rattle.algebra.proofs.HalfTangents.{circle-parts, sine-inverse, tan-sine, tan-mirror, tan-cosecant, tan-cotangent, tan-law}
 use Rattle.numbers.specs.Prime.{IsModulus}
 use Rattle.numbers.specs.Value.{Value, Residue, field, conj, i, res, real, half}
 use Rattle.numbers.specs.Value as Value
 use Rattle.root.specs.Root.{root, TangentTable, NegatedTable, TangentLaws, BackwardTangents}
 use Rattle.numbers.proofs.Residues.{res-ring, res-by}
 use Rattle.numbers.proofs.Values.{field-ring, field-star}
-use Rattle.numbers.proofs.Parts.{half-residue, re-value, im-value}
+use Rattle.numbers.proofs.Parts.{half-residue}
 use Rattle.root.proofs.Roots.{root-of-unity, half-turn}
 
 module _ (m : ℕ) (is : IsModulus m) where
@@ -91,15 +90,6 @@ module _ (m : ℕ) (is : IsModulus m) where
       cosecant = λ k p l. tan-cosecant (res-ring m) _ _ _ _ _ (on-circle k) (sine-unit k p l .1) (h .entry k l) (tau-mirrored k p l) (half m) (half-residue m);
       cotangent = λ k p l. tan-cotangent (res-ring m) _ _ _ _ _ (on-circle k) (sine-unit k p l .1) (h .entry k l) (tau-mirrored k p l) (half m) (half-residue m);
     }
-
-    -- the rule as the theory of axes asks for it
-    pub tangent-rule : (k : ℕ) → k < 1440
-        → real m (tau k) ⊗ (𝟙 ⊕ re (field m) (conj m) (i m) (real m (half m)) (r^ k)) ≡ im (field m) (conj m) (i m) (real m (half m)) (r^ k)
-    unfolding residues
-    tangent-rule k l =
-        ap (λ y. real m (tau k) ⊗ (𝟙 ⊕ y)) (re-value m (r^ k))
-        ∙ tan-real (res-ring m) (r^ k .0) (r^ k .1) (tau k) (h .entry k l)
-        ∙ sym (im-value m (r^ k))
 
     -- the conjugate root c - i d and -tau
     turned-entry : (k : ℕ) → k < 1440 → (⊟ tau k) ⊠ (𝟏 ⊞ r^ k .0) ≡ ⊟ (r^ k .1)

@@ -1,19 +1,19 @@
 -- Lists of small numbers: read, stored to, and tested.
-use mathlib.Core.Path.{_≡_, refl, sym, ap, _∙_, subst}
+use mathlib.Core.Path.{_≡_, refl, sym, ap, subst}
 use mathlib.Core.Logic.{⊎-elim}
-use mathlib.Core.Bool.{Bool, true, false, _&&_, false≢true}
-use mathlib.Core.List.{List, [], _∷_, _++_}
+use mathlib.Core.Bool.{Bool, true, false, _&&_}
+use mathlib.Core.List.{List, [], _∷_}
 use Prim.Native.Nat.{ℕ, zero, suc, _+_, _-_, _*_, _<_, _≤_}
 use native.Mathlib.Numerals.{add-one}
 use native.Mathlib.Omega.{arith}
 use lib.Dec.{ltb}
 use lib.ListN.{length, getD, set, take, drop, replicate, length-take, length-replicate, getD-replicate, drop-of-length-le, List·getD-eq-default, List·getD-append}
-use lib.Seq.{getD-set-same, getD-set-other, set-out, drop-cons, getD-take, getD-drop, getD-append-add}
+use lib.Seq.{getD-set-same, getD-set-other, set-out, drop-cons, getD-take, getD-drop}
 use borrow.Author.Tests.{lt-ltb, le-ltb, ltb-true}
 use Rattle.numbers.specs.declared.Pair.{Pair}
 use Rattle.numbers.specs.Value.{Small}
 use Rattle.slices.specs.Pairs.{at, put, puts, tab, Below, allBelow}
-use Rattle.slices.specs.Segments.{segment, setSegment}
+use Rattle.slices.specs.Segments.{segment}
 use Rattle.slices.proofs.Pairs.{lt-or-ge, eq-or-ne, by-pairs, length-tab, at-tab}
 
 pub small-at : (m : ℕ) (l : List ℕ) (j : ℕ) → Below m l → Small m (at l j)
@@ -73,24 +73,11 @@ below-take {m} {l} n h = below-each m (take n l) (positive h) (λ k lt. rw (getD
 pub below-drop : {m : ℕ} {l : List ℕ} (n : ℕ) → Below m l → Below m (drop n l)
 below-drop {m} {l} n h = record { each = λ k. rw (getD-drop n l k 0) (h .each (n + k)) }
 
-pub below-append : {m : ℕ} {s t : List ℕ} → Below m s → Below m t → Below m (s ++ t)
-below-append {m} {s} {t} h k = record {
-  each = λ i. ⊎-elim
-      (λ (lt : i < length s). rw (List·getD-append s t 0 i lt) (h .each i))
-      (λ (ge : length s ≤ i).
-      let e : length s + (i - length s) ≡ i = omega arith in
-      subst (λ (x : ℕ). getD (s ++ t) x 0 < m) e (rw (getD-append-add s t (i - length s) 0) (k .each (i - length s))))
-      (lt-or-ge i (length s));
-}
-
 pub below-replicate : {m : ℕ} (n v : ℕ) → v < m → Below m (replicate n v)
 below-replicate {m} n v h = below-each m (replicate n v) (omega arith) (λ k lt. rw (getD-replicate n k v 0 (omega (arith, length-replicate {A = ℕ} n v))) h)
 
 pub below-segment : {m : ℕ} {l : List ℕ} (a e : ℕ) → Below m l → Below m (segment a e l)
 below-segment a e h = below-take (e - a) (below-drop a h)
-
-pub below-setSegment : {m : ℕ} {l ys : List ℕ} (a e : ℕ) → Below m l → Below m ys → Below m (setSegment a e l ys)
-below-setSegment a e h k = below-append (below-take a h) (below-append k (below-drop (e - a) (below-drop a h)))
 
 -- ---- the test
 
@@ -120,9 +107,6 @@ pub allBelow-below : (m : ℕ) (l : List ℕ) → Below m l → allBelow m l ≡
 unfolding allBelow
 allBelow-below m [] h = refl
 allBelow-below m (x ∷ l) h = rw (lt-ltb x m (below-head h)) (allBelow-below m l (below-tail h))
-
-pub allBelow-not : (m : ℕ) (l : List ℕ) → allBelow m l ≡ false → Below m l → ⊥
-allBelow-not m l e h = false≢true (sym e ∙ allBelow-below m l h)
 
 pub below-allBelow : (m : ℕ) (l : List ℕ) → 0 < m → allBelow m l ≡ true → Below m l
 unfolding allBelow

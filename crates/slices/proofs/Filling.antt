@@ -3,13 +3,11 @@ use mathlib.Core.Path.{_≡_, refl, sym, ap, _∙_, subst}
 use mathlib.Core.Logic.{_≢_}
 use mathlib.Core.List.{List}
 use Prim.Native.Nat.{ℕ, _+_, _*_, _<_, _≤_}
-use native.Mathlib.Nat.{suc-mul, zero-mul}
-use native.Mathlib.Numerals.{add-one}
 use native.Mathlib.Omega.{arith}
 use lib.ListN.{length}
 use Rattle.numbers.specs.declared.Pair.{Pair}
-use Rattle.slices.specs.Pairs.{at, put, puts, fills, tab, Filling}
-use Rattle.slices.proofs.Pairs.{length-put, puts-next, length-puts, at-puts-other, puts-ext, puts-add, fills-tab}
+use Rattle.slices.specs.Pairs.{at, put, puts, tab, Filling}
+use Rattle.slices.proofs.Pairs.{length-put, puts-next, at-puts-other, fills-tab}
 
 module _ {p : ℕ → ℕ} {f : ℕ → Pair} {n : ℕ} {d₀ : List ℕ} where
   pub filling-start : Filling p f n 0 d₀ d₀
@@ -42,18 +40,3 @@ module _ {f : ℕ → Pair} {n j : ℕ} {d₀ d : List ℕ} where
   filling-whole h l e = filling-done h l ∙ fills-tab f n d₀ e
 
 -- ---- a loop whose turn r stores the row r of l places
-
-pub filling-row-start : {f : ℕ → Pair} {n : ℕ} {d₀ : List ℕ} (l : ℕ) → Filling (λ i. i) f n (0 * l) d₀ d₀
-filling-row-start l = rw zero-mul filling-start
-
-pub filling-row : {f : ℕ → Pair} {n : ℕ} {d₀ d e : List ℕ} (r l : ℕ) (g : ℕ → Pair) → Filling (λ i. i) f n (r * l) d₀ d → r * l + l ≤ n
-    → e ≡ puts (λ s. r * l + s) g l d → ((s : ℕ) → s < l → g s ≡ f (r * l + s)) → Filling (λ i. i) f n ((r + 1) * l) d₀ e
-filling-row {f} {n} {d₀} {d} {e} r l g h b s w = record {
-  le = omega (arith, next);
-  len = ap length s ∙ length-puts (λ s. r * l + s) g l d ∙ h .len;
-  is = s ∙ ap (puts (λ s. r * l + s) g l) (h .is) ∙ puts-ext (λ s. r * l + s) g (λ s. f (r * l + s)) l (fills f (r * l) d₀) w
-      ∙ sym (puts-add (λ i. i) f (r * l) l d₀) ∙ ap (λ (k : ℕ). fills f k d₀) (sym next);
-}
-  where
-    next : (r + 1) * l ≡ r * l + l
-    next = rw add-one (suc-mul r l)

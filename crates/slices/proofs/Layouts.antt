@@ -1,27 +1,15 @@
--- The lines of a box of pairs along each of its three indices: they lie inside, have no place in common, and cover the box.
+-- The lines of a box of pairs along each of its three indices: they lie inside, and have no place in common.
 use mathlib.Core.Path.{_≡_, sym, ap, _∙_}
 use Prim.Native.Nat.{ℕ, _+_, _*_, _/_, _%_, _<_, _≤_}
 use native.Mathlib.Omega.{arith}
-use Rattle.slices.specs.Sweep.{Disjoint, Covers, alongFirst, alongSecond, alongLast}
+use Rattle.slices.specs.Sweep.{Disjoint, alongSecond, alongLast}
 use Rattle.slices.proofs.Rows.{row-end, row-col, row-inj, row-split, block-inj, block-end}
-
-pub disjoint-first : (n count : ℕ) {len : ℕ} → 2 * (n * count) ≤ len → Disjoint (alongFirst n count) len
-disjoint-first n count b = record {
-  inside = λ y i ly li. omega (arith, row-end count li);
-  apart = λ y z i j ly lz li lj e. let w = row-inj {m = count} i j ly lz (omega arith) in (w .1, w .0);
-}
-
-pub covers-first : (n count : ℕ) → Covers (alongFirst n count) (n * count)
-covers-first n count = record { on = λ k l. let w = row-split n l in (k % count, k / count, w .1, w .0, omega (arith, w .2)) }
 
 pub disjoint-last : (n count : ℕ) {len : ℕ} → 2 * (count * n) ≤ len → Disjoint (alongLast n count) len
 disjoint-last n count b = record {
   inside = λ y i ly li. omega (arith, row-end n ly);
   apart = λ y z i j ly lz li lj e. row-inj y z li lj e;
 }
-
-pub covers-last : (n count : ℕ) → Covers (alongLast n count) (count * n)
-covers-last n count = record { on = λ k l. let w = row-split count l in (k / n, k % n, w .0, w .1, w .2) }
 
 pub disjoint-second : (blocks n k : ℕ) {len : ℕ} → 2 * (blocks * n * k) ≤ len → Disjoint (alongSecond blocks n k) len
 disjoint-second blocks n k b = record {
@@ -40,16 +28,3 @@ fits-second blocks n k b l = let w = row-split blocks l in omega (arith, row-end
 -- the line of block a and column c
 pub place-second : (blocks n k a c : ℕ) → c < k → (j : ℕ) → alongSecond blocks n k .place (a * k + c) j ≡ (a * n + j) * k + c
 place-second blocks n k a c l j = let w = row-col a l in λ x. (w .0 x * n + j) * k + w .1 x
-
-pub covers-second : (blocks n k : ℕ) → Covers (alongSecond blocks n k) (blocks * n * k)
-covers-second blocks n k = record {
-  on = λ p l.
-      let w = row-split (blocks * n) l in
-      let v = row-split blocks (w .0) in (
-        p / k / n * k + p % k,
-        p / k % n,
-        omega (arith, row-end k (v .0), w .1),
-        v .1,
-        place-second blocks n k (p / k / n) (p % k) (w .1) (p / k % n) ∙ ap (λ (x : ℕ). x * k + p % k) (v .2) ∙ w .2,
-      );
-}

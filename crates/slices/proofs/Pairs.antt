@@ -3,7 +3,7 @@ use mathlib.Core.Path.{_≡_, refl, sym, ap, _∙_, subst}
 use mathlib.Core.Logic.{_≢_, _⊎_, inl, inr, ⊎-elim}
 use mathlib.Core.List.{List}
 use Prim.Native.Nat.{ℕ, zero, suc, _+_, _-_, _*_, _/_, _%_, _<_, _≤_}
-use native.Mathlib.Nat.{eq-or-lt-of-le, le-of-suc-le-suc, not-suc-le-zero, eq-zero-or-pos, add-zero, add-suc}
+use native.Mathlib.Nat.{eq-or-lt-of-le, le-of-suc-le-suc, not-suc-le-zero, eq-zero-or-pos}
 use native.Mathlib.Numerals.{add-one}
 use native.Mathlib.Omega.{arith}
 use lib.ListN.{length, getD, set, replicate, length-set, length-replicate}
@@ -95,12 +95,6 @@ module _ (p : ℕ → ℕ) (f : ℕ → Pair) where
       (λ (e : j ≡ n). rw e (at-put-same (puts p f n d) (p n) (f n) (omega (arith, length-puts n d, ap p e))))
       (λ (m : j < n). at-put-other (puts p f n d) (p n) (p j) (f n) (λ e. h n m (omega arith) (sym e)) ∙ at-puts n j d m b (λ i li ln. h i li (omega arith)))
       (eq-or-lt-of-le (le-of-suc-le-suc l))
-
-  -- a run of stores in two parts
-  pub puts-add : (n m : ℕ) (d : List ℕ) → puts p f (n + m) d ≡ puts (λ j. p (n + j)) (λ j. f (n + j)) m (puts p f n d)
-  unfolding puts
-  puts-add n zero d = rw add-zero
-  puts-add n (suc m) d = rw add-suc (ap (λ (x : List ℕ). put x (p (n + m)) (f (n + m))) (puts-add n m d))
 
 -- the same stores, said in another way
 pub puts-same : (p q : ℕ → ℕ) (f g : ℕ → Pair) (n : ℕ) (d : List ℕ) → ((k : ℕ) → k < n → p k ≡ q k) → ((k : ℕ) → k < n → f k ≡ g k) → puts p f n d ≡ puts q g n d

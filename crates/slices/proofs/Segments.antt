@@ -1,15 +1,15 @@
 -- The numbers and the pairs inside and outside a part of a list that was lent, and runs of stores against take, drop and append.
 use mathlib.Core.Path.{_≡_, sym, ap, _∙_, subst}
 use mathlib.Core.Logic.{⊎-elim}
-use mathlib.Core.List.{List, _++_, append-assoc, append-nil}
+use mathlib.Core.List.{List, _++_, append-nil}
 use Prim.Native.Nat.{ℕ, _+_, _-_, _*_, _<_, _≤_}
 use native.Mathlib.Omega.{arith}
-use lib.ListN.{length, getD, take, drop, replicate, length-append, length-drop, length-replicate, getD-replicate, drop-of-length-le, List·getD-append}
-use lib.Seq.{length-take-le, getD-take, getD-drop, getD-append-add, drop-drop, take-at, drop-at, drop-append-le}
+use lib.ListN.{length, getD, take, drop, replicate, length-append, length-drop, getD-replicate, drop-of-length-le, List·getD-append}
+use lib.Seq.{length-take-le, getD-take, getD-drop, getD-append-add, take-at, drop-at}
 use Rattle.numbers.specs.declared.Pair.{Pair}
 use Rattle.slices.specs.Pairs.{zeroPair, at, puts, fills, tab}
 use Rattle.slices.specs.Segments.{segment, setSegment, WholePairs}
-use Rattle.slices.proofs.Pairs.{lt-or-ge, ext-pairs, tab-at, is-tab, length-puts, at-puts, at-puts-other, puts-ext, at-fills, past-fills, length-fills, at-tab, length-tab}
+use Rattle.slices.proofs.Pairs.{lt-or-ge, ext-pairs, is-tab, length-puts, at-puts, at-puts-other, at-fills, past-fills, length-fills, at-tab, length-tab}
 
 -- a fact of a list at an index that is another number said otherwise
 getD-at : (l : List ℕ) (i j : ℕ) → i ≡ j → getD l i 0 ≡ getD l j 0
@@ -28,12 +28,6 @@ module _ (a e : ℕ) (l : List ℕ) (le : a ≤ e) (fits : e ≤ length l) where
 
   pub getD-segment : (i : ℕ) → i < e - a → getD (segment a e l) i 0 ≡ getD l (a + i) 0
   getD-segment i h = getD-take (e - a) (drop a l) i 0 h ∙ getD-drop a l i 0
-
-  -- what lies after the part is what lies from e on
-  pub setSegment-drop : (ys : List ℕ) → setSegment a e l ys ≡ take a l ++ (ys ++ drop e l)
-  setSegment-drop ys =
-      let whole : a + (e - a) ≡ e = omega arith in
-      ap (λ (t : List ℕ). take a l ++ (ys ++ t)) (drop-drop (e - a) a l ∙ ap (λ (n : ℕ). drop n l) whole)
 
   length-front : length (take a l) ≡ a
   length-front = length-take-le a l (omega arith)
@@ -134,9 +128,6 @@ module _ {k n a e : ℕ} {l : List ℕ} (w : WholePairs k n a e l) where
         (lt-or-ge (j - k) n))
         (lt-or-ge j k))
 
-  pub setSegment-tab : (f : ℕ → Pair) → setSegment a e l (tab n f) ≡ puts (λ i. k + i) f n l
-  setSegment-tab f = setSegment-puts (tab n f) (length-tab f n) ∙ puts-ext (λ i. k + i) (at (tab n f)) f n l (λ i h. at-tab f n i h)
-
 -- ---- the first n pairs
 
 module _ (f : ℕ → Pair) (n : ℕ) where
@@ -157,29 +148,10 @@ module _ (f : ℕ → Pair) (n : ℕ) where
   pub drop-fills : (d : List ℕ) → 2 * n ≤ length d → drop (2 * n) (fills f n d) ≡ drop (2 * n) d
   drop-fills d b = ap (drop (2 * n)) (fills-split d b) ∙ drop-at (tab n f) (drop (2 * n) d) (2 * n) (length-tab f n)
 
-  pub fills-append : (s t : List ℕ) → 2 * n ≤ length s → fills f n (s ++ t) ≡ fills f n s ++ t
-  fills-append s t b =
-      fills-split (s ++ t) (omega (arith, length-append s t))
-      ∙ ap (λ (x : List ℕ). tab n f ++ x) (drop-append-le (2 * n) s t b)
-      ∙ sym (append-assoc (tab n f) (drop (2 * n) s) t)
-      ∙ ap (λ (x : List ℕ). x ++ t) (sym (fills-split s b))
-
--- what `&s[..e]` lends, and what the slice holds once `&mut s[..e]` has come back
-pub take-tab : (n : ℕ) (l : List ℕ) → 2 * n ≤ length l → take (2 * n) l ≡ tab n (at l)
-take-tab n l b = is-tab n (take (2 * n) l) (at l) (length-take-le (2 * n) l b) (λ j h. at-take n l j h)
-
-pub setFront-fills : (n : ℕ) (l ys : List ℕ) → 2 * n ≤ length l → length ys ≡ 2 * n → ys ++ drop (2 * n) l ≡ fills (at ys) n l
-setFront-fills n l ys b e = ap (λ (x : List ℕ). x ++ drop (2 * n) l) (tab-at n ys e) ∙ sym (fills-split (at ys) n l b)
-
 -- what `clear` leaves, in pairs
 pub at-zeros : (n k : ℕ) → k < n → at (replicate (2 * n) 0) k ≡ zeroPair
 unfolding at
 at-zeros n k h = λ x. record { re = getD-replicate (2 * n) (2 * k) 0 0 (omega arith) x; im = getD-replicate (2 * n) (2 * k + 1) 0 0 (omega arith) x }
-
-pub cleared-fills : (n : ℕ) (l : List ℕ) → 2 * n ≤ length l → replicate (2 * n) 0 ++ drop (2 * n) l ≡ fills (λ j. zeroPair) n l
-cleared-fills n l b =
-    setFront-fills n l (replicate (2 * n) 0) b (length-replicate (2 * n) 0)
-    ∙ puts-ext (λ j. j) (at (replicate (2 * n) 0)) (λ j. zeroPair) n l (λ k h. at-zeros n k h)
 
 pub cleared-all : (n : ℕ) (l : List ℕ) → length l ≤ n → replicate n 0 ++ drop n l ≡ replicate n 0
 cleared-all n l h = ap (λ (x : List ℕ). replicate n 0 ++ x) (drop-of-length-le l h) ∙ append-nil (replicate n 0)

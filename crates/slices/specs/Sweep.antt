@@ -1,8 +1,7 @@
 -- Sweeps: every line of a volume of pairs is replaced by a function of it, one line after the other.
 use mathlib.Core.Path.{_≡_}
 use mathlib.Core.List.{List}
-use Prim.Native.Nat.{ℕ, zero, suc, _+_, _*_, _/_, _%_, _<_, _≤_}
-use lib.ListN.{length}
+use Prim.Native.Nat.{ℕ, zero, suc, _+_, _*_, _/_, _%_, _<_}
 use Rattle.numbers.specs.declared.Pair.{Pair}
 use Rattle.numbers.specs.Value.{Small}
 use Rattle.slices.specs.Pairs.{at, puts, tab}
@@ -30,33 +29,15 @@ pub record Disjoint (L : Layout) (len : ℕ) : Type 0 where
   pub inside : (y i : ℕ) → y < L .count → i < L .size y → 2 * L .place y i + 1 < len
   pub apart : (y z i j : ℕ) → y < L .count → z < L .count → i < L .size y → j < L .size z → L .place y i ≡ L .place z j → (y ≡ z) × (i ≡ j)
 
--- each of the first n places is on a line
-pub record Covers (L : Layout) (n : ℕ) : Type 0 where
-  pub on : (k : ℕ) → k < n → (y : ℕ) × (i : ℕ) × (y < L .count) × (i < L .size y) × (L .place y i ≡ k)
-
 -- g makes line y of the pairs of line y alone
 pub record Local (L : Layout) (g : ℕ → (ℕ → Pair) → ℕ → Pair) : Type 0 where
   pub same : (y : ℕ) (v w : ℕ → Pair) → y < L .count → ((i : ℕ) → i < L .size y → v i ≡ w i) → (i : ℕ) → i < L .size y → g y v i ≡ g y w i
-
--- g makes pairs of numbers below m of such pairs
-pub record KeepsSmall (m : ℕ) (L : Layout) (g : ℕ → (ℕ → Pair) → ℕ → Pair) : Type 0 where
-  pub small : (y : ℕ) (v : ℕ → Pair) → y < L .count → ((i : ℕ) → i < L .size y → Small m (v i)) → (i : ℕ) → i < L .size y → Small m (g y v i)
 
 -- a function of lists, as a function of lines
 abbrev pub onLists : Layout → (ℕ → List ℕ → List ℕ) → ℕ → (ℕ → Pair) → ℕ → Pair
 onLists L G y v = at (G y (tab (L .size y) v))
 
--- The invariant of a loop whose turn y replaces line y: y turns are done, and d₀ has become d.
-pub record Sweeping (L : Layout) (g : ℕ → (ℕ → Pair) → ℕ → Pair) (y : ℕ) (d₀ d : List ℕ) : Type 0 where
-  pub le : y ≤ L .count
-  pub len : length d ≡ length d₀
-  pub is : d ≡ sweep L g y d₀
-
 -- ---- the lines of a box of pairs: `blocks` blocks of n rows of k, block a, row b, column c at place (a n + b) k + c
-
--- count lines of n places along the first index: y, y + count, ..
-abbrev pub alongFirst : (n count : ℕ) → Layout
-alongFirst n count = record { count = count; size = λ y. n; place = λ y j. y + j * count }
 
 -- along the second index: line y is that of block y / k and column y % k
 abbrev pub alongSecond : (blocks n k : ℕ) → Layout

@@ -27,10 +27,6 @@ pub length-opened : (direction n : ℕ) (l : List ℕ) → length (opened direct
 length-opened zero n l = simp length-set
 length-opened (suc d) n l = refl
 
-pub length-closed : (direction n : ℕ) (l : List ℕ) → length (closed direction n l) ≡ length l
-length-closed zero n l = simp length-set
-length-closed (suc d) n l = simp length-set
-
 pub below-opened : {p : ℕ} (direction n : ℕ) (l : List ℕ) → Below p l → Below p (opened direction n l)
 below-opened zero n l h = below-set 1 (getD l n 0) h (h .each n)
 below-opened (suc d) n l h = h

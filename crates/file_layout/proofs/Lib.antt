@@ -1,3 +1,4 @@
 pub mod ByteLaws
 pub mod Digits
 pub mod FileParts
+pub mod Heads

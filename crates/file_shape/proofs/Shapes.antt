@@ -1,4 +1,4 @@
--- The tests of a file's shape, and where the parts of a file of sound shape stand.
+-- The tests of a file's shape, where the parts of a file of sound shape stand, and that the shape does not depend on what the records say.
 use mathlib.Core.Path.{_≡_, refl, _∙_, ap}
 use mathlib.Core.Bool.{Bool, true, false, _||_, not}
 use mathlib.Core.List.{List, [], _∷_}
@@ -9,8 +9,10 @@ use lib.Dec.{ltb, eqb}
 use borrow.Author.Tests.{lt-ltb, le-ltb, ltb-false, eq-eqb, ne-eqb, eqb-true, not-false}
 use Rattle.refusal_order.specs.Tests.{_⇒_, first}
 use Rattle.refusal_order.proofs.Tests.{stop, pass, none, not-t, not-f, passed}
+use Rattle.file_numbers.proofs.Numbers.{same-byte, same-four-bytes}
 use Rattle.file_places.specs.declared.Places.{Places}
 use Rattle.file_places.specs.Places.{PlacesOf}
+use Rattle.file_places.proofs.Heads.{same-count}
 use Rattle.file_shape.specs.Shape.{byteAt, fourBytes, listAt, afterList, list2At, list3At, countAt, recordCount, miscounted, fillingTests, shapeTests}
 
 -- ---- the count
@@ -74,3 +76,16 @@ unfolding listAt
 part-is-list file q start end s e =
     let n : end - start ≡ byteAt file q = omega arith in
     λ i. take (n i) (drop (s i) file)
+
+-- ---- the bytes before the first record
+
+-- files of one length that agree there are refused alike for their shape
+pub same-shape : (file file′ : List ℕ) → length file ≡ length file′ → take (countAt file + 4) file ≡ take (countAt file + 4) file′ → first (shapeTests file) ≡ first (shapeTests file′)
+unfolding list2At list3At countAt
+same-shape file file′ long same =
+    let n = countAt file + 4 in
+    let bytes = same-four-bytes file file′ n same 0 (omega arith) in
+    let version = same-byte file file′ n same 4 (omega arith) in
+    let place = same-count file file′ n same (omega arith) in
+    let records = same-four-bytes file file′ n same (countAt file) (omega arith) ∙ ap (fourBytes file′) place in
+    λ i. first ((ltb (long i) 5 || not (eqb (bytes i) (long i - 4))) ⇒ 15 ∷ not (eqb (version i) 1) ⇒ 16 ∷ not (eqb (place i + 4 + 14 * records i) (long i)) ⇒ 15 ∷ eqb (records i) 0 ⇒ 17 ∷ [])

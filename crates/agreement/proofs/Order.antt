@@ -4,7 +4,7 @@ use mathlib.Core.Path.{_≡_, refl, sym, _∙_, ap, subst, subst₂}
 use mathlib.Core.Logic.{_⊎_, inl, inr}
 use mathlib.Core.Bool.{false, not, cond}
 use mathlib.Core.List.{List, [], _∷_, _++_, map, append-nil}
-use Prim.Native.Nat.{ℕ, zero, suc}
+use Prim.Native.Nat.{ℕ, zero, suc, _+_}
 use native.Mathlib.Omega.{arith}
 use lib.ListN.{length}
 use lib.Dec.{leb, eqb}
@@ -21,12 +21,14 @@ use Rattle.job.specs.declared.Job.{Job}
 use Rattle.job.specs.Header.{Header, halvesOf, needed, axisTests, factorsHeld, mapHeld}
 use Rattle.job.specs.Steps.{opened, openTests}
 use Rattle.file_records.specs.declared.FileRecord.{FileRecord}
-use Rattle.factor_file.specs.File.{headerIn, recordsIn, shapeTests, fileStep}
+use Rattle.file_shape.proofs.Shapes.{same-shape}
+use Rattle.file_layout.proofs.Heads.{same-header}
+use Rattle.factor_file.specs.File.{countAt, headerIn, recordsIn, shapeTests, fileStep}
 use Rattle.model.specs.Model.{Model, group, half, factorOf, Call, recording, synthesis, analysis, readPoint, readFactor, modelTests, modelNext, modelSaid, modelAfter, inState, factorVolume, mapVolume, modelVolume, begun, zeroModel, mapModel, modelFeed}
 use Rattle.agreement.specs.Calls.{Start, reading, startHeader, startKind, startVolume, startRecords, firstModel, run, modelAnswers, modelEnd, acceptedRecords}
 use Rattle.agreement.specs.Demands.{Started, entry, Alike, allRecords, OrderFree, AlikeStarts, FileOrderFree}
 use Rattle.agreement.proofs.Openings.{kind-is}
-use Rattle.agreement.proofs.Starts.{accepted-start, file-gives, started-runs}
+use Rattle.agreement.proofs.Starts.{file-shape, accepted-start, file-gives, started-runs}
 use Rattle.agreement.proofs.AcceptedRecords.{Records, accepted-fed, start-passes, first-sound, start-fed, start-records, started-records, started-header}
 
 -- ---- permutations
@@ -195,19 +197,26 @@ alike-starts = record { same = answers-alike }
 same-tests : (h : Header) (v v′ : List ℕ) → length v ≡ length v′ → first (openTests h 0 v) ≡ first (openTests h 0 v′)
 same-tests h v v′ e = ap (λ n. first (leb 4 (h .group) ⇒ 8 ∷ leb 2 0 ⇒ 2 ∷ (axisTests h ++ not (eqb n (needed h)) ⇒ 6 ∷ false ⇒ 7 ∷ false ⇒ 14 ∷ []))) e
 
+-- a file of sound shape with the header and, in any order, the records of an accepted file
+records-moved : (file file′ v v′ : List ℕ) (j : Job) (w : List ℕ) → headerIn file ≡ headerIn file′ → first (shapeTests file′) ≡ 0 → Perm (recordsIn file) (recordsIn file′) → length v ≡ length v′ →
+    fileStep file v ≡ record { answer = opened j; volume = w } → fileStep file′ v′ ≡ record { answer = opened j; volume = w }
+records-moved file file′ v v′ j w eh shape perm long e =
+    let s = reading file v in
+    let (m, begins, sound, ej, ew) = accepted-start s j w e in
+    let started : Started s j w m = record { gives = e; begins = begins } in
+    let empty = zeroModel (headerIn file) in
+    let taken = start-fed s j w m started in
+    let r = records-order empty m perm (start-records s j w m started) in
+    let f = accepted-fed (recordsIn file′) 0 empty (first-sound s j w m started) refl (λ c i. taken .below c (perm-mem perm c i)) (r .0) in
+    let is : _ ≡ m = λ i. record { header = sym (taken .same-header) i; state = sym (taken .same-state) i; F = λ h k l. sym (r .1) i (h, k, l) } in
+    file-gives file′ v′ shape m (subst (λ h. 0 ≡ first (openTests h 0 v′)) eh (start-passes s j w m started ∙ same-tests (headerIn file) v v′ long)) (subst (λ h. modelFeed (recordsIn file′) 0 (zeroModel h) ≡ begun m) eh (f ∙ ap begun is))
+    ∙ λ i. record { answer = opened (sym ej i); volume = sym ew i }
+
+-- the shape and the header stand before the first record
 pub file-order-free : FileOrderFree
-file-order-free = record { same = same }
-  where
-    same : (file file′ v v′ : List ℕ) (j : Job) (w : List ℕ) → headerIn file ≡ headerIn file′ → first (shapeTests file′) ≡ 0 → Perm (recordsIn file) (recordsIn file′) → length v ≡ length v′ →
-        fileStep file v ≡ record { answer = opened j; volume = w } → fileStep file′ v′ ≡ record { answer = opened j; volume = w }
-    same file file′ v v′ j w eh shape perm long e =
-        let s = reading file v in
-        let (m, begins, sound, ej, ew) = accepted-start s j w e in
-        let started : Started s j w m = record { gives = e; begins = begins } in
-        let empty = zeroModel (headerIn file) in
-        let taken = start-fed s j w m started in
-        let r = records-order empty m perm (start-records s j w m started) in
-        let f = accepted-fed (recordsIn file′) 0 empty (first-sound s j w m started) refl (λ c i. taken .below c (perm-mem perm c i)) (r .0) in
-        let is : _ ≡ m = λ i. record { header = sym (taken .same-header) i; state = sym (taken .same-state) i; F = λ h k l. sym (r .1) i (h, k, l) } in
-        file-gives file′ v′ shape m (subst (λ h. 0 ≡ first (openTests h 0 v′)) eh (start-passes s j w m started ∙ same-tests (headerIn file) v v′ long)) (subst (λ h. modelFeed (recordsIn file′) 0 (zeroModel h) ≡ begun m) eh (f ∙ ap begun is))
-        ∙ λ i. record { answer = opened (sym ej i); volume = sym ew i }
+file-order-free = record {
+  same = λ file file′ v v′ j w moved long e.
+      let header = same-header file file′ (countAt file + 4) (moved .same-head) (omega arith) in
+      let shape = sym (same-shape file file′ (moved .same-length) (moved .same-head)) ∙ file-shape file v j (ap (λ o. o .answer) e) in
+      records-moved file file′ v v′ j w header shape (moved .same-records) long e;
+}

@@ -67,6 +67,18 @@ module _ (file v : List ℕ) (shape : first (shapeTests file) ≡ 0) where
   pub file-gives : (m : Model) → 0 ≡ first (openTests (headerIn file) 0 v) → modelFeed (recordsIn file) 0 (zeroModel (headerIn file)) ≡ begun m → fileStep file v ≡ given m
   file-gives m none e = file-opened none ∙ feed-gives (recordsIn file) 0 (zeroModel (headerIn file)) m (opening-sound (headerIn file) 0 v none) e
 
+opened-not : {o : Opening} {j : Job} {n place : ℕ} → o ≡ opened j → o ≡ notOpened n place → ⊥
+opened-not q r = let z : _≡_ {A = ℕ} 0 1 = cc in omega arith
+
+-- an accepted file has a sound shape
+pub file-shape : (file v : List ℕ) (j : Job) → fileStep file v .answer ≡ opened j → first (shapeTests file) ≡ 0
+unfolding fileStep
+file-shape file v j e = by (first (shapeTests file)) _ e
+  where
+    by : (n : ℕ) (o : OpenOutcome) → accepted n o (λ n. record { answer = notOpened n 0; volume = v }) .answer ≡ opened j → n ≡ 0
+    by zero o e = refl
+    by (suc n) o e = absurd (opened-not e refl)
+
 -- ---- every start
 
 -- a start begins a model, with the job and the volume that it gives; or is refused as the model refuses it; or is refused for a fault of its volume
@@ -100,9 +112,6 @@ course (reading file v) = shaped (first (shapeTests file)) refl
     shaped : (n : ℕ) → first (shapeTests file) ≡ n → Course (reading file v)
     shaped zero q = by q (verdict h 0 v)
     shaped (suc n) q = refuses (suc n) 0 (rw q) (rw q)
-
-opened-not : {o : Opening} {j : Job} {n place : ℕ} → o ≡ opened j → o ≡ notOpened n place → ⊥
-opened-not q r = let z : _≡_ {A = ℕ} 0 1 = cc in omega arith
 
 -- an accepted start begins a sound model, with its job and its volume ..
 pub accepted-start : (s : Start) (j : Job) (v : List ℕ) → start s ≡ record { answer = opened j; volume = v } → (m : Model) × (modelStart s ≡ begun m) × Sound m × (j ≡ modelJob m) × (v ≡ modelVolume m)

@@ -4,13 +4,12 @@ use mathlib.Core.Path.{_≡_}
 use mathlib.Core.Logic.{_↔_}
 use mathlib.Core.Bool.{true}
 use mathlib.Core.List.{List, [], _∷_, _++_, map}
-use Prim.Native.Nat.{ℕ, _≤_}
-use lib.ListN.{length}
+use Prim.Native.Nat.{ℕ, _+_, _≤_}
+use lib.ListN.{length, take}
 use lib.Dec.{eqb}
 use Rattle.algebra.specs.Cell.{J, Inside, Sym, ops, full, pim, at, factorActs}
 use Rattle.algebra.specs.Orbit.{Mem, Perm, recordAll}
 use Rattle.numbers.specs.Value.{Value, field, conj, value}
-use Rattle.refusal_order.specs.Tests.{first}
 use Rattle.lengths.specs.Lengths.{scratchLength}
 use Rattle.job.specs.declared.Job.{Job}
 use Rattle.job.specs.declared.Reflection.{Reflection}
@@ -18,7 +17,7 @@ use Rattle.job.specs.declared.GridPoint.{GridPoint}
 use Rattle.job.specs.Header.{mapHeld, factorsHeld, withState}
 use Rattle.job.specs.Steps.{within, index, position, Opening, opened, notOpened, OpenOutcome, Said, done, density, refused, Outcome, Worked, recordStep, synthesisStep, analysisStep, pointStep}
 use Rattle.file_records.specs.declared.FileRecord.{FileRecord}
-use Rattle.factor_file.specs.File.{indexOf, headerIn, recordsIn, shapeTests, fileStep}
+use Rattle.factor_file.specs.File.{indexOf, countAt, recordsIn, fileStep}
 use Rattle.model.specs.Model.{Model, group, half, factorOf, densityOf, Call, modelVolume, modelJob, factorVolume, mapVolume, Beginning, begun, notBegun}
 use Rattle.agreement.specs.Calls.{Start, start, modelStart, startHeader, startKind, startVolume, startRecords, firstModel, Ran, run, modelRan, modelEnd, acceptedRecords}
 
@@ -83,9 +82,15 @@ pub record AlikeStarts : Type 0 where
   pub same : (s s′ : Start) (j j′ : Job) (v v′ : List ℕ) (m m′ : Model) → Started s j v m → Started s′ j′ v′ m′ → Alike s s′ → Perm (startRecords s) (startRecords s′) → (l : List Call) →
       (run j v l .answers ≡ run j′ v′ l .answers) × (run j v l .volume ≡ run j′ v′ l .volume) × (run j v l .job .state ≡ run j′ v′ l .job .state)
 
+-- The same file with its records in another order: as long, the same bytes before the first record, and the same records behind them.
+pub record Reordered (file file′ : List ℕ) : Type 0 where
+  pub same-length : length file ≡ length file′
+  pub same-head : take (countAt file + 4) file ≡ take (countAt file + 4) file′
+  pub same-records : Perm (recordsIn file) (recordsIn file′)
+
 -- An accepted file with its records in another order is accepted too and gives the same job and volume, whatever the lent volume held.
 pub record FileOrderFree : Type 0 where
-  pub same : (file file′ v v′ : List ℕ) (j : Job) (w : List ℕ) → headerIn file ≡ headerIn file′ → first (shapeTests file′) ≡ 0 → Perm (recordsIn file) (recordsIn file′) → length v ≡ length v′ →
+  pub same : (file file′ v v′ : List ℕ) (j : Job) (w : List ℕ) → Reordered file file′ → length v ≡ length v′ →
       fileStep file v ≡ record { answer = opened j; volume = w } → fileStep file′ v′ ≡ record { answer = opened j; volume = w }
 
 -- Refusal 24 exactly if F at the index is not zero: of a record that no other test refuses, after any list of calls.

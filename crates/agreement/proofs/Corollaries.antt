@@ -55,7 +55,7 @@ module _ (m : Model) (sound : Sound m) where
   record-said : (k : Reflection) (x y : ℕ) → recordStep (modelJob m) k x y (modelVolume m) .answer ≡ modelSaid m (recording k x y)
   record-said k x y = ap (λ (o : Outcome). o .answer) (one-call m sound (recording k x y) .0)
 
-  point-is-sum : m .state ≡ mapHeld → (x : GridPoint) → within (m .header .lengths) (position x) ≡ true →
+  pub point-is-sum : m .state ≡ mapHeld → (x : GridPoint) → within (m .header .lengths) (position x) ≡ true →
       (pointStep (modelJob m) x (modelVolume m) .answer ≡ density (densityOf m (position x) .0 .val)) × (densityOf m (position x) .1 .val ≡ 0)
   point-is-sum s x w = (
     ap (λ (o : Outcome). o .answer) (accepted-call m sound (readPoint x) (pass 22 _ (not-t _ (eq-eqb _ _ s)) (pass 10 _ (not-t _ w) none))),

@@ -1,4 +1,4 @@
--- Analysis of the map of packed factors restores them, for any job and volume that synthesis accepts: they are those of a sound model, whose F is what is read off the volume.
+-- Any job and volume that synthesis accepts are those of a sound model, whose F is what is read off the volume. So its map is real at every point, and analysis of it restores the packed factors.
 use mathlib.Core.Path.{_≡_, refl, sym, ap, _∙_, subst}
 use mathlib.Core.Bool.{true}
 use mathlib.Core.List.{List}
@@ -18,13 +18,14 @@ use Rattle.cell.proofs.Reading.{group-admitted}
 use Rattle.cell.proofs.Consistency.{consistent-read}
 use Rattle.job.specs.declared.Job.{Job}
 use Rattle.job.specs.Header.{factorsHeld, mapHeld, headerOf, withState, validJob, groupIn, halves}
-use Rattle.job.specs.Steps.{p, done, refused, Outcome, Worked, unchanged, synthesisTests, synthesised, synthesisStep, analysisStep}
+use Rattle.job.specs.Steps.{p, done, refused, Outcome, Worked, unchanged, synthesisTests, synthesised, synthesisStep, analysisStep, pointStep}
 use Rattle.refusals.proofs.Digits.{octal-of-digits}
 use Rattle.job.proofs.Jobs.{valid-job-sizes}
 use Rattle.model.specs.Model.{Model, group, half, analysis, inState, factorVolume, modelVolume, modelJob}
-use Rattle.agreement.specs.Demands.{AnalysisRestores}
+use Rattle.agreement.specs.Demands.{MapsReal, AnalysisRestores}
 use Rattle.model.proofs.Sound.{Sound, valid-in, holds-map, holds-factors}
 use Rattle.model.proofs.OneCall.{result, accepted-call}
+use Rattle.agreement.proofs.Corollaries.{point-is-sum}
 
 -- the answer is a refusal where a test holds
 accepted-done : (n : ℕ) (o : Worked) (u : ℕ → Worked) → ((n : ℕ) → u n .outcome .answer ≡ refused n) → accepted n o u .outcome .answer ≡ done → 0 ≡ n
@@ -72,6 +73,14 @@ module _ (j : Job) (v scratch : List ℕ) (e : 0 ≡ first (synthesisTests j v (
   held-restores scratch′ l =
       accepted-call (inState held mapHeld) held-sound (analysis scratch′) (pass 22 _ refl (pass 13 _ (le-ltb _ _ l) none))
       ∙ λ i. record { answer = done; job = withState (sym is-held i) factorsHeld; volume = (holds-factors (inState held factorsHeld) refl ∙ read-back .1) i }
+
+pub maps-real : MapsReal
+maps-real = record {
+  real = λ j v scratch a x w.
+      let e = synthesis-accepted j v scratch a in
+      let r = point-is-sum (inState (held j v scratch e) mapHeld) (held-sound j v scratch e) refl x w in
+      (ap (λ (o : Outcome). pointStep (o .job) x (o .volume) .answer) (synthesis-makes j v scratch e) ∙ r .0, r .1);
+}
 
 pub analysis-restores : AnalysisRestores
 analysis-restores = record {

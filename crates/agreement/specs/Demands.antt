@@ -11,10 +11,12 @@ use Rattle.algebra.specs.Cell.{J, Inside, Sym, ops, full, pim, at, factorActs}
 use Rattle.algebra.specs.Orbit.{Mem, Perm, recordAll}
 use Rattle.numbers.specs.Value.{Value, field, conj, value}
 use Rattle.lengths.specs.Lengths.{scratchLength}
+use Rattle.cell.specs.Volume.{factorsIn}
+use Rattle.cell.specs.Sums.{mapOf}
 use Rattle.job.specs.declared.Job.{Job}
 use Rattle.job.specs.declared.Reflection.{Reflection}
 use Rattle.job.specs.declared.GridPoint.{GridPoint}
-use Rattle.job.specs.Header.{mapHeld, factorsHeld, withState}
+use Rattle.job.specs.Header.{mapHeld, factorsHeld, withState, headerOf, groupIn, halves}
 use Rattle.job.specs.Steps.{within, index, position, Opening, opened, notOpened, OpenOutcome, Said, done, density, refused, Outcome, Worked, recordStep, synthesisStep, analysisStep, pointStep}
 use Rattle.file_records.specs.declared.FileRecord.{FileRecord}
 use Rattle.factor_file.specs.File.{indexOf, countAt, recordsIn, fileStep}
@@ -53,6 +55,13 @@ pub record FactorsImplied : Type 0 where
 pub record TripleSums : Type 0 where
   pub sums : (s : Start) (j : Job) (v : List ℕ) (m : Model) → Started s j v m → (l : List Call) → run j v l .job .state ≡ mapHeld → (x : GridPoint) → within (m .header .lengths) (position x) ≡ true →
       (pointStep (run j v l .job) x (run j v l .volume) .answer ≡ density (densityOf (modelEnd m l) (position x) .0 .val)) × (densityOf (modelEnd m l) (position x) .1 .val ≡ 0)
+
+-- A map is always real: for any job and volume that synthesis accepts, the triple sum over the factors that are read off the volume has no imaginary part, at any point of the cell.
+-- Its real part is the number that a reading of the point gives afterwards.
+pub record MapsReal : Type 0 where
+  pub real : (j : Job) (v scratch : List ℕ) → let o = synthesisStep j v scratch .outcome in o .answer ≡ done → (x : GridPoint) → within (headerOf j .lengths) (position x) ≡ true →
+      let d = at (mapOf 1 (halves j) (factorsIn (groupIn j) (halves j) 1 v)) (position x) in
+      (pointStep (o .job) x (o .volume) .answer ≡ density (d .0 .val)) × (d .1 .val ≡ 0)
 
 -- All images of a point carry the same number.
 pub record ImagesAlike : Type 0 where

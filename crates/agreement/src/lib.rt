@@ -1,7 +1,7 @@
 // The third demand: over every list of calls from an accepted opening or file on, every answer, the job and the volume are the
 // reference model's. Each function here does nothing; its promise is one statement of specs/Demands.antt, so that none of
 // them can vanish unnoticed.
-ghost use Rattle.agreement.specs.Demands.{EveryList, RefusedStarts, FactorsImplied, TripleSums, ImagesAlike, AnalysisRestores, OrderFree, AlikeStarts, FileOrderFree, OccupiedExactly};
+ghost use Rattle.agreement.specs.Demands.{EveryList, RefusedStarts, FactorsImplied, TripleSums, MapsReal, ImagesAlike, AnalysisRestores, OrderFree, AlikeStarts, FileOrderFree, OccupiedExactly};
 
 // Over every list of calls: answers, job and volume.
 pub fn every_list()
@@ -21,6 +21,11 @@ pub fn factors_implied()
 // Every value of a map is the triple sum.
 pub fn triple_sums()
     ensures { λ _. ⌜ TripleSums ⌝ }
+{}
+
+// Every value of a map is real.
+pub fn maps_real()
+    ensures { λ _. ⌜ MapsReal ⌝ }
 {}
 
 // All images of a point carry the same value.

@@ -4,3 +4,4 @@ pub mod Points
 pub mod Reflections
 pub mod Outcomes
 pub mod Volumes
+pub mod Lengths

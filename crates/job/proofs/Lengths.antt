@@ -1,0 +1,33 @@
+-- An opening and a record leave the volume as long as it was, refused or accepted.
+use mathlib.Core.Path.{_≡_, refl}
+use mathlib.Core.Bool.{Bool, true, false, cond}
+use mathlib.Core.List.{List}
+use Prim.Native.Nat.{ℕ, zero, suc}
+use lib.ListN.{length, replicate, length-replicate}
+use lib.Dec.{eqb}
+use Rattle.algebra.specs.Cell.{full}
+use Rattle.numbers.specs.Value.{value}
+use Rattle.refusal_order.specs.Tests.{first, accepted}
+use Rattle.cell.specs.Consistency.{recordOn}
+use Rattle.cell.proofs.Writing.{length-images}
+use Rattle.job.specs.declared.Job.{Job}
+use Rattle.job.specs.declared.Reflection.{Reflection}
+use Rattle.job.specs.Header.{Header, jobOf, collecting, mapHeld, groupIn, halves}
+use Rattle.job.specs.Steps.{openTests, openStep, OpenOutcome, opened, notOpened, recordTests, recordStep, Outcome, done, unchanged, index}
+
+pub open-length : (h : Header) (kind : ℕ) (v : List ℕ) → length (openStep h kind v .volume) ≡ length v
+unfolding openStep
+open-length h kind v = by (first (openTests h kind v)) (eqb kind 0)
+  where
+    by : (n : ℕ) (b : Bool) → length (accepted {O = OpenOutcome} n (cond b (record { answer = opened (jobOf h collecting); volume = replicate (length v) 0 }) (record { answer = opened (jobOf h mapHeld); volume = v })) (λ n. record { answer = notOpened n 0; volume = v }) .volume) ≡ length v
+    by zero true = length-replicate (length v) 0
+    by zero false = refl
+    by (suc n) b = refl
+
+pub record-length : (j : Job) (at : Reflection) (x y : ℕ) (v : List ℕ) → length (recordStep j at x y v .volume) ≡ length v
+unfolding recordStep
+record-length j at x y v = by (first (recordTests j (index at) x y v))
+  where
+    by : (n : ℕ) → length (accepted n (record { answer = done; job = j; volume = recordOn (groupIn j) (halves j) 1 (index at) (value 1 x y) v }) (unchanged j v) .volume) ≡ length v
+    by zero = length-images (groupIn j) (halves j) 1 (index at) (value 1 x y) (full (groupIn j)) v
+    by (suc n) = refl

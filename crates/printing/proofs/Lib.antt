@@ -1,3 +1,4 @@
 pub mod Specimen
 pub mod Synthesised
 pub mod Files
+pub mod Fits

@@ -37,7 +37,7 @@ pub record Held (j : Job) (v : List ℕ) : Type 0 where
   pub printable : Printable j v
   pub state : j .state ≡ mapHeld
 
-synthesised-held : (j : Job) (v : List ℕ) → validJob j ≡ true → Held (withState j mapHeld) (synthesised j v)
+pub synthesised-held : (j : Job) (v : List ℕ) → validJob j ≡ true → Held (withState j mapHeld) (synthesised j v)
 synthesised-held j v e = record { printable = record { valid = valid-held j e; long = length-map (groupIn j) (halves j) 1 _ }; state = refl }
 
 -- done is no refusal

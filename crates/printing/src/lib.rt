@@ -3,8 +3,14 @@
 pub mod printer; // printer.rt: from a factor file to the text of its map
 
 ghost use Rattle.printing.specs.Specimen.{PrintedSpecimen};
+ghost use Rattle.printing.specs.Fits.{AlwaysFits};
 
 // The paper's printed specimen follows from the definitions.
 pub fn printed_specimen()
     ensures { λ _. ⌜ PrintedSpecimen ⌝ }
+{}
+
+// The text of every file fits into an output of 65,536 bytes.
+pub fn always_fits()
+    ensures { λ _. ⌜ AlwaysFits ⌝ }
 {}

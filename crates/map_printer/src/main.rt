@@ -1,7 +1,7 @@
 // The map printer: reads a factor file from standard input and prints its map, or why the file is refused.
 //
-// One byte more than the longest file is read, so that a longer one is seen. A text is shorter than the output: a file that is accepted
-// has at most 2,048 numbers, of ten digits at most.
+// One byte more than the longest file is read, so that a longer one is seen. The text of every file fits into the output: `AlwaysFits` of
+// crate printing. So the printer's refusal, for an output that is too short, never comes.
 use libc::STDIN_FILENO;
 use libc::STDOUT_FILENO;
 use map_text::TextAnswer;

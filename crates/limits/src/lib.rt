@@ -10,7 +10,7 @@ ghost use Rattle.cell.specs.Volume.{groupOf, volumeLength};
 ghost use Rattle.refusals.specs.Header.{needed};
 ghost use Rattle.file_numbers.specs.Numbers.{twoBytes};
 ghost use Rattle.file_layout.specs.HeaderIn.{headerIn};
-ghost use Rattle.limits.specs.Limits.{fileLimit, volumeLimit};
+ghost use Rattle.limits.specs.Limits.{fileLimit, lentLimit};
 
 // Whether a file is longer than the printer reads.
 pub fn too_long(file: &[u8]) -> bool
@@ -56,7 +56,7 @@ fn volume_length(group: u32, n1: u32, n2: u32, n3: u32) -> u64
 
 // How many numbers the printer lends to a file.
 pub fn lent_to(file: &[u8]) -> usize
-    ensures { λ r. ⌜ r ≡ min (needed (headerIn (now (file .entry)))) volumeLimit ⌝ }
+    ensures { λ r. ⌜ r ≡ min (needed (headerIn (now (file .entry)))) lentLimit ⌝ }
 {
     let length = volume_length(
         file_numbers::byte_at(file, 5),

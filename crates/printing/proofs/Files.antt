@@ -10,7 +10,7 @@ use lib.Dec.{ltb}
 use Rattle.job.specs.Header.{needed}
 use Rattle.factor_file.specs.File.{headerIn, fileStep}
 use Rattle.map_text.specs.Text.{refusalText, putText}
-use Rattle.limits.specs.Limits.{fileLimit, volumeLimit}
+use Rattle.limits.specs.Limits.{fileLimit, lentLimit}
 use Rattle.printing.specs.Printed.{openedText, printed, printStep}
 
 -- ---- the numbers that are lent: the first n of m zeros
@@ -32,6 +32,6 @@ pub printed-long : (input output : List ℕ) → ltb fileLimit (length input) �
 unfolding printStep printed
 printed-long input output h = rw h
 
-pub printed-lent : (input output : List ℕ) {v : List ℕ} → ltb fileLimit (length input) ≡ false → v ≡ replicate (min (needed (headerIn input)) volumeLimit) 0 → putText (openedText (fileStep input v)) output ≡ printStep input output
+pub printed-lent : (input output : List ℕ) {v : List ℕ} → ltb fileLimit (length input) ≡ false → v ≡ replicate (min (needed (headerIn input)) lentLimit) 0 → putText (openedText (fileStep input v)) output ≡ printStep input output
 unfolding printStep printed
 printed-lent input output h e = rw h (ap (λ (v : List ℕ). putText (openedText (fileStep input v)) output) e)

@@ -19,7 +19,7 @@ use Rattle.factor_file.proofs.Lengths.{file-length}
 use Rattle.map_text.specs.Text.{refusalText}
 use Rattle.map_text.proofs.Printing.{map-short}
 use Rattle.map_text.proofs.Refusals.{refusal-short}
-use Rattle.limits.specs.Limits.{fileLimit, volumeLimit}
+use Rattle.limits.specs.Limits.{fileLimit, lentLimit}
 use Rattle.printing.specs.Printed.{synthesisText, openedText, printed}
 use Rattle.printing.specs.Fits.{AlwaysFits}
 use Rattle.printing.proofs.Synthesised.{synthesised-held}
@@ -32,7 +32,7 @@ short-refusal : (n place : ℕ) → Short (refusalText n place)
 short-refusal n place = omega (arith, refusal-short n place)
 
 -- a synthesis is refused or leaves a map, of a volume as long as the one that it is lent
-synthesis-short : (j : Job) (v s : List ℕ) → length v ≤ volumeLimit → Short (synthesisText (synthesisStep j v s .outcome))
+synthesis-short : (j : Job) (v s : List ℕ) → length v ≤ lentLimit → Short (synthesisText (synthesisStep j v s .outcome))
 unfolding synthesisStep
 synthesis-short j v s l = by (first (synthesisTests j v (length s))) refl
   where
@@ -45,7 +45,7 @@ synthesis-short j v s l = by (first (synthesisTests j v (length s))) refl
         omega (arith, map-short p, p .long, lent, l)
     by (suc n) z = short-refusal (suc n) 0
 
-opened-short : (o : OpenOutcome) → length (o .volume) ≤ volumeLimit → Short (openedText o)
+opened-short : (o : OpenOutcome) → length (o .volume) ≤ lentLimit → Short (openedText o)
 opened-short o l = by (o .answer)
   where
     by : (a : Opening) → Short (openedText (record { answer = a; volume = o .volume }))
@@ -57,11 +57,11 @@ unfolding printed
 printed-short file = by (ltb fileLimit (length file))
   where
     lent : List ℕ
-    lent = replicate (min (needed (headerIn file)) volumeLimit) 0
+    lent = replicate (min (needed (headerIn file)) lentLimit) 0
 
     by : (b : Bool) → Short (cond b (refusalText 15 0) (openedText (fileStep file lent)))
     by true = short-refusal 15 0
-    by false = opened-short (fileStep file lent) (omega (arith, file-length file lent, length-replicate {A = ℕ} (min (needed (headerIn file)) volumeLimit) 0))
+    by false = opened-short (fileStep file lent) (omega (arith, file-length file lent, length-replicate {A = ℕ} (min (needed (headerIn file)) lentLimit) 0))
 
 pub always-fits : AlwaysFits
 always-fits = record { fits = λ file. omega (arith, printed-short file) }

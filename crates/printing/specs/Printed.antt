@@ -11,7 +11,7 @@ use Rattle.job.specs.Header.{needed}
 use Rattle.job.specs.Steps.{Opening, opened, notOpened, OpenOutcome, Said, done, density, factor, refused, Outcome, Worked, synthesisStep}
 use Rattle.factor_file.specs.File.{headerIn, fileStep}
 use Rattle.map_text.specs.Text.{mapText, refusalText, TextOutcome, putText}
-use Rattle.limits.specs.Limits.{fileLimit, volumeLimit}
+use Rattle.limits.specs.Limits.{fileLimit, lentLimit}
 
 -- The synthesis of an accepted file is never refused (demand 3); the text of a refusal stands here for completeness.
 abbrev pub synthesisText : Outcome → List ℕ
@@ -21,7 +21,7 @@ abbrev pub openedText : OpenOutcome → List ℕ
 openedText o = elim (o .answer) [ opened j ↦ synthesisText (synthesisStep j (o .volume) (replicate scratchLength 0) .outcome) | notOpened n place ↦ refusalText n place ]
 
 unfoldable pub printed : List ℕ → List ℕ
-printed input = cond (ltb fileLimit (length input)) (refusalText 15 0) (openedText (fileStep input (replicate (min (needed (headerIn input)) volumeLimit) 0)))
+printed input = cond (ltb fileLimit (length input)) (refusalText 15 0) (openedText (fileStep input (replicate (min (needed (headerIn input)) lentLimit) 0)))
 
 unfoldable pub printStep : (input output : List ℕ) → TextOutcome
 printStep input output = putText (printed input) output

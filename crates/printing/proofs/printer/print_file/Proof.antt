@@ -3,7 +3,7 @@ use borrow.Author.Needs.{needs}
 use mathlib.Core.Path.{sym, _∙_}
 use Rattle.job.specs.Header.{needed}
 use Rattle.factor_file.specs.File.{headerIn}
-use Rattle.limits.specs.Limits.{volumeLimit}
+use Rattle.limits.specs.Limits.{lentLimit}
 use Rattle.printing.proofs.Files.{lent-length, lent-zeros, printed-long, printed-lent}
 use Rattle.printing.proofs.printer.print_file.Statement.{statement}
 use Rattle.printing.proofs.printer.print_file.Tie as tie
@@ -32,7 +32,7 @@ array-borrow-prefix-numbers : tie.Need-array-borrow-prefix-numbers
 array-borrow-prefix-numbers c = search needs
 
 slice-aggregate-print-opened : tie.Need-slice-aggregate-print-opened
-slice-aggregate-print-opened c = let n = c .before in lent-length (n .lent-to .result) (needed (headerIn (n .before .before .before .before .before .args .file .now))) volumeLimit (n .lent-to .ensures)
+slice-aggregate-print-opened c = let n = c .before in lent-length (n .lent-to .result) (needed (headerIn (n .before .before .before .before .before .args .file .now))) lentLimit (n .lent-to .ensures)
 
 print-opened-requires : tie.Need-print-opened-requires
 print-opened-requires c κs = search needs
@@ -47,7 +47,7 @@ returns-2 c =
     let i = n .before in
     let l = i .before in
     let s = l .before .before .before in
-    t .print-opened .ensures ∙ printed-lent (s .args .file .now) (s .args .out .now) (sym (l .too-long .ensures) ∙ i .if1 .left) (lent-zeros (n .lent-to .result) (needed (headerIn (s .args .file .now))) volumeLimit (n .lent-to .ensures))
+    t .print-opened .ensures ∙ printed-lent (s .args .file .now) (s .args .out .now) (sym (l .too-long .ensures) ∙ i .if1 .left) (lent-zeros (n .lent-to .result) (needed (headerIn (s .args .file .now))) lentLimit (n .lent-to .ensures))
 
 pub print-file-spec : {M : Type 1} → statement M
 print-file-spec =

@@ -1,5 +1,6 @@
 -- The third demand: over every list of calls from an accepted opening or file on, every answer, the job and the volume are the model's; and what follows from it.
--- Every name here is one statement; each is the promise of the function of the same name in src/lib.rt.
+-- Each statement is the promise of the function of the same name in src/lib.rt; Started, allRecords, entry, Alike, Reordered and Reachable are what they
+-- speak of.
 use mathlib.Core.Path.{_≡_}
 use mathlib.Core.Logic.{_↔_}
 use mathlib.Core.Bool.{true}
@@ -16,12 +17,12 @@ use Rattle.cell.specs.Sums.{mapOf}
 use Rattle.job.specs.declared.Job.{Job}
 use Rattle.job.specs.declared.Reflection.{Reflection}
 use Rattle.job.specs.declared.GridPoint.{GridPoint}
-use Rattle.job.specs.Header.{mapHeld, factorsHeld, withState, headerOf, groupIn, halves}
+use Rattle.job.specs.Header.{mapHeld, factorsHeld, withState, headerOf, validJob, groupIn, halves}
 use Rattle.job.specs.Steps.{within, index, position, Opening, opened, notOpened, OpenOutcome, Said, done, density, refused, Outcome, Worked, recordStep, synthesisStep, analysisStep, pointStep}
 use Rattle.file_records.specs.declared.FileRecord.{FileRecord}
 use Rattle.factor_file.specs.File.{indexOf, countAt, recordsIn, fileStep}
 use Rattle.model.specs.Model.{Model, group, half, factorOf, densityOf, Call, modelVolume, modelJob, factorVolume, mapVolume, Beginning, begun, notBegun}
-use Rattle.agreement.specs.Calls.{Start, start, modelStart, startHeader, startKind, startVolume, startRecords, firstModel, Ran, run, modelRan, modelEnd, acceptedRecords}
+use Rattle.agreement.specs.Calls.{Start, start, modelStart, startHeader, startKind, startVolume, startRecords, firstModel, step, Ran, run, modelRan, modelEnd, acceptedRecords}
 
 -- A start that is accepted, with the job and the volume that it gives, and the model that it begins.
 pub record Started (s : Start) (j : Job) (v : List ℕ) (m : Model) : Type 0 where
@@ -107,3 +108,14 @@ pub record OccupiedExactly : Type 0 where
   pub exactly : (s : Start) (j : Job) (v : List ℕ) (m : Model) → Started s j v m → (l : List Call) (k : Reflection) (x y : ℕ) →
       let a = recordStep (run j v l .job) k x y (run j v l .volume) .answer in
       ((n : ℕ) → a ≡ refused n → n ≡ 24) → ((a ≡ refused 24) ↔ (factorOf (modelEnd m l) (index k) ≡ value 1 0 0 → ⊥))
+
+-- A job that an opening or a later call could have made: from an accepted opening or file on, some list of calls leaves it.
+abbrev pub Reachable : Job → Type 0
+Reachable j = (s : Start) × (i : Job) × (v : List ℕ) × (l : List Call) × (start s ≡ record { answer = opened i; volume = v }) × (run i v l .job ≡ j)
+
+-- Refusal 25 exactly of a job that no opening and no later call could have made: `validJob`, which every call tests first, is true of the others and of no more;
+-- and a call that is lent another volume than the one left for it makes no other job.
+pub record ImpossibleExactly : Type 0 where
+  pub exactly : (j : Job) → (validJob j ≡ true) ↔ Reachable j
+  pub refuses : (j : Job) (v : List ℕ) (c : Call) → (step j v c .answer ≡ refused 25) ↔ (Reachable j → ⊥)
+  pub keeps : (j : Job) (v : List ℕ) (c : Call) → Reachable j → Reachable (step j v c .job)

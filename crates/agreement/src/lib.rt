@@ -1,7 +1,7 @@
 // The third demand: over every list of calls from an accepted opening or file on, every answer, the job and the volume are the
 // reference model's. Each function here does nothing; its promise is one statement of specs/Demands.antt, so that none of
 // them can vanish unnoticed.
-ghost use Rattle.agreement.specs.Demands.{EveryList, RefusedStarts, FactorsImplied, TripleSums, MapsReal, ImagesAlike, AnalysisRestores, OrderFree, AlikeStarts, FileOrderFree, OccupiedExactly};
+ghost use Rattle.agreement.specs.Demands.{EveryList, RefusedStarts, FactorsImplied, TripleSums, MapsReal, ImagesAlike, AnalysisRestores, OrderFree, AlikeStarts, FileOrderFree, OccupiedExactly, ImpossibleExactly};
 
 // Over every list of calls: answers, job and volume.
 pub fn every_list()
@@ -56,4 +56,9 @@ pub fn file_order_free()
 // Refusal 24 exactly if F at the index is not zero.
 pub fn occupied_exactly()
     ensures { λ _. ⌜ OccupiedExactly ⌝ }
+{}
+
+// Refusal 25 exactly of a job that no opening and no later call could have made.
+pub fn impossible_exactly()
+    ensures { λ _. ⌜ ImpossibleExactly ⌝ }
 {}

@@ -8,7 +8,7 @@ use Prim.Native.Nat.{ℕ, zero, suc, _<_}
 use native.Mathlib.Omega.{arith}
 use lib.ListN.{length, replicate, length-replicate}
 use lib.Dec.{T, leb, eqb}
-use borrow.Author.Tests.{not-false, leb-false, eqb-true, eq-eqb, ne-eqb, lt-ltb}
+use borrow.Author.Tests.{not-false, leb-false, eqb-true, eq-eqb, ne-eqb}
 use Rattle.algebra.specs.Gauss.{gauss}
 use Rattle.algebra.specs.Residue.{residues}
 use Rattle.algebra.specs.Cell.{J, Group, P1, P2₁, Pm, Pa, P2₁2₁2₁}
@@ -27,17 +27,17 @@ use Rattle.slices.proofs.Bounds.{below-replicate, below-allBelow}
 use Rattle.slices.proofs.Segments.{at-zeros}
 use Rattle.refusal_order.specs.Tests.{Test, first, accepted}
 use Rattle.refusal_order.proofs.Tests.{and-left, and-right, both, Passed, passed}
-use Rattle.lengths.proofs.Factors.{octal-digits}
 use Rattle.cell.specs.Volume.{groupOf, Admitted, volumeLength, packFactors}
 use Rattle.cell.specs.Consistency.{consistentMap}
 use Rattle.cell.proofs.VolumeLayout.{place-inside}
 use Rattle.cell.proofs.Reading.{group-admitted}
 use Rattle.cell.proofs.Consistency.{packed-list}
 use Rattle.cell.proofs.Points.{opened-factors, opened-map}
-use Rattle.job.specs.Header.{Header, halvesOf, headerOf, axisTests, collecting, mapHeld, jobOf, validJob}
+use Rattle.job.specs.Header.{Header, halvesOf, axisTests, collecting, mapHeld, jobOf, validJob}
 use Rattle.job.specs.Steps.{p, volumeTests, openTests, openStep, opened, notOpened, OpenOutcome}
-use Rattle.refusals.proofs.Headers.{sound-axes, sound-lists}
+use Rattle.refusals.proofs.Headers.{sound-axes}
 use Rattle.refusals.proofs.Openings.{header-passed}
+use Rattle.job.proofs.Jobs.{opened-valid}
 use Rattle.model.specs.Model.{Model, modelJob, modelVolume, zeroModel, mapModel, openingModel, beginningTests}
 use Rattle.model.proofs.Sound.{Sound, axis-laws}
 
@@ -111,24 +111,8 @@ module _ (h : Header) (kind : ℕ) (v : List ℕ) (none : 0 ≡ first (openTests
       either (suc zero) l = inr refl
       either (suc (suc k)) l = absurd (omega arith)
 
-  -- the job holds the header, and is valid
-  job-header : (s : ℕ) → headerOf (jobOf h s) ≡ h
-  job-header s = let l = sound-lists h header-sound in
-      λ i. record {
-        group = h .group;
-        lengths = h .lengths;
-        list1 = octal-digits (h .list1) (l .0 .0) i;
-        list2 = octal-digits (h .list2) (l .1 .0) i;
-        list3 = octal-digits (h .list3) (l .2 .0) i;
-      }
-
   job-valid : (s : ℕ) → s < 3 → validJob (jobOf h s) ≡ true
-  unfolding validJob
-  job-valid s l =
-      let x = lt-ltb (h .group) 4 (leb-false _ _ (tests .0)) in
-      let y = ap (λ h. eqb (first (axisTests h)) 0) (job-header s) ∙ eq-eqb _ 0 (sym header-sound) in
-      let z = lt-ltb s 3 l in
-      λ i. x i && (y i && z i)
+  job-valid s l = opened-valid h s (leb-false _ _ (tests .0)) header-sound l
 
   -- kind 0
   zero-sound : Sound (zeroModel h)

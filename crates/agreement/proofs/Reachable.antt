@@ -7,46 +7,24 @@ use mathlib.Core.List.{List, [], _∷_}
 use Prim.Native.Nat.{ℕ, zero, suc, _≤_, _<_}
 use native.Mathlib.Omega.{arith}
 use lib.ListN.{length, replicate, length-replicate}
-use lib.Dec.{T, ltb, eqb}
-use borrow.Author.Tests.{ltb-true, lt-ltb, le-ltb, eqb-true, eq-eqb}
+use lib.Dec.{T, eqb}
+use borrow.Author.Tests.{le-ltb, eq-eqb}
 use Rattle.refusal_order.specs.Tests.{Test, _⇒_, first, accepted}
 use Rattle.refusal_order.proofs.Tests.{and-left, and-right, pass, none}
 use Rattle.lengths.specs.Lengths.{scratchLength, cleared}
 use Rattle.job.specs.declared.Job.{Job}
-use Rattle.job.specs.Header.{Header, needed, axisTests, factorsHeld, mapHeld, jobOf, headerOf, withState, validJob}
-use Rattle.job.specs.Steps.{openTests, opened, Said, done, density, factor, refused, Outcome, Worked, unchanged, recordStep, synthesisTests, synthesised, synthesisStep, analysisTests, analysed, analysisStep, pointStep, factorStep}
-use Rattle.refusals.proofs.Digits.{octal-of-digits}
-use Rattle.refusals.proofs.Headers.{all-three}
+use Rattle.job.specs.Header.{Header, needed, factorsHeld, mapHeld, headerOf, withState, validJob}
+use Rattle.job.specs.Steps.{openTests, Said, done, density, factor, refused, Outcome, Worked, unchanged, recordStep, synthesisTests, synthesised, synthesisStep, analysisTests, analysed, analysisStep, pointStep, factorStep}
 use Rattle.refusals.proofs.Openings.{volume-collects, volume-decides}
+use Rattle.job.proofs.Jobs.{job-of-header, valid-parts, valid-with}
 use Rattle.model.specs.Model.{Model, Call, recording, synthesis, analysis, readPoint, readFactor, modelTests, modelNext, modelAfter, modelJob, modelVolume, inState, zeroModel}
-use Rattle.agreement.specs.Calls.{Start, opening, start, step, Ran, run, modelEnd}
+use Rattle.agreement.specs.Calls.{opening, step, Ran, modelEnd}
 use Rattle.agreement.specs.Demands.{Reachable, ImpossibleExactly}
 use Rattle.model.proofs.Sound.{Sound}
 use Rattle.agreement.proofs.Corollaries.{runs}
 use Rattle.agreement.proofs.Lists.{every-list, end-sound}
 use Rattle.agreement.proofs.Openings.{opening-sound, opening-gives}
 use Rattle.agreement.proofs.Starts.{accepted-start}
-
--- ---- a job is that of its header, and is valid in every state or in none
-
--- the octal digits of a list's number give the number back
-pub job-of-header : (j : Job) → jobOf (headerOf j) (j .state) ≡ j
-job-of-header j =
-    let a = octal-of-digits (j .a .factors) in
-    let b = octal-of-digits (j .b .factors) in
-    let c = octal-of-digits (j .c .factors) in
-    λ i. record { group = j .group; a = record { length = j .a .length; factors = a i }; b = record { length = j .b .length; factors = b i }; c = record { length = j .c .length; factors = c i }; state = j .state }
-
-valid-parts : (j : Job) → validJob j ≡ true → (ltb (j .group) 4 ≡ true) × (eqb (first (axisTests (headerOf j))) 0 ≡ true) × (ltb (j .state) 3 ≡ true)
-unfolding validJob
-valid-parts j e = all-three (ltb (j .group) 4) (eqb (first (axisTests (headerOf j))) 0) (ltb (j .state) 3) e
-
-valid-with : (j : Job) (s : ℕ) → validJob j ≡ true → s < 3 → validJob (withState j s) ≡ true
-unfolding validJob
-valid-with j s e l =
-    let t = valid-parts j e in
-    let u = lt-ltb s 3 l in
-    λ i. (t .0) i && ((t .1) i && u i)
 
 -- ---- what is reached is valid
 
@@ -89,7 +67,7 @@ module _ (j : Job) (valid : validJob j ≡ true) where
   passes : 0 ≡ first (openTests (headerOf j) 0 zeros)
   passes =
       let t = valid-parts j valid in
-      volume-decides (headerOf j) 0 zeros (ltb-true _ _ (t .0)) (omega arith) (sym (eqb-true _ _ (t .1)))
+      volume-decides (headerOf j) 0 zeros (t .0) (omega arith) (t .1)
       (volume-collects (j .group) (headerOf j .lengths) 0 zeros (eq-eqb _ _ (length-replicate (needed (headerOf j)) 0)) (λ e. omega arith))
 
   pub valid-reached : Reachable j
@@ -104,7 +82,7 @@ module _ (j : Job) (valid : validJob j ≡ true) where
         modelVolume m,
         l,
         opening-gives (headerOf j) 0 zeros passes,
-        ap (λ (r : Ran). r .job) (every-list m sound l) ∙ ap modelJob (state-reached (headerOf j) scratch long (j .state) (ltb-true _ _ (valid-parts j valid .2))) ∙ job-of-header j,
+        ap (λ (r : Ran). r .job) (every-list m sound l) ∙ ap modelJob (state-reached (headerOf j) scratch long (j .state) (valid-parts j valid .2)) ∙ job-of-header j,
       )
 
 -- ---- every call tests 25 first, and no other test has that number

@@ -19,11 +19,10 @@ use Rattle.cell.proofs.Consistency.{consistent-read}
 use Rattle.job.specs.declared.Job.{Job}
 use Rattle.job.specs.Header.{factorsHeld, mapHeld, headerOf, withState, validJob, groupIn, halves}
 use Rattle.job.specs.Steps.{p, done, refused, Outcome, Worked, unchanged, synthesisTests, synthesised, synthesisStep, analysisStep, pointStep}
-use Rattle.refusals.proofs.Digits.{octal-of-digits}
-use Rattle.job.proofs.Jobs.{valid-job-sizes}
+use Rattle.job.proofs.Jobs.{job-of-header, valid-with, valid-job-sizes}
 use Rattle.model.specs.Model.{Model, group, half, analysis, inState, factorVolume, modelVolume, modelJob}
 use Rattle.agreement.specs.Demands.{MapsReal, AnalysisRestores}
-use Rattle.model.proofs.Sound.{Sound, valid-in, holds-map, holds-factors}
+use Rattle.model.proofs.Sound.{Sound, holds-map, holds-factors}
 use Rattle.model.proofs.OneCall.{result, accepted-call}
 use Rattle.agreement.proofs.Corollaries.{point-is-sum}
 
@@ -42,11 +41,7 @@ module _ (j : Job) (v scratch : List ℕ) (e : 0 ≡ first (synthesisTests j v (
   held = record { header = headerOf j; state = j .state; F = factorsIn (groupIn j) (halves j) 1 v }
 
   is-held : j ≡ modelJob held
-  is-held =
-      let a = sym (octal-of-digits (j .a .factors)) in
-      let b = sym (octal-of-digits (j .b .factors)) in
-      let c = sym (octal-of-digits (j .c .factors)) in
-      λ i. record { group = j .group; a = record { length = j .a .length; factors = a i }; b = record { length = j .b .length; factors = b i }; c = record { length = j .c .length; factors = c i }; state = j .state }
+  is-held = sym (job-of-header j)
 
   tests : Passed (synthesisTests j v (length scratch))
   tests = passed (synthesisTests j v (length scratch)) tt e
@@ -61,7 +56,7 @@ module _ (j : Job) (v scratch : List ℕ) (e : 0 ≡ first (synthesisTests j v (
       (eqb-true _ _ (not-false _ (tests .1 .1 .0))) (below-allBelow p v (prime-pos 1) (not-false _ (tests .1 .1 .1 .1 .0))) (not-false _ (tests .1 .1 .1 .1 .1 .0))
 
   held-sound : Sound (inState held mapHeld)
-  held-sound = record { valid = valid-in (headerOf j) (j .state) mapHeld (subst (λ (j : Job). validJob j ≡ true) is-held valid) (omega arith); lawful = read-back .0 }
+  held-sound = record { valid = valid-with (modelJob held) mapHeld (subst (λ (j : Job). validJob j ≡ true) is-held valid) (omega arith); lawful = read-back .0 }
 
   synthesis-makes : synthesisStep j v scratch .outcome ≡ result done (inState held mapHeld)
   unfolding synthesisStep

@@ -1,4 +1,4 @@
--- Which jobs are valid, from the tests of their numbers.
+-- Which jobs are valid, from the tests of their numbers; and a job is that of its header.
 use mathlib.Core.Path.{_≡_, sym, ap, subst, _∙_}
 use mathlib.Core.Bool.{Bool, true, false, _&&_, not}
 use Prim.Native.Nat.{ℕ, _≤_, _<_}
@@ -12,10 +12,18 @@ use Rattle.refusal_order.proofs.Tests.{by-true, by-false}
 use Rattle.lengths.proofs.Factors.{octal-digits}
 use Rattle.cell.specs.Operations.{Sizes}
 use Rattle.axes.specs.Axes.{JobSizes}
-use Rattle.job.specs.Header.{Header, axisTests, jobOf, headerOf, validJob}
+use Rattle.job.specs.Header.{Header, axisTests, jobOf, headerOf, withState, validJob}
 use Rattle.job.specs.declared.Job.{Job}
 use Rattle.refusals.proofs.Headers.{all-three, sound-sizes, sound-axes, sound-lists}
 use Rattle.refusals.proofs.Digits.{octal-of-digits}
+
+-- the job of a job's header, in its state, is the job: the digits of a list's number give the number back
+pub job-of-header : (j : Job) → jobOf (headerOf j) (j .state) ≡ j
+job-of-header j =
+    let a = octal-of-digits (j .a .factors) in
+    let b = octal-of-digits (j .b .factors) in
+    let c = octal-of-digits (j .c .factors) in
+    λ i. record { group = j .group; a = record { length = j .a .length; factors = a i }; b = record { length = j .b .length; factors = b i }; c = record { length = j .c .length; factors = c i }; state = j .state }
 
 module _ (j : Job) where
   abbrev headerOk : Bool
@@ -32,19 +40,29 @@ module _ (j : Job) where
       let y = sym (by-false _ _ e f) in
       λ i. x i && (y i && ltb (j .state) 3)
 
+  -- what is known of a valid job
+  pub valid-parts : validJob j ≡ true → (j .group < 4) × (0 ≡ first (axisTests (headerOf j))) × (j .state < 3)
+  unfolding validJob
+  valid-parts e =
+      let t = all-three (ltb (j .group) 4) headerOk (ltb (j .state) 3) e in
+      (ltb-true _ _ (t .0), sym (eqb-true _ _ (t .1)), ltb-true _ _ (t .2))
+
+  -- it stays valid in every state
+  pub valid-with : (s : ℕ) → validJob j ≡ true → s < 3 → validJob (withState j s) ≡ true
+  unfolding validJob
+  valid-with s e l =
+      let t = all-three (ltb (j .group) 4) headerOk (ltb (j .state) 3) e in
+      let u = lt-ltb s 3 l in
+      λ i. (t .0) i && ((t .1) i && u i)
+
   -- the sizes of a valid job
   pub valid-sizes : validJob j ≡ true → Sizes (j .group) (j .a .length) (j .b .length) (j .c .length)
-  unfolding validJob
-  valid-sizes e =
-      let t = all-three (ltb (j .group) 4) headerOk (ltb (j .state) 3) e in
-      sound-sizes (headerOf j) (sym (eqb-true _ _ (t .1))) (ltb-true _ _ (t .0))
+  valid-sizes e = let t = valid-parts e in sound-sizes (headerOf j) (t .1) (t .0)
 
   -- .. and what its lines are lent
   pub valid-job-sizes : validJob j ≡ true → JobSizes (j .group) (j .a .length) (j .b .length) (j .c .length) (j .a .factors) (j .b .factors) (j .c .factors)
-  unfolding validJob
   valid-job-sizes e =
-      let t = all-three (ltb (j .group) 4) headerOk (ltb (j .state) 3) e in
-      let s = sound-axes (headerOf j) (sym (eqb-true _ _ (t .1))) in
+      let s = sound-axes (headerOf j) (valid-parts e .1) in
       record {
         sizes = valid-sizes e;
         first = s .0 .size;

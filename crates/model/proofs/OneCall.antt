@@ -23,7 +23,8 @@ use Rattle.job.specs.Header.{collecting, factorsHeld, mapHeld, validJob}
 use Rattle.job.specs.Steps.{p, within, index, position, Said, Outcome, Worked, unchanged, recordTests, recordStep, synthesisTests, synthesised, synthesisStep, analysisTests, analysed, analysisStep, pointTests, pointStep, factorTests, factorStep}
 use Rattle.model.specs.Model.{Model, group, half, factorOf, Call, recording, synthesis, analysis, readPoint, readFactor, modelTests, modelSays, modelNext, modelSaid, modelAfter, inState, modelVolume, modelJob}
 use Rattle.job.specs.Calls.{step}
-use Rattle.model.proofs.Sound.{Sound, valid-in, holds-map, holds-factors, model-length, model-below, within-inside, factors-pass, factor-read, orbit-zero, lawful-recorded, recorded-packed, map-passes, density-read, synthesis-gives, analysis-gives}
+use Rattle.job.proofs.Jobs.{valid-with}
+use Rattle.model.proofs.Sound.{Sound, holds-map, holds-factors, model-length, model-below, within-inside, factors-pass, factor-read, orbit-zero, lawful-recorded, recorded-packed, map-passes, density-read, synthesis-gives, analysis-gives}
 
 -- ---- tests
 
@@ -175,8 +176,8 @@ module _ (m : Model) (sound : Sound m) where
 
 pub one-call : (m : Model) → Sound m → (c : Call) → (step (modelJob m) (modelVolume m) c ≡ record { answer = modelSaid m c; job = modelJob (modelAfter m c); volume = modelVolume (modelAfter m c) }) × Sound (modelAfter m c)
 one-call m sound (recording k x y) = (record-call m sound k x y, stays-sound m (recording k x y) sound (record-sound m sound k x y))
-one-call m sound (synthesis scratch) = (synthesis-call m sound scratch, stays-sound m (synthesis scratch) sound (λ e. record { valid = valid-in (m .header) (m .state) mapHeld (sound .valid) (omega arith); lawful = sound .lawful }))
-one-call m sound (analysis scratch) = (analysis-call m sound scratch, stays-sound m (analysis scratch) sound (λ e. record { valid = valid-in (m .header) (m .state) factorsHeld (sound .valid) (omega arith); lawful = sound .lawful }))
+one-call m sound (synthesis scratch) = (synthesis-call m sound scratch, stays-sound m (synthesis scratch) sound (λ e. record { valid = valid-with (modelJob m) mapHeld (sound .valid) (omega arith); lawful = sound .lawful }))
+one-call m sound (analysis scratch) = (analysis-call m sound scratch, stays-sound m (analysis scratch) sound (λ e. record { valid = valid-with (modelJob m) factorsHeld (sound .valid) (omega arith); lawful = sound .lawful }))
 one-call m sound (readPoint x) = (point-call m sound x, stays-sound m (readPoint x) sound (λ e. sound))
 one-call m sound (readFactor k) = (factor-call m sound k, stays-sound m (readFactor k) sound (λ e. sound))
 

@@ -3,7 +3,7 @@
 use mathlib.Core.Path.{_≡_, refl, sym, ap, _∙_}
 use mathlib.Core.Bool.{true, false, _&&_, cond}
 use mathlib.Core.List.{List}
-use Prim.Native.Nat.{ℕ, _/_, _<_}
+use Prim.Native.Nat.{ℕ, _/_}
 use native.Mathlib.Omega.{arith}
 use lib.Dec.{ltb, eqb}
 use lib.ListN.{length, getD}
@@ -24,7 +24,6 @@ use Rattle.numbers.proofs.Residues.{val-res}
 use Rattle.numbers.proofs.Values.{field-ring}
 use Rattle.slices.specs.Pairs.{Below}
 use Rattle.factors.specs.Factors.{octal}
-use Rattle.refusal_order.specs.Tests.{first}
 use Rattle.kinds.specs.Transform.{rootOf}
 use Rattle.lengths.specs.Admitted.{AdmittedLength}
 use Rattle.kinds.proofs.Axes.{own, axis-own}
@@ -40,7 +39,7 @@ use Rattle.cell.proofs.Maps.{map-consistent, map-cong}
 use Rattle.cell.proofs.Points.{map-obeys, map-real, read-point, analysis-packed}
 use Rattle.cell.proofs.Records.{record-lawful, record-packed}
 use Rattle.cell.proofs.OrbitNumbers.{orbit-free}
-use Rattle.job.specs.Header.{Header, headerOf, axisTests, mapHeld, jobOf, validJob}
+use Rattle.job.specs.Header.{mapHeld, validJob}
 use Rattle.job.specs.Steps.{within}
 use Rattle.refusals.proofs.Headers.{all-three}
 use Rattle.job.proofs.Jobs.{valid-job-sizes}
@@ -49,14 +48,6 @@ use Rattle.model.specs.Model.{Model, group, half, factorOf, densityOf, f
 pub record Sound (m : Model) : Type 0 where
   pub valid : validJob (modelJob m) ≡ true
   pub lawful : Lawful (field 1) (conj 1) (half m) (group m) (m .F)
-
--- a valid job stays valid in every state
-pub valid-in : (h : Header) (s s′ : ℕ) → validJob (jobOf h s) ≡ true → s′ < 3 → validJob (jobOf h s′) ≡ true
-unfolding validJob
-valid-in h s s′ e l =
-    let t = all-three (ltb (h .group) 4) (eqb (first (axisTests (headerOf (jobOf h s)))) 0) (ltb s 3) e in
-    let u = lt-ltb s′ 3 l in
-    λ i. (t .0) i && ((t .1) i && u i)
 
 -- ---- the volume, whatever F is
 

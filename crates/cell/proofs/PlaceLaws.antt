@@ -17,8 +17,9 @@ use Rattle.algebra.proofs.CellSym.{pim-one}
 use Rattle.algebra.proofs.CellGroup.{prep-st}
 use Rattle.cell.specs.Volume.{groupOf, lineKind, layers, rows, columns, volumeLength, pairPlace, mapPlace, pairNumbers, lineNumbers, numbersRead, densityPlace}
 use Rattle.cell.specs.declared.operations.Index.{Index}
+use Rattle.cell.specs.declared.operations.Point.{Point}
 use Rattle.cell.specs.declared.places.Run.{Run}
-use Rattle.cell.specs.Operations.{halvesOf, tripleOf, Length, Sizes, Within}
+use Rattle.cell.specs.Operations.{halvesOf, tripleOf, pointOf, Length, Sizes, Within, PointWithin}
 use Rattle.cell.specs.Places.{run, IsRun}
 use Rattle.cell.proofs.VolumeLayout.{place-inside}
 use Rattle.cell.proofs.OperationLaws.{by-group}
@@ -31,9 +32,12 @@ by-halved P b c d (suc (suc zero)) l z = c
 by-halved P b c d (suc (suc (suc zero))) l z = d
 by-halved P b c d (suc (suc (suc (suc n)))) l z = absurd (omega arith)
 
--- an index below the lengths is one of the theory's
+-- an index or a point below the lengths is one of the theory's
 pub inside-of : {n1 n2 n3 : ℕ} {j : Index} → Length n1 → Length n2 → Length n3 → Within n1 n2 n3 j → Inside (halvesOf n1 n2 n3) (tripleOf j)
 inside-of a b c w = (omega arith, omega arith, omega arith)
+
+pub point-inside : {n1 n2 n3 : ℕ} {p : Point} → Length n1 → Length n2 → Length n3 → PointWithin n1 n2 n3 p → Inside (halvesOf n1 n2 n3) (pointOf p)
+point-inside a b c w = (omega arith, omega arith, omega arith)
 
 -- ---- parities and ends
 
@@ -240,14 +244,14 @@ module _ (g : Group) (a x : J) where
 pub other-point : (n : ℕ) → n < 4 → (a x : J) {k : ℕ} {s : Sym} → k ≡ length (ops (groupOf n)) → s ≡ getD (ops (groupOf n)) (k - 1) one → planes (groupOf n) (a .2) ≤ x .2 → pim a s x ≡ pim a (prep (groupOf n) a x) x
 other-point n l a x e f p = ap (λ s. pim a s x) (f ∙ ap (λ k. getD (ops (groupOf n)) (k - 1) one) e ∙ last-own n l ∙ other-plane (groupOf n) a x p)
 
-pub point-place : {group n1 n2 n3 : ℕ} (s : Sizes group n1 n2 n3) (x y : Index) (q : ℕ) → Within n1 n2 n3 x → Within n1 n2 n3 y
-    → tripleOf y ≡ pim (halvesOf n1 n2 n3) (prep (groupOf group) (halvesOf n1 n2 n3) (tripleOf x)) (tripleOf x) → q ≡ pairPlace P1 (halvesOf n1 n2 n3) (y .l) (y .h) 0
-    → (2 * q + y .k ≡ densityPlace (groupOf group) (halvesOf n1 n2 n3) (tripleOf x)) × (2 * q + y .k < volumeLength (groupOf group) (halvesOf n1 n2 n3))
+pub point-place : {group n1 n2 n3 : ℕ} (s : Sizes group n1 n2 n3) (x y : Point) (q : ℕ) → PointWithin n1 n2 n3 x → PointWithin n1 n2 n3 y
+    → pointOf y ≡ pim (halvesOf n1 n2 n3) (prep (groupOf group) (halvesOf n1 n2 n3) (pointOf x)) (pointOf x) → q ≡ pairPlace P1 (halvesOf n1 n2 n3) (y .z) (y .x) 0
+    → (2 * q + y .y ≡ densityPlace (groupOf group) (halvesOf n1 n2 n3) (pointOf x)) × (2 * q + y .y < volumeLength (groupOf group) (halvesOf n1 n2 n3))
 point-place {group} {n1} {n2} {n3} s x y q ix iy e f =
     let g = groupOf group in
     let a = halvesOf n1 n2 n3 in
-    let held : y .l < layers g a = subst (λ z. z .2 < layers g a) (sym e) (prep-st g a (tripleOf x) (inside-of (s .first) (s .second) (s .third) ix)) in
-    (number (y .l * (2 * (n1 / 2)) + y .h) f ∙ ap (mapPlace g a) e, omega (arith, place-inside g a {w = y .l} {h = y .h} {k = y .k / 2} held (omega arith) (omega arith)))
+    let held : y .z < layers g a = subst (λ z. z .2 < layers g a) (sym e) (prep-st g a (pointOf x) (point-inside (s .first) (s .second) (s .third) ix)) in
+    (number (y .z * (2 * (n1 / 2)) + y .x) f ∙ ap (mapPlace g a) e, omega (arith, place-inside g a {w = y .z} {h = y .x} {k = y .y / 2} held (omega arith) (omega arith)))
   where
-    number : (r : ℕ) → q ≡ r * suc (n2 / 2) + 0 → 2 * q + y .k ≡ r * (2 * suc (n2 / 2)) + y .k
+    number : (r : ℕ) → q ≡ r * suc (n2 / 2) + 0 → 2 * q + y .y ≡ r * (2 * suc (n2 / 2)) + y .y
     number r p = omega arith

@@ -13,13 +13,20 @@ ghost use Rattle.algebra.specs.Cell.{Sym, one, friedel, _·_, ops, full, lineSy
 ghost use Rattle.numbers.specs.Prime.{prime, IsModulus};
 ghost use Rattle.numbers.specs.Value.{field, conj, valueOf, pairOf, Small};
 ghost use Rattle.cell.specs.Volume.{groupOf};
-ghost use Rattle.cell.specs.Operations.{halvesOf, tripleOf, symOf, Length, Within};
+ghost use Rattle.cell.specs.Operations.{halvesOf, tripleOf, pointOf, symOf, Length, Within, PointWithin};
 
-// An index of a factor, or a point of the map: h, k, l or x, y, z.
+// The index of a structure factor, in reciprocal space.
 pub struct Index {
     pub h: u32,
     pub k: u32,
     pub l: u32,
+}
+
+// A point of the map, in real space. No function takes one for the other.
+pub struct Point {
+    pub x: u32,
+    pub y: u32,
+    pub z: u32,
 }
 
 // F at (±h, ±k, ±l) is (-1)^(h, k, l where odd) F(h, k, l), conjugated if `conjugate` says so.
@@ -174,14 +181,14 @@ fn moved(conjugate: bool, minus: bool, odd: bool, n: u32, x: u32) -> u32
 }
 
 // The image of a point.
-pub fn point_image(o: Operation, n1: u32, n2: u32, n3: u32, x: Index) -> Index
-    requires { ⌜ Length n1 × Length n2 × Length n3 × Within n1 n2 n3 x ⌝ }
-    ensures { λ r. ⌜ (tripleOf r ≡ pim (halvesOf n1 n2 n3) (symOf o) (tripleOf x)) × Within n1 n2 n3 r ⌝ }
+pub fn point_image(o: Operation, n1: u32, n2: u32, n3: u32, p: Point) -> Point
+    requires { ⌜ Length n1 × Length n2 × Length n3 × PointWithin n1 n2 n3 p ⌝ }
+    ensures { λ r. ⌜ (pointOf r ≡ pim (halvesOf n1 n2 n3) (symOf o) (pointOf p)) × PointWithin n1 n2 n3 r ⌝ }
 {
-    Index {
-        h: moved(o.conjugate, o.minus_h, o.odd_h, n1, x.h),
-        k: moved(o.conjugate, o.minus_k, o.odd_k, n2, x.k),
-        l: moved(o.conjugate, o.minus_l, o.odd_l, n3, x.l),
+    Point {
+        x: moved(o.conjugate, o.minus_h, o.odd_h, n1, p.x),
+        y: moved(o.conjugate, o.minus_k, o.odd_k, n2, p.y),
+        z: moved(o.conjugate, o.minus_l, o.odd_l, n3, p.z),
     }
 }
 

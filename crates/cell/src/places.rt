@@ -2,6 +2,7 @@
 // a point.
 use crate::operations;
 use crate::operations::Index;
+use crate::operations::Point;
 ghost use mathlib.Core.Path.{_≡_};
 ghost use mathlib.Core.Bool.{true, _&&_, _||_, not, cond};
 ghost use Prim.Native.Nat.{_+_, _*_, _-_, _/_, _<_, _≤_, min};
@@ -10,7 +11,7 @@ ghost use Rattle.algebra.specs.Cell.{P1, planes, span, negI, pim, prep};
 ghost use Rattle.algebra.specs.CellTests.{storedT};
 ghost use Rattle.algebra.specs.CellPack.{even};
 ghost use Rattle.cell.specs.Volume.{groupOf, pairPlace, volumeLength, numbersRead, densityPlace};
-ghost use Rattle.cell.specs.Operations.{halvesOf, tripleOf, Length, Sizes, Within};
+ghost use Rattle.cell.specs.Operations.{halvesOf, tripleOf, pointOf, Length, Sizes, Within, PointWithin};
 ghost use Rattle.cell.specs.Places.{IsRun, lineNumbersAt};
 
 // Neighbouring numbers of a volume.
@@ -160,23 +161,23 @@ pub fn factor_numbers(group: u32, n1: u32, n2: u32, n3: u32, j: Index) -> Run
 }
 
 // The point itself if its plane is stored, else its image under the group's other operation.
-fn stored_point(group: u32, n1: u32, n2: u32, n3: u32, x: Index) -> Index
-    requires { ⌜ Sizes group n1 n2 n3 × Within n1 n2 n3 x ⌝ }
-    ensures { λ r. ⌜ (tripleOf r ≡ pim (halvesOf n1 n2 n3) (prep (groupOf group) (halvesOf n1 n2 n3) (tripleOf x)) (tripleOf x)) × Within n1 n2 n3 r ⌝ }
+fn stored_point(group: u32, n1: u32, n2: u32, n3: u32, p: Point) -> Point
+    requires { ⌜ Sizes group n1 n2 n3 × PointWithin n1 n2 n3 p ⌝ }
+    ensures { λ r. ⌜ (pointOf r ≡ pim (halvesOf n1 n2 n3) (prep (groupOf group) (halvesOf n1 n2 n3) (pointOf p)) (pointOf p)) × PointWithin n1 n2 n3 r ⌝ }
 {
-    if x.l < layer_count(group, n3) {
-        x
+    if p.z < layer_count(group, n3) {
+        p
     } else {
         let other = operations::group_operation(group, operations::group_order(group) - 1);
-        operations::point_image(other, n1, n2, n3, x)
+        operations::point_image(other, n1, n2, n3, p)
     }
 }
 
 // The place of a point's number.
-pub fn density_place(group: u32, n1: u32, n2: u32, n3: u32, x: Index) -> usize
-    requires { ⌜ Sizes group n1 n2 n3 × Within n1 n2 n3 x ⌝ }
-    ensures { λ r. ⌜ (r ≡ densityPlace (groupOf group) (halvesOf n1 n2 n3) (tripleOf x)) × (r < volumeLength (groupOf group) (halvesOf n1 n2 n3)) ⌝ }
+pub fn density_place(group: u32, n1: u32, n2: u32, n3: u32, p: Point) -> usize
+    requires { ⌜ Sizes group n1 n2 n3 × PointWithin n1 n2 n3 p ⌝ }
+    ensures { λ r. ⌜ (r ≡ densityPlace (groupOf group) (halvesOf n1 n2 n3) (pointOf p)) × (r < volumeLength (groupOf group) (halvesOf n1 n2 n3)) ⌝ }
 {
-    let y = stored_point(group, n1, n2, n3, x);
-    2 * pair_place(n1, n2, y.l, y.h, 0) + (y.k as usize)
+    let q = stored_point(group, n1, n2, n3, p);
+    2 * pair_place(n1, n2, q.z, q.x, 0) + (q.y as usize)
 }

@@ -3,8 +3,8 @@
 //
 // The points are tested in the order in which they lie in the volume.
 use cell::operations;
-use cell::operations::Index;
 use cell::operations::Operation;
+use cell::operations::Point;
 use cell::places;
 ghost use mathlib.Core.Path.{_≡_};
 ghost use Prim.Native.Nat.{_*_, _/_, _<_};
@@ -13,7 +13,7 @@ ghost use Rattle.algebra.specs.Cell.{planes};
 ghost use Rattle.algebra.specs.CellTests.{below};
 ghost use Rattle.cell.specs.Volume.{groupOf, volumeLength};
 ghost use Rattle.cell.specs.Consistency.{pointAgrees, consistentMap};
-ghost use Rattle.cell.specs.Operations.{halvesOf, tripleOf, symOf, Sizes, Within};
+ghost use Rattle.cell.specs.Operations.{halvesOf, pointOf, symOf, Sizes, PointWithin};
 ghost use Rattle.cell.specs.TestSteps.{IsVolume, pointImageAgrees, rowAgrees};
 
 // The volume is the map, with its zeros, of some real cell that obeys the group.
@@ -41,29 +41,29 @@ fn image_agrees(
     n3: u32,
     volume: &[u32],
     o: Operation,
-    x: Index,
+    p: Point,
 ) -> bool
-    requires { ⌜ IsVolume group n1 n2 n3 (now volume) × Within n1 n2 n3 x × (x .l < planes (groupOf group) (n3 / 2)) ⌝ }
-    ensures { λ r. ⌜ r ≡ pointImageAgrees (groupOf group) (halvesOf n1 n2 n3) (now (volume .entry)) (tripleOf x) (symOf o) ⌝ }
+    requires { ⌜ IsVolume group n1 n2 n3 (now volume) × PointWithin n1 n2 n3 p × (p .z < planes (groupOf group) (n3 / 2)) ⌝ }
+    ensures { λ r. ⌜ r ≡ pointImageAgrees (groupOf group) (halvesOf n1 n2 n3) (now (volume .entry)) (pointOf p) (symOf o) ⌝ }
 {
-    let y = operations::point_image(o, n1, n2, n3, x);
-    if y.l < places::layer_count(group, n3) {
-        stored::stored_number(n1, n2, volume, y) == stored::stored_number(n1, n2, volume, x)
+    let q = operations::point_image(o, n1, n2, n3, p);
+    if q.z < places::layer_count(group, n3) {
+        stored::stored_number(n1, n2, volume, q) == stored::stored_number(n1, n2, volume, p)
     } else {
         true
     }
 }
 
 // Every image of the point agrees. The first operation leaves it where it is, and need not be tried.
-fn point_agrees(group: u32, n1: u32, n2: u32, n3: u32, volume: &[u32], x: Index) -> bool
-    requires { ⌜ IsVolume group n1 n2 n3 (now volume) × Within n1 n2 n3 x × (x .l < planes (groupOf group) (n3 / 2)) ⌝ }
-    ensures { λ r. ⌜ r ≡ pointAgrees (groupOf group) (halvesOf n1 n2 n3) (now (volume .entry)) (tripleOf x) ⌝ }
+fn point_agrees(group: u32, n1: u32, n2: u32, n3: u32, volume: &[u32], p: Point) -> bool
+    requires { ⌜ IsVolume group n1 n2 n3 (now volume) × PointWithin n1 n2 n3 p × (p .z < planes (groupOf group) (n3 / 2)) ⌝ }
+    ensures { λ r. ⌜ r ≡ pointAgrees (groupOf group) (halvesOf n1 n2 n3) (now (volume .entry)) (pointOf p) ⌝ }
 {
     let count = operations::group_order(group);
     let mut number = 1;
     while number < count {
         let o = operations::group_operation(group, number);
-        if image_agrees(group, n1, n2, n3, volume, o, x) {
+        if image_agrees(group, n1, n2, n3, volume, o, p) {
             number += 1;
         } else {
             return false;
@@ -79,7 +79,7 @@ fn row_agrees(group: u32, n1: u32, n2: u32, n3: u32, volume: &[u32], z: u32, x: 
 {
     let mut y = 0;
     while y < n2 {
-        if point_agrees(group, n1, n2, n3, volume, Index { h: x, k: y, l: z }) {
+        if point_agrees(group, n1, n2, n3, volume, Point { x, y, z }) {
             y += 1;
         } else {
             return false;

@@ -3,7 +3,7 @@ use crate::GridPoint;
 use crate::Job;
 use crate::PointAnswer;
 use crate::valid;
-use cell::operations::Index;
+use cell::operations::Point;
 use cell::places;
 use refusal_order::Checked;
 ghost use mathlib.Core.Path.{_≡_};
@@ -15,10 +15,10 @@ impl Job {
     pub fn point(self, at: GridPoint, volume: &[u32]) -> PointAnswer
         ensures { λ r. ⌜ saidPoint r ≡ (pointStep self at (now (volume .entry))) .answer ⌝ }
     {
-        let x = Index {
-            h: at.0,
-            k: at.1,
-            l: at.2,
+        let point = Point {
+            x: at.0,
+            y: at.1,
+            z: at.2,
         };
         let checked = reading_refusals::point::check_point(
             valid::valid_job(self),
@@ -27,7 +27,7 @@ impl Job {
             self.a.length,
             self.b.length,
             self.c.length,
-            x,
+            point,
             volume,
         );
         match checked {
@@ -38,7 +38,7 @@ impl Job {
                     self.a.length,
                     self.b.length,
                     self.c.length,
-                    x,
+                    point,
                 );
                 PointAnswer::Density(volume[place])
             }

@@ -29,7 +29,7 @@ pub fn check_factor(
     if state == 2 {
         return Checked::Failed(Refusal::NoFactors);
     }
-    if !tests::inside(n1, n2, n3, at) {
+    if !tests::inside(n1, n2, n3, at.h, at.k, at.l) {
         return Checked::Failed(Refusal::Index);
     }
     if !tests::fits(group, n1, n2, n3, volume) {

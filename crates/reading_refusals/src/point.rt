@@ -1,5 +1,5 @@
 // The tests of a point's reading.
-use cell::operations::Index;
+use cell::operations::Point;
 use cell::places;
 use refusal_order::Checked;
 use refusal_order::Refusal;
@@ -7,7 +7,7 @@ use refusals::tests;
 ghost use mathlib.Core.Path.{_≡_};
 ghost use mathlib.Core.Bool.{true};
 ghost use Rattle.refusal_order.specs.Tests.{first, checkedNumber};
-ghost use Rattle.cell.specs.Operations.{tripleOf, Sizes};
+ghost use Rattle.cell.specs.Operations.{pointOf, Sizes};
 ghost use Rattle.reading_refusals.specs.ReadingTests.{pointTestsOf};
 
 // 25, 22, 10, 6, 7: the last of the point's number alone.
@@ -18,11 +18,11 @@ pub fn check_point(
     n1: u32,
     n2: u32,
     n3: u32,
-    at: Index,
+    at: Point,
     volume: &[u32],
 ) -> Checked
     requires { ⌜ (valid ≡ true → Sizes group n1 n2 n3) ⌝ }
-    ensures { λ r. ⌜ checkedNumber r ≡ first (pointTestsOf valid state group (n1, n2, n3) (tripleOf at) (now (volume .entry))) ⌝ }
+    ensures { λ r. ⌜ checkedNumber r ≡ first (pointTestsOf valid state group (n1, n2, n3) (pointOf at) (now (volume .entry))) ⌝ }
 {
     if !valid {
         return Checked::Failed(Refusal::ImpossibleJob);
@@ -30,7 +30,7 @@ pub fn check_point(
     if state != 2 {
         return Checked::Failed(Refusal::NoMap);
     }
-    if !tests::inside(n1, n2, n3, at) {
+    if !tests::inside(n1, n2, n3, at.x, at.y, at.z) {
         return Checked::Failed(Refusal::Index);
     }
     if !tests::fits(group, n1, n2, n3, volume) {

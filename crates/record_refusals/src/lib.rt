@@ -49,7 +49,7 @@ pub fn check_record(
     if state != 0 {
         return Checked::Failed(Refusal::NotCollecting);
     }
-    if !tests::inside(n1, n2, n3, at) {
+    if !tests::inside(n1, n2, n3, at.h, at.k, at.l) {
         return Checked::Failed(Refusal::Index);
     }
     if !residues(x.re, x.im) {

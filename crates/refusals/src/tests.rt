@@ -1,19 +1,18 @@
 // Tests that several calls share.
 use crate::header;
-use cell::operations::Index;
 ghost use mathlib.Core.Path.{_≡_};
 ghost use lib.Dec.{eqb};
 ghost use lib.ListN.{length};
 ghost use Rattle.slices.specs.Pairs.{allBelow};
-ghost use Rattle.cell.specs.Operations.{halvesOf, tripleOf, Sizes};
+ghost use Rattle.cell.specs.Operations.{halvesOf, Sizes};
 ghost use Rattle.cell.specs.Volume.{groupOf, volumeLength};
 ghost use Rattle.refusals.specs.Tests.{p, within};
 
-// The index or the point has each number below its axis length.
-pub fn inside(n1: u32, n2: u32, n3: u32, at: Index) -> bool
-    ensures { λ r. ⌜ r ≡ within (n1, n2, n3) (tripleOf at) ⌝ }
+// The numbers of an index, or of a point, are each below the axis length.
+pub fn inside(n1: u32, n2: u32, n3: u32, x: u32, y: u32, z: u32) -> bool
+    ensures { λ r. ⌜ r ≡ within (n1, n2, n3) (x, y, z) ⌝ }
 {
-    (at.h < n1) & ((at.k < n2) & (at.l < n3))
+    (x < n1) & ((y < n2) & (z < n3))
 }
 
 // The volume is exactly as long as group and lengths ask for.

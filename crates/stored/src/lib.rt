@@ -3,6 +3,7 @@
 // A crate of its own because the tests of refusal 14 and the readings of a factor both stand on it, and the layout of a
 // volume (`cell`) is known without reading one.
 use cell::operations::Index;
+use cell::operations::Point;
 use cell::places;
 use numbers::Pair;
 ghost use mathlib.Core.Path.{_≡_};
@@ -14,7 +15,7 @@ ghost use Rattle.numbers.specs.Prime.{prime};
 ghost use Rattle.numbers.specs.Value.{pairOf};
 ghost use Rattle.slices.specs.Pairs.{at};
 ghost use Rattle.cell.specs.Volume.{groupOf, pairPlace, mapPlace};
-ghost use Rattle.cell.specs.Operations.{halvesOf, tripleOf};
+ghost use Rattle.cell.specs.Operations.{halvesOf, tripleOf, pointOf};
 ghost use Rattle.cell.specs.Places.{allBelowAt, lineNumbersAt, lineFactor};
 ghost use Rattle.cell.specs.TestSteps.{IsVolume, IsStored, PairInside, samePair, isZero};
 
@@ -77,10 +78,10 @@ pub fn stored_factor(group: u32, n1: u32, n2: u32, n3: u32, volume: &[u32], j: I
 }
 
 // The number of a point of a stored plane.
-pub fn stored_number(n1: u32, n2: u32, volume: &[u32], x: Index) -> u32
-    requires { ⌜ PairInside n1 n2 (now volume) (x .l) (x .h) (x .k / 2) ⌝ }
-    ensures { λ r. ⌜ r ≡ getD (now (volume .entry)) (mapPlace P1 (halvesOf n1 n2 0) (tripleOf x)) 0 ⌝ }
+pub fn stored_number(n1: u32, n2: u32, volume: &[u32], p: Point) -> u32
+    requires { ⌜ PairInside n1 n2 (now volume) (p .z) (p .x) (p .y / 2) ⌝ }
+    ensures { λ r. ⌜ r ≡ getD (now (volume .entry)) (mapPlace P1 (halvesOf n1 n2 0) (pointOf p)) 0 ⌝ }
 {
-    let place = 2 * places::pair_place(n1, n2, x.l, x.h, 0) + (x.k as usize);
+    let place = 2 * places::pair_place(n1, n2, p.z, p.x, 0) + (p.y as usize);
     volume[place]
 }

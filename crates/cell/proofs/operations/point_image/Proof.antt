@@ -19,7 +19,7 @@ returns c =
     let f = c .before .before .moved .ensures in
     let g = c .before .moved2 .ensures in
     let h = c .moved3 .ensures in
-    (λ i. (f .0 i, g .0 i, h .0 i), record { h = f .1; k = g .1; l = h .1 })
+    (λ i. (f .0 i, g .0 i, h .0 i), record { x = f .1; y = g .1; z = h .1 })
 
 pub point-image-spec : {M : Type 1} → statement M
 point-image-spec = tie.close (tie.spec moved-requires moved-requires-2 moved-requires-3 returns)

@@ -26,13 +26,13 @@ point-image-requires c κs = search needs
 returns : tie.Need-returns
 returns c =
     let p = c .before .before .before .pre in
-    (stored-plane _ _ _ (subst (λ n. c .before .before .before .args .x .l < n) (c .before .before .layer-count .ensures) (c .if1 .taken)), p .1)
+    (stored-plane _ _ _ (subst (λ n. c .before .before .before .args .p .z < n) (c .before .before .layer-count .ensures) (c .if1 .taken)), p .1)
 
 returns-2 : tie.Need-returns-2
 returns-2 c =
     let t = c .before .before .before in
     let a = t .before .before .before in
-    let l = subst (λ n. n ≤ a .args .x .l) (t .before .before .layer-count .ensures) (t .if1 .left) in
+    let l = subst (λ n. n ≤ a .args .p .z) (t .before .before .layer-count .ensures) (t .if1 .left) in
     (c .point-image .ensures .0 ∙ other-point _ (a .pre .0 .known) _ _ (c .before .before .group-order .ensures) (c .before .group-operation .ensures) l, c .point-image .ensures .1)
 
 pub stored-point-spec : {M : Type 1} → statement M

@@ -19,12 +19,12 @@ stored-number-requires c κs =
     let i = t .before in
     let p = i .before .before .pre in
     let w = i .point-image .ensures .1 in
-    pair-inside (p .0) _ _ _ (omega (arith, t .layer-count .ensures)) (w .h) (omega (arith, w .k))
+    pair-inside (p .0) _ _ _ (omega (arith, t .layer-count .ensures)) (w .x) (omega (arith, w .y))
 
 stored-number-requires-2 : tie.Need-stored-number-requires-2
 stored-number-requires-2 c κs =
     let p = c .before .before .before .before .before .before .pre in
-    pair-inside (p .0) _ _ _ (p .2) (p .1 .h) (omega (arith, p .1 .k))
+    pair-inside (p .0) _ _ _ (p .2) (p .1 .x) (omega (arith, p .1 .y))
 
 returns : tie.Need-returns
 returns c =

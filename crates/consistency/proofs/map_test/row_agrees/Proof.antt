@@ -25,7 +25,7 @@ point-agrees-requires : tie.Need-point-agrees-requires Inv-loop μ-loop
 point-agrees-requires c κs =
     let p = c .before .before .before .pre in
     let s = p .0 .sizes in
-    (p .0, record { h = p .2; k = c .loop-test .taken; l = omega (arith, p .1, layers-most (s .third) _ (s .known)) }, p .1)
+    (p .0, record { x = p .2; y = c .loop-test .taken; z = omega (arith, p .1, layers-most (s .third) _ (s .known)) }, p .1)
 
 add-y : tie.Need-add-y Inv-loop μ-loop
 add-y c = omega arith

@@ -14,7 +14,7 @@ use Rattle.job.specs.Header.{headerOf}
 use Rattle.job.specs.Steps.{position, pointTests, pointTestsOf}
 use Rattle.job.proofs.Jobs.{valid-sizes}
 use Rattle.refusals.proofs.Headers.{place-small}
-use Rattle.refusals.proofs.Points.{within-of}
+use Rattle.refusals.proofs.Points.{point-within-of}
 use Rattle.job.proofs.Points.{point-refused, point-read}
 use Rattle.job.proofs.Job.point.Statement.{statement}
 use Rattle.job.proofs.Job.point.Tie as tie
@@ -55,7 +55,7 @@ density-place-requires : tie.Need-density-place-requires
 density-place-requires c κs =
     let a = c .before .before .before .before .before .args in
     let j = a .self in
-    (sizes c, within-of (j .a .length) (j .b .length) (j .c .length) (record { h = a .at .0; k = a .at .1; l = a .at .2 }) (not-false _ (clear c .1 .1 .0)))
+    (sizes c, point-within-of (j .a .length) (j .b .length) (j .c .length) (record { x = a .at .0; y = a .at .1; z = a .at .2 }) (not-false _ (clear c .1 .1 .0)))
 
 mul-t10 : tie.Need-mul-t10
 mul-t10 c = omega (arith, place-small _ (sizes (c .before)) (c .density-place .ensures .1))

@@ -11,10 +11,10 @@ use borrow.Author.Tests.{not-false, eqb-true, eq-eqb, ne-eqb}
 use Rattle.numbers.specs.Prime.{prime}
 use Rattle.refusal_order.specs.Tests.{first}
 use Rattle.refusal_order.proofs.Tests.{stop, pass, none, not-t, not-f, by-true, by-false}
-use Rattle.cell.specs.Operations.{halvesOf, tripleOf, Sizes, Within}
+use Rattle.cell.specs.Operations.{halvesOf, pointOf, Sizes, PointWithin}
 use Rattle.cell.specs.Volume.{groupOf, densityPlace, volumeLength}
 use Rattle.refusals.specs.Tests.{within}
-use Rattle.refusals.proofs.Points.{within-of}
+use Rattle.refusals.proofs.Points.{point-within-of}
 use Rattle.refusals.proofs.Headers.{place-small}
 use Rattle.reading_refusals.specs.ReadingTests.{densityTests, pointTestsOf}
 use Rattle.reading_refusals.proofs.Numbers.{number-above, number-below}
@@ -24,17 +24,17 @@ use Rattle.reading_refusals.proofs.point.check_point.Tie as tie
 sizes : (c : tie.Else1) → let a = c .before .before .args in Sizes (a .group) (a .n1) (a .n2) (a .n3)
 sizes c = c .before .before .pre (not-false _ (c .if1 .left))
 
-inside : (c : tie.Else3) → let a = c .before .before .before .before .before .args in within (a .n1, a .n2, a .n3) (tripleOf (a .at)) ≡ true
+inside : (c : tie.Else3) → let a = c .before .before .before .before .before .args in within (a .n1, a .n2, a .n3) (pointOf (a .at)) ≡ true
 inside c = by-true _ _ (c .before .inside .ensures) (c .if3 .left)
 
-placed : (c : tie.Else3) → let a = c .before .before .before .before .before .args in Within (a .n1) (a .n2) (a .n3) (a .at)
-placed c = let a = c .before .before .before .before .before .args in within-of (a .n1) (a .n2) (a .n3) (a .at) (inside c)
+placed : (c : tie.Else3) → let a = c .before .before .before .before .before .args in PointWithin (a .n1) (a .n2) (a .n3) (a .at)
+placed c = let a = c .before .before .before .before .before .args in point-within-of (a .n1) (a .n2) (a .n3) (a .at) (inside c)
 
 fit : (c : tie.Else4) → let a = c .before .before .before .before .before .before .before .args in eqb (length (now (a .volume))) (volumeLength (groupOf (a .group)) (halvesOf (a .n1) (a .n2) (a .n3))) ≡ true
 fit c = by-true _ _ (c .before .fits2 .ensures) (c .if4 .left)
 
 -- the point is inside the cell: its number decides
-number : (c : tie.Else3) {m : ℕ} → let a = c .before .before .before .before .before .args in m ≡ first (densityTests (a .group) (a .n1, a .n2, a .n3) (tripleOf (a .at)) (now (a .volume))) → m ≡ first (pointTestsOf (a .valid) (a .state) (a .group) (a .n1, a .n2, a .n3) (tripleOf (a .at)) (now (a .volume)))
+number : (c : tie.Else3) {m : ℕ} → let a = c .before .before .before .before .before .args in m ≡ first (densityTests (a .group) (a .n1, a .n2, a .n3) (pointOf (a .at)) (now (a .volume))) → m ≡ first (pointTestsOf (a .valid) (a .state) (a .group) (a .n1, a .n2, a .n3) (pointOf (a .at)) (now (a .volume)))
 number c n =
     let e = c .before .before in
     pass 25 _ (e .before .if1 .left) (pass 22 _ (not-t _ (eq-eqb _ _ (e .if2 .left))) (pass 10 _ (not-t _ (inside c)) n))
@@ -78,7 +78,7 @@ returns-5 c =
     let d = c .before .before in
     let f = d .before .before in
     let a = f .before .before .before .before .before .before .before .args in
-    let e : ltb (getD (now (a .volume)) (densityPlace (groupOf (a .group)) (halvesOf (a .n1) (a .n2) (a .n3)) (tripleOf (a .at))) 0) (prime 1) ≡ false =
+    let e : ltb (getD (now (a .volume)) (densityPlace (groupOf (a .group)) (halvesOf (a .n1) (a .n2) (a .n3)) (pointOf (a .at))) 0) (prime 1) ≡ false =
     number-above (now (a .volume)) (d .density-place .ensures .0) (d .before .modulus .ensures .0) (c .if5 .taken) in
     number (f .before .before) (pass 6 _ (not-t _ (fit f)) (stop _ (not-f _ e)))
 
@@ -87,7 +87,7 @@ returns-6 c =
     let d = c .before .before in
     let f = d .before .before in
     let a = f .before .before .before .before .before .before .before .args in
-    let e : ltb (getD (now (a .volume)) (densityPlace (groupOf (a .group)) (halvesOf (a .n1) (a .n2) (a .n3)) (tripleOf (a .at))) 0) (prime 1) ≡ true =
+    let e : ltb (getD (now (a .volume)) (densityPlace (groupOf (a .group)) (halvesOf (a .n1) (a .n2) (a .n3)) (pointOf (a .at))) 0) (prime 1) ≡ true =
     number-below (now (a .volume)) (d .density-place .ensures .0) (d .before .modulus .ensures .0) (c .if5 .left) in
     number (f .before .before) (pass 6 _ (not-t _ (fit f)) (pass 7 _ (not-t _ e) none))
 

@@ -11,9 +11,9 @@ use Rattle.job.specs.Steps.{opened, notOpened, OpenOutcome, done, refused, Outc
 use Rattle.file_records.specs.declared.FileRecord.{FileRecord}
 use Rattle.file_records.specs.declared.reader.Found.the-variants.{Record, End}
 use Rattle.file_shape.specs.Shape.{countAt, recordCount, recordsFrom, recordsIn, shapeTests}
-use Rattle.file_records.specs.Records.{foundAt}
+use Rattle.file_records.specs.Records.{foundAt, placeAfter}
 use Rattle.file_shape.proofs.Shapes.{filled-by}
-use Rattle.file_records.proofs.Reading.{end-found, record-inside, record-found}
+use Rattle.file_records.proofs.Reading.{end-found, record-inside, record-found, record-after}
 use Rattle.factor_file.specs.Feed.{indexOf, feed}
 
 -- ---- one record, by what its recording said
@@ -85,13 +85,14 @@ module _ {file : List ℕ} {whole : OpenOutcome} {at place : ℕ} {j : Job} {v :
         s .rest ∙ ap (λ (k : ℕ). feed (recordsFrom file at k) place j v) n ∙ ap (λ (d : FileRecord). feed (d ∷ recordsFrom file (at + 14) (recordCount file - suc place)) place j v) (sym r)
 
     module _ (o : Outcome) (e : o ≡ recordStep j (indexOf c) (c .a) (c .b) v) where
-      pub feeding-next : o .answer ≡ done → Feeding file whole (at + 14) (place + 1) j (o .volume)
-      feeding-next h =
+      pub feeding-next : (after : ℕ) → after ≡ placeAfter file at → o .answer ≡ done → Feeding file whole after (place + 1) j (o .volume)
+      feeding-next after on h =
           let l = record-left in
+          let a = on ∙ record-after file at c found in
           record {
             some = omega arith;
             behind = omega arith;
-            rest = rw add-one (split ∙ fed c (recordsFrom file (at + 14) (recordCount file - suc place)) place j v o e h);
+            rest = rw (a, add-one) (split ∙ fed c (recordsFrom file (at + 14) (recordCount file - suc place)) place j v o e h);
           }
 
       pub feeding-refused : (n : ℕ) → o .answer ≡ refused n → record { answer = notOpened n place; volume = replicate (length v) 0 } ≡ whole

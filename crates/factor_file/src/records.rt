@@ -12,7 +12,7 @@ ghost use Rattle.file_shape.specs.Shape.{shapeTests, recordsIn};
 ghost use Rattle.factor_file.specs.Feed.{feed};
 ghost use Rattle.factor_file.specs.Said.{fileOutcome};
 
-// The records of a file of sound shape, one after another. A record leaves the job as it is.
+// The records of a file of sound shape, as a walk from the first hands them out. A record leaves the job as it is.
 pub fn feed_records(file: &[u8], job: Job, volume: &mut [u32]) -> FileAnswer
     requires { ⌜ 0 ≡ first (shapeTests (now file)) ⌝ }
     ensures { λ r. ⌜ fileOutcome r (now (volume .exit)) ≡ feed (recordsIn (now (file .entry))) 0 job (now (volume .entry)) ⌝ }
@@ -21,7 +21,8 @@ pub fn feed_records(file: &[u8], job: Job, volume: &mut [u32]) -> FileAnswer
     let mut at = start.at;
     let mut place = start.place;
     loop {
-        let found = reader::read_record(file, at);
+        let step = reader::read_record(file, at);
+        let found = step.found;
         let Found::Record(c) = found else {
             return FileAnswer::Opened(job);
         };
@@ -32,6 +33,6 @@ pub fn feed_records(file: &[u8], job: Job, volume: &mut [u32]) -> FileAnswer
             return FileAnswer::Refused(refusal, place);
         }
         place += 1;
-        at += 14;
+        at = step.after;
     }
 }

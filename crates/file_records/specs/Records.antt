@@ -1,5 +1,5 @@
--- The records of a factor file: 14 bytes each, h, k, l (2 each), a, b (4 each); and what a reader finds at a place of the file.
-use mathlib.Core.Bool.{cond}
+-- The records of a factor file: 14 bytes each, h, k, l (2 each), a, b (4 each); and what a reader finds that walks the file.
+use mathlib.Core.Bool.{Bool, cond}
 use mathlib.Core.List.{List, [], _∷_}
 use Prim.Native.Nat.{ℕ, zero, suc, _+_}
 use lib.ListN.{length}
@@ -17,6 +17,15 @@ unfoldable pub recordsFrom : List ℕ → (q n : ℕ) → List FileRecord
 recordsFrom file q zero = []
 recordsFrom file q (suc n) = recordAt file q ∷ recordsFrom file (q + 14) n
 
+-- ---- the reader
+
 -- A record is there where its fourteen bytes are; anywhere else is the end.
+unfoldable pub recordStands : List ℕ → ℕ → Bool
+recordStands file at = leb (at + 14) (length file)
+
 unfoldable pub foundAt : List ℕ → ℕ → Found
-foundAt file at = cond (leb (at + 14) (length file)) (Record (recordAt file at)) End
+foundAt file at = cond (recordStands file at) (Record (recordAt file at)) End
+
+-- the place one record on; at the end there is none, and the place stays
+unfoldable pub placeAfter : List ℕ → ℕ → ℕ
+placeAfter file at = cond (recordStands file at) (at + 14) at

@@ -11,7 +11,7 @@ use Rattle.file_records.specs.declared.reader.Found.the-variants.{Record}
 use Rattle.file_shape.specs.Shape.{byteAt, countAt, recordsIn}
 use Rattle.file_records.specs.Records.{foundAt}
 use Rattle.file_numbers.proofs.Numbers.{four-bytes-fit}
-use Rattle.file_records.proofs.Reading.{record-inside}
+use Rattle.file_records.proofs.Reading.{record-inside, record-after}
 use Rattle.factor_file.specs.declared.FileAnswer.the-variants.{Refused}
 use Rattle.factor_file.specs.Feed.{feed}
 use Rattle.factor_file.specs.Said.{fileOutcome}
@@ -27,7 +27,7 @@ abbrev μ-loop : tie.MeasureT-loop
 
 -- the record at the reader's place
 reading : (c : tie.After-found Inv-loop μ-loop) → Record (c .found .given .0 .0) ≡ foundAt (now (c .before .before .before .before .before .before .before .args .file)) (c .before .before .before .loop .at)
-reading c = sym (c .found .given .1) ∙ c .before .before .read-record .ensures
+reading c = sym (c .found .given .1) ∙ c .before .before .read-record .ensures .0
 
 -- its bytes are there, and its place fits
 inside : (c : tie.After-found Inv-loop μ-loop) → c .before .before .before .loop .at + 14 ≤ length (now (c .before .before .before .before .before .before .before .args .file))
@@ -67,7 +67,7 @@ same-length c = c .before .before .before .loop .inv .0
 returns : tie.Need-returns Inv-loop μ-loop
 returns c =
     let l = c .before .before .before in
-    feeding-end (l .loop .inv .1) (l .before .before .before .before .pre) (sym (c .enum-told .given .1) ∙ c .before .before .read-record .ensures)
+    feeding-end (l .loop .inv .1) (l .before .before .before .before .pre) (sym (c .enum-told .given .1) ∙ c .before .before .read-record .ensures .0)
 
 record-requires : tie.Need-record-requires Inv-loop μ-loop
 record-requires c κs = search needs
@@ -99,18 +99,17 @@ enum-told-2 c = search needs
 add-place : tie.Need-add-place Inv-loop μ-loop
 add-place c = omega (arith, place-fits (c .before .before .before .before .before .before .before))
 
-add-at : tie.Need-add-at Inv-loop μ-loop
-add-at c = omega (arith, inside (c .before .before .before .before .before .before .before), c .before .before .before .before .before .before .before .before .before .before .before .before .before .before .good .0)
-
 loop-less : tie.Need-loop-less Inv-loop μ-loop
-loop-less c = omega (arith, inside (c .before .before .before .before .before .before .before))
+loop-less c =
+    let f = c .before .before .before .before .before .before .before in
+    omega (arith, inside f, f .before .before .read-record .ensures .1 ∙ record-after _ _ (f .found .given .0 .0) (reading f))
 
 loop-again : tie.Need-loop-again Inv-loop μ-loop
 loop-again c =
     let r = c .before .before .before .before in
     let f = r .before .before .before in
     let l = f .before .before .before in
-    (r .«record» .kept .1 .1 .1 .1 .0 ∙ l .loop .inv .0, feeding-next (l .loop .inv .1) (l .before .before .before .before .pre) (f .found .given .0 .0) (reading f) _ (r .«record» .ensures) (ap said (c .enum-told2 .given .1)))
+    (r .«record» .kept .1 .1 .1 .1 .0 ∙ l .loop .inv .0, feeding-next (l .loop .inv .1) (l .before .before .before .before .pre) (f .found .given .0 .0) (reading f) _ (r .«record» .ensures) _ (f .before .before .read-record .ensures .1) (ap said (c .enum-told2 .given .1)))
 
 pub feed-records-spec : {M : Type 1} → statement M
 feed-records-spec =
@@ -132,6 +131,5 @@ feed-records-spec =
     returns-2
     enum-told-2
     add-place
-    add-at
     loop-less
     loop-again)

@@ -1,66 +1,72 @@
 -- The end where fourteen bytes are not there, else five numbers.
 use borrow.Author.Needs.{needs}
+use mathlib.Core.Path.{_∙_, sym}
+use Prim.Native.Nat.{_+_, _<_, _≤_, _^_}
 use native.Mathlib.Omega.{arith}
+use lib.ListN.{length}
 use denote.Ref.{now}
+use borrow.Author.Tests.{not-true, not-false}
 use Rattle.file_records.specs.Records.{recordAt}
-use Rattle.file_records.proofs.Reading.{at-end, at-record}
+use Rattle.file_records.proofs.Reading.{inside, outside, at-end, at-record}
 use Rattle.file_records.proofs.reader.record_at.Statement.{statement}
 use Rattle.file_records.proofs.reader.record_at.Tie as tie
 
+record-stands-requires : tie.Need-record-stands-requires
+record-stands-requires c κs = search needs
+
 returns : tie.Need-returns
-returns c = let a = c .before .before .args in at-end (now (a .file)) (a .at) (omega arith)
+returns c = at-end _ _ (outside _ _ (sym (c .before .record-stands .ensures) ∙ not-true _ (c .if1 .taken)))
 
-sub-if2 : tie.Need-sub-if2
-sub-if2 c = search needs
+-- the fourteen bytes are in the file, and each has a place that is a number of the machine
+here : (c : tie.Else1) → c .before .before .before .args .at + 14 ≤ length (now (c .before .before .before .args .file))
+here c = inside _ _ (sym (c .before .record-stands .ensures) ∙ not-false _ (c .if1 .left))
 
-returns-2 : tie.Need-returns-2
-returns-2 c = let a = c .before .before .before .args in at-end (now (a .file)) (a .at) (omega arith)
+fits : (c : tie.Else1) → c .before .before .before .args .at + 14 < 2 ^ 64
+fits c = omega (arith, here c, c .before .before .before .good .0)
 
 two-bytes-requires : tie.Need-two-bytes-requires
-two-bytes-requires c κs = search needs
+two-bytes-requires c κs = omega (arith, here c)
 
 add-two-bytes : tie.Need-add-two-bytes
-add-two-bytes c = search needs
+add-two-bytes c = omega (arith, fits (c .before))
 
 two-bytes-requires-2 : tie.Need-two-bytes-requires-2
-two-bytes-requires-2 c κs = search needs
+two-bytes-requires-2 c κs = omega (arith, here (c .before))
 
 add-two-bytes-2 : tie.Need-add-two-bytes-2
-add-two-bytes-2 c = search needs
+add-two-bytes-2 c = omega (arith, fits (c .before .before))
 
 two-bytes-requires-3 : tie.Need-two-bytes-requires-3
-two-bytes-requires-3 c κs = search needs
+two-bytes-requires-3 c κs = omega (arith, here (c .before .before))
 
 add-four-bytes : tie.Need-add-four-bytes
-add-four-bytes c = search needs
+add-four-bytes c = omega (arith, fits (c .before .before .before))
 
 four-bytes-requires : tie.Need-four-bytes-requires
-four-bytes-requires c κs = search needs
+four-bytes-requires c κs = omega (arith, here (c .before .before .before))
 
 add-four-bytes-2 : tie.Need-add-four-bytes-2
-add-four-bytes-2 c = search needs
+add-four-bytes-2 c = omega (arith, fits (c .before .before .before .before))
 
 four-bytes-requires-2 : tie.Need-four-bytes-requires-2
-four-bytes-requires-2 c κs = search needs
+four-bytes-requires-2 c κs = omega (arith, here (c .before .before .before .before))
 
-returns-3 : tie.Need-returns-3
+returns-2 : tie.Need-returns-2
 unfolding recordAt
-returns-3 c =
-    let a = c .before .before .before .before .before .before .before .before .args in
+returns-2 c =
     let h = c .before .before .before .before .two-bytes .ensures .0 in
     let k = c .before .before .before .two-bytes2 .ensures .0 in
     let l = c .before .before .two-bytes3 .ensures .0 in
     let x = c .before .four-bytes .ensures in
     let y = c .four-bytes2 .ensures in
-    at-record (now (a .file)) (a .at) _ (λ i. record { h = h i; k = k i; l = l i; a = x i; b = y i }) (omega arith)
+    at-record _ _ _ (λ i. record { h = h i; k = k i; l = l i; a = x i; b = y i }) (here (c .before .before .before .before .before))
 
 pub record-at-spec : {M : Type 1} → statement M
 record-at-spec =
     tie.close
     (tie.spec
+    record-stands-requires
     returns
-    sub-if2
-    returns-2
     two-bytes-requires
     add-two-bytes
     two-bytes-requires-2
@@ -70,4 +76,4 @@ record-at-spec =
     four-bytes-requires
     add-four-bytes-2
     four-bytes-requires-2
-    returns-3)
+    returns-2)

@@ -1,11 +1,12 @@
 // The reader of a factor file: it walks the lent file and hands out one record after another.
 //
 // The reader holds the file and the place of its next record. A walk begins at the first record, `new`, and goes on step by step: the record at the reader's
-// place, `next`, then the reader one record on, `after`. `read_record` is one step, for callers that hold the file themselves. The functions over the reader
-// only take it apart and put it together: the work is done by `record_at` and `place_after`, on the file and a place.
+// place, `next`, then the reader one record on, `after`. `read_record` is one step, for callers that hold the file themselves; `hands_out_records` says what
+// all steps together hand out. The functions over the reader only take it apart and put it together: the work is done by `record_at` and `place_after`, on
+// the file and a place.
 use crate::FileRecord;
 ghost use mathlib.Core.Path.{_≡_};
-ghost use Rattle.file_records.specs.Records.{recordStands, foundAt, placeAfter};
+ghost use Rattle.file_records.specs.Records.{recordStands, foundAt, placeAfter, WalkHandsOutRecords};
 
 pub struct RecordReader<'a> {
     pub file: &'a [u8],
@@ -58,6 +59,12 @@ pub fn read_record(file: &[u8], at: usize) -> Step
         after: after(r).at,
     }
 }
+
+// Where records fill the file from a place on, a walk hands out each of them, in their order, and then the end. The function does nothing; its promise is
+// the statement of specs/Records.antt, so that it cannot vanish unnoticed.
+pub fn hands_out_records()
+    ensures { λ _. ⌜ WalkHandsOutRecords ⌝ }
+{}
 
 // Whether the fourteen bytes of a record are there.
 fn record_stands(file: &[u8], at: usize) -> bool

@@ -9,7 +9,7 @@ use Rattle.numbers.specs.Value.{ring, res}
 use Rattle.root.specs.Root.{RealTable, ImaginaryTable, TangentTable, NegatedTable}
 use Rattle.numbers.proofs.Residues.{below-by}
 use Rattle.root.proofs.RootLaws.{root-laws}
-use Rattle.kinds.specs.Tables.{ForwardTables, BackwardTables}
+use Rattle.kinds.specs.Tables.{ForwardTables, BackwardTables, TablesOf}
 
 module _ {m : ℕ} (is : IsModulus m) {re im tan : List ℕ} (hr : RealTable m re) (hi : ImaginaryTable m im) (ht : TangentTable m tan) where
   pub forward-tables : ForwardTables m re im tan
@@ -24,3 +24,11 @@ module _ {m : ℕ} (is : IsModulus m) {re im tan : List ℕ} (hr : RealTable m r
       let nt = subst (λ n. NegatedTable m n tan tan′) lt nt′ in
       let t = root-laws m is .backward re im im′ hr hi ni in
       record { powers = t .0; of-root = t .1; tangents = root-laws m is .backward-tangents tan tan′ ht nt; small = record { below = λ k l. below-by m (ring m .neg (res m (getD tan k 0))) (nt .entry k l) } }
+
+-- the tables of a direction that is known
+module _ {m direction : ℕ} {re im tan : List ℕ} (tables : TablesOf m direction re im tan) where
+  pub tables-forward : direction ≡ 0 → ForwardTables m re im tan
+  tables-forward e = subst (λ d. TablesOf m d re im tan) e tables
+
+  pub tables-back : direction ≡ 1 → BackwardTables m re im tan
+  tables-back e = subst (λ d. TablesOf m d re im tan) e tables

@@ -1,7 +1,7 @@
 -- The tables that a line's transform is lent: those of the root for direction 0, those of its conjugate for direction 1.
 use mathlib.Core.Path.{_≡_}
 use mathlib.Core.List.{List}
-use Prim.Native.Nat.{ℕ}
+use Prim.Native.Nat.{ℕ, zero, suc}
 use Rattle.numbers.specs.Value.{conj}
 use Rattle.root.specs.Root.{root, tableRoot, RootTable, TangentLaws, BackwardTangents}
 use Rattle.folds.specs.Frame.{Tangents}
@@ -19,3 +19,8 @@ pub record BackwardTables (m : ℕ) (re im tan : List ℕ) : Type 0 where
   pub of-root : tableRoot m re im ≡ conj m (root m)
   pub tangents : BackwardTangents m tan
   pub small : Tangents m tan
+
+-- the tables of a direction
+abbrev pub TablesOf : (m direction : ℕ) (re im tan : List ℕ) → Type 0
+TablesOf m zero re im tan = ForwardTables m re im tan
+TablesOf m (suc direction) re im tan = BackwardTables m re im tan

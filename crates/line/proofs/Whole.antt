@@ -27,5 +27,5 @@ module _ {N : ℕ} (size : AdmittedLength N) where
   pub whole-count : (kind : ℕ) {n : ℕ} → n ≡ 2 * pairCount kind N → n ≡ 2 * pairCount kind (2 * (N / 2))
   whole-count kind e = e ∙ ap (λ n. 2 * pairCount kind n) (sym (size .whole))
 
-  pub whole-result : (m kind direction d : ℕ) (line : List ℕ) {l : List ℕ} → direction ≡ d → l ≡ transformed m kind d (2 * (N / 2)) line → l ≡ transformed m kind direction N line
-  whole-result m kind direction d line e h = h ∙ ap (λ n. transformed m kind d n line) (size .whole) ∙ ap (λ d. transformed m kind d N line) (sym e)
+  pub whole-result : (m kind direction : ℕ) (line : List ℕ) {l : List ℕ} → l ≡ transformed m kind direction (2 * (N / 2)) line → l ≡ transformed m kind direction N line
+  whole-result m kind direction line h = h ∙ ap (λ n. transformed m kind direction n line) (size .whole)

@@ -3,7 +3,7 @@ use refusal_order::Checked;
 use refusal_order::Refusal;
 ghost use mathlib.Core.Path.{_≡_};
 ghost use lib.ListN.{length as lengthOf, drop};
-ghost use Rattle.numbers.specs.Prime.{prime, IsModulus};
+ghost use Rattle.numbers.specs.Prime.{prime};
 ghost use Rattle.kinds.specs.Transform.{transformed};
 ghost use Rattle.lengths.specs.Lengths.{scratchLength};
 ghost use Rattle.line.specs.Accepted.{Accepted};
@@ -42,7 +42,6 @@ pub fn line(
         Checked::Failed(refusal) => LineAnswer::Refused(refusal),
         Checked::Sound => {
             transform_line(
-                1,
                 kind,
                 direction,
                 length,
@@ -56,10 +55,9 @@ pub fn line(
     }
 }
 
-// The transform of an accepted line, in place. The tables are made once, and lent down; the folded line stands in the scratch's first
-// 5,760 numbers, and what it leaves there is not said.
+// The transform of an accepted line, in place. The tables of the direction are made once, and lent down; the folded line stands in the
+// scratch's first 5,760 numbers, and what it leaves there is not said.
 fn transform_line(
-    m: u32,
     kind: u32,
     direction: u32,
     length: u32,
@@ -67,24 +65,29 @@ fn transform_line(
     line: &mut [u32],
     scratch: &mut [u32],
 )
-    requires { ⌜ IsModulus m ⌝ }
-    requires { ⌜ Accepted (prime m) kind direction length factors (now line) (lengthOf (now scratch)) ⌝ }
-    ensures { λ _. ⌜ now (line .exit) ≡ transformed m kind direction length (now (line .entry)) ⌝ }
+    requires { ⌜ Accepted (prime 1) kind direction length factors (now line) (lengthOf (now scratch)) ⌝ }
+    ensures { λ _. ⌜ now (line .exit) ≡ transformed 1 kind direction length (now (line .entry)) ⌝ }
     ensures { λ _. ⌜ drop scratchLength (now (scratch .exit)) ≡ drop scratchLength (now (scratch .entry)) ⌝ }
 {
     let a = (length / 2) as usize;
-    let re = roots::real_parts(m);
-    let mut im = roots::imaginary_parts(m);
-    let mut tan = roots::half_tangents(m);
+    let re = roots::real_parts(1);
+    let im = tables::imaginary_parts(direction);
+    let tan = tables::half_tangents(direction);
     let mut work = [0u32; 5760];
     let fold = &mut scratch[..5760];
-    if direction == 0 {
-        line_transforms::forward(m, kind, &re, &im, &tan, factors, a, line, fold, &mut work);
-    } else {
-        root::negate(m, &mut im);
-        root::negate(m, &mut tan);
-        line_transforms::inverse(m, kind, &re, &im, &tan, factors, a, line, fold, &mut work);
-    }
+    line_transforms::transform(
+        1,
+        kind,
+        direction,
+        &re,
+        &im,
+        &tan,
+        factors,
+        a,
+        line,
+        fold,
+        &mut work,
+    );
 }
 
 // The paper's starred lines, computed from the definitions.

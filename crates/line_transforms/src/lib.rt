@@ -13,11 +13,38 @@ ghost use Rattle.numbers.specs.Prime.{prime, IsModulus};
 ghost use Rattle.slices.specs.Pairs.{Below};
 ghost use Rattle.lengths.specs.Counts.{pairCount};
 ghost use Rattle.kinds.specs.Transform.{transformed};
-ghost use Rattle.kinds.specs.Tables.{ForwardTables, BackwardTables};
+ghost use Rattle.kinds.specs.Tables.{ForwardTables, BackwardTables, TablesOf};
 ghost use Rattle.lengths.specs.Admitted.{AdmittedLength, FactorList};
 
-// Direction 0. The slices `fold` and `work` are lent for the work, and left with anything.
-pub fn forward<'a>(
+// The slices `fold` and `work` are lent for the work, and left with anything.
+pub fn transform<'a>(
+    m: u32,
+    kind: u32,
+    direction: u32,
+    re: &'a [u32; 2880],
+    im: &'a [u32; 2880],
+    tan: &'a [u32; 1440],
+    factors: u32,
+    a: usize,
+    line: &mut [u32],
+    fold: &mut [u32],
+    work: &mut [u32],
+)
+    requires { ⌜ IsModulus m × (kind < 6) × (direction < 2) × TablesOf m direction (now re) (now im) (now tan) ⌝ }
+    requires { ⌜ AdmittedLength (2 * a) × FactorList (2 * a) factors ⌝ }
+    requires { ⌜ (length (now line) ≡ 2 * pairCount kind (2 * a)) × Below (prime m) (now line) ⌝ }
+    requires { ⌜ (5760 ≤ length (now fold)) × (5760 ≤ length (now work)) ⌝ }
+    ensures { λ _. ⌜ now (line .exit) ≡ transformed m kind direction (2 * a) (now (line .entry)) ⌝ }
+{
+    if direction == 0 {
+        forward(m, kind, re, im, tan, factors, a, line, fold, work);
+    } else {
+        inverse(m, kind, re, im, tan, factors, a, line, fold, work);
+    }
+}
+
+// Direction 0.
+fn forward<'a>(
     m: u32,
     kind: u32,
     re: &'a [u32; 2880],
@@ -65,7 +92,7 @@ pub fn forward<'a>(
 }
 
 // Direction 1, divided by N.
-pub fn inverse<'a>(
+fn inverse<'a>(
     m: u32,
     kind: u32,
     re: &'a [u32; 2880],

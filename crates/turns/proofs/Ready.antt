@@ -11,7 +11,8 @@ use Rattle.axes.specs.Lines.{Placed}
 use Rattle.axes.specs.Plans.{groupIn, halvesIn, Fitting, LineAt}
 use Rattle.axes.specs.declared.Plan.{Plan}
 use Rattle.axes.specs.declared.Line.{Line}
-use Rattle.volume_lines.specs.Lines.{TablesOf, TablesFor}
+use Rattle.kinds.specs.Tables.{TablesOf}
+use Rattle.volume_lines.specs.Lines.{TablesFor}
 
 module _ (p : Plan) (j : ℕ) (x : Line) (v re im tan : List ℕ) (f : Fitting p v) (t : TablesOf (p .m) (p .direction) re im tan) where
   ready : x .m ≡ p .m → x .direction ≡ p .direction → Placed (volumeLength (groupIn p) (halvesIn p)) x → (Placed (length v) x × TablesFor x re im tan) × Below (prime (x .m)) v

@@ -50,31 +50,17 @@ pub fn turn_packed<'a>(
     requires { ⌜ (5760 ≤ length (now fold)) × (5760 ≤ length (now work)) ⌝ }
     ensures { λ _. ⌜ now (packed .exit) ≡ turnedPacked line (now (packed .entry)) ⌝ }
 {
-    if line.direction == 0 {
-        line_transforms::forward(
-            m,
-            line.kind,
-            re,
-            im,
-            tan,
-            line.factors,
-            line.half,
-            packed,
-            fold,
-            work,
-        );
-    } else {
-        line_transforms::inverse(
-            m,
-            line.kind,
-            re,
-            im,
-            tan,
-            line.factors,
-            line.half,
-            packed,
-            fold,
-            work,
-        );
-    }
+    line_transforms::transform(
+        m,
+        line.kind,
+        line.direction,
+        re,
+        im,
+        tan,
+        line.factors,
+        line.half,
+        packed,
+        fold,
+        work,
+    );
 }

@@ -26,7 +26,6 @@ use Rattle.slices.proofs.Bounds.{below-tab, small-at}
 use Rattle.lengths.specs.Counts.{kindOf, pairCount}
 use Rattle.kinds.specs.Transform.{rootOf, transform, transformed}
 use Rattle.lengths.specs.Admitted.{AdmittedLength}
-use Rattle.kinds.specs.Tables.{ForwardTables, BackwardTables}
 use Rattle.kinds.proofs.Transforms.{half-length}
 use Rattle.kinds.proofs.Dispatch.{half-positive, half-divides}
 use Rattle.kinds.proofs.Axes.{own, axis-own}
@@ -34,7 +33,7 @@ use Rattle.kinds.proofs.Reading.{forward-cong, back-cong}
 use Rattle.cell.proofs.LineReading.{by-half}
 use Rattle.cell.specs.Sums.{axis}
 use Rattle.axes.specs.Turned.{turnedLine, forwardValues, inverseValues, joined, parted, forwardRow, inverseRow}
-use Rattle.volume_lines.specs.Lines.{Kept, TablesOf}
+use Rattle.volume_lines.specs.Lines.{Kept}
 
 -- ---- a packed line
 
@@ -44,21 +43,19 @@ length-turned m a (suc d) k l = length-list m _ _
 
 -- what the line crate calls the transform
 module _ (m a kind : ℕ) (l : List ℕ) where
-  pub turned-forward : transformed m kind 0 (2 * a) l ≡ turnedLine m a 0 (kindOf kind) l
+  turned-forward : transformed m kind 0 (2 * a) l ≡ turnedLine m a 0 (kindOf kind) l
   unfolding transformed transform rootOf
   turned-forward = along (λ c. listOf (slots (kindOf kind) c) (forward (field m) (conj m) (i m) (real m (half m)) c (axis m a .w) (kindOf kind) (valuesOf m l))) (2 * a / 2) a (half-length a)
 
-  pub turned-inverse : transformed m kind 1 (2 * a) l ≡ turnedLine m a 1 (kindOf kind) l
+  turned-inverse : transformed m kind 1 (2 * a) l ≡ turnedLine m a 1 (kindOf kind) l
   unfolding transformed transform rootOf
   turned-inverse = along (λ c. listOf (slots (kindOf kind) c) (inverse (field m) (conj m) (i m) (real m (half m)) c (axis m a .w) (axis m a .part) (kindOf kind) (valuesOf m l))) (2 * a / 2) a (half-length a)
 
--- by the direction that the code has tested
-module _ {m direction : ℕ} {re im tan : List ℕ} (tables : TablesOf m direction re im tan) where
-  pub forward-tables : direction ≡ 0 → ForwardTables m re im tan
-  forward-tables e = subst (λ d. TablesOf m d re im tan) e tables
-
-  pub inverse-tables : direction ≡ 1 → BackwardTables m re im tan
-  inverse-tables e = subst (λ d. TablesOf m d re im tan) e tables
+-- in either direction
+pub turned-packed : (m a kind direction : ℕ) (l : List ℕ) → direction < 2 → transformed m kind direction (2 * a) l ≡ turnedLine m a direction (kindOf kind) l
+turned-packed m a kind zero l h = turned-forward m a kind l
+turned-packed m a kind (suc zero) l h = turned-inverse m a kind l
+turned-packed m a kind (suc (suc d)) l h = absurd (omega arith)
 
 pub line-length : (a kind : ℕ) {n : ℕ} → n ≡ 2 * slots (kindOf kind) a → n ≡ 2 * pairCount kind (2 * a)
 line-length a kind h = h ∙ along (λ c. 2 * slots (kindOf kind) c) a (2 * a / 2) (sym (half-length a))

@@ -3,13 +3,8 @@ use mathlib.Core.Path.{_≡_}
 use mathlib.Core.List.{List}
 use Prim.Native.Nat.{ℕ, zero, suc, _+_, _≤_}
 use lib.ListN.{length, drop, getD, set}
-use Rattle.kinds.specs.Tables.{ForwardTables, BackwardTables}
+use Rattle.kinds.specs.Tables.{TablesOf}
 use Rattle.axes.specs.declared.Line.{Line}
-
--- the tables of a direction
-abbrev pub TablesOf : (m direction : ℕ) (re im tan : List ℕ) → Type 0
-TablesOf m zero re im tan = ForwardTables m re im tan
-TablesOf m (suc direction) re im tan = BackwardTables m re im tan
 
 -- the lent buffers are long enough
 pub record Lent (scratch fold work : List ℕ) : Type 0 where

@@ -1,7 +1,7 @@
 -- `line`: what the check says is the number of the first test that holds; a refused call has touched nothing, an accepted one has its line transformed and its scratch cleared.
 use borrow.Author.Needs.{needs}
 use native.Mathlib.Omega.{arith}
-use mathlib.Core.Path.{_≡_, refl, _∙_, sym, ap}
+use mathlib.Core.Path.{_≡_, _∙_, sym, ap}
 use mathlib.Core.List.{List, _++_}
 use Prim.Native.Nat.{ℕ}
 use lib.ListN.{length, replicate}
@@ -54,7 +54,7 @@ packed-requires c κs =
     (f .0, f .2)
 
 transform-line-requires : tie.Need-transform-line-requires
-transform-line-requires c κs = (omega arith, rw (c .before .before .packed .ensures) (sound (c .before .before .before)))
+transform-line-requires c κs = rw (c .before .before .packed .ensures) (sound (c .before .before .before))
 
 clear-requires : tie.Need-clear-requires
 clear-requires c κs =

@@ -6,7 +6,7 @@ use mathlib.Core.List.{List, _++_}
 use Prim.Native.Nat.{ℕ}
 use lib.ListN.{replicate}
 use Rattle.lengths.specs.Lengths.{cleared}
-use Rattle.turns.proofs.Directions.{tables-of}
+use Rattle.tables.proofs.Directions.{tables-of}
 use Rattle.turns.proofs.transform_volume.Statement.{statement}
 use Rattle.turns.proofs.transform_volume.Tie as tie
 

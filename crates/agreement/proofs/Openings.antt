@@ -15,22 +15,23 @@ use Rattle.algebra.specs.Cell.{J, Group, P1, P2₁, Pm, Pa, P2₁2₁2₁}
 use Rattle.algebra.specs.CellPack as Pack
 use Rattle.algebra.specs.CellPack.{even, partOf, packAlt}
 use Rattle.algebra.specs.CellSteps.{Lawful}
+use Rattle.algebra.proofs.Laws.{neg-zero}
 use Rattle.algebra.proofs.CellGroup.{imp-zero}
 use Rattle.algebra.proofs.CellTests.{Positive}
 use Rattle.numbers.specs.Prime.{prime}
 use Rattle.numbers.specs.Value.{Value, field, conj, i, ring, value, valueOf}
 use Rattle.numbers.specs.Value as Value
 use Rattle.numbers.proofs.Primes.{prime-pos}
-use Rattle.numbers.proofs.Values.{field-ring, field-star}
+use Rattle.numbers.proofs.Residues.{res-ring}
+use Rattle.numbers.proofs.Values.{value-path, field-ring, field-star}
 use Rattle.slices.specs.Pairs.{Below, allBelow}
 use Rattle.slices.proofs.Bounds.{below-replicate, below-allBelow}
 use Rattle.slices.proofs.Segments.{at-zeros}
 use Rattle.refusal_order.specs.Tests.{Test, first, accepted}
 use Rattle.refusal_order.proofs.Tests.{and-left, and-right, both, Passed, passed}
-use Rattle.cell.specs.Volume.{groupOf, Admitted, volumeLength, packFactors}
+use Rattle.cell.specs.Volume.{groupOf, volumeLength, packFactors}
 use Rattle.cell.specs.Consistency.{consistentMap}
 use Rattle.cell.proofs.VolumeLayout.{place-inside}
-use Rattle.cell.proofs.Reading.{group-admitted}
 use Rattle.cell.proofs.Consistency.{packed-list}
 use Rattle.cell.proofs.Points.{opened-factors, opened-map}
 use Rattle.job.specs.Header.{Header, halvesOf, axisTests, collecting, mapHeld, jobOf, validJob}
@@ -64,25 +65,31 @@ zero-lawful : (g : Group) (a : J) → Lawful (field 1) (conj 1) a g (λ h k l. v
 unfolding gauss residues
 zero-lawful g a s ms j n = sym (imp-zero (field-ring 1) (field-star 1) a s j)
 
-zero-pair : (g : Group) → Admitted g → (a : J) (w h k : ℕ) → Pack.packFactors (ring 1) g a (λ h k l. value 1 0 0) w h k ≡ value 1 0 0
+either : (b : Bool) → _≡_ {A = Value 1} (value 1 0 0 .0, partOf (ring 1) b (value 1 0 0)) (value 1 0 0)
+either true = refl
+either false = refl
+
+zero-turned : (b : Bool) → Pack.timesI (ring 1) b (value 1 0 0) ≡ value 1 0 0
+unfolding Pack.timesI residues
+zero-turned true = refl
+zero-turned false = value-path (neg-zero (res-ring 1)) refl
+
+zero-pair : (g : Group) (a : J) (w h k : ℕ) → Pack.packFactors (ring 1) g a (λ h k l. value 1 0 0) w h k ≡ value 1 0 0
 unfolding Pack.packFactors packAlt
-zero-pair P1 ok a w h k = refl
-zero-pair P2₁ ok a zero h k = either (even (a .2))
-  where
-    either : (b : Bool) → _≡_ {A = Value 1} (value 1 0 0 .0, partOf (ring 1) b (value 1 0 0)) (value 1 0 0)
-    either true = refl
-    either false = refl
-zero-pair P2₁ ok a (suc w) h k = refl
-zero-pair Pm ok a w h k = refl
-zero-pair Pa ok a w h k = refl
-zero-pair P2₁2₁2₁ ok a w h k = absurd ok
+zero-pair P1 a w h k = refl
+zero-pair P2₁ a zero h k = either (even (a .2))
+zero-pair P2₁ a (suc w) h k = refl
+zero-pair Pm a w h k = refl
+zero-pair Pa a w h k = refl
+zero-pair P2₁2₁2₁ a zero h k = ap (λ (x : Value 1). (x .0, partOf (ring 1) (even (a .2)) x)) (zero-turned (even h)) ∙ either (even (a .2))
+zero-pair P2₁2₁2₁ a (suc w) h k = zero-turned (even h)
 
 -- its packed factors are zeros
-zero-packed : (g : Group) → Admitted g → (a : J) → Positive a → packFactors g a 1 (λ h k l. value 1 0 0) ≡ replicate (volumeLength g a) 0
+zero-packed : (g : Group) (a : J) → Positive a → packFactors g a 1 (λ h k l. value 1 0 0) ≡ replicate (volumeLength g a) 0
 unfolding valueOf
-zero-packed g ok a long =
-    packed-list g ok a long 1 (λ h k l. value 1 0 0) (zero-lawful g a) (replicate (volumeLength g a) 0) (length-replicate (volumeLength g a) 0) (below-replicate (volumeLength g a) 0 (prime-pos 1))
-    (λ w h k lw lh lk. zero-pair g ok a w h k ∙ ap (valueOf 1) (sym (at-zeros _ _ (place-inside g a lw lh (omega arith)))))
+zero-packed g a long =
+    packed-list g a long 1 (λ h k l. value 1 0 0) (zero-lawful g a) (replicate (volumeLength g a) 0) (length-replicate (volumeLength g a) 0) (below-replicate (volumeLength g a) 0 (prime-pos 1))
+    (λ w h k lw lh lk. zero-pair g a w h k ∙ ap (valueOf 1) (sym (at-zeros _ _ (place-inside g a lw lh (omega arith)))))
 
 -- ---- an opening that no test refuses
 
@@ -120,7 +127,7 @@ module _ (h : Header) (kind : ℕ) (v : List ℕ) (none : 0 ≡ first (openTests
 
   zero-volume : replicate (length v) 0 ≡ modelVolume (zeroModel h)
   unfolding modelVolume
-  zero-volume = ap (λ n. replicate n 0) volume-long ∙ sym (zero-packed (groupOf (h .group)) (group-admitted (h .group)) (halvesOf (h .lengths)) opening-long)
+  zero-volume = ap (λ n. replicate n 0) volume-long ∙ sym (zero-packed (groupOf (h .group)) (halvesOf (h .lengths)) opening-long)
 
   -- kind 1: the tests that only a map is put to
   module _ (map : kind ≡ 1) where

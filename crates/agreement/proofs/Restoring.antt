@@ -14,7 +14,6 @@ use Rattle.refusal_order.specs.Tests.{first, accepted}
 use Rattle.lengths.specs.Lengths.{scratchLength, cleared}
 use Rattle.refusal_order.proofs.Tests.{none, pass, Passed, passed}
 use Rattle.cell.specs.Volume.{factorsIn}
-use Rattle.cell.proofs.Reading.{group-admitted}
 use Rattle.cell.proofs.Consistency.{consistent-read}
 use Rattle.job.specs.declared.Job.{Job}
 use Rattle.job.specs.Header.{factorsHeld, mapHeld, headerOf, withState, validJob, groupIn, halves}
@@ -52,7 +51,7 @@ module _ (j : Job) (v scratch : List ℕ) (e : 0 ≡ first (synthesisTests j v (
   read-back : Lawful (field 1) (conj 1) (half held) (group held) (held .F) × (factorVolume held ≡ v)
   read-back =
       let s = valid-job-sizes j valid in
-      consistent-read (groupIn j) (group-admitted (j .group)) (halves j) (s .first .positive, s .second .positive, s .third .positive) 1 v
+      consistent-read (groupIn j) (halves j) (s .first .positive, s .second .positive, s .third .positive) 1 v
       (eqb-true _ _ (not-false _ (tests .1 .1 .0))) (below-allBelow p v (prime-pos 1) (not-false _ (tests .1 .1 .1 .1 .0))) (not-false _ (tests .1 .1 .1 .1 .1 .0))
 
   held-sound : Sound (inState held mapHeld)

@@ -12,7 +12,6 @@ use Rattle.lengths.specs.Counts.{kindOf, pairCount}
 use Rattle.lengths.specs.Admitted.{AdmittedLength, FactorList}
 use Rattle.cell.specs.Volume.{lineKind, firstPair}
 use Rattle.cell.specs.Operations.{Sizes}
-use Rattle.cell.proofs.Reading.{group-admitted}
 use Rattle.axes.specs.Turned.{turnedLine, turnedRow}
 use Rattle.axes.specs.Axes.{turnOf, alongL, alongH, alongK, lineCount, lineOfTurn, turnedL, turnedH, turnedK}
 use Rattle.axes.specs.Lines.{Sound, gatheredTurn, rowTurn, lineTurned}
@@ -55,7 +54,7 @@ module _ (p : Plan) (ok : Planned p) where
         sound = sound kind (p .n3) (p .f3) _ _ _ known (omega (arith, sizes .third .even)) (ok .sizes .third) (ok .sizes .third-list);
         counted = ec;
         low = few;
-        fits = fits-l sizes y kind f count e ef low ec (group-admitted (p .group)) l;
+        fits = fits-l sizes y kind f count e ef low ec l;
       };
       turn = turned-l sizes y kind f count e ef low ec (p .m) (p .direction);
     }

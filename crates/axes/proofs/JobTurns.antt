@@ -2,18 +2,19 @@
 use mathlib.Core.Path.{_≡_, refl, sym, _∙_, ap, subst}
 use mathlib.Core.Bool.{Bool, true, false, cond}
 use mathlib.Core.List.{List}
-use Prim.Native.Nat.{ℕ, suc, _+_, _*_, _/_, _%_, _<_, _≤_}
+use Prim.Native.Nat.{ℕ, zero, suc, _+_, _*_, _/_, _%_, _<_, _≤_}
 use native.Mathlib.Nat.{mul-le-mul, mul-le-mul-right}
 use native.Mathlib.Omega.{arith}
-use Rattle.algebra.specs.Kinds.{Kind.symmetric, Kind.antisymmetric, slots}
+use Rattle.algebra.specs.Kinds.{Kind, Kind.symmetric, Kind.antisymmetric, slots}
 use Rattle.algebra.specs.Cell.{J, Group, P1, P2₁, Pm, Pa, P2₁2₁2₁, planes}
 use Rattle.algebra.specs.CellPack.{even}
 use Rattle.slices.proofs.Rows.{row-end, row-split, strided-block}
 use Rattle.slices.proofs.Layouts.{fits-second}
 use Rattle.lengths.specs.Counts.{kindOf, pairCount}
-use Rattle.cell.specs.Volume.{Admitted, groupOf, lineKind, firstPair, layers, rows, columns, volumeLength}
+use Rattle.cell.specs.Volume.{groupOf, lineKind, firstPair, layers, rows, columns, volumeLength}
 use Rattle.cell.specs.Operations.{halvesOf, Sizes}
-use Rattle.axes.specs.Turned.{turnedLine}
+use Rattle.cell.proofs.TurnedLines.{unturned}
+use Rattle.axes.specs.Turned.{turnedLine, turnedStored}
 use Rattle.axes.specs.Lines.{turnedAt}
 use Rattle.axes.specs.Axes.{turnOf, kindAt, alongL, alongH, alongK, turnedL}
 use Rattle.axes.proofs.Numbered.{by-places}
@@ -25,13 +26,17 @@ module _ (a : J) where
   mirror-fits pos true = omega arith
   mirror-fits pos false = omega arith
 
-  pub line-fits : (g : Group) → Admitted g → 0 < a .2 → (h : ℕ) → firstPair (lineKind g h) + slots (lineKind g h) (a .2) ≤ layers g a
+  pub line-fits : (g : Group) → 0 < a .2 → (h : ℕ) → firstPair (lineKind g h) + slots (lineKind g h) (a .2) ≤ layers g a
   unfolding slots planes
-  line-fits P1 ok pos h = omega arith
-  line-fits P2₁ ok pos h = omega arith
-  line-fits Pm ok pos h = omega arith
-  line-fits Pa ok pos h = mirror-fits pos (even h)
-  line-fits P2₁2₁2₁ ok pos h = absurd ok
+  line-fits P1 pos h = omega arith
+  line-fits P2₁ pos h = omega arith
+  line-fits Pm pos h = omega arith
+  line-fits Pa pos h = mirror-fits pos (even h)
+  line-fits P2₁2₁2₁ pos h = omega arith
+
+unturned-line : (m A direction : ℕ) {b : Bool} → b ≡ false → (kind : Kind) (l : List ℕ) → turnedStored m A direction b kind l ≡ turnedLine m A direction kind l
+unturned-line m A zero e kind l = ap (λ b. turnedStored m A 0 b kind l) e
+unturned-line m A (suc d) e kind l = ap (λ b. turnedStored m A 1 b kind l) e
 
 layers-most : (g : Group) (c : ℕ) → 0 < c → planes g c ≤ 2 * c
 unfolding planes
@@ -106,14 +111,14 @@ module _ {group n1 n2 n3 : ℕ} (h : Sizes group n1 n2 n3) where
         sum : (f s : ℕ) → y + f * s + j * s ≡ y + (f + j) * s
         sum f s = omega arith
 
-    pub fits-l : Admitted g → y < rows g a * columns g a → 2 * (y + f * (n1 * (n2 / 2 + 1)) + count * (n1 * (n2 / 2 + 1))) + 2 ≤ volumeLength g a + 2 * (n1 * (n2 / 2 + 1))
-    fits-l ok l =
+    pub fits-l : y < rows g a * columns g a → 2 * (y + f * (n1 * (n2 / 2 + 1)) + count * (n1 * (n2 / 2 + 1))) + 2 ≤ volumeLength g a + 2 * (n1 * (n2 / 2 + 1))
+    fits-l l =
         let below : y < n1 * (n2 / 2 + 1) = subst (λ s. y < s) (λ i. sym twice i * sym next i) l in
-        let whole : f + count ≤ layers g a = subst (λ k. k ≤ layers g a) (sym ((λ i. (ef ∙ ap firstPair kind-is) i + size-l i))) (line-fits a g ok (omega (arith, h .third .low)) (y / columns g a)) in
+        let whole : f + count ≤ layers g a = subst (λ k. k ≤ layers g a) (sym ((λ i. (ef ∙ ap firstPair kind-is) i + size-l i))) (line-fits a g (omega (arith, h .third .low)) (y / columns g a)) in
         omega (arith, below, mul-le-mul-right (n1 * (n2 / 2 + 1)) whole, volume-long)
 
     pub turned-l : (m direction : ℕ) (v : List ℕ) → turnedAt (λ j. y + f * (n1 * (n2 / 2 + 1)) + j * (n1 * (n2 / 2 + 1))) count (turnedLine m (n3 / 2) direction (kindOf kind)) v ≡ turnOf (alongL g a) (turnedL g a m direction) y v
-    turned-l m direction v = by-places (alongL g a) (turnedL g a m direction) y count _ (turnedLine m (n3 / 2) direction (kindOf kind)) v _ size-l (λ j l. place-l j) (λ l. ap (λ k. turnedLine m (n3 / 2) direction k l) kind-is) refl
+    turned-l m direction v = by-places (alongL g a) (turnedL g a m direction) y count _ (turnedLine m (n3 / 2) direction (kindOf kind)) v _ size-l (λ j l. place-l j) (λ l. ap (λ k. turnedLine m (n3 / 2) direction k l) kind-is ∙ sym (unturned-line m (n3 / 2) direction (unturned group (y / columns g a)) (kindAt g a y) l)) refl
 
   -- a row along k
   module _ (y : ℕ) (l : y < layers g a * rows g a) where

@@ -1,4 +1,4 @@
--- The lines of a volume along each axis and what becomes of each: along l by the kind of its group, along h as a plain line, along k as a Hermitian one.
+-- The lines of a volume along each axis and what becomes of each: along l by the kind of its group, with or without its i, along h as a plain line, along k as a Hermitian one.
 -- The lines of a job are numbered: first those along l, then h, then k, each by rising place of its first pair.
 use mathlib.Core.Bool.{cond}
 use mathlib.Core.List.{List}
@@ -8,9 +8,9 @@ use Rattle.algebra.specs.Kinds.{Kind, Kind.plain, slots}
 use Rattle.algebra.specs.Cell.{J, Group}
 use Rattle.slices.specs.Sweep.{Layout, lineOf, setLine, onLists, alongSecond, alongLast}
 use Rattle.lengths.specs.Admitted.{AdmittedLength, FactorList}
-use Rattle.cell.specs.Volume.{lineKind, firstPair, layers, rows, columns}
+use Rattle.cell.specs.Volume.{lineKind, turned, firstPair, layers, rows, columns}
 use Rattle.cell.specs.Operations.{Sizes}
-use Rattle.axes.specs.Turned.{turnedLine, turnedRow}
+use Rattle.axes.specs.Turned.{turnedLine, turnedStored, turnedRow}
 
 -- line y of the list d becomes what G makes of it
 abbrev pub turnOf : Layout → (ℕ → List ℕ → List ℕ) → ℕ → List ℕ → List ℕ
@@ -45,7 +45,7 @@ module _ (g : Group) (a : J) where
   -- what becomes of a line: direction 0 is synthesis, 1 analysis
   module _ (m direction : ℕ) where
     abbrev pub turnedL : ℕ → List ℕ → List ℕ
-    turnedL y l = turnedLine m (a .2) direction (kindAt y) l
+    turnedL y l = turnedStored m (a .2) direction (turned g (y / columns g a)) (kindAt y) l
 
     abbrev pub turnedH : ℕ → List ℕ → List ℕ
     turnedH y l = turnedLine m (a .0) direction plain l

@@ -1,5 +1,5 @@
 -- One packed line of a volume transformed, and one row along k: its pairs 0 and B are real, and a packed Hermitian line has the second of them in the first.
-use mathlib.Core.Bool.{cond}
+use mathlib.Core.Bool.{Bool, cond}
 use mathlib.Core.List.{List}
 use Prim.Native.Nat.{ℕ, zero, suc}
 use lib.Dec.{ltb}
@@ -8,6 +8,7 @@ use Rattle.numbers.specs.declared.Pair.{Pair}
 use Rattle.numbers.specs.Value.{Value, field, conj, i, half, real, valueOf, pairOf}
 use Rattle.slices.specs.Pairs.{at, tab, zeroPair}
 use Rattle.slices.specs.Values.{valuesOf, listOf}
+use Rattle.cell.specs.Volume.{timesI, overI}
 use Rattle.cell.specs.Sums.{axis}
 
 module _ (m A : ℕ) where
@@ -28,6 +29,11 @@ module _ (m A : ℕ) where
   abbrev pub turnedLine : ℕ → Kind → List ℕ → List ℕ
   turnedLine zero = forwardLine
   turnedLine (suc direction) = inverseLine
+
+  -- the same of a line that is stored times i, if b says so: synthesis divides by i after the transform, analysis multiplies before it
+  abbrev pub turnedStored : ℕ → Bool → Kind → List ℕ → List ℕ
+  turnedStored zero b kind l = listOf (slots kind A) (λ s. overI m b (forwardValues kind (valuesOf m l) s))
+  turnedStored (suc direction) b kind l = listOf (slots kind A) (inverseValues kind (λ s. timesI m b (valuesOf m l s)))
 
 -- The pairs 0 to B of a k-line, of which pair 0 and pair B are real: the real part of pair B is the second number of pair 0.
 unfoldable pub joined : (B : ℕ) → (ℕ → Pair) → ℕ → Pair

@@ -28,7 +28,7 @@ use Rattle.numbers.proofs.Values.{pair-path, pair-value, field-ring, field-star
 use Rattle.numbers.proofs.Parts.{half-residue}
 use Rattle.slices.specs.Pairs.{at, Below}
 use Rattle.slices.proofs.Bounds.{small-at}
-use Rattle.cell.specs.Volume.{Admitted, firstPair, pairPlace, rows, columns, volumeLength, factorsIn, packFactors}
+use Rattle.cell.specs.Volume.{firstPair, pairPlace, rows, columns, volumeLength, factorsIn, packFactors}
 use Rattle.cell.specs.Consistency.{sameValue, zeroPair, zeroEnds, consistentFactors, FactorsConsistent}
 use Rattle.cell.proofs.Tests.{true-iff, eq→eqb}
 use Rattle.cell.proofs.VolumeLayout.{is-volume}
@@ -65,12 +65,12 @@ module _ (a : J) (m : ℕ) (v : List ℕ) (small : Below (prime m) v) where
   )
   ends-iff P2₁2₁2₁ h k = (λ t e. absurd (omega (arith, ap firstPair e)), λ f. tt)
 
-module _ (g : Group) (ok : Admitted g) (a : J) (long : Positive a) (m : ℕ) where
+module _ (g : Group) (a : J) (long : Positive a) (m : ℕ) where
   -- a list of residues that stands for the packed factors of a cell of the group is their list
   pub packed-list : (F : Cell (Value m)) → Lawful (field m) (conj m) a g F → (v : List ℕ) → length v ≡ volumeLength g a → Below (prime m) v → PackedIn (ring m) g a F (pairsIn g a m v) → packFactors g a m F ≡ v
   unfolding packFactors
   packed-list F o v len small b = sym (is-volume g a _ v len (λ w h k lw lh lk.
-      sym (pair-value m (small-at (prime m) v (pairPlace g a w h k) small)) ∙ ap pairOf (sym (packed-is g ok a long m F o w h k lw lh lk ∙ b w h k lw lh (omega arith)))))
+      sym (pair-value m (small-at (prime m) v (pairPlace g a w h k) small)) ∙ ap pairOf (sym (packed-is g a long m F o w h k lw lh lk ∙ b w h k lw lh (omega arith)))))
 
   -- cells that are equal inside
   pub lawful-cong : (F E : Cell (Value m)) → ((j : J) → Inside a j → Cell.at E j ≡ Cell.at F j) → Lawful (field m) (conj m) a g F → Lawful (field m) (conj m) a g E
@@ -79,7 +79,7 @@ module _ (g : Group) (ok : Admitted g) (a : J) (long : Positive a) (m : ℕ) whe
   pub pack-cong : (F E : Cell (Value m)) → ((j : J) → Inside a j → Cell.at E j ≡ Cell.at F j) → Lawful (field m) (conj m) a g F → packFactors g a m E ≡ packFactors g a m F
   pack-cong F E e o = let o′ = lawful-cong F E e o in
       packed-list E o′ (packFactors g a m F) (length-factors g a m F) (below-factors g a m F)
-      (pack-iff (res-ring m) (half m) (half-residue m) a long g E _ o′ .1 (λ j n s. e j n ∙ pack-iff (res-ring m) (half m) (half-residue m) a long g F _ o .0 (packed-holds g ok a long m F o) j n s))
+      (pack-iff (res-ring m) (half m) (half-residue m) a long g E _ o′ .1 (λ j n s. e j n ∙ pack-iff (res-ring m) (half m) (half-residue m) a long g F _ o .0 (packed-holds g a long m F o) j n s))
 
   -- the packed factors of a cell of the group pass ..
   packed-passes : (F : Cell (Value m)) → Lawful (field m) (conj m) a g F → T (consistentFactors g a m (packFactors g a m F))
@@ -89,7 +89,7 @@ module _ (g : Group) (ok : Admitted g) (a : J) (long : Positive a) (m : ℕ) whe
       (factors-test (field-ring m) (field-star m) sameValue (same-iff m) g a long (lineAt g a m (packFactors g a m F)) .1 (
         Cell.at F,
         o,
-        λ j n s. pack-iff (res-ring m) (half m) (half-residue m) a long g F _ o .0 (packed-holds g ok a long m F o) j n s ∙ sym (stored-unpacked g ok a long m (packFactors g a m F) (empty-ends g a (long .2) m F) j n s),
+        λ j n s. pack-iff (res-ring m) (half m) (half-residue m) a long g F _ o .0 (packed-holds g a long m F o) j n s ∙ sym (stored-unpacked g a long m (packFactors g a m F) (empty-ends g a (long .2) m F) j n s),
       ))
       (every-place-by _ _ _ _ (λ j h k l. ends-iff a m (packFactors g a m F) (below-factors g a m F) g (j .0) (j .1) .1 (empty-ends g a (long .2) m F (j .0) (j .1) h k)))
 
@@ -100,7 +100,7 @@ module _ (g : Group) (ok : Admitted g) (a : J) (long : Positive a) (m : ℕ) whe
     passing-packed t =
         let f = factors-test (field-ring m) (field-star m) sameValue (same-iff m) g a long (lineAt g a m v) .0 (and-l values-agree _ t) in
         let F : Cell (Value m) = λ h k l. (f .0) (h, k, l) in
-        (F, f .1, packed-list F (f .1) v len small (pack-iff (res-ring m) (half m) (half-residue m) a long g F _ (f .1) .1 (λ j n s. f .2 j n s ∙ stored-unpacked g ok a long m v ends j n s)))
+        (F, f .1, packed-list F (f .1) v len small (pack-iff (res-ring m) (half m) (half-residue m) a long g F _ (f .1) .1 (λ j n s. f .2 j n s ∙ stored-unpacked g a long m v ends j n s)))
       where
         values-agree : Bool
         values-agree = consistentFactorsT (field m) (conj m) sameValue g a (lineAt g a m v)
@@ -118,5 +118,5 @@ module _ (g : Group) (ok : Admitted g) (a : J) (long : Positive a) (m : ℕ) whe
     pub consistent-read : consistentFactors g a m v ≡ true → Lawful (field m) (conj m) a g (factorsIn g a m v) × (packFactors g a m (factorsIn g a m v) ≡ v)
     consistent-read e =
         let f = passing-packed (true-iff _ .0 e) in
-        let same : (j : J) → Inside a j → Cell.at (factorsIn g a m v) j ≡ Cell.at (f .0) j = λ j n. subst (λ u. Cell.at (factorsIn g a m u) j ≡ Cell.at (f .0) j) (f .2) (read-packed g ok a long m (f .0) (f .1) j n) in
+        let same : (j : J) → Inside a j → Cell.at (factorsIn g a m v) j ≡ Cell.at (f .0) j = λ j n. subst (λ u. Cell.at (factorsIn g a m u) j ≡ Cell.at (f .0) j) (f .2) (read-packed g a long m (f .0) (f .1) j n) in
         (lawful-cong (f .0) _ same (f .1), pack-cong (f .0) _ same (f .1) ∙ f .2)

@@ -2,7 +2,7 @@
 -- the numbers of an orbit are zero exactly if F is zero at its index.
 use mathlib.Core.Path.{_≡_, refl, sym, _∙_, ap, subst}
 use mathlib.Core.Logic.{_↔_, Iff·symm, Iff·trans}
-use mathlib.Core.Bool.{Bool, true, false, cond}
+use mathlib.Core.Bool.{Bool, true, false, not, cond}
 use mathlib.Core.List.{List, [], _∷_, _++_}
 use Prim.Native.Nat.{ℕ, suc, _+_, _*_, _-_, _<_, _≤_, min}
 use native.Mathlib.Omega.{arith}
@@ -32,8 +32,9 @@ use Rattle.numbers.proofs.Residues.{val-res}
 use Rattle.numbers.proofs.Values.{value-path, field-ring, field-star}
 use Rattle.slices.specs.Pairs.{at, Below}
 use Rattle.slices.specs.Values.{valuesOf}
-use Rattle.cell.specs.Volume.{Admitted, lineKind, pairPlace, pairNumbers, lineNumbers, numbersRead, lineIn, factorsIn, packFactors}
+use Rattle.cell.specs.Volume.{lineKind, pairPlace, pairNumbers, lineNumbers, numbersRead, lineIn, factorsIn, packFactors}
 use Rattle.cell.specs.Consistency.{all, orbitNumbers, orbitFree}
+use Rattle.cell.proofs.TurnedLines.{over-zero}
 use Rattle.cell.proofs.Tests.{true-iff, eq→eqb}
 use Rattle.cell.proofs.LineReading.{by-half, readLine, read-plain, read-symmetric, alternating-first, alternating-middle, alternating-low, read-first, read-last, read-between}
 use Rattle.cell.proofs.Reading.{pairsIn, lineAt, line-beyond, mate-is, implied-friedel, read-packed, below-factors}
@@ -137,30 +138,32 @@ module _ (g : Group) (a : J) (h k l u : ℕ) (high : a .2 < l) (low : 0 < u) (e 
 abbrev numbersAt : Group → J → J → List ℕ
 numbersAt g a j = lineNumbers g a (lineKind g (j .0)) (j .0) (j .1) (j .2)
 
-stored-free : (g : Group) → Admitted g → (a : J) → 0 < a .2 → (m : ℕ) (v : List ℕ) → Below (prime m) v → (j : J) → j .2 < span g (a .2) → ReadFrom m v (numbersAt g a j) (lineAt g a m v j)
+stored-free : (g : Group) (a : J) → 0 < a .2 → (m : ℕ) (v : List ℕ) → Below (prime m) v → (j : J) → j .2 < span g (a .2) → ReadFrom m v (numbersAt g a j) (lineAt g a m v j)
 unfolding lineIn span
-stored-free P1 ok a pos m v small j s = read-as m v (read-plain m (a .2) (λ w. pairsIn P1 a m v w (j .0) (j .1)) (j .2)) (from-pair m v small (pairPlace P1 a (j .2) (j .0) (j .1)))
-stored-free P2₁ ok a pos m v small j s = free-alternating P2₁ a pos m v small (j .0) (j .1) (j .2) s
-stored-free Pm ok a pos m v small j s = free-symmetric Pm a pos m v small (j .0) (j .1) (j .2) s
-stored-free Pa ok a pos m v small j s = free-mirror Pa a pos m v small (j .0) (j .1) (even (j .0)) (j .2) s
-stored-free P2₁2₁2₁ ok a pos m v small j s = absurd ok
+stored-free P1 a pos m v small j s = read-as m v (read-plain m (a .2) (λ w. pairsIn P1 a m v w (j .0) (j .1)) (j .2)) (from-pair m v small (pairPlace P1 a (j .2) (j .0) (j .1)))
+stored-free P2₁ a pos m v small j s = free-alternating P2₁ a pos m v small (j .0) (j .1) (j .2) s
+stored-free Pm a pos m v small j s = free-symmetric Pm a pos m v small (j .0) (j .1) (j .2) s
+stored-free Pa a pos m v small j s = free-mirror Pa a pos m v small (j .0) (j .1) (even (j .0)) (j .2) s
+stored-free P2₁2₁2₁ a pos m v small j s = Iff·trans (free-alternating P2₁2₁2₁ a pos m v small (j .0) (j .1) (j .2) s) (Iff·symm (over-zero m (not (even (j .0))) _))
 
 -- beyond the stored range the line's own operation leads to the same numbers
-beyond-numbers : (g : Group) → Admitted g → (a : J) (j : J) → Inside a j → span g (a .2) ≤ j .2 → (numbersAt g a j ≡ numbersAt g a (im a (lineSym g) j)) × ((im a (lineSym g) j) .2 < span g (a .2))
+beyond-numbers : (g : Group) (a : J) (j : J) → Inside a j → span g (a .2) ≤ j .2 → (numbersAt g a j ≡ numbersAt g a (im a (lineSym g) j)) × ((im a (lineSym g) j) .2 < span g (a .2))
 unfolding span im flip
-beyond-numbers P1 ok a j n s = absurd (omega (arith, n .2))
-beyond-numbers P2₁ ok a j n s =
+beyond-numbers P1 a j n s = absurd (omega (arith, n .2))
+beyond-numbers P2₁ a j n s =
     let e : negI (a .2) (j .2) ≡ 2 * a .2 - j .2 = neg-pos (a .2) (j .2) (omega arith) (n .2) in
     (numbers-alternating P2₁ a (j .0) (j .1) (j .2) (negI (a .2) (j .2)) (omega arith) (omega (arith, n .2)) (omega (arith, n .2)), omega (arith, n .2))
-beyond-numbers Pm ok a j n s =
+beyond-numbers Pm a j n s =
     let e : negI (a .2) (j .2) ≡ 2 * a .2 - j .2 = neg-pos (a .2) (j .2) (omega arith) (n .2) in
     (numbers-mirror Pm a (j .0) (j .1) (j .2) (negI (a .2) (j .2)) (omega arith) (omega (arith, n .2)) (omega (arith, n .2)) true, omega (arith, n .2))
-beyond-numbers Pa ok a j n s =
+beyond-numbers Pa a j n s =
     let e : negI (a .2) (j .2) ≡ 2 * a .2 - j .2 = neg-pos (a .2) (j .2) (omega arith) (n .2) in
     (numbers-mirror Pa a (j .0) (j .1) (j .2) (negI (a .2) (j .2)) (omega arith) (omega (arith, n .2)) (omega (arith, n .2)) (even (j .0)), omega (arith, n .2))
-beyond-numbers P2₁2₁2₁ ok a j n s = absurd ok
+beyond-numbers P2₁2₁2₁ a j n s =
+    let e : negI (a .2) (j .2) ≡ 2 * a .2 - j .2 = neg-pos (a .2) (j .2) (omega arith) (n .2) in
+    (numbers-alternating P2₁2₁2₁ a (j .0) (j .1) (j .2) (negI (a .2) (j .2)) (omega arith) (omega (arith, n .2)) (omega (arith, n .2)), omega (arith, n .2))
 
-module _ (g : Group) (ok : Admitted g) (a : J) (long : Positive a) (m : ℕ) where
+module _ (g : Group) (a : J) (long : Positive a) (m : ℕ) where
   module _ (v : List ℕ) (small : Below (prime m) v) where
     -- a value is zero exactly if an operation's implied value is
     implied-zero : (s : Sym) (j : J) (x : Value m) → (imp (field m) (conj m) s j x ≡ field m .zer) ↔ (x ≡ field m .zer)
@@ -172,9 +175,9 @@ module _ (g : Group) (ok : Admitted g) (a : J) (long : Positive a) (m : ℕ) whe
 
     line-free : (j : J) → Inside a j → ReadFrom m v (numbersAt g a j) (lineAt g a m v j)
     line-free j n = split (ltb (j .2) (span g (a .2))) (λ b. ReadFrom m v (numbersAt g a j) (lineAt g a m v j))
-        (λ t. stored-free g ok a (long .2) m v small j (ltb→lt _ _ t))
-        (λ t. let s = nltb→le _ _ t in let e = beyond-numbers g ok a j n s in
-        subst (λ places. ReadFrom m v places (lineAt g a m v j)) (sym (e .0)) (read-as m v (line-beyond g ok a m v j n s) (Iff·trans (stored-free g ok a (long .2) m v small (im a (lineSym g) j) (e .1)) (Iff·symm (implied-zero (lineSym g) j _)))))
+        (λ t. stored-free g a (long .2) m v small j (ltb→lt _ _ t))
+        (λ t. let s = nltb→le _ _ t in let e = beyond-numbers g a j n s in
+        subst (λ places. ReadFrom m v places (lineAt g a m v j)) (sym (e .0)) (read-as m v (line-beyond g a m v j n s) (Iff·trans (stored-free g a (long .2) m v small (im a (lineSym g) j) (e .1)) (Iff·symm (implied-zero (lineSym g) j _)))))
 
     -- a factor is zero exactly if the numbers that it is read from are
     pub factor-free : (j : J) → Inside a j → ReadFrom m v (numbersRead g a j) (Cell.at (factorsIn g a m v) j)
@@ -196,8 +199,8 @@ module _ (g : Group) (ok : Admitted g) (a : J) (long : Positive a) (m : ℕ) whe
   pub orbit-free : (F : Cell (Value m)) → Lawful (field m) (conj m) a g F → (j : J) → Inside a j → (orbitFree g a (packFactors g a m F) j ≡ true) ↔ (Cell.at F j ≡ field m .zer)
   unfolding orbitFree factorActs
   orbit-free F o j n = (
-    λ e. sym (read-packed g ok a long m F o j n) ∙ free j n .0 (subst (λ i. Free m v (numbersRead g a i)) (im-one a j) (orbit .0 (true-iff _ .0 e) one (closed (field-ring m) (field-star m) a g .has-one))),
-    λ e. true-iff _ .1 (orbit .1 (λ s ms. free (im a s j) (im-inside a s j n) .1 (read-packed g ok a long m F o (im a s j) (im-inside a s j n) ∙ orbit-zero (factor-action (field-ring m) (field-star m) a) (full g) (closed (field-ring m) (field-star m) a g) s j (Cell.at F) n ms o .1 e))),
+    λ e. sym (read-packed g a long m F o j n) ∙ free j n .0 (subst (λ i. Free m v (numbersRead g a i)) (im-one a j) (orbit .0 (true-iff _ .0 e) one (closed (field-ring m) (field-star m) a g .has-one))),
+    λ e. true-iff _ .1 (orbit .1 (λ s ms. free (im a s j) (im-inside a s j n) .1 (read-packed g a long m F o (im a s j) (im-inside a s j n) ∙ orbit-zero (factor-action (field-ring m) (field-star m) a) (full g) (closed (field-ring m) (field-star m) a g) s j (Cell.at F) n ms o .1 e))),
   )
     where
       v : List ℕ

@@ -21,7 +21,7 @@ use Rattle.numbers.proofs.Residues.{res-ring}
 use Rattle.numbers.proofs.Values.{value-path, field-ring, field-star, conj-real}
 use Rattle.numbers.proofs.Parts.{half-residue}
 use Rattle.slices.specs.Pairs.{Below}
-use Rattle.cell.specs.Volume.{Admitted, volumeLength, packFactors, packMap, mapIn}
+use Rattle.cell.specs.Volume.{volumeLength, packFactors, packMap, mapIn}
 use Rattle.cell.specs.Consistency.{RealMap, ObeysGroup, consistentMap}
 use Rattle.cell.specs.Sums.{axis, mapOf, factorsOf}
 use Rattle.cell.proofs.Consistency.{pack-cong}
@@ -50,8 +50,8 @@ module _ (g : Group) (a : J) (m : ℕ) {h : Value m} {tx ty tz : ℕ → Value m
         factors-cong (field-ring m) (conj m) (axis m (a .0)) (axis m (a .1)) (axis m (a .2)) _ _ read-point (j .0) (j .1) (j .2)
         ∙ factors-map (field-ring m) 𝓧 𝓨 𝓩 F (j .0) (j .1) (j .2) (n .0) (n .1) (n .2)
 
-    pub analysis-packed : Admitted g → packFactors g a m (factorsOf m a (mapIn g a m (packMap g a m (mapOf m a F)))) ≡ packFactors g a m F
-    analysis-packed ok = pack-cong g ok a long m F _ analysis-restores lawful
+    pub analysis-packed : packFactors g a m (factorsOf m a (mapIn g a m (packMap g a m (mapOf m a F)))) ≡ packFactors g a m F
+    analysis-packed = pack-cong g a long m F _ analysis-restores lawful
 
   -- a volume that passes as a map
   module _ (v : List ℕ) (len : length v ≡ volumeLength g a) (small : Below (prime m) v) (passes : consistentMap g a v ≡ true) where

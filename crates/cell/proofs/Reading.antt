@@ -2,9 +2,9 @@
 -- and the packed factors of a cell that obeys group and Friedel are read back as that cell.
 use mathlib.Core.Path.{_≡_, refl, sym, _∙_, ap, ap₂, subst}
 use mathlib.Core.Logic.{_↔_}
-use mathlib.Core.Bool.{Bool, true, false, cond}
+use mathlib.Core.Bool.{Bool, true, false, not, cond}
 use mathlib.Core.List.{List}
-use Prim.Native.Nat.{ℕ, zero, suc, _+_, _*_, _-_, _<_, _≤_}
+use Prim.Native.Nat.{ℕ, suc, _+_, _*_, _-_, _<_, _≤_}
 use native.Mathlib.Omega.{arith}
 use lib.Dec.{T, eqb, eqb→eq, eqb-refl, leb, ltb, nltb→le}
 use lib.ListN.{length}
@@ -12,45 +12,37 @@ use Rattle.algebra.specs.Ring.{pow}
 use Rattle.algebra.specs.Gauss.{gauss}
 use Rattle.algebra.specs.Residue.{residues}
 use Rattle.algebra.specs.Orbit.{cellOf}
-use Rattle.algebra.specs.Kinds.{Kind.symmetric, Kind.antisymmetric}
+use Rattle.algebra.specs.Kinds.{Kind.alternating, Kind.symmetric, Kind.antisymmetric}
 use Rattle.algebra.specs.Cell.{J, Inside, Group, P1, P2₁, Pm, Pa, P2₁2₁2₁, one, friedel, _·_, lineSym, lineRep, rep, span, negI, im, flip, imp, sgn, star, planes, full, Stored, Cell, factorActs}
 use Rattle.algebra.specs.Cell as Cell
 use Rattle.algebra.specs.CellSteps.{Lawful}
 use Rattle.algebra.specs.CellPack as Pack
-use Rattle.algebra.specs.CellPack.{even, partOf, ofPart, unpack, PackedIn}
+use Rattle.algebra.specs.CellPack.{even, packAlt, unpack, PackedIn}
 use Rattle.algebra.proofs.Bool.{and-l, and-r, and-i, split}
 use Rattle.algebra.proofs.Laws.{neg-one-square, neg-one-mul}
 use Rattle.algebra.proofs.ResidueRing.{val-path}
 use Rattle.algebra.proofs.Transform.{pow-across, sign-even}
 use Rattle.algebra.proofs.CellAxis.{neg-zero, neg-pos}
 use Rattle.algebra.proofs.CellSym as S
-use Rattle.algebra.proofs.CellLines.{line-P2₁}
 use Rattle.algebra.proofs.Orbits as O
 use Rattle.algebra.proofs.CellGroup.{factor-action, closed, rep-in, rep-st}
 use Rattle.algebra.proofs.CellTests.{Positive}
 use Rattle.algebra.proofs.CellTests as CellTests
-use Rattle.algebra.proofs.CellPack.{pow-even, signOf, self-sign, pack-iff}
+use Rattle.algebra.proofs.CellPack.{pow-even, signOf, turned-back, real-0, part-c, alt-1, alt-4, pack-iff}
 use Rattle.algebra.proofs.CellRefusals as CellRefusals
 use Rattle.numbers.specs.Prime.{prime}
-use Rattle.numbers.specs.Value.{Value, field, conj, ring, half, valueOf, pairOf}
+use Rattle.numbers.specs.Value.{Value, field, conj, ring, half, value, valueOf, pairOf}
 use Rattle.numbers.proofs.Primes.{prime-pos}
 use Rattle.numbers.proofs.Residues.{res-ring}
 use Rattle.numbers.proofs.Values.{value-path, small-pair, value-pair, field-ring, field-star}
 use Rattle.numbers.proofs.Parts.{half-residue}
 use Rattle.slices.specs.Pairs.{at, Below}
 use Rattle.slices.specs.Values.{valuesOf}
-use Rattle.cell.specs.Volume.{groupOf, Admitted, lineKind, firstPair, pairPlace, rows, columns, layers, volumeLength, lineIn, factorsIn, packed, packFactors}
+use Rattle.cell.specs.Volume.{lineKind, turned, timesI, overI, firstPair, pairPlace, rows, columns, layers, volumeLength, lineIn, factorsIn, packed, packFactors}
 use Rattle.cell.specs.Consistency.{sameValue}
 use Rattle.cell.proofs.VolumeLayout.{length-volume, at-volume, below-volume}
+use Rattle.cell.proofs.TurnedLines.{times-is, over-is}
 use Rattle.cell.proofs.LineReading.{readLine, read-plain, read-alternating, read-symmetric, read-antisymmetric, mirror-alternating, mirror-symmetric, mirror-antisymmetric, packed-plain, packed-alternating, packed-symmetric, packed-antisymmetric, packed-first, packed-last}
-
--- every group that a call admits is one of them
-pub group-admitted : (n : ℕ) → Admitted (groupOf n)
-group-admitted zero = tt
-group-admitted (suc zero) = tt
-group-admitted (suc (suc zero)) = tt
-group-admitted (suc (suc (suc zero))) = tt
-group-admitted (suc (suc (suc (suc n)))) = tt
 
 -- the test of two values
 pub same-iff : (m : ℕ) (x y : Value m) → T (sameValue x y) ↔ (x ≡ y)
@@ -67,6 +59,10 @@ module _ (m : ℕ) (j : J) (x : Value m) where
   implied-P2₁ : imp (field m) (conj m) (lineSym P2₁) j x ≡ field m .mul (pow (field m) minus (j .2)) (conj m x)
   unfolding sgn star
   implied-P2₁ = S.imp-out (field-ring m) (field-star m) true false false true false false true j x ∙ field-ring m .one-mul _ ∙ field-ring m .one-mul _
+
+  implied-4 : imp (field m) (conj m) (lineSym P2₁2₁2₁) j x ≡ field m .mul (signOf (res-ring m) (even (j .0))) (field m .mul (pow (field m) minus (j .2)) (conj m x))
+  unfolding sgn star
+  implied-4 = S.imp-out (field-ring m) (field-star m) true false false true true false true j x ∙ ap₂ (field m .mul) (pow-even (res-ring m) (j .0)) (field-ring m .one-mul _)
 
   implied-Pm : imp (field m) (conj m) (lineSym Pm) j x ≡ x
   unfolding imp sgn star
@@ -107,32 +103,41 @@ module _ (g : Group) (a : J) (m : ℕ) (v : List ℕ) where
   mirror-beyond true q l u h p e = mirror-symmetric m (a .2) q l u h p e ∙ sym (field-ring m .one-mul _)
   mirror-beyond false q l u h p e = mirror-antisymmetric m (a .2) q l u h p e ∙ sym (neg-one-mul (field-ring m) _)
 
-pub line-stored : (g : Group) → Admitted g → (a : J) → 0 < a .2 → (m : ℕ) (v : List ℕ) (h k : ℕ) → EmptyEnds g a m v h k → (l : ℕ) → l < span g (a .2) → lineIn g a m v h k l ≡ unpack (ring m) g a (pairsIn g a m v) (h, k, l)
+pub line-stored : (g : Group) (a : J) → 0 < a .2 → (m : ℕ) (v : List ℕ) (h k : ℕ) → EmptyEnds g a m v h k → (l : ℕ) → l < span g (a .2) → lineIn g a m v h k l ≡ unpack (ring m) g a (pairsIn g a m v) (h, k, l)
 unfolding lineIn unpack span
-line-stored P1 ok a pos m v h k e l s = read-plain m (a .2) (λ w. pairsIn P1 a m v w h k) l
-line-stored P2₁ ok a pos m v h k e l s = read-alternating m (a .2) (λ w. pairsIn P2₁ a m v w h k) pos l s
-line-stored Pm ok a pos m v h k e l s = read-symmetric m (a .2) pos (λ w. pairsIn Pm a m v w h k) l s
-line-stored Pa ok a pos m v h k e l s = mirror-stored Pa a m v pos (even h) (λ w. pairsIn Pa a m v w h k) e l s
-line-stored P2₁2₁2₁ ok a pos m v h k e l s = absurd ok
+line-stored P1 a pos m v h k e l s = read-plain m (a .2) (λ w. pairsIn P1 a m v w h k) l
+line-stored P2₁ a pos m v h k e l s = read-alternating m (a .2) (λ w. pairsIn P2₁ a m v w h k) pos l s
+line-stored Pm a pos m v h k e l s = read-symmetric m (a .2) pos (λ w. pairsIn Pm a m v w h k) l s
+line-stored Pa a pos m v h k e l s = mirror-stored Pa a m v pos (even h) (λ w. pairsIn Pa a m v w h k) e l s
+line-stored P2₁2₁2₁ a pos m v h k e l s = ap (overI m (not (even h))) (read-alternating m (a .2) (λ w. pairsIn P2₁2₁2₁ a m v w h k) pos l s) ∙ over-is m (even h) _
 
--- beyond the stored range, by the line's own operation
-pub line-beyond : (g : Group) → Admitted g → (a : J) (m : ℕ) (v : List ℕ) (j : J) → Inside a j → span g (a .2) ≤ j .2 → lineAt g a m v j ≡ imp (field m) (conj m) (lineSym g) j (lineAt g a m v (im a (lineSym g) j))
-unfolding lineIn span im flip
-line-beyond P1 ok a m v j n s = absurd (omega (arith, n .2))
-line-beyond P2₁ ok a m v j n s =
+-- beyond the stored range an alternating line, whatever the group ..
+alternating-beyond : (g : Group) (a : J) (m : ℕ) (v : List ℕ) (j : J) → Inside a j → suc (a .2) ≤ j .2
+    → readLine m (a .2) alternating (λ w. pairsIn g a m v w (j .0) (j .1)) (j .2)
+    ≡ field m .mul (pow (field m) (field m .neg (field m .one)) (j .2)) (conj m (readLine m (a .2) alternating (λ w. pairsIn g a m v w (j .0) (j .1)) (negI (a .2) (j .2))))
+alternating-beyond g a m v j n s =
     let e : negI (a .2) (j .2) ≡ 2 * a .2 - j .2 = neg-pos (a .2) (j .2) (omega arith) (n .2) in
-    mirror-alternating m (a .2) (λ w. pairsIn P2₁ a m v w (j .0) (j .1)) (j .2) (negI (a .2) (j .2)) (omega arith) (omega (arith, n .2)) (omega (arith, n .2))
-    ∙ ap (λ y. field m .mul y (conj m (lineAt P2₁ a m v (j .0, j .1, negI (a .2) (j .2))))) (pow-across (field-ring m) _ _ (2 * a .2) (neg-one-square (field-ring m)) (sign-even (field-ring m) (a .2)) (negI (a .2) (j .2)) (j .2) 1 (omega (arith, n .2)))
-    ∙ sym (implied-P2₁ m j _)
-line-beyond Pm ok a m v j n s =
+    mirror-alternating m (a .2) (λ w. pairsIn g a m v w (j .0) (j .1)) (j .2) (negI (a .2) (j .2)) (omega arith) (omega (arith, n .2)) (omega (arith, n .2))
+    ∙ ap (λ y. field m .mul y (conj m (readLine m (a .2) alternating (λ w. pairsIn g a m v w (j .0) (j .1)) (negI (a .2) (j .2))))) (pow-across (field-ring m) _ _ (2 * a .2) (neg-one-square (field-ring m)) (sign-even (field-ring m) (a .2)) (negI (a .2) (j .2)) (j .2) 1 (omega (arith, n .2)))
+
+-- .. and any line, by its own operation
+pub line-beyond : (g : Group) (a : J) (m : ℕ) (v : List ℕ) (j : J) → Inside a j → span g (a .2) ≤ j .2 → lineAt g a m v j ≡ imp (field m) (conj m) (lineSym g) j (lineAt g a m v (im a (lineSym g) j))
+unfolding lineIn span im flip
+line-beyond P1 a m v j n s = absurd (omega (arith, n .2))
+line-beyond P2₁ a m v j n s = alternating-beyond P2₁ a m v j n s ∙ sym (implied-P2₁ m j _)
+line-beyond Pm a m v j n s =
     let e : negI (a .2) (j .2) ≡ 2 * a .2 - j .2 = neg-pos (a .2) (j .2) (omega arith) (n .2) in
     mirror-symmetric m (a .2) (λ w. pairsIn Pm a m v w (j .0) (j .1)) (j .2) (negI (a .2) (j .2)) (omega arith) (omega (arith, n .2)) (omega (arith, n .2)) ∙ sym (implied-Pm m j _)
-line-beyond Pa ok a m v j n s =
+line-beyond Pa a m v j n s =
     let e : negI (a .2) (j .2) ≡ 2 * a .2 - j .2 = neg-pos (a .2) (j .2) (omega arith) (n .2) in
     mirror-beyond Pa a m v (even (j .0)) (λ w. pairsIn Pa a m v w (j .0) (j .1)) (j .2) (negI (a .2) (j .2)) (omega arith) (omega (arith, n .2)) (omega (arith, n .2)) ∙ sym (implied-Pa m j _)
-line-beyond P2₁2₁2₁ ok a m v j n s = absurd ok
+line-beyond P2₁2₁2₁ a m v j n s =
+    ap (overI m (not (even (j .0)))) (alternating-beyond P2₁2₁2₁ a m v j n s) ∙ over-is m (even (j .0)) _
+    ∙ turned-back (res-ring m) (half m) (half-residue m) (even (j .0)) _ _
+    ∙ ap (λ y. field m .mul (signOf (res-ring m) (even (j .0))) (field m .mul (pow (field m) (minus m j (value m 0 0)) (j .2)) (conj m y))) (sym (over-is m (even (j .0)) _))
+    ∙ sym (implied-4 m j _)
 
-module _ (g : Group) (ok : Admitted g) (a : J) (m : ℕ) where
+module _ (g : Group) (a : J) (m : ℕ) where
   -- ---- the cell that is read off a volume is the theory's
 
   line-read : (v : List ℕ) (j : J) → Inside a j → lineAt g a m v j ≡ imp (field m) (conj m) (lineRep g a j) j (lineAt g a m v (im a (lineRep g a j) j))
@@ -140,7 +145,7 @@ module _ (g : Group) (ok : Admitted g) (a : J) (m : ℕ) where
   line-read v j n = split (ltb (j .2) (span g (a .2)))
       (λ b. lineAt g a m v j ≡ imp (field m) (conj m) (cond b one (lineSym g)) j (lineAt g a m v (im a (cond b one (lineSym g)) j)))
       (λ t. sym (S.imp-one (field-ring m) (field-star m) j _ ∙ ap (lineAt g a m v) (S.im-one a j)))
-      (λ t. line-beyond g ok a m v j n (nltb→le _ _ t))
+      (λ t. line-beyond g a m v j n (nltb→le _ _ t))
 
   mate-read : (v : List ℕ) (j : J) → Inside a j → conj m (lineAt g a m v (im a friedel j)) ≡ imp (field m) (conj m) (lineRep g a (im a friedel j) · friedel) j (lineAt g a m v (im a (lineRep g a (im a friedel j) · friedel) j))
   mate-read v j n =
@@ -161,15 +166,9 @@ module _ (g : Group) (ok : Admitted g) (a : J) (m : ℕ) where
 -- ---- the packed factors of a cell of the group are the theory's
 
 module _ (a : J) (long : Positive a) (m : ℕ) (F : Cell (Value m)) where
-  -- an alternating line is real at l = 0; at l = A it has one part
-  first-real : Lawful (field m) (conj m) a P2₁ F → (h k : ℕ) → h < 2 * a .0 → k < 2 * a .1 → F h k 0 ≡ ((F h k 0) .0, ring m .zer)
-  unfolding even
-  first-real o h k lh lk = self-sign (res-ring m) (half m) (half-residue m) true (F h k 0)
-      (ap (F h k) (sym (neg-zero (a .2))) ∙ line-P2₁ (field-ring m) (field-star m) a F o h k 0 lh lk (omega (arith, long .2)) ∙ ap (λ y. field m .mul y (conj m (F h k 0))) (pow-even (res-ring m) 0))
-
-  middle-part : Lawful (field m) (conj m) a P2₁ F → (h k : ℕ) → h < 2 * a .0 → k < 2 * a .1 → F h k (a .2) ≡ ofPart (ring m) (even (a .2)) (partOf (ring m) (even (a .2)) (F h k (a .2)))
-  middle-part o h k lh lk = self-sign (res-ring m) (half m) (half-residue m) (even (a .2)) (F h k (a .2))
-      (ap (F h k) (sym (neg-pos (a .2) (a .2) (long .2) (omega (arith, long .2)) ∙ omega arith)) ∙ line-P2₁ (field-ring m) (field-star m) a F o h k (a .2) lh lk (omega (arith, long .2)) ∙ ap (λ y. field m .mul y (conj m (F h k (a .2)))) (pow-even (res-ring m) (a .2)))
+  -- an alternating line, real at l = 0 and with one part at l = A
+  alternating-packed : (g : Group) (X : ℕ → Value m) → ((l : ℕ) → l < 2 * a .2 → X (negI (a .2) l) ≡ field m .mul (pow (field m) (field m .neg (field m .one)) l) (conj m (X l))) → (w : ℕ) → w < a .2 → packed g a m alternating X w ≡ packAlt (ring m) (a .2) X w
+  alternating-packed g X al = packed-alternating g a m X (real-0 (res-ring m) (half m) (half-residue m) (a .2) (long .2) X al) (part-c (res-ring m) (half m) (half-residue m) (a .2) (long .2) X al)
 
   -- an odd h's line of Pa is zero at both
   mirror-packed : Lawful (field m) (conj m) a Pa F → (h k w : ℕ) → h < 2 * a .0 → k < 2 * a .1 → w < suc (a .2) → (b : Bool) → even h ≡ b → packed Pa a m (cond b symmetric antisymmetric) (F h k) w ≡ F h k w
@@ -180,14 +179,16 @@ module _ (a : J) (long : Positive a) (m : ℕ) (F : Cell (Value m)) where
       (CellRefusals.zero-pair (res-ring m) (half m) (half-residue m) sameValue (same-iff m) a long F o h k (a .2) lh lk (omega (arith, long .2)) e (neg-pos (a .2) (a .2) (long .2) (omega (arith, long .2)) ∙ omega arith))
       w lw
 
-pub packed-is : (g : Group) → Admitted g → (a : J) → Positive a → (m : ℕ) (F : Cell (Value m)) → Lawful (field m) (conj m) a g F
-    → (w h k : ℕ) → w < layers g a → h < rows g a → k < columns g a → packed g a m (lineKind g h) (λ l. F h k l) w ≡ Pack.packFactors (ring m) g a F w h k
+pub packed-is : (g : Group) (a : J) → Positive a → (m : ℕ) (F : Cell (Value m)) → Lawful (field m) (conj m) a g F
+    → (w h k : ℕ) → w < layers g a → h < rows g a → k < columns g a → packed g a m (lineKind g h) (λ l. timesI m (turned g h) (F h k l)) w ≡ Pack.packFactors (ring m) g a F w h k
 unfolding Pack.packFactors planes
-packed-is P1 ok a long m F o w h k lw lh lk = packed-plain P1 a m (F h k) w lw
-packed-is P2₁ ok a long m F o w h k lw lh lk = packed-alternating P2₁ a m (F h k) (first-real a long m F o h k lh (omega (arith, long .1))) (middle-part a long m F o h k lh (omega (arith, long .1))) w lw
-packed-is Pm ok a long m F o w h k lw lh lk = packed-symmetric Pm a m (F h k) w lw
-packed-is Pa ok a long m F o w h k lw lh lk = mirror-packed a long m F o h k w lh (omega (arith, long .1)) lw (even h) refl
-packed-is P2₁2₁2₁ ok a long m F o w h k lw lh lk = absurd ok
+packed-is P1 a long m F o w h k lw lh lk = packed-plain P1 a m (F h k) w lw
+packed-is P2₁ a long m F o w h k lw lh lk = alternating-packed a long m F P2₁ (F h k) (alt-1 (res-ring m) (half m) (half-residue m) a long F o h k lh (omega (arith, long .1))) w lw
+packed-is Pm a long m F o w h k lw lh lk = packed-symmetric Pm a m (F h k) w lw
+packed-is Pa a long m F o w h k lw lh lk = mirror-packed a long m F o h k w lh (omega (arith, long .1)) lw (even h) refl
+packed-is P2₁2₁2₁ a long m F o w h k lw lh lk =
+    ap (λ (X : ℕ → Value m). packed P2₁2₁2₁ a m alternating X w) (λ i l. times-is m (even h) (F h k l) i)
+    ∙ alternating-packed a long m F P2₁2₁2₁ _ (alt-4 (res-ring m) (half m) (half-residue m) a long F o h k lh (omega (arith, long .1))) w lw
 
 module _ (g : Group) (a : J) (m : ℕ) (F : Cell (Value m)) where
   pub length-factors : length (packFactors g a m F) ≡ volumeLength g a
@@ -198,11 +199,11 @@ module _ (g : Group) (a : J) (m : ℕ) (F : Cell (Value m)) where
   unfolding packFactors
   below-factors = below-volume g a _ (prime m) (prime-pos m) (λ w h k lw lh lk. small-pair m _)
 
-  pub at-factors : (w h k : ℕ) → w < layers g a → h < rows g a → k < columns g a → at (packFactors g a m F) (pairPlace g a w h k) ≡ pairOf (packed g a m (lineKind g h) (λ l. F h k l) w)
+  pub at-factors : (w h k : ℕ) → w < layers g a → h < rows g a → k < columns g a → at (packFactors g a m F) (pairPlace g a w h k) ≡ pairOf (packed g a m (lineKind g h) (λ l. timesI m (turned g h) (F h k l)) w)
   unfolding packFactors
   at-factors = at-volume g a _
 
-  pub pairs-factors : (w h k : ℕ) → w < layers g a → h < rows g a → k < columns g a → pairsIn g a m (packFactors g a m F) w h k ≡ packed g a m (lineKind g h) (λ l. F h k l) w
+  pub pairs-factors : (w h k : ℕ) → w < layers g a → h < rows g a → k < columns g a → pairsIn g a m (packFactors g a m F) w h k ≡ packed g a m (lineKind g h) (λ l. timesI m (turned g h) (F h k l)) w
   pairs-factors w h k lw lh lk = ap (valueOf m) (at-factors w h k lw lh lk) ∙ value-pair m _
 
 -- the pairs that are no part of a line are zero in the packed factors of any cell
@@ -217,20 +218,20 @@ empty-ends Pa a pos m F h k lh lk e = (
 )
 empty-ends P2₁2₁2₁ a pos m F h k lh lk e = absurd (omega (arith, ap firstPair e))
 
-module _ (g : Group) (ok : Admitted g) (a : J) (long : Positive a) (m : ℕ) where
+module _ (g : Group) (a : J) (long : Positive a) (m : ℕ) where
   -- where the ends are empty, the value that a line stands for is the one that the theory unpacks
   pub stored-unpacked : (v : List ℕ) → ((h k : ℕ) → h < rows g a → k < columns g a → EmptyEnds g a m v h k) → (j : J) → Inside a j → Stored g a j → lineAt g a m v j ≡ unpack (ring m) g a (pairsIn g a m v) j
-  stored-unpacked v e j n s = line-stored g ok a (long .2) m v (j .0) (j .1) (e (j .0) (j .1) (n .0) (omega (arith, s .0))) (j .2) (s .1)
+  stored-unpacked v e j n s = line-stored g a (long .2) m v (j .0) (j .1) (e (j .0) (j .1) (n .0) (omega (arith, s .0))) (j .2) (s .1)
 
   pub factors-unpacked : (v : List ℕ) → ((h k : ℕ) → h < rows g a → k < columns g a → EmptyEnds g a m v h k) → (j : J) → Inside a j
       → Cell.at (factorsIn g a m v) j ≡ cellOf (factorActs (field m) (conj m) a) (rep g a) (unpack (ring m) g a (pairsIn g a m v)) j
   unfolding factorActs
-  factors-unpacked v e j n = factors-read g ok a m v j n
+  factors-unpacked v e j n = factors-read g a m v j n
       ∙ O.cell-cong (factor-action (field-ring m) (field-star m) a) (full g) (closed (field-ring m) (field-star m) a g) (Stored g a) (rep g a) (λ j n. rep-in g a j) (λ j n. rep-st g a j n) _ _ (stored-unpacked v e) j n
 
   module _ (F : Cell (Value m)) (lawful : Lawful (field m) (conj m) a g F) where
     pub packed-holds : PackedIn (ring m) g a F (pairsIn g a m (packFactors g a m F))
-    packed-holds w h k lw lh lk = sym (pairs-factors g a m F w h k lw lh (omega arith) ∙ packed-is g ok a long m F lawful w h k lw lh (omega arith))
+    packed-holds w h k lw lh lk = sym (pairs-factors g a m F w h k lw lh (omega arith) ∙ packed-is g a long m F lawful w h k lw lh (omega arith))
 
     -- the packed factors of a cell of the group are read as that cell
     pub read-packed : (j : J) → Inside a j → Cell.at (factorsIn g a m (packFactors g a m F)) j ≡ Cell.at F j

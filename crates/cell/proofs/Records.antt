@@ -19,7 +19,7 @@ use Rattle.numbers.specs.Value.{Value, field, conj, ring, half}
 use Rattle.numbers.proofs.Residues.{res-ring}
 use Rattle.numbers.proofs.Values.{field-ring, field-star}
 use Rattle.numbers.proofs.Parts.{half-residue}
-use Rattle.cell.specs.Volume.{Admitted, packFactors}
+use Rattle.cell.specs.Volume.{packFactors}
 use Rattle.cell.specs.Consistency.{sameValue, implied, recordOn, recordIn, agreesWithItself}
 use Rattle.cell.proofs.Tests.{true-iff}
 use Rattle.cell.proofs.Reading.{same-iff, pairsIn, packed-holds, length-factors, below-factors}
@@ -41,14 +41,14 @@ module _ (g : Group) (a : J) (long : Positive a) (m : ℕ) where
     unfolding recordIn factorActs
     record-lawful = record-obeys (factor-action (field-ring m) (field-star m) a) (full g) (closed (field-ring m) (field-star m) a g) j x (Cell.at F) inside consistent lawful
 
-    pub record-packed : Admitted g → recordOn g a m j x (packFactors g a m F) ≡ packFactors g a m (recordIn g a m j x F)
+    pub record-packed : recordOn g a m j x (packFactors g a m F) ≡ packFactors g a m (recordIn g a m j x F)
     unfolding recordIn
-    record-packed ok = sym (packed-list g ok a long m (recordIn g a m j x F) record-lawful _
+    record-packed = sym (packed-list g a long m (recordIn g a m j x F) record-lawful _
         (length-images g a m j x (full g) (packFactors g a m F) ∙ length-factors g a m F)
         (below-images g a m j x (full g) (packFactors g a m F) (below-factors g a m F))
         holds)
       where
         holds : PackedIn (ring m) g a (recordIn g a m j x F) (pairsIn g a m (recordOn g a m j x (packFactors g a m F)))
         holds w h k lw lh lk =
-            CellRecord.record-packed (res-ring m) (half m) (half-residue m) a long g F (pairsIn g a m (packFactors g a m F)) j x lawful (packed-holds g ok a long m F lawful) inside consistent w h k lw lh lk
-            ∙ sym (images-hold g a m j x ok (long .2) inside (full g) (packFactors g a m F) (length-factors g a m F) (pairsIn g a m (packFactors g a m F)) (λ w h k lw lh lk. refl) w h k lw lh (omega arith))
+            CellRecord.record-packed (res-ring m) (half m) (half-residue m) a long g F (pairsIn g a m (packFactors g a m F)) j x lawful (packed-holds g a long m F lawful) inside consistent w h k lw lh lk
+            ∙ sym (images-hold g a m j x (long .2) inside (full g) (packFactors g a m F) (length-factors g a m F) (pairsIn g a m (packFactors g a m F)) (λ w h k lw lh lk. refl) w h k lw lh (omega arith))

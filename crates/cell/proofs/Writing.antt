@@ -1,6 +1,6 @@
 -- A value written at a stored place of the list is written into the theory's packed factors, and so is a record with all its images.
 use mathlib.Core.Path.{_≡_, refl, sym, _∙_, ap, subst}
-use mathlib.Core.Bool.{Bool, true, false, cond}
+use mathlib.Core.Bool.{Bool, true, false, not, cond}
 use mathlib.Core.List.{List, [], _∷_}
 use Prim.Native.Nat.{ℕ, zero, suc, _+_, _*_, _<_}
 use native.Mathlib.Omega.{arith}
@@ -27,10 +27,11 @@ use Rattle.slices.specs.Pairs.{at, put, Below}
 use Rattle.slices.proofs.Pairs.{length-put, at-put-same, at-put-other}
 use Rattle.slices.proofs.Rows.{block-inj}
 use Rattle.slices.proofs.Bounds.{below-set, below-put}
-use Rattle.cell.specs.Volume.{Admitted, pairPlace, rows, columns, layers, volumeLength}
-use Rattle.cell.specs.Consistency.{writeAlternating, write, writeImages}
+use Rattle.cell.specs.Volume.{timesI, pairPlace, rows, columns, layers, volumeLength}
+use Rattle.cell.specs.Consistency.{writeAlternating, write, writtenPair, writeImages}
 use Rattle.cell.proofs.VolumeLayout.{place-inside}
 use Rattle.cell.proofs.LineReading.{by-half}
+use Rattle.cell.proofs.TurnedLines.{times-is}
 use Rattle.cell.proofs.Reading.{pairsIn}
 
 -- one number of a pair, set: the other stays
@@ -94,13 +95,15 @@ module _ (a : J) (m : ℕ) (pos : 0 < a .2) (v : List ℕ) (B : FactorVolume (Re
 -- ---- a place of any group, and a record
 
 module _ (a : J) (m : ℕ) (pos : 0 < a .2) (v : List ℕ) where
-  write-holds : (g : Group) → Admitted g → length v ≡ volumeLength g a → (B : FactorVolume (Residue m)) → Holds g a m v B → (j : J) → Inside a j → Stored g a j → (x : Value m) → Holds g a m (write g a g v j (pairOf x)) (putFactor (ring m) g a B j x)
-  unfolding write putFactor span planes
-  write-holds P1 ok len B e j n s x = put-holds P1 a m v B len e (j .2) (j .0) (j .1) (s .1) (n .0) (omega (arith, s .0)) (pairOf x) x (value-pair m x)
-  write-holds P2₁ ok len B e j n s x = alternating-holds a m pos v B len e (j .0) (j .1) (n .0) (omega (arith, s .0)) x (j .2) (s .1)
-  write-holds Pm ok len B e j n s x = put-holds Pm a m v B len e (j .2) (j .0) (j .1) (s .1) (n .0) (omega (arith, s .0)) (pairOf x) x (value-pair m x)
-  write-holds Pa ok len B e j n s x = put-holds Pa a m v B len e (j .2) (j .0) (j .1) (s .1) (n .0) (omega (arith, s .0)) (pairOf x) x (value-pair m x)
-  write-holds P2₁2₁2₁ ok len B e j n s x = absurd ok
+  write-holds : (g : Group) → length v ≡ volumeLength g a → (B : FactorVolume (Residue m)) → Holds g a m v B → (j : J) → Inside a j → Stored g a j → (x : Value m) → Holds g a m (write g a g v j (writtenPair g a m j x)) (putFactor (ring m) g a B j x)
+  unfolding write writeAlternating putFactor span planes
+  write-holds P1 len B e j n s x = put-holds P1 a m v B len e (j .2) (j .0) (j .1) (s .1) (n .0) (omega (arith, s .0)) (pairOf x) x (value-pair m x)
+  write-holds P2₁ len B e j n s x = alternating-holds a m pos v B len e (j .0) (j .1) (n .0) (omega (arith, s .0)) x (j .2) (s .1)
+  write-holds Pm len B e j n s x = put-holds Pm a m v B len e (j .2) (j .0) (j .1) (s .1) (n .0) (omega (arith, s .0)) (pairOf x) x (value-pair m x)
+  write-holds Pa len B e j n s x = put-holds Pa a m v B len e (j .2) (j .0) (j .1) (s .1) (n .0) (omega (arith, s .0)) (pairOf x) x (value-pair m x)
+  write-holds P2₁2₁2₁ len B e j n s x =
+      subst (λ y. Holds P2₁2₁2₁ a m (writeAlternating P2₁2₁2₁ a v (j .0) (j .1) (j .2) (writtenPair P2₁2₁2₁ a m j x)) (putAlt (ring m) (a .2) B (j .0) (j .1) (j .2) y)) (times-is m (even (j .0)) x)
+      (alternating-holds a m pos v B len e (j .0) (j .1) (n .0) (omega (arith, s .0)) (timesI m (not (even (j .0))) x) (j .2) (s .1))
 
 cond-keeps : {A : Type 0} (P : A → Type 0) (b : Bool) {x y : A} → P x → P y → P (cond b x y)
 cond-keeps P true p q = p
@@ -147,11 +150,11 @@ module _ (g : Group) (a : J) where
     below-images (s ∷ l) v b = below-images l _ (cond-keeps (Below (prime m)) (storedT g a (im a s j)) (below-write g v (im a s j) _ b (small-pair m _)) b)
 
     -- a list that stands for B stands, after the record, for what the theory's record makes of B
-    pub images-hold : Admitted g → 0 < a .2 → Inside a j → (l : List Sym) (v : List ℕ) → length v ≡ volumeLength g a → (B : FactorVolume (Residue m)) → Holds g a m v B
+    pub images-hold : 0 < a .2 → Inside a j → (l : List Sym) (v : List ℕ) → length v ≡ volumeLength g a → (B : FactorVolume (Residue m)) → Holds g a m v B
         → Holds g a m (writeImages g a m l j x v) (putAll (factorActs (field m) (conj m) a) (putFactor (ring m) g a) (storedT g a) l B j x)
     unfolding writeImages putAll factorActs
-    images-hold ok pos n [] v len B e = e
-    images-hold ok pos n (s ∷ l) v len B e = images-hold ok pos n l _
+    images-hold pos n [] v len B e = e
+    images-hold pos n (s ∷ l) v len B e = images-hold pos n l _
         (cond-keeps (AsLong v) (storedT g a (im a s j)) (length-write g v (im a s j) _) refl ∙ len)
         _
-        (split-both (Holds g a m) (storedT g a (im a s j)) (λ t. write-holds a m pos v g ok len B e (im a s j) (im-inside a s j n) (stored-iff g a (im a s j) .0 t) (imp (field m) (conj m) s j x)) (λ t. e))
+        (split-both (Holds g a m) (storedT g a (im a s j)) (λ t. write-holds a m pos v g len B e (im a s j) (im-inside a s j n) (stored-iff g a (im a s j) .0 t) (imp (field m) (conj m) s j x)) (λ t. e))

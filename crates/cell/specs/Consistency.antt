@@ -18,7 +18,7 @@ use Rattle.numbers.specs.declared.Pair.{Pair}
 use Rattle.numbers.specs.Prime.{prime}
 use Rattle.numbers.specs.Value.{Value, field, conj, real, pairOf}
 use Rattle.slices.specs.Pairs.{at, put, Below}
-use Rattle.cell.specs.Volume.{Admitted, volumeLength, layers, rows, columns, pairPlace, mapPlace, numbersRead, lineIn, packFactors, packMap}
+use Rattle.cell.specs.Volume.{turned, timesI, volumeLength, layers, rows, columns, pairPlace, mapPlace, numbersRead, lineIn, packFactors, packMap}
 
 -- two values have the same numbers
 abbrev pub sameValue : {p : ℕ} → Res p × Res p → Res p × Res p → Bool
@@ -48,10 +48,13 @@ module _ (g : Group) (a : J) where
     abbrev pub implied : Sym → J → Value m → Value m
     implied s j x = imp (field m) (conj m) s j x
 
-    -- a record: each operation in turn writes its image, where that is stored
+    -- a record: each operation in turn writes its image, where that is stored, times i where its line is turned
+    abbrev pub writtenPair : J → Value m → Pair
+    writtenPair j x = pairOf (timesI m (turned g (j .0)) x)
+
     unfoldable pub writeImages : List Sym → J → Value m → List ℕ → List ℕ
     writeImages [] j x v = v
-    writeImages (s ∷ l) j x v = writeImages l j x (cond (storedT g a (im a s j)) (write g v (im a s j) (pairOf (implied s j x))) v)
+    writeImages (s ∷ l) j x v = writeImages l j x (cond (storedT g a (im a s j)) (write g v (im a s j) (writtenPair (im a s j) (implied s j x))) v)
 
     abbrev pub recordOn : J → Value m → List ℕ → List ℕ
     recordOn j x v = writeImages (full g) j x v
@@ -115,5 +118,5 @@ module _ (g : Group) (a : J) where
 
 -- Refusal 14, which stands behind the refusals of a volume's length and of numbers that are no residues, is exactly this for any axes.
 pub record ConsistentExactly : Type 0 where
-  pub factors : (g : Group) → Admitted g → (a : J) → (1 ≤ a .0) × (1 ≤ a .1) × (1 ≤ a .2) → (m : ℕ) (v : List ℕ) → length v ≡ volumeLength g a → Below (prime m) v → (consistentFactors g a m v ≡ true) ↔ FactorsConsistent g a m v
+  pub factors : (g : Group) (a : J) → (1 ≤ a .0) × (1 ≤ a .1) × (1 ≤ a .2) → (m : ℕ) (v : List ℕ) → length v ≡ volumeLength g a → Below (prime m) v → (consistentFactors g a m v ≡ true) ↔ FactorsConsistent g a m v
   pub maps : (g : Group) (a : J) → (1 ≤ a .0) × (1 ≤ a .1) × (1 ≤ a .2) → (m : ℕ) (v : List ℕ) → length v ≡ volumeLength g a → Below (prime m) v → (consistentMap g a v ≡ true) ↔ MapConsistent g a m v

@@ -1,6 +1,6 @@
 -- The volume as a list of numbers: the packed factors (the paper's box) and the map with its zeros, and the cells that both stand for.
 -- An axis is known by its half: a = (N1/2, B, A) with N2 = 2 B and N3 = 2 A. A volume has W * N1 * (B + 1) pairs.
-use mathlib.Core.Bool.{_&&_, _||_, cond}
+use mathlib.Core.Bool.{Bool, true, false, _&&_, _||_, not, cond}
 use mathlib.Core.List.{List, [], _∷_}
 use Prim.Native.Nat.{ℕ, suc, _+_, _*_, _-_, _/_, _%_, min}
 use lib.ListN.{getD}
@@ -18,21 +18,30 @@ use Rattle.slices.specs.Values.{valuesOf}
 abbrev pub groupOf : ℕ → Group
 groupOf n = getD (P1 ∷ P2₁ ∷ Pm ∷ Pa ∷ []) n P1
 
--- the groups among them
-abbrev pub Admitted : Group → Type 0
-Admitted P1 = Unit {0}
-Admitted P2₁ = Unit {0}
-Admitted Pm = Unit {0}
-Admitted Pa = Unit {0}
-Admitted P2₁2₁2₁ = ⊥
-
--- The kind of the line along l at h. (P2₁2₁2₁ is in the theory and admitted by no call: `groupOf` never gives it, and its clauses here are to be completed when it is.)
+-- the kind of the line along l at h
 abbrev pub lineKind : Group → ℕ → Kind
 lineKind P1 h = plain
 lineKind P2₁ h = alternating
 lineKind Pm h = symmetric
 lineKind Pa h = cond (even h) symmetric antisymmetric
 lineKind P2₁2₁2₁ h = alternating
+
+-- the line is stored times i: an odd h's line of P2₁2₁2₁ is alternating only so
+abbrev pub turned : Group → ℕ → Bool
+turned P1 h = false
+turned P2₁ h = false
+turned Pm h = false
+turned Pa h = false
+turned P2₁2₁2₁ h = not (even h)
+
+-- a value times i and over i where the line is turned, else the value
+abbrev pub timesI : (m : ℕ) → Bool → Value m → Value m
+timesI m false x = x
+timesI m true x = field m .mul (i m) x
+
+abbrev pub overI : (m : ℕ) → Bool → Value m → Value m
+overI m false x = x
+overI m true x = field m .mul (field m .neg (i m)) x
 
 -- the first of the W pairs that belongs to a line of the kind: an antisymmetric line leaves the pairs 0 and A out
 abbrev pub firstPair : Kind → ℕ
@@ -68,24 +77,24 @@ module _ (g : Group) (a : J) where
   unfoldable pub volumeOf : (ℕ → ℕ → ℕ → Pair) → List ℕ
   volumeOf f = tab pairCount (λ j. f (j / columns / rows) (j / columns % rows) (j % columns))
 
-  -- Packed factors. The packed line of (h, k) is the pairs of its kind; in Pa with h odd the pairs 0 and A are no part of it, and zero.
+  -- Packed factors. The packed line of (h, k) is the pairs of its kind, of the line times i where it is turned; in Pa with h odd the pairs 0 and A are no part of it, and zero.
   module _ (m : ℕ) where
     abbrev pub packedLine : List ℕ → (h k : ℕ) → ℕ → Value m
     packedLine v h k w = valuesOf m v (pairPlace (firstPair (lineKind g h) + w) h k)
 
     unfoldable pub lineIn : List ℕ → (h k : ℕ) → ℕ → Value m
-    lineIn v h k l = unfoldBefore (field m) (conj m) (i m) (real m (half m)) (a .2) (lineKind g h) (packedLine v h k) l
+    lineIn v h k l = overI m (turned g h) (unfoldBefore (field m) (conj m) (i m) (real m (half m)) (a .2) (lineKind g h) (packedLine v h k) l)
 
     -- The factors that a volume stands for: k above B through the line of (-h, -k), any other from its own.
     unfoldable pub factorsIn : List ℕ → Cell (Value m)
     factorsIn v h k l = cond (leb k (a .1)) (lineIn v h k l) (conj m (lineIn v (negI (a .0) h) (negI (a .1) k) (negI (a .2) l)))
 
-    -- and back: the line F(h, k, l) along l packed by its kind, as before the transform
+    -- and back: a line X along l packed by its kind, as before the transform; it is F(h, k, l), times i where it is turned
     unfoldable pub packed : Kind → (ℕ → Value m) → ℕ → Value m
     packed kind X w = cond (leb (firstPair kind) w && ltb w (firstPair kind + slots kind (a .2))) (packBefore (field m) (conj m) (i m) (real m (half m)) (a .2) kind X (w - firstPair kind)) (value m 0 0)
 
     unfoldable pub packFactors : Cell (Value m) → List ℕ
-    packFactors F = volumeOf (λ w h k. pairOf (packed (lineKind g h) (λ l. F h k l) w))
+    packFactors F = volumeOf (λ w h k. pairOf (packed (lineKind g h) (λ l. timesI m (turned g h) (F h k l)) w))
 
   -- The map: for each stored plane z and each x, both rising, the N2 numbers by y, then two zeros; the pair k of a row has y = 2 k and y = 2 k + 1.
   unfoldable pub mapPair : {p : ℕ} → Cell (Res p × Res p) → ℕ → ℕ → ℕ → Pair
@@ -94,7 +103,7 @@ module _ (g : Group) (a : J) where
   abbrev pub mapPlace : J → ℕ
   mapPlace x = (x .2 * rows + x .0) * (2 * columns) + x .1
 
-  -- the place of a point's number: on a plane that is not stored, that of its image under the group's other operation
+  -- the place of a point's number: on a plane that is not stored, that of its image under the group's first operation but the identity
   abbrev pub densityPlace : J → ℕ
   densityPlace x = mapPlace (pim a (prep g a x) x)
 

@@ -1,4 +1,4 @@
--- An index between the ends of k and of l: no operation but the identity leads to a stored index.
+-- An index between the ends of k and of l: no operation but the identity leads to a stored index; but in P2₁2₁2₁ one does, that which changes the sign of h alone.
 use mathlib.Core.Path.{_≡_, refl, sym, _∙_, ap}
 use mathlib.Core.Bool.{Bool, true, false, _&&_}
 use mathlib.Core.List.{List, [], _∷_}
@@ -6,7 +6,7 @@ use Prim.Native.Nat.{ℕ, suc, _≤_, _<_}
 use native.Mathlib.Omega.{arith}
 use lib.Dec.{leb, ltb}
 use borrow.Author.Tests.{le-ltb, lt-leb}
-use Rattle.algebra.specs.Cell.{J, Sym, Sym.sym as op, friedel, Group, P1, P2₁, Pm, Pa, span, im, flip, negI}
+use Rattle.algebra.specs.Cell.{J, Sym, Sym.sym as op, friedel, Group, P1, P2₁, Pm, Pa, P2₁2₁2₁, span, im, flip, negI}
 use Rattle.algebra.specs.CellTests.{every, storedT}
 use Rattle.algebra.proofs.CellAxis.{neg-pos}
 use Rattle.cell.specs.Volume.{groupOf}
@@ -14,6 +14,10 @@ use Rattle.cell.specs.Consistency.{lineAgrees}
 use Rattle.cell.specs.TestSteps.{imageAgrees}
 use Rattle.cell.proofs.OperationLaws.{by-group}
 use Rattle.consistency.proofs.TestLaws.{identity-agrees, image-skipped}
+
+and-true : (b : Bool) → (b && true) ≡ b
+and-true true = refl
+and-true false = refl
 
 module _ {A : Type 0} (P : A → Bool) where
   both : {s t : A} → P s ≡ true → P t ≡ true → every (s ∷ t ∷ []) P ≡ true
@@ -23,6 +27,10 @@ module _ {A : Type 0} (P : A → Bool) where
   four : {s t u v : A} → P s ≡ true → P t ≡ true → P u ≡ true → P v ≡ true → every (s ∷ t ∷ u ∷ v ∷ []) P ≡ true
   unfolding every
   four e f g h = λ i. e i && (f i && (g i && (h i && true)))
+
+  last-of-eight : {s t u v w x y z : A} → P s ≡ true → P t ≡ true → P u ≡ true → P v ≡ true → P w ≡ true → P x ≡ true → P y ≡ true → every (s ∷ t ∷ u ∷ v ∷ w ∷ x ∷ y ∷ z ∷ []) P ≡ P z
+  unfolding every
+  last-of-eight {z = z} a b c d e f g = (λ i. a i && (b i && (c i && (d i && (e i && (f i && (g i && (P z && true)))))))) ∙ and-true (P z)
 
 and-false : (b : Bool) → (b && false) ≡ false
 and-false true = refl
@@ -59,3 +67,16 @@ module _ (a : J) (m : ℕ) (v : List ℕ) (j : J) where
         (four (imageAgrees Pm a m v j) (identity-agrees Pm a m v j) (l-skipped Pm (op false false false true false false false) refl refl lo′ hi′) (mate Pm) (k-skipped Pm (op true true true false false false false) refl lo hi))
         (four (imageAgrees Pa a m v j) (identity-agrees Pa a m v j) (l-skipped Pa (op false false false true true false false) refl refl lo′ hi′) (mate Pa) (k-skipped Pa (op true true true false true false false) refl lo hi))
         n l
+
+    -- P2₁2₁2₁: Friedel's rule after the third operation, F(-h, k, l) = (-1)^(h + k) conj F(h, k, l), is the one image to be tried
+    pub inner-4 : 0 < j .2 → j .2 < a .2 → lineAgrees P2₁2₁2₁ a m v j ≡ imageAgrees P2₁2₁2₁ a m v j (op true true false false true true false)
+    unfolding im flip span
+    inner-4 lo′ hi′ =
+        last-of-eight (imageAgrees P2₁2₁2₁ a m v j)
+        (identity-agrees P2₁2₁2₁ a m v j)
+        (k-skipped P2₁2₁2₁ (op false true true false true false true) refl lo hi)
+        (l-skipped P2₁2₁2₁ (op false true false true false true true) refl refl lo′ hi′)
+        (k-skipped P2₁2₁2₁ (op false false true true true true false) refl lo hi)
+        (mate P2₁2₁2₁)
+        (l-skipped P2₁2₁2₁ (op true false false true true false true) refl refl lo′ hi′)
+        (k-skipped P2₁2₁2₁ (op true false true false false true true) refl lo hi)

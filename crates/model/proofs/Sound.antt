@@ -27,12 +27,12 @@ use Rattle.factors.specs.Factors.{octal}
 use Rattle.kinds.specs.Transform.{rootOf}
 use Rattle.lengths.specs.Admitted.{AdmittedLength}
 use Rattle.kinds.proofs.Axes.{own, axis-own}
-use Rattle.cell.specs.Volume.{Admitted, volumeLength, factorsIn, packFactors, packMap, densityPlace, mapIn}
+use Rattle.cell.specs.Volume.{volumeLength, factorsIn, packFactors, packMap, densityPlace, mapIn}
 use Rattle.cell.specs.Consistency.{sameValue, orbitFree, recordOn, recordIn, agreesWithItself, consistentFactors, consistentMap, RealMap, ObeysGroup}
 use Rattle.cell.specs.Sums.{axis, mapOf, factorsOf}
 use Rattle.axes.specs.Axes.{JobSizes}
 use Rattle.cell.proofs.Tests.{true-iff}
-use Rattle.cell.proofs.Reading.{group-admitted, same-iff, length-factors, below-factors, read-packed}
+use Rattle.cell.proofs.Reading.{same-iff, length-factors, below-factors, read-packed}
 use Rattle.cell.proofs.Consistency.{factors-consistent}
 use Rattle.cell.proofs.VolumeLayout.{length-map, below-map}
 use Rattle.cell.proofs.Maps.{map-consistent, map-cong}
@@ -79,9 +79,6 @@ unfolding rootOf
 axis-laws h = axis-own 1 first-modulus _ (h .positive) (h .half-turns)
 
 module _ (m : Model) (sound : Sound m) where
-  admitted : Admitted (group m)
-  admitted = group-admitted (m .header .group)
-
   sizes : JobSizes (m .header .group) (m .header .lengths .0) (m .header .lengths .1) (m .header .lengths .2) (octal (m .header .list1)) (octal (m .header .list2)) (octal (m .header .list3))
   sizes = valid-job-sizes (modelJob m) (sound .valid)
 
@@ -105,16 +102,16 @@ module _ (m : Model) (sound : Sound m) where
   -- ---- factors
 
   pub factors-pass : consistentFactors (group m) (half m) 1 (factorVolume m) ≡ true
-  factors-pass = factors-consistent (group m) admitted (half m) halves-positive 1 (factorVolume m) (length-factors (group m) (half m) 1 (m .F)) (below-factors (group m) (half m) 1 (m .F)) .1 (m .F, sound .lawful, refl)
+  factors-pass = factors-consistent (group m) (half m) halves-positive 1 (factorVolume m) (length-factors (group m) (half m) 1 (m .F)) (below-factors (group m) (half m) 1 (m .F)) .1 (m .F, sound .lawful, refl)
 
   pub factor-read : (j : J) → Inside (half m) j → at (factorsIn (group m) (half m) 1 (factorVolume m)) j ≡ factorOf m j
-  factor-read = read-packed (group m) admitted (half m) halves-positive 1 (m .F) (sound .lawful)
+  factor-read = read-packed (group m) (half m) halves-positive 1 (m .F) (sound .lawful)
 
   -- 24: the numbers of an orbit are zero exactly if F is zero at its index
   pub orbit-zero : (j : J) → Inside (half m) j → orbitFree (group m) (half m) (factorVolume m) j ≡ sameValue (factorOf m j) (value 1 0 0)
   unfolding gauss residues
   orbit-zero j n =
-      let free = orbit-free (group m) admitted (half m) halves-positive 1 (m .F) (sound .lawful) j n in
+      let free = orbit-free (group m) (half m) halves-positive 1 (m .F) (sound .lawful) j n in
       let same = same-iff 1 (factorOf m j) (value 1 0 0) in
       same-test _ _ (λ t. same .1 (free .0 (true-iff _ .1 t))) (λ t. true-iff _ .0 (free .1 (same .0 t)))
 
@@ -124,7 +121,7 @@ module _ (m : Model) (sound : Sound m) where
     lawful-recorded = record-lawful (group m) (half m) halves-positive 1 (m .F) (sound .lawful) j inside x agrees
 
     pub recorded-packed : recordOn (group m) (half m) 1 j x (factorVolume m) ≡ packFactors (group m) (half m) 1 (recordIn (group m) (half m) 1 j x (m .F))
-    recorded-packed = record-packed (group m) (half m) halves-positive 1 (m .F) (sound .lawful) j inside x agrees admitted
+    recorded-packed = record-packed (group m) (half m) halves-positive 1 (m .F) (sound .lawful) j inside x agrees
 
   -- ---- the map
 
@@ -153,4 +150,4 @@ module _ (m : Model) (sound : Sound m) where
   synthesis-gives = map-cong (group m) (half m) halves-positive 1 _ _ (λ x n. CellMap.map-cong (field-ring 1) (axis 1 (half m .0)) (axis 1 (half m .1)) (axis 1 (half m .2)) _ _ factor-read (x .0) (x .1) (x .2))
 
   pub analysis-gives : packFactors (group m) (half m) 1 (factorsOf 1 (half m) (mapIn (group m) (half m) 1 (mapVolume m))) ≡ factorVolume m
-  analysis-gives = analysis-packed (group m) (half m) 1 (axis-laws (sizes .first)) (axis-laws (sizes .second)) (axis-laws (sizes .third)) (m .F) (sound .lawful) admitted
+  analysis-gives = analysis-packed (group m) (half m) 1 (axis-laws (sizes .first)) (axis-laws (sizes .second)) (axis-laws (sizes .third)) (m .F) (sound .lawful)

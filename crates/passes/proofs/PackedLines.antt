@@ -1,6 +1,6 @@
 -- What the transform makes of a packed line that keeps the rule of its kind: the packed transform of the whole line, and back. And the rule that each line along l
 -- of a cell of a group keeps.
-use mathlib.Core.Path.{_≡_, refl, _∙_, ap}
+use mathlib.Core.Path.{_≡_, refl, sym, _∙_, ap, subst}
 use mathlib.Core.Logic.{_⊎_, inl, inr}
 use mathlib.Core.Bool.{Bool, true, false, cond}
 use Prim.Native.Nat.{ℕ, suc, _+_, _*_, _<_, _≤_}
@@ -9,7 +9,7 @@ use native.Mathlib.Decide.{ℕ-discrete}
 use Rattle.algebra.specs.Ring.{Ops, CRing, Star}
 use Rattle.algebra.specs.Fourier.{dft}
 use Rattle.algebra.specs.Axis.{Axis, AxisLaws}
-use Rattle.algebra.specs.Kinds.{Kind, Kind.symmetric, Kind.antisymmetric, slots, packBefore, packAfter, RuleBefore, RuleAfter, forward, inverse}
+use Rattle.algebra.specs.Kinds.{Kind, Kind.alternating, Kind.symmetric, Kind.antisymmetric, slots, packBefore, packAfter, RuleBefore, RuleAfter, forward, inverse}
 use Rattle.algebra.specs.Cell.{J, Group, P1, P2₁, Pm, Pa, P2₁2₁2₁, planes, negI, Cell}
 use Rattle.algebra.specs.CellSteps.{Lawful}
 use Rattle.algebra.specs.CellPack.{even}
@@ -18,12 +18,15 @@ use Rattle.algebra.proofs.Transform.{dft-cong}
 use Rattle.algebra.proofs.Unfold.{at-zero, at-mirror}
 use Rattle.algebra.proofs.Rules.{before-pack, after-pack, pack-before-cong, pack-after-cong, transform-rule}
 use Rattle.algebra.proofs.CellLines.{line-P2₁, line-Pm, line-Pa}
-use Rattle.algebra.proofs.CellPack.{signOf, pow-even}
+use Rattle.algebra.proofs.CellTests.{Positive}
+use Rattle.algebra.proofs.CellPack.{signOf, pow-even, alt-4}
 use Rattle.numbers.specs.Value.{Value, field, conj, i, half, real}
 use Rattle.numbers.proofs.Residues.{res-ring}
 use Rattle.numbers.proofs.Values.{field-ring, field-star}
+use Rattle.numbers.proofs.Parts.{half-residue}
 use Rattle.kinds.proofs.Reading.{forward-cong, back-cong}
-use Rattle.cell.specs.Volume.{Admitted, lineKind, firstPair, layers}
+use Rattle.cell.specs.Volume.{lineKind, turned, timesI, firstPair, layers}
+use Rattle.cell.proofs.TurnedLines.{times-is}
 
 module _ {R : Type 0} {𝓞 : Ops R} {conj : R → R} {i : R} (𝓡 : CRing 𝓞) (𝓢 : Star 𝓞 conj i) {half : R} {axis : Axis R} {tau : ℕ → R} (𝓐 : AxisLaws 𝓞 conj i half axis tau) where
   open Ops 𝓞 using (mul as _⊗_, neg as ⊖_, zer as 𝟘)
@@ -64,15 +67,15 @@ module _ (a : J) where
       go (no n) (yes e) = off refl (inr e)
       go (no n) (no d) = on (omega arith) (omega arith)
 
-  pub by-line : (g : Group) → Admitted g → 0 < a .2 → (h w : ℕ) → w < layers g a → {P : Type 0}
+  pub by-line : (g : Group) → 0 < a .2 → (h w : ℕ) → w < layers g a → {P : Type 0}
       → (firstPair (lineKind g h) ≤ w → w < firstPair (lineKind g h) + slots (lineKind g h) (a .2) → P)
       → (lineKind g h ≡ antisymmetric → (w ≡ 0) ⊎ (w ≡ a .2) → P) → P
   unfolding slots planes
-  by-line P1 ok pos h w l on off = on (omega arith) (omega arith)
-  by-line P2₁ ok pos h w l on off = on (omega arith) (omega arith)
-  by-line Pm ok pos h w l on off = on (omega arith) (omega arith)
-  by-line Pa ok pos h w l on off = mirror-pairs pos (even h) w l on off
-  by-line P2₁2₁2₁ ok pos h w l on off = absurd ok
+  by-line P1 pos h w l on off = on (omega arith) (omega arith)
+  by-line P2₁ pos h w l on off = on (omega arith) (omega arith)
+  by-line Pm pos h w l on off = on (omega arith) (omega arith)
+  by-line Pa pos h w l on off = mirror-pairs pos (even h) w l on off
+  by-line P2₁2₁2₁ pos h w l on off = on (omega arith) (omega arith)
 
   -- the ends of an antisymmetric line are on no line
   pub off-line : 0 < a .2 → {k : Kind} → k ≡ antisymmetric → (w : ℕ) → (w ≡ 0) ⊎ (w ≡ a .2) → (t : ℕ) → t < slots k (a .2) → firstPair k + t ≡ w → ⊥
@@ -87,13 +90,13 @@ module _ (a : J) where
     mirror-placed true Z t = along Z t (0 + t) (omega arith)
     mirror-placed false Z t = along Z (suc t) (1 + t) (omega arith)
 
-    pub placed-after : (g : Group) → Admitted g → (h : ℕ) (Z : ℕ → Value m) (t : ℕ) → packAfter (field m) (conj m) (i m) (real m (half m)) (a .2) (lineKind g h) Z t ≡ Z (firstPair (lineKind g h) + t)
+    pub placed-after : (g : Group) (h : ℕ) (Z : ℕ → Value m) (t : ℕ) → packAfter (field m) (conj m) (i m) (real m (half m)) (a .2) (lineKind g h) Z t ≡ Z (firstPair (lineKind g h) + t)
     unfolding packAfter
-    placed-after P1 ok h Z t = along Z t (0 + t) (omega arith)
-    placed-after P2₁ ok h Z t = along Z t (0 + t) (omega arith)
-    placed-after Pm ok h Z t = along Z t (0 + t) (omega arith)
-    placed-after Pa ok h Z t = mirror-placed (even h) Z t
-    placed-after P2₁2₁2₁ ok h Z t = absurd ok
+    placed-after P1 h Z t = along Z t (0 + t) (omega arith)
+    placed-after P2₁ h Z t = along Z t (0 + t) (omega arith)
+    placed-after Pm h Z t = along Z t (0 + t) (omega arith)
+    placed-after Pa h Z t = mirror-placed (even h) Z t
+    placed-after P2₁2₁2₁ h Z t = along Z t (0 + t) (omega arith)
 
     module _ (F : Cell (Value m)) where
       mirror-rule : Lawful (field m) (conj m) a Pa F → (h k : ℕ) → h < 2 * a .0 → k < 2 * a .1 → (b : Bool) → even h ≡ b
@@ -102,12 +105,13 @@ module _ (a : J) where
       mirror-rule o h k lh lk true e = λ l ll. line-Pa (field-ring m) (field-star m) a F o h k l lh lk ll ∙ ap (λ y. field m .mul y (F h k l)) (pow-even (res-ring m) h ∙ ap (signOf (res-ring m)) e) ∙ field-ring m .one-mul _
       mirror-rule o h k lh lk false e = λ l ll. line-Pa (field-ring m) (field-star m) a F o h k l lh lk ll ∙ ap (λ y. field m .mul y (F h k l)) (pow-even (res-ring m) h ∙ ap (signOf (res-ring m)) e) ∙ neg-one-mul (field-ring m) _
 
-  -- each line along l of a cell of the group keeps the rule of its kind
-  pub line-rule : (g : Group) → Admitted g → (m : ℕ) (F : Cell (Value m)) → Lawful (field m) (conj m) a g F → (h k : ℕ) → h < 2 * a .0 → k < 2 * a .1
-      → RuleBefore (field m) (conj m) (i m) (real m (half m)) (a .2) (lineKind g h) (F h k)
+  -- each line along l of a cell of the group keeps the rule of its kind, times i where it is so stored
+  pub line-rule : (g : Group) → Positive a → (m : ℕ) (F : Cell (Value m)) → Lawful (field m) (conj m) a g F → (h k : ℕ) → h < 2 * a .0 → k < 2 * a .1
+      → RuleBefore (field m) (conj m) (i m) (real m (half m)) (a .2) (lineKind g h) (λ l. timesI m (turned g h) (F h k l))
   unfolding negI
-  line-rule P1 ok m F o h k lh lk = tt
-  line-rule P2₁ ok m F o h k lh lk = λ l ll. line-P2₁ (field-ring m) (field-star m) a F o h k l lh lk ll
-  line-rule Pm ok m F o h k lh lk = λ l ll. line-Pm (field-ring m) (field-star m) a F o h k l lh lk ll
-  line-rule Pa ok m F o h k lh lk = mirror-rule m F o h k lh lk (even h) refl
-  line-rule P2₁2₁2₁ ok m F o h k lh lk = absurd ok
+  line-rule P1 long m F o h k lh lk = tt
+  line-rule P2₁ long m F o h k lh lk = λ l ll. line-P2₁ (field-ring m) (field-star m) a F o h k l lh lk ll
+  line-rule Pm long m F o h k lh lk = λ l ll. line-Pm (field-ring m) (field-star m) a F o h k l lh lk ll
+  line-rule Pa long m F o h k lh lk = mirror-rule m F o h k lh lk (even h) refl
+  line-rule P2₁2₁2₁ long m F o h k lh lk =
+      subst (λ (X : ℕ → Value m). RuleBefore (field m) (conj m) (i m) (real m (half m)) (a .2) alternating X) (λ i l. sym (times-is m (even h) (F h k l)) i) (alt-4 (res-ring m) (half m) (half-residue m) a long F o h k lh lk)

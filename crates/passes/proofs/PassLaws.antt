@@ -1,8 +1,8 @@
--- The three passes of synthesis and of analysis on a volume, for every group that a call admits. After the l-lines the pair (w, h, k) is the sum over l at z = w,
+-- The three passes of synthesis and of analysis on a volume, for every group. After the l-lines the pair (w, h, k) is the sum over l at z = w,
 -- after the h-lines the sum over h of that, after the k-lines the row of the map; and back.
 use mathlib.Core.Path.{_≡_, refl, sym, _∙_, ap, ap₂, subst}
 use mathlib.Core.Logic.{_⊎_, inl, inr}
-use mathlib.Core.Bool.{cond}
+use mathlib.Core.Bool.{Bool, true, false, cond}
 use mathlib.Core.List.{List, [], _∷_}
 use Prim.Native.Nat.{ℕ, zero, suc, _+_, _*_, _-_, _<_}
 use native.Mathlib.Omega.{arith}
@@ -11,6 +11,7 @@ use borrow.Author.Tests.{lt-ltb, le-ltb}
 use Rattle.algebra.specs.Ring.{Ops, CRing}
 use Rattle.algebra.specs.Residue.{residues}
 use Rattle.algebra.specs.Gauss.{gauss, imag}
+use Rattle.algebra.specs.Fourier.{dft}
 use Rattle.algebra.specs.Axis.{AxisLaws}
 use Rattle.algebra.specs.Line.{pack-by}
 use Rattle.algebra.specs.Kinds.{Kind, Kind.plain, Kind.hermitian, Kind.antisymmetric, slots, unfoldBefore, unfoldAfter, packBefore, packAfter, RuleBefore}
@@ -20,9 +21,10 @@ use Rattle.algebra.proofs.Laws.{along}
 use Rattle.algebra.proofs.Solver.{ring, quote}
 use Rattle.algebra.proofs.Parts.{real-gauss}
 use Rattle.algebra.proofs.Unfold.{at-zero, at-mirror}
-use Rattle.algebra.proofs.Transform.{dft-cong, inversion}
+use Rattle.algebra.proofs.Transform.{dft-cong, dft-mul, inversion}
 use Rattle.algebra.proofs.Rules.{transform-rule, inverse-rule, pack-before-cong}
 use Rattle.algebra.proofs.CellGroup.{friedel-mem}
+use Rattle.algebra.proofs.CellTests.{Positive}
 use Rattle.algebra.proofs.CellSteps.{synthesis, halfway-h, hermitian as hermitian-lines}
 use Rattle.algebra.proofs.CellLawful.{opened-lawful}
 use Rattle.numbers.specs.declared.Pair.{Pair}
@@ -36,8 +38,9 @@ use Rattle.slices.specs.Pairs.{at, zeroPair}
 use Rattle.slices.specs.Values.{valuesOf}
 use Rattle.slices.specs.Sweep.{Layout, sweep, onLists}
 use Rattle.slices.proofs.Pairs.{at-tab}
-use Rattle.cell.specs.Volume.{Admitted, lineKind, firstPair, layers, rows, columns, volumeOf, packed, packFactors, mapPair, packMap}
+use Rattle.cell.specs.Volume.{lineKind, turned, timesI, overI, firstPair, layers, rows, columns, volumeOf, packed, packFactors, mapPair, packMap}
 use Rattle.cell.specs.Consistency.{RealMap, ObeysGroup}
+use Rattle.cell.proofs.TurnedLines.{over-times, over-zero}
 use Rattle.cell.specs.Sums.{axis, mapOf, factorsOf}
 use Rattle.axes.specs.Turned.{forwardValues, inverseValues, joined, parted, forwardRow, inverseRow}
 use Rattle.axes.specs.Axes.{alongL, alongH, alongK, turnedL, turnedH, turnedK}
@@ -73,7 +76,7 @@ module _ (m : ℕ) where
   unfolding valueOf
   value-numbers x y = value-path (res-val m (x .0)) (res-val m (y .0))
 
-module _ (g : Group) (ok : Admitted g) (a : J) (m : ℕ) {tx ty tz : ℕ → Value m}
+module _ (g : Group) (a : J) (m : ℕ) {tx ty tz : ℕ → Value m}
     (𝓧 : AxisLaws (field m) (conj m) (i m) (real m (half m)) (axis m (a .0)) tx) (𝓨 : AxisLaws (field m) (conj m) (i m) (real m (half m)) (axis m (a .1)) ty)
     (𝓩 : AxisLaws (field m) (conj m) (i m) (real m (half m)) (axis m (a .2)) tz) where
   -- a pass: every line of the layout in its turn
@@ -95,44 +98,71 @@ module _ (g : Group) (ok : Admitted g) (a : J) (m : ℕ) {tx ty tz : ℕ → Val
 
   -- ---- along l
 
-  module _ (F : Cell (Value m)) (lawful : Lawful (field m) (conj m) a g F) where
-    abbrev boxed : ℕ → ℕ → ℕ → Value m
-    boxed w h k = packed g a m (lineKind g h) (λ l. F h k l) w
+  long : Positive a
+  long = (𝓧 .positive, 𝓨 .positive, 𝓩 .positive)
 
-    boxed-in : (h k t : ℕ) → t < slots (lineKind g h) (a .2) → boxed (firstPair (lineKind g h) + t) h k ≡ packBefore (field m) (conj m) (i m) (real m (half m)) (a .2) (lineKind g h) (F h k) t
+  -- the transform of a line times i is the transform times i
+  times-dft : (b : Bool) (X : ℕ → Value m) (s : ℕ) → dft (field m) (2 * a .2) (axis m (a .2) .w) (λ l. timesI m b (X l)) s ≡ timesI m b (dft (field m) (2 * a .2) (axis m (a .2) .w) X s)
+  times-dft false X s = refl
+  times-dft true X s = dft-mul (field-ring m) (2 * a .2) _ (i m) X s
+
+  module _ (F : Cell (Value m)) (lawful : Lawful (field m) (conj m) a g F) where
+    -- a line as it is stored, and its transform
+    abbrev lineOf : (h k : ℕ) → ℕ → Value m
+    lineOf h k l = timesI m (turned g h) (F h k l)
+
+    abbrev after : (h k : ℕ) → ℕ → Value m
+    after h k s = dft (field m) (2 * a .2) (axis m (a .2) .w) (lineOf h k) s
+
+    after-is : (h k s : ℕ) → after h k s ≡ timesI m (turned g h) (L F h k s)
+    unfolding afterL
+    after-is h k s = times-dft (turned g h) (F h k) s
+
+    over-after : (h k s : ℕ) → overI m (turned g h) (after h k s) ≡ L F h k s
+    over-after h k s = ap (overI m (turned g h)) (after-is h k s) ∙ over-times m (turned g h) _
+
+    abbrev boxed : ℕ → ℕ → ℕ → Value m
+    boxed w h k = packed g a m (lineKind g h) (lineOf h k) w
+
+    boxed-in : (h k t : ℕ) → t < slots (lineKind g h) (a .2) → boxed (firstPair (lineKind g h) + t) h k ≡ packBefore (field m) (conj m) (i m) (real m (half m)) (a .2) (lineKind g h) (lineOf h k) t
     boxed-in h k t lt =
-        packed-in g a m (F h k) (lineKind g h) (firstPair (lineKind g h) + t) (omega arith) (omega (arith, lt))
-        ∙ along (packBefore (field m) (conj m) (i m) (real m (half m)) (a .2) (lineKind g h) (F h k)) (firstPair (lineKind g h) + t - firstPair (lineKind g h)) t (omega arith)
+        packed-in g a m (lineOf h k) (lineKind g h) (firstPair (lineKind g h) + t) (omega arith) (omega (arith, lt))
+        ∙ along (packBefore (field m) (conj m) (i m) (real m (half m)) (a .2) (lineKind g h) (lineOf h k)) (firstPair (lineKind g h) + t - firstPair (lineKind g h)) t (omega arith)
+
+    rule : (h k : ℕ) → h < rows g a → k < columns g a → RuleBefore (field m) (conj m) (i m) (real m (half m)) (a .2) (lineKind g h) (lineOf h k)
+    rule h k lh lk = line-rule a g long m F lawful h k lh (inside-column lk)
 
     -- the pairs that are no part of a line are zero before and after
     ends : (h k : ℕ) → h < rows g a → k < columns g a → lineKind g h ≡ antisymmetric → (w : ℕ) → (w ≡ 0) ⊎ (w ≡ a .2) → boxed w h k ≡ L F h k w
-    unfolding gauss residues afterL
+    unfolding gauss residues
     ends h k lh lk e w z =
-        ap (λ kind. packed g a m kind (F h k) w) e ∙ empty w z
-        ∙ sym (antisymmetric-ends (field-ring m) (field-star m) 𝓩 (F h k) (subst (λ kind. RuleOf kind) e (line-rule a g ok m F lawful h k lh (inside-column lk))) w z)
+        ap (λ kind. packed g a m kind (lineOf h k) w) e ∙ empty w z
+        ∙ sym (over-zero m (turned g h) (after h k w) .1 (antisymmetric-ends (field-ring m) (field-star m) 𝓩 (lineOf h k) (subst (λ kind. RuleOf kind) e (rule h k lh lk)) w z))
+        ∙ over-after h k w
       where
         RuleOf : Kind → Type 0
-        RuleOf kind = RuleBefore (field m) (conj m) (i m) (real m (half m)) (a .2) kind (F h k)
+        RuleOf kind = RuleBefore (field m) (conj m) (i m) (real m (half m)) (a .2) kind (lineOf h k)
 
-        empty : (w : ℕ) → (w ≡ 0) ⊎ (w ≡ a .2) → packed g a m antisymmetric (F h k) w ≡ value m 0 0
-        empty w (inl q) = ap (packed g a m antisymmetric (F h k)) q ∙ packed-first g a m (F h k)
-        empty w (inr q) = ap (packed g a m antisymmetric (F h k)) q ∙ packed-last g a m (F h k) (𝓩 .positive)
+        empty : (w : ℕ) → (w ≡ 0) ⊎ (w ≡ a .2) → packed g a m antisymmetric (lineOf h k) w ≡ value m 0 0
+        empty w (inl q) = ap (packed g a m antisymmetric (lineOf h k)) q ∙ packed-first g a m (lineOf h k)
+        empty w (inr q) = ap (packed g a m antisymmetric (lineOf h k)) q ∙ packed-last g a m (lineOf h k) (𝓩 .positive)
 
     pub pass-l : pass (alongL g a) (turnedL g a m 0) (packFactors g a m F) ≡ planesOf (L F)
-    unfolding packFactors afterL
-    pass-l = sweep-l g a ok (𝓩 .positive) m (λ kind. forwardValues m (a .2) kind) boxed (λ w h k. L F h k w)
+    unfolding packFactors
+    pass-l = sweep-l g a (𝓩 .positive) m (λ h X s. overI m (turned g h) (forwardValues m (a .2) (lineKind g h) X s)) boxed (λ w h k. L F h k w)
         (λ h k lh lk p e t lt.
-        forward-packed (field-ring m) (field-star m) 𝓩 (lineKind g h) (F h k) p (line-rule a g ok m F lawful h k lh (inside-column lk)) (λ t lt. e t lt ∙ boxed-in h k t lt) t lt
-        ∙ placed-after a m g ok h _ t)
+        ap (overI m (turned g h))
+        (forward-packed (field-ring m) (field-star m) 𝓩 (lineKind g h) (lineOf h k) p (rule h k lh lk) (λ t lt. e t lt ∙ boxed-in h k t lt) t lt ∙ placed-after a m g h _ t)
+        ∙ over-after h k (firstPair (lineKind g h) + t))
         ends
 
     pub back-l : pass (alongL g a) (turnedL g a m 1) (planesOf (L F)) ≡ packFactors g a m F
-    unfolding packFactors afterL
-    back-l = sweep-l g a ok (𝓩 .positive) m (λ kind. inverseValues m (a .2) kind) (λ w h k. L F h k w) boxed
+    unfolding packFactors
+    back-l = sweep-l g a (𝓩 .positive) m (λ h X. inverseValues m (a .2) (lineKind g h) (λ s. timesI m (turned g h) (X s))) (λ w h k. L F h k w) boxed
         (λ h k lh lk p e t lt.
-        back-packed (field-ring m) (field-star m) 𝓩 (lineKind g h) _ p (transform-rule (field-ring m) (field-star m) 𝓩 (lineKind g h) (F h k) (line-rule a g ok m F lawful h k lh (inside-column lk)))
-        (λ s ls. e s ls ∙ sym (placed-after a m g ok h _ s)) t lt
-        ∙ pack-before-cong (field-ring m) (field-star m) 𝓩 (lineKind g h) _ _ (λ t l. inversion (field-ring m) (2 * a .2) _ _ _ (𝓩 .root) (F h k) t l) t lt
+        back-packed (field-ring m) (field-star m) 𝓩 (lineKind g h) (after h k) (λ s. timesI m (turned g h) (p s)) (transform-rule (field-ring m) (field-star m) 𝓩 (lineKind g h) (lineOf h k) (rule h k lh lk))
+        (λ s ls. ap (timesI m (turned g h)) (e s ls) ∙ sym (after-is h k (firstPair (lineKind g h) + s)) ∙ sym (placed-after a m g h (after h k) s)) t lt
+        ∙ pack-before-cong (field-ring m) (field-star m) 𝓩 (lineKind g h) _ _ (λ t l. inversion (field-ring m) (2 * a .2) _ _ _ (𝓩 .root) (lineOf h k) t l) t lt
         ∙ sym (boxed-in h k t lt))
         (λ h k lh lk e w z. sym (ends h k lh lk e w z))
 

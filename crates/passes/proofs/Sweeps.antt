@@ -5,7 +5,7 @@ use mathlib.Core.List.{List}
 use Prim.Native.Nat.{ℕ, _+_, _*_, _-_, _/_, _%_, _<_, _≤_}
 use native.Mathlib.Omega.{arith}
 use lib.ListN.{length}
-use Rattle.algebra.specs.Kinds.{Kind, Kind.antisymmetric, slots}
+use Rattle.algebra.specs.Kinds.{Kind.antisymmetric, slots}
 use Rattle.algebra.specs.Cell.{J, Group}
 use Rattle.numbers.specs.declared.Pair.{Pair}
 use Rattle.numbers.specs.Value.{Value, valueOf, pairOf}
@@ -17,7 +17,7 @@ use Rattle.slices.proofs.Pairs.{at-tab}
 use Rattle.slices.proofs.Rows.{row-end, row-col, row-inj, row-split}
 use Rattle.slices.proofs.Sweep.{length-sweep, at-sweep, at-sweep-other, local-lists}
 use Rattle.slices.proofs.Layouts.{disjoint-second, disjoint-last, place-second}
-use Rattle.cell.specs.Volume.{Admitted, lineKind, firstPair, layers, rows, columns, volumeLength, pairPlace, volumeOf}
+use Rattle.cell.specs.Volume.{lineKind, firstPair, layers, rows, columns, volumeLength, pairPlace, volumeOf}
 use Rattle.axes.specs.Axes.{alongL, alongH, alongK, kindAt}
 use Rattle.cell.proofs.VolumeLayout.{length-volume, at-volume, is-volume}
 use Rattle.passes.proofs.PackedLines.{by-line, off-line}
@@ -36,11 +36,11 @@ module _ (g : Group) (a : J) where
   apart-l : (z y f W R C h k : ℕ) → z + f * (R * C) ≡ (W * R + h) * C + k → h * C + k ≡ y → f * (R * C) + z ≡ W * (R * C) + y
   apart-l z y f W R C h k q e = omega arith
 
-  module _ (ok : Admitted g) (pos : 0 < a .2) where
+  module _ (pos : 0 < a .2) where
     -- the lines along l have no place in common
     pub disjoint-l : Disjoint (alongL g a) (volumeLength g a)
     disjoint-l = record {
-      inside = λ y t ly lt. inside (firstPair (kindAt g a y)) (slots (kindAt g a y) (a .2)) y t ly lt (line-fits a g ok pos (y / columns g a));
+      inside = λ y t ly lt. inside (firstPair (kindAt g a y)) (slots (kindAt g a y) (a .2)) y t ly lt (line-fits a g pos (y / columns g a));
       apart = λ y z s t ly lz ls lt e. let w = row-inj {m = rows g a * columns g a} (firstPair (kindAt g a y) + s) (firstPair (kindAt g a z) + t) ly lz (omega (arith, e)) in
           (w .1, same y z s t (w .1) (w .0));
     }
@@ -51,12 +51,12 @@ module _ (g : Group) (a : J) where
         same : (y z s t : ℕ) → y ≡ z → firstPair (kindAt g a y) + s ≡ firstPair (kindAt g a z) + t → s ≡ t
         same y z s t e q = omega (arith, ap (λ y. firstPair (kindAt g a y)) e)
 
-    module _ (m : ℕ) (φ : Kind → (ℕ → Value m) → ℕ → Value m) (U Y′ : ℕ → ℕ → ℕ → Value m)
+    module _ (m : ℕ) (φ : ℕ → (ℕ → Value m) → ℕ → Value m) (U Y′ : ℕ → ℕ → ℕ → Value m)
         (on : (h k : ℕ) → h < rows g a → k < columns g a → (p : ℕ → Value m) → ((t : ℕ) → t < slots (lineKind g h) (a .2) → p t ≡ U (firstPair (lineKind g h) + t) h k)
-        → (t : ℕ) → t < slots (lineKind g h) (a .2) → φ (lineKind g h) p t ≡ Y′ (firstPair (lineKind g h) + t) h k)
+        → (t : ℕ) → t < slots (lineKind g h) (a .2) → φ h p t ≡ Y′ (firstPair (lineKind g h) + t) h k)
         (off : (h k : ℕ) → h < rows g a → k < columns g a → lineKind g h ≡ antisymmetric → (w : ℕ) → (w ≡ 0) ⊎ (w ≡ a .2) → U w h k ≡ Y′ w h k) where
       abbrev linesL : ℕ → List ℕ → List ℕ
-      linesL y l = listOf (slots (kindAt g a y) (a .2)) (φ (kindAt g a y) (valuesOf m l))
+      linesL y l = listOf (slots (kindAt g a y) (a .2)) (φ (y / columns g a) (valuesOf m l))
 
       abbrev d : List ℕ
       d = volumeOf g a (λ w h k. pairOf (U w h k))
@@ -90,7 +90,7 @@ module _ (g : Group) (a : J) where
             ∙ swept (alongL g a) linesL disjoint-l y t d (length-volume g a _) ly lt
             ∙ at-tab _ (slots (lineKind g h) (a .2)) t lt
             ∙ ap pairOf (on h k lh lk (valuesOf m (tab (slots (lineKind g h) (a .2)) (lineOf (alongL g a) y d)))
-            (λ t lt. ap (valueOf m) (at-tab _ (slots (lineKind g h) (a .2)) t lt ∙ ap (at d) (place-is (firstPair (lineKind g h) + t)) ∙ was (firstPair (lineKind g h) + t) (omega (arith, lt, line-fits a g ok pos h))) ∙ value-pair m _)
+            (λ t lt. ap (valueOf m) (at-tab _ (slots (lineKind g h) (a .2)) t lt ∙ ap (at d) (place-is (firstPair (lineKind g h) + t)) ∙ was (firstPair (lineKind g h) + t) (omega (arith, lt, line-fits a g pos h))) ∙ value-pair m _)
             t lt)
 
         off-lines : lineKind g h ≡ antisymmetric → (w : ℕ) → w < layers g a → (w ≡ 0) ⊎ (w ≡ a .2) → at s (pairPlace g a w h k) ≡ pairOf (Y′ w h k)
@@ -104,7 +104,7 @@ module _ (g : Group) (a : J) where
                 off-line a pos (ap (kindAt g a) (c .1) ∙ e) w z t lt (c .0)
 
         at-line : (w : ℕ) → w < layers g a → at s (pairPlace g a w h k) ≡ pairOf (Y′ w h k)
-        at-line w lw = by-line a g ok pos h w lw {P = at s (pairPlace g a w h k) ≡ pairOf (Y′ w h k)}
+        at-line w lw = by-line a g pos h w lw {P = at s (pairPlace g a w h k) ≡ pairOf (Y′ w h k)}
             (λ lo hi. subst (λ w. at s (pairPlace g a w h k) ≡ pairOf (Y′ w h k)) {x = firstPair (lineKind g h) + (w - firstPair (lineKind g h))} {y = w} (omega (arith, lo)) (on-line (w - firstPair (lineKind g h)) (omega (arith, lo, hi))))
             (λ e z. off-lines e w lw z)
 

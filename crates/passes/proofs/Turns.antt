@@ -23,7 +23,7 @@ use Rattle.slices.proofs.Values.{below-list}
 use Rattle.axes.specs.Axes.{turnOf, alongL, alongH, alongK, lineCount, lineOfTurn, turnedL, turnedH, turnedK, jobTurn}
 use Rattle.axes.proofs.Numbered.{order-k, order-h, order-l}
 use Rattle.passes.specs.Turns.{turns}
-use Rattle.axes.specs.Turned.{parted, turnedLine, turnedRow}
+use Rattle.axes.specs.Turned.{parted, turnedLine, turnedStored, turnedRow}
 
 module _ (step : ℕ → List ℕ → List ℕ) where
   pub turns-next : (j n : ℕ) (d : List ℕ) → turns step j (n + 1) d ≡ step (j + n) (turns step j n d)
@@ -77,6 +77,10 @@ below-turn {p} L G y d b h = below-puts (L .place y) _ (L .size y) h (λ t lt. s
 
 -- the numbers of a transformed line and of a row are residues
 module _ (m A : ℕ) where
+  pub below-stored : (direction : ℕ) (b : Bool) (k : Kind) (l : List ℕ) → Below (prime m) (turnedStored m A direction b k l)
+  below-stored zero b k l = below-list m _ _
+  below-stored (suc d) b k l = below-list m _ _
+
   pub below-line : (direction : ℕ) (k : Kind) (l : List ℕ) → Below (prime m) (turnedLine m A direction k l)
   below-line zero k l = below-list m _ _
   below-line (suc d) k l = below-list m _ _
@@ -118,7 +122,7 @@ module _ (g : Group) (a : J) (m direction : ℕ) where
 
   pub below-job-turn : (j : ℕ) (d : List ℕ) → Below (prime m) d → Below (prime m) (jobTurn g a m direction j d)
   below-job-turn j d b = by-turn (Below (prime m)) j d
-      (λ y. below-turn (alongL g a) (turnedL g a m direction) y d (below-line m (a .2) direction _) b)
+      (λ y. below-turn (alongL g a) (turnedL g a m direction) y d (below-stored m (a .2) direction _ _) b)
       (λ y. below-turn (alongH g a) (turnedH g a m direction) y d (below-line m (a .0) direction plain) b)
       (λ y. below-turn (alongK g a) (turnedK g a m direction) y d (below-row m (a .1) direction) b)
 

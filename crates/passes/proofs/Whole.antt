@@ -22,7 +22,6 @@ use Rattle.cell.specs.Sums.{axis, mapOf, factorsOf}
 use Rattle.cell.specs.Operations.{halvesOf}
 use Rattle.passes.specs.Turns.{turns}
 use Rattle.axes.specs.Axes.{alongL, alongH, alongK, lineCount, lineOfTurn, turnedL, turnedH, turnedK, jobTurn, JobSizes}
-use Rattle.cell.proofs.Reading.{group-admitted}
 use Rattle.cell.proofs.Consistency.{consistent-read}
 use Rattle.cell.proofs.Maps.{consistent-map-read}
 use Rattle.passes.proofs.PassLaws.{synthesis-passes, analysis-passes}
@@ -88,9 +87,9 @@ module _ (m : ℕ) (is : IsModulus m) {group n1 n2 n3 f1 f2 f3 : ℕ} (job : Job
   -- all lines, in the order of their numbers
   pub synthesised : consistentFactors g a m v ≡ true → turns (λ n u. jobTurn g a m 0 (lineOfTurn g a 0 n) u) 0 (lineCount g a) v ≡ packMap g a m (mapOf m a (factorsIn g a m v))
   synthesised e =
-      let r = consistent-read g (group-admitted group) a long m v len small e in
+      let r = consistent-read g a long m v len small e in
       turned-along g a m 0 (lineCount g a) v ∙ ap (turns (jobTurn g a m 0) 0 (lineCount g a)) (sym (r .1)) ∙ run-forward g a m 0 _
-      ∙ synthesis-passes g (group-admitted group) a m (axis-laws m is (job .first)) (axis-laws m is (job .second)) (axis-laws m is (job .third)) (factorsIn g a m v) (r .0)
+      ∙ synthesis-passes g a m (axis-laws m is (job .first)) (axis-laws m is (job .second)) (axis-laws m is (job .third)) (factorsIn g a m v) (r .0)
 
   -- the lines along k, then those along h, then those along l
   pub analysed : consistentMap g a v ≡ true → turns (λ n u. jobTurn g a m 1 (lineOfTurn g a 1 n) u) 0 (lineCount g a) v ≡ packFactors g a m (factorsOf m a (mapIn g a m v))
@@ -98,4 +97,4 @@ module _ (m : ℕ) (is : IsModulus m) {group n1 n2 n3 f1 f2 f3 : ℕ} (job : Job
       let r = consistent-map-read g a long m v len small e in
       turned-back g a m 1 v ∙ run-backward g a m 1 v
       ∙ ap (λ u. sweep (alongL g a) (onLists (alongL g a) (turnedL g a m 1)) (alongL g a .count) (sweep (alongH g a) (onLists (alongH g a) (turnedH g a m 1)) (alongH g a .count) (sweep (alongK g a) (onLists (alongK g a) (turnedK g a m 1)) (alongK g a .count) u))) (sym (r .2))
-      ∙ analysis-passes g (group-admitted group) a m (axis-laws m is (job .first)) (axis-laws m is (job .second)) (axis-laws m is (job .third)) (mapIn g a m v) (r .0) (r .1)
+      ∙ analysis-passes g a m (axis-laws m is (job .first)) (axis-laws m is (job .second)) (axis-laws m is (job .third)) (mapIn g a m v) (r .0) (r .1)

@@ -33,7 +33,7 @@ use Rattle.lengths.proofs.Factors.{factors-cons}
 use Rattle.cell.specs.Volume.{volumeLength, factorsIn, packFactors}
 use Rattle.cell.specs.Operations.{Sizes}
 use Rattle.cell.specs.Consistency.{sameValue}
-use Rattle.cell.proofs.Reading.{group-admitted, same-iff}
+use Rattle.cell.proofs.Reading.{same-iff}
 use Rattle.cell.proofs.Consistency.{pack-cong, consistent-read}
 use Rattle.job.specs.declared.Job.{Job}
 use Rattle.job.specs.Header.{headerOf, axisTests, collecting, jobOf, withState, validJob, groupIn, halves}
@@ -119,7 +119,7 @@ module _ (j : Job) (v output : List ℕ) (accepts : 0 ≡ first (writeTests j v 
   cell = factorsIn (groupIn j) (halves j) 1 v
 
   whole : Lawful (field 1) (conj 1) (halves j) (groupIn j) cell × (packFactors (groupIn j) (halves j) 1 cell ≡ v)
-  whole = consistent-read (groupIn j) (group-admitted (j .group)) (halves j) positive 1 v long small (not-false _ (tests .1 .1 .1 .1 .0))
+  whole = consistent-read (groupIn j) (halves j) positive 1 v long small (not-false _ (tests .1 .1 .1 .1 .0))
 
   -- ---- its records are accepted, and give the cell
 
@@ -182,7 +182,7 @@ module _ (j : Job) (v output : List ℕ) (accepts : 0 ≡ first (writeTests j v 
 
     volume-given : modelVolume (fed (jobRecords j v)) ≡ v
     unfolding modelVolume
-    volume-given = pack-cong (groupIn j) (group-admitted (j .group)) (halves j) positive 1 cell (fed (jobRecords j v) .F) cell-given (whole .0) ∙ whole .1
+    volume-given = pack-cong (groupIn j) (halves j) positive 1 cell (fed (jobRecords j v) .F) cell-given (whole .0) ∙ whole .1
 
     job-given : jobOf (headerOf j) collecting ≡ withState j collecting
     job-given = λ i. record {

@@ -17,7 +17,7 @@ use Rattle.numbers.specs.Value.{field, conj, valueOf, pairOf}
 use Rattle.numbers.proofs.Values.{value-by}
 use Rattle.cell.specs.Volume.{groupOf, pairNumbers, lineNumbers, factorsIn}
 use Rattle.cell.specs.Places.{lineNumbersAt, lineFactor}
-use Rattle.cell.proofs.Reading.{line-beyond, group-admitted}
+use Rattle.cell.proofs.Reading.{line-beyond}
 use Rattle.cell.proofs.OperationLaws.{by-group}
 
 -- ---- beyond the stored half
@@ -68,7 +68,7 @@ beyond-image a j i inside n b e f p l = subst
 -- a factor from the other half is what the line's own operation implies
 pub beyond-value : (a : J) (m : ℕ) (v : List ℕ) (j i : J) → Inside a j → (n : ℕ) {s : Sym} → s ≡ lineSym (groupOf n) → i ≡ im a s j → {q : ℕ} → q ≡ span (groupOf n) (a .2) → q ≤ j .2
     → {x y : Pair} → x ≡ pairOf (lineFactor (groupOf n) a m v i) → y ≡ pairOf (imp (field m) (conj m) s j (valueOf m x)) → y ≡ pairOf (lineFactor (groupOf n) a m v j)
-beyond-value a m v j i n b e f p l x y = y ∙ ap pairOf (ap₂ (λ s z. imp (field m) (conj m) s j z) e (value-by m _ x ∙ ap (lineFactor (groupOf b) a m v) (f ∙ ap (λ s. im a s j) e)) ∙ sym (line-beyond (groupOf b) (group-admitted b) a m v j n (subst (λ q. q ≤ j .2) p l)))
+beyond-value a m v j i n b e f p l x y = y ∙ ap pairOf (ap₂ (λ s z. imp (field m) (conj m) s j z) e (value-by m _ x ∙ ap (lineFactor (groupOf b) a m v) (f ∙ ap (λ s. im a s j) e)) ∙ sym (line-beyond (groupOf b) a m v j n (subst (λ q. q ≤ j .2) p l)))
 
 -- ---- the column
 

@@ -10,7 +10,8 @@ use Rattle.algebra.specs.CellTests.{storedT}
 use Rattle.algebra.proofs.Bool.{and-l, and-r}
 use Rattle.numbers.specs.declared.Pair.{Pair}
 use Rattle.numbers.specs.Value.{Value, field, conj, pairOf}
-use Rattle.cell.specs.Consistency.{write, writeImages}
+use Rattle.cell.specs.Volume.{turned, timesI}
+use Rattle.cell.specs.Consistency.{write, writtenPair, writeImages}
 use Rattle.cell.proofs.Tests.{true-iff}
 use Rattle.cell.proofs.Scans.{rest-opens, rest-ends}
 
@@ -25,14 +26,14 @@ stored-bounds g a i e f =
 module _ (g : Group) (a : J) (m : ℕ) (j : J) (x : Value m) where
   -- what one operation leaves
   abbrev pub written : List ℕ → Sym → List ℕ
-  written v s = cond (storedT g a (im a s j)) (write g a g v (im a s j) (pairOf (imp (field m) (conj m) s j x))) v
+  written v s = cond (storedT g a (im a s j)) (write g a g v (im a s j) (writtenPair g a m (im a s j) (imp (field m) (conj m) s j x))) v
 
   module _ (v : List ℕ) (s : Sym) {i : J} (e : i ≡ im a s j) {t : Bool} (f : t ≡ storedT g a i) where
     stored-as : (b : Bool) → t ≡ b → storedT g a (im a s j) ≡ b
     stored-as b q = sym (f ∙ ap (storedT g a) e) ∙ q
 
-    pub image-written : t ≡ true → {y : Pair} {w : List ℕ} → y ≡ pairOf (imp (field m) (conj m) s j x) → w ≡ write g a g v i y → w ≡ written v s
-    image-written q p r = rw (stored-as true q) (r ∙ ap₂ (λ i y. write g a g v i y) e p)
+    pub image-written : turned g (i .0) ≡ false → t ≡ true → {y : Pair} {w : List ℕ} → y ≡ pairOf (imp (field m) (conj m) s j x) → w ≡ write g a g v i y → w ≡ written v s
+    image-written u q p r = rw (stored-as true q) (r ∙ ap₂ (λ i y. write g a g v i y) e (p ∙ ap (λ b. pairOf (timesI m b (imp (field m) (conj m) s j x))) (sym (sym (ap (λ i. turned g (i .0)) e) ∙ u))))
 
     pub image-skipped : t ≡ false → v ≡ written v s
     image-skipped q = rw (stored-as false q) refl

@@ -11,9 +11,9 @@ ghost use lib.ListN.{length};
 ghost use Rattle.algebra.specs.Cell.{im, imp};
 ghost use Rattle.algebra.specs.CellTests.{storedT};
 ghost use Rattle.numbers.specs.Prime.{prime, IsModulus};
-ghost use Rattle.numbers.specs.Value.{field, conj, valueOf, pairOf, Small};
+ghost use Rattle.numbers.specs.Value.{field, conj, valueOf, Small};
 ghost use Rattle.cell.specs.Volume.{groupOf, volumeLength};
-ghost use Rattle.cell.specs.Consistency.{write, recordOn};
+ghost use Rattle.cell.specs.Consistency.{write, writtenPair, recordOn};
 ghost use Rattle.cell.specs.Operations.{halvesOf, tripleOf, symOf, Sizes, Within};
 
 // The record's value goes to its index, the implied values to all stored images, Friedel mates in the planes k = 0 and
@@ -64,7 +64,7 @@ fn write_image(
 )
     requires { ⌜ IsModulus m × Small (prime m) x × Sizes group n1 n2 n3 × Within n1 n2 n3 j ⌝ }
     requires { ⌜ length (now volume) ≡ volumeLength (groupOf group) (halvesOf n1 n2 n3) ⌝ }
-    ensures { λ _. ⌜ now (volume .exit) ≡ cond (storedT (groupOf group) (halvesOf n1 n2 n3) (im (halvesOf n1 n2 n3) (symOf o) (tripleOf j))) (write (groupOf group) (halvesOf n1 n2 n3) (groupOf group) (now (volume .entry)) (im (halvesOf n1 n2 n3) (symOf o) (tripleOf j)) (pairOf (imp (field m) (conj m) (symOf o) (tripleOf j) (valueOf m x)))) (now (volume .entry)) ⌝ }
+    ensures { λ _. ⌜ now (volume .exit) ≡ cond (storedT (groupOf group) (halvesOf n1 n2 n3) (im (halvesOf n1 n2 n3) (symOf o) (tripleOf j))) (write (groupOf group) (halvesOf n1 n2 n3) (groupOf group) (now (volume .entry)) (im (halvesOf n1 n2 n3) (symOf o) (tripleOf j)) (writtenPair (groupOf group) (halvesOf n1 n2 n3) m (im (halvesOf n1 n2 n3) (symOf o) (tripleOf j)) (imp (field m) (conj m) (symOf o) (tripleOf j) (valueOf m x)))) (now (volume .entry)) ⌝ }
 {
     let to = operations::image(o, n1, n2, n3, j);
     if places::is_stored(group, n2, n3, to) {

@@ -6,7 +6,7 @@ use Rattle.cell.proofs.consistent_exactly.Tie as tie
 
 returns : tie.Need-returns
 returns c = record {
-  factors = λ g ok a long m v len small. factors-consistent g ok a long m v len small;
+  factors = λ g a long m v len small. factors-consistent g a long m v len small;
   maps = λ g a long m v len small. map-consistent g a long m v len small;
 }
 

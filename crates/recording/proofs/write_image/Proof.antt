@@ -2,6 +2,7 @@
 use borrow.Author.Needs.{needs}
 use Rattle.cell.specs.Volume.{groupOf}
 use Rattle.cell.specs.Operations.{halvesOf, tripleOf}
+use Rattle.cell.proofs.TurnedLines.{unturned}
 use Rattle.recording.proofs.RecordLaws.{stored-bounds, image-written, image-skipped}
 use Rattle.recording.proofs.write_image.Statement.{statement}
 use Rattle.recording.proofs.write_image.Tie as tie
@@ -29,7 +30,7 @@ returns : tie.Need-returns
 returns c =
     let u = c .before .before in
     let i = u .before .before .before .before in
-    image-written _ _ _ _ _ _ _ (i .before .image .ensures .0) (i .is-stored .ensures) (u .before .before .before .if1 .taken) (u .before .before .implied .ensures) (u .write-factor .ensures)
+    image-written _ _ _ _ _ _ _ (i .before .image .ensures .0) (i .is-stored .ensures) (unturned (i .before .before .before .args .group) _) (u .before .before .before .if1 .taken) (u .before .before .implied .ensures) (u .write-factor .ensures)
 
 returns-2 : tie.Need-returns-2
 returns-2 c =

@@ -9,13 +9,13 @@
 
    Buffers. A buffer is a pointer and the count of its elements. The pointer is not null and is aligned, even for no elements; the
    memory is the caller's, initialised, and no two buffers of one call overlap. No call keeps a pointer.
-   - The volume has exactly W * N1 * (N2/2 + 1) pairs, where W is N3 in group 0, N3/2 in group 1, N3/2 + 1 in groups 2 and 3: twice as
-     many numbers, at most 16,777,216. It is filled as the scope lays out: packed factors, or the map with two zeros after each row.
+   - The volume has exactly W * N1 * (N2/2 + 1) pairs, where W is N3 in group 0, N3/2 in groups 1 and 4, N3/2 + 1 in groups 2 and 3: twice
+     as many numbers, at most 16,777,216. It is filled as the scope lays out: packed factors, or the map with two zeros after each row.
    - The scratch has at least 11,520 numbers. An accepted call leaves its first 11,520 numbers zero and the others untouched.
    - A factor list has the numbers 2 to 5 in any order, with the product N/2; it is empty for N = 2.
 
    Lengths N1, N2, N3 are even divisors of 2,880. Groups: 0 P1, 1 P2_1 with axis c, 2 Pm with its mirror across c, 3 Pa with its mirror
-   across c and its glide along a. */
+   across c and its glide along a, 4 P2_1 2_1 2_1. */
 #ifndef RECORDER_H
 #define RECORDER_H
 
@@ -49,7 +49,7 @@ typedef struct { uint32_t number, a, b; } recorder_factor_value;
 
 /* Opens a job. Kind 0 zeroes the volume and collects; kind 1 takes the volume as a map. A refused opening gives a job of zeros, which
    every call refuses.
-   Refusals: 8 group not 0 to 3, 2 kind not 0 or 1, then each over the three axes 3 length not admitted, 4 a factor not 2 to 5,
+   Refusals: 8 group not 0 to 4, 2 kind not 0 or 1, then each over the three axes 3 length not admitted, 4 a factor not 2 to 5,
    5 product not N/2; 9 volume above 16,777,216 numbers, 6 volume not exactly as long as required; for a map 7 a number of 86,399 or
    more, 14 no cell that obeys the group has this map with its zeros. */
 recorder_answer recorder_open(uint32_t group, uint32_t kind, uint32_t n1, uint32_t n2, uint32_t n3,

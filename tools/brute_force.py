@@ -65,6 +65,10 @@ def operations(g, n):
         ops.append(lambda j, v: ((j[0], j[1], -j[2] % n3), v))
     if g == 3:
         ops.append(lambda j, v: ((j[0], j[1], -j[2] % n3), neg(v) if j[0] % 2 else v))
+    if g == 4:
+        ops.append(lambda j, v: ((-j[0] % n1, -j[1] % n2, j[2]), neg(v) if (j[0] + j[2]) % 2 else v))
+        ops.append(lambda j, v: ((-j[0] % n1, j[1], -j[2] % n3), neg(v) if (j[1] + j[2]) % 2 else v))
+        ops.append(lambda j, v: ((j[0], -j[1] % n2, -j[2] % n3), neg(v) if (j[0] + j[1]) % 2 else v))
     return ops
 
 
@@ -87,12 +91,16 @@ def point_images(g, n, x):
         out.append((x[0], x[1], -x[2] % n3))
     if g == 3:
         out.append(((x[0] + n1 // 2) % n1, x[1], -x[2] % n3))
+    if g == 4:
+        out.append(((n1 // 2 - x[0]) % n1, -x[1] % n2, (n3 // 2 + x[2]) % n3))
+        out.append((-x[0] % n1, (n2 // 2 + x[1]) % n2, (n3 // 2 - x[2]) % n3))
+        out.append(((n1 // 2 + x[0]) % n1, (n2 // 2 - x[1]) % n2, -x[2] % n3))
     return out
 
 
 def planes(g, n):
     a = n[2] // 2
-    return [n[2], a, a + 1, a + 1][g]
+    return [n[2], a, a + 1, a + 1, a][g]
 
 
 def volume_length(g, n):
@@ -115,7 +123,7 @@ def standing(g, n, j):
 
     if g == 0:
         return [(pair(l), 0), (pair(l) + 1, 1)]
-    if g == 1:
+    if g in (1, 4):
         if l == 0:
             return [(pair(0), 0)]
         if l == a:
@@ -125,6 +133,15 @@ def standing(g, n, j):
     return [(pair(l), 0), (pair(l) + 1, 1)]
 
 
+def stored(g, j, x):
+    """The value as its line stores it: times i for an odd h of group 4."""
+    return (-x[1] % P, x[0]) if g == 4 and j[0] % 2 else x
+
+
+def unstored(g, j, x):
+    return (x[1], -x[0] % P) if g == 4 and j[0] % 2 else x
+
+
 def along_l(g, n, j, value):
     """The rule of a line: the value at (h, k, -l) from that at (h, k, l)."""
     if g == 1:
@@ -132,6 +149,9 @@ def along_l(g, n, j, value):
         return neg(w) if j[2] % 2 else w
     if g == 3 and j[0] % 2:
         return neg(value)
+    if g == 4:
+        w = conj(value)
+        return neg(w) if (j[0] + j[2]) % 2 else w
     return value
 
 
@@ -148,7 +168,7 @@ def read_factor(g, n, v, j):
     for place, part in standing(g, n, at):
         parts[part] = v[place]
         places.append(place)
-    x = tuple(c % P for c in parts)
+    x = unstored(g, at, tuple(c % P for c in parts))
     return (along_l(g, n, at, x) if flipped else x), places
 
 
@@ -162,7 +182,7 @@ def pack_cell(g, n, F):
         for k in range(n[1] // 2 + 1):
             for l in range(n[2] if g == 0 else n[2] // 2 + 1):
                 for place, part in standing(g, n, (h, k, l)):
-                    v[place] = F[(h, k, l)][part]
+                    v[place] = stored(g, (h, k, l), F[(h, k, l)])[part]
     return v
 
 
@@ -294,11 +314,11 @@ class Machine:
 
     def valid(self):
         g, n, lists, s = self.parts()
-        return g < 4 and s < 3 and header_fault(g, n, lists) == 0
+        return g < 5 and s < 3 and header_fault(g, n, lists) == 0
 
     def open(self, g, kind, *n):
         v = self.lent()
-        if g > 3:
+        if g > 4:
             return 8, 0, 0
         if kind > 1:
             return 2, 0, 0
@@ -342,7 +362,7 @@ class Machine:
         for i, w in orbit:
             if i[1] <= n[1] // 2 and (g == 0 or i[2] <= n[2] // 2):
                 for place, part in standing(g, n, i):
-                    v[place] = w[part]
+                    v[place] = stored(g, i, w)[part]
         self.keep(v)
         return 0, 0, 0
 
@@ -536,7 +556,7 @@ def open_file(file, lent):
         return 17, 0, None
     g = file[5]
     n = tuple(number(file[q:q + 2]) for q in (6, 8, 10))
-    if g > 3:
+    if g > 4:
         return 8, 0, None
     fault = header_fault(g, n, lists)
     if fault:

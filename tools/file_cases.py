@@ -177,8 +177,8 @@ def cases():
     # the paper's specimen, and small files of all groups, at every byte and length
     specimen = bytes.fromhex("0000001D" "01" "00" "0002" "0002" "0002" "00" "00" "00" "00000001" "0001" "0000" "0000" "00000003" "00000000")
     damaged = [(0, (2, 2, 2), specimen)]
-    for g in range(4):
-        n = [(4, 4, 4), (4, 4, 6), (2, 4, 8), (4, 2, 12)][g]
+    for g in range(5):
+        n = [(4, 4, 4), (4, 4, 6), (2, 4, 8), (4, 2, 12), (4, 4, 6)][g]
         damaged.append((g, n, file_bytes(g, n, lists(n), records(g, n, 4))))
     for g, n, file in damaged:
         say_file(file)
@@ -187,7 +187,7 @@ def cases():
         say(4)
 
     # lengths of the volume, no records, faults of the header, records out of order and refused records of every kind, at the first and at a later place
-    for g in range(4):
+    for g in range(5):
         n = (4, 6, 4)
         rs = records(g, n, 5)
         length = volume_length(g, n)
@@ -202,7 +202,7 @@ def cases():
                 say(3)
 
     # lists of calls, refused ones among them, on the jobs of accepted files
-    for g in range(4):
+    for g in range(5):
         for n in [(2, 2, 2), (4, 4, 4), (6, 4, 2), (4, 6, 6), (2, 8, 6), (4, 4, 10), (6, 6, 6)]:
             for _ in range(2):
                 say_file(file_bytes(g, n, lists(n), records(g, n, 3)))
@@ -223,7 +223,7 @@ def cases():
                 say(7, 4096)
 
     # files of jobs: outputs of every length around the file's, each refusal, and those of spoilt jobs and volumes
-    for g in range(4):
+    for g in range(5):
         for n in [(2, 2, 2), (4, 4, 4), (6, 4, 2), (4, 6, 6), (4, 2, 12), (2, 8, 10)]:
             file = file_bytes(g, n, lists(n), records(g, n, rng.choice([1, 3, 12])))
             book = open_file(file, volume_length(g, n))[2]
@@ -247,7 +247,7 @@ def cases():
                 say(8, place, rng.choice([0, 1, P - 1, P, rng.randrange(P)]))
                 say(7, 4096)
                 say(8, place, volume[place])
-            for change in ((0, 4), (1, 14), (2, 7), (3, 0), (4, 2), (5, 2880), (7, 1), (7, 2), (7, 3)):
+            for change in ((0, 5), (1, 14), (2, 7), (3, 0), (4, 2), (5, 2880), (7, 1), (7, 2), (7, 3)):
                 say(9, *job[:change[0]], change[1], *job[change[0] + 1:])
                 say(7, 4096)
             say(9, *job)

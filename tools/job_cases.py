@@ -189,7 +189,7 @@ def scripts():
 
     # every group on small grids: mates in the planes k = 0 and k = B, odd and even halves, one pair lines
     grids = [(2, 2, 2), (4, 2, 2), (2, 4, 2), (2, 2, 4), (4, 4, 4), (6, 4, 2), (4, 6, 6), (2, 8, 6), (6, 2, 8), (4, 4, 10), (8, 4, 4), (6, 6, 6)]
-    for g in range(4):
+    for g in range(5):
         for n in grids:
             session(g, n, 30 if n[0] * n[1] * n[2] < 100 else 12)
 
@@ -225,11 +225,11 @@ def scripts():
     # faults of openings, alone and in pairs
     def opening(faults):
         n = [rng.choice([2, 4, 6]) for _ in range(3)]
-        g, kind = rng.randrange(4), rng.randrange(2)
+        g, kind = rng.randrange(5), rng.randrange(2)
         length = volume_length(g, n)
         ls = [rng.choice(list(factor_lists(m // 2))) for m in n]
         if 8 in faults:
-            g = rng.choice([4, 5, 4294967295])
+            g = rng.choice([5, 6, 4294967295])
         if 2 in faults:
             kind = rng.choice([2, 3, 4294967295])
         if 3 in faults:
@@ -258,13 +258,13 @@ def scripts():
     # jobs that no opening could have made, and jobs that one could
     for _ in range(120):
         n = [rng.choice([2, 4, 6]) for _ in range(3)]
-        g, s = rng.randrange(4), rng.randrange(3)
+        g, s = rng.randrange(5), rng.randrange(3)
         fs = [octal(rng.choice(list(factor_lists(m // 2)))) for m in n]
         spoil = rng.randrange(8)
         job = [g, n[0], fs[0], n[1], fs[1], n[2], fs[2], s]
         length = volume_length(g, n)
         if spoil == 0:
-            job[0] = rng.choice([4, 4294967295])
+            job[0] = rng.choice([5, 4294967295])
         elif spoil == 1:
             job[7] = rng.choice([3, 4294967295])
         elif spoil in (2, 3):

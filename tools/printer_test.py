@@ -22,9 +22,9 @@ def lent(file):
     """How many numbers the printer lends: what the header asks for, at most 2,048."""
     part = file + bytes(12)
     n = [number(part[q:q + 2]) for q in (6, 8, 10)]
-    group = part[5] if part[5] < 4 else 0
+    group = part[5] if part[5] < 5 else 0
     halves = [m // 2 for m in n]
-    layers = [2 * halves[2], halves[2], halves[2] + 1, halves[2] + 1][group]
+    layers = [2 * halves[2], halves[2], halves[2] + 1, halves[2] + 1, halves[2]][group]
     return min(2 * layers * 2 * halves[0] * (halves[1] + 1), VOLUME_LIMIT)
 
 
@@ -67,7 +67,7 @@ def files():
     for k in range(len(specimen)):
         yield specimen[:k]
         yield specimen[:k] + bytes([specimen[k] ^ 1]) + specimen[k + 1:]
-    for g in range(4):
+    for g in range(5):
         for n in [(2, 2, 2), (4, 2, 2), (2, 4, 6), (4, 4, 4), (6, 4, 2), (4, 6, 6), (2, 8, 10), (8, 4, 4), (6, 6, 6), (4, 10, 12), (16, 6, 8)]:
             rs = records(g, n, 5)
             yield file_bytes(g, n, lists(n), rs)

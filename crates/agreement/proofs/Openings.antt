@@ -69,10 +69,10 @@ either : (b : Bool) → _≡_ {A = Value 1} (value 1 0 0 .0, partOf (ring 1) b (
 either true = refl
 either false = refl
 
-zero-turned : (b : Bool) → Pack.timesI (ring 1) b (value 1 0 0) ≡ value 1 0 0
+zero-rotated : (b : Bool) → Pack.timesI (ring 1) b (value 1 0 0) ≡ value 1 0 0
 unfolding Pack.timesI residues
-zero-turned true = refl
-zero-turned false = value-path (neg-zero (res-ring 1)) refl
+zero-rotated true = refl
+zero-rotated false = value-path (neg-zero (res-ring 1)) refl
 
 zero-pair : (g : Group) (a : J) (w h k : ℕ) → Pack.packFactors (ring 1) g a (λ h k l. value 1 0 0) w h k ≡ value 1 0 0
 unfolding Pack.packFactors packAlt
@@ -81,8 +81,8 @@ zero-pair P2₁ a zero h k = either (even (a .2))
 zero-pair P2₁ a (suc w) h k = refl
 zero-pair Pm a w h k = refl
 zero-pair Pa a w h k = refl
-zero-pair P2₁2₁2₁ a zero h k = ap (λ (x : Value 1). (x .0, partOf (ring 1) (even (a .2)) x)) (zero-turned (even h)) ∙ either (even (a .2))
-zero-pair P2₁2₁2₁ a (suc w) h k = zero-turned (even h)
+zero-pair P2₁2₁2₁ a zero h k = ap (λ (x : Value 1). (x .0, partOf (ring 1) (even (a .2)) x)) (zero-rotated (even h)) ∙ either (even (a .2))
+zero-pair P2₁2₁2₁ a (suc w) h k = zero-rotated (even h)
 
 -- its packed factors are zeros
 zero-packed : (g : Group) (a : J) → Positive a → packFactors g a 1 (λ h k l. value 1 0 0) ≡ replicate (volumeLength g a) 0

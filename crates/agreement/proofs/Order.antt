@@ -195,7 +195,7 @@ alike-starts = record { same = answers-alike }
 
 -- an opening with kind 0 asks of the volume its length alone
 same-tests : (h : Header) (v v′ : List ℕ) → length v ≡ length v′ → first (openTests h 0 v) ≡ first (openTests h 0 v′)
-same-tests h v v′ e = ap (λ n. first (leb 4 (h .group) ⇒ 8 ∷ leb 2 0 ⇒ 2 ∷ (axisTests h ++ not (eqb n (needed h)) ⇒ 6 ∷ false ⇒ 7 ∷ false ⇒ 14 ∷ []))) e
+same-tests h v v′ e = ap (λ n. first (leb 5 (h .group) ⇒ 8 ∷ leb 2 0 ⇒ 2 ∷ (axisTests h ++ not (eqb n (needed h)) ⇒ 6 ∷ false ⇒ 7 ∷ false ⇒ 14 ∷ []))) e
 
 -- a file of sound shape with the header and, in any order, the records of an accepted file
 records-moved : (file file′ v v′ : List ℕ) (j : Job) (w : List ℕ) → headerIn file ≡ headerIn file′ → first (shapeTests file′) ≡ 0 → Perm (recordsIn file) (recordsIn file′) → length v ≡ length v′ →

@@ -1,18 +1,18 @@
 -- The line that the code makes of a number is that line of the job; and what is known of it once the code has found it.
 use mathlib.Core.Path.{_≡_, refl, sym, _∙_, ap, subst}
 use mathlib.Core.Logic.{inl, inr}
-use mathlib.Core.Bool.{cond}
+use mathlib.Core.Bool.{Bool, false, cond}
 use mathlib.Core.List.{List}
-use Prim.Native.Nat.{ℕ, _+_, _*_, _-_, _/_, _%_, _<_, _≤_}
+use Prim.Native.Nat.{ℕ, zero, suc, _+_, _*_, _-_, _/_, _%_, _<_, _≤_}
 use native.Mathlib.Omega.{arith}
 use borrow.Author.Tests.{eq-eqb, ne-eqb}
-use Rattle.algebra.specs.Kinds.{slots, Kind.plain}
+use Rattle.algebra.specs.Kinds.{Kind, slots, Kind.plain}
 use Rattle.algebra.proofs.Laws.{along}
 use Rattle.lengths.specs.Counts.{kindOf, pairCount}
 use Rattle.lengths.specs.Admitted.{AdmittedLength, FactorList}
-use Rattle.cell.specs.Volume.{lineKind, firstPair}
+use Rattle.cell.specs.Volume.{lineKind, rotated, firstPair}
 use Rattle.cell.specs.Operations.{Sizes}
-use Rattle.axes.specs.Turned.{turnedLine, turnedRow}
+use Rattle.axes.specs.Turned.{turnedLine, turnedStored, turnedRow}
 use Rattle.axes.specs.Axes.{turnOf, alongL, alongH, alongK, lineCount, lineOfTurn, turnedL, turnedH, turnedK}
 use Rattle.axes.specs.Lines.{Sound, gatheredTurn, rowTurn, lineTurned}
 use Rattle.axes.specs.Plans.{groupIn, halvesIn, Planned, lineTurn, Counted, Gathered, Row, LineAt}
@@ -24,6 +24,10 @@ use Rattle.axes.proofs.JobTurns.{twice, next, fits-l, turned-l, fits-h,
 
 -- ---- the lines along each axis
 
+as-packed : (m A direction : ℕ) (kind : Kind) (l : List ℕ) → turnedStored m A direction false kind l ≡ turnedLine m A direction kind l
+as-packed m A zero kind l = refl
+as-packed m A (suc d) kind l = refl
+
 module _ (p : Plan) (ok : Planned p) where
   abbrev sizes : Sizes (p .group) (p .n1) (p .n2) (p .n3)
   sizes = ok .sizes .sizes
@@ -32,9 +36,9 @@ module _ (p : Plan) (ok : Planned p) where
   width = p .n2 / 2 + 1
 
   -- a line of length n = 2 (n / 2) along one of the axes
-  sound : (kind n factors start stride count : ℕ) → kind < 6 → n ≡ 2 * (n / 2) → AdmittedLength n → FactorList n factors
-      → Sound (record { m = p .m; direction = p .direction; kind = kind; factors = factors; half = n / 2; start = start; stride = stride; count = count })
-  sound kind n factors start stride count known e size list = record {
+  sound : (kind : ℕ) (b : Bool) (n factors start stride count : ℕ) → kind < 6 → n ≡ 2 * (n / 2) → AdmittedLength n → FactorList n factors
+      → Sound (record { m = p .m; direction = p .direction; kind = kind; rotated = b; factors = factors; half = n / 2; start = start; stride = stride; count = count })
+  sound kind b n factors start stride count known e size list = record {
     modulus = ok .modulus;
     directed = ok .directed;
     known = known;
@@ -42,48 +46,48 @@ module _ (p : Plan) (ok : Planned p) where
     list = subst (λ n. FactorList n factors) e list;
   }
 
-  module _ (y kind f count : ℕ) (l : y < alongL (groupIn p) (halvesIn p) .count) (known : kind < 6) (e : kindOf kind ≡ lineKind (groupIn p) (y / width)) (other : kind ≡ 1 → ⊥)
+  module _ (y kind f count : ℕ) (b : Bool) (l : y < alongL (groupIn p) (halvesIn p) .count) (known : kind < 6) (e : kindOf kind ≡ lineKind (groupIn p) (y / width)) (eb : b ≡ rotated (groupIn p) (y / width)) (other : kind ≡ 1 → ⊥)
       (ef : f ≡ firstPair (kindOf kind)) (low : f ≤ 1) (ec : count ≡ pairCount kind (p .n3)) (few : count ≤ 2880) where
     pub gathered-l : Gathered p (turnOf (alongL (groupIn p) (halvesIn p)) (turnedL (groupIn p) (halvesIn p) (p .m) (p .direction)) y)
-        (record { m = p .m; direction = p .direction; kind = kind; factors = p .f3; half = p .n3 / 2; start = y + f * (p .n1 * width); stride = p .n1 * width; count = count })
+        (record { m = p .m; direction = p .direction; kind = kind; rotated = b; factors = p .f3; half = p .n3 / 2; start = y + f * (p .n1 * width); stride = p .n1 * width; count = count })
     gathered-l = record {
       modulus = refl;
       direction = refl;
       other = other;
       placed = record {
-        sound = sound kind (p .n3) (p .f3) _ _ _ known (omega (arith, sizes .third .even)) (ok .sizes .third) (ok .sizes .third-list);
+        sound = sound kind b (p .n3) (p .f3) _ _ _ known (omega (arith, sizes .third .even)) (ok .sizes .third) (ok .sizes .third-list);
         counted = ec;
         low = few;
-        fits = fits-l sizes y kind f count e ef low ec l;
+        fits = fits-l sizes y kind f count e eb ef low ec l;
       };
-      turn = turned-l sizes y kind f count e ef low ec (p .m) (p .direction);
+      turn = turned-l sizes y kind f count e eb ef low ec (p .m) (p .direction);
     }
 
   module _ (y : ℕ) (l : y < alongH (groupIn p) (halvesIn p) .count) where
     pub gathered-h : Gathered p (turnOf (alongH (groupIn p) (halvesIn p)) (turnedH (groupIn p) (halvesIn p) (p .m) (p .direction)) y)
-        (record { m = p .m; direction = p .direction; kind = 0; factors = p .f1; half = p .n1 / 2; start = y / width * (p .n1 * width) + y % width; stride = width; count = p .n1 })
+        (record { m = p .m; direction = p .direction; kind = 0; rotated = false; factors = p .f1; half = p .n1 / 2; start = y / width * (p .n1 * width) + y % width; stride = width; count = p .n1 })
     unfolding slots
     gathered-h = record {
       modulus = refl;
       direction = refl;
       other = λ e. omega arith;
       placed = record {
-        sound = sound 0 (p .n1) (p .f1) _ _ _ (omega arith) (twice sizes) (ok .sizes .first) (ok .sizes .first-list);
+        sound = sound 0 false (p .n1) (p .f1) _ _ _ (omega arith) (twice sizes) (ok .sizes .first) (ok .sizes .first-list);
         counted = twice sizes;
         low = sizes .first .high;
         fits = fits-h sizes y l;
       };
-      turn = λ v. by-places (alongH (groupIn p) (halvesIn p)) (turnedH (groupIn p) (halvesIn p) (p .m) (p .direction)) y (p .n1) _ (turnedLine (p .m) (p .n1 / 2) (p .direction) plain) v _ (twice sizes) (λ j lj. place-h sizes y l j) (λ x. refl) refl;
+      turn = λ v. by-places (alongH (groupIn p) (halvesIn p)) (turnedH (groupIn p) (halvesIn p) (p .m) (p .direction)) y (p .n1) _ (turnedStored (p .m) (p .n1 / 2) (p .direction) false plain) v _ (twice sizes) (λ j lj. place-h sizes y l j) (as-packed (p .m) (p .n1 / 2) (p .direction) plain) refl;
     }
 
   module _ (y : ℕ) (l : y < alongK (groupIn p) (halvesIn p) .count) where
     pub row-k : Row p (turnOf (alongK (groupIn p) (halvesIn p)) (turnedK (groupIn p) (halvesIn p) (p .m) (p .direction)) y)
-        (record { m = p .m; direction = p .direction; kind = 1; factors = p .f2; half = p .n2 / 2; start = y * width; stride = 1; count = width })
+        (record { m = p .m; direction = p .direction; kind = 1; rotated = false; factors = p .f2; half = p .n2 / 2; start = y * width; stride = 1; count = width })
     row-k = record {
       modulus = refl;
       direction = refl;
       placed = record {
-        sound = sound 1 (p .n2) (p .f2) _ _ _ (omega arith) (omega (arith, sizes .second .even)) (ok .sizes .second) (ok .sizes .second-list);
+        sound = sound 1 false (p .n2) (p .f2) _ _ _ (omega arith) (omega (arith, sizes .second .even)) (ok .sizes .second) (ok .sizes .second-list);
         hermitian = refl;
         counted = refl;
         fits = row-fits sizes y l;

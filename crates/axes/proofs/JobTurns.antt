@@ -1,20 +1,19 @@
 -- The sizes of a checked job, as the code computes them: every place and count fits, a gathered line is that of its layout.
-use mathlib.Core.Path.{_≡_, refl, sym, _∙_, ap, subst}
+use mathlib.Core.Path.{_≡_, refl, sym, _∙_, ap, ap₂, subst}
 use mathlib.Core.Bool.{Bool, true, false, cond}
 use mathlib.Core.List.{List}
-use Prim.Native.Nat.{ℕ, zero, suc, _+_, _*_, _/_, _%_, _<_, _≤_}
+use Prim.Native.Nat.{ℕ, suc, _+_, _*_, _/_, _%_, _<_, _≤_}
 use native.Mathlib.Nat.{mul-le-mul, mul-le-mul-right}
 use native.Mathlib.Omega.{arith}
-use Rattle.algebra.specs.Kinds.{Kind, Kind.symmetric, Kind.antisymmetric, slots}
+use Rattle.algebra.specs.Kinds.{Kind.symmetric, Kind.antisymmetric, slots}
 use Rattle.algebra.specs.Cell.{J, Group, P1, P2₁, Pm, Pa, P2₁2₁2₁, planes}
 use Rattle.algebra.specs.CellPack.{even}
 use Rattle.slices.proofs.Rows.{row-end, row-split, strided-block}
 use Rattle.slices.proofs.Layouts.{fits-second}
 use Rattle.lengths.specs.Counts.{kindOf, pairCount}
-use Rattle.cell.specs.Volume.{groupOf, lineKind, firstPair, layers, rows, columns, volumeLength}
+use Rattle.cell.specs.Volume.{groupOf, lineKind, rotated, firstPair, layers, rows, columns, volumeLength}
 use Rattle.cell.specs.Operations.{halvesOf, Sizes}
-use Rattle.cell.proofs.TurnedLines.{unturned}
-use Rattle.axes.specs.Turned.{turnedLine, turnedStored}
+use Rattle.axes.specs.Turned.{turnedStored}
 use Rattle.axes.specs.Lines.{turnedAt}
 use Rattle.axes.specs.Axes.{turnOf, kindAt, alongL, alongH, alongK, turnedL}
 use Rattle.axes.proofs.Numbered.{by-places}
@@ -33,10 +32,6 @@ module _ (a : J) where
   line-fits Pm pos h = omega arith
   line-fits Pa pos h = mirror-fits pos (even h)
   line-fits P2₁2₁2₁ pos h = omega arith
-
-unturned-line : (m A direction : ℕ) {b : Bool} → b ≡ false → (kind : Kind) (l : List ℕ) → turnedStored m A direction b kind l ≡ turnedLine m A direction kind l
-unturned-line m A zero e kind l = ap (λ b. turnedStored m A 0 b kind l) e
-unturned-line m A (suc d) e kind l = ap (λ b. turnedStored m A 1 b kind l) e
 
 layers-most : (g : Group) (c : ℕ) → 0 < c → planes g c ≤ 2 * c
 unfolding planes
@@ -98,9 +93,12 @@ module _ {group n1 n2 n3 : ℕ} (h : Sizes group n1 n2 n3) where
     place-h j = strided-block (y / (n2 / 2 + 1)) n1 (n2 / 2 + 1) (y % (n2 / 2 + 1)) j ∙ λ i. (y / next i * twice i + j) * next i + y % next i
 
   -- a line along l, whose kind, first pair and count the code has found
-  module _ (y kind f count : ℕ) (e : kindOf kind ≡ lineKind g (y / (n2 / 2 + 1))) (ef : f ≡ firstPair (kindOf kind)) (low : f ≤ 1) (ec : count ≡ pairCount kind n3) where
+  module _ (y kind f count : ℕ) {b : Bool} (e : kindOf kind ≡ lineKind g (y / (n2 / 2 + 1))) (eb : b ≡ rotated g (y / (n2 / 2 + 1))) (ef : f ≡ firstPair (kindOf kind)) (low : f ≤ 1) (ec : count ≡ pairCount kind n3) where
     kind-is : kindOf kind ≡ kindAt g a y
     kind-is = e ∙ ap (λ k. lineKind g (y / k)) next
+
+    rotated-is : b ≡ rotated g (y / columns g a)
+    rotated-is = eb ∙ ap (λ k. rotated g (y / k)) next
 
     size-l : count ≡ slots (kindAt g a y) (n3 / 2)
     size-l = ec ∙ ap (λ k. slots k (n3 / 2)) kind-is
@@ -117,8 +115,8 @@ module _ {group n1 n2 n3 : ℕ} (h : Sizes group n1 n2 n3) where
         let whole : f + count ≤ layers g a = subst (λ k. k ≤ layers g a) (sym ((λ i. (ef ∙ ap firstPair kind-is) i + size-l i))) (line-fits a g (omega (arith, h .third .low)) (y / columns g a)) in
         omega (arith, below, mul-le-mul-right (n1 * (n2 / 2 + 1)) whole, volume-long)
 
-    pub turned-l : (m direction : ℕ) (v : List ℕ) → turnedAt (λ j. y + f * (n1 * (n2 / 2 + 1)) + j * (n1 * (n2 / 2 + 1))) count (turnedLine m (n3 / 2) direction (kindOf kind)) v ≡ turnOf (alongL g a) (turnedL g a m direction) y v
-    turned-l m direction v = by-places (alongL g a) (turnedL g a m direction) y count _ (turnedLine m (n3 / 2) direction (kindOf kind)) v _ size-l (λ j l. place-l j) (λ l. ap (λ k. turnedLine m (n3 / 2) direction k l) kind-is ∙ sym (unturned-line m (n3 / 2) direction (unturned group (y / columns g a)) (kindAt g a y) l)) refl
+    pub turned-l : (m direction : ℕ) (v : List ℕ) → turnedAt (λ j. y + f * (n1 * (n2 / 2 + 1)) + j * (n1 * (n2 / 2 + 1))) count (turnedStored m (n3 / 2) direction b (kindOf kind)) v ≡ turnOf (alongL g a) (turnedL g a m direction) y v
+    turned-l m direction v = by-places (alongL g a) (turnedL g a m direction) y count _ (turnedStored m (n3 / 2) direction b (kindOf kind)) v _ size-l (λ j l. place-l j) (λ l. ap₂ (λ b k. turnedStored m (n3 / 2) direction b k l) rotated-is kind-is) refl
 
   -- a row along k
   module _ (y : ℕ) (l : y < layers g a * rows g a) where

@@ -8,7 +8,7 @@ use Rattle.algebra.specs.Kinds.{Kind, Kind.plain, slots}
 use Rattle.algebra.specs.Cell.{J, Group}
 use Rattle.slices.specs.Sweep.{Layout, lineOf, setLine, onLists, alongSecond, alongLast}
 use Rattle.lengths.specs.Admitted.{AdmittedLength, FactorList}
-use Rattle.cell.specs.Volume.{lineKind, turned, firstPair, layers, rows, columns}
+use Rattle.cell.specs.Volume.{lineKind, rotated, firstPair, layers, rows, columns}
 use Rattle.cell.specs.Operations.{Sizes}
 use Rattle.axes.specs.Turned.{turnedLine, turnedStored, turnedRow}
 
@@ -45,7 +45,7 @@ module _ (g : Group) (a : J) where
   -- what becomes of a line: direction 0 is synthesis, 1 analysis
   module _ (m direction : ℕ) where
     abbrev pub turnedL : ℕ → List ℕ → List ℕ
-    turnedL y l = turnedStored m (a .2) direction (turned g (y / columns g a)) (kindAt y) l
+    turnedL y l = turnedStored m (a .2) direction (rotated g (y / columns g a)) (kindAt y) l
 
     abbrev pub turnedH : ℕ → List ℕ → List ℕ
     turnedH y l = turnedLine m (a .0) direction plain l

@@ -10,7 +10,7 @@ use Rattle.numbers.specs.Prime.{IsModulus}
 use Rattle.slices.specs.Pairs.{at, tab, puts}
 use Rattle.lengths.specs.Counts.{kindOf}
 use Rattle.lengths.specs.Admitted.{AdmittedLength, FactorList}
-use Rattle.axes.specs.Turned.{turnedLine, turnedRow}
+use Rattle.axes.specs.Turned.{turnedLine, turnedStored, turnedRow}
 use Rattle.axes.specs.declared.Line.{Line}
 
 -- it can be transformed
@@ -21,15 +21,19 @@ pub record Sound (x : Line) : Type 0 where
   pub size : AdmittedLength (2 * x .half)
   pub list : FactorList (2 * x .half) (x .factors)
 
+-- the packed line transformed, and the same as it is stored
 abbrev pub turnedPacked : Line → List ℕ → List ℕ
 turnedPacked x l = turnedLine (x .m) (x .half) (x .direction) (kindOf (x .kind)) l
+
+abbrev pub storedTurn : Line → List ℕ → List ℕ
+storedTurn x l = turnedStored (x .m) (x .half) (x .direction) (x .rotated) (kindOf (x .kind)) l
 
 -- the n pairs of v at the places p 0, p 1, .. go through F
 abbrev pub turnedAt : (p : ℕ → ℕ) (n : ℕ) (F : List ℕ → List ℕ) → List ℕ → List ℕ
 turnedAt p n F v = puts p (at (F (tab n (λ j. at v (p j))))) n v
 
 abbrev pub gatheredTurn : Line → List ℕ → List ℕ
-gatheredTurn x v = turnedAt (λ j. x .start + j * x .stride) (x .count) (turnedPacked x) v
+gatheredTurn x v = turnedAt (λ j. x .start + j * x .stride) (x .count) (storedTurn x) v
 
 abbrev pub rowTurn : Line → List ℕ → List ℕ
 rowTurn x v = turnedAt (λ j. x .start + j) (x .count) (turnedRow (x .m) (x .half) (x .direction)) v

@@ -21,11 +21,12 @@ pub struct Counts {
     pub k: usize,
 }
 
-// A packed line of 2 half values, and its pairs in the volume: count of them, at start, start + stride, ..
+// A packed line of 2 half values, stored times i or not, and its pairs in the volume: count of them, at start, start + stride, ..
 pub struct Line {
     pub m: u32,
     pub direction: u32,
     pub kind: u32,
+    pub rotated: bool,
     pub factors: u32,
     pub half: usize,
     pub start: usize,

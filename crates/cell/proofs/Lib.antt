@@ -1,7 +1,7 @@
 pub mod Tests
 pub mod VolumeLayout
 pub mod LineReading
-pub mod TurnedLines
+pub mod RotatedLines
 pub mod Reading
 pub mod Consistency
 pub mod Maps

@@ -8,7 +8,7 @@ use native.Mathlib.Omega.{arith}
 use lib.ListN.{length, getD, length-append, length-map, List·getD-append}
 use lib.Seq.{getD-append-add}
 use Rattle.algebra.specs.Ring.{Ops, pow}
-use Rattle.algebra.specs.Cell.{Sym, one, friedel, _·_, Group, P1, P2₁, Pm, Pa, ops, full, lineSym, flip, turn, xor, sgn}
+use Rattle.algebra.specs.Cell.{Sym, one, friedel, _·_, Group, P1, P2₁, Pm, Pa, P2₁2₁2₁, ops, full, lineSym, flip, turn, xor, sgn}
 use Rattle.algebra.proofs.Laws.{along, neg-one-mul}
 use Rattle.algebra.proofs.Transform.{sign-even, sign-odd}
 use Rattle.algebra.proofs.CellAxis.{neg-zero, neg-pos, half-low, half-high}
@@ -21,33 +21,46 @@ use Rattle.cell.specs.Operations.{Length}
 
 -- ---- the groups by their numbers
 
--- what holds of each of the four
-pub by-group : (P : Group → Type 0) → P P1 → P P2₁ → P Pm → P Pa → (n : ℕ) → n < 4 → P (groupOf n)
-by-group P a b c d zero l = a
-by-group P a b c d (suc zero) l = b
-by-group P a b c d (suc (suc zero)) l = c
-by-group P a b c d (suc (suc (suc zero))) l = d
-by-group P a b c d (suc (suc (suc (suc n)))) l = absurd (omega arith)
+-- what holds of each of the five
+pub by-group : (P : Group → Type 0) → P P1 → P P2₁ → P Pm → P Pa → P P2₁2₁2₁ → (n : ℕ) → n < 5 → P (groupOf n)
+by-group P a b c d e zero l = a
+by-group P a b c d e (suc zero) l = b
+by-group P a b c d e (suc (suc zero)) l = c
+by-group P a b c d e (suc (suc (suc zero))) l = d
+by-group P a b c d e (suc (suc (suc (suc zero)))) l = e
+by-group P a b c d e (suc (suc (suc (suc (suc n))))) l = absurd (omega arith)
 
-pub order-two : (n : ℕ) → n < 4 → (n ≡ 0 → ⊥) → 2 ≡ length (ops (groupOf n))
-order-two zero l z = absurd (z refl)
-order-two (suc zero) l z = refl
-order-two (suc (suc zero)) l z = refl
-order-two (suc (suc (suc zero))) l z = refl
-order-two (suc (suc (suc (suc n)))) l z = absurd (omega arith)
+pub order-two : (n : ℕ) → n < 5 → (n ≡ 0 → ⊥) → (n ≡ 4 → ⊥) → 2 ≡ length (ops (groupOf n))
+order-two zero l z y = absurd (z refl)
+order-two (suc zero) l z y = refl
+order-two (suc (suc zero)) l z y = refl
+order-two (suc (suc (suc zero))) l z y = refl
+order-two (suc (suc (suc (suc zero)))) l z y = absurd (y refl)
+order-two (suc (suc (suc (suc (suc n))))) l z y = absurd (omega arith)
 
--- a group has at most two operations, P1 but one
-pub order-most : (n : ℕ) → n < 4 → length (ops (groupOf n)) ≤ 2
-order-most = by-group (λ g. length (ops g) ≤ 2) (omega arith) (omega arith) (omega arith) (omega arith)
+pub order-four : {n : ℕ} → n ≡ 4 → 4 ≡ length (ops (groupOf n))
+order-four e = rw e refl
 
-pub order-least : (n : ℕ) → n < 4 → 1 ≤ length (ops (groupOf n))
-order-least = by-group (λ g. 1 ≤ length (ops g)) (omega arith) (omega arith) (omega arith) (omega arith)
+pub order-more : (n : ℕ) → n < 5 → (n ≡ 0 → ⊥) → 2 ≤ length (ops (groupOf n))
+order-more zero l z = absurd (z refl)
+order-more (suc zero) l z = omega arith
+order-more (suc (suc zero)) l z = omega arith
+order-more (suc (suc (suc zero))) l z = omega arith
+order-more (suc (suc (suc (suc zero)))) l z = omega arith
+order-more (suc (suc (suc (suc (suc n))))) l z = absurd (omega arith)
 
-pub first-own : (n : ℕ) → n < 4 → one ≡ getD (ops (groupOf n)) 0 one
-first-own = by-group (λ g. one ≡ getD (ops g) 0 one) refl refl refl refl
+-- a group has at most four operations, and the identity
+pub order-most : (n : ℕ) → n < 5 → length (ops (groupOf n)) ≤ 4
+order-most = by-group (λ g. length (ops g) ≤ 4) (omega arith) (omega arith) (omega arith) (omega arith) (omega arith)
 
-pub second-own : (n k : ℕ) → n < 4 → (k ≡ 0 → ⊥) → k < length (ops (groupOf n)) → (k ≡ 1) × (n ≡ 0 → ⊥)
-second-own n k l z h = (omega (arith, order-most n l), λ e. z (omega (arith, along (λ x. length (ops (groupOf x))) n 0 e)))
+pub order-least : (n : ℕ) → n < 5 → 1 ≤ length (ops (groupOf n))
+order-least = by-group (λ g. 1 ≤ length (ops g)) (omega arith) (omega arith) (omega arith) (omega arith) (omega arith)
+
+pub first-own : (n : ℕ) → n < 5 → one ≡ getD (ops (groupOf n)) 0 one
+first-own = by-group (λ g. one ≡ getD (ops g) 0 one) refl refl refl refl refl
+
+pub second-own : (n k : ℕ) → n < 5 → (n ≡ 4 → ⊥) → (k ≡ 0 → ⊥) → k < length (ops (groupOf n)) → (k ≡ 1) × (n ≡ 0 → ⊥)
+second-own n k l y z h = let other : n ≡ 0 → ⊥ = λ e. z (omega (arith, along (λ x. length (ops (groupOf x))) n 0 e)) in (omega (arith, order-two n l other y), other)
 
 pub own-at : {n n′ k k′ : ℕ} → n ≡ n′ → k ≡ k′ → getD (ops (groupOf n′)) k′ one ≡ getD (ops (groupOf n)) k one
 own-at e f = λ i. getD (ops (groupOf (sym e i))) (sym f i) one
@@ -84,12 +97,16 @@ line-plain e = rw e refl
 pub line-alternating : {n : ℕ} → n ≡ 1 → getD (full (groupOf n)) 3 one ≡ lineSym (groupOf n)
 line-alternating e = rw e refl
 
-pub line-mirrored : (n : ℕ) → n < 4 → (n ≡ 0 → ⊥) → (n ≡ 1 → ⊥) → getD (full (groupOf n)) 1 one ≡ lineSym (groupOf n)
-line-mirrored zero l y z = absurd (y refl)
-line-mirrored (suc zero) l y z = absurd (z refl)
-line-mirrored (suc (suc zero)) l y z = refl
-line-mirrored (suc (suc (suc zero))) l y z = refl
-line-mirrored (suc (suc (suc (suc n)))) l y z = absurd (omega arith)
+pub line-screw : {n : ℕ} → n ≡ 4 → getD (full (groupOf n)) 5 one ≡ lineSym (groupOf n)
+line-screw e = rw e refl
+
+pub line-mirrored : (n : ℕ) → n < 5 → (n ≡ 0 → ⊥) → (n ≡ 1 → ⊥) → (n ≡ 4 → ⊥) → getD (full (groupOf n)) 1 one ≡ lineSym (groupOf n)
+line-mirrored zero l y z x = absurd (y refl)
+line-mirrored (suc zero) l y z x = absurd (z refl)
+line-mirrored (suc (suc zero)) l y z x = refl
+line-mirrored (suc (suc (suc zero))) l y z x = refl
+line-mirrored (suc (suc (suc (suc zero)))) l y z x = absurd (x refl)
+line-mirrored (suc (suc (suc (suc (suc n))))) l y z x = absurd (omega arith)
 
 -- ---- one axis
 

@@ -32,9 +32,9 @@ use Rattle.numbers.proofs.Residues.{val-res}
 use Rattle.numbers.proofs.Values.{value-path, field-ring, field-star}
 use Rattle.slices.specs.Pairs.{at, Below}
 use Rattle.slices.specs.Values.{valuesOf}
-use Rattle.cell.specs.Volume.{lineKind, pairPlace, pairNumbers, lineNumbers, numbersRead, lineIn, factorsIn, packFactors}
+use Rattle.cell.specs.Volume.{lineKind, pairPlace, pairNumbers, lineNumbers, numbersRead, wholeLine, lineIn, factorsIn, packFactors}
 use Rattle.cell.specs.Consistency.{all, orbitNumbers, orbitFree}
-use Rattle.cell.proofs.TurnedLines.{over-zero}
+use Rattle.cell.proofs.RotatedLines.{over-zero}
 use Rattle.cell.proofs.Tests.{true-iff, eq→eqb}
 use Rattle.cell.proofs.LineReading.{by-half, readLine, read-plain, read-symmetric, alternating-first, alternating-middle, alternating-low, read-first, read-last, read-between}
 use Rattle.cell.proofs.Reading.{pairsIn, lineAt, line-beyond, mate-is, implied-friedel, read-packed, below-factors}
@@ -139,7 +139,7 @@ abbrev numbersAt : Group → J → J → List ℕ
 numbersAt g a j = lineNumbers g a (lineKind g (j .0)) (j .0) (j .1) (j .2)
 
 stored-free : (g : Group) (a : J) → 0 < a .2 → (m : ℕ) (v : List ℕ) → Below (prime m) v → (j : J) → j .2 < span g (a .2) → ReadFrom m v (numbersAt g a j) (lineAt g a m v j)
-unfolding lineIn span
+unfolding lineIn wholeLine span
 stored-free P1 a pos m v small j s = read-as m v (read-plain m (a .2) (λ w. pairsIn P1 a m v w (j .0) (j .1)) (j .2)) (from-pair m v small (pairPlace P1 a (j .2) (j .0) (j .1)))
 stored-free P2₁ a pos m v small j s = free-alternating P2₁ a pos m v small (j .0) (j .1) (j .2) s
 stored-free Pm a pos m v small j s = free-symmetric Pm a pos m v small (j .0) (j .1) (j .2) s

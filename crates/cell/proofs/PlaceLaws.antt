@@ -6,31 +6,50 @@ use mathlib.Core.List.{List, [], _∷_}
 use Prim.Native.Nat.{ℕ, zero, suc, _+_, _*_, _-_, _/_, _%_, _<_, _≤_, min}
 use native.Mathlib.Nat.{mul-le-mul}
 use native.Mathlib.Omega.{arith}
-use lib.ListN.{length, getD}
+use lib.ListN.{getD}
 use lib.Dec.{eqb, leb}
 use borrow.Author.Tests.{eq-eqb, ne-eqb, eqb-true, eqb-false, lt-ltb, le-ltb}
 use Rattle.algebra.specs.Kinds.{Kind}
-use Rattle.algebra.specs.Cell.{J, Inside, Sym, Group, P1, P2₁, Pm, Pa, one, ops, negI, pim, planes, span, prep, planeSym}
+use Rattle.algebra.specs.Cell.{J, Inside, Sym, Group, P1, P2₁, Pm, Pa, P2₁2₁2₁, one, ops, negI, pim, planes, span, prep, planeSym}
 use Rattle.algebra.specs.CellPack.{even}
 use Rattle.algebra.proofs.Laws.{along}
 use Rattle.algebra.proofs.CellSym.{pim-one}
 use Rattle.algebra.proofs.CellGroup.{prep-st}
-use Rattle.cell.specs.Volume.{groupOf, lineKind, layers, rows, columns, volumeLength, pairPlace, mapPlace, pairNumbers, lineNumbers, numbersRead, densityPlace}
+use Rattle.cell.specs.Volume.{groupOf, alternates, lineKind, layers, rows, columns, volumeLength, pairPlace, mapPlace, pairNumbers, lineNumbers, numbersRead, densityPlace}
 use Rattle.cell.specs.declared.operations.Index.{Index}
 use Rattle.cell.specs.declared.operations.Point.{Point}
 use Rattle.cell.specs.declared.places.Run.{Run}
 use Rattle.cell.specs.Operations.{halvesOf, tripleOf, pointOf, Length, Sizes, Within, PointWithin}
 use Rattle.cell.specs.Places.{run, IsRun}
 use Rattle.cell.proofs.VolumeLayout.{place-inside}
-use Rattle.cell.proofs.OperationLaws.{by-group}
 
 -- the groups that store half of each line
-pub by-halved : (P : Group → Type 0) → P P2₁ → P Pm → P Pa → (n : ℕ) → n < 4 → (n ≡ 0 → ⊥) → P (groupOf n)
-by-halved P b c d zero l z = absurd (z refl)
-by-halved P b c d (suc zero) l z = b
-by-halved P b c d (suc (suc zero)) l z = c
-by-halved P b c d (suc (suc (suc zero))) l z = d
-by-halved P b c d (suc (suc (suc (suc n)))) l z = absurd (omega arith)
+pub by-halved : (P : Group → Type 0) → P P2₁ → P Pm → P Pa → P P2₁2₁2₁ → (n : ℕ) → n < 5 → (n ≡ 0 → ⊥) → P (groupOf n)
+by-halved P b c d e zero l z = absurd (z refl)
+by-halved P b c d e (suc zero) l z = b
+by-halved P b c d e (suc (suc zero)) l z = c
+by-halved P b c d e (suc (suc (suc zero))) l z = d
+by-halved P b c d e (suc (suc (suc (suc zero)))) l z = e
+by-halved P b c d e (suc (suc (suc (suc (suc n))))) l z = absurd (omega arith)
+
+or-left : (a b : Bool) → (a || b) ≡ false → a ≡ false
+or-left true b e = e
+or-left false b e = refl
+
+or-right : (a b : Bool) → (a || b) ≡ false → b ≡ false
+or-right true b e = cc
+or-right false b e = e
+
+-- the groups with alternating lines, and the others
+either : (a b : Bool) → (a || b) ≡ true → (a ≡ true) ⊎ (b ≡ true)
+either true b e = inl refl
+either false b e = inr e
+
+pub by-alternating : (P : Group → Type 0) → P P2₁ → P P2₁2₁2₁ → (n : ℕ) → alternates n ≡ true → P (groupOf n)
+by-alternating P x y n e = ⊎-elim (λ q. subst (λ n. P (groupOf n)) (sym (eqb-true n 1 q)) x) (λ q. subst (λ n. P (groupOf n)) (sym (eqb-true n 4 q)) y) (either (eqb n 1) (eqb n 4) e)
+
+pub not-alternating : (n : ℕ) → alternates n ≡ false → (n ≡ 1 → ⊥) × (n ≡ 4 → ⊥)
+not-alternating n e = (eqb-false n 1 (or-left (eqb n 1) (eqb n 4) e), eqb-false n 4 (or-right (eqb n 1) (eqb n 4) e))
 
 -- an index or a point below the lengths is one of the theory's
 pub inside-of : {n1 n2 n3 : ℕ} {j : Index} → Length n1 → Length n2 → Length n3 → Within n1 n2 n3 j → Inside (halvesOf n1 n2 n3) (tripleOf j)
@@ -53,20 +72,15 @@ pub odd-is : (h : ℕ) → (h % 2 ≡ 0 → ⊥) → even h ≡ false
 unfolding even
 odd-is h e = along even h (suc (2 * (h / 2))) (omega arith) ∙ ap not (even-double (h / 2))
 
-or-cases : (a b : Bool) → (a || b) ≡ true → (a ≡ true) ⊎ (b ≡ true)
-or-cases true b e = inl refl
-or-cases false b e = inr e
+pub even-tested : (n : ℕ) → eqb (n % 2) 0 ≡ even n
+even-tested n = go (eqb (n % 2) 0) refl
+  where
+    go : (b : Bool) → eqb (n % 2) 0 ≡ b → b ≡ even n
+    go true e = sym (even-is n (eqb-true _ _ e))
+    go false e = sym (odd-is n (eqb-false _ _ e))
 
 pub at-end : (l c : ℕ) → (eqb l 0 || eqb l c) ≡ true → (l ≡ 0) ⊎ (l ≡ c)
-at-end l c e = ⊎-elim (λ p. inl (eqb-true l 0 p)) (λ p. inr (eqb-true l c p)) (or-cases (eqb l 0) (eqb l c) e)
-
-or-left : (a b : Bool) → (a || b) ≡ false → a ≡ false
-or-left true b e = e
-or-left false b e = refl
-
-or-right : (a b : Bool) → (a || b) ≡ false → b ≡ false
-or-right true b e = cc
-or-right false b e = e
+at-end l c e = ⊎-elim (λ p. inl (eqb-true l 0 p)) (λ p. inr (eqb-true l c p)) (either (eqb l 0) (eqb l c) e)
 
 pub not-end : (l c : ℕ) → (eqb l 0 || eqb l c) ≡ false → (l ≡ 0 → ⊥) × (l ≡ c → ⊥)
 not-end l c e = (eqb-false l 0 (or-left (eqb l 0) (eqb l c) e), eqb-false l c (or-right (eqb l 0) (eqb l c) e))
@@ -90,9 +104,9 @@ module _ (g : Group) (a : J) where
 abbrev Middle : J → (h k l : ℕ) → Group → Type 0
 Middle a h k l g = (lineNumbers g a (lineKind g h) h k l ≡ pairNumbers g a (min l (2 * a .2 - l)) h k) × (min l (2 * a .2 - l) < layers g a)
 
-pub middle-numbers : (a : J) (h k l : ℕ) → (l ≡ 0 → ⊥) × (l ≡ a .2 → ⊥) → l < 2 * a .2 → (n : ℕ) → n < 4 → (n ≡ 0 → ⊥) → Middle a h k l (groupOf n)
+pub middle-numbers : (a : J) (h k l : ℕ) → (l ≡ 0 → ⊥) × (l ≡ a .2 → ⊥) → l < 2 * a .2 → (n : ℕ) → n < 5 → (n ≡ 0 → ⊥) → Middle a h k l (groupOf n)
 unfolding planes
-middle-numbers a h k l z b = by-halved (Middle a h k l) (rw (ne-eqb l 0 (z .0), ne-eqb l (a .2) (z .1)) refl, omega arith) (refl, omega arith) (glide (even h), omega arith)
+middle-numbers a h k l z b = by-halved (Middle a h k l) (rw (ne-eqb l 0 (z .0), ne-eqb l (a .2) (z .1)) refl, omega arith) (refl, omega arith) (glide (even h), omega arith) (rw (ne-eqb l 0 (z .0), ne-eqb l (a .2) (z .1)) refl, omega arith)
   where
     glide : (e : Bool) → lineNumbers Pa a (cond e Kind.symmetric Kind.antisymmetric) h k l ≡ pairNumbers Pa a (min l (2 * a .2 - l)) h k
     glide true = refl
@@ -101,6 +115,9 @@ middle-numbers a h k l z b = by-halved (Middle a h k l) (rw (ne-eqb l 0 (z .0), 
 -- at the ends of a symmetric line: the pair of l itself
 fold-end : (c l : ℕ) → (l ≡ 0) ⊎ (l ≡ c) → (min l (2 * c - l) ≡ l) × (l < suc c)
 fold-end c l e = ⊎-elim (λ z. (omega arith, omega arith)) (λ z. (omega arith, omega arith)) e
+
+left : {n : ℕ} → n < 5 → (n ≡ 0 → ⊥) → (n ≡ 1 → ⊥) → (n ≡ 4 → ⊥) → (n ≡ 3 → ⊥) → n ≡ 2
+left l a b c d = omega arith
 
 module _ {group n1 n2 n3 : ℕ} (s : Sizes group n1 n2 n3) (j : Index) (i : Within n1 n2 n3 j) (b : j .k ≤ n2 / 2) (r : Run) where
   abbrev a : J
@@ -131,21 +148,28 @@ module _ {group n1 n2 n3 : ℕ} (s : Sizes group n1 n2 n3) (j : Index) (i : With
       pair-found _ (e ∙ ap (λ w. 2 * pairPlace P1 a w (j .h) (j .k)) u) f group (q .1) (q .0)
 
   -- the ends of an alternating line
-  pub first-found : group ≡ 1 → j .l ≡ 0 → {q : ℕ} → q ≡ pairPlace P1 a 0 (j .h) (j .k) → r .first ≡ 2 * q → r .count ≡ 1 → Found group
+  pub first-found : alternates group ≡ true → j .l ≡ 0 → {q : ℕ} → q ≡ pairPlace P1 a 0 (j .h) (j .k) → r .first ≡ 2 * q → r .count ≡ 1 → Found group
   unfolding planes
-  first-found z l u e f = subst Found (sym z) (rw (eq-eqb (j .l) 0 l) (number-run P2₁ a {w = 0} r _ (omega arith) in-rows in-columns (omega arith) (e ∙ ap (λ q. 2 * q) u) f))
+  first-found z l u e f = by-alternating (λ g. IsRun (volumeLength g a) (lineNumbers g a (lineKind g (j .h)) (j .h) (j .k) (j .l)) r)
+      (rw (eq-eqb (j .l) 0 l) (number-run P2₁ a {w = 0} r _ (omega arith) in-rows in-columns (omega arith) (e ∙ ap (λ q. 2 * q) u) f))
+      (rw (eq-eqb (j .l) 0 l) (number-run P2₁2₁2₁ a {w = 0} r _ (omega arith) in-rows in-columns (omega arith) (e ∙ ap (λ q. 2 * q) u) f))
+      group z
 
-  pub second-found : group ≡ 1 → (j .l ≡ 0 → ⊥) → (eqb (j .l) 0 || eqb (j .l) (n3 / 2)) ≡ true → {q : ℕ} → q ≡ pairPlace P1 a 0 (j .h) (j .k) → r .first ≡ 2 * q + 1 → r .count ≡ 1 → Found group
+  pub second-found : alternates group ≡ true → (j .l ≡ 0 → ⊥) → (eqb (j .l) 0 || eqb (j .l) (n3 / 2)) ≡ true → {q : ℕ} → q ≡ pairPlace P1 a 0 (j .h) (j .k) → r .first ≡ 2 * q + 1 → r .count ≡ 1 → Found group
   unfolding planes
   second-found z l t u e f =
       let q : j .l ≡ n3 / 2 = ⊎-elim (λ p. absurd (l p)) (λ p. p) (at-end (j .l) (n3 / 2) t) in
-      subst Found (sym z) (rw (ne-eqb (j .l) 0 l, eq-eqb (j .l) (n3 / 2) q) (number-run P2₁ a {w = 0} r _ (omega arith) in-rows in-columns (omega arith) (e ∙ ap (λ q. 2 * q + 1) u) f))
+      by-alternating (λ g. IsRun (volumeLength g a) (lineNumbers g a (lineKind g (j .h)) (j .h) (j .k) (j .l)) r)
+      (rw (ne-eqb (j .l) 0 l, eq-eqb (j .l) (n3 / 2) q) (number-run P2₁ a {w = 0} r _ (omega arith) in-rows in-columns (omega arith) (e ∙ ap (λ q. 2 * q + 1) u) f))
+      (rw (ne-eqb (j .l) 0 l, eq-eqb (j .l) (n3 / 2) q) (number-run P2₁2₁2₁ a {w = 0} r _ (omega arith) in-rows in-columns (omega arith) (e ∙ ap (λ q. 2 * q + 1) u) f))
+      group z
 
   -- the ends of a symmetric line, and those of an antisymmetric one, which are not read
-  pub mirror-found : (group ≡ 0 → ⊥) → (group ≡ 1 → ⊥) → (group ≡ 3 → ⊥) → (eqb (j .l) 0 || eqb (j .l) (n3 / 2)) ≡ true → r .first ≡ 2 * pairPlace P1 a (j .l) (j .h) (j .k) → r .count ≡ 2 → Found group
+  pub mirror-found : (group ≡ 0 → ⊥) → alternates group ≡ false → (group ≡ 3 → ⊥) → (eqb (j .l) 0 || eqb (j .l) (n3 / 2)) ≡ true → r .first ≡ 2 * pairPlace P1 a (j .l) (j .h) (j .k) → r .count ≡ 2 → Found group
   unfolding planes
   mirror-found x y z t e f =
-      let two : group ≡ 2 = omega arith in
+      let n = not-alternating group y in
+      let two : group ≡ 2 = left (s .known) x (n .0) (n .1) z in
       let q = fold-end (n3 / 2) (j .l) (at-end (j .l) (n3 / 2) t) in
       subst Found (sym two) (pair-found (j .l) e f 2 (q .1) (ap (λ w. pairNumbers Pm a w (j .h) (j .k)) (q .0)))
 
@@ -174,29 +198,36 @@ even-place n1 n2 w h k even =
 
 -- ---- how many layers and how many stored factors along l
 
-pub mirrored-layers : (n c : ℕ) → n < 4 → (n ≡ 0 → ⊥) → (n ≡ 1 → ⊥) → c + 1 ≡ planes (groupOf n) c
+pub mirrored-layers : (n c : ℕ) → n < 5 → (n ≡ 0 → ⊥) → alternates n ≡ false → c + 1 ≡ planes (groupOf n) c
 unfolding planes
 mirrored-layers zero c l y z = absurd (y refl)
-mirrored-layers (suc zero) c l y z = absurd (z refl)
+mirrored-layers (suc zero) c l y z = absurd (not-alternating 1 z .0 refl)
 mirrored-layers (suc (suc zero)) c l y z = omega arith
 mirrored-layers (suc (suc (suc zero))) c l y z = omega arith
-mirrored-layers (suc (suc (suc (suc n)))) c l y z = absurd (omega arith)
+mirrored-layers (suc (suc (suc (suc zero)))) c l y z = absurd (not-alternating 4 z .1 refl)
+mirrored-layers (suc (suc (suc (suc (suc n))))) c l y z = absurd (omega arith)
 
-pub half-span : (n c : ℕ) → n < 4 → (n ≡ 0 → ⊥) → c + 1 ≡ span (groupOf n) c
+pub half-span : (n c : ℕ) → n < 5 → (n ≡ 0 → ⊥) → c + 1 ≡ span (groupOf n) c
 unfolding span
-half-span n c = by-halved (λ g. c + 1 ≡ span g c) (omega arith) (omega arith) (omega arith) n
+half-span n c = by-halved (λ g. c + 1 ≡ span g c) (omega arith) (omega arith) (omega arith) (omega arith) n
 
-pub stored-layer : (n c l : ℕ) → n < 4 → (n ≡ 1 → ⊥) → l < span (groupOf n) c → l < planes (groupOf n) c
+pub stored-layer : (n c l : ℕ) → n < 5 → alternates n ≡ false → l < span (groupOf n) c → l < planes (groupOf n) c
 unfolding planes span
 stored-layer zero c l b z h = h
-stored-layer (suc zero) c l b z h = absurd (z refl)
+stored-layer (suc zero) c l b z h = absurd (not-alternating 1 z .0 refl)
 stored-layer (suc (suc zero)) c l b z h = h
 stored-layer (suc (suc (suc zero))) c l b z h = h
-stored-layer (suc (suc (suc (suc n)))) c l b z h = absurd (omega arith)
+stored-layer (suc (suc (suc (suc zero)))) c l b z h = absurd (not-alternating 4 z .1 refl)
+stored-layer (suc (suc (suc (suc (suc n))))) c l b z h = absurd (omega arith)
 
-pub alternating-half : {n c l : ℕ} → n ≡ 1 → l < span (groupOf n) c → l ≤ c
+pub alternating-half : (n : ℕ) {c l : ℕ} → alternates n ≡ true → l < span (groupOf n) c → l ≤ c
 unfolding span
-alternating-half {n} {c} {l} e h = let s : l < suc c = rw (ap groupOf e) at h in omega arith
+alternating-half n {c} {l} e h = by-alternating (λ g. l < span g c → l ≤ c) (λ h. omega arith) (λ h. omega arith) n e h
+
+-- P1 stores every plane
+pub not-plain : (n c z : ℕ) → planes (groupOf n) c ≤ z → z < 2 * c → n ≡ 0 → ⊥
+unfolding planes
+not-plain n c z l h e = let p : 2 * c ≤ z = subst (λ n. planes (groupOf n) c ≤ z) e l in omega arith
 
 -- the pair w of the line of j lies in the volume
 pub pair-inside : {group n1 n2 n3 : ℕ} → Sizes group n1 n2 n3 → (j : Index) → Within n1 n2 n3 j → j .k ≤ n2 / 2 → (w : ℕ) → w < layers (groupOf group) (halvesOf n1 n2 n3)
@@ -227,9 +258,9 @@ column-numbers g a j i e = go (leb (j .1) (a .1)) ∙ ap numbers (sym e)
 
 -- ---- the plane of a point
 
--- the group's other operation is the last of its list
-last-own : (n : ℕ) → n < 4 → getD (ops (groupOf n)) (length (ops (groupOf n)) - 1) one ≡ planeSym (groupOf n)
-last-own = by-group (λ g. getD (ops g) (length (ops g) - 1) one ≡ planeSym g) refl refl refl refl
+-- the operation that leads to the stored planes is the second of its list
+plane-own : (n : ℕ) → n < 5 → (n ≡ 0 → ⊥) → getD (ops (groupOf n)) 1 one ≡ planeSym (groupOf n)
+plane-own = by-halved (λ g. getD (ops g) 1 one ≡ planeSym g) refl refl refl refl
 
 module _ (g : Group) (a x : J) where
   pub stored-plane : x .2 < planes g (a .2) → x ≡ pim a (prep g a x) x
@@ -240,9 +271,9 @@ module _ (g : Group) (a x : J) where
   unfolding prep
   other-plane l = rw (le-ltb (x .2) (planes g (a .2)) l)
 
--- the image under the last operation of the group, as the code finds it
-pub other-point : (n : ℕ) → n < 4 → (a x : J) {k : ℕ} {s : Sym} → k ≡ length (ops (groupOf n)) → s ≡ getD (ops (groupOf n)) (k - 1) one → planes (groupOf n) (a .2) ≤ x .2 → pim a s x ≡ pim a (prep (groupOf n) a x) x
-other-point n l a x e f p = ap (λ s. pim a s x) (f ∙ ap (λ k. getD (ops (groupOf n)) (k - 1) one) e ∙ last-own n l ∙ other-plane (groupOf n) a x p)
+-- the image under that operation, as the code finds it
+pub other-point : (n : ℕ) → n < 5 → (n ≡ 0 → ⊥) → (a x : J) {s : Sym} → s ≡ getD (ops (groupOf n)) 1 one → planes (groupOf n) (a .2) ≤ x .2 → pim a s x ≡ pim a (prep (groupOf n) a x) x
+other-point n l z a x f p = ap (λ s. pim a s x) (f ∙ plane-own n l z ∙ other-plane (groupOf n) a x p)
 
 pub point-place : {group n1 n2 n3 : ℕ} (s : Sizes group n1 n2 n3) (x y : Point) (q : ℕ) → PointWithin n1 n2 n3 x → PointWithin n1 n2 n3 y
     → pointOf y ≡ pim (halvesOf n1 n2 n3) (prep (groupOf group) (halvesOf n1 n2 n3) (pointOf x)) (pointOf x) → q ≡ pairPlace P1 (halvesOf n1 n2 n3) (y .z) (y .x) 0

@@ -28,7 +28,7 @@ use Rattle.algebra.proofs.Orbits as O
 use Rattle.algebra.proofs.CellGroup.{factor-action, closed, rep-in, rep-st}
 use Rattle.algebra.proofs.CellTests.{Positive}
 use Rattle.algebra.proofs.CellTests as CellTests
-use Rattle.algebra.proofs.CellPack.{pow-even, signOf, turned-back, real-0, part-c, alt-1, alt-4, pack-iff}
+use Rattle.algebra.proofs.CellPack.{pow-even, signOf, rotated-back, real-0, part-c, alt-1, alt-4, pack-iff}
 use Rattle.algebra.proofs.CellRefusals as CellRefusals
 use Rattle.numbers.specs.Prime.{prime}
 use Rattle.numbers.specs.Value.{Value, field, conj, ring, half, value, valueOf, pairOf}
@@ -38,10 +38,10 @@ use Rattle.numbers.proofs.Values.{value-path, small-pair, value-pair, field-rin
 use Rattle.numbers.proofs.Parts.{half-residue}
 use Rattle.slices.specs.Pairs.{at, Below}
 use Rattle.slices.specs.Values.{valuesOf}
-use Rattle.cell.specs.Volume.{lineKind, turned, timesI, overI, firstPair, pairPlace, rows, columns, layers, volumeLength, lineIn, factorsIn, packed, packFactors}
+use Rattle.cell.specs.Volume.{lineKind, rotated, timesI, overI, firstPair, pairPlace, rows, columns, layers, volumeLength, wholeLine, lineIn, factorsIn, packed, packFactors}
 use Rattle.cell.specs.Consistency.{sameValue}
 use Rattle.cell.proofs.VolumeLayout.{length-volume, at-volume, below-volume}
-use Rattle.cell.proofs.TurnedLines.{times-is, over-is}
+use Rattle.cell.proofs.RotatedLines.{times-is, over-is}
 use Rattle.cell.proofs.LineReading.{readLine, read-plain, read-alternating, read-symmetric, read-antisymmetric, mirror-alternating, mirror-symmetric, mirror-antisymmetric, packed-plain, packed-alternating, packed-symmetric, packed-antisymmetric, packed-first, packed-last}
 
 -- the test of two values
@@ -104,7 +104,7 @@ module _ (g : Group) (a : J) (m : ℕ) (v : List ℕ) where
   mirror-beyond false q l u h p e = mirror-antisymmetric m (a .2) q l u h p e ∙ sym (neg-one-mul (field-ring m) _)
 
 pub line-stored : (g : Group) (a : J) → 0 < a .2 → (m : ℕ) (v : List ℕ) (h k : ℕ) → EmptyEnds g a m v h k → (l : ℕ) → l < span g (a .2) → lineIn g a m v h k l ≡ unpack (ring m) g a (pairsIn g a m v) (h, k, l)
-unfolding lineIn unpack span
+unfolding lineIn wholeLine unpack span
 line-stored P1 a pos m v h k e l s = read-plain m (a .2) (λ w. pairsIn P1 a m v w h k) l
 line-stored P2₁ a pos m v h k e l s = read-alternating m (a .2) (λ w. pairsIn P2₁ a m v w h k) pos l s
 line-stored Pm a pos m v h k e l s = read-symmetric m (a .2) pos (λ w. pairsIn Pm a m v w h k) l s
@@ -122,7 +122,7 @@ alternating-beyond g a m v j n s =
 
 -- .. and any line, by its own operation
 pub line-beyond : (g : Group) (a : J) (m : ℕ) (v : List ℕ) (j : J) → Inside a j → span g (a .2) ≤ j .2 → lineAt g a m v j ≡ imp (field m) (conj m) (lineSym g) j (lineAt g a m v (im a (lineSym g) j))
-unfolding lineIn span im flip
+unfolding lineIn wholeLine span im flip
 line-beyond P1 a m v j n s = absurd (omega (arith, n .2))
 line-beyond P2₁ a m v j n s = alternating-beyond P2₁ a m v j n s ∙ sym (implied-P2₁ m j _)
 line-beyond Pm a m v j n s =
@@ -133,7 +133,7 @@ line-beyond Pa a m v j n s =
     mirror-beyond Pa a m v (even (j .0)) (λ w. pairsIn Pa a m v w (j .0) (j .1)) (j .2) (negI (a .2) (j .2)) (omega arith) (omega (arith, n .2)) (omega (arith, n .2)) ∙ sym (implied-Pa m j _)
 line-beyond P2₁2₁2₁ a m v j n s =
     ap (overI m (not (even (j .0)))) (alternating-beyond P2₁2₁2₁ a m v j n s) ∙ over-is m (even (j .0)) _
-    ∙ turned-back (res-ring m) (half m) (half-residue m) (even (j .0)) _ _
+    ∙ rotated-back (res-ring m) (half m) (half-residue m) (even (j .0)) _ _
     ∙ ap (λ y. field m .mul (signOf (res-ring m) (even (j .0))) (field m .mul (pow (field m) (minus m j (value m 0 0)) (j .2)) (conj m y))) (sym (over-is m (even (j .0)) _))
     ∙ sym (implied-4 m j _)
 
@@ -180,7 +180,7 @@ module _ (a : J) (long : Positive a) (m : ℕ) (F : Cell (Value m)) where
       w lw
 
 pub packed-is : (g : Group) (a : J) → Positive a → (m : ℕ) (F : Cell (Value m)) → Lawful (field m) (conj m) a g F
-    → (w h k : ℕ) → w < layers g a → h < rows g a → k < columns g a → packed g a m (lineKind g h) (λ l. timesI m (turned g h) (F h k l)) w ≡ Pack.packFactors (ring m) g a F w h k
+    → (w h k : ℕ) → w < layers g a → h < rows g a → k < columns g a → packed g a m (lineKind g h) (λ l. timesI m (rotated g h) (F h k l)) w ≡ Pack.packFactors (ring m) g a F w h k
 unfolding Pack.packFactors planes
 packed-is P1 a long m F o w h k lw lh lk = packed-plain P1 a m (F h k) w lw
 packed-is P2₁ a long m F o w h k lw lh lk = alternating-packed a long m F P2₁ (F h k) (alt-1 (res-ring m) (half m) (half-residue m) a long F o h k lh (omega (arith, long .1))) w lw
@@ -199,11 +199,11 @@ module _ (g : Group) (a : J) (m : ℕ) (F : Cell (Value m)) where
   unfolding packFactors
   below-factors = below-volume g a _ (prime m) (prime-pos m) (λ w h k lw lh lk. small-pair m _)
 
-  pub at-factors : (w h k : ℕ) → w < layers g a → h < rows g a → k < columns g a → at (packFactors g a m F) (pairPlace g a w h k) ≡ pairOf (packed g a m (lineKind g h) (λ l. timesI m (turned g h) (F h k l)) w)
+  pub at-factors : (w h k : ℕ) → w < layers g a → h < rows g a → k < columns g a → at (packFactors g a m F) (pairPlace g a w h k) ≡ pairOf (packed g a m (lineKind g h) (λ l. timesI m (rotated g h) (F h k l)) w)
   unfolding packFactors
   at-factors = at-volume g a _
 
-  pub pairs-factors : (w h k : ℕ) → w < layers g a → h < rows g a → k < columns g a → pairsIn g a m (packFactors g a m F) w h k ≡ packed g a m (lineKind g h) (λ l. timesI m (turned g h) (F h k l)) w
+  pub pairs-factors : (w h k : ℕ) → w < layers g a → h < rows g a → k < columns g a → pairsIn g a m (packFactors g a m F) w h k ≡ packed g a m (lineKind g h) (λ l. timesI m (rotated g h) (F h k l)) w
   pairs-factors w h k lw lh lk = ap (valueOf m) (at-factors w h k lw lh lk) ∙ value-pair m _
 
 -- the pairs that are no part of a line are zero in the packed factors of any cell

@@ -22,24 +22,24 @@ use Rattle.numbers.proofs.Residues.{val-res}
 use Rattle.numbers.proofs.Values.{pair-path, pair-value}
 use Rattle.slices.specs.Pairs.{at, Below}
 use Rattle.slices.specs.Values.{valuesOf}
-use Rattle.cell.specs.Volume.{groupOf, pairPlace, pairNumbers, lineNumbers, lineIn}
+use Rattle.cell.specs.Volume.{groupOf, alternates, volumeLength, pairPlace, pairNumbers, lineNumbers, wholeLine}
 use Rattle.cell.specs.Consistency.{all}
 use Rattle.cell.specs.declared.operations.Index.{Index}
 use Rattle.cell.specs.Operations.{halvesOf, Length}
-use Rattle.cell.specs.Places.{allBelowAt, lineNumbersAt, lineFactor}
+use Rattle.cell.specs.Places.{allBelowAt, lineNumbersAt, storedFactor}
 use Rattle.cell.specs.TestSteps.{IsVolume, IsStored, PairInside}
 use Rattle.cell.proofs.Tests.{true-iff}
 use Rattle.cell.proofs.VolumeLayout.{place-inside}
 use Rattle.cell.proofs.LineReading.{readLine, read-plain, read-symmetric, alternating-first, alternating-middle, alternating-low, read-first, read-last, read-between}
 use Rattle.cell.proofs.Reading.{pairsIn}
 use Rattle.cell.proofs.OperationLaws.{by-group}
-use Rattle.cell.proofs.PlaceLaws.{even-is, odd-is, at-end, not-end, stored-layer, alternating-half}
+use Rattle.cell.proofs.PlaceLaws.{even-is, odd-is, at-end, not-end, by-alternating, not-alternating, stored-layer, alternating-half}
 
 -- ---- pairs that lie in the volume
 
-pub layers-most : {n3 : ℕ} → Length n3 → (n : ℕ) → n < 4 → planes (groupOf n) (n3 / 2) ≤ n3
+pub layers-most : {n3 : ℕ} → Length n3 → (n : ℕ) → n < 5 → planes (groupOf n) (n3 / 2) ≤ n3
 unfolding planes
-layers-most {n3} l = by-group (λ g. planes g (n3 / 2) ≤ n3) (omega arith) (omega arith) (omega arith) (omega arith)
+layers-most {n3} l = by-group (λ g. planes g (n3 / 2) ≤ n3) (omega arith) (omega arith) (omega arith) (omega arith) (omega arith)
 
 module _ {group n1 n2 n3 : ℕ} {v : List ℕ} (volume : IsVolume group n1 n2 n3 v) where
   pub pair-inside : (w h k : ℕ) → w < planes (groupOf group) (n3 / 2) → h < n1 → k ≤ n2 / 2 → PairInside n1 n2 v w h k
@@ -58,7 +58,7 @@ module _ {group n1 n2 n3 : ℕ} {v : List ℕ} (volume : IsVolume group n1 n2 n3
   pub own-inside : {j : Index} → IsStored group n1 n2 n3 j → j .l < planes (groupOf group) (n3 / 2) → PairInside n1 n2 v (j .l) (j .h) (j .k)
   own-inside {j} stored l = pair-inside (j .l) (j .h) (j .k) l (stored .h) (stored .k)
 
-  pub stored-inside : {j : Index} → IsStored group n1 n2 n3 j → (group ≡ 1 → ⊥) → PairInside n1 n2 v (j .l) (j .h) (j .k)
+  pub stored-inside : {j : Index} → IsStored group n1 n2 n3 j → alternates group ≡ false → PairInside n1 n2 v (j .l) (j .h) (j .k)
   stored-inside {j} stored z = own-inside stored (stored-layer group (n3 / 2) (j .l) (volume .sizes .known) z (stored .l))
 
 module _ {n1 n2 n3 : ℕ} {v : List ℕ} (volume : IsVolume 1 n1 n2 n3 v) {j : Index} (stored : IsStored 1 n1 n2 n3 j) where
@@ -68,7 +68,19 @@ module _ {n1 n2 n3 : ℕ} {v : List ℕ} (volume : IsVolume 1 n1 n2 n3 v) {j : I
 
   pub middle-inside : (j .l ≡ n3 / 2 → ⊥) → PairInside n1 n2 v (j .l) (j .h) (j .k)
   unfolding planes
-  middle-inside z = own-inside volume stored (omega (arith, alternating-half refl (stored .l)))
+  middle-inside z = own-inside volume stored (omega (arith, alternating-half 1 refl (stored .l)))
+
+-- a volume of a group with alternating lines is stored as one of P2₁
+pub as-screw : {group n1 n2 n3 : ℕ} {v : List ℕ} {j : Index} → IsVolume group n1 n2 n3 v → IsStored group n1 n2 n3 j → alternates group ≡ true → IsVolume 1 n1 n2 n3 v × IsStored 1 n1 n2 n3 j
+unfolding planes span
+as-screw {group} {n1} {n2} {n3} {v} {j} volume stored e =
+    let s = volume .sizes in (
+      record {
+        sizes = record { known = omega arith; first = s .first; second = s .second; third = s .third };
+        long = volume .long ∙ by-alternating (λ g. volumeLength g (halvesOf n1 n2 n3) ≡ volumeLength P2₁ (halvesOf n1 n2 n3)) refl refl group e;
+      },
+      record { h = stored .h; k = stored .k; l = by-alternating (λ g. j .l < span g (n3 / 2) → j .l < suc (n3 / 2)) (λ l. l) (λ l. l) group e (stored .l) },
+    )
 
 -- ---- numbers below the prime stand for themselves
 
@@ -111,13 +123,13 @@ zero-pair m = pair-path (sym (val-res m (prime-pos m))) (sym (val-res m (prime-p
 
 -- the pair r is the factor at j, if the numbers that it is read from are below the prime
 abbrev pub Reads : Group → J → (m : ℕ) → List ℕ → J → Pair → Type 0
-Reads g a m v j r = allBelowAt (prime m) v (lineNumbersAt g a j) ≡ true → r ≡ pairOf (lineFactor g a m v j)
+Reads g a m v j r = allBelowAt (prime m) v (lineNumbersAt g a j) ≡ true → r ≡ pairOf (storedFactor g a m v j)
 
 module _ (g : Group) (a : J) (m : ℕ) (v : List ℕ) (j : J) where
-  reads-by : {places : List ℕ} {z : Value m} {r : Pair} → lineNumbersAt g a j ≡ places → lineFactor g a m v j ≡ z → (allBelowAt (prime m) v places ≡ true → r ≡ pairOf z) → Reads g a m v j r
+  reads-by : {places : List ℕ} {z : Value m} {r : Pair} → lineNumbersAt g a j ≡ places → storedFactor g a m v j ≡ z → (allBelowAt (prime m) v places ≡ true → r ≡ pairOf z) → Reads g a m v j r
   reads-by e f h t = h (sym (ap (allBelowAt (prime m) v) e) ∙ t) ∙ sym (ap pairOf f)
 
-  pub pair-reads : (lineNumbersAt g a j ≡ pairNumbers g a (j .2) (j .0) (j .1)) × (lineFactor g a m v j ≡ pairsIn g a m v (j .2) (j .0) (j .1)) → {x : Pair} → x ≡ at v (pairPlace g a (j .2) (j .0) (j .1)) → Reads g a m v j x
+  pub pair-reads : (lineNumbersAt g a j ≡ pairNumbers g a (j .2) (j .0) (j .1)) × (storedFactor g a m v j ≡ pairsIn g a m v (j .2) (j .0) (j .1)) → {x : Pair} → x ≡ at v (pairPlace g a (j .2) (j .0) (j .1)) → Reads g a m v j x
   pair-reads e x = reads-by (e .0) (e .1) (λ t. x ∙ sym (pair-value m (low-pair m v (pairPlace g a (j .2) (j .0) (j .1)) t)))
 
 own-pair : (c l : ℕ) → l ≤ c → min l (2 * c - l) ≡ l
@@ -132,7 +144,7 @@ module _ (a : J) (pos : 0 < a .2) (m : ℕ) (v : List ℕ) (j : J) where
   first = pairPlace P2₁ a 0 (j .0) (j .1)
 
   pub first-value : j .2 ≡ 0 → {x : Pair} → x ≡ at v first → Reads P2₁ a m v j (record { re = x .re; im = 0 })
-  unfolding lineIn
+  unfolding wholeLine
   first-value z e = reads-by P2₁ a m v j
       (rw (eq-eqb (j .2) 0 z) refl)
       (ap (readLine m (a .2) alternating line) z ∙ alternating-first m (a .2) line)
@@ -141,7 +153,7 @@ module _ (a : J) (pos : 0 < a .2) (m : ℕ) (v : List ℕ) (j : J) where
   module _ (y : j .2 ≡ 0 → ⊥) where
     module _ (z : j .2 ≡ a .2) {x : Pair} (e : x ≡ at v first) where
       second-by : {r : Pair} (b : Bool) → even (a .2) ≡ b → (getD v (2 * first + 1) 0 < prime m → r ≡ pairOf (ofPart (ring m) b ((line 0) .1))) → Reads P2₁ a m v j r
-      unfolding lineIn
+      unfolding wholeLine
       second-by b p h = reads-by P2₁ a m v j
           (rw (ne-eqb (j .2) 0 y, eq-eqb (j .2) (a .2) z) refl)
           (ap (readLine m (a .2) alternating line) z ∙ alternating-middle m (a .2) line pos ∙ ap (λ b. ofPart (ring m) b ((line 0) .1)) p)
@@ -154,11 +166,16 @@ module _ (a : J) (pos : 0 < a .2) (m : ℕ) (v : List ℕ) (j : J) where
       second-value-odd b = second-by false (odd-is (a .2) b) (second-odd m v first e)
 
     pub middle-value : (j .2 ≡ a .2 → ⊥) → j .2 ≤ a .2 → {x : Pair} → x ≡ at v (pairPlace P2₁ a (j .2) (j .0) (j .1)) → Reads P2₁ a m v j x
-    unfolding lineIn
+    unfolding wholeLine
     middle-value z l = pair-reads P2₁ a m v j (
       rw (ne-eqb (j .2) 0 y, ne-eqb (j .2) (a .2) z) (ap (λ w. pairNumbers P2₁ a w (j .0) (j .1)) (own-pair (a .2) (j .2) l)),
       alternating-low m (a .2) line (j .2) (omega arith) (omega arith),
     )
+
+-- what is read in P2₁ is read in each group with alternating lines
+pub screw-reads : (a : J) (m : ℕ) (v : List ℕ) (j : J) (n : ℕ) → alternates n ≡ true → {r : Pair} → Reads P2₁ a m v j r → Reads (groupOf n) a m v j r
+unfolding wholeLine
+screw-reads a m v j n e {r} f = by-alternating (λ g. Reads g a m v j r) f f n e
 
 -- in the other groups: a pair, or nothing at the ends of an antisymmetric line
 abbrev pub absent : (n : ℕ) → (a j : J) → Bool
@@ -166,7 +183,7 @@ absent n a j = eqb n 3 && (not (even (j .0)) && (eqb (j .2) 0 || eqb (j .2) (a .
 
 module _ (a : J) (pos : 0 < a .2) (m : ℕ) (v : List ℕ) (j : J) where
   abbrev InPair : Group → Type 0
-  InPair g = (lineNumbersAt g a j ≡ pairNumbers g a (j .2) (j .0) (j .1)) × (lineFactor g a m v j ≡ pairsIn g a m v (j .2) (j .0) (j .1))
+  InPair g = (lineNumbersAt g a j ≡ pairNumbers g a (j .2) (j .0) (j .1)) × (storedFactor g a m v j ≡ pairsIn g a m v (j .2) (j .0) (j .1))
 
   abbrev row : ℕ → Value m
   row w = pairsIn Pa a m v w (j .0) (j .1)
@@ -187,16 +204,17 @@ module _ (a : J) (pos : 0 < a .2) (m : ℕ) (v : List ℕ) (j : J) where
       less : (j .2 ≡ a .2 → ⊥) → j .2 < a .2
       less n = omega arith
 
-  pub stored-pair : (n : ℕ) → n < 4 → (n ≡ 1 → ⊥) → absent n a j ≡ false → j .2 < span (groupOf n) (a .2) → InPair (groupOf n)
-  unfolding lineIn span
+  pub stored-pair : (n : ℕ) → n < 5 → alternates n ≡ false → absent n a j ≡ false → j .2 < span (groupOf n) (a .2) → InPair (groupOf n)
+  unfolding wholeLine span
   stored-pair zero l y e s = (refl, read-plain m (a .2) row (j .2))
-  stored-pair (suc zero) l y e s = absurd (y refl)
+  stored-pair (suc zero) l y e s = absurd (not-alternating 1 y .0 refl)
   stored-pair (suc (suc zero)) l y e s = (half-pair (omega arith), read-symmetric m (a .2) pos row (j .2) s)
   stored-pair (suc (suc (suc zero))) l y e s = glide-pair (even (j .0)) e (omega arith)
-  stored-pair (suc (suc (suc (suc n)))) l y e s = absurd (omega arith)
+  stored-pair (suc (suc (suc (suc zero)))) l y e s = absurd (not-alternating 4 y .1 refl)
+  stored-pair (suc (suc (suc (suc (suc n))))) l y e s = absurd (omega arith)
 
-  pub absent-value : (n : ℕ) → n < 4 → absent n a j ≡ true → Reads (groupOf n) a m v j (record { re = 0; im = 0 })
-  unfolding lineIn
+  pub absent-value : (n : ℕ) → n < 5 → absent n a j ≡ true → Reads (groupOf n) a m v j (record { re = 0; im = 0 })
+  unfolding wholeLine
   absent-value zero l e t = cc
   absent-value (suc zero) l e t = cc
   absent-value (suc (suc zero)) l e t = cc
@@ -205,7 +223,8 @@ module _ (a : J) (pos : 0 < a .2) (m : ℕ) (v : List ℕ) (j : J) where
       glide : (b : Bool) → (not b && (eqb (j .2) 0 || eqb (j .2) (a .2))) ≡ true → readLine m (a .2) (cond b symmetric antisymmetric) row (j .2) ≡ field m .zer
       glide true e = cc
       glide false e = ⊎-elim (λ z. ap (readLine m (a .2) antisymmetric row) z ∙ read-first m (a .2) row) (λ z. ap (readLine m (a .2) antisymmetric row) z ∙ read-last m (a .2) pos row) (at-end (j .2) (a .2) e)
-  absent-value (suc (suc (suc (suc n)))) l e t = absurd (omega arith)
+  absent-value (suc (suc (suc (suc zero)))) l e t = cc
+  absent-value (suc (suc (suc (suc (suc n))))) l e t = absurd (omega arith)
 
 -- ---- the number of a point
 

@@ -31,7 +31,7 @@ use Rattle.cell.specs.Volume.{timesI, pairPlace, rows, columns, layers, 
 use Rattle.cell.specs.Consistency.{writeAlternating, write, writtenPair, writeImages}
 use Rattle.cell.proofs.VolumeLayout.{place-inside}
 use Rattle.cell.proofs.LineReading.{by-half}
-use Rattle.cell.proofs.TurnedLines.{times-is}
+use Rattle.cell.proofs.RotatedLines.{times-is}
 use Rattle.cell.proofs.Reading.{pairsIn}
 
 -- one number of a pair, set: the other stays

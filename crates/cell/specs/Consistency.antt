@@ -18,7 +18,7 @@ use Rattle.numbers.specs.declared.Pair.{Pair}
 use Rattle.numbers.specs.Prime.{prime}
 use Rattle.numbers.specs.Value.{Value, field, conj, real, pairOf}
 use Rattle.slices.specs.Pairs.{at, put, Below}
-use Rattle.cell.specs.Volume.{turned, timesI, volumeLength, layers, rows, columns, pairPlace, mapPlace, numbersRead, lineIn, packFactors, packMap}
+use Rattle.cell.specs.Volume.{rotated, timesI, volumeLength, layers, rows, columns, pairPlace, mapPlace, numbersRead, lineIn, packFactors, packMap}
 
 -- two values have the same numbers
 abbrev pub sameValue : {p : ℕ} → Res p × Res p → Res p × Res p → Bool
@@ -48,9 +48,9 @@ module _ (g : Group) (a : J) where
     abbrev pub implied : Sym → J → Value m → Value m
     implied s j x = imp (field m) (conj m) s j x
 
-    -- a record: each operation in turn writes its image, where that is stored, times i where its line is turned
+    -- a record: each operation in turn writes its image, where that is stored, times i where its line is rotated
     abbrev pub writtenPair : J → Value m → Pair
-    writtenPair j x = pairOf (timesI m (turned g (j .0)) x)
+    writtenPair j x = pairOf (timesI m (rotated g (j .0)) x)
 
     unfoldable pub writeImages : List Sym → J → Value m → List ℕ → List ℕ
     writeImages [] j x v = v

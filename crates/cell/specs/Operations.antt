@@ -27,7 +27,7 @@ pub record Length (n : ℕ) : Type 0 where
 
 -- a group of the paper's numbers and three lengths
 pub record Sizes (group n1 n2 n3 : ℕ) : Type 0 where
-  pub known : group < 4
+  pub known : group < 5
   pub first : Length n1
   pub second : Length n2
   pub third : Length n3

@@ -7,7 +7,7 @@ use lib.Dec.{ltb}
 use lib.ListN.{getD}
 use Rattle.algebra.specs.Cell.{J, Group}
 use Rattle.numbers.specs.Value.{Value}
-use Rattle.cell.specs.Volume.{lineKind, lineNumbers, lineIn}
+use Rattle.cell.specs.Volume.{lineKind, lineNumbers, wholeLine, lineIn}
 use Rattle.cell.specs.Consistency.{all}
 use Rattle.cell.specs.declared.places.Run.{Run}
 
@@ -31,3 +31,7 @@ lineNumbersAt g a j = lineNumbers g a (lineKind g (j .0)) (j .0) (j .1) (j .2)
 
 abbrev pub lineFactor : Group → J → (m : ℕ) → List ℕ → J → Value m
 lineFactor g a m v j = lineIn g a m v (j .0) (j .1) (j .2)
+
+-- the same as its line stores it, times i where the line is rotated
+abbrev pub storedFactor : Group → J → (m : ℕ) → List ℕ → J → Value m
+storedFactor g a m v j = wholeLine g a m v (j .0) (j .1) (j .2)

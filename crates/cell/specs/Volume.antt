@@ -16,7 +16,11 @@ use Rattle.slices.specs.Values.{valuesOf}
 
 -- the groups by the paper's numbers
 abbrev pub groupOf : ℕ → Group
-groupOf n = getD (P1 ∷ P2₁ ∷ Pm ∷ Pa ∷ []) n P1
+groupOf n = getD (P1 ∷ P2₁ ∷ Pm ∷ Pa ∷ P2₁2₁2₁ ∷ []) n P1
+
+-- the groups with alternating lines, by their numbers
+abbrev pub alternates : ℕ → Bool
+alternates n = eqb n 1 || eqb n 4
 
 -- the kind of the line along l at h
 abbrev pub lineKind : Group → ℕ → Kind
@@ -27,14 +31,14 @@ lineKind Pa h = cond (even h) symmetric antisymmetric
 lineKind P2₁2₁2₁ h = alternating
 
 -- the line is stored times i: an odd h's line of P2₁2₁2₁ is alternating only so
-abbrev pub turned : Group → ℕ → Bool
-turned P1 h = false
-turned P2₁ h = false
-turned Pm h = false
-turned Pa h = false
-turned P2₁2₁2₁ h = not (even h)
+abbrev pub rotated : Group → ℕ → Bool
+rotated P1 h = false
+rotated P2₁ h = false
+rotated Pm h = false
+rotated Pa h = false
+rotated P2₁2₁2₁ h = not (even h)
 
--- a value times i and over i where the line is turned, else the value
+-- a value times i and over i where the line is rotated, else the value
 abbrev pub timesI : (m : ℕ) → Bool → Value m → Value m
 timesI m false x = x
 timesI m true x = field m .mul (i m) x
@@ -77,24 +81,28 @@ module _ (g : Group) (a : J) where
   unfoldable pub volumeOf : (ℕ → ℕ → ℕ → Pair) → List ℕ
   volumeOf f = tab pairCount (λ j. f (j / columns / rows) (j / columns % rows) (j % columns))
 
-  -- Packed factors. The packed line of (h, k) is the pairs of its kind, of the line times i where it is turned; in Pa with h odd the pairs 0 and A are no part of it, and zero.
+  -- Packed factors. The packed line of (h, k) is the pairs of its kind, of the line times i where it is rotated; in Pa with h odd the pairs 0 and A are no part of it, and zero.
   module _ (m : ℕ) where
     abbrev pub packedLine : List ℕ → (h k : ℕ) → ℕ → Value m
     packedLine v h k w = valuesOf m v (pairPlace (firstPair (lineKind g h) + w) h k)
 
+    -- the whole line that the pairs stand for, and the factors: a rotated line loses its i
+    unfoldable pub wholeLine : List ℕ → (h k : ℕ) → ℕ → Value m
+    wholeLine v h k l = unfoldBefore (field m) (conj m) (i m) (real m (half m)) (a .2) (lineKind g h) (packedLine v h k) l
+
     unfoldable pub lineIn : List ℕ → (h k : ℕ) → ℕ → Value m
-    lineIn v h k l = overI m (turned g h) (unfoldBefore (field m) (conj m) (i m) (real m (half m)) (a .2) (lineKind g h) (packedLine v h k) l)
+    lineIn v h k l = overI m (rotated g h) (wholeLine v h k l)
 
     -- The factors that a volume stands for: k above B through the line of (-h, -k), any other from its own.
     unfoldable pub factorsIn : List ℕ → Cell (Value m)
     factorsIn v h k l = cond (leb k (a .1)) (lineIn v h k l) (conj m (lineIn v (negI (a .0) h) (negI (a .1) k) (negI (a .2) l)))
 
-    -- and back: a line X along l packed by its kind, as before the transform; it is F(h, k, l), times i where it is turned
+    -- and back: a line X along l packed by its kind, as before the transform; it is F(h, k, l), times i where it is rotated
     unfoldable pub packed : Kind → (ℕ → Value m) → ℕ → Value m
     packed kind X w = cond (leb (firstPair kind) w && ltb w (firstPair kind + slots kind (a .2))) (packBefore (field m) (conj m) (i m) (real m (half m)) (a .2) kind X (w - firstPair kind)) (value m 0 0)
 
     unfoldable pub packFactors : Cell (Value m) → List ℕ
-    packFactors F = volumeOf (λ w h k. pairOf (packed (lineKind g h) (λ l. timesI m (turned g h) (F h k l)) w))
+    packFactors F = volumeOf (λ w h k. pairOf (packed (lineKind g h) (λ l. timesI m (rotated g h) (F h k l)) w))
 
   -- The map: for each stored plane z and each x, both rising, the N2 numbers by y, then two zeros; the pair k of a row has y = 2 k and y = 2 k + 1.
   unfoldable pub mapPair : {p : ℕ} → Cell (Res p × Res p) → ℕ → ℕ → ℕ → Pair

@@ -9,7 +9,7 @@ ghost use mathlib.Core.Bool.{true, false};
 ghost use Prim.Native.Nat.{_/_, _<_, _≤_};
 ghost use lib.ListN.{length, getD};
 ghost use Rattle.algebra.specs.Ring.{Ops};
-ghost use Rattle.algebra.specs.Cell.{Sym, one, friedel, _·_, ops, full, lineSym, xor, flip, turn, im, pim, sgn, imp};
+ghost use Rattle.algebra.specs.Cell.{Sym, P2₁2₁2₁, one, friedel, _·_, ops, full, lineSym, xor, flip, turn, im, pim, sgn, imp};
 ghost use Rattle.numbers.specs.Prime.{prime, IsModulus};
 ghost use Rattle.numbers.specs.Value.{field, conj, valueOf, pairOf, Small};
 ghost use Rattle.cell.specs.Volume.{groupOf};
@@ -42,10 +42,16 @@ pub struct Operation {
 
 // How many operations a group has of its own.
 pub fn group_order(group: u32) -> u32
-    requires { ⌜ group < 4 ⌝ }
+    requires { ⌜ group < 5 ⌝ }
     ensures { λ r. ⌜ r ≡ length (ops (groupOf group)) ⌝ }
 {
-    if group == 0 { 1 } else { 2 }
+    if group == 0 {
+        1
+    } else if group == 4 {
+        4
+    } else {
+        2
+    }
 }
 
 // A row of the table of operations: three changes of sign, three parities.
@@ -70,13 +76,29 @@ fn row(
     }
 }
 
+// The three screw axes of P2₁2₁2₁.
+fn screw_axis(number: u32) -> Operation
+    requires { ⌜ (0 < number) × (number < 4) ⌝ }
+    ensures { λ r. ⌜ symOf r ≡ getD (ops P2₁2₁2₁) number one ⌝ }
+{
+    if number == 1 {
+        row(true, true, false, true, false, true)
+    } else if number == 2 {
+        row(true, false, true, false, true, true)
+    } else {
+        row(false, true, true, true, true, false)
+    }
+}
+
 // The group's own operations, the identity first.
 pub fn group_operation(group: u32, number: u32) -> Operation
-    requires { ⌜ (group < 4) × (number < length (ops (groupOf group))) ⌝ }
+    requires { ⌜ (group < 5) × (number < length (ops (groupOf group))) ⌝ }
     ensures { λ r. ⌜ symOf r ≡ getD (ops (groupOf group)) number one ⌝ }
 {
     if number == 0 {
         row(false, false, false, false, false, false)
+    } else if group == 4 {
+        screw_axis(number)
     } else if group == 1 {
         row(true, true, false, false, false, true)
     } else if group == 2 {
@@ -103,14 +125,14 @@ fn with_friedel(o: Operation) -> Operation
 
 // How many operations an orbit has: the group's own, with and without Friedel's rule.
 pub fn operation_count(group: u32) -> u32
-    requires { ⌜ group < 4 ⌝ }
-    ensures { λ r. ⌜ (r ≡ length (full (groupOf group))) × (r ≤ 4) ⌝ }
+    requires { ⌜ group < 5 ⌝ }
+    ensures { λ r. ⌜ (r ≡ length (full (groupOf group))) × (r ≤ 8) ⌝ }
 {
     2 * group_order(group)
 }
 
 pub fn operation_at(group: u32, number: u32) -> Operation
-    requires { ⌜ (group < 4) × (number < length (full (groupOf group))) ⌝ }
+    requires { ⌜ (group < 5) × (number < length (full (groupOf group))) ⌝ }
     ensures { λ r. ⌜ symOf r ≡ getD (full (groupOf group)) number one ⌝ }
 {
     let own = group_order(group);
@@ -123,13 +145,15 @@ pub fn operation_at(group: u32, number: u32) -> Operation
 
 // The operation that maps each line along l to itself.
 pub fn line_operation(group: u32) -> Operation
-    requires { ⌜ group < 4 ⌝ }
+    requires { ⌜ group < 5 ⌝ }
     ensures { λ r. ⌜ symOf r ≡ lineSym (groupOf group) ⌝ }
 {
     if group == 0 {
         operation_at(group, 0)
     } else if group == 1 {
         operation_at(group, 3)
+    } else if group == 4 {
+        operation_at(group, 5)
     } else {
         operation_at(group, 1)
     }

@@ -3,6 +3,7 @@
 use crate::operations;
 use crate::operations::Index;
 use crate::operations::Point;
+use numbers::Pair;
 ghost use mathlib.Core.Path.{_≡_};
 ghost use mathlib.Core.Bool.{true, _&&_, _||_, not, cond};
 ghost use Prim.Native.Nat.{_+_, _*_, _-_, _/_, _<_, _≤_, min};
@@ -10,7 +11,9 @@ ghost use lib.Dec.{eqb, leb};
 ghost use Rattle.algebra.specs.Cell.{P1, planes, span, negI, pim, prep};
 ghost use Rattle.algebra.specs.CellTests.{storedT};
 ghost use Rattle.algebra.specs.CellPack.{even};
-ghost use Rattle.cell.specs.Volume.{groupOf, pairPlace, volumeLength, numbersRead, densityPlace};
+ghost use Rattle.numbers.specs.Prime.{prime, IsModulus};
+ghost use Rattle.numbers.specs.Value.{valueOf, pairOf, Small};
+ghost use Rattle.cell.specs.Volume.{groupOf, alternates, rotated, timesI, overI, pairPlace, volumeLength, numbersRead, densityPlace};
 ghost use Rattle.cell.specs.Operations.{halvesOf, tripleOf, pointOf, Length, Sizes, Within, PointWithin};
 ghost use Rattle.cell.specs.Places.{IsRun, lineNumbersAt};
 
@@ -20,14 +23,53 @@ pub struct Run {
     pub count: usize,
 }
 
+// The group's lines along l are alternating.
+pub fn is_alternating(group: u32) -> bool
+    ensures { λ r. ⌜ r ≡ alternates group ⌝ }
+{
+    (group == 1) | (group == 4)
+}
+
+// The line along l at h is stored times i.
+pub fn is_rotated(group: u32, h: usize) -> bool
+    requires { ⌜ group < 5 ⌝ }
+    ensures { λ r. ⌜ r ≡ rotated (groupOf group) h ⌝ }
+{
+    if group == 4 { h % 2 != 0 } else { false }
+}
+
+// x as the line at h stores it.
+pub fn with_i(m: u32, group: u32, h: u32, x: Pair) -> Pair
+    requires { ⌜ IsModulus m × Small (prime m) x × (group < 5) ⌝ }
+    ensures { λ r. ⌜ r ≡ pairOf (timesI m (rotated (groupOf group) h) (valueOf m x)) ⌝ }
+{
+    if is_rotated(group, h as usize) {
+        numbers::times_i(m, x)
+    } else {
+        x
+    }
+}
+
+// And back.
+pub fn without_i(m: u32, group: u32, h: u32, x: Pair) -> Pair
+    requires { ⌜ IsModulus m × Small (prime m) x × (group < 5) ⌝ }
+    ensures { λ r. ⌜ r ≡ pairOf (overI m (rotated (groupOf group) h) (valueOf m x)) ⌝ }
+{
+    if is_rotated(group, h as usize) {
+        numbers::over_i(m, x)
+    } else {
+        x
+    }
+}
+
 // The paper's W: how many planes of the map are stored.
 pub fn layer_count(group: u32, n3: u32) -> u32
-    requires { ⌜ (group < 4) × Length n3 ⌝ }
+    requires { ⌜ (group < 5) × Length n3 ⌝ }
     ensures { λ r. ⌜ r ≡ planes (groupOf group) (n3 / 2) ⌝ }
 {
     if group == 0 {
         n3
-    } else if group == 1 {
+    } else if is_alternating(group) {
         n3 / 2
     } else {
         n3 / 2 + 1
@@ -36,7 +78,7 @@ pub fn layer_count(group: u32, n3: u32) -> u32
 
 // How many of the factors along l are stored: in an alternating line, l = 0 and l = A share a pair.
 pub fn stored_count(group: u32, n3: u32) -> u32
-    requires { ⌜ (group < 4) × Length n3 ⌝ }
+    requires { ⌜ (group < 5) × Length n3 ⌝ }
     ensures { λ r. ⌜ r ≡ span (groupOf group) (n3 / 2) ⌝ }
 {
     if group == 0 { n3 } else { n3 / 2 + 1 }
@@ -53,7 +95,7 @@ pub fn pair_place(n1: u32, n2: u32, w: u32, h: u32, k: u32) -> usize
 
 // The factor at j has a place of its own in the volume.
 pub fn is_stored(group: u32, n2: u32, n3: u32, j: Index) -> bool
-    requires { ⌜ (group < 4) × Length n3 ⌝ }
+    requires { ⌜ (group < 5) × Length n3 ⌝ }
     ensures { λ r. ⌜ r ≡ storedT (groupOf group) (halvesOf 0 n2 n3) (tripleOf j) ⌝ }
 {
     (j.k <= n2 / 2) & (j.l < stored_count(group, n3))
@@ -114,7 +156,7 @@ fn end_numbers(group: u32, n1: u32, n2: u32, n3: u32, j: Index) -> Run
     requires { ⌜ Sizes group n1 n2 n3 × Within n1 n2 n3 j × (j .k ≤ n2 / 2) × (group ≡ 0 → ⊥) × ((eqb (j .l) 0 || eqb (j .l) (n3 / 2)) ≡ true) ⌝ }
     ensures { λ r. ⌜ IsRun (volumeLength (groupOf group) (halvesOf n1 n2 n3)) (lineNumbersAt (groupOf group) (halvesOf n1 n2 n3) (tripleOf j)) r ⌝ }
 {
-    if group == 1 {
+    if is_alternating(group) {
         let place = 2 * pair_place(n1, n2, 0, j.h, j.k);
         if j.l == 0 {
             Run {
@@ -160,7 +202,7 @@ pub fn factor_numbers(group: u32, n1: u32, n2: u32, n3: u32, j: Index) -> Run
     line_numbers(group, n1, n2, n3, stored_column(n1, n2, n3, j))
 }
 
-// The point itself if its plane is stored, else its image under the group's other operation.
+// The point itself if its plane is stored, else its image under the group's first operation but the identity.
 fn stored_point(group: u32, n1: u32, n2: u32, n3: u32, p: Point) -> Point
     requires { ⌜ Sizes group n1 n2 n3 × PointWithin n1 n2 n3 p ⌝ }
     ensures { λ r. ⌜ (pointOf r ≡ pim (halvesOf n1 n2 n3) (prep (groupOf group) (halvesOf n1 n2 n3) (pointOf p)) (pointOf p)) × PointWithin n1 n2 n3 r ⌝ }
@@ -168,7 +210,7 @@ fn stored_point(group: u32, n1: u32, n2: u32, n3: u32, p: Point) -> Point
     if p.z < layer_count(group, n3) {
         p
     } else {
-        let other = operations::group_operation(group, operations::group_order(group) - 1);
+        let other = operations::group_operation(group, 1);
         operations::point_image(other, n1, n2, n3, p)
     }
 }

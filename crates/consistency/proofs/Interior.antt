@@ -2,7 +2,7 @@
 use mathlib.Core.Path.{_≡_, refl, sym, _∙_, ap}
 use mathlib.Core.Bool.{Bool, true, false, _&&_}
 use mathlib.Core.List.{List, [], _∷_}
-use Prim.Native.Nat.{ℕ, suc, _≤_, _<_}
+use Prim.Native.Nat.{ℕ, zero, suc, _≤_, _<_}
 use native.Mathlib.Omega.{arith}
 use lib.Dec.{leb, ltb}
 use borrow.Author.Tests.{le-ltb, lt-leb}
@@ -12,7 +12,6 @@ use Rattle.algebra.proofs.CellAxis.{neg-pos}
 use Rattle.cell.specs.Volume.{groupOf}
 use Rattle.cell.specs.Consistency.{lineAgrees}
 use Rattle.cell.specs.TestSteps.{imageAgrees}
-use Rattle.cell.proofs.OperationLaws.{by-group}
 use Rattle.consistency.proofs.TestLaws.{identity-agrees, image-skipped}
 
 and-true : (b : Bool) → (b && true) ≡ b
@@ -31,6 +30,15 @@ module _ {A : Type 0} (P : A → Bool) where
   last-of-eight : {s t u v w x y z : A} → P s ≡ true → P t ≡ true → P u ≡ true → P v ≡ true → P w ≡ true → P x ≡ true → P y ≡ true → every (s ∷ t ∷ u ∷ v ∷ w ∷ x ∷ y ∷ z ∷ []) P ≡ P z
   unfolding every
   last-of-eight {z = z} a b c d e f g = (λ i. a i && (b i && (c i && (d i && (e i && (f i && (g i && (P z && true)))))))) ∙ and-true (P z)
+
+-- the groups but P2₁2₁2₁
+by-four : (P : Group → Type 0) → P P1 → P P2₁ → P Pm → P Pa → (n : ℕ) → n < 5 → (n ≡ 4 → ⊥) → P (groupOf n)
+by-four P a b c d zero l z = a
+by-four P a b c d (suc zero) l z = b
+by-four P a b c d (suc (suc zero)) l z = c
+by-four P a b c d (suc (suc (suc zero))) l z = d
+by-four P a b c d (suc (suc (suc (suc zero)))) l z = absurd (z refl)
+by-four P a b c d (suc (suc (suc (suc (suc n))))) l z = absurd (omega arith)
 
 and-false : (b : Bool) → (b && false) ≡ false
 and-false true = refl
@@ -58,15 +66,15 @@ module _ (a : J) (m : ℕ) (v : List ℕ) (j : J) where
     pub inner-P1 : lineAgrees P1 a m v j ≡ true
     inner-P1 = both (imageAgrees P1 a m v j) (identity-agrees P1 a m v j) (mate P1)
 
-    pub inner : (n : ℕ) → n < 4 → 0 < j .2 → j .2 < a .2 → lineAgrees (groupOf n) a m v j ≡ true
+    pub inner : (n : ℕ) → n < 5 → (n ≡ 4 → ⊥) → 0 < j .2 → j .2 < a .2 → lineAgrees (groupOf n) a m v j ≡ true
     unfolding im flip span
-    inner n l lo′ hi′ =
-        by-group (λ g. lineAgrees g a m v j ≡ true)
+    inner n l z lo′ hi′ =
+        by-four (λ g. lineAgrees g a m v j ≡ true)
         inner-P1
         (four (imageAgrees P2₁ a m v j) (identity-agrees P2₁ a m v j) (k-skipped P2₁ (op false true true false false false true) refl lo hi) (mate P2₁) (l-skipped P2₁ (op true false false true false false true) refl refl lo′ hi′))
         (four (imageAgrees Pm a m v j) (identity-agrees Pm a m v j) (l-skipped Pm (op false false false true false false false) refl refl lo′ hi′) (mate Pm) (k-skipped Pm (op true true true false false false false) refl lo hi))
         (four (imageAgrees Pa a m v j) (identity-agrees Pa a m v j) (l-skipped Pa (op false false false true true false false) refl refl lo′ hi′) (mate Pa) (k-skipped Pa (op true true true false true false false) refl lo hi))
-        n l
+        n l z
 
     -- P2₁2₁2₁: Friedel's rule after the third operation, F(-h, k, l) = (-1)^(h + k) conj F(h, k, l), is the one image to be tried
     pub inner-4 : 0 < j .2 → j .2 < a .2 → lineAgrees P2₁2₁2₁ a m v j ≡ imageAgrees P2₁2₁2₁ a m v j (op true true false false true true false)

@@ -30,15 +30,15 @@ use Rattle.cell.proofs.OperationLaws.{by-group}
 
 -- ---- the identity is the first operation
 
-pub first-full : (n : ℕ) → n < 4 → (1 ≤ length (full (groupOf n))) × (one ≡ getD (full (groupOf n)) 0 one)
-first-full = by-group (λ g. (1 ≤ length (full g)) × (one ≡ getD (full g) 0 one)) (omega arith, refl) (omega arith, refl) (omega arith, refl) (omega arith, refl)
+pub first-full : (n : ℕ) → n < 5 → (1 ≤ length (full (groupOf n))) × (one ≡ getD (full (groupOf n)) 0 one)
+first-full = by-group (λ g. (1 ≤ length (full g)) × (one ≡ getD (full g) 0 one)) (omega arith, refl) (omega arith, refl) (omega arith, refl) (omega arith, refl) (omega arith, refl)
 
 -- ---- stored indices
 
 module _ {group n1 n2 n3 : ℕ} (s : Sizes group n1 n2 n3) where
-  span-most : (n : ℕ) → n < 4 → span (groupOf n) (n3 / 2) ≤ n3
+  span-most : (n : ℕ) → n < 5 → span (groupOf n) (n3 / 2) ≤ n3
   unfolding span
-  span-most = let l = s .third in by-group (λ g. span g (n3 / 2) ≤ n3) (omega arith) (omega arith) (omega arith) (omega arith)
+  span-most = let l = s .third in by-group (λ g. span g (n3 / 2) ≤ n3) (omega arith) (omega arith) (omega arith) (omega arith) (omega arith)
 
   pub stored-within : {j : Index} → IsStored group n1 n2 n3 j → Within n1 n2 n3 j
   stored-within i = record { h = i .h; k = omega (arith, i .k, s .second .low); l = omega (arith, i .l, span-most group (s .known)) }
@@ -97,12 +97,13 @@ module _ (a : J) (m : ℕ) (v : List ℕ) where
       ∙ ap (λ n. endsTest (groupOf n)) (sym e)
 
   -- the other groups have no such ends
-  pub ends-none : (n : ℕ) → n < 4 → (n ≡ 3 → ⊥) → true ≡ endsTest (groupOf n)
+  pub ends-none : (n : ℕ) → n < 5 → (n ≡ 3 → ⊥) → true ≡ endsTest (groupOf n)
   ends-none zero l z = sym (true-iff _ .1 (every-place-by _ _ _ _ (λ j h k q. tt)))
   ends-none (suc zero) l z = sym (true-iff _ .1 (every-place-by _ _ _ _ (λ j h k q. tt)))
   ends-none (suc (suc zero)) l z = sym (true-iff _ .1 (every-place-by _ _ _ _ (λ j h k q. tt)))
   ends-none (suc (suc (suc zero))) l z = absurd (z refl)
-  ends-none (suc (suc (suc (suc n)))) l z = absurd (omega arith)
+  ends-none (suc (suc (suc (suc zero)))) l z = sym (true-iff _ .1 (every-place-by _ _ _ _ (λ j h k q. tt)))
+  ends-none (suc (suc (suc (suc (suc n))))) l z = absurd (omega arith)
 
 -- ---- an image of a point, and a row
 

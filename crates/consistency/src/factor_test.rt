@@ -51,8 +51,8 @@ fn image_agrees(
 {
     let i = operations::image(o, n1, n2, n3, j);
     if places::is_stored(group, n2, n3, i) {
-        let x = stored::stored_factor(group, n1, n2, n3, volume, j);
-        let y = stored::stored_factor(group, n1, n2, n3, volume, i);
+        let x = stored::stored_value(m, group, n1, n2, n3, volume, j);
+        let y = stored::stored_value(m, group, n1, n2, n3, volume, i);
         stored::same(y, operations::implied(m, o, j, x))
     } else {
         true
@@ -60,13 +60,18 @@ fn image_agrees(
 }
 
 // Every stored image of j agrees. Each operation but the first changes the sign of k or l (in P1 that of k), and leads an index between
-// the ends of both out of what is stored: nothing is to be tried there.
+// the ends of both out of what is stored: nothing is to be tried there, but in P2₁2₁2₁ the last operation, which changes that of h alone.
 fn factor_agrees(m: u32, group: u32, n1: u32, n2: u32, n3: u32, volume: &[u32], j: Index) -> bool
     requires { ⌜ IsVolume group n1 n2 n3 (now volume) × IsModulus m × Below (prime m) (now volume) × IsStored group n1 n2 n3 j ⌝ }
     ensures { λ r. ⌜ r ≡ lineAgrees (groupOf group) (halvesOf n1 n2 n3) m (now (volume .entry)) (tripleOf j) ⌝ }
 {
     if between(j.k, n2 / 2) & ((group == 0) | between(j.l, n3 / 2)) {
-        true
+        if group == 4 {
+            let o = operations::operation_at(group, 7);
+            image_agrees(m, group, n1, n2, n3, volume, o, j)
+        } else {
+            true
+        }
     } else {
         images_agree(m, group, n1, n2, n3, volume, j)
     }

@@ -117,9 +117,9 @@ module _ {group n1 n2 n3 : ℕ} (s : Sizes group n1 n2 n3) where
     cell-few = omega (arith, few-records (groupOf group) (halvesOf n1 n2 n3) v (cellFrom n3 n2 0 n1), length-cell n3 n2 0 n1, mul-le-mul (s .first .high) (mul-le-mul (s .second .high) (s .third .high)))
 
     -- in a volume that an opening admits there are so few that four bytes count those of the file
-    planes-least : (c n : ℕ) → n < 4 → c ≤ planes (groupOf n) c
+    planes-least : (c n : ℕ) → n < 5 → c ≤ planes (groupOf n) c
     unfolding planes
-    planes-least c = by-group (λ g. c ≤ planes g c) (omega arith) (omega arith) (omega arith) (omega arith)
+    planes-least c = by-group (λ g. c ≤ planes g c) (omega arith) (omega arith) (omega arith) (omega arith) (omega arith)
 
     pub admitted-few : length v ≡ volumeLength (groupOf group) (halvesOf n1 n2 n3) → length v ≤ 16777216 → length (recordsWith group n1 n2 n3 v) ≤ 33554432
     admitted-few e h =

@@ -106,6 +106,6 @@ module _ (j : Job) (v output : List ℕ) where
 pub valid-volume : (j : Job) → validJob j ≡ true → volumeLength (groupIn j) (halves j) ≤ 16777216
 unfolding validJob
 valid-volume j e =
-    let t = all-three (ltb (j .group) 4) (eqb (first (axisTests (headerOf j))) 0) (ltb (j .state) 3) e in
+    let t = all-three (ltb (j .group) 5) (eqb (first (axisTests (headerOf j))) 0) (ltb (j .state) 3) e in
     let p = passed (axisTests (headerOf j)) tt (sym (eqb-true _ _ (t .1))) in
     ltb-false 16777216 (volumeLength (groupIn j) (halves j)) (p .1 .1 .1 .0)

@@ -29,11 +29,11 @@ module _ (j : Job) where
   abbrev headerOk : Bool
   headerOk = eqb (first (axisTests (headerOf j))) 0
 
-  pub invalid-group : 4 ≤ j .group → false ≡ validJob j
+  pub invalid-group : 5 ≤ j .group → false ≡ validJob j
   unfolding validJob
   invalid-group h = ap (λ (b : Bool). b && (headerOk && ltb (j .state) 3)) (sym (le-ltb _ _ h))
 
-  pub invalid-header : {r : Bool} → j .group < 4 → r ≡ headerOk → not r ≡ true → false ≡ validJob j
+  pub invalid-header : {r : Bool} → j .group < 5 → r ≡ headerOk → not r ≡ true → false ≡ validJob j
   unfolding validJob
   invalid-header h e f =
       let x = sym (lt-ltb _ _ h) in
@@ -41,17 +41,17 @@ module _ (j : Job) where
       λ i. x i && (y i && ltb (j .state) 3)
 
   -- what is known of a valid job
-  pub valid-parts : validJob j ≡ true → (j .group < 4) × (0 ≡ first (axisTests (headerOf j))) × (j .state < 3)
+  pub valid-parts : validJob j ≡ true → (j .group < 5) × (0 ≡ first (axisTests (headerOf j))) × (j .state < 3)
   unfolding validJob
   valid-parts e =
-      let t = all-three (ltb (j .group) 4) headerOk (ltb (j .state) 3) e in
+      let t = all-three (ltb (j .group) 5) headerOk (ltb (j .state) 3) e in
       (ltb-true _ _ (t .0), sym (eqb-true _ _ (t .1)), ltb-true _ _ (t .2))
 
   -- it stays valid in every state
   pub valid-with : (s : ℕ) → validJob j ≡ true → s < 3 → validJob (withState j s) ≡ true
   unfolding validJob
   valid-with s e l =
-      let t = all-three (ltb (j .group) 4) headerOk (ltb (j .state) 3) e in
+      let t = all-three (ltb (j .group) 5) headerOk (ltb (j .state) 3) e in
       let u = lt-ltb s 3 l in
       λ i. (t .0) i && ((t .1) i && u i)
 
@@ -76,7 +76,7 @@ module _ (j : Job) where
       listed : (n f : ℕ) → FactorList n (octal (octalDigits f)) → FactorList n f
       listed n f l = subst (FactorList n) (octal-of-digits f) l
 
-  pub valid-state : {r : Bool} → j .group < 4 → r ≡ headerOk → not r ≡ false → ltb (j .state) 3 ≡ validJob j
+  pub valid-state : {r : Bool} → j .group < 5 → r ≡ headerOk → not r ≡ false → ltb (j .state) 3 ≡ validJob j
   unfolding validJob
   valid-state h e f =
       let x = sym (lt-ltb _ _ h) in
@@ -84,7 +84,7 @@ module _ (j : Job) where
       λ i. x i && (y i && ltb (j .state) 3)
 
 -- the job of a header that no test refuses is valid: its lists are read back from their octal digits
-pub opened-valid : (h : Header) (s : ℕ) → h .group < 4 → 0 ≡ first (axisTests h) → s < 3 → validJob (jobOf h s) ≡ true
+pub opened-valid : (h : Header) (s : ℕ) → h .group < 5 → 0 ≡ first (axisTests h) → s < 3 → validJob (jobOf h s) ≡ true
 unfolding validJob
 opened-valid h s g e l =
     let t = sound-lists h e in

@@ -33,7 +33,7 @@ withState j s = record { group = j .group; a = j .a; b = j .b; c = j .c; state =
 
 -- Refusal 25 is not this: an opening or a later call could have made the job.
 unfoldable pub validJob : Job → Bool
-validJob j = ltb (j .group) 4 && (eqb (first (axisTests (headerOf j))) 0 && ltb (j .state) 3)
+validJob j = ltb (j .group) 5 && (eqb (first (axisTests (headerOf j))) 0 && ltb (j .state) 3)
 
 abbrev pub groupIn : Job → Group
 groupIn j = groupOf (j .group)

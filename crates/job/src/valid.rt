@@ -9,7 +9,7 @@ ghost use Rattle.job.specs.Header.{validJob};
 pub fn valid_job(job: Job) -> bool
     ensures { λ r. ⌜ r ≡ validJob job ⌝ }
 {
-    if 4 <= job.group {
+    if 5 <= job.group {
         return false;
     }
     if !packed::valid_header(

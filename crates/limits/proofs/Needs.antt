@@ -16,6 +16,10 @@ pub planes-half : {n : ℕ} (c : ℕ) → n ≡ 1 → c ≡ planes (groupOf n) c
 unfolding planes
 planes-half c e = rw e
 
+pub planes-screw : {n : ℕ} (c : ℕ) → n ≡ 4 → c ≡ planes (groupOf n) c
+unfolding planes
+planes-screw c e = rw e
+
 pub planes-mirror : {n : ℕ} (c : ℕ) → n ≡ 2 → c + 1 ≡ planes (groupOf n) c
 unfolding planes
 planes-mirror c e = rw e (omega arith)
@@ -24,13 +28,14 @@ pub planes-glide : {n : ℕ} (c : ℕ) → n ≡ 3 → c + 1 ≡ planes (groupOf
 unfolding planes
 planes-glide c e = rw e (omega arith)
 
-pub planes-other : (n c : ℕ) → (n ≡ 1 → ⊥) → (n ≡ 2 → ⊥) → (n ≡ 3 → ⊥) → 2 * c ≡ planes (groupOf n) c
+pub planes-other : (n c : ℕ) → (n ≡ 1 → ⊥) → (n ≡ 2 → ⊥) → (n ≡ 3 → ⊥) → (n ≡ 4 → ⊥) → 2 * c ≡ planes (groupOf n) c
 unfolding planes
-planes-other zero c x y z = refl
-planes-other (suc zero) c x y z = absurd (x refl)
-planes-other (suc (suc zero)) c x y z = absurd (y refl)
-planes-other (suc (suc (suc zero))) c x y z = absurd (z refl)
-planes-other (suc (suc (suc (suc n)))) c x y z = refl
+planes-other zero c x y z w = refl
+planes-other (suc zero) c x y z w = absurd (x refl)
+planes-other (suc (suc zero)) c x y z w = absurd (y refl)
+planes-other (suc (suc (suc zero))) c x y z w = absurd (z refl)
+planes-other (suc (suc (suc (suc zero)))) c x y z w = absurd (w refl)
+planes-other (suc (suc (suc (suc (suc n))))) c x y z w = refl
 
 -- the numbers of a volume are few enough to be counted
 pub few-rows : {w n1 : ℕ} → w ≤ 65536 → n1 < 65536 → w * (2 * (n1 / 2)) ≤ 4294967296

@@ -38,6 +38,8 @@ fn stored_planes(group: u32, half: u32) -> u32
         half + 1
     } else if group == 3 {
         half + 1
+    } else if group == 4 {
+        half
     } else {
         2 * half
     }

@@ -61,6 +61,7 @@ fn along_l(plan: Plan, y: usize) -> Line
         m: plan.m,
         direction: plan.direction,
         kind,
+        rotated: cell::places::is_rotated(plan.group, y / width),
         factors: plan.f3,
         half: (plan.n3 / 2) as usize,
         start: y + first_pair(kind) * stride,
@@ -71,12 +72,12 @@ fn along_l(plan: Plan, y: usize) -> Line
 
 // The kind of the line along l at h.
 fn line_kind(group: u32, h: usize) -> u32
-    requires { ⌜ group < 4 ⌝ }
+    requires { ⌜ group < 5 ⌝ }
     ensures { λ r. ⌜ (r < 6) × (kindOf r ≡ lineKind (groupOf group) h) × (r ≡ 1 → ⊥) ⌝ }
 {
     if group == 0 {
         0
-    } else if group == 1 {
+    } else if cell::places::is_alternating(group) {
         3
     } else if group == 2 {
         4

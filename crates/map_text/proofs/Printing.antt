@@ -69,7 +69,7 @@ module _ (j : Job) (v : List ℕ) where
 valid-limit : (j : Job) → validJob j ≡ true → volumeLength (groupIn j) (halves j) ≤ 16777216
 unfolding validJob
 valid-limit j e =
-    let t = all-three (ltb (j .group) 4) (eqb (first (axisTests (headerOf j))) 0) (ltb (j .state) 3) e in
+    let t = all-three (ltb (j .group) 5) (eqb (first (axisTests (headerOf j))) 0) (ltb (j .state) 3) e in
     ltb-false _ _ (passed (axisTests (headerOf j)) tt (sym (eqb-true _ _ (t .1))) .1 .1 .1 .0)
 
 module _ {j : Job} {v : List ℕ} (p : Printable j v) where

@@ -109,7 +109,7 @@ pub data Beginning : Type 0 where
 
 -- 8, 2, then 3, 4, 5 each over the three axes, 9. Faults of the volume (6, 7, 14) do not arise.
 abbrev pub beginningTests : Header → (kind : ℕ) → List Test
-beginningTests h kind = leb 4 (h .group) ⇒ 8 ∷ leb 2 kind ⇒ 2 ∷ axisTests h
+beginningTests h kind = leb 5 (h .group) ⇒ 8 ∷ leb 2 kind ⇒ 2 ∷ axisTests h
 
 -- kind 0: F is zero everywhere
 abbrev pub zeroModel : Header → Model

@@ -149,6 +149,14 @@ pub fn times_i(m: u32, a: Pair) -> Pair
     }
 }
 
+// Over i: minus i times.
+pub fn over_i(m: u32, a: Pair) -> Pair
+    requires { ⌜ IsModulus m × Small (prime m) a ⌝ }
+    ensures { λ r. ⌜ r ≡ pairOf (field m .mul (field m .neg (i m)) (valueOf m a)) ⌝ }
+{
+    negated(m, times_i(m, a))
+}
+
 // A value times the residue c.
 pub fn scaled(m: u32, c: u32, a: Pair) -> Pair
     requires { ⌜ IsModulus m × (c < prime m) × Small (prime m) a ⌝ }

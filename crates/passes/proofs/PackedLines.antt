@@ -25,8 +25,8 @@ use Rattle.numbers.proofs.Residues.{res-ring}
 use Rattle.numbers.proofs.Values.{field-ring, field-star}
 use Rattle.numbers.proofs.Parts.{half-residue}
 use Rattle.kinds.proofs.Reading.{forward-cong, back-cong}
-use Rattle.cell.specs.Volume.{lineKind, turned, timesI, firstPair, layers}
-use Rattle.cell.proofs.TurnedLines.{times-is}
+use Rattle.cell.specs.Volume.{lineKind, rotated, timesI, firstPair, layers}
+use Rattle.cell.proofs.RotatedLines.{times-is}
 
 module _ {R : Type 0} {𝓞 : Ops R} {conj : R → R} {i : R} (𝓡 : CRing 𝓞) (𝓢 : Star 𝓞 conj i) {half : R} {axis : Axis R} {tau : ℕ → R} (𝓐 : AxisLaws 𝓞 conj i half axis tau) where
   open Ops 𝓞 using (mul as _⊗_, neg as ⊖_, zer as 𝟘)
@@ -107,7 +107,7 @@ module _ (a : J) where
 
   -- each line along l of a cell of the group keeps the rule of its kind, times i where it is so stored
   pub line-rule : (g : Group) → Positive a → (m : ℕ) (F : Cell (Value m)) → Lawful (field m) (conj m) a g F → (h k : ℕ) → h < 2 * a .0 → k < 2 * a .1
-      → RuleBefore (field m) (conj m) (i m) (real m (half m)) (a .2) (lineKind g h) (λ l. timesI m (turned g h) (F h k l))
+      → RuleBefore (field m) (conj m) (i m) (real m (half m)) (a .2) (lineKind g h) (λ l. timesI m (rotated g h) (F h k l))
   unfolding negI
   line-rule P1 long m F o h k lh lk = tt
   line-rule P2₁ long m F o h k lh lk = λ l ll. line-P2₁ (field-ring m) (field-star m) a F o h k l lh lk ll

@@ -38,9 +38,9 @@ use Rattle.slices.specs.Pairs.{at, zeroPair}
 use Rattle.slices.specs.Values.{valuesOf}
 use Rattle.slices.specs.Sweep.{Layout, sweep, onLists}
 use Rattle.slices.proofs.Pairs.{at-tab}
-use Rattle.cell.specs.Volume.{lineKind, turned, timesI, overI, firstPair, layers, rows, columns, volumeOf, packed, packFactors, mapPair, packMap}
+use Rattle.cell.specs.Volume.{lineKind, rotated, timesI, overI, firstPair, layers, rows, columns, volumeOf, packed, packFactors, mapPair, packMap}
 use Rattle.cell.specs.Consistency.{RealMap, ObeysGroup}
-use Rattle.cell.proofs.TurnedLines.{over-times, over-zero}
+use Rattle.cell.proofs.RotatedLines.{over-times, over-zero}
 use Rattle.cell.specs.Sums.{axis, mapOf, factorsOf}
 use Rattle.axes.specs.Turned.{forwardValues, inverseValues, joined, parted, forwardRow, inverseRow}
 use Rattle.axes.specs.Axes.{alongL, alongH, alongK, turnedL, turnedH, turnedK}
@@ -109,17 +109,17 @@ module _ (g : Group) (a : J) (m : ℕ) {tx ty tz : ℕ → Value m}
   module _ (F : Cell (Value m)) (lawful : Lawful (field m) (conj m) a g F) where
     -- a line as it is stored, and its transform
     abbrev lineOf : (h k : ℕ) → ℕ → Value m
-    lineOf h k l = timesI m (turned g h) (F h k l)
+    lineOf h k l = timesI m (rotated g h) (F h k l)
 
     abbrev after : (h k : ℕ) → ℕ → Value m
     after h k s = dft (field m) (2 * a .2) (axis m (a .2) .w) (lineOf h k) s
 
-    after-is : (h k s : ℕ) → after h k s ≡ timesI m (turned g h) (L F h k s)
+    after-is : (h k s : ℕ) → after h k s ≡ timesI m (rotated g h) (L F h k s)
     unfolding afterL
-    after-is h k s = times-dft (turned g h) (F h k) s
+    after-is h k s = times-dft (rotated g h) (F h k) s
 
-    over-after : (h k s : ℕ) → overI m (turned g h) (after h k s) ≡ L F h k s
-    over-after h k s = ap (overI m (turned g h)) (after-is h k s) ∙ over-times m (turned g h) _
+    over-after : (h k s : ℕ) → overI m (rotated g h) (after h k s) ≡ L F h k s
+    over-after h k s = ap (overI m (rotated g h)) (after-is h k s) ∙ over-times m (rotated g h) _
 
     abbrev boxed : ℕ → ℕ → ℕ → Value m
     boxed w h k = packed g a m (lineKind g h) (lineOf h k) w
@@ -137,7 +137,7 @@ module _ (g : Group) (a : J) (m : ℕ) {tx ty tz : ℕ → Value m}
     unfolding gauss residues
     ends h k lh lk e w z =
         ap (λ kind. packed g a m kind (lineOf h k) w) e ∙ empty w z
-        ∙ sym (over-zero m (turned g h) (after h k w) .1 (antisymmetric-ends (field-ring m) (field-star m) 𝓩 (lineOf h k) (subst (λ kind. RuleOf kind) e (rule h k lh lk)) w z))
+        ∙ sym (over-zero m (rotated g h) (after h k w) .1 (antisymmetric-ends (field-ring m) (field-star m) 𝓩 (lineOf h k) (subst (λ kind. RuleOf kind) e (rule h k lh lk)) w z))
         ∙ over-after h k w
       where
         RuleOf : Kind → Type 0
@@ -149,19 +149,19 @@ module _ (g : Group) (a : J) (m : ℕ) {tx ty tz : ℕ → Value m}
 
     pub pass-l : pass (alongL g a) (turnedL g a m 0) (packFactors g a m F) ≡ planesOf (L F)
     unfolding packFactors
-    pass-l = sweep-l g a (𝓩 .positive) m (λ h X s. overI m (turned g h) (forwardValues m (a .2) (lineKind g h) X s)) boxed (λ w h k. L F h k w)
+    pass-l = sweep-l g a (𝓩 .positive) m (λ h X s. overI m (rotated g h) (forwardValues m (a .2) (lineKind g h) X s)) boxed (λ w h k. L F h k w)
         (λ h k lh lk p e t lt.
-        ap (overI m (turned g h))
+        ap (overI m (rotated g h))
         (forward-packed (field-ring m) (field-star m) 𝓩 (lineKind g h) (lineOf h k) p (rule h k lh lk) (λ t lt. e t lt ∙ boxed-in h k t lt) t lt ∙ placed-after a m g h _ t)
         ∙ over-after h k (firstPair (lineKind g h) + t))
         ends
 
     pub back-l : pass (alongL g a) (turnedL g a m 1) (planesOf (L F)) ≡ packFactors g a m F
     unfolding packFactors
-    back-l = sweep-l g a (𝓩 .positive) m (λ h X. inverseValues m (a .2) (lineKind g h) (λ s. timesI m (turned g h) (X s))) (λ w h k. L F h k w) boxed
+    back-l = sweep-l g a (𝓩 .positive) m (λ h X. inverseValues m (a .2) (lineKind g h) (λ s. timesI m (rotated g h) (X s))) (λ w h k. L F h k w) boxed
         (λ h k lh lk p e t lt.
-        back-packed (field-ring m) (field-star m) 𝓩 (lineKind g h) (after h k) (λ s. timesI m (turned g h) (p s)) (transform-rule (field-ring m) (field-star m) 𝓩 (lineKind g h) (lineOf h k) (rule h k lh lk))
-        (λ s ls. ap (timesI m (turned g h)) (e s ls) ∙ sym (after-is h k (firstPair (lineKind g h) + s)) ∙ sym (placed-after a m g h (after h k) s)) t lt
+        back-packed (field-ring m) (field-star m) 𝓩 (lineKind g h) (after h k) (λ s. timesI m (rotated g h) (p s)) (transform-rule (field-ring m) (field-star m) 𝓩 (lineKind g h) (lineOf h k) (rule h k lh lk))
+        (λ s ls. ap (timesI m (rotated g h)) (e s ls) ∙ sym (after-is h k (firstPair (lineKind g h) + s)) ∙ sym (placed-after a m g h (after h k) s)) t lt
         ∙ pack-before-cong (field-ring m) (field-star m) 𝓩 (lineKind g h) _ _ (λ t l. inversion (field-ring m) (2 * a .2) _ _ _ (𝓩 .root) (lineOf h k) t l) t lt
         ∙ sym (boxed-in h k t lt))
         (λ h k lh lk e w z. sym (ends h k lh lk e w z))

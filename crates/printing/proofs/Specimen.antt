@@ -1,6 +1,6 @@
 -- The paper's printed specimen, computed from the definitions.
 use mathlib.Core.Path.{refl}
-use Rattle.cell.specs.Volume.{volumeOf, lineIn, factorsIn, packed, packFactors, mapPair, packMap, mapIn, numbersRead}
+use Rattle.cell.specs.Volume.{volumeOf, wholeLine, lineIn, factorsIn, packed, packFactors, mapPair, packMap, mapIn, numbersRead}
 use Rattle.cell.specs.Consistency.{all, writeAlternating, write, writeImages, recordIn, agreesWithItself, zeroPair, consistentFactors, orbitNumbers, orbitFree, consistentMap}
 use Rattle.job.specs.Header.{validJob}
 use Rattle.job.specs.Steps.{openStep, recordStep, synthesisStep, analysisStep, pointStep, factorStep}
@@ -29,5 +29,5 @@ use Rattle.printing.specs.Printed.{printed}
 use Rattle.printing.specs.Specimen.{PrintedSpecimen}
 
 pub specimen-printed : PrintedSpecimen
-unfolding volumeOf lineIn factorsIn packed packFactors mapPair packMap mapIn numbersRead all writeAlternating write writeImages recordIn agreesWithItself zeroPair consistentFactors orbitNumbers orbitFree consistentMap validJob openStep recordStep synthesisStep analysisStep pointStep factorStep admitted factorsOk digits cleared first negI halfI flip turn im pim span lineRep rep planes prep mapOf factorsOf sgn star pimp imp factorActs mapActs below every everyPlace agreesT consistentFactorsT consistentMapT zeroT lineFrom planeFrom cellFrom recordsOf even packAlt unpackAlt timesI overI packFactors-algebra unpack upd putAlt putFactor written recorded recordAll Accepted cellOf OffAll Sound putAll slots unfoldBefore unfoldAfter packBefore packAfter fold-forward fold-back pow cast sum gauss conj imag residue residues dft three re im-algebra unfold-by pack-by weave unit prime exponent choice root entryAt tableRoot half part valueOf pairOf at put puts allBelow octal product twoBytes fourBytes listAt list2At list3At countAt recordAt recordsFrom feed fileStep digitsOf each headLine rowLine mapText refusalText printed
+unfolding volumeOf wholeLine lineIn factorsIn packed packFactors mapPair packMap mapIn numbersRead all writeAlternating write writeImages recordIn agreesWithItself zeroPair consistentFactors orbitNumbers orbitFree consistentMap validJob openStep recordStep synthesisStep analysisStep pointStep factorStep admitted factorsOk digits cleared first negI halfI flip turn im pim span lineRep rep planes prep mapOf factorsOf sgn star pimp imp factorActs mapActs below every everyPlace agreesT consistentFactorsT consistentMapT zeroT lineFrom planeFrom cellFrom recordsOf even packAlt unpackAlt timesI overI packFactors-algebra unpack upd putAlt putFactor written recorded recordAll Accepted cellOf OffAll Sound putAll slots unfoldBefore unfoldAfter packBefore packAfter fold-forward fold-back pow cast sum gauss conj imag residue residues dft three re im-algebra unfold-by pack-by weave unit prime exponent choice root entryAt tableRoot half part valueOf pairOf at put puts allBelow octal product twoBytes fourBytes listAt list2At list3At countAt recordAt recordsFrom feed fileStep digitsOf each headLine rowLine mapText refusalText printed
 specimen-printed = record { shown = refl }

@@ -29,7 +29,7 @@ use Rattle.printing.specs.Printed.{synthesisText}
 valid-held : (j : Job) → validJob j ≡ true → validJob (withState j mapHeld) ≡ true
 unfolding validJob
 valid-held j e =
-    let t = all-three (ltb (j .group) 4) (eqb (first (axisTests (headerOf j))) 0) (ltb (j .state) 3) e in
+    let t = all-three (ltb (j .group) 5) (eqb (first (axisTests (headerOf j))) 0) (ltb (j .state) 3) e in
     λ i. t .0 i && (t .1 i && true)
 
 -- a job whose map is held, and the volume of that map

@@ -103,7 +103,7 @@ module _ (j : Job) (v output : List ℕ) (accepts : 0 ≡ first (writeTests j v 
 
   header-sound : 0 ≡ first (axisTests (headerOf j))
   unfolding validJob
-  header-sound = let t = all-three (ltb (j .group) 4) (eqb (first (axisTests (headerOf j))) 0) (ltb (j .state) 3) valid in sym (eqb-true _ _ (t .1))
+  header-sound = let t = all-three (ltb (j .group) 5) (eqb (first (axisTests (headerOf j))) 0) (ltb (j .state) 3) valid in sym (eqb-true _ _ (t .1))
 
   long : length v ≡ volumeLength (groupIn j) (halves j)
   long = eqb-true _ _ (not-false _ (tests .1 .1 .0))
@@ -164,7 +164,7 @@ module _ (j : Job) (v output : List ℕ) (accepts : 0 ≡ first (writeTests j v 
     -- an opening with kind 0 takes its header
     opens : 0 ≡ first (openTests (headerOf j) 0 u)
     opens =
-        pass 8 _ (lt-leb 4 (j .group) (sizes .known))
+        pass 8 _ (lt-leb 5 (j .group) (sizes .known))
         (pass 2 _ refl
         (volume ∙ sym (passed-on (axisTests (headerOf j)) (volumeTests (j .group) (headerOf j .lengths) 0 u) (passed (axisTests (headerOf j)) tt header-sound))))
       where

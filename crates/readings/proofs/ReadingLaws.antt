@@ -8,7 +8,7 @@ use native.Mathlib.Omega.{arith}
 use lib.Dec.{leb}
 use borrow.Author.Tests.{ne-eqb, le-leb, lt-leb}
 use Rattle.algebra.specs.Kinds.{Kind, Kind.alternating, Kind.symmetric, Kind.antisymmetric}
-use Rattle.algebra.specs.Cell.{J, Inside, Sym, Group, P2₁, Pm, Pa, lineSym, negI, im, flip, span, imp}
+use Rattle.algebra.specs.Cell.{J, Inside, Sym, Group, P2₁, Pm, Pa, P2₁2₁2₁, lineSym, negI, im, flip, span, imp}
 use Rattle.algebra.specs.CellPack.{even}
 use Rattle.algebra.proofs.Laws.{along}
 use Rattle.algebra.proofs.CellAxis.{neg-pos}
@@ -36,13 +36,14 @@ abbrev Beyond : J → J → Group → Type 0
 Beyond a j g = let i = im a (lineSym g) j in (lineNumbersAt g a i ≡ lineNumbersAt g a j) × (i .1 ≡ j .1) × (i .2 < span g (a .2))
 
 -- the other half of a line is read from the same numbers
-pub beyond-numbers : (a j : J) → Inside a j → (n : ℕ) → n < 4 → span (groupOf n) (a .2) ≤ j .2 → Beyond a j (groupOf n)
+pub beyond-numbers : (a j : J) → Inside a j → (n : ℕ) → n < 5 → span (groupOf n) (a .2) ≤ j .2 → Beyond a j (groupOf n)
 unfolding span im flip
 beyond-numbers a j i n b = by-group (λ g. span g (a .2) ≤ j .2 → Beyond a j g)
     (λ s. absurd (omega (arith, i .2)))
     (λ s. (half P2₁ alternating (inl refl) (omega arith), refl, low (omega arith)))
     (λ s. (half Pm symmetric (inr (inl refl)) (omega arith), refl, low (omega arith)))
     (λ s. (half Pa (cond (even (j .0)) symmetric antisymmetric) (inr (glide (even (j .0)))) (omega arith), refl, low (omega arith)))
+    (λ s. (half P2₁2₁2₁ alternating (inl refl) (omega arith), refl, low (omega arith)))
     n b
   where
     mate : a .2 < j .2 → negI (a .2) (j .2) ≡ 2 * a .2 - j .2
@@ -59,7 +60,7 @@ beyond-numbers a j i n b = by-group (λ g. span g (a .2) ≤ j .2 → Beyond a j
     glide false = inr refl
 
 -- the same of the image as the code finds it
-pub beyond-image : (a j i : J) → Inside a j → (n : ℕ) → n < 4 → {s : Sym} → s ≡ lineSym (groupOf n) → i ≡ im a s j → {q : ℕ} → q ≡ span (groupOf n) (a .2) → q ≤ j .2
+pub beyond-image : (a j i : J) → Inside a j → (n : ℕ) → n < 5 → {s : Sym} → s ≡ lineSym (groupOf n) → i ≡ im a s j → {q : ℕ} → q ≡ span (groupOf n) (a .2) → q ≤ j .2
     → (lineNumbersAt (groupOf n) a i ≡ lineNumbersAt (groupOf n) a j) × (i .1 ≡ j .1) × (i .2 < span (groupOf n) (a .2))
 beyond-image a j i inside n b e f p l = subst
     (λ i. (lineNumbersAt (groupOf n) a i ≡ lineNumbersAt (groupOf n) a j) × (i .1 ≡ j .1) × (i .2 < span (groupOf n) (a .2)))

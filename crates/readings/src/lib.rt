@@ -57,11 +57,11 @@ fn line_value(m: u32, group: u32, n1: u32, n2: u32, n3: u32, j: Index, volume: &
     ensures { λ r. ⌜ r ≡ pairOf (lineFactor (groupOf group) (halvesOf n1 n2 n3) m (now (volume .entry)) (tripleOf j)) ⌝ }
 {
     if j.l < places::stored_count(group, n3) {
-        stored::stored_factor(group, n1, n2, n3, volume, j)
+        stored::stored_value(m, group, n1, n2, n3, volume, j)
     } else {
         let o = operations::line_operation(group);
         let i = operations::image(o, n1, n2, n3, j);
-        let x = stored::stored_factor(group, n1, n2, n3, volume, i);
+        let x = stored::stored_value(m, group, n1, n2, n3, volume, i);
         operations::implied(m, o, j, x)
     }
 }

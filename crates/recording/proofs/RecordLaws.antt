@@ -9,8 +9,9 @@ use Rattle.algebra.specs.Cell.{J, Sym, one, Group, im, imp, span}
 use Rattle.algebra.specs.CellTests.{storedT}
 use Rattle.algebra.proofs.Bool.{and-l, and-r}
 use Rattle.numbers.specs.declared.Pair.{Pair}
-use Rattle.numbers.specs.Value.{Value, field, conj, pairOf}
-use Rattle.cell.specs.Volume.{turned, timesI}
+use Rattle.numbers.specs.Value.{Value, field, conj, valueOf, pairOf}
+use Rattle.numbers.proofs.Values.{value-by}
+use Rattle.cell.specs.Volume.{rotated, timesI}
 use Rattle.cell.specs.Consistency.{write, writtenPair, writeImages}
 use Rattle.cell.proofs.Tests.{true-iff}
 use Rattle.cell.proofs.Scans.{rest-opens, rest-ends}
@@ -32,8 +33,8 @@ module _ (g : Group) (a : J) (m : ℕ) (j : J) (x : Value m) where
     stored-as : (b : Bool) → t ≡ b → storedT g a (im a s j) ≡ b
     stored-as b q = sym (f ∙ ap (storedT g a) e) ∙ q
 
-    pub image-written : turned g (i .0) ≡ false → t ≡ true → {y : Pair} {w : List ℕ} → y ≡ pairOf (imp (field m) (conj m) s j x) → w ≡ write g a g v i y → w ≡ written v s
-    image-written u q p r = rw (stored-as true q) (r ∙ ap₂ (λ i y. write g a g v i y) e (p ∙ ap (λ b. pairOf (timesI m b (imp (field m) (conj m) s j x))) (sym (sym (ap (λ i. turned g (i .0)) e) ∙ u))))
+    pub image-written : t ≡ true → {y z : Pair} {w : List ℕ} → y ≡ pairOf (imp (field m) (conj m) s j x) → z ≡ pairOf (timesI m (rotated g (i .0)) (valueOf m y)) → w ≡ write g a g v i z → w ≡ written v s
+    image-written q p u r = rw (stored-as true q) (r ∙ ap₂ (λ i y. write g a g v i y) e (u ∙ ap₂ (λ (i : J) y. pairOf (timesI m (rotated g (i .0)) y)) e (value-by m _ p)))
 
     pub image-skipped : t ≡ false → v ≡ written v s
     image-skipped q = rw (stored-as false q) refl

@@ -50,7 +50,7 @@ pub fn write_images(
     }
 }
 
-// The value that x at j implies goes to the image of j, if that is stored.
+// The value that x at j implies goes to the image of j, if that is stored, as its line stores it.
 fn write_image(
     m: u32,
     o: Operation,
@@ -74,7 +74,7 @@ fn write_image(
             n2,
             n3,
             to,
-            operations::implied(m, o, j, x),
+            places::with_i(m, group, to.h, operations::implied(m, o, j, x)),
             volume,
         );
     }

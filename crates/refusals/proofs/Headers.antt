@@ -57,7 +57,7 @@ products-may n1 n2 n3 f1 f2 f3 e f =
     let b = all-three (factorsOk f1) (factorsOk f2) (factorsOk f3) f in
     ((b .0, half-small n1 (a .0)), (b .1, half-small n2 (a .1)), (b .2, half-small n3 (a .2)))
 
-pub sizes-of : {group n1 n2 n3 : ℕ} → group < 4 → (admitted n1 && (admitted n2 && admitted n3)) ≡ true → Sizes group n1 n2 n3
+pub sizes-of : {group n1 n2 n3 : ℕ} → group < 5 → (admitted n1 && (admitted n2 && admitted n3)) ≡ true → Sizes group n1 n2 n3
 sizes-of {n1 = n1} {n2} {n3} k e =
     let h = all-three (admitted n1) (admitted n2) (admitted n3) e in
     record { known = k; first = length-of _ (h .0); second = length-of _ (h .1); third = length-of _ (h .2) }
@@ -75,7 +75,7 @@ module _ (h : Header) (none : 0 ≡ first (axisTests h)) where
   tests : Passed (axisTests h)
   tests = passed (axisTests h) tt none
 
-  pub sound-sizes : h .group < 4 → Sizes (h .group) (h .lengths .0) (h .lengths .1) (h .lengths .2)
+  pub sound-sizes : h .group < 5 → Sizes (h .group) (h .lengths .0) (h .lengths .1) (h .lengths .2)
   sound-sizes k = sizes-of k (not-false _ (tests .0))
 
   -- each length is admitted, and each list is one of its half
@@ -140,7 +140,7 @@ module _ (h : Header) where
       let z = all-three (eqb (product (h .list1)) (h .lengths .0 / 2)) (eqb (product (h .list2)) (h .lengths .1 / 2)) (eqb (product (h .list3)) (h .lengths .2 / 2)) q in
       three (three (x .0) (y .0) (z .0)) (three (x .1) (y .1) (z .1)) (three (x .2) (y .2) (z .2))
 
-  pub axes-sizes : h .group < 4 → axes ≡ true → Sizes (h .group) (h .lengths .0) (h .lengths .1) (h .lengths .2)
+  pub axes-sizes : h .group < 5 → axes ≡ true → Sizes (h .group) (h .lengths .0) (h .lengths .1) (h .lengths .2)
   axes-sizes k e = sizes-of k (axes-tests e .0)
 
   -- with its axes valid a header is refused for its volume alone

@@ -56,10 +56,10 @@ module _ (group : ℕ) (n : J) (kind : ℕ) (v : List ℕ) (fit : eqb (length v)
 -- ---- all tests of an opening
 
 module _ (h : Header) (kind : ℕ) (v : List ℕ) where
-  pub header-refused : (r : Refusal) → h .group < 4 → kind < 2 → numberOf r ≡ first (axisTests h) → numberOf r ≡ first (openTests h kind v)
+  pub header-refused : (r : Refusal) → h .group < 5 → kind < 2 → numberOf r ≡ first (axisTests h) → numberOf r ≡ first (openTests h kind v)
   header-refused r g k e = pass 8 _ (lt-leb _ _ g) (pass 2 _ (lt-leb _ _ k) (append-stop (numberOf r) (axisTests h) (volumeTests (h .group) (h .lengths) kind v) (not-zero r) e))
 
-  pub volume-decides : {m : ℕ} → h .group < 4 → kind < 2 → 0 ≡ first (axisTests h) → m ≡ first (volumeTests (h .group) (h .lengths) kind v) → m ≡ first (openTests h kind v)
+  pub volume-decides : {m : ℕ} → h .group < 5 → kind < 2 → 0 ≡ first (axisTests h) → m ≡ first (volumeTests (h .group) (h .lengths) kind v) → m ≡ first (openTests h kind v)
   volume-decides g k e f =
       let t = passed (axisTests h) tt e in
       pass 8 _ (lt-leb _ _ g) (pass 2 _ (lt-leb _ _ k) (pass 3 _ (t .0) (pass 4 _ (t .1 .0) (pass 5 _ (t .1 .1 .0) (pass 9 _ (t .1 .1 .1 .0) f)))))

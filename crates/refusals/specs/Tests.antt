@@ -27,7 +27,7 @@ volumeTests group n kind v =
 -- Open: 8, 2, then 3, 4, 5 each over the three axes, 9, 6, and for a map 7, 14.
 abbrev pub openTests : Header → (kind : ℕ) → List ℕ → List Test
 openTests h kind v =
-    leb 4 (h .group) ⇒ 8 ∷
+    leb 5 (h .group) ⇒ 8 ∷
     leb 2 kind ⇒ 2 ∷
     (axisTests h ++ volumeTests (h .group) (h .lengths) kind v)
 

@@ -56,7 +56,7 @@ pub fn check_header(
     f2: &[u8],
     f3: &[u8],
 ) -> Checked
-    requires { ⌜ group < 4 ⌝ }
+    requires { ⌜ group < 5 ⌝ }
     ensures { λ r. ⌜ checkedNumber r ≡ first (axisTests (record { group = group; lengths = (n1, n2, n3); list1 = now (f1 .entry); list2 = now (f2 .entry); list3 = now (f3 .entry) })) ⌝ }
 {
     if !all_admitted(n1, n2, n3) {

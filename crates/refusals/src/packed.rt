@@ -34,7 +34,7 @@ fn valid_axis(n: u32, factors: u32) -> bool
 
 // No test of the header that the numbers make holds.
 pub fn valid_header(group: u32, n1: u32, n2: u32, n3: u32, f1: u32, f2: u32, f3: u32) -> bool
-    requires { ⌜ group < 4 ⌝ }
+    requires { ⌜ group < 5 ⌝ }
     ensures { λ r. ⌜ r ≡ eqb (first (axisTests (record { group = group; lengths = (n1, n2, n3); list1 = octalDigits f1; list2 = octalDigits f2; list3 = octalDigits f3 }))) 0 ⌝ }
 {
     if valid_axis(n1, f1) & (valid_axis(n2, f2) & valid_axis(n3, f3)) {

@@ -1,10 +1,11 @@
-// A line times a residue, in its place: the last pass of an inverse, which divides by the length of its line.
+// A line times a residue, in its place: the last pass of an inverse, which divides by the length of its line. And a line times i and over
+// i, for the lines that are stored so.
 ghost use mathlib.Core.Path.{_≡_};
 ghost use Prim.Native.Nat.{_*_, _<_, _≤_};
 ghost use lib.ListN.{length};
 ghost use Rattle.algebra.specs.Ring.{Ops};
 ghost use Rattle.numbers.specs.Prime.{prime, IsModulus};
-ghost use Rattle.numbers.specs.Value.{field, res, part, real};
+ghost use Rattle.numbers.specs.Value.{field, i, res, part, real};
 ghost use Rattle.slices.specs.Pairs.{Below};
 ghost use Rattle.slices.specs.Values.{valuesOf, listOf};
 
@@ -31,6 +32,36 @@ pub fn scale(m: u32, c: u32, n: usize, line: &mut [u32])
     while j < n {
         let v = slices::get(line, j);
         slices::store(line, j, numbers::scaled(m, c, v));
+        j += 1;
+    }
+}
+
+// Every pair of the line times i.
+pub fn times_i(m: u32, n: usize, line: &mut [u32])
+    requires { ⌜ IsModulus m ⌝ }
+    requires { ⌜ length (now line) ≡ 2 * n ⌝ }
+    requires { ⌜ Below (prime m) (now line) ⌝ }
+    ensures { λ _. ⌜ now (line .exit) ≡ listOf n (λ t. field m .mul (i m) (valuesOf m (now (line .entry)) t)) ⌝ }
+{
+    let mut j = 0;
+    while j < n {
+        let v = slices::get(line, j);
+        slices::store(line, j, numbers::times_i(m, v));
+        j += 1;
+    }
+}
+
+// Every pair of the line over i.
+pub fn over_i(m: u32, n: usize, line: &mut [u32])
+    requires { ⌜ IsModulus m ⌝ }
+    requires { ⌜ length (now line) ≡ 2 * n ⌝ }
+    requires { ⌜ Below (prime m) (now line) ⌝ }
+    ensures { λ _. ⌜ now (line .exit) ≡ listOf n (λ t. field m .mul (field m .neg (i m)) (valuesOf m (now (line .entry)) t)) ⌝ }
+{
+    let mut j = 0;
+    while j < n {
+        let v = slices::get(line, j);
+        slices::store(line, j, numbers::over_i(m, v));
         j += 1;
     }
 }

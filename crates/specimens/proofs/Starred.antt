@@ -48,7 +48,7 @@ not-zero x y lx ly h e = h (sym (val-res 1 lx) ∙ ap (λ (z : Value 1). z .0 .v
 
 -- what is computed of each row: the index is one of every cell, and the group's other operation leads it to itself with the negative value
 record Reversed (x : Specimen) : Type 0 where
-  known : x .group < 4
+  known : x .group < 5
   low : (index (x .at) .0 < 2) × (index (x .at) .1 < 2) × (index (x .at) .2 < 2)
   member : Mem (planeSym (groupOf (x .group))) (full (groupOf (x .group)))
   fixed : (a : J) → im a (planeSym (groupOf (x .group))) (index (x .at)) ≡ index (x .at)

@@ -11,12 +11,12 @@ ghost use mathlib.Core.Bool.{true};
 ghost use Prim.Native.Nat.{ℕ, _/_};
 ghost use lib.ListN.{getD};
 ghost use Rattle.algebra.specs.Cell.{P1, P2₁};
-ghost use Rattle.numbers.specs.Prime.{prime};
+ghost use Rattle.numbers.specs.Prime.{prime, IsModulus};
 ghost use Rattle.numbers.specs.Value.{pairOf};
 ghost use Rattle.slices.specs.Pairs.{at};
 ghost use Rattle.cell.specs.Volume.{groupOf, pairPlace, mapPlace};
 ghost use Rattle.cell.specs.Operations.{halvesOf, tripleOf, pointOf};
-ghost use Rattle.cell.specs.Places.{allBelowAt, lineNumbersAt, lineFactor};
+ghost use Rattle.cell.specs.Places.{allBelowAt, lineNumbersAt, lineFactor, storedFactor};
 ghost use Rattle.cell.specs.TestSteps.{IsVolume, IsStored, PairInside, samePair, isZero};
 
 // The pair w of (h, k).
@@ -41,11 +41,11 @@ pub fn is_zero(x: Pair) -> bool
     (x.re == 0) & (x.im == 0)
 }
 
-// The factor at a stored index of an alternating line: at l = 0 and at l = A one number of pair 0, real at l = 0 and at an
+// The factor at a stored index of an alternating line, as it is stored: at l = 0 and at l = A one number of pair 0, real at l = 0 and at an
 // even A, imaginary at an odd A; else a pair.
 fn alternating_factor(n1: u32, n2: u32, n3: u32, volume: &[u32], j: Index) -> Pair
     requires { ⌜ IsVolume 1 n1 n2 n3 (now volume) × IsStored 1 n1 n2 n3 j ⌝ }
-    ensures { λ r. ⌜ ((m : ℕ) → allBelowAt (prime m) (now (volume .entry)) (lineNumbersAt P2₁ (halvesOf n1 n2 n3) (tripleOf j)) ≡ true → r ≡ pairOf (lineFactor P2₁ (halvesOf n1 n2 n3) m (now (volume .entry)) (tripleOf j))) ⌝ }
+    ensures { λ r. ⌜ ((m : ℕ) → allBelowAt (prime m) (now (volume .entry)) (lineNumbersAt P2₁ (halvesOf n1 n2 n3) (tripleOf j)) ≡ true → r ≡ pairOf (storedFactor P2₁ (halvesOf n1 n2 n3) m (now (volume .entry)) (tripleOf j))) ⌝ }
 {
     let half = n3 / 2;
     if j.l == 0 {
@@ -63,18 +63,27 @@ fn alternating_factor(n1: u32, n2: u32, n3: u32, volume: &[u32], j: Index) -> Pa
     }
 }
 
-// The factor at a stored index, if the numbers that it is read from are below the prime.
+// The factor at a stored index as its line stores it, times i where the line is rotated, if the numbers that it is read from are below
+// the prime.
 pub fn stored_factor(group: u32, n1: u32, n2: u32, n3: u32, volume: &[u32], j: Index) -> Pair
     requires { ⌜ IsVolume group n1 n2 n3 (now volume) × IsStored group n1 n2 n3 j ⌝ }
-    ensures { λ r. ⌜ ((m : ℕ) → allBelowAt (prime m) (now (volume .entry)) (lineNumbersAt (groupOf group) (halvesOf n1 n2 n3) (tripleOf j)) ≡ true → r ≡ pairOf (lineFactor (groupOf group) (halvesOf n1 n2 n3) m (now (volume .entry)) (tripleOf j))) ⌝ }
+    ensures { λ r. ⌜ ((m : ℕ) → allBelowAt (prime m) (now (volume .entry)) (lineNumbersAt (groupOf group) (halvesOf n1 n2 n3) (tripleOf j)) ≡ true → r ≡ pairOf (storedFactor (groupOf group) (halvesOf n1 n2 n3) m (now (volume .entry)) (tripleOf j))) ⌝ }
 {
-    if group == 1 {
+    if places::is_alternating(group) {
         alternating_factor(n1, n2, n3, volume, j)
     } else if places::is_absent(group, n3, j) {
         Pair { re: 0, im: 0 }
     } else {
         pair_at(n1, n2, volume, j.l, j.h, j.k)
     }
+}
+
+// The factor at a stored index: a rotated line loses its i.
+pub fn stored_value(m: u32, group: u32, n1: u32, n2: u32, n3: u32, volume: &[u32], j: Index) -> Pair
+    requires { ⌜ IsModulus m × IsVolume group n1 n2 n3 (now volume) × IsStored group n1 n2 n3 j × (allBelowAt (prime m) (now volume) (lineNumbersAt (groupOf group) (halvesOf n1 n2 n3) (tripleOf j)) ≡ true) ⌝ }
+    ensures { λ r. ⌜ r ≡ pairOf (lineFactor (groupOf group) (halvesOf n1 n2 n3) m (now (volume .entry)) (tripleOf j)) ⌝ }
+{
+    places::without_i(m, group, j.h, stored_factor(group, n1, n2, n3, volume, j))
 }
 
 // The number of a point of a stored plane.

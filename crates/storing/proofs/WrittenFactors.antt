@@ -1,6 +1,6 @@
 -- A factor written, as the code writes it.
 use mathlib.Core.Path.{_≡_, refl, sym, _∙_, ap, ap₂}
-use mathlib.Core.Bool.{cond}
+use mathlib.Core.Bool.{true, false, cond}
 use mathlib.Core.List.{List}
 use Prim.Native.Nat.{ℕ, zero, suc, _+_, _*_, _<_}
 use native.Mathlib.Omega.{arith}
@@ -10,8 +10,9 @@ use Rattle.algebra.specs.Cell.{J, P2₁}
 use Rattle.algebra.specs.CellPack.{even}
 use Rattle.numbers.specs.declared.Pair.{Pair}
 use Rattle.slices.specs.Pairs.{put}
-use Rattle.cell.specs.Volume.{groupOf, pairPlace}
+use Rattle.cell.specs.Volume.{groupOf, alternates, pairPlace}
 use Rattle.cell.specs.Consistency.{writeAlternating, write}
+use Rattle.cell.proofs.PlaceLaws.{by-alternating, not-alternating}
 
 module _ (a : J) (v : List ℕ) (h k l : ℕ) (x : Pair) where
   pub first-written : l ≡ 0 → {q : ℕ} → q ≡ pairPlace P2₁ a 0 h k → set v (2 * q) (x .re) ≡ writeAlternating P2₁ a v h k l x
@@ -27,14 +28,15 @@ module _ (a : J) (v : List ℕ) (h k l : ℕ) (x : Pair) where
   pair-written y z e f = rw (ne-eqb l 0 y, ne-eqb l (a .2) z) (f ∙ ap (λ q. put v q x) e)
 
 module _ (a : J) (v : List ℕ) (j : J) (x : Pair) {w : List ℕ} where
-  pub alternating-written : {n : ℕ} → n ≡ 1 → w ≡ writeAlternating P2₁ a v (j .0) (j .1) (j .2) x → w ≡ write (groupOf n) a (groupOf n) v j x
-  unfolding write
-  alternating-written e f = f ∙ ap (λ n. write (groupOf n) a (groupOf n) v j x) (sym e)
+  pub alternating-written : (n : ℕ) → alternates n ≡ true → w ≡ writeAlternating P2₁ a v (j .0) (j .1) (j .2) x → w ≡ write (groupOf n) a (groupOf n) v j x
+  unfolding write writeAlternating
+  alternating-written n e f = by-alternating (λ g. w ≡ write g a g v j x) f f n e
 
-  pub factor-written : (n : ℕ) → n < 4 → (n ≡ 1 → ⊥) → {q : ℕ} → q ≡ pairPlace P2₁ a (j .2) (j .0) (j .1) → w ≡ put v q x → w ≡ write (groupOf n) a (groupOf n) v j x
+  pub factor-written : (n : ℕ) → n < 5 → alternates n ≡ false → {q : ℕ} → q ≡ pairPlace P2₁ a (j .2) (j .0) (j .1) → w ≡ put v q x → w ≡ write (groupOf n) a (groupOf n) v j x
   unfolding write
   factor-written zero l z e f = f ∙ ap (λ q. put v q x) e
-  factor-written (suc zero) l z e f = absurd (z refl)
+  factor-written (suc zero) l z e f = absurd (not-alternating 1 z .0 refl)
   factor-written (suc (suc zero)) l z e f = f ∙ ap (λ q. put v q x) e
   factor-written (suc (suc (suc zero))) l z e f = f ∙ ap (λ q. put v q x) e
-  factor-written (suc (suc (suc (suc n)))) l z e f = absurd (omega arith)
+  factor-written (suc (suc (suc (suc zero)))) l z e f = absurd (not-alternating 4 z .1 refl)
+  factor-written (suc (suc (suc (suc (suc n))))) l z e f = absurd (omega arith)

@@ -19,7 +19,7 @@ pub fn write_factor(group: u32, n1: u32, n2: u32, n3: u32, j: Index, x: Pair, vo
     requires { ⌜ length (now volume) ≡ volumeLength (groupOf group) (halvesOf n1 n2 n3) ⌝ }
     ensures { λ _. ⌜ now (volume .exit) ≡ write (groupOf group) (halvesOf n1 n2 n3) (groupOf group) (now (volume .entry)) (tripleOf j) x ⌝ }
 {
-    if group == 1 {
+    if places::is_alternating(group) {
         write_alternating(n1, n2, n3, j, x, volume);
     } else {
         slices::store(volume, places::pair_place(n1, n2, j.l, j.h, j.k), x);

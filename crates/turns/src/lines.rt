@@ -9,7 +9,7 @@ ghost use Rattle.numbers.specs.Prime.{prime};
 ghost use Rattle.slices.specs.Pairs.{Below};
 ghost use Rattle.lengths.specs.Counts.{kindOf};
 ghost use Rattle.volume_lines.specs.Lines.{Lent, Kept, TablesFor};
-ghost use Rattle.axes.specs.Lines.{Sound, Spaced, turnedPacked, gatheredTurn};
+ghost use Rattle.axes.specs.Lines.{Sound, Spaced, turnedPacked, storedTurn, gatheredTurn};
 
 // A line whose pairs stand apart.
 pub fn turn_gathered<'a>(
@@ -30,8 +30,37 @@ pub fn turn_gathered<'a>(
 {
     gathering::gather(volume, line.start, line.stride, scratch, line.count);
     let size = 2 * line.count;
-    turn_packed(m, line, re, im, tan, &mut scratch[..size], fold, work);
+    turn_stored(m, line, re, im, tan, &mut scratch[..size], fold, work);
     gathering::scatter(scratch, line.start, line.stride, volume, line.count);
+}
+
+// The numbers of a packed line as it is stored: one that is stored times i loses it after synthesis, and gets it before analysis.
+fn turn_stored<'a>(
+    m: u32,
+    line: Line,
+    re: &'a [u32; 2880],
+    im: &'a [u32; 2880],
+    tan: &'a [u32; 1440],
+    packed: &mut [u32],
+    fold: &mut [u32],
+    work: &mut [u32],
+)
+    requires { ⌜ Sound line × TablesFor line (now re) (now im) (now tan) × (m ≡ line .m) × (line .count ≡ slots (kindOf (line .kind)) (line .half)) ⌝ }
+    requires { ⌜ (length (now packed) ≡ 2 * slots (kindOf (line .kind)) (line .half)) × Below (prime (line .m)) (now packed) ⌝ }
+    requires { ⌜ (5760 ≤ length (now fold)) × (5760 ≤ length (now work)) ⌝ }
+    ensures { λ _. ⌜ now (packed .exit) ≡ storedTurn line (now (packed .entry)) ⌝ }
+{
+    if line.rotated {
+        if line.direction == 0 {
+            turn_packed(m, line, re, im, tan, packed, fold, work);
+            scaling::over_i(m, line.count, packed);
+        } else {
+            scaling::times_i(m, line.count, packed);
+            turn_packed(m, line, re, im, tan, packed, fold, work);
+        }
+    } else {
+        turn_packed(m, line, re, im, tan, packed, fold, work);
+    }
 }
 
 // The numbers of a packed line.

@@ -1,7 +1,7 @@
 -- What the code of a turn leaves is the turn: a line that was gathered, transformed in the scratch and scattered, and a row that was lent as a part of the volume.
 use mathlib.Core.Path.{_≡_, refl, sym, _∙_, ap, subst}
 use mathlib.Core.Logic.{⊎-elim}
-use mathlib.Core.Bool.{cond}
+use mathlib.Core.Bool.{Bool, true, false, cond}
 use mathlib.Core.List.{List, _++_}
 use Prim.Native.Nat.{ℕ, zero, suc, _+_, _*_, _-_, _/_, _<_, _≤_}
 use native.Mathlib.Omega.{arith}
@@ -21,7 +21,7 @@ use Rattle.algebra.specs.Axis.{AxisLaws}
 use Rattle.slices.specs.Pairs.{at, tab, put, puts, fills, zeroPair, Below}
 use Rattle.slices.proofs.Pairs.{lt-or-ge, puts-ext, is-tab, at-tab, length-put, at-put-same, at-put-other}
 use Rattle.slices.proofs.Segments.{at-take, at-append-left, take-fills, drop-fills}
-use Rattle.slices.proofs.Values.{length-list}
+use Rattle.slices.proofs.Values.{length-list, below-list, list-cong, values-list}
 use Rattle.slices.proofs.Bounds.{below-tab, small-at}
 use Rattle.lengths.specs.Counts.{kindOf, pairCount}
 use Rattle.kinds.specs.Transform.{rootOf, transform, transformed}
@@ -32,7 +32,7 @@ use Rattle.kinds.proofs.Axes.{own, axis-own}
 use Rattle.kinds.proofs.Reading.{forward-cong, back-cong}
 use Rattle.cell.proofs.LineReading.{by-half}
 use Rattle.cell.specs.Sums.{axis}
-use Rattle.axes.specs.Turned.{turnedLine, forwardValues, inverseValues, joined, parted, forwardRow, inverseRow}
+use Rattle.axes.specs.Turned.{turnedLine, turnedStored, forwardValues, inverseValues, joined, parted, forwardRow, inverseRow}
 use Rattle.volume_lines.specs.Lines.{Kept}
 
 -- ---- a packed line
@@ -40,6 +40,14 @@ use Rattle.volume_lines.specs.Lines.{Kept}
 pub length-turned : (m a direction : ℕ) (k : Kind) (l : List ℕ) → length (turnedLine m a direction k l) ≡ 2 * slots k a
 length-turned m a zero k l = length-list m _ _
 length-turned m a (suc d) k l = length-list m _ _
+
+pub below-turned : (m a direction : ℕ) (k : Kind) (l : List ℕ) → Below (prime m) (turnedLine m a direction k l)
+below-turned m a zero k l = below-list m _ _
+below-turned m a (suc d) k l = below-list m _ _
+
+length-stored : (m a direction : ℕ) (b : Bool) (k : Kind) (l : List ℕ) → length (turnedStored m a direction b k l) ≡ 2 * slots k a
+length-stored m a zero b k l = length-list m _ _
+length-stored m a (suc d) b k l = length-list m _ _
 
 -- what the line crate calls the transform
 module _ (m a kind : ℕ) (l : List ℕ) where
@@ -62,25 +70,25 @@ line-length a kind h = h ∙ along (λ c. 2 * slots (kindOf kind) c) a (2 * a / 
 
 -- ---- gathered, transformed, scattered
 
-module _ (m a direction : ℕ) (k : Kind) (count : ℕ) (p : ℕ → ℕ) (v s₀ s₁ : List ℕ) (counted : count ≡ slots k a) (low : count ≤ 2880) (fits : 11520 ≤ length s₀) (gathered : s₁ ≡ fills (λ j. at v (p j)) count s₀) where
+module _ (m a direction : ℕ) (b : Bool) (k : Kind) (count : ℕ) (p : ℕ → ℕ) (v s₀ s₁ : List ℕ) (counted : count ≡ slots k a) (low : count ≤ 2880) (fits : 11520 ≤ length s₀) (gathered : s₁ ≡ fills (λ j. at v (p j)) count s₀) where
   lent : take (2 * count) s₁ ≡ tab count (λ j. at v (p j))
   lent = ap (take (2 * count)) gathered ∙ take-fills (λ j. at v (p j)) count s₀ (omega arith)
 
-  pub returned-fits : (r t : List ℕ) → r ≡ turnedLine m a direction k (take (2 * count) s₁) → 2 * count ≤ length (r ++ t)
-  returned-fits r t e = omega (arith, length-append r t, ap length e ∙ length-turned m a direction k _, counted)
+  pub returned-fits : (r t : List ℕ) → r ≡ turnedStored m a direction b k (take (2 * count) s₁) → 2 * count ≤ length (r ++ t)
+  returned-fits r t e = omega (arith, length-append r t, ap length e ∙ length-stored m a direction b k _, counted)
 
   pub below-lent : Below (prime m) v → Below (prime m) (take (2 * count) s₁)
   below-lent h = subst (Below (prime m)) (sym lent) (below-tab (prime m) count _ (prime-pos m) (λ j l. small-at (prime m) v (p j) h))
 
-  module _ (r s₂ v′ : List ℕ) (turned : r ≡ turnedLine m a direction k (take (2 * count) s₁)) (returned : s₂ ≡ r ++ drop (2 * count) s₁) (scattered : v′ ≡ puts p (at s₂) count v) where
+  module _ (r s₂ v′ : List ℕ) (turned : r ≡ turnedStored m a direction b k (take (2 * count) s₁)) (returned : s₂ ≡ r ++ drop (2 * count) s₁) (scattered : v′ ≡ puts p (at s₂) count v) where
     long : length r ≡ 2 * count
-    long = ap length turned ∙ length-turned m a direction k _ ∙ ap (λ n. 2 * n) (sym counted)
+    long = ap length turned ∙ length-stored m a direction b k _ ∙ ap (λ n. 2 * n) (sym counted)
 
-    pub turned-line : v′ ≡ puts p (at (turnedLine m a direction k (tab count (λ j. at v (p j))))) count v
+    pub turned-line : v′ ≡ puts p (at (turnedStored m a direction b k (tab count (λ j. at v (p j))))) count v
     turned-line =
         scattered
         ∙ puts-ext p (at s₂) (at r) count v (λ j l. ap (λ s. at s j) returned ∙ at-append-left r (drop (2 * count) s₁) j (omega (arith, long)))
-        ∙ ap (λ s. puts p (at s) count v) (turned ∙ ap (turnedLine m a direction k) lent)
+        ∙ ap (λ s. puts p (at s) count v) (turned ∙ ap (turnedStored m a direction b k) lent)
 
     pub kept : Kept s₀ s₂
     kept =
@@ -91,6 +99,33 @@ module _ (m a direction : ℕ) (k : Kind) (count : ℕ) (p : ℕ → ℕ) (v s�
         ∙ drop-drop (11520 - 2 * count) (2 * count) s₀
         ∙ along (λ n. drop n s₀) (2 * count + (11520 - 2 * count)) 11520 (omega arith)
 
+-- the laws of an axis of an admitted length
+module _ (m : ℕ) (is : IsModulus m) (b : ℕ) (size : AdmittedLength (2 * b)) where
+  laws : AxisLaws (field m) (conj m) (i m) (real m (half m)) (axis m b) (own m is b (half-positive b size) (half-divides b size))
+  unfolding rootOf
+  laws = axis-own m is b (half-positive b size) (half-divides b size)
+
+-- ---- a line that is stored times i
+
+module _ (m a : ℕ) (k : Kind) {count : ℕ} (counted : count ≡ slots k a) {b : Bool} where
+  pub stored-plain : (direction : ℕ) → b ≡ false → (l : List ℕ) {r : List ℕ} → r ≡ turnedLine m a direction k l → r ≡ turnedStored m a direction b k l
+  stored-plain zero e l f = f ∙ ap (λ b. turnedStored m a 0 b k l) (sym e)
+  stored-plain (suc d) e l f = f ∙ ap (λ b. turnedStored m a 1 b k l) (sym e)
+
+  -- synthesis: the transform, then over i
+  pub stored-forward : (direction : ℕ) → direction ≡ 0 → b ≡ true → (l : List ℕ) {r q : List ℕ} → r ≡ turnedLine m a direction k l → q ≡ listOf count (λ t. field m .mul (field m .neg (i m)) (valuesOf m r t)) → q ≡ turnedStored m a direction b k l
+  stored-forward direction z e l {r} {q} f g =
+      g ∙ ap (λ n. listOf n (λ t. field m .mul (field m .neg (i m)) (valuesOf m r t))) counted
+      ∙ list-cong m (slots k a) _ _ (λ t lt. ap (field m .mul (field m .neg (i m))) (ap (λ x. valuesOf m x t) (f ∙ ap (λ d. turnedLine m a d k l) z) ∙ values-list m (slots k a) _ t lt))
+      ∙ ap (λ b. turnedStored m a 0 b k l) (sym e) ∙ ap (λ d. turnedStored m a d b k l) (sym z)
+
+  -- analysis: times i, then the transform
+  pub stored-back : IsModulus m → AdmittedLength (2 * a) → (direction : ℕ) → direction ≡ 1 → b ≡ true → (l : List ℕ) {r q : List ℕ} → r ≡ listOf count (λ t. field m .mul (i m) (valuesOf m l t)) → q ≡ turnedLine m a direction k r → q ≡ turnedStored m a direction b k l
+  stored-back is size direction z e l {r} {q} f g =
+      g ∙ ap (λ d. turnedLine m a d k r) z
+      ∙ list-cong m (slots k a) _ _ (back-cong (field-ring m) (field-star m) (laws m is a size) k _ _ (λ s ls. ap (λ x. valuesOf m x s) (f ∙ ap (λ n. listOf n (λ t. field m .mul (i m) (valuesOf m l t))) counted) ∙ values-list m (slots k a) _ s ls))
+      ∙ ap (λ b. turnedStored m a 1 b k l) (sym e) ∙ ap (λ d. turnedStored m a d b k l) (sym z)
+
 -- ---- a row along k
 
 -- a pair after a store of one number
@@ -99,10 +134,6 @@ unfolding at
 at-set-other l n x t e o = pair-path (getD-set-other l n (2 * t) x 0 e) (getD-set-other l n (2 * t + 1) x 0 o)
 
 module _ (m : ℕ) (is : IsModulus m) (b : ℕ) (size : AdmittedLength (2 * b)) where
-  laws : AxisLaws (field m) (conj m) (i m) (real m (half m)) (axis m b) (own m is b (half-positive b size) (half-divides b size))
-  unfolding rootOf
-  laws = axis-own m is b (half-positive b size) (half-divides b size)
-
   module _ (l r : List ℕ) (long : length l ≡ 2 * (b + 1)) (turned : r ≡ turnedLine m b 0 hermitian (take (2 * b) (set l 1 (getD l (2 * b) 0)))) where
     abbrev l₁ : List ℕ
     l₁ = set l 1 (getD l (2 * b) 0)
@@ -127,7 +158,7 @@ module _ (m : ℕ) (is : IsModulus m) (b : ℕ) (size : AdmittedLength (2 * b)) 
         ∙ at-append-left r (drop (2 * b) l₁) t (omega (arith, half-length-r))
         ∙ ap (λ x. at x t) turned
         ∙ at-tab _ b t h
-        ∙ ap pairOf (forward-cong (field-ring m) (field-star m) laws hermitian _ _ joined-at t h)
+        ∙ ap pairOf (forward-cong (field-ring m) (field-star m) (laws m is b size) hermitian _ _ joined-at t h)
         ∙ rw (lt-ltb t b h) refl)
         (λ (h : b ≤ t).
         subst (λ t. at l₂ t ≡ cond (ltb t b) (pairOf (forwardValues m b hermitian (λ s. valueOf m (joined b (at l) s)) t)) zeroPair) {x = b} {y = t} (omega arith)
@@ -163,7 +194,7 @@ module _ (m : ℕ) (is : IsModulus m) (b : ℕ) (size : AdmittedLength (2 * b)) 
         at-append-left r (drop (2 * b) l) t (omega (arith, half-counted))
         ∙ ap (λ x. at x t) turned
         ∙ at-tab _ b t h
-        ∙ ap pairOf (back-cong (field-ring m) (field-star m) laws hermitian _ _ (λ s hs. ap (valueOf m) (at-take b l s hs)) t h)
+        ∙ ap pairOf (back-cong (field-ring m) (field-star m) (laws m is b size) hermitian _ _ (λ s hs. ap (valueOf m) (at-take b l s hs)) t h)
 
     abbrev k₃ : List ℕ
     k₃ = set k₁ (2 * b) (getD k₁ 1 0)

@@ -37,7 +37,7 @@ pub fn check_open(
 ) -> Checked
     ensures { λ r. ⌜ checkedNumber r ≡ first (openTests (record { group = group; lengths = (n1, n2, n3); list1 = now (f1 .entry); list2 = now (f2 .entry); list3 = now (f3 .entry) }) kind (now (volume .entry))) ⌝ }
 {
-    if 4 <= group {
+    if 5 <= group {
         return Checked::Failed(Refusal::Group);
     }
     if 2 <= kind {

@@ -1,7 +1,7 @@
 -- Group by group.
 use borrow.Author.Needs.{needs}
 use native.Mathlib.Omega.{arith}
-use Rattle.limits.proofs.Needs.{planes-half, planes-mirror, planes-glide, planes-other}
+use Rattle.limits.proofs.Needs.{planes-half, planes-mirror, planes-glide, planes-screw, planes-other}
 use Rattle.limits.proofs.stored_planes.Statement.{statement}
 use Rattle.limits.proofs.stored_planes.Tie as tie
 
@@ -24,8 +24,11 @@ returns-3 : tie.Need-returns-3
 returns-3 c = (planes-glide (c .before .before .before .args .half) (c .if3 .taken), omega arith)
 
 returns-4 : tie.Need-returns-4
-returns-4 c = let a = c .before .before .before .args in (planes-other (a .group) (a .half) (c .before .before .if1 .left) (c .before .if2 .left) (c .if3 .left), omega arith)
+returns-4 c = (planes-screw (c .before .before .before .before .args .half) (c .if4 .taken), omega arith)
+
+returns-5 : tie.Need-returns-5
+returns-5 c = let a = c .before .before .before .before .args in (planes-other (a .group) (a .half) (c .before .before .before .if1 .left) (c .before .before .if2 .left) (c .before .if3 .left) (c .if4 .left), omega arith)
 
 pub stored-planes-spec : {M : Type 1} → statement M
 stored-planes-spec =
-    tie.close (tie.spec add-result add-result-2 mul-result returns returns-2 returns-3 returns-4)
+    tie.close (tie.spec add-result add-result-2 mul-result returns returns-2 returns-3 returns-4 returns-5)

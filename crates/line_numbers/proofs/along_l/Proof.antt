@@ -24,33 +24,40 @@ div-line-kind c = omega arith
 line-kind-requires : tie.Need-line-kind-requires
 line-kind-requires c κs = c .before .before .pre .0 .sizes .sizes .known
 
-cast-t8 : tie.Need-cast-t8
-cast-t8 c = search needs
+div-is-rotated : tie.Need-div-is-rotated
+div-is-rotated c = omega arith
+
+is-rotated-requires : tie.Need-is-rotated-requires
+is-rotated-requires c κs = c .before .before .before .pre .0 .sizes .sizes .known
+
+cast-t10 : tie.Need-cast-t10
+cast-t10 c = search needs
 
 first-pair-requires : tie.Need-first-pair-requires
-first-pair-requires c κs = c .before .line-kind .ensures .0
+first-pair-requires c κs = c .before .before .line-kind .ensures .0
 
-mul-t10 : tie.Need-mul-t10
-mul-t10 c = let s = c .before .before .before .before .before in omega (arith, start-l (s .pre .0 .sizes .sizes) _ (c .first-pair .ensures .1))
+mul-t12 : tie.Need-mul-t12
+mul-t12 c = let s = c .before .before .before .before .before .before in omega (arith, start-l (s .pre .0 .sizes .sizes) _ (c .first-pair .ensures .1))
 
-add-t11 : tie.Need-add-t11
-add-t11 c = let s = c .before .before .before .before .before in omega (arith, start-l (s .pre .0 .sizes .sizes) _ (c .first-pair .ensures .1), plane-low (s .pre .0 .sizes .sizes), rows-low (s .pre .0 .sizes .sizes) (s .args .y) (s .pre .1))
+add-t13 : tie.Need-add-t13
+add-t13 c = let s = c .before .before .before .before .before .before in omega (arith, start-l (s .pre .0 .sizes .sizes) _ (c .first-pair .ensures .1), plane-low (s .pre .0 .sizes .sizes), rows-low (s .pre .0 .sizes .sizes) (s .args .y) (s .pre .1))
 
 pair-count-requires : tie.Need-pair-count-requires
 pair-count-requires c κs =
-    let k = c .before .before in
+    let k = c .before .before .before in
     let s = k .before .before .before in
     (k .line-kind .ensures .0, s .pre .0 .sizes .sizes .third .low, s .pre .0 .sizes .sizes .third .high)
 
 returns : tie.Need-returns
 returns c =
     let f = c .before in
-    let k = f .before .before in
+    let t = f .before .before in
+    let k = t .before in
     let s = k .before .before .before in
     let kind = k .line-kind in
     let first = f .first-pair in
     let pairs = c .pair-count in
-    gathered-l (s .args .plan) (s .pre .0) (s .args .y) (kind .result) _ _ (s .pre .1) (kind .ensures .0) (kind .ensures .1) (kind .ensures .2) (first .ensures .0) (first .ensures .1) (pairs .ensures .0) (pairs .ensures .1)
+    gathered-l (s .args .plan) (s .pre .0) (s .args .y) (kind .result) _ _ _ (s .pre .1) (kind .ensures .0) (kind .ensures .1) (t .is-rotated .ensures) (kind .ensures .2) (first .ensures .0) (first .ensures .1) (pairs .ensures .0) (pairs .ensures .1)
 
 pub along-l-spec : {M : Type 1} → statement M
 along-l-spec =
@@ -62,9 +69,11 @@ along-l-spec =
     mul-stride
     div-line-kind
     line-kind-requires
-    cast-t8
+    div-is-rotated
+    is-rotated-requires
+    cast-t10
     first-pair-requires
-    mul-t10
-    add-t11
+    mul-t12
+    add-t13
     pair-count-requires
     returns)

@@ -27,8 +27,8 @@ beyond c {i} e =
 stored-count-requires : tie.Need-stored-count-requires
 stored-count-requires c κs = search needs
 
-stored-factor-requires : tie.Need-stored-factor-requires
-stored-factor-requires c κs = let p = c .before .before .before .before .pre in (record { sizes = p .0 .1; long = p .1 .0 }, record { h = p .0 .2 .h; k = p .0 .3; l = omega (arith, c .before .before .stored-count .ensures) })
+stored-value-requires : tie.Need-stored-value-requires
+stored-value-requires c κs = let p = c .before .before .before .before .pre in (p .0 .0, record { sizes = p .0 .1; long = p .1 .0 }, record { h = p .0 .2 .h; k = p .0 .3; l = omega (arith, c .before .before .stored-count .ensures) }, p .1 .1)
 
 line-operation-requires : tie.Need-line-operation-requires
 line-operation-requires c κs = search needs
@@ -36,21 +36,20 @@ line-operation-requires c κs = search needs
 image-requires : tie.Need-image-requires
 image-requires c κs = search needs
 
-stored-factor-requires-2 : tie.Need-stored-factor-requires-2
-stored-factor-requires-2 c κs =
+stored-value-requires-2 : tie.Need-stored-value-requires-2
+stored-value-requires-2 c κs =
     let b = beyond (c .before) (c .image .ensures .0) in
-    let p = c .before .before .before .before .before .before .pre in
-    (record { sizes = p .0 .1; long = p .1 .0 }, record { h = c .image .ensures .1 .h; k = omega (arith, b .1, p .0 .3); l = b .2 })
+    let s = c .before .before .before .before .before .before in
+    let p = s .pre in
+    (p .0 .0, record { sizes = p .0 .1; long = p .1 .0 }, record { h = c .image .ensures .1 .h; k = omega (arith, b .1, p .0 .3); l = b .2 }, ap (allBelowAt (prime (s .args .m)) (s .args .volume .now)) (b .0) ∙ p .1 .1)
 
 implied-requires : tie.Need-implied-requires
 implied-requires c κs =
     let p = c .before .before .before .before .before .before .before in
-    (p .pre .0 .0, small-by _ _ (c .stored-factor2 .ensures (p .args .m) (ap (allBelowAt (prime (p .args .m)) (p .args .volume .now)) (beyond (c .before .before) (c .before .image .ensures .0) .0) ∙ p .pre .1 .1)))
+    (p .pre .0 .0, small-by _ _ (c .stored-value2 .ensures))
 
 returns : tie.Need-returns
-returns c =
-    let p = c .before .before .before .before .before in
-    c .stored-factor .ensures (p .args .m) (p .pre .1 .1)
+returns c = c .stored-value .ensures
 
 returns-2 : tie.Need-returns-2
 returns-2 c =
@@ -61,17 +60,17 @@ returns-2 c =
     let s = p .pre .0 .1 in
     beyond-value (halvesOf (a .n1) (a .n2) (a .n3)) (a .m) (a .volume .now) (tripleOf (a .j)) (tripleOf (i .image .result)) (inside-of (s .first) (s .second) (s .third) (p .pre .0 .2)) (a .group)
     (o .line-operation .ensures) (i .image .ensures .0) (o .before .before .before .stored-count .ensures) (o .before .if1 .left)
-    (c .before .stored-factor2 .ensures (a .m) (ap (allBelowAt (prime (a .m)) (a .volume .now)) (beyond o (i .image .ensures .0) .0) ∙ p .pre .1 .1)) (c .implied .ensures)
+    (c .before .stored-value2 .ensures) (c .implied .ensures)
 
 pub line-value-spec : {M : Type 1} → statement M
 line-value-spec =
     tie.close
     (tie.spec
     stored-count-requires
-    stored-factor-requires
+    stored-value-requires
     line-operation-requires
     image-requires
-    stored-factor-requires-2
+    stored-value-requires-2
     implied-requires
     returns
     returns-2)

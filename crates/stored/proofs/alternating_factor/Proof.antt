@@ -36,7 +36,7 @@ returns-4 : tie.Need-returns-4
 returns-4 c m =
     let t = c .before in
     let p = t .before .before .before .before .before .pre in
-    middle-value _ (omega (arith, p .0 .sizes .third .low)) m _ _ (t .before .before .if1 .left) (t .if2 .left) (alternating-half refl (p .1 .l)) (c .pair-at3 .ensures)
+    middle-value _ (omega (arith, p .0 .sizes .third .low)) m _ _ (t .before .before .if1 .left) (t .if2 .left) (alternating-half 1 refl (p .1 .l)) (c .pair-at3 .ensures)
 
 pub alternating-factor-spec : {M : Type 1} → statement M
 alternating-factor-spec =

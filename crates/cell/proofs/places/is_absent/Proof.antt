@@ -1,21 +1,10 @@
 -- Three tests together.
 use borrow.Author.Needs.{needs}
-use mathlib.Core.Path.{_≡_, refl, sym}
-use mathlib.Core.Bool.{Bool, true, false, _&&_, not}
-use Prim.Native.Nat.{ℕ, _%_}
+use mathlib.Core.Bool.{_&&_, not}
 use lib.Dec.{eqb}
-use borrow.Author.Tests.{eqb-true, eqb-false}
-use Rattle.algebra.specs.CellPack.{even}
-use Rattle.cell.proofs.PlaceLaws.{even-is, odd-is}
+use Rattle.cell.proofs.PlaceLaws.{even-tested}
 use Rattle.cell.proofs.places.is_absent.Statement.{statement}
 use Rattle.cell.proofs.places.is_absent.Tie as tie
-
-even-tested : (n : ℕ) → eqb (n % 2) 0 ≡ even n
-even-tested n = go (eqb (n % 2) 0) refl
-  where
-    go : (b : Bool) → eqb (n % 2) 0 ≡ b → b ≡ even n
-    go true e = sym (even-is n (eqb-true _ _ e))
-    go false e = sym (odd-is n (eqb-false _ _ e))
 
 is-end-requires : tie.Need-is-end-requires
 is-end-requires c κs = search needs

@@ -1,12 +1,16 @@
 -- The planes of each group.
 use borrow.Author.Needs.{needs}
-use mathlib.Core.Path.{refl, ap}
+use mathlib.Core.Path.{_≡_, refl, sym, _∙_, ap}
+use Prim.Native.Nat.{_/_}
 use native.Mathlib.Omega.{arith}
 use Rattle.algebra.specs.Cell.{planes}
 use Rattle.cell.specs.Volume.{groupOf}
-use Rattle.cell.proofs.PlaceLaws.{mirrored-layers}
+use Rattle.cell.proofs.PlaceLaws.{by-alternating, mirrored-layers}
 use Rattle.cell.proofs.places.layer_count.Statement.{statement}
 use Rattle.cell.proofs.places.layer_count.Tie as tie
+
+is-alternating-requires : tie.Need-is-alternating-requires
+is-alternating-requires c κs = search needs
 
 add-result : tie.Need-add-result
 add-result c = search needs
@@ -17,10 +21,10 @@ returns c = rw (ap groupOf (c .if1 .taken)) (omega arith)
 
 returns-2 : tie.Need-returns-2
 unfolding planes
-returns-2 c = rw (ap groupOf (c .if2 .taken)) refl
+returns-2 c = by-alternating (λ g. c .before .before .before .args .n3 / 2 ≡ planes g (c .before .before .before .args .n3 / 2)) refl refl (c .before .before .before .args .group) (sym (c .before .is-alternating .ensures) ∙ c .if2 .taken)
 
 returns-3 : tie.Need-returns-3
-returns-3 c = mirrored-layers _ _ (c .before .before .pre .0) (c .before .if1 .left) (c .if2 .left)
+returns-3 c = mirrored-layers _ _ (c .before .before .before .pre .0) (c .before .before .if1 .left) (sym (c .before .is-alternating .ensures) ∙ c .if2 .left)
 
 pub layer-count-spec : {M : Type 1} → statement M
-layer-count-spec = tie.close (tie.spec add-result returns returns-2 returns-3)
+layer-count-spec = tie.close (tie.spec is-alternating-requires add-result returns returns-2 returns-3)

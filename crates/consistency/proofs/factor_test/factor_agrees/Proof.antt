@@ -1,15 +1,24 @@
--- Between the ends nothing else is stored; at the ends the images are tried.
+-- Between the ends nothing else is stored but one image of P2₁2₁2₁; at the ends the images are tried.
 use borrow.Author.Needs.{needs}
 use mathlib.Core.Path.{_≡_, refl, sym, ap, _∙_, subst}
 use mathlib.Core.Bool.{Bool, true, false, _&&_, _||_}
+use Prim.Native.Nat.{ℕ}
+use native.Mathlib.Omega.{arith}
 use lib.Dec.{T, eqb}
+use lib.ListN.{getD}
 use borrow.Author.Tests.{eqb-true}
+use Rattle.algebra.specs.Cell.{P2₁2₁2₁, one, full}
 use Rattle.cell.specs.Volume.{groupOf}
 use Rattle.cell.specs.Consistency.{lineAgrees}
 use Rattle.cell.specs.Operations.{halvesOf, tripleOf}
-use Rattle.consistency.proofs.Interior.{inner-P1, inner}
+use Rattle.cell.specs.TestSteps.{imageAgrees}
+use Rattle.cell.proofs.OperationLaws.{order-four, full-length}
+use Rattle.consistency.proofs.Interior.{inner-P1, inner, inner-4}
 use Rattle.consistency.proofs.factor_test.factor_agrees.Statement.{statement}
 use Rattle.consistency.proofs.factor_test.factor_agrees.Tie as tie
+
+other : {n : ℕ} → n ≡ 4 → n ≡ 0 → ⊥
+other e z = omega arith
 
 -- two tests of which the second holds by either of its sides
 settled : {A : Type 0} (x y z : Bool) → (x && (y || z)) ≡ true → (x ≡ true → y ≡ true → A) → (x ≡ true → z ≡ true → A) → A
@@ -24,21 +33,50 @@ between-requires c κs = search needs
 between-requires-2 : tie.Need-between-requires-2
 between-requires-2 c κs = search needs
 
+operation-at-requires : tie.Need-operation-at-requires
+operation-at-requires c κs =
+    let s = c .before .before .before .before .before in
+    (s .pre .0 .sizes .known, omega (arith, order-four (c .if2 .taken), full-length (s .args .group)))
+
+image-agrees-requires : tie.Need-image-agrees-requires
+image-agrees-requires c κs = search needs
+
+-- P2₁2₁2₁: both are between the ends, and one image is tried
 returns : tie.Need-returns
 returns c =
-    let p = c .before in
+    let o = c .before in
+    let t = o .before in
+    let q = t .before in
+    let p = q .before in
     let b = p .before in
     let s = b .before .before in
     let a = halvesOf (s .args .n1) (s .args .n2) (s .args .n3) in
-    settled (b .between .result) (eqb (s .args .group) 0) (p .between2 .result) (c .if1 .taken)
+    let e = t .if2 .taken in
+    settled (b .between .result) (eqb (s .args .group) 0) (p .between2 .result) (q .if1 .taken)
+    (λ u z. absurd (other e (eqb-true (s .args .group) 0 z)))
+    (λ u z. let r = b .between .ensures u in let w = p .between2 .ensures z in
+    c .image-agrees .ensures
+    ∙ ap (λ x. imageAgrees (groupOf (s .args .group)) a (s .args .m) (s .args .volume .now) (tripleOf (s .args .j)) x) (o .operation-at .ensures ∙ ap (λ n. getD (full (groupOf n)) 7 one) e)
+    ∙ ap (λ n. imageAgrees (groupOf n) a (s .args .m) (s .args .volume .now) (tripleOf (s .args .j)) (getD (full P2₁2₁2₁) 7 one)) e
+    ∙ sym (inner-4 a (s .args .m) (s .args .volume .now) (tripleOf (s .args .j)) (r .0) (r .1) (w .0) (w .1))
+    ∙ ap (λ n. lineAgrees (groupOf n) a (s .args .m) (s .args .volume .now) (tripleOf (s .args .j))) (sym e))
+
+returns-2 : tie.Need-returns-2
+returns-2 c =
+    let q = c .before in
+    let p = q .before in
+    let b = p .before in
+    let s = b .before .before in
+    let a = halvesOf (s .args .n1) (s .args .n2) (s .args .n3) in
+    settled (b .between .result) (eqb (s .args .group) 0) (p .between2 .result) (q .if1 .taken)
     (λ t q. let r = b .between .ensures t in sym (ap (λ n. lineAgrees (groupOf n) a (s .args .m) (s .args .volume .now) (tripleOf (s .args .j))) (eqb-true (s .args .group) 0 q) ∙ inner-P1 a (s .args .m) (s .args .volume .now) (tripleOf (s .args .j)) (r .0) (r .1)))
-    (λ t q. let r = b .between .ensures t in let u = p .between2 .ensures q in sym (inner a (s .args .m) (s .args .volume .now) (tripleOf (s .args .j)) (r .0) (r .1) (s .args .group) (s .pre .0 .sizes .known) (u .0) (u .1)))
+    (λ t q. let r = b .between .ensures t in let u = p .between2 .ensures q in sym (inner a (s .args .m) (s .args .volume .now) (tripleOf (s .args .j)) (r .0) (r .1) (s .args .group) (s .pre .0 .sizes .known) (c .if2 .left) (u .0) (u .1)))
 
 images-agree-requires : tie.Need-images-agree-requires
 images-agree-requires c κs = search needs
 
-returns-2 : tie.Need-returns-2
-returns-2 c = search needs
+returns-3 : tie.Need-returns-3
+returns-3 c = search needs
 
 pub factor-agrees-spec : {M : Type 1} → statement M
 factor-agrees-spec =
@@ -46,6 +84,9 @@ factor-agrees-spec =
     (tie.spec
     between-requires
     between-requires-2
+    operation-at-requires
+    image-agrees-requires
     images-agree-requires
     returns
-    returns-2)
+    returns-2
+    returns-3)

@@ -16,19 +16,21 @@ image-requires c κs =
 is-stored-requires : tie.Need-is-stored-requires
 is-stored-requires c κs = search needs
 
-stored-factor-requires : tie.Need-stored-factor-requires
-stored-factor-requires c κs = search needs
+stored-value-requires : tie.Need-stored-value-requires
+stored-value-requires c κs =
+    let p = c .before .before .before .before .pre in
+    (p .1, p .0, p .3, all-below-at (p .2) _)
 
-stored-factor-requires-2 : tie.Need-stored-factor-requires-2
-stored-factor-requires-2 c κs =
+stored-value-requires-2 : tie.Need-stored-value-requires-2
+stored-value-requires-2 c κs =
     let t = c .before .before in
     let p = t .before .before .before .pre in
-    (p .0, stored-by (p .0 .sizes) (t .before .image .ensures .1) (t .is-stored .ensures) (c .before .if1 .taken))
+    (p .1, p .0, stored-by (p .0 .sizes) (t .before .image .ensures .1) (t .is-stored .ensures) (c .before .if1 .taken), all-below-at (p .2) _)
 
 implied-requires : tie.Need-implied-requires
 implied-requires c κs =
     let p = c .before .before .before .before .before .before .pre in
-    (p .1, small-by _ _ (c .before .stored-factor .ensures _ (all-below-at (p .2) _)))
+    (p .1, small-by _ _ (c .before .stored-value .ensures))
 
 same-requires : tie.Need-same-requires
 same-requires c κs = search needs
@@ -39,7 +41,7 @@ returns c =
     let t = f .before .before in
     let p = t .before .before .before in
     image-tested _ _ _ _ _ (symOf (p .args .o)) (t .before .image .ensures .0) (t .is-stored .ensures) (f .before .if1 .taken)
-    (f .stored-factor .ensures _ (all-below-at (p .pre .2) _)) (c .before .before .stored-factor2 .ensures _ (all-below-at (p .pre .2) _)) (c .before .implied .ensures) (c .same .ensures)
+    (f .stored-value .ensures) (c .before .before .stored-value2 .ensures) (c .before .implied .ensures) (c .same .ensures)
 
 returns-2 : tie.Need-returns-2
 returns-2 c =
@@ -53,8 +55,8 @@ image-agrees-spec =
     (tie.spec
     image-requires
     is-stored-requires
-    stored-factor-requires
-    stored-factor-requires-2
+    stored-value-requires
+    stored-value-requires-2
     implied-requires
     same-requires
     returns

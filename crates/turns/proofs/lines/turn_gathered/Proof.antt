@@ -18,26 +18,26 @@ gather-requires c κs = let s = c .before .before .before .before .before .befor
 mul-size : tie.Need-mul-size
 mul-size c = let s = c .before .before .before .before .before .before .before .before .before .before in omega (arith, s .pre .0 .0 .low)
 
-slice-relend-prefix-turn-packed : tie.Need-slice-relend-prefix-turn-packed
-slice-relend-prefix-turn-packed c =
+slice-relend-prefix-turn-stored : tie.Need-slice-relend-prefix-turn-stored
+slice-relend-prefix-turn-stored c =
     let g = c .before .before .before in
     let s = g .before .before .before .before .before .before .before in
     let x = s .args .line in
     omega (arith, ap length (g .gather .ensures), length-fills (λ j. at (s .args .volume .now) (x .start + j * x .stride)) (x .count) (s .args .scratch .now), s .pre .0 .0 .low, s .pre .1 .1 .scratch-fits)
 
-slice-aggregate-turn-packed : tie.Need-slice-aggregate-turn-packed
-slice-aggregate-turn-packed c =
+slice-aggregate-turn-stored : tie.Need-slice-aggregate-turn-stored
+slice-aggregate-turn-stored c =
     let g = c .before .before .before .before in
     let s = g .before .before .before .before .before .before .before in
     let x = s .args .line in
     sym (prefix-length _ _ (omega (arith, ap length (g .gather .ensures), length-fills (λ j. at (s .args .volume .now) (x .start + j * x .stride)) (x .count) (s .args .scratch .now), s .pre .0 .0 .low, s .pre .1 .1 .scratch-fits)))
 
-turn-packed-requires : tie.Need-turn-packed-requires
-turn-packed-requires c κs =
+turn-stored-requires : tie.Need-turn-stored-requires
+turn-stored-requires c κs =
     let g = c .before .before .before .before .before .before in
     let s = g .before .before .before .before .before .before .before in
     let x = s .args .line in
-    ((s .pre .0 .0 .sound, s .pre .0 .1, s .pre .0 .2), ((prefix-length _ _ (omega (arith, ap length (g .gather .ensures), length-fills (λ j. at (s .args .volume .now) (x .start + j * x .stride)) (x .count) (s .args .scratch .now), s .pre .0 .0 .low, s .pre .1 .1 .scratch-fits)) ∙ ap (λ n. 2 * n) (s .pre .0 .0 .counted), below-lent (x .m) (x .half) (x .direction) (kindOf (x .kind)) (x .count) (λ j. x .start + j * x .stride) (s .args .volume .now) (s .args .scratch .now) _ (s .pre .0 .0 .counted) (s .pre .0 .0 .low) (s .pre .1 .1 .scratch-fits) (g .gather .ensures) (s .pre .1 .0)), (s .pre .1 .1 .fold-fits, s .pre .1 .1 .work-fits)))
+    ((s .pre .0 .0 .sound, s .pre .0 .1, s .pre .0 .2, s .pre .0 .0 .counted), ((prefix-length _ _ (omega (arith, ap length (g .gather .ensures), length-fills (λ j. at (s .args .volume .now) (x .start + j * x .stride)) (x .count) (s .args .scratch .now), s .pre .0 .0 .low, s .pre .1 .1 .scratch-fits)) ∙ ap (λ n. 2 * n) (s .pre .0 .0 .counted), below-lent (x .m) (x .half) (x .direction) (x .rotated) (kindOf (x .kind)) (x .count) (λ j. x .start + j * x .stride) (s .args .volume .now) (s .args .scratch .now) _ (s .pre .0 .0 .counted) (s .pre .0 .0 .low) (s .pre .1 .1 .scratch-fits) (g .gather .ensures) (s .pre .1 .0)), (s .pre .1 .1 .fold-fits, s .pre .1 .1 .work-fits)))
 
 scatter-requires : tie.Need-scatter-requires
 scatter-requires c κs =
@@ -45,7 +45,7 @@ scatter-requires c κs =
     let g = t .before .before .before .before .before .before .before in
     let s = g .before .before .before .before .before .before .before in
     let x = s .args .line in
-    (returned-fits (x .m) (x .half) (x .direction) (kindOf (x .kind)) (x .count) (λ j. x .start + j * x .stride) (s .args .volume .now) (s .args .scratch .now) _ (s .pre .0 .0 .counted) (s .pre .0 .0 .low) (s .pre .1 .1 .scratch-fits) (g .gather .ensures) _ _ (t .turn-packed .ensures), s .pre .0 .0 .fits)
+    (returned-fits (x .m) (x .half) (x .direction) (x .rotated) (kindOf (x .kind)) (x .count) (λ j. x .start + j * x .stride) (s .args .volume .now) (s .args .scratch .now) _ (s .pre .0 .0 .counted) (s .pre .0 .0 .low) (s .pre .1 .1 .scratch-fits) (g .gather .ensures) _ _ (t .turn-stored .ensures), s .pre .0 .0 .fits)
 
 same-length : tie.Need-same-length
 same-length c = c .before .volume .given
@@ -66,7 +66,7 @@ returns c =
     let g = t .before .before .before .before .before .before .before in
     let s = g .before .before .before .before .before .before .before in
     let x = s .args .line in
-    (turned-line (x .m) (x .half) (x .direction) (kindOf (x .kind)) (x .count) (λ j. x .start + j * x .stride) (s .args .volume .now) (s .args .scratch .now) _ (s .pre .0 .0 .counted) (s .pre .0 .0 .low) (s .pre .1 .1 .scratch-fits) (g .gather .ensures) _ _ _ (t .turn-packed .ensures) refl (d .scatter .ensures), kept (x .m) (x .half) (x .direction) (kindOf (x .kind)) (x .count) (λ j. x .start + j * x .stride) (s .args .volume .now) (s .args .scratch .now) _ (s .pre .0 .0 .counted) (s .pre .0 .0 .low) (s .pre .1 .1 .scratch-fits) (g .gather .ensures) _ _ _ (t .turn-packed .ensures) refl (d .scatter .ensures))
+    (turned-line (x .m) (x .half) (x .direction) (x .rotated) (kindOf (x .kind)) (x .count) (λ j. x .start + j * x .stride) (s .args .volume .now) (s .args .scratch .now) _ (s .pre .0 .0 .counted) (s .pre .0 .0 .low) (s .pre .1 .1 .scratch-fits) (g .gather .ensures) _ _ _ (t .turn-stored .ensures) refl (d .scatter .ensures), kept (x .m) (x .half) (x .direction) (x .rotated) (kindOf (x .kind)) (x .count) (λ j. x .start + j * x .stride) (s .args .volume .now) (s .args .scratch .now) _ (s .pre .0 .0 .counted) (s .pre .0 .0 .low) (s .pre .1 .1 .scratch-fits) (g .gather .ensures) _ _ _ (t .turn-stored .ensures) refl (d .scatter .ensures))
 
 pub turn-gathered-spec : {M : Type 1} → statement M
 turn-gathered-spec =
@@ -74,9 +74,9 @@ turn-gathered-spec =
     (tie.spec
     gather-requires
     mul-size
-    slice-relend-prefix-turn-packed
-    slice-aggregate-turn-packed
-    turn-packed-requires
+    slice-relend-prefix-turn-stored
+    slice-aggregate-turn-stored
+    turn-stored-requires
     scatter-requires
     same-length
     same-length-2

@@ -3,16 +3,19 @@ use mathlib.Core.Path.{_≡_, refl, sym, _∙_, ap}
 use mathlib.Core.Logic.{_↔_}
 use mathlib.Core.Bool.{Bool, true, false, not}
 use mathlib.Core.List.{[], _∷_}
-use Prim.Native.Nat.{ℕ, zero, suc}
+use Prim.Native.Nat.{ℕ, zero, suc, _<_}
+use native.Mathlib.Omega.{arith}
 use Rattle.algebra.specs.Gauss.{gauss, imag}
 use Rattle.algebra.specs.CellPack as Pack
 use Rattle.algebra.proofs.Laws.{mul-zero}
 use Rattle.algebra.proofs.Solver.{ring, quote}
-use Rattle.numbers.specs.Value.{Value, field, i}
+use Rattle.numbers.specs.declared.Pair.{Pair}
+use Rattle.numbers.specs.Prime.{prime}
+use Rattle.numbers.specs.Value.{Value, field, i, valueOf, pairOf, Small}
 use Rattle.numbers.specs.Value as Value
 use Rattle.numbers.proofs.Residues.{res-ring}
-use Rattle.numbers.proofs.Values.{value-path, field-ring, i-times}
-use Rattle.cell.specs.Volume.{groupOf, turned, timesI, overI}
+use Rattle.numbers.proofs.Values.{value-path, pair-value, field-ring, i-times}
+use Rattle.cell.specs.Volume.{groupOf, rotated, timesI, overI}
 
 module _ (m : ℕ) where
   pub times-is : (b : Bool) (x : Value m) → timesI m (not b) x ≡ Pack.timesI (Value.ring m) b x
@@ -44,6 +47,20 @@ module _ (m : ℕ) where
       (ring (res-ring m) (x .0 ∷ x .1 ∷ []) (search quote depth 40 fits 9999) refl)
       (ring (res-ring m) (x .0 ∷ x .1 ∷ []) (search quote depth 40 fits 9999) refl)
 
+  -- a pair that the code has rotated, or not
+  module _ {x : Pair} (s : Small (prime m) x) {b : Bool} where
+    pub times-not : b ≡ false → x ≡ pairOf (timesI m b (valueOf m x))
+    times-not e = sym (ap (λ b. pairOf (timesI m b (valueOf m x))) e ∙ pair-value m s)
+
+    pub times-pair : b ≡ true → {y : Pair} → y ≡ pairOf (field m .mul (i m) (valueOf m x)) → y ≡ pairOf (timesI m b (valueOf m x))
+    times-pair e f = f ∙ sym (ap (λ b. pairOf (timesI m b (valueOf m x))) e)
+
+    pub over-not : b ≡ false → x ≡ pairOf (overI m b (valueOf m x))
+    over-not e = sym (ap (λ b. pairOf (overI m b (valueOf m x))) e ∙ pair-value m s)
+
+    pub over-pair : b ≡ true → {y : Pair} → y ≡ pairOf (field m .mul (field m .neg (i m)) (valueOf m x)) → y ≡ pairOf (overI m b (valueOf m x))
+    over-pair e f = f ∙ sym (ap (λ b. pairOf (overI m b (valueOf m x))) e)
+
   times-zero : (b : Bool) → timesI m b (field m .zer) ≡ field m .zer
   times-zero false = refl
   times-zero true = mul-zero (field-ring m) _
@@ -55,10 +72,11 @@ module _ (m : ℕ) where
   pub over-zero : (b : Bool) (x : Value m) → (overI m b x ≡ field m .zer) ↔ (x ≡ field m .zer)
   over-zero b x = (λ e. sym (times-over b x) ∙ ap (timesI m b) e ∙ times-zero b, λ e. ap (overI m b) e ∙ over-none b)
 
--- no group that a call admits has lines that are stored times i
-pub unturned : (n h : ℕ) → turned (groupOf n) h ≡ false
-unturned zero h = refl
-unturned (suc zero) h = refl
-unturned (suc (suc zero)) h = refl
-unturned (suc (suc (suc zero))) h = refl
-unturned (suc (suc (suc (suc n)))) h = refl
+-- the one group that has lines that are stored times i
+pub unrotated : (n h : ℕ) → n < 5 → (n ≡ 4 → ⊥) → rotated (groupOf n) h ≡ false
+unrotated zero h l z = refl
+unrotated (suc zero) h l z = refl
+unrotated (suc (suc zero)) h l z = refl
+unrotated (suc (suc (suc zero))) h l z = refl
+unrotated (suc (suc (suc (suc zero)))) h l z = absurd (z refl)
+unrotated (suc (suc (suc (suc (suc n))))) h l z = absurd (omega arith)

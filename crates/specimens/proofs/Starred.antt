@@ -30,11 +30,12 @@ use Rattle.cell.specs.Consistency.{agreesWithItself}
 use Rattle.cell.proofs.Records.{agrees-iff}
 use Rattle.job.specs.Header.{Header, axisTests, halvesOf, jobOf, collecting}
 use Rattle.job.specs.Steps.{p, within, index, recordTests, recordStep, unchanged}
-use Rattle.specimens.specs.Specimens.{Specimen, records, Shown, Starred, transformed, recorded, AllHold, Specimens}
+use Rattle.specimens.specs.Specimens.{Specimen, records, Shown, Starred, transformed, recorded, taken, takenRecords, AllHold, Specimens}
 use Rattle.refusals.proofs.Headers.{sound-sizes}
 use Rattle.job.proofs.Jobs.{opened-valid}
 use Rattle.refusals.proofs.Openings.{header-passed}
 use Rattle.job.proofs.Openings.{opened-collecting}
+use Rattle.specimens.proofs.Taken.{taken-hold}
 
 -- a test that cannot be true
 is-false : (b : Bool) → (b ≡ true → ⊥) → b ≡ false
@@ -79,7 +80,17 @@ computed = (
       negated = λ z. ring (field-ring 1) (z ∷ []) (search quote depth 40 fits 9999) refl;
       number = refl;
     },
-    tt,
+    (
+      record {
+        known = omega arith;
+        low = (omega arith, omega arith, omega arith);
+        member = later here;
+        fixed = λ a. rw (neg-zero (a .0), neg-zero (a .1));
+        negated = λ z. ring (field-ring 1) (z ∷ []) (search quote depth 40 fits 9999) refl;
+        number = refl;
+      },
+      tt,
+    ),
   ),
 )
 
@@ -129,13 +140,13 @@ module _ (x : Specimen) (r : Reversed x) where
       let o = opened-collecting h lent e in
       rw (o .1) (refused h g (header-passed h 0 lent (o .0)) v a b la lb n)
 
-hold-records : (l : List Specimen) → AllReversed l → AllHold (map recorded l)
-hold-records [] r = tt
-hold-records (x ∷ l) r = (shown x (r .0), hold-records l (r .1))
+hold-records : (l : List Specimen) → AllReversed l → (rest : List Starred) → AllHold rest → AllHold (map recorded l ++ rest)
+hold-records [] r rest k = k
+hold-records (x ∷ l) r rest k = (shown x (r .0), hold-records l (r .1) rest k)
 
 hold-lines : (l : List Lines.Specimen) → Lines.AllShown l → (rest : List Starred) → AllHold rest → AllHold (map transformed l ++ rest)
 hold-lines [] h rest k = k
 hold-lines (x ∷ l) h rest k = (h .0, hold-lines l (h .1) rest k)
 
 pub specimens-hold : Specimens
-specimens-hold = record { hold = hold-lines Lines.specimens (lines-shown .shown) (map recorded records) (hold-records records computed) }
+specimens-hold = record { hold = hold-lines Lines.specimens (lines-shown .shown) (map recorded records ++ map taken takenRecords) (hold-records records computed (map taken takenRecords) taken-hold) }

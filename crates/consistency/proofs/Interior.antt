@@ -2,17 +2,18 @@
 use mathlib.Core.Path.{_≡_, refl, sym, _∙_, ap}
 use mathlib.Core.Bool.{Bool, true, false, _&&_}
 use mathlib.Core.List.{List, [], _∷_}
-use Prim.Native.Nat.{ℕ, zero, suc, _≤_, _<_}
+use Prim.Native.Nat.{ℕ, zero, suc, _*_, _≤_, _<_}
 use native.Mathlib.Omega.{arith}
 use lib.Dec.{leb, ltb}
 use borrow.Author.Tests.{le-ltb, lt-leb}
 use Rattle.algebra.specs.Cell.{J, Sym, Sym.sym as op, friedel, Group, P1, P2₁, Pm, Pa, P2₁2₁2₁, span, im, flip, negI}
 use Rattle.algebra.specs.CellTests.{every, storedT}
 use Rattle.algebra.proofs.CellAxis.{neg-pos}
+use Rattle.algebra.proofs.CellTests.{stored-iff}
 use Rattle.cell.specs.Volume.{groupOf}
 use Rattle.cell.specs.Consistency.{lineAgrees}
 use Rattle.cell.specs.TestSteps.{imageAgrees}
-use Rattle.consistency.proofs.TestLaws.{identity-agrees, image-skipped}
+use Rattle.consistency.proofs.TestLaws.{identity-agrees, image-skipped, agrees-back}
 
 and-true : (b : Bool) → (b && true) ≡ b
 and-true true = refl
@@ -88,3 +89,11 @@ module _ (a : J) (m : ℕ) (v : List ℕ) (j : J) where
         (mate P2₁2₁2₁)
         (l-skipped P2₁2₁2₁ (op true false false true true false true) refl refl lo′ hi′)
         (k-skipped P2₁2₁2₁ (op true false true false false true true) refl lo hi)
+
+-- it is tried at h or at -h
+pub mirror-4 : (a : J) (m : ℕ) (v : List ℕ) (j : J) → j .0 < 2 * a .0 → 0 < j .1 → j .1 < a .1 → 0 < j .2 → j .2 < a .2 → lineAgrees P2₁2₁2₁ a m v (negI (a .0) (j .0), j .1, j .2) ≡ true → lineAgrees P2₁2₁2₁ a m v j ≡ true
+unfolding im flip span
+mirror-4 a m v j n lo hi lo′ hi′ e =
+    inner-4 a m v j lo hi lo′ hi′
+    ∙ agrees-back P2₁2₁2₁ a m v j (op true true false false true true false) (n, omega arith, omega arith) (stored-iff P2₁2₁2₁ a j .1 (omega arith, omega arith))
+    (sym (inner-4 a m v (negI (a .0) (j .0), j .1, j .2) lo hi lo′ hi′) ∙ e)

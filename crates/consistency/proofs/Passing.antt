@@ -13,7 +13,7 @@ use Rattle.algebra.specs.CellTests.{below, every, everyPlace}
 use Rattle.algebra.proofs.Bool.{and-l, and-r, and-i, same-test, below-at, below-by}
 use Rattle.algebra.proofs.CellTests.{every-place-at, every-place-by}
 
--- ---- one more number, and the first that fails
+-- ---- one more number, the first that fails, and one of those that passed
 
 pub below-step : (P : ℕ → Bool) (k : ℕ) → below k P ≡ true → P k ≡ true → below (k + 1) P ≡ true
 unfolding below
@@ -21,6 +21,9 @@ below-step P k e f = rw (add-one, e, f) refl
 
 pub below-stop : (P : ℕ → Bool) (n k : ℕ) → k < n → P k ≡ false → below n P ≡ false
 below-stop P n k l e = same-test (below n P) false (λ t. subst T e (below-at n P k t l)) (λ t. absurd t)
+
+pub passed-at : (P : ℕ → Bool) (n k : ℕ) → below n P ≡ true → k < n → P k ≡ true
+passed-at P n k e l = same-test (P k) true (λ t. tt) (λ t. below-at n P k (subst T (sym e) tt) l)
 
 -- The invariant of a loop over the numbers below n: those below k have passed.
 pub record Passing (P : ℕ → Bool) (n k : ℕ) : Type 0 where

@@ -7,11 +7,11 @@ use native.Mathlib.Omega.{arith}
 use lib.ListN.{length, getD}
 use lib.Dec.{T, leb, leb→le, ltb, ltb→lt, eqb}
 use borrow.Author.Tests.{lt-ltb, le-ltb, eq-eqb}
-use Rattle.algebra.specs.Cell.{J, Sym, one, Group, Pa, full, span, im, pim, imp}
+use Rattle.algebra.specs.Cell.{J, Inside, Sym, one, Group, Pa, full, span, im, pim, imp}
 use Rattle.algebra.specs.CellPack.{even}
 use Rattle.algebra.specs.CellTests.{below, everyPlace, imply, storedT}
 use Rattle.algebra.proofs.Bool.{and-l, and-r, imply-iff, below-by}
-use Rattle.algebra.proofs.CellSym.{im-one, pim-one, imp-one}
+use Rattle.algebra.proofs.CellSym.{square, im-one, im-im, pim-one, imp-one, imp-im, imp-twice}
 use Rattle.algebra.proofs.CellTests.{every-place-by}
 use Rattle.numbers.specs.declared.Pair.{Pair}
 use Rattle.numbers.specs.Value.{Value, field, conj, valueOf, pairOf}
@@ -76,6 +76,16 @@ module _ (g : Group) (a : J) (m : ℕ) (v : List ℕ) (j : J) where
   -- the identity implies the value itself
   pub identity-agrees : imageAgrees g a m v j one ≡ true
   identity-agrees = true-iff _ .1 (imply-iff (storedT g a (im a one j)) (sameValue (lineAt g a m v (im a one j)) (implied g a m one j (lineAt g a m v j))) .1 (λ t. same-iff m _ _ .1 (ap (lineAt g a m v) (im-one a j) ∙ sym (imp-one (field-ring m) (field-star m) j (lineAt g a m v j)))))
+
+  -- an operation is its own inverse: if it agrees at the image of j, it agrees at j
+  pub agrees-back : (s : Sym) → Inside a j → T (storedT g a j) → imageAgrees g a m v (im a s j) s ≡ true → imageAgrees g a m v j s ≡ true
+  agrees-back s n t e =
+      let i = im a s j in
+      let back : im a s i ≡ j = im-im a s s j n ∙ ap (λ u. im a u j) (square s) ∙ im-one a j in
+      let same = imply-iff (storedT g a (im a s i)) (sameValue (lineAt g a m v (im a s i)) (implied g a m s i (lineAt g a m v i))) .0 (true-iff _ .0 e) (subst (λ y. T (storedT g a y)) (sym back) t) in
+      let there : lineAt g a m v j ≡ implied g a m s j (lineAt g a m v i) = ap (lineAt g a m v) (sym back) ∙ same-iff m _ _ .0 same ∙ imp-im (field-ring m) (field-star m) a s s j (lineAt g a m v i) n in
+      true-iff _ .1 (imply-iff (storedT g a i) (sameValue (lineAt g a m v i) (implied g a m s j (lineAt g a m v j))) .1
+      (λ u. same-iff m _ _ .1 (sym (ap (implied g a m s j) there ∙ imp-twice (field-ring m) (field-star m) s j (lineAt g a m v i)))))
 
 -- ---- the ends of Pa's lines
 

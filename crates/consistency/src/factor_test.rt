@@ -10,7 +10,7 @@ ghost use mathlib.Core.Path.{_≡_};
 ghost use mathlib.Core.Bool.{true};
 ghost use Prim.Native.Nat.{suc, _*_, _/_, _<_, _≤_};
 ghost use lib.ListN.{length};
-ghost use Rattle.algebra.specs.Cell.{Pa, span};
+ghost use Rattle.algebra.specs.Cell.{Pa, span, negI};
 ghost use Rattle.algebra.specs.CellTests.{below, everyPlace};
 ghost use Rattle.numbers.specs.Prime.{prime, IsModulus};
 ghost use Rattle.slices.specs.Pairs.{Below};
@@ -61,14 +61,19 @@ fn image_agrees(
 
 // Every stored image of j agrees. Each operation but the first changes the sign of k or l (in P1 that of k), and leads an index between
 // the ends of both out of what is stored: nothing is to be tried there, but in P2₁2₁2₁ the last operation, which changes that of h alone.
+// It leads back from -h to h, so that beyond N1/2 it has been tried at -h.
 fn factor_agrees(m: u32, group: u32, n1: u32, n2: u32, n3: u32, volume: &[u32], j: Index) -> bool
-    requires { ⌜ IsVolume group n1 n2 n3 (now volume) × IsModulus m × Below (prime m) (now volume) × IsStored group n1 n2 n3 j ⌝ }
+    requires { ⌜ IsVolume group n1 n2 n3 (now volume) × IsModulus m × Below (prime m) (now volume) × IsStored group n1 n2 n3 j × (n1 / 2 < j .h → lineAgrees (groupOf group) (halvesOf n1 n2 n3) m (now volume) (negI (n1 / 2) (j .h), j .k, j .l) ≡ true) ⌝ }
     ensures { λ r. ⌜ r ≡ lineAgrees (groupOf group) (halvesOf n1 n2 n3) m (now (volume .entry)) (tripleOf j) ⌝ }
 {
     if between(j.k, n2 / 2) & ((group == 0) | between(j.l, n3 / 2)) {
         if group == 4 {
-            let o = operations::operation_at(group, 7);
-            image_agrees(m, group, n1, n2, n3, volume, o, j)
+            if j.h <= n1 / 2 {
+                let o = operations::operation_at(group, 7);
+                image_agrees(m, group, n1, n2, n3, volume, o, j)
+            } else {
+                true
+            }
         } else {
             true
         }
@@ -101,9 +106,9 @@ fn images_agree(m: u32, group: u32, n1: u32, n2: u32, n3: u32, volume: &[u32], j
     true
 }
 
-// All k of the row (l, h).
+// All k of the row (l, h), after those of the row (l, -h) where h is beyond N1/2.
 fn row_agrees(m: u32, group: u32, n1: u32, n2: u32, n3: u32, volume: &[u32], l: u32, h: u32) -> bool
-    requires { ⌜ IsVolume group n1 n2 n3 (now volume) × IsModulus m × Below (prime m) (now volume) × (l < span (groupOf group) (n3 / 2)) × (h < n1) ⌝ }
+    requires { ⌜ IsVolume group n1 n2 n3 (now volume) × IsModulus m × Below (prime m) (now volume) × (l < span (groupOf group) (n3 / 2)) × (h < n1) × (n1 / 2 < h → below (suc (n2 / 2)) (λ k. lineAgrees (groupOf group) (halvesOf n1 n2 n3) m (now volume) (negI (n1 / 2) h, k, l)) ≡ true) ⌝ }
     ensures { λ r. ⌜ r ≡ below (suc (n2 / 2)) (λ k. lineAgrees (groupOf group) (halvesOf n1 n2 n3) m (now (volume .entry)) (h, k, l)) ⌝ }
 {
     let mut k = 0;
@@ -117,7 +122,7 @@ fn row_agrees(m: u32, group: u32, n1: u32, n2: u32, n3: u32, volume: &[u32], l: 
     true
 }
 
-// All h of the layer l.
+// All h of the layer l, rising: a row is tested after that of -h.
 fn layer_agrees(m: u32, group: u32, n1: u32, n2: u32, n3: u32, volume: &[u32], l: u32) -> bool
     requires { ⌜ IsVolume group n1 n2 n3 (now volume) × IsModulus m × Below (prime m) (now volume) × (l < span (groupOf group) (n3 / 2)) ⌝ }
     ensures { λ r. ⌜ r ≡ below (2 * (n1 / 2)) (λ h. below (suc (n2 / 2)) (λ k. lineAgrees (groupOf group) (halvesOf n1 n2 n3) m (now (volume .entry)) (h, k, l))) ⌝ }

@@ -4,7 +4,7 @@ use native.Mathlib.Omega.{arith}
 use Rattle.cell.specs.Volume.{groupOf}
 use Rattle.cell.specs.Consistency.{lineAgrees}
 use Rattle.cell.specs.Operations.{halvesOf}
-use Rattle.consistency.proofs.Passing.{Passing, passing-start, passing-next, passing-stop, passing-done}
+use Rattle.consistency.proofs.Passing.{passed-at, Passing, passing-start, passing-next, passing-stop, passing-done}
 use Rattle.consistency.proofs.factor_test.row_agrees.Statement.{statement}
 use Rattle.consistency.proofs.factor_test.row_agrees.Tie as tie
 
@@ -20,7 +20,7 @@ loop-holds c = passing-start _ _
 factor-agrees-requires : tie.Need-factor-agrees-requires Inv-loop μ-loop
 factor-agrees-requires c κs =
     let p = c .before .before .before .pre in
-    (p .0, p .1, p .2, record { h = p .4; k = c .loop-test .taken; l = p .3 })
+    (p .0, p .1, p .2, record { h = p .4; k = c .loop-test .taken; l = p .3 }, λ beyond. passed-at _ _ _ (p .5 beyond) (omega arith))
 
 add-k : tie.Need-add-k Inv-loop μ-loop
 add-k c = omega arith

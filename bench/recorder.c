@@ -1,4 +1,4 @@
-/* Synthesis and analysis of cubic cells of all four groups by the proved calls, beside the same passes in C (passes.h) and FFTW's double
+/* Synthesis and analysis of cubic cells of all five groups by the proved calls, beside the same passes in C (passes.h) and FFTW's double
    transforms of the same grid (fftw.h), then records and files (files.h), in one run. The runs alternate: five turns, each over all
    cells, grids and files, and of each the least processor time. The small cells are run three times a turn, as their times are uneven.
    Both volumes are compared after every call. */
@@ -18,6 +18,7 @@ static measured cells[] = {
     { .name = "P2_1", .group = 1, .n = 240, .list = "5432" },
     { .name = "Pm", .group = 2, .n = 240, .list = "5432" },
     { .name = "Pa", .group = 3, .n = 240, .list = "5432" },
+    { .name = "P2_1 2_1 2_1", .group = 4, .n = 240, .list = "5432" },
     { .name = "P2_1", .group = 1, .n = 288, .list = "4433" },
 };
 enum { CELLS = sizeof cells / sizeof *cells, P1_240 = 2, GRIDS = 4 };
@@ -39,19 +40,39 @@ static uint32_t factor_sum(const measured *m)
     return total;
 }
 
-/* A map of the group: any numbers with two zeros after each row. In Pa the planes 0 and A are their own images by the glide, so there
-   the second half of the rows repeats the first. */
+/* In Pa the planes 0 and A are their own images by the glide, so there the second half of the rows repeats the first. */
+static void glide(cell c, uint32_t *map)
+{
+    size_t plane = c.n * (c.n + 2), last = cell_layers(c) - 1;
+    memcpy(map + plane / 2, map, plane / 2 * sizeof *map);
+    memcpy(map + last * plane + plane / 2, map + last * plane, plane / 2 * sizeof *map);
+}
+
+/* In P2_1 2_1 2_1 each point of a stored plane z has one more image on one: for z = 0 (1/2 + x, 1/2 - y, -z), else (-x, 1/2 + y, 1/2 - z).
+   Each is the other's image, and the later one in the volume repeats the earlier. */
+static void screw(cell c, uint32_t *map)
+{
+    size_t n = c.n, half = n / 2, row = n + 2;
+    for (size_t z = 0; z < half; z++)
+        for (size_t x = 0; x < n; x++)
+            for (size_t y = 0; y < n; y++) {
+                size_t from = z ? ((half - z) * n + (n - x) % n) * row + (y + half) % n : (x + half) % n * row + (half + n - y) % n;
+                size_t to = (z * n + x) * row + y;
+                if (from < to) map[to] = map[from];
+            }
+}
+
+/* A map of the group: any numbers with two zeros after each row, and images that are alike. */
 static void make_map(cell c, uint32_t *map)
 {
-    size_t row = c.n + 2, plane = c.n * row, last = cell_layers(c) - 1;
+    size_t row = c.n + 2;
     uint64_t state = 1;
     for (size_t j = 0; j < 2 * cell_pairs(c); j++) {
         state = (state * 1103515245 + 12345) % 2147483648u;
         map[j] = j % row < c.n ? state / 64 % P : 0;
     }
-    if (c.group != 3) return;
-    memcpy(map + plane / 2, map, plane / 2 * sizeof *map);
-    memcpy(map + last * plane + plane / 2, map + last * plane, plane / 2 * sizeof *map);
+    if (c.group == 3) glide(c, map);
+    if (c.group == 4) screw(c, map);
 }
 
 static recorder_job open_map(const measured *m, uint32_t *volume, size_t length)
@@ -109,7 +130,7 @@ static const grid_times *grid_of(uint32_t n)
 static void print_row(const measured *m, const char *call, double proved, double plain, double fftw, double p1)
 {
     size_t pairs = cell_pairs(cell_of(m));
-    printf("%-5s %3u^3 %8zu %-9s %7.4f %7.4f", m->name, m->n, pairs, call, proved, plain);
+    printf("%-12s %3u^3 %8zu %-9s %7.4f %7.4f", m->name, m->n, pairs, call, proved, plain);
     print_ratio(proved, plain);
     if (fftw) printf(" %7.4f", fftw); else printf("       -");
     print_ratio(proved, fftw);
@@ -121,7 +142,7 @@ static void print_cells(void)
 {
     printf("Seconds of processor time; / C, / FFTW, / P1: the proved call's time over that of C, of FFTW's fastest plan, of P1 on the same\n"
            "lengths; ns: of the proved call, for each pair of the volume and each unit of the factors' sum.\n");
-    printf("%-5s %5s %8s %-9s %7s %7s %6s %7s %6s %6s %6s\n", "cell", "grid", "pairs", "call", "proved", "C", "/ C", "FFTW", "/ FFTW", "/ P1", "ns");
+    printf("%-12s %5s %8s %-9s %7s %7s %6s %7s %6s %6s %6s\n", "cell", "grid", "pairs", "call", "proved", "C", "/ C", "FFTW", "/ FFTW", "/ P1", "ns");
     for (int j = 0; j < CELLS; j++) {
         const measured *m = &cells[j];
         const grid_times *g = grid_of(m->n);

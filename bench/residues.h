@@ -30,6 +30,7 @@ static pair difference(pair a, pair b) { pair r = { sub(a.re, b.re), sub(a.im, b
 static pair negated(pair a) { pair r = { neg(a.re), neg(a.im) }; return r; }
 static pair conjugate(pair a) { pair r = { a.re, neg(a.im) }; return r; }
 static pair times_i(pair a) { pair r = { neg(a.im), a.re }; return r; }
+static pair over_i(pair a) { pair r = { a.im, neg(a.re) }; return r; }
 static pair halved(pair a) { pair r = { halve(a.re), halve(a.im) }; return r; }
 static pair scaled(uint32_t c, pair a) { pair r = { mul(c, a.re), mul(c, a.im) }; return r; }
 

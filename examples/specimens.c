@@ -72,8 +72,12 @@ static void refused_records(void)
     held = recorder_record(held.job, l, 5, 0, volume, 72);
     expect("Pm (0,0,1)", held.number, 0);
     expect("Pm (0,0,3)", recorder_record(held.job, opposite, 5, 0, volume, 72).number, 24);
-    held = recorder_open(4, 0, 4, 4, 4, two, 1, two, 1, two, 1, volume, 72);
-    expect("group 4", held.number, 8);
+    held = recorder_open(4, 0, 4, 4, 4, two, 1, two, 1, two, 1, volume, 48);
+    expect("P2_1 2_1 2_1", held.number, 0);
+    expect("P2_1 2_1 2_1 (0,0,1)", recorder_record(held.job, l, 5, 7, volume, 48).number, 12);
+    expect("P2_1 2_1 2_1 (1,0,0)", recorder_record(held.job, h, 5, 7, volume, 48).number, 12);
+    held = recorder_open(5, 0, 4, 4, 4, two, 1, two, 1, two, 1, volume, 72);
+    expect("group 5", held.number, 8);
     expect("its job", recorder_record(held.job, l, 5, 0, volume, 72).number, 25);
 }
 

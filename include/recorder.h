@@ -10,12 +10,14 @@
    Buffers. A buffer is a pointer and the count of its elements. The pointer is not null and is aligned, even for no elements; the
    memory is the caller's, initialised, and no two buffers of one call overlap. No call keeps a pointer.
    - The volume has exactly W * N1 * (N2/2 + 1) pairs, where W is N3 in group 0, N3/2 in groups 1 and 4, N3/2 + 1 in groups 2 and 3: twice
-     as many numbers, at most 16,777,216. It is filled as the scope lays out: packed factors, or the map with two zeros after each row.
+     as many numbers, at most 16,777,216. It is filled as the scope lays out: packed factors (in group 4 a line along l of an odd h is
+     packed times i), or the map on the planes z = 0 to W - 1 with two zeros after each row.
    - The scratch has at least 11,520 numbers. An accepted call leaves its first 11,520 numbers zero and the others untouched.
    - A factor list has the numbers 2 to 5 in any order, with the product N/2; it is empty for N = 2.
 
    Lengths N1, N2, N3 are even divisors of 2,880. Groups: 0 P1, 1 P2_1 with axis c, 2 Pm with its mirror across c, 3 Pa with its mirror
-   across c and its glide along a, 4 P2_1 2_1 2_1. */
+   across c and its glide along a, 4 P2_1 2_1 2_1 with the operations (1/2 - x, -y, 1/2 + z), (-x, 1/2 + y, 1/2 - z) and
+   (1/2 + x, 1/2 - y, -z). */
 #ifndef RECORDER_H
 #define RECORDER_H
 
@@ -83,7 +85,8 @@ recorder_answer recorder_synthesis(recorder_job job, uint32_t *volume, size_t vo
 recorder_answer recorder_analysis(recorder_job job, uint32_t *volume, size_t volume_length,
                                   uint32_t *scratch, size_t scratch_length);
 
-/* The density at a point anywhere in the cell. Refusals: 25, 22 no map held, 10, 6, 7 of the number read. */
+/* The density at a point anywhere in the cell. On a plane that is not stored it is read at the point's image by the group's operation,
+   in group 4 by the first of its three. Refusals: 25, 22 no map held, 10, 6, 7 of the number read. */
 recorder_density recorder_point(recorder_job job, recorder_grid_point at, const uint32_t *volume, size_t volume_length);
 
 /* The structure factor a + b i at an index anywhere in the cell. Refusals: 25, 23 no factors held, 10, 6, 7 of the numbers read. */

@@ -1,12 +1,12 @@
 #!/usr/bin/env python3
-"""The test of the command line tool: runs it on files of all four groups and compares all that it prints and writes with brute force.
+"""The test of the command line tool: runs it on files of all five groups and compares all that it prints and writes with brute force.
 
     host_test.py PROGRAM
 
 Small grids: the printer test's files, their maps as text and as map files, the factor files written from those, readings of points and factors,
 all against the book of brute_force.py. Every refusal that a file, a map file or a line can give. Files that are damaged, empty, missing or
-not to be written; pipes that are closed; no memory. P1 at 240^3 and P2_1 at 288^3 there and back, byte for byte, with some densities summed
-directly. The seed is fixed. Prints how many comparisons agreed; the exit status is 1 where one did not.
+not to be written; pipes that are closed; no memory. P1 and P2_1 2_1 2_1 at 240^3 and P2_1 at 288^3 there and back, byte for byte, with some
+densities summed directly. The seed is fixed. Prints how many comparisons agreed; the exit status is 1 where one did not.
 """
 import filecmp
 import os
@@ -27,7 +27,9 @@ SEED = 1973
 REFUSALS = {"factor file": {3, 4, 5, 7, 8, 9, 10, 11, 12, 15, 16, 17, 24}, "map file": {3, 4, 5, 7, 8, 9, 10, 14, 15, 16, 17},
             "line": {1, 2, 3, 4, 5, 6, 7}}
 COMMANDS = ["map", "factors", "check", "info", "point", "factor", "line"]
-LARGE = [(0, 240, [4, 5, 3, 2]), (1, 288, [4, 4, 3, 3])]
+LARGE = [(0, 240, [4, 5, 3, 2]), (1, 288, [4, 4, 3, 3]), (4, 240, [2, 3, 4, 5])]
+GROUPS = ["P1", "P2_1", "Pm", "Pa", "P2_1 2_1 2_1"]
+SAMPLES = [("p21", 6), ("p212121", 37)]
 RECORDS = 7000
 
 
@@ -86,7 +88,7 @@ def kind_of(words):
 def needed(file):
     """How many numbers a file's volume has, 0 where the header is not sound."""
     part = file + bytes(12)
-    return volume_length(part[5] % 4, [number(part[q:q + 2]) for q in (6, 8, 10)])
+    return volume_length(part[5] % 5, [number(part[q:q + 2]) for q in (6, 8, 10)])
 
 
 def map_text(g, n, M):
@@ -117,16 +119,17 @@ def written(book):
 
 # ---- small grids
 
-def sample(tool):
-    """The repository's sample: its map is brute force's, and the text beside it."""
+def samples(tool):
+    """The repository's samples: the map of each is brute force's, and the text beside it."""
     folder = os.path.join(os.path.dirname(os.path.abspath(__file__)), "../samples")
-    path = os.path.join(folder, "p21.factors")
-    with open(path, "rb") as file, open(os.path.join(folder, "p21.map.txt"), "rb") as text:
-        contents, shown = file.read(), text.read()
-    book = open_file(contents, needed(contents))[2]
-    tool.expect("the sample's text", shown, map_text(book.g, book.n, book.densities()))
-    tool.expect("the sample's form", contents, written(book))
-    accepted_file(tool, random.Random(SEED), path, book, 6)
+    for name, count in SAMPLES:
+        path = os.path.join(folder, name + ".factors")
+        with open(path, "rb") as file, open(os.path.join(folder, name + ".map.txt"), "rb") as text:
+            contents, shown = file.read(), text.read()
+        book = open_file(contents, needed(contents))[2]
+        tool.expect(name + ": the sample's text", shown, map_text(book.g, book.n, book.densities()))
+        tool.expect(name + ": the sample's form", contents, written(book))
+        accepted_file(tool, random.Random(SEED), path, book, count)
 
 
 def accepted_file(tool, rng, path, book, count):
@@ -136,7 +139,7 @@ def accepted_file(tool, rng, path, book, count):
     tool.expect(what + ": map", tool.run("map", path), (0, map_text(g, n, M), b""))
     tool.expect(what + ": check", tool.run("check", path), (0, b"accepted\n", b""))
     shape = "group %d %s\nlengths %d %d %d\nlists %s\nplanes %d\nvolume %d numbers, %d bytes\n" % (
-        g, ["P1", "P2_1", "Pm", "Pa"][g], *n, " ".join(",".join(map(str, fs)) or "-" for fs in book.lists),
+        g, GROUPS[g], *n, " ".join(",".join(map(str, fs)) or "-" for fs in book.lists),
         planes(g, n), volume_length(g, n), 4 * volume_length(g, n))
     tool.expect(what + ": info", tool.run("info", path), (0, ("factor file, version 1\n" + shape + "records %d\n" % count).encode(), b""))
     made, back = tool.path("made.map"), tool.path("back")
@@ -176,7 +179,7 @@ def small_grids(tool):
 def full_cells(tool):
     """Map files of random densities: as many records as a grid has orbits, back and forth."""
     rng = random.Random(SEED)
-    for g in range(4):
+    for g in range(5):
         for n in [(2, 2, 2), (2, 2, 4), (4, 2, 6), (4, 4, 4), (4, 6, 4)]:
             by_orbit = {q: rng.randrange(P) for q in all_points(n)}
             M = {q: by_orbit[min(point_images(g, n, q))] for q in by_orbit}
@@ -195,16 +198,17 @@ def full_cells(tool):
 def refused_records(tool):
     """What check says of a record: its place, its contents, and of 24 the record that was there before."""
     n, lists = (4, 4, 4), [[2], [2], [2]]
-    first = (1, 2, 3, 4, 5)
+    first = (1, 1, 3, 4, 5)
     for g, record, refusal in [(0, (1, 1, 4, 3, 0), 10), (1, (1, 65535, 1, 3, 0), 10), (2, (1, 1, 1, P, 0), 7), (3, (1, 1, 1, 3, 2 ** 32 - 1), 7),
                                (0, (1, 1, 1, 0, 0), 11), (0, (0, 2, 0, 1, 1), 12), (1, (0, 0, 1, 5, 7), 12), (3, (1, 0, 0, 5, 7), 12),
-                               (2, (1, 2, 1, 4, 5), 24), (0, (3, 2, 1, 9, 9), 24)]:
+                               (4, (1, 0, 0, 0, 7), 12), (4, (0, 3, 0, 5, 0), 12), (4, (0, 0, 1, 5, 7), 12), (4, (1, 2, 0, 5, 7), 12),
+                               (2, (1, 1, 1, 4, 5), 24), (0, (3, 3, 1, 9, 9), 24), (4, (3, 1, 1, 9, 9), 24)]:
         path = tool.file("records", file_bytes(g, n, lists, [(0, 0, 0, 1, 0), first, record, (3, 3, 3, 3, 3)]))
         status, out, err = tool.run("check", path)
         head, _, found, _, end = out.decode().split("\n")
         contents = "found: record 2, from byte 50 on: h %d, k %d, l %d, a %d, b %d" % record
         if refusal == 24:
-            contents += "; its orbit has a value by record 1, from byte 36 on: h 1, k 2, l 3, a 4, b 5"
+            contents += "; its orbit has a value by record 1, from byte 36 on: h 1, k 1, l 3, a 4, b 5"
         what = "group %d, record %s" % (g, record)
         tool.expect(what, (status, head, found, end, err), (1, "refused %d at 2" % refusal, contents, "", b""))
         tool.refused(what, ("point", path, 0, 0, 0), refusal, 2)
@@ -213,11 +217,11 @@ def refused_records(tool):
 
 def refused_headers(tool):
     """Headers in a factor file and in a map file: every refusal of an opening."""
-    for g, n, lists, refusal in [(4, (2, 2, 2), [[], [], []], 8), (255, (2, 2, 2), [[], [], []], 8), (0, (2, 0, 2), [[], [], []], 3),
+    for g, n, lists, refusal in [(5, (2, 2, 2), [[], [], []], 8), (255, (2, 2, 2), [[], [], []], 8), (0, (2, 0, 2), [[], [], []], 3),
                                  (1, (2, 2, 14), [[], [], [7]], 3), (2, (5760, 2, 2), [[], [], []], 3), (3, (8, 8, 8), [[4], [6], [4]], 4),
                                  (0, (8, 8, 8), [[4], [4], [1, 4]], 4), (0, (8, 8, 8), [[4], [2], [4]], 5), (0, (2, 2, 4), [[], [], []], 5),
                                  (0, (2, 2, 2), [[], [2] * 255, []], 5), (0, (288, 288, 288), [[4, 4, 3, 3]] * 3, 9),
-                                 (2, (2880, 2880, 2880), [[5, 4, 4, 3, 3, 2]] * 3, 9)]:
+                                 (2, (2880, 2880, 2880), [[5, 4, 4, 3, 3, 2]] * 3, 9), (4, (360, 360, 288), [[5, 4, 3, 3]] * 2 + [[4, 4, 3, 3]], 9)]:
         what = "header %d %s %s" % (g, n, lists)
         factors = tool.file("factors", file_bytes(g, n, lists, [(0, 0, 0, 1, 0)]))
         densities = tool.file("densities", map_head(g, n, lists) + bytes(64))
@@ -240,7 +244,8 @@ def refused_maps(tool):
     tool.refused("a map of 86,399", ("factors", tool.file("maps", whole[:-4] + P.to_bytes(4, "big")), "-o", tool.path("none")), 7)
     status, out, _ = tool.run("check", path)
     tool.expect("its place", (status, b"found: density 86399 at x 1, y 3, z 1\n" in out), (1, True))
-    tool.refused("a map that is not Pa's", ("map", tool.file("maps", map_bytes(3, n, lists, M))), 14)
+    for g in (3, 4):
+        tool.refused("a map that is not one of %s" % GROUPS[g], ("map", tool.file("maps", map_bytes(g, n, lists, M))), 14)
     tool.refused("no records", ("factors", tool.file("maps", map_head(0, n, lists) + bytes(64)), "-o", tool.path("none")), 17)
     tool.expect("refused commands write no file", os.path.exists(tool.path("none")), False)
 
@@ -415,7 +420,7 @@ def progress(tool):
 def main():
     with tempfile.TemporaryDirectory() as folder:
         tool = Tool(os.path.abspath(sys.argv[1]), folder)
-        for part in (sample, small_grids, full_cells, refused_records, refused_headers, refused_maps, lines, command_line, files_and_streams,
+        for part in (samples, small_grids, full_cells, refused_records, refused_headers, refused_maps, lines, command_line, files_and_streams,
                      large_grids, closed_pipe, progress):
             part(tool)
         tool.expect("the refusals", tool.seen, REFUSALS)

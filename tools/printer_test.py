@@ -3,7 +3,7 @@
 
     printer_test.py PROGRAM
 
-Files of all four groups with random records, the paper's specimen, refused files of every kind, files cut at every length, a file of more than
+Files of all five groups with random records, the paper's specimen, refused files of every kind, files cut at every length, a file of more than
 8,192 bytes and grids that need more than 2,048 numbers. The maps are those of the book in brute_force.py (triple sums over the whole cell). The
 seed is fixed. Prints how many files agreed; the exit status is 1 where one did not.
 """
@@ -75,7 +75,7 @@ def files():
             yield file_bytes(g, n, lists(n), rs + [(n[0], 0, 0, 1, 0)])
             yield file_bytes(g, n, lists(n), [(0, 0, 0, 1, 1)] + rs)
             yield file_bytes(g, n, lists(n), [])
-            yield file_bytes(g + 4, n, lists(n), rs)
+            yield file_bytes(g + 5, n, lists(n), rs)
             yield file_bytes(g, n, [[7]] + lists(n)[1:], rs)
         for n in [(24, 24, 24), (240, 240, 240), (288, 288, 288)]:
             yield file_bytes(g, n, lists(n), [(1, 2, 3, 4, 5)])

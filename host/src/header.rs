@@ -4,7 +4,7 @@
 //! Nothing here judges a header: the proved call does (recorder.rs), and what this file computes is used for sound headers only.
 use std::io::{self, Read};
 
-const GROUPS: [&str; 4] = ["P1", "P2_1", "Pm", "Pa"];
+const GROUPS: [&str; 5] = ["P1", "P2_1", "Pm", "Pa", "P2_1 2_1 2_1"];
 
 #[derive(Clone)]
 pub struct Header {
@@ -43,7 +43,7 @@ impl Header {
         let half = self.length(2) / 2;
         match self.group {
             0 => self.length(2),
-            1 => half,
+            1 | 4 => half,
             _ => half + 1,
         }
     }

@@ -43,7 +43,8 @@ pub const INFO: &str = "\
 recorder info FILE
 
 Prints a line each for the kind of file, group, lengths, factor lists (- is none), stored planes, volume and count of records (of a map file:
-densities). The header is judged, the records are not.
+densities). The header is judged, the records are not. Groups: 0 P1, 1 P2_1 with axis c, 2 Pm with its mirror across c, 3 Pa with its mirror
+across c and its glide along a, 4 P2_1 2_1 2_1.
 ";
 
 pub const POINT: &str = "\

@@ -117,10 +117,14 @@ impl Recorder {
     }
 
     /// No fewer than the records of the held factors: each record's factor stands in a pair that is not zero, and only pairs of the first
-    /// plane hold two factors (P2_1 keeps l = 0 and l = N3/2 in one).
+    /// plane hold two factors (P2_1 and P2_1 2_1 2_1 keep l = 0 and l = N3/2 in one). In P2_1 2_1 2_1 an orbit is an index with all changes of
+    /// sign, so its record, at the lowest, has h up to N1/2 and is stored there: counting the other h too would ask for twice the room.
     fn most_records(&self) -> usize {
-        let filled = |part: &[u32]| part.chunks_exact(2).filter(|pair| pair[0] != 0 || pair[1] != 0).count();
-        filled(&self.volume) + filled(&self.volume[..self.volume.len() / self.header.planes()])
+        let across = self.header.length(0);
+        let most_h = if self.header.group == 4 { across / 2 } else { across - 1 };
+        let filled = |row: &[u32]| row.chunks_exact(2).filter(|pair| pair[0] != 0 || pair[1] != 0).count();
+        let rows = self.volume.chunks_exact(self.header.length(1) + 2).enumerate().filter(|(row, _)| row % across <= most_h);
+        rows.map(|(row, pairs)| if row < across { 2 * filled(pairs) } else { filled(pairs) }).sum()
     }
 
     /// The rows of a held map: plane z, x and the values by y, rising.

@@ -78,8 +78,8 @@ fn words(number: u32) -> (&'static str, &'static str) {
             "give 2N numbers for kind 0, N for kinds 1 to 3, N + 2 for kind 4, N - 2 for kind 5",
         ),
         7 => ("a number is 86,399 or more", "write residues modulo 86,399: 0 to 86,398"),
-        8 => ("the group is not 0 to 3", "use 0 for P1, 1 for P2_1, 2 for Pm, 3 for Pa"),
-        9 => ("the volume would have more than 16,777,216 numbers", "use shorter lengths; P2_1, Pm and Pa need about half of what P1 does"),
+        8 => ("the group is not 0 to 4", "use 0 for P1, 1 for P2_1, 2 for Pm, 3 for Pa, 4 for P2_1 2_1 2_1"),
+        9 => ("the volume would have more than 16,777,216 numbers", "use shorter lengths; every other group needs about half of what P1 does"),
         10 => ("an index is not below its axis length", "bring each index into the cell: 0 to length - 1"),
         11 => ("the record's value is zero", "leave the record out: what no record names is zero"),
         12 => (

@@ -76,18 +76,19 @@ fn row(
     }
 }
 
-// The three screw axes of P2₁2₁2₁.
+// The three screw axes of P2₁2₁2₁: number 1 along c, 2 along b, 3 along a. Each keeps the sign along its own axis alone; no two have the same parities.
 fn screw_axis(number: u32) -> Operation
     requires { ⌜ (0 < number) × (number < 4) ⌝ }
     ensures { λ r. ⌜ symOf r ≡ getD (ops P2₁2₁2₁) number one ⌝ }
 {
-    if number == 1 {
-        row(true, true, false, true, false, true)
-    } else if number == 2 {
-        row(true, false, true, false, true, true)
-    } else {
-        row(false, true, true, true, true, false)
-    }
+    row(
+        number != 3,
+        number != 2,
+        number != 1,
+        number != 2,
+        number != 1,
+        number != 3,
+    )
 }
 
 // The group's own operations, the identity first.

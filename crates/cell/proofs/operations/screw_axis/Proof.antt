@@ -1,45 +1,27 @@
 -- The rows of the theory's list.
 use borrow.Author.Needs.{needs}
-use mathlib.Core.Path.{_≡_, sym, _∙_, ap}
-use Prim.Native.Nat.{ℕ, _<_}
+use mathlib.Core.Path.{_≡_, refl, _∙_}
+use mathlib.Core.Bool.{false, not}
+use Prim.Native.Nat.{ℕ, zero, suc, _<_}
 use native.Mathlib.Omega.{arith}
+use lib.Dec.{eqb}
 use lib.ListN.{getD}
-use Rattle.algebra.specs.Cell.{P2₁2₁2₁, ops, one}
+use Rattle.algebra.specs.Cell.{Sym.sym, P2₁2₁2₁, ops, one}
 use Rattle.cell.proofs.operations.screw_axis.Statement.{statement}
 use Rattle.cell.proofs.operations.screw_axis.Tie as tie
 
--- the number that is left
-third : {k : ℕ} → 0 < k → k < 4 → (k ≡ 1 → ⊥) → (k ≡ 2 → ⊥) → k ≡ 3
-third lo hi a b = omega arith
+axes : (k : ℕ) → 0 < k → k < 4 → sym false (not (eqb k 3)) (not (eqb k 2)) (not (eqb k 1)) (not (eqb k 2)) (not (eqb k 1)) (not (eqb k 3)) ≡ getD (ops P2₁2₁2₁) k one
+axes zero l h = absurd (omega arith)
+axes (suc zero) l h = refl
+axes (suc (suc zero)) l h = refl
+axes (suc (suc (suc zero))) l h = refl
+axes (suc (suc (suc (suc k)))) l h = absurd (omega arith)
 
 row-requires : tie.Need-row-requires
 row-requires c κs = search needs
 
-row-requires-2 : tie.Need-row-requires-2
-row-requires-2 c κs = search needs
-
-row-requires-3 : tie.Need-row-requires-3
-row-requires-3 c κs = search needs
-
 returns : tie.Need-returns
-returns c = c .row .ensures ∙ ap (λ k. getD (ops P2₁2₁2₁) k one) (sym (c .before .if1 .taken))
-
-returns-2 : tie.Need-returns-2
-returns-2 c = c .row2 .ensures ∙ ap (λ k. getD (ops P2₁2₁2₁) k one) (sym (c .before .if2 .taken))
-
-returns-3 : tie.Need-returns-3
-returns-3 c =
-    let t = c .before .before in
-    let p = t .before .pre in
-    c .row3 .ensures ∙ ap (λ k. getD (ops P2₁2₁2₁) k one) (sym (third (p .0) (p .1) (t .if1 .left) (c .before .if2 .left)))
+returns c = c .row .ensures ∙ axes _ (c .before .pre .0) (c .before .pre .1)
 
 pub screw-axis-spec : {M : Type 1} → statement M
-screw-axis-spec =
-    tie.close
-    (tie.spec
-    row-requires
-    row-requires-2
-    row-requires-3
-    returns
-    returns-2
-    returns-3)
+screw-axis-spec = tie.close (tie.spec row-requires returns)

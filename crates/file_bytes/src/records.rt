@@ -1,5 +1,5 @@
 // The records of a volume of packed factors, counted and written: one for each orbit whose factor is not zero, at its lowest
-// place, by rising h, k, l. Counting and writing each go over all places of the cell.
+// place, by rising h, k, l. Counting and writing each go over the places up to h = N1/2: beyond, the Friedel mate comes before.
 use crate::bytes;
 use cell::operations::Index;
 use numbers::Pair;
@@ -111,7 +111,7 @@ pub fn count_records(group: u32, n1: u32, n2: u32, n3: u32, volume: &[u32]) -> u
 {
     let mut count: usize = 0;
     let mut j = Index { h: 0, k: 0, l: 0 };
-    while j.h < n1 {
+    while j.h <= n1 / 2 {
         count += count_place(group, n1, n2, n3, j, volume);
         j = next_place(n2, n3, j);
     }
@@ -133,7 +133,7 @@ pub fn put_records(
 {
     let mut at = start;
     let mut j = Index { h: 0, k: 0, l: 0 };
-    while j.h < n1 {
+    while j.h <= n1 / 2 {
         at = put_place(group, n1, n2, n3, j, volume, out, at);
         j = next_place(n2, n3, j);
     }

@@ -18,11 +18,22 @@ ghost use Rattle.file_bytes.specs.Steps.{IsFactors, recordValue, pairByt
 
 // ---- one place
 
-// The factor that a record at j would give: where j is no lowest place of an orbit, zero, which no record has.
-fn record_value(group: u32, n1: u32, n2: u32, n3: u32, j: Index, volume: &[u32]) -> Pair
-    requires { ⌜ IsFactors group n1 n2 n3 (now volume) × Within n1 n2 n3 j ⌝ }
-    ensures { λ r. ⌜ r ≡ pairOf (recordValue (groupOf group) (halvesOf n1 n2 n3) (now (volume .entry)) (tripleOf j)) ⌝ }
+// The factor that a record at (h, k, l) would give: where that is no lowest place of an orbit, zero, which no record has. The index
+// comes as three numbers: at every place, a struct would be stored and read back.
+fn record_value(
+    group: u32,
+    n1: u32,
+    n2: u32,
+    n3: u32,
+    h: u32,
+    k: u32,
+    l: u32,
+    volume: &[u32],
+) -> Pair
+    requires { ⌜ IsFactors group n1 n2 n3 (now volume) × (h < n1) × (k < n2) × (l < n3) ⌝ }
+    ensures { λ r. ⌜ r ≡ pairOf (recordValue (groupOf group) (halvesOf n1 n2 n3) (now (volume .entry)) (h, k, l)) ⌝ }
 {
+    let j = Index { h, k, l };
     if orbits::lowest(group, n1, n2, n3, j) {
         readings::factor_at(1, group, n1, n2, n3, j, volume)
     } else {
@@ -35,7 +46,7 @@ fn count_place(group: u32, n1: u32, n2: u32, n3: u32, j: Index, volume: &[u32]) 
     requires { ⌜ IsFactors group n1 n2 n3 (now volume) × Within n1 n2 n3 j ⌝ }
     ensures { λ r. ⌜ r ≡ length (recordsAt (groupOf group) (halvesOf n1 n2 n3) (now (volume .entry)) (tripleOf j ∷ [])) ⌝ }
 {
-    if stored::is_zero(record_value(group, n1, n2, n3, j, volume)) {
+    if stored::is_zero(record_value(group, n1, n2, n3, j.h, j.k, j.l, volume)) {
         0
     } else {
         1
@@ -69,7 +80,7 @@ fn put_place(
     requires { ⌜ Room at (length (allBytes (recordsAt (groupOf group) (halvesOf n1 n2 n3) (now volume) (tripleOf j ∷ [])))) (now out) ⌝ }
     ensures { λ r. ⌜ Put at (allBytes (recordsAt (groupOf group) (halvesOf n1 n2 n3) (now (volume .entry)) (tripleOf j ∷ []))) (now (out .entry)) r (now (out .exit)) ⌝ }
 {
-    let x = record_value(group, n1, n2, n3, j, volume);
+    let x = record_value(group, n1, n2, n3, j.h, j.k, j.l, volume);
     if stored::is_zero(x) {
         at
     } else {

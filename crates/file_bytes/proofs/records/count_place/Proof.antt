@@ -9,7 +9,7 @@ use Rattle.file_bytes.proofs.records.count_place.Statement.{statement}
 use Rattle.file_bytes.proofs.records.count_place.Tie as tie
 
 record-value-requires : tie.Need-record-value-requires
-record-value-requires c κs = search needs
+record-value-requires c κs = let p = c .before .pre in (p .0, p .1 .h, p .1 .k, p .1 .l)
 
 is-zero-requires : tie.Need-is-zero-requires
 is-zero-requires c κs = search needs

@@ -25,7 +25,7 @@ bytes-are c =
     one-bytes (groupOf (a .group)) (halvesOf (a .n1) (a .n2) (a .n3)) (a .volume .now) (tripleOf (a .j)) (r .record-value .ensures) (z .is-zero .ensures) (c .if1 .left)
 
 record-value-requires : tie.Need-record-value-requires
-record-value-requires c κs = search needs
+record-value-requires c κs = let p = c .before .before .pre .0 in (p .0, p .1 .h, p .1 .k, p .1 .l)
 
 is-zero-requires : tie.Need-is-zero-requires
 is-zero-requires c κs = search needs

@@ -85,6 +85,10 @@ module _ (g : Group) (a : J) (v : List ℕ) where
     unfolding recordsOf factorActs pairOf gauss residues residue prime
     not-lowest-none e = let x = at (factorsIn g a 1 v) j in ap (λ (b : Bool). cond (b && not (isZero (pairOf x))) (alone j x) []) e
 
+    pub lowest-value : isLowest g a j ≡ true → {x : Pair} → x ≡ pairOf (at (factorsIn g a 1 v) j) → x ≡ pairOf (recordValue g a v j)
+    unfolding recordValue
+    lowest-value e f = f ∙ ap (λ (b : Bool). pairOf (cond b (at (factorsIn g a 1 v) j) (value 1 0 0))) (sym e)
+
     -- x is the value as the code holds it, t what it found of x
     module _ {x : Pair} {t : Bool} (e : x ≡ pairOf (recordValue g a v j)) (f : t ≡ isZero x) where
       found : {b : Bool} → t ≡ b → isZero (pairOf (recordValue g a v j)) ≡ b

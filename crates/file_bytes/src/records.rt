@@ -8,48 +8,25 @@ ghost use mathlib.Core.List.{[], _∷_};
 ghost use Prim.Native.Nat.{ℕ, _<_};
 ghost use lib.ListN.{length};
 ghost use Rattle.algebra.specs.CellTests.{placesOf};
-ghost use Rattle.numbers.specs.Value.{pairOf};
 ghost use Rattle.cell.specs.Volume.{groupOf};
 ghost use Rattle.cell.specs.Operations.{halvesOf, tripleOf, Within};
 ghost use Rattle.file_layout.specs.Bytes.{allBytes};
 ghost use Rattle.file_bytes.specs.Records.{recordsAt};
 ghost use Rattle.file_bytes.specs.Stores.{Room, Put};
-ghost use Rattle.file_bytes.specs.Steps.{IsFactors, recordValue, pairBytes, Next};
+ghost use Rattle.file_bytes.specs.Steps.{IsFactors, pairBytes, Next};
 
 // ---- one place
-
-// The factor that a record at (h, k, l) would give: where that is no lowest place of an orbit, zero, which no record has. The index
-// comes as three numbers: at every place, a struct would be stored and read back.
-fn record_value(
-    group: u32,
-    n1: u32,
-    n2: u32,
-    n3: u32,
-    h: u32,
-    k: u32,
-    l: u32,
-    volume: &[u32],
-) -> Pair
-    requires { ⌜ IsFactors group n1 n2 n3 (now volume) × (h < n1) × (k < n2) × (l < n3) ⌝ }
-    ensures { λ r. ⌜ r ≡ pairOf (recordValue (groupOf group) (halvesOf n1 n2 n3) (now (volume .entry)) (h, k, l)) ⌝ }
-{
-    let j = Index { h, k, l };
-    if orbits::lowest(group, n1, n2, n3, j) {
-        readings::factor_at(1, group, n1, n2, n3, j, volume)
-    } else {
-        Pair { re: 0, im: 0 }
-    }
-}
 
 // How many records the place j has: one or none.
 fn count_place(group: u32, n1: u32, n2: u32, n3: u32, j: Index, volume: &[u32]) -> usize
     requires { ⌜ IsFactors group n1 n2 n3 (now volume) × Within n1 n2 n3 j ⌝ }
     ensures { λ r. ⌜ r ≡ length (recordsAt (groupOf group) (halvesOf n1 n2 n3) (now (volume .entry)) (tripleOf j ∷ [])) ⌝ }
 {
-    if stored::is_zero(record_value(group, n1, n2, n3, j.h, j.k, j.l, volume)) {
-        0
+    if orbits::lowest(group, n1, n2, n3, j) {
+        let x = readings::factor_at(1, group, n1, n2, n3, j, volume);
+        if stored::is_zero(x) { 0 } else { 1 }
     } else {
-        1
+        0
     }
 }
 
@@ -80,11 +57,15 @@ fn put_place(
     requires { ⌜ Room at (length (allBytes (recordsAt (groupOf group) (halvesOf n1 n2 n3) (now volume) (tripleOf j ∷ [])))) (now out) ⌝ }
     ensures { λ r. ⌜ Put at (allBytes (recordsAt (groupOf group) (halvesOf n1 n2 n3) (now (volume .entry)) (tripleOf j ∷ []))) (now (out .entry)) r (now (out .exit)) ⌝ }
 {
-    let x = record_value(group, n1, n2, n3, j.h, j.k, j.l, volume);
-    if stored::is_zero(x) {
-        at
+    if orbits::lowest(group, n1, n2, n3, j) {
+        let x = readings::factor_at(1, group, n1, n2, n3, j, volume);
+        if stored::is_zero(x) {
+            at
+        } else {
+            put_record(j, x, out, at)
+        }
     } else {
-        put_record(j, x, out, at)
+        at
     }
 }
 

@@ -3,7 +3,7 @@ use mathlib.Core.Path.{_≡_, refl, sym, _∙_, ap}
 use mathlib.Core.Bool.{Bool, true, false, _&&_, not, cond}
 use mathlib.Core.Logic.{⊎-elim}
 use mathlib.Core.List.{List, [], _∷_, _++_, append-assoc}
-use Prim.Native.Nat.{ℕ, zero, suc, _-_, _*_, _<_, _≤_}
+use Prim.Native.Nat.{ℕ, zero, suc, _+_, _-_, _*_, _<_, _≤_}
 use native.Mathlib.Nat.{zero-mul, eq-zero-or-pos}
 use native.Mathlib.Omega.{arith}
 use lib.ListN.{length, length-append}
@@ -12,6 +12,7 @@ use Rattle.algebra.specs.Orbit.{Acts}
 use Rattle.algebra.specs.Cell.{J}
 use Rattle.algebra.specs.CellTests.{lineFrom, planeFrom, cellFrom, lowest, recordsOf}
 use Rattle.algebra.proofs.Laws.{along}
+use Rattle.slices.proofs.Pairs.{lt-or-ge}
 use Rattle.file_bytes.specs.Steps.{placesFrom}
 
 -- ---- lists of lists: what is made of places one after another is made of all of them
@@ -19,6 +20,10 @@ use Rattle.file_bytes.specs.Steps.{placesFrom}
 pub record Spreads {A : Type 0} (R : List J → List A) : Type 0 where
   pub nil : R [] ≡ []
   pub append : (l m : List J) → R (l ++ m) ≡ R l ++ R m
+
+-- no place with h beyond m gives anything
+abbrev pub NoneBeyond : {A : Type 0} → (List J → List A) → (n1 m : ℕ) → Type 0
+NoneBeyond R n1 m = (j : J) → m < j .0 → j .0 < n1 → R (j ∷ []) ≡ []
 
 -- ---- the places from one on
 
@@ -82,6 +87,45 @@ module _ (n1 n2 n3 : ℕ) where
     in-cell d e = last-on-line d
         ∙ along (λ n. (h, k, l) ∷ (planeFrom n3 h (suc k) n ++ cellFrom n3 n2 (suc h) (n1 - suc h))) (n2 - suc k) 0 (omega arith)
         ∙ ap (λ t. (h, k, l) ∷ t) (sym (plane-start (suc h) (omega arith)))
+
+-- ---- places that give nothing
+
+module _ {A : Type 0} {R : List J → List A} (s : Spreads R) (n1 n2 n3 : ℕ) {m : ℕ} (none : NoneBeyond R n1 m) where
+  both-none : (l l′ : List J) → R l ≡ [] → R l′ ≡ [] → R (l ++ l′) ≡ []
+  both-none l l′ e f = s .append l l′ ∙ (λ i. e i ++ f i)
+
+  line-none : (h k l n : ℕ) → m < h → h < n1 → R (lineFrom h k l n) ≡ []
+  unfolding lineFrom
+  line-none h k l zero u v = s .nil
+  line-none h k l (suc n) u v = both-none ((h, k, l) ∷ []) (lineFrom h k (suc l) n) (none (h, k, l) u v) (line-none h k (suc l) n u v)
+
+  plane-none : (h k n : ℕ) → m < h → h < n1 → R (planeFrom n3 h k n) ≡ []
+  unfolding planeFrom
+  plane-none h k zero u v = s .nil
+  plane-none h k (suc n) u v = both-none (lineFrom h k 0 n3) (planeFrom n3 h (suc k) n) (line-none h k 0 n3 u v) (plane-none h (suc k) n u v)
+
+  cell-none : (h n : ℕ) → m < h → h + n ≤ n1 → R (cellFrom n3 n2 h n) ≡ []
+  unfolding cellFrom
+  cell-none h zero u v = s .nil
+  cell-none h (suc n) u v = both-none (planeFrom n3 h 0 n2) (cellFrom n3 n2 (suc h) n) (plane-none h 0 n2 u (inside h n v)) (cell-none (suc h) n (above h u) (within h n v))
+    where
+      inside : (h n : ℕ) → h + suc n ≤ n1 → h < n1
+      inside h n v = omega arith
+
+      above : (h : ℕ) → m < h → m < suc h
+      above h u = omega arith
+
+      within : (h n : ℕ) → h + suc n ≤ n1 → suc h + n ≤ n1
+      within h n v = omega arith
+
+  pub from-none : (j : J) → m < j .0 → R (placesFrom n1 n2 n3 j) ≡ []
+  from-none j u = ⊎-elim
+      (λ (l : j .0 < n1).
+      ap R (from-inside n1 n2 n3 j l)
+      ∙ both-none (lineFrom (j .0) (j .1) (j .2) (n3 - j .2)) _ (line-none (j .0) (j .1) (j .2) (n3 - j .2) u l)
+      (both-none (planeFrom n3 (j .0) (suc (j .1)) (n2 - suc (j .1))) _ (plane-none (j .0) (suc (j .1)) (n2 - suc (j .1)) u l) (cell-none (suc (j .0)) (n1 - suc (j .0)) (omega arith) (omega arith))))
+      (λ (l : n1 ≤ j .0). ap R (from-beyond n1 n2 n3 j l) ∙ s .nil)
+      (lt-or-ge (j .0) n1)
 
 -- ---- how many places
 

@@ -24,11 +24,12 @@ use Rattle.cell.proofs.OperationLaws.{by-group}
 use Rattle.file_layout.specs.Bytes.{recordBytes, allBytes}
 use Rattle.file_bytes.specs.Records.{recordsAt}
 use Rattle.orbits.specs.Lowest.{isLowest}
+use Rattle.orbits.proofs.PlaceOrder.{upper-not-lowest}
 use Rattle.file_bytes.specs.Stores.{Put}
 use Rattle.file_bytes.specs.Steps.{recordValue, pairBytes, recordsWith}
 use Rattle.file_bytes.proofs.Stores.{put-none, put-as}
 use Rattle.file_layout.proofs.ByteLaws.{all-append}
-use Rattle.file_bytes.proofs.Places.{Spreads, length-cell, records-most, records-spread}
+use Rattle.file_bytes.proofs.Places.{Spreads, NoneBeyond, length-cell, records-most, records-spread}
 
 -- ---- the numbers that a factor is read from are small, whichever they are
 
@@ -80,6 +81,14 @@ module _ (g : Group) (a : J) (v : List ℕ) where
     unfolding recordsOf factorActs recordValue pairOf gauss residues residue prime
     place-records = let x = at (factorsIn g a 1 v) j in given (isLowest g a j) (isZero (pairOf x)) x ∙ tested (isLowest g a j) x
 
+    pub not-lowest-none : isLowest g a j ≡ false → recordsAt g a v (j ∷ []) ≡ []
+    unfolding recordsOf factorActs pairOf gauss residues residue prime
+    not-lowest-none e = let x = at (factorsIn g a 1 v) j in ap (λ (b : Bool). cond (b && not (isZero (pairOf x))) (alone j x) []) e
+
+    pub lowest-value : isLowest g a j ≡ true → {x : Pair} → x ≡ pairOf (at (factorsIn g a 1 v) j) → x ≡ pairOf (recordValue g a v j)
+    unfolding recordValue
+    lowest-value e f = f ∙ ap (λ (b : Bool). pairOf (cond b (at (factorsIn g a 1 v) j) (value 1 0 0))) (sym e)
+
     -- x is the value as the code holds it, t what it found of x
     module _ {x : Pair} {t : Bool} (e : x ≡ pairOf (recordValue g a v j)) (f : t ≡ isZero x) where
       found : {b : Bool} → t ≡ b → isZero (pairOf (recordValue g a v j)) ≡ b
@@ -99,9 +108,12 @@ module _ (g : Group) (a : J) (v : List ℕ) where
       unfolding allBytes recordBytes pairOf
       one-bytes h = ap (pairBytes j) e ∙ sym (append-nil (recordBytes (j, recordValue g a v j))) ∙ sym (ap allBytes (one-record h))
 
--- ---- how many records there can be
+-- ---- where records stand, and how many there can be
 
 module _ {group n1 n2 n3 : ℕ} (s : Sizes group n1 n2 n3) where
+  pub first-half : {h : ℕ} → h ≤ n1 / 2 → h < n1
+  first-half l = omega (arith, s .first .low)
+
   pub cell-places : placesOf (halvesOf n1 n2 n3) ≡ cellFrom n3 n2 0 n1
   cell-places =
       let x : 2 * (n1 / 2) ≡ n1 = omega (arith, s .first .even) in
@@ -110,6 +122,14 @@ module _ {group n1 n2 n3 : ℕ} (s : Sizes group n1 n2 n3) where
       λ i. cellFrom (z i) (y i) 0 (x i)
 
   module _ (v : List ℕ) where
+    -- places beyond N1/2 give no records
+    pub upper-records : NoneBeyond (recordsAt (groupOf group) (halvesOf n1 n2 n3) v) n1 (n1 / 2)
+    upper-records j u l = not-lowest-none (groupOf group) (halvesOf n1 n2 n3) v j (upper-not-lowest (groupOf group) (halvesOf n1 n2 n3) j u (omega (arith, s .first .even)))
+
+    pub upper-bytes : NoneBeyond (bytesAt (groupOf group) (halvesOf n1 n2 n3) v) n1 (n1 / 2)
+    unfolding allBytes
+    upper-bytes j u l = ap allBytes (upper-records j u l)
+
     abbrev count : List J → ℕ
     count places = length (recordsAt (groupOf group) (halvesOf n1 n2 n3) v places)
 

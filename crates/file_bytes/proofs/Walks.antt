@@ -12,7 +12,7 @@ use Rattle.cell.specs.Operations.{tripleOf}
 use Rattle.file_bytes.specs.Stores.{Room, Put}
 use Rattle.file_bytes.specs.Steps.{placesFrom, Next}
 use Rattle.file_bytes.proofs.Stores.{put-none, put-then, put-as, put-length}
-use Rattle.file_bytes.proofs.Places.{Spreads, from-beyond, plane-start, here, on-line, on-plane, in-cell}
+use Rattle.file_bytes.proofs.Places.{Spreads, NoneBeyond, plane-start, here, on-line, on-plane, in-cell, from-none}
 
 -- ---- the place after one, as the code finds it
 
@@ -70,8 +70,8 @@ module _ {A : Type 0} {R : List J → List A} (s : Spreads R) {n1 n2 n3 count r 
   pub counting-most : j .h < n1 → count + r ≤ length (R (cellFrom n3 n2 0 n1))
   counting-most a = omega (arith, c .left, e, lengths s (tripleOf j) _ _ (here n1 n2 n3 (j .h) (j .k) (j .l) a (c .k) (c .l)))
 
-pub counting-done : {A : Type 0} {R : List J → List A} → Spreads R → {n1 n2 n3 count : ℕ} {j : Index} → Counting R n1 n2 n3 count j → n1 ≤ j .h → count ≡ length (R (cellFrom n3 n2 0 n1))
-counting-done {R = R} s {n1} {n2} {n3} {j = j} c h = omega (arith, c .left, ap length (ap R (from-beyond n1 n2 n3 (tripleOf j) h) ∙ s .nil))
+pub counting-done : {A : Type 0} {R : List J → List A} → Spreads R → {n1 n2 n3 count m : ℕ} → NoneBeyond R n1 m → {j : Index} → Counting R n1 n2 n3 count j → m < j .h → count ≡ length (R (cellFrom n3 n2 0 n1))
+counting-done s {n1} {n2} {n3} none {j} c h = omega (arith, c .left, ap length (from-none s n1 n2 n3 none (tripleOf j) h))
 
 -- ---- a loop that stores
 
@@ -101,5 +101,5 @@ module _ {R : List J → List ℕ} (s : Spreads R) {n1 n2 n3 start at : ℕ} {be
   pub putting-room : {l : List ℕ} → j .h < n1 → R (cellFrom n3 n2 0 n1) ≡ l → Room start (length l) before → Room at (length (R (tripleOf j ∷ []))) after
   putting-room a f r = omega (arith, r, c .place, c .same, ap length f, lengths s (tripleOf j) _ _ (here n1 n2 n3 (j .h) (j .k) (j .l) a (c .k) (c .l)))
 
-  pub putting-done : {l : List ℕ} → n1 ≤ j .h → R (cellFrom n3 n2 0 n1) ≡ l → Put start l before at after
-  putting-done h f = put-as (c .goes at after (put-as (put-none at after) (sym (ap R (from-beyond n1 n2 n3 (tripleOf j) h) ∙ s .nil)))) f
+  pub putting-done : {l : List ℕ} {m : ℕ} → NoneBeyond R n1 m → m < j .h → R (cellFrom n3 n2 0 n1) ≡ l → Put start l before at after
+  putting-done none h f = put-as (c .goes at after (put-as (put-none at after) (sym (from-none s n1 n2 n3 none (tripleOf j) h)))) f

@@ -1,5 +1,5 @@
 // The records of a volume of packed factors, counted and written: one for each orbit whose factor is not zero, at its lowest
-// place, by rising h, k, l. Counting and writing each go over all places of the cell.
+// place, by rising h, k, l. Counting and writing each go over the places up to h = N1/2: beyond, the Friedel mate comes before.
 use crate::bytes;
 use cell::operations::Index;
 use numbers::Pair;
@@ -8,37 +8,25 @@ ghost use mathlib.Core.List.{[], _∷_};
 ghost use Prim.Native.Nat.{ℕ, _<_};
 ghost use lib.ListN.{length};
 ghost use Rattle.algebra.specs.CellTests.{placesOf};
-ghost use Rattle.numbers.specs.Value.{pairOf};
 ghost use Rattle.cell.specs.Volume.{groupOf};
 ghost use Rattle.cell.specs.Operations.{halvesOf, tripleOf, Within};
 ghost use Rattle.file_layout.specs.Bytes.{allBytes};
 ghost use Rattle.file_bytes.specs.Records.{recordsAt};
 ghost use Rattle.file_bytes.specs.Stores.{Room, Put};
-ghost use Rattle.file_bytes.specs.Steps.{IsFactors, recordValue, pairBytes, Next};
+ghost use Rattle.file_bytes.specs.Steps.{IsFactors, pairBytes, Next};
 
 // ---- one place
-
-// The factor that a record at j would give: where j is no lowest place of an orbit, zero, which no record has.
-fn record_value(group: u32, n1: u32, n2: u32, n3: u32, j: Index, volume: &[u32]) -> Pair
-    requires { ⌜ IsFactors group n1 n2 n3 (now volume) × Within n1 n2 n3 j ⌝ }
-    ensures { λ r. ⌜ r ≡ pairOf (recordValue (groupOf group) (halvesOf n1 n2 n3) (now (volume .entry)) (tripleOf j)) ⌝ }
-{
-    if orbits::lowest(group, n1, n2, n3, j) {
-        readings::factor_at(1, group, n1, n2, n3, j, volume)
-    } else {
-        Pair { re: 0, im: 0 }
-    }
-}
 
 // How many records the place j has: one or none.
 fn count_place(group: u32, n1: u32, n2: u32, n3: u32, j: Index, volume: &[u32]) -> usize
     requires { ⌜ IsFactors group n1 n2 n3 (now volume) × Within n1 n2 n3 j ⌝ }
     ensures { λ r. ⌜ r ≡ length (recordsAt (groupOf group) (halvesOf n1 n2 n3) (now (volume .entry)) (tripleOf j ∷ [])) ⌝ }
 {
-    if stored::is_zero(record_value(group, n1, n2, n3, j, volume)) {
-        0
+    if orbits::lowest(group, n1, n2, n3, j) {
+        let x = readings::factor_at(1, group, n1, n2, n3, j, volume);
+        if stored::is_zero(x) { 0 } else { 1 }
     } else {
-        1
+        0
     }
 }
 
@@ -69,11 +57,15 @@ fn put_place(
     requires { ⌜ Room at (length (allBytes (recordsAt (groupOf group) (halvesOf n1 n2 n3) (now volume) (tripleOf j ∷ [])))) (now out) ⌝ }
     ensures { λ r. ⌜ Put at (allBytes (recordsAt (groupOf group) (halvesOf n1 n2 n3) (now (volume .entry)) (tripleOf j ∷ []))) (now (out .entry)) r (now (out .exit)) ⌝ }
 {
-    let x = record_value(group, n1, n2, n3, j, volume);
-    if stored::is_zero(x) {
-        at
+    if orbits::lowest(group, n1, n2, n3, j) {
+        let x = readings::factor_at(1, group, n1, n2, n3, j, volume);
+        if stored::is_zero(x) {
+            at
+        } else {
+            put_record(j, x, out, at)
+        }
     } else {
-        put_record(j, x, out, at)
+        at
     }
 }
 
@@ -111,7 +103,7 @@ pub fn count_records(group: u32, n1: u32, n2: u32, n3: u32, volume: &[u32]) -> u
 {
     let mut count: usize = 0;
     let mut j = Index { h: 0, k: 0, l: 0 };
-    while j.h < n1 {
+    while j.h <= n1 / 2 {
         count += count_place(group, n1, n2, n3, j, volume);
         j = next_place(n2, n3, j);
     }
@@ -133,7 +125,7 @@ pub fn put_records(
 {
     let mut at = start;
     let mut j = Index { h: 0, k: 0, l: 0 };
-    while j.h < n1 {
+    while j.h <= n1 / 2 {
         at = put_place(group, n1, n2, n3, j, volume, out, at);
         j = next_place(n2, n3, j);
     }

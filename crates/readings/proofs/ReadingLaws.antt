@@ -59,17 +59,22 @@ beyond-numbers a j i n b = by-group (λ g. span g (a .2) ≤ j .2 → Beyond a j
     glide true = inl refl
     glide false = inr refl
 
+-- the line's own operation changes the sign of l alone
+pub line-image : (a j : J) → Inside a j → (n : ℕ) → n < 5 → span (groupOf n) (a .2) ≤ j .2 → (j .0, j .1, flip true (a .2) (j .2)) ≡ im a (lineSym (groupOf n)) j
+unfolding span im flip
+line-image a j i = by-group (λ g. span g (a .2) ≤ j .2 → (j .0, j .1, flip true (a .2) (j .2)) ≡ im a (lineSym g) j) (λ s. absurd (omega (arith, i .2))) (λ s. refl) (λ s. refl) (λ s. refl) (λ s. refl)
+
 -- the same of the image as the code finds it
-pub beyond-image : (a j i : J) → Inside a j → (n : ℕ) → n < 5 → {s : Sym} → s ≡ lineSym (groupOf n) → i ≡ im a s j → {q : ℕ} → q ≡ span (groupOf n) (a .2) → q ≤ j .2
+pub beyond-image : (a j i : J) → Inside a j → (n : ℕ) → n < 5 → i ≡ im a (lineSym (groupOf n)) j → span (groupOf n) (a .2) ≤ j .2
     → (lineNumbersAt (groupOf n) a i ≡ lineNumbersAt (groupOf n) a j) × (i .1 ≡ j .1) × (i .2 < span (groupOf n) (a .2))
-beyond-image a j i inside n b e f p l = subst
+beyond-image a j i inside n b e l = subst
     (λ i. (lineNumbersAt (groupOf n) a i ≡ lineNumbersAt (groupOf n) a j) × (i .1 ≡ j .1) × (i .2 < span (groupOf n) (a .2)))
-    (sym (f ∙ ap (λ s. im a s j) e)) (beyond-numbers a j inside n b (subst (λ q. q ≤ j .2) p l))
+    (sym e) (beyond-numbers a j inside n b l)
 
 -- a factor from the other half is what the line's own operation implies
-pub beyond-value : (a : J) (m : ℕ) (v : List ℕ) (j i : J) → Inside a j → (n : ℕ) {s : Sym} → s ≡ lineSym (groupOf n) → i ≡ im a s j → {q : ℕ} → q ≡ span (groupOf n) (a .2) → q ≤ j .2
+pub beyond-value : (a : J) (m : ℕ) (v : List ℕ) (j i : J) → Inside a j → (n : ℕ) {s : Sym} → s ≡ lineSym (groupOf n) → i ≡ im a (lineSym (groupOf n)) j → span (groupOf n) (a .2) ≤ j .2
     → {x y : Pair} → x ≡ pairOf (lineFactor (groupOf n) a m v i) → y ≡ pairOf (imp (field m) (conj m) s j (valueOf m x)) → y ≡ pairOf (lineFactor (groupOf n) a m v j)
-beyond-value a m v j i n b e f p l x y = y ∙ ap pairOf (ap₂ (λ s z. imp (field m) (conj m) s j z) e (value-by m _ x ∙ ap (lineFactor (groupOf b) a m v) (f ∙ ap (λ s. im a s j) e)) ∙ sym (line-beyond (groupOf b) a m v j n (subst (λ q. q ≤ j .2) p l)))
+beyond-value a m v j i inside n e f l x y = y ∙ ap pairOf (ap₂ (λ s z. imp (field m) (conj m) s j z) e (value-by m _ x ∙ ap (lineFactor (groupOf n) a m v) f) ∙ sym (line-beyond (groupOf n) a m v j inside l))
 
 -- ---- the column
 

@@ -41,6 +41,13 @@ pub fn is_zero(x: Pair) -> bool
     (x.re == 0) & (x.im == 0)
 }
 
+// The pair of an alternating line that l is read from: l = 0 and l = A share pair 0.
+fn alternating_pair(half: u32, l: u32) -> u32
+    ensures { λ r. ⌜ (l ≡ half → r ≡ 0) × ((l ≡ half → ⊥) → r ≡ l) ⌝ }
+{
+    if l == half { 0 } else { l }
+}
+
 // The factor at a stored index of an alternating line, as it is stored: at l = 0 and at l = A one number of pair 0, real at l = 0 and at an
 // even A, imaginary at an odd A; else a pair.
 fn alternating_factor(n1: u32, n2: u32, n3: u32, volume: &[u32], j: Index) -> Pair
@@ -48,18 +55,17 @@ fn alternating_factor(n1: u32, n2: u32, n3: u32, volume: &[u32], j: Index) -> Pa
     ensures { λ r. ⌜ ((m : ℕ) → allBelowAt (prime m) (now (volume .entry)) (lineNumbersAt P2₁ (halvesOf n1 n2 n3) (tripleOf j)) ≡ true → r ≡ pairOf (storedFactor P2₁ (halvesOf n1 n2 n3) m (now (volume .entry)) (tripleOf j))) ⌝ }
 {
     let half = n3 / 2;
+    let x = pair_at(n1, n2, volume, alternating_pair(half, j.l), j.h, j.k);
     if j.l == 0 {
-        let x = pair_at(n1, n2, volume, 0, j.h, j.k);
         Pair { re: x.re, im: 0 }
     } else if j.l == half {
-        let x = pair_at(n1, n2, volume, 0, j.h, j.k);
         if half % 2 == 0 {
             Pair { re: x.im, im: 0 }
         } else {
             Pair { re: 0, im: x.im }
         }
     } else {
-        pair_at(n1, n2, volume, j.l, j.h, j.k)
+        x
     }
 }
 

@@ -1,4 +1,4 @@
--- The places before j are counted.
+-- The places before j are counted; none beyond N1/2 has a record.
 use native.Mathlib.Omega.{arith}
 use mathlib.Core.Path.{sym, _∙_, ap}
 use mathlib.Core.List.{List}
@@ -11,7 +11,7 @@ use Rattle.file_bytes.specs.Records.{recordsAt}
 use Rattle.file_bytes.specs.Steps.{placesFrom, Next}
 use Rattle.file_bytes.proofs.Places.{Spreads}
 use Rattle.file_bytes.proofs.Walks.{Counting, counting-start, counting-next, counting-most, counting-done, fewer}
-use Rattle.file_bytes.proofs.RecordLaws.{volume-records, cell-places, cell-few}
+use Rattle.file_bytes.proofs.RecordLaws.{volume-records, cell-places, cell-few, first-half, upper-records}
 use Rattle.file_bytes.proofs.records.count_records.Statement.{statement}
 use Rattle.file_bytes.proofs.records.count_records.Tie as tie
 
@@ -37,14 +37,14 @@ loop-holds c =
 count-place-requires : tie.Need-count-place-requires Inv-loop μ-loop
 count-place-requires c κs =
     let l = c .before .before in
-    (l .before .before .pre, record { h = c .if1 .taken; k = l .loop .inv .k; l = l .loop .inv .l })
+    (l .before .before .pre, record { h = first-half (l .before .before .pre .volume .sizes) (c .if1 .taken); k = l .loop .inv .k; l = l .loop .inv .l })
 
 add-count : tie.Need-add-count Inv-loop μ-loop
 add-count c =
     let t = c .before in
     let l = t .before .before in
     let s = l .before .before in
-    omega (arith, counting-most (spread s) (l .loop .inv) (c .count-place .ensures) (t .if1 .taken), cell-few (s .pre .volume .sizes) (s .args .volume .now))
+    omega (arith, counting-most (spread s) (l .loop .inv) (c .count-place .ensures) (first-half (s .pre .volume .sizes) (t .if1 .taken)), cell-few (s .pre .volume .sizes) (s .args .volume .now))
 
 next-place-requires : tie.Need-next-place-requires Inv-loop μ-loop
 next-place-requires c κs =
@@ -54,7 +54,10 @@ next-place-requires c κs =
 
 -- the place after j
 next : (c : tie.After-next-place Inv-loop μ-loop) → let l = c .before .before .before .before in Next (l .before .before .args .n1) (l .before .before .args .n2) (l .before .before .args .n3) (l .loop .j) (c .next-place .result)
-next c = let t = c .before .before in c .next-place .ensures (t .before .before .before .before .args .n1) (t .if1 .taken)
+next c =
+    let t = c .before .before in
+    let s = t .before .before .before .before in
+    c .next-place .ensures (s .args .n1) (first-half (s .pre .volume .sizes) (t .if1 .taken))
 
 loop-less : tie.Need-loop-less Inv-loop μ-loop
 loop-less c = fewer (next c)
@@ -69,7 +72,7 @@ returns : tie.Need-returns Inv-loop μ-loop
 returns c =
     let l = c .before .before in
     let s = l .before .before in
-    counting-done (spread s) (l .loop .inv) (c .if1 .left) ∙ ap (λ t. length (records s t)) (sym (cell-places (s .pre .volume .sizes)))
+    counting-done (spread s) (upper-records (s .pre .volume .sizes) (s .args .volume .now)) (l .loop .inv) (c .if1 .left) ∙ ap (λ t. length (records s t)) (sym (cell-places (s .pre .volume .sizes)))
 
 pub count-records-spec : {M : Type 1} → statement M
 count-records-spec =

@@ -1,4 +1,4 @@
--- The places before j are stored.
+-- The places before j are stored; none beyond N1/2 has a record.
 use native.Mathlib.Omega.{arith}
 use mathlib.Core.Path.{_≡_, sym, ap}
 use mathlib.Core.List.{List}
@@ -11,7 +11,7 @@ use Rattle.cell.specs.Operations.{halvesOf, tripleOf}
 use Rattle.file_bytes.specs.Steps.{placesFrom, Next}
 use Rattle.file_bytes.proofs.Places.{Spreads}
 use Rattle.file_bytes.proofs.Walks.{Putting, putting-start, putting-next, putting-room, putting-done, fewer}
-use Rattle.file_bytes.proofs.RecordLaws.{bytesAt, volume-bytes, cell-places}
+use Rattle.file_bytes.proofs.RecordLaws.{bytesAt, volume-bytes, cell-places, first-half, upper-bytes}
 use Rattle.file_bytes.proofs.records.put_records.Statement.{statement}
 use Rattle.file_bytes.proofs.records.put_records.Tie as tie
 
@@ -43,7 +43,8 @@ put-place-requires c κs =
     let t = c .before in
     let l = t .before .before in
     let s = l .before .before .before in
-    ((s .pre .0, record { h = t .if1 .taken; k = l .loop .inv .k; l = l .loop .inv .l }), putting-room (spread s) (l .loop .inv) (t .if1 .taken) (whole s) (s .pre .1))
+    let h = first-half (s .pre .0 .volume .sizes) (t .if1 .taken) in
+    ((s .pre .0, record { h = h; k = l .loop .inv .k; l = l .loop .inv .l }), putting-room (spread s) (l .loop .inv) h (whole s) (s .pre .1))
 
 next-place-requires : tie.Need-next-place-requires Inv-loop μ-loop
 next-place-requires c κs =
@@ -53,7 +54,10 @@ next-place-requires c κs =
 
 -- the place after j
 next : (c : tie.After-next-place Inv-loop μ-loop) → let l = c .before .before .before .before .before .before .before in Next (l .before .before .before .args .n1) (l .before .before .before .args .n2) (l .before .before .before .args .n3) (l .loop .j) (c .next-place .result)
-next c = let t = c .before .before .before .before .before in c .next-place .ensures (t .before .before .before .before .before .args .n1) (t .if1 .taken)
+next c =
+    let t = c .before .before .before .before .before in
+    let s = t .before .before .before .before .before in
+    c .next-place .ensures (s .args .n1) (first-half (s .pre .0 .volume .sizes) (t .if1 .taken))
 
 loop-less : tie.Need-loop-less Inv-loop μ-loop
 loop-less c = fewer (next c)
@@ -71,7 +75,7 @@ returns : tie.Need-returns Inv-loop μ-loop
 returns c =
     let l = c .before .before in
     let s = l .before .before .before in
-    putting-done (spread s) (l .loop .inv) (c .if1 .left) (whole s)
+    putting-done (spread s) (l .loop .inv) (upper-bytes (s .pre .0 .volume .sizes) (s .args .volume .now)) (c .if1 .left) (whole s)
 
 pub put-records-spec : {M : Type 1} → statement M
 put-records-spec =

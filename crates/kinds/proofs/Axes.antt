@@ -1,24 +1,21 @@
 -- The laws of every admitted length N = 2 A, where d = 1440 / A: e(1/N) is the power d of the root, and every d-th number of a table of half tangents is one of its own.
-use mathlib.Core.Path.{_≡_, refl, sym, _∙_, ap, subst}
+use mathlib.Core.Path.{_≡_, refl, sym, _∙_, ap}
 use mathlib.Core.List.{List, [], _∷_}
-use Prim.Native.Nat.{ℕ, zero, suc, _+_, _*_, _/_, _<_}
+use Prim.Native.Nat.{ℕ, _*_, _/_, _<_}
 use native.Mathlib.Nat as N
 use native.Mathlib.Omega.{arith}
-use native.Mathlib.Decide.{decLt}
-use Rattle.algebra.specs.Ring.{Ops, pow, cast}
-use Rattle.algebra.specs.Fourier.{Root}
+use Rattle.algebra.specs.Ring.{Ops, pow}
 use Rattle.algebra.specs.Axis.{AxisLaws}
-use Rattle.algebra.proofs.Laws.{pow-add}
-use Rattle.algebra.proofs.Solver.{ring, quote, linear}
+use Rattle.algebra.proofs.Solver.{ring, quote}
 use Rattle.algebra.proofs.StarRules.{quote-star}
-use Rattle.algebra.proofs.Transform.{pow-mul, root-of}
+use Rattle.algebra.proofs.Transform.{pow-mul}
 use Rattle.algebra.proofs.Conj.{conj-pow}
 use Rattle.numbers.specs.Prime.{IsModulus}
 use Rattle.numbers.specs.Value.{Value, field, conj, i, real, half, part}
 use Rattle.root.specs.Root.{root, tableRoot, TangentLaws, BackwardTangents}
 use Rattle.numbers.proofs.Values.{field-ring, field-star, conj-real}
-use Rattle.numbers.proofs.Parts.{part-law, half-law}
-use Rattle.root.proofs.Roots.{root-of-unity, half-turn}
+use Rattle.prime_shape.proofs.Lines as Lines
+use Rattle.root.proofs.Roots.{shape}
 use Rattle.folds.specs.Frame.{lineRoot, tangent}
 use Rattle.kinds.specs.Transform.{rootOf, axisOf}
 
@@ -50,17 +47,10 @@ module _ (m : ℕ) (is : IsModulus m) (A : ℕ) (pos : 0 < A) (divides : A * (14
 
   root-is : rootOf m (2 * A) ≡ w
   unfolding rootOf
-  root-is = ap (pow (field m) (root m)) (N.div-eq-of-eq-mul-left (omega arith) (omega arith))
-
-  step-pos : 0 < d
-  step-pos = go d divides
-    where
-      go : (d : ℕ) → A * d ≡ 1440 → 0 < d
-      go zero e = absurd (omega arith)
-      go (suc d) e = omega arith
+  root-is = Lines.root-is (shape m) A pos divides
 
   below : (s : ℕ) → s < A → d * s < 1440
-  below s l = omega (arith, N.mul-lt-mul-of-pos-left l step-pos)
+  below s l = omega (arith, N.mul-lt-mul-of-pos-left l (Lines.step-pos (shape m) A pos divides))
 
   -- every power of w is one of the root
   power : (s : ℕ) → pow (field m) (root m) (d * s) ≡ pow (field m) w s
@@ -69,59 +59,21 @@ module _ (m : ℕ) (is : IsModulus m) (A : ℕ) (pos : 0 < A) (divides : A * (14
   conj-power : (s : ℕ) → conj m (pow (field m) (conj m (root m)) (d * s)) ≡ pow (field m) w s
   conj-power s = conj-pow (field-ring m) (field-star m) (conj m (root m)) (d * s) ∙ ap (λ y. pow (field m) y (d * s)) (field-star m .conj-conj (root m)) ∙ power s
 
-  order : Root (field m) (2 * A) w (conj m w) (real m (part m (2 * A)))
-  order = record {
-    inverse = ap (λ y. w ⊗ y) (conj-pow (field-ring m) (field-star m) (root m) d) ∙ u .inverse;
-    cycle = u .cycle;
-    apart = u .apart;
-    part-of = part-law m (2 * A) d (omega arith);
-  }
-    where
-      u : Root (field m) (2 * A) w (pow (field m) (conj m (root m)) d) (real m (part m 2880) ⊗ cast (field m) d)
-      u = root-of (field-ring m) d (2 * A) (root m) (conj m (root m)) (real m (part m 2880)) step-pos (subst (λ n. Root (field m) n (root m) (conj m (root m)) (real m (part m 2880))) (omega arith) (root-of-unity m is))
-
-  turned : pow (field m) w A ≡ ⊖ 𝟙
-  turned = sym (power A) ∙ ap (pow (field m) (root m)) (N.mul-comm d A ∙ divides) ∙ half-turn m is
-
   -- with any half tangents that keep the law of w's powers
   abbrev HalfTangents : (ℕ → Value m) → Type 0
   HalfTangents tau = (s : ℕ) → 0 < s → s < A → (𝟙 ⊕ ⊖ (i m ⊗ tau s)) ⊗ (𝟙 ⊕ pow (field m) w s) ≡ 𝟙 ⊕ 𝟙
 
   axis-by : (tau : ℕ → Value m) → HalfTangents tau → AxisLaws (field m) (conj m) (i m) (real m (half m)) (axisOf m A) tau
-  axis-by tau h = record {
-    positive = pos;
-    root = rw root-is order;
-    turn = ap (λ y. pow (field m) y A) root-is ∙ turned;
-    halves = half-law m;
-    tan = λ s p l. rw root-is (h s p l);
-  }
+  unfolding rootOf half part
+  axis-by tau h = Lines.axis-by (shape m) A pos divides tau (λ s o l. rw root-is (h s o l))
 
-  -- The half tangents that w itself gives, for what is said of a length and of no table: 1 + w^s has an inverse, since w^(A + s) - 1 has one.
-  inverse-at : (s : ℕ) → s < A → (v : Value m) × (v ⊗ (pow (field m) w (A + s) ⊕ ⊖ 𝟙) ≡ 𝟙)
-  inverse-at s l = order .apart (A + s) (omega arith) (omega arith)
-
-  own-at : (s : ℕ) → Dec (s < A) → Value m
-  own-at s (yes l) = let v = inverse-at s l .0 in ⊖ (i m ⊗ (𝟙 ⊕ (v ⊕ v)))
-  own-at s (no n) = 𝟙
-
-  own-law : (s : ℕ) → s < A → (h : Dec (s < A)) → (𝟙 ⊕ ⊖ (i m ⊗ own-at s h)) ⊗ (𝟙 ⊕ pow (field m) w s) ≡ 𝟙 ⊕ 𝟙
-  unfolding own-at
-  own-law s l (no n) = absurd (n l)
-  own-law s l (yes h) = step (i m) (inverse-at s h .0) (pow (field m) w s) (pow (field m) w (A + s)) (inverse-at s h .1) (pow-add (field-ring m) w A s ∙ ap (λ y. y ⊗ pow (field m) w s) turned) (field-star m .i-square)
-    where
-      step : (j v e f : Value m) → v ⊗ (f ⊕ ⊖ 𝟙) ≡ 𝟙 → f ≡ ⊖ 𝟙 ⊗ e → j ⊗ j ≡ ⊖ 𝟙 → (𝟙 ⊕ ⊖ (j ⊗ ⊖ (j ⊗ (𝟙 ⊕ (v ⊕ v))))) ⊗ (𝟙 ⊕ e) ≡ 𝟙 ⊕ 𝟙
-      step j v e f a b c =
-          linear (field-ring m) a (𝟙 ⊕ 𝟙)
-          (linear (field-ring m) b (⊖ (v ⊕ v))
-          (linear (field-ring m) c ((𝟙 ⊕ (v ⊕ v)) ⊗ (𝟙 ⊕ e))
-          (ring (field-ring m) (j ∷ v ∷ e ∷ f ∷ []) (search quote depth 40 fits 9999) refl)))
-
+  -- the half tangents that w itself gives, for what is said of a length and of no table
   pub own : ℕ → Value m
-  own s = own-at s (decLt s A)
+  own = Lines.own (shape m) A pos divides
 
   pub axis-own : AxisLaws (field m) (conj m) (i m) (real m (half m)) (axisOf m A) own
-  unfolding own
-  axis-own = axis-by own (λ s p l. own-law s l (decLt s A))
+  unfolding own rootOf half part
+  axis-own = Lines.axis-by (shape m) A pos divides (Lines.own (shape m) A pos divides) (Lines.own-tangents (shape m) A pos divides)
 
   module _ {tan : List ℕ} where
     pub axis-forward : TangentLaws m tan → AxisLaws (field m) (conj m) (i m) (real m (half m)) (axisOf m A) (tangent m A tan)

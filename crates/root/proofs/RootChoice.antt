@@ -1,7 +1,7 @@
 -- The paper's choice of a: r is ((a + i)/(a - i))^c for a = 14 and a = 4, and for every smaller a one computed test shows that the 720th power is not -i,
 -- or that the 960th is 1 already. With X = (a + i)^c the candidate is X over the conjugate of X, so the test computes no quotient.
 use mathlib.Core.Path.{_≡_, refl, sym, _∙_, ap, ap₂, subst}
-use mathlib.Core.Bool.{Bool, not, _||_}
+use mathlib.Core.Bool.{Bool, not, cond, _||_}
 use mathlib.Core.List.{[], _∷_}
 use Prim.Native.Nat.{ℕ, zero, suc, _+_, _-_, _%_, _≤_, _<_}
 use native.Mathlib.Nat as N
@@ -21,38 +21,33 @@ use Rattle.algebra.proofs.PowerTable.{power-then, power-is}
 use Rattle.numbers.specs.Prime.{prime, exponent, IsModulus}
 use Rattle.numbers.specs.Value.{Value, Residue, field, conj, i, res, value, real}
 use Rattle.numbers.specs.Value as Value
-use Rattle.root.specs.Root.{choice, root, Candidate, Suits, LeastChoice}
-use Rattle.numbers.proofs.Primes.{prime-least}
+use Rattle.prime_shape.specs.Shape.{Candidate, Suits, LeastChoice}
+use Rattle.root.specs.Root.{choice, root}
+use Rattle.numbers.proofs.Primes.{prime-least, by-choice}
 use Rattle.numbers.proofs.Residues.{res-ring, res-val, val-small}
 use Rattle.numbers.proofs.Values.{value-path, conj-real, field-ring, field-star}
-use Rattle.root.proofs.Roots.{by-numbers, root-order, quarter-turn}
-use Rattle.numbers.proofs.ModulusCases.{by-modulus}
+use Rattle.root.proofs.Roots.{shape}
 
 -- of X = (b + i)^c: X^720 = x + y i with x + y not 0, or X^960 is real
-unfoldable excluded : (m b : ℕ) → Bool
-excluded m b =
-    power-then (prime m) b 1 (exponent m) 1 0
-    (λ u v. power-then (prime m) u v 720 1 0 (λ x y. not (eqb ((x + y) % prime m) 0)) || power-then (prime m) u v 960 1 0 (λ x y. eqb y 0))
+unfoldable excludedBy : (p c b : ℕ) → Bool
+excludedBy p c b =
+    power-then p b 1 c 1 0
+    (λ u v. power-then p u v 720 1 0 (λ x y. not (eqb ((x + y) % p) 0)) || power-then p u v 960 1 0 (λ x y. eqb y 0))
 
-first-excluded : T (below 13 (λ b. excluded 1 (suc b)))
-unfolding below excluded power-then prime exponent
+abbrev excluded : (m b : ℕ) → Bool
+excluded m b = excludedBy (prime m) (exponent m) b
+
+first-excluded : T (below 13 (λ b. excludedBy 86399 30 (suc b)))
+unfolding below excludedBy power-then
 first-excluded = tt
 
-second-excluded : T (below 3 (λ b. excluded 2 (suc b)))
-unfolding below excluded power-then prime exponent
+second-excluded : T (below 3 (λ b. excludedBy 302399 105 (suc b)))
+unfolding below excludedBy power-then
 second-excluded = tt
 
-first-candidate : Candidate 1 (choice 1) (root 1)
-unfolding prime exponent choice root residue residues gauss Gauss.imag pow
-first-candidate = record { inverse = value 1 14473 56576; inverts = by-numbers refl refl; power = by-numbers refl refl }
-
-second-candidate : Candidate 2 (choice 2) (root 2)
-unfolding prime exponent choice root residue residues gauss Gauss.imag pow
-second-candidate = record { inverse = value 2 177882 195670; inverts = by-numbers refl refl; power = by-numbers refl refl }
-
-tested : (m : ℕ) → IsModulus m → T (below (choice m - 1) (λ b. excluded m (suc b)))
-unfolding choice
-tested = by-modulus (λ m. T (below (choice m - 1) (λ b. excluded m (suc b)))) first-excluded second-excluded
+tested : (m : ℕ) → T (below (choice m - 1) (λ b. excluded m (suc b)))
+unfolding choice prime exponent
+tested m = by-choice (λ c. T (below (cond c 14 4 - 1) (λ b. excludedBy (cond c 86399 302399) (cond c 30 105) (suc b)))) first-excluded second-excluded (eqb m 1)
 
 module _ (m b : ℕ) where
   open Ops (field m) using (add as _⊕_, mul as _⊗_, neg as ⊖_, one as 𝟙)
@@ -84,7 +79,7 @@ module _ (m b : ℕ) where
   isReal P = eqb (P .1 .val) 0
 
   excluded-is : excluded m b ≡ (not (isSkew (X ^ 720)) || isReal (X ^ 960))
-  unfolding excluded
+  unfolding excludedBy
   excluded-is =
       power-is (prime m) b 1 big big _ (exponent m)
       ∙ ap (λ W. f (W .0 .val) (W .1 .val)) (ap (λ y. y ^ exponent m) (sym sum-value))
@@ -116,7 +111,7 @@ module _ (m b : ℕ) where
       none : P .1 ≡ 𝟎
       none = sym (res-val m (P .1)) ∙ ap (res m) e
 
-  module _ {z : Value m} (h : Candidate m b z) where
+  module _ {z : Value m} (h : Candidate (prime m) (exponent m) b z) where
     -- 1/(b - i)^c, where (b - i)^c is the conjugate of X
     abbrev Z : Value m
     Z = h .inverse ^ exponent m
@@ -149,7 +144,7 @@ module _ (m b : ℕ) where
     early : T (isReal (X ^ 960)) → z ^ 960 ≡ 𝟙
     early t = raised 960 ∙ ap (λ y. y ⊗ Z ^ 960) (real-conj (X ^ 960) (eqb→eq ((X ^ 960) .1 .val) 0 t)) ∙ raised-divisor 960
 
-    never : Suits m z → T (excluded m b) → ⊥
+    never : Suits (prime m) z → T (excluded m b) → ⊥
     never s t =
         or-e (not (isSkew (X ^ 720))) (isReal (X ^ 960)) ⊥ (subst T excluded-is t)
         (λ u. T-not (isSkew (X ^ 720)) u (skewed (s .quarter)))
@@ -158,13 +153,9 @@ module _ (m b : ℕ) where
         not-960 : _≡_ {A = ℕ} (960 % 2880) 0 → ⊥
         not-960 e = omega arith
 
-pub least-choice : (m : ℕ) → IsModulus m → LeastChoice m (choice m) (root m)
-least-choice m is = record {
-  candidate = by-modulus (λ m. Candidate m (choice m) (root m)) first-candidate second-candidate m is;
-  suits = record { order = root-order m is; quarter = quarter-turn m is };
-  least = least;
-}
+pub least-choice : (m : ℕ) → LeastChoice (prime m) (exponent m) (choice m) (root m)
+least-choice m = record { candidate = shape m .candidate; suits = shape m .suits; least = least }
   where
-    least : (b : ℕ) → 1 ≤ b → b < choice m → (z : Value m) → Candidate m b z → Suits m z → ⊥
+    least : (b : ℕ) → 1 ≤ b → b < choice m → (z : Value m) → Candidate (prime m) (exponent m) b z → Suits (prime m) z → ⊥
     least zero p l z h s = absurd (omega arith)
-    least (suc b) p l z h s = never m (suc b) h s (below-at (choice m - 1) (λ b. excluded m (suc b)) b (tested m is) (omega arith))
+    least (suc b) p l z h s = never m (suc b) h s (below-at (choice m - 1) (λ b. excluded m (suc b)) b (tested m) (omega arith))

@@ -2,14 +2,15 @@
 use Prim.Native.Nat.{ℕ}
 use Rattle.numbers.specs.Prime.{IsModulus}
 use Rattle.root.specs.Root.{RootLaws}
-use Rattle.root.proofs.Roots.{root-of-unity, half-turn, quarter-turn, root-order, conj-power}
+use Rattle.root.proofs.Roots.{shape, root-of-unity, half-turn, quarter-turn, root-order, conj-power}
 use Rattle.root.proofs.RootPowers.{root-table, table-root, conj-root-table, conj-table-root}
 use Rattle.root.proofs.RootTangents.{tangent-laws, backward-tangents}
 use Rattle.root.proofs.RootChoice.{least-choice}
 
 pub root-laws : (m : ℕ) → IsModulus m → RootLaws m
 root-laws m is = record {
-  choice-is = least-choice m is;
+  shape = shape m;
+  choice-is = least-choice m;
   unity = root-of-unity m is;
   half-turn = half-turn m is;
   quarter-turn = quarter-turn m is;

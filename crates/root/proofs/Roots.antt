@@ -1,105 +1,89 @@
--- The root r of order 2,880 for both moduli. Four facts are computed; the others follow from them, and none needs that p is prime.
-use mathlib.Core.Path.{_≡_, refl, sym, _∙_, ap}
-use mathlib.Core.List.{[], _∷_}
+-- Both primes have the shape. Of each is computed: trial division, ((a + i)/(a - i))^c, r^720 = -i, and that r^1440, r^960 and r^576 are not 1.
+-- Every law of the root follows from the shape alone, for any prime (crate prime_shape).
+use mathlib.Core.Path.{_≡_, refl, sym, ap, subst}
+use mathlib.Core.Bool.{Bool, not, cond}
 use Prim.Native.Nat.{ℕ, _-_, _≤_}
-use native.Mathlib.Omega.{arith}
-use lib.Dec.{lit<}
+use lib.Dec.{T, T-not, eqb}
+use borrow.Author.Tests.{eq-eqb}
 use Rattle.algebra.specs.Ring.{Ops, pow}
 use Rattle.algebra.specs.Residue.{Res, residue, residues}
 use Rattle.algebra.specs.Gauss.{gauss}
 use Rattle.algebra.specs.Gauss as Gauss
 use Rattle.algebra.specs.Fourier.{Root}
-use Rattle.algebra.proofs.Solver.{ring, quote, linear}
 use Rattle.algebra.proofs.ResidueRing.{val-path}
-use Rattle.algebra.proofs.Transform.{pow-mul}
-use Rattle.algebra.proofs.Divisors.{root-2880}
-use Rattle.algebra.proofs.RootOrder.{order-exact}
-use Rattle.algebra.proofs.RootOrder as RootOrder
-use Rattle.numbers.specs.Prime.{prime, IsModulus}
-use Rattle.numbers.specs.Value.{Value, field, conj, i, value, real, half, part}
-use Rattle.root.specs.Root.{root, OrderIs}
-use Rattle.numbers.proofs.Residues.{val-res}
-use Rattle.numbers.proofs.Values.{value-path, field-ring, field-star}
-use Rattle.numbers.proofs.Parts.{part-law, half-law}
-use Rattle.numbers.proofs.ModulusCases.{by-modulus}
+use Rattle.numbers.specs.Prime.{prime, exponent, IsModulus}
+use Rattle.numbers.specs.Value.{Value, field, conj, i, value, real, part}
+use Rattle.prime_shape.specs.Shape.{Candidate, Suits, OrderIs, Shape}
+use Rattle.prime_shape.proofs.TrialDivision.{prime-86399, prime-302399}
+use Rattle.prime_shape.proofs.Orders.{suits-by}
+use Rattle.prime_shape.proofs.Shapes as Shapes
+use Rattle.root.specs.Root.{choice, root}
+use Rattle.numbers.proofs.Primes.{prime-next, by-choice}
+use Rattle.numbers.proofs.Values.{value-path}
 
 -- values are equal by their numbers
-pub by-numbers : {p : ℕ} {x y : Res p × Res p} → x .0 .val ≡ y .0 .val → x .1 .val ≡ y .1 .val → x ≡ y
+by-numbers : {p : ℕ} {x y : Res p × Res p} → x .0 .val ≡ y .0 .val → x .1 .val ≡ y .1 .val → x ≡ y
 by-numbers h k = value-path (val-path h) (val-path k)
 
-record Computed (m : ℕ) : Type 0 where
-  circle : field m .mul (root m) (conj m (root m)) ≡ field m .one
-  quarter : pow (field m) (root m) 720 ≡ field m .neg (i m)
-  third : (v : Value m) × (field m .mul v (field m .add (pow (field m) (root m) 960) (field m .neg (field m .one))) ≡ field m .one)
-  fifth : (v : Value m) × (field m .mul v (field m .add (pow (field m) (root m) 576) (field m .neg (field m .one))) ≡ field m .one)
+-- numbers that are not the same
+differ : (n k : ℕ) → T (not (eqb n k)) → n ≡ k → ⊥
+differ n k t e = T-not (eqb n k) t (subst T (sym (eq-eqb n k e)) tt)
 
-first-computed : Computed 1
-unfolding prime root residue residues gauss Gauss.conj Gauss.imag pow
-first-computed = record {
-  circle = by-numbers refl refl;
-  quarter = by-numbers refl refl;
-  third = (value 1 43199 55460, by-numbers refl refl);
-  fifth = (value 1 43199 57012, by-numbers refl refl);
-}
+first-candidate : Candidate (prime 1) (exponent 1) (choice 1) (root 1)
+unfolding prime exponent choice root residue residues gauss Gauss.imag pow
+first-candidate = record { inverse = value 1 14473 56576; inverts = by-numbers refl refl; power = by-numbers refl refl }
 
-second-computed : Computed 2
-unfolding prime root residue residues gauss Gauss.conj Gauss.imag pow
-second-computed = record {
-  circle = by-numbers refl refl;
-  quarter = by-numbers refl refl;
-  third = (value 2 151199 71910, by-numbers refl refl);
-  fifth = (value 2 151199 104942, by-numbers refl refl);
-}
+first-suits : Suits (prime 1) (root 1)
+unfolding prime root residue residues gauss Gauss.imag pow
+first-suits = suits-by 86399 (prime-86399 .above) (root 1) (by-numbers refl refl) (λ e. differ _ _ tt (ap (λ z. z .0 .val) e)) (λ e. differ _ _ tt (ap (λ z. z .1 .val) e)) (λ e. differ _ _ tt (ap (λ z. z .1 .val) e))
 
--- in any modulus: 0 and 1 differ
-distinct : (m : ℕ) → IsModulus m → field m .zer ≡ field m .one → ⊥
-unfolding residues gauss prime
-distinct m is e = never (sym (val-res m {x = 0} (omega arith)) ∙ ap (λ z. z .0 .val) e ∙ val-res m {x = 1} (omega arith))
-  where
-    never : _≡_ {A = ℕ} 0 1 → ⊥
-    never h = omega arith
+first-shape : Shape (prime 1) (exponent 1) (choice 1) (root 1)
+unfolding prime
+first-shape = record { is-prime = prime-86399; next = prime-next 1; candidate = first-candidate; suits = first-suits }
 
+second-candidate : Candidate (prime 2) (exponent 2) (choice 2) (root 2)
+unfolding prime exponent choice root residue residues gauss Gauss.imag pow
+second-candidate = record { inverse = value 2 177882 195670; inverts = by-numbers refl refl; power = by-numbers refl refl }
+
+second-suits : Suits (prime 2) (root 2)
+unfolding prime root residue residues gauss Gauss.imag pow
+second-suits = suits-by 302399 (prime-302399 .above) (root 2) (by-numbers refl refl) (λ e. differ _ _ tt (ap (λ z. z .0 .val) e)) (λ e. differ _ _ tt (ap (λ z. z .1 .val) e)) (λ e. differ _ _ tt (ap (λ z. z .1 .val) e))
+
+second-shape : Shape (prime 2) (exponent 2) (choice 2) (root 2)
+unfolding prime
+second-shape = record { is-prime = prime-302399; next = prime-next 2; candidate = second-candidate; suits = second-suits }
+
+-- the shape of the prime that m chooses
+pub shape : (m : ℕ) → Shape (prime m) (exponent m) (choice m) (root m)
+unfolding prime exponent choice root
+shape m = by-choice
+    (λ b. Shape (cond b 86399 302399) (cond b 30 105) (cond b 14 4) (residue (cond b 86399 302399) (cond b 125 296865), residue (cond b 86399 302399) (cond b 48584 64524)))
+    first-shape second-shape (eqb m 1)
+
+-- its laws
 module _ (m : ℕ) (is : IsModulus m) where
-  open Ops (field m) using (add as _⊕_, mul as _⊗_, neg as ⊖_, zer as 𝟘, one as 𝟙)
+  open Ops (field m) using (mul as _⊗_, neg as ⊖_, one as 𝟙)
 
-  infixl 65 _⊕_
   infixl 70 _⊗_
   infix 75 ⊖_
-  facts : Computed m
-  facts = by-modulus Computed first-computed second-computed m is
-
   pub root-inverse : root m ⊗ conj m (root m) ≡ 𝟙
-  root-inverse = facts .circle
+  root-inverse = Shapes.circle (shape m)
 
   pub quarter-turn : pow (field m) (root m) 720 ≡ ⊖ i m
-  quarter-turn = facts .quarter
-
-  square : (x : Value m) → pow (field m) x 2 ≡ x ⊗ x
-  unfolding pow
-  square x = ring (field-ring m) (x ∷ []) (search quote depth 40 fits 9999) refl
+  quarter-turn = Shapes.quarter-turn (shape m)
 
   pub half-turn : pow (field m) (root m) 1440 ≡ ⊖ 𝟙
-  half-turn = pow-mul (field-ring m) (root m) 720 2 ∙ square _ ∙ ap (λ y. y ⊗ y) quarter-turn ∙ step (i m) (field-star m .i-square)
-    where
-      step : (x : Value m) → x ⊗ x ≡ ⊖ 𝟙 → (⊖ x) ⊗ (⊖ x) ≡ ⊖ 𝟙
-      step x h = linear (field-ring m) h 𝟙 (ring (field-ring m) (x ∷ []) (search quote depth 40 fits 9999) refl)
+  half-turn = Shapes.half-turn (shape m)
 
   pub full-turn : pow (field m) (root m) 2880 ≡ 𝟙
-  full-turn = pow-mul (field-ring m) (root m) 1440 2 ∙ square _ ∙ ap (λ y. y ⊗ y) half-turn ∙ ring (field-ring m) [] (search quote depth 40 fits 9999) refl
+  full-turn = Shapes.full-turn (shape m)
 
-  -- (-1/2)(r^1440 - 1) = 1
-  opposite : ⊖ real m (half m) ⊗ (pow (field m) (root m) 1440 ⊕ ⊖ 𝟙) ≡ 𝟙
-  opposite = ap (λ y. ⊖ real m (half m) ⊗ (y ⊕ ⊖ 𝟙)) half-turn ∙ step (real m (half m)) (half-law m)
-    where
-      step : (h : Value m) → h ⊗ (𝟙 ⊕ 𝟙) ≡ 𝟙 → ⊖ h ⊗ (⊖ 𝟙 ⊕ ⊖ 𝟙) ≡ 𝟙
-      step h e = linear (field-ring m) e 𝟙 (ring (field-ring m) (h ∷ []) (search quote depth 40 fits 9999) refl)
-
-  -- r, its inverse, 1/2,880, and an inverse of r^k - 1 for 0 < k < 2,880
   pub root-of-unity : Root (field m) 2880 (root m) (conj m (root m)) (real m (part m 2880))
-  root-of-unity = root-2880 (field-ring m) (root m) (conj m (root m)) (real m (part m 2880)) _ _ _ root-inverse full-turn (part-law m 2880 1 refl) opposite (facts .third .1) (facts .fifth .1)
+  unfolding part
+  root-of-unity = Shapes.root-of-unity (shape m)
 
-  pub root-order : OrderIs m 2880 (root m)
-  root-order = record { cycle = full-turn; only = order-exact (field-ring m) 2880 (root m) _ _ (lit< tt) root-of-unity (distinct m is) }
+  pub root-order : OrderIs (prime m) 2880 (root m)
+  root-order = shape m .suits .order
 
   pub conj-power : (k : ℕ) → k ≤ 2880 → conj m (pow (field m) (root m) k) ≡ pow (field m) (root m) (2880 - k)
-  conj-power k h = RootOrder.conj-power (field-ring m) (field-star m) 2880 (root m) _ root-of-unity k h
+  conj-power = Shapes.conj-power (shape m)

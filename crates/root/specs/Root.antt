@@ -1,22 +1,25 @@
 -- The root r of order 2,880: how the paper chooses it, what the tables of its powers and half tangents hold, and the laws that the transforms use.
 use mathlib.Core.Path.{_≡_}
 use mathlib.Core.Logic.{_⊎_}
+use mathlib.Core.Bool.{cond}
 use mathlib.Core.List.{List}
-use Prim.Native.Nat.{ℕ, _+_, _*_, _-_, _%_, _≤_, _<_}
+use Prim.Native.Nat.{ℕ, _-_, _≤_, _<_}
+use lib.Dec.{eqb}
 use lib.ListN.{length, getD}
 use Rattle.algebra.specs.Ring.{Ops, pow}
 use Rattle.algebra.specs.Fourier.{Root}
+use Rattle.prime_shape.specs.Shape.{OrderIs, LeastChoice, Shape}
 use Rattle.numbers.specs.declared.Pair.{Pair}
 use Rattle.numbers.specs.Prime.{prime, exponent}
 use Rattle.numbers.specs.Value.{Value, Residue, value, ring, field, conj, i, res, real, half, part, pairOf}
 
 -- the paper's least a in r = ((a + i)/(a - i))^c
 unfoldable pub choice : ℕ → ℕ
-choice m = 14 - 10 * (m - 1)
+choice m = cond (eqb m 1) 14 4
 
 -- ((a + i)/(a - i))^c for the least a that the paper's rule allows
 unfoldable pub root : (m : ℕ) → Value m
-root m = value m (125 + 296740 * (m - 1)) (48584 + 15940 * (m - 1))
+root m = value m (cond (eqb m 1) 125 296865) (cond (eqb m 1) 48584 64524)
 
 -- place k of the tables is the real and the imaginary part of r^k
 pub record RealTable (m : ℕ) (t : List ℕ) : Type 0 where
@@ -67,28 +70,6 @@ module _ (m : ℕ) where
   abbrev _^_ : Value m → ℕ → Value m
   z ^ k = pow (field m) z k
 
-  -- z has order exactly n: z^n = 1, and a power of z is 1 only where n divides the exponent
-  pub record OrderIs (n : ℕ) (z : Value m) : Type 0 where
-    pub cycle : z ^ n ≡ 𝟙
-    pub only : (k : ℕ) → z ^ k ≡ 𝟙 → k % n ≡ 0
-
-  -- z is ((a + i)/(a - i))^c
-  pub record Candidate (a : ℕ) (z : Value m) : Type 0 where
-    pub inverse : Value m
-    pub inverts : (real m (res m a) ⊕ ⊖ i m) ⊗ inverse ≡ 𝟙
-    pub power : z ≡ ((real m (res m a) ⊕ i m) ⊗ inverse) ^ (exponent m)
-
-  -- what the paper asks of the root
-  pub record Suits (z : Value m) : Type 0 where
-    pub order : OrderIs 2880 z
-    pub quarter : z ^ 720 ≡ ⊖ i m
-
-  -- r is ((a + i)/(a - i))^c for the least a from 1 upward for which that suits
-  pub record LeastChoice (a : ℕ) (r : Value m) : Type 0 where
-    pub candidate : Candidate a r
-    pub suits : Suits r
-    pub least : (b : ℕ) → 1 ≤ b → b < a → (z : Value m) → Candidate b z → Suits z → ⊥
-
   -- the half tangent at place k
   abbrev tau : List ℕ → ℕ → Residue m
   tau t k = res m (getD t k 0)
@@ -106,11 +87,12 @@ module _ (m : ℕ) where
 
   -- everything that is proved of the root
   pub record RootLaws : Type 0 where
-    pub choice-is : LeastChoice (choice m) (root m)
+    pub shape : Shape (prime m) (exponent m) (choice m) (root m)
+    pub choice-is : LeastChoice (prime m) (exponent m) (choice m) (root m)
     pub unity : Root (field m) 2880 (root m) (conj m (root m)) (real m (part m 2880))
     pub half-turn : root m ^ 1440 ≡ ⊖ 𝟙
     pub quarter-turn : root m ^ 720 ≡ ⊖ i m
-    pub order : OrderIs 2880 (root m)
+    pub order : OrderIs (prime m) 2880 (root m)
     pub conjugate : (k : ℕ) → k ≤ 2880 → conj m (root m ^ k) ≡ root m ^ (2880 - k)
     pub table : (re im : List ℕ) → RealTable m re → ImaginaryTable m im → RootTable m re im × (tableRoot m re im ≡ root m)
     pub backward : (re im u : List ℕ) → RealTable m re → ImaginaryTable m im → NegatedTable m 2880 im u → RootTable m re u × (tableRoot m re u ≡ conj m (root m))

@@ -1,0 +1,5 @@
+pub mod TrialDivision
+pub mod Inverses
+pub mod Orders
+pub mod Shapes
+pub mod Lines

@@ -8,13 +8,13 @@ use Rattle.algebra.proofs.Laws.{pow-add, mul-one, neg-one-mul}
 use Rattle.algebra.proofs.Transform.{pow-zero, pow-suc, pow-mul, sign-even}
 use Rattle.numbers.specs.declared.Pair.{Pair}
 use Rattle.numbers.specs.Value.{Value, field, i, res, real, pairOf}
-use Rattle.root.specs.Root.{entryAt, tableRoot, RootTable}
+use Rattle.roots.specs.Root.{entryAt, tableRoot, RootTable}
 use Rattle.numbers.proofs.Values.{field-ring}
 use Rattle.butterflies.specs.Outer.{outerAt}
 use Rattle.butterflies.specs.Butterfly.{Butterfly, evenPart, oddPart}
 use Rattle.butterflies.proofs.Cases.{below-2, below-3, below-4, below-5}
 use Rattle.butterflies.proofs.OuterSums.{outer-powers, two-0, two-1, three-0, three-1, three-2, four-0, four-1, four-2, four-3, five-0, five-1, five-2, five-3, five-4}
-use Rattle.quarter_turns.proofs.Turns.{half-turn, power-parts, mate-parts}
+use Rattle.butterflies.proofs.quarter_turns.Turns.{half-turn, power-parts, mate-parts}
 
 module _ (m : ℕ) where
   open Ops (field m) using (add as _⊕_, mul as _⊗_, neg as ⊖_, one as 𝟙)

@@ -3,8 +3,8 @@ use Prim.Native.Nat.{ℕ, _<_}
 use native.Mathlib.Omega.{arith}
 use Rattle.numbers.specs.declared.Accumulator.{Accumulator}
 use Rattle.numbers.specs.Accumulator.{Accumulated}
-use Rattle.unreduced.specs.Unreduced.{meant, Room}
-use Rattle.unreduced.proofs.Unreduced.{counted-one, rooms}
+use Rattle.numbers.specs.Unreduced.{meant, Room}
+use Rattle.numbers.proofs.unreduced.Unreduced.{counted-one, rooms}
 use Rattle.butterflies.specs.Butterfly.{AllRoom}
 
 module _ {B : ℕ} {x : ℕ → Accumulator} (h : AllRoom B x) (b : ℕ) (l : b < B) where

@@ -6,7 +6,7 @@ use Rattle.numbers.specs.declared.Pair.{Pair}
 use Rattle.numbers.specs.declared.Accumulator.{Accumulator}
 use Rattle.numbers.specs.Value.{Value, field, i, res, real, pairOf}
 use Rattle.butterflies.specs.Outer.{outerAt}
-use Rattle.unreduced.specs.Unreduced.{Room}
+use Rattle.numbers.specs.Unreduced.{Room}
 use Rattle.butterflies.specs.declared.TwoPairs.{TwoPairs}
 use Rattle.butterflies.specs.declared.ThreePairs.{ThreePairs}
 use Rattle.butterflies.specs.declared.FourPairs.{FourPairs}

@@ -1,2 +1,4 @@
 pub mod Outer
 pub mod Butterfly
+pub mod Places
+pub mod Summed

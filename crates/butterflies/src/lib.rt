@@ -6,6 +6,10 @@
 // e(1/2) is -1 and e(1/4) is i or -i, so that radix 2 and 4 need no product. At radix 3 and 5 the powers of w = e(1/B) come in conjugate
 // pairs, w^(B - k) = c - i s where w^k = c + i s: the values a and b that they multiply enter every sum as c (a + b) and s i (a - b), and
 // the sums 1 and B - 1, or 2 and 3, differ in the sign of the second.
+pub mod quarter_turns; // quarter_turns.rt
+pub mod twiddles; // twiddles.rt
+pub mod radices; // radices.rt
+
 use numbers::Accumulator;
 use numbers::Pair;
 ghost use mathlib.Core.Path.{_≡_};
@@ -14,8 +18,8 @@ ghost use Rattle.algebra.specs.Ring.{Ops, pow};
 ghost use Rattle.numbers.specs.Prime.{IsModulus};
 ghost use Rattle.numbers.specs.Value.{Value, field, res, real, pairOf};
 ghost use Rattle.numbers.specs.Accumulator.{Accumulated};
-ghost use Rattle.root.specs.Root.{tableRoot, RootTable};
-ghost use Rattle.unreduced.specs.Unreduced.{meant, Room};
+ghost use Rattle.roots.specs.Root.{tableRoot, RootTable};
+ghost use Rattle.numbers.specs.Unreduced.{meant, Room};
 ghost use Rattle.butterflies.specs.Butterfly.{ofTwo, ofThree, ofFour, ofFive, ofTwoSums, ofThreeSums, ofFourSums, ofFiveSums, AllRoom, Butterfly, evenPart, oddPart};
 
 // What a butterfly takes: values that are not reduced.
@@ -85,8 +89,8 @@ fn both_ways(m: u32, x: Accumulator, y: Accumulator) -> TwoPairs
     ensures { λ r. ⌜ ((n k : ℕ) (a b : Value m) → Accumulated m n x a → Accumulated m k y b → (r .x0 ≡ pairOf (field m .add a b)) × (r .x1 ≡ pairOf (field m .add a (field m .neg b)))) ⌝ }
 {
     TwoPairs {
-        x0: unreduced::total(m, x, y),
-        x1: unreduced::rest(m, x, y),
+        x0: numbers::unreduced::total(m, x, y),
+        x1: numbers::unreduced::rest(m, x, y),
     }
 }
 
@@ -96,12 +100,12 @@ pub fn three<'a>(m: u32, re: &'a [u32; 2880], im: &'a [u32; 2880], v: ThreeSums)
     requires { ⌜ AllRoom 3 (ofThreeSums v) ⌝ }
     ensures { λ r. ⌜ Butterfly m (tableRoot m (now (re .entry)) (now (im .entry))) 3 (λ b. meant m (ofThreeSums v b)) (ofThree r) ⌝ }
 {
-    let w = root::root_at(re, im, 960);
-    let t = unreduced::sum(v.x1, v.x2);
-    let even = unreduced::sum(v.x0, unreduced::scaled(w.re, t));
-    let odd = unreduced::scaled(w.im, quarter_turns::turned(v.x1, v.x2));
+    let w = roots::root_at(re, im, 960);
+    let t = numbers::unreduced::sum(v.x1, v.x2);
+    let even = numbers::unreduced::sum(v.x0, numbers::unreduced::scaled(w.re, t));
+    let odd = numbers::unreduced::scaled(w.im, crate::quarter_turns::turned(v.x1, v.x2));
     ThreePairs {
-        x0: unreduced::total(m, v.x0, t),
+        x0: numbers::unreduced::total(m, v.x0, t),
         mates: both_ways(m, even, odd),
     }
 }
@@ -112,11 +116,15 @@ pub fn four<'a>(m: u32, re: &'a [u32; 2880], im: &'a [u32; 2880], v: FourSums) -
     requires { ⌜ AllRoom 4 (ofFourSums v) ⌝ }
     ensures { λ r. ⌜ Butterfly m (tableRoot m (now (re .entry)) (now (im .entry))) 4 (λ b. meant m (ofFourSums v b)) (ofFour r) ⌝ }
 {
-    let near = both_ways(m, unreduced::sum(v.x0, v.x2), unreduced::sum(v.x1, v.x3));
+    let near = both_ways(
+        m,
+        numbers::unreduced::sum(v.x0, v.x2),
+        numbers::unreduced::sum(v.x1, v.x3),
+    );
     let far = both_ways(
         m,
-        unreduced::apart(v.x0, v.x2),
-        quarter_turns::quarter_turned(m, re, im, v.x1, v.x3),
+        numbers::unreduced::apart(v.x0, v.x2),
+        crate::quarter_turns::quarter_turned(m, re, im, v.x1, v.x3),
     );
     FourPairs { near, far }
 }
@@ -127,11 +135,11 @@ pub fn five<'a>(m: u32, re: &'a [u32; 2880], im: &'a [u32; 2880], v: FiveSums) -
     requires { ⌜ AllRoom 5 (ofFiveSums v) ⌝ }
     ensures { λ r. ⌜ Butterfly m (tableRoot m (now (re .entry)) (now (im .entry))) 5 (λ b. meant m (ofFiveSums v b)) (ofFive r) ⌝ }
 {
-    let w = root::root_at(re, im, 576);
-    let z = root::root_at(re, im, 1152);
-    let all = unreduced::sum(v.x0, unreduced::sum(v.x1, v.x4));
+    let w = roots::root_at(re, im, 576);
+    let z = roots::root_at(re, im, 1152);
+    let all = numbers::unreduced::sum(v.x0, numbers::unreduced::sum(v.x1, v.x4));
     FivePairs {
-        x0: unreduced::total(m, all, unreduced::sum(v.x2, v.x3)),
+        x0: numbers::unreduced::total(m, all, numbers::unreduced::sum(v.x2, v.x3)),
         near: conjugates(m, w, z, v.x0, v.x1, v.x2, v.x3, v.x4),
         far: conjugates(m, z, w, v.x0, v.x1, v.x3, v.x2, v.x4),
     }
@@ -153,15 +161,20 @@ fn conjugates(
     ensures { λ r. ⌜ (r .x0 ≡ pairOf (field m .add (evenPart m w z (meant m a) (meant m b) (meant m c) (meant m d) (meant m e)) (oddPart m w z (meant m b) (meant m c) (meant m d) (meant m e))))
         × (r .x1 ≡ pairOf (field m .add (evenPart m w z (meant m a) (meant m b) (meant m c) (meant m d) (meant m e)) (field m .neg (oddPart m w z (meant m b) (meant m c) (meant m d) (meant m e))))) ⌝ }
 {
-    let even = unreduced::sum(
+    let even = numbers::unreduced::sum(
         a,
-        weighed(w.re, unreduced::sum(b, e), z.re, unreduced::sum(c, d)),
+        weighed(
+            w.re,
+            numbers::unreduced::sum(b, e),
+            z.re,
+            numbers::unreduced::sum(c, d),
+        ),
     );
     let odd = weighed(
         w.im,
-        quarter_turns::turned(b, e),
+        crate::quarter_turns::turned(b, e),
         z.im,
-        quarter_turns::turned(c, d),
+        crate::quarter_turns::turned(c, d),
     );
     both_ways(m, even, odd)
 }
@@ -171,5 +184,8 @@ fn weighed(c: u32, t: Accumulator, d: u32, s: Accumulator) -> Accumulator
     requires { ⌜ (c ≤ 302399) × (d ≤ 302399) × Room 731561241608 t × Room 731561241608 s ⌝ }
     ensures { λ r. ⌜ ((m n k : ℕ) (x y : Value m) → Accumulated m n t x → Accumulated m k s y → Accumulated m (302399 * n + 302399 * k) r (field m .add (field m .mul (real m (res m c)) x) (field m .mul (real m (res m d)) y))) ⌝ }
 {
-    unreduced::sum(unreduced::scaled(c, t), unreduced::scaled(d, s))
+    numbers::unreduced::sum(
+        numbers::unreduced::scaled(c, t),
+        numbers::unreduced::scaled(d, s),
+    )
 }

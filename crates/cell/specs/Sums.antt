@@ -5,7 +5,7 @@ use Rattle.algebra.specs.Axis.{Axis}
 use Rattle.algebra.specs.Cell.{J, Cell}
 use Rattle.algebra.specs.Cell as C
 use Rattle.numbers.specs.Value.{Value, field, conj, real, part}
-use Rattle.root.specs.Root.{root}
+use Rattle.roots.specs.Root.{root}
 
 -- the axis of length 2 * half: e(1/N) is r^(2880/N), and 1/N
 abbrev pub axis : (m half : ℕ) → Axis (Value m)

@@ -2,9 +2,9 @@
 use mathlib.Core.Path.{_≡_, _∙_, sym, ap}
 use mathlib.Core.List.{List}
 use Prim.Native.Nat.{ℕ}
-use Rattle.refusal_order.specs.declared.Refusal.{Refusal}
+use Rattle.refusals.specs.declared.Refusal.{Refusal}
 use Rattle.line.specs.declared.LineAnswer.{LineAnswer}
-use Rattle.refusal_order.specs.Refusals.{numberOf}
+use Rattle.refusals.specs.Refusals.{numberOf}
 use Rattle.line.specs.Line.{LineOutcome, saidLine, lineOutcome}
 use Rattle.job.specs.declared.Answered.{Answered}
 use Rattle.job.specs.declared.OpenAnswer.{OpenAnswer}
@@ -14,14 +14,14 @@ use Rattle.job.specs.Steps.{OpenOutcome, Said, Outcome, Worked}
 use Rattle.job.specs.Said.{said, saidOpen, saidPoint, saidFactor, openOutcome, outcome, worked}
 use Rattle.factor_file.specs.declared.FileAnswer.{FileAnswer}
 use Rattle.factor_file.specs.Said.{saidFile, fileOutcome}
-use Rattle.file_writer.specs.declared.WriteAnswer.{WriteAnswer}
-use Rattle.file_writer.specs.declared.WriteAnswer.the-variants as W
-use Rattle.file_writer.specs.Writing.{WriteOutcome, writeOutcome}
-use Rattle.answers.specs.declared.JobCoded.{JobCoded}
-use Rattle.answers.specs.declared.FileCoded.{FileCoded}
-use Rattle.answers.specs.declared.PointCoded.{PointCoded}
-use Rattle.answers.specs.declared.FactorCoded.{FactorCoded}
-use Rattle.answers.specs.Coded.{numberSaid, openingCoded, openCoded, fileAnswerCoded, fileCoded, recordCoded, workCoded, pointCoded, factorCoded}
+use Rattle.factor_file.specs.declared.writer.WriteAnswer.{WriteAnswer}
+use Rattle.factor_file.specs.declared.writer.WriteAnswer.the-variants as W
+use Rattle.factor_file.specs.Writing.{WriteOutcome, writeOutcome}
+use Rattle.exported.specs.declared.answers.JobCoded.{JobCoded}
+use Rattle.exported.specs.declared.answers.FileCoded.{FileCoded}
+use Rattle.exported.specs.declared.answers.PointCoded.{PointCoded}
+use Rattle.exported.specs.declared.answers.FactorCoded.{FactorCoded}
+use Rattle.exported.specs.CodedAnswers.{numberSaid, openingCoded, openCoded, fileAnswerCoded, fileCoded, recordCoded, workCoded, pointCoded, factorCoded}
 use Rattle.exported.specs.declared.WriteCoded.{WriteCoded}
 use Rattle.exported.specs.Coded.{writeCoded, lineCoded}
 

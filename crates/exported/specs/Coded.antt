@@ -3,7 +3,7 @@
 use mathlib.Core.List.{List}
 use Prim.Native.Nat.{ℕ}
 use Rattle.line.specs.Line.{LineOutcome}
-use Rattle.file_writer.specs.Writing.{Writing, Writing.written, Writing.notWritten, WriteOutcome}
+use Rattle.factor_file.specs.Writing.{Writing, Writing.written, Writing.notWritten, WriteOutcome}
 use Rattle.exported.specs.declared.WriteCoded.{WriteCoded}
 
 abbrev pub writingCoded : Writing → WriteCoded

@@ -3,12 +3,14 @@
 //
 // A job, an index and a point go in and come back by value; a buffer is a pointer and a length. Every answer has a number: 0, or
 // the paper's number of the refusal. What only an accepted call gives is zero in a refused one.
-use answers::FactorCoded;
-use answers::FileCoded;
-use answers::JobCoded;
-use answers::PointCoded;
+pub mod answers; // answers.rt
+
+use crate::answers::FactorCoded;
+use crate::answers::FileCoded;
+use crate::answers::JobCoded;
+use crate::answers::PointCoded;
 use factor_file::open_file;
-use file_writer::WriteAnswer;
+use factor_file::writer::WriteAnswer;
 use job::GridPoint;
 use job::Job;
 use job::Reflection;
@@ -17,8 +19,8 @@ ghost use mathlib.Core.Path.{_≡_};
 ghost use Rattle.line.specs.Line.{lineStep, saidLine};
 ghost use Rattle.job.specs.Steps.{openStep, recordStep, synthesisStep, analysisStep, pointStep, factorStep};
 ghost use Rattle.factor_file.specs.File.{fileStep};
-ghost use Rattle.file_writer.specs.Writing.{writeStep};
-ghost use Rattle.answers.specs.Coded.{openCoded, fileCoded, recordCoded, workCoded, pointCoded, factorCoded};
+ghost use Rattle.factor_file.specs.Writing.{writeStep};
+ghost use Rattle.exported.specs.CodedAnswers.{openCoded, fileCoded, recordCoded, workCoded, pointCoded, factorCoded};
 ghost use Rattle.exported.specs.Coded.{writeCoded, lineCoded};
 
 // The answer of the writer.
@@ -43,7 +45,7 @@ pub extern "C" fn recorder_open(
 ) -> JobCoded
     ensures { λ r. ⌜ (r, now (volume .exit)) ≡ openCoded (openStep (record { group = group; lengths = (n1, n2, n3); list1 = now (f1 .entry); list2 = now (f2 .entry); list3 = now (f3 .entry) }) kind (now (volume .entry))) ⌝ }
 {
-    answers::opening_coded(job::open::open(group, kind, n1, n2, n3, f1, f2, f3, volume))
+    crate::answers::opening_coded(job::open::open(group, kind, n1, n2, n3, f1, f2, f3, volume))
 }
 
 // Opens a job by a factor file. A refused file gives a job of zeros, which every call refuses.
@@ -51,7 +53,7 @@ pub extern "C" fn recorder_open(
 pub extern "C" fn recorder_open_file(file: &[u8], volume: &mut [u32]) -> FileCoded
     ensures { λ r. ⌜ (r, now (volume .exit)) ≡ fileCoded (fileStep (now (file .entry)) (now (volume .entry))) ⌝ }
 {
-    answers::file_coded(open_file::open_file(file, volume))
+    crate::answers::file_coded(open_file::open_file(file, volume))
 }
 
 // Writes the factor file of a job that holds factors.
@@ -59,11 +61,11 @@ pub extern "C" fn recorder_open_file(file: &[u8], volume: &mut [u32]) -> FileCod
 pub extern "C" fn recorder_write_file(held: Job, volume: &[u32], out: &mut [u8]) -> WriteCoded
     ensures { λ r. ⌜ (r, now (out .exit)) ≡ writeCoded (writeStep held (now (volume .entry)) (now (out .entry))) ⌝ }
 {
-    let answer = file_writer::write_file(held, volume, out);
+    let answer = factor_file::writer::write_file(held, volume, out);
     match answer {
         WriteAnswer::Written(written) => WriteCoded { number: 0, written },
         WriteAnswer::Refused(refusal) => WriteCoded {
-            number: refusal_order::number_of(refusal),
+            number: refusals::number_of(refusal),
             written: 0,
         },
     }
@@ -80,7 +82,7 @@ pub extern "C" fn recorder_record(
 ) -> JobCoded
     ensures { λ r. ⌜ (r, now (volume .exit)) ≡ recordCoded (recordStep held at a b (now (volume .entry))) ⌝ }
 {
-    answers::answered_coded(held.record(at, a, b, volume))
+    crate::answers::answered_coded(held.record(at, a, b, volume))
 }
 
 // From factors to the map.
@@ -88,7 +90,7 @@ pub extern "C" fn recorder_record(
 pub extern "C" fn recorder_synthesis(held: Job, volume: &mut [u32], scratch: &mut [u32]) -> JobCoded
     ensures { λ r. ⌜ (r, now (volume .exit), now (scratch .exit)) ≡ workCoded (synthesisStep held (now (volume .entry)) (now (scratch .entry))) ⌝ }
 {
-    answers::answered_coded(held.synthesis(volume, scratch))
+    crate::answers::answered_coded(held.synthesis(volume, scratch))
 }
 
 // From the map to its factors.
@@ -96,7 +98,7 @@ pub extern "C" fn recorder_synthesis(held: Job, volume: &mut [u32], scratch: &mu
 pub extern "C" fn recorder_analysis(held: Job, volume: &mut [u32], scratch: &mut [u32]) -> JobCoded
     ensures { λ r. ⌜ (r, now (volume .exit), now (scratch .exit)) ≡ workCoded (analysisStep held (now (volume .entry)) (now (scratch .entry))) ⌝ }
 {
-    answers::answered_coded(held.analysis(volume, scratch))
+    crate::answers::answered_coded(held.analysis(volume, scratch))
 }
 
 // Reads a point of the map.
@@ -104,7 +106,7 @@ pub extern "C" fn recorder_analysis(held: Job, volume: &mut [u32], scratch: &mut
 pub extern "C" fn recorder_point(held: Job, at: GridPoint, volume: &[u32]) -> PointCoded
     ensures { λ r. ⌜ r ≡ pointCoded (pointStep held at (now (volume .entry)) .answer) ⌝ }
 {
-    answers::point_coded(held.point(at, volume))
+    crate::answers::point_coded(held.point(at, volume))
 }
 
 // Reads a structure factor.
@@ -112,7 +114,7 @@ pub extern "C" fn recorder_point(held: Job, at: GridPoint, volume: &[u32]) -> Po
 pub extern "C" fn recorder_factor(held: Job, at: Reflection, volume: &[u32]) -> FactorCoded
     ensures { λ r. ⌜ r ≡ factorCoded (factorStep held at (now (volume .entry)) .answer) ⌝ }
 {
-    answers::factor_coded(held.factor(at, volume))
+    crate::answers::factor_coded(held.factor(at, volume))
 }
 
 // Transforms one line.
@@ -135,6 +137,6 @@ fn line_number(answer: LineAnswer) -> u32
 {
     match answer {
         LineAnswer::Transformed => 0,
-        LineAnswer::Refused(refusal) => refusal_order::number_of(refusal),
+        LineAnswer::Refused(refusal) => refusals::number_of(refusal),
     }
 }

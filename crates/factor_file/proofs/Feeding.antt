@@ -5,15 +5,15 @@ use Prim.Native.Nat.{ℕ, zero, suc, _+_, _*_, _-_, _<_, _≤_}
 use native.Mathlib.Omega.{arith}
 use native.Mathlib.Numerals.{add-one}
 use lib.ListN.{length, replicate}
-use Rattle.refusal_order.specs.Tests.{first, accepted}
+use Rattle.refusals.specs.Tests.{first, accepted}
 use Rattle.job.specs.declared.Job.{Job}
 use Rattle.job.specs.Steps.{opened, notOpened, OpenOutcome, done, refused, Outcome, unchanged, index, recordTests, recordStep}
-use Rattle.file_records.specs.declared.FileRecord.{FileRecord}
-use Rattle.file_records.specs.declared.reader.Found.the-variants.{Record, End}
-use Rattle.file_shape.specs.Shape.{countAt, recordCount, recordsFrom, recordsIn, shapeTests}
-use Rattle.file_records.specs.Records.{foundAt, placeAfter}
-use Rattle.file_shape.proofs.Shapes.{filled-by}
-use Rattle.file_records.proofs.Reading.{end-found, record-inside, record-found, record-after}
+use Rattle.file_format.specs.declared.FileRecord.{FileRecord}
+use Rattle.file_format.specs.declared.reader.Found.the-variants.{Record, End}
+use Rattle.file_format.specs.Shape.{countAt, recordCount, recordsFrom, recordsIn, shapeTests}
+use Rattle.file_format.specs.Records.{foundAt, placeAfter}
+use Rattle.file_format.proofs.shape.Shapes.{filled-by}
+use Rattle.file_format.proofs.Reading.{end-found, record-inside, record-found, record-after}
 use Rattle.factor_file.specs.Feed.{indexOf, feed}
 
 -- ---- one record, by what its recording said

@@ -5,7 +5,7 @@ use lib.ListN.{length, replicate}
 use Rattle.job.specs.declared.Job.{Job}
 use Rattle.job.specs.declared.Reflection.{Reflection}
 use Rattle.job.specs.Steps.{Opening, opened, notOpened, OpenOutcome, Said, done, density, factor, refused, Outcome, recordStep}
-use Rattle.file_records.specs.declared.FileRecord.{FileRecord}
+use Rattle.file_format.specs.declared.FileRecord.{FileRecord}
 
 abbrev pub indexOf : FileRecord → Reflection
 indexOf c = record { 0 = c .h; 1 = c .k; 2 = c .l }

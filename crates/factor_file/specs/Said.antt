@@ -1,7 +1,7 @@
 -- What the declared answers say, and what a call returned and left: the left side of its promise.
 use mathlib.Core.List.{List}
 use Prim.Native.Nat.{ℕ}
-use Rattle.refusal_order.specs.Refusals.{numberOf}
+use Rattle.refusals.specs.Refusals.{numberOf}
 use Rattle.job.specs.Steps.{Opening, opened, notOpened, OpenOutcome}
 use Rattle.factor_file.specs.declared.FileAnswer.{FileAnswer}
 use Rattle.factor_file.specs.declared.FileAnswer.the-variants.{Opened, Refused}

@@ -1,9 +1,12 @@
 // The factor file: the opening of a job by its bytes, a header and records of structure factors.
+pub mod writer; // writer.rt
+pub mod orbits; // orbits.rt
+pub mod file; // file.rt
 pub mod open_file; // open_file.rt: the opening of a job by a file
 mod records; // records.rt: its records, recorded in the job one after another
 
 use job::Job;
-use refusal_order::Refusal;
+use refusals::Refusal;
 
 // The answer of the opening of a file: a job, or the refusal and the place, from 0, of the record at fault (0 where it is no record).
 pub enum FileAnswer {

@@ -2,9 +2,9 @@
 use crate::FileAnswer;
 use crate::records;
 use job::OpenAnswer;
-use refusal_order::Checked;
+use refusals::Checked;
 ghost use mathlib.Core.Path.{_≡_};
-ghost use Rattle.refusal_order.specs.Tests.{first};
+ghost use Rattle.refusals.specs.Tests.{first};
 ghost use Rattle.job.specs.Steps.{openStep};
 ghost use Rattle.job.specs.Said.{openOutcome};
 ghost use Rattle.factor_file.specs.File.{shapeTests, headerIn, fileStep};
@@ -15,18 +15,18 @@ fn open_header(file: &[u8], volume: &mut [u32]) -> OpenAnswer
     requires { ⌜ 0 ≡ first (shapeTests (now file)) ⌝ }
     ensures { λ r. ⌜ openOutcome r (now (volume .exit)) ≡ openStep (headerIn (now (file .entry))) 0 (now (volume .entry)) ⌝ }
 {
-    let places = file_places::places_of(file);
+    let places = file_format::places::places_of(file);
     let end1 = places.list2;
     let start2 = end1 + 1;
     let end2 = places.list3;
     let start3 = end2 + 1;
     let end3 = places.count;
     job::open::open(
-        file_numbers::wide(file[5]),
+        file_format::integers::wide(file[5]),
         0,
-        file_numbers::two_bytes(file, 6),
-        file_numbers::two_bytes(file, 8),
-        file_numbers::two_bytes(file, 10),
+        file_format::integers::two_bytes(file, 6),
+        file_format::integers::two_bytes(file, 8),
+        file_format::integers::two_bytes(file, 10),
         &file[13..end1],
         &file[start2..end2],
         &file[start3..end3],
@@ -50,7 +50,7 @@ fn open_sound(file: &[u8], volume: &mut [u32]) -> FileAnswer
 pub fn open_file(file: &[u8], volume: &mut [u32]) -> FileAnswer
     ensures { λ r. ⌜ fileOutcome r (now (volume .exit)) ≡ fileStep (now (file .entry)) (now (volume .entry)) ⌝ }
 {
-    let checked = file_shape::check_shape(file);
+    let checked = file_format::shape::check_shape(file);
     match checked {
         Checked::Failed(refusal) => return FileAnswer::Refused(refusal, 0),
         Checked::Sound => return open_sound(file, volume),

@@ -1,14 +1,14 @@
 // The records of a factor file, recorded in a job one after another.
 // A refused record ends it: its place is answered, and the volume is left zero.
 use crate::FileAnswer;
-use file_records::reader;
-use file_records::reader::Found;
+use file_format::reader;
+use file_format::reader::Found;
 use job::Answer;
 use job::Job;
 use job::Reflection;
 ghost use mathlib.Core.Path.{_≡_};
-ghost use Rattle.refusal_order.specs.Tests.{first};
-ghost use Rattle.file_shape.specs.Shape.{shapeTests, recordsIn};
+ghost use Rattle.refusals.specs.Tests.{first};
+ghost use Rattle.file_format.specs.Shape.{shapeTests, recordsIn};
 ghost use Rattle.factor_file.specs.Feed.{feed};
 ghost use Rattle.factor_file.specs.Said.{fileOutcome};
 
@@ -17,7 +17,7 @@ pub fn feed_records(file: &[u8], job: Job, volume: &mut [u32]) -> FileAnswer
     requires { ⌜ 0 ≡ first (shapeTests (now file)) ⌝ }
     ensures { λ r. ⌜ fileOutcome r (now (volume .exit)) ≡ feed (recordsIn (now (file .entry))) 0 job (now (volume .entry)) ⌝ }
 {
-    let start = file_places::first_record(file);
+    let start = file_format::places::first_record(file);
     let mut at = start.at;
     let mut place = start.place;
     loop {
@@ -29,7 +29,7 @@ pub fn feed_records(file: &[u8], job: Job, volume: &mut [u32]) -> FileAnswer
         let answer = job.record(Reflection(c.h, c.k, c.l), c.a, c.b, volume)
             .answer;
         if let Answer::Refused(refusal) = answer {
-            buffers::zero(volume);
+            slices::buffers::zero(volume);
             return FileAnswer::Refused(refusal, place);
         }
         place += 1;

@@ -1,2 +1,3 @@
-pub mod Frames
-pub mod ShortTransform
+pub mod HermitianLine
+pub mod MirrorLine
+pub mod AlternatingLine

@@ -4,18 +4,18 @@ use mathlib.Core.Bool.{Bool, true, false, _&&_, not}
 use Prim.Native.Nat.{ℕ, _≤_, _<_}
 use lib.Dec.{ltb, eqb}
 use borrow.Author.Tests.{lt-ltb, le-ltb, ltb-true, eq-eqb, eqb-true}
-use Rattle.factors.specs.Factors.{octal}
-use Rattle.refusal_order.specs.Tests.{first}
+use Rattle.lengths.specs.Factors.{octal}
+use Rattle.refusals.specs.Tests.{first}
 use Rattle.lengths.specs.Lengths.{factorsOk, octalDigits}
 use Rattle.lengths.specs.Admitted.{FactorList}
-use Rattle.refusal_order.proofs.Tests.{by-true, by-false}
+use Rattle.refusals.proofs.Tests.{by-true, by-false}
 use Rattle.lengths.proofs.Factors.{octal-digits}
 use Rattle.cell.specs.Operations.{Sizes}
-use Rattle.axes.specs.Axes.{JobSizes}
+use Rattle.volume_transform.specs.Axes.{JobSizes}
 use Rattle.job.specs.Header.{Header, axisTests, jobOf, headerOf, withState, validJob}
 use Rattle.job.specs.declared.Job.{Job}
-use Rattle.refusals.proofs.Headers.{all-three, sound-sizes, sound-axes, sound-lists}
-use Rattle.refusals.proofs.Digits.{octal-of-digits}
+use Rattle.header.proofs.Headers.{all-three, sound-sizes, sound-axes, sound-lists}
+use Rattle.header.proofs.Digits.{octal-of-digits}
 
 -- the job of a job's header, in its state, is the job: the digits of a list's number give the number back
 pub job-of-header : (j : Job) → jobOf (headerOf j) (j .state) ≡ j

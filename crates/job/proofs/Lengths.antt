@@ -7,7 +7,7 @@ use lib.ListN.{length, replicate, length-replicate}
 use lib.Dec.{eqb}
 use Rattle.algebra.specs.Cell.{full}
 use Rattle.numbers.specs.Value.{value}
-use Rattle.refusal_order.specs.Tests.{first, accepted}
+use Rattle.refusals.specs.Tests.{first, accepted}
 use Rattle.cell.specs.Consistency.{recordOn}
 use Rattle.cell.proofs.Writing.{length-images}
 use Rattle.job.specs.declared.Job.{Job}

@@ -5,10 +5,10 @@ use native.Mathlib.Omega.{arith}
 use Prim.Native.Nat.{ℕ, zero, suc}
 use lib.ListN.{length, replicate}
 use borrow.Author.Tests.{eq-eqb, ne-eqb}
-use Rattle.refusal_order.specs.declared.Refusal.{Refusal}
-use Rattle.refusal_order.specs.Refusals.{numberOf}
-use Rattle.refusal_order.specs.Tests.{first, accepted}
-use Rattle.refusal_order.proofs.Tests.{fails}
+use Rattle.refusals.specs.declared.Refusal.{Refusal}
+use Rattle.refusals.specs.Refusals.{numberOf}
+use Rattle.refusals.specs.Tests.{first, accepted}
+use Rattle.refusals.proofs.Tests.{fails}
 use Rattle.job.specs.declared.Job.{Job}
 use Rattle.job.specs.declared.OpenAnswer.the-variants.{Opened, Refused}
 use Rattle.job.specs.Header.{Header, jobOf, collecting, mapHeld}

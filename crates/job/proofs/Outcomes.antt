@@ -3,11 +3,11 @@ use mathlib.Core.Path.{_≡_}
 use mathlib.Core.List.{List}
 use Prim.Native.Nat.{ℕ}
 use lib.ListN.{length}
-use Rattle.refusal_order.specs.declared.Refusal.{Refusal}
-use Rattle.refusal_order.specs.Refusals.{numberOf}
-use Rattle.refusal_order.specs.Tests.{first}
+use Rattle.refusals.specs.declared.Refusal.{Refusal}
+use Rattle.refusals.specs.Refusals.{numberOf}
+use Rattle.refusals.specs.Tests.{first}
 use Rattle.lengths.specs.Lengths.{cleared}
-use Rattle.refusal_order.proofs.Tests.{fails}
+use Rattle.refusals.proofs.Tests.{fails}
 use Rattle.job.specs.declared.Job.{Job}
 use Rattle.job.specs.declared.Answer.the-variants.{Done, Refused}
 use Rattle.job.specs.Header.{withState, factorsHeld, mapHeld}

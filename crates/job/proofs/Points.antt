@@ -3,10 +3,10 @@ use mathlib.Core.Path.{_≡_, _∙_, ap}
 use mathlib.Core.List.{List}
 use Prim.Native.Nat.{ℕ}
 use lib.ListN.{getD}
-use Rattle.refusal_order.specs.declared.Refusal.{Refusal}
-use Rattle.refusal_order.specs.Refusals.{numberOf}
-use Rattle.refusal_order.specs.Tests.{first}
-use Rattle.refusal_order.proofs.Tests.{fails, passes}
+use Rattle.refusals.specs.declared.Refusal.{Refusal}
+use Rattle.refusals.specs.Refusals.{numberOf}
+use Rattle.refusals.specs.Tests.{first}
+use Rattle.refusals.proofs.Tests.{fails, passes}
 use Rattle.cell.specs.Volume.{densityPlace}
 use Rattle.job.specs.declared.Job.{Job}
 use Rattle.job.specs.declared.GridPoint.{GridPoint}

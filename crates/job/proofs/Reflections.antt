@@ -4,13 +4,13 @@ use mathlib.Core.List.{List}
 use Prim.Native.Nat.{ℕ}
 use Rattle.numbers.specs.declared.Pair.{Pair}
 use Rattle.numbers.specs.Value.{valueOf, pairOf}
-use Rattle.refusal_order.specs.declared.Refusal.{Refusal}
-use Rattle.refusal_order.specs.Refusals.{numberOf}
-use Rattle.refusal_order.specs.Tests.{first}
-use Rattle.refusal_order.proofs.Tests.{fails, passes}
+use Rattle.refusals.specs.declared.Refusal.{Refusal}
+use Rattle.refusals.specs.Refusals.{numberOf}
+use Rattle.refusals.specs.Tests.{first}
+use Rattle.refusals.proofs.Tests.{fails, passes}
 use Rattle.cell.specs.Volume.{factorsIn}
 use Rattle.cell.specs.Consistency.{recordOn}
-use Rattle.record_refusals.proofs.Reflections.{pair-of-numbers}
+use Rattle.job.proofs.check.record.Reflections.{pair-of-numbers}
 use Rattle.job.specs.declared.Job.{Job}
 use Rattle.job.specs.declared.Reflection.{Reflection}
 use Rattle.job.specs.declared.Answer.the-variants.{Done, Refused}

@@ -11,11 +11,11 @@ use Rattle.slices.specs.Pairs.{Below}
 use Rattle.lengths.specs.Lengths.{scratchLength}
 use Rattle.cell.specs.Volume.{volumeLength}
 use Rattle.cell.specs.Consistency.{consistentFactors, consistentMap}
-use Rattle.axes.specs.declared.Plan.{Plan}
-use Rattle.axes.specs.Axes.{lineCount}
-use Rattle.axes.specs.Plans.{groupIn as groupOfPlan, halvesIn, Planned, Fitting, planTurn}
-use Rattle.passes.specs.Turns.{turns}
-use Rattle.passes.proofs.Whole as Whole
+use Rattle.volume_transform.specs.declared.plan.Plan.{Plan}
+use Rattle.volume_transform.specs.Axes.{lineCount}
+use Rattle.volume_transform.specs.Plans.{groupIn as groupOfPlan, halvesIn, Planned, Fitting, planTurn}
+use Rattle.volume_transform.specs.Turns.{turns}
+use Rattle.volume_transform.proofs.sums.Whole as Whole
 use Rattle.job.specs.declared.Job.{Job}
 use Rattle.job.specs.Header.{validJob, groupIn, halves}
 use Rattle.job.specs.Steps.{synthesised, analysed}

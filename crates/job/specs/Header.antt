@@ -1,11 +1,11 @@
 -- The job that an opening makes of a header, and which jobs an opening or a later call could have made (refusal 25).
-pub use Rattle.refusals.specs.Header.{Header, halvesOf, volumeLimit, needed, axisTests, collecting, factorsHeld, mapHeld}
+pub use Rattle.header.specs.Header.{Header, halvesOf, volumeLimit, needed, axisTests, collecting, factorsHeld, mapHeld}
 use mathlib.Core.Bool.{Bool, _&&_}
 use Prim.Native.Nat.{ℕ, _/_}
 use lib.Dec.{ltb, eqb}
 use Rattle.algebra.specs.Cell.{J, Group}
-use Rattle.factors.specs.Factors.{octal}
-use Rattle.refusal_order.specs.Tests.{first}
+use Rattle.lengths.specs.Factors.{octal}
+use Rattle.refusals.specs.Tests.{first}
 use Rattle.lengths.specs.Lengths.{octalDigits}
 use Rattle.cell.specs.Volume.{groupOf}
 use Rattle.job.specs.declared.Job.{Job}

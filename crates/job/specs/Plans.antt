@@ -1,6 +1,6 @@
 -- A job's numbers as the plan of the lines of its volume.
 use Prim.Native.Nat.{ℕ}
-use Rattle.axes.specs.declared.Plan.{Plan}
+use Rattle.volume_transform.specs.declared.plan.Plan.{Plan}
 use Rattle.job.specs.declared.Job.{Job}
 
 abbrev pub planOf : Job → (direction : ℕ) → Plan

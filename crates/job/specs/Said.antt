@@ -1,7 +1,7 @@
 -- What the declared answers say, and what a call returned and left, as an outcome: the left side of its promise.
 use mathlib.Core.List.{List}
 use Prim.Native.Nat.{ℕ}
-use Rattle.refusal_order.specs.Refusals.{numberOf}
+use Rattle.refusals.specs.Refusals.{numberOf}
 use Rattle.job.specs.declared.Answer.{Answer}
 use Rattle.job.specs.declared.Answer.the-variants as A
 use Rattle.job.specs.declared.Answered.{Answered}

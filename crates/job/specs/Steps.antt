@@ -1,8 +1,8 @@
 -- The calls of a job: what each answers and what it leaves, for every input. The tests of each call, in the paper's order of refusals, are those of
 -- the crates refusals, record_refusals and reading_refusals, put to a job's numbers here.
-pub use Rattle.refusals.specs.Tests.{p, volumeTests, openTests, within, synthesisTestsOf, analysisTestsOf}
-pub use Rattle.record_refusals.specs.RecordTests.{recordTestsOf}
-pub use Rattle.reading_refusals.specs.ReadingTests.{pointTestsOf, factorTestsOf}
+pub use Rattle.header.specs.Tests.{p, volumeTests, openTests, within, synthesisTestsOf, analysisTestsOf}
+pub use Rattle.job.specs.RecordTests.{recordTestsOf}
+pub use Rattle.job.specs.ReadingTests.{pointTestsOf, factorTestsOf}
 use mathlib.Core.Bool.{Bool, cond}
 use mathlib.Core.List.{List}
 use Prim.Native.Nat.{ℕ}
@@ -10,7 +10,7 @@ use lib.ListN.{length, getD, replicate}
 use lib.Dec.{eqb}
 use Rattle.algebra.specs.Cell.{J, at}
 use Rattle.numbers.specs.Value.{value}
-use Rattle.refusal_order.specs.Tests.{Test, first, accepted}
+use Rattle.refusals.specs.Tests.{Test, first, accepted}
 use Rattle.lengths.specs.Lengths.{cleared}
 use Rattle.cell.specs.Volume.{volumeLength, factorsIn, packFactors, densityPlace, mapIn, packMap}
 use Rattle.cell.specs.Consistency.{recordOn}

@@ -4,7 +4,7 @@ use crate::Job;
 use crate::Reflection;
 use crate::valid;
 use cell::operations::Index;
-use refusal_order::Checked;
+use refusals::Checked;
 ghost use mathlib.Core.Path.{_≡_};
 ghost use Rattle.job.specs.Steps.{factorStep};
 ghost use Rattle.job.specs.Said.{saidFactor};
@@ -19,7 +19,7 @@ impl Job {
             k: at.1,
             l: at.2,
         };
-        let checked = reading_refusals::factor::check_factor(
+        let checked = crate::check::factor::check_factor(
             valid::valid_job(self),
             self.state,
             self.group,
@@ -32,7 +32,7 @@ impl Job {
         match checked {
             Checked::Failed(refusal) => FactorAnswer::Refused(refusal),
             Checked::Sound => {
-                let x = readings::factor_at(
+                let x = volume::read::factor_at(
                     1,
                     self.group,
                     self.a.length,

@@ -3,6 +3,7 @@
 // The job is handed in and handed back by value at each call, beside the volume that the caller lends. Each call is a check (crates
 // volume_refusals, record_refusals and reading_refusals), which answers the first refusal of the paper's order, and then the work. What a
 // caller holds or hands in by value has the layout of C, so that crate exported can pass it on.
+pub mod check; // check.rt
 pub mod valid; // valid.rt: which jobs an opening or a later call could have made
 pub mod open; // open.rt: the opening
 pub mod point; // point.rt: the reading of a point
@@ -12,7 +13,7 @@ pub mod synthesis; // synthesis.rt: from the factors to the map
 pub mod analysis; // analysis.rt: from the map to the factors
 mod plan; // plan.rt: a job's numbers as the lines of its volume take them
 
-use refusal_order::Refusal;
+use refusals::Refusal;
 
 // The index of a structure factor, in reciprocal space: h, k, l.
 #[repr(C)]

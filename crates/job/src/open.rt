@@ -2,12 +2,12 @@
 use crate::Axis;
 use crate::Job;
 use crate::OpenAnswer;
-use refusal_order::Checked;
+use refusals::Checked;
 ghost use mathlib.Core.Path.{_≡_};
 ghost use mathlib.Core.Bool.{true};
 ghost use Prim.Native.Nat.{_≤_};
-ghost use Rattle.factors.specs.Factors.{product, octal};
-ghost use Rattle.refusal_order.specs.Tests.{first};
+ghost use Rattle.lengths.specs.Factors.{product, octal};
+ghost use Rattle.refusals.specs.Tests.{first};
 ghost use Rattle.lengths.specs.Lengths.{factorsOk};
 ghost use Rattle.job.specs.Header.{axisTests, jobOf};
 ghost use Rattle.job.specs.Steps.{openStep};
@@ -52,22 +52,12 @@ pub fn open(
 ) -> OpenAnswer
     ensures { λ r. ⌜ openOutcome r (now (volume .exit)) ≡ openStep (record { group = group; lengths = (n1, n2, n3); list1 = now (f1 .entry); list2 = now (f2 .entry); list3 = now (f3 .entry) }) kind (now (volume .entry)) ⌝ }
 {
-    let checked = volume_refusals::open::check_open(
-        group,
-        kind,
-        n1,
-        n2,
-        n3,
-        f1,
-        f2,
-        f3,
-        &volume[..],
-    );
+    let checked = crate::check::open::check_open(group, kind, n1, n2, n3, f1, f2, f3, &volume[..]);
     match checked {
         Checked::Failed(refusal) => OpenAnswer::Refused(refusal),
         Checked::Sound => {
             if kind == 0 {
-                buffers::zero(volume);
+                slices::buffers::zero(volume);
                 OpenAnswer::Opened(opened(group, n1, n2, n3, f1, f2, f3, 0))
             } else {
                 OpenAnswer::Opened(opened(group, n1, n2, n3, f1, f2, f3, 2))

@@ -1,6 +1,6 @@
 // What is to be done with the volume of a job: its numbers, as the lines of a volume take them.
 use crate::Job;
-use axes::Plan;
+use volume_transform::plan::Plan;
 ghost use mathlib.Core.Path.{_≡_};
 ghost use Rattle.job.specs.Plans.{planOf};
 

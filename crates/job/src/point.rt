@@ -5,7 +5,7 @@ use crate::PointAnswer;
 use crate::valid;
 use cell::operations::Point;
 use cell::places;
-use refusal_order::Checked;
+use refusals::Checked;
 ghost use mathlib.Core.Path.{_≡_};
 ghost use Rattle.job.specs.Steps.{pointStep};
 ghost use Rattle.job.specs.Said.{saidPoint};
@@ -20,7 +20,7 @@ impl Job {
             y: at.1,
             z: at.2,
         };
-        let checked = reading_refusals::point::check_point(
+        let checked = crate::check::point::check_point(
             valid::valid_job(self),
             self.state,
             self.group,

@@ -6,7 +6,7 @@ use crate::Reflection;
 use crate::valid;
 use cell::operations::Index;
 use numbers::Pair;
-use refusal_order::Checked;
+use refusals::Checked;
 ghost use mathlib.Core.Path.{_≡_};
 ghost use Rattle.job.specs.Steps.{recordStep};
 ghost use Rattle.job.specs.Said.{outcome};
@@ -22,7 +22,7 @@ impl Job {
             l: at.2,
         };
         let x = Pair { re: a, im: b };
-        let checked = record_refusals::check_record(
+        let checked = crate::check::record::check_record(
             valid::valid_job(self),
             self.state,
             self.group,
@@ -39,7 +39,7 @@ impl Job {
                 job: self,
             },
             Checked::Sound => {
-                recording::write_images(
+                volume::record::write_images(
                     1,
                     self.group,
                     self.a.length,

@@ -4,7 +4,7 @@ use crate::Answered;
 use crate::Job;
 use crate::plan;
 use crate::valid;
-use refusal_order::Checked;
+use refusals::Checked;
 ghost use mathlib.Core.Path.{_≡_};
 ghost use Rattle.job.specs.Steps.{synthesisStep};
 ghost use Rattle.job.specs.Said.{worked};
@@ -14,7 +14,7 @@ impl Job {
     pub fn synthesis(mut self, volume: &mut [u32], scratch: &mut [u32]) -> Answered
         ensures { λ r. ⌜ worked r (now (volume .exit)) (now (scratch .exit)) ≡ synthesisStep self (now (volume .entry)) (now (scratch .entry)) ⌝ }
     {
-        let checked = volume_refusals::synthesis::check_synthesis(
+        let checked = crate::check::synthesis::check_synthesis(
             valid::valid_job(self),
             self.state,
             self.group,
@@ -30,7 +30,7 @@ impl Job {
                 job: self,
             },
             Checked::Sound => {
-                turns::transform_volume(plan::plan_of(self, 0), volume, scratch);
+                volume_transform::transform_volume(plan::plan_of(self, 0), volume, scratch);
                 self.state = 2;
                 Answered {
                     answer: Answer::Done,

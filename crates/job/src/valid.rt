@@ -1,7 +1,7 @@
 // Refusal 25: whether an opening or a later call could have made a job. Its numbers are tested as a header whose lists are
 // the octal digits of the factor numbers.
 use crate::Job;
-use refusals::packed;
+use header::packed;
 ghost use mathlib.Core.Path.{_≡_};
 ghost use Rattle.job.specs.Header.{validJob};
 

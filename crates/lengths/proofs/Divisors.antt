@@ -11,8 +11,8 @@ use native.Mathlib.Omega.{arith}
 use lib.Dec.{leb, eqb}
 use lib.ListN.{length}
 use borrow.Author.Tests.{leb-true, eq-eqb}
-use Rattle.factors.specs.Factors.{product, Factors, none, one}
-use Rattle.refusal_order.proofs.Tests.{both}
+use Rattle.lengths.specs.Factors.{product, Factors, none, one}
+use Rattle.refusals.proofs.Tests.{both}
 
 -- the primes 2, 3 and 5 in n, with room for eleven
 unfoldable primes : (room n : ℕ) → ℕ

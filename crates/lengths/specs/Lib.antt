@@ -1,3 +1,5 @@
 pub mod Lengths
 pub mod Admitted
 pub mod Counts
+pub mod Factors
+pub mod Stages

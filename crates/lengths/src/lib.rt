@@ -1,11 +1,13 @@
 // The lengths of a line: which are admitted, their factor lists, and how many pairs a packed line of each kind has.
 //
 // A factor list is a slice of bytes. An accepted one goes on as a number whose octal digits are the factors, the first lowest.
+pub mod stage; // stage.rt
+
 ghost use mathlib.Core.Path.{_≡_};
 ghost use mathlib.Core.Bool.{true};
 ghost use Prim.Native.Nat.{_<_, _≤_};
 ghost use lib.Dec.{eqb};
-ghost use Rattle.factors.specs.Factors.{product, octal};
+ghost use Rattle.lengths.specs.Factors.{product, octal};
 ghost use Rattle.lengths.specs.Lengths.{admitted, isFactor, factorsOk};
 ghost use Rattle.lengths.specs.Counts.{pairCount};
 

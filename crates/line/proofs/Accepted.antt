@@ -6,15 +6,15 @@ use Prim.Native.Nat.{ℕ, _/_, _≤_, _<_}
 use native.Mathlib.Omega.{arith}
 use borrow.Author.Tests.{not-false, leb-false, ltb-false, eqb-true}
 use Rattle.slices.proofs.Bounds.{below-allBelow}
-use Rattle.factors.specs.Factors.{product, octal}
-use Rattle.refusal_order.specs.Tests.{first}
-use Rattle.refusal_order.proofs.Tests.{Passed, passed}
+use Rattle.lengths.specs.Factors.{product, octal}
+use Rattle.refusals.specs.Tests.{first}
+use Rattle.refusals.proofs.Tests.{Passed, passed}
 use Rattle.lengths.specs.Lengths.{factorsOk}
 use Rattle.lengths.specs.Counts.{kindOf}
 use Rattle.lengths.specs.Admitted.{AdmittedLength}
 use Rattle.lengths.proofs.Counts.{slots-le}
 use Rattle.lengths.proofs.AdmittedLengths.{admitted-length, factor-list}
-use Rattle.line_refusals.specs.LineTests.{lineTests}
+use Rattle.line.specs.LineTests.{lineTests}
 use Rattle.line.specs.Accepted.{Accepted}
 
 module _ (p kind direction N : ℕ) (factors line : List ℕ) (scratch : ℕ) (none : 0 ≡ first (lineTests p kind direction N factors line scratch)) where

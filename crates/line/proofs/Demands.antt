@@ -19,10 +19,10 @@ use Rattle.slices.specs.Pairs.{Below}
 use Rattle.slices.specs.Values.{valuesOf, listOf}
 use Rattle.slices.proofs.Values.{list-cong, list-values, values-list}
 use Rattle.lengths.specs.Counts.{kindOf, pairCount}
-use Rattle.kinds.specs.Transform.{rootOf, axisOf, transform, transformed}
+use Rattle.line.specs.Transform.{rootOf, axisOf, transform, transformed}
 use Rattle.lengths.specs.Admitted.{AdmittedLength}
-use Rattle.kinds.proofs.Axes.{own, axis-own}
-use Rattle.kinds.proofs.Reading.{forward-cong, back-cong}
+use Rattle.line.proofs.kinds.Axes.{own, axis-own}
+use Rattle.line.proofs.kinds.Reading.{forward-cong, back-cong}
 use Rattle.lengths.specs.Lengths.{admitted}
 use Rattle.line.specs.Demands.{wholeBefore, wholeAfter, RulesKept, ForwardIsSum, BackIsSum, Restored, RestoredAfter}
 use Rattle.lengths.proofs.AdmittedLengths.{admitted-length}

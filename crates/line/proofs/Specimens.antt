@@ -14,16 +14,16 @@ use Rattle.algebra.specs.Line.{three, re, im, unit, unfold-by, pack-by, weave}
 use Rattle.algebra.specs.Kinds.{slots, unfoldBefore, unfoldAfter, packBefore, packAfter}
 use Rattle.numbers.specs.Prime.{prime}
 use Rattle.numbers.specs.Value.{half, part, valueOf, pairOf}
-use Rattle.root.specs.Root.{root}
+use Rattle.roots.specs.Root.{root}
 use Rattle.slices.specs.Pairs.{at, put, puts, allBelow}
-use Rattle.factors.specs.Factors.{product}
-use Rattle.kinds.specs.Transform.{rootOf, transform, transformed}
-use Rattle.refusal_order.specs.Tests.{first}
+use Rattle.lengths.specs.Factors.{product}
+use Rattle.line.specs.Transform.{rootOf, transform, transformed}
+use Rattle.refusals.specs.Tests.{first}
 use Rattle.lengths.specs.Lengths.{admitted, factorsOk, scratchLength}
-use Rattle.line_refusals.specs.LineTests.{lineTests}
+use Rattle.line.specs.LineTests.{lineTests}
 use Rattle.line.specs.Line.{lineStep}
 use Rattle.line.specs.Specimens.{Specimen, specimens, Shown, AllShown, Specimens}
-use Rattle.refusal_order.proofs.Tests.{both}
+use Rattle.refusals.proofs.Tests.{both}
 
 unfoldable sameList : List ℕ → List ℕ → Bool
 sameList [] [] = true

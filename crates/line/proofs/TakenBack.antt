@@ -13,13 +13,13 @@ use Rattle.slices.specs.Values.{valuesOf}
 use Rattle.slices.proofs.Bounds.{below-allBelow, allBelow-below}
 use Rattle.slices.proofs.Values.{length-list, below-list}
 use Rattle.lengths.specs.Counts.{kindOf, pairCount}
-use Rattle.kinds.specs.Transform.{transform, transformed}
-use Rattle.refusal_order.specs.Tests.{first, accepted}
+use Rattle.line.specs.Transform.{transform, transformed}
+use Rattle.refusals.specs.Tests.{first, accepted}
 use Rattle.lengths.specs.Lengths.{scratchLength, cleared}
-use Rattle.line_refusals.specs.LineTests.{lineTests}
+use Rattle.line.specs.LineTests.{lineTests}
 use Rattle.line.specs.Line.{LineOutcome, lineStep}
 use Rattle.line.specs.Demands.{Restored, RestoredAfter, TakenBack}
-use Rattle.refusal_order.proofs.Tests.{Passed, passed, pass, none, not-t}
+use Rattle.refusals.proofs.Tests.{Passed, passed, pass, none, not-t}
 use Rattle.line.proofs.Demands.{restored, restored-after}
 
 -- ---- a cleared scratch is as long as it was, and is cleared to itself

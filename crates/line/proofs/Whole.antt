@@ -7,9 +7,9 @@ use lib.ListN.{length, take, drop}
 use lib.Seq.{drop-append-add, drop-drop}
 use Rattle.algebra.proofs.Laws.{along}
 use Rattle.lengths.specs.Counts.{pairCount}
-use Rattle.kinds.specs.Transform.{transformed}
+use Rattle.line.specs.Transform.{transformed}
 use Rattle.lengths.specs.Admitted.{AdmittedLength, FactorList}
-use Rattle.kinds.proofs.Dispatch.{prefix-length}
+use Rattle.line.proofs.kinds.Dispatch.{prefix-length}
 use Rattle.lengths.specs.Lengths.{scratchLength}
 
 -- what follows the lent part in a scratch: the part is lent from the start, and comes back as long as it was

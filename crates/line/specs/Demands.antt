@@ -12,7 +12,7 @@ use Rattle.numbers.specs.Prime.{prime, IsModulus}
 use Rattle.numbers.specs.Value.{Value, field, conj, i, half, part, real}
 use Rattle.slices.specs.Pairs.{Below}
 use Rattle.lengths.specs.Counts.{kindOf, pairCount}
-use Rattle.kinds.specs.Transform.{rootOf, transform, transformed}
+use Rattle.line.specs.Transform.{rootOf, transform, transformed}
 use Rattle.lengths.specs.Lengths.{admitted}
 use Rattle.line.specs.Line.{LineOutcome, lineStep}
 

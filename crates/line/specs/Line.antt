@@ -3,11 +3,11 @@ use mathlib.Core.List.{List}
 use Prim.Native.Nat.{ℕ}
 use lib.ListN.{length}
 use Rattle.numbers.specs.Prime.{prime}
-use Rattle.kinds.specs.Transform.{transformed}
-use Rattle.refusal_order.specs.Refusals.{numberOf}
-use Rattle.refusal_order.specs.Tests.{first, accepted}
+use Rattle.line.specs.Transform.{transformed}
+use Rattle.refusals.specs.Refusals.{numberOf}
+use Rattle.refusals.specs.Tests.{first, accepted}
 use Rattle.lengths.specs.Lengths.{cleared}
-use Rattle.line_refusals.specs.LineTests.{lineTests}
+use Rattle.line.specs.LineTests.{lineTests}
 use Rattle.line.specs.declared.LineAnswer.{LineAnswer}
 use Rattle.line.specs.declared.LineAnswer.the-variants.{Transformed, Refused}
 

@@ -1,10 +1,15 @@
 // One line of structure factors: the six kinds, both directions.
-use refusal_order::Checked;
-use refusal_order::Refusal;
+pub mod check; // check.rt
+pub mod transform; // transform.rt
+pub mod table; // table.rt
+pub mod kinds; // kinds.rt
+
+use refusals::Checked;
+use refusals::Refusal;
 ghost use mathlib.Core.Path.{_≡_};
 ghost use lib.ListN.{length as lengthOf, drop};
 ghost use Rattle.numbers.specs.Prime.{prime};
-ghost use Rattle.kinds.specs.Transform.{transformed};
+ghost use Rattle.line.specs.Transform.{transformed};
 ghost use Rattle.lengths.specs.Lengths.{scratchLength};
 ghost use Rattle.line.specs.Accepted.{Accepted};
 ghost use Rattle.line.specs.Line.{lineStep, lineOutcome};
@@ -29,7 +34,7 @@ pub fn line(
     ensures { λ r. ⌜ lineOutcome r (now (line .exit)) (now (scratch .exit)) ≡ lineStep 1 kind direction length (now (factors .entry)) (now (line .entry)) (now (scratch .entry)) ⌝ }
 {
     let p = numbers::modulus(1);
-    let checked = line_refusals::check_line(
+    let checked = crate::check::check_line(
         p,
         kind,
         direction,
@@ -49,7 +54,7 @@ pub fn line(
                 line,
                 scratch,
             );
-            buffers::clear(scratch, 11520);
+            slices::buffers::clear(scratch, 11520);
             LineAnswer::Transformed
         }
     }
@@ -70,12 +75,12 @@ fn transform_line(
     ensures { λ _. ⌜ drop scratchLength (now (scratch .exit)) ≡ drop scratchLength (now (scratch .entry)) ⌝ }
 {
     let a = (length / 2) as usize;
-    let re = roots::real_parts(1);
-    let im = tables::imaginary_parts(direction);
-    let tan = tables::half_tangents(direction);
+    let re = roots::tables::real_parts(1);
+    let im = crate::table::imaginary_parts(direction);
+    let tan = crate::table::half_tangents(direction);
     let mut work = [0u32; 5760];
     let fold = &mut scratch[..5760];
-    line_transforms::transform(
+    crate::transform::transform(
         1,
         kind,
         direction,

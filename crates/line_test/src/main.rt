@@ -9,40 +9,40 @@ use line::LineAnswer;
 fn number(answer: LineAnswer) -> u32 {
     match answer {
         LineAnswer::Transformed => 0,
-        LineAnswer::Refused(r) => refusal_order::number_of(r),
+        LineAnswer::Refused(r) => refusals::number_of(r),
     }
 }
 
 // One call on a line and a scratch of exactly the lengths that it names, the line by its seed and one number of it changed.
 fn run(head: &[u32], list: &[u8], tail: &[u32], line: &mut [u32], scratch: &mut [u32]) {
-    cases::fill(line, cases::at(tail, 1));
-    cases::put_at(line, cases::at(tail, 2), cases::at(tail, 3));
+    test_io::fill(line, test_io::at(tail, 1));
+    test_io::put_at(line, test_io::at(tail, 2), test_io::at(tail, 3));
     let answer = line::line(
-        cases::at(head, 0),
-        cases::at(head, 1),
-        cases::at(head, 2),
+        test_io::at(head, 0),
+        test_io::at(head, 1),
+        test_io::at(head, 2),
         list,
         line,
         scratch,
     );
     let said = [
         number(answer),
-        cases::checksum(line),
-        cases::checksum(scratch),
+        test_io::checksum(line),
+        test_io::checksum(scratch),
     ];
-    cases::print_line(&said);
+    test_io::print_line(&said);
 }
 
 fn factors(list: &[u8; 16]) -> &[u8] {
-    cases::part(list, 1, cases::wide(list[0]), 15)
+    test_io::part(list, 1, test_io::wide(list[0]), 15)
 }
 
 // Makes the buffers of a call: the scratch has sevens.
 fn lend(head: &[u32], list: &[u8; 16], tail: &[u32]) {
     let mut line = [0u32; 6016];
     let mut scratch = [7u32; 12032];
-    let n = cases::length_at(tail, 0, 6016);
-    let room = cases::length_at(tail, 4, 12032);
+    let n = test_io::length_at(tail, 0, 6016);
+    let room = test_io::length_at(tail, 4, 12032);
     run(
         head,
         factors(list),
@@ -57,9 +57,9 @@ fn next() -> bool {
     let mut before = [0u32; 3];
     let mut list = [0u8; 16];
     let mut tail = [0u32; 5];
-    let head = cases::numbers_read(&mut before);
-    cases::read_bytes(&mut list);
-    let whole = cases::read_numbers(&mut tail);
+    let head = test_io::numbers_read(&mut before);
+    test_io::read_bytes(&mut list);
+    let whole = test_io::read_numbers(&mut tail);
     if whole {
         lend(head, &list, &tail);
     }

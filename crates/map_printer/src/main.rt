@@ -4,7 +4,7 @@
 // crate printing. So the printer's refusal, for an output that is too short, never comes.
 use libc::STDIN_FILENO;
 use libc::STDOUT_FILENO;
-use map_text::TextAnswer;
+use printing::map_text::TextAnswer;
 use printing::printer;
 
 fn print(text: &[u8], count: usize) {

@@ -12,9 +12,9 @@ use Rattle.algebra.specs.Cell.{Inside, at}
 use Rattle.numbers.specs.Value.{Value, value}
 use Rattle.slices.specs.Pairs.{allBelow}
 use Rattle.slices.proofs.Bounds.{allBelow-below}
-use Rattle.refusal_order.specs.Tests.{Test, _⇒_, first, accepted}
+use Rattle.refusals.specs.Tests.{Test, _⇒_, first, accepted}
 use Rattle.lengths.specs.Lengths.{cleared}
-use Rattle.refusal_order.proofs.Tests.{not-t, pass, passed}
+use Rattle.refusals.proofs.Tests.{not-t, pass, passed}
 use Rattle.cell.specs.Volume.{volumeLength, factorsIn, densityPlace, numbersRead}
 use Rattle.cell.specs.Consistency.{all, recordOn, agreesWithItself, orbitFree, sameValue, consistentFactors, consistentMap}
 use Rattle.job.specs.declared.Reflection.{Reflection}

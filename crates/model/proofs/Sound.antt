@@ -23,14 +23,14 @@ use Rattle.numbers.proofs.Primes.{first-modulus, prime-pos}
 use Rattle.numbers.proofs.Residues.{val-res}
 use Rattle.numbers.proofs.Values.{field-ring}
 use Rattle.slices.specs.Pairs.{Below}
-use Rattle.factors.specs.Factors.{octal}
-use Rattle.kinds.specs.Transform.{rootOf}
+use Rattle.lengths.specs.Factors.{octal}
+use Rattle.line.specs.Transform.{rootOf}
 use Rattle.lengths.specs.Admitted.{AdmittedLength}
-use Rattle.kinds.proofs.Axes.{own, axis-own}
+use Rattle.line.proofs.kinds.Axes.{own, axis-own}
 use Rattle.cell.specs.Volume.{volumeLength, factorsIn, packFactors, packMap, densityPlace, mapIn}
 use Rattle.cell.specs.Consistency.{sameValue, orbitFree, recordOn, recordIn, agreesWithItself, consistentFactors, consistentMap, RealMap, ObeysGroup}
 use Rattle.cell.specs.Sums.{axis, mapOf, factorsOf}
-use Rattle.axes.specs.Axes.{JobSizes}
+use Rattle.volume_transform.specs.Axes.{JobSizes}
 use Rattle.cell.proofs.Tests.{true-iff}
 use Rattle.cell.proofs.Reading.{same-iff, length-factors, below-factors, read-packed}
 use Rattle.cell.proofs.Consistency.{factors-consistent}
@@ -41,7 +41,7 @@ use Rattle.cell.proofs.Records.{record-lawful, record-packed}
 use Rattle.cell.proofs.OrbitNumbers.{orbit-free}
 use Rattle.job.specs.Header.{mapHeld, validJob}
 use Rattle.job.specs.Steps.{within}
-use Rattle.refusals.proofs.Headers.{all-three}
+use Rattle.header.proofs.Headers.{all-three}
 use Rattle.job.proofs.Jobs.{valid-job-sizes}
 use Rattle.model.specs.Model.{Model, group, half, factorOf, densityOf, factorVolume, mapVolume, modelVolume, modelJob}
 

@@ -7,7 +7,7 @@ use lib.ListN.{length}
 use lib.Dec.{ltb, leb, eqb}
 use Rattle.algebra.specs.Cell.{J, Group, Cell, at}
 use Rattle.numbers.specs.Value.{Value, value}
-use Rattle.refusal_order.specs.Tests.{Test, _⇒_, first, accepted}
+use Rattle.refusals.specs.Tests.{Test, _⇒_, first, accepted}
 use Rattle.lengths.specs.Lengths.{scratchLength}
 use Rattle.cell.specs.Volume.{groupOf, packFactors, mapIn, packMap}
 use Rattle.cell.specs.Consistency.{sameValue, recordIn, agreesWithItself}
@@ -15,9 +15,9 @@ use Rattle.cell.specs.Sums.{mapOf, factorsOf}
 use Rattle.job.specs.declared.Job.{Job}
 use Rattle.job.specs.Header.{Header, halvesOf, axisTests, collecting, factorsHeld, mapHeld, jobOf}
 use Rattle.job.specs.Steps.{p, within, index, position, Said, done, density, factor, refused}
-use Rattle.file_records.specs.declared.FileRecord.{FileRecord}
-use Rattle.file_shape.specs.Shape.{recordsIn, shapeTests}
-use Rattle.file_layout.specs.HeaderIn.{headerIn}
+use Rattle.file_format.specs.declared.FileRecord.{FileRecord}
+use Rattle.file_format.specs.Shape.{recordsIn, shapeTests}
+use Rattle.file_format.specs.HeaderIn.{headerIn}
 pub use Rattle.job.specs.Calls.{Call, recording, synthesis, analysis, readPoint, readFactor}
 
 -- The header is the opening's. The model uses its group and its lengths; the factor lists are in the job that is given back.

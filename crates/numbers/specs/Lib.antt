@@ -1,3 +1,4 @@
 pub mod Prime
 pub mod Value
 pub mod Accumulator
+pub mod Unreduced

@@ -15,13 +15,13 @@ use Rattle.slices.specs.Pairs.{at, fills, Below}
 use Rattle.slices.specs.Values.{valuesOf, listOf}
 use Rattle.slices.proofs.Pairs.{fills-whole}
 use Rattle.slices.proofs.Values.{list-values, list-cong, length-of, below-of}
-use Rattle.steps.specs.Steps.{innerSum}
-use Rattle.factors.specs.declared.Stage.{Stage}
-use Rattle.factors.specs.Factors.{Factored}
-use Rattle.factors.specs.Stages.{points, after, Reached, start, next, Ahead}
+use Rattle.plain.specs.Steps.{innerSum}
+use Rattle.lengths.specs.declared.stage.Stage.{Stage}
+use Rattle.lengths.specs.Factors.{Factored}
+use Rattle.lengths.specs.Stages.{points, after, Reached, start, next, Ahead}
 use Rattle.plain.specs.Stages.{sumsAt, WorkLeft, untouched, last-odd}
 use Rattle.plain.proofs.Equation3.{inner-start, inner-end}
-use Rattle.factors.proofs.Factoring.{next-factor, next-length, factored-none}
+use Rattle.lengths.proofs.stage.Factoring.{next-factor, next-length, factored-none}
 
 -- ---- the stages of a list
 

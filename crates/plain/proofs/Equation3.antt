@@ -10,8 +10,8 @@ use Rattle.algebra.proofs.Sums.{sum-cong}
 use Rattle.algebra.proofs.Transform.{pow-mul, cooley-tukey, T-start, T-end}
 use Rattle.slices.proofs.Rows.{row-end, row-col}
 use Rattle.butterflies.specs.Outer.{e}
-use Rattle.steps.specs.Steps.{innerSum, twiddled, outerSum, Splits}
-use Rattle.steps.proofs.Sizes.{outer-pos, inner-share, outer-share, inner-whole}
+use Rattle.plain.specs.Steps.{innerSum, twiddled, outerSum, Splits}
+use Rattle.plain.proofs.steps.Sizes.{outer-pos, inner-share, outer-share, inner-whole}
 
 module _ {R : Type 0} {𝓞 : Ops R} (𝓡 : CRing 𝓞) (W : R) where
   open Ops 𝓞 using (mul as _⊗_, one as 𝟙)

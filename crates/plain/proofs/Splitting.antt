@@ -3,10 +3,10 @@ use mathlib.Core.Path.{_≡_, sym, _∙_}
 use mathlib.Core.Logic.{_≢_}
 use Prim.Native.Nat.{ℕ, _*_, _/_, _%_}
 use native.Mathlib.Nat as N
-use Rattle.factors.specs.Factors.{Factored}
-use Rattle.factors.proofs.Factoring.{next-factor, factored-pos, next-length}
-use Rattle.steps.specs.Steps.{Splits}
-use Rattle.factors.proofs.Divisors.{divisor-pos}
+use Rattle.lengths.specs.Factors.{Factored}
+use Rattle.lengths.proofs.stage.Factoring.{next-factor, factored-pos, next-length}
+use Rattle.plain.specs.Steps.{Splits}
+use Rattle.lengths.proofs.stage.Divisors.{divisor-pos}
 
 -- after steps whose factors have the product A
 pub next-splits : {left k : ℕ} (A : ℕ) (h : Factored left k) (z : left ≢ 0) → A * k * (2880 / (A * k)) ≡ 2880 → Splits A (left % 8) (k / (left % 8))

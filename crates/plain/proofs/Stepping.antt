@@ -11,13 +11,13 @@ use Rattle.numbers.proofs.Values.{field-ring}
 use Rattle.slices.proofs.Rows.{row-end}
 use Rattle.slices.proofs.Values.{values-list, list-cong}
 use Rattle.butterflies.specs.Outer.{e}
-use Rattle.steps.specs.Steps.{innerSum, twiddled, outerSum, Splits}
+use Rattle.plain.specs.Steps.{innerSum, twiddled, outerSum, Splits}
 use Rattle.slices.specs.Values.{valuesOf, listOf}
-use Rattle.steps.proofs.Sizes.{outer-pos}
-use Rattle.factors.specs.declared.Stage.{Stage}
-use Rattle.factors.specs.Stages.{points, after, Ahead}
+use Rattle.plain.proofs.steps.Sizes.{outer-pos}
+use Rattle.lengths.specs.declared.stage.Stage.{Stage}
+use Rattle.lengths.specs.Stages.{points, after, Ahead}
 use Rattle.plain.specs.Stages.{sumsAt}
-use Rattle.factors.proofs.Factoring.{next-factor, next-length}
+use Rattle.lengths.proofs.stage.Factoring.{next-factor, next-length}
 use Rattle.plain.proofs.Splitting.{next-splits}
 use Rattle.plain.proofs.Equation3.{equation-3}
 

@@ -4,10 +4,10 @@ use mathlib.Core.Bool.{true}
 use mathlib.Core.List.{List}
 use Prim.Native.Nat.{ℕ, _/_}
 use Rattle.numbers.specs.Value.{Value, field}
-use Rattle.factors.specs.declared.Stage.{Stage}
-use Rattle.factors.specs.Stages.{points, Reached}
+use Rattle.lengths.specs.declared.stage.Stage.{Stage}
+use Rattle.lengths.specs.Stages.{points, Reached}
 use Rattle.slices.specs.Values.{listOf}
-use Rattle.steps.specs.Steps.{innerSum}
+use Rattle.plain.specs.Steps.{innerSum}
 
 -- what a slice holds at a stage: the inner sums of the line X
 abbrev pub sumsAt : (m : ℕ) → Value m → Stage → (ℕ → Value m) → List ℕ

@@ -7,7 +7,10 @@
 // and after an odd number of them the result is copied into the line. It is in its natural order after any number of steps.
 //
 // The roots are lent as tables of the powers of W: those of r, or those of its conjugate for the other direction.
-use factors::Stage;
+pub mod steps; // steps.rt
+pub mod scaling; // scaling.rt
+
+use lengths::stage::Stage;
 ghost use mathlib.Core.Path.{_≡_};
 ghost use Prim.Native.Nat.{ℕ, _*_, _/_};
 ghost use lib.ListN.{length};
@@ -15,9 +18,9 @@ ghost use Rattle.algebra.specs.Ring.{Ops, pow};
 ghost use Rattle.algebra.specs.Fourier.{dft};
 ghost use Rattle.numbers.specs.Prime.{prime, IsModulus};
 ghost use Rattle.numbers.specs.Value.{Value, field, part, real};
-ghost use Rattle.root.specs.Root.{tableRoot, RootTable};
-ghost use Rattle.factors.specs.Factors.{Factored};
-ghost use Rattle.factors.specs.Stages.{points, after, Ahead};
+ghost use Rattle.roots.specs.Root.{tableRoot, RootTable};
+ghost use Rattle.lengths.specs.Factors.{Factored};
+ghost use Rattle.lengths.specs.Stages.{points, after, Ahead};
 ghost use Rattle.slices.specs.Pairs.{Below};
 ghost use Rattle.slices.specs.Values.{valuesOf, listOf};
 ghost use Rattle.plain.specs.Stages.{sumsAt, WorkLeft};
@@ -72,7 +75,7 @@ pub fn inverse<'a>(
     ensures { λ _. ⌜ WorkLeft m n (tableRoot m (now (re .entry)) (now (im .entry))) factors 0 (valuesOf m (now (line .entry))) (now (work .entry)) (now (work .exit)) ⌝ }
 {
     transform(m, re, im, factors, n, line, work);
-    scaling::divide(m, n, line);
+    crate::scaling::divide(m, n, line);
 }
 
 // The next step: inner sums of length A, with B times as many lines, become inner sums of length A B.
@@ -91,8 +94,8 @@ fn step<'a>(
     ensures { λ r. ⌜ r ≡ after at ⌝ }
     ensures { λ _. ⌜ ((X : ℕ → Value m) → now (from .entry) ≡ sumsAt m (tableRoot m (now (re .entry)) (now (im .entry))) at X → now (to .exit) ≡ sumsAt m (tableRoot m (now (re .entry)) (now (im .entry))) (after at) X) ⌝ }
 {
-    let next = factors::next(at);
-    steps::step(
+    let next = lengths::stage::next(at);
+    crate::steps::step(
         m,
         re,
         im,

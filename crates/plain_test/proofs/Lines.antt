@@ -10,8 +10,8 @@ use Rattle.numbers.specs.Prime.{prime}
 use Rattle.numbers.proofs.Primes.{prime-pos, prime-least}
 use Rattle.slices.specs.Pairs.{Below}
 use Rattle.slices.proofs.Bounds.{below-each}
-use Rattle.factors.specs.Factors.{Factored, octal, product, Factors, none, one}
-use Rattle.factors.proofs.Factoring.{packed}
+use Rattle.lengths.specs.Factors.{Factored, octal, product, Factors, none, one}
+use Rattle.lengths.proofs.stage.Factoring.{packed}
 
 unfoldable pub twoToFive : List ℕ → Bool
 twoToFive [] = true

@@ -5,8 +5,8 @@ ghost use mathlib.Core.Path.{_≡_};
 ghost use Prim.Native.Nat.{_*_, _/_, _<_};
 ghost use lib.ListN.{length};
 ghost use Rattle.numbers.specs.Prime.{IsModulus};
-ghost use Rattle.root.specs.Root.{RealTable, ImaginaryTable, RootTable};
-ghost use Rattle.factors.specs.Factors.{Factored};
+ghost use Rattle.roots.specs.Root.{RealTable, ImaginaryTable, RootTable};
+ghost use Rattle.lengths.specs.Factors.{Factored};
 
 fn main() {
     each(0, 1);
@@ -34,15 +34,15 @@ fn each(factors: u32, n: usize)
 {
     each_way(
         1,
-        roots::real_parts(1),
-        roots::imaginary_parts(1),
+        roots::tables::real_parts(1),
+        roots::tables::imaginary_parts(1),
         factors,
         n,
     );
     each_way(
         2,
-        roots::real_parts(2),
-        roots::imaginary_parts(2),
+        roots::tables::real_parts(2),
+        roots::tables::imaginary_parts(2),
         factors,
         n,
     );
@@ -55,7 +55,7 @@ fn each_way(m: u32, re: [u32; 2880], im: [u32; 2880], factors: u32, n: usize)
 {
     lend(m, 0, &re, &im, factors, n);
     let mut back = im;
-    root::negate(m, &mut back);
+    roots::negate(m, &mut back);
     lend(m, 1, &re, &back, factors, n);
 }
 
@@ -100,7 +100,7 @@ fn run<'a>(
     requires { ⌜ Factored factors n × (n * (2880 / n) ≡ 2880) ⌝ }
     requires { ⌜ (length (now line) ≡ 2 * n) × (length (now work) ≡ 2 * n) ⌝ }
 {
-    cases::fill(line, direction + 1);
+    test_io::fill(line, direction + 1);
     if direction == 0 {
         plain::transform(m, re, im, factors, n, line, work);
         report(m, direction, factors, &line[..])
@@ -111,6 +111,6 @@ fn run<'a>(
 }
 
 fn report(m: u32, direction: u32, factors: u32, line: &[u32]) {
-    let said = [m, direction, factors, cases::checksum(line)];
-    cases::print_line(&said);
+    let said = [m, direction, factors, test_io::checksum(line)];
+    test_io::print_line(&said);
 }

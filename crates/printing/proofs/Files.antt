@@ -9,8 +9,8 @@ use lib.Seq.{length-take-le}
 use lib.Dec.{ltb}
 use Rattle.job.specs.Header.{needed}
 use Rattle.factor_file.specs.File.{headerIn, fileStep}
-use Rattle.map_text.specs.Text.{refusalText, putText}
-use Rattle.limits.specs.Limits.{fileLimit, lentLimit}
+use Rattle.printing.specs.Text.{refusalText, putText}
+use Rattle.printing.specs.Limits.{fileLimit, lentLimit}
 use Rattle.printing.specs.Printed.{openedText, printed, printStep}
 
 -- ---- the numbers that are lent: the first n of m zeros

@@ -5,7 +5,7 @@ use Rattle.cell.specs.Consistency.{all, writeAlternating, write, writeImages, r
 use Rattle.job.specs.Header.{validJob}
 use Rattle.job.specs.Steps.{openStep, recordStep, synthesisStep, analysisStep, pointStep, factorStep}
 use Rattle.lengths.specs.Lengths.{admitted, factorsOk, digits, cleared}
-use Rattle.refusal_order.specs.Tests.{first}
+use Rattle.refusals.specs.Tests.{first}
 use Rattle.algebra.specs.Cell.{negI, halfI, flip, turn, im, pim, span, lineRep, rep, planes, prep, mapOf, factorsOf, sgn, star, pimp, imp, factorActs, mapActs}
 use Rattle.algebra.specs.CellTests.{below, every, everyPlace, agreesT, consistentFactorsT, consistentMapT, zeroT, lineFrom, planeFrom, cellFrom, recordsOf}
 use Rattle.algebra.specs.CellPack.{even, packAlt, unpackAlt, timesI, overI, packFactors as packFactors-algebra, unpack, upd, putAlt, putFactor}
@@ -18,13 +18,13 @@ use Rattle.algebra.specs.Residue.{residue, residues}
 use Rattle.algebra.specs.Fourier.{dft}
 use Rattle.algebra.specs.Line.{three, re, im as im-algebra, unfold-by, pack-by, weave, unit}
 use Rattle.numbers.specs.Prime.{prime, exponent}
-use Rattle.root.specs.Root.{choice, root, entryAt, tableRoot}
+use Rattle.roots.specs.Root.{choice, root, entryAt, tableRoot}
 use Rattle.numbers.specs.Value.{half, part, valueOf, pairOf}
 use Rattle.slices.specs.Pairs.{at, put, puts, allBelow}
-use Rattle.factors.specs.Factors.{octal, product}
+use Rattle.lengths.specs.Factors.{octal, product}
 use Rattle.factor_file.specs.File.{twoBytes, fourBytes, listAt, list2At, list3At, countAt, recordAt, recordsFrom, feed, fileStep}
 use Rattle.output.specs.Decimal.{digitsOf, each}
-use Rattle.map_text.specs.Text.{headLine, rowLine, mapText, refusalText}
+use Rattle.printing.specs.Text.{headLine, rowLine, mapText, refusalText}
 use Rattle.printing.specs.Printed.{printed}
 use Rattle.printing.specs.Specimen.{PrintedSpecimen}
 

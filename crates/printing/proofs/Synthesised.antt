@@ -7,11 +7,11 @@ use native.Mathlib.Omega.{arith}
 use lib.Dec.{ltb, eqb}
 use lib.ListN.{length}
 use borrow.Author.Tests.{not-false}
-use Rattle.refusal_order.specs.declared.Refusal.{Refusal}
-use Rattle.refusal_order.specs.Refusals.{numberOf}
-use Rattle.refusal_order.specs.Tests.{first, accepted}
+use Rattle.refusals.specs.declared.Refusal.{Refusal}
+use Rattle.refusals.specs.Refusals.{numberOf}
+use Rattle.refusals.specs.Tests.{first, accepted}
 use Rattle.lengths.specs.Lengths.{cleared}
-use Rattle.refusal_order.proofs.Tests.{passed}
+use Rattle.refusals.proofs.Tests.{passed}
 use Rattle.cell.proofs.VolumeLayout.{length-map}
 use Rattle.job.specs.declared.Job.{Job}
 use Rattle.job.specs.declared.Answer.{Answer}
@@ -20,9 +20,9 @@ use Rattle.job.specs.declared.Answered.{Answered}
 use Rattle.job.specs.Header.{headerOf, axisTests, validJob, withState, mapHeld, groupIn, halves}
 use Rattle.job.specs.Steps.{Said, done, refused, Outcome, Worked, unchanged, synthesisTests, synthesised, synthesisStep}
 use Rattle.job.specs.Said.{said, worked}
-use Rattle.refusals.proofs.Headers.{all-three}
-use Rattle.map_text.specs.Text.{mapText, refusalText}
-use Rattle.map_text.specs.Printable.{Printable}
+use Rattle.header.proofs.Headers.{all-three}
+use Rattle.printing.specs.Text.{mapText, refusalText}
+use Rattle.printing.specs.Printable.{Printable}
 use Rattle.printing.specs.Printed.{synthesisText}
 
 -- a job is valid in every state

@@ -10,8 +10,8 @@ use Rattle.job.specs.declared.Job.{Job}
 use Rattle.job.specs.Header.{needed}
 use Rattle.job.specs.Steps.{Opening, opened, notOpened, OpenOutcome, Said, done, density, factor, refused, Outcome, Worked, synthesisStep}
 use Rattle.factor_file.specs.File.{headerIn, fileStep}
-use Rattle.map_text.specs.Text.{mapText, refusalText, TextOutcome, putText}
-use Rattle.limits.specs.Limits.{fileLimit, lentLimit}
+use Rattle.printing.specs.Text.{mapText, refusalText, TextOutcome, putText}
+use Rattle.printing.specs.Limits.{fileLimit, lentLimit}
 
 -- The synthesis of an accepted file is never refused (demand 3); the text of a refusal stands here for completeness.
 abbrev pub synthesisText : Outcome → List ℕ

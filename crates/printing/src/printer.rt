@@ -1,18 +1,18 @@
 // From the bytes of a factor file to the text of its map, or of its refusal.
+use crate::map_text::TextAnswer;
+use crate::map_text::refusal;
+use crate::map_text::text;
 use factor_file::FileAnswer;
 use factor_file::open_file;
 use job::Answer;
 use job::Job;
-use map_text::TextAnswer;
-use map_text::refusal;
-use map_text::text;
-use refusal_order::Refusal;
+use refusals::Refusal;
 ghost use mathlib.Core.Path.{_≡_};
 ghost use lib.ListN.{replicate};
 ghost use Rattle.lengths.specs.Lengths.{scratchLength};
 ghost use Rattle.job.specs.Steps.{synthesisStep};
 ghost use Rattle.factor_file.specs.File.{fileStep};
-ghost use Rattle.map_text.specs.Text.{putText, textOutcome};
+ghost use Rattle.printing.specs.Text.{putText, textOutcome};
 ghost use Rattle.printing.specs.Printed.{synthesisText, openedText, printStep};
 
 // The map of the factors that a job holds.
@@ -43,10 +43,10 @@ fn print_opened(file: &[u8], volume: &mut [u32], out: &mut [u8]) -> TextAnswer
 pub fn print_file(file: &[u8], out: &mut [u8]) -> TextAnswer
     ensures { λ r. ⌜ textOutcome r (now (out .exit)) ≡ printStep (now (file .entry)) (now (out .entry)) ⌝ }
 {
-    if limits::too_long(file) {
+    if crate::limits::too_long(file) {
         return refusal::refusal_text(Refusal::FileShape, 0, out);
     }
     let mut numbers = [0u32; 2048];
-    let count = limits::lent_to(file);
+    let count = crate::limits::lent_to(file);
     print_opened(file, &mut numbers[..count], out)
 }

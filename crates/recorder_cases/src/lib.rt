@@ -6,21 +6,21 @@ ghost use Prim.Native.Nat.{_<_};
 ghost use lib.ListN.{length};
 use factor_file::FileAnswer;
 use factor_file::open_file;
-use file_writer::WriteAnswer;
+use factor_file::writer::WriteAnswer;
 use job::Axis;
 use job::Job;
 use job::OpenAnswer;
 
 // What a record asks of the part of the volume that it lends; the job that goes on.
 pub fn asked(job: Job, r: &[u32], volume: &mut [u32]) -> Job {
-    let operation = cases::at(r, 0);
+    let operation = test_io::at(r, 0);
     match operation {
         0 => return opened(job, r, volume),
         1 => return file_opened(job, r, volume),
         3 => written(job, r, &volume[..]),
         4 => return job_said(r),
-        5 => cases::fill(volume, cases::at(r, 2)),
-        _ => cases::put_at(volume, cases::at(r, 2), cases::at(r, 3)),
+        5 => test_io::fill(volume, test_io::at(r, 2)),
+        _ => test_io::put_at(volume, test_io::at(r, 2), test_io::at(r, 3)),
     }
     job
 }
@@ -50,17 +50,17 @@ pub fn job_checksum(j: Job) -> u32 {
         j.c.factors,
         j.state,
     ];
-    cases::checksum(&numbers)
+    test_io::checksum(&numbers)
 }
 
 // The job itself, whether or not any opening could have made it.
 fn job_said(r: &[u32]) -> Job {
     Job {
-        group: cases::at(r, 2),
+        group: test_io::at(r, 2),
         a: axis_said(r, 3),
         b: axis_said(r, 5),
         c: axis_said(r, 7),
-        state: cases::at(r, 9),
+        state: test_io::at(r, 9),
     }
 }
 
@@ -68,8 +68,8 @@ fn axis_said(r: &[u32], i: usize) -> Axis
     requires { ⌜ i < 10 ⌝ }
 {
     Axis {
-        length: cases::at(r, i),
-        factors: cases::at(r, i + 1),
+        length: test_io::at(r, i),
+        factors: test_io::at(r, i + 1),
     }
 }
 
@@ -87,9 +87,9 @@ fn print_opening(o: Opening, volume: &[u32]) -> Job {
         o.number,
         o.place,
         job_checksum(o.printed),
-        cases::checksum(volume),
+        test_io::checksum(volume),
     ];
-    cases::print_line(&said);
+    test_io::print_line(&said);
     o.kept
 }
 
@@ -102,7 +102,7 @@ fn of_file(answer: FileAnswer, before: Job) -> Opening {
             kept: job,
         },
         FileAnswer::Refused(refusal, place) => Opening {
-            number: refusal_order::number_of(refusal),
+            number: refusals::number_of(refusal),
             place,
             printed: no_job(),
             kept: before,
@@ -119,7 +119,7 @@ fn of_open(answer: OpenAnswer, before: Job) -> Opening {
             kept: job,
         },
         OpenAnswer::Refused(refusal) => Opening {
-            number: refusal_order::number_of(refusal),
+            number: refusals::number_of(refusal),
             place: 0,
             printed: before,
             kept: before,
@@ -130,9 +130,9 @@ fn of_open(answer: OpenAnswer, before: Job) -> Opening {
 // The opening of the file that follows, on a volume of sevens.
 fn file_opened(before: Job, r: &[u32], volume: &mut [u32]) -> Job {
     let mut bytes = [0u8; 1024];
-    let n = cases::length_at(r, 2, 1024);
-    let file = cases::bytes_read(&mut bytes[..n]);
-    cases::fill_with(volume, 7);
+    let n = test_io::length_at(r, 2, 1024);
+    let file = test_io::bytes_read(&mut bytes[..n]);
+    test_io::fill_with(volume, 7);
     let answer = open_file::open_file(file, volume);
     print_opening(of_file(answer, before), &volume[..])
 }
@@ -140,7 +140,7 @@ fn file_opened(before: Job, r: &[u32], volume: &mut [u32]) -> Job {
 // The opening by group, kind, lengths and the lists that follow.
 fn opened(before: Job, r: &[u32], volume: &mut [u32]) -> Job {
     let mut lists = [0u8; 48];
-    cases::read_bytes(&mut lists);
+    test_io::read_bytes(&mut lists);
     let answer = open_listed(r, &lists, volume);
     print_opening(of_open(answer, before), &volume[..])
 }
@@ -150,14 +150,14 @@ fn open_listed(r: &[u32], lists: &[u8], volume: &mut [u32]) -> OpenAnswer
     requires { ⌜ length (now lists) ≡ 48 ⌝ }
 {
     job::open::open(
-        cases::at(r, 2),
-        cases::at(r, 3),
-        cases::at(r, 4),
-        cases::at(r, 5),
-        cases::at(r, 6),
-        cases::part(lists, 0, cases::at(r, 7), 16),
-        cases::part(lists, 16, cases::at(r, 8), 16),
-        cases::part(lists, 32, cases::at(r, 9), 16),
+        test_io::at(r, 2),
+        test_io::at(r, 3),
+        test_io::at(r, 4),
+        test_io::at(r, 5),
+        test_io::at(r, 6),
+        test_io::part(lists, 0, test_io::at(r, 7), 16),
+        test_io::part(lists, 16, test_io::at(r, 8), 16),
+        test_io::part(lists, 32, test_io::at(r, 9), 16),
         volume,
     )
 }
@@ -165,19 +165,19 @@ fn open_listed(r: &[u32], lists: &[u8], volume: &mut [u32]) -> OpenAnswer
 // The job's file, into an output of sevens.
 fn written(job: Job, r: &[u32], volume: &[u32]) {
     let mut out = [7u8; 4096];
-    let n = cases::length_at(r, 2, 4096);
+    let n = test_io::length_at(r, 2, 4096);
     write_bytes(job, volume, &mut out[..n])
 }
 
 fn write_bytes(job: Job, volume: &[u32], out: &mut [u8]) {
-    of_writing(file_writer::write_file(job, volume, out), &out[..])
+    of_writing(factor_file::writer::write_file(job, volume, out), &out[..])
 }
 
 fn of_writing(answer: WriteAnswer, out: &[u8]) {
     match answer {
-        WriteAnswer::Written(written) => cases::print_writing(0, written, out),
+        WriteAnswer::Written(written) => test_io::print_writing(0, written, out),
         WriteAnswer::Refused(refusal) => {
-            cases::print_writing(refusal_order::number_of(refusal), 0, out)
+            test_io::print_writing(refusals::number_of(refusal), 0, out)
         }
     }
 }

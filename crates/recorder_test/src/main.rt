@@ -14,8 +14,8 @@ fn replay_calls(
     scratch: &mut [u32],
     answers: &mut [u32],
 ) -> Job {
-    let r = replay::replay(job, script, volume, scratch, answers);
-    cases::print_replay(
+    let r = scripts::replay::replay(job, script, volume, scratch, answers);
+    test_io::print_replay(
         r.written,
         recorder_cases::job_checksum(r.job),
         &volume[..],
@@ -30,10 +30,10 @@ fn replayed(job: Job, r: &[u32], volume: &mut [u32]) -> Job {
     let mut numbers = [0u32; 150];
     let mut scratch = [7u32; 12032];
     let mut answers = [9u32; 80];
-    let n = cases::length_at(r, 2, 150);
-    let room = cases::length_at(r, 3, 12032);
-    let space = cases::length_at(r, 4, 80);
-    let script = cases::numbers_read(&mut numbers[..n]);
+    let n = test_io::length_at(r, 2, 150);
+    let room = test_io::length_at(r, 3, 12032);
+    let space = test_io::length_at(r, 4, 80);
+    let script = test_io::numbers_read(&mut numbers[..n]);
     replay_calls(
         job,
         script,
@@ -45,8 +45,8 @@ fn replayed(job: Job, r: &[u32], volume: &mut [u32]) -> Job {
 
 // What a record asks of the part of the volume that it lends; the job that goes on.
 fn next(job: Job, r: &[u32], volume: &mut [u32]) -> Job {
-    let lent = cases::length_at(r, 1, volume.len());
-    if cases::at(r, 0) == 2 {
+    let lent = test_io::length_at(r, 1, volume.len());
+    if test_io::at(r, 0) == 2 {
         return replayed(job, r, &mut volume[..lent]);
     }
     recorder_cases::asked(job, r, &mut volume[..lent])
@@ -57,7 +57,7 @@ fn main() {
     let mut job = recorder_cases::no_job();
     let mut r = [0u32; 10];
     let mut turns = u32::MAX;
-    while turns > 0 && cases::read_numbers(&mut r) {
+    while turns > 0 && test_io::read_numbers(&mut r) {
         job = next(job, &r, &mut volume);
         turns -= 1;
     }

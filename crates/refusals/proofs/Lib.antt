@@ -1,4 +1,1 @@
-pub mod Headers
-pub mod Digits
-pub mod Openings
-pub mod Points
+pub mod Tests

@@ -1,7 +1,69 @@
-// The tests of a header, and those of numbers and of a volume's length that a job's calls share: they work nothing.
+// The refusals: each has the paper's number, and a call answers the first that holds of its tests in the paper's order.
 //
-// The lists of tests of an opening, a synthesis and an analysis stand in specs/Tests.antt; their checks, which test the whole volume,
-// are crate volume_refusals.
-pub mod header; // header.rt: the tests of an opening's group, lengths and factor lists
-pub mod packed; // packed.rt: the same tests where each list is one number
-pub mod tests; // tests.rt: tests that several calls share
+// Every call is turned back in this way; what each tests is said where its check is.
+ghost use mathlib.Core.Path.{_≡_};
+ghost use Rattle.refusals.specs.Refusals.{numberOf};
+
+// Why a call is turned back: one case for each number of the paper.
+pub enum Refusal {
+    LineKind,
+    Direction,
+    Length,
+    Factor,
+    Product,
+    BufferLength,
+    NotResidue,
+    Group,
+    VolumeTooLarge,
+    Index,
+    ZeroValue,
+    Contradiction,
+    ScratchTooShort,
+    Inconsistent,
+    FileShape,
+    FileVersion,
+    NoRecords,
+    OutputTooShort,
+    NotCollecting,
+    NoMap,
+    NoFactors,
+    Occupied,
+    ImpossibleJob,
+}
+
+// What a check says.
+pub enum Checked {
+    Sound,
+    Failed(Refusal),
+}
+
+// The paper's number of a refusal.
+pub fn number_of(r: Refusal) -> u32
+    ensures { λ n. ⌜ n ≡ numberOf r ⌝ }
+{
+    match r {
+        Refusal::LineKind => 1,
+        Refusal::Direction => 2,
+        Refusal::Length => 3,
+        Refusal::Factor => 4,
+        Refusal::Product => 5,
+        Refusal::BufferLength => 6,
+        Refusal::NotResidue => 7,
+        Refusal::Group => 8,
+        Refusal::VolumeTooLarge => 9,
+        Refusal::Index => 10,
+        Refusal::ZeroValue => 11,
+        Refusal::Contradiction => 12,
+        Refusal::ScratchTooShort => 13,
+        Refusal::Inconsistent => 14,
+        Refusal::FileShape => 15,
+        Refusal::FileVersion => 16,
+        Refusal::NoRecords => 17,
+        Refusal::OutputTooShort => 18,
+        Refusal::NotCollecting => 21,
+        Refusal::NoMap => 22,
+        Refusal::NoFactors => 23,
+        Refusal::Occupied => 24,
+        Refusal::ImpossibleJob => 25,
+    }
+}

@@ -7,9 +7,9 @@ use lib.ListN.{getD}
 use Rattle.lengths.specs.Lengths.{cleared}
 use Rattle.job.specs.declared.Job.{Job}
 use Rattle.job.specs.Steps.{Said, done, density, factor, refused}
-use Rattle.call_numbers.specs.declared.CallNumbers.{CallNumbers}
+use Rattle.scripts.specs.declared.numbers.CallNumbers.{CallNumbers}
 pub use Rattle.job.specs.Calls.{Call, recording, synthesis, analysis, readPoint, readFactor, step}
-pub use Rattle.call_numbers.specs.Numbers.{numbersAt, replyNumbers}
+pub use Rattle.scripts.specs.Numbers.{numbersAt, replyNumbers}
 
 -- ---- the call
 

@@ -1,11 +1,15 @@
 // The answers of a job's calls as the three numbers of a script's answer.
-use call_numbers::Reply;
+pub mod numbers; // numbers.rt
+pub mod calls; // calls.rt
+pub mod replay; // replay.rt
+
+use crate::numbers::Reply;
 use job::Answer;
 use job::FactorAnswer;
 use job::PointAnswer;
-use refusal_order::Refusal;
+use refusals::Refusal;
 ghost use mathlib.Core.Path.{_≡_};
-ghost use Rattle.refusal_order.specs.Refusals.{numberOf};
+ghost use Rattle.refusals.specs.Refusals.{numberOf};
 ghost use Rattle.job.specs.Steps.{refused};
 ghost use Rattle.job.specs.Said.{said, saidPoint, saidFactor};
 ghost use Rattle.scripts.specs.Call.{answerNumbers, replyNumbers};
@@ -14,7 +18,7 @@ fn refusal_reply(refusal: Refusal) -> Reply
     ensures { λ r. ⌜ replyNumbers r ≡ answerNumbers (refused (numberOf refusal)) ⌝ }
 {
     Reply {
-        number: refusal_order::number_of(refusal),
+        number: refusals::number_of(refusal),
         x: 0,
         y: 0,
     }

@@ -1,5 +1,8 @@
 // Pairs in a slice of u32: read, stored and copied. The pair at place j is the numbers 2 j and 2 j + 1.
 // Nothing here computes with the values.
+pub mod buffers; // buffers.rt
+pub mod gathering; // gathering.rt
+
 use numbers::Pair;
 ghost use mathlib.Core.Path.{_≡_};
 ghost use Prim.Native.Nat.{_+_, _*_, _<_, _≤_};

@@ -2,7 +2,7 @@
 use borrow.Author.Needs.{needs}
 use native.Mathlib.Omega.{arith}
 use Rattle.butterflies.specs.Butterfly.{evenPart, oddPart}
-use Rattle.unreduced.proofs.Unreduced.{counted-one, room, rooms}
+use Rattle.numbers.proofs.unreduced.Unreduced.{counted-one, room, rooms}
 use Rattle.butterflies.proofs.conjugates.Statement.{statement}
 use Rattle.butterflies.proofs.conjugates.Tie as tie
 

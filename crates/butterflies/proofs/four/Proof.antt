@@ -4,10 +4,10 @@ use native.Mathlib.Omega.{arith}
 use lib.Dec.{lit<}
 use Rattle.algebra.specs.Ring.{Ops, pow}
 use Rattle.numbers.specs.Value.{Value, field}
-use Rattle.root.specs.Root.{tableRoot}
+use Rattle.roots.specs.Root.{tableRoot}
 use Rattle.butterflies.specs.declared.FourSums.{FourSums}
-use Rattle.unreduced.specs.Unreduced.{meant}
-use Rattle.unreduced.proofs.Unreduced.{rooms}
+use Rattle.numbers.specs.Unreduced.{meant}
+use Rattle.numbers.proofs.unreduced.Unreduced.{rooms}
 use Rattle.butterflies.proofs.Given.{given, given-both}
 use Rattle.butterflies.proofs.Butterflies.{four-butterfly}
 use Rattle.butterflies.proofs.four.Statement.{statement}

@@ -2,9 +2,9 @@
 use borrow.Author.Needs.{needs}
 use native.Mathlib.Omega.{arith}
 use lib.Dec.{lit<}
-use Rattle.unreduced.proofs.Unreduced.{room, rooms}
+use Rattle.numbers.proofs.unreduced.Unreduced.{room, rooms}
 use Rattle.butterflies.proofs.Given.{given, given-both}
-use Rattle.quarter_turns.proofs.Turns.{root-most}
+use Rattle.butterflies.proofs.quarter_turns.Turns.{root-most}
 use Rattle.butterflies.proofs.Butterflies.{three-butterfly}
 use Rattle.butterflies.proofs.three.Statement.{statement}
 use Rattle.butterflies.proofs.three.Tie as tie

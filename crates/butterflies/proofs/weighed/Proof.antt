@@ -1,7 +1,7 @@
 -- Two products by residues.
 use borrow.Author.Needs.{needs}
 use native.Mathlib.Omega.{arith}
-use Rattle.unreduced.proofs.Unreduced.{counted, rooms}
+use Rattle.numbers.proofs.unreduced.Unreduced.{counted, rooms}
 use Rattle.butterflies.proofs.weighed.Statement.{statement}
 use Rattle.butterflies.proofs.weighed.Tie as tie
 

@@ -7,7 +7,7 @@ use lib.ListN.{length, drop}
 use denote.Ref.{now}
 use Rattle.lengths.specs.Lengths.{factorsOk}
 use Rattle.lengths.proofs.Factors.{factors-stop, factors-next, factors-past}
-use Rattle.refusal_order.proofs.Tests.{by-false, by-true}
+use Rattle.refusals.proofs.Tests.{by-false, by-true}
 use Rattle.lengths.proofs.factors_ok.Statement.{statement}
 use Rattle.lengths.proofs.factors_ok.Tie as tie
 

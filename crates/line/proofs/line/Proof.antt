@@ -8,10 +8,10 @@ use lib.ListN.{length, replicate}
 use denote.Ref.{now}
 use Rattle.numbers.specs.Prime.{prime}
 use Rattle.numbers.proofs.Primes.{prime-pos}
-use Rattle.factors.specs.Factors.{octal}
-use Rattle.refusal_order.specs.Tests.{first, checkedNumber}
+use Rattle.lengths.specs.Factors.{octal}
+use Rattle.refusals.specs.Tests.{first, checkedNumber}
 use Rattle.lengths.specs.Lengths.{cleared}
-use Rattle.line_refusals.specs.LineTests.{lineTests}
+use Rattle.line.specs.LineTests.{lineTests}
 use Rattle.line.specs.Accepted.{Accepted}
 use Rattle.line.proofs.Accepted.{accepted-factors, accepted-line}
 use Rattle.line.proofs.Outcome.{refused-outcome, transformed-outcome}

@@ -3,8 +3,8 @@ use borrow.Author.Needs.{needs}
 use native.Mathlib.Omega.{arith}
 use mathlib.Core.Path.{refl, sym}
 use Rattle.numbers.proofs.Primes.{first-modulus}
-use Rattle.kinds.proofs.Dispatch.{prefix-length}
-use Rattle.tables.proofs.Directions.{tables-of}
+use Rattle.line.proofs.kinds.Dispatch.{prefix-length}
+use Rattle.line.proofs.table.Directions.{tables-of}
 use Rattle.line.proofs.Whole.{rest-of, whole-size, whole-list, whole-count, whole-result}
 use Rattle.line.proofs.transform_line.Statement.{statement}
 use Rattle.line.proofs.transform_line.Tie as tie

@@ -1,9 +1,9 @@
 -- What `transform` leaves, divided by n.
 use borrow.Author.Needs.{needs}
 use Prim.Native.Nat.{_/_}
-use Rattle.factors.proofs.Divisors.{divisor-pos, divisor-le}
+use Rattle.lengths.proofs.stage.Divisors.{divisor-pos, divisor-le}
 use Rattle.slices.proofs.Values.{length-of, below-of}
-use Rattle.scaling.proofs.Dividing.{divided-values}
+use Rattle.plain.proofs.scaling.Dividing.{divided-values}
 use Rattle.plain.proofs.inverse.Statement.{statement}
 use Rattle.plain.proofs.inverse.Tie as tie
 

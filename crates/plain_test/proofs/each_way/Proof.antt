@@ -1,8 +1,8 @@
 -- The tables hold the powers of r and, negated, of its conjugate.
 use native.Mathlib.Omega.{arith}
 use borrow.Author.Needs.{needs}
-use Rattle.root.proofs.RootPowers.{imaginary-below, root-table, conj-root-table}
-use Rattle.root.proofs.RootNegated.{negated-first}
+use Rattle.roots.proofs.RootPowers.{imaginary-below, root-table, conj-root-table}
+use Rattle.roots.proofs.RootNegated.{negated-first}
 use Rattle.plain_test.proofs.each_way.Statement.{statement}
 use Rattle.plain_test.proofs.each_way.Tie as tie
 

@@ -4,7 +4,7 @@ use Prim.Native.Nat.{_/_}
 use native.Mathlib.Omega.{arith}
 use lib.ListN.{length-take}
 use borrow.Author.Needs.{needs}
-use Rattle.factors.proofs.Divisors.{divisor-le}
+use Rattle.lengths.proofs.stage.Divisors.{divisor-le}
 use Rattle.plain_test.proofs.lend.Statement.{statement}
 use Rattle.plain_test.proofs.lend.Tie as tie
 

@@ -5,7 +5,7 @@ use Prim.Native.Nat.{ℕ, _+_}
 use native.Mathlib.Omega.{arith}
 use denote.Ref.{now}
 use Rattle.factor_file.specs.File.{list2At, list3At, countAt}
-use Rattle.file_shape.proofs.Shapes.{Ordered, ordered, part-is-list}
+use Rattle.file_format.proofs.shape.Shapes.{Ordered, ordered, part-is-list}
 use Rattle.factor_file.proofs.Openings.{opened-by}
 use Rattle.factor_file.proofs.open_file.open_header.Statement.{statement}
 use Rattle.factor_file.proofs.open_file.open_header.Tie as tie

@@ -7,11 +7,11 @@ use native.Mathlib.Omega.{arith}
 use lib.ListN.{length, replicate}
 use denote.Ref.{now}
 use Rattle.job.specs.Said.{said}
-use Rattle.file_records.specs.declared.reader.Found.the-variants.{Record}
-use Rattle.file_shape.specs.Shape.{byteAt, countAt, recordsIn}
-use Rattle.file_records.specs.Records.{foundAt}
-use Rattle.file_numbers.proofs.Numbers.{four-bytes-fit}
-use Rattle.file_records.proofs.Reading.{record-inside, record-after}
+use Rattle.file_format.specs.declared.reader.Found.the-variants.{Record}
+use Rattle.file_format.specs.Shape.{byteAt, countAt, recordsIn}
+use Rattle.file_format.specs.Records.{foundAt}
+use Rattle.file_format.proofs.integers.Numbers.{four-bytes-fit}
+use Rattle.file_format.proofs.Reading.{record-inside, record-after}
 use Rattle.factor_file.specs.declared.FileAnswer.the-variants.{Refused}
 use Rattle.factor_file.specs.Feed.{feed}
 use Rattle.factor_file.specs.Said.{fileOutcome}

@@ -5,12 +5,12 @@ use mathlib.Core.Bool.{Bool}
 use denote.Ref.{now}
 use borrow.Author.Tests.{not-false, ltb-true, eqb-true}
 use Rattle.numbers.proofs.Primes.{first-modulus}
-use Rattle.refusal_order.specs.Tests.{first, checkedNumber}
-use Rattle.refusal_order.proofs.Tests.{Passed, passed, both}
+use Rattle.refusals.specs.Tests.{first, checkedNumber}
+use Rattle.refusals.proofs.Tests.{Passed, passed, both}
 use Rattle.job.specs.Header.{headerOf}
 use Rattle.job.specs.Steps.{index, recordTests, recordTestsOf}
 use Rattle.job.proofs.Jobs.{valid-sizes}
-use Rattle.refusals.proofs.Points.{within-of}
+use Rattle.header.proofs.Points.{within-of}
 use Rattle.job.proofs.Reflections.{record-refused, record-written}
 use Rattle.job.proofs.Job.record.Statement.{statement}
 use Rattle.job.proofs.Job.record.Tie as tie

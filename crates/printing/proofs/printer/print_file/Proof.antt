@@ -3,7 +3,7 @@ use borrow.Author.Needs.{needs}
 use mathlib.Core.Path.{sym, _∙_}
 use Rattle.job.specs.Header.{needed}
 use Rattle.factor_file.specs.File.{headerIn}
-use Rattle.limits.specs.Limits.{lentLimit}
+use Rattle.printing.specs.Limits.{lentLimit}
 use Rattle.printing.proofs.Files.{lent-length, lent-zeros, printed-long, printed-lent}
 use Rattle.printing.proofs.printer.print_file.Statement.{statement}
 use Rattle.printing.proofs.printer.print_file.Tie as tie

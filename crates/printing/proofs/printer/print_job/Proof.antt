@@ -3,8 +3,8 @@ use borrow.Author.Needs.{needs}
 use mathlib.Core.Path.{ap, _∙_}
 use mathlib.Core.List.{List}
 use Prim.Native.Nat.{ℕ}
-use Rattle.map_text.specs.Text.{putText}
-use Rattle.map_text.proofs.Outcomes.{text-held}
+use Rattle.printing.specs.Text.{putText}
+use Rattle.printing.proofs.map_text.Outcomes.{text-held}
 use Rattle.printing.proofs.Synthesised.{refused-text, done-text, done-held}
 use Rattle.printing.proofs.printer.print_job.Statement.{statement}
 use Rattle.printing.proofs.printer.print_job.Tie as tie

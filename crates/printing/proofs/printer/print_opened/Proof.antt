@@ -6,7 +6,7 @@ use Prim.Native.Nat.{ℕ}
 use Rattle.job.specs.Steps.{OpenOutcome}
 use Rattle.factor_file.specs.declared.FileAnswer.{FileAnswer}
 use Rattle.factor_file.specs.Said.{fileOutcome}
-use Rattle.map_text.specs.Text.{TextOutcome, putText}
+use Rattle.printing.specs.Text.{TextOutcome, putText}
 use Rattle.printing.specs.Printed.{openedText}
 use Rattle.printing.proofs.printer.print_opened.Statement.{statement}
 use Rattle.printing.proofs.printer.print_opened.Tie as tie

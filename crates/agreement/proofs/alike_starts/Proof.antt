@@ -1,9 +1,0 @@
-use Rattle.agreement.proofs.Order.{alike-starts}
-use Rattle.agreement.proofs.alike_starts.Statement.{statement}
-use Rattle.agreement.proofs.alike_starts.Tie as tie
-
-returns : tie.Need-returns
-returns c = alike-starts
-
-pub alike-starts-spec : {M : Type 1} → statement M
-alike-starts-spec = tie.close (tie.spec returns)

@@ -1,9 +1,0 @@
-use Rattle.agreement.proofs.Restoring.{analysis-restores}
-use Rattle.agreement.proofs.analysis_restores.Statement.{statement}
-use Rattle.agreement.proofs.analysis_restores.Tie as tie
-
-returns : tie.Need-returns
-returns c = analysis-restores
-
-pub analysis-restores-spec : {M : Type 1} → statement M
-analysis-restores-spec = tie.close (tie.spec returns)

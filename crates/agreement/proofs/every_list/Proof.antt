@@ -1,9 +1,0 @@
-use Rattle.agreement.proofs.Starts.{every-start}
-use Rattle.agreement.proofs.every_list.Statement.{statement}
-use Rattle.agreement.proofs.every_list.Tie as tie
-
-returns : tie.Need-returns
-returns c = every-start
-
-pub every-list-spec : {M : Type 1} → statement M
-every-list-spec = tie.close (tie.spec returns)

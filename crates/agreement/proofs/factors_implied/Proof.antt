@@ -1,9 +1,0 @@
-use Rattle.agreement.proofs.AcceptedRecords.{factors-implied}
-use Rattle.agreement.proofs.factors_implied.Statement.{statement}
-use Rattle.agreement.proofs.factors_implied.Tie as tie
-
-returns : tie.Need-returns
-returns c = factors-implied
-
-pub factors-implied-spec : {M : Type 1} → statement M
-factors-implied-spec = tie.close (tie.spec returns)

@@ -1,9 +1,0 @@
-use Rattle.agreement.proofs.Starts.{images-alike}
-use Rattle.agreement.proofs.images_alike.Statement.{statement}
-use Rattle.agreement.proofs.images_alike.Tie as tie
-
-returns : tie.Need-returns
-returns c = images-alike
-
-pub images-alike-spec : {M : Type 1} → statement M
-images-alike-spec = tie.close (tie.spec returns)

@@ -1,9 +1,0 @@
-use Rattle.agreement.proofs.Reachable.{impossible-exactly}
-use Rattle.agreement.proofs.impossible_exactly.Statement.{statement}
-use Rattle.agreement.proofs.impossible_exactly.Tie as tie
-
-returns : tie.Need-returns
-returns c = impossible-exactly
-
-pub impossible-exactly-spec : {M : Type 1} → statement M
-impossible-exactly-spec = tie.close (tie.spec returns)

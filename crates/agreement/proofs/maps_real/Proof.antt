@@ -1,9 +1,0 @@
-use Rattle.agreement.proofs.Restoring.{maps-real}
-use Rattle.agreement.proofs.maps_real.Statement.{statement}
-use Rattle.agreement.proofs.maps_real.Tie as tie
-
-returns : tie.Need-returns
-returns c = maps-real
-
-pub maps-real-spec : {M : Type 1} → statement M
-maps-real-spec = tie.close (tie.spec returns)

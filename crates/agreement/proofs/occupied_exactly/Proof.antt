@@ -1,9 +1,0 @@
-use Rattle.agreement.proofs.Starts.{occupied-exactly}
-use Rattle.agreement.proofs.occupied_exactly.Statement.{statement}
-use Rattle.agreement.proofs.occupied_exactly.Tie as tie
-
-returns : tie.Need-returns
-returns c = occupied-exactly
-
-pub occupied-exactly-spec : {M : Type 1} → statement M
-occupied-exactly-spec = tie.close (tie.spec returns)

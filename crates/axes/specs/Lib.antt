@@ -1,4 +1,0 @@
-pub mod Turned
-pub mod Lines
-pub mod Axes
-pub mod Plans

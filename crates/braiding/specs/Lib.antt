@@ -1,2 +1,0 @@
-pub mod Braiding
-pub mod Hermitian

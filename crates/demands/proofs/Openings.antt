@@ -1,0 +1,205 @@
+-- Openings. One that no test refuses begins a sound model, with the job and the volume that it gives: of kind 0 the packed factors of the cell that is zero everywhere,
+-- of kind 1 the map. Of the others: the model's tests come first, then those of the volume, whose faults (6, and of a map 7, 14) the model does not know.
+use mathlib.Core.Path.{_≡_, refl, sym, _∙_, ap}
+use mathlib.Core.Logic.{_⊎_, inl, inr, ⊎-elim}
+use mathlib.Core.Bool.{Bool, true, false, _&&_, not, cond}
+use mathlib.Core.List.{List, [], _∷_, _++_}
+use Prim.Native.Nat.{ℕ, zero, suc, _<_}
+use native.Mathlib.Omega.{arith}
+use lib.ListN.{length, replicate, length-replicate}
+use lib.Dec.{T, leb, eqb}
+use borrow.Author.Tests.{not-false, leb-false, eqb-true, eq-eqb, ne-eqb}
+use Rattle.algebra.specs.Gauss.{gauss}
+use Rattle.algebra.specs.Residue.{residues}
+use Rattle.algebra.specs.Cell.{J, Group, P1, P2₁, Pm, Pa, P2₁2₁2₁}
+use Rattle.algebra.specs.CellPack as Pack
+use Rattle.algebra.specs.CellPack.{even, partOf, packAlt}
+use Rattle.algebra.specs.CellSteps.{Lawful}
+use Rattle.algebra.proofs.Laws.{neg-zero}
+use Rattle.algebra.proofs.CellGroup.{imp-zero}
+use Rattle.algebra.proofs.CellTests.{Positive}
+use Rattle.numbers.specs.Prime.{prime}
+use Rattle.numbers.specs.Value.{Value, field, conj, i, ring, value, valueOf}
+use Rattle.numbers.specs.Value as Value
+use Rattle.numbers.proofs.Primes.{prime-pos}
+use Rattle.numbers.proofs.Residues.{res-ring}
+use Rattle.numbers.proofs.Values.{value-path, field-ring, field-star}
+use Rattle.slices.specs.Pairs.{Below, allBelow}
+use Rattle.slices.proofs.Bounds.{below-replicate, below-allBelow}
+use Rattle.slices.proofs.Segments.{at-zeros}
+use Rattle.refusals.specs.Tests.{Test, first, accepted}
+use Rattle.refusals.proofs.Tests.{and-left, and-right, both, Passed, passed}
+use Rattle.cell.specs.Volume.{groupOf, volumeLength, packFactors}
+use Rattle.cell.specs.Consistency.{consistentMap}
+use Rattle.cell.proofs.VolumeLayout.{place-inside}
+use Rattle.cell.proofs.Consistency.{packed-list}
+use Rattle.cell.proofs.Points.{opened-factors, opened-map}
+use Rattle.job.specs.Header.{Header, halvesOf, axisTests, collecting, mapHeld, jobOf, validJob}
+use Rattle.job.specs.Steps.{p, volumeTests, openTests, openStep, opened, notOpened, OpenOutcome}
+use Rattle.header.proofs.Headers.{sound-axes}
+use Rattle.header.proofs.Openings.{header-passed}
+use Rattle.job.proofs.Jobs.{opened-valid}
+use Rattle.model.specs.Model.{Model, modelJob, modelVolume, zeroModel, mapModel, openingModel, beginningTests}
+use Rattle.model.proofs.Sound.{Sound, axis-laws}
+
+-- ---- tests after tests
+
+-- no test has the number 0, which stands for none
+abbrev numbered : List Test → Bool
+numbered [] = true
+numbered (t ∷ ts) = leb 1 (t .number) && numbered ts
+
+first-append : (ts us : List Test) → T (numbered ts) → first (ts ++ us) ≡ accepted (first ts) (first us) (λ n. n)
+unfolding first
+first-append [] us h = refl
+first-append (t ∷ ts) us h = one (t .fails) (t .number) (and-left (leb 1 (t .number)) (numbered ts) h) (first-append ts us (and-right (leb 1 (t .number)) (numbered ts) h))
+  where
+    one : (b : Bool) (n : ℕ) → T (leb 1 n) → first (ts ++ us) ≡ accepted (first ts) (first us) (λ n. n) → cond b n (first (ts ++ us)) ≡ accepted (cond b n (first ts)) (first us) (λ n. n)
+    one true zero h e = absurd h
+    one true (suc n) h e = refl
+    one false n h e = e
+
+-- ---- the cell that is zero everywhere
+
+zero-lawful : (g : Group) (a : J) → Lawful (field 1) (conj 1) a g (λ h k l. value 1 0 0)
+unfolding gauss residues
+zero-lawful g a s ms j n = sym (imp-zero (field-ring 1) (field-star 1) a s j)
+
+either : (b : Bool) → _≡_ {A = Value 1} (value 1 0 0 .0, partOf (ring 1) b (value 1 0 0)) (value 1 0 0)
+either true = refl
+either false = refl
+
+zero-rotated : (b : Bool) → Pack.timesI (ring 1) b (value 1 0 0) ≡ value 1 0 0
+unfolding Pack.timesI residues
+zero-rotated true = refl
+zero-rotated false = value-path (neg-zero (res-ring 1)) refl
+
+zero-pair : (g : Group) (a : J) (w h k : ℕ) → Pack.packFactors (ring 1) g a (λ h k l. value 1 0 0) w h k ≡ value 1 0 0
+unfolding Pack.packFactors packAlt
+zero-pair P1 a w h k = refl
+zero-pair P2₁ a zero h k = either (even (a .2))
+zero-pair P2₁ a (suc w) h k = refl
+zero-pair Pm a w h k = refl
+zero-pair Pa a w h k = refl
+zero-pair P2₁2₁2₁ a zero h k = ap (λ (x : Value 1). (x .0, partOf (ring 1) (even (a .2)) x)) (zero-rotated (even h)) ∙ either (even (a .2))
+zero-pair P2₁2₁2₁ a (suc w) h k = zero-rotated (even h)
+
+-- its packed factors are zeros
+zero-packed : (g : Group) (a : J) → Positive a → packFactors g a 1 (λ h k l. value 1 0 0) ≡ replicate (volumeLength g a) 0
+unfolding valueOf
+zero-packed g a long =
+    packed-list g a long 1 (λ h k l. value 1 0 0) (zero-lawful g a) (replicate (volumeLength g a) 0) (length-replicate (volumeLength g a) 0) (below-replicate (volumeLength g a) 0 (prime-pos 1))
+    (λ w h k lw lh lk. zero-pair g a w h k ∙ ap (valueOf 1) (sym (at-zeros _ _ (place-inside g a lw lh (omega arith)))))
+
+-- ---- an opening that no test refuses
+
+-- the job and the volume that a start gives with a model
+abbrev pub given : Model → OpenOutcome
+given m = record { answer = opened (modelJob m); volume = modelVolume m }
+
+module _ (h : Header) (kind : ℕ) (v : List ℕ) (none : 0 ≡ first (openTests h kind v)) where
+  tests : Passed (openTests h kind v)
+  tests = passed (openTests h kind v) tt none
+
+  header-sound : 0 ≡ first (axisTests h)
+  header-sound = header-passed h kind v none
+
+  opening-long : Positive (halvesOf (h .lengths))
+  opening-long = let s = sound-axes h header-sound in (s .0 .size .positive, s .1 .size .positive, s .2 .size .positive)
+
+  volume-long : length v ≡ volumeLength (groupOf (h .group)) (halvesOf (h .lengths))
+  volume-long = eqb-true _ _ (not-false _ (tests .1 .1 .1 .1 .1 .1 .0))
+
+  pub kind-is : (kind ≡ 0) ⊎ (kind ≡ 1)
+  kind-is = either kind (leb-false _ _ (tests .1 .0))
+    where
+      either : (k : ℕ) → k < 2 → (k ≡ 0) ⊎ (k ≡ 1)
+      either zero l = inl refl
+      either (suc zero) l = inr refl
+      either (suc (suc k)) l = absurd (omega arith)
+
+  job-valid : (s : ℕ) → s < 3 → validJob (jobOf h s) ≡ true
+  job-valid s l = opened-valid h s (leb-false _ _ (tests .0)) header-sound l
+
+  -- kind 0
+  zero-sound : Sound (zeroModel h)
+  zero-sound = record { valid = job-valid 0 (omega arith); lawful = zero-lawful (groupOf (h .group)) (halvesOf (h .lengths)) }
+
+  zero-volume : replicate (length v) 0 ≡ modelVolume (zeroModel h)
+  unfolding modelVolume
+  zero-volume = ap (λ n. replicate n 0) volume-long ∙ sym (zero-packed (groupOf (h .group)) (halvesOf (h .lengths)) opening-long)
+
+  -- kind 1: the tests that only a map is put to
+  module _ (map : kind ≡ 1) where
+    asked : (b : Bool) → (eqb kind 1 && not b) ≡ false → b ≡ true
+    asked b e = not-false b (ap (λ (x : Bool). x && not b) (sym (eq-eqb kind 1 map)) ∙ e)
+
+    volume-below : Below (prime 1) v
+    volume-below = below-allBelow (prime 1) v (prime-pos 1) (asked (allBelow p v) (tests .1 .1 .1 .1 .1 .1 .1 .0))
+
+    volume-consistent : consistentMap (groupOf (h .group)) (halvesOf (h .lengths)) v ≡ true
+    volume-consistent = asked _ (tests .1 .1 .1 .1 .1 .1 .1 .1 .0)
+
+    map-sound : Sound (mapModel h v)
+    map-sound = let s = sound-axes h header-sound in
+        record {
+          valid = job-valid 2 (omega arith);
+          lawful = opened-factors (groupOf (h .group)) (halvesOf (h .lengths)) 1 (axis-laws (s .0 .size)) (axis-laws (s .1 .size)) (axis-laws (s .2 .size)) v volume-long volume-below volume-consistent;
+        }
+
+    map-volume : v ≡ modelVolume (mapModel h v)
+    unfolding modelVolume
+    map-volume = let s = sound-axes h header-sound in
+        sym (opened-map (groupOf (h .group)) (halvesOf (h .lengths)) 1 (axis-laws (s .0 .size)) (axis-laws (s .1 .size)) (axis-laws (s .2 .size)) v volume-long volume-below volume-consistent)
+
+    not-zero : eqb kind 0 ≡ false
+    not-zero = ne-eqb kind 0 (λ e. omega arith)
+
+  pub opening-sound : Sound (openingModel h kind v)
+  opening-sound = ⊎-elim (λ e. rw (eq-eqb kind 0 e) zero-sound) (λ e. rw (not-zero e) (map-sound e)) kind-is
+
+  pub opening-gives : openStep h kind v ≡ given (openingModel h kind v)
+  unfolding openStep
+  opening-gives = ⊎-elim
+      (λ e. rw (← none, eq-eqb kind 0 e) (ap (λ w. record { answer = opened (jobOf h collecting); volume = w }) zero-volume))
+      (λ e. rw (← none, not-zero e) (ap (λ w. record { answer = opened (jobOf h mapHeld); volume = w }) (map-volume e)))
+      kind-is
+
+-- ---- every opening: the tests of the model come first, then those of the volume
+
+abbrev pub faultOf : Header → (kind : ℕ) → List ℕ → ℕ
+faultOf h kind v = first (volumeTests (h .group) (h .lengths) kind v)
+
+pub data Verdict (h : Header) (kind : ℕ) (v : List ℕ) : Type 0 where
+  passes : first (openTests h kind v) ≡ 0 → first (beginningTests h kind) ≡ 0 → Verdict h kind v
+  fails : (n : ℕ) → first (openTests h kind v) ≡ suc n → first (beginningTests h kind) ≡ suc n → Verdict h kind v
+  faulty : (n : ℕ) → first (openTests h kind v) ≡ suc n → faultOf h kind v ≡ suc n → Verdict h kind v
+
+module _ (h : Header) (kind : ℕ) (v : List ℕ) where
+  pub verdict : Verdict h kind v
+  verdict = by (first (beginningTests h kind)) (faultOf h kind v) refl refl (first-append (beginningTests h kind) (volumeTests (h .group) (h .lengths) kind v) tt)
+    where
+      by : (b f : ℕ) → first (beginningTests h kind) ≡ b → faultOf h kind v ≡ f → first (openTests h kind v) ≡ accepted b f (λ n. n) → Verdict h kind v
+      by zero zero eb ef e = passes e eb
+      by zero (suc n) eb ef e = faulty n e ef
+      by (suc n) f eb ef e = fails n e eb
+
+  pub open-refused : {n : ℕ} → first (openTests h kind v) ≡ suc n → openStep h kind v ≡ record { answer = notOpened (suc n) 0; volume = v }
+  unfolding openStep
+  open-refused e = rw e
+
+-- the faults of a volume: 6, and of a map 7, 14
+pub no-fault : (h : Header) (kind : ℕ) (v : List ℕ) (n : ℕ) → faultOf h kind v ≡ suc n → (suc n ≡ 6 → ⊥) → (kind ≡ 1 → (suc n ≡ 7 → ⊥) × (suc n ≡ 14 → ⊥)) → ⊥
+unfolding first
+no-fault h kind v n e six map =
+    let a = halvesOf (h .lengths) in
+    by (not (eqb (length v) (volumeLength (groupOf (h .group)) a))) (eqb kind 1 && not (allBelow p v)) (eqb kind 1 && not (consistentMap (groupOf (h .group)) a v)) (asked-of _) (asked-of _) e
+  where
+    asked-of : (b : Bool) → (eqb kind 1 && b) ≡ true → kind ≡ 1
+    asked-of b q = eqb-true kind 1 (both (eqb kind 1) b q .0)
+
+    by : (a b c : Bool) → (b ≡ true → kind ≡ 1) → (c ≡ true → kind ≡ 1) → cond a 6 (cond b 7 (cond c 14 0)) ≡ suc n → ⊥
+    by true b c f g q = six (sym q)
+    by false true c f g q = map (f refl) .0 (sym q)
+    by false false true f g q = map (g refl) .1 (sym q)
+    by false false false f g q = omega arith

@@ -1,0 +1,222 @@
+-- The order of records. Records that were accepted are accepted in any other order and leave the same F: so a list's packed factors, its map and a file's outcome do not
+-- depend on it. Of the header the model uses group and lengths alone, so starts that are alike answer every list alike.
+use mathlib.Core.Path.{_≡_, refl, sym, _∙_, ap, subst, subst₂}
+use mathlib.Core.Logic.{_⊎_, inl, inr}
+use mathlib.Core.Bool.{false, not, cond}
+use mathlib.Core.List.{List, [], _∷_, _++_, map, append-nil}
+use Prim.Native.Nat.{ℕ, zero, suc, _+_}
+use native.Mathlib.Omega.{arith}
+use lib.ListN.{length}
+use lib.Dec.{leb, eqb}
+use borrow.Author.Tests.{eq-eqb, ne-eqb}
+use Rattle.algebra.specs.Cell.{full}
+use Rattle.algebra.specs.Orbit.{Mem, first as first-of, later, Perm, p-nil, p-skip, p-swap, p-trans}
+use Rattle.algebra.proofs.Orbits.{reorder}
+use Rattle.algebra.proofs.CellGroup.{factor-action, closed}
+use Rattle.numbers.proofs.Values.{field-ring, field-star}
+use Rattle.refusals.specs.Tests.{_⇒_, first, accepted}
+use Rattle.cell.specs.Volume.{groupOf, packFactors, mapIn, packMap}
+use Rattle.cell.specs.Sums.{mapOf, factorsOf}
+use Rattle.job.specs.declared.Job.{Job}
+use Rattle.job.specs.Header.{Header, halvesOf, needed, axisTests, factorsHeld, mapHeld}
+use Rattle.job.specs.Steps.{opened, openTests}
+use Rattle.file_format.specs.declared.FileRecord.{FileRecord}
+use Rattle.file_format.proofs.shape.Shapes.{same-shape}
+use Rattle.file_format.proofs.layout.Heads.{same-header}
+use Rattle.factor_file.specs.File.{countAt, headerIn, recordsIn, shapeTests, fileStep}
+use Rattle.model.specs.Model.{Model, group, half, factorOf, Call, recording, synthesis, analysis, readPoint, readFactor, modelTests, modelNext, modelSaid, modelAfter, inState, factorVolume, mapVolume, modelVolume, begun, zeroModel, mapModel, modelFeed}
+use Rattle.demands.specs.Calls.{Start, reading, startHeader, startKind, startVolume, startRecords, firstModel, run, modelAnswers, modelEnd, acceptedRecords}
+use Rattle.demands.specs.Demands.{Started, entry, Alike, allRecords, OrderFree, AlikeStarts, FileOrderFree}
+use Rattle.demands.proofs.Openings.{kind-is}
+use Rattle.demands.proofs.Starts.{file-shape, accepted-start, file-gives, started-runs}
+use Rattle.demands.proofs.AcceptedRecords.{Records, accepted-fed, start-passes, first-sound, start-fed, start-records, started-records, started-header}
+
+-- ---- permutations
+
+perm-map : {A B : Type 0} (f : A → B) {l k : List A} → Perm l k → Perm (map f l) (map f k)
+perm-map f p-nil = p-nil
+perm-map f (p-skip r) = p-skip (perm-map f r)
+perm-map f p-swap = p-swap
+perm-map f (p-trans r q) = p-trans (perm-map f r) (perm-map f q)
+
+perm-mem : {A : Type 0} {l k : List A} → Perm l k → (x : A) → Mem x k → Mem x l
+perm-mem p-nil x i = i
+perm-mem (p-skip r) x first-of = first-of
+perm-mem (p-skip r) x (later i) = later (perm-mem r x i)
+perm-mem p-swap x first-of = later first-of
+perm-mem p-swap x (later first-of) = first-of
+perm-mem p-swap x (later (later i)) = later (later i)
+perm-mem (p-trans r q) x i = perm-mem r x (perm-mem q x i)
+
+-- the order is free
+records-order : (m m′ : Model) {cs cs′ : List FileRecord} → Perm cs cs′ → Records m m′ cs → Records m m′ cs′
+records-order m m′ perm r =
+    let o = reorder (factor-action (field-ring 1) (field-star 1) (half m)) (full (group m)) (closed (field-ring 1) (field-star 1) (half m) (group m)) (perm-map entry perm) (factorOf m) (r .0) in
+    (o .0, r .1 ∙ o .1)
+
+-- ---- what the model uses
+
+-- the same group, lengths and F, whatever the factor lists and the state
+record SameCell (m m′ : Model) : Type 0 where
+  pub same-group : m .header .group ≡ m′ .header .group
+  pub same-lengths : m .header .lengths ≡ m′ .header .lengths
+  pub same-F : m .F ≡ m′ .F
+
+module _ {m m′ : Model} (same : SameCell m m′) where
+  same-factor-volume : factorVolume m ≡ factorVolume m′
+  same-factor-volume = λ i. packFactors (groupOf (same .same-group i)) (halvesOf (same .same-lengths i)) 1 (same .same-F i)
+
+  same-map-volume : mapVolume m ≡ mapVolume m′
+  same-map-volume = λ i. packMap (groupOf (same .same-group i)) (halvesOf (same .same-lengths i)) 1 (mapOf 1 (halvesOf (same .same-lengths i)) (same .same-F i))
+
+  same-volume : eqb (m .state) mapHeld ≡ eqb (m′ .state) mapHeld → modelVolume m ≡ modelVolume m′
+  unfolding modelVolume
+  same-volume e = λ i. cond (e i) (same-map-volume i) (same-factor-volume i)
+
+-- without the factor lists, which it does not use, a model answers the same
+abbrev unlisted : Model → Model
+unlisted m = record { header = record { group = m .header .group; lengths = m .header .lengths; list1 = []; list2 = []; list3 = [] }; state = m .state; F = m .F }
+
+same-unlisted : (m m′ : Model) → SameCell m m′ → m .state ≡ m′ .state → unlisted m ≡ unlisted m′
+same-unlisted m m′ same e = λ i. record { header = record { group = same .same-group i; lengths = same .same-lengths i; list1 = []; list2 = []; list3 = [] }; state = e i; F = same .same-F i }
+
+unlisted-said : (m : Model) (c : Call) → modelSaid m c ≡ modelSaid (unlisted m) c
+unfolding modelSaid
+unlisted-said m (recording k x y) = refl
+unlisted-said m (synthesis scratch) = refl
+unlisted-said m (analysis scratch) = refl
+unlisted-said m (readPoint x) = refl
+unlisted-said m (readFactor k) = refl
+
+unlisted-accepted : (n : ℕ) (m next : Model) {next′ : Model} → unlisted next ≡ next′ → unlisted (accepted n next (λ n. m)) ≡ accepted n next′ (λ n. unlisted m)
+unlisted-accepted zero m next e = e
+unlisted-accepted (suc n) m next e = refl
+
+unlisted-after : (m : Model) (c : Call) → unlisted (modelAfter m c) ≡ modelAfter (unlisted m) c
+unfolding modelAfter
+unlisted-after m (recording k x y) = unlisted-accepted (first (modelTests m (recording k x y))) m (modelNext m (recording k x y)) refl
+unlisted-after m (synthesis scratch) = unlisted-accepted (first (modelTests m (synthesis scratch))) m (inState m mapHeld) refl
+unlisted-after m (analysis scratch) = unlisted-accepted (first (modelTests m (analysis scratch))) m (inState m factorsHeld) refl
+unlisted-after m (readPoint x) = unlisted-accepted (first (modelTests m (readPoint x))) m m refl
+unlisted-after m (readFactor k) = unlisted-accepted (first (modelTests m (readFactor k))) m m refl
+
+unlisted-answers : (m : Model) (l : List Call) → modelAnswers m l ≡ modelAnswers (unlisted m) l
+unfolding modelAnswers
+unlisted-answers m [] = refl
+unlisted-answers m (c ∷ l) =
+    let answer = unlisted-said m c in
+    let others = unlisted-answers (modelAfter m c) l ∙ ap (λ m. modelAnswers m l) (unlisted-after m c) in
+    λ i. answer i ∷ others i
+
+unlisted-end : (m : Model) (l : List Call) → unlisted (modelEnd m l) ≡ modelEnd (unlisted m) l
+unfolding modelEnd
+unlisted-end m [] = refl
+unlisted-end m (c ∷ l) = unlisted-end (modelAfter m c) l ∙ ap (λ m. modelEnd m l) (unlisted-after m c)
+
+-- ---- starts that are alike
+
+first-collects : (s : Start) → startKind s ≡ 0 → firstModel s ≡ zeroModel (startHeader s)
+first-collects s e = ap (λ b. cond b (zeroModel (startHeader s)) (mapModel (startHeader s) (startVolume s))) (eq-eqb (startKind s) 0 e)
+
+first-map : (s : Start) → startKind s ≡ 1 → firstModel s ≡ mapModel (startHeader s) (startVolume s)
+first-map s e = ap (λ b. cond b (zeroModel (startHeader s)) (mapModel (startHeader s) (startVolume s))) (ne-eqb (startKind s) 0 (λ z. omega arith))
+
+-- they begin alike but for the factor lists
+alike-first : (s s′ : Start) → Alike s s′ → (startKind s ≡ 0) ⊎ (startKind s ≡ 1) → unlisted (firstModel s) ≡ unlisted (firstModel s′)
+alike-first s s′ a (inl e) =
+    ap unlisted (first-collects s e)
+    ∙ same-unlisted (zeroModel (startHeader s)) (zeroModel (startHeader s′)) (record { same-group = a .same-group; same-lengths = a .same-lengths; same-F = refl }) refl
+    ∙ ap unlisted (sym (first-collects s′ (sym (a .same-kind) ∙ e)))
+alike-first s s′ a (inr e) =
+    ap unlisted (first-map s e)
+    ∙ same-unlisted (mapModel (startHeader s) (startVolume s)) (mapModel (startHeader s′) (startVolume s′)) (record {
+      same-group = a .same-group;
+      same-lengths = a .same-lengths;
+      same-F = λ i. factorsOf 1 (halvesOf (a .same-lengths i)) (mapIn (groupOf (a .same-group i)) (halvesOf (a .same-lengths i)) 1 (a .same-map e i));
+    }) refl
+    ∙ ap unlisted (sym (first-map s′ (sym (a .same-kind) ∙ e)))
+
+module _ (s s′ : Start) (j j′ : Job) (v v′ : List ℕ) (m m′ : Model) (started : Started s j v m) (started′ : Started s′ j′ v′ m′) (alike : Alike s s′) where
+  same-first : unlisted (firstModel s) ≡ unlisted (firstModel s′)
+  same-first = alike-first s s′ alike (kind-is (startHeader s) (startKind s) (startVolume s) (start-passes s j v m started))
+
+  -- the same records in another order leave the same F
+  ends-same : (l l′ : List Call) → Perm (allRecords s j v l) (allRecords s′ j′ v′ l′) → SameCell (modelEnd m l) (modelEnd m′ l′)
+  ends-same l l′ perm =
+      let r : Records (firstModel s′) (modelEnd m l) (allRecords s j v l) = subst (λ b. Records b (modelEnd m l) (allRecords s j v l)) same-first (started-records s j v m started l) in
+      let e : factorOf (modelEnd m l) ≡ factorOf (modelEnd m′ l′) = records-order (firstModel s′) (modelEnd m l) perm r .1 ∙ sym (started-records s′ j′ v′ m′ started′ l′ .1) in
+      let eh = started-header s j v m started l in
+      let eh′ = sym (started-header s′ j′ v′ m′ started′ l′) in
+      record {
+        same-group = ap (λ h. h .group) eh ∙ ap (λ m. m .header .group) same-first ∙ ap (λ h. h .group) eh′;
+        same-lengths = ap (λ h. h .lengths) eh ∙ ap (λ m. m .header .lengths) same-first ∙ ap (λ h. h .lengths) eh′;
+        same-F = λ i h k l. e i (h, k, l);
+      }
+
+  -- .. and so the same packed factors, the same map, the same volume
+  order : (l l′ : List Call) → Perm (allRecords s j v l) (allRecords s′ j′ v′ l′) →
+      (factorVolume (modelEnd m l) ≡ factorVolume (modelEnd m′ l′)) × (mapVolume (modelEnd m l) ≡ mapVolume (modelEnd m′ l′)) ×
+      (eqb (run j v l .job .state) mapHeld ≡ eqb (run j′ v′ l′ .job .state) mapHeld → run j v l .volume ≡ run j′ v′ l′ .volume)
+  order l l′ perm =
+      let same = ends-same l l′ perm in
+      let ran = started-runs s j v m started l in
+      let ran′ = started-runs s′ j′ v′ m′ started′ l′ in (
+        same-factor-volume same,
+        same-map-volume same,
+        λ e. ap (λ r. r .volume) ran ∙ same-volume same (ap (λ r. eqb (r .job .state) mapHeld) (sym ran) ∙ e ∙ ap (λ r. eqb (r .job .state) mapHeld) ran′) ∙ ap (λ r. r .volume) (sym ran′),
+      )
+
+  -- starts of the same records begin the same model but for the factor lists
+  same-begun : Perm (startRecords s) (startRecords s′) → unlisted m ≡ unlisted m′
+  unfolding modelEnd acceptedRecords
+  same-begun perm =
+      same-unlisted m m′ (ends-same [] [] (subst₂ Perm (sym (append-nil (startRecords s))) (sym (append-nil (startRecords s′))) perm))
+      (start-fed s j v m started .same-state ∙ ap (λ m. m .state) same-first ∙ sym (start-fed s′ j′ v′ m′ started′ .same-state))
+
+  answers-alike : Perm (startRecords s) (startRecords s′) → (l : List Call) → (run j v l .answers ≡ run j′ v′ l .answers) × (run j v l .volume ≡ run j′ v′ l .volume) × (run j v l .job .state ≡ run j′ v′ l .job .state)
+  unfolding modelVolume
+  answers-alike perm l =
+      let same = same-begun perm in
+      let end : unlisted (modelEnd m l) ≡ unlisted (modelEnd m′ l) = unlisted-end m l ∙ ap (λ m. modelEnd m l) same ∙ sym (unlisted-end m′ l) in
+      let ran = started-runs s j v m started l in
+      let ran′ = sym (started-runs s′ j′ v′ m′ started′ l) in (
+        ap (λ r. r .answers) ran ∙ unlisted-answers m l ∙ ap (λ m. modelAnswers m l) same ∙ sym (unlisted-answers m′ l) ∙ ap (λ r. r .answers) ran′,
+        ap (λ r. r .volume) ran ∙ ap modelVolume end ∙ ap (λ r. r .volume) ran′,
+        ap (λ r. r .job .state) ran ∙ ap (λ m. m .state) end ∙ ap (λ r. r .job .state) ran′,
+      )
+
+pub order-free : OrderFree
+order-free = record { same = order }
+
+pub alike-starts : AlikeStarts
+alike-starts = record { same = answers-alike }
+
+-- ---- a file with its records in another order
+
+-- an opening with kind 0 asks of the volume its length alone
+same-tests : (h : Header) (v v′ : List ℕ) → length v ≡ length v′ → first (openTests h 0 v) ≡ first (openTests h 0 v′)
+same-tests h v v′ e = ap (λ n. first (leb 5 (h .group) ⇒ 8 ∷ leb 2 0 ⇒ 2 ∷ (axisTests h ++ not (eqb n (needed h)) ⇒ 6 ∷ false ⇒ 7 ∷ false ⇒ 14 ∷ []))) e
+
+-- a file of sound shape with the header and, in any order, the records of an accepted file
+records-moved : (file file′ v v′ : List ℕ) (j : Job) (w : List ℕ) → headerIn file ≡ headerIn file′ → first (shapeTests file′) ≡ 0 → Perm (recordsIn file) (recordsIn file′) → length v ≡ length v′ →
+    fileStep file v ≡ record { answer = opened j; volume = w } → fileStep file′ v′ ≡ record { answer = opened j; volume = w }
+records-moved file file′ v v′ j w eh shape perm long e =
+    let s = reading file v in
+    let (m, begins, sound, ej, ew) = accepted-start s j w e in
+    let started : Started s j w m = record { gives = e; begins = begins } in
+    let empty = zeroModel (headerIn file) in
+    let taken = start-fed s j w m started in
+    let r = records-order empty m perm (start-records s j w m started) in
+    let f = accepted-fed (recordsIn file′) 0 empty (first-sound s j w m started) refl (λ c i. taken .below c (perm-mem perm c i)) (r .0) in
+    let is : _ ≡ m = λ i. record { header = sym (taken .same-header) i; state = sym (taken .same-state) i; F = λ h k l. sym (r .1) i (h, k, l) } in
+    file-gives file′ v′ shape m (subst (λ h. 0 ≡ first (openTests h 0 v′)) eh (start-passes s j w m started ∙ same-tests (headerIn file) v v′ long)) (subst (λ h. modelFeed (recordsIn file′) 0 (zeroModel h) ≡ begun m) eh (f ∙ ap begun is))
+    ∙ λ i. record { answer = opened (sym ej i); volume = sym ew i }
+
+-- the shape and the header stand before the first record
+pub file-order-free : FileOrderFree
+file-order-free = record {
+  same = λ file file′ v v′ j w moved long e.
+      let header = same-header file file′ (countAt file + 4) (moved .same-head) (omega arith) in
+      let shape = sym (same-shape file file′ (moved .same-length) (moved .same-head)) ∙ file-shape file v j (ap (λ o. o .answer) e) in
+      records-moved file file′ v v′ j w header shape (moved .same-records) long e;
+}

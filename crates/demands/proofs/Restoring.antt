@@ -1,0 +1,84 @@
+-- Any job and volume that synthesis accepts are those of a sound model, whose F is what is read off the volume. So its map is real at every point, and analysis of it restores the packed factors.
+use mathlib.Core.Path.{_≡_, refl, sym, ap, _∙_, subst}
+use mathlib.Core.Bool.{true}
+use mathlib.Core.List.{List}
+use Prim.Native.Nat.{ℕ, zero, suc, _≤_}
+use native.Mathlib.Omega.{arith}
+use lib.ListN.{length}
+use borrow.Author.Tests.{not-false, eqb-true, le-ltb}
+use Rattle.algebra.specs.CellSteps.{Lawful}
+use Rattle.numbers.specs.Value.{field, conj}
+use Rattle.numbers.proofs.Primes.{prime-pos}
+use Rattle.slices.proofs.Bounds.{below-allBelow}
+use Rattle.refusals.specs.Tests.{first, accepted}
+use Rattle.lengths.specs.Lengths.{scratchLength, cleared}
+use Rattle.refusals.proofs.Tests.{none, pass, Passed, passed}
+use Rattle.cell.specs.Volume.{factorsIn}
+use Rattle.cell.proofs.Consistency.{consistent-read}
+use Rattle.job.specs.declared.Job.{Job}
+use Rattle.job.specs.Header.{factorsHeld, mapHeld, headerOf, withState, validJob, groupIn, halves}
+use Rattle.job.specs.Steps.{p, done, refused, Outcome, Worked, unchanged, synthesisTests, synthesised, synthesisStep, analysisStep, pointStep}
+use Rattle.job.proofs.Jobs.{job-of-header, valid-with, valid-job-sizes}
+use Rattle.model.specs.Model.{Model, group, half, analysis, inState, factorVolume, modelVolume, modelJob}
+use Rattle.demands.specs.Demands.{MapsReal, AnalysisRestores}
+use Rattle.model.proofs.Sound.{Sound, holds-map, holds-factors}
+use Rattle.model.proofs.OneCall.{result, accepted-call}
+use Rattle.demands.proofs.Corollaries.{point-is-sum}
+
+-- the answer is a refusal where a test holds
+accepted-done : (n : ℕ) (o : Worked) (u : ℕ → Worked) → ((n : ℕ) → u n .outcome .answer ≡ refused n) → accepted n o u .outcome .answer ≡ done → 0 ≡ n
+accepted-done zero o u r e = refl
+accepted-done (suc n) o u r e = let z : refused (suc n) ≡ done = sym (r (suc n)) ∙ e in let y : _≡_ {A = ℕ} 0 1 = cc in absurd (omega arith)
+
+synthesis-accepted : (j : Job) (v scratch : List ℕ) → synthesisStep j v scratch .outcome .answer ≡ done → 0 ≡ first (synthesisTests j v (length scratch))
+unfolding synthesisStep
+synthesis-accepted j v scratch a = accepted-done (first (synthesisTests j v (length scratch))) _ (λ n. record { outcome = unchanged j v n; scratch = scratch }) (λ n. refl) a
+
+module _ (j : Job) (v scratch : List ℕ) (e : 0 ≡ first (synthesisTests j v (length scratch))) where
+  -- they are those of the model whose F is what is read off the volume
+  abbrev held : Model
+  held = record { header = headerOf j; state = j .state; F = factorsIn (groupIn j) (halves j) 1 v }
+
+  is-held : j ≡ modelJob held
+  is-held = sym (job-of-header j)
+
+  tests : Passed (synthesisTests j v (length scratch))
+  tests = passed (synthesisTests j v (length scratch)) tt e
+
+  valid : validJob j ≡ true
+  valid = not-false _ (tests .0)
+
+  read-back : Lawful (field 1) (conj 1) (half held) (group held) (held .F) × (factorVolume held ≡ v)
+  read-back =
+      let s = valid-job-sizes j valid in
+      consistent-read (groupIn j) (halves j) (s .first .positive, s .second .positive, s .third .positive) 1 v
+      (eqb-true _ _ (not-false _ (tests .1 .1 .0))) (below-allBelow p v (prime-pos 1) (not-false _ (tests .1 .1 .1 .1 .0))) (not-false _ (tests .1 .1 .1 .1 .1 .0))
+
+  held-sound : Sound (inState held mapHeld)
+  held-sound = record { valid = valid-with (modelJob held) mapHeld (subst (λ (j : Job). validJob j ≡ true) is-held valid) (omega arith); lawful = read-back .0 }
+
+  synthesis-makes : synthesisStep j v scratch .outcome ≡ result done (inState held mapHeld)
+  unfolding synthesisStep
+  synthesis-makes =
+      (λ i. accepted {O = Worked} (sym e i) (record { outcome = record { answer = done; job = withState j mapHeld; volume = synthesised j v }; scratch = cleared scratch }) (λ n. record { outcome = unchanged j v n; scratch = scratch }) .outcome)
+      ∙ λ i. record { answer = done; job = withState (is-held i) mapHeld; volume = sym (holds-map (inState held mapHeld) refl) i }
+
+  held-restores : (scratch′ : List ℕ) → scratchLength ≤ length scratch′ → analysisStep (modelJob (inState held mapHeld)) (modelVolume (inState held mapHeld)) scratch′ .outcome ≡ record { answer = done; job = withState j factorsHeld; volume = v }
+  held-restores scratch′ l =
+      accepted-call (inState held mapHeld) held-sound (analysis scratch′) (pass 22 _ refl (pass 13 _ (le-ltb _ _ l) none))
+      ∙ λ i. record { answer = done; job = withState (sym is-held i) factorsHeld; volume = (holds-factors (inState held factorsHeld) refl ∙ read-back .1) i }
+
+pub maps-real : MapsReal
+maps-real = record {
+  real = λ j v scratch a x w.
+      let e = synthesis-accepted j v scratch a in
+      let r = point-is-sum (inState (held j v scratch e) mapHeld) (held-sound j v scratch e) refl x w in
+      (ap (λ (o : Outcome). pointStep (o .job) x (o .volume) .answer) (synthesis-makes j v scratch e) ∙ r .0, r .1);
+}
+
+pub analysis-restores : AnalysisRestores
+analysis-restores = record {
+  restores = λ j v scratch scratch′ a l.
+      let e = synthesis-accepted j v scratch a in
+      ap (λ (o : Outcome). analysisStep (o .job) (o .volume) scratch′ .outcome) (synthesis-makes j v scratch e) ∙ held-restores j v scratch e scratch′ l;
+}

@@ -1,0 +1,176 @@
+-- How a job begins. A start, opening or file, does what the model does, unless its volume is at fault; so an accepted start begins a sound model whose job and volume
+-- are the ones given, from there on every list of calls is the model's, and a refused start is refused by the model.
+use mathlib.Core.Path.{_≡_, refl, sym, _∙_, ap, subst}
+use mathlib.Core.List.{List, [], _∷_}
+use Prim.Native.Nat.{ℕ, zero, suc}
+use native.Mathlib.Omega.{arith}
+use lib.ListN.{length, replicate}
+use Rattle.refusals.specs.Tests.{first, accepted}
+use Rattle.job.specs.declared.Job.{Job}
+use Rattle.job.specs.Header.{Header}
+use Rattle.job.specs.Steps.{openTests, Opening, opened, notOpened, OpenOutcome, done, density, factor, refused, Outcome}
+use Rattle.file_format.specs.declared.FileRecord.{FileRecord}
+use Rattle.factor_file.specs.File.{headerIn, recordsIn, shapeTests, feed, fileStep}
+use Rattle.model.specs.Model.{Model, Call, modelTests, modelNext, modelSaid, modelAfter, modelJob, modelVolume, zeroModel, beginningTests, Beginning, begun, notBegun, openingModel, modelOpen, recordingOf, modelFeed, modelFile}
+use Rattle.demands.specs.Calls.{Start, opening, reading, start, modelStart, startHeader, startKind, startVolume, run, modelRan}
+use Rattle.demands.specs.Demands.{Started, EveryList, RefusedStarts, TripleSums, ImagesAlike, OccupiedExactly}
+use Rattle.model.proofs.Sound.{Sound}
+use Rattle.model.proofs.OneCall.{one-call}
+use Rattle.demands.proofs.Corollaries
+use Rattle.demands.proofs.Openings.{given, opening-sound, opening-gives, faultOf, Verdict, passes, fails, faulty, verdict, open-refused, no-fault}
+
+-- ---- records that are fed
+
+-- what is answered and left is what the model begins
+abbrev Agrees : OpenOutcome → Beginning → Type 0
+Agrees o (begun m) = (o ≡ given m) × Sound m
+Agrees o (notBegun n place) = o .answer ≡ notOpened n place
+
+-- what becomes of a file once it is opened, and of its records once one is fed
+abbrev afterOpening : List FileRecord → OpenOutcome → OpenOutcome
+afterOpening cs o = elim (o .answer) [ opened j ↦ feed cs 0 j (o .volume) | notOpened n place ↦ o ]
+
+abbrev afterRecord : List FileRecord → (place : ℕ) → Job → List ℕ → Outcome → OpenOutcome
+afterRecord cs place j v o = elim (o .answer) [ done ↦ feed cs (suc place) (o .job) (o .volume) | refused n ↦ record { answer = notOpened n place; volume = replicate (length v) 0 } | density n ↦ record { answer = opened j; volume = v } | factor x y ↦ record { answer = opened j; volume = v } ]
+
+feed-agrees : (cs : List FileRecord) (place : ℕ) (m : Model) → Sound m → Agrees (feed cs place (modelJob m) (modelVolume m)) (modelFeed cs place m)
+unfolding feed modelFeed modelSaid modelAfter
+feed-agrees [] place m s = (refl, s)
+feed-agrees (c ∷ cs) place m s =
+    let o = one-call m s (recordingOf c) in
+    subst (λ o. Agrees (afterRecord cs place (modelJob m) (modelVolume m) o) (accepted (first (modelTests m (recordingOf c))) (modelFeed cs (suc place) (modelNext m (recordingOf c))) (λ n. notBegun n place))) (sym (o .0))
+    (by (first (modelTests m (recordingOf c))) (o .1) (feed-agrees cs (suc place) (modelNext m (recordingOf c))))
+  where
+    next : Model
+    next = modelNext m (recordingOf c)
+
+    by : (n : ℕ) → Sound (accepted n next (λ n. m)) → (Sound next → Agrees (feed cs (suc place) (modelJob next) (modelVolume next)) (modelFeed cs (suc place) next)) →
+        Agrees (afterRecord cs place (modelJob m) (modelVolume m) (record { answer = accepted n done refused; job = modelJob (accepted n next (λ n. m)); volume = modelVolume (accepted n next (λ n. m)) })) (accepted n (modelFeed cs (suc place) next) (λ n. notBegun n place))
+    by zero s f = f s
+    by (suc n) s f = refl
+
+feed-gives : (cs : List FileRecord) (place : ℕ) (m m′ : Model) → Sound m → modelFeed cs place m ≡ begun m′ → feed cs place (modelJob m) (modelVolume m) ≡ given m′
+feed-gives cs place m m′ s e = let a : Agrees _ (begun m′) = subst (Agrees _) e (feed-agrees cs place m s) in a .0
+
+-- ---- files
+
+module _ (file v : List ℕ) (shape : first (shapeTests file) ≡ 0) where
+  file-opened : 0 ≡ first (openTests (headerIn file) 0 v) → fileStep file v ≡ feed (recordsIn file) 0 (modelJob (zeroModel (headerIn file))) (modelVolume (zeroModel (headerIn file)))
+  unfolding fileStep
+  file-opened e = rw shape (ap (afterOpening (recordsIn file)) (opening-gives (headerIn file) 0 v e))
+
+  file-refused : {n : ℕ} → first (openTests (headerIn file) 0 v) ≡ suc n → fileStep file v ≡ record { answer = notOpened (suc n) 0; volume = v }
+  unfolding fileStep
+  file-refused e = rw shape (ap (afterOpening (recordsIn file)) (open-refused (headerIn file) 0 v e))
+
+  -- a file whose records the model takes
+  pub file-gives : (m : Model) → 0 ≡ first (openTests (headerIn file) 0 v) → modelFeed (recordsIn file) 0 (zeroModel (headerIn file)) ≡ begun m → fileStep file v ≡ given m
+  file-gives m none e = file-opened none ∙ feed-gives (recordsIn file) 0 (zeroModel (headerIn file)) m (opening-sound (headerIn file) 0 v none) e
+
+opened-not : {o : Opening} {j : Job} {n place : ℕ} → o ≡ opened j → o ≡ notOpened n place → ⊥
+opened-not q r = let z : _≡_ {A = ℕ} 0 1 = cc in omega arith
+
+-- an accepted file has a sound shape
+pub file-shape : (file v : List ℕ) (j : Job) → fileStep file v .answer ≡ opened j → first (shapeTests file) ≡ 0
+unfolding fileStep
+file-shape file v j e = by (first (shapeTests file)) _ e
+  where
+    by : (n : ℕ) (o : OpenOutcome) → accepted n o (λ n. record { answer = notOpened n 0; volume = v }) .answer ≡ opened j → n ≡ 0
+    by zero o e = refl
+    by (suc n) o e = absurd (opened-not e refl)
+
+-- ---- every start
+
+-- a start begins a model, with the job and the volume that it gives; or is refused as the model refuses it; or is refused for a fault of its volume
+data Course (s : Start) : Type 0 where
+  begins : (m : Model) → start s ≡ given m → modelStart s ≡ begun m → Sound m → 0 ≡ first (openTests (startHeader s) (startKind s) (startVolume s)) → Course s
+  refuses : (n place : ℕ) → start s .answer ≡ notOpened n place → modelStart s ≡ notBegun n place → Course s
+  faults : (n : ℕ) → start s .answer ≡ notOpened (suc n) 0 → faultOf (startHeader s) (startKind s) (startVolume s) ≡ suc n → Course s
+
+course : (s : Start) → Course s
+unfolding modelOpen modelFile fileStep
+course (opening h kind v) = by (verdict h kind v)
+  where
+    by : Verdict h kind v → Course (opening h kind v)
+    by (passes e f) = begins (openingModel h kind v) (opening-gives h kind v (sym e)) (rw f) (opening-sound h kind v (sym e)) (sym e)
+    by (fails n e f) = refuses (suc n) 0 (ap (λ o. o .answer) (open-refused h kind v e)) (rw f)
+    by (faulty n e f) = faults n (ap (λ o. o .answer) (open-refused h kind v e)) f
+course (reading file v) = shaped (first (shapeTests file)) refl
+  where
+    h : Header
+    h = headerIn file
+
+    fed : first (shapeTests file) ≡ 0 → first (openTests h 0 v) ≡ 0 → first (beginningTests h 0) ≡ 0 → (b : Beginning) → modelFeed (recordsIn file) 0 (zeroModel h) ≡ b → Agrees (feed (recordsIn file) 0 (modelJob (zeroModel h)) (modelVolume (zeroModel h))) b → Course (reading file v)
+    fed q e f (begun m) r a = begins m (file-opened file v q (sym e) ∙ a .0) (rw (q, f) r) (a .1) (sym e)
+    fed q e f (notBegun n place) r a = refuses n place (ap (λ o. o .answer) (file-opened file v q (sym e)) ∙ a) (rw (q, f) r)
+
+    by : first (shapeTests file) ≡ 0 → Verdict h 0 v → Course (reading file v)
+    by q (passes e f) = fed q e f (modelFeed (recordsIn file) 0 (zeroModel h)) refl (feed-agrees (recordsIn file) 0 (zeroModel h) (opening-sound h 0 v (sym e)))
+    by q (fails n e f) = refuses (suc n) 0 (ap (λ o. o .answer) (file-refused file v q e)) (rw (q, f))
+    by q (faulty n e f) = faults n (ap (λ o. o .answer) (file-refused file v q e)) f
+
+    shaped : (n : ℕ) → first (shapeTests file) ≡ n → Course (reading file v)
+    shaped zero q = by q (verdict h 0 v)
+    shaped (suc n) q = refuses (suc n) 0 (rw q) (rw q)
+
+-- an accepted start begins a sound model, with its job and its volume ..
+pub accepted-start : (s : Start) (j : Job) (v : List ℕ) → start s ≡ record { answer = opened j; volume = v } → (m : Model) × (modelStart s ≡ begun m) × Sound m × (j ≡ modelJob m) × (v ≡ modelVolume m)
+accepted-start s j v e = by (course s)
+  where
+    by : Course s → (m : Model) × (modelStart s ≡ begun m) × Sound m × (j ≡ modelJob m) × (v ≡ modelVolume m)
+    by (begins m g b sound none) =
+        let same : opened j ≡ opened (modelJob m) = ap (λ o. o .answer) (sym e ∙ g) in
+        (m, b, sound, cc, ap (λ o. o .volume) (sym e ∙ g))
+    by (refuses n place a b) = absurd (opened-not (ap (λ o. o .answer) e) a)
+    by (faults n a f) = absurd (opened-not (ap (λ o. o .answer) e) a)
+
+-- .. and no test of an opening refuses its header and its volume
+pub opened-passes : (s : Start) (j : Job) → start s .answer ≡ opened j → 0 ≡ first (openTests (startHeader s) (startKind s) (startVolume s))
+opened-passes s j e = by (course s)
+  where
+    by : Course s → 0 ≡ first (openTests (startHeader s) (startKind s) (startVolume s))
+    by (begins m g b sound none) = none
+    by (refuses n place a b) = absurd (opened-not e a)
+    by (faults n a f) = absurd (opened-not e a)
+
+-- a start that is refused, for no fault of its volume, is refused by the model
+pub refused-start : RefusedStarts
+refused-start = record { alike = alike }
+  where
+    alike : (s : Start) (n place : ℕ) → start s .answer ≡ notOpened n place → (n ≡ 6 → ⊥) → (startKind s ≡ 1 → (n ≡ 7 → ⊥) × (n ≡ 14 → ⊥)) → modelStart s ≡ notBegun n place
+    alike s n place e six map = by (course s)
+      where
+        by : Course s → modelStart s ≡ notBegun n place
+        by (begins m g b sound none) = absurd (opened-not (ap (λ o. o .answer) g) e)
+        by (refuses k l a b) = let same : notOpened k l ≡ notOpened n place = sym a ∙ e in b ∙ cc
+        by (faults k a f) =
+            let same : notOpened n place ≡ notOpened (suc k) 0 = sym e ∙ a in
+            let number : n ≡ suc k = cc in
+            absurd (no-fault (startHeader s) (startKind s) (startVolume s) k f (λ q. six (number ∙ q)) (λ q. (λ r. map q .0 (number ∙ r), λ r. map q .1 (number ∙ r))))
+
+-- ---- from an accepted start on
+
+module _ (s : Start) (j : Job) (v : List ℕ) (m : Model) (started : Started s j v m) where
+  pub started-sound : Sound m × (j ≡ modelJob m) × (v ≡ modelVolume m)
+  started-sound =
+      let (m′, b, sound, ej, ev) = accepted-start s j v (started .gives) in
+      let same : begun m′ ≡ begun m = sym b ∙ started .begins in
+      let is : m′ ≡ m = cc in
+      (subst Sound is sound, ej ∙ ap modelJob is, ev ∙ ap modelVolume is)
+
+  pub started-runs : (l : List Call) → run j v l ≡ modelRan m l
+  started-runs = let s = started-sound in Corollaries.runs m (s .0) j v (s .1) (s .2)
+
+-- demand 3
+pub every-start : EveryList
+every-start = record { begins = λ s j v e. let a = accepted-start s j v e in (a .0, a .1); runs = started-runs }
+
+-- what follows after any list of calls
+pub triple-sums : TripleSums
+triple-sums = record { sums = λ s j v m started. let o = started-sound s j v m started in Corollaries.triple-sums m (o .0) j v (o .1) (o .2) }
+
+pub images-alike : ImagesAlike
+images-alike = record { alike = λ s j v m started. let o = started-sound s j v m started in Corollaries.images-alike m (o .0) j v (o .1) (o .2) }
+
+pub occupied-exactly : OccupiedExactly
+occupied-exactly = record { exactly = λ s j v m started. let o = started-sound s j v m started in Corollaries.occupied-exactly m (o .0) j v (o .1) (o .2) }

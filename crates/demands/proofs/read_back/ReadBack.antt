@@ -1,0 +1,221 @@
+-- The file that the writer wrote, read back, gives the job and its factors: its records are those of a whole cell that obeys group and Friedel, each orbit once,
+-- so a file's opening takes them all and comes to that cell.
+use mathlib.Core.Path.{_≡_, refl, sym, _∙_, ap, subst}
+use mathlib.Core.Bool.{true}
+use mathlib.Core.List.{List, [], _∷_, _++_, map}
+use Prim.Native.Nat.{ℕ, zero, suc, _*_, _<_, _≤_}
+use native.Mathlib.Nat.{mul-le-mul}
+use native.Mathlib.Omega.{arith}
+use lib.ListN.{length, take, drop}
+use lib.Seq.{take-append-seam}
+use lib.Dec.{ltb, eqb}
+use borrow.Author.Tests.{not-false, eqb-true, eqb-false, eq-eqb, lt-leb}
+use Rattle.algebra.specs.Gauss.{gauss}
+use Rattle.algebra.specs.Residue.{residues}
+use Rattle.algebra.specs.Cell.{J, Inside, Cell, full, at, factorActs}
+use Rattle.algebra.specs.CellSteps.{Lawful}
+use Rattle.algebra.specs.Orbit.{Mem, first as first-of, later, Acts, recordAll, Accepted}
+use Rattle.algebra.proofs.Members.{none as no-member}
+use Rattle.algebra.proofs.CellTests.{Positive}
+use Rattle.algebra.proofs.CellWriter.{written-accepted, written-read}
+use Rattle.numbers.specs.Prime.{prime}
+use Rattle.numbers.specs.Value.{Value, field, conj, value}
+use Rattle.numbers.proofs.Primes.{prime-pos}
+use Rattle.numbers.proofs.Residues.{res-val, val-small}
+use Rattle.numbers.proofs.Values.{field-ring, field-star}
+use Rattle.slices.specs.Pairs.{Below}
+use Rattle.slices.proofs.Bounds.{below-allBelow}
+use Rattle.lengths.specs.Factors.{product}
+use Rattle.refusals.specs.Tests.{first}
+use Rattle.lengths.specs.Lengths.{factorsOk}
+use Rattle.refusals.proofs.Tests.{Passed, passed, pass, none, not-t}
+use Rattle.lengths.proofs.Factors.{factors-cons}
+use Rattle.cell.specs.Volume.{volumeLength, factorsIn, packFactors}
+use Rattle.cell.specs.Operations.{Sizes}
+use Rattle.cell.specs.Consistency.{sameValue}
+use Rattle.cell.proofs.Reading.{same-iff}
+use Rattle.cell.proofs.Consistency.{pack-cong, consistent-read}
+use Rattle.job.specs.declared.Job.{Job}
+use Rattle.job.specs.Header.{headerOf, axisTests, collecting, jobOf, withState, validJob, groupIn, halves}
+use Rattle.job.specs.Steps.{opened, openTests, volumeTests}
+use Rattle.header.proofs.Headers.{all-three, sound-lists}
+use Rattle.header.proofs.Digits.{octal-of-digits}
+use Rattle.job.proofs.Jobs.{valid-sizes}
+use Rattle.file_format.specs.declared.FileRecord.{FileRecord}
+use Rattle.factor_file.specs.File.{recordsIn, fileStep}
+use Rattle.model.specs.Model.{Model, zeroModel, modelVolume, modelFeed, begun}
+use Rattle.demands.specs.Demands.{entry}
+use Rattle.demands.proofs.Openings.{opening-sound}
+use Rattle.demands.proofs.Starts.{file-gives}
+use Rattle.demands.proofs.AcceptedRecords.{actsOn, accepted-fed}
+use Rattle.file_format.specs.Bytes.{fileOf}
+use Rattle.factor_file.specs.Writing.{jobRecords, jobFile, written, writeTests, writeStep}
+use Rattle.demands.specs.DemandsReadBack.{ReadsBack}
+use Rattle.file_format.proofs.layout.FileParts.{length-header}
+use Rattle.factor_file.proofs.file.RecordLaws.{admitted-few}
+use Rattle.file_format.proofs.layout.FileParts.{length-body}
+use Rattle.factor_file.proofs.writer.Files.{told, passed-on, valid-volume}
+use Rattle.demands.proofs.read_back.Parsing.{fileRecord, Short}
+use Rattle.demands.proofs.read_back.WrittenFiles.{Writable, header-read, records-read, well-shaped}
+
+-- ---- records of a file and what they stand for
+
+entries : (cs : List (J × Value 1)) → map entry (map fileRecord cs) ≡ cs
+entries [] = refl
+entries (c ∷ cs) =
+    let x = res-val 1 (c .1 .0) in
+    let y = res-val 1 (c .1 .1) in
+    let others = entries cs in
+    λ i. (c .0, (x i, y i)) ∷ others i
+
+residues-below : (cs : List (J × Value 1)) (c : FileRecord) → Mem c (map fileRecord cs) → (c .a < prime 1) × (c .b < prime 1)
+residues-below [] c m = no-member m
+residues-below (d ∷ cs) c first-of = (val-small 1 (d .1 .0), val-small 1 (d .1 .1))
+residues-below (d ∷ cs) c (later m) = residues-below cs c m
+
+-- an accepted record lies in the cell
+accepted-inside : {S R : Type 0} (𝓐 : Acts S J R) (In : J → Type 0) (G : List S) (cs : List (J × R)) (F : J → R) → Accepted 𝓐 In G cs F → (c : J × R) → Mem c cs → In (c .0)
+unfolding Accepted
+accepted-inside 𝓐 In G [] F ok c m = no-member m
+accepted-inside 𝓐 In G (d ∷ cs) F ok c first-of = ok .0 .0
+accepted-inside 𝓐 In G (d ∷ cs) F ok c (later m) = accepted-inside 𝓐 In G cs _ (ok .1) c m
+
+-- a factor list is shorter than its product
+list-short : (l : List ℕ) → factorsOk l ≡ true → length l < product l
+unfolding product
+list-short [] e = omega arith
+list-short (f ∷ l) e = let b = factors-cons f l e in one f l (b .0 .0) (list-short l (b .1))
+  where
+    one : (f : ℕ) (l : List ℕ) → 2 ≤ f → length l < product l → suc (length l) < f * product l
+    one f l h k = omega (arith, k, mul-le-mul h k)
+
+-- ---- a job whose file was written
+
+module _ (j : Job) (v output : List ℕ) (accepts : 0 ≡ first (writeTests j v output)) where
+  tests : Passed (writeTests j v output)
+  tests = passed (writeTests j v output) tt accepts
+
+  valid : validJob j ≡ true
+  valid = not-false _ (tests .0)
+
+  sizes : Sizes (j .group) (j .a .length) (j .b .length) (j .c .length)
+  sizes = valid-sizes j valid
+
+  header-sound : 0 ≡ first (axisTests (headerOf j))
+  unfolding validJob
+  header-sound = let t = all-three (ltb (j .group) 5) (eqb (first (axisTests (headerOf j))) 0) (ltb (j .state) 3) valid in sym (eqb-true _ _ (t .1))
+
+  long : length v ≡ volumeLength (groupIn j) (halves j)
+  long = eqb-true _ _ (not-false _ (tests .1 .1 .0))
+
+  small : Below (prime 1) v
+  small = below-allBelow (prime 1) v (prime-pos 1) (not-false _ (tests .1 .1 .1 .0))
+
+  positive : Positive (halves j)
+  positive = (omega (arith, sizes .first .low), omega (arith, sizes .second .low), omega (arith, sizes .third .low))
+
+  -- the cell that is read off the volume
+  abbrev cell : Cell (Value 1)
+  cell = factorsIn (groupIn j) (halves j) 1 v
+
+  whole : Lawful (field 1) (conj 1) (halves j) (groupIn j) cell × (packFactors (groupIn j) (halves j) 1 cell ≡ v)
+  whole = consistent-read (groupIn j) (halves j) positive 1 v long small (not-false _ (tests .1 .1 .1 .1 .0))
+
+  -- ---- its records are accepted, and give the cell
+
+  abbrev Taken : List (J × Value 1) → Type 0
+  Taken cs = Accepted (actsOn (halves j)) (Inside (halves j)) (full (groupIn j)) cs (λ q. value 1 0 0)
+
+  taken : Taken (jobRecords j v)
+  unfolding jobRecords factorActs gauss residues
+  taken = written-accepted (field-ring 1) (field-star 1) sameValue (same-iff 1) (groupIn j) (halves j) (at cell) (whole .0)
+
+  cell-given : (q : J) → Inside (halves j) q → recordAll (actsOn (halves j)) (full (groupIn j)) (jobRecords j v) (λ q. value 1 0 0) q ≡ at cell q
+  unfolding jobRecords factorActs gauss residues
+  cell-given = written-read (field-ring 1) (field-star 1) sameValue (same-iff 1) (groupIn j) (halves j) (at cell) (whole .0)
+
+  -- ---- its file
+
+  few : length (jobRecords j v) ≤ 33554432
+  unfolding jobRecords
+  few = admitted-few sizes v long (omega (arith, long, valid-volume j valid))
+
+  list-small : (l : List ℕ) → (factorsOk l ≡ true) × (product l ≤ 1440) → length l < 1440
+  list-small l s = omega (arith, s .1, list-short l (s .0))
+
+  inside-short : (q : J) → Inside (halves j) q → Short q
+  inside-short q n = record {
+    h = omega (arith, n .0, sizes .first .high);
+    k = omega (arith, n .1, sizes .second .high);
+    l = omega (arith, n .2, sizes .third .high);
+  }
+
+  writable : Writable (headerOf j) (jobRecords j v)
+  writable =
+      let s = sound-lists (headerOf j) header-sound in
+      record {
+        lengths = record { h = omega (arith, sizes .first .high); k = omega (arith, sizes .second .high); l = omega (arith, sizes .third .high) };
+        indices = λ c m. inside-short (c .0) (accepted-inside (actsOn (halves j)) (Inside (halves j)) (full (groupIn j)) (jobRecords j v) (λ q. value 1 0 0) taken c m);
+        some = eqb-false _ _ (tests .1 .1 .1 .1 .1 .0);
+        short = omega (arith, length-body (headerOf j) (jobRecords j v), length-header (headerOf j), few, list-small _ (s .0), list-small _ (s .1), list-small _ (s .2));
+      }
+
+  module _ (u : List ℕ) (same : length u ≡ length v) where
+    -- an opening with kind 0 takes its header
+    opens : 0 ≡ first (openTests (headerOf j) 0 u)
+    opens =
+        pass 8 _ (lt-leb 5 (j .group) (sizes .known))
+        (pass 2 _ refl
+        (volume ∙ sym (passed-on (axisTests (headerOf j)) (volumeTests (j .group) (headerOf j .lengths) 0 u) (passed (axisTests (headerOf j)) tt header-sound))))
+      where
+        volume : 0 ≡ first (volumeTests (j .group) (headerOf j .lengths) 0 u)
+        volume = pass 6 _ (not-t _ (eq-eqb (length u) (volumeLength (groupIn j) (halves j)) (same ∙ long))) (pass 7 _ refl (pass 14 _ refl none))
+
+    -- the model that its records begin
+    abbrev fed : List (J × Value 1) → Model
+    fed cs = record { header = headerOf j; state = collecting; F = λ h k l. recordAll (actsOn (halves j)) (full (groupIn j)) cs (λ q. value 1 0 0) (h, k, l) }
+
+    feeds : modelFeed (map fileRecord (jobRecords j v)) 0 (zeroModel (headerOf j)) ≡ begun (fed (jobRecords j v))
+    feeds =
+        accepted-fed (map fileRecord (jobRecords j v)) 0 (zeroModel (headerOf j)) (opening-sound (headerOf j) 0 u opens) refl (residues-below (jobRecords j v)) (subst Taken (sym (entries (jobRecords j v))) taken)
+        ∙ ap (λ cs. begun (fed cs)) (entries (jobRecords j v))
+
+    volume-given : modelVolume (fed (jobRecords j v)) ≡ v
+    unfolding modelVolume
+    volume-given = pack-cong (groupIn j) (halves j) positive 1 cell (fed (jobRecords j v) .F) cell-given (whole .0) ∙ whole .1
+
+    job-given : jobOf (headerOf j) collecting ≡ withState j collecting
+    job-given = λ i. record {
+      group = j .group;
+      a = record { length = j .a .length; factors = octal-of-digits (j .a .factors) i };
+      b = record { length = j .b .length; factors = octal-of-digits (j .b .factors) i };
+      c = record { length = j .c .length; factors = octal-of-digits (j .c .factors) i };
+      state = collecting;
+    }
+
+    file-read : fileStep (jobFile j v) u ≡ record { answer = opened (withState j collecting); volume = v }
+    unfolding jobFile
+    file-read =
+        let file = fileOf (headerOf j) (jobRecords j v) in
+        let eh = sym (header-read (headerOf j) (jobRecords j v) writable) in
+        let er = sym (records-read (headerOf j) (jobRecords j v) writable) in
+        file-gives file u (well-shaped (headerOf j) (jobRecords j v) writable) (fed (jobRecords j v))
+        (subst (λ h. 0 ≡ first (openTests h 0 u)) eh opens)
+        (subst (λ h. modelFeed (recordsIn file) 0 (zeroModel h) ≡ begun (fed (jobRecords j v))) eh (subst (λ cs. modelFeed cs 0 (zeroModel (headerOf j)) ≡ begun (fed (jobRecords j v))) er feeds))
+        ∙ λ i. record { answer = opened (job-given i); volume = volume-given i }
+
+-- ---- every written file
+
+-- what was written is the file, and the count is its length
+file-written : (file output : List ℕ) (k n : ℕ) → told file output k .answer ≡ written n → (0 ≡ k) × (take n (told file output k .output) ≡ file)
+file-written file output zero n e = let c : n ≡ length file = cc in (refl, ap (λ m. take m (file ++ drop (length file) output)) c ∙ take-append-seam file (drop (length file) output))
+file-written file output (suc k) n e = let z : _≡_ {A = ℕ} 0 1 = cc in absurd (omega arith)
+
+pub reads-back : ReadsBack
+unfolding writeStep
+reads-back = record { reads-back = read }
+  where
+    read : (j : Job) (v output u : List ℕ) (n : ℕ) → writeStep j v output .answer ≡ written n → length u ≡ length v → fileStep (take n (writeStep j v output .output)) u ≡ record { answer = opened (withState j collecting); volume = v }
+    read j v output u n e same =
+        let w = file-written (jobFile j v) output (first (writeTests j v output)) n e in
+        ap (λ f. fileStep f u) (w .1) ∙ file-read j v output (w .0) u same

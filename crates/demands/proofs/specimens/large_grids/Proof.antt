@@ -1,0 +1,16 @@
+-- The grids are computed; the length of the volume is all that is known of it.
+use mathlib.Core.Path.{refl}
+use Rattle.algebra.specs.Cell.{planes}
+use Rattle.refusals.specs.Tests.{first}
+use Rattle.lengths.specs.Factors.{product, octal}
+use Rattle.lengths.specs.Lengths.{admitted, factorsOk}
+use Rattle.job.specs.Steps.{openStep}
+use Rattle.demands.proofs.specimens.large_grids.Statement.{statement}
+use Rattle.demands.proofs.specimens.large_grids.Tie as tie
+
+returns : tie.Need-returns
+unfolding openStep first planes admitted factorsOk product octal
+returns c = record { shown = ((refl, λ v e. rw e refl), ((refl, λ v e. refl), ((refl, λ v e. rw e refl), tt))) }
+
+pub large-grids-spec : {M : Type 1} → statement M
+large-grids-spec = tie.close (tie.spec returns)

@@ -1,0 +1,121 @@
+-- The third demand: over every list of calls from an accepted opening or file on, every answer, the job and the volume are the model's; and what follows from it.
+-- Each statement is the promise of the function of the same name in src/lib.rt; Started, allRecords, entry, Alike, Reordered and Reachable are what they
+-- speak of.
+use mathlib.Core.Path.{_≡_}
+use mathlib.Core.Logic.{_↔_}
+use mathlib.Core.Bool.{true}
+use mathlib.Core.List.{List, [], _∷_, _++_, map}
+use Prim.Native.Nat.{ℕ, _+_, _≤_}
+use lib.ListN.{length, take}
+use lib.Dec.{eqb}
+use Rattle.algebra.specs.Cell.{J, Inside, Sym, ops, full, pim, at, factorActs}
+use Rattle.algebra.specs.Orbit.{Mem, Perm, recordAll}
+use Rattle.numbers.specs.Value.{Value, field, conj, value}
+use Rattle.lengths.specs.Lengths.{scratchLength}
+use Rattle.cell.specs.Volume.{factorsIn}
+use Rattle.cell.specs.Sums.{mapOf}
+use Rattle.job.specs.declared.Job.{Job}
+use Rattle.job.specs.declared.Reflection.{Reflection}
+use Rattle.job.specs.declared.GridPoint.{GridPoint}
+use Rattle.job.specs.Header.{mapHeld, factorsHeld, withState, headerOf, validJob, groupIn, halves}
+use Rattle.job.specs.Steps.{within, index, position, Opening, opened, notOpened, OpenOutcome, Said, done, density, refused, Outcome, Worked, recordStep, synthesisStep, analysisStep, pointStep}
+use Rattle.file_format.specs.declared.FileRecord.{FileRecord}
+use Rattle.factor_file.specs.File.{indexOf, countAt, recordsIn, fileStep}
+use Rattle.model.specs.Model.{Model, group, half, factorOf, densityOf, Call, modelVolume, modelJob, factorVolume, mapVolume, Beginning, begun, notBegun}
+use Rattle.demands.specs.Calls.{Start, start, modelStart, startHeader, startKind, startVolume, startRecords, firstModel, step, Ran, run, modelRan, modelEnd, acceptedRecords}
+
+-- A start that is accepted, with the job and the volume that it gives, and the model that it begins.
+pub record Started (s : Start) (j : Job) (v : List ℕ) (m : Model) : Type 0 where
+  pub gives : start s ≡ record { answer = opened j; volume = v }
+  pub begins : modelStart s ≡ begun m
+
+-- Demand 3. What a start accepts the model accepts; and from there on, whatever the list of calls, refused ones too: all answers, the job and the volume are the model's.
+pub record EveryList : Type 0 where
+  pub begins : (s : Start) (j : Job) (v : List ℕ) → start s ≡ record { answer = opened j; volume = v } → (m : Model) × (modelStart s ≡ begun m)
+  pub runs : (s : Start) (j : Job) (v : List ℕ) (m : Model) → Started s j v m → (l : List Call) → run j v l ≡ modelRan m l
+
+-- A start that is refused, for no fault of its volume (6, 7, 14), is refused by the model, by the same number and place.
+pub record RefusedStarts : Type 0 where
+  pub alike : (s : Start) (n place : ℕ) → start s .answer ≡ notOpened n place → (n ≡ 6 → ⊥) → (startKind s ≡ 1 → (n ≡ 7 → ⊥) × (n ≡ 14 → ⊥)) → modelStart s ≡ notBegun n place
+
+-- all records that were accepted: those of the file, then those of the list
+abbrev pub allRecords : Start → Job → List ℕ → List Call → List FileRecord
+allRecords s j v l = startRecords s ++ acceptedRecords l (run j v l .answers)
+
+-- The model's F is what these records put, one after another, into the F of the opening: zero for kind 0 and for a file, the analysis of the map for kind 1.
+abbrev pub entry : FileRecord → J × Value 1
+entry c = (index (indexOf c), value 1 (c .a) (c .b))
+
+pub record FactorsImplied : Type 0 where
+  pub implied : (s : Start) (j : Job) (v : List ℕ) (m : Model) → Started s j v m → (l : List Call) (q : J) →
+      let o = firstModel s in
+      factorOf (modelEnd m l) q ≡ recordAll (factorActs (field 1) (conj 1) (half o)) (full (group o)) (map entry (allRecords s j v l)) (factorOf o) q
+
+-- Every number of a map that a list of calls leaves is the triple sum over the model's F, which is real: of any point of the cell, read by a call.
+-- (The volume itself is `modelVolume`, by EveryList.)
+pub record TripleSums : Type 0 where
+  pub sums : (s : Start) (j : Job) (v : List ℕ) (m : Model) → Started s j v m → (l : List Call) → run j v l .job .state ≡ mapHeld → (x : GridPoint) → within (m .header .lengths) (position x) ≡ true →
+      (pointStep (run j v l .job) x (run j v l .volume) .answer ≡ density (densityOf (modelEnd m l) (position x) .0 .val)) × (densityOf (modelEnd m l) (position x) .1 .val ≡ 0)
+
+-- A map is always real: for any job and volume that synthesis accepts, the triple sum over the factors that are read off the volume has no imaginary part, at any point of the cell.
+-- Its real part is the number that a reading of the point gives afterwards.
+pub record MapsReal : Type 0 where
+  pub real : (j : Job) (v scratch : List ℕ) → let o = synthesisStep j v scratch .outcome in o .answer ≡ done → (x : GridPoint) → within (headerOf j .lengths) (position x) ≡ true →
+      let d = at (mapOf 1 (halves j) (factorsIn (groupIn j) (halves j) 1 v)) (position x) in
+      (pointStep (o .job) x (o .volume) .answer ≡ density (d .0 .val)) × (d .1 .val ≡ 0)
+
+-- All images of a point carry the same number.
+pub record ImagesAlike : Type 0 where
+  pub alike : (s : Start) (j : Job) (v : List ℕ) (m : Model) → Started s j v m → (l : List Call) (q : Sym) → Mem q (ops (group m)) → (x y : GridPoint) → within (m .header .lengths) (position x) ≡ true → position y ≡ pim (half m) q (position x) →
+      pointStep (run j v l .job) y (run j v l .volume) .answer ≡ pointStep (run j v l .job) x (run j v l .volume) .answer
+
+-- Analysis of the map of packed factors restores them: for any job and volume that synthesis accepts, and any scratch that is long enough.
+pub record AnalysisRestores : Type 0 where
+  pub restores : (j : Job) (v scratch scratch′ : List ℕ) → let o = synthesisStep j v scratch .outcome in o .answer ≡ done → scratchLength ≤ length scratch′ →
+      analysisStep (o .job) (o .volume) scratch′ .outcome ≡ record { answer = done; job = withState j factorsHeld; volume = v }
+
+-- Starts are alike if they differ at most in factor lists and, for kind 0, in what the volume held.
+pub record Alike (s s′ : Start) : Type 0 where
+  pub same-group : startHeader s .group ≡ startHeader s′ .group
+  pub same-lengths : startHeader s .lengths ≡ startHeader s′ .lengths
+  pub same-kind : startKind s ≡ startKind s′
+  pub same-map : startKind s ≡ 1 → startVolume s ≡ startVolume s′
+
+-- Lists alike in opening and accepted records, in whatever order, have the same packed factors and the same map: so the same volume, where both hold a map or both hold factors.
+pub record OrderFree : Type 0 where
+  pub same : (s s′ : Start) (j j′ : Job) (v v′ : List ℕ) (m m′ : Model) → Started s j v m → Started s′ j′ v′ m′ → Alike s s′ → (l l′ : List Call) → Perm (allRecords s j v l) (allRecords s′ j′ v′ l′) →
+      (factorVolume (modelEnd m l) ≡ factorVolume (modelEnd m′ l′)) × (mapVolume (modelEnd m l) ≡ mapVolume (modelEnd m′ l′)) ×
+      (eqb (run j v l .job .state) mapHeld ≡ eqb (run j′ v′ l′ .job .state) mapHeld → run j v l .volume ≡ run j′ v′ l′ .volume)
+
+-- Alike starts of the same records answer every list of calls alike, and leave the same volume and state.
+pub record AlikeStarts : Type 0 where
+  pub same : (s s′ : Start) (j j′ : Job) (v v′ : List ℕ) (m m′ : Model) → Started s j v m → Started s′ j′ v′ m′ → Alike s s′ → Perm (startRecords s) (startRecords s′) → (l : List Call) →
+      (run j v l .answers ≡ run j′ v′ l .answers) × (run j v l .volume ≡ run j′ v′ l .volume) × (run j v l .job .state ≡ run j′ v′ l .job .state)
+
+-- The same file with its records in another order: as long, the same bytes before the first record, and the same records behind them.
+pub record Reordered (file file′ : List ℕ) : Type 0 where
+  pub same-length : length file ≡ length file′
+  pub same-head : take (countAt file + 4) file ≡ take (countAt file + 4) file′
+  pub same-records : Perm (recordsIn file) (recordsIn file′)
+
+-- An accepted file with its records in another order is accepted too and gives the same job and volume, whatever the lent volume held.
+pub record FileOrderFree : Type 0 where
+  pub same : (file file′ v v′ : List ℕ) (j : Job) (w : List ℕ) → Reordered file file′ → length v ≡ length v′ →
+      fileStep file v ≡ record { answer = opened j; volume = w } → fileStep file′ v′ ≡ record { answer = opened j; volume = w }
+
+-- Refusal 24 exactly if F at the index is not zero: of a record that no other test refuses, after any list of calls.
+pub record OccupiedExactly : Type 0 where
+  pub exactly : (s : Start) (j : Job) (v : List ℕ) (m : Model) → Started s j v m → (l : List Call) (k : Reflection) (x y : ℕ) →
+      let a = recordStep (run j v l .job) k x y (run j v l .volume) .answer in
+      ((n : ℕ) → a ≡ refused n → n ≡ 24) → ((a ≡ refused 24) ↔ (factorOf (modelEnd m l) (index k) ≡ value 1 0 0 → ⊥))
+
+-- A job that an opening or a later call could have made: from an accepted opening or file on, some list of calls leaves it.
+abbrev pub Reachable : Job → Type 0
+Reachable j = (s : Start) × (i : Job) × (v : List ℕ) × (l : List Call) × (start s ≡ record { answer = opened i; volume = v }) × (run i v l .job ≡ j)
+
+-- Refusal 25 exactly of a job that no opening and no later call could have made: `validJob`, which every call tests first, is true of the others and of no more;
+-- and a call that is lent another volume than the one left for it makes no other job.
+pub record ImpossibleExactly : Type 0 where
+  pub exactly : (j : Job) → (validJob j ≡ true) ↔ Reachable j
+  pub refuses : (j : Job) (v : List ℕ) (c : Call) → (step j v c .answer ≡ refused 25) ↔ (Reachable j → ⊥)
+  pub keeps : (j : Job) (v : List ℕ) (c : Call) → Reachable j → Reachable (step j v c .job)

@@ -1,0 +1,5 @@
+pub mod Calls
+pub mod Demands
+pub mod DemandsReadBack
+pub mod Specimens
+pub mod Grids

@@ -1,0 +1,67 @@
+// The third demand: over every list of calls from an accepted opening or file on, every answer, the job and the volume are the
+// reference model's. Each function here does nothing; its promise is one statement of specs/Demands.antt, so that none of
+// them can vanish unnoticed.
+pub mod read_back; // read_back.rt
+pub mod specimens; // specimens.rt
+
+ghost use Rattle.demands.specs.Demands.{EveryList, RefusedStarts, FactorsImplied, TripleSums, MapsReal, ImagesAlike, AnalysisRestores, OrderFree, AlikeStarts, FileOrderFree, OccupiedExactly, ImpossibleExactly};
+
+// Over every list of calls: answers, job and volume.
+pub fn every_list()
+    ensures { λ _. ⌜ EveryList ⌝ }
+{}
+
+// A refused start is refused by the model.
+pub fn refused_starts()
+    ensures { λ _. ⌜ RefusedStarts ⌝ }
+{}
+
+// The accepted records, or the opened map, imply every factor.
+pub fn factors_implied()
+    ensures { λ _. ⌜ FactorsImplied ⌝ }
+{}
+
+// Every value of a map is the triple sum.
+pub fn triple_sums()
+    ensures { λ _. ⌜ TripleSums ⌝ }
+{}
+
+// Every value of a map is real.
+pub fn maps_real()
+    ensures { λ _. ⌜ MapsReal ⌝ }
+{}
+
+// All images of a point carry the same value.
+pub fn images_alike()
+    ensures { λ _. ⌜ ImagesAlike ⌝ }
+{}
+
+// Analysing the map of packed factors restores them.
+pub fn analysis_restores()
+    ensures { λ _. ⌜ AnalysisRestores ⌝ }
+{}
+
+// Lists alike in opening and accepted records have the same packed factors and the same map.
+pub fn order_free()
+    ensures { λ _. ⌜ OrderFree ⌝ }
+{}
+
+// Alike starts answer every list of calls alike.
+pub fn alike_starts()
+    ensures { λ _. ⌜ AlikeStarts ⌝ }
+{}
+
+// An accepted file with its records in another order is accepted too and gives the same.
+pub fn file_order_free()
+    ensures { λ _. ⌜ FileOrderFree ⌝ }
+{}
+
+// Refusal 24 exactly if F at the index is not zero.
+pub fn occupied_exactly()
+    ensures { λ _. ⌜ OccupiedExactly ⌝ }
+{}
+
+// Refusal 25 exactly of a job that no opening and no later call could have made.
+pub fn impossible_exactly()
+    ensures { λ _. ⌜ ImpossibleExactly ⌝ }
+{}

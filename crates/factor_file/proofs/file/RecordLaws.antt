@@ -1,0 +1,152 @@
+-- The records of a volume: what one place gives, how many there can be, and their bytes.
+use mathlib.Core.Path.{_≡_, refl, sym, _∙_, ap}
+use mathlib.Core.Bool.{Bool, true, false, _&&_, not, cond}
+use mathlib.Core.List.{List, [], _∷_, append-nil}
+use Prim.Native.Nat.{ℕ, suc, _*_, _/_, _<_, _≤_}
+use native.Mathlib.Nat.{mul-le-mul}
+use native.Mathlib.Omega.{arith}
+use lib.ListN.{length, getD}
+use borrow.Author.Tests.{lt-ltb}
+use Rattle.algebra.specs.Gauss.{gauss}
+use Rattle.algebra.specs.Residue.{residue, residues}
+use Rattle.algebra.specs.Cell.{J, Group, full, planes, at, factorActs}
+use Rattle.algebra.specs.CellTests.{cellFrom, placesOf, lexLe, recordsOf}
+use Rattle.numbers.specs.declared.Pair.{Pair}
+use Rattle.numbers.specs.Prime.{prime}
+use Rattle.numbers.specs.Value.{Value, field, conj, value, pairOf}
+use Rattle.slices.specs.Pairs.{Below}
+use Rattle.cell.specs.Volume.{groupOf, volumeLength, factorsIn}
+use Rattle.cell.specs.Operations.{halvesOf, Sizes}
+use Rattle.cell.specs.Places.{allBelowAt}
+use Rattle.cell.specs.Consistency.{sameValue, all}
+use Rattle.cell.specs.TestSteps.{isZero}
+use Rattle.cell.proofs.OperationLaws.{by-group}
+use Rattle.file_format.specs.Bytes.{recordBytes, allBytes}
+use Rattle.factor_file.specs.Records.{recordsAt}
+use Rattle.factor_file.specs.Lowest.{isLowest}
+use Rattle.factor_file.proofs.orbits.PlaceOrder.{upper-not-lowest}
+use Rattle.factor_file.specs.Stores.{Put}
+use Rattle.factor_file.specs.StepsFile.{recordValue, pairBytes, recordsWith}
+use Rattle.factor_file.proofs.file.Stores.{put-none, put-as}
+use Rattle.file_format.proofs.layout.ByteLaws.{all-append}
+use Rattle.factor_file.proofs.file.Places.{Spreads, NoneBeyond, length-cell, records-most, records-spread}
+
+-- ---- the numbers that a factor is read from are small, whichever they are
+
+pub small-at-all : {p : ℕ} {v : List ℕ} → Below p v → (places : List ℕ) → allBelowAt p v places ≡ true
+unfolding all
+small-at-all b [] = refl
+small-at-all {p} {v} b (q ∷ places) = both _ _ (lt-ltb (getD v q 0) p (b .each q)) (small-at-all b places)
+  where
+    both : (x y : Bool) → x ≡ true → y ≡ true → (x && y) ≡ true
+    both x y e f = λ i. e i && f i
+
+-- the list of one record
+abbrev pub alone : J → Value 1 → List (J × Value 1)
+alone j x = (j, x) ∷ []
+
+module _ (g : Group) (a : J) (v : List ℕ) where
+  -- ---- records and bytes of places, one after another
+
+  abbrev pub bytesAt : List J → List ℕ
+  bytesAt places = allBytes (recordsAt g a v places)
+
+  pub volume-records : Spreads (recordsAt g a v)
+  volume-records = records-spread (factorActs (field 1) (conj 1) a) lexLe sameValue (full g) (at (factorsIn g a 1 v))
+
+  pub volume-bytes : Spreads bytesAt
+  unfolding allBytes
+  volume-bytes = record {
+    nil = ap allBytes (volume-records .nil);
+    append = λ l m. ap allBytes (volume-records .append l m) ∙ all-append (recordsAt g a v l) (recordsAt g a v m);
+  }
+
+  pub few-records : (places : List J) → length (recordsAt g a v places) ≤ length places
+  few-records = records-most (factorActs (field 1) (conj 1) a) lexLe sameValue (full g) (at (factorsIn g a 1 v))
+
+  -- ---- one place
+
+  module _ (j : J) where
+    given : (b s : Bool) (x : Value 1) → cond (b && not s) (alone j x) [] ≡ cond b (cond s [] (alone j x)) []
+    given true true x = refl
+    given true false x = refl
+    given false s x = refl
+
+    tested : (b : Bool) (x : Value 1) → cond b (cond (isZero (pairOf x)) [] (alone j x)) [] ≡ cond (isZero (pairOf (cond b x (value 1 0 0)))) [] (alone j (cond b x (value 1 0 0)))
+    unfolding pairOf residue prime
+    tested true x = refl
+    tested false x = refl
+
+    place-records : recordsAt g a v (j ∷ []) ≡ cond (isZero (pairOf (recordValue g a v j))) [] (alone j (recordValue g a v j))
+    unfolding recordsOf factorActs recordValue pairOf gauss residues residue prime
+    place-records = let x = at (factorsIn g a 1 v) j in given (isLowest g a j) (isZero (pairOf x)) x ∙ tested (isLowest g a j) x
+
+    pub not-lowest-none : isLowest g a j ≡ false → recordsAt g a v (j ∷ []) ≡ []
+    unfolding recordsOf factorActs pairOf gauss residues residue prime
+    not-lowest-none e = let x = at (factorsIn g a 1 v) j in ap (λ (b : Bool). cond (b && not (isZero (pairOf x))) (alone j x) []) e
+
+    pub lowest-value : isLowest g a j ≡ true → {x : Pair} → x ≡ pairOf (at (factorsIn g a 1 v) j) → x ≡ pairOf (recordValue g a v j)
+    unfolding recordValue
+    lowest-value e f = f ∙ ap (λ (b : Bool). pairOf (cond b (at (factorsIn g a 1 v) j) (value 1 0 0))) (sym e)
+
+    -- x is the value as the code holds it, t what it found of x
+    module _ {x : Pair} {t : Bool} (e : x ≡ pairOf (recordValue g a v j)) (f : t ≡ isZero x) where
+      found : {b : Bool} → t ≡ b → isZero (pairOf (recordValue g a v j)) ≡ b
+      found h = sym (f ∙ ap isZero e) ∙ h
+
+      pub no-record : t ≡ true → recordsAt g a v (j ∷ []) ≡ []
+      no-record h = place-records ∙ ap (λ b. cond b [] (alone j (recordValue g a v j))) (found h)
+
+      pub one-record : t ≡ false → recordsAt g a v (j ∷ []) ≡ alone j (recordValue g a v j)
+      one-record h = place-records ∙ ap (λ b. cond b [] (alone j (recordValue g a v j))) (found h)
+
+      pub no-bytes : (q : ℕ) (l : List ℕ) → t ≡ true → Put q (bytesAt (j ∷ [])) l q l
+      unfolding allBytes
+      no-bytes q l h = put-as (put-none q l) (sym (ap allBytes (no-record h)))
+
+      pub one-bytes : t ≡ false → pairBytes j x ≡ bytesAt (j ∷ [])
+      unfolding allBytes recordBytes pairOf
+      one-bytes h = ap (pairBytes j) e ∙ sym (append-nil (recordBytes (j, recordValue g a v j))) ∙ sym (ap allBytes (one-record h))
+
+-- ---- where records stand, and how many there can be
+
+module _ {group n1 n2 n3 : ℕ} (s : Sizes group n1 n2 n3) where
+  pub first-half : {h : ℕ} → h ≤ n1 / 2 → h < n1
+  first-half l = omega (arith, s .first .low)
+
+  pub cell-places : placesOf (halvesOf n1 n2 n3) ≡ cellFrom n3 n2 0 n1
+  cell-places =
+      let x : 2 * (n1 / 2) ≡ n1 = omega (arith, s .first .even) in
+      let y : 2 * (n2 / 2) ≡ n2 = omega (arith, s .second .even) in
+      let z : 2 * (n3 / 2) ≡ n3 = omega (arith, s .third .even) in
+      λ i. cellFrom (z i) (y i) 0 (x i)
+
+  module _ (v : List ℕ) where
+    -- places beyond N1/2 give no records
+    pub upper-records : NoneBeyond (recordsAt (groupOf group) (halvesOf n1 n2 n3) v) n1 (n1 / 2)
+    upper-records j u l = not-lowest-none (groupOf group) (halvesOf n1 n2 n3) v j (upper-not-lowest (groupOf group) (halvesOf n1 n2 n3) j u (omega (arith, s .first .even)))
+
+    pub upper-bytes : NoneBeyond (bytesAt (groupOf group) (halvesOf n1 n2 n3) v) n1 (n1 / 2)
+    unfolding allBytes
+    upper-bytes j u l = ap allBytes (upper-records j u l)
+
+    abbrev count : List J → ℕ
+    count places = length (recordsAt (groupOf group) (halvesOf n1 n2 n3) v places)
+
+    pub cell-few : count (cellFrom n3 n2 0 n1) ≤ 23887872000
+    cell-few = omega (arith, few-records (groupOf group) (halvesOf n1 n2 n3) v (cellFrom n3 n2 0 n1), length-cell n3 n2 0 n1, mul-le-mul (s .first .high) (mul-le-mul (s .second .high) (s .third .high)))
+
+    -- in a volume that an opening admits there are so few that four bytes count those of the file
+    planes-least : (c n : ℕ) → n < 5 → c ≤ planes (groupOf n) c
+    unfolding planes
+    planes-least c = by-group (λ g. c ≤ planes g c) (omega arith) (omega arith) (omega arith) (omega arith) (omega arith)
+
+    pub admitted-few : length v ≡ volumeLength (groupOf group) (halvesOf n1 n2 n3) → length v ≤ 16777216 → length (recordsWith group n1 n2 n3 v) ≤ 33554432
+    admitted-few e h =
+        let a = n1 / 2 in
+        let b = n2 / 2 in
+        let c = n3 / 2 in
+        let same : 2 * a ≤ 2 * a = omega arith in
+        let next : suc b ≤ suc b = omega arith in
+        let most : c * (2 * a) * suc b ≤ planes (groupOf group) c * (2 * a) * suc b = mul-le-mul (mul-le-mul (planes-least c group (s .known)) same) next in
+        omega (arith, few-records (groupOf group) (halvesOf n1 n2 n3) v (placesOf (halvesOf n1 n2 n3)), length-cell (2 * c) (2 * b) 0 (2 * a), most, e, h)

@@ -1,0 +1,105 @@
+-- Going over the places of the cell: what was counted or stored of those before a place, and what is left from it on.
+use mathlib.Core.Path.{_≡_, refl, sym, _∙_, ap}
+use mathlib.Core.List.{List, [], _∷_}
+use Prim.Native.Nat.{ℕ, suc, _+_, _-_, _<_, _≤_}
+use native.Mathlib.Omega.{arith}
+use lib.ListN.{length, length-append}
+use Rattle.algebra.specs.Cell.{J}
+use Rattle.algebra.specs.CellTests.{cellFrom}
+use Rattle.algebra.proofs.Laws.{along}
+use Rattle.cell.specs.declared.operations.Index.{Index}
+use Rattle.cell.specs.Operations.{tripleOf}
+use Rattle.factor_file.specs.Stores.{Room, Put}
+use Rattle.factor_file.specs.StepsFile.{placesFrom, Next}
+use Rattle.factor_file.proofs.file.Stores.{put-none, put-then, put-as, put-length}
+use Rattle.factor_file.proofs.file.Places.{Spreads, NoneBeyond, plane-start, here, on-line, on-plane, in-cell, from-none}
+
+-- ---- the place after one, as the code finds it
+
+after : (f : ℕ → List J) (n : ℕ) → f (suc n) ≡ f (n + 1)
+after f n = along f (suc n) (n + 1) (omega arith)
+
+module _ (n1 n2 n3 : ℕ) (j : Index) (a : j .h < n1) (b : j .k < n2) (c : j .l < n3) where
+  pub next-on-line : j .l + 1 < n3 → Next n1 n2 n3 j (record { h = j .h; k = j .k; l = j .l + 1 })
+  next-on-line d = record {
+    left = on-line n1 n2 n3 (j .h) (j .k) (j .l) a b c (omega arith) ∙ ap (λ t. tripleOf j ∷ t) (after (λ m. placesFrom n1 n2 n3 (j .h, j .k, m)) (j .l));
+    k = b;
+    l = d;
+  }
+
+  pub next-on-plane : n3 ≤ j .l + 1 → j .k + 1 < n2 → Next n1 n2 n3 j (record { h = j .h; k = j .k + 1; l = 0 })
+  next-on-plane d e = record {
+    left = on-plane n1 n2 n3 (j .h) (j .k) (j .l) a b c (omega arith) (omega arith) ∙ ap (λ t. tripleOf j ∷ t) (after (λ m. placesFrom n1 n2 n3 (j .h, m, 0)) (j .k));
+    k = e;
+    l = omega arith;
+  }
+
+  pub next-in-cell : n3 ≤ j .l + 1 → n2 ≤ j .k + 1 → Next n1 n2 n3 j (record { h = j .h + 1; k = 0; l = 0 })
+  next-in-cell d e = record {
+    left = in-cell n1 n2 n3 (j .h) (j .k) (j .l) a b c (omega arith) (omega arith) ∙ ap (λ t. tripleOf j ∷ t) (after (λ m. placesFrom n1 n2 n3 (m, 0, 0)) (j .h));
+    k = omega arith;
+    l = omega arith;
+  }
+
+-- ---- the first place, and one fewer place in each turn
+
+first-places : (n1 n2 n3 : ℕ) → 0 < n2 → placesFrom n1 n2 n3 (0, 0, 0) ≡ cellFrom n3 n2 0 n1
+first-places n1 n2 n3 b = plane-start n1 n2 n3 0 b ∙ along (cellFrom n3 n2 0) (n1 - 0) n1 (omega arith)
+
+pub fewer : {n1 n2 n3 : ℕ} {j r : Index} → Next n1 n2 n3 j r → length (placesFrom n1 n2 n3 (tripleOf r)) < length (placesFrom n1 n2 n3 (tripleOf j))
+fewer x = omega (arith, ap length (x .left))
+
+module _ {A : Type 0} {R : List J → List A} (s : Spreads R) where
+  lengths : (j : J) (l m : List J) → m ≡ j ∷ l → length (R m) ≡ length (R (j ∷ [])) + length (R l)
+  lengths j l m e = ap length (ap R e ∙ s .append (j ∷ []) l) ∙ length-append (R (j ∷ [])) (R l)
+
+-- ---- a loop that counts
+
+pub record Counting {A : Type 0} (R : List J → List A) (n1 n2 n3 count : ℕ) (j : Index) : Type 0 where
+  pub k : j .k < n2
+  pub l : j .l < n3
+  pub left : count + length (R (placesFrom n1 n2 n3 (tripleOf j))) ≡ length (R (cellFrom n3 n2 0 n1))
+
+pub counting-start : {A : Type 0} (R : List J → List A) (n1 n2 n3 : ℕ) → 0 < n2 → 0 < n3 → Counting R n1 n2 n3 0 (record { h = 0; k = 0; l = 0 })
+counting-start R n1 n2 n3 b c = record { k = b; l = c; left = omega (arith, ap (λ t. length (R t)) (first-places n1 n2 n3 b)) }
+
+module _ {A : Type 0} {R : List J → List A} (s : Spreads R) {n1 n2 n3 count r : ℕ} {j : Index} (c : Counting R n1 n2 n3 count j) (e : r ≡ length (R (tripleOf j ∷ []))) where
+  pub counting-next : {i : Index} → Next n1 n2 n3 j i → Counting R n1 n2 n3 (count + r) i
+  counting-next {i} x = record { k = x .k; l = x .l; left = omega (arith, c .left, e, lengths s (tripleOf j) _ _ (x .left)) }
+
+  pub counting-most : j .h < n1 → count + r ≤ length (R (cellFrom n3 n2 0 n1))
+  counting-most a = omega (arith, c .left, e, lengths s (tripleOf j) _ _ (here n1 n2 n3 (j .h) (j .k) (j .l) a (c .k) (c .l)))
+
+pub counting-done : {A : Type 0} {R : List J → List A} → Spreads R → {n1 n2 n3 count m : ℕ} → NoneBeyond R n1 m → {j : Index} → Counting R n1 n2 n3 count j → m < j .h → count ≡ length (R (cellFrom n3 n2 0 n1))
+counting-done s {n1} {n2} {n3} none {j} c h = omega (arith, c .left, ap length (from-none s n1 n2 n3 none (tripleOf j) h))
+
+-- ---- a loop that stores
+
+pub record Putting (R : List J → List ℕ) (n1 n2 n3 start : ℕ) (before : List ℕ) (at : ℕ) (after : List ℕ) (j : Index) : Type 0 where
+  pub k : j .k < n2
+  pub l : j .l < n3
+  pub place : at + length (R (placesFrom n1 n2 n3 (tripleOf j))) ≡ start + length (R (cellFrom n3 n2 0 n1))
+  pub same : length after ≡ length before
+  -- what is left, stored from here on, makes the whole
+  pub goes : (r : ℕ) (m : List ℕ) → Put at (R (placesFrom n1 n2 n3 (tripleOf j))) after r m → Put start (R (cellFrom n3 n2 0 n1)) before r m
+
+pub putting-start : (R : List J → List ℕ) (n1 n2 n3 start : ℕ) (before : List ℕ) → 0 < n2 → 0 < n3 → Putting R n1 n2 n3 start before start before (record { h = 0; k = 0; l = 0 })
+putting-start R n1 n2 n3 start before b c =
+    let e = first-places n1 n2 n3 b in
+    record { k = b; l = c; place = omega (arith, ap (λ t. length (R t)) e); same = refl; goes = λ r m p. put-as p (ap R e) }
+
+module _ {R : List J → List ℕ} (s : Spreads R) {n1 n2 n3 start at : ℕ} {before after : List ℕ} {j : Index} (c : Putting R n1 n2 n3 start before at after j) where
+  pub putting-next : {i : Index} {r : ℕ} {m : List ℕ} → Put at (R (tripleOf j ∷ [])) after r m → Next n1 n2 n3 j i → Putting R n1 n2 n3 start before r m i
+  putting-next {i} o x = record {
+    k = x .k;
+    l = x .l;
+    place = omega (arith, c .place, o .next, lengths s (tripleOf j) _ _ (x .left));
+    same = put-length o ∙ c .same;
+    goes = λ r m p. c .goes r m (put-as (put-then o p) (sym (ap R (x .left) ∙ s .append (tripleOf j ∷ []) (placesFrom n1 n2 n3 (tripleOf i)))));
+  }
+
+  pub putting-room : {l : List ℕ} → j .h < n1 → R (cellFrom n3 n2 0 n1) ≡ l → Room start (length l) before → Room at (length (R (tripleOf j ∷ []))) after
+  putting-room a f r = omega (arith, r, c .place, c .same, ap length f, lengths s (tripleOf j) _ _ (here n1 n2 n3 (j .h) (j .k) (j .l) a (c .k) (c .l)))
+
+  pub putting-done : {l : List ℕ} {m : ℕ} → NoneBeyond R n1 m → m < j .h → R (cellFrom n3 n2 0 n1) ≡ l → Put start l before at after
+  putting-done none h f = put-as (c .goes at after (put-as (put-none at after) (sym (from-none s n1 n2 n3 none (tripleOf j) h)))) f

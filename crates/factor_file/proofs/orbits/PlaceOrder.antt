@@ -1,0 +1,42 @@
+-- The order of places: the identity leaves a place where it is, and beyond N1/2 the Friedel mate comes before.
+use mathlib.Core.Path.{_≡_, refl, _∙_, ap, ap₂, subst}
+use mathlib.Core.Bool.{Bool, true, false, _&&_, _||_}
+use Prim.Native.Nat.{ℕ, _*_, _-_, _<_, _≤_}
+use native.Mathlib.Omega.{arith}
+use lib.Dec.{T, eqb, leb, ltb}
+use borrow.Author.Tests.{le-ltb, eq-eqb, ne-eqb, le-leb}
+use Rattle.algebra.specs.Cell.{J, Group, one, friedel, full, im, negI, flip}
+use Rattle.algebra.specs.CellTests.{lexLe}
+use Rattle.algebra.proofs.Bool.{same-test, every-at}
+use Rattle.algebra.proofs.CellAxis.{neg-pos}
+use Rattle.algebra.proofs.CellGroup.{friedel-mem}
+use Rattle.algebra.proofs.CellSym.{im-one}
+use Rattle.factor_file.specs.Lowest.{isLowest}
+
+pub identity-no-later : (a j : J) → lexLe j (im a one j) ≡ true
+identity-no-later a j = ap (lexLe j) (im-one a j) ∙ no-later-than-itself
+  where
+    same : (x : ℕ) → x ≤ x
+    same x = omega arith
+
+    no-later-than-itself : lexLe j j ≡ true
+    no-later-than-itself =
+        let h = le-ltb (j .0) (j .0) (same (j .0)) in
+        let h′ = eq-eqb (j .0) (j .0) refl in
+        let k = le-ltb (j .1) (j .1) (same (j .1)) in
+        let k′ = eq-eqb (j .1) (j .1) refl in
+        let l = le-leb (j .2) (j .2) (same (j .2)) in
+        λ i. h i || (h′ i && (k i || (k′ i && l i)))
+
+pub upper-not-lowest : (g : Group) (a j : J) → a .0 < j .0 → j .0 < 2 * a .0 → isLowest g a j ≡ false
+unfolding im flip
+upper-not-lowest g a j u v = same-test (isLowest g a j) false (λ t. subst T mate-before (every-at (full g) (λ s. lexLe j (im a s j)) friedel t (friedel-mem g))) (λ t. absurd t)
+  where
+    mate : negI (a .0) (j .0) ≡ 2 * a .0 - j .0
+    mate = neg-pos (a .0) (j .0) (omega arith) v
+
+    mate-before : lexLe j (im a friedel j) ≡ false
+    mate-before =
+        let i = im a friedel j in
+        ap₂ (λ (b c : Bool). b || (c && (ltb (j .1) (i .1) || (eqb (j .1) (i .1) && leb (j .2) (i .2)))))
+        (le-ltb (j .0) (negI (a .0) (j .0)) (omega (arith, mate))) (ne-eqb (j .0) (negI (a .0) (j .0)) (λ e. omega (arith, mate, e)))

@@ -1,0 +1,111 @@
+-- The outcome of writing a file, from what was stored and the tests found.
+use mathlib.Core.Path.{_≡_, refl, sym, _∙_, ap}
+use mathlib.Core.Bool.{Bool, true, false, not, cond, false≢true}
+use mathlib.Core.List.{List, [], _∷_, _++_}
+use Prim.Native.Nat.{ℕ, _+_, _<_, _≤_}
+use native.Mathlib.Omega.{arith}
+use lib.ListN.{length, drop}
+use lib.Seq.{sets-eq}
+use lib.Dec.{eqb, ltb}
+use borrow.Author.Tests.{eq-eqb, ne-eqb, lt-ltb, le-ltb, eqb-true, ltb-false}
+use Rattle.algebra.specs.Cell.{J}
+use Rattle.numbers.specs.Value.{Value}
+use Rattle.refusals.specs.declared.Refusal.{Refusal}
+use Rattle.refusals.specs.Refusals.{numberOf}
+use Rattle.refusals.specs.Tests.{Test, _⇒_, first, accepted}
+use Rattle.lengths.specs.Lengths.{scratchLength}
+use Rattle.refusals.proofs.Tests.{Passed, passed, fails}
+use Rattle.cell.specs.Volume.{volumeLength}
+use Rattle.job.specs.declared.Job.{Job}
+use Rattle.job.specs.Header.{headerOf, axisTests, validJob, mapHeld, groupIn, halves}
+use Rattle.job.specs.Steps.{fits, synthesisTests}
+use Rattle.header.specs.Tests.{factorsTests}
+use Rattle.header.proofs.Headers.{all-three}
+use Rattle.factor_file.specs.declared.writer.WriteAnswer.{WriteAnswer}
+use Rattle.factor_file.specs.declared.writer.WriteAnswer.the-variants.{Refused}
+use Rattle.factor_file.specs.Writing.{jobRecords, jobFile, written, notWritten, WriteOutcome, writeTests, writeStep, writeOutcome}
+use Rattle.factor_file.specs.Stores.{Put}
+use Rattle.factor_file.specs.StepsFile.{recordsWith, fileWith}
+use Rattle.factor_file.specs.Steps.{fileTests, filed}
+
+-- ---- the outcome; n is the count of the records as the code holds it
+
+-- what the number of the first test makes of it
+abbrev pub told : (file output : List ℕ) → ℕ → WriteOutcome
+told file output k = accepted k (record { answer = written (length file); output = file ++ drop (length file) output }) (λ n. record { answer = notWritten n; output = output })
+
+module _ (n : ℕ) (cs : List (J × Value 1)) (file output : List ℕ) (e : n ≡ length cs) where
+  pub filed-none : n ≡ 0 → record { answer = notWritten 17; output = output } ≡ filed (length cs) file output
+  unfolding first
+  filed-none z = ap (λ b. told file output (cond b 17 (cond (ltb (length output) (length file)) 18 0))) (sym (eq-eqb (length cs) 0 (sym e ∙ z)))
+
+  module _ (z : n ≡ 0 → ⊥) where
+    some : eqb (length cs) 0 ≡ false
+    some = ne-eqb (length cs) 0 (λ q. z (e ∙ q))
+
+    pub filed-short : length output < length file → record { answer = notWritten 18; output = output } ≡ filed (length cs) file output
+    unfolding first
+    filed-short h = let t = lt-ltb (length output) (length file) h in λ i. told file output (cond (sym some i) 17 (cond (sym t i) 18 0))
+
+    pub filed-whole : {r : ℕ} {after : List ℕ} → length file ≤ length output → Put 0 file output r after → record { answer = written r; output = after } ≡ filed (length cs) file output
+    unfolding first
+    filed-whole {r} {after} h p =
+        let t = le-ltb (length output) (length file) h in
+        let room : 0 + length file ≤ length output = omega arith in
+        let zero-more : 0 + length file ≡ length file = omega arith in
+        let a : r ≡ length file = omega (arith, p .next) in
+        let o : after ≡ file ++ drop (length file) output = p .stored ∙ sets-eq file output 0 room ∙ ap (λ k. file ++ drop k output) zero-more in
+        (λ i. record { answer = written (a i); output = o i }) ∙ (λ i. told file output (cond (sym some i) 17 (cond (sym t i) 18 0)))
+
+-- ---- tests in two parts, the first of which no test or some test of holds
+
+pub passed-on : (ts us : List Test) → Passed ts → first (ts ++ us) ≡ first us
+unfolding first
+passed-on [] us p = refl
+passed-on (t ∷ ts) us p = ap (λ b. cond b (t .number) (first (ts ++ us))) (p .0) ∙ passed-on ts us (p .1)
+
+pub failed-first : (ts us : List Test) (n : ℕ) → (n ≡ 0 → ⊥) → n ≡ first ts → n ≡ first (ts ++ us)
+unfolding first
+failed-first [] us n z e = absurd (z e)
+failed-first (t ∷ ts) us n z e = go (t .fails) (failed-first ts us n z) e
+  where
+    go : (b : Bool) → (n ≡ first ts → n ≡ first (ts ++ us)) → n ≡ cond b (t .number) (first ts) → n ≡ cond b (t .number) (first (ts ++ us))
+    go true f e = e
+    go false f e = f e
+
+-- ---- a job's file
+
+-- a refusal has a number
+nonzero : (r : Refusal) → numberOf r ≡ 0 → ⊥
+nonzero r e = false≢true (sym (fails r (numberOf r) false (λ n. true) refl ∙ ap (λ n. accepted n false (λ n. true)) e))
+
+module _ (j : Job) (v output : List ℕ) where
+  -- 25, 23, 6, 7, 14: the job holds factors, and the volume is those of a cell
+  abbrev pub held : List Test
+  held = not (validJob j) ⇒ 25 ∷ eqb (j .state) mapHeld ⇒ 23 ∷ not (fits j v) ⇒ 6 ∷ factorsTests (j .group) (headerOf j .lengths) v
+
+  -- they are those of a synthesis with a scratch that is long enough
+  pub held-first : first (synthesisTests j v scratchLength) ≡ first held
+  unfolding first
+  held-first = refl
+
+  rest : List Test
+  rest = fileTests (length (jobRecords j v)) (length (jobFile j v)) (length output)
+
+  pub write-refused : (r : Refusal) → numberOf r ≡ first held → writeOutcome (Refused r) output ≡ writeStep j v output
+  unfolding writeStep rest
+  write-refused r e = fails r (first (writeTests j v output)) _ (λ n. record { answer = notWritten n; output = output }) (failed-first held rest (numberOf r) (nonzero r) e)
+
+  pub write-filed : (r : WriteAnswer) (after : List ℕ) → Passed held →
+      writeOutcome r after ≡ filed (length (recordsWith (j .group) (j .a .length) (j .b .length) (j .c .length) v)) (fileWith (j .group) (j .a .length) (j .b .length) (j .c .length) (j .a .factors) (j .b .factors) (j .c .factors) v) output →
+      writeOutcome r after ≡ writeStep j v output
+  unfolding writeStep rest jobFile jobRecords
+  write-filed r after p e = e ∙ ap (told (jobFile j v) output) (sym (passed-on held rest p))
+
+-- the volume of a valid job is one that an opening admits
+pub valid-volume : (j : Job) → validJob j ≡ true → volumeLength (groupIn j) (halves j) ≤ 16777216
+unfolding validJob
+valid-volume j e =
+    let t = all-three (ltb (j .group) 5) (eqb (first (axisTests (headerOf j))) 0) (ltb (j .state) 3) e in
+    let p = passed (axisTests (headerOf j)) tt (sym (eqb-true _ _ (t .1))) in
+    ltb-false 16777216 (volumeLength (groupIn j) (halves j)) (p .1 .1 .1 .0)

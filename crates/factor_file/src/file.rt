@@ -1,0 +1,36 @@
+// The bytes of a factor file, written into a lent output: the header and the counts, and the records of the volume.
+//
+// The records are counted by a pass of their own, so that a caller knows how long the file is before anything is written.
+pub mod bytes; // bytes.rt: big-endian numbers
+pub mod head; // head.rt: version, group, lengths and factor lists
+pub mod records; // records.rt: the records of a volume, counted and written
+
+ghost use mathlib.Core.Path.{_≡_};
+ghost use Prim.Native.Nat.{_≤_};
+ghost use lib.ListN.{length};
+ghost use Rattle.factor_file.specs.Stores.{Room, Put};
+ghost use Rattle.factor_file.specs.StepsFile.{IsFactors, recordsWith, fileWith};
+
+// The file, of count records.
+pub fn put_file(
+    group: u32,
+    n1: u32,
+    n2: u32,
+    n3: u32,
+    f1: u32,
+    f2: u32,
+    f3: u32,
+    count: usize,
+    volume: &[u32],
+    out: &mut [u8],
+) -> usize
+    requires { ⌜ IsFactors group n1 n2 n3 (now volume) × (length (now volume) ≤ 16777216) ⌝ }
+    requires { ⌜ (count ≡ length (recordsWith group n1 n2 n3 (now volume))) × Room 0 (length (fileWith group n1 n2 n3 f1 f2 f3 (now volume))) (now out) ⌝ }
+    ensures { λ r. ⌜ Put 0 (fileWith group n1 n2 n3 f1 f2 f3 (now (volume .entry))) (now (out .entry)) r (now (out .exit)) ⌝ }
+{
+    let follow = file_format::layout::file_length(f1, f2, f3, count) - 4;
+    let first = bytes::put_four(follow as u32, out, 0);
+    let second = head::put_header(group, n1, n2, n3, f1, f2, f3, out, first);
+    let third = bytes::put_four(count as u32, out, second);
+    records::put_records(group, n1, n2, n3, volume, out, third)
+}

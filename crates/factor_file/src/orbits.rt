@@ -1,0 +1,35 @@
+// The lowest place of an orbit in the order h, k, l: the one at which the writer of factor files gives the orbit's record.
+//
+// A place is the lowest of its orbit if it comes no later than any of its images.
+use cell::operations;
+use cell::operations::Index;
+ghost use mathlib.Core.Path.{_≡_};
+ghost use Rattle.algebra.specs.CellTests.{lexLe};
+ghost use Rattle.cell.specs.Volume.{groupOf};
+ghost use Rattle.cell.specs.Operations.{halvesOf, tripleOf, Sizes, Within};
+ghost use Rattle.factor_file.specs.Lowest.{isLowest};
+
+// i comes no later than j in the order h, k, l.
+fn no_later(i: Index, j: Index) -> bool
+    ensures { λ r. ⌜ r ≡ lexLe (tripleOf i) (tripleOf j) ⌝ }
+{
+    (i.h < j.h) | ((i.h == j.h) & ((i.k < j.k) | ((i.k == j.k) & (i.l <= j.l))))
+}
+
+// No image of j comes before it. The first operation leaves j where it is, and need not be tried.
+pub fn lowest(group: u32, n1: u32, n2: u32, n3: u32, j: Index) -> bool
+    requires { ⌜ Sizes group n1 n2 n3 × Within n1 n2 n3 j ⌝ }
+    ensures { λ r. ⌜ r ≡ isLowest (groupOf group) (halvesOf n1 n2 n3) (tripleOf j) ⌝ }
+{
+    let count = operations::operation_count(group);
+    let mut number = 1;
+    while number < count {
+        let o = operations::operation_at(group, number);
+        if no_later(j, operations::image(o, n1, n2, n3, j)) {
+            number += 1;
+        } else {
+            return false;
+        }
+    }
+    true
+}

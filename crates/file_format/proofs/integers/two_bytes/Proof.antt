@@ -1,0 +1,44 @@
+-- Two bytes, each below 256.
+use borrow.Author.Needs.{needs}
+use native.Mathlib.Omega.{arith}
+use Rattle.file_format.specs.Numbers.{twoBytes}
+use Rattle.file_format.proofs.integers.two_bytes.Statement.{statement}
+use Rattle.file_format.proofs.integers.two_bytes.Tie as tie
+
+shared-slice-read-wide : tie.Need-shared-slice-read-wide
+shared-slice-read-wide c = search needs
+
+wide-requires : tie.Need-wide-requires
+wide-requires c κs = search needs
+
+mul-result : tie.Need-mul-result
+mul-result c = search needs
+
+add-wide : tie.Need-add-wide
+add-wide c = search needs
+
+shared-slice-read-wide-2 : tie.Need-shared-slice-read-wide-2
+shared-slice-read-wide-2 c = search needs
+
+wide-requires-2 : tie.Need-wide-requires-2
+wide-requires-2 c κs = search needs
+
+add-result : tie.Need-add-result
+add-result c = search needs
+
+returns : tie.Need-returns
+unfolding twoBytes
+returns c = omega arith
+
+pub two-bytes-spec : {M : Type 1} → statement M
+two-bytes-spec =
+    tie.close
+    (tie.spec
+    shared-slice-read-wide
+    wide-requires
+    mul-result
+    add-wide
+    shared-slice-read-wide-2
+    wide-requires-2
+    add-result
+    returns)

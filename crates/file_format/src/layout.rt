@@ -1,0 +1,38 @@
+// The layout of a factor file, and how long it is by that: the header depends on the factor lists alone, and each record has as many
+// bytes as any other. A job holds its lists as octal digits, the first factor lowest.
+ghost use mathlib.Core.Path.{_≡_};
+ghost use mathlib.Core.List.{List};
+ghost use Prim.Native.Nat.{ℕ, _+_, _*_, _≤_};
+ghost use lib.ListN.{length};
+ghost use Rattle.algebra.specs.Cell.{J};
+ghost use Rattle.numbers.specs.Value.{Value};
+ghost use Rattle.lengths.specs.Lengths.{octalDigits};
+ghost use Rattle.file_format.specs.Bytes.{headerBytes, fileOf, headerWith};
+
+// How many octal digits a number has.
+pub fn digit_count(factors: u32) -> usize
+    ensures { λ r. ⌜ r ≡ length (octalDigits factors) ⌝ }
+{
+    let mut count: usize = 0;
+    let mut rest = factors;
+    while rest != 0 {
+        count += 1;
+        rest /= 8;
+    }
+    count
+}
+
+// How long the header is.
+fn header_length(f1: u32, f2: u32, f3: u32) -> usize
+    ensures { λ r. ⌜ ((group n1 n2 n3 : ℕ) → r ≡ length (headerBytes (headerWith group n1 n2 n3 f1 f2 f3))) × (r ≤ 44) ⌝ }
+{
+    11 + digit_count(f1) + digit_count(f2) + digit_count(f3)
+}
+
+// How long a file of count records is: two counts of four bytes, the header, and 14 bytes for each record.
+pub fn file_length(f1: u32, f2: u32, f3: u32, count: usize) -> usize
+    requires { ⌜ count ≤ 4294967296 ⌝ }
+    ensures { λ r. ⌜ ((group n1 n2 n3 : ℕ) (cs : List (J × Value 1)) → count ≡ length cs → r ≡ length (fileOf (headerWith group n1 n2 n3 f1 f2 f3) cs)) × (r ≤ 52 + 14 * count) ⌝ }
+{
+    header_length(f1, f2, f3) + 8 + 14 * count
+}

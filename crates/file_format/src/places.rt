@@ -1,0 +1,55 @@
+// Where the parts of a factor file stand: its lists, its record count and its first record.
+ghost use mathlib.Core.Path.{_≡_};
+ghost use Prim.Native.Nat.{_+_, _≤_, _<_};
+ghost use Rattle.file_format.specs.Places.{afterList, countAt, PlacesOf};
+
+// Where the second and the third list begin, with their count bytes, and where the record count stands. The first list begins at 12.
+pub struct Places {
+    pub list2: usize,
+    pub list3: usize,
+    pub count: usize,
+}
+
+// Where a record stands: its first byte, and its place among the records, from 0.
+pub struct RecordPlace {
+    pub at: usize,
+    pub place: u32,
+}
+
+// The place after the list whose count byte stands at q.
+fn after_list(file: &[u8], q: usize) -> usize
+    requires { ⌜ q < 1024 ⌝ }
+    ensures { λ r. ⌜ (r ≡ afterList (now (file .entry)) q) × (r ≤ q + 256) ⌝ }
+{
+    q + 1 + crate::integers::byte_at(file, q) as usize
+}
+
+pub fn places_of(file: &[u8]) -> Places
+    ensures { λ r. ⌜ PlacesOf (now (file .entry)) r ⌝ }
+{
+    let list2 = after_list(file, 12);
+    let list3 = after_list(file, list2);
+    let count = after_list(file, list3);
+    Places {
+        list2,
+        list3,
+        count,
+    }
+}
+
+// The place of the record count.
+pub fn count_place(file: &[u8]) -> usize
+    ensures { λ r. ⌜ (r ≡ countAt (now (file .entry))) × (r < 1024) ⌝ }
+{
+    places_of(file).count
+}
+
+// The first record stands behind the record count's four bytes.
+pub fn first_record(file: &[u8]) -> RecordPlace
+    ensures { λ r. ⌜ (r .at ≡ countAt (now (file .entry)) + 4) × (r .place ≡ 0) ⌝ }
+{
+    RecordPlace {
+        at: count_place(file) + 4,
+        place: 0,
+    }
+}

@@ -1,0 +1,49 @@
+// The shape of a factor file: whether its count, its version, its header, lists and records fill it exactly, and whether it has a record.
+// Nothing here knows what a job makes of the header and the records.
+use refusals::Checked;
+use refusals::Refusal;
+ghost use mathlib.Core.Path.{_≡_};
+ghost use Rattle.refusals.specs.Tests.{first, checkedNumber};
+ghost use Rattle.file_format.specs.Shape.{miscounted, fillingTests, shapeTests};
+
+// Whether the first four bytes do not count the bytes that follow, or no version follows.
+fn is_miscounted(file: &[u8]) -> bool
+    ensures { λ r. ⌜ r ≡ miscounted (now (file .entry)) ⌝ }
+{
+    let length = file.len();
+    if length < 5 {
+        return true;
+    }
+    crate::integers::four_bytes(file, 0) as usize != length - 4
+}
+
+// The tests behind the version: 15 where header, lists and records do not fill the file, 17 where it has no record.
+fn check_filling(file: &[u8]) -> Checked
+    ensures { λ r. ⌜ checkedNumber r ≡ first (fillingTests (now (file .entry))) ⌝ }
+{
+    let at = crate::places::count_place(file) + 4;
+    if file.len() < at {
+        return Checked::Failed(Refusal::FileShape);
+    }
+    let records = crate::integers::four_bytes(file, at - 4) as usize;
+    if at + 14 * records != file.len() {
+        return Checked::Failed(Refusal::FileShape);
+    }
+    if records == 0 {
+        return Checked::Failed(Refusal::NoRecords);
+    }
+    Checked::Sound
+}
+
+// 15 for the count, 16 for the version, then the rest.
+pub fn check_shape(file: &[u8]) -> Checked
+    ensures { λ r. ⌜ checkedNumber r ≡ first (shapeTests (now (file .entry))) ⌝ }
+{
+    if is_miscounted(file) {
+        return Checked::Failed(Refusal::FileShape);
+    }
+    if file[4] != 1 {
+        return Checked::Failed(Refusal::FileVersion);
+    }
+    check_filling(file)
+}

@@ -1,3 +1,0 @@
-pub mod HermitianLine
-pub mod MirrorLine
-pub mod AlternatingLine

@@ -1,0 +1,4 @@
+pub mod Headers
+pub mod Digits
+pub mod Openings
+pub mod Points

@@ -1,0 +1,50 @@
+-- The volume's tests in turn; one that is no map is only measured.
+use borrow.Author.Needs.{needs}
+use mathlib.Core.Path.{_≡_}
+use mathlib.Core.Bool.{true}
+use lib.ListN.{length}
+use lib.Dec.{eqb}
+use denote.Ref.{now}
+use borrow.Author.Tests.{eqb-true}
+use Rattle.refusals.proofs.Tests.{stop, not-f, by-true, by-false}
+use Rattle.cell.specs.Operations.{halvesOf}
+use Rattle.cell.specs.Volume.{groupOf, volumeLength}
+use Rattle.header.proofs.Openings.{volume-collects, volume-held}
+use Rattle.job.proofs.check.open.check_volume.Statement.{statement}
+use Rattle.job.proofs.check.open.check_volume.Tie as tie
+
+-- the volume is as long as it must be
+fit : (c : tie.Else1) → let a = c .before .before .before .args in eqb (length (now (a .volume))) (volumeLength (groupOf (a .group)) (halvesOf (a .n1) (a .n2) (a .n3))) ≡ true
+fit c = by-true _ _ (c .before .fits2 .ensures) (c .if1 .left)
+
+fits-requires : tie.Need-fits-requires
+fits-requires c κs = search needs
+
+returns : tie.Need-returns
+returns c = stop _ (not-f _ (by-false _ _ (c .before .fits2 .ensures) (c .if1 .taken)))
+
+returns-2 : tie.Need-returns-2
+returns-2 c =
+    let t = c .before in
+    let a = t .before .before .before .args in
+    volume-collects (a .group) (a .n1, a .n2, a .n3) (a .kind) (now (a .volume)) (fit t) (c .if2 .taken)
+
+check-map-requires : tie.Need-check-map-requires
+check-map-requires c κs = let t = c .before in (t .before .before .before .pre, eqb-true _ _ (fit t))
+
+returns-3 : tie.Need-returns-3
+returns-3 c =
+    let u = c .before in
+    let t = u .before in
+    let a = t .before .before .before .args in
+    volume-held (a .group) (a .n1, a .n2, a .n3) (a .kind) (now (a .volume)) (fit t) (u .if2 .left) (c .check-map .ensures)
+
+pub check-volume-spec : {M : Type 1} → statement M
+check-volume-spec =
+    tie.close
+    (tie.spec
+    fits-requires
+    returns
+    returns-2
+    check-map-requires
+    returns-3)

@@ -1,0 +1,39 @@
+// The tests of an analysis.
+use crate::check::map;
+use header::tests;
+use refusals::Checked;
+use refusals::Refusal;
+ghost use mathlib.Core.Path.{_≡_};
+ghost use mathlib.Core.Bool.{true};
+ghost use Rattle.refusals.specs.Tests.{first, checkedNumber};
+ghost use Rattle.cell.specs.Operations.{Sizes};
+ghost use Rattle.header.specs.Tests.{analysisTestsOf};
+
+// 25, 22, 6, 13, then the map's.
+pub fn check_analysis(
+    valid: bool,
+    state: u32,
+    group: u32,
+    n1: u32,
+    n2: u32,
+    n3: u32,
+    volume: &[u32],
+    scratch: usize,
+) -> Checked
+    requires { ⌜ (valid ≡ true → Sizes group n1 n2 n3) ⌝ }
+    ensures { λ r. ⌜ checkedNumber r ≡ first (analysisTestsOf valid state group (n1, n2, n3) (now (volume .entry)) scratch) ⌝ }
+{
+    if !valid {
+        return Checked::Failed(Refusal::ImpossibleJob);
+    }
+    if state != 2 {
+        return Checked::Failed(Refusal::NoMap);
+    }
+    if !tests::fits(group, n1, n2, n3, volume) {
+        return Checked::Failed(Refusal::BufferLength);
+    }
+    if scratch < 11520 {
+        return Checked::Failed(Refusal::ScratchTooShort);
+    }
+    map::check_map(group, n1, n2, n3, volume)
+}

@@ -1,0 +1,62 @@
+// The tests of a record: the check answers the first refusal of the paper's order, or that there is none.
+//
+// It takes the job's numbers, an index, a value and the lent volume, and works nothing. Crate job puts a job's numbers to it.
+use cell::operations::Index;
+use header::tests;
+use numbers::Pair;
+use refusals::Checked;
+use refusals::Refusal;
+ghost use mathlib.Core.Path.{_≡_};
+ghost use mathlib.Core.Bool.{true, _&&_};
+ghost use lib.Dec.{ltb, eqb};
+ghost use Rattle.refusals.specs.Tests.{first, checkedNumber};
+ghost use Rattle.cell.specs.Operations.{tripleOf, Sizes};
+ghost use Rattle.header.specs.Tests.{p};
+ghost use Rattle.job.specs.RecordTests.{recordTestsOf};
+
+// Both numbers of a value are below the prime.
+fn residues(a: u32, b: u32) -> bool
+    ensures { λ r. ⌜ r ≡ (ltb a p && ltb b p) ⌝ }
+{
+    let bound = numbers::modulus(1);
+    (a < bound) & (b < bound)
+}
+
+fn both_zero(a: u32, b: u32) -> bool
+    ensures { λ r. ⌜ r ≡ (eqb a 0 && eqb b 0) ⌝ }
+{
+    (a == 0) & (b == 0)
+}
+
+// 25, 21, 10, 7, 11, then the orbit's.
+pub fn check_record(
+    valid: bool,
+    state: u32,
+    group: u32,
+    n1: u32,
+    n2: u32,
+    n3: u32,
+    at: Index,
+    x: Pair,
+    volume: &[u32],
+) -> Checked
+    requires { ⌜ (valid ≡ true → Sizes group n1 n2 n3) ⌝ }
+    ensures { λ r. ⌜ checkedNumber r ≡ first (recordTestsOf valid state group (n1, n2, n3) (tripleOf at) (x .re) (x .im) (now (volume .entry))) ⌝ }
+{
+    if !valid {
+        return Checked::Failed(Refusal::ImpossibleJob);
+    }
+    if state != 0 {
+        return Checked::Failed(Refusal::NotCollecting);
+    }
+    if !tests::inside(n1, n2, n3, at.h, at.k, at.l) {
+        return Checked::Failed(Refusal::Index);
+    }
+    if !residues(x.re, x.im) {
+        return Checked::Failed(Refusal::NotResidue);
+    }
+    if both_zero(x.re, x.im) {
+        return Checked::Failed(Refusal::ZeroValue);
+    }
+    crate::check::orbit::check_orbit(group, n1, n2, n3, at, x, volume)
+}

@@ -1,2 +1,0 @@
-pub mod Transform
-pub mod Tables

@@ -1,0 +1,26 @@
+-- The stages of a transform by a factor list: a step takes the next factor off the list.
+use mathlib.Core.Path.{_≡_}
+use mathlib.Core.Bool.{Bool, true, false, not}
+use mathlib.Core.Logic.{_≢_}
+use Prim.Native.Nat.{ℕ, _*_, _/_, _%_}
+use Rattle.lengths.specs.declared.stage.Stage.{Stage}
+use Rattle.lengths.specs.Factors.{Factored}
+
+-- the length of the line
+abbrev pub points : Stage → ℕ
+points s = s .inner * s .lines
+
+-- the stage after the next step
+unfoldable pub after : Stage → Stage
+after s = record { left = s .left / 8; inner = s .inner * (s .left % 8); lines = s .lines / (s .left % 8) }
+
+-- A stage that a line of n points comes to by its list, after an odd number of steps or an even one.
+pub data Reached (factors n : ℕ) : Bool → Stage → Type 0 where
+  start : Reached factors n false (record { left = factors; inner = 1; lines = n })
+  next : {odd : Bool} {s : Stage} → Reached factors n odd s → s .left ≢ 0 → Reached factors n (not odd) (after s)
+
+-- a stage that has a step ahead
+pub record Ahead (s : Stage) : Type 0 where
+  pub factors : Factored (s .left) (s .lines)
+  pub more : s .left ≢ 0
+  pub divides : points s * (2880 / points s) ≡ 2880

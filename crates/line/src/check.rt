@@ -1,0 +1,48 @@
+// What a line's call is turned back for: its number is that of the first test of the paper's order that holds.
+//
+// The check takes the modulus' prime and the lent buffers, and works nothing.
+use refusals::Checked;
+use refusals::Refusal;
+ghost use mathlib.Core.Path.{_≡_};
+ghost use Rattle.refusals.specs.Tests.{first, checkedNumber};
+ghost use Rattle.line.specs.LineTests.{lineTests};
+
+// The refusals of a line, in the paper's order. Residues are below p; the scratch counts by its length.
+pub fn check_line(
+    p: u32,
+    kind: u32,
+    direction: u32,
+    length: u32,
+    factors: &[u8],
+    line: &[u32],
+    scratch: usize,
+) -> Checked
+    ensures { λ r. ⌜ checkedNumber r ≡ first (lineTests p kind direction length (now (factors .entry)) (now (line .entry)) scratch) ⌝ }
+{
+    if 6 <= kind {
+        return Checked::Failed(Refusal::LineKind);
+    }
+    if 2 <= direction {
+        return Checked::Failed(Refusal::Direction);
+    }
+    if !lengths::admitted(length) {
+        return Checked::Failed(Refusal::Length);
+    }
+    if !lengths::factors_ok(factors) {
+        return Checked::Failed(Refusal::Factor);
+    }
+    if !lengths::has_product(factors, length / 2) {
+        return Checked::Failed(Refusal::Product);
+    }
+    let pairs = lengths::pair_count(kind, length);
+    if line.len() != 2 * pairs {
+        return Checked::Failed(Refusal::BufferLength);
+    }
+    if scratch < 11520 {
+        return Checked::Failed(Refusal::ScratchTooShort);
+    }
+    if !slices::buffers::all_below(line, p) {
+        return Checked::Failed(Refusal::NotResidue);
+    }
+    Checked::Sound
+}

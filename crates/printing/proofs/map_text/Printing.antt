@@ -1,0 +1,109 @@
+-- A job and a volume as long as it needs: its sizes, where its rows stand, and how long its text can be.
+use mathlib.Core.Path.{_≡_, refl, ap, sym, subst, _∙_}
+use mathlib.Core.Bool.{true, false}
+use mathlib.Core.List.{List, [], _∷_, _++_}
+use Prim.Native.Nat.{ℕ, zero, suc, _+_, _*_, _/_, _<_, _≤_}
+use native.Mathlib.Nat.{mul-le-mul-left}
+use native.Mathlib.Omega.{arith}
+use lib.Dec.{ltb, eqb}
+use lib.ListN.{length, getD, length-append}
+use borrow.Author.Tests.{eqb-true, ltb-false}
+use Rattle.algebra.specs.Cell.{P1, planes}
+use Rattle.refusals.specs.Tests.{first}
+use Rattle.refusals.proofs.Tests.{passed}
+use Rattle.cell.specs.Operations.{halvesOf, Length, Sizes}
+use Rattle.cell.specs.Volume.{layers, rows, columns, pairPlace, mapPlace, volumeLength}
+use Rattle.cell.proofs.VolumeLayout.{place-inside}
+use Rattle.cell.proofs.StoredFactors.{layers-most, number-place}
+use Rattle.job.specs.declared.Job.{Job}
+use Rattle.job.specs.Header.{groupIn, halves, validJob, headerOf, axisTests}
+use Rattle.header.proofs.Headers.{all-three}
+use Rattle.job.proofs.Jobs.{valid-sizes}
+use Rattle.output.specs.Decimal.{decimal, blank, lineFeed, each}
+use Rattle.printing.specs.Text.{headLine, rowLine, mapText}
+use Rattle.output.specs.Writing.{Ends}
+use Rattle.printing.specs.Printable.{Printable}
+use Rattle.output.proofs.Decimals.{decimal-short}
+
+-- ---- lengths of texts
+
+each-bound : (f : ℕ → List ℕ) (k : ℕ) → ((y : ℕ) → length (f y) ≤ k) → (n : ℕ) → length (each n f) ≤ n * k
+unfolding each
+each-bound f k h zero = omega arith
+each-bound f k h (suc n) = rw length-append (omega (arith, each-bound f k h n, h n))
+
+head-short : (j : Job) → length (headLine j) ≤ 48
+unfolding headLine
+head-short j = simp length-append (omega (arith, decimal-short (j .group), decimal-short (j .a .length), decimal-short (j .b .length), decimal-short (j .c .length)))
+
+-- the values of a row, n of them from place `start` on
+abbrev pub valuesFrom : List ℕ → (start n : ℕ) → List ℕ
+valuesFrom v start n = each n (λ y. blank ∷ decimal (getD v (start + y) 0))
+
+module _ (j : Job) (v : List ℕ) where
+  -- the place of a row's first value
+  abbrev rowStart : (z x : ℕ) → ℕ
+  rowStart z x = (z * rows (groupIn j) (halves j) + x) * (2 * columns (groupIn j) (halves j))
+
+  -- the values of the row at z, x
+  abbrev pub values : (z x : ℕ) → List ℕ
+  values z x = valuesFrom v (rowStart z x) (j .b .length)
+
+  row-short : (z x : ℕ) → length (rowLine j v z x) ≤ 22 + j .b .length * 11
+  unfolding rowLine
+  row-short z x = simp length-append (omega (arith, decimal-short z, decimal-short x, short))
+    where
+      short : length (values z x) ≤ j .b .length * 11
+      short = each-bound (λ y. blank ∷ decimal (getD v (rowStart z x + y) 0)) 11 (λ y. omega (arith, decimal-short (getD v (rowStart z x + y) 0))) (j .b .length)
+
+  text-short : length (mapText j v) ≤ 48 + layers (groupIn j) (halves j) * (j .a .length * (22 + j .b .length * 11))
+  unfolding mapText
+  text-short = rw length-append (omega (arith, head-short j, planes-short))
+    where
+      planes-short : length (each (layers (groupIn j) (halves j)) (λ z. each (j .a .length) (λ x. rowLine j v z x))) ≤ layers (groupIn j) (halves j) * (j .a .length * (22 + j .b .length * 11))
+      planes-short = each-bound (λ z. each (j .a .length) (λ x. rowLine j v z x)) (j .a .length * (22 + j .b .length * 11)) (λ z. each-bound (λ x. rowLine j v z x) (22 + j .b .length * 11) (λ x. row-short z x) (j .a .length)) (layers (groupIn j) (halves j))
+
+-- ---- the sizes of a job that can be printed
+
+-- a valid job needs no more numbers than an opening admits
+valid-limit : (j : Job) → validJob j ≡ true → volumeLength (groupIn j) (halves j) ≤ 16777216
+unfolding validJob
+valid-limit j e =
+    let t = all-three (ltb (j .group) 5) (eqb (first (axisTests (headerOf j))) 0) (ltb (j .state) 3) e in
+    ltb-false _ _ (passed (axisTests (headerOf j)) tt (sym (eqb-true _ _ (t .1))) .1 .1 .1 .0)
+
+module _ {j : Job} {v : List ℕ} (p : Printable j v) where
+  pub printable-sizes : Sizes (j .group) (j .a .length) (j .b .length) (j .c .length)
+  printable-sizes = valid-sizes j (p .valid)
+
+  -- the text of a map is at most 48 bytes longer than eleven times its volume
+  pub map-short : length (mapText j v) ≤ 48 + 11 * length v
+  map-short =
+      let s = printable-sizes in
+      let n1 : j .a .length ≡ 2 * (j .a .length / 2) = omega (arith, s .first .even) in
+      let row : 22 + j .b .length * 11 ≡ 11 * (2 * suc (j .b .length / 2)) = omega (arith, s .second .even) in
+      let w = layers (groupIn j) (halves j) in
+      let whole : w * (j .a .length * (22 + j .b .length * 11)) ≡ w * (2 * (j .a .length / 2) * (11 * (2 * suc (j .b .length / 2)))) = λ i. w * (n1 i * row i) in
+      omega (arith, text-short j v, whole, p .long)
+
+  pub map-ends : Ends 0 (mapText j v)
+  map-ends = record { low = omega (arith, map-short, valid-limit j (p .valid), p .long) }
+
+  pub layers-below : layers (groupIn j) (halves j) ≤ 2880
+  layers-below = let s = printable-sizes in omega (arith, layers-most (s .third) (j .group) (s .known), s .third .high)
+
+  -- ---- the row at z, x
+  module _ {z x : ℕ} (lz : z < layers (groupIn j) (halves j)) (lx : x < j .a .length) where
+    -- what the place of its first pair is asked for with
+    pub row-asked : Length (j .a .length) × Length (j .b .length) × (z ≤ 2880) × (x ≤ 2880) × (0 ≤ 2880)
+    row-asked = let s = printable-sizes in (s .first, s .second, omega (arith, layers-below), omega (arith, s .first .high), omega arith)
+
+    module _ {q : ℕ} (e : q ≡ pairPlace P1 (halvesOf (j .a .length) (j .b .length) 0) z x 0) where
+      pub row-inside : 2 * q + j .b .length ≤ length v
+      row-inside =
+          let s = printable-sizes in
+          let inside = place-inside (groupIn j) (halves j) {w = z} {h = x} {k = j .b .length / 2} lz (omega (arith, s .first .even)) (omega arith) in
+          omega (arith, inside, e, p .long, s .second .even)
+
+      pub row-values : valuesFrom v (2 * q) (j .b .length) ≡ values j v z x
+      row-values = λ i. each (j .b .length) (λ y. blank ∷ decimal (getD v (number-place (j .b .length) (z * rows (groupIn j) (halves j) + x) q y e i) 0))

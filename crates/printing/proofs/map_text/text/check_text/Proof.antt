@@ -1,0 +1,75 @@
+-- The job, its state, the volume's length and the text's in turn.
+use borrow.Author.Needs.{needs}
+use borrow.Author.Tests.{eqb-true, eq-eqb, ne-eqb, lt-ltb, le-ltb}
+use mathlib.Core.Path.{_≡_, subst}
+use mathlib.Core.Bool.{true, false, not}
+use Prim.Native.Nat.{ℕ, _<_, _≤_}
+use lib.Dec.{eqb, ltb}
+use lib.ListN.{length}
+use Rattle.refusals.specs.Tests.{first}
+use Rattle.refusals.proofs.Tests.{stop, pass, none, not-t, not-f, by-false, by-true}
+use Rattle.job.specs.Header.{validJob, mapHeld}
+use Rattle.job.specs.Steps.{fits}
+use Rattle.job.proofs.Jobs.{valid-sizes}
+use Rattle.printing.specs.Text.{mapText}
+use Rattle.printing.proofs.map_text.text.check_text.Statement.{statement}
+use Rattle.printing.proofs.map_text.text.check_text.Tie as tie
+
+-- the job is valid; a map is held; the volume fits
+valid : (c : tie.Else1) → validJob (c .before .before .before .args .job) ≡ true
+valid c = by-true _ _ (c .before .valid-job .ensures) (c .if1 .left)
+
+held : (c : tie.Else2) → not (eqb (c .before .before .before .before .before .args .job .state) mapHeld) ≡ false
+held c = not-t _ (eq-eqb _ _ (c .if2 .left))
+
+fitting : (c : tie.Else3) → let s = c .before .before .before .before .before .before .before in fits (s .args .job) (s .args .volume .now) ≡ true
+fitting c = by-true _ _ (c .before .fits2 .ensures) (c .if3 .left)
+
+valid-job-requires : tie.Need-valid-job-requires
+valid-job-requires c κs = search needs
+
+returns : tie.Need-returns
+returns c = stop _ (not-f _ (by-false _ _ (c .before .valid-job .ensures) (c .if1 .taken)))
+
+returns-2 : tie.Need-returns-2
+returns-2 c = pass _ _ (not-t _ (valid (c .before .before))) (stop _ (not-f _ (ne-eqb _ _ (c .if2 .taken))))
+
+fits-requires : tie.Need-fits-requires
+fits-requires c κs = let v = c .before .before in valid-sizes (v .before .before .before .args .job) (valid v)
+
+returns-3 : tie.Need-returns-3
+returns-3 c =
+    let m = c .before .before in
+    pass _ _ (not-t _ (valid (m .before .before))) (pass _ _ (held m) (stop _ (not-f _ (by-false _ _ (c .before .fits2 .ensures) (c .if3 .taken)))))
+
+map-length-requires : tie.Need-map-length-requires
+map-length-requires c κs = record { valid = valid (c .before .before .before .before); long = eqb-true _ _ (fitting c) }
+
+returns-4 : tie.Need-returns-4
+returns-4 c =
+    let f = c .before .before in
+    let m = f .before .before in
+    let s = m .before .before .before .before .before in
+    let short : ltb (s .args .room) (length (mapText (s .args .job) (s .args .volume .now))) ≡ true = lt-ltb _ _ (subst (λ (n : ℕ). s .args .room < n) (c .before .map-length .ensures) (c .if4 .taken)) in
+    pass _ _ (not-t _ (valid (m .before .before))) (pass _ _ (held m) (pass _ _ (not-t _ (fitting f)) (stop _ short)))
+
+returns-5 : tie.Need-returns-5
+returns-5 c =
+    let f = c .before .before in
+    let m = f .before .before in
+    let s = m .before .before .before .before .before in
+    let long : ltb (s .args .room) (length (mapText (s .args .job) (s .args .volume .now))) ≡ false = le-ltb _ _ (subst (λ (n : ℕ). n ≤ s .args .room) (c .before .map-length .ensures) (c .if4 .left)) in
+    pass _ _ (not-t _ (valid (m .before .before))) (pass _ _ (held m) (pass _ _ (not-t _ (fitting f)) (pass _ _ long none)))
+
+pub check-text-spec : {M : Type 1} → statement M
+check-text-spec =
+    tie.close
+    (tie.spec
+    valid-job-requires
+    returns
+    returns-2
+    fits-requires
+    returns-3
+    map-length-requires
+    returns-4
+    returns-5)

@@ -1,7 +1,0 @@
-// The file that was written, read back, gives the job and its factors.
-ghost use Rattle.read_back.specs.Demands.{ReadsBack};
-
-// The function does nothing; its promise is the statement.
-pub fn reads_back()
-    ensures { λ _. ⌜ ReadsBack ⌝ }
-{}

@@ -1,0 +1,156 @@
+-- One call of a script, from what the job's own call answered and left.
+use mathlib.Core.Path.{_≡_, refl, _∙_, sym, ap}
+use mathlib.Core.List.{List}
+use Prim.Native.Nat.{ℕ, zero, suc, _≤_}
+use native.Mathlib.Omega.{arith}
+use lib.ListN.{length}
+use Rattle.refusals.specs.Tests.{first, accepted}
+use Rattle.lengths.specs.Lengths.{cleared}
+use Rattle.job.specs.declared.Answered.{Answered}
+use Rattle.job.specs.declared.Job.{Job}
+use Rattle.job.specs.declared.Reflection.{Reflection}
+use Rattle.job.specs.declared.GridPoint.{GridPoint}
+use Rattle.job.specs.Header.{withState, factorsHeld, mapHeld}
+use Rattle.job.specs.Steps.{Said, done, Outcome, Worked, unchanged, position, index, recordStep, synthesisTests, synthesised, synthesisStep, analysisTests, analysed, analysisStep, pointTests, pointStep, factorTests, factorStep}
+use Rattle.job.specs.Said.{said, outcome, worked}
+use Rattle.scripts.specs.declared.numbers.CallNumbers.{CallNumbers}
+use Rattle.scripts.specs.Call.{Call, recording, synthesis, analysis, readPoint, readFactor, step, callOf, callAt, numbersAt, callSaid, answerNumbers, clearedIfDone, scratchLeft, replyNumbers, callStep}
+use Rattle.scripts.specs.declared.calls.Called.{Called}
+use Rattle.scripts.specs.CallCalls.{callOutcome}
+
+-- ---- what an operation's number stands for
+
+call-other : (s : List ℕ) (o h k l x y : ℕ) → 4 ≤ o → callOf s o h k l x y ≡ readFactor (record { 0 = h; 1 = k; 2 = l })
+unfolding callOf
+call-other s zero h k l x y p = absurd (omega arith)
+call-other s (suc zero) h k l x y p = absurd (omega arith)
+call-other s (suc (suc zero)) h k l x y p = absurd (omega arith)
+call-other s (suc (suc (suc zero))) h k l x y p = absurd (omega arith)
+call-other s (suc (suc (suc (suc o)))) h k l x y p = refl
+
+-- no number but the four
+pub four-on : (o : ℕ) → (o ≡ 0 → ⊥) → (o ≡ 1 → ⊥) → (o ≡ 2 → ⊥) → (o ≡ 3 → ⊥) → 4 ≤ o
+four-on zero p q r t = absurd (p refl)
+four-on (suc zero) p q r t = absurd (q refl)
+four-on (suc (suc zero)) p q r t = absurd (r refl)
+four-on (suc (suc (suc zero))) p q r t = absurd (t refl)
+four-on (suc (suc (suc (suc o)))) p q r t = omega arith
+
+module _ (s : List ℕ) (n : CallNumbers) where
+  pub is-synthesis : n .operation ≡ 1 → synthesis s ≡ callSaid s n
+  unfolding callOf
+  is-synthesis z = rw z refl
+
+  pub is-analysis : n .operation ≡ 2 → analysis s ≡ callSaid s n
+  unfolding callOf
+  is-analysis z = rw z refl
+
+-- a call by its numbers is the script's
+pub call-in-script : (j : Job) (v s script : List ℕ) (i : ℕ) (n : CallNumbers) → n ≡ numbersAt script i → callStep j v s (callSaid s n) ≡ callStep j v s (callAt s script i)
+call-in-script j v s script i n e = ap (λ (m : CallNumbers). callStep j v s (callSaid s m)) e
+
+-- ---- a reading leaves job and volume
+
+abbrev reading : Said → Job → List ℕ → Outcome
+reading a j v = record { answer = a; job = j; volume = v }
+
+reading-keeps : (n : ℕ) (a : Said) (j : Job) (v : List ℕ) → reading (accepted n (reading a j v) (unchanged j v) .answer) j v ≡ accepted n (reading a j v) (unchanged j v)
+reading-keeps zero a j v = refl
+reading-keeps (suc n) a j v = refl
+
+module _ (j : Job) (v : List ℕ) where
+  point-keeps : (x : GridPoint) → reading (pointStep j x v .answer) j v ≡ pointStep j x v
+  unfolding pointStep
+  point-keeps x = reading-keeps (first (pointTests j (position x) v)) _ j v
+
+  factor-keeps : (k : Reflection) → reading (factorStep j k v .answer) j v ≡ factorStep j k v
+  unfolding factorStep
+  factor-keeps k = reading-keeps (first (factorTests j (index k) v)) _ j v
+
+-- ---- synthesis and analysis: an outcome that counts the scratch's length alone, and the scratch
+
+work : ℕ → (after : Outcome) → Job → (v scratch : List ℕ) → Worked
+work n after j v s = accepted n (record { outcome = after; scratch = cleared s }) (λ m. record { outcome = unchanged j v m; scratch = s })
+
+work-outcome : (n : ℕ) (after : Outcome) (j : Job) (v s : List ℕ) → work n after j v s .outcome ≡ accepted n after (unchanged j v)
+unfolding work
+work-outcome zero after j v s = refl
+work-outcome (suc n) after j v s = refl
+
+work-scratch : (n : ℕ) (j′ : Job) (v′ : List ℕ) (j : Job) (v s : List ℕ) →
+    let w = work n (record { answer = done; job = j′; volume = v′ }) j v s in w .scratch ≡ clearedIfDone (w .outcome .answer) s
+unfolding work
+work-scratch zero j′ v′ j v s = refl
+work-scratch (suc n) j′ v′ j v s = refl
+
+module _ (j : Job) (v : List ℕ) where
+  synthesis-outcome : (s : List ℕ) → synthesisStep j v s .outcome ≡ accepted (first (synthesisTests j v (length s))) (record { answer = done; job = withState j mapHeld; volume = synthesised j v }) (unchanged j v)
+  unfolding synthesisStep work
+  synthesis-outcome s = work-outcome (first (synthesisTests j v (length s))) (record { answer = done; job = withState j mapHeld; volume = synthesised j v }) j v s
+
+  synthesis-scratch : (s : List ℕ) → synthesisStep j v s .scratch ≡ clearedIfDone (synthesisStep j v s .outcome .answer) s
+  unfolding synthesisStep work
+  synthesis-scratch s = work-scratch (first (synthesisTests j v (length s))) (withState j mapHeld) (synthesised j v) j v s
+
+  analysis-outcome : (s : List ℕ) → analysisStep j v s .outcome ≡ accepted (first (analysisTests j v (length s))) (record { answer = done; job = withState j factorsHeld; volume = analysed j v }) (unchanged j v)
+  unfolding analysisStep work
+  analysis-outcome s = work-outcome (first (analysisTests j v (length s))) (record { answer = done; job = withState j factorsHeld; volume = analysed j v }) j v s
+
+  analysis-scratch : (s : List ℕ) → analysisStep j v s .scratch ≡ clearedIfDone (analysisStep j v s .outcome .answer) s
+  unfolding analysisStep work
+  analysis-scratch s = work-scratch (first (analysisTests j v (length s))) (withState j factorsHeld) (analysed j v) j v s
+
+  -- scratches of one length give one outcome
+  pub synthesis-by-length : (s s′ : List ℕ) → length s ≡ length s′ → synthesisStep j v s .outcome ≡ synthesisStep j v s′ .outcome
+  synthesis-by-length s s′ e = synthesis-outcome s ∙ rw e (sym (synthesis-outcome s′))
+
+  pub analysis-by-length : (s s′ : List ℕ) → length s ≡ length s′ → analysisStep j v s .outcome ≡ analysisStep j v s′ .outcome
+  analysis-by-length s s′ e = analysis-outcome s ∙ rw e (sym (analysis-outcome s′))
+
+  -- so every call may be said with another scratch of the same length
+  pub call-by-length : (t s s′ : List ℕ) (o h k l x y : ℕ) → length s ≡ length s′ → callStep j v t (callOf s o h k l x y) ≡ callStep j v t (callOf s′ o h k l x y)
+  unfolding callOf callStep
+  call-by-length t s s′ zero h k l x y e = refl
+  call-by-length t s s′ (suc zero) h k l x y e = rw (synthesis-by-length s s′ e)
+  call-by-length t s s′ (suc (suc zero)) h k l x y e = rw (analysis-by-length s s′ e)
+  call-by-length t s s′ (suc (suc (suc zero))) h k l x y e = refl
+  call-by-length t s s′ (suc (suc (suc (suc o)))) h k l x y e = refl
+
+-- ---- each of the five calls
+
+module _ (j : Job) (v : List ℕ) (r : Called) where
+  -- a call whose job and volume are an outcome's, said as numbers
+  of-outcome : (o : Outcome) (c : Call) (s s′ : List ℕ) → o ≡ step j v c → replyNumbers (r .reply) ≡ answerNumbers (o .answer) → r .job ≡ o .job → s′ ≡ scratchLeft c (step j v c .answer) s →
+      callOutcome r (o .volume) s′ ≡ callStep j v s c
+  unfolding callStep
+  of-outcome o c s s′ e a b t =
+      let p = a ∙ ap (λ (q : Outcome). answerNumbers (q .answer)) e in
+      let d = b ∙ ap (λ (q : Outcome). q .job) e in
+      λ i. record { reply = p i; job = d i; volume = e i .volume; scratch = t i }
+
+  module _ (a : Answered) (v′ : List ℕ) (says : replyNumbers (r .reply) ≡ answerNumbers (said (a .answer))) (goes : r .job ≡ a .job) where
+    pub call-record : (s : List ℕ) (n : CallNumbers) → n .operation ≡ 0 → outcome a v′ ≡ recordStep j (record { 0 = n .h; 1 = n .k; 2 = n .l }) (n .x) (n .y) v → callOutcome r v′ s ≡ callStep j v s (callSaid s n)
+    unfolding callOf
+    call-record s n z e =
+        of-outcome (outcome a v′) (recording (record { 0 = n .h; 1 = n .k; 2 = n .l }) (n .x) (n .y)) s s e says goes refl
+        ∙ rw z refl
+
+    pub call-synthesis : (s s′ : List ℕ) → worked a v′ s′ ≡ synthesisStep j v s → callOutcome r v′ s′ ≡ callStep j v s (synthesis s)
+    call-synthesis s s′ e = of-outcome (outcome a v′) (synthesis s) s s′ (ap (λ (w : Worked). w .outcome) e) says goes (ap (λ (w : Worked). w .scratch) e ∙ synthesis-scratch j v s)
+
+    pub call-analysis : (s s′ : List ℕ) → worked a v′ s′ ≡ analysisStep j v s → callOutcome r v′ s′ ≡ callStep j v s (analysis s)
+    call-analysis s s′ e = of-outcome (outcome a v′) (analysis s) s s′ (ap (λ (w : Worked). w .outcome) e) says goes (ap (λ (w : Worked). w .scratch) e ∙ analysis-scratch j v s)
+
+  module _ (a : Said) (says : replyNumbers (r .reply) ≡ answerNumbers a) (goes : r .job ≡ j) (s : List ℕ) (n : CallNumbers) where
+    pub call-point : n .operation ≡ 3 → a ≡ pointStep j (record { 0 = n .h; 1 = n .k; 2 = n .l }) v .answer → callOutcome r v s ≡ callStep j v s (callSaid s n)
+    unfolding callOf
+    call-point z e =
+        let x : GridPoint = record { 0 = n .h; 1 = n .k; 2 = n .l } in
+        of-outcome (reading a j v) (readPoint x) s s (ap (λ (b : Said). reading b j v) e ∙ point-keeps j v x) says goes refl
+        ∙ rw z refl
+
+    pub call-factor : 4 ≤ n .operation → a ≡ factorStep j (record { 0 = n .h; 1 = n .k; 2 = n .l }) v .answer → callOutcome r v s ≡ callStep j v s (callSaid s n)
+    call-factor z e =
+        let k : Reflection = record { 0 = n .h; 1 = n .k; 2 = n .l } in
+        of-outcome (reading a j v) (readFactor k) s s (ap (λ (b : Said). reading b j v) e ∙ factor-keeps j v k) says goes refl
+        ∙ ap (callStep j v s) (sym (call-other s _ _ _ _ _ _ z))

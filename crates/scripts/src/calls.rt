@@ -1,0 +1,57 @@
+// The calls of a script that transform nothing: a record and the two readings, by their numbers, each answered as three numbers.
+use crate::numbers::CallNumbers;
+use crate::numbers::Reply;
+use job::Answered;
+use job::GridPoint;
+use job::Job;
+use job::Reflection;
+ghost use mathlib.Core.Path.{_≡_};
+ghost use mathlib.Core.List.{List};
+ghost use Prim.Native.Nat.{ℕ, _≤_};
+ghost use Rattle.job.specs.Said.{said};
+ghost use Rattle.scripts.specs.Call.{callSaid, answerNumbers, replyNumbers, callStep};
+ghost use Rattle.scripts.specs.CallCalls.{callOutcome};
+
+pub struct Called {
+    pub reply: Reply,
+    pub job: Job,
+}
+
+pub fn of_answered(r: Answered) -> Called
+    ensures { λ c. ⌜ (replyNumbers (c .reply) ≡ answerNumbers (said (r .answer))) × (c .job ≡ r .job) ⌝ }
+{
+    let answer = r.answer;
+    let job = r.job;
+    Called {
+        reply: crate::reply_of(answer),
+        job,
+    }
+}
+
+pub fn record_call(job: Job, n: CallNumbers, volume: &mut [u32]) -> Called
+    requires { ⌜ n .operation ≡ 0 ⌝ }
+    ensures { λ r. ⌜ ((s : List ℕ) → callOutcome r (now (volume .exit)) s ≡ callStep job (now (volume .entry)) s (callSaid s n)) ⌝ }
+{
+    of_answered(job.record(Reflection(n.h, n.k, n.l), n.x, n.y, volume))
+}
+
+// A reading hands no job back: the one that was handed in goes on.
+pub fn point_call(job: Job, n: CallNumbers, volume: &[u32]) -> Called
+    requires { ⌜ n .operation ≡ 3 ⌝ }
+    ensures { λ r. ⌜ ((s : List ℕ) → callOutcome r (now (volume .entry)) s ≡ callStep job (now (volume .entry)) s (callSaid s n)) ⌝ }
+{
+    Called {
+        reply: crate::point_reply(job.point(GridPoint(n.h, n.k, n.l), volume)),
+        job,
+    }
+}
+
+pub fn factor_call(job: Job, n: CallNumbers, volume: &[u32]) -> Called
+    requires { ⌜ 4 ≤ n .operation ⌝ }
+    ensures { λ r. ⌜ ((s : List ℕ) → callOutcome r (now (volume .entry)) s ≡ callStep job (now (volume .entry)) s (callSaid s n)) ⌝ }
+{
+    Called {
+        reply: crate::factor_reply(job.factor(Reflection(n.h, n.k, n.l), volume)),
+        job,
+    }
+}

@@ -1,2 +1,0 @@
-pub mod Specimens
-pub mod Grids

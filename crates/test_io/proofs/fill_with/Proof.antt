@@ -1,0 +1,53 @@
+-- `fill_with`: the v keeps its length.
+use native.Mathlib.Omega.{arith}
+use borrow.Author.Needs.{needs}
+use mathlib.Core.Path.{_≡_, refl}
+use Prim.Native.Nat.{_+_, _≤_, _<_, _-_}
+use lib.ListN.{length, length-set}
+use Rattle.test_io.proofs.fill_with.Statement.{statement}
+use Rattle.test_io.proofs.fill_with.Tie as tie
+
+abbrev Inv-loop : tie.InvT-loop
+Inv-loop v₀ x j₀ v j = (j ≤ length v) × (length v ≡ length v₀)
+
+abbrev μ-loop : tie.MeasureT-loop
+μ-loop v₀ x j₀ v j = length v₀ - j
+
+loop-holds : tie.Need-loop-holds Inv-loop μ-loop
+loop-holds c = omega arith
+
+mul-v : tie.Need-mul-v Inv-loop μ-loop
+mul-v c = omega arith
+
+slice-write-v : tie.Need-slice-write-v Inv-loop μ-loop
+slice-write-v c = omega arith
+
+add-j : tie.Need-add-j Inv-loop μ-loop
+add-j c = omega arith
+
+loop-less : tie.Need-loop-less Inv-loop μ-loop
+loop-less c = omega arith
+
+loop-again : tie.Need-loop-again Inv-loop μ-loop
+loop-again c = simp length-set (omega arith)
+
+same-length : tie.Need-same-length Inv-loop μ-loop
+same-length c = omega arith
+
+returns : tie.Need-returns Inv-loop μ-loop
+returns c = omega arith
+
+pub fill-with-spec : {M : Type 1} → statement M
+fill-with-spec =
+    tie.close
+    (tie.spec
+    Inv-loop
+    μ-loop
+    loop-holds
+    mul-v
+    slice-write-v
+    add-j
+    loop-less
+    loop-again
+    same-length
+    returns)

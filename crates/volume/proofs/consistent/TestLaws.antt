@@ -1,0 +1,140 @@
+-- The steps of the tests of refusal 14: what the code finds of one image, of a line's ends and of a row is what the test says of it.
+use mathlib.Core.Path.{_≡_, refl, sym, _∙_, ap, subst}
+use mathlib.Core.Bool.{Bool, true, false, _&&_, not}
+use mathlib.Core.List.{List}
+use Prim.Native.Nat.{ℕ, zero, suc, _*_, _/_, _<_, _≤_}
+use native.Mathlib.Omega.{arith}
+use lib.ListN.{length, getD}
+use lib.Dec.{T, leb, leb→le, ltb, ltb→lt, eqb}
+use borrow.Author.Tests.{lt-ltb, le-ltb, eq-eqb}
+use Rattle.algebra.specs.Cell.{J, Inside, Sym, one, Group, Pa, full, span, im, pim, imp}
+use Rattle.algebra.specs.CellPack.{even}
+use Rattle.algebra.specs.CellTests.{below, everyPlace, imply, storedT}
+use Rattle.algebra.proofs.Bool.{and-l, and-r, imply-iff, below-by}
+use Rattle.algebra.proofs.CellSym.{square, im-one, im-im, pim-one, imp-one, imp-im, imp-twice}
+use Rattle.algebra.proofs.CellTests.{every-place-by}
+use Rattle.numbers.specs.declared.Pair.{Pair}
+use Rattle.numbers.specs.Value.{Value, field, conj, valueOf, pairOf}
+use Rattle.numbers.proofs.Values.{value-by, field-ring, field-star}
+use Rattle.slices.specs.Pairs.{at}
+use Rattle.cell.specs.Volume.{groupOf, pairPlace, mapPlace, rows, columns, layers}
+use Rattle.cell.specs.Consistency.{sameValue, implied, zeroPair, zeroEnds, pointAgrees, rowEnds, consistentMap}
+use Rattle.cell.specs.declared.operations.Index.{Index}
+use Rattle.cell.specs.Operations.{halvesOf, tripleOf, Sizes, Within}
+use Rattle.cell.specs.TestSteps.{IsStored, samePair, isZero, imageAgrees, pointImageAgrees, emptyEnds, emptyIfOdd, rowAgrees}
+use Rattle.cell.proofs.Tests.{true-iff}
+use Rattle.volume.proofs.consistent.Passing.{below-one, below-cong, by-rows}
+use Rattle.cell.proofs.VolumeLayout.{number-even, number-odd}
+use Rattle.cell.proofs.Reading.{same-iff, lineAt}
+use Rattle.cell.proofs.OperationLaws.{by-group}
+
+-- ---- the identity is the first operation
+
+pub first-full : (n : ℕ) → n < 5 → (1 ≤ length (full (groupOf n))) × (one ≡ getD (full (groupOf n)) 0 one)
+first-full = by-group (λ g. (1 ≤ length (full g)) × (one ≡ getD (full g) 0 one)) (omega arith, refl) (omega arith, refl) (omega arith, refl) (omega arith, refl) (omega arith, refl)
+
+-- ---- stored indices
+
+module _ {group n1 n2 n3 : ℕ} (s : Sizes group n1 n2 n3) where
+  span-most : (n : ℕ) → n < 5 → span (groupOf n) (n3 / 2) ≤ n3
+  unfolding span
+  span-most = let l = s .third in by-group (λ g. span g (n3 / 2) ≤ n3) (omega arith) (omega arith) (omega arith) (omega arith) (omega arith)
+
+  pub stored-within : {j : Index} → IsStored group n1 n2 n3 j → Within n1 n2 n3 j
+  stored-within i = record { h = i .h; k = omega (arith, i .k, s .second .low); l = omega (arith, i .l, span-most group (s .known)) }
+
+  pub stored-by : {j : Index} → Within n1 n2 n3 j → {t : Bool} → t ≡ storedT (groupOf group) (halvesOf n1 n2 n3) (tripleOf j) → t ≡ true → IsStored group n1 n2 n3 j
+  stored-by {j} w e t =
+      let both = true-iff _ .0 (sym e ∙ t) in
+      record {
+        h = w .h;
+        k = leb→le _ _ (and-l (leb (j .k) (n2 / 2)) _ both);
+        l = ltb→lt _ _ (and-r (leb (j .k) (n2 / 2)) _ both);
+      }
+
+-- ---- an image of a factor
+
+module _ (g : Group) (a : J) (m : ℕ) (v : List ℕ) (j : J) where
+  -- pairs that the code holds for two values
+  same-values : {x y : Pair} (X Y : Value m) → x ≡ pairOf X → y ≡ pairOf Y → samePair x y ≡ sameValue X Y
+  unfolding pairOf
+  same-values X Y e f = λ i. samePair (e i) (f i)
+
+  -- the test, of an index that is known to be the image
+  abbrev at-image : Sym → J → Bool
+  at-image s i = imply (storedT g a i) (sameValue (lineAt g a m v i) (implied g a m s j (lineAt g a m v j)))
+
+  module _ (s : Sym) {i : J} (e : i ≡ im a s j) {t : Bool} (found : t ≡ storedT g a i) where
+    pub image-tested : t ≡ true → {x y z : Pair} → x ≡ pairOf (lineAt g a m v j) → y ≡ pairOf (lineAt g a m v i) → z ≡ pairOf (imp (field m) (conj m) s j (valueOf m x))
+        → {r : Bool} → r ≡ samePair y z → r ≡ imageAgrees g a m v j s
+    image-tested p ex ey ez er = er ∙ same-values _ _ ey (ez ∙ ap (λ q. pairOf (imp (field m) (conj m) s j q)) (value-by m _ ex))
+        ∙ ap (λ b. imply b (sameValue (lineAt g a m v i) (implied g a m s j (lineAt g a m v j)))) (sym (sym found ∙ p)) ∙ ap (at-image s) e
+
+    pub image-skipped : t ≡ false → true ≡ imageAgrees g a m v j s
+    image-skipped p = ap (λ b. imply b (sameValue (lineAt g a m v i) (implied g a m s j (lineAt g a m v j)))) (sym (sym found ∙ p)) ∙ ap (at-image s) e
+
+  -- the identity implies the value itself
+  pub identity-agrees : imageAgrees g a m v j one ≡ true
+  identity-agrees = true-iff _ .1 (imply-iff (storedT g a (im a one j)) (sameValue (lineAt g a m v (im a one j)) (implied g a m one j (lineAt g a m v j))) .1 (λ t. same-iff m _ _ .1 (ap (lineAt g a m v) (im-one a j) ∙ sym (imp-one (field-ring m) (field-star m) j (lineAt g a m v j)))))
+
+  -- an operation is its own inverse: if it agrees at the image of j, it agrees at j
+  pub agrees-back : (s : Sym) → Inside a j → T (storedT g a j) → imageAgrees g a m v (im a s j) s ≡ true → imageAgrees g a m v j s ≡ true
+  agrees-back s n t e =
+      let i = im a s j in
+      let back : im a s i ≡ j = im-im a s s j n ∙ ap (λ u. im a u j) (square s) ∙ im-one a j in
+      let same = imply-iff (storedT g a (im a s i)) (sameValue (lineAt g a m v (im a s i)) (implied g a m s i (lineAt g a m v i))) .0 (true-iff _ .0 e) (subst (λ y. T (storedT g a y)) (sym back) t) in
+      let there : lineAt g a m v j ≡ implied g a m s j (lineAt g a m v i) = ap (lineAt g a m v) (sym back) ∙ same-iff m _ _ .0 same ∙ imp-im (field-ring m) (field-star m) a s s j (lineAt g a m v i) n in
+      true-iff _ .1 (imply-iff (storedT g a i) (sameValue (lineAt g a m v i) (implied g a m s j (lineAt g a m v j))) .1
+      (λ u. same-iff m _ _ .1 (sym (ap (implied g a m s j) there ∙ imp-twice (field-ring m) (field-star m) s j (lineAt g a m v i)))))
+
+-- ---- the ends of Pa's lines
+
+pub even-passes : (a : J) (v : List ℕ) (h n : ℕ) → even h ≡ true → true ≡ below n (λ k. emptyIfOdd Pa a v h k)
+even-passes a v h n e = sym (true-iff _ .1 (below-by n _ (λ k l. subst (λ b. T (imply (not b) (emptyEnds Pa a v h k))) (sym e) tt)))
+
+pub odd-tested : (a : J) (v : List ℕ) (h n : ℕ) {r : Bool} → even h ≡ false → r ≡ below n (λ k. emptyEnds Pa a v h k) → r ≡ below n (λ k. emptyIfOdd Pa a v h k)
+odd-tested a v h n e f = f ∙ below-cong n _ _ (λ k l. ap (λ b. imply (not b) (emptyEnds Pa a v h k)) (sym e))
+
+module _ (a : J) (m : ℕ) (v : List ℕ) where
+  -- the ends' test of a group
+  abbrev pub endsTest : Group → Bool
+  endsTest g = everyPlace (rows g a) (columns g a) 1 (λ j. zeroEnds g a m g v (j .0) (j .1))
+
+  pub ends-tested : {n : ℕ} {r : Bool} → n ≡ 3 → r ≡ below (rows Pa a) (λ h. below (columns Pa a) (λ k. emptyIfOdd Pa a v h k)) → r ≡ endsTest (groupOf n)
+  unfolding everyPlace zeroPair at
+  ends-tested e f = f
+      ∙ below-cong (rows Pa a) _ _ (λ h lh. below-cong (columns Pa a) _ _ (λ k lk. sym (below-one (λ l. zeroEnds Pa a m Pa v h k))))
+      ∙ ap (λ n. endsTest (groupOf n)) (sym e)
+
+  -- the other groups have no such ends
+  pub ends-none : (n : ℕ) → n < 5 → (n ≡ 3 → ⊥) → true ≡ endsTest (groupOf n)
+  ends-none zero l z = sym (true-iff _ .1 (every-place-by _ _ _ _ (λ j h k q. tt)))
+  ends-none (suc zero) l z = sym (true-iff _ .1 (every-place-by _ _ _ _ (λ j h k q. tt)))
+  ends-none (suc (suc zero)) l z = sym (true-iff _ .1 (every-place-by _ _ _ _ (λ j h k q. tt)))
+  ends-none (suc (suc (suc zero))) l z = absurd (z refl)
+  ends-none (suc (suc (suc (suc zero)))) l z = sym (true-iff _ .1 (every-place-by _ _ _ _ (λ j h k q. tt)))
+  ends-none (suc (suc (suc (suc (suc n))))) l z = absurd (omega arith)
+
+-- ---- an image of a point, and a row
+
+module _ (g : Group) (a : J) (v : List ℕ) where
+  module _ (x : J) where
+    abbrev at-point : J → Bool
+    at-point i = imply (ltb (i .2) (layers g a)) (eqb (getD v (mapPlace g a i) 0) (getD v (mapPlace g a x) 0))
+
+    module _ (s : Sym) {i : J} (e : i ≡ pim a s x) where
+      pub point-tested : i .2 < layers g a → {p q : ℕ} → p ≡ getD v (mapPlace g a i) 0 → q ≡ getD v (mapPlace g a x) 0 → eqb p q ≡ pointImageAgrees g a v x s
+      point-tested l ep eq = (λ t. eqb (ep t) (eq t)) ∙ ap (λ b. imply b (eqb (getD v (mapPlace g a i) 0) (getD v (mapPlace g a x) 0))) (sym (lt-ltb _ _ l)) ∙ ap at-point e
+
+      pub point-skipped : layers g a ≤ i .2 → true ≡ pointImageAgrees g a v x s
+      point-skipped l = ap (λ b. imply b (eqb (getD v (mapPlace g a i) 0) (getD v (mapPlace g a x) 0))) (sym (le-ltb _ _ l)) ∙ ap at-point e
+
+    pub identity-point : pointImageAgrees g a v x one ≡ true
+    identity-point = true-iff _ .1 (imply-iff (ltb ((pim a one x) .2) (layers g a)) (eqb (getD v (mapPlace g a (pim a one x)) 0) (getD v (mapPlace g a x) 0)) .1 (λ t. true-iff _ .0 (eq-eqb _ _ (ap (λ y. getD v (mapPlace g a y) 0) (pim-one a x)))))
+
+  pub row-ends : (z x : ℕ) {p : Pair} {r : Bool} → p ≡ at v (pairPlace g a z x (a .1)) → r ≡ isZero p → r ≡ rowEnds g a v z x
+  row-ends z x e f = f ∙ ap isZero e ∙ sym (λ t. eqb (number-even g a v x (a .1) z t) 0 && eqb (number-odd g a v x (a .1) z t) 0)
+
+  pub map-tested : below (layers g a) (λ z. below (rows g a) (λ x. rowAgrees g a v z x)) ≡ consistentMap g a v
+  unfolding consistentMap
+  map-tested = by-rows (rows g a) (2 * a .1) (layers g a) (pointAgrees g a v) (rowEnds g a v)

@@ -1,0 +1,65 @@
+-- By the group: an alternating line, or a pair.
+use borrow.Author.Needs.{needs}
+use mathlib.Core.Path.{_≡_, refl, sym, _∙_}
+use native.Mathlib.Omega.{arith}
+use Rattle.algebra.specs.Cell.{P2₁, planes}
+use Rattle.cell.specs.Volume.{volumeLength}
+use Rattle.cell.specs.Operations.{halvesOf}
+use Rattle.cell.proofs.PlaceLaws.{by-alternating, alternating-half, pair-inside, stored-layer}
+use Rattle.volume.proofs.write.WrittenFactors.{alternating-written, factor-written}
+use Rattle.volume.proofs.write.write_factor.Statement.{statement}
+use Rattle.volume.proofs.write.write_factor.Tie as tie
+
+is-alternating-requires : tie.Need-is-alternating-requires
+is-alternating-requires c κs = search needs
+
+write-alternating-requires : tie.Need-write-alternating-requires
+unfolding planes
+write-alternating-requires c κs =
+    let t = c .before in
+    let a = t .before .before .before in
+    let s = a .pre .0 .0 in
+    let e = sym (t .before .is-alternating .ensures) ∙ t .if1 .taken in (
+      (record { known = omega arith; first = s .first; second = s .second; third = s .third }, a .pre .0 .1, a .pre .0 .2, alternating-half (a .args .group) e (a .pre .0 .3)),
+      a .pre .1 ∙ by-alternating (λ g. volumeLength g (halvesOf (a .args .n1) (a .args .n2) (a .args .n3)) ≡ volumeLength P2₁ (halvesOf (a .args .n1) (a .args .n2) (a .args .n3))) refl refl (a .args .group) e,
+    )
+
+pair-place-requires : tie.Need-pair-place-requires
+pair-place-requires c κs = search needs
+
+store-requires : tie.Need-store-requires
+store-requires c κs =
+    let t = c .before .before in
+    let a = t .before .before .before in
+    let p = a .pre .0 in
+    omega (arith, a .pre .1, pair-inside (p .0) _ (p .1) (p .2) _ (stored-layer _ _ _ (p .0 .known) (sym (t .before .is-alternating .ensures) ∙ t .if1 .left) (p .3)))
+
+same-length : tie.Need-same-length
+same-length c = search needs
+
+returns : tie.Need-returns
+returns c =
+    let t = c .before .before .before .before in
+    alternating-written _ _ _ _ (t .before .before .before .args .group) (sym (t .before .is-alternating .ensures) ∙ t .if1 .taken) (c .before .before .write-alternating .ensures)
+
+same-length-2 : tie.Need-same-length-2
+same-length-2 c = search needs
+
+returns-2 : tie.Need-returns-2
+returns-2 c =
+    let u = c .before .before in
+    let t = u .before .before .before in
+    factor-written _ _ _ _ _ (t .before .before .before .pre .0 .0 .known) (sym (t .before .is-alternating .ensures) ∙ t .if1 .left) (u .before .pair-place .ensures .0) (u .store .ensures)
+
+pub write-factor-spec : {M : Type 1} → statement M
+write-factor-spec =
+    tie.close
+    (tie.spec
+    is-alternating-requires
+    write-alternating-requires
+    pair-place-requires
+    store-requires
+    same-length
+    returns
+    same-length-2
+    returns-2)

@@ -1,0 +1,166 @@
+-- The line that the code makes of a number is that line of the job; and what is known of it once the code has found it.
+use mathlib.Core.Path.{_≡_, refl, sym, _∙_, ap, subst}
+use mathlib.Core.Logic.{inl, inr}
+use mathlib.Core.Bool.{Bool, false, cond}
+use mathlib.Core.List.{List}
+use Prim.Native.Nat.{ℕ, zero, suc, _+_, _*_, _-_, _/_, _%_, _<_, _≤_}
+use native.Mathlib.Omega.{arith}
+use borrow.Author.Tests.{eq-eqb, ne-eqb}
+use Rattle.algebra.specs.Kinds.{Kind, slots, Kind.plain}
+use Rattle.algebra.proofs.Laws.{along}
+use Rattle.lengths.specs.Counts.{kindOf, pairCount}
+use Rattle.lengths.specs.Admitted.{AdmittedLength, FactorList}
+use Rattle.cell.specs.Volume.{lineKind, rotated, firstPair}
+use Rattle.cell.specs.Operations.{Sizes}
+use Rattle.volume_transform.specs.Turned.{turnedLine, turnedStored, turnedRow}
+use Rattle.volume_transform.specs.Axes.{turnOf, alongL, alongH, alongK, lineCount, lineOfTurn, turnedL, turnedH, turnedK}
+use Rattle.volume_transform.specs.Lines.{Sound, gatheredTurn, rowTurn, lineTurned}
+use Rattle.volume_transform.specs.Plans.{groupIn, halvesIn, Planned, lineTurn, Counted, Gathered, Row, LineAt}
+use Rattle.volume_transform.specs.declared.plan.Plan.{Plan}
+use Rattle.volume_transform.specs.declared.plan.Counts.{Counts}
+use Rattle.volume_transform.specs.declared.plan.Line.{Line}
+use Rattle.volume_transform.proofs.plan.Numbered.{by-places, turn-l, turn-h, turn-k, order-k, order-h, order-l}
+use Rattle.volume_transform.proofs.plan.JobTurns.{twice, next, fits-l, turned-l, fits-h, place-h, row-fits, row-low}
+
+-- ---- the lines along each axis
+
+as-packed : (m A direction : ℕ) (kind : Kind) (l : List ℕ) → turnedStored m A direction false kind l ≡ turnedLine m A direction kind l
+as-packed m A zero kind l = refl
+as-packed m A (suc d) kind l = refl
+
+module _ (p : Plan) (ok : Planned p) where
+  abbrev sizes : Sizes (p .group) (p .n1) (p .n2) (p .n3)
+  sizes = ok .sizes .sizes
+
+  abbrev width : ℕ
+  width = p .n2 / 2 + 1
+
+  -- a line of length n = 2 (n / 2) along one of the axes
+  sound : (kind : ℕ) (b : Bool) (n factors start stride count : ℕ) → kind < 6 → n ≡ 2 * (n / 2) → AdmittedLength n → FactorList n factors
+      → Sound (record { m = p .m; direction = p .direction; kind = kind; rotated = b; factors = factors; half = n / 2; start = start; stride = stride; count = count })
+  sound kind b n factors start stride count known e size list = record {
+    modulus = ok .modulus;
+    directed = ok .directed;
+    known = known;
+    size = subst AdmittedLength e size;
+    list = subst (λ n. FactorList n factors) e list;
+  }
+
+  module _ (y kind f count : ℕ) (b : Bool) (l : y < alongL (groupIn p) (halvesIn p) .count) (known : kind < 6) (e : kindOf kind ≡ lineKind (groupIn p) (y / width)) (eb : b ≡ rotated (groupIn p) (y / width)) (other : kind ≡ 1 → ⊥)
+      (ef : f ≡ firstPair (kindOf kind)) (low : f ≤ 1) (ec : count ≡ pairCount kind (p .n3)) (few : count ≤ 2880) where
+    pub gathered-l : Gathered p (turnOf (alongL (groupIn p) (halvesIn p)) (turnedL (groupIn p) (halvesIn p) (p .m) (p .direction)) y)
+        (record { m = p .m; direction = p .direction; kind = kind; rotated = b; factors = p .f3; half = p .n3 / 2; start = y + f * (p .n1 * width); stride = p .n1 * width; count = count })
+    gathered-l = record {
+      modulus = refl;
+      direction = refl;
+      other = other;
+      placed = record {
+        sound = sound kind b (p .n3) (p .f3) _ _ _ known (omega (arith, sizes .third .even)) (ok .sizes .third) (ok .sizes .third-list);
+        counted = ec;
+        low = few;
+        fits = fits-l sizes y kind f count e eb ef low ec l;
+      };
+      turn = turned-l sizes y kind f count e eb ef low ec (p .m) (p .direction);
+    }
+
+  module _ (y : ℕ) (l : y < alongH (groupIn p) (halvesIn p) .count) where
+    pub gathered-h : Gathered p (turnOf (alongH (groupIn p) (halvesIn p)) (turnedH (groupIn p) (halvesIn p) (p .m) (p .direction)) y)
+        (record { m = p .m; direction = p .direction; kind = 0; rotated = false; factors = p .f1; half = p .n1 / 2; start = y / width * (p .n1 * width) + y % width; stride = width; count = p .n1 })
+    unfolding slots
+    gathered-h = record {
+      modulus = refl;
+      direction = refl;
+      other = λ e. omega arith;
+      placed = record {
+        sound = sound 0 false (p .n1) (p .f1) _ _ _ (omega arith) (twice sizes) (ok .sizes .first) (ok .sizes .first-list);
+        counted = twice sizes;
+        low = sizes .first .high;
+        fits = fits-h sizes y l;
+      };
+      turn = λ v. by-places (alongH (groupIn p) (halvesIn p)) (turnedH (groupIn p) (halvesIn p) (p .m) (p .direction)) y (p .n1) _ (turnedStored (p .m) (p .n1 / 2) (p .direction) false plain) v _ (twice sizes) (λ j lj. place-h sizes y l j) (as-packed (p .m) (p .n1 / 2) (p .direction) plain) refl;
+    }
+
+  module _ (y : ℕ) (l : y < alongK (groupIn p) (halvesIn p) .count) where
+    pub row-k : Row p (turnOf (alongK (groupIn p) (halvesIn p)) (turnedK (groupIn p) (halvesIn p) (p .m) (p .direction)) y)
+        (record { m = p .m; direction = p .direction; kind = 1; rotated = false; factors = p .f2; half = p .n2 / 2; start = y * width; stride = 1; count = width })
+    row-k = record {
+      modulus = refl;
+      direction = refl;
+      placed = record {
+        sound = sound 1 false (p .n2) (p .f2) _ _ _ (omega arith) (omega (arith, sizes .second .even)) (ok .sizes .second) (ok .sizes .second-list);
+        hermitian = refl;
+        counted = refl;
+        fits = row-fits sizes y l;
+        low = row-low sizes y l;
+      };
+      turn = λ v. by-places (alongK (groupIn p) (halvesIn p)) (turnedK (groupIn p) (halvesIn p) (p .m) (p .direction)) y width (λ j. y * width + j) (turnedRow (p .m) (p .n2 / 2) (p .direction)) v _ (next sizes) (λ j lj. ap (λ k. y * k + j) (next sizes)) (λ x. refl) refl;
+    }
+
+-- ---- which line a number stands for
+
+module _ {p : Plan} {x : Line} {step other : List ℕ → List ℕ} (e : (v : List ℕ) → other v ≡ step v) where
+  gathered-as : Gathered p step x → Gathered p other x
+  gathered-as g = record { modulus = g .modulus; direction = g .direction; other = g .other; placed = g .placed; turn = λ v. g .turn v ∙ sym (e v) }
+
+  row-as : Row p step x → Row p other x
+  row-as r = record { modulus = r .modulus; direction = r .direction; placed = r .placed; turn = λ v. r .turn v ∙ sym (e v) }
+
+module _ (p : Plan) (c : Counts) (counts : Counted p c) (j : ℕ) {x : Line} where
+  pub at-l : j < c .l → Gathered p (turnOf (alongL (groupIn p) (halvesIn p)) (turnedL (groupIn p) (halvesIn p) (p .m) (p .direction)) j) x → LineAt p j x
+  at-l lt g = inl (gathered-as
+      (λ v. along (λ q. lineTurn p q v) j (0 + j) (omega arith) ∙ turn-l (groupIn p) (halvesIn p) (p .m) (p .direction) j (omega (arith, counts .l)) v) g)
+
+  pub at-h : c .l ≤ j → j < c .l + c .h → Gathered p (turnOf (alongH (groupIn p) (halvesIn p)) (turnedH (groupIn p) (halvesIn p) (p .m) (p .direction)) (j - c .l)) x → LineAt p j x
+  at-h ge lt g = inl (gathered-as
+      (λ v. along (λ q. lineTurn p q v) j (alongL (groupIn p) (halvesIn p) .count + (j - c .l)) (omega (arith, counts .l)) ∙ turn-h (groupIn p) (halvesIn p) (p .m) (p .direction) (j - c .l) (omega (arith, counts .h)) v) g)
+
+  pub at-k : c .l + c .h ≤ j → Row p (turnOf (alongK (groupIn p) (halvesIn p)) (turnedK (groupIn p) (halvesIn p) (p .m) (p .direction)) (j - (c .l + c .h))) x → LineAt p j x
+  at-k ge r = inr (row-as
+      (λ v. along (λ q. lineTurn p q v) j (alongL (groupIn p) (halvesIn p) .count + alongH (groupIn p) (halvesIn p) .count + (j - (c .l + c .h))) (omega (arith, counts .l, counts .h)) ∙ turn-k (groupIn p) (halvesIn p) (p .m) (p .direction) (j - (c .l + c .h)) v) r)
+
+-- ---- the line that was found
+
+module _ (x : Line) (v : List ℕ) where
+  pub row-is : x .kind ≡ 1 → rowTurn x v ≡ lineTurned x v
+  row-is e = ap (λ b. cond b (rowTurn x v) (gatheredTurn x v)) (sym (eq-eqb _ _ e))
+
+  pub gathered-is : (x .kind ≡ 1 → ⊥) → gatheredTurn x v ≡ lineTurned x v
+  gathered-is n = ap (λ b. cond b (rowTurn x v) (gatheredTurn x v)) (sym (ne-eqb _ _ n))
+
+module _ (p : Plan) (j : ℕ) (x : Line) where
+  pub modulus-is : LineAt p j x → x .m ≡ p .m
+  modulus-is (inl g) = g .modulus
+  modulus-is (inr r) = r .modulus
+
+  pub turned-as : LineAt p j x → (v : List ℕ) → lineTurned x v ≡ lineTurn p j v
+  turned-as (inl g) v = sym (gathered-is x v (g .other)) ∙ g .turn v
+  turned-as (inr r) v = sym (row-is x v (r .placed .hermitian)) ∙ r .turn v
+
+-- ---- the order of the turns
+
+module _ (p : Plan) (c : Counts) (counts : Counted p c) (n : ℕ) (low : n < lineCount (groupIn p) (halvesIn p)) where
+  abbrev TurnOf : ℕ → Type 0
+  TurnOf j = (j ≡ lineOfTurn (groupIn p) (halvesIn p) (p .direction) n) × (j < lineCount (groupIn p) (halvesIn p))
+
+  pub turn-same : p .direction ≡ 0 → TurnOf n
+  unfolding lineOfTurn
+  turn-same e = (ap (λ d. lineOfTurn (groupIn p) (halvesIn p) d n) (sym e), low)
+
+  module _ (back : p .direction ≡ 1) where
+    taken : (j : ℕ) → j ≡ lineOfTurn (groupIn p) (halvesIn p) 1 n → j < lineCount (groupIn p) (halvesIn p) → TurnOf j
+    taken j e l = (e ∙ ap (λ d. lineOfTurn (groupIn p) (halvesIn p) d n) (sym back), l)
+
+    pub turn-back-k : n < c .k → TurnOf (c .l + c .h + n)
+    turn-back-k l = taken _
+        (omega (arith, counts .l, counts .h, along (lineOfTurn (groupIn p) (halvesIn p) 1) n (0 + n) (omega arith) ∙ order-k (groupIn p) (halvesIn p) n (omega (arith, counts .k))))
+        (omega (arith, counts .l, counts .h, counts .k))
+
+    pub turn-back-h : c .k ≤ n → n < c .k + c .h → TurnOf (c .l + (n - c .k))
+    turn-back-h g l = taken _
+        (omega (arith, counts .l, along (lineOfTurn (groupIn p) (halvesIn p) 1) n (alongK (groupIn p) (halvesIn p) .count + (n - c .k)) (omega (arith, counts .k)) ∙ order-h (groupIn p) (halvesIn p) (n - c .k) (omega (arith, counts .h))))
+        (omega (arith, counts .l, counts .h, counts .k))
+
+    pub turn-back-l : c .k + c .h ≤ n → TurnOf (n - (c .k + c .h))
+    turn-back-l g = taken _
+        (omega (arith, along (lineOfTurn (groupIn p) (halvesIn p) 1) n (alongK (groupIn p) (halvesIn p) .count + alongH (groupIn p) (halvesIn p) .count + (n - (c .k + c .h))) (omega (arith, counts .k, counts .h)) ∙ order-l (groupIn p) (halvesIn p) (n - (c .k + c .h)) (omega (arith, counts .k, counts .h))))
+        (omega (arith, counts .l, counts .h, counts .k))

@@ -1,0 +1,100 @@
+-- Synthesis and analysis of a whole volume, line after line: what all turns of a job leave.
+use mathlib.Core.Path.{_≡_, sym, _∙_, ap, ap₂}
+use mathlib.Core.Bool.{true}
+use mathlib.Core.List.{List}
+use Prim.Native.Nat.{ℕ, _+_, _/_}
+use native.Mathlib.Omega.{arith}
+use lib.ListN.{length}
+use Rattle.algebra.specs.Axis.{AxisLaws}
+use Rattle.algebra.specs.Cell.{J, Group}
+use Rattle.algebra.proofs.Laws.{along}
+use Rattle.algebra.proofs.CellTests.{Positive}
+use Rattle.numbers.specs.Prime.{prime, IsModulus}
+use Rattle.numbers.specs.Value.{field, conj, i, half, real}
+use Rattle.slices.specs.Pairs.{Below}
+use Rattle.slices.specs.Sweep.{Layout, sweep, onLists}
+use Rattle.line.specs.Transform.{rootOf}
+use Rattle.lengths.specs.Admitted.{AdmittedLength}
+use Rattle.line.proofs.kinds.Axes.{own, axis-own}
+use Rattle.cell.specs.Volume.{groupOf, volumeLength, factorsIn, packFactors, mapIn, packMap}
+use Rattle.cell.specs.Consistency.{consistentFactors, consistentMap}
+use Rattle.cell.specs.Sums.{axis, mapOf, factorsOf}
+use Rattle.cell.specs.Operations.{halvesOf}
+use Rattle.volume_transform.specs.Turns.{turns}
+use Rattle.volume_transform.specs.Axes.{alongL, alongH, alongK, lineCount, lineOfTurn, turnedL, turnedH, turnedK, jobTurn, JobSizes}
+use Rattle.cell.proofs.Consistency.{consistent-read}
+use Rattle.cell.proofs.Maps.{consistent-map-read}
+use Rattle.volume_transform.proofs.sums.PassLaws.{synthesis-passes, analysis-passes}
+use Rattle.volume_transform.proofs.sums.Turns.{turns-add, turns-sweep, turned-along, turned-back}
+use Rattle.volume_transform.proofs.plan.Numbered.{turn-l, turn-h, turn-k}
+
+module _ (g : Group) (a : J) (m direction : ℕ) where
+  abbrev pass : Layout → (ℕ → List ℕ → List ℕ) → List ℕ → List ℕ
+  pass L G d = sweep L (onLists L G) (L .count) d
+
+  abbrev run : (j n : ℕ) → List ℕ → List ℕ
+  run j n d = turns (jobTurn g a m direction) j n d
+
+  abbrev first : ℕ
+  first = alongL g a .count
+
+  abbrev second : ℕ
+  second = alongH g a .count
+
+  abbrev third : ℕ
+  third = alongK g a .count
+
+  run-l : (d : List ℕ) → run 0 first d ≡ pass (alongL g a) (turnedL g a m direction) d
+  run-l d = turns-sweep (jobTurn g a m direction) (alongL g a) (turnedL g a m direction) 0 first d (turn-l g a m direction)
+
+  run-h : (d : List ℕ) → run first second d ≡ pass (alongH g a) (turnedH g a m direction) d
+  run-h d = turns-sweep (jobTurn g a m direction) (alongH g a) (turnedH g a m direction) first second d (turn-h g a m direction)
+
+  run-k : (d : List ℕ) → run (first + second) third d ≡ pass (alongK g a) (turnedK g a m direction) d
+  run-k d = turns-sweep (jobTurn g a m direction) (alongK g a) (turnedK g a m direction) (first + second) third d (λ y l. turn-k g a m direction y)
+
+  run-all : (d : List ℕ) → run 0 (lineCount g a) d ≡ run (first + second) third (run first second (run 0 first d))
+  run-all d =
+      turns-add (jobTurn g a m direction) 0 (first + second) third d
+      ∙ ap₂ (λ j v. run j third v) zero-plus (turns-add (jobTurn g a m direction) 0 first second d ∙ along (λ j. run j second (run 0 first d)) (0 + first) first (omega arith))
+    where
+      zero-plus : 0 + (first + second) ≡ first + second
+      zero-plus = omega arith
+
+  pub run-forward : (d : List ℕ) → run 0 (lineCount g a) d ≡ pass (alongK g a) (turnedK g a m direction) (pass (alongH g a) (turnedH g a m direction) (pass (alongL g a) (turnedL g a m direction) d))
+  run-forward d = run-all d ∙ run-k _ ∙ ap (pass (alongK g a) (turnedK g a m direction)) (run-h _ ∙ ap (pass (alongH g a) (turnedH g a m direction)) (run-l d))
+
+  pub run-backward : (d : List ℕ) → run 0 first (run first second (run (first + second) third d)) ≡ pass (alongL g a) (turnedL g a m direction) (pass (alongH g a) (turnedH g a m direction) (pass (alongK g a) (turnedK g a m direction) d))
+  run-backward d = run-l _ ∙ ap (pass (alongL g a) (turnedL g a m direction)) (run-h _ ∙ ap (pass (alongH g a) (turnedH g a m direction)) (run-k d))
+
+-- ---- a checked job
+
+-- the laws of an admitted axis
+axis-laws : (m : ℕ) (is : IsModulus m) {n : ℕ} (h : AdmittedLength n) → AxisLaws (field m) (conj m) (i m) (real m (half m)) (axis m (n / 2)) (own m is (n / 2) (h .positive) (h .half-turns))
+unfolding rootOf
+axis-laws m is h = axis-own m is _ (h .positive) (h .half-turns)
+
+module _ (m : ℕ) (is : IsModulus m) {group n1 n2 n3 f1 f2 f3 : ℕ} (job : JobSizes group n1 n2 n3 f1 f2 f3) (v : List ℕ) (len : length v ≡ volumeLength (groupOf group) (halvesOf n1 n2 n3)) (small : Below (prime m) v) where
+  abbrev g : Group
+  g = groupOf group
+
+  abbrev a : J
+  a = halvesOf n1 n2 n3
+
+  long : Positive a
+  long = (job .first .positive, job .second .positive, job .third .positive)
+
+  -- all lines, in the order of their numbers
+  pub synthesised : consistentFactors g a m v ≡ true → turns (λ n u. jobTurn g a m 0 (lineOfTurn g a 0 n) u) 0 (lineCount g a) v ≡ packMap g a m (mapOf m a (factorsIn g a m v))
+  synthesised e =
+      let r = consistent-read g a long m v len small e in
+      turned-along g a m 0 (lineCount g a) v ∙ ap (turns (jobTurn g a m 0) 0 (lineCount g a)) (sym (r .1)) ∙ run-forward g a m 0 _
+      ∙ synthesis-passes g a m (axis-laws m is (job .first)) (axis-laws m is (job .second)) (axis-laws m is (job .third)) (factorsIn g a m v) (r .0)
+
+  -- the lines along k, then those along h, then those along l
+  pub analysed : consistentMap g a v ≡ true → turns (λ n u. jobTurn g a m 1 (lineOfTurn g a 1 n) u) 0 (lineCount g a) v ≡ packFactors g a m (factorsOf m a (mapIn g a m v))
+  analysed e =
+      let r = consistent-map-read g a long m v len small e in
+      turned-back g a m 1 v ∙ run-backward g a m 1 v
+      ∙ ap (λ u. sweep (alongL g a) (onLists (alongL g a) (turnedL g a m 1)) (alongL g a .count) (sweep (alongH g a) (onLists (alongH g a) (turnedH g a m 1)) (alongH g a .count) (sweep (alongK g a) (onLists (alongK g a) (turnedK g a m 1)) (alongK g a .count) u))) (sym (r .2))
+      ∙ analysis-passes g a m (axis-laws m is (job .first)) (axis-laws m is (job .second)) (axis-laws m is (job .third)) (mapIn g a m v) (r .0) (r .1)

@@ -1,0 +1,73 @@
+// How many lines a job has along each axis, and the lines along h and k, which are of one kind in every group. All that a line's turn
+// has to know of the job is computed here and in `line_numbers`, so that the turns themselves carry few numbers.
+use crate::plan::Counts;
+use crate::plan::Line;
+use crate::plan::Plan;
+ghost use mathlib.Core.Path.{_≡_};
+ghost use Prim.Native.Nat.{_<_, _≤_};
+ghost use Rattle.volume_transform.specs.Axes.{lineCount, turnOf, alongH, alongK, turnedH, turnedK};
+ghost use Rattle.volume_transform.specs.Plans.{groupIn, halvesIn, SizesIn, Planned, Counted, Gathered, Row};
+
+// How many lines there are along each axis.
+pub fn line_counts(plan: Plan) -> Counts
+    requires { ⌜ SizesIn plan ⌝ }
+    ensures { λ r. ⌜ Counted plan r ⌝ }
+{
+    let width = (plan.n2 / 2 + 1) as usize;
+    let rows = plan.n1 as usize;
+    let layers = cell::places::layer_count(plan.group, plan.n3) as usize;
+    Counts {
+        l: rows * width,
+        h: layers * width,
+        k: layers * rows,
+    }
+}
+
+// How many there are in all.
+pub fn line_count(plan: Plan) -> usize
+    requires { ⌜ SizesIn plan ⌝ }
+    ensures { λ r. ⌜ (r ≡ lineCount (groupIn plan) (halvesIn plan)) × (r ≤ 16594560) ⌝ }
+{
+    let counts = line_counts(plan);
+    counts.l + counts.h + counts.k
+}
+
+// Line y = w (B + 1) + k along h, a plain one.
+pub fn along_h(plan: Plan, y: usize) -> Line
+    requires { ⌜ Planned plan × (y < alongH (groupIn plan) (halvesIn plan) .count) ⌝ }
+    ensures { λ r. ⌜ Gathered plan (turnOf (alongH (groupIn plan) (halvesIn plan)) (turnedH (groupIn plan) (halvesIn plan) (plan .m) (plan .direction)) y) r ⌝ }
+{
+    let width = (plan.n2 / 2 + 1) as usize;
+    let rows = plan.n1 as usize;
+    Line {
+        m: plan.m,
+        direction: plan.direction,
+        kind: 0,
+        rotated: false,
+        factors: plan.f1,
+        half: (plan.n1 / 2) as usize,
+        start: y / width * (rows * width) + y % width,
+        stride: width,
+        count: rows,
+    }
+}
+
+// Row y = w N1 + h along k.
+pub fn row_at(plan: Plan, y: usize) -> Line
+    requires { ⌜ Planned plan × (y < alongK (groupIn plan) (halvesIn plan) .count) ⌝ }
+    ensures { λ r. ⌜ Row plan (turnOf (alongK (groupIn plan) (halvesIn plan)) (turnedK (groupIn plan) (halvesIn plan) (plan .m) (plan .direction)) y) r ⌝ }
+{
+    let half = (plan.n2 / 2) as usize;
+    let width = half + 1;
+    Line {
+        m: plan.m,
+        direction: plan.direction,
+        kind: 1,
+        rotated: false,
+        factors: plan.f2,
+        half,
+        start: y * width,
+        stride: 1,
+        count: width,
+    }
+}

@@ -1,0 +1,105 @@
+// All lines of a job in their turn: the loop of synthesis and of analysis, in the lent volume. Crate line_numbers says what line each
+// number stands for, and each is transformed in its place. A line along l or h is gathered into the scratch, transformed there and
+// scattered back; a line along k is a row of neighbouring pairs and is worked on as a part of the volume.
+//
+// Direction 0 is synthesis, with the tables of the root, direction 1 analysis, with those of its conjugate.
+pub mod plan; // plan.rt
+pub mod axis_lines; // axis_lines.rt
+pub mod numbering; // numbering.rt
+pub mod row; // row.rt
+pub mod sums; // sums.rt
+mod lines; // lines.rt: one line along l or h
+mod rows; // rows.rt: one row along k
+
+use crate::plan::Line;
+use crate::plan::Plan;
+ghost use mathlib.Core.Path.{_≡_};
+ghost use Prim.Native.Nat.{_≤_};
+ghost use lib.ListN.{length};
+ghost use Rattle.numbers.specs.Prime.{prime};
+ghost use Rattle.slices.specs.Pairs.{Below};
+ghost use Rattle.lengths.specs.Lengths.{scratchLength, cleared};
+ghost use Rattle.line.specs.TablesKinds.{TablesOf};
+ghost use Rattle.volume_transform.specs.LinesRow.{TablesFor, Lent, Kept};
+ghost use Rattle.volume_transform.specs.Lines.{Placed, lineTurned};
+ghost use Rattle.volume_transform.specs.Axes.{lineCount};
+ghost use Rattle.volume_transform.specs.Plans.{groupIn, halvesIn, Planned, Fitting, planTurn};
+ghost use Rattle.volume_transform.specs.Turns.{turns};
+
+// A whole volume. The tables are made once, and lent down; the scratch is cleared of what the lines left there.
+pub fn transform_volume(plan: Plan, volume: &mut [u32], scratch: &mut [u32])
+    requires { ⌜ Planned plan × (plan .m ≡ 1) ⌝ }
+    requires { ⌜ Fitting plan (now volume) × (scratchLength ≤ length (now scratch)) ⌝ }
+    ensures { λ _. ⌜ (now (volume .exit) ≡ turns (planTurn plan) 0 (lineCount (groupIn plan) (halvesIn plan)) (now (volume .entry))) × (now (scratch .exit) ≡ cleared (now (scratch .entry))) ⌝ }
+{
+    let re = roots::tables::real_parts(1);
+    let im = line::table::imaginary_parts(plan.direction);
+    let tan = line::table::half_tangents(plan.direction);
+    let mut fold = [0u32; 5760];
+    let mut work = [0u32; 5760];
+    turn_volume(
+        1,
+        plan,
+        &re,
+        &im,
+        &tan,
+        volume,
+        scratch,
+        &mut fold,
+        &mut work,
+    );
+    slices::buffers::clear(scratch, 11520);
+}
+
+// Every line of the job, one after the other. The modulus goes down beside the plan as a number of its own, so that the
+// compiler can see the constant that the calls hand in.
+fn turn_volume<'a>(
+    m: u32,
+    plan: Plan,
+    re: &'a [u32; 2880],
+    im: &'a [u32; 2880],
+    tan: &'a [u32; 1440],
+    volume: &mut [u32],
+    scratch: &mut [u32],
+    fold: &mut [u32],
+    work: &mut [u32],
+)
+    requires { ⌜ Planned plan × TablesOf (plan .m) (plan .direction) (now re) (now im) (now tan) × (m ≡ plan .m) ⌝ }
+    requires { ⌜ Fitting plan (now volume) ⌝ }
+    requires { ⌜ Lent (now scratch) (now fold) (now work) ⌝ }
+    ensures { λ _. ⌜ (now (volume .exit) ≡ turns (planTurn plan) 0 (lineCount (groupIn plan) (halvesIn plan)) (now (volume .entry))) × Kept (now (scratch .entry)) (now (scratch .exit)) ⌝ }
+{
+    let count = crate::axis_lines::line_count(plan);
+    let mut n = 0;
+    while n < count {
+        let line = crate::numbering::line_in_turn(plan, n);
+        turn(m, line, re, im, tan, volume, scratch, fold, work);
+        n += 1;
+    }
+}
+
+// The line of its kind: a Hermitian one is a row, and lent as a part of the volume from its offset on.
+fn turn<'a>(
+    m: u32,
+    line: Line,
+    re: &'a [u32; 2880],
+    im: &'a [u32; 2880],
+    tan: &'a [u32; 1440],
+    volume: &mut [u32],
+    scratch: &mut [u32],
+    fold: &mut [u32],
+    work: &mut [u32],
+)
+    requires { ⌜ Placed (length (now volume)) line × TablesFor line (now re) (now im) (now tan) × (m ≡ line .m) ⌝ }
+    requires { ⌜ Below (prime (line .m)) (now volume) ⌝ }
+    requires { ⌜ Lent (now scratch) (now fold) (now work) ⌝ }
+    ensures { λ _. ⌜ (now (volume .exit) ≡ lineTurned line (now (volume .entry))) × Kept (now (scratch .entry)) (now (scratch .exit)) ⌝ }
+{
+    if line.kind == 1 {
+        let start = 2 * line.start;
+        let end = start + 2 * line.count;
+        rows::turn_row(m, line, re, im, tan, &mut volume[start..end], fold, work);
+    } else {
+        lines::turn_gathered(m, line, re, im, tan, volume, scratch, fold, work);
+    }
+}

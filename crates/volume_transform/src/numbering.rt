@@ -1,0 +1,97 @@
+// The lines of a job, by their numbers: first those along l, then h, then k, each by rising place of its first pair. The kind of those
+// along l is that of the group.
+use crate::plan::Line;
+use crate::plan::Plan;
+ghost use mathlib.Core.Path.{_≡_};
+ghost use Prim.Native.Nat.{_<_, _≤_};
+ghost use Rattle.cell.specs.Volume.{groupOf, lineKind, firstPair};
+ghost use Rattle.lengths.specs.Counts.{kindOf};
+ghost use Rattle.volume_transform.specs.Axes.{lineCount, lineOfTurn, turnOf, alongL, turnedL};
+ghost use Rattle.volume_transform.specs.Plans.{groupIn, halvesIn, Planned, Gathered, LineAt};
+
+// The line that turn n transforms.
+pub fn line_in_turn(plan: Plan, n: usize) -> Line
+    requires { ⌜ Planned plan × (n < lineCount (groupIn plan) (halvesIn plan)) ⌝ }
+    ensures { λ r. ⌜ LineAt plan (lineOfTurn (groupIn plan) (halvesIn plan) (plan .direction) n) r ⌝ }
+{
+    line_at(plan, line_of_turn(plan, n))
+}
+
+// Its number: analysis takes the axes in the other order.
+fn line_of_turn(plan: Plan, n: usize) -> usize
+    requires { ⌜ Planned plan × (n < lineCount (groupIn plan) (halvesIn plan)) ⌝ }
+    ensures { λ r. ⌜ (r ≡ lineOfTurn (groupIn plan) (halvesIn plan) (plan .direction) n) × (r < lineCount (groupIn plan) (halvesIn plan)) ⌝ }
+{
+    let counts = crate::axis_lines::line_counts(plan);
+    if plan.direction == 0 {
+        n
+    } else if n < counts.k {
+        counts.l + counts.h + n
+    } else if n < counts.k + counts.h {
+        counts.l + (n - counts.k)
+    } else {
+        n - (counts.k + counts.h)
+    }
+}
+
+// Line number j.
+fn line_at(plan: Plan, j: usize) -> Line
+    requires { ⌜ Planned plan × (j < lineCount (groupIn plan) (halvesIn plan)) ⌝ }
+    ensures { λ r. ⌜ LineAt plan j r ⌝ }
+{
+    let counts = crate::axis_lines::line_counts(plan);
+    if j < counts.l {
+        along_l(plan, j)
+    } else if j < counts.l + counts.h {
+        crate::axis_lines::along_h(plan, j - counts.l)
+    } else {
+        crate::axis_lines::row_at(plan, j - (counts.l + counts.h))
+    }
+}
+
+// Line y = h (B + 1) + k along l, by the kind of its group.
+fn along_l(plan: Plan, y: usize) -> Line
+    requires { ⌜ Planned plan × (y < alongL (groupIn plan) (halvesIn plan) .count) ⌝ }
+    ensures { λ r. ⌜ Gathered plan (turnOf (alongL (groupIn plan) (halvesIn plan)) (turnedL (groupIn plan) (halvesIn plan) (plan .m) (plan .direction)) y) r ⌝ }
+{
+    let width = (plan.n2 / 2 + 1) as usize;
+    let stride = (plan.n1 as usize) * width;
+    let kind = line_kind(plan.group, y / width);
+    Line {
+        m: plan.m,
+        direction: plan.direction,
+        kind,
+        rotated: cell::places::is_rotated(plan.group, y / width),
+        factors: plan.f3,
+        half: (plan.n3 / 2) as usize,
+        start: y + first_pair(kind) * stride,
+        stride,
+        count: lengths::pair_count(kind, plan.n3),
+    }
+}
+
+// The kind of the line along l at h.
+fn line_kind(group: u32, h: usize) -> u32
+    requires { ⌜ group < 5 ⌝ }
+    ensures { λ r. ⌜ (r < 6) × (kindOf r ≡ lineKind (groupOf group) h) × (r ≡ 1 → ⊥) ⌝ }
+{
+    if group == 0 {
+        0
+    } else if cell::places::is_alternating(group) {
+        3
+    } else if group == 2 {
+        4
+    } else if h % 2 == 0 {
+        4
+    } else {
+        5
+    }
+}
+
+// The first of the W pairs that belongs to a line of the kind.
+fn first_pair(kind: u32) -> usize
+    requires { ⌜ kind < 6 ⌝ }
+    ensures { λ r. ⌜ (r ≡ firstPair (kindOf kind)) × (r ≤ 1) ⌝ }
+{
+    if kind == 5 { 1 } else { 0 }
+}

@@ -1,4 +1,4 @@
-/* Synthesis and analysis of a cell of N x N x N in C: the lines of crates/axes in the same order, gathered into the same scratch, with the
+/* Synthesis and analysis of a cell of N x N x N in C: the lines of crates/volume_transform in the same order, gathered into the same scratch, with the
    same buffers. Nothing is tested: the proved calls test the whole volume first (refusals 7 and 14). */
 #include "lines.h"
 

@@ -14,7 +14,7 @@ import sys
 TOP = os.path.join(os.path.dirname(os.path.abspath(__file__)), "..")
 FILES = ["include/recorder.h", "crates/exported/src/lib.rt", "host/src/ffi.rs"]
 # What the source passes on: the structs of jobs and of their answers.
-PASSED_ON = ["crates/job/src/lib.rt", "crates/answers/src/lib.rt"]
+PASSED_ON = ["crates/job/src/lib.rt", "crates/exported/src/answers.rt"]
 
 # The names of the header's types in the Rattle source and in the tool.
 SOURCE_NAMES = {"Reflection": "recorder_reflection", "GridPoint": "recorder_grid_point", "Axis": "recorder_axis", "Job": "recorder_job",

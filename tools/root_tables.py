@@ -1,12 +1,15 @@
 #!/usr/bin/env python3
-"""The constant tables of the root's powers, as src/lib.rt of crates/cosines (real parts) and crates/roots (the others) has them.
+"""The constant tables of the root's powers and half tangents, as src/powers.rt and src/half_tangents.rt of crates/roots have them.
 
-    python3 tools/root_tables.py        prints the six arrays, for the ends of those files
+    python3 tools/root_tables.py powers          prints the four arrays at the end of powers.rt
+    python3 tools/root_tables.py half_tangents   prints the two arrays at the end of half_tangents.rt
 
 For each prime p = 2,880 c - 1: r = ((a + i)/(a - i))^c for the least a from 1 upward for which r has order 2,880 and
 r^720 = -i, the real and the imaginary parts of r^k for k < 2,880, and the half tangents d/(1 + c) of r^k = c + d i for
 k < 1,440. Nothing that is proved leans on this program: the proofs test the numbers that stand in the source.
 """
+
+import sys
 
 ORDER = 2880
 PRIMES = [86399, 302399]
@@ -48,12 +51,17 @@ def array(name, numbers):
 
 
 def main():
+    tables = sys.argv[1:]
+    if tables not in (["powers"], ["half_tangents"]):
+        sys.exit("usage: root_tables.py powers | half_tangents")
     arrays = []
     for number, p in enumerate(PRIMES, 1):
         row = powers(p, root(p), ORDER)
-        arrays.append(array(f"REAL_{number}", [c for c, d in row]))
-        arrays.append(array(f"IMAGINARY_{number}", [d for c, d in row]))
-        arrays.append(array(f"TANGENT_{number}", [d * pow(1 + c, -1, p) % p for c, d in row[: ORDER // 2]]))
+        if tables == ["powers"]:
+            arrays.append(array(f"REAL_{number}", [c for c, d in row]))
+            arrays.append(array(f"IMAGINARY_{number}", [d for c, d in row]))
+        else:
+            arrays.append(array(f"TANGENT_{number}", [d * pow(1 + c, -1, p) % p for c, d in row[: ORDER // 2]]))
     print("\n".join(arrays), end="")
 
 

@@ -1,5 +1,5 @@
 //! The text of a map, as the map printer prints it: group and lengths, then a line for each stored plane z and each x, rising, with z, x and the
-//! values by y. crates/map_text proves the printer's text in a buffer; this one goes out as it is made, so that no grid needs a second buffer.
+//! values by y. crates/printing proves the printer's text in a buffer; this one goes out as it is made, so that no grid needs a second buffer.
 use crate::progress::Told;
 use crate::recorder::Recorder;
 use std::io::{self, Write};

@@ -3,18 +3,17 @@ use mathlib.Core.Path.{_≡_, refl, sym, _∙_, ap}
 use mathlib.Core.List.{List}
 use Prim.Native.Nat.{ℕ, _*_}
 use lib.Dec.{lit<}
-use Rattle.algebra.specs.Ring.{Ops, pow}
-use Rattle.algebra.proofs.Laws.{pow-add, mul-one, neg-one-mul}
-use Rattle.algebra.proofs.Transform.{pow-zero, pow-suc, pow-mul, sign-even}
+use Rattle.algebra.specs.ring.Ring.{Ops, pow}
+use Rattle.algebra.proofs.ring.Laws.{pow-add, mul-one, neg-one-mul}
+use Rattle.algebra.proofs.fourier.Transform.{pow-zero, pow-suc, pow-mul, sign-even}
 use Rattle.numbers.specs.declared.Pair.{Pair}
 use Rattle.numbers.specs.Value.{Value, field, i, res, real, pairOf}
 use Rattle.roots.specs.Root.{entryAt, tableRoot, RootTable}
 use Rattle.numbers.proofs.Values.{field-ring}
-use Rattle.butterflies.specs.Outer.{outerAt}
-use Rattle.butterflies.specs.Butterfly.{Butterfly, evenPart, oddPart}
+use Rattle.butterflies.specs.Butterflies.{outerAt, Butterfly, evenPart, oddPart}
 use Rattle.butterflies.proofs.Cases.{below-2, below-3, below-4, below-5}
 use Rattle.butterflies.proofs.OuterSums.{outer-powers, two-0, two-1, three-0, three-1, three-2, four-0, four-1, four-2, four-3, five-0, five-1, five-2, five-3, five-4}
-use Rattle.butterflies.proofs.quarter_turns.Turns.{half-turn, power-parts, mate-parts}
+use Rattle.butterflies.proofs.quarter_turn.Powers.{half-turn, power-parts, mate-parts}
 
 module _ (m : ℕ) where
   open Ops (field m) using (add as _⊕_, mul as _⊗_, neg as ⊖_, one as 𝟙)
@@ -89,11 +88,11 @@ module _ (m : ℕ) where
 
     -- ---- radix 4
 
-    abbrev turned-4 : Value m
-    turned-4 = pow (field m) W 720 ⊗ (X 1 ⊕ ⊖ X 3)
+    abbrev quarter-4 : Value m
+    quarter-4 = pow (field m) W 720 ⊗ (X 1 ⊕ ⊖ X 3)
 
-    pub four-butterfly : y 0 ≡ pairOf ((X 0 ⊕ X 2) ⊕ (X 1 ⊕ X 3)) → y 1 ≡ pairOf ((X 0 ⊕ ⊖ X 2) ⊕ turned-4)
-        → y 2 ≡ pairOf ((X 0 ⊕ X 2) ⊕ ⊖ (X 1 ⊕ X 3)) → y 3 ≡ pairOf ((X 0 ⊕ ⊖ X 2) ⊕ ⊖ turned-4) → Butterfly m W 4 X y
+    pub four-butterfly : y 0 ≡ pairOf ((X 0 ⊕ X 2) ⊕ (X 1 ⊕ X 3)) → y 1 ≡ pairOf ((X 0 ⊕ ⊖ X 2) ⊕ quarter-4)
+        → y 2 ≡ pairOf ((X 0 ⊕ X 2) ⊕ ⊖ (X 1 ⊕ X 3)) → y 3 ≡ pairOf ((X 0 ⊕ ⊖ X 2) ⊕ ⊖ quarter-4) → Butterfly m W 4 X y
     four-butterfly e0 e1 e2 e3 = record {
       sums = below-4 (λ c. y c ≡ pairOf (outerAt (field m) W 4 X c))
           (e0 ∙ ap pairOf (sym (outer-powers (field-ring m) W 4 X 0 cycle ∙ four-0 (field-ring m) P X p0 _ p1 p2 p3)))

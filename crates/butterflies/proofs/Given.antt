@@ -2,10 +2,9 @@
 use Prim.Native.Nat.{ℕ, _<_}
 use native.Mathlib.Omega.{arith}
 use Rattle.numbers.specs.declared.Accumulator.{Accumulator}
-use Rattle.numbers.specs.Accumulator.{Accumulated}
-use Rattle.numbers.specs.Unreduced.{meant, Room}
+use Rattle.numbers.specs.Unreduced.{Accumulated, meant, Room}
 use Rattle.numbers.proofs.unreduced.Unreduced.{counted-one, rooms}
-use Rattle.butterflies.specs.Butterfly.{AllRoom}
+use Rattle.butterflies.specs.Butterflies.{AllRoom}
 
 module _ {B : ℕ} {x : ℕ → Accumulator} (h : AllRoom B x) (b : ℕ) (l : b < B) where
   pub given : (m : ℕ) → Accumulated m 1 (x b) (meant m (x b))

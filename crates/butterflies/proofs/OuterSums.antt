@@ -2,11 +2,12 @@
 use mathlib.Core.Path.{_≡_, refl, sym, _∙_, ap}
 use mathlib.Core.List.{[], _∷_}
 use Prim.Native.Nat.{ℕ, _*_, _/_, _%_}
-use Rattle.algebra.specs.Ring.{Ops, CRing, pow, sum}
-use Rattle.algebra.proofs.Solver.{ring, quote}
-use Rattle.algebra.proofs.Sums.{sum-cong}
-use Rattle.algebra.proofs.Transform.{pow-mul, pow-mod}
-use Rattle.butterflies.specs.Outer.{e, outerAt}
+use Rattle.algebra.specs.ring.Ring.{Ops, pow, sum}
+use Rattle.algebra.specs.ring.RingLaws.{CRing}
+use Rattle.algebra.proofs.ring.Solver.{ring, quote}
+use Rattle.algebra.proofs.fourier.Sums.{sum-cong}
+use Rattle.algebra.proofs.fourier.Transform.{pow-mul, pow-mod}
+use Rattle.butterflies.specs.Butterflies.{e, outerAt}
 
 module _ {R : Type 0} {𝓞 : Ops R} (𝓡 : CRing 𝓞) where
   open Ops 𝓞 using (add as _⊕_, mul as _⊗_, neg as ⊖_, zer as 𝟘, one as 𝟙)

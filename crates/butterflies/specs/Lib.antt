@@ -1,4 +1,1 @@
-pub mod Outer
-pub mod Butterfly
-pub mod Places
-pub mod Summed
+pub mod Butterflies

@@ -1,26 +1,24 @@
 // The butterflies of equation (3) of document 001: the outer sums of B values, for B of 2, 3, 4 and 5.
 //
-// They are functions of values: a step of the transform (crate `radices`) says where those stand. A butterfly takes values that are not
+// They are functions of values: a step of the transform (module `radix`) says where those stand. A butterfly takes values that are not
 // reduced, such as products with their factors e(b s/AB), adds in 64 bits, and reduces each of its results once.
 //
 // e(1/2) is -1 and e(1/4) is i or -i, so that radix 2 and 4 need no product. At radix 3 and 5 the powers of w = e(1/B) come in conjugate
 // pairs, w^(B - k) = c - i s where w^k = c + i s: the values a and b that they multiply enter every sum as c (a + b) and s i (a - b), and
 // the sums 1 and B - 1, or 2 and 3, differ in the sign of the second.
-pub mod quarter_turns; // quarter_turns.rt
-pub mod twiddles; // twiddles.rt
-pub mod radices; // radices.rt
+pub mod quarter_turn; // quarter_turn.rt
+pub mod twiddle; // twiddle.rt
+pub mod radix; // radix.rt
 
 use numbers::Accumulator;
 use numbers::Pair;
 ghost use mathlib.Core.Path.{_≡_};
 ghost use Prim.Native.Nat.{ℕ, _+_, _*_, _≤_};
-ghost use Rattle.algebra.specs.Ring.{Ops, pow};
-ghost use Rattle.numbers.specs.Prime.{IsModulus};
-ghost use Rattle.numbers.specs.Value.{Value, field, res, real, pairOf};
-ghost use Rattle.numbers.specs.Accumulator.{Accumulated};
+ghost use Rattle.algebra.specs.ring.Ring.{Ops, pow};
+ghost use Rattle.numbers.specs.Value.{IsModulus, Value, field, res, real, pairOf};
+ghost use Rattle.numbers.specs.Unreduced.{Accumulated, meant, Room};
 ghost use Rattle.roots.specs.Root.{tableRoot, RootTable};
-ghost use Rattle.numbers.specs.Unreduced.{meant, Room};
-ghost use Rattle.butterflies.specs.Butterfly.{ofTwo, ofThree, ofFour, ofFive, ofTwoSums, ofThreeSums, ofFourSums, ofFiveSums, AllRoom, Butterfly, evenPart, oddPart};
+ghost use Rattle.butterflies.specs.Butterflies.{ofTwo, ofThree, ofFour, ofFive, ofTwoSums, ofThreeSums, ofFourSums, ofFiveSums, AllRoom, Butterfly, evenPart, oddPart};
 
 // What a butterfly takes: values that are not reduced.
 pub struct TwoSums {
@@ -86,7 +84,8 @@ pub fn two(m: u32, v: TwoSums) -> TwoPairs
 fn both_ways(m: u32, x: Accumulator, y: Accumulator) -> TwoPairs
     requires { ⌜ IsModulus m ⌝ }
     requires { ⌜ Room 500000000000000000 x × Room 444158510417000000 y ⌝ }
-    ensures { λ r. ⌜ ((n k : ℕ) (a b : Value m) → Accumulated m n x a → Accumulated m k y b → (r .x0 ≡ pairOf (field m .add a b)) × (r .x1 ≡ pairOf (field m .add a (field m .neg b)))) ⌝ }
+    ensures { λ r. ⌜ ((n k : ℕ) (a b : Value m) → Accumulated m n x a → Accumulated m k y b → (r .x0 ≡ pairOf (field m .add a b))
+        × (r .x1 ≡ pairOf (field m .add a (field m .neg b)))) ⌝ }
 {
     TwoPairs {
         x0: numbers::unreduced::total(m, x, y),
@@ -103,7 +102,7 @@ pub fn three<'a>(m: u32, re: &'a [u32; 2880], im: &'a [u32; 2880], v: ThreeSums)
     let w = roots::root_at(re, im, 960);
     let t = numbers::unreduced::sum(v.x1, v.x2);
     let even = numbers::unreduced::sum(v.x0, numbers::unreduced::scaled(w.re, t));
-    let odd = numbers::unreduced::scaled(w.im, crate::quarter_turns::turned(v.x1, v.x2));
+    let odd = numbers::unreduced::scaled(w.im, crate::quarter_turn::difference_times_i(v.x1, v.x2));
     ThreePairs {
         x0: numbers::unreduced::total(m, v.x0, t),
         mates: both_ways(m, even, odd),
@@ -124,7 +123,7 @@ pub fn four<'a>(m: u32, re: &'a [u32; 2880], im: &'a [u32; 2880], v: FourSums) -
     let far = both_ways(
         m,
         numbers::unreduced::apart(v.x0, v.x2),
-        crate::quarter_turns::quarter_turned(m, re, im, v.x1, v.x3),
+        crate::quarter_turn::difference_times_quarter(m, re, im, v.x1, v.x3),
     );
     FourPairs { near, far }
 }
@@ -158,8 +157,10 @@ fn conjugates(
 ) -> TwoPairs
     requires { ⌜ IsModulus m × (w .re ≤ 302399) × (w .im ≤ 302399) × (z .re ≤ 302399) × (z .im ≤ 302399) ⌝ }
     requires { ⌜ Room 182890310402 a × Room 182890310402 b × Room 182890310402 c × Room 182890310402 d × Room 182890310402 e ⌝ }
-    ensures { λ r. ⌜ (r .x0 ≡ pairOf (field m .add (evenPart m w z (meant m a) (meant m b) (meant m c) (meant m d) (meant m e)) (oddPart m w z (meant m b) (meant m c) (meant m d) (meant m e))))
-        × (r .x1 ≡ pairOf (field m .add (evenPart m w z (meant m a) (meant m b) (meant m c) (meant m d) (meant m e)) (field m .neg (oddPart m w z (meant m b) (meant m c) (meant m d) (meant m e))))) ⌝ }
+    ensures { λ r. ⌜ (r .x0 ≡ pairOf (field m .add (evenPart m w z (meant m a) (meant m b) (meant m c) (meant m d) (meant m e))
+        (oddPart m w z (meant m b) (meant m c) (meant m d) (meant m e))))
+        × (r .x1 ≡ pairOf (field m .add (evenPart m w z (meant m a) (meant m b) (meant m c) (meant m d) (meant m e))
+        (field m .neg (oddPart m w z (meant m b) (meant m c) (meant m d) (meant m e))))) ⌝ }
 {
     let even = numbers::unreduced::sum(
         a,
@@ -172,9 +173,9 @@ fn conjugates(
     );
     let odd = weighed(
         w.im,
-        crate::quarter_turns::turned(b, e),
+        crate::quarter_turn::difference_times_i(b, e),
         z.im,
-        crate::quarter_turns::turned(c, d),
+        crate::quarter_turn::difference_times_i(c, d),
     );
     both_ways(m, even, odd)
 }
@@ -182,7 +183,8 @@ fn conjugates(
 // c t + d s.
 fn weighed(c: u32, t: Accumulator, d: u32, s: Accumulator) -> Accumulator
     requires { ⌜ (c ≤ 302399) × (d ≤ 302399) × Room 731561241608 t × Room 731561241608 s ⌝ }
-    ensures { λ r. ⌜ ((m n k : ℕ) (x y : Value m) → Accumulated m n t x → Accumulated m k s y → Accumulated m (302399 * n + 302399 * k) r (field m .add (field m .mul (real m (res m c)) x) (field m .mul (real m (res m d)) y))) ⌝ }
+    ensures { λ r. ⌜ ((m n k : ℕ) (x y : Value m) → Accumulated m n t x → Accumulated m k s y
+        → Accumulated m (302399 * n + 302399 * k) r (field m .add (field m .mul (real m (res m c)) x) (field m .mul (real m (res m d)) y))) ⌝ }
 {
     numbers::unreduced::sum(
         numbers::unreduced::scaled(c, t),

@@ -7,21 +7,20 @@ use Prim.Native.Nat.{ℕ, _*_, _<_}
 use native.Mathlib.Omega.{arith}
 use lib.Dec.{T, eqb, eqb→eq}
 use lib.ListN.{length, getD}
-use Rattle.algebra.specs.Gauss.{gauss}
-use Rattle.algebra.specs.Residue.{residues}
-use Rattle.algebra.specs.Kinds.{Kind.symmetric, Kind.antisymmetric}
-use Rattle.algebra.specs.Cell.{J, Inside, Group, P1, P2₁, Pm, Pa, P2₁2₁2₁, im, imp, Cell, factorActs}
-use Rattle.algebra.specs.Cell as Cell
-use Rattle.algebra.specs.CellSteps.{Lawful}
-use Rattle.algebra.specs.CellPack.{even, PackedIn}
-use Rattle.algebra.specs.CellTests.{consistentFactorsT}
-use Rattle.algebra.proofs.Bool.{and-l, and-r, and-i, imply-iff}
-use Rattle.algebra.proofs.CellSym.{im-inside}
-use Rattle.algebra.proofs.CellTests.{Positive, every-place-at, every-place-by, factors-test}
-use Rattle.algebra.proofs.CellPack.{pack-iff}
+use Rattle.algebra.specs.ring.Gauss.{gauss}
+use Rattle.algebra.specs.ring.Residue.{residues}
+use Rattle.algebra.specs.lines.Kinds.{Kind.symmetric, Kind.antisymmetric}
+use Rattle.algebra.specs.cells.Cell.{J, Inside, Group, P1, P2₁, Pm, Pa, P2₁2₁2₁, imageOf, impliedValue, Cell, factorActs}
+use Rattle.algebra.specs.cells.Cell as Cell
+use Rattle.algebra.specs.cells.CellSteps.{Lawful}
+use Rattle.algebra.specs.cells.CellPack.{even, PackedIn}
+use Rattle.algebra.specs.cells.StoredTests.{consistentFactorsT}
+use Rattle.algebra.proofs.ring.Bool.{and-l, and-r, and-i, imply-iff}
+use Rattle.algebra.proofs.cells.CellSym.{image-inside}
+use Rattle.algebra.proofs.cells.CellTests.{Positive, every-place-at, every-place-by, factors-test}
+use Rattle.algebra.proofs.cells.CellPack.{pack-iff}
 use Rattle.numbers.specs.declared.Pair.{Pair}
-use Rattle.numbers.specs.Prime.{prime}
-use Rattle.numbers.specs.Value.{Value, field, conj, ring, half, valueOf, pairOf, Small}
+use Rattle.numbers.specs.Value.{prime, Value, field, conj, ring, half, valueOf, pairOf, Small}
 use Rattle.numbers.proofs.Residues.{res-ring, val-res}
 use Rattle.numbers.proofs.Primes.{prime-pos}
 use Rattle.numbers.proofs.Values.{pair-path, pair-value, field-ring, field-star}
@@ -29,7 +28,7 @@ use Rattle.numbers.proofs.Parts.{half-residue}
 use Rattle.slices.specs.Pairs.{at, Below}
 use Rattle.slices.proofs.Bounds.{small-at}
 use Rattle.cell.specs.Volume.{firstPair, pairPlace, rows, columns, volumeLength, factorsIn, packFactors}
-use Rattle.cell.specs.Consistency.{sameValue, zeroPair, zeroEnds, consistentFactors, FactorsConsistent}
+use Rattle.cell.specs.Consistency.{sameValue, pairIsZero, zeroEnds, consistentFactors, FactorsConsistent}
 use Rattle.cell.proofs.Tests.{true-iff, eq→eqb}
 use Rattle.cell.proofs.VolumeLayout.{is-volume}
 use Rattle.cell.proofs.Reading.{same-iff, pairsIn, lineAt, EmptyEnds, stored-unpacked, empty-ends, packed-is, packed-holds, read-packed, length-factors, below-factors}
@@ -44,8 +43,8 @@ zero-pair m s = (
 )
 
 module _ (a : J) (m : ℕ) (v : List ℕ) (small : Below (prime m) v) where
-  zero-pair-test : (g : Group) (w h k : ℕ) → T (zeroPair g a m v w h k) ↔ (pairsIn g a m v w h k ≡ field m .zer)
-  unfolding zeroPair at
+  zero-pair-test : (g : Group) (w h k : ℕ) → T (pairIsZero g a m v w h k) ↔ (pairsIn g a m v w h k ≡ field m .zer)
+  unfolding pairIsZero at
   zero-pair-test g w h k = let z = zero-pair m (small-at (prime m) v (pairPlace g a w h k) small) in (
     λ t. z .1 (eqb→eq _ _ (and-l (eqb (getD v (2 * pairPlace g a w h k) 0) 0) _ t), eqb→eq _ _ (and-r (eqb (getD v (2 * pairPlace g a w h k) 0) 0) _ t)),
     λ e. and-i (eqb (getD v (2 * pairPlace g a w h k) 0) 0) _ (eq→eqb (z .0 e .0)) (eq→eqb (z .0 e .1)),
@@ -60,8 +59,8 @@ module _ (a : J) (m : ℕ) (v : List ℕ) (small : Below (prime m) v) where
   ends-iff P2₁ h k = (λ t e. absurd (omega (arith, ap firstPair e)), λ f. tt)
   ends-iff Pm h k = (λ t e. absurd (omega (arith, ap firstPair e)), λ f. tt)
   ends-iff Pa h k = (
-    λ t e. let z = imply-iff (not (even h)) _ .0 t (mirror-ends (even h) .1 e) in (zero-pair-test Pa 0 h k .0 (and-l (zeroPair Pa a m v 0 h k) _ z), zero-pair-test Pa (a .2) h k .0 (and-r (zeroPair Pa a m v 0 h k) _ z)),
-    λ f. imply-iff (not (even h)) _ .1 (λ t. let e = f (mirror-ends (even h) .0 t) in and-i (zeroPair Pa a m v 0 h k) _ (zero-pair-test Pa 0 h k .1 (e .0)) (zero-pair-test Pa (a .2) h k .1 (e .1))),
+    λ t e. let z = imply-iff (not (even h)) _ .0 t (mirror-ends (even h) .1 e) in (zero-pair-test Pa 0 h k .0 (and-l (pairIsZero Pa a m v 0 h k) _ z), zero-pair-test Pa (a .2) h k .0 (and-r (pairIsZero Pa a m v 0 h k) _ z)),
+    λ f. imply-iff (not (even h)) _ .1 (λ t. let e = f (mirror-ends (even h) .0 t) in and-i (pairIsZero Pa a m v 0 h k) _ (zero-pair-test Pa 0 h k .1 (e .0)) (zero-pair-test Pa (a .2) h k .1 (e .1))),
   )
   ends-iff P2₁2₁2₁ h k = (λ t e. absurd (omega (arith, ap firstPair e)), λ f. tt)
 
@@ -74,7 +73,7 @@ module _ (g : Group) (a : J) (long : Positive a) (m : ℕ) where
 
   -- cells that are equal inside
   pub lawful-cong : (F E : Cell (Value m)) → ((j : J) → Inside a j → Cell.at E j ≡ Cell.at F j) → Lawful (field m) (conj m) a g F → Lawful (field m) (conj m) a g E
-  lawful-cong F E e o s ms j n = e (im a s j) (im-inside a s j n) ∙ o s ms j n ∙ ap (imp (field m) (conj m) s j) (sym (e j n))
+  lawful-cong F E e o s ms j n = e (imageOf a s j) (image-inside a s j n) ∙ o s ms j n ∙ ap (impliedValue (field m) (conj m) s j) (sym (e j n))
 
   pub pack-cong : (F E : Cell (Value m)) → ((j : J) → Inside a j → Cell.at E j ≡ Cell.at F j) → Lawful (field m) (conj m) a g F → packFactors g a m E ≡ packFactors g a m F
   pack-cong F E e o = let o′ = lawful-cong F E e o in

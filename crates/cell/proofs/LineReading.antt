@@ -8,23 +8,24 @@ use native.Mathlib.Omega.{arith}
 use native.Mathlib.Decide.{ℕ-discrete}
 use lib.Dec.{T, T-not, eqb, eqb→eq, eqb-refl}
 use borrow.Author.Tests.{lt-ltb, le-ltb, le-leb}
-use Rattle.algebra.specs.Ring.{Ops, CRing, pow}
-use Rattle.algebra.specs.Gauss.{gauss, conj, imag}
-use Rattle.algebra.specs.Residue.{residues}
-use Rattle.algebra.specs.Line.{unit, unfold-by, pack-by}
-use Rattle.algebra.specs.Kinds.{Kind, Kind.plain, Kind.alternating, Kind.symmetric, Kind.antisymmetric, slots, unfoldBefore, packBefore}
-use Rattle.algebra.specs.CellPack.{even, partOf, ofPart, packAlt, unpackAlt}
-use Rattle.algebra.proofs.Paths.{pair}
-use Rattle.algebra.proofs.Bool.{split}
-use Rattle.algebra.proofs.Laws.{along}
-use Rattle.algebra.proofs.Solver.{ring, quote}
-use Rattle.algebra.proofs.Unfold.{unfold-zero, unfold-low, unfold-middle, unfold-high}
+use Rattle.algebra.specs.ring.Ring.{Ops, pow}
+use Rattle.algebra.specs.ring.RingLaws.{CRing}
+use Rattle.algebra.specs.ring.Gauss.{gauss, conj, imag}
+use Rattle.algebra.specs.ring.Residue.{residues}
+use Rattle.algebra.specs.lines.Line.{unit, unfold-by, pack-by}
+use Rattle.algebra.specs.lines.Kinds.{Kind, Kind.plain, Kind.alternating, Kind.symmetric, Kind.antisymmetric, slots, unfoldBefore, packBefore}
+use Rattle.algebra.specs.cells.CellPack.{even, partOf, ofPart, packAlt, unpackAlt}
+use Rattle.algebra.proofs.ring.Paths.{pair}
+use Rattle.algebra.proofs.ring.Bool.{split}
+use Rattle.algebra.proofs.ring.Laws.{along}
+use Rattle.algebra.proofs.ring.Solver.{ring, quote}
+use Rattle.algebra.proofs.lines.Unfold.{unfold-zero, unfold-low, unfold-middle, unfold-high}
 use Rattle.numbers.specs.Value.{Value, field, i, half, real, value}
 use Rattle.numbers.specs.Value as Value
 use Rattle.numbers.proofs.Residues.{res-ring}
 use Rattle.numbers.proofs.Parts.{re-value, im-value}
 use Rattle.cell.specs.Volume.{firstPair, packed}
-use Rattle.algebra.specs.Cell.{J, Group}
+use Rattle.algebra.specs.cells.Cell.{J, Group}
 
 -- the places of the stored half: its two ends, and those between
 pub by-half : (c : ℕ) (P : ℕ → Type 0) → P 0 → P c → ((l : ℕ) → 0 < l → l < c → P l) → (l : ℕ) → l < suc c → P l

@@ -9,17 +9,17 @@ use native.Mathlib.Omega.{arith}
 use lib.Dec.{T, eqb, eqb→eq, lt→ltb, ltb→lt}
 use lib.ListN.{length, getD}
 use borrow.Author.Tests.{lt-ltb}
-use Rattle.algebra.specs.Orbit.{Mem, Consistent, cellOf}
-use Rattle.algebra.specs.Cell.{J, Inside, Sym, sym as operation, Group, P1, P2₁, Pm, Pa, P2₁2₁2₁, ops, pim, pimp, star, planes, StoredPoint, prep, Cell, mapActs}
-use Rattle.algebra.specs.Cell as Cell
-use Rattle.algebra.specs.CellTests.{every, everyPlace, storedPointT}
-use Rattle.algebra.proofs.Bool.{and-l, and-r, and-i, imply-iff, every-at, every-by}
-use Rattle.algebra.proofs.Orbits as O
-use Rattle.algebra.proofs.CellSym.{pim-one, pim-inside}
-use Rattle.algebra.proofs.CellGroup.{map-action, map-closed, prep-in, prep-st, prep-plain}
-use Rattle.algebra.proofs.CellTests.{Positive, every-place-at, every-place-by}
-use Rattle.numbers.specs.Prime.{prime}
-use Rattle.numbers.specs.Value.{Value, field, conj, real, value}
+use Rattle.algebra.specs.orbits.Orbit.{Mem}
+use Rattle.algebra.specs.orbits.OrbitLaws.{Consistent, cellOf}
+use Rattle.algebra.specs.cells.Cell.{J, Inside, Sym, sym as operation, Group, P1, P2₁, Pm, Pa, P2₁2₁2₁, ops, pointImage, impliedDensity, star, planes, StoredPoint, pointOperation, Cell, mapActs}
+use Rattle.algebra.specs.cells.Cell as Cell
+use Rattle.algebra.specs.cells.CellTests.{every, everyPlace, storedPointT}
+use Rattle.algebra.proofs.ring.Bool.{and-l, and-r, and-i, imply-iff, every-at, every-by}
+use Rattle.algebra.proofs.orbits.Orbits as O
+use Rattle.algebra.proofs.cells.CellSym.{point-one, point-inside}
+use Rattle.algebra.proofs.cells.CellGroup.{map-action, map-closed, point-operation-in, point-operation-stored, point-operation-plain}
+use Rattle.algebra.proofs.cells.CellTests.{Positive, every-place-at, every-place-by}
+use Rattle.numbers.specs.Value.{prime, Value, field, conj, real, value}
 use Rattle.numbers.proofs.Residues.{val-res, res-val}
 use Rattle.numbers.proofs.Values.{field-ring, field-star}
 use Rattle.slices.specs.Pairs.{Below}
@@ -32,8 +32,8 @@ use Rattle.cell.proofs.Tests.{true-iff, eq→eqb}
 abbrev plainT : Sym → Bool
 plainT (operation c f g h p q r) = not c
 
-pub ops-plain : {R : Type 0} (star′ : R → R) (g : Group) (s : Sym) → Mem s (ops g) → (x : R) → pimp star′ s x ≡ x
-unfolding every pimp star
+pub ops-plain : {R : Type 0} (star′ : R → R) (g : Group) (s : Sym) → Mem s (ops g) → (x : R) → impliedDensity star′ s x ≡ x
+unfolding every impliedDensity star
 ops-plain star′ g s ms x = plain s (every-at (ops g) plainT s (tables g) ms)
   where
     tables : (g : Group) → T (every (ops g) plainT)
@@ -43,32 +43,32 @@ ops-plain star′ g s ms x = plain s (every-at (ops g) plainT s (tables g) ms)
     tables Pa = tt
     tables P2₁2₁2₁ = tt
 
-    plain : (s : Sym) → T (plainT s) → pimp star′ s x ≡ x
+    plain : (s : Sym) → T (plainT s) → impliedDensity star′ s x ≡ x
     plain (operation false f g h p q r) t = refl
     plain (operation true f g h p q r) t = absurd t
 
 -- a point of a stored plane is read where it is
-pub own-plane : (g : Group) (a x : J) → StoredPoint g a x → pim a (prep g a x) x ≡ x
-unfolding prep
-own-plane g a x h = rw (lt-ltb (x .2) (planes g (a .2)) h) (pim-one a x)
+pub own-plane : (g : Group) (a x : J) → StoredPoint g a x → pointImage a (pointOperation g a x) x ≡ x
+unfolding pointOperation
+own-plane g a x h = rw (lt-ltb (x .2) (planes g (a .2)) h) (point-one a x)
 
 module _ (g : Group) (a : J) (m : ℕ) where
   -- the value of a point's own number
   abbrev pub pointIn : List ℕ → J → Value m
   pointIn v x = value m (getD v (mapPlace g a x) 0) 0
 
-  pub map-read : (v : List ℕ) (x : J) → Cell.at (mapIn g a m v) x ≡ cellOf (mapActs (field m) (conj m) a) (prep g a) (pointIn v) x
+  pub map-read : (v : List ℕ) (x : J) → Cell.at (mapIn g a m v) x ≡ cellOf (mapActs (field m) (conj m) a) (pointOperation g a) (pointIn v) x
   unfolding mapIn cellOf mapActs
-  map-read v x = sym (prep-plain (conj m) g a x _)
+  map-read v x = sym (point-operation-plain (conj m) g a x _)
 
   -- the map of a cell of real values that obeys the group is read as that cell
   pub read-map : (M : Cell (Value m)) → RealMap g a m M → ObeysGroup g a m M → (x : J) → Inside a x → Cell.at (mapIn g a m (packMap g a m M)) x ≡ Cell.at M x
   unfolding mapIn
   read-map M r o x n =
-      let y = pim a (prep g a x) x in
-      let ny = pim-inside a (prep g a x) x n in
-      ap (λ q. value m q 0) (map-number g a m M (y .0) (y .1) (y .2) (ny .0) (ny .1) (prep-st g a x n))
-      ∙ ap (real m) (res-val m _) ∙ sym (r y ny) ∙ o (prep g a x) (prep-in g a x) x n ∙ prep-plain (conj m) g a x _
+      let y = pointImage a (pointOperation g a x) x in
+      let ny = point-inside a (pointOperation g a x) x n in
+      ap (λ q. value m q 0) (map-number g a m M (y .0) (y .1) (y .2) (ny .0) (ny .1) (point-operation-stored g a x n))
+      ∙ ap (real m) (res-val m _) ∙ sym (r y ny) ∙ o (pointOperation g a x) (point-operation-in g a x) x n ∙ point-operation-plain (conj m) g a x _
 
   pub read-real : (v : List ℕ) → RealMap g a m (mapIn g a m v)
   unfolding mapIn
@@ -78,7 +78,7 @@ module _ (g : Group) (a : J) (m : ℕ) (v : List ℕ) (len : length v ≡ volume
   points-consistent : T (everyPlace (rows g a) (2 * a .1) (layers g a) (pointAgrees g a v)) → Consistent (mapActs (field m) (conj m) a) (Inside a) (StoredPoint g a) (ops g) (pointIn g a m v)
   unfolding mapActs
   points-consistent t s ms x n hx hy =
-      ap (λ q. value m q 0) (eqb→eq _ _ (imply-iff (storedPointT g a (pim a s x)) _ .0 (every-at (ops g) _ s (every-place-at (rows g a) (2 * a .1) (layers g a) (pointAgrees g a v) x t (n .0) (n .1) hx) ms) (lt→ltb _ _ hy)))
+      ap (λ q. value m q 0) (eqb→eq _ _ (imply-iff (storedPointT g a (pointImage a s x)) _ .0 (every-at (ops g) _ s (every-place-at (rows g a) (2 * a .1) (layers g a) (pointAgrees g a v) x t (n .0) (n .1) hx) ms) (lt→ltb _ _ hy)))
       ∙ sym (ops-plain (conj m) g s ms _)
 
   -- what passes is the map that is read, with its zeros
@@ -91,9 +91,9 @@ module _ (g : Group) (a : J) (m : ℕ) (v : List ℕ) (len : length v ≡ volume
 
       obeys : ObeysGroup g a m (mapIn g a m v)
       obeys s ms x n =
-          map-read g a m v (pim a s x)
-          ∙ O.consistent-obeys (map-action (field-ring m) (field-star m) a) (ops g) (map-closed (field-ring m) (field-star m) a g) (StoredPoint g a) (prep g a) (λ x n. prep-in g a x) (λ x n. prep-st g a x n) (pointIn g a m v) (points-consistent (and-l points _ t)) s ms x n
-          ∙ ap (pimp (conj m) s) (sym (map-read g a m v x))
+          map-read g a m v (pointImage a s x)
+          ∙ O.consistent-obeys (map-action (field-ring m) (field-star m) a) (ops g) (map-closed (field-ring m) (field-star m) a g) (StoredPoint g a) (pointOperation g a) (λ x n. point-operation-in g a x) (λ x n. point-operation-stored g a x n) (pointIn g a m v) (points-consistent (and-l points _ t)) s ms x n
+          ∙ ap (impliedDensity (conj m) s) (sym (map-read g a m v x))
 
       numbers : (x y z : ℕ) → x < rows g a → y < 2 * a .1 → z < layers g a → getD v (mapPlace g a (x, y, z)) 0 ≡ (mapIn g a m v x y z) .0 .val
       numbers x y z lx ly lz = ap (λ q. getD v (mapPlace g a q) 0) (sym (own-plane g a (x, y, z) lz)) ∙ sym (val-res m (small .each _))
@@ -123,14 +123,14 @@ module _ (g : Group) (a : J) (long : Positive a) (m : ℕ) where
   unfolding consistentMap
   map-passes M o =
       and-i (everyPlace (rows g a) (2 * a .1) (layers g a) (pointAgrees g a (packMap g a m M))) _
-      (every-place-by _ _ _ _ (λ x lx ly lz. every-by (ops g) _ (λ s ms. imply-iff (storedPointT g a (pim a s x)) _ .1 (λ t. eq→eqb (same s ms x (lx, ly, layers-fit g a (long .2) (x .2) lz) lz (ltb→lt _ _ t))))))
+      (every-place-by _ _ _ _ (λ x lx ly lz. every-by (ops g) _ (λ s ms. imply-iff (storedPointT g a (pointImage a s x)) _ .1 (λ t. eq→eqb (same s ms x (lx, ly, layers-fit g a (long .2) (x .2) lz) lz (ltb→lt _ _ t))))))
       (every-place-by _ _ _ _ (λ x lx ly lz. let e = map-end g a m M (x .0) (x .2) lx lz in and-i (eqb (getD (packMap g a m M) (mapPlace g a (x .0, 2 * a .1, x .2)) 0) 0) _ (eq→eqb (e .0)) (eq→eqb (e .1))))
     where
       number : (x : J) → Inside a x → StoredPoint g a x → getD (packMap g a m M) (mapPlace g a x) 0 ≡ (Cell.at M x) .0 .val
       number x n h = map-number g a m M (x .0) (x .1) (x .2) (n .0) (n .1) h
 
-      same : (s : Sym) → Mem s (ops g) → (x : J) → Inside a x → StoredPoint g a x → StoredPoint g a (pim a s x) → getD (packMap g a m M) (mapPlace g a (pim a s x)) 0 ≡ getD (packMap g a m M) (mapPlace g a x) 0
-      same s ms x n hx hy = number (pim a s x) (pim-inside a s x n) hy ∙ ap (λ q. q .0 .val) (o s ms x n ∙ ops-plain (conj m) g s ms _) ∙ sym (number x n hx)
+      same : (s : Sym) → Mem s (ops g) → (x : J) → Inside a x → StoredPoint g a x → StoredPoint g a (pointImage a s x) → getD (packMap g a m M) (mapPlace g a (pointImage a s x)) 0 ≡ getD (packMap g a m M) (mapPlace g a x) 0
+      same s ms x n hx hy = number (pointImage a s x) (point-inside a s x n) hy ∙ ap (λ q. q .0 .val) (o s ms x n ∙ ops-plain (conj m) g s ms _) ∙ sym (number x n hx)
 
   module _ (v : List ℕ) (len : length v ≡ volumeLength g a) (small : Below (prime m) v) where
     pub map-consistent : (consistentMap g a v ≡ true) ↔ MapConsistent g a m v

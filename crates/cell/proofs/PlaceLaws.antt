@@ -9,18 +9,18 @@ use native.Mathlib.Omega.{arith}
 use lib.ListN.{getD}
 use lib.Dec.{eqb, leb}
 use borrow.Author.Tests.{eq-eqb, ne-eqb, eqb-true, eqb-false, lt-ltb, le-ltb}
-use Rattle.algebra.specs.Kinds.{Kind}
-use Rattle.algebra.specs.Cell.{J, Inside, Sym, Group, P1, P2₁, Pm, Pa, P2₁2₁2₁, one, ops, negI, pim, planes, span, prep, planeSym}
-use Rattle.algebra.specs.CellPack.{even}
-use Rattle.algebra.proofs.Laws.{along}
-use Rattle.algebra.proofs.CellSym.{pim-one}
-use Rattle.algebra.proofs.CellGroup.{prep-st}
+use Rattle.algebra.specs.lines.Kinds.{Kind}
+use Rattle.algebra.specs.cells.Cell.{J, Inside, Sym, Group, P1, P2₁, Pm, Pa, P2₁2₁2₁, one, ops, negI, pointImage, planes, span, pointOperation, planeSym}
+use Rattle.algebra.specs.cells.CellPack.{even}
+use Rattle.algebra.proofs.ring.Laws.{along}
+use Rattle.algebra.proofs.cells.CellSym.{point-one}
+use Rattle.algebra.proofs.cells.CellGroup.{point-operation-stored}
 use Rattle.cell.specs.Volume.{groupOf, alternates, lineKind, layers, rows, columns, volumeLength, pairPlace, mapPlace, pairNumbers, lineNumbers, numbersRead, densityPlace}
 use Rattle.cell.specs.declared.operations.Index.{Index}
 use Rattle.cell.specs.declared.operations.Point.{Point}
 use Rattle.cell.specs.declared.places.Run.{Run}
 use Rattle.cell.specs.Operations.{halvesOf, tripleOf, pointOf, Length, Sizes, Within, PointWithin}
-use Rattle.cell.specs.Places.{run, IsRun}
+use Rattle.cell.specs.Places.{consecutive, IsRun}
 use Rattle.cell.proofs.VolumeLayout.{place-inside}
 
 -- the groups that store half of each line
@@ -89,16 +89,16 @@ not-end l c e = (eqb-false l 0 (or-left (eqb l 0) (eqb l c) e), eqb-false l c (o
 
 module _ (g : Group) (a : J) where
   pub pair-run : {w h k : ℕ} (r : Run) → w < layers g a → h < rows g a → k < columns g a → r .first ≡ 2 * pairPlace g a w h k → r .count ≡ 2 → IsRun (volumeLength g a) (pairNumbers g a w h k) r
-  unfolding run
-  pair-run r lw lh lk e f = record { are = ap₂ run e f; inside = omega (arith, place-inside g a lw lh lk) }
+  unfolding consecutive
+  pair-run r lw lh lk e f = record { are = ap₂ consecutive e f; inside = omega (arith, place-inside g a lw lh lk) }
 
   pub number-run : {w h k : ℕ} (r : Run) (q : ℕ) → w < layers g a → h < rows g a → k < columns g a → q ≤ 2 * pairPlace g a w h k + 1 → r .first ≡ q → r .count ≡ 1 → IsRun (volumeLength g a) (q ∷ []) r
-  unfolding run
-  number-run r q lw lh lk s e f = record { are = ap₂ run e f; inside = omega (arith, place-inside g a lw lh lk) }
+  unfolding consecutive
+  number-run r q lw lh lk s e f = record { are = ap₂ consecutive e f; inside = omega (arith, place-inside g a lw lh lk) }
 
   pub empty-run : (r : Run) → r .first ≡ 0 → r .count ≡ 0 → IsRun (volumeLength g a) [] r
-  unfolding run
-  empty-run r e f = record { are = ap₂ run e f; inside = omega arith }
+  unfolding consecutive
+  empty-run r e f = record { are = ap₂ consecutive e f; inside = omega arith }
 
 -- in the middle of a line of which half is stored: the pair of l or of -l
 abbrev Middle : J → (h k l : ℕ) → Group → Type 0
@@ -263,25 +263,25 @@ plane-own : (n : ℕ) → n < 5 → (n ≡ 0 → ⊥) → getD (ops (groupOf n))
 plane-own = by-halved (λ g. getD (ops g) 1 one ≡ planeSym g) refl refl refl refl
 
 module _ (g : Group) (a x : J) where
-  pub stored-plane : x .2 < planes g (a .2) → x ≡ pim a (prep g a x) x
-  unfolding prep
-  stored-plane l = rw (lt-ltb (x .2) (planes g (a .2)) l) (sym (pim-one a x))
+  pub stored-plane : x .2 < planes g (a .2) → x ≡ pointImage a (pointOperation g a x) x
+  unfolding pointOperation
+  stored-plane l = rw (lt-ltb (x .2) (planes g (a .2)) l) (sym (point-one a x))
 
-  other-plane : planes g (a .2) ≤ x .2 → planeSym g ≡ prep g a x
-  unfolding prep
+  other-plane : planes g (a .2) ≤ x .2 → planeSym g ≡ pointOperation g a x
+  unfolding pointOperation
   other-plane l = rw (le-ltb (x .2) (planes g (a .2)) l)
 
 -- the image under that operation, as the code finds it
-pub other-point : (n : ℕ) → n < 5 → (n ≡ 0 → ⊥) → (a x : J) {s : Sym} → s ≡ getD (ops (groupOf n)) 1 one → planes (groupOf n) (a .2) ≤ x .2 → pim a s x ≡ pim a (prep (groupOf n) a x) x
-other-point n l z a x f p = ap (λ s. pim a s x) (f ∙ plane-own n l z ∙ other-plane (groupOf n) a x p)
+pub other-point : (n : ℕ) → n < 5 → (n ≡ 0 → ⊥) → (a x : J) {s : Sym} → s ≡ getD (ops (groupOf n)) 1 one → planes (groupOf n) (a .2) ≤ x .2 → pointImage a s x ≡ pointImage a (pointOperation (groupOf n) a x) x
+other-point n l z a x f p = ap (λ s. pointImage a s x) (f ∙ plane-own n l z ∙ other-plane (groupOf n) a x p)
 
 pub point-place : {group n1 n2 n3 : ℕ} (s : Sizes group n1 n2 n3) (x y : Point) (q : ℕ) → PointWithin n1 n2 n3 x → PointWithin n1 n2 n3 y
-    → pointOf y ≡ pim (halvesOf n1 n2 n3) (prep (groupOf group) (halvesOf n1 n2 n3) (pointOf x)) (pointOf x) → q ≡ pairPlace P1 (halvesOf n1 n2 n3) (y .z) (y .x) 0
+    → pointOf y ≡ pointImage (halvesOf n1 n2 n3) (pointOperation (groupOf group) (halvesOf n1 n2 n3) (pointOf x)) (pointOf x) → q ≡ pairPlace P1 (halvesOf n1 n2 n3) (y .z) (y .x) 0
     → (2 * q + y .y ≡ densityPlace (groupOf group) (halvesOf n1 n2 n3) (pointOf x)) × (2 * q + y .y < volumeLength (groupOf group) (halvesOf n1 n2 n3))
 point-place {group} {n1} {n2} {n3} s x y q ix iy e f =
     let g = groupOf group in
     let a = halvesOf n1 n2 n3 in
-    let held : y .z < layers g a = subst (λ z. z .2 < layers g a) (sym e) (prep-st g a (pointOf x) (point-inside (s .first) (s .second) (s .third) ix)) in
+    let held : y .z < layers g a = subst (λ z. z .2 < layers g a) (sym e) (point-operation-stored g a (pointOf x) (point-inside (s .first) (s .second) (s .third) ix)) in
     (number (y .z * (2 * (n1 / 2)) + y .x) f ∙ ap (mapPlace g a) e, omega (arith, place-inside g a {w = y .z} {h = y .x} {k = y .y / 2} held (omega arith) (omega arith)))
   where
     number : (r : ℕ) → q ≡ r * suc (n2 / 2) + 0 → 2 * q + y .y ≡ r * (2 * suc (n2 / 2)) + y .y

@@ -5,25 +5,23 @@ use mathlib.Core.Bool.{true}
 use mathlib.Core.List.{List}
 use Prim.Native.Nat.{ℕ}
 use lib.ListN.{length}
-use Rattle.algebra.specs.Residue.{residues}
-use Rattle.algebra.specs.Axis.{AxisLaws}
-use Rattle.algebra.specs.Cell.{J, Inside, Group, friedel, pim, pimp, flip, turn, star, Cell}
-use Rattle.algebra.specs.Cell as Cell
-use Rattle.algebra.specs.CellSteps.{Lawful}
-use Rattle.algebra.proofs.Parts.{real-gauss}
-use Rattle.algebra.proofs.CellGroup.{friedel-mem}
-use Rattle.algebra.proofs.CellMap.{factors-cong, factors-map, map-factors}
-use Rattle.algebra.proofs.CellLawful.{ops-full, map-lawful, opened-lawful}
-use Rattle.algebra.proofs.CellTests.{Positive}
-use Rattle.numbers.specs.Prime.{prime}
-use Rattle.numbers.specs.Value.{Value, field, conj, i, half}
+use Rattle.algebra.specs.ring.Residue.{residues}
+use Rattle.algebra.specs.fourier.Axis.{AxisLaws}
+use Rattle.algebra.specs.cells.Cell.{J, Inside, Group, friedel, pointImage, impliedDensity, flip, shifted, star, Cell}
+use Rattle.algebra.specs.cells.Cell as Cell
+use Rattle.algebra.specs.cells.CellSteps.{Lawful}
+use Rattle.algebra.proofs.lines.Parts.{real-gauss}
+use Rattle.algebra.proofs.cells.CellGroup.{friedel-mem}
+use Rattle.algebra.proofs.cells.CellMap.{factors-cong, factors-map, map-factors}
+use Rattle.algebra.proofs.cells.CellLawful.{ops-full, map-lawful, opened-lawful}
+use Rattle.algebra.proofs.cells.CellTests.{Positive}
+use Rattle.numbers.specs.Value.{prime, Value, field, conj, i, half}
 use Rattle.numbers.proofs.Residues.{res-ring}
 use Rattle.numbers.proofs.Values.{value-path, field-ring, field-star, conj-real}
 use Rattle.numbers.proofs.Parts.{half-residue}
 use Rattle.slices.specs.Pairs.{Below}
-use Rattle.cell.specs.Volume.{volumeLength, packFactors, packMap, mapIn}
+use Rattle.cell.specs.Volume.{volumeLength, packFactors, packMap, mapIn, axis, mapOf, factorsOf}
 use Rattle.cell.specs.Consistency.{RealMap, ObeysGroup, consistentMap}
-use Rattle.cell.specs.Sums.{axis, mapOf, factorsOf}
 use Rattle.cell.proofs.Consistency.{pack-cong}
 use Rattle.cell.proofs.Maps.{read-map, map-cong, consistent-map-read}
 
@@ -37,7 +35,7 @@ module _ (g : Group) (a : J) (m : ℕ) {h : Value m} {tx ty tz : ℕ → Value m
     map-obeys s ms = map-lawful (field-ring m) (field-star m) 𝓧 𝓨 𝓩 g F lawful s (ops-full g s ms)
 
     pub map-real : RealMap g a m (mapOf m a F)
-    unfolding pim pimp flip turn star residues
+    unfolding pointImage impliedDensity flip shifted star residues
     map-real x n = value-path refl (real-gauss (res-ring m) (half m) (half-residue m) (Cell.at (mapOf m a F) x) (sym (map-lawful (field-ring m) (field-star m) 𝓧 𝓨 𝓩 g F lawful friedel (friedel-mem g) x n)))
 
     -- a point is read off the volume as the triple sum there

@@ -8,36 +8,34 @@ use Prim.Native.Nat.{ℕ, suc, _+_, _*_, _-_, _<_, _≤_}
 use native.Mathlib.Omega.{arith}
 use lib.Dec.{T, eqb, eqb→eq, eqb-refl, leb, ltb, nltb→le}
 use lib.ListN.{length}
-use Rattle.algebra.specs.Ring.{pow}
-use Rattle.algebra.specs.Gauss.{gauss}
-use Rattle.algebra.specs.Residue.{residues}
-use Rattle.algebra.specs.Orbit.{cellOf}
-use Rattle.algebra.specs.Kinds.{Kind.alternating, Kind.symmetric, Kind.antisymmetric}
-use Rattle.algebra.specs.Cell.{J, Inside, Group, P1, P2₁, Pm, Pa, P2₁2₁2₁, one, friedel, _·_, lineSym, lineRep, rep, span, negI, im, flip, imp, sgn, star, planes, full, Stored, Cell, factorActs}
-use Rattle.algebra.specs.Cell as Cell
-use Rattle.algebra.specs.CellSteps.{Lawful}
-use Rattle.algebra.specs.CellPack as Pack
-use Rattle.algebra.specs.CellPack.{even, packAlt, unpack, PackedIn}
-use Rattle.algebra.proofs.Bool.{and-l, and-r, and-i, split}
-use Rattle.algebra.proofs.Laws.{neg-one-square, neg-one-mul}
-use Rattle.algebra.proofs.ResidueRing.{val-path}
-use Rattle.algebra.proofs.Transform.{pow-across, sign-even}
-use Rattle.algebra.proofs.CellAxis.{neg-zero, neg-pos}
-use Rattle.algebra.proofs.CellSym as S
-use Rattle.algebra.proofs.Orbits as O
-use Rattle.algebra.proofs.CellGroup.{factor-action, closed, rep-in, rep-st}
-use Rattle.algebra.proofs.CellTests.{Positive}
-use Rattle.algebra.proofs.CellTests as CellTests
-use Rattle.algebra.proofs.CellPack.{pow-even, signOf, rotated-back, real-0, part-c, alt-1, alt-4, pack-iff}
-use Rattle.algebra.proofs.CellRefusals as CellRefusals
-use Rattle.numbers.specs.Prime.{prime}
-use Rattle.numbers.specs.Value.{Value, field, conj, ring, half, value, valueOf, pairOf}
+use Rattle.algebra.specs.ring.Ring.{pow}
+use Rattle.algebra.specs.ring.Gauss.{gauss}
+use Rattle.algebra.specs.ring.Residue.{residues}
+use Rattle.algebra.specs.orbits.OrbitLaws.{cellOf}
+use Rattle.algebra.specs.lines.Kinds.{Kind.alternating, Kind.symmetric, Kind.antisymmetric}
+use Rattle.algebra.specs.cells.Cell.{J, Inside, Group, P1, P2₁, Pm, Pa, P2₁2₁2₁, one, friedel, _·_, lineSym, lineOperation, factorOperation, span, negI, imageOf, flip, impliedValue, sgn, star, planes, full, Stored, Cell, factorActs}
+use Rattle.algebra.specs.cells.Cell as Cell
+use Rattle.algebra.specs.cells.CellSteps.{Lawful}
+use Rattle.algebra.specs.cells.CellPack as Pack
+use Rattle.algebra.specs.cells.CellPack.{even, packAlt, unpack, PackedIn}
+use Rattle.algebra.proofs.ring.Bool.{and-l, and-r, and-i, split}
+use Rattle.algebra.proofs.ring.Laws.{neg-one-square, neg-one-mul}
+use Rattle.algebra.proofs.ring.ResidueRing.{val-path}
+use Rattle.algebra.proofs.fourier.Transform.{pow-across, sign-even}
+use Rattle.algebra.proofs.cells.CellAxis.{neg-zero, neg-pos}
+use Rattle.algebra.proofs.cells.CellSym as S
+use Rattle.algebra.proofs.orbits.Orbits as O
+use Rattle.algebra.proofs.cells.CellGroup.{factor-action, closed, operation-in, operation-stored}
+use Rattle.algebra.proofs.cells.CellTests.{Positive}
+use Rattle.algebra.proofs.cells.CellTests as CellTests
+use Rattle.algebra.proofs.cells.CellPack.{pow-even, signOf, rotated-back, real-0, part-c, alt-1, alt-4, pack-iff}
+use Rattle.algebra.proofs.cells.CellRefusals as CellRefusals
+use Rattle.numbers.specs.Value.{prime, Value, field, conj, ring, half, value, valueOf, pairOf}
 use Rattle.numbers.proofs.Primes.{prime-pos}
 use Rattle.numbers.proofs.Residues.{res-ring}
 use Rattle.numbers.proofs.Values.{value-path, small-pair, value-pair, field-ring, field-star}
 use Rattle.numbers.proofs.Parts.{half-residue}
-use Rattle.slices.specs.Pairs.{at, Below}
-use Rattle.slices.specs.Values.{valuesOf}
+use Rattle.slices.specs.Pairs.{at, Below, valuesOf}
 use Rattle.cell.specs.Volume.{lineKind, rotated, timesI, overI, firstPair, pairPlace, rows, columns, layers, volumeLength, wholeLine, lineIn, factorsIn, packed, packFactors}
 use Rattle.cell.specs.Consistency.{sameValue}
 use Rattle.cell.proofs.VolumeLayout.{length-volume, at-volume, below-volume}
@@ -56,29 +54,29 @@ module _ (m : ℕ) (j : J) (x : Value m) where
   abbrev minus : Value m
   minus = field m .neg (field m .one)
 
-  implied-P2₁ : imp (field m) (conj m) (lineSym P2₁) j x ≡ field m .mul (pow (field m) minus (j .2)) (conj m x)
+  implied-P2₁ : impliedValue (field m) (conj m) (lineSym P2₁) j x ≡ field m .mul (pow (field m) minus (j .2)) (conj m x)
   unfolding sgn star
-  implied-P2₁ = S.imp-out (field-ring m) (field-star m) true false false true false false true j x ∙ field-ring m .one-mul _ ∙ field-ring m .one-mul _
+  implied-P2₁ = S.implied-out (field-ring m) (field-star m) true false false true false false true j x ∙ field-ring m .one-mul _ ∙ field-ring m .one-mul _
 
-  implied-4 : imp (field m) (conj m) (lineSym P2₁2₁2₁) j x ≡ field m .mul (signOf (res-ring m) (even (j .0))) (field m .mul (pow (field m) minus (j .2)) (conj m x))
+  implied-4 : impliedValue (field m) (conj m) (lineSym P2₁2₁2₁) j x ≡ field m .mul (signOf (res-ring m) (even (j .0))) (field m .mul (pow (field m) minus (j .2)) (conj m x))
   unfolding sgn star
-  implied-4 = S.imp-out (field-ring m) (field-star m) true false false true true false true j x ∙ ap₂ (field m .mul) (pow-even (res-ring m) (j .0)) (field-ring m .one-mul _)
+  implied-4 = S.implied-out (field-ring m) (field-star m) true false false true true false true j x ∙ ap₂ (field m .mul) (pow-even (res-ring m) (j .0)) (field-ring m .one-mul _)
 
-  implied-Pm : imp (field m) (conj m) (lineSym Pm) j x ≡ x
-  unfolding imp sgn star
+  implied-Pm : impliedValue (field m) (conj m) (lineSym Pm) j x ≡ x
+  unfolding impliedValue sgn star
   implied-Pm = field-ring m .one-mul _ ∙ field-ring m .one-mul _ ∙ field-ring m .one-mul _
 
-  implied-Pa : imp (field m) (conj m) (lineSym Pa) j x ≡ field m .mul (signOf (res-ring m) (even (j .0))) x
-  unfolding imp sgn star
+  implied-Pa : impliedValue (field m) (conj m) (lineSym Pa) j x ≡ field m .mul (signOf (res-ring m) (even (j .0))) x
+  unfolding impliedValue sgn star
   implied-Pa = ap₂ (field m .mul) (pow-even (res-ring m) (j .0)) (field-ring m .one-mul _ ∙ field-ring m .one-mul _)
 
-  pub implied-friedel : imp (field m) (conj m) friedel j x ≡ conj m x
+  pub implied-friedel : impliedValue (field m) (conj m) friedel j x ≡ conj m x
   unfolding sgn star
-  implied-friedel = S.imp-out (field-ring m) (field-star m) true true true true false false false j x ∙ field-ring m .one-mul _ ∙ field-ring m .one-mul _ ∙ field-ring m .one-mul _
+  implied-friedel = S.implied-out (field-ring m) (field-star m) true true true true false false false j x ∙ field-ring m .one-mul _ ∙ field-ring m .one-mul _ ∙ field-ring m .one-mul _
 
 -- the Friedel mate of an index
-pub mate-is : (a j : J) → im a friedel j ≡ (negI (a .0) (j .0), negI (a .1) (j .1), negI (a .2) (j .2))
-unfolding im flip
+pub mate-is : (a j : J) → imageOf a friedel j ≡ (negI (a .0) (j .0), negI (a .1) (j .1), negI (a .2) (j .2))
+unfolding imageOf flip
 mate-is a j = refl
 
 module _ (g : Group) (a : J) (m : ℕ) (v : List ℕ) where
@@ -121,8 +119,8 @@ alternating-beyond g a m v j n s =
     ∙ ap (λ y. field m .mul y (conj m (readLine m (a .2) alternating (λ w. pairsIn g a m v w (j .0) (j .1)) (negI (a .2) (j .2))))) (pow-across (field-ring m) _ _ (2 * a .2) (neg-one-square (field-ring m)) (sign-even (field-ring m) (a .2)) (negI (a .2) (j .2)) (j .2) 1 (omega (arith, n .2)))
 
 -- .. and any line, by its own operation
-pub line-beyond : (g : Group) (a : J) (m : ℕ) (v : List ℕ) (j : J) → Inside a j → span g (a .2) ≤ j .2 → lineAt g a m v j ≡ imp (field m) (conj m) (lineSym g) j (lineAt g a m v (im a (lineSym g) j))
-unfolding lineIn wholeLine span im flip
+pub line-beyond : (g : Group) (a : J) (m : ℕ) (v : List ℕ) (j : J) → Inside a j → span g (a .2) ≤ j .2 → lineAt g a m v j ≡ impliedValue (field m) (conj m) (lineSym g) j (lineAt g a m v (imageOf a (lineSym g) j))
+unfolding lineIn wholeLine span imageOf flip
 line-beyond P1 a m v j n s = absurd (omega (arith, n .2))
 line-beyond P2₁ a m v j n s = alternating-beyond P2₁ a m v j n s ∙ sym (implied-P2₁ m j _)
 line-beyond Pm a m v j n s =
@@ -140,26 +138,26 @@ line-beyond P2₁2₁2₁ a m v j n s =
 module _ (g : Group) (a : J) (m : ℕ) where
   -- ---- the cell that is read off a volume is the theory's
 
-  line-read : (v : List ℕ) (j : J) → Inside a j → lineAt g a m v j ≡ imp (field m) (conj m) (lineRep g a j) j (lineAt g a m v (im a (lineRep g a j) j))
-  unfolding lineRep
+  line-read : (v : List ℕ) (j : J) → Inside a j → lineAt g a m v j ≡ impliedValue (field m) (conj m) (lineOperation g a j) j (lineAt g a m v (imageOf a (lineOperation g a j) j))
+  unfolding lineOperation
   line-read v j n = split (ltb (j .2) (span g (a .2)))
-      (λ b. lineAt g a m v j ≡ imp (field m) (conj m) (cond b one (lineSym g)) j (lineAt g a m v (im a (cond b one (lineSym g)) j)))
-      (λ t. sym (S.imp-one (field-ring m) (field-star m) j _ ∙ ap (lineAt g a m v) (S.im-one a j)))
+      (λ b. lineAt g a m v j ≡ impliedValue (field m) (conj m) (cond b one (lineSym g)) j (lineAt g a m v (imageOf a (cond b one (lineSym g)) j)))
+      (λ t. sym (S.implied-one (field-ring m) (field-star m) j _ ∙ ap (lineAt g a m v) (S.image-one a j)))
       (λ t. line-beyond g a m v j n (nltb→le _ _ t))
 
-  mate-read : (v : List ℕ) (j : J) → Inside a j → conj m (lineAt g a m v (im a friedel j)) ≡ imp (field m) (conj m) (lineRep g a (im a friedel j) · friedel) j (lineAt g a m v (im a (lineRep g a (im a friedel j) · friedel) j))
+  mate-read : (v : List ℕ) (j : J) → Inside a j → conj m (lineAt g a m v (imageOf a friedel j)) ≡ impliedValue (field m) (conj m) (lineOperation g a (imageOf a friedel j) · friedel) j (lineAt g a m v (imageOf a (lineOperation g a (imageOf a friedel j) · friedel) j))
   mate-read v j n =
-      let mate = im a friedel j in
-      let r = lineRep g a (im a friedel j) in
+      let mate = imageOf a friedel j in
+      let r = lineOperation g a (imageOf a friedel j) in
       sym (implied-friedel m j _)
-      ∙ ap (imp (field m) (conj m) friedel j) (line-read v (im a friedel j) (S.im-inside a friedel j n) ∙ S.imp-im (field-ring m) (field-star m) a r friedel j _ n ∙ ap (λ y. imp (field m) (conj m) r j (lineAt g a m v y)) (S.im-im a r friedel j n))
-      ∙ S.imp-imp (field-ring m) (field-star m) friedel r j _
-      ∙ ap (λ s. imp (field m) (conj m) s j (lineAt g a m v (im a (r · friedel) j))) (S.comm friedel r)
+      ∙ ap (impliedValue (field m) (conj m) friedel j) (line-read v (imageOf a friedel j) (S.image-inside a friedel j n) ∙ S.implied-image (field-ring m) (field-star m) a r friedel j _ n ∙ ap (λ y. impliedValue (field m) (conj m) r j (lineAt g a m v y)) (S.image-image a r friedel j n))
+      ∙ S.implied-implied (field-ring m) (field-star m) friedel r j _
+      ∙ ap (λ s. impliedValue (field m) (conj m) s j (lineAt g a m v (imageOf a (r · friedel) j))) (S.comm friedel r)
 
-  pub factors-read : (v : List ℕ) (j : J) → Inside a j → Cell.at (factorsIn g a m v) j ≡ cellOf (factorActs (field m) (conj m) a) (rep g a) (lineAt g a m v) j
-  unfolding factorsIn cellOf factorActs rep
+  pub factors-read : (v : List ℕ) (j : J) → Inside a j → Cell.at (factorsIn g a m v) j ≡ cellOf (factorActs (field m) (conj m) a) (factorOperation g a) (lineAt g a m v) j
+  unfolding factorsIn cellOf factorActs factorOperation
   factors-read v j n = split (leb (j .1) (a .1))
-      (λ b. cond b (lineAt g a m v j) (conj m (lineAt g a m v (negI (a .0) (j .0), negI (a .1) (j .1), negI (a .2) (j .2)))) ≡ imp (field m) (conj m) (cond b (lineRep g a j) (lineRep g a (im a friedel j) · friedel)) j (lineAt g a m v (im a (cond b (lineRep g a j) (lineRep g a (im a friedel j) · friedel)) j)))
+      (λ b. cond b (lineAt g a m v j) (conj m (lineAt g a m v (negI (a .0) (j .0), negI (a .1) (j .1), negI (a .2) (j .2)))) ≡ impliedValue (field m) (conj m) (cond b (lineOperation g a j) (lineOperation g a (imageOf a friedel j) · friedel)) j (lineAt g a m v (imageOf a (cond b (lineOperation g a j) (lineOperation g a (imageOf a friedel j) · friedel)) j)))
       (λ t. line-read v j n)
       (λ t. ap (λ y. conj m (lineAt g a m v y)) (sym (mate-is a j)) ∙ mate-read v j n)
 
@@ -224,10 +222,10 @@ module _ (g : Group) (a : J) (long : Positive a) (m : ℕ) where
   stored-unpacked v e j n s = line-stored g a (long .2) m v (j .0) (j .1) (e (j .0) (j .1) (n .0) (omega (arith, s .0))) (j .2) (s .1)
 
   pub factors-unpacked : (v : List ℕ) → ((h k : ℕ) → h < rows g a → k < columns g a → EmptyEnds g a m v h k) → (j : J) → Inside a j
-      → Cell.at (factorsIn g a m v) j ≡ cellOf (factorActs (field m) (conj m) a) (rep g a) (unpack (ring m) g a (pairsIn g a m v)) j
+      → Cell.at (factorsIn g a m v) j ≡ cellOf (factorActs (field m) (conj m) a) (factorOperation g a) (unpack (ring m) g a (pairsIn g a m v)) j
   unfolding factorActs
   factors-unpacked v e j n = factors-read g a m v j n
-      ∙ O.cell-cong (factor-action (field-ring m) (field-star m) a) (full g) (closed (field-ring m) (field-star m) a g) (Stored g a) (rep g a) (λ j n. rep-in g a j) (λ j n. rep-st g a j n) _ _ (stored-unpacked v e) j n
+      ∙ O.cell-cong (factor-action (field-ring m) (field-star m) a) (full g) (closed (field-ring m) (field-star m) a g) (Stored g a) (factorOperation g a) (λ j n. operation-in g a j) (λ j n. operation-stored g a j n) _ _ (stored-unpacked v e) j n
 
   module _ (F : Cell (Value m)) (lawful : Lawful (field m) (conj m) a g F) where
     pub packed-holds : PackedIn (ring m) g a F (pairsIn g a m (packFactors g a m F))

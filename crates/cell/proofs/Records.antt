@@ -5,16 +5,17 @@ use mathlib.Core.Logic.{_↔_}
 use mathlib.Core.Bool.{true}
 use Prim.Native.Nat.{ℕ}
 use native.Mathlib.Omega.{arith}
-use Rattle.algebra.specs.Orbit.{Mem, AgreesWithItself}
-use Rattle.algebra.specs.Cell.{J, Inside, Sym, Group, full, im, Cell, factorActs}
-use Rattle.algebra.specs.Cell as Cell
-use Rattle.algebra.specs.CellSteps.{Lawful}
-use Rattle.algebra.specs.CellPack.{PackedIn}
-use Rattle.algebra.proofs.Orbits.{record-obeys}
-use Rattle.algebra.proofs.CellGroup.{factor-action, closed}
-use Rattle.algebra.proofs.CellTests.{Positive}
-use Rattle.algebra.proofs.CellTests as CellTests
-use Rattle.algebra.proofs.CellRecord as CellRecord
+use Rattle.algebra.specs.orbits.Orbit.{Mem}
+use Rattle.algebra.specs.orbits.OrbitLaws.{AgreesWithItself}
+use Rattle.algebra.specs.cells.Cell.{J, Inside, Sym, Group, full, imageOf, Cell, factorActs}
+use Rattle.algebra.specs.cells.Cell as Cell
+use Rattle.algebra.specs.cells.CellSteps.{Lawful}
+use Rattle.algebra.specs.cells.CellPack.{PackedIn}
+use Rattle.algebra.proofs.orbits.Orbits.{record-obeys}
+use Rattle.algebra.proofs.cells.CellGroup.{factor-action, closed}
+use Rattle.algebra.proofs.cells.CellTests.{Positive}
+use Rattle.algebra.proofs.cells.CellTests as CellTests
+use Rattle.algebra.proofs.cells.CellRecord as CellRecord
 use Rattle.numbers.specs.Value.{Value, field, conj, ring, half}
 use Rattle.numbers.proofs.Residues.{res-ring}
 use Rattle.numbers.proofs.Values.{field-ring, field-star}
@@ -28,7 +29,7 @@ use Rattle.cell.proofs.Writing.{length-images, below-images, images-hol
 
 module _ (g : Group) (a : J) (long : Positive a) (m : ℕ) where
   -- refusal 12
-  pub agrees-iff : (j : J) (x : Value m) → (agreesWithItself g a m j x ≡ true) ↔ ((s : Sym) → Mem s (full g) → im a s j ≡ j → implied g a m s j x ≡ x)
+  pub agrees-iff : (j : J) (x : Value m) → (agreesWithItself g a m j x ≡ true) ↔ ((s : Sym) → Mem s (full g) → imageOf a s j ≡ j → implied g a m s j x ≡ x)
   unfolding agreesWithItself factorActs
   agrees-iff j x = let c = CellTests.agrees-iff (field-ring m) (field-star m) sameValue (same-iff m) g a long j x in (λ e. c .0 (true-iff _ .0 e), λ f. true-iff _ .1 (c .1 f))
 

@@ -5,13 +5,12 @@ use mathlib.Core.Bool.{Bool, true, false, not}
 use mathlib.Core.List.{[], _∷_}
 use Prim.Native.Nat.{ℕ, zero, suc, _<_}
 use native.Mathlib.Omega.{arith}
-use Rattle.algebra.specs.Gauss.{gauss, imag}
-use Rattle.algebra.specs.CellPack as Pack
-use Rattle.algebra.proofs.Laws.{mul-zero}
-use Rattle.algebra.proofs.Solver.{ring, quote}
+use Rattle.algebra.specs.ring.Gauss.{gauss, imag}
+use Rattle.algebra.specs.cells.CellPack as Pack
+use Rattle.algebra.proofs.ring.Laws.{mul-zero}
+use Rattle.algebra.proofs.ring.Solver.{ring, quote}
 use Rattle.numbers.specs.declared.Pair.{Pair}
-use Rattle.numbers.specs.Prime.{prime}
-use Rattle.numbers.specs.Value.{Value, field, i, valueOf, pairOf, Small}
+use Rattle.numbers.specs.Value.{prime, Value, field, i, valueOf, pairOf, Small}
 use Rattle.numbers.specs.Value as Value
 use Rattle.numbers.proofs.Residues.{res-ring}
 use Rattle.numbers.proofs.Values.{value-path, pair-value, field-ring, i-times}

@@ -1,4 +1,4 @@
--- Loops over a run of places or over the operations of an orbit. In its turn i such a loop has the rest of the list before it: a scan goes on past a test that
+-- Loops over a consecutive of places or over the operations of an orbit. In its turn i such a loop has the rest of the list before it: a scan goes on past a test that
 -- holds and stops at one that does not. Each law takes what the loop knows: the count, the turn's test t, and how far the loop has come.
 use mathlib.Core.Path.{_≡_, refl, sym, _∙_, ap}
 use mathlib.Core.Bool.{Bool, true, false, _&&_}
@@ -8,27 +8,26 @@ use native.Mathlib.Numerals.{add-one}
 use native.Mathlib.Omega.{arith}
 use lib.ListN.{length, getD, drop, drop-of-length-le}
 use lib.Seq.{drop-cons}
-use Rattle.algebra.specs.CellTests.{every}
-use Rattle.algebra.proofs.Laws.{along}
-use Rattle.cell.specs.Consistency.{all}
-use Rattle.cell.specs.Places.{run}
+use Rattle.algebra.specs.cells.CellTests.{every}
+use Rattle.algebra.proofs.ring.Laws.{along}
+use Rattle.cell.specs.Places.{consecutive}
 
--- ---- a run of places
+-- ---- a consecutive of places
 
 module _ (P : ℕ → Bool) (first count : ℕ) where
   abbrev rest : ℕ → Bool
-  rest i = all P (run (first + i) (count - i))
+  rest i = every (consecutive (first + i) (count - i)) P
 
-  pub run-start : all P (run first count) ≡ rest 0
-  run-start = along (λ f. all P (run f count)) first (first + 0) (omega arith) ∙ along (λ n. all P (run (first + 0) n)) count (count - 0) (omega arith)
+  pub run-start : every (consecutive first count) P ≡ rest 0
+  run-start = along (λ f. every (consecutive f count) P) first (first + 0) (omega arith) ∙ along (λ n. every (consecutive (first + 0) n) P) count (count - 0) (omega arith)
 
   module _ (i : ℕ) {r : Bool} (done : r ≡ rest i) where
     opened : i < count → r ≡ (P (first + i) && rest (i + 1))
-    unfolding all run
+    unfolding every consecutive
     opened l =
         done
-        ∙ along (λ n. all P (run (first + i) n)) (count - i) (suc (count - (i + 1))) (omega arith)
-        ∙ along (λ q. P (first + i) && all P (run q (count - (i + 1)))) (first + i + 1) (first + (i + 1)) (omega arith)
+        ∙ along (λ n. every (consecutive (first + i) n) P) (count - i) (suc (count - (i + 1))) (omega arith)
+        ∙ along (λ q. P (first + i) && every (consecutive q (count - (i + 1))) P) (first + i + 1) (first + (i + 1)) (omega arith)
 
     pub run-next : i < count → P (first + i) ≡ true → r ≡ rest (i + 1)
     run-next l e = opened l ∙ rw e refl
@@ -37,8 +36,8 @@ module _ (P : ℕ → Bool) (first count : ℕ) where
     run-stop l e = sym (opened l ∙ rw e refl)
 
     pub run-end : count ≤ i → true ≡ r
-    unfolding all run
-    run-end l = sym (done ∙ along (λ n. all P (run (first + i) n)) (count - i) 0 (omega arith))
+    unfolding every consecutive
+    run-end l = sym (done ∙ along (λ n. every (consecutive (first + i) n) P) (count - i) 0 (omega arith))
 
 -- ---- the members of a list
 

@@ -8,22 +8,20 @@ use native.Mathlib.Omega.{arith}
 use lib.ListN.{getD}
 use lib.Dec.{eqb, ltb, ltb→lt}
 use borrow.Author.Tests.{eq-eqb, ne-eqb, lt-ltb}
-use Rattle.algebra.specs.Residue.{residues}
-use Rattle.algebra.specs.Gauss.{gauss}
-use Rattle.algebra.specs.Kinds.{Kind.alternating, Kind.symmetric, Kind.antisymmetric}
-use Rattle.algebra.specs.Cell.{J, Group, P2₁, Pa, span, planes}
-use Rattle.algebra.specs.CellPack.{even, ofPart}
-use Rattle.algebra.proofs.Bool.{and-l, and-r}
+use Rattle.algebra.specs.cells.CellTests.{every}
+use Rattle.algebra.specs.ring.Residue.{residues}
+use Rattle.algebra.specs.ring.Gauss.{gauss}
+use Rattle.algebra.specs.lines.Kinds.{Kind.alternating, Kind.symmetric, Kind.antisymmetric}
+use Rattle.algebra.specs.cells.Cell.{J, Group, P2₁, Pa, span, planes}
+use Rattle.algebra.specs.cells.CellPack.{even, ofPart}
+use Rattle.algebra.proofs.ring.Bool.{and-l, and-r}
 use Rattle.numbers.specs.declared.Pair.{Pair}
-use Rattle.numbers.specs.Prime.{prime}
-use Rattle.numbers.specs.Value.{Value, field, ring, valueOf, pairOf, Small}
+use Rattle.numbers.specs.Value.{prime, Value, field, ring, valueOf, pairOf, Small}
 use Rattle.numbers.proofs.Primes.{prime-pos}
 use Rattle.numbers.proofs.Residues.{val-res}
 use Rattle.numbers.proofs.Values.{pair-path, pair-value}
-use Rattle.slices.specs.Pairs.{at, Below}
-use Rattle.slices.specs.Values.{valuesOf}
+use Rattle.slices.specs.Pairs.{at, Below, valuesOf}
 use Rattle.cell.specs.Volume.{groupOf, alternates, volumeLength, pairPlace, pairNumbers, lineNumbers, wholeLine}
-use Rattle.cell.specs.Consistency.{all}
 use Rattle.cell.specs.declared.operations.Index.{Index}
 use Rattle.cell.specs.Operations.{halvesOf, Length}
 use Rattle.cell.specs.Places.{allBelowAt, lineNumbersAt, storedFactor}
@@ -86,17 +84,17 @@ as-screw {group} {n1} {n2} {n3} {v} {j} volume stored e =
 
 -- so they are all, where the whole volume is below it
 pub all-below-at : {p : ℕ} {v : List ℕ} → Below p v → (places : List ℕ) → allBelowAt p v places ≡ true
-unfolding all
+unfolding every
 all-below-at small [] = refl
 all-below-at {p} {v} small (q ∷ l) = rw (lt-ltb (getD v q 0) p (small .each q)) (all-below-at small l)
 
 module _ (m : ℕ) (v : List ℕ) where
   low-number : (q : ℕ) → allBelowAt (prime m) v (q ∷ []) ≡ true → getD v q 0 < prime m
-  unfolding all
+  unfolding every
   low-number q e = ltb→lt _ _ (and-l (ltb (getD v q 0) (prime m)) true (true-iff _ .0 e))
 
   low-pair : (p : ℕ) → allBelowAt (prime m) v (2 * p ∷ (2 * p + 1) ∷ []) ≡ true → Small (prime m) (at v p)
-  unfolding all at
+  unfolding every at
   low-pair p e =
       let t = true-iff (ltb (getD v (2 * p) 0) (prime m) && (ltb (getD v (2 * p + 1) 0) (prime m) && true)) .0 e in
       record { re = ltb→lt _ _ (and-l (ltb (getD v (2 * p) 0) (prime m)) _ t); im = ltb→lt _ _ (and-l (ltb (getD v (2 * p + 1) 0) (prime m)) true (and-r (ltb (getD v (2 * p) 0) (prime m)) _ t)) }

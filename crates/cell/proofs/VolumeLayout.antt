@@ -6,10 +6,9 @@ use Prim.Native.Nat.{ℕ, _+_, _*_, _/_, _%_, _<_}
 use native.Mathlib.Omega.{arith}
 use lib.ListN.{length, getD}
 use borrow.Author.Tests.{lt-ltb, le-ltb}
-use Rattle.algebra.specs.Cell.{J, Group, Cell}
+use Rattle.algebra.specs.cells.Cell.{J, Group, Cell}
 use Rattle.numbers.specs.declared.Pair.{Pair}
-use Rattle.numbers.specs.Prime.{prime}
-use Rattle.numbers.specs.Value.{Value, Small}
+use Rattle.numbers.specs.Value.{prime, Value, Small}
 use Rattle.numbers.proofs.Primes.{prime-pos}
 use Rattle.numbers.proofs.Residues.{val-small}
 use Rattle.numbers.proofs.Values.{pair-path}
@@ -17,16 +16,16 @@ use Rattle.slices.specs.Pairs.{at, Below}
 use Rattle.slices.proofs.Pairs.{lt-or-ge, by-pairs, ext-at, length-tab, at-tab}
 use Rattle.slices.proofs.Rows.{row-col, row-split, block-end}
 use Rattle.slices.proofs.Bounds.{below-at}
-use Rattle.cell.specs.Volume.{layers, rows, columns, pairCount, volumeLength, pairPlace, volumeOf, mapPair, mapPlace, packMap}
+use Rattle.cell.specs.Volume.{layers, rows, columns, volumePairs, volumeLength, pairPlace, volumeOf, mapPair, mapPlace, packMap}
 
 module _ (g : Group) (a : J) where
   -- ---- pairs
 
-  pub place-inside : {w h k : ℕ} → w < layers g a → h < rows g a → k < columns g a → pairPlace g a w h k < pairCount g a
+  pub place-inside : {w h k : ℕ} → w < layers g a → h < rows g a → k < columns g a → pairPlace g a w h k < volumePairs g a
   place-inside lw lh lk = block-end lw lh lk
 
   -- every pair of the volume has such a place
-  pub by-place : (P : ℕ → Type 0) → ((w h k : ℕ) → w < layers g a → h < rows g a → k < columns g a → P (pairPlace g a w h k)) → (j : ℕ) → j < pairCount g a → P j
+  pub by-place : (P : ℕ → Type 0) → ((w h k : ℕ) → w < layers g a → h < rows g a → k < columns g a → P (pairPlace g a w h k)) → (j : ℕ) → j < volumePairs g a → P j
   by-place P f j l =
       let outer = row-split (layers g a * rows g a) l in
       let inner = row-split (layers g a) (outer .0) in
@@ -35,19 +34,19 @@ module _ (g : Group) (a : J) where
   -- two lists of the volume's length are equal by their pairs
   pub ext-volume : (u v : List ℕ) → length u ≡ volumeLength g a → length v ≡ volumeLength g a
       → ((w h k : ℕ) → w < layers g a → h < rows g a → k < columns g a → at u (pairPlace g a w h k) ≡ at v (pairPlace g a w h k)) → u ≡ v
-  ext-volume u v eu ev e = ext-at (pairCount g a) u v eu ev (by-place (λ j. at u j ≡ at v j) e)
+  ext-volume u v eu ev e = ext-at (volumePairs g a) u v eu ev (by-place (λ j. at u j ≡ at v j) e)
 
   module _ (f : ℕ → ℕ → ℕ → Pair) where
     pub length-volume : length (volumeOf g a f) ≡ volumeLength g a
     unfolding volumeOf
-    length-volume = length-tab _ (pairCount g a)
+    length-volume = length-tab _ (volumePairs g a)
 
     pub at-volume : (w h k : ℕ) → w < layers g a → h < rows g a → k < columns g a → at (volumeOf g a f) (pairPlace g a w h k) ≡ f w h k
     unfolding volumeOf
     at-volume w h k lw lh lk =
         let outer = row-col (w * rows g a + h) lk in
         let inner = row-col w lh in
-        at-tab _ (pairCount g a) (pairPlace g a w h k) (place-inside lw lh lk)
+        at-tab _ (volumePairs g a) (pairPlace g a w h k) (place-inside lw lh lk)
         ∙ λ i. f ((ap (λ q. q / rows g a) (outer .0) ∙ inner .0) i) ((ap (λ q. q % rows g a) (outer .0) ∙ inner .1) i) (outer .1 i)
 
     -- a list with these pairs
@@ -56,7 +55,7 @@ module _ (g : Group) (a : J) where
     is-volume v ev e = ext-volume v (volumeOf g a f) ev length-volume (λ w h k lw lh lk. e w h k lw lh lk ∙ sym (at-volume w h k lw lh lk))
 
     pub below-volume : (p : ℕ) → 0 < p → ((w h k : ℕ) → w < layers g a → h < rows g a → k < columns g a → Small p (f w h k)) → Below p (volumeOf g a f)
-    below-volume p z s = below-at p (pairCount g a) (volumeOf g a f) length-volume z (by-place (λ j. Small p (at (volumeOf g a f) j)) (λ w h k lw lh lk. subst (Small p) (sym (at-volume w h k lw lh lk)) (s w h k lw lh lk)))
+    below-volume p z s = below-at p (volumePairs g a) (volumeOf g a f) length-volume z (by-place (λ j. Small p (at (volumeOf g a f) j)) (λ w h k lw lh lk. subst (Small p) (sym (at-volume w h k lw lh lk)) (s w h k lw lh lk)))
 
   pub volume-cong : (f f′ : ℕ → ℕ → ℕ → Pair) → ((w h k : ℕ) → w < layers g a → h < rows g a → k < columns g a → f w h k ≡ f′ w h k) → volumeOf g a f ≡ volumeOf g a f′
   volume-cong f f′ e = is-volume f′ (volumeOf g a f) (length-volume f) (λ w h k lw lh lk. at-volume f w h k lw lh lk ∙ e w h k lw lh lk)

@@ -8,19 +8,18 @@ use lib.Dec.{T, T-not, eqb}
 use lib.ListN.{length, set, length-set}
 use lib.Seq.{getD-set-other, set-getD}
 use borrow.Author.Tests.{eq-eqb, ne-eqb}
-use Rattle.algebra.specs.Ring.{Ops}
-use Rattle.algebra.specs.Orbit.{putAll}
-use Rattle.algebra.specs.Cell.{J, Inside, Sym, Group, P1, P2₁, Pm, Pa, P2₁2₁2₁, im, imp, sameJ, span, planes, Stored, factorActs}
-use Rattle.algebra.specs.CellPack.{FactorVolume, even, partOf, upd, putAlt, putFactor}
-use Rattle.algebra.specs.CellTests.{storedT}
-use Rattle.algebra.proofs.Bool.{split, split-both}
-use Rattle.algebra.proofs.Paths.{triple}
-use Rattle.algebra.proofs.CellSym.{im-inside}
-use Rattle.algebra.proofs.CellGroup.{sameJ-eq, sameJ-refl}
-use Rattle.algebra.proofs.CellTests.{stored-iff}
+use Rattle.algebra.specs.ring.Ring.{Ops}
+use Rattle.algebra.specs.orbits.OrbitLaws.{putAll}
+use Rattle.algebra.specs.cells.Cell.{J, Inside, Sym, Group, P1, P2₁, Pm, Pa, P2₁2₁2₁, imageOf, impliedValue, sameJ, span, planes, Stored, factorActs}
+use Rattle.algebra.specs.cells.CellPack.{FactorVolume, even, partOf, upd, putAlt, putFactor}
+use Rattle.algebra.specs.cells.CellTests.{storedT}
+use Rattle.algebra.proofs.ring.Bool.{split, split-both}
+use Rattle.algebra.proofs.ring.Paths.{triple}
+use Rattle.algebra.proofs.cells.CellSym.{image-inside}
+use Rattle.algebra.proofs.cells.CellGroup.{sameJ-eq, sameJ-refl}
+use Rattle.algebra.proofs.cells.CellTests.{stored-iff}
 use Rattle.numbers.specs.declared.Pair.{Pair}
-use Rattle.numbers.specs.Prime.{prime}
-use Rattle.numbers.specs.Value.{Value, Residue, field, conj, ring, valueOf, pairOf, Small}
+use Rattle.numbers.specs.Value.{prime, Value, Residue, field, conj, ring, valueOf, pairOf, Small}
 use Rattle.numbers.proofs.Residues.{res-val}
 use Rattle.numbers.proofs.Values.{value-path, value-pair, small-pair}
 use Rattle.slices.specs.Pairs.{at, put, Below}
@@ -142,12 +141,12 @@ module _ (g : Group) (a : J) where
     pub length-images : (l : List Sym) (v : List ℕ) → length (writeImages g a m l j x v) ≡ length v
     unfolding writeImages
     length-images [] v = refl
-    length-images (s ∷ l) v = length-images l _ ∙ cond-keeps (AsLong v) (storedT g a (im a s j)) (length-write g v (im a s j) _) refl
+    length-images (s ∷ l) v = length-images l _ ∙ cond-keeps (AsLong v) (storedT g a (imageOf a s j)) (length-write g v (imageOf a s j) _) refl
 
     pub below-images : (l : List Sym) (v : List ℕ) → Below (prime m) v → Below (prime m) (writeImages g a m l j x v)
     unfolding writeImages
     below-images [] v b = b
-    below-images (s ∷ l) v b = below-images l _ (cond-keeps (Below (prime m)) (storedT g a (im a s j)) (below-write g v (im a s j) _ b (small-pair m _)) b)
+    below-images (s ∷ l) v b = below-images l _ (cond-keeps (Below (prime m)) (storedT g a (imageOf a s j)) (below-write g v (imageOf a s j) _ b (small-pair m _)) b)
 
     -- a list that stands for B stands, after the record, for what the theory's record makes of B
     pub images-hold : 0 < a .2 → Inside a j → (l : List Sym) (v : List ℕ) → length v ≡ volumeLength g a → (B : FactorVolume (Residue m)) → Holds g a m v B
@@ -155,6 +154,6 @@ module _ (g : Group) (a : J) where
     unfolding writeImages putAll factorActs
     images-hold pos n [] v len B e = e
     images-hold pos n (s ∷ l) v len B e = images-hold pos n l _
-        (cond-keeps (AsLong v) (storedT g a (im a s j)) (length-write g v (im a s j) _) refl ∙ len)
+        (cond-keeps (AsLong v) (storedT g a (imageOf a s j)) (length-write g v (imageOf a s j) _) refl ∙ len)
         _
-        (split-both (Holds g a m) (storedT g a (im a s j)) (λ t. write-holds a m pos v g len B e (im a s j) (im-inside a s j n) (stored-iff g a (im a s j) .0 t) (imp (field m) (conj m) s j x)) (λ t. e))
+        (split-both (Holds g a m) (storedT g a (imageOf a s j)) (λ t. write-holds a m pos v g len B e (imageOf a s j) (image-inside a s j n) (stored-iff g a (imageOf a s j) .0 t) (impliedValue (field m) (conj m) s j x)) (λ t. e))

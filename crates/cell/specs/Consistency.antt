@@ -7,26 +7,21 @@ use mathlib.Core.List.{List, [], _∷_, _++_}
 use Prim.Native.Nat.{ℕ, _+_, _*_, _≤_}
 use lib.ListN.{length, getD, set}
 use lib.Dec.{eqb}
-use Rattle.algebra.specs.Residue.{Res}
-use Rattle.algebra.specs.Cell.{J, Inside, Sym, Group, P1, P2₁, Pm, Pa, P2₁2₁2₁, Cell, full, ops, im, pim, imp, factorActs, MapObeys}
-use Rattle.algebra.specs.Cell as Cell
-use Rattle.algebra.specs.CellSteps.{Lawful}
-use Rattle.algebra.specs.Orbit.{Mem, recorded}
-use Rattle.algebra.specs.CellTests.{every, everyPlace, imply, storedT, storedPointT, agreesT}
-use Rattle.algebra.specs.CellPack.{even}
+use Rattle.algebra.specs.ring.Residue.{Res}
+use Rattle.algebra.specs.cells.Cell.{J, Inside, Sym, Group, P1, P2₁, Pm, Pa, P2₁2₁2₁, Cell, full, ops, imageOf, pointImage, impliedValue, factorActs, MapObeys}
+use Rattle.algebra.specs.cells.Cell as Cell
+use Rattle.algebra.specs.cells.CellSteps.{Lawful}
+use Rattle.algebra.specs.orbits.Orbit.{Mem, recorded}
+use Rattle.algebra.specs.cells.CellTests.{every, everyPlace, imply, storedT, storedPointT, agreesT}
+use Rattle.algebra.specs.cells.CellPack.{even}
 use Rattle.numbers.specs.declared.Pair.{Pair}
-use Rattle.numbers.specs.Prime.{prime}
-use Rattle.numbers.specs.Value.{Value, field, conj, real, pairOf}
+use Rattle.numbers.specs.Value.{prime, Value, field, conj, real, pairOf}
 use Rattle.slices.specs.Pairs.{at, put, Below}
 use Rattle.cell.specs.Volume.{rotated, timesI, volumeLength, layers, rows, columns, pairPlace, mapPlace, numbersRead, lineIn, packFactors, packMap}
 
 -- two values have the same numbers
 abbrev pub sameValue : {p : ℕ} → Res p × Res p → Res p × Res p → Bool
 sameValue x y = eqb (x .0 .val) (y .0 .val) && eqb (x .1 .val) (y .1 .val)
-
-unfoldable pub all : {S : Type 0} → (S → Bool) → List S → Bool
-all P [] = true
-all P (x ∷ l) = P x && all P l
 
 module _ (g : Group) (a : J) where
   -- The stored image at (h, k, l) gets the pair x: a whole pair, but in an alternating line one number at l = 0 and one at l = A, the part that can differ from 0.
@@ -46,7 +41,7 @@ module _ (g : Group) (a : J) where
   module _ (m : ℕ) where
     -- the value that x at j implies at the image of j
     abbrev pub implied : Sym → J → Value m → Value m
-    implied s j x = imp (field m) (conj m) s j x
+    implied s j x = impliedValue (field m) (conj m) s j x
 
     -- a record: each operation in turn writes its image, where that is stored, times i where its line is rotated
     abbrev pub writtenPair : J → Value m → Pair
@@ -54,7 +49,7 @@ module _ (g : Group) (a : J) where
 
     unfoldable pub writeImages : List Sym → J → Value m → List ℕ → List ℕ
     writeImages [] j x v = v
-    writeImages (s ∷ l) j x v = writeImages l j x (cond (storedT g a (im a s j)) (write g v (im a s j) (writtenPair (im a s j) (implied s j x))) v)
+    writeImages (s ∷ l) j x v = writeImages l j x (cond (storedT g a (imageOf a s j)) (write g v (imageOf a s j) (writtenPair (imageOf a s j) (implied s j x))) v)
 
     abbrev pub recordOn : J → Value m → List ℕ → List ℕ
     recordOn j x v = writeImages (full g) j x v
@@ -68,17 +63,20 @@ module _ (g : Group) (a : J) where
     agreesWithItself j x = agreesT (field m) (conj m) sameValue g a j x
 
     -- Refusal 14 of factors is not this: each stored image of each stored place has the implied value, and the pairs of Pa that are no part of a line are zero.
-    abbrev pub lineAgrees : List ℕ → J → Bool
-    lineAgrees v j = every (full g) (λ s. imply (storedT g a (im a s j)) (sameValue (lineIn g a m v ((im a s j) .0) ((im a s j) .1) ((im a s j) .2)) (implied s j (lineIn g a m v (j .0) (j .1) (j .2)))))
+    abbrev pub imageAgrees : List ℕ → J → Sym → Bool
+    imageAgrees v j s = imply (storedT g a (imageOf a s j)) (sameValue (lineIn g a m v ((imageOf a s j) .0) ((imageOf a s j) .1) ((imageOf a s j) .2)) (implied s j (lineIn g a m v (j .0) (j .1) (j .2))))
 
-    unfoldable pub zeroPair : List ℕ → (w h k : ℕ) → Bool
-    zeroPair v w h k = eqb (getD v (2 * pairPlace g a w h k) 0) 0 && eqb (getD v (2 * pairPlace g a w h k + 1) 0) 0
+    abbrev pub lineAgrees : List ℕ → J → Bool
+    lineAgrees v j = every (full g) (λ s. imageAgrees v j s)
+
+    unfoldable pub pairIsZero : List ℕ → (w h k : ℕ) → Bool
+    pairIsZero v w h k = eqb (getD v (2 * pairPlace g a w h k) 0) 0 && eqb (getD v (2 * pairPlace g a w h k + 1) 0) 0
 
     abbrev pub zeroEnds : Group → List ℕ → (h k : ℕ) → Bool
     zeroEnds P1 v h k = true
     zeroEnds P2₁ v h k = true
     zeroEnds Pm v h k = true
-    zeroEnds Pa v h k = imply (not (even h)) (zeroPair v 0 h k && zeroPair v (a .2) h k)
+    zeroEnds Pa v h k = imply (not (even h)) (pairIsZero v 0 h k && pairIsZero v (a .2) h k)
     zeroEnds P2₁2₁2₁ v h k = true
 
     unfoldable pub consistentFactors : List ℕ → Bool
@@ -87,14 +85,17 @@ module _ (g : Group) (a : J) where
   -- Refusal 24 is not this: the numbers that hold part of the orbit are zero.
   unfoldable pub orbitNumbers : List Sym → J → List ℕ
   orbitNumbers [] j = []
-  orbitNumbers (s ∷ l) j = numbersRead g a (im a s j) ++ orbitNumbers l j
+  orbitNumbers (s ∷ l) j = numbersRead g a (imageOf a s j) ++ orbitNumbers l j
 
   unfoldable pub orbitFree : List ℕ → J → Bool
-  orbitFree v j = all (λ q. eqb (getD v q 0) 0) (orbitNumbers (full g) j)
+  orbitFree v j = every (orbitNumbers (full g) j) (λ q. eqb (getD v q 0) 0)
 
   -- Refusal 14 of a map is not this: points of stored planes that are images of each other have the same number, and each row ends with two zeros.
+  abbrev pub pointImageAgrees : List ℕ → J → Sym → Bool
+  pointImageAgrees v x s = imply (storedPointT g a (pointImage a s x)) (eqb (getD v (mapPlace g a (pointImage a s x)) 0) (getD v (mapPlace g a x) 0))
+
   abbrev pub pointAgrees : List ℕ → J → Bool
-  pointAgrees v x = every (ops g) (λ s. imply (storedPointT g a (pim a s x)) (eqb (getD v (mapPlace g a (pim a s x)) 0) (getD v (mapPlace g a x) 0)))
+  pointAgrees v x = every (ops g) (λ s. pointImageAgrees v x s)
 
   abbrev pub rowEnds : List ℕ → (z x : ℕ) → Bool
   rowEnds v z x = eqb (getD v (mapPlace g a (x, 2 * a .1, z)) 0) 0 && eqb (getD v (mapPlace g a (x, 2 * a .1 + 1, z)) 0) 0

@@ -1,6 +1,5 @@
 pub mod Volume
 pub mod Consistency
-pub mod Sums
 pub mod Operations
 pub mod Places
 pub mod TestSteps

@@ -1,7 +1,7 @@
 -- What the numbers of a call stand for: the axes, an index or a point, an operation; and what holds of them once a call is checked.
 use mathlib.Core.Path.{_≡_}
 use Prim.Native.Nat.{ℕ, _/_, _%_, _<_, _≤_}
-use Rattle.algebra.specs.Cell.{J, Sym, sym}
+use Rattle.algebra.specs.cells.Cell.{J, Sym, sym}
 use Rattle.cell.specs.declared.operations.Index.{Index}
 use Rattle.cell.specs.declared.operations.Point.{Point}
 use Rattle.cell.specs.declared.operations.Operation.{Operation}

@@ -5,25 +5,25 @@ use mathlib.Core.List.{List, [], _∷_}
 use Prim.Native.Nat.{ℕ, zero, suc, _+_, _≤_}
 use lib.Dec.{ltb}
 use lib.ListN.{getD}
-use Rattle.algebra.specs.Cell.{J, Group}
+use Rattle.algebra.specs.cells.CellTests.{every}
+use Rattle.algebra.specs.cells.Cell.{J, Group}
 use Rattle.numbers.specs.Value.{Value}
 use Rattle.cell.specs.Volume.{lineKind, lineNumbers, wholeLine, lineIn}
-use Rattle.cell.specs.Consistency.{all}
 use Rattle.cell.specs.declared.places.Run.{Run}
 
 -- the places first, first + 1, .., count of them
-unfoldable pub run : (first count : ℕ) → List ℕ
-run first zero = []
-run first (suc count) = first ∷ run (first + 1) count
+unfoldable pub consecutive : (first count : ℕ) → List ℕ
+consecutive first zero = []
+consecutive first (suc count) = first ∷ consecutive (first + 1) count
 
 -- r is the places of a list, and they lie in a volume of len numbers
 pub record IsRun (len : ℕ) (places : List ℕ) (r : Run) : Type 0 where
-  pub are : run (r .first) (r .count) ≡ places
+  pub are : consecutive (r .first) (r .count) ≡ places
   pub inside : r .first + r .count ≤ len
 
 -- the numbers of the volume v at these places are below p
 abbrev pub allBelowAt : ℕ → List ℕ → List ℕ → Bool
-allBelowAt p v places = all (λ q. ltb (getD v q 0) p) places
+allBelowAt p v places = every places (λ q. ltb (getD v q 0) p)
 
 -- the numbers that the factor at j is read from, and that factor, where k is from 0 to B
 abbrev pub lineNumbersAt : Group → (a j : J) → List ℕ

@@ -1,17 +1,18 @@
--- The tests of refusal 14 step by step: what they are lent, and what one image, one row must show.
+-- The tests of refusal 14 step by step: what they are lent, and what one line's ends and one row must show.
 use mathlib.Core.Path.{_≡_}
 use mathlib.Core.Bool.{Bool, _&&_, not}
 use mathlib.Core.List.{List}
 use Prim.Native.Nat.{ℕ, _+_, _*_, _/_, _<_, _≤_}
-use lib.ListN.{length, getD}
+use lib.ListN.{length}
 use lib.Dec.{eqb}
-use Rattle.algebra.specs.Cell.{J, Sym, Group, P1, span, im, pim}
-use Rattle.algebra.specs.CellTests.{below, imply, storedT, storedPointT}
-use Rattle.algebra.specs.CellPack.{even}
+use Rattle.algebra.specs.cells.Cell.{J, Group, P1, span}
+use Rattle.algebra.specs.cells.CellTests.{below, imply}
+use Rattle.algebra.specs.cells.CellPack.{even}
 use Rattle.numbers.specs.declared.Pair.{Pair}
 use Rattle.slices.specs.Pairs.{at}
-use Rattle.cell.specs.Volume.{groupOf, pairPlace, mapPlace, volumeLength, lineIn}
-use Rattle.cell.specs.Consistency.{sameValue, implied, pointAgrees, rowEnds}
+use Rattle.cell.specs.Volume.{groupOf, pairPlace, volumeLength}
+use Rattle.cell.specs.Consistency.{pointAgrees, rowEnds}
+pub use Rattle.cell.specs.Consistency.{imageAgrees, pointImageAgrees}
 use Rattle.cell.specs.declared.operations.Index.{Index}
 use Rattle.cell.specs.Operations.{halvesOf, Length, Sizes}
 
@@ -42,13 +43,6 @@ abbrev pub isZero : Pair → Bool
 isZero x = eqb (x .re) 0 && eqb (x .im) 0
 
 module _ (g : Group) (a : J) where
-  -- one image of a stored factor, and one of a point of a stored plane
-  abbrev pub imageAgrees : (m : ℕ) → List ℕ → J → Sym → Bool
-  imageAgrees m v j s = imply (storedT g a (im a s j)) (sameValue (lineIn g a m v ((im a s j) .0) ((im a s j) .1) ((im a s j) .2)) (implied g a m s j (lineIn g a m v (j .0) (j .1) (j .2))))
-
-  abbrev pub pointImageAgrees : List ℕ → J → Sym → Bool
-  pointImageAgrees v x s = imply (storedPointT g a (pim a s x)) (eqb (getD v (mapPlace g a (pim a s x)) 0) (getD v (mapPlace g a x) 0))
-
   -- the pairs 0 and A of the line (h, k) are zero; asked only where h is odd: there Pa has no factors in them
   abbrev pub emptyEnds : List ℕ → (h k : ℕ) → Bool
   emptyEnds v h k = isZero (at v (pairPlace g a 0 h k)) && isZero (at v (pairPlace g a (a .2) h k))

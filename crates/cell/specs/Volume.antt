@@ -5,14 +5,15 @@ use mathlib.Core.List.{List, [], _∷_}
 use Prim.Native.Nat.{ℕ, suc, _+_, _*_, _-_, _/_, _%_, min}
 use lib.ListN.{getD}
 use lib.Dec.{ltb, leb, eqb}
-use Rattle.algebra.specs.Kinds.{Kind, Kind.plain, Kind.hermitian, Kind.antihermitian, Kind.alternating, Kind.symmetric, Kind.antisymmetric, slots, unfoldBefore, packBefore}
-use Rattle.algebra.specs.Cell.{J, Group, P1, P2₁, Pm, Pa, P2₁2₁2₁, Cell, im, pim, negI, planes, prep}
-use Rattle.algebra.specs.CellPack.{even}
-use Rattle.algebra.specs.Residue.{Res}
+use Rattle.algebra.specs.lines.Kinds.{Kind, Kind.plain, Kind.hermitian, Kind.antihermitian, Kind.alternating, Kind.symmetric, Kind.antisymmetric, slots, unfoldBefore, packBefore}
+use Rattle.algebra.specs.cells.Cell.{J, Group, P1, P2₁, Pm, Pa, P2₁2₁2₁, Cell, imageOf, pointImage, negI, planes, pointOperation}
+use Rattle.algebra.specs.cells.CellPack.{even}
+use Rattle.algebra.specs.ring.Residue.{Res}
 use Rattle.numbers.specs.declared.Pair.{Pair}
-use Rattle.numbers.specs.Value.{Value, field, conj, i, half, real, value, pairOf}
-use Rattle.slices.specs.Pairs.{tab}
-use Rattle.slices.specs.Values.{valuesOf}
+use Rattle.numbers.specs.Value.{Value, field, conj, i, half, real, value, pairOf, part}
+use Rattle.slices.specs.Pairs.{tab, valuesOf}
+use Rattle.algebra.specs.cells.Cell as C
+pub use Rattle.roots.specs.Root.{axis}
 
 -- the groups by the paper's numbers
 abbrev pub groupOf : ℕ → Group
@@ -67,11 +68,11 @@ module _ (g : Group) (a : J) where
   abbrev pub columns : ℕ
   columns = suc (a .1)
 
-  abbrev pub pairCount : ℕ
-  pairCount = layers * rows * columns
+  abbrev pub volumePairs : ℕ
+  volumePairs = layers * rows * columns
 
   abbrev pub volumeLength : ℕ
-  volumeLength = 2 * pairCount
+  volumeLength = 2 * volumePairs
 
   -- the place of the pair w of (h, k), and of the pair k of the map's row at z = w, x = h
   abbrev pub pairPlace : (w h k : ℕ) → ℕ
@@ -79,7 +80,7 @@ module _ (g : Group) (a : J) where
 
   -- the volume whose pair at place (w, h, k) is f w h k
   unfoldable pub volumeOf : (ℕ → ℕ → ℕ → Pair) → List ℕ
-  volumeOf f = tab pairCount (λ j. f (j / columns / rows) (j / columns % rows) (j % columns))
+  volumeOf f = tab volumePairs (λ j. f (j / columns / rows) (j / columns % rows) (j % columns))
 
   -- Packed factors. The packed line of (h, k) is the pairs of its kind, of the line times i where it is rotated; in Pa with h odd the pairs 0 and A are no part of it, and zero.
   module _ (m : ℕ) where
@@ -113,7 +114,7 @@ module _ (g : Group) (a : J) where
 
   -- the place of a point's number: on a plane that is not stored, that of its image under the group's first operation but the identity
   abbrev pub densityPlace : J → ℕ
-  densityPlace x = mapPlace (pim a (prep g a x) x)
+  densityPlace x = mapPlace (pointImage a (pointOperation g a x) x)
 
   module _ (m : ℕ) where
     unfoldable pub packMap : Cell (Value m) → List ℕ
@@ -138,3 +139,14 @@ module _ (g : Group) (a : J) where
   numbersRead j =
       cond (leb (j .1) (a .1)) (lineNumbers (lineKind g (j .0)) (j .0) (j .1) (j .2))
       (lineNumbers (lineKind g (negI (a .0) (j .0))) (negI (a .0) (j .0)) (negI (a .1) (j .1)) (negI (a .2) (j .2)))
+
+-- ---- The map of a cell of factors and the factors of a map: the paper's triple sums over the whole cell.
+
+module _ (m : ℕ) (a : J) where
+  -- at (x, y, z) the sum over all h, k, l of F(h, k, l) e(hx/N1) e(ky/N2) e(lz/N3)
+  abbrev pub mapOf : Cell (Value m) → Cell (Value m)
+  mapOf F = C.mapOf (field m) (axis m (a .0)) (axis m (a .1)) (axis m (a .2)) F
+
+  -- at (h, k, l) the sum over all points of the value times e(-hx/N1) e(-ky/N2) e(-lz/N3), divided by N1 N2 N3
+  abbrev pub factorsOf : Cell (Value m) → Cell (Value m)
+  factorsOf M = C.factorsOf (field m) (conj m) (axis m (a .0)) (axis m (a .1)) (axis m (a .2)) M

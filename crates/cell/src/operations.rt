@@ -8,10 +8,9 @@ ghost use mathlib.Core.Path.{_≡_};
 ghost use mathlib.Core.Bool.{true, false};
 ghost use Prim.Native.Nat.{_/_, _<_, _≤_};
 ghost use lib.ListN.{length, getD};
-ghost use Rattle.algebra.specs.Ring.{Ops};
-ghost use Rattle.algebra.specs.Cell.{Sym, P2₁2₁2₁, one, friedel, _·_, ops, full, lineSym, xor, flip, turn, im, pim, sgn, imp};
-ghost use Rattle.numbers.specs.Prime.{prime, IsModulus};
-ghost use Rattle.numbers.specs.Value.{field, conj, valueOf, pairOf, Small};
+ghost use Rattle.algebra.specs.ring.Ring.{Ops};
+ghost use Rattle.algebra.specs.cells.Cell.{Sym, P2₁2₁2₁, one, friedel, _·_, ops, full, lineSym, xor, flip, shifted, imageOf, pointImage, sgn, impliedValue};
+ghost use Rattle.numbers.specs.Value.{prime, IsModulus, field, conj, valueOf, pairOf, Small};
 ghost use Rattle.cell.specs.Volume.{groupOf};
 ghost use Rattle.cell.specs.Operations.{halvesOf, tripleOf, pointOf, symOf, Length, Within, PointWithin};
 
@@ -175,7 +174,7 @@ pub fn flipped(minus: bool, n: u32, h: u32) -> u32
 // x or x + n/2 on an axis of n, going round.
 fn turned(odd: bool, n: u32, x: u32) -> u32
     requires { ⌜ Length n × (x < n) ⌝ }
-    ensures { λ r. ⌜ (r ≡ turn odd (n / 2) x) × (r < n) ⌝ }
+    ensures { λ r. ⌜ (r ≡ shifted odd (n / 2) x) × (r < n) ⌝ }
 {
     let half = n / 2;
     if odd {
@@ -188,7 +187,7 @@ fn turned(odd: bool, n: u32, x: u32) -> u32
 // The image of an index.
 pub fn image(o: Operation, n1: u32, n2: u32, n3: u32, j: Index) -> Index
     requires { ⌜ Length n1 × Length n2 × Length n3 × Within n1 n2 n3 j ⌝ }
-    ensures { λ r. ⌜ (tripleOf r ≡ im (halvesOf n1 n2 n3) (symOf o) (tripleOf j)) × Within n1 n2 n3 r ⌝ }
+    ensures { λ r. ⌜ (tripleOf r ≡ imageOf (halvesOf n1 n2 n3) (symOf o) (tripleOf j)) × Within n1 n2 n3 r ⌝ }
 {
     Index {
         h: flipped(o.minus_h, n1, j.h),
@@ -200,7 +199,7 @@ pub fn image(o: Operation, n1: u32, n2: u32, n3: u32, j: Index) -> Index
 // One coordinate of the image of a point: the sign changes if the operation conjugates or reflects, not if it does both.
 fn moved(conjugate: bool, minus: bool, odd: bool, n: u32, x: u32) -> u32
     requires { ⌜ Length n × (x < n) ⌝ }
-    ensures { λ r. ⌜ (r ≡ turn odd (n / 2) (flip (xor conjugate minus) (n / 2) x)) × (r < n) ⌝ }
+    ensures { λ r. ⌜ (r ≡ shifted odd (n / 2) (flip (xor conjugate minus) (n / 2) x)) × (r < n) ⌝ }
 {
     turned(odd, n, flipped(conjugate != minus, n, x))
 }
@@ -208,7 +207,7 @@ fn moved(conjugate: bool, minus: bool, odd: bool, n: u32, x: u32) -> u32
 // The image of a point.
 pub fn point_image(o: Operation, n1: u32, n2: u32, n3: u32, p: Point) -> Point
     requires { ⌜ Length n1 × Length n2 × Length n3 × PointWithin n1 n2 n3 p ⌝ }
-    ensures { λ r. ⌜ (pointOf r ≡ pim (halvesOf n1 n2 n3) (symOf o) (pointOf p)) × PointWithin n1 n2 n3 r ⌝ }
+    ensures { λ r. ⌜ (pointOf r ≡ pointImage (halvesOf n1 n2 n3) (symOf o) (pointOf p)) × PointWithin n1 n2 n3 r ⌝ }
 {
     Point {
         x: moved(o.conjugate, o.minus_h, o.odd_h, n1, p.x),
@@ -236,7 +235,7 @@ pub fn signed(m: u32, odd: bool, h: u32, x: Pair) -> Pair
 // The value at the image of j that x at j implies.
 pub fn implied(m: u32, o: Operation, j: Index, x: Pair) -> Pair
     requires { ⌜ IsModulus m × Small (prime m) x ⌝ }
-    ensures { λ r. ⌜ r ≡ pairOf (imp (field m) (conj m) (symOf o) (tripleOf j) (valueOf m x)) ⌝ }
+    ensures { λ r. ⌜ r ≡ pairOf (impliedValue (field m) (conj m) (symOf o) (tripleOf j) (valueOf m x)) ⌝ }
 {
     let y = signed(
         m,

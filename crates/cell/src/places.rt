@@ -8,11 +8,10 @@ ghost use mathlib.Core.Path.{_≡_};
 ghost use mathlib.Core.Bool.{true, _&&_, _||_, not, cond};
 ghost use Prim.Native.Nat.{_+_, _*_, _-_, _/_, _<_, _≤_, min};
 ghost use lib.Dec.{eqb, leb};
-ghost use Rattle.algebra.specs.Cell.{P1, planes, span, negI, pim, prep};
-ghost use Rattle.algebra.specs.CellTests.{storedT};
-ghost use Rattle.algebra.specs.CellPack.{even};
-ghost use Rattle.numbers.specs.Prime.{prime, IsModulus};
-ghost use Rattle.numbers.specs.Value.{valueOf, pairOf, Small};
+ghost use Rattle.algebra.specs.cells.Cell.{P1, planes, span, negI, pointImage, pointOperation};
+ghost use Rattle.algebra.specs.cells.CellTests.{storedT};
+ghost use Rattle.algebra.specs.cells.CellPack.{even};
+ghost use Rattle.numbers.specs.Value.{prime, IsModulus, valueOf, pairOf, Small};
 ghost use Rattle.cell.specs.Volume.{groupOf, alternates, rotated, timesI, overI, pairPlace, volumeLength, numbersRead, densityPlace};
 ghost use Rattle.cell.specs.Operations.{halvesOf, tripleOf, pointOf, Length, Sizes, Within, PointWithin};
 ghost use Rattle.cell.specs.Places.{IsRun, lineNumbersAt};
@@ -205,7 +204,7 @@ pub fn factor_numbers(group: u32, n1: u32, n2: u32, n3: u32, j: Index) -> Run
 // The point itself if its plane is stored, else its image under the group's first operation but the identity.
 fn stored_point(group: u32, n1: u32, n2: u32, n3: u32, p: Point) -> Point
     requires { ⌜ Sizes group n1 n2 n3 × PointWithin n1 n2 n3 p ⌝ }
-    ensures { λ r. ⌜ (pointOf r ≡ pim (halvesOf n1 n2 n3) (prep (groupOf group) (halvesOf n1 n2 n3) (pointOf p)) (pointOf p)) × PointWithin n1 n2 n3 r ⌝ }
+    ensures { λ r. ⌜ (pointOf r ≡ pointImage (halvesOf n1 n2 n3) (pointOperation (groupOf group) (halvesOf n1 n2 n3) (pointOf p)) (pointOf p)) × PointWithin n1 n2 n3 r ⌝ }
 {
     if p.z < layer_count(group, n3) {
         p

@@ -7,13 +7,14 @@ use Prim.Native.Nat.{ℕ, zero, suc, _<_}
 use native.Mathlib.Omega.{arith}
 use lib.Dec.{ltb, eqb}
 use borrow.Author.Tests.{not-false, ltb-true, lt-ltb, eqb-true, eq-eqb}
-use Rattle.algebra.specs.Gauss.{gauss}
-use Rattle.algebra.specs.Residue.{residues}
-use Rattle.algebra.specs.Cell.{J, Inside, Sym, full, factorActs}
-use Rattle.algebra.specs.Orbit.{Mem, first as first-of, later, Acts, recordAll, Fit, Accepted}
-use Rattle.algebra.proofs.Members.{none, mem-cons}
+use Rattle.algebra.specs.ring.Gauss.{gauss}
+use Rattle.algebra.specs.ring.Residue.{residues}
+use Rattle.algebra.specs.cells.Cell.{J, Inside, Sym, full, factorActs}
+use Rattle.algebra.specs.orbits.Orbit.{Mem, first as first-of, later, Acts, recordAll}
+use Rattle.algebra.specs.orbits.OrbitLaws.{Fit, Accepted}
+use Rattle.algebra.proofs.ring.Members.{none, mem-cons}
 use Rattle.numbers.specs.Value.{Value, field, conj, value, valueOf}
-use Rattle.refusals.specs.Tests.{first, accepted}
+use Rattle.refusals.specs.Refusals.{first, accepted}
 use Rattle.refusals.proofs.Tests.{both, passed, not-t, pass, none as no-test}
 use Rattle.cell.specs.Consistency.{sameValue, recordIn}
 use Rattle.cell.proofs.Tests.{true-iff}
@@ -22,14 +23,13 @@ use Rattle.cell.proofs.Consistency.{zero-pair}
 use Rattle.cell.proofs.Records.{agrees-iff}
 use Rattle.job.specs.declared.Job.{Job}
 use Rattle.job.specs.declared.Reflection.{Reflection}
-use Rattle.job.specs.Header.{collecting, factorsHeld, mapHeld}
-use Rattle.job.specs.Steps.{p, index, done, refused, openTests}
+use Rattle.job.specs.Job.{collecting, factorsHeld, mapHeld, p, index, done, refused, openTests}
 use Rattle.file_format.specs.declared.FileRecord.{FileRecord}
-use Rattle.factor_file.specs.File.{indexOf, headerIn, recordsIn, shapeTests}
+use Rattle.factor_file.specs.Reading.{indexOf, headerIn, recordsIn, shapeTests}
 use Rattle.model.specs.Model.{Model, group, half, factorOf, Call, recording, synthesis, analysis, readPoint, readFactor, modelTests, modelNext, modelSaid, modelAfter, inState, begun, notBegun, beginningTests, openingModel, modelOpen, modelFile, zeroModel, recordingOf, modelFeed}
 use Rattle.demands.specs.Calls.{Start, opening, reading, startHeader, startKind, startVolume, startRecords, firstModel, run, modelAnswers, modelEnd, acceptedRecord, acceptedRecords}
 use Rattle.demands.specs.Demands.{Started, entry, FactorsImplied, allRecords}
-use Rattle.model.proofs.Sound.{Sound, halves-positive, within-inside, inside-within}
+use Rattle.model.proofs.Sound.{LawfulModel, halves-positive, within-inside, inside-within}
 use Rattle.model.proofs.OneCall.{one-call}
 use Rattle.demands.proofs.Lists.{end-header}
 use Rattle.demands.proofs.Openings.{opening-sound}
@@ -52,7 +52,7 @@ zero-value x y lx ly e =
     let v = eq-eqb y 0 (z .1) in
     λ i. u i && v i
 
-record-fits : (m : Model) → Sound m → (k : Reflection) (x y : ℕ) → 0 ≡ first (modelTests m (recording k x y)) → ((x < p) × (y < p)) × FitsIn m (index k) (value 1 x y)
+record-fits : (m : Model) → LawfulModel m → (k : Reflection) (x y : ℕ) → 0 ≡ first (modelTests m (recording k x y)) → ((x < p) × (y < p)) × FitsIn m (index k) (value 1 x y)
 unfolding factorActs gauss residues
 record-fits m sound k x y e =
     let t = passed (modelTests m (recording k x y)) tt e in
@@ -71,7 +71,7 @@ record-fits m sound k x y e =
     true-not-false : true ≡ false → ⊥
     true-not-false q = let z : _≡_ {A = ℕ} 0 1 = cc in omega arith
 
-fits-passes : (m : Model) → Sound m → m .state ≡ collecting → (k : Reflection) (x y : ℕ) → (x < p) × (y < p) → FitsIn m (index k) (value 1 x y) → 0 ≡ first (modelTests m (recording k x y))
+fits-passes : (m : Model) → LawfulModel m → m .state ≡ collecting → (k : Reflection) (x y : ℕ) → (x < p) × (y < p) → FitsIn m (index k) (value 1 x y) → 0 ≡ first (modelTests m (recording k x y))
 unfolding factorActs gauss residues
 fits-passes m sound s k x y l f =
     pass 21 _ (not-t _ (eq-eqb (m .state) collecting s))
@@ -110,7 +110,7 @@ same-factors : (m : Model) (s n : ℕ) (m′ : Model) (cs : List FileRecord) →
 same-factors m s zero m′ cs r = r
 same-factors m s (suc n) m′ cs r = r
 
-call-records : (m : Model) → Sound m → (c : Call) (m′ : Model) (cs : List FileRecord) → Records (modelAfter m c) m′ cs → Records m m′ (acceptedRecord c (modelSaid m c) cs)
+call-records : (m : Model) → LawfulModel m → (c : Call) (m′ : Model) (cs : List FileRecord) → Records (modelAfter m c) m′ cs → Records m m′ (acceptedRecord c (modelSaid m c) cs)
 unfolding modelSaid modelAfter Accepted recordAll recordIn
 call-records m sound (recording k x y) m′ cs r = by (first (modelTests m (recording k x y))) refl r
   where
@@ -122,7 +122,7 @@ call-records m sound (analysis scratch) m′ cs r = same-factors m factorsHeld (
 call-records m sound (readPoint x) m′ cs r = same-factors m (m .state) (first (modelTests m (readPoint x))) m′ cs r
 call-records m sound (readFactor k) m′ cs r = same-factors m (m .state) (first (modelTests m (readFactor k))) m′ cs r
 
-pub list-records : (m : Model) → Sound m → (l : List Call) → Records m (modelEnd m l) (acceptedRecords l (modelAnswers m l))
+pub list-records : (m : Model) → LawfulModel m → (l : List Call) → Records m (modelEnd m l) (acceptedRecords l (modelAnswers m l))
 unfolding modelEnd modelAnswers acceptedRecords Accepted recordAll
 list-records m sound [] = (tt, refl)
 list-records m sound (c ∷ l) = call-records m sound c (modelEnd (modelAfter m c) l) (acceptedRecords l (modelAnswers (modelAfter m c) l)) (list-records (modelAfter m c) (one-call m sound c .1) l)
@@ -149,7 +149,7 @@ not-fed m m′ is = record {
   ends = λ l. ap (λ m. modelEnd m l) is;
 }
 
-fed : (cs : List FileRecord) (place : ℕ) (m m′ : Model) → Sound m → modelFeed cs place m ≡ begun m′ → Fed cs m m′
+fed : (cs : List FileRecord) (place : ℕ) (m m′ : Model) → LawfulModel m → modelFeed cs place m ≡ begun m′ → Fed cs m m′
 unfolding modelFeed modelAnswers modelEnd acceptedRecords modelSaid modelAfter
 fed [] place m m′ sound e = not-fed m m′ (cc)
 fed (c ∷ cs) place m m′ sound e = by (first (modelTests m (recordingOf c))) refl (one-call m sound (recordingOf c) .1) e (fed cs (suc place) (modelNext m (recordingOf c)) m′)
@@ -157,7 +157,7 @@ fed (c ∷ cs) place m m′ sound e = by (first (modelTests m (recordingOf c))) 
     next : Model
     next = modelNext m (recordingOf c)
 
-    by : (n : ℕ) → first (modelTests m (recordingOf c)) ≡ n → Sound (accepted n next (λ n. m)) → accepted n (modelFeed cs (suc place) next) (λ n. notBegun n place) ≡ begun m′ → (Sound next → modelFeed cs (suc place) next ≡ begun m′ → Fed cs next m′) → Fed (c ∷ cs) m m′
+    by : (n : ℕ) → first (modelTests m (recordingOf c)) ≡ n → LawfulModel (accepted n next (λ n. m)) → accepted n (modelFeed cs (suc place) next) (λ n. notBegun n place) ≡ begun m′ → (LawfulModel next → modelFeed cs (suc place) next ≡ begun m′ → Fed cs next m′) → Fed (c ∷ cs) m m′
     by zero q s e f = let r = f s e in
         record {
           same-header = r .same-header;
@@ -169,7 +169,7 @@ fed (c ∷ cs) place m m′ sound e = by (first (modelTests m (recordingOf c))) 
     by (suc n) q s e f = let z : _≡_ {A = ℕ} 0 1 = cc in absurd (omega arith)
 
 -- and records that are accepted one after another are fed
-pub accepted-fed : (cs : List FileRecord) (place : ℕ) (m : Model) → Sound m → m .state ≡ collecting → ((c : FileRecord) → Mem c cs → (c .a < p) × (c .b < p)) →
+pub accepted-fed : (cs : List FileRecord) (place : ℕ) (m : Model) → LawfulModel m → m .state ≡ collecting → ((c : FileRecord) → Mem c cs → (c .a < p) × (c .b < p)) →
     Accepted (actsOn (half m)) (Inside (half m)) (full (group m)) (map entry cs) (factorOf m) →
     modelFeed cs place m ≡ begun (record { header = m .header; state = m .state; F = λ h k l. recordAll (actsOn (half m)) (full (group m)) (map entry cs) (factorOf m) (h, k, l) })
 unfolding modelFeed Accepted recordAll recordIn modelAfter
@@ -178,7 +178,7 @@ accepted-fed (c ∷ cs) place m sound s small ok =
     let next = modelNext m (recordingOf c) in
     let e : first (modelTests m (recordingOf c)) ≡ 0 = sym (fits-passes m sound s (indexOf c) (c .a) (c .b) (small c first-of) (ok .0)) in
     ap (λ n. accepted n (modelFeed cs (suc place) next) (λ n. notBegun n place)) e
-    ∙ accepted-fed cs (suc place) next (subst (λ n. Sound (accepted n next (λ n. m))) e (one-call m sound (recordingOf c) .1)) s (λ c i. small c (later i)) (ok .1)
+    ∙ accepted-fed cs (suc place) next (subst (λ n. LawfulModel (accepted n next (λ n. m))) e (one-call m sound (recordingOf c) .1)) s (λ c i. small c (later i)) (ok .1)
 
 -- ---- from an accepted start on
 
@@ -186,7 +186,7 @@ module _ (s : Start) (j : Job) (v : List ℕ) (m : Model) (started : Started s j
   pub start-passes : 0 ≡ first (openTests (startHeader s) (startKind s) (startVolume s))
   start-passes = opened-passes s j (ap (λ o. o .answer) (started .gives))
 
-  pub first-sound : Sound (firstModel s)
+  pub first-sound : LawfulModel (firstModel s)
   first-sound = opening-sound (startHeader s) (startKind s) (startVolume s) start-passes
 
 pub start-fed : (s : Start) (j : Job) (v : List ℕ) (m : Model) → Started s j v m → Fed (startRecords s) (firstModel s) m

@@ -8,11 +8,11 @@ use Prim.Native.Nat.{ℕ, zero, suc}
 use native.Mathlib.Omega.{arith}
 use lib.Dec.{eqb}
 use borrow.Author.Tests.{not-false, eq-eqb}
-use Rattle.algebra.specs.Cell.{Sym, ops, pim}
-use Rattle.algebra.specs.Orbit.{Mem}
-use Rattle.algebra.proofs.CellSym.{pim-inside}
+use Rattle.algebra.specs.cells.Cell.{Sym, ops, pointImage}
+use Rattle.algebra.specs.orbits.Orbit.{Mem}
+use Rattle.algebra.proofs.cells.CellSym.{point-inside}
 use Rattle.numbers.specs.Value.{value, conj}
-use Rattle.refusals.specs.Tests.{Test, _⇒_, first, accepted}
+use Rattle.refusals.specs.Refusals.{Test, _⇒_, first, accepted}
 use Rattle.refusals.proofs.Tests.{none, not-t, pass, passed}
 use Rattle.cell.specs.Volume.{groupOf}
 use Rattle.cell.specs.Consistency.{sameValue}
@@ -22,11 +22,10 @@ use Rattle.cell.proofs.Maps.{ops-plain}
 use Rattle.job.specs.declared.Job.{Job}
 use Rattle.job.specs.declared.Reflection.{Reflection}
 use Rattle.job.specs.declared.GridPoint.{GridPoint}
-use Rattle.job.specs.Header.{Header, halvesOf, mapHeld}
-use Rattle.job.specs.Steps.{within, index, position, done, density, refused, Outcome, recordStep, pointStep}
+use Rattle.job.specs.Job.{Header, halfLengths, mapHeld, within, index, position, done, density, refused, Outcome, recordStep, pointStep}
 use Rattle.model.specs.Model.{Model, group, half, factorOf, densityOf, Call, recording, readPoint, modelTests, modelSaid, modelVolume, modelJob}
 use Rattle.demands.specs.Calls.{Ran, run, modelRan, modelEnd}
-use Rattle.model.proofs.Sound.{Sound, within-inside, inside-within, map-obeys-group, density-real}
+use Rattle.model.proofs.Sound.{LawfulModel, within-inside, inside-within, map-obeys-group, density-real}
 use Rattle.model.proofs.OneCall.{one-call, accepted-call}
 use Rattle.demands.proofs.Lists.{every-list, end-sound, end-header}
 
@@ -48,7 +47,7 @@ refused-by (suc n) f = refl
 
 -- ---- of a sound model
 
-module _ (m : Model) (sound : Sound m) where
+module _ (m : Model) (sound : LawfulModel m) where
   point-said : (x : GridPoint) → pointStep (modelJob m) x (modelVolume m) .answer ≡ modelSaid m (readPoint x)
   point-said x = ap (λ (o : Outcome). o .answer) (one-call m sound (readPoint x) .0)
 
@@ -62,16 +61,16 @@ module _ (m : Model) (sound : Sound m) where
     density-real m sound (position x) (within-inside m sound (position x) w),
   )
 
-  image-said : (q : Sym) → Mem q (ops (group m)) → (x y : GridPoint) → within (m .header .lengths) (position x) ≡ true → position y ≡ pim (half m) q (position x) → modelSaid m (readPoint y) ≡ modelSaid m (readPoint x)
+  image-said : (q : Sym) → Mem q (ops (group m)) → (x y : GridPoint) → within (m .header .lengths) (position x) ≡ true → position y ≡ pointImage (half m) q (position x) → modelSaid m (readPoint y) ≡ modelSaid m (readPoint x)
   unfolding modelSaid
   image-said q mq x y w e =
       let n = within-inside m sound (position x) w in
-      let v : within (m .header .lengths) (position y) ≡ true = ap (within (m .header .lengths)) e ∙ inside-within m sound _ (pim-inside (half m) q (position x) n) in
+      let v : within (m .header .lengths) (position y) ≡ true = ap (within (m .header .lengths)) e ∙ inside-within m sound _ (point-inside (half m) q (position x) n) in
       let u = v ∙ sym w in
       let d : densityOf m (position y) ≡ densityOf m (position x) = ap (densityOf m) e ∙ map-obeys-group m sound q mq (position x) n ∙ ops-plain (conj 1) (group m) q mq _ in
       λ i. accepted (first (not (eqb (m .state) mapHeld) ⇒ 22 ∷ not (u i) ⇒ 10 ∷ [])) (density (d i .0 .val)) refused
 
-  image-alike : (q : Sym) → Mem q (ops (group m)) → (x y : GridPoint) → within (m .header .lengths) (position x) ≡ true → position y ≡ pim (half m) q (position x) →
+  image-alike : (q : Sym) → Mem q (ops (group m)) → (x y : GridPoint) → within (m .header .lengths) (position x) ≡ true → position y ≡ pointImage (half m) q (position x) →
       pointStep (modelJob m) y (modelVolume m) .answer ≡ pointStep (modelJob m) x (modelVolume m) .answer
   image-alike q mq x y w e = point-said y ∙ image-said q mq x y w e ∙ sym (point-said x)
 
@@ -99,7 +98,7 @@ module _ (m : Model) (sound : Sound m) where
 
 -- ---- after any list of calls on the job and the volume of a sound model
 
-module _ (m : Model) (sound : Sound m) (j : Job) (v : List ℕ) (is-job : j ≡ modelJob m) (is-volume : v ≡ modelVolume m) (l : List Call) where
+module _ (m : Model) (sound : LawfulModel m) (j : Job) (v : List ℕ) (is-job : j ≡ modelJob m) (is-volume : v ≡ modelVolume m) (l : List Call) where
   pub runs : run j v l ≡ modelRan m l
   runs = (λ i. run (is-job i) (is-volume i) l) ∙ every-list m sound l
 
@@ -113,11 +112,11 @@ module _ (m : Model) (sound : Sound m) (j : Job) (v : List ℕ) (is-job : j ≡ 
       let r = point-is-sum (modelEnd m l) (end-sound m sound l) (sym (ap (λ (r : Ran). r .job .state) runs) ∙ s) x (at-end (λ h. within (h .lengths) (position x) ≡ true) w) in
       (ap (λ (r : Ran). pointStep (r .job) x (r .volume) .answer) runs ∙ r .0, r .1)
 
-  pub images-alike : (q : Sym) → Mem q (ops (group m)) → (x y : GridPoint) → within (m .header .lengths) (position x) ≡ true → position y ≡ pim (half m) q (position x) →
+  pub images-alike : (q : Sym) → Mem q (ops (group m)) → (x y : GridPoint) → within (m .header .lengths) (position x) ≡ true → position y ≡ pointImage (half m) q (position x) →
       pointStep (run j v l .job) y (run j v l .volume) .answer ≡ pointStep (run j v l .job) x (run j v l .volume) .answer
   images-alike q mq x y w e =
       ap (λ (r : Ran). pointStep (r .job) y (r .volume) .answer) runs
-      ∙ image-alike (modelEnd m l) (end-sound m sound l) q (at-end (λ h. Mem q (ops (groupOf (h .group)))) mq) x y (at-end (λ h. within (h .lengths) (position x) ≡ true) w) (at-end (λ h. position y ≡ pim (halvesOf (h .lengths)) q (position x)) e)
+      ∙ image-alike (modelEnd m l) (end-sound m sound l) q (at-end (λ h. Mem q (ops (groupOf (h .group)))) mq) x y (at-end (λ h. within (h .lengths) (position x) ≡ true) w) (at-end (λ h. position y ≡ pointImage (halfLengths (h .lengths)) q (position x)) e)
       ∙ sym (ap (λ (r : Ran). pointStep (r .job) x (r .volume) .answer) runs)
 
   pub occupied-exactly : (k : Reflection) (x y : ℕ) → let a = recordStep (run j v l .job) k x y (run j v l .volume) .answer in

@@ -2,21 +2,21 @@
 use mathlib.Core.Path.{_≡_, refl, ap, _∙_}
 use mathlib.Core.List.{List, [], _∷_}
 use Prim.Native.Nat.{ℕ, zero, suc}
-use Rattle.refusals.specs.Tests.{first, accepted}
-use Rattle.job.specs.Steps.{Outcome}
+use Rattle.refusals.specs.Refusals.{first, accepted}
+use Rattle.job.specs.Job.{Outcome}
 use Rattle.model.specs.Model.{Model, Call, recording, synthesis, analysis, readPoint, readFactor, modelTests, modelNext, modelSaid, modelAfter, modelVolume, modelJob}
 use Rattle.demands.specs.Calls.{answering, run, modelAnswers, modelEnd, modelRan}
-use Rattle.model.proofs.Sound.{Sound}
+use Rattle.model.proofs.Sound.{LawfulModel}
 use Rattle.model.proofs.OneCall.{one-call}
 
-pub every-list : (m : Model) → Sound m → (l : List Call) → run (modelJob m) (modelVolume m) l ≡ modelRan m l
+pub every-list : (m : Model) → LawfulModel m → (l : List Call) → run (modelJob m) (modelVolume m) l ≡ modelRan m l
 unfolding run modelAnswers modelEnd
 every-list m sound [] = refl
 every-list m sound (c ∷ l) =
     let r = one-call m sound c in
     ap (λ (o : Outcome). answering (o .answer) (run (o .job) (o .volume) l)) (r .0) ∙ ap (answering (modelSaid m c)) (every-list (modelAfter m c) (r .1) l)
 
-pub end-sound : (m : Model) → Sound m → (l : List Call) → Sound (modelEnd m l)
+pub end-sound : (m : Model) → LawfulModel m → (l : List Call) → LawfulModel (modelEnd m l)
 unfolding modelEnd
 end-sound m sound [] = sound
 end-sound m sound (c ∷ l) = end-sound (modelAfter m c) (one-call m sound c .1) l

@@ -9,38 +9,37 @@ use native.Mathlib.Omega.{arith}
 use lib.ListN.{length, replicate, length-replicate}
 use lib.Dec.{T, leb, eqb}
 use borrow.Author.Tests.{not-false, leb-false, eqb-true, eq-eqb, ne-eqb}
-use Rattle.algebra.specs.Gauss.{gauss}
-use Rattle.algebra.specs.Residue.{residues}
-use Rattle.algebra.specs.Cell.{J, Group, P1, P2₁, Pm, Pa, P2₁2₁2₁}
-use Rattle.algebra.specs.CellPack as Pack
-use Rattle.algebra.specs.CellPack.{even, partOf, packAlt}
-use Rattle.algebra.specs.CellSteps.{Lawful}
-use Rattle.algebra.proofs.Laws.{neg-zero}
-use Rattle.algebra.proofs.CellGroup.{imp-zero}
-use Rattle.algebra.proofs.CellTests.{Positive}
-use Rattle.numbers.specs.Prime.{prime}
-use Rattle.numbers.specs.Value.{Value, field, conj, i, ring, value, valueOf}
+use Rattle.algebra.specs.ring.Gauss.{gauss}
+use Rattle.algebra.specs.ring.Residue.{residues}
+use Rattle.algebra.specs.cells.Cell.{J, Group, P1, P2₁, Pm, Pa, P2₁2₁2₁}
+use Rattle.algebra.specs.cells.CellPack as Pack
+use Rattle.algebra.specs.cells.CellPack.{even, partOf, packAlt}
+use Rattle.algebra.specs.cells.CellSteps.{Lawful}
+use Rattle.algebra.proofs.ring.Laws.{neg-zero}
+use Rattle.algebra.proofs.cells.CellGroup.{implied-zero}
+use Rattle.algebra.proofs.cells.CellTests.{Positive}
+use Rattle.numbers.specs.Value.{prime, Value, field, conj, i, ring, value, valueOf}
 use Rattle.numbers.specs.Value as Value
-use Rattle.numbers.proofs.Primes.{prime-pos}
+use Rattle.numbers.proofs.Primes.{first-modulus, prime-pos}
 use Rattle.numbers.proofs.Residues.{res-ring}
 use Rattle.numbers.proofs.Values.{value-path, field-ring, field-star}
 use Rattle.slices.specs.Pairs.{Below, allBelow}
 use Rattle.slices.proofs.Bounds.{below-replicate, below-allBelow}
 use Rattle.slices.proofs.Segments.{at-zeros}
-use Rattle.refusals.specs.Tests.{Test, first, accepted}
+use Rattle.refusals.specs.Refusals.{Test, first, accepted}
 use Rattle.refusals.proofs.Tests.{and-left, and-right, both, Passed, passed}
 use Rattle.cell.specs.Volume.{groupOf, volumeLength, packFactors}
 use Rattle.cell.specs.Consistency.{consistentMap}
 use Rattle.cell.proofs.VolumeLayout.{place-inside}
 use Rattle.cell.proofs.Consistency.{packed-list}
 use Rattle.cell.proofs.Points.{opened-factors, opened-map}
-use Rattle.job.specs.Header.{Header, halvesOf, axisTests, collecting, mapHeld, jobOf, validJob}
-use Rattle.job.specs.Steps.{p, volumeTests, openTests, openStep, opened, notOpened, OpenOutcome}
+use Rattle.job.specs.Job.{Header, halfLengths, axisTests, collecting, mapHeld, jobOf, validJob, p, volumeTests, openTests, openStep, opened, notOpened, OpenOutcome}
 use Rattle.header.proofs.Headers.{sound-axes}
-use Rattle.header.proofs.Openings.{header-passed}
+use Rattle.job.proofs.check.Openings.{header-passed}
 use Rattle.job.proofs.Jobs.{opened-valid}
 use Rattle.model.specs.Model.{Model, modelJob, modelVolume, zeroModel, mapModel, openingModel, beginningTests}
-use Rattle.model.proofs.Sound.{Sound, axis-laws}
+use Rattle.model.proofs.Sound.{LawfulModel}
+use Rattle.line.proofs.kinds.Axes.{axis-laws}
 
 -- ---- tests after tests
 
@@ -63,7 +62,7 @@ first-append (t ∷ ts) us h = one (t .fails) (t .number) (and-left (leb 1 (t .n
 
 zero-lawful : (g : Group) (a : J) → Lawful (field 1) (conj 1) a g (λ h k l. value 1 0 0)
 unfolding gauss residues
-zero-lawful g a s ms j n = sym (imp-zero (field-ring 1) (field-star 1) a s j)
+zero-lawful g a s ms j n = sym (implied-zero (field-ring 1) (field-star 1) a s j)
 
 either : (b : Bool) → _≡_ {A = Value 1} (value 1 0 0 .0, partOf (ring 1) b (value 1 0 0)) (value 1 0 0)
 either true = refl
@@ -104,10 +103,10 @@ module _ (h : Header) (kind : ℕ) (v : List ℕ) (none : 0 ≡ first (openTests
   header-sound : 0 ≡ first (axisTests h)
   header-sound = header-passed h kind v none
 
-  opening-long : Positive (halvesOf (h .lengths))
+  opening-long : Positive (halfLengths (h .lengths))
   opening-long = let s = sound-axes h header-sound in (s .0 .size .positive, s .1 .size .positive, s .2 .size .positive)
 
-  volume-long : length v ≡ volumeLength (groupOf (h .group)) (halvesOf (h .lengths))
+  volume-long : length v ≡ volumeLength (groupOf (h .group)) (halfLengths (h .lengths))
   volume-long = eqb-true _ _ (not-false _ (tests .1 .1 .1 .1 .1 .1 .0))
 
   pub kind-is : (kind ≡ 0) ⊎ (kind ≡ 1)
@@ -122,12 +121,12 @@ module _ (h : Header) (kind : ℕ) (v : List ℕ) (none : 0 ≡ first (openTests
   job-valid s l = opened-valid h s (leb-false _ _ (tests .0)) header-sound l
 
   -- kind 0
-  zero-sound : Sound (zeroModel h)
-  zero-sound = record { valid = job-valid 0 (omega arith); lawful = zero-lawful (groupOf (h .group)) (halvesOf (h .lengths)) }
+  zero-sound : LawfulModel (zeroModel h)
+  zero-sound = record { valid = job-valid 0 (omega arith); lawful = zero-lawful (groupOf (h .group)) (halfLengths (h .lengths)) }
 
   zero-volume : replicate (length v) 0 ≡ modelVolume (zeroModel h)
   unfolding modelVolume
-  zero-volume = ap (λ n. replicate n 0) volume-long ∙ sym (zero-packed (groupOf (h .group)) (halvesOf (h .lengths)) opening-long)
+  zero-volume = ap (λ n. replicate n 0) volume-long ∙ sym (zero-packed (groupOf (h .group)) (halfLengths (h .lengths)) opening-long)
 
   -- kind 1: the tests that only a map is put to
   module _ (map : kind ≡ 1) where
@@ -137,25 +136,25 @@ module _ (h : Header) (kind : ℕ) (v : List ℕ) (none : 0 ≡ first (openTests
     volume-below : Below (prime 1) v
     volume-below = below-allBelow (prime 1) v (prime-pos 1) (asked (allBelow p v) (tests .1 .1 .1 .1 .1 .1 .1 .0))
 
-    volume-consistent : consistentMap (groupOf (h .group)) (halvesOf (h .lengths)) v ≡ true
+    volume-consistent : consistentMap (groupOf (h .group)) (halfLengths (h .lengths)) v ≡ true
     volume-consistent = asked _ (tests .1 .1 .1 .1 .1 .1 .1 .1 .0)
 
-    map-sound : Sound (mapModel h v)
+    map-sound : LawfulModel (mapModel h v)
     map-sound = let s = sound-axes h header-sound in
         record {
           valid = job-valid 2 (omega arith);
-          lawful = opened-factors (groupOf (h .group)) (halvesOf (h .lengths)) 1 (axis-laws (s .0 .size)) (axis-laws (s .1 .size)) (axis-laws (s .2 .size)) v volume-long volume-below volume-consistent;
+          lawful = opened-factors (groupOf (h .group)) (halfLengths (h .lengths)) 1 (axis-laws 1 first-modulus (s .0 .size)) (axis-laws 1 first-modulus (s .1 .size)) (axis-laws 1 first-modulus (s .2 .size)) v volume-long volume-below volume-consistent;
         }
 
     map-volume : v ≡ modelVolume (mapModel h v)
     unfolding modelVolume
     map-volume = let s = sound-axes h header-sound in
-        sym (opened-map (groupOf (h .group)) (halvesOf (h .lengths)) 1 (axis-laws (s .0 .size)) (axis-laws (s .1 .size)) (axis-laws (s .2 .size)) v volume-long volume-below volume-consistent)
+        sym (opened-map (groupOf (h .group)) (halfLengths (h .lengths)) 1 (axis-laws 1 first-modulus (s .0 .size)) (axis-laws 1 first-modulus (s .1 .size)) (axis-laws 1 first-modulus (s .2 .size)) v volume-long volume-below volume-consistent)
 
     not-zero : eqb kind 0 ≡ false
     not-zero = ne-eqb kind 0 (λ e. omega arith)
 
-  pub opening-sound : Sound (openingModel h kind v)
+  pub opening-sound : LawfulModel (openingModel h kind v)
   opening-sound = ⊎-elim (λ e. rw (eq-eqb kind 0 e) zero-sound) (λ e. rw (not-zero e) (map-sound e)) kind-is
 
   pub opening-gives : openStep h kind v ≡ given (openingModel h kind v)
@@ -192,7 +191,7 @@ module _ (h : Header) (kind : ℕ) (v : List ℕ) where
 pub no-fault : (h : Header) (kind : ℕ) (v : List ℕ) (n : ℕ) → faultOf h kind v ≡ suc n → (suc n ≡ 6 → ⊥) → (kind ≡ 1 → (suc n ≡ 7 → ⊥) × (suc n ≡ 14 → ⊥)) → ⊥
 unfolding first
 no-fault h kind v n e six map =
-    let a = halvesOf (h .lengths) in
+    let a = halfLengths (h .lengths) in
     by (not (eqb (length v) (volumeLength (groupOf (h .group)) a))) (eqb kind 1 && not (allBelow p v)) (eqb kind 1 && not (consistentMap (groupOf (h .group)) a v)) (asked-of _) (asked-of _) e
   where
     asked-of : (b : Bool) → (eqb kind 1 && b) ≡ true → kind ≡ 1

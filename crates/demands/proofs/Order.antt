@@ -9,21 +9,19 @@ use native.Mathlib.Omega.{arith}
 use lib.ListN.{length}
 use lib.Dec.{leb, eqb}
 use borrow.Author.Tests.{eq-eqb, ne-eqb}
-use Rattle.algebra.specs.Cell.{full}
-use Rattle.algebra.specs.Orbit.{Mem, first as first-of, later, Perm, p-nil, p-skip, p-swap, p-trans}
-use Rattle.algebra.proofs.Orbits.{reorder}
-use Rattle.algebra.proofs.CellGroup.{factor-action, closed}
+use Rattle.algebra.specs.cells.Cell.{full}
+use Rattle.algebra.specs.orbits.Orbit.{Mem, first as first-of, later, Perm, p-nil, p-skip, p-swap, p-trans}
+use Rattle.algebra.proofs.orbits.Orbits.{reorder}
+use Rattle.algebra.proofs.cells.CellGroup.{factor-action, closed}
 use Rattle.numbers.proofs.Values.{field-ring, field-star}
-use Rattle.refusals.specs.Tests.{_⇒_, first, accepted}
-use Rattle.cell.specs.Volume.{groupOf, packFactors, mapIn, packMap}
-use Rattle.cell.specs.Sums.{mapOf, factorsOf}
+use Rattle.refusals.specs.Refusals.{_⇒_, first, accepted}
+use Rattle.cell.specs.Volume.{groupOf, packFactors, mapIn, packMap, mapOf, factorsOf}
 use Rattle.job.specs.declared.Job.{Job}
-use Rattle.job.specs.Header.{Header, halvesOf, needed, axisTests, factorsHeld, mapHeld}
-use Rattle.job.specs.Steps.{opened, openTests}
+use Rattle.job.specs.Job.{Header, halfLengths, needed, axisTests, factorsHeld, mapHeld, opened, openTests}
 use Rattle.file_format.specs.declared.FileRecord.{FileRecord}
 use Rattle.file_format.proofs.shape.Shapes.{same-shape}
 use Rattle.file_format.proofs.layout.Heads.{same-header}
-use Rattle.factor_file.specs.File.{countAt, headerIn, recordsIn, shapeTests, fileStep}
+use Rattle.factor_file.specs.Reading.{countAt, headerIn, recordsIn, shapeTests, fileStep}
 use Rattle.model.specs.Model.{Model, group, half, factorOf, Call, recording, synthesis, analysis, readPoint, readFactor, modelTests, modelNext, modelSaid, modelAfter, inState, factorVolume, mapVolume, modelVolume, begun, zeroModel, mapModel, modelFeed}
 use Rattle.demands.specs.Calls.{Start, reading, startHeader, startKind, startVolume, startRecords, firstModel, run, modelAnswers, modelEnd, acceptedRecords}
 use Rattle.demands.specs.Demands.{Started, entry, Alike, allRecords, OrderFree, AlikeStarts, FileOrderFree}
@@ -64,10 +62,10 @@ record SameCell (m m′ : Model) : Type 0 where
 
 module _ {m m′ : Model} (same : SameCell m m′) where
   same-factor-volume : factorVolume m ≡ factorVolume m′
-  same-factor-volume = λ i. packFactors (groupOf (same .same-group i)) (halvesOf (same .same-lengths i)) 1 (same .same-F i)
+  same-factor-volume = λ i. packFactors (groupOf (same .same-group i)) (halfLengths (same .same-lengths i)) 1 (same .same-F i)
 
   same-map-volume : mapVolume m ≡ mapVolume m′
-  same-map-volume = λ i. packMap (groupOf (same .same-group i)) (halvesOf (same .same-lengths i)) 1 (mapOf 1 (halvesOf (same .same-lengths i)) (same .same-F i))
+  same-map-volume = λ i. packMap (groupOf (same .same-group i)) (halfLengths (same .same-lengths i)) 1 (mapOf 1 (halfLengths (same .same-lengths i)) (same .same-F i))
 
   same-volume : eqb (m .state) mapHeld ≡ eqb (m′ .state) mapHeld → modelVolume m ≡ modelVolume m′
   unfolding modelVolume
@@ -132,7 +130,7 @@ alike-first s s′ a (inr e) =
     ∙ same-unlisted (mapModel (startHeader s) (startVolume s)) (mapModel (startHeader s′) (startVolume s′)) (record {
       same-group = a .same-group;
       same-lengths = a .same-lengths;
-      same-F = λ i. factorsOf 1 (halvesOf (a .same-lengths i)) (mapIn (groupOf (a .same-group i)) (halvesOf (a .same-lengths i)) 1 (a .same-map e i));
+      same-F = λ i. factorsOf 1 (halfLengths (a .same-lengths i)) (mapIn (groupOf (a .same-group i)) (halfLengths (a .same-lengths i)) 1 (a .same-map e i));
     }) refl
     ∙ ap unlisted (sym (first-map s′ (sym (a .same-kind) ∙ e)))
 

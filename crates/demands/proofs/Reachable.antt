@@ -9,18 +9,17 @@ use native.Mathlib.Omega.{arith}
 use lib.ListN.{length, replicate, length-replicate}
 use lib.Dec.{T, eqb}
 use borrow.Author.Tests.{le-ltb, eq-eqb}
-use Rattle.refusals.specs.Tests.{Test, _⇒_, first, accepted}
+use Rattle.refusals.specs.Refusals.{Test, _⇒_, first, accepted}
 use Rattle.refusals.proofs.Tests.{and-left, and-right, pass, none}
 use Rattle.lengths.specs.Lengths.{scratchLength, cleared}
 use Rattle.job.specs.declared.Job.{Job}
-use Rattle.job.specs.Header.{Header, needed, factorsHeld, mapHeld, headerOf, withState, validJob}
-use Rattle.job.specs.Steps.{openTests, Said, done, density, factor, refused, Outcome, Worked, unchanged, recordStep, synthesisTests, synthesised, synthesisStep, analysisTests, analysed, analysisStep, pointStep, factorStep}
-use Rattle.header.proofs.Openings.{volume-collects, volume-decides}
+use Rattle.job.specs.Job.{Header, needed, factorsHeld, mapHeld, headerOf, withState, validJob, openTests, Said, done, density, factor, refused, Outcome, Worked, unchanged, recordStep, synthesisTests, synthesised, synthesisStep, analysisTests, analysed, analysisStep, pointStep, factorStep}
+use Rattle.job.proofs.check.Openings.{volume-collects, volume-decides}
 use Rattle.job.proofs.Jobs.{job-of-header, valid-parts, valid-with}
 use Rattle.model.specs.Model.{Model, Call, recording, synthesis, analysis, readPoint, readFactor, modelTests, modelNext, modelAfter, modelJob, modelVolume, inState, zeroModel}
 use Rattle.demands.specs.Calls.{opening, step, Ran, modelEnd}
 use Rattle.demands.specs.Demands.{Reachable, ImpossibleExactly}
-use Rattle.model.proofs.Sound.{Sound}
+use Rattle.model.proofs.Sound.{LawfulModel}
 use Rattle.demands.proofs.Corollaries.{runs}
 use Rattle.demands.proofs.Lists.{every-list, end-sound}
 use Rattle.demands.proofs.Openings.{opening-sound, opening-gives}
@@ -75,7 +74,7 @@ module _ (j : Job) (valid : validJob j ≡ true) where
       let m = zeroModel (headerOf j) in
       let scratch : List ℕ = replicate scratchLength 0 in
       let long : scratchLength ≤ length scratch = rw length-replicate (omega arith) in
-      let sound : Sound m = opening-sound (headerOf j) 0 zeros passes in
+      let sound : LawfulModel m = opening-sound (headerOf j) 0 zeros passes in
       let l = callsTo (headerOf j) scratch long (j .state) in (
         opening (headerOf j) 0 zeros,
         modelJob m,

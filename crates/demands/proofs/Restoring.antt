@@ -6,22 +6,21 @@ use Prim.Native.Nat.{ℕ, zero, suc, _≤_}
 use native.Mathlib.Omega.{arith}
 use lib.ListN.{length}
 use borrow.Author.Tests.{not-false, eqb-true, le-ltb}
-use Rattle.algebra.specs.CellSteps.{Lawful}
+use Rattle.algebra.specs.cells.CellSteps.{Lawful}
 use Rattle.numbers.specs.Value.{field, conj}
 use Rattle.numbers.proofs.Primes.{prime-pos}
 use Rattle.slices.proofs.Bounds.{below-allBelow}
-use Rattle.refusals.specs.Tests.{first, accepted}
+use Rattle.refusals.specs.Refusals.{first, accepted}
 use Rattle.lengths.specs.Lengths.{scratchLength, cleared}
 use Rattle.refusals.proofs.Tests.{none, pass, Passed, passed}
 use Rattle.cell.specs.Volume.{factorsIn}
 use Rattle.cell.proofs.Consistency.{consistent-read}
 use Rattle.job.specs.declared.Job.{Job}
-use Rattle.job.specs.Header.{factorsHeld, mapHeld, headerOf, withState, validJob, groupIn, halves}
-use Rattle.job.specs.Steps.{p, done, refused, Outcome, Worked, unchanged, synthesisTests, synthesised, synthesisStep, analysisStep, pointStep}
+use Rattle.job.specs.Job.{factorsHeld, mapHeld, headerOf, withState, validJob, groupIn, halves, p, done, refused, Outcome, Worked, unchanged, synthesisTests, synthesised, synthesisStep, analysisStep, pointStep}
 use Rattle.job.proofs.Jobs.{job-of-header, valid-with, valid-job-sizes}
 use Rattle.model.specs.Model.{Model, group, half, analysis, inState, factorVolume, modelVolume, modelJob}
 use Rattle.demands.specs.Demands.{MapsReal, AnalysisRestores}
-use Rattle.model.proofs.Sound.{Sound, holds-map, holds-factors}
+use Rattle.model.proofs.Sound.{LawfulModel, holds-map, holds-factors}
 use Rattle.model.proofs.OneCall.{result, accepted-call}
 use Rattle.demands.proofs.Corollaries.{point-is-sum}
 
@@ -54,7 +53,7 @@ module _ (j : Job) (v scratch : List ℕ) (e : 0 ≡ first (synthesisTests j v (
       consistent-read (groupIn j) (halves j) (s .first .positive, s .second .positive, s .third .positive) 1 v
       (eqb-true _ _ (not-false _ (tests .1 .1 .0))) (below-allBelow p v (prime-pos 1) (not-false _ (tests .1 .1 .1 .1 .0))) (not-false _ (tests .1 .1 .1 .1 .1 .0))
 
-  held-sound : Sound (inState held mapHeld)
+  held-sound : LawfulModel (inState held mapHeld)
   held-sound = record { valid = valid-with (modelJob held) mapHeld (subst (λ (j : Job). validJob j ≡ true) is-held valid) (omega arith); lawful = read-back .0 }
 
   synthesis-makes : synthesisStep j v scratch .outcome ≡ result done (inState held mapHeld)

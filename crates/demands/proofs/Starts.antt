@@ -5,16 +5,15 @@ use mathlib.Core.List.{List, [], _∷_}
 use Prim.Native.Nat.{ℕ, zero, suc}
 use native.Mathlib.Omega.{arith}
 use lib.ListN.{length, replicate}
-use Rattle.refusals.specs.Tests.{first, accepted}
+use Rattle.refusals.specs.Refusals.{first, accepted}
 use Rattle.job.specs.declared.Job.{Job}
-use Rattle.job.specs.Header.{Header}
-use Rattle.job.specs.Steps.{openTests, Opening, opened, notOpened, OpenOutcome, done, density, factor, refused, Outcome}
+use Rattle.job.specs.Job.{Header, openTests, Opening, opened, notOpened, OpenOutcome, done, density, factor, refused, Outcome}
 use Rattle.file_format.specs.declared.FileRecord.{FileRecord}
-use Rattle.factor_file.specs.File.{headerIn, recordsIn, shapeTests, feed, fileStep}
+use Rattle.factor_file.specs.Reading.{headerIn, recordsIn, shapeTests, feed, fileStep}
 use Rattle.model.specs.Model.{Model, Call, modelTests, modelNext, modelSaid, modelAfter, modelJob, modelVolume, zeroModel, beginningTests, Beginning, begun, notBegun, openingModel, modelOpen, recordingOf, modelFeed, modelFile}
 use Rattle.demands.specs.Calls.{Start, opening, reading, start, modelStart, startHeader, startKind, startVolume, run, modelRan}
 use Rattle.demands.specs.Demands.{Started, EveryList, RefusedStarts, TripleSums, ImagesAlike, OccupiedExactly}
-use Rattle.model.proofs.Sound.{Sound}
+use Rattle.model.proofs.Sound.{LawfulModel}
 use Rattle.model.proofs.OneCall.{one-call}
 use Rattle.demands.proofs.Corollaries
 use Rattle.demands.proofs.Openings.{given, opening-sound, opening-gives, faultOf, Verdict, passes, fails, faulty, verdict, open-refused, no-fault}
@@ -23,7 +22,7 @@ use Rattle.demands.proofs.Openings.{given, opening-sound, opening-gives
 
 -- what is answered and left is what the model begins
 abbrev Agrees : OpenOutcome → Beginning → Type 0
-Agrees o (begun m) = (o ≡ given m) × Sound m
+Agrees o (begun m) = (o ≡ given m) × LawfulModel m
 Agrees o (notBegun n place) = o .answer ≡ notOpened n place
 
 -- what becomes of a file once it is opened, and of its records once one is fed
@@ -33,7 +32,7 @@ afterOpening cs o = elim (o .answer) [ opened j ↦ feed cs 0 j (o .volume) | no
 abbrev afterRecord : List FileRecord → (place : ℕ) → Job → List ℕ → Outcome → OpenOutcome
 afterRecord cs place j v o = elim (o .answer) [ done ↦ feed cs (suc place) (o .job) (o .volume) | refused n ↦ record { answer = notOpened n place; volume = replicate (length v) 0 } | density n ↦ record { answer = opened j; volume = v } | factor x y ↦ record { answer = opened j; volume = v } ]
 
-feed-agrees : (cs : List FileRecord) (place : ℕ) (m : Model) → Sound m → Agrees (feed cs place (modelJob m) (modelVolume m)) (modelFeed cs place m)
+feed-agrees : (cs : List FileRecord) (place : ℕ) (m : Model) → LawfulModel m → Agrees (feed cs place (modelJob m) (modelVolume m)) (modelFeed cs place m)
 unfolding feed modelFeed modelSaid modelAfter
 feed-agrees [] place m s = (refl, s)
 feed-agrees (c ∷ cs) place m s =
@@ -44,12 +43,12 @@ feed-agrees (c ∷ cs) place m s =
     next : Model
     next = modelNext m (recordingOf c)
 
-    by : (n : ℕ) → Sound (accepted n next (λ n. m)) → (Sound next → Agrees (feed cs (suc place) (modelJob next) (modelVolume next)) (modelFeed cs (suc place) next)) →
+    by : (n : ℕ) → LawfulModel (accepted n next (λ n. m)) → (LawfulModel next → Agrees (feed cs (suc place) (modelJob next) (modelVolume next)) (modelFeed cs (suc place) next)) →
         Agrees (afterRecord cs place (modelJob m) (modelVolume m) (record { answer = accepted n done refused; job = modelJob (accepted n next (λ n. m)); volume = modelVolume (accepted n next (λ n. m)) })) (accepted n (modelFeed cs (suc place) next) (λ n. notBegun n place))
     by zero s f = f s
     by (suc n) s f = refl
 
-feed-gives : (cs : List FileRecord) (place : ℕ) (m m′ : Model) → Sound m → modelFeed cs place m ≡ begun m′ → feed cs place (modelJob m) (modelVolume m) ≡ given m′
+feed-gives : (cs : List FileRecord) (place : ℕ) (m m′ : Model) → LawfulModel m → modelFeed cs place m ≡ begun m′ → feed cs place (modelJob m) (modelVolume m) ≡ given m′
 feed-gives cs place m m′ s e = let a : Agrees _ (begun m′) = subst (Agrees _) e (feed-agrees cs place m s) in a .0
 
 -- ---- files
@@ -83,7 +82,7 @@ file-shape file v j e = by (first (shapeTests file)) _ e
 
 -- a start begins a model, with the job and the volume that it gives; or is refused as the model refuses it; or is refused for a fault of its volume
 data Course (s : Start) : Type 0 where
-  begins : (m : Model) → start s ≡ given m → modelStart s ≡ begun m → Sound m → 0 ≡ first (openTests (startHeader s) (startKind s) (startVolume s)) → Course s
+  begins : (m : Model) → start s ≡ given m → modelStart s ≡ begun m → LawfulModel m → 0 ≡ first (openTests (startHeader s) (startKind s) (startVolume s)) → Course s
   refuses : (n place : ℕ) → start s .answer ≡ notOpened n place → modelStart s ≡ notBegun n place → Course s
   faults : (n : ℕ) → start s .answer ≡ notOpened (suc n) 0 → faultOf (startHeader s) (startKind s) (startVolume s) ≡ suc n → Course s
 
@@ -114,10 +113,10 @@ course (reading file v) = shaped (first (shapeTests file)) refl
     shaped (suc n) q = refuses (suc n) 0 (rw q) (rw q)
 
 -- an accepted start begins a sound model, with its job and its volume ..
-pub accepted-start : (s : Start) (j : Job) (v : List ℕ) → start s ≡ record { answer = opened j; volume = v } → (m : Model) × (modelStart s ≡ begun m) × Sound m × (j ≡ modelJob m) × (v ≡ modelVolume m)
+pub accepted-start : (s : Start) (j : Job) (v : List ℕ) → start s ≡ record { answer = opened j; volume = v } → (m : Model) × (modelStart s ≡ begun m) × LawfulModel m × (j ≡ modelJob m) × (v ≡ modelVolume m)
 accepted-start s j v e = by (course s)
   where
-    by : Course s → (m : Model) × (modelStart s ≡ begun m) × Sound m × (j ≡ modelJob m) × (v ≡ modelVolume m)
+    by : Course s → (m : Model) × (modelStart s ≡ begun m) × LawfulModel m × (j ≡ modelJob m) × (v ≡ modelVolume m)
     by (begins m g b sound none) =
         let same : opened j ≡ opened (modelJob m) = ap (λ o. o .answer) (sym e ∙ g) in
         (m, b, sound, cc, ap (λ o. o .volume) (sym e ∙ g))
@@ -151,12 +150,12 @@ refused-start = record { alike = alike }
 -- ---- from an accepted start on
 
 module _ (s : Start) (j : Job) (v : List ℕ) (m : Model) (started : Started s j v m) where
-  pub started-sound : Sound m × (j ≡ modelJob m) × (v ≡ modelVolume m)
+  pub started-sound : LawfulModel m × (j ≡ modelJob m) × (v ≡ modelVolume m)
   started-sound =
       let (m′, b, sound, ej, ev) = accepted-start s j v (started .gives) in
       let same : begun m′ ≡ begun m = sym b ∙ started .begins in
       let is : m′ ≡ m = cc in
-      (subst Sound is sound, ej ∙ ap modelJob is, ev ∙ ap modelVolume is)
+      (subst LawfulModel is sound, ej ∙ ap modelJob is, ev ∙ ap modelVolume is)
 
   pub started-runs : (l : List Call) → run j v l ≡ modelRan m l
   started-runs = let s = started-sound in Corollaries.runs m (s .0) j v (s .1) (s .2)

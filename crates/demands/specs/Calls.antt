@@ -2,11 +2,10 @@
 use mathlib.Core.List.{List, [], _∷_}
 use Prim.Native.Nat.{ℕ}
 use Rattle.job.specs.declared.Job.{Job}
-use Rattle.job.specs.Header.{Header}
-use Rattle.job.specs.Steps.{Said, done, density, factor, refused, OpenOutcome, openStep}
+use Rattle.job.specs.Job.{Header, Said, done, density, factor, refused, OpenOutcome, openStep}
 use Rattle.file_format.specs.declared.FileRecord.{FileRecord}
-use Rattle.factor_file.specs.File.{headerIn, recordsIn, fileStep}
-pub use Rattle.job.specs.Calls.{step}
+use Rattle.factor_file.specs.Reading.{headerIn, recordsIn, fileStep}
+pub use Rattle.job.specs.Job.{step}
 use Rattle.model.specs.Model.{Model, Call, recording, synthesis, analysis, readPoint, readFactor, modelSaid, modelAfter, modelVolume, modelJob, Beginning, openingModel, modelOpen, modelFile}
 
 -- ---- how a job begins: an opening or a file, each with the volume that it is lent

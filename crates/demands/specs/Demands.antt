@@ -8,21 +8,20 @@ use mathlib.Core.List.{List, [], _∷_, _++_, map}
 use Prim.Native.Nat.{ℕ, _+_, _≤_}
 use lib.ListN.{length, take}
 use lib.Dec.{eqb}
-use Rattle.algebra.specs.Cell.{J, Inside, Sym, ops, full, pim, at, factorActs}
-use Rattle.algebra.specs.Orbit.{Mem, Perm, recordAll}
+use Rattle.algebra.specs.cells.Cell.{J, Inside, Sym, ops, full, pointImage, at, factorActs}
+use Rattle.algebra.specs.orbits.Orbit.{Mem, Perm, recordAll}
 use Rattle.numbers.specs.Value.{Value, field, conj, value}
 use Rattle.lengths.specs.Lengths.{scratchLength}
-use Rattle.cell.specs.Volume.{factorsIn}
-use Rattle.cell.specs.Sums.{mapOf}
+use Rattle.cell.specs.Volume.{factorsIn, mapOf}
 use Rattle.job.specs.declared.Job.{Job}
 use Rattle.job.specs.declared.Reflection.{Reflection}
 use Rattle.job.specs.declared.GridPoint.{GridPoint}
-use Rattle.job.specs.Header.{mapHeld, factorsHeld, withState, headerOf, validJob, groupIn, halves}
-use Rattle.job.specs.Steps.{within, index, position, Opening, opened, notOpened, OpenOutcome, Said, done, density, refused, Outcome, Worked, recordStep, synthesisStep, analysisStep, pointStep}
+use Rattle.job.specs.Job.{mapHeld, factorsHeld, withState, headerOf, validJob, groupIn, halves, collecting, within, index, position, Opening, opened, notOpened, OpenOutcome, Said, done, density, refused, Outcome, Worked, recordStep, synthesisStep, analysisStep, pointStep}
 use Rattle.file_format.specs.declared.FileRecord.{FileRecord}
-use Rattle.factor_file.specs.File.{indexOf, countAt, recordsIn, fileStep}
+use Rattle.factor_file.specs.Reading.{indexOf, countAt, recordsIn, fileStep}
 use Rattle.model.specs.Model.{Model, group, half, factorOf, densityOf, Call, modelVolume, modelJob, factorVolume, mapVolume, Beginning, begun, notBegun}
 use Rattle.demands.specs.Calls.{Start, start, modelStart, startHeader, startKind, startVolume, startRecords, firstModel, step, Ran, run, modelRan, modelEnd, acceptedRecords}
+use Rattle.factor_file.specs.Writing.{written, writeStep}
 
 -- A start that is accepted, with the job and the volume that it gives, and the model that it begins.
 pub record Started (s : Start) (j : Job) (v : List ℕ) (m : Model) : Type 0 where
@@ -66,7 +65,7 @@ pub record MapsReal : Type 0 where
 
 -- All images of a point carry the same number.
 pub record ImagesAlike : Type 0 where
-  pub alike : (s : Start) (j : Job) (v : List ℕ) (m : Model) → Started s j v m → (l : List Call) (q : Sym) → Mem q (ops (group m)) → (x y : GridPoint) → within (m .header .lengths) (position x) ≡ true → position y ≡ pim (half m) q (position x) →
+  pub alike : (s : Start) (j : Job) (v : List ℕ) (m : Model) → Started s j v m → (l : List Call) (q : Sym) → Mem q (ops (group m)) → (x y : GridPoint) → within (m .header .lengths) (position x) ≡ true → position y ≡ pointImage (half m) q (position x) →
       pointStep (run j v l .job) y (run j v l .volume) .answer ≡ pointStep (run j v l .job) x (run j v l .volume) .answer
 
 -- Analysis of the map of packed factors restores them: for any job and volume that synthesis accepts, and any scratch that is long enough.
@@ -119,3 +118,10 @@ pub record ImpossibleExactly : Type 0 where
   pub exactly : (j : Job) → (validJob j ≡ true) ↔ Reachable j
   pub refuses : (j : Job) (v : List ℕ) (c : Call) → (step j v c .answer ≡ refused 25) ↔ (Reachable j → ⊥)
   pub keeps : (j : Job) (v : List ℕ) (c : Call) → Reachable j → Reachable (step j v c .job)
+
+-- ---- What is owed of the writer beside its promise: the file that it wrote, read back, gives the job and its factors.
+
+-- read into any volume as long as the one that was written from; the count that was returned is the length of the file
+pub record ReadsBack : Type 0 where
+  pub reads-back : (j : Job) (v output u : List ℕ) (n : ℕ) → writeStep j v output .answer ≡ written n → length u ≡ length v →
+      fileStep (take n (writeStep j v output .output)) u ≡ record { answer = opened (withState j collecting); volume = v }

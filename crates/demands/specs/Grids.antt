@@ -3,9 +3,8 @@ use mathlib.Core.Path.{_≡_}
 use mathlib.Core.List.{List, [], _∷_}
 use Prim.Native.Nat.{ℕ}
 use lib.ListN.{length}
-use Rattle.refusals.specs.Tests.{accepted}
-use Rattle.job.specs.Header.{Header, needed, jobOf, collecting}
-use Rattle.job.specs.Steps.{opened, notOpened, openStep}
+use Rattle.refusals.specs.Refusals.{accepted}
+use Rattle.job.specs.Job.{Header, needed, jobOf, collecting, opened, notOpened, openStep}
 
 -- three axes of one length and one factor list; the number of the refusal, 0 for none
 pub record Grid : Type 0 where

@@ -7,8 +7,7 @@ use lib.ListN.{length, replicate}
 use Rattle.line.specs.Specimens as Lines
 use Rattle.job.specs.declared.Job.{Job}
 use Rattle.job.specs.declared.Reflection.{Reflection}
-use Rattle.job.specs.Header.{Header, jobOf, collecting}
-use Rattle.job.specs.Steps.{p, opened, openStep, done, recordStep, unchanged}
+use Rattle.job.specs.Job.{Header, jobOf, collecting, p, opened, openStep, done, recordStep, unchanged}
 
 pub record Specimen : Type 0 where
   pub group : ℕ

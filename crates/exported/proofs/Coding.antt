@@ -10,10 +10,9 @@ use Rattle.job.specs.declared.Answered.{Answered}
 use Rattle.job.specs.declared.OpenAnswer.{OpenAnswer}
 use Rattle.job.specs.declared.PointAnswer.{PointAnswer}
 use Rattle.job.specs.declared.FactorAnswer.{FactorAnswer}
-use Rattle.job.specs.Steps.{OpenOutcome, Said, Outcome, Worked}
-use Rattle.job.specs.Said.{said, saidOpen, saidPoint, saidFactor, openOutcome, outcome, worked}
+use Rattle.job.specs.Job.{OpenOutcome, Said, Outcome, Worked, said, saidOpen, saidPoint, saidFactor, openOutcome, outcome, worked}
 use Rattle.factor_file.specs.declared.FileAnswer.{FileAnswer}
-use Rattle.factor_file.specs.Said.{saidFile, fileOutcome}
+use Rattle.factor_file.specs.Reading.{saidFile, fileOutcome}
 use Rattle.factor_file.specs.declared.writer.WriteAnswer.{WriteAnswer}
 use Rattle.factor_file.specs.declared.writer.WriteAnswer.the-variants as W
 use Rattle.factor_file.specs.Writing.{WriteOutcome, writeOutcome}
@@ -21,9 +20,8 @@ use Rattle.exported.specs.declared.answers.JobCoded.{JobCoded}
 use Rattle.exported.specs.declared.answers.FileCoded.{FileCoded}
 use Rattle.exported.specs.declared.answers.PointCoded.{PointCoded}
 use Rattle.exported.specs.declared.answers.FactorCoded.{FactorCoded}
-use Rattle.exported.specs.CodedAnswers.{numberSaid, openingCoded, openCoded, fileAnswerCoded, fileCoded, recordCoded, workCoded, pointCoded, factorCoded}
+use Rattle.exported.specs.Answers.{numberSaid, openingCoded, openCoded, fileAnswerCoded, fileCoded, recordCoded, workCoded, pointCoded, factorCoded, writeCoded, lineCoded}
 use Rattle.exported.specs.declared.WriteCoded.{WriteCoded}
-use Rattle.exported.specs.Coded.{writeCoded, lineCoded}
 
 pub open-coded : (a : OpenAnswer) (r : JobCoded) (v : List ℕ) (o : OpenOutcome) → r ≡ openingCoded (saidOpen a) → openOutcome a v ≡ o → (r, v) ≡ openCoded o
 open-coded a r v o h e = ap (λ r. (r, v)) h ∙ ap openCoded e

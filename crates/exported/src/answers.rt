@@ -10,9 +10,9 @@ use job::Job;
 use job::OpenAnswer;
 use job::PointAnswer;
 ghost use mathlib.Core.Path.{_≡_};
-ghost use Rattle.job.specs.Said.{said, saidOpen, saidPoint, saidFactor};
-ghost use Rattle.factor_file.specs.Said.{saidFile};
-ghost use Rattle.exported.specs.CodedAnswers.{numberSaid, noJob, openingCoded, fileAnswerCoded, pointCoded, factorCoded};
+ghost use Rattle.job.specs.Job.{said, saidOpen, saidPoint, saidFactor};
+ghost use Rattle.factor_file.specs.Reading.{saidFile};
+ghost use Rattle.exported.specs.Answers.{numberSaid, noJob, openingCoded, fileAnswerCoded, pointCoded, factorCoded};
 
 // The answer of an opening, a record, a synthesis and an analysis.
 #[repr(C)]

@@ -1,9 +1,9 @@
-// The recorder for programs in C: each function is a public call of crate line, job, factor_file or file_writer under a C name,
-// and include/recorder.h declares it again.
+// The recorder for programs in C: each function is a public call of crate line, job or factor_file under a C name, and
+// include/recorder.h declares it again.
 //
 // A job, an index and a point go in and come back by value; a buffer is a pointer and a length. Every answer has a number: 0, or
 // the paper's number of the refusal. What only an accepted call gives is zero in a refused one.
-pub mod answers; // answers.rt
+pub mod answers; // answers.rt: what the calls answer, as numbers
 
 use crate::answers::FactorCoded;
 use crate::answers::FileCoded;
@@ -17,11 +17,10 @@ use job::Reflection;
 use line::LineAnswer;
 ghost use mathlib.Core.Path.{_≡_};
 ghost use Rattle.line.specs.Line.{lineStep, saidLine};
-ghost use Rattle.job.specs.Steps.{openStep, recordStep, synthesisStep, analysisStep, pointStep, factorStep};
-ghost use Rattle.factor_file.specs.File.{fileStep};
+ghost use Rattle.job.specs.Job.{openStep, recordStep, synthesisStep, analysisStep, pointStep, factorStep};
+ghost use Rattle.factor_file.specs.Reading.{fileStep};
 ghost use Rattle.factor_file.specs.Writing.{writeStep};
-ghost use Rattle.exported.specs.CodedAnswers.{openCoded, fileCoded, recordCoded, workCoded, pointCoded, factorCoded};
-ghost use Rattle.exported.specs.Coded.{writeCoded, lineCoded};
+ghost use Rattle.exported.specs.Answers.{openCoded, fileCoded, recordCoded, workCoded, pointCoded, factorCoded, writeCoded, lineCoded};
 
 // The answer of the writer.
 #[repr(C)]

@@ -5,16 +5,16 @@ use Prim.Native.Nat.{ℕ, zero, suc, _+_, _*_, _-_, _<_, _≤_}
 use native.Mathlib.Omega.{arith}
 use native.Mathlib.Numerals.{add-one}
 use lib.ListN.{length, replicate}
-use Rattle.refusals.specs.Tests.{first, accepted}
+use Rattle.refusals.specs.Refusals.{first, accepted}
 use Rattle.job.specs.declared.Job.{Job}
-use Rattle.job.specs.Steps.{opened, notOpened, OpenOutcome, done, refused, Outcome, unchanged, index, recordTests, recordStep}
+use Rattle.job.specs.Job.{opened, notOpened, OpenOutcome, done, refused, Outcome, unchanged, index, recordTests, recordStep}
 use Rattle.file_format.specs.declared.FileRecord.{FileRecord}
 use Rattle.file_format.specs.declared.reader.Found.the-variants.{Record, End}
-use Rattle.file_format.specs.Shape.{countAt, recordCount, recordsFrom, recordsIn, shapeTests}
-use Rattle.file_format.specs.Records.{foundAt, placeAfter}
+use Rattle.file_format.specs.Format.{countAt, recordCount, recordsFrom, recordsIn, shapeTests}
+use Rattle.file_format.specs.Walk.{foundAt, placeAfter}
 use Rattle.file_format.proofs.shape.Shapes.{filled-by}
 use Rattle.file_format.proofs.Reading.{end-found, record-inside, record-found, record-after}
-use Rattle.factor_file.specs.Feed.{indexOf, feed}
+use Rattle.factor_file.specs.Reading.{indexOf, feed}
 
 -- ---- one record, by what its recording said
 

@@ -3,12 +3,12 @@ use mathlib.Core.Path.{_≡_, refl, _∙_}
 use mathlib.Core.List.{List, [], _∷_}
 use Prim.Native.Nat.{ℕ, zero, suc}
 use lib.ListN.{length, replicate, length-replicate}
-use Rattle.refusals.specs.Tests.{first, accepted}
+use Rattle.refusals.specs.Refusals.{first, accepted}
 use Rattle.job.specs.declared.Job.{Job}
-use Rattle.job.specs.Steps.{Opening, opened, notOpened, OpenOutcome, openStep, Said, done, density, factor, refused, recordStep}
+use Rattle.job.specs.Job.{Opening, opened, notOpened, OpenOutcome, openStep, Said, done, density, factor, refused, recordStep}
 use Rattle.job.proofs.Lengths.{open-length, record-length}
 use Rattle.file_format.specs.declared.FileRecord.{FileRecord}
-use Rattle.factor_file.specs.File.{headerIn, recordsIn, shapeTests, indexOf, feed, fileStep}
+use Rattle.factor_file.specs.Reading.{headerIn, recordsIn, shapeTests, indexOf, feed, fileStep}
 
 -- the outcome's volume is as long as v
 abbrev AsLong : List ℕ → OpenOutcome → Type 0

@@ -1,4 +1,3 @@
-pub mod Stores
 pub mod Spelling
 pub mod Places
 pub mod Walks

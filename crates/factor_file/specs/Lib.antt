@@ -1,9 +1,3 @@
-pub mod File
-pub mod Feed
-pub mod Said
+pub mod Reading
 pub mod Writing
 pub mod Steps
-pub mod Lowest
-pub mod Records
-pub mod Stores
-pub mod StepsFile

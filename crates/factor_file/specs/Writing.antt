@@ -1,24 +1,33 @@
--- The factor file of a job that holds factors, and what writing it answers and leaves. file_layout's Bytes has the bytes of a file, file_bytes' Records
--- the records of a volume.
-use mathlib.Core.Bool.{not}
+-- A factor file written: the records of a volume, the file of a job, and what writing it answers and leaves. The bytes are those of file_format's Format.
+use mathlib.Core.Bool.{Bool, not}
+use Rattle.algebra.specs.cells.Cell.{J, Group, full, imageOf, at, factorActs}
+use Rattle.algebra.specs.cells.CellTests.{every, lexLe, placesOf}
 use mathlib.Core.List.{List, [], _∷_, _++_}
 use Prim.Native.Nat.{ℕ}
+use Rattle.algebra.specs.cells.CellTests as Tests
+use Rattle.numbers.specs.Value.{Value, field, conj}
+use Rattle.cell.specs.Volume.{factorsIn}
+use Rattle.cell.specs.Consistency.{sameValue, consistentFactors}
 use lib.ListN.{length, drop}
 use lib.Dec.{ltb, eqb}
-use Rattle.algebra.specs.Cell.{J}
-use Rattle.algebra.specs.CellTests.{placesOf}
-use Rattle.numbers.specs.Value.{Value}
 use Rattle.slices.specs.Pairs.{allBelow}
-use Rattle.refusals.specs.Tests.{Test, _⇒_, first, accepted}
-use Rattle.refusals.specs.Refusals.{numberOf}
-use Rattle.cell.specs.Consistency.{consistentFactors}
+use Rattle.refusals.specs.Refusals.{Test, _⇒_, first, accepted, numberOf}
 use Rattle.job.specs.declared.Job.{Job}
-use Rattle.job.specs.Header.{headerOf, groupIn, halves, validJob, mapHeld}
-use Rattle.job.specs.Steps.{p, fits}
-use Rattle.file_format.specs.Bytes.{fileOf}
-use Rattle.factor_file.specs.Records.{recordsAt}
+use Rattle.job.specs.Job.{headerOf, groupIn, halves, validJob, mapHeld, p, fits}
+use Rattle.file_format.specs.Format.{fileOf}
 use Rattle.factor_file.specs.declared.writer.WriteAnswer.{WriteAnswer}
 use Rattle.factor_file.specs.declared.writer.WriteAnswer.the-variants.{Written, Refused}
+
+-- j comes no later than any of its images
+abbrev pub isLowest : Group → (a j : J) → Bool
+isLowest g a j = every (full g) (λ s. lexLe j (imageOf a s j))
+
+-- ---- the records of a volume of packed factors: one for each orbit with a value other than zero, at its lowest (h, k, l), by rising h, k, l
+-- (the paper leaves the order of records open).
+
+-- of the places of a list, each that is the lowest of its orbit and has a factor other than zero gives a record
+abbrev pub recordsAt : Group → J → List ℕ → List J → List (J × Value 1)
+recordsAt g a v places = Tests.recordsOf (factorActs (field 1) (conj 1) a) lexLe sameValue (full g) (at (factorsIn g a 1 v)) places
 
 -- ---- the file of a job
 

@@ -1,15 +1,15 @@
 // The bytes of a factor file, written into a lent output: the header and the counts, and the records of the volume.
 //
 // The records are counted by a pass of their own, so that a caller knows how long the file is before anything is written.
-pub mod bytes; // bytes.rt: big-endian numbers
 pub mod head; // head.rt: version, group, lengths and factor lists
 pub mod records; // records.rt: the records of a volume, counted and written
 
+use output::big_endian;
 ghost use mathlib.Core.Path.{_≡_};
 ghost use Prim.Native.Nat.{_≤_};
 ghost use lib.ListN.{length};
-ghost use Rattle.factor_file.specs.Stores.{Room, Put};
-ghost use Rattle.factor_file.specs.StepsFile.{IsFactors, recordsWith, fileWith};
+ghost use Rattle.output.specs.Output.{Wrote};
+ghost use Rattle.factor_file.specs.Steps.{IsFactors, recordsWith, fileWith};
 
 // The file, of count records.
 pub fn put_file(
@@ -25,12 +25,12 @@ pub fn put_file(
     out: &mut [u8],
 ) -> usize
     requires { ⌜ IsFactors group n1 n2 n3 (now volume) × (length (now volume) ≤ 16777216) ⌝ }
-    requires { ⌜ (count ≡ length (recordsWith group n1 n2 n3 (now volume))) × Room 0 (length (fileWith group n1 n2 n3 f1 f2 f3 (now volume))) (now out) ⌝ }
-    ensures { λ r. ⌜ Put 0 (fileWith group n1 n2 n3 f1 f2 f3 (now (volume .entry))) (now (out .entry)) r (now (out .exit)) ⌝ }
+    requires { ⌜ count ≡ length (recordsWith group n1 n2 n3 (now volume)) ⌝ }
+    ensures { λ r. ⌜ Wrote 0 (fileWith group n1 n2 n3 f1 f2 f3 (now (volume .entry))) (now (out .entry)) r (now (out .exit)) ⌝ }
 {
     let follow = file_format::layout::file_length(f1, f2, f3, count) - 4;
-    let first = bytes::put_four(follow as u32, out, 0);
+    let first = big_endian::put_four(out, 0, follow as u32);
     let second = head::put_header(group, n1, n2, n3, f1, f2, f3, out, first);
-    let third = bytes::put_four(count as u32, out, second);
+    let third = big_endian::put_four(out, second, count as u32);
     records::put_records(group, n1, n2, n3, volume, out, third)
 }

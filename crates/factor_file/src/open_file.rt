@@ -4,11 +4,9 @@ use crate::records;
 use job::OpenAnswer;
 use refusals::Checked;
 ghost use mathlib.Core.Path.{_≡_};
-ghost use Rattle.refusals.specs.Tests.{first};
-ghost use Rattle.job.specs.Steps.{openStep};
-ghost use Rattle.job.specs.Said.{openOutcome};
-ghost use Rattle.factor_file.specs.File.{shapeTests, headerIn, fileStep};
-ghost use Rattle.factor_file.specs.Said.{fileOutcome};
+ghost use Rattle.refusals.specs.Refusals.{first};
+ghost use Rattle.job.specs.Job.{openStep, openOutcome};
+ghost use Rattle.factor_file.specs.Reading.{shapeTests, headerIn, fileStep, fileOutcome};
 
 // The opening that the header names. The lists are parts of the file.
 fn open_header(file: &[u8], volume: &mut [u32]) -> OpenAnswer

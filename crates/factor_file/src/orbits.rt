@@ -4,10 +4,10 @@
 use cell::operations;
 use cell::operations::Index;
 ghost use mathlib.Core.Path.{_≡_};
-ghost use Rattle.algebra.specs.CellTests.{lexLe};
+ghost use Rattle.algebra.specs.cells.CellTests.{lexLe};
 ghost use Rattle.cell.specs.Volume.{groupOf};
 ghost use Rattle.cell.specs.Operations.{halvesOf, tripleOf, Sizes, Within};
-ghost use Rattle.factor_file.specs.Lowest.{isLowest};
+ghost use Rattle.factor_file.specs.Writing.{isLowest};
 
 // i comes no later than j in the order h, k, l.
 fn no_later(i: Index, j: Index) -> bool

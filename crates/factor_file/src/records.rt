@@ -7,10 +7,9 @@ use job::Answer;
 use job::Job;
 use job::Reflection;
 ghost use mathlib.Core.Path.{_≡_};
-ghost use Rattle.refusals.specs.Tests.{first};
-ghost use Rattle.file_format.specs.Shape.{shapeTests, recordsIn};
-ghost use Rattle.factor_file.specs.Feed.{feed};
-ghost use Rattle.factor_file.specs.Said.{fileOutcome};
+ghost use Rattle.refusals.specs.Refusals.{first};
+ghost use Rattle.file_format.specs.Format.{shapeTests, recordsIn};
+ghost use Rattle.factor_file.specs.Reading.{feed, fileOutcome};
 
 // The records of a file of sound shape, as a walk from the first hands them out. A record leaves the job as it is.
 pub fn feed_records(file: &[u8], job: Job, volume: &mut [u32]) -> FileAnswer

@@ -12,8 +12,7 @@ ghost use mathlib.Core.Path.{_≡_};
 ghost use Prim.Native.Nat.{_≤_};
 ghost use lib.ListN.{length};
 ghost use Rattle.factor_file.specs.Writing.{writeStep, writeOutcome};
-ghost use Rattle.factor_file.specs.StepsFile.{IsFactors, recordsWith, fileWith};
-ghost use Rattle.factor_file.specs.Steps.{filed};
+ghost use Rattle.factor_file.specs.Steps.{IsFactors, recordsWith, fileWith, filed};
 
 // The answer of the writer: how many bytes it wrote, or why it is turned back.
 pub enum WriteAnswer {

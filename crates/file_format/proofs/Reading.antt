@@ -11,7 +11,8 @@ use borrow.Author.Tests.{le-leb, lt-leb, leb-true, leb-false}
 use native.Mathlib.Nat.{eq-zero-or-pos}
 use Rattle.file_format.specs.declared.FileRecord.{FileRecord}
 use Rattle.file_format.specs.declared.reader.Found.the-variants.{Record, End}
-use Rattle.file_format.specs.Records.{recordAt, recordStands, foundAt, placeAfter}
+use Rattle.file_format.specs.Format.{recordAt}
+use Rattle.file_format.specs.Walk.{recordStands, foundAt, placeAfter}
 
 record-not-end : (c : FileRecord) → Record c ≡ End → ⊥
 record-not-end c e = let z : _≡_ {A = ℕ} 0 1 = cc in omega arith

@@ -5,7 +5,8 @@ use Prim.Native.Nat.{ℕ, zero, suc, _+_, _*_, _<_, _≤_}
 use native.Mathlib.Omega.{arith}
 use lib.ListN.{length, replicate}
 use Rattle.file_format.specs.declared.reader.Found.the-variants.{End}
-use Rattle.file_format.specs.Records.{recordAt, recordsFrom, walk, WalkHandsOutRecords}
+use Rattle.file_format.specs.Format.{recordAt, recordsFrom}
+use Rattle.file_format.specs.Walk.{walk, WalkHandsOutRecords}
 use Rattle.file_format.proofs.Reading.{at-end, at-record, after-record, after-end}
 
 -- at the end a walk stays

@@ -1,6 +1,3 @@
-pub mod Records
-pub mod Numbers
+pub mod Format
 pub mod Places
-pub mod Shape
-pub mod Bytes
-pub mod HeaderIn
+pub mod Walk

@@ -2,7 +2,7 @@
 ghost use mathlib.Core.Path.{_≡_};
 ghost use Prim.Native.Nat.{_+_, _≤_, _<_};
 ghost use lib.ListN.{length};
-ghost use Rattle.file_format.specs.Numbers.{byteAt, twoBytes, fourBytes};
+ghost use Rattle.file_format.specs.Format.{byteAt, twoBytes, fourBytes};
 
 // A byte as a number of 32 bits.
 pub fn wide(x: u8) -> u32

@@ -4,10 +4,10 @@ ghost use mathlib.Core.Path.{_≡_};
 ghost use mathlib.Core.List.{List};
 ghost use Prim.Native.Nat.{ℕ, _+_, _*_, _≤_};
 ghost use lib.ListN.{length};
-ghost use Rattle.algebra.specs.Cell.{J};
+ghost use Rattle.algebra.specs.cells.Cell.{J};
 ghost use Rattle.numbers.specs.Value.{Value};
 ghost use Rattle.lengths.specs.Lengths.{octalDigits};
-ghost use Rattle.file_format.specs.Bytes.{headerBytes, fileOf, headerWith};
+ghost use Rattle.file_format.specs.Format.{headerBytes, fileOf, headerWith};
 
 // How many octal digits a number has.
 pub fn digit_count(factors: u32) -> usize

@@ -1,8 +1,9 @@
-// The records of a factor file: a record, and the reader that walks the file and hands out one record after another.
-pub mod integers; // integers.rt
-pub mod places; // places.rt
-pub mod shape; // shape.rt
-pub mod layout; // layout.rt
+// The factor file as bytes: where its parts stand, what is refused of its shape, how long it is, and the reader that walks it and hands out
+// one record after another.
+pub mod integers; // integers.rt: its numbers
+pub mod places; // places.rt: where its parts stand
+pub mod shape; // shape.rt: what is refused of it
+pub mod layout; // layout.rt: its header, and how long it is
 pub mod reader; // reader.rt: the reader
 
 // A record of a file: an index and the two numbers of its value.

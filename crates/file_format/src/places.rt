@@ -1,7 +1,8 @@
 // Where the parts of a factor file stand: its lists, its record count and its first record.
 ghost use mathlib.Core.Path.{_≡_};
 ghost use Prim.Native.Nat.{_+_, _≤_, _<_};
-ghost use Rattle.file_format.specs.Places.{afterList, countAt, PlacesOf};
+ghost use Rattle.file_format.specs.Format.{afterList, countAt};
+ghost use Rattle.file_format.specs.Places.{PlacesOf};
 
 // Where the second and the third list begin, with their count bytes, and where the record count stands. The first list begins at 12.
 pub struct Places {

@@ -6,7 +6,7 @@
 // the file and a place.
 use crate::FileRecord;
 ghost use mathlib.Core.Path.{_≡_};
-ghost use Rattle.file_format.specs.Records.{recordStands, foundAt, placeAfter, WalkHandsOutRecords};
+ghost use Rattle.file_format.specs.Walk.{recordStands, foundAt, placeAfter, WalkHandsOutRecords};
 
 pub struct RecordReader<'a> {
     pub file: &'a [u8],

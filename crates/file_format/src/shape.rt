@@ -3,8 +3,8 @@
 use refusals::Checked;
 use refusals::Refusal;
 ghost use mathlib.Core.Path.{_≡_};
-ghost use Rattle.refusals.specs.Tests.{first, checkedNumber};
-ghost use Rattle.file_format.specs.Shape.{miscounted, fillingTests, shapeTests};
+ghost use Rattle.refusals.specs.Refusals.{first, checkedNumber};
+ghost use Rattle.file_format.specs.Format.{miscounted, fillingTests, shapeTests};
 
 // Whether the first four bytes do not count the bytes that follow, or no version follows.
 fn is_miscounted(file: &[u8]) -> bool

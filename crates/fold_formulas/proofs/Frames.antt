@@ -4,13 +4,13 @@ use mathlib.Core.List.{List}
 use Prim.Native.Nat.{ℕ, zero, suc, _*_, _/_, _<_, _≤_}
 use native.Mathlib.Nat as N
 use native.Mathlib.Omega.{arith}
-use Rattle.algebra.specs.Ring.{pow}
-use Rattle.algebra.proofs.Transform.{pow-mul}
+use Rattle.algebra.specs.ring.Ring.{pow}
+use Rattle.algebra.proofs.fourier.Transform.{pow-mul}
 use Rattle.numbers.specs.Value.{field}
 use Rattle.roots.specs.Root.{tableRoot}
 use Rattle.numbers.proofs.Values.{field-ring}
 use Rattle.slices.proofs.Rows.{row-end, rows-wide}
-use Rattle.fold_formulas.specs.Frame.{stride, lineRoot, Frame}
+use Rattle.fold_formulas.specs.FoldFormulas.{stride, lineRoot, Frame}
 
 positive-part : (A k : ℕ) → A * k ≡ 1440 → 0 < k
 positive-part A zero e = absurd (omega (arith, N.mul-zero A))

@@ -2,15 +2,15 @@
 use mathlib.Core.Path.{_≡_, _∙_, ap}
 use mathlib.Core.List.{List}
 use Prim.Native.Nat.{ℕ, _/_, _<_}
-use Rattle.algebra.specs.Ring.{pow}
-use Rattle.algebra.specs.Fourier.{dft}
-use Rattle.algebra.proofs.Transform.{dft-cong}
+use Rattle.algebra.specs.ring.Ring.{pow}
+use Rattle.algebra.specs.fourier.Fourier.{dft}
+use Rattle.algebra.proofs.fourier.Transform.{dft-cong}
 use Rattle.numbers.specs.Value.{Value, field}
 use Rattle.roots.specs.Root.{tableRoot}
 use Rattle.numbers.proofs.Values.{field-ring}
-use Rattle.slices.specs.Values.{valuesOf, listOf}
+use Rattle.slices.specs.Pairs.{valuesOf, listOf}
 use Rattle.slices.proofs.Values.{values-list}
-use Rattle.fold_formulas.specs.Frame.{lineRoot, Frame}
+use Rattle.fold_formulas.specs.FoldFormulas.{lineRoot, Frame}
 use Rattle.fold_formulas.proofs.Frames.{short-root}
 
 module _ {m A : ℕ} {re im : List ℕ} (f : Frame m A re im) (g : ℕ → Value m) where

@@ -1,3 +1,1 @@
-pub mod Frame
-pub mod Braids
-pub mod Joining
+pub mod FoldFormulas

@@ -1,21 +1,22 @@
--- The passes and the plain transform between them make up the alternating line's transform, as the algebra's specs/FoldKinds says it.
+-- The passes and the plain transform between them make up the alternating line's transform, as algebra's FoldKinds has it.
 use mathlib.Core.Path.{_≡_, sym, _∙_, ap, ap₂}
 use mathlib.Core.List.{List}
 use Prim.Native.Nat.{ℕ, zero, suc, _+_, _*_, _-_, _/_, _%_, _<_}
 use native.Mathlib.Omega.{arith}
-use Rattle.algebra.specs.Ring.{Ops, Star, pow, sum}
-use Rattle.algebra.specs.Fourier.{dft}
-use Rattle.algebra.specs.Line.{re, im, unit, weave, pack-by, unfoldB3, packB3}
-use Rattle.algebra.specs.Folds.{mate, csc, cot, woven, finish3, slant, twice-M, line3}
-use Rattle.algebra.specs.Kinds.{Kind.alternating, slots}
-use Rattle.algebra.specs.FoldKinds.{fold-forward, fold-back}
-use Rattle.numbers.specs.Value.{Residue, Value, field, conj, i, res, real, half}
+use Rattle.algebra.specs.ring.Ring.{Ops, pow, sum}
+use Rattle.algebra.specs.ring.RingLaws.{Star}
+use Rattle.algebra.specs.fourier.Fourier.{dft}
+use Rattle.algebra.specs.lines.Line.{re, im, unit, weave, pack-by, unfoldB3, packB3}
+use Rattle.algebra.specs.lines.Folds.{mate, csc, cot, woven, finish3, slant, twice-M, line3}
+use Rattle.algebra.specs.lines.Kinds.{Kind.alternating, slots}
+use Rattle.algebra.specs.lines.FoldKinds.{fold-forward, fold-back}
+use Rattle.numbers.specs.Value.{Residue, Value, field, conj, i, res, real, half, onValues}
 use Rattle.roots.specs.Root.{tableRoot}
 use Rattle.numbers.proofs.Residues.{res-by}
 use Rattle.numbers.proofs.Values.{field-star}
-use Rattle.slices.specs.Values.{valuesOf, listOf}
+use Rattle.slices.specs.Pairs.{valuesOf, listOf}
 use Rattle.slices.proofs.Values.{list-cong}
-use Rattle.fold_formulas.specs.Frame.{lineRoot, Frame}
+use Rattle.fold_formulas.specs.FoldFormulas.{lineRoot, Frame}
 use Rattle.fold_formulas.proofs.ShortTransform.{short-transform}
 
 -- ---- each form reads the short transform at places below A
@@ -59,28 +60,28 @@ module _ (m A : ℕ) {reals imags : List ℕ} (f : Frame m A reals imags) (tau p
   v = lineRoot m A reals imags
 
   pub forward-by : (odd share : Value m) {d e l : List ℕ}
-      → odd ≡ sum (field m) A (λ t. im (field m) (conj m) (i m) (real m (half m)) (unfoldB3 (field m) (conj m) (i m) (real m (half m)) A p (2 * t + 1)))
-      → d ≡ listOf A (woven (field m) (i m) (unfoldB3 (field m) (conj m) (i m) (real m (half m)) A p))
+      → odd ≡ sum (field m) A (λ t. onValues m im (onValues m unfoldB3 A p (2 * t + 1)))
+      → d ≡ listOf A (woven (field m) (i m) (onValues m unfoldB3 A p))
       → e ≡ listOf A (dft (field m) A (pow (field m) (tableRoot m reals imags) (2880 / A)) (valuesOf m d))
-      → l ≡ listOf A (finish3 (field m) (conj m) (i m) (real m (half m)) A tau (valuesOf m e) odd)
-      → l ≡ listOf (slots alternating A) (fold-forward (field m) (conj m) (i m) (real m (half m)) A v share tau alternating p)
+      → l ≡ listOf A (onValues m finish3 A tau (valuesOf m e) odd)
+      → l ≡ listOf (slots alternating A) (onValues m fold-forward A v share tau alternating p)
   unfolding slots fold-forward
   forward-by odd share eo ed ee el =
       el ∙ list-cong m A _ _ (λ s h. finish3-cong (field m) (conj m) (i m) (real m (half m)) A tau _ _ _ _ s (short-transform f _ ed ee s h) eo)
 
   -- what the last pass leaves comes first: x, twice and e are then as its call has them
   pub back-by : (share : Residue m) {x : ℕ} {twice : Value m} {d e l : List ℕ}
-      → l ≡ listOf A (packB3 (field m) (conj m) (i m) (real m (half m)) A (line3 (field m) (conj m) (i m) (real m (half m)) A (real m (res m x)) (valuesOf m e) twice))
+      → l ≡ listOf A (onValues m packB3 A (onValues m line3 A (real m (res m x)) (valuesOf m e) twice))
       → x ≡ share .val
-      → twice ≡ twice-M (field m) (conj m) (i m) (real m (half m)) A p
-      → d ≡ listOf A (slant (field m) (conj m) (i m) (real m (half m)) A tau p)
+      → twice ≡ onValues m twice-M A p
+      → d ≡ listOf A (onValues m slant A tau p)
       → e ≡ listOf A (dft (field m) A (pow (field m) (tableRoot m reals imags) (2880 / A)) (valuesOf m d))
-      → l ≡ listOf (slots alternating A) (fold-back (field m) (conj m) (i m) (real m (half m)) A (conj m v) (real m share) tau alternating p)
+      → l ≡ listOf (slots alternating A) (onValues m fold-back A (conj m v) (real m share) tau alternating p)
   unfolding slots fold-back
   back-by share {x} {twice} {d} {e} el ex et ed ee =
       el
       ∙ list-cong m A _ _ (λ t h. packed-cong (field m) (conj m) (i m) (real m (half m)) A (real m (res m x)) (valuesOf m e) _ twice short t h)
-      ∙ ap₂ (λ u n. listOf A (packB3 (field m) (conj m) (i m) (real m (half m)) A (line3 (field m) (conj m) (i m) (real m (half m)) A (real m u) (dft (field m) A (pow (field m) (conj m (conj m v)) 2) (slant (field m) (conj m) (i m) (real m (half m)) A tau p)) n))) (res-by m share ex) et
+      ∙ ap₂ (λ u n. listOf A (onValues m packB3 A (onValues m line3 A (real m u) (dft (field m) A (pow (field m) (conj m (conj m v)) 2) (onValues m slant A tau p)) n))) (res-by m share ex) et
     where
-      short : (s : ℕ) → s < A → valuesOf m e s ≡ dft (field m) A (pow (field m) (conj m (conj m v)) 2) (slant (field m) (conj m) (i m) (real m (half m)) A tau p) s
-      short s k = short-transform f _ ed ee s k ∙ ap (λ w. dft (field m) A (pow (field m) w 2) (slant (field m) (conj m) (i m) (real m (half m)) A tau p) s) (sym (field-star m .conj-conj v))
+      short : (s : ℕ) → s < A → valuesOf m e s ≡ dft (field m) A (pow (field m) (conj m (conj m v)) 2) (onValues m slant A tau p) s
+      short s k = short-transform f _ ed ee s k ∙ ap (λ w. dft (field m) A (pow (field m) w 2) (onValues m slant A tau p) s) (sym (field-star m .conj-conj v))

@@ -13,15 +13,11 @@ pub mod after; // alternating/after.rt
 ghost use mathlib.Core.Path.{_≡_};
 ghost use Prim.Native.Nat.{_*_};
 ghost use lib.ListN.{length};
-ghost use Rattle.algebra.specs.Ring.{Ops};
-ghost use Rattle.algebra.specs.Kinds.{Kind, Kind.alternating, slots};
-ghost use Rattle.algebra.specs.FoldKinds.{fold-forward, fold-back};
-ghost use Rattle.numbers.specs.Prime.{prime};
-ghost use Rattle.numbers.specs.Value.{field, conj, i, real, half, part};
-ghost use Rattle.slices.specs.Pairs.{Below};
-ghost use Rattle.slices.specs.Values.{valuesOf, listOf};
-ghost use Rattle.lengths.specs.Factors.{Factored};
-ghost use Rattle.fold_formulas.specs.Frame.{lineRoot, tangent, Frame, Tangents};
+ghost use Rattle.algebra.specs.lines.Kinds.{Kind, Kind.alternating, slots};
+ghost use Rattle.numbers.specs.Value.{prime};
+ghost use Rattle.slices.specs.Pairs.{Below, valuesOf, listOf};
+ghost use Rattle.lengths.specs.Lengths.{Factored};
+ghost use Rattle.fold_formulas.specs.FoldFormulas.{Frame, Tangents, folded};
 
 // The forward transform: the line becomes X^(0), .., X^(A - 1). The tables are those of the root and of its half tangents.
 pub fn forward<'a>(
@@ -38,10 +34,11 @@ pub fn forward<'a>(
     requires { ⌜ Frame m a (now re) (now im) × Tangents m (now tan) × Factored factors a ⌝ }
     requires { ⌜ (length (now line) ≡ 2 * a) × Below (prime m) (now line) ⌝ }
     requires { ⌜ (length (now fold) ≡ 2 * a) × (length (now work) ≡ 2 * a) ⌝ }
-    ensures { λ _. ⌜ now (line .exit) ≡ listOf (slots alternating a) (fold-forward (field m) (conj m) (i m) (real m (half m)) a (lineRoot m a (now (re .entry)) (now (im .entry))) (real m (part m (2 * a))) (tangent m a (now (tan .entry))) alternating (valuesOf m (now (line .entry)))) ⌝ }
+    ensures { λ _. ⌜ now (line .exit) ≡ listOf (slots alternating a)
+        (folded m 0 a (now (re .entry)) (now (im .entry)) (now (tan .entry)) alternating (valuesOf m (now (line .entry)))) ⌝ }
 {
     let odd = crate::alternating::before::odd_imaginary_sum(m, a, line);
-    crate::alternating::before::weave(m, a, line, fold);
+    crate::alternating::before::short_line(m, a, line, fold);
     plain::transform(m, re, im, factors, a, fold, work);
     crate::alternating::after::finish(m, tan, a, odd, fold, line);
 }
@@ -62,11 +59,12 @@ pub fn inverse<'a>(
     requires { ⌜ Frame m a (now re) (now im) × Tangents m (now tan) × Factored factors a ⌝ }
     requires { ⌜ (length (now line) ≡ 2 * a) × Below (prime m) (now line) ⌝ }
     requires { ⌜ (length (now fold) ≡ 2 * a) × (length (now work) ≡ 2 * a) ⌝ }
-    ensures { λ _. ⌜ now (line .exit) ≡ listOf (slots alternating a) (fold-back (field m) (conj m) (i m) (real m (half m)) a (conj m (lineRoot m a (now (re .entry)) (now (im .entry)))) (real m (part m (2 * a))) (λ s. field m .neg (tangent m a (now (tan .entry)) s)) alternating (valuesOf m (now (line .entry)))) ⌝ }
+    ensures { λ _. ⌜ now (line .exit) ≡ listOf (slots alternating a)
+        (folded m 1 a (now (re .entry)) (now (im .entry)) (now (tan .entry)) alternating (valuesOf m (now (line .entry)))) ⌝ }
 {
     let share = fold_formulas::share(m, a);
     let twice = crate::alternating::after::twice_sum(m, line);
-    crate::alternating::after::slant(m, tan, a, line, fold);
+    crate::alternating::after::inverse_short_line(m, tan, a, line, fold);
     plain::transform(m, re, im, factors, a, fold, work);
     crate::alternating::after::pack(m, share, twice, a, fold, line);
 }

@@ -1,23 +1,22 @@
 // Kinds 1 and 2: the Hermitian lines, X(-t) = conj X(t), and the antihermitian ones, X(-t) = -conj X(t), which are i times those.
 //
-// A packed line has A pairs: pair 0 holds the two reals X(0) and X(A), the others are X(1) .. X(A - 1). The transform of the braid
-// of its two halves has the N = 2 A real results in order, two in a pair; the way back transforms, and takes the braid apart.
-pub mod pass; // hermitian/pass.rt
+// A packed line has A pairs: pair 0 holds the two reals X(0) and X(A), the others are X(1) .. X(A - 1). The transform of the short line
+// has the N = 2 A real results in order, two in a pair; the way back transforms these, and has the line from that.
+pub mod before; // hermitian/before.rt
+pub mod after; // hermitian/after.rt
 
 ghost use mathlib.Core.Path.{_≡_};
+ghost use mathlib.Core.List.{List};
 ghost use Prim.Native.Nat.{ℕ, _*_};
 ghost use lib.ListN.{length};
-ghost use Rattle.algebra.specs.Kinds.{slots};
-ghost use Rattle.algebra.specs.FoldKinds.{fold-forward, fold-back};
-ghost use Rattle.numbers.specs.Prime.{prime};
-ghost use Rattle.numbers.specs.Value.{Value, field, conj, i, half, part, real};
-ghost use Rattle.slices.specs.Pairs.{Below};
-ghost use Rattle.slices.specs.Values.{valuesOf, listOf};
-ghost use Rattle.lengths.specs.Factors.{Factored};
-ghost use Rattle.fold_formulas.specs.Frame.{lineRoot, Frame};
-ghost use Rattle.folds.specs.Hermitian.{kindOf};
+ghost use Rattle.algebra.specs.lines.Kinds.{slots};
+ghost use Rattle.numbers.specs.Value.{prime};
+ghost use Rattle.slices.specs.Pairs.{Below, valuesOf, listOf};
+ghost use Rattle.lengths.specs.Lengths.{Factored};
+ghost use Rattle.fold_formulas.specs.FoldFormulas.{Frame, folded};
+ghost use Rattle.folds.specs.FoldedLines.{hermitianKind};
 
-// The transform of a packed line of either kind, antihermitian where `anti` says so. `braided` and `work` are lent for the work.
+// The transform of a packed line of either kind, antihermitian where `anti` says so. `fold` and `work` are lent for the work.
 pub fn forward<'a>(
     m: u32,
     re: &'a [u32; 2880],
@@ -26,17 +25,19 @@ pub fn forward<'a>(
     factors: u32,
     a: usize,
     line: &mut [u32],
-    braided: &mut [u32],
+    fold: &mut [u32],
     work: &mut [u32],
 )
     requires { ⌜ Frame m a (now re) (now im) × Factored factors a ⌝ }
-    requires { ⌜ (length (now line) ≡ 2 * a) × (length (now braided) ≡ 2 * a) × (length (now work) ≡ 2 * a) ⌝ }
+    requires { ⌜ (length (now line) ≡ 2 * a) × (length (now fold) ≡ 2 * a) × (length (now work) ≡ 2 * a) ⌝ }
     requires { ⌜ Below (prime m) (now line) ⌝ }
-    ensures { λ _. ⌜ ((c : Value m) (tau : ℕ → Value m) → now (line .exit) ≡ listOf (slots (kindOf anti) a) (fold-forward (field m) (conj m) (i m) (real m (half m)) a (lineRoot m a (now (re .entry)) (now (im .entry))) c tau (kindOf anti) (valuesOf m (now (line .entry))))) ⌝ }
+    ensures { λ _. ⌜ ((tan : List ℕ) → now (line .exit)
+        ≡ listOf (slots (hermitianKind anti) a)
+        (folded m 0 a (now (re .entry)) (now (im .entry)) tan (hermitianKind anti) (valuesOf m (now (line .entry))))) ⌝ }
 {
-    crate::hermitian::pass::fold(m, re, im, anti, a, line, braided);
-    plain::transform(m, re, im, factors, a, braided, work);
-    slices::copy(braided, line, a);
+    crate::hermitian::before::short_line(m, re, im, anti, a, line, fold);
+    plain::transform(m, re, im, factors, a, fold, work);
+    slices::copy(fold, line, a);
 }
 
 // The way back, with the tables of the conjugate root lent.
@@ -48,16 +49,18 @@ pub fn inverse<'a>(
     factors: u32,
     a: usize,
     line: &mut [u32],
-    braided: &mut [u32],
+    fold: &mut [u32],
     work: &mut [u32],
 )
     requires { ⌜ Frame m a (now re) (now im) × Factored factors a ⌝ }
-    requires { ⌜ (length (now line) ≡ 2 * a) × (length (now braided) ≡ 2 * a) × (length (now work) ≡ 2 * a) ⌝ }
+    requires { ⌜ (length (now line) ≡ 2 * a) × (length (now fold) ≡ 2 * a) × (length (now work) ≡ 2 * a) ⌝ }
     requires { ⌜ Below (prime m) (now line) ⌝ }
-    ensures { λ _. ⌜ ((tau : ℕ → Value m) → now (line .exit) ≡ listOf (slots (kindOf anti) a) (fold-back (field m) (conj m) (i m) (real m (half m)) a (conj m (lineRoot m a (now (re .entry)) (now (im .entry)))) (real m (part m (2 * a))) tau (kindOf anti) (valuesOf m (now (line .entry))))) ⌝ }
+    ensures { λ _. ⌜ ((tan : List ℕ) → now (line .exit)
+        ≡ listOf (slots (hermitianKind anti) a)
+        (folded m 1 a (now (re .entry)) (now (im .entry)) tan (hermitianKind anti) (valuesOf m (now (line .entry))))) ⌝ }
 {
     let c = fold_formulas::share(m, a);
-    slices::copy(line, braided, a);
-    plain::transform(m, re, im, factors, a, braided, work);
-    crate::hermitian::pass::unfold(m, re, im, anti, c, a, braided, line);
+    slices::copy(line, fold, a);
+    plain::transform(m, re, im, factors, a, fold, work);
+    crate::hermitian::after::unfold(m, re, im, anti, c, a, fold, line);
 }

@@ -9,18 +9,14 @@ pub mod after; // mirror/after.rt
 ghost use mathlib.Core.Path.{_≡_};
 ghost use Prim.Native.Nat.{_*_, _≤_};
 ghost use lib.ListN.{length};
-ghost use Rattle.algebra.specs.Ring.{Ops};
-ghost use Rattle.algebra.specs.Kinds.{slots};
-ghost use Rattle.algebra.specs.FoldKinds.{fold-forward, fold-back};
-ghost use Rattle.numbers.specs.Prime.{prime};
-ghost use Rattle.numbers.specs.Value.{Value, field, conj, i, part, real, half};
-ghost use Rattle.slices.specs.Pairs.{Below};
-ghost use Rattle.slices.specs.Values.{valuesOf, listOf};
-ghost use Rattle.lengths.specs.Factors.{Factored};
-ghost use Rattle.fold_formulas.specs.Frame.{lineRoot, tangent, Frame, Tangents};
-ghost use Rattle.folds.specs.Pairing.{mirrored};
+ghost use Rattle.algebra.specs.lines.Kinds.{slots};
+ghost use Rattle.numbers.specs.Value.{prime};
+ghost use Rattle.slices.specs.Pairs.{Below, valuesOf, listOf};
+ghost use Rattle.lengths.specs.Lengths.{Factored};
+ghost use Rattle.fold_formulas.specs.FoldFormulas.{Frame, Tangents, folded};
+ghost use Rattle.folds.specs.FoldedLines.{mirrorKind};
 
-// The transform of a line, from the packed half to the packed half. It has no factor 1/N: what is promised holds for any `part`.
+// The transform of a line, from the packed half to the packed half.
 pub fn forward<'a>(
     m: u32,
     re: &'a [u32; 2880],
@@ -34,12 +30,13 @@ pub fn forward<'a>(
     work: &mut [u32],
 )
     requires { ⌜ Frame m a (now re) (now im) × Tangents m (now tan) × Factored factors a × (first ≤ 1) ⌝ }
-    requires { ⌜ (length (now line) ≡ 2 * slots (mirrored first) a) × (length (now fold) ≡ 2 * a) × (length (now work) ≡ 2 * a) ⌝ }
+    requires { ⌜ (length (now line) ≡ 2 * slots (mirrorKind first) a) × (length (now fold) ≡ 2 * a) × (length (now work) ≡ 2 * a) ⌝ }
     requires { ⌜ Below (prime m) (now line) ⌝ }
-    ensures { λ _. ⌜ ((part : Value m) → now (line .exit) ≡ listOf (slots (mirrored first) a) (fold-forward (field m) (conj m) (i m) (real m (half m)) a (lineRoot m a (now (re .entry)) (now (im .entry))) part (tangent m a (now (tan .entry))) (mirrored first) (valuesOf m (now (line .entry))))) ⌝ }
+    ensures { λ _. ⌜ now (line .exit) ≡ listOf (slots (mirrorKind first) a)
+        (folded m 0 a (now (re .entry)) (now (im .entry)) (now (tan .entry)) (mirrorKind first) (valuesOf m (now (line .entry)))) ⌝ }
 {
     let odds = crate::mirror::before::odd_sum(m, first, a, line);
-    crate::mirror::before::pairing(m, first, a, line, fold);
+    crate::mirror::before::short_line(m, first, a, line, fold);
     plain::transform(m, re, im, factors, a, fold, work);
     crate::mirror::after::finish(m, tan, first, a, odds, fold, line);
 }
@@ -59,12 +56,13 @@ pub fn inverse<'a>(
     work: &mut [u32],
 )
     requires { ⌜ Frame m a (now re) (now im) × Tangents m (now tan) × Factored factors a × (first ≤ 1) ⌝ }
-    requires { ⌜ (length (now line) ≡ 2 * slots (mirrored first) a) × (length (now fold) ≡ 2 * a) × (length (now work) ≡ 2 * a) ⌝ }
+    requires { ⌜ (length (now line) ≡ 2 * slots (mirrorKind first) a) × (length (now fold) ≡ 2 * a) × (length (now work) ≡ 2 * a) ⌝ }
     requires { ⌜ Below (prime m) (now line) ⌝ }
-    ensures { λ _. ⌜ now (line .exit) ≡ listOf (slots (mirrored first) a) (fold-back (field m) (conj m) (i m) (real m (half m)) a (conj m (lineRoot m a (now (re .entry)) (now (im .entry)))) (real m (part m (2 * a))) (λ s. field m .neg (tangent m a (now (tan .entry)) s)) (mirrored first) (valuesOf m (now (line .entry)))) ⌝ }
+    ensures { λ _. ⌜ now (line .exit) ≡ listOf (slots (mirrorKind first) a)
+        (folded m 1 a (now (re .entry)) (now (im .entry)) (now (tan .entry)) (mirrorKind first) (valuesOf m (now (line .entry)))) ⌝ }
 {
     let c = fold_formulas::share(m, a);
     let n = a + 1 - 2 * first;
     forward(m, re, im, tan, factors, first, a, line, fold, work);
-    plain::scaling::scale(m, c, n, line);
+    plain::scale::scale(m, c, n, line);
 }

@@ -7,10 +7,9 @@ use native.Mathlib.Nat.{mul-le-mul}
 use native.Mathlib.Omega.{arith}
 use lib.Dec.{T, leb, ltb, eqb}
 use borrow.Author.Tests.{not-false, eqb-true, leb-true, leb-false, eq-eqb, ne-eqb, lt-ltb, le-ltb}
-use Rattle.algebra.specs.Cell.{planes}
-use Rattle.lengths.specs.Factors.{product, octal}
-use Rattle.refusals.specs.Tests.{first, _⇒_}
-use Rattle.lengths.specs.Lengths.{admitted, factorsOk}
+use Rattle.algebra.specs.cells.Cell.{planes}
+use Rattle.lengths.specs.Lengths.{product, octal, admitted, factorsOk}
+use Rattle.refusals.specs.Refusals.{first, _⇒_}
 use Rattle.refusals.proofs.Tests.{both, stop, pass, none, not-t, Passed, passed}
 use Rattle.lengths.specs.Admitted.{AdmittedLength, FactorList}
 use Rattle.lengths.proofs.AdmittedLengths.{admitted-length, factor-list}
@@ -64,11 +63,11 @@ sizes-of {n1 = n1} {n2} {n3} k e =
 
 -- ---- what is known of a header that no test refuses
 
-pub record Sound (n : ℕ) (l : List ℕ) : Type 0 where
+pub record SoundAxis (n : ℕ) (l : List ℕ) : Type 0 where
   pub size : AdmittedLength n
   pub list : FactorList n (octal l)
 
-sound-axis : {n : ℕ} {l : List ℕ} → admitted n ≡ true → factorsOk l ≡ true → eqb (product l) (n / 2) ≡ true → Sound n l
+sound-axis : {n : ℕ} {l : List ℕ} → admitted n ≡ true → factorsOk l ≡ true → eqb (product l) (n / 2) ≡ true → SoundAxis n l
 sound-axis {n} {l} a f q = record { size = admitted-length n a; list = factor-list l (admitted-length n a) f (eqb-true _ _ q) }
 
 module _ (h : Header) (none : 0 ≡ first (axisTests h)) where
@@ -79,7 +78,7 @@ module _ (h : Header) (none : 0 ≡ first (axisTests h)) where
   sound-sizes k = sizes-of k (not-false _ (tests .0))
 
   -- each length is admitted, and each list is one of its half
-  pub sound-axes : Sound (h .lengths .0) (h .list1) × Sound (h .lengths .1) (h .list2) × Sound (h .lengths .2) (h .list3)
+  pub sound-axes : SoundAxis (h .lengths .0) (h .list1) × SoundAxis (h .lengths .1) (h .list2) × SoundAxis (h .lengths .2) (h .list3)
   sound-axes =
       let n = h .lengths in
       let a = all-three (admitted (n .0)) (admitted (n .1)) (admitted (n .2)) (not-false _ (tests .0)) in

@@ -1,4 +1,2 @@
 pub mod Headers
 pub mod Digits
-pub mod Openings
-pub mod Points

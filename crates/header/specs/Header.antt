@@ -3,10 +3,9 @@ use mathlib.Core.Bool.{_&&_, not}
 use mathlib.Core.List.{List, [], _∷_}
 use Prim.Native.Nat.{ℕ, _/_}
 use lib.Dec.{ltb, eqb}
-use Rattle.algebra.specs.Cell.{J}
-use Rattle.lengths.specs.Factors.{product}
-use Rattle.refusals.specs.Tests.{Test, _⇒_}
-use Rattle.lengths.specs.Lengths.{admitted, factorsOk}
+use Rattle.algebra.specs.cells.Cell.{J}
+use Rattle.lengths.specs.Lengths.{product, admitted, factorsOk}
+use Rattle.refusals.specs.Refusals.{Test, _⇒_}
 use Rattle.cell.specs.Volume.{groupOf, volumeLength}
 
 -- group, lengths and factor lists
@@ -17,15 +16,15 @@ pub record Header : Type 0 where
   pub list2 : List ℕ
   pub list3 : List ℕ
 
-abbrev pub halvesOf : J → J
-halvesOf n = (n .0 / 2, n .1 / 2, n .2 / 2)
+abbrev pub halfLengths : J → J
+halfLengths n = (n .0 / 2, n .1 / 2, n .2 / 2)
 
 abbrev pub volumeLimit : ℕ
 volumeLimit = 16777216
 
 -- the numbers of the volume
 abbrev pub needed : Header → ℕ
-needed h = volumeLength (groupOf (h .group)) (halvesOf (h .lengths))
+needed h = volumeLength (groupOf (h .group)) (halfLengths (h .lengths))
 
 -- 3, 4, 5, each over the three axes, then 9
 abbrev pub axisTests : Header → List Test

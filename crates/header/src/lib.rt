@@ -1,7 +1,3 @@
-// The tests of a header, and those of numbers and of a volume's length that a job's calls share: they work nothing.
-//
-// The lists of tests of an opening, a synthesis and an analysis stand in specs/Tests.antt; their checks, which test the whole volume,
-// are crate volume_refusals.
+// What an opening names besides the volume: group, lengths and factor lists, tested as they come in bytes, and as a job holds them.
 pub mod bytes; // bytes.rt: the tests of an opening's group, lengths and factor lists
-pub mod packed; // packed.rt: the same tests where each list is one number
-pub mod tests; // tests.rt: tests that several calls share
+pub mod packed; // packed.rt: the same tests where each list is one number, as in a job

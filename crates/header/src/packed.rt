@@ -4,9 +4,8 @@ ghost use mathlib.Core.Path.{_≡_};
 ghost use mathlib.Core.Bool.{_&&_};
 ghost use Prim.Native.Nat.{_/_, _<_};
 ghost use lib.Dec.{eqb};
-ghost use Rattle.lengths.specs.Factors.{product};
-ghost use Rattle.refusals.specs.Tests.{first};
-ghost use Rattle.lengths.specs.Lengths.{admitted, factorsOk, octalDigits};
+ghost use Rattle.lengths.specs.Lengths.{product, admitted, factorsOk, octalDigits};
+ghost use Rattle.refusals.specs.Refusals.{first};
 ghost use Rattle.header.specs.Header.{axisTests};
 
 // Whether every octal digit is 2, 3, 4 or 5, and their product n. The product of any octal digits is at most their number.

@@ -4,15 +4,14 @@ use mathlib.Core.Bool.{Bool, true, false, _&&_, not}
 use Prim.Native.Nat.{ℕ, _≤_, _<_}
 use lib.Dec.{ltb, eqb}
 use borrow.Author.Tests.{lt-ltb, le-ltb, ltb-true, eq-eqb, eqb-true}
-use Rattle.lengths.specs.Factors.{octal}
-use Rattle.refusals.specs.Tests.{first}
-use Rattle.lengths.specs.Lengths.{factorsOk, octalDigits}
+use Rattle.lengths.specs.Lengths.{octal, factorsOk, octalDigits}
+use Rattle.refusals.specs.Refusals.{first}
 use Rattle.lengths.specs.Admitted.{FactorList}
 use Rattle.refusals.proofs.Tests.{by-true, by-false}
 use Rattle.lengths.proofs.Factors.{octal-digits}
 use Rattle.cell.specs.Operations.{Sizes}
 use Rattle.volume_transform.specs.Axes.{JobSizes}
-use Rattle.job.specs.Header.{Header, axisTests, jobOf, headerOf, withState, validJob}
+use Rattle.job.specs.Job.{Header, axisTests, jobOf, headerOf, withState, validJob}
 use Rattle.job.specs.declared.Job.{Job}
 use Rattle.header.proofs.Headers.{all-three, sound-sizes, sound-axes, sound-lists}
 use Rattle.header.proofs.Digits.{octal-of-digits}

@@ -5,15 +5,14 @@ use mathlib.Core.List.{List}
 use Prim.Native.Nat.{ℕ, zero, suc}
 use lib.ListN.{length, replicate, length-replicate}
 use lib.Dec.{eqb}
-use Rattle.algebra.specs.Cell.{full}
+use Rattle.algebra.specs.cells.Cell.{full}
 use Rattle.numbers.specs.Value.{value}
-use Rattle.refusals.specs.Tests.{first, accepted}
+use Rattle.refusals.specs.Refusals.{first, accepted}
 use Rattle.cell.specs.Consistency.{recordOn}
 use Rattle.cell.proofs.Writing.{length-images}
 use Rattle.job.specs.declared.Job.{Job}
 use Rattle.job.specs.declared.Reflection.{Reflection}
-use Rattle.job.specs.Header.{Header, jobOf, collecting, mapHeld, groupIn, halves}
-use Rattle.job.specs.Steps.{openTests, openStep, OpenOutcome, opened, notOpened, recordTests, recordStep, Outcome, done, unchanged, index}
+use Rattle.job.specs.Job.{Header, jobOf, collecting, mapHeld, groupIn, halves, openTests, openStep, OpenOutcome, opened, notOpened, recordTests, recordStep, Outcome, done, unchanged, index}
 
 pub open-length : (h : Header) (kind : ℕ) (v : List ℕ) → length (openStep h kind v .volume) ≡ length v
 unfolding openStep

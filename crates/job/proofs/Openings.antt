@@ -6,14 +6,11 @@ use Prim.Native.Nat.{ℕ, zero, suc}
 use lib.ListN.{length, replicate}
 use borrow.Author.Tests.{eq-eqb, ne-eqb}
 use Rattle.refusals.specs.declared.Refusal.{Refusal}
-use Rattle.refusals.specs.Refusals.{numberOf}
-use Rattle.refusals.specs.Tests.{first, accepted}
+use Rattle.refusals.specs.Refusals.{numberOf, first, accepted}
 use Rattle.refusals.proofs.Tests.{fails}
 use Rattle.job.specs.declared.Job.{Job}
 use Rattle.job.specs.declared.OpenAnswer.the-variants.{Opened, Refused}
-use Rattle.job.specs.Header.{Header, jobOf, collecting, mapHeld}
-use Rattle.job.specs.Steps.{openTests, openStep, OpenOutcome, opened, notOpened}
-use Rattle.job.specs.Said.{openOutcome}
+use Rattle.job.specs.Job.{Header, jobOf, collecting, mapHeld, openTests, openStep, OpenOutcome, opened, notOpened, openOutcome}
 
 module _ (h : Header) (kind : ℕ) (v : List ℕ) where
   pub open-refused : (r : Refusal) → numberOf r ≡ first (openTests h kind v) → openOutcome (Refused r) v ≡ openStep h kind v

@@ -4,15 +4,12 @@ use mathlib.Core.List.{List}
 use Prim.Native.Nat.{ℕ}
 use lib.ListN.{length}
 use Rattle.refusals.specs.declared.Refusal.{Refusal}
-use Rattle.refusals.specs.Refusals.{numberOf}
-use Rattle.refusals.specs.Tests.{first}
+use Rattle.refusals.specs.Refusals.{numberOf, first}
 use Rattle.lengths.specs.Lengths.{cleared}
 use Rattle.refusals.proofs.Tests.{fails}
 use Rattle.job.specs.declared.Job.{Job}
 use Rattle.job.specs.declared.Answer.the-variants.{Done, Refused}
-use Rattle.job.specs.Header.{withState, factorsHeld, mapHeld}
-use Rattle.job.specs.Steps.{synthesisTests, synthesised, synthesisStep, analysisTests, analysed, analysisStep, unchanged}
-use Rattle.job.specs.Said.{worked}
+use Rattle.job.specs.Job.{withState, factorsHeld, mapHeld, synthesisTests, synthesised, synthesisStep, analysisTests, analysed, analysisStep, unchanged, worked}
 
 module _ (j : Job) (v scratch : List ℕ) where
   pub synthesis-refused : (r : Refusal) → numberOf r ≡ first (synthesisTests j v (length scratch)) → worked (record { answer = Refused r; job = j }) v scratch ≡ synthesisStep j v scratch

@@ -4,14 +4,12 @@ use mathlib.Core.List.{List}
 use Prim.Native.Nat.{ℕ}
 use lib.ListN.{getD}
 use Rattle.refusals.specs.declared.Refusal.{Refusal}
-use Rattle.refusals.specs.Refusals.{numberOf}
-use Rattle.refusals.specs.Tests.{first}
+use Rattle.refusals.specs.Refusals.{numberOf, first}
 use Rattle.refusals.proofs.Tests.{fails, passes}
 use Rattle.cell.specs.Volume.{densityPlace}
 use Rattle.job.specs.declared.Job.{Job}
 use Rattle.job.specs.declared.GridPoint.{GridPoint}
-use Rattle.job.specs.Header.{groupIn, halves}
-use Rattle.job.specs.Steps.{position, pointTests, pointStep, unchanged, density, refused, Outcome}
+use Rattle.job.specs.Job.{groupIn, halves, position, pointTests, pointStep, unchanged, density, refused, Outcome}
 
 module _ (j : Job) (at : GridPoint) (v : List ℕ) where
   pub point-refused : (r : Refusal) → numberOf r ≡ first (pointTests j (position at) v) → refused (numberOf r) ≡ (pointStep j at v) .answer

@@ -5,8 +5,7 @@ use Prim.Native.Nat.{ℕ}
 use Rattle.numbers.specs.declared.Pair.{Pair}
 use Rattle.numbers.specs.Value.{valueOf, pairOf}
 use Rattle.refusals.specs.declared.Refusal.{Refusal}
-use Rattle.refusals.specs.Refusals.{numberOf}
-use Rattle.refusals.specs.Tests.{first}
+use Rattle.refusals.specs.Refusals.{numberOf, first}
 use Rattle.refusals.proofs.Tests.{fails, passes}
 use Rattle.cell.specs.Volume.{factorsIn}
 use Rattle.cell.specs.Consistency.{recordOn}
@@ -14,9 +13,7 @@ use Rattle.job.proofs.check.record.Reflections.{pair-of-numbers}
 use Rattle.job.specs.declared.Job.{Job}
 use Rattle.job.specs.declared.Reflection.{Reflection}
 use Rattle.job.specs.declared.Answer.the-variants.{Done, Refused}
-use Rattle.job.specs.Header.{groupIn, halves}
-use Rattle.job.specs.Steps.{index, factorTests, factorStep, recordTests, recordStep, unchanged, factor, refused, Outcome}
-use Rattle.job.specs.Said.{outcome}
+use Rattle.job.specs.Job.{groupIn, halves, index, factorTests, factorStep, recordTests, recordStep, unchanged, factor, refused, Outcome, outcome}
 
 module _ (j : Job) (at : Reflection) (v : List ℕ) where
   pub factor-refused : (r : Refusal) → numberOf r ≡ first (factorTests j (index at) v) → refused (numberOf r) ≡ (factorStep j at v) .answer

@@ -5,7 +5,7 @@ use mathlib.Core.Bool.{true}
 use mathlib.Core.List.{List}
 use Prim.Native.Nat.{ℕ, _≤_, _<_}
 use lib.ListN.{length}
-use Rattle.numbers.specs.Prime.{prime}
+use Rattle.numbers.specs.Value.{prime}
 use Rattle.numbers.proofs.Primes.{first-modulus}
 use Rattle.slices.specs.Pairs.{Below}
 use Rattle.lengths.specs.Lengths.{scratchLength}
@@ -13,18 +13,17 @@ use Rattle.cell.specs.Volume.{volumeLength}
 use Rattle.cell.specs.Consistency.{consistentFactors, consistentMap}
 use Rattle.volume_transform.specs.declared.plan.Plan.{Plan}
 use Rattle.volume_transform.specs.Axes.{lineCount}
-use Rattle.volume_transform.specs.Plans.{groupIn as groupOfPlan, halvesIn, Planned, Fitting, planTurn}
+use Rattle.volume_transform.specs.Plans.{planGroup, planHalves, Planned, Fitting, planTurn}
 use Rattle.volume_transform.specs.Turns.{turns}
 use Rattle.volume_transform.proofs.sums.Whole as Whole
 use Rattle.job.specs.declared.Job.{Job}
-use Rattle.job.specs.Header.{validJob, groupIn, halves}
-use Rattle.job.specs.Steps.{synthesised, analysed}
+use Rattle.job.specs.Job.{validJob, groupIn, halves, synthesised, analysed}
 use Rattle.job.specs.Plans.{planOf}
 use Rattle.job.proofs.Jobs.{valid-job-sizes}
 
 -- every line of a plan in its turn
 abbrev allTurned : Plan → List ℕ → List ℕ
-allTurned p v = turns (planTurn p) 0 (lineCount (groupOfPlan p) (halvesIn p)) v
+allTurned p v = turns (planTurn p) 0 (lineCount (planGroup p) (planHalves p)) v
 
 module _ (j : Job) (v : List ℕ) (valid : validJob j ≡ true) (long : length v ≡ volumeLength (groupIn j) (halves j)) (small : Below (prime 1) v) where
   pub lent : (direction : ℕ) (p : Plan) (scratch : ℕ) → p ≡ planOf j direction → direction < 2 → scratchLength ≤ scratch → (Planned p × (p .m ≡ 1)) × (Fitting p v × (scratchLength ≤ scratch))

@@ -1,8 +1,3 @@
-pub mod Header
-pub mod Steps
-pub mod Said
-pub mod Calls
+pub mod Tests
+pub mod Job
 pub mod Plans
-pub mod ReadingTests
-pub mod RecordTests
-pub mod OrbitTests

@@ -6,8 +6,7 @@ use crate::plan;
 use crate::valid;
 use refusals::Checked;
 ghost use mathlib.Core.Path.{_≡_};
-ghost use Rattle.job.specs.Steps.{analysisStep};
-ghost use Rattle.job.specs.Said.{worked};
+ghost use Rattle.job.specs.Job.{analysisStep, worked};
 
 impl Job {
     // The map that the volume holds becomes its factors; a refused call changes nothing.

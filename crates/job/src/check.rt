@@ -1,16 +1,13 @@
-// The tests of a job's opening, synthesis and analysis: each check answers the first refusal of the paper's order, or that there is none.
+// The refusals of a job's calls: each check answers the first refusal of the paper's order, or that there is none.
 //
-// A check takes plain numbers beside the buffers that the call is lent, reads the whole volume where the call does, and works nothing. Crate
-// job puts a job's numbers to it.
-pub mod record; // check/record.rt
-pub mod orbit; // check/orbit.rt
-pub mod map; // map.rt: a volume that is a map
-pub mod open; // open.rt: the opening
-pub mod synthesis; // synthesis.rt: from factors to the map
-pub mod analysis; // analysis.rt: from the map to its factors
-
-// The tests of the two readings: each check answers the first refusal of the paper's order, or that there is none.
-//
-// A check takes the job's numbers, a point or an index and the lent volume, and looks at the numbers that are read only.
-pub mod point; // point.rt: the reading of a point
-pub mod factor; // factor.rt: the reading of a structure factor
+// A check takes plain numbers beside the buffers that the call is lent, and works nothing. Opening, synthesis and analysis read the whole
+// volume; a record and the two readings look only at the numbers that they are about.
+pub mod tests; // check/tests.rt: tests that several calls share
+pub mod map; // check/map.rt: a volume that is a map
+pub mod open; // check/open.rt: the opening
+pub mod synthesis; // check/synthesis.rt: from factors to the map
+pub mod analysis; // check/analysis.rt: from the map to its factors
+pub mod orbit; // check/orbit.rt: a record at the images of its index
+pub mod record; // check/record.rt: a record
+pub mod point; // check/point.rt: the reading of a point
+pub mod factor; // check/factor.rt: the reading of a structure factor

@@ -6,8 +6,7 @@ use crate::valid;
 use cell::operations::Index;
 use refusals::Checked;
 ghost use mathlib.Core.Path.{_≡_};
-ghost use Rattle.job.specs.Steps.{factorStep};
-ghost use Rattle.job.specs.Said.{saidFactor};
+ghost use Rattle.job.specs.Job.{factorStep, saidFactor};
 
 impl Job {
     // The factor at an index anywhere in the cell.

@@ -1,9 +1,9 @@
 // A job collects structure factors in a volume that the caller lends, or holds the map that they stand for.
 //
-// The job is handed in and handed back by value at each call, beside the volume that the caller lends. Each call is a check (crates
-// volume_refusals, record_refusals and reading_refusals), which answers the first refusal of the paper's order, and then the work. What a
-// caller holds or hands in by value has the layout of C, so that crate exported can pass it on.
-pub mod check; // check.rt
+// The job is handed in and handed back by value at each call, beside the volume that the caller lends. Each call is a check, which
+// answers the first refusal of the paper's order, and then the work. What a caller holds or hands in by value has the layout of C, so that
+// crate exported can pass it on.
+pub mod check; // check.rt: the refusals of every call
 pub mod valid; // valid.rt: which jobs an opening or a later call could have made
 pub mod open; // open.rt: the opening
 pub mod point; // point.rt: the reading of a point

@@ -6,12 +6,9 @@ use refusals::Checked;
 ghost use mathlib.Core.Path.{_≡_};
 ghost use mathlib.Core.Bool.{true};
 ghost use Prim.Native.Nat.{_≤_};
-ghost use Rattle.lengths.specs.Factors.{product, octal};
-ghost use Rattle.refusals.specs.Tests.{first};
-ghost use Rattle.lengths.specs.Lengths.{factorsOk};
-ghost use Rattle.job.specs.Header.{axisTests, jobOf};
-ghost use Rattle.job.specs.Steps.{openStep};
-ghost use Rattle.job.specs.Said.{openOutcome};
+ghost use Rattle.lengths.specs.Lengths.{product, octal, factorsOk};
+ghost use Rattle.refusals.specs.Refusals.{first};
+ghost use Rattle.job.specs.Job.{axisTests, jobOf, openStep, openOutcome};
 
 // An axis of a job: the list goes on as octal digits.
 fn axis(length: u32, factors: &[u8]) -> Axis

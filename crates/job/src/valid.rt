@@ -3,7 +3,7 @@
 use crate::Job;
 use header::packed;
 ghost use mathlib.Core.Path.{_≡_};
-ghost use Rattle.job.specs.Header.{validJob};
+ghost use Rattle.job.specs.Job.{validJob};
 
 // An opening or a later call could have made the job.
 pub fn valid_job(job: Job) -> bool

@@ -4,8 +4,8 @@ use Prim.Native.Nat.{ℕ, zero, suc, _+_, _*_, _-_, _/_, _≤_, _<_}
 use native.Mathlib.Numerals.{add-one}
 use native.Mathlib.Nat.{not-suc-le-zero}
 use native.Mathlib.Omega.{arith}
-use Rattle.algebra.specs.Kinds.{Kind, plain, hermitian, antihermitian, alternating, symmetric, antisymmetric, slots}
-use Rattle.lengths.specs.Counts.{pairCount}
+use Rattle.algebra.specs.lines.Kinds.{Kind, plain, hermitian, antihermitian, alternating, symmetric, antisymmetric, slots}
+use Rattle.lengths.specs.Lengths.{pairCount}
 
 pub count-plain : (kind N : ℕ) → kind ≡ 0 → 2 * (N / 2) ≡ pairCount kind N
 unfolding slots

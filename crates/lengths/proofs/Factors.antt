@@ -10,8 +10,7 @@ use lib.Dec.{leb}
 use lib.ListN.{length, getD, drop, drop-of-length-le, length-drop}
 use lib.Seq.{drop-cons}
 use borrow.Author.Tests.{leb-true, ne-eqb}
-use Rattle.lengths.specs.Factors.{product, octal, Factors, none, one}
-use Rattle.lengths.specs.Lengths.{isFactor, factorsOk, digits, octalDigits}
+use Rattle.lengths.specs.Lengths.{product, octal, Factors, none, one, isFactor, factorsOk, digits, octalDigits}
 use Rattle.refusals.proofs.Tests.{both}
 
 -- ---- a list taken apart

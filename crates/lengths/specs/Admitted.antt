@@ -1,7 +1,7 @@
 -- The lengths that are transformed, and their factor lists.
 use mathlib.Core.Path.{_≡_}
 use Prim.Native.Nat.{ℕ, _*_, _/_, _≤_, _<_}
-use Rattle.lengths.specs.Factors.{Factored}
+use Rattle.lengths.specs.Lengths.{Factored}
 
 -- A length N = 2 A that divides 2,880: e(1/N) is the root's power 2,880/N, e(A/N) its power 1,440, and e(1/A) the square of e(1/N).
 pub record AdmittedLength (N : ℕ) : Type 0 where

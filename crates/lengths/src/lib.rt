@@ -7,9 +7,7 @@ ghost use mathlib.Core.Path.{_≡_};
 ghost use mathlib.Core.Bool.{true};
 ghost use Prim.Native.Nat.{_<_, _≤_};
 ghost use lib.Dec.{eqb};
-ghost use Rattle.lengths.specs.Factors.{product, octal};
-ghost use Rattle.lengths.specs.Lengths.{admitted, isFactor, factorsOk};
-ghost use Rattle.lengths.specs.Counts.{pairCount};
+ghost use Rattle.lengths.specs.Lengths.{product, octal, admitted, isFactor, factorsOk, pairCount};
 
 // An even divisor of 2,880.
 pub fn admitted(length: u32) -> bool

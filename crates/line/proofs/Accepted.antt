@@ -6,16 +6,13 @@ use Prim.Native.Nat.{ℕ, _/_, _≤_, _<_}
 use native.Mathlib.Omega.{arith}
 use borrow.Author.Tests.{not-false, leb-false, ltb-false, eqb-true}
 use Rattle.slices.proofs.Bounds.{below-allBelow}
-use Rattle.lengths.specs.Factors.{product, octal}
-use Rattle.refusals.specs.Tests.{first}
+use Rattle.lengths.specs.Lengths.{product, octal, factorsOk, kindOf}
+use Rattle.refusals.specs.Refusals.{first}
 use Rattle.refusals.proofs.Tests.{Passed, passed}
-use Rattle.lengths.specs.Lengths.{factorsOk}
-use Rattle.lengths.specs.Counts.{kindOf}
 use Rattle.lengths.specs.Admitted.{AdmittedLength}
 use Rattle.lengths.proofs.Counts.{slots-le}
 use Rattle.lengths.proofs.AdmittedLengths.{admitted-length, factor-list}
-use Rattle.line.specs.LineTests.{lineTests}
-use Rattle.line.specs.Accepted.{Accepted}
+use Rattle.line.specs.Line.{lineTests, Accepted}
 
 module _ (p kind direction N : ℕ) (factors line : List ℕ) (scratch : ℕ) (none : 0 ≡ first (lineTests p kind direction N factors line scratch)) where
   tests : Passed (lineTests p kind direction N factors line scratch)

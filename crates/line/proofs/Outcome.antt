@@ -3,15 +3,13 @@ use mathlib.Core.Path.{_≡_}
 use mathlib.Core.List.{List}
 use Prim.Native.Nat.{ℕ}
 use lib.ListN.{length}
-use Rattle.numbers.specs.Prime.{prime}
+use Rattle.numbers.specs.Value.{prime}
 use Rattle.line.specs.Transform.{transformed}
 use Rattle.refusals.specs.declared.Refusal.{Refusal}
 use Rattle.line.specs.declared.LineAnswer.the-variants.{Transformed, Refused}
-use Rattle.refusals.specs.Refusals.{numberOf}
-use Rattle.refusals.specs.Tests.{first}
+use Rattle.refusals.specs.Refusals.{numberOf, first}
 use Rattle.lengths.specs.Lengths.{cleared}
-use Rattle.line.specs.LineTests.{lineTests}
-use Rattle.line.specs.Line.{lineStep, lineOutcome}
+use Rattle.line.specs.Line.{lineTests, lineStep, lineOutcome}
 use Rattle.refusals.proofs.Tests.{fails}
 
 pub refused-outcome : (m kind direction N : ℕ) (factors line scratch : List ℕ) (r : Refusal) → numberOf r ≡ first (lineTests (prime m) kind direction N factors line (length scratch)) →

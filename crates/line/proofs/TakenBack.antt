@@ -1,23 +1,20 @@
 -- The two directions, call after call: what an accepted call leaves is accepted by the call in the other direction, which restores the line.
 use mathlib.Core.Path.{_≡_, refl, sym, _∙_, ap}
 use mathlib.Core.List.{List, _++_}
-use Prim.Native.Nat.{ℕ, zero, suc, _+_, _*_, _-_, _≤_, _<_}
+use Prim.Native.Nat.{ℕ, zero, suc, _+_, _*_, _-_, _/_, _≤_, _<_}
 use native.Mathlib.Omega.{arith}
 use lib.ListN.{length, drop, replicate, length-append, length-replicate, length-drop}
 use lib.Seq.{drop-append-seam}
 use borrow.Author.Tests.{not-false, leb-false, ltb-false, eqb-true, lt-leb, le-ltb, eq-eqb}
-use Rattle.numbers.specs.Prime.{prime, IsModulus}
+use Rattle.numbers.specs.Value.{prime, IsModulus}
 use Rattle.numbers.proofs.Primes.{prime-pos}
-use Rattle.slices.specs.Pairs.{Below}
-use Rattle.slices.specs.Values.{valuesOf}
+use Rattle.slices.specs.Pairs.{Below, valuesOf}
 use Rattle.slices.proofs.Bounds.{below-allBelow, allBelow-below}
 use Rattle.slices.proofs.Values.{length-list, below-list}
-use Rattle.lengths.specs.Counts.{kindOf, pairCount}
+use Rattle.lengths.specs.Lengths.{kindOf, pairCount, scratchLength, cleared}
 use Rattle.line.specs.Transform.{transform, transformed}
-use Rattle.refusals.specs.Tests.{first, accepted}
-use Rattle.lengths.specs.Lengths.{scratchLength, cleared}
-use Rattle.line.specs.LineTests.{lineTests}
-use Rattle.line.specs.Line.{LineOutcome, lineStep}
+use Rattle.refusals.specs.Refusals.{first, accepted}
+use Rattle.line.specs.Line.{lineTests, LineOutcome, lineStep}
 use Rattle.line.specs.Demands.{Restored, RestoredAfter, TakenBack}
 use Rattle.refusals.proofs.Tests.{Passed, passed, pass, none, not-t}
 use Rattle.line.proofs.Demands.{restored, restored-after}
@@ -42,11 +39,11 @@ cleared-twice s = zeros-twice scratchLength s
 
 length-transformed : (m kind direction N : ℕ) (line : List ℕ) → length (transformed m kind direction N line) ≡ 2 * pairCount kind N
 unfolding transformed
-length-transformed m kind direction N line = length-list m (pairCount kind N) (transform m (kindOf kind) direction N (valuesOf m line))
+length-transformed m kind direction N line = length-list m (pairCount kind N) (transform m (kindOf kind) direction (N / 2) (valuesOf m line))
 
 below-transformed : (m kind direction N : ℕ) (line : List ℕ) → Below (prime m) (transformed m kind direction N line)
 unfolding transformed
-below-transformed m kind direction N line = below-list m (pairCount kind N) (transform m (kindOf kind) direction N (valuesOf m line))
+below-transformed m kind direction N line = below-list m (pairCount kind N) (transform m (kindOf kind) direction (N / 2) (valuesOf m line))
 
 -- ---- the call
 

@@ -5,12 +5,11 @@ use Prim.Native.Nat.{ℕ, _+_, _*_, _/_, _≤_}
 use native.Mathlib.Omega.{arith}
 use lib.ListN.{length, take, drop}
 use lib.Seq.{drop-append-add, drop-drop}
-use Rattle.algebra.proofs.Laws.{along}
-use Rattle.lengths.specs.Counts.{pairCount}
+use Rattle.algebra.proofs.ring.Laws.{along}
+use Rattle.lengths.specs.Lengths.{pairCount, scratchLength}
 use Rattle.line.specs.Transform.{transformed}
 use Rattle.lengths.specs.Admitted.{AdmittedLength, FactorList}
 use Rattle.line.proofs.kinds.Dispatch.{prefix-length}
-use Rattle.lengths.specs.Lengths.{scratchLength}
 
 -- what follows the lent part in a scratch: the part is lent from the start, and comes back as long as it was
 pub rest-of : (p s : List ℕ) → scratchLength ≤ length s → length p ≡ length (take 5760 s) → drop scratchLength (p ++ drop 5760 s) ≡ drop scratchLength s

@@ -6,42 +6,40 @@ use mathlib.Core.Bool.{true}
 use mathlib.Core.List.{List}
 use Prim.Native.Nat.{ℕ, _*_, _-_, _/_, _<_}
 use lib.ListN.{length}
-use Rattle.algebra.specs.Ring.{Ops, pow, sum}
-use Rattle.algebra.specs.Kinds.{unfoldBefore, unfoldAfter, packBefore, packAfter, RuleBefore, RuleAfter}
-use Rattle.numbers.specs.Prime.{prime, IsModulus}
-use Rattle.numbers.specs.Value.{Value, field, conj, i, half, part, real}
+use Rattle.algebra.specs.ring.Ring.{Ops, pow, sum}
+use Rattle.algebra.specs.lines.Kinds.{unfoldBefore, unfoldAfter, packBefore, packAfter, RuleBefore, RuleAfter}
+use Rattle.numbers.specs.Value.{prime, IsModulus, Value, field, conj, part, real, onValues}
 use Rattle.slices.specs.Pairs.{Below}
-use Rattle.lengths.specs.Counts.{kindOf, pairCount}
+use Rattle.lengths.specs.Lengths.{kindOf, pairCount, admitted}
 use Rattle.line.specs.Transform.{rootOf, transform, transformed}
-use Rattle.lengths.specs.Lengths.{admitted}
 use Rattle.line.specs.Line.{LineOutcome, lineStep}
 
 -- The whole line of a packed line X before the transform, and of one after it, by the kind's number.
 abbrev pub wholeBefore : (m kind N : ℕ) → (ℕ → Value m) → ℕ → Value m
-wholeBefore m kind N X = unfoldBefore (field m) (conj m) (i m) (real m (half m)) (N / 2) (kindOf kind) X
+wholeBefore m kind N X = onValues m unfoldBefore (N / 2) (kindOf kind) X
 
 abbrev pub wholeAfter : (m kind N : ℕ) → (ℕ → Value m) → ℕ → Value m
-wholeAfter m kind N X = unfoldAfter (field m) (conj m) (i m) (real m (half m)) (N / 2) (kindOf kind) X
+wholeAfter m kind N X = onValues m unfoldAfter (N / 2) (kindOf kind) X
 
 -- What a packed line stands for keeps the rule of its kind, before the transform and after it; and what is packed of a line that keeps the rule stands for
 -- that line. So the packing loses nothing, and the sums below are those of every line of the kind.
 pub record RulesKept : Type 0 where
-  pub kept-before : (m kind N : ℕ) (X : ℕ → Value m) → IsModulus m → admitted N ≡ true → RuleBefore (field m) (conj m) (i m) (real m (half m)) (N / 2) (kindOf kind) (wholeBefore m kind N X)
-  pub kept-after : (m kind N : ℕ) (X : ℕ → Value m) → IsModulus m → admitted N ≡ true → RuleAfter (field m) (conj m) (i m) (real m (half m)) (N / 2) (kindOf kind) (wholeAfter m kind N X)
-  pub whole-before : (m kind N : ℕ) (X : ℕ → Value m) → IsModulus m → admitted N ≡ true → RuleBefore (field m) (conj m) (i m) (real m (half m)) (N / 2) (kindOf kind) X → (t : ℕ) → t < N →
-      wholeBefore m kind N (packBefore (field m) (conj m) (i m) (real m (half m)) (N / 2) (kindOf kind) X) t ≡ X t
-  pub whole-after : (m kind N : ℕ) (X : ℕ → Value m) → IsModulus m → admitted N ≡ true → RuleAfter (field m) (conj m) (i m) (real m (half m)) (N / 2) (kindOf kind) X → (s : ℕ) → s < N →
-      wholeAfter m kind N (packAfter (field m) (conj m) (i m) (real m (half m)) (N / 2) (kindOf kind) X) s ≡ X s
+  pub kept-before : (m kind N : ℕ) (X : ℕ → Value m) → IsModulus m → admitted N ≡ true → onValues m RuleBefore (N / 2) (kindOf kind) (wholeBefore m kind N X)
+  pub kept-after : (m kind N : ℕ) (X : ℕ → Value m) → IsModulus m → admitted N ≡ true → onValues m RuleAfter (N / 2) (kindOf kind) (wholeAfter m kind N X)
+  pub whole-before : (m kind N : ℕ) (X : ℕ → Value m) → IsModulus m → admitted N ≡ true → onValues m RuleBefore (N / 2) (kindOf kind) X → (t : ℕ) → t < N →
+      wholeBefore m kind N (onValues m packBefore (N / 2) (kindOf kind) X) t ≡ X t
+  pub whole-after : (m kind N : ℕ) (X : ℕ → Value m) → IsModulus m → admitted N ≡ true → onValues m RuleAfter (N / 2) (kindOf kind) X → (s : ℕ) → s < N →
+      wholeAfter m kind N (onValues m packAfter (N / 2) (kindOf kind) X) s ≡ X s
 
 -- Direction 0: the value at s is the sum over t of the value at t times e(ts/N).
 pub record ForwardIsSum : Type 0 where
   pub is-sum : (m kind N : ℕ) (X : ℕ → Value m) (s : ℕ) → IsModulus m → admitted N ≡ true → s < N →
-      wholeAfter m kind N (transform m (kindOf kind) 0 N X) s ≡ sum (field m) N (λ t. field m .mul (wholeBefore m kind N X t) (pow (field m) (rootOf m N) (t * s)))
+      wholeAfter m kind N (transform m (kindOf kind) 0 (N / 2) X) s ≡ sum (field m) N (λ t. field m .mul (wholeBefore m kind N X t) (pow (field m) (rootOf m N) (t * s)))
 
 -- Direction 1: the value at t is the sum over s of the value at s times e(-st/N), divided by N.
 pub record BackIsSum : Type 0 where
   pub is-sum : (m kind N : ℕ) (X : ℕ → Value m) (t : ℕ) → IsModulus m → admitted N ≡ true → t < N →
-      wholeBefore m kind N (transform m (kindOf kind) 1 N X) t ≡ field m .mul (real m (part m N)) (sum (field m) N (λ s. field m .mul (wholeAfter m kind N X s) (pow (field m) (conj m (rootOf m N)) (s * t))))
+      wholeBefore m kind N (transform m (kindOf kind) 1 (N / 2) X) t ≡ field m .mul (real m (part m N)) (sum (field m) N (λ s. field m .mul (wholeAfter m kind N X s) (pow (field m) (conj m (rootOf m N)) (s * t))))
 
 -- A line of residues is restored by direction 1 after direction 0 ..
 pub record Restored : Type 0 where

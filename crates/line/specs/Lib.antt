@@ -1,8 +1,5 @@
 pub mod Line
-pub mod Accepted
-pub mod Specimens
-pub mod Demands
-pub mod LineTests
-pub mod Tables
 pub mod Transform
-pub mod TablesKinds
+pub mod Demands
+pub mod Specimens
+pub mod Tables

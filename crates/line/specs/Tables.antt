@@ -1,18 +1,39 @@
--- Tables of the root or of its conjugate, by the direction of a transform.
+-- The tables that a line's transform is lent: those of the root for direction 0, those of its conjugate for direction 1. No reader of the promise needs this page.
 use mathlib.Core.Path.{_≡_}
 use mathlib.Core.List.{List}
 use Prim.Native.Nat.{ℕ, zero, suc}
 use lib.ListN.{length}
-use Rattle.roots.specs.Root.{NegatedTable}
+use Rattle.numbers.specs.Value.{Value, conj}
+use Rattle.roots.specs.Root.{root, tableRoot, RootTable}
+use Rattle.roots.specs.TableLaws.{TangentLaws, BackwardTangents, NegatedTable}
+use Rattle.fold_formulas.specs.FoldFormulas.{Tangents}
+
+-- the root of a direction, and its half tangents: those of the conjugate are the negated ones
+abbrev pub rootFor : (m direction : ℕ) → Value m
+rootFor m zero = root m
+rootFor m (suc direction) = conj m (root m)
+
+abbrev pub TangentsFor : (m direction : ℕ) → List ℕ → Type 0
+TangentsFor m zero tan = TangentLaws m tan
+TangentsFor m (suc direction) tan = BackwardTangents m tan
+
+-- the powers of the root of a direction, and its half tangents
+pub record TablesOf (m direction : ℕ) (re im tan : List ℕ) : Type 0 where
+  pub powers : RootTable m re im
+  pub of-root : tableRoot m re im ≡ rootFor m direction
+  pub tangents : TangentsFor m direction tan
+  pub small : Tangents m tan
+
+-- ---- how a call makes them
 
 -- direction 0 takes a table as it is, direction 1 negated
-abbrev pub Turned : (direction : ℕ) (of u : List ℕ) → Type 0
-Turned zero of u = u ≡ of
-Turned (suc direction) of u = NegatedTable 1 (length of) of u
+abbrev pub OfDirection : (direction : ℕ) (of u : List ℕ) → Type 0
+OfDirection zero of u = u ≡ of
+OfDirection (suc direction) of u = NegatedTable 1 (length of) of u
 
 -- the n numbers of a table of the root, for a direction
 pub record Directed (Table : List ℕ → Type 0) (n direction : ℕ) (u : List ℕ) : Type 0 where
   pub of : List ℕ
   pub count : length of ≡ n
   pub table : Table of
-  pub turned : Turned direction of u
+  pub directed : OfDirection direction of u

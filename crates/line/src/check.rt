@@ -1,11 +1,11 @@
-// What a line's call is turned back for: its number is that of the first test of the paper's order that holds.
+// The refusals of a line's call: the number is that of the first test of the paper's order that holds.
 //
 // The check takes the modulus' prime and the lent buffers, and works nothing.
 use refusals::Checked;
 use refusals::Refusal;
 ghost use mathlib.Core.Path.{_≡_};
-ghost use Rattle.refusals.specs.Tests.{first, checkedNumber};
-ghost use Rattle.line.specs.LineTests.{lineTests};
+ghost use Rattle.refusals.specs.Refusals.{first, checkedNumber};
+ghost use Rattle.line.specs.Line.{lineTests};
 
 // The refusals of a line, in the paper's order. Residues are below p; the scratch counts by its length.
 pub fn check_line(

@@ -8,11 +8,10 @@ use refusals::Checked;
 use refusals::Refusal;
 ghost use mathlib.Core.Path.{_≡_};
 ghost use lib.ListN.{length as lengthOf, drop};
-ghost use Rattle.numbers.specs.Prime.{prime};
+ghost use Rattle.numbers.specs.Value.{prime};
 ghost use Rattle.line.specs.Transform.{transformed};
 ghost use Rattle.lengths.specs.Lengths.{scratchLength};
-ghost use Rattle.line.specs.Accepted.{Accepted};
-ghost use Rattle.line.specs.Line.{lineStep, lineOutcome};
+ghost use Rattle.line.specs.Line.{Accepted, lineStep, lineOutcome};
 ghost use Rattle.line.specs.Specimens.{Specimens};
 ghost use Rattle.line.specs.Demands.{RulesKept, ForwardIsSum, BackIsSum, Restored, RestoredAfter, TakenBack};
 
@@ -22,7 +21,7 @@ pub enum LineAnswer {
     Refused(Refusal),
 }
 
-// One line of structure factors, transformed in the lent line, or turned back. Direction 0 is forward, 1 the inverse.
+// One line of structure factors, transformed in the lent line, or refused. Direction 0 is forward, 1 the inverse.
 pub fn line(
     kind: u32,
     direction: u32,
@@ -31,7 +30,8 @@ pub fn line(
     line: &mut [u32],
     scratch: &mut [u32],
 ) -> LineAnswer
-    ensures { λ r. ⌜ lineOutcome r (now (line .exit)) (now (scratch .exit)) ≡ lineStep 1 kind direction length (now (factors .entry)) (now (line .entry)) (now (scratch .entry)) ⌝ }
+    ensures { λ r. ⌜ lineOutcome r (now (line .exit)) (now (scratch .exit))
+        ≡ lineStep 1 kind direction length (now (factors .entry)) (now (line .entry)) (now (scratch .entry)) ⌝ }
 {
     let p = numbers::modulus(1);
     let checked = crate::check::check_line(
@@ -75,7 +75,7 @@ fn transform_line(
     ensures { λ _. ⌜ drop scratchLength (now (scratch .exit)) ≡ drop scratchLength (now (scratch .entry)) ⌝ }
 {
     let a = (length / 2) as usize;
-    let re = roots::tables::real_parts(1);
+    let re = roots::powers::real_parts(1);
     let im = crate::table::imaginary_parts(direction);
     let tan = crate::table::half_tangents(direction);
     let mut work = [0u32; 5760];

@@ -1,19 +1,18 @@
 // A line of any kind, transformed in place with the tables that are lent: forward with those of the root, direction 0, and back with
-// those of its conjugate, direction 1. This is called for every line, of the line's own call and of a volume's.
+// those of its conjugate, direction 1, divided by N. This is called for every line, of the line's own call and of a volume's.
 //
-// A plain line is transformed over its N = 2 A points, by the list of twice the length; every other kind over A points, by its
-// module of crate folded_lines.
+// A plain line is transformed over its N = 2 A points, by the list of twice the length; every other kind over A points, by its fold.
 use folds::alternating;
 use folds::hermitian;
 use folds::mirror;
 ghost use mathlib.Core.Path.{_≡_};
 ghost use Prim.Native.Nat.{_*_, _<_, _≤_};
 ghost use lib.ListN.{length};
-ghost use Rattle.numbers.specs.Prime.{prime, IsModulus};
+ghost use Rattle.numbers.specs.Value.{prime, IsModulus};
 ghost use Rattle.slices.specs.Pairs.{Below};
-ghost use Rattle.lengths.specs.Counts.{pairCount};
+ghost use Rattle.lengths.specs.Lengths.{pairCount};
 ghost use Rattle.line.specs.Transform.{transformed};
-ghost use Rattle.line.specs.TablesKinds.{ForwardTables, BackwardTables, TablesOf};
+ghost use Rattle.line.specs.Tables.{TablesOf};
 ghost use Rattle.lengths.specs.Admitted.{AdmittedLength, FactorList};
 
 // The slices `fold` and `work` are lent for the work, and left with anything.
@@ -36,49 +35,22 @@ pub fn transform<'a>(
     requires { ⌜ (5760 ≤ length (now fold)) × (5760 ≤ length (now work)) ⌝ }
     ensures { λ _. ⌜ now (line .exit) ≡ transformed m kind direction (2 * a) (now (line .entry)) ⌝ }
 {
-    if direction == 0 {
-        forward(m, kind, re, im, tan, factors, a, line, fold, work);
-    } else {
-        inverse(m, kind, re, im, tan, factors, a, line, fold, work);
-    }
-}
-
-// Direction 0.
-fn forward<'a>(
-    m: u32,
-    kind: u32,
-    re: &'a [u32; 2880],
-    im: &'a [u32; 2880],
-    tan: &'a [u32; 1440],
-    factors: u32,
-    a: usize,
-    line: &mut [u32],
-    fold: &mut [u32],
-    work: &mut [u32],
-)
-    requires { ⌜ IsModulus m × (kind < 6) × ForwardTables m (now re) (now im) (now tan) ⌝ }
-    requires { ⌜ AdmittedLength (2 * a) × FactorList (2 * a) factors ⌝ }
-    requires { ⌜ (length (now line) ≡ 2 * pairCount kind (2 * a)) × Below (prime m) (now line) ⌝ }
-    requires { ⌜ (5760 ≤ length (now fold)) × (5760 ≤ length (now work)) ⌝ }
-    ensures { λ _. ⌜ now (line .exit) ≡ transformed m kind 0 (2 * a) (now (line .entry)) ⌝ }
-{
     if kind == 0 {
         let n = 2 * a;
         let size = 2 * n;
-        plain::transform(
-            m,
-            re,
-            im,
-            lengths::stage::doubled(factors),
-            n,
-            line,
-            &mut work[..size],
-        );
+        let list = lengths::stage::doubled(factors);
+        let points = &mut work[..size];
+        if direction == 0 {
+            plain::transform(m, re, im, list, n, line, points);
+        } else {
+            plain::inverse(m, re, im, list, n, line, points);
+        }
     } else {
         let size = 2 * a;
         folded(
             m,
             kind,
+            direction,
             re,
             im,
             tan,
@@ -91,58 +63,11 @@ fn forward<'a>(
     }
 }
 
-// Direction 1, divided by N.
-fn inverse<'a>(
-    m: u32,
-    kind: u32,
-    re: &'a [u32; 2880],
-    im: &'a [u32; 2880],
-    tan: &'a [u32; 1440],
-    factors: u32,
-    a: usize,
-    line: &mut [u32],
-    fold: &mut [u32],
-    work: &mut [u32],
-)
-    requires { ⌜ IsModulus m × (kind < 6) × BackwardTables m (now re) (now im) (now tan) ⌝ }
-    requires { ⌜ AdmittedLength (2 * a) × FactorList (2 * a) factors ⌝ }
-    requires { ⌜ (length (now line) ≡ 2 * pairCount kind (2 * a)) × Below (prime m) (now line) ⌝ }
-    requires { ⌜ (5760 ≤ length (now fold)) × (5760 ≤ length (now work)) ⌝ }
-    ensures { λ _. ⌜ now (line .exit) ≡ transformed m kind 1 (2 * a) (now (line .entry)) ⌝ }
-{
-    if kind == 0 {
-        let n = 2 * a;
-        let size = 2 * n;
-        plain::inverse(
-            m,
-            re,
-            im,
-            lengths::stage::doubled(factors),
-            n,
-            line,
-            &mut work[..size],
-        );
-    } else {
-        let size = 2 * a;
-        unfolded(
-            m,
-            kind,
-            re,
-            im,
-            tan,
-            factors,
-            a,
-            line,
-            &mut fold[..size],
-            &mut work[..size],
-        );
-    }
-}
-
-// Forward, the kinds that are folded to A points ..
+// The kinds that are folded to A points.
 fn folded<'a>(
     m: u32,
     kind: u32,
+    direction: u32,
     re: &'a [u32; 2880],
     im: &'a [u32; 2880],
     tan: &'a [u32; 1440],
@@ -152,47 +77,30 @@ fn folded<'a>(
     fold: &mut [u32],
     work: &mut [u32],
 )
-    requires { ⌜ IsModulus m × (0 < kind) × (kind < 6) × ForwardTables m (now re) (now im) (now tan) ⌝ }
+    requires { ⌜ IsModulus m × (0 < kind) × (kind < 6) × (direction < 2) × TablesOf m direction (now re) (now im) (now tan) ⌝ }
     requires { ⌜ AdmittedLength (2 * a) × FactorList (2 * a) factors ⌝ }
     requires { ⌜ (length (now line) ≡ 2 * pairCount kind (2 * a)) × Below (prime m) (now line) ⌝ }
     requires { ⌜ (length (now fold) ≡ 2 * a) × (length (now work) ≡ 2 * a) ⌝ }
-    ensures { λ _. ⌜ now (line .exit) ≡ transformed m kind 0 (2 * a) (now (line .entry)) ⌝ }
+    ensures { λ _. ⌜ now (line .exit) ≡ transformed m kind direction (2 * a) (now (line .entry)) ⌝ }
 {
     if kind < 3 {
-        hermitian::forward(m, re, im, kind == 2, factors, a, line, fold, work);
+        if direction == 0 {
+            hermitian::forward(m, re, im, kind == 2, factors, a, line, fold, work);
+        } else {
+            hermitian::inverse(m, re, im, kind == 2, factors, a, line, fold, work);
+        }
     } else if kind == 3 {
-        alternating::forward(m, re, im, tan, factors, a, line, fold, work);
+        if direction == 0 {
+            alternating::forward(m, re, im, tan, factors, a, line, fold, work);
+        } else {
+            alternating::inverse(m, re, im, tan, factors, a, line, fold, work);
+        }
     } else {
         let first = (kind - 4) as usize;
-        mirror::forward(m, re, im, tan, factors, first, a, line, fold, work);
-    }
-}
-
-// .. and back.
-fn unfolded<'a>(
-    m: u32,
-    kind: u32,
-    re: &'a [u32; 2880],
-    im: &'a [u32; 2880],
-    tan: &'a [u32; 1440],
-    factors: u32,
-    a: usize,
-    line: &mut [u32],
-    fold: &mut [u32],
-    work: &mut [u32],
-)
-    requires { ⌜ IsModulus m × (0 < kind) × (kind < 6) × BackwardTables m (now re) (now im) (now tan) ⌝ }
-    requires { ⌜ AdmittedLength (2 * a) × FactorList (2 * a) factors ⌝ }
-    requires { ⌜ (length (now line) ≡ 2 * pairCount kind (2 * a)) × Below (prime m) (now line) ⌝ }
-    requires { ⌜ (length (now fold) ≡ 2 * a) × (length (now work) ≡ 2 * a) ⌝ }
-    ensures { λ _. ⌜ now (line .exit) ≡ transformed m kind 1 (2 * a) (now (line .entry)) ⌝ }
-{
-    if kind < 3 {
-        hermitian::inverse(m, re, im, kind == 2, factors, a, line, fold, work);
-    } else if kind == 3 {
-        alternating::inverse(m, re, im, tan, factors, a, line, fold, work);
-    } else {
-        let first = (kind - 4) as usize;
-        mirror::inverse(m, re, im, tan, factors, first, a, line, fold, work);
+        if direction == 0 {
+            mirror::forward(m, re, im, tan, factors, first, a, line, fold, work);
+        } else {
+            mirror::inverse(m, re, im, tan, factors, first, a, line, fold, work);
+        }
     }
 }

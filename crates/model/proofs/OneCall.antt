@@ -8,23 +8,22 @@ use native.Mathlib.Omega.{arith}
 use lib.Dec.{eqb}
 use lib.ListN.{length, getD}
 use borrow.Author.Tests.{not-false, lt-ltb, eq-eqb, eqb-true}
-use Rattle.algebra.specs.Cell.{Inside, at}
+use Rattle.algebra.specs.cells.CellTests.{every}
+use Rattle.algebra.specs.cells.Cell.{Inside, at}
 use Rattle.numbers.specs.Value.{Value, value}
 use Rattle.slices.specs.Pairs.{allBelow}
 use Rattle.slices.proofs.Bounds.{allBelow-below}
-use Rattle.refusals.specs.Tests.{Test, _⇒_, first, accepted}
+use Rattle.refusals.specs.Refusals.{Test, _⇒_, first, accepted}
 use Rattle.lengths.specs.Lengths.{cleared}
 use Rattle.refusals.proofs.Tests.{not-t, pass, passed}
 use Rattle.cell.specs.Volume.{volumeLength, factorsIn, densityPlace, numbersRead}
-use Rattle.cell.specs.Consistency.{all, recordOn, agreesWithItself, orbitFree, sameValue, consistentFactors, consistentMap}
+use Rattle.cell.specs.Consistency.{recordOn, agreesWithItself, orbitFree, sameValue, consistentFactors, consistentMap}
 use Rattle.job.specs.declared.Reflection.{Reflection}
 use Rattle.job.specs.declared.GridPoint.{GridPoint}
-use Rattle.job.specs.Header.{collecting, factorsHeld, mapHeld, validJob}
-use Rattle.job.specs.Steps.{p, within, index, position, Said, Outcome, Worked, unchanged, recordTests, recordStep, synthesisTests, synthesised, synthesisStep, analysisTests, analysed, analysisStep, pointTests, pointStep, factorTests, factorStep}
+use Rattle.job.specs.Job.{collecting, factorsHeld, mapHeld, validJob, p, within, index, position, Said, Outcome, Worked, unchanged, recordTests, recordStep, synthesisTests, synthesised, synthesisStep, analysisTests, analysed, analysisStep, pointTests, pointStep, factorTests, factorStep, step}
 use Rattle.model.specs.Model.{Model, group, half, factorOf, Call, recording, synthesis, analysis, readPoint, readFactor, modelTests, modelSays, modelNext, modelSaid, modelAfter, inState, modelVolume, modelJob}
-use Rattle.job.specs.Calls.{step}
 use Rattle.job.proofs.Jobs.{valid-with}
-use Rattle.model.proofs.Sound.{Sound, holds-map, holds-factors, model-length, model-below, within-inside, factors-pass, factor-read, orbit-zero, lawful-recorded, recorded-packed, map-passes, density-read, synthesis-gives, analysis-gives}
+use Rattle.model.proofs.Sound.{LawfulModel, holds-map, holds-factors, model-length, model-below, within-inside, factors-pass, factor-read, orbit-zero, lawful-recorded, recorded-packed, map-passes, density-read, synthesis-gives, analysis-gives}
 
 -- ---- tests
 
@@ -35,8 +34,8 @@ same-next true n ts us f = refl
 same-next false n ts us f = f refl
 
 -- a test that holds everywhere
-all-true : {S : Type 0} (P : S → Bool) → ((x : S) → P x ≡ true) → (l : List S) → all P l ≡ true
-unfolding all
+all-true : {S : Type 0} (P : S → Bool) → ((x : S) → P x ≡ true) → (l : List S) → every l P ≡ true
+unfolding every
 all-true P f [] = refl
 all-true P f (x ∷ l) = rw (f x) (all-true P f l)
 
@@ -66,15 +65,15 @@ module _ (m : Model) (c : Call) where
       outcome-of (suc n) = refl
 
   -- .. and leaves the model sound if it does so where it is accepted
-  stays-sound : Sound m → (0 ≡ first (modelTests m c) → Sound (modelNext m c)) → Sound (modelAfter m c)
+  stays-sound : LawfulModel m → (0 ≡ first (modelTests m c) → LawfulModel (modelNext m c)) → LawfulModel (modelAfter m c)
   unfolding modelAfter
   stays-sound sound h = go (first (modelTests m c)) h
     where
-      go : (n : ℕ) → (0 ≡ n → Sound (modelNext m c)) → Sound (accepted n (modelNext m c) (λ n. m))
+      go : (n : ℕ) → (0 ≡ n → LawfulModel (modelNext m c)) → LawfulModel (accepted n (modelNext m c) (λ n. m))
       go zero h = h refl
       go (suc n) h = sound
 
-module _ (m : Model) (sound : Sound m) where
+module _ (m : Model) (sound : LawfulModel m) where
   -- ---- the faults that do not arise
 
   no-25 : not (validJob (modelJob m)) ≡ false
@@ -119,7 +118,7 @@ module _ (m : Model) (sound : Sound m) where
     record-leaves : recordOn (group m) (half m) 1 (index k) (value 1 x y) (modelVolume m) ≡ modelVolume (modelNext m (recording k x y))
     record-leaves = ap (recordOn (group m) (half m) 1 (index k) (value 1 x y)) (holds-factors m factors-stand) ∙ recorded-packed m sound (index k) (value 1 x y) record-inside record-agrees ∙ sym (holds-factors (modelNext m (recording k x y)) factors-stand)
 
-    record-sound : Sound (modelNext m (recording k x y))
+    record-sound : LawfulModel (modelNext m (recording k x y))
     record-sound = record { valid = sound .valid; lawful = lawful-recorded m sound (index k) (value 1 x y) record-inside record-agrees }
 
   record-call : (k : Reflection) (x y : ℕ) → recordStep (modelJob m) k x y (modelVolume m) ≡ result (modelSaid m (recording k x y)) (modelAfter m (recording k x y))
@@ -174,7 +173,7 @@ module _ (m : Model) (sound : Sound m) where
 
 -- ---- every call
 
-pub one-call : (m : Model) → Sound m → (c : Call) → (step (modelJob m) (modelVolume m) c ≡ record { answer = modelSaid m c; job = modelJob (modelAfter m c); volume = modelVolume (modelAfter m c) }) × Sound (modelAfter m c)
+pub one-call : (m : Model) → LawfulModel m → (c : Call) → (step (modelJob m) (modelVolume m) c ≡ record { answer = modelSaid m c; job = modelJob (modelAfter m c); volume = modelVolume (modelAfter m c) }) × LawfulModel (modelAfter m c)
 one-call m sound (recording k x y) = (record-call m sound k x y, stays-sound m (recording k x y) sound (record-sound m sound k x y))
 one-call m sound (synthesis scratch) = (synthesis-call m sound scratch, stays-sound m (synthesis scratch) sound (λ e. record { valid = valid-with (modelJob m) mapHeld (sound .valid) (omega arith); lawful = sound .lawful }))
 one-call m sound (analysis scratch) = (analysis-call m sound scratch, stays-sound m (analysis scratch) sound (λ e. record { valid = valid-with (modelJob m) factorsHeld (sound .valid) (omega arith); lawful = sound .lawful }))
@@ -182,6 +181,6 @@ one-call m sound (readPoint x) = (point-call m sound x, stays-sound m (readPoint
 one-call m sound (readFactor k) = (factor-call m sound k, stays-sound m (readFactor k) sound (λ e. sound))
 
 -- a call that no test of the model refuses
-pub accepted-call : (m : Model) → Sound m → (c : Call) → 0 ≡ first (modelTests m c) → step (modelJob m) (modelVolume m) c ≡ result (modelSays m c) (modelNext m c)
+pub accepted-call : (m : Model) → LawfulModel m → (c : Call) → 0 ≡ first (modelTests m c) → step (modelJob m) (modelVolume m) c ≡ result (modelSays m c) (modelNext m c)
 unfolding modelSaid modelAfter
 accepted-call m sound c e = one-call m sound c .0 ∙ λ i. result (accepted (sym e i) (modelSays m c) Said.refused) (accepted (sym e i) (modelNext m c) (λ n. m))

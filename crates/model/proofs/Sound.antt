@@ -8,28 +8,24 @@ use native.Mathlib.Omega.{arith}
 use lib.Dec.{ltb, eqb}
 use lib.ListN.{length, getD}
 use borrow.Author.Tests.{ltb-true, lt-ltb}
-use Rattle.algebra.specs.Gauss.{gauss}
-use Rattle.algebra.specs.Residue.{residues}
-use Rattle.algebra.specs.Axis.{AxisLaws}
-use Rattle.algebra.specs.Cell.{J, Inside, at}
-use Rattle.algebra.specs.CellSteps.{Lawful}
-use Rattle.algebra.proofs.Bool.{same-test, split}
-use Rattle.algebra.proofs.CellMap as CellMap
-use Rattle.algebra.proofs.CellTests.{Positive}
-use Rattle.numbers.specs.Prime.{prime}
-use Rattle.numbers.specs.Value.{Value, field, conj, i, real, value}
+use Rattle.algebra.specs.ring.Gauss.{gauss}
+use Rattle.algebra.specs.ring.Residue.{residues}
+use Rattle.algebra.specs.cells.Cell.{J, Inside, at}
+use Rattle.algebra.specs.cells.CellSteps.{Lawful}
+use Rattle.algebra.proofs.ring.Bool.{same-test, split}
+use Rattle.algebra.proofs.cells.CellMap as CellMap
+use Rattle.algebra.proofs.cells.CellTests.{Positive}
+use Rattle.numbers.specs.Value.{prime, Value, field, conj, i, real, value}
 use Rattle.numbers.specs.Value as Value
 use Rattle.numbers.proofs.Primes.{first-modulus, prime-pos}
 use Rattle.numbers.proofs.Residues.{val-res}
 use Rattle.numbers.proofs.Values.{field-ring}
 use Rattle.slices.specs.Pairs.{Below}
-use Rattle.lengths.specs.Factors.{octal}
-use Rattle.line.specs.Transform.{rootOf}
+use Rattle.lengths.specs.Lengths.{octal}
 use Rattle.lengths.specs.Admitted.{AdmittedLength}
-use Rattle.line.proofs.kinds.Axes.{own, axis-own}
-use Rattle.cell.specs.Volume.{volumeLength, factorsIn, packFactors, packMap, densityPlace, mapIn}
+use Rattle.line.proofs.kinds.Axes.{axis-laws}
+use Rattle.cell.specs.Volume.{volumeLength, factorsIn, packFactors, packMap, densityPlace, mapIn, axis, mapOf, factorsOf}
 use Rattle.cell.specs.Consistency.{sameValue, orbitFree, recordOn, recordIn, agreesWithItself, consistentFactors, consistentMap, RealMap, ObeysGroup}
-use Rattle.cell.specs.Sums.{axis, mapOf, factorsOf}
 use Rattle.volume_transform.specs.Axes.{JobSizes}
 use Rattle.cell.proofs.Tests.{true-iff}
 use Rattle.cell.proofs.Reading.{same-iff, length-factors, below-factors, read-packed}
@@ -39,13 +35,12 @@ use Rattle.cell.proofs.Maps.{map-consistent, map-cong}
 use Rattle.cell.proofs.Points.{map-obeys, map-real, read-point, analysis-packed}
 use Rattle.cell.proofs.Records.{record-lawful, record-packed}
 use Rattle.cell.proofs.OrbitNumbers.{orbit-free}
-use Rattle.job.specs.Header.{mapHeld, validJob}
-use Rattle.job.specs.Steps.{within}
+use Rattle.job.specs.Job.{mapHeld, validJob, within}
 use Rattle.header.proofs.Headers.{all-three}
 use Rattle.job.proofs.Jobs.{valid-job-sizes}
 use Rattle.model.specs.Model.{Model, group, half, factorOf, densityOf, factorVolume, mapVolume, modelVolume, modelJob}
 
-pub record Sound (m : Model) : Type 0 where
+pub record LawfulModel (m : Model) : Type 0 where
   pub valid : validJob (modelJob m) ≡ true
   pub lawful : Lawful (field 1) (conj 1) (half m) (group m) (m .F)
 
@@ -73,12 +68,7 @@ module _ (m : Model) where
 
 -- ---- what a valid job and a lawful F give
 
--- the laws of an admitted axis
-pub axis-laws : {n : ℕ} (h : AdmittedLength n) → AxisLaws (field 1) (conj 1) (i 1) (real 1 (Value.half 1)) (axis 1 (n / 2)) (own 1 first-modulus (n / 2) (h .positive) (h .half-turns))
-unfolding rootOf
-axis-laws h = axis-own 1 first-modulus _ (h .positive) (h .half-turns)
-
-module _ (m : Model) (sound : Sound m) where
+module _ (m : Model) (sound : LawfulModel m) where
   sizes : JobSizes (m .header .group) (m .header .lengths .0) (m .header .lengths .1) (m .header .lengths .2) (octal (m .header .list1)) (octal (m .header .list2)) (octal (m .header .list3))
   sizes = valid-job-sizes (modelJob m) (sound .valid)
 
@@ -126,11 +116,11 @@ module _ (m : Model) (sound : Sound m) where
   -- ---- the map
 
   map-is-real : RealMap (group m) (half m) 1 (mapOf 1 (half m) (m .F))
-  map-is-real = map-real (group m) (half m) 1 (axis-laws (sizes .first)) (axis-laws (sizes .second)) (axis-laws (sizes .third)) (m .F) (sound .lawful)
+  map-is-real = map-real (group m) (half m) 1 (axis-laws 1 first-modulus (sizes .first)) (axis-laws 1 first-modulus (sizes .second)) (axis-laws 1 first-modulus (sizes .third)) (m .F) (sound .lawful)
 
   -- every image of a point has its value
   pub map-obeys-group : ObeysGroup (group m) (half m) 1 (mapOf 1 (half m) (m .F))
-  map-obeys-group = map-obeys (group m) (half m) 1 (axis-laws (sizes .first)) (axis-laws (sizes .second)) (axis-laws (sizes .third)) (m .F) (sound .lawful)
+  map-obeys-group = map-obeys (group m) (half m) 1 (axis-laws 1 first-modulus (sizes .first)) (axis-laws 1 first-modulus (sizes .second)) (axis-laws 1 first-modulus (sizes .third)) (m .F) (sound .lawful)
 
   pub map-passes : consistentMap (group m) (half m) (mapVolume m) ≡ true
   map-passes = map-consistent (group m) (half m) halves-positive 1 (mapVolume m) (length-map (group m) (half m) 1 _) (below-map (group m) (half m) 1 _) .1 (mapOf 1 (half m) (m .F), map-is-real, map-obeys-group, refl)
@@ -140,7 +130,7 @@ module _ (m : Model) (sound : Sound m) where
   unfolding mapIn
   density-read x n =
       sym (val-res 1 (below-map (group m) (half m) 1 (mapOf 1 (half m) (m .F)) .each _))
-      ∙ ap (λ y. y .0 .val) (read-point (group m) (half m) 1 (axis-laws (sizes .first)) (axis-laws (sizes .second)) (axis-laws (sizes .third)) (m .F) (sound .lawful) x n)
+      ∙ ap (λ y. y .0 .val) (read-point (group m) (half m) 1 (axis-laws 1 first-modulus (sizes .first)) (axis-laws 1 first-modulus (sizes .second)) (axis-laws 1 first-modulus (sizes .third)) (m .F) (sound .lawful) x n)
 
   pub density-real : (x : J) → Inside (half m) x → densityOf m x .1 .val ≡ 0
   density-real x n = ap (λ y. y .1 .val) (map-is-real x n) ∙ val-res 1 (prime-pos 1)
@@ -150,4 +140,4 @@ module _ (m : Model) (sound : Sound m) where
   synthesis-gives = map-cong (group m) (half m) halves-positive 1 _ _ (λ x n. CellMap.map-cong (field-ring 1) (axis 1 (half m .0)) (axis 1 (half m .1)) (axis 1 (half m .2)) _ _ factor-read (x .0) (x .1) (x .2))
 
   pub analysis-gives : packFactors (group m) (half m) 1 (factorsOf 1 (half m) (mapIn (group m) (half m) 1 (mapVolume m))) ≡ factorVolume m
-  analysis-gives = analysis-packed (group m) (half m) 1 (axis-laws (sizes .first)) (axis-laws (sizes .second)) (axis-laws (sizes .third)) (m .F) (sound .lawful)
+  analysis-gives = analysis-packed (group m) (half m) 1 (axis-laws 1 first-modulus (sizes .first)) (axis-laws 1 first-modulus (sizes .second)) (axis-laws 1 first-modulus (sizes .third)) (m .F) (sound .lawful)

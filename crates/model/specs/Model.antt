@@ -5,20 +5,17 @@ use mathlib.Core.List.{List, [], _∷_}
 use Prim.Native.Nat.{ℕ, suc}
 use lib.ListN.{length}
 use lib.Dec.{ltb, leb, eqb}
-use Rattle.algebra.specs.Cell.{J, Group, Cell, at}
+use Rattle.algebra.specs.cells.Cell.{J, Group, Cell, at}
 use Rattle.numbers.specs.Value.{Value, value}
-use Rattle.refusals.specs.Tests.{Test, _⇒_, first, accepted}
+use Rattle.refusals.specs.Refusals.{Test, _⇒_, first, accepted}
 use Rattle.lengths.specs.Lengths.{scratchLength}
-use Rattle.cell.specs.Volume.{groupOf, packFactors, mapIn, packMap}
+use Rattle.cell.specs.Volume.{groupOf, packFactors, mapIn, packMap, mapOf, factorsOf}
 use Rattle.cell.specs.Consistency.{sameValue, recordIn, agreesWithItself}
-use Rattle.cell.specs.Sums.{mapOf, factorsOf}
 use Rattle.job.specs.declared.Job.{Job}
-use Rattle.job.specs.Header.{Header, halvesOf, axisTests, collecting, factorsHeld, mapHeld, jobOf}
-use Rattle.job.specs.Steps.{p, within, index, position, Said, done, density, factor, refused}
+use Rattle.job.specs.Job.{Header, halfLengths, axisTests, collecting, factorsHeld, mapHeld, jobOf, p, within, index, position, Said, done, density, factor, refused}
 use Rattle.file_format.specs.declared.FileRecord.{FileRecord}
-use Rattle.file_format.specs.Shape.{recordsIn, shapeTests}
-use Rattle.file_format.specs.HeaderIn.{headerIn}
-pub use Rattle.job.specs.Calls.{Call, recording, synthesis, analysis, readPoint, readFactor}
+use Rattle.file_format.specs.Format.{recordsIn, shapeTests, headerIn}
+pub use Rattle.job.specs.Job.{Call, recording, synthesis, analysis, readPoint, readFactor}
 
 -- The header is the opening's. The model uses its group and its lengths; the factor lists are in the job that is given back.
 -- F is meant below the lengths: an image goes round the cell, and a call that names an index beyond it is refused.
@@ -31,7 +28,7 @@ abbrev pub group : Model → Group
 group m = groupOf (m .header .group)
 
 abbrev pub half : Model → J
-half m = halvesOf (m .header .lengths)
+half m = halfLengths (m .header .lengths)
 
 -- the structure factor at an index, and the map over F at a point
 abbrev pub factorOf : Model → J → Value 1
@@ -117,7 +114,7 @@ zeroModel h = record { header = h; state = collecting; F = λ h k l. value 1 0 0
 
 -- kind 1: F is the analysis of the whole map, of which the volume has the stored planes
 abbrev pub mapModel : Header → List ℕ → Model
-mapModel h v = record { header = h; state = mapHeld; F = factorsOf 1 (halvesOf (h .lengths)) (mapIn (groupOf (h .group)) (halvesOf (h .lengths)) 1 v) }
+mapModel h v = record { header = h; state = mapHeld; F = factorsOf 1 (halfLengths (h .lengths)) (mapIn (groupOf (h .group)) (halfLengths (h .lengths)) 1 v) }
 
 abbrev pub openingModel : Header → (kind : ℕ) → List ℕ → Model
 openingModel h kind v = cond (eqb kind 0) (zeroModel h) (mapModel h v)

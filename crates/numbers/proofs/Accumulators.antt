@@ -2,12 +2,12 @@
 use mathlib.Core.Path.{_≡_, refl, ap}
 use Prim.Native.Nat.{ℕ, _≤_}
 use native.Mathlib.Omega.{arith}
-use Rattle.algebra.specs.Ring.{Ops}
-use Rattle.algebra.specs.Residue.{residues}
-use Rattle.algebra.specs.Gauss.{gauss}
+use Rattle.algebra.specs.ring.Ring.{Ops}
+use Rattle.algebra.specs.ring.Residue.{residues}
+use Rattle.algebra.specs.ring.Gauss.{gauss}
 use Rattle.numbers.specs.declared.Accumulator.{Accumulator}
 use Rattle.numbers.specs.Value.{Value, field, value, pairOf}
-use Rattle.numbers.specs.Accumulator.{Accumulated}
+use Rattle.numbers.specs.Unreduced.{Accumulated}
 
 pub accumulated-pair : {m n : ℕ} {a : Accumulator} {z : Value m} → Accumulated m n a z → pairOf (value m (a .re) (a .im)) ≡ pairOf z
 accumulated-pair h = ap pairOf (h .value-is)

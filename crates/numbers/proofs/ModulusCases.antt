@@ -3,7 +3,7 @@ use mathlib.Core.Path.{_≡_, sym, subst}
 use Prim.Native.Nat.{ℕ}
 use native.Mathlib.Omega.{arith}
 use native.Mathlib.Decide.{ℕ-discrete}
-use Rattle.numbers.specs.Prime.{IsModulus}
+use Rattle.numbers.specs.Value.{IsModulus}
 
 pub second : {m : ℕ} → IsModulus m → (m ≡ 1 → ⊥) → m ≡ 2
 second is h = omega arith

@@ -6,14 +6,10 @@ use native.Mathlib.Omega.{arith}
 use lib.Dec.{eqb}
 use borrow.Author.Tests.{eq-eqb, ne-eqb}
 use Rattle.numbers.specs.declared.Pair.{Pair}
-use Rattle.numbers.specs.Prime.{prime, exponent, IsModulus}
-use Rattle.numbers.specs.Value.{Small}
+use Rattle.numbers.specs.Value.{prime, exponent, IsModulus, Small}
 
 pub first-modulus : IsModulus 1
 first-modulus = record { low = omega arith; high = omega arith }
-
-pub second-modulus : IsModulus 2
-second-modulus = record { low = omega arith; high = omega arith }
 
 -- what holds of both primes holds at every m
 pub by-choice : (P : Bool → Type 0) → P true → P false → (b : Bool) → P b

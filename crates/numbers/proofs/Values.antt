@@ -3,17 +3,17 @@
 use mathlib.Core.Path.{_≡_, refl, _∙_, ap, ap₂}
 use mathlib.Core.List.{List, [], _∷_}
 use Prim.Native.Nat.{ℕ, _+_, _*_, _-_, _<_}
-use Rattle.algebra.specs.Ring.{Ops, CRing, Star}
-use Rattle.algebra.specs.Residue.{residues}
-use Rattle.algebra.specs.Gauss.{gauss, imag}
-use Rattle.algebra.specs.Gauss as Gauss
-use Rattle.algebra.proofs.Laws.{mul-neg}
-use Rattle.algebra.proofs.Solver.{ring, quote}
-use Rattle.algebra.proofs.ResidueRing.{residue-add, residue-mul, residue-neg}
-use Rattle.algebra.proofs.GaussRing.{gauss-ring, gauss-star}
+use Rattle.algebra.specs.ring.Ring.{Ops}
+use Rattle.algebra.specs.ring.RingLaws.{CRing, Star}
+use Rattle.algebra.specs.ring.Residue.{residues}
+use Rattle.algebra.specs.ring.Gauss.{gauss, imag}
+use Rattle.algebra.specs.ring.Gauss as Gauss
+use Rattle.algebra.proofs.ring.Laws.{mul-neg}
+use Rattle.algebra.proofs.ring.Solver.{ring, quote}
+use Rattle.algebra.proofs.ring.ResidueRing.{residue-add, residue-mul, residue-neg}
+use Rattle.algebra.proofs.ring.GaussRing.{gauss-ring, gauss-star}
 use Rattle.numbers.specs.declared.Pair.{Pair}
-use Rattle.numbers.specs.Prime.{prime}
-use Rattle.numbers.specs.Value.{Value, Residue, field, conj, i, res, value, real, valueOf, pairOf, Small}
+use Rattle.numbers.specs.Value.{prime, Value, Residue, field, conj, i, res, value, real, valueOf, pairOf, Small}
 use Rattle.numbers.specs.Value as Value
 use Rattle.numbers.proofs.Residues.{res-ring, val-small, res-val, val-res}
 

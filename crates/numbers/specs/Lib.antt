@@ -1,4 +1,2 @@
-pub mod Prime
 pub mod Value
-pub mod Accumulator
 pub mod Unreduced

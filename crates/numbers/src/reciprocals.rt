@@ -1,9 +1,8 @@
 // The reciprocal of a length: 1/N = (p + 1)/N, since every admitted length divides 2,880 and 2,880 divides p + 1.
 ghost use mathlib.Core.Path.{_≡_};
 ghost use Prim.Native.Nat.{_<_, _≤_};
-ghost use Rattle.algebra.specs.Residue.{Res};
-ghost use Rattle.numbers.specs.Prime.{prime, IsModulus};
-ghost use Rattle.numbers.specs.Value.{part};
+ghost use Rattle.algebra.specs.ring.Residue.{Res};
+ghost use Rattle.numbers.specs.Value.{prime, IsModulus, part};
 
 // 1/N of an admitted N.
 pub fn reciprocal(m: u32, n: u32) -> u32

@@ -7,11 +7,9 @@ use crate::Accumulator;
 use crate::Pair;
 ghost use mathlib.Core.Path.{_≡_};
 ghost use Prim.Native.Nat.{ℕ, _+_, _*_, _≤_};
-ghost use Rattle.algebra.specs.Ring.{Ops};
-ghost use Rattle.numbers.specs.Prime.{prime, IsModulus};
-ghost use Rattle.numbers.specs.Value.{Value, field, res, real, valueOf, pairOf, Small};
-ghost use Rattle.numbers.specs.Accumulator.{Accumulated};
-ghost use Rattle.numbers.specs.Unreduced.{meant, Room};
+ghost use Rattle.algebra.specs.ring.Ring.{Ops};
+ghost use Rattle.numbers.specs.Value.{prime, IsModulus, Value, field, res, real, valueOf, pairOf, Small};
+ghost use Rattle.numbers.specs.Unreduced.{Accumulated, meant, Room};
 
 // A value as a sum of one.
 pub fn of_pair(v: Pair) -> Accumulator

@@ -8,9 +8,8 @@ use native.Mathlib.Numerals.{add-one}
 use native.Mathlib.Omega.{arith}
 use lib.ListN.{length, set, take, getD, drop, length-append, length-take}
 use lib.Seq.{sets, sets-eq, set-out, length-sets, take-suc}
-use Rattle.algebra.proofs.Laws.{along}
-use Rattle.output.specs.Decimal.{each}
-use Rattle.output.specs.Writing.{Wrote, Ends}
+use Rattle.algebra.proofs.ring.Laws.{along}
+use Rattle.output.specs.Output.{each, Wrote, Ends}
 
 -- stores of two lists in a row
 sets-append : (d : List ℕ) (i : ℕ) (s t : List ℕ) → sets d i (s ++ t) ≡ sets (sets d i s) (i + length s) t
@@ -28,6 +27,9 @@ wrote-append {at} {e} {f} {s} {t} {d} {d′} {d″} h k = record {
   bytes = k .bytes ∙ (λ i. sets (h .bytes i) (h .place i) t) ∙ sym (sets-append d at s t);
 }
 
+pub wrote-as : {at e : ℕ} {s t d d′ : List ℕ} → Wrote at s d e d′ → s ≡ t → Wrote at t d e d′
+wrote-as {at} {e} {s} {t} {d} {d′} h q = subst (λ (l : List ℕ). Wrote at l d e d′) q h
+
 -- a byte beyond the output
 pub wrote-beyond : (at b : ℕ) (d : List ℕ) → length d ≤ at → Wrote at (b ∷ []) d (at + 1) d
 wrote-beyond at b d h = record { place = refl; bytes = sym (set-out d at b h) }
@@ -38,6 +40,9 @@ wrote-length {at} {e} {s} {d} h = ap length (h .bytes) ∙ length-sets d at s
 -- an output that is long enough holds the text
 pub wrote-whole : {e : ℕ} {s d d′ : List ℕ} → Wrote 0 s d e d′ → length s ≤ length d → d′ ≡ s ++ drop (length s) d
 wrote-whole {e} {s} {d} h l = h .bytes ∙ sets-eq s d 0 (omega arith) ∙ along (λ (n : ℕ). s ++ drop n d) (0 + length s) (length s) (omega arith)
+
+pub ends-as : {at : ℕ} {s t : List ℕ} → Ends at s → s ≡ t → Ends at t
+ends-as {at} h q = subst (Ends at) q h
 
 -- where the first text ends, and the second one, if both in a row do
 pub ends-left : {at : ℕ} (s t : List ℕ) → Ends at (s ++ t) → Ends at s

@@ -1,8 +1,9 @@
 // Bytes, words and numbers that go to an output. Each function starts at a place and returns the place after its text; a byte
 // beyond the output is counted and not stored, so that a text is measured by the functions that write it.
+pub mod big_endian; // big_endian.rt: numbers in two and in four bytes
+
 ghost use mathlib.Core.List.{[], _∷_};
-ghost use Rattle.output.specs.Decimal.{decimal, blank};
-ghost use Rattle.output.specs.Writing.{Wrote, Ends};
+ghost use Rattle.output.specs.Output.{decimal, blank, Wrote, Ends};
 
 pub fn put_byte(out: &mut [u8], at: usize, byte: u8) -> usize
     requires { ⌜ Ends at (byte ∷ []) ⌝ }

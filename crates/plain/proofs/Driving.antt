@@ -1,4 +1,4 @@
--- The driver's loop over the factors: what stands in the line and in the work slice before each turn of two steps, and at the end.
+-- The driver's loop over the factors: what stands in the line and in the work slice before each round of two steps, and at the end.
 use mathlib.Core.Path.{_≡_, refl, sym, _∙_, ap, subst}
 use mathlib.Core.Bool.{Bool, true, false, not}
 use mathlib.Core.Logic.{_≢_}
@@ -6,20 +6,17 @@ use mathlib.Core.List.{List}
 use Prim.Native.Nat.{ℕ, _*_, _/_}
 use native.Mathlib.Nat as N
 use lib.ListN.{length}
-use Rattle.algebra.specs.Ring.{Ops, pow}
-use Rattle.algebra.specs.Fourier.{dft}
-use Rattle.numbers.specs.Prime.{prime}
-use Rattle.numbers.specs.Value.{Value, field}
+use Rattle.algebra.specs.ring.Ring.{Ops, pow}
+use Rattle.algebra.specs.fourier.Fourier.{dft}
+use Rattle.numbers.specs.Value.{prime, Value, field}
 use Rattle.numbers.proofs.Values.{field-ring}
-use Rattle.slices.specs.Pairs.{at, fills, Below}
-use Rattle.slices.specs.Values.{valuesOf, listOf}
+use Rattle.slices.specs.Pairs.{at, fills, Below, valuesOf, listOf}
 use Rattle.slices.proofs.Pairs.{fills-whole}
 use Rattle.slices.proofs.Values.{list-values, list-cong, length-of, below-of}
-use Rattle.plain.specs.Steps.{innerSum}
+use Rattle.plain.specs.Plain.{innerSum, sumsAt, WorkLeft, untouched, last-odd}
 use Rattle.lengths.specs.declared.stage.Stage.{Stage}
-use Rattle.lengths.specs.Factors.{Factored}
+use Rattle.lengths.specs.Lengths.{Factored}
 use Rattle.lengths.specs.Stages.{points, after, Reached, start, next, Ahead}
-use Rattle.plain.specs.Stages.{sumsAt, WorkLeft, untouched, last-odd}
 use Rattle.plain.proofs.Equation3.{inner-start, inner-end}
 use Rattle.lengths.proofs.stage.Factoring.{next-factor, next-length, factored-none}
 

@@ -3,15 +3,16 @@ use mathlib.Core.Path.{_≡_, sym, _∙_, ap, ap₂, subst}
 use Prim.Native.Nat.{ℕ, _+_, _*_, _/_, _%_, _<_}
 use native.Mathlib.Nat as N
 use native.Mathlib.Omega.{arith}
-use Rattle.algebra.specs.Ring.{Ops, CRing, pow}
-use Rattle.algebra.specs.Fourier.{T, dft}
-use Rattle.algebra.proofs.Laws.{along, pow-add}
-use Rattle.algebra.proofs.Sums.{sum-cong}
-use Rattle.algebra.proofs.Transform.{pow-mul, cooley-tukey, T-start, T-end}
+use Rattle.algebra.specs.ring.Ring.{Ops, pow}
+use Rattle.algebra.specs.ring.RingLaws.{CRing}
+use Rattle.algebra.specs.fourier.Fourier.{T, dft}
+use Rattle.algebra.proofs.ring.Laws.{along, pow-add}
+use Rattle.algebra.proofs.fourier.Sums.{sum-cong}
+use Rattle.algebra.proofs.fourier.Transform.{pow-mul, cooley-tukey, T-start, T-end}
 use Rattle.slices.proofs.Rows.{row-end, row-col}
-use Rattle.butterflies.specs.Outer.{e}
-use Rattle.plain.specs.Steps.{innerSum, twiddled, outerSum, Splits}
-use Rattle.plain.proofs.steps.Sizes.{outer-pos, inner-share, outer-share, inner-whole}
+use Rattle.butterflies.specs.Butterflies.{e}
+use Rattle.plain.specs.Plain.{innerSum, twiddled, outerSum, Splits}
+use Rattle.plain.proofs.step.Sizes.{outer-pos, inner-share, outer-share, inner-whole}
 
 module _ {R : Type 0} {𝓞 : Ops R} (𝓡 : CRing 𝓞) (W : R) where
   open Ops 𝓞 using (mul as _⊗_, one as 𝟙)

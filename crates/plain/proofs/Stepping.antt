@@ -4,19 +4,19 @@ use mathlib.Core.List.{List}
 use Prim.Native.Nat.{ℕ, _+_, _*_, _/_, _%_, _<_}
 use native.Mathlib.Nat as N
 use native.Mathlib.Omega.{arith}
-use Rattle.algebra.specs.Ring.{Ops, CRing, pow}
-use Rattle.algebra.proofs.Sums.{sum-cong}
+use Rattle.algebra.specs.ring.Ring.{Ops, pow}
+use Rattle.algebra.specs.ring.RingLaws.{CRing}
+use Rattle.algebra.proofs.fourier.Sums.{sum-cong}
 use Rattle.numbers.specs.Value.{Value, field}
 use Rattle.numbers.proofs.Values.{field-ring}
 use Rattle.slices.proofs.Rows.{row-end}
 use Rattle.slices.proofs.Values.{values-list, list-cong}
-use Rattle.butterflies.specs.Outer.{e}
-use Rattle.plain.specs.Steps.{innerSum, twiddled, outerSum, Splits}
-use Rattle.slices.specs.Values.{valuesOf, listOf}
-use Rattle.plain.proofs.steps.Sizes.{outer-pos}
+use Rattle.butterflies.specs.Butterflies.{e}
+use Rattle.plain.specs.Plain.{innerSum, twiddled, outerSum, Splits, sumsAt}
+use Rattle.slices.specs.Pairs.{valuesOf, listOf}
+use Rattle.plain.proofs.step.Sizes.{outer-pos}
 use Rattle.lengths.specs.declared.stage.Stage.{Stage}
 use Rattle.lengths.specs.Stages.{points, after, Ahead}
-use Rattle.plain.specs.Stages.{sumsAt}
 use Rattle.lengths.proofs.stage.Factoring.{next-factor, next-length}
 use Rattle.plain.proofs.Splitting.{next-splits}
 use Rattle.plain.proofs.Equation3.{equation-3}

@@ -7,23 +7,21 @@
 // and after an odd number of them the result is copied into the line. It is in its natural order after any number of steps.
 //
 // The roots are lent as tables of the powers of W: those of r, or those of its conjugate for the other direction.
-pub mod steps; // steps.rt
-pub mod scaling; // scaling.rt
+pub mod step; // step.rt
+pub mod scale; // scale.rt
 
 use lengths::stage::Stage;
 ghost use mathlib.Core.Path.{_≡_};
 ghost use Prim.Native.Nat.{ℕ, _*_, _/_};
 ghost use lib.ListN.{length};
-ghost use Rattle.algebra.specs.Ring.{Ops, pow};
-ghost use Rattle.algebra.specs.Fourier.{dft};
-ghost use Rattle.numbers.specs.Prime.{prime, IsModulus};
-ghost use Rattle.numbers.specs.Value.{Value, field, part, real};
+ghost use Rattle.algebra.specs.ring.Ring.{Ops, pow};
+ghost use Rattle.algebra.specs.fourier.Fourier.{dft};
+ghost use Rattle.numbers.specs.Value.{prime, IsModulus, Value, field, part, real};
 ghost use Rattle.roots.specs.Root.{tableRoot, RootTable};
-ghost use Rattle.lengths.specs.Factors.{Factored};
+ghost use Rattle.lengths.specs.Lengths.{Factored};
 ghost use Rattle.lengths.specs.Stages.{points, after, Ahead};
-ghost use Rattle.slices.specs.Pairs.{Below};
-ghost use Rattle.slices.specs.Values.{valuesOf, listOf};
-ghost use Rattle.plain.specs.Stages.{sumsAt, WorkLeft};
+ghost use Rattle.slices.specs.Pairs.{Below, valuesOf, listOf};
+ghost use Rattle.plain.specs.Plain.{sumsAt, WorkLeft};
 
 // The transform of the line, in its natural order.
 pub fn transform<'a>(
@@ -39,8 +37,10 @@ pub fn transform<'a>(
     requires { ⌜ Factored factors n × (n * (2880 / n) ≡ 2880) ⌝ }
     requires { ⌜ (length (now line) ≡ 2 * n) × (length (now work) ≡ 2 * n) ⌝ }
     requires { ⌜ Below (prime m) (now line) ⌝ }
-    ensures { λ _. ⌜ now (line .exit) ≡ listOf n (dft (field m) n (pow (field m) (tableRoot m (now (re .entry)) (now (im .entry))) (2880 / n)) (valuesOf m (now (line .entry)))) ⌝ }
-    ensures { λ _. ⌜ WorkLeft m n (tableRoot m (now (re .entry)) (now (im .entry))) factors 0 (valuesOf m (now (line .entry))) (now (work .entry)) (now (work .exit)) ⌝ }
+    ensures { λ _. ⌜ now (line .exit) ≡ listOf n
+        (dft (field m) n (pow (field m) (tableRoot m (now (re .entry)) (now (im .entry))) (2880 / n)) (valuesOf m (now (line .entry)))) ⌝ }
+    ensures { λ _. ⌜ WorkLeft m n (tableRoot m (now (re .entry)) (now (im .entry))) factors 0 (valuesOf m (now (line .entry))) (now (work .entry))
+        (now (work .exit)) ⌝ }
 {
     let mut at = Stage {
         left: factors,
@@ -48,11 +48,11 @@ pub fn transform<'a>(
         lines: n,
     };
     while 8 <= at.left {
-        at = step(m, re, im, at, line, work);
-        at = step(m, re, im, at, work, line);
+        at = next_step(m, re, im, at, line, work);
+        at = next_step(m, re, im, at, work, line);
     }
     if at.left != 0 {
-        step(m, re, im, at, line, work);
+        next_step(m, re, im, at, line, work);
         slices::copy(work, line, n);
     }
 }
@@ -71,15 +71,18 @@ pub fn inverse<'a>(
     requires { ⌜ Factored factors n × (n * (2880 / n) ≡ 2880) ⌝ }
     requires { ⌜ (length (now line) ≡ 2 * n) × (length (now work) ≡ 2 * n) ⌝ }
     requires { ⌜ Below (prime m) (now line) ⌝ }
-    ensures { λ _. ⌜ now (line .exit) ≡ listOf n (λ t. field m .mul (real m (part m n)) (dft (field m) n (pow (field m) (tableRoot m (now (re .entry)) (now (im .entry))) (2880 / n)) (valuesOf m (now (line .entry))) t)) ⌝ }
-    ensures { λ _. ⌜ WorkLeft m n (tableRoot m (now (re .entry)) (now (im .entry))) factors 0 (valuesOf m (now (line .entry))) (now (work .entry)) (now (work .exit)) ⌝ }
+    ensures { λ _. ⌜ now (line .exit) ≡ listOf n
+        (λ t. field m .mul (real m (part m n))
+        (dft (field m) n (pow (field m) (tableRoot m (now (re .entry)) (now (im .entry))) (2880 / n)) (valuesOf m (now (line .entry))) t)) ⌝ }
+    ensures { λ _. ⌜ WorkLeft m n (tableRoot m (now (re .entry)) (now (im .entry))) factors 0 (valuesOf m (now (line .entry))) (now (work .entry))
+        (now (work .exit)) ⌝ }
 {
     transform(m, re, im, factors, n, line, work);
-    crate::scaling::divide(m, n, line);
+    crate::scale::divide(m, n, line);
 }
 
 // The next step: inner sums of length A, with B times as many lines, become inner sums of length A B.
-fn step<'a>(
+fn next_step<'a>(
     m: u32,
     re: &'a [u32; 2880],
     im: &'a [u32; 2880],
@@ -92,10 +95,11 @@ fn step<'a>(
     requires { ⌜ (length (now from) ≡ 2 * points at) × (length (now to) ≡ 2 * points at) ⌝ }
     requires { ⌜ Below (prime m) (now from) ⌝ }
     ensures { λ r. ⌜ r ≡ after at ⌝ }
-    ensures { λ _. ⌜ ((X : ℕ → Value m) → now (from .entry) ≡ sumsAt m (tableRoot m (now (re .entry)) (now (im .entry))) at X → now (to .exit) ≡ sumsAt m (tableRoot m (now (re .entry)) (now (im .entry))) (after at) X) ⌝ }
+    ensures { λ _. ⌜ ((X : ℕ → Value m) → now (from .entry) ≡ sumsAt m (tableRoot m (now (re .entry)) (now (im .entry))) at X → now (to .exit)
+        ≡ sumsAt m (tableRoot m (now (re .entry)) (now (im .entry))) (after at) X) ⌝ }
 {
     let next = lengths::stage::next(at);
-    crate::steps::step(
+    crate::step::step(
         m,
         re,
         im,

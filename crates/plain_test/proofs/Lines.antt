@@ -6,11 +6,11 @@ use native.Mathlib.Omega.{arith}
 use lib.Dec.{T, leb, leb→le}
 use lib.Ieee.Fits.{and-l, and-r}
 use lib.ListN.{length, getD}
-use Rattle.numbers.specs.Prime.{prime}
+use Rattle.numbers.specs.Value.{prime}
 use Rattle.numbers.proofs.Primes.{prime-pos, prime-least}
 use Rattle.slices.specs.Pairs.{Below}
 use Rattle.slices.proofs.Bounds.{below-each}
-use Rattle.lengths.specs.Factors.{Factored, octal, product, Factors, none, one}
+use Rattle.lengths.specs.Lengths.{Factored, octal, product, Factors, none, one}
 use Rattle.lengths.proofs.stage.Factoring.{packed}
 
 unfoldable pub twoToFive : List ℕ → Bool

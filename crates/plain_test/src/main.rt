@@ -4,9 +4,9 @@
 ghost use mathlib.Core.Path.{_≡_};
 ghost use Prim.Native.Nat.{_*_, _/_, _<_};
 ghost use lib.ListN.{length};
-ghost use Rattle.numbers.specs.Prime.{IsModulus};
+ghost use Rattle.numbers.specs.Value.{IsModulus};
 ghost use Rattle.roots.specs.Root.{RealTable, ImaginaryTable, RootTable};
-ghost use Rattle.lengths.specs.Factors.{Factored};
+ghost use Rattle.lengths.specs.Lengths.{Factored};
 
 fn main() {
     each(0, 1);
@@ -34,15 +34,15 @@ fn each(factors: u32, n: usize)
 {
     each_way(
         1,
-        roots::tables::real_parts(1),
-        roots::tables::imaginary_parts(1),
+        roots::powers::real_parts(1),
+        roots::powers::imaginary_parts(1),
         factors,
         n,
     );
     each_way(
         2,
-        roots::tables::real_parts(2),
-        roots::tables::imaginary_parts(2),
+        roots::powers::real_parts(2),
+        roots::powers::imaginary_parts(2),
         factors,
         n,
     );

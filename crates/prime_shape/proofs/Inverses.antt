@@ -5,11 +5,12 @@ use Prim.Native.Nat.{ℕ, zero, suc, _+_, _*_, _/_, _%_, _<_, _≤_}
 use native.Mathlib.Nat as N
 use native.Mathlib.Omega.{arith}
 use native.Mathlib.Decide.{ℕ-discrete}
-use Rattle.algebra.specs.Ring.{Ops, CRing}
-use Rattle.algebra.specs.Residue.{Res, residue, residues}
-use Rattle.algebra.proofs.Laws.{along}
-use Rattle.algebra.proofs.Solver.{ring, quote, linear}
-use Rattle.algebra.proofs.ResidueRing.{val-path, val-below, residue-val, residue-add, residue-mul, residue-ring}
+use Rattle.algebra.specs.ring.Ring.{Ops}
+use Rattle.algebra.specs.ring.RingLaws.{CRing}
+use Rattle.algebra.specs.ring.Residue.{Res, residue, residues}
+use Rattle.algebra.proofs.ring.Laws.{along}
+use Rattle.algebra.proofs.ring.Solver.{ring, quote, linear}
+use Rattle.algebra.proofs.ring.ResidueRing.{val-path, val-below, residue-val, residue-add, residue-mul, residue-ring}
 use Rattle.prime_shape.specs.Prime.{Prime}
 
 module _ {p : ℕ} (prime : Prime p) where

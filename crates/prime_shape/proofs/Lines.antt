@@ -5,17 +5,17 @@ use Prim.Native.Nat.{ℕ, zero, suc, _+_, _*_, _/_, _<_}
 use native.Mathlib.Nat as N
 use native.Mathlib.Omega.{arith}
 use native.Mathlib.Decide.{decLt}
-use Rattle.algebra.specs.Ring.{Ops, pow, cast}
-use Rattle.algebra.specs.Fourier.{Root, dft}
-use Rattle.algebra.specs.Axis.{AxisLaws}
-use Rattle.algebra.specs.Kinds.{Kind, unfoldBefore, unfoldAfter}
-use Rattle.algebra.proofs.Laws.{pow-add}
-use Rattle.algebra.proofs.Solver.{ring, quote, linear}
-use Rattle.algebra.proofs.Transform.{pow-mul, root-of}
-use Rattle.algebra.proofs.Conj.{conj-pow}
-use Rattle.algebra.proofs.FoldAll.{forward-is, back-is, restores, restores-after}
-use Rattle.algebra.proofs.Rules.{before-rule, after-rule, before-pack, after-pack, transform-rule, inverse-rule}
-use Rattle.algebra.proofs.CellMap.{factors-map, map-factors}
+use Rattle.algebra.specs.ring.Ring.{Ops, pow, cast}
+use Rattle.algebra.specs.fourier.Fourier.{Root, dft}
+use Rattle.algebra.specs.fourier.Axis.{AxisLaws}
+use Rattle.algebra.specs.lines.Kinds.{Kind}
+use Rattle.algebra.proofs.ring.Laws.{pow-add}
+use Rattle.algebra.proofs.ring.Solver.{ring, quote, linear}
+use Rattle.algebra.proofs.fourier.Transform.{pow-mul, root-of}
+use Rattle.algebra.proofs.ring.Conj.{conj-pow}
+use Rattle.algebra.proofs.lines.FoldAll.{forward-is, back-is, restores, restores-after}
+use Rattle.algebra.proofs.lines.Rules.{before-rule, after-rule, before-pack, after-pack, transform-rule, inverse-rule}
+use Rattle.algebra.proofs.cells.CellMap.{factors-map, map-factors}
 use Rattle.prime_shape.specs.Shape.{Value, field, conj, i, part, Shape}
 use Rattle.prime_shape.specs.Transform.{rootOf, axisOf, forwardOf, inverseOf, wholeBefore, wholeAfter, HalfTangents, LineFacts, CellFacts, EveryPrime}
 use Rattle.prime_shape.proofs.Shapes.{field-ring, field-star, part-law, half-law, half-turn, root-of-unity}

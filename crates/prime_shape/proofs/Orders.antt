@@ -6,14 +6,14 @@ use native.Mathlib.Nat as N
 use native.Mathlib.Omega.{arith}
 use native.Mathlib.Decide.{ℕ-discrete}
 use lib.Dec.{lit<}
-use Rattle.algebra.specs.Ring.{Ops, CRing, Star, pow}
-use Rattle.algebra.specs.Residue.{residues}
-use Rattle.algebra.proofs.Solver.{ring, quote, linear}
-use Rattle.algebra.proofs.ResidueRing.{residue-ring}
-use Rattle.algebra.proofs.GaussRing.{gauss-ring, gauss-star}
-use Rattle.algebra.proofs.Transform.{pow-mul, pow-mod, pow-cycle}
-use Rattle.algebra.proofs.Divisors.{Hit, hit2, hit3, hit5, hit}
-use Rattle.prime_shape.specs.Shape.{Value, field, conj, i, OrderIs, Suits}
+use Rattle.algebra.specs.ring.Ring.{Ops, pow}
+use Rattle.algebra.specs.ring.RingLaws.{CRing, Star}
+use Rattle.algebra.proofs.ring.Solver.{ring, quote, linear}
+use Rattle.algebra.proofs.ring.ResidueRing.{residue-ring}
+use Rattle.algebra.proofs.ring.GaussRing.{gauss-ring, gauss-star}
+use Rattle.algebra.proofs.fourier.Transform.{pow-mul, pow-mod, pow-cycle}
+use Rattle.algebra.proofs.fourier.Divisors.{Hit, hit2, hit3, hit5, hit}
+use Rattle.prime_shape.specs.Shape.{Value, field, conj, i, Suits}
 
 module _ (p : ℕ) (above : 1 < p) (z : Value p) where
   open Ops (field p) using (mul as _⊗_, neg as ⊖_, one as 𝟙)

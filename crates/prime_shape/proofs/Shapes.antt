@@ -1,28 +1,30 @@
--- What follows from the shape alone: the root is on the unit circle, its half turn is -1, it has order 2,880 with an inverse of r^k - 1 for every smaller k, and 1/N is exact.
--- That r^k - 1 has an inverse uses that p is prime: its norm 2 - (w + conj w), w = r^k, is a residue, and were it 0, w would be 1 + e with e e = 0, so w^n = 1 + n e, and e = 0.
+-- What follows from the shape alone: the root is on the unit circle, its half turn is -1, it has order 2,880 with an inverse of r^k - 1 for every smaller k,
+-- and 1/N is exact.
+-- That r^k - 1 has an inverse uses that p is prime: its norm 2 - (w + conj w), w = r^k, is a residue, and were it 0, w would be 1 + e with e e = 0, so
+-- w^n = 1 + n e, and e = 0.
 use mathlib.Core.Path.{_≡_, refl, sym, _∙_, ap, ap₂}
 use mathlib.Core.List.{[], _∷_}
 use Prim.Native.Nat.{ℕ, zero, suc, _+_, _*_, _-_, _/_, _%_, _<_, _≤_}
 use native.Mathlib.Nat as N
 use native.Mathlib.Omega.{arith}
 use native.Mathlib.Decide.{ℕ-discrete}
-use lib.Dec.{lit<}
-use Rattle.algebra.specs.Ring.{Ops, CRing, Star, pow, cast}
-use Rattle.algebra.specs.Residue.{Res, residue, residues}
-use Rattle.algebra.specs.Gauss.{gauss}
-use Rattle.algebra.specs.Gauss as Gauss
-use Rattle.algebra.specs.Fourier.{Root}
-use Rattle.algebra.proofs.Laws.{along, add-left-cancel}
-use Rattle.algebra.proofs.Solver.{ring, quote, linear}
-use Rattle.algebra.proofs.ResidueRing.{val-path, val-residue, residue-val, residue-ring, residue-add}
-use Rattle.algebra.proofs.GaussRing.{gauss-ring, gauss-star}
-use Rattle.algebra.proofs.Transform.{pow-zero, pow-suc, pow-mul, pow-unit, mul-pow, one-pow}
-use Rattle.algebra.proofs.Conj.{conj-pow}
-use Rattle.algebra.proofs.Divisors.{root-2880}
-use Rattle.algebra.proofs.RootOrder as RootOrder
+use Rattle.algebra.specs.ring.Ring.{Ops, pow, cast}
+use Rattle.algebra.specs.ring.RingLaws.{CRing, Star}
+use Rattle.algebra.specs.ring.Residue.{Res, residue, residues}
+use Rattle.algebra.specs.ring.Gauss.{gauss}
+use Rattle.algebra.specs.ring.Gauss as Gauss
+use Rattle.algebra.specs.fourier.Fourier.{Root}
+use Rattle.algebra.proofs.ring.Laws.{along}
+use Rattle.algebra.proofs.ring.Solver.{ring, quote, linear}
+use Rattle.algebra.proofs.ring.ResidueRing.{val-residue, residue-val, residue-ring, residue-add}
+use Rattle.algebra.proofs.ring.GaussRing.{gauss-ring, gauss-star}
+use Rattle.algebra.proofs.fourier.Transform.{pow-mul, pow-unit, mul-pow, one-pow}
+use Rattle.algebra.proofs.ring.Conj.{conj-pow}
+use Rattle.algebra.proofs.fourier.Divisors.{root-2880}
+use Rattle.algebra.proofs.fourier.RootOrder as RootOrder
 use Rattle.numbers.proofs.Parts.{part-of}
 use Rattle.numbers.proofs.Values.{value-path}
-use Rattle.prime_shape.specs.Shape.{Value, field, conj, i, number, part, Candidate, Suits, Shape}
+use Rattle.prime_shape.specs.Shape.{Value, field, conj, i, number, part, Candidate, Shape}
 use Rattle.prime_shape.proofs.Inverses.{inverse-of}
 
 -- real values of R[i]

@@ -1,14 +1,14 @@
 -- A number below s * s that no number from 2 to s divides is a prime: one of two factors is below s.
-use mathlib.Core.Path.{_≡_, refl, sym, _∙_, ap}
+use mathlib.Core.Path.{_≡_, _∙_, ap}
 use mathlib.Core.Bool.{Bool, not}
-use Prim.Native.Nat.{ℕ, zero, suc, _+_, _*_, _-_, _/_, _%_, _<_, _≤_}
+use Prim.Native.Nat.{ℕ, zero, suc, _*_, _-_, _/_, _%_, _<_, _≤_}
 use native.Mathlib.Nat as N
 use native.Mathlib.Omega.{arith}
 use native.Mathlib.Decide.{decLt}
 use lib.Dec.{T, T-not, eqb}
 use borrow.Author.Tests.{eq-eqb}
-use Rattle.algebra.specs.CellTests.{below}
-use Rattle.algebra.proofs.Bool.{below-at}
+use Rattle.algebra.specs.cells.CellTests.{below}
+use Rattle.algebra.proofs.ring.Bool.{below-at}
 use Rattle.prime_shape.specs.Prime.{Prime}
 
 -- none of 2, .., s divides p

@@ -1,9 +1,9 @@
--- A prime of the papers' shape, p + 1 = 2,880 c, and its root r = ((a + i)/(a - i))^c: everything that a transform fact may use of them.
+-- A prime of the papers' shape, p + 1 = 2,880 c, and its root r = ((a + i)/(a - i))^c: all that the transform facts use of them.
 use mathlib.Core.Path.{_≡_}
 use Prim.Native.Nat.{ℕ, _+_, _*_, _/_, _%_, _≤_, _<_}
-use Rattle.algebra.specs.Ring.{Ops, pow}
-use Rattle.algebra.specs.Residue.{Res, residue, residues}
-use Rattle.algebra.specs.Gauss as Gauss
+use Rattle.algebra.specs.ring.Ring.{Ops, pow}
+use Rattle.algebra.specs.ring.Residue.{Res, residue, residues}
+use Rattle.algebra.specs.ring.Gauss as Gauss
 use Rattle.prime_shape.specs.Prime.{Prime}
 
 -- Values a + b i over the residues modulo p.
@@ -20,7 +20,7 @@ module _ (p : ℕ) where
   abbrev pub i : Value p
   i = Gauss.imag (residues p)
 
-  -- a number as a real value; 1/N, which is exact where N divides p + 1; 1/2
+  -- a number as a real value, and 1/N, which is exact where N divides p + 1
   abbrev pub number : ℕ → Value p
   number x = (residue p x, residue p 0)
 
@@ -47,7 +47,7 @@ module _ (p : ℕ) where
     pub inverts : (number a ⊕ ⊖ i) ⊗ inverse ≡ 𝟙
     pub power : z ≡ ((number a ⊕ i) ⊗ inverse) ^ c
 
-  -- what the paper asks of the root
+  -- what the paper asks of the root: order exactly 2,880 and the quarter turn -i
   pub record Suits (z : Value p) : Type 0 where
     pub order : OrderIs 2880 z
     pub quarter : z ^ 720 ≡ ⊖ i
@@ -58,7 +58,7 @@ module _ (p : ℕ) where
     pub suits : Suits r
     pub least : (b : ℕ) → 1 ≤ b → b < a → (z : Value p) → Candidate c b z → Suits z → ⊥
 
--- The shape. That a is the least is no part of it: the facts hold of every a that suits.
+-- The shape. That a is the least is no part of it: the transform facts hold for every a that suits.
 pub record Shape (p c a : ℕ) (r : Value p) : Type 0 where
   pub is-prime : Prime p
   pub next : p + 1 ≡ 2880 * c

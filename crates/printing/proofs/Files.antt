@@ -7,11 +7,10 @@ use native.Mathlib.Omega.{arith}
 use lib.ListN.{length, take, replicate, length-replicate}
 use lib.Seq.{length-take-le}
 use lib.Dec.{ltb}
-use Rattle.job.specs.Header.{needed}
-use Rattle.factor_file.specs.File.{headerIn, fileStep}
+use Rattle.job.specs.Job.{needed}
+use Rattle.factor_file.specs.Reading.{headerIn, fileStep}
 use Rattle.printing.specs.Text.{refusalText, putText}
-use Rattle.printing.specs.Limits.{fileLimit, lentLimit}
-use Rattle.printing.specs.Printed.{openedText, printed, printStep}
+use Rattle.printing.specs.Printed.{fileLimit, lentLimit, openedText, printed, printStep}
 
 -- ---- the numbers that are lent: the first n of m zeros
 

@@ -7,20 +7,18 @@ use native.Mathlib.Omega.{arith}
 use lib.ListN.{length, replicate, length-replicate}
 use lib.Dec.{ltb}
 use borrow.Author.Tests.{not-false, eqb-true}
-use Rattle.refusals.specs.Tests.{first, accepted}
+use Rattle.refusals.specs.Refusals.{first, accepted}
 use Rattle.refusals.proofs.Tests.{passed}
 use Rattle.lengths.specs.Lengths.{scratchLength, cleared}
 use Rattle.cell.specs.Volume.{volumeLength}
 use Rattle.job.specs.declared.Job.{Job}
-use Rattle.job.specs.Header.{needed, withState, mapHeld, groupIn, halves}
-use Rattle.job.specs.Steps.{Opening, opened, notOpened, OpenOutcome, done, unchanged, Worked, synthesisTests, synthesised, synthesisStep}
-use Rattle.factor_file.specs.File.{headerIn, fileStep}
+use Rattle.job.specs.Job.{needed, withState, mapHeld, groupIn, halves, Opening, opened, notOpened, OpenOutcome, done, unchanged, Worked, synthesisTests, synthesised, synthesisStep}
+use Rattle.factor_file.specs.Reading.{headerIn, fileStep}
 use Rattle.factor_file.proofs.Lengths.{file-length}
 use Rattle.printing.specs.Text.{refusalText}
 use Rattle.printing.proofs.map_text.Printing.{map-short}
 use Rattle.printing.proofs.map_text.Refusals.{refusal-short}
-use Rattle.printing.specs.Limits.{fileLimit, lentLimit}
-use Rattle.printing.specs.Printed.{synthesisText, openedText, printed}
+use Rattle.printing.specs.Printed.{fileLimit, lentLimit, synthesisText, openedText, printed}
 use Rattle.printing.specs.Fits.{AlwaysFits}
 use Rattle.printing.proofs.Synthesised.{synthesised-held}
 

@@ -8,8 +8,7 @@ use lib.Dec.{ltb, eqb}
 use lib.ListN.{length}
 use borrow.Author.Tests.{not-false}
 use Rattle.refusals.specs.declared.Refusal.{Refusal}
-use Rattle.refusals.specs.Refusals.{numberOf}
-use Rattle.refusals.specs.Tests.{first, accepted}
+use Rattle.refusals.specs.Refusals.{numberOf, first, accepted}
 use Rattle.lengths.specs.Lengths.{cleared}
 use Rattle.refusals.proofs.Tests.{passed}
 use Rattle.cell.proofs.VolumeLayout.{length-map}
@@ -17,9 +16,7 @@ use Rattle.job.specs.declared.Job.{Job}
 use Rattle.job.specs.declared.Answer.{Answer}
 use Rattle.job.specs.declared.Answer.the-variants.{Done, Refused}
 use Rattle.job.specs.declared.Answered.{Answered}
-use Rattle.job.specs.Header.{headerOf, axisTests, validJob, withState, mapHeld, groupIn, halves}
-use Rattle.job.specs.Steps.{Said, done, refused, Outcome, Worked, unchanged, synthesisTests, synthesised, synthesisStep}
-use Rattle.job.specs.Said.{said, worked}
+use Rattle.job.specs.Job.{headerOf, axisTests, validJob, withState, mapHeld, groupIn, halves, Said, done, refused, Outcome, Worked, unchanged, synthesisTests, synthesised, synthesisStep, said, worked}
 use Rattle.header.proofs.Headers.{all-three}
 use Rattle.printing.specs.Text.{mapText, refusalText}
 use Rattle.printing.specs.Printable.{Printable}

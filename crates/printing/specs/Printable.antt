@@ -6,7 +6,7 @@ use Prim.Native.Nat.{ℕ}
 use lib.ListN.{length}
 use Rattle.cell.specs.Volume.{volumeLength}
 use Rattle.job.specs.declared.Job.{Job}
-use Rattle.job.specs.Header.{groupIn, halves, validJob}
+use Rattle.job.specs.Job.{groupIn, halves, validJob}
 
 -- a job and a volume as long as it needs
 pub record Printable (j : Job) (v : List ℕ) : Type 0 where

@@ -1,17 +1,23 @@
--- The map printer: the text that it prints for the bytes on its standard input.
--- The file is lent a volume as long as it needs, and of 2,048 numbers where it needs more: that is refused 6 in its place among the file's refusals.
+-- The printer's limits: the bytes of a file that it reads, and the numbers of a volume that it lends.
+use Prim.Native.Nat.{ℕ, min}
 use mathlib.Core.Bool.{cond}
 use mathlib.Core.List.{List, []}
-use Prim.Native.Nat.{ℕ, min}
 use lib.ListN.{length, replicate}
 use lib.Dec.{ltb}
 use Rattle.lengths.specs.Lengths.{scratchLength}
 use Rattle.job.specs.declared.Job.{Job}
-use Rattle.job.specs.Header.{needed}
-use Rattle.job.specs.Steps.{Opening, opened, notOpened, OpenOutcome, Said, done, density, factor, refused, Outcome, Worked, synthesisStep}
-use Rattle.factor_file.specs.File.{headerIn, fileStep}
+use Rattle.job.specs.Job.{needed, Opening, opened, notOpened, OpenOutcome, Said, done, density, factor, refused, Outcome, Worked, synthesisStep}
+use Rattle.factor_file.specs.Reading.{headerIn, fileStep}
 use Rattle.printing.specs.Text.{mapText, refusalText, TextOutcome, putText}
-use Rattle.printing.specs.Limits.{fileLimit, lentLimit}
+
+abbrev pub fileLimit : ℕ
+fileLimit = 8192
+
+abbrev pub lentLimit : ℕ
+lentLimit = 2048
+
+-- ---- The map printer: the text that it prints for the bytes on its standard input.
+-- The file is lent a volume as long as it needs, and of 2,048 numbers where it needs more: that is refused 6 in its place among the file's refusals.
 
 -- The synthesis of an accepted file is never refused (demand 3); the text of a refusal stands here for completeness.
 abbrev pub synthesisText : Outcome → List ℕ

@@ -5,13 +5,11 @@ use mathlib.Core.List.{List, [], _∷_, _++_}
 use Prim.Native.Nat.{ℕ}
 use lib.ListN.{length, getD, drop}
 use lib.Dec.{ltb, eqb}
-use Rattle.output.specs.Decimal.{decimal, blank, lineFeed, each}
-use Rattle.refusals.specs.Tests.{Test, _⇒_, first, accepted}
-use Rattle.refusals.specs.Refusals.{numberOf}
+use Rattle.output.specs.Output.{decimal, blank, lineFeed, each}
+use Rattle.refusals.specs.Refusals.{Test, _⇒_, first, accepted, numberOf}
 use Rattle.cell.specs.Volume.{layers, mapPlace}
 use Rattle.job.specs.declared.Job.{Job}
-use Rattle.job.specs.Header.{groupIn, halves, validJob, mapHeld}
-use Rattle.job.specs.Steps.{fits}
+use Rattle.job.specs.Job.{groupIn, halves, validJob, mapHeld, fits}
 use Rattle.printing.specs.declared.map_text.TextAnswer.{TextAnswer}
 use Rattle.printing.specs.declared.map_text.TextAnswer.the-variants.{Written, Refused}
 

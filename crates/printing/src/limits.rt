@@ -4,13 +4,12 @@ ghost use mathlib.Core.Path.{_≡_};
 ghost use Prim.Native.Nat.{_<_, _≤_, min};
 ghost use lib.ListN.{length};
 ghost use lib.Dec.{ltb};
-ghost use Rattle.algebra.specs.Cell.{planes};
+ghost use Rattle.algebra.specs.cells.Cell.{planes};
 ghost use Rattle.cell.specs.Operations.{halvesOf};
 ghost use Rattle.cell.specs.Volume.{groupOf, volumeLength};
 ghost use Rattle.header.specs.Header.{needed};
-ghost use Rattle.file_format.specs.Numbers.{twoBytes};
-ghost use Rattle.file_format.specs.HeaderIn.{headerIn};
-ghost use Rattle.printing.specs.Limits.{fileLimit, lentLimit};
+ghost use Rattle.file_format.specs.Format.{twoBytes, headerIn};
+ghost use Rattle.printing.specs.Printed.{fileLimit, lentLimit};
 
 // Whether a file is longer than the printer reads.
 pub fn too_long(file: &[u8]) -> bool

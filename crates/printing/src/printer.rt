@@ -10,8 +10,8 @@ use refusals::Refusal;
 ghost use mathlib.Core.Path.{_≡_};
 ghost use lib.ListN.{replicate};
 ghost use Rattle.lengths.specs.Lengths.{scratchLength};
-ghost use Rattle.job.specs.Steps.{synthesisStep};
-ghost use Rattle.factor_file.specs.File.{fileStep};
+ghost use Rattle.job.specs.Job.{synthesisStep};
+ghost use Rattle.factor_file.specs.Reading.{fileStep};
 ghost use Rattle.printing.specs.Text.{putText, textOutcome};
 ghost use Rattle.printing.specs.Printed.{synthesisText, openedText, printStep};
 

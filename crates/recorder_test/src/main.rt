@@ -1,7 +1,9 @@
 // Runs the recorder's public calls from standard input and prints what each answers and leaves: openings by group, lengths and lists,
 // openings of factor files, sound and damaged, scripts of calls, and the files of jobs. tools/test_records.py says what the input holds
 // and what is printed; tools/job_cases.py and tools/file_cases.py write the input and compute by brute force what must be printed.
-// Scripts are replayed here; crate recorder_cases does what every other record asks.
+// Scripts are replayed here; `cases` does what every other record asks.
+mod cases; // cases.rt: the records that ask for one call
+
 ghost use mathlib.Core.Path.{_≡_};
 ghost use Prim.Native.Nat.{_+_, _<_, _≤_};
 ghost use lib.ListN.{length};
@@ -17,7 +19,7 @@ fn replay_calls(
     let r = scripts::replay::replay(job, script, volume, scratch, answers);
     test_io::print_replay(
         r.written,
-        recorder_cases::job_checksum(r.job),
+        cases::job_checksum(r.job),
         &volume[..],
         &scratch[..],
         &answers[..],
@@ -49,12 +51,12 @@ fn next(job: Job, r: &[u32], volume: &mut [u32]) -> Job {
     if test_io::at(r, 0) == 2 {
         return replayed(job, r, &mut volume[..lent]);
     }
-    recorder_cases::asked(job, r, &mut volume[..lent])
+    cases::asked(job, r, &mut volume[..lent])
 }
 
 fn main() {
     let mut volume = [0u32; 4096];
-    let mut job = recorder_cases::no_job();
+    let mut job = cases::no_job();
     let mut r = [0u32; 10];
     let mut turns = u32::MAX;
     while turns > 0 && test_io::read_numbers(&mut r) {

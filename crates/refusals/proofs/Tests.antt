@@ -8,8 +8,7 @@ use lib.Dec.{T, leb, eqb, leb→le}
 use borrow.Author.Tests.{not-true, not-false, lt-ltb, le-ltb, le-leb, lt-leb, eq-eqb, ne-eqb}
 use Rattle.refusals.specs.declared.Refusal.{Refusal}
 use Rattle.refusals.specs.declared.Refusal.the-variants.{LineKind, Direction, Length, Factor, Product, BufferLength, NotResidue, Group, VolumeTooLarge, Index, ZeroValue, Contradiction, ScratchTooShort, Inconsistent, FileShape, FileVersion, NoRecords, OutputTooShort, NotCollecting, NoMap, NoFactors, Occupied, ImpossibleJob}
-use Rattle.refusals.specs.Refusals.{numberOf}
-use Rattle.refusals.specs.Tests.{Test, _⇒_, first, accepted}
+use Rattle.refusals.specs.Refusals.{numberOf, Test, _⇒_, first, accepted}
 
 -- ---- conjunctions
 

@@ -1,7 +1,7 @@
 -- Everything that is proved of the root, gathered for both moduli.
 use Prim.Native.Nat.{ℕ}
-use Rattle.numbers.specs.Prime.{IsModulus}
-use Rattle.roots.specs.Root.{RootLaws}
+use Rattle.numbers.specs.Value.{IsModulus}
+use Rattle.roots.specs.TableLaws.{RootLaws}
 use Rattle.roots.proofs.Roots.{shape, root-of-unity, half-turn, quarter-turn, root-order, conj-power}
 use Rattle.roots.proofs.RootPowers.{root-table, table-root, conj-root-table, conj-table-root}
 use Rattle.roots.proofs.RootTangents.{tangent-laws, backward-tangents}

@@ -7,7 +7,7 @@ use native.Mathlib.Decide.{ℕ-discrete}
 use lib.ListN.{length, getD, set, length-set}
 use lib.Seq.{getD-set-same, getD-set-other}
 use Rattle.numbers.specs.Value.{ring, res}
-use Rattle.roots.specs.Root.{AllBelow, NegatedTable}
+use Rattle.roots.specs.TableLaws.{AllBelow, NegatedTable}
 
 -- the first k numbers of t are negated in u, and the others stand as they were
 pub record Negating (m : ℕ) (t u : List ℕ) (k : ℕ) : Type 0 where

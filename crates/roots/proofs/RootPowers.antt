@@ -6,14 +6,14 @@ use Prim.Native.Nat.{ℕ, _<_}
 use native.Mathlib.Omega.{arith}
 use lib.Dec.{lit<}
 use lib.ListN.{length, getD}
-use Rattle.algebra.specs.Ring.{Ops, CRing, Star, pow}
-use Rattle.algebra.specs.Gauss as Gauss
-use Rattle.algebra.proofs.Laws.{mul-one, neg-neg}
-use Rattle.algebra.proofs.Transform.{pow-zero, pow-suc, inverse-cycle}
-use Rattle.algebra.proofs.Conj.{conj-pow}
-use Rattle.numbers.specs.Prime.{prime, IsModulus}
-use Rattle.numbers.specs.Value.{Value, ring, field, conj, i, pairOf, Small}
-use Rattle.roots.specs.Root.{root, RealTable, ImaginaryTable, TangentTable, AllBelow, NegatedTable, entryAt, tableRoot, RootTable}
+use Rattle.algebra.specs.ring.Ring.{pow}
+use Rattle.algebra.specs.ring.Gauss as Gauss
+use Rattle.algebra.proofs.ring.Laws.{mul-one, neg-neg}
+use Rattle.algebra.proofs.fourier.Transform.{pow-zero, pow-suc, inverse-cycle}
+use Rattle.algebra.proofs.ring.Conj.{conj-pow}
+use Rattle.numbers.specs.Value.{prime, IsModulus, Value, ring, field, conj, i, pairOf}
+use Rattle.roots.specs.Root.{root, RealTable, ImaginaryTable, entryAt, tableRoot, RootTable}
+use Rattle.roots.specs.TableLaws.{TangentTable, AllBelow, NegatedTable}
 use Rattle.numbers.proofs.Residues.{res-by, below-by}
 use Rattle.numbers.proofs.Values.{pair-path, value-path, field-ring, field-star}
 use Rattle.roots.proofs.Roots.{full-turn, root-inverse, quarter-turn, root-of-unity}

@@ -1,18 +1,17 @@
 -- Both primes have the shape. Of each is computed: trial division, ((a + i)/(a - i))^c, r^720 = -i, and that r^1440, r^960 and r^576 are not 1.
 -- Every law of the root follows from the shape alone, for any prime (crate prime_shape).
 use mathlib.Core.Path.{_≡_, refl, sym, ap, subst}
-use mathlib.Core.Bool.{Bool, not, cond}
+use mathlib.Core.Bool.{not, cond}
 use Prim.Native.Nat.{ℕ, _-_, _≤_}
 use lib.Dec.{T, T-not, eqb}
 use borrow.Author.Tests.{eq-eqb}
-use Rattle.algebra.specs.Ring.{Ops, pow}
-use Rattle.algebra.specs.Residue.{Res, residue, residues}
-use Rattle.algebra.specs.Gauss.{gauss}
-use Rattle.algebra.specs.Gauss as Gauss
-use Rattle.algebra.specs.Fourier.{Root}
-use Rattle.algebra.proofs.ResidueRing.{val-path}
-use Rattle.numbers.specs.Prime.{prime, exponent, IsModulus}
-use Rattle.numbers.specs.Value.{Value, field, conj, i, value, real, part}
+use Rattle.algebra.specs.ring.Ring.{Ops, pow}
+use Rattle.algebra.specs.ring.Residue.{Res, residue, residues}
+use Rattle.algebra.specs.ring.Gauss.{gauss}
+use Rattle.algebra.specs.ring.Gauss as Gauss
+use Rattle.algebra.specs.fourier.Fourier.{Root}
+use Rattle.algebra.proofs.ring.ResidueRing.{val-path}
+use Rattle.numbers.specs.Value.{prime, exponent, IsModulus, Value, field, conj, i, value, real, part}
 use Rattle.prime_shape.specs.Shape.{Candidate, Suits, OrderIs, Shape}
 use Rattle.prime_shape.proofs.TrialDivision.{prime-86399, prime-302399}
 use Rattle.prime_shape.proofs.Orders.{suits-by}

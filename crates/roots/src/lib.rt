@@ -1,19 +1,19 @@
-// The root r of order 2,880: its laws, and how tables of its powers and of its half tangents are read and negated.
+// The root r of order 2,880: the constant tables of its powers and of its half tangents, how a table is read and negated, and its laws.
 //
 // The negated imaginary parts and half tangents are those of 1/r, so that one and the same code serves both directions.
-// The tables themselves are the crates `cosines` and `roots`.
-pub mod cosines; // cosines.rt
-pub mod tables; // tables.rt
+pub mod powers; // powers.rt: the real and the imaginary parts of the powers
+pub mod half_tangents; // half_tangents.rt
 
 ghost use mathlib.Core.Path.{_≡_};
 ghost use Prim.Native.Nat.{ℕ, _<_};
 ghost use lib.ListN.{length};
-ghost use Rattle.numbers.specs.Prime.{prime, IsModulus};
-ghost use Rattle.roots.specs.Root.{AllBelow, entryAt, NegatedTable, RootLaws};
+ghost use Rattle.numbers.specs.Value.{prime, IsModulus};
+ghost use Rattle.roots.specs.Root.{entryAt};
+ghost use Rattle.roots.specs.TableLaws.{AllBelow, NegatedTable, RootLaws};
 use numbers::Pair;
 use numbers::neg;
 
-// The power at place k of two tables.
+// The power at place k of the two arrays of powers.
 pub fn root_at<'a>(re: &'a [u32; 2880], im: &'a [u32; 2880], k: usize) -> Pair
     requires { ⌜ k < 2880 ⌝ }
     ensures { λ r. ⌜ r ≡ entryAt (now (re .entry)) (now (im .entry)) k ⌝ }
@@ -36,7 +36,7 @@ pub fn negate(m: u32, t: &mut [u32])
     }
 }
 
-// What is proved of the root, as a contract, so that none of it can be missed.
+// What is proved of the root and its tables, as a contract, so that none of it can be missed.
 pub fn root_laws()
     ensures { λ _. ⌜ ((m : ℕ) → IsModulus m → RootLaws m) ⌝ }
 {}

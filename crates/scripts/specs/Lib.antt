@@ -1,4 +1,1 @@
-pub mod Call
-pub mod Numbers
-pub mod CallCalls
 pub mod Script

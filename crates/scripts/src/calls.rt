@@ -8,9 +8,8 @@ use job::Reflection;
 ghost use mathlib.Core.Path.{_≡_};
 ghost use mathlib.Core.List.{List};
 ghost use Prim.Native.Nat.{ℕ, _≤_};
-ghost use Rattle.job.specs.Said.{said};
-ghost use Rattle.scripts.specs.Call.{callSaid, answerNumbers, replyNumbers, callStep};
-ghost use Rattle.scripts.specs.CallCalls.{callOutcome};
+ghost use Rattle.job.specs.Job.{said};
+ghost use Rattle.scripts.specs.Script.{callSaid, answerNumbers, replyNumbers, callStep, callOutcome};
 
 pub struct Called {
     pub reply: Reply,

@@ -1,7 +1,8 @@
-// The answers of a job's calls as the three numbers of a script's answer.
-pub mod numbers; // numbers.rt
-pub mod calls; // calls.rt
-pub mod replay; // replay.rt
+// Scripts of calls: a call and its answer as numbers, and the run of a whole script on a job and a volume. Here the answers of a job's calls
+// as the three numbers of a script's answer.
+pub mod numbers; // numbers.rt: where a call and its answer stand
+pub mod calls; // calls.rt: the calls that transform nothing
+pub mod replay; // replay.rt: a script
 
 use crate::numbers::Reply;
 use job::Answer;
@@ -10,9 +11,8 @@ use job::PointAnswer;
 use refusals::Refusal;
 ghost use mathlib.Core.Path.{_≡_};
 ghost use Rattle.refusals.specs.Refusals.{numberOf};
-ghost use Rattle.job.specs.Steps.{refused};
-ghost use Rattle.job.specs.Said.{said, saidPoint, saidFactor};
-ghost use Rattle.scripts.specs.Call.{answerNumbers, replyNumbers};
+ghost use Rattle.job.specs.Job.{refused, said, saidPoint, saidFactor};
+ghost use Rattle.scripts.specs.Script.{answerNumbers, replyNumbers};
 
 fn refusal_reply(refusal: Refusal) -> Reply
     ensures { λ r. ⌜ replyNumbers r ≡ answerNumbers (refused (numberOf refusal)) ⌝ }

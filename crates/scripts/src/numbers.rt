@@ -3,7 +3,7 @@ ghost use mathlib.Core.Path.{_≡_};
 ghost use mathlib.Core.List.{_++_};
 ghost use Prim.Native.Nat.{_+_, _*_, _≤_};
 ghost use lib.ListN.{length, take, drop};
-ghost use Rattle.scripts.specs.Numbers.{numbersAt, replyNumbers};
+ghost use Rattle.scripts.specs.Script.{numbersAt, replyNumbers};
 
 // A call as numbers: its operation, three of an index or a point, two of a value.
 pub struct CallNumbers {

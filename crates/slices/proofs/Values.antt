@@ -4,12 +4,10 @@ use mathlib.Core.List.{List}
 use Prim.Native.Nat.{ℕ, _*_, _<_}
 use lib.ListN.{length}
 use Rattle.numbers.specs.declared.Pair.{Pair}
-use Rattle.numbers.specs.Prime.{prime}
-use Rattle.numbers.specs.Value.{Value, valueOf, pairOf}
+use Rattle.numbers.specs.Value.{prime, Value, valueOf, pairOf}
 use Rattle.numbers.proofs.Primes.{prime-pos}
 use Rattle.numbers.proofs.Values.{small-pair, value-pair, pair-value}
-use Rattle.slices.specs.Pairs.{at, tab, Below}
-use Rattle.slices.specs.Values.{valuesOf, listOf}
+use Rattle.slices.specs.Pairs.{at, tab, Below, valuesOf, listOf}
 use Rattle.slices.proofs.Pairs.{length-tab, at-tab, tab-cong, is-tab}
 use Rattle.slices.proofs.Bounds.{below-tab, small-at}
 

@@ -9,6 +9,8 @@ use Prim.Native.Nat.{ℕ, zero, suc, _+_, _*_, _<_, _≤_}
 use lib.ListN.{length, getD, set, replicate}
 use lib.Dec.{ltb}
 use Rattle.numbers.specs.declared.Pair.{Pair}
+use Rattle.algebra.specs.ring.Residue.{Res}
+use Rattle.numbers.specs.Value.{Value, valueOf, pairOf}
 
 abbrev pub zeroPair : Pair
 zeroPair = record { re = 0; im = 0 }
@@ -48,3 +50,12 @@ pub record Filling (p : ℕ → ℕ) (f : ℕ → Pair) (n j : ℕ) (d₀ d : Li
   pub le : j ≤ n
   pub len : length d ≡ length d₀
   pub is : d ≡ puts p f j d₀
+
+-- ---- The values that the pairs of a list stand for, and the list of n values.
+
+abbrev pub valuesOf : (m : ℕ) → List ℕ → ℕ → Value m
+valuesOf m l j = valueOf m (at l j)
+
+-- f 0, f 1, .., f (n - 1) as n pairs
+abbrev pub listOf : {p : ℕ} → ℕ → (ℕ → Res p × Res p) → List ℕ
+listOf n f = tab n (λ j. pairOf (f j))

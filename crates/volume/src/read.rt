@@ -9,18 +9,17 @@ ghost use mathlib.Core.Path.{_≡_};
 ghost use mathlib.Core.Bool.{true};
 ghost use Prim.Native.Nat.{_+_, _/_, _<_, _≤_};
 ghost use lib.ListN.{length};
-ghost use Rattle.algebra.specs.Cell.{lineSym, span, im};
-ghost use Rattle.numbers.specs.Prime.{prime, IsModulus};
-ghost use Rattle.numbers.specs.Value.{pairOf};
+ghost use Rattle.algebra.specs.cells.Cell.{lineSym, span, imageOf};
+ghost use Rattle.numbers.specs.Value.{prime, IsModulus, pairOf};
 ghost use Rattle.cell.specs.Volume.{groupOf, volumeLength, numbersRead, factorsIn};
 ghost use Rattle.cell.specs.Operations.{halvesOf, tripleOf, Sizes, Within};
-ghost use Rattle.cell.specs.Places.{run, allBelowAt, lineNumbersAt, lineFactor};
+ghost use Rattle.cell.specs.Places.{consecutive, allBelowAt, lineNumbersAt, lineFactor};
 ghost use Rattle.cell.specs.TestSteps.{IsStored};
 
-// The numbers of a run are below p.
+// The numbers of a consecutive are below p.
 pub fn run_below(r: Run, p: u32, volume: &[u32]) -> bool
     requires { ⌜ r .first + r .count ≤ length (now volume) ⌝ }
-    ensures { λ b. ⌜ b ≡ allBelowAt p (now (volume .entry)) (run (r .first) (r .count)) ⌝ }
+    ensures { λ b. ⌜ b ≡ allBelowAt p (now (volume .entry)) (consecutive (r .first) (r .count)) ⌝ }
 {
     let first = r.first;
     let count = r.count;
@@ -55,7 +54,7 @@ pub fn factor_numbers_below(
 fn stored_index(group: u32, n1: u32, n2: u32, n3: u32, j: Index) -> Index
     requires { ⌜ Sizes group n1 n2 n3 × Within n1 n2 n3 j × (j .k ≤ n2 / 2) ⌝ }
     ensures { λ r. ⌜ IsStored group n1 n2 n3 r × (lineNumbersAt (groupOf group) (halvesOf n1 n2 n3) (tripleOf r) ≡ lineNumbersAt (groupOf group) (halvesOf n1 n2 n3) (tripleOf j)) ⌝ }
-    ensures { λ r. ⌜ (j .l < span (groupOf group) (n3 / 2) → tripleOf r ≡ tripleOf j) × (span (groupOf group) (n3 / 2) ≤ j .l → tripleOf r ≡ im (halvesOf n1 n2 n3) (lineSym (groupOf group)) (tripleOf j)) ⌝ }
+    ensures { λ r. ⌜ (j .l < span (groupOf group) (n3 / 2) → tripleOf r ≡ tripleOf j) × (span (groupOf group) (n3 / 2) ≤ j .l → tripleOf r ≡ imageOf (halvesOf n1 n2 n3) (lineSym (groupOf group)) (tripleOf j)) ⌝ }
 {
     if j.l < places::stored_count(group, n3) {
         j

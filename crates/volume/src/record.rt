@@ -1,5 +1,5 @@
-// Records: the images of a record written into the volume, one loop over the operations of the orbit. The tests of a
-// record, whether it agrees with itself and whether its orbit is free, are those of `record_tests`.
+// The images of a record written into the volume, one loop over the operations of the orbit. Whether the record is taken is for the
+// caller to test.
 use cell::operations;
 use cell::operations::Index;
 use cell::operations::Operation;
@@ -8,10 +8,9 @@ use numbers::Pair;
 ghost use mathlib.Core.Path.{_≡_};
 ghost use mathlib.Core.Bool.{cond};
 ghost use lib.ListN.{length};
-ghost use Rattle.algebra.specs.Cell.{im, imp};
-ghost use Rattle.algebra.specs.CellTests.{storedT};
-ghost use Rattle.numbers.specs.Prime.{prime, IsModulus};
-ghost use Rattle.numbers.specs.Value.{field, conj, valueOf, Small};
+ghost use Rattle.algebra.specs.cells.Cell.{imageOf, impliedValue};
+ghost use Rattle.algebra.specs.cells.CellTests.{storedT};
+ghost use Rattle.numbers.specs.Value.{prime, IsModulus, field, conj, valueOf, Small};
 ghost use Rattle.cell.specs.Volume.{groupOf, volumeLength};
 ghost use Rattle.cell.specs.Consistency.{write, writtenPair, recordOn};
 ghost use Rattle.cell.specs.Operations.{halvesOf, tripleOf, symOf, Sizes, Within};
@@ -64,7 +63,7 @@ fn write_image(
 )
     requires { ⌜ IsModulus m × Small (prime m) x × Sizes group n1 n2 n3 × Within n1 n2 n3 j ⌝ }
     requires { ⌜ length (now volume) ≡ volumeLength (groupOf group) (halvesOf n1 n2 n3) ⌝ }
-    ensures { λ _. ⌜ now (volume .exit) ≡ cond (storedT (groupOf group) (halvesOf n1 n2 n3) (im (halvesOf n1 n2 n3) (symOf o) (tripleOf j))) (write (groupOf group) (halvesOf n1 n2 n3) (groupOf group) (now (volume .entry)) (im (halvesOf n1 n2 n3) (symOf o) (tripleOf j)) (writtenPair (groupOf group) (halvesOf n1 n2 n3) m (im (halvesOf n1 n2 n3) (symOf o) (tripleOf j)) (imp (field m) (conj m) (symOf o) (tripleOf j) (valueOf m x)))) (now (volume .entry)) ⌝ }
+    ensures { λ _. ⌜ now (volume .exit) ≡ cond (storedT (groupOf group) (halvesOf n1 n2 n3) (imageOf (halvesOf n1 n2 n3) (symOf o) (tripleOf j))) (write (groupOf group) (halvesOf n1 n2 n3) (groupOf group) (now (volume .entry)) (imageOf (halvesOf n1 n2 n3) (symOf o) (tripleOf j)) (writtenPair (groupOf group) (halvesOf n1 n2 n3) m (imageOf (halvesOf n1 n2 n3) (symOf o) (tripleOf j)) (impliedValue (field m) (conj m) (symOf o) (tripleOf j) (valueOf m x)))) (now (volume .entry)) ⌝ }
 {
     let to = operations::image(o, n1, n2, n3, j);
     if places::is_stored(group, n2, n3, to) {

@@ -1,7 +1,4 @@
 // What stands at the stored places of a volume: a pair, a factor, the number of a point.
-//
-// A crate of its own because the tests of refusal 14 and the readings of a factor both stand on it, and the layout of a
-// volume (`cell`) is known without reading one.
 use cell::operations::Index;
 use cell::operations::Point;
 use cell::places;
@@ -10,9 +7,8 @@ ghost use mathlib.Core.Path.{_≡_};
 ghost use mathlib.Core.Bool.{true};
 ghost use Prim.Native.Nat.{ℕ, _/_};
 ghost use lib.ListN.{getD};
-ghost use Rattle.algebra.specs.Cell.{P1, P2₁};
-ghost use Rattle.numbers.specs.Prime.{prime, IsModulus};
-ghost use Rattle.numbers.specs.Value.{pairOf};
+ghost use Rattle.algebra.specs.cells.Cell.{P1, P2₁};
+ghost use Rattle.numbers.specs.Value.{prime, IsModulus, pairOf};
 ghost use Rattle.slices.specs.Pairs.{at};
 ghost use Rattle.cell.specs.Volume.{groupOf, pairPlace, mapPlace};
 ghost use Rattle.cell.specs.Operations.{halvesOf, tripleOf, pointOf};

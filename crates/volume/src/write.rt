@@ -1,5 +1,5 @@
 // A factor written at its stored place: a whole pair, but at the ends of an alternating line the one number of pair 0 that
-// can differ from 0. It is to `recording` what `stored` is to `readings`.
+// can differ from 0.
 use cell::operations::Index;
 use cell::places;
 use numbers::Pair;
@@ -7,8 +7,8 @@ ghost use mathlib.Core.Path.{_≡_};
 ghost use mathlib.Core.Bool.{cond};
 ghost use Prim.Native.Nat.{_/_, _<_, _≤_};
 ghost use lib.ListN.{length};
-ghost use Rattle.algebra.specs.Cell.{P2₁, span};
-ghost use Rattle.algebra.specs.CellPack.{even};
+ghost use Rattle.algebra.specs.cells.Cell.{P2₁, span};
+ghost use Rattle.algebra.specs.cells.CellPack.{even};
 ghost use Rattle.cell.specs.Volume.{groupOf, volumeLength};
 ghost use Rattle.cell.specs.Consistency.{writeAlternating, write};
 ghost use Rattle.cell.specs.Operations.{halvesOf, tripleOf, Sizes, Within};

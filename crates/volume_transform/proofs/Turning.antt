@@ -4,12 +4,12 @@ use mathlib.Core.List.{List}
 use Prim.Native.Nat.{ℕ, _+_, _<_, _≤_}
 use native.Mathlib.Omega.{arith}
 use lib.ListN.{length}
-use Rattle.algebra.proofs.Laws.{along}
-use Rattle.numbers.specs.Prime.{prime}
+use Rattle.algebra.proofs.ring.Laws.{along}
+use Rattle.numbers.specs.Value.{prime}
 use Rattle.slices.specs.Pairs.{Below}
-use Rattle.volume_transform.specs.LinesRow.{Lent, Kept}
+use Rattle.volume_transform.specs.Lines.{Lent, Kept}
 use Rattle.volume_transform.specs.Axes.{lineOfTurn}
-use Rattle.volume_transform.specs.Plans.{groupIn, halvesIn, Fitting, planTurn}
+use Rattle.volume_transform.specs.Plans.{planGroup, planHalves, Fitting, planTurn}
 use Rattle.volume_transform.specs.declared.plan.Plan.{Plan}
 use Rattle.volume_transform.specs.Turns.{turns}
 use Rattle.volume_transform.proofs.sums.Turns.{turns-next, length-turns, below-turns}
@@ -48,10 +48,10 @@ module _ {step : ℕ → List ℕ → List ℕ} {count n : ℕ} {v₀ v s₀ s f
 -- the volume of a job remains one
 module _ (p : Plan) {count n : ℕ} {v₀ v s₀ s fold₀ fold work₀ work : List ℕ} (t : Turning (planTurn p) count n v₀ v s₀ s fold₀ fold work₀ work) where
   pub turning-length : length v ≡ length v₀
-  turning-length = ap length (t .is) ∙ length-turns (groupIn p) (halvesIn p) (p .m) (p .direction) (lineOfTurn (groupIn p) (halvesIn p) (p .direction)) n v₀
+  turning-length = ap length (t .is) ∙ length-turns (planGroup p) (planHalves p) (p .m) (p .direction) (lineOfTurn (planGroup p) (planHalves p) (p .direction)) n v₀
 
   pub turning-fits : Fitting p v₀ → Fitting p v
   turning-fits f = record {
     long = turning-length ∙ f .long;
-    small = subst (Below (prime (p .m))) (sym (t .is)) (below-turns (groupIn p) (halvesIn p) (p .m) (p .direction) (lineOfTurn (groupIn p) (halvesIn p) (p .direction)) n v₀ (f .small));
+    small = subst (Below (prime (p .m))) (sym (t .is)) (below-turns (planGroup p) (planHalves p) (p .m) (p .direction) (lineOfTurn (planGroup p) (planHalves p) (p .direction)) n v₀ (f .small));
   }

@@ -1,16 +1,60 @@
--- The lines of a volume along each axis and what becomes of each: along l by the kind of its group, with or without its i, along h as a plain line, along k as a Hermitian one.
--- The lines of a job are numbered: first those along l, then h, then k, each by rising place of its first pair.
-use mathlib.Core.Bool.{cond}
+-- One packed line of a volume transformed, and one row along k: its pairs 0 and B are real, and a packed Hermitian line has the second of them in the first.
+use mathlib.Core.Bool.{Bool, cond}
 use mathlib.Core.List.{List}
 use Prim.Native.Nat.{ℕ, zero, suc, _+_, _*_, _-_, _/_}
 use lib.Dec.{ltb}
-use Rattle.algebra.specs.Kinds.{Kind, Kind.plain, slots}
-use Rattle.algebra.specs.Cell.{J, Group}
+use Rattle.algebra.specs.lines.Kinds.{Kind, Kind.hermitian, slots, Kind.plain}
+use Rattle.numbers.specs.declared.Pair.{Pair}
+use Rattle.numbers.specs.Value.{Value, i, real, valueOf, pairOf}
+use Rattle.slices.specs.Pairs.{at, tab, zeroPair, valuesOf, listOf}
+use Rattle.line.specs.Transform.{transform, transformedLine}
+use Rattle.cell.specs.Volume.{timesI, overI, lineKind, rotated, firstPair, layers, rows, columns, axis}
+use Rattle.algebra.specs.cells.Cell.{J, Group}
 use Rattle.slices.specs.Sweep.{Layout, lineOf, setLine, onLists, alongSecond, alongLast}
 use Rattle.lengths.specs.Admitted.{AdmittedLength, FactorList}
-use Rattle.cell.specs.Volume.{lineKind, rotated, firstPair, layers, rows, columns}
 use Rattle.cell.specs.Operations.{Sizes}
-use Rattle.volume_transform.specs.Turned.{turnedLine, turnedStored, turnedRow}
+
+module _ (m A : ℕ) where
+  -- a packed line of 2 A values, transformed, and back
+  abbrev pub forwardValues : Kind → (ℕ → Value m) → ℕ → Value m
+  forwardValues kind X = transform m kind 0 A X
+
+  abbrev pub inverseValues : Kind → (ℕ → Value m) → ℕ → Value m
+  inverseValues kind X = transform m kind 1 A X
+
+  -- by direction
+  abbrev pub turnedLine : ℕ → Kind → List ℕ → List ℕ
+  turnedLine direction kind l = transformedLine m kind direction A l
+
+  -- the same of a line that is stored times i, if b says so: synthesis divides by i after the transform, analysis multiplies before it
+  abbrev pub turnedStored : ℕ → Bool → Kind → List ℕ → List ℕ
+  turnedStored zero b kind l = listOf (slots kind A) (λ s. overI m b (forwardValues kind (valuesOf m l) s))
+  turnedStored (suc direction) b kind l = listOf (slots kind A) (inverseValues kind (λ s. timesI m b (valuesOf m l s)))
+
+-- The pairs 0 to B of a k-line, of which pair 0 and pair B are real: the real part of pair B is the second number of pair 0.
+unfoldable pub joined : (B : ℕ) → (ℕ → Pair) → ℕ → Pair
+joined B v zero = record { re = (v 0) .re; im = (v B) .re }
+joined B v (suc t) = v (suc t)
+
+-- and back
+unfoldable pub parted : (B : ℕ) → (ℕ → Pair) → ℕ → Pair
+parted B v zero = record { re = (v 0) .re; im = 0 }
+parted B v (suc t) = cond (ltb (suc t) B) (v (suc t)) (record { re = (v 0) .im; im = 0 })
+
+module _ (m B : ℕ) where
+  -- a row of B + 1 pairs becomes N2 real values and two zeros
+  abbrev pub forwardRow : List ℕ → List ℕ
+  forwardRow l = tab (suc B) (λ t. cond (ltb t B) (pairOf (forwardValues m B hermitian (λ s. valueOf m (joined B (at l) s)) t)) zeroPair)
+
+  abbrev pub inverseRow : List ℕ → List ℕ
+  inverseRow l = tab (suc B) (parted B (λ t. pairOf (inverseValues m B hermitian (valuesOf m l) t)))
+
+  abbrev pub turnedRow : ℕ → List ℕ → List ℕ
+  turnedRow zero = forwardRow
+  turnedRow (suc direction) = inverseRow
+
+-- ---- The lines of a volume along each axis and what becomes of each: along l by the kind of its group, with or without its i, along h as a plain line, along k as a Hermitian one.
+-- The lines of a job are numbered: first those along l, then h, then k, each by rising place of its first pair.
 
 -- line y of the list d becomes what G makes of it
 abbrev pub turnOf : Layout → (ℕ → List ℕ → List ℕ) → ℕ → List ℕ → List ℕ

@@ -1,6 +1,4 @@
-pub mod Turned
-pub mod Lines
 pub mod Axes
+pub mod Lines
 pub mod Plans
-pub mod LinesRow
 pub mod Turns

@@ -3,18 +3,20 @@ use mathlib.Core.Path.{_≡_}
 use mathlib.Core.Logic.{_⊎_}
 use mathlib.Core.Bool.{cond}
 use mathlib.Core.List.{List}
-use Prim.Native.Nat.{ℕ, _+_, _*_, _<_, _≤_}
+use Prim.Native.Nat.{ℕ, _+_, _*_, _<_, _≤_, zero, suc}
 use lib.Dec.{eqb}
-use Rattle.algebra.specs.Kinds.{slots}
-use Rattle.numbers.specs.Prime.{IsModulus}
+use Rattle.algebra.specs.lines.Kinds.{slots}
+use Rattle.numbers.specs.Value.{IsModulus}
 use Rattle.slices.specs.Pairs.{at, tab, puts}
-use Rattle.lengths.specs.Counts.{kindOf}
+use Rattle.lengths.specs.Lengths.{kindOf}
 use Rattle.lengths.specs.Admitted.{AdmittedLength, FactorList}
-use Rattle.volume_transform.specs.Turned.{turnedLine, turnedStored, turnedRow}
+use Rattle.volume_transform.specs.Axes.{turnedLine, turnedStored, turnedRow}
 use Rattle.volume_transform.specs.declared.plan.Line.{Line}
+use lib.ListN.{length, drop, getD, set}
+use Rattle.line.specs.Tables.{TablesOf}
 
 -- it can be transformed
-pub record Sound (x : Line) : Type 0 where
+pub record SoundLine (x : Line) : Type 0 where
   pub modulus : IsModulus (x .m)
   pub directed : x .direction < 2
   pub known : x .kind < 6
@@ -40,14 +42,14 @@ rowTurn x v = turnedAt (λ j. x .start + j) (x .count) (turnedRow (x .m) (x .hal
 
 -- the pairs of a line that is gathered: the last of them lies in a volume of len numbers
 pub record Spaced (len : ℕ) (x : Line) : Type 0 where
-  pub sound : Sound x
+  pub sound : SoundLine x
   pub counted : x .count ≡ slots (kindOf (x .kind)) (x .half)
   pub low : x .count ≤ 2880
   pub fits : 2 * (x .start + x .count * x .stride) + 2 ≤ len + 2 * x .stride
 
 -- the neighbouring pairs of a row
 pub record Beside (len : ℕ) (x : Line) : Type 0 where
-  pub sound : Sound x
+  pub sound : SoundLine x
   pub hermitian : x .kind ≡ 1
   pub counted : x .count ≡ x .half + 1
   pub fits : 2 * x .start + 2 * x .count ≤ len
@@ -61,3 +63,27 @@ Placed len x = ((x .kind ≡ 1 → ⊥) × Spaced len x) ⊎ Beside len x
 -- and its turn: a row is known by its kind
 abbrev pub lineTurned : Line → List ℕ → List ℕ
 lineTurned x v = cond (eqb (x .kind) 1) (rowTurn x v) (gatheredTurn x v)
+
+-- ---- What the turn of a line is lent, and the ends of a row.
+
+-- the lent buffers are long enough
+pub record Lent (scratch fold work : List ℕ) : Type 0 where
+  pub scratch-fits : 11520 ≤ length scratch
+  pub fold-fits : 5760 ≤ length fold
+  pub work-fits : 5760 ≤ length work
+
+-- beyond its first 11,520 numbers the scratch is as it was
+abbrev pub Kept : List ℕ → List ℕ → Type 0
+Kept before after = drop 11520 after ≡ drop 11520 before
+
+abbrev pub TablesFor : Line → (re im tan : List ℕ) → Type 0
+TablesFor x re im tan = TablesOf (x .m) (x .direction) re im tan
+
+-- ---- the row of a packed Hermitian line of n numbers: the real part of the last pair stands in the second number of the first
+abbrev pub opened : (direction n : ℕ) → List ℕ → List ℕ
+opened zero n l = set l 1 (getD l n 0)
+opened (suc direction) n l = l
+
+abbrev pub closed : (direction n : ℕ) → List ℕ → List ℕ
+closed zero n l = set (set l n 0) (n + 1) 0
+closed (suc direction) n l = set (set (set l n (getD l 1 0)) (n + 1) 0) 1 0

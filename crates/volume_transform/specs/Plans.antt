@@ -4,8 +4,8 @@ use mathlib.Core.Logic.{_⊎_}
 use mathlib.Core.List.{List}
 use Prim.Native.Nat.{ℕ, _+_, _<_, _≤_}
 use lib.ListN.{length}
-use Rattle.algebra.specs.Cell.{J, Group}
-use Rattle.numbers.specs.Prime.{prime, IsModulus}
+use Rattle.algebra.specs.cells.Cell.{J, Group}
+use Rattle.numbers.specs.Value.{prime, IsModulus}
 use Rattle.slices.specs.Pairs.{Below}
 use Rattle.cell.specs.Volume.{groupOf, volumeLength}
 use Rattle.cell.specs.Operations.{halvesOf}
@@ -17,11 +17,11 @@ use Rattle.volume_transform.specs.declared.plan.Counts.{Counts}
 
 -- ---- a plan
 
-abbrev pub groupIn : Plan → Group
-groupIn p = groupOf (p .group)
+abbrev pub planGroup : Plan → Group
+planGroup p = groupOf (p .group)
 
-abbrev pub halvesIn : Plan → J
-halvesIn p = halvesOf (p .n1) (p .n2) (p .n3)
+abbrev pub planHalves : Plan → J
+planHalves p = halvesOf (p .n1) (p .n2) (p .n3)
 
 abbrev pub SizesIn : Plan → Type 0
 SizesIn p = JobSizes (p .group) (p .n1) (p .n2) (p .n3) (p .f1) (p .f2) (p .f3)
@@ -33,21 +33,21 @@ pub record Planned (p : Plan) : Type 0 where
 
 -- a volume of the plan's job
 pub record Fitting (p : Plan) (v : List ℕ) : Type 0 where
-  pub long : length v ≡ volumeLength (groupIn p) (halvesIn p)
+  pub long : length v ≡ volumeLength (planGroup p) (planHalves p)
   pub small : Below (prime (p .m)) v
 
 -- line number j of the plan's job, and turn number n
 abbrev pub lineTurn : Plan → ℕ → List ℕ → List ℕ
-lineTurn p j d = jobTurn (groupIn p) (halvesIn p) (p .m) (p .direction) j d
+lineTurn p j d = jobTurn (planGroup p) (planHalves p) (p .m) (p .direction) j d
 
 abbrev pub planTurn : Plan → ℕ → List ℕ → List ℕ
-planTurn p n d = lineTurn p (lineOfTurn (groupIn p) (halvesIn p) (p .direction) n) d
+planTurn p n d = lineTurn p (lineOfTurn (planGroup p) (planHalves p) (p .direction) n) d
 
 -- how many lines each axis has
 pub record Counted (p : Plan) (c : Counts) : Type 0 where
-  pub l : c .l ≡ alongL (groupIn p) (halvesIn p) .count
-  pub h : c .h ≡ alongH (groupIn p) (halvesIn p) .count
-  pub k : c .k ≡ alongK (groupIn p) (halvesIn p) .count
+  pub l : c .l ≡ alongL (planGroup p) (planHalves p) .count
+  pub h : c .h ≡ alongH (planGroup p) (planHalves p) .count
+  pub k : c .k ≡ alongK (planGroup p) (planHalves p) .count
   -- 2 * 2880 * 1441 + 2880 * 2880: no lengths have more lines
   pub low : c .l + c .h + c .k ≤ 16594560
 
@@ -58,13 +58,13 @@ pub record Gathered (p : Plan) (step : List ℕ → List ℕ) (x : Line) : Type 
   pub modulus : x .m ≡ p .m
   pub direction : x .direction ≡ p .direction
   pub other : x .kind ≡ 1 → ⊥
-  pub placed : Spaced (volumeLength (groupIn p) (halvesIn p)) x
+  pub placed : Spaced (volumeLength (planGroup p) (planHalves p)) x
   pub turn : (v : List ℕ) → gatheredTurn x v ≡ step v
 
 pub record Row (p : Plan) (step : List ℕ → List ℕ) (x : Line) : Type 0 where
   pub modulus : x .m ≡ p .m
   pub direction : x .direction ≡ p .direction
-  pub placed : Beside (volumeLength (groupIn p) (halvesIn p)) x
+  pub placed : Beside (volumeLength (planGroup p) (planHalves p)) x
   pub turn : (v : List ℕ) → rowTurn x v ≡ step v
 
 abbrev pub LineAt : (p : Plan) (j : ℕ) (x : Line) → Type 0

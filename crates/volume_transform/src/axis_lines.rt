@@ -1,12 +1,12 @@
 // How many lines a job has along each axis, and the lines along h and k, which are of one kind in every group. All that a line's turn
-// has to know of the job is computed here and in `line_numbers`, so that the turns themselves carry few numbers.
+// has to know of the job is computed here and in `numbering`, so that the turns themselves carry few numbers.
 use crate::plan::Counts;
 use crate::plan::Line;
 use crate::plan::Plan;
 ghost use mathlib.Core.Path.{_≡_};
 ghost use Prim.Native.Nat.{_<_, _≤_};
 ghost use Rattle.volume_transform.specs.Axes.{lineCount, turnOf, alongH, alongK, turnedH, turnedK};
-ghost use Rattle.volume_transform.specs.Plans.{groupIn, halvesIn, SizesIn, Planned, Counted, Gathered, Row};
+ghost use Rattle.volume_transform.specs.Plans.{planGroup, planHalves, SizesIn, Planned, Counted, Gathered, Row};
 
 // How many lines there are along each axis.
 pub fn line_counts(plan: Plan) -> Counts
@@ -26,7 +26,7 @@ pub fn line_counts(plan: Plan) -> Counts
 // How many there are in all.
 pub fn line_count(plan: Plan) -> usize
     requires { ⌜ SizesIn plan ⌝ }
-    ensures { λ r. ⌜ (r ≡ lineCount (groupIn plan) (halvesIn plan)) × (r ≤ 16594560) ⌝ }
+    ensures { λ r. ⌜ (r ≡ lineCount (planGroup plan) (planHalves plan)) × (r ≤ 16594560) ⌝ }
 {
     let counts = line_counts(plan);
     counts.l + counts.h + counts.k
@@ -34,8 +34,8 @@ pub fn line_count(plan: Plan) -> usize
 
 // Line y = w (B + 1) + k along h, a plain one.
 pub fn along_h(plan: Plan, y: usize) -> Line
-    requires { ⌜ Planned plan × (y < alongH (groupIn plan) (halvesIn plan) .count) ⌝ }
-    ensures { λ r. ⌜ Gathered plan (turnOf (alongH (groupIn plan) (halvesIn plan)) (turnedH (groupIn plan) (halvesIn plan) (plan .m) (plan .direction)) y) r ⌝ }
+    requires { ⌜ Planned plan × (y < alongH (planGroup plan) (planHalves plan) .count) ⌝ }
+    ensures { λ r. ⌜ Gathered plan (turnOf (alongH (planGroup plan) (planHalves plan)) (turnedH (planGroup plan) (planHalves plan) (plan .m) (plan .direction)) y) r ⌝ }
 {
     let width = (plan.n2 / 2 + 1) as usize;
     let rows = plan.n1 as usize;
@@ -54,8 +54,8 @@ pub fn along_h(plan: Plan, y: usize) -> Line
 
 // Row y = w N1 + h along k.
 pub fn row_at(plan: Plan, y: usize) -> Line
-    requires { ⌜ Planned plan × (y < alongK (groupIn plan) (halvesIn plan) .count) ⌝ }
-    ensures { λ r. ⌜ Row plan (turnOf (alongK (groupIn plan) (halvesIn plan)) (turnedK (groupIn plan) (halvesIn plan) (plan .m) (plan .direction)) y) r ⌝ }
+    requires { ⌜ Planned plan × (y < alongK (planGroup plan) (planHalves plan) .count) ⌝ }
+    ensures { λ r. ⌜ Row plan (turnOf (alongK (planGroup plan) (planHalves plan)) (turnedK (planGroup plan) (planHalves plan) (plan .m) (plan .direction)) y) r ⌝ }
 {
     let half = (plan.n2 / 2) as usize;
     let width = half + 1;

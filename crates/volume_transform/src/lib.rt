@@ -1,13 +1,13 @@
-// All lines of a job in their turn: the loop of synthesis and of analysis, in the lent volume. Crate line_numbers says what line each
-// number stands for, and each is transformed in its place. A line along l or h is gathered into the scratch, transformed there and
+// All lines of a job in their turn: the loop of synthesis and of analysis, in the lent volume. `numbering` says what line each number
+// stands for, and each is transformed in its place. A line along l or h is gathered into the scratch, transformed there and
 // scattered back; a line along k is a row of neighbouring pairs and is worked on as a part of the volume.
 //
 // Direction 0 is synthesis, with the tables of the root, direction 1 analysis, with those of its conjugate.
-pub mod plan; // plan.rt
-pub mod axis_lines; // axis_lines.rt
-pub mod numbering; // numbering.rt
-pub mod row; // row.rt
-pub mod sums; // sums.rt
+pub mod plan; // plan.rt: what is to be done, and a line of it
+pub mod axis_lines; // axis_lines.rt: the lines along h and k, and how many there are
+pub mod numbering; // numbering.rt: all lines by their numbers
+pub mod row; // row.rt: the ends of a row along k
+pub mod sums; // sums.rt: what all lines come to, the triple sum and its inverse
 mod lines; // lines.rt: one line along l or h
 mod rows; // rows.rt: one row along k
 
@@ -16,23 +16,22 @@ use crate::plan::Plan;
 ghost use mathlib.Core.Path.{_≡_};
 ghost use Prim.Native.Nat.{_≤_};
 ghost use lib.ListN.{length};
-ghost use Rattle.numbers.specs.Prime.{prime};
+ghost use Rattle.numbers.specs.Value.{prime};
 ghost use Rattle.slices.specs.Pairs.{Below};
 ghost use Rattle.lengths.specs.Lengths.{scratchLength, cleared};
-ghost use Rattle.line.specs.TablesKinds.{TablesOf};
-ghost use Rattle.volume_transform.specs.LinesRow.{TablesFor, Lent, Kept};
-ghost use Rattle.volume_transform.specs.Lines.{Placed, lineTurned};
+ghost use Rattle.line.specs.Tables.{TablesOf};
+ghost use Rattle.volume_transform.specs.Lines.{TablesFor, Lent, Kept, Placed, lineTurned};
 ghost use Rattle.volume_transform.specs.Axes.{lineCount};
-ghost use Rattle.volume_transform.specs.Plans.{groupIn, halvesIn, Planned, Fitting, planTurn};
+ghost use Rattle.volume_transform.specs.Plans.{planGroup, planHalves, Planned, Fitting, planTurn};
 ghost use Rattle.volume_transform.specs.Turns.{turns};
 
 // A whole volume. The tables are made once, and lent down; the scratch is cleared of what the lines left there.
 pub fn transform_volume(plan: Plan, volume: &mut [u32], scratch: &mut [u32])
     requires { ⌜ Planned plan × (plan .m ≡ 1) ⌝ }
     requires { ⌜ Fitting plan (now volume) × (scratchLength ≤ length (now scratch)) ⌝ }
-    ensures { λ _. ⌜ (now (volume .exit) ≡ turns (planTurn plan) 0 (lineCount (groupIn plan) (halvesIn plan)) (now (volume .entry))) × (now (scratch .exit) ≡ cleared (now (scratch .entry))) ⌝ }
+    ensures { λ _. ⌜ (now (volume .exit) ≡ turns (planTurn plan) 0 (lineCount (planGroup plan) (planHalves plan)) (now (volume .entry))) × (now (scratch .exit) ≡ cleared (now (scratch .entry))) ⌝ }
 {
-    let re = roots::tables::real_parts(1);
+    let re = roots::powers::real_parts(1);
     let im = line::table::imaginary_parts(plan.direction);
     let tan = line::table::half_tangents(plan.direction);
     let mut fold = [0u32; 5760];
@@ -67,7 +66,7 @@ fn turn_volume<'a>(
     requires { ⌜ Planned plan × TablesOf (plan .m) (plan .direction) (now re) (now im) (now tan) × (m ≡ plan .m) ⌝ }
     requires { ⌜ Fitting plan (now volume) ⌝ }
     requires { ⌜ Lent (now scratch) (now fold) (now work) ⌝ }
-    ensures { λ _. ⌜ (now (volume .exit) ≡ turns (planTurn plan) 0 (lineCount (groupIn plan) (halvesIn plan)) (now (volume .entry))) × Kept (now (scratch .entry)) (now (scratch .exit)) ⌝ }
+    ensures { λ _. ⌜ (now (volume .exit) ≡ turns (planTurn plan) 0 (lineCount (planGroup plan) (planHalves plan)) (now (volume .entry))) × Kept (now (scratch .entry)) (now (scratch .exit)) ⌝ }
 {
     let count = crate::axis_lines::line_count(plan);
     let mut n = 0;

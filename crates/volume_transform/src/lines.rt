@@ -4,12 +4,11 @@ use crate::plan::Line;
 ghost use mathlib.Core.Path.{_≡_};
 ghost use Prim.Native.Nat.{_*_, _≤_};
 ghost use lib.ListN.{length};
-ghost use Rattle.algebra.specs.Kinds.{slots};
-ghost use Rattle.numbers.specs.Prime.{prime};
+ghost use Rattle.algebra.specs.lines.Kinds.{slots};
+ghost use Rattle.numbers.specs.Value.{prime};
 ghost use Rattle.slices.specs.Pairs.{Below};
-ghost use Rattle.lengths.specs.Counts.{kindOf};
-ghost use Rattle.volume_transform.specs.LinesRow.{Lent, Kept, TablesFor};
-ghost use Rattle.volume_transform.specs.Lines.{Sound, Spaced, turnedPacked, storedTurn, gatheredTurn};
+ghost use Rattle.lengths.specs.Lengths.{kindOf};
+ghost use Rattle.volume_transform.specs.Lines.{Lent, Kept, TablesFor, SoundLine, Spaced, turnedPacked, storedTurn, gatheredTurn};
 
 // A line whose pairs stand apart.
 pub fn turn_gathered<'a>(
@@ -45,7 +44,7 @@ fn turn_stored<'a>(
     fold: &mut [u32],
     work: &mut [u32],
 )
-    requires { ⌜ Sound line × TablesFor line (now re) (now im) (now tan) × (m ≡ line .m) × (line .count ≡ slots (kindOf (line .kind)) (line .half)) ⌝ }
+    requires { ⌜ SoundLine line × TablesFor line (now re) (now im) (now tan) × (m ≡ line .m) × (line .count ≡ slots (kindOf (line .kind)) (line .half)) ⌝ }
     requires { ⌜ (length (now packed) ≡ 2 * slots (kindOf (line .kind)) (line .half)) × Below (prime (line .m)) (now packed) ⌝ }
     requires { ⌜ (5760 ≤ length (now fold)) × (5760 ≤ length (now work)) ⌝ }
     ensures { λ _. ⌜ now (packed .exit) ≡ storedTurn line (now (packed .entry)) ⌝ }
@@ -53,9 +52,9 @@ fn turn_stored<'a>(
     if line.rotated {
         if line.direction == 0 {
             turn_packed(m, line, re, im, tan, packed, fold, work);
-            plain::scaling::over_i(m, line.count, packed);
+            plain::scale::over_i(m, line.count, packed);
         } else {
-            plain::scaling::times_i(m, line.count, packed);
+            plain::scale::times_i(m, line.count, packed);
             turn_packed(m, line, re, im, tan, packed, fold, work);
         }
     } else {
@@ -74,7 +73,7 @@ pub fn turn_packed<'a>(
     fold: &mut [u32],
     work: &mut [u32],
 )
-    requires { ⌜ Sound line × TablesFor line (now re) (now im) (now tan) × (m ≡ line .m) ⌝ }
+    requires { ⌜ SoundLine line × TablesFor line (now re) (now im) (now tan) × (m ≡ line .m) ⌝ }
     requires { ⌜ (length (now packed) ≡ 2 * slots (kindOf (line .kind)) (line .half)) × Below (prime (line .m)) (now packed) ⌝ }
     requires { ⌜ (5760 ≤ length (now fold)) × (5760 ≤ length (now work)) ⌝ }
     ensures { λ _. ⌜ now (packed .exit) ≡ turnedPacked line (now (packed .entry)) ⌝ }

@@ -5,22 +5,22 @@ use crate::plan::Plan;
 ghost use mathlib.Core.Path.{_≡_};
 ghost use Prim.Native.Nat.{_<_, _≤_};
 ghost use Rattle.cell.specs.Volume.{groupOf, lineKind, firstPair};
-ghost use Rattle.lengths.specs.Counts.{kindOf};
+ghost use Rattle.lengths.specs.Lengths.{kindOf};
 ghost use Rattle.volume_transform.specs.Axes.{lineCount, lineOfTurn, turnOf, alongL, turnedL};
-ghost use Rattle.volume_transform.specs.Plans.{groupIn, halvesIn, Planned, Gathered, LineAt};
+ghost use Rattle.volume_transform.specs.Plans.{planGroup, planHalves, Planned, Gathered, LineAt};
 
 // The line that turn n transforms.
 pub fn line_in_turn(plan: Plan, n: usize) -> Line
-    requires { ⌜ Planned plan × (n < lineCount (groupIn plan) (halvesIn plan)) ⌝ }
-    ensures { λ r. ⌜ LineAt plan (lineOfTurn (groupIn plan) (halvesIn plan) (plan .direction) n) r ⌝ }
+    requires { ⌜ Planned plan × (n < lineCount (planGroup plan) (planHalves plan)) ⌝ }
+    ensures { λ r. ⌜ LineAt plan (lineOfTurn (planGroup plan) (planHalves plan) (plan .direction) n) r ⌝ }
 {
     line_at(plan, line_of_turn(plan, n))
 }
 
 // Its number: analysis takes the axes in the other order.
 fn line_of_turn(plan: Plan, n: usize) -> usize
-    requires { ⌜ Planned plan × (n < lineCount (groupIn plan) (halvesIn plan)) ⌝ }
-    ensures { λ r. ⌜ (r ≡ lineOfTurn (groupIn plan) (halvesIn plan) (plan .direction) n) × (r < lineCount (groupIn plan) (halvesIn plan)) ⌝ }
+    requires { ⌜ Planned plan × (n < lineCount (planGroup plan) (planHalves plan)) ⌝ }
+    ensures { λ r. ⌜ (r ≡ lineOfTurn (planGroup plan) (planHalves plan) (plan .direction) n) × (r < lineCount (planGroup plan) (planHalves plan)) ⌝ }
 {
     let counts = crate::axis_lines::line_counts(plan);
     if plan.direction == 0 {
@@ -36,7 +36,7 @@ fn line_of_turn(plan: Plan, n: usize) -> usize
 
 // Line number j.
 fn line_at(plan: Plan, j: usize) -> Line
-    requires { ⌜ Planned plan × (j < lineCount (groupIn plan) (halvesIn plan)) ⌝ }
+    requires { ⌜ Planned plan × (j < lineCount (planGroup plan) (planHalves plan)) ⌝ }
     ensures { λ r. ⌜ LineAt plan j r ⌝ }
 {
     let counts = crate::axis_lines::line_counts(plan);
@@ -51,8 +51,8 @@ fn line_at(plan: Plan, j: usize) -> Line
 
 // Line y = h (B + 1) + k along l, by the kind of its group.
 fn along_l(plan: Plan, y: usize) -> Line
-    requires { ⌜ Planned plan × (y < alongL (groupIn plan) (halvesIn plan) .count) ⌝ }
-    ensures { λ r. ⌜ Gathered plan (turnOf (alongL (groupIn plan) (halvesIn plan)) (turnedL (groupIn plan) (halvesIn plan) (plan .m) (plan .direction)) y) r ⌝ }
+    requires { ⌜ Planned plan × (y < alongL (planGroup plan) (planHalves plan) .count) ⌝ }
+    ensures { λ r. ⌜ Gathered plan (turnOf (alongL (planGroup plan) (planHalves plan)) (turnedL (planGroup plan) (planHalves plan) (plan .m) (plan .direction)) y) r ⌝ }
 {
     let width = (plan.n2 / 2 + 1) as usize;
     let stride = (plan.n1 as usize) * width;

@@ -1,5 +1,5 @@
 // The lines of a job: what is to be done with a volume, how many lines it has along each axis, and what a line's turn has to know. The
-// definitions of what the lines are and of what becomes of them are in specs/; crates `axis_lines` and `line_numbers` compute them.
+// definitions of what the lines are and of what becomes of them are in specs/; `axis_lines` and `numbering` compute them.
 
 // What is to be done with a whole volume: modulus and direction, the group, the three lengths and their factor lists.
 pub struct Plan {

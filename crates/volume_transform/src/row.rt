@@ -5,7 +5,7 @@
 ghost use mathlib.Core.Path.{_≡_};
 ghost use Prim.Native.Nat.{_+_, _<_};
 ghost use lib.ListN.{length};
-ghost use Rattle.volume_transform.specs.LinesRow.{opened, closed};
+ghost use Rattle.volume_transform.specs.Lines.{opened, closed};
 
 // The packed Hermitian line has the real part of pair B in the second number of pair 0: before synthesis it goes there.
 pub fn open_row(direction: u32, size: usize, row: &mut [u32])

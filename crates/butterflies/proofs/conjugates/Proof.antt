@@ -1,7 +1,7 @@
 -- The sums at w and at its conjugate differ in the sign of the odd part.
 use borrow.Author.Needs.{needs}
 use native.Mathlib.Omega.{arith}
-use Rattle.butterflies.specs.Butterfly.{evenPart, oddPart}
+use Rattle.butterflies.specs.Butterflies.{evenPart, oddPart}
 use Rattle.numbers.proofs.unreduced.Unreduced.{counted-one, room, rooms}
 use Rattle.butterflies.proofs.conjugates.Statement.{statement}
 use Rattle.butterflies.proofs.conjugates.Tie as tie
@@ -28,23 +28,23 @@ sum-requires-3 c κs =
     let u = c .before .sum2 .ensures m 1 1 _ _ (counted-one m (s .pre .1 .2)) (counted-one m (s .pre .1 .3)) in
     rooms (omega arith) (omega arith) (counted-one m (s .pre .1 .0)) (c .weighed .ensures m 2 2 _ _ t u)
 
-turned-requires : tie.Need-turned-requires
-turned-requires c κs = search needs
+difference-times-i-requires : tie.Need-difference-times-i-requires
+difference-times-i-requires c κs = search needs
 
-turned-requires-2 : tie.Need-turned-requires-2
-turned-requires-2 c κs = search needs
+difference-times-i-requires-2 : tie.Need-difference-times-i-requires-2
+difference-times-i-requires-2 c κs = search needs
 
 weighed-requires-2 : tie.Need-weighed-requires-2
 weighed-requires-2 c κs =
     let s = c .before .before .before .before .before .before in
     let m = s .args .m in
-    (s .pre .0 .2, s .pre .0 .4, room 731561241608 (omega arith) (c .before .turned .ensures m (s .pre .0 .0)), room 731561241608 (omega arith) (c .turned2 .ensures m (s .pre .0 .0)))
+    (s .pre .0 .2, s .pre .0 .4, room 731561241608 (omega arith) (c .before .difference-times-i .ensures m (s .pre .0 .0)), room 731561241608 (omega arith) (c .difference-times-i2 .ensures m (s .pre .0 .0)))
 
 both-ways-requires : tie.Need-both-ways-requires
 both-ways-requires c κs =
-    let at-turned2 = c .before in
-    let at-turned = at-turned2 .before in
-    let at-sum3 = at-turned .before in
+    let at-times-i2 = c .before in
+    let at-times-i = at-times-i2 .before in
+    let at-sum3 = at-times-i .before in
     let at-weighed = at-sum3 .before in
     let at-sum2 = at-weighed .before in
     let s = at-sum2 .before .before in
@@ -52,16 +52,16 @@ both-ways-requires c κs =
     let t = at-sum2 .before .sum .ensures m 1 1 _ _ (counted-one m (s .pre .1 .1)) (counted-one m (s .pre .1 .4)) in
     let u = at-sum2 .sum2 .ensures m 1 1 _ _ (counted-one m (s .pre .1 .2)) (counted-one m (s .pre .1 .3)) in
     let even = at-sum3 .sum3 .ensures m 1 1209596 _ _ (counted-one m (s .pre .1 .0)) (at-weighed .weighed .ensures m 2 2 _ _ t u) in
-    let odd = c .weighed2 .ensures m 4 4 _ _ (at-turned .turned .ensures m (s .pre .0 .0)) (at-turned2 .turned2 .ensures m (s .pre .0 .0)) in
+    let odd = c .weighed2 .ensures m 4 4 _ _ (at-times-i .difference-times-i .ensures m (s .pre .0 .0)) (at-times-i2 .difference-times-i2 .ensures m (s .pre .0 .0)) in
     (s .pre .0 .0, rooms (omega arith) (omega arith) even odd)
 
 returns : tie.Need-returns
 unfolding evenPart oddPart
 returns c =
     let at-weighed2 = c .before in
-    let at-turned2 = at-weighed2 .before in
-    let at-turned = at-turned2 .before in
-    let at-sum3 = at-turned .before in
+    let at-times-i2 = at-weighed2 .before in
+    let at-times-i = at-times-i2 .before in
+    let at-sum3 = at-times-i .before in
     let at-weighed = at-sum3 .before in
     let at-sum2 = at-weighed .before in
     let s = at-sum2 .before .before in
@@ -69,7 +69,7 @@ returns c =
     let t = at-sum2 .before .sum .ensures m 1 1 _ _ (counted-one m (s .pre .1 .1)) (counted-one m (s .pre .1 .4)) in
     let u = at-sum2 .sum2 .ensures m 1 1 _ _ (counted-one m (s .pre .1 .2)) (counted-one m (s .pre .1 .3)) in
     let even = at-sum3 .sum3 .ensures m 1 1209596 _ _ (counted-one m (s .pre .1 .0)) (at-weighed .weighed .ensures m 2 2 _ _ t u) in
-    let odd = at-weighed2 .weighed2 .ensures m 4 4 _ _ (at-turned .turned .ensures m (s .pre .0 .0)) (at-turned2 .turned2 .ensures m (s .pre .0 .0)) in
+    let odd = at-weighed2 .weighed2 .ensures m 4 4 _ _ (at-times-i .difference-times-i .ensures m (s .pre .0 .0)) (at-times-i2 .difference-times-i2 .ensures m (s .pre .0 .0)) in
     c .both-ways .ensures 1209597 2419192 _ _ even odd
 
 pub conjugates-spec : {M : Type 1} → statement M
@@ -80,8 +80,8 @@ conjugates-spec =
     sum-requires-2
     weighed-requires
     sum-requires-3
-    turned-requires
-    turned-requires-2
+    difference-times-i-requires
+    difference-times-i-requires-2
     weighed-requires-2
     both-ways-requires
     returns)

@@ -4,7 +4,7 @@ use native.Mathlib.Omega.{arith}
 use lib.Dec.{lit<}
 use Rattle.numbers.proofs.unreduced.Unreduced.{rooms}
 use Rattle.butterflies.proofs.Given.{given, given-both}
-use Rattle.butterflies.proofs.quarter_turns.Turns.{root-most}
+use Rattle.butterflies.proofs.quarter_turn.Powers.{root-most}
 use Rattle.butterflies.proofs.Butterflies.{five-butterfly}
 use Rattle.butterflies.proofs.five.Statement.{statement}
 use Rattle.butterflies.proofs.five.Tie as tie

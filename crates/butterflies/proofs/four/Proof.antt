@@ -2,7 +2,7 @@
 use Prim.Native.Nat.{ℕ}
 use native.Mathlib.Omega.{arith}
 use lib.Dec.{lit<}
-use Rattle.algebra.specs.Ring.{Ops, pow}
+use Rattle.algebra.specs.ring.Ring.{Ops, pow}
 use Rattle.numbers.specs.Value.{Value, field}
 use Rattle.roots.specs.Root.{tableRoot}
 use Rattle.butterflies.specs.declared.FourSums.{FourSums}
@@ -14,8 +14,8 @@ use Rattle.butterflies.proofs.four.Statement.{statement}
 use Rattle.butterflies.proofs.four.Tie as tie
 
 -- what the quarter turn gives
-abbrev turned-4 : (m : ℕ) → Value m → FourSums → Value m
-turned-4 m W v = field m .mul (pow (field m) W 720) (field m .add (meant m (v .x1)) (field m .neg (meant m (v .x3))))
+abbrev quarter-4 : (m : ℕ) → Value m → FourSums → Value m
+quarter-4 m W v = field m .mul (pow (field m) W 720) (field m .add (meant m (v .x1)) (field m .neg (meant m (v .x3))))
 
 sum-requires : tie.Need-sum-requires
 sum-requires c κs =
@@ -40,8 +40,8 @@ apart-requires c κs =
     let s = c .before .before .before in
     (given-both (s .pre .1) 0 (lit< tt) 2 (lit< tt))
 
-quarter-turned-requires : tie.Need-quarter-turned-requires
-quarter-turned-requires c κs =
+difference-times-quarter-requires : tie.Need-difference-times-quarter-requires
+difference-times-quarter-requires c κs =
     let s = c .before .before .before .before in
     (s .pre .0, (s .pre .1 .each 1 (lit< tt), s .pre .1 .each 3 (lit< tt)))
 
@@ -52,12 +52,12 @@ both-ways-requires-2 c κs =
     let m = s .args .m in
     let W = tableRoot m (s .args .re .now) (s .args .im .now) in
     let away = at-apart .apart .ensures m 1 1 _ _ (s .pre .0 .0) (given (s .pre .1) 0 (lit< tt) m) (given (s .pre .1) 2 (lit< tt) m) in
-    (s .pre .0 .0, rooms {b = turned-4 m W (s .args .v)} (omega arith) (omega arith) away (c .quarter-turned .ensures))
+    (s .pre .0 .0, rooms {b = quarter-4 m W (s .args .v)} (omega arith) (omega arith) away (c .difference-times-quarter .ensures))
 
 returns : tie.Need-returns
 returns c =
-    let at-quarter-turned = c .before in
-    let at-apart = at-quarter-turned .before in
+    let at-difference-times-quarter = c .before in
+    let at-apart = at-difference-times-quarter .before in
     let at-both-ways = at-apart .before in
     let at-sum2 = at-both-ways .before in
     let at-sum = at-sum2 .before in
@@ -68,7 +68,7 @@ returns c =
     let odd = at-sum2 .sum2 .ensures m 1 1 _ _ (given (s .pre .1) 1 (lit< tt) m) (given (s .pre .1) 3 (lit< tt) m) in
     let near = at-both-ways .both-ways .ensures 2 2 _ _ (at-sum .sum .ensures m 1 1 _ _ a b) odd in
     let W = tableRoot m (s .args .re .now) (s .args .im .now) in
-    let far = c .both-ways2 .ensures 2428553 4 _ (turned-4 m W (s .args .v)) (at-apart .apart .ensures m 1 1 _ _ (s .pre .0 .0) a b) (at-quarter-turned .quarter-turned .ensures) in
+    let far = c .both-ways2 .ensures 2428553 4 _ (quarter-4 m W (s .args .v)) (at-apart .apart .ensures m 1 1 _ _ (s .pre .0 .0) a b) (at-difference-times-quarter .difference-times-quarter .ensures) in
     four-butterfly m (s .pre .0 .1) _ _ (near .0) (far .0) (near .1) (far .1)
 
 pub four-spec : {M : Type 1} → statement M
@@ -79,6 +79,6 @@ four-spec =
     sum-requires-2
     both-ways-requires
     apart-requires
-    quarter-turned-requires
+    difference-times-quarter-requires
     both-ways-requires-2
     returns)

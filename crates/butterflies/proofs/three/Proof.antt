@@ -4,7 +4,7 @@ use native.Mathlib.Omega.{arith}
 use lib.Dec.{lit<}
 use Rattle.numbers.proofs.unreduced.Unreduced.{room, rooms}
 use Rattle.butterflies.proofs.Given.{given, given-both}
-use Rattle.butterflies.proofs.quarter_turns.Turns.{root-most}
+use Rattle.butterflies.proofs.quarter_turn.Powers.{root-most}
 use Rattle.butterflies.proofs.Butterflies.{three-butterfly}
 use Rattle.butterflies.proofs.three.Statement.{statement}
 use Rattle.butterflies.proofs.three.Tie as tie
@@ -33,8 +33,8 @@ sum-requires-2 c κs =
     let t = at-sum .sum .ensures m 1 1 _ _ (given (s .pre .1) 1 (lit< tt) m) (given (s .pre .1) 2 (lit< tt) m) in
     rooms (omega arith) (omega arith) (given (s .pre .1) 0 (lit< tt) m) (c .scaled .ensures m 2 _ t)
 
-turned-requires : tie.Need-turned-requires
-turned-requires c κs =
+difference-times-i-requires : tie.Need-difference-times-i-requires
+difference-times-i-requires c κs =
     let s = c .before .before .before .before in
     (s .pre .1 .each 1 (lit< tt), s .pre .1 .each 2 (lit< tt))
 
@@ -42,7 +42,7 @@ scaled-requires-2 : tie.Need-scaled-requires-2
 scaled-requires-2 c κs =
     let at-root-at = c .before .before .before .before in
     let s = at-root-at .before in
-    (root-most (s .pre .0 .1) (lit< tt) (at-root-at .root-at .ensures) (s .pre .0 .0) .1, room 731561241608 (omega arith) (c .turned .ensures (s .args .m) (s .pre .0 .0)))
+    (root-most (s .pre .0 .1) (lit< tt) (at-root-at .root-at .ensures) (s .pre .0 .0) .1, room 731561241608 (omega arith) (c .difference-times-i .ensures (s .args .m) (s .pre .0 .0)))
 
 total-requires : tie.Need-total-requires
 total-requires c κs =
@@ -55,23 +55,23 @@ total-requires c κs =
 both-ways-requires : tie.Need-both-ways-requires
 both-ways-requires c κs =
     let at-scaled2 = c .before in
-    let at-turned = at-scaled2 .before in
-    let at-sum2 = at-turned .before in
+    let at-times-i = at-scaled2 .before in
+    let at-sum2 = at-times-i .before in
     let at-scaled = at-sum2 .before in
     let at-sum = at-scaled .before in
     let s = at-sum .before .before in
     let m = s .args .m in
     let t = at-sum .sum .ensures m 1 1 _ _ (given (s .pre .1) 1 (lit< tt) m) (given (s .pre .1) 2 (lit< tt) m) in
     let even = at-sum2 .sum2 .ensures m 1 604798 _ _ (given (s .pre .1) 0 (lit< tt) m) (at-scaled .scaled .ensures m 2 _ t) in
-    let odd = at-scaled2 .scaled2 .ensures m 4 _ (at-turned .turned .ensures m (s .pre .0 .0)) in
+    let odd = at-scaled2 .scaled2 .ensures m 4 _ (at-times-i .difference-times-i .ensures m (s .pre .0 .0)) in
     (s .pre .0 .0, rooms (omega arith) (omega arith) even odd)
 
 returns : tie.Need-returns
 returns c =
     let at-total = c .before in
     let at-scaled2 = at-total .before in
-    let at-turned = at-scaled2 .before in
-    let at-sum2 = at-turned .before in
+    let at-times-i = at-scaled2 .before in
+    let at-sum2 = at-times-i .before in
     let at-scaled = at-sum2 .before in
     let at-sum = at-scaled .before in
     let at-root-at = at-sum .before in
@@ -80,7 +80,7 @@ returns c =
     let a = given (s .pre .1) 0 (lit< tt) m in
     let t = at-sum .sum .ensures m 1 1 _ _ (given (s .pre .1) 1 (lit< tt) m) (given (s .pre .1) 2 (lit< tt) m) in
     let even = at-sum2 .sum2 .ensures m 1 604798 _ _ a (at-scaled .scaled .ensures m 2 _ t) in
-    let odd = at-scaled2 .scaled2 .ensures m 4 _ (at-turned .turned .ensures m (s .pre .0 .0)) in
+    let odd = at-scaled2 .scaled2 .ensures m 4 _ (at-times-i .difference-times-i .ensures m (s .pre .0 .0)) in
     let mates = c .both-ways .ensures 604799 1209596 _ _ even odd in
     three-butterfly m (s .pre .0 .1) _ _ (at-root-at .root-at .ensures) (at-total .total .ensures 1 2 _ _ a t) (mates .0) (mates .1)
 
@@ -92,7 +92,7 @@ three-spec =
     sum-requires
     scaled-requires
     sum-requires-2
-    turned-requires
+    difference-times-i-requires
     scaled-requires-2
     total-requires
     both-ways-requires

@@ -5,16 +5,15 @@ use Prim.Native.Nat.{ℕ, _+_, _<_}
 use native.Mathlib.Omega.{arith}
 use lib.ListN.{length, getD, take, drop}
 use lib.Seq.{getD-drop, drop-drop, take-append-seam, drop-append-seam}
-use Rattle.algebra.specs.Cell.{J}
-use Rattle.algebra.specs.Residue.{Res}
-use Rattle.algebra.specs.Orbit.{Mem, first, later}
-use Rattle.algebra.proofs.Laws.{along}
-use Rattle.numbers.specs.Prime.{prime}
-use Rattle.numbers.specs.Value.{Value}
+use Rattle.algebra.specs.cells.Cell.{J}
+use Rattle.algebra.specs.ring.Residue.{Res}
+use Rattle.algebra.specs.orbits.Orbit.{Mem, first, later}
+use Rattle.algebra.proofs.ring.Laws.{along}
+use Rattle.numbers.specs.Value.{prime, Value}
 use Rattle.numbers.proofs.Residues.{val-small}
 use Rattle.file_format.specs.declared.FileRecord.{FileRecord}
-use Rattle.file_format.specs.Shape.{byteAt, twoBytes, fourBytes, listAt, afterList, recordAt, recordsFrom}
-use Rattle.file_format.specs.Bytes.{bytes, listBytes, recordBytes, allBytes}
+use Rattle.output.specs.Output.{bigEndian}
+use Rattle.file_format.specs.Format.{byteAt, twoBytes, fourBytes, listAt, afterList, recordAt, recordsFrom, listBytes, recordBytes, allBytes}
 
 -- a record of a file by its numbers, and one whose index two bytes can hold
 abbrev pub fileRecord : J × Value 1 → FileRecord
@@ -48,22 +47,22 @@ module _ (file : List ℕ) where
   byte-at q x t e = (along (byteAt file) q (q + 0) (omega arith) ∙ stands-at q 0 (x ∷ t) e, stands-after q 1 (x ∷ t) e)
 
   module _ (q x : ℕ) (t : List ℕ) where
-    pub two-at : x < 65536 → Stands q (bytes 2 x ++ t) → (twoBytes file q ≡ x) × Stands (q + 2) t
-    unfolding bytes twoBytes
+    pub two-at : x < 65536 → Stands q (bigEndian 2 x ++ t) → (twoBytes file q ≡ x) × Stands (q + 2) t
+    unfolding bigEndian twoBytes
     two-at h e =
-        let a = along (byteAt file) q (q + 0) (omega arith) ∙ stands-at q 0 (bytes 2 x ++ t) e in
-        let b = stands-at q 1 (bytes 2 x ++ t) e in
-        (omega (arith, a, b), stands-after q 2 (bytes 2 x ++ t) e)
+        let a = along (byteAt file) q (q + 0) (omega arith) ∙ stands-at q 0 (bigEndian 2 x ++ t) e in
+        let b = stands-at q 1 (bigEndian 2 x ++ t) e in
+        (omega (arith, a, b), stands-after q 2 (bigEndian 2 x ++ t) e)
 
   module _ (q x : ℕ) (t : List ℕ) where
-    pub four-at : x < 4294967296 → Stands q (bytes 4 x ++ t) → (fourBytes file q ≡ x) × Stands (q + 4) t
-    unfolding bytes twoBytes fourBytes
+    pub four-at : x < 4294967296 → Stands q (bigEndian 4 x ++ t) → (fourBytes file q ≡ x) × Stands (q + 4) t
+    unfolding bigEndian twoBytes fourBytes
     four-at h e =
-        let a = along (byteAt file) q (q + 0) (omega arith) ∙ stands-at q 0 (bytes 4 x ++ t) e in
-        let b = stands-at q 1 (bytes 4 x ++ t) e in
-        let c = stands-at q 2 (bytes 4 x ++ t) e in
-        let d = along (byteAt file) (q + 2 + 1) (q + 3) (omega arith) ∙ stands-at q 3 (bytes 4 x ++ t) e in
-        (omega (arith, a, b, c, d), stands-after q 4 (bytes 4 x ++ t) e)
+        let a = along (byteAt file) q (q + 0) (omega arith) ∙ stands-at q 0 (bigEndian 4 x ++ t) e in
+        let b = stands-at q 1 (bigEndian 4 x ++ t) e in
+        let c = stands-at q 2 (bigEndian 4 x ++ t) e in
+        let d = along (byteAt file) (q + 2 + 1) (q + 3) (omega arith) ∙ stands-at q 3 (bigEndian 4 x ++ t) e in
+        (omega (arith, a, b, c, d), stands-after q 4 (bigEndian 4 x ++ t) e)
 
   pub list-at : (q : ℕ) (l t : List ℕ) → Stands q (listBytes l ++ t) → (listAt file q ≡ l) × Stands (afterList file q) t
   unfolding listAt
@@ -80,7 +79,7 @@ module _ (file : List ℕ) where
       let j = c .0 in
       let x = c .1 .0 .val in
       let y = c .1 .1 .val in
-      let h = two-at q (j .0) _ (s .h) (e ∙ right (bytes 2 (j .0)) (bytes 2 (j .1)) (bytes 2 (j .2)) (bytes 4 x) (bytes 4 y) t) in
+      let h = two-at q (j .0) _ (s .h) (e ∙ right (bigEndian 2 (j .0)) (bigEndian 2 (j .1)) (bigEndian 2 (j .2)) (bigEndian 4 x) (bigEndian 4 y) t) in
       let k = two-at (q + 2) (j .1) _ (s .k) (h .1) in
       let l = two-at (q + 2 + 2) (j .2) _ (s .l) (k .1) in
       let a = four-at (q + 2 + 2 + 2) x _ (small (c .1 .0)) (l .1) in

@@ -10,24 +10,23 @@ use lib.ListN.{length, take, drop}
 use lib.Seq.{take-append-seam}
 use lib.Dec.{ltb, eqb}
 use borrow.Author.Tests.{not-false, eqb-true, eqb-false, eq-eqb, lt-leb}
-use Rattle.algebra.specs.Gauss.{gauss}
-use Rattle.algebra.specs.Residue.{residues}
-use Rattle.algebra.specs.Cell.{J, Inside, Cell, full, at, factorActs}
-use Rattle.algebra.specs.CellSteps.{Lawful}
-use Rattle.algebra.specs.Orbit.{Mem, first as first-of, later, Acts, recordAll, Accepted}
-use Rattle.algebra.proofs.Members.{none as no-member}
-use Rattle.algebra.proofs.CellTests.{Positive}
-use Rattle.algebra.proofs.CellWriter.{written-accepted, written-read}
-use Rattle.numbers.specs.Prime.{prime}
-use Rattle.numbers.specs.Value.{Value, field, conj, value}
+use Rattle.algebra.specs.ring.Gauss.{gauss}
+use Rattle.algebra.specs.ring.Residue.{residues}
+use Rattle.algebra.specs.cells.Cell.{J, Inside, Cell, full, at, factorActs}
+use Rattle.algebra.specs.cells.CellSteps.{Lawful}
+use Rattle.algebra.specs.orbits.Orbit.{Mem, first as first-of, later, Acts, recordAll}
+use Rattle.algebra.specs.orbits.OrbitLaws.{Accepted}
+use Rattle.algebra.proofs.ring.Members.{none as no-member}
+use Rattle.algebra.proofs.cells.CellTests.{Positive}
+use Rattle.algebra.proofs.cells.CellWriter.{written-accepted, written-read}
+use Rattle.numbers.specs.Value.{prime, Value, field, conj, value}
 use Rattle.numbers.proofs.Primes.{prime-pos}
 use Rattle.numbers.proofs.Residues.{res-val, val-small}
 use Rattle.numbers.proofs.Values.{field-ring, field-star}
 use Rattle.slices.specs.Pairs.{Below}
 use Rattle.slices.proofs.Bounds.{below-allBelow}
-use Rattle.lengths.specs.Factors.{product}
-use Rattle.refusals.specs.Tests.{first}
-use Rattle.lengths.specs.Lengths.{factorsOk}
+use Rattle.lengths.specs.Lengths.{product, factorsOk}
+use Rattle.refusals.specs.Refusals.{first}
 use Rattle.refusals.proofs.Tests.{Passed, passed, pass, none, not-t}
 use Rattle.lengths.proofs.Factors.{factors-cons}
 use Rattle.cell.specs.Volume.{volumeLength, factorsIn, packFactors}
@@ -36,24 +35,21 @@ use Rattle.cell.specs.Consistency.{sameValue}
 use Rattle.cell.proofs.Reading.{same-iff}
 use Rattle.cell.proofs.Consistency.{pack-cong, consistent-read}
 use Rattle.job.specs.declared.Job.{Job}
-use Rattle.job.specs.Header.{headerOf, axisTests, collecting, jobOf, withState, validJob, groupIn, halves}
-use Rattle.job.specs.Steps.{opened, openTests, volumeTests}
+use Rattle.job.specs.Job.{headerOf, axisTests, collecting, jobOf, withState, validJob, groupIn, halves, opened, openTests, volumeTests}
 use Rattle.header.proofs.Headers.{all-three, sound-lists}
 use Rattle.header.proofs.Digits.{octal-of-digits}
 use Rattle.job.proofs.Jobs.{valid-sizes}
 use Rattle.file_format.specs.declared.FileRecord.{FileRecord}
-use Rattle.factor_file.specs.File.{recordsIn, fileStep}
+use Rattle.factor_file.specs.Reading.{recordsIn, fileStep}
 use Rattle.model.specs.Model.{Model, zeroModel, modelVolume, modelFeed, begun}
-use Rattle.demands.specs.Demands.{entry}
+use Rattle.demands.specs.Demands.{entry, ReadsBack}
 use Rattle.demands.proofs.Openings.{opening-sound}
 use Rattle.demands.proofs.Starts.{file-gives}
 use Rattle.demands.proofs.AcceptedRecords.{actsOn, accepted-fed}
-use Rattle.file_format.specs.Bytes.{fileOf}
+use Rattle.file_format.specs.Format.{fileOf}
 use Rattle.factor_file.specs.Writing.{jobRecords, jobFile, written, writeTests, writeStep}
-use Rattle.demands.specs.DemandsReadBack.{ReadsBack}
-use Rattle.file_format.proofs.layout.FileParts.{length-header}
+use Rattle.file_format.proofs.layout.FileParts.{length-header, length-body}
 use Rattle.factor_file.proofs.file.RecordLaws.{admitted-few}
-use Rattle.file_format.proofs.layout.FileParts.{length-body}
 use Rattle.factor_file.proofs.writer.Files.{told, passed-on, valid-volume}
 use Rattle.demands.proofs.read_back.Parsing.{fileRecord, Short}
 use Rattle.demands.proofs.read_back.WrittenFiles.{Writable, header-read, records-read, well-shaped}

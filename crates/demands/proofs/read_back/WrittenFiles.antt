@@ -6,15 +6,14 @@ use Prim.Native.Nat.{ℕ, _+_, _*_, _-_, _<_, _≤_}
 use native.Mathlib.Omega.{arith}
 use lib.ListN.{length, length-drop}
 use borrow.Author.Tests.{eq-eqb, ne-eqb, le-ltb}
-use Rattle.algebra.specs.Cell.{J}
-use Rattle.algebra.specs.Orbit.{Mem}
+use Rattle.algebra.specs.cells.Cell.{J}
+use Rattle.algebra.specs.orbits.Orbit.{Mem}
 use Rattle.numbers.specs.Value.{Value}
-use Rattle.refusals.specs.Tests.{first}
+use Rattle.refusals.specs.Refusals.{first}
 use Rattle.refusals.proofs.Tests.{pass, none, not-t}
 use Rattle.header.specs.Header.{Header}
-use Rattle.file_format.specs.Shape.{byteAt, fourBytes, list2At, list3At, countAt, recordCount, recordsIn, recordsFrom, shapeTests}
-use Rattle.file_format.specs.HeaderIn.{headerIn}
-use Rattle.file_format.specs.Bytes.{bytes, listBytes, headerBytes, allBytes, body, fileOf}
+use Rattle.output.specs.Output.{bigEndian}
+use Rattle.file_format.specs.Format.{byteAt, fourBytes, list2At, list3At, countAt, recordCount, recordsIn, recordsFrom, shapeTests, headerIn, listBytes, headerBytes, allBytes, body, fileOf}
 use Rattle.file_format.proofs.layout.ByteLaws.{length-all}
 use Rattle.file_format.proofs.layout.FileParts.{length-body, length-file}
 use Rattle.demands.proofs.read_back.Parsing.{fileRecord, Short, Stands, byte-at, two-at, four-at, list-at, records-at}
@@ -37,18 +36,18 @@ module _ (h : Header) (cs : List (J × Value 1)) (w : Writable h cs) where
   -- ---- what stands after each part
 
   abbrev records : List ℕ
-  records = bytes 4 (length cs) ++ allBytes cs
+  records = bigEndian 4 (length cs) ++ allBytes cs
 
   abbrev lists : List ℕ
   lists = listBytes (h .list1) ++ (listBytes (h .list2) ++ (listBytes (h .list3) ++ records))
 
   abbrev lengths : List ℕ
-  lengths = bytes 2 (h .lengths .0) ++ (bytes 2 (h .lengths .1) ++ (bytes 2 (h .lengths .2) ++ lists))
+  lengths = bigEndian 2 (h .lengths .0) ++ (bigEndian 2 (h .lengths .1) ++ (bigEndian 2 (h .lengths .2) ++ lists))
 
-  file-right : file ≡ bytes 4 (length (body h cs)) ++ 1 ∷ h .group ∷ lengths
+  file-right : file ≡ bigEndian 4 (length (body h cs)) ++ 1 ∷ h .group ∷ lengths
   unfolding fileOf headerBytes
-  file-right = ap (λ (l : List ℕ). bytes 4 (length (body h cs)) ++ 1 ∷ h .group ∷ l)
-      (header-right (bytes 2 (h .lengths .0)) (bytes 2 (h .lengths .1)) (bytes 2 (h .lengths .2)) (listBytes (h .list1)) (listBytes (h .list2)) (listBytes (h .list3)) (bytes 4 (length cs)) (allBytes cs))
+  file-right = ap (λ (l : List ℕ). bigEndian 4 (length (body h cs)) ++ 1 ∷ h .group ∷ l)
+      (header-right (bigEndian 2 (h .lengths .0)) (bigEndian 2 (h .lengths .1)) (bigEndian 2 (h .lengths .2)) (listBytes (h .list1)) (listBytes (h .list2)) (listBytes (h .list3)) (bigEndian 4 (length cs)) (allBytes cs))
 
   count-read : (fourBytes file 0 ≡ length (body h cs)) × Stands file 4 (1 ∷ h .group ∷ lengths)
   count-read = four-at file 0 (length (body h cs)) (1 ∷ h .group ∷ lengths) (w .short) file-right

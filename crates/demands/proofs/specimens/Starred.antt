@@ -6,34 +6,32 @@ use Prim.Native.Nat.{ℕ, _<_}
 use native.Mathlib.Omega.{arith}
 use lib.Dec.{ltb, eqb}
 use borrow.Author.Tests.{lt-ltb, eqb-true}
-use Rattle.algebra.specs.Ring.{pow}
-use Rattle.algebra.specs.Gauss.{gauss}
-use Rattle.algebra.specs.Residue.{residue, residues}
-use Rattle.algebra.specs.Orbit.{Mem, Mem.first as here, Mem.later}
-use Rattle.algebra.specs.Cell.{J, full, planeSym, im, flip, imp, sgn, star}
-use Rattle.algebra.proofs.Laws.{self-neg}
-use Rattle.algebra.proofs.Solver.{ring, quote}
-use Rattle.algebra.proofs.CellAxis.{neg-zero}
-use Rattle.algebra.proofs.CellTests.{Positive}
-use Rattle.numbers.specs.Prime.{prime}
-use Rattle.numbers.specs.Value.{Value, field, conj, real, half, value}
+use Rattle.algebra.specs.ring.Ring.{pow}
+use Rattle.algebra.specs.ring.Gauss.{gauss}
+use Rattle.algebra.specs.ring.Residue.{residue, residues}
+use Rattle.algebra.specs.orbits.Orbit.{Mem, Mem.first as here, Mem.later}
+use Rattle.algebra.specs.cells.Cell.{J, full, planeSym, imageOf, flip, impliedValue, sgn, star}
+use Rattle.algebra.proofs.ring.Laws.{self-neg}
+use Rattle.algebra.proofs.ring.Solver.{ring, quote}
+use Rattle.algebra.proofs.cells.CellAxis.{neg-zero}
+use Rattle.algebra.proofs.cells.CellTests.{Positive}
+use Rattle.numbers.specs.Value.{prime, Value, field, conj, real, half, value}
 use Rattle.numbers.proofs.Residues.{val-res}
 use Rattle.numbers.proofs.Values.{field-ring}
 use Rattle.numbers.proofs.Parts.{half-law}
 use Rattle.line.specs.Specimens as Lines
-use Rattle.refusals.specs.Tests.{first}
+use Rattle.refusals.specs.Refusals.{first}
 use Rattle.line.proofs.Specimens.{specimens-shown as lines-shown}
 use Rattle.refusals.proofs.Tests.{stop, pass, not-t, not-f, both}
 use Rattle.cell.specs.Operations.{Sizes}
 use Rattle.cell.specs.Volume.{groupOf}
 use Rattle.cell.specs.Consistency.{agreesWithItself}
 use Rattle.cell.proofs.Records.{agrees-iff}
-use Rattle.job.specs.Header.{Header, axisTests, halvesOf, jobOf, collecting}
-use Rattle.job.specs.Steps.{p, within, index, recordTests, recordStep, unchanged}
+use Rattle.job.specs.Job.{Header, axisTests, halfLengths, jobOf, collecting, p, within, index, recordTests, recordStep, unchanged}
 use Rattle.demands.specs.Specimens.{Specimen, records, Shown, Starred, transformed, recorded, taken, takenRecords, AllHold, Specimens}
 use Rattle.header.proofs.Headers.{sound-sizes}
 use Rattle.job.proofs.Jobs.{opened-valid}
-use Rattle.header.proofs.Openings.{header-passed}
+use Rattle.job.proofs.check.Openings.{header-passed}
 use Rattle.job.proofs.Openings.{opened-collecting}
 use Rattle.demands.proofs.specimens.Taken.{taken-hold}
 
@@ -52,8 +50,8 @@ record Reversed (x : Specimen) : Type 0 where
   known : x .group < 5
   low : (index (x .at) .0 < 2) × (index (x .at) .1 < 2) × (index (x .at) .2 < 2)
   member : Mem (planeSym (groupOf (x .group))) (full (groupOf (x .group)))
-  fixed : (a : J) → im a (planeSym (groupOf (x .group))) (index (x .at)) ≡ index (x .at)
-  negated : (z : Value 1) → imp (field 1) (conj 1) (planeSym (groupOf (x .group))) (index (x .at)) z ≡ field 1 .neg z
+  fixed : (a : J) → imageOf a (planeSym (groupOf (x .group))) (index (x .at)) ≡ index (x .at)
+  negated : (z : Value 1) → impliedValue (field 1) (conj 1) (planeSym (groupOf (x .group))) (index (x .at)) z ≡ field 1 .neg z
   number : x .number ≡ 12
 
 abbrev AllReversed : List Specimen → Type 0
@@ -61,7 +59,7 @@ AllReversed [] = Unit
 AllReversed (x ∷ l) = Reversed x × AllReversed l
 
 computed : AllReversed records
-unfolding im flip imp sgn star pow
+unfolding imageOf flip impliedValue sgn star pow
 computed = (
   record {
     known = omega arith;
@@ -110,7 +108,7 @@ module _ (x : Specimen) (r : Reversed x) where
         let c = lt-ltb (index (x .at) .2) (h .lengths .2) (omega (arith, r .low, sizes .third .low)) in
         λ i. a i && (b i && c i)
 
-    positive : Positive (halvesOf (h .lengths))
+    positive : Positive (halfLengths (h .lengths))
     positive = (omega (arith, sizes .first .low), omega (arith, sizes .second .low), omega (arith, sizes .third .low))
 
     contradiction : (v : List ℕ) (a b : ℕ) → a < p → b < p → ((a ≡ 0) × (b ≡ 0) → ⊥) → 12 ≡ first (recordTests (jobOf h collecting) (index (x .at)) a b v)
@@ -128,8 +126,8 @@ module _ (x : Specimen) (r : Reversed x) where
         one-not-zero : (eqb a 0 && eqb b 0) ≡ false
         one-not-zero = is-false _ (λ q. let t = both (eqb a 0) (eqb b 0) q in n (eqb-true a 0 (t .0), eqb-true b 0 (t .1)))
 
-        disagreement : agreesWithItself (groupOf (h .group)) (halvesOf (h .lengths)) 1 (index (x .at)) (value 1 a b) ≡ false
-        disagreement = rw g (disagrees (halvesOf (h .lengths)) positive (value 1 a b) (not-zero a b la lb n))
+        disagreement : agreesWithItself (groupOf (h .group)) (halfLengths (h .lengths)) 1 (index (x .at)) (value 1 a b) ≡ false
+        disagreement = rw g (disagrees (halfLengths (h .lengths)) positive (value 1 a b) (not-zero a b la lb n))
 
     refused : (v : List ℕ) (a b : ℕ) → a < p → b < p → ((a ≡ 0) × (b ≡ 0) → ⊥) → recordStep (jobOf h collecting) (x .at) a b v ≡ unchanged (jobOf h collecting) v (x .number)
     unfolding recordStep

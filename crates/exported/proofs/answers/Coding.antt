@@ -10,15 +10,15 @@ use Rattle.job.specs.declared.PointAnswer.{PointAnswer}
 use Rattle.job.specs.declared.PointAnswer.the-variants as P
 use Rattle.job.specs.declared.FactorAnswer.{FactorAnswer}
 use Rattle.job.specs.declared.FactorAnswer.the-variants as F
-use Rattle.job.specs.Said.{saidOpen, saidPoint, saidFactor}
+use Rattle.job.specs.Job.{saidOpen, saidPoint, saidFactor}
 use Rattle.factor_file.specs.declared.FileAnswer.{FileAnswer}
 use Rattle.factor_file.specs.declared.FileAnswer.the-variants as I
-use Rattle.factor_file.specs.Said.{saidFile}
+use Rattle.factor_file.specs.Reading.{saidFile}
 use Rattle.exported.specs.declared.answers.JobCoded.{JobCoded}
 use Rattle.exported.specs.declared.answers.FileCoded.{FileCoded}
 use Rattle.exported.specs.declared.answers.PointCoded.{PointCoded}
 use Rattle.exported.specs.declared.answers.FactorCoded.{FactorCoded}
-use Rattle.exported.specs.CodedAnswers.{noJob, openingCoded, fileAnswerCoded, pointCoded, factorCoded}
+use Rattle.exported.specs.Answers.{noJob, openingCoded, fileAnswerCoded, pointCoded, factorCoded}
 
 module _ (r : OpenAnswer) where
   pub opened-coded : (j : Job) → r ≡ O.Opened j → _≡_ {A = JobCoded} (record { number = 0; job = j }) (openingCoded (saidOpen r))

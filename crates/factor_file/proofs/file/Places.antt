@@ -8,12 +8,12 @@ use native.Mathlib.Nat.{zero-mul, eq-zero-or-pos}
 use native.Mathlib.Omega.{arith}
 use lib.ListN.{length, length-append}
 use borrow.Author.Tests.{lt-ltb, le-ltb}
-use Rattle.algebra.specs.Orbit.{Acts}
-use Rattle.algebra.specs.Cell.{J}
-use Rattle.algebra.specs.CellTests.{lineFrom, planeFrom, cellFrom, lowest, recordsOf}
-use Rattle.algebra.proofs.Laws.{along}
+use Rattle.algebra.specs.orbits.Orbit.{Acts}
+use Rattle.algebra.specs.cells.Cell.{J}
+use Rattle.algebra.specs.cells.CellTests.{lineFrom, planeFrom, cellFrom, lowest, recordsOf}
+use Rattle.algebra.proofs.ring.Laws.{along}
 use Rattle.slices.proofs.Pairs.{lt-or-ge}
-use Rattle.factor_file.specs.StepsFile.{placesFrom}
+use Rattle.factor_file.specs.Steps.{placesFrom}
 
 -- ---- lists of lists: what is made of places one after another is made of all of them
 

@@ -7,34 +7,32 @@ use native.Mathlib.Nat.{mul-le-mul}
 use native.Mathlib.Omega.{arith}
 use lib.ListN.{length, getD}
 use borrow.Author.Tests.{lt-ltb}
-use Rattle.algebra.specs.Gauss.{gauss}
-use Rattle.algebra.specs.Residue.{residue, residues}
-use Rattle.algebra.specs.Cell.{J, Group, full, planes, at, factorActs}
-use Rattle.algebra.specs.CellTests.{cellFrom, placesOf, lexLe, recordsOf}
+use Rattle.algebra.specs.ring.Gauss.{gauss}
+use Rattle.algebra.specs.ring.Residue.{residue, residues}
+use Rattle.algebra.specs.cells.Cell.{J, Group, full, planes, at, factorActs}
+use Rattle.algebra.specs.cells.CellTests.{cellFrom, placesOf, lexLe, recordsOf, every}
 use Rattle.numbers.specs.declared.Pair.{Pair}
-use Rattle.numbers.specs.Prime.{prime}
-use Rattle.numbers.specs.Value.{Value, field, conj, value, pairOf}
+use Rattle.numbers.specs.Value.{prime, Value, field, conj, value, pairOf}
 use Rattle.slices.specs.Pairs.{Below}
 use Rattle.cell.specs.Volume.{groupOf, volumeLength, factorsIn}
 use Rattle.cell.specs.Operations.{halvesOf, Sizes}
 use Rattle.cell.specs.Places.{allBelowAt}
-use Rattle.cell.specs.Consistency.{sameValue, all}
+use Rattle.cell.specs.Consistency.{sameValue}
 use Rattle.cell.specs.TestSteps.{isZero}
 use Rattle.cell.proofs.OperationLaws.{by-group}
-use Rattle.file_format.specs.Bytes.{recordBytes, allBytes}
-use Rattle.factor_file.specs.Records.{recordsAt}
-use Rattle.factor_file.specs.Lowest.{isLowest}
+use Rattle.output.specs.Output.{Wrote}
+use Rattle.output.proofs.Writing.{wrote-none, wrote-as}
+use Rattle.file_format.specs.Format.{recordBytes, allBytes}
+use Rattle.factor_file.specs.Writing.{recordsAt, isLowest}
 use Rattle.factor_file.proofs.orbits.PlaceOrder.{upper-not-lowest}
-use Rattle.factor_file.specs.Stores.{Put}
-use Rattle.factor_file.specs.StepsFile.{recordValue, pairBytes, recordsWith}
-use Rattle.factor_file.proofs.file.Stores.{put-none, put-as}
+use Rattle.factor_file.specs.Steps.{recordValue, pairBytes, recordsWith}
 use Rattle.file_format.proofs.layout.ByteLaws.{all-append}
 use Rattle.factor_file.proofs.file.Places.{Spreads, NoneBeyond, length-cell, records-most, records-spread}
 
 -- ---- the numbers that a factor is read from are small, whichever they are
 
 pub small-at-all : {p : ℕ} {v : List ℕ} → Below p v → (places : List ℕ) → allBelowAt p v places ≡ true
-unfolding all
+unfolding every
 small-at-all b [] = refl
 small-at-all {p} {v} b (q ∷ places) = both _ _ (lt-ltb (getD v q 0) p (b .each q)) (small-at-all b places)
   where
@@ -100,9 +98,9 @@ module _ (g : Group) (a : J) (v : List ℕ) where
       pub one-record : t ≡ false → recordsAt g a v (j ∷ []) ≡ alone j (recordValue g a v j)
       one-record h = place-records ∙ ap (λ b. cond b [] (alone j (recordValue g a v j))) (found h)
 
-      pub no-bytes : (q : ℕ) (l : List ℕ) → t ≡ true → Put q (bytesAt (j ∷ [])) l q l
+      pub no-bytes : (q : ℕ) (l : List ℕ) → t ≡ true → Wrote q (bytesAt (j ∷ [])) l q l
       unfolding allBytes
-      no-bytes q l h = put-as (put-none q l) (sym (ap allBytes (no-record h)))
+      no-bytes q l h = wrote-as (wrote-none q l) (sym (ap allBytes (no-record h)))
 
       pub one-bytes : t ≡ false → pairBytes j x ≡ bytesAt (j ∷ [])
       unfolding allBytes recordBytes pairOf

@@ -1,17 +1,17 @@
--- Going over the places of the cell: what was counted or stored of those before a place, and what is left from it on.
+-- Going over the places of the cell: what was counted or written of those before a place, and what is left from it on.
 use mathlib.Core.Path.{_≡_, refl, sym, _∙_, ap}
 use mathlib.Core.List.{List, [], _∷_}
 use Prim.Native.Nat.{ℕ, suc, _+_, _-_, _<_, _≤_}
 use native.Mathlib.Omega.{arith}
 use lib.ListN.{length, length-append}
-use Rattle.algebra.specs.Cell.{J}
-use Rattle.algebra.specs.CellTests.{cellFrom}
-use Rattle.algebra.proofs.Laws.{along}
+use Rattle.algebra.specs.cells.Cell.{J}
+use Rattle.algebra.specs.cells.CellTests.{cellFrom}
+use Rattle.algebra.proofs.ring.Laws.{along}
 use Rattle.cell.specs.declared.operations.Index.{Index}
 use Rattle.cell.specs.Operations.{tripleOf}
-use Rattle.factor_file.specs.Stores.{Room, Put}
-use Rattle.factor_file.specs.StepsFile.{placesFrom, Next}
-use Rattle.factor_file.proofs.file.Stores.{put-none, put-then, put-as, put-length}
+use Rattle.output.specs.Output.{Wrote, Ends}
+use Rattle.output.proofs.Writing.{wrote-none, wrote-append, wrote-as, wrote-length}
+use Rattle.factor_file.specs.Steps.{placesFrom, Next}
 use Rattle.factor_file.proofs.file.Places.{Spreads, NoneBeyond, plane-start, here, on-line, on-plane, in-cell, from-none}
 
 -- ---- the place after one, as the code finds it
@@ -73,33 +73,33 @@ module _ {A : Type 0} {R : List J → List A} (s : Spreads R) {n1 n2 n3 count r 
 pub counting-done : {A : Type 0} {R : List J → List A} → Spreads R → {n1 n2 n3 count m : ℕ} → NoneBeyond R n1 m → {j : Index} → Counting R n1 n2 n3 count j → m < j .h → count ≡ length (R (cellFrom n3 n2 0 n1))
 counting-done s {n1} {n2} {n3} none {j} c h = omega (arith, c .left, ap length (from-none s n1 n2 n3 none (tripleOf j) h))
 
--- ---- a loop that stores
+-- ---- a loop that writes
 
 pub record Putting (R : List J → List ℕ) (n1 n2 n3 start : ℕ) (before : List ℕ) (at : ℕ) (after : List ℕ) (j : Index) : Type 0 where
   pub k : j .k < n2
   pub l : j .l < n3
   pub place : at + length (R (placesFrom n1 n2 n3 (tripleOf j))) ≡ start + length (R (cellFrom n3 n2 0 n1))
   pub same : length after ≡ length before
-  -- what is left, stored from here on, makes the whole
-  pub goes : (r : ℕ) (m : List ℕ) → Put at (R (placesFrom n1 n2 n3 (tripleOf j))) after r m → Put start (R (cellFrom n3 n2 0 n1)) before r m
+  -- what is left, written from here on, makes the whole
+  pub goes : (r : ℕ) (m : List ℕ) → Wrote at (R (placesFrom n1 n2 n3 (tripleOf j))) after r m → Wrote start (R (cellFrom n3 n2 0 n1)) before r m
 
 pub putting-start : (R : List J → List ℕ) (n1 n2 n3 start : ℕ) (before : List ℕ) → 0 < n2 → 0 < n3 → Putting R n1 n2 n3 start before start before (record { h = 0; k = 0; l = 0 })
 putting-start R n1 n2 n3 start before b c =
     let e = first-places n1 n2 n3 b in
-    record { k = b; l = c; place = omega (arith, ap (λ t. length (R t)) e); same = refl; goes = λ r m p. put-as p (ap R e) }
+    record { k = b; l = c; place = omega (arith, ap (λ t. length (R t)) e); same = refl; goes = λ r m p. wrote-as p (ap R e) }
 
 module _ {R : List J → List ℕ} (s : Spreads R) {n1 n2 n3 start at : ℕ} {before after : List ℕ} {j : Index} (c : Putting R n1 n2 n3 start before at after j) where
-  pub putting-next : {i : Index} {r : ℕ} {m : List ℕ} → Put at (R (tripleOf j ∷ [])) after r m → Next n1 n2 n3 j i → Putting R n1 n2 n3 start before r m i
+  pub putting-next : {i : Index} {r : ℕ} {m : List ℕ} → Wrote at (R (tripleOf j ∷ [])) after r m → Next n1 n2 n3 j i → Putting R n1 n2 n3 start before r m i
   putting-next {i} o x = record {
     k = x .k;
     l = x .l;
-    place = omega (arith, c .place, o .next, lengths s (tripleOf j) _ _ (x .left));
-    same = put-length o ∙ c .same;
-    goes = λ r m p. c .goes r m (put-as (put-then o p) (sym (ap R (x .left) ∙ s .append (tripleOf j ∷ []) (placesFrom n1 n2 n3 (tripleOf i)))));
+    place = omega (arith, c .place, o .place, lengths s (tripleOf j) _ _ (x .left));
+    same = wrote-length o ∙ c .same;
+    goes = λ r m p. c .goes r m (wrote-as (wrote-append o p) (sym (ap R (x .left) ∙ s .append (tripleOf j ∷ []) (placesFrom n1 n2 n3 (tripleOf i)))));
   }
 
-  pub putting-room : {l : List ℕ} → j .h < n1 → R (cellFrom n3 n2 0 n1) ≡ l → Room start (length l) before → Room at (length (R (tripleOf j ∷ []))) after
-  putting-room a f r = omega (arith, r, c .place, c .same, ap length f, lengths s (tripleOf j) _ _ (here n1 n2 n3 (j .h) (j .k) (j .l) a (c .k) (c .l)))
+  pub putting-ends : {l : List ℕ} → j .h < n1 → R (cellFrom n3 n2 0 n1) ≡ l → Ends start l → Ends at (R (tripleOf j ∷ []))
+  putting-ends a f r = record { low = omega (arith, r .low, c .place, ap length f, lengths s (tripleOf j) _ _ (here n1 n2 n3 (j .h) (j .k) (j .l) a (c .k) (c .l))) }
 
-  pub putting-done : {l : List ℕ} {m : ℕ} → NoneBeyond R n1 m → m < j .h → R (cellFrom n3 n2 0 n1) ≡ l → Put start l before at after
-  putting-done none h f = put-as (c .goes at after (put-as (put-none at after) (sym (from-none s n1 n2 n3 none (tripleOf j) h)))) f
+  pub putting-done : {l : List ℕ} {m : ℕ} → NoneBeyond R n1 m → m < j .h → R (cellFrom n3 n2 0 n1) ≡ l → Wrote start l before at after
+  putting-done none h f = wrote-as (c .goes at after (wrote-as (wrote-none at after) (sym (from-none s n1 n2 n3 none (tripleOf j) h)))) f

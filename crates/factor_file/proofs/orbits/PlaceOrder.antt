@@ -5,16 +5,16 @@ use Prim.Native.Nat.{ℕ, _*_, _-_, _<_, _≤_}
 use native.Mathlib.Omega.{arith}
 use lib.Dec.{T, eqb, leb, ltb}
 use borrow.Author.Tests.{le-ltb, eq-eqb, ne-eqb, le-leb}
-use Rattle.algebra.specs.Cell.{J, Group, one, friedel, full, im, negI, flip}
-use Rattle.algebra.specs.CellTests.{lexLe}
-use Rattle.algebra.proofs.Bool.{same-test, every-at}
-use Rattle.algebra.proofs.CellAxis.{neg-pos}
-use Rattle.algebra.proofs.CellGroup.{friedel-mem}
-use Rattle.algebra.proofs.CellSym.{im-one}
-use Rattle.factor_file.specs.Lowest.{isLowest}
+use Rattle.algebra.specs.cells.Cell.{J, Group, one, friedel, full, imageOf, negI, flip}
+use Rattle.algebra.specs.cells.CellTests.{lexLe}
+use Rattle.algebra.proofs.ring.Bool.{same-test, every-at}
+use Rattle.algebra.proofs.cells.CellAxis.{neg-pos}
+use Rattle.algebra.proofs.cells.CellGroup.{friedel-mem}
+use Rattle.algebra.proofs.cells.CellSym.{image-one}
+use Rattle.factor_file.specs.Writing.{isLowest}
 
-pub identity-no-later : (a j : J) → lexLe j (im a one j) ≡ true
-identity-no-later a j = ap (lexLe j) (im-one a j) ∙ no-later-than-itself
+pub identity-no-later : (a j : J) → lexLe j (imageOf a one j) ≡ true
+identity-no-later a j = ap (lexLe j) (image-one a j) ∙ no-later-than-itself
   where
     same : (x : ℕ) → x ≤ x
     same x = omega arith
@@ -29,14 +29,14 @@ identity-no-later a j = ap (lexLe j) (im-one a j) ∙ no-later-than-itself
         λ i. h i || (h′ i && (k i || (k′ i && l i)))
 
 pub upper-not-lowest : (g : Group) (a j : J) → a .0 < j .0 → j .0 < 2 * a .0 → isLowest g a j ≡ false
-unfolding im flip
-upper-not-lowest g a j u v = same-test (isLowest g a j) false (λ t. subst T mate-before (every-at (full g) (λ s. lexLe j (im a s j)) friedel t (friedel-mem g))) (λ t. absurd t)
+unfolding imageOf flip
+upper-not-lowest g a j u v = same-test (isLowest g a j) false (λ t. subst T mate-before (every-at (full g) (λ s. lexLe j (imageOf a s j)) friedel t (friedel-mem g))) (λ t. absurd t)
   where
     mate : negI (a .0) (j .0) ≡ 2 * a .0 - j .0
     mate = neg-pos (a .0) (j .0) (omega arith) v
 
-    mate-before : lexLe j (im a friedel j) ≡ false
+    mate-before : lexLe j (imageOf a friedel j) ≡ false
     mate-before =
-        let i = im a friedel j in
+        let i = imageOf a friedel j in
         ap₂ (λ (b c : Bool). b || (c && (ltb (j .1) (i .1) || (eqb (j .1) (i .1) && leb (j .2) (i .2)))))
         (le-ltb (j .0) (negI (a .0) (j .0)) (omega (arith, mate))) (ne-eqb (j .0) (negI (a .0) (j .0)) (λ e. omega (arith, mate, e)))

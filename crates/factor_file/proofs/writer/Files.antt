@@ -2,31 +2,28 @@
 use mathlib.Core.Path.{_≡_, refl, sym, _∙_, ap}
 use mathlib.Core.Bool.{Bool, true, false, not, cond, false≢true}
 use mathlib.Core.List.{List, [], _∷_, _++_}
-use Prim.Native.Nat.{ℕ, _+_, _<_, _≤_}
+use Prim.Native.Nat.{ℕ, _<_, _≤_}
 use native.Mathlib.Omega.{arith}
 use lib.ListN.{length, drop}
-use lib.Seq.{sets-eq}
 use lib.Dec.{eqb, ltb}
 use borrow.Author.Tests.{eq-eqb, ne-eqb, lt-ltb, le-ltb, eqb-true, ltb-false}
-use Rattle.algebra.specs.Cell.{J}
+use Rattle.algebra.specs.cells.Cell.{J}
 use Rattle.numbers.specs.Value.{Value}
 use Rattle.refusals.specs.declared.Refusal.{Refusal}
-use Rattle.refusals.specs.Refusals.{numberOf}
-use Rattle.refusals.specs.Tests.{Test, _⇒_, first, accepted}
+use Rattle.refusals.specs.Refusals.{numberOf, Test, _⇒_, first, accepted}
 use Rattle.lengths.specs.Lengths.{scratchLength}
 use Rattle.refusals.proofs.Tests.{Passed, passed, fails}
 use Rattle.cell.specs.Volume.{volumeLength}
 use Rattle.job.specs.declared.Job.{Job}
-use Rattle.job.specs.Header.{headerOf, axisTests, validJob, mapHeld, groupIn, halves}
-use Rattle.job.specs.Steps.{fits, synthesisTests}
-use Rattle.header.specs.Tests.{factorsTests}
+use Rattle.job.specs.Job.{headerOf, axisTests, validJob, mapHeld, groupIn, halves, fits, synthesisTests}
+use Rattle.job.specs.Tests.{factorsTests}
 use Rattle.header.proofs.Headers.{all-three}
+use Rattle.output.specs.Output.{Wrote}
+use Rattle.output.proofs.Writing.{wrote-whole}
 use Rattle.factor_file.specs.declared.writer.WriteAnswer.{WriteAnswer}
 use Rattle.factor_file.specs.declared.writer.WriteAnswer.the-variants.{Refused}
 use Rattle.factor_file.specs.Writing.{jobRecords, jobFile, written, notWritten, WriteOutcome, writeTests, writeStep, writeOutcome}
-use Rattle.factor_file.specs.Stores.{Put}
-use Rattle.factor_file.specs.StepsFile.{recordsWith, fileWith}
-use Rattle.factor_file.specs.Steps.{fileTests, filed}
+use Rattle.factor_file.specs.Steps.{recordsWith, fileWith, fileTests, filed}
 
 -- ---- the outcome; n is the count of the records as the code holds it
 
@@ -47,15 +44,12 @@ module _ (n : ℕ) (cs : List (J × Value 1)) (file output : List ℕ) (e : n �
     unfolding first
     filed-short h = let t = lt-ltb (length output) (length file) h in λ i. told file output (cond (sym some i) 17 (cond (sym t i) 18 0))
 
-    pub filed-whole : {r : ℕ} {after : List ℕ} → length file ≤ length output → Put 0 file output r after → record { answer = written r; output = after } ≡ filed (length cs) file output
+    pub filed-whole : {r : ℕ} {after : List ℕ} → length file ≤ length output → Wrote 0 file output r after → record { answer = written r; output = after } ≡ filed (length cs) file output
     unfolding first
     filed-whole {r} {after} h p =
         let t = le-ltb (length output) (length file) h in
-        let room : 0 + length file ≤ length output = omega arith in
-        let zero-more : 0 + length file ≡ length file = omega arith in
-        let a : r ≡ length file = omega (arith, p .next) in
-        let o : after ≡ file ++ drop (length file) output = p .stored ∙ sets-eq file output 0 room ∙ ap (λ k. file ++ drop k output) zero-more in
-        (λ i. record { answer = written (a i); output = o i }) ∙ (λ i. told file output (cond (sym some i) 17 (cond (sym t i) 18 0)))
+        let a : r ≡ length file = omega (arith, p .place) in
+        (λ i. record { answer = written (a i); output = wrote-whole p h i }) ∙ (λ i. told file output (cond (sym some i) 17 (cond (sym t i) 18 0)))
 
 -- ---- tests in two parts, the first of which no test or some test of holds
 

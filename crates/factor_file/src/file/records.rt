@@ -1,19 +1,19 @@
 // The records of a volume of packed factors, counted and written: one for each orbit whose factor is not zero, at its lowest
 // place, by rising h, k, l. Counting and writing each go over the places up to h = N1/2: beyond, the Friedel mate comes before.
-use crate::file::bytes;
 use cell::operations::Index;
 use numbers::Pair;
+use output::big_endian;
 ghost use mathlib.Core.Path.{_≡_};
 ghost use mathlib.Core.List.{[], _∷_};
 ghost use Prim.Native.Nat.{ℕ, _<_};
 ghost use lib.ListN.{length};
-ghost use Rattle.algebra.specs.CellTests.{placesOf};
+ghost use Rattle.algebra.specs.cells.CellTests.{placesOf};
 ghost use Rattle.cell.specs.Volume.{groupOf};
 ghost use Rattle.cell.specs.Operations.{halvesOf, tripleOf, Within};
-ghost use Rattle.file_format.specs.Bytes.{allBytes};
-ghost use Rattle.factor_file.specs.Records.{recordsAt};
-ghost use Rattle.factor_file.specs.Stores.{Room, Put};
-ghost use Rattle.factor_file.specs.StepsFile.{IsFactors, pairBytes, Next};
+ghost use Rattle.output.specs.Output.{Wrote, Ends};
+ghost use Rattle.file_format.specs.Format.{allBytes};
+ghost use Rattle.factor_file.specs.Writing.{recordsAt};
+ghost use Rattle.factor_file.specs.Steps.{IsFactors, pairBytes, Next};
 
 // ---- one place
 
@@ -32,14 +32,14 @@ fn count_place(group: u32, n1: u32, n2: u32, n3: u32, j: Index, volume: &[u32]) 
 
 // A record: an index and the two numbers of its value.
 fn put_record(j: Index, x: Pair, out: &mut [u8], at: usize) -> usize
-    requires { ⌜ (j .h < 65536) × (j .k < 65536) × (j .l < 65536) × Room at 14 (now out) ⌝ }
-    ensures { λ r. ⌜ Put at (pairBytes (tripleOf j) x) (now (out .entry)) r (now (out .exit)) ⌝ }
+    requires { ⌜ (j .h < 65536) × (j .k < 65536) × (j .l < 65536) × Ends at (pairBytes (tripleOf j) x) ⌝ }
+    ensures { λ r. ⌜ Wrote at (pairBytes (tripleOf j) x) (now (out .entry)) r (now (out .exit)) ⌝ }
 {
-    let k = bytes::put_two(j.h, out, at);
-    let l = bytes::put_two(j.k, out, k);
-    let a = bytes::put_two(j.l, out, l);
-    let b = bytes::put_four(x.re, out, a);
-    bytes::put_four(x.im, out, b)
+    let k = big_endian::put_two(out, at, j.h);
+    let l = big_endian::put_two(out, k, j.k);
+    let a = big_endian::put_two(out, l, j.l);
+    let b = big_endian::put_four(out, a, x.re);
+    big_endian::put_four(out, b, x.im)
 }
 
 // The record of the place j, where it has one.
@@ -54,8 +54,8 @@ fn put_place(
     at: usize,
 ) -> usize
     requires { ⌜ IsFactors group n1 n2 n3 (now volume) × Within n1 n2 n3 j ⌝ }
-    requires { ⌜ Room at (length (allBytes (recordsAt (groupOf group) (halvesOf n1 n2 n3) (now volume) (tripleOf j ∷ [])))) (now out) ⌝ }
-    ensures { λ r. ⌜ Put at (allBytes (recordsAt (groupOf group) (halvesOf n1 n2 n3) (now (volume .entry)) (tripleOf j ∷ []))) (now (out .entry)) r (now (out .exit)) ⌝ }
+    requires { ⌜ Ends at (allBytes (recordsAt (groupOf group) (halvesOf n1 n2 n3) (now volume) (tripleOf j ∷ []))) ⌝ }
+    ensures { λ r. ⌜ Wrote at (allBytes (recordsAt (groupOf group) (halvesOf n1 n2 n3) (now (volume .entry)) (tripleOf j ∷ []))) (now (out .entry)) r (now (out .exit)) ⌝ }
 {
     if crate::orbits::lowest(group, n1, n2, n3, j) {
         let x = volume::read::factor_at(1, group, n1, n2, n3, j, volume);
@@ -120,8 +120,8 @@ pub fn put_records(
     start: usize,
 ) -> usize
     requires { ⌜ IsFactors group n1 n2 n3 (now volume) ⌝ }
-    requires { ⌜ Room start (length (allBytes (recordsAt (groupOf group) (halvesOf n1 n2 n3) (now volume) (placesOf (halvesOf n1 n2 n3))))) (now out) ⌝ }
-    ensures { λ r. ⌜ Put start (allBytes (recordsAt (groupOf group) (halvesOf n1 n2 n3) (now (volume .entry)) (placesOf (halvesOf n1 n2 n3)))) (now (out .entry)) r (now (out .exit)) ⌝ }
+    requires { ⌜ Ends start (allBytes (recordsAt (groupOf group) (halvesOf n1 n2 n3) (now volume) (placesOf (halvesOf n1 n2 n3)))) ⌝ }
+    ensures { λ r. ⌜ Wrote start (allBytes (recordsAt (groupOf group) (halvesOf n1 n2 n3) (now (volume .entry)) (placesOf (halvesOf n1 n2 n3)))) (now (out .entry)) r (now (out .exit)) ⌝ }
 {
     let mut at = start;
     let mut j = Index { h: 0, k: 0, l: 0 };

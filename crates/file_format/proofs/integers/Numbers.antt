@@ -5,7 +5,7 @@ use Prim.Native.Nat.{ℕ, _+_, _*_, _<_, _≤_}
 use native.Mathlib.Omega.{arith}
 use lib.ListN.{take}
 use lib.Seq.{getD-take}
-use Rattle.file_format.specs.Numbers.{byteAt, twoBytes, fourBytes}
+use Rattle.file_format.specs.Format.{byteAt, twoBytes, fourBytes}
 
 -- a number of four bytes has 32 bits
 pub four-bytes-fit : (file : List ℕ) (q : ℕ) → ((i : ℕ) → byteAt file i < 256) → fourBytes file q < 4294967296

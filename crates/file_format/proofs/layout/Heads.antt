@@ -5,9 +5,8 @@ use Prim.Native.Nat.{ℕ, _≤_}
 use native.Mathlib.Omega.{arith}
 use lib.ListN.{take}
 use Rattle.file_format.proofs.integers.Numbers.{same-byte, same-two-bytes}
-use Rattle.file_format.specs.Places.{listAt, list1At, list2At, list3At, countAt}
+use Rattle.file_format.specs.Format.{listAt, list1At, list2At, list3At, countAt, headerIn}
 use Rattle.file_format.proofs.places.Heads.{same-list2, same-list3, same-list}
-use Rattle.file_format.specs.HeaderIn.{headerIn}
 
 pub same-header : (file file′ : List ℕ) (n : ℕ) → take n file ≡ take n file′ → countAt file ≤ n → headerIn file ≡ headerIn file′
 unfolding list2At list3At countAt

@@ -6,9 +6,8 @@ use native.Mathlib.Nat.{zero-add, suc-add}
 use native.Mathlib.Omega.{arith}
 use lib.ListN.{take, drop}
 use lib.Seq.{take-nil, drop-nil, take-take}
-use Rattle.file_format.specs.Numbers.{byteAt}
+use Rattle.file_format.specs.Format.{byteAt, listAt, afterList, list1At, list2At, list3At, countAt}
 use Rattle.file_format.proofs.integers.Numbers.{same-byte}
-use Rattle.file_format.specs.Places.{listAt, afterList, list1At, list2At, list3At, countAt}
 
 -- ---- a part of a list, as a part of its first n
 

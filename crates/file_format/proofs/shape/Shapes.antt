@@ -7,13 +7,13 @@ use native.Mathlib.Omega.{arith}
 use lib.ListN.{length, take, drop}
 use lib.Dec.{ltb, eqb}
 use borrow.Author.Tests.{lt-ltb, le-ltb, ltb-false, eq-eqb, ne-eqb, eqb-true, not-false}
-use Rattle.refusals.specs.Tests.{_⇒_, first}
+use Rattle.refusals.specs.Refusals.{_⇒_, first}
 use Rattle.refusals.proofs.Tests.{stop, pass, none, not-t, not-f, passed}
 use Rattle.file_format.proofs.integers.Numbers.{same-byte, same-four-bytes}
 use Rattle.file_format.specs.declared.places.Places.{Places}
+use Rattle.file_format.specs.Format.{byteAt, fourBytes, listAt, afterList, list2At, list3At, countAt, recordCount, miscounted, fillingTests, shapeTests}
 use Rattle.file_format.specs.Places.{PlacesOf}
 use Rattle.file_format.proofs.places.Heads.{same-count}
-use Rattle.file_format.specs.Shape.{byteAt, fourBytes, listAt, afterList, list2At, list3At, countAt, recordCount, miscounted, fillingTests, shapeTests}
 
 -- ---- the count
 

@@ -1,20 +1,18 @@
 // Kind 3, the alternating line: the pass after its forward transform, and the two passes of the way back.
 //
-// The forward transform of the woven line Y(t) = X(2t) + i X(2t + 1) is Y^(s) = E(s) - e(-s/N) b(s) with real E(s) and b(s), and the line's is
-// X^(s) = E(s) + i b(s): the pass after it takes the two apart. The way back weaves them anew and transforms; the last pass reads the
+// The forward transform of the short line Y(t) = X(2t) + i X(2t + 1) is Y^(s) = E(s) - e(-s/N) b(s) with real E(s) and b(s), and the line's is
+// X^(s) = E(s) + i b(s): the pass after it takes the two apart. The way back makes a short line of them anew and transforms it; the last pass reads the
 // whole line from that, and packs it.
 use numbers::Pair;
 ghost use mathlib.Core.Path.{_≡_};
 ghost use Prim.Native.Nat.{ℕ, _*_, _<_, _≤_};
 ghost use lib.ListN.{length};
-ghost use Rattle.algebra.specs.Ring.{Ops};
-ghost use Rattle.algebra.specs.Line.{packB3};
-ghost use Rattle.algebra.specs.Folds.{mate, csc, cot, finish3, slant, twice-M, line3};
-ghost use Rattle.numbers.specs.Prime.{prime, IsModulus};
-ghost use Rattle.numbers.specs.Value.{field, conj, i, res, real, half, pairOf, Small};
-ghost use Rattle.slices.specs.Pairs.{Below};
-ghost use Rattle.slices.specs.Values.{valuesOf, listOf};
-ghost use Rattle.fold_formulas.specs.Frame.{stride, tangent, Tangents};
+ghost use Rattle.algebra.specs.ring.Ring.{Ops};
+ghost use Rattle.algebra.specs.lines.Line.{packB3};
+ghost use Rattle.algebra.specs.lines.Folds.{mate, csc, cot, finish3, slant, twice-M, line3};
+ghost use Rattle.numbers.specs.Value.{prime, IsModulus, field, conj, i, res, real, half, pairOf, Small, onValues};
+ghost use Rattle.slices.specs.Pairs.{Below, valuesOf, listOf};
+ghost use Rattle.fold_formulas.specs.FoldFormulas.{stride, tangent, Tangents};
 
 // The pass after the forward transform, `odd` being the sum of the imaginary parts at the odd places.
 pub fn finish(m: u32, tan: &[u32; 1440], a: usize, odd: u32, fold: &[u32], line: &mut [u32])
@@ -22,7 +20,8 @@ pub fn finish(m: u32, tan: &[u32; 1440], a: usize, odd: u32, fold: &[u32], line:
     requires { ⌜ (0 < a) × (a * stride a ≡ 1440) ⌝ }
     requires { ⌜ (length (now fold) ≡ 2 * a) × Below (prime m) (now fold) ⌝ }
     requires { ⌜ length (now line) ≡ 2 * a ⌝ }
-    ensures { λ _. ⌜ now (line .exit) ≡ listOf a (finish3 (field m) (conj m) (i m) (real m (half m)) a (tangent m a (now (tan .entry))) (valuesOf m (now (fold .entry))) (real m (res m odd))) ⌝ }
+    ensures { λ _. ⌜ now (line .exit) ≡ listOf a
+        (onValues m finish3 a (tangent m a (now (tan .entry))) (valuesOf m (now (fold .entry))) (real m (res m odd))) ⌝ }
 {
     let step = 1440 / a;
     let mut s = 0;
@@ -36,17 +35,18 @@ pub fn finish(m: u32, tan: &[u32; 1440], a: usize, odd: u32, fold: &[u32], line:
 // The short line of the inverse, before its transform. From X^(s) = E(s) + i b(s) it is the V(s) for which V(s) + conj V(s) = 2 E(s) and
 // V(s) + e(-s/A) conj V(s) = -2 e(-s/N) b(s): one short transform then serves the even places and the odd ones. Its imaginary part is
 // E(s) times the cotangent and b(s) times the cosecant of the angle of e(s/N); those of the lent half tangents are of the opposite angle.
-pub fn slant(m: u32, tan: &[u32; 1440], a: usize, line: &[u32], fold: &mut [u32])
+pub fn inverse_short_line(m: u32, tan: &[u32; 1440], a: usize, line: &[u32], fold: &mut [u32])
     requires { ⌜ IsModulus m × Tangents m (now tan) ⌝ }
     requires { ⌜ (0 < a) × (a * stride a ≡ 1440) ⌝ }
     requires { ⌜ (length (now line) ≡ 2 * a) × Below (prime m) (now line) ⌝ }
     requires { ⌜ length (now fold) ≡ 2 * a ⌝ }
-    ensures { λ _. ⌜ now (fold .exit) ≡ listOf a (slant (field m) (conj m) (i m) (real m (half m)) a (λ s. field m .neg (tangent m a (now (tan .entry)) s)) (valuesOf m (now (line .entry)))) ⌝ }
+    ensures { λ _. ⌜ now (fold .exit) ≡ listOf a
+        (onValues m slant a (λ s. field m .neg (tangent m a (now (tan .entry)) s)) (valuesOf m (now (line .entry)))) ⌝ }
 {
     let step = 1440 / a;
     let mut s = 0;
     while s < a {
-        let v = slant_at(m, tan, step, a, line, s);
+        let v = inverse_short_at(m, tan, step, a, line, s);
         slices::store(fold, s, v);
         s += 1;
     }
@@ -56,7 +56,7 @@ pub fn slant(m: u32, tan: &[u32; 1440], a: usize, line: &[u32], fold: &mut [u32]
 pub fn twice_sum(m: u32, line: &[u32]) -> u32
     requires { ⌜ IsModulus m ⌝ }
     requires { ⌜ (1 < length (now line)) × Below (prime m) (now line) ⌝ }
-    ensures { λ r. ⌜ (r < prime m) × ((A : ℕ) → real m (res m r) ≡ twice-M (field m) (conj m) (i m) (real m (half m)) A (valuesOf m (now (line .entry)))) ⌝ }
+    ensures { λ r. ⌜ (r < prime m) × ((A : ℕ) → real m (res m r) ≡ onValues m twice-M A (valuesOf m (now (line .entry)))) ⌝ }
 {
     let z = slices::get(line, 0);
     let s = numbers::add(m, z.re, z.im);
@@ -68,7 +68,8 @@ pub fn pack(m: u32, part: u32, twice: u32, a: usize, fold: &[u32], line: &mut [u
     requires { ⌜ IsModulus m × (part < prime m) × (twice < prime m) ⌝ }
     requires { ⌜ (length (now fold) ≡ 2 * a) × Below (prime m) (now fold) ⌝ }
     requires { ⌜ length (now line) ≡ 2 * a ⌝ }
-    ensures { λ _. ⌜ now (line .exit) ≡ listOf a (packB3 (field m) (conj m) (i m) (real m (half m)) a (line3 (field m) (conj m) (i m) (real m (half m)) a (real m (res m part)) (valuesOf m (now (fold .entry))) (real m (res m twice)))) ⌝ }
+    ensures { λ _. ⌜ now (line .exit) ≡ listOf a
+        (onValues m packB3 a (onValues m line3 a (real m (res m part)) (valuesOf m (now (fold .entry))) (real m (res m twice)))) ⌝ }
 {
     let mut t = 0;
     while t < a {
@@ -91,7 +92,7 @@ fn finish_at(
     requires { ⌜ IsModulus m × Tangents m (now tan) × (odd < prime m) ⌝ }
     requires { ⌜ (step ≡ stride a) × (a * step ≡ 1440) × (s < a) ⌝ }
     requires { ⌜ (length (now fold) ≡ 2 * a) × Below (prime m) (now fold) ⌝ }
-    ensures { λ r. ⌜ r ≡ pairOf (finish3 (field m) (conj m) (i m) (real m (half m)) a (tangent m a (now (tan .entry))) (valuesOf m (now (fold .entry))) (real m (res m odd)) s) ⌝ }
+    ensures { λ r. ⌜ r ≡ pairOf (onValues m finish3 a (tangent m a (now (tan .entry))) (valuesOf m (now (fold .entry))) (real m (res m odd)) s) ⌝ }
 {
     let v = slices::get(fold, s);
     if s == 0 {
@@ -111,11 +112,18 @@ fn finish_at(
 }
 
 // One value of the short line of the inverse.
-fn slant_at(m: u32, tan: &[u32; 1440], step: usize, a: usize, line: &[u32], s: usize) -> Pair
+fn inverse_short_at(
+    m: u32,
+    tan: &[u32; 1440],
+    step: usize,
+    a: usize,
+    line: &[u32],
+    s: usize,
+) -> Pair
     requires { ⌜ IsModulus m × Tangents m (now tan) ⌝ }
     requires { ⌜ (step ≡ stride a) × (a * step ≡ 1440) × (s < a) ⌝ }
     requires { ⌜ (length (now line) ≡ 2 * a) × Below (prime m) (now line) ⌝ }
-    ensures { λ r. ⌜ r ≡ pairOf (slant (field m) (conj m) (i m) (real m (half m)) a (λ s. field m .neg (tangent m a (now (tan .entry)) s)) (valuesOf m (now (line .entry))) s) ⌝ }
+    ensures { λ r. ⌜ r ≡ pairOf (onValues m slant a (λ s. field m .neg (tangent m a (now (tan .entry)) s)) (valuesOf m (now (line .entry))) s) ⌝ }
 {
     let z = slices::get(line, s);
     if s == 0 {
@@ -136,7 +144,8 @@ fn slant_at(m: u32, tan: &[u32; 1440], step: usize, a: usize, line: &[u32], s: u
 fn angle(m: u32, tan: &[u32; 1440], step: usize, a: usize, s: usize) -> Pair
     requires { ⌜ IsModulus m × Tangents m (now tan) ⌝ }
     requires { ⌜ (step ≡ stride a) × (a * step ≡ 1440) × (0 < s) × (s < a) ⌝ }
-    ensures { λ r. ⌜ Small (prime m) r × (real m (res m (r .re)) ≡ cot (field m) (real m (half m)) a (tangent m a (now (tan .entry))) s) × (real m (res m (r .im)) ≡ csc (field m) (real m (half m)) a (tangent m a (now (tan .entry))) s) ⌝ }
+    ensures { λ r. ⌜ Small (prime m) r × (real m (res m (r .re)) ≡ cot (field m) (real m (half m)) a (tangent m a (now (tan .entry))) s)
+        × (real m (res m (r .im)) ≡ csc (field m) (real m (half m)) a (tangent m a (now (tan .entry))) s) ⌝ }
 {
     let near = tan[step * s];
     let far = tan[step * (a - s)];
@@ -150,7 +159,7 @@ fn angle(m: u32, tan: &[u32; 1440], step: usize, a: usize, s: usize) -> Pair
 fn pack_at(m: u32, part: u32, twice: u32, a: usize, fold: &[u32], t: usize) -> Pair
     requires { ⌜ IsModulus m × (part < prime m) × (twice < prime m) × (t < a) ⌝ }
     requires { ⌜ (length (now fold) ≡ 2 * a) × Below (prime m) (now fold) ⌝ }
-    ensures { λ r. ⌜ r ≡ pairOf (packB3 (field m) (conj m) (i m) (real m (half m)) a (line3 (field m) (conj m) (i m) (real m (half m)) a (real m (res m part)) (valuesOf m (now (fold .entry))) (real m (res m twice))) t) ⌝ }
+    ensures { λ r. ⌜ r ≡ pairOf (onValues m packB3 a (onValues m line3 a (real m (res m part)) (valuesOf m (now (fold .entry))) (real m (res m twice))) t) ⌝ }
 {
     let x = line_at(m, part, twice, a, fold, t);
     if t == 0 {
@@ -171,7 +180,7 @@ fn pack_at(m: u32, part: u32, twice: u32, a: usize, fold: &[u32], t: usize) -> P
 fn line_at(m: u32, part: u32, twice: u32, a: usize, fold: &[u32], j: usize) -> Pair
     requires { ⌜ IsModulus m × (part < prime m) × (twice < prime m) × (j < 2 * a) ⌝ }
     requires { ⌜ (length (now fold) ≡ 2 * a) × Below (prime m) (now fold) ⌝ }
-    ensures { λ r. ⌜ r ≡ pairOf (line3 (field m) (conj m) (i m) (real m (half m)) a (real m (res m part)) (valuesOf m (now (fold .entry))) (real m (res m twice)) j) ⌝ }
+    ensures { λ r. ⌜ r ≡ pairOf (onValues m line3 a (real m (res m part)) (valuesOf m (now (fold .entry))) (real m (res m twice)) j) ⌝ }
 {
     let y = slices::get(fold, j / 2);
     let c = numbers::conjugate(m, slices::get(fold, mate_of(a, (j + 1) / 2)));

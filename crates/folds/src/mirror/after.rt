@@ -1,21 +1,18 @@
-// Kinds 4 and 5, the symmetric and the antisymmetric line, after the transform of their fold: two places of it are joined to one of the line's.
+// Kinds 4 and 5, the symmetric and the antisymmetric line, after the transform of their short line: a place of the line's from two places of it.
 //
 // Let sigma be 1 for a symmetric line and -1 for an antisymmetric one, so that X(-t) = sigma X(t); the code is told it by the place `first`
-// of the first value that is stored, 0 or 1. The fold is Y(t) = X(2 t) + X(2 t + 1). With E and O the short transforms of the even and the
-// odd places, and e = e(s/N), the transform is X^(s) = E(s) + e O(s), and that of the fold Y^ = E + O. The rule of the line says
+// of the first value that is stored, 0 or 1. The short line is Y(t) = X(2 t) + X(2 t + 1). With E and O the short transforms of the even and the
+// odd places, and e = e(s/N), the transform is X^(s) = E(s) + e O(s), and that of the short line Y^ = E + O. The rule of the line says
 // sigma E(A - s) = E(s) and sigma O(A - s) = e^2 O(s), and the half tangent of e is tau with i tau = (e - 1)/(e + 1). So
 // (Y^(s) + sigma Y^(A - s)) + i tau (Y^(s) - sigma Y^(A - s)) = 2 E(s) + (1 + e^2) O(s) - (1 - e)^2 O(s) = 2 X^(s).
 use numbers::Pair;
 ghost use mathlib.Core.Path.{_≡_};
 ghost use Prim.Native.Nat.{_+_, _*_, _<_, _≤_};
 ghost use lib.ListN.{length};
-ghost use Rattle.numbers.specs.Prime.{prime, IsModulus};
-ghost use Rattle.numbers.specs.Value.{valueOf, pairOf, Small};
-ghost use Rattle.slices.specs.Pairs.{Below};
-ghost use Rattle.slices.specs.Values.{listOf};
-ghost use Rattle.fold_formulas.specs.Frame.{stride, Tangents};
-ghost use Rattle.folds.specs.Pairing.{stored};
-ghost use Rattle.folds.specs.Joining.{finished};
+ghost use Rattle.numbers.specs.Value.{prime, IsModulus, valueOf, pairOf, Small};
+ghost use Rattle.slices.specs.Pairs.{Below, listOf};
+ghost use Rattle.fold_formulas.specs.FoldFormulas.{stride, Tangents};
+ghost use Rattle.folds.specs.FoldedLines.{storedCount, finished};
 
 // The pass after the transform.
 pub fn finish(
@@ -29,9 +26,10 @@ pub fn finish(
 )
     requires { ⌜ IsModulus m × Tangents m (now tan) × (first ≤ 1) × Small (prime m) o ⌝ }
     requires { ⌜ (0 < a) × (a * stride a ≡ 1440) ⌝ }
-    requires { ⌜ (length (now fold) ≡ 2 * a) × (length (now line) ≡ 2 * stored a first) ⌝ }
+    requires { ⌜ (length (now fold) ≡ 2 * a) × (length (now line) ≡ 2 * storedCount a first) ⌝ }
     requires { ⌜ Below (prime m) (now fold) ⌝ }
-    ensures { λ _. ⌜ now (line .exit) ≡ listOf (stored a first) (λ p. finished m a first (now (tan .entry)) (now (fold .entry)) (valueOf m o) (first + p)) ⌝ }
+    ensures { λ _. ⌜ now (line .exit) ≡ listOf (storedCount a first)
+        (λ p. finished m a first (now (tan .entry)) (now (fold .entry)) (valueOf m o) (first + p)) ⌝ }
 {
     let step = 1440 / a;
     let n = a + 1 - 2 * first;
@@ -63,7 +61,7 @@ fn finish_at(
     requires { ⌜ Below (prime m) (now fold) ⌝ }
     ensures { λ r. ⌜ r ≡ pairOf (finished m a first (now (tan .entry)) (now (fold .entry)) (valueOf m o) s) ⌝ }
 {
-    // e = 1: the sum of the line, which is that of the fold.
+    // e = 1: the sum of the line, which is that of the short line.
     if s == 0 {
         return slices::get(fold, 0);
     }
@@ -75,5 +73,5 @@ fn finish_at(
     let tau = tan[step * s];
     let y = slices::get(fold, s);
     let z = slices::get(fold, a - s);
-    fold_formulas::pairs::joined(m, first, tau, y, z)
+    fold_formulas::mirror::finish_between(m, first, tau, y, z)
 }

@@ -1,33 +1,31 @@
-// Kinds 4 and 5, the symmetric and the antisymmetric line, before their transform: the whole line read from its stored half, folded, and
+// Kinds 4 and 5, the symmetric and the antisymmetric line, before their transform: the whole line read from its stored half, the short line, and
 // the sum of its odd places.
 //
 // Both are one piece of code, told apart by the place `first` of the first value that is stored: 0 for a symmetric line, which stores
-// the places 0 .. A, and 1 for an antisymmetric one, which is zero at 0 and A and stores 1 .. A - 1. The fold is Y(t) = X(2 t) + X(2 t + 1).
+// the places 0 .. A, and 1 for an antisymmetric one, which is zero at 0 and A and stores 1 .. A - 1. The short line is Y(t) = X(2 t) + X(2 t + 1).
 use numbers::Accumulator;
 use numbers::Pair;
 ghost use mathlib.Core.Path.{_≡_};
 ghost use Prim.Native.Nat.{ℕ, _+_, _-_, _*_, _<_, _≤_};
 ghost use lib.ListN.{length};
-ghost use Rattle.algebra.specs.Ring.{Ops, sum};
-ghost use Rattle.algebra.specs.Line.{unfold5};
-ghost use Rattle.algebra.specs.Folds.{paired};
-ghost use Rattle.numbers.specs.Prime.{prime, IsModulus};
-ghost use Rattle.numbers.specs.Value.{Value, field, conj, i, real, half, valueOf, pairOf};
-ghost use Rattle.numbers.specs.Accumulator.{Accumulated};
-ghost use Rattle.slices.specs.Pairs.{Below};
-ghost use Rattle.slices.specs.Values.{valuesOf, listOf};
-ghost use Rattle.folds.specs.Pairing.{stored, lineOf};
+ghost use Rattle.algebra.specs.ring.Ring.{Ops, sum};
+ghost use Rattle.algebra.specs.lines.Line.{unfold5};
+ghost use Rattle.algebra.specs.lines.Folds.{paired};
+ghost use Rattle.numbers.specs.Value.{prime, IsModulus, Value, field, half, valueOf, pairOf, onValues};
+ghost use Rattle.numbers.specs.Unreduced.{Accumulated};
+ghost use Rattle.slices.specs.Pairs.{Below, valuesOf, listOf};
+ghost use Rattle.folds.specs.FoldedLines.{storedCount, wholeLine};
 
-// The pass before the transform.
-pub fn pairing(m: u32, first: usize, a: usize, line: &[u32], fold: &mut [u32])
+// The short line.
+pub fn short_line(m: u32, first: usize, a: usize, line: &[u32], fold: &mut [u32])
     requires { ⌜ IsModulus m × (first ≤ 1) ⌝ }
-    requires { ⌜ (length (now line) ≡ 2 * stored a first) × (length (now fold) ≡ 2 * a) ⌝ }
+    requires { ⌜ (length (now line) ≡ 2 * storedCount a first) × (length (now fold) ≡ 2 * a) ⌝ }
     requires { ⌜ Below (prime m) (now line) ⌝ }
-    ensures { λ _. ⌜ now (fold .exit) ≡ listOf a (paired (field m) (lineOf m a first (now (line .entry)))) ⌝ }
+    ensures { λ _. ⌜ now (fold .exit) ≡ listOf a (paired (field m) (wholeLine m a first (now (line .entry)))) ⌝ }
 {
     let mut t = 0;
     while t < a {
-        slices::store(fold, t, pair_at(m, first, a, line, t));
+        slices::store(fold, t, short_at(m, first, a, line, t));
         t += 1;
     }
 }
@@ -35,9 +33,9 @@ pub fn pairing(m: u32, first: usize, a: usize, line: &[u32], fold: &mut [u32])
 // The sum of the line's odd places. In an antisymmetric line they cancel in pairs, as the mirror image of an odd place is odd.
 pub fn odd_sum(m: u32, first: usize, a: usize, line: &[u32]) -> Pair
     requires { ⌜ IsModulus m × (first ≤ 1) × (0 < a) × (a ≤ 1440) ⌝ }
-    requires { ⌜ length (now line) ≡ 2 * stored a first ⌝ }
+    requires { ⌜ length (now line) ≡ 2 * storedCount a first ⌝ }
     requires { ⌜ Below (prime m) (now line) ⌝ }
-    ensures { λ r. ⌜ r ≡ pairOf (sum (field m) a (λ t. lineOf m a first (now (line .entry)) (2 * t + 1))) ⌝ }
+    ensures { λ r. ⌜ r ≡ pairOf (sum (field m) a (λ t. wholeLine m a first (now (line .entry)) (2 * t + 1))) ⌝ }
 {
     if first == 1 {
         return Pair { re: 0, im: 0 };
@@ -51,12 +49,12 @@ pub fn odd_sum(m: u32, first: usize, a: usize, line: &[u32]) -> Pair
     numbers::reduced(m, s)
 }
 
-// The fold at place t: X(2 t) + X(2 t + 1).
-fn pair_at(m: u32, first: usize, a: usize, line: &[u32], t: usize) -> Pair
+// The short line at place t: X(2 t) + X(2 t + 1).
+fn short_at(m: u32, first: usize, a: usize, line: &[u32], t: usize) -> Pair
     requires { ⌜ IsModulus m × (first ≤ 1) × (t < a) ⌝ }
-    requires { ⌜ length (now line) ≡ 2 * stored a first ⌝ }
+    requires { ⌜ length (now line) ≡ 2 * storedCount a first ⌝ }
     requires { ⌜ Below (prime m) (now line) ⌝ }
-    ensures { λ r. ⌜ r ≡ pairOf (paired (field m) (lineOf m a first (now (line .entry))) t) ⌝ }
+    ensures { λ r. ⌜ r ≡ pairOf (paired (field m) (wholeLine m a first (now (line .entry))) t) ⌝ }
 {
     let even = value_at(m, first, a, line, 2 * t);
     let odd = value_at(m, first, a, line, 2 * t + 1);
@@ -66,9 +64,9 @@ fn pair_at(m: u32, first: usize, a: usize, line: &[u32], t: usize) -> Pair
 // The value at place j of the whole line.
 fn value_at(m: u32, first: usize, a: usize, line: &[u32], j: usize) -> Pair
     requires { ⌜ IsModulus m × (first ≤ 1) × (0 < a) × (j < 2 * a) ⌝ }
-    requires { ⌜ length (now line) ≡ 2 * stored a first ⌝ }
+    requires { ⌜ length (now line) ≡ 2 * storedCount a first ⌝ }
     requires { ⌜ Below (prime m) (now line) ⌝ }
-    ensures { λ r. ⌜ r ≡ pairOf (lineOf m a first (now (line .entry)) j) ⌝ }
+    ensures { λ r. ⌜ r ≡ pairOf (wholeLine m a first (now (line .entry)) j) ⌝ }
 {
     if first == 0 {
         // the second half of a symmetric line is the first read backwards
@@ -87,7 +85,7 @@ fn antisymmetric_at(m: u32, a: usize, line: &[u32], j: usize) -> Pair
     requires { ⌜ IsModulus m ⌝ }
     requires { ⌜ (0 < a) × (j < 2 * a) × (length (now line) ≡ 2 * (a - 1)) ⌝ }
     requires { ⌜ Below (prime m) (now line) ⌝ }
-    ensures { λ r. ⌜ r ≡ pairOf (unfold5 (field m) (conj m) (i m) (real m (half m)) a (λ t. valuesOf m (now (line .entry)) (t - 1)) j) ⌝ }
+    ensures { λ r. ⌜ r ≡ pairOf (onValues m unfold5 a (λ t. valuesOf m (now (line .entry)) (t - 1)) j) ⌝ }
 {
     if j == 0 {
         return Pair { re: 0, im: 0 };

@@ -1,13 +1,13 @@
 // The tests of an analysis.
 use crate::check::map;
-use header::tests;
+use crate::check::tests;
 use refusals::Checked;
 use refusals::Refusal;
 ghost use mathlib.Core.Path.{_≡_};
 ghost use mathlib.Core.Bool.{true};
-ghost use Rattle.refusals.specs.Tests.{first, checkedNumber};
+ghost use Rattle.refusals.specs.Refusals.{first, checkedNumber};
 ghost use Rattle.cell.specs.Operations.{Sizes};
-ghost use Rattle.header.specs.Tests.{analysisTestsOf};
+ghost use Rattle.job.specs.Tests.{analysisTestsOf};
 
 // 25, 22, 6, 13, then the map's.
 pub fn check_analysis(

@@ -1,13 +1,13 @@
 // The tests of a factor's reading.
+use crate::check::tests;
 use cell::operations::Index;
-use header::tests;
 use refusals::Checked;
 use refusals::Refusal;
 ghost use mathlib.Core.Path.{_≡_};
 ghost use mathlib.Core.Bool.{true};
-ghost use Rattle.refusals.specs.Tests.{first, checkedNumber};
+ghost use Rattle.refusals.specs.Refusals.{first, checkedNumber};
 ghost use Rattle.cell.specs.Operations.{tripleOf, Sizes};
-ghost use Rattle.job.specs.ReadingTests.{factorTestsOf};
+ghost use Rattle.job.specs.Tests.{factorTestsOf};
 
 // 25, 23, 10, 6, 7: the last of the numbers that the factor is read from alone.
 pub fn check_factor(

@@ -1,13 +1,13 @@
 // The tests of an opening.
 use crate::check::map;
+use crate::check::tests;
 use header::bytes;
-use header::tests;
 use refusals::Checked;
 use refusals::Refusal;
 ghost use mathlib.Core.Path.{_≡_};
-ghost use Rattle.refusals.specs.Tests.{first, checkedNumber};
+ghost use Rattle.refusals.specs.Refusals.{first, checkedNumber};
 ghost use Rattle.cell.specs.Operations.{Sizes};
-ghost use Rattle.header.specs.Tests.{volumeTests, openTests};
+ghost use Rattle.job.specs.Tests.{volumeTests, openTests};
 
 // 6, and for a map 7, 14.
 fn check_volume(group: u32, kind: u32, n1: u32, n2: u32, n3: u32, volume: &[u32]) -> Checked

@@ -1,27 +1,24 @@
 // The tests of a record at the images of its index: whether it agrees with itself, and whether its orbit is free; and the refusals
 // that they lead to, in the paper's order.
 //
-// Each test is one loop over the operations of the orbit, with a function for what one operation asks. They write nothing: the
-// checks of a call stand on them, and the images written (`recording`) do not.
+// Each test is one loop over the operations of the orbit, with a function for what one operation asks. They write nothing.
+use crate::check::tests;
 use cell::operations;
 use cell::operations::Index;
 use cell::operations::Operation;
-use header::tests;
 use numbers::Pair;
 use refusals::Checked;
 use refusals::Refusal;
 ghost use mathlib.Core.Path.{_≡_};
 ghost use lib.ListN.{length};
-ghost use Rattle.algebra.specs.Cell.{sameJ, im, imp};
-ghost use Rattle.algebra.specs.CellTests.{imply};
-ghost use Rattle.numbers.specs.Prime.{prime, IsModulus};
-ghost use Rattle.numbers.specs.Value.{field, conj, valueOf, Small};
-ghost use Rattle.refusals.specs.Tests.{first, checkedNumber};
+ghost use Rattle.algebra.specs.cells.Cell.{sameJ, imageOf, impliedValue};
+ghost use Rattle.algebra.specs.cells.CellTests.{imply};
+ghost use Rattle.numbers.specs.Value.{prime, IsModulus, field, conj, valueOf, Small};
+ghost use Rattle.refusals.specs.Refusals.{first, checkedNumber};
 ghost use Rattle.cell.specs.Volume.{groupOf, volumeLength};
 ghost use Rattle.cell.specs.Consistency.{sameValue, agreesWithItself, orbitFree};
 ghost use Rattle.cell.specs.Operations.{halvesOf, tripleOf, symOf, Length, Sizes, Within};
-ghost use Rattle.header.specs.Tests.{p};
-ghost use Rattle.job.specs.OrbitTests.{orbitTests};
+ghost use Rattle.job.specs.Tests.{p, orbitTests};
 
 // 12, 6, 24: what the value implies at the images of its index, which is inside the cell; the value's numbers are residues.
 pub fn check_orbit(
@@ -69,7 +66,7 @@ fn agrees(m: u32, group: u32, n1: u32, n2: u32, n3: u32, j: Index, x: Pair) -> b
 fn agrees_under(m: u32, o: Operation, n1: u32, n2: u32, n3: u32, j: Index, x: Pair) -> bool
     requires { ⌜ IsModulus m × Small (prime m) x ⌝ }
     requires { ⌜ Length n1 × Length n2 × Length n3 × Within n1 n2 n3 j ⌝ }
-    ensures { λ r. ⌜ r ≡ imply (sameJ (im (halvesOf n1 n2 n3) (symOf o) (tripleOf j)) (tripleOf j)) (sameValue (imp (field m) (conj m) (symOf o) (tripleOf j) (valueOf m x)) (valueOf m x)) ⌝ }
+    ensures { λ r. ⌜ r ≡ imply (sameJ (imageOf (halvesOf n1 n2 n3) (symOf o) (tripleOf j)) (tripleOf j)) (sameValue (impliedValue (field m) (conj m) (symOf o) (tripleOf j) (valueOf m x)) (valueOf m x)) ⌝ }
 {
     if same_index(operations::image(o, n1, n2, n3, j), j) {
         volume::stored::same(operations::implied(m, o, j, x), x)

@@ -1,14 +1,14 @@
 // The tests of a point's reading.
+use crate::check::tests;
 use cell::operations::Point;
 use cell::places;
-use header::tests;
 use refusals::Checked;
 use refusals::Refusal;
 ghost use mathlib.Core.Path.{_≡_};
 ghost use mathlib.Core.Bool.{true};
-ghost use Rattle.refusals.specs.Tests.{first, checkedNumber};
+ghost use Rattle.refusals.specs.Refusals.{first, checkedNumber};
 ghost use Rattle.cell.specs.Operations.{pointOf, Sizes};
-ghost use Rattle.job.specs.ReadingTests.{pointTestsOf};
+ghost use Rattle.job.specs.Tests.{pointTestsOf};
 
 // 25, 22, 10, 6, 7: the last of the point's number alone.
 pub fn check_point(

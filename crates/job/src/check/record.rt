@@ -1,18 +1,17 @@
 // The tests of a record: the check answers the first refusal of the paper's order, or that there is none.
 //
-// It takes the job's numbers, an index, a value and the lent volume, and works nothing. Crate job puts a job's numbers to it.
+// It takes the job's numbers, an index, a value and the lent volume, and works nothing.
+use crate::check::tests;
 use cell::operations::Index;
-use header::tests;
 use numbers::Pair;
 use refusals::Checked;
 use refusals::Refusal;
 ghost use mathlib.Core.Path.{_≡_};
 ghost use mathlib.Core.Bool.{true, _&&_};
 ghost use lib.Dec.{ltb, eqb};
-ghost use Rattle.refusals.specs.Tests.{first, checkedNumber};
+ghost use Rattle.refusals.specs.Refusals.{first, checkedNumber};
 ghost use Rattle.cell.specs.Operations.{tripleOf, Sizes};
-ghost use Rattle.header.specs.Tests.{p};
-ghost use Rattle.job.specs.RecordTests.{recordTestsOf};
+ghost use Rattle.job.specs.Tests.{p, recordTestsOf};
 
 // Both numbers of a value are below the prime.
 fn residues(a: u32, b: u32) -> bool

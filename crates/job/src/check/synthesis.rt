@@ -1,15 +1,15 @@
 // The tests of a synthesis.
-use header::tests;
+use crate::check::tests;
 use refusals::Checked;
 use refusals::Refusal;
 use volume::consistent::factor_test;
 ghost use mathlib.Core.Path.{_≡_};
 ghost use mathlib.Core.Bool.{true};
 ghost use lib.ListN.{length};
-ghost use Rattle.refusals.specs.Tests.{first, checkedNumber};
+ghost use Rattle.refusals.specs.Refusals.{first, checkedNumber};
 ghost use Rattle.cell.specs.Operations.{halvesOf, Sizes};
 ghost use Rattle.cell.specs.Volume.{groupOf, volumeLength};
-ghost use Rattle.header.specs.Tests.{factorsTests, synthesisTestsOf};
+ghost use Rattle.job.specs.Tests.{factorsTests, synthesisTestsOf};
 
 // 7, 14: a volume of the right length is held as factors.
 fn check_factors(group: u32, n1: u32, n2: u32, n3: u32, volume: &[u32]) -> Checked

@@ -8,7 +8,7 @@ use lib.ListN.{length, drop}
 use lib.Dec.{eqb}
 use denote.Ref.{now}
 use borrow.Author.Tests.{ne-eqb}
-use Rattle.lengths.specs.Factors.{product}
+use Rattle.lengths.specs.Lengths.{product}
 use Rattle.lengths.proofs.Factors.{factor-at, product-next, product-least, product-done}
 use Rattle.lengths.proofs.has_product.Statement.{statement}
 use Rattle.lengths.proofs.has_product.Tie as tie

@@ -5,7 +5,7 @@ use mathlib.Core.Path.{_≡_, _∙_, sym, ap}
 use Prim.Native.Nat.{ℕ, _+_, _*_, _-_, _≤_, _<_}
 use lib.ListN.{length, drop}
 use denote.Ref.{now}
-use Rattle.lengths.specs.Factors.{octal}
+use Rattle.lengths.specs.Lengths.{octal}
 use Rattle.lengths.proofs.Factors.{octal-past, octal-back, octal-small}
 use Rattle.lengths.proofs.packed.Statement.{statement}
 use Rattle.lengths.proofs.packed.Tie as tie

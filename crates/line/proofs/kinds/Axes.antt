@@ -4,20 +4,20 @@ use mathlib.Core.List.{List, [], _∷_}
 use Prim.Native.Nat.{ℕ, _*_, _/_, _<_}
 use native.Mathlib.Nat as N
 use native.Mathlib.Omega.{arith}
-use Rattle.algebra.specs.Ring.{Ops, pow}
-use Rattle.algebra.specs.Axis.{AxisLaws}
-use Rattle.algebra.proofs.Solver.{ring, quote}
-use Rattle.algebra.proofs.StarRules.{quote-star}
-use Rattle.algebra.proofs.Transform.{pow-mul}
-use Rattle.algebra.proofs.Conj.{conj-pow}
-use Rattle.numbers.specs.Prime.{IsModulus}
-use Rattle.numbers.specs.Value.{Value, field, conj, i, real, half, part}
-use Rattle.roots.specs.Root.{root, tableRoot, TangentLaws, BackwardTangents}
+use Rattle.algebra.specs.ring.Ring.{Ops, pow}
+use Rattle.algebra.specs.fourier.Axis.{AxisLaws}
+use Rattle.algebra.proofs.ring.Solver.{ring, quote}
+use Rattle.algebra.proofs.ring.StarRules.{quote-star}
+use Rattle.algebra.proofs.fourier.Transform.{pow-mul}
+use Rattle.algebra.proofs.ring.Conj.{conj-pow}
+use Rattle.numbers.specs.Value.{IsModulus, Value, field, conj, i, half, part, onValues}
+use Rattle.roots.specs.Root.{root, tableRoot, rootOf, axis}
+use Rattle.roots.specs.TableLaws.{TangentLaws, BackwardTangents}
 use Rattle.numbers.proofs.Values.{field-ring, field-star, conj-real}
 use Rattle.prime_shape.proofs.Lines as Lines
 use Rattle.roots.proofs.Roots.{shape}
-use Rattle.fold_formulas.specs.Frame.{lineRoot, tangent}
-use Rattle.line.specs.Transform.{rootOf, axisOf}
+use Rattle.lengths.specs.Admitted.{AdmittedLength}
+use Rattle.fold_formulas.specs.FoldFormulas.{lineRoot, tangent}
 
 -- the law of a half tangent t of e goes over to the conjugate, whose half tangent is -t
 module _ (m : ℕ) where
@@ -46,7 +46,6 @@ module _ (m : ℕ) (is : IsModulus m) (A : ℕ) (pos : 0 < A) (divides : A * (14
   w = pow (field m) (root m) (1440 / A)
 
   root-is : rootOf m (2 * A) ≡ w
-  unfolding rootOf
   root-is = Lines.root-is (shape m) A pos divides
 
   below : (s : ℕ) → s < A → d * s < 1440
@@ -63,23 +62,23 @@ module _ (m : ℕ) (is : IsModulus m) (A : ℕ) (pos : 0 < A) (divides : A * (14
   abbrev HalfTangents : (ℕ → Value m) → Type 0
   HalfTangents tau = (s : ℕ) → 0 < s → s < A → (𝟙 ⊕ ⊖ (i m ⊗ tau s)) ⊗ (𝟙 ⊕ pow (field m) w s) ≡ 𝟙 ⊕ 𝟙
 
-  axis-by : (tau : ℕ → Value m) → HalfTangents tau → AxisLaws (field m) (conj m) (i m) (real m (half m)) (axisOf m A) tau
-  unfolding rootOf half part
+  axis-by : (tau : ℕ → Value m) → HalfTangents tau → onValues m AxisLaws (axis m A) tau
+  unfolding half part
   axis-by tau h = Lines.axis-by (shape m) A pos divides tau (λ s o l. rw root-is (h s o l))
 
   -- the half tangents that w itself gives, for what is said of a length and of no table
   pub own : ℕ → Value m
   own = Lines.own (shape m) A pos divides
 
-  pub axis-own : AxisLaws (field m) (conj m) (i m) (real m (half m)) (axisOf m A) own
-  unfolding own rootOf half part
+  pub axis-own : onValues m AxisLaws (axis m A) own
+  unfolding own half part
   axis-own = Lines.axis-by (shape m) A pos divides (Lines.own (shape m) A pos divides) (Lines.own-tangents (shape m) A pos divides)
 
   module _ {tan : List ℕ} where
-    pub axis-forward : TangentLaws m tan → AxisLaws (field m) (conj m) (i m) (real m (half m)) (axisOf m A) (tangent m A tan)
+    pub axis-forward : TangentLaws m tan → onValues m AxisLaws (axis m A) (tangent m A tan)
     axis-forward h = axis-by (tangent m A tan) (λ s p l. rw (← power s) (h .law (d * s) (below s l)))
 
-    pub axis-backward : BackwardTangents m tan → AxisLaws (field m) (conj m) (i m) (real m (half m)) (axisOf m A) (λ s. ⊖ tangent m A tan s)
+    pub axis-backward : BackwardTangents m tan → onValues m AxisLaws (axis m A) (λ s. ⊖ tangent m A tan s)
     axis-backward h =
         axis-by (λ s. ⊖ tangent m A tan s)
         (λ s p l. ap (λ y. (𝟙 ⊕ ⊖ (i m ⊗ ⊖ tangent m A tan s)) ⊗ (𝟙 ⊕ y)) (sym (conj-power s)) ∙ conj-law m (tangent m A tan s) _ (conj-real m _) (h .law (d * s) (below s l)))
@@ -95,3 +94,7 @@ module _ (m : ℕ) (is : IsModulus m) (A : ℕ) (pos : 0 < A) (divides : A * (14
         ∙ ap (λ y. pow (field m) (conj m y) d) e
         ∙ ap (λ y. pow (field m) y d) (field-star m .conj-conj (root m))
         ∙ sym root-is
+
+-- of an admitted length n = 2 A
+pub axis-laws : (m : ℕ) (is : IsModulus m) {n : ℕ} (h : AdmittedLength n) → onValues m AxisLaws (axis m (n / 2)) (own m is (n / 2) (h .positive) (h .half-turns))
+axis-laws m is h = axis-own m is _ (h .positive) (h .half-turns)

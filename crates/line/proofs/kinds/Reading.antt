@@ -3,14 +3,15 @@ use mathlib.Core.Path.{_≡_, refl, sym, _∙_, ap}
 use Prim.Native.Nat.{ℕ, zero, suc, _+_, _*_, _-_, _<_}
 use native.Mathlib.Omega.{arith}
 use native.Mathlib.Decide.{ℕ-discrete, decLt}
-use Rattle.algebra.specs.Ring.{Ops, CRing, Star}
-use Rattle.algebra.specs.Fourier.{dft}
-use Rattle.algebra.specs.Axis.{Axis, AxisLaws}
-use Rattle.algebra.specs.Line.{re, im, unit, unfold-by, weave, unfoldA3}
-use Rattle.algebra.specs.Kinds.{Kind, Kind.plain, Kind.hermitian, Kind.antihermitian, Kind.alternating, Kind.symmetric, Kind.antisymmetric, slots, unfoldBefore, unfoldAfter, forward, inverse}
-use Rattle.algebra.proofs.Transform.{dft-cong}
-use Rattle.algebra.proofs.Rules.{pack-before-cong, pack-after-cong}
-use Rattle.algebra.proofs.Unfold.{three-lt, three-eq, three-gt, unfold-zero, unfold-low, unfold-middle, unfold-high, weave-all, weave-even, weave-odd}
+use Rattle.algebra.specs.ring.Ring.{Ops}
+use Rattle.algebra.specs.ring.RingLaws.{CRing, Star}
+use Rattle.algebra.specs.fourier.Fourier.{dft}
+use Rattle.algebra.specs.fourier.Axis.{Axis, AxisLaws}
+use Rattle.algebra.specs.lines.Line.{re, im, unit, unfold-by, weave, unfoldA3}
+use Rattle.algebra.specs.lines.Kinds.{Kind, Kind.plain, Kind.hermitian, Kind.antihermitian, Kind.alternating, Kind.symmetric, Kind.antisymmetric, slots, unfoldBefore, unfoldAfter, forward, inverse}
+use Rattle.algebra.proofs.fourier.Transform.{dft-cong}
+use Rattle.algebra.proofs.lines.Rules.{pack-before-cong, pack-after-cong}
+use Rattle.algebra.proofs.lines.Unfold.{three-lt, three-eq, three-gt, unfold-zero, unfold-low, unfold-middle, unfold-high, weave-all, weave-even, weave-odd}
 
 module _ {R : Type 0} (A : ℕ) (pos : 0 < A) where
   unfold-cong : {a b c d : R} (f : ℕ → R → R) (p q : ℕ → R) → a ≡ b → c ≡ d → ((t : ℕ) → 0 < t → t < A → p t ≡ q t) → (t : ℕ) → t < 2 * A → unfold-by A a c f p t ≡ unfold-by A b d f q t

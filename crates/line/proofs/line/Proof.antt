@@ -6,13 +6,11 @@ use mathlib.Core.List.{List, _++_}
 use Prim.Native.Nat.{ℕ}
 use lib.ListN.{length, replicate}
 use denote.Ref.{now}
-use Rattle.numbers.specs.Prime.{prime}
+use Rattle.numbers.specs.Value.{prime}
 use Rattle.numbers.proofs.Primes.{prime-pos}
-use Rattle.lengths.specs.Factors.{octal}
-use Rattle.refusals.specs.Tests.{first, checkedNumber}
-use Rattle.lengths.specs.Lengths.{cleared}
-use Rattle.line.specs.LineTests.{lineTests}
-use Rattle.line.specs.Accepted.{Accepted}
+use Rattle.lengths.specs.Lengths.{octal, cleared}
+use Rattle.refusals.specs.Refusals.{first, checkedNumber}
+use Rattle.line.specs.Line.{lineTests, Accepted}
 use Rattle.line.proofs.Accepted.{accepted-factors, accepted-line}
 use Rattle.line.proofs.Outcome.{refused-outcome, transformed-outcome}
 use Rattle.line.proofs.line.Statement.{statement}

@@ -1,8 +1,8 @@
 -- Minus i times.
 use borrow.Author.Needs.{needs}
 use mathlib.Core.Path.{sym, _∙_, ap}
-use Rattle.algebra.specs.Ring.{Ops}
-use Rattle.algebra.proofs.Laws.{neg-mul}
+use Rattle.algebra.specs.ring.Ring.{Ops}
+use Rattle.algebra.proofs.ring.Laws.{neg-mul}
 use Rattle.numbers.specs.Value.{field, i, valueOf, pairOf}
 use Rattle.numbers.proofs.Values.{small-by, value-by, field-ring}
 use Rattle.numbers.proofs.over_i.Statement.{statement}

@@ -4,22 +4,21 @@ use mathlib.Core.List.{[], _∷_}
 use Prim.Native.Nat.{ℕ, _+_, _*_, _-_, _≤_, _<_}
 use native.Mathlib.Nat.{mul-le-mul}
 use native.Mathlib.Omega.{arith}
-use Rattle.algebra.specs.Ring.{Ops, CRing}
-use Rattle.algebra.specs.Residue.{residue, residues}
-use Rattle.algebra.specs.Gauss.{gauss}
-use Rattle.algebra.proofs.Laws.{along, neg-unique}
-use Rattle.algebra.proofs.Solver.{ring, quote}
-use Rattle.algebra.proofs.ResidueRing.{val-path, residue-add, residue-mul}
+use Rattle.algebra.specs.ring.Ring.{Ops}
+use Rattle.algebra.specs.ring.RingLaws.{CRing}
+use Rattle.algebra.specs.ring.Residue.{residue, residues}
+use Rattle.algebra.specs.ring.Gauss.{gauss}
+use Rattle.algebra.proofs.ring.Laws.{along, neg-unique}
+use Rattle.algebra.proofs.ring.Solver.{ring, quote}
+use Rattle.algebra.proofs.ring.ResidueRing.{val-path, residue-add, residue-mul}
 use Rattle.numbers.specs.declared.Pair.{Pair}
 use Rattle.numbers.specs.declared.Accumulator.{Accumulator}
-use Rattle.numbers.specs.Prime.{prime, IsModulus}
-use Rattle.numbers.specs.Value.{Value, field, i, res, value, real, valueOf}
+use Rattle.numbers.specs.Value.{prime, IsModulus, Value, field, i, res, value, real, valueOf}
 use Rattle.numbers.specs.Value as Value
-use Rattle.numbers.specs.Accumulator.{Accumulated}
+use Rattle.numbers.specs.Unreduced.{Accumulated, meant, Room}
 use Rattle.numbers.proofs.Residues.{res-ring}
 use Rattle.numbers.proofs.Values.{field-ring, value-path, value-add, i-times, real-times, whole-products}
 use Rattle.numbers.proofs.ModulusCases.{by-modulus}
-use Rattle.numbers.specs.Unreduced.{meant, Room}
 
 -- ---- how large they are
 

@@ -2,8 +2,7 @@
 use mathlib.Core.Path.{_≡_, subst, _∙_}
 use mathlib.Core.List.{[], _∷_, _++_}
 use native.Mathlib.Omega.{arith}
-use Rattle.output.specs.Decimal.{decimal}
-use Rattle.output.specs.Writing.{Ends}
+use Rattle.output.specs.Output.{decimal, Ends}
 use Rattle.output.proofs.Decimals.{decimal-one, decimal-more}
 use Rattle.output.proofs.Writing.{wrote-append, wrote-length, ends-left, ends-right}
 use Prim.Native.Nat.{ℕ, _+_, _/_, _%_, _<_, _≤_}

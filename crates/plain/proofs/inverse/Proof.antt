@@ -3,7 +3,7 @@ use borrow.Author.Needs.{needs}
 use Prim.Native.Nat.{_/_}
 use Rattle.lengths.proofs.stage.Divisors.{divisor-pos, divisor-le}
 use Rattle.slices.proofs.Values.{length-of, below-of}
-use Rattle.plain.proofs.scaling.Dividing.{divided-values}
+use Rattle.plain.proofs.scale.Dividing.{divided-values}
 use Rattle.plain.proofs.inverse.Statement.{statement}
 use Rattle.plain.proofs.inverse.Tie as tie
 

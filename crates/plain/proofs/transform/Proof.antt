@@ -18,45 +18,45 @@ St l = l .before .before .before
 loop-holds : tie.Need-loop-holds Inv-loop μ-loop
 loop-holds c = let s = c .before .before in driving-start _ (s .args .factors) (s .pre .1 .1 .0 .0) (s .pre .1 .1 .0 .1) (s .pre .1 .1 .1)
 
-step-requires : tie.Need-step-requires Inv-loop μ-loop
-step-requires c κs =
+next-step-requires : tie.Need-next-step-requires Inv-loop μ-loop
+next-step-requires c κs =
     let l = c .before .before .before .before in
     let s = St l in
     (s .pre .0, step-asks (s .pre .1 .0 .0) (l .loop .inv .stands) (omega arith) (s .pre .1 .0 .1) (l .loop .inv .work-long))
 
--- where the turn of a first step began
-abbrev Turn : tie.After-step Inv-loop μ-loop → tie.At-loop Inv-loop μ-loop
-Turn t = t .before .before .before .before .before
+-- where the round of a first step began
+abbrev Round : tie.After-next-step Inv-loop μ-loop → tie.At-loop Inv-loop μ-loop
+Round t = t .before .before .before .before .before
 
-step-requires-2 : tie.Need-step-requires-2 Inv-loop μ-loop
-step-requires-2 c κs =
+next-step-requires-2 : tie.Need-next-step-requires-2 Inv-loop μ-loop
+next-step-requires-2 c κs =
     let t = c .before .before .before .before in
-    let l = Turn t in
+    let l = Round t in
     let s = St l in
     let list = s .pre .1 .0 .0 in
-    let e = t .step .ensures .0 in
-    let h = standing-next list (l .loop .inv .stands) (omega arith) e (t .step .ensures .1) in
+    let e = t .next-step .ensures .0 in
+    let h = standing-next list (l .loop .inv .stands) (omega arith) e (t .next-step .ensures .1) in
     (s .pre .0, step-asks list h (omega (arith, after-left (l .loop .at) e)) (s .pre .1 .0 .1) (standing-long list (l .loop .inv .stands)))
 
 loop-less : tie.Need-loop-less Inv-loop μ-loop
 loop-less c =
     let u = c .before .before in
     let t = u .before .before .before .before .before in
-    omega (arith, after-left (Turn t .loop .at) (t .step .ensures .0), after-left (t .step .result) (u .step2 .ensures .0))
+    omega (arith, after-left (Round t .loop .at) (t .next-step .ensures .0), after-left (t .next-step .result) (u .next-step2 .ensures .0))
 
 loop-again : tie.Need-loop-again Inv-loop μ-loop
 loop-again c =
     let u = c .before .before in
     let t = u .before .before .before .before .before in
-    let l = Turn t in
+    let l = Round t in
     let s = St l in
     let list = s .pre .1 .0 .0 in
-    let e = t .step .ensures .0 in
-    let h = standing-next list (l .loop .inv .stands) (omega arith) e (t .step .ensures .1) in
-    driving-next (s .args .line .now) (s .args .work .now) list h (standing-next list h (omega (arith, after-left (l .loop .at) e)) (u .step2 .ensures .0) (u .step2 .ensures .1)) (u .step2 .ensures .0)
+    let e = t .next-step .ensures .0 in
+    let h = standing-next list (l .loop .inv .stands) (omega arith) e (t .next-step .ensures .1) in
+    driving-next (s .args .line .now) (s .args .work .now) list h (standing-next list h (omega (arith, after-left (l .loop .at) e)) (u .next-step2 .ensures .0) (u .next-step2 .ensures .1)) (u .next-step2 .ensures .0)
 
-step-requires-3 : tie.Need-step-requires-3 Inv-loop μ-loop
-step-requires-3 c κs =
+next-step-requires-3 : tie.Need-next-step-requires-3 Inv-loop μ-loop
+next-step-requires-3 c κs =
     let l = c .before .before .before .before .before .before in
     let s = St l in
     (s .pre .0, step-asks (s .pre .1 .0 .0) (l .loop .inv .stands) (omega arith) (s .pre .1 .0 .1) (l .loop .inv .work-long))
@@ -85,8 +85,8 @@ returns c =
     let l = t .before .before .before .before .before .before .before in
     let s = St l in
     let list = s .pre .1 .0 .0 in
-    let e = t .step3 .ensures .0 in
-    let h = standing-next list (l .loop .inv .stands) (omega arith) e (t .step3 .ensures .1) in
+    let e = t .next-step3 .ensures .0 in
+    let h = standing-next list (l .loop .inv .stands) (omega arith) e (t .next-step3 .ensures .1) in
     driving-last (s .args .line .now) (s .args .work .now) (l .loop .line) list h (omega (arith, after-left (l .loop .at) e, t .before .before .before .before .before .if1 .left)) (standing-long list (l .loop .inv .stands)) (k .copy .ensures)
 
 same-length-3 : tie.Need-same-length-3 Inv-loop μ-loop
@@ -108,11 +108,11 @@ transform-spec =
     Inv-loop
     μ-loop
     loop-holds
-    step-requires
-    step-requires-2
+    next-step-requires
+    next-step-requires-2
     loop-less
     loop-again
-    step-requires-3
+    next-step-requires-3
     copy-requires
     same-length
     same-length-2

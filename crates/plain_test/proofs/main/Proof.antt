@@ -2,7 +2,7 @@
 use mathlib.Core.Path.{refl}
 use mathlib.Core.List.{[], _∷_}
 use borrow.Author.Needs.{needs}
-use Rattle.lengths.specs.Factors.{octal, product}
+use Rattle.lengths.specs.Lengths.{octal, product}
 use Rattle.plain_test.proofs.Lines.{twoToFive, listed}
 use Rattle.plain_test.proofs.main.Statement.{statement}
 use Rattle.plain_test.proofs.main.Tie as tie

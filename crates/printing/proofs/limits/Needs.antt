@@ -3,13 +3,12 @@ use mathlib.Core.Path.{_≡_, refl, _∙_}
 use Prim.Native.Nat.{ℕ, zero, suc, _+_, _*_, _/_, _<_, _≤_}
 use native.Mathlib.Nat.{mul-le-mul}
 use native.Mathlib.Omega.{arith}
-use Rattle.algebra.specs.Cell.{planes}
+use Rattle.algebra.specs.cells.Cell.{planes}
 use Rattle.cell.specs.Operations.{halvesOf}
 use Rattle.cell.specs.Volume.{groupOf, volumeLength}
 use mathlib.Core.List.{List}
 use Rattle.header.specs.Header.{needed}
-use Rattle.file_format.specs.Numbers.{byteAt, twoBytes}
-use Rattle.file_format.specs.HeaderIn.{headerIn}
+use Rattle.file_format.specs.Format.{byteAt, twoBytes, headerIn}
 
 -- the planes of each group, and of a number that no group has
 pub planes-half : {n : ℕ} (c : ℕ) → n ≡ 1 → c ≡ planes (groupOf n) c

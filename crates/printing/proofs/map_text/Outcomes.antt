@@ -9,15 +9,14 @@ use lib.ListN.{length}
 use borrow.Author.Tests.{not-false, eqb-true, ltb-false, eq-eqb, lt-ltb, le-ltb}
 use Rattle.refusals.specs.declared.Refusal.{Refusal}
 use Rattle.refusals.specs.declared.Refusal.the-variants.{OutputTooShort}
-use Rattle.refusals.specs.Refusals.{numberOf}
-use Rattle.refusals.specs.Tests.{first, accepted}
+use Rattle.refusals.specs.Refusals.{numberOf, first, accepted}
 use Rattle.refusals.proofs.Tests.{passed, passes, fails}
 use Rattle.cell.specs.Volume.{volumeLength}
 use Rattle.job.specs.declared.Job.{Job}
-use Rattle.job.specs.Header.{groupIn, halves, mapHeld}
+use Rattle.job.specs.Job.{groupIn, halves, mapHeld}
 use Rattle.printing.specs.declared.map_text.TextAnswer.the-variants.{Written, Refused}
 use Rattle.printing.specs.Text.{mapText, written, notWritten, textTests, put, putText, textStep, textOutcome}
-use Rattle.output.specs.Writing.{Wrote}
+use Rattle.output.specs.Output.{Wrote}
 use Rattle.printing.specs.Printable.{Printable}
 use Rattle.output.proofs.Writing.{wrote-whole}
 

@@ -8,20 +8,19 @@ use native.Mathlib.Omega.{arith}
 use lib.Dec.{ltb, eqb}
 use lib.ListN.{length, getD, length-append}
 use borrow.Author.Tests.{eqb-true, ltb-false}
-use Rattle.algebra.specs.Cell.{P1, planes}
-use Rattle.refusals.specs.Tests.{first}
+use Rattle.algebra.specs.cells.Cell.{P1, planes}
+use Rattle.refusals.specs.Refusals.{first}
 use Rattle.refusals.proofs.Tests.{passed}
 use Rattle.cell.specs.Operations.{halvesOf, Length, Sizes}
 use Rattle.cell.specs.Volume.{layers, rows, columns, pairPlace, mapPlace, volumeLength}
 use Rattle.cell.proofs.VolumeLayout.{place-inside}
 use Rattle.cell.proofs.StoredFactors.{layers-most, number-place}
 use Rattle.job.specs.declared.Job.{Job}
-use Rattle.job.specs.Header.{groupIn, halves, validJob, headerOf, axisTests}
+use Rattle.job.specs.Job.{groupIn, halves, validJob, headerOf, axisTests}
 use Rattle.header.proofs.Headers.{all-three}
 use Rattle.job.proofs.Jobs.{valid-sizes}
-use Rattle.output.specs.Decimal.{decimal, blank, lineFeed, each}
+use Rattle.output.specs.Output.{decimal, blank, lineFeed, each, Ends}
 use Rattle.printing.specs.Text.{headLine, rowLine, mapText}
-use Rattle.output.specs.Writing.{Ends}
 use Rattle.printing.specs.Printable.{Printable}
 use Rattle.output.proofs.Decimals.{decimal-short}
 

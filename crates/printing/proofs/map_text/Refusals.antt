@@ -4,7 +4,7 @@ use Prim.Native.Nat.{ℕ, _≤_}
 use native.Mathlib.Omega.{arith}
 use lib.ListN.{length, length-append}
 use Rattle.printing.specs.Text.{refusalText}
-use Rattle.output.specs.Writing.{Ends}
+use Rattle.output.specs.Output.{Ends}
 use Rattle.output.proofs.Decimals.{decimal-short}
 
 pub refusal-short : (n place : ℕ) → length (refusalText n place) ≤ 33

@@ -3,7 +3,7 @@ use crate::map_text::TextAnswer;
 use refusals::Refusal;
 ghost use mathlib.Core.Path.{_≡_};
 ghost use lib.ListN.{length};
-ghost use Rattle.output.specs.Writing.{Wrote};
+ghost use Rattle.output.specs.Output.{Wrote};
 ghost use Rattle.refusals.specs.Refusals.{numberOf};
 ghost use Rattle.printing.specs.Text.{refusalText, putText, textOutcome};
 

@@ -1,19 +1,18 @@
 // The text of a map: a head line, then a line for each row of the volume.
 use crate::map_text::TextAnswer;
 use cell::places;
-use header::tests;
 use job::Job;
+use job::check::tests;
 use job::valid;
 use refusals::Checked;
 use refusals::Refusal;
 ghost use mathlib.Core.Path.{_≡_};
 ghost use Prim.Native.Nat.{_<_};
 ghost use lib.ListN.{length};
-ghost use Rattle.refusals.specs.Tests.{first, checkedNumber};
+ghost use Rattle.refusals.specs.Refusals.{first, checkedNumber};
 ghost use Rattle.cell.specs.Volume.{layers};
-ghost use Rattle.job.specs.Header.{groupIn, halves};
-ghost use Rattle.output.specs.Decimal.{each};
-ghost use Rattle.output.specs.Writing.{Wrote, Ends};
+ghost use Rattle.job.specs.Job.{groupIn, halves};
+ghost use Rattle.output.specs.Output.{each, Wrote, Ends};
 ghost use Rattle.printing.specs.Text.{headLine, rowLine, mapText, textTests, textStep, textOutcome};
 ghost use Rattle.printing.specs.Printable.{Printable};
 

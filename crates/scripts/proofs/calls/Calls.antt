@@ -4,19 +4,16 @@ use mathlib.Core.List.{List}
 use Prim.Native.Nat.{ℕ, zero, suc, _≤_}
 use native.Mathlib.Omega.{arith}
 use lib.ListN.{length}
-use Rattle.refusals.specs.Tests.{first, accepted}
+use Rattle.refusals.specs.Refusals.{first, accepted}
 use Rattle.lengths.specs.Lengths.{cleared}
 use Rattle.job.specs.declared.Answered.{Answered}
 use Rattle.job.specs.declared.Job.{Job}
 use Rattle.job.specs.declared.Reflection.{Reflection}
 use Rattle.job.specs.declared.GridPoint.{GridPoint}
-use Rattle.job.specs.Header.{withState, factorsHeld, mapHeld}
-use Rattle.job.specs.Steps.{Said, done, Outcome, Worked, unchanged, position, index, recordStep, synthesisTests, synthesised, synthesisStep, analysisTests, analysed, analysisStep, pointTests, pointStep, factorTests, factorStep}
-use Rattle.job.specs.Said.{said, outcome, worked}
+use Rattle.job.specs.Job.{withState, factorsHeld, mapHeld, Said, done, Outcome, Worked, unchanged, position, index, recordStep, synthesisTests, synthesised, synthesisStep, analysisTests, analysed, analysisStep, pointTests, pointStep, factorTests, factorStep, said, outcome, worked}
 use Rattle.scripts.specs.declared.numbers.CallNumbers.{CallNumbers}
-use Rattle.scripts.specs.Call.{Call, recording, synthesis, analysis, readPoint, readFactor, step, callOf, callAt, numbersAt, callSaid, answerNumbers, clearedIfDone, scratchLeft, replyNumbers, callStep}
+use Rattle.scripts.specs.Script.{Call, recording, synthesis, analysis, readPoint, readFactor, step, callOf, callAt, numbersAt, callSaid, answerNumbers, clearedIfDone, scratchLeft, replyNumbers, callStep, callOutcome}
 use Rattle.scripts.specs.declared.calls.Called.{Called}
-use Rattle.scripts.specs.CallCalls.{callOutcome}
 
 -- ---- what an operation's number stands for
 

@@ -2,8 +2,8 @@
 use borrow.Author.Needs.{needs}
 use mathlib.Core.Path.{sym, ap, _∙_}
 use Rattle.job.specs.declared.FactorAnswer.{FactorAnswer}
-use Rattle.job.specs.Said.{saidFactor}
-use Rattle.scripts.specs.Call.{answerNumbers}
+use Rattle.job.specs.Job.{saidFactor}
+use Rattle.scripts.specs.Script.{answerNumbers}
 use Rattle.scripts.proofs.factor_reply.Statement.{statement}
 use Rattle.scripts.proofs.factor_reply.Tie as tie
 

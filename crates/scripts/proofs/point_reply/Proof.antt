@@ -2,8 +2,8 @@
 use borrow.Author.Needs.{needs}
 use mathlib.Core.Path.{sym, ap, _∙_}
 use Rattle.job.specs.declared.PointAnswer.{PointAnswer}
-use Rattle.job.specs.Said.{saidPoint}
-use Rattle.scripts.specs.Call.{answerNumbers}
+use Rattle.job.specs.Job.{saidPoint}
+use Rattle.scripts.specs.Script.{answerNumbers}
 use Rattle.scripts.proofs.point_reply.Statement.{statement}
 use Rattle.scripts.proofs.point_reply.Tie as tie
 

@@ -6,12 +6,11 @@ use native.Mathlib.Nat.{sub-zero}
 use native.Mathlib.Omega.{arith}
 use lib.ListN.{length, take, drop, take-append-drop}
 use Rattle.job.specs.declared.Job.{Job}
-use Rattle.job.specs.Steps.{Said, done, density, factor, refused}
+use Rattle.job.specs.Job.{Said, done, density, factor, refused}
 use Rattle.demands.specs.Calls.{step, run}
-use Rattle.scripts.specs.Call.{callAt, answerNumbers, scratchLeft, CallOutcome, callStep}
+use Rattle.scripts.specs.Script.{callAt, answerNumbers, scratchLeft, CallOutcome, callStep, calls, allNumbers, scratchAfter, ReplayOutcome, callCount, ended, replayStep}
 use Rattle.scripts.proofs.calls.Calls.{call-by-length}
 use Rattle.scripts.proofs.numbers.Placed.{placed, take-placed, drop-placed}
-use Rattle.scripts.specs.Script.{calls, allNumbers, scratchAfter, ReplayOutcome, callCount, ended, replayStep}
 
 -- ---- an answer among the others
 

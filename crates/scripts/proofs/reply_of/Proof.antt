@@ -2,8 +2,8 @@
 use borrow.Author.Needs.{needs}
 use mathlib.Core.Path.{sym, ap, _∙_}
 use Rattle.job.specs.declared.Answer.{Answer}
-use Rattle.job.specs.Said.{said}
-use Rattle.scripts.specs.Call.{answerNumbers}
+use Rattle.job.specs.Job.{said}
+use Rattle.scripts.specs.Script.{answerNumbers}
 use Rattle.scripts.proofs.reply_of.Statement.{statement}
 use Rattle.scripts.proofs.reply_of.Tie as tie
 

@@ -4,8 +4,7 @@ use job::Job;
 ghost use mathlib.Core.Path.{_≡_};
 ghost use Prim.Native.Nat.{_+_, _*_, _≤_};
 ghost use lib.ListN.{length};
-ghost use Rattle.scripts.specs.Call.{synthesis, analysis, callAt, callStep};
-ghost use Rattle.scripts.specs.CallCalls.{callOutcome};
+ghost use Rattle.scripts.specs.Script.{synthesis, analysis, callAt, callStep, callOutcome};
 
 // The call number i of a script.
 pub fn call_at(

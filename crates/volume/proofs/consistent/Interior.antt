@@ -6,10 +6,10 @@ use Prim.Native.Nat.{ℕ, zero, suc, _*_, _≤_, _<_}
 use native.Mathlib.Omega.{arith}
 use lib.Dec.{leb, ltb}
 use borrow.Author.Tests.{le-ltb, lt-leb}
-use Rattle.algebra.specs.Cell.{J, Sym, Sym.sym as op, friedel, Group, P1, P2₁, Pm, Pa, P2₁2₁2₁, span, im, flip, negI}
-use Rattle.algebra.specs.CellTests.{every, storedT}
-use Rattle.algebra.proofs.CellAxis.{neg-pos}
-use Rattle.algebra.proofs.CellTests.{stored-iff}
+use Rattle.algebra.specs.cells.Cell.{J, Sym, Sym.sym as op, friedel, Group, P1, P2₁, Pm, Pa, P2₁2₁2₁, span, imageOf, flip, negI}
+use Rattle.algebra.specs.cells.CellTests.{every, storedT}
+use Rattle.algebra.proofs.cells.CellAxis.{neg-pos}
+use Rattle.algebra.proofs.cells.CellTests.{stored-iff}
 use Rattle.cell.specs.Volume.{groupOf}
 use Rattle.cell.specs.Consistency.{lineAgrees}
 use Rattle.cell.specs.TestSteps.{imageAgrees}
@@ -47,28 +47,28 @@ and-false false = refl
 
 module _ (a : J) (m : ℕ) (v : List ℕ) (j : J) where
   -- the sign of k changes
-  k-skipped : (g : Group) (s : Sym) → (im a s j) .1 ≡ negI (a .1) (j .1) → 0 < j .1 → j .1 < a .1 → imageAgrees g a m v j s ≡ true
+  k-skipped : (g : Group) (s : Sym) → (imageOf a s j) .1 ≡ negI (a .1) (j .1) → 0 < j .1 → j .1 < a .1 → imageAgrees g a m v j s ≡ true
   k-skipped g s e lo hi =
-      let out : a .1 < (im a s j) .1 = omega (arith, e, neg-pos (a .1) (j .1) lo (omega arith)) in
-      sym (image-skipped g a m v j s refl (sym (ap (λ b. b && ltb ((im a s j) .2) (span g (a .2))) (lt-leb _ _ out))) refl)
+      let out : a .1 < (imageOf a s j) .1 = omega (arith, e, neg-pos (a .1) (j .1) lo (omega arith)) in
+      sym (image-skipped g a m v j s refl (sym (ap (λ b. b && ltb ((imageOf a s j) .2) (span g (a .2))) (lt-leb _ _ out))) refl)
 
   -- the sign of l changes, where the lines are stored up to A
-  l-skipped : (g : Group) (s : Sym) → span g (a .2) ≡ suc (a .2) → (im a s j) .2 ≡ negI (a .2) (j .2) → 0 < j .2 → j .2 < a .2 → imageAgrees g a m v j s ≡ true
+  l-skipped : (g : Group) (s : Sym) → span g (a .2) ≡ suc (a .2) → (imageOf a s j) .2 ≡ negI (a .2) (j .2) → 0 < j .2 → j .2 < a .2 → imageAgrees g a m v j s ≡ true
   l-skipped g s w e lo hi =
-      let out : span g (a .2) ≤ (im a s j) .2 = omega (arith, w, e, neg-pos (a .2) (j .2) lo (omega arith)) in
-      sym (image-skipped g a m v j s refl (sym (ap (λ b. leb ((im a s j) .1) (a .1) && b) (le-ltb _ _ out) ∙ and-false (leb ((im a s j) .1) (a .1)))) refl)
+      let out : span g (a .2) ≤ (imageOf a s j) .2 = omega (arith, w, e, neg-pos (a .2) (j .2) lo (omega arith)) in
+      sym (image-skipped g a m v j s refl (sym (ap (λ b. leb ((imageOf a s j) .1) (a .1) && b) (le-ltb _ _ out) ∙ and-false (leb ((imageOf a s j) .1) (a .1)))) refl)
 
   module _ (lo : 0 < j .1) (hi : j .1 < a .1) where
     -- Friedel's rule changes every sign
     mate : (g : Group) → imageAgrees g a m v j friedel ≡ true
-    unfolding im flip
+    unfolding imageOf flip
     mate g = k-skipped g friedel refl lo hi
 
     pub inner-P1 : lineAgrees P1 a m v j ≡ true
     inner-P1 = both (imageAgrees P1 a m v j) (identity-agrees P1 a m v j) (mate P1)
 
     pub inner : (n : ℕ) → n < 5 → (n ≡ 4 → ⊥) → 0 < j .2 → j .2 < a .2 → lineAgrees (groupOf n) a m v j ≡ true
-    unfolding im flip span
+    unfolding imageOf flip span
     inner n l z lo′ hi′ =
         by-four (λ g. lineAgrees g a m v j ≡ true)
         inner-P1
@@ -79,7 +79,7 @@ module _ (a : J) (m : ℕ) (v : List ℕ) (j : J) where
 
     -- P2₁2₁2₁: Friedel's rule after the third operation, F(-h, k, l) = (-1)^(h + k) conj F(h, k, l), is the one image to be tried
     pub inner-4 : 0 < j .2 → j .2 < a .2 → lineAgrees P2₁2₁2₁ a m v j ≡ imageAgrees P2₁2₁2₁ a m v j (op true true false false true true false)
-    unfolding im flip span
+    unfolding imageOf flip span
     inner-4 lo′ hi′ =
         last-of-eight (imageAgrees P2₁2₁2₁ a m v j)
         (identity-agrees P2₁2₁2₁ a m v j)
@@ -92,7 +92,7 @@ module _ (a : J) (m : ℕ) (v : List ℕ) (j : J) where
 
 -- it is tried at h or at -h
 pub mirror-4 : (a : J) (m : ℕ) (v : List ℕ) (j : J) → j .0 < 2 * a .0 → 0 < j .1 → j .1 < a .1 → 0 < j .2 → j .2 < a .2 → lineAgrees P2₁2₁2₁ a m v (negI (a .0) (j .0), j .1, j .2) ≡ true → lineAgrees P2₁2₁2₁ a m v j ≡ true
-unfolding im flip span
+unfolding imageOf flip span
 mirror-4 a m v j n lo hi lo′ hi′ e =
     inner-4 a m v j lo hi lo′ hi′
     ∙ agrees-back P2₁2₁2₁ a m v j (op true true false false true true false) (n, omega arith, omega arith) (stored-iff P2₁2₁2₁ a j .1 (omega arith, omega arith))

@@ -8,10 +8,10 @@ use native.Mathlib.Numerals.{add-one}
 use native.Mathlib.Omega.{arith}
 use lib.Dec.{T}
 use lib.ListN.{length, getD}
-use Rattle.algebra.specs.Cell.{J}
-use Rattle.algebra.specs.CellTests.{below, every, everyPlace}
-use Rattle.algebra.proofs.Bool.{and-l, and-r, and-i, same-test, below-at, below-by}
-use Rattle.algebra.proofs.CellTests.{every-place-at, every-place-by}
+use Rattle.algebra.specs.cells.Cell.{J}
+use Rattle.algebra.specs.cells.CellTests.{below, every, everyPlace}
+use Rattle.algebra.proofs.ring.Bool.{and-l, and-r, and-i, same-test, below-at, below-by}
+use Rattle.algebra.proofs.cells.CellTests.{every-place-at, every-place-by}
 
 -- ---- one more number, the first that fails, and one of those that passed
 

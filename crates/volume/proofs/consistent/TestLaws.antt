@@ -7,18 +7,18 @@ use native.Mathlib.Omega.{arith}
 use lib.ListN.{length, getD}
 use lib.Dec.{T, leb, leb→le, ltb, ltb→lt, eqb}
 use borrow.Author.Tests.{lt-ltb, le-ltb, eq-eqb}
-use Rattle.algebra.specs.Cell.{J, Inside, Sym, one, Group, Pa, full, span, im, pim, imp}
-use Rattle.algebra.specs.CellPack.{even}
-use Rattle.algebra.specs.CellTests.{below, everyPlace, imply, storedT}
-use Rattle.algebra.proofs.Bool.{and-l, and-r, imply-iff, below-by}
-use Rattle.algebra.proofs.CellSym.{square, im-one, im-im, pim-one, imp-one, imp-im, imp-twice}
-use Rattle.algebra.proofs.CellTests.{every-place-by}
+use Rattle.algebra.specs.cells.Cell.{J, Inside, Sym, one, Group, Pa, full, span, imageOf, pointImage, impliedValue}
+use Rattle.algebra.specs.cells.CellPack.{even}
+use Rattle.algebra.specs.cells.CellTests.{below, everyPlace, imply, storedT}
+use Rattle.algebra.proofs.ring.Bool.{and-l, and-r, imply-iff, below-by}
+use Rattle.algebra.proofs.cells.CellSym.{square, image-one, image-image, point-one, implied-one, implied-image, implied-twice}
+use Rattle.algebra.proofs.cells.CellTests.{every-place-by}
 use Rattle.numbers.specs.declared.Pair.{Pair}
 use Rattle.numbers.specs.Value.{Value, field, conj, valueOf, pairOf}
 use Rattle.numbers.proofs.Values.{value-by, field-ring, field-star}
 use Rattle.slices.specs.Pairs.{at}
 use Rattle.cell.specs.Volume.{groupOf, pairPlace, mapPlace, rows, columns, layers}
-use Rattle.cell.specs.Consistency.{sameValue, implied, zeroPair, zeroEnds, pointAgrees, rowEnds, consistentMap}
+use Rattle.cell.specs.Consistency.{sameValue, implied, pairIsZero, zeroEnds, pointAgrees, rowEnds, consistentMap}
 use Rattle.cell.specs.declared.operations.Index.{Index}
 use Rattle.cell.specs.Operations.{halvesOf, tripleOf, Sizes, Within}
 use Rattle.cell.specs.TestSteps.{IsStored, samePair, isZero, imageAgrees, pointImageAgrees, emptyEnds, emptyIfOdd, rowAgrees}
@@ -64,10 +64,10 @@ module _ (g : Group) (a : J) (m : ℕ) (v : List ℕ) (j : J) where
   abbrev at-image : Sym → J → Bool
   at-image s i = imply (storedT g a i) (sameValue (lineAt g a m v i) (implied g a m s j (lineAt g a m v j)))
 
-  module _ (s : Sym) {i : J} (e : i ≡ im a s j) {t : Bool} (found : t ≡ storedT g a i) where
-    pub image-tested : t ≡ true → {x y z : Pair} → x ≡ pairOf (lineAt g a m v j) → y ≡ pairOf (lineAt g a m v i) → z ≡ pairOf (imp (field m) (conj m) s j (valueOf m x))
+  module _ (s : Sym) {i : J} (e : i ≡ imageOf a s j) {t : Bool} (found : t ≡ storedT g a i) where
+    pub image-tested : t ≡ true → {x y z : Pair} → x ≡ pairOf (lineAt g a m v j) → y ≡ pairOf (lineAt g a m v i) → z ≡ pairOf (impliedValue (field m) (conj m) s j (valueOf m x))
         → {r : Bool} → r ≡ samePair y z → r ≡ imageAgrees g a m v j s
-    image-tested p ex ey ez er = er ∙ same-values _ _ ey (ez ∙ ap (λ q. pairOf (imp (field m) (conj m) s j q)) (value-by m _ ex))
+    image-tested p ex ey ez er = er ∙ same-values _ _ ey (ez ∙ ap (λ q. pairOf (impliedValue (field m) (conj m) s j q)) (value-by m _ ex))
         ∙ ap (λ b. imply b (sameValue (lineAt g a m v i) (implied g a m s j (lineAt g a m v j)))) (sym (sym found ∙ p)) ∙ ap (at-image s) e
 
     pub image-skipped : t ≡ false → true ≡ imageAgrees g a m v j s
@@ -75,17 +75,17 @@ module _ (g : Group) (a : J) (m : ℕ) (v : List ℕ) (j : J) where
 
   -- the identity implies the value itself
   pub identity-agrees : imageAgrees g a m v j one ≡ true
-  identity-agrees = true-iff _ .1 (imply-iff (storedT g a (im a one j)) (sameValue (lineAt g a m v (im a one j)) (implied g a m one j (lineAt g a m v j))) .1 (λ t. same-iff m _ _ .1 (ap (lineAt g a m v) (im-one a j) ∙ sym (imp-one (field-ring m) (field-star m) j (lineAt g a m v j)))))
+  identity-agrees = true-iff _ .1 (imply-iff (storedT g a (imageOf a one j)) (sameValue (lineAt g a m v (imageOf a one j)) (implied g a m one j (lineAt g a m v j))) .1 (λ t. same-iff m _ _ .1 (ap (lineAt g a m v) (image-one a j) ∙ sym (implied-one (field-ring m) (field-star m) j (lineAt g a m v j)))))
 
   -- an operation is its own inverse: if it agrees at the image of j, it agrees at j
-  pub agrees-back : (s : Sym) → Inside a j → T (storedT g a j) → imageAgrees g a m v (im a s j) s ≡ true → imageAgrees g a m v j s ≡ true
+  pub agrees-back : (s : Sym) → Inside a j → T (storedT g a j) → imageAgrees g a m v (imageOf a s j) s ≡ true → imageAgrees g a m v j s ≡ true
   agrees-back s n t e =
-      let i = im a s j in
-      let back : im a s i ≡ j = im-im a s s j n ∙ ap (λ u. im a u j) (square s) ∙ im-one a j in
-      let same = imply-iff (storedT g a (im a s i)) (sameValue (lineAt g a m v (im a s i)) (implied g a m s i (lineAt g a m v i))) .0 (true-iff _ .0 e) (subst (λ y. T (storedT g a y)) (sym back) t) in
-      let there : lineAt g a m v j ≡ implied g a m s j (lineAt g a m v i) = ap (lineAt g a m v) (sym back) ∙ same-iff m _ _ .0 same ∙ imp-im (field-ring m) (field-star m) a s s j (lineAt g a m v i) n in
+      let i = imageOf a s j in
+      let back : imageOf a s i ≡ j = image-image a s s j n ∙ ap (λ u. imageOf a u j) (square s) ∙ image-one a j in
+      let same = imply-iff (storedT g a (imageOf a s i)) (sameValue (lineAt g a m v (imageOf a s i)) (implied g a m s i (lineAt g a m v i))) .0 (true-iff _ .0 e) (subst (λ y. T (storedT g a y)) (sym back) t) in
+      let there : lineAt g a m v j ≡ implied g a m s j (lineAt g a m v i) = ap (lineAt g a m v) (sym back) ∙ same-iff m _ _ .0 same ∙ implied-image (field-ring m) (field-star m) a s s j (lineAt g a m v i) n in
       true-iff _ .1 (imply-iff (storedT g a i) (sameValue (lineAt g a m v i) (implied g a m s j (lineAt g a m v j))) .1
-      (λ u. same-iff m _ _ .1 (sym (ap (implied g a m s j) there ∙ imp-twice (field-ring m) (field-star m) s j (lineAt g a m v i)))))
+      (λ u. same-iff m _ _ .1 (sym (ap (implied g a m s j) there ∙ implied-twice (field-ring m) (field-star m) s j (lineAt g a m v i)))))
 
 -- ---- the ends of Pa's lines
 
@@ -101,7 +101,7 @@ module _ (a : J) (m : ℕ) (v : List ℕ) where
   endsTest g = everyPlace (rows g a) (columns g a) 1 (λ j. zeroEnds g a m g v (j .0) (j .1))
 
   pub ends-tested : {n : ℕ} {r : Bool} → n ≡ 3 → r ≡ below (rows Pa a) (λ h. below (columns Pa a) (λ k. emptyIfOdd Pa a v h k)) → r ≡ endsTest (groupOf n)
-  unfolding everyPlace zeroPair at
+  unfolding everyPlace pairIsZero at
   ends-tested e f = f
       ∙ below-cong (rows Pa a) _ _ (λ h lh. below-cong (columns Pa a) _ _ (λ k lk. sym (below-one (λ l. zeroEnds Pa a m Pa v h k))))
       ∙ ap (λ n. endsTest (groupOf n)) (sym e)
@@ -122,7 +122,7 @@ module _ (g : Group) (a : J) (v : List ℕ) where
     abbrev at-point : J → Bool
     at-point i = imply (ltb (i .2) (layers g a)) (eqb (getD v (mapPlace g a i) 0) (getD v (mapPlace g a x) 0))
 
-    module _ (s : Sym) {i : J} (e : i ≡ pim a s x) where
+    module _ (s : Sym) {i : J} (e : i ≡ pointImage a s x) where
       pub point-tested : i .2 < layers g a → {p q : ℕ} → p ≡ getD v (mapPlace g a i) 0 → q ≡ getD v (mapPlace g a x) 0 → eqb p q ≡ pointImageAgrees g a v x s
       point-tested l ep eq = (λ t. eqb (ep t) (eq t)) ∙ ap (λ b. imply b (eqb (getD v (mapPlace g a i) 0) (getD v (mapPlace g a x) 0))) (sym (lt-ltb _ _ l)) ∙ ap at-point e
 
@@ -130,7 +130,7 @@ module _ (g : Group) (a : J) (v : List ℕ) where
       point-skipped l = ap (λ b. imply b (eqb (getD v (mapPlace g a i) 0) (getD v (mapPlace g a x) 0))) (sym (le-ltb _ _ l)) ∙ ap at-point e
 
     pub identity-point : pointImageAgrees g a v x one ≡ true
-    identity-point = true-iff _ .1 (imply-iff (ltb ((pim a one x) .2) (layers g a)) (eqb (getD v (mapPlace g a (pim a one x)) 0) (getD v (mapPlace g a x) 0)) .1 (λ t. true-iff _ .0 (eq-eqb _ _ (ap (λ y. getD v (mapPlace g a y) 0) (pim-one a x)))))
+    identity-point = true-iff _ .1 (imply-iff (ltb ((pointImage a one x) .2) (layers g a)) (eqb (getD v (mapPlace g a (pointImage a one x)) 0) (getD v (mapPlace g a x) 0)) .1 (λ t. true-iff _ .0 (eq-eqb _ _ (ap (λ y. getD v (mapPlace g a y) 0) (point-one a x)))))
 
   pub row-ends : (z x : ℕ) {p : Pair} {r : Bool} → p ≡ at v (pairPlace g a z x (a .1)) → r ≡ isZero p → r ≡ rowEnds g a v z x
   row-ends z x e f = f ∙ ap isZero e ∙ sym (λ t. eqb (number-even g a v x (a .1) z t) 0 && eqb (number-odd g a v x (a .1) z t) 0)

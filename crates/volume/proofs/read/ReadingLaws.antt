@@ -7,11 +7,11 @@ use Prim.Native.Nat.{ℕ, suc, _+_, _*_, _-_, _<_, _≤_, min}
 use native.Mathlib.Omega.{arith}
 use lib.Dec.{leb}
 use borrow.Author.Tests.{ne-eqb, le-leb, lt-leb}
-use Rattle.algebra.specs.Kinds.{Kind, Kind.alternating, Kind.symmetric, Kind.antisymmetric}
-use Rattle.algebra.specs.Cell.{J, Inside, Sym, Group, P2₁, Pm, Pa, P2₁2₁2₁, lineSym, negI, im, flip, span, imp}
-use Rattle.algebra.specs.CellPack.{even}
-use Rattle.algebra.proofs.Laws.{along}
-use Rattle.algebra.proofs.CellAxis.{neg-pos}
+use Rattle.algebra.specs.lines.Kinds.{Kind, Kind.alternating, Kind.symmetric, Kind.antisymmetric}
+use Rattle.algebra.specs.cells.Cell.{J, Inside, Sym, Group, P2₁, Pm, Pa, P2₁2₁2₁, lineSym, negI, imageOf, flip, span, impliedValue}
+use Rattle.algebra.specs.cells.CellPack.{even}
+use Rattle.algebra.proofs.ring.Laws.{along}
+use Rattle.algebra.proofs.cells.CellAxis.{neg-pos}
 use Rattle.numbers.specs.declared.Pair.{Pair}
 use Rattle.numbers.specs.Value.{field, conj, valueOf, pairOf}
 use Rattle.numbers.proofs.Values.{value-by}
@@ -33,11 +33,11 @@ module _ (g : Group) (a : J) (h k l u : ℕ) (high : a .2 < l) (pos : 0 < u) (e 
       (λ q. rw (q, ne-eqb u 0 (λ z. omega arith), ne-eqb u (a .2) (λ z. omega arith), ne-eqb l 0 (λ z. omega arith), ne-eqb l (a .2) (λ z. omega arith)) mirror-pair))
 
 abbrev Beyond : J → J → Group → Type 0
-Beyond a j g = let i = im a (lineSym g) j in (lineNumbersAt g a i ≡ lineNumbersAt g a j) × (i .1 ≡ j .1) × (i .2 < span g (a .2))
+Beyond a j g = let i = imageOf a (lineSym g) j in (lineNumbersAt g a i ≡ lineNumbersAt g a j) × (i .1 ≡ j .1) × (i .2 < span g (a .2))
 
 -- the other half of a line is read from the same numbers
 pub beyond-numbers : (a j : J) → Inside a j → (n : ℕ) → n < 5 → span (groupOf n) (a .2) ≤ j .2 → Beyond a j (groupOf n)
-unfolding span im flip
+unfolding span imageOf flip
 beyond-numbers a j i n b = by-group (λ g. span g (a .2) ≤ j .2 → Beyond a j g)
     (λ s. absurd (omega (arith, i .2)))
     (λ s. (half P2₁ alternating (inl refl) (omega arith), refl, low (omega arith)))
@@ -60,21 +60,21 @@ beyond-numbers a j i n b = by-group (λ g. span g (a .2) ≤ j .2 → Beyond a j
     glide false = inr refl
 
 -- the line's own operation changes the sign of l alone
-pub line-image : (a j : J) → Inside a j → (n : ℕ) → n < 5 → span (groupOf n) (a .2) ≤ j .2 → (j .0, j .1, flip true (a .2) (j .2)) ≡ im a (lineSym (groupOf n)) j
-unfolding span im flip
-line-image a j i = by-group (λ g. span g (a .2) ≤ j .2 → (j .0, j .1, flip true (a .2) (j .2)) ≡ im a (lineSym g) j) (λ s. absurd (omega (arith, i .2))) (λ s. refl) (λ s. refl) (λ s. refl) (λ s. refl)
+pub line-image : (a j : J) → Inside a j → (n : ℕ) → n < 5 → span (groupOf n) (a .2) ≤ j .2 → (j .0, j .1, flip true (a .2) (j .2)) ≡ imageOf a (lineSym (groupOf n)) j
+unfolding span imageOf flip
+line-image a j i = by-group (λ g. span g (a .2) ≤ j .2 → (j .0, j .1, flip true (a .2) (j .2)) ≡ imageOf a (lineSym g) j) (λ s. absurd (omega (arith, i .2))) (λ s. refl) (λ s. refl) (λ s. refl) (λ s. refl)
 
 -- the same of the image as the code finds it
-pub beyond-image : (a j i : J) → Inside a j → (n : ℕ) → n < 5 → i ≡ im a (lineSym (groupOf n)) j → span (groupOf n) (a .2) ≤ j .2
+pub beyond-image : (a j i : J) → Inside a j → (n : ℕ) → n < 5 → i ≡ imageOf a (lineSym (groupOf n)) j → span (groupOf n) (a .2) ≤ j .2
     → (lineNumbersAt (groupOf n) a i ≡ lineNumbersAt (groupOf n) a j) × (i .1 ≡ j .1) × (i .2 < span (groupOf n) (a .2))
 beyond-image a j i inside n b e l = subst
     (λ i. (lineNumbersAt (groupOf n) a i ≡ lineNumbersAt (groupOf n) a j) × (i .1 ≡ j .1) × (i .2 < span (groupOf n) (a .2)))
     (sym e) (beyond-numbers a j inside n b l)
 
 -- a factor from the other half is what the line's own operation implies
-pub beyond-value : (a : J) (m : ℕ) (v : List ℕ) (j i : J) → Inside a j → (n : ℕ) {s : Sym} → s ≡ lineSym (groupOf n) → i ≡ im a (lineSym (groupOf n)) j → span (groupOf n) (a .2) ≤ j .2
-    → {x y : Pair} → x ≡ pairOf (lineFactor (groupOf n) a m v i) → y ≡ pairOf (imp (field m) (conj m) s j (valueOf m x)) → y ≡ pairOf (lineFactor (groupOf n) a m v j)
-beyond-value a m v j i inside n e f l x y = y ∙ ap pairOf (ap₂ (λ s z. imp (field m) (conj m) s j z) e (value-by m _ x ∙ ap (lineFactor (groupOf n) a m v) f) ∙ sym (line-beyond (groupOf n) a m v j inside l))
+pub beyond-value : (a : J) (m : ℕ) (v : List ℕ) (j i : J) → Inside a j → (n : ℕ) {s : Sym} → s ≡ lineSym (groupOf n) → i ≡ imageOf a (lineSym (groupOf n)) j → span (groupOf n) (a .2) ≤ j .2
+    → {x y : Pair} → x ≡ pairOf (lineFactor (groupOf n) a m v i) → y ≡ pairOf (impliedValue (field m) (conj m) s j (valueOf m x)) → y ≡ pairOf (lineFactor (groupOf n) a m v j)
+beyond-value a m v j i inside n e f l x y = y ∙ ap pairOf (ap₂ (λ s z. impliedValue (field m) (conj m) s j z) e (value-by m _ x ∙ ap (lineFactor (groupOf n) a m v) f) ∙ sym (line-beyond (groupOf n) a m v j inside l))
 
 -- ---- the column
 

@@ -5,9 +5,9 @@ use mathlib.Core.List.{List}
 use Prim.Native.Nat.{ℕ, _+_, _<_, _≤_}
 use lib.Dec.{leb, leb→le, ltb→lt}
 use lib.ListN.{length, getD, drop}
-use Rattle.algebra.specs.Cell.{J, Sym, one, Group, im, imp, span}
-use Rattle.algebra.specs.CellTests.{storedT}
-use Rattle.algebra.proofs.Bool.{and-l, and-r}
+use Rattle.algebra.specs.cells.Cell.{J, Sym, one, Group, imageOf, impliedValue, span}
+use Rattle.algebra.specs.cells.CellTests.{storedT}
+use Rattle.algebra.proofs.ring.Bool.{and-l, and-r}
 use Rattle.numbers.specs.declared.Pair.{Pair}
 use Rattle.numbers.specs.Value.{Value, field, conj, valueOf, pairOf}
 use Rattle.numbers.proofs.Values.{value-by}
@@ -27,13 +27,13 @@ stored-bounds g a i e f =
 module _ (g : Group) (a : J) (m : ℕ) (j : J) (x : Value m) where
   -- what one operation leaves
   abbrev pub written : List ℕ → Sym → List ℕ
-  written v s = cond (storedT g a (im a s j)) (write g a g v (im a s j) (writtenPair g a m (im a s j) (imp (field m) (conj m) s j x))) v
+  written v s = cond (storedT g a (imageOf a s j)) (write g a g v (imageOf a s j) (writtenPair g a m (imageOf a s j) (impliedValue (field m) (conj m) s j x))) v
 
-  module _ (v : List ℕ) (s : Sym) {i : J} (e : i ≡ im a s j) {t : Bool} (f : t ≡ storedT g a i) where
-    stored-as : (b : Bool) → t ≡ b → storedT g a (im a s j) ≡ b
+  module _ (v : List ℕ) (s : Sym) {i : J} (e : i ≡ imageOf a s j) {t : Bool} (f : t ≡ storedT g a i) where
+    stored-as : (b : Bool) → t ≡ b → storedT g a (imageOf a s j) ≡ b
     stored-as b q = sym (f ∙ ap (storedT g a) e) ∙ q
 
-    pub image-written : t ≡ true → {y z : Pair} {w : List ℕ} → y ≡ pairOf (imp (field m) (conj m) s j x) → z ≡ pairOf (timesI m (rotated g (i .0)) (valueOf m y)) → w ≡ write g a g v i z → w ≡ written v s
+    pub image-written : t ≡ true → {y z : Pair} {w : List ℕ} → y ≡ pairOf (impliedValue (field m) (conj m) s j x) → z ≡ pairOf (timesI m (rotated g (i .0)) (valueOf m y)) → w ≡ write g a g v i z → w ≡ written v s
     image-written q p u r = rw (stored-as true q) (r ∙ ap₂ (λ i y. write g a g v i y) e (u ∙ ap₂ (λ (i : J) y. pairOf (timesI m (rotated g (i .0)) y)) e (value-by m _ p)))
 
     pub image-skipped : t ≡ false → v ≡ written v s

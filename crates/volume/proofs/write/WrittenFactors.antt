@@ -6,8 +6,8 @@ use Prim.Native.Nat.{ℕ, zero, suc, _+_, _*_, _<_}
 use native.Mathlib.Omega.{arith}
 use lib.ListN.{set}
 use borrow.Author.Tests.{eq-eqb, ne-eqb}
-use Rattle.algebra.specs.Cell.{J, P2₁}
-use Rattle.algebra.specs.CellPack.{even}
+use Rattle.algebra.specs.cells.Cell.{J, P2₁}
+use Rattle.algebra.specs.cells.CellPack.{even}
 use Rattle.numbers.specs.declared.Pair.{Pair}
 use Rattle.slices.specs.Pairs.{put}
 use Rattle.cell.specs.Volume.{groupOf, alternates, pairPlace}

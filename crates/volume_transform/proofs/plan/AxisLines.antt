@@ -6,16 +6,15 @@ use mathlib.Core.List.{List}
 use Prim.Native.Nat.{ℕ, zero, suc, _+_, _*_, _-_, _/_, _%_, _<_, _≤_}
 use native.Mathlib.Omega.{arith}
 use borrow.Author.Tests.{eq-eqb, ne-eqb}
-use Rattle.algebra.specs.Kinds.{Kind, slots, Kind.plain}
-use Rattle.algebra.proofs.Laws.{along}
-use Rattle.lengths.specs.Counts.{kindOf, pairCount}
+use Rattle.algebra.specs.lines.Kinds.{Kind, slots, Kind.plain}
+use Rattle.algebra.proofs.ring.Laws.{along}
+use Rattle.lengths.specs.Lengths.{kindOf, pairCount}
 use Rattle.lengths.specs.Admitted.{AdmittedLength, FactorList}
 use Rattle.cell.specs.Volume.{lineKind, rotated, firstPair}
 use Rattle.cell.specs.Operations.{Sizes}
-use Rattle.volume_transform.specs.Turned.{turnedLine, turnedStored, turnedRow}
-use Rattle.volume_transform.specs.Axes.{turnOf, alongL, alongH, alongK, lineCount, lineOfTurn, turnedL, turnedH, turnedK}
-use Rattle.volume_transform.specs.Lines.{Sound, gatheredTurn, rowTurn, lineTurned}
-use Rattle.volume_transform.specs.Plans.{groupIn, halvesIn, Planned, lineTurn, Counted, Gathered, Row, LineAt}
+use Rattle.volume_transform.specs.Axes.{turnedLine, turnedStored, turnedRow, turnOf, alongL, alongH, alongK, lineCount, lineOfTurn, turnedL, turnedH, turnedK}
+use Rattle.volume_transform.specs.Lines.{SoundLine, gatheredTurn, rowTurn, lineTurned}
+use Rattle.volume_transform.specs.Plans.{planGroup, planHalves, Planned, lineTurn, Counted, Gathered, Row, LineAt}
 use Rattle.volume_transform.specs.declared.plan.Plan.{Plan}
 use Rattle.volume_transform.specs.declared.plan.Counts.{Counts}
 use Rattle.volume_transform.specs.declared.plan.Line.{Line}
@@ -37,7 +36,7 @@ module _ (p : Plan) (ok : Planned p) where
 
   -- a line of length n = 2 (n / 2) along one of the axes
   sound : (kind : ℕ) (b : Bool) (n factors start stride count : ℕ) → kind < 6 → n ≡ 2 * (n / 2) → AdmittedLength n → FactorList n factors
-      → Sound (record { m = p .m; direction = p .direction; kind = kind; rotated = b; factors = factors; half = n / 2; start = start; stride = stride; count = count })
+      → SoundLine (record { m = p .m; direction = p .direction; kind = kind; rotated = b; factors = factors; half = n / 2; start = start; stride = stride; count = count })
   sound kind b n factors start stride count known e size list = record {
     modulus = ok .modulus;
     directed = ok .directed;
@@ -46,9 +45,9 @@ module _ (p : Plan) (ok : Planned p) where
     list = subst (λ n. FactorList n factors) e list;
   }
 
-  module _ (y kind f count : ℕ) (b : Bool) (l : y < alongL (groupIn p) (halvesIn p) .count) (known : kind < 6) (e : kindOf kind ≡ lineKind (groupIn p) (y / width)) (eb : b ≡ rotated (groupIn p) (y / width)) (other : kind ≡ 1 → ⊥)
+  module _ (y kind f count : ℕ) (b : Bool) (l : y < alongL (planGroup p) (planHalves p) .count) (known : kind < 6) (e : kindOf kind ≡ lineKind (planGroup p) (y / width)) (eb : b ≡ rotated (planGroup p) (y / width)) (other : kind ≡ 1 → ⊥)
       (ef : f ≡ firstPair (kindOf kind)) (low : f ≤ 1) (ec : count ≡ pairCount kind (p .n3)) (few : count ≤ 2880) where
-    pub gathered-l : Gathered p (turnOf (alongL (groupIn p) (halvesIn p)) (turnedL (groupIn p) (halvesIn p) (p .m) (p .direction)) y)
+    pub gathered-l : Gathered p (turnOf (alongL (planGroup p) (planHalves p)) (turnedL (planGroup p) (planHalves p) (p .m) (p .direction)) y)
         (record { m = p .m; direction = p .direction; kind = kind; rotated = b; factors = p .f3; half = p .n3 / 2; start = y + f * (p .n1 * width); stride = p .n1 * width; count = count })
     gathered-l = record {
       modulus = refl;
@@ -63,8 +62,8 @@ module _ (p : Plan) (ok : Planned p) where
       turn = turned-l sizes y kind f count e eb ef low ec (p .m) (p .direction);
     }
 
-  module _ (y : ℕ) (l : y < alongH (groupIn p) (halvesIn p) .count) where
-    pub gathered-h : Gathered p (turnOf (alongH (groupIn p) (halvesIn p)) (turnedH (groupIn p) (halvesIn p) (p .m) (p .direction)) y)
+  module _ (y : ℕ) (l : y < alongH (planGroup p) (planHalves p) .count) where
+    pub gathered-h : Gathered p (turnOf (alongH (planGroup p) (planHalves p)) (turnedH (planGroup p) (planHalves p) (p .m) (p .direction)) y)
         (record { m = p .m; direction = p .direction; kind = 0; rotated = false; factors = p .f1; half = p .n1 / 2; start = y / width * (p .n1 * width) + y % width; stride = width; count = p .n1 })
     unfolding slots
     gathered-h = record {
@@ -77,11 +76,11 @@ module _ (p : Plan) (ok : Planned p) where
         low = sizes .first .high;
         fits = fits-h sizes y l;
       };
-      turn = λ v. by-places (alongH (groupIn p) (halvesIn p)) (turnedH (groupIn p) (halvesIn p) (p .m) (p .direction)) y (p .n1) _ (turnedStored (p .m) (p .n1 / 2) (p .direction) false plain) v _ (twice sizes) (λ j lj. place-h sizes y l j) (as-packed (p .m) (p .n1 / 2) (p .direction) plain) refl;
+      turn = λ v. by-places (alongH (planGroup p) (planHalves p)) (turnedH (planGroup p) (planHalves p) (p .m) (p .direction)) y (p .n1) _ (turnedStored (p .m) (p .n1 / 2) (p .direction) false plain) v _ (twice sizes) (λ j lj. place-h sizes y l j) (as-packed (p .m) (p .n1 / 2) (p .direction) plain) refl;
     }
 
-  module _ (y : ℕ) (l : y < alongK (groupIn p) (halvesIn p) .count) where
-    pub row-k : Row p (turnOf (alongK (groupIn p) (halvesIn p)) (turnedK (groupIn p) (halvesIn p) (p .m) (p .direction)) y)
+  module _ (y : ℕ) (l : y < alongK (planGroup p) (planHalves p) .count) where
+    pub row-k : Row p (turnOf (alongK (planGroup p) (planHalves p)) (turnedK (planGroup p) (planHalves p) (p .m) (p .direction)) y)
         (record { m = p .m; direction = p .direction; kind = 1; rotated = false; factors = p .f2; half = p .n2 / 2; start = y * width; stride = 1; count = width })
     row-k = record {
       modulus = refl;
@@ -93,7 +92,7 @@ module _ (p : Plan) (ok : Planned p) where
         fits = row-fits sizes y l;
         low = row-low sizes y l;
       };
-      turn = λ v. by-places (alongK (groupIn p) (halvesIn p)) (turnedK (groupIn p) (halvesIn p) (p .m) (p .direction)) y width (λ j. y * width + j) (turnedRow (p .m) (p .n2 / 2) (p .direction)) v _ (next sizes) (λ j lj. ap (λ k. y * k + j) (next sizes)) (λ x. refl) refl;
+      turn = λ v. by-places (alongK (planGroup p) (planHalves p)) (turnedK (planGroup p) (planHalves p) (p .m) (p .direction)) y width (λ j. y * width + j) (turnedRow (p .m) (p .n2 / 2) (p .direction)) v _ (next sizes) (λ j lj. ap (λ k. y * k + j) (next sizes)) (λ x. refl) refl;
     }
 
 -- ---- which line a number stands for
@@ -106,17 +105,17 @@ module _ {p : Plan} {x : Line} {step other : List ℕ → List ℕ} (e : (v : Li
   row-as r = record { modulus = r .modulus; direction = r .direction; placed = r .placed; turn = λ v. r .turn v ∙ sym (e v) }
 
 module _ (p : Plan) (c : Counts) (counts : Counted p c) (j : ℕ) {x : Line} where
-  pub at-l : j < c .l → Gathered p (turnOf (alongL (groupIn p) (halvesIn p)) (turnedL (groupIn p) (halvesIn p) (p .m) (p .direction)) j) x → LineAt p j x
+  pub at-l : j < c .l → Gathered p (turnOf (alongL (planGroup p) (planHalves p)) (turnedL (planGroup p) (planHalves p) (p .m) (p .direction)) j) x → LineAt p j x
   at-l lt g = inl (gathered-as
-      (λ v. along (λ q. lineTurn p q v) j (0 + j) (omega arith) ∙ turn-l (groupIn p) (halvesIn p) (p .m) (p .direction) j (omega (arith, counts .l)) v) g)
+      (λ v. along (λ q. lineTurn p q v) j (0 + j) (omega arith) ∙ turn-l (planGroup p) (planHalves p) (p .m) (p .direction) j (omega (arith, counts .l)) v) g)
 
-  pub at-h : c .l ≤ j → j < c .l + c .h → Gathered p (turnOf (alongH (groupIn p) (halvesIn p)) (turnedH (groupIn p) (halvesIn p) (p .m) (p .direction)) (j - c .l)) x → LineAt p j x
+  pub at-h : c .l ≤ j → j < c .l + c .h → Gathered p (turnOf (alongH (planGroup p) (planHalves p)) (turnedH (planGroup p) (planHalves p) (p .m) (p .direction)) (j - c .l)) x → LineAt p j x
   at-h ge lt g = inl (gathered-as
-      (λ v. along (λ q. lineTurn p q v) j (alongL (groupIn p) (halvesIn p) .count + (j - c .l)) (omega (arith, counts .l)) ∙ turn-h (groupIn p) (halvesIn p) (p .m) (p .direction) (j - c .l) (omega (arith, counts .h)) v) g)
+      (λ v. along (λ q. lineTurn p q v) j (alongL (planGroup p) (planHalves p) .count + (j - c .l)) (omega (arith, counts .l)) ∙ turn-h (planGroup p) (planHalves p) (p .m) (p .direction) (j - c .l) (omega (arith, counts .h)) v) g)
 
-  pub at-k : c .l + c .h ≤ j → Row p (turnOf (alongK (groupIn p) (halvesIn p)) (turnedK (groupIn p) (halvesIn p) (p .m) (p .direction)) (j - (c .l + c .h))) x → LineAt p j x
+  pub at-k : c .l + c .h ≤ j → Row p (turnOf (alongK (planGroup p) (planHalves p)) (turnedK (planGroup p) (planHalves p) (p .m) (p .direction)) (j - (c .l + c .h))) x → LineAt p j x
   at-k ge r = inr (row-as
-      (λ v. along (λ q. lineTurn p q v) j (alongL (groupIn p) (halvesIn p) .count + alongH (groupIn p) (halvesIn p) .count + (j - (c .l + c .h))) (omega (arith, counts .l, counts .h)) ∙ turn-k (groupIn p) (halvesIn p) (p .m) (p .direction) (j - (c .l + c .h)) v) r)
+      (λ v. along (λ q. lineTurn p q v) j (alongL (planGroup p) (planHalves p) .count + alongH (planGroup p) (planHalves p) .count + (j - (c .l + c .h))) (omega (arith, counts .l, counts .h)) ∙ turn-k (planGroup p) (planHalves p) (p .m) (p .direction) (j - (c .l + c .h)) v) r)
 
 -- ---- the line that was found
 
@@ -138,29 +137,29 @@ module _ (p : Plan) (j : ℕ) (x : Line) where
 
 -- ---- the order of the turns
 
-module _ (p : Plan) (c : Counts) (counts : Counted p c) (n : ℕ) (low : n < lineCount (groupIn p) (halvesIn p)) where
+module _ (p : Plan) (c : Counts) (counts : Counted p c) (n : ℕ) (low : n < lineCount (planGroup p) (planHalves p)) where
   abbrev TurnOf : ℕ → Type 0
-  TurnOf j = (j ≡ lineOfTurn (groupIn p) (halvesIn p) (p .direction) n) × (j < lineCount (groupIn p) (halvesIn p))
+  TurnOf j = (j ≡ lineOfTurn (planGroup p) (planHalves p) (p .direction) n) × (j < lineCount (planGroup p) (planHalves p))
 
   pub turn-same : p .direction ≡ 0 → TurnOf n
   unfolding lineOfTurn
-  turn-same e = (ap (λ d. lineOfTurn (groupIn p) (halvesIn p) d n) (sym e), low)
+  turn-same e = (ap (λ d. lineOfTurn (planGroup p) (planHalves p) d n) (sym e), low)
 
   module _ (back : p .direction ≡ 1) where
-    taken : (j : ℕ) → j ≡ lineOfTurn (groupIn p) (halvesIn p) 1 n → j < lineCount (groupIn p) (halvesIn p) → TurnOf j
-    taken j e l = (e ∙ ap (λ d. lineOfTurn (groupIn p) (halvesIn p) d n) (sym back), l)
+    taken : (j : ℕ) → j ≡ lineOfTurn (planGroup p) (planHalves p) 1 n → j < lineCount (planGroup p) (planHalves p) → TurnOf j
+    taken j e l = (e ∙ ap (λ d. lineOfTurn (planGroup p) (planHalves p) d n) (sym back), l)
 
     pub turn-back-k : n < c .k → TurnOf (c .l + c .h + n)
     turn-back-k l = taken _
-        (omega (arith, counts .l, counts .h, along (lineOfTurn (groupIn p) (halvesIn p) 1) n (0 + n) (omega arith) ∙ order-k (groupIn p) (halvesIn p) n (omega (arith, counts .k))))
+        (omega (arith, counts .l, counts .h, along (lineOfTurn (planGroup p) (planHalves p) 1) n (0 + n) (omega arith) ∙ order-k (planGroup p) (planHalves p) n (omega (arith, counts .k))))
         (omega (arith, counts .l, counts .h, counts .k))
 
     pub turn-back-h : c .k ≤ n → n < c .k + c .h → TurnOf (c .l + (n - c .k))
     turn-back-h g l = taken _
-        (omega (arith, counts .l, along (lineOfTurn (groupIn p) (halvesIn p) 1) n (alongK (groupIn p) (halvesIn p) .count + (n - c .k)) (omega (arith, counts .k)) ∙ order-h (groupIn p) (halvesIn p) (n - c .k) (omega (arith, counts .h))))
+        (omega (arith, counts .l, along (lineOfTurn (planGroup p) (planHalves p) 1) n (alongK (planGroup p) (planHalves p) .count + (n - c .k)) (omega (arith, counts .k)) ∙ order-h (planGroup p) (planHalves p) (n - c .k) (omega (arith, counts .h))))
         (omega (arith, counts .l, counts .h, counts .k))
 
     pub turn-back-l : c .k + c .h ≤ n → TurnOf (n - (c .k + c .h))
     turn-back-l g = taken _
-        (omega (arith, along (lineOfTurn (groupIn p) (halvesIn p) 1) n (alongK (groupIn p) (halvesIn p) .count + alongH (groupIn p) (halvesIn p) .count + (n - (c .k + c .h))) (omega (arith, counts .k, counts .h)) ∙ order-l (groupIn p) (halvesIn p) (n - (c .k + c .h)) (omega (arith, counts .k, counts .h))))
+        (omega (arith, along (lineOfTurn (planGroup p) (planHalves p) 1) n (alongK (planGroup p) (planHalves p) .count + alongH (planGroup p) (planHalves p) .count + (n - (c .k + c .h))) (omega (arith, counts .k, counts .h)) ∙ order-l (planGroup p) (planHalves p) (n - (c .k + c .h)) (omega (arith, counts .k, counts .h))))
         (omega (arith, counts .l, counts .h, counts .k))

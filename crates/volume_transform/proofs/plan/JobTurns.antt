@@ -5,17 +5,16 @@ use mathlib.Core.List.{List}
 use Prim.Native.Nat.{ℕ, suc, _+_, _*_, _/_, _%_, _<_, _≤_}
 use native.Mathlib.Nat.{mul-le-mul, mul-le-mul-right}
 use native.Mathlib.Omega.{arith}
-use Rattle.algebra.specs.Kinds.{Kind.symmetric, Kind.antisymmetric, slots}
-use Rattle.algebra.specs.Cell.{J, Group, P1, P2₁, Pm, Pa, P2₁2₁2₁, planes}
-use Rattle.algebra.specs.CellPack.{even}
+use Rattle.algebra.specs.lines.Kinds.{Kind.symmetric, Kind.antisymmetric, slots}
+use Rattle.algebra.specs.cells.Cell.{J, Group, P1, P2₁, Pm, Pa, P2₁2₁2₁, planes}
+use Rattle.algebra.specs.cells.CellPack.{even}
 use Rattle.slices.proofs.Rows.{row-end, row-split, strided-block}
 use Rattle.slices.proofs.Layouts.{fits-second}
-use Rattle.lengths.specs.Counts.{kindOf, pairCount}
+use Rattle.lengths.specs.Lengths.{kindOf, pairCount}
 use Rattle.cell.specs.Volume.{groupOf, lineKind, rotated, firstPair, layers, rows, columns, volumeLength}
 use Rattle.cell.specs.Operations.{halvesOf, Sizes}
-use Rattle.volume_transform.specs.Turned.{turnedStored}
+use Rattle.volume_transform.specs.Axes.{turnedStored, turnOf, kindAt, alongL, alongH, alongK, turnedL}
 use Rattle.volume_transform.specs.Lines.{turnedAt}
-use Rattle.volume_transform.specs.Axes.{turnOf, kindAt, alongL, alongH, alongK, turnedL}
 use Rattle.volume_transform.proofs.plan.Numbered.{by-places}
 
 -- the pairs of a line along l are among the layers

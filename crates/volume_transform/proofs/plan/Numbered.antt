@@ -5,12 +5,12 @@ use mathlib.Core.List.{List}
 use Prim.Native.Nat.{ℕ, zero, suc, _+_, _-_, _%_, _<_}
 use native.Mathlib.Omega.{arith}
 use borrow.Author.Tests.{lt-ltb, le-ltb}
-use Rattle.algebra.specs.Cell.{J, Group}
-use Rattle.algebra.proofs.Laws.{along}
+use Rattle.algebra.specs.cells.Cell.{J, Group}
+use Rattle.algebra.proofs.ring.Laws.{along}
 use Rattle.slices.specs.Pairs.{at, tab, puts}
 use Rattle.slices.specs.Sweep.{Layout, lineOf}
 use Rattle.slices.proofs.Pairs.{puts-same, tab-cong}
-use Rattle.lengths.specs.Counts.{kindOf}
+use Rattle.lengths.specs.Lengths.{kindOf}
 use Rattle.cell.specs.Volume.{groupOf, alternates, lineKind, firstPair}
 use Rattle.cell.proofs.PlaceLaws.{even-is, odd-is, by-alternating, not-alternating}
 use Rattle.volume_transform.specs.Axes.{turnOf, alongL, alongH, alongK, lineOfTurn, turnedL, turnedH, turnedK, jobTurn}

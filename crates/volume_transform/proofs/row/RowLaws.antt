@@ -5,19 +5,18 @@ use mathlib.Core.List.{List, _++_}
 use Prim.Native.Nat.{ℕ, zero, suc, _+_, _*_}
 use native.Mathlib.Omega.{arith}
 use lib.ListN.{length, take, drop, getD, set, length-append, length-drop, length-set}
-use Rattle.algebra.specs.Kinds.{Kind.hermitian, slots}
-use Rattle.numbers.specs.Prime.{prime, IsModulus}
+use Rattle.algebra.specs.lines.Kinds.{Kind.hermitian, slots}
+use Rattle.numbers.specs.Value.{prime, IsModulus}
 use Rattle.slices.specs.Pairs.{at, puts, Below}
 use Rattle.slices.specs.Segments.{segment, setSegment, WholePairs}
 use Rattle.slices.proofs.Pairs.{length-puts, length-tab}
 use Rattle.slices.proofs.Segments.{length-pairs, setSegment-puts, segment-tab}
 use Rattle.slices.proofs.Bounds.{below-set, below-take}
-use Rattle.lengths.specs.Counts.{kindOf}
+use Rattle.lengths.specs.Lengths.{kindOf}
 use Rattle.line.proofs.kinds.Dispatch.{prefix-length}
 use Rattle.lengths.specs.Admitted.{AdmittedLength}
-use Rattle.volume_transform.specs.Turned.{turnedLine, turnedRow}
-use Rattle.volume_transform.specs.LinesRow.{opened, closed}
-use Rattle.volume_transform.specs.Lines.{Sound, Spaced, Beside, Placed, turnedPacked, rowTurn}
+use Rattle.volume_transform.specs.Axes.{turnedLine, turnedRow}
+use Rattle.volume_transform.specs.Lines.{opened, closed, SoundLine, Spaced, Beside, Placed, turnedPacked, rowTurn}
 use Rattle.volume_transform.specs.declared.plan.Line.{Line}
 use Rattle.volume_transform.proofs.row.TurnLaws.{length-turned, row-forward, row-inverse}
 
@@ -65,7 +64,7 @@ module _ (x : Line) (h : x .kind ≡ 1) where
     unfolding slots
     row-returned = simp (length-append, length-drop) (omega (arith, ap length packed ∙ length-turned (x .m) (x .half) (x .direction) hermitian _, ap length e ∙ length-opened (x .direction) size l, long))
 
-  pub row-whole : Sound x → (l l₁ r l₂ : List ℕ) → length l ≡ 2 * (x .half + 1) → l₁ ≡ opened (x .direction) size l → r ≡ turnedPacked x (take size l₁) → l₂ ≡ closed (x .direction) size (r ++ drop size l₁) → l₂ ≡ turnedRow (x .m) (x .half) (x .direction) l
+  pub row-whole : SoundLine x → (l l₁ r l₂ : List ℕ) → length l ≡ 2 * (x .half + 1) → l₁ ≡ opened (x .direction) size l → r ≡ turnedPacked x (take size l₁) → l₂ ≡ closed (x .direction) size (r ++ drop size l₁) → l₂ ≡ turnedRow (x .m) (x .half) (x .direction) l
   row-whole ok l l₁ r l₂ long e turned closing =
       closing ∙ ap (λ q. closed (x .direction) size (r ++ drop size q)) e
       ∙ whole-row (x .m) (ok .modulus) (x .half) (ok .size) (x .direction) l r long (packed l l₁ r long e turned)

@@ -5,15 +5,13 @@ use mathlib.Core.List.{List}
 use Prim.Native.Nat.{ℕ, _*_, _<_}
 use native.Mathlib.Omega.{arith}
 use lib.ListN.{length}
-use Rattle.algebra.specs.Ring.{Ops}
-use Rattle.algebra.specs.Kinds.{slots}
-use Rattle.numbers.specs.Prime.{prime}
-use Rattle.numbers.specs.Value.{field, i}
-use Rattle.slices.specs.Pairs.{Below}
-use Rattle.slices.specs.Values.{valuesOf, listOf}
+use Rattle.algebra.specs.ring.Ring.{Ops}
+use Rattle.algebra.specs.lines.Kinds.{slots}
+use Rattle.numbers.specs.Value.{prime, field, i}
+use Rattle.slices.specs.Pairs.{Below, valuesOf, listOf}
 use Rattle.slices.proofs.Values.{length-of, below-of}
-use Rattle.lengths.specs.Counts.{kindOf}
-use Rattle.volume_transform.specs.Lines.{Sound, turnedPacked, storedTurn}
+use Rattle.lengths.specs.Lengths.{kindOf}
+use Rattle.volume_transform.specs.Lines.{SoundLine, turnedPacked, storedTurn}
 use Rattle.volume_transform.specs.declared.plan.Line.{Line}
 use Rattle.volume_transform.proofs.row.TurnLaws.{length-turned, below-turned, stored-plain, stored-forward, stored-back}
 
@@ -38,5 +36,5 @@ module _ (x : Line) {n : ℕ} (same : n ≡ x .m) (counted : x .count ≡ slots 
   pub over-turned : x .rotated ≡ true → x .direction ≡ 0 → r ≡ turnedPacked x l → {q : List ℕ} → q ≡ listOf (x .count) (λ t. field n .mul (field n .neg (i n)) (valuesOf n r t)) → q ≡ storedTurn x l
   over-turned b z e {q} f = stored-forward (x .m) (x .half) (kindOf (x .kind)) counted (x .direction) z b l e (subst (λ m. q ≡ listOf (x .count) (λ t. field m .mul (field m .neg (i m)) (valuesOf m r t))) same f)
 
-  pub times-turned : Sound x → x .rotated ≡ true → (x .direction ≡ 0 → ⊥) → r ≡ listOf (x .count) (λ t. field n .mul (i n) (valuesOf n l t)) → {q : List ℕ} → q ≡ turnedPacked x r → q ≡ storedTurn x l
+  pub times-turned : SoundLine x → x .rotated ≡ true → (x .direction ≡ 0 → ⊥) → r ≡ listOf (x .count) (λ t. field n .mul (i n) (valuesOf n l t)) → {q : List ℕ} → q ≡ turnedPacked x r → q ≡ storedTurn x l
   times-turned sound b z e f = stored-back (x .m) (x .half) (kindOf (x .kind)) counted (sound .modulus) (sound .size) (x .direction) (back (sound .directed) z) b l (subst (λ m. r ≡ listOf (x .count) (λ t. field m .mul (i m) (valuesOf m l t))) same e) f

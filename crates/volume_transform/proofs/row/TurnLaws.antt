@@ -9,31 +9,29 @@ use lib.ListN.{length, take, drop, getD, set, length-append, length-drop, length
 use lib.Dec.{ltb}
 use lib.Seq.{drop-drop, drop-at, getD-set-same, getD-set-other}
 use borrow.Author.Tests.{lt-ltb, le-ltb}
-use Rattle.algebra.specs.Kinds.{Kind, Kind.hermitian, slots, forward, inverse}
-use Rattle.algebra.proofs.Laws.{along}
+use Rattle.algebra.specs.lines.Kinds.{Kind, Kind.hermitian, slots, forward, inverse}
+use Rattle.algebra.proofs.ring.Laws.{along}
 use Rattle.numbers.specs.declared.Pair.{Pair}
-use Rattle.numbers.specs.Prime.{prime, IsModulus}
-use Rattle.numbers.specs.Value.{field, conj, i, half, real, valueOf, pairOf}
+use Rattle.numbers.specs.Value.{prime, IsModulus, field, conj, i, half, real, valueOf, pairOf}
 use Rattle.numbers.proofs.Primes.{prime-pos}
 use Rattle.numbers.proofs.Values.{field-ring, field-star, pair-path}
-use Rattle.slices.specs.Values.{valuesOf, listOf}
-use Rattle.algebra.specs.Axis.{AxisLaws}
-use Rattle.slices.specs.Pairs.{at, tab, put, puts, fills, zeroPair, Below}
+use Rattle.slices.specs.Pairs.{valuesOf, listOf, at, tab, put, puts, fills, zeroPair, Below}
+use Rattle.algebra.specs.fourier.Axis.{AxisLaws}
 use Rattle.slices.proofs.Pairs.{lt-or-ge, puts-ext, is-tab, at-tab, length-put, at-put-same, at-put-other}
 use Rattle.slices.proofs.Segments.{at-take, at-append-left, take-fills, drop-fills}
 use Rattle.slices.proofs.Values.{length-list, below-list, list-cong, values-list}
 use Rattle.slices.proofs.Bounds.{below-tab, small-at}
-use Rattle.lengths.specs.Counts.{kindOf, pairCount}
-use Rattle.line.specs.Transform.{rootOf, transform, transformed}
+use Rattle.lengths.specs.Lengths.{kindOf, pairCount}
+use Rattle.line.specs.Transform.{transformed}
 use Rattle.lengths.specs.Admitted.{AdmittedLength}
 use Rattle.line.proofs.kinds.Transforms.{half-length}
 use Rattle.line.proofs.kinds.Dispatch.{half-positive, half-divides}
 use Rattle.line.proofs.kinds.Axes.{own, axis-own}
 use Rattle.line.proofs.kinds.Reading.{forward-cong, back-cong}
 use Rattle.cell.proofs.LineReading.{by-half}
-use Rattle.cell.specs.Sums.{axis}
-use Rattle.volume_transform.specs.Turned.{turnedLine, turnedStored, forwardValues, inverseValues, joined, parted, forwardRow, inverseRow}
-use Rattle.volume_transform.specs.LinesRow.{Kept}
+use Rattle.cell.specs.Volume.{axis}
+use Rattle.volume_transform.specs.Axes.{turnedLine, turnedStored, forwardValues, inverseValues, joined, parted, forwardRow, inverseRow}
+use Rattle.volume_transform.specs.Lines.{Kept}
 
 -- ---- a packed line
 
@@ -50,20 +48,9 @@ length-stored m a zero b k l = length-list m _ _
 length-stored m a (suc d) b k l = length-list m _ _
 
 -- what the line crate calls the transform
-module _ (m a kind : ℕ) (l : List ℕ) where
-  turned-forward : transformed m kind 0 (2 * a) l ≡ turnedLine m a 0 (kindOf kind) l
-  unfolding transformed transform rootOf
-  turned-forward = along (λ c. listOf (slots (kindOf kind) c) (forward (field m) (conj m) (i m) (real m (half m)) c (axis m a .w) (kindOf kind) (valuesOf m l))) (2 * a / 2) a (half-length a)
-
-  turned-inverse : transformed m kind 1 (2 * a) l ≡ turnedLine m a 1 (kindOf kind) l
-  unfolding transformed transform rootOf
-  turned-inverse = along (λ c. listOf (slots (kindOf kind) c) (inverse (field m) (conj m) (i m) (real m (half m)) c (axis m a .w) (axis m a .part) (kindOf kind) (valuesOf m l))) (2 * a / 2) a (half-length a)
-
--- in either direction
-pub turned-packed : (m a kind direction : ℕ) (l : List ℕ) → direction < 2 → transformed m kind direction (2 * a) l ≡ turnedLine m a direction (kindOf kind) l
-turned-packed m a kind zero l h = turned-forward m a kind l
-turned-packed m a kind (suc zero) l h = turned-inverse m a kind l
-turned-packed m a kind (suc (suc d)) l h = absurd (omega arith)
+pub turned-packed : (m a kind direction : ℕ) (l : List ℕ) → transformed m kind direction (2 * a) l ≡ turnedLine m a direction (kindOf kind) l
+unfolding transformed
+turned-packed m a kind direction l = along (λ c. turnedLine m c direction (kindOf kind) l) (2 * a / 2) a (half-length a)
 
 pub line-length : (a kind : ℕ) {n : ℕ} → n ≡ 2 * slots (kindOf kind) a → n ≡ 2 * pairCount kind (2 * a)
 line-length a kind h = h ∙ along (λ c. 2 * slots (kindOf kind) c) a (2 * a / 2) (sym (half-length a))
@@ -102,7 +89,6 @@ module _ (m a direction : ℕ) (b : Bool) (k : Kind) (count : ℕ) (p : ℕ → 
 -- the laws of an axis of an admitted length
 module _ (m : ℕ) (is : IsModulus m) (b : ℕ) (size : AdmittedLength (2 * b)) where
   laws : AxisLaws (field m) (conj m) (i m) (real m (half m)) (axis m b) (own m is b (half-positive b size) (half-divides b size))
-  unfolding rootOf
   laws = axis-own m is b (half-positive b size) (half-divides b size)
 
 -- ---- a line that is stored times i

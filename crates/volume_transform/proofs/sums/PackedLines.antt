@@ -6,20 +6,21 @@ use mathlib.Core.Bool.{Bool, true, false, cond}
 use Prim.Native.Nat.{ℕ, suc, _+_, _*_, _<_, _≤_}
 use native.Mathlib.Omega.{arith}
 use native.Mathlib.Decide.{ℕ-discrete}
-use Rattle.algebra.specs.Ring.{Ops, CRing, Star}
-use Rattle.algebra.specs.Fourier.{dft}
-use Rattle.algebra.specs.Axis.{Axis, AxisLaws}
-use Rattle.algebra.specs.Kinds.{Kind, Kind.alternating, Kind.symmetric, Kind.antisymmetric, slots, packBefore, packAfter, RuleBefore, RuleAfter, forward, inverse}
-use Rattle.algebra.specs.Cell.{J, Group, P1, P2₁, Pm, Pa, P2₁2₁2₁, planes, negI, Cell}
-use Rattle.algebra.specs.CellSteps.{Lawful}
-use Rattle.algebra.specs.CellPack.{even}
-use Rattle.algebra.proofs.Laws.{along, self-neg, neg-one-mul}
-use Rattle.algebra.proofs.Transform.{dft-cong}
-use Rattle.algebra.proofs.Unfold.{at-zero, at-mirror}
-use Rattle.algebra.proofs.Rules.{before-pack, after-pack, pack-before-cong, pack-after-cong, transform-rule}
-use Rattle.algebra.proofs.CellLines.{line-P2₁, line-Pm, line-Pa}
-use Rattle.algebra.proofs.CellTests.{Positive}
-use Rattle.algebra.proofs.CellPack.{signOf, pow-even, alt-4}
+use Rattle.algebra.specs.ring.Ring.{Ops}
+use Rattle.algebra.specs.ring.RingLaws.{CRing, Star}
+use Rattle.algebra.specs.fourier.Fourier.{dft}
+use Rattle.algebra.specs.fourier.Axis.{Axis, AxisLaws}
+use Rattle.algebra.specs.lines.Kinds.{Kind, Kind.alternating, Kind.symmetric, Kind.antisymmetric, slots, packBefore, packAfter, RuleBefore, RuleAfter, forward, inverse}
+use Rattle.algebra.specs.cells.Cell.{J, Group, P1, P2₁, Pm, Pa, P2₁2₁2₁, planes, negI, Cell}
+use Rattle.algebra.specs.cells.CellSteps.{Lawful}
+use Rattle.algebra.specs.cells.CellPack.{even}
+use Rattle.algebra.proofs.ring.Laws.{along, self-neg, neg-one-mul}
+use Rattle.algebra.proofs.fourier.Transform.{dft-cong}
+use Rattle.algebra.proofs.lines.Unfold.{at-zero, at-mirror}
+use Rattle.algebra.proofs.lines.Rules.{before-pack, after-pack, pack-before-cong, pack-after-cong, transform-rule}
+use Rattle.algebra.proofs.cells.CellLines.{line-P2₁, line-Pm, line-Pa}
+use Rattle.algebra.proofs.cells.CellTests.{Positive}
+use Rattle.algebra.proofs.cells.CellPack.{signOf, pow-even, alt-4}
 use Rattle.numbers.specs.Value.{Value, field, conj, i, half, real}
 use Rattle.numbers.proofs.Residues.{res-ring}
 use Rattle.numbers.proofs.Values.{field-ring, field-star}

@@ -8,25 +8,26 @@ use Prim.Native.Nat.{ℕ, zero, suc, _+_, _*_, _-_, _<_}
 use native.Mathlib.Omega.{arith}
 use lib.Dec.{ltb}
 use borrow.Author.Tests.{lt-ltb, le-ltb}
-use Rattle.algebra.specs.Ring.{Ops, CRing}
-use Rattle.algebra.specs.Residue.{residues}
-use Rattle.algebra.specs.Gauss.{gauss, imag}
-use Rattle.algebra.specs.Fourier.{dft}
-use Rattle.algebra.specs.Axis.{AxisLaws}
-use Rattle.algebra.specs.Line.{pack-by}
-use Rattle.algebra.specs.Kinds.{Kind, Kind.plain, Kind.hermitian, Kind.antisymmetric, slots, unfoldBefore, unfoldAfter, packBefore, packAfter, RuleBefore}
-use Rattle.algebra.specs.Cell.{J, Group, Cell, friedel, negI}
-use Rattle.algebra.specs.CellSteps.{Lawful, afterL, afterH, afterK, backK, backH}
-use Rattle.algebra.proofs.Laws.{along}
-use Rattle.algebra.proofs.Solver.{ring, quote}
-use Rattle.algebra.proofs.Parts.{real-gauss}
-use Rattle.algebra.proofs.Unfold.{at-zero, at-mirror}
-use Rattle.algebra.proofs.Transform.{dft-cong, dft-mul, inversion}
-use Rattle.algebra.proofs.Rules.{transform-rule, inverse-rule, pack-before-cong}
-use Rattle.algebra.proofs.CellGroup.{friedel-mem}
-use Rattle.algebra.proofs.CellTests.{Positive}
-use Rattle.algebra.proofs.CellSteps.{synthesis, halfway-h, hermitian as hermitian-lines}
-use Rattle.algebra.proofs.CellLawful.{opened-lawful}
+use Rattle.algebra.specs.ring.Ring.{Ops}
+use Rattle.algebra.specs.ring.RingLaws.{CRing}
+use Rattle.algebra.specs.ring.Residue.{residues}
+use Rattle.algebra.specs.ring.Gauss.{gauss, imag}
+use Rattle.algebra.specs.fourier.Fourier.{dft}
+use Rattle.algebra.specs.fourier.Axis.{AxisLaws}
+use Rattle.algebra.specs.lines.Line.{pack-by}
+use Rattle.algebra.specs.lines.Kinds.{Kind, Kind.plain, Kind.hermitian, Kind.antisymmetric, slots, unfoldBefore, unfoldAfter, packBefore, packAfter, RuleBefore}
+use Rattle.algebra.specs.cells.Cell.{J, Group, Cell, friedel, negI}
+use Rattle.algebra.specs.cells.CellSteps.{Lawful, afterL, afterH, afterK, backK, backH}
+use Rattle.algebra.proofs.ring.Laws.{along}
+use Rattle.algebra.proofs.ring.Solver.{ring, quote}
+use Rattle.algebra.proofs.lines.Parts.{real-gauss}
+use Rattle.algebra.proofs.lines.Unfold.{at-zero, at-mirror}
+use Rattle.algebra.proofs.fourier.Transform.{dft-cong, dft-mul, inversion}
+use Rattle.algebra.proofs.lines.Rules.{transform-rule, inverse-rule, pack-before-cong}
+use Rattle.algebra.proofs.cells.CellGroup.{friedel-mem}
+use Rattle.algebra.proofs.cells.CellTests.{Positive}
+use Rattle.algebra.proofs.cells.CellSteps.{synthesis, halfway-h, hermitian as hermitian-lines}
+use Rattle.algebra.proofs.cells.CellLawful.{opened-lawful}
 use Rattle.numbers.specs.declared.Pair.{Pair}
 use Rattle.numbers.specs.Value.{Value, field, conj, i, half, real, value, valueOf, pairOf}
 use Rattle.numbers.specs.Value as Value
@@ -34,16 +35,13 @@ use Rattle.numbers.proofs.Primes.{prime-pos}
 use Rattle.numbers.proofs.Residues.{res-ring, res-val, val-res}
 use Rattle.numbers.proofs.Values.{pair-path, value-path, value-pair, field-ring, field-star, conj-real}
 use Rattle.numbers.proofs.Parts.{half-residue}
-use Rattle.slices.specs.Pairs.{at, zeroPair}
-use Rattle.slices.specs.Values.{valuesOf}
+use Rattle.slices.specs.Pairs.{at, zeroPair, valuesOf}
 use Rattle.slices.specs.Sweep.{Layout, sweep, onLists}
 use Rattle.slices.proofs.Pairs.{at-tab}
-use Rattle.cell.specs.Volume.{lineKind, rotated, timesI, overI, firstPair, layers, rows, columns, volumeOf, packed, packFactors, mapPair, packMap}
+use Rattle.cell.specs.Volume.{lineKind, rotated, timesI, overI, firstPair, layers, rows, columns, volumeOf, packed, packFactors, mapPair, packMap, axis, mapOf, factorsOf}
 use Rattle.cell.specs.Consistency.{RealMap, ObeysGroup}
 use Rattle.cell.proofs.RotatedLines.{over-times, over-zero}
-use Rattle.cell.specs.Sums.{axis, mapOf, factorsOf}
-use Rattle.volume_transform.specs.Turned.{forwardValues, inverseValues, joined, parted, forwardRow, inverseRow}
-use Rattle.volume_transform.specs.Axes.{alongL, alongH, alongK, turnedL, turnedH, turnedK}
+use Rattle.volume_transform.specs.Axes.{forwardValues, inverseValues, joined, parted, forwardRow, inverseRow, alongL, alongH, alongK, turnedL, turnedH, turnedK}
 use Rattle.cell.proofs.VolumeLayout.{volume-cong, by-row, mapPair-low, mapPair-end}
 use Rattle.cell.proofs.LineReading.{by-half, packed-in, packed-first, packed-last}
 use Rattle.cell.proofs.Maps.{layers-fit}

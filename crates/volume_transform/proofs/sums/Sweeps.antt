@@ -5,13 +5,12 @@ use mathlib.Core.List.{List}
 use Prim.Native.Nat.{ℕ, _+_, _*_, _-_, _/_, _%_, _<_, _≤_}
 use native.Mathlib.Omega.{arith}
 use lib.ListN.{length}
-use Rattle.algebra.specs.Kinds.{Kind.antisymmetric, slots}
-use Rattle.algebra.specs.Cell.{J, Group}
+use Rattle.algebra.specs.lines.Kinds.{Kind.antisymmetric, slots}
+use Rattle.algebra.specs.cells.Cell.{J, Group}
 use Rattle.numbers.specs.declared.Pair.{Pair}
 use Rattle.numbers.specs.Value.{Value, valueOf, pairOf}
 use Rattle.numbers.proofs.Values.{value-pair}
-use Rattle.slices.specs.Pairs.{at, tab}
-use Rattle.slices.specs.Values.{valuesOf, listOf}
+use Rattle.slices.specs.Pairs.{at, tab, valuesOf, listOf}
 use Rattle.slices.specs.Sweep.{Layout, lineOf, sweep, Disjoint, onLists}
 use Rattle.slices.proofs.Pairs.{at-tab}
 use Rattle.slices.proofs.Rows.{row-end, row-col, row-inj, row-split}

@@ -8,11 +8,10 @@ use native.Mathlib.Numerals.{add-one}
 use native.Mathlib.Omega.{arith}
 use lib.Dec.{ltb}
 use lib.ListN.{length}
-use Rattle.algebra.specs.Kinds.{Kind, Kind.plain}
-use Rattle.algebra.specs.Cell.{J, Group}
-use Rattle.algebra.proofs.Laws.{along}
-use Rattle.numbers.specs.Prime.{prime}
-use Rattle.numbers.specs.Value.{Value, Small, pairOf}
+use Rattle.algebra.specs.lines.Kinds.{Kind, Kind.plain}
+use Rattle.algebra.specs.cells.Cell.{J, Group}
+use Rattle.algebra.proofs.ring.Laws.{along}
+use Rattle.numbers.specs.Value.{prime, Value, Small, pairOf}
 use Rattle.numbers.proofs.Primes.{prime-pos}
 use Rattle.numbers.proofs.Values.{small-pair}
 use Rattle.slices.specs.Pairs.{Below, zeroPair}
@@ -20,10 +19,9 @@ use Rattle.slices.specs.Sweep.{Layout, sweep, onLists}
 use Rattle.slices.proofs.Pairs.{length-puts}
 use Rattle.slices.proofs.Bounds.{small-at, below-puts, below-tab}
 use Rattle.slices.proofs.Values.{below-list}
-use Rattle.volume_transform.specs.Axes.{turnOf, alongL, alongH, alongK, lineCount, lineOfTurn, turnedL, turnedH, turnedK, jobTurn}
+use Rattle.volume_transform.specs.Axes.{turnOf, alongL, alongH, alongK, lineCount, lineOfTurn, turnedL, turnedH, turnedK, jobTurn, parted, turnedLine, turnedStored, turnedRow}
 use Rattle.volume_transform.proofs.plan.Numbered.{order-k, order-h, order-l}
 use Rattle.volume_transform.specs.Turns.{turns}
-use Rattle.volume_transform.specs.Turned.{parted, turnedLine, turnedStored, turnedRow}
 
 module _ (step : ℕ → List ℕ → List ℕ) where
   pub turns-next : (j n : ℕ) (d : List ℕ) → turns step j (n + 1) d ≡ step (j + n) (turns step j n d)

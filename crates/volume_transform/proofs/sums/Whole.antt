@@ -5,20 +5,16 @@ use mathlib.Core.List.{List}
 use Prim.Native.Nat.{ℕ, _+_, _/_}
 use native.Mathlib.Omega.{arith}
 use lib.ListN.{length}
-use Rattle.algebra.specs.Axis.{AxisLaws}
-use Rattle.algebra.specs.Cell.{J, Group}
-use Rattle.algebra.proofs.Laws.{along}
-use Rattle.algebra.proofs.CellTests.{Positive}
-use Rattle.numbers.specs.Prime.{prime, IsModulus}
-use Rattle.numbers.specs.Value.{field, conj, i, half, real}
+use Rattle.algebra.specs.cells.Cell.{J, Group}
+use Rattle.algebra.proofs.ring.Laws.{along}
+use Rattle.algebra.proofs.cells.CellTests.{Positive}
+use Rattle.numbers.specs.Value.{prime, IsModulus, field, conj, i, half, real}
 use Rattle.slices.specs.Pairs.{Below}
 use Rattle.slices.specs.Sweep.{Layout, sweep, onLists}
-use Rattle.line.specs.Transform.{rootOf}
 use Rattle.lengths.specs.Admitted.{AdmittedLength}
-use Rattle.line.proofs.kinds.Axes.{own, axis-own}
-use Rattle.cell.specs.Volume.{groupOf, volumeLength, factorsIn, packFactors, mapIn, packMap}
+use Rattle.line.proofs.kinds.Axes.{axis-laws}
+use Rattle.cell.specs.Volume.{groupOf, volumeLength, factorsIn, packFactors, mapIn, packMap, mapOf, factorsOf}
 use Rattle.cell.specs.Consistency.{consistentFactors, consistentMap}
-use Rattle.cell.specs.Sums.{axis, mapOf, factorsOf}
 use Rattle.cell.specs.Operations.{halvesOf}
 use Rattle.volume_transform.specs.Turns.{turns}
 use Rattle.volume_transform.specs.Axes.{alongL, alongH, alongK, lineCount, lineOfTurn, turnedL, turnedH, turnedK, jobTurn, JobSizes}
@@ -68,11 +64,6 @@ module _ (g : Group) (a : J) (m direction : ℕ) where
   run-backward d = run-l _ ∙ ap (pass (alongL g a) (turnedL g a m direction)) (run-h _ ∙ ap (pass (alongH g a) (turnedH g a m direction)) (run-k d))
 
 -- ---- a checked job
-
--- the laws of an admitted axis
-axis-laws : (m : ℕ) (is : IsModulus m) {n : ℕ} (h : AdmittedLength n) → AxisLaws (field m) (conj m) (i m) (real m (half m)) (axis m (n / 2)) (own m is (n / 2) (h .positive) (h .half-turns))
-unfolding rootOf
-axis-laws m is h = axis-own m is _ (h .positive) (h .half-turns)
 
 module _ (m : ℕ) (is : IsModulus m) {group n1 n2 n3 f1 f2 f3 : ℕ} (job : JobSizes group n1 n2 n3 f1 f2 f3) (v : List ℕ) (len : length v ≡ volumeLength (groupOf group) (halvesOf n1 n2 n3)) (small : Below (prime m) v) where
   abbrev g : Group

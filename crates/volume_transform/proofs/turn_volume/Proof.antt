@@ -3,7 +3,7 @@ use native.Mathlib.Omega.{arith}
 use mathlib.Core.Path.{sym, _∙_, ap}
 use Prim.Native.Nat.{_-_}
 use Rattle.volume_transform.specs.Axes.{lineOfTurn}
-use Rattle.volume_transform.specs.Plans.{groupIn, halvesIn, planTurn}
+use Rattle.volume_transform.specs.Plans.{planGroup, planHalves, planTurn}
 use Rattle.volume_transform.proofs.plan.AxisLines.{modulus-is, turned-as}
 use Rattle.volume_transform.proofs.Ready.{line-ready}
 use Rattle.volume_transform.specs.Turns.{turns}
@@ -35,7 +35,7 @@ turn-requires c κs =
     let i = l .before .before in
     let s = i .before .before .before .before .before .before in
     let a = s .args in
-    let j = lineOfTurn (groupIn (a .plan)) (halvesIn (a .plan)) (a .plan .direction) (i .loop .n) in
+    let j = lineOfTurn (planGroup (a .plan)) (planHalves (a .plan)) (a .plan .direction) (i .loop .n) in
     let found = l .line-in-turn .ensures in
     let ready = line-ready (a .plan) j (l .line-in-turn .result) _ (a .re .now) (a .im .now) (a .tan .now) (turning-fits (a .plan) (i .loop .inv) (s .pre .1 .0)) (s .pre .0 .1) found in
     ((ready .0 .0, ready .0 .1, s .pre .0 .2 ∙ sym (modulus-is (a .plan) j (l .line-in-turn .result) found)), (ready .1, turning-lent (i .loop .inv) (s .pre .1 .1)))
@@ -54,7 +54,7 @@ loop-again c =
     let i = b .before in
     let p = i .before .before .before .before .before .before .args .plan in
     let t = r .turn .ensures in
-    turning-next (i .loop .inv) (b .loop-test .taken) (t .0 ∙ turned-as p (lineOfTurn (groupIn p) (halvesIn p) (p .direction) (i .loop .n)) (l .line-in-turn .result) (l .line-in-turn .ensures) _) (t .1) (c .before .before .before .before .before .scratch .given) (c .before .before .before .fold .given) (c .before .work .given)
+    turning-next (i .loop .inv) (b .loop-test .taken) (t .0 ∙ turned-as p (lineOfTurn (planGroup p) (planHalves p) (p .direction) (i .loop .n)) (l .line-in-turn .result) (l .line-in-turn .ensures) _) (t .1) (c .before .before .before .before .before .scratch .given) (c .before .before .before .fold .given) (c .before .work .given)
 
 same-length : tie.Need-same-length Inv-loop μ-loop
 same-length c = let i = c .before in turning-length (i .before .before .before .before .before .before .args .plan) (i .loop .inv)

@@ -1,6 +1,6 @@
 -- The three axes go each by its own change of sign.
 use borrow.Author.Needs.{needs}
-use Rattle.algebra.specs.Cell.{im}
+use Rattle.algebra.specs.cells.Cell.{imageOf}
 use Rattle.cell.proofs.operations.image.Statement.{statement}
 use Rattle.cell.proofs.operations.image.Tie as tie
 
@@ -14,7 +14,7 @@ flipped-requires-3 : tie.Need-flipped-requires-3
 flipped-requires-3 c κs = search needs
 
 returns : tie.Need-returns
-unfolding im
+unfolding imageOf
 returns c =
     let f = c .before .before .flipped .ensures in
     let g = c .before .flipped2 .ensures in

@@ -1,7 +1,7 @@
 -- One sign after the other, then the conjugate.
 use borrow.Author.Needs.{needs}
 use mathlib.Core.Path.{_∙_, ap}
-use Rattle.algebra.specs.Cell.{star, imp}
+use Rattle.algebra.specs.cells.Cell.{star, impliedValue}
 use Rattle.numbers.specs.Value.{conj, pairOf}
 use Rattle.numbers.proofs.Values.{small-by, value-by}
 use Rattle.cell.proofs.OperationLaws.{signed-thrice}
@@ -21,14 +21,14 @@ conjugate-requires : tie.Need-conjugate-requires
 conjugate-requires c κs = (c .before .before .before .before .pre .0, small-by _ _ (c .before .signed3 .ensures))
 
 returns : tie.Need-returns
-unfolding imp star
+unfolding impliedValue star
 returns c =
     let s = c .before .before in
     let e = signed-thrice _ _ _ _ _ (s .before .before .signed .ensures) (s .before .signed2 .ensures) (s .signed3 .ensures) in
     rw (c .before .if1 .taken) (c .conjugate .ensures ∙ ap (λ z. pairOf (conj (s .before .before .before .args .m) z)) (value-by _ _ e))
 
 returns-2 : tie.Need-returns-2
-unfolding imp star
+unfolding impliedValue star
 returns-2 c =
     let s = c .before in
     rw (c .if1 .left) (signed-thrice _ _ _ _ _ (s .before .before .signed .ensures) (s .before .signed2 .ensures) (s .signed3 .ensures))

@@ -2,7 +2,7 @@
 use borrow.Author.Needs.{needs}
 use mathlib.Core.Path.{_∙_, ap}
 use Prim.Native.Nat.{_/_}
-use Rattle.algebra.specs.Cell.{flip, turn}
+use Rattle.algebra.specs.cells.Cell.{flip, shifted}
 use Rattle.cell.proofs.OperationLaws.{differ}
 use Rattle.cell.proofs.operations.moved.Statement.{statement}
 use Rattle.cell.proofs.operations.moved.Tie as tie
@@ -16,7 +16,7 @@ turned-requires c κs = search needs
 returns : tie.Need-returns
 returns c =
     let a = c .before .before .args in
-    (c .turned .ensures .0 ∙ ap (turn (a .odd) (a .n / 2)) (c .before .flipped .ensures .0 ∙ ap (λ b. flip b (a .n / 2) (a .x)) (differ (a .conjugate) (a .minus))), c .turned .ensures .1)
+    (c .turned .ensures .0 ∙ ap (shifted (a .odd) (a .n / 2)) (c .before .flipped .ensures .0 ∙ ap (λ b. flip b (a .n / 2) (a .x)) (differ (a .conjugate) (a .minus))), c .turned .ensures .1)
 
 pub moved-spec : {M : Type 1} → statement M
 moved-spec = tie.close (tie.spec flipped-requires turned-requires returns)

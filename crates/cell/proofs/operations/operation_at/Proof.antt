@@ -4,7 +4,7 @@ use mathlib.Core.Path.{_∙_, ap}
 use Prim.Native.Nat.{_-_}
 use native.Mathlib.Omega.{arith}
 use lib.ListN.{getD}
-use Rattle.algebra.specs.Cell.{one, friedel, _·_, ops}
+use Rattle.algebra.specs.cells.Cell.{one, friedel, _·_, ops}
 use Rattle.cell.specs.Volume.{groupOf}
 use Rattle.cell.proofs.OperationLaws.{full-length, twofold-own, twofold-mate}
 use Rattle.cell.proofs.operations.operation_at.Statement.{statement}

@@ -1,6 +1,6 @@
 -- The three axes of a point go each by itself.
 use borrow.Author.Needs.{needs}
-use Rattle.algebra.specs.Cell.{pim}
+use Rattle.algebra.specs.cells.Cell.{pointImage}
 use Rattle.cell.proofs.operations.point_image.Statement.{statement}
 use Rattle.cell.proofs.operations.point_image.Tie as tie
 
@@ -14,7 +14,7 @@ moved-requires-3 : tie.Need-moved-requires-3
 moved-requires-3 c κs = search needs
 
 returns : tie.Need-returns
-unfolding pim
+unfolding pointImage
 returns c =
     let f = c .before .before .moved .ensures in
     let g = c .before .moved2 .ensures in

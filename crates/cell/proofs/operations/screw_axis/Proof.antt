@@ -6,7 +6,7 @@ use Prim.Native.Nat.{ℕ, zero, suc, _<_}
 use native.Mathlib.Omega.{arith}
 use lib.Dec.{eqb}
 use lib.ListN.{getD}
-use Rattle.algebra.specs.Cell.{Sym.sym, P2₁2₁2₁, ops, one}
+use Rattle.algebra.specs.cells.Cell.{Sym.sym, P2₁2₁2₁, ops, one}
 use Rattle.cell.proofs.operations.screw_axis.Statement.{statement}
 use Rattle.cell.proofs.operations.screw_axis.Tie as tie
 

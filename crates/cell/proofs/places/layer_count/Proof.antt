@@ -3,7 +3,7 @@ use borrow.Author.Needs.{needs}
 use mathlib.Core.Path.{_≡_, refl, sym, _∙_, ap}
 use Prim.Native.Nat.{_/_}
 use native.Mathlib.Omega.{arith}
-use Rattle.algebra.specs.Cell.{planes}
+use Rattle.algebra.specs.cells.Cell.{planes}
 use Rattle.cell.specs.Volume.{groupOf}
 use Rattle.cell.proofs.PlaceLaws.{by-alternating, mirrored-layers}
 use Rattle.cell.proofs.places.layer_count.Statement.{statement}

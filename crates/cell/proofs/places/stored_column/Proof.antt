@@ -3,8 +3,8 @@ use borrow.Author.Needs.{needs}
 use Prim.Native.Nat.{_/_}
 use native.Mathlib.Omega.{arith}
 use borrow.Author.Tests.{le-leb, lt-leb}
-use Rattle.algebra.specs.Cell.{flip}
-use Rattle.algebra.proofs.CellAxis.{neg-pos}
+use Rattle.algebra.specs.cells.Cell.{flip}
+use Rattle.algebra.proofs.cells.CellAxis.{neg-pos}
 use Rattle.cell.proofs.places.stored_column.Statement.{statement}
 use Rattle.cell.proofs.places.stored_column.Tie as tie
 

@@ -2,7 +2,7 @@
 use borrow.Author.Needs.{needs}
 use mathlib.Core.Path.{ap}
 use native.Mathlib.Omega.{arith}
-use Rattle.algebra.specs.Cell.{span}
+use Rattle.algebra.specs.cells.Cell.{span}
 use Rattle.cell.specs.Volume.{groupOf}
 use Rattle.cell.proofs.PlaceLaws.{half-span}
 use Rattle.cell.proofs.places.stored_count.Statement.{statement}

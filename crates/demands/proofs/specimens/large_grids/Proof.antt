@@ -1,10 +1,9 @@
 -- The grids are computed; the length of the volume is all that is known of it.
 use mathlib.Core.Path.{refl}
-use Rattle.algebra.specs.Cell.{planes}
-use Rattle.refusals.specs.Tests.{first}
-use Rattle.lengths.specs.Factors.{product, octal}
-use Rattle.lengths.specs.Lengths.{admitted, factorsOk}
-use Rattle.job.specs.Steps.{openStep}
+use Rattle.algebra.specs.cells.Cell.{planes}
+use Rattle.refusals.specs.Refusals.{first}
+use Rattle.lengths.specs.Lengths.{product, octal, admitted, factorsOk}
+use Rattle.job.specs.Job.{openStep}
 use Rattle.demands.proofs.specimens.large_grids.Statement.{statement}
 use Rattle.demands.proofs.specimens.large_grids.Tie as tie
 

@@ -2,8 +2,8 @@
 use borrow.Author.Needs.{needs}
 use mathlib.Core.Path.{_∙_, sym, ap}
 use Rattle.job.specs.declared.Answer.{Answer}
-use Rattle.job.specs.Said.{said}
-use Rattle.exported.specs.CodedAnswers.{numberSaid}
+use Rattle.job.specs.Job.{said}
+use Rattle.exported.specs.Answers.{numberSaid}
 use Rattle.exported.proofs.answers.answer_number.Statement.{statement}
 use Rattle.exported.proofs.answers.answer_number.Tie as tie
 

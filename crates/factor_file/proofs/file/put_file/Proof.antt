@@ -5,12 +5,13 @@ use mathlib.Core.Path.{_≡_}
 use mathlib.Core.List.{List}
 use Prim.Native.Nat.{_+_, _*_, _-_, _≤_}
 use lib.ListN.{length}
-use Rattle.algebra.specs.Cell.{J}
+use Rattle.algebra.specs.cells.Cell.{J}
 use Rattle.numbers.specs.Value.{Value}
 use Rattle.header.specs.Header.{Header}
-use Rattle.file_format.specs.Bytes.{bytes, headerBytes, body, fileOf, headerWith}
-use Rattle.factor_file.specs.StepsFile.{recordsWith}
-use Rattle.factor_file.proofs.file.Stores.{put-then, put-as}
+use Rattle.output.specs.Output.{bigEndian}
+use Rattle.output.proofs.Writing.{wrote-append, wrote-as}
+use Rattle.file_format.specs.Format.{headerBytes, body, fileOf, headerWith}
+use Rattle.factor_file.specs.Steps.{recordsWith}
 use Rattle.file_format.proofs.layout.ByteLaws.{length-all}
 use Rattle.factor_file.proofs.file.RecordLaws.{admitted-few}
 use Rattle.file_format.proofs.layout.FileParts.{length-body, length-file, file-parts}
@@ -26,14 +27,14 @@ module _ (s : tie.Start) where
   records = let a = s .args in recordsWith (a .group) (a .n1) (a .n2) (a .n3) (a .volume .now)
 
   few : s .args .count ≤ 33554432
-  few = let f = s .pre .0 .0 in omega (arith, s .pre .1 .0, admitted-few (f .volume .sizes) (s .args .volume .now) (f .volume .long) (s .pre .0 .1))
+  few = let f = s .pre .0 .0 in omega (arith, s .pre .1, admitted-few (f .volume .sizes) (s .args .volume .now) (f .volume .long) (s .pre .0 .1))
 
 -- how long the file is
 long : (c : tie.After-file-length) → let s = c .before .before .before in (c .file-length .result ≡ length (fileOf (head s) (records s))) × (c .file-length .result ≤ 52 + 14 * s .args .count)
 long c =
     let s = c .before .before .before in
     let a = s .args in
-    (c .file-length .ensures .0 (a .group) (a .n1) (a .n2) (a .n3) (records s) (s .pre .1 .0), c .file-length .ensures .1)
+    (c .file-length .ensures .0 (a .group) (a .n1) (a .n2) (a .n3) (records s) (s .pre .1), c .file-length .ensures .1)
 
 -- what follows the first count
 follows : (c : tie.After-file-length) → let s = c .before .before .before in c .file-length .result - 4 ≡ length (body (head s) (records s))
@@ -46,34 +47,39 @@ sub-follow : tie.Need-sub-follow
 sub-follow c = let s = c .before .before .before in omega (arith, long c, length-file (head s) (records s))
 
 cast-put-four : tie.Need-cast-put-four
-cast-put-four c = omega (arith, long c, few (c .before .before .before))
+cast-put-four c = omega (arith, long (c .before), few (c .before .before .before .before))
 
--- the room that the file needs
-room : (s : tie.Start) → length (headerBytes (head s)) + 8 + 14 * s .args .count ≤ length (s .args .out .now)
-room s = omega (arith, s .pre .1, length-file (head s) (records s))
+-- how long its header is at most
+short : (c : tie.After-file-length) → length (headerBytes (head (c .before .before .before))) ≤ 44
+short c = let s = c .before .before .before in omega (arith, long c, s .pre .1, length-file (head s) (records s))
 
 put-four-requires : tie.Need-put-four-requires
-put-four-requires c κs = omega (arith, room (c .before .before .before .before))
+unfolding bigEndian
+put-four-requires c κs = record { low = omega arith }
 
 put-header-requires : tie.Need-put-header-requires
-unfolding bytes
+unfolding bigEndian
 put-header-requires c κs =
-    let s = c .before .before .before .before .before .before .before .before in
-    let z = s .pre .0 .0 .volume .sizes in
-    ((omega (arith, z .known), omega (arith, z .first .high), omega (arith, z .second .high), omega (arith, z .third .high)), omega (arith, room s))
+    let l = c .before .before .before .before .before in
+    let z = l .before .before .before .pre .0 .0 .volume .sizes in
+    ((omega (arith, z .known), omega (arith, z .first .high), omega (arith, z .second .high), omega (arith, z .third .high)), record { low = omega (arith, short l) })
 
 cast-put-four-2 : tie.Need-cast-put-four-2
-cast-put-four-2 c = omega (arith, few (c .before .before .before .before .before .before .before .before .before .before .before))
+cast-put-four-2 c = omega (arith, few (c .before .before .before .before .before .before .before .before .before .before .before .before))
 
 put-four-requires-2 : tie.Need-put-four-requires-2
-unfolding bytes
-put-four-requires-2 c κs = omega (arith, room (c .before .before .before .before .before .before .before .before .before .before .before .before))
+unfolding bigEndian
+put-four-requires-2 c κs = record { low = omega (arith, short (c .before .before .before .before .before .before .before .before .before)) }
 
 put-records-requires : tie.Need-put-records-requires
-unfolding bytes
+unfolding bigEndian
 put-records-requires c κs =
-    let s = c .before .before .before .before .before .before .before .before .before .before .before .before .before .before .before .before in
-    (s .pre .0 .0, omega (arith, room s, s .pre .1 .0, length-all (records s)))
+    let n = c .before .before .before in
+    let h = n .before .before .before .before in
+    let m = h .before .before .before .before in
+    let l = m .before .before in
+    let s = l .before .before .before in
+    (s .pre .0 .0, record { low = omega (arith, short l, few s, s .pre .1, length-all (records s), m .put-four .ensures .place, h .put-header .ensures .place, n .put-four2 .ensures .place) })
 
 same-length : tie.Need-same-length
 same-length c = search needs
@@ -86,7 +92,7 @@ returns c =
     let m = h .before .before .before .before in
     let l = m .before .before in
     let s = l .before .before .before in
-    put-as (put-then (put-then (put-then (m .put-four .ensures) (h .put-header .ensures)) (n .put-four2 .ensures)) (d .put-records .ensures)) (file-parts (head s) (records s) _ _ (follows l) (s .pre .1 .0))
+    wrote-as (wrote-append (wrote-append (wrote-append (m .put-four .ensures) (h .put-header .ensures)) (n .put-four2 .ensures)) (d .put-records .ensures)) (file-parts (head s) (records s) _ _ (follows l) (s .pre .1))
 
 pub put-file-spec : {M : Type 1} → statement M
 put-file-spec =

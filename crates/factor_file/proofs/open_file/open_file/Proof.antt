@@ -1,7 +1,7 @@
 -- Refused by the shape, or what header and records lead to.
 use mathlib.Core.Path.{_∙_, sym, ap}
 use denote.Ref.{now}
-use Rattle.refusals.specs.Tests.{checkedNumber}
+use Rattle.refusals.specs.Refusals.{checkedNumber}
 use Rattle.factor_file.proofs.Openings.{shape-refused}
 use borrow.Author.Needs.{needs}
 use Rattle.factor_file.proofs.open_file.open_file.Statement.{statement}

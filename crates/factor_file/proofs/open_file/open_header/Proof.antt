@@ -4,7 +4,7 @@ use mathlib.Core.Path.{refl, ap}
 use Prim.Native.Nat.{ℕ, _+_}
 use native.Mathlib.Omega.{arith}
 use denote.Ref.{now}
-use Rattle.factor_file.specs.File.{list2At, list3At, countAt}
+use Rattle.factor_file.specs.Reading.{list2At, list3At, countAt}
 use Rattle.file_format.proofs.shape.Shapes.{Ordered, ordered, part-is-list}
 use Rattle.factor_file.proofs.Openings.{opened-by}
 use Rattle.factor_file.proofs.open_file.open_header.Statement.{statement}

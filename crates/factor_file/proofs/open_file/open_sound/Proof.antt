@@ -1,7 +1,7 @@
 -- Refused by the header, or what the records lead to.
 use mathlib.Core.Path.{_∙_, sym, ap}
 use Rattle.job.specs.declared.OpenAnswer.{OpenAnswer}
-use Rattle.job.specs.Said.{openOutcome}
+use Rattle.job.specs.Job.{openOutcome}
 use Rattle.factor_file.proofs.Openings.{header-refused, records-decide}
 use borrow.Author.Needs.{needs}
 use Rattle.factor_file.proofs.open_file.open_sound.Statement.{statement}

@@ -3,8 +3,8 @@ use borrow.Author.Needs.{needs}
 use mathlib.Core.Path.{_≡_, _∙_, ap}
 use Prim.Native.Nat.{_-_}
 use native.Mathlib.Omega.{arith}
-use Rattle.algebra.specs.Cell.{one, full, im}
-use Rattle.algebra.specs.CellTests.{lexLe}
+use Rattle.algebra.specs.cells.Cell.{one, full, imageOf}
+use Rattle.algebra.specs.cells.CellTests.{lexLe}
 use Rattle.cell.specs.Volume.{groupOf}
 use Rattle.cell.specs.Operations.{halvesOf, tripleOf, symOf}
 use Rattle.volume.proofs.consistent.Passing.{PassingMembers, members-second, members-next, members-stop, members-done}
@@ -15,7 +15,7 @@ use Rattle.factor_file.proofs.orbits.lowest.Tie as tie
 
 abbrev Inv-loop : tie.InvT-loop
 Inv-loop group n1 n2 n3 j count number₀ number =
-    PassingMembers (full (groupOf group)) one (λ s. lexLe (tripleOf j) (im (halvesOf n1 n2 n3) s (tripleOf j))) number
+    PassingMembers (full (groupOf group)) one (λ s. lexLe (tripleOf j) (imageOf (halvesOf n1 n2 n3) s (tripleOf j))) number
 
 abbrev μ-loop : tie.MeasureT-loop
 μ-loop group n1 n2 n3 j count number₀ number = count - number
@@ -24,7 +24,7 @@ abbrev μ-loop : tie.MeasureT-loop
 tried : (c : tie.After-no-later Inv-loop μ-loop) →
     let o = c .before .before in
     let a = o .before .before .before .before .args in
-    c .no-later .result ≡ lexLe (tripleOf (a .j)) (im (halvesOf (a .n1) (a .n2) (a .n3)) (symOf (o .operation-at .result)) (tripleOf (a .j)))
+    c .no-later .result ≡ lexLe (tripleOf (a .j)) (imageOf (halvesOf (a .n1) (a .n2) (a .n3)) (symOf (o .operation-at .result)) (tripleOf (a .j)))
 tried c =
     let a = c .before .before .before .before .before .before .args in
     c .no-later .ensures ∙ ap (lexLe (tripleOf (a .j))) (c .before .image .ensures .0)

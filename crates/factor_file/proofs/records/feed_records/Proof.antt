@@ -6,15 +6,14 @@ use Prim.Native.Nat.{ℕ, _+_, _-_, _<_, _≤_}
 use native.Mathlib.Omega.{arith}
 use lib.ListN.{length, replicate}
 use denote.Ref.{now}
-use Rattle.job.specs.Said.{said}
+use Rattle.job.specs.Job.{said}
 use Rattle.file_format.specs.declared.reader.Found.the-variants.{Record}
-use Rattle.file_format.specs.Shape.{byteAt, countAt, recordsIn}
-use Rattle.file_format.specs.Records.{foundAt}
+use Rattle.file_format.specs.Format.{byteAt, countAt, recordsIn}
+use Rattle.file_format.specs.Walk.{foundAt}
 use Rattle.file_format.proofs.integers.Numbers.{four-bytes-fit}
 use Rattle.file_format.proofs.Reading.{record-inside, record-after}
 use Rattle.factor_file.specs.declared.FileAnswer.the-variants.{Refused}
-use Rattle.factor_file.specs.Feed.{feed}
-use Rattle.factor_file.specs.Said.{fileOutcome}
+use Rattle.factor_file.specs.Reading.{feed, fileOutcome}
 use Rattle.factor_file.proofs.Feeding.{Feeding, feeding-start, feeding-end, record-left, feeding-next, feeding-refused}
 use Rattle.factor_file.proofs.records.feed_records.Statement.{statement}
 use Rattle.factor_file.proofs.records.feed_records.Tie as tie

@@ -5,11 +5,11 @@ use mathlib.Core.Path.{_≡_}
 use mathlib.Core.List.{List}
 use Prim.Native.Nat.{_≤_}
 use lib.ListN.{length}
-use Rattle.algebra.specs.Cell.{J}
+use Rattle.algebra.specs.cells.Cell.{J}
 use Rattle.numbers.specs.Value.{Value}
-use Rattle.job.specs.Header.{Header}
-use Rattle.file_format.specs.Bytes.{fileOf, headerWith}
-use Rattle.factor_file.specs.StepsFile.{recordsWith}
+use Rattle.job.specs.Job.{Header}
+use Rattle.file_format.specs.Format.{fileOf, headerWith}
+use Rattle.factor_file.specs.Steps.{recordsWith}
 use Rattle.factor_file.proofs.file.RecordLaws.{admitted-few}
 use Rattle.factor_file.proofs.writer.Files.{filed-none, filed-short, filed-whole}
 use Rattle.factor_file.proofs.writer.write_factors.Statement.{statement}
@@ -57,7 +57,7 @@ put-file-requires c κs =
     let h = c .before .before in
     let n = h .before .before in
     let s = n .before .before .before in
-    ((s .pre .0, s .pre .1), (n .count-records .ensures, omega (arith, measured h, c .before .if2 .left)))
+    ((s .pre .0, s .pre .1), n .count-records .ensures)
 
 same-length : tie.Need-same-length
 same-length c = search needs

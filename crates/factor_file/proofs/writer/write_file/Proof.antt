@@ -5,14 +5,14 @@ use mathlib.Core.Path.{_≡_, sym, _∙_, ap}
 use mathlib.Core.Bool.{Bool}
 use denote.Ref.{now}
 use borrow.Author.Tests.{not-false, eqb-true}
-use Rattle.numbers.specs.Prime.{prime}
+use Rattle.numbers.specs.Value.{prime}
 use Rattle.numbers.proofs.Primes.{prime-pos}
 use Rattle.slices.proofs.Bounds.{below-allBelow}
-use Rattle.refusals.specs.Tests.{first, checkedNumber}
+use Rattle.refusals.specs.Refusals.{first, checkedNumber}
 use Rattle.refusals.proofs.Tests.{Passed, passed}
 use Rattle.lengths.specs.Lengths.{scratchLength}
-use Rattle.header.specs.Tests.{synthesisTestsOf}
-use Rattle.job.specs.Header.{headerOf}
+use Rattle.job.specs.Tests.{synthesisTestsOf}
+use Rattle.job.specs.Job.{headerOf}
 use Rattle.job.proofs.Jobs.{valid-sizes}
 use Rattle.factor_file.proofs.writer.Files.{held, held-first, write-refused, write-filed, valid-volume}
 use Rattle.factor_file.proofs.writer.write_file.Statement.{statement}

@@ -1,6 +1,6 @@
 -- Two numbers of two bytes.
 use borrow.Author.Needs.{needs}
-use Rattle.file_format.specs.Numbers.{fourBytes}
+use Rattle.file_format.specs.Format.{fourBytes}
 use Rattle.file_format.proofs.integers.four_bytes.Statement.{statement}
 use Rattle.file_format.proofs.integers.four_bytes.Tie as tie
 

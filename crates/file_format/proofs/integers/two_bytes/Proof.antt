@@ -1,7 +1,7 @@
 -- Two bytes, each below 256.
 use borrow.Author.Needs.{needs}
 use native.Mathlib.Omega.{arith}
-use Rattle.file_format.specs.Numbers.{twoBytes}
+use Rattle.file_format.specs.Format.{twoBytes}
 use Rattle.file_format.proofs.integers.two_bytes.Statement.{statement}
 use Rattle.file_format.proofs.integers.two_bytes.Tie as tie
 

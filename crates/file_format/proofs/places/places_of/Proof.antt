@@ -3,7 +3,7 @@ use borrow.Author.Needs.{needs}
 use mathlib.Core.Path.{_∙_, ap}
 use native.Mathlib.Omega.{arith}
 use denote.Ref.{now}
-use Rattle.file_format.specs.Places.{afterList, list2At, list3At, countAt}
+use Rattle.file_format.specs.Format.{afterList, list2At, list3At, countAt}
 use Rattle.file_format.proofs.places.places_of.Statement.{statement}
 use Rattle.file_format.proofs.places.places_of.Tie as tie
 

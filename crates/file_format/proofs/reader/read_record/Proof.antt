@@ -42,7 +42,7 @@ use denote.Triple.Table.{entered, cited}
 use denote.Triple.Walked.{says, Stays, stay-none, stay-none-slice, walkOf, goes-none, goes-none-slice, Walks, ends-at, walked, walk-meets}
 use denote.Exit.{yes}
 use denote.Triple.Clauses.{ensured, lasts}
-use Rattle.file_format.specs.Records.{foundAt, placeAfter}
+use Rattle.file_format.specs.Walk.{foundAt, placeAfter}
 use Rattle.file_format.specs.declared.reader.RecordReader.{RecordReader}
 use Rattle.file_format.specs.declared.reader.Found.{Found}
 use Rattle.file_format.specs.declared.reader.Step.{Step}

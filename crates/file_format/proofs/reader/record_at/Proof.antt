@@ -6,7 +6,7 @@ use native.Mathlib.Omega.{arith}
 use lib.ListN.{length}
 use denote.Ref.{now}
 use borrow.Author.Tests.{not-true, not-false}
-use Rattle.file_format.specs.Records.{recordAt}
+use Rattle.file_format.specs.Format.{recordAt}
 use Rattle.file_format.proofs.Reading.{inside, outside, at-end, at-record}
 use Rattle.file_format.proofs.reader.record_at.Statement.{statement}
 use Rattle.file_format.proofs.reader.record_at.Tie as tie

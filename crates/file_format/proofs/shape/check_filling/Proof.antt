@@ -4,7 +4,7 @@ use mathlib.Core.Path.{_≡_, _∙_, sym, ap}
 use Prim.Native.Nat.{_+_, _-_}
 use native.Mathlib.Omega.{arith}
 use denote.Ref.{now}
-use Rattle.file_format.specs.Shape.{fourBytes, countAt, recordCount}
+use Rattle.file_format.specs.Format.{fourBytes, countAt, recordCount}
 use Rattle.file_format.proofs.shape.Shapes.{not-filled, no-records, sound-filling}
 use Rattle.file_format.proofs.shape.check_filling.Statement.{statement}
 use Rattle.file_format.proofs.shape.check_filling.Tie as tie

@@ -6,7 +6,7 @@ use native.Mathlib.Omega.{arith}
 use borrow.Author.Tests.{eq-eqb, ne-eqb}
 use denote.Ref.{now}
 use Rattle.refusals.proofs.Tests.{stop, pass, not-t, not-f}
-use Rattle.file_format.specs.Shape.{miscounted}
+use Rattle.file_format.specs.Format.{miscounted}
 use Rattle.file_format.proofs.shape.Shapes.{versioned}
 use Rattle.file_format.proofs.shape.check_shape.Statement.{statement}
 use Rattle.file_format.proofs.shape.check_shape.Tie as tie

@@ -3,24 +3,23 @@ use mathlib.Core.Path.{_≡_, refl, sym, _∙_, ap, ap₂}
 use mathlib.Core.List.{List, [], _∷_}
 use Prim.Native.Nat.{ℕ, zero, suc, _+_, _*_, _-_, _/_, _%_}
 use native.Mathlib.Omega.{arith}
-use Rattle.algebra.specs.Ring.{Ops, CRing, Star}
-use Rattle.algebra.specs.Line.{re, im, unit, weave, pack-by, packB3}
-use Rattle.algebra.specs.Folds.{mate, csc, cot, slant, twice-M, line3}
-use Rattle.algebra.proofs.Solver.{ring, quote, linear}
-use Rattle.algebra.proofs.Laws.{along}
-use Rattle.algebra.proofs.Unfold.{weave-even, weave-odd}
+use Rattle.algebra.specs.ring.Ring.{Ops}
+use Rattle.algebra.specs.ring.RingLaws.{CRing, Star}
+use Rattle.algebra.specs.lines.Line.{re, im, unit, weave, pack-by, packB3}
+use Rattle.algebra.specs.lines.Folds.{mate, csc, cot, slant, twice-M, line3}
+use Rattle.algebra.proofs.ring.Solver.{ring, quote, linear}
+use Rattle.algebra.proofs.ring.Laws.{along}
+use Rattle.algebra.proofs.lines.Unfold.{weave-even, weave-odd}
 use Rattle.numbers.specs.declared.Pair.{Pair}
-use Rattle.numbers.specs.Prime.{prime}
-use Rattle.numbers.specs.Value.{Value, field, conj, i, res, real, half, valueOf, pairOf}
+use Rattle.numbers.specs.Value.{prime, Value, field, conj, i, res, real, half, valueOf, pairOf, onValues}
 use Rattle.numbers.specs.Value as Value
 use Rattle.numbers.proofs.Residues.{res-by, val-res}
 use Rattle.numbers.proofs.Values.{field-ring, field-star, value-by}
-use Rattle.slices.specs.Pairs.{at, Below}
-use Rattle.slices.specs.Values.{valuesOf}
+use Rattle.slices.specs.Pairs.{at, Below, valuesOf}
 use Rattle.slices.proofs.Bounds.{small-of}
-use Rattle.fold_formulas.specs.Frame.{tangent}
+use Rattle.fold_formulas.specs.FoldFormulas.{tangent}
 use Rattle.numbers.proofs.RealValues.{real-add, real-neg, real-mul}
-use Rattle.fold_formulas.proofs.pairs.Middles.{unit-even, unit-odd, real-pair}
+use Rattle.fold_formulas.proofs.alternating.Middles.{unit-even, unit-odd, real-pair}
 use Rattle.folds.proofs.alternating.after.Passes.{pair-parts, read-re, read-im}
 
 -- ---- before the transform
@@ -36,21 +35,21 @@ module _ (m A : ℕ) (tan line : List ℕ) where
   abbrev tau : ℕ → Value m
   tau s = field m .neg (tangent m A tan s)
 
-  pub slant-first : (s : ℕ) {z : Pair} → s ≡ 0 → z ≡ at line s → Below (prime m) line
-      → record { re = z .re; im = 0 } ≡ pairOf (slant (field m) (conj m) (i m) (real m (half m)) A tau (valuesOf m line) s)
+  pub inverse-short-first : (s : ℕ) {z : Pair} → s ≡ 0 → z ≡ at line s → Below (prime m) line
+      → record { re = z .re; im = 0 } ≡ pairOf (onValues m slant A tau (valuesOf m line) s)
   unfolding slant
-  slant-first zero {z} n ez b = real-pair m _ (z .re) (small-of line 0 ez b .re) (sym (read-re m line 0 ez))
-  slant-first (suc s) n ez b = absurd (omega arith)
+  inverse-short-first zero {z} n ez b = real-pair m _ (z .re) (small-of line 0 ez b .re) (sym (read-re m line 0 ez))
+  inverse-short-first (suc s) n ez b = absurd (omega arith)
 
   -- c is the cotangent, d the cosecant, of the opposite angle
-  pub slant-rest : (s c d : ℕ) {z : Pair} {x y n r : ℕ} → (s ≡ 0 → ⊥) → z ≡ at line s → Below (prime m) line
+  pub inverse-short-rest : (s c d : ℕ) {z : Pair} {x y n r : ℕ} → (s ≡ 0 → ⊥) → z ≡ at line s → Below (prime m) line
       → real m (res m c) ≡ cot (field m) (real m (half m)) A (tangent m A tan) s → real m (res m d) ≡ csc (field m) (real m (half m)) A (tangent m A tan) s
       → x ≡ (Value.ring m .mul (res m (z .re)) (res m c)) .val → y ≡ (Value.ring m .mul (res m (z .im)) (res m d)) .val
       → n ≡ (Value.ring m .add (res m x) (res m y)) .val → r ≡ (Value.ring m .neg (res m n)) .val
-      → record { re = z .re; im = r } ≡ pairOf (slant (field m) (conj m) (i m) (real m (half m)) A tau (valuesOf m line) s)
+      → record { re = z .re; im = r } ≡ pairOf (onValues m slant A tau (valuesOf m line) s)
   unfolding slant cot csc
-  slant-rest zero c d o ez b ec ed ex ey en er = absurd (o refl)
-  slant-rest (suc s) c d {z} o ez b ec ed ex ey en er =
+  inverse-short-rest zero c d o ez b ec ed ex ey en er = absurd (o refl)
+  inverse-short-rest (suc s) c d {z} o ez b ec ed ex ey en er =
       pair-parts m (res m (z .re)) _ (sym (val-res m (small-of line (suc s) ez b .re))) er
       ∙ ap₂ (λ x y. pairOf (field m .add x (field m .mul (i m) y)))
       (read-re m line (suc s) ez)
@@ -61,11 +60,11 @@ module _ (m A : ℕ) (tan line : List ℕ) where
       ∙ opposite (field-ring m) _ _ _ _ _)
 
 pub twice-by : (m : ℕ) (line : List ℕ) {z : Pair} {x r : ℕ} → z ≡ at line 0 → x ≡ (Value.ring m .add (res m (z .re)) (res m (z .im))) .val
-    → r ≡ (Value.ring m .add (res m x) (res m x)) .val → (A : ℕ) → real m (res m r) ≡ twice-M (field m) (conj m) (i m) (real m (half m)) A (valuesOf m line)
+    → r ≡ (Value.ring m .add (res m x) (res m x)) .val → (A : ℕ) → real m (res m r) ≡ onValues m twice-M A (valuesOf m line)
 unfolding twice-M
 twice-by m line {z} {x} ez ex er A = ap (real m) (res-by m _ er) ∙ real-add m _ _ ∙ ap₂ (field m .add) once once
   where
-    once : real m (res m x) ≡ field m .add (re (field m) (conj m) (i m) (real m (half m)) (valuesOf m line 0)) (im (field m) (conj m) (i m) (real m (half m)) (valuesOf m line 0))
+    once : real m (res m x) ≡ field m .add (onValues m re (valuesOf m line 0)) (onValues m im (valuesOf m line 0))
     once = ap (real m) (res-by m _ ex) ∙ real-add m _ _ ∙ ap₂ (field m .add) (read-re m line 0 ez) (read-im m line 0 ez)
 
 -- ---- after the transform
@@ -94,50 +93,50 @@ pub folded-by : (m : ℕ) (l : List ℕ) (j k : ℕ) {y z c r : Pair} → y ≡ 
 folded-by m l j k ey ez ec er = er ∙ ap pairOf (ap₂ (field m .add) (ap (valueOf m) ey) (value-by m _ ec ∙ ap (λ v. conj m (valueOf m v)) ez))
 
 -- i times a real number less a value
-pub turned-by : (m x : ℕ) (z : Value m) {v d r : Pair} → v ≡ pairOf z → d ≡ pairOf (field m .add (valueOf m (record { re = x; im = 0 })) (field m .neg (valueOf m v)))
+pub i-times-by : (m x : ℕ) (z : Value m) {v d r : Pair} → v ≡ pairOf z → d ≡ pairOf (field m .add (valueOf m (record { re = x; im = 0 })) (field m .neg (valueOf m v)))
     → r ≡ pairOf (field m .mul (i m) (valueOf m d)) → r ≡ pairOf (field m .mul (i m) (field m .add (real m (res m x)) (field m .neg z)))
 unfolding valueOf
-turned-by m x z ev ed er = er ∙ ap (λ y. pairOf (field m .mul (i m) y)) (value-by m _ ed ∙ ap (λ y. field m .add (real m (res m x)) (field m .neg y)) (value-by m _ ev))
+i-times-by m x z ev ed er = er ∙ ap (λ y. pairOf (field m .mul (i m) y)) (value-by m _ ed ∙ ap (λ y. field m .add (real m (res m x)) (field m .neg y)) (value-by m _ ev))
 
 pub scaled-by : (m c : ℕ) (z : Value m) {v r : Pair} → v ≡ pairOf z → r ≡ pairOf (field m .mul (real m (res m c)) (valueOf m v)) → r ≡ pairOf (field m .mul (real m (res m c)) z)
 scaled-by m c z ev er = er ∙ ap (λ y. pairOf (field m .mul (real m (res m c)) y)) (value-by m _ ev)
 
 module _ (m A : ℕ) (part : Value m) (y : ℕ → Value m) (twice : Value m) where
-  pub line-even : (j : ℕ) → j % 2 ≡ 0 → field m .mul part (field m .add (y (j / 2)) (conj m (y (mate A (j / 2))))) ≡ line3 (field m) (conj m) (i m) (real m (half m)) A part y twice j
+  pub line-even : (j : ℕ) → j % 2 ≡ 0 → field m .mul part (field m .add (y (j / 2)) (conj m (y (mate A (j / 2))))) ≡ onValues m line3 A part y twice j
   unfolding line3
   line-even j h = sym (weave-even _ _ (j / 2)) ∙ along (weave _ _) (2 * (j / 2)) j (omega arith)
 
-  pub line-odd : (j : ℕ) → (j % 2 ≡ 0 → ⊥) → field m .mul part (field m .mul (i m) (field m .add twice (field m .neg (field m .add (y (j / 2)) (conj m (y (A - suc (j / 2)))))))) ≡ line3 (field m) (conj m) (i m) (real m (half m)) A part y twice j
+  pub line-odd : (j : ℕ) → (j % 2 ≡ 0 → ⊥) → field m .mul part (field m .mul (i m) (field m .add twice (field m .neg (field m .add (y (j / 2)) (conj m (y (A - suc (j / 2)))))))) ≡ onValues m line3 A part y twice j
   unfolding line3
   line-odd j h = sym (weave-odd _ _ (j / 2)) ∙ along (weave _ _) (2 * (j / 2) + 1) j (omega arith)
 
-turn-back : {R : Type 0} {𝓞 : Ops R} (𝓡 : CRing 𝓞) (i x : R) → 𝓞 .mul i i ≡ 𝓞 .neg (𝓞 .one) → 𝓞 .mul i (𝓞 .mul (𝓞 .neg i) x) ≡ x
-turn-back {𝓞 = 𝓞} 𝓡 i x h = linear 𝓡 h (𝓞 .neg x) (ring 𝓡 (i ∷ x ∷ []) (search quote depth 40 fits 9999) refl)
+i-times-back : {R : Type 0} {𝓞 : Ops R} (𝓡 : CRing 𝓞) (i x : R) → 𝓞 .mul i i ≡ 𝓞 .neg (𝓞 .one) → 𝓞 .mul i (𝓞 .mul (𝓞 .neg i) x) ≡ x
+i-times-back {𝓞 = 𝓞} 𝓡 i x h = linear 𝓡 h (𝓞 .neg x) (ring 𝓡 (i ∷ x ∷ []) (search quote depth 40 fits 9999) refl)
 
 module _ (m A : ℕ) (X : ℕ → Value m) where
   -- X(0) and the real part of X(A)
   pub pack-even : (t : ℕ) {x y u r : Pair} → t ≡ 0 → A % 2 ≡ 0 → x ≡ pairOf (X t) → y ≡ pairOf (X A) → u ≡ pairOf (field m .mul (i m) (valueOf m y))
-      → r ≡ pairOf (field m .add (valueOf m x) (valueOf m u)) → r ≡ pairOf (packB3 (field m) (conj m) (i m) (real m (half m)) A X t)
+      → r ≡ pairOf (field m .add (valueOf m x) (valueOf m u)) → r ≡ pairOf (onValues m packB3 A X t)
   unfolding pack-by
   pack-even zero z h ex ey eu er =
       er ∙ ap pairOf (ap₂ (field m .add) (value-by m _ ex) (value-by m _ eu ∙ ap (field m .mul (i m)) (value-by m _ ey ∙ sym (ap (λ u. field m .mul u (X A)) is-one ∙ field-ring m .one-mul (X A)))))
     where
-      is-one : conj m (unit (field m) (conj m) (i m) (real m (half m)) A A) ≡ field m .one
+      is-one : conj m (onValues m unit A A) ≡ field m .one
       is-one = ap (conj m) (unit-even (field m) (conj m) (i m) (real m (half m)) A A h) ∙ field-star m .conj-one
   pack-even (suc t) z h ex ey eu er = absurd (omega arith)
 
   -- X(0) and X(A), which is imaginary
   pub pack-odd : (t : ℕ) {x y r : Pair} → t ≡ 0 → (A % 2 ≡ 0 → ⊥) → x ≡ pairOf (X t) → y ≡ pairOf (X A)
-      → r ≡ pairOf (field m .add (valueOf m x) (valueOf m y)) → r ≡ pairOf (packB3 (field m) (conj m) (i m) (real m (half m)) A X t)
+      → r ≡ pairOf (field m .add (valueOf m x) (valueOf m y)) → r ≡ pairOf (onValues m packB3 A X t)
   unfolding pack-by
   pack-odd zero z h ex ey er =
-      er ∙ ap pairOf (ap₂ (field m .add) (value-by m _ ex) (value-by m _ ey ∙ sym (ap (λ u. field m .mul (i m) (field m .mul u (X A))) is-i ∙ turn-back (field-ring m) (i m) (X A) (field-star m .i-square))))
+      er ∙ ap pairOf (ap₂ (field m .add) (value-by m _ ex) (value-by m _ ey ∙ sym (ap (λ u. field m .mul (i m) (field m .mul u (X A))) is-i ∙ i-times-back (field-ring m) (i m) (X A) (field-star m .i-square))))
     where
-      is-i : conj m (unit (field m) (conj m) (i m) (real m (half m)) A A) ≡ field m .neg (i m)
+      is-i : conj m (onValues m unit A A) ≡ field m .neg (i m)
       is-i = ap (conj m) (unit-odd (field m) (conj m) (i m) (real m (half m)) A A h) ∙ field-star m .conj-i
   pack-odd (suc t) z h ex ey er = absurd (omega arith)
 
-  pub pack-rest : (t : ℕ) {x : Pair} → (t ≡ 0 → ⊥) → x ≡ pairOf (X t) → x ≡ pairOf (packB3 (field m) (conj m) (i m) (real m (half m)) A X t)
+  pub pack-rest : (t : ℕ) {x : Pair} → (t ≡ 0 → ⊥) → x ≡ pairOf (X t) → x ≡ pairOf (onValues m packB3 A X t)
   unfolding pack-by
   pack-rest zero z e = absurd (z refl)
   pack-rest (suc t) z e = e

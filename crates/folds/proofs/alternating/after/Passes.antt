@@ -4,19 +4,17 @@ use mathlib.Core.List.{List}
 use Prim.Native.Nat.{ℕ, zero, suc, _*_, _-_, _<_}
 use native.Mathlib.Omega.{arith}
 use lib.ListN.{getD}
-use Rattle.algebra.specs.Ring.{Ops}
-use Rattle.algebra.specs.Line.{re, im}
-use Rattle.algebra.specs.Folds.{csc, cot, finish3}
+use Rattle.algebra.specs.ring.Ring.{Ops}
+use Rattle.algebra.specs.lines.Line.{re, im}
+use Rattle.algebra.specs.lines.Folds.{csc, cot, finish3}
 use Rattle.numbers.specs.declared.Pair.{Pair}
-use Rattle.numbers.specs.Prime.{prime}
-use Rattle.numbers.specs.Value.{Residue, Value, field, conj, i, res, real, half, valueOf, pairOf}
+use Rattle.numbers.specs.Value.{prime, Residue, Value, field, i, res, real, half, valueOf, pairOf, onValues}
 use Rattle.numbers.specs.Value as Value
 use Rattle.numbers.proofs.Residues.{res-by, val-res}
 use Rattle.numbers.proofs.Parts.{re-value, im-value}
 use Rattle.numbers.proofs.Values.{pair-path, real-times}
-use Rattle.slices.specs.Pairs.{at}
-use Rattle.slices.specs.Values.{valuesOf}
-use Rattle.fold_formulas.specs.Frame.{stride, tangent}
+use Rattle.slices.specs.Pairs.{at, valuesOf}
+use Rattle.fold_formulas.specs.FoldFormulas.{stride, tangent}
 use Rattle.numbers.proofs.RealValues.{real-add, real-neg, real-mul, parts-value}
 
 -- ---- the half tangents
@@ -48,17 +46,17 @@ unfolding pairOf
 pair-parts m x y eu ev = pair-path eu ev ∙ ap pairOf (sym (parts-value m x y))
 
 -- the parts of a pair that was read
-pub read-re : (m : ℕ) (l : List ℕ) (s : ℕ) {v : Pair} → v ≡ at l s → real m (res m (v .re)) ≡ re (field m) (conj m) (i m) (real m (half m)) (valuesOf m l s)
+pub read-re : (m : ℕ) (l : List ℕ) (s : ℕ) {v : Pair} → v ≡ at l s → real m (res m (v .re)) ≡ onValues m re (valuesOf m l s)
 unfolding valueOf
 read-re m l s e = ap (λ (w : Pair). real m (res m (w .re))) e ∙ sym (re-value m _)
 
-pub read-im : (m : ℕ) (l : List ℕ) (s : ℕ) {v : Pair} → v ≡ at l s → real m (res m (v .im)) ≡ im (field m) (conj m) (i m) (real m (half m)) (valuesOf m l s)
+pub read-im : (m : ℕ) (l : List ℕ) (s : ℕ) {v : Pair} → v ≡ at l s → real m (res m (v .im)) ≡ onValues m im (valuesOf m l s)
 unfolding valueOf
 read-im m l s e = ap (λ (w : Pair). real m (res m (w .im))) e ∙ sym (im-value m _)
 
 module _ (m A : ℕ) (tan fold : List ℕ) (odd : ℕ) where
   pub finish-first : (s : ℕ) {v : Pair} {r : ℕ} → s ≡ 0 → v ≡ at fold s → odd < prime m → r ≡ (Value.ring m .add (res m (v .re)) (res m odd)) .val
-      → record { re = r; im = odd } ≡ pairOf (finish3 (field m) (conj m) (i m) (real m (half m)) A (tangent m A tan) (valuesOf m fold) (real m (res m odd)) s)
+      → record { re = r; im = odd } ≡ pairOf (onValues m finish3 A (tangent m A tan) (valuesOf m fold) (real m (res m odd)) s)
   unfolding finish3
   finish-first zero z ev l e =
       pair-parts m _ (res m odd) e (sym (val-res m l))
@@ -70,7 +68,7 @@ module _ (m A : ℕ) (tan fold : List ℕ) (odd : ℕ) where
       → real m (res m (w .re)) ≡ cot (field m) (real m (half m)) A (tangent m A tan) s → real m (res m (w .im)) ≡ csc (field m) (real m (half m)) A (tangent m A tan) s
       → b ≡ pairOf (field m .mul (real m (res m (v .im))) (valueOf m w))
       → r ≡ (Value.ring m .add (res m (v .re)) (res m (b .re))) .val
-      → record { re = r; im = b .im } ≡ pairOf (finish3 (field m) (conj m) (i m) (real m (half m)) A (tangent m A tan) (valuesOf m fold) (real m (res m odd)) s)
+      → record { re = r; im = b .im } ≡ pairOf (onValues m finish3 A (tangent m A tan) (valuesOf m fold) (real m (res m odd)) s)
   unfolding finish3 valueOf pairOf
   finish-rest zero w z ev ec ed eb er = absurd (z refl)
   finish-rest (suc s) w {v} {b} z ev ec ed eb er =

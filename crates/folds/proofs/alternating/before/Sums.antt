@@ -1,36 +1,35 @@
--- What the weaving of the alternating line computes: a value of the short line, and the sum of the imaginary parts at the odd places.
+-- Before the transform of an alternating line: a value of the short line, and the sum of the imaginary parts at the odd places.
 use mathlib.Core.Path.{_≡_, refl, sym, _∙_, ap, ap₂}
 use mathlib.Core.List.{List}
 use Prim.Native.Nat.{ℕ, _+_, _*_, _≤_, _<_}
 use native.Mathlib.Numerals.{add-one}
 use native.Mathlib.Omega.{arith}
-use Rattle.algebra.specs.Ring.{Ops, sum}
-use Rattle.algebra.specs.Residue.{residues}
-use Rattle.algebra.specs.Gauss.{gauss}
-use Rattle.algebra.specs.Line.{im, unfoldB3}
-use Rattle.algebra.specs.Folds.{woven}
-use Rattle.algebra.proofs.ResidueRing.{residue-add}
+use Rattle.algebra.specs.ring.Ring.{Ops, sum}
+use Rattle.algebra.specs.ring.Residue.{residues}
+use Rattle.algebra.specs.ring.Gauss.{gauss}
+use Rattle.algebra.specs.lines.Line.{im, unfoldB3}
+use Rattle.algebra.specs.lines.Folds.{woven}
+use Rattle.algebra.proofs.ring.ResidueRing.{residue-add}
 use Rattle.numbers.specs.declared.Pair.{Pair}
-use Rattle.numbers.specs.Prime.{prime, IsModulus}
-use Rattle.numbers.specs.Value.{Value, field, conj, i, res, real, half, valueOf, pairOf}
+use Rattle.numbers.specs.Value.{prime, IsModulus, Value, field, i, res, real, valueOf, pairOf, onValues}
 use Rattle.numbers.proofs.Primes.{prime-most}
 use Rattle.numbers.proofs.Residues.{res-by, res-val}
 use Rattle.numbers.proofs.Parts.{im-value}
 use Rattle.numbers.proofs.Values.{small-by, value-by}
 use Rattle.numbers.proofs.RealValues.{real-add}
-use Rattle.slices.specs.Values.{valuesOf}
+use Rattle.slices.specs.Pairs.{valuesOf}
 
-pub woven-by : (m : ℕ) (X : ℕ → Value m) (t : ℕ) {x y z r : Pair} → x ≡ pairOf (X (2 * t)) → y ≡ pairOf (X (2 * t + 1))
+pub short-by : (m : ℕ) (X : ℕ → Value m) (t : ℕ) {x y z r : Pair} → x ≡ pairOf (X (2 * t)) → y ≡ pairOf (X (2 * t + 1))
     → z ≡ pairOf (field m .mul (i m) (valueOf m y)) → r ≡ pairOf (field m .add (valueOf m x) (valueOf m z)) → r ≡ pairOf (woven (field m) (i m) X t)
 unfolding woven
-woven-by m X t ex ey ez er =
+short-by m X t ex ey ez er =
     er ∙ ap pairOf (ap₂ (field m .add) (value-by m _ ex) (value-by m _ ez ∙ ap (field m .mul (i m)) (value-by m _ ey)))
 
 -- the sum of the imaginary parts at the odd places: t of them are in s, not reduced
 abbrev imaginary-odd : (m A : ℕ) (line : List ℕ) → ℕ → Value m
-imaginary-odd m A line t = im (field m) (conj m) (i m) (real m (half m)) (unfoldB3 (field m) (conj m) (i m) (real m (half m)) A (valuesOf m line) (2 * t + 1))
+imaginary-odd m A line t = onValues m im (onValues m unfoldB3 A (valuesOf m line) (2 * t + 1))
 
-imaginary-part : (m : ℕ) (z : Value m) {v : Pair} → v ≡ pairOf z → real m (res m (v .im)) ≡ im (field m) (conj m) (i m) (real m (half m)) z
+imaginary-part : (m : ℕ) (z : Value m) {v : Pair} → v ≡ pairOf z → real m (res m (v .im)) ≡ onValues m im z
 unfolding pairOf
 imaginary-part m z e = ap (real m) (ap (λ (w : Pair). res m (w .im)) e ∙ res-val m _) ∙ sym (im-value m z)
 
@@ -45,7 +44,7 @@ module _ {m A : ℕ} {line : List ℕ} where
   odd-sum-start = record { le = omega arith; bound = omega arith; sum-is = refl }
 
   pub odd-sum-next : {s t : ℕ} {v : Pair} → IsModulus m → OddSum m A line s t → t < A
-      → v ≡ pairOf (unfoldB3 (field m) (conj m) (i m) (real m (half m)) A (valuesOf m line) (2 * t + 1)) → OddSum m A line (s + v .im) (t + 1)
+      → v ≡ pairOf (onValues m unfoldB3 A (valuesOf m line) (2 * t + 1)) → OddSum m A line (s + v .im) (t + 1)
   unfolding sum
   odd-sum-next {s} {t} {v} is h l e = record {
     le = omega arith;

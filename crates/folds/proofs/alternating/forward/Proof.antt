@@ -2,14 +2,14 @@
 use borrow.Author.Needs.{needs}
 use mathlib.Core.Path.{_∙_}
 use Prim.Native.Nat.{_/_}
-use Rattle.algebra.specs.Ring.{pow}
-use Rattle.algebra.specs.Fourier.{dft}
-use Rattle.algebra.specs.Line.{unfoldB3}
-use Rattle.algebra.specs.Folds.{woven}
-use Rattle.numbers.specs.Value.{field, conj, i, res, real, half}
+use Rattle.algebra.specs.ring.Ring.{pow}
+use Rattle.algebra.specs.fourier.Fourier.{dft}
+use Rattle.algebra.specs.lines.Line.{unfoldB3}
+use Rattle.algebra.specs.lines.Folds.{woven}
+use Rattle.numbers.specs.Value.{field, i, res, real, onValues}
 use Rattle.roots.specs.Root.{tableRoot}
-use Rattle.slices.specs.Values.{valuesOf}
-use Rattle.fold_formulas.specs.Frame.{tangent}
+use Rattle.slices.specs.Pairs.{valuesOf}
+use Rattle.fold_formulas.specs.FoldFormulas.{tangent}
 use Rattle.slices.proofs.Values.{length-of, below-of}
 use Rattle.fold_formulas.proofs.Frames.{half-most, half-divides}
 use Rattle.folds.proofs.AlternatingLine.{forward-by}
@@ -21,8 +21,8 @@ odd-imaginary-sum-requires c κs =
     let s = c .before .before .before .before in
     ((s .pre .0 .0 .modulus, half-most (s .pre .0 .0)), s .pre .1 .0)
 
-weave-requires : tie.Need-weave-requires
-weave-requires c κs = search needs
+short-line-requires : tie.Need-short-line-requires
+short-line-requires c κs = search needs
 
 transform-requires : tie.Need-transform-requires
 transform-requires c κs =
@@ -31,8 +31,8 @@ transform-requires c κs =
     let f = s .pre .0 .0 in
     let m = s .args .m in
     let a = s .args .a in
-    let g = woven (field m) (i m) (unfoldB3 (field m) (conj m) (i m) (real m (half m)) a (valuesOf m (s .args .line .now))) in
-    ((f .modulus, f .table), ((s .pre .0 .2, half-divides f), ((length-of m a g (w .weave .ensures), s .pre .1 .1 .1), below-of m a g (w .weave .ensures))))
+    let g = woven (field m) (i m) (onValues m unfoldB3 a (valuesOf m (s .args .line .now))) in
+    ((f .modulus, f .table), ((s .pre .0 .2, half-divides f), ((length-of m a g (w .short-line .ensures), s .pre .1 .1 .1), below-of m a g (w .short-line .ensures))))
 
 finish-requires : tie.Need-finish-requires
 finish-requires c κs =
@@ -43,7 +43,7 @@ finish-requires c κs =
     let f = s .pre .0 .0 in
     let m = s .args .m in
     let a = s .args .a in
-    let g = dft (field m) a (pow (field m) (tableRoot m (s .args .re .now) (s .args .im .now)) (2880 / a)) (valuesOf m (w .weave .last .1 .1 .1 .0)) in
+    let g = dft (field m) a (pow (field m) (tableRoot m (s .args .re .now) (s .args .im .now)) (2880 / a)) (valuesOf m (w .short-line .last .1 .1 .1 .0)) in
     ((f .modulus, s .pre .0 .1, o .odd-imaginary-sum .ensures .0), ((f .positive, f .divides), ((length-of m a g (t .transform .ensures .0), below-of m a g (t .transform .ensures .0)), s .pre .1 .0 .0)))
 
 same-length : tie.Need-same-length
@@ -52,7 +52,7 @@ same-length c = c .before .before .finish .kept .1 .1 .1 .1 .1 .0
 same-length-2 : tie.Need-same-length-2
 same-length-2 c =
     let t = c .before .before .before .before .before .before .before .before .before in
-    t .transform .kept .1 .1 .1 .1 .1 .0 ∙ t .before .before .before .before .before .weave .kept .1 .1 .1 .0
+    t .transform .kept .1 .1 .1 .1 .1 .0 ∙ t .before .before .before .before .before .short-line .kept .1 .1 .1 .0
 
 same-length-3 : tie.Need-same-length-3
 same-length-3 c = c .before .before .before .before .before .before .before .before .before .transform .kept .1 .1 .1 .1 .1 .1 .0
@@ -67,14 +67,14 @@ returns c =
     let f = s .pre .0 .0 in
     forward-by (s .args .m) (s .args .a) f (tangent (s .args .m) (s .args .a) (s .args .tan .now)) (valuesOf (s .args .m) (s .args .line .now))
     (real (s .args .m) (res (s .args .m) (o .odd-imaginary-sum .result))) _
-    (o .odd-imaginary-sum .ensures .1) (w .weave .ensures) (t .transform .ensures .0) (e .finish .ensures)
+    (o .odd-imaginary-sum .ensures .1) (w .short-line .ensures) (t .transform .ensures .0) (e .finish .ensures)
 
 pub forward-spec : {M : Type 1} → statement M
 forward-spec =
     tie.close
     (tie.spec
     odd-imaginary-sum-requires
-    weave-requires
+    short-line-requires
     transform-requires
     finish-requires
     same-length

@@ -1,17 +1,16 @@
--- The line is copied, transformed, and the braid taken apart and divided by N.
+-- The line is copied, transformed, unfolded and divided by N.
 use mathlib.Core.Path.{_≡_, _∙_, sym, ap, subst}
 use Prim.Native.Nat.{_/_}
 use native.Mathlib.Nat.{le-of-eq}
 use lib.ListN.{length}
-use Rattle.algebra.specs.Ring.{pow}
-use Rattle.algebra.specs.Fourier.{dft}
-use Rattle.numbers.specs.Prime.{prime}
-use Rattle.numbers.specs.Value.{field}
+use Rattle.algebra.specs.ring.Ring.{Ops, pow}
+use Rattle.algebra.specs.fourier.Fourier.{dft}
+use Rattle.numbers.specs.Value.{prime, field}
 use Rattle.roots.specs.Root.{tableRoot}
-use Rattle.slices.specs.Pairs.{Below}
-use Rattle.slices.specs.Values.{valuesOf}
+use Rattle.slices.specs.Pairs.{Below, valuesOf}
 use Rattle.slices.proofs.Pairs.{fills-whole}
 use Rattle.slices.proofs.Values.{length-of, below-of}
+use Rattle.fold_formulas.specs.FoldFormulas.{tangent}
 use Rattle.fold_formulas.proofs.Frames.{half-divides, half-most}
 use Rattle.folds.proofs.HermitianLine.{back-list}
 use Rattle.folds.proofs.hermitian.inverse.Statement.{statement}
@@ -27,7 +26,7 @@ copy-requires c κs = let s = c .before .before .before .before .before .before 
 copied : (c : tie.After-copy) → c .copy .last .1 .0 ≡ c .before .before .before .before .before .before .before .args .line .now
 copied c =
     let s = c .before .before .before .before .before .before .before in
-    c .copy .ensures ∙ fills-whole (s .args .a) (s .args .line .now) (s .args .braided .now) (s .pre .1 .0 .0) (s .pre .1 .0 .1)
+    c .copy .ensures ∙ fills-whole (s .args .a) (s .args .line .now) (s .args .fold .now) (s .pre .1 .0 .0) (s .pre .1 .0 .1)
 
 transform-requires : tie.Need-transform-requires
 transform-requires c κs =
@@ -66,7 +65,8 @@ returns c =
     let k = t .before .before .before .before .before in
     let r = k .before .before .before in
     let s = r .before .before .before .before in
-    back-list (s .args .m) (s .args .a) (s .pre .0 .0) (s .args .anti) (copied k) (t .transform .ensures .0) (r .share .ensures .0) (u .«unfold» .ensures)
+    λ tan. back-list (s .args .m) (s .args .a) (s .pre .0 .0) (s .args .anti) (copied k) (t .transform .ensures .0) (r .share .ensures .0) (u .«unfold» .ensures)
+    (λ k. field (s .args .m) .neg (tangent (s .args .m) (s .args .a) tan k))
 
 pub inverse-spec : {M : Type 1} → statement M
 inverse-spec =

@@ -1,22 +1,20 @@
--- Symmetric and antisymmetric lines: what the code joins at each place of the transform is the form of the theory.
+-- Symmetric and antisymmetric lines: what the code computes at each place of the transform is the form of the theory.
 use mathlib.Core.Path.{_≡_, refl, sym, _∙_, ap, ap₂}
 use mathlib.Core.List.{List}
 use Prim.Native.Nat.{ℕ, zero, suc, _*_, _-_, _<_}
 use native.Mathlib.Omega.{arith}
 use lib.ListN.{getD}
-use Rattle.algebra.specs.Ring.{Ops}
-use Rattle.algebra.specs.Folds.{join, finish}
-use Rattle.algebra.proofs.Unfold.{three-lt, three-eq}
+use Rattle.algebra.specs.ring.Ring.{Ops}
+use Rattle.algebra.specs.lines.Folds.{join, finish}
+use Rattle.algebra.proofs.lines.Unfold.{three-lt, three-eq}
 use Rattle.numbers.specs.declared.Pair.{Pair}
-use Rattle.numbers.specs.Prime.{prime}
-use Rattle.numbers.specs.Value.{Value, field, valueOf, pairOf}
+use Rattle.numbers.specs.Value.{prime, Value, field, valueOf, pairOf}
 use Rattle.numbers.proofs.Values.{value-by}
-use Rattle.slices.specs.Pairs.{at, Below}
-use Rattle.slices.specs.Values.{valuesOf}
+use Rattle.slices.specs.Pairs.{at, Below, valuesOf}
 use Rattle.slices.proofs.Values.{read-value}
-use Rattle.fold_formulas.specs.Frame.{stride}
-use Rattle.fold_formulas.proofs.pairs.Joins.{joinedBy}
-use Rattle.folds.specs.Joining.{finished}
+use Rattle.fold_formulas.specs.FoldFormulas.{stride}
+use Rattle.fold_formulas.proofs.mirror.Forms.{finishBetween}
+use Rattle.folds.specs.FoldedLines.{finished}
 
 module _ {R : Type 0} (𝓞 : Ops R) (half : R) (A : ℕ) (th : ℕ → R) (σ : R) (y : ℕ → R) (o : R) where
   open Ops 𝓞 using (add as _⊕_, neg as ⊖_)
@@ -48,10 +46,10 @@ module _ (m A first : ℕ) (tan fold : List ℕ) (o : Value m) (s : ℕ) where
       ∙ sym (finish-middle (field m) _ A _ _ (valuesOf m fold) o s (omega arith) e))
 
   pub finished-between : {r v w : Pair} (tau : ℕ) → 0 < s → s < A → tau ≡ getD tan (stride A * s) 0 → v ≡ at fold s → w ≡ at fold (A - s)
-      → r ≡ pairOf (joinedBy m tau first (valueOf m v) (valueOf m w)) → r ≡ pairOf (finished m A first tan fold o s)
+      → r ≡ pairOf (finishBetween m tau first (valueOf m v) (valueOf m w)) → r ≡ pairOf (finished m A first tan fold o s)
   finished-between {v = v} {w = w} tau q l ht hv hw hr =
       hr
       ∙ ap pairOf
-      (ap (λ t. joinedBy m t first (valueOf m v) (valueOf m w)) ht
-      ∙ ap₂ (joinedBy m (getD tan (stride A * s) 0) first) (ap (valueOf m) hv) (ap (valueOf m) hw)
+      (ap (λ t. finishBetween m t first (valueOf m v) (valueOf m w)) ht
+      ∙ ap₂ (finishBetween m (getD tan (stride A * s) 0) first) (ap (valueOf m) hv) (ap (valueOf m) hw)
       ∙ sym (finish-between (field m) _ A _ _ (valuesOf m fold) o s q l))

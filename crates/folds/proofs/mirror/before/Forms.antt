@@ -4,27 +4,26 @@ use mathlib.Core.List.{List, [], _∷_}
 use Prim.Native.Nat.{ℕ, zero, suc, _+_, _*_, _-_, _<_, _≤_}
 use native.Mathlib.Omega.{arith}
 use native.Mathlib.Decide.{ℕ-discrete}
-use Rattle.algebra.specs.Ring.{Ops, CRing, sum}
-use Rattle.algebra.specs.Residue.{residues}
-use Rattle.algebra.specs.Gauss.{gauss}
-use Rattle.algebra.specs.Line.{unfold4, unfold5}
-use Rattle.algebra.specs.Kinds.{unfoldBefore}
-use Rattle.algebra.proofs.Laws.{along, neg-zero, neg-neg}
-use Rattle.algebra.proofs.Solver.{ring, quote, linear}
-use Rattle.algebra.proofs.Sums.{sum-cong, sum-mul, sum-rev}
-use Rattle.algebra.proofs.Unfold.{unfold-zero, unfold-low, unfold-middle, unfold-high, unfold-reflected, at-mirror}
+use Rattle.algebra.specs.ring.Ring.{Ops, sum}
+use Rattle.algebra.specs.ring.RingLaws.{CRing}
+use Rattle.algebra.specs.ring.Residue.{residues}
+use Rattle.algebra.specs.ring.Gauss.{gauss}
+use Rattle.algebra.specs.lines.Line.{unfold4, unfold5}
+use Rattle.algebra.specs.lines.Kinds.{unfoldBefore}
+use Rattle.algebra.proofs.ring.Laws.{along, neg-zero, neg-neg}
+use Rattle.algebra.proofs.ring.Solver.{ring, quote, linear}
+use Rattle.algebra.proofs.fourier.Sums.{sum-cong, sum-mul, sum-rev}
+use Rattle.algebra.proofs.lines.Unfold.{unfold-zero, unfold-low, unfold-middle, unfold-high, unfold-reflected, at-mirror}
 use Rattle.numbers.specs.declared.Pair.{Pair}
 use Rattle.numbers.specs.declared.Accumulator.{Accumulator}
-use Rattle.numbers.specs.Accumulator.{Accumulated}
-use Rattle.numbers.specs.Prime.{prime, IsModulus}
-use Rattle.numbers.specs.Value.{Value, field, conj, i, real, half, value, valueOf, pairOf, Small}
+use Rattle.numbers.specs.Unreduced.{Accumulated}
+use Rattle.numbers.specs.Value.{prime, IsModulus, Value, field, conj, i, real, half, value, valueOf, pairOf, Small, onValues}
 use Rattle.numbers.proofs.Primes.{prime-pos, prime-most}
 use Rattle.numbers.proofs.Values.{pair-value, small-by, value-by, value-add, field-ring}
 use Rattle.numbers.proofs.Parts.{half-law}
-use Rattle.slices.specs.Pairs.{at, Below}
-use Rattle.slices.specs.Values.{valuesOf}
+use Rattle.slices.specs.Pairs.{at, Below, valuesOf}
 use Rattle.slices.proofs.Values.{read-value}
-use Rattle.folds.specs.Pairing.{lineOf}
+use Rattle.folds.specs.FoldedLines.{wholeLine}
 
 -- ---- the line
 
@@ -34,10 +33,10 @@ zero-pair m = sym (pair-value m (record { re = prime-pos m; im = prime-pos m }))
 
 module _ (m A : ℕ) (l : List ℕ) where
   abbrev even : ℕ → Value m
-  even = unfold4 (field m) (conj m) (i m) (real m (half m)) A (valuesOf m l)
+  even = onValues m unfold4 A (valuesOf m l)
 
   abbrev odd : ℕ → Value m
-  odd = unfold5 (field m) (conj m) (i m) (real m (half m)) A (λ t. valuesOf m l (t - 1))
+  odd = onValues m unfold5 A (λ t. valuesOf m l (t - 1))
 
   module _ (j : ℕ) where
     pub symmetric-low : {v : Pair} → Below (prime m) l → 0 < A → j ≤ A → v ≡ at l j → v ≡ pairOf (even j)
@@ -68,13 +67,13 @@ module _ (m A : ℕ) (l : List ℕ) where
         n ∙ ap pairOf (ap (λ (w : Pair). field m .neg (valueOf m w)) e ∙ sym (unfold-high A _ _ _ _ j (2 * A - j) h (omega arith)))
 
     -- the line that `first` tells
-    pub line-symmetric : {first : ℕ} {r : Pair} → first ≡ 0 → r ≡ pairOf (even j) → r ≡ pairOf (lineOf m A first l j)
+    pub line-symmetric : {first : ℕ} {r : Pair} → first ≡ 0 → r ≡ pairOf (even j) → r ≡ pairOf (wholeLine m A first l j)
     unfolding unfoldBefore
-    line-symmetric e h = h ∙ ap (λ f. pairOf (lineOf m A f l j)) (sym e)
+    line-symmetric e h = h ∙ ap (λ f. pairOf (wholeLine m A f l j)) (sym e)
 
-    pub line-antisymmetric : {first : ℕ} {r : Pair} → first ≤ 1 → (first ≡ 0 → ⊥) → r ≡ pairOf (odd j) → r ≡ pairOf (lineOf m A first l j)
+    pub line-antisymmetric : {first : ℕ} {r : Pair} → first ≤ 1 → (first ≡ 0 → ⊥) → r ≡ pairOf (odd j) → r ≡ pairOf (wholeLine m A first l j)
     unfolding unfoldBefore
-    line-antisymmetric {first} n e h = h ∙ ap (λ f. pairOf (lineOf m A f l j)) one
+    line-antisymmetric {first} n e h = h ∙ ap (λ f. pairOf (wholeLine m A f l j)) one
       where
         one : 1 ≡ first
         one = omega arith
@@ -120,14 +119,14 @@ module _ {R : Type 0} {𝓞 : Ops R} (𝓡 : CRing 𝓞) where
 
 module _ (m A first : ℕ) (l : List ℕ) where
   abbrev oddSum : ℕ → Value m
-  oddSum n = sum (field m) n (λ t. lineOf m A first l (2 * t + 1))
+  oddSum n = sum (field m) n (λ t. wholeLine m A first l (2 * t + 1))
 
   pub odd-sum-none : first ≡ 1 → 0 < A → record { re = 0; im = 0 } ≡ pairOf (oddSum A)
   unfolding unfoldBefore
   odd-sum-none e q =
       zero-pair m
       ∙ ap pairOf (sym (odd-places (field-ring m) (conj m) (i m) (real m (half m)) A (λ t. valuesOf m l (t - 1)) (half-law m) q))
-      ∙ ap (λ f. pairOf (sum (field m) A (λ t. lineOf m A f l (2 * t + 1)))) (sym e)
+      ∙ ap (λ f. pairOf (sum (field m) A (λ t. wholeLine m A f l (2 * t + 1)))) (sym e)
 
   -- t of the odd places are summed
   pub record OddSum (s : Accumulator) (t : ℕ) : Type 0 where
@@ -138,7 +137,7 @@ module _ (m A first : ℕ) (l : List ℕ) where
   unfolding sum
   odd-sum-start h = record { le = omega arith; is = h }
 
-  pub odd-sum-next : {s r : Accumulator} {x : Pair} {t : ℕ} → OddSum s t → t < A → x ≡ pairOf (lineOf m A first l (2 * t + 1))
+  pub odd-sum-next : {s r : Accumulator} {x : Pair} {t : ℕ} → OddSum s t → t < A → x ≡ pairOf (wholeLine m A first l (2 * t + 1))
       → ((n : ℕ) (z : Value m) → Accumulated m n s z → Accumulated m (n + 1) r (field m .add z (valueOf m x))) → OddSum r (t + 1)
   unfolding sum
   odd-sum-next {r = r} {t = t} h lt e f =

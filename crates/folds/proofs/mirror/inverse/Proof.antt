@@ -1,12 +1,10 @@
 -- `mirror::inverse`: the way forward with what is lent, and each pair scaled.
 use mathlib.Core.Path.{_∙_}
 use borrow.Author.Needs.{needs}
-use Rattle.algebra.specs.Ring.{Ops}
-use Rattle.algebra.specs.Kinds.{slots}
-use Rattle.numbers.specs.Value.{field}
+use Rattle.algebra.specs.lines.Kinds.{slots}
 use Rattle.slices.proofs.Values.{below-of}
 use Rattle.fold_formulas.proofs.Frames.{half-most}
-use Rattle.folds.specs.Pairing.{mirrored}
+use Rattle.folds.specs.FoldedLines.{mirrorKind}
 use Rattle.folds.proofs.MirrorLine.{forwardOf, stored-length, back-list}
 use Rattle.folds.proofs.mirror.inverse.Statement.{statement}
 use Rattle.folds.proofs.mirror.inverse.Tie as tie
@@ -36,9 +34,8 @@ scale-requires c κs =
     let m = s .args .m in
     let a = s .args .a in
     let first = s .args .first in
-    let zero = field m .zer in
-    let g = forwardOf m a first (s .args .re .now) (s .args .im .now) (s .args .tan .now) (s .args .line .now) (s .pre .0 .0) (s .pre .0 .3) zero in
-    ((s .pre .0 .0 .modulus, h .share .ensures .1), (stored-length a first (s .pre .0 .3) (f .forward .kept .1 .1 .1 .1 .1 .1 .1 .0 ∙ s .pre .1 .0 .0), below-of m (slots (mirrored first) a) g (f .forward .ensures zero)))
+    let g = forwardOf m a first (s .args .re .now) (s .args .im .now) (s .args .tan .now) (s .args .line .now) (s .pre .0 .0) (s .pre .0 .3) in
+    ((s .pre .0 .0 .modulus, h .share .ensures .1), (stored-length a first (s .pre .0 .3) (f .forward .kept .1 .1 .1 .1 .1 .1 .1 .0 ∙ s .pre .1 .0 .0), below-of m (slots (mirrorKind first) a) g (f .forward .ensures)))
 
 same-length : tie.Need-same-length
 same-length c =

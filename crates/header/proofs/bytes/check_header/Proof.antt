@@ -7,7 +7,7 @@ use Prim.Native.Nat.{ℕ, _<_, _≤_}
 use lib.Dec.{ltb}
 use denote.Ref.{now}
 use borrow.Author.Tests.{lt-ltb, le-ltb}
-use Rattle.refusals.specs.Tests.{first, _⇒_}
+use Rattle.refusals.specs.Refusals.{first, _⇒_}
 use Rattle.lengths.specs.Lengths as lengths
 use Rattle.lengths.specs.Lengths.{factorsOk}
 use Rattle.cell.specs.Operations.{halvesOf}

@@ -4,8 +4,7 @@ use mathlib.Core.Path.{_≡_, refl, sym}
 use mathlib.Core.Bool.{_&&_}
 use Prim.Native.Nat.{_*_, _≤_}
 use lib.Dec.{eqb}
-use Rattle.lengths.specs.Factors.{product}
-use Rattle.lengths.specs.Lengths.{factorsOk, octalDigits}
+use Rattle.lengths.specs.Lengths.{product, factorsOk, octalDigits}
 use Rattle.header.proofs.Digits.{ok-next, ok-ends, product-cons, product-ends, product-room, product-small}
 use Rattle.header.proofs.packed.digits_product_is.Statement.{statement}
 use Rattle.header.proofs.packed.digits_product_is.Tie as tie

@@ -5,13 +5,12 @@ use mathlib.Core.Bool.{Bool}
 use denote.Ref.{now}
 use borrow.Author.Tests.{not-false, eqb-true}
 use Rattle.numbers.proofs.Primes.{first-modulus}
-use Rattle.refusals.specs.Tests.{first, checkedNumber}
+use Rattle.refusals.specs.Refusals.{first, checkedNumber}
 use Rattle.refusals.proofs.Tests.{Passed, passed}
 use Rattle.cell.specs.Operations.{Sizes}
-use Rattle.job.specs.Header.{headerOf}
-use Rattle.job.specs.Steps.{index, factorTests, factorTestsOf}
+use Rattle.job.specs.Job.{headerOf, index, factorTests, factorTestsOf}
 use Rattle.job.proofs.Jobs.{valid-sizes}
-use Rattle.header.proofs.Points.{within-of}
+use Rattle.job.proofs.check.Points.{within-of}
 use Rattle.job.proofs.Reflections.{factor-refused, factor-read}
 use Rattle.job.proofs.Job.factor.Statement.{statement}
 use Rattle.job.proofs.Job.factor.Tie as tie

@@ -7,14 +7,13 @@ use Prim.Native.Nat.{ℕ, _<_}
 use lib.ListN.{length}
 use denote.Ref.{now}
 use borrow.Author.Tests.{not-false, eqb-true}
-use Rattle.refusals.specs.Tests.{first, checkedNumber}
+use Rattle.refusals.specs.Refusals.{first, checkedNumber}
 use Rattle.refusals.proofs.Tests.{Passed, passed}
 use Rattle.cell.specs.Operations.{Sizes}
-use Rattle.job.specs.Header.{headerOf}
-use Rattle.job.specs.Steps.{position, pointTests, pointTestsOf}
+use Rattle.job.specs.Job.{headerOf, position, pointTests, pointTestsOf}
 use Rattle.job.proofs.Jobs.{valid-sizes}
 use Rattle.header.proofs.Headers.{place-small}
-use Rattle.header.proofs.Points.{point-within-of}
+use Rattle.job.proofs.check.Points.{point-within-of}
 use Rattle.job.proofs.Points.{point-refused, point-read}
 use Rattle.job.proofs.Job.point.Statement.{statement}
 use Rattle.job.proofs.Job.point.Tie as tie

@@ -5,12 +5,11 @@ use mathlib.Core.Bool.{Bool}
 use denote.Ref.{now}
 use borrow.Author.Tests.{not-false, ltb-true, eqb-true}
 use Rattle.numbers.proofs.Primes.{first-modulus}
-use Rattle.refusals.specs.Tests.{first, checkedNumber}
+use Rattle.refusals.specs.Refusals.{first, checkedNumber}
 use Rattle.refusals.proofs.Tests.{Passed, passed, both}
-use Rattle.job.specs.Header.{headerOf}
-use Rattle.job.specs.Steps.{index, recordTests, recordTestsOf}
+use Rattle.job.specs.Job.{headerOf, index, recordTests, recordTestsOf}
 use Rattle.job.proofs.Jobs.{valid-sizes}
-use Rattle.header.proofs.Points.{within-of}
+use Rattle.job.proofs.check.Points.{within-of}
 use Rattle.job.proofs.Reflections.{record-refused, record-written}
 use Rattle.job.proofs.Job.record.Statement.{statement}
 use Rattle.job.proofs.Job.record.Tie as tie

@@ -7,21 +7,20 @@ use native.Mathlib.Omega.{arith}
 use lib.Dec.{eqb, ltb}
 use lib.ListN.{getD, drop}
 use borrow.Author.Tests.{eq-eqb, ne-eqb, lt-ltb, le-ltb}
-use Rattle.algebra.specs.Cell.{J, Sym, Group, full, sameJ, im, imp}
-use Rattle.algebra.specs.CellTests.{imply, every, agreesT}
+use Rattle.algebra.specs.cells.Cell.{J, Sym, Group, full, sameJ, imageOf, impliedValue}
+use Rattle.algebra.specs.cells.CellTests.{imply, every, agreesT}
 use Rattle.numbers.specs.declared.Pair.{Pair}
-use Rattle.numbers.specs.Prime.{prime}
-use Rattle.numbers.specs.Value.{Value, field, conj, valueOf, pairOf, Small}
+use Rattle.numbers.specs.Value.{prime, Value, field, conj, valueOf, pairOf, Small}
 use Rattle.numbers.proofs.Values.{pair-value}
 use Rattle.cell.specs.Volume.{numbersRead}
-use Rattle.cell.specs.Consistency.{all, sameValue, agreesWithItself, orbitNumbers, orbitFree}
+use Rattle.cell.specs.Consistency.{sameValue, agreesWithItself, orbitNumbers, orbitFree}
 use Rattle.cell.specs.Places.{allBelowAt}
 
 -- ---- a record that agrees with itself
 
 -- the test of one operation
 abbrev pub agreesUnder : (a : J) (m : ℕ) (j : J) → Value m → Sym → Bool
-agreesUnder a m j x s = imply (sameJ (im a s j) j) (sameValue (imp (field m) (conj m) s j x) x)
+agreesUnder a m j x s = imply (sameJ (imageOf a s j) j) (sameValue (impliedValue (field m) (conj m) s j x) x)
 
 pub agrees-start : (g : Group) (a : J) (m : ℕ) (j : J) (x : Value m) → agreesWithItself g a m j x ≡ every (drop 0 (full g)) (agreesUnder a m j x)
 unfolding agreesWithItself agreesT
@@ -32,12 +31,12 @@ pub same-pair : (m : ℕ) (z : Value m) {x y : Pair} → Small (prime m) x → y
 unfolding pairOf
 same-pair m z {x} {y} s e = ap₂ (λ (y x : Pair). eqb (y .re) (x .re) && eqb (y .im) (x .im)) e (sym (pair-value m s))
 
-module _ (a : J) (m : ℕ) (j : J) (s : Sym) {i : J} (e : i ≡ im a s j) {t : Bool} (f : t ≡ sameJ i j) where
-  own-index : (b : Bool) → t ≡ b → sameJ (im a s j) j ≡ b
+module _ (a : J) (m : ℕ) (j : J) (s : Sym) {i : J} (e : i ≡ imageOf a s j) {t : Bool} (f : t ≡ sameJ i j) where
+  own-index : (b : Bool) → t ≡ b → sameJ (imageOf a s j) j ≡ b
   own-index b q = sym (f ∙ ap (λ i. sameJ i j) e) ∙ q
 
-  pub same-agrees : (x : Pair) → Small (prime m) x → t ≡ true → {y : Pair} → y ≡ pairOf (imp (field m) (conj m) s j (valueOf m x)) → {r : Bool} → r ≡ (eqb (y .re) (x .re) && eqb (y .im) (x .im)) → r ≡ agreesUnder a m j (valueOf m x) s
-  same-agrees x l q p r = rw (own-index true q) (r ∙ same-pair m (imp (field m) (conj m) s j (valueOf m x)) l p)
+  pub same-agrees : (x : Pair) → Small (prime m) x → t ≡ true → {y : Pair} → y ≡ pairOf (impliedValue (field m) (conj m) s j (valueOf m x)) → {r : Bool} → r ≡ (eqb (y .re) (x .re) && eqb (y .im) (x .im)) → r ≡ agreesUnder a m j (valueOf m x) s
+  same-agrees x l q p r = rw (own-index true q) (r ∙ same-pair m (impliedValue (field m) (conj m) s j (valueOf m x)) l p)
 
   pub other-agrees : (x : Value m) → t ≡ false → true ≡ agreesUnder a m j x s
   other-agrees x q = rw (own-index false q) refl
@@ -46,21 +45,21 @@ module _ (a : J) (m : ℕ) (j : J) (s : Sym) {i : J} (e : i ≡ im a s j) {t : B
 
 -- the test of one operation: the numbers of the image are below 1
 abbrev pub freeUnder : (g : Group) (a : J) (v : List ℕ) (j : J) → Sym → Bool
-freeUnder g a v j s = allBelowAt 1 v (numbersRead g a (im a s j))
+freeUnder g a v j s = allBelowAt 1 v (numbersRead g a (imageOf a s j))
 
 zero-below : (x : ℕ) → eqb x 0 ≡ ltb x 1
 zero-below zero = eq-eqb 0 0 refl ∙ sym (lt-ltb 0 1 (omega arith))
 zero-below (suc x) = ne-eqb (suc x) 0 (λ e. omega arith) ∙ sym (le-ltb (suc x) 1 (omega arith))
 
-zeros-below : (v l : List ℕ) → all (λ q. eqb (getD v q 0) 0) l ≡ allBelowAt 1 v l
-unfolding all
+zeros-below : (v l : List ℕ) → every l (λ q. eqb (getD v q 0) 0) ≡ allBelowAt 1 v l
+unfolding every
 zeros-below v [] = refl
 zeros-below v (q ∷ l) = ap₂ _&&_ (zero-below (getD v q 0)) (zeros-below v l)
 
-all-append : (P : ℕ → Bool) (l k : List ℕ) → all P (l ++ k) ≡ (all P l && all P k)
-unfolding all
+all-append : (P : ℕ → Bool) (l k : List ℕ) → every (l ++ k) P ≡ (every l P && every k P)
+unfolding every
 all-append P [] k = refl
-all-append P (q ∷ l) k = ap (λ b. P q && b) (all-append P l k) ∙ sym (and-assoc (P q) (all P l) (all P k))
+all-append P (q ∷ l) k = ap (λ b. P q && b) (all-append P l k) ∙ sym (and-assoc (P q) (every l P) (every k P))
   where
     and-assoc : (a b c : Bool) → ((a && b) && c) ≡ (a && (b && c))
     and-assoc true b c = refl
@@ -68,14 +67,14 @@ all-append P (q ∷ l) k = ap (λ b. P q && b) (all-append P l k) ∙ sym (and-a
 
 module _ (g : Group) (a : J) (v : List ℕ) (j : J) where
   orbit-every : (l : List Sym) → allBelowAt 1 v (orbitNumbers g a l j) ≡ every l (freeUnder g a v j)
-  unfolding orbitNumbers every all
+  unfolding orbitNumbers every
   orbit-every [] = refl
-  orbit-every (s ∷ l) = all-append (λ q. ltb (getD v q 0) 1) (numbersRead g a (im a s j)) (orbitNumbers g a l j) ∙ ap (λ b. freeUnder g a v j s && b) (orbit-every l)
+  orbit-every (s ∷ l) = all-append (λ q. ltb (getD v q 0) 1) (numbersRead g a (imageOf a s j)) (orbitNumbers g a l j) ∙ ap (λ b. freeUnder g a v j s && b) (orbit-every l)
 
   pub orbit-start : orbitFree g a v j ≡ every (drop 0 (full g)) (freeUnder g a v j)
   unfolding orbitFree
   orbit-start = zeros-below v (orbitNumbers g a (full g) j) ∙ orbit-every (full g)
 
   -- the code's test, made of the image
-  pub image-free : (s : Sym) {i : J} {t : Bool} → i ≡ im a s j → t ≡ allBelowAt 1 v (numbersRead g a i) → t ≡ freeUnder g a v j s
+  pub image-free : (s : Sym) {i : J} {t : Bool} → i ≡ imageOf a s j → t ≡ allBelowAt 1 v (numbersRead g a i) → t ≡ freeUnder g a v j s
   image-free s e f = f ∙ ap (λ i. allBelowAt 1 v (numbersRead g a i)) e

@@ -2,10 +2,9 @@
 use borrow.Author.Needs.{needs}
 use mathlib.Core.Path.{_≡_, _∙_, sym, ap}
 use denote.Ref.{now}
-use Rattle.refusals.specs.Tests.{first, checkedNumber}
-use Rattle.job.specs.Header.{Header}
-use Rattle.job.specs.Steps.{openTests}
-use Rattle.header.proofs.Openings.{header-passed}
+use Rattle.refusals.specs.Refusals.{first, checkedNumber}
+use Rattle.job.specs.Job.{Header, openTests}
+use Rattle.job.proofs.check.Openings.{header-passed}
 use Rattle.job.proofs.Openings.{open-refused, open-collects, open-map}
 use Rattle.job.proofs.open.open.Statement.{statement}
 use Rattle.job.proofs.open.open.Tie as tie

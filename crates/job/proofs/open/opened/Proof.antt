@@ -1,6 +1,6 @@
 -- The three axes, each of a sound list.
 use denote.Ref.{now}
-use Rattle.job.specs.Header.{Header}
+use Rattle.job.specs.Job.{Header}
 use Rattle.header.proofs.Headers.{sound-lists}
 use Rattle.job.proofs.open.opened.Statement.{statement}
 use Rattle.job.proofs.open.opened.Tie as tie

@@ -8,14 +8,13 @@ use Prim.Native.Nat.{ℕ, _*_}
 use denote.Ref.{now}
 use lib.Dec.{ltb}
 use Rattle.slices.specs.Pairs.{allBelow}
-use Rattle.refusals.specs.Tests.{Test, _⇒_, first}
-use Rattle.lengths.specs.Lengths.{scratchLength}
+use Rattle.refusals.specs.Refusals.{Test, _⇒_, first}
+use Rattle.lengths.specs.Lengths.{scratchLength, pairCount}
 use Rattle.lengths.specs.Admitted.{AdmittedLength}
-use Rattle.lengths.specs.Counts.{pairCount}
 use borrow.Author.Tests.{le-leb, lt-leb, lt-ltb, le-ltb}
 use Rattle.refusals.proofs.Tests.{stop, pass, none, not-t, not-f, by-true, by-false, by-eq, by-ne}
 use Rattle.lengths.proofs.AdmittedLengths.{admitted-length}
-use Rattle.line.specs.LineTests.{lineTests}
+use Rattle.line.specs.Line.{lineTests}
 use Rattle.line.proofs.check.check_line.Statement.{statement}
 use Rattle.line.proofs.check.check_line.Tie as tie
 

@@ -3,7 +3,7 @@ use borrow.Author.Needs.{needs}
 use mathlib.Core.Path.{_≡_}
 use native.Mathlib.Omega.{arith}
 use Rattle.header.specs.Header.{needed}
-use Rattle.file_format.specs.HeaderIn.{headerIn}
+use Rattle.file_format.specs.Format.{headerIn}
 use Rattle.printing.proofs.limits.Needs.{header-needs}
 use Rattle.printing.proofs.limits.lent_to.Statement.{statement}
 use Rattle.printing.proofs.limits.lent_to.Tie as tie

@@ -2,7 +2,7 @@
 use borrow.Author.Needs.{needs}
 use native.Mathlib.Omega.{arith}
 use Prim.Native.Nat.{_+_, _*_}
-use Rattle.file_format.specs.Numbers.{twoBytes}
+use Rattle.file_format.specs.Format.{twoBytes}
 use Rattle.printing.proofs.limits.two_bytes.Statement.{statement}
 use Rattle.printing.proofs.limits.two_bytes.Tie as tie
 

@@ -1,9 +1,9 @@
 -- Too long, or opened with the numbers that it is lent.
 use borrow.Author.Needs.{needs}
 use mathlib.Core.Path.{sym, _∙_}
-use Rattle.job.specs.Header.{needed}
-use Rattle.factor_file.specs.File.{headerIn}
-use Rattle.printing.specs.Limits.{lentLimit}
+use Rattle.job.specs.Job.{needed}
+use Rattle.factor_file.specs.Reading.{headerIn}
+use Rattle.printing.specs.Printed.{lentLimit}
 use Rattle.printing.proofs.Files.{lent-length, lent-zeros, printed-long, printed-lent}
 use Rattle.printing.proofs.printer.print_file.Statement.{statement}
 use Rattle.printing.proofs.printer.print_file.Tie as tie

@@ -3,9 +3,9 @@ use borrow.Author.Needs.{needs}
 use mathlib.Core.Path.{_≡_, sym, ap, _∙_}
 use mathlib.Core.List.{List}
 use Prim.Native.Nat.{ℕ}
-use Rattle.job.specs.Steps.{OpenOutcome}
+use Rattle.job.specs.Job.{OpenOutcome}
 use Rattle.factor_file.specs.declared.FileAnswer.{FileAnswer}
-use Rattle.factor_file.specs.Said.{fileOutcome}
+use Rattle.factor_file.specs.Reading.{fileOutcome}
 use Rattle.printing.specs.Text.{TextOutcome, putText}
 use Rattle.printing.specs.Printed.{openedText}
 use Rattle.printing.proofs.printer.print_opened.Statement.{statement}

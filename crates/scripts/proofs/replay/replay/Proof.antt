@@ -5,8 +5,7 @@ use mathlib.Core.Path.{_≡_, refl, _∙_}
 use Prim.Native.Nat.{_-_}
 use lib.ListN.{length}
 use denote.Ref.{now}
-use Rattle.scripts.specs.CallCalls.{callOutcome}
-use Rattle.scripts.specs.Script.{replayStep}
+use Rattle.scripts.specs.Script.{callOutcome, replayStep}
 use Rattle.scripts.proofs.replay.Replaying.{Replaying, resumed-none, replaying-next, replaying-all}
 use Rattle.scripts.proofs.replay.Modelled.{replay-modelled}
 use Rattle.scripts.proofs.replay.replay.Statement.{statement}

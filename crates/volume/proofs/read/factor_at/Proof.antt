@@ -1,7 +1,7 @@
 -- From the line of the stored column, conjugated if that is the mate's.
 use borrow.Author.Needs.{needs}
 use mathlib.Core.Path.{sym, _∙_, ap}
-use Rattle.numbers.specs.Prime.{prime}
+use Rattle.numbers.specs.Value.{prime}
 use Rattle.numbers.proofs.Values.{small-by}
 use Rattle.cell.specs.Volume.{groupOf}
 use Rattle.cell.specs.Operations.{halvesOf, tripleOf}

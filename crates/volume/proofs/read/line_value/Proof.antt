@@ -3,9 +3,8 @@ use borrow.Author.Needs.{needs}
 use mathlib.Core.Path.{_∙_, ap}
 use Prim.Native.Nat.{_/_, _≤_}
 use native.Mathlib.Omega.{arith}
-use Rattle.algebra.specs.Cell.{span}
-use Rattle.numbers.specs.Prime.{prime}
-use Rattle.numbers.specs.Value.{pairOf}
+use Rattle.algebra.specs.cells.Cell.{span}
+use Rattle.numbers.specs.Value.{prime, pairOf}
 use Rattle.numbers.proofs.Values.{small-by}
 use Rattle.cell.specs.Volume.{groupOf}
 use Rattle.cell.specs.Operations.{halvesOf, tripleOf}

@@ -3,13 +3,13 @@ use mathlib.Core.Path.{_≡_}
 use Prim.Native.Nat.{_+_, _-_, _≤_}
 use native.Mathlib.Omega.{arith}
 use borrow.Author.Tests.{lt-ltb, le-ltb}
-use Rattle.cell.specs.Places.{run, allBelowAt}
+use Rattle.cell.specs.Places.{consecutive, allBelowAt}
 use Rattle.cell.proofs.Scans.{run-start, run-next, run-stop, run-end}
 use Rattle.volume.proofs.read.run_below.Statement.{statement}
 use Rattle.volume.proofs.read.run_below.Tie as tie
 
 abbrev Inv-loop : tie.InvT-loop
-Inv-loop p volume first count i₀ i = (i ≤ count) × (allBelowAt p volume (run first count) ≡ allBelowAt p volume (run (first + i) (count - i)))
+Inv-loop p volume first count i₀ i = (i ≤ count) × (allBelowAt p volume (consecutive first count) ≡ allBelowAt p volume (consecutive (first + i) (count - i)))
 
 abbrev μ-loop : tie.MeasureT-loop
 μ-loop p volume first count i₀ i = count - i

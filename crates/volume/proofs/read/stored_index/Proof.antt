@@ -3,7 +3,7 @@ use borrow.Author.Needs.{needs}
 use mathlib.Core.Path.{refl, _∙_, ap}
 use Prim.Native.Nat.{_/_, _≤_}
 use native.Mathlib.Omega.{arith}
-use Rattle.algebra.specs.Cell.{span}
+use Rattle.algebra.specs.cells.Cell.{span}
 use Rattle.cell.specs.Volume.{groupOf}
 use Rattle.cell.specs.Operations.{halvesOf, tripleOf}
 use Rattle.cell.proofs.PlaceLaws.{inside-of}

@@ -3,7 +3,7 @@ use mathlib.Core.Path.{_≡_, refl, _∙_, subst}
 use Prim.Native.Nat.{_-_, _<_}
 use native.Mathlib.Omega.{arith}
 use lib.ListN.{length, drop}
-use Rattle.algebra.specs.Cell.{full}
+use Rattle.algebra.specs.cells.Cell.{full}
 use Rattle.numbers.specs.Value.{valueOf}
 use Rattle.cell.specs.Volume.{groupOf}
 use Rattle.cell.specs.Consistency.{writeImages, recordOn}

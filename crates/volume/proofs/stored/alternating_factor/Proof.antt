@@ -4,7 +4,7 @@ use mathlib.Core.Path.{_≡_, refl, sym, _∙_, ap, subst}
 use native.Mathlib.Omega.{arith}
 use native.Mathlib.Decide.{ℕ-discrete}
 use Prim.Native.Nat.{ℕ}
-use Rattle.algebra.specs.Cell.{P1}
+use Rattle.algebra.specs.cells.Cell.{P1}
 use Rattle.slices.specs.Pairs.{at}
 use Rattle.cell.specs.Volume.{pairPlace}
 use Rattle.cell.specs.Operations.{halvesOf}

@@ -2,7 +2,7 @@
 use borrow.Author.Needs.{needs}
 use mathlib.Core.Path.{_≡_, refl, sym, _∙_}
 use native.Mathlib.Omega.{arith}
-use Rattle.algebra.specs.Cell.{P2₁, planes}
+use Rattle.algebra.specs.cells.Cell.{P2₁, planes}
 use Rattle.cell.specs.Volume.{volumeLength}
 use Rattle.cell.specs.Operations.{halvesOf}
 use Rattle.cell.proofs.PlaceLaws.{by-alternating, alternating-half, pair-inside, stored-layer}

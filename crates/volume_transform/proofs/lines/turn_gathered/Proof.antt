@@ -6,7 +6,7 @@ use Prim.Native.Nat.{_+_, _*_}
 use lib.ListN.{length}
 use Rattle.slices.specs.Pairs.{at}
 use Rattle.slices.proofs.Pairs.{length-fills}
-use Rattle.lengths.specs.Counts.{kindOf}
+use Rattle.lengths.specs.Lengths.{kindOf}
 use Rattle.line.proofs.kinds.Dispatch.{prefix-length}
 use Rattle.volume_transform.proofs.row.TurnLaws.{turned-line, kept, below-lent, returned-fits}
 use Rattle.volume_transform.proofs.lines.turn_gathered.Statement.{statement}

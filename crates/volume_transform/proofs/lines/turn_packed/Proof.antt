@@ -1,11 +1,11 @@
 -- The line is transformed in its direction by the line's own kind.
 use mathlib.Core.Path.{sym, _∙_, ap, subst}
-use Rattle.numbers.specs.Prime.{prime, IsModulus}
+use Rattle.numbers.specs.Value.{prime, IsModulus}
 use Rattle.slices.specs.Pairs.{Below}
-use Rattle.line.specs.TablesKinds.{TablesOf}
+use Rattle.line.specs.Tables.{TablesOf}
 use Rattle.volume_transform.proofs.row.TurnLaws.{turned-packed, line-length}
-use Rattle.lengths.specs.Counts.{kindOf}
-use Rattle.volume_transform.specs.Turned.{turnedLine}
+use Rattle.lengths.specs.Lengths.{kindOf}
+use Rattle.volume_transform.specs.Axes.{turnedLine}
 use Rattle.volume_transform.proofs.lines.turn_packed.Statement.{statement}
 use Rattle.volume_transform.proofs.lines.turn_packed.Tie as tie
 
@@ -31,7 +31,7 @@ returns c =
     let r = c .before .before .before .before .before .before in
     let s = r .before .before .before .before .before .before .before in
     let x = s .args .line in
-    r .transform .ensures ∙ turned-packed (s .args .m) (x .half) (x .kind) (x .direction) (s .args .packed .now) (s .pre .0 .0 .directed) ∙ ap (λ n. turnedLine n (x .half) (x .direction) (kindOf (x .kind)) (s .args .packed .now)) (s .pre .0 .2)
+    r .transform .ensures ∙ turned-packed (s .args .m) (x .half) (x .kind) (x .direction) (s .args .packed .now) ∙ ap (λ n. turnedLine n (x .half) (x .direction) (kindOf (x .kind)) (s .args .packed .now)) (s .pre .0 .2)
 
 pub turn-packed-spec : {M : Type 1} → statement M
 turn-packed-spec =

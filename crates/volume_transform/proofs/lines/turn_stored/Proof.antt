@@ -2,7 +2,7 @@
 use borrow.Author.Needs.{needs}
 use mathlib.Core.Path.{sym, _∙_, ap, subst}
 use Prim.Native.Nat.{_*_}
-use Rattle.numbers.specs.Prime.{IsModulus, prime}
+use Rattle.numbers.specs.Value.{IsModulus, prime}
 use Rattle.slices.specs.Pairs.{Below}
 use Rattle.volume_transform.proofs.row.StoredLaws.{turned-ready, times-ready, plain-turned, over-turned, times-turned}
 use Rattle.volume_transform.proofs.lines.turn_stored.Statement.{statement}

@@ -3,7 +3,7 @@ use borrow.Author.Needs.{needs}
 use native.Mathlib.Omega.{arith}
 use mathlib.Core.Path.{sym, ap}
 use lib.ListN.{length-set}
-use Rattle.volume_transform.specs.LinesRow.{closed}
+use Rattle.volume_transform.specs.Lines.{closed}
 use Rattle.volume_transform.proofs.row.RowLaws.{otherwise-closed}
 use Rattle.volume_transform.proofs.row.close_row.Statement.{statement}
 use Rattle.volume_transform.proofs.row.close_row.Tie as tie

@@ -2,7 +2,7 @@
 use borrow.Author.Needs.{needs}
 use native.Mathlib.Omega.{arith}
 use mathlib.Core.Path.{sym, ap}
-use Rattle.volume_transform.specs.LinesRow.{opened}
+use Rattle.volume_transform.specs.Lines.{opened}
 use Rattle.volume_transform.proofs.row.RowLaws.{not-opened}
 use Rattle.volume_transform.proofs.row.open_row.Statement.{statement}
 use Rattle.volume_transform.proofs.row.open_row.Tie as tie

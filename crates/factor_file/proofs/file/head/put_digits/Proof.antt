@@ -1,7 +1,7 @@
--- The digits before the rest are stored.
+-- The digits before the rest are written.
 use native.Mathlib.Omega.{arith}
-use Rattle.factor_file.proofs.file.Stores.{put-length}
-use Rattle.factor_file.proofs.file.Spelling.{Spelling, spelling-start, spelling-room, spelling-next, spelling-done}
+use Rattle.output.proofs.Writing.{wrote-length}
+use Rattle.factor_file.proofs.file.Spelling.{Spelling, spelling-start, spelling-ends, spelling-next, spelling-done}
 use Rattle.factor_file.proofs.file.head.put_digits.Statement.{statement}
 use Rattle.factor_file.proofs.file.head.put_digits.Tie as tie
 
@@ -21,7 +21,7 @@ put-byte-requires : tie.Need-put-byte-requires Inv-loop μ-loop
 put-byte-requires c κs =
     let t = c .before in
     let l = t .before in
-    spelling-room (l .loop .inv) (t .loop-test .taken) (l .before .before .pre)
+    spelling-ends (l .loop .inv) (t .loop-test .taken) (l .before .before .pre)
 
 loop-less : tie.Need-loop-less Inv-loop μ-loop
 loop-less c = omega (arith, c .before .before .before .before .loop-test .taken)
@@ -33,7 +33,7 @@ loop-again c =
     spelling-next (t .before .loop .inv) (t .loop-test .taken) (p .put-byte .ensures)
 
 same-length : tie.Need-same-length Inv-loop μ-loop
-same-length c = put-length (c .before .loop .inv .put)
+same-length c = wrote-length (c .before .loop .inv .wrote)
 
 returns : tie.Need-returns Inv-loop μ-loop
 returns c = spelling-done (c .before .loop .inv) (c .loop-test .left)

@@ -5,7 +5,7 @@ use mathlib.Core.Path.{ap}
 use mathlib.Core.List.{_∷_}
 use Prim.Native.Nat.{ℕ}
 use Rattle.lengths.specs.Lengths.{octalDigits}
-use Rattle.factor_file.proofs.file.Stores.{put-then, put-as, room-rest}
+use Rattle.output.proofs.Writing.{wrote-append, wrote-as}
 use Rattle.file_format.proofs.layout.Digits.{word-digits}
 use Rattle.factor_file.proofs.file.head.put_list.Statement.{statement}
 use Rattle.factor_file.proofs.file.head.put_list.Tie as tie
@@ -14,16 +14,16 @@ digit-count-requires : tie.Need-digit-count-requires
 digit-count-requires c κs = search needs
 
 cast-put-byte : tie.Need-cast-put-byte
-cast-put-byte c = omega (arith, c .digit-count .ensures, word-digits (c .before .before .args .factors) (omega arith))
+cast-put-byte c = omega (arith, c .digit-count .ensures, word-digits (c .before .before .before .args .factors) (omega arith))
 
 put-byte-requires : tie.Need-put-byte-requires
-put-byte-requires c κs = omega (arith, c .before .before .before .pre)
+put-byte-requires c κs = record { low = omega (arith, c .before .before .before .pre .low) }
 
 put-digits-requires : tie.Need-put-digits-requires
 put-digits-requires c κs =
     let p = c .before .before .before in
     let s = p .before .before .before .before in
-    room-rest (octalDigits (s .args .factors)) (p .put-byte .ensures) (s .pre)
+    record { low = omega (arith, p .put-byte .ensures .place, s .pre .low) }
 
 same-length : tie.Need-same-length
 same-length c = search needs
@@ -33,7 +33,7 @@ returns c =
     let d = c .before .before in
     let p = d .before .before .before .before in
     let f = p .before .before .before .before .args .factors in
-    put-as (put-then (p .put-byte .ensures) (d .put-digits .ensures)) (ap (λ (n : ℕ). n ∷ octalDigits f) (p .before .before .digit-count .ensures))
+    wrote-as (wrote-append (p .put-byte .ensures) (d .put-digits .ensures)) (ap (λ (n : ℕ). n ∷ octalDigits f) (p .before .digit-count .ensures))
 
 pub put-list-spec : {M : Type 1} → statement M
 put-list-spec =

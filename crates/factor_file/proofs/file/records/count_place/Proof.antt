@@ -6,7 +6,7 @@ use Rattle.numbers.specs.Value.{pairOf}
 use Rattle.numbers.proofs.Primes.{first-modulus}
 use Rattle.cell.specs.Volume.{groupOf}
 use Rattle.cell.specs.Operations.{halvesOf, tripleOf}
-use Rattle.factor_file.specs.StepsFile.{recordValue}
+use Rattle.factor_file.specs.Steps.{recordValue}
 use Rattle.factor_file.proofs.file.RecordLaws.{small-at-all, lowest-value, not-lowest-none, no-record, one-record}
 use Rattle.factor_file.proofs.file.records.count_place.Statement.{statement}
 use Rattle.factor_file.proofs.file.records.count_place.Tie as tie

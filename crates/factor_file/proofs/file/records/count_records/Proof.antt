@@ -3,12 +3,12 @@ use native.Mathlib.Omega.{arith}
 use mathlib.Core.Path.{sym, _∙_, ap}
 use mathlib.Core.List.{List}
 use lib.ListN.{length}
-use Rattle.algebra.specs.Cell.{J}
+use Rattle.algebra.specs.cells.Cell.{J}
 use Rattle.numbers.specs.Value.{Value}
 use Rattle.cell.specs.Volume.{groupOf}
 use Rattle.cell.specs.Operations.{halvesOf, tripleOf}
-use Rattle.factor_file.specs.Records.{recordsAt}
-use Rattle.factor_file.specs.StepsFile.{placesFrom, Next}
+use Rattle.factor_file.specs.Writing.{recordsAt}
+use Rattle.factor_file.specs.Steps.{placesFrom, Next}
 use Rattle.factor_file.proofs.file.Places.{Spreads}
 use Rattle.factor_file.proofs.file.Walks.{Counting, counting-start, counting-next, counting-most, counting-done, fewer}
 use Rattle.factor_file.proofs.file.RecordLaws.{volume-records, cell-places, cell-few, first-half, upper-records}

@@ -3,14 +3,13 @@ use borrow.Author.Needs.{needs}
 use native.Mathlib.Omega.{arith}
 use mathlib.Core.Path.{_≡_, sym, _∙_, ap}
 use mathlib.Core.List.{[], _∷_}
-use lib.ListN.{length}
 use Rattle.numbers.specs.Value.{pairOf}
 use Rattle.numbers.proofs.Primes.{first-modulus}
 use Rattle.cell.specs.Volume.{groupOf}
 use Rattle.cell.specs.Operations.{halvesOf, tripleOf}
-use Rattle.file_format.specs.Bytes.{bytes, allBytes}
-use Rattle.factor_file.specs.StepsFile.{recordValue, pairBytes}
-use Rattle.factor_file.proofs.file.Stores.{put-none, put-as}
+use Rattle.output.proofs.Writing.{wrote-none, wrote-as, ends-as}
+use Rattle.file_format.specs.Format.{allBytes}
+use Rattle.factor_file.specs.Steps.{recordValue, pairBytes}
 use Rattle.factor_file.proofs.file.RecordLaws.{bytesAt, small-at-all, lowest-value, not-lowest-none, no-bytes, one-bytes}
 use Rattle.factor_file.proofs.file.records.put_place.Statement.{statement}
 use Rattle.factor_file.proofs.file.records.put_place.Tie as tie
@@ -45,12 +44,11 @@ is-zero-requires : tie.Need-is-zero-requires
 is-zero-requires c κs = search needs
 
 put-record-requires : tie.Need-put-record-requires
-unfolding bytes
 put-record-requires c κs =
     let s = c .before .before .before .before .before .before .before .before in
     let w = s .pre .0 .1 in
     let z = s .pre .0 .0 .volume .sizes in
-    (omega (arith, w .h, z .first .high), omega (arith, w .k, z .second .high), omega (arith, w .l, z .third .high), omega (arith, s .pre .1, ap length (bytes-are (c .before))))
+    (omega (arith, w .h, z .first .high), omega (arith, w .k, z .second .high), omega (arith, w .l, z .third .high), ends-as (s .pre .1) (sym (bytes-are (c .before))))
 
 returns : tie.Need-returns
 returns c =
@@ -65,13 +63,13 @@ same-length c = search needs
 returns-2 : tie.Need-returns-2
 returns-2 c =
     let p = c .before .before in
-    put-as (p .put-record .ensures) (bytes-are (p .before .before))
+    wrote-as (p .put-record .ensures) (bytes-are (p .before .before))
 
 returns-3 : tie.Need-returns-3
 unfolding allBytes
 returns-3 c =
     let a = c .before .before .before .before .args in
-    put-as (put-none (a .at) (a .out .now)) (sym (ap allBytes (not-lowest-none (groupOf (a .group)) (halvesOf (a .n1) (a .n2) (a .n3)) (a .volume .now) (tripleOf (a .j)) (sym (c .before .lowest .ensures) ∙ c .if1 .left))))
+    wrote-as (wrote-none (a .at) (a .out .now)) (sym (ap allBytes (not-lowest-none (groupOf (a .group)) (halvesOf (a .n1) (a .n2) (a .n3)) (a .volume .now) (tripleOf (a .j)) (sym (c .before .lowest .ensures) ∙ c .if1 .left))))
 
 pub put-place-spec : {M : Type 1} → statement M
 put-place-spec =

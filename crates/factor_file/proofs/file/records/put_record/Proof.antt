@@ -1,29 +1,30 @@
 -- Five numbers, one after the other.
 use borrow.Author.Needs.{needs}
 use native.Mathlib.Omega.{arith}
-use Rattle.file_format.specs.Bytes.{bytes}
-use Rattle.factor_file.proofs.file.Stores.{put-then}
+use Rattle.output.specs.Output.{bigEndian}
+use Rattle.output.proofs.Writing.{wrote-append}
 use Rattle.factor_file.proofs.file.records.put_record.Statement.{statement}
 use Rattle.factor_file.proofs.file.records.put_record.Tie as tie
 
 put-two-requires : tie.Need-put-two-requires
-put-two-requires c κs = search needs
+unfolding bigEndian
+put-two-requires c κs = (omega arith, record { low = omega arith })
 
 put-two-requires-2 : tie.Need-put-two-requires-2
-unfolding bytes
-put-two-requires-2 c κs = omega arith
+unfolding bigEndian
+put-two-requires-2 c κs = (omega arith, record { low = omega arith })
 
 put-two-requires-3 : tie.Need-put-two-requires-3
-unfolding bytes
-put-two-requires-3 c κs = omega arith
+unfolding bigEndian
+put-two-requires-3 c κs = (omega arith, record { low = omega arith })
 
 put-four-requires : tie.Need-put-four-requires
-unfolding bytes
-put-four-requires c κs = omega arith
+unfolding bigEndian
+put-four-requires c κs = record { low = omega arith }
 
 put-four-requires-2 : tie.Need-put-four-requires-2
-unfolding bytes
-put-four-requires-2 c κs = omega arith
+unfolding bigEndian
+put-four-requires-2 c κs = record { low = omega arith }
 
 same-length : tie.Need-same-length
 same-length c = search needs
@@ -35,7 +36,7 @@ returns c =
     let l = a .before .before .before .before in
     let k = l .before .before .before .before in
     let h = k .before .before .before .before in
-    put-then (put-then (put-then (put-then (h .put-two .ensures) (k .put-two2 .ensures)) (l .put-two3 .ensures)) (a .put-four .ensures)) (b .put-four2 .ensures)
+    wrote-append (wrote-append (wrote-append (wrote-append (h .put-two .ensures) (k .put-two2 .ensures)) (l .put-two3 .ensures)) (a .put-four .ensures)) (b .put-four2 .ensures)
 
 pub put-record-spec : {M : Type 1} → statement M
 put-record-spec =

@@ -1,16 +1,16 @@
--- The places before j are stored; none beyond N1/2 has a record.
+-- The places before j are written; none beyond N1/2 has a record.
 use native.Mathlib.Omega.{arith}
 use mathlib.Core.Path.{_≡_, sym, ap}
 use mathlib.Core.List.{List}
 use Prim.Native.Nat.{ℕ}
 use lib.ListN.{length}
-use Rattle.algebra.specs.Cell.{J}
-use Rattle.algebra.specs.CellTests.{cellFrom, placesOf}
+use Rattle.algebra.specs.cells.Cell.{J}
+use Rattle.algebra.specs.cells.CellTests.{cellFrom, placesOf}
 use Rattle.cell.specs.Volume.{groupOf}
 use Rattle.cell.specs.Operations.{halvesOf, tripleOf}
-use Rattle.factor_file.specs.StepsFile.{placesFrom, Next}
+use Rattle.factor_file.specs.Steps.{placesFrom, Next}
 use Rattle.factor_file.proofs.file.Places.{Spreads}
-use Rattle.factor_file.proofs.file.Walks.{Putting, putting-start, putting-next, putting-room, putting-done, fewer}
+use Rattle.factor_file.proofs.file.Walks.{Putting, putting-start, putting-next, putting-ends, putting-done, fewer}
 use Rattle.factor_file.proofs.file.RecordLaws.{bytesAt, volume-bytes, cell-places, first-half, upper-bytes}
 use Rattle.factor_file.proofs.file.records.put_records.Statement.{statement}
 use Rattle.factor_file.proofs.file.records.put_records.Tie as tie
@@ -44,7 +44,7 @@ put-place-requires c κs =
     let l = t .before .before in
     let s = l .before .before .before in
     let h = first-half (s .pre .0 .volume .sizes) (t .if1 .taken) in
-    ((s .pre .0, record { h = h; k = l .loop .inv .k; l = l .loop .inv .l }), putting-room (spread s) (l .loop .inv) h (whole s) (s .pre .1))
+    ((s .pre .0, record { h = h; k = l .loop .inv .k; l = l .loop .inv .l }), putting-ends (spread s) (l .loop .inv) h (whole s) (s .pre .1))
 
 next-place-requires : tie.Need-next-place-requires Inv-loop μ-loop
 next-place-requires c κs =

@@ -1,18 +1,17 @@
 -- s results are there.
 use borrow.Author.Needs.{needs}
 use Prim.Native.Nat.{_-_}
-use Rattle.algebra.specs.Folds.{finish3}
-use Rattle.numbers.specs.Value.{field, conj, i, res, real, half, pairOf}
-use Rattle.slices.specs.Pairs.{Filling}
-use Rattle.slices.specs.Values.{valuesOf}
+use Rattle.algebra.specs.lines.Folds.{finish3}
+use Rattle.numbers.specs.Value.{res, real, pairOf, onValues}
+use Rattle.slices.specs.Pairs.{Filling, valuesOf}
 use Rattle.slices.proofs.Filling.{filling-next}
 use Rattle.slices.proofs.Sets.{fill}
-use Rattle.fold_formulas.specs.Frame.{tangent}
+use Rattle.fold_formulas.specs.FoldFormulas.{tangent}
 use Rattle.folds.proofs.alternating.after.finish.Statement.{statement}
 use Rattle.folds.proofs.alternating.after.finish.Tie as tie
 
 abbrev Inv-loop : tie.InvT-loop
-Inv-loop m tan a odd fold line₀ step s₀ line s = Filling (λ k. k) (λ s. pairOf (finish3 (field m) (conj m) (i m) (real m (half m)) a (tangent m a tan) (valuesOf m fold) (real m (res m odd)) s)) a s line₀ line
+Inv-loop m tan a odd fold line₀ step s₀ line s = Filling (λ k. k) (λ s. pairOf (onValues m finish3 a (tangent m a tan) (valuesOf m fold) (real m (res m odd)) s)) a s line₀ line
 
 abbrev μ-loop : tie.MeasureT-loop
 μ-loop m tan a odd fold line₀ step s₀ line s = a - s

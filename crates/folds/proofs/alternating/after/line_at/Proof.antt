@@ -6,7 +6,7 @@ use Rattle.numbers.proofs.Primes.{prime-pos}
 use Rattle.numbers.proofs.Values.{small-by}
 use Rattle.slices.specs.Pairs.{at}
 use Rattle.slices.proofs.Bounds.{small-of}
-use Rattle.folds.proofs.alternating.after.Back.{mate-even, mate-odd, folded-by, turned-by, scaled-by, line-even, line-odd}
+use Rattle.folds.proofs.alternating.after.Back.{mate-even, mate-odd, folded-by, i-times-by, scaled-by, line-even, line-odd}
 use Rattle.folds.proofs.alternating.after.line_at.Statement.{statement}
 use Rattle.folds.proofs.alternating.after.line_at.Tie as tie
 
@@ -83,7 +83,7 @@ returns-2 c =
     let s = g .before .before in
     let l = s .args .fold .now in
     scaled-by (s .args .m) (s .args .part) _
-    (turned-by (s .args .m) (s .args .twice) _
+    (i-times-by (s .args .m) (s .args .twice) _
     (folded-by (s .args .m) l _ _ (g .get .ensures) (z .get2 .ensures ∙ ap (at l) (h .mate-of .ensures .0 ∙ mate-odd (s .args .a) (s .args .j) (b .if1 .left))) (k .conjugate .ensures) (u .sum .ensures))
     (d .difference .ensures) (v .times-i .ensures))
     (c .scaled2 .ensures)

@@ -1,10 +1,10 @@
 -- Pair 0 has the two places that have one number each.
 use borrow.Author.Needs.{needs}
 use Prim.Native.Nat.{ℕ}
-use Rattle.algebra.specs.Folds.{line3}
+use Rattle.algebra.specs.lines.Folds.{line3}
 use Rattle.numbers.specs.Value.{Value, field, conj, i, res, real, half}
 use Rattle.numbers.proofs.Values.{small-by}
-use Rattle.slices.specs.Values.{valuesOf}
+use Rattle.slices.specs.Pairs.{valuesOf}
 use Rattle.folds.proofs.alternating.after.Back.{pack-even, pack-odd, pack-rest}
 use Rattle.folds.proofs.alternating.after.pack_at.Statement.{statement}
 use Rattle.folds.proofs.alternating.after.pack_at.Tie as tie

@@ -2,7 +2,7 @@
 use borrow.Author.Needs.{needs}
 use mathlib.Core.Path.{_∙_, ap}
 use native.Mathlib.Omega.{arith}
-use Rattle.algebra.specs.Ring.{Ops}
+use Rattle.algebra.specs.ring.Ring.{Ops}
 use Rattle.numbers.specs.Value.{field, conj, valueOf, pairOf}
 use Rattle.numbers.proofs.Values.{small-by, value-by}
 use Rattle.slices.proofs.Bounds.{small-of}

@@ -1,4 +1,4 @@
--- `joining::finish_at`: the two ends, and the places between.
+-- The two ends, and the places between.
 use borrow.Author.Needs.{needs}
 use mathlib.Core.Path.{ap}
 use Prim.Native.Nat.{ℕ, _*_, _<_}
@@ -58,8 +58,8 @@ sub-get c = omega arith
 get-requires-4 : tie.Need-get-requires-4
 get-requires-4 c κs = omega arith
 
-joined-requires : tie.Need-joined-requires
-joined-requires c κs =
+finish-between-requires : tie.Need-finish-between-requires
+finish-between-requires c κs =
     let t = c .before .before .before in
     let s = t .before .before .before in (
       s .pre .0 .0,
@@ -75,7 +75,7 @@ returns-3 c =
     let s = g .before .before .before .before .before .before in
     finished-between _ _ (s .args .first) (s .args .tan .now) _ _ _ _ (omega arith) (omega arith)
     (ap (λ (k : ℕ). getD (s .args .tan .now) (k * s .args .s) 0) (s .pre .1 .0 .1))
-    (g .before .get3 .ensures) (g .get4 .ensures) (c .joined .ensures)
+    (g .before .get3 .ensures) (g .get4 .ensures) (c .finish-between .ensures)
 
 pub finish-at-spec : {M : Type 1} → statement M
 finish-at-spec =
@@ -93,5 +93,5 @@ finish-at-spec =
     get-requires-3
     sub-get
     get-requires-4
-    joined-requires
+    finish-between-requires
     returns-3)

@@ -1,4 +1,4 @@
--- `pairing::antisymmetric_at`: zero at 0 and A, stored between, the negated mirror image of a stored value above.
+-- Zero at 0 and A, stored between, the negated mirror image of a stored value above.
 use borrow.Author.Needs.{needs}
 use native.Mathlib.Omega.{arith}
 use Rattle.slices.proofs.Bounds.{small-of}

@@ -1,4 +1,4 @@
--- `pairing::odd_sum`: t of the odd places are summed, and the sum is reduced once; those of an antisymmetric line sum to zero.
+-- t of the odd places are summed, and the sum is reduced once; those of an antisymmetric line sum to zero.
 use borrow.Author.Needs.{needs}
 use Prim.Native.Nat.{_-_}
 use native.Mathlib.Omega.{arith}

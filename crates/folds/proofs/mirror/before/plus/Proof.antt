@@ -1,4 +1,4 @@
--- `pairing::plus`: each number grows by less than the prime.
+-- Each number grows by less than the prime.
 use borrow.Author.Needs.{needs}
 use Rattle.folds.proofs.mirror.before.Forms.{accumulated-plus}
 use Rattle.folds.proofs.mirror.before.plus.Statement.{statement}

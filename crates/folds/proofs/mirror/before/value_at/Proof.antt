@@ -1,4 +1,4 @@
--- `pairing::value_at`: a place up to A of a symmetric line is stored, one above is the mirror image of a stored one.
+-- A place up to A of a symmetric line is stored, one above is the mirror image of a stored one.
 use native.Mathlib.Omega.{arith}
 use Rattle.folds.proofs.mirror.before.Forms.{symmetric-low, symmetric-high, line-symmetric, line-antisymmetric}
 use Rattle.folds.proofs.mirror.before.value_at.Statement.{statement}

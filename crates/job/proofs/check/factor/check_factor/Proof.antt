@@ -7,15 +7,14 @@ use lib.ListN.{length}
 use lib.Dec.{eqb}
 use denote.Ref.{now}
 use borrow.Author.Tests.{not-false, eqb-true, eq-eqb, ne-eqb}
-use Rattle.numbers.specs.Prime.{prime}
-use Rattle.refusals.specs.Tests.{first}
+use Rattle.numbers.specs.Value.{prime}
+use Rattle.refusals.specs.Refusals.{first}
 use Rattle.refusals.proofs.Tests.{stop, pass, none, not-t, not-f, by-true, by-false}
 use Rattle.cell.specs.Operations.{halvesOf, tripleOf, Sizes, Within}
 use Rattle.cell.specs.Volume.{groupOf, numbersRead, volumeLength}
 use Rattle.cell.specs.Places.{allBelowAt}
-use Rattle.header.specs.Tests.{within}
-use Rattle.header.proofs.Points.{within-of}
-use Rattle.job.specs.ReadingTests.{storedTests, factorTestsOf}
+use Rattle.job.specs.Tests.{within, storedTests, factorTestsOf}
+use Rattle.job.proofs.check.Points.{within-of}
 use Rattle.job.proofs.check.factor.check_factor.Statement.{statement}
 use Rattle.job.proofs.check.factor.check_factor.Tie as tie
 

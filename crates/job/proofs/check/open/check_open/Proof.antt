@@ -2,12 +2,12 @@
 use borrow.Author.Needs.{needs}
 use mathlib.Core.Path.{_≡_, _∙_, sym, ap}
 use denote.Ref.{now}
-use Rattle.refusals.specs.Tests.{first, checkedNumber}
+use Rattle.refusals.specs.Refusals.{first, checkedNumber}
 use borrow.Author.Tests.{le-leb, lt-leb}
 use Rattle.refusals.proofs.Tests.{stop, pass}
 use Rattle.header.specs.Header.{Header, axisTests}
 use Rattle.header.proofs.Headers.{sound-sizes}
-use Rattle.header.proofs.Openings.{header-refused, volume-decides}
+use Rattle.job.proofs.check.Openings.{header-refused, volume-decides}
 use Rattle.job.proofs.check.open.check_open.Statement.{statement}
 use Rattle.job.proofs.check.open.check_open.Tie as tie
 

@@ -9,7 +9,7 @@ use borrow.Author.Tests.{eqb-true}
 use Rattle.refusals.proofs.Tests.{stop, not-f, by-true, by-false}
 use Rattle.cell.specs.Operations.{halvesOf}
 use Rattle.cell.specs.Volume.{groupOf, volumeLength}
-use Rattle.header.proofs.Openings.{volume-collects, volume-held}
+use Rattle.job.proofs.check.Openings.{volume-collects, volume-held}
 use Rattle.job.proofs.check.open.check_volume.Statement.{statement}
 use Rattle.job.proofs.check.open.check_volume.Tie as tie
 

@@ -8,15 +8,14 @@ use lib.ListN.{length, getD}
 use lib.Dec.{ltb, eqb}
 use denote.Ref.{now}
 use borrow.Author.Tests.{not-false, eqb-true, eq-eqb, ne-eqb}
-use Rattle.numbers.specs.Prime.{prime}
-use Rattle.refusals.specs.Tests.{first}
+use Rattle.numbers.specs.Value.{prime}
+use Rattle.refusals.specs.Refusals.{first}
 use Rattle.refusals.proofs.Tests.{stop, pass, none, not-t, not-f, by-true, by-false}
 use Rattle.cell.specs.Operations.{halvesOf, pointOf, Sizes, PointWithin}
 use Rattle.cell.specs.Volume.{groupOf, densityPlace, volumeLength}
-use Rattle.header.specs.Tests.{within}
-use Rattle.header.proofs.Points.{point-within-of}
+use Rattle.job.specs.Tests.{within, densityTests, pointTestsOf}
+use Rattle.job.proofs.check.Points.{point-within-of}
 use Rattle.header.proofs.Headers.{place-small}
-use Rattle.job.specs.ReadingTests.{densityTests, pointTestsOf}
 use Rattle.job.proofs.check.Numbers.{number-above, number-below}
 use Rattle.job.proofs.check.point.check_point.Statement.{statement}
 use Rattle.job.proofs.check.point.check_point.Tie as tie

@@ -2,7 +2,7 @@
 use borrow.Author.Needs.{needs}
 use native.Mathlib.Omega.{arith}
 use denote.Ref.{now}
-use Rattle.numbers.specs.Prime.{prime}
+use Rattle.numbers.specs.Value.{prime}
 use Rattle.numbers.proofs.Primes.{prime-pos}
 use Rattle.slices.proofs.Bounds.{below-allBelow}
 use Rattle.refusals.proofs.Tests.{stop, pass, none, not-t, not-f, by-true, by-false}

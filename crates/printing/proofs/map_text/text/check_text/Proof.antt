@@ -6,10 +6,9 @@ use mathlib.Core.Bool.{true, false, not}
 use Prim.Native.Nat.{ℕ, _<_, _≤_}
 use lib.Dec.{eqb, ltb}
 use lib.ListN.{length}
-use Rattle.refusals.specs.Tests.{first}
+use Rattle.refusals.specs.Refusals.{first}
 use Rattle.refusals.proofs.Tests.{stop, pass, none, not-t, not-f, by-false, by-true}
-use Rattle.job.specs.Header.{validJob, mapHeld}
-use Rattle.job.specs.Steps.{fits}
+use Rattle.job.specs.Job.{validJob, mapHeld, fits}
 use Rattle.job.proofs.Jobs.{valid-sizes}
 use Rattle.printing.specs.Text.{mapText}
 use Rattle.printing.proofs.map_text.text.check_text.Statement.{statement}

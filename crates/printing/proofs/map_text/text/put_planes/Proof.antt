@@ -5,10 +5,9 @@ use Prim.Native.Nat.{ℕ, _-_, _<_, _≤_}
 use native.Mathlib.Omega.{arith}
 use Rattle.cell.specs.Volume.{layers}
 use Rattle.job.specs.declared.Job.{Job}
-use Rattle.job.specs.Header.{groupIn, halves}
-use Rattle.output.specs.Decimal.{each}
+use Rattle.job.specs.Job.{groupIn, halves}
+use Rattle.output.specs.Output.{each, Wrote}
 use Rattle.printing.specs.Text.{rowLine}
-use Rattle.output.specs.Writing.{Wrote}
 use Rattle.output.proofs.Writing.{each-none, each-ends, each-next, each-done, wrote-length}
 use Rattle.printing.proofs.map_text.Printing.{printable-sizes}
 use Rattle.printing.proofs.map_text.text.put_planes.Statement.{statement}

@@ -3,9 +3,8 @@ use borrow.Author.Needs.{needs}
 use mathlib.Core.Path.{_≡_}
 use mathlib.Core.List.{[], _∷_, _++_}
 use Prim.Native.Nat.{_*_}
-use Rattle.output.specs.Decimal.{lineFeed}
+use Rattle.output.specs.Output.{lineFeed, Ends}
 use Rattle.printing.specs.Text.{rowLine}
-use Rattle.output.specs.Writing.{Ends}
 use Rattle.output.proofs.Writing.{wrote-append, ends-left, ends-right}
 use Rattle.printing.proofs.map_text.Printing.{valuesFrom, values, row-asked, row-inside, row-values}
 use Rattle.printing.proofs.map_text.text.put_row.Statement.{statement}

@@ -1,7 +1,7 @@
 -- By its number, each operation is a call of its own.
 use mathlib.Core.Path.{refl, _∙_, ap}
 use denote.Ref.{now}
-use Rattle.scripts.specs.Call.{callStep}
+use Rattle.scripts.specs.Script.{callStep}
 use Rattle.scripts.proofs.calls.Calls.{four-on, is-synthesis, is-analysis, call-in-script}
 use borrow.Author.Needs.{needs}
 use Rattle.scripts.proofs.replay.call.call_at.Statement.{statement}

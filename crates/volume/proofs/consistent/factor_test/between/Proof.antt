@@ -1,7 +1,7 @@
 -- Not 0, and before the end.
 use mathlib.Core.Path.{_≡_, sym, subst}
 use lib.Dec.{T, ltb, ltb→lt}
-use Rattle.algebra.proofs.Bool.{and-l, and-r}
+use Rattle.algebra.proofs.ring.Bool.{and-l, and-r}
 use Rattle.volume.proofs.consistent.factor_test.between.Statement.{statement}
 use Rattle.volume.proofs.consistent.factor_test.between.Tie as tie
 

@@ -3,7 +3,7 @@ use borrow.Author.Needs.{needs}
 use mathlib.Core.Path.{_∙_, ap}
 use mathlib.Core.Bool.{_&&_}
 use native.Mathlib.Omega.{arith}
-use Rattle.algebra.specs.Cell.{planes}
+use Rattle.algebra.specs.cells.Cell.{planes}
 use Rattle.cell.specs.TestSteps.{isZero}
 use Rattle.cell.proofs.StoredFactors.{pair-inside}
 use Rattle.volume.proofs.consistent.factor_test.empty_line.Statement.{statement}

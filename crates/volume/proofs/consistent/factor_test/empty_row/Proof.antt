@@ -2,7 +2,7 @@
 use borrow.Author.Needs.{needs}
 use Prim.Native.Nat.{suc, _-_, _/_}
 use native.Mathlib.Omega.{arith}
-use Rattle.algebra.specs.Cell.{Pa}
+use Rattle.algebra.specs.cells.Cell.{Pa}
 use Rattle.cell.specs.Operations.{halvesOf}
 use Rattle.cell.specs.TestSteps.{emptyEnds}
 use Rattle.volume.proofs.consistent.Passing.{Passing, passing-start, passing-next, passing-stop, passing-done}

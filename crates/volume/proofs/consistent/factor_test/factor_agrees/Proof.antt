@@ -7,7 +7,7 @@ use native.Mathlib.Omega.{arith}
 use lib.Dec.{T, eqb}
 use lib.ListN.{getD}
 use borrow.Author.Tests.{eqb-true}
-use Rattle.algebra.specs.Cell.{P2₁2₁2₁, one, full, negI}
+use Rattle.algebra.specs.cells.Cell.{P2₁2₁2₁, one, full, negI}
 use Rattle.cell.specs.Volume.{groupOf}
 use Rattle.cell.specs.Consistency.{lineAgrees}
 use Rattle.cell.specs.Operations.{halvesOf, tripleOf}

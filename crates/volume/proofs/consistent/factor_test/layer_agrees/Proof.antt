@@ -1,9 +1,9 @@
 -- The rows before h agree, that of -h among them where h is beyond N1/2.
 use Prim.Native.Nat.{ℕ, suc, _*_, _-_, _/_, _<_}
 use native.Mathlib.Omega.{arith}
-use Rattle.algebra.specs.Cell.{negI}
-use Rattle.algebra.specs.CellTests.{below}
-use Rattle.algebra.proofs.CellAxis.{neg-pos}
+use Rattle.algebra.specs.cells.Cell.{negI}
+use Rattle.algebra.specs.cells.CellTests.{below}
+use Rattle.algebra.proofs.cells.CellAxis.{neg-pos}
 use Rattle.cell.specs.Volume.{groupOf}
 use Rattle.cell.specs.Consistency.{lineAgrees}
 use Rattle.cell.specs.Operations.{halvesOf}

@@ -5,8 +5,8 @@ use mathlib.Core.Bool.{Bool}
 use Prim.Native.Nat.{ℕ, suc, _+_, _*_, _-_, _/_, _%_, _<_}
 use native.Mathlib.Omega.{arith}
 use denote.Ref.{now}
-use Rattle.algebra.specs.Cell.{Pa}
-use Rattle.algebra.specs.CellTests.{below}
+use Rattle.algebra.specs.cells.Cell.{Pa}
+use Rattle.algebra.specs.cells.CellTests.{below}
 use Rattle.cell.specs.Operations.{halvesOf}
 use Rattle.cell.specs.TestSteps.{emptyIfOdd}
 use Rattle.cell.proofs.PlaceLaws.{even-is, odd-is}

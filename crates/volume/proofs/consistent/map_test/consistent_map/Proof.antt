@@ -3,8 +3,8 @@ use borrow.Author.Needs.{needs}
 use mathlib.Core.Path.{_∙_}
 use Prim.Native.Nat.{_*_, _-_, _/_}
 use native.Mathlib.Omega.{arith}
-use Rattle.algebra.specs.Cell.{planes}
-use Rattle.algebra.specs.CellTests.{below}
+use Rattle.algebra.specs.cells.Cell.{planes}
+use Rattle.algebra.specs.cells.CellTests.{below}
 use Rattle.cell.specs.Volume.{groupOf}
 use Rattle.cell.specs.Operations.{halvesOf}
 use Rattle.cell.specs.TestSteps.{rowAgrees}

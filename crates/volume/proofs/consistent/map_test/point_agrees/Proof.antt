@@ -2,12 +2,11 @@
 use borrow.Author.Needs.{needs}
 use Prim.Native.Nat.{_-_}
 use native.Mathlib.Omega.{arith}
-use Rattle.algebra.specs.Cell.{one, ops}
+use Rattle.algebra.specs.cells.Cell.{one, ops}
 use Rattle.cell.specs.Volume.{groupOf}
 use Rattle.cell.specs.Operations.{halvesOf, pointOf}
 use Rattle.cell.specs.TestSteps.{pointImageAgrees}
-use Rattle.cell.proofs.OperationLaws.{first-own}
-use Rattle.cell.proofs.OperationLaws.{order-least}
+use Rattle.cell.proofs.OperationLaws.{first-own, order-least}
 use Rattle.volume.proofs.consistent.Passing.{PassingMembers, members-second, members-next, members-stop, members-done}
 use Rattle.volume.proofs.consistent.TestLaws.{identity-point}
 use Rattle.volume.proofs.consistent.map_test.point_agrees.Statement.{statement}

@@ -1,0 +1,14 @@
+pub mod CellAxis
+pub mod CellSym
+pub mod CellGroup
+pub mod CellMap
+pub mod CellOps
+pub mod CellSteps
+pub mod CellPower
+pub mod CellLawful
+pub mod CellLines
+pub mod CellTests
+pub mod CellPack
+pub mod CellRecord
+pub mod CellRefusals
+pub mod CellWriter

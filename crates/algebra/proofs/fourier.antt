@@ -1,0 +1,9 @@
+pub mod Sums
+pub mod Transform
+pub mod Properties
+pub mod PowerTable
+pub mod RootOrder
+pub mod HalfTangents
+pub mod Divisors
+pub mod Axis
+pub mod Tangents

@@ -1,0 +1,9 @@
+pub mod Parts
+pub mod Unfold
+pub mod Rules
+pub mod FoldHermitian
+pub mod FoldAntiHermitian
+pub mod FoldAlternating
+pub mod FoldAlternatingBack
+pub mod FoldMirror
+pub mod FoldAll

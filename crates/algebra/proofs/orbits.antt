@@ -1,0 +1,4 @@
+pub mod Orbits
+pub mod OrbitLists
+pub mod OrbitStore
+pub mod OrbitWriter

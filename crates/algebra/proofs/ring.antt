@@ -1,0 +1,9 @@
+pub mod Paths
+pub mod Bool
+pub mod Members
+pub mod Laws
+pub mod Solver
+pub mod StarRules
+pub mod Conj
+pub mod GaussRing
+pub mod ResidueRing

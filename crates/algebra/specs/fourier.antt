@@ -1,0 +1,2 @@
+pub mod Fourier
+pub mod Axis

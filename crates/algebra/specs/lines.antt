@@ -1,0 +1,4 @@
+pub mod Line
+pub mod Folds
+pub mod FoldKinds
+pub mod Kinds

@@ -1,0 +1,2 @@
+pub mod Orbit
+pub mod OrbitLaws

@@ -1,0 +1,4 @@
+pub mod Ring
+pub mod RingLaws
+pub mod Gauss
+pub mod Residue

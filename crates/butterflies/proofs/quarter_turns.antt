@@ -1,2 +1,0 @@
--- The powers of a table's root that butterflies use.
-pub mod Turns

@@ -1,0 +1,120 @@
+-- The factor file, byte by byte.
+-- Layout: count of the bytes that follow (4 bytes), version 1, group (1), N1, N2, N3 (2 each), three factor lists (a count byte, then a byte each),
+-- record count (4), records of 14 bytes: h, k, l (2 each), a, b (4 each). Numbers are big-endian; a place beyond the file reads as 0.
+use mathlib.Core.List.{List, [], _∷_, _++_, map}
+use Prim.Native.Nat.{ℕ, _+_, _*_, _<_, zero, suc, _-_}
+use lib.ListN.{getD, take, drop, length, replicate}
+use mathlib.Core.Path.{_≡_}
+use mathlib.Core.Bool.{Bool, cond, _||_, not}
+use lib.Dec.{leb, ltb, eqb}
+use Rattle.file_format.specs.declared.FileRecord.{FileRecord}
+use Rattle.refusals.specs.Refusals.{Test, _⇒_}
+use Rattle.header.specs.Header.{Header}
+use Rattle.algebra.specs.cells.Cell.{J}
+use Rattle.numbers.specs.Value.{Value}
+use Rattle.lengths.specs.Lengths.{octalDigits}
+use Rattle.output.specs.Output.{bigEndian}
+
+abbrev pub byteAt : List ℕ → ℕ → ℕ
+byteAt file q = getD file q 0
+
+unfoldable pub twoBytes : List ℕ → ℕ → ℕ
+twoBytes file q = byteAt file q * 256 + byteAt file (q + 1)
+
+unfoldable pub fourBytes : List ℕ → ℕ → ℕ
+fourBytes file q = twoBytes file q * 65536 + twoBytes file (q + 2)
+
+-- ---- where its parts stand: three factor lists behind the lengths, the record count behind them, and the records behind that
+
+-- the list whose count byte stands at q, and the place after it
+unfoldable pub listAt : List ℕ → ℕ → List ℕ
+listAt file q = take (byteAt file q) (drop (q + 1) file)
+
+abbrev pub afterList : List ℕ → ℕ → ℕ
+afterList file q = q + 1 + byteAt file q
+
+-- the places of the three lists and of the record count
+abbrev pub list1At : ℕ
+list1At = 12
+
+unfoldable pub list2At : List ℕ → ℕ
+list2At file = afterList file list1At
+
+unfoldable pub list3At : List ℕ → ℕ
+list3At file = afterList file (list2At file)
+
+unfoldable pub countAt : List ℕ → ℕ
+countAt file = afterList file (list3At file)
+
+-- ---- a record, and n of them
+
+unfoldable pub recordAt : List ℕ → ℕ → FileRecord
+recordAt file q = record { h = twoBytes file q; k = twoBytes file (q + 2); l = twoBytes file (q + 4); a = fourBytes file (q + 6); b = fourBytes file (q + 10) }
+
+-- n records from place q on
+unfoldable pub recordsFrom : List ℕ → (q n : ℕ) → List FileRecord
+recordsFrom file q zero = []
+recordsFrom file q (suc n) = recordAt file q ∷ recordsFrom file (q + 14) n
+
+-- ---- the records of a file
+
+abbrev pub recordCount : List ℕ → ℕ
+recordCount file = fourBytes file (countAt file)
+
+abbrev pub recordsIn : List ℕ → List FileRecord
+recordsIn file = recordsFrom file (countAt file + 4) (recordCount file)
+
+-- ---- what is refused of its shape
+
+-- its count is not that of the bytes that follow
+abbrev pub miscounted : List ℕ → Bool
+miscounted file = ltb (length file) 5 || not (eqb (fourBytes file 0) (length file - 4))
+
+-- 15 for the rest, 17. The places only rise, so a file that is cut off is never filled exactly.
+abbrev pub fillingTests : List ℕ → List Test
+fillingTests file =
+    not (eqb (countAt file + 4 + 14 * recordCount file) (length file)) ⇒ 15 ∷
+    eqb (recordCount file) 0 ⇒ 17 ∷
+    []
+
+-- 15 for the count, 16, 15 for the rest, 17
+abbrev pub shapeTests : List ℕ → List Test
+shapeTests file = miscounted file ⇒ 15 ∷ not (eqb (byteAt file 4) 1) ⇒ 16 ∷ fillingTests file
+
+-- ---- the header that it holds
+
+abbrev pub headerIn : List ℕ → Header
+headerIn file = record {
+  group = byteAt file 5;
+  lengths = (twoBytes file 6, twoBytes file 8, twoBytes file 10);
+  list1 = listAt file list1At;
+  list2 = listAt file (list2At file);
+  list3 = listAt file (list3At file);
+}
+
+-- ---- the bytes of a file, from a header and records
+
+abbrev pub listBytes : List ℕ → List ℕ
+listBytes l = length l ∷ l
+
+-- a record: an index and a value
+unfoldable pub recordBytes : J × Value 1 → List ℕ
+recordBytes c = bigEndian 2 (c .0 .0) ++ bigEndian 2 (c .0 .1) ++ bigEndian 2 (c .0 .2) ++ bigEndian 4 (c .1 .0 .val) ++ bigEndian 4 (c .1 .1 .val)
+
+unfoldable pub allBytes : List (J × Value 1) → List ℕ
+allBytes [] = []
+allBytes (c ∷ cs) = recordBytes c ++ allBytes cs
+
+-- version, group, lengths and lists; then the count of the records and the records
+unfoldable pub headerBytes : Header → List ℕ
+headerBytes h = 1 ∷ h .group ∷ (bigEndian 2 (h .lengths .0) ++ bigEndian 2 (h .lengths .1) ++ bigEndian 2 (h .lengths .2) ++ listBytes (h .list1) ++ listBytes (h .list2) ++ listBytes (h .list3))
+
+abbrev pub body : Header → List (J × Value 1) → List ℕ
+body h cs = headerBytes h ++ bigEndian 4 (length cs) ++ allBytes cs
+
+unfoldable pub fileOf : Header → List (J × Value 1) → List ℕ
+fileOf h cs = bigEndian 4 (length (body h cs)) ++ body h cs
+
+-- the header by the numbers of a job, whose lists are octal digits
+abbrev pub headerWith : (group n1 n2 n3 f1 f2 f3 : ℕ) → Header
+headerWith group n1 n2 n3 f1 f2 f3 = record { group = group; lengths = (n1, n2, n3); list1 = octalDigits f1; list2 = octalDigits f2; list3 = octalDigits f3 }

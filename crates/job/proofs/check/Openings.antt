@@ -1,0 +1,69 @@
+-- The tests of an opening in their order.
+use mathlib.Core.Path.{_≡_, _∙_, sym, ap}
+use mathlib.Core.Bool.{Bool, true, false, _&&_, not, cond}
+use mathlib.Core.List.{List, [], _∷_, _++_}
+use Prim.Native.Nat.{ℕ, _<_}
+use native.Mathlib.Omega.{arith}
+use lib.ListN.{length}
+use lib.Dec.{eqb}
+use borrow.Author.Tests.{eq-eqb, ne-eqb, lt-leb}
+use Rattle.algebra.specs.cells.Cell.{J}
+use Rattle.slices.specs.Pairs.{allBelow}
+use Rattle.refusals.specs.declared.Refusal.{Refusal}
+use Rattle.refusals.specs.Refusals.{numberOf, Test, _⇒_, first}
+use Rattle.refusals.proofs.Tests.{pass, none, not-t, passed, fails}
+use Rattle.cell.specs.Volume.{groupOf, volumeLength}
+use Rattle.cell.specs.Consistency.{consistentMap}
+use Rattle.header.specs.Header.{Header, halfLengths, axisTests}
+use Rattle.job.specs.Tests.{p, volumeTests, mapTests, openTests}
+
+-- ---- no refusal has the number 0
+
+not-zero : (r : Refusal) → numberOf r ≡ 0 → ⊥
+not-zero r e = let z : _≡_ {A = ℕ} 0 1 = fails r 0 1 (λ n. 0) e in omega arith
+
+-- ---- a number that some tests give is that of more tests
+
+append-one : (b : Bool) (n k rest whole : ℕ) → (n ≡ rest → n ≡ whole) → n ≡ cond b k rest → n ≡ cond b k whole
+append-one true n k rest whole f e = e
+append-one false n k rest whole f e = f e
+
+append-stop : (n : ℕ) (ts us : List Test) → (n ≡ 0 → ⊥) → n ≡ first ts → n ≡ first (ts ++ us)
+unfolding first
+append-stop n [] us z e = absurd (z e)
+append-stop n (t ∷ ts) us z e = append-one (t .fails) n (t .number) (first ts) (first (ts ++ us)) (append-stop n ts us z) e
+
+-- ---- the tests that only a map is put to
+
+skipped : (kind : ℕ) (b : Bool) → (kind ≡ 1 → ⊥) → (eqb kind 1 && b) ≡ false
+skipped kind b h = ap (λ (x : Bool). x && b) (ne-eqb kind 1 h)
+
+module _ (group : ℕ) (n : J) (kind : ℕ) (v : List ℕ) (fit : eqb (length v) (volumeLength (groupOf group) (halfLengths n)) ≡ true) where
+  abbrev below : Bool
+  below = allBelow p v
+
+  abbrev consistent : Bool
+  consistent = consistentMap (groupOf group) (halfLengths n) v
+
+  pub volume-collects : (kind ≡ 1 → ⊥) → 0 ≡ first (volumeTests group n kind v)
+  volume-collects k = pass 6 _ (not-t _ fit) (pass 7 _ (skipped kind (not below) k) (pass 14 _ (skipped kind (not consistent) k) none))
+
+  -- a map is put to the tests of a map
+  pub volume-held : {m : ℕ} → kind ≡ 1 → m ≡ first (mapTests group n v) → m ≡ first (volumeTests group n kind v)
+  volume-held k e = pass 6 _ (not-t _ fit) (e ∙ ap (λ (b : Bool). first ((b && not below) ⇒ 7 ∷ (b && not consistent) ⇒ 14 ∷ [])) (sym (eq-eqb kind 1 k)))
+
+-- ---- all tests of an opening
+
+module _ (h : Header) (kind : ℕ) (v : List ℕ) where
+  pub header-refused : (r : Refusal) → h .group < 5 → kind < 2 → numberOf r ≡ first (axisTests h) → numberOf r ≡ first (openTests h kind v)
+  header-refused r g k e = pass 8 _ (lt-leb _ _ g) (pass 2 _ (lt-leb _ _ k) (append-stop (numberOf r) (axisTests h) (volumeTests (h .group) (h .lengths) kind v) (not-zero r) e))
+
+  pub volume-decides : {m : ℕ} → h .group < 5 → kind < 2 → 0 ≡ first (axisTests h) → m ≡ first (volumeTests (h .group) (h .lengths) kind v) → m ≡ first (openTests h kind v)
+  volume-decides g k e f =
+      let t = passed (axisTests h) tt e in
+      pass 8 _ (lt-leb _ _ g) (pass 2 _ (lt-leb _ _ k) (pass 3 _ (t .0) (pass 4 _ (t .1 .0) (pass 5 _ (t .1 .1 .0) (pass 9 _ (t .1 .1 .1 .0) f)))))
+
+  pub header-passed : 0 ≡ first (openTests h kind v) → 0 ≡ first (axisTests h)
+  header-passed e =
+      let t = passed (openTests h kind v) tt e .1 .1 in
+      pass 3 _ (t .0) (pass 4 _ (t .1 .0) (pass 5 _ (t .1 .1 .0) (pass 9 _ (t .1 .1 .1 .0) none)))

@@ -1,0 +1,139 @@
+-- Each round fills the places of one butterfly (`Passing`).
+use Prim.Native.Nat.{_-_, _*_}
+use native.Mathlib.Omega.{arith}
+use Rattle.roots.specs.Root.{tableRoot}
+use Rattle.slices.proofs.Rows.{rows-wide}
+use Rattle.plain.proofs.step.Sizes.{outer-pos, product-le, product-pos, stride-le}
+use Rattle.plain.proofs.step.Passing.{Passing, passing-start, passing-reads, passing-stores, passing-column, passing-base, passing-exponent, passing-next, passing-again, passing-done}
+use Rattle.plain.proofs.step.step.Statement.{statement}
+use Rattle.plain.proofs.step.step.Tie as tie
+
+abbrev Inv-loop : tie.InvT-loop
+Inv-loop m re im inner outer lines from to₀ stride skip exponent first₀ s₀ base₀ k₀ to first s base k = Passing m (tableRoot m re im) from inner outer lines first s base k to
+
+abbrev μ-loop : tie.MeasureT-loop
+μ-loop m re im inner outer lines from to₀ stride skip exponent first₀ s₀ base₀ k₀ to first s base k = lines * inner - first
+
+mul-stride : tie.Need-mul-stride Inv-loop μ-loop
+mul-stride c = omega (arith, stride-le (c .before .before .pre .1 .0))
+
+mul-skip : tie.Need-mul-skip Inv-loop μ-loop
+mul-skip c = omega (arith, product-le (c .before .before .pre .1 .0))
+
+sub-skip : tie.Need-sub-skip Inv-loop μ-loop
+sub-skip c =
+    let s = c .before .before in
+    omega (arith, rows-wide (s .args .inner) (outer-pos (s .pre .1 .0)))
+
+mul-exponent : tie.Need-mul-exponent Inv-loop μ-loop
+mul-exponent c = omega (arith, product-le (c .before .before .pre .1 .0))
+
+div-exponent : tie.Need-div-exponent Inv-loop μ-loop
+div-exponent c = omega (arith, product-pos (c .before .before .pre .1 .0))
+
+loop-holds : tie.Need-loop-holds Inv-loop μ-loop
+loop-holds c =
+    let s = c .before .before in
+    passing-start (s .pre .1 .0 .inner) (s .pre .1 .1 .0 .1)
+
+butterfly-requires : tie.Need-butterfly-requires Inv-loop μ-loop
+butterfly-requires c κs =
+    let at-loop-test = c .before in
+    let at-loop = at-loop-test .before in
+    let s = at-loop .before .before .before in
+    let h = s .pre .1 .0 in
+    let v = at-loop .loop .inv in
+    let l = at-loop-test .loop-test .taken in
+    (s .pre .0, ((h .low, h .high, passing-reads v l h (s .pre .1 .1 .0 .0), passing-stores v l), s .pre .1 .1 .1))
+
+add-first : tie.Need-add-first Inv-loop μ-loop
+add-first c =
+    let at-loop-test = c .before .before .before .before in
+    let s = at-loop-test .before .before .before .before in
+    omega (arith, at-loop-test .loop-test .taken, stride-le (s .pre .1 .0))
+
+add-s : tie.Need-add-s Inv-loop μ-loop
+add-s c =
+    let at-loop-test = c .before .before .before .before in
+    let at-loop = at-loop-test .before in
+    let s = at-loop .before .before .before in
+    omega (arith, passing-column (at-loop .loop .inv) (at-loop-test .loop-test .taken) (s .pre .1 .0))
+
+add-base : tie.Need-add-base Inv-loop μ-loop
+add-base c =
+    let at-loop-test = c .before .before .before .before in
+    let at-loop = at-loop-test .before in
+    let s = at-loop .before .before .before in
+    omega (arith, passing-base (at-loop .loop .inv) (at-loop-test .loop-test .taken) (s .pre .1 .0))
+
+add-k : tie.Need-add-k Inv-loop μ-loop
+add-k c =
+    let at-loop-test = c .before .before .before .before in
+    let at-loop = at-loop-test .before in
+    let s = at-loop .before .before .before in
+    omega (arith, passing-exponent (at-loop .loop .inv) (at-loop-test .loop-test .taken) (s .pre .1 .0))
+
+add-base-2 : tie.Need-add-base-2 Inv-loop μ-loop
+add-base-2 c =
+    let at-loop-test = c .before .before .before .before .before in
+    let at-loop = at-loop-test .before in
+    let s = at-loop .before .before .before in
+    omega (arith, passing-base (at-loop .loop .inv) (at-loop-test .loop-test .taken) (s .pre .1 .0))
+
+loop-less : tie.Need-loop-less Inv-loop μ-loop
+loop-less c =
+    let at-loop-test = c .before .before .before .before .before in
+    omega (arith, at-loop-test .loop-test .taken)
+
+loop-again : tie.Need-loop-again Inv-loop μ-loop
+loop-again c =
+    let at-butterfly = c .before .before .before in
+    let at-loop-test = at-butterfly .before .before in
+    let at-loop = at-loop-test .before in
+    let s = at-loop .before .before .before in
+    passing-again (at-loop .loop .inv) (at-loop-test .loop-test .taken) (at-butterfly .butterfly .ensures) (outer-pos (s .pre .1 .0)) (c .if1 .taken)
+
+loop-less-2 : tie.Need-loop-less-2 Inv-loop μ-loop
+loop-less-2 c =
+    let at-loop-test = c .before .before .before .before .before in
+    omega (arith, at-loop-test .loop-test .taken)
+
+loop-again-2 : tie.Need-loop-again-2 Inv-loop μ-loop
+loop-again-2 c =
+    let at-butterfly = c .before .before .before in
+    let at-loop-test = at-butterfly .before .before in
+    let at-loop = at-loop-test .before in
+    passing-next (at-loop .loop .inv) (at-loop-test .loop-test .taken) (at-butterfly .butterfly .ensures) (c .if1 .left)
+
+same-length : tie.Need-same-length Inv-loop μ-loop
+same-length c =
+    let at-loop = c .before in
+    omega (arith, at-loop .loop .inv .long)
+
+returns : tie.Need-returns Inv-loop μ-loop
+returns c = passing-done (c .before .loop .inv) (c .loop-test .left)
+
+pub step-spec : {M : Type 1} → statement M
+step-spec =
+    tie.close
+    (tie.spec
+    Inv-loop
+    μ-loop
+    mul-stride
+    mul-skip
+    sub-skip
+    mul-exponent
+    div-exponent
+    loop-holds
+    butterfly-requires
+    add-first
+    add-s
+    add-base
+    add-k
+    add-base-2
+    loop-less
+    loop-again
+    loop-less-2
+    loop-again-2
+    same-length
+    returns)

@@ -64,7 +64,8 @@ FAULTS = [
     ("24 takes the number p as zero", "any(v[place] for i, _ in orbit", "any(v[place] % P for i, _ in orbit"),
     ("14 without Pa's zero pairs",
      "    return pack_cell(g, n, F) == v\n",
-     "    read = {q for j in F for q in read_factor(g, n, v, j)[1]}\n    return all(x == v[q] for q, x in enumerate(pack_cell(g, n, F)) if q in read)\n"),
+     "    read = {q for j in F for q in read_factor(g, n, v, j)[1]}\n"
+     "    return all(x == v[q] for q, x in enumerate(pack_cell(g, n, F)) if q in read)\n"),
     ("record: 7 before 10", OUTSIDE_RECORD, RESIDUES + OUTSIDE_RECORD),
     ("record of the book: 7 before 10", OUTSIDE_BOOK, RESIDUES + OUTSIDE_BOOK),
     ("record: 10 before 21", "        if s != 0:\n", OUTSIDE_RECORD + "        if s != 0:\n"),

@@ -24,6 +24,7 @@ import sys
 
 import test_records
 from brute_force import P, SCRATCH, Machine, factor_lists, file_bytes, images, open_file, volume_length
+from order_cases import fault_sets, faulty_arguments, faulty_header, faulty_job, pair
 from test_records import JOB, POKE, WRITE, checksum
 
 SEED = 1974
@@ -259,7 +260,54 @@ def cases():
                 if x:
                     say(8, place, 0)
             say(7, 4096)
-    return out
+    return out + [*faulty_files(), *(case for g in range(5) for case in (*faulty_records(g), *faulty_writings(g)))]
+
+
+# ---- each fault alone and every two at once
+
+def faulty_files():
+    """Files of P1 whose count is wrong (fault 0 here), with a byte beyond their records (15), with faults of version, header and length of the
+    volume, and with a second record that has 10."""
+    for turn, faults in fault_sets((0, 16, 15, 17, 8, 3, 4, 5, 9, 6, 10)):
+        n, lists = faulty_header((4, 4, 6), faults)
+        records = [] if 17 in faults else [(0, 0, 0, 5, 0), (1, 1, n[2] if 10 in faults else 1, 3, 4)]
+        body = file_bytes(5 if 8 in faults else 0, n, lists, records)[4:] + bytes(15 in faults)
+        if 16 in faults:
+            body = bytes([2 * (turn % 2)]) + body[1:]
+        yield 2, (volume_length(0, (4, 4, 6)) + (6 in faults),)
+        yield 0, ()
+        yield 1, ((len(body) + (0 in faults)).to_bytes(4, "big") + body,)
+        yield 3, ()
+
+
+def faulty_records(g):
+    """Files whose second record has the faults; the first is F(0,0,0) = 5."""
+    n = (4, 4, 6)
+    yield 2, (volume_length(g, n),)
+    for turn, faults in fault_sets((10, 7, 11, 12, 24)):
+        yield 0, ()
+        yield 1, (file_bytes(g, n, [[2], [2], [3]], [(0, 0, 0, 5, 0), faulty_arguments(n, 1, faults, turn)]),)
+        yield 3, ()
+
+
+def faulty_writings(g):
+    """Writings of the job with F(0,0,0) = 5. In Pa a zero pair is what makes its factors inconsistent, so that 14 is told from 17."""
+    n = (4, 4, 6)
+    length = volume_length(g, n)
+    file = file_bytes(g, n, [[2], [2], [3]], [(0, 0, 0, 5, 0)])
+    job = open_file(file, length)[2].job()
+    inconsistent = pair(n, 0 if g == 3 else 1, 1, 0)
+    yield from ((2, (length,)), (0, ()), (1, (file,)), (3, ()))
+    for turn, faults in fault_sets((25, 23, 6, 7, 14, 17, 18)):
+        pokes = [poke for fault, *poke in ((7, 1, P, 0), (14, inconsistent, 1, 0), (17, 0, 0, 5)) if fault in faults]
+        yield 9, faulty_job(job, 5, faults, turn)
+        for place, wrong, _ in pokes:
+            yield 8, (place, wrong)
+        yield 2, (length + (-1, 1)[turn % 2] if 6 in faults else length,)
+        yield 7, (4096 if 18 not in faults else len(file) - 1 if len(faults) == 1 else 0,)
+        yield 2, (length,)
+        for place, _, right in pokes:
+            yield 8, (place, right)
 
 
 def main():
@@ -276,4 +324,5 @@ def main():
         sys.exit(__doc__)
 
 
-main()
+if __name__ == "__main__":
+    main()

@@ -1,5 +1,5 @@
 #!/usr/bin/env python3
-"""The recorder test's calls of jobs: random lists of calls, and what they must answer and leave, by brute force.
+"""The recorder test's calls of jobs: random lists of calls and those of order_cases.py, and what they must answer and leave, by brute force.
 
     job_cases.py cases   writes the recorder test's input to standard output
     job_cases.py answers writes what the test program must print
@@ -16,12 +16,14 @@ test_records.py says what the input holds and what is printed. Each call of a jo
     8 list       axis, a factor list
     9 job        group, N1, list, N2, list, N3, list, state: the job itself (lists as octal digits)
    10 length     how many numbers of the buffer are lent as the volume
+   11 readings   4 or 5, then points or indices: all of them in one script
 
 The answers are those of brute_force.py. The seed is fixed.
 """
 import random
 import sys
 
+import order_cases
 import test_records
 from brute_force import P, SCRATCH, Machine, factor_lists, images, octal, volume_length
 from test_records import FILL, JOB, POKE, checksum
@@ -49,8 +51,16 @@ class TestProgram(Machine):
         else:
             self.length = w[0]
 
+    def answer(self, op, w):
+        """The three numbers that a call of a script answers."""
+        return [lambda: self.record(*w), lambda: self.work(w[0], False), lambda: self.work(w[0], True),
+                lambda: self.point(*w), lambda: self.factor(*w)][op - 1]()
+
     def packed(self, op, w):
         """The records of the input."""
+        if op == 11:
+            script = [x for j in w[1:] for x in (w[0] - 1, *j, 0, 0)]
+            return test_records.replay(self.length, script, SCRATCH, len(script) // 2)
         if op > 5:
             self.set(op, w)
             kinds = {6: FILL, 7: POKE, 9: JOB}
@@ -61,17 +71,22 @@ class TestProgram(Machine):
         return test_records.replay(self.length, [op - 1] + numbers + [0] * (5 - len(numbers)), w[0] if op in (2, 3) else SCRATCH, 3)
 
     def lines(self, op, w):
-        """The lines of an opening or a call, none for the others."""
+        """The lines of an opening, a call or readings, none for the others."""
+        if op == 11:
+            answers = [x for j in w[1:] for x in self.answer(w[0], j)]
+            return self.replayed([7] * SCRATCH, answers)
         if op > 5:
             self.set(op, w)
             return []
         if op == 0:
             return ["%d 0 %d %d" % (self.open(*w)[0], checksum(self.job), checksum(self.lent()))]
         self.scratch = [7] * 12032
-        lent = w[0] if op in (2, 3) else SCRATCH
-        answer = [lambda: self.record(*w), lambda: self.work(w[0], False), lambda: self.work(w[0], True),
-                  lambda: self.point(*w), lambda: self.factor(*w)][op - 1]()
-        return ["3 %d %d %d" % (checksum(self.job), checksum(self.lent()), checksum(self.scratch[:lent])), "%d %d %d" % answer]
+        answer = self.answer(op, w)
+        return self.replayed(self.scratch[:w[0] if op in (2, 3) else SCRATCH], answer)
+
+    def replayed(self, scratch, answers):
+        left = checksum(self.job), checksum(self.lent()), checksum(scratch)
+        return ["%d %d %d %d" % (len(answers), *left), " ".join(map(str, answers))]
 
 
 # ---- the lists of calls
@@ -279,7 +294,7 @@ def scripts():
         for _ in range(5):
             rng.choice([lambda: say(1, *index(n, g), *value()), lambda: say(2, SCRATCH), lambda: say(3, SCRATCH), lambda: say(4, *index(n, g)),
                         lambda: say(5, *index(n, g)), lambda: faulty(n, g)])()
-    return calls
+    return calls + list(order_cases.calls())
 
 
 def main():
@@ -295,4 +310,5 @@ def main():
         sys.exit(__doc__)
 
 
-main()
+if __name__ == "__main__":
+    main()

@@ -1,0 +1,135 @@
+#!/usr/bin/env python3
+"""Plants faults into the brute-force program and shows that each changes lines of the recorder test's stored output, so that the test would
+find it in the recorder too. Prints a line for each fault; exit status 1 if one changes no line, or cannot be planted.
+
+A fault is a text of brute_force.py, which must occur there once, and another in its place: refusals in another order, or numbers judged that
+a call does not read, or not judged that it reads.
+"""
+import functools
+import importlib
+import itertools
+import sys
+import types
+from pathlib import Path
+
+import brute_force
+import file_cases
+import job_cases
+import test_records
+
+TOOLS = Path(__file__).parent
+SOURCE = (TOOLS / "brute_force.py").read_text()
+STORED = (TOOLS.parent / "crates/recorder_test/stdout").read_text().splitlines()
+
+
+def refusal(condition, number, rest=", 0, 0", indent=8):
+    """A refusal as brute_force.py writes it."""
+    return "%sif %s:\n%s    return %d%s\n" % (" " * indent, condition, " " * indent, number, rest)
+
+
+LENGTH = refusal("len(self.lent()) != volume_length(g, n)", 6)
+RESIDUES = refusal("a >= P or b >= P", 7)
+TRANSFORM_LENGTH = refusal("len(v) != volume_length(g, n)", 6)
+SCRATCH = refusal("scratch < SCRATCH", 13)
+NUMBERS = refusal("any(x >= P for x in v)", 7)
+WHOLE = refusal("not (consistent_map(g, n, v) if wants_map else consistent(g, n, v))", 14)
+OUTSIDE_RECORD = refusal("any(c >= m for c, m in zip(j, n))", 10)
+OUTSIDE_POINT = refusal("any(c >= m for c, m in zip((x, y, z), n))", 10)
+OUTSIDE_FACTOR = refusal("any(c >= m for c, m in zip((h, k, l), n))", 10)
+OUTSIDE_BOOK = "        if self.outside(j):\n"
+STATE = "        if (s == 2) != wants_map:\n"
+READ = "        x, places = read_factor(g, n, v, (h, k, l))\n"
+ORBIT = "        orbit = images(g, n, j, (a, b))\n"
+WRITER_STATE = refusal("s == 2", 23, ', b""')
+WRITER_NUMBERS = refusal("any(x >= P for x in v)", 7, ', b""')
+WRITER_WHOLE = refusal("not consistent(g, n, v)", 14, ', b""')
+WRITER_EMPTY = refusal("not records", 17, ', b""')
+MAP_NUMBERS = refusal("any(x >= P for x in v)", 7, indent=12)
+MAP_WHOLE = refusal("not consistent_map(g, n, v)", 14, indent=12)
+HEADER = "        fault = header_fault(g, n, self.lists)\n"
+ADMITTED = "    if not all(admitted(m) for m in n):\n"
+PRODUCTS = "    if not all(product(fs) == m // 2 for fs, m in zip(lists, n)):\n"
+AXIS = "    for m, fs in zip(n, lists):\n" + "".join(refusal(condition, number, "") for condition, number in (
+    ("not admitted(m)", 3), ("not all(2 <= f <= 5 for f in fs)", 4), ("product(fs) != m // 2", 5)))
+FILE_REST = "    if at + 14 * count != len(file):\n"
+FILE_EMPTY = refusal("count == 0", 17, ", 0, None", 4)
+FILE_HEADER = "    fault = header_fault(g, n, lists)\n"
+
+# What is wrong, the text and what stands in its place.
+FAULTS = [
+    ("7 of a factor reading judged by the whole pair 0 of an alternating line",
+     "v[q] >= P for q in places", "v[q] >= P or v[q ^ 1] >= P for q in places"),
+    ("7 of a factor reading judged by Pa's zero pairs",
+     READ, READ + "        places = places or read_factor(2, n, v, (h, k, l))[1]\n"),
+    ("24 takes the number p as zero", "any(v[place] for i, _ in orbit", "any(v[place] % P for i, _ in orbit"),
+    ("14 without Pa's zero pairs",
+     "    return pack_cell(g, n, F) == v\n",
+     "    read = {q for j in F for q in read_factor(g, n, v, j)[1]}\n"
+     "    return all(x == v[q] for q, x in enumerate(pack_cell(g, n, F)) if q in read)\n"),
+    ("record: 7 before 10", OUTSIDE_RECORD, RESIDUES + OUTSIDE_RECORD),
+    ("record of the book: 7 before 10", OUTSIDE_BOOK, RESIDUES + OUTSIDE_BOOK),
+    ("record: 10 before 21", "        if s != 0:\n", OUTSIDE_RECORD + "        if s != 0:\n"),
+    ("record: 6 before 12", ORBIT, LENGTH + ORBIT),
+    ("point: 6 before 10", OUTSIDE_POINT, LENGTH + OUTSIDE_POINT),
+    ("point: 10 before 22", "        if s != 2:\n", OUTSIDE_POINT + "        if s != 2:\n"),
+    ("factor: 6 before 10", OUTSIDE_FACTOR, LENGTH + OUTSIDE_FACTOR),
+    ("synthesis and analysis: 6 before 23 and 22", STATE, LENGTH + STATE),
+    ("synthesis and analysis: 13 before 6", TRANSFORM_LENGTH + SCRATCH, SCRATCH + TRANSFORM_LENGTH),
+    ("synthesis and analysis: 7 before 13", SCRATCH + NUMBERS, NUMBERS + SCRATCH),
+    ("synthesis and analysis: 14 before 7", NUMBERS + WHOLE, WHOLE + NUMBERS),
+    ("opening: 2 before 8", "        if g > 4:\n", refusal("kind > 1", 2) + "        if g > 4:\n"),
+    ("opening: 6 before 3, 4, 5 and 9", HEADER, LENGTH + HEADER),
+    ("opening: 14 before 7", MAP_NUMBERS + MAP_WHOLE, MAP_WHOLE + MAP_NUMBERS),
+    ("header: 3, 4, 5 axis by axis", ADMITTED, AXIS + ADMITTED),
+    ("header: 9 before 5", PRODUCTS, refusal("volume_length(g, n) > LIMIT", 9, "", 4) + PRODUCTS),
+    ("file: 17 before 15", FILE_REST, FILE_EMPTY + FILE_REST),
+    ("file: 8 before 17", FILE_EMPTY, refusal("file[5] > 4", 8, ", 0, None", 4) + FILE_EMPTY),
+    ("file: 6 before 3, 4, 5 and 9", FILE_HEADER, refusal("lent != volume_length(g, n)", 6, ", 0, None", 4) + FILE_HEADER),
+    ("writer: 6 before 23", WRITER_STATE, refusal("len(self.lent()) != volume_length(g, n)", 6, ', b""') + WRITER_STATE),
+    ("writer: 14 before 7", WRITER_NUMBERS + WRITER_WHOLE, WRITER_WHOLE + WRITER_NUMBERS),
+    ("writer: 17 before 14", WRITER_WHOLE, refusal("not any(any(x) for x in read_cell(g, n, v).values())", 17, ', b""') + WRITER_WHOLE),
+    ("writer: 18 before 17", WRITER_EMPTY, refusal("len(file_bytes(g, n, lists, records)) > room", 18, ', b""') + WRITER_EMPTY),
+]
+
+# Sums over the cell and checksums, in which no fault is planted, are computed once for all.
+sums = functools.cache(lambda n, terms, sign: brute_force.triple(n, dict(terms), sign))
+checksums = functools.cache(test_records.checksum)
+test_records.checksum = lambda v: checksums(tuple(v))
+
+
+def program(source):
+    """The brute-force program of a source."""
+    module = types.ModuleType("brute_force")
+    exec(compile(source, "brute_force.py", "exec"), module.__dict__)
+    module.triple = lambda n, X, sign: sums(tuple(n), tuple(X.items()), sign)
+    return module
+
+
+def lines(source, calls):
+    """What the test program must print by the program of a source."""
+    sys.modules["brute_force"] = program(source)
+    printed = []
+    for name in ("job_cases", "file_cases"):
+        test_program = importlib.reload(sys.modules[name]).TestProgram()
+        for op, w in calls[name]:
+            printed += test_program.lines(op, w)
+    return printed
+
+
+def main():
+    calls = {"job_cases": job_cases.scripts(), "file_cases": file_cases.cases()}
+    if lines(SOURCE, calls) != STORED:
+        sys.exit("the stored output is not what brute_force.py gives: tools/recorder_test.sh makes it anew")
+    unseen = 0
+    for what, text, fault in FAULTS:
+        if SOURCE.count(text) != 1:
+            sys.exit("%s: its text stands %d times in brute_force.py" % (what, SOURCE.count(text)))
+        changed = sum(a != b for a, b in itertools.zip_longest(STORED, lines(SOURCE.replace(text, fault), calls)))
+        print("%s: changes %d of the stored lines" % (what, changed))
+        unseen += changed == 0
+    if unseen:
+        sys.exit("%d of %d planted faults change no line" % (unseen, len(FAULTS)))
+    print("%d planted faults each change some of %d stored lines" % (len(FAULTS), len(STORED)))
+
+
+main()

@@ -1,19 +1,26 @@
 /* The map recorder for programs in C: the functions of crates/exported, which `rt staticlib exported` writes to
    target/staticlib/libexported.a. Each is proved to do what its contract in crates/exported/src/lib.rt says, for every input.
-   tools/interface_test.py holds the names and types of this header to that file.
+   tools/interface_test.py holds the names and types of this header to that file, and the numbers of refusals to crates/refusals.
 
    Numbers. A residue is 0 to 86,398. A value a + b i is two neighbouring residues, a pair. Every answer has a number: 0 for an
-   accepted call, else the number of the first refusal that applies, in the order given at each call. A refused call changes no buffer
-   and no job, but for recorder_open_file, which leaves the volume zero where it refuses a record; what only an accepted call gives is
-   then 0.
+   accepted call, else the number of the first refusal that applies, in the order given at each call; each has a name below, as have the
+   numbers of groups, kinds, states and directions. A refused call changes no buffer and no job, but for recorder_open_file, which leaves
+   the volume zero where it refuses a record; what only an accepted call gives is then 0.
 
-   Buffers. A buffer is a pointer and the count of its elements. The pointer is not null and is aligned, even for no elements; the
-   memory is the caller's, initialised, and no two buffers of one call overlap. No call keeps a pointer.
+   Buffers. A buffer is a pointer and the count of its elements. The pointer is aligned and is not NULL, not even with the count 0: the
+   library takes the two as a slice, which has no NULL. For no elements, as of the factor list of N = 2, any array of the type will do; it
+   is not read. The memory is the caller's, initialised, and no two buffers of one call overlap, but buffers that are only read may. No
+   call keeps a pointer.
    - The volume has exactly W * N1 * (N2/2 + 1) pairs, where W is N3 in group 0, N3/2 in groups 1 and 4, N3/2 + 1 in groups 2 and 3: twice
      as many numbers, at most 16,777,216. It is filled as the scope lays out: packed factors (in group 4 a line along l of an odd h is
-     packed times i), or the map on the planes z = 0 to W - 1 with two zeros after each row.
+     packed times i), or the map on the planes z = 0 to W - 1 with two zeros after each row. recorder_volume_length computes the count.
    - The scratch has at least 11,520 numbers. An accepted call leaves its first 11,520 numbers zero and the others untouched.
    - A factor list has the numbers 2 to 5 in any order, with the product N/2; it is empty for N = 2.
+
+   Threads and stack. The library keeps no state and asks for no memory: any number of threads may call it at once, each with buffers of its
+   own; a volume that all of them only read (recorder_point, recorder_factor, recorder_write_file) may be shared. By measurement on x86-64
+   synthesis and analysis need some 92 KB of stack, recorder_line some 68 KB, every other call less than 8 KB, whatever the grid: give a
+   thread 128 KB or more.
 
    Lengths N1, N2, N3 are even divisors of 2,880. Groups: 0 P1, 1 P2_1 with axis c, 2 Pm with its mirror across c, 3 Pa with its mirror
    across c and its glide along a, 4 P2_1 2_1 2_1 with the operations (1/2 - x, -y, 1/2 + z), (-x, 1/2 + y, 1/2 - z) and
@@ -27,6 +34,54 @@
 #ifdef __cplusplus
 extern "C" {
 #endif
+
+/* The version of the calls: 10,000 times the major, 100 times the minor, and the patch number. */
+#define RECORDER_VERSION 10000
+
+/* Limits: the modulus of residues, the longest axis, the most numbers of a volume, the numbers of a scratch. */
+enum { RECORDER_MODULUS = 86399, RECORDER_LONGEST = 2880, RECORDER_MOST_NUMBERS = 16777216, RECORDER_SCRATCH = 11520 };
+
+/* Groups. */
+enum { RECORDER_P1 = 0, RECORDER_P21 = 1, RECORDER_PM = 2, RECORDER_PA = 3, RECORDER_P212121 = 4 };
+
+/* Kinds of opening, and the states of a job. */
+enum { RECORDER_OPEN_COLLECTING = 0, RECORDER_OPEN_MAP = 1 };
+enum { RECORDER_COLLECTING = 0, RECORDER_FACTORS_HELD = 1, RECORDER_MAP_HELD = 2 };
+
+/* Kinds of line, and directions. */
+enum {
+    RECORDER_PLAIN = 0, RECORDER_HERMITIAN = 1, RECORDER_ANTI_HERMITIAN = 2, RECORDER_ALTERNATING = 3, RECORDER_SYMMETRIC = 4,
+    RECORDER_ANTISYMMETRIC = 5
+};
+enum { RECORDER_FORWARD = 0, RECORDER_INVERSE = 1 };
+
+/* The numbers of answers. */
+enum {
+    RECORDER_ACCEPTED = 0,
+    RECORDER_REFUSED_LINE_KIND = 1,          /* kind of line not 0 to 5 */
+    RECORDER_REFUSED_DIRECTION = 2,          /* direction, or kind of opening, not 0 or 1 */
+    RECORDER_REFUSED_LENGTH = 3,             /* length not an even divisor of 2,880 */
+    RECORDER_REFUSED_FACTOR = 4,             /* a factor not 2 to 5 */
+    RECORDER_REFUSED_PRODUCT = 5,            /* product of a list not N/2 */
+    RECORDER_REFUSED_BUFFER_LENGTH = 6,      /* volume or line not exactly as long as required */
+    RECORDER_REFUSED_NOT_RESIDUE = 7,        /* a number of 86,399 or more */
+    RECORDER_REFUSED_GROUP = 8,              /* group not 0 to 4 */
+    RECORDER_REFUSED_VOLUME_TOO_LARGE = 9,   /* volume above 16,777,216 numbers */
+    RECORDER_REFUSED_INDEX = 10,             /* an index not below its length */
+    RECORDER_REFUSED_ZERO_VALUE = 11,        /* the value zero in a record */
+    RECORDER_REFUSED_CONTRADICTION = 12,     /* an image falls on the index itself with another value */
+    RECORDER_REFUSED_SCRATCH_TOO_SHORT = 13, /* scratch below 11,520 numbers */
+    RECORDER_REFUSED_INCONSISTENT = 14,      /* no cell that obeys the group has these numbers */
+    RECORDER_REFUSED_FILE_SHAPE = 15,        /* a file's bytes are not those that its count and header ask for */
+    RECORDER_REFUSED_FILE_VERSION = 16,      /* a file's version not 1 */
+    RECORDER_REFUSED_NO_RECORDS = 17,        /* no records */
+    RECORDER_REFUSED_OUTPUT_TOO_SHORT = 18,  /* output too short for the file */
+    RECORDER_REFUSED_NOT_COLLECTING = 21,    /* a record while not collecting */
+    RECORDER_REFUSED_NO_MAP = 22,            /* no map held */
+    RECORDER_REFUSED_NO_FACTORS = 23,        /* no factors held */
+    RECORDER_REFUSED_OCCUPIED = 24,          /* a number that holds part of the record's orbit is not 0 */
+    RECORDER_REFUSED_IMPOSSIBLE_JOB = 25     /* no call could have given this job back */
+};
 
 /* A reflection's index (h, k, l) and a grid point's index (x, y, z): no call takes one for the other. */
 typedef struct { uint32_t h, k, l; } recorder_reflection;
@@ -48,6 +103,17 @@ typedef struct { uint32_t number, place; recorder_job job; } recorder_file_answe
 typedef struct { uint32_t number; size_t written; } recorder_write_answer;
 typedef struct { uint32_t number, density; } recorder_density;
 typedef struct { uint32_t number, a, b; } recorder_factor_value;
+
+/* The count of a volume's numbers; 0 where every opening is refused, because the group is above 4, a length above 2,880 or the volume
+   too large. */
+static inline size_t recorder_volume_length(uint32_t group, uint32_t n1, uint32_t n2, uint32_t n3)
+{
+    uint64_t planes = group == RECORDER_P1 ? n3 : group == RECORDER_PM || group == RECORDER_PA ? n3 / 2 + 1 : n3 / 2, numbers;
+    if (group > RECORDER_P212121 || n1 > RECORDER_LONGEST || n2 > RECORDER_LONGEST || n3 > RECORDER_LONGEST)
+        return 0;
+    numbers = planes * n1 * 2 * (n2 / 2 + 1);
+    return numbers > RECORDER_MOST_NUMBERS ? 0 : (size_t)numbers;
+}
 
 /* Opens a job. Kind 0 zeroes the volume and collects; kind 1 takes the volume as a map. A refused opening gives a job of zeros, which
    every call refuses.

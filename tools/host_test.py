@@ -4,8 +4,8 @@
     host_test.py PROGRAM
 
 Small grids: the printer test's files, their maps as text and as map files, the factor files written from those, readings of points and factors,
-all against the book of brute_force.py. Every refusal that a file, a map file or a line can give. Files that are damaged, empty, missing or
-not to be written; pipes that are closed; no memory. P1 and P2_1 2_1 2_1 at 240^3 and P2_1 at 288^3 there and back, byte for byte, with some
+all against the book of brute_force.py. Every refusal that a file, a map file or a line can give. Files that are damaged, empty, missing, endless
+or not to be written, or are the input itself; pipes that are closed; no memory; signals at random moments of writing. P1 and P2_1 2_1 2_1 at 240^3 and P2_1 at 288^3 there and back, byte for byte, with some
 densities summed directly. The seed is fixed. Prints how many comparisons agreed; the exit status is 1 where one did not.
 """
 import filecmp
@@ -14,9 +14,12 @@ import pty
 import random
 import re
 import resource
+import signal
+import stat
 import subprocess
 import sys
 import tempfile
+import time
 
 from brute_force import (LIMIT, P, ROOT, Book, all_points, analysed, e, file_bytes, images, number, open_file, pack_map, planes, point_images,
                          read_cell, volume_length)
@@ -31,6 +34,7 @@ LARGE = [(0, 240, [4, 5, 3, 2]), (1, 288, [4, 4, 3, 3]), (4, 240, [2, 3, 4, 5])]
 GROUPS = ["P1", "P2_1", "Pm", "Pa", "P2_1 2_1 2_1"]
 SAMPLES = [("p21", 6), ("p212121", 37)]
 RECORDS = 7000
+SIGNALS = 50
 
 
 class Tool:
@@ -50,9 +54,24 @@ class Tool:
         return self.path(name)
 
     def run(self, *words, given=b"", **more):
-        more = {"stdout": subprocess.PIPE, "stderr": subprocess.PIPE, **more}
-        done = subprocess.run([self.program, *map(str, words)], input=given, check=False, **more)
+        more = {"stdout": subprocess.PIPE, "stderr": subprocess.PIPE, **({} if "stdin" in more else {"input": given}), **more}
+        done = subprocess.run([self.program, *map(str, words)], check=False, **more)
         return done.returncode, done.stdout, done.stderr
+
+    def run_endless(self, part, *words, first=b""):
+        """Runs a command whose standard input has a part again and again, until the command closes it."""
+        with subprocess.Popen([self.program, *map(str, words)], stdin=subprocess.PIPE, stdout=subprocess.PIPE, stderr=subprocess.PIPE) as run:
+            try:
+                run.stdin.write(first)
+                while True:
+                    run.stdin.write(part * (65536 // len(part)))
+            except BrokenPipeError:
+                pass
+            try:
+                run.stdin.close()
+            except BrokenPipeError:
+                pass
+            return run.wait(), run.stdout.read(), run.stderr.read()
 
     def expect(self, what, got, want):
         if got == want:
@@ -62,12 +81,13 @@ class Tool:
             print("%s: got %.300r, expected %.300r" % (what, got, want))
 
     def refused(self, what, words, refusal, place=0, given=b""):
-        """A command that must be refused: with its number and words on standard error, and nothing else."""
+        """A command that must be refused: with its file, number and words on standard error, and nothing else."""
         status, out, err = self.run(*words, given=given)
         self.seen[kind_of(words)].add(refusal)
         self.expect(what, (status, out), (1, b"refused %d at %d\n" % (refusal, place) if words[0] == "map" and "-o" not in words else b""))
         self.expect(what + ", its words", re.sub(rb"(?m)^found: .*\n", b"", err).count(b"\n"), 3)
-        self.expect(what + ", its number", err.split(b"\n")[0], b"recorder: refused %d at %d" % (refusal, place))
+        of = "" if words[0] == "line" else words[1] + ": "
+        self.expect(what + ", its number", err.split(b"\n")[0], b"recorder: %srefused %d at %d" % (of.encode(), refusal, place))
 
     def fails(self, what, words, part, given=b"", **more):
         """A command that cannot do what it is asked: status 2 and some words on what to do."""
@@ -299,6 +319,9 @@ def lines(tool):
                                   ((1, 0, 8, 2), b"1", 5), ((1, 0, 4, 2), b"1 2 86399", 6), ((1, 0, 4, 2), b"1 2 3 4 5", 6),
                                   ((1, 0, 4, 2), b"1 2 3 86399", 7), ((1, 0, 4, 2), b"1 2 3 99999999999", 7)]:
         tool.refused("line %s" % (words,), ("line", *words), refusal, given=given)
+    for part, status in ((b"1 2 3 4 ", 1), (b"\n", 2), (b"1", 2)):
+        got = tool.run_endless(part, "line", 1, 0, 4, 2)
+        tool.expect("an endless line of %r" % part, (got[0], got[1], got[2].startswith(b"recorder: refused 6 at 0\n")), (status, b"", status == 1))
     tool.fails("a line of words", ("line", 1, 0, 4, 2), b"whole number", given=b"1 2 x 4")
     tool.fails("a line below zero", ("line", 1, 0, 4, 2), b"whole number", given=b"1 2 -3 4")
 
@@ -314,6 +337,7 @@ def command_line(tool):
             tool.expect("help of " + name, (status, out.startswith(b"recorder " + name.encode() + b" "), err), (0, True, b""))
     path = tool.file("sound", file_bytes(0, (2, 2, 2), [[], [], []], [(1, 0, 0, 3, 0)]))
     for words in ((), ("paint",), ("map",), ("map", path, path), ("map", path, "-o"), ("map", path, "--fast"), ("factors", path), ("check", path, "-o", "x"),
+                  ("map", path, "-o", tool.path("none"), "-o", tool.path("none")),
                   ("info", path, "--times"), ("point", path, 1, 2), ("point", path, 1, 2, "z"), ("factor", path, 1, 2, "-3"), ("line", 1, 0, 4, "2;3")):
         tool.fails("usage %s" % (words,), words, b"--help")
     status, out, err = tool.run("map", path, "--times")
@@ -337,6 +361,64 @@ def files_and_streams(tool):
             tool.fails("a full output of %s" % words[0], words, b"make room", stdout=full)
         tool.expect("a full standard error", tool.run("check", tool.path("missing"), stderr=full)[0], 2)
         tool.expect("a full standard error", tool.run("map", tool.path("empty"), stderr=full)[0], 1)
+
+
+def too_long(tool):
+    """Files that go on beyond what any factor file has: of a count that allows it, and of one that does not."""
+    most = 4 + 8 + 3 * 256 + 4 + 14 * LIMIT
+    for length in (2 ** 32 - 5, most - 3):
+        path = tool.file("long", length.to_bytes(4, "big"))
+        os.truncate(path, 4 + length)
+        tool.fails("a file of %d bytes" % (4 + length), ("check", path), b"cannot read %s: it has more bytes than any factor file" % path.encode(),
+                   preexec_fn=bounded(0))
+    path = tool.file("long", (most - 4).to_bytes(4, "big"))
+    os.truncate(path, most)
+    tool.refused("a file of %d bytes" % most, ("map", path), 16)
+    status, out, err = tool.run_endless(bytes(16), "check", "-", first=b"\xff" * 4)
+    tool.expect("an endless file", (status, out, b"cannot read standard input: it has more bytes" in err), (2, b"", True))
+    os.truncate(tool.file("long", (100).to_bytes(4, "big")), 2 ** 32)
+    tool.refused("a file of 4 GB with a count of 100", ("map", tool.path("long")), 15)
+    os.remove(tool.path("long"))
+
+
+def one_file(tool):
+    """The file that is read is not written, under any name."""
+    folder = tool.path("one")
+    os.mkdir(folder)
+    path = tool.file("one/file", open(tool.path("sound"), "rb").read())
+    os.symlink("file", os.path.join(folder, "link"))
+    os.link(path, os.path.join(folder, "other"))
+    for name in ("file", "link", "other", "../one/./file"):
+        for command in ("map", "factors"):
+            tool.fails("%s to its own file as %s" % (command, name), (command, path, "-o", os.path.join(folder, name)), b"%s is the file to read and" % path.encode())
+    with open(path, "rb") as given:
+        tool.fails("standard input's own file", ("map", "-", "-o", path), b"standard input is the file to read and", stdin=given)
+    with open(path, "ab") as out:
+        tool.fails("the file as standard output", ("map", path), b"is the file to read and", stdout=out)
+    tool.expect("the file", open(path, "rb").read(), open(tool.path("sound"), "rb").read())
+
+
+def replaced(tool):
+    """A written file replaces another: with its permissions, and through links, which stay."""
+    folder, path = tool.path("replaced"), tool.path("sound")
+    os.mkdir(folder)
+    whole = tool.run("map", path, "-o", "-")[1]
+    old, link, new = (os.path.join(folder, name) for name in ("old", "link", "new"))
+    tool.file("replaced/old", b"old")
+    os.chmod(old, 0o640)
+    os.symlink("old", link)
+    os.symlink("link", os.path.join(folder, "link2"))
+    os.symlink("new", os.path.join(folder, "dangling"))
+    for name, file in (("old", old), ("link2", old), ("dangling", new), ("new", new)):
+        tool.expect("map to " + name, tool.run("map", path, "-o", os.path.join(folder, name)), (0, b"", b""))
+        tool.expect("the file of " + name, open(file, "rb").read(), whole)
+        tool.file("replaced/old", b"old")
+    tool.expect("its permissions", os.stat(old).st_mode & 0o777, 0o640)
+    tool.expect("links stay", [os.readlink(os.path.join(folder, name)) for name in ("link", "link2", "dangling")], ["old", "link", "new"])
+    limit = lambda: resource.setrlimit(resource.RLIMIT_FSIZE, (20, 20))
+    tool.fails("no room", ("map", path, "-o", old), b"cannot write %s: " % old.encode(), preexec_fn=limit, restore_signals=False)
+    tool.expect("the old file", open(old, "rb").read(), b"old")
+    tool.expect("the folder", sorted(os.listdir(folder)), ["dangling", "link", "link2", "new", "old"])
 
 
 def closed_pipe(tool):
@@ -402,8 +484,56 @@ def large_grids(tool):
     tool.fails("no memory", ("map", tool.path("large0")), b"no memory", preexec_fn=bounded(0))
 
 
+def named_pipe(tool):
+    """A named pipe stays one and gets the bytes; a reader that leaves it is a failure."""
+    pipe = tool.path("pipe")
+    os.mkfifo(pipe)
+    for source, read in ((tool.path("sound"), -1), (tool.path("large.map"), 5)):
+        with subprocess.Popen([tool.program, "map", source, "-o", pipe], stderr=subprocess.PIPE) as run:
+            with open(pipe, "rb") as reader:
+                got = reader.read(read)
+            err = run.stderr.read()
+            failed = read > 0
+            tool.expect("a named pipe", (run.wait(), b"cannot write %s: " % pipe.encode() in err, len(err) > 0), (2 * failed, failed, failed))
+        tool.expect("what it had", got, tool.run("map", source, "-o", "-")[1][:read if failed else None])
+    tool.expect("the pipe", stat.S_ISFIFO(os.stat(pipe).st_mode), True)
+
+
+def ended_by_signals(tool):
+    """Signals at random moments of a run that writes a file, every other one once there is an unfinished file: the old file stays or the new one is
+    whole, and there is no third. A map file is written again as it is, so that much of the time is writing."""
+    rng = random.Random(SEED)
+    folder, source = tool.path("ended"), tool.path("large.map")
+    os.mkdir(folder)
+    out = os.path.join(folder, "out")
+    began = time.monotonic()
+    tool.expect("a map of a map", (tool.run("map", source, "-o", out), filecmp.cmp(source, out, shallow=False)), ((0, b"", b""), True))
+    took = time.monotonic() - began
+    kept = 0
+    for turn, number in enumerate([signal.SIGTERM] * SIGNALS + [signal.SIGINT, signal.SIGHUP] * 4):
+        tool.file("ended/out", b"old")
+        with subprocess.Popen([tool.program, "map", source, "-o", out]) as run:
+            while turn % 2 and run.poll() is None and len(os.listdir(folder)) < 2:
+                pass
+            time.sleep(rng.uniform(0, took / 4 if turn % 2 else took))
+            run.send_signal(number)
+            status = run.wait()
+        old = os.path.getsize(out) == 3
+        kept += old
+        tool.expect("signal %d" % number, (os.listdir(folder), old or filecmp.cmp(source, out, shallow=False)), (["out"], True))
+        tool.expect("signal %d, its status" % number, status in ((-number,) if old else (0, -number)), True)
+    tool.expect("a signal that came before the end", kept > 0, True)
+    with subprocess.Popen([tool.program, "map", source, "-o", out], preexec_fn=lambda: signal.signal(signal.SIGHUP, signal.SIG_IGN)) as run:
+        while run.poll() is None:
+            run.send_signal(signal.SIGHUP)
+            time.sleep(took / 100)
+        tool.expect("an ignored signal", (run.wait(), filecmp.cmp(source, out, shallow=False), os.listdir(folder)), (0, True, ["out"]))
+
+
 def progress(tool):
-    """On a terminal long work is told, and nothing of it stays; elsewhere nothing is said (large_grids)."""
+    """On a terminal long work is told, and nothing of it stays; elsewhere nothing is said (large_grids). What is told beside the synthesis depends
+    on how fast the machine reads and writes."""
+    told = rb"(?:(?:\r(?:reading|synthesis|writing): (?:\d+ % in )?\d+\.\d s *)+\r +\r)+"
     ours, theirs = pty.openpty()
     with subprocess.Popen([tool.program, "map", tool.path("large0"), "-o", tool.path("large.map")], stderr=theirs) as run:
         os.close(theirs)
@@ -413,7 +543,7 @@ def progress(tool):
                 said += part
         except OSError:
             pass  # a terminal whose other end is closed
-        tool.expect("progress", (run.wait(), said.startswith(b"\rsynthesis: "), said.endswith(b" \r")), (0, True, True))
+        tool.expect("progress", (run.wait(), b"\rsynthesis: " in said, said if not re.fullmatch(told, said) else True), (0, True, True))
     os.close(ours)
 
 
@@ -421,7 +551,7 @@ def main():
     with tempfile.TemporaryDirectory() as folder:
         tool = Tool(os.path.abspath(sys.argv[1]), folder)
         for part in (samples, small_grids, full_cells, refused_records, refused_headers, refused_maps, lines, command_line, files_and_streams,
-                     large_grids, closed_pipe, progress):
+                     too_long, one_file, replaced, large_grids, closed_pipe, named_pipe, ended_by_signals, progress):
             part(tool)
         tool.expect("the refusals", tool.seen, REFUSALS)
     print("%d comparisons agree, %d do not" % (tool.agreed, tool.wrong))

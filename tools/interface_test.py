@@ -4,7 +4,7 @@
     interface_test.py [HEADER SOURCE FFI]
 
 Every function of the header must be one of the source and the other way round, with the same types in the same order; every struct must have
-the same fields. The tool's declarations must be those of the header. (The layouts in bytes are held to a C compiler's by `cargo test` in host/.)
+the same fields, every refusal its number. The tool's declarations must be those of the header. (The layouts in bytes are held to a C compiler's by `cargo test` in host/.)
 Prints what differs; the exit status is 1 where anything does. It then damages each of the three texts in turn and demands to notice it.
 """
 import os
@@ -13,8 +13,8 @@ import sys
 
 TOP = os.path.join(os.path.dirname(os.path.abspath(__file__)), "..")
 FILES = ["include/recorder.h", "crates/exported/src/lib.rt", "host/src/ffi.rs"]
-# What the source passes on: the structs of jobs and of their answers.
-PASSED_ON = ["crates/job/src/lib.rt", "crates/exported/src/answers.rt"]
+# What the source passes on: the structs of jobs and of their answers, and the numbers of refusals.
+PASSED_ON = ["crates/job/src/lib.rt", "crates/exported/src/answers.rt", "crates/refusals/src/lib.rt"]
 
 # The names of the header's types in the Rattle source and in the tool.
 SOURCE_NAMES = {"Reflection": "recorder_reflection", "GridPoint": "recorder_grid_point", "Axis": "recorder_axis", "Job": "recorder_job",
@@ -68,7 +68,16 @@ def c_functions(text):
             for given, name, taken in re.findall(r"^(\w+) (recorder_\w+)\((.*?)\);", text, re.S | re.M)}
 
 
+def c_refusals(text):
+    return dict(re.findall(r"RECORDER_REFUSED_(\w+) = (\d+)", text))
+
+
 # ---- Rattle and Rust: 'name: type'
+
+def source_refusals(text):
+    """The refusals' numbers by their names as the header writes them."""
+    return {re.sub(r"(?<=.)(?=[A-Z])", "_", name).upper(): value for name, value in re.findall(r"Refusal::(\w+) => (\d+)", text)}
+
 
 def named_type(kind, names):
     """The C types that a type is passed as."""
@@ -132,6 +141,7 @@ def differences(header, source, ffi):
     said = [] if functions else ["no function was found"]
     said += differing("function of header and source:", functions, exported)
     said += differing("struct of header and source:", structs, source_structs(source, structs))
+    said += differing("refusal of header and source:", c_refusals(header), source_refusals(source))
     said += differing("function of header and tool:", functions, declared)
     return said + differing("struct of header and tool:", structs, named_structs(ffi, FFI_NAMES))
 
@@ -140,6 +150,7 @@ def differences(header, source, ffi):
 DAMAGES = [
     (0, "recorder_grid_point at,", "recorder_reflection at,"), (0, "uint32_t number, place;", "uint32_t place, number;"),
     (0, "const uint32_t *volume, size_t volume_length, uint8_t *out", "uint32_t *volume, size_t volume_length, uint8_t *out"),
+    (0, "RECORDER_REFUSED_INDEX = 10,", "RECORDER_REFUSED_INDEX = 11,"), (1, "Refusal::Occupied => 24,", ""),
     (1, "pub place: u32,", ""), (1, "fn recorder_analysis(", "fn recorder_analyse("),
     (1, "#[repr(C)]", ""), (2, "#[repr(C)]", ""),
     (2, "pub written: usize", "pub written: u32"), (2, "direction: u32,\n        length: u32,", "direction: u32,"),

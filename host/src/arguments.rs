@@ -22,7 +22,9 @@ impl Given {
                 Some("--times") => given.times = true,
                 Some("-o") => {
                     let output = arguments.next().ok_or_else(|| Failure::Usage("-o needs the name of a file".into()))?;
-                    given.output = Some(output);
+                    if given.output.replace(output).is_some() {
+                        return Err(Failure::Usage("-o is given twice; name one file to write".into()));
+                    }
                 }
                 Some(text) if text.len() > 1 && text.starts_with('-') => {
                     return Err(Failure::Usage(format!("there is no option {text}")));

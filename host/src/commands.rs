@@ -1,7 +1,7 @@
 //! The commands. Each reads its input, makes the proved calls and writes the result.
 use crate::arguments::{self, Given};
 use crate::factor_file;
-use crate::failure::Failure;
+use crate::failure::{shown, Failure};
 use crate::ffi::{GridPoint, Reflection};
 use crate::header::{list_text, Header};
 use crate::help;
@@ -13,7 +13,6 @@ use crate::recorder::{self, Recorder};
 use crate::text;
 use crate::times::Times;
 use std::ffi::OsString;
-use std::io::{self, Read};
 
 struct Command {
     name: &'static str,
@@ -22,13 +21,14 @@ struct Command {
     run: fn(&Given) -> Result<(), Failure>,
 }
 
+const FILE: &str = "FILE";
 const COMMANDS: [Command; 7] = [
-    Command { name: "map", words: &["FILE"], help: help::MAP, run: map },
-    Command { name: "factors", words: &["FILE"], help: help::FACTORS, run: factors },
-    Command { name: "check", words: &["FILE"], help: help::CHECK, run: check },
-    Command { name: "info", words: &["FILE"], help: help::INFO, run: info },
-    Command { name: "point", words: &["FILE", "x", "y", "z"], help: help::POINT, run: point },
-    Command { name: "factor", words: &["FILE", "h", "k", "l"], help: help::FACTOR, run: factor },
+    Command { name: "map", words: &[FILE], help: help::MAP, run: map },
+    Command { name: "factors", words: &[FILE], help: help::FACTORS, run: factors },
+    Command { name: "check", words: &[FILE], help: help::CHECK, run: check },
+    Command { name: "info", words: &[FILE], help: help::INFO, run: info },
+    Command { name: "point", words: &[FILE, "x", "y", "z"], help: help::POINT, run: point },
+    Command { name: "factor", words: &[FILE, "h", "k", "l"], help: help::FACTOR, run: factor },
     Command { name: "line", words: &["KIND", "DIRECTION", "N", "LIST"], help: help::LINE, run: line },
 ];
 
@@ -42,7 +42,10 @@ pub fn run(mut arguments: impl Iterator<Item = OsString>) -> Result<(), Failure>
         (_, Some(command)) if given.help => output::print(command.help),
         (_, Some(command)) => {
             fit(command, &given)?;
-            (command.run)(&given)
+            (command.run)(&given).map_err(|failure| match command.words[0] {
+                FILE => Failure::Of(given.words[0].clone(), Box::new(failure)),
+                _ => failure,
+            })
         }
     }
 }
@@ -59,6 +62,9 @@ fn fit(command: &Command, given: &Given) -> Result<(), Failure> {
     if given.times && name != "map" {
         return Err(Failure::Usage(format!("{name} takes no --times")));
     }
+    if (name == "map" || name == "factors") && output::is_input(given.output(), &given.words[0]) {
+        return Err(Failure::Usage(format!("{} is the file to read and the file to write; name another file to write", shown(&given.words[0]))));
+    }
     Ok(())
 }
 
@@ -74,8 +80,9 @@ fn map(given: &Given) -> Result<(), Failure> {
     let recorder = held?;
     times.took("synthesis");
     let to = given.output();
+    let target = output::open(to)?;
     during_output(output::is_standard(to), "writing", |told| {
-        output::write(to, |mut out| match to {
+        target.write(|mut out| match to {
             None => text::write(&recorder, &mut out, told),
             Some(_) => map_file::write(&recorder, &mut out, told),
         })
@@ -91,7 +98,7 @@ fn factors(given: &Given) -> Result<(), Failure> {
     let to = given.output().ok_or_else(|| Failure::Usage("factors needs -o and the name of the file to write".into()))?;
     let recorder = with_factors(input::open(&given.words[0])?)?;
     let file = during("collecting records", |_| recorder.factor_file())?;
-    output::write(Some(to), |out| out.write_all(&file))
+    output::open(Some(to))?.write(|out| out.write_all(&file))
 }
 
 fn check(given: &Given) -> Result<(), Failure> {
@@ -150,11 +157,9 @@ fn factor(given: &Given) -> Result<(), Failure> {
 fn line(given: &Given) -> Result<(), Failure> {
     let [kind, direction, length] = given.indices(0)?;
     let list = arguments::list(&given.words[3])?;
-    let mut text = String::new();
-    io::stdin().read_to_string(&mut text).map_err(|error| Failure::unread("standard input".as_ref(), &error))?;
-    let mut numbers = text.split_ascii_whitespace().map(arguments::number).collect::<Result<Vec<u32>, Failure>>()?;
+    let mut numbers = input::line()?;
     recorder::line(kind, direction, length, &list, &mut numbers)?;
-    output::write(None, |mut out| text::write_numbers(&numbers, &mut out))
+    output::open(None)?.write(|mut out| text::write_numbers(&numbers, &mut out))
 }
 
 fn with_map(mut recorder: Recorder) -> Result<Recorder, Failure> {

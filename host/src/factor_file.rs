@@ -6,6 +6,9 @@ use std::fmt::{self, Display, Formatter};
 
 const COUNT: usize = 4;
 const RECORD: usize = 14;
+/// No accepted file has a greater count of bytes: its header has three lists of at most 255 factors, and each record makes one number at least
+/// of the volume, which has at most 16,777,216, other than the zero that it was.
+pub const MOST_COUNT: u64 = 8 + 3 * 256 + 4 + 14 * 16_777_216;
 
 /// The length of the file with a header and a count of records.
 pub fn length(header: &Header, records: usize) -> usize {

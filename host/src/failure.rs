@@ -1,6 +1,6 @@
 //! Why a command ends without its result, what it says then on standard error, and its exit status.
 use crate::words::Refusal;
-use std::ffi::OsStr;
+use std::ffi::{OsStr, OsString};
 use std::fmt::Display;
 use std::io;
 use std::path::Path;
@@ -14,8 +14,12 @@ pub enum Failure {
     Usage(String),
     /// A file or a stream could not be read or written.
     Trouble(String),
+    /// The system has no memory for so many bytes.
+    NoMemory(usize),
     /// Who read standard output has closed it: all that was wanted is written.
     Closed,
+    /// Any of these, of a command that reads the file of this name.
+    Of(OsString, Box<Failure>),
 }
 
 impl Failure {
@@ -23,16 +27,29 @@ impl Failure {
         match self {
             Failure::Closed => 0,
             Failure::Refused(_) | Failure::Reported => 1,
-            Failure::Usage(_) | Failure::Trouble(_) => 2,
+            Failure::Usage(_) | Failure::Trouble(_) | Failure::NoMemory(_) => 2,
+            Failure::Of(_, failure) => failure.status(),
         }
     }
 
     pub fn said(&self) -> String {
         match self {
+            Failure::Of(name, failure) => failure.said_of(&(shown(name) + ": ")),
+            failure => failure.said_of(""),
+        }
+    }
+
+    /// What is said, with the file where the words do not name it.
+    fn said_of(&self, file: &str) -> String {
+        match self {
             Failure::Closed | Failure::Reported => String::new(),
-            Failure::Refused(refusal) => format!("recorder: {}\n{}", refusal.line(), refusal.explained()),
+            Failure::Refused(refusal) => format!("recorder: {file}{}\n{}", refusal.line(), refusal.explained()),
             Failure::Usage(text) => format!("recorder: {text}\nrecorder --help lists the commands; recorder COMMAND --help explains one.\n"),
             Failure::Trouble(text) => format!("recorder: {text}\n"),
+            Failure::NoMemory(bytes) => {
+                format!("recorder: {file}there is no memory for {bytes} bytes; close other programs, or use a smaller grid\n")
+            }
+            Failure::Of(_, failure) => failure.said_of(file),
         }
     }
 
@@ -52,13 +69,31 @@ impl Failure {
             io::ErrorKind::NotFound => "make its folder first",
             io::ErrorKind::PermissionDenied => "choose a place where you may write",
             io::ErrorKind::IsADirectory => "name a file in it",
+            _ => "make room or choose another place, and run again: what was there before is unchanged",
+        };
+        Failure::trouble("cannot write", name, error, advice)
+    }
+
+    /// Of standard output, a named pipe or a device, which get what is written at once.
+    pub fn unwritten_stream(name: &OsStr, error: &io::Error) -> Failure {
+        let advice = match error.kind() {
+            io::ErrorKind::BrokenPipe => "run again with a reader that reads to the end: what it has now is not whole",
             _ => "make room or choose another place, and run again: what is there now is not whole",
         };
         Failure::trouble("cannot write", name, error, advice)
     }
 
     fn trouble(what: &str, name: &OsStr, error: &dyn Display, advice: &str) -> Failure {
-        Failure::Trouble(format!("{what} {}: {error}; {advice}", Path::new(name).display()))
+        Failure::Trouble(format!("{what} {}: {error}; {advice}", shown(name)))
+    }
+}
+
+/// An input's name in words: a minus sign is standard input.
+pub fn shown(name: &OsStr) -> String {
+    if name == "-" {
+        "standard input".into()
+    } else {
+        Path::new(name).display().to_string()
     }
 }
 

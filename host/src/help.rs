@@ -23,7 +23,8 @@ Synthesises the map of a factor file (of a map file: the map it has). Without -o
 stored plane z and each x, with z, x and the values by y. A refusal prints 'refused NUMBER at PLACE' there and its reason on standard error.
 With -o it is written to OUT (- is standard output) as a map file, big-endian: the letters RMAP, then as in a factor file version 1, group
 (1 byte), N1, N2, N3 (2 bytes each), three factor lists (a count byte, then a byte each), then the densities on the stored planes by
-rising z, x, y, 4 bytes each. --times says on standard error how long reading, synthesis and writing took.
+rising z, x, y, 4 bytes each. OUT takes its name when it is whole, and cannot be FILE. --times says on standard error how long reading,
+synthesis and writing took.
 ";
 
 pub const FACTORS: &str = "\

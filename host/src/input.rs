@@ -1,13 +1,21 @@
-//! A file that a command is given: a factor file, or a map file, which its first four bytes tell.
+//! What a command is given: a factor file or a map file, which its first four bytes tell, or a line's numbers. Nothing is read further than it
+//! can be right.
+use crate::arguments::number;
+use crate::factor_file::MOST_COUNT;
 use crate::failure::Failure;
 use crate::map_file;
 use crate::progress;
 use crate::recorder::Recorder;
 use std::ffi::OsStr;
 use std::fs::File;
-use std::io::{self, BufReader, Read};
+use std::io::{self, BufReader, ErrorKind, Read};
+use std::iter;
 
 const BUFFER: usize = 1 << 18;
+/// The most numbers that any line has: 2N of a plain one of the greatest length.
+const MOST_NUMBERS: usize = 2 * 2880;
+/// The most bytes that are read of a line: some 180 for each of its numbers, with the blanks.
+const MOST_TEXT: usize = 1 << 20;
 
 /// The file's bytes where it is a factor file; the input after the four letters where it is a map.
 pub enum Entry {
@@ -29,8 +37,8 @@ pub fn entry(name: &OsStr) -> Result<Entry, Failure> {
     sorted(BufReader::with_capacity(BUFFER, source), length).map_err(unread)
 }
 
-/// No more is read of a factor file than one byte beyond its count: with that byte it is refused, whatever follows. Where the length is known,
-/// the memory is asked for at once and not by doubling.
+/// No more is read of a factor file than one byte beyond its count: with that byte it is refused, whatever follows. One that goes on beyond the
+/// most that any has is not read. Where the length is known, the memory is asked for at once and not by doubling.
 fn sorted(mut source: BufReader<Box<dyn Read>>, length: u64) -> io::Result<Entry> {
     let mut bytes = Vec::new();
     source.by_ref().take(4).read_to_end(&mut bytes)?;
@@ -41,9 +49,16 @@ fn sorted(mut source: BufReader<Box<dyn Read>>, length: u64) -> io::Result<Entry
         return Ok(Entry::Map(Box::new(source)));
     }
     let count = u64::from(u32::from_be_bytes(first));
-    bytes.try_reserve_exact(length.min(count + 1) as usize)?;
-    source.take(count + 1).read_to_end(&mut bytes)?;
-    Ok(Entry::Factors(bytes))
+    let too_long = |following: u64| count > MOST_COUNT && following > MOST_COUNT;
+    let most = count.min(MOST_COUNT) + 1;
+    if !too_long(length.saturating_sub(4)) {
+        bytes.try_reserve_exact(length.min(most) as usize)?;
+        source.take(most).read_to_end(&mut bytes)?;
+        if !too_long(bytes.len() as u64 - 4) {
+            return Ok(Entry::Factors(bytes));
+        }
+    }
+    Err(io::Error::new(ErrorKind::InvalidData, format!("it has more bytes than any factor file, which has at most {}", MOST_COUNT + 4)))
 }
 
 /// The job of a file: collecting, or with its map held.
@@ -52,4 +67,29 @@ pub fn open(name: &OsStr) -> Result<Recorder, Failure> {
         Entry::Factors(file) => Recorder::of_factor_file(&file),
         Entry::Map(mut rest) => map_file::read(name, &mut rest, told),
     })
+}
+
+/// The numbers of a line, from standard input with blanks between them; where there are more than any line has, one more than that.
+pub fn line() -> Result<Vec<u32>, Failure> {
+    let mut numbers = Vec::new();
+    let mut word = Vec::new();
+    let bytes = BufReader::new(io::stdin()).bytes().chain(iter::once(Ok(b' ')));
+    for (read, byte) in bytes.enumerate() {
+        let byte = byte.map_err(|error| Failure::unread("-".as_ref(), &error))?;
+        if read > MOST_TEXT {
+            return Err(Failure::Trouble(format!(
+                "standard input has more than {MOST_TEXT} bytes; give the numbers of one line, a blank between them"
+            )));
+        }
+        if !byte.is_ascii_whitespace() {
+            word.push(byte);
+        } else if !word.is_empty() {
+            numbers.push(number(&String::from_utf8_lossy(&word))?);
+            word.clear();
+        }
+        if numbers.len() > MOST_NUMBERS {
+            break;
+        }
+    }
+    Ok(numbers)
 }

@@ -14,6 +14,7 @@ mod memory;
 mod output;
 mod progress;
 mod recorder;
+mod signals;
 mod text;
 mod times;
 mod words;

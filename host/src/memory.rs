@@ -3,10 +3,7 @@ use crate::failure::Failure;
 
 pub fn zeros<T: Clone + Default>(count: usize) -> Result<Vec<T>, Failure> {
     let mut buffer = Vec::new();
-    let bytes = count * size_of::<T>();
-    buffer
-        .try_reserve_exact(count)
-        .map_err(|_| Failure::Trouble(format!("there is no memory for {bytes} bytes; close other programs, or use a smaller grid")))?;
+    buffer.try_reserve_exact(count).map_err(|_| Failure::NoMemory(count * size_of::<T>()))?;
     buffer.resize(count, T::default());
     Ok(buffer)
 }

@@ -1,27 +1,92 @@
-//! Where a command's result goes: standard output or a file, through a buffer, with every error noticed.
+//! Where a command's result goes: standard output, a named pipe or device, or a file. All go through a buffer, and every error is noticed.
+//!
+//! A file is written beside its name and takes the name when it is whole and on the disk: whatever ends the tool before, the file that had
+//! the name is as it was.
 use crate::failure::Failure;
+use crate::signals;
 use std::ffi::OsStr;
-use std::fs::File;
+use std::fs::{self, File, Metadata, OpenOptions, Permissions};
 use std::io::{self, BufWriter, ErrorKind, Write};
+use std::os::fd::AsFd;
+use std::os::unix::fs::MetadataExt;
+use std::path::PathBuf;
+use std::process;
 
 const BUFFER: usize = 1 << 18;
+const STANDARD: &str = "standard output";
+/// As many symbolic links, one to the other, as Linux follows.
+const MOST_LINKS: usize = 40;
 
 /// Whether a name is standard output's: none was given, or a minus sign.
 pub fn is_standard(name: Option<&OsStr>) -> bool {
     name.is_none_or(|name| name == "-")
 }
 
-/// Does the writing. A file is made only now, so that a refused command leaves what was there.
-pub fn write(name: Option<&OsStr>, work: impl FnOnce(&mut dyn Write) -> io::Result<()>) -> Result<(), Failure> {
-    let standard = OsStr::new("standard output");
-    let (name, result) = match name {
-        Some(name) if !is_standard(Some(name)) => (name, File::create(name).and_then(|file| buffered(file, work))),
-        _ => (standard, buffered(io::stdout().lock(), work)),
+/// Whether the result would go to the very file that is read, under whatever names.
+pub fn is_input(name: Option<&OsStr>, input: &OsStr) -> bool {
+    let read = if input == "-" { metadata_of(io::stdin()) } else { fs::metadata(input) };
+    let written = name.filter(|_| !is_standard(name)).map_or_else(|| metadata_of(io::stdout()), fs::metadata);
+    match (read, written) {
+        (Ok(read), Ok(written)) => read.is_file() && (read.dev(), read.ino()) == (written.dev(), written.ino()),
+        _ => false,
+    }
+}
+
+fn metadata_of(stream: impl AsFd) -> io::Result<Metadata> {
+    File::from(stream.as_fd().try_clone_to_owned()?).metadata()
+}
+
+pub enum Output<'a> {
+    Standard,
+    /// A named pipe or a device.
+    Stream(&'a OsStr, File),
+    File(&'a OsStr, Unfinished),
+}
+
+/// Opens what a name stands for, when the result is known, so that a refused command leaves what was there. It is called while the tool has one
+/// thread: a signal that comes while the unfinished file is made cannot be another thread's.
+pub fn open(name: Option<&OsStr>) -> Result<Output<'_>, Failure> {
+    match name {
+        Some(name) if name != "-" => named(name).map_err(|error| Failure::unwritten(name, &error)),
+        _ => Ok(Output::Standard),
+    }
+}
+
+/// What exists is opened as it is, which asks for the right to write it and tells files from streams.
+fn named(name: &OsStr) -> io::Result<Output<'_>> {
+    let permissions = match OpenOptions::new().write(true).open(name) {
+        Ok(there) if !there.metadata()?.is_file() => return Ok(Output::Stream(name, there)),
+        Ok(there) => Some(there.metadata()?.permissions()),
+        Err(error) if error.kind() == ErrorKind::NotFound => None,
+        Err(error) => return Err(error),
     };
-    result.map_err(|error| match error.kind() {
-        ErrorKind::BrokenPipe => Failure::Closed,
-        _ => Failure::unwritten(name, &error),
-    })
+    Ok(Output::File(name, Unfinished::beside(followed(name), permissions)?))
+}
+
+/// The path that a name leads to by symbolic links, so that these stay.
+fn followed(name: &OsStr) -> PathBuf {
+    let mut path = PathBuf::from(name);
+    for _ in 0..MOST_LINKS {
+        match fs::read_link(&path) {
+            Ok(to) => path = path.with_file_name("").join(to),
+            Err(_) => break,
+        }
+    }
+    path
+}
+
+impl Output<'_> {
+    /// Does the writing.
+    pub fn write(self, work: impl FnOnce(&mut dyn Write) -> io::Result<()>) -> Result<(), Failure> {
+        match self {
+            Output::Standard => buffered(io::stdout().lock(), work).map_err(|error| match error.kind() {
+                ErrorKind::BrokenPipe => Failure::Closed,
+                _ => Failure::unwritten_stream(STANDARD.as_ref(), &error),
+            }),
+            Output::Stream(name, stream) => buffered(stream, work).map_err(|error| Failure::unwritten_stream(name, &error)),
+            Output::File(name, file) => buffered(&file.file, work).and_then(|()| file.take_name()).map_err(|error| Failure::unwritten(name, &error)),
+        }
+    }
 }
 
 fn buffered(target: impl Write, work: impl FnOnce(&mut dyn Write) -> io::Result<()>) -> io::Result<()> {
@@ -30,9 +95,49 @@ fn buffered(target: impl Write, work: impl FnOnce(&mut dyn Write) -> io::Result<
     out.flush()
 }
 
+/// A file that is not whole yet, in the folder of the path that it is for. It is removed where it never becomes whole.
+pub struct Unfinished {
+    file: File,
+    path: PathBuf,
+    becomes: PathBuf,
+}
+
+impl Unfinished {
+    /// A new file with the permissions of the one that it replaces. The path is known to the signals before there is a file.
+    fn beside(becomes: PathBuf, permissions: Option<Permissions>) -> io::Result<Unfinished> {
+        let mut tried = 0;
+        loop {
+            let path = becomes.with_file_name(format!(".recorder-{}-{tried}.part", process::id()));
+            signals::remove_when_ended(&path)?;
+            match OpenOptions::new().write(true).create_new(true).open(&path) {
+                Err(error) if error.kind() == ErrorKind::AlreadyExists => tried += 1,
+                Err(error) => return Err(error),
+                Ok(file) => {
+                    let unfinished = Unfinished { file, path, becomes };
+                    permissions.map_or(Ok(()), |permissions| unfinished.file.set_permissions(permissions))?;
+                    return Ok(unfinished);
+                }
+            }
+        }
+    }
+
+    fn take_name(self) -> io::Result<()> {
+        self.file.sync_all()?;
+        fs::rename(&self.path, &self.becomes)
+    }
+}
+
+impl Drop for Unfinished {
+    /// Where the file has taken its name there is none to remove.
+    fn drop(&mut self) {
+        let _ = fs::remove_file(&self.path);
+        signals::remove_no_longer();
+    }
+}
+
 /// Writes text to standard output.
 pub fn print(text: &str) -> Result<(), Failure> {
-    write(None, |out| out.write_all(text.as_bytes()))
+    Output::Standard.write(|out| out.write_all(text.as_bytes()))
 }
 
 /// The same for a refusal, which stays one where nobody reads it.

@@ -19,8 +19,9 @@ use Rattle.cell.specs.Volume.{groupOf, alternates, lineKind, layers, row
 use Rattle.cell.specs.declared.operations.Index.{Index}
 use Rattle.cell.specs.declared.operations.Point.{Point}
 use Rattle.cell.specs.declared.places.Run.{Run}
-use Rattle.cell.specs.Operations.{halvesOf, tripleOf, pointOf, Length, Sizes, Within, PointWithin}
-use Rattle.cell.specs.Places.{consecutive, IsRun}
+use Rattle.cell.specs.declared.operations.UnitCell.{UnitCell}
+use Rattle.cell.specs.Operations.{cellGroup, cellHalves, halvesOf, tripleOf, pointOf, Length, Sizes, Within, PointWithin}
+use Rattle.cell.specs.Places.{consecutive, IsRun, storedColumn}
 use Rattle.cell.proofs.VolumeLayout.{place-inside}
 
 -- the groups that store half of each line
@@ -52,11 +53,11 @@ pub not-alternating : (n : ℕ) → alternates n ≡ false → (n ≡ 1 → ⊥)
 not-alternating n e = (eqb-false n 1 (or-left (eqb n 1) (eqb n 4) e), eqb-false n 4 (or-right (eqb n 1) (eqb n 4) e))
 
 -- an index or a point below the lengths is one of the theory's
-pub inside-of : {n1 n2 n3 : ℕ} {j : Index} → Length n1 → Length n2 → Length n3 → Within n1 n2 n3 j → Inside (halvesOf n1 n2 n3) (tripleOf j)
-inside-of a b c w = (omega arith, omega arith, omega arith)
+pub inside-of : {cell : UnitCell} {j : Index} → Sizes cell → Within cell j → Inside (cellHalves cell) (tripleOf j)
+inside-of s w = (omega arith, omega arith, omega arith)
 
-pub point-inside : {n1 n2 n3 : ℕ} {p : Point} → Length n1 → Length n2 → Length n3 → PointWithin n1 n2 n3 p → Inside (halvesOf n1 n2 n3) (pointOf p)
-point-inside a b c w = (omega arith, omega arith, omega arith)
+pub point-inside : {cell : UnitCell} {p : Point} → Sizes cell → PointWithin cell p → Inside (cellHalves cell) (pointOf p)
+point-inside s w = (omega arith, omega arith, omega arith)
 
 -- ---- parities and ends
 
@@ -119,9 +120,9 @@ fold-end c l e = ⊎-elim (λ z. (omega arith, omega arith)) (λ z. (omega arith
 left : {n : ℕ} → n < 5 → (n ≡ 0 → ⊥) → (n ≡ 1 → ⊥) → (n ≡ 4 → ⊥) → (n ≡ 3 → ⊥) → n ≡ 2
 left l a b c d = omega arith
 
-module _ {group n1 n2 n3 : ℕ} (s : Sizes group n1 n2 n3) (j : Index) (i : Within n1 n2 n3 j) (b : j .k ≤ n2 / 2) (r : Run) where
+module _ {cell : UnitCell} (s : Sizes cell) (j : Index) (i : Within cell j) (b : j .k ≤ cell .n2 / 2) (r : Run) where
   abbrev a : J
-  a = halvesOf n1 n2 n3
+  a = cellHalves cell
 
   abbrev Found : ℕ → Type 0
   Found n = IsRun (volumeLength (groupOf n) a) (lineNumbers (groupOf n) a (lineKind (groupOf n) (j .h)) (j .h) (j .k) (j .l)) r
@@ -137,49 +138,49 @@ module _ {group n1 n2 n3 : ℕ} (s : Sizes group n1 n2 n3) (j : Index) (i : With
       → lineNumbers (groupOf n) a (lineKind (groupOf n) (j .h)) (j .h) (j .k) (j .l) ≡ pairNumbers P1 a w (j .h) (j .k) → Found n
   pair-found w e f n l q = subst (λ p. IsRun (volumeLength (groupOf n) a) p r) (sym q) (pair-run (groupOf n) a r l in-rows in-columns e f)
 
-  pub plain-found : group ≡ 0 → r .first ≡ 2 * pairPlace P1 a (j .l) (j .h) (j .k) → r .count ≡ 2 → Found group
+  pub plain-found : cell .group ≡ 0 → r .first ≡ 2 * pairPlace P1 a (j .l) (j .h) (j .k) → r .count ≡ 2 → Found (cell .group)
   unfolding planes
   plain-found z e f = subst Found (sym z) (pair-found (j .l) e f 0 (omega arith) refl)
 
-  pub middle-found : (group ≡ 0 → ⊥) → (eqb (j .l) 0 || eqb (j .l) (n3 / 2)) ≡ false → {w : ℕ} → w ≡ min (j .l) (2 * (n3 / 2) - j .l)
-      → r .first ≡ 2 * pairPlace P1 a w (j .h) (j .k) → r .count ≡ 2 → Found group
+  pub middle-found : (cell .group ≡ 0 → ⊥) → (eqb (j .l) 0 || eqb (j .l) (cell .n3 / 2)) ≡ false → {w : ℕ} → w ≡ min (j .l) (2 * (cell .n3 / 2) - j .l)
+      → r .first ≡ 2 * pairPlace P1 a w (j .h) (j .k) → r .count ≡ 2 → Found (cell .group)
   middle-found z t u e f =
-      let q = middle-numbers a (j .h) (j .k) (j .l) (not-end (j .l) (n3 / 2) t) (omega arith) group (s .known) z in
-      pair-found _ (e ∙ ap (λ w. 2 * pairPlace P1 a w (j .h) (j .k)) u) f group (q .1) (q .0)
+      let q = middle-numbers a (j .h) (j .k) (j .l) (not-end (j .l) (cell .n3 / 2) t) (omega arith) (cell .group) (s .known) z in
+      pair-found _ (e ∙ ap (λ w. 2 * pairPlace P1 a w (j .h) (j .k)) u) f (cell .group) (q .1) (q .0)
 
   -- the ends of an alternating line
-  pub first-found : alternates group ≡ true → j .l ≡ 0 → {q : ℕ} → q ≡ pairPlace P1 a 0 (j .h) (j .k) → r .first ≡ 2 * q → r .count ≡ 1 → Found group
+  pub first-found : alternates (cell .group) ≡ true → j .l ≡ 0 → {q : ℕ} → q ≡ pairPlace P1 a 0 (j .h) (j .k) → r .first ≡ 2 * q → r .count ≡ 1 → Found (cell .group)
   unfolding planes
   first-found z l u e f = by-alternating (λ g. IsRun (volumeLength g a) (lineNumbers g a (lineKind g (j .h)) (j .h) (j .k) (j .l)) r)
       (rw (eq-eqb (j .l) 0 l) (number-run P2₁ a {w = 0} r _ (omega arith) in-rows in-columns (omega arith) (e ∙ ap (λ q. 2 * q) u) f))
       (rw (eq-eqb (j .l) 0 l) (number-run P2₁2₁2₁ a {w = 0} r _ (omega arith) in-rows in-columns (omega arith) (e ∙ ap (λ q. 2 * q) u) f))
-      group z
+      (cell .group) z
 
-  pub second-found : alternates group ≡ true → (j .l ≡ 0 → ⊥) → (eqb (j .l) 0 || eqb (j .l) (n3 / 2)) ≡ true → {q : ℕ} → q ≡ pairPlace P1 a 0 (j .h) (j .k) → r .first ≡ 2 * q + 1 → r .count ≡ 1 → Found group
+  pub second-found : alternates (cell .group) ≡ true → (j .l ≡ 0 → ⊥) → (eqb (j .l) 0 || eqb (j .l) (cell .n3 / 2)) ≡ true → {q : ℕ} → q ≡ pairPlace P1 a 0 (j .h) (j .k) → r .first ≡ 2 * q + 1 → r .count ≡ 1 → Found (cell .group)
   unfolding planes
   second-found z l t u e f =
-      let q : j .l ≡ n3 / 2 = ⊎-elim (λ p. absurd (l p)) (λ p. p) (at-end (j .l) (n3 / 2) t) in
+      let q : j .l ≡ cell .n3 / 2 = ⊎-elim (λ p. absurd (l p)) (λ p. p) (at-end (j .l) (cell .n3 / 2) t) in
       by-alternating (λ g. IsRun (volumeLength g a) (lineNumbers g a (lineKind g (j .h)) (j .h) (j .k) (j .l)) r)
-      (rw (ne-eqb (j .l) 0 l, eq-eqb (j .l) (n3 / 2) q) (number-run P2₁ a {w = 0} r _ (omega arith) in-rows in-columns (omega arith) (e ∙ ap (λ q. 2 * q + 1) u) f))
-      (rw (ne-eqb (j .l) 0 l, eq-eqb (j .l) (n3 / 2) q) (number-run P2₁2₁2₁ a {w = 0} r _ (omega arith) in-rows in-columns (omega arith) (e ∙ ap (λ q. 2 * q + 1) u) f))
-      group z
+      (rw (ne-eqb (j .l) 0 l, eq-eqb (j .l) (cell .n3 / 2) q) (number-run P2₁ a {w = 0} r _ (omega arith) in-rows in-columns (omega arith) (e ∙ ap (λ q. 2 * q + 1) u) f))
+      (rw (ne-eqb (j .l) 0 l, eq-eqb (j .l) (cell .n3 / 2) q) (number-run P2₁2₁2₁ a {w = 0} r _ (omega arith) in-rows in-columns (omega arith) (e ∙ ap (λ q. 2 * q + 1) u) f))
+      (cell .group) z
 
   -- the ends of a symmetric line, and those of an antisymmetric one, which are not read
-  pub mirror-found : (group ≡ 0 → ⊥) → alternates group ≡ false → (group ≡ 3 → ⊥) → (eqb (j .l) 0 || eqb (j .l) (n3 / 2)) ≡ true → r .first ≡ 2 * pairPlace P1 a (j .l) (j .h) (j .k) → r .count ≡ 2 → Found group
+  pub mirror-found : (cell .group ≡ 0 → ⊥) → alternates (cell .group) ≡ false → (cell .group ≡ 3 → ⊥) → (eqb (j .l) 0 || eqb (j .l) (cell .n3 / 2)) ≡ true → r .first ≡ 2 * pairPlace P1 a (j .l) (j .h) (j .k) → r .count ≡ 2 → Found (cell .group)
   unfolding planes
   mirror-found x y z t e f =
-      let n = not-alternating group y in
-      let two : group ≡ 2 = left (s .known) x (n .0) (n .1) z in
-      let q = fold-end (n3 / 2) (j .l) (at-end (j .l) (n3 / 2) t) in
+      let n = not-alternating (cell .group) y in
+      let two : cell .group ≡ 2 = left (s .known) x (n .0) (n .1) z in
+      let q = fold-end (cell .n3 / 2) (j .l) (at-end (j .l) (cell .n3 / 2) t) in
       subst Found (sym two) (pair-found (j .l) e f 2 (q .1) (ap (λ w. pairNumbers Pm a w (j .h) (j .k)) (q .0)))
 
-  pub glide-found : group ≡ 3 → j .h % 2 ≡ 0 → (eqb (j .l) 0 || eqb (j .l) (n3 / 2)) ≡ true → r .first ≡ 2 * pairPlace P1 a (j .l) (j .h) (j .k) → r .count ≡ 2 → Found group
+  pub glide-found : cell .group ≡ 3 → j .h % 2 ≡ 0 → (eqb (j .l) 0 || eqb (j .l) (cell .n3 / 2)) ≡ true → r .first ≡ 2 * pairPlace P1 a (j .l) (j .h) (j .k) → r .count ≡ 2 → Found (cell .group)
   unfolding planes
   glide-found z h t e f =
-      let q = fold-end (n3 / 2) (j .l) (at-end (j .l) (n3 / 2) t) in
+      let q = fold-end (cell .n3 / 2) (j .l) (at-end (j .l) (cell .n3 / 2) t) in
       subst Found (sym z) (pair-found (j .l) e f 3 (q .1) (rw (even-is (j .h) h) (ap (λ w. pairNumbers Pa a w (j .h) (j .k)) (q .0))))
 
-  pub zero-found : group ≡ 3 → (j .h % 2 ≡ 0 → ⊥) → (eqb (j .l) 0 || eqb (j .l) (n3 / 2)) ≡ true → r .first ≡ 0 → r .count ≡ 0 → Found group
+  pub zero-found : cell .group ≡ 3 → (j .h % 2 ≡ 0 → ⊥) → (eqb (j .l) 0 || eqb (j .l) (cell .n3 / 2)) ≡ true → r .first ≡ 0 → r .count ≡ 0 → Found (cell .group)
   zero-found z h t e f = subst Found (sym z) (rw (odd-is (j .h) h, t) (empty-run Pa a r e f))
 
 -- ---- products of lengths fit
@@ -230,22 +231,24 @@ unfolding planes
 not-plain n c z l h e = let p : 2 * c ≤ z = subst (λ n. planes (groupOf n) c ≤ z) e l in omega arith
 
 -- the pair w of the line of j lies in the volume
-pub pair-inside : {group n1 n2 n3 : ℕ} → Sizes group n1 n2 n3 → (j : Index) → Within n1 n2 n3 j → j .k ≤ n2 / 2 → (w : ℕ) → w < layers (groupOf group) (halvesOf n1 n2 n3)
-    → 2 * pairPlace P1 (halvesOf n1 n2 n3) w (j .h) (j .k) + 1 < volumeLength (groupOf group) (halvesOf n1 n2 n3)
-pair-inside {group} {n1} {n2} {n3} s j i b w l = omega (arith, place-inside (groupOf group) (halvesOf n1 n2 n3) {w = w} {h = j .h} {k = j .k} l (omega arith) (omega arith))
+pub pair-inside : {cell : UnitCell} → Sizes cell → (j : Index) → Within cell j → j .k ≤ cell .n2 / 2 → (w : ℕ) → w < layers (cellGroup cell) (cellHalves cell)
+    → 2 * pairPlace P1 (cellHalves cell) w (j .h) (j .k) + 1 < volumeLength (cellGroup cell) (cellHalves cell)
+pair-inside {cell} s j i b w l = omega (arith, place-inside (cellGroup cell) (cellHalves cell) {w = w} {h = j .h} {k = j .k} l (omega arith) (omega arith))
 
 -- pair 0 of an alternating line, which a volume always has
-pub first-inside : {n1 n2 n3 : ℕ} → Sizes 1 n1 n2 n3 → (j : Index) → Within n1 n2 n3 j → j .k ≤ n2 / 2 → 2 * pairPlace P1 (halvesOf n1 n2 n3) 0 (j .h) (j .k) + 1 < volumeLength P2₁ (halvesOf n1 n2 n3)
+pub first-inside : {cell : UnitCell} → Sizes cell → alternates (cell .group) ≡ true → (j : Index) → Within cell j → j .k ≤ cell .n2 / 2
+    → 2 * pairPlace P1 (cellHalves cell) 0 (j .h) (j .k) + 1 < volumeLength (cellGroup cell) (cellHalves cell)
 unfolding planes
-first-inside s j i b = pair-inside s j i b 0 (omega arith)
+first-inside {cell} s e j i b = pair-inside s j i b 0 (by-alternating (λ g. 0 < layers g (cellHalves cell)) (omega arith) (omega arith) (cell .group) e)
 
-pub middle-inside : {n1 n2 n3 : ℕ} → Sizes 1 n1 n2 n3 → (j : Index) → Within n1 n2 n3 j → j .k ≤ n2 / 2 → j .l ≤ n3 / 2 → (j .l ≡ n3 / 2 → ⊥) → 2 * pairPlace P1 (halvesOf n1 n2 n3) (j .l) (j .h) (j .k) + 1 < volumeLength P2₁ (halvesOf n1 n2 n3)
+pub middle-inside : {cell : UnitCell} → Sizes cell → alternates (cell .group) ≡ true → (j : Index) → Within cell j → j .k ≤ cell .n2 / 2 → j .l ≤ cell .n3 / 2 → (j .l ≡ cell .n3 / 2 → ⊥)
+    → 2 * pairPlace P1 (cellHalves cell) (j .l) (j .h) (j .k) + 1 < volumeLength (cellGroup cell) (cellHalves cell)
 unfolding planes
-middle-inside s j i b l z = pair-inside s j i b (j .l) (omega arith)
+middle-inside {cell} s e j i b l z = pair-inside s j i b (j .l) (by-alternating (λ g. j .l < layers g (cellHalves cell)) (omega arith) (omega arith) (cell .group) e)
 
 -- ---- the column that a factor is read from
 
-pub column-numbers : (g : Group) (a j i : J) → i ≡ cond (leb (j .1) (a .1)) j (negI (a .0) (j .0), negI (a .1) (j .1), negI (a .2) (j .2)) → numbersRead g a j ≡ lineNumbers g a (lineKind g (i .0)) (i .0) (i .1) (i .2)
+pub column-numbers : (g : Group) (a j i : J) → i ≡ storedColumn a j → numbersRead g a j ≡ lineNumbers g a (lineKind g (i .0)) (i .0) (i .1) (i .2)
 unfolding numbersRead
 column-numbers g a j i e = go (leb (j .1) (a .1)) ∙ ap numbers (sym e)
   where
@@ -275,14 +278,14 @@ module _ (g : Group) (a x : J) where
 pub other-point : (n : ℕ) → n < 5 → (n ≡ 0 → ⊥) → (a x : J) {s : Sym} → s ≡ getD (ops (groupOf n)) 1 one → planes (groupOf n) (a .2) ≤ x .2 → pointImage a s x ≡ pointImage a (pointOperation (groupOf n) a x) x
 other-point n l z a x f p = ap (λ s. pointImage a s x) (f ∙ plane-own n l z ∙ other-plane (groupOf n) a x p)
 
-pub point-place : {group n1 n2 n3 : ℕ} (s : Sizes group n1 n2 n3) (x y : Point) (q : ℕ) → PointWithin n1 n2 n3 x → PointWithin n1 n2 n3 y
-    → pointOf y ≡ pointImage (halvesOf n1 n2 n3) (pointOperation (groupOf group) (halvesOf n1 n2 n3) (pointOf x)) (pointOf x) → q ≡ pairPlace P1 (halvesOf n1 n2 n3) (y .z) (y .x) 0
-    → (2 * q + y .y ≡ densityPlace (groupOf group) (halvesOf n1 n2 n3) (pointOf x)) × (2 * q + y .y < volumeLength (groupOf group) (halvesOf n1 n2 n3))
-point-place {group} {n1} {n2} {n3} s x y q ix iy e f =
-    let g = groupOf group in
-    let a = halvesOf n1 n2 n3 in
-    let held : y .z < layers g a = subst (λ z. z .2 < layers g a) (sym e) (point-operation-stored g a (pointOf x) (point-inside (s .first) (s .second) (s .third) ix)) in
-    (number (y .z * (2 * (n1 / 2)) + y .x) f ∙ ap (mapPlace g a) e, omega (arith, place-inside g a {w = y .z} {h = y .x} {k = y .y / 2} held (omega arith) (omega arith)))
+pub point-place : {cell : UnitCell} (s : Sizes cell) (x y : Point) (q : ℕ) → PointWithin cell x → PointWithin cell y
+    → pointOf y ≡ pointImage (cellHalves cell) (pointOperation (cellGroup cell) (cellHalves cell) (pointOf x)) (pointOf x) → q ≡ pairPlace P1 (cellHalves cell) (y .z) (y .x) 0
+    → (2 * q + y .y ≡ densityPlace (cellGroup cell) (cellHalves cell) (pointOf x)) × (2 * q + y .y < volumeLength (cellGroup cell) (cellHalves cell))
+point-place {cell} s x y q ix iy e f =
+    let g = cellGroup cell in
+    let a = cellHalves cell in
+    let held : y .z < layers g a = subst (λ z. z .2 < layers g a) (sym e) (point-operation-stored g a (pointOf x) (point-inside s ix)) in
+    (number (y .z * (2 * (cell .n1 / 2)) + y .x) f ∙ ap (mapPlace g a) e, omega (arith, place-inside g a {w = y .z} {h = y .x} {k = y .y / 2} held (omega arith) (omega arith)))
   where
-    number : (r : ℕ) → q ≡ r * suc (n2 / 2) + 0 → 2 * q + y .y ≡ r * (2 * suc (n2 / 2)) + y .y
+    number : (r : ℕ) → q ≡ r * suc (cell .n2 / 2) + 0 → 2 * q + y .y ≡ r * (2 * suc (cell .n2 / 2)) + y .y
     number r p = omega arith

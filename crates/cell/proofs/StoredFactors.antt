@@ -21,10 +21,11 @@ use Rattle.numbers.proofs.Primes.{prime-pos}
 use Rattle.numbers.proofs.Residues.{val-res}
 use Rattle.numbers.proofs.Values.{pair-path, pair-value}
 use Rattle.slices.specs.Pairs.{at, Below, valuesOf}
-use Rattle.cell.specs.Volume.{groupOf, alternates, volumeLength, pairPlace, pairNumbers, lineNumbers, wholeLine}
+use Rattle.cell.specs.Volume.{groupOf, alternates, pairPlace, pairNumbers, lineNumbers, wholeLine}
 use Rattle.cell.specs.declared.operations.Index.{Index}
-use Rattle.cell.specs.Operations.{halvesOf, Length}
-use Rattle.cell.specs.Places.{allBelowAt, lineNumbersAt, storedFactor}
+use Rattle.cell.specs.declared.operations.UnitCell.{UnitCell}
+use Rattle.cell.specs.Operations.{cellGroup, cellHalves, Length}
+use Rattle.cell.specs.Places.{allBelowAt, lineNumbersAt, storedFactor, IsStoredFactor}
 use Rattle.cell.specs.TestSteps.{IsVolume, IsStored, PairInside}
 use Rattle.cell.proofs.Tests.{true-iff}
 use Rattle.cell.proofs.VolumeLayout.{place-inside}
@@ -39,46 +40,38 @@ pub layers-most : {n3 : ℕ} → Length n3 → (n : ℕ) → n < 5 → planes (g
 unfolding planes
 layers-most {n3} l = by-group (λ g. planes g (n3 / 2) ≤ n3) (omega arith) (omega arith) (omega arith) (omega arith) (omega arith)
 
-module _ {group n1 n2 n3 : ℕ} {v : List ℕ} (volume : IsVolume group n1 n2 n3 v) where
-  pub pair-inside : (w h k : ℕ) → w < planes (groupOf group) (n3 / 2) → h < n1 → k ≤ n2 / 2 → PairInside n1 n2 v w h k
+module _ {cell : UnitCell} {v : List ℕ} (volume : IsVolume cell v) where
+  pub pair-inside : (w h k : ℕ) → w < planes (cellGroup cell) (cell .n3 / 2) → h < cell .n1 → k ≤ cell .n2 / 2 → PairInside cell v w h k
   pair-inside w h k lw lh lk =
       let s = volume .sizes in
       record {
-        first = s .first;
-        second = s .second;
-        layer = omega (arith, layers-most (s .third) group (s .known), s .third .high);
+        sizes = s;
+        layer = omega (arith, layers-most (s .third) (cell .group) (s .known), s .third .high);
         row = omega (arith, s .first .high);
         column = omega (arith, s .second .high);
-        inside = omega (arith, volume .long, place-inside (groupOf group) (halvesOf n1 n2 n3) {w = w} {h = h} {k = k} lw (omega (arith, s .first .even)) (omega arith));
+        inside = omega (arith, volume .long, place-inside (cellGroup cell) (cellHalves cell) {w = w} {h = h} {k = k} lw (omega (arith, s .first .even)) (omega arith));
       }
 
   -- the pair of a stored index; in an alternating line the ends have none of their own
-  pub own-inside : {j : Index} → IsStored group n1 n2 n3 j → j .l < planes (groupOf group) (n3 / 2) → PairInside n1 n2 v (j .l) (j .h) (j .k)
+  pub own-inside : {j : Index} → IsStored cell j → j .l < planes (cellGroup cell) (cell .n3 / 2) → PairInside cell v (j .l) (j .h) (j .k)
   own-inside {j} stored l = pair-inside (j .l) (j .h) (j .k) l (stored .h) (stored .k)
 
-  pub stored-inside : {j : Index} → IsStored group n1 n2 n3 j → alternates group ≡ false → PairInside n1 n2 v (j .l) (j .h) (j .k)
-  stored-inside {j} stored z = own-inside stored (stored-layer group (n3 / 2) (j .l) (volume .sizes .known) z (stored .l))
+  pub stored-inside : {j : Index} → IsStored cell j → alternates (cell .group) ≡ false → PairInside cell v (j .l) (j .h) (j .k)
+  stored-inside {j} stored z = own-inside stored (stored-layer (cell .group) (cell .n3 / 2) (j .l) (volume .sizes .known) z (stored .l))
 
-module _ {n1 n2 n3 : ℕ} {v : List ℕ} (volume : IsVolume 1 n1 n2 n3 v) {j : Index} (stored : IsStored 1 n1 n2 n3 j) where
-  pub first-inside : PairInside n1 n2 v 0 (j .h) (j .k)
-  unfolding planes
-  first-inside = pair-inside volume 0 (j .h) (j .k) (omega (arith, volume .sizes .third .low)) (stored .h) (stored .k)
+  -- pair 0 and the pairs between the ends of an alternating line
+  module _ {j : Index} (stored : IsStored cell j) (e : alternates (cell .group) ≡ true) where
+    pub first-inside : PairInside cell v 0 (j .h) (j .k)
+    unfolding planes
+    first-inside =
+        let low = volume .sizes .third .low in
+        pair-inside 0 (j .h) (j .k) (by-alternating (λ g. 0 < planes g (cell .n3 / 2)) (omega (arith, low)) (omega (arith, low)) (cell .group) e) (stored .h) (stored .k)
 
-  pub middle-inside : (j .l ≡ n3 / 2 → ⊥) → PairInside n1 n2 v (j .l) (j .h) (j .k)
-  unfolding planes
-  middle-inside z = own-inside volume stored (omega (arith, alternating-half 1 refl (stored .l)))
-
--- a volume of a group with alternating lines is stored as one of P2₁
-pub as-screw : {group n1 n2 n3 : ℕ} {v : List ℕ} {j : Index} → IsVolume group n1 n2 n3 v → IsStored group n1 n2 n3 j → alternates group ≡ true → IsVolume 1 n1 n2 n3 v × IsStored 1 n1 n2 n3 j
-unfolding planes span
-as-screw {group} {n1} {n2} {n3} {v} {j} volume stored e =
-    let s = volume .sizes in (
-      record {
-        sizes = record { known = omega arith; first = s .first; second = s .second; third = s .third };
-        long = volume .long ∙ by-alternating (λ g. volumeLength g (halvesOf n1 n2 n3) ≡ volumeLength P2₁ (halvesOf n1 n2 n3)) refl refl group e;
-      },
-      record { h = stored .h; k = stored .k; l = by-alternating (λ g. j .l < span g (n3 / 2) → j .l < suc (n3 / 2)) (λ l. l) (λ l. l) group e (stored .l) },
-    )
+    pub middle-inside : (j .l ≡ cell .n3 / 2 → ⊥) → PairInside cell v (j .l) (j .h) (j .k)
+    unfolding planes
+    middle-inside z =
+        let half = alternating-half (cell .group) e (stored .l) in
+        own-inside stored (by-alternating (λ g. j .l < planes g (cell .n3 / 2)) (omega (arith, half)) (omega (arith, half)) (cell .group) e)
 
 -- ---- numbers below the prime stand for themselves
 
@@ -119,15 +112,11 @@ zero-pair m = pair-path (sym (val-res m (prime-pos m))) (sym (val-res m (prime-p
 
 -- ---- a stored factor
 
--- the pair r is the factor at j, if the numbers that it is read from are below the prime
-abbrev pub Reads : Group → J → (m : ℕ) → List ℕ → J → Pair → Type 0
-Reads g a m v j r = allBelowAt (prime m) v (lineNumbersAt g a j) ≡ true → r ≡ pairOf (storedFactor g a m v j)
-
 module _ (g : Group) (a : J) (m : ℕ) (v : List ℕ) (j : J) where
-  reads-by : {places : List ℕ} {z : Value m} {r : Pair} → lineNumbersAt g a j ≡ places → storedFactor g a m v j ≡ z → (allBelowAt (prime m) v places ≡ true → r ≡ pairOf z) → Reads g a m v j r
+  reads-by : {places : List ℕ} {z : Value m} {r : Pair} → lineNumbersAt g a j ≡ places → storedFactor g a m v j ≡ z → (allBelowAt (prime m) v places ≡ true → r ≡ pairOf z) → IsStoredFactor g a m v j r
   reads-by e f h t = h (sym (ap (allBelowAt (prime m) v) e) ∙ t) ∙ sym (ap pairOf f)
 
-  pub pair-reads : (lineNumbersAt g a j ≡ pairNumbers g a (j .2) (j .0) (j .1)) × (storedFactor g a m v j ≡ pairsIn g a m v (j .2) (j .0) (j .1)) → {x : Pair} → x ≡ at v (pairPlace g a (j .2) (j .0) (j .1)) → Reads g a m v j x
+  pub pair-reads : (lineNumbersAt g a j ≡ pairNumbers g a (j .2) (j .0) (j .1)) × (storedFactor g a m v j ≡ pairsIn g a m v (j .2) (j .0) (j .1)) → {x : Pair} → x ≡ at v (pairPlace g a (j .2) (j .0) (j .1)) → IsStoredFactor g a m v j x
   pair-reads e x = reads-by (e .0) (e .1) (λ t. x ∙ sym (pair-value m (low-pair m v (pairPlace g a (j .2) (j .0) (j .1)) t)))
 
 own-pair : (c l : ℕ) → l ≤ c → min l (2 * c - l) ≡ l
@@ -141,7 +130,7 @@ module _ (a : J) (pos : 0 < a .2) (m : ℕ) (v : List ℕ) (j : J) where
   abbrev first : ℕ
   first = pairPlace P2₁ a 0 (j .0) (j .1)
 
-  pub first-value : j .2 ≡ 0 → {x : Pair} → x ≡ at v first → Reads P2₁ a m v j (record { re = x .re; im = 0 })
+  pub first-value : j .2 ≡ 0 → {x : Pair} → x ≡ at v first → IsStoredFactor P2₁ a m v j (record { re = x .re; im = 0 })
   unfolding wholeLine
   first-value z e = reads-by P2₁ a m v j
       (rw (eq-eqb (j .2) 0 z) refl)
@@ -150,20 +139,20 @@ module _ (a : J) (pos : 0 < a .2) (m : ℕ) (v : List ℕ) (j : J) where
 
   module _ (y : j .2 ≡ 0 → ⊥) where
     module _ (z : j .2 ≡ a .2) {x : Pair} (e : x ≡ at v first) where
-      second-by : {r : Pair} (b : Bool) → even (a .2) ≡ b → (getD v (2 * first + 1) 0 < prime m → r ≡ pairOf (ofPart (ring m) b ((line 0) .1))) → Reads P2₁ a m v j r
+      second-by : {r : Pair} (b : Bool) → even (a .2) ≡ b → (getD v (2 * first + 1) 0 < prime m → r ≡ pairOf (ofPart (ring m) b ((line 0) .1))) → IsStoredFactor P2₁ a m v j r
       unfolding wholeLine
       second-by b p h = reads-by P2₁ a m v j
           (rw (ne-eqb (j .2) 0 y, eq-eqb (j .2) (a .2) z) refl)
           (ap (readLine m (a .2) alternating line) z ∙ alternating-middle m (a .2) line pos ∙ ap (λ b. ofPart (ring m) b ((line 0) .1)) p)
           (λ t. h (low-number m v (2 * first + 1) t))
 
-      pub second-value-even : a .2 % 2 ≡ 0 → Reads P2₁ a m v j (record { re = x .im; im = 0 })
+      pub second-value-even : a .2 % 2 ≡ 0 → IsStoredFactor P2₁ a m v j (record { re = x .im; im = 0 })
       second-value-even b = second-by true (even-is (a .2) b) (second-even m v first e)
 
-      pub second-value-odd : (a .2 % 2 ≡ 0 → ⊥) → Reads P2₁ a m v j (record { re = 0; im = x .im })
+      pub second-value-odd : (a .2 % 2 ≡ 0 → ⊥) → IsStoredFactor P2₁ a m v j (record { re = 0; im = x .im })
       second-value-odd b = second-by false (odd-is (a .2) b) (second-odd m v first e)
 
-    pub middle-value : (j .2 ≡ a .2 → ⊥) → j .2 ≤ a .2 → {x : Pair} → x ≡ at v (pairPlace P2₁ a (j .2) (j .0) (j .1)) → Reads P2₁ a m v j x
+    pub middle-value : (j .2 ≡ a .2 → ⊥) → j .2 ≤ a .2 → {x : Pair} → x ≡ at v (pairPlace P2₁ a (j .2) (j .0) (j .1)) → IsStoredFactor P2₁ a m v j x
     unfolding wholeLine
     middle-value z l = pair-reads P2₁ a m v j (
       rw (ne-eqb (j .2) 0 y, ne-eqb (j .2) (a .2) z) (ap (λ w. pairNumbers P2₁ a w (j .0) (j .1)) (own-pair (a .2) (j .2) l)),
@@ -171,9 +160,9 @@ module _ (a : J) (pos : 0 < a .2) (m : ℕ) (v : List ℕ) (j : J) where
     )
 
 -- what is read in P2₁ is read in each group with alternating lines
-pub screw-reads : (a : J) (m : ℕ) (v : List ℕ) (j : J) (n : ℕ) → alternates n ≡ true → {r : Pair} → Reads P2₁ a m v j r → Reads (groupOf n) a m v j r
+pub screw-reads : (a : J) (m : ℕ) (v : List ℕ) (j : J) (n : ℕ) → alternates n ≡ true → {r : Pair} → IsStoredFactor P2₁ a m v j r → IsStoredFactor (groupOf n) a m v j r
 unfolding wholeLine
-screw-reads a m v j n e {r} f = by-alternating (λ g. Reads g a m v j r) f f n e
+screw-reads a m v j n e {r} f = by-alternating (λ g. IsStoredFactor g a m v j r) f f n e
 
 -- in the other groups: a pair, or nothing at the ends of an antisymmetric line
 abbrev pub absent : (n : ℕ) → (a j : J) → Bool
@@ -211,7 +200,7 @@ module _ (a : J) (pos : 0 < a .2) (m : ℕ) (v : List ℕ) (j : J) where
   stored-pair (suc (suc (suc (suc zero)))) l y e s = absurd (not-alternating 4 y .1 refl)
   stored-pair (suc (suc (suc (suc (suc n))))) l y e s = absurd (omega arith)
 
-  pub absent-value : (n : ℕ) → n < 5 → absent n a j ≡ true → Reads (groupOf n) a m v j (record { re = 0; im = 0 })
+  pub absent-value : (n : ℕ) → n < 5 → absent n a j ≡ true → IsStoredFactor (groupOf n) a m v j (record { re = 0; im = 0 })
   unfolding wholeLine
   absent-value zero l e t = cc
   absent-value (suc zero) l e t = cc

@@ -5,36 +5,36 @@ use mathlib.Core.List.{List}
 use Prim.Native.Nat.{ℕ, _+_, _*_, _/_, _<_, _≤_}
 use lib.ListN.{length}
 use lib.Dec.{eqb}
-use Rattle.algebra.specs.cells.Cell.{J, Group, P1, span}
-use Rattle.algebra.specs.cells.CellTests.{below, imply}
+use Rattle.algebra.specs.cells.Cell.{J, Group, span}
+use Rattle.algebra.specs.cells.CellTests.{below, everyPlace, imply}
 use Rattle.algebra.specs.cells.CellPack.{even}
 use Rattle.numbers.specs.declared.Pair.{Pair}
 use Rattle.slices.specs.Pairs.{at}
-use Rattle.cell.specs.Volume.{groupOf, pairPlace, volumeLength}
-use Rattle.cell.specs.Consistency.{pointAgrees, rowEnds}
+use Rattle.cell.specs.Volume.{rows, columns, pairPlace, volumeLength}
+use Rattle.cell.specs.Consistency.{lineAgrees, pointAgrees, rowEnds}
 pub use Rattle.cell.specs.Consistency.{imageAgrees, pointImageAgrees}
 use Rattle.cell.specs.declared.operations.Index.{Index}
-use Rattle.cell.specs.Operations.{halvesOf, Length, Sizes}
+use Rattle.cell.specs.declared.operations.UnitCell.{UnitCell}
+use Rattle.cell.specs.Operations.{cellGroup, cellHalves, Sizes}
 
--- a volume as long as group and axes ask for
-pub record IsVolume (group n1 n2 n3 : ℕ) (v : List ℕ) : Type 0 where
-  pub sizes : Sizes group n1 n2 n3
-  pub long : length v ≡ volumeLength (groupOf group) (halvesOf n1 n2 n3)
+-- a volume as long as its cell asks for
+pub record IsVolume (c : UnitCell) (v : List ℕ) : Type 0 where
+  pub sizes : Sizes c
+  pub long : length v ≡ volumeLength (cellGroup c) (cellHalves c)
 
 -- the pair w of (h, k) lies inside the list
-pub record PairInside (n1 n2 : ℕ) (v : List ℕ) (w h k : ℕ) : Type 0 where
-  pub first : Length n1
-  pub second : Length n2
+pub record PairInside (c : UnitCell) (v : List ℕ) (w h k : ℕ) : Type 0 where
+  pub sizes : Sizes c
   pub layer : w ≤ 2880
   pub row : h ≤ 2880
   pub column : k ≤ 2880
-  pub inside : 2 * pairPlace P1 (halvesOf n1 n2 0) w h k + 1 < length v
+  pub inside : 2 * pairPlace (cellGroup c) (cellHalves c) w h k + 1 < length v
 
 -- an index whose factor has a place of its own
-pub record IsStored (group n1 n2 n3 : ℕ) (j : Index) : Type 0 where
-  pub h : j .h < n1
-  pub k : j .k ≤ n2 / 2
-  pub l : j .l < span (groupOf group) (n3 / 2)
+pub record IsStored (c : UnitCell) (j : Index) : Type 0 where
+  pub h : j .h < c .n1
+  pub k : j .k ≤ c .n2 / 2
+  pub l : j .l < span (cellGroup c) (c .n3 / 2)
 
 abbrev pub samePair : Pair → Pair → Bool
 samePair x y = eqb (x .re) (y .re) && eqb (x .im) (y .im)
@@ -43,6 +43,13 @@ abbrev pub isZero : Pair → Bool
 isZero x = eqb (x .re) 0 && eqb (x .im) 0
 
 module _ (g : Group) (a : J) where
+  -- the stored factors of a row, and all of them, agree with their images
+  abbrev pub lineRowAgrees : (m : ℕ) → List ℕ → (l h : ℕ) → Bool
+  lineRowAgrees m v l h = below (columns g a) (λ k. lineAgrees g a m v (h, k, l))
+
+  abbrev pub linesAgree : (m : ℕ) → List ℕ → Bool
+  linesAgree m v = everyPlace (rows g a) (columns g a) (span g (a .2)) (lineAgrees g a m v)
+
   -- the pairs 0 and A of the line (h, k) are zero; asked only where h is odd: there Pa has no factors in them
   abbrev pub emptyEnds : List ℕ → (h k : ℕ) → Bool
   emptyEnds v h k = isZero (at v (pairPlace g a 0 h k)) && isZero (at v (pairPlace g a (a .2) h k))

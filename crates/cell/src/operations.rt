@@ -12,7 +12,15 @@ ghost use Rattle.algebra.specs.ring.Ring.{Ops};
 ghost use Rattle.algebra.specs.cells.Cell.{Sym, P2₁2₁2₁, one, friedel, _·_, ops, full, lineSym, xor, flip, shifted, imageOf, pointImage, sgn, impliedValue};
 ghost use Rattle.numbers.specs.Value.{prime, IsModulus, field, conj, valueOf, pairOf, Small};
 ghost use Rattle.cell.specs.Volume.{groupOf};
-ghost use Rattle.cell.specs.Operations.{halvesOf, tripleOf, pointOf, symOf, Length, Within, PointWithin};
+ghost use Rattle.cell.specs.Operations.{cellHalves, tripleOf, pointOf, symOf, Length, Sizes, Within, PointWithin};
+
+// A unit cell as a call knows it: the number of its symmetry group, and the lengths of its three axes.
+pub struct UnitCell {
+    pub group: u32,
+    pub n1: u32,
+    pub n2: u32,
+    pub n3: u32,
+}
 
 // The index of a structure factor, in reciprocal space.
 pub struct Index {
@@ -185,14 +193,14 @@ fn turned(odd: bool, n: u32, x: u32) -> u32
 }
 
 // The image of an index.
-pub fn image(o: Operation, n1: u32, n2: u32, n3: u32, j: Index) -> Index
-    requires { ⌜ Length n1 × Length n2 × Length n3 × Within n1 n2 n3 j ⌝ }
-    ensures { λ r. ⌜ (tripleOf r ≡ imageOf (halvesOf n1 n2 n3) (symOf o) (tripleOf j)) × Within n1 n2 n3 r ⌝ }
+pub fn image(o: Operation, cell: UnitCell, j: Index) -> Index
+    requires { ⌜ Sizes cell × Within cell j ⌝ }
+    ensures { λ r. ⌜ (tripleOf r ≡ imageOf (cellHalves cell) (symOf o) (tripleOf j)) × Within cell r ⌝ }
 {
     Index {
-        h: flipped(o.minus_h, n1, j.h),
-        k: flipped(o.minus_k, n2, j.k),
-        l: flipped(o.minus_l, n3, j.l),
+        h: flipped(o.minus_h, cell.n1, j.h),
+        k: flipped(o.minus_k, cell.n2, j.k),
+        l: flipped(o.minus_l, cell.n3, j.l),
     }
 }
 
@@ -205,14 +213,14 @@ fn moved(conjugate: bool, minus: bool, odd: bool, n: u32, x: u32) -> u32
 }
 
 // The image of a point.
-pub fn point_image(o: Operation, n1: u32, n2: u32, n3: u32, p: Point) -> Point
-    requires { ⌜ Length n1 × Length n2 × Length n3 × PointWithin n1 n2 n3 p ⌝ }
-    ensures { λ r. ⌜ (pointOf r ≡ pointImage (halvesOf n1 n2 n3) (symOf o) (pointOf p)) × PointWithin n1 n2 n3 r ⌝ }
+pub fn point_image(o: Operation, cell: UnitCell, p: Point) -> Point
+    requires { ⌜ Sizes cell × PointWithin cell p ⌝ }
+    ensures { λ r. ⌜ (pointOf r ≡ pointImage (cellHalves cell) (symOf o) (pointOf p)) × PointWithin cell r ⌝ }
 {
     Point {
-        x: moved(o.conjugate, o.minus_h, o.odd_h, n1, p.x),
-        y: moved(o.conjugate, o.minus_k, o.odd_k, n2, p.y),
-        z: moved(o.conjugate, o.minus_l, o.odd_l, n3, p.z),
+        x: moved(o.conjugate, o.minus_h, o.odd_h, cell.n1, p.x),
+        y: moved(o.conjugate, o.minus_k, o.odd_k, cell.n2, p.y),
+        z: moved(o.conjugate, o.minus_l, o.odd_l, cell.n3, p.z),
     }
 }
 

@@ -3,18 +3,19 @@
 use crate::operations;
 use crate::operations::Index;
 use crate::operations::Point;
+use crate::operations::UnitCell;
 use numbers::Pair;
 ghost use mathlib.Core.Path.{_≡_};
-ghost use mathlib.Core.Bool.{true, _&&_, _||_, not, cond};
+ghost use mathlib.Core.Bool.{true, _&&_, _||_, not};
 ghost use Prim.Native.Nat.{_+_, _*_, _-_, _/_, _<_, _≤_, min};
-ghost use lib.Dec.{eqb, leb};
-ghost use Rattle.algebra.specs.cells.Cell.{P1, planes, span, negI, pointImage, pointOperation};
+ghost use lib.Dec.{eqb};
+ghost use Rattle.algebra.specs.cells.Cell.{span, pointImage, pointOperation};
 ghost use Rattle.algebra.specs.cells.CellTests.{storedT};
 ghost use Rattle.algebra.specs.cells.CellPack.{even};
 ghost use Rattle.numbers.specs.Value.{prime, IsModulus, valueOf, pairOf, Small};
-ghost use Rattle.cell.specs.Volume.{groupOf, alternates, rotated, timesI, overI, pairPlace, volumeLength, numbersRead, densityPlace};
-ghost use Rattle.cell.specs.Operations.{halvesOf, tripleOf, pointOf, Length, Sizes, Within, PointWithin};
-ghost use Rattle.cell.specs.Places.{IsRun, lineNumbersAt};
+ghost use Rattle.cell.specs.Volume.{groupOf, alternates, rotated, timesI, overI, layers, volumeLength, pairPlace, numbersRead, densityPlace};
+ghost use Rattle.cell.specs.Operations.{cellGroup, cellHalves, tripleOf, pointOf, Length, Sizes, Within, PointWithin};
+ghost use Rattle.cell.specs.Places.{IsRun, storedColumn, lineNumbersAt};
 
 // Neighbouring numbers of a volume.
 pub struct Run {
@@ -62,42 +63,46 @@ pub fn without_i(m: u32, group: u32, h: u32, x: Pair) -> Pair
 }
 
 // The paper's W: how many planes of the map are stored.
-pub fn layer_count(group: u32, n3: u32) -> u32
-    requires { ⌜ (group < 5) × Length n3 ⌝ }
-    ensures { λ r. ⌜ r ≡ planes (groupOf group) (n3 / 2) ⌝ }
+pub fn layer_count(cell: UnitCell) -> u32
+    requires { ⌜ Sizes cell ⌝ }
+    ensures { λ r. ⌜ r ≡ layers (cellGroup cell) (cellHalves cell) ⌝ }
 {
-    if group == 0 {
-        n3
-    } else if is_alternating(group) {
-        n3 / 2
+    if cell.group == 0 {
+        cell.n3
+    } else if is_alternating(cell.group) {
+        cell.n3 / 2
     } else {
-        n3 / 2 + 1
+        cell.n3 / 2 + 1
     }
 }
 
 // How many of the factors along l are stored: in an alternating line, l = 0 and l = A share a pair.
-pub fn stored_count(group: u32, n3: u32) -> u32
-    requires { ⌜ (group < 5) × Length n3 ⌝ }
-    ensures { λ r. ⌜ r ≡ span (groupOf group) (n3 / 2) ⌝ }
+pub fn stored_count(cell: UnitCell) -> u32
+    requires { ⌜ Sizes cell ⌝ }
+    ensures { λ r. ⌜ r ≡ span (cellGroup cell) (cell .n3 / 2) ⌝ }
 {
-    if group == 0 { n3 } else { n3 / 2 + 1 }
+    if cell.group == 0 {
+        cell.n3
+    } else {
+        cell.n3 / 2 + 1
+    }
 }
 
-// The place of the pair w of (h, k). It depends on neither the group nor the third axis.
-pub fn pair_place(n1: u32, n2: u32, w: u32, h: u32, k: u32) -> usize
-    requires { ⌜ Length n1 × Length n2 × (w ≤ 2880) × (h ≤ 2880) × (k ≤ 2880) ⌝ }
-    ensures { λ r. ⌜ (r ≡ pairPlace P1 (halvesOf n1 n2 0) w h k) × (r ≤ 12000000000) ⌝ }
+// The place of the pair w of (h, k).
+pub fn pair_place(cell: UnitCell, w: u32, h: u32, k: u32) -> usize
+    requires { ⌜ Sizes cell × (w ≤ 2880) × (h ≤ 2880) × (k ≤ 2880) ⌝ }
+    ensures { λ r. ⌜ (r ≡ pairPlace (cellGroup cell) (cellHalves cell) w h k) × (r ≤ 12000000000) ⌝ }
 {
-    let row = (w as usize) * (n1 as usize) + (h as usize);
-    row * ((n2 / 2 + 1) as usize) + (k as usize)
+    let row = (w as usize) * (cell.n1 as usize) + (h as usize);
+    row * ((cell.n2 / 2 + 1) as usize) + (k as usize)
 }
 
 // The factor at j has a place of its own in the volume.
-pub fn is_stored(group: u32, n2: u32, n3: u32, j: Index) -> bool
-    requires { ⌜ (group < 5) × Length n3 ⌝ }
-    ensures { λ r. ⌜ r ≡ storedT (groupOf group) (halvesOf 0 n2 n3) (tripleOf j) ⌝ }
+pub fn is_stored(cell: UnitCell, j: Index) -> bool
+    requires { ⌜ Sizes cell ⌝ }
+    ensures { λ r. ⌜ r ≡ storedT (cellGroup cell) (cellHalves cell) (tripleOf j) ⌝ }
 {
-    (j.k <= n2 / 2) & (j.l < stored_count(group, n3))
+    (j.k <= cell.n2 / 2) & (j.l < stored_count(cell))
 }
 
 // l is an end of the half line: its own negative.
@@ -108,10 +113,10 @@ pub fn is_end(n3: u32, l: u32) -> bool
 }
 
 // The factor at j is zero by the group's rule and stands nowhere: an end of an antisymmetric line.
-pub fn is_absent(group: u32, n3: u32, j: Index) -> bool
-    ensures { λ r. ⌜ r ≡ (eqb group 3 && (not (even (j .h)) && (eqb (j .l) 0 || eqb (j .l) (n3 / 2)))) ⌝ }
+pub fn is_absent(cell: UnitCell, j: Index) -> bool
+    ensures { λ r. ⌜ r ≡ (eqb (cell .group) 3 && (not (even (j .h)) && (eqb (j .l) 0 || eqb (j .l) (cell .n3 / 2)))) ⌝ }
 {
-    (group == 3) & ((j.h % 2 != 0) & is_end(n3, j.l))
+    (cell.group == 3) & ((j.h % 2 != 0) & is_end(cell.n3, j.l))
 }
 
 // l or -l, whichever is in the first half.
@@ -123,40 +128,40 @@ pub fn folded(n3: u32, l: u32) -> u32
 }
 
 // j if its k is stored, else its Friedel mate: the index whose line the factor at j is read from.
-pub fn stored_column(n1: u32, n2: u32, n3: u32, j: Index) -> Index
-    requires { ⌜ Length n1 × Length n2 × Length n3 × Within n1 n2 n3 j ⌝ }
-    ensures { λ r. ⌜ (tripleOf r ≡ cond (leb (j .k) (n2 / 2)) (tripleOf j) (negI (n1 / 2) (j .h), negI (n2 / 2) (j .k), negI (n3 / 2) (j .l))) × Within n1 n2 n3 r × (r .k ≤ n2 / 2) ⌝ }
+pub fn stored_column(cell: UnitCell, j: Index) -> Index
+    requires { ⌜ Sizes cell × Within cell j ⌝ }
+    ensures { λ r. ⌜ (tripleOf r ≡ storedColumn (cellHalves cell) (tripleOf j)) × Within cell r × (r .k ≤ cell .n2 / 2) ⌝ }
 {
-    if j.k <= n2 / 2 {
+    if j.k <= cell.n2 / 2 {
         j
     } else {
         Index {
-            h: operations::flipped(true, n1, j.h),
-            k: operations::flipped(true, n2, j.k),
-            l: operations::flipped(true, n3, j.l),
+            h: operations::flipped(true, cell.n1, j.h),
+            k: operations::flipped(true, cell.n2, j.k),
+            l: operations::flipped(true, cell.n3, j.l),
         }
     }
 }
 
 // The two numbers of the pair w of (h, k).
-fn pair_numbers(n1: u32, n2: u32, w: u32, h: u32, k: u32) -> Run
-    requires { ⌜ Length n1 × Length n2 × (w ≤ 2880) × (h ≤ 2880) × (k ≤ 2880) ⌝ }
-    ensures { λ r. ⌜ (r .first ≡ 2 * pairPlace P1 (halvesOf n1 n2 0) w h k) × (r .count ≡ 2) ⌝ }
+fn pair_numbers(cell: UnitCell, w: u32, h: u32, k: u32) -> Run
+    requires { ⌜ Sizes cell × (w ≤ 2880) × (h ≤ 2880) × (k ≤ 2880) ⌝ }
+    ensures { λ r. ⌜ (r .first ≡ 2 * pairPlace (cellGroup cell) (cellHalves cell) w h k) × (r .count ≡ 2) ⌝ }
 {
     Run {
-        first: 2 * pair_place(n1, n2, w, h, k),
+        first: 2 * pair_place(cell, w, h, k),
         count: 2,
     }
 }
 
 // The numbers at the ends l = 0 and l = A of a line that is stored by half: one in an alternating line, none in an
 // antisymmetric one.
-fn end_numbers(group: u32, n1: u32, n2: u32, n3: u32, j: Index) -> Run
-    requires { ⌜ Sizes group n1 n2 n3 × Within n1 n2 n3 j × (j .k ≤ n2 / 2) × (group ≡ 0 → ⊥) × ((eqb (j .l) 0 || eqb (j .l) (n3 / 2)) ≡ true) ⌝ }
-    ensures { λ r. ⌜ IsRun (volumeLength (groupOf group) (halvesOf n1 n2 n3)) (lineNumbersAt (groupOf group) (halvesOf n1 n2 n3) (tripleOf j)) r ⌝ }
+fn end_numbers(cell: UnitCell, j: Index) -> Run
+    requires { ⌜ Sizes cell × Within cell j × (j .k ≤ cell .n2 / 2) × (cell .group ≡ 0 → ⊥) × ((eqb (j .l) 0 || eqb (j .l) (cell .n3 / 2)) ≡ true) ⌝ }
+    ensures { λ r. ⌜ IsRun (volumeLength (cellGroup cell) (cellHalves cell)) (lineNumbersAt (cellGroup cell) (cellHalves cell) (tripleOf j)) r ⌝ }
 {
-    if is_alternating(group) {
-        let place = 2 * pair_place(n1, n2, 0, j.h, j.k);
+    if is_alternating(cell.group) {
+        let place = 2 * pair_place(cell, 0, j.h, j.k);
         if j.l == 0 {
             Run {
                 first: place,
@@ -168,57 +173,58 @@ fn end_numbers(group: u32, n1: u32, n2: u32, n3: u32, j: Index) -> Run
                 count: 1,
             }
         }
-    } else if group == 3 {
+    } else if cell.group == 3 {
         if j.h % 2 == 0 {
-            pair_numbers(n1, n2, j.l, j.h, j.k)
+            pair_numbers(cell, j.l, j.h, j.k)
         } else {
             Run { first: 0, count: 0 }
         }
     } else {
-        pair_numbers(n1, n2, j.l, j.h, j.k)
+        pair_numbers(cell, j.l, j.h, j.k)
     }
 }
 
 // The numbers of the line (h, k) that the factor at l is read from.
-fn line_numbers(group: u32, n1: u32, n2: u32, n3: u32, j: Index) -> Run
-    requires { ⌜ Sizes group n1 n2 n3 × Within n1 n2 n3 j × (j .k ≤ n2 / 2) ⌝ }
-    ensures { λ r. ⌜ IsRun (volumeLength (groupOf group) (halvesOf n1 n2 n3)) (lineNumbersAt (groupOf group) (halvesOf n1 n2 n3) (tripleOf j)) r ⌝ }
+fn line_numbers(cell: UnitCell, j: Index) -> Run
+    requires { ⌜ Sizes cell × Within cell j × (j .k ≤ cell .n2 / 2) ⌝ }
+    ensures { λ r. ⌜ IsRun (volumeLength (cellGroup cell) (cellHalves cell)) (lineNumbersAt (cellGroup cell) (cellHalves cell) (tripleOf j)) r ⌝ }
 {
-    if group == 0 {
-        pair_numbers(n1, n2, j.l, j.h, j.k)
-    } else if is_end(n3, j.l) {
-        end_numbers(group, n1, n2, n3, j)
+    if cell.group == 0 {
+        pair_numbers(cell, j.l, j.h, j.k)
+    } else if is_end(cell.n3, j.l) {
+        end_numbers(cell, j)
     } else {
-        pair_numbers(n1, n2, folded(n3, j.l), j.h, j.k)
+        pair_numbers(cell, folded(cell.n3, j.l), j.h, j.k)
     }
 }
 
 // The numbers that the factor at j is read from.
-pub fn factor_numbers(group: u32, n1: u32, n2: u32, n3: u32, j: Index) -> Run
-    requires { ⌜ Sizes group n1 n2 n3 × Within n1 n2 n3 j ⌝ }
-    ensures { λ r. ⌜ IsRun (volumeLength (groupOf group) (halvesOf n1 n2 n3)) (numbersRead (groupOf group) (halvesOf n1 n2 n3) (tripleOf j)) r ⌝ }
+pub fn factor_numbers(cell: UnitCell, j: Index) -> Run
+    requires { ⌜ Sizes cell × Within cell j ⌝ }
+    ensures { λ r. ⌜ IsRun (volumeLength (cellGroup cell) (cellHalves cell)) (numbersRead (cellGroup cell) (cellHalves cell) (tripleOf j)) r ⌝ }
 {
-    line_numbers(group, n1, n2, n3, stored_column(n1, n2, n3, j))
+    line_numbers(cell, stored_column(cell, j))
 }
 
 // The point itself if its plane is stored, else its image under the group's first operation but the identity.
-fn stored_point(group: u32, n1: u32, n2: u32, n3: u32, p: Point) -> Point
-    requires { ⌜ Sizes group n1 n2 n3 × PointWithin n1 n2 n3 p ⌝ }
-    ensures { λ r. ⌜ (pointOf r ≡ pointImage (halvesOf n1 n2 n3) (pointOperation (groupOf group) (halvesOf n1 n2 n3) (pointOf p)) (pointOf p)) × PointWithin n1 n2 n3 r ⌝ }
+fn stored_point(cell: UnitCell, p: Point) -> Point
+    requires { ⌜ Sizes cell × PointWithin cell p ⌝ }
+    ensures { λ r. ⌜ pointOf r ≡ pointImage (cellHalves cell) (pointOperation (cellGroup cell) (cellHalves cell) (pointOf p)) (pointOf p) ⌝ }
+    ensures { λ r. ⌜ PointWithin cell r ⌝ }
 {
-    if p.z < layer_count(group, n3) {
+    if p.z < layer_count(cell) {
         p
     } else {
-        let other = operations::group_operation(group, 1);
-        operations::point_image(other, n1, n2, n3, p)
+        let other = operations::group_operation(cell.group, 1);
+        operations::point_image(other, cell, p)
     }
 }
 
 // The place of a point's number.
-pub fn density_place(group: u32, n1: u32, n2: u32, n3: u32, p: Point) -> usize
-    requires { ⌜ Sizes group n1 n2 n3 × PointWithin n1 n2 n3 p ⌝ }
-    ensures { λ r. ⌜ (r ≡ densityPlace (groupOf group) (halvesOf n1 n2 n3) (pointOf p)) × (r < volumeLength (groupOf group) (halvesOf n1 n2 n3)) ⌝ }
+pub fn density_place(cell: UnitCell, p: Point) -> usize
+    requires { ⌜ Sizes cell × PointWithin cell p ⌝ }
+    ensures { λ r. ⌜ (r ≡ densityPlace (cellGroup cell) (cellHalves cell) (pointOf p)) × (r < volumeLength (cellGroup cell) (cellHalves cell)) ⌝ }
 {
-    let q = stored_point(group, n1, n2, n3, p);
-    2 * pair_place(n1, n2, q.z, q.x, 0) + (q.y as usize)
+    let q = stored_point(cell, p);
+    2 * pair_place(cell, q.z, q.x, 0) + (q.y as usize)
 }

@@ -12,10 +12,12 @@ use Rattle.algebra.specs.cells.CellTests.{lineFrom, planeFrom, cellFrom, places
 use Rattle.numbers.specs.declared.Pair.{Pair}
 use Rattle.numbers.specs.Value.{prime, Value, value}
 use Rattle.slices.specs.Pairs.{Below}
-use Rattle.cell.specs.Volume.{groupOf, factorsIn}
+use Rattle.cell.specs.Volume.{factorsIn}
 use Rattle.cell.specs.declared.operations.Index.{Index}
-use Rattle.cell.specs.Operations.{halvesOf, tripleOf}
+use Rattle.cell.specs.declared.operations.UnitCell.{UnitCell}
+use Rattle.cell.specs.Operations.{cellGroup, cellHalves, tripleOf}
 use Rattle.cell.specs.TestSteps.{IsVolume}
+use Rattle.header.specs.Header.{Header}
 use Rattle.output.specs.Output.{bigEndian}
 use Rattle.file_format.specs.Format.{fileOf, headerWith}
 
@@ -30,11 +32,11 @@ filed count file output =
     (record { answer = written (length file); output = file ++ drop (length file) output })
     (λ n. record { answer = notWritten n; output = output })
 
--- ---- The file step by step: what its functions are lent, the record of one place, and the file by the numbers of a job.
+-- ---- The file step by step: what its functions are lent, the record of one place, and the file by the cell and the factor lists of a job.
 
--- a volume of residues, as long as group and axes ask for
-pub record IsFactors (group n1 n2 n3 : ℕ) (v : List ℕ) : Type 0 where
-  pub volume : IsVolume group n1 n2 n3 v
+-- a volume of residues, as long as its cell asks for
+pub record IsFactors (c : UnitCell) (v : List ℕ) : Type 0 where
+  pub volume : IsVolume c v
   pub small : Below (prime 1) v
 
 -- the factor at the lowest place of an orbit; elsewhere zero, which no record has
@@ -42,21 +44,36 @@ unfoldable pub recordValue : Group → J → List ℕ → J → Value 1
 recordValue g a v j = cond (isLowest g a j) (at (factorsIn g a 1 v) j) (value 1 0 0)
 
 -- the places of the cell from j on, rising in h, then k, then l: the rest of its line, of its plane, and of the cell
-unfoldable pub placesFrom : (n1 n2 n3 : ℕ) → J → List J
-placesFrom n1 n2 n3 j = cond (ltb (j .0) n1) (lineFrom (j .0) (j .1) (j .2) (n3 - j .2) ++ (planeFrom n3 (j .0) (suc (j .1)) (n2 - suc (j .1)) ++ cellFrom n3 n2 (suc (j .0)) (n1 - suc (j .0)))) []
+unfoldable pub placesFrom : UnitCell → J → List J
+placesFrom c j =
+    cond (ltb (j .0) (c .n1))
+    (lineFrom (j .0) (j .1) (j .2) (c .n3 - j .2) ++ (planeFrom (c .n3) (j .0) (suc (j .1)) (c .n2 - suc (j .1)) ++ cellFrom (c .n3) (c .n2) (suc (j .0)) (c .n1 - suc (j .0))))
+    []
 
 -- r is the place after j
-pub record Next (n1 n2 n3 : ℕ) (j r : Index) : Type 0 where
-  pub left : placesFrom n1 n2 n3 (tripleOf j) ≡ tripleOf j ∷ placesFrom n1 n2 n3 (tripleOf r)
-  pub k : r .k < n2
-  pub l : r .l < n3
+pub record Next (c : UnitCell) (j r : Index) : Type 0 where
+  pub left : placesFrom c (tripleOf j) ≡ tripleOf j ∷ placesFrom c (tripleOf r)
+  pub k : r .k < c .n2
+  pub l : r .l < c .n3
 
 -- the bytes of a record by its numbers
 abbrev pub pairBytes : J → Pair → List ℕ
 pairBytes j x = bigEndian 2 (j .0) ++ bigEndian 2 (j .1) ++ bigEndian 2 (j .2) ++ bigEndian 4 (x .re) ++ bigEndian 4 (x .im)
 
-abbrev pub recordsWith : (group n1 n2 n3 : ℕ) → List ℕ → List (J × Value 1)
-recordsWith group n1 n2 n3 v = recordsAt (groupOf group) (halvesOf n1 n2 n3) v (placesOf (halvesOf n1 n2 n3))
+-- the record of one place, where it has one, and the records of the cell
+abbrev pub placeRecords : UnitCell → List ℕ → J → List (J × Value 1)
+placeRecords c v j = recordsAt (cellGroup c) (cellHalves c) v (j ∷ [])
 
-abbrev pub fileWith : (group n1 n2 n3 f1 f2 f3 : ℕ) → List ℕ → List ℕ
-fileWith group n1 n2 n3 f1 f2 f3 v = fileOf (headerWith group n1 n2 n3 f1 f2 f3) (recordsWith group n1 n2 n3 v)
+abbrev pub recordsWith : UnitCell → List ℕ → List (J × Value 1)
+recordsWith c v = recordsAt (cellGroup c) (cellHalves c) v (placesOf (cellHalves c))
+
+-- the header and the file of a cell and three factor lists as octal digits
+abbrev pub headerFor : UnitCell → (f1 f2 f3 : ℕ) → Header
+headerFor c f1 f2 f3 = headerWith (c .group) (c .n1) (c .n2) (c .n3) f1 f2 f3
+
+abbrev pub fileWith : UnitCell → (f1 f2 f3 : ℕ) → List ℕ → List ℕ
+fileWith c f1 f2 f3 v = fileOf (headerFor c f1 f2 f3) (recordsWith c v)
+
+-- and what is left to do with it
+abbrev pub filedWith : UnitCell → (f1 f2 f3 : ℕ) → (v output : List ℕ) → WriteOutcome
+filedWith c f1 f2 f3 v output = filed (length (recordsWith c v)) (fileWith c f1 f2 f3 v) output

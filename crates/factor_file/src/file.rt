@@ -4,6 +4,7 @@
 pub mod head; // head.rt: version, group, lengths and factor lists
 pub mod records; // records.rt: the records of a volume, counted and written
 
+use cell::operations::UnitCell;
 use output::big_endian;
 ghost use mathlib.Core.Path.{_≡_};
 ghost use Prim.Native.Nat.{_≤_};
@@ -13,10 +14,7 @@ ghost use Rattle.factor_file.specs.Steps.{IsFactors, recordsWith, fileWi
 
 // The file, of count records.
 pub fn put_file(
-    group: u32,
-    n1: u32,
-    n2: u32,
-    n3: u32,
+    cell: UnitCell,
     f1: u32,
     f2: u32,
     f3: u32,
@@ -24,13 +22,13 @@ pub fn put_file(
     volume: &[u32],
     out: &mut [u8],
 ) -> usize
-    requires { ⌜ IsFactors group n1 n2 n3 (now volume) × (length (now volume) ≤ 16777216) ⌝ }
-    requires { ⌜ count ≡ length (recordsWith group n1 n2 n3 (now volume)) ⌝ }
-    ensures { λ r. ⌜ Wrote 0 (fileWith group n1 n2 n3 f1 f2 f3 (now (volume .entry))) (now (out .entry)) r (now (out .exit)) ⌝ }
+    requires { ⌜ IsFactors cell (now volume) × (length (now volume) ≤ 16777216) ⌝ }
+    requires { ⌜ count ≡ length (recordsWith cell (now volume)) ⌝ }
+    ensures { λ r. ⌜ Wrote 0 (fileWith cell f1 f2 f3 (now (volume .entry))) (now (out .entry)) r (now (out .exit)) ⌝ }
 {
     let follow = file_format::layout::file_length(f1, f2, f3, count) - 4;
     let first = big_endian::put_four(out, 0, follow as u32);
-    let second = head::put_header(group, n1, n2, n3, f1, f2, f3, out, first);
+    let second = head::put_header(cell, f1, f2, f3, out, first);
     let third = big_endian::put_four(out, second, count as u32);
-    records::put_records(group, n1, n2, n3, volume, out, third)
+    records::put_records(cell, volume, out, third)
 }

@@ -3,10 +3,10 @@
 // A place is the lowest of its orbit if it comes no later than any of its images.
 use cell::operations;
 use cell::operations::Index;
+use cell::operations::UnitCell;
 ghost use mathlib.Core.Path.{_≡_};
 ghost use Rattle.algebra.specs.cells.CellTests.{lexLe};
-ghost use Rattle.cell.specs.Volume.{groupOf};
-ghost use Rattle.cell.specs.Operations.{halvesOf, tripleOf, Sizes, Within};
+ghost use Rattle.cell.specs.Operations.{cellGroup, cellHalves, tripleOf, Sizes, Within};
 ghost use Rattle.factor_file.specs.Writing.{isLowest};
 
 // i comes no later than j in the order h, k, l.
@@ -17,15 +17,15 @@ fn no_later(i: Index, j: Index) -> bool
 }
 
 // No image of j comes before it. The first operation leaves j where it is, and need not be tried.
-pub fn lowest(group: u32, n1: u32, n2: u32, n3: u32, j: Index) -> bool
-    requires { ⌜ Sizes group n1 n2 n3 × Within n1 n2 n3 j ⌝ }
-    ensures { λ r. ⌜ r ≡ isLowest (groupOf group) (halvesOf n1 n2 n3) (tripleOf j) ⌝ }
+pub fn lowest(cell: UnitCell, j: Index) -> bool
+    requires { ⌜ Sizes cell × Within cell j ⌝ }
+    ensures { λ r. ⌜ r ≡ isLowest (cellGroup cell) (cellHalves cell) (tripleOf j) ⌝ }
 {
-    let count = operations::operation_count(group);
+    let count = operations::operation_count(cell.group);
     let mut number = 1;
     while number < count {
-        let o = operations::operation_at(group, number);
-        if no_later(j, operations::image(o, n1, n2, n3, j)) {
+        let o = operations::operation_at(cell.group, number);
+        if no_later(j, operations::image(o, cell, j)) {
             number += 1;
         } else {
             return false;

@@ -13,10 +13,11 @@ use Rattle.refusals.specs.Refusals.{first, _⇒_}
 use Rattle.refusals.proofs.Tests.{both, stop, pass, none, not-t, Passed, passed}
 use Rattle.lengths.specs.Admitted.{AdmittedLength, FactorList}
 use Rattle.lengths.proofs.AdmittedLengths.{admitted-length, factor-list}
-use Rattle.cell.specs.Operations.{halvesOf, Length, Sizes}
-use Rattle.cell.specs.Volume.{groupOf, volumeLength}
+use Rattle.cell.specs.declared.operations.UnitCell.{UnitCell}
+use Rattle.cell.specs.Operations.{cellGroup, cellHalves, Length, Sizes}
+use Rattle.cell.specs.Volume.{volumeLength}
 use Rattle.cell.proofs.StoredFactors.{layers-most}
-use Rattle.header.specs.Header.{Header, volumeLimit, needed, axisTests}
+use Rattle.header.specs.Header.{Header, headerCell, volumeLimit, needed, axisTests}
 
 -- ---- three tests together
 
@@ -56,9 +57,9 @@ products-may n1 n2 n3 f1 f2 f3 e f =
     let b = all-three (factorsOk f1) (factorsOk f2) (factorsOk f3) f in
     ((b .0, half-small n1 (a .0)), (b .1, half-small n2 (a .1)), (b .2, half-small n3 (a .2)))
 
-pub sizes-of : {group n1 n2 n3 : ℕ} → group < 5 → (admitted n1 && (admitted n2 && admitted n3)) ≡ true → Sizes group n1 n2 n3
-sizes-of {n1 = n1} {n2} {n3} k e =
-    let h = all-three (admitted n1) (admitted n2) (admitted n3) e in
+pub sizes-of : {cell : UnitCell} → cell .group < 5 → (admitted (cell .n1) && (admitted (cell .n2) && admitted (cell .n3))) ≡ true → Sizes cell
+sizes-of {cell} k e =
+    let h = all-three (admitted (cell .n1)) (admitted (cell .n2)) (admitted (cell .n3)) e in
     record { known = k; first = length-of _ (h .0); second = length-of _ (h .1); third = length-of _ (h .2) }
 
 -- ---- what is known of a header that no test refuses
@@ -74,7 +75,7 @@ module _ (h : Header) (none : 0 ≡ first (axisTests h)) where
   tests : Passed (axisTests h)
   tests = passed (axisTests h) tt none
 
-  pub sound-sizes : h .group < 5 → Sizes (h .group) (h .lengths .0) (h .lengths .1) (h .lengths .2)
+  pub sound-sizes : h .group < 5 → Sizes (headerCell h)
   sound-sizes k = sizes-of k (not-false _ (tests .0))
 
   -- each length is admitted, and each list is one of its half
@@ -139,7 +140,7 @@ module _ (h : Header) where
       let z = all-three (eqb (product (h .list1)) (h .lengths .0 / 2)) (eqb (product (h .list2)) (h .lengths .1 / 2)) (eqb (product (h .list3)) (h .lengths .2 / 2)) q in
       three (three (x .0) (y .0) (z .0)) (three (x .1) (y .1) (z .1)) (three (x .2) (y .2) (z .2))
 
-  pub axes-sizes : h .group < 5 → axes ≡ true → Sizes (h .group) (h .lengths .0) (h .lengths .1) (h .lengths .2)
+  pub axes-sizes : h .group < 5 → axes ≡ true → Sizes (headerCell h)
   axes-sizes k e = sizes-of k (axes-tests e .0)
 
   -- with its axes valid a header is refused for its volume alone
@@ -156,28 +157,28 @@ module _ (h : Header) where
 
 -- ---- the volume
 
-pub layers-small : {group n1 n2 n3 layers : ℕ} → Sizes group n1 n2 n3 → layers ≡ planes (groupOf group) (n3 / 2) → layers * n1 ≤ 8294400
+pub layers-small : {cell : UnitCell} {layers : ℕ} → Sizes cell → layers ≡ planes (cellGroup cell) (cell .n3 / 2) → layers * cell .n1 ≤ 8294400
 layers-small s e = omega (arith, mul-le-mul (bound s e) (s .first .high))
   where
-    bound : {group n1 n2 n3 layers : ℕ} → Sizes group n1 n2 n3 → layers ≡ planes (groupOf group) (n3 / 2) → layers ≤ 2880
-    bound {group} s e = omega (arith, e, layers-most (s .third) group (s .known), s .third .high)
+    bound : {cell : UnitCell} {layers : ℕ} → Sizes cell → layers ≡ planes (cellGroup cell) (cell .n3 / 2) → layers ≤ 2880
+    bound {cell} s e = omega (arith, e, layers-most (s .third) (cell .group) (s .known), s .third .high)
 
-pub volume-small : {group n1 n2 n3 layers : ℕ} → Sizes group n1 n2 n3 → layers ≡ planes (groupOf group) (n3 / 2) → layers * n1 * (n2 / 2 + 1) ≤ 12000000000
-volume-small {n2 = n2} s e =
-    let half : n2 / 2 + 1 ≤ 1441 = omega (arith, s .second .high) in
+pub volume-small : {cell : UnitCell} {layers : ℕ} → Sizes cell → layers ≡ planes (cellGroup cell) (cell .n3 / 2) → layers * cell .n1 * (cell .n2 / 2 + 1) ≤ 12000000000
+volume-small {cell} s e =
+    let half : cell .n2 / 2 + 1 ≤ 1441 = omega (arith, s .second .high) in
     omega (arith, mul-le-mul (layers-small s e) half)
 
-pub volume-is : {group n1 n2 n3 layers : ℕ} → Sizes group n1 n2 n3 → layers ≡ planes (groupOf group) (n3 / 2) →
-    2 * (layers * n1 * (n2 / 2 + 1)) ≡ volumeLength (groupOf group) (halvesOf n1 n2 n3)
-volume-is {n1 = n1} {n2} s e =
-    let twice : n1 ≡ 2 * (n1 / 2) = omega (arith, s .first .even) in
-    let next : n2 / 2 + 1 ≡ suc (n2 / 2) = omega arith in
+pub volume-is : {cell : UnitCell} {layers : ℕ} → Sizes cell → layers ≡ planes (cellGroup cell) (cell .n3 / 2) →
+    2 * (layers * cell .n1 * (cell .n2 / 2 + 1)) ≡ volumeLength (cellGroup cell) (cellHalves cell)
+volume-is {cell} s e =
+    let twice : cell .n1 ≡ 2 * (cell .n1 / 2) = omega (arith, s .first .even) in
+    let next : cell .n2 / 2 + 1 ≡ suc (cell .n2 / 2) = omega arith in
     λ i. 2 * (e i * twice i * next i)
 
 -- a place of the volume is a number of a machine word, in bytes too
-pub place-small : {group n1 n2 n3 : ℕ} (q : ℕ) → Sizes group n1 n2 n3 → q < volumeLength (groupOf group) (halvesOf n1 n2 n3) → q < 24000000000
-place-small {group} {n1} {n2} {n3} q s l =
-    let e = volume-is {layers = planes (groupOf group) (n3 / 2)} s refl in
-    let b = volume-small {layers = planes (groupOf group) (n3 / 2)} s refl in
-    let k : q < 2 * (planes (groupOf group) (n3 / 2) * n1 * (n2 / 2 + 1)) = subst (λ (m : ℕ). q < m) (sym e) l in
+pub place-small : {cell : UnitCell} (q : ℕ) → Sizes cell → q < volumeLength (cellGroup cell) (cellHalves cell) → q < 24000000000
+place-small {cell} q s l =
+    let e = volume-is {layers = planes (cellGroup cell) (cell .n3 / 2)} s refl in
+    let b = volume-small {layers = planes (cellGroup cell) (cell .n3 / 2)} s refl in
+    let k : q < 2 * (planes (cellGroup cell) (cell .n3 / 2) * cell .n1 * (cell .n2 / 2 + 1)) = subst (λ (m : ℕ). q < m) (sym e) l in
     omega (arith, k, b)

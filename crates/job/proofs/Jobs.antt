@@ -9,9 +9,10 @@ use Rattle.refusals.specs.Refusals.{first}
 use Rattle.lengths.specs.Admitted.{FactorList}
 use Rattle.refusals.proofs.Tests.{by-true, by-false}
 use Rattle.lengths.proofs.Factors.{octal-digits}
+use Rattle.cell.specs.declared.operations.UnitCell.{UnitCell}
 use Rattle.cell.specs.Operations.{Sizes}
 use Rattle.volume_transform.specs.Axes.{JobSizes}
-use Rattle.job.specs.Job.{Header, axisTests, jobOf, headerOf, withState, validJob}
+use Rattle.job.specs.Job.{Header, axisTests, jobOf, jobCell, headerOf, withState, validJob}
 use Rattle.job.specs.declared.Job.{Job}
 use Rattle.header.proofs.Headers.{all-three, sound-sizes, sound-axes, sound-lists}
 use Rattle.header.proofs.Digits.{octal-of-digits}
@@ -55,11 +56,14 @@ module _ (j : Job) where
       λ i. (t .0) i && ((t .1) i && u i)
 
   -- the sizes of a valid job
-  pub valid-sizes : validJob j ≡ true → Sizes (j .group) (j .a .length) (j .b .length) (j .c .length)
+  pub valid-sizes : validJob j ≡ true → Sizes (jobCell j)
   valid-sizes e = let t = valid-parts e in sound-sizes (headerOf j) (t .1) (t .0)
 
+  pub cell-sizes : {cell : UnitCell} → cell ≡ jobCell j → validJob j ≡ true → Sizes cell
+  cell-sizes e v = subst Sizes (sym e) (valid-sizes v)
+
   -- .. and what its lines are lent
-  pub valid-job-sizes : validJob j ≡ true → JobSizes (j .group) (j .a .length) (j .b .length) (j .c .length) (j .a .factors) (j .b .factors) (j .c .factors)
+  pub valid-job-sizes : validJob j ≡ true → JobSizes (jobCell j) (j .a .factors) (j .b .factors) (j .c .factors)
   valid-job-sizes e =
       let s = sound-axes (headerOf j) (valid-parts e .1) in
       record {

@@ -1,13 +1,15 @@
 -- The job: what an opening makes of a header, which jobs an opening or a later call could have made (refusal 25), and what each call answers and leaves.
 -- The tests of the calls, in the paper's order of refusals, are those of Tests, put to a job's numbers here.
-pub use Rattle.header.specs.Header.{Header, halfLengths, volumeLimit, needed, axisTests, collecting, factorsHeld, mapHeld}
+pub use Rattle.header.specs.Header.{Header, cellHeader, halfLengths, volumeLimit, needed, axisTests, collecting, factorsHeld, mapHeld}
 use mathlib.Core.Bool.{Bool, _&&_, cond}
-use Prim.Native.Nat.{ℕ, _/_}
+use Prim.Native.Nat.{ℕ}
 use lib.Dec.{ltb, eqb}
 use Rattle.algebra.specs.cells.Cell.{J, Group, at}
 use Rattle.lengths.specs.Lengths.{octal, octalDigits, cleared}
 use Rattle.refusals.specs.Refusals.{first, Test, accepted, numberOf}
-use Rattle.cell.specs.Volume.{groupOf, volumeLength, factorsIn, packFactors, densityPlace, mapIn, packMap, mapOf, factorsOf}
+use Rattle.cell.specs.Volume.{volumeLength, factorsIn, packFactors, densityPlace, mapIn, packMap, mapOf, factorsOf}
+use Rattle.cell.specs.declared.operations.UnitCell.{UnitCell}
+use Rattle.cell.specs.Operations.{cellGroup, cellHalves}
 use Rattle.job.specs.declared.Job.{Job}
 pub use Rattle.job.specs.Tests.{p, asLong, volumeTests, openTests, within, synthesisTestsOf, analysisTestsOf, recordTestsOf, pointTestsOf, factorTestsOf}
 use mathlib.Core.List.{List}
@@ -51,11 +53,15 @@ withState j s = record { group = j .group; a = j .a; b = j .b; c = j .c; state =
 unfoldable pub validJob : Job → Bool
 validJob j = ltb (j .group) 5 && (eqb (first (axisTests (headerOf j))) 0 && ltb (j .state) 3)
 
+-- a job's unit cell, the cell's group, and the halves of its lengths
+abbrev pub jobCell : Job → UnitCell
+jobCell j = record { group = j .group; n1 = j .a .length; n2 = j .b .length; n3 = j .c .length }
+
 abbrev pub groupIn : Job → Group
-groupIn j = groupOf (j .group)
+groupIn j = cellGroup (jobCell j)
 
 abbrev pub halves : Job → J
-halves j = (j .a .length / 2, j .b .length / 2, j .c .length / 2)
+halves j = cellHalves (jobCell j)
 
 -- ---- the calls: what each answers and leaves, for every input
 

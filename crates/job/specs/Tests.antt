@@ -4,14 +4,14 @@ use mathlib.Core.List.{List, [], _∷_, _++_}
 use Prim.Native.Nat.{ℕ}
 use lib.ListN.{length, getD}
 use lib.Dec.{ltb, leb, eqb}
-use Rattle.algebra.specs.cells.CellTests.{every}
-use Rattle.algebra.specs.cells.Cell.{J}
-use Rattle.numbers.specs.Value.{prime, value}
+use Rattle.algebra.specs.cells.CellTests.{every, imply}
+use Rattle.algebra.specs.cells.Cell.{J, Sym, sameJ, imageOf, impliedValue}
+use Rattle.numbers.specs.Value.{prime, Value, field, conj, value}
 use Rattle.slices.specs.Pairs.{allBelow}
 use Rattle.refusals.specs.Refusals.{Test, _⇒_}
 use Rattle.lengths.specs.Lengths.{scratchLength}
 use Rattle.cell.specs.Volume.{groupOf, volumeLength, numbersRead, densityPlace}
-use Rattle.cell.specs.Consistency.{consistentFactors, consistentMap, agreesWithItself, orbitFree}
+use Rattle.cell.specs.Consistency.{sameValue, consistentFactors, consistentMap, agreesWithItself, orbitFree}
 use Rattle.header.specs.Header.{Header, halfLengths, axisTests, mapHeld, collecting}
 
 abbrev pub p : ℕ
@@ -72,6 +72,10 @@ analysisTestsOf valid state group n v scratch =
     mapTests group n v
 
 -- ---- a record
+
+-- refusal 12 is not this of each operation: if the image of at is at itself, the implied value is x
+abbrev pub agreesUnder : (a : J) (m : ℕ) (at : J) → Value m → Sym → Bool
+agreesUnder a m at x s = imply (sameJ (imageOf a s at) at) (sameValue (impliedValue (field m) (conj m) s at x) x)
 
 -- What a value implies at the images of its index: 12, 6, 24.
 abbrev pub orbitTests : (group : ℕ) (lengths at : J) (x y : ℕ) → List ℕ → List Test

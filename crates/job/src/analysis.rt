@@ -13,13 +13,11 @@ impl Job {
     pub fn analysis(mut self, volume: &mut [u32], scratch: &mut [u32]) -> Answered
         ensures { λ r. ⌜ worked r (now (volume .exit)) (now (scratch .exit)) ≡ analysisStep self (now (volume .entry)) (now (scratch .entry)) ⌝ }
     {
+        let cell = self.unit_cell();
         let checked = crate::check::analysis::check_analysis(
             valid::valid_job(self),
             self.state,
-            self.group,
-            self.a.length,
-            self.b.length,
-            self.c.length,
+            cell,
             &volume[..],
             scratch.len(),
         );

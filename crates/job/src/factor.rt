@@ -13,6 +13,7 @@ impl Job {
     pub fn factor(self, at: Reflection, volume: &[u32]) -> FactorAnswer
         ensures { λ r. ⌜ saidFactor r ≡ (factorStep self at (now (volume .entry))) .answer ⌝ }
     {
+        let cell = self.unit_cell();
         let j = Index {
             h: at.0,
             k: at.1,
@@ -21,25 +22,14 @@ impl Job {
         let checked = crate::check::factor::check_factor(
             valid::valid_job(self),
             self.state,
-            self.group,
-            self.a.length,
-            self.b.length,
-            self.c.length,
+            cell,
             j,
             volume,
         );
         match checked {
             Checked::Failed(refusal) => FactorAnswer::Refused(refusal),
             Checked::Sound => {
-                let x = volume::read::factor_at(
-                    1,
-                    self.group,
-                    self.a.length,
-                    self.b.length,
-                    self.c.length,
-                    j,
-                    volume,
-                );
+                let x = volume::read::factor_at(1, cell, j, volume);
                 FactorAnswer::Factor(x.re, x.im)
             }
         }

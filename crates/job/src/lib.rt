@@ -4,6 +4,7 @@
 // answers the first refusal of the paper's order, and then the work. What a caller holds or hands in by value has the layout of C, so that
 // crate exported can pass it on.
 pub mod check; // check.rt: the refusals of every call
+pub mod unit_cell; // unit_cell.rt: the unit cell of a job
 pub mod valid; // valid.rt: which jobs an opening or a later call could have made
 pub mod open; // open.rt: the opening
 pub mod point; // point.rt: the reading of a point

@@ -2,13 +2,14 @@
 use crate::Axis;
 use crate::Job;
 use crate::OpenAnswer;
+use cell::operations::UnitCell;
 use refusals::Checked;
 ghost use mathlib.Core.Path.{_≡_};
 ghost use mathlib.Core.Bool.{true};
 ghost use Prim.Native.Nat.{_≤_};
 ghost use Rattle.lengths.specs.Lengths.{product, octal, factorsOk};
 ghost use Rattle.refusals.specs.Refusals.{first};
-ghost use Rattle.job.specs.Job.{axisTests, jobOf, openStep, openOutcome};
+ghost use Rattle.job.specs.Job.{cellHeader, axisTests, jobOf, openStep, openOutcome};
 
 // An axis of a job: the list goes on as octal digits.
 fn axis(length: u32, factors: &[u8]) -> Axis
@@ -22,15 +23,15 @@ fn axis(length: u32, factors: &[u8]) -> Axis
 }
 
 // The job of a header that no test refuses.
-fn opened(group: u32, n1: u32, n2: u32, n3: u32, f1: &[u8], f2: &[u8], f3: &[u8], state: u32) -> Job
-    requires { ⌜ 0 ≡ first (axisTests (record { group = group; lengths = (n1, n2, n3); list1 = now f1; list2 = now f2; list3 = now f3 })) ⌝ }
-    ensures { λ r. ⌜ r ≡ jobOf (record { group = group; lengths = (n1, n2, n3); list1 = now (f1 .entry); list2 = now (f2 .entry); list3 = now (f3 .entry) }) state ⌝ }
+fn opened(cell: UnitCell, f1: &[u8], f2: &[u8], f3: &[u8], state: u32) -> Job
+    requires { ⌜ 0 ≡ first (axisTests (cellHeader cell (now f1) (now f2) (now f3))) ⌝ }
+    ensures { λ r. ⌜ r ≡ jobOf (cellHeader cell (now (f1 .entry)) (now (f2 .entry)) (now (f3 .entry))) state ⌝ }
 {
     Job {
-        group,
-        a: axis(n1, f1),
-        b: axis(n2, f2),
-        c: axis(n3, f3),
+        group: cell.group,
+        a: axis(cell.n1, f1),
+        b: axis(cell.n2, f2),
+        c: axis(cell.n3, f3),
         state,
     }
 }
@@ -49,15 +50,16 @@ pub fn open(
 ) -> OpenAnswer
     ensures { λ r. ⌜ openOutcome r (now (volume .exit)) ≡ openStep (record { group = group; lengths = (n1, n2, n3); list1 = now (f1 .entry); list2 = now (f2 .entry); list3 = now (f3 .entry) }) kind (now (volume .entry)) ⌝ }
 {
-    let checked = crate::check::open::check_open(group, kind, n1, n2, n3, f1, f2, f3, &volume[..]);
+    let cell = UnitCell { group, n1, n2, n3 };
+    let checked = crate::check::open::check_open(cell, kind, f1, f2, f3, &volume[..]);
     match checked {
         Checked::Failed(refusal) => OpenAnswer::Refused(refusal),
         Checked::Sound => {
             if kind == 0 {
                 slices::buffers::zero(volume);
-                OpenAnswer::Opened(opened(group, n1, n2, n3, f1, f2, f3, 0))
+                OpenAnswer::Opened(opened(cell, f1, f2, f3, 0))
             } else {
-                OpenAnswer::Opened(opened(group, n1, n2, n3, f1, f2, f3, 2))
+                OpenAnswer::Opened(opened(cell, f1, f2, f3, 2))
             }
         }
     }

@@ -11,10 +11,7 @@ pub fn plan_of(job: Job, direction: u32) -> Plan
     Plan {
         m: 1,
         direction,
-        group: job.group,
-        n1: job.a.length,
-        n2: job.b.length,
-        n3: job.c.length,
+        cell: job.unit_cell(),
         f1: job.a.factors,
         f2: job.b.factors,
         f3: job.c.factors,

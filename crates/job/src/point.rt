@@ -14,6 +14,7 @@ impl Job {
     pub fn point(self, at: GridPoint, volume: &[u32]) -> PointAnswer
         ensures { λ r. ⌜ saidPoint r ≡ (pointStep self at (now (volume .entry))) .answer ⌝ }
     {
+        let cell = self.unit_cell();
         let point = Point {
             x: at.0,
             y: at.1,
@@ -22,23 +23,14 @@ impl Job {
         let checked = crate::check::point::check_point(
             valid::valid_job(self),
             self.state,
-            self.group,
-            self.a.length,
-            self.b.length,
-            self.c.length,
+            cell,
             point,
             volume,
         );
         match checked {
             Checked::Failed(refusal) => PointAnswer::Refused(refusal),
             Checked::Sound => {
-                let place = places::density_place(
-                    self.group,
-                    self.a.length,
-                    self.b.length,
-                    self.c.length,
-                    point,
-                );
+                let place = places::density_place(cell, point);
                 PointAnswer::Density(volume[place])
             }
         }

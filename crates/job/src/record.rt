@@ -15,6 +15,7 @@ impl Job {
     pub fn record(mut self, at: Reflection, a: u32, b: u32, volume: &mut [u32]) -> Answered
         ensures { λ r. ⌜ outcome r (now (volume .exit)) ≡ recordStep self at a b (now (volume .entry)) ⌝ }
     {
+        let cell = self.unit_cell();
         let j = Index {
             h: at.0,
             k: at.1,
@@ -24,10 +25,7 @@ impl Job {
         let checked = crate::check::record::check_record(
             valid::valid_job(self),
             self.state,
-            self.group,
-            self.a.length,
-            self.b.length,
-            self.c.length,
+            cell,
             j,
             x,
             &volume[..],
@@ -38,16 +36,7 @@ impl Job {
                 job: self,
             },
             Checked::Sound => {
-                volume::record::write_images(
-                    1,
-                    self.group,
-                    self.a.length,
-                    self.b.length,
-                    self.c.length,
-                    j,
-                    x,
-                    volume,
-                );
+                volume::record::write_images(1, cell, j, x, volume);
                 Answered {
                     answer: Answer::Done,
                     job: self,

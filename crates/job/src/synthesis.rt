@@ -13,13 +13,11 @@ impl Job {
     pub fn synthesis(mut self, volume: &mut [u32], scratch: &mut [u32]) -> Answered
         ensures { λ r. ⌜ worked r (now (volume .exit)) (now (scratch .exit)) ≡ synthesisStep self (now (volume .entry)) (now (scratch .entry)) ⌝ }
     {
+        let cell = self.unit_cell();
         let checked = crate::check::synthesis::check_synthesis(
             valid::valid_job(self),
             self.state,
-            self.group,
-            self.a.length,
-            self.b.length,
-            self.c.length,
+            cell,
             &volume[..],
             scratch.len(),
         );

@@ -12,15 +12,7 @@ pub fn valid_job(job: Job) -> bool
     if 5 <= job.group {
         return false;
     }
-    if !packed::valid_header(
-        job.group,
-        job.a.length,
-        job.b.length,
-        job.c.length,
-        job.a.factors,
-        job.b.factors,
-        job.c.factors,
-    ) {
+    if !packed::valid_header(job.unit_cell(), job.a.factors, job.b.factors, job.c.factors) {
         return false;
     }
     job.state < 3

@@ -35,6 +35,7 @@ use Rattle.cell.proofs.Maps.{map-consistent, map-cong}
 use Rattle.cell.proofs.Points.{map-obeys, map-real, read-point, analysis-packed}
 use Rattle.cell.proofs.Records.{record-lawful, record-packed}
 use Rattle.cell.proofs.OrbitNumbers.{orbit-free}
+use Rattle.header.specs.Header.{headerCell}
 use Rattle.job.specs.Job.{mapHeld, validJob, within}
 use Rattle.header.proofs.Headers.{all-three}
 use Rattle.job.proofs.Jobs.{valid-job-sizes}
@@ -69,7 +70,7 @@ module _ (m : Model) where
 -- ---- what a valid job and a lawful F give
 
 module _ (m : Model) (sound : LawfulModel m) where
-  sizes : JobSizes (m .header .group) (m .header .lengths .0) (m .header .lengths .1) (m .header .lengths .2) (octal (m .header .list1)) (octal (m .header .list2)) (octal (m .header .list3))
+  sizes : JobSizes (headerCell (m .header)) (octal (m .header .list1)) (octal (m .header .list2)) (octal (m .header .list3))
   sizes = valid-job-sizes (modelJob m) (sound .valid)
 
   pub halves-positive : Positive (half m)

@@ -1,11 +1,12 @@
 // The map printer's limits: it reads files of at most 8,192 bytes, and lends a file as many numbers as its header asks for, or 2,048
 // where that asks for more. The file is any list of bytes, so the header's lengths are any numbers of two bytes here.
+use cell::operations::UnitCell;
 ghost use mathlib.Core.Path.{_≡_};
 ghost use Prim.Native.Nat.{_<_, _≤_, min};
 ghost use lib.ListN.{length};
 ghost use lib.Dec.{ltb};
 ghost use Rattle.algebra.specs.cells.Cell.{planes};
-ghost use Rattle.cell.specs.Operations.{halvesOf};
+ghost use Rattle.cell.specs.Operations.{cellGroup, cellHalves};
 ghost use Rattle.cell.specs.Volume.{groupOf, volumeLength};
 ghost use Rattle.header.specs.Header.{needed};
 ghost use Rattle.file_format.specs.Format.{twoBytes, headerIn};
@@ -45,13 +46,13 @@ fn stored_planes(group: u32, half: u32) -> u32
 }
 
 // How many numbers a volume of any lengths has.
-fn volume_length(group: u32, n1: u32, n2: u32, n3: u32) -> u64
-    requires { ⌜ (n1 < 65536) × (n2 < 65536) × (n3 < 65536) ⌝ }
-    ensures { λ r. ⌜ r ≡ volumeLength (groupOf group) (halvesOf n1 n2 n3) ⌝ }
+fn volume_length(cell: UnitCell) -> u64
+    requires { ⌜ (cell .n1 < 65536) × (cell .n2 < 65536) × (cell .n3 < 65536) ⌝ }
+    ensures { λ r. ⌜ r ≡ volumeLength (cellGroup cell) (cellHalves cell) ⌝ }
 {
-    let planes = stored_planes(group, n3 / 2) as u64;
-    let rows = (2 * (n1 / 2)) as u64;
-    let columns = (n2 / 2 + 1) as u64;
+    let planes = stored_planes(cell.group, cell.n3 / 2) as u64;
+    let rows = (2 * (cell.n1 / 2)) as u64;
+    let columns = (cell.n2 / 2 + 1) as u64;
     2 * (planes * rows * columns)
 }
 
@@ -59,12 +60,12 @@ fn volume_length(group: u32, n1: u32, n2: u32, n3: u32) -> u64
 pub fn lent_to(file: &[u8]) -> usize
     ensures { λ r. ⌜ r ≡ min (needed (headerIn (now (file .entry)))) lentLimit ⌝ }
 {
-    let length = volume_length(
-        file_format::integers::byte_at(file, 5),
-        two_bytes(file, 6),
-        two_bytes(file, 8),
-        two_bytes(file, 10),
-    );
+    let length = volume_length(UnitCell {
+        group: file_format::integers::byte_at(file, 5),
+        n1: two_bytes(file, 6),
+        n2: two_bytes(file, 8),
+        n3: two_bytes(file, 10),
+    });
     if 2048 < length {
         return 2048;
     }

@@ -12,6 +12,7 @@ use Rattle.cell.specs.Volume.{timesI, overI, lineKind, rotated, firstPair, laye
 use Rattle.algebra.specs.cells.Cell.{J, Group}
 use Rattle.slices.specs.Sweep.{Layout, lineOf, setLine, onLists, alongSecond, alongLast}
 use Rattle.lengths.specs.Admitted.{AdmittedLength, FactorList}
+use Rattle.cell.specs.declared.operations.UnitCell.{UnitCell}
 use Rattle.cell.specs.Operations.{Sizes}
 
 module _ (m A : ℕ) where
@@ -104,12 +105,12 @@ module _ (g : Group) (a : J) where
         (cond (ltb j (alongL .count + alongH .count)) (turnOf alongH turnedH (j - alongL .count) d)
         (turnOf alongK turnedK (j - (alongL .count + alongH .count)) d))
 
--- a group, three lengths and their factor lists, as a job that was opened has them
-pub record JobSizes (group n1 n2 n3 f1 f2 f3 : ℕ) : Type 0 where
-  pub sizes : Sizes group n1 n2 n3
-  pub first : AdmittedLength n1
-  pub second : AdmittedLength n2
-  pub third : AdmittedLength n3
-  pub first-list : FactorList n1 f1
-  pub second-list : FactorList n2 f2
-  pub third-list : FactorList n3 f3
+-- a cell and the factor lists of its lengths, as a job that was opened has them
+pub record JobSizes (c : UnitCell) (f1 f2 f3 : ℕ) : Type 0 where
+  pub sizes : Sizes c
+  pub first : AdmittedLength (c .n1)
+  pub second : AdmittedLength (c .n2)
+  pub third : AdmittedLength (c .n3)
+  pub first-list : FactorList (c .n1) f1
+  pub second-list : FactorList (c .n2) f2
+  pub third-list : FactorList (c .n3) f3

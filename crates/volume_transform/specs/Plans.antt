@@ -7,8 +7,8 @@ use lib.ListN.{length}
 use Rattle.algebra.specs.cells.Cell.{J, Group}
 use Rattle.numbers.specs.Value.{prime, IsModulus}
 use Rattle.slices.specs.Pairs.{Below}
-use Rattle.cell.specs.Volume.{groupOf, volumeLength}
-use Rattle.cell.specs.Operations.{halvesOf}
+use Rattle.cell.specs.Volume.{volumeLength}
+use Rattle.cell.specs.Operations.{cellGroup, cellHalves}
 use Rattle.volume_transform.specs.declared.plan.Line.{Line}
 use Rattle.volume_transform.specs.Lines.{gatheredTurn, rowTurn, Spaced, Beside}
 use Rattle.volume_transform.specs.Axes.{alongL, alongH, alongK, jobTurn, lineOfTurn, JobSizes}
@@ -18,13 +18,13 @@ use Rattle.volume_transform.specs.declared.plan.Counts.{Counts}
 -- ---- a plan
 
 abbrev pub planGroup : Plan → Group
-planGroup p = groupOf (p .group)
+planGroup p = cellGroup (p .cell)
 
 abbrev pub planHalves : Plan → J
-planHalves p = halvesOf (p .n1) (p .n2) (p .n3)
+planHalves p = cellHalves (p .cell)
 
 abbrev pub SizesIn : Plan → Type 0
-SizesIn p = JobSizes (p .group) (p .n1) (p .n2) (p .n3) (p .f1) (p .f2) (p .f3)
+SizesIn p = JobSizes (p .cell) (p .f1) (p .f2) (p .f3)
 
 pub record Planned (p : Plan) : Type 0 where
   pub modulus : IsModulus (p .m)

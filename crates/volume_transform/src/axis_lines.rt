@@ -13,9 +13,9 @@ pub fn line_counts(plan: Plan) -> Counts
     requires { ⌜ SizesIn plan ⌝ }
     ensures { λ r. ⌜ Counted plan r ⌝ }
 {
-    let width = (plan.n2 / 2 + 1) as usize;
-    let rows = plan.n1 as usize;
-    let layers = cell::places::layer_count(plan.group, plan.n3) as usize;
+    let width = (plan.cell.n2 / 2 + 1) as usize;
+    let rows = plan.cell.n1 as usize;
+    let layers = cell::places::layer_count(plan.cell) as usize;
     Counts {
         l: rows * width,
         h: layers * width,
@@ -37,15 +37,15 @@ pub fn along_h(plan: Plan, y: usize) -> Line
     requires { ⌜ Planned plan × (y < alongH (planGroup plan) (planHalves plan) .count) ⌝ }
     ensures { λ r. ⌜ Gathered plan (turnOf (alongH (planGroup plan) (planHalves plan)) (turnedH (planGroup plan) (planHalves plan) (plan .m) (plan .direction)) y) r ⌝ }
 {
-    let width = (plan.n2 / 2 + 1) as usize;
-    let rows = plan.n1 as usize;
+    let width = (plan.cell.n2 / 2 + 1) as usize;
+    let rows = plan.cell.n1 as usize;
     Line {
         m: plan.m,
         direction: plan.direction,
         kind: 0,
         rotated: false,
         factors: plan.f1,
-        half: (plan.n1 / 2) as usize,
+        half: (plan.cell.n1 / 2) as usize,
         start: y / width * (rows * width) + y % width,
         stride: width,
         count: rows,
@@ -57,7 +57,7 @@ pub fn row_at(plan: Plan, y: usize) -> Line
     requires { ⌜ Planned plan × (y < alongK (planGroup plan) (planHalves plan) .count) ⌝ }
     ensures { λ r. ⌜ Row plan (turnOf (alongK (planGroup plan) (planHalves plan)) (turnedK (planGroup plan) (planHalves plan) (plan .m) (plan .direction)) y) r ⌝ }
 {
-    let half = (plan.n2 / 2) as usize;
+    let half = (plan.cell.n2 / 2) as usize;
     let width = half + 1;
     Line {
         m: plan.m,

@@ -54,19 +54,19 @@ fn along_l(plan: Plan, y: usize) -> Line
     requires { ⌜ Planned plan × (y < alongL (planGroup plan) (planHalves plan) .count) ⌝ }
     ensures { λ r. ⌜ Gathered plan (turnOf (alongL (planGroup plan) (planHalves plan)) (turnedL (planGroup plan) (planHalves plan) (plan .m) (plan .direction)) y) r ⌝ }
 {
-    let width = (plan.n2 / 2 + 1) as usize;
-    let stride = (plan.n1 as usize) * width;
-    let kind = line_kind(plan.group, y / width);
+    let width = (plan.cell.n2 / 2 + 1) as usize;
+    let stride = (plan.cell.n1 as usize) * width;
+    let kind = line_kind(plan.cell.group, y / width);
     Line {
         m: plan.m,
         direction: plan.direction,
         kind,
-        rotated: cell::places::is_rotated(plan.group, y / width),
+        rotated: cell::places::is_rotated(plan.cell.group, y / width),
         factors: plan.f3,
-        half: (plan.n3 / 2) as usize,
+        half: (plan.cell.n3 / 2) as usize,
         start: y + first_pair(kind) * stride,
         stride,
-        count: lengths::pair_count(kind, plan.n3),
+        count: lengths::pair_count(kind, plan.cell.n3),
     }
 }
 

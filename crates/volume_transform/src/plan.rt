@@ -1,14 +1,12 @@
 // The lines of a job: what is to be done with a volume, how many lines it has along each axis, and what a line's turn has to know. The
 // definitions of what the lines are and of what becomes of them are in specs/; `axis_lines` and `numbering` compute them.
+use cell::operations::UnitCell;
 
-// What is to be done with a whole volume: modulus and direction, the group, the three lengths and their factor lists.
+// What is to be done with a whole volume: modulus and direction, the cell, and the factor lists of its three lengths.
 pub struct Plan {
     pub m: u32,
     pub direction: u32,
-    pub group: u32,
-    pub n1: u32,
-    pub n2: u32,
-    pub n3: u32,
+    pub cell: UnitCell,
     pub f1: u32,
     pub f2: u32,
     pub f3: u32,

@@ -35,7 +35,7 @@ use Rattle.cell.specs.Consistency.{sameValue}
 use Rattle.cell.proofs.Reading.{same-iff}
 use Rattle.cell.proofs.Consistency.{pack-cong, consistent-read}
 use Rattle.job.specs.declared.Job.{Job}
-use Rattle.job.specs.Job.{headerOf, axisTests, collecting, jobOf, withState, validJob, groupIn, halves, opened, openTests, volumeTests}
+use Rattle.job.specs.Job.{jobCell, headerOf, axisTests, collecting, jobOf, withState, validJob, groupIn, halves, opened, openTests, volumeTests}
 use Rattle.header.proofs.Headers.{all-three, sound-lists}
 use Rattle.header.proofs.Digits.{octal-of-digits}
 use Rattle.job.proofs.Jobs.{valid-sizes}
@@ -94,7 +94,7 @@ module _ (j : Job) (v output : List ℕ) (accepts : 0 ≡ first (writeTests j v 
   valid : validJob j ≡ true
   valid = not-false _ (tests .0)
 
-  sizes : Sizes (j .group) (j .a .length) (j .b .length) (j .c .length)
+  sizes : Sizes (jobCell j)
   sizes = valid-sizes j valid
 
   header-sound : 0 ≡ first (axisTests (headerOf j))

@@ -27,6 +27,7 @@ use Rattle.cell.specs.Operations.{Sizes}
 use Rattle.cell.specs.Volume.{groupOf}
 use Rattle.cell.specs.Consistency.{agreesWithItself}
 use Rattle.cell.proofs.Records.{agrees-iff}
+use Rattle.header.specs.Header.{headerCell}
 use Rattle.job.specs.Job.{Header, axisTests, halfLengths, jobOf, collecting, p, within, index, recordTests, recordStep, unchanged}
 use Rattle.demands.specs.Specimens.{Specimen, records, Shown, Starred, transformed, recorded, taken, takenRecords, AllHold, Specimens}
 use Rattle.header.proofs.Headers.{sound-sizes}
@@ -98,7 +99,7 @@ module _ (x : Specimen) (r : Reversed x) where
       (sym (agrees-iff (groupOf (x .group)) a long 1 (index (x .at)) z .0 e (planeSym (groupOf (x .group))) (r .member) (r .fixed a)) ∙ r .negated z)))
 
   module _ (h : Header) (g : h .group ≡ x .group) (e : 0 ≡ first (axisTests h)) where
-    sizes : Sizes (h .group) (h .lengths .0) (h .lengths .1) (h .lengths .2)
+    sizes : Sizes (headerCell h)
     sizes = sound-sizes h e (omega (arith, g, r .known))
 
     inside : within (h .lengths) (index (x .at)) ≡ true

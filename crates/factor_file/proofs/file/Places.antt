@@ -14,6 +14,7 @@ use Rattle.algebra.specs.cells.CellTests.{lineFrom, planeFrom, cellFrom, lowest
 use Rattle.algebra.proofs.ring.Laws.{along}
 use Rattle.slices.proofs.Pairs.{lt-or-ge}
 use Rattle.factor_file.specs.Steps.{placesFrom}
+use Rattle.cell.specs.declared.operations.UnitCell.{UnitCell}
 
 -- ---- lists of lists: what is made of places one after another is made of all of them
 
@@ -27,105 +28,105 @@ NoneBeyond R n1 m = (j : J) → m < j .0 → j .0 < n1 → R (j ∷ []) ≡ []
 
 -- ---- the places from one on
 
-module _ (n1 n2 n3 : ℕ) where
+module _ (cell : UnitCell) where
   abbrev rest : J → List J
-  rest j = lineFrom (j .0) (j .1) (j .2) (n3 - j .2) ++ (planeFrom n3 (j .0) (suc (j .1)) (n2 - suc (j .1)) ++ cellFrom n3 n2 (suc (j .0)) (n1 - suc (j .0)))
+  rest j = lineFrom (j .0) (j .1) (j .2) (cell .n3 - j .2) ++ (planeFrom (cell .n3) (j .0) (suc (j .1)) (cell .n2 - suc (j .1)) ++ cellFrom (cell .n3) (cell .n2) (suc (j .0)) (cell .n1 - suc (j .0)))
 
-  from-inside : (j : J) → j .0 < n1 → placesFrom n1 n2 n3 j ≡ rest j
+  from-inside : (j : J) → j .0 < cell .n1 → placesFrom cell j ≡ rest j
   unfolding placesFrom
-  from-inside j h = ap (λ b. cond b (rest j) []) (lt-ltb (j .0) n1 h)
+  from-inside j h = ap (λ b. cond b (rest j) []) (lt-ltb (j .0) (cell .n1) h)
 
-  pub from-beyond : (j : J) → n1 ≤ j .0 → placesFrom n1 n2 n3 j ≡ []
+  pub from-beyond : (j : J) → cell .n1 ≤ j .0 → placesFrom cell j ≡ []
   unfolding placesFrom
-  from-beyond j h = ap (λ b. cond b (rest j) []) (le-ltb (j .0) n1 h)
+  from-beyond j h = ap (λ b. cond b (rest j) []) (le-ltb (j .0) (cell .n1) h)
 
   -- a plane begins with its first line
-  plane-first : (h k : ℕ) → k < n2 → planeFrom n3 h k (n2 - k) ≡ lineFrom h k 0 n3 ++ planeFrom n3 h (suc k) (n2 - suc k)
+  plane-first : (h k : ℕ) → k < cell .n2 → planeFrom (cell .n3) h k (cell .n2 - k) ≡ lineFrom h k 0 (cell .n3) ++ planeFrom (cell .n3) h (suc k) (cell .n2 - suc k)
   unfolding planeFrom
-  plane-first h k l = along (planeFrom n3 h k) (n2 - k) (suc (n2 - suc k)) (omega arith)
+  plane-first h k l = along (planeFrom (cell .n3) h k) (cell .n2 - k) (suc (cell .n2 - suc k)) (omega arith)
 
   -- from the first place of a line on
-  line-start : (h k : ℕ) → h < n1 → k < n2 → placesFrom n1 n2 n3 (h, k, 0) ≡ planeFrom n3 h k (n2 - k) ++ cellFrom n3 n2 (suc h) (n1 - suc h)
+  line-start : (h k : ℕ) → h < cell .n1 → k < cell .n2 → placesFrom cell (h, k, 0) ≡ planeFrom (cell .n3) h k (cell .n2 - k) ++ cellFrom (cell .n3) (cell .n2) (suc h) (cell .n1 - suc h)
   line-start h k a b =
-      let below = planeFrom n3 h (suc k) (n2 - suc k) in
-      let behind = cellFrom n3 n2 (suc h) (n1 - suc h) in
+      let below = planeFrom (cell .n3) h (suc k) (cell .n2 - suc k) in
+      let behind = cellFrom (cell .n3) (cell .n2) (suc h) (cell .n1 - suc h) in
       from-inside (h, k, 0) a
-      ∙ along (λ n. lineFrom h k 0 n ++ (below ++ behind)) (n3 - 0) n3 (omega arith)
-      ∙ sym (append-assoc (lineFrom h k 0 n3) below behind)
+      ∙ along (λ n. lineFrom h k 0 n ++ (below ++ behind)) (cell .n3 - 0) (cell .n3) (omega arith)
+      ∙ sym (append-assoc (lineFrom h k 0 (cell .n3)) below behind)
       ∙ ap (λ t. t ++ behind) (sym (plane-first h k b))
 
   -- from the first place of a plane on
-  pub plane-start : (h : ℕ) → 0 < n2 → placesFrom n1 n2 n3 (h, 0, 0) ≡ cellFrom n3 n2 h (n1 - h)
+  pub plane-start : (h : ℕ) → 0 < cell .n2 → placesFrom cell (h, 0, 0) ≡ cellFrom (cell .n3) (cell .n2) h (cell .n1 - h)
   unfolding cellFrom
   plane-start h b = ⊎-elim
-      (λ (e : n1 - h ≡ 0). from-beyond (h, 0, 0) (omega arith) ∙ sym (ap (cellFrom n3 n2 h) e))
-      (λ (l : 0 < n1 - h). line-start h 0 (omega arith) b ∙ along (λ n. planeFrom n3 h 0 n ++ cellFrom n3 n2 (suc h) (n1 - suc h)) (n2 - 0) n2 (omega arith) ∙ sym (along (cellFrom n3 n2 h) (n1 - h) (suc (n1 - suc h)) (omega arith)))
-      (eq-zero-or-pos (n1 - h))
+      (λ (e : cell .n1 - h ≡ 0). from-beyond (h, 0, 0) (omega arith) ∙ sym (ap (cellFrom (cell .n3) (cell .n2) h) e))
+      (λ (l : 0 < cell .n1 - h). line-start h 0 (omega arith) b ∙ along (λ n. planeFrom (cell .n3) h 0 n ++ cellFrom (cell .n3) (cell .n2) (suc h) (cell .n1 - suc h)) (cell .n2 - 0) (cell .n2) (omega arith) ∙ sym (along (cellFrom (cell .n3) (cell .n2) h) (cell .n1 - h) (suc (cell .n1 - suc h)) (omega arith)))
+      (eq-zero-or-pos (cell .n1 - h))
 
   -- the place after one: on its line, on the next line, on the next plane
-  module _ (h k l : ℕ) (a : h < n1) (b : k < n2) (c : l < n3) where
+  module _ (h k l : ℕ) (a : h < cell .n1) (b : k < cell .n2) (c : l < cell .n3) where
     abbrev behind : List J
-    behind = planeFrom n3 h (suc k) (n2 - suc k) ++ cellFrom n3 n2 (suc h) (n1 - suc h)
+    behind = planeFrom (cell .n3) h (suc k) (cell .n2 - suc k) ++ cellFrom (cell .n3) (cell .n2) (suc h) (cell .n1 - suc h)
 
     -- the places from one on begin with it
-    pub here : placesFrom n1 n2 n3 (h, k, l) ≡ (h, k, l) ∷ (lineFrom h k (suc l) (n3 - suc l) ++ behind)
+    pub here : placesFrom cell (h, k, l) ≡ (h, k, l) ∷ (lineFrom h k (suc l) (cell .n3 - suc l) ++ behind)
     unfolding lineFrom
-    here = from-inside (h, k, l) a ∙ along (λ n. lineFrom h k l n ++ behind) (n3 - l) (suc (n3 - suc l)) (omega arith)
+    here = from-inside (h, k, l) a ∙ along (λ n. lineFrom h k l n ++ behind) (cell .n3 - l) (suc (cell .n3 - suc l)) (omega arith)
 
-    pub on-line : suc l < n3 → placesFrom n1 n2 n3 (h, k, l) ≡ (h, k, l) ∷ placesFrom n1 n2 n3 (h, k, suc l)
+    pub on-line : suc l < cell .n3 → placesFrom cell (h, k, l) ≡ (h, k, l) ∷ placesFrom cell (h, k, suc l)
     on-line d = here ∙ ap (λ t. (h, k, l) ∷ t) (sym (from-inside (h, k, suc l) a))
 
-    last-on-line : n3 ≤ suc l → placesFrom n1 n2 n3 (h, k, l) ≡ (h, k, l) ∷ behind
+    last-on-line : cell .n3 ≤ suc l → placesFrom cell (h, k, l) ≡ (h, k, l) ∷ behind
     unfolding lineFrom
-    last-on-line d = from-inside (h, k, l) a ∙ along (λ n. lineFrom h k l n ++ behind) (n3 - l) 1 (omega arith)
+    last-on-line d = from-inside (h, k, l) a ∙ along (λ n. lineFrom h k l n ++ behind) (cell .n3 - l) 1 (omega arith)
 
-    pub on-plane : n3 ≤ suc l → suc k < n2 → placesFrom n1 n2 n3 (h, k, l) ≡ (h, k, l) ∷ placesFrom n1 n2 n3 (h, suc k, 0)
+    pub on-plane : cell .n3 ≤ suc l → suc k < cell .n2 → placesFrom cell (h, k, l) ≡ (h, k, l) ∷ placesFrom cell (h, suc k, 0)
     on-plane d e = last-on-line d ∙ ap (λ t. (h, k, l) ∷ t) (sym (line-start h (suc k) a e))
 
-    pub in-cell : n3 ≤ suc l → n2 ≤ suc k → placesFrom n1 n2 n3 (h, k, l) ≡ (h, k, l) ∷ placesFrom n1 n2 n3 (suc h, 0, 0)
+    pub in-cell : cell .n3 ≤ suc l → cell .n2 ≤ suc k → placesFrom cell (h, k, l) ≡ (h, k, l) ∷ placesFrom cell (suc h, 0, 0)
     unfolding planeFrom
     in-cell d e = last-on-line d
-        ∙ along (λ n. (h, k, l) ∷ (planeFrom n3 h (suc k) n ++ cellFrom n3 n2 (suc h) (n1 - suc h))) (n2 - suc k) 0 (omega arith)
+        ∙ along (λ n. (h, k, l) ∷ (planeFrom (cell .n3) h (suc k) n ++ cellFrom (cell .n3) (cell .n2) (suc h) (cell .n1 - suc h))) (cell .n2 - suc k) 0 (omega arith)
         ∙ ap (λ t. (h, k, l) ∷ t) (sym (plane-start (suc h) (omega arith)))
 
 -- ---- places that give nothing
 
-module _ {A : Type 0} {R : List J → List A} (s : Spreads R) (n1 n2 n3 : ℕ) {m : ℕ} (none : NoneBeyond R n1 m) where
+module _ {A : Type 0} {R : List J → List A} (s : Spreads R) (cell : UnitCell) {m : ℕ} (none : NoneBeyond R (cell .n1) m) where
   both-none : (l l′ : List J) → R l ≡ [] → R l′ ≡ [] → R (l ++ l′) ≡ []
   both-none l l′ e f = s .append l l′ ∙ (λ i. e i ++ f i)
 
-  line-none : (h k l n : ℕ) → m < h → h < n1 → R (lineFrom h k l n) ≡ []
+  line-none : (h k l n : ℕ) → m < h → h < cell .n1 → R (lineFrom h k l n) ≡ []
   unfolding lineFrom
   line-none h k l zero u v = s .nil
   line-none h k l (suc n) u v = both-none ((h, k, l) ∷ []) (lineFrom h k (suc l) n) (none (h, k, l) u v) (line-none h k (suc l) n u v)
 
-  plane-none : (h k n : ℕ) → m < h → h < n1 → R (planeFrom n3 h k n) ≡ []
+  plane-none : (h k n : ℕ) → m < h → h < cell .n1 → R (planeFrom (cell .n3) h k n) ≡ []
   unfolding planeFrom
   plane-none h k zero u v = s .nil
-  plane-none h k (suc n) u v = both-none (lineFrom h k 0 n3) (planeFrom n3 h (suc k) n) (line-none h k 0 n3 u v) (plane-none h (suc k) n u v)
+  plane-none h k (suc n) u v = both-none (lineFrom h k 0 (cell .n3)) (planeFrom (cell .n3) h (suc k) n) (line-none h k 0 (cell .n3) u v) (plane-none h (suc k) n u v)
 
-  cell-none : (h n : ℕ) → m < h → h + n ≤ n1 → R (cellFrom n3 n2 h n) ≡ []
+  cell-none : (h n : ℕ) → m < h → h + n ≤ cell .n1 → R (cellFrom (cell .n3) (cell .n2) h n) ≡ []
   unfolding cellFrom
   cell-none h zero u v = s .nil
-  cell-none h (suc n) u v = both-none (planeFrom n3 h 0 n2) (cellFrom n3 n2 (suc h) n) (plane-none h 0 n2 u (inside h n v)) (cell-none (suc h) n (above h u) (within h n v))
+  cell-none h (suc n) u v = both-none (planeFrom (cell .n3) h 0 (cell .n2)) (cellFrom (cell .n3) (cell .n2) (suc h) n) (plane-none h 0 (cell .n2) u (inside h n v)) (cell-none (suc h) n (above h u) (within h n v))
     where
-      inside : (h n : ℕ) → h + suc n ≤ n1 → h < n1
+      inside : (h n : ℕ) → h + suc n ≤ cell .n1 → h < cell .n1
       inside h n v = omega arith
 
       above : (h : ℕ) → m < h → m < suc h
       above h u = omega arith
 
-      within : (h n : ℕ) → h + suc n ≤ n1 → suc h + n ≤ n1
+      within : (h n : ℕ) → h + suc n ≤ cell .n1 → suc h + n ≤ cell .n1
       within h n v = omega arith
 
-  pub from-none : (j : J) → m < j .0 → R (placesFrom n1 n2 n3 j) ≡ []
+  pub from-none : (j : J) → m < j .0 → R (placesFrom cell j) ≡ []
   from-none j u = ⊎-elim
-      (λ (l : j .0 < n1).
-      ap R (from-inside n1 n2 n3 j l)
-      ∙ both-none (lineFrom (j .0) (j .1) (j .2) (n3 - j .2)) _ (line-none (j .0) (j .1) (j .2) (n3 - j .2) u l)
-      (both-none (planeFrom n3 (j .0) (suc (j .1)) (n2 - suc (j .1))) _ (plane-none (j .0) (suc (j .1)) (n2 - suc (j .1)) u l) (cell-none (suc (j .0)) (n1 - suc (j .0)) (omega arith) (omega arith))))
-      (λ (l : n1 ≤ j .0). ap R (from-beyond n1 n2 n3 j l) ∙ s .nil)
-      (lt-or-ge (j .0) n1)
+      (λ (l : j .0 < cell .n1).
+      ap R (from-inside cell j l)
+      ∙ both-none (lineFrom (j .0) (j .1) (j .2) (cell .n3 - j .2)) _ (line-none (j .0) (j .1) (j .2) (cell .n3 - j .2) u l)
+      (both-none (planeFrom (cell .n3) (j .0) (suc (j .1)) (cell .n2 - suc (j .1))) _ (plane-none (j .0) (suc (j .1)) (cell .n2 - suc (j .1)) u l) (cell-none (suc (j .0)) (cell .n1 - suc (j .0)) (omega arith) (omega arith))))
+      (λ (l : cell .n1 ≤ j .0). ap R (from-beyond cell j l) ∙ s .nil)
+      (lt-or-ge (j .0) (cell .n1))
 
 -- ---- how many places
 

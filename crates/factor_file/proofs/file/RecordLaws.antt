@@ -15,7 +15,8 @@ use Rattle.numbers.specs.declared.Pair.{Pair}
 use Rattle.numbers.specs.Value.{prime, Value, field, conj, value, pairOf}
 use Rattle.slices.specs.Pairs.{Below}
 use Rattle.cell.specs.Volume.{groupOf, volumeLength, factorsIn}
-use Rattle.cell.specs.Operations.{halvesOf, Sizes}
+use Rattle.cell.specs.declared.operations.UnitCell.{UnitCell}
+use Rattle.cell.specs.Operations.{cellGroup, cellHalves, Sizes}
 use Rattle.cell.specs.Places.{allBelowAt}
 use Rattle.cell.specs.Consistency.{sameValue}
 use Rattle.cell.specs.TestSteps.{isZero}
@@ -108,43 +109,43 @@ module _ (g : Group) (a : J) (v : List ℕ) where
 
 -- ---- where records stand, and how many there can be
 
-module _ {group n1 n2 n3 : ℕ} (s : Sizes group n1 n2 n3) where
-  pub first-half : {h : ℕ} → h ≤ n1 / 2 → h < n1
+module _ {cell : UnitCell} (s : Sizes cell) where
+  pub first-half : {h : ℕ} → h ≤ cell .n1 / 2 → h < cell .n1
   first-half l = omega (arith, s .first .low)
 
-  pub cell-places : placesOf (halvesOf n1 n2 n3) ≡ cellFrom n3 n2 0 n1
+  pub cell-places : placesOf (cellHalves cell) ≡ cellFrom (cell .n3) (cell .n2) 0 (cell .n1)
   cell-places =
-      let x : 2 * (n1 / 2) ≡ n1 = omega (arith, s .first .even) in
-      let y : 2 * (n2 / 2) ≡ n2 = omega (arith, s .second .even) in
-      let z : 2 * (n3 / 2) ≡ n3 = omega (arith, s .third .even) in
+      let x : 2 * (cell .n1 / 2) ≡ (cell .n1) = omega (arith, s .first .even) in
+      let y : 2 * (cell .n2 / 2) ≡ (cell .n2) = omega (arith, s .second .even) in
+      let z : 2 * (cell .n3 / 2) ≡ (cell .n3) = omega (arith, s .third .even) in
       λ i. cellFrom (z i) (y i) 0 (x i)
 
   module _ (v : List ℕ) where
     -- places beyond N1/2 give no records
-    pub upper-records : NoneBeyond (recordsAt (groupOf group) (halvesOf n1 n2 n3) v) n1 (n1 / 2)
-    upper-records j u l = not-lowest-none (groupOf group) (halvesOf n1 n2 n3) v j (upper-not-lowest (groupOf group) (halvesOf n1 n2 n3) j u (omega (arith, s .first .even)))
+    pub upper-records : NoneBeyond (recordsAt (cellGroup cell) (cellHalves cell) v) (cell .n1) (cell .n1 / 2)
+    upper-records j u l = not-lowest-none (cellGroup cell) (cellHalves cell) v j (upper-not-lowest (cellGroup cell) (cellHalves cell) j u (omega (arith, s .first .even)))
 
-    pub upper-bytes : NoneBeyond (bytesAt (groupOf group) (halvesOf n1 n2 n3) v) n1 (n1 / 2)
+    pub upper-bytes : NoneBeyond (bytesAt (cellGroup cell) (cellHalves cell) v) (cell .n1) (cell .n1 / 2)
     unfolding allBytes
     upper-bytes j u l = ap allBytes (upper-records j u l)
 
     abbrev count : List J → ℕ
-    count places = length (recordsAt (groupOf group) (halvesOf n1 n2 n3) v places)
+    count places = length (recordsAt (cellGroup cell) (cellHalves cell) v places)
 
-    pub cell-few : count (cellFrom n3 n2 0 n1) ≤ 23887872000
-    cell-few = omega (arith, few-records (groupOf group) (halvesOf n1 n2 n3) v (cellFrom n3 n2 0 n1), length-cell n3 n2 0 n1, mul-le-mul (s .first .high) (mul-le-mul (s .second .high) (s .third .high)))
+    pub cell-few : count (cellFrom (cell .n3) (cell .n2) 0 (cell .n1)) ≤ 23887872000
+    cell-few = omega (arith, few-records (cellGroup cell) (cellHalves cell) v (cellFrom (cell .n3) (cell .n2) 0 (cell .n1)), length-cell (cell .n3) (cell .n2) 0 (cell .n1), mul-le-mul (s .first .high) (mul-le-mul (s .second .high) (s .third .high)))
 
     -- in a volume that an opening admits there are so few that four bytes count those of the file
     planes-least : (c n : ℕ) → n < 5 → c ≤ planes (groupOf n) c
     unfolding planes
     planes-least c = by-group (λ g. c ≤ planes g c) (omega arith) (omega arith) (omega arith) (omega arith) (omega arith)
 
-    pub admitted-few : length v ≡ volumeLength (groupOf group) (halvesOf n1 n2 n3) → length v ≤ 16777216 → length (recordsWith group n1 n2 n3 v) ≤ 33554432
+    pub admitted-few : length v ≡ volumeLength (cellGroup cell) (cellHalves cell) → length v ≤ 16777216 → length (recordsWith cell v) ≤ 33554432
     admitted-few e h =
-        let a = n1 / 2 in
-        let b = n2 / 2 in
-        let c = n3 / 2 in
+        let a = cell .n1 / 2 in
+        let b = cell .n2 / 2 in
+        let c = cell .n3 / 2 in
         let same : 2 * a ≤ 2 * a = omega arith in
         let next : suc b ≤ suc b = omega arith in
-        let most : c * (2 * a) * suc b ≤ planes (groupOf group) c * (2 * a) * suc b = mul-le-mul (mul-le-mul (planes-least c group (s .known)) same) next in
-        omega (arith, few-records (groupOf group) (halvesOf n1 n2 n3) v (placesOf (halvesOf n1 n2 n3)), length-cell (2 * c) (2 * b) 0 (2 * a), most, e, h)
+        let most : c * (2 * a) * suc b ≤ planes (cellGroup cell) c * (2 * a) * suc b = mul-le-mul (mul-le-mul (planes-least c (cell .group) (s .known)) same) next in
+        omega (arith, few-records (cellGroup cell) (cellHalves cell) v (placesOf (cellHalves cell)), length-cell (2 * c) (2 * b) 0 (2 * a), most, e, h)

@@ -8,6 +8,7 @@ use Rattle.algebra.specs.cells.Cell.{J}
 use Rattle.algebra.specs.cells.CellTests.{cellFrom}
 use Rattle.algebra.proofs.ring.Laws.{along}
 use Rattle.cell.specs.declared.operations.Index.{Index}
+use Rattle.cell.specs.declared.operations.UnitCell.{UnitCell}
 use Rattle.cell.specs.Operations.{tripleOf}
 use Rattle.output.specs.Output.{Wrote, Ends}
 use Rattle.output.proofs.Writing.{wrote-none, wrote-append, wrote-as, wrote-length}
@@ -19,34 +20,34 @@ use Rattle.factor_file.proofs.file.Places.{Spreads, NoneBeyond, plane-s
 after : (f : ℕ → List J) (n : ℕ) → f (suc n) ≡ f (n + 1)
 after f n = along f (suc n) (n + 1) (omega arith)
 
-module _ (n1 n2 n3 : ℕ) (j : Index) (a : j .h < n1) (b : j .k < n2) (c : j .l < n3) where
-  pub next-on-line : j .l + 1 < n3 → Next n1 n2 n3 j (record { h = j .h; k = j .k; l = j .l + 1 })
+module _ (cell : UnitCell) (j : Index) (a : j .h < cell .n1) (b : j .k < cell .n2) (c : j .l < cell .n3) where
+  pub next-on-line : j .l + 1 < cell .n3 → Next cell j (record { h = j .h; k = j .k; l = j .l + 1 })
   next-on-line d = record {
-    left = on-line n1 n2 n3 (j .h) (j .k) (j .l) a b c (omega arith) ∙ ap (λ t. tripleOf j ∷ t) (after (λ m. placesFrom n1 n2 n3 (j .h, j .k, m)) (j .l));
+    left = on-line cell (j .h) (j .k) (j .l) a b c (omega arith) ∙ ap (λ t. tripleOf j ∷ t) (after (λ m. placesFrom cell (j .h, j .k, m)) (j .l));
     k = b;
     l = d;
   }
 
-  pub next-on-plane : n3 ≤ j .l + 1 → j .k + 1 < n2 → Next n1 n2 n3 j (record { h = j .h; k = j .k + 1; l = 0 })
+  pub next-on-plane : cell .n3 ≤ j .l + 1 → j .k + 1 < cell .n2 → Next cell j (record { h = j .h; k = j .k + 1; l = 0 })
   next-on-plane d e = record {
-    left = on-plane n1 n2 n3 (j .h) (j .k) (j .l) a b c (omega arith) (omega arith) ∙ ap (λ t. tripleOf j ∷ t) (after (λ m. placesFrom n1 n2 n3 (j .h, m, 0)) (j .k));
+    left = on-plane cell (j .h) (j .k) (j .l) a b c (omega arith) (omega arith) ∙ ap (λ t. tripleOf j ∷ t) (after (λ m. placesFrom cell (j .h, m, 0)) (j .k));
     k = e;
     l = omega arith;
   }
 
-  pub next-in-cell : n3 ≤ j .l + 1 → n2 ≤ j .k + 1 → Next n1 n2 n3 j (record { h = j .h + 1; k = 0; l = 0 })
+  pub next-in-cell : cell .n3 ≤ j .l + 1 → cell .n2 ≤ j .k + 1 → Next cell j (record { h = j .h + 1; k = 0; l = 0 })
   next-in-cell d e = record {
-    left = in-cell n1 n2 n3 (j .h) (j .k) (j .l) a b c (omega arith) (omega arith) ∙ ap (λ t. tripleOf j ∷ t) (after (λ m. placesFrom n1 n2 n3 (m, 0, 0)) (j .h));
+    left = in-cell cell (j .h) (j .k) (j .l) a b c (omega arith) (omega arith) ∙ ap (λ t. tripleOf j ∷ t) (after (λ m. placesFrom cell (m, 0, 0)) (j .h));
     k = omega arith;
     l = omega arith;
   }
 
 -- ---- the first place, and one fewer place in each turn
 
-first-places : (n1 n2 n3 : ℕ) → 0 < n2 → placesFrom n1 n2 n3 (0, 0, 0) ≡ cellFrom n3 n2 0 n1
-first-places n1 n2 n3 b = plane-start n1 n2 n3 0 b ∙ along (cellFrom n3 n2 0) (n1 - 0) n1 (omega arith)
+first-places : (cell : UnitCell) → 0 < cell .n2 → placesFrom cell (0, 0, 0) ≡ cellFrom (cell .n3) (cell .n2) 0 (cell .n1)
+first-places cell b = plane-start cell 0 b ∙ along (cellFrom (cell .n3) (cell .n2) 0) (cell .n1 - 0) (cell .n1) (omega arith)
 
-pub fewer : {n1 n2 n3 : ℕ} {j r : Index} → Next n1 n2 n3 j r → length (placesFrom n1 n2 n3 (tripleOf r)) < length (placesFrom n1 n2 n3 (tripleOf j))
+pub fewer : {cell : UnitCell} {j r : Index} → Next cell j r → length (placesFrom cell (tripleOf r)) < length (placesFrom cell (tripleOf j))
 fewer x = omega (arith, ap length (x .left))
 
 module _ {A : Type 0} {R : List J → List A} (s : Spreads R) where
@@ -55,51 +56,51 @@ module _ {A : Type 0} {R : List J → List A} (s : Spreads R) where
 
 -- ---- a loop that counts
 
-pub record Counting {A : Type 0} (R : List J → List A) (n1 n2 n3 count : ℕ) (j : Index) : Type 0 where
-  pub k : j .k < n2
-  pub l : j .l < n3
-  pub left : count + length (R (placesFrom n1 n2 n3 (tripleOf j))) ≡ length (R (cellFrom n3 n2 0 n1))
+pub record Counting {A : Type 0} (R : List J → List A) (cell : UnitCell) (count : ℕ) (j : Index) : Type 0 where
+  pub k : j .k < cell .n2
+  pub l : j .l < cell .n3
+  pub left : count + length (R (placesFrom cell (tripleOf j))) ≡ length (R (cellFrom (cell .n3) (cell .n2) 0 (cell .n1)))
 
-pub counting-start : {A : Type 0} (R : List J → List A) (n1 n2 n3 : ℕ) → 0 < n2 → 0 < n3 → Counting R n1 n2 n3 0 (record { h = 0; k = 0; l = 0 })
-counting-start R n1 n2 n3 b c = record { k = b; l = c; left = omega (arith, ap (λ t. length (R t)) (first-places n1 n2 n3 b)) }
+pub counting-start : {A : Type 0} (R : List J → List A) (cell : UnitCell) → 0 < cell .n2 → 0 < cell .n3 → Counting R cell 0 (record { h = 0; k = 0; l = 0 })
+counting-start R cell b c = record { k = b; l = c; left = omega (arith, ap (λ t. length (R t)) (first-places cell b)) }
 
-module _ {A : Type 0} {R : List J → List A} (s : Spreads R) {n1 n2 n3 count r : ℕ} {j : Index} (c : Counting R n1 n2 n3 count j) (e : r ≡ length (R (tripleOf j ∷ []))) where
-  pub counting-next : {i : Index} → Next n1 n2 n3 j i → Counting R n1 n2 n3 (count + r) i
+module _ {A : Type 0} {R : List J → List A} (s : Spreads R) {cell : UnitCell} {count r : ℕ} {j : Index} (c : Counting R cell count j) (e : r ≡ length (R (tripleOf j ∷ []))) where
+  pub counting-next : {i : Index} → Next cell j i → Counting R cell (count + r) i
   counting-next {i} x = record { k = x .k; l = x .l; left = omega (arith, c .left, e, lengths s (tripleOf j) _ _ (x .left)) }
 
-  pub counting-most : j .h < n1 → count + r ≤ length (R (cellFrom n3 n2 0 n1))
-  counting-most a = omega (arith, c .left, e, lengths s (tripleOf j) _ _ (here n1 n2 n3 (j .h) (j .k) (j .l) a (c .k) (c .l)))
+  pub counting-most : j .h < cell .n1 → count + r ≤ length (R (cellFrom (cell .n3) (cell .n2) 0 (cell .n1)))
+  counting-most a = omega (arith, c .left, e, lengths s (tripleOf j) _ _ (here cell (j .h) (j .k) (j .l) a (c .k) (c .l)))
 
-pub counting-done : {A : Type 0} {R : List J → List A} → Spreads R → {n1 n2 n3 count m : ℕ} → NoneBeyond R n1 m → {j : Index} → Counting R n1 n2 n3 count j → m < j .h → count ≡ length (R (cellFrom n3 n2 0 n1))
-counting-done s {n1} {n2} {n3} none {j} c h = omega (arith, c .left, ap length (from-none s n1 n2 n3 none (tripleOf j) h))
+pub counting-done : {A : Type 0} {R : List J → List A} → Spreads R → {cell : UnitCell} {count m : ℕ} → NoneBeyond R (cell .n1) m → {j : Index} → Counting R cell count j → m < j .h → count ≡ length (R (cellFrom (cell .n3) (cell .n2) 0 (cell .n1)))
+counting-done s {cell} none {j} c h = omega (arith, c .left, ap length (from-none s cell none (tripleOf j) h))
 
 -- ---- a loop that writes
 
-pub record Putting (R : List J → List ℕ) (n1 n2 n3 start : ℕ) (before : List ℕ) (at : ℕ) (after : List ℕ) (j : Index) : Type 0 where
-  pub k : j .k < n2
-  pub l : j .l < n3
-  pub place : at + length (R (placesFrom n1 n2 n3 (tripleOf j))) ≡ start + length (R (cellFrom n3 n2 0 n1))
+pub record Putting (R : List J → List ℕ) (cell : UnitCell) (start : ℕ) (before : List ℕ) (at : ℕ) (after : List ℕ) (j : Index) : Type 0 where
+  pub k : j .k < cell .n2
+  pub l : j .l < cell .n3
+  pub place : at + length (R (placesFrom cell (tripleOf j))) ≡ start + length (R (cellFrom (cell .n3) (cell .n2) 0 (cell .n1)))
   pub same : length after ≡ length before
   -- what is left, written from here on, makes the whole
-  pub goes : (r : ℕ) (m : List ℕ) → Wrote at (R (placesFrom n1 n2 n3 (tripleOf j))) after r m → Wrote start (R (cellFrom n3 n2 0 n1)) before r m
+  pub goes : (r : ℕ) (m : List ℕ) → Wrote at (R (placesFrom cell (tripleOf j))) after r m → Wrote start (R (cellFrom (cell .n3) (cell .n2) 0 (cell .n1))) before r m
 
-pub putting-start : (R : List J → List ℕ) (n1 n2 n3 start : ℕ) (before : List ℕ) → 0 < n2 → 0 < n3 → Putting R n1 n2 n3 start before start before (record { h = 0; k = 0; l = 0 })
-putting-start R n1 n2 n3 start before b c =
-    let e = first-places n1 n2 n3 b in
+pub putting-start : (R : List J → List ℕ) (cell : UnitCell) (start : ℕ) (before : List ℕ) → 0 < cell .n2 → 0 < cell .n3 → Putting R cell start before start before (record { h = 0; k = 0; l = 0 })
+putting-start R cell start before b c =
+    let e = first-places cell b in
     record { k = b; l = c; place = omega (arith, ap (λ t. length (R t)) e); same = refl; goes = λ r m p. wrote-as p (ap R e) }
 
-module _ {R : List J → List ℕ} (s : Spreads R) {n1 n2 n3 start at : ℕ} {before after : List ℕ} {j : Index} (c : Putting R n1 n2 n3 start before at after j) where
-  pub putting-next : {i : Index} {r : ℕ} {m : List ℕ} → Wrote at (R (tripleOf j ∷ [])) after r m → Next n1 n2 n3 j i → Putting R n1 n2 n3 start before r m i
+module _ {R : List J → List ℕ} (s : Spreads R) {cell : UnitCell} {start at : ℕ} {before after : List ℕ} {j : Index} (c : Putting R cell start before at after j) where
+  pub putting-next : {i : Index} {r : ℕ} {m : List ℕ} → Wrote at (R (tripleOf j ∷ [])) after r m → Next cell j i → Putting R cell start before r m i
   putting-next {i} o x = record {
     k = x .k;
     l = x .l;
     place = omega (arith, c .place, o .place, lengths s (tripleOf j) _ _ (x .left));
     same = wrote-length o ∙ c .same;
-    goes = λ r m p. c .goes r m (wrote-as (wrote-append o p) (sym (ap R (x .left) ∙ s .append (tripleOf j ∷ []) (placesFrom n1 n2 n3 (tripleOf i)))));
+    goes = λ r m p. c .goes r m (wrote-as (wrote-append o p) (sym (ap R (x .left) ∙ s .append (tripleOf j ∷ []) (placesFrom cell (tripleOf i)))));
   }
 
-  pub putting-ends : {l : List ℕ} → j .h < n1 → R (cellFrom n3 n2 0 n1) ≡ l → Ends start l → Ends at (R (tripleOf j ∷ []))
-  putting-ends a f r = record { low = omega (arith, r .low, c .place, ap length f, lengths s (tripleOf j) _ _ (here n1 n2 n3 (j .h) (j .k) (j .l) a (c .k) (c .l))) }
+  pub putting-ends : {l : List ℕ} → j .h < cell .n1 → R (cellFrom (cell .n3) (cell .n2) 0 (cell .n1)) ≡ l → Ends start l → Ends at (R (tripleOf j ∷ []))
+  putting-ends a f r = record { low = omega (arith, r .low, c .place, ap length f, lengths s (tripleOf j) _ _ (here cell (j .h) (j .k) (j .l) a (c .k) (c .l))) }
 
-  pub putting-done : {l : List ℕ} {m : ℕ} → NoneBeyond R n1 m → m < j .h → R (cellFrom n3 n2 0 n1) ≡ l → Wrote start l before at after
-  putting-done none h f = wrote-as (c .goes at after (wrote-as (wrote-none at after) (sym (from-none s n1 n2 n3 none (tripleOf j) h)))) f
+  pub putting-done : {l : List ℕ} {m : ℕ} → NoneBeyond R (cell .n1) m → m < j .h → R (cellFrom (cell .n3) (cell .n2) 0 (cell .n1)) ≡ l → Wrote start l before at after
+  putting-done none h f = wrote-as (c .goes at after (wrote-as (wrote-none at after) (sym (from-none s cell none (tripleOf j) h)))) f

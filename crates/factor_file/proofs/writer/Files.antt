@@ -15,7 +15,7 @@ use Rattle.lengths.specs.Lengths.{scratchLength}
 use Rattle.refusals.proofs.Tests.{Passed, passed, fails}
 use Rattle.cell.specs.Volume.{volumeLength}
 use Rattle.job.specs.declared.Job.{Job}
-use Rattle.job.specs.Job.{headerOf, axisTests, validJob, mapHeld, groupIn, halves, fits, synthesisTests}
+use Rattle.job.specs.Job.{jobCell, headerOf, axisTests, validJob, mapHeld, groupIn, halves, fits, synthesisTests}
 use Rattle.job.specs.Tests.{factorsTests}
 use Rattle.header.proofs.Headers.{all-three}
 use Rattle.output.specs.Output.{Wrote}
@@ -91,7 +91,7 @@ module _ (j : Job) (v output : List ℕ) where
   write-refused r e = fails r (first (writeTests j v output)) _ (λ n. record { answer = notWritten n; output = output }) (failed-first held rest (numberOf r) (nonzero r) e)
 
   pub write-filed : (r : WriteAnswer) (after : List ℕ) → Passed held →
-      writeOutcome r after ≡ filed (length (recordsWith (j .group) (j .a .length) (j .b .length) (j .c .length) v)) (fileWith (j .group) (j .a .length) (j .b .length) (j .c .length) (j .a .factors) (j .b .factors) (j .c .factors) v) output →
+      writeOutcome r after ≡ filed (length (recordsWith (jobCell j) v)) (fileWith (jobCell j) (j .a .factors) (j .b .factors) (j .c .factors) v) output →
       writeOutcome r after ≡ writeStep j v output
   unfolding writeStep rest jobFile jobRecords
   write-filed r after p e = e ∙ ap (told (jobFile j v) output) (sym (passed-on held rest p))

@@ -1,9 +1,11 @@
 // The header of a file: version, group, lengths and factor lists. A job holds its lists as octal digits, the first factor lowest.
+use cell::operations::UnitCell;
 use output::big_endian;
 ghost use Prim.Native.Nat.{_<_};
 ghost use Rattle.lengths.specs.Lengths.{octalDigits};
 ghost use Rattle.output.specs.Output.{Wrote, Ends};
-ghost use Rattle.file_format.specs.Format.{listBytes, headerBytes, headerWith};
+ghost use Rattle.factor_file.specs.Steps.{headerFor};
+ghost use Rattle.file_format.specs.Format.{listBytes, headerBytes};
 
 // The octal digits, the lowest first.
 fn put_digits(factors: u32, out: &mut [u8], start: usize) -> usize
@@ -28,26 +30,16 @@ fn put_list(factors: u32, out: &mut [u8], at: usize) -> usize
     put_digits(factors, out, first)
 }
 
-pub fn put_header(
-    group: u32,
-    n1: u32,
-    n2: u32,
-    n3: u32,
-    f1: u32,
-    f2: u32,
-    f3: u32,
-    out: &mut [u8],
-    at: usize,
-) -> usize
-    requires { ⌜ (group < 256) × (n1 < 65536) × (n2 < 65536) × (n3 < 65536) ⌝ }
-    requires { ⌜ Ends at (headerBytes (headerWith group n1 n2 n3 f1 f2 f3)) ⌝ }
-    ensures { λ r. ⌜ Wrote at (headerBytes (headerWith group n1 n2 n3 f1 f2 f3)) (now (out .entry)) r (now (out .exit)) ⌝ }
+pub fn put_header(cell: UnitCell, f1: u32, f2: u32, f3: u32, out: &mut [u8], at: usize) -> usize
+    requires { ⌜ (cell .group < 256) × (cell .n1 < 65536) × (cell .n2 < 65536) × (cell .n3 < 65536) ⌝ }
+    requires { ⌜ Ends at (headerBytes (headerFor cell f1 f2 f3)) ⌝ }
+    ensures { λ r. ⌜ Wrote at (headerBytes (headerFor cell f1 f2 f3)) (now (out .entry)) r (now (out .exit)) ⌝ }
 {
     let second = output::put_byte(out, at, 1);
-    let first_axis = output::put_byte(out, second, group as u8);
-    let second_axis = big_endian::put_two(out, first_axis, n1);
-    let third_axis = big_endian::put_two(out, second_axis, n2);
-    let first_list = big_endian::put_two(out, third_axis, n3);
+    let first_axis = output::put_byte(out, second, cell.group as u8);
+    let second_axis = big_endian::put_two(out, first_axis, cell.n1);
+    let third_axis = big_endian::put_two(out, second_axis, cell.n2);
+    let first_list = big_endian::put_two(out, third_axis, cell.n3);
     let second_list = put_list(f1, out, first_list);
     let third_list = put_list(f2, out, second_list);
     put_list(f3, out, third_list)

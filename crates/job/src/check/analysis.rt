@@ -1,27 +1,25 @@
 // The tests of an analysis.
 use crate::check::map;
 use crate::check::tests;
+use cell::operations::UnitCell;
 use refusals::Checked;
 use refusals::Refusal;
 ghost use mathlib.Core.Path.{_≡_};
 ghost use mathlib.Core.Bool.{true};
 ghost use Rattle.refusals.specs.Refusals.{first, checkedNumber};
-ghost use Rattle.cell.specs.Operations.{Sizes};
+ghost use Rattle.cell.specs.Operations.{cellLengths, Sizes};
 ghost use Rattle.job.specs.Tests.{analysisTestsOf};
 
 // 25, 22, 6, 13, then the map's.
 pub fn check_analysis(
     valid: bool,
     state: u32,
-    group: u32,
-    n1: u32,
-    n2: u32,
-    n3: u32,
+    cell: UnitCell,
     volume: &[u32],
     scratch: usize,
 ) -> Checked
-    requires { ⌜ (valid ≡ true → Sizes group n1 n2 n3) ⌝ }
-    ensures { λ r. ⌜ checkedNumber r ≡ first (analysisTestsOf valid state group (n1, n2, n3) (now (volume .entry)) scratch) ⌝ }
+    requires { ⌜ (valid ≡ true → Sizes cell) ⌝ }
+    ensures { λ r. ⌜ checkedNumber r ≡ first (analysisTestsOf valid state (cell .group) (cellLengths cell) (now (volume .entry)) scratch) ⌝ }
 {
     if !valid {
         return Checked::Failed(Refusal::ImpossibleJob);
@@ -29,11 +27,11 @@ pub fn check_analysis(
     if state != 2 {
         return Checked::Failed(Refusal::NoMap);
     }
-    if !tests::fits(group, n1, n2, n3, volume) {
+    if !tests::fits(cell, volume) {
         return Checked::Failed(Refusal::BufferLength);
     }
     if scratch < 11520 {
         return Checked::Failed(Refusal::ScratchTooShort);
     }
-    map::check_map(group, n1, n2, n3, volume)
+    map::check_map(cell, volume)
 }

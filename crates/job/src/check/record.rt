@@ -3,6 +3,7 @@
 // It takes the job's numbers, an index, a value and the lent volume, and works nothing.
 use crate::check::tests;
 use cell::operations::Index;
+use cell::operations::UnitCell;
 use numbers::Pair;
 use refusals::Checked;
 use refusals::Refusal;
@@ -10,7 +11,7 @@ ghost use mathlib.Core.Path.{_≡_};
 ghost use mathlib.Core.Bool.{true, _&&_};
 ghost use lib.Dec.{ltb, eqb};
 ghost use Rattle.refusals.specs.Refusals.{first, checkedNumber};
-ghost use Rattle.cell.specs.Operations.{tripleOf, Sizes};
+ghost use Rattle.cell.specs.Operations.{cellLengths, tripleOf, Sizes};
 ghost use Rattle.job.specs.Tests.{p, recordTestsOf};
 
 // Both numbers of a value are below the prime.
@@ -31,16 +32,13 @@ fn both_zero(a: u32, b: u32) -> bool
 pub fn check_record(
     valid: bool,
     state: u32,
-    group: u32,
-    n1: u32,
-    n2: u32,
-    n3: u32,
+    cell: UnitCell,
     at: Index,
     x: Pair,
     volume: &[u32],
 ) -> Checked
-    requires { ⌜ (valid ≡ true → Sizes group n1 n2 n3) ⌝ }
-    ensures { λ r. ⌜ checkedNumber r ≡ first (recordTestsOf valid state group (n1, n2, n3) (tripleOf at) (x .re) (x .im) (now (volume .entry))) ⌝ }
+    requires { ⌜ (valid ≡ true → Sizes cell) ⌝ }
+    ensures { λ r. ⌜ checkedNumber r ≡ first (recordTestsOf valid state (cell .group) (cellLengths cell) (tripleOf at) (x .re) (x .im) (now (volume .entry))) ⌝ }
 {
     if !valid {
         return Checked::Failed(Refusal::ImpossibleJob);
@@ -48,7 +46,7 @@ pub fn check_record(
     if state != 0 {
         return Checked::Failed(Refusal::NotCollecting);
     }
-    if !tests::inside(n1, n2, n3, at.h, at.k, at.l) {
+    if !tests::inside(cell, at.h, at.k, at.l) {
         return Checked::Failed(Refusal::Index);
     }
     if !residues(x.re, x.im) {
@@ -57,5 +55,5 @@ pub fn check_record(
     if both_zero(x.re, x.im) {
         return Checked::Failed(Refusal::ZeroValue);
     }
-    crate::check::orbit::check_orbit(group, n1, n2, n3, at, x, volume)
+    crate::check::orbit::check_orbit(cell, at, x, volume)
 }

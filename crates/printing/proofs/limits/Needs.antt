@@ -4,7 +4,8 @@ use Prim.Native.Nat.{ℕ, zero, suc, _+_, _*_, _/_, _<_, _≤_}
 use native.Mathlib.Nat.{mul-le-mul}
 use native.Mathlib.Omega.{arith}
 use Rattle.algebra.specs.cells.Cell.{planes}
-use Rattle.cell.specs.Operations.{halvesOf}
+use Rattle.cell.specs.declared.operations.UnitCell.{UnitCell}
+use Rattle.cell.specs.Operations.{cellGroup, cellHalves, halvesOf}
 use Rattle.cell.specs.Volume.{groupOf, volumeLength}
 use mathlib.Core.List.{List}
 use Rattle.header.specs.Header.{needed}
@@ -47,10 +48,10 @@ few-numbers {w} {n1} {n2} h k l =
     let column : n2 / 2 + 1 ≤ 32768 = omega arith in
     omega (arith, mul-le-mul (few-rows h k) column)
 
-pub length-is : (group n1 n2 n3 : ℕ) {w : ℕ} → w ≡ planes (groupOf group) (n3 / 2) → 2 * (w * (2 * (n1 / 2)) * (n2 / 2 + 1)) ≡ volumeLength (groupOf group) (halvesOf n1 n2 n3)
-length-is group n1 n2 n3 e =
-    let next : n2 / 2 + 1 ≡ suc (n2 / 2) = omega arith in
-    λ i. 2 * (e i * (2 * (n1 / 2)) * next i)
+pub length-is : (cell : UnitCell) {w : ℕ} → w ≡ planes (cellGroup cell) (cell .n3 / 2) → 2 * (w * (2 * (cell .n1 / 2)) * (cell .n2 / 2 + 1)) ≡ volumeLength (cellGroup cell) (cellHalves cell)
+length-is cell e =
+    let next : cell .n2 / 2 + 1 ≡ suc (cell .n2 / 2) = omega arith in
+    λ i. 2 * (e i * (2 * (cell .n1 / 2)) * next i)
 
 -- the numbers of a header, and what they ask for
 pub header-needs : (file : List ℕ) {r b n1 n2 n3 : ℕ} → r ≡ volumeLength (groupOf b) (halvesOf n1 n2 n3) → b ≡ byteAt file 5 → n1 ≡ twoBytes file 6 → n2 ≡ twoBytes file 8 → n3 ≡ twoBytes file 10 → r ≡ needed (headerIn file)

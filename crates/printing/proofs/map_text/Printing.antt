@@ -8,15 +8,15 @@ use native.Mathlib.Omega.{arith}
 use lib.Dec.{ltb, eqb}
 use lib.ListN.{length, getD, length-append}
 use borrow.Author.Tests.{eqb-true, ltb-false}
-use Rattle.algebra.specs.cells.Cell.{P1, planes}
+use Rattle.algebra.specs.cells.Cell.{planes}
 use Rattle.refusals.specs.Refusals.{first}
 use Rattle.refusals.proofs.Tests.{passed}
-use Rattle.cell.specs.Operations.{halvesOf, Length, Sizes}
+use Rattle.cell.specs.Operations.{Sizes}
 use Rattle.cell.specs.Volume.{layers, rows, columns, pairPlace, mapPlace, volumeLength}
 use Rattle.cell.proofs.VolumeLayout.{place-inside}
 use Rattle.cell.proofs.StoredFactors.{layers-most, number-place}
 use Rattle.job.specs.declared.Job.{Job}
-use Rattle.job.specs.Job.{groupIn, halves, validJob, headerOf, axisTests}
+use Rattle.job.specs.Job.{jobCell, groupIn, halves, validJob, headerOf, axisTests}
 use Rattle.header.proofs.Headers.{all-three}
 use Rattle.job.proofs.Jobs.{valid-sizes}
 use Rattle.output.specs.Output.{decimal, blank, lineFeed, each, Ends}
@@ -72,7 +72,7 @@ valid-limit j e =
     ltb-false _ _ (passed (axisTests (headerOf j)) tt (sym (eqb-true _ _ (t .1))) .1 .1 .1 .0)
 
 module _ {j : Job} {v : List ℕ} (p : Printable j v) where
-  pub printable-sizes : Sizes (j .group) (j .a .length) (j .b .length) (j .c .length)
+  pub printable-sizes : Sizes (jobCell j)
   printable-sizes = valid-sizes j (p .valid)
 
   -- the text of a map is at most 48 bytes longer than eleven times its volume
@@ -94,10 +94,10 @@ module _ {j : Job} {v : List ℕ} (p : Printable j v) where
   -- ---- the row at z, x
   module _ {z x : ℕ} (lz : z < layers (groupIn j) (halves j)) (lx : x < j .a .length) where
     -- what the place of its first pair is asked for with
-    pub row-asked : Length (j .a .length) × Length (j .b .length) × (z ≤ 2880) × (x ≤ 2880) × (0 ≤ 2880)
-    row-asked = let s = printable-sizes in (s .first, s .second, omega (arith, layers-below), omega (arith, s .first .high), omega arith)
+    pub row-asked : Sizes (jobCell j) × (z ≤ 2880) × (x ≤ 2880) × (0 ≤ 2880)
+    row-asked = let s = printable-sizes in (s, omega (arith, layers-below), omega (arith, s .first .high), omega arith)
 
-    module _ {q : ℕ} (e : q ≡ pairPlace P1 (halvesOf (j .a .length) (j .b .length) 0) z x 0) where
+    module _ {q : ℕ} (e : q ≡ pairPlace (groupIn j) (halves j) z x 0) where
       pub row-inside : 2 * q + j .b .length ≤ length v
       row-inside =
           let s = printable-sizes in

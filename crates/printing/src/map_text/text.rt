@@ -36,7 +36,7 @@ fn put_row(out: &mut [u8], at: usize, job: Job, volume: &[u32], z: u32, x: u32) 
     ensures { λ r. ⌜ Wrote at (rowLine job (now (volume .entry)) z x) (now (out .entry)) r (now (out .exit)) ⌝ }
 {
     let n2 = job.b.length;
-    let start = 2 * places::pair_place(job.a.length, n2, z, x, 0);
+    let start = 2 * places::pair_place(job.unit_cell(), z, x, 0);
     let plane = output::put_decimal(out, at, z);
     let row = output::put_field(out, plane, x);
     let values = crate::row_values::put_values(out, row, volume, start, n2 as usize);
@@ -65,7 +65,7 @@ fn put_planes(out: &mut [u8], at: usize, job: Job, volume: &[u32]) -> usize
     requires { ⌜ Ends at (each (layers (groupIn job) (halves job)) (λ z. each (job .a .length) (λ x. rowLine job (now volume) z x))) ⌝ }
     ensures { λ r. ⌜ Wrote at (each (layers (groupIn job) (halves job)) (λ z. each (job .a .length) (λ x. rowLine job (now (volume .entry)) z x))) (now (out .entry)) r (now (out .exit)) ⌝ }
 {
-    let planes = places::layer_count(job.group, job.c.length);
+    let planes = places::layer_count(job.unit_cell());
     let mut place = at;
     let mut z: u32 = 0;
     while z < planes {
@@ -103,7 +103,7 @@ fn check_text(job: Job, volume: &[u32], room: usize) -> Checked
     if job.state != 2 {
         return Checked::Failed(Refusal::NoMap);
     }
-    if !tests::fits(job.group, job.a.length, job.b.length, job.c.length, volume) {
+    if !tests::fits(job.unit_cell(), volume) {
         return Checked::Failed(Refusal::BufferLength);
     }
     if room < map_length(job, volume) {

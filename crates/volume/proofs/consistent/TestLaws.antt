@@ -20,7 +20,8 @@ use Rattle.slices.specs.Pairs.{at}
 use Rattle.cell.specs.Volume.{groupOf, pairPlace, mapPlace, rows, columns, layers}
 use Rattle.cell.specs.Consistency.{sameValue, implied, pairIsZero, zeroEnds, pointAgrees, rowEnds, consistentMap}
 use Rattle.cell.specs.declared.operations.Index.{Index}
-use Rattle.cell.specs.Operations.{halvesOf, tripleOf, Sizes, Within}
+use Rattle.cell.specs.declared.operations.UnitCell.{UnitCell}
+use Rattle.cell.specs.Operations.{cellGroup, cellHalves, tripleOf, Sizes, Within}
 use Rattle.cell.specs.TestSteps.{IsStored, samePair, isZero, imageAgrees, pointImageAgrees, emptyEnds, emptyIfOdd, rowAgrees}
 use Rattle.cell.proofs.Tests.{true-iff}
 use Rattle.volume.proofs.consistent.Passing.{below-one, below-cong, by-rows}
@@ -35,21 +36,21 @@ first-full = by-group (λ g. (1 ≤ length (full g)) × (one ≡ getD (full g) 0
 
 -- ---- stored indices
 
-module _ {group n1 n2 n3 : ℕ} (s : Sizes group n1 n2 n3) where
-  span-most : (n : ℕ) → n < 5 → span (groupOf n) (n3 / 2) ≤ n3
+module _ {cell : UnitCell} (s : Sizes cell) where
+  span-most : (n : ℕ) → n < 5 → span (groupOf n) (cell .n3 / 2) ≤ cell .n3
   unfolding span
-  span-most = let l = s .third in by-group (λ g. span g (n3 / 2) ≤ n3) (omega arith) (omega arith) (omega arith) (omega arith) (omega arith)
+  span-most = let l = s .third in by-group (λ g. span g (cell .n3 / 2) ≤ cell .n3) (omega arith) (omega arith) (omega arith) (omega arith) (omega arith)
 
-  pub stored-within : {j : Index} → IsStored group n1 n2 n3 j → Within n1 n2 n3 j
-  stored-within i = record { h = i .h; k = omega (arith, i .k, s .second .low); l = omega (arith, i .l, span-most group (s .known)) }
+  pub stored-within : {j : Index} → IsStored cell j → Within cell j
+  stored-within i = record { h = i .h; k = omega (arith, i .k, s .second .low); l = omega (arith, i .l, span-most (cell .group) (s .known)) }
 
-  pub stored-by : {j : Index} → Within n1 n2 n3 j → {t : Bool} → t ≡ storedT (groupOf group) (halvesOf n1 n2 n3) (tripleOf j) → t ≡ true → IsStored group n1 n2 n3 j
+  pub stored-by : {j : Index} → Within cell j → {t : Bool} → t ≡ storedT (cellGroup cell) (cellHalves cell) (tripleOf j) → t ≡ true → IsStored cell j
   stored-by {j} w e t =
       let both = true-iff _ .0 (sym e ∙ t) in
       record {
         h = w .h;
-        k = leb→le _ _ (and-l (leb (j .k) (n2 / 2)) _ both);
-        l = ltb→lt _ _ (and-r (leb (j .k) (n2 / 2)) _ both);
+        k = leb→le _ _ (and-l (leb (j .k) (cell .n2 / 2)) _ both);
+        l = ltb→lt _ _ (and-r (leb (j .k) (cell .n2 / 2)) _ both);
       }
 
 -- ---- an image of a factor

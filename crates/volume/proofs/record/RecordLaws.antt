@@ -1,7 +1,7 @@
 -- What one operation of an orbit writes, and one after the other, as the code writes it.
 use mathlib.Core.Path.{_≡_, refl, sym, _∙_, ap, ap₂}
-use mathlib.Core.Bool.{Bool, true, false, cond}
-use mathlib.Core.List.{List}
+use mathlib.Core.Bool.{Bool, true, false}
+use mathlib.Core.List.{List, [], _∷_}
 use Prim.Native.Nat.{ℕ, _+_, _<_, _≤_}
 use lib.Dec.{leb, leb→le, ltb→lt}
 use lib.ListN.{length, getD, drop}
@@ -12,7 +12,7 @@ use Rattle.numbers.specs.declared.Pair.{Pair}
 use Rattle.numbers.specs.Value.{Value, field, conj, valueOf, pairOf}
 use Rattle.numbers.proofs.Values.{value-by}
 use Rattle.cell.specs.Volume.{rotated, timesI}
-use Rattle.cell.specs.Consistency.{write, writtenPair, writeImages}
+use Rattle.cell.specs.Consistency.{write, writeImages}
 use Rattle.cell.proofs.Tests.{true-iff}
 use Rattle.cell.proofs.Scans.{rest-opens, rest-ends}
 
@@ -27,16 +27,18 @@ stored-bounds g a i e f =
 module _ (g : Group) (a : J) (m : ℕ) (j : J) (x : Value m) where
   -- what one operation leaves
   abbrev pub written : List ℕ → Sym → List ℕ
-  written v s = cond (storedT g a (imageOf a s j)) (write g a g v (imageOf a s j) (writtenPair g a m (imageOf a s j) (impliedValue (field m) (conj m) s j x))) v
+  written v s = writeImages g a m (s ∷ []) j x v
 
   module _ (v : List ℕ) (s : Sym) {i : J} (e : i ≡ imageOf a s j) {t : Bool} (f : t ≡ storedT g a i) where
     stored-as : (b : Bool) → t ≡ b → storedT g a (imageOf a s j) ≡ b
     stored-as b q = sym (f ∙ ap (storedT g a) e) ∙ q
 
     pub image-written : t ≡ true → {y z : Pair} {w : List ℕ} → y ≡ pairOf (impliedValue (field m) (conj m) s j x) → z ≡ pairOf (timesI m (rotated g (i .0)) (valueOf m y)) → w ≡ write g a g v i z → w ≡ written v s
+    unfolding writeImages
     image-written q p u r = rw (stored-as true q) (r ∙ ap₂ (λ i y. write g a g v i y) e (u ∙ ap₂ (λ (i : J) y. pairOf (timesI m (rotated g (i .0)) y)) e (value-by m _ p)))
 
     pub image-skipped : t ≡ false → v ≡ written v s
+    unfolding writeImages
     image-skipped q = rw (stored-as false q) refl
 
   -- a loop that writes: in its turn i the images of the rest are still to be written

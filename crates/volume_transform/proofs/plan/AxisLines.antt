@@ -28,11 +28,11 @@ as-packed m A zero kind l = refl
 as-packed m A (suc d) kind l = refl
 
 module _ (p : Plan) (ok : Planned p) where
-  abbrev sizes : Sizes (p .group) (p .n1) (p .n2) (p .n3)
+  abbrev sizes : Sizes (p .cell)
   sizes = ok .sizes .sizes
 
   abbrev width : ℕ
-  width = p .n2 / 2 + 1
+  width = p .cell .n2 / 2 + 1
 
   -- a line of length n = 2 (n / 2) along one of the axes
   sound : (kind : ℕ) (b : Bool) (n factors start stride count : ℕ) → kind < 6 → n ≡ 2 * (n / 2) → AdmittedLength n → FactorList n factors
@@ -46,15 +46,15 @@ module _ (p : Plan) (ok : Planned p) where
   }
 
   module _ (y kind f count : ℕ) (b : Bool) (l : y < alongL (planGroup p) (planHalves p) .count) (known : kind < 6) (e : kindOf kind ≡ lineKind (planGroup p) (y / width)) (eb : b ≡ rotated (planGroup p) (y / width)) (other : kind ≡ 1 → ⊥)
-      (ef : f ≡ firstPair (kindOf kind)) (low : f ≤ 1) (ec : count ≡ pairCount kind (p .n3)) (few : count ≤ 2880) where
+      (ef : f ≡ firstPair (kindOf kind)) (low : f ≤ 1) (ec : count ≡ pairCount kind (p .cell .n3)) (few : count ≤ 2880) where
     pub gathered-l : Gathered p (turnOf (alongL (planGroup p) (planHalves p)) (turnedL (planGroup p) (planHalves p) (p .m) (p .direction)) y)
-        (record { m = p .m; direction = p .direction; kind = kind; rotated = b; factors = p .f3; half = p .n3 / 2; start = y + f * (p .n1 * width); stride = p .n1 * width; count = count })
+        (record { m = p .m; direction = p .direction; kind = kind; rotated = b; factors = p .f3; half = p .cell .n3 / 2; start = y + f * (p .cell .n1 * width); stride = p .cell .n1 * width; count = count })
     gathered-l = record {
       modulus = refl;
       direction = refl;
       other = other;
       placed = record {
-        sound = sound kind b (p .n3) (p .f3) _ _ _ known (omega (arith, sizes .third .even)) (ok .sizes .third) (ok .sizes .third-list);
+        sound = sound kind b (p .cell .n3) (p .f3) _ _ _ known (omega (arith, sizes .third .even)) (ok .sizes .third) (ok .sizes .third-list);
         counted = ec;
         low = few;
         fits = fits-l sizes y kind f count e eb ef low ec l;
@@ -64,35 +64,35 @@ module _ (p : Plan) (ok : Planned p) where
 
   module _ (y : ℕ) (l : y < alongH (planGroup p) (planHalves p) .count) where
     pub gathered-h : Gathered p (turnOf (alongH (planGroup p) (planHalves p)) (turnedH (planGroup p) (planHalves p) (p .m) (p .direction)) y)
-        (record { m = p .m; direction = p .direction; kind = 0; rotated = false; factors = p .f1; half = p .n1 / 2; start = y / width * (p .n1 * width) + y % width; stride = width; count = p .n1 })
+        (record { m = p .m; direction = p .direction; kind = 0; rotated = false; factors = p .f1; half = p .cell .n1 / 2; start = y / width * (p .cell .n1 * width) + y % width; stride = width; count = p .cell .n1 })
     unfolding slots
     gathered-h = record {
       modulus = refl;
       direction = refl;
       other = λ e. omega arith;
       placed = record {
-        sound = sound 0 false (p .n1) (p .f1) _ _ _ (omega arith) (twice sizes) (ok .sizes .first) (ok .sizes .first-list);
+        sound = sound 0 false (p .cell .n1) (p .f1) _ _ _ (omega arith) (twice sizes) (ok .sizes .first) (ok .sizes .first-list);
         counted = twice sizes;
         low = sizes .first .high;
         fits = fits-h sizes y l;
       };
-      turn = λ v. by-places (alongH (planGroup p) (planHalves p)) (turnedH (planGroup p) (planHalves p) (p .m) (p .direction)) y (p .n1) _ (turnedStored (p .m) (p .n1 / 2) (p .direction) false plain) v _ (twice sizes) (λ j lj. place-h sizes y l j) (as-packed (p .m) (p .n1 / 2) (p .direction) plain) refl;
+      turn = λ v. by-places (alongH (planGroup p) (planHalves p)) (turnedH (planGroup p) (planHalves p) (p .m) (p .direction)) y (p .cell .n1) _ (turnedStored (p .m) (p .cell .n1 / 2) (p .direction) false plain) v _ (twice sizes) (λ j lj. place-h sizes y l j) (as-packed (p .m) (p .cell .n1 / 2) (p .direction) plain) refl;
     }
 
   module _ (y : ℕ) (l : y < alongK (planGroup p) (planHalves p) .count) where
     pub row-k : Row p (turnOf (alongK (planGroup p) (planHalves p)) (turnedK (planGroup p) (planHalves p) (p .m) (p .direction)) y)
-        (record { m = p .m; direction = p .direction; kind = 1; rotated = false; factors = p .f2; half = p .n2 / 2; start = y * width; stride = 1; count = width })
+        (record { m = p .m; direction = p .direction; kind = 1; rotated = false; factors = p .f2; half = p .cell .n2 / 2; start = y * width; stride = 1; count = width })
     row-k = record {
       modulus = refl;
       direction = refl;
       placed = record {
-        sound = sound 1 false (p .n2) (p .f2) _ _ _ (omega arith) (omega (arith, sizes .second .even)) (ok .sizes .second) (ok .sizes .second-list);
+        sound = sound 1 false (p .cell .n2) (p .f2) _ _ _ (omega arith) (omega (arith, sizes .second .even)) (ok .sizes .second) (ok .sizes .second-list);
         hermitian = refl;
         counted = refl;
         fits = row-fits sizes y l;
         low = row-low sizes y l;
       };
-      turn = λ v. by-places (alongK (planGroup p) (planHalves p)) (turnedK (planGroup p) (planHalves p) (p .m) (p .direction)) y width (λ j. y * width + j) (turnedRow (p .m) (p .n2 / 2) (p .direction)) v _ (next sizes) (λ j lj. ap (λ k. y * k + j) (next sizes)) (λ x. refl) refl;
+      turn = λ v. by-places (alongK (planGroup p) (planHalves p)) (turnedK (planGroup p) (planHalves p) (p .m) (p .direction)) y width (λ j. y * width + j) (turnedRow (p .m) (p .cell .n2 / 2) (p .direction)) v _ (next sizes) (λ j lj. ap (λ k. y * k + j) (next sizes)) (λ x. refl) refl;
     }
 
 -- ---- which line a number stands for

@@ -13,9 +13,10 @@ use Rattle.slices.specs.Pairs.{Below}
 use Rattle.slices.specs.Sweep.{Layout, sweep, onLists}
 use Rattle.lengths.specs.Admitted.{AdmittedLength}
 use Rattle.line.proofs.kinds.Axes.{axis-laws}
-use Rattle.cell.specs.Volume.{groupOf, volumeLength, factorsIn, packFactors, mapIn, packMap, mapOf, factorsOf}
+use Rattle.cell.specs.Volume.{volumeLength, factorsIn, packFactors, mapIn, packMap, mapOf, factorsOf}
 use Rattle.cell.specs.Consistency.{consistentFactors, consistentMap}
-use Rattle.cell.specs.Operations.{halvesOf}
+use Rattle.cell.specs.declared.operations.UnitCell.{UnitCell}
+use Rattle.cell.specs.Operations.{cellGroup, cellHalves}
 use Rattle.volume_transform.specs.Turns.{turns}
 use Rattle.volume_transform.specs.Axes.{alongL, alongH, alongK, lineCount, lineOfTurn, turnedL, turnedH, turnedK, jobTurn, JobSizes}
 use Rattle.cell.proofs.Consistency.{consistent-read}
@@ -65,12 +66,12 @@ module _ (g : Group) (a : J) (m direction : ℕ) where
 
 -- ---- a checked job
 
-module _ (m : ℕ) (is : IsModulus m) {group n1 n2 n3 f1 f2 f3 : ℕ} (job : JobSizes group n1 n2 n3 f1 f2 f3) (v : List ℕ) (len : length v ≡ volumeLength (groupOf group) (halvesOf n1 n2 n3)) (small : Below (prime m) v) where
+module _ (m : ℕ) (is : IsModulus m) {cell : UnitCell} {f1 f2 f3 : ℕ} (job : JobSizes cell f1 f2 f3) (v : List ℕ) (len : length v ≡ volumeLength (cellGroup cell) (cellHalves cell)) (small : Below (prime m) v) where
   abbrev g : Group
-  g = groupOf group
+  g = cellGroup cell
 
   abbrev a : J
-  a = halvesOf n1 n2 n3
+  a = cellHalves cell
 
   long : Positive a
   long = (job .first .positive, job .second .positive, job .third .positive)

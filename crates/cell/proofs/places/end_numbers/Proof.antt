@@ -15,8 +15,8 @@ pair-place-requires c κs = search needs
 mul-place : tie.Need-mul-place
 mul-place c = omega arith
 
-add-t12 : tie.Need-add-t12
-add-t12 c = omega arith
+add-t9 : tie.Need-add-t9
+add-t9 c = omega arith
 
 pair-numbers-requires : tie.Need-pair-numbers-requires
 pair-numbers-requires c κs = search needs
@@ -38,18 +38,18 @@ returns-2 c =
 
 returns-3 : tie.Need-returns-3
 returns-3 c =
-    let a = c .before .before .before .before .before .before in
+    let a = c .before .before .before .before .before .before .before in
     let e = c .pair-numbers .ensures in
     glide-found (a .pre .0) _ (a .pre .1) (a .pre .2) _ (c .before .before .before .if3 .taken) (c .before .if4 .taken) (a .pre .4) (e .0) (e .1)
 
 returns-4 : tie.Need-returns-4
 returns-4 c =
-    let a = c .before .before .before .before .before in
+    let a = c .before .before .before .before .before .before in
     zero-found (a .pre .0) _ (a .pre .1) (a .pre .2) _ (c .before .before .if3 .taken) (c .if4 .left) (a .pre .4) refl refl
 
 returns-5 : tie.Need-returns-5
 returns-5 c =
-    let t = c .before .before in
+    let t = c .before .before .before in
     let a = t .before .before in
     let e = c .pair-numbers2 .ensures in
     mirror-found (a .pre .0) _ (a .pre .1) (a .pre .2) _ (a .pre .3) (sym (t .before .is-alternating .ensures) ∙ t .if1 .left) (c .before .if3 .left) (a .pre .4) (e .0) (e .1)
@@ -61,7 +61,7 @@ end-numbers-spec =
     is-alternating-requires
     pair-place-requires
     mul-place
-    add-t12
+    add-t9
     pair-numbers-requires
     pair-numbers-requires-2
     returns

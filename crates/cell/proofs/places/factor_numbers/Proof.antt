@@ -1,8 +1,8 @@
 -- By the line of the stored column.
 use borrow.Author.Needs.{needs}
 use mathlib.Core.Path.{sym, subst}
-use Rattle.cell.specs.Volume.{groupOf, volumeLength}
-use Rattle.cell.specs.Operations.{halvesOf}
+use Rattle.cell.specs.Volume.{volumeLength}
+use Rattle.cell.specs.Operations.{cellGroup, cellHalves}
 use Rattle.cell.specs.Places.{IsRun}
 use Rattle.cell.proofs.PlaceLaws.{column-numbers}
 use Rattle.cell.proofs.places.factor_numbers.Statement.{statement}
@@ -17,8 +17,8 @@ line-numbers-requires c κs = search needs
 returns : tie.Need-returns
 returns c =
     let a = c .before .before .args in
-    let g = groupOf (a .group) in
-    subst (λ p. IsRun (volumeLength g (halvesOf (a .n1) (a .n2) (a .n3))) p (c .line-numbers .result)) (sym (column-numbers g _ _ _ (c .before .stored-column .ensures .0))) (c .line-numbers .ensures)
+    let g = cellGroup (a .cell) in
+    subst (λ p. IsRun (volumeLength g (cellHalves (a .cell))) p (c .line-numbers .result)) (sym (column-numbers g _ _ _ (c .before .stored-column .ensures .0))) (c .line-numbers .ensures)
 
 pub factor-numbers-spec : {M : Type 1} → statement M
 factor-numbers-spec = tie.close (tie.spec stored-column-requires line-numbers-requires returns)

@@ -11,10 +11,10 @@ is-end-requires c κs = search needs
 
 returns : tie.Need-returns
 returns c =
-    let a = c .before .before .args in
+    let a = c .before .before .before .args in
     let p = even-tested (a .j .h) in
     let e = c .is-end .ensures in
-    λ i. eqb (a .group) 3 && (not (p i) && e i)
+    λ i. eqb (a .cell .group) 3 && (not (p i) && e i)
 
 pub is-absent-spec : {M : Type 1} → statement M
 is-absent-spec = tie.close (tie.spec is-end-requires returns)

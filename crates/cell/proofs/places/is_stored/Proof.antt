@@ -11,9 +11,9 @@ stored-count-requires c κs = search needs
 
 returns : tie.Need-returns
 returns c =
-    let a = c .before .before .before .args in
+    let a = c .before .before .before .before .args in
     let e = c .before .stored-count .ensures in
-    λ i. leb (a .j .k) (a .n2 / 2) && ltb (a .j .l) (e i)
+    λ i. leb (a .j .k) (a .cell .n2 / 2) && ltb (a .j .l) (e i)
 
 pub is-stored-spec : {M : Type 1} → statement M
 is-stored-spec = tie.close (tie.spec stored-count-requires returns)

@@ -21,10 +21,10 @@ returns c = rw (ap groupOf (c .if1 .taken)) (omega arith)
 
 returns-2 : tie.Need-returns-2
 unfolding planes
-returns-2 c = by-alternating (λ g. c .before .before .before .args .n3 / 2 ≡ planes g (c .before .before .before .args .n3 / 2)) refl refl (c .before .before .before .args .group) (sym (c .before .is-alternating .ensures) ∙ c .if2 .taken)
+returns-2 c = by-alternating (λ g. c .before .before .before .before .before .args .cell .n3 / 2 ≡ planes g (c .before .before .before .before .before .args .cell .n3 / 2)) refl refl (c .before .before .before .before .before .args .cell .group) (sym (c .before .before .is-alternating .ensures) ∙ c .before .if2 .taken)
 
 returns-3 : tie.Need-returns-3
-returns-3 c = mirrored-layers _ _ (c .before .before .before .pre .0) (c .before .before .if1 .left) (sym (c .before .is-alternating .ensures) ∙ c .if2 .left)
+returns-3 c = mirrored-layers _ _ (c .before .before .before .before .before .pre .known) (c .before .before .before .if1 .left) (sym (c .before .before .is-alternating .ensures) ∙ c .before .if2 .left)
 
 pub layer-count-spec : {M : Type 1} → statement M
 layer-count-spec = tie.close (tie.spec is-alternating-requires add-result returns returns-2 returns-3)

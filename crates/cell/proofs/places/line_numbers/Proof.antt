@@ -13,7 +13,7 @@ is-end-requires c κs = search needs
 
 end-numbers-requires : tie.Need-end-numbers-requires
 end-numbers-requires c κs =
-    let p = c .before .before .before .pre in
+    let p = c .before .before .before .before .pre in
     (p .0, p .1, p .2, c .before .before .if1 .left, sym (c .before .is-end .ensures) ∙ c .if2 .taken)
 
 folded-requires : tie.Need-folded-requires
@@ -24,7 +24,7 @@ pair-numbers-requires-2 c κs = search needs
 
 returns : tie.Need-returns
 returns c =
-    let p = c .before .before .pre in
+    let p = c .before .before .before .pre in
     let e = c .pair-numbers .ensures in
     plain-found (p .0) _ (p .1) (p .2) _ (c .before .if1 .taken) (e .0) (e .1)
 
@@ -34,7 +34,7 @@ returns-2 c = search needs
 returns-3 : tie.Need-returns-3
 returns-3 c =
     let t = c .before .before .before in
-    let p = t .before .before .pre in
+    let p = t .before .before .before .pre in
     let e = c .pair-numbers2 .ensures in
     middle-found (p .0) _ (p .1) (p .2) _ (t .before .if1 .left) (sym (t .is-end .ensures) ∙ c .before .before .if2 .left) (c .before .folded .ensures) (e .0) (e .1)
 

@@ -18,16 +18,16 @@ flipped-requires-3 : tie.Need-flipped-requires-3
 flipped-requires-3 c κs = search needs
 
 returns : tie.Need-returns
-returns c = (rw (le-leb _ _ (c .if1 .taken)), c .before .before .pre .3, c .if1 .taken)
+returns c = (rw (le-leb _ _ (c .if1 .taken)), c .before .before .before .pre .1, c .if1 .taken)
 
 returns-2 : tie.Need-returns-2
 unfolding flip
 returns-2 c =
-    let a = c .before .before .before .before .before in
+    let a = c .before .before .before .before .before .before in
     let f = c .before .before .flipped .ensures in
     let g = c .before .flipped2 .ensures in
     let h = c .flipped3 .ensures in
-    (rw (lt-leb _ _ (c .before .before .before .if1 .left)) (λ i. (f .0 i, g .0 i, h .0 i)), record { h = f .1; k = g .1; l = h .1 }, omega (arith, g .0, neg-pos (a .args .n2 / 2) (a .args .j .k) (omega arith) (omega arith)))
+    (rw (lt-leb _ _ (c .before .before .before .if1 .left)) (λ i. (f .0 i, g .0 i, h .0 i)), record { h = f .1; k = g .1; l = h .1 }, omega (arith, g .0, neg-pos (a .args .cell .n2 / 2) (a .args .j .k) (omega arith) (omega arith)))
 
 pub stored-column-spec : {M : Type 1} → statement M
 stored-column-spec =

@@ -16,7 +16,7 @@ unfolding span
 returns c = rw (ap groupOf (c .if1 .taken)) (omega arith)
 
 returns-2 : tie.Need-returns-2
-returns-2 c = half-span _ _ (c .before .pre .0) (c .if1 .left)
+returns-2 c = half-span _ _ (c .before .before .before .pre .known) (c .before .if1 .left)
 
 pub stored-count-spec : {M : Type 1} → statement M
 stored-count-spec = tie.close (tie.spec add-result returns returns-2)

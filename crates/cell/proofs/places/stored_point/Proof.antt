@@ -12,10 +12,10 @@ layer-count-requires : tie.Need-layer-count-requires
 layer-count-requires c κs = search needs
 
 -- P1 stores every plane
-other : (c : tie.Else1) → c .before .before .before .args .group ≡ 0 → ⊥
+other : (c : tie.Else1) → c .before .before .before .args .cell .group ≡ 0 → ⊥
 other c =
     let s = c .before .before .before in
-    not-plain (s .args .group) (s .args .n3 / 2) (s .args .p .z) (subst (λ n. n ≤ s .args .p .z) (c .before .before .layer-count .ensures) (c .if1 .left)) (omega (arith, s .pre .0 .third .even, s .pre .1 .z))
+    not-plain (s .args .cell .group) (s .args .cell .n3 / 2) (s .args .p .z) (subst (λ n. n ≤ s .args .p .z) (c .before .before .layer-count .ensures) (c .if1 .left)) (omega (arith, s .pre .0 .third .even, s .pre .1 .z))
 
 group-operation-requires : tie.Need-group-operation-requires
 group-operation-requires c κs =

@@ -10,8 +10,8 @@ use Rattle.numbers.specs.Value.{Value}
 use Rattle.header.specs.Header.{Header}
 use Rattle.output.specs.Output.{bigEndian}
 use Rattle.output.proofs.Writing.{wrote-append, wrote-as}
-use Rattle.file_format.specs.Format.{headerBytes, body, fileOf, headerWith}
-use Rattle.factor_file.specs.Steps.{recordsWith}
+use Rattle.file_format.specs.Format.{headerBytes, body, fileOf}
+use Rattle.factor_file.specs.Steps.{headerFor, recordsWith}
 use Rattle.file_format.proofs.layout.ByteLaws.{length-all}
 use Rattle.factor_file.proofs.file.RecordLaws.{admitted-few}
 use Rattle.file_format.proofs.layout.FileParts.{length-body, length-file, file-parts}
@@ -21,10 +21,10 @@ use Rattle.factor_file.proofs.file.put_file.Tie as tie
 -- the file's parts, and the counts in it
 module _ (s : tie.Start) where
   abbrev head : Header
-  head = let a = s .args in headerWith (a .group) (a .n1) (a .n2) (a .n3) (a .f1) (a .f2) (a .f3)
+  head = let a = s .args in headerFor (a .cell) (a .f1) (a .f2) (a .f3)
 
   abbrev records : List (J × Value 1)
-  records = let a = s .args in recordsWith (a .group) (a .n1) (a .n2) (a .n3) (a .volume .now)
+  records = let a = s .args in recordsWith (a .cell) (a .volume .now)
 
   few : s .args .count ≤ 33554432
   few = let f = s .pre .0 .0 in omega (arith, s .pre .1, admitted-few (f .volume .sizes) (s .args .volume .now) (f .volume .long) (s .pre .0 .1))
@@ -34,7 +34,7 @@ long : (c : tie.After-file-length) → let s = c .before .before .before in (c .
 long c =
     let s = c .before .before .before in
     let a = s .args in
-    (c .file-length .ensures .0 (a .group) (a .n1) (a .n2) (a .n3) (records s) (s .pre .1), c .file-length .ensures .1)
+    (c .file-length .ensures .0 (a .cell .group) (a .cell .n1) (a .cell .n2) (a .cell .n3) (records s) (s .pre .1), c .file-length .ensures .1)
 
 -- what follows the first count
 follows : (c : tie.After-file-length) → let s = c .before .before .before in c .file-length .result - 4 ≡ length (body (head s) (records s))

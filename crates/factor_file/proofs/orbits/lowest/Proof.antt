@@ -5,8 +5,7 @@ use Prim.Native.Nat.{_-_}
 use native.Mathlib.Omega.{arith}
 use Rattle.algebra.specs.cells.Cell.{one, full, imageOf}
 use Rattle.algebra.specs.cells.CellTests.{lexLe}
-use Rattle.cell.specs.Volume.{groupOf}
-use Rattle.cell.specs.Operations.{halvesOf, tripleOf, symOf}
+use Rattle.cell.specs.Operations.{cellGroup, cellHalves, tripleOf, symOf}
 use Rattle.volume.proofs.consistent.Passing.{PassingMembers, members-second, members-next, members-stop, members-done}
 use Rattle.volume.proofs.consistent.TestLaws.{first-full}
 use Rattle.factor_file.proofs.orbits.PlaceOrder.{identity-no-later}
@@ -14,17 +13,17 @@ use Rattle.factor_file.proofs.orbits.lowest.Statement.{statement}
 use Rattle.factor_file.proofs.orbits.lowest.Tie as tie
 
 abbrev Inv-loop : tie.InvT-loop
-Inv-loop group n1 n2 n3 j count number₀ number =
-    PassingMembers (full (groupOf group)) one (λ s. lexLe (tripleOf j) (imageOf (halvesOf n1 n2 n3) s (tripleOf j))) number
+Inv-loop cell j count number₀ number =
+    PassingMembers (full (cellGroup cell)) one (λ s. lexLe (tripleOf j) (imageOf (cellHalves cell) s (tripleOf j))) number
 
 abbrev μ-loop : tie.MeasureT-loop
-μ-loop group n1 n2 n3 j count number₀ number = count - number
+μ-loop cell j count number₀ number = count - number
 
 -- what the code found of the operation that it tries
 tried : (c : tie.After-no-later Inv-loop μ-loop) →
     let o = c .before .before in
     let a = o .before .before .before .before .args in
-    c .no-later .result ≡ lexLe (tripleOf (a .j)) (imageOf (halvesOf (a .n1) (a .n2) (a .n3)) (symOf (o .operation-at .result)) (tripleOf (a .j)))
+    c .no-later .result ≡ lexLe (tripleOf (a .j)) (imageOf (cellHalves (a .cell)) (symOf (o .operation-at .result)) (tripleOf (a .j)))
 tried c =
     let a = c .before .before .before .before .before .before .args in
     c .no-later .ensures ∙ ap (lexLe (tripleOf (a .j))) (c .before .image .ensures .0)
@@ -35,8 +34,8 @@ operation-count-requires c κs = search needs
 loop-holds : tie.Need-loop-holds Inv-loop μ-loop
 loop-holds c =
     let s = c .before in
-    let first = first-full (s .args .group) (s .pre .0 .known) in
-    members-second (first .0) (first .1) (identity-no-later (halvesOf (s .args .n1) (s .args .n2) (s .args .n3)) (tripleOf (s .args .j)))
+    let first = first-full (s .args .cell .group) (s .pre .0 .known) in
+    members-second (first .0) (first .1) (identity-no-later (cellHalves (s .args .cell)) (tripleOf (s .args .j)))
 
 operation-at-requires : tie.Need-operation-at-requires Inv-loop μ-loop
 operation-at-requires c κs =
@@ -45,9 +44,7 @@ operation-at-requires c κs =
 
 image-requires : tie.Need-image-requires Inv-loop μ-loop
 image-requires c κs =
-    let s = c .before .before .before .before in
-    let z = s .pre .0 in
-    (z .first, z .second, z .third, s .pre .1)
+    c .before .before .before .before .pre
 
 no-later-requires : tie.Need-no-later-requires Inv-loop μ-loop
 no-later-requires c κs = search needs

@@ -8,8 +8,8 @@ use lib.ListN.{length}
 use Rattle.algebra.specs.cells.Cell.{J}
 use Rattle.numbers.specs.Value.{Value}
 use Rattle.job.specs.Job.{Header}
-use Rattle.file_format.specs.Format.{fileOf, headerWith}
-use Rattle.factor_file.specs.Steps.{recordsWith}
+use Rattle.file_format.specs.Format.{fileOf}
+use Rattle.factor_file.specs.Steps.{headerFor, recordsWith}
 use Rattle.factor_file.proofs.file.RecordLaws.{admitted-few}
 use Rattle.factor_file.proofs.writer.Files.{filed-none, filed-short, filed-whole}
 use Rattle.factor_file.proofs.writer.write_factors.Statement.{statement}
@@ -17,10 +17,10 @@ use Rattle.factor_file.proofs.writer.write_factors.Tie as tie
 
 module _ (s : tie.Start) where
   abbrev records : List (J × Value 1)
-  records = let a = s .args in recordsWith (a .group) (a .n1) (a .n2) (a .n3) (a .volume .now)
+  records = let a = s .args in recordsWith (a .cell) (a .volume .now)
 
   abbrev head : Header
-  head = let a = s .args in headerWith (a .group) (a .n1) (a .n2) (a .n3) (a .f1) (a .f2) (a .f3)
+  head = let a = s .args in headerFor (a .cell) (a .f1) (a .f2) (a .f3)
 
   few : length records ≤ 33554432
   few = let f = s .pre .0 in admitted-few (f .volume .sizes) (s .args .volume .now) (f .volume .long) (s .pre .1)
@@ -31,7 +31,7 @@ measured c =
     let n = c .before .before in
     let s = n .before .before .before in
     let a = s .args in
-    c .file-length .ensures .0 (a .group) (a .n1) (a .n2) (a .n3) (records s) (n .count-records .ensures)
+    c .file-length .ensures .0 (a .cell .group) (a .cell .n1) (a .cell .n2) (a .cell .n3) (records s) (n .count-records .ensures)
 
 count-records-requires : tie.Need-count-records-requires
 count-records-requires c κs = c .before .before .pre .0

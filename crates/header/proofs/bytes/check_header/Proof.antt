@@ -10,9 +10,9 @@ use borrow.Author.Tests.{lt-ltb, le-ltb}
 use Rattle.refusals.specs.Refusals.{first, _⇒_}
 use Rattle.lengths.specs.Lengths as lengths
 use Rattle.lengths.specs.Lengths.{factorsOk}
-use Rattle.cell.specs.Operations.{halvesOf}
-use Rattle.cell.specs.Volume.{groupOf, volumeLength}
-use Rattle.header.specs.Header.{volumeLimit, axisTests}
+use Rattle.cell.specs.Operations.{cellGroup, cellHalves}
+use Rattle.cell.specs.Volume.{volumeLength}
+use Rattle.header.specs.Header.{cellHeader, volumeLimit, axisTests}
 use Rattle.refusals.proofs.Tests.{stop, pass, none, not-t, not-f, by-true, by-false}
 use Rattle.header.proofs.Headers.{sizes-of}
 use Rattle.header.proofs.bytes.check_header.Statement.{statement}
@@ -20,14 +20,14 @@ use Rattle.header.proofs.bytes.check_header.Tie as tie
 
 -- ---- what each test that is passed leaves
 
-admitted : (c : tie.Else1) → let a = c .before .before .before .before .before .args in (lengths.admitted (a .n1) && (lengths.admitted (a .n2) && lengths.admitted (a .n3))) ≡ true
+admitted : (c : tie.Else1) → let a = c .before .before .before .before .before .args in (lengths.admitted (a .cell .n1) && (lengths.admitted (a .cell .n2) && lengths.admitted (a .cell .n3))) ≡ true
 admitted c = by-true _ _ (c .before .all-admitted .ensures) (c .if1 .left)
 
 factors : (c : tie.Else2) → let a = c .before .before .before .before .before .before .before .args in (factorsOk (now (a .f1)) && (factorsOk (now (a .f2)) && factorsOk (now (a .f3)))) ≡ true
 factors c = by-true _ _ (c .before .all-factors .ensures) (c .if2 .left)
 
 -- the lists have their products: the volume decides
-listed : (q : tie.Else3) {m : ℕ} → let a = q .before .before .before .before .before .before .before .before .before .args in m ≡ first (ltb volumeLimit (volumeLength (groupOf (a .group)) (halvesOf (a .n1) (a .n2) (a .n3))) ⇒ 9 ∷ []) → m ≡ first (axisTests (record { group = a .group; lengths = (a .n1, a .n2, a .n3); list1 = now (a .f1); list2 = now (a .f2); list3 = now (a .f3) }))
+listed : (q : tie.Else3) {m : ℕ} → let a = q .before .before .before .before .before .before .before .before .before .args in m ≡ first (ltb volumeLimit (volumeLength (cellGroup (a .cell)) (cellHalves (a .cell))) ⇒ 9 ∷ []) → m ≡ first (axisTests (cellHeader (a .cell) (now (a .f1)) (now (a .f2)) (now (a .f3))))
 listed q e =
     let f = q .before .before in
     pass 3 _ (not-t _ (admitted (f .before .before))) (pass 4 _ (not-t _ (factors f)) (pass 5 _ (not-t _ (by-true _ _ (q .before .all-products .ensures) (q .if3 .left))) e))

@@ -11,23 +11,26 @@ layer-count-requires c κs = search needs
 cast-layers : tie.Need-cast-layers
 cast-layers c = search needs
 
+cast-result : tie.Need-cast-result
+cast-result c = search needs
+
 mul-result : tie.Need-mul-result
-mul-result c = omega (arith, layers-small (c .before .pre) (c .layer-count .ensures))
+mul-result c = omega (arith, layers-small (c .before .before .pre) (c .before .layer-count .ensures))
 
 add-result : tie.Need-add-result
 add-result c = search needs
 
-cast-result : tie.Need-cast-result
-cast-result c = search needs
+cast-result-2 : tie.Need-cast-result-2
+cast-result-2 c = search needs
 
 mul-result-2 : tie.Need-mul-result-2
-mul-result-2 c = omega (arith, volume-small (c .before .pre) (c .layer-count .ensures))
+mul-result-2 c = omega (arith, volume-small (c .before .before .before .pre) (c .before .before .layer-count .ensures))
 
 mul-result-3 : tie.Need-mul-result-3
-mul-result-3 c = omega (arith, volume-small (c .before .pre) (c .layer-count .ensures))
+mul-result-3 c = omega (arith, volume-small (c .before .before .before .pre) (c .before .before .layer-count .ensures))
 
 returns : tie.Need-returns
-returns c = volume-is (c .before .pre) (c .layer-count .ensures)
+returns c = volume-is (c .before .before .before .pre) (c .before .before .layer-count .ensures)
 
 pub volume-length-spec : {M : Type 1} → statement M
 volume-length-spec =
@@ -35,9 +38,10 @@ volume-length-spec =
     (tie.spec
     layer-count-requires
     cast-layers
+    cast-result
     mul-result
     add-result
-    cast-result
+    cast-result-2
     mul-result-2
     mul-result-3
     returns)

@@ -3,14 +3,14 @@ use borrow.Author.Needs.{needs}
 use mathlib.Core.Path.{_≡_, _∙_, sym}
 use mathlib.Core.Bool.{Bool, true, false}
 use Rattle.lengths.specs.Lengths.{octalDigits}
-use Rattle.header.specs.Header.{Header}
+use Rattle.header.specs.Header.{Header, cellHeader}
 use Rattle.header.proofs.Headers.{three, axes, axes-sizes, axes-valid, axes-refused}
 use Rattle.header.proofs.packed.valid_header.Statement.{statement}
 use Rattle.header.proofs.packed.valid_header.Tie as tie
 
 -- the header that the numbers make
 abbrev header : tie.Start → Header
-header s = let a = s .args in record { group = a .group; lengths = (a .n1, a .n2, a .n3); list1 = octalDigits (a .f1); list2 = octalDigits (a .f2); list3 = octalDigits (a .f3) }
+header s = let a = s .args in cellHeader (a .cell) (octalDigits (a .f1)) (octalDigits (a .f2)) (octalDigits (a .f3))
 
 valid : (c : tie.Then1) → axes (header (c .before .before .before .before)) ≡ true
 valid c = let k = c .before in sym (three (k .before .before .valid-axis .ensures) (k .before .valid-axis2 .ensures) (k .valid-axis3 .ensures)) ∙ c .if1 .taken

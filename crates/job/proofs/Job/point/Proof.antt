@@ -1,7 +1,7 @@
 -- Refused by the check, or the number at the point's place.
 use borrow.Author.Needs.{needs}
 use native.Mathlib.Omega.{arith}
-use mathlib.Core.Path.{_≡_, _∙_, sym, ap, subst}
+use mathlib.Core.Path.{_≡_, _∙_, sym, ap, ap₂, subst}
 use mathlib.Core.Bool.{Bool}
 use Prim.Native.Nat.{ℕ, _<_}
 use lib.ListN.{length}
@@ -9,9 +9,11 @@ use denote.Ref.{now}
 use borrow.Author.Tests.{not-false, eqb-true}
 use Rattle.refusals.specs.Refusals.{first, checkedNumber}
 use Rattle.refusals.proofs.Tests.{Passed, passed}
-use Rattle.cell.specs.Operations.{Sizes}
-use Rattle.job.specs.Job.{headerOf, position, pointTests, pointTestsOf}
-use Rattle.job.proofs.Jobs.{valid-sizes}
+use Rattle.cell.specs.declared.operations.UnitCell.{UnitCell}
+use Rattle.cell.specs.Volume.{volumeLength, densityPlace}
+use Rattle.cell.specs.Operations.{cellGroup, cellHalves, cellLengths, Sizes}
+use Rattle.job.specs.Job.{jobCell, groupIn, halves, position, pointTests, pointTestsOf}
+use Rattle.job.proofs.Jobs.{valid-sizes, cell-sizes}
 use Rattle.header.proofs.Headers.{place-small}
 use Rattle.job.proofs.check.Points.{point-within-of}
 use Rattle.job.proofs.Points.{point-refused, point-read}
@@ -19,30 +21,40 @@ use Rattle.job.proofs.Job.point.Statement.{statement}
 use Rattle.job.proofs.Job.point.Tie as tie
 
 -- the check's number
-told : (c : tie.After-check-point) → let a = c .before .before .before .args in checkedNumber (c .check-point .result) ≡ first (pointTests (a .self) (position (a .at)) (now (a .volume)))
+told : (c : tie.After-check-point) → let a = c .before .before .before .before .args in checkedNumber (c .check-point .result) ≡ first (pointTests (a .self) (position (a .at)) (now (a .volume)))
 told c =
-    let a = c .before .before .before .args in
-    c .check-point .ensures ∙ ap (λ (b : Bool). first (pointTestsOf b (a .self .state) (a .self .group) (headerOf (a .self) .lengths) (position (a .at)) (now (a .volume)))) (c .before .valid-job .ensures)
+    let a = c .before .before .before .before .args in
+    c .check-point .ensures ∙ ap₂ (λ (b : Bool) (k : UnitCell). first (pointTestsOf b (a .self .state) (k .group) (cellLengths k) (position (a .at)) (now (a .volume)))) (c .before .valid-job .ensures) (c .before .before .unit-cell .ensures)
 
 -- no test holds
-none : (c : tie.After-enum-told) → let a = c .before .before .before .before .before .args in 0 ≡ first (pointTests (a .self) (position (a .at)) (now (a .volume)))
+none : (c : tie.After-enum-told) → let a = c .before .before .before .before .before .before .args in 0 ≡ first (pointTests (a .self) (position (a .at)) (now (a .volume)))
 none c = ap checkedNumber (sym (c .enum-told .given .1)) ∙ told (c .before .before)
 
-clear : (c : tie.After-enum-told) → let a = c .before .before .before .before .before .args in Passed (pointTests (a .self) (position (a .at)) (now (a .volume)))
-clear c = let a = c .before .before .before .before .before .args in passed (pointTests (a .self) (position (a .at)) (now (a .volume))) tt (none c)
+clear : (c : tie.After-enum-told) → let a = c .before .before .before .before .before .before .args in Passed (pointTests (a .self) (position (a .at)) (now (a .volume)))
+clear c = let a = c .before .before .before .before .before .before .args in passed (pointTests (a .self) (position (a .at)) (now (a .volume))) tt (none c)
 
-sizes : (c : tie.After-enum-told) → let j = c .before .before .before .before .before .args .self in Sizes (j .group) (j .a .length) (j .b .length) (j .c .length)
-sizes c = valid-sizes (c .before .before .before .before .before .args .self) (not-false _ (clear c .0))
+sizes : (c : tie.After-enum-told) → let j = c .before .before .before .before .before .before .args .self in Sizes (jobCell j)
+sizes c = valid-sizes (c .before .before .before .before .before .before .args .self) (not-false _ (clear c .0))
+
+-- the point's place, in the job's own words
+found : (c : tie.After-density-place) → let a = c .before .before .before .before .before .before .before .args in
+    (c .density-place .result ≡ densityPlace (groupIn (a .self)) (halves (a .self)) (position (a .at))) × (c .density-place .result < volumeLength (groupIn (a .self)) (halves (a .self)))
+found c =
+    let a = c .before .before .before .before .before .before .before .args in
+    subst (λ (k : UnitCell). (c .density-place .result ≡ densityPlace (cellGroup k) (cellHalves k) (position (a .at))) × (c .density-place .result < volumeLength (cellGroup k) (cellHalves k))) (c .before .before .before .before .before .unit-cell .ensures) (c .density-place .ensures)
 
 -- the point's number lies in the volume
-placed : (c : tie.After-density-place) → c .density-place .result < length (now (c .before .before .before .before .before .before .args .volume))
-placed c = subst (λ (n : ℕ). c .density-place .result < n) (sym (eqb-true _ _ (not-false _ (clear (c .before) .1 .1 .1 .0)))) (c .density-place .ensures .1)
+placed : (c : tie.After-density-place) → c .density-place .result < length (now (c .before .before .before .before .before .before .before .args .volume))
+placed c = subst (λ (n : ℕ). c .density-place .result < n) (sym (eqb-true _ _ (not-false _ (clear (c .before) .1 .1 .1 .0)))) (found c .1)
+
+unit-cell-requires : tie.Need-unit-cell-requires
+unit-cell-requires c κs = search needs
 
 valid-job-requires : tie.Need-valid-job-requires
 valid-job-requires c κs = search needs
 
 check-point-requires : tie.Need-check-point-requires
-check-point-requires c κs e = valid-sizes (c .before .before .args .self) (sym (c .valid-job .ensures) ∙ e)
+check-point-requires c κs e = cell-sizes (c .before .before .before .args .self) (c .before .unit-cell .ensures) (sym (c .valid-job .ensures) ∙ e)
 
 enum-known-checked : tie.Need-enum-known-checked
 enum-known-checked c = search needs
@@ -52,38 +64,39 @@ enum-told c = search needs
 
 density-place-requires : tie.Need-density-place-requires
 density-place-requires c κs =
-    let a = c .before .before .before .before .before .args in
+    let a = c .before .before .before .before .before .before .args in
     let j = a .self in
-    (sizes c, point-within-of (j .a .length) (j .b .length) (j .c .length) (record { x = a .at .0; y = a .at .1; z = a .at .2 }) (not-false _ (clear c .1 .1 .0)))
+    rw (c .before .before .before .before .unit-cell .ensures) (sizes c, point-within-of (jobCell j) (record { x = a .at .0; y = a .at .1; z = a .at .2 }) (not-false _ (clear c .1 .1 .0)))
 
-mul-t10 : tie.Need-mul-t10
-mul-t10 c = omega (arith, place-small _ (sizes (c .before)) (c .density-place .ensures .1))
+mul-t11 : tie.Need-mul-t11
+mul-t11 c = omega (arith, place-small _ (sizes (c .before)) (found c .1))
 
-shared-slice-read-t12 : tie.Need-shared-slice-read-t12
-shared-slice-read-t12 c = placed (c .before)
+shared-slice-read-t13 : tie.Need-shared-slice-read-t13
+shared-slice-read-t13 c = placed (c .before)
 
 returns : tie.Need-returns
 returns c =
     let k = c .before .before .before in
-    let a = k .before .before .before .args in
+    let a = k .before .before .before .before .args in
     point-refused (a .self) (a .at) (now (a .volume)) (c .before .checked .given .0 .0) (ap checkedNumber (sym (c .before .checked .given .1)) ∙ told k)
 
 returns-2 : tie.Need-returns-2
 returns-2 c =
     let d = c .before in
-    let a = d .before .before .before .before .before .before .args in
-    point-read (a .self) (a .at) (now (a .volume)) (d .density-place .result) (none (d .before)) (d .density-place .ensures .0)
+    let a = d .before .before .before .before .before .before .before .args in
+    point-read (a .self) (a .at) (now (a .volume)) (d .density-place .result) (none (d .before)) (found d .0)
 
 pub point-spec : {M : Type 1} → statement M
 point-spec =
     tie.close
     (tie.spec
+    unit-cell-requires
     valid-job-requires
     check-point-requires
     enum-known-checked
     enum-told
     density-place-requires
-    mul-t10
-    shared-slice-read-t12
+    mul-t11
+    shared-slice-read-t13
     returns
     returns-2)

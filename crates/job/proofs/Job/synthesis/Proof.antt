@@ -1,7 +1,7 @@
 -- Refused by the check, or the volume synthesised and the scratch cleared.
 use borrow.Author.Needs.{needs}
 use native.Mathlib.Omega.{arith}
-use mathlib.Core.Path.{_≡_, _∙_, sym, ap}
+use mathlib.Core.Path.{_≡_, _∙_, sym, ap, ap₂}
 use mathlib.Core.Bool.{Bool}
 use lib.ListN.{length}
 use denote.Ref.{now}
@@ -12,39 +12,44 @@ use Rattle.slices.specs.Pairs.{Below}
 use Rattle.slices.proofs.Bounds.{below-allBelow}
 use Rattle.refusals.specs.Refusals.{first, checkedNumber}
 use Rattle.refusals.proofs.Tests.{Passed, passed}
+use Rattle.cell.specs.declared.operations.UnitCell.{UnitCell}
+use Rattle.cell.specs.Operations.{cellLengths}
 use Rattle.cell.specs.Volume.{volumeLength}
-use Rattle.job.specs.Job.{headerOf, groupIn, halves, synthesisTests, synthesisTestsOf}
-use Rattle.job.proofs.Jobs.{valid-sizes}
+use Rattle.job.specs.Job.{groupIn, halves, synthesisTests, synthesisTestsOf}
+use Rattle.job.proofs.Jobs.{cell-sizes}
 use Rattle.job.proofs.Volumes.{lent, all-synthesised}
 use Rattle.job.proofs.Outcomes.{synthesis-refused, synthesis-done}
 use Rattle.job.proofs.Job.synthesis.Statement.{statement}
 use Rattle.job.proofs.Job.synthesis.Tie as tie
 
 -- the check's number
-told : (c : tie.After-check-synthesis) → let a = c .before .before .before .before .before .args in checkedNumber (c .check-synthesis .result) ≡ first (synthesisTests (a .self) (now (a .volume)) (length (now (a .scratch))))
+told : (c : tie.After-check-synthesis) → let a = c .before .before .before .before .before .before .args in checkedNumber (c .check-synthesis .result) ≡ first (synthesisTests (a .self) (now (a .volume)) (length (now (a .scratch))))
 told c =
-    let a = c .before .before .before .before .before .args in
-    c .check-synthesis .ensures ∙ ap (λ (b : Bool). first (synthesisTestsOf b (a .self .state) (a .self .group) (headerOf (a .self) .lengths) (now (a .volume)) (length (now (a .scratch))))) (c .before .before .valid-job .ensures)
+    let a = c .before .before .before .before .before .before .args in
+    c .check-synthesis .ensures ∙ ap₂ (λ (b : Bool) (k : UnitCell). first (synthesisTestsOf b (a .self .state) (k .group) (cellLengths k) (now (a .volume)) (length (now (a .scratch))))) (c .before .before .valid-job .ensures) (c .before .before .before .unit-cell .ensures)
 
 -- no test holds
-none : (c : tie.After-enum-told) → let a = c .before .before .before .before .before .before .before .args in 0 ≡ first (synthesisTests (a .self) (now (a .volume)) (length (now (a .scratch))))
+none : (c : tie.After-enum-told) → let a = c .before .before .before .before .before .before .before .before .args in 0 ≡ first (synthesisTests (a .self) (now (a .volume)) (length (now (a .scratch))))
 none c = ap checkedNumber (sym (c .enum-told .given .1)) ∙ told (c .before .before)
 
-clear : (c : tie.After-enum-told) → let a = c .before .before .before .before .before .before .before .args in Passed (synthesisTests (a .self) (now (a .volume)) (length (now (a .scratch))))
-clear c = let a = c .before .before .before .before .before .before .before .args in passed (synthesisTests (a .self) (now (a .volume)) (length (now (a .scratch)))) tt (none c)
+clear : (c : tie.After-enum-told) → let a = c .before .before .before .before .before .before .before .before .args in Passed (synthesisTests (a .self) (now (a .volume)) (length (now (a .scratch))))
+clear c = let a = c .before .before .before .before .before .before .before .before .args in passed (synthesisTests (a .self) (now (a .volume)) (length (now (a .scratch)))) tt (none c)
 
 -- the volume is one of the job
-long : (c : tie.After-enum-told) → let a = c .before .before .before .before .before .before .before .args in length (now (a .volume)) ≡ volumeLength (groupIn (a .self)) (halves (a .self))
+long : (c : tie.After-enum-told) → let a = c .before .before .before .before .before .before .before .before .args in length (now (a .volume)) ≡ volumeLength (groupIn (a .self)) (halves (a .self))
 long c = eqb-true _ _ (not-false _ (clear c .1 .1 .0))
 
-small : (c : tie.After-enum-told) → let a = c .before .before .before .before .before .before .before .args in Below (prime 1) (now (a .volume))
-small c = let a = c .before .before .before .before .before .before .before .args in below-allBelow (prime 1) (now (a .volume)) (prime-pos 1) (not-false _ (clear c .1 .1 .1 .1 .0))
+small : (c : tie.After-enum-told) → let a = c .before .before .before .before .before .before .before .before .args in Below (prime 1) (now (a .volume))
+small c = let a = c .before .before .before .before .before .before .before .before .args in below-allBelow (prime 1) (now (a .volume)) (prime-pos 1) (not-false _ (clear c .1 .1 .1 .1 .0))
+
+unit-cell-requires : tie.Need-unit-cell-requires
+unit-cell-requires c κs = search needs
 
 valid-job-requires : tie.Need-valid-job-requires
 valid-job-requires c κs = search needs
 
 check-synthesis-requires : tie.Need-check-synthesis-requires
-check-synthesis-requires c κs e = valid-sizes (c .before .before .before .before .args .self) (sym (c .before .valid-job .ensures) ∙ e)
+check-synthesis-requires c κs e = cell-sizes (c .before .before .before .before .before .args .self) (c .before .before .unit-cell .ensures) (sym (c .before .valid-job .ensures) ∙ e)
 
 enum-known-checked : tie.Need-enum-known-checked
 enum-known-checked c = search needs
@@ -58,7 +63,7 @@ plan-of-requires c κs = search needs
 transform-volume-requires : tie.Need-transform-volume-requires
 transform-volume-requires c κs =
     let k = c .before .before .before in
-    let a = k .before .before .before .before .before .before .before .args in
+    let a = k .before .before .before .before .before .before .before .before .args in
     lent (a .self) (now (a .volume)) (not-false _ (clear k .0)) (long k) (small k) 0 (c .before .before .plan-of .result) (length (now (a .scratch))) (c .before .before .plan-of .ensures) (omega arith) (ltb-false _ 11520 (clear k .1 .1 .1 .0))
 
 same-length : tie.Need-same-length
@@ -67,7 +72,7 @@ same-length c = search needs
 returns : tie.Need-returns
 returns c =
     let k = c .before .before .before in
-    let a = k .before .before .before .before .before .args in
+    let a = k .before .before .before .before .before .before .args in
     synthesis-refused (a .self) (now (a .volume)) (now (a .scratch)) (c .before .checked .given .0 .0) (ap checkedNumber (sym (c .before .checked .given .1)) ∙ told k)
 
 same-length-2 : tie.Need-same-length-2
@@ -81,7 +86,7 @@ returns-2 c =
     let w = c .before .before .before .before in
     let k = w .before .before .before in
     let t = k .before in
-    let a = t .before .before .before .before .before .before .before .args in
+    let a = t .before .before .before .before .before .before .before .before .args in
     synthesis-done (a .self) (now (a .volume)) (now (a .scratch)) _ _ (none t)
     (w .transform-volume .ensures .0 ∙ all-synthesised (a .self) (now (a .volume)) (not-false _ (clear t .0)) (long t) (small t) (k .plan-of .result) (k .plan-of .ensures) (not-false _ (clear t .1 .1 .1 .1 .1 .0)))
     (w .transform-volume .ensures .1)
@@ -90,6 +95,7 @@ pub synthesis-spec : {M : Type 1} → statement M
 synthesis-spec =
     tie.close
     (tie.spec
+    unit-cell-requires
     valid-job-requires
     check-synthesis-requires
     enum-known-checked

@@ -8,19 +8,16 @@ use lib.Dec.{eqb, ltb}
 use lib.ListN.{getD, drop}
 use borrow.Author.Tests.{eq-eqb, ne-eqb, lt-ltb, le-ltb}
 use Rattle.algebra.specs.cells.Cell.{J, Sym, Group, full, sameJ, imageOf, impliedValue}
-use Rattle.algebra.specs.cells.CellTests.{imply, every, agreesT}
+use Rattle.algebra.specs.cells.CellTests.{every, agreesT}
 use Rattle.numbers.specs.declared.Pair.{Pair}
 use Rattle.numbers.specs.Value.{prime, Value, field, conj, valueOf, pairOf, Small}
 use Rattle.numbers.proofs.Values.{pair-value}
 use Rattle.cell.specs.Volume.{numbersRead}
 use Rattle.cell.specs.Consistency.{sameValue, agreesWithItself, orbitNumbers, orbitFree}
 use Rattle.cell.specs.Places.{allBelowAt}
+pub use Rattle.job.specs.Tests.{agreesUnder}
 
 -- ---- a record that agrees with itself
-
--- the test of one operation
-abbrev pub agreesUnder : (a : J) (m : ℕ) (j : J) → Value m → Sym → Bool
-agreesUnder a m j x s = imply (sameJ (imageOf a s j) j) (sameValue (impliedValue (field m) (conj m) s j x) x)
 
 pub agrees-start : (g : Group) (a : J) (m : ℕ) (j : J) (x : Value m) → agreesWithItself g a m j x ≡ every (drop 0 (full g)) (agreesUnder a m j x)
 unfolding agreesWithItself agreesT

@@ -1,12 +1,12 @@
 -- The three axes, each of a sound list.
 use denote.Ref.{now}
-use Rattle.job.specs.Job.{Header}
+use Rattle.job.specs.Job.{Header, cellHeader}
 use Rattle.header.proofs.Headers.{sound-lists}
 use Rattle.job.proofs.open.opened.Statement.{statement}
 use Rattle.job.proofs.open.opened.Tie as tie
 
 abbrev header : tie.Start → Header
-header s = let a = s .args in record { group = a .group; lengths = (a .n1, a .n2, a .n3); list1 = now (a .f1); list2 = now (a .f2); list3 = now (a .f3) }
+header s = let a = s .args in cellHeader (a .cell) (now (a .f1)) (now (a .f2)) (now (a .f3))
 
 axis-requires : tie.Need-axis-requires
 axis-requires c κs = let s = c .before .before .before in sound-lists (header s) (s .pre) .0

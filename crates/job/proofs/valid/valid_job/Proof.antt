@@ -1,4 +1,12 @@
 -- The group, the header and the state in turn.
+use borrow.Author.Needs.{needs}
+use mathlib.Core.Path.{_≡_, _∙_, sym, ap, subst}
+use Prim.Native.Nat.{_<_}
+use lib.Dec.{eqb}
+use Rattle.lengths.specs.Lengths.{octalDigits}
+use Rattle.refusals.specs.Refusals.{first}
+use Rattle.cell.specs.declared.operations.UnitCell.{UnitCell}
+use Rattle.job.specs.Job.{cellHeader, axisTests, headerOf}
 use Rattle.job.proofs.Jobs.{invalid-group, invalid-header, valid-state}
 use Rattle.job.proofs.valid.valid_job.Statement.{statement}
 use Rattle.job.proofs.valid.valid_job.Tie as tie
@@ -6,16 +14,26 @@ use Rattle.job.proofs.valid.valid_job.Tie as tie
 returns : tie.Need-returns
 returns c = invalid-group (c .before .before .args .job) (c .if1 .taken)
 
+unit-cell-requires : tie.Need-unit-cell-requires
+unit-cell-requires c κs = search needs
+
+-- what the header's test says of the job
+told : (c : tie.After-valid-header) → c .valid-header .result ≡ eqb (first (axisTests (headerOf (c .before .before .before .before .args .job)))) 0
+told c =
+    let j = c .before .before .before .before .args .job in
+    c .valid-header .ensures ∙ ap (λ (k : UnitCell). eqb (first (axisTests (cellHeader k (octalDigits (j .a .factors)) (octalDigits (j .b .factors)) (octalDigits (j .c .factors))))) 0) (c .before .unit-cell .ensures)
+
 valid-header-requires : tie.Need-valid-header-requires
-valid-header-requires c κs = c .if1 .left
+valid-header-requires c κs = subst (λ (k : UnitCell). k .group < 5) (sym (c .unit-cell .ensures)) (c .before .if1 .left)
 
 returns-2 : tie.Need-returns-2
-returns-2 c = let t = c .before .before in invalid-header (t .before .before .args .job) (t .if1 .left) (c .before .valid-header .ensures) (c .if2 .taken)
+returns-2 c = let t = c .before .before .before in invalid-header (t .before .before .args .job) (t .if1 .left) (told (c .before)) (c .if2 .taken)
 
 returns-3 : tie.Need-returns-3
 returns-3 c =
-    let t = c .before .before .before in
-    valid-state (t .before .before .args .job) (t .if1 .left) (c .before .before .valid-header .ensures) (c .before .if2 .left)
+    let t = c .before .before .before .before in
+    valid-state (t .before .before .args .job) (t .if1 .left) (told (c .before .before)) (c .before .if2 .left)
 
 pub valid-job-spec : {M : Type 1} → statement M
-valid-job-spec = tie.close (tie.spec returns valid-header-requires returns-2 returns-3)
+valid-job-spec =
+    tie.close (tie.spec returns unit-cell-requires valid-header-requires returns-2 returns-3)

@@ -24,16 +24,16 @@ cast-columns : tie.Need-cast-columns
 cast-columns c = search needs
 
 mul-result : tie.Need-mul-result
-mul-result c = let p = c .before .pre in omega (arith, few-rows (c .stored-planes .ensures .1) (p .0))
+mul-result c = let p = c .before .before .before .before .pre in omega (arith, few-rows (c .before .before .stored-planes .ensures .1) (p .0))
 
 mul-result-2 : tie.Need-mul-result-2
-mul-result-2 c = let p = c .before .pre in omega (arith, few-numbers (c .stored-planes .ensures .1) (p .0) (p .1))
+mul-result-2 c = let p = c .before .before .before .before .pre in omega (arith, few-numbers (c .before .before .stored-planes .ensures .1) (p .0) (p .1))
 
 mul-result-3 : tie.Need-mul-result-3
-mul-result-3 c = let p = c .before .pre in omega (arith, few-numbers (c .stored-planes .ensures .1) (p .0) (p .1))
+mul-result-3 c = let p = c .before .before .before .before .pre in omega (arith, few-numbers (c .before .before .stored-planes .ensures .1) (p .0) (p .1))
 
 returns : tie.Need-returns
-returns c = let a = c .before .args in length-is (a .group) (a .n1) (a .n2) (a .n3) (c .stored-planes .ensures .0)
+returns c = length-is (c .before .before .before .before .args .cell) (c .before .before .stored-planes .ensures .0)
 
 pub volume-length-spec : {M : Type 1} → statement M
 volume-length-spec =

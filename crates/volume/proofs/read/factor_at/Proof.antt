@@ -3,8 +3,7 @@ use borrow.Author.Needs.{needs}
 use mathlib.Core.Path.{sym, _∙_, ap}
 use Rattle.numbers.specs.Value.{prime}
 use Rattle.numbers.proofs.Values.{small-by}
-use Rattle.cell.specs.Volume.{groupOf}
-use Rattle.cell.specs.Operations.{halvesOf, tripleOf}
+use Rattle.cell.specs.Operations.{cellGroup, cellHalves, tripleOf}
 use Rattle.cell.specs.Places.{allBelowAt}
 use Rattle.cell.proofs.PlaceLaws.{column-numbers}
 use Rattle.volume.proofs.read.ReadingLaws.{own-column, mate-column}
@@ -20,21 +19,21 @@ line-value-requires c κs =
     let p = s .pre in
     let a = s .args in
     let i = c .stored-column .ensures in
-    ((p .0 .0, p .0 .1, i .1, i .2), (p .1 .0, ap (allBelowAt (prime (a .m)) (a .volume .now)) (sym (column-numbers (groupOf (a .group)) (halvesOf (a .n1) (a .n2) (a .n3)) (tripleOf (a .j)) (tripleOf (c .stored-column .result)) (i .0))) ∙ p .1 .1))
+    ((p .0 .0, p .0 .1, i .1, i .2), (p .1 .0, ap (allBelowAt (prime (a .m)) (a .volume .now)) (sym (column-numbers (cellGroup (a .cell)) (cellHalves (a .cell)) (tripleOf (a .j)) (tripleOf (c .stored-column .result)) (i .0))) ∙ p .1 .1))
 
 conjugate-requires : tie.Need-conjugate-requires
-conjugate-requires c κs = (c .before .before .before .before .before .pre .0 .0, small-by _ _ (c .before .before .line-value .ensures))
+conjugate-requires c κs = (c .before .before .before .before .before .before .pre .0 .0, small-by _ _ (c .before .before .before .line-value .ensures))
 
 returns : tie.Need-returns
 returns c =
-    let a = c .before .before .before .before .before .args in
-    own-column (groupOf (a .group)) (halvesOf (a .n1) (a .n2) (a .n3)) (a .m) (a .volume .now) (tripleOf (a .j)) (tripleOf (c .before .before .before .stored-column .result)) (c .before .before .before .stored-column .ensures .0) (c .before .before .line-value .ensures) (c .if1 .taken)
+    let a = c .before .before .before .before .before .before .args in
+    own-column (cellGroup (a .cell)) (cellHalves (a .cell)) (a .m) (a .volume .now) (tripleOf (a .j)) (tripleOf (c .before .before .before .before .stored-column .result)) (c .before .before .before .before .stored-column .ensures .0) (c .before .before .before .line-value .ensures) (c .if1 .taken)
 
 returns-2 : tie.Need-returns-2
 returns-2 c =
-    let l = c .before .before .before in
+    let l = c .before .before .before .before in
     let a = l .before .before .before .args in
-    mate-column (groupOf (a .group)) (halvesOf (a .n1) (a .n2) (a .n3)) (a .m) (a .volume .now) (tripleOf (a .j)) (tripleOf (l .before .stored-column .result)) (l .before .stored-column .ensures .0) (l .line-value .ensures) (c .before .if1 .left) (c .conjugate .ensures)
+    mate-column (cellGroup (a .cell)) (cellHalves (a .cell)) (a .m) (a .volume .now) (tripleOf (a .j)) (tripleOf (l .before .stored-column .result)) (l .before .stored-column .ensures .0) (l .line-value .ensures) (c .before .if1 .left) (c .conjugate .ensures)
 
 pub factor-at-spec : {M : Type 1} → statement M
 factor-at-spec =

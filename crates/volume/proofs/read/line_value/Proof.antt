@@ -6,8 +6,7 @@ use native.Mathlib.Omega.{arith}
 use Rattle.algebra.specs.cells.Cell.{span}
 use Rattle.numbers.specs.Value.{prime, pairOf}
 use Rattle.numbers.proofs.Values.{small-by}
-use Rattle.cell.specs.Volume.{groupOf}
-use Rattle.cell.specs.Operations.{halvesOf, tripleOf}
+use Rattle.cell.specs.Operations.{cellGroup, cellHalves, tripleOf}
 use Rattle.cell.specs.Places.{allBelowAt, lineFactor}
 use Rattle.cell.proofs.PlaceLaws.{inside-of}
 use Rattle.volume.proofs.read.ReadingLaws.{beyond-value}
@@ -21,8 +20,8 @@ stored-value-requires : tie.Need-stored-value-requires
 stored-value-requires c κs =
     let s = c .before .before in
     let p = s .pre in
-    let i = c .stored-index .ensures .0 in
-    (p .0 .0, record { sizes = p .0 .1; long = p .1 .0 }, i .0, ap (allBelowAt (prime (s .args .m)) (s .args .volume .now)) (i .1) ∙ p .1 .1)
+    let i = c .stored-index .ensures in
+    ((p .0 .0, record { sizes = p .0 .1; long = p .1 .0 }, i .0), ap (allBelowAt (prime (s .args .m)) (s .args .volume .now)) (i .1 .0) ∙ p .1 .1)
 
 stored-count-requires : tie.Need-stored-count-requires
 stored-count-requires c κs = search needs
@@ -40,7 +39,7 @@ returns c =
     let t = c .before .before in
     let x = t .before in
     let a = x .before .before .before .args in
-    x .stored-value .ensures ∙ ap (λ i. pairOf (lineFactor (groupOf (a .group)) (halvesOf (a .n1) (a .n2) (a .n3)) (a .m) (a .volume .now) i)) (x .before .stored-index .ensures .1 .0 (omega (arith, t .stored-count .ensures, c .if1 .taken)))
+    x .stored-value .ensures ∙ ap (λ i. pairOf (lineFactor (cellGroup (a .cell)) (cellHalves (a .cell)) (a .m) (a .volume .now) i)) (x .before .stored-index .ensures .1 .1 .0 (omega (arith, t .stored-count .ensures, c .if1 .taken)))
 
 returns-2 : tie.Need-returns-2
 returns-2 c =
@@ -50,10 +49,9 @@ returns-2 c =
     let i = x .before in
     let s = i .before .before in
     let a = s .args in
-    let z = s .pre .0 .1 in
-    let beyond : span (groupOf (a .group)) (a .n3 / 2) ≤ a .j .l = omega (arith, t .stored-count .ensures, o .before .if1 .left) in
-    beyond-value (halvesOf (a .n1) (a .n2) (a .n3)) (a .m) (a .volume .now) (tripleOf (a .j)) (tripleOf (i .stored-index .result)) (inside-of (z .first) (z .second) (z .third) (s .pre .0 .2)) (a .group)
-    (o .line-operation .ensures) (i .stored-index .ensures .1 .1 beyond) beyond (x .stored-value .ensures) (c .implied .ensures)
+    let beyond : span (cellGroup (a .cell)) (a .cell .n3 / 2) ≤ a .j .l = omega (arith, t .stored-count .ensures, o .before .if1 .left) in
+    beyond-value (cellHalves (a .cell)) (a .m) (a .volume .now) (tripleOf (a .j)) (tripleOf (i .stored-index .result)) (inside-of (s .pre .0 .1) (s .pre .0 .2)) (a .cell .group)
+    (o .line-operation .ensures) (i .stored-index .ensures .1 .1 .1 beyond) beyond (x .stored-value .ensures) (c .implied .ensures)
 
 pub line-value-spec : {M : Type 1} → statement M
 line-value-spec =

@@ -1,8 +1,7 @@
 -- An image that is not stored is left out.
 use borrow.Author.Needs.{needs}
 use Rattle.numbers.proofs.Values.{small-by}
-use Rattle.cell.specs.Volume.{groupOf}
-use Rattle.cell.specs.Operations.{halvesOf, tripleOf}
+use Rattle.cell.specs.Operations.{cellGroup, cellHalves, tripleOf}
 use Rattle.volume.proofs.record.RecordLaws.{stored-bounds, image-written, image-skipped}
 use Rattle.volume.proofs.record.write_image.Statement.{statement}
 use Rattle.volume.proofs.record.write_image.Tie as tie
@@ -25,7 +24,7 @@ write-factor-requires : tie.Need-write-factor-requires
 write-factor-requires c κs =
     let i = c .before .before .before .before in
     let s = i .before .before .before in
-    let b = stored-bounds (groupOf (s .args .group)) (halvesOf (s .args .n1) (s .args .n2) (s .args .n3)) (tripleOf (i .before .image .result)) (i .is-stored .ensures) (c .before .before .before .if1 .taken) in
+    let b = stored-bounds (cellGroup (s .args .cell)) (cellHalves (s .args .cell)) (tripleOf (i .before .image .result)) (i .is-stored .ensures) (c .before .before .before .if1 .taken) in
     ((s .pre .0 .2, i .before .image .ensures .1, b .0, b .1), s .pre .1)
 
 same-length : tie.Need-same-length

@@ -5,20 +5,19 @@ use native.Mathlib.Omega.{arith}
 use lib.ListN.{length, drop}
 use Rattle.algebra.specs.cells.Cell.{full}
 use Rattle.numbers.specs.Value.{valueOf}
-use Rattle.cell.specs.Volume.{groupOf}
 use Rattle.cell.specs.Consistency.{writeImages, recordOn}
-use Rattle.cell.specs.Operations.{halvesOf, tripleOf}
+use Rattle.cell.specs.Operations.{cellGroup, cellHalves, tripleOf}
 use Rattle.volume.proofs.record.RecordLaws.{images-next, images-end}
 use Rattle.volume.proofs.record.write_images.Statement.{statement}
 use Rattle.volume.proofs.record.write_images.Tie as tie
 
 abbrev Inv-loop : tie.InvT-loop
-Inv-loop m group n1 n2 n3 j x volume₀ count number₀ volume number =
-    (recordOn (groupOf group) (halvesOf n1 n2 n3) m (tripleOf j) (valueOf m x) volume₀ ≡ writeImages (groupOf group) (halvesOf n1 n2 n3) m (drop number (full (groupOf group))) (tripleOf j) (valueOf m x) volume)
+Inv-loop m cell j x volume₀ count number₀ volume number =
+    (recordOn (cellGroup cell) (cellHalves cell) m (tripleOf j) (valueOf m x) volume₀ ≡ writeImages (cellGroup cell) (cellHalves cell) m (drop number (full (cellGroup cell))) (tripleOf j) (valueOf m x) volume)
     × (length volume ≡ length volume₀)
 
 abbrev μ-loop : tie.MeasureT-loop
-μ-loop m group n1 n2 n3 j x volume₀ count number₀ volume number = count - number
+μ-loop m cell j x volume₀ count number₀ volume number = count - number
 
 operation-count-requires : tie.Need-operation-count-requires Inv-loop μ-loop
 operation-count-requires c κs = c .before .pre .0 .2 .known

@@ -1,16 +1,15 @@
 -- The ends are one number each of pair 0.
 use borrow.Author.Needs.{needs}
-use mathlib.Core.Path.{_≡_, refl, sym, _∙_, ap, subst}
+use mathlib.Core.Path.{_≡_, sym, _∙_, ap, subst}
 use native.Mathlib.Omega.{arith}
 use native.Mathlib.Decide.{ℕ-discrete}
 use Prim.Native.Nat.{ℕ}
-use Rattle.algebra.specs.cells.Cell.{P1}
 use Rattle.slices.specs.Pairs.{at}
 use Rattle.cell.specs.Volume.{pairPlace}
-use Rattle.cell.specs.Operations.{halvesOf}
+use Rattle.cell.specs.Operations.{cellGroup, cellHalves}
 use Rattle.cell.specs.TestSteps.{PairInside}
 use Rattle.cell.proofs.PlaceLaws.{alternating-half}
-use Rattle.cell.proofs.StoredFactors.{first-inside, middle-inside, first-value, second-value-even, second-value-odd, middle-value}
+use Rattle.cell.proofs.StoredFactors.{screw-reads, first-inside, middle-inside, first-value, second-value-even, second-value-odd, middle-value}
 use Rattle.volume.proofs.stored.alternating_factor.Statement.{statement}
 use Rattle.volume.proofs.stored.alternating_factor.Tie as tie
 
@@ -27,44 +26,44 @@ by-number P {l} {half} {w} r x y = go (ℕ-discrete l half)
 
 pair-at-requires : tie.Need-pair-at-requires
 pair-at-requires c κs =
-    let s = c .before .before in
+    let s = c .before .before .before in
     let a = s .args in
-    by-number (λ w. PairInside (a .n1) (a .n2) (a .volume .now) w (a .j .h) (a .j .k)) (c .alternating-pair .ensures) (first-inside (s .pre .0) (s .pre .1)) (middle-inside (s .pre .0) (s .pre .1))
+    by-number (λ w. PairInside (a .cell) (a .volume .now) w (a .j .h) (a .j .k)) (c .alternating-pair .ensures) (first-inside (s .pre .0) (s .pre .1) (s .pre .2)) (middle-inside (s .pre .0) (s .pre .1) (s .pre .2))
 
 -- the pair, once its number is known
-read : (c : tie.After-pair-at) {w : ℕ} → c .before .alternating-pair .result ≡ w → let a = c .before .before .before .args in c .pair-at .result ≡ at (a .volume .now) (pairPlace P1 (halvesOf (a .n1) (a .n2) 0) w (a .j .h) (a .j .k))
-read c e = let a = c .before .before .before .args in c .pair-at .ensures ∙ ap (λ w. at (a .volume .now) (pairPlace P1 (halvesOf (a .n1) (a .n2) 0) w (a .j .h) (a .j .k))) e
+read : (c : tie.After-pair-at) {w : ℕ} → c .before .alternating-pair .result ≡ w → let a = c .before .before .before .before .args in c .pair-at .result ≡ at (a .volume .now) (pairPlace (cellGroup (a .cell)) (cellHalves (a .cell)) w (a .j .h) (a .j .k))
+read c e = let a = c .before .before .before .before .args in c .pair-at .ensures ∙ ap (λ w. at (a .volume .now) (pairPlace (cellGroup (a .cell)) (cellHalves (a .cell)) w (a .j .h) (a .j .k))) e
 
 returns : tie.Need-returns
 returns c m =
     let x = c .before .before in
-    let s = x .before .before .before in
+    let s = x .before .before .before .before in
     let low = s .pre .0 .sizes .third .low in
     let z = c .if1 .taken in
-    first-value _ (omega (arith, low)) m _ _ z (read x (x .before .alternating-pair .ensures .1 (λ e. omega (arith, low, z, e)) ∙ z))
+    screw-reads (cellHalves (s .args .cell)) m _ _ (s .args .cell .group) (s .pre .2) (first-value (cellHalves (s .args .cell)) (omega (arith, low)) m _ _ z (read x (x .before .alternating-pair .ensures .1 (λ e. omega (arith, low, z, e)) ∙ z)))
 
 returns-2 : tie.Need-returns-2
 returns-2 c m =
     let t = c .before in
     let f = t .before .before in
     let x = f .before .before in
-    let s = x .before .before .before in
-    second-value-even _ (omega (arith, s .pre .0 .sizes .third .low)) m _ _ (f .if1 .left) (t .if2 .taken) (read x (x .before .alternating-pair .ensures .0 (t .if2 .taken))) (c .if3 .taken)
+    let s = x .before .before .before .before in
+    screw-reads (cellHalves (s .args .cell)) m _ _ (s .args .cell .group) (s .pre .2) (second-value-even (cellHalves (s .args .cell)) (omega (arith, s .pre .0 .sizes .third .low)) m _ _ (f .if1 .left) (t .if2 .taken) (read x (x .before .alternating-pair .ensures .0 (t .if2 .taken))) (c .if3 .taken))
 
 returns-3 : tie.Need-returns-3
 returns-3 c m =
     let t = c .before in
     let f = t .before .before in
     let x = f .before .before in
-    let s = x .before .before .before in
-    second-value-odd _ (omega (arith, s .pre .0 .sizes .third .low)) m _ _ (f .if1 .left) (t .if2 .taken) (read x (x .before .alternating-pair .ensures .0 (t .if2 .taken))) (c .if3 .left)
+    let s = x .before .before .before .before in
+    screw-reads (cellHalves (s .args .cell)) m _ _ (s .args .cell .group) (s .pre .2) (second-value-odd (cellHalves (s .args .cell)) (omega (arith, s .pre .0 .sizes .third .low)) m _ _ (f .if1 .left) (t .if2 .taken) (read x (x .before .alternating-pair .ensures .0 (t .if2 .taken))) (c .if3 .left))
 
 returns-4 : tie.Need-returns-4
 returns-4 c m =
     let f = c .before .before in
     let x = f .before .before in
-    let s = x .before .before .before in
-    middle-value _ (omega (arith, s .pre .0 .sizes .third .low)) m _ _ (f .if1 .left) (c .if2 .left) (alternating-half 1 refl (s .pre .1 .l)) (read x (x .before .alternating-pair .ensures .1 (c .if2 .left)))
+    let s = x .before .before .before .before in
+    screw-reads (cellHalves (s .args .cell)) m _ _ (s .args .cell .group) (s .pre .2) (middle-value (cellHalves (s .args .cell)) (omega (arith, s .pre .0 .sizes .third .low)) m _ _ (f .if1 .left) (c .if2 .left) (alternating-half (s .args .cell .group) (s .pre .2) (s .pre .1 .l)) (read x (x .before .alternating-pair .ensures .1 (c .if2 .left))))
 
 pub alternating-factor-spec : {M : Type 1} → statement M
 alternating-factor-spec =

@@ -28,7 +28,7 @@ returns : tie.Need-returns
 returns c =
     let p = c .before .before in
     let a = p .before .before .args in
-    ap (λ q. getD (a .volume .now) q 0) (number-place (a .n2) _ (p .pair-place .result) (a .p .y) (p .pair-place .ensures .0))
+    ap (λ q. getD (a .volume .now) q 0) (number-place (a .cell .n2) _ (p .pair-place .result) (a .p .y) (p .pair-place .ensures .0))
 
 pub stored-number-spec : {M : Type 1} → statement M
 stored-number-spec =

@@ -17,8 +17,8 @@ mul-volume c = search needs
 
 slice-write-volume : tie.Need-slice-write-volume
 slice-write-volume c =
-    let s = c .before .before .before .before in
-    omega (arith, s .pre .1, first-inside (s .pre .0 .0) _ (s .pre .0 .1) (s .pre .0 .2))
+    let s = c .before .before .before .before .before in
+    omega (arith, s .pre .1, first-inside (s .pre .0 .0) (s .pre .0 .1) _ (s .pre .0 .2) (s .pre .0 .3))
 
 alternating-part-requires : tie.Need-alternating-part-requires
 alternating-part-requires c κs = search needs
@@ -31,8 +31,8 @@ mul-volume-2 c = search needs
 
 slice-write-volume-2 : tie.Need-slice-write-volume-2
 slice-write-volume-2 c =
-    let s = c .before .before .before .before .before .before .before in
-    omega (arith, s .pre .1, first-inside (s .pre .0 .0) _ (s .pre .0 .1) (s .pre .0 .2))
+    let s = c .before .before .before .before .before .before .before .before in
+    omega (arith, s .pre .1, first-inside (s .pre .0 .0) (s .pre .0 .1) _ (s .pre .0 .2) (s .pre .0 .3))
 
 pair-place-requires-2 : tie.Need-pair-place-requires-2
 pair-place-requires-2 c κs = search needs
@@ -40,14 +40,14 @@ pair-place-requires-2 c κs = search needs
 store-requires : tie.Need-store-requires
 store-requires c κs =
     let t = c .before .before in
-    let s = t .before .before .before .before .before .before in
-    omega (arith, s .pre .1, middle-inside (s .pre .0 .0) _ (s .pre .0 .1) (s .pre .0 .2) (s .pre .0 .3) (t .if2 .left))
+    let s = t .before .before .before .before .before .before .before in
+    omega (arith, s .pre .1, middle-inside (s .pre .0 .0) (s .pre .0 .1) _ (s .pre .0 .2) (s .pre .0 .3) (s .pre .0 .4) (t .if2 .left))
 
 same-length : tie.Need-same-length
 same-length c = search needs
 
 returns : tie.Need-returns
-returns c = first-written _ _ _ _ _ _ (c .if1 .taken) (c .before .before .pair-place .ensures .0)
+returns c = first-written _ _ _ _ _ _ _ (c .if1 .taken) (c .before .before .pair-place .ensures .0)
 
 same-length-2 : tie.Need-same-length-2
 same-length-2 c = search needs
@@ -55,7 +55,7 @@ same-length-2 c = search needs
 returns-2 : tie.Need-returns-2
 returns-2 c =
     let t = c .before in
-    second-written _ _ _ _ _ _ (t .before .before .if1 .left) (t .if2 .taken) (t .before .before .before .before .pair-place .ensures .0) (c .alternating-part .ensures)
+    second-written _ _ _ _ _ _ _ (t .before .before .if1 .left) (t .if2 .taken) (t .before .before .before .before .pair-place .ensures .0) (c .alternating-part .ensures)
 
 same-length-3 : tie.Need-same-length-3
 same-length-3 c = search needs
@@ -64,7 +64,7 @@ returns-3 : tie.Need-returns-3
 returns-3 c =
     let u = c .before .before in
     let t = u .before .before .before in
-    pair-written _ _ _ _ _ _ (t .before .before .if1 .left) (t .if2 .left) (u .before .pair-place2 .ensures .0) (u .store .ensures)
+    pair-written _ _ _ _ _ _ _ (t .before .before .if1 .left) (t .if2 .left) (u .before .pair-place2 .ensures .0) (u .store .ensures)
 
 pub write-alternating-spec : {M : Type 1} → statement M
 write-alternating-spec =

@@ -1,11 +1,8 @@
 -- By the group: an alternating line, or a pair.
 use borrow.Author.Needs.{needs}
-use mathlib.Core.Path.{_≡_, refl, sym, _∙_}
+use mathlib.Core.Path.{sym, _∙_}
 use native.Mathlib.Omega.{arith}
-use Rattle.algebra.specs.cells.Cell.{P2₁, planes}
-use Rattle.cell.specs.Volume.{volumeLength}
-use Rattle.cell.specs.Operations.{halvesOf}
-use Rattle.cell.proofs.PlaceLaws.{by-alternating, alternating-half, pair-inside, stored-layer}
+use Rattle.cell.proofs.PlaceLaws.{alternating-half, pair-inside, stored-layer}
 use Rattle.volume.proofs.write.WrittenFactors.{alternating-written, factor-written}
 use Rattle.volume.proofs.write.write_factor.Statement.{statement}
 use Rattle.volume.proofs.write.write_factor.Tie as tie
@@ -14,15 +11,11 @@ is-alternating-requires : tie.Need-is-alternating-requires
 is-alternating-requires c κs = search needs
 
 write-alternating-requires : tie.Need-write-alternating-requires
-unfolding planes
 write-alternating-requires c κs =
     let t = c .before in
     let a = t .before .before .before in
-    let s = a .pre .0 .0 in
-    let e = sym (t .before .is-alternating .ensures) ∙ t .if1 .taken in (
-      (record { known = omega arith; first = s .first; second = s .second; third = s .third }, a .pre .0 .1, a .pre .0 .2, alternating-half (a .args .group) e (a .pre .0 .3)),
-      a .pre .1 ∙ by-alternating (λ g. volumeLength g (halvesOf (a .args .n1) (a .args .n2) (a .args .n3)) ≡ volumeLength P2₁ (halvesOf (a .args .n1) (a .args .n2) (a .args .n3))) refl refl (a .args .group) e,
-    )
+    let e = sym (t .before .is-alternating .ensures) ∙ t .if1 .taken in
+    ((a .pre .0 .0, e, a .pre .0 .1, a .pre .0 .2, alternating-half (a .args .cell .group) e (a .pre .0 .3)), a .pre .1)
 
 pair-place-requires : tie.Need-pair-place-requires
 pair-place-requires c κs = search needs
@@ -40,7 +33,7 @@ same-length c = search needs
 returns : tie.Need-returns
 returns c =
     let t = c .before .before .before .before in
-    alternating-written _ _ _ _ (t .before .before .before .args .group) (sym (t .before .is-alternating .ensures) ∙ t .if1 .taken) (c .before .before .write-alternating .ensures)
+    alternating-written _ _ _ _ (t .before .before .before .args .cell .group) (sym (t .before .is-alternating .ensures) ∙ t .if1 .taken) (c .before .before .write-alternating .ensures)
 
 same-length-2 : tie.Need-same-length-2
 same-length-2 c = search needs

@@ -6,14 +6,15 @@ use lib.ListN.{length}
 use Rattle.lengths.specs.Lengths.{octalDigits}
 use Rattle.output.specs.Output.{bigEndian}
 use Rattle.output.proofs.Writing.{wrote-append}
-use Rattle.file_format.specs.Format.{headerBytes, headerWith}
+use Rattle.factor_file.specs.Steps.{headerFor}
+use Rattle.file_format.specs.Format.{headerBytes}
 use Rattle.file_format.proofs.layout.FileParts.{length-header}
 use Rattle.factor_file.proofs.file.head.put_header.Statement.{statement}
 use Rattle.factor_file.proofs.file.head.put_header.Tie as tie
 
 -- where the whole ends
 ends : (s : tie.Start) → let a = s .args in a .at + 11 + length (octalDigits (a .f1)) + length (octalDigits (a .f2)) + length (octalDigits (a .f3)) ≤ 1152921504606846976
-ends s = let a = s .args in omega (arith, s .pre .1 .low, length-header (headerWith (a .group) (a .n1) (a .n2) (a .n3) (a .f1) (a .f2) (a .f3)))
+ends s = let a = s .args in omega (arith, s .pre .1 .low, length-header (headerFor (a .cell) (a .f1) (a .f2) (a .f3)))
 
 put-byte-requires : tie.Need-put-byte-requires
 put-byte-requires c κs = record { low = omega (arith, ends (c .before .before)) }
@@ -22,31 +23,31 @@ cast-put-byte : tie.Need-cast-put-byte
 cast-put-byte c = search needs
 
 put-byte-requires-2 : tie.Need-put-byte-requires-2
-put-byte-requires-2 c κs = record { low = omega (arith, ends (c .before .before .before .before .before .before)) }
+put-byte-requires-2 c κs = record { low = omega (arith, ends (c .before .before .before .before .before .before .before)) }
 
 put-two-requires : tie.Need-put-two-requires
 unfolding bigEndian
-put-two-requires c κs = (omega arith, record { low = omega (arith, ends (c .before .before .before .before .before .before .before .before .before .before)) })
+put-two-requires c κs = (omega arith, record { low = omega (arith, ends (c .before .before .before .before .before .before .before .before .before .before .before)) })
 
 put-two-requires-2 : tie.Need-put-two-requires-2
 unfolding bigEndian
-put-two-requires-2 c κs = (omega arith, record { low = omega (arith, ends (c .before .before .before .before .before .before .before .before .before .before .before .before .before .before)) })
+put-two-requires-2 c κs = (omega arith, record { low = omega (arith, ends (c .before .before .before .before .before .before .before .before .before .before .before .before .before .before .before)) })
 
 put-two-requires-3 : tie.Need-put-two-requires-3
 unfolding bigEndian
-put-two-requires-3 c κs = (omega arith, record { low = omega (arith, ends (c .before .before .before .before .before .before .before .before .before .before .before .before .before .before .before .before .before .before)) })
+put-two-requires-3 c κs = (omega arith, record { low = omega (arith, ends (c .before .before .before .before .before .before .before .before .before .before .before .before .before .before .before .before .before .before .before)) })
 
 put-list-requires : tie.Need-put-list-requires
 unfolding bigEndian
-put-list-requires c κs = record { low = omega (arith, ends (c .before .before .before .before .before .before .before .before .before .before .before .before .before .before .before .before .before .before .before .before .before .before)) }
+put-list-requires c κs = record { low = omega (arith, ends (c .before .before .before .before .before .before .before .before .before .before .before .before .before .before .before .before .before .before .before .before .before .before .before)) }
 
 put-list-requires-2 : tie.Need-put-list-requires-2
 unfolding bigEndian
-put-list-requires-2 c κs = record { low = omega (arith, ends (c .before .before .before .before .before .before .before .before .before .before .before .before .before .before .before .before .before .before .before .before .before .before .before .before .before .before)) }
+put-list-requires-2 c κs = record { low = omega (arith, ends (c .before .before .before .before .before .before .before .before .before .before .before .before .before .before .before .before .before .before .before .before .before .before .before .before .before .before .before)) }
 
 put-list-requires-3 : tie.Need-put-list-requires-3
 unfolding bigEndian
-put-list-requires-3 c κs = record { low = omega (arith, ends (c .before .before .before .before .before .before .before .before .before .before .before .before .before .before .before .before .before .before .before .before .before .before .before .before .before .before .before .before .before .before)) }
+put-list-requires-3 c κs = record { low = omega (arith, ends (c .before .before .before .before .before .before .before .before .before .before .before .before .before .before .before .before .before .before .before .before .before .before .before .before .before .before .before .before .before .before .before)) }
 
 same-length : tie.Need-same-length
 same-length c = search needs
@@ -61,7 +62,7 @@ returns c =
     let p4 = p5 .before .before .before .before in
     let p3 = p4 .before .before .before .before in
     let p2 = p3 .before .before .before .before in
-    let p1 = p2 .before .before .before .before in
+    let p1 = p2 .before .before .before .before .before in
     let lengths = wrote-append (wrote-append (wrote-append (wrote-append (p1 .put-byte .ensures) (p2 .put-byte2 .ensures)) (p3 .put-two .ensures)) (p4 .put-two2 .ensures)) (p5 .put-two3 .ensures) in
     wrote-append (wrote-append (wrote-append lengths (p6 .put-list .ensures)) (p7 .put-list2 .ensures)) (p8 .put-list3 .ensures)
 

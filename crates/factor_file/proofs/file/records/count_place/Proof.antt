@@ -4,8 +4,7 @@ use mathlib.Core.Path.{_≡_, sym, _∙_, ap}
 use lib.ListN.{length}
 use Rattle.numbers.specs.Value.{pairOf}
 use Rattle.numbers.proofs.Primes.{first-modulus}
-use Rattle.cell.specs.Volume.{groupOf}
-use Rattle.cell.specs.Operations.{halvesOf, tripleOf}
+use Rattle.cell.specs.Operations.{cellGroup, cellHalves, tripleOf}
 use Rattle.factor_file.specs.Steps.{recordValue}
 use Rattle.factor_file.proofs.file.RecordLaws.{small-at-all, lowest-value, not-lowest-none, no-record, one-record}
 use Rattle.factor_file.proofs.file.records.count_place.Statement.{statement}
@@ -23,30 +22,30 @@ is-zero-requires : tie.Need-is-zero-requires
 is-zero-requires c κs = search needs
 
 -- the factor is the record's value
-found : (c : tie.After-factor-at) → let a = c .before .before .before .before .args in c .factor-at .result ≡ pairOf (recordValue (groupOf (a .group)) (halvesOf (a .n1) (a .n2) (a .n3)) (a .volume .now) (tripleOf (a .j)))
+found : (c : tie.After-factor-at) → let a = c .before .before .before .before .args in c .factor-at .result ≡ pairOf (recordValue (cellGroup (a .cell)) (cellHalves (a .cell)) (a .volume .now) (tripleOf (a .j)))
 found c =
     let t = c .before in
     let a = t .before .before .before .args in
-    lowest-value (groupOf (a .group)) (halvesOf (a .n1) (a .n2) (a .n3)) (a .volume .now) (tripleOf (a .j)) (sym (t .before .lowest .ensures) ∙ t .if1 .taken) (c .factor-at .ensures)
+    lowest-value (cellGroup (a .cell)) (cellHalves (a .cell)) (a .volume .now) (tripleOf (a .j)) (sym (t .before .lowest .ensures) ∙ t .if1 .taken) (c .factor-at .ensures)
 
 returns : tie.Need-returns
 returns c =
     let z = c .before in
     let x = z .before in
     let a = x .before .before .before .before .args in
-    sym (ap length (no-record (groupOf (a .group)) (halvesOf (a .n1) (a .n2) (a .n3)) (a .volume .now) (tripleOf (a .j)) (found x) (z .is-zero .ensures) (c .if2 .taken)))
+    sym (ap length (no-record (cellGroup (a .cell)) (cellHalves (a .cell)) (a .volume .now) (tripleOf (a .j)) (found x) (z .is-zero .ensures) (c .if2 .taken)))
 
 returns-2 : tie.Need-returns-2
 returns-2 c =
     let z = c .before in
     let x = z .before in
     let a = x .before .before .before .before .args in
-    sym (ap length (one-record (groupOf (a .group)) (halvesOf (a .n1) (a .n2) (a .n3)) (a .volume .now) (tripleOf (a .j)) (found x) (z .is-zero .ensures) (c .if2 .left)))
+    sym (ap length (one-record (cellGroup (a .cell)) (cellHalves (a .cell)) (a .volume .now) (tripleOf (a .j)) (found x) (z .is-zero .ensures) (c .if2 .left)))
 
 returns-3 : tie.Need-returns-3
 returns-3 c =
     let a = c .before .before .before .args in
-    sym (ap length (not-lowest-none (groupOf (a .group)) (halvesOf (a .n1) (a .n2) (a .n3)) (a .volume .now) (tripleOf (a .j)) (sym (c .before .lowest .ensures) ∙ c .if1 .left)))
+    sym (ap length (not-lowest-none (cellGroup (a .cell)) (cellHalves (a .cell)) (a .volume .now) (tripleOf (a .j)) (sym (c .before .lowest .ensures) ∙ c .if1 .left)))
 
 pub count-place-spec : {M : Type 1} → statement M
 count-place-spec =

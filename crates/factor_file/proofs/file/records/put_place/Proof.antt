@@ -5,8 +5,7 @@ use mathlib.Core.Path.{_≡_, sym, _∙_, ap}
 use mathlib.Core.List.{[], _∷_}
 use Rattle.numbers.specs.Value.{pairOf}
 use Rattle.numbers.proofs.Primes.{first-modulus}
-use Rattle.cell.specs.Volume.{groupOf}
-use Rattle.cell.specs.Operations.{halvesOf, tripleOf}
+use Rattle.cell.specs.Operations.{cellGroup, cellHalves, tripleOf}
 use Rattle.output.proofs.Writing.{wrote-none, wrote-as, ends-as}
 use Rattle.file_format.specs.Format.{allBytes}
 use Rattle.factor_file.specs.Steps.{recordValue, pairBytes}
@@ -15,22 +14,22 @@ use Rattle.factor_file.proofs.file.records.put_place.Statement.{stateme
 use Rattle.factor_file.proofs.file.records.put_place.Tie as tie
 
 -- the factor is the record's value
-found : (c : tie.After-factor-at) → let a = c .before .before .before .before .before .args in c .factor-at .result ≡ pairOf (recordValue (groupOf (a .group)) (halvesOf (a .n1) (a .n2) (a .n3)) (a .volume .now) (tripleOf (a .j)))
+found : (c : tie.After-factor-at) → let a = c .before .before .before .before .before .args in c .factor-at .result ≡ pairOf (recordValue (cellGroup (a .cell)) (cellHalves (a .cell)) (a .volume .now) (tripleOf (a .j)))
 found c =
     let t = c .before in
     let a = t .before .before .before .before .args in
-    lowest-value (groupOf (a .group)) (halvesOf (a .n1) (a .n2) (a .n3)) (a .volume .now) (tripleOf (a .j)) (sym (t .before .lowest .ensures) ∙ t .if1 .taken) (c .factor-at .ensures)
+    lowest-value (cellGroup (a .cell)) (cellHalves (a .cell)) (a .volume .now) (tripleOf (a .j)) (sym (t .before .lowest .ensures) ∙ t .if1 .taken) (c .factor-at .ensures)
 
 -- the bytes of the record, once there is one
 bytes-are : (c : tie.Else2) →
     let x = c .before .before in
     let a = x .before .before .before .before .before .args in
-    pairBytes (tripleOf (a .j)) (x .factor-at .result) ≡ bytesAt (groupOf (a .group)) (halvesOf (a .n1) (a .n2) (a .n3)) (a .volume .now) (tripleOf (a .j) ∷ [])
+    pairBytes (tripleOf (a .j)) (x .factor-at .result) ≡ bytesAt (cellGroup (a .cell)) (cellHalves (a .cell)) (a .volume .now) (tripleOf (a .j) ∷ [])
 bytes-are c =
     let z = c .before in
     let x = z .before in
     let a = x .before .before .before .before .before .args in
-    one-bytes (groupOf (a .group)) (halvesOf (a .n1) (a .n2) (a .n3)) (a .volume .now) (tripleOf (a .j)) (found x) (z .is-zero .ensures) (c .if2 .left)
+    one-bytes (cellGroup (a .cell)) (cellHalves (a .cell)) (a .volume .now) (tripleOf (a .j)) (found x) (z .is-zero .ensures) (c .if2 .left)
 
 lowest-requires : tie.Need-lowest-requires
 lowest-requires c κs = let p = c .before .before .pre .0 in (p .0 .volume .sizes, p .1)
@@ -55,7 +54,7 @@ returns c =
     let z = c .before in
     let x = z .before in
     let a = x .before .before .before .before .before .args in
-    no-bytes (groupOf (a .group)) (halvesOf (a .n1) (a .n2) (a .n3)) (a .volume .now) (tripleOf (a .j)) (found x) (z .is-zero .ensures) (a .at) (a .out .now) (c .if2 .taken)
+    no-bytes (cellGroup (a .cell)) (cellHalves (a .cell)) (a .volume .now) (tripleOf (a .j)) (found x) (z .is-zero .ensures) (a .at) (a .out .now) (c .if2 .taken)
 
 same-length : tie.Need-same-length
 same-length c = search needs
@@ -69,7 +68,7 @@ returns-3 : tie.Need-returns-3
 unfolding allBytes
 returns-3 c =
     let a = c .before .before .before .before .args in
-    wrote-as (wrote-none (a .at) (a .out .now)) (sym (ap allBytes (not-lowest-none (groupOf (a .group)) (halvesOf (a .n1) (a .n2) (a .n3)) (a .volume .now) (tripleOf (a .j)) (sym (c .before .lowest .ensures) ∙ c .if1 .left))))
+    wrote-as (wrote-none (a .at) (a .out .now)) (sym (ap allBytes (not-lowest-none (cellGroup (a .cell)) (cellHalves (a .cell)) (a .volume .now) (tripleOf (a .j)) (sym (c .before .lowest .ensures) ∙ c .if1 .left))))
 
 pub put-place-spec : {M : Type 1} → statement M
 put-place-spec =

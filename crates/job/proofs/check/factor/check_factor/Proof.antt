@@ -10,38 +10,38 @@ use borrow.Author.Tests.{not-false, eqb-true, eq-eqb, ne-eqb}
 use Rattle.numbers.specs.Value.{prime}
 use Rattle.refusals.specs.Refusals.{first}
 use Rattle.refusals.proofs.Tests.{stop, pass, none, not-t, not-f, by-true, by-false}
-use Rattle.cell.specs.Operations.{halvesOf, tripleOf, Sizes, Within}
-use Rattle.cell.specs.Volume.{groupOf, numbersRead, volumeLength}
+use Rattle.cell.specs.Operations.{cellGroup, cellLengths, cellHalves, tripleOf, Sizes, Within}
+use Rattle.cell.specs.Volume.{numbersRead, volumeLength}
 use Rattle.cell.specs.Places.{allBelowAt}
 use Rattle.job.specs.Tests.{within, storedTests, factorTestsOf}
 use Rattle.job.proofs.check.Points.{within-of}
 use Rattle.job.proofs.check.factor.check_factor.Statement.{statement}
 use Rattle.job.proofs.check.factor.check_factor.Tie as tie
 
-sizes : (c : tie.Else1) → let a = c .before .before .args in Sizes (a .group) (a .n1) (a .n2) (a .n3)
+sizes : (c : tie.Else1) → let a = c .before .before .args in Sizes (a .cell)
 sizes c = c .before .before .pre (not-false _ (c .if1 .left))
 
-inside : (c : tie.Else3) → let a = c .before .before .before .before .before .args in within (a .n1, a .n2, a .n3) (tripleOf (a .at)) ≡ true
+inside : (c : tie.Else3) → let a = c .before .before .before .before .before .args in within (cellLengths (a .cell)) (tripleOf (a .at)) ≡ true
 inside c = by-true _ _ (c .before .inside .ensures) (c .if3 .left)
 
-placed : (c : tie.Else3) → let a = c .before .before .before .before .before .args in Within (a .n1) (a .n2) (a .n3) (a .at)
-placed c = let a = c .before .before .before .before .before .args in within-of (a .n1) (a .n2) (a .n3) (a .at) (inside c)
+placed : (c : tie.Else3) → let a = c .before .before .before .before .before .args in Within (a .cell) (a .at)
+placed c = let a = c .before .before .before .before .before .args in within-of (a .cell) (a .at) (inside c)
 
-fit : (c : tie.Else4) → let a = c .before .before .before .before .before .before .before .args in eqb (length (now (a .volume))) (volumeLength (groupOf (a .group)) (halvesOf (a .n1) (a .n2) (a .n3))) ≡ true
+fit : (c : tie.Else4) → let a = c .before .before .before .before .before .before .before .args in eqb (length (now (a .volume))) (volumeLength (cellGroup (a .cell)) (cellHalves (a .cell))) ≡ true
 fit c = by-true _ _ (c .before .fits2 .ensures) (c .if4 .left)
 
 -- the index is inside the cell: the numbers that are read decide
-numbers : (c : tie.Else3) {m : ℕ} → let a = c .before .before .before .before .before .args in m ≡ first (storedTests (a .group) (a .n1, a .n2, a .n3) (tripleOf (a .at)) (now (a .volume))) → m ≡ first (factorTestsOf (a .valid) (a .state) (a .group) (a .n1, a .n2, a .n3) (tripleOf (a .at)) (now (a .volume)))
+numbers : (c : tie.Else3) {m : ℕ} → let a = c .before .before .before .before .before .args in m ≡ first (storedTests (a .cell .group) (cellLengths (a .cell)) (tripleOf (a .at)) (now (a .volume))) → m ≡ first (factorTestsOf (a .valid) (a .state) (a .cell .group) (cellLengths (a .cell)) (tripleOf (a .at)) (now (a .volume)))
 numbers c n =
     let e = c .before .before in
     pass 25 _ (e .before .if1 .left) (pass 23 _ (ne-eqb _ _ (e .if2 .left)) (pass 10 _ (not-t _ (inside c)) n))
 
 -- what the test of the numbers read says
 below : (c : tie.After-factor-numbers-below) → let a = c .before .before .before .before .before .before .before .before .before .args in
-    c .factor-numbers-below .result ≡ allBelowAt (prime 1) (now (a .volume)) (numbersRead (groupOf (a .group)) (halvesOf (a .n1) (a .n2) (a .n3)) (tripleOf (a .at)))
+    c .factor-numbers-below .result ≡ allBelowAt (prime 1) (now (a .volume)) (numbersRead (cellGroup (a .cell)) (cellHalves (a .cell)) (tripleOf (a .at)))
 below c =
     let a = c .before .before .before .before .before .before .before .before .before .args in
-    c .factor-numbers-below .ensures ∙ ap (λ (p : ℕ). allBelowAt p (now (a .volume)) (numbersRead (groupOf (a .group)) (halvesOf (a .n1) (a .n2) (a .n3)) (tripleOf (a .at)))) (c .before .modulus .ensures .0)
+    c .factor-numbers-below .ensures ∙ ap (λ (p : ℕ). allBelowAt p (now (a .volume)) (numbersRead (cellGroup (a .cell)) (cellHalves (a .cell)) (tripleOf (a .at)))) (c .before .modulus .ensures .0)
 
 returns : tie.Need-returns
 returns c = stop _ (c .if1 .taken)

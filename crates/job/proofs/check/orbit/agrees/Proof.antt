@@ -6,19 +6,18 @@ use lib.ListN.{drop}
 use Rattle.algebra.specs.cells.Cell.{one, full}
 use Rattle.algebra.specs.cells.CellTests.{every}
 use Rattle.numbers.specs.Value.{valueOf}
-use Rattle.cell.specs.Volume.{groupOf}
 use Rattle.cell.specs.Consistency.{agreesWithItself}
-use Rattle.cell.specs.Operations.{halvesOf, tripleOf}
+use Rattle.cell.specs.Operations.{cellGroup, cellHalves, tripleOf}
 use Rattle.cell.proofs.Scans.{every-next, every-stop, every-end}
 use Rattle.job.proofs.check.orbit.TestLaws.{agreesUnder, agrees-start}
 use Rattle.job.proofs.check.orbit.agrees.Statement.{statement}
 use Rattle.job.proofs.check.orbit.agrees.Tie as tie
 
 abbrev Inv-loop : tie.InvT-loop
-Inv-loop m group n1 n2 n3 j x count i₀ i = agreesWithItself (groupOf group) (halvesOf n1 n2 n3) m (tripleOf j) (valueOf m x) ≡ every (drop i (full (groupOf group))) (agreesUnder (halvesOf n1 n2 n3) m (tripleOf j) (valueOf m x))
+Inv-loop m cell j x count i₀ i = agreesWithItself (cellGroup cell) (cellHalves cell) m (tripleOf j) (valueOf m x) ≡ every (drop i (full (cellGroup cell))) (agreesUnder (cellHalves cell) m (tripleOf j) (valueOf m x))
 
 abbrev μ-loop : tie.MeasureT-loop
-μ-loop m group n1 n2 n3 j x count i₀ i = count - i
+μ-loop m cell j x count i₀ i = count - i
 
 operation-count-requires : tie.Need-operation-count-requires Inv-loop μ-loop
 operation-count-requires c κs = c .pre .2 .known
@@ -32,7 +31,7 @@ operation-at-requires c κs = (c .before .before .before .pre .2 .known, subst (
 agrees-under-requires : tie.Need-agrees-under-requires Inv-loop μ-loop
 agrees-under-requires c κs =
     let p = c .before .before .before .before .pre in
-    ((p .0, p .1), (p .2 .first, p .2 .second, p .2 .third, p .3))
+    ((p .0, p .1), (p .2, p .3))
 
 add-i : tie.Need-add-i Inv-loop μ-loop
 add-i c = omega arith

@@ -8,20 +8,20 @@ use borrow.Author.Tests.{eqb-true}
 use Rattle.numbers.specs.Value.{value}
 use Rattle.numbers.proofs.Primes.{first-modulus}
 use Rattle.refusals.proofs.Tests.{stop, pass, none, not-t, not-f, by-true, by-false}
-use Rattle.cell.specs.Operations.{halvesOf, tripleOf}
-use Rattle.cell.specs.Volume.{groupOf, volumeLength}
+use Rattle.cell.specs.Operations.{cellGroup, cellHalves, tripleOf}
+use Rattle.cell.specs.Volume.{volumeLength}
 use Rattle.cell.specs.Consistency.{agreesWithItself}
 use Rattle.job.proofs.check.orbit.Reflections.{pair-of-numbers}
 use Rattle.job.proofs.check.orbit.check_orbit.Statement.{statement}
 use Rattle.job.proofs.check.orbit.check_orbit.Tie as tie
 
 -- what the test of the value says
-own : (c : tie.After-agrees) → let a = c .before .before .args in c .agrees .result ≡ agreesWithItself (groupOf (a .group)) (halvesOf (a .n1) (a .n2) (a .n3)) 1 (tripleOf (a .at)) (value 1 (a .x .re) (a .x .im))
+own : (c : tie.After-agrees) → let a = c .before .before .args in c .agrees .result ≡ agreesWithItself (cellGroup (a .cell)) (cellHalves (a .cell)) 1 (tripleOf (a .at)) (value 1 (a .x .re) (a .x .im))
 own c =
     let a = c .before .before .args in
-    c .agrees .ensures ∙ ap (agreesWithItself (groupOf (a .group)) (halvesOf (a .n1) (a .n2) (a .n3)) 1 (tripleOf (a .at))) (pair-of-numbers (a .x .re) (a .x .im))
+    c .agrees .ensures ∙ ap (agreesWithItself (cellGroup (a .cell)) (cellHalves (a .cell)) 1 (tripleOf (a .at))) (pair-of-numbers (a .x .re) (a .x .im))
 
-fit : (c : tie.Else2) → let a = c .before .before .before .before .before .args in eqb (length (now (a .volume))) (volumeLength (groupOf (a .group)) (halvesOf (a .n1) (a .n2) (a .n3))) ≡ true
+fit : (c : tie.Else2) → let a = c .before .before .before .before .before .args in eqb (length (now (a .volume))) (volumeLength (cellGroup (a .cell)) (cellHalves (a .cell))) ≡ true
 fit c = by-true _ _ (c .before .fits2 .ensures) (c .if2 .left)
 
 agrees-requires : tie.Need-agrees-requires

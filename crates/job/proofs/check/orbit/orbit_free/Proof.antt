@@ -5,27 +5,26 @@ use native.Mathlib.Omega.{arith}
 use lib.ListN.{drop}
 use Rattle.algebra.specs.cells.Cell.{one, full}
 use Rattle.algebra.specs.cells.CellTests.{every}
-use Rattle.cell.specs.Volume.{groupOf}
 use Rattle.cell.specs.Consistency.{orbitFree}
-use Rattle.cell.specs.Operations.{halvesOf, tripleOf, symOf}
+use Rattle.cell.specs.Operations.{cellGroup, cellHalves, tripleOf, symOf}
 use Rattle.cell.proofs.Scans.{every-next, every-stop, every-end}
 use Rattle.job.proofs.check.orbit.TestLaws.{freeUnder, orbit-start, image-free}
 use Rattle.job.proofs.check.orbit.orbit_free.Statement.{statement}
 use Rattle.job.proofs.check.orbit.orbit_free.Tie as tie
 
 abbrev Inv-loop : tie.InvT-loop
-Inv-loop group n1 n2 n3 j volume count i₀ i = orbitFree (groupOf group) (halvesOf n1 n2 n3) volume (tripleOf j) ≡ every (drop i (full (groupOf group))) (freeUnder (groupOf group) (halvesOf n1 n2 n3) volume (tripleOf j))
+Inv-loop cell j volume count i₀ i = orbitFree (cellGroup cell) (cellHalves cell) volume (tripleOf j) ≡ every (drop i (full (cellGroup cell))) (freeUnder (cellGroup cell) (cellHalves cell) volume (tripleOf j))
 
 abbrev μ-loop : tie.MeasureT-loop
-μ-loop group n1 n2 n3 j volume count i₀ i = count - i
+μ-loop cell j volume count i₀ i = count - i
 
 -- what the test of a turn says of its operation
 told : (c : tie.After-factor-numbers-below Inv-loop μ-loop) → let o = c .before .before in let a = o .before .before .before .before .before .args in
-    c .factor-numbers-below .result ≡ freeUnder (groupOf (a .group)) (halvesOf (a .n1) (a .n2) (a .n3)) (a .volume .now) (tripleOf (a .j)) (symOf (o .operation-at .result))
+    c .factor-numbers-below .result ≡ freeUnder (cellGroup (a .cell)) (cellHalves (a .cell)) (a .volume .now) (tripleOf (a .j)) (symOf (o .operation-at .result))
 told c =
     let o = c .before .before in
     let a = o .before .before .before .before .before .args in
-    image-free (groupOf (a .group)) (halvesOf (a .n1) (a .n2) (a .n3)) (a .volume .now) (tripleOf (a .j)) (symOf (o .operation-at .result)) (c .before .image .ensures .0) (c .factor-numbers-below .ensures)
+    image-free (cellGroup (a .cell)) (cellHalves (a .cell)) (a .volume .now) (tripleOf (a .j)) (symOf (o .operation-at .result)) (c .before .image .ensures .0) (c .factor-numbers-below .ensures)
 
 operation-count-requires : tie.Need-operation-count-requires Inv-loop μ-loop
 operation-count-requires c κs = c .before .pre .0 .0 .known
@@ -38,8 +37,7 @@ operation-at-requires c κs = (c .before .before .before .before .pre .0 .0 .kno
 
 image-requires : tie.Need-image-requires Inv-loop μ-loop
 image-requires c κs =
-    let p = c .before .before .before .before .before .pre .0 in
-    (p .0 .first, p .0 .second, p .0 .third, p .1)
+    c .before .before .before .before .before .pre .0
 
 factor-numbers-below-requires : tie.Need-factor-numbers-below-requires Inv-loop μ-loop
 factor-numbers-below-requires c κs =

@@ -11,8 +11,8 @@ use borrow.Author.Tests.{not-false, eqb-true, eq-eqb, ne-eqb}
 use Rattle.numbers.specs.Value.{prime}
 use Rattle.refusals.specs.Refusals.{first}
 use Rattle.refusals.proofs.Tests.{stop, pass, none, not-t, not-f, by-true, by-false}
-use Rattle.cell.specs.Operations.{halvesOf, pointOf, Sizes, PointWithin}
-use Rattle.cell.specs.Volume.{groupOf, densityPlace, volumeLength}
+use Rattle.cell.specs.Operations.{cellGroup, cellLengths, cellHalves, pointOf, Sizes, PointWithin}
+use Rattle.cell.specs.Volume.{densityPlace, volumeLength}
 use Rattle.job.specs.Tests.{within, densityTests, pointTestsOf}
 use Rattle.job.proofs.check.Points.{point-within-of}
 use Rattle.header.proofs.Headers.{place-small}
@@ -20,20 +20,20 @@ use Rattle.job.proofs.check.Numbers.{number-above, number-below}
 use Rattle.job.proofs.check.point.check_point.Statement.{statement}
 use Rattle.job.proofs.check.point.check_point.Tie as tie
 
-sizes : (c : tie.Else1) → let a = c .before .before .args in Sizes (a .group) (a .n1) (a .n2) (a .n3)
+sizes : (c : tie.Else1) → let a = c .before .before .args in Sizes (a .cell)
 sizes c = c .before .before .pre (not-false _ (c .if1 .left))
 
-inside : (c : tie.Else3) → let a = c .before .before .before .before .before .args in within (a .n1, a .n2, a .n3) (pointOf (a .at)) ≡ true
+inside : (c : tie.Else3) → let a = c .before .before .before .before .before .args in within (cellLengths (a .cell)) (pointOf (a .at)) ≡ true
 inside c = by-true _ _ (c .before .inside .ensures) (c .if3 .left)
 
-placed : (c : tie.Else3) → let a = c .before .before .before .before .before .args in PointWithin (a .n1) (a .n2) (a .n3) (a .at)
-placed c = let a = c .before .before .before .before .before .args in point-within-of (a .n1) (a .n2) (a .n3) (a .at) (inside c)
+placed : (c : tie.Else3) → let a = c .before .before .before .before .before .args in PointWithin (a .cell) (a .at)
+placed c = let a = c .before .before .before .before .before .args in point-within-of (a .cell) (a .at) (inside c)
 
-fit : (c : tie.Else4) → let a = c .before .before .before .before .before .before .before .args in eqb (length (now (a .volume))) (volumeLength (groupOf (a .group)) (halvesOf (a .n1) (a .n2) (a .n3))) ≡ true
+fit : (c : tie.Else4) → let a = c .before .before .before .before .before .before .before .args in eqb (length (now (a .volume))) (volumeLength (cellGroup (a .cell)) (cellHalves (a .cell))) ≡ true
 fit c = by-true _ _ (c .before .fits2 .ensures) (c .if4 .left)
 
 -- the point is inside the cell: its number decides
-number : (c : tie.Else3) {m : ℕ} → let a = c .before .before .before .before .before .args in m ≡ first (densityTests (a .group) (a .n1, a .n2, a .n3) (pointOf (a .at)) (now (a .volume))) → m ≡ first (pointTestsOf (a .valid) (a .state) (a .group) (a .n1, a .n2, a .n3) (pointOf (a .at)) (now (a .volume)))
+number : (c : tie.Else3) {m : ℕ} → let a = c .before .before .before .before .before .args in m ≡ first (densityTests (a .cell .group) (cellLengths (a .cell)) (pointOf (a .at)) (now (a .volume))) → m ≡ first (pointTestsOf (a .valid) (a .state) (a .cell .group) (cellLengths (a .cell)) (pointOf (a .at)) (now (a .volume)))
 number c n =
     let e = c .before .before in
     pass 25 _ (e .before .if1 .left) (pass 22 _ (not-t _ (eq-eqb _ _ (e .if2 .left))) (pass 10 _ (not-t _ (inside c)) n))
@@ -77,7 +77,7 @@ returns-5 c =
     let d = c .before .before in
     let f = d .before .before in
     let a = f .before .before .before .before .before .before .before .args in
-    let e : ltb (getD (now (a .volume)) (densityPlace (groupOf (a .group)) (halvesOf (a .n1) (a .n2) (a .n3)) (pointOf (a .at))) 0) (prime 1) ≡ false =
+    let e : ltb (getD (now (a .volume)) (densityPlace (cellGroup (a .cell)) (cellHalves (a .cell)) (pointOf (a .at))) 0) (prime 1) ≡ false =
     number-above (now (a .volume)) (d .density-place .ensures .0) (d .before .modulus .ensures .0) (c .if5 .taken) in
     number (f .before .before) (pass 6 _ (not-t _ (fit f)) (stop _ (not-f _ e)))
 
@@ -86,7 +86,7 @@ returns-6 c =
     let d = c .before .before in
     let f = d .before .before in
     let a = f .before .before .before .before .before .before .before .args in
-    let e : ltb (getD (now (a .volume)) (densityPlace (groupOf (a .group)) (halvesOf (a .n1) (a .n2) (a .n3)) (pointOf (a .at))) 0) (prime 1) ≡ true =
+    let e : ltb (getD (now (a .volume)) (densityPlace (cellGroup (a .cell)) (cellHalves (a .cell)) (pointOf (a .at))) 0) (prime 1) ≡ true =
     number-below (now (a .volume)) (d .density-place .ensures .0) (d .before .modulus .ensures .0) (c .if5 .left) in
     number (f .before .before) (pass 6 _ (not-t _ (fit f)) (pass 7 _ (not-t _ e) none))
 

@@ -6,7 +6,7 @@ use lib.Dec.{ltb, eqb}
 use borrow.Author.Tests.{not-false, ltb-true, eq-eqb, ne-eqb}
 use Rattle.numbers.specs.Value.{prime, Small}
 use Rattle.refusals.proofs.Tests.{stop, pass, not-t, not-f, by-true, by-false, both}
-use Rattle.cell.specs.Operations.{tripleOf, Sizes, Within}
+use Rattle.cell.specs.Operations.{cellLengths, tripleOf, Sizes, Within}
 use Rattle.job.specs.Tests.{within}
 use Rattle.job.proofs.check.Points.{within-of}
 use Rattle.job.proofs.check.record.check_record.Statement.{statement}
@@ -14,13 +14,13 @@ use Rattle.job.proofs.check.record.check_record.Tie as tie
 
 -- ---- what each test that is passed leaves
 
-sizes : (c : tie.Else1) → let a = c .before .before .args in Sizes (a .group) (a .n1) (a .n2) (a .n3)
+sizes : (c : tie.Else1) → let a = c .before .before .args in Sizes (a .cell)
 sizes c = c .before .before .pre (not-false _ (c .if1 .left))
 
 collects : (c : tie.Else2) → not (eqb (c .before .before .before .args .state) 0) ≡ false
 collects c = not-t _ (eq-eqb _ _ (c .if2 .left))
 
-inside : (c : tie.Else3) → let a = c .before .before .before .before .before .args in within (a .n1, a .n2, a .n3) (tripleOf (a .at)) ≡ true
+inside : (c : tie.Else3) → let a = c .before .before .before .before .before .args in within (cellLengths (a .cell)) (tripleOf (a .at)) ≡ true
 inside c = by-true _ _ (c .before .inside .ensures) (c .if3 .left)
 
 below : (c : tie.Else4) → let a = c .before .before .before .before .before .before .before .args in (ltb (a .x .re) (prime 1) && ltb (a .x .im) (prime 1)) ≡ true
@@ -34,8 +34,8 @@ nonzero c = sym (c .before .both-zero .ensures) ∙ c .if5 .left
 
 -- ---- the needs
 
-placed : (c : tie.Else3) → let a = c .before .before .before .before .before .args in Within (a .n1) (a .n2) (a .n3) (a .at)
-placed c = let a = c .before .before .before .before .before .args in within-of (a .n1) (a .n2) (a .n3) (a .at) (inside c)
+placed : (c : tie.Else3) → let a = c .before .before .before .before .before .args in Within (a .cell) (a .at)
+placed c = let a = c .before .before .before .before .before .args in within-of (a .cell) (a .at) (inside c)
 
 returns : tie.Need-returns
 returns c = stop _ (c .if1 .taken)

@@ -18,7 +18,7 @@ returns c = stop _ (not-f _ (by-false _ _ (c .before .all-residues .ensures) (c 
 consistent-factors-requires : tie.Need-consistent-factors-requires
 consistent-factors-requires c κs =
     let s = c .before .before .before in
-    (s .pre .0, omega arith, s .pre .1, below-allBelow (prime 1) (now (s .args .volume)) (prime-pos 1) (by-true _ _ (c .before .all-residues .ensures) (c .if1 .left)))
+    (s .pre, omega arith, below-allBelow (prime 1) (now (s .args .volume)) (prime-pos 1) (by-true _ _ (c .before .all-residues .ensures) (c .if1 .left)))
 
 returns-2 : tie.Need-returns-2
 returns-2 c = let r = c .before .before in pass 7 _ (not-t _ (by-true _ _ (r .before .all-residues .ensures) (r .if1 .left))) (stop _ (not-f _ (by-false _ _ (c .before .consistent-factors .ensures) (c .if2 .taken))))

@@ -6,15 +6,15 @@ use lib.Dec.{eqb}
 use denote.Ref.{now}
 use borrow.Author.Tests.{not-false, eqb-true, eq-eqb, ne-eqb, lt-ltb, le-ltb}
 use Rattle.refusals.proofs.Tests.{stop, pass, not-t, not-f, by-true, by-false}
-use Rattle.cell.specs.Operations.{halvesOf, Sizes}
-use Rattle.cell.specs.Volume.{groupOf, volumeLength}
+use Rattle.cell.specs.Operations.{cellGroup, cellHalves, Sizes}
+use Rattle.cell.specs.Volume.{volumeLength}
 use Rattle.job.proofs.check.synthesis.check_synthesis.Statement.{statement}
 use Rattle.job.proofs.check.synthesis.check_synthesis.Tie as tie
 
-sizes : (c : tie.Else1) → let a = c .before .before .args in Sizes (a .group) (a .n1) (a .n2) (a .n3)
+sizes : (c : tie.Else1) → let a = c .before .before .args in Sizes (a .cell)
 sizes c = c .before .before .pre (not-false _ (c .if1 .left))
 
-fit : (c : tie.Else3) → let a = c .before .before .before .before .before .args in eqb (length (now (a .volume))) (volumeLength (groupOf (a .group)) (halvesOf (a .n1) (a .n2) (a .n3))) ≡ true
+fit : (c : tie.Else3) → let a = c .before .before .before .before .before .args in eqb (length (now (a .volume))) (volumeLength (cellGroup (a .cell)) (cellHalves (a .cell))) ≡ true
 fit c = by-true _ _ (c .before .fits2 .ensures) (c .if3 .left)
 
 returns : tie.Need-returns
@@ -36,7 +36,7 @@ returns-4 c =
     pass 25 _ (e .before .if1 .left) (pass 23 _ (ne-eqb _ _ (e .if2 .left)) (pass 6 _ (not-t _ (fit f)) (stop _ (lt-ltb _ _ (c .if4 .taken)))))
 
 check-factors-requires : tie.Need-check-factors-requires
-check-factors-requires c κs = let f = c .before in (sizes (f .before .before .before), eqb-true _ _ (fit f))
+check-factors-requires c κs = let f = c .before in record { sizes = sizes (f .before .before .before); long = eqb-true _ _ (fit f) }
 
 returns-5 : tie.Need-returns-5
 returns-5 c =

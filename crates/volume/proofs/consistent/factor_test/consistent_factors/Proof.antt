@@ -1,35 +1,31 @@
 -- The factors agree, and in Pa the ends of odd lines are empty.
-use mathlib.Core.Path.{subst}
 use Rattle.cell.specs.Consistency.{consistentFactors}
-use Rattle.cell.specs.Operations.{halvesOf}
-use Rattle.cell.specs.TestSteps.{IsVolume}
+use Rattle.cell.specs.Operations.{cellHalves}
 use Rattle.volume.proofs.consistent.Passing.{both-passed, first-failed}
 use Rattle.volume.proofs.consistent.TestLaws.{ends-tested, ends-none}
 use Rattle.volume.proofs.consistent.factor_test.consistent_factors.Statement.{statement}
 use Rattle.volume.proofs.consistent.factor_test.consistent_factors.Tie as tie
 
 factors-agree-requires : tie.Need-factors-agree-requires
-factors-agree-requires c κs = let p = c .before .pre in (record { sizes = p .0; long = p .2 }, p .1, p .3)
+factors-agree-requires c κs = c .before .pre
 
 odd-rows-empty-requires : tie.Need-odd-rows-empty-requires
-odd-rows-empty-requires c κs =
-    let s = c .before .before .before .before in
-    subst (λ g. IsVolume g (s .args .n1) (s .args .n2) (s .args .n3) (s .args .volume .now)) (c .if2 .taken) (record { sizes = s .pre .0; long = s .pre .2 })
+odd-rows-empty-requires c κs = (c .before .before .before .before .before .pre .0, c .if2 .taken)
 
 returns : tie.Need-returns
 unfolding consistentFactors
 returns c =
-    let t = c .before .before .before in
+    let t = c .before .before .before .before in
     let a = t .before .before .args in
-    both-passed (t .factors-agree .ensures) (c .before .before .if1 .taken) (ends-tested (halvesOf (a .n1) (a .n2) (a .n3)) (a .m) (a .volume .now) (c .before .if2 .taken) (c .odd-rows-empty .ensures))
+    both-passed (t .factors-agree .ensures) (c .before .before .before .if1 .taken) (ends-tested (cellHalves (a .cell)) (a .m) (a .volume .now) (c .before .if2 .taken) (c .odd-rows-empty .ensures))
 
 returns-2 : tie.Need-returns-2
 unfolding consistentFactors
 returns-2 c =
-    let t = c .before .before in
+    let t = c .before .before .before in
     let s = t .before .before in
     let a = s .args in
-    both-passed (t .factors-agree .ensures) (c .before .if1 .taken) (ends-none (halvesOf (a .n1) (a .n2) (a .n3)) (a .m) (a .volume .now) (a .group) (s .pre .0 .known) (c .if2 .left))
+    both-passed (t .factors-agree .ensures) (c .before .before .if1 .taken) (ends-none (cellHalves (a .cell)) (a .m) (a .volume .now) (a .cell .group) (s .pre .0 .sizes .known) (c .if2 .left))
 
 returns-3 : tie.Need-returns-3
 unfolding consistentFactors

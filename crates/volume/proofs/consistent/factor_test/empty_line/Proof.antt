@@ -1,21 +1,28 @@
 -- Both pairs are read and tested.
 use borrow.Author.Needs.{needs}
-use mathlib.Core.Path.{_∙_, ap}
+use mathlib.Core.Path.{_≡_, sym, _∙_, ap, subst}
 use mathlib.Core.Bool.{_&&_}
+use Prim.Native.Nat.{_/_, _<_}
 use native.Mathlib.Omega.{arith}
 use Rattle.algebra.specs.cells.Cell.{planes}
+use Rattle.cell.specs.Volume.{groupOf}
+use Rattle.cell.specs.declared.operations.UnitCell.{UnitCell}
+use Rattle.cell.specs.Operations.{cellGroup, Sizes}
 use Rattle.cell.specs.TestSteps.{isZero}
 use Rattle.cell.proofs.StoredFactors.{pair-inside}
 use Rattle.volume.proofs.consistent.factor_test.empty_line.Statement.{statement}
 use Rattle.volume.proofs.consistent.factor_test.empty_line.Tie as tie
 
-pair-at-requires : tie.Need-pair-at-requires
+-- the pairs 0 and A of Pa
+ends : {cell : UnitCell} → Sizes cell → cell .group ≡ 3 → (0 < planes (cellGroup cell) (cell .n3 / 2)) × (cell .n3 / 2 < planes (cellGroup cell) (cell .n3 / 2))
 unfolding planes
-pair-at-requires c κs = let p = c .before .pre in pair-inside (p .0) 0 _ _ (omega arith) (p .1) (p .2)
+ends {cell} s e = subst (λ n. (0 < planes (groupOf n) (cell .n3 / 2)) × (cell .n3 / 2 < planes (groupOf n) (cell .n3 / 2))) (sym e) (omega arith, omega arith)
+
+pair-at-requires : tie.Need-pair-at-requires
+pair-at-requires c κs = let p = c .before .pre in pair-inside (p .0) 0 _ _ (ends (p .0 .sizes) (p .1) .0) (p .2) (p .3)
 
 pair-at-requires-2 : tie.Need-pair-at-requires-2
-unfolding planes
-pair-at-requires-2 c κs = let p = c .before .before .pre in pair-inside (p .0) _ _ _ (omega arith) (p .1) (p .2)
+pair-at-requires-2 c κs = let p = c .before .before .before .pre in pair-inside (p .0) _ _ _ (ends (p .0 .sizes) (p .1) .1) (p .2) (p .3)
 
 is-zero-requires : tie.Need-is-zero-requires
 is-zero-requires c κs = search needs
@@ -27,7 +34,7 @@ returns : tie.Need-returns
 returns c =
     let f = c .before in
     let l = f .before in
-    let x = f .is-zero .ensures ∙ ap isZero (l .before .pair-at .ensures) in
+    let x = f .is-zero .ensures ∙ ap isZero (l .before .before .pair-at .ensures) in
     let y = c .is-zero2 .ensures ∙ ap isZero (l .pair-at2 .ensures) in
     λ i. x i && y i
 

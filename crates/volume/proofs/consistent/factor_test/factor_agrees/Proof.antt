@@ -10,7 +10,7 @@ use borrow.Author.Tests.{eqb-true}
 use Rattle.algebra.specs.cells.Cell.{P2₁2₁2₁, one, full, negI}
 use Rattle.cell.specs.Volume.{groupOf}
 use Rattle.cell.specs.Consistency.{lineAgrees}
-use Rattle.cell.specs.Operations.{halvesOf, tripleOf}
+use Rattle.cell.specs.Operations.{cellGroup, cellHalves, tripleOf}
 use Rattle.cell.specs.TestSteps.{imageAgrees}
 use Rattle.cell.proofs.OperationLaws.{order-four, full-length}
 use Rattle.volume.proofs.consistent.Interior.{inner-P1, inner, inner-4, mirror-4}
@@ -39,9 +39,9 @@ between-requires-2 c κs = search needs
 
 operation-at-requires : tie.Need-operation-at-requires
 operation-at-requires c κs =
-    let t = c .before .before in
-    let s = t .before .before .before .before .before in
-    (s .pre .0 .sizes .known, omega (arith, order-four (t .if2 .taken), full-length (s .args .group)))
+    let t = c .before .before .before in
+    let s = t .before .before .before .before .before .before .before .before .before in
+    (s .pre .0 .0 .sizes .known, omega (arith, order-four (t .if2 .taken), full-length (s .args .cell .group)))
 
 image-agrees-requires : tie.Need-image-agrees-requires
 image-agrees-requires c κs = search needs
@@ -50,17 +50,17 @@ image-agrees-requires c κs = search needs
 returns : tie.Need-returns
 returns c =
     let o = c .before in
-    let t = o .before .before .before in
-    let q = t .before in
+    let t = o .before .before .before .before in
+    let q = t .before .before in
     let p = q .before in
-    let b = p .before in
-    let s = b .before .before in
-    let a = halvesOf (s .args .n1) (s .args .n2) (s .args .n3) in
+    let b = p .before .before .before in
+    let s = b .before .before .before in
+    let a = cellHalves (s .args .cell) in
     let e = t .if2 .taken in
     settled-4 (b .between .result) (p .between2 .result) e (q .if1 .taken)
     (λ u z. let r = b .between .ensures u in let w = p .between2 .ensures z in
     c .image-agrees .ensures
-    ∙ ap (λ x. imageAgrees (groupOf (s .args .group)) a (s .args .m) (s .args .volume .now) (tripleOf (s .args .j)) x) (o .operation-at .ensures ∙ ap (λ n. getD (full (groupOf n)) 7 one) e)
+    ∙ ap (λ x. imageAgrees (cellGroup (s .args .cell)) a (s .args .m) (s .args .volume .now) (tripleOf (s .args .j)) x) (o .operation-at .ensures ∙ ap (λ n. getD (full (groupOf n)) 7 one) e)
     ∙ ap (λ n. imageAgrees (groupOf n) a (s .args .m) (s .args .volume .now) (tripleOf (s .args .j)) (getD (full P2₁2₁2₁) 7 one)) e
     ∙ sym (inner-4 a (s .args .m) (s .args .volume .now) (tripleOf (s .args .j)) (r .0) (r .1) (w .0) (w .1))
     ∙ ap (λ n. lineAgrees (groupOf n) a (s .args .m) (s .args .volume .now) (tripleOf (s .args .j))) (sym e))
@@ -68,30 +68,30 @@ returns c =
 -- P2₁2₁2₁ beyond N1/2: that image was tried at -h
 returns-2 : tie.Need-returns-2
 returns-2 c =
-    let t = c .before .before in
-    let q = t .before in
+    let t = c .before .before .before in
+    let q = t .before .before in
     let p = q .before in
-    let b = p .before in
-    let s = b .before .before in
-    let a = halvesOf (s .args .n1) (s .args .n2) (s .args .n3) in
+    let b = p .before .before .before in
+    let s = b .before .before .before in
+    let a = cellHalves (s .args .cell) in
     let j = tripleOf (s .args .j) in
     let e = t .if2 .taken in
     settled-4 (b .between .result) (p .between2 .result) e (q .if1 .taken)
     (λ u z. let r = b .between .ensures u in let w = p .between2 .ensures z in
     sym (ap (λ n. lineAgrees (groupOf n) a (s .args .m) (s .args .volume .now) j) e
-    ∙ mirror-4 a (s .args .m) (s .args .volume .now) j (omega (arith, s .pre .3 .h, s .pre .0 .sizes .first .even)) (r .0) (r .1) (w .0) (w .1)
-    (ap (λ n. lineAgrees (groupOf n) a (s .args .m) (s .args .volume .now) (negI (s .args .n1 / 2) (j .0), j .1, j .2)) (sym e) ∙ s .pre .4 (omega (arith, c .if3 .left)))))
+    ∙ mirror-4 a (s .args .m) (s .args .volume .now) j (omega (arith, s .pre .0 .3 .h, s .pre .0 .0 .sizes .first .even)) (r .0) (r .1) (w .0) (w .1)
+    (ap (λ n. lineAgrees (groupOf n) a (s .args .m) (s .args .volume .now) (negI (s .args .cell .n1 / 2) (j .0), j .1, j .2)) (sym e) ∙ s .pre .1 (omega (arith, c .if3 .left)))))
 
 returns-3 : tie.Need-returns-3
 returns-3 c =
-    let q = c .before in
+    let q = c .before .before in
     let p = q .before in
-    let b = p .before in
-    let s = b .before .before in
-    let a = halvesOf (s .args .n1) (s .args .n2) (s .args .n3) in
-    settled (b .between .result) (eqb (s .args .group) 0) (p .between2 .result) (q .if1 .taken)
-    (λ t q. let r = b .between .ensures t in sym (ap (λ n. lineAgrees (groupOf n) a (s .args .m) (s .args .volume .now) (tripleOf (s .args .j))) (eqb-true (s .args .group) 0 q) ∙ inner-P1 a (s .args .m) (s .args .volume .now) (tripleOf (s .args .j)) (r .0) (r .1)))
-    (λ t q. let r = b .between .ensures t in let u = p .between2 .ensures q in sym (inner a (s .args .m) (s .args .volume .now) (tripleOf (s .args .j)) (r .0) (r .1) (s .args .group) (s .pre .0 .sizes .known) (c .if2 .left) (u .0) (u .1)))
+    let b = p .before .before .before in
+    let s = b .before .before .before in
+    let a = cellHalves (s .args .cell) in
+    settled (b .between .result) (eqb (s .args .cell .group) 0) (p .between2 .result) (q .if1 .taken)
+    (λ t q. let r = b .between .ensures t in sym (ap (λ n. lineAgrees (groupOf n) a (s .args .m) (s .args .volume .now) (tripleOf (s .args .j))) (eqb-true (s .args .cell .group) 0 q) ∙ inner-P1 a (s .args .m) (s .args .volume .now) (tripleOf (s .args .j)) (r .0) (r .1)))
+    (λ t q. let r = b .between .ensures t in let u = p .between2 .ensures q in sym (inner a (s .args .m) (s .args .volume .now) (tripleOf (s .args .j)) (r .0) (r .1) (s .args .cell .group) (s .pre .0 .0 .sizes .known) (c .if2 .left) (u .0) (u .1)))
 
 images-agree-requires : tie.Need-images-agree-requires
 images-agree-requires c κs = search needs

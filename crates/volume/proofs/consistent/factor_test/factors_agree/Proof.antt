@@ -5,18 +5,17 @@ use Prim.Native.Nat.{suc, _*_, _-_, _/_}
 use native.Mathlib.Omega.{arith}
 use Rattle.algebra.specs.cells.Cell.{span}
 use Rattle.algebra.specs.cells.CellTests.{below}
-use Rattle.cell.specs.Volume.{groupOf}
 use Rattle.cell.specs.Consistency.{lineAgrees}
-use Rattle.cell.specs.Operations.{halvesOf}
+use Rattle.cell.specs.Operations.{cellGroup, cellHalves}
 use Rattle.volume.proofs.consistent.Passing.{Passing, passing-start, passing-next, passing-stop, passing-done, by-layers}
 use Rattle.volume.proofs.consistent.factor_test.factors_agree.Statement.{statement}
 use Rattle.volume.proofs.consistent.factor_test.factors_agree.Tie as tie
 
 abbrev Inv-loop : tie.InvT-loop
-Inv-loop m group n1 n2 n3 volume count l₀ l = Passing (λ l. below (2 * (n1 / 2)) (λ h. below (suc (n2 / 2)) (λ k. lineAgrees (groupOf group) (halvesOf n1 n2 n3) m volume (h, k, l)))) (span (groupOf group) (n3 / 2)) l
+Inv-loop m cell volume count l₀ l = Passing (λ l. below (2 * (cell .n1 / 2)) (λ h. below (suc (cell .n2 / 2)) (λ k. lineAgrees (cellGroup cell) (cellHalves cell) m volume (h, k, l)))) (span (cellGroup cell) (cell .n3 / 2)) l
 
 abbrev μ-loop : tie.MeasureT-loop
-μ-loop m group n1 n2 n3 volume count l₀ l = count - l
+μ-loop m cell volume count l₀ l = count - l
 
 stored-count-requires : tie.Need-stored-count-requires Inv-loop μ-loop
 stored-count-requires c κs = search needs

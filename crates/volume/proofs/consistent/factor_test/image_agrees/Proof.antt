@@ -11,7 +11,7 @@ image-requires : tie.Need-image-requires
 image-requires c κs =
     let p = c .before .pre in
     let s = p .0 .sizes in
-    (s .first, s .second, s .third, stored-within s (p .3))
+    (s, stored-within s (p .3))
 
 is-stored-requires : tie.Need-is-stored-requires
 is-stored-requires c κs = search needs
@@ -19,13 +19,13 @@ is-stored-requires c κs = search needs
 stored-value-requires : tie.Need-stored-value-requires
 stored-value-requires c κs =
     let p = c .before .before .before .before .pre in
-    (p .1, p .0, p .3, all-below-at (p .2) _)
+    ((p .1, p .0, p .3), all-below-at (p .2) _)
 
 stored-value-requires-2 : tie.Need-stored-value-requires-2
 stored-value-requires-2 c κs =
     let t = c .before .before in
     let p = t .before .before .before .pre in
-    (p .1, p .0, stored-by (p .0 .sizes) (t .before .image .ensures .1) (t .is-stored .ensures) (c .before .if1 .taken), all-below-at (p .2) _)
+    ((p .1, p .0, stored-by (p .0 .sizes) (t .before .image .ensures .1) (t .is-stored .ensures) (c .before .if1 .taken)), all-below-at (p .2) _)
 
 implied-requires : tie.Need-implied-requires
 implied-requires c κs =

@@ -3,8 +3,7 @@ use borrow.Author.Needs.{needs}
 use Prim.Native.Nat.{_-_}
 use native.Mathlib.Omega.{arith}
 use Rattle.algebra.specs.cells.Cell.{one, full}
-use Rattle.cell.specs.Volume.{groupOf}
-use Rattle.cell.specs.Operations.{halvesOf, tripleOf}
+use Rattle.cell.specs.Operations.{cellGroup, cellHalves, tripleOf}
 use Rattle.cell.specs.TestSteps.{imageAgrees}
 use Rattle.volume.proofs.consistent.Passing.{PassingMembers, members-second, members-next, members-stop, members-done}
 use Rattle.volume.proofs.consistent.TestLaws.{first-full, identity-agrees}
@@ -12,11 +11,11 @@ use Rattle.volume.proofs.consistent.factor_test.images_agree.Statement.
 use Rattle.volume.proofs.consistent.factor_test.images_agree.Tie as tie
 
 abbrev Inv-loop : tie.InvT-loop
-Inv-loop m group n1 n2 n3 volume j count number₀ number =
-    PassingMembers (full (groupOf group)) one (imageAgrees (groupOf group) (halvesOf n1 n2 n3) m volume (tripleOf j)) number
+Inv-loop m cell volume j count number₀ number =
+    PassingMembers (full (cellGroup cell)) one (imageAgrees (cellGroup cell) (cellHalves cell) m volume (tripleOf j)) number
 
 abbrev μ-loop : tie.MeasureT-loop
-μ-loop m group n1 n2 n3 volume j count number₀ number = count - number
+μ-loop m cell volume j count number₀ number = count - number
 
 operation-count-requires : tie.Need-operation-count-requires Inv-loop μ-loop
 operation-count-requires c κs = search needs
@@ -24,8 +23,8 @@ operation-count-requires c κs = search needs
 loop-holds : tie.Need-loop-holds Inv-loop μ-loop
 loop-holds c =
     let s = c .before .before in
-    let first = first-full (s .args .group) (s .pre .0 .sizes .known) in
-    members-second (first .0) (first .1) (identity-agrees (groupOf (s .args .group)) (halvesOf (s .args .n1) (s .args .n2) (s .args .n3)) (s .args .m) (s .args .volume .now) (tripleOf (s .args .j)))
+    let first = first-full (s .args .cell .group) (s .pre .0 .sizes .known) in
+    members-second (first .0) (first .1) (identity-agrees (cellGroup (s .args .cell)) (cellHalves (s .args .cell)) (s .args .m) (s .args .volume .now) (tripleOf (s .args .j)))
 
 operation-at-requires : tie.Need-operation-at-requires Inv-loop μ-loop
 operation-at-requires c κs =

@@ -7,7 +7,7 @@ use native.Mathlib.Omega.{arith}
 use denote.Ref.{now}
 use Rattle.algebra.specs.cells.Cell.{Pa}
 use Rattle.algebra.specs.cells.CellTests.{below}
-use Rattle.cell.specs.Operations.{halvesOf}
+use Rattle.cell.specs.Operations.{cellHalves}
 use Rattle.cell.specs.TestSteps.{emptyIfOdd}
 use Rattle.cell.proofs.PlaceLaws.{even-is, odd-is}
 use Rattle.volume.proofs.consistent.Passing.{Passing, passing-start, passing-next, passing-stop, passing-done}
@@ -16,28 +16,28 @@ use Rattle.volume.proofs.consistent.factor_test.odd_rows_empty.Statemen
 use Rattle.volume.proofs.consistent.factor_test.odd_rows_empty.Tie as tie
 
 abbrev Inv-loop : tie.InvT-loop
-Inv-loop n1 n2 n3 volume h₀ h = (h % 2 ≡ 1) × Passing (λ h. below (suc (n2 / 2)) (λ k. emptyIfOdd Pa (halvesOf n1 n2 n3) volume h k)) (2 * (n1 / 2)) (h - 1)
+Inv-loop cell volume h₀ h = (h % 2 ≡ 1) × Passing (λ h. below (suc (cell .n2 / 2)) (λ k. emptyIfOdd Pa (cellHalves cell) volume h k)) (2 * (cell .n1 / 2)) (h - 1)
 
 abbrev μ-loop : tie.MeasureT-loop
-μ-loop n1 n2 n3 volume h₀ h = 2 * (n1 / 2) - h
+μ-loop cell volume h₀ h = 2 * (cell .n1 / 2) - h
 
 -- the test of a row
 abbrev row : tie.Start Inv-loop μ-loop → ℕ → Bool
-row s h = let a = s .args in below (suc (a .n2 / 2)) (λ k. emptyIfOdd Pa (halvesOf (a .n1) (a .n2) (a .n3)) (now (a .volume)) h k)
+row s h = let a = s .args in below (suc (a .cell .n2 / 2)) (λ k. emptyIfOdd Pa (cellHalves (a .cell)) (now (a .volume)) h k)
 
 -- the even row before h has passed too
 before-odd : (s : tie.Start Inv-loop μ-loop) (n h : ℕ) → h % 2 ≡ 1 → h < n → Passing (row s) n (h - 1) → Passing (row s) n h
 before-odd s n h o l p =
     let a = s .args in
     let e : h - 1 + 1 ≡ h = omega arith in
-    subst (λ (q : ℕ). Passing (row s) n q) e (passing-next p (omega arith) (even-passes (halvesOf (a .n1) (a .n2) (a .n3)) (now (a .volume)) (h - 1) (suc (a .n2 / 2)) (even-is (h - 1) (omega arith))) refl)
+    subst (λ (q : ℕ). Passing (row s) n q) e (passing-next p (omega arith) (even-passes (cellHalves (a .cell)) (now (a .volume)) (h - 1) (suc (a .cell .n2 / 2)) (even-is (h - 1) (omega arith))) refl)
 
 -- what the code found of the row h
-found : (c : tie.After-empty-row Inv-loop μ-loop) → let l = c .before .before in c .empty-row .result ≡ row (l .before .before) (l .loop .h)
+found : (c : tie.After-empty-row Inv-loop μ-loop) → let l = c .before .before .before in c .empty-row .result ≡ row (l .before .before) (l .loop .h)
 found c =
-    let l = c .before .before in
+    let l = c .before .before .before in
     let a = l .before .before .args in
-    odd-tested (halvesOf (a .n1) (a .n2) (a .n3)) (now (a .volume)) (l .loop .h) (suc (a .n2 / 2)) (odd-is (l .loop .h) (omega (arith, l .loop .inv .0))) (c .empty-row .ensures)
+    odd-tested (cellHalves (a .cell)) (now (a .volume)) (l .loop .h) (suc (a .cell .n2 / 2)) (odd-is (l .loop .h) (omega (arith, l .loop .inv .0))) (c .empty-row .ensures)
 
 loop-holds : tie.Need-loop-holds Inv-loop μ-loop
 loop-holds c = (refl, passing-start _ _)
@@ -53,28 +53,28 @@ loop-less c = omega arith
 
 loop-again : tie.Need-loop-again Inv-loop μ-loop
 loop-again c =
-    let l = c .before .before .before in
+    let l = c .before .before .before .before in
     let s = l .before .before in
     let h = l .loop .h in
-    let n = 2 * (s .args .n1 / 2) in
+    let n = 2 * (s .args .cell .n1 / 2) in
     let o = l .loop .inv .0 in
-    let less : h < n = omega (arith, s .pre .sizes .first .even, c .before .before .loop-test .taken) in
+    let less : h < n = omega (arith, s .pre .0 .sizes .first .even, c .before .before .if1 .taken) in
     let e : h + 1 ≡ h + 2 - 1 = omega arith in
-    (omega (arith, o), subst (λ (q : ℕ). Passing (row s) n q) e (passing-next (before-odd s n h o less (l .loop .inv .1)) less (found (c .before)) (c .if1 .taken)))
+    (omega (arith, o), subst (λ (q : ℕ). Passing (row s) n q) e (passing-next (before-odd s n h o less (l .loop .inv .1)) less (found (c .before)) (c .if2 .taken)))
 
 returns : tie.Need-returns Inv-loop μ-loop
 returns c =
-    let l = c .before .before .before in
+    let l = c .before .before .before .before in
     let s = l .before .before in
     let h = l .loop .h in
-    let n = 2 * (s .args .n1 / 2) in
-    let less : h < n = omega (arith, s .pre .sizes .first .even, c .before .before .loop-test .taken) in
-    passing-stop (before-odd s n h (l .loop .inv .0) less (l .loop .inv .1)) less (found (c .before)) (c .if1 .left)
+    let n = 2 * (s .args .cell .n1 / 2) in
+    let less : h < n = omega (arith, s .pre .0 .sizes .first .even, c .before .before .if1 .taken) in
+    passing-stop (before-odd s n h (l .loop .inv .0) less (l .loop .inv .1)) less (found (c .before)) (c .if2 .left)
 
 returns-2 : tie.Need-returns-2 Inv-loop μ-loop
 returns-2 c =
-    let l = c .before in
-    passing-done (l .loop .inv .1) (omega (arith, l .loop .inv .0, l .before .before .pre .sizes .first .even, c .loop-test .left))
+    let l = c .before .before in
+    passing-done (l .loop .inv .1) (omega (arith, l .loop .inv .0, l .before .before .pre .0 .sizes .first .even, c .if1 .left))
 
 pub odd-rows-empty-spec : {M : Type 1} → statement M
 odd-rows-empty-spec =

@@ -5,8 +5,7 @@ use Prim.Native.Nat.{_*_, _-_, _/_}
 use native.Mathlib.Omega.{arith}
 use Rattle.algebra.specs.cells.Cell.{planes}
 use Rattle.algebra.specs.cells.CellTests.{below}
-use Rattle.cell.specs.Volume.{groupOf}
-use Rattle.cell.specs.Operations.{halvesOf}
+use Rattle.cell.specs.Operations.{cellGroup, cellHalves}
 use Rattle.cell.specs.TestSteps.{rowAgrees}
 use Rattle.volume.proofs.consistent.Passing.{Passing, passing-start, passing-next, passing-stop, passing-done}
 use Rattle.volume.proofs.consistent.TestLaws.{map-tested}
@@ -14,10 +13,10 @@ use Rattle.volume.proofs.consistent.map_test.consistent_map.Statement.{
 use Rattle.volume.proofs.consistent.map_test.consistent_map.Tie as tie
 
 abbrev Inv-loop : tie.InvT-loop
-Inv-loop group n1 n2 n3 volume count z₀ z = Passing (λ z. below (2 * (n1 / 2)) (λ x. rowAgrees (groupOf group) (halvesOf n1 n2 n3) volume z x)) (planes (groupOf group) (n3 / 2)) z
+Inv-loop cell volume count z₀ z = Passing (λ z. below (2 * (cell .n1 / 2)) (λ x. rowAgrees (cellGroup cell) (cellHalves cell) volume z x)) (planes (cellGroup cell) (cell .n3 / 2)) z
 
 abbrev μ-loop : tie.MeasureT-loop
-μ-loop group n1 n2 n3 volume count z₀ z = count - z
+μ-loop cell volume count z₀ z = count - z
 
 layer-count-requires : tie.Need-layer-count-requires Inv-loop μ-loop
 layer-count-requires c κs = search needs
@@ -28,8 +27,7 @@ loop-holds c = passing-start _ _
 plane-agrees-requires : tie.Need-plane-agrees-requires Inv-loop μ-loop
 plane-agrees-requires c κs =
     let t = c .before .before in
-    let p = t .before .before .pre in
-    (record { sizes = p .0; long = p .1 }, omega (arith, t .layer-count .ensures))
+    (t .before .before .pre, omega (arith, t .layer-count .ensures))
 
 add-z : tie.Need-add-z Inv-loop μ-loop
 add-z c = omega arith

@@ -2,18 +2,17 @@
 use borrow.Author.Needs.{needs}
 use Prim.Native.Nat.{_*_, _-_, _/_}
 use native.Mathlib.Omega.{arith}
-use Rattle.cell.specs.Volume.{groupOf}
-use Rattle.cell.specs.Operations.{halvesOf}
+use Rattle.cell.specs.Operations.{cellGroup, cellHalves}
 use Rattle.cell.specs.TestSteps.{rowAgrees}
 use Rattle.volume.proofs.consistent.Passing.{Passing, passing-start, passing-next, passing-stop, passing-done}
 use Rattle.volume.proofs.consistent.map_test.plane_agrees.Statement.{statement}
 use Rattle.volume.proofs.consistent.map_test.plane_agrees.Tie as tie
 
 abbrev Inv-loop : tie.InvT-loop
-Inv-loop group n1 n2 n3 volume z x₀ x = Passing (λ x. rowAgrees (groupOf group) (halvesOf n1 n2 n3) volume z x) (2 * (n1 / 2)) x
+Inv-loop cell volume z x₀ x = Passing (λ x. rowAgrees (cellGroup cell) (cellHalves cell) volume z x) (2 * (cell .n1 / 2)) x
 
 abbrev μ-loop : tie.MeasureT-loop
-μ-loop group n1 n2 n3 volume z x₀ x = 2 * (n1 / 2) - x
+μ-loop cell volume z x₀ x = 2 * (cell .n1 / 2) - x
 
 loop-holds : tie.Need-loop-holds Inv-loop μ-loop
 loop-holds c = passing-start _ _
@@ -28,13 +27,13 @@ loop-less : tie.Need-loop-less Inv-loop μ-loop
 loop-less c = omega arith
 
 loop-again : tie.Need-loop-again Inv-loop μ-loop
-loop-again c = passing-next (c .before .before .before .loop .inv) (omega arith) (c .before .row-agrees .ensures) (c .if1 .taken)
+loop-again c = passing-next (c .before .before .before .before .loop .inv) (omega arith) (c .before .row-agrees .ensures) (c .if2 .taken)
 
 returns : tie.Need-returns Inv-loop μ-loop
-returns c = passing-stop (c .before .before .before .loop .inv) (omega arith) (c .before .row-agrees .ensures) (c .if1 .left)
+returns c = passing-stop (c .before .before .before .before .loop .inv) (omega arith) (c .before .row-agrees .ensures) (c .if2 .left)
 
 returns-2 : tie.Need-returns-2 Inv-loop μ-loop
-returns-2 c = passing-done (c .before .loop .inv) (omega arith)
+returns-2 c = passing-done (c .before .before .loop .inv) (omega arith)
 
 pub plane-agrees-spec : {M : Type 1} → statement M
 plane-agrees-spec =

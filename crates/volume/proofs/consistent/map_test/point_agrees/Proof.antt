@@ -3,8 +3,7 @@ use borrow.Author.Needs.{needs}
 use Prim.Native.Nat.{_-_}
 use native.Mathlib.Omega.{arith}
 use Rattle.algebra.specs.cells.Cell.{one, ops}
-use Rattle.cell.specs.Volume.{groupOf}
-use Rattle.cell.specs.Operations.{halvesOf, pointOf}
+use Rattle.cell.specs.Operations.{cellGroup, cellHalves, pointOf}
 use Rattle.cell.specs.TestSteps.{pointImageAgrees}
 use Rattle.cell.proofs.OperationLaws.{first-own, order-least}
 use Rattle.volume.proofs.consistent.Passing.{PassingMembers, members-second, members-next, members-stop, members-done}
@@ -13,11 +12,11 @@ use Rattle.volume.proofs.consistent.map_test.point_agrees.Statement.{st
 use Rattle.volume.proofs.consistent.map_test.point_agrees.Tie as tie
 
 abbrev Inv-loop : tie.InvT-loop
-Inv-loop group n1 n2 n3 volume p count number₀ number =
-    PassingMembers (ops (groupOf group)) one (pointImageAgrees (groupOf group) (halvesOf n1 n2 n3) volume (pointOf p)) number
+Inv-loop cell volume p count number₀ number =
+    PassingMembers (ops (cellGroup cell)) one (pointImageAgrees (cellGroup cell) (cellHalves cell) volume (pointOf p)) number
 
 abbrev μ-loop : tie.MeasureT-loop
-μ-loop group n1 n2 n3 volume p count number₀ number = count - number
+μ-loop cell volume p count number₀ number = count - number
 
 group-order-requires : tie.Need-group-order-requires Inv-loop μ-loop
 group-order-requires c κs = search needs
@@ -26,7 +25,7 @@ loop-holds : tie.Need-loop-holds Inv-loop μ-loop
 loop-holds c =
     let s = c .before .before in
     let known = s .pre .0 .sizes .known in
-    members-second (order-least (s .args .group) known) (first-own (s .args .group) known) (identity-point (groupOf (s .args .group)) (halvesOf (s .args .n1) (s .args .n2) (s .args .n3)) (s .args .volume .now) (pointOf (s .args .p)))
+    members-second (order-least (s .args .cell .group) known) (first-own (s .args .cell .group) known) (identity-point (cellGroup (s .args .cell)) (cellHalves (s .args .cell)) (s .args .volume .now) (pointOf (s .args .p)))
 
 group-operation-requires : tie.Need-group-operation-requires Inv-loop μ-loop
 group-operation-requires c κs =

@@ -1,6 +1,6 @@
 -- The tests of refusal 14 step by step: what they are lent, and what one line's ends and one row must show.
 use mathlib.Core.Path.{_≡_}
-use mathlib.Core.Bool.{Bool, _&&_, not}
+use mathlib.Core.Bool.{Bool, true, _&&_, not}
 use mathlib.Core.List.{List}
 use Prim.Native.Nat.{ℕ, _+_, _*_, _/_, _<_, _≤_}
 use lib.ListN.{length}
@@ -47,6 +47,10 @@ module _ (g : Group) (a : J) where
   abbrev pub lineRowAgrees : (m : ℕ) → List ℕ → (l h : ℕ) → Bool
   lineRowAgrees m v l h = below (columns g a) (λ k. lineAgrees g a m v (h, k, l))
 
+  -- the two ends of a row
+  abbrev pub rowEndsAgree : (m : ℕ) → List ℕ → (l h : ℕ) → Bool
+  rowEndsAgree m v l h = lineAgrees g a m v (h, 0, l) && lineAgrees g a m v (h, a .1, l)
+
   abbrev pub linesAgree : (m : ℕ) → List ℕ → Bool
   linesAgree m v = everyPlace (rows g a) (columns g a) (span g (a .2)) (lineAgrees g a m v)
 
@@ -58,5 +62,15 @@ module _ (g : Group) (a : J) where
   emptyIfOdd v h k = imply (not (even h)) (emptyEnds v h k)
 
   -- a row of a map: its points, then its two zeros
+  abbrev pub pointsAgree : List ℕ → (z x : ℕ) → Bool
+  pointsAgree v z x = below (2 * a .1) (λ y. pointAgrees g a v (x, y, z))
+
   abbrev pub rowAgrees : List ℕ → (z x : ℕ) → Bool
-  rowAgrees v z x = below (2 * a .1) (λ y. pointAgrees g a v (x, y, z)) && rowEnds g a v z x
+  rowAgrees v z x = pointsAgree v z x && rowEnds g a v z x
+
+-- whatever the volume holds, no factor between the ends of k in a row at l has an image to be tried, and no point of the plane z has one
+abbrev pub InnerAgree : UnitCell → ℕ → Type 0
+InnerAgree c l = (m : ℕ) (v : List ℕ) (h k : ℕ) → 0 < k → k < c .n2 / 2 → lineAgrees (cellGroup c) (cellHalves c) m v (h, k, l) ≡ true
+
+abbrev pub PlaneAgrees : UnitCell → ℕ → Type 0
+PlaneAgrees c z = (v : List ℕ) (x y : ℕ) → pointAgrees (cellGroup c) (cellHalves c) v (x, y, z) ≡ true

@@ -1,18 +1,20 @@
 -- An index between the ends of k and of l: no operation but the identity leads to a stored index; but in P2₁2₁2₁ one does, that which changes the sign of h alone.
-use mathlib.Core.Path.{_≡_, refl, sym, _∙_, ap}
-use mathlib.Core.Bool.{Bool, true, false, _&&_}
+use mathlib.Core.Path.{_≡_, refl, sym, _∙_, ap, subst}
+use mathlib.Core.Bool.{Bool, true, false, _&&_, _||_, not}
 use mathlib.Core.List.{List, [], _∷_}
-use Prim.Native.Nat.{ℕ, zero, suc, _*_, _≤_, _<_}
+use Prim.Native.Nat.{ℕ, zero, suc, _*_, _/_, _≤_, _<_}
 use native.Mathlib.Omega.{arith}
-use lib.Dec.{leb, ltb}
-use borrow.Author.Tests.{le-ltb, lt-leb}
+use lib.Dec.{T, leb, ltb, eqb}
+use borrow.Author.Tests.{le-ltb, lt-leb, eqb-true, eqb-false}
 use Rattle.algebra.specs.cells.Cell.{J, Sym, Sym.sym as op, friedel, Group, P1, P2₁, Pm, Pa, P2₁2₁2₁, span, imageOf, flip, negI}
 use Rattle.algebra.specs.cells.CellTests.{every, storedT}
 use Rattle.algebra.proofs.cells.CellAxis.{neg-pos}
 use Rattle.algebra.proofs.cells.CellTests.{stored-iff}
 use Rattle.cell.specs.Volume.{groupOf}
 use Rattle.cell.specs.Consistency.{lineAgrees}
-use Rattle.cell.specs.TestSteps.{imageAgrees}
+use Rattle.cell.specs.declared.operations.UnitCell.{UnitCell}
+use Rattle.cell.specs.Operations.{cellHalves}
+use Rattle.cell.specs.TestSteps.{imageAgrees, InnerAgree}
 use Rattle.volume.proofs.consistent.TestLaws.{identity-agrees, image-skipped, agrees-back}
 
 and-true : (b : Bool) → (b && true) ≡ b
@@ -89,6 +91,18 @@ module _ (a : J) (m : ℕ) (v : List ℕ) (j : J) where
         (mate P2₁2₁2₁)
         (l-skipped P2₁2₁2₁ (op true false false true true false true) refl refl lo′ hi′)
         (k-skipped P2₁2₁2₁ (op true false true false false true true) refl lo hi)
+
+-- the rows of which the ends alone are to be tried, by what the code finds of l
+pub inner-rows : (c : UnitCell) (l : ℕ) → c .group < 5 → {b : Bool} → (b ≡ true → (0 < l) × (l < c .n3 / 2)) → (eqb (c .group) 0 || (not (eqb (c .group) 4) && b)) ≡ true → InnerAgree c l
+inner-rows c l known {b} between t m v h k lo hi = by-either (eqb (c .group) 0) (eqb (c .group) 4) b t
+    (λ e. ap (λ n. lineAgrees (groupOf n) (cellHalves c) m v (h, k, l)) (eqb-true (c .group) 0 e) ∙ inner-P1 (cellHalves c) m v (h, k, l) lo hi)
+    (λ e u. let w = between u in inner (cellHalves c) m v (h, k, l) lo hi (c .group) known (eqb-false (c .group) 4 e) (w .0) (w .1))
+  where
+    by-either : {A : Type 0} (x y z : Bool) → (x || (not y && z)) ≡ true → (x ≡ true → A) → (y ≡ false → z ≡ true → A) → A
+    by-either true y z t f g = f refl
+    by-either false true z t f g = absurd (subst T (sym t) tt)
+    by-either false false true t f g = g refl refl
+    by-either false false false t f g = absurd (subst T (sym t) tt)
 
 -- it is tried at h or at -h
 pub mirror-4 : (a : J) (m : ℕ) (v : List ℕ) (j : J) → j .0 < 2 * a .0 → 0 < j .1 → j .1 < a .1 → 0 < j .2 → j .2 < a .2 → lineAgrees P2₁2₁2₁ a m v (negI (a .0) (j .0), j .1, j .2) ≡ true → lineAgrees P2₁2₁2₁ a m v j ≡ true

@@ -7,7 +7,7 @@ use native.Mathlib.Omega.{arith}
 use lib.ListN.{length, getD}
 use lib.Dec.{T, leb, leb→le, ltb, ltb→lt, eqb}
 use borrow.Author.Tests.{lt-ltb, le-ltb, eq-eqb}
-use Rattle.algebra.specs.cells.Cell.{J, Inside, Sym, one, Group, Pa, full, span, imageOf, pointImage, impliedValue}
+use Rattle.algebra.specs.cells.Cell.{J, Inside, Sym, Sym.sym as op, one, Group, Pa, full, span, imageOf, pointImage, impliedValue}
 use Rattle.algebra.specs.cells.CellPack.{even}
 use Rattle.algebra.specs.cells.CellTests.{below, everyPlace, imply, storedT}
 use Rattle.algebra.proofs.ring.Bool.{and-l, and-r, imply-iff, below-by}
@@ -118,6 +118,14 @@ module _ (a : J) (m : ℕ) (v : List ℕ) where
 
 -- ---- an image of a point, and a row
 
+third : {i j : J} → i ≡ j → i .2 ≡ j .2
+third e = λ t. (e t) .2
+
+-- the plane of an image does not depend on x and y
+same-plane : (a : J) (x y z : ℕ) (s : Sym) → (pointImage a s (x, y, z)) .2 ≡ (pointImage a s (0, 0, z)) .2
+unfolding pointImage
+same-plane a x y z (op c f g h p q r) = refl
+
 module _ (g : Group) (a : J) (v : List ℕ) where
   module _ (x : J) where
     abbrev at-point : J → Bool
@@ -132,6 +140,9 @@ module _ (g : Group) (a : J) (v : List ℕ) where
 
     pub identity-point : pointImageAgrees g a v x one ≡ true
     identity-point = true-iff _ .1 (imply-iff (ltb ((pointImage a one x) .2) (layers g a)) (eqb (getD v (mapPlace g a (pointImage a one x)) 0) (getD v (mapPlace g a x) 0)) .1 (λ t. true-iff _ .0 (eq-eqb _ _ (ap (λ y. getD v (mapPlace g a y) 0) (point-one a x)))))
+
+  pub plane-skipped : (x y z : ℕ) (s : Sym) {i : J} → i ≡ pointImage a s (0, 0, z) → layers g a ≤ i .2 → true ≡ pointImageAgrees g a v (x, y, z) s
+  plane-skipped x y z s {i} e l = point-skipped (x, y, z) s {i = pointImage a s (x, y, z)} refl (omega (arith, same-plane a x y z s, third e, l))
 
   pub row-ends : (z x : ℕ) {p : Pair} {r : Bool} → p ≡ at v (pairPlace g a z x (a .1)) → r ≡ isZero p → r ≡ rowEnds g a v z x
   row-ends z x e f = f ∙ ap isZero e ∙ sym (λ t. eqb (number-even g a v x (a .1) z t) 0 && eqb (number-odd g a v x (a .1) z t) 0)

@@ -16,7 +16,7 @@ ghost use Rattle.numbers.specs.Value.{prime, IsModulus};
 ghost use Rattle.slices.specs.Pairs.{Below};
 ghost use Rattle.cell.specs.Consistency.{lineAgrees, consistentFactors};
 ghost use Rattle.cell.specs.Operations.{cellGroup, cellHalves, tripleOf, symOf};
-ghost use Rattle.cell.specs.TestSteps.{IsVolume, IsStored, imageAgrees, lineRowAgrees, linesAgree, emptyEnds, emptyIfOdd};
+ghost use Rattle.cell.specs.TestSteps.{IsVolume, IsStored, imageAgrees, lineRowAgrees, rowEndsAgree, InnerAgree, linesAgree, emptyEnds, emptyIfOdd};
 
 // The volume is the packed factors of some cell that obeys group and Friedel.
 pub fn consistent_factors(m: u32, cell: UnitCell, volume: &[u32]) -> bool
@@ -49,22 +49,17 @@ fn image_agrees(m: u32, cell: UnitCell, volume: &[u32], o: Operation, j: Index) 
     }
 }
 
-// Every stored image of j agrees. Each operation but the first changes the sign of k or l (in P1 that of k), and leads an index between
-// the ends of both out of what is stored: nothing is to be tried there, but in P2₁2₁2₁ the last operation, which changes that of h alone.
-// It leads back from -h to h, so that beyond N1/2 it has been tried at -h.
+// Every stored image of j agrees. Between the ends of k and of l one operation of P2₁2₁2₁ alone leads to a stored index, the last: it changes
+// the sign of h and no other. It leads back from -h to h, so that beyond N1/2 it has been tried at -h.
 fn factor_agrees(m: u32, cell: UnitCell, volume: &[u32], j: Index) -> bool
     requires { ⌜ IsVolume cell (now volume) × IsModulus m × Below (prime m) (now volume) × IsStored cell j ⌝ }
     requires { ⌜ (cell .n1 / 2 < j .h → lineAgrees (cellGroup cell) (cellHalves cell) m (now volume) (negI (cell .n1 / 2) (j .h), j .k, j .l) ≡ true) ⌝ }
     ensures { λ r. ⌜ r ≡ lineAgrees (cellGroup cell) (cellHalves cell) m (now (volume .entry)) (tripleOf j) ⌝ }
 {
-    if between(j.k, cell.n2 / 2) & ((cell.group == 0) | between(j.l, cell.n3 / 2)) {
-        if cell.group == 4 {
-            if j.h <= cell.n1 / 2 {
-                let o = operations::operation_at(cell.group, 7);
-                image_agrees(m, cell, volume, o, j)
-            } else {
-                true
-            }
+    if (cell.group == 4) & (between(j.k, cell.n2 / 2) & between(j.l, cell.n3 / 2)) {
+        if j.h <= cell.n1 / 2 {
+            let o = operations::operation_at(cell.group, 7);
+            image_agrees(m, cell, volume, o, j)
         } else {
             true
         }
@@ -97,12 +92,37 @@ fn images_agree(m: u32, cell: UnitCell, volume: &[u32], j: Index) -> bool
     true
 }
 
+// Of a row at l nothing is to be tried but its two ends: each operation but the first changes the sign of k, or that of l between its
+// ends, and leads an index between the ends of k out of what is stored. In P2₁2₁2₁ one does not.
+fn ends_alone(cell: UnitCell, l: u32) -> bool
+    requires { ⌜ cell .group < 5 ⌝ }
+    ensures { λ r. ⌜ (r ≡ true → InnerAgree cell l) ⌝ }
+{
+    (cell.group == 0) | ((cell.group != 4) & between(l, cell.n3 / 2))
+}
+
+// The ends k = 0 and k = B of the row (l, h).
+fn ends_agree(m: u32, cell: UnitCell, volume: &[u32], l: u32, h: u32) -> bool
+    requires { ⌜ IsVolume cell (now volume) × IsModulus m × Below (prime m) (now volume) × (l < span (cellGroup cell) (cell .n3 / 2)) × (h < cell .n1) ⌝ }
+    ensures { λ r. ⌜ r ≡ rowEndsAgree (cellGroup cell) (cellHalves cell) m (now (volume .entry)) l h ⌝ }
+{
+    if images_agree(m, cell, volume, Index { h, k: 0, l }) {
+        let k = cell.n2 / 2;
+        images_agree(m, cell, volume, Index { h, k, l })
+    } else {
+        false
+    }
+}
+
 // All k of the row (l, h), after those of the row (l, -h) where h is beyond N1/2.
 fn row_agrees(m: u32, cell: UnitCell, volume: &[u32], l: u32, h: u32) -> bool
     requires { ⌜ IsVolume cell (now volume) × IsModulus m × Below (prime m) (now volume) × (l < span (cellGroup cell) (cell .n3 / 2)) × (h < cell .n1) ⌝ }
     requires { ⌜ (cell .n1 / 2 < h → lineRowAgrees (cellGroup cell) (cellHalves cell) m (now volume) l (negI (cell .n1 / 2) h) ≡ true) ⌝ }
     ensures { λ r. ⌜ r ≡ lineRowAgrees (cellGroup cell) (cellHalves cell) m (now (volume .entry)) l h ⌝ }
 {
+    if ends_alone(cell, l) {
+        return ends_agree(m, cell, volume, l, h);
+    }
     let mut k = 0;
     while k <= cell.n2 / 2 {
         if factor_agrees(m, cell, volume, Index { h, k, l }) {

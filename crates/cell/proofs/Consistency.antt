@@ -1,19 +1,18 @@
 -- Refusal 14 of factors: the test passes exactly if some whole cell that obeys group and Friedel has these packed factors, and that cell is the one that is read.
-use mathlib.Core.Path.{_≡_, refl, sym, _∙_, ap, subst}
+use mathlib.Core.Path.{_≡_, sym, _∙_, ap, subst}
 use mathlib.Core.Logic.{_↔_}
-use mathlib.Core.Bool.{Bool, true, false, not, cond}
+use mathlib.Core.Bool.{Bool, true}
 use mathlib.Core.List.{List}
 use Prim.Native.Nat.{ℕ, _*_, _<_}
 use native.Mathlib.Omega.{arith}
-use lib.Dec.{T, eqb, eqb→eq}
+use lib.Dec.{T, ltb, eqb, eqb→eq}
 use lib.ListN.{length, getD}
 use Rattle.algebra.specs.ring.Gauss.{gauss}
 use Rattle.algebra.specs.ring.Residue.{residues}
-use Rattle.algebra.specs.lines.Kinds.{Kind.symmetric, Kind.antisymmetric}
-use Rattle.algebra.specs.cells.Cell.{J, Inside, Group, P1, P2₁, Pm, Pa, P2₁2₁2₁, imageOf, impliedValue, Cell, factorActs}
+use Rattle.algebra.specs.cells.Cell.{J, Inside, Group, imageOf, impliedValue, Cell, factorActs}
 use Rattle.algebra.specs.cells.Cell as Cell
 use Rattle.algebra.specs.cells.CellSteps.{Lawful}
-use Rattle.algebra.specs.cells.CellPack.{even, PackedIn}
+use Rattle.algebra.specs.cells.CellPack.{PackedIn}
 use Rattle.algebra.specs.cells.StoredTests.{consistentFactorsT}
 use Rattle.algebra.proofs.ring.Bool.{and-l, and-r, and-i, imply-iff}
 use Rattle.algebra.proofs.cells.CellSym.{image-inside}
@@ -27,10 +26,11 @@ use Rattle.numbers.proofs.Values.{pair-path, pair-value, field-ring, field-star
 use Rattle.numbers.proofs.Parts.{half-residue}
 use Rattle.slices.specs.Pairs.{at, Below}
 use Rattle.slices.proofs.Bounds.{small-at}
-use Rattle.cell.specs.Volume.{firstPair, pairPlace, rows, columns, volumeLength, factorsIn, packFactors}
+use Rattle.cell.specs.Volume.{lineKind, firstPair, pairPlace, rows, columns, volumeLength, factorsIn, packFactors}
 use Rattle.cell.specs.Consistency.{sameValue, pairIsZero, zeroEnds, consistentFactors, FactorsConsistent}
 use Rattle.cell.proofs.Tests.{true-iff, eq→eqb}
 use Rattle.cell.proofs.VolumeLayout.{is-volume}
+use Rattle.cell.proofs.LineKinds.{ends-left-out}
 use Rattle.cell.proofs.Reading.{same-iff, pairsIn, lineAt, EmptyEnds, stored-unpacked, empty-ends, packed-is, packed-holds, read-packed, length-factors, below-factors}
 
 -- ---- a pair of small numbers stands for zero exactly if both are zero
@@ -50,19 +50,11 @@ module _ (a : J) (m : ℕ) (v : List ℕ) (small : Below (prime m) v) where
     λ e. and-i (eqb (getD v (2 * pairPlace g a w h k) 0) 0) _ (eq→eqb (z .0 e .0)) (eq→eqb (z .0 e .1)),
   )
 
-  mirror-ends : (b : Bool) → T (not b) ↔ (cond b symmetric antisymmetric ≡ antisymmetric)
-  mirror-ends true = (λ t. absurd t, λ e. absurd (omega (arith, ap firstPair e)))
-  mirror-ends false = (λ t. refl, λ e. tt)
-
-  ends-iff : (g : Group) (h k : ℕ) → T (zeroEnds g a m g v h k) ↔ EmptyEnds g a m v h k
-  ends-iff P1 h k = (λ t e. absurd (omega (arith, ap firstPair e)), λ f. tt)
-  ends-iff P2₁ h k = (λ t e. absurd (omega (arith, ap firstPair e)), λ f. tt)
-  ends-iff Pm h k = (λ t e. absurd (omega (arith, ap firstPair e)), λ f. tt)
-  ends-iff Pa h k = (
-    λ t e. let z = imply-iff (not (even h)) _ .0 t (mirror-ends (even h) .1 e) in (zero-pair-test Pa 0 h k .0 (and-l (pairIsZero Pa a m v 0 h k) _ z), zero-pair-test Pa (a .2) h k .0 (and-r (pairIsZero Pa a m v 0 h k) _ z)),
-    λ f. imply-iff (not (even h)) _ .1 (λ t. let e = f (mirror-ends (even h) .0 t) in and-i (pairIsZero Pa a m v 0 h k) _ (zero-pair-test Pa 0 h k .1 (e .0)) (zero-pair-test Pa (a .2) h k .1 (e .1))),
+  ends-iff : (g : Group) (h k : ℕ) → T (zeroEnds g a m v h k) ↔ EmptyEnds g a m v h k
+  ends-iff g h k = let left-out = ends-left-out (lineKind g h) in (
+    λ t e. let z = imply-iff (ltb 0 (firstPair (lineKind g h))) _ .0 t (left-out .1 e) in (zero-pair-test g 0 h k .0 (and-l (pairIsZero g a m v 0 h k) _ z), zero-pair-test g (a .2) h k .0 (and-r (pairIsZero g a m v 0 h k) _ z)),
+    λ f. imply-iff (ltb 0 (firstPair (lineKind g h))) _ .1 (λ t. let e = f (left-out .0 t) in and-i (pairIsZero g a m v 0 h k) _ (zero-pair-test g 0 h k .1 (e .0)) (zero-pair-test g (a .2) h k .1 (e .1))),
   )
-  ends-iff P2₁2₁2₁ h k = (λ t e. absurd (omega (arith, ap firstPair e)), λ f. tt)
 
 module _ (g : Group) (a : J) (long : Positive a) (m : ℕ) where
   -- a list of residues that stands for the packed factors of a cell of the group is their list
@@ -105,7 +97,7 @@ module _ (g : Group) (a : J) (long : Positive a) (m : ℕ) where
         values-agree = consistentFactorsT (field m) (conj m) sameValue g a (lineAt g a m v)
 
         ends : (h k : ℕ) → h < rows g a → k < columns g a → EmptyEnds g a m v h k
-        ends h k lh lk = ends-iff a m v small g h k .0 (every-place-at (rows g a) (columns g a) 1 (λ j. zeroEnds g a m g v (j .0) (j .1)) (h, k, 0) (and-r values-agree _ t) lh lk (omega arith))
+        ends h k lh lk = ends-iff a m v small g h k .0 (every-place-at (rows g a) (columns g a) 1 (λ j. zeroEnds g a m v (j .0) (j .1)) (h, k, 0) (and-r values-agree _ t) lh lk (omega arith))
 
     pub factors-consistent : (consistentFactors g a m v ≡ true) ↔ FactorsConsistent g a m v
     factors-consistent = (

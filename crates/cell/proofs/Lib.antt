@@ -1,5 +1,6 @@
 pub mod Tests
 pub mod VolumeLayout
+pub mod LineKinds
 pub mod LineReading
 pub mod RotatedLines
 pub mod Reading

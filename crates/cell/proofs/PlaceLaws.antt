@@ -9,13 +9,13 @@ use native.Mathlib.Omega.{arith}
 use lib.ListN.{getD}
 use lib.Dec.{eqb, leb}
 use borrow.Author.Tests.{eq-eqb, ne-eqb, eqb-true, eqb-false, lt-ltb, le-ltb}
-use Rattle.algebra.specs.lines.Kinds.{Kind}
+use Rattle.algebra.specs.lines.Kinds.{Kind.plain, Kind.alternating, Kind.symmetric, Kind.antisymmetric}
 use Rattle.algebra.specs.cells.Cell.{J, Inside, Sym, Group, P1, P2₁, Pm, Pa, P2₁2₁2₁, one, ops, negI, pointImage, planes, span, pointOperation, planeSym}
 use Rattle.algebra.specs.cells.CellPack.{even}
 use Rattle.algebra.proofs.ring.Laws.{along}
 use Rattle.algebra.proofs.cells.CellSym.{point-one}
 use Rattle.algebra.proofs.cells.CellGroup.{point-operation-stored}
-use Rattle.cell.specs.Volume.{groupOf, alternates, lineKind, layers, rows, columns, volumeLength, pairPlace, mapPlace, pairNumbers, lineNumbers, numbersRead, densityPlace}
+use Rattle.cell.specs.Volume.{groupOf, lineKind, layers, rows, columns, volumeLength, pairPlace, mapPlace, pairNumbers, lineNumbers, numbersRead, densityPlace}
 use Rattle.cell.specs.declared.operations.Index.{Index}
 use Rattle.cell.specs.declared.operations.Point.{Point}
 use Rattle.cell.specs.declared.places.Run.{Run}
@@ -23,6 +23,7 @@ use Rattle.cell.specs.declared.operations.UnitCell.{UnitCell}
 use Rattle.cell.specs.Operations.{cellGroup, cellHalves, halvesOf, tripleOf, pointOf, Length, Sizes, Within, PointWithin}
 use Rattle.cell.specs.Places.{consecutive, IsRun, storedColumn}
 use Rattle.cell.proofs.VolumeLayout.{place-inside}
+use Rattle.cell.proofs.LineKinds.{plain-group, by-alternating, by-other}
 
 -- the groups that store half of each line
 pub by-halved : (P : Group → Type 0) → P P2₁ → P Pm → P Pa → P P2₁2₁2₁ → (n : ℕ) → n < 5 → (n ≡ 0 → ⊥) → P (groupOf n)
@@ -41,16 +42,9 @@ or-right : (a b : Bool) → (a || b) ≡ false → b ≡ false
 or-right true b e = cc
 or-right false b e = e
 
--- the groups with alternating lines, and the others
 either : (a b : Bool) → (a || b) ≡ true → (a ≡ true) ⊎ (b ≡ true)
 either true b e = inl refl
 either false b e = inr e
-
-pub by-alternating : (P : Group → Type 0) → P P2₁ → P P2₁2₁2₁ → (n : ℕ) → alternates n ≡ true → P (groupOf n)
-by-alternating P x y n e = ⊎-elim (λ q. subst (λ n. P (groupOf n)) (sym (eqb-true n 1 q)) x) (λ q. subst (λ n. P (groupOf n)) (sym (eqb-true n 4 q)) y) (either (eqb n 1) (eqb n 4) e)
-
-pub not-alternating : (n : ℕ) → alternates n ≡ false → (n ≡ 1 → ⊥) × (n ≡ 4 → ⊥)
-not-alternating n e = (eqb-false n 1 (or-left (eqb n 1) (eqb n 4) e), eqb-false n 4 (or-right (eqb n 1) (eqb n 4) e))
 
 -- an index or a point below the lengths is one of the theory's
 pub inside-of : {cell : UnitCell} {j : Index} → Sizes cell → Within cell j → Inside (cellHalves cell) (tripleOf j)
@@ -109,7 +103,7 @@ pub middle-numbers : (a : J) (h k l : ℕ) → (l ≡ 0 → ⊥) × (l ≡ a .2 
 unfolding planes
 middle-numbers a h k l z b = by-halved (Middle a h k l) (rw (ne-eqb l 0 (z .0), ne-eqb l (a .2) (z .1)) refl, omega arith) (refl, omega arith) (glide (even h), omega arith) (rw (ne-eqb l 0 (z .0), ne-eqb l (a .2) (z .1)) refl, omega arith)
   where
-    glide : (e : Bool) → lineNumbers Pa a (cond e Kind.symmetric Kind.antisymmetric) h k l ≡ pairNumbers Pa a (min l (2 * a .2 - l)) h k
+    glide : (e : Bool) → lineNumbers Pa a (cond e symmetric antisymmetric) h k l ≡ pairNumbers Pa a (min l (2 * a .2 - l)) h k
     glide true = refl
     glide false = rw (ne-eqb l 0 (z .0), ne-eqb l (a .2) (z .1)) refl
 
@@ -117,15 +111,15 @@ middle-numbers a h k l z b = by-halved (Middle a h k l) (rw (ne-eqb l 0 (z .0), 
 fold-end : (c l : ℕ) → (l ≡ 0) ⊎ (l ≡ c) → (min l (2 * c - l) ≡ l) × (l < suc c)
 fold-end c l e = ⊎-elim (λ z. (omega arith, omega arith)) (λ z. (omega arith, omega arith)) e
 
-left : {n : ℕ} → n < 5 → (n ≡ 0 → ⊥) → (n ≡ 1 → ⊥) → (n ≡ 4 → ⊥) → (n ≡ 3 → ⊥) → n ≡ 2
-left l a b c d = omega arith
-
 module _ {cell : UnitCell} (s : Sizes cell) (j : Index) (i : Within cell j) (b : j .k ≤ cell .n2 / 2) (r : Run) where
   abbrev a : J
   a = cellHalves cell
 
-  abbrev Found : ℕ → Type 0
-  Found n = IsRun (volumeLength (groupOf n) a) (lineNumbers (groupOf n) a (lineKind (groupOf n) (j .h)) (j .h) (j .k) (j .l)) r
+  abbrev g : Group
+  g = cellGroup cell
+
+  abbrev Found : Group → Type 0
+  Found g = IsRun (volumeLength g a) (lineNumbers g a (lineKind g (j .h)) (j .h) (j .k) (j .l)) r
 
   in-rows : j .h < rows P1 a
   in-rows = omega arith
@@ -134,54 +128,60 @@ module _ {cell : UnitCell} (s : Sizes cell) (j : Index) (i : Within cell j) (b :
   in-columns = omega arith
 
   -- the code has found the pair w
-  pub pair-found : (w : ℕ) → r .first ≡ 2 * pairPlace P1 a w (j .h) (j .k) → r .count ≡ 2 → (n : ℕ) → w < layers (groupOf n) a
-      → lineNumbers (groupOf n) a (lineKind (groupOf n) (j .h)) (j .h) (j .k) (j .l) ≡ pairNumbers P1 a w (j .h) (j .k) → Found n
-  pair-found w e f n l q = subst (λ p. IsRun (volumeLength (groupOf n) a) p r) (sym q) (pair-run (groupOf n) a r l in-rows in-columns e f)
+  pub pair-found : (w : ℕ) → r .first ≡ 2 * pairPlace P1 a w (j .h) (j .k) → r .count ≡ 2 → (g : Group) → w < layers g a
+      → lineNumbers g a (lineKind g (j .h)) (j .h) (j .k) (j .l) ≡ pairNumbers P1 a w (j .h) (j .k) → Found g
+  pair-found w e f g l q = subst (λ p. IsRun (volumeLength g a) p r) (sym q) (pair-run g a r l in-rows in-columns e f)
 
-  pub plain-found : cell .group ≡ 0 → r .first ≡ 2 * pairPlace P1 a (j .l) (j .h) (j .k) → r .count ≡ 2 → Found (cell .group)
+  pub plain-found : lineKind g (j .h) ≡ plain → r .first ≡ 2 * pairPlace P1 a (j .l) (j .h) (j .k) → r .count ≡ 2 → Found g
   unfolding planes
-  plain-found z e f = subst Found (sym z) (pair-found (j .l) e f 0 (omega arith) refl)
+  plain-found z e f = plain-group Found (pair-found (j .l) e f P1 (omega arith) refl) g (j .h) z
 
-  pub middle-found : (cell .group ≡ 0 → ⊥) → (eqb (j .l) 0 || eqb (j .l) (cell .n3 / 2)) ≡ false → {w : ℕ} → w ≡ min (j .l) (2 * (cell .n3 / 2) - j .l)
-      → r .first ≡ 2 * pairPlace P1 a w (j .h) (j .k) → r .count ≡ 2 → Found (cell .group)
+  pub middle-found : (lineKind g (j .h) ≡ plain → ⊥) → (eqb (j .l) 0 || eqb (j .l) (cell .n3 / 2)) ≡ false → {w : ℕ} → w ≡ min (j .l) (2 * (cell .n3 / 2) - j .l)
+      → r .first ≡ 2 * pairPlace P1 a w (j .h) (j .k) → r .count ≡ 2 → Found g
   middle-found z t u e f =
-      let q = middle-numbers a (j .h) (j .k) (j .l) (not-end (j .l) (cell .n3 / 2) t) (omega arith) (cell .group) (s .known) z in
-      pair-found _ (e ∙ ap (λ w. 2 * pairPlace P1 a w (j .h) (j .k)) u) f (cell .group) (q .1) (q .0)
+      let q = middle-numbers a (j .h) (j .k) (j .l) (not-end (j .l) (cell .n3 / 2) t) (omega arith) (cell .group) (s .known) (λ n. z (ap (λ n. lineKind (groupOf n) (j .h)) n)) in
+      pair-found _ (e ∙ ap (λ w. 2 * pairPlace P1 a w (j .h) (j .k)) u) f g (q .1) (q .0)
 
   -- the ends of an alternating line
-  pub first-found : alternates (cell .group) ≡ true → j .l ≡ 0 → {q : ℕ} → q ≡ pairPlace P1 a 0 (j .h) (j .k) → r .first ≡ 2 * q → r .count ≡ 1 → Found (cell .group)
+  pub first-found : lineKind g (j .h) ≡ alternating → j .l ≡ 0 → {q : ℕ} → q ≡ pairPlace P1 a 0 (j .h) (j .k) → r .first ≡ 2 * q → r .count ≡ 1 → Found g
   unfolding planes
-  first-found z l u e f = by-alternating (λ g. IsRun (volumeLength g a) (lineNumbers g a (lineKind g (j .h)) (j .h) (j .k) (j .l)) r)
+  first-found z l u e f = by-alternating Found
       (rw (eq-eqb (j .l) 0 l) (number-run P2₁ a {w = 0} r _ (omega arith) in-rows in-columns (omega arith) (e ∙ ap (λ q. 2 * q) u) f))
       (rw (eq-eqb (j .l) 0 l) (number-run P2₁2₁2₁ a {w = 0} r _ (omega arith) in-rows in-columns (omega arith) (e ∙ ap (λ q. 2 * q) u) f))
-      (cell .group) z
+      g (j .h) z
 
-  pub second-found : alternates (cell .group) ≡ true → (j .l ≡ 0 → ⊥) → (eqb (j .l) 0 || eqb (j .l) (cell .n3 / 2)) ≡ true → {q : ℕ} → q ≡ pairPlace P1 a 0 (j .h) (j .k) → r .first ≡ 2 * q + 1 → r .count ≡ 1 → Found (cell .group)
-  unfolding planes
-  second-found z l t u e f =
-      let q : j .l ≡ cell .n3 / 2 = ⊎-elim (λ p. absurd (l p)) (λ p. p) (at-end (j .l) (cell .n3 / 2) t) in
-      by-alternating (λ g. IsRun (volumeLength g a) (lineNumbers g a (lineKind g (j .h)) (j .h) (j .k) (j .l)) r)
-      (rw (ne-eqb (j .l) 0 l, eq-eqb (j .l) (cell .n3 / 2) q) (number-run P2₁ a {w = 0} r _ (omega arith) in-rows in-columns (omega arith) (e ∙ ap (λ q. 2 * q + 1) u) f))
-      (rw (ne-eqb (j .l) 0 l, eq-eqb (j .l) (cell .n3 / 2) q) (number-run P2₁2₁2₁ a {w = 0} r _ (omega arith) in-rows in-columns (omega arith) (e ∙ ap (λ q. 2 * q + 1) u) f))
-      (cell .group) z
+  module _ (end : (eqb (j .l) 0 || eqb (j .l) (cell .n3 / 2)) ≡ true) where
+    pub second-found : lineKind g (j .h) ≡ alternating → (j .l ≡ 0 → ⊥) → {q : ℕ} → q ≡ pairPlace P1 a 0 (j .h) (j .k) → r .first ≡ 2 * q + 1 → r .count ≡ 1 → Found g
+    unfolding planes
+    second-found z l u e f =
+        let q : j .l ≡ cell .n3 / 2 = ⊎-elim (λ p. absurd (l p)) (λ p. p) (at-end (j .l) (cell .n3 / 2) end) in
+        by-alternating Found
+        (rw (ne-eqb (j .l) 0 l, eq-eqb (j .l) (cell .n3 / 2) q) (number-run P2₁ a {w = 0} r _ (omega arith) in-rows in-columns (omega arith) (e ∙ ap (λ q. 2 * q + 1) u) f))
+        (rw (ne-eqb (j .l) 0 l, eq-eqb (j .l) (cell .n3 / 2) q) (number-run P2₁2₁2₁ a {w = 0} r _ (omega arith) in-rows in-columns (omega arith) (e ∙ ap (λ q. 2 * q + 1) u) f))
+        g (j .h) z
 
-  -- the ends of a symmetric line, and those of an antisymmetric one, which are not read
-  pub mirror-found : (cell .group ≡ 0 → ⊥) → alternates (cell .group) ≡ false → (cell .group ≡ 3 → ⊥) → (eqb (j .l) 0 || eqb (j .l) (cell .n3 / 2)) ≡ true → r .first ≡ 2 * pairPlace P1 a (j .l) (j .h) (j .k) → r .count ≡ 2 → Found (cell .group)
-  unfolding planes
-  mirror-found x y z t e f =
-      let n = not-alternating (cell .group) y in
-      let two : cell .group ≡ 2 = left (s .known) x (n .0) (n .1) z in
-      let q = fold-end (cell .n3 / 2) (j .l) (at-end (j .l) (cell .n3 / 2) t) in
-      subst Found (sym two) (pair-found (j .l) e f 2 (q .1) (ap (λ w. pairNumbers Pm a w (j .h) (j .k)) (q .0)))
+    -- those of an antisymmetric line, which are not read
+    pub zero-found : lineKind g (j .h) ≡ antisymmetric → r .first ≡ 0 → r .count ≡ 0 → Found g
+    zero-found z e f = rw (z, end) (empty-run g a r e f)
 
-  pub glide-found : cell .group ≡ 3 → j .h % 2 ≡ 0 → (eqb (j .l) 0 || eqb (j .l) (cell .n3 / 2)) ≡ true → r .first ≡ 2 * pairPlace P1 a (j .l) (j .h) (j .k) → r .count ≡ 2 → Found (cell .group)
-  unfolding planes
-  glide-found z h t e f =
-      let q = fold-end (cell .n3 / 2) (j .l) (at-end (j .l) (cell .n3 / 2) t) in
-      subst Found (sym z) (pair-found (j .l) e f 3 (q .1) (rw (even-is (j .h) h) (ap (λ w. pairNumbers Pa a w (j .h) (j .k)) (q .0))))
+    -- and those of a symmetric line
+    pub mirror-found : (lineKind g (j .h) ≡ plain → ⊥) → (lineKind g (j .h) ≡ alternating → ⊥) → (lineKind g (j .h) ≡ antisymmetric → ⊥) → r .first ≡ 2 * pairPlace P1 a (j .l) (j .h) (j .k) → r .count ≡ 2 → Found g
+    unfolding planes
+    mirror-found x y z e f = by-other (λ g. (lineKind g (j .h) ≡ plain → ⊥) → (lineKind g (j .h) ≡ antisymmetric → ⊥) → Found g)
+        (λ x z. absurd (x refl))
+        (λ x z. pair-found (j .l) e f Pm (q .1) own)
+        (λ x z. pair-found (j .l) e f Pa (q .1) (glide (even (j .h)) z))
+        g (j .h) y x z
+      where
+        q : (min (j .l) (2 * (cell .n3 / 2) - j .l) ≡ j .l) × (j .l < suc (cell .n3 / 2))
+        q = fold-end (cell .n3 / 2) (j .l) (at-end (j .l) (cell .n3 / 2) end)
 
-  pub zero-found : cell .group ≡ 3 → (j .h % 2 ≡ 0 → ⊥) → (eqb (j .l) 0 || eqb (j .l) (cell .n3 / 2)) ≡ true → r .first ≡ 0 → r .count ≡ 0 → Found (cell .group)
-  zero-found z h t e f = subst Found (sym z) (rw (odd-is (j .h) h, t) (empty-run Pa a r e f))
+        own : pairNumbers Pm a (min (j .l) (2 * (cell .n3 / 2) - j .l)) (j .h) (j .k) ≡ pairNumbers Pm a (j .l) (j .h) (j .k)
+        own = ap (λ w. pairNumbers Pm a w (j .h) (j .k)) (q .0)
+
+        glide : (b : Bool) → (cond b symmetric antisymmetric ≡ antisymmetric → ⊥) → lineNumbers Pa a (cond b symmetric antisymmetric) (j .h) (j .k) (j .l) ≡ pairNumbers Pa a (j .l) (j .h) (j .k)
+        glide true z = own
+        glide false z = absurd (z refl)
 
 -- ---- products of lengths fit
 
@@ -197,33 +197,11 @@ even-place n1 n2 w h k even =
     let next : n2 / 2 + 1 ≡ suc (n2 / 2) = omega arith in
     λ i. (w * twice i + h) * next i + k
 
--- ---- how many layers and how many stored factors along l
-
-pub mirrored-layers : (n c : ℕ) → n < 5 → (n ≡ 0 → ⊥) → alternates n ≡ false → c + 1 ≡ planes (groupOf n) c
-unfolding planes
-mirrored-layers zero c l y z = absurd (y refl)
-mirrored-layers (suc zero) c l y z = absurd (not-alternating 1 z .0 refl)
-mirrored-layers (suc (suc zero)) c l y z = omega arith
-mirrored-layers (suc (suc (suc zero))) c l y z = omega arith
-mirrored-layers (suc (suc (suc (suc zero)))) c l y z = absurd (not-alternating 4 z .1 refl)
-mirrored-layers (suc (suc (suc (suc (suc n))))) c l y z = absurd (omega arith)
+-- ---- how many stored factors along l
 
 pub half-span : (n c : ℕ) → n < 5 → (n ≡ 0 → ⊥) → c + 1 ≡ span (groupOf n) c
 unfolding span
 half-span n c = by-halved (λ g. c + 1 ≡ span g c) (omega arith) (omega arith) (omega arith) (omega arith) n
-
-pub stored-layer : (n c l : ℕ) → n < 5 → alternates n ≡ false → l < span (groupOf n) c → l < planes (groupOf n) c
-unfolding planes span
-stored-layer zero c l b z h = h
-stored-layer (suc zero) c l b z h = absurd (not-alternating 1 z .0 refl)
-stored-layer (suc (suc zero)) c l b z h = h
-stored-layer (suc (suc (suc zero))) c l b z h = h
-stored-layer (suc (suc (suc (suc zero)))) c l b z h = absurd (not-alternating 4 z .1 refl)
-stored-layer (suc (suc (suc (suc (suc n))))) c l b z h = absurd (omega arith)
-
-pub alternating-half : (n : ℕ) {c l : ℕ} → alternates n ≡ true → l < span (groupOf n) c → l ≤ c
-unfolding span
-alternating-half n {c} {l} e h = by-alternating (λ g. l < span g c → l ≤ c) (λ h. omega arith) (λ h. omega arith) n e h
 
 -- P1 stores every plane
 pub not-plain : (n c z : ℕ) → planes (groupOf n) c ≤ z → z < 2 * c → n ≡ 0 → ⊥
@@ -235,16 +213,15 @@ pub pair-inside : {cell : UnitCell} → Sizes cell → (j : Index) → Within ce
     → 2 * pairPlace P1 (cellHalves cell) w (j .h) (j .k) + 1 < volumeLength (cellGroup cell) (cellHalves cell)
 pair-inside {cell} s j i b w l = omega (arith, place-inside (cellGroup cell) (cellHalves cell) {w = w} {h = j .h} {k = j .k} l (omega arith) (omega arith))
 
--- pair 0 of an alternating line, which a volume always has
-pub first-inside : {cell : UnitCell} → Sizes cell → alternates (cell .group) ≡ true → (j : Index) → Within cell j → j .k ≤ cell .n2 / 2
-    → 2 * pairPlace P1 (cellHalves cell) 0 (j .h) (j .k) + 1 < volumeLength (cellGroup cell) (cellHalves cell)
-unfolding planes
-first-inside {cell} s e j i b = pair-inside s j i b 0 (by-alternating (λ g. 0 < layers g (cellHalves cell)) (omega arith) (omega arith) (cell .group) e)
+-- pair 0 of an alternating line, and those between its ends
+module _ {cell : UnitCell} (s : Sizes cell) (j : Index) (e : lineKind (cellGroup cell) (j .h) ≡ alternating) (i : Within cell j) (b : j .k ≤ cell .n2 / 2) where
+  pub first-inside : 2 * pairPlace P1 (cellHalves cell) 0 (j .h) (j .k) + 1 < volumeLength (cellGroup cell) (cellHalves cell)
+  unfolding planes
+  first-inside = pair-inside s j i b 0 (by-alternating (λ g. 0 < layers g (cellHalves cell)) (omega arith) (omega arith) (cellGroup cell) (j .h) e)
 
-pub middle-inside : {cell : UnitCell} → Sizes cell → alternates (cell .group) ≡ true → (j : Index) → Within cell j → j .k ≤ cell .n2 / 2 → j .l ≤ cell .n3 / 2 → (j .l ≡ cell .n3 / 2 → ⊥)
-    → 2 * pairPlace P1 (cellHalves cell) (j .l) (j .h) (j .k) + 1 < volumeLength (cellGroup cell) (cellHalves cell)
-unfolding planes
-middle-inside {cell} s e j i b l z = pair-inside s j i b (j .l) (by-alternating (λ g. j .l < layers g (cellHalves cell)) (omega arith) (omega arith) (cell .group) e)
+  pub middle-inside : j .l ≤ cell .n3 / 2 → (j .l ≡ cell .n3 / 2 → ⊥) → 2 * pairPlace P1 (cellHalves cell) (j .l) (j .h) (j .k) + 1 < volumeLength (cellGroup cell) (cellHalves cell)
+  unfolding planes
+  middle-inside l z = pair-inside s j i b (j .l) (by-alternating (λ g. j .l < layers g (cellHalves cell)) (omega arith) (omega arith) (cellGroup cell) (j .h) e)
 
 -- ---- the column that a factor is read from
 

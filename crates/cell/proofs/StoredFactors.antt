@@ -1,17 +1,17 @@
 -- The factor at a stored place is the line's: the value of its own pair, but at the ends of an alternating line that of one number of pair 0, and zero at those of an antisymmetric line.
-use mathlib.Core.Path.{_≡_, refl, sym, _∙_, ap}
+use mathlib.Core.Path.{_≡_, refl, sym, _∙_, ap, subst}
 use mathlib.Core.Logic.{⊎-elim}
-use mathlib.Core.Bool.{Bool, true, false, _||_, _&&_, not, cond}
+use mathlib.Core.Bool.{Bool, true, false, _||_, _&&_, cond}
 use mathlib.Core.List.{List, [], _∷_}
-use Prim.Native.Nat.{ℕ, zero, suc, _+_, _*_, _-_, _/_, _%_, _<_, _≤_, min}
+use Prim.Native.Nat.{ℕ, suc, _+_, _*_, _-_, _/_, _%_, _<_, _≤_, min}
 use native.Mathlib.Omega.{arith}
 use lib.ListN.{getD}
-use lib.Dec.{eqb, ltb, ltb→lt}
-use borrow.Author.Tests.{eq-eqb, ne-eqb, lt-ltb}
+use lib.Dec.{T, eqb, ltb, ltb→lt}
+use borrow.Author.Tests.{eq-eqb, ne-eqb, eqb-true, eqb-false, lt-ltb}
 use Rattle.algebra.specs.cells.CellTests.{every}
 use Rattle.algebra.specs.ring.Residue.{residues}
 use Rattle.algebra.specs.ring.Gauss.{gauss}
-use Rattle.algebra.specs.lines.Kinds.{Kind.alternating, Kind.symmetric, Kind.antisymmetric}
+use Rattle.algebra.specs.lines.Kinds.{Kind, Kind.alternating, Kind.symmetric, Kind.antisymmetric}
 use Rattle.algebra.specs.cells.Cell.{J, Group, P2₁, Pa, span, planes}
 use Rattle.algebra.specs.cells.CellPack.{even, ofPart}
 use Rattle.algebra.proofs.ring.Bool.{and-l, and-r}
@@ -21,7 +21,8 @@ use Rattle.numbers.proofs.Primes.{prime-pos}
 use Rattle.numbers.proofs.Residues.{val-res}
 use Rattle.numbers.proofs.Values.{pair-path, pair-value}
 use Rattle.slices.specs.Pairs.{at, Below, valuesOf}
-use Rattle.cell.specs.Volume.{groupOf, alternates, pairPlace, pairNumbers, lineNumbers, wholeLine}
+use Rattle.lengths.specs.Lengths.{kindOf}
+use Rattle.cell.specs.Volume.{groupOf, lineKind, pairPlace, pairNumbers, lineNumbers, wholeLine}
 use Rattle.cell.specs.declared.operations.Index.{Index}
 use Rattle.cell.specs.declared.operations.UnitCell.{UnitCell}
 use Rattle.cell.specs.Operations.{cellGroup, cellHalves, Length}
@@ -32,7 +33,8 @@ use Rattle.cell.proofs.VolumeLayout.{place-inside}
 use Rattle.cell.proofs.LineReading.{readLine, read-plain, read-symmetric, alternating-first, alternating-middle, alternating-low, read-first, read-last, read-between}
 use Rattle.cell.proofs.Reading.{pairsIn}
 use Rattle.cell.proofs.OperationLaws.{by-group}
-use Rattle.cell.proofs.PlaceLaws.{even-is, odd-is, at-end, not-end, by-alternating, not-alternating, stored-layer, alternating-half}
+use Rattle.cell.proofs.LineKinds.{is-kind, other-kind, by-alternating, by-other, stored-layer, alternating-half}
+use Rattle.cell.proofs.PlaceLaws.{even-is, odd-is, at-end, not-end}
 
 -- ---- pairs that lie in the volume
 
@@ -56,22 +58,22 @@ module _ {cell : UnitCell} {v : List ℕ} (volume : IsVolume cell v) where
   pub own-inside : {j : Index} → IsStored cell j → j .l < planes (cellGroup cell) (cell .n3 / 2) → PairInside cell v (j .l) (j .h) (j .k)
   own-inside {j} stored l = pair-inside (j .l) (j .h) (j .k) l (stored .h) (stored .k)
 
-  pub stored-inside : {j : Index} → IsStored cell j → alternates (cell .group) ≡ false → PairInside cell v (j .l) (j .h) (j .k)
-  stored-inside {j} stored z = own-inside stored (stored-layer (cell .group) (cell .n3 / 2) (j .l) (volume .sizes .known) z (stored .l))
+  pub stored-inside : {j : Index} → IsStored cell j → (lineKind (cellGroup cell) (j .h) ≡ alternating → ⊥) → PairInside cell v (j .l) (j .h) (j .k)
+  stored-inside {j} stored z = own-inside stored (stored-layer (cellGroup cell) (j .h) (cell .n3 / 2) (j .l) z (stored .l))
 
   -- pair 0 and the pairs between the ends of an alternating line
-  module _ {j : Index} (stored : IsStored cell j) (e : alternates (cell .group) ≡ true) where
+  module _ {j : Index} (stored : IsStored cell j) (e : lineKind (cellGroup cell) (j .h) ≡ alternating) where
     pub first-inside : PairInside cell v 0 (j .h) (j .k)
     unfolding planes
     first-inside =
         let low = volume .sizes .third .low in
-        pair-inside 0 (j .h) (j .k) (by-alternating (λ g. 0 < planes g (cell .n3 / 2)) (omega (arith, low)) (omega (arith, low)) (cell .group) e) (stored .h) (stored .k)
+        pair-inside 0 (j .h) (j .k) (by-alternating (λ g. 0 < planes g (cell .n3 / 2)) (omega (arith, low)) (omega (arith, low)) (cellGroup cell) (j .h) e) (stored .h) (stored .k)
 
     pub middle-inside : (j .l ≡ cell .n3 / 2 → ⊥) → PairInside cell v (j .l) (j .h) (j .k)
     unfolding planes
     middle-inside z =
-        let half = alternating-half (cell .group) e (stored .l) in
-        own-inside stored (by-alternating (λ g. j .l < planes g (cell .n3 / 2)) (omega (arith, half)) (omega (arith, half)) (cell .group) e)
+        let half = alternating-half (cellGroup cell) (j .h) e (stored .l) in
+        own-inside stored (by-alternating (λ g. j .l < planes g (cell .n3 / 2)) (omega (arith, half)) (omega (arith, half)) (cellGroup cell) (j .h) e)
 
 -- ---- numbers below the prime stand for themselves
 
@@ -160,14 +162,11 @@ module _ (a : J) (pos : 0 < a .2) (m : ℕ) (v : List ℕ) (j : J) where
     )
 
 -- what is read in P2₁ is read in each group with alternating lines
-pub screw-reads : (a : J) (m : ℕ) (v : List ℕ) (j : J) (n : ℕ) → alternates n ≡ true → {r : Pair} → IsStoredFactor P2₁ a m v j r → IsStoredFactor (groupOf n) a m v j r
+pub screw-reads : (a : J) (m : ℕ) (v : List ℕ) (j : J) (g : Group) → lineKind g (j .0) ≡ alternating → {r : Pair} → IsStoredFactor P2₁ a m v j r → IsStoredFactor g a m v j r
 unfolding wholeLine
-screw-reads a m v j n e {r} f = by-alternating (λ g. IsStoredFactor g a m v j r) f f n e
+screw-reads a m v j g e {r} f = by-alternating (λ g. IsStoredFactor g a m v j r) f f g (j .0) e
 
--- in the other groups: a pair, or nothing at the ends of an antisymmetric line
-abbrev pub absent : (n : ℕ) → (a j : J) → Bool
-absent n a j = eqb n 3 && (not (even (j .0)) && (eqb (j .2) 0 || eqb (j .2) (a .2)))
-
+-- in the other lines: a pair, or nothing at the ends of an antisymmetric one
 module _ (a : J) (pos : 0 < a .2) (m : ℕ) (v : List ℕ) (j : J) where
   abbrev InPair : Group → Type 0
   InPair g = (lineNumbersAt g a j ≡ pairNumbers g a (j .2) (j .0) (j .1)) × (storedFactor g a m v j ≡ pairsIn g a m v (j .2) (j .0) (j .1))
@@ -178,12 +177,12 @@ module _ (a : J) (pos : 0 < a .2) (m : ℕ) (v : List ℕ) (j : J) where
   half-pair : j .2 ≤ a .2 → pairNumbers Pa a (min (j .2) (2 * a .2 - j .2)) (j .0) (j .1) ≡ pairNumbers Pa a (j .2) (j .0) (j .1)
   half-pair l = ap (λ w. pairNumbers Pa a w (j .0) (j .1)) (own-pair (a .2) (j .2) l)
 
-  glide-pair : (b : Bool) → (not b && (eqb (j .2) 0 || eqb (j .2) (a .2))) ≡ false → j .2 ≤ a .2
+  glide-pair : (b : Bool) → (cond b symmetric antisymmetric ≡ antisymmetric → (eqb (j .2) 0 || eqb (j .2) (a .2)) ≡ false) → j .2 ≤ a .2
       → (lineNumbers Pa a (cond b symmetric antisymmetric) (j .0) (j .1) (j .2) ≡ pairNumbers Pa a (j .2) (j .0) (j .1)) × (readLine m (a .2) (cond b symmetric antisymmetric) row (j .2) ≡ row (j .2))
   glide-pair true e l = (half-pair l, read-symmetric m (a .2) pos row (j .2) (omega arith))
   glide-pair false e l =
-      let n = not-end (j .2) (a .2) e in
-      (rw e (half-pair l), read-between m (a .2) row (j .2) (positive (n .0)) (less (n .1)))
+      let n = not-end (j .2) (a .2) (e refl) in
+      (rw (e refl) (half-pair l), read-between m (a .2) row (j .2) (positive (n .0)) (less (n .1)))
     where
       positive : (j .2 ≡ 0 → ⊥) → 0 < j .2
       positive n = omega arith
@@ -191,27 +190,34 @@ module _ (a : J) (pos : 0 < a .2) (m : ℕ) (v : List ℕ) (j : J) where
       less : (j .2 ≡ a .2 → ⊥) → j .2 < a .2
       less n = omega arith
 
-  pub stored-pair : (n : ℕ) → n < 5 → alternates n ≡ false → absent n a j ≡ false → j .2 < span (groupOf n) (a .2) → InPair (groupOf n)
+  pub stored-pair : (g : Group) → (lineKind g (j .0) ≡ alternating → ⊥) → (lineKind g (j .0) ≡ antisymmetric → (eqb (j .2) 0 || eqb (j .2) (a .2)) ≡ false) → j .2 < span g (a .2) → InPair g
   unfolding wholeLine span
-  stored-pair zero l y e s = (refl, read-plain m (a .2) row (j .2))
-  stored-pair (suc zero) l y e s = absurd (not-alternating 1 y .0 refl)
-  stored-pair (suc (suc zero)) l y e s = (half-pair (omega arith), read-symmetric m (a .2) pos row (j .2) s)
-  stored-pair (suc (suc (suc zero))) l y e s = glide-pair (even (j .0)) e (omega arith)
-  stored-pair (suc (suc (suc (suc zero)))) l y e s = absurd (not-alternating 4 y .1 refl)
-  stored-pair (suc (suc (suc (suc (suc n))))) l y e s = absurd (omega arith)
+  stored-pair g z e s = by-other (λ g. (lineKind g (j .0) ≡ antisymmetric → (eqb (j .2) 0 || eqb (j .2) (a .2)) ≡ false) → j .2 < span g (a .2) → InPair g)
+      (λ e s. (refl, read-plain m (a .2) row (j .2)))
+      (λ e s. (half-pair (omega arith), read-symmetric m (a .2) pos row (j .2) s))
+      (λ e s. glide-pair (even (j .0)) e (omega arith))
+      g (j .0) z e s
 
-  pub absent-value : (n : ℕ) → n < 5 → absent n a j ≡ true → IsStoredFactor (groupOf n) a m v j (record { re = 0; im = 0 })
+  pub absent-value : (g : Group) → lineKind g (j .0) ≡ antisymmetric → (eqb (j .2) 0 || eqb (j .2) (a .2)) ≡ true → IsStoredFactor g a m v j (record { re = 0; im = 0 })
   unfolding wholeLine
-  absent-value zero l e t = cc
-  absent-value (suc zero) l e t = cc
-  absent-value (suc (suc zero)) l e t = cc
-  absent-value (suc (suc (suc zero))) l e t = zero-pair m ∙ sym (ap pairOf (glide (even (j .0)) e))
+  absent-value g e end t = zero-pair m ∙ sym (ap pairOf (ap (λ kind. readLine m (a .2) kind row (j .2)) e
+      ∙ ⊎-elim (λ z. ap (readLine m (a .2) antisymmetric row) z ∙ read-first m (a .2) row) (λ z. ap (readLine m (a .2) antisymmetric row) z ∙ read-last m (a .2) pos row) (at-end (j .2) (a .2) end)))
+
+-- what the code's test of the two together says of a line whose kind has the number n
+module _ {n : ℕ} {K : Kind} (e : kindOf n ≡ K) (l : n < 6) {end : Bool} where
+  pub absent-true : (eqb n 5 && end) ≡ true → (K ≡ antisymmetric) × (end ≡ true)
+  absent-true t = go (eqb n 5) refl t
     where
-      glide : (b : Bool) → (not b && (eqb (j .2) 0 || eqb (j .2) (a .2))) ≡ true → readLine m (a .2) (cond b symmetric antisymmetric) row (j .2) ≡ field m .zer
-      glide true e = cc
-      glide false e = ⊎-elim (λ z. ap (readLine m (a .2) antisymmetric row) z ∙ read-first m (a .2) row) (λ z. ap (readLine m (a .2) antisymmetric row) z ∙ read-last m (a .2) pos row) (at-end (j .2) (a .2) e)
-  absent-value (suc (suc (suc (suc zero)))) l e t = cc
-  absent-value (suc (suc (suc (suc (suc n))))) l e t = absurd (omega arith)
+      go : (b : Bool) → eqb n 5 ≡ b → (b && end) ≡ true → (K ≡ antisymmetric) × (end ≡ true)
+      go true q t = (is-kind e (eqb-true n 5 q), t)
+      go false q t = absurd (subst T (sym t) tt)
+
+  pub absent-false : (eqb n 5 && end) ≡ false → K ≡ antisymmetric → end ≡ false
+  absent-false t k = go (eqb n 5) refl t
+    where
+      go : (b : Bool) → eqb n 5 ≡ b → (b && end) ≡ false → end ≡ false
+      go true q t = t
+      go false q t = absurd (other-kind e l (eqb-false n 5 q) k)
 
 -- ---- the number of a point
 

@@ -9,6 +9,7 @@ use lib.ListN.{length, set, length-set}
 use lib.Seq.{getD-set-other, set-getD}
 use borrow.Author.Tests.{eq-eqb, ne-eqb}
 use Rattle.algebra.specs.ring.Ring.{Ops}
+use Rattle.algebra.specs.lines.Kinds.{Kind, Kind.plain, Kind.hermitian, Kind.antihermitian, Kind.alternating, Kind.symmetric, Kind.antisymmetric}
 use Rattle.algebra.specs.orbits.OrbitLaws.{putAll}
 use Rattle.algebra.specs.cells.Cell.{J, Inside, Sym, Group, P1, P2₁, Pm, Pa, P2₁2₁2₁, imageOf, impliedValue, sameJ, span, planes, Stored, factorActs}
 use Rattle.algebra.specs.cells.CellPack.{FactorVolume, even, partOf, upd, putAlt, putFactor}
@@ -26,8 +27,8 @@ use Rattle.slices.specs.Pairs.{at, put, Below}
 use Rattle.slices.proofs.Pairs.{length-put, at-put-same, at-put-other}
 use Rattle.slices.proofs.Rows.{block-inj}
 use Rattle.slices.proofs.Bounds.{below-set, below-put}
-use Rattle.cell.specs.Volume.{timesI, pairPlace, rows, columns, layers, volumeLength}
-use Rattle.cell.specs.Consistency.{writeAlternating, write, writtenPair, writeImages}
+use Rattle.cell.specs.Volume.{lineKind, timesI, pairPlace, rows, columns, layers, volumeLength}
+use Rattle.cell.specs.Consistency.{writeAlternating, writeLine, write, writtenPair, writeImages}
 use Rattle.cell.proofs.VolumeLayout.{place-inside}
 use Rattle.cell.proofs.LineReading.{by-half}
 use Rattle.cell.proofs.RotatedLines.{times-is}
@@ -94,12 +95,16 @@ module _ (a : J) (m : ℕ) (pos : 0 < a .2) (v : List ℕ) (B : FactorVolume (Re
 -- ---- a place of any group, and a record
 
 module _ (a : J) (m : ℕ) (pos : 0 < a .2) (v : List ℕ) where
-  write-holds : (g : Group) → length v ≡ volumeLength g a → (B : FactorVolume (Residue m)) → Holds g a m v B → (j : J) → Inside a j → Stored g a j → (x : Value m) → Holds g a m (write g a g v j (writtenPair g a m j x)) (putFactor (ring m) g a B j x)
+  write-holds : (g : Group) → length v ≡ volumeLength g a → (B : FactorVolume (Residue m)) → Holds g a m v B → (j : J) → Inside a j → Stored g a j → (x : Value m) → Holds g a m (write g a v j (writtenPair g a m j x)) (putFactor (ring m) g a B j x)
   unfolding write writeAlternating putFactor span planes
   write-holds P1 len B e j n s x = put-holds P1 a m v B len e (j .2) (j .0) (j .1) (s .1) (n .0) (omega (arith, s .0)) (pairOf x) x (value-pair m x)
   write-holds P2₁ len B e j n s x = alternating-holds a m pos v B len e (j .0) (j .1) (n .0) (omega (arith, s .0)) x (j .2) (s .1)
   write-holds Pm len B e j n s x = put-holds Pm a m v B len e (j .2) (j .0) (j .1) (s .1) (n .0) (omega (arith, s .0)) (pairOf x) x (value-pair m x)
-  write-holds Pa len B e j n s x = put-holds Pa a m v B len e (j .2) (j .0) (j .1) (s .1) (n .0) (omega (arith, s .0)) (pairOf x) x (value-pair m x)
+  write-holds Pa len B e j n s x = mirror (even (j .0))
+    where
+      mirror : (b : Bool) → Holds Pa a m (writeLine Pa a (cond b symmetric antisymmetric) v j (pairOf x)) (upd (ring m) B (j .2) (j .0) (j .1) x)
+      mirror true = put-holds Pa a m v B len e (j .2) (j .0) (j .1) (s .1) (n .0) (omega (arith, s .0)) (pairOf x) x (value-pair m x)
+      mirror false = put-holds Pa a m v B len e (j .2) (j .0) (j .1) (s .1) (n .0) (omega (arith, s .0)) (pairOf x) x (value-pair m x)
   write-holds P2₁2₁2₁ len B e j n s x =
       subst (λ y. Holds P2₁2₁2₁ a m (writeAlternating P2₁2₁2₁ a v (j .0) (j .1) (j .2) (writtenPair P2₁2₁2₁ a m j x)) (putAlt (ring m) (a .2) B (j .0) (j .1) (j .2) y)) (times-is m (even (j .0)) x)
       (alternating-holds a m pos v B len e (j .0) (j .1) (n .0) (omega (arith, s .0)) (timesI m (not (even (j .0))) x) (j .2) (s .1))
@@ -116,37 +121,45 @@ module _ (g : Group) (a : J) where
   unfolding writeAlternating
   length-alternating v h k l x = cond-keeps (AsLong v) (eqb l 0) (length-set v _ _) (cond-keeps (AsLong v) (eqb l (a .2)) (length-set v _ _) (length-put v _ x))
 
-  length-write : (G : Group) (v : List ℕ) (j : J) (x : Pair) → length (write g a G v j x) ≡ length v
+  length-line : (K : Kind) (v : List ℕ) (j : J) (x : Pair) → length (writeLine g a K v j x) ≡ length v
+  length-line plain v j x = length-put v _ x
+  length-line hermitian v j x = length-put v _ x
+  length-line antihermitian v j x = length-put v _ x
+  length-line alternating v j x = length-alternating v (j .0) (j .1) (j .2) x
+  length-line symmetric v j x = length-put v _ x
+  length-line antisymmetric v j x = length-put v _ x
+
+  length-write : (v : List ℕ) (j : J) (x : Pair) → length (write g a v j x) ≡ length v
   unfolding write
-  length-write P1 v j x = length-put v _ x
-  length-write P2₁ v j x = length-alternating v (j .0) (j .1) (j .2) x
-  length-write Pm v j x = length-put v _ x
-  length-write Pa v j x = length-put v _ x
-  length-write P2₁2₁2₁ v j x = length-alternating v (j .0) (j .1) (j .2) x
+  length-write v j x = length-line (lineKind g (j .0)) v j x
 
   module _ {p : ℕ} where
     below-alternating : (v : List ℕ) (h k l : ℕ) (x : Pair) → Below p v → Small p x → Below p (writeAlternating g a v h k l x)
     unfolding writeAlternating
     below-alternating v h k l x b s = cond-keeps (Below p) (eqb l 0) (below-set _ _ b (s .re)) (cond-keeps (Below p) (eqb l (a .2)) (below-set _ _ b (cond-keeps (λ q. q < p) (even l) (s .re) (s .im))) (below-put _ b s))
 
-    below-write : (G : Group) (v : List ℕ) (j : J) (x : Pair) → Below p v → Small p x → Below p (write g a G v j x)
+    below-line : (K : Kind) (v : List ℕ) (j : J) (x : Pair) → Below p v → Small p x → Below p (writeLine g a K v j x)
+    below-line plain v j x b s = below-put _ b s
+    below-line hermitian v j x b s = below-put _ b s
+    below-line antihermitian v j x b s = below-put _ b s
+    below-line alternating v j x b s = below-alternating v (j .0) (j .1) (j .2) x b s
+    below-line symmetric v j x b s = below-put _ b s
+    below-line antisymmetric v j x b s = below-put _ b s
+
+    below-write : (v : List ℕ) (j : J) (x : Pair) → Below p v → Small p x → Below p (write g a v j x)
     unfolding write
-    below-write P1 v j x b s = below-put _ b s
-    below-write P2₁ v j x b s = below-alternating v (j .0) (j .1) (j .2) x b s
-    below-write Pm v j x b s = below-put _ b s
-    below-write Pa v j x b s = below-put _ b s
-    below-write P2₁2₁2₁ v j x b s = below-alternating v (j .0) (j .1) (j .2) x b s
+    below-write v j x b s = below-line (lineKind g (j .0)) v j x b s
 
   module _ (m : ℕ) (j : J) (x : Value m) where
     pub length-images : (l : List Sym) (v : List ℕ) → length (writeImages g a m l j x v) ≡ length v
     unfolding writeImages
     length-images [] v = refl
-    length-images (s ∷ l) v = length-images l _ ∙ cond-keeps (AsLong v) (storedT g a (imageOf a s j)) (length-write g v (imageOf a s j) _) refl
+    length-images (s ∷ l) v = length-images l _ ∙ cond-keeps (AsLong v) (storedT g a (imageOf a s j)) (length-write v (imageOf a s j) _) refl
 
     pub below-images : (l : List Sym) (v : List ℕ) → Below (prime m) v → Below (prime m) (writeImages g a m l j x v)
     unfolding writeImages
     below-images [] v b = b
-    below-images (s ∷ l) v b = below-images l _ (cond-keeps (Below (prime m)) (storedT g a (imageOf a s j)) (below-write g v (imageOf a s j) _ b (small-pair m _)) b)
+    below-images (s ∷ l) v b = below-images l _ (cond-keeps (Below (prime m)) (storedT g a (imageOf a s j)) (below-write v (imageOf a s j) _ b (small-pair m _)) b)
 
     -- a list that stands for B stands, after the record, for what the theory's record makes of B
     pub images-hold : 0 < a .2 → Inside a j → (l : List Sym) (v : List ℕ) → length v ≡ volumeLength g a → (B : FactorVolume (Residue m)) → Holds g a m v B
@@ -154,6 +167,6 @@ module _ (g : Group) (a : J) where
     unfolding writeImages putAll factorActs
     images-hold pos n [] v len B e = e
     images-hold pos n (s ∷ l) v len B e = images-hold pos n l _
-        (cond-keeps (AsLong v) (storedT g a (imageOf a s j)) (length-write g v (imageOf a s j) _) refl ∙ len)
+        (cond-keeps (AsLong v) (storedT g a (imageOf a s j)) (length-write v (imageOf a s j) _) refl ∙ len)
         _
         (split-both (Holds g a m) (storedT g a (imageOf a s j)) (λ t. write-holds a m pos v g len B e (imageOf a s j) (image-inside a s j n) (stored-iff g a (imageOf a s j) .0 t) (impliedValue (field m) (conj m) s j x)) (λ t. e))

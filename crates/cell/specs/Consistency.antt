@@ -2,13 +2,14 @@
 -- A record at j implies a value at each image of j under the group with Friedel's rule (`full g`); an image is written where it is stored.
 use mathlib.Core.Path.{_≡_}
 use mathlib.Core.Logic.{_↔_}
-use mathlib.Core.Bool.{Bool, true, _&&_, not, cond}
+use mathlib.Core.Bool.{Bool, true, _&&_, cond}
 use mathlib.Core.List.{List, [], _∷_, _++_}
 use Prim.Native.Nat.{ℕ, _+_, _*_, _≤_}
 use lib.ListN.{length, getD, set}
-use lib.Dec.{eqb}
+use lib.Dec.{eqb, ltb}
 use Rattle.algebra.specs.ring.Residue.{Res}
-use Rattle.algebra.specs.cells.Cell.{J, Inside, Sym, Group, P1, P2₁, Pm, Pa, P2₁2₁2₁, Cell, full, ops, imageOf, pointImage, impliedValue, factorActs, MapObeys}
+use Rattle.algebra.specs.lines.Kinds.{Kind, Kind.plain, Kind.hermitian, Kind.antihermitian, Kind.alternating, Kind.symmetric, Kind.antisymmetric}
+use Rattle.algebra.specs.cells.Cell.{J, Inside, Sym, Group, Cell, full, ops, imageOf, pointImage, impliedValue, factorActs, MapObeys}
 use Rattle.algebra.specs.cells.Cell as Cell
 use Rattle.algebra.specs.cells.CellSteps.{Lawful}
 use Rattle.algebra.specs.orbits.Orbit.{Mem, recorded}
@@ -17,26 +18,30 @@ use Rattle.algebra.specs.cells.CellPack.{even}
 use Rattle.numbers.specs.declared.Pair.{Pair}
 use Rattle.numbers.specs.Value.{prime, Value, field, conj, real, pairOf}
 use Rattle.slices.specs.Pairs.{at, put, Below}
-use Rattle.cell.specs.Volume.{rotated, timesI, volumeLength, layers, rows, columns, pairPlace, mapPlace, numbersRead, lineIn, packFactors, packMap}
+use Rattle.cell.specs.Volume.{lineKind, rotated, timesI, firstPair, volumeLength, layers, rows, columns, pairPlace, mapPlace, numbersRead, lineIn, packFactors, packMap}
 
 -- two values have the same numbers
 abbrev pub sameValue : {p : ℕ} → Res p × Res p → Res p × Res p → Bool
 sameValue x y = eqb (x .0 .val) (y .0 .val) && eqb (x .1 .val) (y .1 .val)
 
 module _ (g : Group) (a : J) where
-  -- The stored image at (h, k, l) gets the pair x: a whole pair, but in an alternating line one number at l = 0 and one at l = A, the part that can differ from 0.
+  -- The stored index (h, k, l) gets the pair x: a whole pair, but in an alternating line one number at l = 0 and one at l = A, the part that can differ from 0.
   unfoldable pub writeAlternating : List ℕ → (h k l : ℕ) → Pair → List ℕ
   writeAlternating v h k l x =
       cond (eqb l 0) (set v (2 * pairPlace g a 0 h k) (x .re))
       (cond (eqb l (a .2)) (set v (2 * pairPlace g a 0 h k + 1) (cond (even l) (x .re) (x .im)))
       (put v (pairPlace g a l h k) x))
 
-  unfoldable pub write : Group → List ℕ → J → Pair → List ℕ
-  write P1 v j x = put v (pairPlace g a (j .2) (j .0) (j .1)) x
-  write P2₁ v j x = writeAlternating v (j .0) (j .1) (j .2) x
-  write Pm v j x = put v (pairPlace g a (j .2) (j .0) (j .1)) x
-  write Pa v j x = put v (pairPlace g a (j .2) (j .0) (j .1)) x
-  write P2₁2₁2₁ v j x = writeAlternating v (j .0) (j .1) (j .2) x
+  abbrev pub writeLine : Kind → List ℕ → J → Pair → List ℕ
+  writeLine plain v j x = put v (pairPlace g a (j .2) (j .0) (j .1)) x
+  writeLine hermitian v j x = put v (pairPlace g a (j .2) (j .0) (j .1)) x
+  writeLine antihermitian v j x = put v (pairPlace g a (j .2) (j .0) (j .1)) x
+  writeLine alternating v j x = writeAlternating v (j .0) (j .1) (j .2) x
+  writeLine symmetric v j x = put v (pairPlace g a (j .2) (j .0) (j .1)) x
+  writeLine antisymmetric v j x = put v (pairPlace g a (j .2) (j .0) (j .1)) x
+
+  unfoldable pub write : List ℕ → J → Pair → List ℕ
+  write v j x = writeLine (lineKind g (j .0)) v j x
 
   module _ (m : ℕ) where
     -- the value that x at j implies at the image of j
@@ -49,7 +54,7 @@ module _ (g : Group) (a : J) where
 
     unfoldable pub writeImages : List Sym → J → Value m → List ℕ → List ℕ
     writeImages [] j x v = v
-    writeImages (s ∷ l) j x v = writeImages l j x (cond (storedT g a (imageOf a s j)) (write g v (imageOf a s j) (writtenPair (imageOf a s j) (implied s j x))) v)
+    writeImages (s ∷ l) j x v = writeImages l j x (cond (storedT g a (imageOf a s j)) (write v (imageOf a s j) (writtenPair (imageOf a s j) (implied s j x))) v)
 
     abbrev pub recordOn : J → Value m → List ℕ → List ℕ
     recordOn j x v = writeImages (full g) j x v
@@ -62,7 +67,7 @@ module _ (g : Group) (a : J) where
     unfoldable pub agreesWithItself : J → Value m → Bool
     agreesWithItself j x = agreesT (field m) (conj m) sameValue g a j x
 
-    -- Refusal 14 of factors is not this: each stored image of each stored place has the implied value, and the pairs of Pa that are no part of a line are zero.
+    -- Refusal 14 of factors is not this: each stored image of each stored place has the implied value, and the pairs 0 and A are zero where they are no part of their line.
     abbrev pub imageAgrees : List ℕ → J → Sym → Bool
     imageAgrees v j s = imply (storedT g a (imageOf a s j)) (sameValue (lineIn g a m v ((imageOf a s j) .0) ((imageOf a s j) .1) ((imageOf a s j) .2)) (implied s j (lineIn g a m v (j .0) (j .1) (j .2))))
 
@@ -72,15 +77,12 @@ module _ (g : Group) (a : J) where
     unfoldable pub pairIsZero : List ℕ → (w h k : ℕ) → Bool
     pairIsZero v w h k = eqb (getD v (2 * pairPlace g a w h k) 0) 0 && eqb (getD v (2 * pairPlace g a w h k + 1) 0) 0
 
-    abbrev pub zeroEnds : Group → List ℕ → (h k : ℕ) → Bool
-    zeroEnds P1 v h k = true
-    zeroEnds P2₁ v h k = true
-    zeroEnds Pm v h k = true
-    zeroEnds Pa v h k = imply (not (even h)) (pairIsZero v 0 h k && pairIsZero v (a .2) h k)
-    zeroEnds P2₁2₁2₁ v h k = true
+    -- the line (h, k) has the pairs 0 and A, or they are zero
+    abbrev pub zeroEnds : List ℕ → (h k : ℕ) → Bool
+    zeroEnds v h k = imply (ltb 0 (firstPair (lineKind g h))) (pairIsZero v 0 h k && pairIsZero v (a .2) h k)
 
     unfoldable pub consistentFactors : List ℕ → Bool
-    consistentFactors v = everyPlace (rows g a) (columns g a) (Cell.span g (a .2)) (lineAgrees v) && everyPlace (rows g a) (columns g a) 1 (λ j. zeroEnds g v (j .0) (j .1))
+    consistentFactors v = everyPlace (rows g a) (columns g a) (Cell.span g (a .2)) (lineAgrees v) && everyPlace (rows g a) (columns g a) 1 (λ j. zeroEnds v (j .0) (j .1))
 
   -- Refusal 24 is not this: the numbers that hold part of the orbit are zero.
   unfoldable pub orbitNumbers : List Sym → J → List ℕ

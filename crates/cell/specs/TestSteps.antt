@@ -1,16 +1,15 @@
 -- The tests of refusal 14 step by step: what they are lent, and what one line's ends and one row must show.
 use mathlib.Core.Path.{_≡_}
-use mathlib.Core.Bool.{Bool, true, _&&_, not}
+use mathlib.Core.Bool.{Bool, true, _&&_}
 use mathlib.Core.List.{List}
 use Prim.Native.Nat.{ℕ, _+_, _*_, _/_, _<_, _≤_}
 use lib.ListN.{length}
-use lib.Dec.{eqb}
+use lib.Dec.{eqb, ltb}
 use Rattle.algebra.specs.cells.Cell.{J, Group, span}
 use Rattle.algebra.specs.cells.CellTests.{below, everyPlace, imply}
-use Rattle.algebra.specs.cells.CellPack.{even}
 use Rattle.numbers.specs.declared.Pair.{Pair}
 use Rattle.slices.specs.Pairs.{at}
-use Rattle.cell.specs.Volume.{rows, columns, pairPlace, volumeLength}
+use Rattle.cell.specs.Volume.{lineKind, firstPair, rows, columns, pairPlace, volumeLength}
 use Rattle.cell.specs.Consistency.{lineAgrees, pointAgrees, rowEnds}
 pub use Rattle.cell.specs.Consistency.{imageAgrees, pointImageAgrees}
 use Rattle.cell.specs.declared.operations.Index.{Index}
@@ -54,12 +53,12 @@ module _ (g : Group) (a : J) where
   abbrev pub linesAgree : (m : ℕ) → List ℕ → Bool
   linesAgree m v = everyPlace (rows g a) (columns g a) (span g (a .2)) (lineAgrees g a m v)
 
-  -- the pairs 0 and A of the line (h, k) are zero; asked only where h is odd: there Pa has no factors in them
+  -- the pairs 0 and A of the line (h, k) are zero; asked only of a line that leaves them out
   abbrev pub emptyEnds : List ℕ → (h k : ℕ) → Bool
   emptyEnds v h k = isZero (at v (pairPlace g a 0 h k)) && isZero (at v (pairPlace g a (a .2) h k))
 
-  abbrev pub emptyIfOdd : List ℕ → (h k : ℕ) → Bool
-  emptyIfOdd v h k = imply (not (even h)) (emptyEnds v h k)
+  abbrev pub emptyIfLeftOut : List ℕ → (h k : ℕ) → Bool
+  emptyIfLeftOut v h k = imply (ltb 0 (firstPair (lineKind g h))) (emptyEnds v h k)
 
   -- a row of a map: its points, then its two zeros
   abbrev pub pointsAgree : List ℕ → (z x : ℕ) → Bool

@@ -19,10 +19,6 @@ pub use Rattle.roots.specs.Root.{axis}
 abbrev pub groupOf : ℕ → Group
 groupOf n = getD (P1 ∷ P2₁ ∷ Pm ∷ Pa ∷ P2₁2₁2₁ ∷ []) n P1
 
--- the groups with alternating lines, by their numbers
-abbrev pub alternates : ℕ → Bool
-alternates n = eqb n 1 || eqb n 4
-
 -- the kind of the line along l at h
 abbrev pub lineKind : Group → ℕ → Kind
 lineKind P1 h = plain

@@ -6,14 +6,14 @@ use crate::operations::Point;
 use crate::operations::UnitCell;
 use numbers::Pair;
 ghost use mathlib.Core.Path.{_≡_};
-ghost use mathlib.Core.Bool.{true, _&&_, _||_, not};
+ghost use mathlib.Core.Bool.{true, _&&_, _||_};
 ghost use Prim.Native.Nat.{_+_, _*_, _-_, _/_, _<_, _≤_, min};
 ghost use lib.Dec.{eqb};
 ghost use Rattle.algebra.specs.cells.Cell.{span, pointImage, pointOperation};
 ghost use Rattle.algebra.specs.cells.CellTests.{storedT};
-ghost use Rattle.algebra.specs.cells.CellPack.{even};
 ghost use Rattle.numbers.specs.Value.{prime, IsModulus, valueOf, pairOf, Small};
-ghost use Rattle.cell.specs.Volume.{groupOf, alternates, rotated, timesI, overI, layers, volumeLength, pairPlace, numbersRead, densityPlace};
+ghost use Rattle.lengths.specs.Lengths.{kindOf};
+ghost use Rattle.cell.specs.Volume.{groupOf, lineKind, rotated, timesI, overI, layers, volumeLength, pairPlace, numbersRead, densityPlace};
 ghost use Rattle.cell.specs.Operations.{cellGroup, cellHalves, tripleOf, pointOf, Length, Sizes, Within, PointWithin};
 ghost use Rattle.cell.specs.Places.{IsRun, storedColumn, lineNumbersAt};
 
@@ -23,11 +23,21 @@ pub struct Run {
     pub count: usize,
 }
 
-// The group's lines along l are alternating.
-pub fn is_alternating(group: u32) -> bool
-    ensures { λ r. ⌜ r ≡ alternates group ⌝ }
+// The number of the kind of the line along l at h: plain 0, alternating 3, symmetric 4, antisymmetric 5.
+pub fn line_kind(group: u32, h: usize) -> u32
+    ensures { λ r. ⌜ (r < 6) × (kindOf r ≡ lineKind (groupOf group) h) × (r ≡ 1 → ⊥) ⌝ }
 {
-    (group == 1) | (group == 4)
+    if group == 1 {
+        3
+    } else if group == 2 {
+        4
+    } else if group == 3 {
+        if h % 2 == 0 { 4 } else { 5 }
+    } else if group == 4 {
+        3
+    } else {
+        0
+    }
 }
 
 // The line along l at h is stored times i.
@@ -62,14 +72,15 @@ pub fn without_i(m: u32, group: u32, h: u32, x: Pair) -> Pair
     }
 }
 
-// The paper's W: how many planes of the map are stored.
+// The paper's W: how many planes of the map are stored, as many as the line along l at h = 0 has pairs. A number that no group has
+// reads as P1.
 pub fn layer_count(cell: UnitCell) -> u32
-    requires { ⌜ Sizes cell ⌝ }
     ensures { λ r. ⌜ r ≡ layers (cellGroup cell) (cellHalves cell) ⌝ }
 {
-    if cell.group == 0 {
-        cell.n3
-    } else if is_alternating(cell.group) {
+    let kind = line_kind(cell.group, 0);
+    if kind == 0 {
+        cell.n3 / 2 * 2
+    } else if kind == 3 {
         cell.n3 / 2
     } else {
         cell.n3 / 2 + 1
@@ -112,11 +123,11 @@ pub fn is_end(n3: u32, l: u32) -> bool
     (l == 0) | (l == n3 / 2)
 }
 
-// The factor at j is zero by the group's rule and stands nowhere: an end of an antisymmetric line.
-pub fn is_absent(cell: UnitCell, j: Index) -> bool
-    ensures { λ r. ⌜ r ≡ (eqb (cell .group) 3 && (not (even (j .h)) && (eqb (j .l) 0 || eqb (j .l) (cell .n3 / 2)))) ⌝ }
+// The factor at l of a line of this kind is zero by the group's rule and stands nowhere: an end of an antisymmetric line.
+pub fn is_absent(kind: u32, n3: u32, l: u32) -> bool
+    ensures { λ r. ⌜ r ≡ (eqb kind 5 && (eqb l 0 || eqb l (n3 / 2))) ⌝ }
 {
-    (cell.group == 3) & ((j.h % 2 != 0) & is_end(cell.n3, j.l))
+    (kind == 5) & is_end(n3, l)
 }
 
 // l or -l, whichever is in the first half.
@@ -156,11 +167,12 @@ fn pair_numbers(cell: UnitCell, w: u32, h: u32, k: u32) -> Run
 
 // The numbers at the ends l = 0 and l = A of a line that is stored by half: one in an alternating line, none in an
 // antisymmetric one.
-fn end_numbers(cell: UnitCell, j: Index) -> Run
-    requires { ⌜ Sizes cell × Within cell j × (j .k ≤ cell .n2 / 2) × (cell .group ≡ 0 → ⊥) × ((eqb (j .l) 0 || eqb (j .l) (cell .n3 / 2)) ≡ true) ⌝ }
+fn end_numbers(cell: UnitCell, kind: u32, j: Index) -> Run
+    requires { ⌜ Sizes cell × Within cell j × (j .k ≤ cell .n2 / 2) × ((eqb (j .l) 0 || eqb (j .l) (cell .n3 / 2)) ≡ true) ⌝ }
+    requires { ⌜ (kind < 6) × (kindOf kind ≡ lineKind (cellGroup cell) (j .h)) × (kind ≡ 0 → ⊥) ⌝ }
     ensures { λ r. ⌜ IsRun (volumeLength (cellGroup cell) (cellHalves cell)) (lineNumbersAt (cellGroup cell) (cellHalves cell) (tripleOf j)) r ⌝ }
 {
-    if is_alternating(cell.group) {
+    if kind == 3 {
         let place = 2 * pair_place(cell, 0, j.h, j.k);
         if j.l == 0 {
             Run {
@@ -173,12 +185,8 @@ fn end_numbers(cell: UnitCell, j: Index) -> Run
                 count: 1,
             }
         }
-    } else if cell.group == 3 {
-        if j.h % 2 == 0 {
-            pair_numbers(cell, j.l, j.h, j.k)
-        } else {
-            Run { first: 0, count: 0 }
-        }
+    } else if kind == 5 {
+        Run { first: 0, count: 0 }
     } else {
         pair_numbers(cell, j.l, j.h, j.k)
     }
@@ -189,10 +197,11 @@ fn line_numbers(cell: UnitCell, j: Index) -> Run
     requires { ⌜ Sizes cell × Within cell j × (j .k ≤ cell .n2 / 2) ⌝ }
     ensures { λ r. ⌜ IsRun (volumeLength (cellGroup cell) (cellHalves cell)) (lineNumbersAt (cellGroup cell) (cellHalves cell) (tripleOf j)) r ⌝ }
 {
-    if cell.group == 0 {
+    let kind = line_kind(cell.group, j.h as usize);
+    if kind == 0 {
         pair_numbers(cell, j.l, j.h, j.k)
     } else if is_end(cell.n3, j.l) {
-        end_numbers(cell, j)
+        end_numbers(cell, kind, j)
     } else {
         pair_numbers(cell, folded(cell.n3, j.l), j.h, j.k)
     }

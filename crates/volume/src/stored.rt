@@ -8,9 +8,10 @@ ghost use mathlib.Core.Path.{_≡_};
 ghost use mathlib.Core.Bool.{true};
 ghost use Prim.Native.Nat.{ℕ, _/_};
 ghost use lib.ListN.{getD};
+ghost use Rattle.algebra.specs.lines.Kinds.{Kind.alternating};
 ghost use Rattle.numbers.specs.Value.{prime, IsModulus, pairOf};
 ghost use Rattle.slices.specs.Pairs.{at};
-ghost use Rattle.cell.specs.Volume.{alternates, pairPlace, mapPlace};
+ghost use Rattle.cell.specs.Volume.{lineKind, pairPlace, mapPlace};
 ghost use Rattle.cell.specs.Operations.{cellGroup, cellHalves, tripleOf, pointOf};
 ghost use Rattle.cell.specs.Places.{IsStoredFactor, allBelowAt, lineNumbersAt, lineFactor};
 ghost use Rattle.cell.specs.TestSteps.{IsVolume, IsStored, PairInside, samePair, isZero};
@@ -47,7 +48,7 @@ fn alternating_pair(half: u32, l: u32) -> u32
 // The factor at a stored index of an alternating line, as it is stored: at l = 0 and at l = A one number of pair 0, real at l = 0 and at an
 // even A, imaginary at an odd A; else a pair.
 fn alternating_factor(cell: UnitCell, volume: &[u32], j: Index) -> Pair
-    requires { ⌜ IsVolume cell (now volume) × IsStored cell j × (alternates (cell .group) ≡ true) ⌝ }
+    requires { ⌜ IsVolume cell (now volume) × IsStored cell j × (lineKind (cellGroup cell) (j .h) ≡ alternating) ⌝ }
     ensures { λ r. ⌜ ((m : ℕ) → IsStoredFactor (cellGroup cell) (cellHalves cell) m (now (volume .entry)) (tripleOf j) r) ⌝ }
 {
     let half = cell.n3 / 2;
@@ -71,9 +72,10 @@ pub fn stored_factor(cell: UnitCell, volume: &[u32], j: Index) -> Pair
     requires { ⌜ IsVolume cell (now volume) × IsStored cell j ⌝ }
     ensures { λ r. ⌜ ((m : ℕ) → IsStoredFactor (cellGroup cell) (cellHalves cell) m (now (volume .entry)) (tripleOf j) r) ⌝ }
 {
-    if places::is_alternating(cell.group) {
+    let kind = places::line_kind(cell.group, j.h as usize);
+    if kind == 3 {
         alternating_factor(cell, volume, j)
-    } else if places::is_absent(cell, j) {
+    } else if places::is_absent(kind, cell.n3, j.l) {
         Pair { re: 0, im: 0 }
     } else {
         pair_at(cell, volume, j.l, j.h, j.k)

@@ -5,12 +5,13 @@ use cell::operations::UnitCell;
 use cell::places;
 use numbers::Pair;
 ghost use mathlib.Core.Path.{_≡_};
-ghost use mathlib.Core.Bool.{true, cond};
+ghost use mathlib.Core.Bool.{cond};
 ghost use Prim.Native.Nat.{_/_, _<_, _≤_};
 ghost use lib.ListN.{length};
+ghost use Rattle.algebra.specs.lines.Kinds.{Kind.alternating};
 ghost use Rattle.algebra.specs.cells.Cell.{span};
 ghost use Rattle.algebra.specs.cells.CellPack.{even};
-ghost use Rattle.cell.specs.Volume.{alternates, volumeLength};
+ghost use Rattle.cell.specs.Volume.{lineKind, volumeLength};
 ghost use Rattle.cell.specs.Consistency.{writeAlternating, write};
 ghost use Rattle.cell.specs.Operations.{cellGroup, cellHalves, tripleOf, Sizes, Within};
 
@@ -18,9 +19,9 @@ ghost use Rattle.cell.specs.Operations.{cellGroup, cellHalves, tripleOf, Sizes,
 pub fn write_factor(cell: UnitCell, j: Index, x: Pair, volume: &mut [u32])
     requires { ⌜ Sizes cell × Within cell j × (j .k ≤ cell .n2 / 2) × (j .l < span (cellGroup cell) (cell .n3 / 2)) ⌝ }
     requires { ⌜ length (now volume) ≡ volumeLength (cellGroup cell) (cellHalves cell) ⌝ }
-    ensures { λ _. ⌜ now (volume .exit) ≡ write (cellGroup cell) (cellHalves cell) (cellGroup cell) (now (volume .entry)) (tripleOf j) x ⌝ }
+    ensures { λ _. ⌜ now (volume .exit) ≡ write (cellGroup cell) (cellHalves cell) (now (volume .entry)) (tripleOf j) x ⌝ }
 {
-    if places::is_alternating(cell.group) {
+    if places::line_kind(cell.group, j.h as usize) == 3 {
         write_alternating(cell, j, x, volume);
     } else {
         slices::store(volume, places::pair_place(cell, j.l, j.h, j.k), x);
@@ -29,7 +30,7 @@ pub fn write_factor(cell: UnitCell, j: Index, x: Pair, volume: &mut [u32])
 
 // x goes to j in an alternating line: one number of pair 0 at either end, else a pair.
 fn write_alternating(cell: UnitCell, j: Index, x: Pair, volume: &mut [u32])
-    requires { ⌜ Sizes cell × (alternates (cell .group) ≡ true) × Within cell j × (j .k ≤ cell .n2 / 2) × (j .l ≤ cell .n3 / 2) ⌝ }
+    requires { ⌜ Sizes cell × (lineKind (cellGroup cell) (j .h) ≡ alternating) × Within cell j × (j .k ≤ cell .n2 / 2) × (j .l ≤ cell .n3 / 2) ⌝ }
     requires { ⌜ length (now volume) ≡ volumeLength (cellGroup cell) (cellHalves cell) ⌝ }
     ensures { λ _. ⌜ now (volume .exit) ≡ writeAlternating (cellGroup cell) (cellHalves cell) (now (volume .entry)) (j .h) (j .k) (j .l) x ⌝ }
 {

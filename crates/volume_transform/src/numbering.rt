@@ -1,10 +1,10 @@
-// The lines of a job, by their numbers: first those along l, then h, then k, each by rising place of its first pair. The kind of those
-// along l is that of the group.
+// The lines of a job, by their numbers: first those along l, then h, then k, each by rising place of its first pair. The kind of a line
+// along l is that of its group at its h.
 use crate::plan::Line;
 use crate::plan::Plan;
 ghost use mathlib.Core.Path.{_≡_};
 ghost use Prim.Native.Nat.{_<_, _≤_};
-ghost use Rattle.cell.specs.Volume.{groupOf, lineKind, firstPair};
+ghost use Rattle.cell.specs.Volume.{firstPair};
 ghost use Rattle.lengths.specs.Lengths.{kindOf};
 ghost use Rattle.volume_transform.specs.Axes.{lineCount, lineOfTurn, turnOf, alongL, turnedL};
 ghost use Rattle.volume_transform.specs.Plans.{planGroup, planHalves, Planned, Gathered, LineAt};
@@ -49,14 +49,14 @@ fn line_at(plan: Plan, j: usize) -> Line
     }
 }
 
-// Line y = h (B + 1) + k along l, by the kind of its group.
+// Line y = h (B + 1) + k along l, by its kind.
 fn along_l(plan: Plan, y: usize) -> Line
     requires { ⌜ Planned plan × (y < alongL (planGroup plan) (planHalves plan) .count) ⌝ }
     ensures { λ r. ⌜ Gathered plan (turnOf (alongL (planGroup plan) (planHalves plan)) (turnedL (planGroup plan) (planHalves plan) (plan .m) (plan .direction)) y) r ⌝ }
 {
     let width = (plan.cell.n2 / 2 + 1) as usize;
     let stride = (plan.cell.n1 as usize) * width;
-    let kind = line_kind(plan.cell.group, y / width);
+    let kind = cell::places::line_kind(plan.cell.group, y / width);
     Line {
         m: plan.m,
         direction: plan.direction,
@@ -67,24 +67,6 @@ fn along_l(plan: Plan, y: usize) -> Line
         start: y + first_pair(kind) * stride,
         stride,
         count: lengths::pair_count(kind, plan.cell.n3),
-    }
-}
-
-// The kind of the line along l at h.
-fn line_kind(group: u32, h: usize) -> u32
-    requires { ⌜ group < 5 ⌝ }
-    ensures { λ r. ⌜ (r < 6) × (kindOf r ≡ lineKind (groupOf group) h) × (r ≡ 1 → ⊥) ⌝ }
-{
-    if group == 0 {
-        0
-    } else if cell::places::is_alternating(group) {
-        3
-    } else if group == 2 {
-        4
-    } else if h % 2 == 0 {
-        4
-    } else {
-        5
     }
 }
 

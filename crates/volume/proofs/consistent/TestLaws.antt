@@ -1,14 +1,14 @@
 -- The steps of the tests of refusal 14: what the code finds of one image, of a line's ends and of a row is what the test says of it.
 use mathlib.Core.Path.{_≡_, refl, sym, _∙_, ap, subst}
-use mathlib.Core.Bool.{Bool, true, false, _&&_, not}
+use mathlib.Core.Bool.{Bool, true, false, _&&_}
 use mathlib.Core.List.{List}
-use Prim.Native.Nat.{ℕ, zero, suc, _*_, _/_, _<_, _≤_}
+use Prim.Native.Nat.{ℕ, _*_, _/_, _<_, _≤_}
 use native.Mathlib.Omega.{arith}
 use lib.ListN.{length, getD}
 use lib.Dec.{T, leb, leb→le, ltb, ltb→lt, eqb}
 use borrow.Author.Tests.{lt-ltb, le-ltb, eq-eqb}
-use Rattle.algebra.specs.cells.Cell.{J, Inside, Sym, Sym.sym as op, one, Group, Pa, full, span, imageOf, pointImage, impliedValue}
-use Rattle.algebra.specs.cells.CellPack.{even}
+use Rattle.algebra.specs.lines.Kinds.{Kind.antisymmetric}
+use Rattle.algebra.specs.cells.Cell.{J, Inside, Sym, Sym.sym as op, one, Group, full, span, imageOf, pointImage, impliedValue}
 use Rattle.algebra.specs.cells.CellTests.{below, everyPlace, imply, storedT}
 use Rattle.algebra.proofs.ring.Bool.{and-l, and-r, imply-iff, below-by}
 use Rattle.algebra.proofs.cells.CellSym.{square, image-one, image-image, point-one, implied-one, implied-image, implied-twice}
@@ -17,13 +17,15 @@ use Rattle.numbers.specs.declared.Pair.{Pair}
 use Rattle.numbers.specs.Value.{Value, field, conj, valueOf, pairOf}
 use Rattle.numbers.proofs.Values.{value-by, field-ring, field-star}
 use Rattle.slices.specs.Pairs.{at}
-use Rattle.cell.specs.Volume.{groupOf, pairPlace, mapPlace, rows, columns, layers}
+use Rattle.cell.specs.Volume.{groupOf, lineKind, firstPair, pairPlace, mapPlace, rows, columns, layers}
 use Rattle.cell.specs.Consistency.{sameValue, implied, pairIsZero, zeroEnds, pointAgrees, rowEnds, consistentMap}
 use Rattle.cell.specs.declared.operations.Index.{Index}
 use Rattle.cell.specs.declared.operations.UnitCell.{UnitCell}
 use Rattle.cell.specs.Operations.{cellGroup, cellHalves, tripleOf, Sizes, Within}
-use Rattle.cell.specs.TestSteps.{IsStored, samePair, isZero, imageAgrees, pointImageAgrees, emptyEnds, emptyIfOdd, rowAgrees}
+use Rattle.cell.specs.TestSteps.{IsStored, samePair, isZero, imageAgrees, pointImageAgrees, emptyEnds, emptyIfLeftOut, rowAgrees}
 use Rattle.cell.proofs.Tests.{true-iff}
+use Rattle.cell.proofs.LineKinds.{ends-left-out, odd-antisymmetric}
+use Rattle.cell.proofs.PlaceLaws.{odd-is}
 use Rattle.volume.proofs.consistent.Passing.{below-one, below-cong, by-rows}
 use Rattle.cell.proofs.VolumeLayout.{number-even, number-odd}
 use Rattle.cell.proofs.Reading.{same-iff, lineAt}
@@ -88,33 +90,26 @@ module _ (g : Group) (a : J) (m : ℕ) (v : List ℕ) (j : J) where
       true-iff _ .1 (imply-iff (storedT g a i) (sameValue (lineAt g a m v i) (implied g a m s j (lineAt g a m v j))) .1
       (λ u. same-iff m _ _ .1 (sym (ap (implied g a m s j) there ∙ implied-twice (field-ring m) (field-star m) s j (lineAt g a m v i)))))
 
--- ---- the ends of Pa's lines
+-- ---- the ends of a line that leaves them out
 
-pub even-passes : (a : J) (v : List ℕ) (h n : ℕ) → even h ≡ true → true ≡ below n (λ k. emptyIfOdd Pa a v h k)
-even-passes a v h n e = sym (true-iff _ .1 (below-by n _ (λ k l. subst (λ b. T (imply (not b) (emptyEnds Pa a v h k))) (sym e) tt)))
+module _ (g : Group) (a : J) (v : List ℕ) (h n : ℕ) where
+  pub has-ends : (lineKind g h ≡ antisymmetric → ⊥) → true ≡ below n (λ k. emptyIfLeftOut g a v h k)
+  has-ends z = sym (true-iff _ .1 (below-by n _ (λ k l. imply-iff (ltb 0 (firstPair (lineKind g h))) (emptyEnds g a v h k) .1 (λ t. absurd (z (ends-left-out (lineKind g h) .0 t))))))
 
-pub odd-tested : (a : J) (v : List ℕ) (h n : ℕ) {r : Bool} → even h ≡ false → r ≡ below n (λ k. emptyEnds Pa a v h k) → r ≡ below n (λ k. emptyIfOdd Pa a v h k)
-odd-tested a v h n e f = f ∙ below-cong n _ _ (λ k l. ap (λ b. imply (not b) (emptyEnds Pa a v h k)) (sym e))
+  pub ends-left : {r : Bool} → lineKind g h ≡ antisymmetric → r ≡ below n (λ k. emptyEnds g a v h k) → r ≡ below n (λ k. emptyIfLeftOut g a v h k)
+  ends-left e f = f ∙ below-cong n _ _ (λ k l. ap (λ K. imply (ltb 0 (firstPair K)) (emptyEnds g a v h k)) (sym e))
 
-module _ (a : J) (m : ℕ) (v : List ℕ) where
-  -- the ends' test of a group
-  abbrev pub endsTest : Group → Bool
-  endsTest g = everyPlace (rows g a) (columns g a) 1 (λ j. zeroEnds g a m g v (j .0) (j .1))
+module _ (g : Group) (a : J) (m : ℕ) (v : List ℕ) where
+  abbrev pub endsTest : Bool
+  endsTest = everyPlace (rows g a) (columns g a) 1 (λ j. zeroEnds g a m v (j .0) (j .1))
 
-  pub ends-tested : {n : ℕ} {r : Bool} → n ≡ 3 → r ≡ below (rows Pa a) (λ h. below (columns Pa a) (λ k. emptyIfOdd Pa a v h k)) → r ≡ endsTest (groupOf n)
+  pub ends-tested : {r : Bool} → r ≡ below (rows g a) (λ h. below (columns g a) (λ k. emptyIfLeftOut g a v h k)) → r ≡ endsTest
   unfolding everyPlace pairIsZero at
-  ends-tested e f = f
-      ∙ below-cong (rows Pa a) _ _ (λ h lh. below-cong (columns Pa a) _ _ (λ k lk. sym (below-one (λ l. zeroEnds Pa a m Pa v h k))))
-      ∙ ap (λ n. endsTest (groupOf n)) (sym e)
+  ends-tested f = f ∙ below-cong (rows g a) _ _ (λ h lh. below-cong (columns g a) _ _ (λ k lk. sym (below-one (λ l. zeroEnds g a m v h k))))
 
-  -- the other groups have no such ends
-  pub ends-none : (n : ℕ) → n < 5 → (n ≡ 3 → ⊥) → true ≡ endsTest (groupOf n)
-  ends-none zero l z = sym (true-iff _ .1 (every-place-by _ _ _ _ (λ j h k q. tt)))
-  ends-none (suc zero) l z = sym (true-iff _ .1 (every-place-by _ _ _ _ (λ j h k q. tt)))
-  ends-none (suc (suc zero)) l z = sym (true-iff _ .1 (every-place-by _ _ _ _ (λ j h k q. tt)))
-  ends-none (suc (suc (suc zero))) l z = absurd (z refl)
-  ends-none (suc (suc (suc (suc zero)))) l z = sym (true-iff _ .1 (every-place-by _ _ _ _ (λ j h k q. tt)))
-  ends-none (suc (suc (suc (suc (suc n))))) l z = absurd (omega arith)
+  -- a group has such lines at h = 1 or nowhere
+  pub ends-none : (lineKind g 1 ≡ antisymmetric → ⊥) → true ≡ endsTest
+  ends-none z = sym (true-iff _ .1 (every-place-by _ _ _ _ (λ j h k q. imply-iff (ltb 0 (firstPair (lineKind g (j .0)))) _ .1 (λ t. absurd (z (odd-antisymmetric g (j .0) 1 (ends-left-out (lineKind g (j .0)) .0 t) (odd-is 1 (λ e. omega arith))))))))
 
 -- ---- an image of a point, and a row
 

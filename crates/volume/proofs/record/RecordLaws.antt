@@ -33,9 +33,9 @@ module _ (g : Group) (a : J) (m : ℕ) (j : J) (x : Value m) where
     stored-as : (b : Bool) → t ≡ b → storedT g a (imageOf a s j) ≡ b
     stored-as b q = sym (f ∙ ap (storedT g a) e) ∙ q
 
-    pub image-written : t ≡ true → {y z : Pair} {w : List ℕ} → y ≡ pairOf (impliedValue (field m) (conj m) s j x) → z ≡ pairOf (timesI m (rotated g (i .0)) (valueOf m y)) → w ≡ write g a g v i z → w ≡ written v s
+    pub image-written : t ≡ true → {y z : Pair} {w : List ℕ} → y ≡ pairOf (impliedValue (field m) (conj m) s j x) → z ≡ pairOf (timesI m (rotated g (i .0)) (valueOf m y)) → w ≡ write g a v i z → w ≡ written v s
     unfolding writeImages
-    image-written q p u r = rw (stored-as true q) (r ∙ ap₂ (λ i y. write g a g v i y) e (u ∙ ap₂ (λ (i : J) y. pairOf (timesI m (rotated g (i .0)) y)) e (value-by m _ p)))
+    image-written q p u r = rw (stored-as true q) (r ∙ ap₂ (λ i y. write g a v i y) e (u ∙ ap₂ (λ (i : J) y. pairOf (timesI m (rotated g (i .0)) y)) e (value-by m _ p)))
 
     pub image-skipped : t ≡ false → v ≡ written v s
     unfolding writeImages

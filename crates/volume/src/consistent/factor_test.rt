@@ -1,5 +1,5 @@
 // Refusal 14 of packed factors. A volume passes exactly if each stored image of each stored factor has the implied value,
-// and the pairs of Pa that are no part of a line are zero.
+// and the pairs 0 and A are zero where they are no part of their line.
 //
 // The places are tested in the order in which they lie in the volume.
 use cell::operations;
@@ -10,13 +10,15 @@ use cell::places;
 ghost use mathlib.Core.Path.{_≡_};
 ghost use mathlib.Core.Bool.{true};
 ghost use Prim.Native.Nat.{suc, _*_, _/_, _<_, _≤_};
-ghost use Rattle.algebra.specs.cells.Cell.{Pa, span, negI};
+ghost use Rattle.algebra.specs.lines.Kinds.{Kind.antisymmetric};
+ghost use Rattle.algebra.specs.cells.Cell.{span, negI};
 ghost use Rattle.algebra.specs.cells.CellTests.{below};
 ghost use Rattle.numbers.specs.Value.{prime, IsModulus};
 ghost use Rattle.slices.specs.Pairs.{Below};
+ghost use Rattle.cell.specs.Volume.{lineKind};
 ghost use Rattle.cell.specs.Consistency.{lineAgrees, consistentFactors};
 ghost use Rattle.cell.specs.Operations.{cellGroup, cellHalves, tripleOf, symOf};
-ghost use Rattle.cell.specs.TestSteps.{IsVolume, IsStored, imageAgrees, lineRowAgrees, rowEndsAgree, InnerAgree, linesAgree, emptyEnds, emptyIfOdd};
+ghost use Rattle.cell.specs.TestSteps.{IsVolume, IsStored, imageAgrees, lineRowAgrees, rowEndsAgree, InnerAgree, linesAgree, emptyEnds, emptyIfLeftOut};
 
 // The volume is the packed factors of some cell that obeys group and Friedel.
 pub fn consistent_factors(m: u32, cell: UnitCell, volume: &[u32]) -> bool
@@ -24,7 +26,7 @@ pub fn consistent_factors(m: u32, cell: UnitCell, volume: &[u32]) -> bool
     ensures { λ r. ⌜ r ≡ consistentFactors (cellGroup cell) (cellHalves cell) m (now (volume .entry)) ⌝ }
 {
     if factors_agree(m, cell, volume) {
-        if cell.group == 3 {
+        if places::line_kind(cell.group, 1) == 5 {
             odd_rows_empty(cell, volume)
         } else {
             true
@@ -169,8 +171,8 @@ fn factors_agree(m: u32, cell: UnitCell, volume: &[u32]) -> bool
 
 // The pairs 0 and A of the line (h, k) are zero.
 fn empty_line(cell: UnitCell, volume: &[u32], h: u32, k: u32) -> bool
-    requires { ⌜ IsVolume cell (now volume) × (cell .group ≡ 3) × (h < cell .n1) × (k ≤ cell .n2 / 2) ⌝ }
-    ensures { λ r. ⌜ r ≡ emptyEnds Pa (cellHalves cell) (now (volume .entry)) h k ⌝ }
+    requires { ⌜ IsVolume cell (now volume) × (lineKind (cellGroup cell) h ≡ antisymmetric) × (h < cell .n1) × (k ≤ cell .n2 / 2) ⌝ }
+    ensures { λ r. ⌜ r ≡ emptyEnds (cellGroup cell) (cellHalves cell) (now (volume .entry)) h k ⌝ }
 {
     let first = crate::stored::pair_at(cell, volume, 0, h, k);
     let last = crate::stored::pair_at(cell, volume, cell.n3 / 2, h, k);
@@ -179,8 +181,8 @@ fn empty_line(cell: UnitCell, volume: &[u32], h: u32, k: u32) -> bool
 
 // The same for all k.
 fn empty_row(cell: UnitCell, volume: &[u32], h: u32) -> bool
-    requires { ⌜ IsVolume cell (now volume) × (cell .group ≡ 3) × (h < cell .n1) ⌝ }
-    ensures { λ r. ⌜ r ≡ below (suc (cell .n2 / 2)) (λ k. emptyEnds Pa (cellHalves cell) (now (volume .entry)) h k) ⌝ }
+    requires { ⌜ IsVolume cell (now volume) × (lineKind (cellGroup cell) h ≡ antisymmetric) × (h < cell .n1) ⌝ }
+    ensures { λ r. ⌜ r ≡ below (suc (cell .n2 / 2)) (λ k. emptyEnds (cellGroup cell) (cellHalves cell) (now (volume .entry)) h k) ⌝ }
 {
     let mut k = 0;
     while k <= cell.n2 / 2 {
@@ -193,10 +195,10 @@ fn empty_row(cell: UnitCell, volume: &[u32], h: u32) -> bool
     true
 }
 
-// The same for every odd h: in Pa its lines have no factors in the pairs 0 and A; an even h's lines have.
+// The same for every line that leaves the pairs 0 and A out: the group with such lines, Pa, has them at every odd h and at no even one.
 fn odd_rows_empty(cell: UnitCell, volume: &[u32]) -> bool
-    requires { ⌜ IsVolume cell (now volume) × (cell .group ≡ 3) ⌝ }
-    ensures { λ r. ⌜ r ≡ below (2 * (cell .n1 / 2)) (λ h. below (suc (cell .n2 / 2)) (λ k. emptyIfOdd Pa (cellHalves cell) (now (volume .entry)) h k)) ⌝ }
+    requires { ⌜ IsVolume cell (now volume) × (lineKind (cellGroup cell) 1 ≡ antisymmetric) ⌝ }
+    ensures { λ r. ⌜ r ≡ below (2 * (cell .n1 / 2)) (λ h. below (suc (cell .n2 / 2)) (λ k. emptyIfLeftOut (cellGroup cell) (cellHalves cell) (now (volume .entry)) h k)) ⌝ }
 {
     let mut h = 1;
     while h < cell.n1 {

@@ -1,8 +1,7 @@
 -- Which line a number stands for, and in which order analysis takes the lines; the turn of a line whose places the code says in another way than the layout.
 use mathlib.Core.Path.{_≡_, refl, _∙_, ap}
-use mathlib.Core.Bool.{true, false}
 use mathlib.Core.List.{List}
-use Prim.Native.Nat.{ℕ, zero, suc, _+_, _-_, _%_, _<_}
+use Prim.Native.Nat.{ℕ, zero, suc, _+_, _-_, _<_}
 use native.Mathlib.Omega.{arith}
 use borrow.Author.Tests.{lt-ltb, le-ltb}
 use Rattle.algebra.specs.cells.Cell.{J, Group}
@@ -11,8 +10,7 @@ use Rattle.slices.specs.Pairs.{at, tab, puts}
 use Rattle.slices.specs.Sweep.{Layout, lineOf}
 use Rattle.slices.proofs.Pairs.{puts-same, tab-cong}
 use Rattle.lengths.specs.Lengths.{kindOf}
-use Rattle.cell.specs.Volume.{groupOf, alternates, lineKind, firstPair}
-use Rattle.cell.proofs.PlaceLaws.{even-is, odd-is, by-alternating, not-alternating}
+use Rattle.cell.specs.Volume.{firstPair}
 use Rattle.volume_transform.specs.Axes.{turnOf, alongL, alongH, alongK, lineOfTurn, turnedL, turnedH, turnedK, jobTurn}
 
 -- where the code says the places of a line in another way than the layout
@@ -73,27 +71,6 @@ first-other (suc (suc (suc zero))) l n = refl
 first-other (suc (suc (suc (suc zero)))) l n = refl
 first-other (suc (suc (suc (suc (suc zero))))) l n = absurd (n refl)
 first-other (suc (suc (suc (suc (suc (suc k)))))) l n = absurd (omega arith)
-
-pub kind-P1 : (group h : ℕ) → group ≡ 0 → kindOf 0 ≡ lineKind (groupOf group) h
-kind-P1 group h e = rw (ap groupOf e) refl
-
-pub kind-alternating : (group h : ℕ) → alternates group ≡ true → kindOf 3 ≡ lineKind (groupOf group) h
-kind-alternating group h e = by-alternating (λ g. kindOf 3 ≡ lineKind g h) refl refl group e
-
-pub kind-Pm : (group h : ℕ) → group ≡ 2 → kindOf 4 ≡ lineKind (groupOf group) h
-kind-Pm group h e = rw (ap groupOf e) refl
-
-third-group : (group : ℕ) → group < 5 → (group ≡ 0 → ⊥) → alternates group ≡ false → (group ≡ 2 → ⊥) → group ≡ 3
-third-group group l a b c = let n = not-alternating group b in left l a (n .0) (n .1) c
-  where
-    left : {n : ℕ} → n < 5 → (n ≡ 0 → ⊥) → (n ≡ 1 → ⊥) → (n ≡ 4 → ⊥) → (n ≡ 2 → ⊥) → n ≡ 3
-    left l a b c d = omega arith
-
-pub kind-even : (group h : ℕ) → group < 5 → (group ≡ 0 → ⊥) → alternates group ≡ false → (group ≡ 2 → ⊥) → h % 2 ≡ 0 → kindOf 4 ≡ lineKind (groupOf group) h
-kind-even group h l a b c q = rw (ap groupOf (third-group group l a b c), even-is h q) refl
-
-pub kind-odd : (group h : ℕ) → group < 5 → (group ≡ 0 → ⊥) → alternates group ≡ false → (group ≡ 2 → ⊥) → (h % 2 ≡ 0 → ⊥) → kindOf 5 ≡ lineKind (groupOf group) h
-kind-odd group h l a b c q = rw (ap groupOf (third-group group l a b c), odd-is h q) refl
 
 -- ---- directions
 

@@ -8,7 +8,7 @@ use Rattle.slices.specs.Pairs.{at}
 use Rattle.cell.specs.Volume.{pairPlace}
 use Rattle.cell.specs.Operations.{cellGroup, cellHalves}
 use Rattle.cell.specs.TestSteps.{PairInside}
-use Rattle.cell.proofs.PlaceLaws.{alternating-half}
+use Rattle.cell.proofs.LineKinds.{alternating-half}
 use Rattle.cell.proofs.StoredFactors.{screw-reads, first-inside, middle-inside, first-value, second-value-even, second-value-odd, middle-value}
 use Rattle.volume.proofs.stored.alternating_factor.Statement.{statement}
 use Rattle.volume.proofs.stored.alternating_factor.Tie as tie
@@ -40,7 +40,7 @@ returns c m =
     let s = x .before .before .before .before in
     let low = s .pre .0 .sizes .third .low in
     let z = c .if1 .taken in
-    screw-reads (cellHalves (s .args .cell)) m _ _ (s .args .cell .group) (s .pre .2) (first-value (cellHalves (s .args .cell)) (omega (arith, low)) m _ _ z (read x (x .before .alternating-pair .ensures .1 (λ e. omega (arith, low, z, e)) ∙ z)))
+    screw-reads (cellHalves (s .args .cell)) m _ _ (cellGroup (s .args .cell)) (s .pre .2) (first-value (cellHalves (s .args .cell)) (omega (arith, low)) m _ _ z (read x (x .before .alternating-pair .ensures .1 (λ e. omega (arith, low, z, e)) ∙ z)))
 
 returns-2 : tie.Need-returns-2
 returns-2 c m =
@@ -48,7 +48,7 @@ returns-2 c m =
     let f = t .before .before in
     let x = f .before .before in
     let s = x .before .before .before .before in
-    screw-reads (cellHalves (s .args .cell)) m _ _ (s .args .cell .group) (s .pre .2) (second-value-even (cellHalves (s .args .cell)) (omega (arith, s .pre .0 .sizes .third .low)) m _ _ (f .if1 .left) (t .if2 .taken) (read x (x .before .alternating-pair .ensures .0 (t .if2 .taken))) (c .if3 .taken))
+    screw-reads (cellHalves (s .args .cell)) m _ _ (cellGroup (s .args .cell)) (s .pre .2) (second-value-even (cellHalves (s .args .cell)) (omega (arith, s .pre .0 .sizes .third .low)) m _ _ (f .if1 .left) (t .if2 .taken) (read x (x .before .alternating-pair .ensures .0 (t .if2 .taken))) (c .if3 .taken))
 
 returns-3 : tie.Need-returns-3
 returns-3 c m =
@@ -56,14 +56,14 @@ returns-3 c m =
     let f = t .before .before in
     let x = f .before .before in
     let s = x .before .before .before .before in
-    screw-reads (cellHalves (s .args .cell)) m _ _ (s .args .cell .group) (s .pre .2) (second-value-odd (cellHalves (s .args .cell)) (omega (arith, s .pre .0 .sizes .third .low)) m _ _ (f .if1 .left) (t .if2 .taken) (read x (x .before .alternating-pair .ensures .0 (t .if2 .taken))) (c .if3 .left))
+    screw-reads (cellHalves (s .args .cell)) m _ _ (cellGroup (s .args .cell)) (s .pre .2) (second-value-odd (cellHalves (s .args .cell)) (omega (arith, s .pre .0 .sizes .third .low)) m _ _ (f .if1 .left) (t .if2 .taken) (read x (x .before .alternating-pair .ensures .0 (t .if2 .taken))) (c .if3 .left))
 
 returns-4 : tie.Need-returns-4
 returns-4 c m =
     let f = c .before .before in
     let x = f .before .before in
     let s = x .before .before .before .before in
-    screw-reads (cellHalves (s .args .cell)) m _ _ (s .args .cell .group) (s .pre .2) (middle-value (cellHalves (s .args .cell)) (omega (arith, s .pre .0 .sizes .third .low)) m _ _ (f .if1 .left) (c .if2 .left) (alternating-half (s .args .cell .group) (s .pre .2) (s .pre .1 .l)) (read x (x .before .alternating-pair .ensures .1 (c .if2 .left))))
+    screw-reads (cellHalves (s .args .cell)) m _ _ (cellGroup (s .args .cell)) (s .pre .2) (middle-value (cellHalves (s .args .cell)) (omega (arith, s .pre .0 .sizes .third .low)) m _ _ (f .if1 .left) (c .if2 .left) (alternating-half (cellGroup (s .args .cell)) (s .args .j .h) (s .pre .2) (s .pre .1 .l)) (read x (x .before .alternating-pair .ensures .1 (c .if2 .left))))
 
 pub alternating-factor-spec : {M : Type 1} → statement M
 alternating-factor-spec =

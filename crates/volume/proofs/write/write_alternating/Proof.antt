@@ -18,7 +18,7 @@ mul-volume c = search needs
 slice-write-volume : tie.Need-slice-write-volume
 slice-write-volume c =
     let s = c .before .before .before .before .before in
-    omega (arith, s .pre .1, first-inside (s .pre .0 .0) (s .pre .0 .1) _ (s .pre .0 .2) (s .pre .0 .3))
+    omega (arith, s .pre .1, first-inside (s .pre .0 .0) _ (s .pre .0 .1) (s .pre .0 .2) (s .pre .0 .3))
 
 alternating-part-requires : tie.Need-alternating-part-requires
 alternating-part-requires c κs = search needs
@@ -32,7 +32,7 @@ mul-volume-2 c = search needs
 slice-write-volume-2 : tie.Need-slice-write-volume-2
 slice-write-volume-2 c =
     let s = c .before .before .before .before .before .before .before .before in
-    omega (arith, s .pre .1, first-inside (s .pre .0 .0) (s .pre .0 .1) _ (s .pre .0 .2) (s .pre .0 .3))
+    omega (arith, s .pre .1, first-inside (s .pre .0 .0) _ (s .pre .0 .1) (s .pre .0 .2) (s .pre .0 .3))
 
 pair-place-requires-2 : tie.Need-pair-place-requires-2
 pair-place-requires-2 c κs = search needs
@@ -41,7 +41,7 @@ store-requires : tie.Need-store-requires
 store-requires c κs =
     let t = c .before .before in
     let s = t .before .before .before .before .before .before .before in
-    omega (arith, s .pre .1, middle-inside (s .pre .0 .0) (s .pre .0 .1) _ (s .pre .0 .2) (s .pre .0 .3) (s .pre .0 .4) (t .if2 .left))
+    omega (arith, s .pre .1, middle-inside (s .pre .0 .0) _ (s .pre .0 .1) (s .pre .0 .2) (s .pre .0 .3) (s .pre .0 .4) (t .if2 .left))
 
 same-length : tie.Need-same-length
 same-length c = search needs

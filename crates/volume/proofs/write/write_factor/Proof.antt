@@ -1,21 +1,25 @@
--- By the group: an alternating line, or a pair.
+-- By the kind of the line: an alternating line, or a pair.
 use borrow.Author.Needs.{needs}
-use mathlib.Core.Path.{sym, _∙_}
 use native.Mathlib.Omega.{arith}
-use Rattle.cell.proofs.PlaceLaws.{alternating-half, pair-inside, stored-layer}
+use Rattle.cell.proofs.LineKinds.{is-kind, other-kind, stored-layer, alternating-half}
+use Rattle.cell.proofs.PlaceLaws.{pair-inside}
+use Rattle.cell.specs.Operations.{cellGroup}
 use Rattle.volume.proofs.write.WrittenFactors.{alternating-written, factor-written}
 use Rattle.volume.proofs.write.write_factor.Statement.{statement}
 use Rattle.volume.proofs.write.write_factor.Tie as tie
 
-is-alternating-requires : tie.Need-is-alternating-requires
-is-alternating-requires c κs = search needs
+cast-line-kind : tie.Need-cast-line-kind
+cast-line-kind c = search needs
+
+line-kind-requires : tie.Need-line-kind-requires
+line-kind-requires c κs = search needs
 
 write-alternating-requires : tie.Need-write-alternating-requires
 write-alternating-requires c κs =
     let t = c .before in
-    let a = t .before .before .before in
-    let e = sym (t .before .is-alternating .ensures) ∙ t .if1 .taken in
-    ((a .pre .0 .0, e, a .pre .0 .1, a .pre .0 .2, alternating-half (a .args .cell .group) e (a .pre .0 .3)), a .pre .1)
+    let a = t .before .before .before .before in
+    let e = is-kind (t .before .line-kind .ensures .1) (t .if1 .taken) in
+    ((a .pre .0 .0, e, a .pre .0 .1, a .pre .0 .2, alternating-half (cellGroup (a .args .cell)) (a .args .j .h) e (a .pre .0 .3)), a .pre .1)
 
 pair-place-requires : tie.Need-pair-place-requires
 pair-place-requires c κs = search needs
@@ -23,9 +27,10 @@ pair-place-requires c κs = search needs
 store-requires : tie.Need-store-requires
 store-requires c κs =
     let t = c .before .before in
-    let a = t .before .before .before in
+    let a = t .before .before .before .before in
     let p = a .pre .0 in
-    omega (arith, a .pre .1, pair-inside (p .0) _ (p .1) (p .2) _ (stored-layer _ _ _ (p .0 .known) (sym (t .before .is-alternating .ensures) ∙ t .if1 .left) (p .3)))
+    let k = t .before .line-kind .ensures in
+    omega (arith, a .pre .1, pair-inside (p .0) _ (p .1) (p .2) _ (stored-layer (cellGroup (a .args .cell)) (a .args .j .h) _ _ (other-kind (k .1) (k .0) (t .if1 .left)) (p .3)))
 
 same-length : tie.Need-same-length
 same-length c = search needs
@@ -33,7 +38,7 @@ same-length c = search needs
 returns : tie.Need-returns
 returns c =
     let t = c .before .before .before .before in
-    alternating-written _ _ _ _ (t .before .before .before .args .cell .group) (sym (t .before .is-alternating .ensures) ∙ t .if1 .taken) (c .before .before .write-alternating .ensures)
+    alternating-written _ _ _ _ _ (is-kind (t .before .line-kind .ensures .1) (t .if1 .taken)) (c .before .before .write-alternating .ensures)
 
 same-length-2 : tie.Need-same-length-2
 same-length-2 c = search needs
@@ -42,13 +47,15 @@ returns-2 : tie.Need-returns-2
 returns-2 c =
     let u = c .before .before in
     let t = u .before .before .before in
-    factor-written _ _ _ _ _ (t .before .before .before .pre .0 .0 .known) (sym (t .before .is-alternating .ensures) ∙ t .if1 .left) (u .before .pair-place .ensures .0) (u .store .ensures)
+    let k = t .before .line-kind .ensures in
+    factor-written _ _ _ _ _ (other-kind (k .1) (k .0) (t .if1 .left)) (u .before .pair-place .ensures .0) (u .store .ensures)
 
 pub write-factor-spec : {M : Type 1} → statement M
 write-factor-spec =
     tie.close
     (tie.spec
-    is-alternating-requires
+    cast-line-kind
+    line-kind-requires
     write-alternating-requires
     pair-place-requires
     store-requires

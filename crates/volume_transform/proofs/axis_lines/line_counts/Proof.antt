@@ -15,7 +15,7 @@ cast-rows : tie.Need-cast-rows
 cast-rows c = search needs
 
 layer-count-requires : tie.Need-layer-count-requires
-layer-count-requires c κs = c .before .before .pre .sizes
+layer-count-requires c κs = search needs
 
 cast-layers : tie.Need-cast-layers
 cast-layers c = search needs

@@ -22,7 +22,7 @@ div-line-kind : tie.Need-div-line-kind
 div-line-kind c = omega arith
 
 line-kind-requires : tie.Need-line-kind-requires
-line-kind-requires c κs = c .before .before .pre .0 .sizes .sizes .known
+line-kind-requires c κs = search needs
 
 div-is-rotated : tie.Need-div-is-rotated
 div-is-rotated c = omega arith

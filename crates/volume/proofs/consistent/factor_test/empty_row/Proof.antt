@@ -2,15 +2,14 @@
 use borrow.Author.Needs.{needs}
 use Prim.Native.Nat.{suc, _-_, _/_}
 use native.Mathlib.Omega.{arith}
-use Rattle.algebra.specs.cells.Cell.{Pa}
-use Rattle.cell.specs.Operations.{cellHalves}
+use Rattle.cell.specs.Operations.{cellGroup, cellHalves}
 use Rattle.cell.specs.TestSteps.{emptyEnds}
 use Rattle.volume.proofs.consistent.Passing.{Passing, passing-start, passing-next, passing-stop, passing-done}
 use Rattle.volume.proofs.consistent.factor_test.empty_row.Statement.{statement}
 use Rattle.volume.proofs.consistent.factor_test.empty_row.Tie as tie
 
 abbrev Inv-loop : tie.InvT-loop
-Inv-loop cell volume h k₀ k = Passing (λ k. emptyEnds Pa (cellHalves cell) volume h k) (suc (cell .n2 / 2)) k
+Inv-loop cell volume h k₀ k = Passing (λ k. emptyEnds (cellGroup cell) (cellHalves cell) volume h k) (suc (cell .n2 / 2)) k
 
 abbrev μ-loop : tie.MeasureT-loop
 μ-loop cell volume h k₀ k = suc (cell .n2 / 2) - k

@@ -1,49 +1,57 @@
--- The rows before h - 1, which is even, have empty ends where their h is odd.
-use borrow.Author.Needs.{needs}
+-- The rows before h - 1, which is even, have empty ends where their lines leave them out.
 use mathlib.Core.Path.{_≡_, refl, subst}
 use mathlib.Core.Bool.{Bool}
 use Prim.Native.Nat.{ℕ, suc, _+_, _*_, _-_, _/_, _%_, _<_}
 use native.Mathlib.Omega.{arith}
 use denote.Ref.{now}
-use Rattle.algebra.specs.cells.Cell.{Pa}
+use Rattle.algebra.specs.lines.Kinds.{Kind.antisymmetric}
 use Rattle.algebra.specs.cells.CellTests.{below}
-use Rattle.cell.specs.Operations.{cellHalves}
-use Rattle.cell.specs.TestSteps.{emptyIfOdd}
+use Rattle.cell.specs.Volume.{lineKind}
+use Rattle.cell.specs.Operations.{cellGroup, cellHalves}
+use Rattle.cell.specs.TestSteps.{emptyIfLeftOut}
+use Rattle.cell.proofs.LineKinds.{odd-antisymmetric, even-other}
 use Rattle.cell.proofs.PlaceLaws.{even-is, odd-is}
 use Rattle.volume.proofs.consistent.Passing.{Passing, passing-start, passing-next, passing-stop, passing-done}
-use Rattle.volume.proofs.consistent.TestLaws.{even-passes, odd-tested}
+use Rattle.volume.proofs.consistent.TestLaws.{has-ends, ends-left}
 use Rattle.volume.proofs.consistent.factor_test.odd_rows_empty.Statement.{statement}
 use Rattle.volume.proofs.consistent.factor_test.odd_rows_empty.Tie as tie
 
 abbrev Inv-loop : tie.InvT-loop
-Inv-loop cell volume h₀ h = (h % 2 ≡ 1) × Passing (λ h. below (suc (cell .n2 / 2)) (λ k. emptyIfOdd Pa (cellHalves cell) volume h k)) (2 * (cell .n1 / 2)) (h - 1)
+Inv-loop cell volume h₀ h = (h % 2 ≡ 1) × Passing (λ h. below (suc (cell .n2 / 2)) (λ k. emptyIfLeftOut (cellGroup cell) (cellHalves cell) volume h k)) (2 * (cell .n1 / 2)) (h - 1)
 
 abbrev μ-loop : tie.MeasureT-loop
 μ-loop cell volume h₀ h = 2 * (cell .n1 / 2) - h
 
 -- the test of a row
 abbrev row : tie.Start Inv-loop μ-loop → ℕ → Bool
-row s h = let a = s .args in below (suc (a .cell .n2 / 2)) (λ k. emptyIfOdd Pa (cellHalves (a .cell)) (now (a .volume)) h k)
+row s h = let a = s .args in below (suc (a .cell .n2 / 2)) (λ k. emptyIfLeftOut (cellGroup (a .cell)) (cellHalves (a .cell)) (now (a .volume)) h k)
 
 -- the even row before h has passed too
 before-odd : (s : tie.Start Inv-loop μ-loop) (n h : ℕ) → h % 2 ≡ 1 → h < n → Passing (row s) n (h - 1) → Passing (row s) n h
 before-odd s n h o l p =
     let a = s .args in
     let e : h - 1 + 1 ≡ h = omega arith in
-    subst (λ (q : ℕ). Passing (row s) n q) e (passing-next p (omega arith) (even-passes (cellHalves (a .cell)) (now (a .volume)) (h - 1) (suc (a .cell .n2 / 2)) (even-is (h - 1) (omega arith))) refl)
+    subst (λ (q : ℕ). Passing (row s) n q) e (passing-next p (omega arith) (has-ends (cellGroup (a .cell)) (cellHalves (a .cell)) (now (a .volume)) (h - 1) (suc (a .cell .n2 / 2)) (even-other (cellGroup (a .cell)) (h - 1) (even-is (h - 1) (omega arith)))) refl)
+
+-- the lines at an odd h leave their ends out
+odd-line : (s : tie.Start Inv-loop μ-loop) (h : ℕ) → h % 2 ≡ 1 → lineKind (cellGroup (s .args .cell)) h ≡ antisymmetric
+odd-line s h o = odd-antisymmetric (cellGroup (s .args .cell)) 1 h (s .pre .1) (odd-is h (omega arith))
 
 -- what the code found of the row h
 found : (c : tie.After-empty-row Inv-loop μ-loop) → let l = c .before .before .before in c .empty-row .result ≡ row (l .before .before) (l .loop .h)
 found c =
     let l = c .before .before .before in
     let a = l .before .before .args in
-    odd-tested (cellHalves (a .cell)) (now (a .volume)) (l .loop .h) (suc (a .cell .n2 / 2)) (odd-is (l .loop .h) (omega (arith, l .loop .inv .0))) (c .empty-row .ensures)
+    ends-left (cellGroup (a .cell)) (cellHalves (a .cell)) (now (a .volume)) (l .loop .h) (suc (a .cell .n2 / 2)) (odd-line (l .before .before) (l .loop .h) (l .loop .inv .0)) (c .empty-row .ensures)
 
 loop-holds : tie.Need-loop-holds Inv-loop μ-loop
 loop-holds c = (refl, passing-start _ _)
 
 empty-row-requires : tie.Need-empty-row-requires Inv-loop μ-loop
-empty-row-requires c κs = search needs
+empty-row-requires c κs =
+    let l = c .before .before in
+    let s = l .before .before in
+    (s .pre .0, odd-line s (l .loop .h) (l .loop .inv .0), c .if1 .taken)
 
 add-h : tie.Need-add-h Inv-loop μ-loop
 add-h c = omega arith

@@ -6,7 +6,7 @@ use mathlib.Core.List.{List}
 use Prim.Native.Nat.{ℕ, _+_, _*_, _<_, _≤_, zero, suc}
 use lib.Dec.{eqb}
 use Rattle.algebra.specs.lines.Kinds.{slots}
-use Rattle.numbers.specs.Value.{IsModulus}
+use Rattle.numbers.specs.Value.{prime, IsModulus, Small}
 use Rattle.slices.specs.Pairs.{at, tab, puts}
 use Rattle.lengths.specs.Lengths.{kindOf}
 use Rattle.lengths.specs.Admitted.{AdmittedLength, FactorList}
@@ -52,6 +52,7 @@ pub record Beside (len : ℕ) (x : Line) : Type 0 where
   pub sound : SoundLine x
   pub hermitian : x .kind ≡ 1
   pub counted : x .count ≡ x .half + 1
+  pub next : x .stride ≡ 1
   pub fits : 2 * x .start + 2 * x .count ≤ len
   -- 2 * 2880 * 2880 * 1441: no lengths have a longer volume
   pub low : 2 * x .start + 2 * x .count ≤ 23904460800
@@ -59,6 +60,10 @@ pub record Beside (len : ℕ) (x : Line) : Type 0 where
 -- a line that is gathered, or a row
 abbrev pub Placed : (len : ℕ) → Line → Type 0
 Placed len x = ((x .kind ≡ 1 → ⊥) × Spaced len x) ⊎ Beside len x
+
+-- the numbers of its pairs are residues; those of other lines need not be
+pub record LineBelow (x : Line) (v : List ℕ) : Type 0 where
+  pub each : (j : ℕ) → j < x .count → Small (prime (x .m)) (at v (x .start + j * x .stride))
 
 -- and its turn: a row is known by its kind
 abbrev pub lineTurned : Line → List ℕ → List ℕ

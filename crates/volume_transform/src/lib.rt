@@ -16,11 +16,9 @@ use crate::plan::Plan;
 ghost use mathlib.Core.Path.{_≡_};
 ghost use Prim.Native.Nat.{_≤_};
 ghost use lib.ListN.{length};
-ghost use Rattle.numbers.specs.Value.{prime};
-ghost use Rattle.slices.specs.Pairs.{Below};
 ghost use Rattle.lengths.specs.Lengths.{scratchLength, cleared};
 ghost use Rattle.line.specs.Tables.{TablesOf};
-ghost use Rattle.volume_transform.specs.Lines.{TablesFor, Lent, Kept, Placed, lineTurned};
+ghost use Rattle.volume_transform.specs.Lines.{TablesFor, Lent, Kept, Placed, LineBelow, lineTurned};
 ghost use Rattle.volume_transform.specs.Axes.{lineCount};
 ghost use Rattle.volume_transform.specs.Plans.{planGroup, planHalves, Planned, Fitting, planTurn};
 ghost use Rattle.volume_transform.specs.Turns.{turns};
@@ -90,7 +88,7 @@ fn turn<'a>(
     work: &mut [u32],
 )
     requires { ⌜ Placed (length (now volume)) line × TablesFor line (now re) (now im) (now tan) × (m ≡ line .m) ⌝ }
-    requires { ⌜ Below (prime (line .m)) (now volume) ⌝ }
+    requires { ⌜ LineBelow line (now volume) ⌝ }
     requires { ⌜ Lent (now scratch) (now fold) (now work) ⌝ }
     ensures { λ _. ⌜ (now (volume .exit) ≡ lineTurned line (now (volume .entry))) × Kept (now (scratch .entry)) (now (scratch .exit)) ⌝ }
 {

@@ -8,7 +8,7 @@ ghost use Rattle.algebra.specs.lines.Kinds.{slots};
 ghost use Rattle.numbers.specs.Value.{prime};
 ghost use Rattle.slices.specs.Pairs.{Below};
 ghost use Rattle.lengths.specs.Lengths.{kindOf};
-ghost use Rattle.volume_transform.specs.Lines.{Lent, Kept, TablesFor, SoundLine, Spaced, turnedPacked, storedTurn, gatheredTurn};
+ghost use Rattle.volume_transform.specs.Lines.{Lent, Kept, TablesFor, SoundLine, Spaced, LineBelow, turnedPacked, storedTurn, gatheredTurn};
 
 // A line whose pairs stand apart.
 pub fn turn_gathered<'a>(
@@ -23,7 +23,7 @@ pub fn turn_gathered<'a>(
     work: &mut [u32],
 )
     requires { ⌜ Spaced (length (now volume)) line × TablesFor line (now re) (now im) (now tan) × (m ≡ line .m) ⌝ }
-    requires { ⌜ Below (prime (line .m)) (now volume) ⌝ }
+    requires { ⌜ LineBelow line (now volume) ⌝ }
     requires { ⌜ Lent (now scratch) (now fold) (now work) ⌝ }
     ensures { λ _. ⌜ (now (volume .exit) ≡ gatheredTurn line (now (volume .entry))) × Kept (now (scratch .entry)) (now (scratch .exit)) ⌝ }
 {

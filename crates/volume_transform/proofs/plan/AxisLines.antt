@@ -89,6 +89,7 @@ module _ (p : Plan) (ok : Planned p) where
         sound = sound 1 false (p .cell .n2) (p .f2) _ _ _ (omega arith) (omega (arith, sizes .second .even)) (ok .sizes .second) (ok .sizes .second-list);
         hermitian = refl;
         counted = refl;
+        next = refl;
         fits = row-fits sizes y l;
         low = row-low sizes y l;
       };

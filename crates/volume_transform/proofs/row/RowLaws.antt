@@ -6,17 +6,18 @@ use Prim.Native.Nat.{ℕ, zero, suc, _+_, _*_}
 use native.Mathlib.Omega.{arith}
 use lib.ListN.{length, take, drop, getD, set, length-append, length-drop, length-set}
 use Rattle.algebra.specs.lines.Kinds.{Kind.hermitian, slots}
-use Rattle.numbers.specs.Value.{prime, IsModulus}
+use Rattle.numbers.specs.Value.{prime, IsModulus, Small}
+use Rattle.numbers.proofs.Primes.{prime-pos}
 use Rattle.slices.specs.Pairs.{at, puts, Below}
 use Rattle.slices.specs.Segments.{segment, setSegment, WholePairs}
 use Rattle.slices.proofs.Pairs.{length-puts, length-tab}
 use Rattle.slices.proofs.Segments.{length-pairs, setSegment-puts, segment-tab}
-use Rattle.slices.proofs.Bounds.{below-set, below-take}
+use Rattle.slices.proofs.Bounds.{below-set, below-take, below-tab}
 use Rattle.lengths.specs.Lengths.{kindOf}
 use Rattle.line.proofs.kinds.Dispatch.{prefix-length}
 use Rattle.lengths.specs.Admitted.{AdmittedLength}
 use Rattle.volume_transform.specs.Axes.{turnedLine, turnedRow}
-use Rattle.volume_transform.specs.Lines.{opened, closed, SoundLine, Spaced, Beside, Placed, turnedPacked, rowTurn}
+use Rattle.volume_transform.specs.Lines.{opened, closed, SoundLine, Spaced, Beside, Placed, LineBelow, turnedPacked, rowTurn}
 use Rattle.volume_transform.specs.declared.plan.Line.{Line}
 use Rattle.volume_transform.proofs.row.TurnLaws.{length-turned, row-forward, row-inverse}
 
@@ -77,6 +78,13 @@ module _ (x : Line) (v : List ℕ) (h : Beside (length v) x) where
 
   pub row-long : length (segment (2 * x .start) (2 * x .start + 2 * x .count) v) ≡ 2 * (x .half + 1)
   row-long = length-pairs row-pairs ∙ ap (λ n. 2 * n) (h .counted)
+
+  pub row-below : LineBelow x v → Below (prime (x .m)) (segment (2 * x .start) (2 * x .start + 2 * x .count) v)
+  row-below small = subst (Below (prime (x .m))) (sym (segment-tab row-pairs)) (below-tab (prime (x .m)) (x .count) _ (prime-pos (x .m))
+      (λ j l. subst (λ (q : ℕ). Small (prime (x .m)) (at v q)) (ap (λ s. x .start + j * s) (h .next) ∙ neighbour j) (small .each j l)))
+    where
+      neighbour : (j : ℕ) → x .start + j * 1 ≡ x .start + j
+      neighbour j = omega arith
 
   length-row : (direction : ℕ) (l : List ℕ) → length (turnedRow (x .m) (x .half) direction l) ≡ 2 * x .count
   length-row zero l = length-tab _ (suc (x .half)) ∙ omega (arith, h .counted)

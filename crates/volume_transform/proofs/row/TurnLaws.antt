@@ -12,7 +12,7 @@ use borrow.Author.Tests.{lt-ltb, le-ltb}
 use Rattle.algebra.specs.lines.Kinds.{Kind, Kind.hermitian, slots, forward, inverse}
 use Rattle.algebra.proofs.ring.Laws.{along}
 use Rattle.numbers.specs.declared.Pair.{Pair}
-use Rattle.numbers.specs.Value.{prime, IsModulus, field, conj, i, half, real, valueOf, pairOf}
+use Rattle.numbers.specs.Value.{prime, IsModulus, field, conj, i, half, real, valueOf, pairOf, Small}
 use Rattle.numbers.proofs.Primes.{prime-pos}
 use Rattle.numbers.proofs.Values.{field-ring, field-star, pair-path}
 use Rattle.slices.specs.Pairs.{valuesOf, listOf, at, tab, put, puts, fills, zeroPair, Below}
@@ -20,7 +20,7 @@ use Rattle.algebra.specs.fourier.Axis.{AxisLaws}
 use Rattle.slices.proofs.Pairs.{lt-or-ge, puts-ext, is-tab, at-tab, length-put, at-put-same, at-put-other}
 use Rattle.slices.proofs.Segments.{at-take, at-append-left, take-fills, drop-fills}
 use Rattle.slices.proofs.Values.{length-list, below-list, list-cong, values-list}
-use Rattle.slices.proofs.Bounds.{below-tab, small-at}
+use Rattle.slices.proofs.Bounds.{below-tab}
 use Rattle.lengths.specs.Lengths.{kindOf, pairCount}
 use Rattle.line.specs.Transform.{transformed}
 use Rattle.lengths.specs.Admitted.{AdmittedLength}
@@ -64,8 +64,8 @@ module _ (m a direction : ℕ) (b : Bool) (k : Kind) (count : ℕ) (p : ℕ → 
   pub returned-fits : (r t : List ℕ) → r ≡ turnedStored m a direction b k (take (2 * count) s₁) → 2 * count ≤ length (r ++ t)
   returned-fits r t e = omega (arith, length-append r t, ap length e ∙ length-stored m a direction b k _, counted)
 
-  pub below-lent : Below (prime m) v → Below (prime m) (take (2 * count) s₁)
-  below-lent h = subst (Below (prime m)) (sym lent) (below-tab (prime m) count _ (prime-pos m) (λ j l. small-at (prime m) v (p j) h))
+  pub below-lent : ((j : ℕ) → j < count → Small (prime m) (at v (p j))) → Below (prime m) (take (2 * count) s₁)
+  below-lent h = subst (Below (prime m)) (sym lent) (below-tab (prime m) count _ (prime-pos m) h)
 
   module _ (r s₂ v′ : List ℕ) (turned : r ≡ turnedStored m a direction b k (take (2 * count) s₁)) (returned : s₂ ≡ r ++ drop (2 * count) s₁) (scattered : v′ ≡ puts p (at s₂) count v) where
     long : length r ≡ 2 * count

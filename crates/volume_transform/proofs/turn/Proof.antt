@@ -1,11 +1,9 @@
 -- The kind of a line tells whether it is a row, which is lent as a part of the volume.
 use native.Mathlib.Omega.{arith}
 use mathlib.Core.Path.{refl, _∙_}
-use Prim.Native.Nat.{_+_, _*_}
 use lib.ListN.{length}
-use Rattle.slices.proofs.Bounds.{below-segment}
 use Rattle.volume_transform.specs.Lines.{Beside}
-use Rattle.volume_transform.proofs.row.RowLaws.{row-long, row-placed, part-same, beside, spaced}
+use Rattle.volume_transform.proofs.row.RowLaws.{row-long, row-below, row-placed, part-same, beside, spaced}
 use Rattle.volume_transform.proofs.plan.AxisLines.{row-is, gathered-is}
 use Rattle.volume_transform.proofs.turn.Statement.{statement}
 use Rattle.volume_transform.proofs.turn.Tie as tie
@@ -45,7 +43,7 @@ turn-row-requires c κs =
     let s = start i in
     let x = s .args .line in
     let b = row i in
-    ((b .sound, b .hermitian, s .pre .0 .1, s .pre .0 .2), ((row-long x (s .args .volume .now) b, below-segment (2 * x .start) (2 * x .start + 2 * x .count) (s .pre .1 .0)), (s .pre .1 .1 .fold-fits, s .pre .1 .1 .work-fits)))
+    ((b .sound, b .hermitian, s .pre .0 .1, s .pre .0 .2), ((row-long x (s .args .volume .now) b, row-below x (s .args .volume .now) b (s .pre .1 .0)), (s .pre .1 .1 .fold-fits, s .pre .1 .1 .work-fits)))
 
 turn-gathered-requires : tie.Need-turn-gathered-requires
 turn-gathered-requires c κs =

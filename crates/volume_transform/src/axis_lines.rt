@@ -3,9 +3,8 @@
 use crate::plan::Counts;
 use crate::plan::Line;
 use crate::plan::Plan;
-ghost use mathlib.Core.Path.{_≡_};
-ghost use Prim.Native.Nat.{_<_, _≤_};
-ghost use Rattle.volume_transform.specs.Axes.{lineCount, turnOf, alongH, alongK, turnedH, turnedK};
+ghost use Prim.Native.Nat.{_<_};
+ghost use Rattle.volume_transform.specs.Axes.{turnOf, alongH, alongK, turnedH, turnedK};
 ghost use Rattle.volume_transform.specs.Plans.{planGroup, planHalves, SizesIn, Planned, Counted, Gathered, Row};
 
 // How many lines there are along each axis.
@@ -21,15 +20,6 @@ pub fn line_counts(plan: Plan) -> Counts
         h: layers * width,
         k: layers * rows,
     }
-}
-
-// How many there are in all.
-pub fn line_count(plan: Plan) -> usize
-    requires { ⌜ SizesIn plan ⌝ }
-    ensures { λ r. ⌜ (r ≡ lineCount (planGroup plan) (planHalves plan)) × (r ≤ 16594560) ⌝ }
-{
-    let counts = line_counts(plan);
-    counts.l + counts.h + counts.k
 }
 
 // Line y = w (B + 1) + k along h, a plain one.

@@ -66,10 +66,11 @@ fn turn_volume<'a>(
     requires { ⌜ Lent (now scratch) (now fold) (now work) ⌝ }
     ensures { λ _. ⌜ (now (volume .exit) ≡ turns (planTurn plan) 0 (lineCount (planGroup plan) (planHalves plan)) (now (volume .entry))) × Kept (now (scratch .entry)) (now (scratch .exit)) ⌝ }
 {
-    let count = crate::axis_lines::line_count(plan);
+    let counts = crate::axis_lines::line_counts(plan);
+    let count = counts.l + counts.h + counts.k;
     let mut n = 0;
     while n < count {
-        let line = crate::numbering::line_in_turn(plan, n);
+        let line = crate::numbering::line_in_turn(plan, counts, n);
         turn(m, line, re, im, tan, volume, scratch, fold, work);
         n += 1;
     }

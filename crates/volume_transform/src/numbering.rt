@@ -1,5 +1,6 @@
 // The lines of a job, by their numbers: first those along l, then h, then k, each by rising place of its first pair. The kind of a line
 // along l is that of its group at its h.
+use crate::plan::Counts;
 use crate::plan::Line;
 use crate::plan::Plan;
 ghost use mathlib.Core.Path.{_≡_};
@@ -7,22 +8,21 @@ ghost use Prim.Native.Nat.{_<_, _≤_};
 ghost use Rattle.cell.specs.Volume.{firstPair};
 ghost use Rattle.lengths.specs.Lengths.{kindOf};
 ghost use Rattle.volume_transform.specs.Axes.{lineCount, lineOfTurn, turnOf, alongL, turnedL};
-ghost use Rattle.volume_transform.specs.Plans.{planGroup, planHalves, Planned, Gathered, LineAt};
+ghost use Rattle.volume_transform.specs.Plans.{planGroup, planHalves, Planned, Counted, Gathered, LineAt};
 
 // The line that turn n transforms.
-pub fn line_in_turn(plan: Plan, n: usize) -> Line
-    requires { ⌜ Planned plan × (n < lineCount (planGroup plan) (planHalves plan)) ⌝ }
+pub fn line_in_turn(plan: Plan, counts: Counts, n: usize) -> Line
+    requires { ⌜ Planned plan × Counted plan counts × (n < lineCount (planGroup plan) (planHalves plan)) ⌝ }
     ensures { λ r. ⌜ LineAt plan (lineOfTurn (planGroup plan) (planHalves plan) (plan .direction) n) r ⌝ }
 {
-    line_at(plan, line_of_turn(plan, n))
+    line_at(plan, counts, line_of_turn(plan, counts, n))
 }
 
 // Its number: analysis takes the axes in the other order.
-fn line_of_turn(plan: Plan, n: usize) -> usize
-    requires { ⌜ Planned plan × (n < lineCount (planGroup plan) (planHalves plan)) ⌝ }
+fn line_of_turn(plan: Plan, counts: Counts, n: usize) -> usize
+    requires { ⌜ Planned plan × Counted plan counts × (n < lineCount (planGroup plan) (planHalves plan)) ⌝ }
     ensures { λ r. ⌜ (r ≡ lineOfTurn (planGroup plan) (planHalves plan) (plan .direction) n) × (r < lineCount (planGroup plan) (planHalves plan)) ⌝ }
 {
-    let counts = crate::axis_lines::line_counts(plan);
     if plan.direction == 0 {
         n
     } else if n < counts.k {
@@ -35,11 +35,10 @@ fn line_of_turn(plan: Plan, n: usize) -> usize
 }
 
 // Line number j.
-fn line_at(plan: Plan, j: usize) -> Line
-    requires { ⌜ Planned plan × (j < lineCount (planGroup plan) (planHalves plan)) ⌝ }
+fn line_at(plan: Plan, counts: Counts, j: usize) -> Line
+    requires { ⌜ Planned plan × Counted plan counts × (j < lineCount (planGroup plan) (planHalves plan)) ⌝ }
     ensures { λ r. ⌜ LineAt plan j r ⌝ }
 {
-    let counts = crate::axis_lines::line_counts(plan);
     if j < counts.l {
         along_l(plan, j)
     } else if j < counts.l + counts.h {

@@ -98,6 +98,9 @@ module _ (p : Plan) (ok : Planned p) where
 
 -- ---- which line a number stands for
 
+pub counted-lines : {p : Plan} {c : Counts} → Counted p c → c .l + c .h + c .k ≡ lineCount (planGroup p) (planHalves p)
+counted-lines counts = omega (arith, counts .l, counts .h, counts .k)
+
 module _ {p : Plan} {x : Line} {step other : List ℕ → List ℕ} (e : (v : List ℕ) → other v ≡ step v) where
   gathered-as : Gathered p step x → Gathered p other x
   gathered-as g = record { modulus = g .modulus; direction = g .direction; other = g .other; placed = g .placed; turn = λ v. g .turn v ∙ sym (e v) }

@@ -4,28 +4,23 @@ use Rattle.volume_transform.proofs.plan.AxisLines.{at-l, at-h, at-k}
 use Rattle.volume_transform.proofs.numbering.line_at.Statement.{statement}
 use Rattle.volume_transform.proofs.numbering.line_at.Tie as tie
 
-line-counts-requires : tie.Need-line-counts-requires
-line-counts-requires c κs = c .pre .0 .sizes
-
 along-l-requires : tie.Need-along-l-requires
 along-l-requires c κs =
-    let n = c .before .before in
-    let s = n .before in
-    (s .pre .0, omega (arith, n .line-counts .ensures .l, c .if1 .taken))
+    let s = c .before .before in
+    (s .pre .0, omega (arith, s .pre .1 .l, c .if1 .taken))
 
 add-if2 : tie.Need-add-if2
-add-if2 c = omega (arith, c .before .before .before .line-counts .ensures .low)
+add-if2 c = omega (arith, c .before .before .before .pre .1 .low)
 
 along-h-requires : tie.Need-along-h-requires
 along-h-requires c κs =
     let i2 = c .before in
     let i = i2 .before .before in
-    let n = i .before .before in
-    let s = n .before in
-    (s .pre .0, omega (arith, n .line-counts .ensures .h, i .if1 .left, i2 .if2 .taken))
+    let s = i .before .before in
+    (s .pre .0, omega (arith, s .pre .1 .h, i .if1 .left, i2 .if2 .taken))
 
 add-row-at : tie.Need-add-row-at
-add-row-at c = omega (arith, c .before .before .before .before .before .line-counts .ensures .low)
+add-row-at c = omega (arith, c .before .before .before .before .before .pre .1 .low)
 
 sub-row-at : tie.Need-sub-row-at
 sub-row-at c = omega (arith, c .before .if2 .left)
@@ -33,37 +28,32 @@ sub-row-at c = omega (arith, c .before .if2 .left)
 row-at-requires : tie.Need-row-at-requires
 row-at-requires c κs =
     let i2 = c .before in
-    let n = i2 .before .before .before .before in
-    let s = n .before in
-    (s .pre .0, omega (arith, s .pre .1, n .line-counts .ensures .l, n .line-counts .ensures .h, n .line-counts .ensures .k, i2 .if2 .left))
+    let s = i2 .before .before .before .before in
+    (s .pre .0, omega (arith, s .pre .2, s .pre .1 .l, s .pre .1 .h, s .pre .1 .k, i2 .if2 .left))
 
 returns : tie.Need-returns
 returns c =
     let i = c .before in
-    let n = i .before .before in
-    let s = n .before in
-    at-l (s .args .plan) _ (n .line-counts .ensures) (s .args .j) (i .if1 .taken) (c .along-l .ensures)
+    let s = i .before .before in
+    at-l (s .args .plan) _ (s .pre .1) (s .args .j) (i .if1 .taken) (c .along-l .ensures)
 
 returns-2 : tie.Need-returns-2
 returns-2 c =
     let i2 = c .before .before in
     let i = i2 .before .before in
-    let n = i .before .before in
-    let s = n .before in
-    at-h (s .args .plan) _ (n .line-counts .ensures) (s .args .j) (omega (arith, i .if1 .left)) (i2 .if2 .taken) (c .along-h .ensures)
+    let s = i .before .before in
+    at-h (s .args .plan) _ (s .pre .1) (s .args .j) (omega (arith, i .if1 .left)) (i2 .if2 .taken) (c .along-h .ensures)
 
 returns-3 : tie.Need-returns-3
 returns-3 c =
     let i2 = c .before .before in
-    let n = i2 .before .before .before .before in
-    let s = n .before in
-    at-k (s .args .plan) _ (n .line-counts .ensures) (s .args .j) (omega (arith, i2 .if2 .left)) (c .row-at .ensures)
+    let s = i2 .before .before .before .before in
+    at-k (s .args .plan) _ (s .pre .1) (s .args .j) (omega (arith, i2 .if2 .left)) (c .row-at .ensures)
 
 pub line-at-spec : {M : Type 1} → statement M
 line-at-spec =
     tie.close
     (tie.spec
-    line-counts-requires
     along-l-requires
     add-if2
     along-h-requires

@@ -8,7 +8,7 @@ line-of-turn-requires : tie.Need-line-of-turn-requires
 line-of-turn-requires c κs = c .pre
 
 line-at-requires : tie.Need-line-at-requires
-line-at-requires c κs = (c .before .pre .0, c .line-of-turn .ensures .1)
+line-at-requires c κs = (c .before .pre .0, c .before .pre .1, c .line-of-turn .ensures .1)
 
 returns : tie.Need-returns
 returns c = subst (λ j. LineAt (c .before .before .args .plan) j (c .line-at .result)) (c .before .line-of-turn .ensures .0) (c .line-at .ensures)

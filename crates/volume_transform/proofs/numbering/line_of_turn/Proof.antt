@@ -5,74 +5,63 @@ use Rattle.volume_transform.proofs.plan.AxisLines.{turn-same, turn-back
 use Rattle.volume_transform.proofs.numbering.line_of_turn.Statement.{statement}
 use Rattle.volume_transform.proofs.numbering.line_of_turn.Tie as tie
 
-line-counts-requires : tie.Need-line-counts-requires
-line-counts-requires c κs = c .pre .0 .sizes
-
 add-result : tie.Need-add-result
 add-result c =
-    let n = c .before .before .before .before .before in
-    let s = n .before in
-    omega (arith, s .pre .1, n .line-counts .ensures .l, n .line-counts .ensures .h, n .line-counts .ensures .k, n .line-counts .ensures .low)
+    let s = c .before .before .before .before .before in
+    omega (arith, s .pre .2, s .pre .1 .l, s .pre .1 .h, s .pre .1 .k, s .pre .1 .low)
 
 add-result-2 : tie.Need-add-result-2
 add-result-2 c =
-    let n = c .before .before .before .before .before in
-    let s = n .before in
-    omega (arith, s .pre .1, n .line-counts .ensures .l, n .line-counts .ensures .h, n .line-counts .ensures .k, n .line-counts .ensures .low)
+    let s = c .before .before .before .before .before in
+    omega (arith, s .pre .2, s .pre .1 .l, s .pre .1 .h, s .pre .1 .k, s .pre .1 .low)
 
 add-if3 : tie.Need-add-if3
-add-if3 c = omega (arith, c .before .before .before .before .before .line-counts .ensures .low)
+add-if3 c = omega (arith, c .before .before .before .before .before .pre .1 .low)
 
 add-result-3 : tie.Need-add-result-3
 add-result-3 c =
     let i3 = c .before .before in
     let i2 = i3 .before .before in
-    let n = i2 .before .before .before .before in
-    let s = n .before in
-    omega (arith, s .pre .1, n .line-counts .ensures .l, n .line-counts .ensures .h, n .line-counts .ensures .k, n .line-counts .ensures .low, i3 .if3 .taken, i2 .if2 .left)
+    let s = i2 .before .before .before .before in
+    omega (arith, s .pre .2, s .pre .1 .l, s .pre .1 .h, s .pre .1 .k, s .pre .1 .low, i3 .if3 .taken, i2 .if2 .left)
 
 add-result-4 : tie.Need-add-result-4
-add-result-4 c = omega (arith, c .before .before .before .before .before .before .before .line-counts .ensures .low)
+add-result-4 c = omega (arith, c .before .before .before .before .before .before .before .pre .1 .low)
 
 sub-result : tie.Need-sub-result
 sub-result c = omega (arith, c .before .if3 .left)
 
 returns : tie.Need-returns
 returns c =
-    let n = c .before .before in
-    let s = n .before in
-    turn-same (s .args .plan) _ (n .line-counts .ensures) (s .args .n) (s .pre .1) (c .if1 .taken)
+    let s = c .before .before in
+    turn-same (s .args .plan) _ (s .pre .1) (s .args .n) (s .pre .2) (c .if1 .taken)
 
 returns-2 : tie.Need-returns-2
 returns-2 c =
     let i2 = c .before in
     let i = i2 .before .before in
-    let n = i .before .before in
-    let s = n .before in
-    turn-back-k (s .args .plan) _ (n .line-counts .ensures) (s .args .n) (s .pre .1) (other-direction (s .args .plan .direction) (s .pre .0 .directed) (i .if1 .left)) (i2 .if2 .taken)
+    let s = i .before .before in
+    turn-back-k (s .args .plan) _ (s .pre .1) (s .args .n) (s .pre .2) (other-direction (s .args .plan .direction) (s .pre .0 .directed) (i .if1 .left)) (i2 .if2 .taken)
 
 returns-3 : tie.Need-returns-3
 returns-3 c =
     let i3 = c .before .before in
     let i2 = i3 .before .before in
     let i = i2 .before .before in
-    let n = i .before .before in
-    let s = n .before in
-    turn-back-h (s .args .plan) _ (n .line-counts .ensures) (s .args .n) (s .pre .1) (other-direction (s .args .plan .direction) (s .pre .0 .directed) (i .if1 .left)) (omega (arith, i2 .if2 .left)) (i3 .if3 .taken)
+    let s = i .before .before in
+    turn-back-h (s .args .plan) _ (s .pre .1) (s .args .n) (s .pre .2) (other-direction (s .args .plan .direction) (s .pre .0 .directed) (i .if1 .left)) (omega (arith, i2 .if2 .left)) (i3 .if3 .taken)
 
 returns-4 : tie.Need-returns-4
 returns-4 c =
     let i3 = c .before in
     let i = i3 .before .before .before .before in
-    let n = i .before .before in
-    let s = n .before in
-    turn-back-l (s .args .plan) _ (n .line-counts .ensures) (s .args .n) (s .pre .1) (other-direction (s .args .plan .direction) (s .pre .0 .directed) (i .if1 .left)) (omega (arith, i3 .if3 .left))
+    let s = i .before .before in
+    turn-back-l (s .args .plan) _ (s .pre .1) (s .args .n) (s .pre .2) (other-direction (s .args .plan .direction) (s .pre .0 .directed) (i .if1 .left)) (omega (arith, i3 .if3 .left))
 
 pub line-of-turn-spec : {M : Type 1} → statement M
 line-of-turn-spec =
     tie.close
     (tie.spec
-    line-counts-requires
     add-result
     add-result-2
     add-if3

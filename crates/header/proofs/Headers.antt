@@ -7,7 +7,7 @@ use native.Mathlib.Nat.{mul-le-mul}
 use native.Mathlib.Omega.{arith}
 use lib.Dec.{T, leb, ltb, eqb}
 use borrow.Author.Tests.{not-false, eqb-true, leb-true, leb-false, eq-eqb, ne-eqb, lt-ltb, le-ltb}
-use Rattle.algebra.specs.cells.Cell.{planes}
+use Rattle.algebra.specs.cells.Cell.{Group, P1, P2₁, Pm, Pa, P2₁2₁2₁, planes}
 use Rattle.lengths.specs.Lengths.{product, octal, admitted, factorsOk}
 use Rattle.refusals.specs.Refusals.{first, _⇒_}
 use Rattle.refusals.proofs.Tests.{both, stop, pass, none, not-t, Passed, passed}
@@ -16,7 +16,6 @@ use Rattle.lengths.proofs.AdmittedLengths.{admitted-length, factor-list}
 use Rattle.cell.specs.declared.operations.UnitCell.{UnitCell}
 use Rattle.cell.specs.Operations.{cellGroup, cellHalves, Length, Sizes}
 use Rattle.cell.specs.Volume.{volumeLength}
-use Rattle.cell.proofs.StoredFactors.{layers-most}
 use Rattle.header.specs.Header.{Header, headerCell, volumeLimit, needed, axisTests}
 
 -- ---- three tests together
@@ -155,30 +154,42 @@ module _ (h : Header) where
       sound : 0 ≡ first (axisTests h) → axes ≡ true
       sound q = let t = passed (axisTests h) tt q in tests-axes (not-false _ (t .0)) (not-false _ (t .1 .0)) (not-false _ (t .1 .1 .0))
 
--- ---- the volume
+-- ---- the volume, of any lengths that are numbers of two bytes
 
-pub layers-small : {cell : UnitCell} {layers : ℕ} → Sizes cell → layers ≡ planes (cellGroup cell) (cell .n3 / 2) → layers * cell .n1 ≤ 8294400
-layers-small s e = omega (arith, mul-le-mul (bound s e) (s .first .high))
-  where
-    bound : {cell : UnitCell} {layers : ℕ} → Sizes cell → layers ≡ planes (cellGroup cell) (cell .n3 / 2) → layers ≤ 2880
-    bound {cell} s e = omega (arith, e, layers-most (s .third) (cell .group) (s .known), s .third .high)
+-- those of a cell are
+pub short-lengths : {cell : UnitCell} → Sizes cell → (cell .n1 < 65536) × (cell .n2 < 65536) × (cell .n3 < 65536)
+short-lengths s = (omega (arith, s .first .high), omega (arith, s .second .high), omega (arith, s .third .high))
 
-pub volume-small : {cell : UnitCell} {layers : ℕ} → Sizes cell → layers ≡ planes (cellGroup cell) (cell .n3 / 2) → layers * cell .n1 * (cell .n2 / 2 + 1) ≤ 12000000000
-volume-small {cell} s e =
-    let half : cell .n2 / 2 + 1 ≤ 1441 = omega (arith, s .second .high) in
-    omega (arith, mul-le-mul (layers-small s e) half)
+planes-most : (g : Group) (c : ℕ) → planes g c ≤ 2 * c + 1
+unfolding planes
+planes-most P1 c = omega arith
+planes-most P2₁ c = omega arith
+planes-most Pm c = omega arith
+planes-most Pa c = omega arith
+planes-most P2₁2₁2₁ c = omega arith
 
-pub volume-is : {cell : UnitCell} {layers : ℕ} → Sizes cell → layers ≡ planes (cellGroup cell) (cell .n3 / 2) →
-    2 * (layers * cell .n1 * (cell .n2 / 2 + 1)) ≡ volumeLength (cellGroup cell) (cellHalves cell)
-volume-is {cell} s e =
-    let twice : cell .n1 ≡ 2 * (cell .n1 / 2) = omega (arith, s .first .even) in
-    let next : cell .n2 / 2 + 1 ≡ suc (cell .n2 / 2) = omega arith in
-    λ i. 2 * (e i * twice i * next i)
+module _ (cell : UnitCell) {layers : ℕ} (e : layers ≡ planes (cellGroup cell) (cell .n3 / 2)) where
+  pub volume-is : 2 * (layers * (2 * (cell .n1 / 2)) * (cell .n2 / 2 + 1)) ≡ volumeLength (cellGroup cell) (cellHalves cell)
+  volume-is =
+      let next : cell .n2 / 2 + 1 ≡ suc (cell .n2 / 2) = omega arith in
+      λ i. 2 * (e i * (2 * (cell .n1 / 2)) * next i)
 
--- a place of the volume is a number of a machine word, in bytes too
-pub place-small : {cell : UnitCell} (q : ℕ) → Sizes cell → q < volumeLength (cellGroup cell) (cellHalves cell) → q < 24000000000
+  module _ (short : (cell .n1 < 65536) × (cell .n2 < 65536) × (cell .n3 < 65536)) where
+    pub rows-few : layers * (2 * (cell .n1 / 2)) ≤ 4294967296
+    rows-few =
+        let planes : layers ≤ 65536 = omega (arith, e, planes-most (cellGroup cell) (cell .n3 / 2), short .2) in
+        let rows : 2 * (cell .n1 / 2) ≤ 65536 = omega (arith, short .0) in
+        omega (arith, mul-le-mul planes rows)
+
+    pub numbers-few : layers * (2 * (cell .n1 / 2)) * (cell .n2 / 2 + 1) ≤ 140737488355328
+    numbers-few =
+        let columns : cell .n2 / 2 + 1 ≤ 32768 = omega (arith, short .1) in
+        omega (arith, mul-le-mul rows-few columns)
+
+-- a place of a cell's volume is a number of a machine word, in bytes too
+pub place-small : {cell : UnitCell} (q : ℕ) → Sizes cell → q < volumeLength (cellGroup cell) (cellHalves cell) → q < 281474976710656
 place-small {cell} q s l =
-    let e = volume-is {layers = planes (cellGroup cell) (cell .n3 / 2)} s refl in
-    let b = volume-small {layers = planes (cellGroup cell) (cell .n3 / 2)} s refl in
-    let k : q < 2 * (planes (cellGroup cell) (cell .n3 / 2) * cell .n1 * (cell .n2 / 2 + 1)) = subst (λ (m : ℕ). q < m) (sym e) l in
+    let e = volume-is cell {layers = planes (cellGroup cell) (cell .n3 / 2)} refl in
+    let b = numbers-few cell {layers = planes (cellGroup cell) (cell .n3 / 2)} refl (short-lengths s) in
+    let k : q < 2 * (planes (cellGroup cell) (cell .n3 / 2) * (2 * (cell .n1 / 2)) * (cell .n2 / 2 + 1)) = subst (λ (m : ℕ). q < m) (sym e) l in
     omega (arith, k, b)

@@ -7,17 +7,19 @@ ghost use mathlib.Core.Path.{_≡_};
 ghost use mathlib.Core.Bool.{true};
 ghost use Prim.Native.Nat.{_<_};
 ghost use Rattle.refusals.specs.Refusals.{first, checkedNumber};
-ghost use Rattle.cell.specs.Operations.{cellGroup, cellLengths, cellHalves, Sizes};
+ghost use Rattle.cell.specs.Operations.{cellGroup, cellLengths, cellHalves};
 ghost use Rattle.cell.specs.Volume.{volumeLength};
 ghost use Rattle.header.specs.Header.{allAdmitted, allFactors, allProducts, cellHeader, axisTests};
 
-// How many numbers the volume has.
+// How many numbers the volume has, where the lengths are any numbers of two bytes: they may be those of a header that is refused.
 pub fn volume_length(cell: UnitCell) -> u64
-    requires { ⌜ Sizes cell ⌝ }
+    requires { ⌜ (cell .n1 < 65536) × (cell .n2 < 65536) × (cell .n3 < 65536) ⌝ }
     ensures { λ r. ⌜ r ≡ volumeLength (cellGroup cell) (cellHalves cell) ⌝ }
 {
     let layers = places::layer_count(cell) as u64;
-    2 * (layers * (cell.n1 as u64) * ((cell.n2 / 2 + 1) as u64))
+    let rows = (2 * (cell.n1 / 2)) as u64;
+    let columns = (cell.n2 / 2 + 1) as u64;
+    2 * (layers * rows * columns)
 }
 
 // The three lengths are admitted.

@@ -14,7 +14,7 @@ use Rattle.cell.specs.Operations.{cellGroup, cellHalves}
 use Rattle.cell.specs.Volume.{volumeLength}
 use Rattle.header.specs.Header.{cellHeader, volumeLimit, axisTests}
 use Rattle.refusals.proofs.Tests.{stop, pass, none, not-t, not-f, by-true, by-false}
-use Rattle.header.proofs.Headers.{sizes-of}
+use Rattle.header.proofs.Headers.{sizes-of, short-lengths}
 use Rattle.header.proofs.bytes.check_header.Statement.{statement}
 use Rattle.header.proofs.bytes.check_header.Tie as tie
 
@@ -53,7 +53,7 @@ returns-3 c =
     pass 3 _ (not-t _ (admitted (f .before .before))) (pass 4 _ (not-t _ (factors f)) (stop _ (not-f _ (by-false _ _ (c .before .all-products .ensures) (c .if3 .taken)))))
 
 volume-length-requires : tie.Need-volume-length-requires
-volume-length-requires c κs = let t = c .before .before .before .before in sizes-of (t .before .before .before .before .before .pre) (admitted t)
+volume-length-requires c κs = let t = c .before .before .before .before in short-lengths (sizes-of (t .before .before .before .before .before .pre) (admitted t))
 
 returns-4 : tie.Need-returns-4
 returns-4 c = listed (c .before .before) (stop _ (lt-ltb _ _ (subst (λ (n : ℕ). 16777216 < n) (c .before .volume-length .ensures) (c .if4 .taken))))

@@ -1,7 +1,7 @@
 -- The pairs of all layers, twice; the products of lengths fit.
 use borrow.Author.Needs.{needs}
 use native.Mathlib.Omega.{arith}
-use Rattle.header.proofs.Headers.{layers-small, volume-small, volume-is}
+use Rattle.header.proofs.Headers.{volume-is, rows-few, numbers-few}
 use Rattle.header.proofs.bytes.volume_length.Statement.{statement}
 use Rattle.header.proofs.bytes.volume_length.Tie as tie
 
@@ -11,26 +11,29 @@ layer-count-requires c κs = search needs
 cast-layers : tie.Need-cast-layers
 cast-layers c = search needs
 
-cast-result : tie.Need-cast-result
-cast-result c = search needs
+mul-rows : tie.Need-mul-rows
+mul-rows c = search needs
+
+cast-rows : tie.Need-cast-rows
+cast-rows c = search needs
+
+add-columns : tie.Need-add-columns
+add-columns c = search needs
+
+cast-columns : tie.Need-cast-columns
+cast-columns c = search needs
 
 mul-result : tie.Need-mul-result
-mul-result c = omega (arith, layers-small (c .before .before .pre) (c .before .layer-count .ensures))
-
-add-result : tie.Need-add-result
-add-result c = search needs
-
-cast-result-2 : tie.Need-cast-result-2
-cast-result-2 c = search needs
+mul-result c = let s = c .before .before .before in omega (arith, rows-few (s .args .cell) (c .before .before .layer-count .ensures) (s .pre))
 
 mul-result-2 : tie.Need-mul-result-2
-mul-result-2 c = omega (arith, volume-small (c .before .before .before .pre) (c .before .before .layer-count .ensures))
+mul-result-2 c = let s = c .before .before .before in omega (arith, numbers-few (s .args .cell) (c .before .before .layer-count .ensures) (s .pre))
 
 mul-result-3 : tie.Need-mul-result-3
-mul-result-3 c = omega (arith, volume-small (c .before .before .before .pre) (c .before .before .layer-count .ensures))
+mul-result-3 c = let s = c .before .before .before in omega (arith, numbers-few (s .args .cell) (c .before .before .layer-count .ensures) (s .pre))
 
 returns : tie.Need-returns
-returns c = volume-is (c .before .before .before .pre) (c .before .before .layer-count .ensures)
+returns c = volume-is (c .before .before .before .args .cell) (c .before .before .layer-count .ensures)
 
 pub volume-length-spec : {M : Type 1} → statement M
 volume-length-spec =
@@ -38,10 +41,11 @@ volume-length-spec =
     (tie.spec
     layer-count-requires
     cast-layers
-    cast-result
+    mul-rows
+    cast-rows
+    add-columns
+    cast-columns
     mul-result
-    add-result
-    cast-result-2
     mul-result-2
     mul-result-3
     returns)

@@ -4,7 +4,7 @@ use mathlib.Core.Path.{_≡_, _∙_, sym}
 use mathlib.Core.Bool.{Bool, true, false}
 use Rattle.lengths.specs.Lengths.{octalDigits}
 use Rattle.header.specs.Header.{Header, cellHeader}
-use Rattle.header.proofs.Headers.{three, axes, axes-sizes, axes-valid, axes-refused}
+use Rattle.header.proofs.Headers.{three, short-lengths, axes, axes-sizes, axes-valid, axes-refused}
 use Rattle.header.proofs.packed.valid_header.Statement.{statement}
 use Rattle.header.proofs.packed.valid_header.Tie as tie
 
@@ -25,7 +25,7 @@ valid-axis-requires-3 : tie.Need-valid-axis-requires-3
 valid-axis-requires-3 c κs = search needs
 
 volume-length-requires : tie.Need-volume-length-requires
-volume-length-requires c κs = let s = c .before .before .before .before in axes-sizes (header s) (s .pre) (valid c)
+volume-length-requires c κs = let s = c .before .before .before .before in short-lengths (axes-sizes (header s) (s .pre) (valid c))
 
 returns : tie.Need-returns
 returns c = axes-valid (header (c .before .before .before .before .before)) (valid (c .before)) (c .volume-length .ensures)

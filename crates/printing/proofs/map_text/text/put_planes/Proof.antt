@@ -12,7 +12,6 @@ use Rattle.job.specs.Job.{groupIn, halves}
 use Rattle.output.specs.Output.{each, Wrote}
 use Rattle.printing.specs.Text.{rowLine}
 use Rattle.output.proofs.Writing.{each-none, each-ends, each-next, each-done, wrote-length}
-use Rattle.printing.proofs.map_text.Printing.{printable-sizes}
 use Rattle.printing.proofs.map_text.text.put_planes.Statement.{statement}
 use Rattle.printing.proofs.map_text.text.put_planes.Tie as tie
 
@@ -37,7 +36,7 @@ unit-cell-requires : tie.Need-unit-cell-requires Inv-loop μ-loop
 unit-cell-requires c κs = search needs
 
 layer-count-requires : tie.Need-layer-count-requires Inv-loop μ-loop
-layer-count-requires c κs = rw (c .unit-cell .ensures) (printable-sizes (c .before .before .before .pre .0))
+layer-count-requires c κs = search needs
 
 loop-holds : tie.Need-loop-holds Inv-loop μ-loop
 loop-holds c = (omega arith, each-none _ _ _)

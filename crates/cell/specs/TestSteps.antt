@@ -60,6 +60,9 @@ module _ (g : Group) (a : J) where
   abbrev pub emptyIfLeftOut : List ℕ → (h k : ℕ) → Bool
   emptyIfLeftOut v h k = imply (ltb 0 (firstPair (lineKind g h))) (emptyEnds v h k)
 
+  abbrev pub leftOutEmpty : List ℕ → Bool
+  leftOutEmpty v = below (rows g a) (λ h. below (columns g a) (λ k. emptyIfLeftOut v h k))
+
   -- a row of a map: its points, then its two zeros
   abbrev pub pointsAgree : List ℕ → (z x : ℕ) → Bool
   pointsAgree v z x = below (2 * a .1) (λ y. pointAgrees g a v (x, y, z))

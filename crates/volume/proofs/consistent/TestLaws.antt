@@ -22,7 +22,7 @@ use Rattle.cell.specs.Consistency.{sameValue, implied, pairIsZero, zeroEnds, po
 use Rattle.cell.specs.declared.operations.Index.{Index}
 use Rattle.cell.specs.declared.operations.UnitCell.{UnitCell}
 use Rattle.cell.specs.Operations.{cellGroup, cellHalves, tripleOf, Sizes, Within}
-use Rattle.cell.specs.TestSteps.{IsStored, samePair, isZero, imageAgrees, pointImageAgrees, emptyEnds, emptyIfLeftOut, rowAgrees}
+use Rattle.cell.specs.TestSteps.{IsStored, samePair, isZero, imageAgrees, pointImageAgrees, emptyEnds, emptyIfLeftOut, leftOutEmpty, rowAgrees}
 use Rattle.cell.proofs.Tests.{true-iff}
 use Rattle.cell.proofs.LineKinds.{ends-left-out, odd-antisymmetric}
 use Rattle.cell.proofs.PlaceLaws.{odd-is}
@@ -103,7 +103,7 @@ module _ (g : Group) (a : J) (m : ℕ) (v : List ℕ) where
   abbrev pub endsTest : Bool
   endsTest = everyPlace (rows g a) (columns g a) 1 (λ j. zeroEnds g a m v (j .0) (j .1))
 
-  pub ends-tested : {r : Bool} → r ≡ below (rows g a) (λ h. below (columns g a) (λ k. emptyIfLeftOut g a v h k)) → r ≡ endsTest
+  pub ends-tested : {r : Bool} → r ≡ leftOutEmpty g a v → r ≡ endsTest
   unfolding everyPlace pairIsZero at
   ends-tested f = f ∙ below-cong (rows g a) _ _ (λ h lh. below-cong (columns g a) _ _ (λ k lk. sym (below-one (λ l. zeroEnds g a m v h k))))
 

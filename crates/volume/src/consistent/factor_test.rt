@@ -18,7 +18,7 @@ ghost use Rattle.slices.specs.Pairs.{Below};
 ghost use Rattle.cell.specs.Volume.{lineKind};
 ghost use Rattle.cell.specs.Consistency.{lineAgrees, consistentFactors};
 ghost use Rattle.cell.specs.Operations.{cellGroup, cellHalves, tripleOf, symOf};
-ghost use Rattle.cell.specs.TestSteps.{IsVolume, IsStored, imageAgrees, lineRowAgrees, rowEndsAgree, InnerAgree, linesAgree, emptyEnds, emptyIfLeftOut};
+ghost use Rattle.cell.specs.TestSteps.{IsVolume, IsStored, imageAgrees, lineRowAgrees, rowEndsAgree, InnerAgree, linesAgree, emptyEnds, leftOutEmpty};
 
 // The volume is the packed factors of some cell that obeys group and Friedel.
 pub fn consistent_factors(m: u32, cell: UnitCell, volume: &[u32]) -> bool
@@ -26,6 +26,7 @@ pub fn consistent_factors(m: u32, cell: UnitCell, volume: &[u32]) -> bool
     ensures { λ r. ⌜ r ≡ consistentFactors (cellGroup cell) (cellHalves cell) m (now (volume .entry)) ⌝ }
 {
     if factors_agree(m, cell, volume) {
+        // a group has antisymmetric lines at h = 1 or nowhere
         if places::line_kind(cell.group, 1) == 5 {
             odd_rows_empty(cell, volume)
         } else {
@@ -198,7 +199,7 @@ fn empty_row(cell: UnitCell, volume: &[u32], h: u32) -> bool
 // The same for every line that leaves the pairs 0 and A out: the group with such lines, Pa, has them at every odd h and at no even one.
 fn odd_rows_empty(cell: UnitCell, volume: &[u32]) -> bool
     requires { ⌜ IsVolume cell (now volume) × (lineKind (cellGroup cell) 1 ≡ antisymmetric) ⌝ }
-    ensures { λ r. ⌜ r ≡ below (2 * (cell .n1 / 2)) (λ h. below (suc (cell .n2 / 2)) (λ k. emptyIfLeftOut (cellGroup cell) (cellHalves cell) (now (volume .entry)) h k)) ⌝ }
+    ensures { λ r. ⌜ r ≡ leftOutEmpty (cellGroup cell) (cellHalves cell) (now (volume .entry)) ⌝ }
 {
     let mut h = 1;
     while h < cell.n1 {

@@ -6,14 +6,15 @@ use native.Mathlib.Omega.{arith}
 use Rattle.algebra.specs.ring.Ring.{Ops}
 use Rattle.numbers.specs.declared.Pair.{Pair}
 use Rattle.numbers.specs.Value.{field, i, valueOf, pairOf}
-use Rattle.slices.specs.Pairs.{at, Filling, valuesOf}
+use Rattle.slices.specs.Pairs.{at, valuesOf}
+use Rattle.slices.specs.Filling.{FillingPairs}
 use Rattle.slices.proofs.Bounds.{small-of}
 use Rattle.slices.proofs.Filling.{filling-start, filling-next, filling-ahead, filling-whole}
 use Rattle.plain.proofs.scale.times_i.Statement.{statement}
 use Rattle.plain.proofs.scale.times_i.Tie as tie
 
 abbrev Inv-loop : tie.InvT-loop
-Inv-loop m n line₀ j₀ line j = Filling (λ k. k) (λ t. pairOf (field m .mul (i m) (valuesOf m line₀ t))) n j line₀ line
+Inv-loop m n line₀ j₀ line j = FillingPairs (λ k. k) (λ t. pairOf (field m .mul (i m) (valuesOf m line₀ t))) n j line₀ line
 
 abbrev μ-loop : tie.MeasureT-loop
 μ-loop m n line₀ j₀ line j = n - j

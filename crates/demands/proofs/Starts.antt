@@ -7,9 +7,10 @@ use native.Mathlib.Omega.{arith}
 use lib.ListN.{length, replicate}
 use Rattle.refusals.specs.Refusals.{first, accepted}
 use Rattle.job.specs.declared.Job.{Job}
-use Rattle.job.specs.Job.{Header, openTests, Opening, opened, notOpened, OpenOutcome, done, density, factor, refused, Outcome}
+use Rattle.job.specs.Job.{Header, openTests, Opening, opened, notOpened, OpenOutcome, done, refused}
 use Rattle.file_format.specs.declared.FileRecord.{FileRecord}
-use Rattle.factor_file.specs.Reading.{headerIn, recordsIn, shapeTests, feed, fileStep}
+use Rattle.factor_file.specs.Reading.{headerIn, recordsIn, shapeTests, indexOf, feed, fileStep}
+use Rattle.factor_file.proofs.Feeding.{said-number, record-number, keeps-job}
 use Rattle.model.specs.Model.{Model, Call, modelTests, modelNext, modelSaid, modelAfter, modelJob, modelVolume, zeroModel, beginningTests, Beginning, begun, notBegun, openingModel, modelOpen, recordingOf, modelFeed, modelFile}
 use Rattle.demands.specs.Calls.{Start, opening, reading, start, modelStart, startHeader, startKind, startVolume, run, modelRan}
 use Rattle.demands.specs.Demands.{Started, EveryList, RefusedStarts, TripleSums, ImagesAlike, OccupiedExactly}
@@ -25,28 +26,32 @@ abbrev Agrees : OpenOutcome → Beginning → Type 0
 Agrees o (begun m) = (o ≡ given m) × LawfulModel m
 Agrees o (notBegun n place) = o .answer ≡ notOpened n place
 
--- what becomes of a file once it is opened, and of its records once one is fed
+-- what becomes of a file once it is opened
 abbrev afterOpening : List FileRecord → OpenOutcome → OpenOutcome
 afterOpening cs o = elim (o .answer) [ opened j ↦ feed cs 0 j (o .volume) | notOpened n place ↦ o ]
-
-abbrev afterRecord : List FileRecord → (place : ℕ) → Job → List ℕ → Outcome → OpenOutcome
-afterRecord cs place j v o = elim (o .answer) [ done ↦ feed cs (suc place) (o .job) (o .volume) | refused n ↦ record { answer = notOpened n place; volume = replicate (length v) 0 } | density n ↦ record { answer = opened j; volume = v } | factor x y ↦ record { answer = opened j; volume = v } ]
 
 feed-agrees : (cs : List FileRecord) (place : ℕ) (m : Model) → LawfulModel m → Agrees (feed cs place (modelJob m) (modelVolume m)) (modelFeed cs place m)
 unfolding feed modelFeed modelSaid modelAfter
 feed-agrees [] place m s = (refl, s)
 feed-agrees (c ∷ cs) place m s =
+    let k = first (modelTests m (recordingOf c)) in
     let o = one-call m s (recordingOf c) in
-    subst (λ o. Agrees (afterRecord cs place (modelJob m) (modelVolume m) o) (accepted (first (modelTests m (recordingOf c))) (modelFeed cs (suc place) (modelNext m (recordingOf c))) (λ n. notBegun n place))) (sym (o .0))
-    (by (first (modelTests m (recordingOf c))) (o .1) (feed-agrees cs (suc place) (modelNext m (recordingOf c))))
+    let number = sym (record-number (modelJob m) (indexOf c) (c .a) (c .b) (modelVolume m)) ∙ ap (λ o. said-number (o .answer)) (o .0) ∙ accepted-number k in
+    let job = sym (keeps-job (modelJob m) (indexOf c) (c .a) (c .b) (modelVolume m)) ∙ ap (λ o. o .job) (o .0) in
+    by _ k _ number job (ap (λ o. o .volume) (o .0)) (o .1) (feed-agrees cs (suc place) (modelNext m (recordingOf c)))
   where
     next : Model
     next = modelNext m (recordingOf c)
 
-    by : (n : ℕ) → LawfulModel (accepted n next (λ n. m)) → (LawfulModel next → Agrees (feed cs (suc place) (modelJob next) (modelVolume next)) (modelFeed cs (suc place) next)) →
-        Agrees (afterRecord cs place (modelJob m) (modelVolume m) (record { answer = accepted n done refused; job = modelJob (accepted n next (λ n. m)); volume = modelVolume (accepted n next (λ n. m)) })) (accepted n (modelFeed cs (suc place) next) (λ n. notBegun n place))
-    by zero s f = f s
-    by (suc n) s f = refl
+    accepted-number : (k : ℕ) → said-number (accepted k done refused) ≡ k
+    accepted-number zero = refl
+    accepted-number (suc k) = refl
+
+    by : (n k : ℕ) (w : List ℕ) → n ≡ k → modelJob m ≡ modelJob (accepted k next (λ n. m)) → w ≡ modelVolume (accepted k next (λ n. m)) → LawfulModel (accepted k next (λ n. m)) →
+        (LawfulModel next → Agrees (feed cs (suc place) (modelJob next) (modelVolume next)) (modelFeed cs (suc place) next)) →
+        Agrees (accepted n (feed cs (suc place) (modelJob m) w) (λ n. record { answer = notOpened n place; volume = replicate (length (modelVolume m)) 0 })) (accepted k (modelFeed cs (suc place) next) (λ n. notBegun n place))
+    by n zero w e ej ev s f = rw (e, ej, ev) (f s)
+    by n (suc k) w e ej ev s f = rw e refl
 
 feed-gives : (cs : List FileRecord) (place : ℕ) (m m′ : Model) → LawfulModel m → modelFeed cs place m ≡ begun m′ → feed cs place (modelJob m) (modelVolume m) ≡ given m′
 feed-gives cs place m m′ s e = let a : Agrees _ (begun m′) = subst (Agrees _) e (feed-agrees cs place m s) in a .0

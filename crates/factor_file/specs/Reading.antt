@@ -4,7 +4,7 @@ use Prim.Native.Nat.{ℕ, suc}
 use lib.ListN.{length, replicate}
 use Rattle.job.specs.declared.Job.{Job}
 use Rattle.job.specs.declared.Reflection.{Reflection}
-use Rattle.job.specs.Job.{Opening, opened, notOpened, OpenOutcome, Said, done, density, factor, refused, Outcome, recordStep, openStep}
+use Rattle.job.specs.Job.{Opening, opened, notOpened, OpenOutcome, index, recordTests, recordStep, openStep}
 use Rattle.file_format.specs.declared.FileRecord.{FileRecord}
 unfoldable pub use Rattle.file_format.specs.Format.{twoBytes, fourBytes, listAt, list2At, list3At, countAt, recordAt, recordsFrom}
 pub use Rattle.file_format.specs.Format.{byteAt, afterList, list1At, recordCount, recordsIn, shapeTests, headerIn}
@@ -15,12 +15,14 @@ use Rattle.factor_file.specs.declared.FileAnswer.the-variants.{Opened, R
 abbrev pub indexOf : FileRecord → Reflection
 indexOf c = record { 0 = c .h; 1 = c .k; 2 = c .l }
 
--- One record after another, from place `place` of the file's records. A refused record gives its place, no job, and leaves the volume zero. A record answers done or refused, never a value.
+-- One record after another, from place `place` of the file's records: each is tested and recorded as by the call, which leaves the job as it is. A refused record gives
+-- its place, no job, and leaves the volume zero.
 unfoldable pub feed : List FileRecord → (place : ℕ) → Job → List ℕ → OpenOutcome
 feed [] place j v = record { answer = opened j; volume = v }
 feed (c ∷ cs) place j v =
-    let o = recordStep j (indexOf c) (c .a) (c .b) v in
-    elim (o .answer) [ done ↦ feed cs (suc place) (o .job) (o .volume) | refused n ↦ record { answer = notOpened n place; volume = replicate (length v) 0 } | density n ↦ record { answer = opened j; volume = v } | factor x y ↦ record { answer = opened j; volume = v } ]
+    accepted (first (recordTests j (index (indexOf c)) (c .a) (c .b) v))
+    (feed cs (suc place) j (recordStep j (indexOf c) (c .a) (c .b) v .volume))
+    (λ n. record { answer = notOpened n place; volume = replicate (length v) 0 })
 
 -- ---- the opening of a file
 

@@ -12,9 +12,9 @@ unfoldable pub digitsOf : (count n : ℕ) → List ℕ
 digitsOf zero n = []
 digitsOf (suc c) n = cond (ltb n 10) ((48 + n) ∷ []) (digitsOf c (n / 10) ++ (48 + n % 10) ∷ [])
 
--- a number of 32 bits has at most ten
+-- a number of 64 bits has at most twenty
 abbrev pub decimal : ℕ → List ℕ
-decimal n = digitsOf 10 n
+decimal n = digitsOf 20 n
 
 -- n big-endian bytes of a number
 unfoldable pub bigEndian : (n x : ℕ) → List ℕ

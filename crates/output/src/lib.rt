@@ -31,16 +31,24 @@ pub fn put_bytes(out: &mut [u8], at: usize, text: &[u8]) -> usize
 }
 
 // A number in decimal: the digits before the last one, and the last.
-pub fn put_decimal(out: &mut [u8], at: usize, n: u32) -> usize
+pub fn put_number(out: &mut [u8], at: usize, n: u64) -> usize
     requires { ⌜ Ends at (decimal n) ⌝ }
     ensures { λ r. ⌜ Wrote at (decimal n) (now (out .entry)) r (now (out .exit)) ⌝ }
 {
     if n < 10 {
         put_byte(out, at, 48 + n as u8)
     } else {
-        let last = put_decimal(out, at, n / 10);
+        let last = put_number(out, at, n / 10);
         put_byte(out, last, 48 + (n % 10) as u8)
     }
+}
+
+// The same of a number of 32 bits.
+pub fn put_decimal(out: &mut [u8], at: usize, n: u32) -> usize
+    requires { ⌜ Ends at (decimal n) ⌝ }
+    ensures { λ r. ⌜ Wrote at (decimal n) (now (out .entry)) r (now (out .exit)) ⌝ }
+{
+    put_number(out, at, n as u64)
 }
 
 // A blank and a number.

@@ -1,4 +1,4 @@
--- Every text that is printed is short. That of a refusal is; that of a map has at most eleven bytes for each number of its volume, beside its first line.
+-- Every text that is printed is short. That of a refusal is; that of a map has at most 21 bytes for each number of its volume, beside its first line.
 use mathlib.Core.Path.{_≡_, refl, sym}
 use mathlib.Core.Bool.{Bool, true, false, cond}
 use mathlib.Core.List.{List}
@@ -22,9 +22,9 @@ use Rattle.printing.specs.Printed.{fileLimit, lentLimit, synthesisText, 
 use Rattle.printing.specs.Fits.{AlwaysFits}
 use Rattle.printing.proofs.Synthesised.{synthesised-held}
 
--- 48 bytes, and 11 for each of 2,048 numbers
+-- 88 bytes, and 21 for each of 2,048 numbers
 abbrev Short : List ℕ → Type 0
-Short text = length text ≤ 22576
+Short text = length text ≤ 43096
 
 short-refusal : (n place : ℕ) → Short (refusalText n place)
 short-refusal n place = omega (arith, refusal-short n place)

@@ -7,7 +7,7 @@ use Rattle.printing.specs.Text.{refusalText}
 use Rattle.output.specs.Output.{Ends}
 use Rattle.output.proofs.Decimals.{decimal-short}
 
-pub refusal-short : (n place : ℕ) → length (refusalText n place) ≤ 33
+pub refusal-short : (n place : ℕ) → length (refusalText n place) ≤ 53
 unfolding refusalText
 refusal-short n place = simp length-append (omega (arith, decimal-short n, decimal-short place))
 

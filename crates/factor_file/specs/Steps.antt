@@ -16,8 +16,7 @@ use Rattle.cell.specs.Volume.{groupOf, factorsIn}
 use Rattle.cell.specs.declared.operations.Index.{Index}
 use Rattle.cell.specs.Operations.{halvesOf, tripleOf}
 use Rattle.cell.specs.TestSteps.{IsVolume}
-use Rattle.output.specs.Output.{bigEndian}
-use Rattle.file_format.specs.Format.{fileOf, headerWith}
+use Rattle.file_format.specs.Format.{rawBytes, fileOf, headerWith}
 
 -- 17, 18: there is a record, and the file fits
 abbrev pub fileTests : (count size room : ℕ) → List Test
@@ -53,7 +52,7 @@ pub record Next (n1 n2 n3 : ℕ) (j r : Index) : Type 0 where
 
 -- the bytes of a record by its numbers
 abbrev pub pairBytes : J → Pair → List ℕ
-pairBytes j x = bigEndian 2 (j .0) ++ bigEndian 2 (j .1) ++ bigEndian 2 (j .2) ++ bigEndian 4 (x .re) ++ bigEndian 4 (x .im)
+pairBytes j x = rawBytes (record { h = j .0; k = j .1; l = j .2; a = x .re; b = x .im })
 
 abbrev pub recordsWith : (group n1 n2 n3 : ℕ) → List ℕ → List (J × Value 1)
 recordsWith group n1 n2 n3 v = recordsAt (groupOf group) (halvesOf n1 n2 n3) v (placesOf (halvesOf n1 n2 n3))

@@ -97,9 +97,13 @@ headerIn file = record {
 abbrev pub listBytes : List ℕ → List ℕ
 listBytes l = length l ∷ l
 
+-- a record by its numbers, whatever they are
+abbrev pub rawBytes : FileRecord → List ℕ
+rawBytes c = bigEndian 2 (c .h) ++ bigEndian 2 (c .k) ++ bigEndian 2 (c .l) ++ bigEndian 4 (c .a) ++ bigEndian 4 (c .b)
+
 -- a record: an index and a value
 unfoldable pub recordBytes : J × Value 1 → List ℕ
-recordBytes c = bigEndian 2 (c .0 .0) ++ bigEndian 2 (c .0 .1) ++ bigEndian 2 (c .0 .2) ++ bigEndian 4 (c .1 .0 .val) ++ bigEndian 4 (c .1 .1 .val)
+recordBytes c = rawBytes (record { h = c .0 .0; k = c .0 .1; l = c .0 .2; a = c .1 .0 .val; b = c .1 .1 .val })
 
 unfoldable pub allBytes : List (J × Value 1) → List ℕ
 allBytes [] = []

@@ -1,8 +1,8 @@
 // The records of a volume of packed factors, counted and written: one for each orbit whose factor is not zero, at its lowest
 // place, by rising h, k, l. Counting and writing each go over the places up to h = N1/2: beyond, the Friedel mate comes before.
 use cell::operations::Index;
+use file_format::FileRecord;
 use numbers::Pair;
-use output::big_endian;
 ghost use mathlib.Core.Path.{_≡_};
 ghost use mathlib.Core.List.{[], _∷_};
 ghost use Prim.Native.Nat.{ℕ, _<_};
@@ -35,11 +35,14 @@ fn put_record(j: Index, x: Pair, out: &mut [u8], at: usize) -> usize
     requires { ⌜ (j .h < 65536) × (j .k < 65536) × (j .l < 65536) × Ends at (pairBytes (tripleOf j) x) ⌝ }
     ensures { λ r. ⌜ Wrote at (pairBytes (tripleOf j) x) (now (out .entry)) r (now (out .exit)) ⌝ }
 {
-    let k = big_endian::put_two(out, at, j.h);
-    let l = big_endian::put_two(out, k, j.k);
-    let a = big_endian::put_two(out, l, j.l);
-    let b = big_endian::put_four(out, a, x.re);
-    big_endian::put_four(out, b, x.im)
+    let c = FileRecord {
+        h: j.h,
+        k: j.k,
+        l: j.l,
+        a: x.re,
+        b: x.im,
+    };
+    file_format::layout::put_record(c, out, at)
 }
 
 // The record of the place j, where it has one.

@@ -3,8 +3,8 @@ use borrow.Author.Needs.{needs}
 use native.Mathlib.Omega.{arith}
 use Rattle.output.specs.Output.{bigEndian}
 use Rattle.output.proofs.Writing.{wrote-append}
-use Rattle.factor_file.proofs.file.records.put_record.Statement.{statement}
-use Rattle.factor_file.proofs.file.records.put_record.Tie as tie
+use Rattle.file_format.proofs.layout.put_record.Statement.{statement}
+use Rattle.file_format.proofs.layout.put_record.Tie as tie
 
 put-two-requires : tie.Need-put-two-requires
 unfolding bigEndian

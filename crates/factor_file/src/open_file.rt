@@ -13,6 +13,7 @@ fn open_header(file: &[u8], volume: &mut [u32]) -> OpenAnswer
     requires { ⌜ 0 ≡ first (shapeTests (now file)) ⌝ }
     ensures { λ r. ⌜ openOutcome r (now (volume .exit)) ≡ openStep (headerIn (now (file .entry))) 0 (now (volume .entry)) ⌝ }
 {
+    let header = file_format::places::header_numbers(file);
     let places = file_format::places::places_of(file);
     let end1 = places.list2;
     let start2 = end1 + 1;
@@ -20,12 +21,12 @@ fn open_header(file: &[u8], volume: &mut [u32]) -> OpenAnswer
     let start3 = end2 + 1;
     let end3 = places.count;
     job::open::open(
-        file_format::integers::wide(file[5]),
+        header.group,
         0,
-        file_format::integers::two_bytes(file, 6),
-        file_format::integers::two_bytes(file, 8),
-        file_format::integers::two_bytes(file, 10),
-        &file[13..end1],
+        header.n1,
+        header.n2,
+        header.n3,
+        &file[file_format::places::FACTOR1..end1],
         &file[start2..end2],
         &file[start3..end3],
         volume,

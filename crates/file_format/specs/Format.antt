@@ -24,7 +24,22 @@ twoBytes file q = byteAt file q * 256 + byteAt file (q + 1)
 unfoldable pub fourBytes : List ℕ → ℕ → ℕ
 fourBytes file q = twoBytes file q * 65536 + twoBytes file (q + 2)
 
--- ---- where its parts stand: three factor lists behind the lengths, the record count behind them, and the records behind that
+-- ---- where its parts stand: the numbers of the header, three factor lists behind them, the record count behind these, and the records behind that
+
+abbrev pub versionAt : ℕ
+versionAt = 4
+
+abbrev pub groupAt : ℕ
+groupAt = 5
+
+abbrev pub length1At : ℕ
+length1At = 6
+
+abbrev pub length2At : ℕ
+length2At = 8
+
+abbrev pub length3At : ℕ
+length3At = 10
 
 -- the list whose count byte stands at q, and the place after it
 unfoldable pub listAt : List ℕ → ℕ → List ℕ
@@ -79,14 +94,14 @@ fillingTests file =
 
 -- 15 for the count, 16, 15 for the rest, 17
 abbrev pub shapeTests : List ℕ → List Test
-shapeTests file = miscounted file ⇒ 15 ∷ not (eqb (byteAt file 4) 1) ⇒ 16 ∷ fillingTests file
+shapeTests file = miscounted file ⇒ 15 ∷ not (eqb (byteAt file versionAt) 1) ⇒ 16 ∷ fillingTests file
 
 -- ---- the header that it holds
 
 abbrev pub headerIn : List ℕ → Header
 headerIn file = record {
-  group = byteAt file 5;
-  lengths = (twoBytes file 6, twoBytes file 8, twoBytes file 10);
+  group = byteAt file groupAt;
+  lengths = (twoBytes file length1At, twoBytes file length2At, twoBytes file length3At);
   list1 = listAt file list1At;
   list2 = listAt file (list2At file);
   list3 = listAt file (list3At file);

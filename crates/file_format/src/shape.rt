@@ -42,7 +42,7 @@ pub fn check_shape(file: &[u8]) -> Checked
     if is_miscounted(file) {
         return Checked::Failed(Refusal::FileShape);
     }
-    if file[4] != 1 {
+    if file[crate::places::VERSION] != 1 {
         return Checked::Failed(Refusal::FileVersion);
     }
     check_filling(file)

@@ -8,7 +8,7 @@ ghost use Rattle.algebra.specs.cells.Cell.{planes};
 ghost use Rattle.cell.specs.Operations.{halvesOf};
 ghost use Rattle.cell.specs.Volume.{groupOf, volumeLength};
 ghost use Rattle.header.specs.Header.{needed};
-ghost use Rattle.file_format.specs.Format.{twoBytes, headerIn};
+ghost use Rattle.file_format.specs.Format.{headerIn};
 ghost use Rattle.printing.specs.Printed.{fileLimit, lentLimit};
 
 // Whether a file is longer than the printer reads.
@@ -16,14 +16,6 @@ pub fn too_long(file: &[u8]) -> bool
     ensures { λ r. ⌜ r ≡ ltb fileLimit (length (now (file .entry))) ⌝ }
 {
     8192 < file.len()
-}
-
-// The number of the two bytes from place q on, whether the file has them or not.
-fn two_bytes(file: &[u8], q: usize) -> u32
-    requires { ⌜ q < 256 ⌝ }
-    ensures { λ r. ⌜ (r ≡ twoBytes (now (file .entry)) q) × (r < 65536) ⌝ }
-{
-    file_format::integers::byte_at(file, q) * 256 + file_format::integers::byte_at(file, q + 1)
 }
 
 // How many planes of the map a group stores; a number that no group has reads as P1.
@@ -59,12 +51,8 @@ fn volume_length(group: u32, n1: u32, n2: u32, n3: u32) -> u64
 pub fn lent_to(file: &[u8]) -> usize
     ensures { λ r. ⌜ r ≡ min (needed (headerIn (now (file .entry)))) lentLimit ⌝ }
 {
-    let length = volume_length(
-        file_format::integers::byte_at(file, 5),
-        two_bytes(file, 6),
-        two_bytes(file, 8),
-        two_bytes(file, 10),
-    );
+    let header = file_format::places::header_numbers(file);
+    let length = volume_length(header.group, header.n1, header.n2, header.n3);
     if 2048 < length {
         return 2048;
     }

@@ -2,9 +2,9 @@
 use borrow.Author.Needs.{needs}
 use native.Mathlib.Omega.{arith}
 use Prim.Native.Nat.{_+_, _*_}
 use Rattle.file_format.specs.Format.{twoBytes}
-use Rattle.printing.proofs.limits.two_bytes.Statement.{statement}
-use Rattle.printing.proofs.limits.two_bytes.Tie as tie
+use Rattle.file_format.proofs.integers.two_at.Statement.{statement}
+use Rattle.file_format.proofs.integers.two_at.Tie as tie
 
 byte-at-requires : tie.Need-byte-at-requires
 byte-at-requires c κs = search needs
@@ -28,7 +28,7 @@ returns c =
     let low = c .byte-at2 .ensures .0 in
     (λ i. high i * 256 + low i, omega arith)
 
-pub two-bytes-spec : {M : Type 1} → statement M
-two-bytes-spec =
+pub two-at-spec : {M : Type 1} → statement M
+two-at-spec =
     tie.close
     (tie.spec byte-at-requires mul-result add-byte-at byte-at-requires-2 add-result returns)

@@ -64,7 +64,7 @@ module _ (m : ℕ) where
   times-zero false = refl
   times-zero true = mul-zero (field-ring m) _
 
-  over-none : (b : Bool) → overI m b (field m .zer) ≡ field m .zer
+  pub over-none : (b : Bool) → overI m b (field m .zer) ≡ field m .zer
   over-none false = refl
   over-none true = mul-zero (field-ring m) _
 

@@ -3,11 +3,11 @@
 use mathlib.Core.Path.{_≡_, refl, sym, _∙_, ap}
 use mathlib.Core.Logic.{_⊎_, inl, inr, ⊎-elim}
 use mathlib.Core.Bool.{Bool, true, false, _&&_, not, cond}
-use mathlib.Core.List.{List, [], _∷_, _++_}
+use mathlib.Core.List.{List}
 use Prim.Native.Nat.{ℕ, zero, suc, _<_}
 use native.Mathlib.Omega.{arith}
 use lib.ListN.{length, replicate, length-replicate}
-use lib.Dec.{T, leb, eqb}
+use lib.Dec.{eqb}
 use borrow.Author.Tests.{not-false, leb-false, eqb-true, eq-eqb, ne-eqb}
 use Rattle.algebra.specs.ring.Gauss.{gauss}
 use Rattle.algebra.specs.ring.Residue.{residues}
@@ -26,8 +26,8 @@ use Rattle.numbers.proofs.Values.{value-path, field-ring, field-star}
 use Rattle.slices.specs.Pairs.{Below, allBelow}
 use Rattle.slices.proofs.Bounds.{below-replicate, below-allBelow}
 use Rattle.slices.proofs.Segments.{at-zeros}
-use Rattle.refusals.specs.Refusals.{Test, first, accepted}
-use Rattle.refusals.proofs.Tests.{and-left, and-right, both, Passed, passed}
+use Rattle.refusals.specs.Refusals.{first, accepted}
+use Rattle.refusals.proofs.Tests.{both, Passed, passed}
 use Rattle.cell.specs.Volume.{groupOf, volumeLength, packFactors}
 use Rattle.cell.specs.Consistency.{consistentMap}
 use Rattle.cell.proofs.VolumeLayout.{place-inside}
@@ -40,23 +40,7 @@ use Rattle.job.proofs.Jobs.{opened-valid}
 use Rattle.model.specs.Model.{Model, modelJob, modelVolume, zeroModel, mapModel, openingModel, beginningTests}
 use Rattle.model.proofs.Sound.{LawfulModel}
 use Rattle.line.proofs.kinds.Axes.{axis-laws}
-
--- ---- tests after tests
-
--- no test has the number 0, which stands for none
-abbrev numbered : List Test → Bool
-numbered [] = true
-numbered (t ∷ ts) = leb 1 (t .number) && numbered ts
-
-first-append : (ts us : List Test) → T (numbered ts) → first (ts ++ us) ≡ accepted (first ts) (first us) (λ n. n)
-unfolding first
-first-append [] us h = refl
-first-append (t ∷ ts) us h = one (t .fails) (t .number) (and-left (leb 1 (t .number)) (numbered ts) h) (first-append ts us (and-right (leb 1 (t .number)) (numbered ts) h))
-  where
-    one : (b : Bool) (n : ℕ) → T (leb 1 n) → first (ts ++ us) ≡ accepted (first ts) (first us) (λ n. n) → cond b n (first (ts ++ us)) ≡ accepted (cond b n (first ts)) (first us) (λ n. n)
-    one true zero h e = absurd h
-    one true (suc n) h e = refl
-    one false n h e = e
+use Rattle.demands.proofs.TestOrder.{first-append}
 
 -- ---- the cell that is zero everywhere
 

@@ -2,7 +2,7 @@
 -- Each statement is the promise of the function of the same name in src/lib.rt; Started, allRecords, entry, Alike, Reordered and Reachable are what they
 -- speak of.
 use mathlib.Core.Path.{_≡_}
-use mathlib.Core.Logic.{_↔_}
+use mathlib.Core.Logic.{_↔_, _⊎_}
 use mathlib.Core.Bool.{true}
 use mathlib.Core.List.{List, [], _∷_, _++_, map}
 use Prim.Native.Nat.{ℕ, _+_, _≤_}
@@ -12,16 +12,17 @@ use Rattle.algebra.specs.cells.Cell.{J, Inside, Sym, ops, full, pointImage, at,
 use Rattle.algebra.specs.orbits.Orbit.{Mem, Perm, recordAll}
 use Rattle.numbers.specs.Value.{Value, field, conj, value}
 use Rattle.lengths.specs.Lengths.{scratchLength}
-use Rattle.cell.specs.Volume.{factorsIn, mapOf}
+use Rattle.cell.specs.Volume.{groupOf, factorsIn, mapOf}
+use Rattle.cell.specs.Consistency.{FactorsConsistent, MapConsistent}
 use Rattle.job.specs.declared.Job.{Job}
 use Rattle.job.specs.declared.Reflection.{Reflection}
 use Rattle.job.specs.declared.GridPoint.{GridPoint}
-use Rattle.job.specs.Job.{mapHeld, factorsHeld, withState, headerOf, validJob, groupIn, halves, collecting, within, index, position, Opening, opened, notOpened, OpenOutcome, Said, done, density, refused, Outcome, Worked, recordStep, synthesisStep, analysisStep, pointStep}
+use Rattle.job.specs.Job.{Header, halfLengths, mapHeld, factorsHeld, withState, headerOf, validJob, groupIn, halves, collecting, within, index, position, Opening, opened, notOpened, OpenOutcome, openStep, Said, done, density, refused, Outcome, Worked, recordStep, synthesisStep, analysisStep, pointStep}
 use Rattle.file_format.specs.declared.FileRecord.{FileRecord}
 use Rattle.factor_file.specs.Reading.{indexOf, countAt, recordsIn, fileStep}
 use Rattle.model.specs.Model.{Model, group, half, factorOf, densityOf, Call, modelVolume, modelJob, factorVolume, mapVolume, Beginning, begun, notBegun}
 use Rattle.demands.specs.Calls.{Start, start, modelStart, startHeader, startKind, startVolume, startRecords, firstModel, step, Ran, run, modelRan, modelEnd, acceptedRecords}
-use Rattle.factor_file.specs.Writing.{written, writeStep}
+use Rattle.factor_file.specs.Writing.{written, notWritten, writeStep}
 
 -- A start that is accepted, with the job and the volume that it gives, and the model that it begins.
 pub record Started (s : Start) (j : Job) (v : List ℕ) (m : Model) : Type 0 where
@@ -107,6 +108,18 @@ pub record OccupiedExactly : Type 0 where
   pub exactly : (s : Start) (j : Job) (v : List ℕ) (m : Model) → Started s j v m → (l : List Call) (k : Reflection) (x y : ℕ) →
       let a = recordStep (run j v l .job) k x y (run j v l .volume) .answer in
       ((n : ℕ) → a ≡ refused n → n ≡ 24) → ((a ≡ refused 24) ↔ (factorOf (modelEnd m l) (index k) ≡ value 1 0 0 → ⊥))
+
+-- Refusal 14 exactly if no whole cell that obeys group and Friedel has these packed factors, or none that obeys the group has this map with its zeros:
+-- of a call that no test before it refuses, whatever job, volume and scratch it is lent. In the writer 17 and 18 come after it.
+pub record InconsistentExactly : Type 0 where
+  pub opening : (h : Header) (v : List ℕ) → let a = openStep h 1 v .answer in
+      ((n place : ℕ) → a ≡ notOpened n place → n ≡ 14) → ((a ≡ notOpened 14 0) ↔ (MapConsistent (groupOf (h .group)) (halfLengths (h .lengths)) 1 v → ⊥))
+  pub synthesis : (j : Job) (v scratch : List ℕ) → let a = synthesisStep j v scratch .outcome .answer in
+      ((n : ℕ) → a ≡ refused n → n ≡ 14) → ((a ≡ refused 14) ↔ (FactorsConsistent (groupIn j) (halves j) 1 v → ⊥))
+  pub analysis : (j : Job) (v scratch : List ℕ) → let a = analysisStep j v scratch .outcome .answer in
+      ((n : ℕ) → a ≡ refused n → n ≡ 14) → ((a ≡ refused 14) ↔ (MapConsistent (groupIn j) (halves j) 1 v → ⊥))
+  pub writer : (j : Job) (v output : List ℕ) → let a = writeStep j v output .answer in
+      ((n : ℕ) → a ≡ notWritten n → (n ≡ 14) ⊎ (n ≡ 17) ⊎ (n ≡ 18)) → ((a ≡ notWritten 14) ↔ (FactorsConsistent (groupIn j) (halves j) 1 v → ⊥))
 
 -- A job that an opening or a later call could have made: from an accepted opening or file on, some list of calls leaves it.
 abbrev pub Reachable : Job → Type 0

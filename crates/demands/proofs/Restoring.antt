@@ -29,7 +29,7 @@ accepted-done : (n : ℕ) (o : Worked) (u : ℕ → Worked) → ((n : ℕ) → u
 accepted-done zero o u r e = refl
 accepted-done (suc n) o u r e = let z : refused (suc n) ≡ done = sym (r (suc n)) ∙ e in let y : _≡_ {A = ℕ} 0 1 = cc in absurd (omega arith)
 
-synthesis-accepted : (j : Job) (v scratch : List ℕ) → synthesisStep j v scratch .outcome .answer ≡ done → 0 ≡ first (synthesisTests j v (length scratch))
+pub synthesis-accepted : (j : Job) (v scratch : List ℕ) → synthesisStep j v scratch .outcome .answer ≡ done → 0 ≡ first (synthesisTests j v (length scratch))
 unfolding synthesisStep
 synthesis-accepted j v scratch a = accepted-done (first (synthesisTests j v (length scratch))) _ (λ n. record { outcome = unchanged j v n; scratch = scratch }) (λ n. refl) a
 

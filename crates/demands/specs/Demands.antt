@@ -1,6 +1,6 @@
 -- The third demand: over every list of calls from an accepted opening or file on, every answer, the job and the volume are the model's; and what follows from it.
--- Each statement is the promise of the function of the same name in src/lib.rt; Started, allRecords, entry, Alike, Reordered and Reachable are what they
--- speak of.
+-- Each statement is the promise of the function of the same name in src/lib.rt; Started, Faultless, allRecords, entry, Alike, Reordered and Reachable
+-- are what they speak of.
 use mathlib.Core.Path.{_≡_}
 use mathlib.Core.Logic.{_↔_, _⊎_}
 use mathlib.Core.Bool.{true}
@@ -17,7 +17,7 @@ use Rattle.cell.specs.Consistency.{FactorsConsistent, MapConsistent}
 use Rattle.job.specs.declared.Job.{Job}
 use Rattle.job.specs.declared.Reflection.{Reflection}
 use Rattle.job.specs.declared.GridPoint.{GridPoint}
-use Rattle.job.specs.Job.{Header, halfLengths, mapHeld, factorsHeld, withState, headerOf, validJob, groupIn, halves, collecting, within, index, position, Opening, opened, notOpened, OpenOutcome, openStep, Said, done, density, refused, Outcome, Worked, recordStep, synthesisStep, analysisStep, pointStep}
+use Rattle.job.specs.Job.{Header, halfLengths, needed, mapHeld, factorsHeld, withState, headerOf, validJob, groupIn, halves, collecting, within, index, position, Opening, opened, notOpened, OpenOutcome, openStep, Said, done, density, refused, Outcome, Worked, recordStep, synthesisStep, analysisStep, pointStep}
 use Rattle.file_format.specs.declared.FileRecord.{FileRecord}
 use Rattle.factor_file.specs.Reading.{indexOf, countAt, recordsIn, fileStep}
 use Rattle.model.specs.Model.{Model, group, half, factorOf, densityOf, Call, modelVolume, modelJob, factorVolume, mapVolume, Beginning, begun, notBegun}
@@ -37,6 +37,17 @@ pub record EveryList : Type 0 where
 -- A start that is refused, for no fault of its volume (6, 7, 14), is refused by the model, by the same number and place.
 pub record RefusedStarts : Type 0 where
   pub alike : (s : Start) (n place : ℕ) → start s .answer ≡ notOpened n place → (n ≡ 6 → ⊥) → (startKind s ≡ 1 → (n ≡ 7 → ⊥) × (n ≡ 14 → ⊥)) → modelStart s ≡ notBegun n place
+
+-- A volume without fault: as long as the header asks for, and for kind 1 the map, with its zeros, of some cell that obeys the group;
+-- its numbers are then residues.
+pub record Faultless (s : Start) : Type 0 where
+  pub long : length (startVolume s) ≡ needed (startHeader s)
+  pub map : startKind s ≡ 1 → MapConsistent (groupOf (startHeader s .group)) (halfLengths (startHeader s .lengths)) 1 (startVolume s)
+
+-- A start whose volume is without fault does what the model does: it gives the model's job and volume, or is refused by the model's number and place.
+pub record FaultlessStarts : Type 0 where
+  pub accepts : (s : Start) (m : Model) → Faultless s → modelStart s ≡ begun m → start s ≡ record { answer = opened (modelJob m); volume = modelVolume m }
+  pub refuses : (s : Start) (n place : ℕ) → Faultless s → modelStart s ≡ notBegun n place → start s .answer ≡ notOpened n place
 
 -- all records that were accepted: those of the file, then those of the list
 abbrev pub allRecords : Start → Job → List ℕ → List Call → List FileRecord

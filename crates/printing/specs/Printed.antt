@@ -1,12 +1,10 @@
 -- The printer's limits: the bytes of a file that it reads, and the numbers of a volume that it lends.
 use Prim.Native.Nat.{ℕ, min}
 use mathlib.Core.Bool.{cond}
-use mathlib.Core.List.{List, []}
+use mathlib.Core.List.{List}
 use lib.ListN.{length, replicate}
 use lib.Dec.{ltb}
-use Rattle.lengths.specs.Lengths.{scratchLength}
-use Rattle.job.specs.declared.Job.{Job}
-use Rattle.job.specs.Job.{needed, Opening, opened, notOpened, OpenOutcome, Said, done, density, factor, refused, Outcome, Worked, synthesisStep}
+use Rattle.job.specs.Job.{needed, mapHeld, withState, opened, notOpened, OpenOutcome, synthesised}
 use Rattle.factor_file.specs.Reading.{headerIn, fileStep}
 use Rattle.printing.specs.Text.{mapText, refusalText, TextOutcome, putText}
 
@@ -19,12 +17,9 @@ lentLimit = 2048
 -- ---- The map printer: the text that it prints for the bytes on its standard input.
 -- The file is lent a volume as long as it needs, and of 2,048 numbers where it needs more: that is refused 6 in its place among the file's refusals.
 
--- The synthesis of an accepted file is never refused (demand 3); the text of a refusal stands here for completeness.
-abbrev pub synthesisText : Outcome → List ℕ
-synthesisText o = elim (o .answer) [ done ↦ mapText (o .job) (o .volume) | refused n ↦ refusalText n 0 | density n ↦ [] | factor x y ↦ [] ]
-
+-- An opened file's map, which its synthesis makes, or its refusal. No test refuses that synthesis.
 abbrev pub openedText : OpenOutcome → List ℕ
-openedText o = elim (o .answer) [ opened j ↦ synthesisText (synthesisStep j (o .volume) (replicate scratchLength 0) .outcome) | notOpened n place ↦ refusalText n place ]
+openedText o = elim (o .answer) [ opened j ↦ mapText (withState j mapHeld) (synthesised j (o .volume)) | notOpened n place ↦ refusalText n place ]
 
 unfoldable pub printed : List ℕ → List ℕ
 printed input = cond (ltb fileLimit (length input)) (refusalText 15 0) (openedText (fileStep input (replicate (min (needed (headerIn input)) lentLimit) 0)))

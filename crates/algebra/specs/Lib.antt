@@ -1,4 +1,5 @@
--- The definitions: rings and the transform, lines and their kinds, orbits and cells.
+-- The definitions: the words they are written in, rings and the transform, lines and their kinds, orbits and cells.
+pub mod Prelude
 pub mod ring
 pub mod fourier
 pub mod lines

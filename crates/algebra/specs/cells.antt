@@ -1,5 +1,5 @@
 pub mod Cell
 pub mod CellSteps
-pub mod CellTests
 pub mod StoredTests
 pub mod CellPack
+pub mod CellPlaces

@@ -1,2 +1,2 @@
-pub mod Fourier
 pub mod Axis
+pub mod Split

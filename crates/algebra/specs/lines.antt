@@ -1,4 +1,4 @@
-pub mod Line
 pub mod Folds
 pub mod FoldKinds
 pub mod Kinds
+pub mod Packings

@@ -1,4 +1,2 @@
 pub mod Ring
 pub mod RingLaws
-pub mod Gauss
-pub mod Residue

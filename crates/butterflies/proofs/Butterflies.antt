@@ -7,8 +7,9 @@ use Rattle.algebra.specs.ring.Ring.{Ops, pow}
 use Rattle.algebra.proofs.ring.Laws.{pow-add, mul-one, neg-one-mul}
 use Rattle.algebra.proofs.fourier.Transform.{pow-zero, pow-suc, pow-mul, sign-even}
 use Rattle.numbers.specs.declared.Pair.{Pair}
-use Rattle.numbers.specs.Value.{Value, field, i, res, real, pairOf}
-use Rattle.roots.specs.Root.{entryAt, tableRoot, RootTable}
+use Rattle.numbers.specs.Value.{Value, field, i, real, pairOf}
+use Rattle.numbers.specs.Bounds.{res}
+use Rattle.roots.specs.Table.{entryAt, tableRoot, RootTable}
 use Rattle.numbers.proofs.Values.{field-ring}
 use Rattle.butterflies.specs.Butterflies.{outerAt, Butterfly, evenPart, oddPart}
 use Rattle.butterflies.proofs.Cases.{below-2, below-3, below-4, below-5}

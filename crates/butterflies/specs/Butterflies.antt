@@ -7,7 +7,8 @@ use lib.ListN.{length}
 use Rattle.algebra.specs.ring.Ring.{Ops, pow, sum}
 use Rattle.numbers.specs.declared.Pair.{Pair}
 use Rattle.numbers.specs.declared.Accumulator.{Accumulator}
-use Rattle.numbers.specs.Value.{Value, field, i, res, real, pairOf}
+use Rattle.numbers.specs.Value.{Value, field, i, real, pairOf}
+use Rattle.numbers.specs.Bounds.{res}
 use Rattle.numbers.specs.Unreduced.{Room, meant}
 use Rattle.butterflies.specs.declared.TwoPairs.{TwoPairs}
 use Rattle.butterflies.specs.declared.ThreePairs.{ThreePairs}

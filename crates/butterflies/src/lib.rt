@@ -15,9 +15,10 @@ use numbers::Pair;
 ghost use mathlib.Core.Path.{_≡_};
 ghost use Prim.Native.Nat.{ℕ, _+_, _*_, _≤_};
 ghost use Rattle.algebra.specs.ring.Ring.{Ops, pow};
-ghost use Rattle.numbers.specs.Value.{IsModulus, Value, field, res, real, pairOf};
+ghost use Rattle.numbers.specs.Value.{IsModulus, Value, field, real, pairOf};
+ghost use Rattle.numbers.specs.Bounds.{res};
 ghost use Rattle.numbers.specs.Unreduced.{Accumulated, meant, Room};
-ghost use Rattle.roots.specs.Root.{tableRoot, RootTable};
+ghost use Rattle.roots.specs.Table.{tableRoot, RootTable};
 ghost use Rattle.butterflies.specs.Butterflies.{ofTwo, ofThree, ofFour, ofFive, ofTwoSums, ofThreeSums, ofFourSums, ofFiveSums, AllRoom, Butterfly, evenPart, oddPart};
 
 // What a butterfly takes: values that are not reduced.

@@ -4,7 +4,7 @@ ghost use Prim.Native.Nat.{ℕ};
 ghost use Rattle.algebra.specs.ring.Ring.{Ops, pow};
 ghost use Rattle.numbers.specs.Value.{IsModulus, field, i};
 ghost use Rattle.numbers.specs.Unreduced.{Accumulated, meant, Room};
-ghost use Rattle.roots.specs.Root.{tableRoot, RootTable};
+ghost use Rattle.roots.specs.Table.{tableRoot, RootTable};
 
 // i (x - y) of two products: 418,031,539,216 is 16 times the product of both primes, so that the result is no larger than four products.
 pub fn difference_times_i(x: Accumulator, y: Accumulator) -> Accumulator

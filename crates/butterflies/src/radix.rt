@@ -1,5 +1,5 @@
 // One butterfly of a step of equation (3) of document 001, by its radix: its values are read at their places and multiplied by their
-// factors, summed, and the sums stored at theirs (specs/Summed.antt).
+// factors, summed, and the sums stored at theirs (`summed` in specs/Butterflies.antt).
 use crate::FiveSums;
 use crate::FourSums;
 use crate::ThreeSums;
@@ -8,7 +8,7 @@ use crate::twiddle::Places;
 ghost use mathlib.Core.Path.{_≡_};
 ghost use Prim.Native.Nat.{_≤_};
 ghost use Rattle.numbers.specs.Value.{prime, IsModulus};
-ghost use Rattle.roots.specs.Root.{tableRoot, RootTable};
+ghost use Rattle.roots.specs.Table.{tableRoot, RootTable};
 ghost use Rattle.slices.specs.Pairs.{Below};
 ghost use Rattle.butterflies.specs.Butterflies.{Reads, Stores, summed};
 

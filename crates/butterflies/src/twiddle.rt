@@ -5,7 +5,7 @@ use numbers::Accumulator;
 ghost use Prim.Native.Nat.{_+_, _*_, _<_};
 ghost use lib.ListN.{length};
 ghost use Rattle.numbers.specs.Value.{prime, IsModulus};
-ghost use Rattle.roots.specs.Root.{tableRoot, RootTable};
+ghost use Rattle.roots.specs.Table.{tableRoot, RootTable};
 ghost use Rattle.slices.specs.Pairs.{Below};
 ghost use Rattle.butterflies.specs.Butterflies.{Loaded};
 

@@ -7,8 +7,7 @@ use Prim.Native.Nat.{ℕ, _*_, _<_}
 use native.Mathlib.Omega.{arith}
 use lib.Dec.{T, ltb, eqb, eqb→eq}
 use lib.ListN.{length, getD}
-use Rattle.algebra.specs.ring.Gauss.{gauss}
-use Rattle.algebra.specs.ring.Residue.{residues}
+use Rattle.algebra.specs.ring.Ring.{gauss, residues}
 use Rattle.algebra.specs.cells.Cell.{J, Inside, Group, imageOf, impliedValue, Cell, factorActs}
 use Rattle.algebra.specs.cells.Cell as Cell
 use Rattle.algebra.specs.cells.CellSteps.{Lawful}
@@ -19,7 +18,8 @@ use Rattle.algebra.proofs.cells.CellSym.{image-inside}
 use Rattle.algebra.proofs.cells.CellTests.{Positive, every-place-at, every-place-by, factors-test}
 use Rattle.algebra.proofs.cells.CellPack.{pack-iff}
 use Rattle.numbers.specs.declared.Pair.{Pair}
-use Rattle.numbers.specs.Value.{prime, Value, field, conj, ring, half, valueOf, pairOf, Small}
+use Rattle.numbers.specs.Value.{prime, Value, field, conj, ring, half, valueOf, pairOf}
+use Rattle.numbers.specs.Bounds.{Small}
 use Rattle.numbers.proofs.Residues.{res-ring, val-res}
 use Rattle.numbers.proofs.Primes.{prime-pos}
 use Rattle.numbers.proofs.Values.{pair-path, pair-value, field-ring, field-star}
@@ -27,7 +27,8 @@ use Rattle.numbers.proofs.Parts.{half-residue}
 use Rattle.slices.specs.Pairs.{at, Below}
 use Rattle.slices.proofs.Bounds.{small-at}
 use Rattle.cell.specs.Volume.{lineKind, firstPair, pairPlace, rows, columns, volumeLength, factorsIn, packFactors}
-use Rattle.cell.specs.Consistency.{sameValue, pairIsZero, zeroEnds, consistentFactors, FactorsConsistent}
+use Rattle.cell.specs.Consistency.{sameValue, pairIsZero, zeroEnds, consistentFactors}
+use Rattle.cell.specs.Exactly.{FactorsConsistent}
 use Rattle.cell.proofs.Tests.{true-iff, eq→eqb}
 use Rattle.cell.proofs.VolumeLayout.{is-volume}
 use Rattle.cell.proofs.LineKinds.{ends-left-out}

@@ -8,6 +8,7 @@ pub mod Consistency
 pub mod Maps
 pub mod Writing
 pub mod Records
+pub mod NumbersRead
 pub mod OrbitNumbers
 pub mod Points
 pub mod OperationLaws

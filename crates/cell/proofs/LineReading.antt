@@ -8,12 +8,9 @@ use native.Mathlib.Omega.{arith}
 use native.Mathlib.Decide.{ℕ-discrete}
 use lib.Dec.{T, T-not, eqb, eqb→eq, eqb-refl}
 use borrow.Author.Tests.{lt-ltb, le-ltb, le-leb}
-use Rattle.algebra.specs.ring.Ring.{Ops, pow}
+use Rattle.algebra.specs.ring.Ring.{Ops, pow, residues, gauss, conj, imag}
 use Rattle.algebra.specs.ring.RingLaws.{CRing}
-use Rattle.algebra.specs.ring.Gauss.{gauss, conj, imag}
-use Rattle.algebra.specs.ring.Residue.{residues}
-use Rattle.algebra.specs.lines.Line.{unit, unfold-by, pack-by}
-use Rattle.algebra.specs.lines.Kinds.{Kind, Kind.plain, Kind.alternating, Kind.symmetric, Kind.antisymmetric, slots, unfoldBefore, packBefore}
+use Rattle.algebra.specs.lines.Kinds.{unit, unfold-by, pack-by, Kind, Kind.plain, Kind.alternating, Kind.symmetric, Kind.antisymmetric, slots, unfoldBefore, packBefore}
 use Rattle.algebra.specs.cells.CellPack.{even, partOf, ofPart, packAlt, unpackAlt}
 use Rattle.algebra.proofs.ring.Paths.{pair}
 use Rattle.algebra.proofs.ring.Bool.{split}

@@ -11,9 +11,10 @@ use lib.ListN.{length, getD}
 use borrow.Author.Tests.{lt-ltb}
 use Rattle.algebra.specs.orbits.Orbit.{Mem}
 use Rattle.algebra.specs.orbits.OrbitLaws.{Consistent, cellOf}
-use Rattle.algebra.specs.cells.Cell.{J, Inside, Sym, sym as operation, Group, P1, P2₁, Pm, Pa, P2₁2₁2₁, ops, pointImage, impliedDensity, star, planes, StoredPoint, pointOperation, Cell, mapActs}
+use Rattle.algebra.specs.cells.Cell.{J, Inside, Sym, sym as operation, Group, P1, P2₁, Pm, Pa, P2₁2₁2₁, ops, pointImage, impliedDensity, star, planes, pointOperation, Cell, every, everyPlace, storedPointT}
+use Rattle.algebra.specs.cells.CellSteps.{mapActs}
+use Rattle.algebra.specs.cells.CellPlaces.{StoredPoint}
 use Rattle.algebra.specs.cells.Cell as Cell
-use Rattle.algebra.specs.cells.CellTests.{every, everyPlace, storedPointT}
 use Rattle.algebra.proofs.ring.Bool.{and-l, and-r, and-i, imply-iff, every-at, every-by}
 use Rattle.algebra.proofs.orbits.Orbits as O
 use Rattle.algebra.proofs.cells.CellSym.{point-one, point-inside}
@@ -24,7 +25,8 @@ use Rattle.numbers.proofs.Residues.{val-res, res-val}
 use Rattle.numbers.proofs.Values.{field-ring, field-star}
 use Rattle.slices.specs.Pairs.{Below}
 use Rattle.cell.specs.Volume.{rows, layers, volumeLength, mapPlace, packMap, mapIn}
-use Rattle.cell.specs.Consistency.{pointAgrees, rowEnds, consistentMap, RealMap, ObeysGroup, MapConsistent}
+use Rattle.cell.specs.Consistency.{pointAgrees, rowEnds, consistentMap}
+use Rattle.cell.specs.Exactly.{RealMap, ObeysGroup, MapConsistent}
 use Rattle.cell.proofs.VolumeLayout.{length-map, map-number, map-end, is-map}
 use Rattle.cell.proofs.Tests.{true-iff, eq→eqb}
 

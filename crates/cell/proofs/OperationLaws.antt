@@ -8,12 +8,14 @@ use native.Mathlib.Omega.{arith}
 use lib.ListN.{length, getD, length-append, length-map, List·getD-append}
 use lib.Seq.{getD-append-add}
 use Rattle.algebra.specs.ring.Ring.{Ops, pow}
-use Rattle.algebra.specs.cells.Cell.{Sym, one, friedel, _·_, Group, P1, P2₁, Pm, Pa, P2₁2₁2₁, ops, full, lineSym, flip, shifted, xor, sgn}
+use Rattle.algebra.specs.cells.Cell.{Sym, one, friedel, _·_, Group, P1, P2₁, Pm, Pa, P2₁2₁2₁, ops, full, flip, shifted, xor, sgn}
+use Rattle.algebra.specs.cells.CellPlaces.{lineSym}
 use Rattle.algebra.proofs.ring.Laws.{along, neg-one-mul}
 use Rattle.algebra.proofs.fourier.Transform.{sign-even, sign-odd}
 use Rattle.algebra.proofs.cells.CellAxis.{neg-zero, neg-pos, half-low, half-high}
 use Rattle.numbers.specs.declared.Pair.{Pair}
-use Rattle.numbers.specs.Value.{prime, Value, field, valueOf, pairOf, Small}
+use Rattle.numbers.specs.Value.{prime, Value, field, valueOf, pairOf}
+use Rattle.numbers.specs.Bounds.{Small}
 use Rattle.numbers.proofs.Values.{field-ring, pair-value, value-by}
 use Rattle.cell.specs.Volume.{groupOf}
 use Rattle.cell.specs.Operations.{Length}
@@ -121,17 +123,17 @@ pub flip-other : (b : Bool) (n h : ℕ) → Length n → h < n → b ≡ true �
 unfolding flip
 flip-other b n h c l e z = rw e (omega arith ∙ sym (neg-pos (n / 2) h (omega arith) (omega arith)))
 
-pub turn-none : (b : Bool) (n x : ℕ) → b ≡ false → x ≡ shifted b (n / 2) x
+pub shifted-none : (b : Bool) (n x : ℕ) → b ≡ false → x ≡ shifted b (n / 2) x
 unfolding shifted
-turn-none b n x e = rw e refl
+shifted-none b n x e = rw e refl
 
-pub turn-low : (b : Bool) (n x : ℕ) → b ≡ true → x < n / 2 → x + n / 2 ≡ shifted b (n / 2) x
+pub shifted-low : (b : Bool) (n x : ℕ) → b ≡ true → x < n / 2 → x + n / 2 ≡ shifted b (n / 2) x
 unfolding shifted
-turn-low b n x e l = rw e (sym (half-low (n / 2) x l))
+shifted-low b n x e l = rw e (sym (half-low (n / 2) x l))
 
-pub turn-high : (b : Bool) (n x : ℕ) → Length n → x < n → b ≡ true → n / 2 ≤ x → x - n / 2 ≡ shifted b (n / 2) x
+pub shifted-high : (b : Bool) (n x : ℕ) → Length n → x < n → b ≡ true → n / 2 ≤ x → x - n / 2 ≡ shifted b (n / 2) x
 unfolding shifted
-turn-high b n x c l e g = rw e (sym (half-high (n / 2) x g (omega arith)))
+shifted-high b n x c l e g = rw e (sym (half-high (n / 2) x g (omega arith)))
 
 -- the code's test that two bits differ
 pub differ : (a b : Bool) → not (Bool·beq a b) ≡ xor a b

@@ -21,9 +21,9 @@ use Rattle.cell.specs.declared.operations.Point.{Point}
 use Rattle.cell.specs.declared.places.Run.{Run}
 use Rattle.cell.specs.declared.operations.UnitCell.{UnitCell}
 use Rattle.cell.specs.Operations.{cellGroup, cellHalves, halvesOf, tripleOf, pointOf, Length, Sizes, Within, PointWithin}
-use Rattle.cell.specs.Places.{consecutive, IsRun, storedColumn}
 use Rattle.cell.proofs.VolumeLayout.{place-inside}
 use Rattle.cell.proofs.LineKinds.{plain-group, by-alternating, by-other}
+use Rattle.cell.specs.Places.{consecutive, IsRun, storedColumn}
 
 -- the groups that store half of each line
 pub by-halved : (P : Group → Type 0) → P P2₁ → P Pm → P Pa → P P2₁2₁2₁ → (n : ℕ) → n < 5 → (n ≡ 0 → ⊥) → P (groupOf n)

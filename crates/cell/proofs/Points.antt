@@ -5,7 +5,7 @@ use mathlib.Core.Bool.{true}
 use mathlib.Core.List.{List}
 use Prim.Native.Nat.{ℕ}
 use lib.ListN.{length}
-use Rattle.algebra.specs.ring.Residue.{residues}
+use Rattle.algebra.specs.ring.Ring.{residues}
 use Rattle.algebra.specs.fourier.Axis.{AxisLaws}
 use Rattle.algebra.specs.cells.Cell.{J, Inside, Group, friedel, pointImage, impliedDensity, flip, shifted, star, Cell}
 use Rattle.algebra.specs.cells.Cell as Cell
@@ -21,7 +21,8 @@ use Rattle.numbers.proofs.Values.{value-path, field-ring, field-star, conj-real
 use Rattle.numbers.proofs.Parts.{half-residue}
 use Rattle.slices.specs.Pairs.{Below}
 use Rattle.cell.specs.Volume.{volumeLength, packFactors, packMap, mapIn, axis, mapOf, factorsOf}
-use Rattle.cell.specs.Consistency.{RealMap, ObeysGroup, consistentMap}
+use Rattle.cell.specs.Consistency.{consistentMap}
+use Rattle.cell.specs.Exactly.{RealMap, ObeysGroup}
 use Rattle.cell.proofs.Consistency.{pack-cong}
 use Rattle.cell.proofs.Maps.{read-map, map-cong, consistent-map-read}
 

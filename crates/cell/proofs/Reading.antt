@@ -8,12 +8,11 @@ use Prim.Native.Nat.{ℕ, suc, _+_, _*_, _-_, _<_, _≤_}
 use native.Mathlib.Omega.{arith}
 use lib.Dec.{T, eqb, eqb→eq, eqb-refl, leb, ltb, nltb→le}
 use lib.ListN.{length}
-use Rattle.algebra.specs.ring.Ring.{pow}
-use Rattle.algebra.specs.ring.Gauss.{gauss}
-use Rattle.algebra.specs.ring.Residue.{residues}
+use Rattle.algebra.specs.ring.Ring.{pow, residues, gauss}
 use Rattle.algebra.specs.orbits.OrbitLaws.{cellOf}
 use Rattle.algebra.specs.lines.Kinds.{Kind.alternating, Kind.symmetric, Kind.antisymmetric}
-use Rattle.algebra.specs.cells.Cell.{J, Inside, Group, P1, P2₁, Pm, Pa, P2₁2₁2₁, one, friedel, _·_, lineSym, lineOperation, factorOperation, span, negI, imageOf, flip, impliedValue, sgn, star, planes, full, Stored, Cell, factorActs}
+use Rattle.algebra.specs.cells.Cell.{J, Inside, Group, P1, P2₁, Pm, Pa, P2₁2₁2₁, one, friedel, _·_, span, negI, imageOf, flip, impliedValue, sgn, star, planes, full, Cell, factorActs}
+use Rattle.algebra.specs.cells.CellPlaces.{lineSym, lineOperation, factorOperation, Stored}
 use Rattle.algebra.specs.cells.Cell as Cell
 use Rattle.algebra.specs.cells.CellSteps.{Lawful}
 use Rattle.algebra.specs.cells.CellPack as Pack

@@ -5,12 +5,13 @@ use mathlib.Core.Bool.{Bool, true, false, not}
 use mathlib.Core.List.{[], _∷_}
 use Prim.Native.Nat.{ℕ, zero, suc, _<_}
 use native.Mathlib.Omega.{arith}
-use Rattle.algebra.specs.ring.Gauss.{gauss, imag}
+use Rattle.algebra.specs.ring.Ring.{gauss, imag}
 use Rattle.algebra.specs.cells.CellPack as Pack
 use Rattle.algebra.proofs.ring.Laws.{mul-zero}
 use Rattle.algebra.proofs.ring.Solver.{ring, quote}
 use Rattle.numbers.specs.declared.Pair.{Pair}
-use Rattle.numbers.specs.Value.{prime, Value, field, i, valueOf, pairOf, Small}
+use Rattle.numbers.specs.Value.{prime, Value, field, i, valueOf, pairOf}
+use Rattle.numbers.specs.Bounds.{Small}
 use Rattle.numbers.specs.Value as Value
 use Rattle.numbers.proofs.Residues.{res-ring}
 use Rattle.numbers.proofs.Values.{value-path, pair-value, field-ring, i-times}
@@ -64,7 +65,7 @@ module _ (m : ℕ) where
   times-zero false = refl
   times-zero true = mul-zero (field-ring m) _
 
-  over-none : (b : Bool) → overI m b (field m .zer) ≡ field m .zer
+  pub over-none : (b : Bool) → overI m b (field m .zer) ≡ field m .zer
   over-none false = refl
   over-none true = mul-zero (field-ring m) _
 

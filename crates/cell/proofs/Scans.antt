@@ -8,7 +8,7 @@ use native.Mathlib.Numerals.{add-one}
 use native.Mathlib.Omega.{arith}
 use lib.ListN.{length, getD, drop, drop-of-length-le}
 use lib.Seq.{drop-cons}
-use Rattle.algebra.specs.cells.CellTests.{every}
+use Rattle.algebra.specs.cells.Cell.{every}
 use Rattle.algebra.proofs.ring.Laws.{along}
 use Rattle.cell.specs.Places.{consecutive}
 

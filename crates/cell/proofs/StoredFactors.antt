@@ -8,15 +8,14 @@ use native.Mathlib.Omega.{arith}
 use lib.ListN.{getD}
 use lib.Dec.{T, eqb, ltb, ltb→lt}
 use borrow.Author.Tests.{eq-eqb, ne-eqb, eqb-true, eqb-false, lt-ltb}
-use Rattle.algebra.specs.cells.CellTests.{every}
-use Rattle.algebra.specs.ring.Residue.{residues}
-use Rattle.algebra.specs.ring.Gauss.{gauss}
+use Rattle.algebra.specs.cells.Cell.{every, J, Group, P2₁, Pa, span, planes}
+use Rattle.algebra.specs.ring.Ring.{residues, gauss}
 use Rattle.algebra.specs.lines.Kinds.{Kind, Kind.alternating, Kind.symmetric, Kind.antisymmetric}
-use Rattle.algebra.specs.cells.Cell.{J, Group, P2₁, Pa, span, planes}
 use Rattle.algebra.specs.cells.CellPack.{even, ofPart}
 use Rattle.algebra.proofs.ring.Bool.{and-l, and-r}
 use Rattle.numbers.specs.declared.Pair.{Pair}
-use Rattle.numbers.specs.Value.{prime, Value, field, ring, valueOf, pairOf, Small}
+use Rattle.numbers.specs.Value.{prime, Value, field, ring, valueOf, pairOf}
+use Rattle.numbers.specs.Bounds.{Small}
 use Rattle.numbers.proofs.Primes.{prime-pos}
 use Rattle.numbers.proofs.Residues.{val-res}
 use Rattle.numbers.proofs.Values.{pair-path, pair-value}
@@ -26,7 +25,6 @@ use Rattle.cell.specs.Volume.{groupOf, lineKind, pairPlace, pairNumbers,
 use Rattle.cell.specs.declared.operations.Index.{Index}
 use Rattle.cell.specs.declared.operations.UnitCell.{UnitCell}
 use Rattle.cell.specs.Operations.{cellGroup, cellHalves, Length}
-use Rattle.cell.specs.Places.{allBelowAt, lineNumbersAt, storedFactor, IsStoredFactor}
 use Rattle.cell.specs.TestSteps.{IsVolume, IsStored, PairInside}
 use Rattle.cell.proofs.Tests.{true-iff}
 use Rattle.cell.proofs.VolumeLayout.{place-inside}
@@ -35,6 +33,7 @@ use Rattle.cell.proofs.Reading.{pairsIn}
 use Rattle.cell.proofs.OperationLaws.{by-group}
 use Rattle.cell.proofs.LineKinds.{is-kind, other-kind, by-alternating, by-other, stored-layer, alternating-half}
 use Rattle.cell.proofs.PlaceLaws.{even-is, odd-is, at-end, not-end}
+use Rattle.cell.specs.Places.{allBelowAt, lineNumbersAt, storedFactor, IsStoredFactor}
 
 -- ---- pairs that lie in the volume
 

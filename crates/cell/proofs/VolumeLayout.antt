@@ -8,7 +8,8 @@ use lib.ListN.{length, getD}
 use borrow.Author.Tests.{lt-ltb, le-ltb}
 use Rattle.algebra.specs.cells.Cell.{J, Group, Cell}
 use Rattle.numbers.specs.declared.Pair.{Pair}
-use Rattle.numbers.specs.Value.{prime, Value, Small}
+use Rattle.numbers.specs.Value.{prime, Value}
+use Rattle.numbers.specs.Bounds.{Small}
 use Rattle.numbers.proofs.Primes.{prime-pos}
 use Rattle.numbers.proofs.Residues.{val-small}
 use Rattle.numbers.proofs.Values.{pair-path}

@@ -11,16 +11,17 @@ use borrow.Author.Tests.{eq-eqb, ne-eqb}
 use Rattle.algebra.specs.ring.Ring.{Ops}
 use Rattle.algebra.specs.lines.Kinds.{Kind, Kind.plain, Kind.hermitian, Kind.antihermitian, Kind.alternating, Kind.symmetric, Kind.antisymmetric}
 use Rattle.algebra.specs.orbits.OrbitLaws.{putAll}
-use Rattle.algebra.specs.cells.Cell.{J, Inside, Sym, Group, P1, P2₁, Pm, Pa, P2₁2₁2₁, imageOf, impliedValue, sameJ, span, planes, Stored, factorActs}
+use Rattle.algebra.specs.cells.Cell.{J, Inside, Sym, Group, P1, P2₁, Pm, Pa, P2₁2₁2₁, imageOf, impliedValue, sameJ, span, planes, factorActs, storedT}
+use Rattle.algebra.specs.cells.CellPlaces.{Stored}
 use Rattle.algebra.specs.cells.CellPack.{FactorVolume, even, partOf, upd, putAlt, putFactor}
-use Rattle.algebra.specs.cells.CellTests.{storedT}
 use Rattle.algebra.proofs.ring.Bool.{split, split-both}
 use Rattle.algebra.proofs.ring.Paths.{triple}
 use Rattle.algebra.proofs.cells.CellSym.{image-inside}
 use Rattle.algebra.proofs.cells.CellGroup.{sameJ-eq, sameJ-refl}
 use Rattle.algebra.proofs.cells.CellTests.{stored-iff}
 use Rattle.numbers.specs.declared.Pair.{Pair}
-use Rattle.numbers.specs.Value.{prime, Value, Residue, field, conj, ring, valueOf, pairOf, Small}
+use Rattle.numbers.specs.Value.{prime, Value, Residue, field, conj, ring, valueOf, pairOf}
+use Rattle.numbers.specs.Bounds.{Small}
 use Rattle.numbers.proofs.Residues.{res-val}
 use Rattle.numbers.proofs.Values.{value-path, value-pair, small-pair}
 use Rattle.slices.specs.Pairs.{at, put, Below}

@@ -1,24 +1,16 @@
 -- Records, and the tests behind refusals 12, 14 and 24.
 -- A record at j implies a value at each image of j under the group with Friedel's rule (`full g`); an image is written where it is stored.
-use mathlib.Core.Path.{_≡_}
-use mathlib.Core.Logic.{_↔_}
-use mathlib.Core.Bool.{Bool, true, _&&_, cond}
-use mathlib.Core.List.{List, [], _∷_, _++_}
-use Prim.Native.Nat.{ℕ, _+_, _*_, _≤_}
-use lib.ListN.{length, getD, set}
-use lib.Dec.{eqb, ltb}
-use Rattle.algebra.specs.ring.Residue.{Res}
+use Rattle.algebra.specs.Prelude.{Bool, _&&_, cond, eqb, ltb, ℕ, _+_, _*_, List, [], _∷_, _++_, getD, set}
+use Rattle.algebra.specs.ring.Ring.{Res}
 use Rattle.algebra.specs.lines.Kinds.{Kind, Kind.plain, Kind.hermitian, Kind.antihermitian, Kind.alternating, Kind.symmetric, Kind.antisymmetric}
-use Rattle.algebra.specs.cells.Cell.{J, Inside, Sym, Group, Cell, full, ops, imageOf, pointImage, impliedValue, factorActs, MapObeys}
+use Rattle.algebra.specs.cells.Cell.{J, Sym, Group, Cell, full, ops, imageOf, pointImage, impliedValue, factorActs, every, everyPlace, imply, storedT, storedPointT, agreesT}
 use Rattle.algebra.specs.cells.Cell as Cell
-use Rattle.algebra.specs.cells.CellSteps.{Lawful}
-use Rattle.algebra.specs.orbits.Orbit.{Mem, recorded}
-use Rattle.algebra.specs.cells.CellTests.{every, everyPlace, imply, storedT, storedPointT, agreesT}
+use Rattle.algebra.specs.orbits.Orbit.{recorded}
 use Rattle.algebra.specs.cells.CellPack.{even}
 use Rattle.numbers.specs.declared.Pair.{Pair}
-use Rattle.numbers.specs.Value.{prime, Value, field, conj, real, pairOf}
-use Rattle.slices.specs.Pairs.{at, put, Below}
-use Rattle.cell.specs.Volume.{lineKind, rotated, timesI, firstPair, volumeLength, layers, rows, columns, pairPlace, mapPlace, numbersRead, lineIn, packFactors, packMap}
+use Rattle.numbers.specs.Value.{Value, field, conj, pairOf}
+use Rattle.slices.specs.Pairs.{at, put}
+use Rattle.cell.specs.Volume.{lineKind, rotated, timesI, firstPair, layers, rows, columns, pairPlace, mapPlace, numbersRead, lineIn}
 
 -- two values have the same numbers
 abbrev pub sameValue : {p : ℕ} → Res p × Res p → Res p × Res p → Bool
@@ -104,22 +96,3 @@ module _ (g : Group) (a : J) where
 
   unfoldable pub consistentMap : List ℕ → Bool
   consistentMap v = everyPlace (rows g a) (2 * a .1) (layers g a) (pointAgrees v) && everyPlace (rows g a) 1 (layers g a) (λ x. rowEnds v (x .2) (x .0))
-
-  -- What the two tests decide, in the paper's words: some whole cell that obeys group and Friedel has these packed factors; some cell of real values that obeys the group has this map with its zeros.
-  module _ (m : ℕ) where
-    abbrev pub FactorsConsistent : List ℕ → Type 0
-    FactorsConsistent v = (F : Cell (Value m)) × Lawful (field m) (conj m) a g F × (packFactors g a m F ≡ v)
-
-    abbrev pub RealMap : Cell (Value m) → Type 0
-    RealMap M = (x : J) → Inside a x → Cell.at M x ≡ real m ((Cell.at M x) .0)
-
-    abbrev pub ObeysGroup : Cell (Value m) → Type 0
-    ObeysGroup M = (s : Sym) → Mem s (ops g) → MapObeys (conj m) a s M
-
-    abbrev pub MapConsistent : List ℕ → Type 0
-    MapConsistent v = (M : Cell (Value m)) × RealMap M × ObeysGroup M × (packMap g a m M ≡ v)
-
--- Refusal 14, which stands behind the refusals of a volume's length and of numbers that are no residues, is exactly this for any axes.
-pub record ConsistentExactly : Type 0 where
-  pub factors : (g : Group) (a : J) → (1 ≤ a .0) × (1 ≤ a .1) × (1 ≤ a .2) → (m : ℕ) (v : List ℕ) → length v ≡ volumeLength g a → Below (prime m) v → (consistentFactors g a m v ≡ true) ↔ FactorsConsistent g a m v
-  pub maps : (g : Group) (a : J) → (1 ≤ a .0) × (1 ≤ a .1) × (1 ≤ a .2) → (m : ℕ) (v : List ℕ) → length v ≡ volumeLength g a → Below (prime m) v → (consistentMap g a v ≡ true) ↔ MapConsistent g a m v

@@ -1,16 +1,16 @@
 -- Places of a volume: runs of neighbouring ones, and a test of the numbers there.
 use mathlib.Core.Path.{_≡_}
-use mathlib.Core.Bool.{Bool, true, cond}
+use mathlib.Core.Bool.{Bool, true, cond, _||_}
 use mathlib.Core.List.{List, [], _∷_}
 use Prim.Native.Nat.{ℕ, zero, suc, _+_, _≤_}
-use lib.Dec.{ltb, leb}
+use lib.Dec.{ltb, leb, eqb}
 use lib.ListN.{getD}
-use Rattle.algebra.specs.cells.CellTests.{every}
-use Rattle.algebra.specs.cells.Cell.{J, Group, negI}
+use Rattle.algebra.specs.cells.Cell.{every, J, Group, negI}
 use Rattle.numbers.specs.declared.Pair.{Pair}
 use Rattle.numbers.specs.Value.{prime, Value, pairOf}
 use Rattle.cell.specs.Volume.{lineKind, lineNumbers, wholeLine, lineIn}
 use Rattle.cell.specs.declared.places.Run.{Run}
+use Rattle.algebra.specs.cells.Cell as C
 
 -- the places first, first + 1, .., count of them
 unfoldable pub consecutive : (first count : ℕ) → List ℕ
@@ -44,3 +44,7 @@ storedFactor g a m v j = wholeLine g a m v (j .0) (j .1) (j .2)
 -- the pair r is that factor, if the numbers that it is read from are below the prime
 abbrev pub IsStoredFactor : Group → J → (m : ℕ) → List ℕ → J → Pair → Type 0
 IsStoredFactor g a m v j r = allBelowAt (prime m) v (lineNumbersAt g a j) ≡ true → r ≡ pairOf (storedFactor g a m v j)
+
+-- the groups with alternating lines, by their numbers
+abbrev pub alternates : ℕ → Bool
+alternates n = eqb n 1 || eqb n 4

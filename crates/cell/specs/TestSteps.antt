@@ -5,8 +5,7 @@ use mathlib.Core.List.{List}
 use Prim.Native.Nat.{ℕ, _+_, _*_, _/_, _<_, _≤_}
 use lib.ListN.{length}
 use lib.Dec.{eqb, ltb}
-use Rattle.algebra.specs.cells.Cell.{J, Group, span}
-use Rattle.algebra.specs.cells.CellTests.{below, everyPlace, imply}
+use Rattle.algebra.specs.cells.Cell.{J, Group, span, below, everyPlace, imply}
 use Rattle.numbers.specs.declared.Pair.{Pair}
 use Rattle.slices.specs.Pairs.{at}
 use Rattle.cell.specs.Volume.{lineKind, firstPair, rows, columns, pairPlace, volumeLength}

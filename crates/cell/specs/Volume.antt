@@ -1,16 +1,12 @@
 -- The volume as a list of numbers: the packed factors (the paper's box) and the map with its zeros, and the cells that both stand for.
 -- An axis is known by its half: a = (N1/2, B, A) with N2 = 2 B and N3 = 2 A. A volume has W * N1 * (B + 1) pairs.
-use mathlib.Core.Bool.{Bool, true, false, _&&_, _||_, not, cond}
-use mathlib.Core.List.{List, [], _∷_}
-use Prim.Native.Nat.{ℕ, suc, _+_, _*_, _-_, _/_, _%_, min}
-use lib.ListN.{getD}
-use lib.Dec.{ltb, leb, eqb}
+use Rattle.algebra.specs.Prelude.{Bool, true, false, _&&_, _||_, not, cond, eqb, leb, ltb, ℕ, suc, _+_, _*_, _-_, _/_, _%_, min, List, [], _∷_, getD}
 use Rattle.algebra.specs.lines.Kinds.{Kind, Kind.plain, Kind.hermitian, Kind.antihermitian, Kind.alternating, Kind.symmetric, Kind.antisymmetric, slots, unfoldBefore, packBefore}
-use Rattle.algebra.specs.cells.Cell.{J, Group, P1, P2₁, Pm, Pa, P2₁2₁2₁, Cell, imageOf, pointImage, negI, planes, pointOperation}
+use Rattle.algebra.specs.cells.Cell.{J, Group, P1, P2₁, Pm, Pa, P2₁2₁2₁, Cell, pointImage, negI, planes, pointOperation}
 use Rattle.algebra.specs.cells.CellPack.{even}
-use Rattle.algebra.specs.ring.Residue.{Res}
+use Rattle.algebra.specs.ring.Ring.{Res}
 use Rattle.numbers.specs.declared.Pair.{Pair}
-use Rattle.numbers.specs.Value.{Value, field, conj, i, half, real, value, pairOf, part}
+use Rattle.numbers.specs.Value.{Value, field, conj, i, half, real, value, pairOf}
 use Rattle.slices.specs.Pairs.{tab, valuesOf}
 use Rattle.algebra.specs.cells.Cell as C
 pub use Rattle.roots.specs.Root.{axis}

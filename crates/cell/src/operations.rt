@@ -9,8 +9,10 @@ ghost use mathlib.Core.Bool.{true, false};
 ghost use Prim.Native.Nat.{_/_, _<_, _≤_};
 ghost use lib.ListN.{length, getD};
 ghost use Rattle.algebra.specs.ring.Ring.{Ops};
-ghost use Rattle.algebra.specs.cells.Cell.{Sym, P2₁2₁2₁, one, friedel, _·_, ops, full, lineSym, xor, flip, shifted, imageOf, pointImage, sgn, impliedValue};
-ghost use Rattle.numbers.specs.Value.{prime, IsModulus, field, conj, valueOf, pairOf, Small};
+ghost use Rattle.algebra.specs.cells.Cell.{Sym, P2₁2₁2₁, one, friedel, _·_, ops, full, xor, flip, shifted, imageOf, pointImage, sgn, impliedValue};
+ghost use Rattle.algebra.specs.cells.CellPlaces.{lineSym};
+ghost use Rattle.numbers.specs.Value.{prime, IsModulus, field, conj, valueOf, pairOf};
+ghost use Rattle.numbers.specs.Bounds.{Small};
 ghost use Rattle.cell.specs.Volume.{groupOf};
 ghost use Rattle.cell.specs.Operations.{cellHalves, tripleOf, pointOf, symOf, Length, Sizes, Within, PointWithin};
 
@@ -180,7 +182,7 @@ pub fn flipped(minus: bool, n: u32, h: u32) -> u32
 }
 
 // x or x + n/2 on an axis of n, going round.
-fn turned(odd: bool, n: u32, x: u32) -> u32
+fn half_shifted(odd: bool, n: u32, x: u32) -> u32
     requires { ⌜ Length n × (x < n) ⌝ }
     ensures { λ r. ⌜ (r ≡ shifted odd (n / 2) x) × (r < n) ⌝ }
 {
@@ -209,7 +211,7 @@ fn moved(conjugate: bool, minus: bool, odd: bool, n: u32, x: u32) -> u32
     requires { ⌜ Length n × (x < n) ⌝ }
     ensures { λ r. ⌜ (r ≡ shifted odd (n / 2) (flip (xor conjugate minus) (n / 2) x)) × (r < n) ⌝ }
 {
-    turned(odd, n, flipped(conjugate != minus, n, x))
+    half_shifted(odd, n, flipped(conjugate != minus, n, x))
 }
 
 // The image of a point.

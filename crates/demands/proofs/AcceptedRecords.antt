@@ -7,8 +7,7 @@ use Prim.Native.Nat.{ℕ, zero, suc, _<_}
 use native.Mathlib.Omega.{arith}
 use lib.Dec.{ltb, eqb}
 use borrow.Author.Tests.{not-false, ltb-true, lt-ltb, eqb-true, eq-eqb}
-use Rattle.algebra.specs.ring.Gauss.{gauss}
-use Rattle.algebra.specs.ring.Residue.{residues}
+use Rattle.algebra.specs.ring.Ring.{gauss, residues}
 use Rattle.algebra.specs.cells.Cell.{J, Inside, Sym, full, factorActs}
 use Rattle.algebra.specs.orbits.Orbit.{Mem, first as first-of, later, Acts, recordAll}
 use Rattle.algebra.specs.orbits.OrbitLaws.{Fit, Accepted}
@@ -25,10 +24,9 @@ use Rattle.job.specs.declared.Job.{Job}
 use Rattle.job.specs.declared.Reflection.{Reflection}
 use Rattle.job.specs.Job.{collecting, factorsHeld, mapHeld, p, index, done, refused, openTests}
 use Rattle.file_format.specs.declared.FileRecord.{FileRecord}
-use Rattle.factor_file.specs.Reading.{indexOf, headerIn, recordsIn, shapeTests}
+use Rattle.factor_file.specs.File.{indexOf, headerIn, recordsIn, shapeTests}
 use Rattle.model.specs.Model.{Model, group, half, factorOf, Call, recording, synthesis, analysis, readPoint, readFactor, modelTests, modelNext, modelSaid, modelAfter, inState, begun, notBegun, beginningTests, openingModel, modelOpen, modelFile, zeroModel, recordingOf, modelFeed}
-use Rattle.demands.specs.Calls.{Start, opening, reading, startHeader, startKind, startVolume, startRecords, firstModel, run, modelAnswers, modelEnd, acceptedRecord, acceptedRecords}
-use Rattle.demands.specs.Demands.{Started, entry, FactorsImplied, allRecords}
+use Rattle.demands.specs.Demands.{Start, opening, reading, startHeader, startKind, startVolume, startRecords, firstModel, run, modelAnswers, modelEnd, acceptedRecord, acceptedRecords, Started, entry, FactorsImplied, allRecords}
 use Rattle.model.proofs.Sound.{LawfulModel, halves-positive, within-inside, inside-within}
 use Rattle.model.proofs.OneCall.{one-call}
 use Rattle.demands.proofs.Lists.{end-header}

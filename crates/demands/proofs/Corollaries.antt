@@ -24,7 +24,7 @@ use Rattle.job.specs.declared.Reflection.{Reflection}
 use Rattle.job.specs.declared.GridPoint.{GridPoint}
 use Rattle.job.specs.Job.{Header, halfLengths, mapHeld, within, index, position, done, density, refused, Outcome, recordStep, pointStep}
 use Rattle.model.specs.Model.{Model, group, half, factorOf, densityOf, Call, recording, readPoint, modelTests, modelSaid, modelVolume, modelJob}
-use Rattle.demands.specs.Calls.{Ran, run, modelRan, modelEnd}
+use Rattle.demands.specs.Demands.{Ran, run, modelRan, modelEnd}
 use Rattle.model.proofs.Sound.{LawfulModel, within-inside, inside-within, map-obeys-group, density-real}
 use Rattle.model.proofs.OneCall.{one-call, accepted-call}
 use Rattle.demands.proofs.Lists.{every-list, end-sound, end-header}

@@ -1,8 +1,10 @@
+pub mod TestOrder
 pub mod Lists
 pub mod Corollaries
 pub mod Restoring
 pub mod Openings
 pub mod Starts
 pub mod Reachable
+pub mod Inconsistent
 pub mod AcceptedRecords
 pub mod Order

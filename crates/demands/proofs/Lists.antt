@@ -5,7 +5,7 @@ use Prim.Native.Nat.{ℕ, zero, suc}
 use Rattle.refusals.specs.Refusals.{first, accepted}
 use Rattle.job.specs.Job.{Outcome}
 use Rattle.model.specs.Model.{Model, Call, recording, synthesis, analysis, readPoint, readFactor, modelTests, modelNext, modelSaid, modelAfter, modelVolume, modelJob}
-use Rattle.demands.specs.Calls.{answering, run, modelAnswers, modelEnd, modelRan}
+use Rattle.demands.specs.Demands.{answering, run, modelAnswers, modelEnd, modelRan}
 use Rattle.model.proofs.Sound.{LawfulModel}
 use Rattle.model.proofs.OneCall.{one-call}
 

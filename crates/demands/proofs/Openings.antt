@@ -1,16 +1,16 @@
 -- Openings. One that no test refuses begins a sound model, with the job and the volume that it gives: of kind 0 the packed factors of the cell that is zero everywhere,
 -- of kind 1 the map. Of the others: the model's tests come first, then those of the volume, whose faults (6, and of a map 7, 14) the model does not know.
-use mathlib.Core.Path.{_≡_, refl, sym, _∙_, ap}
+use mathlib.Core.Path.{_≡_, refl, sym, _∙_, ap, subst}
 use mathlib.Core.Logic.{_⊎_, inl, inr, ⊎-elim}
 use mathlib.Core.Bool.{Bool, true, false, _&&_, not, cond}
-use mathlib.Core.List.{List, [], _∷_, _++_}
+use mathlib.Core.List.{List}
 use Prim.Native.Nat.{ℕ, zero, suc, _<_}
 use native.Mathlib.Omega.{arith}
+use native.Mathlib.Decide.{ℕ-discrete}
 use lib.ListN.{length, replicate, length-replicate}
-use lib.Dec.{T, leb, eqb}
+use lib.Dec.{eqb}
 use borrow.Author.Tests.{not-false, leb-false, eqb-true, eq-eqb, ne-eqb}
-use Rattle.algebra.specs.ring.Gauss.{gauss}
-use Rattle.algebra.specs.ring.Residue.{residues}
+use Rattle.algebra.specs.ring.Ring.{gauss, residues}
 use Rattle.algebra.specs.cells.Cell.{J, Group, P1, P2₁, Pm, Pa, P2₁2₁2₁}
 use Rattle.algebra.specs.cells.CellPack as Pack
 use Rattle.algebra.specs.cells.CellPack.{even, partOf, packAlt}
@@ -24,39 +24,25 @@ use Rattle.numbers.proofs.Primes.{first-modulus, prime-pos}
 use Rattle.numbers.proofs.Residues.{res-ring}
 use Rattle.numbers.proofs.Values.{value-path, field-ring, field-star}
 use Rattle.slices.specs.Pairs.{Below, allBelow}
-use Rattle.slices.proofs.Bounds.{below-replicate, below-allBelow}
+use Rattle.slices.proofs.Bounds.{below-replicate, below-allBelow, allBelow-below}
 use Rattle.slices.proofs.Segments.{at-zeros}
-use Rattle.refusals.specs.Refusals.{Test, first, accepted}
-use Rattle.refusals.proofs.Tests.{and-left, and-right, both, Passed, passed}
+use Rattle.refusals.specs.Refusals.{first, accepted}
+use Rattle.refusals.proofs.Tests.{both, Passed, passed, pass, not-t, none as no-test}
 use Rattle.cell.specs.Volume.{groupOf, volumeLength, packFactors}
 use Rattle.cell.specs.Consistency.{consistentMap}
-use Rattle.cell.proofs.VolumeLayout.{place-inside}
+use Rattle.cell.specs.Exactly.{MapConsistent}
+use Rattle.cell.proofs.VolumeLayout.{place-inside, below-map}
 use Rattle.cell.proofs.Consistency.{packed-list}
+use Rattle.cell.proofs.Maps.{map-consistent}
 use Rattle.cell.proofs.Points.{opened-factors, opened-map}
-use Rattle.job.specs.Job.{Header, halfLengths, axisTests, collecting, mapHeld, jobOf, validJob, p, volumeTests, openTests, openStep, opened, notOpened, OpenOutcome}
+use Rattle.job.specs.Job.{Header, halfLengths, needed, axisTests, collecting, mapHeld, jobOf, validJob, p, volumeTests, openTests, openStep, opened, notOpened, OpenOutcome}
 use Rattle.header.proofs.Headers.{sound-axes}
-use Rattle.job.proofs.check.Openings.{header-passed}
+use Rattle.job.proofs.check.Openings.{header-passed, volume-collects, volume-held}
 use Rattle.job.proofs.Jobs.{opened-valid}
 use Rattle.model.specs.Model.{Model, modelJob, modelVolume, zeroModel, mapModel, openingModel, beginningTests}
 use Rattle.model.proofs.Sound.{LawfulModel}
 use Rattle.line.proofs.kinds.Axes.{axis-laws}
-
--- ---- tests after tests
-
--- no test has the number 0, which stands for none
-abbrev numbered : List Test → Bool
-numbered [] = true
-numbered (t ∷ ts) = leb 1 (t .number) && numbered ts
-
-first-append : (ts us : List Test) → T (numbered ts) → first (ts ++ us) ≡ accepted (first ts) (first us) (λ n. n)
-unfolding first
-first-append [] us h = refl
-first-append (t ∷ ts) us h = one (t .fails) (t .number) (and-left (leb 1 (t .number)) (numbered ts) h) (first-append ts us (and-right (leb 1 (t .number)) (numbered ts) h))
-  where
-    one : (b : Bool) (n : ℕ) → T (leb 1 n) → first (ts ++ us) ≡ accepted (first ts) (first us) (λ n. n) → cond b n (first (ts ++ us)) ≡ accepted (cond b n (first ts)) (first us) (λ n. n)
-    one true zero h e = absurd h
-    one true (suc n) h e = refl
-    one false n h e = e
+use Rattle.demands.proofs.TestOrder.{first-append}
 
 -- ---- the cell that is zero everywhere
 
@@ -172,7 +158,7 @@ faultOf h kind v = first (volumeTests (h .group) (h .lengths) kind v)
 pub data Verdict (h : Header) (kind : ℕ) (v : List ℕ) : Type 0 where
   passes : first (openTests h kind v) ≡ 0 → first (beginningTests h kind) ≡ 0 → Verdict h kind v
   fails : (n : ℕ) → first (openTests h kind v) ≡ suc n → first (beginningTests h kind) ≡ suc n → Verdict h kind v
-  faulty : (n : ℕ) → first (openTests h kind v) ≡ suc n → faultOf h kind v ≡ suc n → Verdict h kind v
+  faulty : (n : ℕ) → first (openTests h kind v) ≡ suc n → first (beginningTests h kind) ≡ 0 → faultOf h kind v ≡ suc n → Verdict h kind v
 
 module _ (h : Header) (kind : ℕ) (v : List ℕ) where
   pub verdict : Verdict h kind v
@@ -180,12 +166,38 @@ module _ (h : Header) (kind : ℕ) (v : List ℕ) where
     where
       by : (b f : ℕ) → first (beginningTests h kind) ≡ b → faultOf h kind v ≡ f → first (openTests h kind v) ≡ accepted b f (λ n. n) → Verdict h kind v
       by zero zero eb ef e = passes e eb
-      by zero (suc n) eb ef e = faulty n e ef
+      by zero (suc n) eb ef e = faulty n e eb ef
       by (suc n) f eb ef e = fails n e eb
 
   pub open-refused : {n : ℕ} → first (openTests h kind v) ≡ suc n → openStep h kind v ≡ record { answer = notOpened (suc n) 0; volume = v }
   unfolding openStep
   open-refused e = rw e
+
+-- a volume without fault: as long as the header asks for, and for kind 1 the map of a cell
+pub faultless : (h : Header) (kind : ℕ) (v : List ℕ) → first (beginningTests h kind) ≡ 0 → length v ≡ needed h
+    → (kind ≡ 1 → MapConsistent (groupOf (h .group)) (halfLengths (h .lengths)) 1 v) → 0 ≡ faultOf h kind v
+faultless h kind v none long map = by (ℕ-discrete kind 1)
+  where
+    g : Group
+    g = groupOf (h .group)
+
+    a : J
+    a = halfLengths (h .lengths)
+
+    axes-pass : 0 ≡ first (axisTests h)
+    axes-pass = let t = passed (beginningTests h kind) tt (sym none) .1 .1 in pass 3 _ (t .0) (pass 4 _ (t .1 .0) (pass 5 _ (t .1 .1 .0) (pass 9 _ (t .1 .1 .1 .0) no-test)))
+
+    fit : eqb (length v) (needed h) ≡ true
+    fit = eq-eqb _ _ long
+
+    by : Dec (kind ≡ 1) → 0 ≡ faultOf h kind v
+    by (no n) = volume-collects (h .group) (h .lengths) kind v fit n
+    by (yes e) =
+        let s = sound-axes h axes-pass in
+        let c = map e in
+        let small : Below (prime 1) v = subst (Below (prime 1)) (c .3) (below-map g a 1 (c .0)) in
+        volume-held (h .group) (h .lengths) kind v fit e
+        (pass 7 _ (not-t _ (allBelow-below p v small)) (pass 14 _ (not-t _ (map-consistent g a (s .0 .size .positive, s .1 .size .positive, s .2 .size .positive) 1 v long small .1 c)) no-test))
 
 -- the faults of a volume: 6, and of a map 7, 14
 pub no-fault : (h : Header) (kind : ℕ) (v : List ℕ) (n : ℕ) → faultOf h kind v ≡ suc n → (suc n ≡ 6 → ⊥) → (kind ≡ 1 → (suc n ≡ 7 → ⊥) × (suc n ≡ 14 → ⊥)) → ⊥

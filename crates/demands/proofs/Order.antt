@@ -21,10 +21,9 @@ use Rattle.job.specs.Job.{Header, halfLengths, needed, axisTests, factorsHeld, 
 use Rattle.file_format.specs.declared.FileRecord.{FileRecord}
 use Rattle.file_format.proofs.shape.Shapes.{same-shape}
 use Rattle.file_format.proofs.layout.Heads.{same-header}
-use Rattle.factor_file.specs.Reading.{countAt, headerIn, recordsIn, shapeTests, fileStep}
+use Rattle.factor_file.specs.File.{countAt, headerIn, recordsIn, shapeTests, fileStep}
 use Rattle.model.specs.Model.{Model, group, half, factorOf, Call, recording, synthesis, analysis, readPoint, readFactor, modelTests, modelNext, modelSaid, modelAfter, inState, factorVolume, mapVolume, modelVolume, begun, zeroModel, mapModel, modelFeed}
-use Rattle.demands.specs.Calls.{Start, reading, startHeader, startKind, startVolume, startRecords, firstModel, run, modelAnswers, modelEnd, acceptedRecords}
-use Rattle.demands.specs.Demands.{Started, entry, Alike, allRecords, OrderFree, AlikeStarts, FileOrderFree}
+use Rattle.demands.specs.Demands.{Start, reading, startHeader, startKind, startVolume, startRecords, firstModel, run, modelAnswers, modelEnd, acceptedRecords, Started, entry, Alike, allRecords, OrderFree, AlikeStarts, FileOrderFree}
 use Rattle.demands.proofs.Openings.{kind-is}
 use Rattle.demands.proofs.Starts.{file-shape, accepted-start, file-gives, started-runs}
 use Rattle.demands.proofs.AcceptedRecords.{Records, accepted-fed, start-passes, first-sound, start-fed, start-records, started-records, started-header}

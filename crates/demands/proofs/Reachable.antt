@@ -2,24 +2,25 @@
 -- one of kind 0 with the job's own header collects, a synthesis after it holds the map, and an analysis after that holds the factors.
 use mathlib.Core.Path.{_≡_, refl, sym, ap, _∙_, subst}
 use mathlib.Core.Logic.{_↔_}
-use mathlib.Core.Bool.{Bool, true, false, _&&_, not, cond}
+use mathlib.Core.Bool.{Bool, true, false, not}
 use mathlib.Core.List.{List, [], _∷_}
 use Prim.Native.Nat.{ℕ, zero, suc, _≤_, _<_}
 use native.Mathlib.Omega.{arith}
 use lib.ListN.{length, replicate, length-replicate}
-use lib.Dec.{T, eqb}
+use lib.Dec.{T}
 use borrow.Author.Tests.{le-ltb, eq-eqb}
 use Rattle.refusals.specs.Refusals.{Test, _⇒_, first, accepted}
-use Rattle.refusals.proofs.Tests.{and-left, and-right, pass, none}
+use Rattle.refusals.proofs.Tests.{pass, none}
 use Rattle.lengths.specs.Lengths.{scratchLength, cleared}
 use Rattle.job.specs.declared.Job.{Job}
-use Rattle.job.specs.Job.{Header, needed, factorsHeld, mapHeld, headerOf, withState, validJob, openTests, Said, done, density, factor, refused, Outcome, Worked, unchanged, recordStep, synthesisTests, synthesised, synthesisStep, analysisTests, analysed, analysisStep, pointStep, factorStep}
+use Rattle.job.specs.Job.{Header, needed, factorsHeld, mapHeld, headerOf, withState, validJob, openTests, Said, done, density, factor, refused, Outcome, Worked, unchanged, recordStep, synthesised, synthesisStep, analysed, analysisStep, pointStep, factorStep}
+use Rattle.job.specs.TestSteps.{synthesisTests, analysisTests}
 use Rattle.job.proofs.check.Openings.{volume-collects, volume-decides}
 use Rattle.job.proofs.Jobs.{job-of-header, valid-parts, valid-with}
 use Rattle.model.specs.Model.{Model, Call, recording, synthesis, analysis, readPoint, readFactor, modelTests, modelNext, modelAfter, modelJob, modelVolume, inState, zeroModel}
-use Rattle.demands.specs.Calls.{opening, step, Ran, modelEnd}
-use Rattle.demands.specs.Demands.{Reachable, ImpossibleExactly}
+use Rattle.demands.specs.Demands.{opening, step, Ran, modelEnd, Reachable, ImpossibleExactly}
 use Rattle.model.proofs.Sound.{LawfulModel}
+use Rattle.demands.proofs.TestOrder.{others, other-first}
 use Rattle.demands.proofs.Corollaries.{runs}
 use Rattle.demands.proofs.Lists.{every-list, end-sound}
 use Rattle.demands.proofs.Openings.{opening-sound, opening-gives}
@@ -85,19 +86,6 @@ module _ (j : Job) (valid : validJob j ≡ true) where
       )
 
 -- ---- every call tests 25 first, and no other test has that number
-
-abbrev others : ℕ → List Test → Bool
-others n [] = true
-others n (t ∷ ts) = not (eqb (t .number) n) && others n ts
-
-other-first : (n : ℕ) (ts : List Test) → T (others (suc n) ts) → first ts ≡ suc n → ⊥
-unfolding first
-other-first n [] o e = omega arith
-other-first n (t ∷ ts) o e = one (t .fails) (t .number) (and-left (not (eqb (t .number) (suc n))) (others (suc n) ts) o) (other-first n ts (and-right (not (eqb (t .number) (suc n))) (others (suc n) ts) o)) e
-  where
-    one : (b : Bool) (k : ℕ) → T (not (eqb k (suc n))) → (first ts ≡ suc n → ⊥) → cond b k (first ts) ≡ suc n → ⊥
-    one true k o f e = subst T (ap not (eq-eqb k (suc n) e)) o
-    one false k o f e = f e
 
 -- an accepted call does not say that it is refused
 abbrev saysDone : Said → Bool

@@ -16,7 +16,8 @@ use Rattle.refusals.proofs.Tests.{none, pass, Passed, passed}
 use Rattle.cell.specs.Volume.{factorsIn}
 use Rattle.cell.proofs.Consistency.{consistent-read}
 use Rattle.job.specs.declared.Job.{Job}
-use Rattle.job.specs.Job.{factorsHeld, mapHeld, headerOf, withState, validJob, groupIn, halves, p, done, refused, Outcome, Worked, unchanged, synthesisTests, synthesised, synthesisStep, analysisStep, pointStep}
+use Rattle.job.specs.Job.{factorsHeld, mapHeld, headerOf, withState, validJob, groupIn, halves, p, done, refused, Outcome, Worked, unchanged, synthesised, synthesisStep, analysisStep, pointStep}
+use Rattle.job.specs.TestSteps.{synthesisTests}
 use Rattle.job.proofs.Jobs.{job-of-header, valid-with, valid-job-sizes}
 use Rattle.model.specs.Model.{Model, group, half, analysis, inState, factorVolume, modelVolume, modelJob}
 use Rattle.demands.specs.Demands.{MapsReal, AnalysisRestores}
@@ -29,7 +30,7 @@ accepted-done : (n : ℕ) (o : Worked) (u : ℕ → Worked) → ((n : ℕ) → u
 accepted-done zero o u r e = refl
 accepted-done (suc n) o u r e = let z : refused (suc n) ≡ done = sym (r (suc n)) ∙ e in let y : _≡_ {A = ℕ} 0 1 = cc in absurd (omega arith)
 
-synthesis-accepted : (j : Job) (v scratch : List ℕ) → synthesisStep j v scratch .outcome .answer ≡ done → 0 ≡ first (synthesisTests j v (length scratch))
+pub synthesis-accepted : (j : Job) (v scratch : List ℕ) → synthesisStep j v scratch .outcome .answer ≡ done → 0 ≡ first (synthesisTests j v (length scratch))
 unfolding synthesisStep
 synthesis-accepted j v scratch a = accepted-done (first (synthesisTests j v (length scratch))) _ (λ n. record { outcome = unchanged j v n; scratch = scratch }) (λ n. refl) a
 

@@ -7,16 +7,16 @@ use native.Mathlib.Omega.{arith}
 use lib.ListN.{length, replicate}
 use Rattle.refusals.specs.Refusals.{first, accepted}
 use Rattle.job.specs.declared.Job.{Job}
-use Rattle.job.specs.Job.{Header, openTests, Opening, opened, notOpened, OpenOutcome, done, density, factor, refused, Outcome}
+use Rattle.job.specs.Job.{Header, openTests, Opening, opened, notOpened, OpenOutcome, done, refused}
 use Rattle.file_format.specs.declared.FileRecord.{FileRecord}
-use Rattle.factor_file.specs.Reading.{headerIn, recordsIn, shapeTests, feed, fileStep}
+use Rattle.factor_file.specs.File.{headerIn, recordsIn, shapeTests, indexOf, feed, fileStep}
+use Rattle.factor_file.proofs.Feeding.{said-number, record-number, keeps-job}
 use Rattle.model.specs.Model.{Model, Call, modelTests, modelNext, modelSaid, modelAfter, modelJob, modelVolume, zeroModel, beginningTests, Beginning, begun, notBegun, openingModel, modelOpen, recordingOf, modelFeed, modelFile}
-use Rattle.demands.specs.Calls.{Start, opening, reading, start, modelStart, startHeader, startKind, startVolume, run, modelRan}
-use Rattle.demands.specs.Demands.{Started, EveryList, RefusedStarts, TripleSums, ImagesAlike, OccupiedExactly}
+use Rattle.demands.specs.Demands.{Start, opening, reading, start, modelStart, startHeader, startKind, startVolume, run, modelRan, Started, EveryList, RefusedStarts, Faultless, FaultlessStarts, TripleSums, ImagesAlike, OccupiedExactly}
 use Rattle.model.proofs.Sound.{LawfulModel}
 use Rattle.model.proofs.OneCall.{one-call}
 use Rattle.demands.proofs.Corollaries
-use Rattle.demands.proofs.Openings.{given, opening-sound, opening-gives, faultOf, Verdict, passes, fails, faulty, verdict, open-refused, no-fault}
+use Rattle.demands.proofs.Openings.{given, opening-sound, opening-gives, faultOf, Verdict, passes, fails, faulty, verdict, open-refused, no-fault, faultless}
 
 -- ---- records that are fed
 
@@ -25,28 +25,32 @@ abbrev Agrees : OpenOutcome → Beginning → Type 0
 Agrees o (begun m) = (o ≡ given m) × LawfulModel m
 Agrees o (notBegun n place) = o .answer ≡ notOpened n place
 
--- what becomes of a file once it is opened, and of its records once one is fed
+-- what becomes of a file once it is opened
 abbrev afterOpening : List FileRecord → OpenOutcome → OpenOutcome
 afterOpening cs o = elim (o .answer) [ opened j ↦ feed cs 0 j (o .volume) | notOpened n place ↦ o ]
-
-abbrev afterRecord : List FileRecord → (place : ℕ) → Job → List ℕ → Outcome → OpenOutcome
-afterRecord cs place j v o = elim (o .answer) [ done ↦ feed cs (suc place) (o .job) (o .volume) | refused n ↦ record { answer = notOpened n place; volume = replicate (length v) 0 } | density n ↦ record { answer = opened j; volume = v } | factor x y ↦ record { answer = opened j; volume = v } ]
 
 feed-agrees : (cs : List FileRecord) (place : ℕ) (m : Model) → LawfulModel m → Agrees (feed cs place (modelJob m) (modelVolume m)) (modelFeed cs place m)
 unfolding feed modelFeed modelSaid modelAfter
 feed-agrees [] place m s = (refl, s)
 feed-agrees (c ∷ cs) place m s =
+    let k = first (modelTests m (recordingOf c)) in
     let o = one-call m s (recordingOf c) in
-    subst (λ o. Agrees (afterRecord cs place (modelJob m) (modelVolume m) o) (accepted (first (modelTests m (recordingOf c))) (modelFeed cs (suc place) (modelNext m (recordingOf c))) (λ n. notBegun n place))) (sym (o .0))
-    (by (first (modelTests m (recordingOf c))) (o .1) (feed-agrees cs (suc place) (modelNext m (recordingOf c))))
+    let number = sym (record-number (modelJob m) (indexOf c) (c .a) (c .b) (modelVolume m)) ∙ ap (λ o. said-number (o .answer)) (o .0) ∙ accepted-number k in
+    let job = sym (keeps-job (modelJob m) (indexOf c) (c .a) (c .b) (modelVolume m)) ∙ ap (λ o. o .job) (o .0) in
+    by _ k _ number job (ap (λ o. o .volume) (o .0)) (o .1) (feed-agrees cs (suc place) (modelNext m (recordingOf c)))
   where
     next : Model
     next = modelNext m (recordingOf c)
 
-    by : (n : ℕ) → LawfulModel (accepted n next (λ n. m)) → (LawfulModel next → Agrees (feed cs (suc place) (modelJob next) (modelVolume next)) (modelFeed cs (suc place) next)) →
-        Agrees (afterRecord cs place (modelJob m) (modelVolume m) (record { answer = accepted n done refused; job = modelJob (accepted n next (λ n. m)); volume = modelVolume (accepted n next (λ n. m)) })) (accepted n (modelFeed cs (suc place) next) (λ n. notBegun n place))
-    by zero s f = f s
-    by (suc n) s f = refl
+    accepted-number : (k : ℕ) → said-number (accepted k done refused) ≡ k
+    accepted-number zero = refl
+    accepted-number (suc k) = refl
+
+    by : (n k : ℕ) (w : List ℕ) → n ≡ k → modelJob m ≡ modelJob (accepted k next (λ n. m)) → w ≡ modelVolume (accepted k next (λ n. m)) → LawfulModel (accepted k next (λ n. m)) →
+        (LawfulModel next → Agrees (feed cs (suc place) (modelJob next) (modelVolume next)) (modelFeed cs (suc place) next)) →
+        Agrees (accepted n (feed cs (suc place) (modelJob m) w) (λ n. record { answer = notOpened n place; volume = replicate (length (modelVolume m)) 0 })) (accepted k (modelFeed cs (suc place) next) (λ n. notBegun n place))
+    by n zero w e ej ev s f = rw (e, ej, ev) (f s)
+    by n (suc k) w e ej ev s f = rw e refl
 
 feed-gives : (cs : List FileRecord) (place : ℕ) (m m′ : Model) → LawfulModel m → modelFeed cs place m ≡ begun m′ → feed cs place (modelJob m) (modelVolume m) ≡ given m′
 feed-gives cs place m m′ s e = let a : Agrees _ (begun m′) = subst (Agrees _) e (feed-agrees cs place m s) in a .0
@@ -84,7 +88,7 @@ file-shape file v j e = by (first (shapeTests file)) _ e
 data Course (s : Start) : Type 0 where
   begins : (m : Model) → start s ≡ given m → modelStart s ≡ begun m → LawfulModel m → 0 ≡ first (openTests (startHeader s) (startKind s) (startVolume s)) → Course s
   refuses : (n place : ℕ) → start s .answer ≡ notOpened n place → modelStart s ≡ notBegun n place → Course s
-  faults : (n : ℕ) → start s .answer ≡ notOpened (suc n) 0 → faultOf (startHeader s) (startKind s) (startVolume s) ≡ suc n → Course s
+  faults : (n : ℕ) → start s .answer ≡ notOpened (suc n) 0 → first (beginningTests (startHeader s) (startKind s)) ≡ 0 → faultOf (startHeader s) (startKind s) (startVolume s) ≡ suc n → Course s
 
 course : (s : Start) → Course s
 unfolding modelOpen modelFile fileStep
@@ -93,7 +97,7 @@ course (opening h kind v) = by (verdict h kind v)
     by : Verdict h kind v → Course (opening h kind v)
     by (passes e f) = begins (openingModel h kind v) (opening-gives h kind v (sym e)) (rw f) (opening-sound h kind v (sym e)) (sym e)
     by (fails n e f) = refuses (suc n) 0 (ap (λ o. o .answer) (open-refused h kind v e)) (rw f)
-    by (faulty n e f) = faults n (ap (λ o. o .answer) (open-refused h kind v e)) f
+    by (faulty n e b f) = faults n (ap (λ o. o .answer) (open-refused h kind v e)) b f
 course (reading file v) = shaped (first (shapeTests file)) refl
   where
     h : Header
@@ -106,7 +110,7 @@ course (reading file v) = shaped (first (shapeTests file)) refl
     by : first (shapeTests file) ≡ 0 → Verdict h 0 v → Course (reading file v)
     by q (passes e f) = fed q e f (modelFeed (recordsIn file) 0 (zeroModel h)) refl (feed-agrees (recordsIn file) 0 (zeroModel h) (opening-sound h 0 v (sym e)))
     by q (fails n e f) = refuses (suc n) 0 (ap (λ o. o .answer) (file-refused file v q e)) (rw (q, f))
-    by q (faulty n e f) = faults n (ap (λ o. o .answer) (file-refused file v q e)) f
+    by q (faulty n e b f) = faults n (ap (λ o. o .answer) (file-refused file v q e)) b f
 
     shaped : (n : ℕ) → first (shapeTests file) ≡ n → Course (reading file v)
     shaped zero q = by q (verdict h 0 v)
@@ -121,7 +125,7 @@ accepted-start s j v e = by (course s)
         let same : opened j ≡ opened (modelJob m) = ap (λ o. o .answer) (sym e ∙ g) in
         (m, b, sound, cc, ap (λ o. o .volume) (sym e ∙ g))
     by (refuses n place a b) = absurd (opened-not (ap (λ o. o .answer) e) a)
-    by (faults n a f) = absurd (opened-not (ap (λ o. o .answer) e) a)
+    by (faults n a b f) = absurd (opened-not (ap (λ o. o .answer) e) a)
 
 -- .. and no test of an opening refuses its header and its volume
 pub opened-passes : (s : Start) (j : Job) → start s .answer ≡ opened j → 0 ≡ first (openTests (startHeader s) (startKind s) (startVolume s))
@@ -130,7 +134,7 @@ opened-passes s j e = by (course s)
     by : Course s → 0 ≡ first (openTests (startHeader s) (startKind s) (startVolume s))
     by (begins m g b sound none) = none
     by (refuses n place a b) = absurd (opened-not e a)
-    by (faults n a f) = absurd (opened-not e a)
+    by (faults n a b f) = absurd (opened-not e a)
 
 -- a start that is refused, for no fault of its volume, is refused by the model
 pub refused-start : RefusedStarts
@@ -142,10 +146,36 @@ refused-start = record { alike = alike }
         by : Course s → modelStart s ≡ notBegun n place
         by (begins m g b sound none) = absurd (opened-not (ap (λ o. o .answer) g) e)
         by (refuses k l a b) = let same : notOpened k l ≡ notOpened n place = sym a ∙ e in b ∙ cc
-        by (faults k a f) =
+        by (faults k a b f) =
             let same : notOpened n place ≡ notOpened (suc k) 0 = sym e ∙ a in
             let number : n ≡ suc k = cc in
             absurd (no-fault (startHeader s) (startKind s) (startVolume s) k f (λ q. six (number ∙ q)) (λ q. (λ r. map q .0 (number ∙ r), λ r. map q .1 (number ∙ r))))
+
+-- a start whose volume is without fault does what the model does
+pub faultless-starts : FaultlessStarts
+faultless-starts = record { accepts = accepts; refuses = refused-alike }
+  where
+    begun-not : {b : Beginning} {m : Model} {n place : ℕ} → b ≡ begun m → b ≡ notBegun n place → ⊥
+    begun-not q r = let z : _≡_ {A = ℕ} 0 1 = cc in omega arith
+
+    no-faults : (s : Start) → Faultless s → (n : ℕ) → first (beginningTests (startHeader s) (startKind s)) ≡ 0 → faultOf (startHeader s) (startKind s) (startVolume s) ≡ suc n → ⊥
+    no-faults s sound n b f = let z : 0 ≡ suc n = faultless (startHeader s) (startKind s) (startVolume s) b (sound .long) (sound .map) ∙ f in omega arith
+
+    accepts : (s : Start) (m : Model) → Faultless s → modelStart s ≡ begun m → start s ≡ given m
+    accepts s m sound e = by (course s)
+      where
+        by : Course s → start s ≡ given m
+        by (begins k g b lawful none) = let same : begun k ≡ begun m = sym b ∙ e in let is : k ≡ m = cc in g ∙ ap given is
+        by (refuses n place a b) = absurd (begun-not e b)
+        by (faults n a b f) = absurd (no-faults s sound n b f)
+
+    refused-alike : (s : Start) (n place : ℕ) → Faultless s → modelStart s ≡ notBegun n place → start s .answer ≡ notOpened n place
+    refused-alike s n place sound e = by (course s)
+      where
+        by : Course s → start s .answer ≡ notOpened n place
+        by (begins m g b lawful none) = absurd (begun-not b e)
+        by (refuses k l a b) = let same : notBegun k l ≡ notBegun n place = sym b ∙ e in a ∙ cc
+        by (faults k a b f) = absurd (no-faults s sound k b f)
 
 -- ---- from an accepted start on
 

@@ -1,27 +1,101 @@
+-- Lists of calls: what they answer and leave on a job and a volume, each call by its own promise, and what the model says of the same list.
 -- The third demand: over every list of calls from an accepted opening or file on, every answer, the job and the volume are the model's; and what follows from it.
--- Each statement is the promise of the function of the same name in src/lib.rt; Started, allRecords, entry, Alike, Reordered and Reachable are what they
--- speak of.
-use mathlib.Core.Path.{_≡_}
-use mathlib.Core.Logic.{_↔_}
-use mathlib.Core.Bool.{true}
-use mathlib.Core.List.{List, [], _∷_, _++_, map}
-use Prim.Native.Nat.{ℕ, _+_, _≤_}
-use lib.ListN.{length, take}
-use lib.Dec.{eqb}
-use Rattle.algebra.specs.cells.Cell.{J, Inside, Sym, ops, full, pointImage, at, factorActs}
+-- Each statement is the promise of the function of the same name in src/lib.rt.
+use Rattle.algebra.specs.Prelude.{_≡_, _↔_, true, eqb, ℕ, _+_, _≤_, List, [], _∷_, _++_, map, length, take}
+use mathlib.Core.Logic.{_⊎_}
+use Rattle.algebra.specs.cells.Cell.{J, Sym, ops, full, pointImage, at, factorActs}
 use Rattle.algebra.specs.orbits.Orbit.{Mem, Perm, recordAll}
 use Rattle.numbers.specs.Value.{Value, field, conj, value}
 use Rattle.lengths.specs.Lengths.{scratchLength}
-use Rattle.cell.specs.Volume.{factorsIn, mapOf}
+use Rattle.cell.specs.Volume.{groupOf, factorsIn, mapOf}
+use Rattle.cell.specs.Exactly.{FactorsConsistent, MapConsistent}
 use Rattle.job.specs.declared.Job.{Job}
 use Rattle.job.specs.declared.Reflection.{Reflection}
 use Rattle.job.specs.declared.GridPoint.{GridPoint}
-use Rattle.job.specs.Job.{mapHeld, factorsHeld, withState, headerOf, validJob, groupIn, halves, collecting, within, index, position, Opening, opened, notOpened, OpenOutcome, Said, done, density, refused, Outcome, Worked, recordStep, synthesisStep, analysisStep, pointStep}
+use Rattle.job.specs.Job.{Header, halfLengths, needed, mapHeld, factorsHeld, withState, headerOf, validJob, groupIn, halves, collecting, within, index, position, opened, notOpened, OpenOutcome, openStep, Said, done, density, refused, recordStep, synthesisStep, analysisStep, pointStep, factor}
 use Rattle.file_format.specs.declared.FileRecord.{FileRecord}
-use Rattle.factor_file.specs.Reading.{indexOf, countAt, recordsIn, fileStep}
-use Rattle.model.specs.Model.{Model, group, half, factorOf, densityOf, Call, modelVolume, modelJob, factorVolume, mapVolume, Beginning, begun, notBegun}
-use Rattle.demands.specs.Calls.{Start, start, modelStart, startHeader, startKind, startVolume, startRecords, firstModel, step, Ran, run, modelRan, modelEnd, acceptedRecords}
-use Rattle.factor_file.specs.Writing.{written, writeStep}
+use Rattle.factor_file.specs.File.{indexOf, countAt, recordsIn, fileStep, headerIn, writeStep}
+use Rattle.model.specs.Model.{Model, group, half, factorOf, densityOf, Call, modelVolume, modelJob, factorVolume, mapVolume, Beginning, begun, notBegun, recording, synthesis, analysis, readPoint, readFactor, modelSaid, modelAfter, openingModel, modelOpen, modelFile}
+use Rattle.output.specs.Output.{written, notWritten}
+pub use Rattle.job.specs.Job.{step}
+
+-- ---- how a job begins: an opening or a file, each with the volume that it is lent
+
+pub data Start : Type 0 where
+  opening : Header → (kind : ℕ) (volume : List ℕ) → Start
+  reading : (file volume : List ℕ) → Start
+
+abbrev pub start : Start → OpenOutcome
+start (opening h kind v) = openStep h kind v
+start (reading file v) = fileStep file v
+
+abbrev pub modelStart : Start → Beginning
+modelStart (opening h kind v) = modelOpen h kind v
+modelStart (reading file v) = modelFile file
+
+-- a file is an opening with kind 0, then its records
+abbrev pub startHeader : Start → Header
+startHeader (opening h kind v) = h
+startHeader (reading file v) = headerIn file
+
+abbrev pub startKind : Start → ℕ
+startKind (opening h kind v) = kind
+startKind (reading file v) = 0
+
+abbrev pub startVolume : Start → List ℕ
+startVolume (opening h kind v) = v
+startVolume (reading file v) = v
+
+abbrev pub startRecords : Start → List FileRecord
+startRecords (opening h kind v) = []
+startRecords (reading file v) = recordsIn file
+
+-- the model that the opening begins, before a file's records
+abbrev pub firstModel : Start → Model
+firstModel s = openingModel (startHeader s) (startKind s) (startVolume s)
+
+-- ---- a list of calls; each is handed the job and the volume that the one before left
+
+pub record Ran : Type 0 where
+  pub answers : List Said
+  pub job : Job
+  pub volume : List ℕ
+
+abbrev pub answering : Said → Ran → Ran
+answering a r = record { answers = a ∷ r .answers; job = r .job; volume = r .volume }
+
+unfoldable pub run : Job → List ℕ → List Call → Ran
+run j v [] = record { answers = []; job = j; volume = v }
+run j v (c ∷ l) = answering (step j v c .answer) (run (step j v c .job) (step j v c .volume) l)
+
+-- the same list in the model: the answers, and the model after it
+unfoldable pub modelAnswers : Model → List Call → List Said
+modelAnswers m [] = []
+modelAnswers m (c ∷ l) = modelSaid m c ∷ modelAnswers (modelAfter m c) l
+
+unfoldable pub modelEnd : Model → List Call → Model
+modelEnd m [] = m
+modelEnd m (c ∷ l) = modelEnd (modelAfter m c) l
+
+abbrev pub modelRan : Model → List Call → Ran
+modelRan m l = record { answers = modelAnswers m l; job = modelJob (modelEnd m l); volume = modelVolume (modelEnd m l) }
+
+-- ---- the records of a list of calls that were accepted, in their order
+
+abbrev pub acceptedRecord : Call → Said → List FileRecord → List FileRecord
+acceptedRecord (recording k x y) done cs = record { h = k .0; k = k .1; l = k .2; a = x; b = y } ∷ cs
+acceptedRecord (recording k x y) (density n) cs = cs
+acceptedRecord (recording k x y) (factor n n′) cs = cs
+acceptedRecord (recording k x y) (refused n) cs = cs
+acceptedRecord (synthesis scratch) a cs = cs
+acceptedRecord (analysis scratch) a cs = cs
+acceptedRecord (readPoint x) a cs = cs
+acceptedRecord (readFactor k) a cs = cs
+
+unfoldable pub acceptedRecords : List Call → List Said → List FileRecord
+acceptedRecords [] answers = []
+acceptedRecords (c ∷ l) [] = []
+acceptedRecords (c ∷ l) (a ∷ answers) = acceptedRecord c a (acceptedRecords l answers)
 
 -- A start that is accepted, with the job and the volume that it gives, and the model that it begins.
 pub record Started (s : Start) (j : Job) (v : List ℕ) (m : Model) : Type 0 where
@@ -36,6 +110,17 @@ pub record EveryList : Type 0 where
 -- A start that is refused, for no fault of its volume (6, 7, 14), is refused by the model, by the same number and place.
 pub record RefusedStarts : Type 0 where
   pub alike : (s : Start) (n place : ℕ) → start s .answer ≡ notOpened n place → (n ≡ 6 → ⊥) → (startKind s ≡ 1 → (n ≡ 7 → ⊥) × (n ≡ 14 → ⊥)) → modelStart s ≡ notBegun n place
+
+-- A volume without fault: as long as the header asks for, and for kind 1 the map, with its zeros, of some cell that obeys the group;
+-- its numbers are then residues.
+pub record Faultless (s : Start) : Type 0 where
+  pub long : length (startVolume s) ≡ needed (startHeader s)
+  pub map : startKind s ≡ 1 → MapConsistent (groupOf (startHeader s .group)) (halfLengths (startHeader s .lengths)) 1 (startVolume s)
+
+-- A start whose volume is without fault does what the model does: it gives the model's job and volume, or is refused by the model's number and place.
+pub record FaultlessStarts : Type 0 where
+  pub accepts : (s : Start) (m : Model) → Faultless s → modelStart s ≡ begun m → start s ≡ record { answer = opened (modelJob m); volume = modelVolume m }
+  pub refuses : (s : Start) (n place : ℕ) → Faultless s → modelStart s ≡ notBegun n place → start s .answer ≡ notOpened n place
 
 -- all records that were accepted: those of the file, then those of the list
 abbrev pub allRecords : Start → Job → List ℕ → List Call → List FileRecord
@@ -107,6 +192,18 @@ pub record OccupiedExactly : Type 0 where
   pub exactly : (s : Start) (j : Job) (v : List ℕ) (m : Model) → Started s j v m → (l : List Call) (k : Reflection) (x y : ℕ) →
       let a = recordStep (run j v l .job) k x y (run j v l .volume) .answer in
       ((n : ℕ) → a ≡ refused n → n ≡ 24) → ((a ≡ refused 24) ↔ (factorOf (modelEnd m l) (index k) ≡ value 1 0 0 → ⊥))
+
+-- Refusal 14 exactly if no whole cell that obeys group and Friedel has these packed factors, or none that obeys the group has this map with its zeros:
+-- of a call that no test before it refuses, whatever job, volume and scratch it is lent. In the writer 17 and 18 come after it.
+pub record InconsistentExactly : Type 0 where
+  pub opening : (h : Header) (v : List ℕ) → let a = openStep h 1 v .answer in
+      ((n place : ℕ) → a ≡ notOpened n place → n ≡ 14) → ((a ≡ notOpened 14 0) ↔ (MapConsistent (groupOf (h .group)) (halfLengths (h .lengths)) 1 v → ⊥))
+  pub synthesis : (j : Job) (v scratch : List ℕ) → let a = synthesisStep j v scratch .outcome .answer in
+      ((n : ℕ) → a ≡ refused n → n ≡ 14) → ((a ≡ refused 14) ↔ (FactorsConsistent (groupIn j) (halves j) 1 v → ⊥))
+  pub analysis : (j : Job) (v scratch : List ℕ) → let a = analysisStep j v scratch .outcome .answer in
+      ((n : ℕ) → a ≡ refused n → n ≡ 14) → ((a ≡ refused 14) ↔ (MapConsistent (groupIn j) (halves j) 1 v → ⊥))
+  pub writer : (j : Job) (v output : List ℕ) → let a = writeStep j v output .answer in
+      ((n : ℕ) → a ≡ notWritten n → (n ≡ 14) ⊎ (n ≡ 17) ⊎ (n ≡ 18)) → ((a ≡ notWritten 14) ↔ (FactorsConsistent (groupIn j) (halves j) 1 v → ⊥))
 
 -- A job that an opening or a later call could have made: from an accepted opening or file on, some list of calls leaves it.
 abbrev pub Reachable : Job → Type 0

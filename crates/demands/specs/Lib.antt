@@ -1,4 +1,3 @@
-pub mod Calls
 pub mod Demands
 pub mod Specimens
 pub mod Grids

@@ -4,7 +4,7 @@
 pub mod read_back; // read_back.rt: what was written reads back
 pub mod specimens; // specimens.rt: the paper's specimens
 
-ghost use Rattle.demands.specs.Demands.{EveryList, RefusedStarts, FactorsImplied, TripleSums, MapsReal, ImagesAlike, AnalysisRestores, OrderFree, AlikeStarts, FileOrderFree, OccupiedExactly, ImpossibleExactly};
+ghost use Rattle.demands.specs.Demands.{EveryList, RefusedStarts, FaultlessStarts, FactorsImplied, TripleSums, MapsReal, ImagesAlike, AnalysisRestores, OrderFree, AlikeStarts, FileOrderFree, OccupiedExactly, InconsistentExactly, ImpossibleExactly};
 
 // Over every list of calls: answers, job and volume.
 pub fn every_list()
@@ -14,6 +14,11 @@ pub fn every_list()
 // A refused start is refused by the model.
 pub fn refused_starts()
     ensures { λ _. ⌜ RefusedStarts ⌝ }
+{}
+
+// A start whose volume is without fault does what the model does.
+pub fn faultless_starts()
+    ensures { λ _. ⌜ FaultlessStarts ⌝ }
 {}
 
 // The accepted records, or the opened map, imply every factor.
@@ -59,6 +64,11 @@ pub fn file_order_free()
 // Refusal 24 exactly if F at the index is not zero.
 pub fn occupied_exactly()
     ensures { λ _. ⌜ OccupiedExactly ⌝ }
+{}
+
+// Refusal 14 exactly if no whole cell has these packed factors, or this map.
+pub fn inconsistent_exactly()
+    ensures { λ _. ⌜ InconsistentExactly ⌝ }
 {}
 
 // Refusal 25 exactly of a job that no opening and no later call could have made.

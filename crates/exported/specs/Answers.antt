@@ -3,21 +3,15 @@ use mathlib.Core.List.{List}
 use Prim.Native.Nat.{ℕ}
 use Rattle.job.specs.declared.Axis.{Axis}
 use Rattle.job.specs.declared.Job.{Job}
-use Rattle.job.specs.Job.{Opening, Opening.opened, Opening.notOpened, OpenOutcome, Said, Said.done, Said.density, Said.factor, Said.refused, Outcome, Worked}
+use Rattle.job.specs.Job.{Opening, Opening.opened, Opening.notOpened, OpenOutcome, Said, Outcome, Worked}
+use Rattle.job.specs.Answers.{replyOf}
 use Rattle.exported.specs.declared.answers.JobCoded.{JobCoded}
 use Rattle.exported.specs.declared.answers.FileCoded.{FileCoded}
 use Rattle.exported.specs.declared.answers.PointCoded.{PointCoded}
 use Rattle.exported.specs.declared.answers.FactorCoded.{FactorCoded}
 use Rattle.line.specs.Line.{LineOutcome}
-use Rattle.factor_file.specs.Writing.{Writing, Writing.written, Writing.notWritten, WriteOutcome}
+use Rattle.output.specs.Output.{Filled, Filled.written, Filled.notWritten, FillOutcome}
 use Rattle.exported.specs.declared.WriteCoded.{WriteCoded}
-
--- the refusal's number, 0 for an accepted call
-abbrev pub numberSaid : Said → ℕ
-numberSaid done = 0
-numberSaid (density n) = 0
-numberSaid (factor x y) = 0
-numberSaid (refused n) = n
 
 -- what stands for the job that a refused opening does not give
 abbrev pub noAxis : Axis
@@ -41,32 +35,25 @@ abbrev pub fileCoded : OpenOutcome → FileCoded × List ℕ
 fileCoded o = (fileAnswerCoded (o .answer), o .volume)
 
 abbrev pub recordCoded : Outcome → JobCoded × List ℕ
-recordCoded o = (record { number = numberSaid (o .answer); job = o .job }, o .volume)
+recordCoded o = (record { number = replyOf (o .answer) .number; job = o .job }, o .volume)
 
 abbrev pub workCoded : Worked → JobCoded × List ℕ × List ℕ
-workCoded w = (record { number = numberSaid (w .outcome .answer); job = w .outcome .job }, w .outcome .volume, w .scratch)
+workCoded w = (record { number = replyOf (w .outcome .answer) .number; job = w .outcome .job }, w .outcome .volume, w .scratch)
 
--- A reading of a point says a density or a refusal, one of a factor a factor or a refusal.
+-- A reading of a point says a density or a refusal, one of a factor a factor or a refusal: the other cases do not occur.
 abbrev pub pointCoded : Said → PointCoded
-pointCoded done = record { number = 0; density = 0 }
-pointCoded (density n) = record { number = 0; density = n }
-pointCoded (factor x y) = record { number = 0; density = 0 }
-pointCoded (refused n) = record { number = n; density = 0 }
+pointCoded a = record { number = replyOf a .number; density = replyOf a .x }
 
 abbrev pub factorCoded : Said → FactorCoded
-factorCoded done = record { number = 0; a = 0; b = 0 }
-factorCoded (density n) = record { number = 0; a = 0; b = 0 }
-factorCoded (factor x y) = record { number = 0; a = x; b = y }
-factorCoded (refused n) = record { number = n; a = 0; b = 0 }
+factorCoded a = record { number = replyOf a .number; a = replyOf a .x; b = replyOf a .y }
 
--- ---- What the exported calls of a line and of the writer return and leave, from what the definitions of the public calls say: the answer as numbers,
--- then the buffers. Those of a job and of a factor file: crates/answers/specs/Coded.antt.
+-- ---- the same of the writer and of a line
 
-abbrev pub writingCoded : Writing → WriteCoded
+abbrev pub writingCoded : Filled → WriteCoded
 writingCoded (written n) = record { number = 0; written = n }
 writingCoded (notWritten n) = record { number = n; written = 0 }
 
-abbrev pub writeCoded : WriteOutcome → WriteCoded × List ℕ
+abbrev pub writeCoded : FillOutcome → WriteCoded × List ℕ
 writeCoded o = (writingCoded (o .answer), o .output)
 
 abbrev pub lineCoded : LineOutcome → ℕ × List ℕ × List ℕ

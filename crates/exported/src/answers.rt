@@ -2,17 +2,17 @@
 //
 // Every answer has a number: 0, or the paper's number of the refusal. What only an accepted call gives is zero in a refused one.
 use factor_file::FileAnswer;
-use job::Answer;
 use job::Answered;
 use job::Axis;
 use job::FactorAnswer;
 use job::Job;
 use job::OpenAnswer;
 use job::PointAnswer;
+use job::reply;
 ghost use mathlib.Core.Path.{_≡_};
-ghost use Rattle.job.specs.Job.{said, saidOpen, saidPoint, saidFactor};
-ghost use Rattle.factor_file.specs.Reading.{saidFile};
-ghost use Rattle.exported.specs.Answers.{numberSaid, noJob, openingCoded, fileAnswerCoded, pointCoded, factorCoded};
+ghost use Rattle.job.specs.Answers.{said, saidOpen, saidPoint, saidFactor, replyOf};
+ghost use Rattle.factor_file.specs.Answers.{saidFile};
+ghost use Rattle.exported.specs.Answers.{noJob, openingCoded, fileAnswerCoded, pointCoded, factorCoded};
 
 // The answer of an opening, a record, a synthesis and an analysis.
 #[repr(C)]
@@ -77,12 +77,12 @@ pub fn file_coded(answer: FileAnswer) -> FileCoded
 
 // Of a record, a synthesis and an analysis.
 pub fn answered_coded(answered: Answered) -> JobCoded
-    ensures { λ r. ⌜ r ≡ record { number = numberSaid (said (answered .answer)); job = answered .job } ⌝ }
+    ensures { λ r. ⌜ r ≡ record { number = replyOf (said (answered .answer)) .number; job = answered .job } ⌝ }
 {
     let answer = answered.answer;
     let next = answered.job;
     JobCoded {
-        number: answer_number(answer),
+        number: reply::of_answer(answer).number,
         job: next,
     }
 }
@@ -90,35 +90,21 @@ pub fn answered_coded(answered: Answered) -> JobCoded
 pub fn point_coded(answer: PointAnswer) -> PointCoded
     ensures { λ r. ⌜ r ≡ pointCoded (saidPoint answer) ⌝ }
 {
-    match answer {
-        PointAnswer::Density(density) => PointCoded { number: 0, density },
-        PointAnswer::Refused(refusal) => PointCoded {
-            number: refusals::number_of(refusal),
-            density: 0,
-        },
+    let numbers = reply::of_point(answer);
+    PointCoded {
+        number: numbers.number,
+        density: numbers.x,
     }
 }
 
 pub fn factor_coded(answer: FactorAnswer) -> FactorCoded
     ensures { λ r. ⌜ r ≡ factorCoded (saidFactor answer) ⌝ }
 {
-    match answer {
-        FactorAnswer::Factor(a, b) => FactorCoded { number: 0, a, b },
-        FactorAnswer::Refused(refusal) => FactorCoded {
-            number: refusals::number_of(refusal),
-            a: 0,
-            b: 0,
-        },
-    }
-}
-
-// The number of what a call of a job says.
-fn answer_number(answer: Answer) -> u32
-    ensures { λ n. ⌜ n ≡ numberSaid (said answer) ⌝ }
-{
-    match answer {
-        Answer::Done => 0,
-        Answer::Refused(refusal) => refusals::number_of(refusal),
+    let numbers = reply::of_factor(answer);
+    FactorCoded {
+        number: numbers.number,
+        a: numbers.x,
+        b: numbers.y,
     }
 }
 

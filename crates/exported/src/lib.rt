@@ -10,16 +10,16 @@ use crate::answers::FileCoded;
 use crate::answers::JobCoded;
 use crate::answers::PointCoded;
 use factor_file::open_file;
-use factor_file::writer::WriteAnswer;
 use job::GridPoint;
 use job::Job;
 use job::Reflection;
 use line::LineAnswer;
+use output::FillAnswer;
 ghost use mathlib.Core.Path.{_≡_};
-ghost use Rattle.line.specs.Line.{lineStep, saidLine};
+ghost use Rattle.line.specs.Line.{lineStep};
+ghost use Rattle.line.specs.Answers.{saidLine};
 ghost use Rattle.job.specs.Job.{openStep, recordStep, synthesisStep, analysisStep, pointStep, factorStep};
-ghost use Rattle.factor_file.specs.Reading.{fileStep};
-ghost use Rattle.factor_file.specs.Writing.{writeStep};
+ghost use Rattle.factor_file.specs.File.{fileStep, writeStep};
 ghost use Rattle.exported.specs.Answers.{openCoded, fileCoded, recordCoded, workCoded, pointCoded, factorCoded, writeCoded, lineCoded};
 
 // The answer of the writer.
@@ -42,7 +42,8 @@ pub extern "C" fn recorder_open(
     f3: &[u8],
     volume: &mut [u32],
 ) -> JobCoded
-    ensures { λ r. ⌜ (r, now (volume .exit)) ≡ openCoded (openStep (record { group = group; lengths = (n1, n2, n3); list1 = now (f1 .entry); list2 = now (f2 .entry); list3 = now (f3 .entry) }) kind (now (volume .entry))) ⌝ }
+    ensures { λ r. ⌜ (r, now (volume .exit)) ≡ openCoded (openStep (record
+        { group = group; lengths = (n1, n2, n3); list1 = now (f1 .entry); list2 = now (f2 .entry); list3 = now (f3 .entry) }) kind (now (volume .entry))) ⌝ }
 {
     crate::answers::opening_coded(job::open::open(group, kind, n1, n2, n3, f1, f2, f3, volume))
 }
@@ -62,8 +63,8 @@ pub extern "C" fn recorder_write_file(held: Job, volume: &[u32], out: &mut [u8])
 {
     let answer = factor_file::writer::write_file(held, volume, out);
     match answer {
-        WriteAnswer::Written(written) => WriteCoded { number: 0, written },
-        WriteAnswer::Refused(refusal) => WriteCoded {
+        FillAnswer::Written(written) => WriteCoded { number: 0, written },
+        FillAnswer::Refused(refusal) => WriteCoded {
             number: refusals::number_of(refusal),
             written: 0,
         },
@@ -126,7 +127,8 @@ pub extern "C" fn recorder_line(
     line: &mut [u32],
     scratch: &mut [u32],
 ) -> u32
-    ensures { λ r. ⌜ (r, now (line .exit), now (scratch .exit)) ≡ lineCoded (lineStep 1 kind direction length (now (factors .entry)) (now (line .entry)) (now (scratch .entry))) ⌝ }
+    ensures { λ r. ⌜ (r, now (line .exit), now (scratch .exit))
+        ≡ lineCoded (lineStep 1 kind direction length (now (factors .entry)) (now (line .entry)) (now (scratch .entry))) ⌝ }
 {
     line_number(line::line(kind, direction, length, factors, line, scratch))
 }

@@ -5,10 +5,10 @@ use Prim.Native.Nat.{ℕ, zero, suc}
 use lib.ListN.{length, replicate, length-replicate}
 use Rattle.refusals.specs.Refusals.{first, accepted}
 use Rattle.job.specs.declared.Job.{Job}
-use Rattle.job.specs.Job.{Opening, opened, notOpened, OpenOutcome, openStep, Said, done, density, factor, refused, recordStep}
+use Rattle.job.specs.Job.{Opening, opened, notOpened, OpenOutcome, openStep, index, recordTests, recordStep}
 use Rattle.job.proofs.Lengths.{open-length, record-length}
 use Rattle.file_format.specs.declared.FileRecord.{FileRecord}
-use Rattle.factor_file.specs.Reading.{headerIn, recordsIn, shapeTests, indexOf, feed, fileStep}
+use Rattle.factor_file.specs.File.{headerIn, recordsIn, shapeTests, indexOf, feed, fileStep}
 
 -- the outcome's volume is as long as v
 abbrev AsLong : List ℕ → OpenOutcome → Type 0
@@ -18,14 +18,11 @@ feed-length : (cs : List FileRecord) (place : ℕ) (j : Job) (v : List ℕ) → 
 unfolding feed
 feed-length [] place j v = refl
 feed-length (c ∷ cs) place j v =
-    let o = recordStep j (indexOf c) (c .a) (c .b) v in
-    by (o .answer) (feed cs (suc place) (o .job) (o .volume)) (feed-length cs (suc place) (o .job) (o .volume) ∙ record-length j (indexOf c) (c .a) (c .b) v)
+    by (first (recordTests j (index (indexOf c)) (c .a) (c .b) v)) (feed cs (suc place) j (recordStep j (indexOf c) (c .a) (c .b) v .volume)) (feed-length cs (suc place) j (recordStep j (indexOf c) (c .a) (c .b) v .volume) ∙ record-length j (indexOf c) (c .a) (c .b) v)
   where
-    by : (a : Said) (next : OpenOutcome) → AsLong v next → AsLong v (elim a [ done ↦ next | refused n ↦ record { answer = notOpened n place; volume = replicate (length v) 0 } | density n ↦ record { answer = opened j; volume = v } | factor x y ↦ record { answer = opened j; volume = v } ])
-    by done next e = e
-    by (refused n) next e = length-replicate (length v) 0
-    by (density n) next e = refl
-    by (factor x y) next e = refl
+    by : (n : ℕ) (next : OpenOutcome) → AsLong v next → AsLong v (accepted n next (λ n. record { answer = notOpened n place; volume = replicate (length v) 0 }))
+    by zero next e = e
+    by (suc n) next e = length-replicate (length v) 0
 
 pub file-length : (file v : List ℕ) → length (fileStep file v .volume) ≡ length v
 unfolding fileStep

@@ -7,9 +7,11 @@ use Rattle.refusals.specs.Refusals.{numberOf, first}
 use Rattle.refusals.proofs.Tests.{fails}
 use Rattle.job.specs.declared.Job.{Job}
 use Rattle.job.specs.declared.OpenAnswer.the-variants as O
-use Rattle.job.specs.Job.{Header, notOpened, OpenOutcome, openStep, openOutcome}
+use Rattle.job.specs.Job.{Header, notOpened, OpenOutcome, openStep}
+use Rattle.job.specs.Answers.{openOutcome}
 use Rattle.factor_file.specs.declared.FileAnswer.the-variants.{Opened, Refused}
-use Rattle.factor_file.specs.Reading.{headerIn, recordsIn, shapeTests, feed, fileStep, fileOutcome}
+use Rattle.factor_file.specs.File.{headerIn, recordsIn, shapeTests, feed, fileStep}
+use Rattle.factor_file.specs.Answers.{fileOutcome}
 
 -- the header that was opened is that of the file
 pub opened-by : (file v : List ℕ) {h : Header} {o : OpenOutcome} → o ≡ openStep h 0 v → h ≡ headerIn file → o ≡ openStep (headerIn file) 0 v

@@ -1,3 +1,3 @@
-pub mod Reading
-pub mod Writing
+pub mod File
 pub mod Steps
+pub mod Answers

@@ -4,11 +4,11 @@ use Prim.Native.Nat.{ℕ, suc, _-_, _<_}
 use lib.ListN.{length, drop}
 use lib.Dec.{ltb, eqb}
 use Rattle.refusals.specs.Refusals.{Test, _⇒_, first, accepted}
-use Rattle.factor_file.specs.Writing.{written, notWritten, WriteOutcome, isLowest, recordsAt}
+use Rattle.factor_file.specs.File.{isLowest, recordsAt}
+use Rattle.output.specs.Output.{written, notWritten, FillOutcome}
 use mathlib.Core.Path.{_≡_}
 use mathlib.Core.Bool.{cond}
-use Rattle.algebra.specs.cells.Cell.{J, Group, at}
-use Rattle.algebra.specs.cells.CellTests.{lineFrom, planeFrom, cellFrom, placesOf}
+use Rattle.algebra.specs.cells.Cell.{J, Group, at, lineFrom, planeFrom, cellFrom, placesOf}
 use Rattle.numbers.specs.declared.Pair.{Pair}
 use Rattle.numbers.specs.Value.{prime, Value, value}
 use Rattle.slices.specs.Pairs.{Below}
@@ -18,15 +18,15 @@ use Rattle.cell.specs.declared.operations.UnitCell.{UnitCell}
 use Rattle.cell.specs.Operations.{cellGroup, cellHalves, tripleOf}
 use Rattle.cell.specs.TestSteps.{IsVolume}
 use Rattle.header.specs.Header.{Header}
-use Rattle.output.specs.Output.{bigEndian}
-use Rattle.file_format.specs.Format.{fileOf, headerWith}
+use Rattle.file_format.specs.Format.{rawBytes, fileOf}
+use Rattle.file_format.specs.Layout.{headerWith}
 
 -- 17, 18: there is a record, and the file fits
 abbrev pub fileTests : (count size room : ℕ) → List Test
 fileTests count size room = eqb count 0 ⇒ 17 ∷ ltb room size ⇒ 18 ∷ []
 
 -- what is left to do once the factors are known to be sound
-abbrev pub filed : (count : ℕ) (file output : List ℕ) → WriteOutcome
+abbrev pub filed : (count : ℕ) (file output : List ℕ) → FillOutcome
 filed count file output =
     accepted (first (fileTests count (length file) (length output)))
     (record { answer = written (length file); output = file ++ drop (length file) output })
@@ -58,7 +58,7 @@ pub record Next (c : UnitCell) (j r : Index) : Type 0 where
 
 -- the bytes of a record by its numbers
 abbrev pub pairBytes : J → Pair → List ℕ
-pairBytes j x = bigEndian 2 (j .0) ++ bigEndian 2 (j .1) ++ bigEndian 2 (j .2) ++ bigEndian 4 (x .re) ++ bigEndian 4 (x .im)
+pairBytes j x = rawBytes (record { h = j .0; k = j .1; l = j .2; a = x .re; b = x .im })
 
 -- the record of one place, where it has one, and the records of the cell
 abbrev pub placeRecords : UnitCell → List ℕ → J → List (J × Value 1)
@@ -75,5 +75,5 @@ abbrev pub fileWith : UnitCell → (f1 f2 f3 : ℕ) → List ℕ → List ℕ
 fileWith c f1 f2 f3 v = fileOf (headerFor c f1 f2 f3) (recordsWith c v)
 
 -- and what is left to do with it
-abbrev pub filedWith : UnitCell → (f1 f2 f3 : ℕ) → (v output : List ℕ) → WriteOutcome
+abbrev pub filedWith : UnitCell → (f1 f2 f3 : ℕ) → (v output : List ℕ) → FillOutcome
 filedWith c f1 f2 f3 v output = filed (length (recordsWith c v)) (fileWith c f1 f2 f3 v) output

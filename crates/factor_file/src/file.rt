@@ -9,7 +9,7 @@ use output::big_endian;
 ghost use mathlib.Core.Path.{_≡_};
 ghost use Prim.Native.Nat.{_≤_};
 ghost use lib.ListN.{length};
-ghost use Rattle.output.specs.Output.{Wrote};
+ghost use Rattle.output.specs.Written.{Wrote};
 ghost use Rattle.factor_file.specs.Steps.{IsFactors, recordsWith, fileWith};
 
 // The file, of count records.

@@ -5,9 +5,9 @@ use cell::operations;
 use cell::operations::Index;
 use cell::operations::UnitCell;
 ghost use mathlib.Core.Path.{_≡_};
-ghost use Rattle.algebra.specs.cells.CellTests.{lexLe};
+ghost use Rattle.algebra.specs.cells.Cell.{lexLe};
 ghost use Rattle.cell.specs.Operations.{cellGroup, cellHalves, tripleOf, Sizes, Within};
-ghost use Rattle.factor_file.specs.Writing.{isLowest};
+ghost use Rattle.factor_file.specs.File.{isLowest};
 
 // i comes no later than j in the order h, k, l.
 fn no_later(i: Index, j: Index) -> bool

@@ -1,6 +1,7 @@
 // The records of a factor file, recorded in a job one after another.
 // A refused record ends it: its place is answered, and the volume is left zero.
 use crate::FileAnswer;
+use file_format::places::Places;
 use file_format::reader;
 use file_format::reader::Found;
 use job::Answer;
@@ -9,16 +10,17 @@ use job::Reflection;
 ghost use mathlib.Core.Path.{_≡_};
 ghost use Rattle.refusals.specs.Refusals.{first};
 ghost use Rattle.file_format.specs.Format.{shapeTests, recordsIn};
-ghost use Rattle.factor_file.specs.Reading.{feed, fileOutcome};
+ghost use Rattle.factor_file.specs.File.{feed};
+ghost use Rattle.file_format.specs.Places.{PlacesOf};
+ghost use Rattle.factor_file.specs.Answers.{fileOutcome};
 
 // The records of a file of sound shape, as a walk from the first hands them out. A record leaves the job as it is.
-pub fn feed_records(file: &[u8], job: Job, volume: &mut [u32]) -> FileAnswer
-    requires { ⌜ 0 ≡ first (shapeTests (now file)) ⌝ }
+pub fn feed_records(file: &[u8], places: Places, job: Job, volume: &mut [u32]) -> FileAnswer
+    requires { ⌜ PlacesOf (now file) places × (0 ≡ first (shapeTests (now file))) ⌝ }
     ensures { λ r. ⌜ fileOutcome r (now (volume .exit)) ≡ feed (recordsIn (now (file .entry))) 0 job (now (volume .entry)) ⌝ }
 {
-    let start = file_format::places::first_record(file);
-    let mut at = start.at;
-    let mut place = start.place;
+    let mut at = file_format::places::first_record(places);
+    let mut place = 0;
     loop {
         let step = reader::read_record(file, at);
         let found = step.found;

@@ -7,19 +7,15 @@ use cell::operations::UnitCell;
 use job::Job;
 use job::check::synthesis;
 use job::valid;
+use output::FillAnswer;
 use refusals::Checked;
 use refusals::Refusal;
 ghost use mathlib.Core.Path.{_≡_};
 ghost use Prim.Native.Nat.{_≤_};
 ghost use lib.ListN.{length};
-ghost use Rattle.factor_file.specs.Writing.{writeStep, writeOutcome};
+ghost use Rattle.factor_file.specs.File.{writeStep};
+ghost use Rattle.output.specs.Answers.{fillOutcome};
 ghost use Rattle.factor_file.specs.Steps.{filedWith, IsFactors};
-
-// The answer of the writer: how many bytes it wrote, or why it is turned back.
-pub enum WriteAnswer {
-    Written(usize),
-    Refused(Refusal),
-}
 
 // 17, 18, and the file.
 fn write_factors(
@@ -29,30 +25,30 @@ fn write_factors(
     f3: u32,
     volume: &[u32],
     out: &mut [u8],
-) -> WriteAnswer
+) -> FillAnswer
     requires { ⌜ IsFactors cell (now volume) × (length (now volume) ≤ 16777216) ⌝ }
-    ensures { λ r. ⌜ writeOutcome r (now (out .exit)) ≡ filedWith cell f1 f2 f3 (now (volume .entry)) (now (out .entry)) ⌝ }
+    ensures { λ r. ⌜ fillOutcome r (now (out .exit)) ≡ filedWith cell f1 f2 f3 (now (volume .entry)) (now (out .entry)) ⌝ }
 {
     let count = records::count_records(cell, volume);
     if count == 0 {
-        return WriteAnswer::Refused(Refusal::NoRecords);
+        return FillAnswer::Refused(Refusal::NoRecords);
     }
     if out.len() < file_format::layout::file_length(f1, f2, f3, count) {
-        return WriteAnswer::Refused(Refusal::OutputTooShort);
+        return FillAnswer::Refused(Refusal::OutputTooShort);
     }
     let written = crate::file::put_file(cell, f1, f2, f3, count, volume, out);
-    WriteAnswer::Written(written)
+    FillAnswer::Written(written)
 }
 
 // The file of the job whose factors the volume holds; the places of the output beyond it are as they were. Job and volume are asked
 // for what a synthesis asks: 25, 23, 6, 7, 14. The writer needs no scratch: the check is told of one that is long enough.
-pub fn write_file(job: Job, volume: &[u32], out: &mut [u8]) -> WriteAnswer
-    ensures { λ r. ⌜ writeOutcome r (now (out .exit)) ≡ writeStep job (now (volume .entry)) (now (out .entry)) ⌝ }
+pub fn write_file(job: Job, volume: &[u32], out: &mut [u8]) -> FillAnswer
+    ensures { λ r. ⌜ fillOutcome r (now (out .exit)) ≡ writeStep job (now (volume .entry)) (now (out .entry)) ⌝ }
 {
     let cell = job.unit_cell();
     let checked = synthesis::check_synthesis(valid::valid_job(job), job.state, cell, volume, 11520);
     match checked {
-        Checked::Failed(refusal) => return WriteAnswer::Refused(refusal),
+        Checked::Failed(refusal) => return FillAnswer::Refused(refusal),
         Checked::Sound => {}
     }
     write_factors(

@@ -1,18 +1,12 @@
 -- The factor file, byte by byte.
 -- Layout: count of the bytes that follow (4 bytes), version 1, group (1), N1, N2, N3 (2 each), three factor lists (a count byte, then a byte each),
 -- record count (4), records of 14 bytes: h, k, l (2 each), a, b (4 each). Numbers are big-endian; a place beyond the file reads as 0.
-use mathlib.Core.List.{List, [], _∷_, _++_, map}
-use Prim.Native.Nat.{ℕ, _+_, _*_, _<_, zero, suc, _-_}
-use lib.ListN.{getD, take, drop, length, replicate}
-use mathlib.Core.Path.{_≡_}
-use mathlib.Core.Bool.{Bool, cond, _||_, not}
-use lib.Dec.{leb, ltb, eqb}
+use Rattle.algebra.specs.Prelude.{Bool, _||_, not, eqb, ltb, ℕ, zero, suc, _+_, _*_, _-_, List, [], _∷_, _++_, length, getD, take, drop}
 use Rattle.file_format.specs.declared.FileRecord.{FileRecord}
 use Rattle.refusals.specs.Refusals.{Test, _⇒_}
 use Rattle.header.specs.Header.{Header}
 use Rattle.algebra.specs.cells.Cell.{J}
 use Rattle.numbers.specs.Value.{Value}
-use Rattle.lengths.specs.Lengths.{octalDigits}
 use Rattle.output.specs.Output.{bigEndian}
 
 abbrev pub byteAt : List ℕ → ℕ → ℕ
@@ -24,7 +18,22 @@ twoBytes file q = byteAt file q * 256 + byteAt file (q + 1)
 unfoldable pub fourBytes : List ℕ → ℕ → ℕ
 fourBytes file q = twoBytes file q * 65536 + twoBytes file (q + 2)
 
--- ---- where its parts stand: three factor lists behind the lengths, the record count behind them, and the records behind that
+-- ---- where its parts stand: the numbers of the header, three factor lists behind them, the record count behind these, and the records behind that
+
+abbrev pub versionAt : ℕ
+versionAt = 4
+
+abbrev pub groupAt : ℕ
+groupAt = 5
+
+abbrev pub length1At : ℕ
+length1At = 6
+
+abbrev pub length2At : ℕ
+length2At = 8
+
+abbrev pub length3At : ℕ
+length3At = 10
 
 -- the list whose count byte stands at q, and the place after it
 unfoldable pub listAt : List ℕ → ℕ → List ℕ
@@ -79,14 +88,14 @@ fillingTests file =
 
 -- 15 for the count, 16, 15 for the rest, 17
 abbrev pub shapeTests : List ℕ → List Test
-shapeTests file = miscounted file ⇒ 15 ∷ not (eqb (byteAt file 4) 1) ⇒ 16 ∷ fillingTests file
+shapeTests file = miscounted file ⇒ 15 ∷ not (eqb (byteAt file versionAt) 1) ⇒ 16 ∷ fillingTests file
 
 -- ---- the header that it holds
 
 abbrev pub headerIn : List ℕ → Header
 headerIn file = record {
-  group = byteAt file 5;
-  lengths = (twoBytes file 6, twoBytes file 8, twoBytes file 10);
+  group = byteAt file groupAt;
+  lengths = (twoBytes file length1At, twoBytes file length2At, twoBytes file length3At);
   list1 = listAt file list1At;
   list2 = listAt file (list2At file);
   list3 = listAt file (list3At file);
@@ -97,9 +106,13 @@ headerIn file = record {
 abbrev pub listBytes : List ℕ → List ℕ
 listBytes l = length l ∷ l
 
+-- a record by its numbers, whatever they are
+abbrev pub rawBytes : FileRecord → List ℕ
+rawBytes c = bigEndian 2 (c .h) ++ bigEndian 2 (c .k) ++ bigEndian 2 (c .l) ++ bigEndian 4 (c .a) ++ bigEndian 4 (c .b)
+
 -- a record: an index and a value
 unfoldable pub recordBytes : J × Value 1 → List ℕ
-recordBytes c = bigEndian 2 (c .0 .0) ++ bigEndian 2 (c .0 .1) ++ bigEndian 2 (c .0 .2) ++ bigEndian 4 (c .1 .0 .val) ++ bigEndian 4 (c .1 .1 .val)
+recordBytes c = rawBytes (record { h = c .0 .0; k = c .0 .1; l = c .0 .2; a = c .1 .0 .val; b = c .1 .1 .val })
 
 unfoldable pub allBytes : List (J × Value 1) → List ℕ
 allBytes [] = []
@@ -114,7 +127,3 @@ body h cs = headerBytes h ++ bigEndian 4 (length cs) ++ allBytes cs
 
 unfoldable pub fileOf : Header → List (J × Value 1) → List ℕ
 fileOf h cs = bigEndian 4 (length (body h cs)) ++ body h cs
-
--- the header by the numbers of a job, whose lists are octal digits
-abbrev pub headerWith : (group n1 n2 n3 f1 f2 f3 : ℕ) → Header
-headerWith group n1 n2 n3 f1 f2 f3 = record { group = group; lengths = (n1, n2, n3); list1 = octalDigits f1; list2 = octalDigits f2; list3 = octalDigits f3 }

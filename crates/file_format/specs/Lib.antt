@@ -1,3 +1,4 @@
 pub mod Format
 pub mod Places
 pub mod Walk
+pub mod Layout

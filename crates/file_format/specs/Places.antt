@@ -1,8 +1,9 @@
--- The places of a file's parts as the code holds them.
+-- The places of a file's parts and the numbers of its header, as the code holds them.
 use mathlib.Core.Path.{_≡_}
 use mathlib.Core.List.{List}
 use Prim.Native.Nat.{ℕ, _<_}
-use Rattle.file_format.specs.Format.{list2At, list3At, countAt}
+use Rattle.file_format.specs.Format.{byteAt, twoBytes, groupAt, length1At, length2At, length3At, list2At, list3At, countAt}
+use Rattle.cell.specs.declared.operations.UnitCell.{UnitCell}
 use Rattle.file_format.specs.declared.places.Places.{Places}
 
 -- The places are those of the file's lists and of its record count. A list has at most 255 factors.
@@ -11,3 +12,11 @@ pub record PlacesOf (file : List ℕ) (p : Places) : Type 0 where
   pub third : p .list3 ≡ list3At file
   pub count : p .count ≡ countAt file
   pub near : p .count < 1024
+
+-- The numbers are those of the header. A length has two bytes.
+pub record NumbersOf (file : List ℕ) (n : UnitCell) : Type 0 where
+  pub group : n .group ≡ byteAt file groupAt
+  pub first : n .n1 ≡ twoBytes file length1At
+  pub second : n .n2 ≡ twoBytes file length2At
+  pub third : n .n3 ≡ twoBytes file length3At
+  pub short : (n .n1 < 65536) × (n .n2 < 65536) × (n .n3 < 65536)

@@ -29,6 +29,14 @@ pub fn two_bytes(file: &[u8], q: usize) -> u32
     wide(file[q]) * 256 + wide(file[q + 1])
 }
 
+// The same near the start of a file, whether it has the bytes or not: one beyond it is 0.
+pub fn two_at(file: &[u8], q: usize) -> u32
+    requires { ⌜ q < 256 ⌝ }
+    ensures { λ r. ⌜ (r ≡ twoBytes (now (file .entry)) q) × (r < 65536) ⌝ }
+{
+    byte_at(file, q) * 256 + byte_at(file, q + 1)
+}
+
 // The number of the four bytes from place q on.
 pub fn four_bytes(file: &[u8], q: usize) -> u32
     requires { ⌜ q + 4 ≤ length (now file) ⌝ }

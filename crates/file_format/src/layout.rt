@@ -1,13 +1,17 @@
-// The layout of a factor file, and how long it is by that: the header depends on the factor lists alone, and each record has as many
-// bytes as any other. A job holds its lists as octal digits, the first factor lowest.
+// The layout of a factor file: a record as bytes, and how long a file is. The header depends on the factor lists alone, and each record
+// has as many bytes as any other. A job holds its lists as octal digits, the first factor lowest.
+use crate::FileRecord;
+use output::big_endian;
 ghost use mathlib.Core.Path.{_≡_};
 ghost use mathlib.Core.List.{List};
-ghost use Prim.Native.Nat.{ℕ, _+_, _*_, _≤_};
+ghost use Prim.Native.Nat.{ℕ, _+_, _*_, _≤_, _<_};
 ghost use lib.ListN.{length};
 ghost use Rattle.algebra.specs.cells.Cell.{J};
 ghost use Rattle.numbers.specs.Value.{Value};
 ghost use Rattle.lengths.specs.Lengths.{octalDigits};
-ghost use Rattle.file_format.specs.Format.{headerBytes, fileOf, headerWith};
+ghost use Rattle.output.specs.Written.{Wrote, Ends};
+ghost use Rattle.file_format.specs.Format.{headerBytes, rawBytes, fileOf};
+ghost use Rattle.file_format.specs.Layout.{headerWith};
 
 // How many octal digits a number has.
 pub fn digit_count(factors: u32) -> usize
@@ -22,6 +26,18 @@ pub fn digit_count(factors: u32) -> usize
     count
 }
 
+// A record, whatever its value: three numbers of two bytes, and two of four.
+pub fn put_record(c: FileRecord, out: &mut [u8], at: usize) -> usize
+    requires { ⌜ (c .h < 65536) × (c .k < 65536) × (c .l < 65536) × Ends at (rawBytes c) ⌝ }
+    ensures { λ r. ⌜ Wrote at (rawBytes c) (now (out .entry)) r (now (out .exit)) ⌝ }
+{
+    let k = big_endian::put_two(out, at, c.h);
+    let l = big_endian::put_two(out, k, c.k);
+    let a = big_endian::put_two(out, l, c.l);
+    let b = big_endian::put_four(out, a, c.a);
+    big_endian::put_four(out, b, c.b)
+}
+
 // How long the header is.
 fn header_length(f1: u32, f2: u32, f3: u32) -> usize
     ensures { λ r. ⌜ ((group n1 n2 n3 : ℕ) → r ≡ length (headerBytes (headerWith group n1 n2 n3 f1 f2 f3))) × (r ≤ 44) ⌝ }
@@ -32,7 +48,8 @@ fn header_length(f1: u32, f2: u32, f3: u32) -> usize
 // How long a file of count records is: two counts of four bytes, the header, and 14 bytes for each record.
 pub fn file_length(f1: u32, f2: u32, f3: u32, count: usize) -> usize
     requires { ⌜ count ≤ 4294967296 ⌝ }
-    ensures { λ r. ⌜ ((group n1 n2 n3 : ℕ) (cs : List (J × Value 1)) → count ≡ length cs → r ≡ length (fileOf (headerWith group n1 n2 n3 f1 f2 f3) cs)) × (r ≤ 52 + 14 * count) ⌝ }
+    ensures { λ r. ⌜ ((group n1 n2 n3 : ℕ) (cs : List (J × Value 1)) → count ≡ length cs → r ≡ length (fileOf (headerWith group n1 n2 n3 f1 f2 f3) cs))
+        × (r ≤ 52 + 14 * count) ⌝ }
 {
     header_length(f1, f2, f3) + 8 + 14 * count
 }

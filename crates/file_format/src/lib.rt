@@ -3,7 +3,7 @@
 pub mod integers; // integers.rt: its numbers
 pub mod places; // places.rt: where its parts stand
 pub mod shape; // shape.rt: what is refused of it
-pub mod layout; // layout.rt: its header, and how long it is
+pub mod layout; // layout.rt: a record as bytes, and how long the file is
 pub mod reader; // reader.rt: the reader
 
 // A record of a file: an index and the two numbers of its value.

@@ -1,20 +1,42 @@
-// Where the parts of a factor file stand: its lists, its record count and its first record.
+// Where the parts of a factor file stand: the numbers of its header, its lists, its record count and its first record.
+use cell::operations::UnitCell;
 ghost use mathlib.Core.Path.{_≡_};
 ghost use Prim.Native.Nat.{_+_, _≤_, _<_};
-ghost use Rattle.file_format.specs.Format.{afterList, countAt};
-ghost use Rattle.file_format.specs.Places.{PlacesOf};
+ghost use Rattle.file_format.specs.Format.{afterList};
+ghost use Rattle.file_format.specs.Places.{PlacesOf, NumbersOf};
 
-// Where the second and the third list begin, with their count bytes, and where the record count stands. The first list begins at 12.
+// Where the header's numbers stand: the version, the group, and the three lengths of two bytes each. The first list begins behind them.
+pub const VERSION: usize = 4;
+
+const GROUP: usize = 5;
+
+const LENGTH1: usize = 6;
+
+const LENGTH2: usize = 8;
+
+const LENGTH3: usize = 10;
+
+const LIST1: usize = 12;
+// The first factor of the first list, behind its count byte.
+pub const FACTOR1: usize = 13;
+
+// The unit cell that the header names, whether the file has its bytes or not: a byte beyond it is read as 0.
+pub fn header_cell(file: &[u8]) -> UnitCell
+    ensures { λ r. ⌜ NumbersOf (now (file .entry)) r ⌝ }
+{
+    UnitCell {
+        group: crate::integers::byte_at(file, GROUP),
+        n1: crate::integers::two_at(file, LENGTH1),
+        n2: crate::integers::two_at(file, LENGTH2),
+        n3: crate::integers::two_at(file, LENGTH3),
+    }
+}
+
+// Where the second and the third list begin, with their count bytes, and where the record count stands.
 pub struct Places {
     pub list2: usize,
     pub list3: usize,
     pub count: usize,
-}
-
-// Where a record stands: its first byte, and its place among the records, from 0.
-pub struct RecordPlace {
-    pub at: usize,
-    pub place: u32,
 }
 
 // The place after the list whose count byte stands at q.
@@ -28,7 +50,7 @@ fn after_list(file: &[u8], q: usize) -> usize
 pub fn places_of(file: &[u8]) -> Places
     ensures { λ r. ⌜ PlacesOf (now (file .entry)) r ⌝ }
 {
-    let list2 = after_list(file, 12);
+    let list2 = after_list(file, LIST1);
     let list3 = after_list(file, list2);
     let count = after_list(file, list3);
     Places {
@@ -38,19 +60,10 @@ pub fn places_of(file: &[u8]) -> Places
     }
 }
 
-// The place of the record count.
-pub fn count_place(file: &[u8]) -> usize
-    ensures { λ r. ⌜ (r ≡ countAt (now (file .entry))) × (r < 1024) ⌝ }
-{
-    places_of(file).count
-}
-
 // The first record stands behind the record count's four bytes.
-pub fn first_record(file: &[u8]) -> RecordPlace
-    ensures { λ r. ⌜ (r .at ≡ countAt (now (file .entry)) + 4) × (r .place ≡ 0) ⌝ }
+pub fn first_record(places: Places) -> usize
+    requires { ⌜ places .count < 1024 ⌝ }
+    ensures { λ r. ⌜ r ≡ places .count + 4 ⌝ }
 {
-    RecordPlace {
-        at: count_place(file) + 4,
-        place: 0,
-    }
+    places.count + 4
 }

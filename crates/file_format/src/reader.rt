@@ -61,7 +61,7 @@ pub fn read_record(file: &[u8], at: usize) -> Step
 }
 
 // Where records fill the file from a place on, a walk hands out each of them, in their order, and then the end. The function does nothing; its promise is
-// the statement of specs/Records.antt, so that it cannot vanish unnoticed.
+// the statement of specs/Walk.antt, so that it cannot vanish unnoticed.
 pub fn hands_out_records()
     ensures { λ _. ⌜ WalkHandsOutRecords ⌝ }
 {}

@@ -1,10 +1,13 @@
 // The shape of a factor file: whether its count, its version, its header, lists and records fill it exactly, and whether it has a record.
 // Nothing here knows what a job makes of the header and the records.
+use crate::places::Places;
 use refusals::Checked;
 use refusals::Refusal;
 ghost use mathlib.Core.Path.{_≡_};
-ghost use Rattle.refusals.specs.Refusals.{first, checkedNumber};
+ghost use Rattle.refusals.specs.Refusals.{first};
+ghost use Rattle.refusals.specs.Checks.{checkedNumber};
 ghost use Rattle.file_format.specs.Format.{miscounted, fillingTests, shapeTests};
+ghost use Rattle.file_format.specs.Places.{PlacesOf};
 
 // Whether the first four bytes do not count the bytes that follow, or no version follows.
 fn is_miscounted(file: &[u8]) -> bool
@@ -18,14 +21,15 @@ fn is_miscounted(file: &[u8]) -> bool
 }
 
 // The tests behind the version: 15 where header, lists and records do not fill the file, 17 where it has no record.
-fn check_filling(file: &[u8]) -> Checked
+fn check_filling(file: &[u8], places: Places) -> Checked
+    requires { ⌜ PlacesOf (now file) places ⌝ }
     ensures { λ r. ⌜ checkedNumber r ≡ first (fillingTests (now (file .entry))) ⌝ }
 {
-    let at = crate::places::count_place(file) + 4;
+    let at = crate::places::first_record(places);
     if file.len() < at {
         return Checked::Failed(Refusal::FileShape);
     }
-    let records = crate::integers::four_bytes(file, at - 4) as usize;
+    let records = crate::integers::four_bytes(file, places.count) as usize;
     if at + 14 * records != file.len() {
         return Checked::Failed(Refusal::FileShape);
     }
@@ -36,14 +40,15 @@ fn check_filling(file: &[u8]) -> Checked
 }
 
 // 15 for the count, 16 for the version, then the rest.
-pub fn check_shape(file: &[u8]) -> Checked
+pub fn check_shape(file: &[u8], places: Places) -> Checked
+    requires { ⌜ PlacesOf (now file) places ⌝ }
     ensures { λ r. ⌜ checkedNumber r ≡ first (shapeTests (now (file .entry))) ⌝ }
 {
     if is_miscounted(file) {
         return Checked::Failed(Refusal::FileShape);
     }
-    if file[4] != 1 {
+    if file[crate::places::VERSION] != 1 {
         return Checked::Failed(Refusal::FileVersion);
     }
-    check_filling(file)
+    check_filling(file, places)
 }

@@ -7,7 +7,7 @@ use native.Mathlib.Omega.{arith}
 use Rattle.algebra.specs.ring.Ring.{pow}
 use Rattle.algebra.proofs.fourier.Transform.{pow-mul}
 use Rattle.numbers.specs.Value.{field}
-use Rattle.roots.specs.Root.{tableRoot}
+use Rattle.roots.specs.Table.{tableRoot}
 use Rattle.numbers.proofs.Values.{field-ring}
 use Rattle.slices.proofs.Rows.{row-end, rows-wide}
 use Rattle.fold_formulas.specs.FoldFormulas.{stride, lineRoot, Frame}

@@ -2,11 +2,10 @@
 use mathlib.Core.Path.{_≡_, _∙_, ap}
 use mathlib.Core.List.{List}
 use Prim.Native.Nat.{ℕ, _/_, _<_}
-use Rattle.algebra.specs.ring.Ring.{pow}
-use Rattle.algebra.specs.fourier.Fourier.{dft}
+use Rattle.algebra.specs.ring.Ring.{pow, dft}
 use Rattle.algebra.proofs.fourier.Transform.{dft-cong}
 use Rattle.numbers.specs.Value.{Value, field}
-use Rattle.roots.specs.Root.{tableRoot}
+use Rattle.roots.specs.Table.{tableRoot}
 use Rattle.numbers.proofs.Values.{field-ring}
 use Rattle.slices.specs.Pairs.{valuesOf, listOf}
 use Rattle.slices.proofs.Values.{values-list}

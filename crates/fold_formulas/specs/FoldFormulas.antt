@@ -7,11 +7,11 @@ use Prim.Native.Nat.{ℕ, zero, suc, _*_, _/_, _<_}
 use lib.ListN.{getD}
 use mathlib.Core.Bool.{Bool, true, false}
 use Rattle.algebra.specs.ring.Ring.{Ops, pow}
-use Rattle.algebra.specs.lines.Kinds.{Kind}
+use Rattle.algebra.specs.lines.Kinds.{Kind, re, im}
 use Rattle.algebra.specs.lines.FoldKinds.{fold-forward, fold-back}
-use Rattle.numbers.specs.Value.{prime, IsModulus, Value, field, conj, real, half, part, res, onValues, i}
-use Rattle.roots.specs.Root.{tableRoot, RootTable}
-use Rattle.algebra.specs.lines.Line.{re, im}
+use Rattle.numbers.specs.Value.{prime, IsModulus, Value, field, conj, real, half, part, onValues, i}
+use Rattle.numbers.specs.Bounds.{res}
+use Rattle.roots.specs.Table.{tableRoot, RootTable}
 
 -- the step of the tables' places: e(k/N) is the power k (1440 / A) of the lent root
 abbrev pub stride : ℕ → ℕ

@@ -3,8 +3,9 @@ use numbers::Pair;
 ghost use mathlib.Core.Path.{_≡_};
 ghost use Prim.Native.Nat.{ℕ, _<_};
 ghost use Rattle.algebra.specs.ring.Ring.{Ops};
-ghost use Rattle.algebra.specs.lines.Line.{unit};
-ghost use Rattle.numbers.specs.Value.{prime, field, conj, res, real, pairOf, onValues};
+ghost use Rattle.algebra.specs.lines.Kinds.{unit};
+ghost use Rattle.numbers.specs.Value.{prime, field, conj, real, pairOf, onValues};
+ghost use Rattle.numbers.specs.Bounds.{res};
 
 // The middle of an alternating line from its one number x: X(A) = (-1)^A conj X(A) is real for an even A, and imaginary for an odd one.
 pub fn middle(a: usize, x: u32) -> Pair

@@ -6,7 +6,8 @@ use numbers::Pair;
 ghost use mathlib.Core.Path.{_≡_};
 ghost use Prim.Native.Nat.{ℕ};
 ghost use Rattle.algebra.specs.lines.Folds as Folds;
-ghost use Rattle.numbers.specs.Value.{prime, IsModulus, conj, i, valueOf, pairOf, Small, onValues};
+ghost use Rattle.numbers.specs.Value.{prime, IsModulus, conj, i, valueOf, pairOf, onValues};
+ghost use Rattle.numbers.specs.Bounds.{Small};
 ghost use Rattle.fold_formulas.specs.FoldFormulas.{sumAndDifference, toHermitianValue};
 
 // x + y and x - y of the two reals that share a pair: again two reals that share a pair.
@@ -23,7 +24,7 @@ pub fn sum_and_difference(m: u32, v: Pair) -> Pair
 // R + i S, where R = x + y and S = e (x - y).
 pub fn fold_pair(m: u32, e: Pair, x: Pair, y: Pair) -> Pair
     requires { ⌜ IsModulus m × Small (prime m) e × Small (prime m) x × Small (prime m) y ⌝ }
-    ensures { λ r. ⌜ ((A : ℕ) → r ≡ pairOf (onValues m Folds.braid A (valueOf m e) (valueOf m x) (valueOf m y))) ⌝ }
+    ensures { λ r. ⌜ ((A : ℕ) → r ≡ pairOf (onValues m Folds.hermitianPoint A (valueOf m e) (valueOf m x) (valueOf m y))) ⌝ }
 {
     let rotated = numbers::times_i(m, numbers::difference(m, x, y));
     numbers::unreduced::plus_product(m, x, y, e, rotated)
@@ -32,7 +33,7 @@ pub fn fold_pair(m: u32, e: Pair, x: Pair, y: Pair) -> Pair
 // R + e S, where R = (x + y)/2 and i S = (x - y)/2.
 pub fn unfold_pair(m: u32, e: Pair, x: Pair, y: Pair) -> Pair
     requires { ⌜ IsModulus m × Small (prime m) e × Small (prime m) x × Small (prime m) y ⌝ }
-    ensures { λ r. ⌜ ((A : ℕ) → r ≡ pairOf (onValues m Folds.unbraid A (valueOf m e) (valueOf m x) (valueOf m y))) ⌝ }
+    ensures { λ r. ⌜ ((A : ℕ) → r ≡ pairOf (onValues m Folds.hermitianValue A (valueOf m e) (valueOf m x) (valueOf m y))) ⌝ }
 {
     let rotated = numbers::times_i(m, numbers::difference(m, y, x));
     numbers::halved(m, numbers::unreduced::plus_product(m, x, y, e, rotated))

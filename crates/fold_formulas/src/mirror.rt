@@ -3,15 +3,16 @@ use numbers::Pair;
 ghost use mathlib.Core.Path.{_≡_};
 ghost use Prim.Native.Nat.{_<_, _≤_};
 ghost use Rattle.algebra.specs.ring.Ring.{Ops};
-ghost use Rattle.algebra.specs.lines.Folds.{join};
-ghost use Rattle.numbers.specs.Value.{prime, IsModulus, field, i, res, real, half, valueOf, pairOf, Small};
+ghost use Rattle.algebra.specs.lines.Folds.{mirrorValue};
+ghost use Rattle.numbers.specs.Value.{prime, IsModulus, field, i, real, half, valueOf, pairOf};
+ghost use Rattle.numbers.specs.Bounds.{res, Small};
 ghost use Rattle.fold_formulas.specs.FoldFormulas.{sigma};
 
 // The transform at a place s between 0 and A, from y and z at the places s and A - s of the short one: sigma tells which of their
 // sum and difference is multiplied by i tau.
 pub fn finish_between(m: u32, first: usize, tau: u32, y: Pair, z: Pair) -> Pair
     requires { ⌜ IsModulus m × (first ≤ 1) × (tau < prime m) × Small (prime m) y × Small (prime m) z ⌝ }
-    ensures { λ r. ⌜ r ≡ pairOf (join (field m) (real m (half m)) (sigma (field m) first) (field m .mul (i m) (real m (res m tau))) (valueOf m y)
+    ensures { λ r. ⌜ r ≡ pairOf (mirrorValue (field m) (real m (half m)) (sigma (field m) first) (field m .mul (i m) (real m (res m tau))) (valueOf m y)
         (valueOf m z)) ⌝ }
 {
     if first == 0 {

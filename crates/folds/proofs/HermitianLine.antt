@@ -4,14 +4,14 @@ use mathlib.Core.Bool.{Bool, true, false}
 use mathlib.Core.List.{List}
 use Prim.Native.Nat.{ℕ, zero, suc, _*_, _-_, _/_, _<_}
 use native.Mathlib.Omega.{arith}
-use Rattle.algebra.specs.ring.Ring.{pow}
-use Rattle.algebra.specs.fourier.Fourier.{dft}
-use Rattle.algebra.specs.lines.Folds.{turned, back1}
+use Rattle.algebra.specs.ring.Ring.{pow, dft}
+use Rattle.algebra.specs.lines.Folds.{innerTimes, back1}
 use Rattle.algebra.specs.lines.Kinds.{slots}
 use Rattle.algebra.specs.lines.FoldKinds.{fold-forward, fold-back}
 use Rattle.algebra.proofs.fourier.Transform.{dft-cong}
-use Rattle.numbers.specs.Value.{Value, field, conj, i, res, real, part, onValues}
-use Rattle.roots.specs.Root.{tableRoot}
+use Rattle.numbers.specs.Value.{Value, field, conj, i, real, part, onValues}
+use Rattle.numbers.specs.Bounds.{res}
+use Rattle.roots.specs.Table.{tableRoot}
 use Rattle.numbers.proofs.Residues.{res-by}
 use Rattle.numbers.proofs.Values.{field-ring, field-star}
 use Rattle.slices.specs.Pairs.{valuesOf, listOf}
@@ -53,7 +53,7 @@ module _ (m A : ℕ) (w c : Value m) (y z : ℕ → Value m) (same : (j : ℕ) �
 
   from-hermitian-cong : (anti : Bool) (t : ℕ) → t < A → fromHermitian m anti (onValues m back1 A c w y) t
       ≡ fromHermitian m anti (onValues m back1 A c w z) t
-  unfolding fromHermitian turned
+  unfolding fromHermitian innerTimes
   from-hermitian-cong false t l = back-cong t l
   from-hermitian-cong true zero l = back-cong zero l
   from-hermitian-cong true (suc t) l = ap (field m .mul (i m)) (back-cong (suc t) l)

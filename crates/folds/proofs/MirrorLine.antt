@@ -5,17 +5,17 @@ use mathlib.Core.List.{List, [], _∷_}
 use Prim.Native.Nat.{ℕ, zero, suc, _+_, _*_, _-_, _/_, _<_, _≤_}
 use native.Mathlib.Omega.{arith}
 use native.Mathlib.Decide.{ℕ-discrete}
-use Rattle.algebra.specs.ring.Ring.{Ops, pow, sum}
+use Rattle.algebra.specs.ring.Ring.{Ops, pow, sum, dft}
 use Rattle.algebra.specs.ring.RingLaws.{CRing, Star}
-use Rattle.algebra.specs.fourier.Fourier.{dft}
-use Rattle.algebra.specs.lines.Folds.{paired, join, finish}
+use Rattle.algebra.specs.lines.Folds.{mirrorPoint, mirrorValue, finish}
 use Rattle.algebra.specs.lines.Kinds.{slots, unfoldBefore}
 use Rattle.algebra.specs.lines.FoldKinds.{fold-forward, fold-back}
 use Rattle.algebra.proofs.ring.Laws.{along}
 use Rattle.algebra.proofs.ring.Solver.{ring, quote}
 use Rattle.numbers.specs.declared.Pair.{Pair}
-use Rattle.numbers.specs.Value.{Value, field, conj, i, real, res, half, part, valueOf, pairOf}
-use Rattle.roots.specs.Root.{tableRoot}
+use Rattle.numbers.specs.Value.{Value, field, conj, i, real, half, part, valueOf, pairOf}
+use Rattle.numbers.specs.Bounds.{res}
+use Rattle.roots.specs.Table.{tableRoot}
 use Rattle.numbers.proofs.Residues.{res-by}
 use Rattle.numbers.proofs.Values.{value-by, field-ring, field-star}
 use Rattle.slices.specs.Pairs.{valuesOf, listOf}
@@ -46,7 +46,7 @@ module _ {R : Type 0} (𝓞 : Ops R) (half : R) (A : ℕ) (th : ℕ → R) (σ :
           ∙ sym (finish-middle 𝓞 half A th σ z o (suc s) (omega arith) h)
       go (no n) =
           finish-between 𝓞 half A th σ y o (suc s) (omega arith) (omega arith)
-          ∙ ap₂ (join 𝓞 half σ (th (suc s))) (e (suc s) (omega arith)) (e (A - suc s) (omega arith))
+          ∙ ap₂ (mirrorValue 𝓞 half σ (th (suc s))) (e (suc s) (omega arith)) (e (A - suc s) (omega arith))
           ∙ sym (finish-between 𝓞 half A th σ z o (suc s) (omega arith) (omega arith))
 
 module _ {R : Type 0} (𝓞 : Ops R) (conj : R → R) (i half : R) (A : ℕ) where
@@ -55,7 +55,7 @@ module _ {R : Type 0} (𝓞 : Ops R) (conj : R → R) (i half : R) (A : ℕ) whe
   X first p = unfoldBefore 𝓞 conj i half A (mirrorKind first) p
 
   forward-form : (w part : R) (tau p : ℕ → R) (first : ℕ) → first ≤ 1 → (s : ℕ)
-      → finish 𝓞 half A (λ s. 𝓞 .mul i (tau s)) (sigma 𝓞 first) (dft 𝓞 A (pow 𝓞 w 2) (paired 𝓞 (X first p))) (sum 𝓞 A (λ t. X first p (2 * t + 1))) (first + s)
+      → finish 𝓞 half A (λ s. 𝓞 .mul i (tau s)) (sigma 𝓞 first) (dft 𝓞 A (pow 𝓞 w 2) (mirrorPoint 𝓞 (X first p))) (sum 𝓞 A (λ t. X first p (2 * t + 1))) (first + s)
       ≡ fold-forward 𝓞 conj i half A w part tau (mirrorKind first) p s
   unfolding unfoldBefore fold-forward
   forward-form w part tau p zero l s = along (finish 𝓞 half A _ _ _ _) (0 + s) s (omega arith)
@@ -86,7 +86,7 @@ module _ (m A first : ℕ) (re im tan line : List ℕ) (frame : Frame m A re im)
   forwardOf = folded m 0 A re im tan (mirrorKind first) (valuesOf m line)
 
   -- the pass before, the short transform, the sum of the odd places, and the pass after
-  pub forward-list : {fold short result : List ℕ} {o : Pair} → fold ≡ listOf A (paired (field m) (wholeLine m A first line))
+  pub forward-list : {fold short result : List ℕ} {o : Pair} → fold ≡ listOf A (mirrorPoint (field m) (wholeLine m A first line))
       → short ≡ listOf A (dft (field m) A (pow (field m) (tableRoot m re im) (2880 / A)) (valuesOf m fold))
       → o ≡ pairOf (sum (field m) A (λ t. wholeLine m A first line (2 * t + 1)))
       → result ≡ listOf (storedCount A first) (λ p. finished m A first tan short (valueOf m o) (first + p))

@@ -4,7 +4,7 @@ use mathlib.Core.Bool.{Bool, true, false}
 use Prim.Native.Nat.{ℕ, zero, suc, _+_, _*_, _-_}
 use mathlib.Core.List.{List}
 use Rattle.algebra.specs.lines.Kinds.{Kind, Kind.symmetric, Kind.antisymmetric, unfoldBefore}
-use Rattle.algebra.specs.lines.Folds.{turned, finish}
+use Rattle.algebra.specs.lines.Folds.{innerTimes, finish}
 use Rattle.numbers.specs.Value.{Value, field, i, onValues, real, half}
 use Rattle.slices.specs.Pairs.{valuesOf}
 use Rattle.fold_formulas.specs.FoldFormulas.{tangent, sigma}
@@ -21,11 +21,11 @@ hermitianKind true = Kind.antihermitian
 -- the packed Hermitian line of a packed line of either kind, and the packed line of either kind that a Hermitian one stands for
 unfoldable pub toHermitian : (m : ℕ) → Bool → (ℕ → Value m) → ℕ → Value m
 toHermitian m false p = p
-toHermitian m true p = turned (field m) (field m .neg (i m)) p
+toHermitian m true p = innerTimes (field m) (field m .neg (i m)) p
 
 unfoldable pub fromHermitian : (m : ℕ) → Bool → (ℕ → Value m) → ℕ → Value m
 fromHermitian m false p = p
-fromHermitian m true p = turned (field m) (i m) p
+fromHermitian m true p = innerTimes (field m) (i m) p
 
 -- ---- Kinds 4 and 5, by the place `first` of the first value that is stored: 0 for a symmetric line, which stores the places 0 .. A, and 1 for an
 -- antisymmetric one, which is zero at 0 and A and stores 1 .. A - 1.

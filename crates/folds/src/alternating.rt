@@ -16,7 +16,7 @@ ghost use lib.ListN.{length};
 ghost use Rattle.algebra.specs.lines.Kinds.{Kind, Kind.alternating, slots};
 ghost use Rattle.numbers.specs.Value.{prime};
 ghost use Rattle.slices.specs.Pairs.{Below, valuesOf, listOf};
-ghost use Rattle.lengths.specs.Lengths.{Factored};
+ghost use Rattle.lengths.specs.Admitted.{Factored};
 ghost use Rattle.fold_formulas.specs.FoldFormulas.{Frame, Tangents, folded};
 
 // The forward transform: the line becomes X^(0), .., X^(A - 1). The tables are those of the root and of its half tangents.

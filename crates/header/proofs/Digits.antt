@@ -7,7 +7,8 @@ use native.Mathlib.Nat.{mul-le-mul, not-suc-le-zero}
 use native.Mathlib.Omega.{arith}
 use lib.Dec.{eqb}
 use borrow.Author.Tests.{ne-eqb}
-use Rattle.lengths.specs.Lengths.{product, octal, isFactor, factorsOk, digits, octalDigits}
+use Rattle.lengths.specs.Lengths.{product, octal, factorsOk, digits, octalDigits}
+use Rattle.lengths.specs.Admitted.{isFactor}
 
 -- more digits than the number has are not taken
 digits-enough : (c d n : ℕ) → n ≤ c → n ≤ d → digits 8 c n ≡ digits 8 d n

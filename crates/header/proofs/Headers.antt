@@ -1,6 +1,6 @@
 -- What the tests of a header say of its numbers: three tests in turn, the lengths, and the size of the volume.
 use mathlib.Core.Path.{_≡_, refl, _∙_, sym, ap, subst}
-use mathlib.Core.Bool.{Bool, true, false, _&&_, not}
+use mathlib.Core.Bool.{Bool, true, false, _&&_}
 use mathlib.Core.List.{List, [], _∷_}
 use Prim.Native.Nat.{ℕ, suc, _+_, _*_, _/_, _<_, _≤_}
 use native.Mathlib.Nat.{mul-le-mul}
@@ -16,7 +16,8 @@ use Rattle.lengths.proofs.AdmittedLengths.{admitted-length, factor-list}
 use Rattle.cell.specs.declared.operations.UnitCell.{UnitCell}
 use Rattle.cell.specs.Operations.{cellGroup, cellHalves, Length, Sizes}
 use Rattle.cell.specs.Volume.{volumeLength}
-use Rattle.header.specs.Header.{Header, headerCell, volumeLimit, needed, axisTests}
+use Rattle.header.specs.Header.{Header, volumeLimit, needed, axisTests}
+use Rattle.header.specs.Cells.{headerCell}
 
 -- ---- three tests together
 

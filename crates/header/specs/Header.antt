@@ -1,14 +1,9 @@
 -- What an opening names besides the volume, its tests, and the states of a job as numbers.
-use mathlib.Core.Bool.{Bool, _&&_, not}
-use mathlib.Core.List.{List, [], _∷_}
-use Prim.Native.Nat.{ℕ, _/_}
-use lib.Dec.{ltb, eqb}
+use Rattle.algebra.specs.Prelude.{Bool, _&&_, not, eqb, ltb, ℕ, _/_, List, [], _∷_}
 use Rattle.algebra.specs.cells.Cell.{J}
 use Rattle.lengths.specs.Lengths.{product, admitted, factorsOk}
 use Rattle.refusals.specs.Refusals.{Test, _⇒_}
 use Rattle.cell.specs.Volume.{groupOf, volumeLength}
-use Rattle.cell.specs.declared.operations.UnitCell.{UnitCell}
-use Rattle.cell.specs.Operations.{cellLengths}
 
 -- group, lengths and factor lists
 pub record Header : Type 0 where
@@ -17,13 +12,6 @@ pub record Header : Type 0 where
   pub list1 : List ℕ
   pub list2 : List ℕ
   pub list3 : List ℕ
-
--- the cell of a header, and the header of a cell and three lists
-abbrev pub headerCell : Header → UnitCell
-headerCell h = record { group = h .group; n1 = h .lengths .0; n2 = h .lengths .1; n3 = h .lengths .2 }
-
-abbrev pub cellHeader : UnitCell → (list1 list2 list3 : List ℕ) → Header
-cellHeader c list1 list2 list3 = record { group = c .group; lengths = cellLengths c; list1 = list1; list2 = list2; list3 = list3 }
 
 abbrev pub halfLengths : J → J
 halfLengths n = (n .0 / 2, n .1 / 2, n .2 / 2)

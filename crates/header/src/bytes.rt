@@ -6,10 +6,12 @@ use refusals::Refusal;
 ghost use mathlib.Core.Path.{_≡_};
 ghost use mathlib.Core.Bool.{true};
 ghost use Prim.Native.Nat.{_<_};
-ghost use Rattle.refusals.specs.Refusals.{first, checkedNumber};
+ghost use Rattle.refusals.specs.Refusals.{first};
+ghost use Rattle.refusals.specs.Checks.{checkedNumber};
 ghost use Rattle.cell.specs.Operations.{cellGroup, cellLengths, cellHalves};
 ghost use Rattle.cell.specs.Volume.{volumeLength};
-ghost use Rattle.header.specs.Header.{allAdmitted, allFactors, allProducts, cellHeader, axisTests};
+ghost use Rattle.header.specs.Header.{allAdmitted, allFactors, allProducts, axisTests};
+ghost use Rattle.header.specs.Cells.{cellHeader};
 
 // How many numbers the volume has, where the lengths are any numbers of two bytes: they may be those of a header that is refused.
 pub fn volume_length(cell: UnitCell) -> u64

@@ -7,7 +7,8 @@ ghost use Prim.Native.Nat.{_/_, _<_};
 ghost use lib.Dec.{eqb};
 ghost use Rattle.lengths.specs.Lengths.{product, admitted, factorsOk, octalDigits};
 ghost use Rattle.refusals.specs.Refusals.{first};
-ghost use Rattle.header.specs.Header.{cellHeader, axisTests};
+ghost use Rattle.header.specs.Header.{axisTests};
+ghost use Rattle.header.specs.Cells.{cellHeader};
 
 // Whether every octal digit is 2, 3, 4 or 5, and their product n. The product of any octal digits is at most their number.
 fn digits_product_is(factors: u32, n: u32) -> bool

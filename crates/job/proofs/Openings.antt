@@ -10,7 +10,8 @@ use Rattle.refusals.specs.Refusals.{numberOf, first, accepted}
 use Rattle.refusals.proofs.Tests.{fails}
 use Rattle.job.specs.declared.Job.{Job}
 use Rattle.job.specs.declared.OpenAnswer.the-variants.{Opened, Refused}
-use Rattle.job.specs.Job.{Header, jobOf, collecting, mapHeld, openTests, openStep, OpenOutcome, opened, notOpened, openOutcome}
+use Rattle.job.specs.Job.{Header, jobOf, collecting, mapHeld, openTests, openStep, OpenOutcome, opened, notOpened}
+use Rattle.job.specs.Answers.{openOutcome}
 
 module _ (h : Header) (kind : ℕ) (v : List ℕ) where
   pub open-refused : (r : Refusal) → numberOf r ≡ first (openTests h kind v) → openOutcome (Refused r) v ≡ openStep h kind v

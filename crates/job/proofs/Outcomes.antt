@@ -9,7 +9,9 @@ use Rattle.lengths.specs.Lengths.{cleared}
 use Rattle.refusals.proofs.Tests.{fails}
 use Rattle.job.specs.declared.Job.{Job}
 use Rattle.job.specs.declared.Answer.the-variants.{Done, Refused}
-use Rattle.job.specs.Job.{withState, factorsHeld, mapHeld, synthesisTests, synthesised, synthesisStep, analysisTests, analysed, analysisStep, unchanged, worked}
+use Rattle.job.specs.Job.{withState, factorsHeld, mapHeld, synthesised, synthesisStep, analysed, analysisStep, unchanged}
+use Rattle.job.specs.TestSteps.{synthesisTests, analysisTests}
+use Rattle.job.specs.Answers.{worked}
 
 module _ (j : Job) (v scratch : List ℕ) where
   pub synthesis-refused : (r : Refusal) → numberOf r ≡ first (synthesisTests j v (length scratch)) → worked (record { answer = Refused r; job = j }) v scratch ≡ synthesisStep j v scratch

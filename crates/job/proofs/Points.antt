@@ -9,7 +9,8 @@ use Rattle.refusals.proofs.Tests.{fails, passes}
 use Rattle.cell.specs.Volume.{densityPlace}
 use Rattle.job.specs.declared.Job.{Job}
 use Rattle.job.specs.declared.GridPoint.{GridPoint}
-use Rattle.job.specs.Job.{groupIn, halves, position, pointTests, pointStep, unchanged, density, refused, Outcome}
+use Rattle.job.specs.Job.{groupIn, halves, position, pointStep, unchanged, density, refused, Outcome}
+use Rattle.job.specs.TestSteps.{pointTests}
 
 module _ (j : Job) (at : GridPoint) (v : List ℕ) where
   pub point-refused : (r : Refusal) → numberOf r ≡ first (pointTests j (position at) v) → refused (numberOf r) ≡ (pointStep j at v) .answer

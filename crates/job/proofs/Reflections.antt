@@ -13,7 +13,9 @@ use Rattle.job.proofs.check.record.Reflections.{pair-of-numbers}
 use Rattle.job.specs.declared.Job.{Job}
 use Rattle.job.specs.declared.Reflection.{Reflection}
 use Rattle.job.specs.declared.Answer.the-variants.{Done, Refused}
-use Rattle.job.specs.Job.{groupIn, halves, index, factorTests, factorStep, recordTests, recordStep, unchanged, factor, refused, Outcome, outcome}
+use Rattle.job.specs.Job.{groupIn, halves, index, factorStep, recordTests, recordStep, unchanged, factor, refused, Outcome}
+use Rattle.job.specs.TestSteps.{factorTests}
+use Rattle.job.specs.Answers.{outcome}
 
 module _ (j : Job) (at : Reflection) (v : List ℕ) where
   pub factor-refused : (r : Refusal) → numberOf r ≡ first (factorTests j (index at) v) → refused (numberOf r) ≡ (factorStep j at v) .answer

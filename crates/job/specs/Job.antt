@@ -1,32 +1,132 @@
--- The job: what an opening makes of a header, which jobs an opening or a later call could have made (refusal 25), and what each call answers and leaves.
--- The tests of the calls, in the paper's order of refusals, are those of Tests, put to a job's numbers here.
-pub use Rattle.header.specs.Header.{Header, cellHeader, halfLengths, volumeLimit, needed, axisTests, collecting, factorsHeld, mapHeld}
-use mathlib.Core.Bool.{Bool, _&&_, cond}
-use Prim.Native.Nat.{ℕ}
-use lib.Dec.{ltb, eqb}
-use Rattle.algebra.specs.cells.Cell.{J, Group, at}
-use Rattle.lengths.specs.Lengths.{octal, octalDigits, cleared}
-use Rattle.refusals.specs.Refusals.{first, Test, accepted, numberOf}
-use Rattle.cell.specs.Volume.{volumeLength, factorsIn, packFactors, densityPlace, mapIn, packMap, mapOf, factorsOf}
+-- The job: the tests of every call, in the paper's order of refusals, on plain numbers (the modulus number is 1); what an opening makes of a header, which
+-- jobs an opening or a later call could have made (refusal 25), and what each call answers and leaves.
+pub use Rattle.header.specs.Header.{Header, halfLengths, volumeLimit, needed, axisTests, collecting, factorsHeld, mapHeld}
+pub use Rattle.header.specs.Cells.{cellHeader}
+use Rattle.algebra.specs.Prelude.{Bool, _&&_, cond, eqb, ltb, ℕ, List, length, getD, replicate, not, leb, [], _∷_, _++_}
+use Rattle.algebra.specs.cells.Cell.{J, Group, at, every}
+use Rattle.lengths.specs.Lengths.{octal, octalDigits, cleared, scratchLength}
+use Rattle.refusals.specs.Refusals.{first, Test, accepted, _⇒_}
+use Rattle.cell.specs.Volume.{factorsIn, packFactors, densityPlace, mapIn, packMap, mapOf, factorsOf, groupOf, volumeLength, numbersRead}
 use Rattle.cell.specs.declared.operations.UnitCell.{UnitCell}
 use Rattle.cell.specs.Operations.{cellGroup, cellHalves}
 use Rattle.job.specs.declared.Job.{Job}
-pub use Rattle.job.specs.Tests.{p, asLong, volumeTests, openTests, within, synthesisTestsOf, analysisTestsOf, recordTestsOf, pointTestsOf, factorTestsOf}
-use mathlib.Core.List.{List}
-use lib.ListN.{length, getD, replicate}
-use Rattle.numbers.specs.Value.{value}
-use Rattle.cell.specs.Consistency.{recordOn}
+use Rattle.numbers.specs.Value.{value, prime}
+use Rattle.cell.specs.Consistency.{recordOn, consistentFactors, consistentMap, agreesWithItself, orbitFree}
 use Rattle.job.specs.declared.Reflection.{Reflection}
 use Rattle.job.specs.declared.GridPoint.{GridPoint}
-use Rattle.job.specs.declared.Answer.{Answer}
-use Rattle.job.specs.declared.Answer.the-variants as A
-use Rattle.job.specs.declared.Answered.{Answered}
-use Rattle.job.specs.declared.OpenAnswer.{OpenAnswer}
-use Rattle.job.specs.declared.OpenAnswer.the-variants as O
-use Rattle.job.specs.declared.PointAnswer.{PointAnswer}
-use Rattle.job.specs.declared.PointAnswer.the-variants as P
-use Rattle.job.specs.declared.FactorAnswer.{FactorAnswer}
-use Rattle.job.specs.declared.FactorAnswer.the-variants as F
+use Rattle.slices.specs.Pairs.{allBelow}
+
+-- ---- the tests
+
+abbrev pub p : ℕ
+p = prime 1
+
+-- the volume is exactly as long as group and lengths ask for
+abbrev pub asLong : (group : ℕ) (lengths : J) → List ℕ → Bool
+asLong group n v = eqb (length v) (volumeLength (groupOf group) (halfLengths n))
+
+-- The volume that an opening is lent: 6, and for a map (kind 1) 7, 14.
+abbrev pub volumeTests : (group : ℕ) (lengths : J) (kind : ℕ) → List ℕ → List Test
+volumeTests group n kind v =
+    not (asLong group n v) ⇒ 6 ∷
+    (eqb kind 1 && not (allBelow p v)) ⇒ 7 ∷
+    (eqb kind 1 && not (consistentMap (groupOf group) (halfLengths n) v)) ⇒ 14 ∷
+    []
+
+-- Open: 8, 2, then 3, 4, 5 each over the three axes, 9, 6, and for a map 7, 14.
+abbrev pub openTests : Header → (kind : ℕ) → List ℕ → List Test
+openTests h kind v =
+    leb 5 (h .group) ⇒ 8 ∷
+    leb 2 kind ⇒ 2 ∷
+    (axisTests h ++ volumeTests (h .group) (h .lengths) kind v)
+
+-- an index or a point has each number below its axis length
+abbrev pub within : (lengths x : J) → Bool
+within n x = ltb (x .0) (n .0) && (ltb (x .1) (n .1) && ltb (x .2) (n .2))
+
+-- A volume that is held as factors, as a map: 7, 14.
+abbrev pub factorsTests : (group : ℕ) (lengths : J) → List ℕ → List Test
+factorsTests group n v =
+    not (allBelow p v) ⇒ 7 ∷
+    not (consistentFactors (groupOf group) (halfLengths n) 1 v) ⇒ 14 ∷
+    []
+
+abbrev pub mapTests : (group : ℕ) (lengths : J) → List ℕ → List Test
+mapTests group n v =
+    not (allBelow p v) ⇒ 7 ∷
+    not (consistentMap (groupOf group) (halfLengths n) v) ⇒ 14 ∷
+    []
+
+-- Synthesis: 25, 23, 6, 13, 7, 14.
+abbrev pub synthesisTestsOf : (valid : Bool) (state group : ℕ) (lengths : J) (v : List ℕ) (scratch : ℕ) → List Test
+synthesisTestsOf valid state group n v scratch =
+    not valid ⇒ 25 ∷
+    eqb state mapHeld ⇒ 23 ∷
+    not (asLong group n v) ⇒ 6 ∷
+    ltb scratch scratchLength ⇒ 13 ∷
+    factorsTests group n v
+
+-- Analysis: 25, 22, 6, 13, 7, 14.
+abbrev pub analysisTestsOf : (valid : Bool) (state group : ℕ) (lengths : J) (v : List ℕ) (scratch : ℕ) → List Test
+analysisTestsOf valid state group n v scratch =
+    not valid ⇒ 25 ∷
+    not (eqb state mapHeld) ⇒ 22 ∷
+    not (asLong group n v) ⇒ 6 ∷
+    ltb scratch scratchLength ⇒ 13 ∷
+    mapTests group n v
+
+-- ---- a record
+
+-- What a value implies at the images of its index: 12, 6, 24.
+abbrev pub orbitTests : (group : ℕ) (lengths at : J) (x y : ℕ) → List ℕ → List Test
+orbitTests group n at x y v =
+    not (agreesWithItself (groupOf group) (halfLengths n) 1 at (value 1 x y)) ⇒ 12 ∷
+    not (asLong group n v) ⇒ 6 ∷
+    not (orbitFree (groupOf group) (halfLengths n) v at) ⇒ 24 ∷
+    []
+
+-- Record: 25, 21, 10, 7, 11, 12, 6, 24.
+abbrev pub recordTestsOf : (valid : Bool) (state group : ℕ) (lengths at : J) (x y : ℕ) → List ℕ → List Test
+recordTestsOf valid state group n at x y v =
+    not valid ⇒ 25 ∷
+    not (eqb state collecting) ⇒ 21 ∷
+    not (within n at) ⇒ 10 ∷ not (ltb x p && ltb y p) ⇒ 7 ∷
+    (eqb x 0 && eqb y 0) ⇒ 11 ∷
+    orbitTests group n at x y v
+
+-- ---- the readings
+
+-- The number of a point: 6, 7.
+abbrev pub densityTests : (group : ℕ) (lengths x : J) → List ℕ → List Test
+densityTests group n x v =
+    not (asLong group n v) ⇒ 6 ∷
+    not (ltb (getD v (densityPlace (groupOf group) (halfLengths n) x) 0) p) ⇒ 7 ∷
+    []
+
+-- Reading a point: 25, 22, 10, 6, 7 (of the number read only).
+abbrev pub pointTestsOf : (valid : Bool) (state group : ℕ) (lengths x : J) → List ℕ → List Test
+pointTestsOf valid state group n x v =
+    not valid ⇒ 25 ∷
+    not (eqb state mapHeld) ⇒ 22 ∷
+    not (within n x) ⇒ 10 ∷
+    densityTests group n x v
+
+-- The numbers that a factor is read from: 6, 7.
+abbrev pub storedTests : (group : ℕ) (lengths at : J) → List ℕ → List Test
+storedTests group n at v =
+    not (asLong group n v) ⇒ 6 ∷
+    not (every (numbersRead (groupOf group) (halfLengths n) at) (λ q. ltb (getD v q 0) p)) ⇒ 7 ∷
+    []
+
+-- Reading a factor: 25, 23, 10, 6, 7 (of the numbers read only).
+abbrev pub factorTestsOf : (valid : Bool) (state group : ℕ) (lengths at : J) → List ℕ → List Test
+factorTestsOf valid state group n at v =
+    not valid ⇒ 25 ∷
+    eqb state mapHeld ⇒ 23 ∷
+    not (within n at) ⇒ 10 ∷
+    storedTests group n at v
+
+-- ---- the job
 
 abbrev pub jobOf : Header → ℕ → Job
 jobOf h s = record {
@@ -121,75 +221,35 @@ pub record Worked : Type 0 where
   pub outcome : Outcome
   pub scratch : List ℕ
 
-abbrev pub synthesisTests : Job → (v : List ℕ) (scratch : ℕ) → List Test
-synthesisTests j v scratch = synthesisTestsOf (validJob j) (j .state) (j .group) (headerOf j .lengths) v scratch
-
 abbrev pub synthesised : Job → List ℕ → List ℕ
 synthesised j v = packMap (groupIn j) (halves j) 1 (mapOf 1 (halves j) (factorsIn (groupIn j) (halves j) 1 v))
 
 unfoldable pub synthesisStep : Job → (v scratch : List ℕ) → Worked
 synthesisStep j v scratch =
-    accepted (first (synthesisTests j v (length scratch)))
+    accepted (first (synthesisTestsOf (validJob j) (j .state) (j .group) (headerOf j .lengths) v (length scratch)))
     (record { outcome = record { answer = done; job = withState j mapHeld; volume = synthesised j v }; scratch = cleared scratch })
     (λ n. record { outcome = unchanged j v n; scratch = scratch })
-
-abbrev pub analysisTests : Job → (v : List ℕ) (scratch : ℕ) → List Test
-analysisTests j v scratch = analysisTestsOf (validJob j) (j .state) (j .group) (headerOf j .lengths) v scratch
 
 abbrev pub analysed : Job → List ℕ → List ℕ
 analysed j v = packFactors (groupIn j) (halves j) 1 (factorsOf 1 (halves j) (mapIn (groupIn j) (halves j) 1 v))
 
 unfoldable pub analysisStep : Job → (v scratch : List ℕ) → Worked
 analysisStep j v scratch =
-    accepted (first (analysisTests j v (length scratch)))
+    accepted (first (analysisTestsOf (validJob j) (j .state) (j .group) (headerOf j .lengths) v (length scratch)))
     (record { outcome = record { answer = done; job = withState j factorsHeld; volume = analysed j v }; scratch = cleared scratch })
     (λ n. record { outcome = unchanged j v n; scratch = scratch })
 
-abbrev pub pointTests : Job → J → List ℕ → List Test
-pointTests j x v = pointTestsOf (validJob j) (j .state) (j .group) (headerOf j .lengths) x v
-
 unfoldable pub pointStep : Job → GridPoint → List ℕ → Outcome
 pointStep j at v =
-    accepted (first (pointTests j (position at) v))
+    accepted (first (pointTestsOf (validJob j) (j .state) (j .group) (headerOf j .lengths) (position at) v))
     (record { answer = density (getD v (densityPlace (groupIn j) (halves j) (position at)) 0); job = j; volume = v })
     (unchanged j v)
 
-abbrev pub factorTests : Job → J → List ℕ → List Test
-factorTests j at v = factorTestsOf (validJob j) (j .state) (j .group) (headerOf j .lengths) at v
-
 unfoldable pub factorStep : Job → Reflection → List ℕ → Outcome
 factorStep j k v =
-    accepted (first (factorTests j (index k) v))
+    accepted (first (factorTestsOf (validJob j) (j .state) (j .group) (headerOf j .lengths) (index k) v))
     (let x = at (factorsIn (groupIn j) (halves j) 1 v) (index k) in record { answer = factor (x .0 .val) (x .1 .val); job = j; volume = v })
     (unchanged j v)
-
--- ---- what the declared answers say, and what a call returned and left: the left side of its promise
-
-abbrev pub saidOpen : OpenAnswer → Opening
-saidOpen (O.Opened j) = opened j
-saidOpen (O.Refused r) = notOpened (numberOf r) 0
-
-abbrev pub said : Answer → Said
-said A.Done = done
-said (A.Refused r) = refused (numberOf r)
-
-abbrev pub saidPoint : PointAnswer → Said
-saidPoint (P.Density n) = density n
-saidPoint (P.Refused r) = refused (numberOf r)
-
-abbrev pub saidFactor : FactorAnswer → Said
-saidFactor (F.Factor x y) = factor x y
-saidFactor (F.Refused r) = refused (numberOf r)
-
--- A reading lends the volume only to be read, and gives no job back.
-abbrev pub openOutcome : OpenAnswer → List ℕ → OpenOutcome
-openOutcome r v = record { answer = saidOpen r; volume = v }
-
-abbrev pub outcome : Answered → List ℕ → Outcome
-outcome r v = record { answer = said (r .answer); job = r .job; volume = v }
-
-abbrev pub worked : Answered → (v scratch : List ℕ) → Worked
-worked r v s = record { outcome = outcome r v; scratch = s }
 
 -- ---- a call as a value
 

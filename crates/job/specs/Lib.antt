@@ -1,3 +1,4 @@
-pub mod Tests
 pub mod Job
 pub mod Plans
+pub mod Answers
+pub mod TestSteps

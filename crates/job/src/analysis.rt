@@ -6,7 +6,8 @@ use crate::plan;
 use crate::valid;
 use refusals::Checked;
 ghost use mathlib.Core.Path.{_≡_};
-ghost use Rattle.job.specs.Job.{analysisStep, worked};
+ghost use Rattle.job.specs.Job.{analysisStep};
+ghost use Rattle.job.specs.Answers.{worked};
 
 impl Job {
     // The map that the volume holds becomes its factors; a refused call changes nothing.

@@ -6,7 +6,8 @@ use crate::valid;
 use cell::operations::Index;
 use refusals::Checked;
 ghost use mathlib.Core.Path.{_≡_};
-ghost use Rattle.job.specs.Job.{factorStep, saidFactor};
+ghost use Rattle.job.specs.Job.{factorStep};
+ghost use Rattle.job.specs.Answers.{saidFactor};
 
 impl Job {
     // The factor at an index anywhere in the cell.

@@ -12,6 +12,7 @@ pub mod factor; // factor.rt: the reading of a structure factor
 pub mod record; // record.rt: the recording of a structure factor
 pub mod synthesis; // synthesis.rt: from the factors to the map
 pub mod analysis; // analysis.rt: from the map to the factors
+pub mod reply; // reply.rt: the answers as numbers
 mod plan; // plan.rt: a job's numbers as the lines of its volume take them
 
 use refusals::Refusal;

@@ -9,7 +9,8 @@ ghost use mathlib.Core.Bool.{true};
 ghost use Prim.Native.Nat.{_≤_};
 ghost use Rattle.lengths.specs.Lengths.{product, octal, factorsOk};
 ghost use Rattle.refusals.specs.Refusals.{first};
-ghost use Rattle.job.specs.Job.{cellHeader, axisTests, jobOf, openStep, openOutcome};
+ghost use Rattle.job.specs.Job.{cellHeader, axisTests, jobOf, openStep};
+ghost use Rattle.job.specs.Answers.{openOutcome};
 
 // An axis of a job: the list goes on as octal digits.
 fn axis(length: u32, factors: &[u8]) -> Axis
@@ -48,7 +49,8 @@ pub fn open(
     f3: &[u8],
     volume: &mut [u32],
 ) -> OpenAnswer
-    ensures { λ r. ⌜ openOutcome r (now (volume .exit)) ≡ openStep (record { group = group; lengths = (n1, n2, n3); list1 = now (f1 .entry); list2 = now (f2 .entry); list3 = now (f3 .entry) }) kind (now (volume .entry)) ⌝ }
+    ensures { λ r. ⌜ openOutcome r (now (volume .exit))
+        ≡ openStep (record { group = group; lengths = (n1, n2, n3); list1 = now (f1 .entry); list2 = now (f2 .entry); list3 = now (f3 .entry) }) kind (now (volume .entry)) ⌝ }
 {
     let cell = UnitCell { group, n1, n2, n3 };
     let checked = crate::check::open::check_open(cell, kind, f1, f2, f3, &volume[..]);

@@ -7,7 +7,8 @@ use cell::operations::Point;
 use cell::places;
 use refusals::Checked;
 ghost use mathlib.Core.Path.{_≡_};
-ghost use Rattle.job.specs.Job.{pointStep, saidPoint};
+ghost use Rattle.job.specs.Job.{pointStep};
+ghost use Rattle.job.specs.Answers.{saidPoint};
 
 impl Job {
     // The number of the map at a point anywhere in the cell.

@@ -8,7 +8,8 @@ use cell::operations::Index;
 use numbers::Pair;
 use refusals::Checked;
 ghost use mathlib.Core.Path.{_≡_};
-ghost use Rattle.job.specs.Job.{recordStep, outcome};
+ghost use Rattle.job.specs.Job.{recordStep};
+ghost use Rattle.job.specs.Answers.{outcome};
 
 impl Job {
     // The value a + b i goes to its index, and what it implies to the images that are stored.

@@ -6,7 +6,8 @@ use crate::plan;
 use crate::valid;
 use refusals::Checked;
 ghost use mathlib.Core.Path.{_≡_};
-ghost use Rattle.job.specs.Job.{synthesisStep, worked};
+ghost use Rattle.job.specs.Job.{synthesisStep};
+ghost use Rattle.job.specs.Answers.{worked};
 
 impl Job {
     // The factors that the volume holds become the map that they stand for; a refused call changes nothing.

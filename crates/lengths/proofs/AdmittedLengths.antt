@@ -9,10 +9,10 @@ use mathlib.Core.Logic.{⊎-elim}
 use lib.Dec.{ltb, eqb}
 use lib.ListN.{length}
 use borrow.Author.Tests.{ltb-true, eqb-true}
-use Rattle.lengths.specs.Lengths.{Factored, product, octal, admitted, factorsOk}
+use Rattle.lengths.specs.Lengths.{product, octal, admitted, factorsOk}
+use Rattle.lengths.specs.Admitted.{Factored, AdmittedLength, FactorList}
 use Rattle.lengths.proofs.stage.Factoring.{packed}
 use Rattle.refusals.proofs.Tests.{both}
-use Rattle.lengths.specs.Admitted.{AdmittedLength, FactorList}
 use Rattle.lengths.proofs.Factors.{factors-of, octal-below}
 use Rattle.lengths.proofs.Divisors.{at-most-eight}
 

@@ -11,7 +11,8 @@ use native.Mathlib.Omega.{arith}
 use lib.Dec.{leb, eqb}
 use lib.ListN.{length}
 use borrow.Author.Tests.{leb-true, eq-eqb}
-use Rattle.lengths.specs.Lengths.{product, Factors, none, one}
+use Rattle.lengths.specs.Lengths.{product}
+use Rattle.lengths.specs.Admitted.{none, one, Factors}
 use Rattle.refusals.proofs.Tests.{both}
 
 -- the primes 2, 3 and 5 in n, with room for eleven

@@ -10,7 +10,8 @@ use lib.Dec.{leb}
 use lib.ListN.{length, getD, drop, drop-of-length-le, length-drop}
 use lib.Seq.{drop-cons}
 use borrow.Author.Tests.{leb-true, ne-eqb}
-use Rattle.lengths.specs.Lengths.{product, octal, Factors, none, one, isFactor, factorsOk, digits, octalDigits}
+use Rattle.lengths.specs.Lengths.{product, octal, factorsOk, digits, octalDigits}
+use Rattle.lengths.specs.Admitted.{isFactor, none, one, Factors}
 use Rattle.refusals.proofs.Tests.{both}
 
 -- ---- a list taken apart

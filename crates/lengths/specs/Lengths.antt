@@ -1,15 +1,6 @@
 -- Factor lists: the factors of a length, 2 to 5 each, packed as octal digits with the first factor lowest.
-use mathlib.Core.List.{List, [], _∷_, _++_}
-use Prim.Native.Nat.{ℕ, _+_, _*_, _≤_, zero, suc, _/_, _%_}
-use mathlib.Core.Bool.{Bool, true, _&&_, cond}
-use lib.ListN.{drop, replicate, getD}
-use lib.Dec.{ltb, leb, eqb}
+use Rattle.algebra.specs.Prelude.{Bool, true, _&&_, cond, eqb, leb, ltb, ℕ, zero, suc, _+_, _*_, _/_, _%_, List, [], _∷_, _++_, getD, drop, replicate}
 use Rattle.algebra.specs.lines.Kinds.{Kind, plain, hermitian, antihermitian, alternating, symmetric, antisymmetric, slots}
-
--- the packed list, and the product of its factors
-pub data Factored : ℕ → ℕ → Type 0 where
-  done : Factored 0 1
-  more : {f rest k : ℕ} → 2 ≤ f → f ≤ 5 → Factored rest k → Factored (f + 8 * rest) (f * k)
 
 -- a list of factors as one number, and its product
 unfoldable pub octal : List ℕ → ℕ
@@ -20,11 +11,6 @@ unfoldable pub product : List ℕ → ℕ
 product [] = 1
 product (f ∷ l) = f * product l
 
--- every factor is 2 to 5
-pub data Factors : List ℕ → Type 0 where
-  none : Factors []
-  one : {f : ℕ} {l : List ℕ} → 2 ≤ f → f ≤ 5 → Factors l → Factors (f ∷ l)
-
 -- ---- The lengths of a line, their factor lists, and the scratch.
 
 -- An admitted length: an even divisor of 2,880.
@@ -32,12 +18,9 @@ unfoldable pub admitted : ℕ → Bool
 admitted N = ltb 0 N && (eqb (N % 2) 0 && eqb (2880 % N) 0)
 
 -- A factor list: each number is 2 to 5.
-abbrev pub isFactor : ℕ → Bool
-isFactor f = leb 2 f && leb f 5
-
 unfoldable pub factorsOk : List ℕ → Bool
 factorsOk [] = true
-factorsOk (f ∷ l) = isFactor f && factorsOk l
+factorsOk (f ∷ l) = (leb 2 f && leb f 5) && factorsOk l
 
 -- The list that a number holds in its octal digits, the first factor lowest (`octal` is the number of a list):
 -- digits to a base, the lowest first, of at most `count` digits.

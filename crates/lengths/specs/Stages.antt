@@ -4,7 +4,7 @@ use mathlib.Core.Bool.{Bool, true, false, not}
 use mathlib.Core.Logic.{_≢_}
 use Prim.Native.Nat.{ℕ, _*_, _/_, _%_}
 use Rattle.lengths.specs.declared.stage.Stage.{Stage}
-use Rattle.lengths.specs.Lengths.{Factored}
+use Rattle.lengths.specs.Admitted.{Factored}
 
 -- the length of the line
 abbrev pub points : Stage → ℕ

@@ -1,9 +1,9 @@
-// Factor lists: the factors of a length, 2 to 5 each, packed as octal digits with the first factor lowest (specs/Factors.antt).
+// Factor lists: the factors of a length, 2 to 5 each, packed as octal digits with the first factor lowest (specs/Lengths.antt).
 //
 // A length is the product of its list. The plain transform has a step for each factor and comes from stage to stage by them (specs/Stages.antt).
 ghost use mathlib.Core.Path.{_≡_};
 ghost use Prim.Native.Nat.{ℕ, _*_, _<_};
-ghost use Rattle.lengths.specs.Lengths.{Factored};
+ghost use Rattle.lengths.specs.Admitted.{Factored};
 ghost use Rattle.lengths.specs.Stages.{after, Ahead};
 
 // A stage of a transform: the factors that are left, the product of those that are done, and the number of lines, which is the product of those

@@ -12,7 +12,8 @@ use Rattle.refusals.proofs.Tests.{Passed, passed}
 use Rattle.lengths.specs.Admitted.{AdmittedLength}
 use Rattle.lengths.proofs.Counts.{slots-le}
 use Rattle.lengths.proofs.AdmittedLengths.{admitted-length, factor-list}
-use Rattle.line.specs.Line.{lineTests, Accepted}
+use Rattle.line.specs.Line.{lineTests}
+use Rattle.line.specs.Answers.{Accepted}
 
 module _ (p kind direction N : ℕ) (factors line : List ℕ) (scratch : ℕ) (none : 0 ≡ first (lineTests p kind direction N factors line scratch)) where
   tests : Passed (lineTests p kind direction N factors line scratch)

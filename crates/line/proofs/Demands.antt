@@ -5,8 +5,7 @@ use mathlib.Core.List.{List}
 use Prim.Native.Nat.{ℕ, _*_, _/_, _<_}
 use native.Mathlib.Omega.{arith}
 use lib.ListN.{length}
-use Rattle.algebra.specs.ring.Ring.{Ops, pow, sum}
-use Rattle.algebra.specs.fourier.Fourier.{dft}
+use Rattle.algebra.specs.ring.Ring.{Ops, pow, sum, dft}
 use Rattle.algebra.specs.fourier.Axis.{AxisLaws}
 use Rattle.algebra.specs.lines.Kinds.{Kind, slots, unfoldBefore, unfoldAfter, forward, inverse}
 use Rattle.algebra.proofs.ring.Laws.{along}
@@ -17,7 +16,7 @@ use Rattle.numbers.proofs.Values.{field-ring, field-star}
 use Rattle.slices.specs.Pairs.{Below, valuesOf, listOf}
 use Rattle.slices.proofs.Values.{list-cong, list-values, values-list}
 use Rattle.lengths.specs.Lengths.{kindOf, pairCount, admitted}
-use Rattle.line.specs.Transform.{rootOf, transform, transformed}
+use Rattle.line.specs.Line.{rootOf, transform, transformed}
 use Rattle.lengths.specs.Admitted.{AdmittedLength}
 use Rattle.line.proofs.kinds.Axes.{axis-laws}
 use Rattle.line.proofs.kinds.Reading.{forward-cong, back-cong}

@@ -4,3 +4,4 @@ pub mod Outcome
 pub mod Specimens
 pub mod Demands
 pub mod TakenBack
+pub mod CalledSums

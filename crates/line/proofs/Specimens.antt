@@ -6,19 +6,14 @@ use Prim.Native.Nat.{ℕ, _≤_}
 use lib.Dec.{T, eqb}
 use lib.ListN.{length}
 use borrow.Author.Tests.{eqb-true, le-ltb}
-use Rattle.algebra.specs.ring.Ring.{pow, sum}
-use Rattle.algebra.specs.fourier.Fourier.{dft}
-use Rattle.algebra.specs.ring.Residue.{residue, residues}
-use Rattle.algebra.specs.ring.Gauss.{gauss, conj, imag}
-use Rattle.algebra.specs.lines.Line.{three, re, im, unit, unfold-by, pack-by, weave}
-use Rattle.algebra.specs.lines.Kinds.{slots, unfoldBefore, unfoldAfter, packBefore, packAfter}
+use Rattle.algebra.specs.ring.Ring.{pow, sum, residue, residues, gauss, conj, imag, dft}
+use Rattle.algebra.specs.lines.Kinds.{three, re, im, unit, unfold-by, pack-by, interleave, slots, unfoldBefore, unfoldAfter, packBefore, packAfter}
 use Rattle.numbers.specs.Value.{prime, half, part, valueOf, pairOf}
 use Rattle.roots.specs.Root.{root}
 use Rattle.slices.specs.Pairs.{at, put, puts, allBelow}
 use Rattle.lengths.specs.Lengths.{product, admitted, factorsOk, scratchLength}
-use Rattle.line.specs.Transform.{transformed}
+use Rattle.line.specs.Line.{transformed, lineTests, lineStep}
 use Rattle.refusals.specs.Refusals.{first}
-use Rattle.line.specs.Line.{lineTests, lineStep}
 use Rattle.line.specs.Specimens.{Specimen, specimens, Shown, AllShown, Specimens}
 use Rattle.refusals.proofs.Tests.{both}
 
@@ -65,7 +60,7 @@ all-shown (x ∷ l) e =
     (shown x (eqb-true 0 (number x) (g .0)) (same-list (result x) (x .after) (g .1)), all-shown l (h .1))
 
 computed : shows specimens ≡ true
-unfolding shows sameList first admitted factorsOk product allBelow transformed root prime half part valueOf pairOf at put puts slots unfoldBefore unfoldAfter packBefore packAfter dft sum pow gauss residues residue conj imag re im unit unfold-by pack-by weave three
+unfolding shows sameList first admitted factorsOk product allBelow transformed root prime half part valueOf pairOf at put puts slots unfoldBefore unfoldAfter packBefore packAfter dft sum pow gauss residues residue conj imag re im unit unfold-by pack-by interleave three
 computed = refl
 
 pub specimens-shown : Specimens

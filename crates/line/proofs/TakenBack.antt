@@ -1,5 +1,5 @@
 -- The two directions, call after call: what an accepted call leaves is accepted by the call in the other direction, which restores the line.
-use mathlib.Core.Path.{_≡_, refl, sym, _∙_, ap}
+use mathlib.Core.Path.{_≡_, sym, _∙_, ap}
 use mathlib.Core.List.{List, _++_}
 use Prim.Native.Nat.{ℕ, zero, suc, _+_, _*_, _-_, _/_, _≤_, _<_}
 use native.Mathlib.Omega.{arith}
@@ -12,12 +12,12 @@ use Rattle.slices.specs.Pairs.{Below, valuesOf}
 use Rattle.slices.proofs.Bounds.{below-allBelow, allBelow-below}
 use Rattle.slices.proofs.Values.{length-list, below-list}
 use Rattle.lengths.specs.Lengths.{kindOf, pairCount, scratchLength, cleared}
-use Rattle.line.specs.Transform.{transform, transformed}
-use Rattle.refusals.specs.Refusals.{first, accepted}
-use Rattle.line.specs.Line.{lineTests, LineOutcome, lineStep}
+use Rattle.line.specs.Line.{transform, transformed, lineTests, lineStep}
+use Rattle.refusals.specs.Refusals.{first}
 use Rattle.line.specs.Demands.{Restored, RestoredAfter, TakenBack}
 use Rattle.refusals.proofs.Tests.{Passed, passed, pass, none, not-t}
 use Rattle.line.proofs.Demands.{restored, restored-after}
+use Rattle.line.proofs.Outcome.{none-held, accepted-outcome}
 
 -- ---- a cleared scratch is as long as it was, and is cleared to itself
 
@@ -47,17 +47,12 @@ below-transformed m kind direction N line = below-list m (pairCount kind N) (tra
 
 -- ---- the call
 
-answered : (n : ℕ) (o : LineOutcome) (line scratch : List ℕ) → (accepted n o (λ n. record { answer = n; line = line; scratch = scratch })) .answer ≡ 0 → 0 ≡ n
-answered zero o line scratch e = refl
-answered (suc n) o line scratch e = sym e
-
 module _ (m kind direction N : ℕ) (factors line scratch : List ℕ) (is : IsModulus m) (h : 0 ≡ first (lineTests (prime m) kind direction N factors line (length scratch))) where
   tests : Passed (lineTests (prime m) kind direction N factors line (length scratch))
   tests = passed (lineTests (prime m) kind direction N factors line (length scratch)) tt h
 
   done : lineStep m kind direction N factors line scratch ≡ record { answer = 0; line = transformed m kind direction N line; scratch = cleared scratch }
-  unfolding lineStep
-  done = rw (← h)
+  done = accepted-outcome m kind direction N factors line scratch h
 
   direction-is : direction < 2
   direction-is = leb-false 2 direction (tests .1 .0)
@@ -99,5 +94,4 @@ module _ (m kind direction N : ℕ) (factors line scratch : List ℕ) (is : IsMo
   step-back = ap (λ o. lineStep m kind (1 - direction) N factors (o .line) (o .scratch)) done ∙ undone ∙ ap (λ o. record { answer = 0; line = line; scratch = o .scratch }) (sym done)
 
 pub taken-back : TakenBack
-unfolding lineStep
-taken-back = record { taken-back = λ m kind direction N factors line scratch is e. step-back m kind direction N factors line scratch is (answered _ _ line scratch e) }
+taken-back = record { taken-back = λ m kind direction N factors line scratch is e. step-back m kind direction N factors line scratch is (none-held m kind direction N factors line scratch e) }

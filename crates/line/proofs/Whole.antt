@@ -7,7 +7,7 @@ use lib.ListN.{length, take, drop}
 use lib.Seq.{drop-append-add, drop-drop}
 use Rattle.algebra.proofs.ring.Laws.{along}
 use Rattle.lengths.specs.Lengths.{pairCount, scratchLength}
-use Rattle.line.specs.Transform.{transformed}
+use Rattle.line.specs.Line.{transformed}
 use Rattle.lengths.specs.Admitted.{AdmittedLength, FactorList}
 use Rattle.line.proofs.kinds.Dispatch.{prefix-length}
 

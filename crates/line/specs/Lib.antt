@@ -1,5 +1,5 @@
 pub mod Line
-pub mod Transform
 pub mod Demands
 pub mod Specimens
 pub mod Tables
+pub mod Answers

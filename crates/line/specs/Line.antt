@@ -1,19 +1,26 @@
--- One line: what the call refuses, what it answers and leaves for every input. `transformed` is its line after the transform, by direct sums
--- (specs/Transform.antt).
-use mathlib.Core.Bool.{not}
-use mathlib.Core.List.{List, [], _∷_}
-use Prim.Native.Nat.{ℕ, _*_, _/_, _≤_, _<_}
-use lib.ListN.{length}
-use lib.Dec.{ltb, leb, eqb}
-use mathlib.Core.Path.{_≡_}
-use Rattle.slices.specs.Pairs.{allBelow, Below}
-use Rattle.lengths.specs.Lengths.{product, admitted, factorsOk, scratchLength, pairCount, cleared}
-use Rattle.refusals.specs.Refusals.{Test, _⇒_, numberOf, first, accepted}
-use Rattle.numbers.specs.Value.{prime}
-use Rattle.line.specs.Transform.{transformed}
-use Rattle.line.specs.declared.LineAnswer.{LineAnswer}
-use Rattle.line.specs.declared.LineAnswer.the-variants.{Transformed, Refused}
-use Rattle.lengths.specs.Admitted.{AdmittedLength, FactorList}
+-- One line: its transform, for the six kinds and both directions, by direct sums over the whole line of N = 2 A values; what the call refuses, and what it
+-- answers and leaves for every input. `unfoldBefore` and `unfoldAfter` of algebra's Kinds are the whole line of what is packed before and after the transform,
+-- `forward` and `inverse` the sums, packed again.
+use Rattle.algebra.specs.Prelude.{not, eqb, leb, ltb, ℕ, _*_, _/_, List, [], _∷_, length, zero, suc}
+use Rattle.slices.specs.Pairs.{allBelow, valuesOf, listOf}
+use Rattle.lengths.specs.Lengths.{product, admitted, factorsOk, scratchLength, pairCount, cleared, kindOf}
+use Rattle.refusals.specs.Refusals.{Test, _⇒_, first, accepted}
+use Rattle.numbers.specs.Value.{prime, Value, onValues}
+use Rattle.algebra.specs.lines.Kinds.{Kind, slots, forward, inverse}
+pub use Rattle.roots.specs.Root.{rootOf, axis}
+
+-- The packed line of 2 A values after the transform from the packed line X before it, or for direction 1 the other way.
+abbrev pub transform : (m : ℕ) → Kind → (direction A : ℕ) → (ℕ → Value m) → ℕ → Value m
+transform m k zero A X = onValues m forward A (axis m A .w) k X
+transform m k (suc direction) A X = onValues m inverse A (axis m A .w) (axis m A .part) k X
+
+-- the same on the numbers of a line: pair j is the numbers 2 j and 2 j + 1
+abbrev pub transformedLine : (m : ℕ) → Kind → (direction A : ℕ) → List ℕ → List ℕ
+transformedLine m k direction A line = listOf (slots k A) (transform m k direction A (valuesOf m line))
+
+-- as it is called: by the kind's number, and the length N
+unfoldable pub transformed : (m kind direction N : ℕ) (line : List ℕ) → List ℕ
+transformed m kind direction N line = transformedLine m (kindOf kind) direction (N / 2) line
 
 -- ---- The refusals, in the paper's order
 
@@ -38,25 +45,3 @@ lineStep m kind direction N factors line scratch =
     accepted (first (lineTests (prime m) kind direction N factors line (length scratch)))
     (record { answer = 0; line = transformed m kind direction N line; scratch = cleared scratch })
     (λ n. record { answer = n; line = line; scratch = scratch })
-
--- What the declared answer says.
-abbrev pub saidLine : LineAnswer → ℕ
-saidLine Transformed = 0
-saidLine (Refused r) = numberOf r
-
--- what a call returned and left
-abbrev pub lineOutcome : LineAnswer → (line scratch : List ℕ) → LineOutcome
-lineOutcome r l s = record { answer = saidLine r; line = l; scratch = s }
-
--- ---- What is known of a line whose every test was passed: it is transformed under these facts alone.
-
--- The factors are the octal digits of the list.
-pub record Accepted (p kind direction N factors : ℕ) (line : List ℕ) (scratch : ℕ) : Type 0 where
-  pub kind-is : kind < 6
-  pub direction-is : direction < 2
-  pub size : AdmittedLength N
-  pub list : FactorList N factors
-  pub line-length : length line ≡ 2 * pairCount kind N
-  pub pairs-fit : pairCount kind N ≤ N
-  pub scratch-fits : scratchLength ≤ scratch
-  pub below : Below p line

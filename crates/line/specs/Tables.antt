@@ -4,7 +4,8 @@ use mathlib.Core.List.{List}
 use Prim.Native.Nat.{ℕ, zero, suc}
 use lib.ListN.{length}
 use Rattle.numbers.specs.Value.{Value, conj}
-use Rattle.roots.specs.Root.{root, tableRoot, RootTable}
+use Rattle.roots.specs.Root.{root}
+use Rattle.roots.specs.Table.{tableRoot, RootTable}
 use Rattle.roots.specs.TableLaws.{TangentLaws, BackwardTangents, NegatedTable}
 use Rattle.fold_formulas.specs.FoldFormulas.{Tangents}
 

@@ -4,7 +4,8 @@
 use refusals::Checked;
 use refusals::Refusal;
 ghost use mathlib.Core.Path.{_≡_};
-ghost use Rattle.refusals.specs.Refusals.{first, checkedNumber};
+ghost use Rattle.refusals.specs.Refusals.{first};
+ghost use Rattle.refusals.specs.Checks.{checkedNumber};
 ghost use Rattle.line.specs.Line.{lineTests};
 
 // The refusals of a line, in the paper's order. Residues are below p; the scratch counts by its length.

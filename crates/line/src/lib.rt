@@ -9,11 +9,11 @@ use refusals::Refusal;
 ghost use mathlib.Core.Path.{_≡_};
 ghost use lib.ListN.{length as lengthOf, drop};
 ghost use Rattle.numbers.specs.Value.{prime};
-ghost use Rattle.line.specs.Transform.{transformed};
+ghost use Rattle.line.specs.Line.{transformed, lineStep};
 ghost use Rattle.lengths.specs.Lengths.{scratchLength};
-ghost use Rattle.line.specs.Line.{Accepted, lineStep, lineOutcome};
+ghost use Rattle.line.specs.Answers.{Accepted, lineOutcome};
 ghost use Rattle.line.specs.Specimens.{Specimens};
-ghost use Rattle.line.specs.Demands.{RulesKept, ForwardIsSum, BackIsSum, Restored, RestoredAfter, TakenBack};
+ghost use Rattle.line.specs.Demands.{RulesKept, ForwardIsSum, BackIsSum, CallIsSum, ListFree, Restored, RestoredAfter, TakenBack};
 
 // The answer of a line.
 pub enum LineAnswer {
@@ -103,6 +103,11 @@ pub fn starred_lines()
 // The second demand: a packed line stands for a whole line of its kind, and what is computed is the direct sum over that ..
 pub fn direct_sums()
     ensures { λ _. ⌜ RulesKept × ForwardIsSum × BackIsSum ⌝ }
+{}
+
+// .. also of the numbers that an accepted call leaves, whatever its factor list ..
+pub fn called_sums()
+    ensures { λ _. ⌜ CallIsSum × ListFree ⌝ }
 {}
 
 // .. and each direction restores what the other was lent, call after call.

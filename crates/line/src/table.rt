@@ -1,6 +1,6 @@
 // The tables of a direction: those of the root for direction 0, and for direction 1 those of its conjugate, with the imaginary parts
 // and the half tangents negated.
-ghost use Rattle.roots.specs.Root.{ImaginaryTable};
+ghost use Rattle.roots.specs.Table.{ImaginaryTable};
 ghost use Rattle.roots.specs.TableLaws.{TangentTable};
 ghost use Rattle.line.specs.Tables.{Directed};
 

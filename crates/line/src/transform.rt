@@ -11,7 +11,7 @@ ghost use lib.ListN.{length};
 ghost use Rattle.numbers.specs.Value.{prime, IsModulus};
 ghost use Rattle.slices.specs.Pairs.{Below};
 ghost use Rattle.lengths.specs.Lengths.{pairCount};
-ghost use Rattle.line.specs.Transform.{transformed};
+ghost use Rattle.line.specs.Line.{transformed};
 ghost use Rattle.line.specs.Tables.{TablesOf};
 ghost use Rattle.lengths.specs.Admitted.{AdmittedLength, FactorList};
 

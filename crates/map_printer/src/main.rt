@@ -4,7 +4,7 @@
 // crate printing. So the printer's refusal, for an output that is too short, never comes.
 use libc::STDIN_FILENO;
 use libc::STDOUT_FILENO;
-use printing::map_text::TextAnswer;
+use output::FillAnswer;
 use printing::printer;
 
 fn print(text: &[u8], count: usize) {
@@ -19,7 +19,7 @@ fn main() {
     let count = io::read_full(STDIN_FILENO, &mut file);
     let answer = printer::print_file(&file[..count], &mut text);
     match answer {
-        TextAnswer::Written(n) => print(&text, n),
-        TextAnswer::Refused(_) => {}
+        FillAnswer::Written(n) => print(&text, n),
+        FillAnswer::Refused(_) => {}
     }
 }

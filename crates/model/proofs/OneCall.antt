@@ -8,8 +8,7 @@ use native.Mathlib.Omega.{arith}
 use lib.Dec.{eqb}
 use lib.ListN.{length, getD}
 use borrow.Author.Tests.{not-false, lt-ltb, eq-eqb, eqb-true}
-use Rattle.algebra.specs.cells.CellTests.{every}
-use Rattle.algebra.specs.cells.Cell.{Inside, at}
+use Rattle.algebra.specs.cells.Cell.{every, Inside, at}
 use Rattle.numbers.specs.Value.{Value, value}
 use Rattle.slices.specs.Pairs.{allBelow}
 use Rattle.slices.proofs.Bounds.{allBelow-below}
@@ -20,7 +19,8 @@ use Rattle.cell.specs.Volume.{volumeLength, factorsIn, densityPlace, numbersRea
 use Rattle.cell.specs.Consistency.{recordOn, agreesWithItself, orbitFree, sameValue, consistentFactors, consistentMap}
 use Rattle.job.specs.declared.Reflection.{Reflection}
 use Rattle.job.specs.declared.GridPoint.{GridPoint}
-use Rattle.job.specs.Job.{collecting, factorsHeld, mapHeld, validJob, p, within, index, position, Said, Outcome, Worked, unchanged, recordTests, recordStep, synthesisTests, synthesised, synthesisStep, analysisTests, analysed, analysisStep, pointTests, pointStep, factorTests, factorStep, step}
+use Rattle.job.specs.Job.{collecting, factorsHeld, mapHeld, validJob, p, within, index, position, Said, Outcome, Worked, unchanged, recordTests, recordStep, synthesised, synthesisStep, analysed, analysisStep, pointStep, factorStep, step}
+use Rattle.job.specs.TestSteps.{synthesisTests, analysisTests, pointTests, factorTests}
 use Rattle.model.specs.Model.{Model, group, half, factorOf, Call, recording, synthesis, analysis, readPoint, readFactor, modelTests, modelSays, modelNext, modelSaid, modelAfter, inState, modelVolume, modelJob}
 use Rattle.job.proofs.Jobs.{valid-with}
 use Rattle.model.proofs.Sound.{LawfulModel, holds-map, holds-factors, model-length, model-below, within-inside, factors-pass, factor-read, orbit-zero, lawful-recorded, recorded-packed, map-passes, density-read, synthesis-gives, analysis-gives}

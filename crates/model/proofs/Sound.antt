@@ -8,8 +8,7 @@ use native.Mathlib.Omega.{arith}
 use lib.Dec.{ltb, eqb}
 use lib.ListN.{length, getD}
 use borrow.Author.Tests.{ltb-true, lt-ltb}
-use Rattle.algebra.specs.ring.Gauss.{gauss}
-use Rattle.algebra.specs.ring.Residue.{residues}
+use Rattle.algebra.specs.ring.Ring.{gauss, residues}
 use Rattle.algebra.specs.cells.Cell.{J, Inside, at}
 use Rattle.algebra.specs.cells.CellSteps.{Lawful}
 use Rattle.algebra.proofs.ring.Bool.{same-test, split}
@@ -25,7 +24,8 @@ use Rattle.lengths.specs.Lengths.{octal}
 use Rattle.lengths.specs.Admitted.{AdmittedLength}
 use Rattle.line.proofs.kinds.Axes.{axis-laws}
 use Rattle.cell.specs.Volume.{volumeLength, factorsIn, packFactors, packMap, densityPlace, mapIn, axis, mapOf, factorsOf}
-use Rattle.cell.specs.Consistency.{sameValue, orbitFree, recordOn, recordIn, agreesWithItself, consistentFactors, consistentMap, RealMap, ObeysGroup}
+use Rattle.cell.specs.Consistency.{sameValue, orbitFree, recordOn, recordIn, agreesWithItself, consistentFactors, consistentMap}
+use Rattle.cell.specs.Exactly.{RealMap, ObeysGroup}
 use Rattle.volume_transform.specs.Axes.{JobSizes}
 use Rattle.cell.proofs.Tests.{true-iff}
 use Rattle.cell.proofs.Reading.{same-iff, length-factors, below-factors, read-packed}
@@ -35,7 +35,7 @@ use Rattle.cell.proofs.Maps.{map-consistent, map-cong}
 use Rattle.cell.proofs.Points.{map-obeys, map-real, read-point, analysis-packed}
 use Rattle.cell.proofs.Records.{record-lawful, record-packed}
 use Rattle.cell.proofs.OrbitNumbers.{orbit-free}
-use Rattle.header.specs.Header.{headerCell}
+use Rattle.header.specs.Cells.{headerCell}
 use Rattle.job.specs.Job.{mapHeld, validJob, within}
 use Rattle.header.proofs.Headers.{all-three}
 use Rattle.job.proofs.Jobs.{valid-job-sizes}

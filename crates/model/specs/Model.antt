@@ -1,10 +1,6 @@
 -- The reference model (the paper's book): a state, and F for every (h, k, l) of the whole cell. It is fed the calls' arguments without job and volume,
 -- save a volume opened as a map, and knows no packing: its refusals follow from arguments and state alone.
-use mathlib.Core.Bool.{_&&_, not, cond}
-use mathlib.Core.List.{List, [], _∷_}
-use Prim.Native.Nat.{ℕ, suc}
-use lib.ListN.{length}
-use lib.Dec.{ltb, leb, eqb}
+use Rattle.algebra.specs.Prelude.{_&&_, not, cond, eqb, leb, ltb, ℕ, suc, List, [], _∷_, length}
 use Rattle.algebra.specs.cells.Cell.{J, Group, Cell, at}
 use Rattle.numbers.specs.Value.{Value, value}
 use Rattle.refusals.specs.Refusals.{Test, _⇒_, first, accepted}

@@ -3,15 +3,15 @@ use mathlib.Core.Path.{_≡_, refl, sym, _∙_, ap}
 use Prim.Native.Nat.{ℕ, zero, suc, _+_, _*_, _-_, _/_, _%_, _<_, _≤_}
 use native.Mathlib.Nat as Nat
 use native.Mathlib.Omega.{arith}
-use Rattle.algebra.specs.ring.Ring.{Ops, cast}
+use Rattle.algebra.specs.ring.Ring.{Ops, residue, residues, gauss}
+use Rattle.algebra.specs.fourier.Axis.{cast}
 use Rattle.algebra.specs.ring.RingLaws.{CRing}
-use Rattle.algebra.specs.ring.Residue.{residue, residues}
-use Rattle.algebra.specs.ring.Gauss.{gauss}
-use Rattle.algebra.specs.lines.Line.{re, im}
+use Rattle.algebra.specs.lines.Kinds.{re, im}
 use Rattle.algebra.proofs.ring.Laws.{along, mul-zero}
 use Rattle.algebra.proofs.ring.ResidueRing.{residue-add, residue-mul}
 use Rattle.algebra.proofs.lines.Parts.{half-gauss, re-gauss, im-gauss}
-use Rattle.numbers.specs.Value.{prime, exponent, Value, ring, field, conj, i, res, real, half, part}
+use Rattle.numbers.specs.Value.{prime, exponent, Value, ring, field, conj, i, real, half, part}
+use Rattle.numbers.specs.Bounds.{res}
 use Rattle.numbers.proofs.Primes.{prime-least, prime-next, prime-half}
 use Rattle.numbers.proofs.Residues.{residue-above, residue-cast, half-of, res-ring, val-res}
 use Rattle.numbers.proofs.Values.{value-path, real-times}

@@ -6,7 +6,8 @@ use native.Mathlib.Omega.{arith}
 use lib.Dec.{eqb}
 use borrow.Author.Tests.{eq-eqb, ne-eqb}
 use Rattle.numbers.specs.declared.Pair.{Pair}
-use Rattle.numbers.specs.Value.{prime, exponent, IsModulus, Small}
+use Rattle.numbers.specs.Value.{prime, exponent, IsModulus}
+use Rattle.numbers.specs.Bounds.{Small}
 
 pub first-modulus : IsModulus 1
 first-modulus = record { low = omega arith; high = omega arith }

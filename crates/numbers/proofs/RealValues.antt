@@ -3,13 +3,12 @@
 use mathlib.Core.Path.{_≡_, refl, sym}
 use mathlib.Core.List.{[], _∷_}
 use Prim.Native.Nat.{ℕ, _<_}
-use Rattle.algebra.specs.ring.Ring.{Ops}
+use Rattle.algebra.specs.ring.Ring.{Ops, residues, gauss, imag}
 use Rattle.algebra.specs.ring.RingLaws.{CRing}
-use Rattle.algebra.specs.ring.Residue.{residues}
-use Rattle.algebra.specs.ring.Gauss.{gauss, imag}
 use Rattle.algebra.proofs.ring.Solver.{ring, quote}
 use Rattle.algebra.proofs.ring.Laws.{neg-zero}
-use Rattle.numbers.specs.Value.{prime, Residue, field, i, res, real, half}
+use Rattle.numbers.specs.Value.{prime, Residue, field, i, real, half}
+use Rattle.numbers.specs.Bounds.{res}
 use Rattle.numbers.specs.Value as Value
 use Rattle.numbers.proofs.Residues.{res-ring, below-by}
 use Rattle.numbers.proofs.Values.{value-path}

@@ -4,12 +4,13 @@ use mathlib.Core.Path.{_≡_, refl, sym, _∙_, ap}
 use Prim.Native.Nat.{ℕ, zero, suc, _+_, _*_, _-_, _%_, _<_, _≤_}
 use native.Mathlib.Nat as N
 use native.Mathlib.Omega.{arith}
-use Rattle.algebra.specs.ring.Ring.{Ops, cast}
+use Rattle.algebra.specs.ring.Ring.{Ops, Res, residue, residues}
+use Rattle.algebra.specs.fourier.Axis.{cast}
 use Rattle.algebra.specs.ring.RingLaws.{CRing}
-use Rattle.algebra.specs.ring.Residue.{Res, residue, residues}
 use Rattle.algebra.proofs.ring.Laws.{along}
 use Rattle.algebra.proofs.ring.ResidueRing.{val-path, residue-val, val-residue, val-below, residue-add, residue-mul, residue-neg, residue-less, residue-ring}
-use Rattle.numbers.specs.Value.{prime, Residue, ring, res}
+use Rattle.numbers.specs.Value.{prime, Residue, ring}
+use Rattle.numbers.specs.Bounds.{res}
 use Rattle.numbers.proofs.Primes.{prime-pos}
 
 module _ (p : ℕ) where

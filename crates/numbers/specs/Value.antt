@@ -1,11 +1,8 @@
 -- The two primes, chosen by the modulus number m: 86,399 at 1 and 302,399 at 2. Both are 2,880 c - 1.
 -- At a number that is no modulus stands the second prime too, as in the code: so what holds of both primes holds at every m.
-use mathlib.Core.Bool.{cond}
-use Prim.Native.Nat.{ℕ, _≤_, _+_, _/_, _<_}
-use lib.Dec.{eqb}
-use Rattle.algebra.specs.ring.Ring.{Ops}
-use Rattle.algebra.specs.ring.Residue.{Res, residue, residues}
-use Rattle.algebra.specs.ring.Gauss as Gauss
+use Rattle.algebra.specs.Prelude.{cond, eqb, ℕ, _+_, _/_, _≤_}
+use Rattle.algebra.specs.ring.Ring.{Ops, Res, residue, residues}
+use Rattle.algebra.specs.ring.Ring as Gauss
 use Rattle.numbers.specs.declared.Pair.{Pair}
 
 unfoldable pub prime : ℕ → ℕ
@@ -40,10 +37,7 @@ conj m = Gauss.conj (residues (prime m))
 abbrev pub i : (m : ℕ) → Value m
 i m = Gauss.imag (residues (prime m))
 
--- the residue of a number, and the value a + b i of two numbers
-abbrev pub res : (m : ℕ) → ℕ → Residue m
-res m x = residue (prime m) x
-
+-- the value a + b i of two numbers
 abbrev pub value : (m a b : ℕ) → Value m
 value m a b = (residue (prime m) a, residue (prime m) b)
 
@@ -68,8 +62,3 @@ valueOf m v = value m (v .re) (v .im)
 
 unfoldable pub pairOf : {p : ℕ} → Res p × Res p → Pair
 pairOf z = record { re = z .0 .val; im = z .1 .val }
-
--- both numbers of a pair are below p
-pub record Small (p : ℕ) (v : Pair) : Type 0 where
-  pub re : v .re < p
-  pub im : v .im < p

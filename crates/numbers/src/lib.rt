@@ -7,9 +7,9 @@ pub mod unreduced; // unreduced.rt
 
 ghost use mathlib.Core.Path.{_≡_};
 ghost use Prim.Native.Nat.{ℕ, _*_, _<_, _≤_};
-ghost use Rattle.algebra.specs.ring.Ring.{Ops};
-ghost use Rattle.algebra.specs.ring.Residue.{Res};
-ghost use Rattle.numbers.specs.Value.{prime, IsModulus, ring, field, conj, i, res, value, half, real, valueOf, pairOf, Small};
+ghost use Rattle.algebra.specs.ring.Ring.{Ops, Res};
+ghost use Rattle.numbers.specs.Value.{prime, IsModulus, ring, field, conj, i, value, half, real, valueOf, pairOf};
+ghost use Rattle.numbers.specs.Bounds.{res, Small};
 ghost use Rattle.numbers.specs.Unreduced.{Accumulated};
 
 // A value of the paper: re + im i.

@@ -1,7 +1,7 @@
 // The reciprocal of a length: 1/N = (p + 1)/N, since every admitted length divides 2,880 and 2,880 divides p + 1.
 ghost use mathlib.Core.Path.{_≡_};
 ghost use Prim.Native.Nat.{_<_, _≤_};
-ghost use Rattle.algebra.specs.ring.Residue.{Res};
+ghost use Rattle.algebra.specs.ring.Ring.{Res};
 ghost use Rattle.numbers.specs.Value.{prime, IsModulus, part};
 
 // 1/N of an admitted N.

@@ -8,7 +8,8 @@ use crate::Pair;
 ghost use mathlib.Core.Path.{_≡_};
 ghost use Prim.Native.Nat.{ℕ, _+_, _*_, _≤_};
 ghost use Rattle.algebra.specs.ring.Ring.{Ops};
-ghost use Rattle.numbers.specs.Value.{prime, IsModulus, Value, field, res, real, valueOf, pairOf, Small};
+ghost use Rattle.numbers.specs.Value.{prime, IsModulus, Value, field, real, valueOf, pairOf};
+ghost use Rattle.numbers.specs.Bounds.{res, Small};
 ghost use Rattle.numbers.specs.Unreduced.{Accumulated, meant, Room};
 
 // A value as a sum of one.
@@ -48,7 +49,8 @@ pub fn sum(x: Accumulator, y: Accumulator) -> Accumulator
 // x - y: 444,158,510,417,000,000 is 17,000,000 times the product of both primes, and less than 2,428,552 products.
 pub fn apart(x: Accumulator, y: Accumulator) -> Accumulator
     requires { ⌜ Room 500000000000000000 x × Room 444158510417000000 y ⌝ }
-    ensures { λ r. ⌜ ((m n k : ℕ) (a b : Value m) → IsModulus m → Accumulated m n x a → Accumulated m k y b → Accumulated m (n + 2428552) r (field m .add a (field m .neg b))) ⌝ }
+    ensures { λ r. ⌜ ((m n k : ℕ) (a b : Value m) → IsModulus m → Accumulated m n x a
+        → Accumulated m k y b → Accumulated m (n + 2428552) r (field m .add a (field m .neg b))) ⌝ }
 {
     Accumulator {
         re: x.re + (444158510417000000 - y.re),

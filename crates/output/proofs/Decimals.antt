@@ -21,11 +21,11 @@ more-places zero n h = rw (lt-ltb n 10 h)
 more-places (suc c) n h = ap (λ (l : List ℕ). cond (ltb n 10) ((48 + n) ∷ []) (l ++ (48 + n % 10) ∷ [])) (more-places c (n / 10) (omega (arith, h)))
 
 -- the digits before the last one, and the last
-pub decimal-more : (n : ℕ) → 10 ≤ n → n < 4294967296 → decimal n ≡ decimal (n / 10) ++ (48 + n % 10) ∷ []
+pub decimal-more : (n : ℕ) → 10 ≤ n → n < 18446744073709551616 → decimal n ≡ decimal (n / 10) ++ (48 + n % 10) ∷ []
 unfolding digitsOf
-decimal-more n h k = rw (le-ltb n 10 h) (ap (λ (l : List ℕ). l ++ (48 + n % 10) ∷ []) (sym (more-places 8 (n / 10) (omega (arith, k)))))
+decimal-more n h k = rw (le-ltb n 10 h) (ap (λ (l : List ℕ). l ++ (48 + n % 10) ∷ []) (sym (more-places 18 (n / 10) (omega (arith, k)))))
 
--- at most ten digits
+-- at most twenty digits
 digits-short : (c n : ℕ) → length (digitsOf c n) ≤ c
 unfolding digitsOf
 digits-short zero n = omega arith
@@ -35,5 +35,5 @@ digits-short (suc c) n = either (ltb n 10) (48 + n) (digitsOf c (n / 10)) (48 + 
     either true x l y h = omega arith
     either false x l y h = rw length-append (omega (arith, h))
 
-pub decimal-short : (n : ℕ) → length (decimal n) ≤ 10
-decimal-short n = digits-short 10 n
+pub decimal-short : (n : ℕ) → length (decimal n) ≤ 20
+decimal-short n = digits-short 20 n

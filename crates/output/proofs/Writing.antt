@@ -9,7 +9,8 @@ use native.Mathlib.Omega.{arith}
 use lib.ListN.{length, set, take, getD, drop, length-append, length-take}
 use lib.Seq.{sets, sets-eq, set-out, length-sets, take-suc}
 use Rattle.algebra.proofs.ring.Laws.{along}
-use Rattle.output.specs.Output.{each, Wrote, Ends}
+use Rattle.output.specs.Output.{each}
+use Rattle.output.specs.Written.{Wrote, Ends}
 
 -- stores of two lists in a row
 sets-append : (d : List ℕ) (i : ℕ) (s t : List ℕ) → sets d i (s ++ t) ≡ sets (sets d i s) (i + length s) t

@@ -1,1 +1,3 @@
 pub mod Output
+pub mod Written
+pub mod Answers

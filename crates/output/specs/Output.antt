@@ -1,20 +1,14 @@
 -- What an output is made of: numbers in decimal or in big-endian bytes, the blank and the line feed, and things in a row. A text is in ASCII.
-use mathlib.Core.Bool.{cond}
-use mathlib.Core.List.{List, [], _∷_, _++_}
-use Prim.Native.Nat.{ℕ, zero, suc, _+_, _/_, _%_, _≤_}
-use lib.Dec.{ltb}
-use mathlib.Core.Path.{_≡_}
-use lib.ListN.{length}
-use lib.Seq.{sets}
+use Rattle.algebra.specs.Prelude.{cond, ltb, ℕ, zero, suc, _+_, _/_, _%_, List, [], _∷_, _++_, length, drop}
 
 -- a number in decimal, of at most `count` digits
 unfoldable pub digitsOf : (count n : ℕ) → List ℕ
 digitsOf zero n = []
 digitsOf (suc c) n = cond (ltb n 10) ((48 + n) ∷ []) (digitsOf c (n / 10) ++ (48 + n % 10) ∷ [])
 
--- a number of 32 bits has at most ten
+-- a number of 64 bits has at most twenty
 abbrev pub decimal : ℕ → List ℕ
-decimal n = digitsOf 10 n
+decimal n = digitsOf 20 n
 
 -- n big-endian bytes of a number
 unfoldable pub bigEndian : (n x : ℕ) → List ℕ
@@ -32,14 +26,19 @@ unfoldable pub each : (n : ℕ) → (ℕ → List ℕ) → List ℕ
 each zero f = []
 each (suc n) f = each n f ++ f n
 
--- ---- How a text goes to an output.
+-- ---- A call that fills an output: how many bytes it wrote, or the refusal's number; and what it leaves in the output.
 
--- The bytes of a text from place `at` on: those that fall inside the output are stored, all are counted. So the same function measures a text, on an
--- output of no bytes, and writes it. `next` is the place after the text.
-pub record Wrote (at : ℕ) (text before : List ℕ) (next : ℕ) (after : List ℕ) : Type 0 where
-  pub place : next ≡ at + length text
-  pub bytes : after ≡ sets before at text
+pub data Filled : Type 0 where
+  written : (count : ℕ) → Filled
+  notWritten : (number : ℕ) → Filled
 
--- a text that starts at `at` ends at a place that a machine word can count
-pub record Ends (at : ℕ) (text : List ℕ) : Type 0 where
-  pub low : at + length text ≤ 1152921504606846976
+pub record FillOutcome : Type 0 where
+  pub answer : Filled
+  pub output : List ℕ
+
+-- the bytes go to its first places, and those beyond are as they were; a refused call leaves all as it was
+abbrev pub filled : (bytes output : List ℕ) → FillOutcome
+filled bytes output = record { answer = written (length bytes); output = bytes ++ drop (length bytes) output }
+
+abbrev pub notFilled : (output : List ℕ) (number : ℕ) → FillOutcome
+notFilled output n = record { answer = notWritten n; output = output }

@@ -1,7 +1,8 @@
 // Numbers in two and in four bytes, the higher byte first.
 use crate::put_byte;
 ghost use Prim.Native.Nat.{_<_};
-ghost use Rattle.output.specs.Output.{bigEndian, Wrote, Ends};
+ghost use Rattle.output.specs.Output.{bigEndian};
+ghost use Rattle.output.specs.Written.{Wrote, Ends};
 
 pub fn put_two(out: &mut [u8], at: usize, x: u32) -> usize
     requires { ⌜ (x < 65536) × Ends at (bigEndian 2 x) ⌝ }

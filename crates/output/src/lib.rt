@@ -2,8 +2,16 @@
 // beyond the output is counted and not stored, so that a text is measured by the functions that write it.
 pub mod big_endian; // big_endian.rt: numbers in two and in four bytes
 
+use refusals::Refusal;
 ghost use mathlib.Core.List.{[], _∷_};
-ghost use Rattle.output.specs.Output.{decimal, blank, Wrote, Ends};
+ghost use Rattle.output.specs.Output.{decimal, blank};
+ghost use Rattle.output.specs.Written.{Wrote, Ends};
+
+// The answer of a call that fills an output: how many bytes it wrote, or why none.
+pub enum FillAnswer {
+    Written(usize),
+    Refused(Refusal),
+}
 
 pub fn put_byte(out: &mut [u8], at: usize, byte: u8) -> usize
     requires { ⌜ Ends at (byte ∷ []) ⌝ }
@@ -31,16 +39,24 @@ pub fn put_bytes(out: &mut [u8], at: usize, text: &[u8]) -> usize
 }
 
 // A number in decimal: the digits before the last one, and the last.
-pub fn put_decimal(out: &mut [u8], at: usize, n: u32) -> usize
+pub fn put_number(out: &mut [u8], at: usize, n: u64) -> usize
     requires { ⌜ Ends at (decimal n) ⌝ }
     ensures { λ r. ⌜ Wrote at (decimal n) (now (out .entry)) r (now (out .exit)) ⌝ }
 {
     if n < 10 {
         put_byte(out, at, 48 + n as u8)
     } else {
-        let last = put_decimal(out, at, n / 10);
+        let last = put_number(out, at, n / 10);
         put_byte(out, last, 48 + (n % 10) as u8)
     }
+}
+
+// The same of a number of 32 bits.
+pub fn put_decimal(out: &mut [u8], at: usize, n: u32) -> usize
+    requires { ⌜ Ends at (decimal n) ⌝ }
+    ensures { λ r. ⌜ Wrote at (decimal n) (now (out .entry)) r (now (out .exit)) ⌝ }
+{
+    put_number(out, at, n as u64)
 }
 
 // A blank and a number.

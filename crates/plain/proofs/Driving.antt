@@ -6,8 +6,7 @@ use mathlib.Core.List.{List}
 use Prim.Native.Nat.{ℕ, _*_, _/_}
 use native.Mathlib.Nat as N
 use lib.ListN.{length}
-use Rattle.algebra.specs.ring.Ring.{Ops, pow}
-use Rattle.algebra.specs.fourier.Fourier.{dft}
+use Rattle.algebra.specs.ring.Ring.{Ops, pow, dft}
 use Rattle.numbers.specs.Value.{prime, Value, field}
 use Rattle.numbers.proofs.Values.{field-ring}
 use Rattle.slices.specs.Pairs.{at, fills, Below, valuesOf, listOf}
@@ -15,7 +14,7 @@ use Rattle.slices.proofs.Pairs.{fills-whole}
 use Rattle.slices.proofs.Values.{list-values, list-cong, length-of, below-of}
 use Rattle.plain.specs.Plain.{innerSum, sumsAt, WorkLeft, untouched, last-odd}
 use Rattle.lengths.specs.declared.stage.Stage.{Stage}
-use Rattle.lengths.specs.Lengths.{Factored}
+use Rattle.lengths.specs.Admitted.{Factored}
 use Rattle.lengths.specs.Stages.{points, after, Reached, start, next, Ahead}
 use Rattle.plain.proofs.Equation3.{inner-start, inner-end}
 use Rattle.lengths.proofs.stage.Factoring.{next-factor, next-length, factored-none}

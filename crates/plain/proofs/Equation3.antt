@@ -3,9 +3,9 @@ use mathlib.Core.Path.{_≡_, sym, _∙_, ap, ap₂, subst}
 use Prim.Native.Nat.{ℕ, _+_, _*_, _/_, _%_, _<_}
 use native.Mathlib.Nat as N
 use native.Mathlib.Omega.{arith}
-use Rattle.algebra.specs.ring.Ring.{Ops, pow}
+use Rattle.algebra.specs.ring.Ring.{Ops, pow, dft}
 use Rattle.algebra.specs.ring.RingLaws.{CRing}
-use Rattle.algebra.specs.fourier.Fourier.{T, dft}
+use Rattle.algebra.specs.fourier.Split.{T}
 use Rattle.algebra.proofs.ring.Laws.{along, pow-add}
 use Rattle.algebra.proofs.fourier.Sums.{sum-cong}
 use Rattle.algebra.proofs.fourier.Transform.{pow-mul, cooley-tukey, T-start, T-end}

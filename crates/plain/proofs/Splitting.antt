@@ -3,7 +3,7 @@ use mathlib.Core.Path.{_≡_, sym, _∙_}
 use mathlib.Core.Logic.{_≢_}
 use Prim.Native.Nat.{ℕ, _*_, _/_, _%_}
 use native.Mathlib.Nat as N
-use Rattle.lengths.specs.Lengths.{Factored}
+use Rattle.lengths.specs.Admitted.{Factored}
 use Rattle.lengths.proofs.stage.Factoring.{next-factor, factored-pos, next-length}
 use Rattle.plain.specs.Plain.{Splits}
 use Rattle.lengths.proofs.stage.Divisors.{divisor-pos}

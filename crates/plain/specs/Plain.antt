@@ -4,11 +4,11 @@
 -- W is a root of order 2,880, so that e(1/k) is W^(2880/k) for every k that divides 2,880.
 use mathlib.Core.Path.{_≡_}
 use Prim.Native.Nat.{ℕ, _+_, _*_, _/_, _%_, _≤_, _<_}
-use mathlib.Core.Bool.{true}
+use mathlib.Core.Bool.{Bool, true, cond}
 use mathlib.Core.List.{List}
 use Rattle.algebra.specs.ring.Ring.{Ops, sum}
 use Rattle.butterflies.specs.Butterflies.{e}
-use Rattle.numbers.specs.Value.{Value, field}
+use Rattle.numbers.specs.Value.{Value, field, i}
 use Rattle.lengths.specs.declared.stage.Stage.{Stage}
 use Rattle.lengths.specs.Stages.{points, Reached}
 use Rattle.slices.specs.Pairs.{listOf}
@@ -48,3 +48,7 @@ sumsAt m W s X = listOf (points s) (innerSum (field m) W (s .inner) (s .lines) X
 pub data WorkLeft (m n : ℕ) (W : Value m) (factors left : ℕ) (X : ℕ → Value m) (before now : List ℕ) : Type 0 where
   untouched : factors ≡ left → now ≡ before → WorkLeft m n W factors left X before now
   last-odd : {s : Stage} → Reached factors n true s → s .left / 8 ≡ left → now ≡ sumsAt m W s X → WorkLeft m n W factors left X before now
+
+-- ---- What a line that is stored times i is multiplied by: i, or over i, which is -i.
+abbrev pub rotation : (m : ℕ) → (over : Bool) → Value m
+rotation m over = cond over (field m .neg (i m)) (i m)

@@ -1,4 +1,4 @@
-// A step of equation (3) of document 001, for all the interleaved lines at once (specs/Steps.antt).
+// A step of equation (3) of document 001, for all the interleaved lines at once (specs/Plain.antt).
 //
 // `inner` is the paper's A, the length of the inner sums that the slice `from` holds, `outer` its B, the factor of the step, and `lines`
 // the number M of lines. The inner sums are multiplied by e(b s/AB) and summed over b into the slice `to`, all B sums of a place by one
@@ -10,7 +10,7 @@ ghost use mathlib.Core.Path.{_≡_};
 ghost use Prim.Native.Nat.{_*_};
 ghost use lib.ListN.{length};
 ghost use Rattle.numbers.specs.Value.{prime, IsModulus, field};
-ghost use Rattle.roots.specs.Root.{tableRoot, RootTable};
+ghost use Rattle.roots.specs.Table.{tableRoot, RootTable};
 ghost use Rattle.slices.specs.Pairs.{Below, valuesOf, listOf};
 ghost use Rattle.plain.specs.Plain.{twiddled, outerSum, Splits};
 

@@ -10,7 +10,8 @@ use Rattle.numbers.specs.Value.{prime}
 use Rattle.numbers.proofs.Primes.{prime-pos, prime-least}
 use Rattle.slices.specs.Pairs.{Below}
 use Rattle.slices.proofs.Bounds.{below-each}
-use Rattle.lengths.specs.Lengths.{Factored, octal, product, Factors, none, one}
+use Rattle.lengths.specs.Lengths.{octal, product}
+use Rattle.lengths.specs.Admitted.{none, one, Factored, Factors}
 use Rattle.lengths.proofs.stage.Factoring.{packed}
 
 unfoldable pub twoToFive : List ℕ → Bool

@@ -5,8 +5,8 @@ ghost use mathlib.Core.Path.{_≡_};
 ghost use Prim.Native.Nat.{_*_, _/_, _<_};
 ghost use lib.ListN.{length};
 ghost use Rattle.numbers.specs.Value.{IsModulus};
-ghost use Rattle.roots.specs.Root.{RealTable, ImaginaryTable, RootTable};
-ghost use Rattle.lengths.specs.Lengths.{Factored};
+ghost use Rattle.roots.specs.Table.{RealTable, ImaginaryTable, RootTable};
+ghost use Rattle.lengths.specs.Admitted.{Factored};
 
 fn main() {
     each(0, 1);

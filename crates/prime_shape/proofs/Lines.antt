@@ -5,9 +5,8 @@ use Prim.Native.Nat.{ℕ, zero, suc, _+_, _*_, _/_, _<_}
 use native.Mathlib.Nat as N
 use native.Mathlib.Omega.{arith}
 use native.Mathlib.Decide.{decLt}
-use Rattle.algebra.specs.ring.Ring.{Ops, pow, cast}
-use Rattle.algebra.specs.fourier.Fourier.{Root, dft}
-use Rattle.algebra.specs.fourier.Axis.{AxisLaws}
+use Rattle.algebra.specs.ring.Ring.{Ops, pow, dft}
+use Rattle.algebra.specs.fourier.Axis.{cast, Root, AxisLaws}
 use Rattle.algebra.specs.lines.Kinds.{Kind}
 use Rattle.algebra.proofs.ring.Laws.{pow-add}
 use Rattle.algebra.proofs.ring.Solver.{ring, quote, linear}

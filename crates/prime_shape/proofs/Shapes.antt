@@ -8,12 +8,10 @@ use Prim.Native.Nat.{ℕ, zero, suc, _+_, _*_, _-_, _/_, _%_, _<_, _≤_}
 use native.Mathlib.Nat as N
 use native.Mathlib.Omega.{arith}
 use native.Mathlib.Decide.{ℕ-discrete}
-use Rattle.algebra.specs.ring.Ring.{Ops, pow, cast}
+use Rattle.algebra.specs.ring.Ring.{Ops, pow, Res, residue, residues, gauss}
+use Rattle.algebra.specs.fourier.Axis.{cast, Root}
 use Rattle.algebra.specs.ring.RingLaws.{CRing, Star}
-use Rattle.algebra.specs.ring.Residue.{Res, residue, residues}
-use Rattle.algebra.specs.ring.Gauss.{gauss}
-use Rattle.algebra.specs.ring.Gauss as Gauss
-use Rattle.algebra.specs.fourier.Fourier.{Root}
+use Rattle.algebra.specs.ring.Ring as Gauss
 use Rattle.algebra.proofs.ring.Laws.{along}
 use Rattle.algebra.proofs.ring.Solver.{ring, quote, linear}
 use Rattle.algebra.proofs.ring.ResidueRing.{val-residue, residue-val, residue-ring, residue-add}

@@ -7,7 +7,7 @@ use native.Mathlib.Omega.{arith}
 use native.Mathlib.Decide.{decLt}
 use lib.Dec.{T, T-not, eqb}
 use borrow.Author.Tests.{eq-eqb}
-use Rattle.algebra.specs.cells.CellTests.{below}
+use Rattle.algebra.specs.cells.Cell.{below}
 use Rattle.algebra.proofs.ring.Bool.{below-at}
 use Rattle.prime_shape.specs.Prime.{Prime}
 

@@ -1,9 +1,8 @@
 -- A prime of the papers' shape, p + 1 = 2,880 c, and its root r = ((a + i)/(a - i))^c: all that the transform facts use of them.
 use mathlib.Core.Path.{_≡_}
 use Prim.Native.Nat.{ℕ, _+_, _*_, _/_, _%_, _≤_, _<_}
-use Rattle.algebra.specs.ring.Ring.{Ops, pow}
-use Rattle.algebra.specs.ring.Residue.{Res, residue, residues}
-use Rattle.algebra.specs.ring.Gauss as Gauss
+use Rattle.algebra.specs.ring.Ring.{Ops, pow, Res, residue, residues}
+use Rattle.algebra.specs.ring.Ring as Gauss
 use Rattle.prime_shape.specs.Prime.{Prime}
 
 -- Values a + b i over the residues modulo p.

@@ -3,8 +3,7 @@
 use mathlib.Core.Path.{_≡_}
 use Prim.Native.Nat.{ℕ, _*_, _/_, _<_}
 use Rattle.algebra.specs.ring.Ring.{Ops, pow, sum}
-use Rattle.algebra.specs.fourier.Fourier.{Root}
-use Rattle.algebra.specs.fourier.Axis.{Axis, AxisLaws}
+use Rattle.algebra.specs.fourier.Axis.{Root, Axis, AxisLaws}
 use Rattle.algebra.specs.lines.Kinds.{Kind, slots, unfoldBefore, unfoldAfter, forward, inverse}
 use Rattle.algebra.specs.lines.FoldKinds.{fold-forward, fold-back}
 use Rattle.algebra.specs.cells.Cell.{Cell, mapOf, factorsOf}

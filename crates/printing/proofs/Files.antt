@@ -8,9 +8,8 @@ use lib.ListN.{length, take, replicate, length-replicate}
 use lib.Seq.{length-take-le}
 use lib.Dec.{ltb}
 use Rattle.job.specs.Job.{needed}
-use Rattle.factor_file.specs.Reading.{headerIn, fileStep}
-use Rattle.printing.specs.Text.{refusalText, putText}
-use Rattle.printing.specs.Printed.{fileLimit, lentLimit, openedText, printed, printStep}
+use Rattle.factor_file.specs.File.{headerIn, fileStep}
+use Rattle.printing.specs.Text.{refusalText, putText, fileLimit, lentLimit, openedText, printed, printStep}
 
 -- ---- the numbers that are lent: the first n of m zeros
 

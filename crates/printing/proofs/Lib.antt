@@ -1,4 +1,5 @@
 pub mod Specimen
 pub mod Synthesised
+pub mod Opened
 pub mod Files
 pub mod Fits

@@ -1,26 +1,24 @@
--- What is printed of a synthesis: the map that it made, which is printable, or its refusal.
-use mathlib.Core.Path.{_≡_, refl, sym, ap, subst, _∙_}
+-- A synthesis that no test refuses: the map that it makes is printable, and what is printed of it.
+use mathlib.Core.Path.{_≡_, refl, sym, ap, _∙_}
 use mathlib.Core.Bool.{true, _&&_}
 use mathlib.Core.List.{List}
-use Prim.Native.Nat.{ℕ, zero, suc}
-use native.Mathlib.Omega.{arith}
+use Prim.Native.Nat.{ℕ}
 use lib.Dec.{ltb, eqb}
-use lib.ListN.{length}
+use lib.ListN.{length, replicate, length-replicate}
 use borrow.Author.Tests.{not-false}
-use Rattle.refusals.specs.declared.Refusal.{Refusal}
-use Rattle.refusals.specs.Refusals.{numberOf, first, accepted}
-use Rattle.lengths.specs.Lengths.{cleared}
+use Rattle.refusals.specs.Refusals.{first, accepted}
+use Rattle.lengths.specs.Lengths.{scratchLength, cleared}
 use Rattle.refusals.proofs.Tests.{passed}
 use Rattle.cell.proofs.VolumeLayout.{length-map}
 use Rattle.job.specs.declared.Job.{Job}
-use Rattle.job.specs.declared.Answer.{Answer}
-use Rattle.job.specs.declared.Answer.the-variants.{Done, Refused}
 use Rattle.job.specs.declared.Answered.{Answered}
-use Rattle.job.specs.Job.{headerOf, axisTests, validJob, withState, mapHeld, groupIn, halves, Said, done, refused, Outcome, Worked, unchanged, synthesisTests, synthesised, synthesisStep, said, worked}
+use Rattle.job.specs.Job.{headerOf, axisTests, validJob, withState, mapHeld, groupIn, halves, done, Outcome, Worked, unchanged, synthesised, synthesisStep}
+use Rattle.job.specs.TestSteps.{synthesisTests}
+use Rattle.job.specs.Answers.{worked}
 use Rattle.header.proofs.Headers.{all-three}
-use Rattle.printing.specs.Text.{mapText, refusalText}
+use Rattle.printing.specs.Text.{mapText, putText, textStep}
 use Rattle.printing.specs.Printable.{Printable}
-use Rattle.printing.specs.Printed.{synthesisText}
+use Rattle.printing.proofs.map_text.Outcomes.{text-held}
 
 -- a job is valid in every state
 valid-held : (j : Job) → validJob j ≡ true → validJob (withState j mapHeld) ≡ true
@@ -29,37 +27,25 @@ valid-held j e =
     let t = all-three (ltb (j .group) 5) (eqb (first (axisTests (headerOf j))) 0) (ltb (j .state) 3) e in
     λ i. t .0 i && (t .1 i && true)
 
--- a job whose map is held, and the volume of that map
-pub record Held (j : Job) (v : List ℕ) : Type 0 where
-  pub printable : Printable j v
-  pub state : j .state ≡ mapHeld
+pub synthesised-printable : (j : Job) (v : List ℕ) → validJob j ≡ true → Printable (withState j mapHeld) (synthesised j v)
+synthesised-printable j v e = record { valid = valid-held j e; long = length-map (groupIn j) (halves j) 1 _ }
 
-pub synthesised-held : (j : Job) (v : List ℕ) → validJob j ≡ true → Held (withState j mapHeld) (synthesised j v)
-synthesised-held j v e = record { printable = record { valid = valid-held j e; long = length-map (groupIn j) (halves j) 1 _ }; state = refl }
+-- the scratch that the printer lends
+abbrev pub scratch : List ℕ
+scratch = replicate scratchLength 0
 
--- done is no refusal
-not-refused : (n : ℕ) → done ≡ refused n → ⊥
-not-refused n e = let z : _≡_ {A = ℕ} 0 1 = cc in omega arith
+pub scratch-length : length scratch ≡ scratchLength
+scratch-length = length-replicate {A = ℕ} scratchLength 0
 
--- the text of an outcome, by its answer
-module _ {r : Answered} {v′ s′ : List ℕ} {w : Worked} (e : worked r v′ s′ ≡ w) where
-  told : {a : Answer} → r .answer ≡ a → synthesisText (record { answer = said a; job = r .job; volume = v′ }) ≡ synthesisText (w .outcome)
-  told q = ap (λ (a : Answer). synthesisText (record { answer = said a; job = r .job; volume = v′ })) (sym q) ∙ ap (λ (w : Worked). synthesisText (w .outcome)) e
+module _ (j : Job) (v : List ℕ) (none : 0 ≡ first (synthesisTests j v scratchLength)) where
+  pub synthesis-makes : synthesisStep j v scratch .outcome ≡ record { answer = done; job = withState j mapHeld; volume = synthesised j v }
+  unfolding synthesisStep
+  synthesis-makes =
+      let e : first (synthesisTests j v (length scratch)) ≡ 0 = ap (λ n. first (synthesisTests j v n)) scratch-length ∙ sym none in
+      λ i. accepted {O = Worked} (e i) (record { outcome = record { answer = done; job = withState j mapHeld; volume = synthesised j v }; scratch = cleared scratch }) (λ n. record { outcome = unchanged j v n; scratch = scratch }) .outcome
 
-  pub refused-text : {n : Refusal} → r .answer ≡ Refused n → refusalText (numberOf n) 0 ≡ synthesisText (w .outcome)
-  refused-text q = told q
-
-  pub done-text : r .answer ≡ Done → mapText (r .job) v′ ≡ synthesisText (w .outcome)
-  done-text q = told q
-
--- a synthesis that is done leaves a map that can be printed
-pub done-held : (j : Job) (v s : List ℕ) {r : Answered} {v′ s′ : List ℕ} → worked r v′ s′ ≡ synthesisStep j v s → r .answer ≡ Done → Held (r .job) v′
-unfolding synthesisStep
-done-held j v s {r} {v′} {s′} e q = go (first (synthesisTests j v (length s))) refl e
-  where
-    go : (n : ℕ) → first (synthesisTests j v (length s)) ≡ n →
-        worked r v′ s′ ≡ accepted n (record { outcome = record { answer = done; job = withState j mapHeld; volume = synthesised j v }; scratch = cleared s }) (λ n. record { outcome = unchanged j v n; scratch = s }) → Held (r .job) v′
-    go zero z f =
-        let h = synthesised-held j v (not-false _ (passed (synthesisTests j v (length s)) tt (sym z) .0)) in
-        subst (λ (o : Outcome). Held (o .job) (o .volume)) (sym (ap (λ (w : Worked). w .outcome) f)) h
-    go (suc n) z f = absurd (not-refused (suc n) (sym (ap said q) ∙ ap (λ (w : Worked). w .outcome .answer) f))
+  -- what is printed of the job and the volume that it leaves
+  pub synthesised-text : (out : List ℕ) (r : Answered) {v′ s′ : List ℕ} → worked r v′ s′ ≡ synthesisStep j v scratch → textStep (r .job) v′ out ≡ putText (mapText (withState j mapHeld) (synthesised j v)) out
+  synthesised-text out r e =
+      ap (λ (o : Outcome). textStep (o .job) (o .volume) out) (ap (λ (w : Worked). w .outcome) e ∙ synthesis-makes)
+      ∙ text-held (withState j mapHeld) (synthesised j v) out (synthesised-printable j v (not-false _ (passed (synthesisTests j v scratchLength) tt none .0))) refl

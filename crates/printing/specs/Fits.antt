@@ -2,7 +2,7 @@
 use mathlib.Core.List.{List}
 use Prim.Native.Nat.{ℕ, _≤_}
 use lib.ListN.{length}
-use Rattle.printing.specs.Printed.{printed}
+use Rattle.printing.specs.Text.{printed}
 
 pub record AlwaysFits : Type 0 where
   pub fits : (file : List ℕ) → length (printed file) ≤ 65536

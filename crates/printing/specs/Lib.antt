@@ -1,4 +1,4 @@
-pub mod Printed
+pub mod PrintedModel
 pub mod Specimen
 pub mod Fits
 pub mod Text

@@ -1,17 +1,12 @@
 -- The text of a map, as the paper shows it: "map", group and lengths; then a line for each stored plane z and each x, both rising: z, x and the values by y,
 -- one blank between. Bytes are those of ASCII, and every line ends with a line feed.
-use mathlib.Core.Bool.{not, cond}
-use mathlib.Core.List.{List, [], _∷_, _++_}
-use Prim.Native.Nat.{ℕ}
-use lib.ListN.{length, getD, drop}
-use lib.Dec.{ltb, eqb}
-use Rattle.output.specs.Output.{decimal, blank, lineFeed, each}
-use Rattle.refusals.specs.Refusals.{Test, _⇒_, first, accepted, numberOf}
+use Rattle.algebra.specs.Prelude.{not, cond, eqb, ltb, ℕ, List, [], _∷_, _++_, length, getD, min, replicate}
+use Rattle.output.specs.Output.{FillOutcome, filled, notFilled, decimal, blank, lineFeed, each}
+use Rattle.refusals.specs.Refusals.{Test, _⇒_, first, accepted}
 use Rattle.cell.specs.Volume.{layers, mapPlace}
 use Rattle.job.specs.declared.Job.{Job}
-use Rattle.job.specs.Job.{groupIn, halves, validJob, mapHeld, fits}
-use Rattle.printing.specs.declared.map_text.TextAnswer.{TextAnswer}
-use Rattle.printing.specs.declared.map_text.TextAnswer.the-variants.{Written, Refused}
+use Rattle.job.specs.Job.{groupIn, halves, validJob, mapHeld, fits, needed, withState, opened, notOpened, OpenOutcome, synthesised}
+use Rattle.factor_file.specs.File.{headerIn, fileStep}
 
 -- "map 0 2 2 2"
 unfoldable pub headLine : Job → List ℕ
@@ -30,14 +25,6 @@ refusalText n place = 114 ∷ 101 ∷ 102 ∷ 117 ∷ 115 ∷ 101 ∷ 100 ∷ bl
 
 -- ---- the call: 25, 22, 6, 18, in the order of the writer
 
-pub data Texting : Type 0 where
-  written : (count : ℕ) → Texting
-  notWritten : (number : ℕ) → Texting
-
-pub record TextOutcome : Type 0 where
-  pub answer : Texting
-  pub output : List ℕ
-
 abbrev pub textTests : Job → (v : List ℕ) (room : ℕ) → List Test
 textTests j v room =
     not (validJob j) ⇒ 25 ∷
@@ -46,20 +33,30 @@ textTests j v room =
     ltb room (length (mapText j v)) ⇒ 18 ∷
     []
 
--- the count of the bytes written; the places beyond them are as they were
-abbrev pub put : (text output : List ℕ) → TextOutcome
-put text output = record { answer = written (length text); output = text ++ drop (length text) output }
-
 -- A text goes to an output that is long enough for it; another is refused 18 and left as it was.
-abbrev pub putText : (text output : List ℕ) → TextOutcome
-putText text output = cond (ltb (length output) (length text)) (record { answer = notWritten 18; output = output }) (put text output)
+abbrev pub putText : (text output : List ℕ) → FillOutcome
+putText text output = cond (ltb (length output) (length text)) (notFilled output 18) (filled text output)
 
-unfoldable pub textStep : Job → (v output : List ℕ) → TextOutcome
-textStep j v output = accepted (first (textTests j v (length output))) (put (mapText j v) output) (λ n. record { answer = notWritten n; output = output })
+unfoldable pub textStep : Job → (v output : List ℕ) → FillOutcome
+textStep j v output = accepted (first (textTests j v (length output))) (filled (mapText j v) output) (notFilled output)
 
-abbrev pub saidText : TextAnswer → Texting
-saidText (Written n) = written n
-saidText (Refused r) = notWritten (numberOf r)
+-- ---- The printer's limits: the bytes of a file that it reads, and the numbers of a volume that it lends.
 
-abbrev pub textOutcome : TextAnswer → List ℕ → TextOutcome
-textOutcome r output = record { answer = saidText r; output = output }
+abbrev pub fileLimit : ℕ
+fileLimit = 8192
+
+abbrev pub lentLimit : ℕ
+lentLimit = 2048
+
+-- ---- The map printer: the text that it prints for the bytes on its standard input.
+-- The file is lent a volume as long as it needs, and of 2,048 numbers where it needs more: that is refused 6 in its place among the file's refusals.
+
+-- An opened file's map, which its synthesis makes, or its refusal. No test refuses that synthesis.
+abbrev pub openedText : OpenOutcome → List ℕ
+openedText o = elim (o .answer) [ opened j ↦ mapText (withState j mapHeld) (synthesised j (o .volume)) | notOpened n place ↦ refusalText n place ]
+
+unfoldable pub printed : List ℕ → List ℕ
+printed input = cond (ltb fileLimit (length input)) (refusalText 15 0) (openedText (fileStep input (replicate (min (needed (headerIn input)) lentLimit) 0)))
+
+unfoldable pub printStep : (input output : List ℕ) → FillOutcome
+printStep input output = putText (printed input) output

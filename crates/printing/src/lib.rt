@@ -7,6 +7,7 @@ pub mod printer; // printer.rt: from a factor file to the text of its map
 
 ghost use Rattle.printing.specs.Specimen.{PrintedSpecimen};
 ghost use Rattle.printing.specs.Fits.{AlwaysFits};
+ghost use Rattle.printing.specs.PrintedModel.{PrintsModel};
 
 // The paper's printed specimen follows from the definitions.
 pub fn printed_specimen()
@@ -16,4 +17,9 @@ pub fn printed_specimen()
 // The text of every file fits into an output of 65,536 bytes.
 pub fn always_fits()
     ensures { λ _. ⌜ AlwaysFits ⌝ }
+{}
+
+// The text of a file within the limits is that of the reference model's map, or of its refusal.
+pub fn prints_model()
+    ensures { λ _. ⌜ PrintsModel ⌝ }
 {}

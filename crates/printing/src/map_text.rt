@@ -3,11 +3,3 @@
 // A text is measured by writing it to an output of no bytes. So a call that the output is too short for has touched nothing.
 pub mod text; // text.rt: the text of a map that a job holds
 pub mod refusal; // refusal.rt: the text of a refusal
-
-use refusals::Refusal;
-
-// How many bytes of text were written, or why none were.
-pub enum TextAnswer {
-    Written(usize),
-    Refused(Refusal),
-}

@@ -2,7 +2,8 @@
 ghost use mathlib.Core.List.{_∷_};
 ghost use Prim.Native.Nat.{_+_, _≤_};
 ghost use lib.ListN.{length, getD};
-ghost use Rattle.output.specs.Output.{decimal, blank, each, Wrote, Ends};
+ghost use Rattle.output.specs.Output.{decimal, blank, each};
+ghost use Rattle.output.specs.Written.{Wrote, Ends};
 
 // The n numbers of a volume from `start` on, a blank before each.
 pub fn put_values(out: &mut [u8], at: usize, volume: &[u32], start: usize, n: usize) -> usize

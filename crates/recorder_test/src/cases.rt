@@ -3,16 +3,20 @@
 // tools/test_records.py says what a record holds and what is printed.
 ghost use mathlib.Core.Path.{_≡_};
 ghost use Prim.Native.Nat.{_<_};
-ghost use lib.ListN.{length};
+ghost use lib.ListN.{length, replicate};
+ghost use Rattle.test_io.specs.Checksum.{checksumOf};
+ghost use Rattle.recorder_test.specs.Records.{numbersOf, axisIn, jobIn, JobAfter};
 use factor_file::FileAnswer;
 use factor_file::open_file;
-use factor_file::writer::WriteAnswer;
 use job::Axis;
 use job::Job;
 use job::OpenAnswer;
+use output::FillAnswer;
 
 // What a record asks of the part of the volume that it lends; the job that goes on.
-pub fn asked(job: Job, r: &[u32], volume: &mut [u32]) -> Job {
+pub fn asked(job: Job, r: &[u32], volume: &mut [u32]) -> Job
+    ensures { λ j. ⌜ JobAfter (now (r .entry)) job j ⌝ }
+{
     let operation = test_io::at(r, 0);
     match operation {
         0 => return opened(job, r, volume),
@@ -25,7 +29,9 @@ pub fn asked(job: Job, r: &[u32], volume: &mut [u32]) -> Job {
     job
 }
 
-pub fn no_job() -> Job {
+pub fn no_job() -> Job
+    ensures { λ j. ⌜ numbersOf j ≡ replicate 8 0 ⌝ }
+{
     let none = Axis {
         length: 0,
         factors: 0,
@@ -39,7 +45,9 @@ pub fn no_job() -> Job {
     }
 }
 
-pub fn job_checksum(j: Job) -> u32 {
+pub fn job_checksum(j: Job) -> u32
+    ensures { λ r. ⌜ r ≡ checksumOf (numbersOf j) ⌝ }
+{
     let numbers = [
         j.group,
         j.a.length,
@@ -54,7 +62,9 @@ pub fn job_checksum(j: Job) -> u32 {
 }
 
 // The job itself, whether or not any opening could have made it.
-fn job_said(r: &[u32]) -> Job {
+fn job_said(r: &[u32]) -> Job
+    ensures { λ j. ⌜ j ≡ jobIn (now (r .entry)) ⌝ }
+{
     Job {
         group: test_io::at(r, 2),
         a: axis_said(r, 3),
@@ -66,6 +76,7 @@ fn job_said(r: &[u32]) -> Job {
 
 fn axis_said(r: &[u32], i: usize) -> Axis
     requires { ⌜ i < 10 ⌝ }
+    ensures { λ a. ⌜ a ≡ axisIn (now (r .entry)) i ⌝ }
 {
     Axis {
         length: test_io::at(r, i),
@@ -173,11 +184,13 @@ fn write_bytes(job: Job, volume: &[u32], out: &mut [u8]) {
     of_writing(factor_file::writer::write_file(job, volume, out), &out[..])
 }
 
-fn of_writing(answer: WriteAnswer, out: &[u8]) {
+fn of_writing(answer: FillAnswer, out: &[u8]) {
     match answer {
-        WriteAnswer::Written(written) => test_io::print_writing(0, written, out),
-        WriteAnswer::Refused(refusal) => {
-            test_io::print_writing(refusals::number_of(refusal), 0, out)
+        FillAnswer::Written(written) => {
+            test_io::print_writing(0, written, out);
+        }
+        FillAnswer::Refused(refusal) => {
+            test_io::print_writing(refusals::number_of(refusal), 0, out);
         }
     }
 }

@@ -4,8 +4,6 @@ use Rattle.refusals.specs.declared.Refusal.{Refusal}
 use Rattle.refusals.specs.declared.Refusal.the-variants.{LineKind, Direction, Length, Factor, Product, BufferLength, NotResidue, Group, VolumeTooLarge, Index, ZeroValue, Contradiction, ScratchTooShort, Inconsistent, FileShape, FileVersion, NoRecords, OutputTooShort, NotCollecting, NoMap, NoFactors, Occupied, ImpossibleJob}
 use mathlib.Core.Bool.{Bool, cond}
 use mathlib.Core.List.{List, [], _∷_}
-use Rattle.refusals.specs.declared.Checked.{Checked}
-use Rattle.refusals.specs.declared.Checked.the-variants.{Sound, Failed}
 
 abbrev pub numberOf : Refusal → ℕ
 numberOf LineKind = 1
@@ -51,8 +49,3 @@ first (t ∷ ts) = cond (t .fails) (t .number) (first ts)
 abbrev pub accepted : {O : Type 0} → ℕ → O → (ℕ → O) → O
 accepted zero o refused = o
 accepted (suc n) o refused = refused (suc n)
-
--- what a check says: 0, or the refusal's number
-abbrev pub checkedNumber : Checked → ℕ
-checkedNumber Sound = 0
-checkedNumber (Failed r) = numberOf r

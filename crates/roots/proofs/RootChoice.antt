@@ -7,18 +7,17 @@ use Prim.Native.Nat.{ℕ, zero, suc, _+_, _-_, _%_, _≤_, _<_}
 use native.Mathlib.Nat as N
 use native.Mathlib.Omega.{arith}
 use lib.Dec.{T, T-not, eqb, eqb→eq}
-use Rattle.algebra.specs.ring.Ring.{Ops, pow}
-use Rattle.algebra.specs.ring.Residue.{residue, residues}
-use Rattle.algebra.specs.ring.Gauss.{gauss}
-use Rattle.algebra.specs.ring.Gauss as Gauss
+use Rattle.algebra.specs.ring.Ring.{Ops, pow, residue, residues, gauss}
+use Rattle.algebra.specs.ring.Ring as Gauss
 use Rattle.algebra.proofs.ring.Laws.{add-zero, neg-zero}
 use Rattle.algebra.proofs.ring.Solver.{ring, quote, linear}
 use Rattle.algebra.proofs.fourier.Transform.{mul-pow, one-pow}
 use Rattle.algebra.proofs.ring.Conj.{conj-pow}
-use Rattle.algebra.specs.cells.CellTests.{below}
+use Rattle.algebra.specs.cells.Cell.{below}
 use Rattle.algebra.proofs.ring.Bool.{or-e, below-at}
 use Rattle.algebra.proofs.fourier.PowerTable.{power-then, power-is}
-use Rattle.numbers.specs.Value.{prime, exponent, Value, Residue, field, conj, i, res, value, real}
+use Rattle.numbers.specs.Value.{prime, exponent, Value, Residue, field, conj, i, value, real}
+use Rattle.numbers.specs.Bounds.{res}
 use Rattle.numbers.specs.Value as Value
 use Rattle.prime_shape.specs.Shape.{Candidate, Suits, LeastChoice}
 use Rattle.roots.specs.Root.{choice, root}

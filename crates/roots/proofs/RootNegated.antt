@@ -6,7 +6,8 @@ use native.Mathlib.Omega.{arith}
 use native.Mathlib.Decide.{ℕ-discrete}
 use lib.ListN.{length, getD, set, length-set}
 use lib.Seq.{getD-set-same, getD-set-other}
-use Rattle.numbers.specs.Value.{ring, res}
+use Rattle.numbers.specs.Value.{ring}
+use Rattle.numbers.specs.Bounds.{res}
 use Rattle.roots.specs.TableLaws.{AllBelow, NegatedTable}
 
 -- the first k numbers of t are negated in u, and the others stand as they were

@@ -7,12 +7,13 @@ use native.Mathlib.Omega.{arith}
 use lib.Dec.{lit<}
 use lib.ListN.{length, getD}
 use Rattle.algebra.specs.ring.Ring.{pow}
-use Rattle.algebra.specs.ring.Gauss as Gauss
+use Rattle.algebra.specs.ring.Ring as Gauss
 use Rattle.algebra.proofs.ring.Laws.{mul-one, neg-neg}
 use Rattle.algebra.proofs.fourier.Transform.{pow-zero, pow-suc, inverse-cycle}
 use Rattle.algebra.proofs.ring.Conj.{conj-pow}
 use Rattle.numbers.specs.Value.{prime, IsModulus, Value, ring, field, conj, i, pairOf}
-use Rattle.roots.specs.Root.{root, RealTable, ImaginaryTable, entryAt, tableRoot, RootTable}
+use Rattle.roots.specs.Root.{root}
+use Rattle.roots.specs.Table.{RealTable, ImaginaryTable, entryAt, tableRoot, RootTable}
 use Rattle.roots.specs.TableLaws.{TangentTable, AllBelow, NegatedTable}
 use Rattle.numbers.proofs.Residues.{res-by, below-by}
 use Rattle.numbers.proofs.Values.{pair-path, value-path, field-ring, field-star}

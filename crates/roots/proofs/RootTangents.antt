@@ -5,16 +5,15 @@ use Prim.Native.Nat.{ℕ, zero, suc, _+_, _-_, _<_}
 use native.Mathlib.Nat as N
 use native.Mathlib.Omega.{arith}
 use lib.ListN.{getD}
-use Rattle.algebra.specs.ring.Ring.{Ops, pow}
-use Rattle.algebra.specs.ring.Residue.{residues}
-use Rattle.algebra.specs.ring.Gauss.{gauss}
-use Rattle.algebra.specs.ring.Gauss as Gauss
+use Rattle.algebra.specs.ring.Ring.{Ops, pow, residues, gauss}
+use Rattle.algebra.specs.ring.Ring as Gauss
 use Rattle.algebra.proofs.ring.Laws.{pow-add, neg-neg, neg-mul, mul-neg}
 use Rattle.algebra.proofs.ring.Solver.{ring, quote, linear}
 use Rattle.algebra.proofs.fourier.Transform.{pow-zero, inverse-pow}
 use Rattle.algebra.proofs.ring.Conj.{conj-pow}
 use Rattle.algebra.proofs.fourier.HalfTangents.{circle-parts, sine-inverse, tan-sine, tan-mirror, tan-cosecant, tan-cotangent, tan-law}
-use Rattle.numbers.specs.Value.{IsModulus, Value, Residue, field, conj, i, res, real, half}
+use Rattle.numbers.specs.Value.{IsModulus, Value, Residue, field, conj, i, real, half}
+use Rattle.numbers.specs.Bounds.{res}
 use Rattle.numbers.specs.Value as Value
 use Rattle.roots.specs.Root.{root}
 use Rattle.roots.specs.TableLaws.{TangentTable, NegatedTable, TangentLaws, BackwardTangents}

@@ -5,11 +5,9 @@ use mathlib.Core.Bool.{not, cond}
 use Prim.Native.Nat.{ℕ, _-_, _≤_}
 use lib.Dec.{T, T-not, eqb}
 use borrow.Author.Tests.{eq-eqb}
-use Rattle.algebra.specs.ring.Ring.{Ops, pow}
-use Rattle.algebra.specs.ring.Residue.{Res, residue, residues}
-use Rattle.algebra.specs.ring.Gauss.{gauss}
-use Rattle.algebra.specs.ring.Gauss as Gauss
-use Rattle.algebra.specs.fourier.Fourier.{Root}
+use Rattle.algebra.specs.ring.Ring.{Ops, pow, Res, residue, residues, gauss}
+use Rattle.algebra.specs.ring.Ring as Gauss
+use Rattle.algebra.specs.fourier.Axis.{Root}
 use Rattle.algebra.proofs.ring.ResidueRing.{val-path}
 use Rattle.numbers.specs.Value.{prime, exponent, IsModulus, Value, field, conj, i, value, real, part}
 use Rattle.prime_shape.specs.Shape.{Candidate, Suits, OrderIs, Shape}

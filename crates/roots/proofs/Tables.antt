@@ -6,8 +6,7 @@ use Prim.Native.Nat.{ℕ, zero, suc, _+_, _*_, _-_, _%_, _<_}
 use native.Mathlib.Omega.{arith}
 use lib.Dec.{T, eqb, eqb→eq, ltb, ltb→lt}
 use lib.ListN.{getD}
-use Rattle.algebra.specs.ring.Ring.{pow}
-use Rattle.algebra.specs.ring.Residue.{Res, residue, residues}
+use Rattle.algebra.specs.ring.Ring.{pow, Res, residue, residues}
 use Rattle.algebra.proofs.ring.Bool.{and-l, and-r, and-i}
 use Rattle.algebra.proofs.ring.ResidueRing.{residue-val, residue-mod, residue-add, residue-mul}
 use Rattle.algebra.proofs.fourier.PowerTable.{passes, rule-at}
@@ -15,7 +14,8 @@ use Rattle.numbers.specs.Value.{prime, Value, field}
 use Rattle.numbers.proofs.Primes.{prime-least}
 use Rattle.numbers.proofs.Residues.{res-val, val-small}
 use Rattle.numbers.proofs.Values.{value-path}
-use Rattle.roots.specs.Root.{root, RealTable, ImaginaryTable}
+use Rattle.roots.specs.Root.{root}
+use Rattle.roots.specs.Table.{RealTable, ImaginaryTable}
 use Rattle.roots.specs.TableLaws.{TangentTable}
 
 -- the first of n pairs is a + b i, and every other is the former times u + v i

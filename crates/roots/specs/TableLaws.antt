@@ -4,10 +4,12 @@ use mathlib.Core.List.{List}
 use Prim.Native.Nat.{ℕ, _-_, _≤_, _<_}
 use lib.ListN.{length, getD}
 use Rattle.algebra.specs.ring.Ring.{Ops, pow}
-use Rattle.algebra.specs.fourier.Fourier.{Root}
+use Rattle.algebra.specs.fourier.Axis.{Root}
 use Rattle.prime_shape.specs.Shape.{OrderIs, Shape}
-use Rattle.numbers.specs.Value.{prime, exponent, Value, Residue, ring, field, conj, i, res, real, half, part}
-use Rattle.roots.specs.Root.{choice, root, RootRule, RealTable, ImaginaryTable, tableRoot, RootTable}
+use Rattle.numbers.specs.Value.{prime, exponent, Value, Residue, ring, field, conj, i, real, half, part}
+use Rattle.numbers.specs.Bounds.{res}
+use Rattle.roots.specs.Root.{choice, root, RootRule}
+use Rattle.roots.specs.Table.{RealTable, ImaginaryTable, tableRoot, RootTable}
 
 -- every number of a table is a residue
 pub record AllBelow (p : ℕ) (t : List ℕ) : Type 0 where

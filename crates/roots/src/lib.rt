@@ -8,7 +8,7 @@ ghost use mathlib.Core.Path.{_≡_};
 ghost use Prim.Native.Nat.{ℕ, _<_};
 ghost use lib.ListN.{length};
 ghost use Rattle.numbers.specs.Value.{prime, IsModulus};
-ghost use Rattle.roots.specs.Root.{entryAt};
+ghost use Rattle.roots.specs.Table.{entryAt};
 ghost use Rattle.roots.specs.TableLaws.{AllBelow, NegatedTable, RootLaws};
 use numbers::Pair;
 use numbers::neg;

@@ -3,7 +3,7 @@
 //
 // A constant array is built anew wherever it is mentioned: each is mentioned in one function, whose result is lent down.
 ghost use Rattle.numbers.specs.Value.{IsModulus};
-ghost use Rattle.roots.specs.Root.{RealTable, ImaginaryTable};
+ghost use Rattle.roots.specs.Table.{RealTable, ImaginaryTable};
 
 // Place k holds the real and the imaginary part of r^k.
 pub struct PowerTable {

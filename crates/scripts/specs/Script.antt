@@ -3,26 +3,27 @@ use mathlib.Core.List.{List, [], _∷_, _++_}
 use Prim.Native.Nat.{ℕ, _+_, _*_, zero, suc, _/_, min}
 use lib.ListN.{getD, length, drop}
 use Rattle.scripts.specs.declared.numbers.CallNumbers.{CallNumbers}
-use Rattle.scripts.specs.declared.numbers.Reply.{Reply}
 use Rattle.lengths.specs.Lengths.{cleared}
 use Rattle.job.specs.declared.Job.{Job}
+use Rattle.job.specs.declared.reply.Reply.{Reply}
+use Rattle.job.specs.Answers.{replyOf}
 use Rattle.job.specs.Job.{Said, done, density, factor, refused}
 pub use Rattle.job.specs.Job.{Call, recording, synthesis, analysis, readPoint, readFactor, step}
 use Rattle.scripts.specs.declared.calls.Called.{Called}
 use Rattle.model.specs.Model.{Model, Call}
-use Rattle.demands.specs.Calls.{Ran, run, modelRan}
+use Rattle.demands.specs.Demands.{Ran, run, modelRan}
 use Rattle.scripts.specs.declared.replay.Replayed.{Replayed}
 
 -- the numbers of call i
 abbrev pub numbersAt : (script : List ℕ) (i : ℕ) → CallNumbers
 numbersAt script i = record { operation = getD script (6 * i) 0; h = getD script (6 * i + 1) 0; k = getD script (6 * i + 2) 0; l = getD script (6 * i + 3) 0; x = getD script (6 * i + 4) 0; y = getD script (6 * i + 5) 0 }
 
+-- an answer as it is written
 abbrev pub replyNumbers : Reply → List ℕ
 replyNumbers r = r .number ∷ r .x ∷ r .y ∷ []
 
 -- ---- One call of a job as numbers, and what it answers and leaves of a job, a volume and a scratch.
 -- A call is six numbers: its operation, three of an index or a point, two of a value. Operation 0 records, 1 is synthesis, 2 analysis, 3 reads a point, any other a factor.
--- An answer is three numbers: the refusal's number or 0, then the density and 0, or the two numbers of the factor, or twice 0.
 
 -- ---- the call
 
@@ -39,14 +40,6 @@ callAt scratch script i = callOf scratch (getD script (6 * i) 0) (getD script (6
 
 abbrev pub callSaid : (scratch : List ℕ) → CallNumbers → Call
 callSaid scratch n = callOf scratch (n .operation) (n .h) (n .k) (n .l) (n .x) (n .y)
-
--- ---- the answer
-
-abbrev pub answerNumbers : Said → List ℕ
-answerNumbers done = 0 ∷ 0 ∷ 0 ∷ []
-answerNumbers (density n) = 0 ∷ n ∷ 0 ∷ []
-answerNumbers (factor x y) = 0 ∷ x ∷ y ∷ []
-answerNumbers (refused n) = n ∷ 0 ∷ 0 ∷ []
 
 -- ---- what it leaves
 
@@ -66,18 +59,18 @@ scratchLeft (readFactor k) a s = s
 
 -- the three numbers that it answers, and what it leaves
 pub record CallOutcome : Type 0 where
-  pub reply : List ℕ
+  pub reply : Reply
   pub job : Job
   pub volume : List ℕ
   pub scratch : List ℕ
 
 unfoldable pub callStep : Job → (volume scratch : List ℕ) → Call → CallOutcome
-callStep j v s c = let o = step j v c in record { reply = answerNumbers (o .answer); job = o .job; volume = o .volume; scratch = scratchLeft c (o .answer) s }
+callStep j v s c = let o = step j v c in record { reply = replyOf (o .answer); job = o .job; volume = o .volume; scratch = scratchLeft c (o .answer) s }
 
 -- ---- What one call of a script answered and left, as an outcome: the left side of its promise.
 
 abbrev pub callOutcome : Called → (volume scratch : List ℕ) → CallOutcome
-callOutcome r v s = record { reply = replyNumbers (r .reply); job = r .job; volume = v; scratch = s }
+callOutcome r v s = record { reply = r .reply; job = r .job; volume = v; scratch = s }
 
 -- ---- A script of calls as numbers, and what replaying it on a job and a volume answers and leaves.
 
@@ -92,7 +85,7 @@ calls scratch script i (suc n) = callAt scratch script i ∷ calls scratch scrip
 
 unfoldable pub allNumbers : List Said → List ℕ
 allNumbers [] = []
-allNumbers (a ∷ l) = answerNumbers a ++ allNumbers l
+allNumbers (a ∷ l) = replyNumbers (replyOf a) ++ allNumbers l
 
 unfoldable pub scratchAfter : List Call → List Said → List ℕ → List ℕ
 scratchAfter [] answers s = s

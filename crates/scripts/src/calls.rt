@@ -1,15 +1,16 @@
 // The calls of a script that transform nothing: a record and the two readings, by their numbers, each answered as three numbers.
 use crate::numbers::CallNumbers;
-use crate::numbers::Reply;
 use job::Answered;
 use job::GridPoint;
 use job::Job;
 use job::Reflection;
+use job::reply;
+use job::reply::Reply;
 ghost use mathlib.Core.Path.{_≡_};
 ghost use mathlib.Core.List.{List};
 ghost use Prim.Native.Nat.{ℕ, _≤_};
-ghost use Rattle.job.specs.Job.{said};
-ghost use Rattle.scripts.specs.Script.{callSaid, answerNumbers, replyNumbers, callStep, callOutcome};
+ghost use Rattle.job.specs.Answers.{said, replyOf};
+ghost use Rattle.scripts.specs.Script.{callSaid, callStep, callOutcome};
 
 pub struct Called {
     pub reply: Reply,
@@ -17,12 +18,12 @@ pub struct Called {
 }
 
 pub fn of_answered(r: Answered) -> Called
-    ensures { λ c. ⌜ (replyNumbers (c .reply) ≡ answerNumbers (said (r .answer))) × (c .job ≡ r .job) ⌝ }
+    ensures { λ c. ⌜ (c .reply ≡ replyOf (said (r .answer))) × (c .job ≡ r .job) ⌝ }
 {
     let answer = r.answer;
     let job = r.job;
     Called {
-        reply: crate::reply_of(answer),
+        reply: reply::of_answer(answer),
         job,
     }
 }
@@ -40,7 +41,7 @@ pub fn point_call(job: Job, n: CallNumbers, volume: &[u32]) -> Called
     ensures { λ r. ⌜ ((s : List ℕ) → callOutcome r (now (volume .entry)) s ≡ callStep job (now (volume .entry)) s (callSaid s n)) ⌝ }
 {
     Called {
-        reply: crate::point_reply(job.point(GridPoint(n.h, n.k, n.l), volume)),
+        reply: reply::of_point(job.point(GridPoint(n.h, n.k, n.l), volume)),
         job,
     }
 }
@@ -50,7 +51,7 @@ pub fn factor_call(job: Job, n: CallNumbers, volume: &[u32]) -> Called
     ensures { λ r. ⌜ ((s : List ℕ) → callOutcome r (now (volume .entry)) s ≡ callStep job (now (volume .entry)) s (callSaid s n)) ⌝ }
 {
     Called {
-        reply: crate::factor_reply(job.factor(Reflection(n.h, n.k, n.l), volume)),
+        reply: reply::of_factor(job.factor(Reflection(n.h, n.k, n.l), volume)),
         job,
     }
 }

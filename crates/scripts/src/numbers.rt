@@ -1,4 +1,5 @@
 // The numbers of a script: where the six numbers of a call are read, and where the three numbers of its answer are written.
+use job::reply::Reply;
 ghost use mathlib.Core.Path.{_≡_};
 ghost use mathlib.Core.List.{_++_};
 ghost use Prim.Native.Nat.{_+_, _*_, _≤_};
@@ -11,13 +12,6 @@ pub struct CallNumbers {
     pub h: u32,
     pub k: u32,
     pub l: u32,
-    pub x: u32,
-    pub y: u32,
-}
-
-// An answer as numbers: the refusal's number or 0, then the density and 0, or the two numbers of the factor, or twice 0.
-pub struct Reply {
-    pub number: u32,
     pub x: u32,
     pub y: u32,
 }

@@ -5,8 +5,7 @@ use job::Job;
 ghost use mathlib.Core.Path.{_≡_};
 ghost use Prim.Native.Nat.{_/_, min};
 ghost use Rattle.model.specs.Model.{Model};
-ghost use Rattle.demands.specs.Calls.{Start};
-ghost use Rattle.demands.specs.Demands.{Started};
+ghost use Rattle.demands.specs.Demands.{Start, Started};
 ghost use Rattle.scripts.specs.Script.{replayOutcome, replayStep, modelReplay};
 
 // The job after the calls, and how many numbers of answers were written.
@@ -35,8 +34,10 @@ pub fn replay(
     scratch: &mut [u32],
     answers: &mut [u32],
 ) -> Replayed
-    ensures { λ r. ⌜ replayOutcome r (now (volume .exit)) (now (scratch .exit)) (now (answers .exit)) ≡ replayStep job (now (script .entry)) (now (volume .entry)) (now (scratch .entry)) (now (answers .entry)) ⌝ }
-    ensures { λ r. ⌜ ((s : Start) (m : Model) → Started s job (now (volume .entry)) m → replayOutcome r (now (volume .exit)) (now (scratch .exit)) (now (answers .exit)) ≡ modelReplay m (now (script .entry)) (now (scratch .entry)) (now (answers .entry))) ⌝ }
+    ensures { λ r. ⌜ replayOutcome r (now (volume .exit)) (now (scratch .exit)) (now (answers .exit))
+        ≡ replayStep job (now (script .entry)) (now (volume .entry)) (now (scratch .entry)) (now (answers .entry)) ⌝ }
+    ensures { λ r. ⌜ ((s : Start) (m : Model) → Started s job (now (volume .entry)) m → replayOutcome r (now (volume .exit))
+        (now (scratch .exit)) (now (answers .exit)) ≡ modelReplay m (now (script .entry)) (now (scratch .entry)) (now (answers .entry))) ⌝ }
 {
     let count = call_count(script.len(), answers.len());
     let mut held = job;

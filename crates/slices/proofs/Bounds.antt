@@ -11,7 +11,7 @@ use lib.ListN.{length, getD, set, take, drop, replicate, length-take, length-rep
 use lib.Seq.{getD-set-same, getD-set-other, set-out, drop-cons, getD-take, getD-drop}
 use borrow.Author.Tests.{lt-ltb, le-ltb, ltb-true}
 use Rattle.numbers.specs.declared.Pair.{Pair}
-use Rattle.numbers.specs.Value.{Small}
+use Rattle.numbers.specs.Bounds.{Small}
 use Rattle.slices.specs.Pairs.{at, put, puts, tab, Below, allBelow}
 use Rattle.slices.specs.Segments.{segment}
 use Rattle.slices.proofs.Pairs.{lt-or-ge, eq-or-ne, by-pairs, length-tab, at-tab}
@@ -81,18 +81,16 @@ below-segment a e h = below-take (e - a) (below-drop a h)
 
 -- ---- the test
 
--- a scan has come to number i: it goes on past a number that is below, and stops at one that is not
-pub allBelow-next : (m : ℕ) (l : List ℕ) (i : ℕ) → i < length l → getD l i 0 < m → allBelow m (drop i l) ≡ allBelow m (drop (i + 1) l)
+-- a scan has come to number i: the numbers before it have answered b
+pub allBelow-next : (m : ℕ) (l : List ℕ) (b : Bool) (i : ℕ) → i < length l → (b && allBelow m (drop i l)) ≡ ((b && ltb (getD l i 0) m) && allBelow m (drop (i + 1) l))
 unfolding allBelow
-allBelow-next m l i b h = rw (add-one, drop-cons l i 0, lt-ltb (getD l i 0) m h)
+allBelow-next m l true i h = rw (add-one, drop-cons l i 0) refl
+allBelow-next m l false i h = refl
 
-pub allBelow-stop : (m : ℕ) (l : List ℕ) (i : ℕ) → i < length l → m ≤ getD l i 0 → allBelow m (drop i l) ≡ false
+pub allBelow-end : (m : ℕ) (l : List ℕ) (b : Bool) (i : ℕ) → length l ≤ i → (b && allBelow m (drop i l)) ≡ b
 unfolding allBelow
-allBelow-stop m l i b h = rw (drop-cons l i 0, le-ltb (getD l i 0) m h)
-
-pub allBelow-end : (m : ℕ) (l : List ℕ) (i : ℕ) → length l ≤ i → allBelow m (drop i l) ≡ true
-unfolding allBelow
-allBelow-end m l i h = ap (allBelow m) (drop-of-length-le l h)
+allBelow-end m l true i h = ap (allBelow m) (drop-of-length-le l h)
+allBelow-end m l false i h = refl
 
 below-head : {m x : ℕ} {l : List ℕ} → Below m (x ∷ l) → x < m
 below-head h = h .each zero

@@ -7,7 +7,8 @@ use native.Mathlib.Omega.{arith}
 use lib.ListN.{length, getD, take, drop, replicate, length-append, length-drop, getD-replicate, drop-of-length-le, List·getD-append}
 use lib.Seq.{length-take-le, getD-take, getD-drop, getD-append-add, take-at, drop-at}
 use Rattle.numbers.specs.declared.Pair.{Pair}
-use Rattle.slices.specs.Pairs.{zeroPair, at, puts, fills, tab}
+use Rattle.slices.specs.Pairs.{at, puts, fills, tab}
+use Rattle.numbers.specs.Bounds.{zeroPair}
 use Rattle.slices.specs.Segments.{segment, setSegment, WholePairs}
 use Rattle.slices.proofs.Pairs.{lt-or-ge, ext-pairs, is-tab, length-puts, at-puts, at-puts-other, at-fills, past-fills, length-fills, at-tab, length-tab}
 

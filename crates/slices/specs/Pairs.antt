@@ -2,18 +2,10 @@
 --
 -- What a loop leaves is said as a run of stores: at places 0, 1, .. (`fills`), over a whole list (`tab`), or at any places
 -- (`puts`). That all the rest is untouched is then part of the statement.
-use mathlib.Core.Path.{_≡_}
-use mathlib.Core.Bool.{Bool, true, _&&_}
-use mathlib.Core.List.{List, [], _∷_}
-use Prim.Native.Nat.{ℕ, zero, suc, _+_, _*_, _<_, _≤_}
-use lib.ListN.{length, getD, set, replicate}
-use lib.Dec.{ltb}
+use Rattle.algebra.specs.Prelude.{Bool, true, _&&_, ltb, ℕ, zero, suc, _+_, _*_, _<_, List, [], _∷_, getD, set, replicate}
 use Rattle.numbers.specs.declared.Pair.{Pair}
-use Rattle.algebra.specs.ring.Residue.{Res}
+use Rattle.algebra.specs.ring.Ring.{Res}
 use Rattle.numbers.specs.Value.{Value, valueOf, pairOf}
-
-abbrev pub zeroPair : Pair
-zeroPair = record { re = 0; im = 0 }
 
 -- the pair at place j
 unfoldable pub at : List ℕ → ℕ → Pair
@@ -44,12 +36,6 @@ pub record Below (m : ℕ) (l : List ℕ) : Type 0 where
 unfoldable pub allBelow : ℕ → List ℕ → Bool
 allBelow m [] = true
 allBelow m (x ∷ l) = ltb x m && allBelow m l
-
--- The invariant of a loop that stores f j at place p j in its turn j: j of n turns are done, and d₀ has become d.
-pub record Filling (p : ℕ → ℕ) (f : ℕ → Pair) (n j : ℕ) (d₀ d : List ℕ) : Type 0 where
-  pub le : j ≤ n
-  pub len : length d ≡ length d₀
-  pub is : d ≡ puts p f j d₀
 
 -- ---- The values that the pairs of a list stand for, and the list of n values.
 

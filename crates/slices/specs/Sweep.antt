@@ -3,7 +3,7 @@ use mathlib.Core.Path.{_≡_}
 use mathlib.Core.List.{List}
 use Prim.Native.Nat.{ℕ, zero, suc, _+_, _*_, _/_, _%_, _<_}
 use Rattle.numbers.specs.declared.Pair.{Pair}
-use Rattle.numbers.specs.Value.{Small}
+use Rattle.numbers.specs.Bounds.{Small}
 use Rattle.slices.specs.Pairs.{at, puts, tab}
 
 -- count lines; line y has the size y places place y 0, place y 1, ..

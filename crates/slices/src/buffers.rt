@@ -25,16 +25,15 @@ pub fn zero(volume: &mut [u32])
     clear(volume, count);
 }
 
-// Every number of s is below p.
+// Every number of s is below p. The loop looks at all of them, wherever one is too large, so that it can go several at a time.
 pub fn all_below(s: &[u32], p: u32) -> bool
     ensures { λ r. ⌜ r ≡ allBelow p (now (s .entry)) ⌝ }
 {
+    let mut below = true;
     let mut i = 0;
     while i < s.len() {
-        if p <= s[i] {
-            return false;
-        }
+        below = below & (s[i] < p);
         i += 1;
     }
-    true
+    below
 }

@@ -2,8 +2,9 @@
 use libc::STDIN_FILENO;
 use libc::STDOUT_FILENO;
 ghost use mathlib.Core.Path.{_≡_};
-ghost use Prim.Native.Nat.{ℕ, _+_, _<_, _≤_};
-ghost use lib.ListN.{length, getD};
+ghost use Prim.Native.Nat.{ℕ, _+_, _*_, _%_, _<_, _≤_, min};
+ghost use lib.ListN.{length, getD, set, replicate, take, drop};
+ghost use Rattle.test_io.specs.Checksum.{checksumOf};
 
 pub fn wide(b: u8) -> u32
     ensures { λ r. ⌜ r < 256 ⌝ }
@@ -12,7 +13,7 @@ pub fn wide(b: u8) -> u32
 }
 
 fn wide64(x: u32) -> u64
-    ensures { λ r. ⌜ r < 4294967296 ⌝ }
+    ensures { λ r. ⌜ (r ≡ x) × (r < 4294967296) ⌝ }
 {
     x as u64
 }
@@ -24,21 +25,27 @@ fn number(c: &[u8; 4]) -> u32 {
     high * 65536 + low
 }
 
-// The next bytes of the input; whether it has as many.
-pub fn read_bytes(v: &mut [u8]) -> bool {
+// The next bytes of the input; whether it has as many. What they are, no contract can say.
+pub fn read_bytes(v: &mut [u8]) -> bool
+    ensures { λ _. ⌜ length (now (v .exit)) ≡ length (now (v .entry)) ⌝ }
+{
     let wanted = v.len();
     let got = io::read_full(STDIN_FILENO, v);
     got == wanted
 }
 
 // What the next bytes of the input are.
-pub fn bytes_read(v: &mut [u8]) -> &[u8] {
+pub fn bytes_read(v: &mut [u8]) -> &[u8]
+    ensures { λ r. ⌜ length (now r) ≡ length (now (v .entry)) ⌝ }
+{
     read_bytes(v);
     v
 }
 
 // The next big-endian numbers of the input; whether it has as many.
-pub fn read_numbers(v: &mut [u32]) -> bool {
+pub fn read_numbers(v: &mut [u32]) -> bool
+    ensures { λ _. ⌜ length (now (v .exit)) ≡ length (now (v .entry)) ⌝ }
+{
     let mut j: usize = 0;
     while j < v.len() {
         let mut c = [0u8; 4];
@@ -53,13 +60,17 @@ pub fn read_numbers(v: &mut [u32]) -> bool {
 }
 
 // What the next numbers of the input are.
-pub fn numbers_read(v: &mut [u32]) -> &[u32] {
+pub fn numbers_read(v: &mut [u32]) -> &[u32]
+    ensures { λ r. ⌜ length (now r) ≡ length (now (v .entry)) ⌝ }
+{
     read_numbers(v);
     v
 }
 
 // The number at a place of a record, 0 beyond it.
-pub fn at(r: &[u32], i: usize) -> u32 {
+pub fn at(r: &[u32], i: usize) -> u32
+    ensures { λ x. ⌜ x ≡ getD (now (r .entry)) i 0 ⌝ }
+{
     if i < r.len() {
         return r[i];
     }
@@ -74,7 +85,7 @@ pub fn length_at(r: &[u32], i: usize, most: usize) -> usize
 }
 
 fn at_most(x: u32, most: usize) -> usize
-    ensures { λ r. ⌜ r ≤ most ⌝ }
+    ensures { λ r. ⌜ (r ≡ min x most) × (r ≤ most) ⌝ }
 {
     let n = x as usize;
     if n < most {
@@ -86,6 +97,7 @@ fn at_most(x: u32, most: usize) -> usize
 // The bytes from a place of a record on, as many as it says, and no more than it has for them.
 pub fn part(c: &[u8], start: usize, count: u32, most: usize) -> &[u8]
     requires { ⌜ (start + most ≤ length (now c)) × (start + most < 256) ⌝ }
+    ensures { λ r. ⌜ now r ≡ take (min count most) (drop start (now (c .entry))) ⌝ }
 {
     let end = start + at_most(count, most);
     &c[start..end]
@@ -109,7 +121,9 @@ pub fn fill(v: &mut [u32], seed: u32)
     }
 }
 
-pub fn fill_with(v: &mut [u32], x: u32) {
+pub fn fill_with(v: &mut [u32], x: u32)
+    ensures { λ _. ⌜ now (v .exit) ≡ replicate (length (now (v .entry))) x ⌝ }
+{
     let mut j: usize = 0;
     while j < v.len() {
         v[j] = x;
@@ -118,7 +132,9 @@ pub fn fill_with(v: &mut [u32], x: u32) {
 }
 
 // Another number at one place, where the buffer has it.
-pub fn put_at(v: &mut [u32], place: u32, x: u32) {
+pub fn put_at(v: &mut [u32], place: u32, x: u32)
+    ensures { λ _. ⌜ now (v .exit) ≡ set (now (v .entry)) place x ⌝ }
+{
     let i = place as usize;
     if i < v.len() {
         v[i] = x;
@@ -127,13 +143,15 @@ pub fn put_at(v: &mut [u32], place: u32, x: u32) {
 
 fn more(h: u64, x: u32) -> u64
     requires { ⌜ h < 2147483647 ⌝ }
-    ensures { λ r. ⌜ r < 2147483647 ⌝ }
+    ensures { λ r. ⌜ (r ≡ (h * 31 + x + 1) % 2147483647) × (r < 2147483647) ⌝ }
 {
     (h * 31 + wide64(x) + 1) % 2147483647
 }
 
 // Of every number and its place.
-pub fn checksum(v: &[u32]) -> u32 {
+pub fn checksum(v: &[u32]) -> u32
+    ensures { λ r. ⌜ r ≡ checksumOf (now (v .entry)) ⌝ }
+{
     let mut h: u64 = 7;
     let mut j: usize = 0;
     while j < v.len() {
@@ -161,24 +179,39 @@ fn print_next(j: usize, x: u32) {
     io::print_decimal(STDOUT_FILENO, wide64(x));
 }
 
-pub fn print_line(v: &[u32]) {
+// A line of numbers; how many were printed.
+pub fn print_line(v: &[u32]) -> usize
+    ensures { λ r. ⌜ r ≡ length (now (v .entry)) ⌝ }
+{
     let mut j: usize = 0;
     while j < v.len() {
         print_next(j, v[j]);
         j += 1;
     }
     io::write_all(STDOUT_FILENO, b"\n");
+    j
 }
 
-// What a script of calls answered and left: how many numbers it wrote, the job's checksum and those of two buffers, then every answer.
-pub fn print_replay(written: usize, job: u32, volume: &[u32], scratch: &[u32], answers: &[u32]) {
+// What a script of calls answered and left: how many numbers it wrote, the job's checksum and those of two buffers, then every answer;
+// how many answers were printed.
+pub fn print_replay(
+    written: usize,
+    job: u32,
+    volume: &[u32],
+    scratch: &[u32],
+    answers: &[u32],
+) -> usize
+    ensures { λ r. ⌜ r ≡ length (now (answers .entry)) ⌝ }
+{
     let said = [count(written), job, checksum(volume), checksum(scratch)];
     print_line(&said);
-    print_line(answers);
+    print_line(answers)
 }
 
-// What a writing answered and left.
-pub fn print_writing(number: u32, written: usize, out: &[u8]) {
+// What a writing answered and left, in three numbers.
+pub fn print_writing(number: u32, written: usize, out: &[u8]) -> usize
+    ensures { λ r. ⌜ r ≡ 3 ⌝ }
+{
     let said = [number, count(written), byte_checksum(out)];
-    print_line(&said);
+    print_line(&said)
 }

@@ -13,8 +13,8 @@ ghost use Rattle.numbers.specs.Value.{prime, IsModulus, pairOf};
 ghost use Rattle.slices.specs.Pairs.{at};
 ghost use Rattle.cell.specs.Volume.{lineKind, pairPlace, mapPlace};
 ghost use Rattle.cell.specs.Operations.{cellGroup, cellHalves, tripleOf, pointOf};
-ghost use Rattle.cell.specs.Places.{IsStoredFactor, allBelowAt, lineNumbersAt, lineFactor};
 ghost use Rattle.cell.specs.TestSteps.{IsVolume, IsStored, PairInside, samePair, isZero};
+ghost use Rattle.cell.specs.Places.{IsStoredFactor, allBelowAt, lineNumbersAt, lineFactor};
 
 // The pair w of (h, k).
 pub fn pair_at(cell: UnitCell, volume: &[u32], w: u32, h: u32, k: u32) -> Pair
@@ -67,8 +67,23 @@ fn alternating_factor(cell: UnitCell, volume: &[u32], j: Index) -> Pair
 }
 
 // The factor at a stored index as its line stores it, times i where the line is rotated, if the numbers that it is read from are below
-// the prime.
+// the prime. Between the ends of l it is the pair at its place, whatever the kind of the line: that is read here. The ends are two calls, so that
+// the compiler leaves them calls, and merges the short way between them into the loops that read every factor.
 pub fn stored_factor(cell: UnitCell, volume: &[u32], j: Index) -> Pair
+    requires { ⌜ IsVolume cell (now volume) × IsStored cell j ⌝ }
+    ensures { λ r. ⌜ ((m : ℕ) → IsStoredFactor (cellGroup cell) (cellHalves cell) m (now (volume .entry)) (tripleOf j) r) ⌝ }
+{
+    if j.l == 0 {
+        end_factor(cell, volume, j)
+    } else if j.l == cell.n3 / 2 {
+        end_factor(cell, volume, j)
+    } else {
+        pair_at(cell, volume, j.l, j.h, j.k)
+    }
+}
+
+// The same by the kind of the line: one number of pair 0, nothing, or a pair.
+fn end_factor(cell: UnitCell, volume: &[u32], j: Index) -> Pair
     requires { ⌜ IsVolume cell (now volume) × IsStored cell j ⌝ }
     ensures { λ r. ⌜ ((m : ℕ) → IsStoredFactor (cellGroup cell) (cellHalves cell) m (now (volume .entry)) (tripleOf j) r) ⌝ }
 {

@@ -6,8 +6,9 @@ use lib.Dec.{ltb}
 use Rattle.algebra.specs.lines.Kinds.{Kind, Kind.hermitian, slots, Kind.plain}
 use Rattle.numbers.specs.declared.Pair.{Pair}
 use Rattle.numbers.specs.Value.{Value, i, real, valueOf, pairOf}
-use Rattle.slices.specs.Pairs.{at, tab, zeroPair, valuesOf, listOf}
-use Rattle.line.specs.Transform.{transform, transformedLine}
+use Rattle.slices.specs.Pairs.{at, tab, valuesOf, listOf}
+use Rattle.numbers.specs.Bounds.{zeroPair}
+use Rattle.line.specs.Line.{transform, transformedLine}
 use Rattle.cell.specs.Volume.{timesI, overI, lineKind, rotated, firstPair, layers, rows, columns, axis}
 use Rattle.algebra.specs.cells.Cell.{J, Group}
 use Rattle.slices.specs.Sweep.{Layout, lineOf, setLine, onLists, alongSecond, alongLast}
@@ -33,22 +34,22 @@ module _ (m A : ℕ) where
   turnedStored (suc direction) b kind l = listOf (slots kind A) (inverseValues kind (λ s. timesI m b (valuesOf m l s)))
 
 -- The pairs 0 to B of a k-line, of which pair 0 and pair B are real: the real part of pair B is the second number of pair 0.
-unfoldable pub joined : (B : ℕ) → (ℕ → Pair) → ℕ → Pair
-joined B v zero = record { re = (v 0) .re; im = (v B) .re }
-joined B v (suc t) = v (suc t)
+unfoldable pub packedRow : (B : ℕ) → (ℕ → Pair) → ℕ → Pair
+packedRow B v zero = record { re = (v 0) .re; im = (v B) .re }
+packedRow B v (suc t) = v (suc t)
 
 -- and back
-unfoldable pub parted : (B : ℕ) → (ℕ → Pair) → ℕ → Pair
-parted B v zero = record { re = (v 0) .re; im = 0 }
-parted B v (suc t) = cond (ltb (suc t) B) (v (suc t)) (record { re = (v 0) .im; im = 0 })
+unfoldable pub unpackedRow : (B : ℕ) → (ℕ → Pair) → ℕ → Pair
+unpackedRow B v zero = record { re = (v 0) .re; im = 0 }
+unpackedRow B v (suc t) = cond (ltb (suc t) B) (v (suc t)) (record { re = (v 0) .im; im = 0 })
 
 module _ (m B : ℕ) where
   -- a row of B + 1 pairs becomes N2 real values and two zeros
   abbrev pub forwardRow : List ℕ → List ℕ
-  forwardRow l = tab (suc B) (λ t. cond (ltb t B) (pairOf (forwardValues m B hermitian (λ s. valueOf m (joined B (at l) s)) t)) zeroPair)
+  forwardRow l = tab (suc B) (λ t. cond (ltb t B) (pairOf (forwardValues m B hermitian (λ s. valueOf m (packedRow B (at l) s)) t)) zeroPair)
 
   abbrev pub inverseRow : List ℕ → List ℕ
-  inverseRow l = tab (suc B) (parted B (λ t. pairOf (inverseValues m B hermitian (valuesOf m l) t)))
+  inverseRow l = tab (suc B) (unpackedRow B (λ t. pairOf (inverseValues m B hermitian (valuesOf m l) t)))
 
   abbrev pub turnedRow : ℕ → List ℕ → List ℕ
   turnedRow zero = forwardRow

@@ -6,7 +6,8 @@ use mathlib.Core.List.{List}
 use Prim.Native.Nat.{ℕ, _+_, _*_, _<_, _≤_, zero, suc}
 use lib.Dec.{eqb}
 use Rattle.algebra.specs.lines.Kinds.{slots}
-use Rattle.numbers.specs.Value.{prime, IsModulus, Small}
+use Rattle.numbers.specs.Value.{prime, IsModulus}
+use Rattle.numbers.specs.Bounds.{Small}
 use Rattle.slices.specs.Pairs.{at, tab, puts}
 use Rattle.lengths.specs.Lengths.{kindOf}
 use Rattle.lengths.specs.Admitted.{AdmittedLength, FactorList}

@@ -27,7 +27,8 @@ ghost use Rattle.volume_transform.specs.Turns.{turns};
 pub fn transform_volume(plan: Plan, volume: &mut [u32], scratch: &mut [u32])
     requires { ⌜ Planned plan × (plan .m ≡ 1) ⌝ }
     requires { ⌜ Fitting plan (now volume) × (scratchLength ≤ length (now scratch)) ⌝ }
-    ensures { λ _. ⌜ (now (volume .exit) ≡ turns (planTurn plan) 0 (lineCount (planGroup plan) (planHalves plan)) (now (volume .entry))) × (now (scratch .exit) ≡ cleared (now (scratch .entry))) ⌝ }
+    ensures { λ _. ⌜ (now (volume .exit) ≡ turns (planTurn plan) 0 (lineCount (planGroup plan) (planHalves plan)) (now (volume .entry)))
+        × (now (scratch .exit) ≡ cleared (now (scratch .entry))) ⌝ }
 {
     let re = roots::powers::real_parts(1);
     let im = line::table::imaginary_parts(plan.direction);
@@ -64,7 +65,8 @@ fn turn_volume<'a>(
     requires { ⌜ Planned plan × TablesOf (plan .m) (plan .direction) (now re) (now im) (now tan) × (m ≡ plan .m) ⌝ }
     requires { ⌜ Fitting plan (now volume) ⌝ }
     requires { ⌜ Lent (now scratch) (now fold) (now work) ⌝ }
-    ensures { λ _. ⌜ (now (volume .exit) ≡ turns (planTurn plan) 0 (lineCount (planGroup plan) (planHalves plan)) (now (volume .entry))) × Kept (now (scratch .entry)) (now (scratch .exit)) ⌝ }
+    ensures { λ _. ⌜ (now (volume .exit) ≡ turns (planTurn plan) 0 (lineCount (planGroup plan) (planHalves plan)) (now (volume .entry)))
+        × Kept (now (scratch .entry)) (now (scratch .exit)) ⌝ }
 {
     let counts = crate::axis_lines::line_counts(plan);
     let count = counts.l + counts.h + counts.k;

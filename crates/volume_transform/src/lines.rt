@@ -52,9 +52,9 @@ fn turn_stored<'a>(
     if line.rotated {
         if line.direction == 0 {
             turn_packed(m, line, re, im, tan, packed, fold, work);
-            plain::scale::over_i(m, line.count, packed);
+            plain::scale::rotate(m, true, line.count, packed);
         } else {
-            plain::scale::times_i(m, line.count, packed);
+            plain::scale::rotate(m, false, line.count, packed);
             turn_packed(m, line, re, im, tan, packed, fold, work);
         }
     } else {

@@ -5,10 +5,9 @@ use Prim.Native.Nat.{ℕ, zero, suc, _+_, _*_, _-_, _%_, _≤_, _<_}
 use native.Mathlib.Nat as N
 use native.Mathlib.Omega.{arith}
 use native.Mathlib.Decide.{decLt}
-use Rattle.algebra.specs.ring.Ring.{Ops, pow}
+use Rattle.algebra.specs.ring.Ring.{Ops, pow, dft}
 use Rattle.algebra.specs.ring.RingLaws.{CRing, Star}
-use Rattle.algebra.specs.fourier.Fourier.{Root, dft}
-use Rattle.algebra.specs.fourier.Axis.{Axis, AxisLaws}
+use Rattle.algebra.specs.fourier.Axis.{Root, Axis, AxisLaws}
 use Rattle.algebra.specs.cells.Cell.{negI, halfI, flip, shifted, xor, sgn, star}
 use Rattle.algebra.proofs.ring.Laws.{along, mul-one, neg-one-square}
 use Rattle.algebra.proofs.fourier.Transform.{pow-mod, dft-cong, pow-unit, pow-across, sign-even, dft-mod}
@@ -65,10 +64,10 @@ unfolding flip
 flip-lt false a h l = l
 flip-lt true a h l = neg-lt a h l
 
-pub turn-lt : (p : Bool) (a h : ℕ) → h < 2 * a → shifted p a h < 2 * a
+pub shifted-lt : (p : Bool) (a h : ℕ) → h < 2 * a → shifted p a h < 2 * a
 unfolding shifted
-turn-lt false a h l = l
-turn-lt true a h l = half-lt a h l
+shifted-lt false a h l = l
+shifted-lt true a h l = half-lt a h l
 
 pub flip-flip : (f g : Bool) (a h : ℕ) → h < 2 * a → flip f a (flip g a h) ≡ flip (xor f g) a h
 unfolding flip
@@ -76,20 +75,20 @@ flip-flip false g a h l = refl
 flip-flip true false a h l = refl
 flip-flip true true a h l = neg-neg′ a h l
 
-pub turn-turn : (f g : Bool) (a h : ℕ) → h < 2 * a → shifted f a (shifted g a h) ≡ shifted (xor f g) a h
+pub shifted-shifted : (f g : Bool) (a h : ℕ) → h < 2 * a → shifted f a (shifted g a h) ≡ shifted (xor f g) a h
 unfolding shifted
-turn-turn false g a h l = refl
-turn-turn true false a h l = refl
-turn-turn true true a h l = half-half a h l
+shifted-shifted false g a h l = refl
+shifted-shifted true false a h l = refl
+shifted-shifted true true a h l = half-half a h l
 
-pub flip-turn : (f p : Bool) (a h : ℕ) → h < 2 * a → flip f a (shifted p a h) ≡ shifted p a (flip f a h)
+pub flip-shifted : (f p : Bool) (a h : ℕ) → h < 2 * a → flip f a (shifted p a h) ≡ shifted p a (flip f a h)
 unfolding flip shifted
-flip-turn false p a h l = refl
-flip-turn true false a h l = refl
-flip-turn true true a h l = neg-half a h l
+flip-shifted false p a h l = refl
+flip-shifted true false a h l = refl
+flip-shifted true true a h l = neg-half a h l
 
 pub both-both : (f p g q : Bool) (a h : ℕ) → h < 2 * a → shifted p a (flip f a (shifted q a (flip g a h))) ≡ shifted (xor p q) a (flip (xor f g) a h)
-both-both f p g q a h l = ap (shifted p a) (flip-turn f q a (flip g a h) (flip-lt g a h l)) ∙ turn-turn p q a _ (flip-lt f a _ (flip-lt g a h l)) ∙ ap (shifted (xor p q) a) (flip-flip f g a h l)
+both-both f p g q a h l = ap (shifted p a) (flip-shifted f q a (flip g a h) (flip-lt g a h l)) ∙ shifted-shifted p q a _ (flip-lt f a _ (flip-lt g a h l)) ∙ ap (shifted (xor p q) a) (flip-flip f g a h l)
 
 module _ {R : Type 0} {𝓞 : Ops R} {conj : R → R} {i : R} (𝓡 : CRing 𝓞) (𝓢 : Star 𝓞 conj i) where
   open Ops 𝓞 using (add as _⊕_, mul as _⊗_, neg as ⊖_, zer as 𝟘, one as 𝟙)
@@ -152,14 +151,14 @@ module _ {R : Type 0} {𝓞 : Ops R} {conj : R → R} {i : R} (𝓡 : CRing 𝓞
     D-flip false G x l = refl
     D-flip true G x l = dft-mirror-image 𝓡 (2 * A) w (conj w) inverse cycle G x l
 
-    D-turn : (p : Bool) (G : ℕ → R) (x : ℕ) → D (λ h. sgn 𝓞 p h ⊗ G h) x ≡ D G (shifted p A x)
+    D-shifted : (p : Bool) (G : ℕ → R) (x : ℕ) → D (λ h. sgn 𝓞 p h ⊗ G h) x ≡ D G (shifted p A x)
     unfolding shifted sgn halfI
-    D-turn false G x = dft-cong 𝓡 (2 * A) w _ _ x (λ h l. one-mul (G h))
-    D-turn true G x = dft-cong 𝓡 (2 * A) w _ _ x (λ h l. ap (λ y. y ⊗ G h) (inv (turn-sign 𝓡 A w minus h))) ∙ dft-phase 𝓡 (2 * A) w G A x ∙ along (D G) (A + x) (x + A) (omega arith) ∙ inv (dft-mod 𝓡 (2 * A) w G (x + A) cycle)
+    D-shifted false G x = dft-cong 𝓡 (2 * A) w _ _ x (λ h l. one-mul (G h))
+    D-shifted true G x = dft-cong 𝓡 (2 * A) w _ _ x (λ h l. ap (λ y. y ⊗ G h) (inv (turn-sign 𝓡 A w minus h))) ∙ dft-phase 𝓡 (2 * A) w G A x ∙ along (D G) (A + x) (x + A) (omega arith) ∙ inv (dft-mod 𝓡 (2 * A) w G (x + A) cycle)
 
     -- the transform of what an operation makes of G is the transform of G at the image
     pub D-image : (f p : Bool) (G : ℕ → R) (x : ℕ) → x < 2 * A → D (λ h. sgn 𝓞 p h ⊗ G (flip f A h)) x ≡ D G (shifted p A (flip f A x))
-    D-image f p G x l = D-turn p (λ h. G (flip f A h)) x ∙ D-flip f G (shifted p A x) (turn-lt p A x l) ∙ ap (D G) (flip-turn f p A x l)
+    D-image f p G x l = D-shifted p (λ h. G (flip f A h)) x ∙ D-flip f G (shifted p A x) (shifted-lt p A x l) ∙ ap (D G) (flip-shifted f p A x l)
 
     pub D-conj : (G : ℕ → R) (x : ℕ) → x < 2 * A → D (λ h. conj (G h)) x ≡ conj (D G (negI A x))
     unfolding negI

@@ -9,8 +9,9 @@ use Rattle.algebra.specs.ring.Ring.{Ops}
 use Rattle.algebra.specs.ring.RingLaws.{CRing, Star}
 use Rattle.algebra.specs.orbits.Orbit.{Mem, first, later}
 use Rattle.algebra.specs.orbits.OrbitLaws.{Action, Closed}
-use Rattle.algebra.specs.cells.CellTests.{every}
-use Rattle.algebra.specs.cells.Cell.{J, Inside, Sym, sym, one, friedel, _·_, Group, P1, P2₁, Pm, Pa, P2₁2₁2₁, ops, full, imageOf, pointImage, negI, halfI, flip, shifted, sameJ, lineSym, span, Stored, lineOperation, factorOperation, planes, planeSym, StoredPoint, pointOperation, star, impliedValue, impliedDensity, factorActs, mapActs}
+use Rattle.algebra.specs.cells.Cell.{every, J, Inside, Sym, sym, one, friedel, _·_, Group, P1, P2₁, Pm, Pa, P2₁2₁2₁, ops, full, imageOf, pointImage, negI, halfI, flip, shifted, sameJ, span, planes, planeSym, pointOperation, star, impliedValue, impliedDensity, factorActs}
+use Rattle.algebra.specs.cells.CellSteps.{mapActs}
+use Rattle.algebra.specs.cells.CellPlaces.{lineSym, Stored, lineOperation, factorOperation, StoredPoint}
 use Rattle.algebra.proofs.ring.Paths.{triple}
 use Rattle.algebra.proofs.ring.Bool.{and-l, and-r, and-i, or-e, split, every-at}
 use Rattle.algebra.proofs.ring.Laws.{mul-zero}

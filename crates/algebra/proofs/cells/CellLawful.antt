@@ -7,8 +7,8 @@ use Rattle.algebra.specs.ring.Ring.{Ops}
 use Rattle.algebra.specs.ring.RingLaws.{CRing, Star}
 use Rattle.algebra.specs.orbits.Orbit.{Mem, first}
 use Rattle.algebra.specs.fourier.Axis.{Axis, AxisLaws}
-use Rattle.algebra.specs.cells.Cell.{J, Inside, Sym, one, friedel, _·_, Group, P1, P2₁, Pm, Pa, P2₁2₁2₁, ops, full, twice, imageOf, pointImage, flip, shifted, halves, Cell, at, mapOf, factorsOf, star, impliedValue, impliedDensity, Obeys, MapObeys, pointOperation}
-use Rattle.algebra.specs.cells.CellSteps.{Lawful}
+use Rattle.algebra.specs.cells.Cell.{J, Inside, Sym, one, friedel, _·_, Group, P1, P2₁, Pm, Pa, P2₁2₁2₁, ops, full, twice, imageOf, pointImage, flip, shifted, Cell, at, mapOf, factorsOf, star, impliedValue, impliedDensity, MapObeys, pointOperation}
+use Rattle.algebra.specs.cells.CellSteps.{halves, Obeys, Lawful}
 use Rattle.algebra.proofs.ring.Members.{mem-left, mem-right, mem-append, mem-map}
 use Rattle.algebra.proofs.cells.CellSym as S
 use Rattle.algebra.proofs.cells.CellOps.{obeys-map}

@@ -3,7 +3,8 @@ use mathlib.Core.Path.{_≡_, _∙_, ap, ap₂}
 use Prim.Native.Nat.{ℕ, _*_, _<_}
 use Rattle.algebra.specs.ring.Ring.{Ops, pow}
 use Rattle.algebra.specs.ring.RingLaws.{CRing, Star}
-use Rattle.algebra.specs.cells.Cell.{J, Group, P2₁, Pm, Pa, P2₁2₁2₁, lineSym, imageOf, negI, flip, Cell, at, sgn, star, impliedValue}
+use Rattle.algebra.specs.cells.Cell.{J, Group, P2₁, Pm, Pa, P2₁2₁2₁, imageOf, negI, flip, Cell, at, sgn, star, impliedValue}
+use Rattle.algebra.specs.cells.CellPlaces.{lineSym}
 use Rattle.algebra.specs.cells.CellSteps.{Lawful}
 use Rattle.algebra.proofs.cells.CellGroup.{line-mem}
 use Rattle.algebra.proofs.ring.Conj.{conj-sign}

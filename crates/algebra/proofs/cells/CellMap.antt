@@ -2,11 +2,11 @@
 use mathlib.Core.Path.{_≡_, refl, sym as inv, _∙_, ap}
 use mathlib.Core.List.{[], _∷_}
 use Prim.Native.Nat.{ℕ, _*_, _<_}
-use Rattle.algebra.specs.ring.Ring.{Ops, pow, sum}
+use Rattle.algebra.specs.ring.Ring.{Ops, pow, sum, dft}
 use Rattle.algebra.specs.ring.RingLaws.{CRing}
-use Rattle.algebra.specs.fourier.Fourier.{dft}
 use Rattle.algebra.specs.fourier.Axis.{Axis, AxisLaws}
-use Rattle.algebra.specs.cells.Cell.{J, Inside, one, halves, Cell, at, mapOf, factorsOf}
+use Rattle.algebra.specs.cells.Cell.{J, Inside, one, Cell, at, mapOf, factorsOf}
+use Rattle.algebra.specs.cells.CellSteps.{halves}
 use Rattle.algebra.proofs.ring.Solver.{ring, quote}
 use Rattle.algebra.proofs.fourier.Sums.{sum-cong, sum-mul-right, sum-swap}
 use Rattle.algebra.proofs.fourier.Transform.{inversion, inversion-after, dft-cong, dft-mul}

@@ -3,11 +3,11 @@ use mathlib.Core.Path.{_≡_, sym as inv, _∙_, ap}
 use mathlib.Core.Bool.{Bool, true, false}
 use mathlib.Core.Logic.{_↔_}
 use Prim.Native.Nat.{ℕ, _*_, _<_}
-use Rattle.algebra.specs.ring.Ring.{Ops}
+use Rattle.algebra.specs.ring.Ring.{Ops, dft}
 use Rattle.algebra.specs.ring.RingLaws.{CRing, Star}
-use Rattle.algebra.specs.fourier.Fourier.{dft}
 use Rattle.algebra.specs.fourier.Axis.{Axis, AxisLaws}
-use Rattle.algebra.specs.cells.Cell.{J, Inside, Sym, sym, one, friedel, imageOf, pointImage, negI, flip, shifted, halves, Cell, at, mapOf, sgn, star, impliedValue, impliedDensity, Obeys, MapObeys}
+use Rattle.algebra.specs.cells.Cell.{J, Inside, Sym, sym, one, friedel, imageOf, pointImage, negI, flip, shifted, Cell, at, mapOf, sgn, star, impliedValue, impliedDensity, MapObeys}
+use Rattle.algebra.specs.cells.CellSteps.{halves, Obeys}
 use Rattle.algebra.proofs.ring.Paths.{triple}
 use Rattle.algebra.proofs.fourier.Transform.{dft-cong, dft-mul}
 use Rattle.algebra.proofs.cells.CellAxis.{D-image, D-conj, neg-lt, flip-neg}

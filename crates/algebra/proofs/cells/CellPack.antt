@@ -6,10 +6,10 @@ use mathlib.Core.List.{[], _∷_}
 use Prim.Native.Nat.{ℕ, zero, suc, _*_, _≤_, _<_}
 use native.Mathlib.Omega.{arith}
 use lib.Dec.{T, eqb, eqb→eq, eqb-refl, T-not}
-use Rattle.algebra.specs.ring.Ring.{Ops, pow}
+use Rattle.algebra.specs.ring.Ring.{Ops, pow, gauss, conj}
 use Rattle.algebra.specs.ring.RingLaws.{CRing}
-use Rattle.algebra.specs.ring.Gauss.{gauss, conj}
-use Rattle.algebra.specs.cells.Cell.{J, Inside, Group, P1, P2₁, Pm, Pa, P2₁2₁2₁, negI, Stored, span, planes, Cell, at}
+use Rattle.algebra.specs.cells.Cell.{J, Inside, Group, P1, P2₁, Pm, Pa, P2₁2₁2₁, negI, span, planes, Cell, at}
+use Rattle.algebra.specs.cells.CellPlaces.{Stored}
 use Rattle.algebra.specs.cells.CellSteps.{Lawful}
 use Rattle.algebra.specs.cells.CellPack.{even, partOf, ofPart, packAlt, unpackAlt, timesI, overI, packFactors, unpack, PackedIn, FactorVolume}
 use Rattle.algebra.proofs.ring.Paths.{pair}

@@ -2,12 +2,11 @@
 use mathlib.Core.Path.{_≡_, refl, sym as inv, _∙_, ap, ap₂}
 use mathlib.Core.List.{[], _∷_}
 use Prim.Native.Nat.{ℕ, _*_}
-use Rattle.algebra.specs.ring.Ring.{Ops, sum, cast}
+use Rattle.algebra.specs.ring.Ring.{Ops, sum, dft}
+use Rattle.algebra.specs.fourier.Axis.{cast, Axis, AxisLaws}
 use Rattle.algebra.specs.ring.RingLaws.{CRing, Star}
-use Rattle.algebra.specs.fourier.Fourier.{dft}
-use Rattle.algebra.specs.fourier.Axis.{Axis, AxisLaws}
-use Rattle.algebra.specs.cells.Cell.{friedel, halves, Cell, mapOf, Obeys}
-use Rattle.algebra.specs.cells.CellSteps.{total}
+use Rattle.algebra.specs.cells.Cell.{friedel, Cell, mapOf}
+use Rattle.algebra.specs.cells.CellSteps.{halves, Obeys, total}
 use Rattle.algebra.proofs.ring.Laws.{cast-mul}
 use Rattle.algebra.proofs.ring.Solver.{ring, quote}
 use Rattle.algebra.proofs.fourier.Sums.{sum-cong, sum-mul, sum-swap}
@@ -25,41 +24,45 @@ module _ {R : Type 0} {𝓞 : Ops R} {conj : R → R} {i : R} (𝓡 : CRing 𝓞
 
   infixl 65 _⊕_
   infixl 70 _⊗_
-  -- the map over the inverse roots
-  abbrev Inv : Cell R → Cell R
-  Inv K x y z = dft 𝓞 (2 * a) (conj u) (λ h. dft 𝓞 (2 * b) (conj v) (λ k. dft 𝓞 (2 * c) (conj w) (λ l. K h k l) z) y) x
+  -- the map over the roots, a transform along each axis; and over the inverse roots
+  abbrev pub overRoots : Cell R → Cell R
+  overRoots K x y z = dft 𝓞 (2 * a) u (λ h. dft 𝓞 (2 * b) v (λ k. dft 𝓞 (2 * c) w (λ l. K h k l) z) y) x
 
-  abbrev For : Cell R → Cell R
-  For K x y z = dft 𝓞 (2 * a) u (λ h. dft 𝓞 (2 * b) v (λ k. dft 𝓞 (2 * c) w (λ l. K h k l) z) y) x
+  abbrev pub overInverses : Cell R → Cell R
+  overInverses K x y z = dft 𝓞 (2 * a) (conj u) (λ h. dft 𝓞 (2 * b) (conj v) (λ k. dft 𝓞 (2 * c) (conj w) (λ l. K h k l) z) y) x
 
-  abbrev sumX : (ℕ → R) → R
+  -- sums over the indices of each axis
+  abbrev pub sumX : (ℕ → R) → R
   sumX f = sum 𝓞 (2 * a) f
 
-  abbrev sumY : (ℕ → R) → R
+  abbrev pub sumY : (ℕ → R) → R
   sumY f = sum 𝓞 (2 * b) f
 
-  abbrev sumZ : (ℕ → R) → R
+  abbrev pub sumZ : (ℕ → R) → R
   sumZ f = sum 𝓞 (2 * c) f
 
-  along-x : (A B : ℕ → ℕ → ℕ → R) → sumX (λ x. sumY (λ y. sumZ (λ z. dft 𝓞 (2 * a) u (A y z) x ⊗ dft 𝓞 (2 * a) (conj u) (B y z) x))) ≡ cast 𝓞 (2 * a) ⊗ sumX (λ h. sumY (λ y. sumZ (λ z. A y z h ⊗ B y z h)))
+  -- Parseval's theorem along one axis: the lines of two volumes, one transformed with the root and the other with its inverse
+  pub along-x : (A B : ℕ → ℕ → ℕ → R) → sumX (λ x. sumY (λ y. sumZ (λ z. dft 𝓞 (2 * a) u (A y z) x ⊗ dft 𝓞 (2 * a) (conj u) (B y z) x))) ≡ cast 𝓞 (2 * a) ⊗ sumX (λ h. sumY (λ y. sumZ (λ z. A y z h ⊗ B y z h)))
   along-x A B =
       rot _ ∙ sum-cong 𝓡 (2 * b) _ _ (λ y yb. sum-cong 𝓡 (2 * c) _ _ (λ z zc. parseval 𝓡 (2 * a) u (conj u) pu (𝓧 .root) (A y z) (B y z)) ∙ sum-mul 𝓡 (2 * c) _ _) ∙ sum-mul 𝓡 (2 * b) _ _ ∙ ap (λ s. cast 𝓞 (2 * a) ⊗ s) (inv (rot (λ h y z. A y z h ⊗ B y z h)))
     where
       rot : (f : ℕ → ℕ → ℕ → R) → sumX (λ x. sumY (λ y. sumZ (λ z. f x y z))) ≡ sumY (λ y. sumZ (λ z. sumX (λ x. f x y z)))
       rot f = sum-swap 𝓡 (2 * a) (2 * b) (λ x y. sumZ (λ z. f x y z)) ∙ sum-cong 𝓡 (2 * b) _ _ (λ y yb. sum-swap 𝓡 (2 * a) (2 * c) (λ x z. f x y z))
 
-  along-y : (A B : ℕ → ℕ → R) → sumY (λ y. sumZ (λ z. dft 𝓞 (2 * b) v (A z) y ⊗ dft 𝓞 (2 * b) (conj v) (B z) y)) ≡ cast 𝓞 (2 * b) ⊗ sumY (λ k. sumZ (λ z. A z k ⊗ B z k))
+  pub along-y : (A B : ℕ → ℕ → R) → sumY (λ y. sumZ (λ z. dft 𝓞 (2 * b) v (A z) y ⊗ dft 𝓞 (2 * b) (conj v) (B z) y)) ≡ cast 𝓞 (2 * b) ⊗ sumY (λ k. sumZ (λ z. A z k ⊗ B z k))
   along-y A B =
       sum-swap 𝓡 (2 * b) (2 * c) _ ∙ sum-cong 𝓡 (2 * c) _ _ (λ z zc. parseval 𝓡 (2 * b) v (conj v) pv (𝓨 .root) (A z) (B z)) ∙ sum-mul 𝓡 (2 * c) _ _ ∙ ap (λ s. cast 𝓞 (2 * b) ⊗ s) (sum-swap 𝓡 (2 * c) (2 * b) (λ z k. A z k ⊗ B z k))
 
-  product : (F K : Cell R) → sumX (λ x. sumY (λ y. sumZ (λ z. For F x y z ⊗ Inv K x y z))) ≡ cast 𝓞 (2 * a) ⊗ (cast 𝓞 (2 * b) ⊗ (cast 𝓞 (2 * c) ⊗ sumX (λ h. sumY (λ k. sumZ (λ l. F h k l ⊗ K h k l)))))
+  -- along all three: any two cells
+  pub product : (F K : Cell R) → sumX (λ x. sumY (λ y. sumZ (λ z. overRoots F x y z ⊗ overInverses K x y z))) ≡ cast 𝓞 (2 * a) ⊗ (cast 𝓞 (2 * b) ⊗ (cast 𝓞 (2 * c) ⊗ sumX (λ h. sumY (λ k. sumZ (λ l. F h k l ⊗ K h k l)))))
   product F K =
       along-x (λ y z h. dft 𝓞 (2 * b) v (λ k. dft 𝓞 (2 * c) w (λ l. F h k l) z) y) (λ y z h. dft 𝓞 (2 * b) (conj v) (λ k. dft 𝓞 (2 * c) (conj w) (λ l. K h k l) z) y)
       ∙ ap (λ s. cast 𝓞 (2 * a) ⊗ s)
       (sum-cong 𝓡 (2 * a) _ _ (λ h ha. along-y (λ z k. dft 𝓞 (2 * c) w (λ l. F h k l) z) (λ z k. dft 𝓞 (2 * c) (conj w) (λ l. K h k l) z)) ∙ sum-mul 𝓡 (2 * a) _ _
       ∙ ap (λ s. cast 𝓞 (2 * b) ⊗ s) (sum-cong 𝓡 (2 * a) _ _ (λ h ha. sum-cong 𝓡 (2 * b) _ _ (λ k kb. parseval 𝓡 (2 * c) w (conj w) pw (𝓩 .root) (λ l. F h k l) (λ l. K h k l)) ∙ sum-mul 𝓡 (2 * b) _ _) ∙ sum-mul 𝓡 (2 * a) _ _))
 
-  conj-map : (F : Cell R) (x y z : ℕ) → conj (mapOf 𝓞 X Y Z F x y z) ≡ Inv (λ h k l. conj (F h k l)) x y z
+  -- the conjugate of a map is that of the conjugate cell over the inverse roots
+  pub conj-map : (F : Cell R) (x y z : ℕ) → conj (mapOf 𝓞 X Y Z F x y z) ≡ overInverses (λ h k l. conj (F h k l)) x y z
   conj-map F x y z =
       ap conj (map-nested 𝓡 X Y Z F x y z)
       ∙ conj-dft 𝓡 𝓢 (2 * a) u _ x

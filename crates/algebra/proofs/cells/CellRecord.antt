@@ -6,15 +6,14 @@ use Prim.Native.Nat.{ℕ, zero, suc, _<_}
 use native.Mathlib.Omega.{arith}
 use native.Mathlib.Decide.{ℕ-discrete}
 use lib.Dec.{T, T-not, eqb, eqb→eq, eqb-refl}
-use Rattle.algebra.specs.ring.Ring.{Ops}
+use Rattle.algebra.specs.ring.Ring.{Ops, gauss, conj}
 use Rattle.algebra.specs.ring.RingLaws.{CRing}
-use Rattle.algebra.specs.ring.Gauss.{gauss, conj}
 use Rattle.algebra.specs.orbits.Orbit.{recorded}
 use Rattle.algebra.specs.orbits.OrbitLaws.{AgreesWithItself, putAll}
-use Rattle.algebra.specs.cells.Cell.{J, Inside, Group, P1, P2₁, Pm, Pa, P2₁2₁2₁, full, lineSym, negI, flip, imageOf, sgn, star, sameJ, span, Cell, at, factorActs}
+use Rattle.algebra.specs.cells.Cell.{J, Inside, Group, P1, P2₁, Pm, Pa, P2₁2₁2₁, full, negI, flip, imageOf, sgn, star, sameJ, span, Cell, at, factorActs, storedT}
+use Rattle.algebra.specs.cells.CellPlaces.{lineSym}
 use Rattle.algebra.specs.cells.CellSteps.{Lawful}
 use Rattle.algebra.specs.cells.CellPack.{even, partOf, ofPart, unpackAlt, timesI, overI, unpack, upd, putAlt, putFactor, PackedIn, FactorVolume}
-use Rattle.algebra.specs.cells.CellTests.{storedT}
 use Rattle.algebra.proofs.ring.Paths.{triple}
 use Rattle.algebra.proofs.ring.Bool.{split}
 use Rattle.algebra.proofs.ring.GaussRing.{gauss-ring, gauss-star}

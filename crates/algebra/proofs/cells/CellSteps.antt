@@ -5,8 +5,8 @@ use Prim.Native.Nat.{ℕ, _*_, _<_}
 use Rattle.algebra.specs.ring.Ring.{Ops}
 use Rattle.algebra.specs.ring.RingLaws.{CRing, Star}
 use Rattle.algebra.specs.fourier.Axis.{Axis, AxisLaws}
-use Rattle.algebra.specs.cells.Cell.{J, Sym, one, friedel, imageOf, negI, flip, halves, Cell, mapOf, factorsOf, sgn, star, impliedValue, impliedDensity, Obeys, MapObeys}
-use Rattle.algebra.specs.cells.CellSteps.{afterL, afterH, afterK, backK, backH, backL}
+use Rattle.algebra.specs.cells.Cell.{J, Sym, one, friedel, imageOf, negI, flip, Cell, mapOf, factorsOf, sgn, star, impliedValue, impliedDensity, MapObeys}
+use Rattle.algebra.specs.cells.CellSteps.{halves, Obeys, afterL, afterH, afterK, backK, backH, backL}
 use Rattle.algebra.proofs.ring.Solver.{ring, quote}
 use Rattle.algebra.proofs.fourier.Transform.{dft-cong, dft-mul, inversion-after}
 use Rattle.algebra.proofs.cells.CellAxis.{neg-lt, neg-neg′, conj-D}

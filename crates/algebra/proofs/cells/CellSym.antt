@@ -8,7 +8,7 @@ use Rattle.algebra.specs.ring.RingLaws.{CRing, Star}
 use Rattle.algebra.specs.cells.Cell.{J, Inside, Sym, sym, one, _·_, imageOf, pointImage, flip, shifted, xor, sgn, star, impliedValue, impliedDensity}
 use Rattle.algebra.proofs.ring.Paths.{triple}
 use Rattle.algebra.proofs.ring.Solver.{ring, quote}
-use Rattle.algebra.proofs.cells.CellAxis.{flip-lt, turn-lt, flip-flip, both-both, sgn-sgn, sgn-flip, star-star, star-sgn}
+use Rattle.algebra.proofs.cells.CellAxis.{flip-lt, shifted-lt, flip-flip, both-both, sgn-sgn, sgn-flip, star-star, star-sgn}
 
 xor-same : (b : Bool) → xor b b ≡ false
 xor-same false = refl
@@ -47,7 +47,7 @@ image-image a (sym c f g h p q r) (sym c₁ f₁ g₁ h₁ p₁ q₁ r₁) j n =
 -- points
 pub point-inside : (a : J) (s : Sym) (j : J) → Inside a j → Inside a (pointImage a s j)
 unfolding pointImage
-point-inside a (sym c f g h p q r) j n = (turn-lt p _ _ (flip-lt (xor c f) _ _ (n .0)), turn-lt q _ _ (flip-lt (xor c g) _ _ (n .1)), turn-lt r _ _ (flip-lt (xor c h) _ _ (n .2)))
+point-inside a (sym c f g h p q r) j n = (shifted-lt p _ _ (flip-lt (xor c f) _ _ (n .0)), shifted-lt q _ _ (flip-lt (xor c g) _ _ (n .1)), shifted-lt r _ _ (flip-lt (xor c h) _ _ (n .2)))
 
 pub point-one : (a j : J) → pointImage a one j ≡ j
 unfolding pointImage flip shifted

@@ -10,9 +10,9 @@ use Rattle.algebra.specs.ring.Ring.{Ops}
 use Rattle.algebra.specs.ring.RingLaws.{CRing, Star}
 use Rattle.algebra.specs.orbits.Orbit.{Perm, Acts, recordAll}
 use Rattle.algebra.specs.orbits.OrbitLaws.{AgreesWithItself, Obeying, Accepted, cellOf, Consistent}
-use Rattle.algebra.specs.cells.Cell.{J, Inside, Sym, Group, P1, P2₁, Pm, Pa, P2₁2₁2₁, ops, full, imageOf, pointImage, sameJ, span, Stored, factorOperation, planes, StoredPoint, pointOperation, Cell, impliedValue, factorActs, mapActs}
-use Rattle.algebra.specs.cells.CellSteps.{Lawful}
-use Rattle.algebra.specs.cells.CellTests.{below, everyPlace, storedT, storedPointT, agreesT}
+use Rattle.algebra.specs.cells.Cell.{J, Inside, Sym, Group, P1, P2₁, Pm, Pa, P2₁2₁2₁, ops, full, imageOf, pointImage, sameJ, span, planes, pointOperation, Cell, impliedValue, factorActs, below, everyPlace, storedT, storedPointT, agreesT}
+use Rattle.algebra.specs.cells.CellSteps.{mapActs, Lawful}
+use Rattle.algebra.specs.cells.CellPlaces.{Stored, factorOperation, StoredPoint}
 use Rattle.algebra.specs.cells.StoredTests.{consistentFactorsT, consistentMapT}
 use Rattle.algebra.proofs.ring.Bool.{and-l, and-r, and-i, imply-iff, every-at, every-by, below-at, below-by}
 use Rattle.algebra.proofs.orbits.Orbits as O

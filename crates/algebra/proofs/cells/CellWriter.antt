@@ -11,8 +11,7 @@ use Rattle.algebra.specs.ring.Ring.{Ops}
 use Rattle.algebra.specs.ring.RingLaws.{CRing, Star}
 use Rattle.algebra.specs.orbits.Orbit.{Mem, first, later, recordAll}
 use Rattle.algebra.specs.orbits.OrbitLaws.{Obeying, Accepted}
-use Rattle.algebra.specs.cells.Cell.{J, Inside, Group, full, factorActs}
-use Rattle.algebra.specs.cells.CellTests.{lineFrom, planeFrom, cellFrom, placesOf, lexLe, recordsOf}
+use Rattle.algebra.specs.cells.Cell.{J, Inside, Group, full, factorActs, lineFrom, planeFrom, cellFrom, placesOf, lexLe, recordsOf}
 use Rattle.algebra.proofs.ring.Paths.{triple}
 use Rattle.algebra.proofs.ring.Members.{none, mem-append, mem-left, mem-right}
 use Rattle.algebra.proofs.ring.Bool.{and-l, and-r, and-i, or-l, or-r, or-e}

@@ -4,8 +4,7 @@ use Prim.Native.Nat.{ℕ, _*_}
 use native.Mathlib.Nat as N
 use Rattle.algebra.specs.ring.Ring.{Ops, pow}
 use Rattle.algebra.specs.ring.RingLaws.{CRing, Star}
-use Rattle.algebra.specs.fourier.Fourier.{Root}
-use Rattle.algebra.specs.fourier.Axis.{AxisLaws, Axis}
+use Rattle.algebra.specs.fourier.Axis.{Root, AxisLaws, Axis}
 use Rattle.algebra.proofs.fourier.Transform.{pow-unit, inverse-cycle}
 use Rattle.algebra.proofs.ring.Conj.{conj-pow, conj-of-inverse, conj-cast}
 

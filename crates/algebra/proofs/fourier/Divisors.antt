@@ -5,10 +5,10 @@ use mathlib.Core.Bool.{Bool, false, _||_}
 use Prim.Native.Nat.{ℕ, zero, suc, _*_, _%_, _<_}
 use native.Mathlib.Omega.{arith}
 use lib.Dec.{T, eqb, eqb→eq}
-use Rattle.algebra.specs.ring.Ring.{Ops, pow, cast, sum}
+use Rattle.algebra.specs.ring.Ring.{Ops, pow, sum}
+use Rattle.algebra.specs.fourier.Axis.{cast, Root}
 use Rattle.algebra.specs.ring.RingLaws.{CRing}
-use Rattle.algebra.specs.cells.CellTests.{below}
-use Rattle.algebra.specs.fourier.Fourier.{Root}
+use Rattle.algebra.specs.cells.Cell.{below}
 use Rattle.algebra.proofs.ring.Bool.{or-e, below-at}
 use Rattle.algebra.proofs.ring.Solver.{ring, quote}
 use Rattle.algebra.proofs.fourier.Transform.{geometric, pow-mul, pow-mod}

@@ -1,9 +1,8 @@
 -- The half tangents of a value w = c + d i on the circle: t = d/(1 + c) for w, and u = d/(1 - c) for -conj w.
 use mathlib.Core.Path.{_≡_, refl, ap}
 use mathlib.Core.List.{[], _∷_}
-use Rattle.algebra.specs.ring.Ring.{Ops}
+use Rattle.algebra.specs.ring.Ring.{Ops, gauss, conj, imag}
 use Rattle.algebra.specs.ring.RingLaws.{CRing}
-use Rattle.algebra.specs.ring.Gauss.{gauss, conj, imag}
 use Rattle.algebra.proofs.ring.Solver.{ring, quote, linear}
 
 module _ {R : Type 0} {𝓞 : Ops R} (𝓡 : CRing 𝓞) where

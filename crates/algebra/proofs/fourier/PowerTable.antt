@@ -8,10 +8,8 @@ use native.Mathlib.Nat.{le-of-suc-le-suc, not-suc-le-zero}
 use native.Mathlib.Omega.{arith}
 use lib.Dec.{T}
 use lib.ListN.{getD}
-use Rattle.algebra.specs.ring.Ring.{Ops, pow}
+use Rattle.algebra.specs.ring.Ring.{Ops, pow, Res, residue, residues, gauss}
 use Rattle.algebra.specs.ring.RingLaws.{CRing}
-use Rattle.algebra.specs.ring.Residue.{Res, residue, residues}
-use Rattle.algebra.specs.ring.Gauss.{gauss}
 use Rattle.algebra.proofs.ring.Laws.{mul-one, mul-neg}
 use Rattle.algebra.proofs.fourier.Transform.{pow-zero, pow-suc}
 use Rattle.algebra.proofs.ring.ResidueRing.{residue-ring, residue-val, val-residue, residue-add, residue-mul, residue-neg}

@@ -6,10 +6,11 @@ use Prim.Native.Nat.{ℕ, zero, suc, _+_, _*_, _-_, _%_, _<_}
 use native.Mathlib.Nat as N
 use native.Mathlib.Omega.{arith}
 use native.Mathlib.Decide.{decLt}
-use Rattle.algebra.specs.ring.Ring.{Ops, pow, sum, cast}
+use Rattle.algebra.specs.ring.Ring.{Ops, pow, sum, dft}
+use Rattle.algebra.specs.fourier.Axis.{cast, Root}
 use Rattle.algebra.specs.ring.RingLaws.{CRing, Star}
-use Rattle.algebra.specs.fourier.Fourier.{Root, dft}
-use Rattle.algebra.specs.lines.Line.{Reflected, Symmetric, Antisymmetric, Hermitian, AntiHermitian, Alternating, sign}
+use Rattle.algebra.specs.lines.Kinds.{Reflected, sign}
+use Rattle.algebra.specs.lines.Packings.{Symmetric, Antisymmetric, Hermitian, AntiHermitian, Alternating}
 use Rattle.algebra.proofs.ring.Laws.{along, add-neg, mul-zero, mul-left-comm, right-distrib, neg-mul, neg-one-mul, neg-one-square, neg-neg, neg-zero, zero-mul, pow-add, mul-neg, mul-one}
 use Rattle.algebra.proofs.ring.Solver.{ring, quote, linear}
 use Rattle.algebra.proofs.fourier.Sums.{sum-cong, sum-add, sum-mul, sum-mul-right, sum-append, sum-swap, sum-even-odd, sum-shift-mod, sum-neg-mod, sum-all-zero, sum-single}

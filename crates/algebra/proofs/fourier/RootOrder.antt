@@ -4,7 +4,7 @@ use Prim.Native.Nat.{ℕ, _-_, _≤_}
 use native.Mathlib.Omega.{arith}
 use Rattle.algebra.specs.ring.Ring.{Ops, pow}
 use Rattle.algebra.specs.ring.RingLaws.{CRing, Star}
-use Rattle.algebra.specs.fourier.Fourier.{Root}
+use Rattle.algebra.specs.fourier.Axis.{Root}
 use Rattle.algebra.proofs.fourier.Transform.{pow-across}
 use Rattle.algebra.proofs.ring.Conj.{conj-pow}
 

@@ -6,7 +6,8 @@ use Prim.Native.Nat.{ℕ, zero, suc, _+_, _*_, _-_, _%_, _<_}
 use native.Mathlib.Nat as N
 use native.Mathlib.Omega.{arith}
 use native.Mathlib.Decide.{ℕ-discrete}
-use Rattle.algebra.specs.ring.Ring.{Ops, cast, sum}
+use Rattle.algebra.specs.ring.Ring.{Ops, sum}
+use Rattle.algebra.specs.fourier.Axis.{cast}
 use Rattle.algebra.specs.ring.RingLaws.{CRing}
 use Rattle.algebra.proofs.ring.Laws.{along, add-zero, mul-zero, zero-mul, add-left-cancel}
 use Rattle.algebra.proofs.ring.Solver.{ring, quote}

@@ -6,9 +6,10 @@ use Prim.Native.Nat.{ℕ, zero, suc, _+_, _*_, _-_, _/_, _%_, _<_}
 use native.Mathlib.Nat as N
 use native.Mathlib.Omega.{arith}
 use native.Mathlib.Decide.{decLt}
-use Rattle.algebra.specs.ring.Ring.{Ops, pow, cast, sum}
+use Rattle.algebra.specs.ring.Ring.{Ops, pow, sum, dft}
+use Rattle.algebra.specs.fourier.Axis.{cast, Root}
 use Rattle.algebra.specs.ring.RingLaws.{CRing}
-use Rattle.algebra.specs.fourier.Fourier.{Root, dft, T}
+use Rattle.algebra.specs.fourier.Split.{T}
 use Rattle.algebra.proofs.ring.Laws.{inverse-unique, along, add-neg, mul-one, right-distrib, mul-left-comm, mul-zero, pow-add, cast-mul}
 use Rattle.algebra.proofs.ring.Solver.{ring, quote, linear}
 use Rattle.algebra.proofs.fourier.Sums.{sum-cong, sum-add, sum-mul, sum-mul-right, sum-swap, sum-const, sum-single, sum-strided}

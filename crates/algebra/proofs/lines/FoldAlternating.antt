@@ -4,13 +4,13 @@ use mathlib.Core.List.{[], _∷_}
 use Prim.Native.Nat.{ℕ, zero, suc, _+_, _*_, _-_, _%_, _<_}
 use native.Mathlib.Nat as N
 use native.Mathlib.Omega.{arith}
-use Rattle.algebra.specs.ring.Ring.{Ops, pow, sum}
+use Rattle.algebra.specs.ring.Ring.{Ops, pow, sum, dft}
 use Rattle.algebra.specs.ring.RingLaws.{CRing, Star}
-use Rattle.algebra.specs.fourier.Fourier.{Root, dft}
+use Rattle.algebra.specs.fourier.Axis.{Root, Axis, AxisLaws}
 use Rattle.algebra.proofs.ring.Solver.{ring, quote, linear}
-use Rattle.algebra.specs.fourier.Axis.{Axis, AxisLaws}
-use Rattle.algebra.specs.lines.Line.{Alternating, Reflected, sign, re, im, unfoldB3}
-use Rattle.algebra.specs.lines.Folds.{woven as woven-of, finish3 as finish3-of}
+use Rattle.algebra.specs.lines.Kinds.{Reflected, sign, re, im}
+use Rattle.algebra.specs.lines.Packings.{Alternating, unfoldB3}
+use Rattle.algebra.specs.lines.Folds.{alternatingPoint as alternating-point-of, finish3 as finish3-of}
 use Rattle.algebra.proofs.ring.Laws.{along}
 use Rattle.algebra.proofs.fourier.Transform.{pow-zero, dft-add, dft-mul, sign-even, dft-zero}
 use Rattle.algebra.proofs.ring.Conj.{conj-pow, conj-dft}
@@ -46,12 +46,12 @@ module _ {R : Type 0} {𝓞 : Ops R} {conj : R → R} {i : R} (𝓡 : CRing 𝓞
     odds = dft 𝓞 A (pow 𝓞 w 2) (λ t. X (2 * t + 1))
 
     -- the plain line of A points
-    abbrev pub woven : ℕ → R
-    woven = woven-of 𝓞 i X
+    abbrev pub alternatingPoint : ℕ → R
+    alternatingPoint = alternating-point-of 𝓞 i X
 
-    woven-is : (s : ℕ) → dft 𝓞 A (pow 𝓞 w 2) woven s ≡ evens s ⊕ i ⊗ odds s
-    unfolding woven-of
-    woven-is s = dft-add 𝓡 A _ _ _ s ∙ ap (λ y. evens s ⊕ y) (dft-mul 𝓡 A _ i _ s)
+    alternating-point-is : (s : ℕ) → dft 𝓞 A (pow 𝓞 w 2) alternatingPoint s ≡ evens s ⊕ i ⊗ odds s
+    unfolding alternating-point-of
+    alternating-point-is s = dft-add 𝓡 A _ _ _ s ∙ ap (λ y. evens s ⊕ y) (dft-mul 𝓡 A _ i _ s)
 
     module _ (alt : Alternating 𝓞 conj (2 * A) X) where
       -- the even places are a Hermitian line of A values
@@ -75,17 +75,17 @@ module _ {R : Type 0} {𝓞 : Ops R} {conj : R → R} {i : R} (𝓡 : CRing 𝓞
           step : (e f o c : R) → f ⊗ c ≡ ⊖ o → e ⊗ f ≡ 𝟙 → c ≡ ⊖ (e ⊗ o)
           step e f o c a b = linear 𝓡 a e (linear 𝓡 b (⊖ c) (ring 𝓡 (e ∷ f ∷ o ∷ c ∷ []) (search quote depth 40 fits 9999) refl))
 
-      conj-woven : (s : ℕ) → conj (evens s ⊕ i ⊗ odds s) ≡ evens s ⊕ i ⊗ (pow 𝓞 w s ⊗ (pow 𝓞 w s ⊗ odds s))
-      conj-woven s = conj-add _ _ ∙ ap₂ _⊕_ (evens-real s) (conj-mul _ _ ∙ ap₂ _⊗_ conj-i (conj-odds s) ∙ step i _)
+      conj-alternating-point : (s : ℕ) → conj (evens s ⊕ i ⊗ odds s) ≡ evens s ⊕ i ⊗ (pow 𝓞 w s ⊗ (pow 𝓞 w s ⊗ odds s))
+      conj-alternating-point s = conj-add _ _ ∙ ap₂ _⊕_ (evens-real s) (conj-mul _ _ ∙ ap₂ _⊗_ conj-i (conj-odds s) ∙ step i _)
         where
           step : (i x : R) → (⊖ i) ⊗ (⊖ x) ≡ i ⊗ x
           step i x = ring 𝓡 (i ∷ x ∷ []) (search quote depth 40 fits 9999) refl
 
       -- the result from Y^ at s, 0 < s < A
       pub fold-three : (s : ℕ) → 0 < s → s < A →
-          (ℜ (dft 𝓞 A (pow 𝓞 w 2) woven s) ⊕ ℑ (dft 𝓞 A (pow 𝓞 w 2) woven s) ⊗ cot 𝓡 𝓢 𝓐 s) ⊕ i ⊗ (ℑ (dft 𝓞 A (pow 𝓞 w 2) woven s) ⊗ csc 𝓡 𝓢 𝓐 s) ≡ dft 𝓞 (2 * A) w X s
+          (ℜ (dft 𝓞 A (pow 𝓞 w 2) alternatingPoint s) ⊕ ℑ (dft 𝓞 A (pow 𝓞 w 2) alternatingPoint s) ⊗ cot 𝓡 𝓢 𝓐 s) ⊕ i ⊗ (ℑ (dft 𝓞 A (pow 𝓞 w 2) alternatingPoint s) ⊗ csc 𝓡 𝓢 𝓐 s) ≡ dft 𝓞 (2 * A) w X s
       unfolding re im
-      fold-three s p l = ap₂ shape (woven-is s ∙ ap (λ y. evens s ⊕ i ⊗ y) (again (pow 𝓞 w s) (pow 𝓞 (conj w) s) (odds s) (pow-inverse 𝓡 𝓢 𝓐 s))) (ap conj (woven-is s) ∙ conj-woven s)
+      fold-three s p l = ap₂ shape (alternating-point-is s ∙ ap (λ y. evens s ⊕ i ⊗ y) (again (pow 𝓞 w s) (pow 𝓞 (conj w) s) (odds s) (pow-inverse 𝓡 𝓢 𝓐 s))) (ap conj (alternating-point-is s) ∙ conj-alternating-point s)
           ∙ step half i (cot 𝓡 𝓢 𝓐 s) (csc 𝓡 𝓢 𝓐 s) (pow 𝓞 w s) (pow 𝓞 (conj w) s) (evens s) (pow 𝓞 w s ⊗ odds s) halves i-square (csc-law 𝓡 𝓢 𝓐 s p l) (cot-law 𝓡 𝓢 𝓐 s p l)
           ∙ sym (split-time 𝓡 A w X s)
         where
@@ -100,9 +100,9 @@ module _ {R : Type 0} {𝓞 : Ops R} {conj : R → R} {i : R} (𝓡 : CRing 𝓞
           step h i t k e f u o a b c d = linear 𝓡 b (⊖ (h ⊗ (f ⊕ ⊖ e) ⊗ o ⊗ (t ⊕ i ⊗ k) ⊕ o)) (linear 𝓡 d (h ⊗ (f ⊕ ⊖ e) ⊗ o) (linear 𝓡 c (⊖ (o ⊗ (h ⊗ (e ⊕ f) ⊕ i))) (linear 𝓡 a u (ring 𝓡 (h ∷ i ∷ t ∷ k ∷ e ∷ f ∷ u ∷ o ∷ []) (search quote depth 40 fits 9999) refl))))
 
       -- and at 0, with m the sum of the imaginary parts at the odd places
-      pub fold-three-zero : (m : R) → m ≡ sum 𝓞 A (λ t. ℑ (X (2 * t + 1))) → (ℜ (dft 𝓞 A (pow 𝓞 w 2) woven 0) ⊕ m) ⊕ i ⊗ m ≡ dft 𝓞 (2 * A) w X 0
+      pub fold-three-zero : (m : R) → m ≡ sum 𝓞 A (λ t. ℑ (X (2 * t + 1))) → (ℜ (dft 𝓞 A (pow 𝓞 w 2) alternatingPoint 0) ⊕ m) ⊕ i ⊗ m ≡ dft 𝓞 (2 * A) w X 0
       unfolding re im
-      fold-three-zero m h = ap₂ (λ y c. (half ⊗ (y ⊕ c) ⊕ m) ⊕ i ⊗ m) (woven-is 0) (ap conj (woven-is 0) ∙ conj-woven 0 ∙ ap (λ y. evens 0 ⊕ i ⊗ y) flat2)
+      fold-three-zero m h = ap₂ (λ y c. (half ⊗ (y ⊕ c) ⊕ m) ⊕ i ⊗ m) (alternating-point-is 0) (ap conj (alternating-point-is 0) ∙ conj-alternating-point 0 ∙ ap (λ y. evens 0 ⊕ i ⊗ y) flat2)
           ∙ ap (λ y. (half ⊗ (evens 0 ⊕ i ⊗ odds 0 ⊕ (evens 0 ⊕ i ⊗ odds 0)) ⊕ y) ⊕ i ⊗ y) (h ∙ im-sum 𝓡 𝓢 half halves A _ ∙ ap ℑ (sym (dft-zero 𝓡 A _ _)) ∙ ap (λ c. ⊖ (half ⊗ (i ⊗ (odds 0 ⊕ ⊖ c)))) (conj-odds 0 ∙ ap ⊖_ flat2))
           ∙ step half i (evens 0) (odds 0) halves i-square ∙ ap (λ y. evens 0 ⊕ y) (sym flat) ∙ sym (split-time 𝓡 A w X 0)
         where
@@ -119,7 +119,7 @@ module _ {R : Type 0} {𝓞 : Ops R} {conj : R → R} {i : R} (𝓡 : CRing 𝓞
   finish3 y m = finish3-of 𝓞 conj i half A tau y m
 
   pub forward3 : (p : ℕ → R) (s : ℕ) → s < A →
-      finish3 (dft 𝓞 A (pow 𝓞 w 2) (woven (unfoldB3 𝓞 conj i half A p))) (sum 𝓞 A (λ t. ℑ (unfoldB3 𝓞 conj i half A p (2 * t + 1)))) s ≡ dft 𝓞 (2 * A) w (unfoldB3 𝓞 conj i half A p) s
+      finish3 (dft 𝓞 A (pow 𝓞 w 2) (alternatingPoint (unfoldB3 𝓞 conj i half A p))) (sum 𝓞 A (λ t. ℑ (unfoldB3 𝓞 conj i half A p (2 * t + 1)))) s ≡ dft 𝓞 (2 * A) w (unfoldB3 𝓞 conj i half A p) s
   unfolding finish3-of
   forward3 p zero l = fold-three-zero _ (unfoldB3-rule 𝓡 𝓢 𝓐 p) _ refl
   forward3 p (suc s) l = fold-three _ (unfoldB3-rule 𝓡 𝓢 𝓐 p) (suc s) (omega arith) l

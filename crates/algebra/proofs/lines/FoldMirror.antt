@@ -5,13 +5,13 @@ use Prim.Native.Nat.{ℕ, zero, suc, _+_, _*_, _-_, _%_, _<_}
 use native.Mathlib.Nat as N
 use native.Mathlib.Omega.{arith}
 use native.Mathlib.Decide.{ℕ-discrete}
-use Rattle.algebra.specs.ring.Ring.{Ops, pow, sum}
+use Rattle.algebra.specs.ring.Ring.{Ops, pow, sum, dft}
 use Rattle.algebra.specs.ring.RingLaws.{CRing, Star}
-use Rattle.algebra.specs.fourier.Fourier.{Root, dft}
+use Rattle.algebra.specs.fourier.Axis.{Root, Axis, AxisLaws}
 use Rattle.algebra.proofs.ring.Solver.{ring, quote, linear}
-use Rattle.algebra.specs.fourier.Axis.{Axis, AxisLaws}
-use Rattle.algebra.specs.lines.Line.{Reflected, unfold4, unfold5}
-use Rattle.algebra.specs.lines.Folds.{paired as paired-of, join as join-of, finish as finish-of}
+use Rattle.algebra.specs.lines.Kinds.{Reflected}
+use Rattle.algebra.specs.lines.Packings.{unfold4, unfold5}
+use Rattle.algebra.specs.lines.Folds.{mirrorPoint as mirror-point-of, mirrorValue as mirror-value-of, finish as finish-of}
 use Rattle.algebra.proofs.ring.Laws.{along, pow-add, neg-one-mul, neg-one-square}
 use Rattle.algebra.proofs.fourier.Transform.{pow-zero, dft-add, pow-unit, dft-zero}
 use Rattle.algebra.proofs.lines.Unfold.{at-zero, three-eq, at-mirror, three-lt}
@@ -31,8 +31,8 @@ module _ {R : Type 0} {𝓞 : Ops R} (𝓡 : CRing 𝓞) where
   module _ (A : ℕ) (v u half : R) (th : ℕ → R) (turn : pow 𝓞 v A ≡ ⊖ 𝟙) (inverse : v ⊗ u ≡ 𝟙) (halves : half ⊗ (𝟙 ⊕ 𝟙) ≡ 𝟙)
       (tangent : (s : ℕ) → 0 < s → s < A → th s ⊗ (𝟙 ⊕ pow 𝓞 v s) ≡ pow 𝓞 v s ⊕ ⊖ 𝟙) where
     -- the plain line of A points
-    abbrev pub paired : (ℕ → R) → ℕ → R
-    paired X = paired-of 𝓞 X
+    abbrev pub mirrorPoint : (ℕ → R) → ℕ → R
+    mirrorPoint X = mirror-point-of 𝓞 X
 
     module _ (σ : R) (X : ℕ → R) (square : σ ⊗ σ ≡ 𝟙) (rule : Reflected 𝓞 (2 * A) (λ t x. σ ⊗ x) X) where
       abbrev evens : ℕ → R
@@ -41,9 +41,9 @@ module _ {R : Type 0} {𝓞 : Ops R} (𝓡 : CRing 𝓞) where
       abbrev odds : ℕ → R
       odds = dft 𝓞 A (pow 𝓞 v 2) (λ t. X (2 * t + 1))
 
-      paired-is : (s : ℕ) → dft 𝓞 A (pow 𝓞 v 2) (paired X) s ≡ evens s ⊕ odds s
-      unfolding paired-of
-      paired-is s = dft-add 𝓡 A _ _ _ s
+      mirror-point-is : (s : ℕ) → dft 𝓞 A (pow 𝓞 v 2) (mirrorPoint X) s ≡ evens s ⊕ odds s
+      unfolding mirror-point-of
+      mirror-point-is s = dft-add 𝓡 A _ _ _ s
 
       even-rule : Reflected 𝓞 A (λ t x. σ ⊗ x) (λ t. X (2 * t))
       even-rule zero l = ap (λ k. X (2 * k)) (along (λ k. k % A) (A - 0) A (omega arith) ∙ N.mod-self A) ∙ ap X (N.mul-zero 2) ∙ at-zero 𝓡 (2 * A) (λ t x. σ ⊗ x) X (omega arith) rule ∙ ap (λ k. σ ⊗ X k) (sym (N.mul-zero 2))
@@ -63,22 +63,22 @@ module _ {R : Type 0} {𝓞 : Ops R} (𝓡 : CRing 𝓞) where
           step σ e g a b l m x y z = linear 𝓡 x (⊖ e) (linear 𝓡 y e (linear 𝓡 z (σ ⊗ m) (ring 𝓡 (σ ∷ e ∷ g ∷ a ∷ b ∷ l ∷ m ∷ []) (search quote depth 40 fits 9999) refl)))
 
       -- the two places s and r = A - s of the short transform
-      abbrev pub join : ℕ → R → R → R
-      join s y z = join-of 𝓞 half σ (th s) y z
+      abbrev pub mirrorValue : ℕ → R → R → R
+      mirrorValue s y z = mirror-value-of 𝓞 half σ (th s) y z
 
-      pub fold-mirror : (s r : ℕ) → 0 < s → s < A → s + r ≡ A → join s (dft 𝓞 A (pow 𝓞 v 2) (paired X) s) (dft 𝓞 A (pow 𝓞 v 2) (paired X) r) ≡ dft 𝓞 (2 * A) v X s
-      unfolding join-of
-      fold-mirror s r p l e = ap₂ (λ y z. half ⊗ ((y ⊕ z) ⊕ th s ⊗ (y ⊕ ⊖ z))) (paired-is s) (ap (λ y. σ ⊗ y) (paired-is r) ∙ left-distrib _ _ _ ∙ ap₂ _⊕_ (sym (evens-mirror s r e)) (odds-mirror s r e))
+      pub fold-mirror : (s r : ℕ) → 0 < s → s < A → s + r ≡ A → mirrorValue s (dft 𝓞 A (pow 𝓞 v 2) (mirrorPoint X) s) (dft 𝓞 A (pow 𝓞 v 2) (mirrorPoint X) r) ≡ dft 𝓞 (2 * A) v X s
+      unfolding mirror-value-of
+      fold-mirror s r p l e = ap₂ (λ y z. half ⊗ ((y ⊕ z) ⊕ th s ⊗ (y ⊕ ⊖ z))) (mirror-point-is s) (ap (λ y. σ ⊗ y) (mirror-point-is r) ∙ left-distrib _ _ _ ∙ ap₂ _⊕_ (sym (evens-mirror s r e)) (odds-mirror s r e))
           ∙ step half (th s) (pow 𝓞 v s) (evens s) (odds s) halves (tangent s p l) ∙ sym (split-time 𝓡 A v X s)
         where
           step : (h t e x y : R) → h ⊗ (𝟙 ⊕ 𝟙) ≡ 𝟙 → t ⊗ (𝟙 ⊕ e) ≡ e ⊕ ⊖ 𝟙 → h ⊗ ((x ⊕ y ⊕ (x ⊕ e ⊗ (e ⊗ y))) ⊕ t ⊗ (x ⊕ y ⊕ ⊖ (x ⊕ e ⊗ (e ⊗ y)))) ≡ x ⊕ e ⊗ y
           step h t e x y a b = linear 𝓡 b (h ⊗ (𝟙 ⊕ ⊖ e) ⊗ y) (linear 𝓡 a (x ⊕ e ⊗ y) (ring 𝓡 (h ∷ t ∷ e ∷ x ∷ y ∷ []) (search quote depth 40 fits 9999) refl))
 
-      pub fold-first : dft 𝓞 A (pow 𝓞 v 2) (paired X) 0 ≡ dft 𝓞 (2 * A) v X 0
-      fold-first = paired-is 0 ∙ ap (λ y. evens 0 ⊕ y) (sym (ap (λ y. y ⊗ odds 0) (pow-zero 𝓡 v) ∙ one-mul _)) ∙ sym (split-time 𝓡 A v X 0)
+      pub fold-first : dft 𝓞 A (pow 𝓞 v 2) (mirrorPoint X) 0 ≡ dft 𝓞 (2 * A) v X 0
+      fold-first = mirror-point-is 0 ∙ ap (λ y. evens 0 ⊕ y) (sym (ap (λ y. y ⊗ odds 0) (pow-zero 𝓡 v) ∙ one-mul _)) ∙ sym (split-time 𝓡 A v X 0)
 
-      pub fold-middle : (o : R) → o ≡ sum 𝓞 A (λ t. X (2 * t + 1)) → dft 𝓞 A (pow 𝓞 v 2) (paired X) 0 ⊕ ⊖ (o ⊕ o) ≡ dft 𝓞 (2 * A) v X A
-      fold-middle o h = ap₂ (λ y z. y ⊕ ⊖ (z ⊕ z)) (paired-is 0) (h ∙ sym (dft-zero 𝓡 A _ _)) ∙ step (evens 0) (odds 0) ∙ ap (λ y. evens 0 ⊕ ⊖ y) (sym (ap (λ y. y ⊗ odds 0) (pow-zero 𝓡 v) ∙ one-mul _)) ∙ sym (split-time-above 𝓡 A v turn X 0) ∙ ap (dft 𝓞 (2 * A) v X) (N.add-zero A)
+      pub fold-middle : (o : R) → o ≡ sum 𝓞 A (λ t. X (2 * t + 1)) → dft 𝓞 A (pow 𝓞 v 2) (mirrorPoint X) 0 ⊕ ⊖ (o ⊕ o) ≡ dft 𝓞 (2 * A) v X A
+      fold-middle o h = ap₂ (λ y z. y ⊕ ⊖ (z ⊕ z)) (mirror-point-is 0) (h ∙ sym (dft-zero 𝓡 A _ _)) ∙ step (evens 0) (odds 0) ∙ ap (λ y. evens 0 ⊕ ⊖ y) (sym (ap (λ y. y ⊗ odds 0) (pow-zero 𝓡 v) ∙ one-mul _)) ∙ sym (split-time-above 𝓡 A v turn X 0) ∙ ap (dft 𝓞 (2 * A) v X) (N.add-zero A)
         where
           step : (x y : R) → x ⊕ y ⊕ ⊖ (y ⊕ y) ≡ x ⊕ ⊖ y
           step x y = ring 𝓡 (x ∷ y ∷ []) (search quote depth 40 fits 9999) refl
@@ -88,12 +88,12 @@ module _ {R : Type 0} {𝓞 : Ops R} (𝓡 : CRing 𝓞) where
     finish σ y o = finish-of 𝓞 half A th σ y o
 
     pub finish-is : (σ : R) (X : ℕ → R) → σ ⊗ σ ≡ 𝟙 → Reflected 𝓞 (2 * A) (λ t x. σ ⊗ x) X → (s : ℕ) → s < suc A →
-        finish σ (dft 𝓞 A (pow 𝓞 v 2) (paired X)) (sum 𝓞 A (λ t. X (2 * t + 1))) s ≡ dft 𝓞 (2 * A) v X s
+        finish σ (dft 𝓞 A (pow 𝓞 v 2) (mirrorPoint X)) (sum 𝓞 A (λ t. X (2 * t + 1))) s ≡ dft 𝓞 (2 * A) v X s
     unfolding finish-of
     finish-is σ X square rule zero l = fold-first σ X square rule
     finish-is σ X square rule (suc s) l = go (ℕ-discrete (suc s) A)
       where
-        go : Dec (suc s ≡ A) → finish σ (dft 𝓞 A (pow 𝓞 v 2) (paired X)) (sum 𝓞 A (λ t. X (2 * t + 1))) (suc s) ≡ dft 𝓞 (2 * A) v X (suc s)
+        go : Dec (suc s ≡ A) → finish σ (dft 𝓞 A (pow 𝓞 v 2) (mirrorPoint X)) (sum 𝓞 A (λ t. X (2 * t + 1))) (suc s) ≡ dft 𝓞 (2 * A) v X (suc s)
         go (yes h) = three-eq (suc s) A _ _ _ h ∙ fold-middle σ X square rule _ refl ∙ ap (dft 𝓞 (2 * A) v X) (sym h)
         go (no h) = three-lt (suc s) A _ _ _ (omega arith) ∙ fold-mirror σ X square rule (suc s) (A - suc s) (omega arith) (omega arith) (omega arith)
 
@@ -116,10 +116,10 @@ module _ {R : Type 0} {𝓞 : Ops R} {conj : R → R} {i : R} (𝓡 : CRing 𝓞
 
   -- forward: the root w; back: the other root, the half tangents negated
   abbrev pub ahead : R → (ℕ → R) → ℕ → R
-  ahead σ X s = finish-of 𝓞 half A (λ s. i ⊗ tau s) σ (dft 𝓞 A (pow 𝓞 w 2) (paired-of 𝓞 X)) (sum 𝓞 A (λ t. X (2 * t + 1))) s
+  ahead σ X s = finish-of 𝓞 half A (λ s. i ⊗ tau s) σ (dft 𝓞 A (pow 𝓞 w 2) (mirror-point-of 𝓞 X)) (sum 𝓞 A (λ t. X (2 * t + 1))) s
 
   abbrev pub aback : R → (ℕ → R) → ℕ → R
-  aback σ X s = finish-of 𝓞 half A (λ s. ⊖ (i ⊗ tau s)) σ (dft 𝓞 A (pow 𝓞 (conj w) 2) (paired-of 𝓞 X)) (sum 𝓞 A (λ t. X (2 * t + 1))) s
+  aback σ X s = finish-of 𝓞 half A (λ s. ⊖ (i ⊗ tau s)) σ (dft 𝓞 A (pow 𝓞 (conj w) 2) (mirror-point-of 𝓞 X)) (sum 𝓞 A (λ t. X (2 * t + 1))) s
 
   pub forward4 : (p : ℕ → R) (s : ℕ) → s < suc A → ahead 𝟙 (unfold4 𝓞 conj i half A p) s ≡ dft 𝓞 (2 * A) w (unfold4 𝓞 conj i half A p) s
   forward4 p s l = finish-is 𝓡 A w (conj w) half (λ s. i ⊗ tau s) turn inverse halves (tan-up 𝓡 𝓢 𝓐) 𝟙 _ (one-mul 𝟙) (rule4 p) s l

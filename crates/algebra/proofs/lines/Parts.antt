@@ -2,13 +2,12 @@
 use mathlib.Core.Path.{_≡_, refl, sym, _∙_, ap, ap₂}
 use mathlib.Core.List.{[], _∷_}
 use Prim.Native.Nat.{ℕ, zero, suc}
-use Rattle.algebra.specs.ring.Ring.{Ops, sum}
+use Rattle.algebra.specs.ring.Ring.{Ops, sum, gauss, conj as conjG, imag}
 use Rattle.algebra.specs.ring.RingLaws.{CRing, Star}
-use Rattle.algebra.specs.lines.Line.{re, im}
+use Rattle.algebra.specs.lines.Kinds.{re, im}
 use Rattle.algebra.proofs.ring.Laws.{inverse-unique, neg-mul, self-neg}
 use Rattle.algebra.proofs.ring.Solver.{ring, quote, linear}
 use Rattle.algebra.proofs.ring.Conj.{conj-zero}
-use Rattle.algebra.specs.ring.Gauss.{gauss, conj as conjG, imag}
 use Rattle.algebra.proofs.ring.Paths.{pair}
 
 module _ {R : Type 0} {𝓞 : Ops R} {conj : R → R} {i : R} (𝓡 : CRing 𝓞) (𝓢 : Star 𝓞 conj i) where

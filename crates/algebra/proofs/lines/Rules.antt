@@ -6,12 +6,11 @@ use Prim.Native.Nat.{ℕ, zero, suc, _+_, _*_, _-_, _/_, _%_, _<_}
 use native.Mathlib.Nat as N
 use native.Mathlib.Omega.{arith}
 use native.Mathlib.Decide.{ℕ-discrete, decLt}
-use Rattle.algebra.specs.ring.Ring.{Ops, pow}
+use Rattle.algebra.specs.ring.Ring.{Ops, pow, dft}
 use Rattle.algebra.specs.ring.RingLaws.{CRing, Star}
-use Rattle.algebra.specs.fourier.Fourier.{Root, dft}
-use Rattle.algebra.specs.fourier.Axis.{Axis, AxisLaws}
-use Rattle.algebra.specs.lines.Line.{Reflected, Hermitian, AntiHermitian, Alternating, Symmetric, Antisymmetric, sign, re, im, unit, unfold-by, weave, pack-by, unfoldB1, unfoldB2, unfoldB3, unfold4, unfold5, unfoldA1, unfoldA2, unfoldA3}
-use Rattle.algebra.specs.lines.Kinds.{Kind, Kind.plain, Kind.hermitian, Kind.antihermitian, Kind.alternating, Kind.symmetric, Kind.antisymmetric, slots, unfoldBefore, unfoldAfter, packBefore, packAfter, RuleBefore, RuleAfter}
+use Rattle.algebra.specs.fourier.Axis.{Root, Axis, AxisLaws}
+use Rattle.algebra.specs.lines.Kinds.{Reflected, sign, re, im, unit, unfold-by, interleave, pack-by, Kind, Kind.plain, Kind.hermitian, Kind.antihermitian, Kind.alternating, Kind.symmetric, Kind.antisymmetric, slots, unfoldBefore, unfoldAfter, packBefore, packAfter, RuleBefore, RuleAfter}
+use Rattle.algebra.specs.lines.Packings.{Hermitian, AntiHermitian, Alternating, Symmetric, Antisymmetric, unfoldB1, unfoldB2, unfoldB3, unfold4, unfold5, unfoldA1, unfoldA2, unfoldA3}
 use Rattle.algebra.proofs.ring.Laws.{along, mul-neg, mul-left-comm, neg-neg, neg-zero, self-neg, pow-add}
 use Rattle.algebra.proofs.ring.StarRules.{quote-star}
 use Rattle.algebra.proofs.ring.Solver.{ring, quote, linear}
@@ -20,7 +19,7 @@ use Rattle.algebra.proofs.ring.Conj.{conj-sign}
 use Rattle.algebra.proofs.fourier.Properties.{dft-symmetric, dft-antisymmetric, hermitian-real, antihermitian-imaginary, real-hermitian, imaginary-antihermitian, alternating-halves, halves-alternating}
 use Rattle.algebra.proofs.lines.Parts.{re-real, im-real, parts, re-pair, im-pair, im-turn, imaginary}
 use Rattle.algebra.proofs.fourier.Axis.{conj-turn, conj-inverse, conj-cycle, conj-part}
-use Rattle.algebra.proofs.lines.Unfold.{three-lt, three-eq, three-gt, unfold-zero, unfold-low, unfold-middle, unfold-high, unfold-reflected, weave-all, weave-even, weave-odd, at-mirror, at-zero}
+use Rattle.algebra.proofs.lines.Unfold.{three-lt, three-eq, three-gt, unfold-zero, unfold-low, unfold-middle, unfold-high, unfold-reflected, interleave-all, interleave-even, interleave-odd, at-mirror, at-zero}
 
 module _ {R : Type 0} {𝓞 : Ops R} {conj : R → R} {i : R} (𝓡 : CRing 𝓞) (𝓢 : Star 𝓞 conj i) {half : R} {axis : Axis R} {tau : ℕ → R} (𝓐 : AxisLaws 𝓞 conj i half axis tau) where
   open Ops 𝓞 using (add as _⊕_, mul as _⊗_, neg as ⊖_, zer as 𝟘, one as 𝟙)
@@ -97,27 +96,27 @@ module _ {R : Type 0} {𝓞 : Ops R} {conj : R → R} {i : R} (𝓡 : CRing 𝓞
   before-rule antisymmetric p = unfold5-rule (λ t. p (t - 1))
 
   -- a line of two real parts, one after the other
-  weave-real : (f g : ℕ → R) → ((s : ℕ) → conj (f s) ≡ f s) → ((s : ℕ) → conj (g s) ≡ g s) → (s : ℕ) → conj (weave f g s) ≡ weave f g s
-  unfolding weave
-  weave-real f g rf rg s = go (s % 2)
+  interleave-real : (f g : ℕ → R) → ((s : ℕ) → conj (f s) ≡ f s) → ((s : ℕ) → conj (g s) ≡ g s) → (s : ℕ) → conj (interleave f g s) ≡ interleave f g s
+  unfolding interleave
+  interleave-real f g rf rg s = go (s % 2)
     where
       go : (k : ℕ) → conj (elim k as (λ k. R) [ zero ↦ f (s / 2) | suc k ↦ g (s / 2) ]) ≡ (elim k as (λ k. R) [ zero ↦ f (s / 2) | suc k ↦ g (s / 2) ])
       go zero = rf _
       go (suc k) = rg _
 
-  weave-mul : (c : R) (f g : ℕ → R) (s : ℕ) → weave (λ s. c ⊗ f s) (λ s. c ⊗ g s) s ≡ c ⊗ weave f g s
-  unfolding weave
-  weave-mul c f g s = go (s % 2)
+  interleave-mul : (c : R) (f g : ℕ → R) (s : ℕ) → interleave (λ s. c ⊗ f s) (λ s. c ⊗ g s) s ≡ c ⊗ interleave f g s
+  unfolding interleave
+  interleave-mul c f g s = go (s % 2)
     where
       go : (k : ℕ) → (elim k as (λ k. R) [ zero ↦ c ⊗ f (s / 2) | suc k ↦ c ⊗ g (s / 2) ]) ≡ c ⊗ (elim k as (λ k. R) [ zero ↦ f (s / 2) | suc k ↦ g (s / 2) ])
       go zero = refl
       go (suc k) = refl
 
   pub unfoldA1-rule : (q : ℕ → R) (s : ℕ) → conj (unfoldA1 𝓞 conj i half A q s) ≡ unfoldA1 𝓞 conj i half A q s
-  unfoldA1-rule q = weave-real _ _ (λ s. re-real 𝓡 𝓢 half halves _) (λ s. im-real 𝓡 𝓢 half halves _)
+  unfoldA1-rule q = interleave-real _ _ (λ s. re-real 𝓡 𝓢 half halves _) (λ s. im-real 𝓡 𝓢 half halves _)
 
   pub unfoldA2-is : (q : ℕ → R) (s : ℕ) → unfoldA2 𝓞 conj i half A q s ≡ i ⊗ unfoldA1 𝓞 conj i half A q s
-  unfoldA2-is q s = weave-mul i _ _ s
+  unfoldA2-is q s = interleave-mul i _ _ s
 
   pub unfoldA3-low : (q : ℕ → R) (s : ℕ) → s < A → unfoldA3 𝓞 conj i half A q s ≡ q s
   unfoldA3-low q s l = three-lt s A _ _ _ l
@@ -232,8 +231,8 @@ module _ {R : Type 0} {𝓞 : Ops R} {conj : R → R} {i : R} (𝓡 : CRing 𝓞
   pub after-pack : (k : Kind) (Z : ℕ → R) → RuleAfter 𝓞 conj i half A k Z → (s : ℕ) → s < 2 * A → unfoldAfter 𝓞 conj i half A k (packAfter 𝓞 conj i half A k Z) s ≡ Z s
   unfolding unfoldAfter packAfter
   after-pack plain Z r = λ s l. refl
-  after-pack hermitian Z r = λ s l. sym (weave-all _ _ A Z (λ s l. sym (re-pair 𝓡 𝓢 half halves _ _ (r (2 * s) (omega arith)) (r (2 * s + 1) (omega arith)))) (λ s l. sym (im-pair 𝓡 𝓢 half halves _ _ (r (2 * s) (omega arith)) (r (2 * s + 1) (omega arith)))) s l)
-  after-pack antihermitian Z r = λ s l. sym (weave-all _ _ A Z
+  after-pack hermitian Z r = λ s l. sym (interleave-all _ _ A Z (λ s l. sym (re-pair 𝓡 𝓢 half halves _ _ (r (2 * s) (omega arith)) (r (2 * s + 1) (omega arith)))) (λ s l. sym (im-pair 𝓡 𝓢 half halves _ _ (r (2 * s) (omega arith)) (r (2 * s + 1) (omega arith)))) s l)
+  after-pack antihermitian Z r = λ s l. sym (interleave-all _ _ A Z
       (λ s l. sym (ap (λ y. i ⊗ y) (pair-re _ _ (real-im _) (real-im _)) ∙ imaginary 𝓡 𝓢 half halves _ (r (2 * s) (omega arith))))
       (λ s l. sym (ap (λ y. i ⊗ y) (pair-im _ _ (real-im _) (real-im _)) ∙ imaginary 𝓡 𝓢 half halves _ (r (2 * s + 1) (omega arith)))) s l)
   after-pack alternating Z r = λ s l. go s l (decLt s A)
@@ -273,8 +272,8 @@ module _ {R : Type 0} {𝓞 : Ops R} {conj : R → R} {i : R} (𝓡 : CRing 𝓞
   pub pack-after-unfolded : (k : Kind) (q : ℕ → R) (s : ℕ) → s < slots k A → packAfter 𝓞 conj i half A k (unfoldAfter 𝓞 conj i half A k q) s ≡ q s
   unfolding slots unfoldAfter packAfter
   pack-after-unfolded plain q s l = refl
-  pack-after-unfolded hermitian q s l = ap₂ (λ x y. x ⊕ i ⊗ y) (weave-even _ _ s) (weave-odd _ _ s) ∙ parts 𝓡 𝓢 half halves (q s)
-  pack-after-unfolded antihermitian q s l = ap₂ (λ x y. x ⊕ i ⊗ y) (ap ℑ (weave-even _ _ s) ∙ im-turn 𝓡 𝓢 half halves _ (re-real 𝓡 𝓢 half halves _)) (ap ℑ (weave-odd _ _ s) ∙ im-turn 𝓡 𝓢 half halves _ (im-real 𝓡 𝓢 half halves _)) ∙ parts 𝓡 𝓢 half halves (q s)
+  pack-after-unfolded hermitian q s l = ap₂ (λ x y. x ⊕ i ⊗ y) (interleave-even _ _ s) (interleave-odd _ _ s) ∙ parts 𝓡 𝓢 half halves (q s)
+  pack-after-unfolded antihermitian q s l = ap₂ (λ x y. x ⊕ i ⊗ y) (ap ℑ (interleave-even _ _ s) ∙ im-turn 𝓡 𝓢 half halves _ (re-real 𝓡 𝓢 half halves _)) (ap ℑ (interleave-odd _ _ s) ∙ im-turn 𝓡 𝓢 half halves _ (im-real 𝓡 𝓢 half halves _)) ∙ parts 𝓡 𝓢 half halves (q s)
   pack-after-unfolded alternating q s l = unfoldA3-low q s l
   pack-after-unfolded symmetric q s l = unfold4-at q s l
   pack-after-unfolded antisymmetric q s l = unfold5-at q s l

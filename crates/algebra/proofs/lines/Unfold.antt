@@ -7,7 +7,8 @@ use native.Mathlib.Decide.{ℕ-discrete, decLt}
 use lib.Dec.{isEq, isLe, eqb→eq, eqb-refl, le→leb, leb→le, T}
 use Rattle.algebra.specs.ring.Ring.{Ops}
 use Rattle.algebra.specs.ring.RingLaws.{CRing}
-use Rattle.algebra.specs.lines.Line.{unfoldB3, three, unfold-by, weave, Reflected}
+use Rattle.algebra.specs.lines.Kinds.{three, unfold-by, interleave, Reflected}
+use Rattle.algebra.specs.lines.Packings.{unfoldB3}
 use Rattle.algebra.proofs.fourier.Transform.{sign-even, sign-odd}
 use Rattle.algebra.proofs.ring.Laws.{neg-one-mul, along}
 
@@ -89,26 +90,26 @@ module _ {R : Type 0} (A : ℕ) (first middle : R) (f : ℕ → R → R) (p : �
         go u e (no h) (no d) = unfold-low u (omega arith) (omega arith) ∙ sym (twice u (suc t) (p u) (omega arith)) ∙ ap (f (suc t)) (sym (unfold-high (suc t) u (omega arith) e))
 
 module _ {R : Type 0} (f g : ℕ → R) where
-  pub weave-even : (s : ℕ) → weave f g (2 * s) ≡ f s
-  unfolding weave
-  weave-even s = go (2 * s % 2) (omega arith) ∙ ap f (omega arith)
+  pub interleave-even : (s : ℕ) → interleave f g (2 * s) ≡ f s
+  unfolding interleave
+  interleave-even s = go (2 * s % 2) (omega arith) ∙ ap f (omega arith)
     where
       go : (k : ℕ) → k ≡ 0 → (elim k as (λ k. R) [ zero ↦ f (2 * s / 2) | suc k ↦ g (2 * s / 2) ]) ≡ f (2 * s / 2)
       go zero e = refl
       go (suc k) e = absurd (omega arith)
 
-  pub weave-odd : (s : ℕ) → weave f g (2 * s + 1) ≡ g s
-  unfolding weave
-  weave-odd s = go ((2 * s + 1) % 2) (omega arith) ∙ ap g (omega arith)
+  pub interleave-odd : (s : ℕ) → interleave f g (2 * s + 1) ≡ g s
+  unfolding interleave
+  interleave-odd s = go ((2 * s + 1) % 2) (omega arith) ∙ ap g (omega arith)
     where
       go : (k : ℕ) → k ≡ 1 → (elim k as (λ k. R) [ zero ↦ f ((2 * s + 1) / 2) | suc k ↦ g ((2 * s + 1) / 2) ]) ≡ g ((2 * s + 1) / 2)
       go zero e = absurd (omega arith)
       go (suc k) e = refl
 
   -- a line below 2n is known from its even and its odd places
-  pub weave-all : (n : ℕ) (X : ℕ → R) → ((s : ℕ) → s < n → X (2 * s) ≡ f s) → ((s : ℕ) → s < n → X (2 * s + 1) ≡ g s) → (t : ℕ) → t < 2 * n → X t ≡ weave f g t
-  unfolding weave
-  weave-all n X e o t l = go (t % 2) refl
+  pub interleave-all : (n : ℕ) (X : ℕ → R) → ((s : ℕ) → s < n → X (2 * s) ≡ f s) → ((s : ℕ) → s < n → X (2 * s + 1) ≡ g s) → (t : ℕ) → t < 2 * n → X t ≡ interleave f g t
+  unfolding interleave
+  interleave-all n X e o t l = go (t % 2) refl
     where
       go : (k : ℕ) → t % 2 ≡ k → X t ≡ (elim k as (λ k. R) [ zero ↦ f (t / 2) | suc k ↦ g (t / 2) ])
       go zero h = ap X (omega arith) ∙ e (t / 2) (omega arith)

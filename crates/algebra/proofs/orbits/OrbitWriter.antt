@@ -6,7 +6,7 @@ use mathlib.Core.List.{List, [], _∷_}
 use lib.Dec.{T, T-not, not-T}
 use Rattle.algebra.specs.orbits.Orbit.{Mem, first, later, Acts, recordAll}
 use Rattle.algebra.specs.orbits.OrbitLaws.{Action, Closed, Obeying, Accepted, Off, OffAll, Sound}
-use Rattle.algebra.specs.cells.CellTests.{lowest, recordsOf}
+use Rattle.algebra.specs.cells.Cell.{lowest, recordsOf}
 use Rattle.algebra.proofs.ring.Members.{none}
 use Rattle.algebra.proofs.ring.Bool.{and-l, and-r, and-i, split, every-at, every-by}
 use Rattle.algebra.proofs.orbits.Orbits as O

@@ -8,7 +8,7 @@ use native.Mathlib.Omega.{arith}
 use native.Mathlib.Decide.{ℕ-discrete}
 use lib.Dec.{T}
 use Rattle.algebra.specs.orbits.Orbit.{Mem, first, later}
-use Rattle.algebra.specs.cells.CellTests.{imply, below, every}
+use Rattle.algebra.specs.cells.Cell.{imply, below, every}
 
 pub and-l : (a b : Bool) → T (a && b) → T a
 and-l true b t = tt

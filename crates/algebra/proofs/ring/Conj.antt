@@ -1,9 +1,9 @@
 -- A conjugation goes through powers, numerals, sums and transforms.
 use mathlib.Core.Path.{_≡_, sym, _∙_, ap, ap₂}
 use Prim.Native.Nat.{ℕ, zero, suc, _*_}
-use Rattle.algebra.specs.ring.Ring.{Ops, pow, cast, sum}
+use Rattle.algebra.specs.ring.Ring.{Ops, pow, sum, dft}
+use Rattle.algebra.specs.fourier.Axis.{cast}
 use Rattle.algebra.specs.ring.RingLaws.{CRing, Star}
-use Rattle.algebra.specs.fourier.Fourier.{dft}
 use Rattle.algebra.proofs.ring.Laws.{add-left-cancel, add-zero, inverse-unique}
 use Rattle.algebra.proofs.fourier.Sums.{sum-cong}
 

@@ -1,9 +1,8 @@
 -- R[i] is a commutative ring with a conjugation, where R is one.
 use mathlib.Core.Path.{refl}
 use mathlib.Core.List.{[], _∷_}
-use Rattle.algebra.specs.ring.Ring.{Ops}
+use Rattle.algebra.specs.ring.Ring.{Ops, gauss, conj, imag}
 use Rattle.algebra.specs.ring.RingLaws.{CRing, Star}
-use Rattle.algebra.specs.ring.Gauss.{gauss, conj, imag}
 use Rattle.algebra.proofs.ring.Paths.{pair}
 use Rattle.algebra.proofs.ring.Solver.{ring, quote}
 

@@ -2,7 +2,8 @@
 use mathlib.Core.Path.{_≡_, sym, _∙_, ap}
 use Prim.Native.Nat.{ℕ, zero, suc, _+_, _*_}
 use native.Mathlib.Nat as N
-use Rattle.algebra.specs.ring.Ring.{Ops, pow, cast}
+use Rattle.algebra.specs.ring.Ring.{Ops, pow}
+use Rattle.algebra.specs.fourier.Axis.{cast}
 use Rattle.algebra.specs.ring.RingLaws.{CRing}
 
 -- a function at two equal numbers, both written, so that `omega` can prove them equal

@@ -5,7 +5,8 @@ use mathlib.Core.List.{List, [], _∷_}
 use Prim.Native.Nat.{ℕ, zero, suc, _+_, _*_, _-_, compare, Ordering, Ordering·lt, Ordering·eq, Ordering·gt}
 use native.Mathlib.Nat as N
 use lib.Dec.{isEq, eqb→eq, T}
-use Rattle.algebra.specs.ring.Ring.{Ops, pow, cast}
+use Rattle.algebra.specs.ring.Ring.{Ops, pow}
+use Rattle.algebra.specs.fourier.Axis.{cast}
 use Rattle.algebra.specs.ring.RingLaws.{CRing}
 use Rattle.algebra.proofs.ring.Laws.{add-zero, add-neg, mul-one, right-distrib, add-left-comm, mul-left-comm, neg-sum, mul-zero, zero-mul, mul-neg, neg-mul, neg-neg, neg-zero, add-neg-cancel-left, add-left-cancel, pow-add, cast-add, cast-mul}
 

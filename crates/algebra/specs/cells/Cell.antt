@@ -1,10 +1,6 @@
 -- Cells of three even axes: indices going round, operations, groups, which factors and points a volume stores, the map as a triple sum and its inverse.
 -- An axis is known by its half a: its length is 2 * a.
-use mathlib.Core.Path.{_≡_}
-use mathlib.Core.Bool.{Bool, true, false, _&&_, cond}
-use mathlib.Core.List.{List, [], _∷_, _++_, map}
-use Prim.Native.Nat.{ℕ, suc, _+_, _*_, _-_, _%_, _≤_, _<_}
-use lib.Dec.{eqb, leb, ltb}
+use Rattle.algebra.specs.Prelude.{_≡_, Bool, true, false, _&&_, cond, eqb, ltb, ℕ, suc, _+_, _*_, _-_, _%_, _<_, List, [], _∷_, _++_, map, getD, _||_, not, leb, zero}
 use Rattle.algebra.specs.ring.Ring.{Ops, pow, sum}
 use Rattle.algebra.specs.fourier.Axis.{Axis}
 use Rattle.algebra.specs.orbits.Orbit.{Acts}
@@ -83,15 +79,7 @@ full g = twice (ops g)
 abbrev pub sameJ : J → J → Bool
 sameJ i j = eqb (i .0) (j .0) && (eqb (i .1) (j .1) && eqb (i .2) (j .2))
 
--- the operation along l alone
-abbrev pub lineSym : Group → Sym
-lineSym P1 = one
-lineSym P2₁ = sym true false false true false false true
-lineSym Pm = sym false false false true false false false
-lineSym Pa = sym false false false true true false false
-lineSym P2₁2₁2₁ = sym true false false true true false true
-
--- the count of l that the packed factors (the paper's box) store, and the stored places
+-- the count of l that the packed factors (the paper's box) store
 unfoldable pub span : Group → ℕ → ℕ
 span P1 c = 2 * c
 span P2₁ c = suc c
@@ -99,17 +87,7 @@ span Pm c = suc c
 span Pa c = suc c
 span P2₁2₁2₁ c = suc c
 
-abbrev pub Stored : Group → J → J → Type 0
-Stored g a j = (j .1 ≤ a .1) × (j .2 < span g (a .2))
-
--- the operation to read a factor by: k above B through Friedel, then l beyond the range by the line's rule
-unfoldable pub lineOperation : Group → J → J → Sym
-lineOperation g a j = cond (ltb (j .2) (span g (a .2))) one (lineSym g)
-
-unfoldable pub factorOperation : Group → J → J → Sym
-factorOperation g a j = cond (leb (j .1) (a .1)) (lineOperation g a j) (lineOperation g a (imageOf a friedel j) · friedel)
-
--- the stored planes of a map (the paper's held planes), the operation that leads to them, and the one to read a point by
+-- the stored planes of a map (the paper's held planes), the operation that leads to them (the first but the identity), and the one to read a point by
 unfoldable pub planes : Group → ℕ → ℕ
 planes P1 c = 2 * c
 planes P2₁ c = c
@@ -118,14 +96,7 @@ planes Pa c = suc c
 planes P2₁2₁2₁ c = c
 
 abbrev pub planeSym : Group → Sym
-planeSym P1 = one
-planeSym P2₁ = sym false true true false false false true
-planeSym Pm = sym false false false true false false false
-planeSym Pa = sym false false false true true false false
-planeSym P2₁2₁2₁ = sym false true true false true false true
-
-abbrev pub StoredPoint : Group → J → J → Type 0
-StoredPoint g a x = x .2 < planes g (a .2)
+planeSym g = getD (ops g) 1 one
 
 unfoldable pub pointOperation : Group → J → J → Sym
 pointOperation g a x = cond (ltb (x .2) (planes g (a .2))) one (planeSym g)
@@ -135,12 +106,9 @@ abbrev pub Cell : Type 0 → Type 0
 Cell R = ℕ → ℕ → ℕ → R
 
 module _ {R : Type 0} where
-  -- at an index; and half the lengths of three axes
+  -- at an index
   abbrev pub at : Cell R → J → R
   at F j = F (j .0) (j .1) (j .2)
-
-  abbrev pub halves : Axis R → Axis R → Axis R → J
-  halves X Y Z = (X .half, Y .half, Z .half)
 
 module _ {R : Type 0} (𝓞 : Ops R) where
   open Ops 𝓞 using (mul as _⊗_, neg as ⊖_, one as 𝟙)
@@ -182,13 +150,69 @@ module _ {R : Type 0} (𝓞 : Ops R) (conj : R → R) where
   unfoldable pub impliedValue : Sym → J → R → R
   impliedValue (sym c f g h p q r) j v = star conj c (sgn 𝓞 p (j .0) ⊗ (sgn 𝓞 q (j .1) ⊗ (sgn 𝓞 r (j .2) ⊗ v)))
 
-  -- factors obey an operation at every index
-  abbrev pub Obeys : J → Sym → Cell R → Type 0
-  Obeys a s F = (j : J) → Inside a j → at F (imageOf a s j) ≡ impliedValue s j (at F j)
-
-  -- the action on factors, and that on maps
+  -- the action on factors
   unfoldable pub factorActs : J → Acts Sym J R
   factorActs a = record { mul = _·_; one = one; same = sameJ; image = imageOf a; implied = impliedValue; zer = 𝟘 }
 
-  unfoldable pub mapActs : J → Acts Sym J R
-  mapActs a = record { mul = _·_; one = one; same = sameJ; image = pointImage a; implied = λ s j v. impliedDensity conj s v; zer = 𝟘 }
+-- ---- Tests over places and operations: refusal 12 over any values with an equality test; the places of a cell in their order, and the records of its orbits.
+
+-- tests of tests: an implication; every number below n; every member of a list
+abbrev pub imply : Bool → Bool → Bool
+imply true b = b
+imply false b = true
+
+unfoldable pub below : ℕ → (ℕ → Bool) → Bool
+below zero P = true
+below (suc n) P = below n P && P n
+
+unfoldable pub every : {S : Type 0} → List S → (S → Bool) → Bool
+every [] P = true
+every (s ∷ l) P = P s && every l P
+
+-- every place h < n, k < m, l < q
+unfoldable pub everyPlace : ℕ → ℕ → ℕ → (J → Bool) → Bool
+everyPlace n m q P = below n (λ h. below m (λ k. below q (λ l. P (h, k, l))))
+
+-- a factor is stored, and a point
+abbrev pub storedT : Group → J → J → Bool
+storedT g a j = leb (j .1) (a .1) && ltb (j .2) (span g (a .2))
+
+abbrev pub storedPointT : Group → J → J → Bool
+storedPointT g a x = ltb (x .2) (planes g (a .2))
+
+module _ {R : Type 0} (𝓞 : Ops R) (conj : R → R) (eq : R → R → Bool) (g : Group) (a : J) where
+  -- 12: no image of the record falls on its own place with another value
+  unfoldable pub agreesT : J → R → Bool
+  agreesT j v = every (full g) (λ s. imply (sameJ (imageOf a s j) j) (eq (impliedValue 𝓞 conj s j v) v))
+
+-- the places of the cell, rising in h, then k, then l
+unfoldable pub lineFrom : ℕ → ℕ → ℕ → ℕ → List J
+lineFrom h k l zero = []
+lineFrom h k l (suc n) = (h, k, l) ∷ lineFrom h k (suc l) n
+
+unfoldable pub planeFrom : ℕ → ℕ → ℕ → ℕ → List J
+planeFrom q h k zero = []
+planeFrom q h k (suc n) = lineFrom h k 0 q ++ planeFrom q h (suc k) n
+
+unfoldable pub cellFrom : ℕ → ℕ → ℕ → ℕ → List J
+cellFrom q m h zero = []
+cellFrom q m h (suc n) = planeFrom q h 0 m ++ cellFrom q m (suc h) n
+
+abbrev pub placesOf : J → List J
+placesOf a = cellFrom (2 * a .2) (2 * a .1) 0 (2 * a .0)
+
+-- the order of the places
+abbrev pub lexLe : J → J → Bool
+lexLe i j = ltb (i .0) (j .0) || (eqb (i .0) (j .0) && (ltb (i .1) (j .1) || (eqb (i .1) (j .1) && leb (i .2) (j .2))))
+
+module _ {S J R : Type 0} (𝓐 : Acts S J R) (le : J → J → Bool) (eq : R → R → Bool) (G : List S) where
+  open Acts 𝓐 using (image, zer)
+
+  -- the lowest place of its orbit
+  abbrev pub lowest : J → Bool
+  lowest j = every G (λ s. le j (image s j))
+
+  -- a record for each orbit whose value is not zero, at its lowest place
+  unfoldable pub recordsOf : (J → R) → List J → List (J × R)
+  recordsOf F [] = []
+  recordsOf F (j ∷ l) = cond (lowest j && not (eq (F j) zer)) ((j, F j) ∷ recordsOf F l) (recordsOf F l)

@@ -1,10 +1,14 @@
 -- The three passes of synthesis and of analysis, each along one axis, and what a cell of a group is.
+use mathlib.Core.Path.{_≡_}
 use Prim.Native.Nat.{_*_}
-use Rattle.algebra.specs.ring.Ring.{Ops, sum}
-use Rattle.algebra.specs.fourier.Fourier.{dft}
+use Rattle.algebra.specs.ring.Ring.{Ops, sum, dft}
 use Rattle.algebra.specs.fourier.Axis.{Axis}
-use Rattle.algebra.specs.orbits.Orbit.{Mem}
-use Rattle.algebra.specs.cells.Cell.{J, Group, full, Cell, Obeys, Sym}
+use Rattle.algebra.specs.orbits.Orbit.{Mem, Acts}
+use Rattle.algebra.specs.cells.Cell.{J, Inside, Group, full, Cell, Sym, one, _·_, sameJ, at, imageOf, pointImage, impliedValue, impliedDensity}
+
+-- half the lengths of three axes
+abbrev pub halves : {R : Type 0} → Axis R → Axis R → Axis R → J
+halves X Y Z = (X .half, Y .half, Z .half)
 
 module _ {R : Type 0} (𝓞 : Ops R) where
   -- synthesis, along l: (h, k, z); then along h: (x, k, z); then along k: the map
@@ -22,7 +26,7 @@ module _ {R : Type 0} (𝓞 : Ops R) where
   total X Y Z F = sum 𝓞 (2 * X .half) (λ h. sum 𝓞 (2 * Y .half) (λ k. sum 𝓞 (2 * Z .half) (λ l. F h k l)))
 
 module _ {R : Type 0} (𝓞 : Ops R) (conj : R → R) where
-  open Ops 𝓞 using (mul as _⊗_)
+  open Ops 𝓞 using (mul as _⊗_, zer as 𝟘)
 
   infixl 70 _⊗_
   -- analysis, along k, then h, then l
@@ -35,6 +39,14 @@ module _ {R : Type 0} (𝓞 : Ops R) (conj : R → R) where
   unfoldable pub backL : Axis R → Cell R → Cell R
   backL Z T h k l = Z .part ⊗ dft 𝓞 (2 * Z .half) (conj (Z .w)) (λ z. T h k z) l
 
+  -- factors obey an operation at every index
+  abbrev pub Obeys : J → Sym → Cell R → Type 0
+  Obeys a s F = (j : J) → Inside a j → at F (imageOf a s j) ≡ impliedValue 𝓞 conj s j (at F j)
+
   -- obeys group and Friedel
   abbrev pub Lawful : J → Group → Cell R → Type 0
-  Lawful a g F = (s : Sym) → Mem s (full g) → Obeys 𝓞 conj a s F
+  Lawful a g F = (s : Sym) → Mem s (full g) → Obeys a s F
+
+  -- the action on maps
+  unfoldable pub mapActs : J → Acts Sym J R
+  mapActs a = record { mul = _·_; one = one; same = sameJ; image = pointImage a; implied = λ s j v. impliedDensity conj s v; zer = 𝟘 }

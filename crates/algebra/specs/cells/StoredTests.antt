@@ -2,8 +2,7 @@
 use mathlib.Core.Bool.{Bool}
 use Prim.Native.Nat.{suc, _*_}
 use Rattle.algebra.specs.ring.Ring.{Ops}
-use Rattle.algebra.specs.cells.Cell.{J, Group, ops, full, imageOf, pointImage, span, planes, impliedValue, impliedDensity}
-use Rattle.algebra.specs.cells.CellTests.{imply, every, everyPlace, storedT, storedPointT}
+use Rattle.algebra.specs.cells.Cell.{J, Group, ops, full, imageOf, pointImage, span, planes, impliedValue, impliedDensity, imply, every, everyPlace, storedT, storedPointT}
 
 module _ {R : Type 0} (𝓞 : Ops R) (conj : R → R) (eq : R → R → Bool) (g : Group) (a : J) where
   -- 14, of packed factors, and of a map: every stored image has the implied value

@@ -1,6 +1,5 @@
 -- Operations that act on places and on values, whatever the places, and records: a value at a place and the implied value at each image.
-use mathlib.Core.Bool.{Bool, cond}
-use mathlib.Core.List.{List, [], _∷_}
+use Rattle.algebra.specs.Prelude.{Bool, cond, List, [], _∷_}
 
 -- the members of a list
 pub data Mem {S : Type 0} (s : S) : List S → Type 0 where

@@ -4,7 +4,7 @@ use native.Mathlib.Omega.{arith}
 use lib.Dec.{lit<}
 use Rattle.algebra.specs.ring.Ring.{Ops, pow}
 use Rattle.numbers.specs.Value.{Value, field}
-use Rattle.roots.specs.Root.{tableRoot}
+use Rattle.roots.specs.Table.{tableRoot}
 use Rattle.butterflies.specs.declared.FourSums.{FourSums}
 use Rattle.numbers.specs.Unreduced.{meant}
 use Rattle.numbers.proofs.unreduced.Unreduced.{rooms}

@@ -5,20 +5,19 @@ use mathlib.Core.List.{List, [], _∷_}
 use Prim.Native.Nat.{ℕ, _+_, _-_, _≤_, _<_}
 use native.Mathlib.Omega.{arith}
 use lib.Dec.{lit<}
-use Rattle.algebra.specs.ring.Ring.{Ops, pow}
+use Rattle.algebra.specs.ring.Ring.{Ops, pow, residues, gauss, imag}
 use Rattle.algebra.specs.ring.RingLaws.{CRing, Star}
-use Rattle.algebra.specs.ring.Residue.{residues}
-use Rattle.algebra.specs.ring.Gauss.{gauss, imag}
-use Rattle.algebra.specs.ring.Gauss as Gauss
+use Rattle.algebra.specs.ring.Ring as Gauss
 use Rattle.algebra.proofs.ring.Laws.{mul-neg, pow-add}
 use Rattle.algebra.proofs.ring.Solver.{ring, linear, quote}
 use Rattle.algebra.proofs.fourier.Transform.{pow-across}
 use Rattle.algebra.proofs.ring.ResidueRing.{residue-neg}
 use Rattle.algebra.proofs.ring.Conj.{conj-pow}
 use Rattle.numbers.specs.declared.Pair.{Pair}
-use Rattle.numbers.specs.Value.{prime, IsModulus, Value, Residue, field, conj, i, res, real, valueOf, pairOf, Small}
+use Rattle.numbers.specs.Value.{prime, IsModulus, Value, Residue, field, conj, i, real, valueOf, pairOf}
+use Rattle.numbers.specs.Bounds.{res, Small}
 use Rattle.numbers.specs.Value as Value
-use Rattle.roots.specs.Root.{entryAt, tableRoot, RootTable}
+use Rattle.roots.specs.Table.{entryAt, tableRoot, RootTable}
 use Rattle.numbers.proofs.Primes.{prime-least, prime-most}
 use Rattle.numbers.proofs.Residues.{val-res}
 use Rattle.numbers.proofs.RealValues.{real-neg, parts-value}

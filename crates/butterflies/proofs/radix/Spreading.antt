@@ -8,7 +8,7 @@ use Rattle.algebra.proofs.fourier.Sums.{sum-cong}
 use Rattle.numbers.specs.declared.Pair.{Pair}
 use Rattle.numbers.specs.declared.Accumulator.{Accumulator}
 use Rattle.numbers.specs.Value.{prime, IsModulus, Value, pairOf}
-use Rattle.roots.specs.Root.{RootTable}
+use Rattle.roots.specs.Table.{RootTable}
 use Rattle.numbers.proofs.Values.{field-ring}
 use lib.ListN.{length}
 use Rattle.slices.specs.Pairs.{Below, put, puts}

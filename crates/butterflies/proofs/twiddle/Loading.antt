@@ -8,7 +8,7 @@ use Rattle.algebra.proofs.fourier.Transform.{pow-zero}
 use Rattle.numbers.specs.declared.Pair.{Pair}
 use Rattle.numbers.specs.declared.Accumulator.{Accumulator}
 use Rattle.numbers.specs.Value.{Value, field, valueOf}
-use Rattle.roots.specs.Root.{entryAt, tableRoot, RootTable}
+use Rattle.roots.specs.Table.{entryAt, tableRoot, RootTable}
 use Rattle.numbers.proofs.Values.{field-ring}
 use Rattle.slices.specs.Pairs.{at}
 use Rattle.butterflies.proofs.quarter_turn.Powers.{root-value}

@@ -6,7 +6,7 @@ use native.Mathlib.Omega.{arith}
 use lib.ListN.{length, getD, take, drop}
 use lib.Seq.{getD-drop, drop-drop, take-append-seam, drop-append-seam}
 use Rattle.algebra.specs.cells.Cell.{J}
-use Rattle.algebra.specs.ring.Residue.{Res}
+use Rattle.algebra.specs.ring.Ring.{Res}
 use Rattle.algebra.specs.orbits.Orbit.{Mem, first, later}
 use Rattle.algebra.proofs.ring.Laws.{along}
 use Rattle.numbers.specs.Value.{prime, Value}

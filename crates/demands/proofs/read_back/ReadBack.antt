@@ -10,8 +10,7 @@ use lib.ListN.{length, take, drop}
 use lib.Seq.{take-append-seam}
 use lib.Dec.{ltb, eqb}
 use borrow.Author.Tests.{not-false, eqb-true, eqb-false, eq-eqb, lt-leb}
-use Rattle.algebra.specs.ring.Gauss.{gauss}
-use Rattle.algebra.specs.ring.Residue.{residues}
+use Rattle.algebra.specs.ring.Ring.{gauss, residues}
 use Rattle.algebra.specs.cells.Cell.{J, Inside, Cell, full, at, factorActs}
 use Rattle.algebra.specs.cells.CellSteps.{Lawful}
 use Rattle.algebra.specs.orbits.Orbit.{Mem, first as first-of, later, Acts, recordAll}
@@ -40,14 +39,14 @@ use Rattle.header.proofs.Headers.{all-three, sound-lists}
 use Rattle.header.proofs.Digits.{octal-of-digits}
 use Rattle.job.proofs.Jobs.{valid-sizes}
 use Rattle.file_format.specs.declared.FileRecord.{FileRecord}
-use Rattle.factor_file.specs.Reading.{recordsIn, fileStep}
+use Rattle.factor_file.specs.File.{recordsIn, fileStep, jobRecords, jobFile, writeTests, writeStep}
 use Rattle.model.specs.Model.{Model, zeroModel, modelVolume, modelFeed, begun}
 use Rattle.demands.specs.Demands.{entry, ReadsBack}
 use Rattle.demands.proofs.Openings.{opening-sound}
 use Rattle.demands.proofs.Starts.{file-gives}
 use Rattle.demands.proofs.AcceptedRecords.{actsOn, accepted-fed}
 use Rattle.file_format.specs.Format.{fileOf}
-use Rattle.factor_file.specs.Writing.{jobRecords, jobFile, written, writeTests, writeStep}
+use Rattle.output.specs.Output.{written}
 use Rattle.file_format.proofs.layout.FileParts.{length-header, length-body}
 use Rattle.factor_file.proofs.file.RecordLaws.{admitted-few}
 use Rattle.factor_file.proofs.writer.Files.{told, passed-on, valid-volume}

@@ -6,9 +6,7 @@ use Prim.Native.Nat.{ℕ, _<_}
 use native.Mathlib.Omega.{arith}
 use lib.Dec.{ltb, eqb}
 use borrow.Author.Tests.{lt-ltb, eqb-true}
-use Rattle.algebra.specs.ring.Ring.{pow}
-use Rattle.algebra.specs.ring.Gauss.{gauss}
-use Rattle.algebra.specs.ring.Residue.{residue, residues}
+use Rattle.algebra.specs.ring.Ring.{pow, residue, residues, gauss}
 use Rattle.algebra.specs.orbits.Orbit.{Mem, Mem.first as here, Mem.later}
 use Rattle.algebra.specs.cells.Cell.{J, full, planeSym, imageOf, flip, impliedValue, sgn, star}
 use Rattle.algebra.proofs.ring.Laws.{self-neg}
@@ -27,7 +25,7 @@ use Rattle.cell.specs.Operations.{Sizes}
 use Rattle.cell.specs.Volume.{groupOf}
 use Rattle.cell.specs.Consistency.{agreesWithItself}
 use Rattle.cell.proofs.Records.{agrees-iff}
-use Rattle.header.specs.Header.{headerCell}
+use Rattle.header.specs.Cells.{headerCell}
 use Rattle.job.specs.Job.{Header, axisTests, halfLengths, jobOf, collecting, p, within, index, recordTests, recordStep, unchanged}
 use Rattle.demands.specs.Specimens.{Specimen, records, Shown, Starred, transformed, recorded, taken, takenRecords, AllHold, Specimens}
 use Rattle.header.proofs.Headers.{sound-sizes}

@@ -1,11 +1,8 @@
 -- The records that are taken, computed from the definitions.
 use mathlib.Core.Path.{refl}
 use mathlib.Core.List.{map}
-use Rattle.algebra.specs.ring.Ring.{pow}
-use Rattle.algebra.specs.ring.Gauss.{gauss, conj, imag}
-use Rattle.algebra.specs.ring.Residue.{residue, residues}
-use Rattle.algebra.specs.cells.Cell.{negI, flip, imageOf, span, planes, sgn, star, impliedValue, factorActs}
-use Rattle.algebra.specs.cells.CellTests.{below, every, agreesT}
+use Rattle.algebra.specs.ring.Ring.{pow, residue, residues, gauss, conj, imag}
+use Rattle.algebra.specs.cells.Cell.{negI, flip, imageOf, span, planes, sgn, star, impliedValue, factorActs, below, every, agreesT}
 use Rattle.algebra.specs.cells.CellPack.{even}
 use Rattle.algebra.specs.orbits.Orbit.{written, recorded}
 use Rattle.numbers.specs.Value.{prime, valueOf, pairOf}

@@ -1,7 +1,7 @@
 -- The refusal's own number, or 0.
 use borrow.Author.Needs.{needs}
 use mathlib.Core.Path.{_∙_, sym, ap}
-use Rattle.line.specs.Line.{saidLine}
+use Rattle.line.specs.Answers.{saidLine}
 use Rattle.exported.proofs.line_number.Statement.{statement}
 use Rattle.exported.proofs.line_number.Tie as tie
 

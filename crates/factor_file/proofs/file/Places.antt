@@ -9,8 +9,7 @@ use native.Mathlib.Omega.{arith}
 use lib.ListN.{length, length-append}
 use borrow.Author.Tests.{lt-ltb, le-ltb}
 use Rattle.algebra.specs.orbits.Orbit.{Acts}
-use Rattle.algebra.specs.cells.Cell.{J}
-use Rattle.algebra.specs.cells.CellTests.{lineFrom, planeFrom, cellFrom, lowest, recordsOf}
+use Rattle.algebra.specs.cells.Cell.{J, lineFrom, planeFrom, cellFrom, lowest, recordsOf}
 use Rattle.algebra.proofs.ring.Laws.{along}
 use Rattle.slices.proofs.Pairs.{lt-or-ge}
 use Rattle.factor_file.specs.Steps.{placesFrom}

@@ -7,10 +7,8 @@ use native.Mathlib.Nat.{mul-le-mul}
 use native.Mathlib.Omega.{arith}
 use lib.ListN.{length, getD}
 use borrow.Author.Tests.{lt-ltb}
-use Rattle.algebra.specs.ring.Gauss.{gauss}
-use Rattle.algebra.specs.ring.Residue.{residue, residues}
-use Rattle.algebra.specs.cells.Cell.{J, Group, full, planes, at, factorActs}
-use Rattle.algebra.specs.cells.CellTests.{cellFrom, placesOf, lexLe, recordsOf, every}
+use Rattle.algebra.specs.ring.Ring.{gauss, residue, residues}
+use Rattle.algebra.specs.cells.Cell.{J, Group, full, planes, at, factorActs, cellFrom, placesOf, lexLe, recordsOf, every}
 use Rattle.numbers.specs.declared.Pair.{Pair}
 use Rattle.numbers.specs.Value.{prime, Value, field, conj, value, pairOf}
 use Rattle.slices.specs.Pairs.{Below}
@@ -21,10 +19,10 @@ use Rattle.cell.specs.Places.{allBelowAt}
 use Rattle.cell.specs.Consistency.{sameValue}
 use Rattle.cell.specs.TestSteps.{isZero}
 use Rattle.cell.proofs.OperationLaws.{by-group}
-use Rattle.output.specs.Output.{Wrote}
+use Rattle.output.specs.Written.{Wrote}
 use Rattle.output.proofs.Writing.{wrote-none, wrote-as}
 use Rattle.file_format.specs.Format.{recordBytes, allBytes}
-use Rattle.factor_file.specs.Writing.{recordsAt, isLowest}
+use Rattle.factor_file.specs.File.{recordsAt, isLowest}
 use Rattle.factor_file.proofs.orbits.PlaceOrder.{upper-not-lowest}
 use Rattle.factor_file.specs.Steps.{recordValue, pairBytes, recordsWith}
 use Rattle.file_format.proofs.layout.ByteLaws.{all-append}

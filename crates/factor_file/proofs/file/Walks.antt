@@ -4,13 +4,12 @@ use mathlib.Core.List.{List, [], _∷_}
 use Prim.Native.Nat.{ℕ, suc, _+_, _-_, _<_, _≤_}
 use native.Mathlib.Omega.{arith}
 use lib.ListN.{length, length-append}
-use Rattle.algebra.specs.cells.Cell.{J}
-use Rattle.algebra.specs.cells.CellTests.{cellFrom}
+use Rattle.algebra.specs.cells.Cell.{J, cellFrom}
 use Rattle.algebra.proofs.ring.Laws.{along}
 use Rattle.cell.specs.declared.operations.Index.{Index}
 use Rattle.cell.specs.declared.operations.UnitCell.{UnitCell}
 use Rattle.cell.specs.Operations.{tripleOf}
-use Rattle.output.specs.Output.{Wrote, Ends}
+use Rattle.output.specs.Written.{Wrote, Ends}
 use Rattle.output.proofs.Writing.{wrote-none, wrote-append, wrote-as, wrote-length}
 use Rattle.factor_file.specs.Steps.{placesFrom, Next}
 use Rattle.factor_file.proofs.file.Places.{Spreads, NoneBeyond, plane-start, here, on-line, on-plane, in-cell, from-none}

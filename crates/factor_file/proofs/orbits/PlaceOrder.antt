@@ -5,13 +5,12 @@ use Prim.Native.Nat.{ℕ, _*_, _-_, _<_, _≤_}
 use native.Mathlib.Omega.{arith}
 use lib.Dec.{T, eqb, leb, ltb}
 use borrow.Author.Tests.{le-ltb, eq-eqb, ne-eqb, le-leb}
-use Rattle.algebra.specs.cells.Cell.{J, Group, one, friedel, full, imageOf, negI, flip}
-use Rattle.algebra.specs.cells.CellTests.{lexLe}
+use Rattle.algebra.specs.cells.Cell.{J, Group, one, friedel, full, imageOf, negI, flip, lexLe}
 use Rattle.algebra.proofs.ring.Bool.{same-test, every-at}
 use Rattle.algebra.proofs.cells.CellAxis.{neg-pos}
 use Rattle.algebra.proofs.cells.CellGroup.{friedel-mem}
 use Rattle.algebra.proofs.cells.CellSym.{image-one}
-use Rattle.factor_file.specs.Writing.{isLowest}
+use Rattle.factor_file.specs.File.{isLowest}
 
 pub identity-no-later : (a j : J) → lexLe j (imageOf a one j) ≡ true
 identity-no-later a j = ap (lexLe j) (image-one a j) ∙ no-later-than-itself

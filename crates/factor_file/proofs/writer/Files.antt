@@ -15,20 +15,22 @@ use Rattle.lengths.specs.Lengths.{scratchLength}
 use Rattle.refusals.proofs.Tests.{Passed, passed, fails}
 use Rattle.cell.specs.Volume.{volumeLength}
 use Rattle.job.specs.declared.Job.{Job}
-use Rattle.job.specs.Job.{jobCell, headerOf, axisTests, validJob, mapHeld, groupIn, halves, fits, synthesisTests}
-use Rattle.job.specs.Tests.{factorsTests}
+use Rattle.job.specs.Job.{jobCell, headerOf, axisTests, validJob, mapHeld, groupIn, halves, fits, factorsTests}
+use Rattle.job.specs.TestSteps.{synthesisTests}
 use Rattle.header.proofs.Headers.{all-three}
-use Rattle.output.specs.Output.{Wrote}
+use Rattle.output.specs.Written.{Wrote}
 use Rattle.output.proofs.Writing.{wrote-whole}
-use Rattle.factor_file.specs.declared.writer.WriteAnswer.{WriteAnswer}
-use Rattle.factor_file.specs.declared.writer.WriteAnswer.the-variants.{Refused}
-use Rattle.factor_file.specs.Writing.{jobRecords, jobFile, written, notWritten, WriteOutcome, writeTests, writeStep, writeOutcome}
+use Rattle.output.specs.declared.FillAnswer.{FillAnswer}
+use Rattle.output.specs.declared.FillAnswer.the-variants.{Refused}
+use Rattle.factor_file.specs.File.{jobRecords, jobFile, writeTests, writeStep}
+use Rattle.output.specs.Output.{written, notWritten, FillOutcome}
+use Rattle.output.specs.Answers.{fillOutcome}
 use Rattle.factor_file.specs.Steps.{recordsWith, fileWith, fileTests, filed}
 
 -- ---- the outcome; n is the count of the records as the code holds it
 
 -- what the number of the first test makes of it
-abbrev pub told : (file output : List ℕ) → ℕ → WriteOutcome
+abbrev pub told : (file output : List ℕ) → ℕ → FillOutcome
 told file output k = accepted k (record { answer = written (length file); output = file ++ drop (length file) output }) (λ n. record { answer = notWritten n; output = output })
 
 module _ (n : ℕ) (cs : List (J × Value 1)) (file output : List ℕ) (e : n ≡ length cs) where
@@ -86,13 +88,13 @@ module _ (j : Job) (v output : List ℕ) where
   rest : List Test
   rest = fileTests (length (jobRecords j v)) (length (jobFile j v)) (length output)
 
-  pub write-refused : (r : Refusal) → numberOf r ≡ first held → writeOutcome (Refused r) output ≡ writeStep j v output
+  pub write-refused : (r : Refusal) → numberOf r ≡ first held → fillOutcome (Refused r) output ≡ writeStep j v output
   unfolding writeStep rest
   write-refused r e = fails r (first (writeTests j v output)) _ (λ n. record { answer = notWritten n; output = output }) (failed-first held rest (numberOf r) (nonzero r) e)
 
-  pub write-filed : (r : WriteAnswer) (after : List ℕ) → Passed held →
-      writeOutcome r after ≡ filed (length (recordsWith (jobCell j) v)) (fileWith (jobCell j) (j .a .factors) (j .b .factors) (j .c .factors) v) output →
-      writeOutcome r after ≡ writeStep j v output
+  pub write-filed : (r : FillAnswer) (after : List ℕ) → Passed held →
+      fillOutcome r after ≡ filed (length (recordsWith (jobCell j) v)) (fileWith (jobCell j) (j .a .factors) (j .b .factors) (j .c .factors) v) output →
+      fillOutcome r after ≡ writeStep j v output
   unfolding writeStep rest jobFile jobRecords
   write-filed r after p e = e ∙ ap (told (jobFile j v) output) (sym (passed-on held rest p))
 

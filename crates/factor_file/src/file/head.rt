@@ -3,7 +3,7 @@ use cell::operations::UnitCell;
 use output::big_endian;
 ghost use Prim.Native.Nat.{_<_};
 ghost use Rattle.lengths.specs.Lengths.{octalDigits};
-ghost use Rattle.output.specs.Output.{Wrote, Ends};
+ghost use Rattle.output.specs.Written.{Wrote, Ends};
 ghost use Rattle.factor_file.specs.Steps.{headerFor};
 ghost use Rattle.file_format.specs.Format.{listBytes, headerBytes};
 

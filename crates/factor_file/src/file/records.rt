@@ -2,13 +2,13 @@
 // place, by rising h, k, l. Counting and writing each go over the places up to h = N1/2: beyond, the Friedel mate comes before.
 use cell::operations::Index;
 use cell::operations::UnitCell;
+use file_format::FileRecord;
 use numbers::Pair;
-use output::big_endian;
 ghost use mathlib.Core.Path.{_≡_};
 ghost use Prim.Native.Nat.{_<_};
 ghost use lib.ListN.{length};
 ghost use Rattle.cell.specs.Operations.{tripleOf, Sizes, Within};
-ghost use Rattle.output.specs.Output.{Wrote, Ends};
+ghost use Rattle.output.specs.Written.{Wrote, Ends};
 ghost use Rattle.file_format.specs.Format.{allBytes};
 ghost use Rattle.factor_file.specs.Steps.{IsFactors, pairBytes, Next, placeRecords, recordsWith};
 
@@ -32,11 +32,14 @@ fn put_record(j: Index, x: Pair, out: &mut [u8], at: usize) -> usize
     requires { ⌜ (j .h < 65536) × (j .k < 65536) × (j .l < 65536) × Ends at (pairBytes (tripleOf j) x) ⌝ }
     ensures { λ r. ⌜ Wrote at (pairBytes (tripleOf j) x) (now (out .entry)) r (now (out .exit)) ⌝ }
 {
-    let k = big_endian::put_two(out, at, j.h);
-    let l = big_endian::put_two(out, k, j.k);
-    let a = big_endian::put_two(out, l, j.l);
-    let b = big_endian::put_four(out, a, x.re);
-    big_endian::put_four(out, b, x.im)
+    let c = FileRecord {
+        h: j.h,
+        k: j.k,
+        l: j.l,
+        a: x.re,
+        b: x.im,
+    };
+    file_format::layout::put_record(c, out, at)
 }
 
 // The record of the place j, where it has one.

@@ -2,12 +2,12 @@
 use mathlib.Core.Path.{_≡_, refl, sym, _∙_, ap}
 use Prim.Native.Nat.{ℕ, zero, suc, _%_, _<_}
 use native.Mathlib.Omega.{arith}
-use Rattle.algebra.specs.ring.Ring.{Ops}
+use Rattle.algebra.specs.ring.Ring.{Ops, residues}
 use Rattle.algebra.specs.ring.RingLaws.{CRing}
-use Rattle.algebra.specs.ring.Residue.{residues}
-use Rattle.algebra.specs.lines.Line.{unit}
+use Rattle.algebra.specs.lines.Kinds.{unit}
 use Rattle.algebra.proofs.ring.Laws.{neg-zero}
-use Rattle.numbers.specs.Value.{prime, Value, field, conj, i, res, real, half, pairOf, onValues}
+use Rattle.numbers.specs.Value.{prime, Value, field, conj, i, real, half, pairOf, onValues}
+use Rattle.numbers.specs.Bounds.{res}
 use Rattle.numbers.specs.Value as Value
 use Rattle.numbers.proofs.Residues.{res-ring, val-res}
 use Rattle.numbers.proofs.Primes.{prime-pos}

@@ -3,15 +3,14 @@ use mathlib.Core.Path.{_≡_, refl, _∙_, sym, ap, ap₂}
 use mathlib.Core.Bool.{Bool, true, false}
 use mathlib.Core.List.{[], _∷_}
 use Prim.Native.Nat.{ℕ}
-use Rattle.algebra.specs.ring.Ring.{Ops}
+use Rattle.algebra.specs.ring.Ring.{Ops, residues, gauss, imag}
 use Rattle.algebra.specs.ring.RingLaws.{CRing}
-use Rattle.algebra.specs.ring.Residue.{residues}
-use Rattle.algebra.specs.ring.Gauss.{gauss, imag}
-use Rattle.algebra.specs.lines.Folds.{braid, unbraid}
+use Rattle.algebra.specs.lines.Folds.{hermitianPoint, hermitianValue}
 use Rattle.algebra.proofs.ring.Laws.{neg-mul}
 use Rattle.algebra.proofs.ring.Solver.{ring, quote}
 use Rattle.numbers.specs.declared.Pair.{Pair}
-use Rattle.numbers.specs.Value.{prime, Value, field, i, real, half, valueOf, pairOf, Small, onValues}
+use Rattle.numbers.specs.Value.{prime, Value, field, i, real, half, valueOf, pairOf, onValues}
+use Rattle.numbers.specs.Bounds.{Small}
 use Rattle.numbers.specs.Value as Value
 use Rattle.numbers.proofs.Residues.{res-ring}
 use Rattle.numbers.proofs.Values.{value-path, value-by, pair-value, field-ring}
@@ -37,15 +36,15 @@ sum-difference-parts m z =
 -- ---- the other pairs
 
 abbrev pub foldPair : (m A : ℕ) (e x y : Value m) → Value m
-foldPair m A = onValues m braid A
+foldPair m A = onValues m hermitianPoint A
 
 abbrev pub unfoldPair : (m A : ℕ) (e x y : Value m) → Value m
-unfoldPair m A = onValues m unbraid A
+unfoldPair m A = onValues m hermitianValue A
 
 module _ (m A : ℕ) (e x y : Value m) where
   pub fold-pair-by : {d u r : Pair} → d ≡ pairOf (field m .add x (field m .neg y)) → u ≡ pairOf (field m .mul (i m) (valueOf m d))
       → r ≡ pairOf (field m .add (field m .add x y) (field m .mul e (valueOf m u))) → r ≡ pairOf (foldPair m A e x y)
-  unfolding braid
+  unfolding hermitianPoint
   fold-pair-by hd hu hr =
       hr ∙ ap pairOf
       (ap (λ z. field m .add (field m .add x y) (field m .mul e z)) (value-by m _ hu ∙ ap (field m .mul (i m)) (value-by m _ hd))
@@ -54,7 +53,7 @@ module _ (m A : ℕ) (e x y : Value m) where
   pub unfold-pair-by : {d u g r : Pair} → d ≡ pairOf (field m .add y (field m .neg x)) → u ≡ pairOf (field m .mul (i m) (valueOf m d))
       → g ≡ pairOf (field m .add (field m .add x y) (field m .mul e (valueOf m u)))
       → r ≡ pairOf (field m .mul (real m (half m)) (valueOf m g)) → r ≡ pairOf (unfoldPair m A e x y)
-  unfolding unbraid
+  unfolding hermitianValue
   unfold-pair-by hd hu hg hr =
       hr
       ∙ ap (λ z. pairOf (field m .mul (real m (half m)) z))

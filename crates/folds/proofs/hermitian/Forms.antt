@@ -7,11 +7,11 @@ use mir.Syntax.{w64}
 use mir.Val.{Fits}
 use native.Mathlib.Omega.{arith}
 use Rattle.algebra.specs.ring.Ring.{Ops, pow}
-use Rattle.algebra.specs.lines.Folds.{turned, fold1, back1}
+use Rattle.algebra.specs.lines.Folds.{innerTimes, fold1, back1}
 use Rattle.algebra.proofs.fourier.Transform.{pow-mul}
 use Rattle.numbers.specs.declared.Pair.{Pair}
 use Rattle.numbers.specs.Value.{Value, field, conj, i, half, valueOf, pairOf, onValues}
-use Rattle.roots.specs.Root.{entryAt, tableRoot}
+use Rattle.roots.specs.Table.{entryAt, tableRoot}
 use Rattle.numbers.proofs.Values.{value-by, field-ring, field-star}
 use Rattle.fold_formulas.specs.FoldFormulas.{stride, lineRoot, Frame, sumAndDifference, toHermitianValue}
 use Rattle.fold_formulas.proofs.Frames.{stride-inside}
@@ -22,18 +22,18 @@ use Rattle.folds.specs.FoldedLines.{toHermitian, fromHermitian}
 
 module _ (m : ℕ) (p : ℕ → Value m) where
   pub hermitian-zero : (anti : Bool) {t : ℕ} → t ≡ 0 → toHermitian m anti p t ≡ p t
-  unfolding toHermitian turned
+  unfolding toHermitian innerTimes
   hermitian-zero false e = refl
   hermitian-zero true e = rw e
 
   pub hermitian-more : (anti : Bool) (t : ℕ) → (t ≡ 0 → ⊥) → toHermitian m anti p t ≡ toHermitianValue m anti (p t)
-  unfolding toHermitian toHermitianValue turned
+  unfolding toHermitian toHermitianValue innerTimes
   hermitian-more anti zero n = absurd (n refl)
   hermitian-more false (suc t) n = refl
   hermitian-more true (suc t) n = refl
 
   pub back-first : (anti : Bool) {t : ℕ} → t ≡ 0 → fromHermitian m anti p t ≡ p t
-  unfolding fromHermitian turned
+  unfolding fromHermitian innerTimes
   back-first false e = refl
   back-first true e = rw e
 
@@ -42,7 +42,7 @@ module _ (m : ℕ) (p : ℕ → Value m) where
   back-kept t e = rw e
 
   pub back-rotated : {anti : Bool} (t : ℕ) → anti ≡ true → (t ≡ 0 → ⊥) → fromHermitian m anti p t ≡ field m .mul (i m) (p t)
-  unfolding fromHermitian turned
+  unfolding fromHermitian innerTimes
   back-rotated zero e n = absurd (n refl)
   back-rotated (suc t) e n = rw e
 

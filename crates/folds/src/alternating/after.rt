@@ -8,9 +8,10 @@ ghost use mathlib.Core.Path.{_≡_};
 ghost use Prim.Native.Nat.{ℕ, _*_, _<_, _≤_};
 ghost use lib.ListN.{length};
 ghost use Rattle.algebra.specs.ring.Ring.{Ops};
-ghost use Rattle.algebra.specs.lines.Line.{packB3};
-ghost use Rattle.algebra.specs.lines.Folds.{mate, csc, cot, finish3, slant, twice-M, line3};
-ghost use Rattle.numbers.specs.Value.{prime, IsModulus, field, conj, i, res, real, half, pairOf, Small, onValues};
+ghost use Rattle.algebra.specs.lines.Packings.{packB3};
+ghost use Rattle.algebra.specs.lines.Folds.{mate, csc, cot, finish3, alternatingSpectrum, twice-M, line3};
+ghost use Rattle.numbers.specs.Value.{prime, IsModulus, field, conj, i, real, half, pairOf, onValues};
+ghost use Rattle.numbers.specs.Bounds.{res, Small};
 ghost use Rattle.slices.specs.Pairs.{Below, valuesOf, listOf};
 ghost use Rattle.fold_formulas.specs.FoldFormulas.{stride, tangent, Tangents};
 
@@ -41,7 +42,7 @@ pub fn inverse_short_line(m: u32, tan: &[u32; 1440], a: usize, line: &[u32], fol
     requires { ⌜ (length (now line) ≡ 2 * a) × Below (prime m) (now line) ⌝ }
     requires { ⌜ length (now fold) ≡ 2 * a ⌝ }
     ensures { λ _. ⌜ now (fold .exit) ≡ listOf a
-        (onValues m slant a (λ s. field m .neg (tangent m a (now (tan .entry)) s)) (valuesOf m (now (line .entry)))) ⌝ }
+        (onValues m alternatingSpectrum a (λ s. field m .neg (tangent m a (now (tan .entry)) s)) (valuesOf m (now (line .entry)))) ⌝ }
 {
     let step = 1440 / a;
     let mut s = 0;
@@ -123,7 +124,7 @@ fn inverse_short_at(
     requires { ⌜ IsModulus m × Tangents m (now tan) ⌝ }
     requires { ⌜ (step ≡ stride a) × (a * step ≡ 1440) × (s < a) ⌝ }
     requires { ⌜ (length (now line) ≡ 2 * a) × Below (prime m) (now line) ⌝ }
-    ensures { λ r. ⌜ r ≡ pairOf (onValues m slant a (λ s. field m .neg (tangent m a (now (tan .entry)) s)) (valuesOf m (now (line .entry))) s) ⌝ }
+    ensures { λ r. ⌜ r ≡ pairOf (onValues m alternatingSpectrum a (λ s. field m .neg (tangent m a (now (tan .entry)) s)) (valuesOf m (now (line .entry))) s) ⌝ }
 {
     let z = slices::get(line, s);
     if s == 0 {

@@ -7,9 +7,11 @@ ghost use mathlib.Core.Path.{_≡_};
 ghost use Prim.Native.Nat.{_+_, _*_, _<_, _≤_};
 ghost use lib.ListN.{length};
 ghost use Rattle.algebra.specs.ring.Ring.{sum};
-ghost use Rattle.algebra.specs.lines.Line.{im, unfoldB3};
-ghost use Rattle.algebra.specs.lines.Folds.{woven};
-ghost use Rattle.numbers.specs.Value.{prime, IsModulus, field, conj, i, res, real, pairOf, onValues};
+ghost use Rattle.algebra.specs.lines.Kinds.{im};
+ghost use Rattle.algebra.specs.lines.Packings.{unfoldB3};
+ghost use Rattle.algebra.specs.lines.Folds.{alternatingPoint};
+ghost use Rattle.numbers.specs.Value.{prime, IsModulus, field, conj, i, real, pairOf, onValues};
+ghost use Rattle.numbers.specs.Bounds.{res};
 ghost use Rattle.slices.specs.Pairs.{Below, valuesOf, listOf};
 
 // The short line, before its transform: X(2t) + i X(2t + 1).
@@ -17,7 +19,7 @@ pub fn short_line(m: u32, a: usize, line: &[u32], fold: &mut [u32])
     requires { ⌜ IsModulus m ⌝ }
     requires { ⌜ (length (now line) ≡ 2 * a) × Below (prime m) (now line) ⌝ }
     requires { ⌜ length (now fold) ≡ 2 * a ⌝ }
-    ensures { λ _. ⌜ now (fold .exit) ≡ listOf a (woven (field m) (i m) (onValues m unfoldB3 a (valuesOf m (now (line .entry))))) ⌝ }
+    ensures { λ _. ⌜ now (fold .exit) ≡ listOf a (alternatingPoint (field m) (i m) (onValues m unfoldB3 a (valuesOf m (now (line .entry))))) ⌝ }
 {
     let mut t = 0;
     while t < a {
@@ -49,7 +51,7 @@ pub fn odd_imaginary_sum(m: u32, a: usize, line: &[u32]) -> u32
 fn short_at(m: u32, a: usize, line: &[u32], t: usize) -> Pair
     requires { ⌜ IsModulus m × (t < a) ⌝ }
     requires { ⌜ (length (now line) ≡ 2 * a) × Below (prime m) (now line) ⌝ }
-    ensures { λ r. ⌜ r ≡ pairOf (woven (field m) (i m) (onValues m unfoldB3 a (valuesOf m (now (line .entry)))) t) ⌝ }
+    ensures { λ r. ⌜ r ≡ pairOf (alternatingPoint (field m) (i m) (onValues m unfoldB3 a (valuesOf m (now (line .entry)))) t) ⌝ }
 {
     let even = value_at(m, a, line, 2 * t);
     let odd = value_at(m, a, line, 2 * t + 1);

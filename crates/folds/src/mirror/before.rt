@@ -9,8 +9,8 @@ ghost use mathlib.Core.Path.{_≡_};
 ghost use Prim.Native.Nat.{ℕ, _+_, _-_, _*_, _<_, _≤_};
 ghost use lib.ListN.{length};
 ghost use Rattle.algebra.specs.ring.Ring.{Ops, sum};
-ghost use Rattle.algebra.specs.lines.Line.{unfold5};
-ghost use Rattle.algebra.specs.lines.Folds.{paired};
+ghost use Rattle.algebra.specs.lines.Packings.{unfold5};
+ghost use Rattle.algebra.specs.lines.Folds.{mirrorPoint};
 ghost use Rattle.numbers.specs.Value.{prime, IsModulus, Value, field, half, valueOf, pairOf, onValues};
 ghost use Rattle.numbers.specs.Unreduced.{Accumulated};
 ghost use Rattle.slices.specs.Pairs.{Below, valuesOf, listOf};
@@ -21,7 +21,7 @@ pub fn short_line(m: u32, first: usize, a: usize, line: &[u32], fold: &mut [u32]
     requires { ⌜ IsModulus m × (first ≤ 1) ⌝ }
     requires { ⌜ (length (now line) ≡ 2 * storedCount a first) × (length (now fold) ≡ 2 * a) ⌝ }
     requires { ⌜ Below (prime m) (now line) ⌝ }
-    ensures { λ _. ⌜ now (fold .exit) ≡ listOf a (paired (field m) (wholeLine m a first (now (line .entry)))) ⌝ }
+    ensures { λ _. ⌜ now (fold .exit) ≡ listOf a (mirrorPoint (field m) (wholeLine m a first (now (line .entry)))) ⌝ }
 {
     let mut t = 0;
     while t < a {
@@ -54,7 +54,7 @@ fn short_at(m: u32, first: usize, a: usize, line: &[u32], t: usize) -> Pair
     requires { ⌜ IsModulus m × (first ≤ 1) × (t < a) ⌝ }
     requires { ⌜ length (now line) ≡ 2 * storedCount a first ⌝ }
     requires { ⌜ Below (prime m) (now line) ⌝ }
-    ensures { λ r. ⌜ r ≡ pairOf (paired (field m) (wholeLine m a first (now (line .entry))) t) ⌝ }
+    ensures { λ r. ⌜ r ≡ pairOf (mirrorPoint (field m) (wholeLine m a first (now (line .entry))) t) ⌝ }
 {
     let even = value_at(m, first, a, line, 2 * t);
     let odd = value_at(m, first, a, line, 2 * t + 1);

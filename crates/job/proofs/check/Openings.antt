@@ -15,7 +15,7 @@ use Rattle.refusals.proofs.Tests.{pass, none, not-t, passed, fails}
 use Rattle.cell.specs.Volume.{groupOf, volumeLength}
 use Rattle.cell.specs.Consistency.{consistentMap}
 use Rattle.header.specs.Header.{Header, halfLengths, axisTests}
-use Rattle.job.specs.Tests.{p, volumeTests, mapTests, openTests}
+use Rattle.job.specs.Job.{p, volumeTests, mapTests, openTests}
 
 -- ---- no refusal has the number 0
 

@@ -7,7 +7,7 @@ use Rattle.cell.specs.declared.operations.Index.{Index}
 use Rattle.cell.specs.declared.operations.Point.{Point}
 use Rattle.cell.specs.declared.operations.UnitCell.{UnitCell}
 use Rattle.cell.specs.Operations.{cellLengths, tripleOf, pointOf, Within, PointWithin}
-use Rattle.job.specs.Tests.{within}
+use Rattle.job.specs.Job.{within}
 use Rattle.header.proofs.Headers.{all-three}
 
 pub within-of : (cell : UnitCell) (at : Index) → within (cellLengths cell) (tripleOf at) ≡ true → Within cell at

@@ -6,9 +6,10 @@ use refusals::Checked;
 use refusals::Refusal;
 ghost use mathlib.Core.Path.{_≡_};
 ghost use mathlib.Core.Bool.{true};
-ghost use Rattle.refusals.specs.Refusals.{first, checkedNumber};
+ghost use Rattle.refusals.specs.Refusals.{first};
+ghost use Rattle.refusals.specs.Checks.{checkedNumber};
 ghost use Rattle.cell.specs.Operations.{cellLengths, Sizes};
-ghost use Rattle.job.specs.Tests.{analysisTestsOf};
+ghost use Rattle.job.specs.Job.{analysisTestsOf};
 
 // 25, 22, 6, 13, then the map's.
 pub fn check_analysis(

@@ -6,9 +6,10 @@ use refusals::Checked;
 use refusals::Refusal;
 ghost use mathlib.Core.Path.{_≡_};
 ghost use mathlib.Core.Bool.{true};
-ghost use Rattle.refusals.specs.Refusals.{first, checkedNumber};
+ghost use Rattle.refusals.specs.Refusals.{first};
+ghost use Rattle.refusals.specs.Checks.{checkedNumber};
 ghost use Rattle.cell.specs.Operations.{cellLengths, tripleOf, Sizes};
-ghost use Rattle.job.specs.Tests.{factorTestsOf};
+ghost use Rattle.job.specs.Job.{factorTestsOf};
 
 // 25, 23, 10, 6, 7: the last of the numbers that the factor is read from alone.
 pub fn check_factor(valid: bool, state: u32, cell: UnitCell, at: Index, volume: &[u32]) -> Checked

@@ -5,10 +5,11 @@ use refusals::Checked;
 use refusals::Refusal;
 use volume::consistent::map_test;
 ghost use mathlib.Core.Path.{_≡_};
-ghost use Rattle.refusals.specs.Refusals.{first, checkedNumber};
+ghost use Rattle.refusals.specs.Refusals.{first};
+ghost use Rattle.refusals.specs.Checks.{checkedNumber};
 ghost use Rattle.cell.specs.Operations.{cellLengths};
 ghost use Rattle.cell.specs.TestSteps.{IsVolume};
-ghost use Rattle.job.specs.Tests.{mapTests};
+ghost use Rattle.job.specs.Job.{mapTests};
 
 // 7, 14: a volume of the right length is a map.
 pub fn check_map(cell: UnitCell, volume: &[u32]) -> Checked

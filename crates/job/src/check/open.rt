@@ -6,10 +6,11 @@ use header::bytes;
 use refusals::Checked;
 use refusals::Refusal;
 ghost use mathlib.Core.Path.{_≡_};
-ghost use Rattle.refusals.specs.Refusals.{first, checkedNumber};
+ghost use Rattle.refusals.specs.Refusals.{first};
+ghost use Rattle.refusals.specs.Checks.{checkedNumber};
 ghost use Rattle.cell.specs.Operations.{cellLengths, Sizes};
-ghost use Rattle.header.specs.Header.{cellHeader};
-ghost use Rattle.job.specs.Tests.{volumeTests, openTests};
+ghost use Rattle.header.specs.Cells.{cellHeader};
+ghost use Rattle.job.specs.Job.{volumeTests, openTests};
 
 // 6, and for a map 7, 14.
 fn check_volume(cell: UnitCell, kind: u32, volume: &[u32]) -> Checked

@@ -13,12 +13,15 @@ use refusals::Refusal;
 ghost use mathlib.Core.Path.{_≡_};
 ghost use lib.ListN.{length};
 ghost use Rattle.algebra.specs.cells.Cell.{sameJ};
-ghost use Rattle.numbers.specs.Value.{prime, IsModulus, valueOf, Small};
-ghost use Rattle.refusals.specs.Refusals.{first, checkedNumber};
+ghost use Rattle.numbers.specs.Value.{prime, IsModulus, valueOf};
+ghost use Rattle.numbers.specs.Bounds.{Small};
+ghost use Rattle.refusals.specs.Refusals.{first};
+ghost use Rattle.refusals.specs.Checks.{checkedNumber};
 ghost use Rattle.cell.specs.Volume.{volumeLength};
 ghost use Rattle.cell.specs.Consistency.{agreesWithItself, orbitFree};
 ghost use Rattle.cell.specs.Operations.{cellGroup, cellLengths, cellHalves, tripleOf, symOf, Sizes, Within};
-ghost use Rattle.job.specs.Tests.{p, agreesUnder, orbitTests};
+ghost use Rattle.job.specs.Job.{p, orbitTests};
+ghost use Rattle.job.specs.TestSteps.{agreesUnder};
 
 // 12, 6, 24: what the value implies at the images of its index, which is inside the cell; the value's numbers are residues.
 pub fn check_orbit(cell: UnitCell, at: Index, x: Pair, volume: &[u32]) -> Checked

@@ -7,9 +7,10 @@ use refusals::Checked;
 use refusals::Refusal;
 ghost use mathlib.Core.Path.{_≡_};
 ghost use mathlib.Core.Bool.{true};
-ghost use Rattle.refusals.specs.Refusals.{first, checkedNumber};
+ghost use Rattle.refusals.specs.Refusals.{first};
+ghost use Rattle.refusals.specs.Checks.{checkedNumber};
 ghost use Rattle.cell.specs.Operations.{cellLengths, pointOf, Sizes};
-ghost use Rattle.job.specs.Tests.{pointTestsOf};
+ghost use Rattle.job.specs.Job.{pointTestsOf};
 
 // 25, 22, 10, 6, 7: the last of the point's number alone.
 pub fn check_point(valid: bool, state: u32, cell: UnitCell, at: Point, volume: &[u32]) -> Checked

@@ -10,9 +10,10 @@ use refusals::Refusal;
 ghost use mathlib.Core.Path.{_≡_};
 ghost use mathlib.Core.Bool.{true, _&&_};
 ghost use lib.Dec.{ltb, eqb};
-ghost use Rattle.refusals.specs.Refusals.{first, checkedNumber};
+ghost use Rattle.refusals.specs.Refusals.{first};
+ghost use Rattle.refusals.specs.Checks.{checkedNumber};
 ghost use Rattle.cell.specs.Operations.{cellLengths, tripleOf, Sizes};
-ghost use Rattle.job.specs.Tests.{p, recordTestsOf};
+ghost use Rattle.job.specs.Job.{p, recordTestsOf};
 
 // Both numbers of a value are below the prime.
 fn residues(a: u32, b: u32) -> bool
@@ -38,7 +39,8 @@ pub fn check_record(
     volume: &[u32],
 ) -> Checked
     requires { ⌜ (valid ≡ true → Sizes cell) ⌝ }
-    ensures { λ r. ⌜ checkedNumber r ≡ first (recordTestsOf valid state (cell .group) (cellLengths cell) (tripleOf at) (x .re) (x .im) (now (volume .entry))) ⌝ }
+    ensures { λ r. ⌜ checkedNumber r
+        ≡ first (recordTestsOf valid state (cell .group) (cellLengths cell) (tripleOf at) (x .re) (x .im) (now (volume .entry))) ⌝ }
 {
     if !valid {
         return Checked::Failed(Refusal::ImpossibleJob);

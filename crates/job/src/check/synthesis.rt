@@ -6,10 +6,11 @@ use refusals::Refusal;
 use volume::consistent::factor_test;
 ghost use mathlib.Core.Path.{_≡_};
 ghost use mathlib.Core.Bool.{true};
-ghost use Rattle.refusals.specs.Refusals.{first, checkedNumber};
+ghost use Rattle.refusals.specs.Refusals.{first};
+ghost use Rattle.refusals.specs.Checks.{checkedNumber};
 ghost use Rattle.cell.specs.Operations.{cellLengths, Sizes};
 ghost use Rattle.cell.specs.TestSteps.{IsVolume};
-ghost use Rattle.job.specs.Tests.{factorsTests, synthesisTestsOf};
+ghost use Rattle.job.specs.Job.{factorsTests, synthesisTestsOf};
 
 // 7, 14: a volume of the right length is held as factors.
 fn check_factors(cell: UnitCell, volume: &[u32]) -> Checked

@@ -7,7 +7,7 @@ ghost use lib.ListN.{length};
 ghost use Rattle.slices.specs.Pairs.{allBelow};
 ghost use Rattle.cell.specs.Operations.{cellGroup, cellLengths, cellHalves, Sizes};
 ghost use Rattle.cell.specs.Volume.{volumeLength};
-ghost use Rattle.job.specs.Tests.{p, within};
+ghost use Rattle.job.specs.Job.{p, within};
 
 // The numbers of an index, or of a point, are each below the axis length.
 pub fn inside(cell: UnitCell, x: u32, y: u32, z: u32) -> bool

@@ -4,7 +4,7 @@ use mathlib.Core.Logic.{_≢_}
 use Prim.Native.Nat.{ℕ, _+_, _*_, _/_, _%_, _≤_}
 use native.Mathlib.Nat as N
 use native.Mathlib.Omega.{arith}
-use Rattle.lengths.specs.Lengths.{Factored, done, more}
+use Rattle.lengths.specs.Admitted.{done, more, Factored}
 use Rattle.lengths.proofs.stage.Factoring.{next-factor, factored-none}
 
 -- a list of n, of which `left` is left after what is passed: a list of twice the rest's product behind the same factors is one of 2 n

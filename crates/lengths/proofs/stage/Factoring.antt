@@ -5,7 +5,8 @@ use mathlib.Core.List.{List, [], _∷_}
 use Prim.Native.Nat.{ℕ, _+_, _*_, _/_, _%_, _≤_, _<_}
 use native.Mathlib.Nat as N
 use native.Mathlib.Omega.{arith}
-use Rattle.lengths.specs.Lengths.{Factored, done, more, octal, product, Factors, none, one}
+use Rattle.lengths.specs.Lengths.{octal, product}
+use Rattle.lengths.specs.Admitted.{done, more, none, one, Factored, Factors}
 
 -- a list of factors packs to a number that is factored by their product
 pub packed : {l : List ℕ} → Factors l → Factored (octal l) (product l)

@@ -11,7 +11,8 @@ use Rattle.algebra.proofs.ring.StarRules.{quote-star}
 use Rattle.algebra.proofs.fourier.Transform.{pow-mul}
 use Rattle.algebra.proofs.ring.Conj.{conj-pow}
 use Rattle.numbers.specs.Value.{IsModulus, Value, field, conj, i, half, part, onValues}
-use Rattle.roots.specs.Root.{root, tableRoot, rootOf, axis}
+use Rattle.roots.specs.Root.{root, rootOf, axis}
+use Rattle.roots.specs.Table.{tableRoot}
 use Rattle.roots.specs.TableLaws.{TangentLaws, BackwardTangents}
 use Rattle.numbers.proofs.Values.{field-ring, field-star, conj-real}
 use Rattle.prime_shape.proofs.Lines as Lines

@@ -6,18 +6,17 @@ use native.Mathlib.Omega.{arith}
 use lib.Dec.{eqb}
 use lib.ListN.{length, take}
 use lib.Seq.{length-take-le}
-use Rattle.algebra.specs.ring.Ring.{Ops, pow}
-use Rattle.algebra.specs.fourier.Fourier.{dft}
+use Rattle.algebra.specs.ring.Ring.{Ops, pow, dft}
 use Rattle.algebra.specs.lines.Kinds.{Kind, slots}
 use Rattle.numbers.specs.Value.{IsModulus, field, real, part}
-use Rattle.roots.specs.Root.{tableRoot, RootTable}
+use Rattle.roots.specs.Table.{tableRoot, RootTable}
 use Rattle.slices.specs.Pairs.{valuesOf, listOf}
-use Rattle.lengths.specs.Lengths.{Factored, kindOf, pairCount}
+use Rattle.lengths.specs.Lengths.{kindOf, pairCount}
+use Rattle.lengths.specs.Admitted.{Factored, AdmittedLength, FactorList}
 use Rattle.fold_formulas.specs.FoldFormulas.{Frame, folded}
 use Rattle.folds.specs.FoldedLines.{hermitianKind, mirrorKind}
-use Rattle.line.specs.Transform.{transformed}
+use Rattle.line.specs.Line.{transformed}
 use Rattle.line.specs.Tables.{TablesOf}
-use Rattle.lengths.specs.Admitted.{AdmittedLength, FactorList}
 use Rattle.lengths.proofs.Counts.{count-half}
 use Rattle.line.proofs.kinds.Transforms.{half-length, folded-line, plain-line, plain-back-line}
 

@@ -3,15 +3,14 @@ use mathlib.Core.Path.{_≡_, refl, sym, _∙_, ap}
 use Prim.Native.Nat.{ℕ, zero, suc, _+_, _*_, _-_, _<_}
 use native.Mathlib.Omega.{arith}
 use native.Mathlib.Decide.{ℕ-discrete, decLt}
-use Rattle.algebra.specs.ring.Ring.{Ops}
+use Rattle.algebra.specs.ring.Ring.{Ops, dft}
 use Rattle.algebra.specs.ring.RingLaws.{CRing, Star}
-use Rattle.algebra.specs.fourier.Fourier.{dft}
 use Rattle.algebra.specs.fourier.Axis.{Axis, AxisLaws}
-use Rattle.algebra.specs.lines.Line.{re, im, unit, unfold-by, weave, unfoldA3}
-use Rattle.algebra.specs.lines.Kinds.{Kind, Kind.plain, Kind.hermitian, Kind.antihermitian, Kind.alternating, Kind.symmetric, Kind.antisymmetric, slots, unfoldBefore, unfoldAfter, forward, inverse}
+use Rattle.algebra.specs.lines.Kinds.{re, im, unit, unfold-by, interleave, Kind, Kind.plain, Kind.hermitian, Kind.antihermitian, Kind.alternating, Kind.symmetric, Kind.antisymmetric, slots, unfoldBefore, unfoldAfter, forward, inverse}
+use Rattle.algebra.specs.lines.Packings.{unfoldA3}
 use Rattle.algebra.proofs.fourier.Transform.{dft-cong}
 use Rattle.algebra.proofs.lines.Rules.{pack-before-cong, pack-after-cong}
-use Rattle.algebra.proofs.lines.Unfold.{three-lt, three-eq, three-gt, unfold-zero, unfold-low, unfold-middle, unfold-high, weave-all, weave-even, weave-odd}
+use Rattle.algebra.proofs.lines.Unfold.{three-lt, three-eq, three-gt, unfold-zero, unfold-low, unfold-middle, unfold-high, interleave-all, interleave-even, interleave-odd}
 
 module _ {R : Type 0} (A : ℕ) (pos : 0 < A) where
   unfold-cong : {a b c d : R} (f : ℕ → R → R) (p q : ℕ → R) → a ≡ b → c ≡ d → ((t : ℕ) → 0 < t → t < A → p t ≡ q t) → (t : ℕ) → t < 2 * A → unfold-by A a c f p t ≡ unfold-by A b d f q t
@@ -26,8 +25,8 @@ module _ {R : Type 0} (A : ℕ) (pos : 0 < A) where
           u : ℕ
           u = 2 * A - suc t
 
-  weave-cong : (f g h k : ℕ → R) → ((s : ℕ) → s < A → f s ≡ h s) → ((s : ℕ) → s < A → g s ≡ k s) → (s : ℕ) → s < 2 * A → weave f g s ≡ weave h k s
-  weave-cong f g h k e o s l = weave-all h k A (weave f g) (λ s l. weave-even f g s ∙ e s l) (λ s l. weave-odd f g s ∙ o s l) s l
+  interleave-cong : (f g h k : ℕ → R) → ((s : ℕ) → s < A → f s ≡ h s) → ((s : ℕ) → s < A → g s ≡ k s) → (s : ℕ) → s < 2 * A → interleave f g s ≡ interleave h k s
+  interleave-cong f g h k e o s l = interleave-all h k A (interleave f g) (λ s l. interleave-even f g s ∙ e s l) (λ s l. interleave-odd f g s ∙ o s l) s l
 
 module _ {R : Type 0} (𝓞 : Ops R) (conj : R → R) (i half : R) (A : ℕ) (pos : 0 < A) where
   open Ops 𝓞 using (mul as _⊗_, neg as ⊖_)
@@ -60,8 +59,8 @@ module _ {R : Type 0} (𝓞 : Ops R) (conj : R → R) (i half : R) (A : ℕ) (po
   pub after-cong : (k : Kind) (p q : ℕ → R) → ((j : ℕ) → j < slots k A → p j ≡ q j) → (s : ℕ) → s < 2 * A → unfoldAfter 𝓞 conj i half A k p s ≡ unfoldAfter 𝓞 conj i half A k q s
   unfolding slots unfoldAfter
   after-cong plain p q e s l = e s l
-  after-cong hermitian p q e s l = weave-cong A pos _ _ _ _ (λ s l. ap ℜ (e s l)) (λ s l. ap ℑ (e s l)) s l
-  after-cong antihermitian p q e s l = weave-cong A pos _ _ _ _ (λ s l. ap (λ y. i ⊗ ℜ y) (e s l)) (λ s l. ap (λ y. i ⊗ ℑ y) (e s l)) s l
+  after-cong hermitian p q e s l = interleave-cong A pos _ _ _ _ (λ s l. ap ℜ (e s l)) (λ s l. ap ℑ (e s l)) s l
+  after-cong antihermitian p q e s l = interleave-cong A pos _ _ _ _ (λ s l. ap (λ y. i ⊗ ℜ y) (e s l)) (λ s l. ap (λ y. i ⊗ ℑ y) (e s l)) s l
   after-cong alternating p q e s l = halves-cong p q e s l
   after-cong symmetric p q e s l = unfold-cong A pos _ p q (e 0 (omega arith)) (e A (omega arith)) (λ t o l. e t (omega arith)) s l
   after-cong antisymmetric p q e s l = unfold-cong A pos _ (λ t. p (t - 1)) (λ t. q (t - 1)) refl refl (λ t o l. e (t - 1) (omega arith)) s l

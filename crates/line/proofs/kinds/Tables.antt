@@ -4,8 +4,9 @@ use mathlib.Core.List.{List}
 use Prim.Native.Nat.{ℕ, suc}
 use lib.ListN.{length, getD}
 use Rattle.algebra.specs.ring.Ring.{Ops}
-use Rattle.numbers.specs.Value.{IsModulus, ring, res}
-use Rattle.roots.specs.Root.{RealTable, ImaginaryTable}
+use Rattle.numbers.specs.Value.{IsModulus, ring}
+use Rattle.numbers.specs.Bounds.{res}
+use Rattle.roots.specs.Table.{RealTable, ImaginaryTable}
 use Rattle.roots.specs.TableLaws.{TangentTable, NegatedTable}
 use Rattle.numbers.proofs.Residues.{below-by}
 use Rattle.roots.proofs.RootLaws.{root-laws}

@@ -3,21 +3,21 @@ use mathlib.Core.Path.{_≡_, refl, sym, _∙_, ap}
 use mathlib.Core.List.{List}
 use Prim.Native.Nat.{ℕ, zero, suc, _*_, _/_, _<_}
 use native.Mathlib.Omega.{arith}
-use Rattle.algebra.specs.ring.Ring.{Ops, pow}
-use Rattle.algebra.specs.fourier.Fourier.{dft}
+use Rattle.algebra.specs.ring.Ring.{Ops, pow, dft}
 use Rattle.algebra.specs.lines.Kinds.{Kind, Kind.plain, slots, unfoldBefore, unfoldAfter, packBefore, packAfter}
 use Rattle.algebra.specs.lines.FoldKinds.{fold-forward, fold-back}
 use Rattle.algebra.proofs.ring.Laws.{along}
 use Rattle.algebra.proofs.lines.FoldAll.{forward-is, back-is}
 use Rattle.algebra.proofs.ring.Conj.{conj-pow}
 use Rattle.numbers.specs.Value.{IsModulus, Value, field, real, part, onValues}
-use Rattle.roots.specs.Root.{root, tableRoot}
+use Rattle.roots.specs.Root.{root}
+use Rattle.roots.specs.Table.{tableRoot}
 use Rattle.numbers.proofs.Values.{field-ring, field-star}
 use Rattle.slices.specs.Pairs.{valuesOf, listOf}
 use Rattle.slices.proofs.Values.{list-cong}
 use Rattle.fold_formulas.specs.FoldFormulas.{lineRoot, tangent, folded}
 use Rattle.lengths.specs.Lengths.{kindOf}
-use Rattle.line.specs.Transform.{transform, transformedLine, transformed}
+use Rattle.line.specs.Line.{transform, transformedLine, transformed}
 use Rattle.line.specs.Tables.{TablesOf}
 use Rattle.line.proofs.kinds.Axes.{axis-forward, axis-backward, line-root, conj-line-root}
 

@@ -9,8 +9,10 @@ use denote.Ref.{now}
 use Rattle.numbers.specs.Value.{prime}
 use Rattle.numbers.proofs.Primes.{prime-pos}
 use Rattle.lengths.specs.Lengths.{octal, cleared}
-use Rattle.refusals.specs.Refusals.{first, checkedNumber}
-use Rattle.line.specs.Line.{lineTests, Accepted}
+use Rattle.refusals.specs.Refusals.{first}
+use Rattle.refusals.specs.Checks.{checkedNumber}
+use Rattle.line.specs.Line.{lineTests}
+use Rattle.line.specs.Answers.{Accepted}
 use Rattle.line.proofs.Accepted.{accepted-factors, accepted-line}
 use Rattle.line.proofs.Outcome.{refused-outcome, transformed-outcome}
 use Rattle.line.proofs.line.Statement.{statement}

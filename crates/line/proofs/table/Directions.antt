@@ -4,7 +4,7 @@ use mathlib.Core.List.{List}
 use Prim.Native.Nat.{ℕ, zero, suc}
 use lib.ListN.{length}
 use Rattle.numbers.proofs.Primes.{first-modulus}
-use Rattle.roots.specs.Root.{RealTable, ImaginaryTable}
+use Rattle.roots.specs.Table.{RealTable, ImaginaryTable}
 use Rattle.roots.specs.TableLaws.{TangentTable, NegatedTable}
 use Rattle.line.specs.Tables.{TablesOf, OfDirection, Directed}
 use Rattle.line.proofs.kinds.Tables.{forward-tables, backward-tables}

@@ -1,7 +1,7 @@
 -- The imaginary part changes its sign.
 use borrow.Author.Needs.{needs}
 use mathlib.Core.Path.{sym}
-use Rattle.algebra.specs.ring.Gauss.{conj}
+use Rattle.algebra.specs.ring.Ring.{conj}
 use Rattle.numbers.specs.Value.{valueOf, pairOf}
 use Rattle.numbers.proofs.Residues.{val-res}
 use Rattle.numbers.proofs.Values.{pair-path}

@@ -1,6 +1,6 @@
 -- The remainder by the constant is the residue modulo the prime that m chooses.
 use borrow.Author.Needs.{needs}
-use Rattle.algebra.specs.ring.Residue.{residue}
+use Rattle.algebra.specs.ring.Ring.{residue}
 use Rattle.numbers.proofs.Primes.{prime-one, prime-two}
 use Rattle.numbers.proofs.reduce.Statement.{statement}
 use Rattle.numbers.proofs.reduce.Tie as tie

@@ -2,7 +2,7 @@
 use borrow.Author.Needs.{needs}
 use mathlib.Core.Path.{_∙_, ap}
 use native.Mathlib.Nat.{mod-eq-of-lt}
-use Rattle.numbers.specs.Value.{res}
+use Rattle.numbers.specs.Bounds.{res}
 use Rattle.numbers.proofs.reduce_below.Statement.{statement}
 use Rattle.numbers.proofs.reduce_below.Tie as tie
 

@@ -1,6 +1,6 @@
 -- Sums go by parts.
 use borrow.Author.Needs.{needs}
-use Rattle.algebra.specs.ring.Gauss.{gauss}
+use Rattle.algebra.specs.ring.Ring.{gauss}
 use Rattle.numbers.specs.Value.{valueOf, pairOf}
 use Rattle.numbers.proofs.Values.{pair-path}
 use Rattle.numbers.proofs.sum.Statement.{statement}

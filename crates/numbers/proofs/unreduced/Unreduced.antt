@@ -4,16 +4,15 @@ use mathlib.Core.List.{[], _∷_}
 use Prim.Native.Nat.{ℕ, _+_, _*_, _-_, _≤_, _<_}
 use native.Mathlib.Nat.{mul-le-mul}
 use native.Mathlib.Omega.{arith}
-use Rattle.algebra.specs.ring.Ring.{Ops}
+use Rattle.algebra.specs.ring.Ring.{Ops, residue, residues, gauss}
 use Rattle.algebra.specs.ring.RingLaws.{CRing}
-use Rattle.algebra.specs.ring.Residue.{residue, residues}
-use Rattle.algebra.specs.ring.Gauss.{gauss}
 use Rattle.algebra.proofs.ring.Laws.{along, neg-unique}
 use Rattle.algebra.proofs.ring.Solver.{ring, quote}
 use Rattle.algebra.proofs.ring.ResidueRing.{val-path, residue-add, residue-mul}
 use Rattle.numbers.specs.declared.Pair.{Pair}
 use Rattle.numbers.specs.declared.Accumulator.{Accumulator}
-use Rattle.numbers.specs.Value.{prime, IsModulus, Value, field, i, res, value, real, valueOf}
+use Rattle.numbers.specs.Value.{prime, IsModulus, Value, field, i, value, real, valueOf}
+use Rattle.numbers.specs.Bounds.{res}
 use Rattle.numbers.specs.Value as Value
 use Rattle.numbers.specs.Unreduced.{Accumulated, meant, Room}
 use Rattle.numbers.proofs.Residues.{res-ring}
@@ -111,9 +110,9 @@ module _ {big m : ℕ} (none : Nothing big m) where
   unfolding gauss
   value-apart a b u v lu lv = value-path (residue-apart a u lu) (residue-apart b v lv)
 
-  value-turned : (a b u v : ℕ) → b ≤ big → u ≤ big → value m (v + (big - b)) (a + (big - u)) ≡ field m .mul (i m) (field m .add (value m a b) (field m .neg (value m u v)))
+  value-times-i : (a b u v : ℕ) → b ≤ big → u ≤ big → value m (v + (big - b)) (a + (big - u)) ≡ field m .mul (i m) (field m .add (value m a b) (field m .neg (value m u v)))
   unfolding gauss
-  value-turned a b u v lb lu =
+  value-times-i a b u v lb lu =
       value-path
       (residue-apart v b lb ∙ ring (res-ring m) (res m b ∷ res m v ∷ []) (search quote depth 40 fits 9999) refl)
       (residue-apart a u lu)
@@ -128,13 +127,13 @@ accumulated-apart m n k {x} {y} a b is l hx hy = record {
       ∙ ap₂ (λ a b. field m .add a (field m .neg b)) (hx .value-is) (hy .value-is);
 }
 
-pub accumulated-turned : (m : ℕ) {x y : Accumulator} → IsModulus m → Room 182890310402 x → Room 182890310402 y
+pub accumulated-times-i : (m : ℕ) {x y : Accumulator} → IsModulus m → Room 182890310402 x → Room 182890310402 y
     → Accumulated m 4 (record { re = y .im + (418031539216 - x .im); im = x .re + (418031539216 - y .re) }) (field m .mul (i m) (field m .add (meant m x) (field m .neg (meant m y))))
 unfolding meant
-accumulated-turned m {x} {y} is hx hy = record {
+accumulated-times-i m {x} {y} is hx hy = record {
   re = omega (arith, hy .im);
   im = omega (arith, hx .re);
-  value-is = value-turned (by-modulus (Nothing 418031539216) small-first small-second m is) (x .re) (x .im) (y .re) (y .im) (omega (arith, hx .im)) (omega (arith, hy .re));
+  value-is = value-times-i (by-modulus (Nothing 418031539216) small-first small-second m is) (x .re) (x .im) (y .re) (y .im) (omega (arith, hx .im)) (omega (arith, hy .re));
 }
 
 -- ---- the quarter turn w, which is i or -i
@@ -142,10 +141,10 @@ accumulated-turned m {x} {y} is hx hy = record {
 stands : {m n : ℕ} {r : Accumulator} {a b : Value m} → a ≡ b → Accumulated m n r a → Accumulated m n r b
 stands {m} {n} {r} e h = subst (Accumulated m n r) e h
 
-pub turned-forth : (m : ℕ) {r : Accumulator} {w : Value m} (x y : Value m) → w ≡ i m → Accumulated m 4 r (field m .mul (i m) (field m .add x (field m .neg y))) → Accumulated m 4 r (field m .mul w (field m .add x (field m .neg y)))
-turned-forth m x y e h = stands (ap (λ w. field m .mul w (field m .add x (field m .neg y))) (sym e)) h
+pub times-i-forth : (m : ℕ) {r : Accumulator} {w : Value m} (x y : Value m) → w ≡ i m → Accumulated m 4 r (field m .mul (i m) (field m .add x (field m .neg y))) → Accumulated m 4 r (field m .mul w (field m .add x (field m .neg y)))
+times-i-forth m x y e h = stands (ap (λ w. field m .mul w (field m .add x (field m .neg y))) (sym e)) h
 
-pub turned-back : (m : ℕ) {r : Accumulator} {w : Value m} (x y : Value m) → w ≡ field m .neg (i m) → Accumulated m 4 r (field m .mul (i m) (field m .add y (field m .neg x))) → Accumulated m 4 r (field m .mul w (field m .add x (field m .neg y)))
-turned-back m x y e h =
+pub times-i-back : (m : ℕ) {r : Accumulator} {w : Value m} (x y : Value m) → w ≡ field m .neg (i m) → Accumulated m 4 r (field m .mul (i m) (field m .add y (field m .neg x))) → Accumulated m 4 r (field m .mul w (field m .add x (field m .neg y)))
+times-i-back m x y e h =
     stands
     (ring (field-ring m) (i m ∷ x ∷ y ∷ []) (search quote depth 40 fits 9999) refl ∙ ap (λ w. field m .mul w (field m .add x (field m .neg y))) (sym e)) h

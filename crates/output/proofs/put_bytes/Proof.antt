@@ -5,7 +5,7 @@ use Prim.Native.Nat.{ℕ, _-_, _≤_}
 use native.Mathlib.Omega.{arith}
 use lib.ListN.{length, take}
 use lib.Seq.{take-all}
-use Rattle.output.specs.Output.{Wrote}
+use Rattle.output.specs.Written.{Wrote}
 use Rattle.output.proofs.Writing.{wrote-none, wrote-length, bytes-ends, bytes-next}
 use Rattle.output.proofs.put_bytes.Statement.{statement}
 use Rattle.output.proofs.put_bytes.Tie as tie

@@ -4,10 +4,9 @@ use mathlib.Core.List.{List}
 use Prim.Native.Nat.{ℕ, _+_, _*_}
 use native.Mathlib.Nat as N
 use lib.ListN.{length}
-use Rattle.algebra.specs.ring.Ring.{Ops}
-use Rattle.algebra.specs.ring.Residue.{residue, residues}
-use Rattle.algebra.specs.ring.Gauss.{gauss}
-use Rattle.numbers.specs.Value.{prime, Value, field, res, real, part}
+use Rattle.algebra.specs.ring.Ring.{Ops, residue, residues, gauss}
+use Rattle.numbers.specs.Value.{prime, Value, field, real, part}
+use Rattle.numbers.specs.Bounds.{res}
 use Rattle.numbers.proofs.Residues.{residue-above, res-val}
 use Rattle.numbers.proofs.Values.{field-ring}
 use Rattle.slices.specs.Pairs.{Below, valuesOf, listOf}

@@ -1,7 +1,7 @@
 -- The loop's invariant is `Driving`: the line has the inner sums of what came in, for the factors that are done.
 use mathlib.Core.Path.{_≡_}
 use native.Mathlib.Omega.{arith}
-use Rattle.roots.specs.Root.{tableRoot}
+use Rattle.roots.specs.Table.{tableRoot}
 use Rattle.plain.proofs.Driving.{standing-long, standing-end, standing-next, step-asks, after-left, Driving, driving-start, driving-next, driving-last}
 use Rattle.plain.proofs.transform.Statement.{statement}
 use Rattle.plain.proofs.transform.Tie as tie

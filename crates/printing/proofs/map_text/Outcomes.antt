@@ -14,30 +14,32 @@ use Rattle.refusals.proofs.Tests.{passed, passes, fails}
 use Rattle.cell.specs.Volume.{volumeLength}
 use Rattle.job.specs.declared.Job.{Job}
 use Rattle.job.specs.Job.{groupIn, halves, mapHeld}
-use Rattle.printing.specs.declared.map_text.TextAnswer.the-variants.{Written, Refused}
-use Rattle.printing.specs.Text.{mapText, written, notWritten, textTests, put, putText, textStep, textOutcome}
-use Rattle.output.specs.Output.{Wrote}
+use Rattle.output.specs.declared.FillAnswer.the-variants.{Written, Refused}
+use Rattle.printing.specs.Text.{mapText, textTests, putText, textStep}
+use Rattle.output.specs.Output.{written, notWritten, filled}
+use Rattle.output.specs.Answers.{fillOutcome}
+use Rattle.output.specs.Written.{Wrote}
 use Rattle.printing.specs.Printable.{Printable}
 use Rattle.output.proofs.Writing.{wrote-whole}
 
 -- ---- a text that goes to an output if that is long enough
 
-pub put-refused : (text out : List ℕ) → length out < length text → textOutcome (Refused OutputTooShort) out ≡ putText text out
+pub put-refused : (text out : List ℕ) → length out < length text → fillOutcome (Refused OutputTooShort) out ≡ putText text out
 put-refused text out h = rw (lt-ltb (length out) (length text) h)
 
-wrote-put : {n : ℕ} {text out out′ : List ℕ} → Wrote 0 text out n out′ → length text ≤ length out → textOutcome (Written n) out′ ≡ put text out
+wrote-put : {n : ℕ} {text out out′ : List ℕ} → Wrote 0 text out n out′ → length text ≤ length out → fillOutcome (Written n) out′ ≡ filled text out
 wrote-put {n} {text} {out} {out′} w l =
     let e : n ≡ length text = omega (arith, w .place) in
     let f = wrote-whole w l in
     λ i. record { answer = written (e i); output = f i }
 
-pub put-written : {n : ℕ} {text out out′ : List ℕ} → Wrote 0 text out n out′ → length text ≤ length out → textOutcome (Written n) out′ ≡ putText text out
+pub put-written : {n : ℕ} {text out out′ : List ℕ} → Wrote 0 text out n out′ → length text ≤ length out → fillOutcome (Written n) out′ ≡ putText text out
 put-written {n} {text} {out} {out′} w l = rw (le-ltb (length out) (length text) l) (wrote-put w l)
 
 -- ---- the call
 
 module _ (j : Job) (v out : List ℕ) where
-  pub text-refused : (r : Refusal) → numberOf r ≡ first (textTests j v (length out)) → textOutcome (Refused r) out ≡ textStep j v out
+  pub text-refused : (r : Refusal) → numberOf r ≡ first (textTests j v (length out)) → fillOutcome (Refused r) out ≡ textStep j v out
   unfolding textStep
   text-refused r e = fails r _ _ (λ n. record { answer = notWritten n; output = out }) e
 
@@ -47,7 +49,7 @@ module _ (j : Job) (v out : List ℕ) where
         let t = passed (textTests j v (length out)) tt none in
         record { valid = not-false _ (t .0); long = eqb-true _ _ (not-false _ (t .1 .1 .0)) }
 
-    pub text-written : {n : ℕ} {out′ : List ℕ} → Wrote 0 (mapText j v) out n out′ → textOutcome (Written n) out′ ≡ textStep j v out
+    pub text-written : {n : ℕ} {out′ : List ℕ} → Wrote 0 (mapText j v) out n out′ → fillOutcome (Written n) out′ ≡ textStep j v out
     unfolding textStep
     text-written w =
         let t = passed (textTests j v (length out)) tt none in
@@ -58,6 +60,6 @@ module _ (j : Job) (v out : List ℕ) where
   unfolding textStep first
   text-held p h = rw (p .valid, eq-eqb (j .state) mapHeld h, eq-eqb (length v) (volumeLength (groupIn j) (halves j)) (p .long)) (short (ltb (length out) (length (mapText j v))))
     where
-      short : (b : Bool) → accepted (cond b 18 0) (put (mapText j v) out) (λ n. record { answer = notWritten n; output = out }) ≡ cond b (record { answer = notWritten 18; output = out }) (put (mapText j v) out)
+      short : (b : Bool) → accepted (cond b 18 0) (filled (mapText j v) out) (λ n. record { answer = notWritten n; output = out }) ≡ cond b (record { answer = notWritten 18; output = out }) (filled (mapText j v) out)
       short true = refl
       short false = refl

@@ -19,7 +19,8 @@ use Rattle.job.specs.declared.Job.{Job}
 use Rattle.job.specs.Job.{jobCell, groupIn, halves, validJob, headerOf, axisTests}
 use Rattle.header.proofs.Headers.{all-three}
 use Rattle.job.proofs.Jobs.{valid-sizes}
-use Rattle.output.specs.Output.{decimal, blank, lineFeed, each, Ends}
+use Rattle.output.specs.Output.{decimal, blank, lineFeed, each}
+use Rattle.output.specs.Written.{Ends}
 use Rattle.printing.specs.Text.{headLine, rowLine, mapText}
 use Rattle.printing.specs.Printable.{Printable}
 use Rattle.output.proofs.Decimals.{decimal-short}
@@ -31,7 +32,7 @@ unfolding each
 each-bound f k h zero = omega arith
 each-bound f k h (suc n) = rw length-append (omega (arith, each-bound f k h n, h n))
 
-head-short : (j : Job) → length (headLine j) ≤ 48
+head-short : (j : Job) → length (headLine j) ≤ 88
 unfolding headLine
 head-short j = simp length-append (omega (arith, decimal-short (j .group), decimal-short (j .a .length), decimal-short (j .b .length), decimal-short (j .c .length)))
 
@@ -48,19 +49,19 @@ module _ (j : Job) (v : List ℕ) where
   abbrev pub values : (z x : ℕ) → List ℕ
   values z x = valuesFrom v (rowStart z x) (j .b .length)
 
-  row-short : (z x : ℕ) → length (rowLine j v z x) ≤ 22 + j .b .length * 11
+  row-short : (z x : ℕ) → length (rowLine j v z x) ≤ 42 + j .b .length * 21
   unfolding rowLine
   row-short z x = simp length-append (omega (arith, decimal-short z, decimal-short x, short))
     where
-      short : length (values z x) ≤ j .b .length * 11
-      short = each-bound (λ y. blank ∷ decimal (getD v (rowStart z x + y) 0)) 11 (λ y. omega (arith, decimal-short (getD v (rowStart z x + y) 0))) (j .b .length)
+      short : length (values z x) ≤ j .b .length * 21
+      short = each-bound (λ y. blank ∷ decimal (getD v (rowStart z x + y) 0)) 21 (λ y. omega (arith, decimal-short (getD v (rowStart z x + y) 0))) (j .b .length)
 
-  text-short : length (mapText j v) ≤ 48 + layers (groupIn j) (halves j) * (j .a .length * (22 + j .b .length * 11))
+  text-short : length (mapText j v) ≤ 88 + layers (groupIn j) (halves j) * (j .a .length * (42 + j .b .length * 21))
   unfolding mapText
   text-short = rw length-append (omega (arith, head-short j, planes-short))
     where
-      planes-short : length (each (layers (groupIn j) (halves j)) (λ z. each (j .a .length) (λ x. rowLine j v z x))) ≤ layers (groupIn j) (halves j) * (j .a .length * (22 + j .b .length * 11))
-      planes-short = each-bound (λ z. each (j .a .length) (λ x. rowLine j v z x)) (j .a .length * (22 + j .b .length * 11)) (λ z. each-bound (λ x. rowLine j v z x) (22 + j .b .length * 11) (λ x. row-short z x) (j .a .length)) (layers (groupIn j) (halves j))
+      planes-short : length (each (layers (groupIn j) (halves j)) (λ z. each (j .a .length) (λ x. rowLine j v z x))) ≤ layers (groupIn j) (halves j) * (j .a .length * (42 + j .b .length * 21))
+      planes-short = each-bound (λ z. each (j .a .length) (λ x. rowLine j v z x)) (j .a .length * (42 + j .b .length * 21)) (λ z. each-bound (λ x. rowLine j v z x) (42 + j .b .length * 21) (λ x. row-short z x) (j .a .length)) (layers (groupIn j) (halves j))
 
 -- ---- the sizes of a job that can be printed
 
@@ -75,14 +76,14 @@ module _ {j : Job} {v : List ℕ} (p : Printable j v) where
   pub printable-sizes : Sizes (jobCell j)
   printable-sizes = valid-sizes j (p .valid)
 
-  -- the text of a map is at most 48 bytes longer than eleven times its volume
-  pub map-short : length (mapText j v) ≤ 48 + 11 * length v
+  -- the text of a map is at most 88 bytes longer than 21 times its volume
+  pub map-short : length (mapText j v) ≤ 88 + 21 * length v
   map-short =
       let s = printable-sizes in
       let n1 : j .a .length ≡ 2 * (j .a .length / 2) = omega (arith, s .first .even) in
-      let row : 22 + j .b .length * 11 ≡ 11 * (2 * suc (j .b .length / 2)) = omega (arith, s .second .even) in
+      let row : 42 + j .b .length * 21 ≡ 21 * (2 * suc (j .b .length / 2)) = omega (arith, s .second .even) in
       let w = layers (groupIn j) (halves j) in
-      let whole : w * (j .a .length * (22 + j .b .length * 11)) ≡ w * (2 * (j .a .length / 2) * (11 * (2 * suc (j .b .length / 2)))) = λ i. w * (n1 i * row i) in
+      let whole : w * (j .a .length * (42 + j .b .length * 21)) ≡ w * (2 * (j .a .length / 2) * (21 * (2 * suc (j .b .length / 2)))) = λ i. w * (n1 i * row i) in
       omega (arith, text-short j v, whole, p .long)
 
   pub map-ends : Ends 0 (mapText j v)

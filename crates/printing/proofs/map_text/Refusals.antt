@@ -4,10 +4,10 @@ use Prim.Native.Nat.{ℕ, _≤_}
 use native.Mathlib.Omega.{arith}
 use lib.ListN.{length, length-append}
 use Rattle.printing.specs.Text.{refusalText}
-use Rattle.output.specs.Output.{Ends}
+use Rattle.output.specs.Written.{Ends}
 use Rattle.output.proofs.Decimals.{decimal-short}
 
-pub refusal-short : (n place : ℕ) → length (refusalText n place) ≤ 33
+pub refusal-short : (n place : ℕ) → length (refusalText n place) ≤ 53
 unfolding refusalText
 refusal-short n place = simp length-append (omega (arith, decimal-short n, decimal-short place))
 

@@ -1,11 +1,12 @@
 // The text of a refusal: its number, and the place of the record at fault.
-use crate::map_text::TextAnswer;
+use output::FillAnswer;
 use refusals::Refusal;
 ghost use mathlib.Core.Path.{_≡_};
 ghost use lib.ListN.{length};
-ghost use Rattle.output.specs.Output.{Wrote};
+ghost use Rattle.output.specs.Written.{Wrote};
 ghost use Rattle.refusals.specs.Refusals.{numberOf};
-ghost use Rattle.printing.specs.Text.{refusalText, putText, textOutcome};
+ghost use Rattle.printing.specs.Text.{refusalText, putText};
+ghost use Rattle.output.specs.Answers.{fillOutcome};
 
 // "refused 12 at 0", from the output's first byte on.
 fn put_refusal(out: &mut [u8], number: u32, place: u32) -> usize
@@ -27,12 +28,12 @@ fn refusal_length(number: u32, place: u32) -> usize
 }
 
 // The text of a refusal goes to the output's first bytes, if they are enough for it.
-pub fn refusal_text(refusal: Refusal, place: u32, out: &mut [u8]) -> TextAnswer
-    ensures { λ r. ⌜ textOutcome r (now (out .exit)) ≡ putText (refusalText (numberOf refusal) place) (now (out .entry)) ⌝ }
+pub fn refusal_text(refusal: Refusal, place: u32, out: &mut [u8]) -> FillAnswer
+    ensures { λ r. ⌜ fillOutcome r (now (out .exit)) ≡ putText (refusalText (numberOf refusal) place) (now (out .entry)) ⌝ }
 {
     let number = refusals::number_of(refusal);
     if out.len() < refusal_length(number, place) {
-        return TextAnswer::Refused(Refusal::OutputTooShort);
+        return FillAnswer::Refused(Refusal::OutputTooShort);
     }
-    TextAnswer::Written(put_refusal(out, number, place))
+    FillAnswer::Written(put_refusal(out, number, place))
 }

@@ -1,19 +1,22 @@
 // The text of a map: a head line, then a line for each row of the volume.
-use crate::map_text::TextAnswer;
 use cell::places;
 use job::Job;
 use job::check::tests;
 use job::valid;
+use output::FillAnswer;
 use refusals::Checked;
 use refusals::Refusal;
 ghost use mathlib.Core.Path.{_≡_};
 ghost use Prim.Native.Nat.{_<_};
 ghost use lib.ListN.{length};
-ghost use Rattle.refusals.specs.Refusals.{first, checkedNumber};
+ghost use Rattle.refusals.specs.Refusals.{first};
+ghost use Rattle.refusals.specs.Checks.{checkedNumber};
 ghost use Rattle.cell.specs.Volume.{layers};
 ghost use Rattle.job.specs.Job.{groupIn, halves};
-ghost use Rattle.output.specs.Output.{each, Wrote, Ends};
-ghost use Rattle.printing.specs.Text.{headLine, rowLine, mapText, textTests, textStep, textOutcome};
+ghost use Rattle.output.specs.Output.{each};
+ghost use Rattle.output.specs.Written.{Wrote, Ends};
+ghost use Rattle.printing.specs.Text.{headLine, rowLine, mapText, textTests, textStep};
+ghost use Rattle.output.specs.Answers.{fillOutcome};
 ghost use Rattle.printing.specs.Printable.{Printable};
 
 // "map", the group and the lengths.
@@ -63,7 +66,8 @@ fn put_plane(out: &mut [u8], at: usize, job: Job, volume: &[u32], z: u32) -> usi
 fn put_planes(out: &mut [u8], at: usize, job: Job, volume: &[u32]) -> usize
     requires { ⌜ Printable job (now volume) ⌝ }
     requires { ⌜ Ends at (each (layers (groupIn job) (halves job)) (λ z. each (job .a .length) (λ x. rowLine job (now volume) z x))) ⌝ }
-    ensures { λ r. ⌜ Wrote at (each (layers (groupIn job) (halves job)) (λ z. each (job .a .length) (λ x. rowLine job (now (volume .entry)) z x))) (now (out .entry)) r (now (out .exit)) ⌝ }
+    ensures { λ r. ⌜ Wrote at (each (layers (groupIn job) (halves job)) (λ z. each (job .a .length) (λ x. rowLine job (now (volume .entry)) z x)))
+        (now (out .entry)) r (now (out .exit)) ⌝ }
 {
     let planes = places::layer_count(job.unit_cell());
     let mut place = at;
@@ -113,12 +117,12 @@ fn check_text(job: Job, volume: &[u32], room: usize) -> Checked
 }
 
 // The text of the map that a job holds goes to the output's first bytes, or the call is turned back and changes nothing.
-pub fn map_text(job: Job, volume: &[u32], out: &mut [u8]) -> TextAnswer
-    ensures { λ r. ⌜ textOutcome r (now (out .exit)) ≡ textStep job (now (volume .entry)) (now (out .entry)) ⌝ }
+pub fn map_text(job: Job, volume: &[u32], out: &mut [u8]) -> FillAnswer
+    ensures { λ r. ⌜ fillOutcome r (now (out .exit)) ≡ textStep job (now (volume .entry)) (now (out .entry)) ⌝ }
 {
     let checked = check_text(job, volume, out.len());
     match checked {
-        Checked::Failed(refusal) => TextAnswer::Refused(refusal),
-        Checked::Sound => TextAnswer::Written(put_map(out, job, volume)),
+        Checked::Failed(refusal) => FillAnswer::Refused(refusal),
+        Checked::Sound => FillAnswer::Written(put_map(out, job, volume)),
     }
 }

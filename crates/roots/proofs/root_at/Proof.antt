@@ -1,6 +1,6 @@
 -- What the two tables hold at k.
 use borrow.Author.Needs.{needs}
-use Rattle.roots.specs.Root.{entryAt}
+use Rattle.roots.specs.Table.{entryAt}
 use Rattle.roots.proofs.root_at.Statement.{statement}
 use Rattle.roots.proofs.root_at.Tie as tie
 

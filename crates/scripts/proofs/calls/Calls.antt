@@ -10,9 +10,11 @@ use Rattle.job.specs.declared.Answered.{Answered}
 use Rattle.job.specs.declared.Job.{Job}
 use Rattle.job.specs.declared.Reflection.{Reflection}
 use Rattle.job.specs.declared.GridPoint.{GridPoint}
-use Rattle.job.specs.Job.{withState, factorsHeld, mapHeld, Said, done, Outcome, Worked, unchanged, position, index, recordStep, synthesisTests, synthesised, synthesisStep, analysisTests, analysed, analysisStep, pointTests, pointStep, factorTests, factorStep, said, outcome, worked}
+use Rattle.job.specs.Job.{withState, factorsHeld, mapHeld, Said, done, Outcome, Worked, unchanged, position, index, recordStep, synthesised, synthesisStep, analysed, analysisStep, pointStep, factorStep}
+use Rattle.job.specs.TestSteps.{synthesisTests, analysisTests, pointTests, factorTests}
+use Rattle.job.specs.Answers.{said, outcome, worked, replyOf}
 use Rattle.scripts.specs.declared.numbers.CallNumbers.{CallNumbers}
-use Rattle.scripts.specs.Script.{Call, recording, synthesis, analysis, readPoint, readFactor, step, callOf, callAt, numbersAt, callSaid, answerNumbers, clearedIfDone, scratchLeft, replyNumbers, callStep, callOutcome}
+use Rattle.scripts.specs.Script.{Call, recording, synthesis, analysis, readPoint, readFactor, step, callOf, callAt, numbersAt, callSaid, clearedIfDone, scratchLeft, callStep, callOutcome}
 use Rattle.scripts.specs.declared.calls.Called.{Called}
 
 -- ---- what an operation's number stands for
@@ -117,15 +119,15 @@ module _ (j : Job) (v : List ℕ) where
 
 module _ (j : Job) (v : List ℕ) (r : Called) where
   -- a call whose job and volume are an outcome's, said as numbers
-  of-outcome : (o : Outcome) (c : Call) (s s′ : List ℕ) → o ≡ step j v c → replyNumbers (r .reply) ≡ answerNumbers (o .answer) → r .job ≡ o .job → s′ ≡ scratchLeft c (step j v c .answer) s →
+  of-outcome : (o : Outcome) (c : Call) (s s′ : List ℕ) → o ≡ step j v c → r .reply ≡ replyOf (o .answer) → r .job ≡ o .job → s′ ≡ scratchLeft c (step j v c .answer) s →
       callOutcome r (o .volume) s′ ≡ callStep j v s c
   unfolding callStep
   of-outcome o c s s′ e a b t =
-      let p = a ∙ ap (λ (q : Outcome). answerNumbers (q .answer)) e in
+      let p = a ∙ ap (λ (q : Outcome). replyOf (q .answer)) e in
       let d = b ∙ ap (λ (q : Outcome). q .job) e in
       λ i. record { reply = p i; job = d i; volume = e i .volume; scratch = t i }
 
-  module _ (a : Answered) (v′ : List ℕ) (says : replyNumbers (r .reply) ≡ answerNumbers (said (a .answer))) (goes : r .job ≡ a .job) where
+  module _ (a : Answered) (v′ : List ℕ) (says : r .reply ≡ replyOf (said (a .answer))) (goes : r .job ≡ a .job) where
     pub call-record : (s : List ℕ) (n : CallNumbers) → n .operation ≡ 0 → outcome a v′ ≡ recordStep j (record { 0 = n .h; 1 = n .k; 2 = n .l }) (n .x) (n .y) v → callOutcome r v′ s ≡ callStep j v s (callSaid s n)
     unfolding callOf
     call-record s n z e =
@@ -138,7 +140,7 @@ module _ (j : Job) (v : List ℕ) (r : Called) where
     pub call-analysis : (s s′ : List ℕ) → worked a v′ s′ ≡ analysisStep j v s → callOutcome r v′ s′ ≡ callStep j v s (analysis s)
     call-analysis s s′ e = of-outcome (outcome a v′) (analysis s) s s′ (ap (λ (w : Worked). w .outcome) e) says goes (ap (λ (w : Worked). w .scratch) e ∙ analysis-scratch j v s)
 
-  module _ (a : Said) (says : replyNumbers (r .reply) ≡ answerNumbers a) (goes : r .job ≡ j) (s : List ℕ) (n : CallNumbers) where
+  module _ (a : Said) (says : r .reply ≡ replyOf a) (goes : r .job ≡ j) (s : List ℕ) (n : CallNumbers) where
     pub call-point : n .operation ≡ 3 → a ≡ pointStep j (record { 0 = n .h; 1 = n .k; 2 = n .l }) v .answer → callOutcome r v s ≡ callStep j v s (callSaid s n)
     unfolding callOf
     call-point z e =

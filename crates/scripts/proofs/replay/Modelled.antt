@@ -4,8 +4,7 @@ use mathlib.Core.List.{List}
 use Prim.Native.Nat.{ℕ}
 use Rattle.job.specs.declared.Job.{Job}
 use Rattle.model.specs.Model.{Model}
-use Rattle.demands.specs.Calls.{Start, Ran}
-use Rattle.demands.specs.Demands.{Started}
+use Rattle.demands.specs.Demands.{Start, Ran, Started}
 use Rattle.demands.proofs.Starts.{every-start}
 use Rattle.scripts.specs.Script.{scriptCalls, ended, replayStep, modelReplay}
 

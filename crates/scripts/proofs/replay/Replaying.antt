@@ -6,26 +6,24 @@ use native.Mathlib.Nat.{sub-zero}
 use native.Mathlib.Omega.{arith}
 use lib.ListN.{length, take, drop, take-append-drop}
 use Rattle.job.specs.declared.Job.{Job}
-use Rattle.job.specs.Job.{Said, done, density, factor, refused}
-use Rattle.demands.specs.Calls.{step, run}
-use Rattle.scripts.specs.Script.{callAt, answerNumbers, scratchLeft, CallOutcome, callStep, calls, allNumbers, scratchAfter, ReplayOutcome, callCount, ended, replayStep}
+use Rattle.job.specs.declared.reply.Reply.{Reply}
+use Rattle.job.specs.Answers.{replyOf}
+use Rattle.demands.specs.Demands.{step, run}
+use Rattle.scripts.specs.Script.{callAt, replyNumbers, scratchLeft, CallOutcome, callStep, calls, allNumbers, scratchAfter, ReplayOutcome, callCount, ended, replayStep}
 use Rattle.scripts.proofs.calls.Calls.{call-by-length}
 use Rattle.scripts.proofs.numbers.Placed.{placed, take-placed, drop-placed}
 
 -- ---- an answer among the others
 
-three-numbers : (a : Said) → length (answerNumbers a) ≡ 3
-three-numbers done = refl
-three-numbers (density n) = refl
-three-numbers (factor x y) = refl
-three-numbers (refused n) = refl
+three-numbers : (a : Reply) → length (replyNumbers a) ≡ 3
+three-numbers a = refl
 
 -- the answer of call i of n, written to its three places, stands before the later ones
-answer-placed : (out out′ : List ℕ) (i n : ℕ) (a : Said) (later : List ℕ) → i < n → 3 * n ≤ length out → out′ ≡ placed out (3 * i) (answerNumbers a) →
-    take (3 * (i + 1)) out′ ++ later ++ drop (3 * n) out′ ≡ take (3 * i) out ++ (answerNumbers a ++ later) ++ drop (3 * n) out
+answer-placed : (out out′ : List ℕ) (i n : ℕ) (a : Reply) (later : List ℕ) → i < n → 3 * n ≤ length out → out′ ≡ placed out (3 * i) (replyNumbers a) →
+    take (3 * (i + 1)) out′ ++ later ++ drop (3 * n) out′ ≡ take (3 * i) out ++ (replyNumbers a ++ later) ++ drop (3 * n) out
 answer-placed out out′ i n a later h fits w =
-    let t : 3 * (i + 1) ≡ 3 * i + length (answerNumbers a) = omega (arith, three-numbers a) in
-    rw (w, t, take-placed out (3 * i) (answerNumbers a) (omega (arith, three-numbers a)), drop-placed out (3 * i) (answerNumbers a) (omega (arith, three-numbers a)) (3 * n) (omega (arith, three-numbers a)), append-assoc (take (3 * i) out) (answerNumbers a) later)
+    let t : 3 * (i + 1) ≡ 3 * i + length (replyNumbers a) = omega (arith, three-numbers a) in
+    rw (w, t, take-placed out (3 * i) (replyNumbers a) (omega (arith, three-numbers a)), drop-placed out (3 * i) (replyNumbers a) (omega (arith, three-numbers a)) (3 * n) (omega (arith, three-numbers a)), append-assoc (take (3 * i) out) (replyNumbers a) later)
 
 -- ---- the rest of a script
 
@@ -48,13 +46,13 @@ module _ (script lent : List ℕ) (n : ℕ) where
   calls-cons i h = let e : n - i ≡ suc (n - (i + 1)) = omega arith in rw e
 
   -- a call and its answer
-  pub resumed-next : (i : ℕ) (j : Job) (v s out : List ℕ) (o : CallOutcome) (out′ : List ℕ) → i < n → 3 * n ≤ length out → o ≡ callStep j v s (callAt lent script i) → out′ ≡ placed out (3 * i) (o .reply) →
+  pub resumed-next : (i : ℕ) (j : Job) (v s out : List ℕ) (o : CallOutcome) (out′ : List ℕ) → i < n → 3 * n ≤ length out → o ≡ callStep j v s (callAt lent script i) → out′ ≡ placed out (3 * i) (replyNumbers (o .reply)) →
       resumed (i + 1) (o .job) (o .volume) (o .scratch) out′ ≡ resumed i j v s out
   unfolding resumed callStep run scratchAfter allNumbers
   resumed-next i j v s out o out′ h fits e w =
       let q = step j v (callAt lent script i) in
       let r = run (q .job) (q .volume) (calls lent script (i + 1) (n - (i + 1))) in
-      let d = answer-placed out out′ i n (q .answer) (allNumbers (r .answers)) h fits (w ∙ ap (λ (x : CallOutcome). placed out (3 * i) (x .reply)) e) in
+      let d = answer-placed out out′ i n (replyOf (q .answer)) (allNumbers (r .answers)) h fits (w ∙ ap (λ (x : CallOutcome). placed out (3 * i) (replyNumbers (x .reply))) e) in
       rw (e, calls-cons i h) (λ x. record {
         job = r .job;
         written = 3 * n;
@@ -86,7 +84,7 @@ pub record Replaying (script lent out₀ : List ℕ) (n : ℕ) (all : ReplayOutc
 
 module _ {script lent out₀ : List ℕ} {n : ℕ} {all : ReplayOutcome} {i : ℕ} {j : Job} {v s out : List ℕ} where
   pub replaying-next : (o : CallOutcome) (out′ : List ℕ) → Replaying script lent out₀ n all i j v s out → i < n → 3 * n ≤ length out₀ → length (o .scratch) ≡ length s → length out′ ≡ length out →
-      o ≡ callStep j v s (callAt s script i) → out′ ≡ placed out (3 * i) (o .reply) → Replaying script lent out₀ n all (i + 1) (o .job) (o .volume) (o .scratch) out′
+      o ≡ callStep j v s (callAt s script i) → out′ ≡ placed out (3 * i) (replyNumbers (o .reply)) → Replaying script lent out₀ n all (i + 1) (o .job) (o .volume) (o .scratch) out′
   replaying-next o out′ k h fits ls lo e w = record {
     le = omega arith;
     scratch-length = ls ∙ k .scratch-length;

@@ -15,7 +15,8 @@ pub fn call_at(
     scratch: &mut [u32],
 ) -> Called
     requires { ⌜ 6 * i + 6 ≤ length (now script) ⌝ }
-    ensures { λ r. ⌜ callOutcome r (now (volume .exit)) (now (scratch .exit)) ≡ callStep job (now (volume .entry)) (now (scratch .entry)) (callAt (now (scratch .entry)) (now (script .entry)) i) ⌝ }
+    ensures { λ r. ⌜ callOutcome r (now (volume .exit)) (now (scratch .exit))
+        ≡ callStep job (now (volume .entry)) (now (scratch .entry)) (callAt (now (scratch .entry)) (now (script .entry)) i) ⌝ }
 {
     let numbers = crate::numbers::numbers_at(script, i);
     let operation = numbers.operation;
@@ -29,13 +30,15 @@ pub fn call_at(
 }
 
 fn synthesis_call(job: Job, volume: &mut [u32], scratch: &mut [u32]) -> Called
-    ensures { λ r. ⌜ callOutcome r (now (volume .exit)) (now (scratch .exit)) ≡ callStep job (now (volume .entry)) (now (scratch .entry)) (synthesis (now (scratch .entry))) ⌝ }
+    ensures { λ r. ⌜ callOutcome r (now (volume .exit)) (now (scratch .exit))
+        ≡ callStep job (now (volume .entry)) (now (scratch .entry)) (synthesis (now (scratch .entry))) ⌝ }
 {
     crate::calls::of_answered(job.synthesis(volume, scratch))
 }
 
 fn analysis_call(job: Job, volume: &mut [u32], scratch: &mut [u32]) -> Called
-    ensures { λ r. ⌜ callOutcome r (now (volume .exit)) (now (scratch .exit)) ≡ callStep job (now (volume .entry)) (now (scratch .entry)) (analysis (now (scratch .entry))) ⌝ }
+    ensures { λ r. ⌜ callOutcome r (now (volume .exit)) (now (scratch .exit))
+        ≡ callStep job (now (volume .entry)) (now (scratch .entry)) (analysis (now (scratch .entry))) ⌝ }
 {
     crate::calls::of_answered(job.analysis(volume, scratch))
 }

@@ -1,13 +1,14 @@
 -- `slices::copy`: j pairs are copied.
 use Prim.Native.Nat.{_-_}
-use Rattle.slices.specs.Pairs.{at, Filling}
+use Rattle.slices.specs.Pairs.{at}
+use Rattle.slices.specs.Filling.{FillingPairs}
 use Rattle.slices.proofs.Filling.{filling-next}
 use Rattle.slices.proofs.Sets.{fill}
 use Rattle.slices.proofs.copy.Statement.{statement}
 use Rattle.slices.proofs.copy.Tie as tie
 
 abbrev Inv-loop : tie.InvT-loop
-Inv-loop src dst₀ n j₀ dst j = Filling (λ k. k) (at src) n j dst₀ dst
+Inv-loop src dst₀ n j₀ dst j = FillingPairs (λ k. k) (at src) n j dst₀ dst
 
 abbrev μ-loop : tie.MeasureT-loop
 μ-loop src dst₀ n j₀ dst j = n - j

@@ -4,7 +4,7 @@ use borrow.Author.Needs.{needs}
 use mathlib.Core.Path.{_≡_, refl}
 use Prim.Native.Nat.{ℕ, _+_, _≤_, _<_, _-_}
 use lib.ListN.{length, getD, length-set}
-use Rattle.test_io.proofs.Generated.{below-next}
+use Rattle.test_io.proofs.Stored.{below-next}
 use Rattle.test_io.proofs.fill.Statement.{statement}
 use Rattle.test_io.proofs.fill.Tie as tie
 

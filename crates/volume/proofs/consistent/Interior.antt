@@ -6,8 +6,7 @@ use Prim.Native.Nat.{ℕ, zero, suc, _*_, _/_, _≤_, _<_}
 use native.Mathlib.Omega.{arith}
 use lib.Dec.{T, leb, ltb, eqb}
 use borrow.Author.Tests.{le-ltb, lt-leb, eqb-true, eqb-false}
-use Rattle.algebra.specs.cells.Cell.{J, Sym, Sym.sym as op, friedel, Group, P1, P2₁, Pm, Pa, P2₁2₁2₁, span, imageOf, flip, negI}
-use Rattle.algebra.specs.cells.CellTests.{every, storedT}
+use Rattle.algebra.specs.cells.Cell.{J, Sym, Sym.sym as op, friedel, Group, P1, P2₁, Pm, Pa, P2₁2₁2₁, span, imageOf, flip, negI, every, storedT}
 use Rattle.algebra.proofs.cells.CellAxis.{neg-pos}
 use Rattle.algebra.proofs.cells.CellTests.{stored-iff}
 use Rattle.cell.specs.Volume.{groupOf}

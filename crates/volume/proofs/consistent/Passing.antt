@@ -9,8 +9,7 @@ use native.Mathlib.Numerals.{add-one}
 use native.Mathlib.Omega.{arith}
 use lib.Dec.{T}
 use lib.ListN.{length, getD}
-use Rattle.algebra.specs.cells.Cell.{J}
-use Rattle.algebra.specs.cells.CellTests.{below, every, everyPlace}
+use Rattle.algebra.specs.cells.Cell.{J, below, every, everyPlace}
 use Rattle.algebra.proofs.ring.Bool.{and-l, and-r, and-i, same-test, below-at, below-by}
 use Rattle.slices.proofs.Pairs.{lt-or-ge}
 use Rattle.algebra.proofs.cells.CellTests.{every-place-at, every-place-by}

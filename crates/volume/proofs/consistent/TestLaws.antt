@@ -8,8 +8,7 @@ use lib.ListN.{length, getD}
 use lib.Dec.{T, leb, leb→le, ltb, ltb→lt, eqb}
 use borrow.Author.Tests.{lt-ltb, le-ltb, eq-eqb}
 use Rattle.algebra.specs.lines.Kinds.{Kind.antisymmetric}
-use Rattle.algebra.specs.cells.Cell.{J, Inside, Sym, Sym.sym as op, one, Group, full, span, imageOf, pointImage, impliedValue}
-use Rattle.algebra.specs.cells.CellTests.{below, everyPlace, imply, storedT}
+use Rattle.algebra.specs.cells.Cell.{J, Inside, Sym, Sym.sym as op, one, Group, full, span, imageOf, pointImage, impliedValue, below, everyPlace, imply, storedT}
 use Rattle.algebra.proofs.ring.Bool.{and-l, and-r, imply-iff, below-by}
 use Rattle.algebra.proofs.cells.CellSym.{square, image-one, image-image, point-one, implied-one, implied-image, implied-twice}
 use Rattle.algebra.proofs.cells.CellTests.{every-place-by}

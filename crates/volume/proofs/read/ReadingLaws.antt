@@ -8,7 +8,8 @@ use native.Mathlib.Omega.{arith}
 use lib.Dec.{leb}
 use borrow.Author.Tests.{ne-eqb, le-leb, lt-leb}
 use Rattle.algebra.specs.lines.Kinds.{Kind, Kind.alternating, Kind.symmetric, Kind.antisymmetric}
-use Rattle.algebra.specs.cells.Cell.{J, Inside, Sym, Group, P2₁, Pm, Pa, P2₁2₁2₁, lineSym, negI, imageOf, flip, span, impliedValue}
+use Rattle.algebra.specs.cells.Cell.{J, Inside, Sym, Group, P2₁, Pm, Pa, P2₁2₁2₁, negI, imageOf, flip, span, impliedValue}
+use Rattle.algebra.specs.cells.CellPlaces.{lineSym}
 use Rattle.algebra.specs.cells.CellPack.{even}
 use Rattle.algebra.proofs.ring.Laws.{along}
 use Rattle.algebra.proofs.cells.CellAxis.{neg-pos}

@@ -5,8 +5,7 @@ use mathlib.Core.List.{List, [], _∷_}
 use Prim.Native.Nat.{ℕ, _+_, _<_, _≤_}
 use lib.Dec.{leb, leb→le, ltb→lt}
 use lib.ListN.{length, getD, drop}
-use Rattle.algebra.specs.cells.Cell.{J, Sym, one, Group, imageOf, impliedValue, span}
-use Rattle.algebra.specs.cells.CellTests.{storedT}
+use Rattle.algebra.specs.cells.Cell.{J, Sym, one, Group, imageOf, impliedValue, span, storedT}
 use Rattle.algebra.proofs.ring.Bool.{and-l, and-r}
 use Rattle.numbers.specs.declared.Pair.{Pair}
 use Rattle.numbers.specs.Value.{Value, field, conj, valueOf, pairOf}

@@ -10,7 +10,7 @@ use cell::places;
 ghost use mathlib.Core.Path.{_≡_};
 ghost use mathlib.Core.Bool.{false};
 ghost use Prim.Native.Nat.{_*_, _/_, _<_};
-ghost use Rattle.algebra.specs.cells.CellTests.{below};
+ghost use Rattle.algebra.specs.cells.Cell.{below};
 ghost use Rattle.cell.specs.Volume.{layers};
 ghost use Rattle.cell.specs.Consistency.{pointAgrees, consistentMap};
 ghost use Rattle.cell.specs.Operations.{cellGroup, cellHalves, pointOf, symOf, Sizes, PointWithin};

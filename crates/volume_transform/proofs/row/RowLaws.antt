@@ -6,7 +6,8 @@ use Prim.Native.Nat.{ℕ, zero, suc, _+_, _*_}
 use native.Mathlib.Omega.{arith}
 use lib.ListN.{length, take, drop, getD, set, length-append, length-drop, length-set}
 use Rattle.algebra.specs.lines.Kinds.{Kind.hermitian, slots}
-use Rattle.numbers.specs.Value.{prime, IsModulus, Small}
+use Rattle.numbers.specs.Value.{prime, IsModulus}
+use Rattle.numbers.specs.Bounds.{Small}
 use Rattle.numbers.proofs.Primes.{prime-pos}
 use Rattle.slices.specs.Pairs.{at, puts, Below}
 use Rattle.slices.specs.Segments.{segment, setSegment, WholePairs}

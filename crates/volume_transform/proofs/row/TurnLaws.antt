@@ -12,17 +12,18 @@ use borrow.Author.Tests.{lt-ltb, le-ltb}
 use Rattle.algebra.specs.lines.Kinds.{Kind, Kind.hermitian, slots, forward, inverse}
 use Rattle.algebra.proofs.ring.Laws.{along}
 use Rattle.numbers.specs.declared.Pair.{Pair}
-use Rattle.numbers.specs.Value.{prime, IsModulus, field, conj, i, half, real, valueOf, pairOf, Small}
+use Rattle.numbers.specs.Value.{prime, IsModulus, field, conj, i, half, real, valueOf, pairOf}
+use Rattle.numbers.specs.Bounds.{Small, zeroPair}
 use Rattle.numbers.proofs.Primes.{prime-pos}
 use Rattle.numbers.proofs.Values.{field-ring, field-star, pair-path}
-use Rattle.slices.specs.Pairs.{valuesOf, listOf, at, tab, put, puts, fills, zeroPair, Below}
+use Rattle.slices.specs.Pairs.{valuesOf, listOf, at, tab, put, puts, fills, Below}
 use Rattle.algebra.specs.fourier.Axis.{AxisLaws}
 use Rattle.slices.proofs.Pairs.{lt-or-ge, puts-ext, is-tab, at-tab, length-put, at-put-same, at-put-other}
 use Rattle.slices.proofs.Segments.{at-take, at-append-left, take-fills, drop-fills}
 use Rattle.slices.proofs.Values.{length-list, below-list, list-cong, values-list}
 use Rattle.slices.proofs.Bounds.{below-tab}
 use Rattle.lengths.specs.Lengths.{kindOf, pairCount}
-use Rattle.line.specs.Transform.{transformed}
+use Rattle.line.specs.Line.{transformed}
 use Rattle.lengths.specs.Admitted.{AdmittedLength}
 use Rattle.line.proofs.kinds.Transforms.{half-length}
 use Rattle.line.proofs.kinds.Dispatch.{half-positive, half-divides}
@@ -30,7 +31,7 @@ use Rattle.line.proofs.kinds.Axes.{own, axis-own}
 use Rattle.line.proofs.kinds.Reading.{forward-cong, back-cong}
 use Rattle.cell.proofs.LineReading.{by-half}
 use Rattle.cell.specs.Volume.{axis}
-use Rattle.volume_transform.specs.Axes.{turnedLine, turnedStored, forwardValues, inverseValues, joined, parted, forwardRow, inverseRow}
+use Rattle.volume_transform.specs.Axes.{turnedLine, turnedStored, forwardValues, inverseValues, packedRow, unpackedRow, forwardRow, inverseRow}
 use Rattle.volume_transform.specs.Lines.{Kept}
 
 -- ---- a packed line
@@ -131,10 +132,10 @@ module _ (m : ℕ) (is : IsModulus m) (b : ℕ) (size : AdmittedLength (2 * b)) 
     unfolding slots
     half-length-r = ap length turned ∙ length-turned m b 0 hermitian _
 
-    joined-at : (s : ℕ) → s < b → valueOf m (at (take (2 * b) l₁) s) ≡ valueOf m (joined b (at l) s)
-    unfolding joined at
-    joined-at zero h = ap (valueOf m) (at-take b l₁ 0 h ∙ pair-path (getD-set-other l 1 0 _ 0 (λ e. omega arith)) (getD-set-same l 1 _ 0 (omega arith)))
-    joined-at (suc s) h = ap (valueOf m) (at-take b l₁ (suc s) h ∙ at-set-other l 1 _ (suc s) (λ e. omega arith) (λ e. omega arith))
+    packed-row-at : (s : ℕ) → s < b → valueOf m (at (take (2 * b) l₁) s) ≡ valueOf m (packedRow b (at l) s)
+    unfolding packedRow at
+    packed-row-at zero h = ap (valueOf m) (at-take b l₁ 0 h ∙ pair-path (getD-set-other l 1 0 _ 0 (λ e. omega arith)) (getD-set-same l 1 _ 0 (omega arith)))
+    packed-row-at (suc s) h = ap (valueOf m) (at-take b l₁ (suc s) h ∙ at-set-other l 1 _ (suc s) (λ e. omega arith) (λ e. omega arith))
 
     pub row-forward : l₂ ≡ forwardRow m b l
     unfolding slots put
@@ -144,10 +145,10 @@ module _ (m : ℕ) (is : IsModulus m) (b : ℕ) (size : AdmittedLength (2 * b)) 
         ∙ at-append-left r (drop (2 * b) l₁) t (omega (arith, half-length-r))
         ∙ ap (λ x. at x t) turned
         ∙ at-tab _ b t h
-        ∙ ap pairOf (forward-cong (field-ring m) (field-star m) (laws m is b size) hermitian _ _ joined-at t h)
+        ∙ ap pairOf (forward-cong (field-ring m) (field-star m) (laws m is b size) hermitian _ _ packed-row-at t h)
         ∙ rw (lt-ltb t b h) refl)
         (λ (h : b ≤ t).
-        subst (λ t. at l₂ t ≡ cond (ltb t b) (pairOf (forwardValues m b hermitian (λ s. valueOf m (joined b (at l) s)) t)) zeroPair) {x = b} {y = t} (omega arith)
+        subst (λ t. at l₂ t ≡ cond (ltb t b) (pairOf (forwardValues m b hermitian (λ s. valueOf m (packedRow b (at l) s)) t)) zeroPair) {x = b} {y = t} (omega arith)
         (at-put-same (r ++ drop (2 * b) l₁) b zeroPair (omega (arith, returned-long)) ∙ rw (le-ltb b b (omega arith)) refl))
         (lt-or-ge t b))
       where
@@ -188,8 +189,8 @@ module _ (m : ℕ) (is : IsModulus m) (b : ℕ) (size : AdmittedLength (2 * b)) 
     abbrev k₄ : List ℕ
     k₄ = set k₃ (2 * b + 1) 0
 
-    first-pair : at k₂ 0 ≡ parted b pairs 0
-    unfolding parted at
+    first-pair : at k₂ 0 ≡ unpackedRow b pairs 0
+    unfolding unpackedRow at
     first-pair = pair-path
         (getD-set-other k₄ 1 0 0 0 (λ e. omega arith) ∙ getD-set-other k₃ (2 * b + 1) 0 0 0 (λ e. omega arith) ∙ getD-set-other k₁ (2 * b) 0 (getD k₁ 1 0) 0 (λ e. omega (arith, half-positive b size)) ∙ ap (λ x. x .re) (at-returned 0 (half-positive b size)))
         (getD-set-same k₄ 1 0 0 (simp length-set (omega (arith, returned-long))))
@@ -205,16 +206,16 @@ module _ (m : ℕ) (is : IsModulus m) (b : ℕ) (size : AdmittedLength (2 * b)) 
         at-set-other k₄ 1 0 t (λ e. omega arith) (λ e. omega arith) ∙ at-set-other k₃ (2 * b + 1) 0 t (λ e. omega arith) (λ e. omega arith)
         ∙ at-set-other k₁ (2 * b) (getD k₁ 1 0) t (λ e. omega arith) (λ e. omega arith) ∙ at-returned t h
 
-    parted-last : (c : ℕ) → 0 < c → parted c pairs c ≡ record { re = (pairs 0) .im; im = 0 }
-    unfolding parted
+    parted-last : (c : ℕ) → 0 < c → unpackedRow c pairs c ≡ record { re = (pairs 0) .im; im = 0 }
+    unfolding unpackedRow
     parted-last zero p = absurd (omega arith)
     parted-last (suc c) p = rw (le-ltb (suc c) (suc c) (omega arith))
 
-    parted-between : (t : ℕ) → 0 < t → t < b → parted b pairs t ≡ pairs t
-    unfolding parted
+    parted-between : (t : ℕ) → 0 < t → t < b → unpackedRow b pairs t ≡ pairs t
+    unfolding unpackedRow
     parted-between zero p h = absurd (omega arith)
     parted-between (suc t) p h = rw (lt-ltb (suc t) b h)
 
     pub row-inverse : k₂ ≡ inverseRow m b l
-    row-inverse = is-tab (suc b) k₂ (parted b pairs) (simp length-set (omega (arith, returned-long)))
-        (by-half b (λ t. at k₂ t ≡ parted b pairs t) first-pair (last-pair ∙ sym (parted-last b (half-positive b size))) (λ t p h. between-pairs t p h ∙ sym (parted-between t p h)))
+    row-inverse = is-tab (suc b) k₂ (unpackedRow b pairs) (simp length-set (omega (arith, returned-long)))
+        (by-half b (λ t. at k₂ t ≡ unpackedRow b pairs t) first-pair (last-pair ∙ sym (parted-last b (half-positive b size))) (λ t p h. between-pairs t p h ∙ sym (parted-between t p h)))

@@ -6,9 +6,8 @@ use mathlib.Core.Bool.{Bool, true, false, cond}
 use Prim.Native.Nat.{ℕ, suc, _+_, _*_, _<_, _≤_}
 use native.Mathlib.Omega.{arith}
 use native.Mathlib.Decide.{ℕ-discrete}
-use Rattle.algebra.specs.ring.Ring.{Ops}
+use Rattle.algebra.specs.ring.Ring.{Ops, dft}
 use Rattle.algebra.specs.ring.RingLaws.{CRing, Star}
-use Rattle.algebra.specs.fourier.Fourier.{dft}
 use Rattle.algebra.specs.fourier.Axis.{Axis, AxisLaws}
 use Rattle.algebra.specs.lines.Kinds.{Kind, Kind.alternating, Kind.symmetric, Kind.antisymmetric, slots, packBefore, packAfter, RuleBefore, RuleAfter, forward, inverse}
 use Rattle.algebra.specs.cells.Cell.{J, Group, P1, P2₁, Pm, Pa, P2₁2₁2₁, planes, negI, Cell}

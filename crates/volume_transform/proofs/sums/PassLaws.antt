@@ -8,14 +8,10 @@ use Prim.Native.Nat.{ℕ, zero, suc, _+_, _*_, _-_, _<_}
 use native.Mathlib.Omega.{arith}
 use lib.Dec.{ltb}
 use borrow.Author.Tests.{lt-ltb, le-ltb}
-use Rattle.algebra.specs.ring.Ring.{Ops}
+use Rattle.algebra.specs.ring.Ring.{Ops, residues, gauss, imag, dft}
 use Rattle.algebra.specs.ring.RingLaws.{CRing}
-use Rattle.algebra.specs.ring.Residue.{residues}
-use Rattle.algebra.specs.ring.Gauss.{gauss, imag}
-use Rattle.algebra.specs.fourier.Fourier.{dft}
 use Rattle.algebra.specs.fourier.Axis.{AxisLaws}
-use Rattle.algebra.specs.lines.Line.{pack-by}
-use Rattle.algebra.specs.lines.Kinds.{Kind, Kind.plain, Kind.hermitian, Kind.antisymmetric, slots, unfoldBefore, unfoldAfter, packBefore, packAfter, RuleBefore}
+use Rattle.algebra.specs.lines.Kinds.{pack-by, Kind, Kind.plain, Kind.hermitian, Kind.antisymmetric, slots, unfoldBefore, unfoldAfter, packBefore, packAfter, RuleBefore}
 use Rattle.algebra.specs.cells.Cell.{J, Group, Cell, friedel, negI}
 use Rattle.algebra.specs.cells.CellSteps.{Lawful, afterL, afterH, afterK, backK, backH}
 use Rattle.algebra.proofs.ring.Laws.{along}
@@ -35,13 +31,14 @@ use Rattle.numbers.proofs.Primes.{prime-pos}
 use Rattle.numbers.proofs.Residues.{res-ring, res-val, val-res}
 use Rattle.numbers.proofs.Values.{pair-path, value-path, value-pair, field-ring, field-star, conj-real}
 use Rattle.numbers.proofs.Parts.{half-residue}
-use Rattle.slices.specs.Pairs.{at, zeroPair, valuesOf}
+use Rattle.slices.specs.Pairs.{at, valuesOf}
+use Rattle.numbers.specs.Bounds.{zeroPair}
 use Rattle.slices.specs.Sweep.{Layout, sweep, onLists}
 use Rattle.slices.proofs.Pairs.{at-tab}
 use Rattle.cell.specs.Volume.{lineKind, rotated, timesI, overI, firstPair, layers, rows, columns, volumeOf, packed, packFactors, mapPair, packMap, axis, mapOf, factorsOf}
-use Rattle.cell.specs.Consistency.{RealMap, ObeysGroup}
+use Rattle.cell.specs.Exactly.{RealMap, ObeysGroup}
 use Rattle.cell.proofs.RotatedLines.{over-times, over-zero}
-use Rattle.volume_transform.specs.Axes.{forwardValues, inverseValues, joined, parted, forwardRow, inverseRow, alongL, alongH, alongK, turnedL, turnedH, turnedK}
+use Rattle.volume_transform.specs.Axes.{forwardValues, inverseValues, packedRow, unpackedRow, forwardRow, inverseRow, alongL, alongH, alongK, turnedL, turnedH, turnedK}
 use Rattle.cell.proofs.VolumeLayout.{volume-cong, by-row, mapPair-low, mapPair-end}
 use Rattle.cell.proofs.LineReading.{by-half, packed-in, packed-first, packed-last}
 use Rattle.cell.proofs.Maps.{layers-fit}
@@ -50,9 +47,9 @@ use Rattle.volume_transform.proofs.sums.Sweeps.{sweep-l, sweep-h, sweep
 
 -- ---- two real values in one
 
-joined-in : {K : Type 0} {𝓚 : Ops K} (𝓡 : CRing 𝓚) (x y : K × K) → x .1 ≡ 𝓚 .zer → y .1 ≡ 𝓚 .zer → gauss 𝓚 .add x (gauss 𝓚 .mul (imag 𝓚) y) ≡ (x .0, y .0)
+reals-in : {K : Type 0} {𝓚 : Ops K} (𝓡 : CRing 𝓚) (x y : K × K) → x .1 ≡ 𝓚 .zer → y .1 ≡ 𝓚 .zer → gauss 𝓚 .add x (gauss 𝓚 .mul (imag 𝓚) y) ≡ (x .0, y .0)
 unfolding gauss imag
-joined-in {𝓚 = 𝓚} 𝓡 x y ex ey =
+reals-in {𝓚 = 𝓚} 𝓡 x y ex ey =
     ap₂ (λ u v. gauss 𝓚 .add (x .0, u) (gauss 𝓚 .mul (imag 𝓚) (y .0, v))) ex ey
     ∙ value-path (ring 𝓡 (x .0 ∷ y .0 ∷ []) (search quote depth 40 fits 9999) refl) (ring 𝓡 (x .0 ∷ y .0 ∷ []) (search quote depth 40 fits 9999) refl)
 
@@ -61,8 +58,8 @@ module _ (m : ℕ) where
   unfolding residues
   real-part x r = real-gauss (res-ring m) (half m) (half-residue m) x r
 
-  joined-reals : (x y : Value m) → conj m x ≡ x → conj m y ≡ y → field m .add x (field m .mul (i m) y) ≡ (x .0, y .0)
-  joined-reals x y rx ry = joined-in (res-ring m) x y (real-part x rx) (real-part y ry)
+  packed-reals : (x y : Value m) → conj m x ≡ x → conj m y ≡ y → field m .add x (field m .mul (i m) y) ≡ (x .0, y .0)
+  packed-reals x y rx ry = reals-in (res-ring m) x y (real-part x rx) (real-part y ry)
 
   -- the numbers of a real value
   real-pair : (x : Value m) → conj m x ≡ x → pairOf x ≡ record { re = x .0 .val; im = 0 }
@@ -187,33 +184,33 @@ module _ (g : Group) (a : J) (m : ℕ) {tx ty tz : ℕ → Value m}
     last-real : conj m (X (a .1)) ≡ X (a .1)
     last-real = sym (at-mirror (field-ring m) (2 * a .1) (λ t x. conj m x) X rule (a .1) (a .1) (𝓨 .positive) (𝓨 .positive) (omega arith))
 
-    joined-values : (v : ℕ → Pair) → ((t : ℕ) → t < columns g a → v t ≡ pairOf (X t)) → (t : ℕ) → t < a .1
-        → valueOf m (joined (a .1) v t) ≡ packBefore (field m) (conj m) (i m) (real m (half m)) (a .1) hermitian X t
-    unfolding joined packBefore pack-by pairOf
-    joined-values v e zero l =
+    packed-row-values : (v : ℕ → Pair) → ((t : ℕ) → t < columns g a → v t ≡ pairOf (X t)) → (t : ℕ) → t < a .1
+        → valueOf m (packedRow (a .1) v t) ≡ packBefore (field m) (conj m) (i m) (real m (half m)) (a .1) hermitian X t
+    unfolding packedRow packBefore pack-by pairOf
+    packed-row-values v e zero l =
         ap₂ (λ x y. valueOf m (record { re = x .re; im = y .re })) (e 0 (omega arith)) (e (a .1) (omega arith))
-        ∙ value-numbers m (X 0) (X (a .1)) ∙ sym (joined-reals m (X 0) (X (a .1)) first-real last-real)
-    joined-values v e (suc t) l = ap (valueOf m) (e (suc t) (omega arith)) ∙ value-pair m (X (suc t))
+        ∙ value-numbers m (X 0) (X (a .1)) ∙ sym (packed-reals m (X 0) (X (a .1)) first-real last-real)
+    packed-row-values v e (suc t) l = ap (valueOf m) (e (suc t) (omega arith)) ∙ value-pair m (X (suc t))
 
-    parted-values : (v : ℕ → Value m) → ((t : ℕ) → t < a .1 → v t ≡ packBefore (field m) (conj m) (i m) (real m (half m)) (a .1) hermitian X t)
-        → (t : ℕ) → t < columns g a → parted (a .1) (λ t. pairOf (v t)) t ≡ pairOf (X t)
-    unfolding parted pairOf packBefore pack-by
-    parted-values v e = by-half (a .1) (λ t. parted (a .1) (λ t. pairOf (v t)) t ≡ pairOf (X t)) first last between
+    unpacked-row-values : (v : ℕ → Value m) → ((t : ℕ) → t < a .1 → v t ≡ packBefore (field m) (conj m) (i m) (real m (half m)) (a .1) hermitian X t)
+        → (t : ℕ) → t < columns g a → unpackedRow (a .1) (λ t. pairOf (v t)) t ≡ pairOf (X t)
+    unfolding unpackedRow pairOf packBefore pack-by
+    unpacked-row-values v e = by-half (a .1) (λ t. unpackedRow (a .1) (λ t. pairOf (v t)) t ≡ pairOf (X t)) first last between
       where
         both : v 0 ≡ ((X 0) .0, (X (a .1)) .0)
-        both = e 0 (𝓨 .positive) ∙ joined-reals m (X 0) (X (a .1)) first-real last-real
+        both = e 0 (𝓨 .positive) ∙ packed-reals m (X 0) (X (a .1)) first-real last-real
 
-        first : parted (a .1) (λ t. pairOf (v t)) 0 ≡ pairOf (X 0)
+        first : unpackedRow (a .1) (λ t. pairOf (v t)) 0 ≡ pairOf (X 0)
         first = ap (λ (z : Value m). record { re = z .0 .val; im = 0 }) both ∙ sym (real-pair m (X 0) first-real)
 
-        at-last : (B : ℕ) → 0 < B → parted B (λ t. pairOf (v t)) B ≡ record { re = (pairOf (v 0)) .im; im = 0 }
+        at-last : (B : ℕ) → 0 < B → unpackedRow B (λ t. pairOf (v t)) B ≡ record { re = (pairOf (v 0)) .im; im = 0 }
         at-last zero p = absurd (omega arith)
         at-last (suc B) p = rw (le-ltb (suc B) (suc B) (omega arith))
 
-        last : parted (a .1) (λ t. pairOf (v t)) (a .1) ≡ pairOf (X (a .1))
+        last : unpackedRow (a .1) (λ t. pairOf (v t)) (a .1) ≡ pairOf (X (a .1))
         last = at-last (a .1) (𝓨 .positive) ∙ ap (λ (z : Value m). record { re = z .1 .val; im = 0 }) both ∙ sym (real-pair m (X (a .1)) last-real)
 
-        between : (t : ℕ) → 0 < t → t < a .1 → parted (a .1) (λ t. pairOf (v t)) t ≡ pairOf (X t)
+        between : (t : ℕ) → 0 < t → t < a .1 → unpackedRow (a .1) (λ t. pairOf (v t)) t ≡ pairOf (X t)
         between zero p l = absurd (omega arith)
         between (suc t) p l = rw (lt-ltb (suc t) (a .1) l) (ap pairOf (e (suc t) l))
 
@@ -223,13 +220,13 @@ module _ (g : Group) (a : J) (m : ℕ) {tx ty tz : ℕ → Value m}
   unfolding packAfter
   row-pair M x z r t l =
       ap (valueOf m) (mapPair-low g a m M z x t l) ∙ value-numbers m (M x (2 * t) z) (M x (2 * t + 1) z)
-      ∙ sym (joined-reals m (M x (2 * t) z) (M x (2 * t + 1) z) (r (2 * t) (omega arith)) (r (2 * t + 1) (omega arith)))
+      ∙ sym (packed-reals m (M x (2 * t) z) (M x (2 * t + 1) z) (r (2 * t) (omega arith)) (r (2 * t + 1) (omega arith)))
 
   pair-row : (M : Cell (Value m)) (x z : ℕ) → ((y : ℕ) → y < 2 * a .1 → conj m (M x y z) ≡ M x y z) → (t : ℕ) → t < a .1
       → pairOf (packAfter (field m) (conj m) (i m) (real m (half m)) (a .1) hermitian (λ y. M x y z) t) ≡ mapPair g a M z x t
   unfolding packAfter pairOf
   pair-row M x z r t l =
-      ap pairOf (joined-reals m (M x (2 * t) z) (M x (2 * t + 1) z) (r (2 * t) (omega arith)) (r (2 * t + 1) (omega arith)))
+      ap pairOf (packed-reals m (M x (2 * t) z) (M x (2 * t + 1) z) (r (2 * t) (omega arith)) (r (2 * t + 1) (omega arith)))
       ∙ sym (mapPair-low g a m M z x t l)
 
   module _ (F : Cell (Value m)) (lawful : Lawful (field m) (conj m) a g F) where
@@ -238,10 +235,10 @@ module _ (g : Group) (a : J) (m : ℕ) {tx ty tz : ℕ → Value m}
     k-rule x z lx lz = λ k lk. hermitian-lines (field-ring m) (field-star m) 𝓧 𝓨 𝓩 F (lawful friedel (friedel-mem g)) x k z lx lk (layers-fit g a (𝓩 .positive) z lz)
 
     row-of : (x z t : ℕ) → x < rows g a → z < layers g a → (l : List ℕ) → ((t : ℕ) → t < columns g a → at l t ≡ pairOf (LH F x t z)) → t < a .1
-        → pairOf (forwardValues m (a .1) hermitian (λ s. valueOf m (joined (a .1) (at l) s)) t) ≡ mapPair g a (mapOf m a F) z x t
+        → pairOf (forwardValues m (a .1) hermitian (λ s. valueOf m (packedRow (a .1) (at l) s)) t) ≡ mapPair g a (mapOf m a F) z x t
     unfolding slots afterK
     row-of x z t lx lz l e lt =
-        ap pairOf (forward-packed (field-ring m) (field-star m) 𝓨 hermitian (λ k. LH F x k z) _ (k-rule x z lx lz) (joined-values (λ k. LH F x k z) (k-rule x z lx lz) (at l) e) t lt)
+        ap pairOf (forward-packed (field-ring m) (field-star m) 𝓨 hermitian (λ k. LH F x k z) _ (k-rule x z lx lz) (packed-row-values (λ k. LH F x k z) (k-rule x z lx lz) (at l) e) t lt)
         ∙ pair-row (afterK (field m) (axis m (a .1)) (LH F)) x z real-row t lt
         ∙ mapped
       where
@@ -267,7 +264,7 @@ module _ (g : Group) (a : J) (m : ℕ) {tx ty tz : ℕ → Value m}
         t lt)
       where
         pairAt : List ℕ → ℕ → Pair
-        pairAt l t = cond (ltb t (a .1)) (pairOf (forwardValues m (a .1) hermitian (λ s. valueOf m (joined (a .1) (at l) s)) t)) zeroPair
+        pairAt l t = cond (ltb t (a .1)) (pairOf (forwardValues m (a .1) hermitian (λ s. valueOf m (packedRow (a .1) (at l) s)) t)) zeroPair
 
     -- the whole of synthesis
     pub synthesis-passes : pass (alongK g a) (turnedK g a m 0) (pass (alongH g a) (turnedH g a m 0) (pass (alongL g a) (turnedL g a m 0) (packFactors g a m F))) ≡ packMap g a m (mapOf m a F)
@@ -281,7 +278,7 @@ module _ (g : Group) (a : J) (m : ℕ) {tx ty tz : ℕ → Value m}
     unfolding packMap backK slots
     back-k = sweep-k g a (inverseRow m (a .1)) (mapPair g a M) (λ w h k. pairOf (backK (field m) (conj m) (axis m (a .1)) M h k w)) (λ w h lw lh l e t lt.
         at-tab _ (suc (a .1)) t lt
-        ∙ parted-values (λ k. backK (field m) (conj m) (axis m (a .1)) M h k w) (rule h w lh lw) (inverseValues m (a .1) hermitian (valuesOf m l)) (unparted h w lh lw l e) t lt)
+        ∙ unpacked-row-values (λ k. backK (field m) (conj m) (axis m (a .1)) M h k w) (rule h w lh lw) (inverseValues m (a .1) hermitian (valuesOf m l)) (unparted h w lh lw l e) t lt)
       where
         rule : (x z : ℕ) → x < rows g a → z < layers g a → RuleBefore (field m) (conj m) (i m) (real m (half m)) (a .1) hermitian (λ k. backK (field m) (conj m) (axis m (a .1)) M x k z)
         rule x z lx lz = inverse-rule (field-ring m) (field-star m) 𝓨 hermitian (λ y. M x y z) (λ y ly. real-at x y z lx ly lz)

@@ -11,15 +11,16 @@ use lib.ListN.{length}
 use Rattle.algebra.specs.lines.Kinds.{Kind, Kind.plain}
 use Rattle.algebra.specs.cells.Cell.{J, Group}
 use Rattle.algebra.proofs.ring.Laws.{along}
-use Rattle.numbers.specs.Value.{prime, Value, Small, pairOf}
+use Rattle.numbers.specs.Value.{prime, Value, pairOf}
+use Rattle.numbers.specs.Bounds.{Small, zeroPair}
 use Rattle.numbers.proofs.Primes.{prime-pos}
 use Rattle.numbers.proofs.Values.{small-pair}
-use Rattle.slices.specs.Pairs.{Below, zeroPair}
+use Rattle.slices.specs.Pairs.{Below}
 use Rattle.slices.specs.Sweep.{Layout, sweep, onLists}
 use Rattle.slices.proofs.Pairs.{length-puts}
 use Rattle.slices.proofs.Bounds.{small-at, below-puts, below-tab}
 use Rattle.slices.proofs.Values.{below-list}
-use Rattle.volume_transform.specs.Axes.{turnOf, alongL, alongH, alongK, lineCount, lineOfTurn, turnedL, turnedH, turnedK, jobTurn, parted, turnedLine, turnedStored, turnedRow}
+use Rattle.volume_transform.specs.Axes.{turnOf, alongL, alongH, alongK, lineCount, lineOfTurn, turnedL, turnedH, turnedK, jobTurn, unpackedRow, turnedLine, turnedStored, turnedRow}
 use Rattle.volume_transform.proofs.plan.Numbered.{order-k, order-h, order-l}
 use Rattle.volume_transform.specs.Turns.{turns}
 
@@ -90,10 +91,10 @@ module _ (m A : ℕ) where
   forward-small true z = small-pair m z
   forward-small false z = zero-small
 
-  parted-small : (v : ℕ → Value m) (t : ℕ) → Small (prime m) (parted A (λ t. pairOf (v t)) t)
-  unfolding parted
-  parted-small v zero = record { re = small-pair m (v 0) .re; im = prime-pos m }
-  parted-small v (suc t) = go (ltb (suc t) A)
+  unpacked-row-small : (v : ℕ → Value m) (t : ℕ) → Small (prime m) (unpackedRow A (λ t. pairOf (v t)) t)
+  unfolding unpackedRow
+  unpacked-row-small v zero = record { re = small-pair m (v 0) .re; im = prime-pos m }
+  unpacked-row-small v (suc t) = go (ltb (suc t) A)
     where
       go : (b : Bool) → Small (prime m) (cond b (pairOf (v (suc t))) (record { re = (pairOf (v 0)) .im; im = 0 }))
       go true = small-pair m (v (suc t))
@@ -101,7 +102,7 @@ module _ (m A : ℕ) where
 
   pub below-row : (direction : ℕ) (l : List ℕ) → Below (prime m) (turnedRow m A direction l)
   below-row zero l = below-tab (prime m) (suc A) _ (prime-pos m) (λ t lt. forward-small (ltb t A) _)
-  below-row (suc d) l = below-tab (prime m) (suc A) _ (prime-pos m) (λ t lt. parted-small _ t)
+  below-row (suc d) l = below-tab (prime m) (suc A) _ (prime-pos m) (λ t lt. unpacked-row-small _ t)
 
 module _ (g : Group) (a : J) (m direction : ℕ) where
   by-turn : (P : List ℕ → Type 0) (j : ℕ) (d : List ℕ)

@@ -5,7 +5,7 @@ use mathlib.Core.List.{List}
 use Prim.Native.Nat.{ℕ, _≤_}
 use native.Mathlib.Omega.{arith}
 use Rattle.numbers.specs.Value.{prime}
-use Rattle.roots.specs.Root.{tableRoot}
+use Rattle.roots.specs.Table.{tableRoot}
 use Rattle.slices.specs.Pairs.{Below}
 use Rattle.butterflies.specs.Butterflies.{Reads, Stores, summed}
 use Rattle.butterflies.proofs.radix.butterfly.Statement.{statement}

@@ -10,13 +10,13 @@ use Rattle.cell.proofs.operations.moved.Tie as tie
 flipped-requires : tie.Need-flipped-requires
 flipped-requires c κs = search needs
 
-turned-requires : tie.Need-turned-requires
-turned-requires c κs = search needs
+half-shifted-requires : tie.Need-half-shifted-requires
+half-shifted-requires c κs = search needs
 
 returns : tie.Need-returns
 returns c =
     let a = c .before .before .args in
-    (c .turned .ensures .0 ∙ ap (shifted (a .odd) (a .n / 2)) (c .before .flipped .ensures .0 ∙ ap (λ b. flip b (a .n / 2) (a .x)) (differ (a .conjugate) (a .minus))), c .turned .ensures .1)
+    (c .half-shifted .ensures .0 ∙ ap (shifted (a .odd) (a .n / 2)) (c .before .flipped .ensures .0 ∙ ap (λ b. flip b (a .n / 2) (a .x)) (differ (a .conjugate) (a .minus))), c .half-shifted .ensures .1)
 
 pub moved-spec : {M : Type 1} → statement M
-moved-spec = tie.close (tie.spec flipped-requires turned-requires returns)
+moved-spec = tie.close (tie.spec flipped-requires half-shifted-requires returns)

@@ -4,17 +4,17 @@ use mathlib.Core.Path.{refl, ap}
 use Prim.Native.Nat.{ℕ, _+_}
 use native.Mathlib.Omega.{arith}
 use denote.Ref.{now}
-use Rattle.factor_file.specs.Reading.{list2At, list3At, countAt}
+use Rattle.factor_file.specs.File.{list2At, list3At, countAt}
 use Rattle.file_format.proofs.shape.Shapes.{Ordered, ordered, part-is-list}
 use Rattle.factor_file.proofs.Openings.{opened-by}
 use Rattle.factor_file.proofs.open_file.open_header.Statement.{statement}
 use Rattle.factor_file.proofs.open_file.open_header.Tie as tie
 
-standing : (c : tie.After-places-of) → Ordered (now (c .before .before .before .args .file)) (c .places-of .result)
-standing c = let s = c .before .before .before in ordered (now (s .args .file)) (c .places-of .result) (c .places-of .ensures) (s .pre)
+standing : (c : tie.After-header-cell) → Ordered (now (c .before .before .before .args .file)) (c .before .before .before .args .places)
+standing c = let s = c .before .before .before in ordered (now (s .args .file)) (s .args .places) (s .pre .0) (s .pre .1)
 
-places-of-requires : tie.Need-places-of-requires
-places-of-requires c κs = search needs
+header-cell-requires : tie.Need-header-cell-requires
+header-cell-requires c κs = search needs
 
 add-start2 : tie.Need-add-start2
 add-start2 c = let o = standing c in omega arith
@@ -22,47 +22,32 @@ add-start2 c = let o = standing c in omega arith
 add-start3 : tie.Need-add-start3
 add-start3 c = let o = standing c in omega arith
 
-shared-slice-read-wide : tie.Need-shared-slice-read-wide
-shared-slice-read-wide c = let o = standing (c .before) in omega arith
-
-wide-requires : tie.Need-wide-requires
-wide-requires c κs = search needs
-
-two-bytes-requires : tie.Need-two-bytes-requires
-two-bytes-requires c κs = let o = standing (c .before .before) in omega arith
-
-two-bytes-requires-2 : tie.Need-two-bytes-requires-2
-two-bytes-requires-2 c κs = let o = standing (c .before .before .before) in omega arith
-
-two-bytes-requires-3 : tie.Need-two-bytes-requires-3
-two-bytes-requires-3 c κs = let o = standing (c .before .before .before .before) in omega arith
-
 sub-open : tie.Need-sub-open
-sub-open c = let o = standing (c .before .before .before .before .before) in omega arith
+sub-open c = let o = standing c in omega arith
 
 part-open-start : tie.Need-part-open-start
-part-open-start c = let o = standing (c .before .before .before .before .before) in omega arith
+part-open-start c = let o = standing c in omega arith
 
 part-open-end : tie.Need-part-open-end
-part-open-end c = let o = standing (c .before .before .before .before .before) in omega arith
+part-open-end c = let o = standing c in omega arith
 
 sub-open-2 : tie.Need-sub-open-2
-sub-open-2 c = let o = standing (c .before .before .before .before .before .before) in omega arith
+sub-open-2 c = let o = standing (c .before) in omega arith
 
 part-open-start-2 : tie.Need-part-open-start-2
-part-open-start-2 c = let o = standing (c .before .before .before .before .before .before) in omega arith
+part-open-start-2 c = let o = standing (c .before) in omega arith
 
 part-open-end-2 : tie.Need-part-open-end-2
-part-open-end-2 c = let o = standing (c .before .before .before .before .before .before) in omega arith
+part-open-end-2 c = let o = standing (c .before) in omega arith
 
 sub-open-3 : tie.Need-sub-open-3
-sub-open-3 c = let o = standing (c .before .before .before .before .before .before .before) in omega arith
+sub-open-3 c = let o = standing (c .before .before) in omega arith
 
 part-open-start-3 : tie.Need-part-open-start-3
-part-open-start-3 c = let o = standing (c .before .before .before .before .before .before .before) in omega arith
+part-open-start-3 c = let o = standing (c .before .before) in omega arith
 
 part-open-end-3 : tie.Need-part-open-end-3
-part-open-end-3 c = let o = standing (c .before .before .before .before .before .before .before) in omega arith
+part-open-end-3 c = let o = standing (c .before .before) in omega arith
 
 open-requires : tie.Need-open-requires
 open-requires c κs = search needs
@@ -74,33 +59,24 @@ returns : tie.Need-returns
 unfolding list2At list3At countAt
 returns c =
     let o = c .before .before in
-    let t = o .before .before .before .before .before in
-    let w = t .before .before .before in
-    let p = w .before .before in
-    let file = now (p .before .before .before .args .file) in
-    let second = p .places-of .ensures .second in
-    let third = p .places-of .ensures .third in
-    let group = w .wide .ensures .0 in
-    let n1 = t .before .before .two-bytes .ensures .0 in
-    let n2 = t .before .two-bytes2 .ensures .0 in
-    let n3 = t .two-bytes3 .ensures .0 in
+    let p = o .before .before .before .before .before in
+    let n = p .header-cell .ensures in
+    let start = p .before .before .before in
+    let file = now (start .args .file) in
+    let second = start .pre .0 .second in
+    let third = start .pre .0 .third in
     let list1 = part-is-list file 12 13 _ refl second in
     let list2 = part-is-list file (list2At file) _ _ (ap (λ (n : ℕ). n + 1) second) third in
-    let list3 = part-is-list file (list3At file) _ _ (ap (λ (n : ℕ). n + 1) third) (p .places-of .ensures .count) in
-    opened-by file (now (p .before .before .before .args .volume)) (o .«open» .ensures) (λ i. record { group = group i; lengths = (n1 i, n2 i, n3 i); list1 = list1 i; list2 = list2 i; list3 = list3 i })
+    let list3 = part-is-list file (list3At file) _ _ (ap (λ (n : ℕ). n + 1) third) (start .pre .0 .count) in
+    opened-by file (now (start .args .volume)) (o .«open» .ensures) (λ i. record { group = n .group i; lengths = (n .first i, n .second i, n .third i); list1 = list1 i; list2 = list2 i; list3 = list3 i })
 
 pub open-header-spec : {M : Type 1} → statement M
 open-header-spec =
     tie.close
     (tie.spec
-    places-of-requires
+    header-cell-requires
     add-start2
     add-start3
-    shared-slice-read-wide
-    wide-requires
-    two-bytes-requires
-    two-bytes-requires-2
-    two-bytes-requires-3
     sub-open
     part-open-start
     part-open-end

@@ -1,7 +1,7 @@
 -- Refused by the header, or what the records lead to.
 use mathlib.Core.Path.{_∙_, sym, ap}
 use Rattle.job.specs.declared.OpenAnswer.{OpenAnswer}
-use Rattle.job.specs.Job.{openOutcome}
+use Rattle.job.specs.Answers.{openOutcome}
 use Rattle.factor_file.proofs.Openings.{header-refused, records-decide}
 use borrow.Author.Needs.{needs}
 use Rattle.factor_file.proofs.open_file.open_sound.Statement.{statement}
@@ -20,8 +20,8 @@ returns : tie.Need-returns
 returns c =
     let w = c .before in
     let h = w .before .before .before .before in
-    let v = h .open-header .last .1 .0 in
-    header-refused _ _ v (h .before .before .before .before .pre) (w .answer .given .0 .0) (ap (λ (x : OpenAnswer). openOutcome x v) (sym (w .answer .given .1)) ∙ h .open-header .ensures)
+    let v = h .open-header .last .1 .1 .0 in
+    header-refused _ _ v (h .before .before .before .before .pre .1) (w .answer .given .0 .0) (ap (λ (x : OpenAnswer). openOutcome x v) (sym (w .answer .given .1)) ∙ h .open-header .ensures)
 
 enum-known-answer-2 : tie.Need-enum-known-answer-2
 enum-known-answer-2 c = search needs
@@ -36,8 +36,8 @@ returns-2 : tie.Need-returns-2
 returns-2 c =
     let w = c .before .before .before .before .before in
     let h = w .before .before .before .before in
-    let v = h .open-header .last .1 .0 in
-    c .before .before .feed-records .ensures ∙ records-decide _ _ v (h .before .before .before .before .pre) (w .answer2 .given .0 .0) (ap (λ (x : OpenAnswer). openOutcome x v) (sym (w .answer2 .given .1)) ∙ h .open-header .ensures)
+    let v = h .open-header .last .1 .1 .0 in
+    c .before .before .feed-records .ensures ∙ records-decide _ _ v (h .before .before .before .before .pre .1) (w .answer2 .given .0 .0) (ap (λ (x : OpenAnswer). openOutcome x v) (sym (w .answer2 .given .1)) ∙ h .open-header .ensures)
 
 pub open-sound-spec : {M : Type 1} → statement M
 open-sound-spec =

@@ -3,8 +3,7 @@ use borrow.Author.Needs.{needs}
 use mathlib.Core.Path.{_≡_, _∙_, ap}
 use Prim.Native.Nat.{_-_}
 use native.Mathlib.Omega.{arith}
-use Rattle.algebra.specs.cells.Cell.{one, full, imageOf}
-use Rattle.algebra.specs.cells.CellTests.{lexLe}
+use Rattle.algebra.specs.cells.Cell.{one, full, imageOf, lexLe}
 use Rattle.cell.specs.Operations.{cellGroup, cellHalves, tripleOf, symOf}
 use Rattle.volume.proofs.consistent.Passing.{PassingMembers, members-second, members-next, members-stop, members-done}
 use Rattle.volume.proofs.consistent.TestLaws.{first-full}

@@ -6,14 +6,15 @@ use Prim.Native.Nat.{ℕ, _+_, _-_, _<_, _≤_}
 use native.Mathlib.Omega.{arith}
 use lib.ListN.{length, replicate}
 use denote.Ref.{now}
-use Rattle.job.specs.Job.{said}
+use Rattle.job.specs.Answers.{said}
 use Rattle.file_format.specs.declared.reader.Found.the-variants.{Record}
 use Rattle.file_format.specs.Format.{byteAt, countAt, recordsIn}
 use Rattle.file_format.specs.Walk.{foundAt}
 use Rattle.file_format.proofs.integers.Numbers.{four-bytes-fit}
 use Rattle.file_format.proofs.Reading.{record-inside, record-after}
 use Rattle.factor_file.specs.declared.FileAnswer.the-variants.{Refused}
-use Rattle.factor_file.specs.Reading.{feed, fileOutcome}
+use Rattle.factor_file.specs.File.{feed}
+use Rattle.factor_file.specs.Answers.{fileOutcome}
 use Rattle.factor_file.proofs.Feeding.{Feeding, feeding-start, feeding-end, record-left, feeding-next, feeding-refused}
 use Rattle.factor_file.proofs.records.feed_records.Statement.{statement}
 use Rattle.factor_file.proofs.records.feed_records.Tie as tie
@@ -40,16 +41,16 @@ place-fits c =
     let l = c .before .before .before in
     let s = l .before .before .before in
     let file = now (s .before .args .file) in
-    omega (arith, record-left (l .loop .inv .1) (s .before .pre) (c .found .given .0 .0) (reading c), four-bytes-fit file (countAt file) (bytes s))
+    omega (arith, record-left (l .loop .inv .1) (s .before .pre .1) (c .found .given .0 .0) (reading c), four-bytes-fit file (countAt file) (bytes s))
 
 first-record-requires : tie.Need-first-record-requires Inv-loop μ-loop
-first-record-requires c κs = search needs
+first-record-requires c κs = c .before .before .pre .0 .near
 
 loop-holds : tie.Need-loop-holds Inv-loop μ-loop
 loop-holds c =
-    let a = c .before .before .before .args in
-    let start = c .first-record in
-    (refl, feeding-start (now (a .file)) (start .result .at) (start .result .place) (a .job) (now (a .volume)) (start .ensures .0) (start .ensures .1))
+    let s = c .before .before .before in
+    let a = s .args in
+    (refl, feeding-start (now (a .file)) _ (a .job) (now (a .volume)) (c .first-record .ensures ∙ ap (λ (n : ℕ). n + 4) (s .pre .0 .count)))
 
 read-record-requires : tie.Need-read-record-requires Inv-loop μ-loop
 read-record-requires c κs = search needs
@@ -66,7 +67,7 @@ same-length c = c .before .before .before .loop .inv .0
 returns : tie.Need-returns Inv-loop μ-loop
 returns c =
     let l = c .before .before .before in
-    feeding-end (l .loop .inv .1) (l .before .before .before .before .pre) (sym (c .enum-told .given .1) ∙ c .before .before .read-record .ensures .0)
+    feeding-end (l .loop .inv .1) (l .before .before .before .before .pre .1) (sym (c .enum-told .given .1) ∙ c .before .before .read-record .ensures .0)
 
 record-requires : tie.Need-record-requires Inv-loop μ-loop
 record-requires c κs = search needs
@@ -90,7 +91,7 @@ returns-2 c =
     let l = f .before .before .before in
     let zero = c .before .before .zero .ensures ∙ ap (λ (n : ℕ). replicate n 0) (r .«record» .kept .1 .1 .1 .1 .0) in
     ap (λ (v : List ℕ). fileOutcome (Refused (a .answer .given .0 .0) (l .loop .place)) v) zero
-    ∙ feeding-refused (l .loop .inv .1) (l .before .before .before .before .pre) (f .found .given .0 .0) (reading f) _ (r .«record» .ensures) _ (ap said (a .answer .given .1))
+    ∙ feeding-refused (l .loop .inv .1) (l .before .before .before .before .pre .1) (f .found .given .0 .0) (reading f) _ (r .«record» .ensures) _ (ap said (a .answer .given .1))
 
 enum-told-2 : tie.Need-enum-told-2 Inv-loop μ-loop
 enum-told-2 c = search needs
@@ -108,7 +109,7 @@ loop-again c =
     let r = c .before .before .before .before in
     let f = r .before .before .before in
     let l = f .before .before .before in
-    (r .«record» .kept .1 .1 .1 .1 .0 ∙ l .loop .inv .0, feeding-next (l .loop .inv .1) (l .before .before .before .before .pre) (f .found .given .0 .0) (reading f) _ (r .«record» .ensures) _ (f .before .before .read-record .ensures .1) (ap said (c .enum-told2 .given .1)))
+    (r .«record» .kept .1 .1 .1 .1 .0 ∙ l .loop .inv .0, feeding-next (l .loop .inv .1) (l .before .before .before .before .pre .1) (f .found .given .0 .0) (reading f) _ (r .«record» .ensures) _ (f .before .before .read-record .ensures .1) (ap said (c .enum-told2 .given .1)))
 
 pub feed-records-spec : {M : Type 1} → statement M
 feed-records-spec =

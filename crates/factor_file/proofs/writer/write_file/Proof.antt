@@ -8,12 +8,13 @@ use borrow.Author.Tests.{not-false, eqb-true}
 use Rattle.numbers.specs.Value.{prime}
 use Rattle.numbers.proofs.Primes.{prime-pos}
 use Rattle.slices.proofs.Bounds.{below-allBelow}
-use Rattle.refusals.specs.Refusals.{first, checkedNumber}
+use Rattle.refusals.specs.Refusals.{first}
+use Rattle.refusals.specs.Checks.{checkedNumber}
 use Rattle.refusals.proofs.Tests.{Passed, passed}
 use Rattle.lengths.specs.Lengths.{scratchLength}
 use Rattle.cell.specs.declared.operations.UnitCell.{UnitCell}
 use Rattle.cell.specs.Operations.{cellLengths}
-use Rattle.job.specs.Tests.{synthesisTestsOf}
+use Rattle.job.specs.Job.{synthesisTestsOf}
 use Rattle.job.proofs.Jobs.{valid-sizes, cell-sizes}
 use Rattle.factor_file.specs.Steps.{filedWith}
 use Rattle.factor_file.proofs.writer.Files.{held, held-first, write-refused, write-filed, valid-volume}

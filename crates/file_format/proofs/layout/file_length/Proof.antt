@@ -1,7 +1,7 @@
 -- Two counts, the header and the records.
 use borrow.Author.Needs.{needs}
 use native.Mathlib.Omega.{arith}
-use Rattle.file_format.specs.Format.{headerWith}
+use Rattle.file_format.specs.Layout.{headerWith}
 use Rattle.file_format.proofs.layout.FileParts.{length-file}
 use Rattle.file_format.proofs.layout.file_length.Statement.{statement}
 use Rattle.file_format.proofs.layout.file_length.Tie as tie

@@ -1,7 +1,7 @@
 -- Eleven bytes, and those of the three lists.
 use borrow.Author.Needs.{needs}
 use native.Mathlib.Omega.{arith}
-use Rattle.file_format.specs.Format.{headerWith}
+use Rattle.file_format.specs.Layout.{headerWith}
 use Rattle.file_format.proofs.layout.Digits.{word-digits}
 use Rattle.file_format.proofs.layout.FileParts.{length-header}
 use Rattle.file_format.proofs.layout.header_length.Statement.{statement}

@@ -37,7 +37,7 @@ use denote.Exit.{yes}
 use Rattle.file_format.specs.declared.reader.RecordReader.{RecordReader}
 use Rattle.file_format.proofs.reader.RecordReader as T
 use Rattle.file_format.proofs.reader.RecordReader.Laws as T′
-use Rattle.file_format.proofs.reader.new.Key.{name as #file-records·reader·new}
+use Rattle.file_format.proofs.reader.new.Key.{name as #file-format·reader·new}
 use Rattle.file_format.proofs.reader.new as new
 use Rattle.file_format.proofs.reader.new.Statement as stated
 use Rattle.file_format.proofs.reader.new.Code as code
@@ -94,5 +94,5 @@ pub new-spec : {M : Type 1} → stated.statement M
 unfolding code.routine tablesOf
 new-spec 𝓤 H 𝓜 𝓖 𝓡 =
     entered 𝓤 H (tripleOf 𝓤 H (𝓖 .A) new.signature (new.spec 𝓤 H (𝓖 .A) (𝓜 .mem) (𝓡 .run)))
-    (tables 𝓤 H 𝓜 𝓡 code.env .C) (tables 𝓤 H 𝓜 𝓡 code.env .Λ) #file-records·reader·new code.function (code.unfolded 𝓤 H 𝓜 𝓡)
+    (tables 𝓤 H 𝓜 𝓡 code.env .C) (tables 𝓤 H 𝓜 𝓡 code.env .Λ) #file-format·reader·new code.function (code.unfolded 𝓤 H 𝓜 𝓡)
     (new-meets 𝓤 H (𝓖 .A) (givenOf 𝓤 H 𝓜 𝓖) (𝓜 .mem) (𝓡 .run) (tablesOf 𝓤 H 𝓜 (tables 𝓤 H 𝓜 𝓡 code.env)))

@@ -5,13 +5,15 @@ use Prim.Native.Nat.{ℕ, zero, suc, _+_, _*_, _-_, _/_, _%_}
 use native.Mathlib.Omega.{arith}
 use Rattle.algebra.specs.ring.Ring.{Ops}
 use Rattle.algebra.specs.ring.RingLaws.{CRing, Star}
-use Rattle.algebra.specs.lines.Line.{re, im, unit, weave, pack-by, packB3}
-use Rattle.algebra.specs.lines.Folds.{mate, csc, cot, slant, twice-M, line3}
+use Rattle.algebra.specs.lines.Kinds.{re, im, unit, interleave, pack-by}
+use Rattle.algebra.specs.lines.Packings.{packB3}
+use Rattle.algebra.specs.lines.Folds.{mate, csc, cot, alternatingSpectrum, twice-M, line3}
 use Rattle.algebra.proofs.ring.Solver.{ring, quote, linear}
 use Rattle.algebra.proofs.ring.Laws.{along}
-use Rattle.algebra.proofs.lines.Unfold.{weave-even, weave-odd}
+use Rattle.algebra.proofs.lines.Unfold.{interleave-even, interleave-odd}
 use Rattle.numbers.specs.declared.Pair.{Pair}
-use Rattle.numbers.specs.Value.{prime, Value, field, conj, i, res, real, half, valueOf, pairOf, onValues}
+use Rattle.numbers.specs.Value.{prime, Value, field, conj, i, real, half, valueOf, pairOf, onValues}
+use Rattle.numbers.specs.Bounds.{res}
 use Rattle.numbers.specs.Value as Value
 use Rattle.numbers.proofs.Residues.{res-by, val-res}
 use Rattle.numbers.proofs.Values.{field-ring, field-star, value-by}
@@ -36,8 +38,8 @@ module _ (m A : ℕ) (tan line : List ℕ) where
   tau s = field m .neg (tangent m A tan s)
 
   pub inverse-short-first : (s : ℕ) {z : Pair} → s ≡ 0 → z ≡ at line s → Below (prime m) line
-      → record { re = z .re; im = 0 } ≡ pairOf (onValues m slant A tau (valuesOf m line) s)
-  unfolding slant
+      → record { re = z .re; im = 0 } ≡ pairOf (onValues m alternatingSpectrum A tau (valuesOf m line) s)
+  unfolding alternatingSpectrum
   inverse-short-first zero {z} n ez b = real-pair m _ (z .re) (small-of line 0 ez b .re) (sym (read-re m line 0 ez))
   inverse-short-first (suc s) n ez b = absurd (omega arith)
 
@@ -46,8 +48,8 @@ module _ (m A : ℕ) (tan line : List ℕ) where
       → real m (res m c) ≡ cot (field m) (real m (half m)) A (tangent m A tan) s → real m (res m d) ≡ csc (field m) (real m (half m)) A (tangent m A tan) s
       → x ≡ (Value.ring m .mul (res m (z .re)) (res m c)) .val → y ≡ (Value.ring m .mul (res m (z .im)) (res m d)) .val
       → n ≡ (Value.ring m .add (res m x) (res m y)) .val → r ≡ (Value.ring m .neg (res m n)) .val
-      → record { re = z .re; im = r } ≡ pairOf (onValues m slant A tau (valuesOf m line) s)
-  unfolding slant cot csc
+      → record { re = z .re; im = r } ≡ pairOf (onValues m alternatingSpectrum A tau (valuesOf m line) s)
+  unfolding alternatingSpectrum cot csc
   inverse-short-rest zero c d o ez b ec ed ex ey en er = absurd (o refl)
   inverse-short-rest (suc s) c d {z} o ez b ec ed ex ey en er =
       pair-parts m (res m (z .re)) _ (sym (val-res m (small-of line (suc s) ez b .re))) er
@@ -104,11 +106,11 @@ scaled-by m c z ev er = er ∙ ap (λ y. pairOf (field m .mul (real m (res m c))
 module _ (m A : ℕ) (part : Value m) (y : ℕ → Value m) (twice : Value m) where
   pub line-even : (j : ℕ) → j % 2 ≡ 0 → field m .mul part (field m .add (y (j / 2)) (conj m (y (mate A (j / 2))))) ≡ onValues m line3 A part y twice j
   unfolding line3
-  line-even j h = sym (weave-even _ _ (j / 2)) ∙ along (weave _ _) (2 * (j / 2)) j (omega arith)
+  line-even j h = sym (interleave-even _ _ (j / 2)) ∙ along (interleave _ _) (2 * (j / 2)) j (omega arith)
 
   pub line-odd : (j : ℕ) → (j % 2 ≡ 0 → ⊥) → field m .mul part (field m .mul (i m) (field m .add twice (field m .neg (field m .add (y (j / 2)) (conj m (y (A - suc (j / 2)))))))) ≡ onValues m line3 A part y twice j
   unfolding line3
-  line-odd j h = sym (weave-odd _ _ (j / 2)) ∙ along (weave _ _) (2 * (j / 2) + 1) j (omega arith)
+  line-odd j h = sym (interleave-odd _ _ (j / 2)) ∙ along (interleave _ _) (2 * (j / 2) + 1) j (omega arith)
 
 i-times-back : {R : Type 0} {𝓞 : Ops R} (𝓡 : CRing 𝓞) (i x : R) → 𝓞 .mul i i ≡ 𝓞 .neg (𝓞 .one) → 𝓞 .mul i (𝓞 .mul (𝓞 .neg i) x) ≡ x
 i-times-back {𝓞 = 𝓞} 𝓡 i x h = linear 𝓡 h (𝓞 .neg x) (ring 𝓡 (i ∷ x ∷ []) (search quote depth 40 fits 9999) refl)

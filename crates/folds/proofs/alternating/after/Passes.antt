@@ -5,10 +5,11 @@ use Prim.Native.Nat.{ℕ, zero, suc, _*_, _-_, _<_}
 use native.Mathlib.Omega.{arith}
 use lib.ListN.{getD}
 use Rattle.algebra.specs.ring.Ring.{Ops}
-use Rattle.algebra.specs.lines.Line.{re, im}
+use Rattle.algebra.specs.lines.Kinds.{re, im}
 use Rattle.algebra.specs.lines.Folds.{csc, cot, finish3}
 use Rattle.numbers.specs.declared.Pair.{Pair}
-use Rattle.numbers.specs.Value.{prime, Residue, Value, field, i, res, real, half, valueOf, pairOf, onValues}
+use Rattle.numbers.specs.Value.{prime, Residue, Value, field, i, real, half, valueOf, pairOf, onValues}
+use Rattle.numbers.specs.Bounds.{res}
 use Rattle.numbers.specs.Value as Value
 use Rattle.numbers.proofs.Residues.{res-by, val-res}
 use Rattle.numbers.proofs.Parts.{re-value, im-value}

@@ -4,11 +4,13 @@ use mathlib.Core.List.{List}
 use Prim.Native.Nat.{ℕ, suc, _+_, _*_, _-_, _/_, _%_, _<_}
 use native.Mathlib.Omega.{arith}
 use Rattle.algebra.specs.ring.Ring.{Ops}
-use Rattle.algebra.specs.lines.Line.{re, im, unit, unfoldB3}
+use Rattle.algebra.specs.lines.Kinds.{re, im, unit}
+use Rattle.algebra.specs.lines.Packings.{unfoldB3}
 use Rattle.algebra.proofs.ring.Laws.{along}
 use Rattle.algebra.proofs.lines.Unfold.{unfold-zero, unfold-low, unfold-middle, read-even, read-odd}
 use Rattle.numbers.specs.declared.Pair.{Pair}
-use Rattle.numbers.specs.Value.{prime, Value, field, conj, i, res, real, half, valueOf, pairOf, onValues}
+use Rattle.numbers.specs.Value.{prime, Value, field, conj, i, real, half, valueOf, pairOf, onValues}
+use Rattle.numbers.specs.Bounds.{res}
 use Rattle.numbers.proofs.Parts.{re-value, im-value}
 use Rattle.numbers.proofs.Values.{field-ring}
 use Rattle.slices.specs.Pairs.{at, Below, valuesOf}

@@ -4,14 +4,14 @@ use mathlib.Core.List.{List}
 use Prim.Native.Nat.{ℕ, _+_, _*_, _≤_, _<_}
 use native.Mathlib.Numerals.{add-one}
 use native.Mathlib.Omega.{arith}
-use Rattle.algebra.specs.ring.Ring.{Ops, sum}
-use Rattle.algebra.specs.ring.Residue.{residues}
-use Rattle.algebra.specs.ring.Gauss.{gauss}
-use Rattle.algebra.specs.lines.Line.{im, unfoldB3}
-use Rattle.algebra.specs.lines.Folds.{woven}
+use Rattle.algebra.specs.ring.Ring.{Ops, sum, residues, gauss}
+use Rattle.algebra.specs.lines.Kinds.{im}
+use Rattle.algebra.specs.lines.Packings.{unfoldB3}
+use Rattle.algebra.specs.lines.Folds.{alternatingPoint}
 use Rattle.algebra.proofs.ring.ResidueRing.{residue-add}
 use Rattle.numbers.specs.declared.Pair.{Pair}
-use Rattle.numbers.specs.Value.{prime, IsModulus, Value, field, i, res, real, valueOf, pairOf, onValues}
+use Rattle.numbers.specs.Value.{prime, IsModulus, Value, field, i, real, valueOf, pairOf, onValues}
+use Rattle.numbers.specs.Bounds.{res}
 use Rattle.numbers.proofs.Primes.{prime-most}
 use Rattle.numbers.proofs.Residues.{res-by, res-val}
 use Rattle.numbers.proofs.Parts.{im-value}
@@ -20,8 +20,8 @@ use Rattle.numbers.proofs.RealValues.{real-add}
 use Rattle.slices.specs.Pairs.{valuesOf}
 
 pub short-by : (m : ℕ) (X : ℕ → Value m) (t : ℕ) {x y z r : Pair} → x ≡ pairOf (X (2 * t)) → y ≡ pairOf (X (2 * t + 1))
-    → z ≡ pairOf (field m .mul (i m) (valueOf m y)) → r ≡ pairOf (field m .add (valueOf m x) (valueOf m z)) → r ≡ pairOf (woven (field m) (i m) X t)
-unfolding woven
+    → z ≡ pairOf (field m .mul (i m) (valueOf m y)) → r ≡ pairOf (field m .add (valueOf m x) (valueOf m z)) → r ≡ pairOf (alternatingPoint (field m) (i m) X t)
+unfolding alternatingPoint
 short-by m X t ex ey ez er =
     er ∙ ap pairOf (ap₂ (field m .add) (value-by m _ ex) (value-by m _ ez ∙ ap (field m .mul (i m)) (value-by m _ ey)))
 

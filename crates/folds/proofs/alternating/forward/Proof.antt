@@ -2,12 +2,12 @@
 use borrow.Author.Needs.{needs}
 use mathlib.Core.Path.{_∙_}
 use Prim.Native.Nat.{_/_}
-use Rattle.algebra.specs.ring.Ring.{pow}
-use Rattle.algebra.specs.fourier.Fourier.{dft}
-use Rattle.algebra.specs.lines.Line.{unfoldB3}
-use Rattle.algebra.specs.lines.Folds.{woven}
-use Rattle.numbers.specs.Value.{field, i, res, real, onValues}
-use Rattle.roots.specs.Root.{tableRoot}
+use Rattle.algebra.specs.ring.Ring.{pow, dft}
+use Rattle.algebra.specs.lines.Packings.{unfoldB3}
+use Rattle.algebra.specs.lines.Folds.{alternatingPoint}
+use Rattle.numbers.specs.Value.{field, i, real, onValues}
+use Rattle.numbers.specs.Bounds.{res}
+use Rattle.roots.specs.Table.{tableRoot}
 use Rattle.slices.specs.Pairs.{valuesOf}
 use Rattle.fold_formulas.specs.FoldFormulas.{tangent}
 use Rattle.slices.proofs.Values.{length-of, below-of}
@@ -31,7 +31,7 @@ transform-requires c κs =
     let f = s .pre .0 .0 in
     let m = s .args .m in
     let a = s .args .a in
-    let g = woven (field m) (i m) (onValues m unfoldB3 a (valuesOf m (s .args .line .now))) in
+    let g = alternatingPoint (field m) (i m) (onValues m unfoldB3 a (valuesOf m (s .args .line .now))) in
     ((f .modulus, f .table), ((s .pre .0 .2, half-divides f), ((length-of m a g (w .short-line .ensures), s .pre .1 .1 .1), below-of m a g (w .short-line .ensures))))
 
 finish-requires : tie.Need-finish-requires

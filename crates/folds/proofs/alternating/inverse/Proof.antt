@@ -3,11 +3,10 @@ use borrow.Author.Needs.{needs}
 use mathlib.Core.Path.{_∙_}
 use Prim.Native.Nat.{_*_, _/_}
 use native.Mathlib.Omega.{arith}
-use Rattle.algebra.specs.ring.Ring.{Ops, pow}
-use Rattle.algebra.specs.fourier.Fourier.{dft}
-use Rattle.algebra.specs.lines.Folds.{slant}
+use Rattle.algebra.specs.ring.Ring.{Ops, pow, dft}
+use Rattle.algebra.specs.lines.Folds.{alternatingSpectrum}
 use Rattle.numbers.specs.Value.{field, part, onValues}
-use Rattle.roots.specs.Root.{tableRoot}
+use Rattle.roots.specs.Table.{tableRoot}
 use Rattle.slices.specs.Pairs.{valuesOf}
 use Rattle.fold_formulas.specs.FoldFormulas.{tangent}
 use Rattle.slices.proofs.Values.{length-of, below-of}
@@ -34,7 +33,7 @@ transform-requires c κs =
     let f = s .pre .0 .0 in
     let m = s .args .m in
     let a = s .args .a in
-    let g = onValues m slant a (λ k. field m .neg (tangent m a (s .args .tan .now) k)) (valuesOf m (s .args .line .now)) in
+    let g = onValues m alternatingSpectrum a (λ k. field m .neg (tangent m a (s .args .tan .now) k)) (valuesOf m (s .args .line .now)) in
     ((f .modulus, f .table), ((s .pre .0 .2, half-divides f), ((length-of m a g (w .inverse-short-line .ensures), s .pre .1 .1 .1), below-of m a g (w .inverse-short-line .ensures))))
 
 pack-requires : tie.Need-pack-requires

@@ -2,10 +2,9 @@
 use mathlib.Core.Path.{_∙_, sym}
 use Prim.Native.Nat.{_*_, _/_}
 use native.Mathlib.Nat.{le-of-eq}
-use Rattle.algebra.specs.ring.Ring.{pow}
-use Rattle.algebra.specs.fourier.Fourier.{dft}
+use Rattle.algebra.specs.ring.Ring.{pow, dft}
 use Rattle.numbers.specs.Value.{field, real, part}
-use Rattle.roots.specs.Root.{tableRoot}
+use Rattle.roots.specs.Table.{tableRoot}
 use Rattle.slices.specs.Pairs.{valuesOf}
 use Rattle.slices.proofs.Pairs.{fills-whole}
 use Rattle.slices.proofs.Values.{length-of, below-of}

@@ -3,10 +3,9 @@ use mathlib.Core.Path.{_≡_, _∙_, sym, ap, subst}
 use Prim.Native.Nat.{_/_}
 use native.Mathlib.Nat.{le-of-eq}
 use lib.ListN.{length}
-use Rattle.algebra.specs.ring.Ring.{Ops, pow}
-use Rattle.algebra.specs.fourier.Fourier.{dft}
+use Rattle.algebra.specs.ring.Ring.{Ops, pow, dft}
 use Rattle.numbers.specs.Value.{prime, field}
-use Rattle.roots.specs.Root.{tableRoot}
+use Rattle.roots.specs.Table.{tableRoot}
 use Rattle.slices.specs.Pairs.{Below, valuesOf}
 use Rattle.slices.proofs.Pairs.{fills-whole}
 use Rattle.slices.proofs.Values.{length-of, below-of}

@@ -5,7 +5,7 @@ use Prim.Native.Nat.{ℕ, zero, suc, _*_, _-_, _<_}
 use native.Mathlib.Omega.{arith}
 use lib.ListN.{getD}
 use Rattle.algebra.specs.ring.Ring.{Ops}
-use Rattle.algebra.specs.lines.Folds.{join, finish}
+use Rattle.algebra.specs.lines.Folds.{mirrorValue, finish}
 use Rattle.algebra.proofs.lines.Unfold.{three-lt, three-eq}
 use Rattle.numbers.specs.declared.Pair.{Pair}
 use Rattle.numbers.specs.Value.{prime, Value, field, valueOf, pairOf}
@@ -28,7 +28,7 @@ module _ {R : Type 0} (𝓞 : Ops R) (half : R) (A : ℕ) (th : ℕ → R) (σ :
   finish-middle zero q e = absurd (omega arith)
   finish-middle (suc s) q e = three-eq (suc s) A _ _ _ e
 
-  pub finish-between : (s : ℕ) → 0 < s → s < A → finish 𝓞 half A th σ y o s ≡ join 𝓞 half σ (th s) (y s) (y (A - s))
+  pub finish-between : (s : ℕ) → 0 < s → s < A → finish 𝓞 half A th σ y o s ≡ mirrorValue 𝓞 half σ (th s) (y s) (y (A - s))
   unfolding finish
   finish-between zero q l = absurd (omega arith)
   finish-between (suc s) q l = three-lt (suc s) A _ _ _ l

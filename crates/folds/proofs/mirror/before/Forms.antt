@@ -4,11 +4,9 @@ use mathlib.Core.List.{List, [], _∷_}
 use Prim.Native.Nat.{ℕ, zero, suc, _+_, _*_, _-_, _<_, _≤_}
 use native.Mathlib.Omega.{arith}
 use native.Mathlib.Decide.{ℕ-discrete}
-use Rattle.algebra.specs.ring.Ring.{Ops, sum}
+use Rattle.algebra.specs.ring.Ring.{Ops, sum, residues, gauss}
 use Rattle.algebra.specs.ring.RingLaws.{CRing}
-use Rattle.algebra.specs.ring.Residue.{residues}
-use Rattle.algebra.specs.ring.Gauss.{gauss}
-use Rattle.algebra.specs.lines.Line.{unfold4, unfold5}
+use Rattle.algebra.specs.lines.Packings.{unfold4, unfold5}
 use Rattle.algebra.specs.lines.Kinds.{unfoldBefore}
 use Rattle.algebra.proofs.ring.Laws.{along, neg-zero, neg-neg}
 use Rattle.algebra.proofs.ring.Solver.{ring, quote, linear}
@@ -17,7 +15,8 @@ use Rattle.algebra.proofs.lines.Unfold.{unfold-zero, unfold-low, unfold-middle,
 use Rattle.numbers.specs.declared.Pair.{Pair}
 use Rattle.numbers.specs.declared.Accumulator.{Accumulator}
 use Rattle.numbers.specs.Unreduced.{Accumulated}
-use Rattle.numbers.specs.Value.{prime, IsModulus, Value, field, conj, i, real, half, value, valueOf, pairOf, Small, onValues}
+use Rattle.numbers.specs.Value.{prime, IsModulus, Value, field, conj, i, real, half, value, valueOf, pairOf, onValues}
+use Rattle.numbers.specs.Bounds.{Small}
 use Rattle.numbers.proofs.Primes.{prime-pos, prime-most}
 use Rattle.numbers.proofs.Values.{pair-value, small-by, value-by, value-add, field-ring}
 use Rattle.numbers.proofs.Parts.{half-law}

@@ -1,11 +1,10 @@
 -- `mirror::forward`: the sum of the odd places, the pass before, the short transform, the pass after.
 use mathlib.Core.Path.{_∙_}
 use Prim.Native.Nat.{_+_, _*_, _/_}
-use Rattle.algebra.specs.ring.Ring.{pow, sum}
-use Rattle.algebra.specs.fourier.Fourier.{dft}
-use Rattle.algebra.specs.lines.Folds.{paired}
+use Rattle.algebra.specs.ring.Ring.{pow, sum, dft}
+use Rattle.algebra.specs.lines.Folds.{mirrorPoint}
 use Rattle.numbers.specs.Value.{field}
-use Rattle.roots.specs.Root.{tableRoot}
+use Rattle.roots.specs.Table.{tableRoot}
 use Rattle.numbers.proofs.Values.{small-by}
 use Rattle.slices.specs.Pairs.{valuesOf}
 use Rattle.slices.proofs.Values.{length-of, below-of}
@@ -33,7 +32,7 @@ transform-requires c κs =
     let m = s .args .m in
     let a = s .args .a in
     let f = s .pre .0 .0 in
-    let g = paired (field m) (wholeLine m a (s .args .first) (s .args .line .now)) in
+    let g = mirrorPoint (field m) (wholeLine m a (s .args .first) (s .args .line .now)) in
     ((f .modulus, f .table), ((s .pre .0 .2, half-divides f), ((length-of m a g (p .short-line .ensures), s .pre .1 .0 .2), below-of m a g (p .short-line .ensures))))
 
 finish-requires : tie.Need-finish-requires

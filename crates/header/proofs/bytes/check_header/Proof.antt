@@ -12,7 +12,8 @@ use Rattle.lengths.specs.Lengths as lengths
 use Rattle.lengths.specs.Lengths.{factorsOk}
 use Rattle.cell.specs.Operations.{cellGroup, cellHalves}
 use Rattle.cell.specs.Volume.{volumeLength}
-use Rattle.header.specs.Header.{cellHeader, volumeLimit, axisTests}
+use Rattle.header.specs.Header.{volumeLimit, axisTests}
+use Rattle.header.specs.Cells.{cellHeader}
 use Rattle.refusals.proofs.Tests.{stop, pass, none, not-t, not-f, by-true, by-false}
 use Rattle.header.proofs.Headers.{sizes-of, short-lengths}
 use Rattle.header.proofs.bytes.check_header.Statement.{statement}

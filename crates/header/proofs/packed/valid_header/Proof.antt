@@ -1,9 +1,10 @@
 -- The axes one by one, then the volume.
 use borrow.Author.Needs.{needs}
 use mathlib.Core.Path.{_≡_, _∙_, sym}
-use mathlib.Core.Bool.{Bool, true, false}
+use mathlib.Core.Bool.{true}
 use Rattle.lengths.specs.Lengths.{octalDigits}
-use Rattle.header.specs.Header.{Header, cellHeader}
+use Rattle.header.specs.Header.{Header}
+use Rattle.header.specs.Cells.{cellHeader}
 use Rattle.header.proofs.Headers.{three, short-lengths, axes, axes-sizes, axes-valid, axes-refused}
 use Rattle.header.proofs.packed.valid_header.Statement.{statement}
 use Rattle.header.proofs.packed.valid_header.Tie as tie

@@ -6,12 +6,14 @@ use denote.Ref.{now}
 use borrow.Author.Tests.{not-false, eqb-true}
 use Rattle.numbers.specs.Value.{pairOf}
 use Rattle.numbers.proofs.Primes.{first-modulus}
-use Rattle.refusals.specs.Refusals.{first, checkedNumber}
+use Rattle.refusals.specs.Refusals.{first}
+use Rattle.refusals.specs.Checks.{checkedNumber}
 use Rattle.refusals.proofs.Tests.{Passed, passed}
 use Rattle.cell.specs.declared.operations.UnitCell.{UnitCell}
 use Rattle.cell.specs.Volume.{factorsIn}
 use Rattle.cell.specs.Operations.{cellGroup, cellHalves, cellLengths, Sizes}
-use Rattle.job.specs.Job.{jobCell, index, factorTests, factorTestsOf}
+use Rattle.job.specs.Job.{jobCell, index, factorTestsOf}
+use Rattle.job.specs.TestSteps.{factorTests}
 use Rattle.job.proofs.Jobs.{valid-sizes, cell-sizes}
 use Rattle.job.proofs.check.Points.{within-of}
 use Rattle.job.proofs.Reflections.{factor-refused, factor-read}

@@ -7,12 +7,14 @@ use Prim.Native.Nat.{ℕ, _<_}
 use lib.ListN.{length}
 use denote.Ref.{now}
 use borrow.Author.Tests.{not-false, eqb-true}
-use Rattle.refusals.specs.Refusals.{first, checkedNumber}
+use Rattle.refusals.specs.Refusals.{first}
+use Rattle.refusals.specs.Checks.{checkedNumber}
 use Rattle.refusals.proofs.Tests.{Passed, passed}
 use Rattle.cell.specs.declared.operations.UnitCell.{UnitCell}
 use Rattle.cell.specs.Volume.{volumeLength, densityPlace}
 use Rattle.cell.specs.Operations.{cellGroup, cellHalves, cellLengths, Sizes}
-use Rattle.job.specs.Job.{jobCell, groupIn, halves, position, pointTests, pointTestsOf}
+use Rattle.job.specs.Job.{jobCell, groupIn, halves, position, pointTestsOf}
+use Rattle.job.specs.TestSteps.{pointTests}
 use Rattle.job.proofs.Jobs.{valid-sizes, cell-sizes}
 use Rattle.header.proofs.Headers.{place-small}
 use Rattle.job.proofs.check.Points.{point-within-of}

@@ -6,7 +6,8 @@ use denote.Ref.{now}
 use borrow.Author.Tests.{not-false, ltb-true, eqb-true}
 use Rattle.numbers.specs.Value.{valueOf}
 use Rattle.numbers.proofs.Primes.{first-modulus}
-use Rattle.refusals.specs.Refusals.{first, checkedNumber}
+use Rattle.refusals.specs.Refusals.{first}
+use Rattle.refusals.specs.Checks.{checkedNumber}
 use Rattle.refusals.proofs.Tests.{Passed, passed, both}
 use Rattle.cell.specs.declared.operations.UnitCell.{UnitCell}
 use Rattle.cell.specs.Operations.{cellGroup, cellHalves, cellLengths}

@@ -7,15 +7,15 @@ use native.Mathlib.Omega.{arith}
 use lib.Dec.{eqb, ltb}
 use lib.ListN.{getD, drop}
 use borrow.Author.Tests.{eq-eqb, ne-eqb, lt-ltb, le-ltb}
-use Rattle.algebra.specs.cells.Cell.{J, Sym, Group, full, sameJ, imageOf, impliedValue}
-use Rattle.algebra.specs.cells.CellTests.{every, agreesT}
+use Rattle.algebra.specs.cells.Cell.{J, Sym, Group, full, sameJ, imageOf, impliedValue, every, agreesT}
 use Rattle.numbers.specs.declared.Pair.{Pair}
-use Rattle.numbers.specs.Value.{prime, Value, field, conj, valueOf, pairOf, Small}
+use Rattle.numbers.specs.Value.{prime, Value, field, conj, valueOf, pairOf}
+use Rattle.numbers.specs.Bounds.{Small}
 use Rattle.numbers.proofs.Values.{pair-value}
 use Rattle.cell.specs.Volume.{numbersRead}
 use Rattle.cell.specs.Consistency.{sameValue, agreesWithItself, orbitNumbers, orbitFree}
 use Rattle.cell.specs.Places.{allBelowAt}
-pub use Rattle.job.specs.Tests.{agreesUnder}
+pub use Rattle.job.specs.TestSteps.{agreesUnder}
 
 -- ---- a record that agrees with itself
 

@@ -2,7 +2,8 @@
 use borrow.Author.Needs.{needs}
 use mathlib.Core.Path.{_≡_, _∙_, sym, ap}
 use denote.Ref.{now}
-use Rattle.refusals.specs.Refusals.{first, checkedNumber}
+use Rattle.refusals.specs.Refusals.{first}
+use Rattle.refusals.specs.Checks.{checkedNumber}
 use Rattle.job.specs.Job.{Header, openTests}
 use Rattle.job.proofs.check.Openings.{header-passed}
 use Rattle.job.proofs.Openings.{open-refused, open-collects, open-map}

@@ -5,9 +5,10 @@ use mathlib.Core.List.{List}
 use Prim.Native.Nat.{ℕ, _*_}
 use Rattle.algebra.specs.lines.Kinds.{Kind, slots}
 use Rattle.slices.specs.Pairs.{valuesOf, listOf}
-use Rattle.lengths.specs.Lengths.{Factored, kindOf}
+use Rattle.lengths.specs.Lengths.{kindOf}
+use Rattle.lengths.specs.Admitted.{Factored}
 use Rattle.fold_formulas.specs.FoldFormulas.{Frame, folded}
-use Rattle.line.specs.Transform.{transformed}
+use Rattle.line.specs.Line.{transformed}
 use Rattle.line.proofs.kinds.Dispatch.{hermitian-kind, mirror-kind, frame-of, half-list, half-count, count-of, folded-by}
 use Rattle.line.proofs.transform.folded.Statement.{statement}
 use Rattle.line.proofs.transform.folded.Tie as tie

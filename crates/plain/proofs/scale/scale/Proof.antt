@@ -5,15 +5,17 @@ use native.Mathlib.Nat.{le-refl}
 use native.Mathlib.Omega.{arith}
 use Rattle.algebra.specs.ring.Ring.{Ops}
 use Rattle.numbers.specs.declared.Pair.{Pair}
-use Rattle.numbers.specs.Value.{field, res, real, valueOf, pairOf}
-use Rattle.slices.specs.Pairs.{at, Filling, valuesOf}
+use Rattle.numbers.specs.Value.{field, real, valueOf, pairOf}
+use Rattle.numbers.specs.Bounds.{res}
+use Rattle.slices.specs.Pairs.{at, valuesOf}
+use Rattle.slices.specs.Filling.{FillingPairs}
 use Rattle.slices.proofs.Bounds.{small-of}
 use Rattle.slices.proofs.Filling.{filling-start, filling-next, filling-ahead, filling-whole}
 use Rattle.plain.proofs.scale.scale.Statement.{statement}
 use Rattle.plain.proofs.scale.scale.Tie as tie
 
 abbrev Inv-loop : tie.InvT-loop
-Inv-loop m c n line₀ j₀ line j = Filling (λ k. k) (λ t. pairOf (field m .mul (real m (res m c)) (valuesOf m line₀ t))) n j line₀ line
+Inv-loop m c n line₀ j₀ line j = FillingPairs (λ k. k) (λ t. pairOf (field m .mul (real m (res m c)) (valuesOf m line₀ t))) n j line₀ line
 
 abbrev μ-loop : tie.MeasureT-loop
 μ-loop m c n line₀ j₀ line j = n - j

@@ -1,7 +1,7 @@
 -- Each round fills the places of one butterfly (`Passing`).
 use Prim.Native.Nat.{_-_, _*_}
 use native.Mathlib.Omega.{arith}
-use Rattle.roots.specs.Root.{tableRoot}
+use Rattle.roots.specs.Table.{tableRoot}
 use Rattle.slices.proofs.Rows.{rows-wide}
 use Rattle.plain.proofs.step.Sizes.{outer-pos, product-le, product-pos, stride-le}
 use Rattle.plain.proofs.step.Passing.{Passing, passing-start, passing-reads, passing-stores, passing-column, passing-base, passing-exponent, passing-next, passing-again, passing-done}

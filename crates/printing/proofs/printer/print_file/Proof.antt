@@ -2,8 +2,8 @@
 use borrow.Author.Needs.{needs}
 use mathlib.Core.Path.{sym, _∙_}
 use Rattle.job.specs.Job.{needed}
-use Rattle.factor_file.specs.Reading.{headerIn}
-use Rattle.printing.specs.Printed.{lentLimit}
+use Rattle.factor_file.specs.File.{headerIn}
+use Rattle.printing.specs.Text.{lentLimit}
 use Rattle.printing.proofs.Files.{lent-length, lent-zeros, printed-long, printed-lent}
 use Rattle.printing.proofs.printer.print_file.Statement.{statement}
 use Rattle.printing.proofs.printer.print_file.Tie as tie

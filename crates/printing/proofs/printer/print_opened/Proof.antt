@@ -3,17 +3,24 @@ use borrow.Author.Needs.{needs}
 use mathlib.Core.Path.{_≡_, sym, ap, _∙_}
 use mathlib.Core.List.{List}
 use Prim.Native.Nat.{ℕ}
-use Rattle.job.specs.Job.{OpenOutcome}
+use Rattle.job.specs.declared.Job.{Job}
+use Rattle.job.specs.Job.{OpenOutcome, opened}
 use Rattle.factor_file.specs.declared.FileAnswer.{FileAnswer}
-use Rattle.factor_file.specs.Reading.{fileOutcome}
-use Rattle.printing.specs.Text.{TextOutcome, putText}
-use Rattle.printing.specs.Printed.{openedText}
+use Rattle.factor_file.specs.declared.FileAnswer.the-variants.{Opened}
+use Rattle.factor_file.specs.Answers.{fileOutcome}
+use Rattle.printing.specs.Text.{putText, openedText}
+use Rattle.output.specs.Output.{FillOutcome}
+use Rattle.printing.proofs.Opened.{opened-synthesis}
 use Rattle.printing.proofs.printer.print_opened.Statement.{statement}
 use Rattle.printing.proofs.printer.print_opened.Tie as tie
 
 -- the text of an outcome, by its answer
 told : {r a : FileAnswer} {v : List ℕ} {o : OpenOutcome} (out : List ℕ) → fileOutcome r v ≡ o → r ≡ a → putText (openedText (fileOutcome a v)) out ≡ putText (openedText o) out
 told {v = v} out e q = ap (λ (a : FileAnswer). putText (openedText (fileOutcome a v)) out) (sym q) ∙ ap (λ (o : OpenOutcome). putText (openedText o) out) e
+
+-- an answer that is a job
+opened-by : {r : FileAnswer} {j : Job} {v : List ℕ} {o : OpenOutcome} → fileOutcome r v ≡ o → r ≡ Opened j → o ≡ record { answer = opened j; volume = v }
+opened-by {v = v} e q = sym e ∙ ap (λ (a : FileAnswer). fileOutcome a v) q
 
 open-file-requires : tie.Need-open-file-requires
 open-file-requires c κs = search needs
@@ -42,7 +49,11 @@ enum-known-answer-2 : tie.Need-enum-known-answer-2
 enum-known-answer-2 c = search needs
 
 print-job-requires : tie.Need-print-job-requires
-print-job-requires c κs = search needs
+print-job-requires c κs =
+    let a = c .before .before .before in
+    let y = a .before .before .before .before in
+    let s = y .before .before .before .before .before in
+    opened-synthesis (s .args .file .now) (s .args .volume .now) _ _ (opened-by (y .open-file .ensures) (a .answer2 .given .1))
 
 same-length-3 : tie.Need-same-length-3
 same-length-3 c = search needs

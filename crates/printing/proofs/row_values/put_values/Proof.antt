@@ -4,7 +4,8 @@ use mathlib.Core.List.{List, _∷_}
 use Prim.Native.Nat.{ℕ, _+_, _-_, _≤_}
 use native.Mathlib.Omega.{arith}
 use lib.ListN.{length, getD}
-use Rattle.output.specs.Output.{each, blank, decimal, Wrote}
+use Rattle.output.specs.Output.{each, blank, decimal}
+use Rattle.output.specs.Written.{Wrote}
 use Rattle.output.proofs.Writing.{each-none, each-ends, each-next, each-done, wrote-length}
 use Rattle.printing.proofs.row_values.put_values.Statement.{statement}
 use Rattle.printing.proofs.row_values.put_values.Tie as tie

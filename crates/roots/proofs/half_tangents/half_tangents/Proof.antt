@@ -1,5 +1,5 @@
 -- The array of each prime passes the test.
-use Rattle.algebra.specs.ring.Residue.{residue}
+use Rattle.algebra.specs.ring.Ring.{residue}
 use Rattle.algebra.proofs.fourier.PowerTable.{passes}
 use Rattle.numbers.specs.Value.{prime}
 use Rattle.numbers.proofs.ModulusCases.{second}

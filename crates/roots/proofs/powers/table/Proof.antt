@@ -1,5 +1,5 @@
 -- The two arrays of each prime pass the test.
-use Rattle.algebra.specs.ring.Residue.{residue}
+use Rattle.algebra.specs.ring.Ring.{residue}
 use Rattle.numbers.specs.Value.{prime}
 use Rattle.numbers.proofs.ModulusCases.{second}
 use Rattle.roots.specs.Root.{root}

@@ -1,33 +1,28 @@
--- `buffers::all_below`: no number before i stops the scan.
+-- `buffers::all_below`: `below` tells of the numbers before i, and the rest of the list of the others.
 use mathlib.Core.Path.{_≡_, refl, sym, _∙_}
+use mathlib.Core.Bool.{_&&_}
 use Prim.Native.Nat.{_≤_, _-_}
 use native.Mathlib.Omega.{arith}
 use lib.ListN.{length, drop}
 use Rattle.slices.specs.Pairs.{allBelow}
-use Rattle.slices.proofs.Bounds.{allBelow-next, allBelow-stop, allBelow-end}
+use Rattle.slices.proofs.Bounds.{allBelow-next, allBelow-end}
 use Rattle.slices.proofs.buffers.all_below.Statement.{statement}
 use Rattle.slices.proofs.buffers.all_below.Tie as tie
 
 abbrev Inv-loop : tie.InvT-loop
-Inv-loop s p i₀ i = (i ≤ length s) × (allBelow p s ≡ allBelow p (drop i s))
+Inv-loop s p below₀ i₀ below i = (i ≤ length s) × (allBelow p s ≡ (below && allBelow p (drop i s)))
 
 abbrev μ-loop : tie.MeasureT-loop
-μ-loop s p i₀ i = length s - i
+μ-loop s p below₀ i₀ below i = length s - i
 
 loop-holds : tie.Need-loop-holds Inv-loop μ-loop
 loop-holds c = (omega arith, refl)
 
-mul-if1 : tie.Need-mul-if1 Inv-loop μ-loop
-mul-if1 c = omega arith
+mul-below : tie.Need-mul-below Inv-loop μ-loop
+mul-below c = omega arith
 
-shared-slice-read-if1 : tie.Need-shared-slice-read-if1 Inv-loop μ-loop
-shared-slice-read-if1 c = omega arith
-
-returns : tie.Need-returns Inv-loop μ-loop
-returns c =
-    let l = c .before .before .before in
-    let a = l .before .args in
-    sym (l .loop .inv .1 ∙ allBelow-stop (a .p) (a .s .now) (l .loop .i) (c .before .before .loop-test .taken) (omega arith))
+shared-slice-read-below : tie.Need-shared-slice-read-below Inv-loop μ-loop
+shared-slice-read-below c = omega arith
 
 add-i : tie.Need-add-i Inv-loop μ-loop
 add-i c = omega arith
@@ -37,15 +32,15 @@ loop-less c = omega arith
 
 loop-again : tie.Need-loop-again Inv-loop μ-loop
 loop-again c =
-    let l = c .before .before .before in
+    let l = c .before .before in
     let a = l .before .args in
-    (omega arith, l .loop .inv .1 ∙ allBelow-next (a .p) (a .s .now) (l .loop .i) (c .before .before .loop-test .taken) (omega arith))
+    (omega arith, l .loop .inv .1 ∙ allBelow-next (a .p) (a .s .now) (l .loop .below) (l .loop .i) (c .before .loop-test .taken))
 
-returns-2 : tie.Need-returns-2 Inv-loop μ-loop
-returns-2 c =
+returns : tie.Need-returns Inv-loop μ-loop
+returns c =
     let l = c .before in
     let a = l .before .args in
-    sym (l .loop .inv .1 ∙ allBelow-end (a .p) (a .s .now) (l .loop .i) (c .loop-test .left))
+    sym (l .loop .inv .1 ∙ allBelow-end (a .p) (a .s .now) (l .loop .below) (l .loop .i) (c .loop-test .left))
 
 pub all-below-spec : {M : Type 1} → statement M
 all-below-spec =
@@ -54,10 +49,9 @@ all-below-spec =
     Inv-loop
     μ-loop
     loop-holds
-    mul-if1
-    shared-slice-read-if1
-    returns
+    mul-below
+    shared-slice-read-below
     add-i
     loop-less
     loop-again
-    returns-2)
+    returns)

@@ -11,16 +11,16 @@ use Rattle.volume_transform.proofs.lines.turn_stored.Tie as tie
 turn-packed-requires : tie.Need-turn-packed-requires
 turn-packed-requires c κs = search needs
 
-over-i-requires : tie.Need-over-i-requires
-over-i-requires c κs =
+rotate-requires : tie.Need-rotate-requires
+rotate-requires c κs =
     let t = c .before .before .before .before .before .before .before in
     let s = t .before .before .before .before .before .before .before .before .before .before in
     let x = s .args .line in
     let p = s .pre .0 in
     (subst IsModulus (sym (p .2)) (p .0 .modulus), turned-ready x (p .2) (p .3) (s .args .packed .now) (t .turn-packed .ensures))
 
-times-i-requires : tie.Need-times-i-requires
-times-i-requires c κs =
+rotate-requires-2 : tie.Need-rotate-requires-2
+rotate-requires-2 c κs =
     let s = c .before .before .before .before .before .before .before in
     let x = s .args .line in
     let p = s .pre .0 in
@@ -32,7 +32,7 @@ turn-packed-requires-2 c κs =
     let t = c .before .before .before .before .before in
     let s = t .before .before .before .before .before .before .before .before in
     let p = s .pre .0 in
-    ((p .0, p .1, p .2), (times-ready (s .args .line) (p .2) (p .3) (s .args .packed .now) (t .times-i .ensures), s .pre .1 .1))
+    ((p .0, p .1, p .2), (times-ready (s .args .line) (p .2) (p .3) (s .args .packed .now) (t .rotate2 .ensures), s .pre .1 .1))
 
 turn-packed-requires-3 : tie.Need-turn-packed-requires-3
 turn-packed-requires-3 c κs = search needs
@@ -53,7 +53,7 @@ returns c =
     let d = t .before .before .before .before in
     let s = t .before .before .before .before .before .before .before .before .before .before in
     let p = s .pre .0 in
-    over-turned (s .args .line) (p .2) (p .3) (s .args .packed .now) (d .before .before .if1 .taken) (d .if2 .taken) (t .turn-packed .ensures) (o .over-i .ensures)
+    over-turned (s .args .line) (p .2) (p .3) (s .args .packed .now) (d .before .before .if1 .taken) (d .if2 .taken) (t .turn-packed .ensures) (o .rotate .ensures)
 
 same-length-4 : tie.Need-same-length-4
 same-length-4 c = search needs
@@ -71,7 +71,7 @@ returns-2 c =
     let d = o .before .before in
     let s = o .before .before .before .before .before .before .before .before in
     let p = s .pre .0 in
-    times-turned (s .args .line) (p .2) (p .3) (s .args .packed .now) (p .0) (d .before .before .if1 .taken) (d .if2 .left) (o .times-i .ensures) (t .turn-packed2 .ensures)
+    times-turned (s .args .line) (p .2) (p .3) (s .args .packed .now) (p .0) (d .before .before .if1 .taken) (d .if2 .left) (o .rotate2 .ensures) (t .turn-packed2 .ensures)
 
 same-length-7 : tie.Need-same-length-7
 same-length-7 c = search needs
@@ -95,8 +95,8 @@ turn-stored-spec =
     tie.close
     (tie.spec
     turn-packed-requires
-    over-i-requires
-    times-i-requires
+    rotate-requires
+    rotate-requires-2
     turn-packed-requires-2
     turn-packed-requires-3
     same-length

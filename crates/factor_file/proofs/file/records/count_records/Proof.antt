@@ -6,7 +6,7 @@ use lib.ListN.{length}
 use Rattle.algebra.specs.cells.Cell.{J}
 use Rattle.numbers.specs.Value.{Value}
 use Rattle.cell.specs.Operations.{cellGroup, cellHalves, tripleOf}
-use Rattle.factor_file.specs.Writing.{recordsAt}
+use Rattle.factor_file.specs.File.{recordsAt}
 use Rattle.factor_file.specs.Steps.{placesFrom, Next}
 use Rattle.factor_file.proofs.file.Places.{Spreads}
 use Rattle.factor_file.proofs.file.Walks.{Counting, counting-start, counting-next, counting-most, counting-done, fewer}

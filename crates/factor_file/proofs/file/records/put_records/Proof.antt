@@ -4,8 +4,7 @@ use mathlib.Core.Path.{_≡_, sym, ap}
 use mathlib.Core.List.{List}
 use Prim.Native.Nat.{ℕ}
 use lib.ListN.{length}
-use Rattle.algebra.specs.cells.Cell.{J}
-use Rattle.algebra.specs.cells.CellTests.{cellFrom, placesOf}
+use Rattle.algebra.specs.cells.Cell.{J, cellFrom, placesOf}
 use Rattle.cell.specs.Operations.{cellGroup, cellHalves, tripleOf}
 use Rattle.factor_file.specs.Steps.{placesFrom, Next}
 use Rattle.factor_file.proofs.file.Places.{Spreads}

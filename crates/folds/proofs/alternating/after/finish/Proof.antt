@@ -2,8 +2,10 @@
 use borrow.Author.Needs.{needs}
 use Prim.Native.Nat.{_-_}
 use Rattle.algebra.specs.lines.Folds.{finish3}
-use Rattle.numbers.specs.Value.{res, real, pairOf, onValues}
-use Rattle.slices.specs.Pairs.{Filling, valuesOf}
+use Rattle.numbers.specs.Value.{real, pairOf, onValues}
+use Rattle.numbers.specs.Bounds.{res}
+use Rattle.slices.specs.Pairs.{valuesOf}
+use Rattle.slices.specs.Filling.{FillingPairs}
 use Rattle.slices.proofs.Filling.{filling-next}
 use Rattle.slices.proofs.Sets.{fill}
 use Rattle.fold_formulas.specs.FoldFormulas.{tangent}
@@ -11,7 +13,7 @@ use Rattle.folds.proofs.alternating.after.finish.Statement.{statement}
 use Rattle.folds.proofs.alternating.after.finish.Tie as tie
 
 abbrev Inv-loop : tie.InvT-loop
-Inv-loop m tan a odd fold line₀ step s₀ line s = Filling (λ k. k) (λ s. pairOf (onValues m finish3 a (tangent m a tan) (valuesOf m fold) (real m (res m odd)) s)) a s line₀ line
+Inv-loop m tan a odd fold line₀ step s₀ line s = FillingPairs (λ k. k) (λ s. pairOf (onValues m finish3 a (tangent m a tan) (valuesOf m fold) (real m (res m odd)) s)) a s line₀ line
 
 abbrev μ-loop : tie.MeasureT-loop
 μ-loop m tan a odd fold line₀ step s₀ line s = a - s

@@ -2,9 +2,10 @@
 use borrow.Author.Needs.{needs}
 use Prim.Native.Nat.{_-_}
 use Rattle.algebra.specs.ring.Ring.{Ops}
-use Rattle.algebra.specs.lines.Folds.{slant}
+use Rattle.algebra.specs.lines.Folds.{alternatingSpectrum}
 use Rattle.numbers.specs.Value.{field, pairOf, onValues}
-use Rattle.slices.specs.Pairs.{Filling, valuesOf}
+use Rattle.slices.specs.Pairs.{valuesOf}
+use Rattle.slices.specs.Filling.{FillingPairs}
 use Rattle.slices.proofs.Filling.{filling-next}
 use Rattle.slices.proofs.Sets.{fill}
 use Rattle.fold_formulas.specs.FoldFormulas.{tangent}
@@ -12,7 +13,7 @@ use Rattle.folds.proofs.alternating.after.inverse_short_line.Statement.
 use Rattle.folds.proofs.alternating.after.inverse_short_line.Tie as tie
 
 abbrev Inv-loop : tie.InvT-loop
-Inv-loop m tan a line fold₀ step s₀ fold s = Filling (λ k. k) (λ s. pairOf (onValues m slant a (λ s. field m .neg (tangent m a tan s)) (valuesOf m line) s)) a s fold₀ fold
+Inv-loop m tan a line fold₀ step s₀ fold s = FillingPairs (λ k. k) (λ s. pairOf (onValues m alternatingSpectrum a (λ s. field m .neg (tangent m a tan s)) (valuesOf m line) s)) a s fold₀ fold
 
 abbrev μ-loop : tie.MeasureT-loop
 μ-loop m tan a line fold₀ step s₀ fold s = a - s

@@ -1,9 +1,11 @@
 -- t pairs of the line are there.
 use Prim.Native.Nat.{_-_}
 use Rattle.algebra.specs.lines.Folds.{line3}
-use Rattle.algebra.specs.lines.Line.{packB3}
-use Rattle.numbers.specs.Value.{res, real, pairOf, onValues}
-use Rattle.slices.specs.Pairs.{Filling, valuesOf}
+use Rattle.algebra.specs.lines.Packings.{packB3}
+use Rattle.numbers.specs.Value.{real, pairOf, onValues}
+use Rattle.numbers.specs.Bounds.{res}
+use Rattle.slices.specs.Pairs.{valuesOf}
+use Rattle.slices.specs.Filling.{FillingPairs}
 use Rattle.slices.proofs.Filling.{filling-next}
 use Rattle.slices.proofs.Sets.{fill}
 use Rattle.folds.proofs.alternating.after.pack.Statement.{statement}
@@ -11,7 +13,7 @@ use Rattle.folds.proofs.alternating.after.pack.Tie as tie
 
 abbrev Inv-loop : tie.InvT-loop
 Inv-loop m part twice a fold line₀ t₀ line t =
-    Filling (λ k. k) (λ t. pairOf (onValues m packB3 a (onValues m line3 a (real m (res m part)) (valuesOf m fold) (real m (res m twice))) t)) a t line₀ line
+    FillingPairs (λ k. k) (λ t. pairOf (onValues m packB3 a (onValues m line3 a (real m (res m part)) (valuesOf m fold) (real m (res m twice))) t)) a t line₀ line
 
 abbrev μ-loop : tie.MeasureT-loop
 μ-loop m part twice a fold line₀ t₀ line t = a - t

@@ -2,7 +2,8 @@
 use borrow.Author.Needs.{needs}
 use Prim.Native.Nat.{ℕ}
 use Rattle.algebra.specs.lines.Folds.{line3}
-use Rattle.numbers.specs.Value.{Value, field, conj, i, res, real, half}
+use Rattle.numbers.specs.Value.{Value, field, conj, i, real, half}
+use Rattle.numbers.specs.Bounds.{res}
 use Rattle.numbers.proofs.Values.{small-by}
 use Rattle.slices.specs.Pairs.{valuesOf}
 use Rattle.folds.proofs.alternating.after.Back.{pack-even, pack-odd, pack-rest}

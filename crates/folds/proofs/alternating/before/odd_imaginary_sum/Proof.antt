@@ -2,7 +2,7 @@
 use borrow.Author.Needs.{needs}
 use Prim.Native.Nat.{_-_}
 use native.Mathlib.Omega.{arith}
-use Rattle.numbers.specs.Value.{res}
+use Rattle.numbers.specs.Bounds.{res}
 use Rattle.numbers.proofs.Primes.{prime-most}
 use Rattle.numbers.proofs.Residues.{below-by}
 use Rattle.numbers.proofs.Values.{small-by}

@@ -1,16 +1,17 @@
 -- t pairs of the short line are there.
 use Prim.Native.Nat.{_-_}
-use Rattle.algebra.specs.lines.Folds.{woven}
-use Rattle.algebra.specs.lines.Line.{unfoldB3}
+use Rattle.algebra.specs.lines.Folds.{alternatingPoint}
+use Rattle.algebra.specs.lines.Packings.{unfoldB3}
 use Rattle.numbers.specs.Value.{field, i, pairOf, onValues}
-use Rattle.slices.specs.Pairs.{Filling, valuesOf}
+use Rattle.slices.specs.Pairs.{valuesOf}
+use Rattle.slices.specs.Filling.{FillingPairs}
 use Rattle.slices.proofs.Filling.{filling-next}
 use Rattle.slices.proofs.Sets.{fill}
 use Rattle.folds.proofs.alternating.before.short_line.Statement.{statement}
 use Rattle.folds.proofs.alternating.before.short_line.Tie as tie
 
 abbrev Inv-loop : tie.InvT-loop
-Inv-loop m a line fold₀ t₀ fold t = Filling (λ k. k) (λ t. pairOf (woven (field m) (i m) (onValues m unfoldB3 a (valuesOf m line)) t)) a t fold₀ fold
+Inv-loop m a line fold₀ t₀ fold t = FillingPairs (λ k. k) (λ t. pairOf (alternatingPoint (field m) (i m) (onValues m unfoldB3 a (valuesOf m line)) t)) a t fold₀ fold
 
 abbrev μ-loop : tie.MeasureT-loop
 μ-loop m a line fold₀ t₀ fold t = a - t

@@ -2,8 +2,10 @@
 use mathlib.Core.Path.{refl}
 use Prim.Native.Nat.{_-_}
 use Rattle.algebra.specs.lines.Folds.{back1}
-use Rattle.numbers.specs.Value.{conj, real, res, pairOf, onValues}
-use Rattle.slices.specs.Pairs.{Filling, valuesOf}
+use Rattle.numbers.specs.Value.{conj, real, pairOf, onValues}
+use Rattle.numbers.specs.Bounds.{res}
+use Rattle.slices.specs.Pairs.{valuesOf}
+use Rattle.slices.specs.Filling.{FillingPairs}
 use Rattle.slices.proofs.Filling.{filling-next}
 use Rattle.slices.proofs.Sets.{fill}
 use Rattle.fold_formulas.specs.FoldFormulas.{lineRoot}
@@ -12,7 +14,7 @@ use Rattle.folds.proofs.hermitian.after.unfold.Statement.{statement}
 use Rattle.folds.proofs.hermitian.after.unfold.Tie as tie
 
 abbrev Inv-loop : tie.InvT-loop
-Inv-loop m re im anti c a fold out₀ step t₀ out t = Filling (λ k. k) (λ k. pairOf (fromHermitian m anti (onValues m back1 a (real m (res m c)) (conj m (lineRoot m a re im)) (valuesOf m fold)) k)) a t out₀ out
+Inv-loop m re im anti c a fold out₀ step t₀ out t = FillingPairs (λ k. k) (λ k. pairOf (fromHermitian m anti (onValues m back1 a (real m (res m c)) (conj m (lineRoot m a re im)) (valuesOf m fold)) k)) a t out₀ out
 
 abbrev μ-loop : tie.MeasureT-loop
 μ-loop m re im anti c a fold out₀ step t₀ out t = a - t

@@ -2,7 +2,8 @@
 use mathlib.Core.Path.{_≡_, _∙_, sym, ap}
 use Prim.Native.Nat.{_*_, _<_}
 use native.Mathlib.Nat.{le-of-lt}
-use Rattle.numbers.specs.Value.{field, i, res, real, valueOf, pairOf}
+use Rattle.numbers.specs.Value.{field, i, real, valueOf, pairOf}
+use Rattle.numbers.specs.Bounds.{res}
 use Rattle.numbers.proofs.Values.{small-by, value-by}
 use Rattle.slices.specs.Pairs.{valuesOf}
 use Rattle.slices.proofs.Bounds.{small-of}

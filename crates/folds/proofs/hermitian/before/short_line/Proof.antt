@@ -3,7 +3,8 @@ use mathlib.Core.Path.{refl}
 use Prim.Native.Nat.{_-_}
 use Rattle.algebra.specs.lines.Folds.{fold1}
 use Rattle.numbers.specs.Value.{pairOf, onValues}
-use Rattle.slices.specs.Pairs.{Filling, valuesOf}
+use Rattle.slices.specs.Pairs.{valuesOf}
+use Rattle.slices.specs.Filling.{FillingPairs}
 use Rattle.slices.proofs.Filling.{filling-next}
 use Rattle.slices.proofs.Sets.{fill}
 use Rattle.fold_formulas.specs.FoldFormulas.{lineRoot}
@@ -12,7 +13,7 @@ use Rattle.folds.proofs.hermitian.before.short_line.Statement.{statemen
 use Rattle.folds.proofs.hermitian.before.short_line.Tie as tie
 
 abbrev Inv-loop : tie.InvT-loop
-Inv-loop m re im anti a line out₀ step t₀ out t = Filling (λ k. k) (λ k. pairOf (onValues m fold1 a (lineRoot m a re im) (toHermitian m anti (valuesOf m line)) k)) a t out₀ out
+Inv-loop m re im anti a line out₀ step t₀ out t = FillingPairs (λ k. k) (λ k. pairOf (onValues m fold1 a (lineRoot m a re im) (toHermitian m anti (valuesOf m line)) k)) a t out₀ out
 
 abbrev μ-loop : tie.MeasureT-loop
 μ-loop m re im anti a line out₀ step t₀ out t = a - t

@@ -3,14 +3,14 @@ use mathlib.Core.Path.{refl}
 use Prim.Native.Nat.{_+_, _-_}
 use native.Mathlib.Omega.{arith}
 use Rattle.numbers.specs.Value.{valueOf, pairOf}
-use Rattle.slices.specs.Pairs.{Filling}
+use Rattle.slices.specs.Filling.{FillingPairs}
 use Rattle.slices.proofs.Filling.{filling-start, filling-next, filling-whole}
 use Rattle.folds.specs.FoldedLines.{storedCount, finished}
 use Rattle.folds.proofs.mirror.after.finish.Statement.{statement}
 use Rattle.folds.proofs.mirror.after.finish.Tie as tie
 
 abbrev Inv-loop : tie.InvT-loop
-Inv-loop m tan first a o fold line₀ step n p₀ line p = Filling (λ k. k) (λ k. pairOf (finished m a first tan fold (valueOf m o) (first + k))) (storedCount a first) p line₀ line
+Inv-loop m tan first a o fold line₀ step n p₀ line p = FillingPairs (λ k. k) (λ k. pairOf (finished m a first tan fold (valueOf m o) (first + k))) (storedCount a first) p line₀ line
 
 abbrev μ-loop : tie.MeasureT-loop
 μ-loop m tan first a o fold line₀ step n p₀ line p = n - p

@@ -1,7 +1,7 @@
 -- The sum of two places of the line.
 use borrow.Author.Needs.{needs}
 use Rattle.algebra.specs.ring.Ring.{Ops}
-use Rattle.algebra.specs.lines.Folds.{paired}
+use Rattle.algebra.specs.lines.Folds.{mirrorPoint}
 use Rattle.numbers.specs.Value.{field}
 use Rattle.numbers.proofs.Values.{small-by}
 use Rattle.folds.proofs.mirror.before.Forms.{by-values, pair-places}
@@ -35,7 +35,7 @@ sum-requires c κs =
     (s .pre .0 .0, small-by _ _ (c .before .value-at .ensures), small-by _ _ (c .value-at2 .ensures))
 
 returns : tie.Need-returns
-unfolding paired
+unfolding mirrorPoint
 returns c = by-values _ (field _ .add) _ _ (c .sum .ensures) (c .before .before .value-at .ensures) (c .before .value-at2 .ensures)
 
 pub short-at-spec : {M : Type 1} → statement M

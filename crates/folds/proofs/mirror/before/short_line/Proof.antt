@@ -1,8 +1,8 @@
 -- t places of the short line are stored.
 use Prim.Native.Nat.{_-_}
-use Rattle.algebra.specs.lines.Folds.{paired}
+use Rattle.algebra.specs.lines.Folds.{mirrorPoint}
 use Rattle.numbers.specs.Value.{field, pairOf}
-use Rattle.slices.specs.Pairs.{Filling}
+use Rattle.slices.specs.Filling.{FillingPairs}
 use Rattle.slices.proofs.Filling.{filling-next}
 use Rattle.slices.proofs.Sets.{fill}
 use Rattle.folds.specs.FoldedLines.{wholeLine}
@@ -10,7 +10,7 @@ use Rattle.folds.proofs.mirror.before.short_line.Statement.{statement}
 use Rattle.folds.proofs.mirror.before.short_line.Tie as tie
 
 abbrev Inv-loop : tie.InvT-loop
-Inv-loop m first a line fold₀ t₀ fold t = Filling (λ k. k) (λ k. pairOf (paired (field m) (wholeLine m a first line) k)) a t fold₀ fold
+Inv-loop m first a line fold₀ t₀ fold t = FillingPairs (λ k. k) (λ k. pairOf (mirrorPoint (field m) (wholeLine m a first line) k)) a t fold₀ fold
 
 abbrev μ-loop : tie.MeasureT-loop
 μ-loop m first a line fold₀ t₀ fold t = a - t

@@ -13,7 +13,7 @@ use Rattle.refusals.proofs.Tests.{stop, pass, none, not-t, not-f, by-true, by-f
 use Rattle.cell.specs.Operations.{cellGroup, cellLengths, cellHalves, tripleOf, Sizes, Within}
 use Rattle.cell.specs.Volume.{numbersRead, volumeLength}
 use Rattle.cell.specs.Places.{allBelowAt}
-use Rattle.job.specs.Tests.{within, storedTests, factorTestsOf}
+use Rattle.job.specs.Job.{within, storedTests, factorTestsOf}
 use Rattle.job.proofs.check.Points.{within-of}
 use Rattle.job.proofs.check.factor.check_factor.Statement.{statement}
 use Rattle.job.proofs.check.factor.check_factor.Tie as tie

@@ -2,10 +2,12 @@
 use borrow.Author.Needs.{needs}
 use mathlib.Core.Path.{_≡_, _∙_, sym, ap}
 use denote.Ref.{now}
-use Rattle.refusals.specs.Refusals.{first, checkedNumber}
+use Rattle.refusals.specs.Refusals.{first}
+use Rattle.refusals.specs.Checks.{checkedNumber}
 use borrow.Author.Tests.{le-leb, lt-leb}
 use Rattle.refusals.proofs.Tests.{stop, pass}
-use Rattle.header.specs.Header.{Header, cellHeader, axisTests}
+use Rattle.header.specs.Header.{Header, axisTests}
+use Rattle.header.specs.Cells.{cellHeader}
 use Rattle.header.proofs.Headers.{sound-sizes}
 use Rattle.job.proofs.check.Openings.{header-refused, volume-decides}
 use Rattle.job.proofs.check.open.check_open.Statement.{statement}

@@ -3,8 +3,7 @@ use mathlib.Core.Path.{_≡_, subst}
 use Prim.Native.Nat.{_-_, _<_}
 use native.Mathlib.Omega.{arith}
 use lib.ListN.{drop}
-use Rattle.algebra.specs.cells.Cell.{one, full}
-use Rattle.algebra.specs.cells.CellTests.{every}
+use Rattle.algebra.specs.cells.Cell.{one, full, every}
 use Rattle.numbers.specs.Value.{valueOf}
 use Rattle.cell.specs.Consistency.{agreesWithItself}
 use Rattle.cell.specs.Operations.{cellGroup, cellHalves, tripleOf}

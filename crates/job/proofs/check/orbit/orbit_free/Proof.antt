@@ -3,8 +3,7 @@ use mathlib.Core.Path.{_≡_, subst}
 use Prim.Native.Nat.{_-_, _<_}
 use native.Mathlib.Omega.{arith}
 use lib.ListN.{drop}
-use Rattle.algebra.specs.cells.Cell.{one, full}
-use Rattle.algebra.specs.cells.CellTests.{every}
+use Rattle.algebra.specs.cells.Cell.{one, full, every}
 use Rattle.cell.specs.Consistency.{orbitFree}
 use Rattle.cell.specs.Operations.{cellGroup, cellHalves, tripleOf, symOf}
 use Rattle.cell.proofs.Scans.{every-next, every-stop, every-end}

@@ -13,7 +13,7 @@ use Rattle.refusals.specs.Refusals.{first}
 use Rattle.refusals.proofs.Tests.{stop, pass, none, not-t, not-f, by-true, by-false}
 use Rattle.cell.specs.Operations.{cellGroup, cellLengths, cellHalves, pointOf, Sizes, PointWithin}
 use Rattle.cell.specs.Volume.{densityPlace, volumeLength}
-use Rattle.job.specs.Tests.{within, densityTests, pointTestsOf}
+use Rattle.job.specs.Job.{within, densityTests, pointTestsOf}
 use Rattle.job.proofs.check.Points.{point-within-of}
 use Rattle.header.proofs.Headers.{place-small}
 use Rattle.job.proofs.check.Numbers.{number-above, number-below}

@@ -4,10 +4,11 @@ use mathlib.Core.Path.{_≡_, _∙_, sym}
 use mathlib.Core.Bool.{true, false, not, _&&_}
 use lib.Dec.{ltb, eqb}
 use borrow.Author.Tests.{not-false, ltb-true, eq-eqb, ne-eqb}
-use Rattle.numbers.specs.Value.{prime, Small}
+use Rattle.numbers.specs.Value.{prime}
+use Rattle.numbers.specs.Bounds.{Small}
 use Rattle.refusals.proofs.Tests.{stop, pass, not-t, not-f, by-true, by-false, both}
 use Rattle.cell.specs.Operations.{cellLengths, tripleOf, Sizes, Within}
-use Rattle.job.specs.Tests.{within}
+use Rattle.job.specs.Job.{within}
 use Rattle.job.proofs.check.Points.{within-of}
 use Rattle.job.proofs.check.record.check_record.Statement.{statement}
 use Rattle.job.proofs.check.record.check_record.Tie as tie

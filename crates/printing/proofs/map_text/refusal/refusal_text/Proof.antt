@@ -5,7 +5,7 @@ use Prim.Native.Nat.{ℕ, _<_, _≤_}
 use lib.ListN.{length}
 use Rattle.refusals.specs.Refusals.{numberOf}
 use Rattle.printing.specs.Text.{refusalText}
-use Rattle.output.specs.Output.{Wrote}
+use Rattle.output.specs.Written.{Wrote}
 use Rattle.printing.proofs.map_text.Outcomes.{put-refused, put-written}
 use Rattle.printing.proofs.map_text.refusal.refusal_text.Statement.{statement}
 use Rattle.printing.proofs.map_text.refusal.refusal_text.Tie as tie

@@ -2,7 +2,8 @@
 use borrow.Author.Needs.{needs}
 use mathlib.Core.Path.{_≡_, sym, ap, _∙_}
 use lib.ListN.{length}
-use Rattle.refusals.specs.Refusals.{first, checkedNumber}
+use Rattle.refusals.specs.Refusals.{first}
+use Rattle.refusals.specs.Checks.{checkedNumber}
 use Rattle.printing.specs.Text.{textTests}
 use Rattle.printing.proofs.map_text.Outcomes.{text-refused, text-printable, text-written}
 use Rattle.printing.proofs.map_text.text.map_text.Statement.{statement}

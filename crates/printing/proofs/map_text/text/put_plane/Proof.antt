@@ -3,7 +3,8 @@ use mathlib.Core.List.{List}
 use Prim.Native.Nat.{ℕ, _-_, _≤_}
 use native.Mathlib.Omega.{arith}
 use Rattle.job.specs.declared.Job.{Job}
-use Rattle.output.specs.Output.{each, Wrote}
+use Rattle.output.specs.Output.{each}
+use Rattle.output.specs.Written.{Wrote}
 use Rattle.printing.specs.Text.{rowLine}
 use Rattle.output.proofs.Writing.{each-none, each-ends, each-next, each-done, wrote-length}
 use Rattle.printing.proofs.map_text.text.put_plane.Statement.{statement}

@@ -9,7 +9,8 @@ use Rattle.cell.specs.Operations.{cellGroup, cellHalves}
 use Rattle.cell.specs.Volume.{layers}
 use Rattle.job.specs.declared.Job.{Job}
 use Rattle.job.specs.Job.{groupIn, halves}
-use Rattle.output.specs.Output.{each, Wrote}
+use Rattle.output.specs.Output.{each}
+use Rattle.output.specs.Written.{Wrote}
 use Rattle.printing.specs.Text.{rowLine}
 use Rattle.output.proofs.Writing.{each-none, each-ends, each-next, each-done, wrote-length}
 use Rattle.printing.proofs.map_text.text.put_planes.Statement.{statement}

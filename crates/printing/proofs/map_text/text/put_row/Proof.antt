@@ -4,7 +4,8 @@ use mathlib.Core.Path.{_≡_, _∙_, ap}
 use mathlib.Core.List.{[], _∷_, _++_}
 use Prim.Native.Nat.{_*_}
 use native.Mathlib.Omega.{arith}
-use Rattle.output.specs.Output.{lineFeed, Ends}
+use Rattle.output.specs.Output.{lineFeed}
+use Rattle.output.specs.Written.{Ends}
 use Rattle.cell.specs.declared.operations.UnitCell.{UnitCell}
 use Rattle.cell.specs.Operations.{cellGroup, cellHalves}
 use Rattle.cell.specs.Volume.{pairPlace}

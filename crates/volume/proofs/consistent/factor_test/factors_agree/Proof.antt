@@ -3,8 +3,7 @@ use borrow.Author.Needs.{needs}
 use mathlib.Core.Path.{_∙_}
 use Prim.Native.Nat.{suc, _*_, _-_, _/_}
 use native.Mathlib.Omega.{arith}
-use Rattle.algebra.specs.cells.Cell.{span}
-use Rattle.algebra.specs.cells.CellTests.{below}
+use Rattle.algebra.specs.cells.Cell.{span, below}
 use Rattle.cell.specs.Consistency.{lineAgrees}
 use Rattle.cell.specs.Operations.{cellGroup, cellHalves}
 use Rattle.volume.proofs.consistent.Passing.{Passing, passing-start, passing-next, passing-stop, passing-done, by-layers}

@@ -1,8 +1,7 @@
 -- The rows before h agree, that of -h among them where h is beyond N1/2.
 use Prim.Native.Nat.{ℕ, suc, _*_, _-_, _/_, _<_}
 use native.Mathlib.Omega.{arith}
-use Rattle.algebra.specs.cells.Cell.{negI}
-use Rattle.algebra.specs.cells.CellTests.{below}
+use Rattle.algebra.specs.cells.Cell.{negI, below}
 use Rattle.algebra.proofs.cells.CellAxis.{neg-pos}
 use Rattle.cell.specs.Consistency.{lineAgrees}
 use Rattle.cell.specs.Operations.{cellGroup, cellHalves}

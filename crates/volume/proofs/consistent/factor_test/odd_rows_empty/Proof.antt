@@ -5,7 +5,7 @@ use Prim.Native.Nat.{ℕ, suc, _+_, _*_, _-_, _/_, _%_, _<_}
 use native.Mathlib.Omega.{arith}
 use denote.Ref.{now}
 use Rattle.algebra.specs.lines.Kinds.{Kind.antisymmetric}
-use Rattle.algebra.specs.cells.CellTests.{below}
+use Rattle.algebra.specs.cells.Cell.{below}
 use Rattle.cell.specs.Volume.{lineKind}
 use Rattle.cell.specs.Operations.{cellGroup, cellHalves}
 use Rattle.cell.specs.TestSteps.{emptyIfLeftOut}

@@ -1,0 +1,77 @@
+-- A factor file read, and written: what opening a job by it answers and leaves; the records of a volume, the file of a job, and what writing it answers and leaves.
+-- Its layout, its bytes and the tests of its shape are those of file_format's Format.
+use Rattle.algebra.specs.Prelude.{ℕ, suc, List, [], _∷_, length, replicate, Bool, not, eqb, ltb}
+use Rattle.job.specs.declared.Job.{Job}
+use Rattle.job.specs.declared.Reflection.{Reflection}
+use Rattle.job.specs.Job.{opened, notOpened, OpenOutcome, index, recordTests, recordStep, openStep, headerOf, groupIn, halves, validJob, mapHeld, p, fits}
+use Rattle.file_format.specs.declared.FileRecord.{FileRecord}
+pub use Rattle.file_format.specs.Format.{byteAt, afterList, list1At, recordCount, recordsIn, shapeTests, headerIn}
+use Rattle.refusals.specs.Refusals.{first, accepted, Test, _⇒_}
+use Rattle.algebra.specs.cells.Cell.{J, Group, full, imageOf, at, factorActs, every, lexLe, placesOf}
+use Rattle.algebra.specs.cells.Cell as Tests
+use Rattle.numbers.specs.Value.{Value, field, conj}
+use Rattle.cell.specs.Volume.{factorsIn}
+use Rattle.cell.specs.Consistency.{sameValue, consistentFactors}
+use Rattle.slices.specs.Pairs.{allBelow}
+use Rattle.file_format.specs.Format.{fileOf}
+use Rattle.output.specs.Output.{FillOutcome, filled, notFilled}
+unfoldable pub use Rattle.file_format.specs.Format.{twoBytes, fourBytes, listAt, list2At, list3At, countAt, recordAt, recordsFrom}
+
+abbrev pub indexOf : FileRecord → Reflection
+indexOf c = record { 0 = c .h; 1 = c .k; 2 = c .l }
+
+-- One record after another, from place `place` of the file's records: each is tested and recorded as by the call, which leaves the job as it is. A refused record gives
+-- its place, no job, and leaves the volume zero.
+unfoldable pub feed : List FileRecord → (place : ℕ) → Job → List ℕ → OpenOutcome
+feed [] place j v = record { answer = opened j; volume = v }
+feed (c ∷ cs) place j v =
+    accepted (first (recordTests j (index (indexOf c)) (c .a) (c .b) v))
+    (feed cs (suc place) j (recordStep j (indexOf c) (c .a) (c .b) v .volume))
+    (λ n. record { answer = notOpened n place; volume = replicate (length v) 0 })
+
+-- ---- the opening of a file
+
+-- An opening with kind 0, then the records.
+unfoldable pub fileStep : (file volume : List ℕ) → OpenOutcome
+fileStep file v =
+    accepted (first (shapeTests file))
+    (let o = openStep (headerIn file) 0 v in elim (o .answer) [ opened j ↦ feed (recordsIn file) 0 j (o .volume) | notOpened n place ↦ o ])
+    (λ n. record { answer = notOpened n 0; volume = v })
+
+-- ---- a file written
+
+-- j comes no later than any of its images
+abbrev pub isLowest : Group → (a j : J) → Bool
+isLowest g a j = every (full g) (λ s. lexLe j (imageOf a s j))
+
+-- ---- the records of a volume of packed factors: one for each orbit with a value other than zero, at its lowest (h, k, l), by rising h, k, l
+-- (the paper leaves the order of records open).
+
+-- of the places of a list, each that is the lowest of its orbit and has a factor other than zero gives a record
+abbrev pub recordsAt : Group → J → List ℕ → List J → List (J × Value 1)
+recordsAt g a v places = Tests.recordsOf (factorActs (field 1) (conj 1) a) lexLe sameValue (full g) (at (factorsIn g a 1 v)) places
+
+-- ---- the file of a job
+
+unfoldable pub jobRecords : Job → List ℕ → List (J × Value 1)
+jobRecords j v = recordsAt (groupIn j) (halves j) v (placesOf (halves j))
+
+unfoldable pub jobFile : Job → List ℕ → List ℕ
+jobFile j v = fileOf (headerOf j) (jobRecords j v)
+
+-- ---- the call
+
+-- Writer: 25, 23, 6, 7, 14, 17, 18.
+abbrev pub writeTests : Job → (v output : List ℕ) → List Test
+writeTests j v output =
+    not (validJob j) ⇒ 25 ∷
+    eqb (j .state) mapHeld ⇒ 23 ∷
+    not (fits j v) ⇒ 6 ∷
+    not (allBelow p v) ⇒ 7 ∷
+    not (consistentFactors (groupIn j) (halves j) 1 v) ⇒ 14 ∷
+    eqb (length (jobRecords j v)) 0 ⇒ 17 ∷
+    ltb (length output) (length (jobFile j v)) ⇒ 18 ∷
+    []
+
+unfoldable pub writeStep : Job → (v output : List ℕ) → FillOutcome
+writeStep j v output = accepted (first (writeTests j v output)) (filled (jobFile j v) output) (notFilled output)

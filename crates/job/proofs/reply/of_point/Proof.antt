@@ -1,0 +1,25 @@
+-- The answer's case, known by the match, gives its three numbers.
+use borrow.Author.Needs.{needs}
+use mathlib.Core.Path.{sym, ap, _∙_}
+use Rattle.job.specs.declared.PointAnswer.{PointAnswer}
+use Rattle.job.specs.Answers.{saidPoint, replyOf}
+use Rattle.job.proofs.reply.of_point.Statement.{statement}
+use Rattle.job.proofs.reply.of_point.Tie as tie
+
+enum-known-answer : tie.Need-enum-known-answer
+enum-known-answer c = search needs
+
+enum-known-answer-2 : tie.Need-enum-known-answer-2
+enum-known-answer-2 c = search needs
+
+of-refusal-requires : tie.Need-of-refusal-requires
+of-refusal-requires c κs = search needs
+
+returns : tie.Need-returns
+returns c = ap (λ (a : PointAnswer). replyOf (saidPoint a)) (sym (c .before .answer .given .1))
+
+returns-2 : tie.Need-returns-2
+returns-2 c = c .of-refusal .ensures ∙ ap (λ (a : PointAnswer). replyOf (saidPoint a)) (sym (c .before .before .answer2 .given .1))
+
+pub of-point-spec : {M : Type 1} → statement M
+of-point-spec = tie.close (tie.spec enum-known-answer enum-known-answer-2 of-refusal-requires returns returns-2)

@@ -1,11 +1,11 @@
 -- The tests of refusal 14 step by step: what they are lent, and what one line's ends and one row must show.
 use mathlib.Core.Path.{_≡_}
-use mathlib.Core.Bool.{Bool, true, _&&_}
+use mathlib.Core.Bool.{Bool, true, false, _&&_}
 use mathlib.Core.List.{List}
 use Prim.Native.Nat.{ℕ, _+_, _*_, _/_, _<_, _≤_}
 use lib.ListN.{length}
 use lib.Dec.{eqb, ltb}
-use Rattle.algebra.specs.cells.Cell.{J, Group, span, below, everyPlace, imply}
+use Rattle.algebra.specs.cells.Cell.{Sym, Sym.sym, J, Group, span, below, everyPlace, imply}
 use Rattle.numbers.specs.declared.Pair.{Pair}
 use Rattle.slices.specs.Pairs.{at}
 use Rattle.cell.specs.Volume.{lineKind, firstPair, rows, columns, pairPlace, volumeLength}
@@ -33,6 +33,10 @@ pub record IsStored (c : UnitCell) (j : Index) : Type 0 where
   pub h : j .h < c .n1
   pub k : j .k ≤ c .n2 / 2
   pub l : j .l < span (cellGroup c) (c .n3 / 2)
+
+-- the last operation of P2₁2₁2₁ with Friedel's rule: F(-h, k, l) = (-1)^(h + k) conj F(h, k, l)
+abbrev pub mirrored : Sym
+mirrored = sym true true false false true true false
 
 abbrev pub samePair : Pair → Pair → Bool
 samePair x y = eqb (x .re) (y .re) && eqb (x .im) (y .im)

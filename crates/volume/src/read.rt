@@ -71,7 +71,7 @@ fn line_value(m: u32, cell: UnitCell, j: Index, volume: &[u32]) -> Pair
     ensures { λ r. ⌜ r ≡ pairOf (lineFactor (cellGroup cell) (cellHalves cell) m (now (volume .entry)) (tripleOf j)) ⌝ }
 {
     let i = stored_index(cell, j);
-    let x = crate::stored::stored_value(m, cell, volume, i);
+    let x = crate::stored::value_at(m, cell, volume, i);
     if j.l < places::stored_count(cell) {
         x
     } else {

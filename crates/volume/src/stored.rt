@@ -67,23 +67,8 @@ fn alternating_factor(cell: UnitCell, volume: &[u32], j: Index) -> Pair
 }
 
 // The factor at a stored index as its line stores it, times i where the line is rotated, if the numbers that it is read from are below
-// the prime. Between the ends of l it is the pair at its place, whatever the kind of the line: that is read here. The ends are two calls, so that
-// the compiler leaves them calls, and merges the short way between them into the loops that read every factor.
+// the prime.
 pub fn stored_factor(cell: UnitCell, volume: &[u32], j: Index) -> Pair
-    requires { ⌜ IsVolume cell (now volume) × IsStored cell j ⌝ }
-    ensures { λ r. ⌜ ((m : ℕ) → IsStoredFactor (cellGroup cell) (cellHalves cell) m (now (volume .entry)) (tripleOf j) r) ⌝ }
-{
-    if j.l == 0 {
-        end_factor(cell, volume, j)
-    } else if j.l == cell.n3 / 2 {
-        end_factor(cell, volume, j)
-    } else {
-        pair_at(cell, volume, j.l, j.h, j.k)
-    }
-}
-
-// The same by the kind of the line: one number of pair 0, nothing, or a pair.
-fn end_factor(cell: UnitCell, volume: &[u32], j: Index) -> Pair
     requires { ⌜ IsVolume cell (now volume) × IsStored cell j ⌝ }
     ensures { λ r. ⌜ ((m : ℕ) → IsStoredFactor (cellGroup cell) (cellHalves cell) m (now (volume .entry)) (tripleOf j) r) ⌝ }
 {
@@ -104,6 +89,29 @@ pub fn stored_value(m: u32, cell: UnitCell, volume: &[u32], j: Index) -> Pair
     ensures { λ r. ⌜ r ≡ pairOf (lineFactor (cellGroup cell) (cellHalves cell) m (now (volume .entry)) (tripleOf j)) ⌝ }
 {
     places::without_i(m, cell.group, j.h, stored_factor(cell, volume, j))
+}
+
+// The same between the ends of l: there it is the pair at its place, whatever the kind of the line. Loops that read every factor read
+// most of them here, without a call.
+pub fn between_value(m: u32, cell: UnitCell, volume: &[u32], j: Index) -> Pair
+    requires { ⌜ IsModulus m × IsVolume cell (now volume) × IsStored cell j × (j .l ≡ 0 → ⊥) × (j .l ≡ cell .n3 / 2 → ⊥) ⌝ }
+    requires { ⌜ allBelowAt (prime m) (now volume) (lineNumbersAt (cellGroup cell) (cellHalves cell) (tripleOf j)) ≡ true ⌝ }
+    ensures { λ r. ⌜ r ≡ pairOf (lineFactor (cellGroup cell) (cellHalves cell) m (now (volume .entry)) (tripleOf j)) ⌝ }
+{
+    places::without_i(m, cell.group, j.h, pair_at(cell, volume, j.l, j.h, j.k))
+}
+
+// Either, by where l is.
+pub fn value_at(m: u32, cell: UnitCell, volume: &[u32], j: Index) -> Pair
+    requires { ⌜ IsModulus m × IsVolume cell (now volume) × IsStored cell j ⌝ }
+    requires { ⌜ allBelowAt (prime m) (now volume) (lineNumbersAt (cellGroup cell) (cellHalves cell) (tripleOf j)) ≡ true ⌝ }
+    ensures { λ r. ⌜ r ≡ pairOf (lineFactor (cellGroup cell) (cellHalves cell) m (now (volume .entry)) (tripleOf j)) ⌝ }
+{
+    if places::is_end(cell.n3, j.l) {
+        stored_value(m, cell, volume, j)
+    } else {
+        between_value(m, cell, volume, j)
+    }
 }
 
 // The number of a point of a stored plane.

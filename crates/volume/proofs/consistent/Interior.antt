@@ -13,7 +13,7 @@ use Rattle.cell.specs.Volume.{groupOf}
 use Rattle.cell.specs.Consistency.{lineAgrees}
 use Rattle.cell.specs.declared.operations.UnitCell.{UnitCell}
 use Rattle.cell.specs.Operations.{cellHalves}
-use Rattle.cell.specs.TestSteps.{imageAgrees, InnerAgree}
+use Rattle.cell.specs.TestSteps.{imageAgrees, mirrored, InnerAgree}
 use Rattle.volume.proofs.consistent.TestLaws.{identity-agrees, image-skipped, agrees-back}
 
 and-true : (b : Bool) → (b && true) ≡ b
@@ -102,6 +102,16 @@ inner-rows c l known {b} between t m v h k lo hi = by-either (eqb (c .group) 0) 
     by-either false true z t f g = absurd (subst T (sym t) tt)
     by-either false false true t f g = g refl refl
     by-either false false false t f g = absurd (subst T (sym t) tt)
+
+-- that image keeps k and l
+module _ (a j : J) {i : J} (e : i ≡ imageOf a mirrored j) where
+  pub mirrored-k : i .1 ≡ j .1
+  unfolding imageOf flip
+  mirrored-k = λ t. (e t) .1
+
+  pub mirrored-l : i .2 ≡ j .2
+  unfolding imageOf flip
+  mirrored-l = λ t. (e t) .2
 
 -- it is tried at h or at -h
 pub mirror-4 : (a : J) (m : ℕ) (v : List ℕ) (j : J) → j .0 < 2 * a .0 → 0 < j .1 → j .1 < a .1 → 0 < j .2 → j .2 < a .2 → lineAgrees P2₁2₁2₁ a m v (negI (a .0) (j .0), j .1, j .2) ≡ true → lineAgrees P2₁2₁2₁ a m v j ≡ true

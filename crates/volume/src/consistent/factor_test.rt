@@ -17,7 +17,7 @@ ghost use Rattle.slices.specs.Pairs.{Below};
 ghost use Rattle.cell.specs.Volume.{lineKind};
 ghost use Rattle.cell.specs.Consistency.{lineAgrees, consistentFactors};
 ghost use Rattle.cell.specs.Operations.{cellGroup, cellHalves, tripleOf, symOf};
-ghost use Rattle.cell.specs.TestSteps.{IsVolume, IsStored, imageAgrees, lineRowAgrees, rowEndsAgree, InnerAgree, linesAgree, emptyEnds, leftOutEmpty};
+ghost use Rattle.cell.specs.TestSteps.{IsVolume, IsStored, mirrored, imageAgrees, lineRowAgrees, rowEndsAgree, InnerAgree, linesAgree, emptyEnds, leftOutEmpty};
 
 // The volume is the packed factors of some cell that obeys group and Friedel.
 pub fn consistent_factors(m: u32, cell: UnitCell, volume: &[u32]) -> bool
@@ -60,14 +60,26 @@ fn factor_agrees(m: u32, cell: UnitCell, volume: &[u32], j: Index) -> bool
 {
     if (cell.group == 4) & (between(j.k, cell.n2 / 2) & between(j.l, cell.n3 / 2)) {
         if j.h <= cell.n1 / 2 {
-            let o = operations::operation_at(cell.group, 7);
-            image_agrees(m, cell, volume, o, j)
+            mirrored_agrees(m, cell, volume, j)
         } else {
             true
         }
     } else {
         images_agree(m, cell, volume, j)
     }
+}
+
+// The same by that operation, which leads j to a stored index between the ends too.
+fn mirrored_agrees(m: u32, cell: UnitCell, volume: &[u32], j: Index) -> bool
+    requires { ⌜ IsVolume cell (now volume) × IsModulus m × Below (prime m) (now volume) × IsStored cell j × (cell .group ≡ 4) ⌝ }
+    requires { ⌜ (0 < j .l) × (j .l < cell .n3 / 2) ⌝ }
+    ensures { λ r. ⌜ r ≡ imageAgrees (cellGroup cell) (cellHalves cell) m (now (volume .entry)) (tripleOf j) mirrored ⌝ }
+{
+    let o = operations::operation_at(cell.group, 7);
+    let i = operations::image(o, cell, j);
+    let x = crate::stored::between_value(m, cell, volume, j);
+    let y = crate::stored::between_value(m, cell, volume, i);
+    crate::stored::same(y, operations::implied(m, o, j, x))
 }
 
 fn between(x: u32, end: u32) -> bool

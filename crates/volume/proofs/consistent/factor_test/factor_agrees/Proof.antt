@@ -5,14 +5,12 @@ use mathlib.Core.Bool.{Bool, true, false, _&&_}
 use Prim.Native.Nat.{ℕ, _/_}
 use native.Mathlib.Omega.{arith}
 use lib.Dec.{T, eqb}
-use lib.ListN.{getD}
 use borrow.Author.Tests.{eqb-true}
-use Rattle.algebra.specs.cells.Cell.{P2₁2₁2₁, one, full, negI}
+use Rattle.algebra.specs.cells.Cell.{negI}
 use Rattle.cell.specs.Volume.{groupOf}
 use Rattle.cell.specs.Consistency.{lineAgrees}
 use Rattle.cell.specs.Operations.{cellGroup, cellHalves, tripleOf}
-use Rattle.cell.specs.TestSteps.{imageAgrees}
-use Rattle.cell.proofs.OperationLaws.{order-four, full-length}
+use Rattle.cell.specs.TestSteps.{imageAgrees, mirrored}
 use Rattle.volume.proofs.consistent.Interior.{inner-4, mirror-4}
 use Rattle.volume.proofs.consistent.factor_test.factor_agrees.Statement.{statement}
 use Rattle.volume.proofs.consistent.factor_test.factor_agrees.Tie as tie
@@ -33,16 +31,14 @@ between-requires c κs = search needs
 between-requires-2 : tie.Need-between-requires-2
 between-requires-2 c κs = search needs
 
-operation-at-requires : tie.Need-operation-at-requires
-operation-at-requires c κs =
+mirrored-agrees-requires : tie.Need-mirrored-agrees-requires
+mirrored-agrees-requires c κs =
     let q = c .before .before .before in
     let p = q .before in
     let b = p .before .before in
     let s = b .before .before .before .before in
-    settled (s .args .cell .group) (b .between .result) (p .between2 .result) (q .if1 .taken) (λ e u z. (s .pre .0 .0 .sizes .known, omega (arith, order-four e, full-length (s .args .cell .group))))
-
-image-agrees-requires : tie.Need-image-agrees-requires
-image-agrees-requires c κs = search needs
+    settled (s .args .cell .group) (b .between .result) (p .between2 .result) (q .if1 .taken)
+    (λ e u z. ((s .pre .0 .0, s .pre .0 .1, s .pre .0 .2, s .pre .0 .3, e), p .between2 .ensures z))
 
 images-agree-requires : tie.Need-images-agree-requires
 images-agree-requires c κs = search needs
@@ -50,17 +46,15 @@ images-agree-requires c κs = search needs
 -- one image is tried
 returns : tie.Need-returns
 returns c =
-    let o = c .before in
-    let q = o .before .before .before .before in
+    let q = c .before .before .before .before in
     let p = q .before in
     let b = p .before .before in
     let s = b .before .before .before .before in
     let a = cellHalves (s .args .cell) in
     settled (s .args .cell .group) (b .between .result) (p .between2 .result) (q .if1 .taken)
     (λ e u z. let r = b .between .ensures u in let w = p .between2 .ensures z in
-    c .image-agrees .ensures
-    ∙ ap (λ x. imageAgrees (cellGroup (s .args .cell)) a (s .args .m) (s .args .volume .now) (tripleOf (s .args .j)) x) (o .operation-at .ensures ∙ ap (λ n. getD (full (groupOf n)) 7 one) e)
-    ∙ ap (λ n. imageAgrees (groupOf n) a (s .args .m) (s .args .volume .now) (tripleOf (s .args .j)) (getD (full P2₁2₁2₁) 7 one)) e
+    c .mirrored-agrees .ensures
+    ∙ ap (λ n. imageAgrees (groupOf n) a (s .args .m) (s .args .volume .now) (tripleOf (s .args .j)) mirrored) e
     ∙ sym (inner-4 a (s .args .m) (s .args .volume .now) (tripleOf (s .args .j)) (r .0) (r .1) (w .0) (w .1))
     ∙ ap (λ n. lineAgrees (groupOf n) a (s .args .m) (s .args .volume .now) (tripleOf (s .args .j))) (sym e))
 
@@ -88,8 +82,7 @@ factor-agrees-spec =
     (tie.spec
     between-requires
     between-requires-2
-    operation-at-requires
-    image-agrees-requires
+    mirrored-agrees-requires
     images-agree-requires
     returns
     returns-2

@@ -12,3 +12,4 @@ pub mod CellPack
 pub mod CellRecord
 pub mod CellRefusals
 pub mod CellWriter
+pub mod CellOrder

@@ -3,3 +3,4 @@ pub mod CellSteps
 pub mod StoredTests
 pub mod CellPack
 pub mod CellPlaces
+pub mod CellOrder

@@ -1,3 +1,4 @@
 pub mod Parsing
 pub mod WrittenFiles
 pub mod ReadBack
+pub mod EqualFiles

@@ -12,11 +12,11 @@ use Rattle.cell.specs.Exactly.{FactorsConsistent, MapConsistent}
 use Rattle.job.specs.declared.Job.{Job}
 use Rattle.job.specs.declared.Reflection.{Reflection}
 use Rattle.job.specs.declared.GridPoint.{GridPoint}
-use Rattle.job.specs.Job.{Header, halfLengths, needed, mapHeld, factorsHeld, withState, headerOf, validJob, groupIn, halves, collecting, within, index, position, opened, notOpened, OpenOutcome, openStep, Said, done, density, refused, recordStep, synthesisStep, analysisStep, pointStep, factor}
+use Rattle.job.specs.Job.{Header, halfLengths, needed, mapHeld, factorsHeld, withState, headerOf, validJob, groupIn, halves, within, index, position, opened, notOpened, OpenOutcome, openStep, Said, done, density, refused, recordStep, synthesisStep, analysisStep, pointStep, factor}
 use Rattle.file_format.specs.declared.FileRecord.{FileRecord}
 use Rattle.factor_file.specs.File.{indexOf, countAt, recordsIn, fileStep, headerIn, writeStep}
 use Rattle.model.specs.Model.{Model, group, half, factorOf, densityOf, Call, modelVolume, modelJob, factorVolume, mapVolume, Beginning, begun, notBegun, recording, synthesis, analysis, readPoint, readFactor, modelSaid, modelAfter, openingModel, modelOpen, modelFile}
-use Rattle.output.specs.Output.{written, notWritten}
+use Rattle.output.specs.Output.{notWritten}
 pub use Rattle.job.specs.Job.{step}
 
 -- ---- how a job begins: an opening or a file, each with the volume that it is lent
@@ -215,10 +215,3 @@ pub record ImpossibleExactly : Type 0 where
   pub exactly : (j : Job) → (validJob j ≡ true) ↔ Reachable j
   pub refuses : (j : Job) (v : List ℕ) (c : Call) → (step j v c .answer ≡ refused 25) ↔ (Reachable j → ⊥)
   pub keeps : (j : Job) (v : List ℕ) (c : Call) → Reachable j → Reachable (step j v c .job)
-
--- ---- What is owed of the writer beside its promise: the file that it wrote, read back, gives the job and its factors.
-
--- read into any volume as long as the one that was written from; the count that was returned is the length of the file
-pub record ReadsBack : Type 0 where
-  pub reads-back : (j : Job) (v output u : List ℕ) (n : ℕ) → writeStep j v output .answer ≡ written n → length u ≡ length v →
-      fileStep (take n (writeStep j v output .output)) u ≡ record { answer = opened (withState j collecting); volume = v }

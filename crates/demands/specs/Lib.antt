@@ -1,3 +1,4 @@
 pub mod Demands
+pub mod Written
 pub mod Specimens
 pub mod Grids

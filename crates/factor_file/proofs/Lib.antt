@@ -1,3 +1,4 @@
 pub mod Openings
 pub mod Feeding
 pub mod Lengths
+pub mod RecordOrder

@@ -40,16 +40,19 @@ fileStep file v =
 
 -- ---- a file written
 
+-- the order of records: i comes no later than j by h, then k, then l
+abbrev pub noLater : (i j : J) → Bool
+noLater i j = lexLe i j
+
 -- j comes no later than any of its images
 abbrev pub isLowest : Group → (a j : J) → Bool
-isLowest g a j = every (full g) (λ s. lexLe j (imageOf a s j))
+isLowest g a j = every (full g) (λ s. noLater j (imageOf a s j))
 
--- ---- the records of a volume of packed factors: one for each orbit with a value other than zero, at its lowest (h, k, l), by rising h, k, l
--- (the paper leaves the order of records open).
+-- ---- the records of a volume of packed factors: one for each orbit with a value other than zero, at its lowest (h, k, l), by rising h, then k, then l.
 
 -- of the places of a list, each that is the lowest of its orbit and has a factor other than zero gives a record
 abbrev pub recordsAt : Group → J → List ℕ → List J → List (J × Value 1)
-recordsAt g a v places = Tests.recordsOf (factorActs (field 1) (conj 1) a) lexLe sameValue (full g) (at (factorsIn g a 1 v)) places
+recordsAt g a v places = Tests.recordsOf (factorActs (field 1) (conj 1) a) noLater sameValue (full g) (at (factorsIn g a 1 v)) places
 
 -- ---- the file of a job
 

@@ -1,3 +1,4 @@
 pub mod File
 pub mod Steps
 pub mod Answers
+pub mod RecordOrder

@@ -1,6 +1,7 @@
 // The factor file: the opening of a job by its bytes, a header and records of structure factors; and the file of a job, written.
 pub mod writer; // writer.rt: the file of a job
 pub mod orbits; // orbits.rt: the lowest place of an orbit, which has its record
+pub mod record_order; // record_order.rt: the order of the records
 pub mod file; // file.rt: the bytes of a file
 pub mod open_file; // open_file.rt: the opening of a job by a file
 mod records; // records.rt: its records, recorded in the job one after another

@@ -5,13 +5,12 @@ use cell::operations;
 use cell::operations::Index;
 use cell::operations::UnitCell;
 ghost use mathlib.Core.Path.{_≡_};
-ghost use Rattle.algebra.specs.cells.Cell.{lexLe};
 ghost use Rattle.cell.specs.Operations.{cellGroup, cellHalves, tripleOf, Sizes, Within};
-ghost use Rattle.factor_file.specs.File.{isLowest};
+ghost use Rattle.factor_file.specs.File.{noLater, isLowest};
 
 // i comes no later than j in the order h, k, l.
 fn no_later(i: Index, j: Index) -> bool
-    ensures { λ r. ⌜ r ≡ lexLe (tripleOf i) (tripleOf j) ⌝ }
+    ensures { λ r. ⌜ r ≡ noLater (tripleOf i) (tripleOf j) ⌝ }
 {
     (i.h < j.h) | ((i.h == j.h) & ((i.k < j.k) | ((i.k == j.k) & (i.l <= j.l))))
 }

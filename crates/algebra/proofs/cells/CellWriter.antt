@@ -1,8 +1,8 @@
 -- The places of a cell in rising order, and the writer's records at a group.
-use mathlib.Core.Path.{_≡_, refl, sym as inv, _∙_, ap, subst}
+use mathlib.Core.Path.{_≡_, sym as inv, _∙_, subst}
 use mathlib.Core.Logic.{_↔_, _⊎_, inl, inr}
 use mathlib.Core.Bool.{Bool}
-use mathlib.Core.List.{List, [], _∷_, _++_}
+use mathlib.Core.List.{List, _∷_, _++_}
 use Prim.Native.Nat.{ℕ, zero, suc, _+_, _*_, _≤_, _<_}
 use native.Mathlib.Omega.{arith}
 use native.Mathlib.Decide.{ℕ-discrete, decLt, decLe}
@@ -13,10 +13,11 @@ use Rattle.algebra.specs.orbits.Orbit.{Mem, first, later, recordAll}
 use Rattle.algebra.specs.orbits.OrbitLaws.{Obeying, Accepted}
 use Rattle.algebra.specs.cells.Cell.{J, Inside, Group, full, factorActs, lineFrom, planeFrom, cellFrom, placesOf, lexLe, recordsOf}
 use Rattle.algebra.proofs.ring.Paths.{triple}
-use Rattle.algebra.proofs.ring.Members.{none, mem-append, mem-left, mem-right}
+use Rattle.algebra.proofs.ring.Members.{mem-left, mem-right}
 use Rattle.algebra.proofs.ring.Bool.{and-l, and-r, and-i, or-l, or-r, or-e}
 use Rattle.algebra.proofs.cells.CellGroup.{factor-action, closed}
-use Rattle.algebra.proofs.orbits.OrbitWriter.{Distinct, Order, writer-accepted, writer-reader}
+use Rattle.algebra.proofs.cells.CellOrder.{cell-mem, cell-rises, rises-distinct}
+use Rattle.algebra.proofs.orbits.OrbitWriter.{Order, writer-accepted, writer-reader}
 
 -- the order h, k, l
 data Lex (i j : J) : Type 0 where
@@ -82,17 +83,6 @@ lex-order = record {
     go i j (inl h) = inl (of-lex i j h)
     go i j (inr h) = inr (of-lex j i h)
 
-distinct-append : (l m : List J) → Distinct l → Distinct m → ((i j : J) → Mem i l → Mem j m → i ≡ j → ⊥) → Distinct (l ++ m)
-unfolding Distinct
-distinct-append [] m d e f = e
-distinct-append (x ∷ l) m d e f = (λ i h. mem-append l m (λ i. x ≡ i → ⊥) (λ i h. d .0 i h) (λ i h. f x i first h) i h, distinct-append l m (d .1) e (λ i j h k. f i j (later h) k))
-
-line-mem : (h k l n : ℕ) (j : J) → Mem j (lineFrom h k l n) → (j .0 ≡ h) × (j .1 ≡ k) × (l ≤ j .2) × (j .2 < l + n)
-unfolding lineFrom
-line-mem h k l zero j m = none m
-line-mem h k l (suc n) j first = (refl, refl, omega arith, omega arith)
-line-mem h k l (suc n) j (later m) = let r = line-mem h k (suc l) n j m in (r .0, r .1, omega arith, omega arith)
-
 line-has : (h k l n x : ℕ) → l ≤ x → x < l + n → Mem (h, k, x) (lineFrom h k l n)
 unfolding lineFrom
 line-has h k l zero x p q = absurd (omega arith)
@@ -101,18 +91,6 @@ line-has h k l (suc n) x p q = go (ℕ-discrete x l) (λ a b. line-has h k (suc 
     go : Dec (x ≡ l) → (suc l ≤ x → x < suc l + n → Mem (h, k, x) (lineFrom h k (suc l) n)) → Mem (h, k, x) ((h, k, l) ∷ lineFrom h k (suc l) n)
     go (yes e) ih = subst (λ y. Mem (h, k, y) ((h, k, l) ∷ lineFrom h k (suc l) n)) (inv e) first
     go (no e) ih = later (ih (omega arith) (omega arith))
-
-line-distinct : (h k l n : ℕ) → Distinct (lineFrom h k l n)
-unfolding lineFrom Distinct
-line-distinct h k l zero = tt
-line-distinct h k l (suc n) = (λ i m e. let r = line-mem h k (suc l) n i m in let f : l ≡ i .2 = ap (λ j. j .2) e in absurd (omega (arith, r .2)), line-distinct h k (suc l) n)
-
-plane-mem : (q h k n : ℕ) (j : J) → Mem j (planeFrom q h k n) → (j .0 ≡ h) × (k ≤ j .1) × (j .1 < k + n) × (j .2 < q)
-unfolding planeFrom
-plane-mem q h k zero j m = none m
-plane-mem q h k (suc n) j m = mem-append (lineFrom h k 0 q) _ (λ j. (j .0 ≡ h) × (k ≤ j .1) × (j .1 < k + suc n) × (j .2 < q))
-    (λ j m. let r = line-mem h k 0 q j m in (r .0, omega arith, omega arith, omega arith))
-    (λ j m. let r = plane-mem q h (suc k) n j m in (r .0, omega arith, omega arith, r .3)) j m
 
 plane-has : (q h k n y x : ℕ) → k ≤ y → y < k + n → x < q → Mem (h, y, x) (planeFrom q h k n)
 unfolding planeFrom
@@ -123,18 +101,6 @@ plane-has q h k (suc n) y x a b c = go (ℕ-discrete y k) (λ a b. plane-has q h
     go (yes e) ih = mem-left (lineFrom h k 0 q) _ (subst (λ t. Mem (h, t, x) (lineFrom h k 0 q)) (inv e) (line-has h k 0 q x (omega arith) (omega arith)))
     go (no e) ih = mem-right (lineFrom h k 0 q) _ (ih (omega arith) (omega arith))
 
-plane-distinct : (q h k n : ℕ) → Distinct (planeFrom q h k n)
-unfolding planeFrom Distinct
-plane-distinct q h k zero = tt
-plane-distinct q h k (suc n) = distinct-append (lineFrom h k 0 q) _ (line-distinct h k 0 q) (plane-distinct q h (suc k) n) (λ i j m m′ e. let r = line-mem h k 0 q i m in let s = plane-mem q h (suc k) n j m′ in let f : i .1 ≡ j .1 = ap (λ j. j .1) e in absurd (omega arith))
-
-cell-mem : (q m h n : ℕ) (j : J) → Mem j (cellFrom q m h n) → (h ≤ j .0) × (j .0 < h + n) × (j .1 < m) × (j .2 < q)
-unfolding cellFrom
-cell-mem q m h zero j k = none k
-cell-mem q m h (suc n) j k = mem-append (planeFrom q h 0 m) _ (λ j. (h ≤ j .0) × (j .0 < h + suc n) × (j .1 < m) × (j .2 < q))
-    (λ j k. let r = plane-mem q h 0 m j k in (omega arith, omega arith, omega arith, r .3))
-    (λ j k. let r = cell-mem q m (suc h) n j k in (omega arith, omega arith, r .2, r .3)) j k
-
 cell-has : (q m h n z y x : ℕ) → h ≤ z → z < h + n → y < m → x < q → Mem (z, y, x) (cellFrom q m h n)
 unfolding cellFrom
 cell-has q m h zero z y x a b c d = absurd (omega arith)
@@ -143,11 +109,6 @@ cell-has q m h (suc n) z y x a b c d = go (ℕ-discrete z h) (λ a b. cell-has q
     go : Dec (z ≡ h) → (suc h ≤ z → z < suc h + n → Mem (z, y, x) (cellFrom q m (suc h) n)) → Mem (z, y, x) (planeFrom q h 0 m ++ cellFrom q m (suc h) n)
     go (yes e) ih = mem-left (planeFrom q h 0 m) _ (subst (λ t. Mem (t, y, x) (planeFrom q h 0 m)) (inv e) (plane-has q h 0 m y x (omega arith) (omega arith) d))
     go (no e) ih = mem-right (planeFrom q h 0 m) _ (ih (omega arith) (omega arith))
-
-cell-distinct : (q m h n : ℕ) → Distinct (cellFrom q m h n)
-unfolding cellFrom Distinct
-cell-distinct q m h zero = tt
-cell-distinct q m h (suc n) = distinct-append (planeFrom q h 0 m) _ (plane-distinct q h 0 m) (cell-distinct q m (suc h) n) (λ i j k k′ e. let r = plane-mem q h 0 m i k in let s = cell-mem q m (suc h) n j k′ in let f : i .0 ≡ j .0 = ap (λ j. j .0) e in absurd (omega arith))
 
 -- the writer's records of a cell of a group
 module _ {R : Type 0} {𝓞 : Ops R} {conj : R → R} {i : R} (𝓡 : CRing 𝓞) (𝓢 : Star 𝓞 conj i) (eq : R → R → Bool) (eq-iff : (x y : R) → T (eq x y) ↔ (x ≡ y)) (g : Group) (a : J) (F : J → R) (o : Obeying (factorActs 𝓞 conj a) (Inside a) (full g) F) where
@@ -162,8 +123,8 @@ module _ {R : Type 0} {𝓞 : Ops R} {conj : R → R} {i : R} (𝓡 : CRing 𝓞
 
   pub written-accepted : Accepted (factorActs 𝓞 conj a) (Inside a) (full g) recs (λ j. 𝓞 .zer)
   unfolding factorActs
-  written-accepted = writer-accepted (factor-action 𝓡 𝓢 a) (full g) (closed 𝓡 𝓢 a g) lexLe lex-order eq eq-iff F o (placesOf a) (cell-distinct (2 * a .2) (2 * a .1) 0 (2 * a .0)) places-in places-all
+  written-accepted = writer-accepted (factor-action 𝓡 𝓢 a) (full g) (closed 𝓡 𝓢 a g) lexLe lex-order eq eq-iff F o (placesOf a) (rises-distinct (placesOf a) (cell-rises (2 * a .2) (2 * a .1) 0 (2 * a .0))) places-in places-all
 
   pub written-read : (j : J) → Inside a j → recordAll (factorActs 𝓞 conj a) (full g) recs (λ j. 𝓞 .zer) j ≡ F j
   unfolding factorActs
-  written-read = writer-reader (factor-action 𝓡 𝓢 a) (full g) (closed 𝓡 𝓢 a g) lexLe lex-order eq eq-iff F o (placesOf a) (cell-distinct (2 * a .2) (2 * a .1) 0 (2 * a .0)) places-in places-all
+  written-read = writer-reader (factor-action 𝓡 𝓢 a) (full g) (closed 𝓡 𝓢 a g) lexLe lex-order eq eq-iff F o (placesOf a) (rises-distinct (placesOf a) (cell-rises (2 * a .2) (2 * a .1) 0 (2 * a .0))) places-in places-all

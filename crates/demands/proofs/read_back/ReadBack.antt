@@ -15,7 +15,7 @@ use Rattle.algebra.specs.cells.Cell.{J, Inside, Cell, full, at, factorActs}
 use Rattle.algebra.specs.cells.CellSteps.{Lawful}
 use Rattle.algebra.specs.orbits.Orbit.{Mem, first as first-of, later, Acts, recordAll}
 use Rattle.algebra.specs.orbits.OrbitLaws.{Accepted}
-use Rattle.algebra.proofs.ring.Members.{none as no-member}
+use Rattle.algebra.proofs.ring.Members.{none as no-member, mem-map}
 use Rattle.algebra.proofs.cells.CellTests.{Positive}
 use Rattle.algebra.proofs.cells.CellWriter.{written-accepted, written-read}
 use Rattle.numbers.specs.Value.{prime, Value, field, conj, value}
@@ -40,13 +40,16 @@ use Rattle.header.proofs.Digits.{octal-of-digits}
 use Rattle.job.proofs.Jobs.{valid-sizes}
 use Rattle.file_format.specs.declared.FileRecord.{FileRecord}
 use Rattle.factor_file.specs.File.{recordsIn, fileStep, jobRecords, jobFile, writeTests, writeStep}
+use Rattle.output.specs.Output.{written, notWritten}
 use Rattle.model.specs.Model.{Model, zeroModel, modelVolume, modelFeed, begun}
-use Rattle.demands.specs.Demands.{entry, ReadsBack}
+use Rattle.demands.specs.Demands.{entry}
+use Rattle.demands.specs.Written.{Writes, ReadsBack, indexIn, FileRises}
 use Rattle.demands.proofs.Openings.{opening-sound}
 use Rattle.demands.proofs.Starts.{file-gives}
 use Rattle.demands.proofs.AcceptedRecords.{actsOn, accepted-fed}
 use Rattle.file_format.specs.Format.{fileOf}
-use Rattle.output.specs.Output.{written}
+use Rattle.factor_file.specs.RecordOrder.{Rising, LowestOfOrbit}
+use Rattle.factor_file.proofs.RecordOrder.{records-of-volume-rise}
 use Rattle.file_format.proofs.layout.FileParts.{length-header, length-body}
 use Rattle.factor_file.proofs.file.RecordLaws.{admitted-few}
 use Rattle.factor_file.proofs.writer.Files.{told, passed-on, valid-volume}
@@ -201,16 +204,46 @@ module _ (j : Job) (v output : List ℕ) (accepts : 0 ≡ first (writeTests j v 
 
 -- ---- every written file
 
--- what was written is the file, and the count is its length
-file-written : (file output : List ℕ) (k n : ℕ) → told file output k .answer ≡ written n → (0 ≡ k) × (take n (told file output k .output) ≡ file)
-file-written file output zero n e = let c : n ≡ length file = cc in (refl, ap (λ m. take m (file ++ drop (length file) output)) c ∙ take-append-seam file (drop (length file) output))
-file-written file output (suc k) n e = let z : _≡_ {A = ℕ} 0 1 = cc in absurd (omega arith)
+-- what was written is the file of the job
+told-file : (own output : List ℕ) (k : ℕ) (file : List ℕ) → told own output k ≡ record { answer = written (length file); output = file ++ drop (length file) output } → (0 ≡ k) × (own ≡ file)
+told-file own output zero file e =
+    let a : written (length own) ≡ written (length file) = ap (λ o. o .answer) e in
+    let c : length own ≡ length file = cc in
+    (refl, sym (take-append-seam own (drop (length own) output)) ∙ ap (λ o. take (length own) (o .output)) e ∙ ap (λ m. take m (file ++ drop (length file) output)) c ∙ take-append-seam file (drop (length file) output))
+told-file own output (suc k) file e =
+    let a : notWritten (suc k) ≡ written (length file) = ap (λ o. o .answer) e in
+    let z : _≡_ {A = ℕ} 0 1 = cc in absurd (omega arith)
+
+-- and the count is its length
+told-writes : (own output : List ℕ) (k n : ℕ) → told own output k .answer ≡ written n → let file = take n (told own output k .output) in told own output k ≡ record { answer = written (length file); output = file ++ drop (length file) output }
+told-writes own output zero n e =
+    let c : length own ≡ n = cc in
+    let whole : own ≡ take n (own ++ drop (length own) output) = sym (take-append-seam own (drop (length own) output)) ∙ ap (λ m. take m (own ++ drop (length own) output)) c in
+    ap (λ f. record { answer = written (length f); output = f ++ drop (length f) output }) whole
+told-writes own output (suc k) n e = let z : _≡_ {A = ℕ} 0 1 = cc in absurd (omega arith)
+
+module _ {j : Job} {v output file : List ℕ} (w : Writes j v output file) where
+  pub writes-file : (0 ≡ first (writeTests j v output)) × (jobFile j v ≡ file)
+  unfolding writeStep
+  writes-file = told-file (jobFile j v) output (first (writeTests j v output)) file (w .outcome)
+
+  records-in : recordsIn file ≡ map fileRecord (jobRecords j v)
+  unfolding jobFile
+  records-in = ap recordsIn (sym (writes-file .1)) ∙ records-read (headerOf j) (jobRecords j v) (writable j v output (writes-file .0))
 
 pub reads-back : ReadsBack
 unfolding writeStep
-reads-back = record { reads-back = read }
-  where
-    read : (j : Job) (v output u : List ℕ) (n : ℕ) → writeStep j v output .answer ≡ written n → length u ≡ length v → fileStep (take n (writeStep j v output .output)) u ≡ record { answer = opened (withState j collecting); volume = v }
-    read j v output u n e same =
-        let w = file-written (jobFile j v) output (first (writeTests j v output)) n e in
-        ap (λ f. fileStep f u) (w .1) ∙ file-read j v output (w .0) u same
+reads-back = record {
+  writes = λ j v output n e. record { outcome = told-writes (jobFile j v) output (first (writeTests j v output)) n e };
+  reads-back = λ j v output file u w same. let f = writes-file w in ap (λ f. fileStep f u) (sym (f .1)) ∙ file-read j v output (f .0) u same;
+}
+
+indices : (cs : List (J × Value 1)) → map indexIn (map fileRecord cs) ≡ map (λ c. c .0) cs
+indices [] = refl
+indices (c ∷ cs) = ap (λ js. c .0 ∷ js) (indices cs)
+
+pub file-rises : FileRises
+file-rises = record {
+  rise = λ j v output file w. subst Rising (sym (ap (map indexIn) (records-in w) ∙ indices (jobRecords j v))) (records-of-volume-rise .rise j v);
+  lowest = λ j v output file w c m. mem-map fileRecord (jobRecords j v) (λ c. LowestOfOrbit j (indexIn c)) (records-of-volume-rise .lowest j v) c (subst (Mem c) (records-in w) m);
+}

@@ -8,7 +8,7 @@ use native.Mathlib.Omega.{arith}
 use lib.ListN.{length, getD}
 use borrow.Author.Tests.{lt-ltb}
 use Rattle.algebra.specs.ring.Ring.{gauss, residue, residues}
-use Rattle.algebra.specs.cells.Cell.{J, Group, full, planes, at, factorActs, cellFrom, placesOf, lexLe, recordsOf, every}
+use Rattle.algebra.specs.cells.Cell.{J, Group, full, planes, at, factorActs, cellFrom, placesOf, recordsOf, every}
 use Rattle.numbers.specs.declared.Pair.{Pair}
 use Rattle.numbers.specs.Value.{prime, Value, field, conj, value, pairOf}
 use Rattle.slices.specs.Pairs.{Below}
@@ -22,7 +22,7 @@ use Rattle.cell.proofs.OperationLaws.{by-group}
 use Rattle.output.specs.Written.{Wrote}
 use Rattle.output.proofs.Writing.{wrote-none, wrote-as}
 use Rattle.file_format.specs.Format.{recordBytes, allBytes}
-use Rattle.factor_file.specs.File.{recordsAt, isLowest}
+use Rattle.factor_file.specs.File.{noLater, recordsAt, isLowest}
 use Rattle.factor_file.proofs.orbits.PlaceOrder.{upper-not-lowest}
 use Rattle.factor_file.specs.Steps.{recordValue, pairBytes, recordsWith}
 use Rattle.file_format.proofs.layout.ByteLaws.{all-append}
@@ -49,7 +49,7 @@ module _ (g : Group) (a : J) (v : List ℕ) where
   bytesAt places = allBytes (recordsAt g a v places)
 
   pub volume-records : Spreads (recordsAt g a v)
-  volume-records = records-spread (factorActs (field 1) (conj 1) a) lexLe sameValue (full g) (at (factorsIn g a 1 v))
+  volume-records = records-spread (factorActs (field 1) (conj 1) a) noLater sameValue (full g) (at (factorsIn g a 1 v))
 
   pub volume-bytes : Spreads bytesAt
   unfolding allBytes
@@ -59,7 +59,7 @@ module _ (g : Group) (a : J) (v : List ℕ) where
   }
 
   pub few-records : (places : List J) → length (recordsAt g a v places) ≤ length places
-  few-records = records-most (factorActs (field 1) (conj 1) a) lexLe sameValue (full g) (at (factorsIn g a 1 v))
+  few-records = records-most (factorActs (field 1) (conj 1) a) noLater sameValue (full g) (at (factorsIn g a 1 v))
 
   -- ---- one place
 

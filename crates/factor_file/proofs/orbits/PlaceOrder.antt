@@ -1,24 +1,24 @@
 -- The order of places: the identity leaves a place where it is, and beyond N1/2 the Friedel mate comes before.
-use mathlib.Core.Path.{_≡_, refl, _∙_, ap, ap₂, subst}
+use mathlib.Core.Path.{_≡_, refl, _∙_, ap, subst}
 use mathlib.Core.Bool.{Bool, true, false, _&&_, _||_}
 use Prim.Native.Nat.{ℕ, _*_, _-_, _<_, _≤_}
 use native.Mathlib.Omega.{arith}
-use lib.Dec.{T, eqb, leb, ltb}
+use lib.Dec.{T}
 use borrow.Author.Tests.{le-ltb, eq-eqb, ne-eqb, le-leb}
-use Rattle.algebra.specs.cells.Cell.{J, Group, one, friedel, full, imageOf, negI, flip, lexLe}
+use Rattle.algebra.specs.cells.Cell.{J, Group, one, friedel, full, imageOf, negI, flip}
 use Rattle.algebra.proofs.ring.Bool.{same-test, every-at}
 use Rattle.algebra.proofs.cells.CellAxis.{neg-pos}
 use Rattle.algebra.proofs.cells.CellGroup.{friedel-mem}
 use Rattle.algebra.proofs.cells.CellSym.{image-one}
-use Rattle.factor_file.specs.File.{isLowest}
+use Rattle.factor_file.specs.File.{noLater, isLowest}
 
-pub identity-no-later : (a j : J) → lexLe j (imageOf a one j) ≡ true
-identity-no-later a j = ap (lexLe j) (image-one a j) ∙ no-later-than-itself
+pub identity-no-later : (a j : J) → noLater j (imageOf a one j) ≡ true
+identity-no-later a j = ap (noLater j) (image-one a j) ∙ no-later-than-itself
   where
     same : (x : ℕ) → x ≤ x
     same x = omega arith
 
-    no-later-than-itself : lexLe j j ≡ true
+    no-later-than-itself : noLater j j ≡ true
     no-later-than-itself =
         let h = le-ltb (j .0) (j .0) (same (j .0)) in
         let h′ = eq-eqb (j .0) (j .0) refl in
@@ -29,13 +29,14 @@ identity-no-later a j = ap (lexLe j) (image-one a j) ∙ no-later-than-itself
 
 pub upper-not-lowest : (g : Group) (a j : J) → a .0 < j .0 → j .0 < 2 * a .0 → isLowest g a j ≡ false
 unfolding imageOf flip
-upper-not-lowest g a j u v = same-test (isLowest g a j) false (λ t. subst T mate-before (every-at (full g) (λ s. lexLe j (imageOf a s j)) friedel t (friedel-mem g))) (λ t. absurd t)
+upper-not-lowest g a j u v = same-test (isLowest g a j) false (λ t. subst T mate-before (every-at (full g) (λ s. noLater j (imageOf a s j)) friedel t (friedel-mem g))) (λ t. absurd t)
   where
     mate : negI (a .0) (j .0) ≡ 2 * a .0 - j .0
     mate = neg-pos (a .0) (j .0) (omega arith) v
 
-    mate-before : lexLe j (imageOf a friedel j) ≡ false
-    mate-before =
-        let i = imageOf a friedel j in
-        ap₂ (λ (b c : Bool). b || (c && (ltb (j .1) (i .1) || (eqb (j .1) (i .1) && leb (j .2) (i .2)))))
-        (le-ltb (j .0) (negI (a .0) (j .0)) (omega (arith, mate))) (ne-eqb (j .0) (negI (a .0) (j .0)) (λ e. omega (arith, mate, e)))
+    neither : (b c rest : Bool) → b ≡ false → c ≡ false → (b || (c && rest)) ≡ false
+    neither b c rest e f = λ i. e i || (f i && rest)
+
+    -- h alone decides
+    mate-before : noLater j (imageOf a friedel j) ≡ false
+    mate-before = neither _ _ _ (le-ltb (j .0) (negI (a .0) (j .0)) (omega (arith, mate))) (ne-eqb (j .0) (negI (a .0) (j .0)) (λ e. omega (arith, mate, e)))

@@ -3,7 +3,8 @@ use borrow.Author.Needs.{needs}
 use mathlib.Core.Path.{_≡_, _∙_, ap}
 use Prim.Native.Nat.{_-_}
 use native.Mathlib.Omega.{arith}
-use Rattle.algebra.specs.cells.Cell.{one, full, imageOf, lexLe}
+use Rattle.algebra.specs.cells.Cell.{one, full, imageOf}
+use Rattle.factor_file.specs.File.{noLater}
 use Rattle.cell.specs.Operations.{cellGroup, cellHalves, tripleOf, symOf}
 use Rattle.volume.proofs.consistent.Passing.{PassingMembers, members-second, members-next, members-stop, members-done}
 use Rattle.volume.proofs.consistent.TestLaws.{first-full}
@@ -13,7 +14,7 @@ use Rattle.factor_file.proofs.orbits.lowest.Tie as tie
 
 abbrev Inv-loop : tie.InvT-loop
 Inv-loop cell j count number₀ number =
-    PassingMembers (full (cellGroup cell)) one (λ s. lexLe (tripleOf j) (imageOf (cellHalves cell) s (tripleOf j))) number
+    PassingMembers (full (cellGroup cell)) one (λ s. noLater (tripleOf j) (imageOf (cellHalves cell) s (tripleOf j))) number
 
 abbrev μ-loop : tie.MeasureT-loop
 μ-loop cell j count number₀ number = count - number
@@ -22,10 +23,10 @@ abbrev μ-loop : tie.MeasureT-loop
 tried : (c : tie.After-no-later Inv-loop μ-loop) →
     let o = c .before .before in
     let a = o .before .before .before .before .args in
-    c .no-later .result ≡ lexLe (tripleOf (a .j)) (imageOf (cellHalves (a .cell)) (symOf (o .operation-at .result)) (tripleOf (a .j)))
+    c .no-later .result ≡ noLater (tripleOf (a .j)) (imageOf (cellHalves (a .cell)) (symOf (o .operation-at .result)) (tripleOf (a .j)))
 tried c =
     let a = c .before .before .before .before .before .before .args in
-    c .no-later .ensures ∙ ap (lexLe (tripleOf (a .j))) (c .before .image .ensures .0)
+    c .no-later .ensures ∙ ap (noLater (tripleOf (a .j))) (c .before .image .ensures .0)
 
 operation-count-requires : tie.Need-operation-count-requires Inv-loop μ-loop
 operation-count-requires c κs = search needs

@@ -3,10 +3,11 @@
 
     host_test.py PROGRAM
 
-Small grids: the printer test's files, their maps as text and as map files, the factor files written from those, readings of points and factors,
-all against the book of brute_force.py. Every refusal that a file, a map file or a line can give. Files that are damaged, empty, missing, endless
-or not to be written, or are the input itself; pipes that are closed; no memory; signals at random moments of writing. P1 and P2_1 2_1 2_1 at 240^3 and P2_1 at 288^3 there and back, byte for byte, with some
-densities summed directly. The seed is fixed. Prints how many comparisons agreed; the exit status is 1 where one did not.
+Small grids: the printer test's files, their maps as text and as map files, the factor files written from those, the files shuffled and
+rewritten, their records, readings of points and factors, all against the book of brute_force.py. Every refusal that a file, a map file or a line
+can give. Files that are damaged, empty, missing, endless or not to be written, or are the input itself; pipes that are closed; no memory;
+signals at random moments of writing. P1 and P2_1 2_1 2_1 at 240^3 and P2_1 at 288^3 there and back, byte for byte, with some densities summed
+directly. The seed is fixed. Prints how many comparisons agreed; the exit status is 1 where one did not.
 """
 import filecmp
 import os
@@ -29,7 +30,7 @@ SEED = 1973
 # Every refusal that the tool's input can give, readings outside the cell and the writing of an empty map among them.
 REFUSALS = {"factor file": {3, 4, 5, 7, 8, 9, 10, 11, 12, 15, 16, 17, 24}, "map file": {3, 4, 5, 7, 8, 9, 10, 14, 15, 16, 17},
             "line": {1, 2, 3, 4, 5, 6, 7}}
-COMMANDS = ["map", "factors", "check", "info", "point", "factor", "line"]
+COMMANDS = ["map", "factors", "rewrite", "records", "check", "info", "point", "factor", "line"]
 LARGE = [(0, 240, [4, 5, 3, 2]), (1, 288, [4, 4, 3, 3]), (4, 240, [2, 3, 4, 5])]
 GROUPS = ["P1", "P2_1", "Pm", "Pa", "P2_1 2_1 2_1"]
 SAMPLES = [("p21", 6), ("p212121", 37)]
@@ -137,6 +138,26 @@ def written(book):
     return file_bytes(book.g, book.n, book.lists, found)
 
 
+def records_in(contents):
+    """The records of an accepted file, in its order."""
+    at = 12
+    for _ in range(3):
+        at += 1 + contents[at]
+    ends = (0, 2, 4, 6, 10, 14)
+    return [tuple(number(contents[q + a:q + b]) for a, b in zip(ends, ends[1:])) for q in range(at + 4, len(contents), 14)]
+
+
+def records_text(found):
+    return "".join("%d %d %d %d %d\n" % record for record in found).encode()
+
+
+def shuffled(rng, g, n, found):
+    """The same orbits in another order, each at any of its places."""
+    places = [rng.choice(images(g, n, record[:3], record[3:])) for record in found]
+    rng.shuffle(places)
+    return [(*j, *v) for j, v in places]
+
+
 # ---- small grids
 
 def samples(tool):
@@ -171,12 +192,29 @@ def accepted_file(tool, rng, path, book, count):
     tool.expect(what + ": factors", tool.run("factors", made, "-o", back), (0, b"", b""))
     tool.expect(what + ": the factor file", open(back, "rb").read(), written(book))
     tool.expect(what + ": factors of factors", tool.run("factors", path, "-o", "-"), (0, written(book), b""))
+    rewritten(tool, rng, what, path, book)
+    for command in ("rewrite", "records"):
+        tool.fails(what + ": %s of a map" % command, (command, made, *(["-o", tool.path("none")] if command == "rewrite" else [])), b"has no records")
     for source in (path, made):
         j = tuple(rng.randrange(m) for m in n)
         tool.expect(what + ": point", tool.run("point", source, *j), (0, b"%d\n" % M[j], b""))
         tool.expect(what + ": factor", tool.run("factor", source, *j), (0, b"%d %d\n" % F[j], b""))
         tool.refused(what + ": a point outside", ("point", source, j[0], n[1], j[2]), 10)
         tool.refused(what + ": a factor outside", ("factor", source, n[0], j[1], 2 ** 40), 10)
+
+
+def rewritten(tool, rng, what, path, book):
+    """A file and the same one shuffled are rewritten to the writer's file, which rewriting leaves as it is; records prints what each has."""
+    with open(path, "rb") as file:
+        found = records_in(file.read())
+    other = shuffled(rng, book.g, book.n, found)
+    back, form = tool.path("back"), written(book)
+    for source, records in ((path, found), (tool.file("shuffled", file_bytes(book.g, book.n, book.lists, other)), other)):
+        tool.expect(what + ": records", tool.run("records", source), (0, records_text(records), b""))
+        tool.expect(what + ": rewrite", tool.run("rewrite", source, "-o", back), (0, b"", b""))
+        tool.expect(what + ": the file rewritten", open(back, "rb").read(), form)
+    tool.expect(what + ": rewritten twice", tool.run("rewrite", back, "-o", "-"), (0, form, b""))
+    tool.expect(what + ": its records", tool.run("records", back), (0, records_text(sorted(records_in(form))), b""))
 
 
 def small_grids(tool):
@@ -232,7 +270,9 @@ def refused_records(tool):
         what = "group %d, record %s" % (g, record)
         tool.expect(what, (status, head, found, end, err), (1, "refused %d at 2" % refusal, contents, "", b""))
         tool.refused(what, ("point", path, 0, 0, 0), refusal, 2)
-        tool.refused(what, ("factors", path, "-o", tool.path("none")), refusal, 2)
+        tool.refused(what, ("records", path), refusal, 2)
+        for command in ("factors", "rewrite"):
+            tool.refused(what, (command, path, "-o", tool.path("none")), refusal, 2)
 
 
 def refused_headers(tool):
@@ -336,7 +376,8 @@ def command_line(tool):
             status, out, err = tool.run(*words)
             tool.expect("help of " + name, (status, out.startswith(b"recorder " + name.encode() + b" "), err), (0, True, b""))
     path = tool.file("sound", file_bytes(0, (2, 2, 2), [[], [], []], [(1, 0, 0, 3, 0)]))
-    for words in ((), ("paint",), ("map",), ("map", path, path), ("map", path, "-o"), ("map", path, "--fast"), ("factors", path), ("check", path, "-o", "x"),
+    for words in ((), ("paint",), ("map",), ("map", path, path), ("map", path, "-o"), ("map", path, "--fast"), ("factors", path), ("rewrite", path),
+                  ("check", path, "-o", "x"), ("records", path, "-o", "x"), ("rewrite", path, "-o", tool.path("none"), "--times"),
                   ("map", path, "-o", tool.path("none"), "-o", tool.path("none")),
                   ("info", path, "--times"), ("point", path, 1, 2), ("point", path, 1, 2, "z"), ("factor", path, 1, 2, "-3"), ("line", 1, 0, 4, "2;3")):
         tool.fails("usage %s" % (words,), words, b"--help")
@@ -349,15 +390,16 @@ def files_and_streams(tool):
     path = tool.path("sound")
     tool.refused("an empty file", ("map", tool.file("empty", b"")), 15)
     tool.refused("an endless file", ("map", "/dev/zero"), 15)
-    for name in COMMANDS[:6]:
-        more = ["-o", tool.path("none")] if name == "factors" else [0, 0, 0] if name in ("point", "factor") else []
+    for name in COMMANDS[:-1]:
+        more = ["-o", tool.path("none")] if name in ("factors", "rewrite") else [0, 0, 0] if name in ("point", "factor") else []
         tool.fails(name + " of a missing file", (name, tool.path("missing"), *more), b"check its name and folder")
         tool.fails(name + " of a folder", (name, tool.folder, *more), b"name a file in it")
     tool.fails("a folder that is not there", ("map", path, "-o", tool.path("no/where")), b"make its folder first")
     tool.fails("a folder as output", ("map", path, "-o", tool.folder), b"name a file in it")
     tool.fails("a full disk", ("map", path, "-o", "/dev/full"), b"make room")
     with open("/dev/full", "wb") as full:
-        for words in (("map", path), ("map", path, "-o", "-"), ("check", path), ("info", path), ("point", path, 0, 0, 0), ("map", "--help")):
+        for words in (("map", path), ("map", path, "-o", "-"), ("rewrite", path, "-o", "-"), ("records", path), ("check", path), ("info", path),
+                      ("point", path, 0, 0, 0), ("map", "--help")):
             tool.fails("a full output of %s" % words[0], words, b"make room", stdout=full)
         tool.expect("a full standard error", tool.run("check", tool.path("missing"), stderr=full)[0], 2)
         tool.expect("a full standard error", tool.run("map", tool.path("empty"), stderr=full)[0], 1)
@@ -389,7 +431,7 @@ def one_file(tool):
     os.symlink("file", os.path.join(folder, "link"))
     os.link(path, os.path.join(folder, "other"))
     for name in ("file", "link", "other", "../one/./file"):
-        for command in ("map", "factors"):
+        for command in ("map", "factors", "rewrite"):
             tool.fails("%s to its own file as %s" % (command, name), (command, path, "-o", os.path.join(folder, name)), b"%s is the file to read and" % path.encode())
     with open(path, "rb") as given:
         tool.fails("standard input's own file", ("map", "-", "-o", path), b"standard input is the file to read and", stdin=given)
@@ -423,7 +465,7 @@ def replaced(tool):
 
 def closed_pipe(tool):
     """A reader that closes its pipe after some bytes, or at once: no panic, no words, and a refusal stays one."""
-    for words in (("map", tool.path("large0")), ("map", tool.path("large0"), "-o", "-")):
+    for words in (("map", tool.path("large0")), ("map", tool.path("large0"), "-o", "-"), ("records", tool.path("large0"))):
         with subprocess.Popen([tool.program, *words], stdout=subprocess.PIPE, stderr=subprocess.PIPE) as run:
             run.stdout.read(5)
             run.stdout.close()
@@ -476,6 +518,9 @@ def large_grids(tool):
         tool.expect(what + ": map", tool.run("map", path, "-o", made, preexec_fn=limit), (0, b"", b""))
         tool.expect(what + ": factors", tool.run("factors", made, "-o", back, preexec_fn=limit), (0, b"", b""))
         tool.expect(what + ": the same file", os.path.exists(back) and filecmp.cmp(path, back, shallow=False), True)
+        other = tool.file("large.other", file_bytes(g, n, [fs] * 3, shuffled(rng, g, n, records_in(contents))))
+        tool.expect(what + ": rewrite", tool.run("rewrite", other, "-o", back, preexec_fn=limit), (0, b"", b""))
+        tool.expect(what + ": the file rewritten", filecmp.cmp(path, back, shallow=False), True)
         with open(made, "rb") as densities:
             for _ in range(6):
                 q = tuple(rng.randrange(m) for m in (*n[:2], planes(g, n)))

@@ -12,7 +12,7 @@ use crate::progress::{during, during_output};
 use crate::recorder::{self, Recorder};
 use crate::text;
 use crate::times::Times;
-use std::ffi::OsString;
+use std::ffi::{OsStr, OsString};
 
 struct Command {
     name: &'static str,
@@ -22,9 +22,11 @@ struct Command {
 }
 
 const FILE: &str = "FILE";
-const COMMANDS: [Command; 7] = [
+const COMMANDS: [Command; 9] = [
     Command { name: "map", words: &[FILE], help: help::MAP, run: map },
     Command { name: "factors", words: &[FILE], help: help::FACTORS, run: factors },
+    Command { name: "rewrite", words: &[FILE], help: help::REWRITE, run: rewrite },
+    Command { name: "records", words: &[FILE], help: help::RECORDS, run: records },
     Command { name: "check", words: &[FILE], help: help::CHECK, run: check },
     Command { name: "info", words: &[FILE], help: help::INFO, run: info },
     Command { name: "point", words: &[FILE, "x", "y", "z"], help: help::POINT, run: point },
@@ -53,16 +55,17 @@ pub fn run(mut arguments: impl Iterator<Item = OsString>) -> Result<(), Failure>
 /// Whether a command was given the words and options that it takes.
 fn fit(command: &Command, given: &Given) -> Result<(), Failure> {
     let (name, words) = (command.name, command.words);
+    let writes = matches!(name, "map" | "factors" | "rewrite");
     if given.words.len() != words.len() {
         return Err(Failure::Usage(format!("{name} takes {}, not {} words", words.join(" "), given.words.len())));
     }
-    if given.output.is_some() && name != "map" && name != "factors" {
+    if given.output.is_some() && !writes {
         return Err(Failure::Usage(format!("{name} takes no -o")));
     }
     if given.times && name != "map" {
         return Err(Failure::Usage(format!("{name} takes no --times")));
     }
-    if (name == "map" || name == "factors") && output::is_input(given.output(), &given.words[0]) {
+    if writes && output::is_input(given.output(), &given.words[0]) {
         return Err(Failure::Usage(format!("{} is the file to read and the file to write; name another file to write", shown(&given.words[0]))));
     }
     Ok(())
@@ -95,8 +98,33 @@ fn map(given: &Given) -> Result<(), Failure> {
 }
 
 fn factors(given: &Given) -> Result<(), Failure> {
-    let to = given.output().ok_or_else(|| Failure::Usage("factors needs -o and the name of the file to write".into()))?;
-    let recorder = with_factors(input::open(&given.words[0])?)?;
+    let to = target("factors", given)?;
+    write_factor_file(&with_factors(input::open(&given.words[0])?)?, to)
+}
+
+fn rewrite(given: &Given) -> Result<(), Failure> {
+    let to = target("rewrite", given)?;
+    let recorder = accepted(&input::factor_file(&given.words[0])?)?;
+    write_factor_file(&recorder, to)
+}
+
+/// The records as they stand in the file, which the proved opening has accepted whole.
+fn records(given: &Given) -> Result<(), Failure> {
+    let file = input::factor_file(&given.words[0])?;
+    let header = accepted(&file)?.header;
+    output::open(None)?.write(|mut out| text::write_records(&file, &header, &mut out))
+}
+
+/// Where a command writes that has no other output.
+fn target<'a>(name: &str, given: &'a Given) -> Result<&'a OsStr, Failure> {
+    given.output().ok_or_else(|| Failure::Usage(format!("{name} needs -o and the name of the file to write")))
+}
+
+fn accepted(file: &[u8]) -> Result<Recorder, Failure> {
+    during("reading", |_| Recorder::of_factor_file(file))
+}
+
+fn write_factor_file(recorder: &Recorder, to: &OsStr) -> Result<(), Failure> {
     let file = during("collecting records", |_| recorder.factor_file())?;
     output::open(Some(to))?.write(|out| out.write_all(&file))
 }

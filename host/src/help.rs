@@ -5,6 +5,8 @@ recorder: maps of unit cells from their structure factors, and back, modulo 86,3
 
   recorder map FILE [-o OUT] [--times]   the map, as text or as a map file
   recorder factors FILE -o OUT           the factor file
+  recorder rewrite FILE -o OUT           the factor file in the writer's order
+  recorder records FILE                  the records of a factor file, a line each
   recorder check FILE                    whether a file is accepted, and why not
   recorder info FILE                     group, lengths, lists, volume, count of records
   recorder point FILE x y z              the density at a point
@@ -12,8 +14,8 @@ recorder: maps of unit cells from their structure factors, and back, modulo 86,3
   recorder line KIND DIRECTION N LIST    one line, its numbers from standard input
   recorder COMMAND --help                more about a command
 
-A FILE is a factor file or a map file, told apart by its first four bytes; - is standard input. Exit status: 0 done, 1 the input was refused,
-2 a wrong command line or a file that cannot be read or written.
+A FILE is a factor file or a map file, told apart by its first four bytes; rewrite and records take a factor file. - is standard input.
+Exit status: 0 done, 1 the input was refused, 2 a wrong command line or a file that cannot be read or written.
 ";
 
 pub const MAP: &str = "\
@@ -32,6 +34,20 @@ recorder factors FILE -o OUT
 
 Analyses the map of a map file and writes its factor file to OUT (- is standard output): a record for each orbit with a value other than zero, at
 its lowest h, k, l, rising. A file of that form, made a map and written again, is the same byte for byte. Of a factor file it writes that form.
+";
+
+pub const REWRITE: &str = "\
+recorder rewrite FILE -o OUT
+
+Reads a factor file, whatever the order of its records, and writes it to OUT (- is standard output) as the writer does: a record for each orbit, at
+its lowest h, k, l, by rising h, then k, then l. Files of the same header and the same factors are rewritten to the same bytes, so two of them can
+be laid one over the other; a file that was rewritten stays as it is. OUT takes its name when it is whole, and cannot be FILE.
+";
+
+pub const RECORDS: &str = "\
+recorder records FILE
+
+Prints the records of a factor file that is accepted, in the order in which they stand there: 'h k l a b', a line each.
 ";
 
 pub const CHECK: &str = "\

@@ -2,7 +2,7 @@
 //! can be right.
 use crate::arguments::number;
 use crate::factor_file::MOST_COUNT;
-use crate::failure::Failure;
+use crate::failure::{shown, Failure};
 use crate::map_file;
 use crate::progress;
 use crate::recorder::Recorder;
@@ -67,6 +67,16 @@ pub fn open(name: &OsStr) -> Result<Recorder, Failure> {
         Entry::Factors(file) => Recorder::of_factor_file(&file),
         Entry::Map(mut rest) => map_file::read(name, &mut rest, told),
     })
+}
+
+/// The bytes of a factor file, for a command that a map file has nothing for.
+pub fn factor_file(name: &OsStr) -> Result<Vec<u8>, Failure> {
+    match entry(name)? {
+        Entry::Factors(file) => Ok(file),
+        Entry::Map(_) => {
+            Err(Failure::Trouble(format!("{} is a map file, which has no records; recorder factors makes its factor file", shown(name))))
+        }
+    }
 }
 
 /// The numbers of a line, from standard input with blanks between them; where there are more than any line has, one more than that.

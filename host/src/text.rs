@@ -1,5 +1,8 @@
-//! The text of a map, as the map printer prints it: group and lengths, then a line for each stored plane z and each x, rising, with z, x and the
+//! Text: numbers, the records of a file, and the text of a map, as the map printer prints it: group and lengths, then a line for each stored plane z and each x, rising, with z, x and the
 //! values by y. crates/printing proves the printer's text in a buffer; this one goes out as it is made, so that no grid needs a second buffer.
+use crate::factor_file::{self, Record};
+use crate::ffi::Reflection;
+use crate::header::Header;
 use crate::progress::Told;
 use crate::recorder::Recorder;
 use std::io::{self, Write};
@@ -19,6 +22,20 @@ pub fn write(recorder: &Recorder, out: &mut impl Write, told: &Told) -> io::Resu
         line.push(b'\n');
         out.write_all(&line)?;
         told.done(z, header.planes());
+    }
+    Ok(())
+}
+
+/// Writes the records of an accepted factor file, a line each and in the file's order: h, k, l, a, b.
+pub fn write_records(file: &[u8], header: &Header, out: &mut impl Write) -> io::Result<()> {
+    let mut line = Vec::new();
+    for place in 0..factor_file::records(file, header) {
+        let Record { at: Reflection { h, k, l }, a, b, .. } = factor_file::record(file, header, place);
+        line.clear();
+        push_number(&mut line, h);
+        push_numbers(&mut line, &[k, l, a, b]);
+        line.push(b'\n');
+        out.write_all(&line)?;
     }
     Ok(())
 }

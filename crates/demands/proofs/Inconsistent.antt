@@ -24,7 +24,7 @@ use Rattle.job.specs.declared.Job.{Job}
 use Rattle.job.specs.Job.{Header, halfLengths, axisTests, mapHeld, validJob, groupIn, halves, p, asLong, fits, Opening, opened, notOpened, OpenOutcome, openTests, openStep, Said, done, density, factor, refused, Worked, synthesisStep, analysisStep}
 use Rattle.job.specs.TestSteps.{synthesisTests, analysisTests}
 use Rattle.job.proofs.Jobs.{valid-job-sizes}
-use Rattle.factor_file.specs.File.{jobRecords, jobFile, writeTests, writeStep}
+use Rattle.factor_file.specs.File.{jobFile, writeTests, writeStep}
 use Rattle.output.specs.Output.{Filled, written, notWritten, FillOutcome}
 use Rattle.demands.specs.Demands.{InconsistentExactly}
 use Rattle.demands.proofs.TestOrder.{others, other-first, decides}
@@ -106,7 +106,7 @@ inconsistent-exactly = record {
       (says saidNumber (λ (o : Worked). o .outcome .answer) _ _ refused (λ n. refl) (λ n. refl) refl (first (analysisTests j v (length scratch))))
       tt (λ k e. at-fourteen (beforeAnalysis j v (length scratch)) tt k (only (suc k) e)) _
       (λ e. let t = passed (beforeAnalysis j v (length scratch)) tt e in job-map j v (t .0) (t .1 .1 .0) (t .1 .1 .1 .1 .0));
-  writer = λ j v output only. decides (beforeWriting j v) (eqb (length (jobRecords j v)) 0 ⇒ 17 ∷ ltb (length output) (length (jobFile j v)) ⇒ 18 ∷ []) (consistentFactors (groupIn j) (halves j) 1 v) 13 tt (writeStep j v output .answer) notWritten
+  writer = λ j v output only. decides (beforeWriting j v) (ltb (length output) (length (jobFile j v)) ⇒ 18 ∷ []) (consistentFactors (groupIn j) (halves j) 1 v) 13 tt (writeStep j v output .answer) notWritten
       (says writingNumber (λ (o : FillOutcome). o .answer) _ _ notWritten (λ n. refl) (λ n. refl) refl (first (writeTests j v output)))
       tt (λ k e. after-seven j v k (only (suc k) e)) _
       (λ e. let t = passed (beforeWriting j v) tt e in job-factors j v (t .0) (t .1 .1 .0) (t .1 .1 .1 .0));
@@ -115,7 +115,6 @@ inconsistent-exactly = record {
     at-fourteen : (ts : List Test) → T (others 14 ts) → (k : ℕ) → suc k ≡ 14 → first ts ≡ suc k → ⊥
     at-fourteen ts t k e f = other-first 13 ts t (f ∙ e)
 
-    after-seven : (j : Job) (v : List ℕ) (k : ℕ) → (suc k ≡ 14) ⊎ (suc k ≡ 17) ⊎ (suc k ≡ 18) → first (beforeWriting j v) ≡ suc k → ⊥
+    after-seven : (j : Job) (v : List ℕ) (k : ℕ) → (suc k ≡ 14) ⊎ (suc k ≡ 18) → first (beforeWriting j v) ≡ suc k → ⊥
     after-seven j v k (inl e) f = other-first 13 (beforeWriting j v) tt (f ∙ e)
-    after-seven j v k (inr (inl e)) f = other-first 16 (beforeWriting j v) tt (f ∙ e)
-    after-seven j v k (inr (inr e)) f = other-first 17 (beforeWriting j v) tt (f ∙ e)
+    after-seven j v k (inr e) f = other-first 17 (beforeWriting j v) tt (f ∙ e)

@@ -46,7 +46,7 @@ use Rattle.demands.proofs.TestOrder.{first-append}
 
 -- ---- the cell that is zero everywhere
 
-zero-lawful : (g : Group) (a : J) → Lawful (field 1) (conj 1) a g (λ h k l. value 1 0 0)
+pub zero-lawful : (g : Group) (a : J) → Lawful (field 1) (conj 1) a g (λ h k l. value 1 0 0)
 unfolding gauss residues
 zero-lawful g a s ms j n = sym (implied-zero (field-ring 1) (field-star 1) a s j)
 
@@ -70,7 +70,7 @@ zero-pair P2₁2₁2₁ a zero h k = ap (λ (x : Value 1). (x .0, partOf (ring 1
 zero-pair P2₁2₁2₁ a (suc w) h k = zero-rotated (even h)
 
 -- its packed factors are zeros
-zero-packed : (g : Group) (a : J) → Positive a → packFactors g a 1 (λ h k l. value 1 0 0) ≡ replicate (volumeLength g a) 0
+pub zero-packed : (g : Group) (a : J) → Positive a → packFactors g a 1 (λ h k l. value 1 0 0) ≡ replicate (volumeLength g a) 0
 unfolding valueOf
 zero-packed g a long =
     packed-list g a long 1 (λ h k l. value 1 0 0) (zero-lawful g a) (replicate (volumeLength g a) 0) (length-replicate (volumeLength g a) 0) (below-replicate (volumeLength g a) 0 (prime-pos 1))

@@ -26,7 +26,7 @@ Agrees o (begun m) = (o ≡ given m) × LawfulModel m
 Agrees o (notBegun n place) = o .answer ≡ notOpened n place
 
 -- what becomes of a file once it is opened
-abbrev afterOpening : List FileRecord → OpenOutcome → OpenOutcome
+abbrev pub afterOpening : List FileRecord → OpenOutcome → OpenOutcome
 afterOpening cs o = elim (o .answer) [ opened j ↦ feed cs 0 j (o .volume) | notOpened n place ↦ o ]
 
 feed-agrees : (cs : List FileRecord) (place : ℕ) (m : Model) → LawfulModel m → Agrees (feed cs place (modelJob m) (modelVolume m)) (modelFeed cs place m)

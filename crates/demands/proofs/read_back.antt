@@ -1,4 +1,3 @@
-pub mod Parsing
-pub mod WrittenFiles
 pub mod ReadBack
 pub mod EqualFiles
+pub mod EmptyFiles

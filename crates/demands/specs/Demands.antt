@@ -194,7 +194,7 @@ pub record OccupiedExactly : Type 0 where
       ((n : ℕ) → a ≡ refused n → n ≡ 24) → ((a ≡ refused 24) ↔ (factorOf (modelEnd m l) (index k) ≡ value 1 0 0 → ⊥))
 
 -- Refusal 14 exactly if no whole cell that obeys group and Friedel has these packed factors, or none that obeys the group has this map with its zeros:
--- of a call that no test before it refuses, whatever job, volume and scratch it is lent. In the writer 17 and 18 come after it.
+-- of a call that no test before it refuses, whatever job, volume and scratch it is lent. In the writer 18 comes after it.
 pub record InconsistentExactly : Type 0 where
   pub opening : (h : Header) (v : List ℕ) → let a = openStep h 1 v .answer in
       ((n place : ℕ) → a ≡ notOpened n place → n ≡ 14) → ((a ≡ notOpened 14 0) ↔ (MapConsistent (groupOf (h .group)) (halfLengths (h .lengths)) 1 v → ⊥))
@@ -203,7 +203,7 @@ pub record InconsistentExactly : Type 0 where
   pub analysis : (j : Job) (v scratch : List ℕ) → let a = analysisStep j v scratch .outcome .answer in
       ((n : ℕ) → a ≡ refused n → n ≡ 14) → ((a ≡ refused 14) ↔ (MapConsistent (groupIn j) (halves j) 1 v → ⊥))
   pub writer : (j : Job) (v output : List ℕ) → let a = writeStep j v output .answer in
-      ((n : ℕ) → a ≡ notWritten n → (n ≡ 14) ⊎ (n ≡ 17) ⊎ (n ≡ 18)) → ((a ≡ notWritten 14) ↔ (FactorsConsistent (groupIn j) (halves j) 1 v → ⊥))
+      ((n : ℕ) → a ≡ notWritten n → (n ≡ 14) ⊎ (n ≡ 18)) → ((a ≡ notWritten 14) ↔ (FactorsConsistent (groupIn j) (halves j) 1 v → ⊥))
 
 -- A job that an opening or a later call could have made: from an accepted opening or file on, some list of calls leaves it.
 abbrev pub Reachable : Job → Type 0

@@ -1,20 +1,24 @@
 -- What is owed of the writer beside its promise: a file that was written reads back, its records rise, equal jobs and volumes give equal files,
--- and a file that was read is written back in one way, whatever the order of its records.
+-- a file that was read is written back in one way, whatever the order of its records, and a file of no records is that of a cell whose factors are all zero.
 -- Each statement is the promise of the function of the same name in src/read_back.rt.
 use mathlib.Core.Path.{_≡_}
 use mathlib.Core.Logic.{_⊎_}
-use mathlib.Core.List.{List, _++_, map}
+use mathlib.Core.Bool.{true}
+use mathlib.Core.List.{List, [], _++_, map}
 use Prim.Native.Nat.{ℕ, _≤_}
-use lib.ListN.{length, take, drop}
+use lib.ListN.{length, take, drop, replicate}
 use Rattle.algebra.specs.cells.Cell.{J}
 use Rattle.algebra.specs.orbits.Orbit.{Mem}
 use Rattle.job.specs.declared.Job.{Job}
-use Rattle.job.specs.Job.{collecting, factorsHeld, withState, headerOf, opened, index}
+use Rattle.refusals.specs.Refusals.{first}
+use Rattle.job.specs.Job.{needed, collecting, factorsHeld, withState, headerOf, validJob, opened, openStep, index}
 use Rattle.file_format.specs.declared.FileRecord.{FileRecord}
-use Rattle.factor_file.specs.File.{indexOf, recordsIn, fileStep, writeStep}
+use Rattle.file_format.specs.Format.{fileOf}
+use Rattle.factor_file.specs.File.{indexOf, recordCount, recordsIn, shapeTests, headerIn, fileStep, writeStep}
+use Rattle.model.specs.Model.{Model, zeroModel}
 use Rattle.output.specs.Output.{written}
 use Rattle.factor_file.specs.RecordOrder.{Rising, LowestOfOrbit}
-use Rattle.demands.specs.Demands.{Reordered}
+use Rattle.demands.specs.Demands.{reading, Started, Reordered}
 
 -- The writer puts a file into an output: it answers the count of the file's bytes, they stand first, and the places beyond them are as they were.
 pub record Writes (j : Job) (v output file : List ℕ) : Type 0 where
@@ -54,3 +58,15 @@ pub record WrittenTwice : Type 0 where
   pub reordered : (j j′ : Job) (v v′ w w′ output output′ file file′ back : List ℕ) → Reordered file file′ →
       fileStep file v ≡ record { answer = opened j; volume = w } → fileStep file′ v′ ≡ record { answer = opened j′; volume = w′ } →
       length back ≤ length output′ → Writes j w output back → Writes j′ w′ output′ back
+
+-- A file of no records stands for the cell whose factors are all zero.
+pub record EmptyFiles : Type 0 where
+  -- where its shape is sound, it does what an opening of its header with kind 0 does, refused or not
+  pub opens : (file v : List ℕ) → 0 ≡ first (shapeTests file) → recordCount file ≡ 0 → fileStep file v ≡ openStep (headerIn file) 0 v
+  -- where it is accepted, F is zero everywhere, and so is the volume
+  pub zero : (file v : List ℕ) (j : Job) (w : List ℕ) (m : Model) → Started (reading file v) j w m → recordCount file ≡ 0 → (m ≡ zeroModel (headerIn file)) × (w ≡ replicate (length v) 0)
+  -- the writer gives it for a volume of zeros ..
+  pub written : (j : Job) (output : List ℕ) → validJob j ≡ true → WithFactors j → let file = fileOf (headerOf j) [] in
+      length file ≤ length output → Writes j (replicate (needed (headerOf j)) 0) output file
+  -- .. and for no other
+  pub only : (j : Job) (v output file : List ℕ) → Writes j v output file → recordCount file ≡ 0 → v ≡ replicate (length v) 0

@@ -64,7 +64,7 @@ jobFile j v = fileOf (headerOf j) (jobRecords j v)
 
 -- ---- the call
 
--- Writer: 25, 23, 6, 7, 14, 17, 18.
+-- Writer: 25, 23, 6, 7, 14, 18.
 abbrev pub writeTests : Job → (v output : List ℕ) → List Test
 writeTests j v output =
     not (validJob j) ⇒ 25 ∷
@@ -72,7 +72,6 @@ writeTests j v output =
     not (fits j v) ⇒ 6 ∷
     not (allBelow p v) ⇒ 7 ∷
     not (consistentFactors (groupIn j) (halves j) 1 v) ⇒ 14 ∷
-    eqb (length (jobRecords j v)) 0 ⇒ 17 ∷
     ltb (length output) (length (jobFile j v)) ⇒ 18 ∷
     []
 

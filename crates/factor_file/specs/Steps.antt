@@ -2,7 +2,7 @@
 use mathlib.Core.List.{List, [], _∷_, _++_}
 use Prim.Native.Nat.{ℕ, suc, _-_, _<_}
 use lib.ListN.{length, drop}
-use lib.Dec.{ltb, eqb}
+use lib.Dec.{ltb}
 use Rattle.refusals.specs.Refusals.{Test, _⇒_, first, accepted}
 use Rattle.factor_file.specs.File.{isLowest, recordsAt}
 use Rattle.output.specs.Output.{written, notWritten, FillOutcome}
@@ -21,14 +21,14 @@ use Rattle.header.specs.Header.{Header}
 use Rattle.file_format.specs.Format.{rawBytes, fileOf}
 use Rattle.file_format.specs.Layout.{headerWith}
 
--- 17, 18: there is a record, and the file fits
-abbrev pub fileTests : (count size room : ℕ) → List Test
-fileTests count size room = eqb count 0 ⇒ 17 ∷ ltb room size ⇒ 18 ∷ []
+-- 18: the file fits
+abbrev pub fileTests : (size room : ℕ) → List Test
+fileTests size room = ltb room size ⇒ 18 ∷ []
 
 -- what is left to do once the factors are known to be sound
-abbrev pub filed : (count : ℕ) (file output : List ℕ) → FillOutcome
-filed count file output =
-    accepted (first (fileTests count (length file) (length output)))
+abbrev pub filed : (file output : List ℕ) → FillOutcome
+filed file output =
+    accepted (first (fileTests (length file) (length output)))
     (record { answer = written (length file); output = file ++ drop (length file) output })
     (λ n. record { answer = notWritten n; output = output })
 
@@ -76,4 +76,4 @@ fileWith c f1 f2 f3 v = fileOf (headerFor c f1 f2 f3) (recordsWith c v)
 
 -- and what is left to do with it
 abbrev pub filedWith : UnitCell → (f1 f2 f3 : ℕ) → (v output : List ℕ) → FillOutcome
-filedWith c f1 f2 f3 v output = filed (length (recordsWith c v)) (fileWith c f1 f2 f3 v) output
+filedWith c f1 f2 f3 v output = filed (fileWith c f1 f2 f3 v) output

@@ -17,7 +17,7 @@ ghost use Rattle.factor_file.specs.File.{writeStep};
 ghost use Rattle.output.specs.Answers.{fillOutcome};
 ghost use Rattle.factor_file.specs.Steps.{filedWith, IsFactors};
 
-// 17, 18, and the file.
+// 18, and the file. Where all factors are zero it is a file of no records.
 fn write_factors(
     cell: UnitCell,
     f1: u32,
@@ -30,9 +30,6 @@ fn write_factors(
     ensures { λ r. ⌜ fillOutcome r (now (out .exit)) ≡ filedWith cell f1 f2 f3 (now (volume .entry)) (now (out .entry)) ⌝ }
 {
     let count = records::count_records(cell, volume);
-    if count == 0 {
-        return FillAnswer::Refused(Refusal::NoRecords);
-    }
     if out.len() < file_format::layout::file_length(f1, f2, f3, count) {
         return FillAnswer::Refused(Refusal::OutputTooShort);
     }

@@ -79,14 +79,11 @@ recordsIn file = recordsFrom file (countAt file + 4) (recordCount file)
 abbrev pub miscounted : List ℕ → Bool
 miscounted file = ltb (length file) 5 || not (eqb (fourBytes file 0) (length file - 4))
 
--- 15 for the rest, 17. The places only rise, so a file that is cut off is never filled exactly.
+-- 15 for the rest. The places only rise, so a file that is cut off is never filled exactly. A file may have no records.
 abbrev pub fillingTests : List ℕ → List Test
-fillingTests file =
-    not (eqb (countAt file + 4 + 14 * recordCount file) (length file)) ⇒ 15 ∷
-    eqb (recordCount file) 0 ⇒ 17 ∷
-    []
+fillingTests file = not (eqb (countAt file + 4 + 14 * recordCount file) (length file)) ⇒ 15 ∷ []
 
--- 15 for the count, 16, 15 for the rest, 17
+-- 15 for the count, 16, 15 for the rest
 abbrev pub shapeTests : List ℕ → List Test
 shapeTests file = miscounted file ⇒ 15 ∷ not (eqb (byteAt file versionAt) 1) ⇒ 16 ∷ fillingTests file
 

@@ -2,3 +2,4 @@ pub mod Format
 pub mod Places
 pub mod Walk
 pub mod Layout
+pub mod Parsed

@@ -1,4 +1,5 @@
-// The shape of a factor file: whether its count, its version, its header, lists and records fill it exactly, and whether it has a record.
+// The shape of a factor file: whether its count is that of its bytes, its version known, and whether header, lists and records fill it
+// exactly; there may be no records.
 // Nothing here knows what a job makes of the header and the records.
 use crate::places::Places;
 use refusals::Checked;
@@ -8,6 +9,7 @@ ghost use Rattle.refusals.specs.Refusals.{first};
 ghost use Rattle.refusals.specs.Checks.{checkedNumber};
 ghost use Rattle.file_format.specs.Format.{miscounted, fillingTests, shapeTests};
 ghost use Rattle.file_format.specs.Places.{PlacesOf};
+ghost use Rattle.file_format.specs.Parsed.{ParsesBack};
 
 // Whether the first four bytes do not count the bytes that follow, or no version follows.
 fn is_miscounted(file: &[u8]) -> bool
@@ -20,7 +22,7 @@ fn is_miscounted(file: &[u8]) -> bool
     crate::integers::four_bytes(file, 0) as usize != length - 4
 }
 
-// The tests behind the version: 15 where header, lists and records do not fill the file, 17 where it has no record.
+// The test behind the version: 15 where header, lists and records do not fill the file.
 fn check_filling(file: &[u8], places: Places) -> Checked
     requires { ⌜ PlacesOf (now file) places ⌝ }
     ensures { λ r. ⌜ checkedNumber r ≡ first (fillingTests (now (file .entry))) ⌝ }
@@ -32,9 +34,6 @@ fn check_filling(file: &[u8], places: Places) -> Checked
     let records = crate::integers::four_bytes(file, places.count) as usize;
     if at + 14 * records != file.len() {
         return Checked::Failed(Refusal::FileShape);
-    }
-    if records == 0 {
-        return Checked::Failed(Refusal::NoRecords);
     }
     Checked::Sound
 }
@@ -52,3 +51,8 @@ pub fn check_shape(file: &[u8], places: Places) -> Checked
     }
     check_filling(file, places)
 }
+
+// The file of a header and records, or of no records, has a sound shape, and they are what is read in it.
+pub fn parses_back()
+    ensures { λ _. ⌜ ParsesBack ⌝ }
+{}

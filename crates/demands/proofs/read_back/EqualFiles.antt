@@ -41,7 +41,6 @@ module _ (h : Header) (v : List ℕ) where
       not (asLong (h .group) (h .lengths) v) ⇒ 6 ∷
       not (allBelow p v) ⇒ 7 ∷
       not (consistentFactors (groupOf (h .group)) (halfLengths (h .lengths)) 1 v) ⇒ 14 ∷
-      eqb (length recordsBy) 0 ⇒ 17 ∷
       []
 
   abbrev valid : ℕ → Bool
@@ -61,20 +60,19 @@ module _ (h : Header) (v : List ℕ) where
       (pass 6 _ (t .1 .1 .0)
       (pass 7 _ (t .1 .1 .1 .0)
       (pass 14 _ (t .1 .1 .1 .1 .0)
-      (pass 17 _ (t .1 .1 .1 .1 .1 .0)
       (pass 18 _ (le-ltb room′ (length (fileOf h recordsBy)) fits)
-      none))))))
+      none)))))
 
 -- they are the writer's, and the file too is the header's
 by-header : (j : Job) (v output : List ℕ) → (writeTests j v output ≡ testsBy (headerOf j) v (j .state) (length output)) × (jobFile j v ≡ fileOf (headerOf j) (recordsBy (headerOf j) v))
 unfolding validJob jobRecords jobFile
 by-header j v output = (refl, refl)
 
-below-map : (j : Job) → WithFactors j → j .state < mapHeld
+pub below-map : (j : Job) → WithFactors j → j .state < mapHeld
 below-map j (inl e) = omega arith
 below-map j (inr e) = omega arith
 
-accepted-writes : (j : Job) (v output : List ℕ) → 0 ≡ first (writeTests j v output) → Writes j v output (jobFile j v)
+pub accepted-writes : (j : Job) (v output : List ℕ) → 0 ≡ first (writeTests j v output) → Writes j v output (jobFile j v)
 unfolding writeStep
 accepted-writes j v output e = record { outcome = ap (told (jobFile j v) output) (sym e) }
 

@@ -9,7 +9,7 @@ use native.Mathlib.Omega.{arith}
 use lib.ListN.{length, take, drop}
 use lib.Seq.{take-append-seam}
 use lib.Dec.{ltb, eqb}
-use borrow.Author.Tests.{not-false, eqb-true, eqb-false, eq-eqb, lt-leb}
+use borrow.Author.Tests.{not-false, eqb-true, eq-eqb, lt-leb}
 use Rattle.algebra.specs.ring.Ring.{gauss, residues}
 use Rattle.algebra.specs.cells.Cell.{J, Inside, Cell, full, at, factorActs}
 use Rattle.algebra.specs.cells.CellSteps.{Lawful}
@@ -50,11 +50,11 @@ use Rattle.demands.proofs.AcceptedRecords.{actsOn, accepted-fed}
 use Rattle.file_format.specs.Format.{fileOf}
 use Rattle.factor_file.specs.RecordOrder.{Rising, LowestOfOrbit}
 use Rattle.factor_file.proofs.RecordOrder.{records-of-volume-rise}
+use Rattle.file_format.specs.Parsed.{fileRecord, Short, Writable}
 use Rattle.file_format.proofs.layout.FileParts.{length-header, length-body}
+use Rattle.file_format.proofs.WrittenFiles.{parses-back}
 use Rattle.factor_file.proofs.file.RecordLaws.{admitted-few}
 use Rattle.factor_file.proofs.writer.Files.{told, passed-on, valid-volume}
-use Rattle.demands.proofs.read_back.Parsing.{fileRecord, Short}
-use Rattle.demands.proofs.read_back.WrittenFiles.{Writable, header-read, records-read, well-shaped}
 
 -- ---- records of a file and what they stand for
 
@@ -154,7 +154,6 @@ module _ (j : Job) (v output : List ℕ) (accepts : 0 ≡ first (writeTests j v 
       record {
         lengths = record { h = omega (arith, sizes .first .high); k = omega (arith, sizes .second .high); l = omega (arith, sizes .third .high) };
         indices = λ c m. inside-short (c .0) (accepted-inside (actsOn (halves j)) (Inside (halves j)) (full (groupIn j)) (jobRecords j v) (λ q. value 1 0 0) taken c m);
-        some = eqb-false _ _ (tests .1 .1 .1 .1 .1 .0);
         short = omega (arith, length-body (headerOf j) (jobRecords j v), length-header (headerOf j), few, list-small _ (s .0), list-small _ (s .1), list-small _ (s .2));
       }
 
@@ -195,9 +194,9 @@ module _ (j : Job) (v output : List ℕ) (accepts : 0 ≡ first (writeTests j v 
     unfolding jobFile
     file-read =
         let file = fileOf (headerOf j) (jobRecords j v) in
-        let eh = sym (header-read (headerOf j) (jobRecords j v) writable) in
-        let er = sym (records-read (headerOf j) (jobRecords j v) writable) in
-        file-gives file u (well-shaped (headerOf j) (jobRecords j v) writable) (fed (jobRecords j v))
+        let eh = sym (parses-back .header (headerOf j) (jobRecords j v) writable) in
+        let er = sym (parses-back .records (headerOf j) (jobRecords j v) writable) in
+        file-gives file u (sym (parses-back .shape (headerOf j) (jobRecords j v) writable)) (fed (jobRecords j v))
         (subst (λ h. 0 ≡ first (openTests h 0 u)) eh opens)
         (subst (λ h. modelFeed (recordsIn file) 0 (zeroModel h) ≡ begun (fed (jobRecords j v))) eh (subst (λ cs. modelFeed cs 0 (zeroModel (headerOf j)) ≡ begun (fed (jobRecords j v))) er feeds))
         ∙ λ i. record { answer = opened (job-given i); volume = volume-given i }
@@ -229,7 +228,7 @@ module _ {j : Job} {v output file : List ℕ} (w : Writes j v output file) where
 
   records-in : recordsIn file ≡ map fileRecord (jobRecords j v)
   unfolding jobFile
-  records-in = ap recordsIn (sym (writes-file .1)) ∙ records-read (headerOf j) (jobRecords j v) (writable j v output (writes-file .0))
+  records-in = ap recordsIn (sym (writes-file .1)) ∙ parses-back .records (headerOf j) (jobRecords j v) (writable j v output (writes-file .0))
 
 pub reads-back : ReadsBack
 unfolding writeStep

@@ -8,7 +8,7 @@ use native.Mathlib.Nat.{zero-mul, eq-zero-or-pos}
 use native.Mathlib.Omega.{arith}
 use lib.ListN.{length, length-append}
 use borrow.Author.Tests.{lt-ltb, le-ltb}
-use Rattle.algebra.specs.orbits.Orbit.{Acts}
+use Rattle.algebra.specs.orbits.Orbit.{Acts, Mem, first, later}
 use Rattle.algebra.specs.cells.Cell.{J, lineFrom, planeFrom, cellFrom, lowest, recordsOf}
 use Rattle.algebra.proofs.ring.Laws.{along}
 use Rattle.slices.proofs.Pairs.{lt-or-ge}
@@ -173,6 +173,16 @@ module _ {S R : Type 0} (𝓐 : Acts S J R) (le : J → J → Bool) (eq : R → 
   unfolding recordsOf
   records-most [] = omega arith
   records-most (j ∷ l) = cond-most (given j) (j, F j) (records l) (length l) (records-most l)
+
+  -- where every value is zero there are none
+  pub records-none : (l : List J) → ((j : J) → Mem j l → eq (F j) (𝓐 .zer) ≡ true) → records l ≡ []
+  unfolding recordsOf
+  records-none [] z = refl
+  records-none (j ∷ l) z = ap (λ b. cond (lowest 𝓐 le eq G j && not b) ((j, F j) ∷ records l) (records l)) (z j first) ∙ kept (lowest 𝓐 le eq G j) ∙ records-none l (λ j m. z j (later m))
+    where
+      kept : (b : Bool) → cond (b && false) ((j, F j) ∷ records l) (records l) ≡ records l
+      kept true = refl
+      kept false = refl
 
   pub records-spread : Spreads records
   unfolding recordsOf

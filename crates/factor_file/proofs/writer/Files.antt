@@ -6,13 +6,11 @@ use Prim.Native.Nat.{ℕ, _<_, _≤_}
 use native.Mathlib.Omega.{arith}
 use lib.ListN.{length, drop}
 use lib.Dec.{eqb, ltb}
-use borrow.Author.Tests.{eq-eqb, ne-eqb, lt-ltb, le-ltb, eqb-true, ltb-false}
-use Rattle.algebra.specs.cells.Cell.{J}
-use Rattle.numbers.specs.Value.{Value}
+use borrow.Author.Tests.{lt-ltb, le-ltb, eqb-true, ltb-false}
 use Rattle.refusals.specs.declared.Refusal.{Refusal}
 use Rattle.refusals.specs.Refusals.{numberOf, Test, _⇒_, first, accepted}
 use Rattle.lengths.specs.Lengths.{scratchLength}
-use Rattle.refusals.proofs.Tests.{Passed, passed, fails}
+use Rattle.refusals.proofs.Tests.{Passed, passed, fails, stop, pass, none}
 use Rattle.cell.specs.Volume.{volumeLength}
 use Rattle.job.specs.declared.Job.{Job}
 use Rattle.job.specs.Job.{jobCell, headerOf, axisTests, validJob, mapHeld, groupIn, halves, fits, factorsTests}
@@ -25,33 +23,22 @@ use Rattle.output.specs.declared.FillAnswer.the-variants.{Refused}
 use Rattle.factor_file.specs.File.{jobRecords, jobFile, writeTests, writeStep}
 use Rattle.output.specs.Output.{written, notWritten, FillOutcome}
 use Rattle.output.specs.Answers.{fillOutcome}
-use Rattle.factor_file.specs.Steps.{recordsWith, fileWith, fileTests, filed}
+use Rattle.factor_file.specs.Steps.{fileWith, fileTests, filed}
 
--- ---- the outcome; n is the count of the records as the code holds it
+-- ---- the outcome
 
 -- what the number of the first test makes of it
 abbrev pub told : (file output : List ℕ) → ℕ → FillOutcome
 told file output k = accepted k (record { answer = written (length file); output = file ++ drop (length file) output }) (λ n. record { answer = notWritten n; output = output })
 
-module _ (n : ℕ) (cs : List (J × Value 1)) (file output : List ℕ) (e : n ≡ length cs) where
-  pub filed-none : n ≡ 0 → record { answer = notWritten 17; output = output } ≡ filed (length cs) file output
-  unfolding first
-  filed-none z = ap (λ b. told file output (cond b 17 (cond (ltb (length output) (length file)) 18 0))) (sym (eq-eqb (length cs) 0 (sym e ∙ z)))
+module _ (file output : List ℕ) where
+  pub filed-short : length output < length file → record { answer = notWritten 18; output = output } ≡ filed file output
+  filed-short h = ap (told file output) (stop _ (lt-ltb (length output) (length file) h))
 
-  module _ (z : n ≡ 0 → ⊥) where
-    some : eqb (length cs) 0 ≡ false
-    some = ne-eqb (length cs) 0 (λ q. z (e ∙ q))
-
-    pub filed-short : length output < length file → record { answer = notWritten 18; output = output } ≡ filed (length cs) file output
-    unfolding first
-    filed-short h = let t = lt-ltb (length output) (length file) h in λ i. told file output (cond (sym some i) 17 (cond (sym t i) 18 0))
-
-    pub filed-whole : {r : ℕ} {after : List ℕ} → length file ≤ length output → Wrote 0 file output r after → record { answer = written r; output = after } ≡ filed (length cs) file output
-    unfolding first
-    filed-whole {r} {after} h p =
-        let t = le-ltb (length output) (length file) h in
-        let a : r ≡ length file = omega (arith, p .place) in
-        (λ i. record { answer = written (a i); output = wrote-whole p h i }) ∙ (λ i. told file output (cond (sym some i) 17 (cond (sym t i) 18 0)))
+  pub filed-whole : {r : ℕ} {after : List ℕ} → length file ≤ length output → Wrote 0 file output r after → record { answer = written r; output = after } ≡ filed file output
+  filed-whole {r} {after} h p =
+      let a : r ≡ length file = omega (arith, p .place) in
+      (λ i. record { answer = written (a i); output = wrote-whole p h i }) ∙ ap (told file output) (pass 18 _ (le-ltb (length output) (length file) h) none)
 
 -- ---- tests in two parts, the first of which no test or some test of holds
 
@@ -86,14 +73,14 @@ module _ (j : Job) (v output : List ℕ) where
   held-first = refl
 
   rest : List Test
-  rest = fileTests (length (jobRecords j v)) (length (jobFile j v)) (length output)
+  rest = fileTests (length (jobFile j v)) (length output)
 
   pub write-refused : (r : Refusal) → numberOf r ≡ first held → fillOutcome (Refused r) output ≡ writeStep j v output
   unfolding writeStep rest
   write-refused r e = fails r (first (writeTests j v output)) _ (λ n. record { answer = notWritten n; output = output }) (failed-first held rest (numberOf r) (nonzero r) e)
 
   pub write-filed : (r : FillAnswer) (after : List ℕ) → Passed held →
-      fillOutcome r after ≡ filed (length (recordsWith (jobCell j) v)) (fileWith (jobCell j) (j .a .factors) (j .b .factors) (j .c .factors) v) output →
+      fillOutcome r after ≡ filed (fileWith (jobCell j) (j .a .factors) (j .b .factors) (j .c .factors) v) output →
       fillOutcome r after ≡ writeStep j v output
   unfolding writeStep rest jobFile jobRecords
   write-filed r after p e = e ∙ ap (told (jobFile j v) output) (sym (passed-on held rest p))

@@ -32,7 +32,7 @@ module _ (file : List ℕ) where
   pub versioned : miscounted file ≡ false → 5 ≤ length file
   versioned e = ltb-false _ _ (or-left (ltb (length file) 5) _ e)
 
-  -- ---- the tests behind the version, each where those before it do not hold
+  -- ---- the test behind the version
 
   abbrev end : ℕ
   end = countAt file + 4 + 14 * recordCount file
@@ -40,15 +40,8 @@ module _ (file : List ℕ) where
   pub not-filled : (end ≡ length file → ⊥) → 15 ≡ first (fillingTests file)
   not-filled h = stop _ (not-f _ (ne-eqb _ _ h))
 
-  module _ (filled : end ≡ length file) where
-    fills : not (eqb end (length file)) ≡ false
-    fills = not-t _ (eq-eqb _ _ filled)
-
-    pub no-records : recordCount file ≡ 0 → 17 ≡ first (fillingTests file)
-    no-records h = pass 15 _ fills (stop _ (eq-eqb _ _ h))
-
-    pub sound-filling : (recordCount file ≡ 0 → ⊥) → 0 ≡ first (fillingTests file)
-    sound-filling h = pass 15 _ fills (pass 17 _ (ne-eqb _ _ h) none)
+  pub sound-filling : end ≡ length file → 0 ≡ first (fillingTests file)
+  sound-filling h = pass 15 _ (not-t _ (eq-eqb _ _ h)) none
 
 -- ---- a file of sound shape
 
@@ -88,4 +81,4 @@ same-shape file file′ long same =
     let version = same-byte file file′ n same 4 (omega arith) in
     let place = same-count file file′ n same (omega arith) in
     let records = same-four-bytes file file′ n same (countAt file) (omega arith) ∙ ap (fourBytes file′) place in
-    λ i. first ((ltb (long i) 5 || not (eqb (bytes i) (long i - 4))) ⇒ 15 ∷ not (eqb (version i) 1) ⇒ 16 ∷ not (eqb (place i + 4 + 14 * records i) (long i)) ⇒ 15 ∷ eqb (records i) 0 ⇒ 17 ∷ [])
+    λ i. first ((ltb (long i) 5 || not (eqb (bytes i) (long i - 4))) ⇒ 15 ∷ not (eqb (version i) 1) ⇒ 16 ∷ not (eqb (place i + 4 + 14 * records i) (long i)) ⇒ 15 ∷ [])

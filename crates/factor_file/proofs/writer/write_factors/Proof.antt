@@ -1,4 +1,4 @@
--- No record, no room, or the file.
+-- No room, or the file.
 use borrow.Author.Needs.{needs}
 use native.Mathlib.Omega.{arith}
 use mathlib.Core.Path.{_≡_}
@@ -11,7 +11,7 @@ use Rattle.job.specs.Job.{Header}
 use Rattle.file_format.specs.Format.{fileOf}
 use Rattle.factor_file.specs.Steps.{headerFor, recordsWith}
 use Rattle.factor_file.proofs.file.RecordLaws.{admitted-few}
-use Rattle.factor_file.proofs.writer.Files.{filed-none, filed-short, filed-whole}
+use Rattle.factor_file.proofs.writer.Files.{filed-short, filed-whole}
 use Rattle.factor_file.proofs.writer.write_factors.Statement.{statement}
 use Rattle.factor_file.proofs.writer.write_factors.Tie as tie
 
@@ -26,9 +26,9 @@ module _ (s : tie.Start) where
   few = let f = s .pre .0 in admitted-few (f .volume .sizes) (s .args .volume .now) (f .volume .long) (s .pre .1)
 
 -- how long the file is
-measured : (c : tie.After-file-length) → let s = c .before .before .before .before .before in c .file-length .result ≡ length (fileOf (head s) (records s))
+measured : (c : tie.After-file-length) → let s = c .before .before .before .before in c .file-length .result ≡ length (fileOf (head s) (records s))
 measured c =
-    let n = c .before .before in
+    let n = c .before in
     let s = n .before .before .before in
     let a = s .args in
     c .file-length .ensures .0 (a .cell .group) (a .cell .n1) (a .cell .n2) (a .cell .n3) (records s) (n .count-records .ensures)
@@ -36,49 +36,40 @@ measured c =
 count-records-requires : tie.Need-count-records-requires
 count-records-requires c κs = c .before .before .pre .0
 
+file-length-requires : tie.Need-file-length-requires
+file-length-requires c κs = omega (arith, c .count-records .ensures, few (c .before .before .before))
+
 returns : tie.Need-returns
 returns c =
-    let n = c .before in
-    let s = n .before .before .before in
-    filed-none (n .count-records .result) (records s) (fileOf (head s) (records s)) (s .args .out .now) (n .count-records .ensures) (c .if1 .taken)
-
-file-length-requires : tie.Need-file-length-requires
-file-length-requires c κs = let n = c .before in omega (arith, n .count-records .ensures, few (n .before .before .before))
-
-returns-2 : tie.Need-returns-2
-returns-2 c =
     let h = c .before in
-    let n = h .before .before in
-    let s = n .before .before .before in
-    filed-short (n .count-records .result) (records s) (fileOf (head s) (records s)) (s .args .out .now) (n .count-records .ensures) (h .before .if1 .left) (omega (arith, measured h, c .if2 .taken))
+    let s = h .before .before .before .before in
+    filed-short (fileOf (head s) (records s)) (s .args .out .now) (omega (arith, measured h, c .if1 .taken))
 
 put-file-requires : tie.Need-put-file-requires
 put-file-requires c κs =
     let h = c .before .before in
-    let n = h .before .before in
+    let n = h .before in
     let s = n .before .before .before in
     ((s .pre .0, s .pre .1), n .count-records .ensures)
 
 same-length : tie.Need-same-length
 same-length c = search needs
 
-returns-3 : tie.Need-returns-3
-returns-3 c =
+returns-2 : tie.Need-returns-2
+returns-2 c =
     let p = c .before .before in
     let t = p .before .before in
     let h = t .before in
-    let n = h .before .before in
-    let s = n .before .before .before in
-    filed-whole (n .count-records .result) (records s) (fileOf (head s) (records s)) (s .args .out .now) (n .count-records .ensures) (h .before .if1 .left) (omega (arith, measured h, t .if2 .left)) (p .put-file .ensures)
+    let s = h .before .before .before .before in
+    filed-whole (fileOf (head s) (records s)) (s .args .out .now) (omega (arith, measured h, t .if1 .left)) (p .put-file .ensures)
 
 pub write-factors-spec : {M : Type 1} → statement M
 write-factors-spec =
     tie.close
     (tie.spec
     count-records-requires
-    returns
     file-length-requires
-    returns-2
+    returns
     put-file-requires
     same-length
-    returns-3)
+    returns-2)

@@ -1,11 +1,11 @@
 -- The tests in their order, each at its return.
 use borrow.Author.Needs.{needs}
-use mathlib.Core.Path.{_≡_, _∙_, sym, ap}
+use mathlib.Core.Path.{_≡_, _∙_, ap}
 use Prim.Native.Nat.{ℕ, _+_}
 use native.Mathlib.Omega.{arith}
 use denote.Ref.{now}
 use Rattle.file_format.specs.Format.{fourBytes, countAt, recordCount}
-use Rattle.file_format.proofs.shape.Shapes.{not-filled, no-records, sound-filling}
+use Rattle.file_format.proofs.shape.Shapes.{not-filled, sound-filling}
 use Rattle.file_format.proofs.shape.check_filling.Statement.{statement}
 use Rattle.file_format.proofs.shape.check_filling.Tie as tie
 
@@ -42,13 +42,8 @@ returns-2 c = not-filled _ (λ q. c .if2 .taken (omega (arith, records (c .befor
 
 returns-3 : tie.Need-returns-3
 returns-3 c =
-    let r = c .before .before in
-    no-records _ (omega (arith, c .before .if2 .left, records r, placed (r .before .before))) (sym (records r) ∙ c .if3 .taken)
-
-returns-4 : tie.Need-returns-4
-returns-4 c =
-    let r = c .before .before in
-    sound-filling _ (omega (arith, c .before .if2 .left, records r, placed (r .before .before))) (λ q. c .if3 .left (records r ∙ q))
+    let r = c .before in
+    sound-filling _ (omega (arith, c .if2 .left, records r, placed (r .before .before)))
 
 pub check-filling-spec : {M : Type 1} → statement M
 check-filling-spec =
@@ -61,5 +56,4 @@ check-filling-spec =
     mul-if2
     add-if2
     returns-2
-    returns-3
-    returns-4)
+    returns-3)

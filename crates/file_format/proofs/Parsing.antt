@@ -11,18 +11,10 @@ use Rattle.algebra.specs.orbits.Orbit.{Mem, first, later}
 use Rattle.algebra.proofs.ring.Laws.{along}
 use Rattle.numbers.specs.Value.{prime, Value}
 use Rattle.numbers.proofs.Residues.{val-small}
 use Rattle.file_format.specs.declared.FileRecord.{FileRecord}
 use Rattle.output.specs.Output.{bigEndian}
 use Rattle.file_format.specs.Format.{byteAt, twoBytes, fourBytes, listAt, afterList, recordAt, recordsFrom, listBytes, recordBytes, allBytes}
-
--- a record of a file by its numbers, and one whose index two bytes can hold
-abbrev pub fileRecord : J × Value 1 → FileRecord
-fileRecord c = record { h = c .0 .0; k = c .0 .1; l = c .0 .2; a = c .1 .0 .val; b = c .1 .1 .val }
-
-pub record Short (j : J) : Type 0 where
-  pub h : j .0 < 65536
-  pub k : j .1 < 65536
-  pub l : j .2 < 65536
+use Rattle.file_format.specs.Parsed.{fileRecord, Short}
 
 right : (a b c d e t : List ℕ) → a ++ b ++ c ++ d ++ e ++ t ≡ a ++ (b ++ (c ++ (d ++ (e ++ t))))
 right a b c d e t = simp append-assoc

@@ -1,29 +1,22 @@
--- A written file read back: its header, its records and its shape.
+-- The file of a header and records read back: its header, its records and its shape.
 use mathlib.Core.Path.{_≡_, sym, _∙_, ap}
 use mathlib.Core.Bool.{_||_}
 use mathlib.Core.List.{List, _∷_, _++_, map, append-assoc}
 use Prim.Native.Nat.{ℕ, _+_, _*_, _-_, _<_, _≤_}
 use native.Mathlib.Omega.{arith}
 use lib.ListN.{length, length-drop}
-use borrow.Author.Tests.{eq-eqb, ne-eqb, le-ltb}
+use borrow.Author.Tests.{eq-eqb, le-ltb}
 use Rattle.algebra.specs.cells.Cell.{J}
-use Rattle.algebra.specs.orbits.Orbit.{Mem}
 use Rattle.numbers.specs.Value.{Value}
 use Rattle.refusals.specs.Refusals.{first}
 use Rattle.refusals.proofs.Tests.{pass, none, not-t}
 use Rattle.header.specs.Header.{Header}
 use Rattle.output.specs.Output.{bigEndian}
 use Rattle.file_format.specs.Format.{byteAt, fourBytes, list2At, list3At, countAt, recordCount, recordsIn, recordsFrom, shapeTests, headerIn, listBytes, headerBytes, allBytes, body, fileOf}
+use Rattle.file_format.specs.Parsed.{fileRecord, Writable, ParsesBack}
 use Rattle.file_format.proofs.layout.ByteLaws.{length-all}
 use Rattle.file_format.proofs.layout.FileParts.{length-body, length-file}
-use Rattle.demands.proofs.read_back.Parsing.{fileRecord, Short, Stands, byte-at, two-at, four-at, list-at, records-at}
-
--- what the bytes of a file can hold
-pub record Writable (h : Header) (cs : List (J × Value 1)) : Type 0 where
-  pub lengths : Short (h .lengths)
-  pub indices : (c : J × Value 1) → Mem c cs → Short (c .0)
-  pub some : length cs ≡ 0 → ⊥
-  pub short : length (body h cs) < 4294967296
+use Rattle.file_format.proofs.Parsing.{Stands, byte-at, two-at, four-at, list-at, records-at}
 
 -- the parts of a header and what follows it, each before the rest
 header-right : (a b c d e f m n : List ℕ) → a ++ b ++ c ++ d ++ e ++ f ++ m ++ n ≡ a ++ (b ++ (c ++ (d ++ (e ++ (f ++ (m ++ n))))))
@@ -75,7 +68,7 @@ module _ (h : Header) (cs : List (J × Value 1)) (w : Writable h cs) where
 
   -- ---- the header
 
-  pub header-read : headerIn file ≡ h
+  header-read : headerIn file ≡ h
   header-read =
       let x = two-at file 6 (h .lengths .0) _ (w .lengths .h) (group-read .1) in
       let y = two-at file 8 (h .lengths .1) _ (w .lengths .k) (x .1) in
@@ -93,13 +86,14 @@ module _ (h : Header) (cs : List (J × Value 1)) (w : Writable h cs) where
   records-stand : (recordCount file ≡ length cs) × Stands file (countAt file + 4) (allBytes cs)
   records-stand = four-at file (countAt file) (length cs) (allBytes cs) few count-stands
 
-  pub records-read : recordsIn file ≡ map fileRecord cs
+  records-read : recordsIn file ≡ map fileRecord cs
   records-read = ap (recordsFrom file (countAt file + 4)) (records-stand .0) ∙ records-at file (countAt file + 4) cs (w .indices) (records-stand .1)
 
   -- ---- the shape
 
   filled : countAt file + 4 + 14 * recordCount file ≡ length file
-  filled = omega (arith, records-stand .0, length-drop (countAt file + 4) file, ap length (records-stand .1), length-all cs, w .some)
+  unfolding bigEndian
+  filled = omega (arith, records-stand .0, length-drop (countAt file) file, ap length count-stands, length-all cs)
 
   counted : fourBytes file 0 ≡ length file - 4
   counted = omega (arith, count-read .0, length-file h cs, length-body h cs)
@@ -107,13 +101,14 @@ module _ (h : Header) (cs : List (J × Value 1)) (w : Writable h cs) where
   long : 5 ≤ length file
   long = omega (arith, length-file h cs)
 
-  pub well-shaped : first (shapeTests file) ≡ 0
+  well-shaped : 0 ≡ first (shapeTests file)
   well-shaped =
-      let a = le-ltb (length file) 5 long in
+      let a = le-ltb (length file) _ long in
       let b = not-t _ (eq-eqb (fourBytes file 0) (length file - 4) counted) in
-      sym
-      (pass 15 _ (λ i. a i || b i)
+      pass 15 _ (λ i. a i || b i)
       (pass 16 _ (not-t _ (eq-eqb (byteAt file 4) 1 (version-read .0)))
       (pass 15 _ (not-t _ (eq-eqb (countAt file + 4 + 14 * recordCount file) (length file) filled))
-      (pass 17 _ (ne-eqb (recordCount file) 0 (λ z. w .some (sym (records-stand .0) ∙ z)))
-      none))))
+      none))
+
+pub parses-back : ParsesBack
+parses-back = record { shape = well-shaped; header = header-read; records = records-read }

@@ -74,7 +74,6 @@ enum {
     RECORDER_REFUSED_INCONSISTENT = 14,      /* no cell that obeys the group has these numbers */
     RECORDER_REFUSED_FILE_SHAPE = 15,        /* a file's bytes are not those that its count and header ask for */
     RECORDER_REFUSED_FILE_VERSION = 16,      /* a file's version not 1 */
-    RECORDER_REFUSED_NO_RECORDS = 17,        /* no records */
     RECORDER_REFUSED_OUTPUT_TOO_SHORT = 18,  /* output too short for the file */
     RECORDER_REFUSED_NOT_COLLECTING = 21,    /* a record while not collecting */
     RECORDER_REFUSED_NO_MAP = 22,            /* no map held */
@@ -124,17 +123,17 @@ recorder_answer recorder_open(uint32_t group, uint32_t kind, uint32_t n1, uint32
                               const uint8_t *factors1, size_t count1, const uint8_t *factors2, size_t count2,
                               const uint8_t *factors3, size_t count3, uint32_t *volume, size_t volume_length);
 
-/* Opens a job by a factor file of any bytes: an opening with kind 0, then its records, in whatever order they stand. A refused record
-   gives its place from 0 and leaves the volume zero; every other refusal changes nothing. A refused file gives a job of zeros, which
-   every call refuses.
-   Refusals: 15 the count is not the bytes that follow, 16 version not 1, 15 header, lists and records do not fill the file, 17 no
-   records, then those of an opening, then those of each record in its turn. */
+/* Opens a job by a factor file of any bytes: an opening with kind 0, then its records, in whatever order they stand; a file of no
+   records stands for a cell whose factors are all zero. A refused record gives its place from 0 and leaves the volume zero; every
+   other refusal changes nothing. A refused file gives a job of zeros, which every call refuses.
+   Refusals: 15 the count is not the bytes that follow, 16 version not 1, 15 header, lists and records do not fill the file, then
+   those of an opening, then those of each record in its turn. */
 recorder_file_answer recorder_open_file(const uint8_t *file, size_t file_length, uint32_t *volume, size_t volume_length);
 
 /* Writes the factor file of a job that holds factors: one record for each orbit with a value other than zero, at its lowest (h, k, l),
-   by rising h, then k, then l. So equal groups, lengths, factor lists and volumes give equal files, and a written file that is read and
+   by rising h, then k, then l; where all are zero, a file of no records. So equal groups, lengths, factor lists and volumes give equal files, and a written file that is read and
    written again is the same. Returns the count of bytes written; the places beyond are untouched.
-   Refusals: 25, 23 no factors held, 6 volume not exactly as long as required, 7, 14, 17 no records, 18 output too short. */
+   Refusals: 25, 23 no factors held, 6 volume not exactly as long as required, 7, 14, 18 output too short. */
 recorder_write_answer recorder_write_file(recorder_job job, const uint32_t *volume, size_t volume_length, uint8_t *out, size_t out_length);
 
 /* Records a + b i at an index, and the implied values at all images.

@@ -439,8 +439,6 @@ class Machine:
             if F[j] != (0, 0) and j not in seen:
                 records.append((*j, *F[j]))
                 seen.update(i for i, _ in images(g, n, j, F[j]))
-        if not records:
-            return 17, b""
         file = file_bytes(g, n, lists, records)
         return (18, b"") if len(file) > room else (0, file)
 
@@ -552,8 +550,6 @@ def open_file(file, lent):
     at += 4
     if at + 14 * count != len(file):
         return 15, 0, None
-    if count == 0:
-        return 17, 0, None
     g = file[5]
     n = tuple(number(file[q:q + 2]) for q in (6, 8, 10))
     if g > 4:

@@ -260,6 +260,25 @@ def cases():
                 if x:
                     say(8, place, 0)
             say(7, 4096)
+
+    # files of no records at every byte and length; written back as they are read, after a synthesis and an analysis, and once a record has come
+    for g in range(5):
+        for n in [(2, 2, 2), (4, 6, 6)]:
+            file = file_bytes(g, n, lists(n), [])
+            say_file(file)
+            say(2, volume_length(g, n))
+            if n == (2, 2, 2):
+                say(4)
+            say(3)
+            for room in (len(file), len(file) - 1, 4096, 0):
+                say(7, room)
+            for calls in ([(4, *index(n)), (1,)] + [(3, *index(n)) for _ in range(4)] + [(2,), (4, *index(n))], [(0, 0, 0, 0, 5, 0), (1,), (3, *index(n)), (2,)]):
+                say_file(file)
+                say(3)
+                for call in calls:
+                    say(5, *call)
+                say(6, SCRATCH, 3 * len(calls))
+                say(7, 4096)
     return out + [*faulty_files(), *(case for g in range(5) for case in (*faulty_records(g), *faulty_writings(g)))]
 
 
@@ -267,10 +286,12 @@ def cases():
 
 def faulty_files():
     """Files of P1 whose count is wrong (fault 0 here), with a byte beyond their records (15), with faults of version, header and length of the
-    volume, and with a second record that has 10."""
-    for turn, faults in fault_sets((0, 16, 15, 17, 8, 3, 4, 5, 9, 6, 10)):
+    volume, and with a second record that has 10; then files of no records."""
+    every = [(turn, faults, False) for turn, faults in fault_sets((0, 16, 15, 8, 3, 4, 5, 9, 6, 10))]
+    every += [(turn, faults, True) for turn, faults in fault_sets((0, 16, 15, 8, 3, 4, 5, 9, 6))]
+    for turn, faults, empty in every:
         n, lists = faulty_header((4, 4, 6), faults)
-        records = [] if 17 in faults else [(0, 0, 0, 5, 0), (1, 1, n[2] if 10 in faults else 1, 3, 4)]
+        records = [] if empty else [(0, 0, 0, 5, 0), (1, 1, n[2] if 10 in faults else 1, 3, 4)]
         body = file_bytes(5 if 8 in faults else 0, n, lists, records)[4:] + bytes(15 in faults)
         if 16 in faults:
             body = bytes([2 * (turn % 2)]) + body[1:]
@@ -291,20 +312,21 @@ def faulty_records(g):
 
 
 def faulty_writings(g):
-    """Writings of the job with F(0,0,0) = 5. In Pa a zero pair is what makes its factors inconsistent, so that 14 is told from 17."""
+    """Writings of the job with F(0,0,0) = 5, and of that whose factors are all zero. In Pa a zero pair is what makes its factors inconsistent."""
     n = (4, 4, 6)
     length = volume_length(g, n)
     file = file_bytes(g, n, [[2], [2], [3]], [(0, 0, 0, 5, 0)])
     job = open_file(file, length)[2].job()
     inconsistent = pair(n, 0 if g == 3 else 1, 1, 0)
     yield from ((2, (length,)), (0, ()), (1, (file,)), (3, ()))
-    for turn, faults in fault_sets((25, 23, 6, 7, 14, 17, 18)):
-        pokes = [poke for fault, *poke in ((7, 1, P, 0), (14, inconsistent, 1, 0), (17, 0, 0, 5)) if fault in faults]
+    every = [(turn, faults, empty) for empty in (False, True) for turn, faults in fault_sets((25, 23, 6, 7, 14, 18))]
+    for turn, faults, empty in every:
+        pokes = [poke for holds, *poke in ((7 in faults, 1, P, 0), (14 in faults, inconsistent, 1, 0), (empty, 0, 0, 5)) if holds]
         yield 9, faulty_job(job, 5, faults, turn)
         for place, wrong, _ in pokes:
             yield 8, (place, wrong)
         yield 2, (length + (-1, 1)[turn % 2] if 6 in faults else length,)
-        yield 7, (4096 if 18 not in faults else len(file) - 1 if len(faults) == 1 else 0,)
+        yield 7, (4096 if 18 not in faults else len(file) - 14 * empty - 1 if len(faults) == 1 else 0,)
         yield 2, (length,)
         for place, _, right in pokes:
             yield 8, (place, right)

@@ -27,13 +27,13 @@ from brute_force import (LIMIT, P, ROOT, Book, all_points, analysed, e, file_byt
 from printer_test import files
 
 SEED = 1973
-# Every refusal that the tool's input can give, readings outside the cell and the writing of an empty map among them.
-REFUSALS = {"factor file": {3, 4, 5, 7, 8, 9, 10, 11, 12, 15, 16, 17, 24}, "map file": {3, 4, 5, 7, 8, 9, 10, 14, 15, 16, 17},
+# Every refusal that the tool's input can give, readings outside the cell among them.
+REFUSALS = {"factor file": {3, 4, 5, 7, 8, 9, 10, 11, 12, 15, 16, 24}, "map file": {3, 4, 5, 7, 8, 9, 10, 14, 15, 16},
             "line": {1, 2, 3, 4, 5, 6, 7}}
 COMMANDS = ["map", "factors", "rewrite", "records", "check", "info", "point", "factor", "line"]
 LARGE = [(0, 240, [4, 5, 3, 2]), (1, 288, [4, 4, 3, 3]), (4, 240, [2, 3, 4, 5])]
 GROUPS = ["P1", "P2_1", "Pm", "Pa", "P2_1 2_1 2_1"]
-SAMPLES = [("p21", 6), ("p212121", 37)]
+SAMPLES = [("p21", 6), ("p212121", 37), ("empty", 0)]
 RECORDS = 7000
 SIGNALS = 50
 
@@ -234,6 +234,20 @@ def small_grids(tool):
         tool.expect(what + ": check", (status, out.split(b"\n")[0], err), (1, b"refused %d at %d" % (refused, place), b""))
 
 
+def empty_cells(tool):
+    """Map files of zeros: factor files of no records, and back."""
+    for g in range(5):
+        for n in [(2, 2, 2), (4, 2, 6), (6, 4, 4)]:
+            lists = [[m // 2] if m > 2 else [] for m in n]
+            what = "a cell of zeros of group %d, %s" % (g, n)
+            zeros = map_bytes(g, n, lists, {q: 0 for q in all_points(n)})
+            path = tool.file("zeros.map", zeros)
+            tool.expect(what + ": factors", tool.run("factors", path, "-o", tool.path("zeros")), (0, b"", b""))
+            tool.expect(what + ": the factor file", open(tool.path("zeros"), "rb").read(), file_bytes(g, n, lists, []))
+            tool.expect(what + ": its records", tool.run("records", tool.path("zeros")), (0, b"", b""))
+            tool.expect(what + ": its map", tool.run("map", tool.path("zeros"), "-o", "-"), (0, zeros, b""))
+
+
 def full_cells(tool):
     """Map files of random densities: as many records as a grid has orbits, back and forth."""
     rng = random.Random(SEED)
@@ -276,7 +290,7 @@ def refused_records(tool):
 
 
 def refused_headers(tool):
-    """Headers in a factor file and in a map file: every refusal of an opening."""
+    """Headers in a factor file, also in one of no records, and in a map file: every refusal of an opening."""
     for g, n, lists, refusal in [(5, (2, 2, 2), [[], [], []], 8), (255, (2, 2, 2), [[], [], []], 8), (0, (2, 0, 2), [[], [], []], 3),
                                  (1, (2, 2, 14), [[], [], [7]], 3), (2, (5760, 2, 2), [[], [], []], 3), (3, (8, 8, 8), [[4], [6], [4]], 4),
                                  (0, (8, 8, 8), [[4], [4], [1, 4]], 4), (0, (8, 8, 8), [[4], [2], [4]], 5), (0, (2, 2, 4), [[], [], []], 5),
@@ -284,8 +298,9 @@ def refused_headers(tool):
                                  (2, (2880, 2880, 2880), [[5, 4, 4, 3, 3, 2]] * 3, 9), (4, (360, 360, 288), [[5, 4, 3, 3]] * 2 + [[4, 4, 3, 3]], 9)]:
         what = "header %d %s %s" % (g, n, lists)
         factors = tool.file("factors", file_bytes(g, n, lists, [(0, 0, 0, 1, 0)]))
+        empty = tool.file("empty", file_bytes(g, n, lists, []))
         densities = tool.file("densities", map_head(g, n, lists) + bytes(64))
-        for path in (factors, densities):
+        for path in (factors, empty, densities):
             for words in (("map", path), ("info", path), ("factors", path, "-o", tool.path("none")), ("factor", path, 0, 0, 0)):
                 tool.refused(what, words, refusal)
 
@@ -306,7 +321,6 @@ def refused_maps(tool):
     tool.expect("its place", (status, b"found: density 86399 at x 1, y 3, z 1\n" in out), (1, True))
     for g in (3, 4):
         tool.refused("a map that is not one of %s" % GROUPS[g], ("map", tool.file("maps", map_bytes(g, n, lists, M))), 14)
-    tool.refused("no records", ("factors", tool.file("maps", map_head(0, n, lists) + bytes(64)), "-o", tool.path("none")), 17)
     tool.expect("refused commands write no file", os.path.exists(tool.path("none")), False)
 
 
@@ -595,7 +609,7 @@ def progress(tool):
 def main():
     with tempfile.TemporaryDirectory() as folder:
         tool = Tool(os.path.abspath(sys.argv[1]), folder)
-        for part in (samples, small_grids, full_cells, refused_records, refused_headers, refused_maps, lines, command_line, files_and_streams,
+        for part in (samples, small_grids, empty_cells, full_cells, refused_records, refused_headers, refused_maps, lines, command_line, files_and_streams,
                      too_long, one_file, replaced, large_grids, closed_pipe, named_pipe, ended_by_signals, progress):
             part(tool)
         tool.expect("the refusals", tool.seen, REFUSALS)

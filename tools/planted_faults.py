@@ -43,7 +43,7 @@ ORBIT = "        orbit = images(g, n, j, (a, b))\n"
 WRITER_STATE = refusal("s == 2", 23, ', b""')
 WRITER_NUMBERS = refusal("any(x >= P for x in v)", 7, ', b""')
 WRITER_WHOLE = refusal("not consistent(g, n, v)", 14, ', b""')
-WRITER_EMPTY = refusal("not records", 17, ', b""')
+WRITER_FILE = "        file = file_bytes(g, n, lists, records)\n"
 MAP_NUMBERS = refusal("any(x >= P for x in v)", 7, indent=12)
 MAP_WHOLE = refusal("not consistent_map(g, n, v)", 14, indent=12)
 HEADER = "        fault = header_fault(g, n, self.lists)\n"
@@ -52,7 +52,7 @@ PRODUCTS = "    if not all(product(fs) == m // 2 for fs, m in zip(lists, n)):\n"
 AXIS = "    for m, fs in zip(n, lists):\n" + "".join(refusal(condition, number, "") for condition, number in (
     ("not admitted(m)", 3), ("not all(2 <= f <= 5 for f in fs)", 4), ("product(fs) != m // 2", 5)))
 FILE_REST = "    if at + 14 * count != len(file):\n"
-FILE_EMPTY = refusal("count == 0", 17, ", 0, None", 4)
+FILE_GROUP = "    g = file[5]\n"
 FILE_HEADER = "    fault = header_fault(g, n, lists)\n"
 
 # What is wrong, the text and what stands in its place.
@@ -82,13 +82,17 @@ FAULTS = [
     ("opening: 14 before 7", MAP_NUMBERS + MAP_WHOLE, MAP_WHOLE + MAP_NUMBERS),
     ("header: 3, 4, 5 axis by axis", ADMITTED, AXIS + ADMITTED),
     ("header: 9 before 5", PRODUCTS, refusal("volume_length(g, n) > LIMIT", 9, "", 4) + PRODUCTS),
-    ("file: 17 before 15", FILE_REST, FILE_EMPTY + FILE_REST),
-    ("file: 8 before 17", FILE_EMPTY, refusal("file[5] > 4", 8, ", 0, None", 4) + FILE_EMPTY),
+    ("file: 8 before 15 for the rest", FILE_REST, refusal("file[5] > 4", 8, ", 0, None", 4) + FILE_REST),
+    ("file: no records refused", FILE_GROUP, refusal("count == 0", 17, ", 0, None", 4) + FILE_GROUP),
+    ("file: no records taken whatever the header", FILE_HEADER, "    fault = count and header_fault(g, n, lists)\n"),
+    ("file: no records taken whatever the volume", "    if lent != volume_length(g, n):\n", "    if count and lent != volume_length(g, n):\n"),
     ("file: 6 before 3, 4, 5 and 9", FILE_HEADER, refusal("lent != volume_length(g, n)", 6, ", 0, None", 4) + FILE_HEADER),
     ("writer: 6 before 23", WRITER_STATE, refusal("len(self.lent()) != volume_length(g, n)", 6, ', b""') + WRITER_STATE),
     ("writer: 14 before 7", WRITER_NUMBERS + WRITER_WHOLE, WRITER_WHOLE + WRITER_NUMBERS),
-    ("writer: 17 before 14", WRITER_WHOLE, refusal("not any(any(x) for x in read_cell(g, n, v).values())", 17, ', b""') + WRITER_WHOLE),
-    ("writer: 18 before 17", WRITER_EMPTY, refusal("len(file_bytes(g, n, lists, records)) > room", 18, ', b""') + WRITER_EMPTY),
+    ("writer: 18 before 14", WRITER_WHOLE, refusal("room < 19", 18, ', b""') + WRITER_WHOLE),
+    ("writer: no records refused", WRITER_FILE, refusal("not records", 17, ', b""') + WRITER_FILE),
+    ("writer: no records refused where the file fits", "        return (18, b\"\") if len(file) > room else (0, file)\n",
+     "        return (18, b\"\") if len(file) > room else (0, file) if records else (17, b\"\")\n"),
 ]
 
 # Sums over the cell and checksums, in which no fault is planted, are computed once for all.

@@ -3,7 +3,7 @@
 
     printer_test.py PROGRAM
 
-Files of all five groups with random records, the paper's specimen, refused files of every kind, files cut at every length, a file of more than
+Files of all five groups with random records and with none, the paper's specimen, refused files of every kind, files cut at every length, a file of more than
 8,192 bytes and grids that need more than 2,048 numbers. The maps are those of the book in brute_force.py (triple sums over the whole cell). The
 seed is fixed. Prints how many files agreed; the exit status is 1 where one did not.
 """
@@ -77,6 +77,11 @@ def files():
             yield file_bytes(g, n, lists(n), [])
             yield file_bytes(g + 5, n, lists(n), rs)
             yield file_bytes(g, n, [[7]] + lists(n)[1:], rs)
+        for n in [(24, 24, 24), (288, 288, 288), (360, 360, 360)]:
+            yield file_bytes(g, n, lists(n), [])
+        for n, factors in [((4, 4, 14), [[2], [2], [7]]), ((4, 4, 4), [[2], [7], [2]]), ((4, 4, 4), [[2, 2], [2], [2]])]:
+            yield file_bytes(g, n, factors, [])
+        yield file_bytes(g + 5, (4, 4, 4), [[2], [2], [2]], [])
         for n in [(24, 24, 24), (240, 240, 240), (288, 288, 288)]:
             yield file_bytes(g, n, lists(n), [(1, 2, 3, 4, 5)])
         n = (4, 4, 4)

@@ -93,7 +93,6 @@ fn words(number: u32) -> (&'static str, &'static str) {
             "fetch or write the file again: it was cut, lengthened or is no such file",
         ),
         16 => ("the version is not 1", "write the file as version 1"),
-        17 => ("there are no records", "give at least one record; a map of zeros has no factors to write"),
         18 => ("the output is too short", SHOULD_NOT_BE),
         21 => ("a record came while not collecting", SHOULD_NOT_BE),
         22 => ("no map is held", SHOULD_NOT_BE),

@@ -1,7 +1,7 @@
 -- The paper's number of each refusal.
 use Prim.Native.Nat.{ℕ, zero, suc}
 use Rattle.refusals.specs.declared.Refusal.{Refusal}
-use Rattle.refusals.specs.declared.Refusal.the-variants.{LineKind, Direction, Length, Factor, Product, BufferLength, NotResidue, Group, VolumeTooLarge, Index, ZeroValue, Contradiction, ScratchTooShort, Inconsistent, FileShape, FileVersion, NoRecords, OutputTooShort, NotCollecting, NoMap, NoFactors, Occupied, ImpossibleJob}
+use Rattle.refusals.specs.declared.Refusal.the-variants.{LineKind, Direction, Length, Factor, Product, BufferLength, NotResidue, Group, VolumeTooLarge, Index, ZeroValue, Contradiction, ScratchTooShort, Inconsistent, FileShape, FileVersion, OutputTooShort, NotCollecting, NoMap, NoFactors, Occupied, ImpossibleJob}
 use mathlib.Core.Bool.{Bool, cond}
 use mathlib.Core.List.{List, [], _∷_}
 
@@ -22,7 +22,6 @@ numberOf ScratchTooShort = 13
 numberOf Inconsistent = 14
 numberOf FileShape = 15
 numberOf FileVersion = 16
-numberOf NoRecords = 17
 numberOf OutputTooShort = 18
 numberOf NotCollecting = 21
 numberOf NoMap = 22

@@ -4,7 +4,7 @@
 ghost use mathlib.Core.Path.{_≡_};
 ghost use Rattle.refusals.specs.Refusals.{numberOf};
 
-// Why a call is turned back: one case for each number of the paper.
+// Why a call is turned back: one case for each number of the paper but 17, which no call gives any more: a file may have no records.
 pub enum Refusal {
     LineKind,
     Direction,
@@ -22,7 +22,6 @@ pub enum Refusal {
     Inconsistent,
     FileShape,
     FileVersion,
-    NoRecords,
     OutputTooShort,
     NotCollecting,
     NoMap,
@@ -58,7 +57,6 @@ pub fn number_of(r: Refusal) -> u32
         Refusal::Inconsistent => 14,
         Refusal::FileShape => 15,
         Refusal::FileVersion => 16,
-        Refusal::NoRecords => 17,
         Refusal::OutputTooShort => 18,
         Refusal::NotCollecting => 21,
         Refusal::NoMap => 22,

@@ -3,10 +3,10 @@
 
     host_test.py PROGRAM
 
-Small grids: the printer test's files, their maps as text and as map files, the factor files written from those, the files shuffled and
-rewritten, their records, readings of points and factors, all against the book of brute_force.py. Every refusal that a file, a map file or a line
-can give. Files that are damaged, empty, missing, endless or not to be written, or are the input itself; pipes that are closed; no memory;
-signals at random moments of writing. P1 and P2_1 2_1 2_1 at 240^3 and P2_1 at 288^3 there and back, byte for byte, with some densities summed
+Small grids: the printer test's files, files of no records among them, their maps as text and as map files, the factor files written from those, the
+files shuffled and rewritten, their records, readings of points and factors, all against the book of brute_force.py. Every refusal that a file, a map
+file or a line can give. Files that are damaged, empty, missing, endless or not to be written, or are the input itself; pipes that are closed; no
+memory; signals at random moments of writing. P1 and P2_1 2_1 2_1 at 240^3 and P2_1 at 288^3 there and back, byte for byte, with some densities summed
 directly. The seed is fixed. Prints how many comparisons agreed; the exit status is 1 where one did not.
 """
 import filecmp
@@ -298,7 +298,7 @@ def refused_headers(tool):
                                  (2, (2880, 2880, 2880), [[5, 4, 4, 3, 3, 2]] * 3, 9), (4, (360, 360, 288), [[5, 4, 3, 3]] * 2 + [[4, 4, 3, 3]], 9)]:
         what = "header %d %s %s" % (g, n, lists)
         factors = tool.file("factors", file_bytes(g, n, lists, [(0, 0, 0, 1, 0)]))
-        empty = tool.file("empty", file_bytes(g, n, lists, []))
+        empty = tool.file("no_records", file_bytes(g, n, lists, []))
         densities = tool.file("densities", map_head(g, n, lists) + bytes(64))
         for path in (factors, empty, densities):
             for words in (("map", path), ("info", path), ("factors", path, "-o", tool.path("none")), ("factor", path, 0, 0, 0)):
@@ -609,8 +609,8 @@ def progress(tool):
 def main():
     with tempfile.TemporaryDirectory() as folder:
         tool = Tool(os.path.abspath(sys.argv[1]), folder)
-        for part in (samples, small_grids, empty_cells, full_cells, refused_records, refused_headers, refused_maps, lines, command_line, files_and_streams,
-                     too_long, one_file, replaced, large_grids, closed_pipe, named_pipe, ended_by_signals, progress):
+        for part in (samples, small_grids, empty_cells, full_cells, refused_records, refused_headers, refused_maps, lines, command_line,
+                     files_and_streams, too_long, one_file, replaced, large_grids, closed_pipe, named_pipe, ended_by_signals, progress):
             part(tool)
         tool.expect("the refusals", tool.seen, REFUSALS)
     print("%d comparisons agree, %d do not" % (tool.agreed, tool.wrong))

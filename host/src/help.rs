@@ -34,6 +34,7 @@ recorder factors FILE -o OUT
 
 Analyses the map of a map file and writes its factor file to OUT (- is standard output): a record for each orbit with a value other than zero, at
 its lowest h, k, l, rising. A file of that form, made a map and written again, is the same byte for byte. Of a factor file it writes that form.
+A map of zeros gives a factor file of no records.
 ";
 
 pub const REWRITE: &str = "\
@@ -47,7 +48,8 @@ be laid one over the other; a file that was rewritten stays as it is. OUT takes 
 pub const RECORDS: &str = "\
 recorder records FILE
 
-Prints the records of a factor file that is accepted, in the order in which they stand there: 'h k l a b', a line each.
+Prints the records of a factor file that is accepted, in the order in which they stand there: 'h k l a b', a line each. Of a file of no
+records, which stands for a cell whose factors are all zero, it prints nothing.
 ";
 
 pub const CHECK: &str = "\

@@ -10,12 +10,16 @@ use native.Mathlib.Decide.{ℕ-discrete}
 use lib.ListN.{length, replicate, length-replicate}
 use lib.Dec.{eqb}
 use borrow.Author.Tests.{not-false, leb-false, eqb-true, eq-eqb, ne-eqb}
-use Rattle.algebra.specs.ring.Ring.{gauss, residues}
+use Rattle.algebra.specs.ring.Ring.{Ops, gauss, residues}
+use Rattle.algebra.specs.ring.RingLaws.{CRing}
+use Rattle.algebra.specs.fourier.Axis.{Axis}
+use Rattle.algebra.specs.cells.Cell as Cell
 use Rattle.algebra.specs.cells.Cell.{J, Group, P1, P2₁, Pm, Pa, P2₁2₁2₁}
 use Rattle.algebra.specs.cells.CellPack as Pack
 use Rattle.algebra.specs.cells.CellPack.{even, partOf, packAlt}
 use Rattle.algebra.specs.cells.CellSteps.{Lawful}
-use Rattle.algebra.proofs.ring.Laws.{neg-zero}
+use Rattle.algebra.proofs.ring.Laws.{neg-zero, zero-mul}
+use Rattle.algebra.proofs.fourier.Sums.{sum-all-zero}
 use Rattle.algebra.proofs.cells.CellGroup.{implied-zero}
 use Rattle.algebra.proofs.cells.CellTests.{Positive}
 use Rattle.numbers.specs.Value.{prime, Value, field, conj, i, ring, value, valueOf}
@@ -28,7 +32,7 @@ use Rattle.slices.proofs.Bounds.{below-replicate, below-allBelow, allBelow-belo
 use Rattle.slices.proofs.Segments.{at-zeros}
 use Rattle.refusals.specs.Refusals.{first, accepted}
 use Rattle.refusals.proofs.Tests.{both, Passed, passed, pass, not-t, none as no-test}
-use Rattle.cell.specs.Volume.{groupOf, volumeLength, packFactors}
+use Rattle.cell.specs.Volume.{groupOf, volumeLength, packFactors, axis, mapOf}
 use Rattle.cell.specs.Consistency.{consistentMap}
 use Rattle.cell.specs.Exactly.{MapConsistent}
 use Rattle.cell.proofs.VolumeLayout.{place-inside, below-map}
@@ -75,6 +79,22 @@ unfolding valueOf
 zero-packed g a long =
     packed-list g a long 1 (λ h k l. value 1 0 0) (zero-lawful g a) (replicate (volumeLength g a) 0) (length-replicate (volumeLength g a) 0) (below-replicate (volumeLength g a) 0 (prime-pos 1))
     (λ w h k lw lh lk. zero-pair g a w h k ∙ ap (valueOf 1) (sym (at-zeros _ _ (place-inside g a lw lh (omega arith)))))
+
+-- its map is zero at every point
+module _ {R : Type 0} {𝓞 : Ops R} (𝓡 : CRing 𝓞) where
+  open Ops 𝓞 using (mul as _⊗_, zer as 𝟘)
+
+  infixl 70 _⊗_
+  zero-term : (a b c : R) → 𝟘 ⊗ a ⊗ b ⊗ c ≡ 𝟘
+  zero-term a b c = ap (λ t. t ⊗ b ⊗ c) (zero-mul 𝓡 a) ∙ ap (λ t. t ⊗ c) (zero-mul 𝓡 b) ∙ zero-mul 𝓡 c
+
+  zero-sums : (X Y Z : Axis R) (x y z : ℕ) → Cell.mapOf 𝓞 X Y Z (λ h k l. 𝟘) x y z ≡ 𝟘
+  unfolding Cell.mapOf
+  zero-sums X Y Z x y z = sum-all-zero 𝓡 _ _ (λ h i. sum-all-zero 𝓡 _ _ (λ k i. sum-all-zero 𝓡 _ _ (λ l i. zero-term _ _ _)))
+
+pub zero-map : (a x : J) → Cell.at (mapOf 1 a (λ h k l. value 1 0 0)) x ≡ value 1 0 0
+unfolding gauss residues
+zero-map a x = zero-sums (field-ring 1) (axis 1 (a .0)) (axis 1 (a .1)) (axis 1 (a .2)) (x .0) (x .1) (x .2)
 
 -- ---- an opening that no test refuses
 

@@ -10,12 +10,13 @@ use lib.ListN.{length, take, drop, replicate}
 use Rattle.algebra.specs.cells.Cell.{J}
 use Rattle.algebra.specs.orbits.Orbit.{Mem}
 use Rattle.job.specs.declared.Job.{Job}
+use Rattle.numbers.specs.Value.{value}
 use Rattle.refusals.specs.Refusals.{first}
 use Rattle.job.specs.Job.{needed, collecting, factorsHeld, withState, headerOf, validJob, opened, openStep, index}
 use Rattle.file_format.specs.declared.FileRecord.{FileRecord}
 use Rattle.file_format.specs.Format.{fileOf}
 use Rattle.factor_file.specs.File.{indexOf, recordCount, recordsIn, shapeTests, headerIn, fileStep, writeStep}
-use Rattle.model.specs.Model.{Model, zeroModel}
+use Rattle.model.specs.Model.{Model, densityOf, zeroModel}
 use Rattle.output.specs.Output.{written}
 use Rattle.factor_file.specs.RecordOrder.{Rising, LowestOfOrbit}
 use Rattle.demands.specs.Demands.{reading, Started, Reordered}
@@ -65,6 +66,8 @@ pub record EmptyFiles : Type 0 where
   pub opens : (file v : List ℕ) → 0 ≡ first (shapeTests file) → recordCount file ≡ 0 → fileStep file v ≡ openStep (headerIn file) 0 v
   -- where it is accepted, F is zero everywhere, and so is the volume
   pub zero : (file v : List ℕ) (j : Job) (w : List ℕ) (m : Model) → Started (reading file v) j w m → recordCount file ≡ 0 → (m ≡ zeroModel (headerIn file)) × (w ≡ replicate (length v) 0)
+  -- and so is its map, at every point
+  pub map : (file v : List ℕ) (j : Job) (w : List ℕ) (m : Model) → Started (reading file v) j w m → recordCount file ≡ 0 → (x : J) → densityOf m x ≡ value 1 0 0
   -- the writer gives it for a volume of zeros ..
   pub written : (j : Job) (output : List ℕ) → validJob j ≡ true → WithFactors j → let file = fileOf (headerOf j) [] in
       length file ≤ length output → Writes j (replicate (needed (headerOf j)) 0) output file

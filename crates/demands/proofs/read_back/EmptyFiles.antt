@@ -23,15 +23,15 @@ use Rattle.cell.proofs.Tests.{true-iff}
 use Rattle.cell.proofs.Reading.{same-iff, read-packed}
 use Rattle.cell.proofs.Consistency.{factors-consistent}
 use Rattle.job.specs.declared.Job.{Job}
-use Rattle.job.specs.Job.{Header, needed, headerOf, validJob, collecting, mapHeld, groupIn, halves, p, jobOf, Opening, opened, notOpened, OpenOutcome, openTests, openStep}
+use Rattle.job.specs.Job.{Header, halfLengths, needed, headerOf, validJob, collecting, mapHeld, groupIn, halves, p, jobOf, Opening, opened, notOpened, OpenOutcome, openTests, openStep}
 use Rattle.job.proofs.Jobs.{valid-job-sizes}
 use Rattle.file_format.specs.Format.{fileOf}
 use Rattle.factor_file.specs.File.{countAt, recordCount, recordsFrom, recordsIn, shapeTests, headerIn, feed, fileStep, noLater, jobRecords, jobFile, writeTests}
 use Rattle.factor_file.proofs.file.Places.{records-none}
-use Rattle.model.specs.Model.{Model, zeroModel}
+use Rattle.model.specs.Model.{Model, densityOf, zeroModel}
 use Rattle.demands.specs.Demands.{reading, modelEnd, Started}
 use Rattle.demands.specs.Written.{Writes, WithFactors, EmptyFiles}
-use Rattle.demands.proofs.Openings.{zero-lawful, zero-packed}
+use Rattle.demands.proofs.Openings.{zero-lawful, zero-packed, zero-map}
 use Rattle.demands.proofs.Starts.{afterOpening, file-shape, opened-passes}
 use Rattle.demands.proofs.AcceptedRecords.{Fed, start-fed}
 use Rattle.demands.proofs.read_back.ReadBack.{reads-back}
@@ -115,6 +115,7 @@ pub empty-files : EmptyFiles
 empty-files = record {
   opens = opens;
   zero = λ file v j w m started empty. (zero-model file v j w m started empty, opened-zero file v j w (started .gives) empty);
+  map = λ file v j w m started empty x. ap (λ m. densityOf m x) (zero-model file v j w m started empty) ∙ zero-map (halfLengths (headerIn file .lengths)) x;
   written = λ j output valid held room. subst (Writes j (zeros j valid) output) (empty j valid) (accepted-writes j (zeros j valid) output (passes j valid output held room));
   only = λ j v output file x empty. opened-zero file v _ v (reads-back .reads-back j v output file v x refl) empty;
 }

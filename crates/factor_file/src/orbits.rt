@@ -15,8 +15,23 @@ fn no_later(i: Index, j: Index) -> bool
     (i.h < j.h) | ((i.h == j.h) & ((i.k < j.k) | ((i.k == j.k) & (i.l <= j.l))))
 }
 
-// No image of j comes before it. The first operation leaves j where it is, and need not be tried.
+// No image of j comes before it. In P1 the one other image is the Friedel mate, which comes later wherever h is between 0 and N1/2.
 pub fn lowest(cell: UnitCell, j: Index) -> bool
+    requires { ⌜ Sizes cell × Within cell j ⌝ }
+    ensures { λ r. ⌜ r ≡ isLowest (cellGroup cell) (cellHalves cell) (tripleOf j) ⌝ }
+{
+    if cell.group == 0 {
+        if j.h < cell.n1 / 2 {
+            if 0 < j.h {
+                return true;
+            }
+        }
+    }
+    none_before(cell, j)
+}
+
+// The same by trying every image. The first operation leaves j where it is, and need not be tried.
+fn none_before(cell: UnitCell, j: Index) -> bool
     requires { ⌜ Sizes cell × Within cell j ⌝ }
     ensures { λ r. ⌜ r ≡ isLowest (cellGroup cell) (cellHalves cell) (tripleOf j) ⌝ }
 {

@@ -93,3 +93,26 @@ pub fn factor_at(m: u32, cell: UnitCell, j: Index, volume: &[u32]) -> Pair
         numbers::conjugate(m, x)
     }
 }
+
+// The same, for loops over all indices of the cell: between the ends of the stored half of a line, where most are, it is the pair at its
+// place, and no call is left there.
+pub fn walked_factor(m: u32, cell: UnitCell, j: Index, volume: &[u32]) -> Pair
+    requires { ⌜ IsModulus m × Sizes cell × Within cell j ⌝ }
+    requires { ⌜ length (now volume) ≡ volumeLength (cellGroup cell) (cellHalves cell) ⌝ }
+    requires { ⌜ allBelowAt (prime m) (now volume) (numbersRead (cellGroup cell) (cellHalves cell) (tripleOf j)) ≡ true ⌝ }
+    ensures { λ r. ⌜ r ≡ pairOf (factorsIn (cellGroup cell) (cellHalves cell) m (now (volume .entry)) (j .h) (j .k) (j .l)) ⌝ }
+{
+    let i = places::stored_column(cell, j);
+    if places::is_end(cell.n3, i.l) {
+        return factor_at(m, cell, j, volume);
+    }
+    if places::stored_count(cell) <= i.l {
+        return factor_at(m, cell, j, volume);
+    }
+    let x = crate::stored::between_value(m, cell, volume, i);
+    if j.k <= cell.n2 / 2 {
+        x
+    } else {
+        numbers::conjugate(m, x)
+    }
+}

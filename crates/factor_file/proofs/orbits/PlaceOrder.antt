@@ -1,11 +1,11 @@
--- The order of places: the identity leaves a place where it is, and beyond N1/2 the Friedel mate comes before.
+-- The order of places: the identity leaves a place where it is; the Friedel mate comes before beyond N1/2, and later below it.
 use mathlib.Core.Path.{_≡_, refl, _∙_, ap, subst}
 use mathlib.Core.Bool.{Bool, true, false, _&&_, _||_}
 use Prim.Native.Nat.{ℕ, _*_, _-_, _<_, _≤_}
 use native.Mathlib.Omega.{arith}
-use lib.Dec.{T}
-use borrow.Author.Tests.{le-ltb, eq-eqb, ne-eqb, le-leb}
-use Rattle.algebra.specs.cells.Cell.{J, Group, one, friedel, full, imageOf, negI, flip}
+use lib.Dec.{T, ltb}
+use borrow.Author.Tests.{lt-ltb, le-ltb, eq-eqb, ne-eqb, le-leb}
+use Rattle.algebra.specs.cells.Cell.{J, Group, P1, one, friedel, full, imageOf, negI, flip, every}
 use Rattle.algebra.proofs.ring.Bool.{same-test, every-at}
 use Rattle.algebra.proofs.cells.CellAxis.{neg-pos}
 use Rattle.algebra.proofs.cells.CellGroup.{friedel-mem}
@@ -40,3 +40,21 @@ upper-not-lowest g a j u v = same-test (isLowest g a j) false (λ t. subst T mat
     -- h alone decides
     mate-before : noLater j (imageOf a friedel j) ≡ false
     mate-before = neither _ _ _ (le-ltb (j .0) (negI (a .0) (j .0)) (omega (arith, mate))) (ne-eqb (j .0) (negI (a .0) (j .0)) (λ e. omega (arith, mate, e)))
+
+-- In P1 there is no other image.
+pub lower-lowest : (a j : J) → 0 < j .0 → j .0 < a .0 → isLowest P1 a j ≡ true
+unfolding every imageOf flip
+lower-lowest a j u v = both (identity-no-later a j) (both mate-later refl)
+  where
+    both : {b c : Bool} → b ≡ true → c ≡ true → (b && c) ≡ true
+    both e f = λ i. e i && f i
+
+    either : (b rest : Bool) → b ≡ true → (b || rest) ≡ true
+    either b rest e = λ i. e i || rest
+
+    mate : negI (a .0) (j .0) ≡ 2 * a .0 - j .0
+    mate = neg-pos (a .0) (j .0) u (omega arith)
+
+    -- h alone decides
+    mate-later : noLater j (imageOf a friedel j) ≡ true
+    mate-later = either _ _ (lt-ltb (j .0) (negI (a .0) (j .0)) (omega (arith, mate)))

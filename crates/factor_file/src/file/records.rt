@@ -20,7 +20,7 @@ fn count_place(cell: UnitCell, j: Index, volume: &[u32]) -> usize
     ensures { λ r. ⌜ r ≡ length (placeRecords cell (now (volume .entry)) (tripleOf j)) ⌝ }
 {
     if crate::orbits::lowest(cell, j) {
-        let x = volume::read::factor_at(1, cell, j, volume);
+        let x = volume::read::walked_factor(1, cell, j, volume);
         if volume::stored::is_zero(x) { 0 } else { 1 }
     } else {
         0
@@ -49,7 +49,7 @@ fn put_place(cell: UnitCell, j: Index, volume: &[u32], out: &mut [u8], at: usize
     ensures { λ r. ⌜ Wrote at (allBytes (placeRecords cell (now (volume .entry)) (tripleOf j))) (now (out .entry)) r (now (out .exit)) ⌝ }
 {
     if crate::orbits::lowest(cell, j) {
-        let x = volume::read::factor_at(1, cell, j, volume);
+        let x = volume::read::walked_factor(1, cell, j, volume);
         if volume::stored::is_zero(x) {
             at
         } else {

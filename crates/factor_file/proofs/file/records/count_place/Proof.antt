@@ -13,8 +13,8 @@ use Rattle.factor_file.proofs.file.records.count_place.Tie as tie
 lowest-requires : tie.Need-lowest-requires
 lowest-requires c κs = let p = c .before .pre in (p .0 .volume .sizes, p .1)
 
-factor-at-requires : tie.Need-factor-at-requires
-factor-at-requires c κs =
+walked-factor-requires : tie.Need-walked-factor-requires
+walked-factor-requires c κs =
     let p = c .before .before .before .pre in
     ((first-modulus, p .0 .volume .sizes, p .1), (p .0 .volume .long, small-at-all (p .0 .small) _))
 
@@ -22,11 +22,11 @@ is-zero-requires : tie.Need-is-zero-requires
 is-zero-requires c κs = search needs
 
 -- the factor is the record's value
-found : (c : tie.After-factor-at) → let a = c .before .before .before .before .args in c .factor-at .result ≡ pairOf (recordValue (cellGroup (a .cell)) (cellHalves (a .cell)) (a .volume .now) (tripleOf (a .j)))
+found : (c : tie.After-walked-factor) → let a = c .before .before .before .before .args in c .walked-factor .result ≡ pairOf (recordValue (cellGroup (a .cell)) (cellHalves (a .cell)) (a .volume .now) (tripleOf (a .j)))
 found c =
     let t = c .before in
     let a = t .before .before .before .args in
-    lowest-value (cellGroup (a .cell)) (cellHalves (a .cell)) (a .volume .now) (tripleOf (a .j)) (sym (t .before .lowest .ensures) ∙ t .if1 .taken) (c .factor-at .ensures)
+    lowest-value (cellGroup (a .cell)) (cellHalves (a .cell)) (a .volume .now) (tripleOf (a .j)) (sym (t .before .lowest .ensures) ∙ t .if1 .taken) (c .walked-factor .ensures)
 
 returns : tie.Need-returns
 returns c =
@@ -52,7 +52,7 @@ count-place-spec =
     tie.close
     (tie.spec
     lowest-requires
-    factor-at-requires
+    walked-factor-requires
     is-zero-requires
     returns
     returns-2

@@ -14,17 +14,17 @@ use Rattle.factor_file.proofs.file.records.put_place.Statement.{stateme
 use Rattle.factor_file.proofs.file.records.put_place.Tie as tie
 
 -- the factor is the record's value
-found : (c : tie.After-factor-at) → let a = c .before .before .before .before .before .args in c .factor-at .result ≡ pairOf (recordValue (cellGroup (a .cell)) (cellHalves (a .cell)) (a .volume .now) (tripleOf (a .j)))
+found : (c : tie.After-walked-factor) → let a = c .before .before .before .before .before .args in c .walked-factor .result ≡ pairOf (recordValue (cellGroup (a .cell)) (cellHalves (a .cell)) (a .volume .now) (tripleOf (a .j)))
 found c =
     let t = c .before in
     let a = t .before .before .before .before .args in
-    lowest-value (cellGroup (a .cell)) (cellHalves (a .cell)) (a .volume .now) (tripleOf (a .j)) (sym (t .before .lowest .ensures) ∙ t .if1 .taken) (c .factor-at .ensures)
+    lowest-value (cellGroup (a .cell)) (cellHalves (a .cell)) (a .volume .now) (tripleOf (a .j)) (sym (t .before .lowest .ensures) ∙ t .if1 .taken) (c .walked-factor .ensures)
 
 -- the bytes of the record, once there is one
 bytes-are : (c : tie.Else2) →
     let x = c .before .before in
     let a = x .before .before .before .before .before .args in
-    pairBytes (tripleOf (a .j)) (x .factor-at .result) ≡ bytesAt (cellGroup (a .cell)) (cellHalves (a .cell)) (a .volume .now) (tripleOf (a .j) ∷ [])
+    pairBytes (tripleOf (a .j)) (x .walked-factor .result) ≡ bytesAt (cellGroup (a .cell)) (cellHalves (a .cell)) (a .volume .now) (tripleOf (a .j) ∷ [])
 bytes-are c =
     let z = c .before in
     let x = z .before in
@@ -34,8 +34,8 @@ bytes-are c =
 lowest-requires : tie.Need-lowest-requires
 lowest-requires c κs = let p = c .before .before .pre .0 in (p .0 .volume .sizes, p .1)
 
-factor-at-requires : tie.Need-factor-at-requires
-factor-at-requires c κs =
+walked-factor-requires : tie.Need-walked-factor-requires
+walked-factor-requires c κs =
     let p = c .before .before .before .before .pre .0 in
     ((first-modulus, p .0 .volume .sizes, p .1), (p .0 .volume .long, small-at-all (p .0 .small) _))
 
@@ -75,7 +75,7 @@ put-place-spec =
     tie.close
     (tie.spec
     lowest-requires
-    factor-at-requires
+    walked-factor-requires
     is-zero-requires
     put-record-requires
     returns

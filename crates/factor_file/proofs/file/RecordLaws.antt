@@ -91,10 +91,10 @@ module _ (g : Group) (a : J) (v : List ℕ) where
       found : {b : Bool} → t ≡ b → isZero (pairOf (recordValue g a v j)) ≡ b
       found h = sym (f ∙ ap isZero e) ∙ h
 
-      pub no-record : t ≡ true → recordsAt g a v (j ∷ []) ≡ []
+      no-record : t ≡ true → recordsAt g a v (j ∷ []) ≡ []
       no-record h = place-records ∙ ap (λ b. cond b [] (alone j (recordValue g a v j))) (found h)
 
-      pub one-record : t ≡ false → recordsAt g a v (j ∷ []) ≡ alone j (recordValue g a v j)
+      one-record : t ≡ false → recordsAt g a v (j ∷ []) ≡ alone j (recordValue g a v j)
       one-record h = place-records ∙ ap (λ b. cond b [] (alone j (recordValue g a v j))) (found h)
 
       pub no-bytes : (q : ℕ) (l : List ℕ) → t ≡ true → Wrote q (bytesAt (j ∷ [])) l q l

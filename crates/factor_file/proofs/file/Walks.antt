@@ -1,4 +1,4 @@
--- Going over the places of the cell: what was counted or written of those before a place, and what is left from it on.
+-- Going over the places of the cell: what was written of those before a place, and what is left from it on.
 use mathlib.Core.Path.{_≡_, refl, sym, _∙_, ap}
 use mathlib.Core.List.{List, [], _∷_}
 use Prim.Native.Nat.{ℕ, suc, _+_, _-_, _<_, _≤_}
@@ -52,26 +52,6 @@ fewer x = omega (arith, ap length (x .left))
 module _ {A : Type 0} {R : List J → List A} (s : Spreads R) where
   lengths : (j : J) (l m : List J) → m ≡ j ∷ l → length (R m) ≡ length (R (j ∷ [])) + length (R l)
   lengths j l m e = ap length (ap R e ∙ s .append (j ∷ []) l) ∙ length-append (R (j ∷ [])) (R l)
-
--- ---- a loop that counts
-
-pub record Counting {A : Type 0} (R : List J → List A) (cell : UnitCell) (count : ℕ) (j : Index) : Type 0 where
-  pub k : j .k < cell .n2
-  pub l : j .l < cell .n3
-  pub left : count + length (R (placesFrom cell (tripleOf j))) ≡ length (R (cellFrom (cell .n3) (cell .n2) 0 (cell .n1)))
-
-pub counting-start : {A : Type 0} (R : List J → List A) (cell : UnitCell) → 0 < cell .n2 → 0 < cell .n3 → Counting R cell 0 (record { h = 0; k = 0; l = 0 })
-counting-start R cell b c = record { k = b; l = c; left = omega (arith, ap (λ t. length (R t)) (first-places cell b)) }
-
-module _ {A : Type 0} {R : List J → List A} (s : Spreads R) {cell : UnitCell} {count r : ℕ} {j : Index} (c : Counting R cell count j) (e : r ≡ length (R (tripleOf j ∷ []))) where
-  pub counting-next : {i : Index} → Next cell j i → Counting R cell (count + r) i
-  counting-next {i} x = record { k = x .k; l = x .l; left = omega (arith, c .left, e, lengths s (tripleOf j) _ _ (x .left)) }
-
-  pub counting-most : j .h < cell .n1 → count + r ≤ length (R (cellFrom (cell .n3) (cell .n2) 0 (cell .n1)))
-  counting-most a = omega (arith, c .left, e, lengths s (tripleOf j) _ _ (here cell (j .h) (j .k) (j .l) a (c .k) (c .l)))
-
-pub counting-done : {A : Type 0} {R : List J → List A} → Spreads R → {cell : UnitCell} {count m : ℕ} → NoneBeyond R (cell .n1) m → {j : Index} → Counting R cell count j → m < j .h → count ≡ length (R (cellFrom (cell .n3) (cell .n2) 0 (cell .n1)))
-counting-done s {cell} none {j} c h = omega (arith, c .left, ap length (from-none s cell none (tripleOf j) h))
 
 -- ---- a loop that writes
 

@@ -1,5 +1,5 @@
 // The records of a volume of packed factors, counted and written: one for each orbit whose factor is not zero, at its lowest
-// place, by rising h, k, l. Counting and writing each go over the places up to h = N1/2: beyond, the Friedel mate comes before.
+// place, by rising h, k, l. One loop does both. It goes over the places up to h = N1/2: beyond, the Friedel mate comes before.
 use cell::operations::Index;
 use cell::operations::UnitCell;
 use file_format::FileRecord;
@@ -13,19 +13,6 @@ ghost use Rattle.file_format.specs.Format.{allBytes};
 ghost use Rattle.factor_file.specs.Steps.{IsFactors, pairBytes, Next, placeRecords, recordsWith};
 
 // ---- one place
-
-// How many records the place j has: one or none.
-fn count_place(cell: UnitCell, j: Index, volume: &[u32]) -> usize
-    requires { ⌜ IsFactors cell (now volume) × Within cell j ⌝ }
-    ensures { λ r. ⌜ r ≡ length (placeRecords cell (now (volume .entry)) (tripleOf j)) ⌝ }
-{
-    if crate::orbits::lowest(cell, j) {
-        let x = volume::read::walked_factor(1, cell, j, volume);
-        if volume::stored::is_zero(x) { 0 } else { 1 }
-    } else {
-        0
-    }
-}
 
 // A record: an index and the two numbers of its value.
 fn put_record(j: Index, x: Pair, out: &mut [u8], at: usize) -> usize
@@ -88,19 +75,6 @@ fn next_place(cell: UnitCell, j: Index) -> Index
     }
 }
 
-pub fn count_records(cell: UnitCell, volume: &[u32]) -> usize
-    requires { ⌜ IsFactors cell (now volume) ⌝ }
-    ensures { λ r. ⌜ r ≡ length (recordsWith cell (now (volume .entry))) ⌝ }
-{
-    let mut count: usize = 0;
-    let mut j = Index { h: 0, k: 0, l: 0 };
-    while j.h <= cell.n1 / 2 {
-        count += count_place(cell, j, volume);
-        j = next_place(cell, j);
-    }
-    count
-}
-
 pub fn put_records(cell: UnitCell, volume: &[u32], out: &mut [u8], start: usize) -> usize
     requires { ⌜ IsFactors cell (now volume) ⌝ }
     requires { ⌜ Ends start (allBytes (recordsWith cell (now volume))) ⌝ }
@@ -113,4 +87,13 @@ pub fn put_records(cell: UnitCell, volume: &[u32], out: &mut [u8], start: usize)
         j = next_place(cell, j);
     }
     at
+}
+
+// How many there are: an output of one byte has no room for them, and their bytes are counted all the same.
+pub fn count_records(cell: UnitCell, volume: &[u32]) -> usize
+    requires { ⌜ IsFactors cell (now volume) ⌝ }
+    ensures { λ r. ⌜ r ≡ length (recordsWith cell (now (volume .entry))) ⌝ }
+{
+    let mut small: [u8; 1] = [0];
+    put_records(cell, volume, &mut small, 0) / 14
 }

@@ -11,7 +11,8 @@ use Rattle.numbers.specs.Value.{Value, field, i, real, pairOf}
 use Rattle.numbers.specs.Bounds.{res}
 use Rattle.roots.specs.Table.{entryAt, tableRoot, RootTable}
 use Rattle.numbers.proofs.Values.{field-ring}
-use Rattle.butterflies.specs.Butterflies.{outerAt, Butterfly, evenPart, oddPart}
+use Rattle.butterflies.specs.Equation3.{outer}
+use Rattle.butterflies.specs.Butterflies.{Butterfly, evenPart, oddPart}
 use Rattle.butterflies.proofs.Cases.{below-2, below-3, below-4, below-5}
 use Rattle.butterflies.proofs.OuterSums.{outer-powers, two-0, two-1, three-0, three-1, three-2, four-0, four-1, four-2, four-3, five-0, five-1, five-2, five-3, five-4}
 use Rattle.butterflies.proofs.quarter_turn.Powers.{half-turn, power-parts, mate-parts}
@@ -33,7 +34,7 @@ module _ (m : ℕ) where
 
     pub two-butterfly : y 0 ≡ pairOf (X 0 ⊕ X 1) → y 1 ≡ pairOf (X 0 ⊕ ⊖ X 1) → Butterfly m W 2 X y
     two-butterfly e0 e1 = record {
-      sums = below-2 (λ c. y c ≡ pairOf (outerAt (field m) W 2 X c))
+      sums = below-2 (λ c. y c ≡ pairOf (outer (field m) W 2 X c))
           (e0 ∙ ap pairOf (sym (outer-powers (field-ring m) W 2 X 0 two-cycle ∙ two-0 (field-ring m) P X p0 p1)))
           (e1 ∙ ap pairOf (sym (outer-powers (field-ring m) W 2 X 1 two-cycle ∙ two-1 (field-ring m) P X p0 p1)));
     }
@@ -66,7 +67,7 @@ module _ (m : ℕ) where
 
       pub three-butterfly : y 0 ≡ pairOf (X 0 ⊕ (X 1 ⊕ X 2)) → y 1 ≡ pairOf (even-3 ⊕ odd-3) → y 2 ≡ pairOf (even-3 ⊕ ⊖ odd-3) → Butterfly m W 3 X y
       three-butterfly e0 e1 e2 = record {
-        sums = below-3 (λ c. y c ≡ pairOf (outerAt (field m) W 3 X c))
+        sums = below-3 (λ c. y c ≡ pairOf (outer (field m) W 3 X c))
             (e0 ∙ ap pairOf (sym (outer-powers (field-ring m) W 3 X 0 cycle ∙ three-0 (field-ring m) P X p0 _ _ _ p1 p2)))
             (e1 ∙ ap pairOf (sym (outer-powers (field-ring m) W 3 X 1 cycle ∙ three-1 (field-ring m) P X p0 _ _ _ p1 p2)))
             (e2 ∙ ap pairOf (sym (outer-powers (field-ring m) W 3 X 2 cycle ∙ three-2 (field-ring m) P X p0 _ _ _ p1 p2)));
@@ -95,7 +96,7 @@ module _ (m : ℕ) where
     pub four-butterfly : y 0 ≡ pairOf ((X 0 ⊕ X 2) ⊕ (X 1 ⊕ X 3)) → y 1 ≡ pairOf ((X 0 ⊕ ⊖ X 2) ⊕ quarter-4)
         → y 2 ≡ pairOf ((X 0 ⊕ X 2) ⊕ ⊖ (X 1 ⊕ X 3)) → y 3 ≡ pairOf ((X 0 ⊕ ⊖ X 2) ⊕ ⊖ quarter-4) → Butterfly m W 4 X y
     four-butterfly e0 e1 e2 e3 = record {
-      sums = below-4 (λ c. y c ≡ pairOf (outerAt (field m) W 4 X c))
+      sums = below-4 (λ c. y c ≡ pairOf (outer (field m) W 4 X c))
           (e0 ∙ ap pairOf (sym (outer-powers (field-ring m) W 4 X 0 cycle ∙ four-0 (field-ring m) P X p0 _ p1 p2 p3)))
           (e1 ∙ ap pairOf (sym (outer-powers (field-ring m) W 4 X 1 cycle ∙ four-1 (field-ring m) P X p0 _ p1 p2 p3)))
           (e2 ∙ ap pairOf (sym (outer-powers (field-ring m) W 4 X 2 cycle ∙ four-2 (field-ring m) P X p0 _ p1 p2 p3)))
@@ -139,7 +140,7 @@ module _ (m : ℕ) where
           → y 3 ≡ pairOf (far ⊕ ⊖ far-odd) → y 4 ≡ pairOf (near ⊕ ⊖ near-odd) → Butterfly m W 5 X y
       unfolding evenPart oddPart
       five-butterfly e0 e1 e2 e3 e4 = record {
-        sums = below-5 (λ c. y c ≡ pairOf (outerAt (field m) W 5 X c))
+        sums = below-5 (λ c. y c ≡ pairOf (outer (field m) W 5 X c))
             (e0 ∙ ap pairOf (sym (outer-powers (field-ring m) W 5 X 0 cycle ∙ five-0 (field-ring m) P X p0 _ _ _ _ _ p1 p2 p3 p4)))
             (e1 ∙ ap pairOf (sym (outer-powers (field-ring m) W 5 X 1 cycle ∙ five-1 (field-ring m) P X p0 _ _ _ _ _ p1 p2 p3 p4)))
             (e2 ∙ ap pairOf (sym (outer-powers (field-ring m) W 5 X 2 cycle ∙ five-2 (field-ring m) P X p0 _ _ _ _ _ p1 p2 p3 p4)))

@@ -1,3 +1,4 @@
+pub mod Equation3
 pub mod OuterSums
 pub mod Given
 pub mod Cases

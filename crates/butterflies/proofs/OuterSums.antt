@@ -7,7 +7,7 @@ use Rattle.algebra.specs.ring.RingLaws.{CRing}
 use Rattle.algebra.proofs.ring.Solver.{ring, quote}
 use Rattle.algebra.proofs.fourier.Sums.{sum-cong}
 use Rattle.algebra.proofs.fourier.Transform.{pow-mul, pow-mod}
-use Rattle.butterflies.specs.Butterflies.{e, outerAt}
+use Rattle.butterflies.specs.Equation3.{e, outer}
 
 module _ {R : Type 0} {𝓞 : Ops R} (𝓡 : CRing 𝓞) where
   open Ops 𝓞 using (add as _⊕_, mul as _⊗_, neg as ⊖_, zer as 𝟘, one as 𝟙)
@@ -17,8 +17,8 @@ module _ {R : Type 0} {𝓞 : Ops R} (𝓡 : CRing 𝓞) where
   infix 75 ⊖_
   -- the factors are the powers of w = e(1/B) below B
   pub outer-powers : (W : R) (B : ℕ) (X : ℕ → R) (c : ℕ) → pow 𝓞 (pow 𝓞 W (2880 / B)) B ≡ 𝟙
-      → outerAt 𝓞 W B X c ≡ sum 𝓞 B (λ b. pow 𝓞 (pow 𝓞 W (2880 / B)) (b * c % B) ⊗ X b)
-  unfolding outerAt e
+      → outer 𝓞 W B X c ≡ sum 𝓞 B (λ b. pow 𝓞 (pow 𝓞 W (2880 / B)) (b * c % B) ⊗ X b)
+  unfolding outer e
   outer-powers W B X c cycle = sum-cong 𝓡 B _ _ (λ b l. ap (λ y. y ⊗ X b) (pow-mul 𝓡 W (2880 / B) (b * c) ∙ sym (pow-mod 𝓡 (pow 𝓞 W (2880 / B)) B (b * c) cycle)))
 
   -- sums with their terms in order

@@ -1,10 +1,10 @@
--- The butterflies of equation (3) of document 001: the outer sums of B values, what a butterfly takes and gives, and where a step has it read and store.
--- W is a root of order 2,880, so that e(1/k) is W^(2880/k) for every k that divides 2,880.
+-- The butterflies of equation (3) of document 001: what a butterfly takes and gives, the values that it reads, with their factors, and where a step has it read and
+-- store. Equation3.antt beside this has the parts of the equation by their names.
 use Prim.Native.Nat.{ℕ, _*_, _/_, zero, suc, _<_, _+_}
 use mathlib.Core.Path.{_≡_}
 use mathlib.Core.List.{List}
 use lib.ListN.{length}
-use Rattle.algebra.specs.ring.Ring.{Ops, pow, sum}
+use Rattle.algebra.specs.ring.Ring.{Ops}
 use Rattle.numbers.specs.declared.Pair.{Pair}
 use Rattle.numbers.specs.declared.Accumulator.{Accumulator}
 use Rattle.numbers.specs.Value.{Value, field, i, real, pairOf}
@@ -19,19 +19,8 @@ use Rattle.butterflies.specs.declared.ThreeSums.{ThreeSums}
 use Rattle.butterflies.specs.declared.FourSums.{FourSums}
 use Rattle.butterflies.specs.declared.FiveSums.{FiveSums}
 use Rattle.slices.specs.Pairs.{valuesOf, puts}
+use Rattle.butterflies.specs.Equation3.{factor, outer}
 use Rattle.butterflies.specs.declared.twiddle.Places.{Places}
-
-module _ {R : Type 0} (𝓞 : Ops R) (W : R) where
-  open Ops 𝓞 using (mul as _⊗_)
-
-  infixl 70 _⊗_
-  -- the paper's e(x/k)
-  unfoldable pub e : (k x : ℕ) → R
-  e k x = pow 𝓞 W (2880 / k * x)
-
-  -- one outer sum of B values: the paper's factors e(b c/B)
-  unfoldable pub outerAt : (B : ℕ) → (ℕ → R) → ℕ → R
-  outerAt B X c = sum 𝓞 B (λ b. e B (b * c) ⊗ X b)
 
 -- ---- What a butterfly takes and gives: B sums that are not reduced become their B outer sums, reduced.
 
@@ -87,7 +76,7 @@ pub record AllRoom (B : ℕ) (x : ℕ → Accumulator) : Type 0 where
 
 -- y are the outer sums of X
 pub record Butterfly (m : ℕ) (W : Value m) (B : ℕ) (X : ℕ → Value m) (y : ℕ → Pair) : Type 0 where
-  pub sums : (c : ℕ) → c < B → y c ≡ pairOf (outerAt (field m) W B X c)
+  pub sums : (c : ℕ) → c < B → y c ≡ pairOf (outer (field m) W B X c)
 
 -- The two parts of a + w b + z c + z' d + w' e, where w' and z' are the conjugates of w and z: exchanging w, z and w', z' leaves the first and negates the second.
 module _ (m : ℕ) (w z : Pair) where
@@ -104,14 +93,18 @@ module _ (m : ℕ) (w z : Pair) where
 
 -- ---- The values that a butterfly of a step reads, times their factors.
 
--- the value for b times its factor W^(b k)
-unfoldable pub twiddledAt : (m : ℕ) → Value m → Places → List ℕ → ℕ → Value m
-twiddledAt m W p l b = field m .mul (pow (field m) W (b * p .k)) (valuesOf m l (b * p .stride + p .first))
+-- the value for b
+abbrev pub readAt : (m : ℕ) → Places → List ℕ → ℕ → Value m
+readAt m p l b = valuesOf m l (b * p .stride + p .first)
 
--- a stands for the value for b times its factor, and is at most as large as one product
+-- The factors at these places are those of the transform's 𝐚 in a split by A and B: W^k is e(𝐚/AB).
+abbrev pub FactorsOf : (A B 𝐚 : ℕ) → Places → Type 0
+FactorsOf A B 𝐚 p = p .k ≡ 2880 / (A * B) * 𝐚
+
+-- a stands for the value for b times the factor e(b𝐚/AB), and is at most as large as one product
 pub record Loaded (m : ℕ) (W : Value m) (p : Places) (l : List ℕ) (b : ℕ) (a : Accumulator) : Type 0 where
   pub room : Room 182890310402 a
-  pub value-is : meant m a ≡ twiddledAt m W p l b
+  pub value-is : (A B 𝐚 : ℕ) → FactorsOf A B 𝐚 p → meant m a ≡ factor (field m) W A B b 𝐚 (readAt m p l b)
 
 -- ---- Where their outer sums go.
 
@@ -119,9 +112,9 @@ pub record Loaded (m : ℕ) (W : Value m) (p : Places) (l : List ℕ) (b : ℕ) 
 abbrev pub spread : Places → (ℕ → Pair) → (B : ℕ) → List ℕ → List ℕ
 spread p f B d = puts (λ c. p .base + c * p .gap) f B d
 
--- d with the B outer sums of those values at their places
-unfoldable pub summed : (m : ℕ) → Value m → (B : ℕ) → Places → (l d : List ℕ) → List ℕ
-summed m W B p l d = spread p (λ c. pairOf (outerAt (field m) W B (twiddledAt m W p l) c)) B d
+-- d with the B outer sums at their places: the sum for 𝐛 is that over b of the value for b times its factor
+unfoldable pub outerSums : (m : ℕ) → Value m → (A B 𝐚 : ℕ) → Places → (l d : List ℕ) → List ℕ
+outerSums m W A B 𝐚 p l d = spread p (λ 𝐛. pairOf (outer (field m) W B (λ b. factor (field m) W A B b 𝐚 (readAt m p l b)) 𝐛)) B d
 
 -- the B values lie inside l, and their exponents in the tables
 pub record Reads (B : ℕ) (p : Places) (l : List ℕ) : Type 0 where

@@ -1,1 +1,2 @@
+pub mod Equation3
 pub mod Butterflies

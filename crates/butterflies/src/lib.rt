@@ -1,7 +1,7 @@
 // The butterflies of equation (3) of document 001: the outer sums of B values, for B of 2, 3, 4 and 5.
 //
 // They are functions of values: a step of the transform (module `radix`) says where those stand. A butterfly takes values that are not
-// reduced, such as products with their factors e(b s/AB), adds in 64 bits, and reduces each of its results once.
+// reduced, such as products with their factors e(b𝐚/AB), adds in 64 bits, and reduces each of its results once.
 //
 // e(1/2) is -1 and e(1/4) is i or -i, so that radix 2 and 4 need no product. At radix 3 and 5 the powers of w = e(1/B) come in conjugate
 // pairs, w^(B - k) = c - i s where w^k = c + i s: the values a and b that they multiply enter every sum as c (a + b) and s i (a - b), and
@@ -19,6 +19,7 @@ ghost use Rattle.numbers.specs.Value.{IsModulus, Value, field, real, pairOf};
 ghost use Rattle.numbers.specs.Bounds.{res};
 ghost use Rattle.numbers.specs.Unreduced.{Accumulated, meant, Room};
 ghost use Rattle.roots.specs.Table.{tableRoot, RootTable};
+ghost use Rattle.butterflies.specs.Equation3.{EquationThree};
 ghost use Rattle.butterflies.specs.Butterflies.{ofTwo, ofThree, ofFour, ofFive, ofTwoSums, ofThreeSums, ofFourSums, ofFiveSums, AllRoom, Butterfly, evenPart, oddPart};
 
 // What a butterfly takes: values that are not reduced.
@@ -192,3 +193,8 @@ fn weighed(c: u32, t: Accumulator, d: u32, s: Accumulator) -> Accumulator
         numbers::unreduced::scaled(d, s),
     )
 }
+
+// Equation (3): the inner sum, the factor and the outer sum together are the direct sum.
+pub fn three_parts()
+    ensures { λ _. ⌜ EquationThree ⌝ }
+{}

@@ -1,6 +1,6 @@
-// The values of one butterfly of a step of equation (3) of document 001 and their twiddle factors: they are read a stride apart and
-// multiplied by e(b s/AB), and the butterfly's sums go to places a gap apart. This module reads one value; module `radix` has
-// the butterflies by their radix.
+// The factor of equation (3) of document 001 (`factor` in specs/Equation3.antt): the values of one butterfly, which are inner sums, are read
+// a stride apart and multiplied by e(b𝐚/AB), where 𝐚 is the index of the transform. The butterfly's sums go to places a gap apart.
+// This module reads one value; module `radix` has the outer sums by their radix.
 use numbers::Accumulator;
 ghost use Prim.Native.Nat.{_+_, _*_, _<_};
 ghost use lib.ListN.{length};
@@ -9,7 +9,7 @@ ghost use Rattle.roots.specs.Table.{tableRoot, RootTable};
 ghost use Rattle.slices.specs.Pairs.{Below};
 ghost use Rattle.butterflies.specs.Butterflies.{Loaded};
 
-// The value for b is read at first + b stride and has the factor W^(b k). The sum for c goes to base + c gap.
+// The value for b is read at first + b stride. W^k is e(𝐚/AB), so that W^(b k) is its factor. The sum for 𝐛 goes to base + 𝐛 gap.
 pub struct Places {
     pub first: usize,
     pub stride: usize,
@@ -18,8 +18,8 @@ pub struct Places {
     pub gap: usize,
 }
 
-// The value for b times its factor, not reduced. That of b = 0 needs none, and in the first step none does.
-pub fn twiddled_at<'a>(
+// The value for b times its factor e(b𝐚/AB), not reduced. That of b = 0 needs none, and in the first step none does.
+pub fn times_factor<'a>(
     m: u32,
     re: &'a [u32; 2880],
     im: &'a [u32; 2880],

@@ -15,7 +15,7 @@ use Rattle.volume_transform.specs.Axes.{JobSizes}
 use Rattle.job.specs.Job.{Header, axisTests, jobOf, jobCell, headerOf, withState, validJob}
 use Rattle.job.specs.declared.Job.{Job}
 use Rattle.header.proofs.Headers.{all-three, sound-sizes, sound-axes, sound-lists}
-use Rattle.header.proofs.Digits.{octal-of-digits}
+use Rattle.lengths.proofs.Digits.{octal-of-digits}
 
 -- the job of a job's header, in its state, is the job: the digits of a list's number give the number back
 pub job-of-header : (j : Job) → jobOf (headerOf j) (j .state) ≡ j

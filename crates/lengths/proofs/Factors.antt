@@ -7,9 +7,9 @@ use native.Mathlib.Nat.{mul-le-mul, not-suc-le-zero, pow-succ', one-le-pow}
 use native.Mathlib.Numerals.{add-one}
 use native.Mathlib.Omega.{arith}
 use lib.Dec.{leb}
-use lib.ListN.{length, getD, drop, drop-of-length-le, length-drop}
+use lib.ListN.{length, getD, take, drop, drop-of-length-le, length-drop}
 use lib.Seq.{drop-cons}
-use borrow.Author.Tests.{leb-true, ne-eqb}
+use borrow.Author.Tests.{leb-true, le-leb, ne-eqb}
 use Rattle.lengths.specs.Lengths.{product, octal, factorsOk, digits, octalDigits}
 use Rattle.lengths.specs.Admitted.{isFactor, none, one, Factors}
 use Rattle.refusals.proofs.Tests.{both}
@@ -27,6 +27,11 @@ factors-cons f l e = let h = both (isFactor f) (factorsOk l) e in (factor-is f (
 pub factors-of : (l : List ℕ) → factorsOk l ≡ true → Factors l
 factors-of [] e = none
 factors-of (f ∷ l) e = let h = factors-cons f l e in one (h .0 .0) (h .0 .1) (factors-of l (h .1))
+
+pub factors-ok : {l : List ℕ} → Factors l → factorsOk l ≡ true
+unfolding factorsOk
+factors-ok none = refl
+factors-ok (one {f} low high h) = rw (le-leb 2 f low, le-leb f 5 high) (factors-ok h)
 
 pub factors-drop : (l : List ℕ) (i : ℕ) → i < length l → factorsOk (drop i l) ≡ (isFactor (getD l i 0) && factorsOk (drop (i + 1) l))
 unfolding factorsOk
@@ -67,6 +72,21 @@ product-drop l i h = rw (add-one, drop-cons l i 0)
 pub product-past : (l : List ℕ) (i : ℕ) → length l ≤ i → product (drop i l) ≡ 1
 unfolding product
 product-past l i h = rw (drop-of-length-le l h)
+
+-- the first k factors, and the others
+pub product-take : (l : List ℕ) (k : ℕ) → k < length l → product (take (suc k) l) ≡ product (take k l) * getD l k 0
+unfolding product
+product-take [] k h = absurd (not-suc-le-zero h)
+product-take (f ∷ l) zero h = omega arith
+product-take (f ∷ l) (suc k) h = ap (λ (x : ℕ). f * x) (product-take l k (omega arith)) ∙ omega arith
+
+pub product-parts : (l : List ℕ) (k : ℕ) → product (take k l) * product (drop k l) ≡ product l
+unfolding product
+product-parts l zero = omega arith
+product-parts [] (suc k) = refl
+product-parts (f ∷ l) (suc k) =
+    let e : f * product (take k l) * product (drop k l) ≡ f * (product (take k l) * product (drop k l)) = omega arith in
+    e ∙ ap (λ (x : ℕ). f * x) (product-parts l k)
 
 pub product-positive : (l : List ℕ) → factorsOk l ≡ true → 1 ≤ product l
 unfolding product

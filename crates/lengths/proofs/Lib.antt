@@ -1,4 +1,5 @@
 pub mod Factors
+pub mod Digits
 pub mod Divisors
 pub mod Counts
 pub mod AdmittedLengths

@@ -31,6 +31,12 @@ digits base (suc c) n = cond (eqb n 0) [] (n % base ∷ digits base c (n / base)
 abbrev pub octalDigits : ℕ → List ℕ
 octalDigits n = digits 8 n n
 
+-- The list of twice the length, by which a plain line goes: it has N points, and its list names the factors of N/2. Its first 2 becomes a 4, or, where
+-- it has none, a 2 is added at its end.
+unfoldable pub doubledList : List ℕ → List ℕ
+doubledList [] = 2 ∷ []
+doubledList (f ∷ l) = cond (eqb f 2) (4 ∷ l) (f ∷ doubledList l)
+
 -- What an accepted call leaves of the lent scratch: its first 11,520 numbers zero, the others as they were.
 abbrev pub scratchLength : ℕ
 scratchLength = 11520

@@ -2,8 +2,11 @@
 use mathlib.Core.Path.{_≡_}
 use mathlib.Core.Bool.{Bool, true, false, not}
 use mathlib.Core.Logic.{_≢_}
-use Prim.Native.Nat.{ℕ, _*_, _/_, _%_}
+use mathlib.Core.List.{List}
+use lib.ListN.{take, drop}
+use Prim.Native.Nat.{ℕ, zero, suc, _*_, _/_, _%_}
 use Rattle.lengths.specs.declared.stage.Stage.{Stage}
+use Rattle.lengths.specs.Lengths.{octal, product}
 use Rattle.lengths.specs.Admitted.{Factored}
 
 -- the length of the line
@@ -13,6 +16,15 @@ points s = s .inner * s .lines
 -- the stage after the next step
 unfoldable pub after : Stage → Stage
 after s = record { left = s .left / 8; inner = s .inner * (s .left % 8); lines = s .lines / (s .left % 8) }
+
+-- the stage of a list at which its first k factors are done
+abbrev pub splitStage : List ℕ → ℕ → Stage
+splitStage l k = record { left = octal (drop k l); inner = product (take k l); lines = product (drop k l) }
+
+-- the stage after k steps
+unfoldable pub stageAfter : ℕ → Stage → Stage
+stageAfter zero s = s
+stageAfter (suc k) s = after (stageAfter k s)
 
 -- A stage that a line of n points comes to by its list, after an odd number of steps or an even one.
 pub data Reached (factors n : ℕ) : Bool → Stage → Type 0 where

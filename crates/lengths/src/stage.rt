@@ -2,8 +2,8 @@
 //
 // A length is the product of its list. The plain transform has a step for each factor and comes from stage to stage by them (specs/Stages.antt).
 ghost use mathlib.Core.Path.{_≡_};
-ghost use Prim.Native.Nat.{ℕ, _*_, _<_};
-ghost use Rattle.lengths.specs.Admitted.{Factored};
+ghost use Prim.Native.Nat.{_<_};
+ghost use Rattle.lengths.specs.Lengths.{octal, octalDigits, doubledList};
 ghost use Rattle.lengths.specs.Stages.{after, Ahead};
 
 // A stage of a transform: the factors that are left, the product of those that are done, and the number of lines, which is the product of those
@@ -28,10 +28,10 @@ pub fn next(at: Stage) -> Stage
     }
 }
 
-// The list of twice the length: a 2 of it becomes a 4, or, where it has none, a 2 is added at its end.
+// The list of twice the length (`doubledList`): its first 2 becomes a 4, or, where it has none, a 2 is added at its end.
 pub fn doubled(factors: u32) -> u32
     requires { ⌜ factors < 16777216 ⌝ }
-    ensures { λ r. ⌜ ((n : ℕ) → Factored factors n → Factored r (2 * n)) ⌝ }
+    ensures { λ r. ⌜ r ≡ octal (doubledList (octalDigits factors)) ⌝ }
 {
     let mut left = factors;
     let mut place = 1;

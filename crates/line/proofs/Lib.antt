@@ -5,3 +5,4 @@ pub mod Specimens
 pub mod Demands
 pub mod TakenBack
 pub mod CalledSums
+pub mod EverySplit

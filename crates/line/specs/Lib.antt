@@ -3,3 +3,4 @@ pub mod Demands
 pub mod Specimens
 pub mod Tables
 pub mod Answers
+pub mod EverySplit

@@ -13,6 +13,7 @@ ghost use Rattle.line.specs.Line.{transformed, lineStep};
 ghost use Rattle.lengths.specs.Lengths.{scratchLength};
 ghost use Rattle.line.specs.Answers.{Accepted, lineOutcome};
 ghost use Rattle.line.specs.Specimens.{Specimens};
+ghost use Rattle.line.specs.EverySplit.{EverySplit};
 ghost use Rattle.line.specs.Demands.{RulesKept, ForwardIsSum, BackIsSum, CallIsSum, ListFree, Restored, RestoredAfter, TakenBack};
 
 // The answer of a line.
@@ -108,6 +109,11 @@ pub fn direct_sums()
 // .. also of the numbers that an accepted call leaves, whatever its factor list ..
 pub fn called_sums()
     ensures { λ _. ⌜ CallIsSum × ListFree ⌝ }
+{}
+
+// .. by the steps of the list, each of which gives the three parts of equation (3) of document 001 for its split ..
+pub fn equation_three()
+    ensures { λ _. ⌜ EverySplit ⌝ }
 {}
 
 // .. and each direction restores what the other was lent, call after call.

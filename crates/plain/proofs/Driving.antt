@@ -12,7 +12,7 @@ use Rattle.numbers.proofs.Values.{field-ring}
 use Rattle.slices.specs.Pairs.{at, fills, Below, valuesOf, listOf}
 use Rattle.slices.proofs.Pairs.{fills-whole}
 use Rattle.slices.proofs.Values.{list-values, list-cong, length-of, below-of}
-use Rattle.plain.specs.Plain.{innerSum, sumsAt, WorkLeft, untouched, last-odd}
+use Rattle.plain.specs.Plain.{innerSums, sumsAt, WorkLeft, untouched, last-odd}
 use Rattle.lengths.specs.declared.stage.Stage.{Stage}
 use Rattle.lengths.specs.Admitted.{Factored}
 use Rattle.lengths.specs.Stages.{points, after, Reached, start, next, Ahead}
@@ -44,7 +44,7 @@ standing-start {m} {n} W factors {line} long below = record {
   reached = start;
   holds =
       list-values m n line long below ∙ list-cong m n _ _ (λ j l. sym (inner-start (field-ring m) W n (valuesOf m line) j))
-      ∙ ap (λ k. listOf k (innerSum (field m) W 1 n (valuesOf m line))) (sym (N.one-mul n));
+      ∙ ap (λ k. listOf k (innerSums (field m) W 1 n (valuesOf m line))) (sym (N.one-mul n));
 }
 
 -- the list after a step
@@ -62,9 +62,9 @@ module _ {m : ℕ} {W : Value m} {factors n : ℕ} {odd : Bool} {s : Stage} {X :
       let one : s .lines ≡ 1 = factored-none (subst (λ k. Factored k (s .lines)) z (reached-list list (h .reached))) in
       let all : s .inner ≡ n = sym (N.mul-one (s .inner)) ∙ ap (λ k. s .inner * k) (sym one) ∙ reached-points list (h .reached) in
       h .holds
-      ∙ ap (λ k. listOf k (innerSum (field m) W (s .inner) (s .lines) X)) (reached-points list (h .reached))
-      ∙ ap (λ k. listOf n (innerSum (field m) W k (s .lines) X)) all
-      ∙ ap (λ k. listOf n (innerSum (field m) W n k X)) one
+      ∙ ap (λ k. listOf k (innerSums (field m) W (s .inner) (s .lines) X)) (reached-points list (h .reached))
+      ∙ ap (λ k. listOf n (innerSums (field m) W k (s .lines) X)) all
+      ∙ ap (λ k. listOf n (innerSums (field m) W n k X)) one
       ∙ list-cong m n _ _ (λ j l. inner-end (field-ring m) W n X j l)
 
   -- the next step

@@ -1,33 +1,45 @@
--- Equation (3) of document 001: the transform of a line of A B points as inner sums of length A, the factors e(ba/AB), and outer sums of length B.
--- A step of the plain transform does this for M lines at once, the line q of which has the points q, q + M, q + 2 M, .. of the whole line:
--- A is the product of the factors before, B the factor of this step, and A B M the length of the line.
--- W is a root of order 2,880, so that e(1/k) is W^(2880/k) for every k that divides 2,880.
+-- A step of the plain transform: equation (3) of document 001, whose parts and letters are those of Equation3.antt in `butterflies`, for M lines at once.
+-- The line q of them has the points q, q + M, q + 2 M, .. of the whole line X. A is the product of the factors before, B the factor of this step, and A B M the
+-- length of the whole line. The inner sums are what the steps before have left.
 use mathlib.Core.Path.{_≡_}
-use Prim.Native.Nat.{ℕ, _+_, _*_, _/_, _%_, _≤_, _<_}
+use Prim.Native.Nat.{ℕ, zero, suc, _+_, _*_, _/_, _%_, _≤_, _<_}
 use mathlib.Core.Bool.{Bool, true, cond}
 use mathlib.Core.List.{List}
-use Rattle.algebra.specs.ring.Ring.{Ops, sum}
-use Rattle.butterflies.specs.Butterflies.{e}
+use lib.ListN.{getD, take, drop}
+use Rattle.algebra.specs.ring.Ring.{Ops}
+use Rattle.butterflies.specs.Equation3.{direct, inner, factor, outer}
 use Rattle.numbers.specs.Value.{Value, field, i}
 use Rattle.lengths.specs.declared.stage.Stage.{Stage}
+use Rattle.lengths.specs.Lengths.{product}
 use Rattle.lengths.specs.Stages.{points, Reached}
-use Rattle.slices.specs.Pairs.{listOf}
+use Rattle.slices.specs.Pairs.{valuesOf, listOf}
+
+-- the line q of M
+abbrev pub lineOf : {R : Type 0} (M q : ℕ) → (ℕ → R) → ℕ → R
+lineOf M q X t = X (q + M * t)
 
 module _ {R : Type 0} (𝓞 : Ops R) (W : R) where
-  open Ops 𝓞 using (mul as _⊗_)
+  -- What a slice holds before a step: place b A + 𝐚 has the inner sum for b and 𝐚 of a line of A B points.
+  unfoldable pub innerSums : (A B : ℕ) → (ℕ → R) → ℕ → R
+  innerSums A B X j = inner 𝓞 W A B X (j / A) (j % A)
 
-  infixl 70 _⊗_
-  -- The inner sums: place q A + s has the sum over a < A of X(a M + q) e(a s/A), where M lines of A points make the whole.
-  unfoldable pub innerSum : (A M : ℕ) → (ℕ → R) → ℕ → R
-  innerSum A M X j = sum 𝓞 A (λ a. X (j / A + M * a) ⊗ e 𝓞 W A (a * (j % A)))
+  -- What a step makes of the values Y: place q A B + (𝐚 + 𝐛 A) has the outer sum for 𝐛, over b, of the value at place (b M + q) A + 𝐚 times its factor.
+  unfoldable pub stepped : (A B M : ℕ) → (ℕ → R) → ℕ → R
+  stepped A B M Y j = outer 𝓞 W B (λ b. factor 𝓞 W A B b (j % A) (Y ((b * M + j / A / B) * A + j % A))) (j / A % B)
 
-  -- The factor: the value at place (b M + q) A + s is multiplied by e(b s/AB), where s is the index of the inner sum's result.
-  unfoldable pub twiddled : (A B M : ℕ) → (ℕ → R) → ℕ → R
-  twiddled A B M Y j = e 𝓞 W (A * B) (j / A / M * (j % A)) ⊗ Y j
+-- the same on the numbers of a slice
+abbrev pub stepOf : (m : ℕ) → Value m → (A B M : ℕ) → List ℕ → List ℕ
+stepOf m W A B M from = listOf (A * B * M) (stepped (field m) W A B M (valuesOf m from))
 
-  -- The outer sum: place (q B + c) A + s has the sum over b < B of e(b c/B) times the value at place (b M + q) A + s.
-  unfoldable pub outerSum : (A B M : ℕ) → (ℕ → R) → ℕ → R
-  outerSum A B M Y j = sum 𝓞 B (λ b. e 𝓞 W B (b * (j / A % B)) ⊗ Y ((b * M + j / A / B) * A + j % A))
+-- The three parts of equation (3) as a step gives them for each of its lines: `from` is the slice that it reads, `to` the one that it leaves.
+pub record StepParts (m : ℕ) (W : Value m) (A B M : ℕ) (X : ℕ → Value m) (from to : List ℕ) : Type 0 where
+  -- what it finds for b and 𝐚 is the inner sum ..
+  pub inner-sum : (q b 𝐚 : ℕ) → q < M → b < B → 𝐚 < A → valuesOf m from ((b * M + q) * A + 𝐚) ≡ inner (field m) W A B (lineOf M q X) b 𝐚
+  -- .. what it leaves for 𝐚 and 𝐛 is the outer sum of those times their factors ..
+  pub outer-sum : (q 𝐚 𝐛 : ℕ) → q < M → 𝐚 < A → 𝐛 < B →
+      valuesOf m to (q * (A * B) + (𝐚 + 𝐛 * A)) ≡ outer (field m) W B (λ b. factor (field m) W A B b 𝐚 (inner (field m) W A B (lineOf M q X) b 𝐚)) 𝐛
+  -- .. and that is the direct sum.
+  pub direct-sum : (q 𝐚 𝐛 : ℕ) → q < M → 𝐚 < A → 𝐛 < B → valuesOf m to (q * (A * B) + (𝐚 + 𝐛 * A)) ≡ direct (field m) W (A * B) (lineOf M q X) (𝐚 + 𝐛 * A)
 
 -- What one step needs of its numbers: the inner length A, the factor B of this step and the count M of the lines, whose product divides 2,880.
 pub record Splits (A B M : ℕ) : Type 0 where
@@ -37,11 +49,27 @@ pub record Splits (A B M : ℕ) : Type 0 where
   pub lines : 0 < M
   pub divides : A * B * M * (2880 / (A * B * M)) ≡ 2880
 
+-- ---- The steps of a list of factors. That of place k, counted from 0, has these A, B and M.
+
+abbrev pub innerLength : List ℕ → ℕ → ℕ
+innerLength l k = product (take k l)
+
+abbrev pub outerLength : List ℕ → ℕ → ℕ
+outerLength l k = getD l k 0
+
+abbrev pub lineCount : List ℕ → ℕ → ℕ
+lineCount l k = product (drop (suc k) l)
+
+-- the slice after the first k steps, from the numbers of a line
+unfoldable pub afterSteps : (m : ℕ) → Value m → (l : List ℕ) (k : ℕ) (line : List ℕ) → List ℕ
+afterSteps m W l zero line = line
+afterSteps m W l (suc k) line = stepOf m W (innerLength l k) (outerLength l k) (lineCount l k) (afterSteps m W l k line)
+
 -- ---- What the slices hold at a stage of a transform: the inner sums of equation (3).
 
 -- what a slice holds at a stage: the inner sums of the line X
 abbrev pub sumsAt : (m : ℕ) → Value m → Stage → (ℕ → Value m) → List ℕ
-sumsAt m W s X = listOf (points s) (innerSum (field m) W (s .inner) (s .lines) X)
+sumsAt m W s X = listOf (points s) (innerSums (field m) W (s .inner) (s .lines) X)
 
 -- What the work slice, which held `before`, holds when `left` is left of the list: nothing is changed where no step was done, else it has the inner sums
 -- as they stood after the last step of odd number, after which at most one factor more was left.

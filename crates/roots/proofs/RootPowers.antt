@@ -58,7 +58,7 @@ module _ (m : ℕ) (is : IsModulus m) where
   root-turning : Turning m (root m)
   root-turning = record { cycle = full-turn m is; circle = root-inverse m is; quarter = inr (quarter-turn m is) }
 
-  conj-full-turn : pow (field m) (conj m (root m)) 2880 ≡ field m .one
+  pub conj-full-turn : pow (field m) (conj m (root m)) 2880 ≡ field m .one
   conj-full-turn = inverse-cycle (field-ring m) 2880 (root m) (conj m (root m)) _ (root-of-unity m is)
 
   -- the conjugate turns the other way

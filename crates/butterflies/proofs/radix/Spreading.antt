@@ -14,7 +14,8 @@ use lib.ListN.{length}
 use Rattle.slices.specs.Pairs.{Below, put, puts}
 use Rattle.slices.proofs.Pairs.{puts-next, puts-ext}
 use Rattle.numbers.specs.Unreduced.{meant}
-use Rattle.butterflies.specs.Butterflies.{e, outerAt, ofTwoSums, ofThreeSums, ofFourSums, ofFiveSums, AllRoom, Butterfly, Loaded, spread, summed, AllLoaded, Reads, Stores}
+use Rattle.butterflies.specs.Equation3.{e, outer}
+use Rattle.butterflies.specs.Butterflies.{ofTwoSums, ofThreeSums, ofFourSums, ofFiveSums, AllRoom, Butterfly, Loaded, FactorsOf, spread, outerSums, AllLoaded, Reads, Stores}
 use Rattle.butterflies.proofs.Cases.{below-2, below-3, below-4, below-5}
 use Rattle.butterflies.specs.declared.twiddle.Places.{Places}
 
@@ -32,8 +33,8 @@ module _ (p : Places) (f : ℕ → Pair) (d₀ : List ℕ) where
 
 -- outer sums of the same values
 module _ {R : Type 0} {𝓞 : Ops R} (𝓡 : CRing 𝓞) (W : R) where
-  pub outer-cong : (B : ℕ) (X Y : ℕ → R) (c : ℕ) → ((b : ℕ) → b < B → X b ≡ Y b) → outerAt 𝓞 W B X c ≡ outerAt 𝓞 W B Y c
-  unfolding outerAt
+  pub outer-cong : (B : ℕ) (X Y : ℕ → R) (c : ℕ) → ((b : ℕ) → b < B → X b ≡ Y b) → outer 𝓞 W B X c ≡ outer 𝓞 W B Y c
+  unfolding outer
   outer-cong B X Y c h = sum-cong 𝓡 B _ _ (λ b l. ap (𝓞 .mul (e 𝓞 W B (b * c))) (h b l))
 
 -- what is asked of a radix is what the reading of each of its values asks
@@ -63,7 +64,7 @@ all-room h = record { each = λ b lt. h .each b lt .room }
 
 -- read, summed and stored
 pub butterfly-stored : (m : ℕ) {W : Value m} {B : ℕ} {l d′ : List ℕ} {x : ℕ → Accumulator} {y : ℕ → Pair} (p : Places) (d : List ℕ)
-    → AllLoaded m W B p l x → Butterfly m W B (λ b. meant m (x b)) y → d′ ≡ spread p y B d → d′ ≡ summed m W B p l d
-unfolding summed
-butterfly-stored m {W} {B} p d r b s =
-    s ∙ puts-ext (λ c. p .base + c * p .gap) _ _ B d (λ c hc. b .sums c hc ∙ ap pairOf (outer-cong (field-ring m) W B _ _ c (λ k hk. r .each k hk .value-is)))
+    → AllLoaded m W B p l x → Butterfly m W B (λ b. meant m (x b)) y → d′ ≡ spread p y B d → (A 𝐚 : ℕ) → FactorsOf A B 𝐚 p → d′ ≡ outerSums m W A B 𝐚 p l d
+unfolding outerSums
+butterfly-stored m {W} {B} p d r b s A 𝐚 f =
+    s ∙ puts-ext (λ c. p .base + c * p .gap) _ _ B d (λ c hc. b .sums c hc ∙ ap pairOf (outer-cong (field-ring m) W B _ _ c (λ k hk. r .each k hk .value-is A B 𝐚 f)))

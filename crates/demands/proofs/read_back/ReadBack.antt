@@ -36,7 +36,7 @@ use Rattle.cell.proofs.Consistency.{pack-cong, consistent-read}
 use Rattle.job.specs.declared.Job.{Job}
 use Rattle.job.specs.Job.{jobCell, headerOf, axisTests, collecting, jobOf, withState, validJob, groupIn, halves, opened, openTests, volumeTests}
 use Rattle.header.proofs.Headers.{all-three, sound-lists}
-use Rattle.header.proofs.Digits.{octal-of-digits}
+use Rattle.lengths.proofs.Digits.{octal-of-digits}
 use Rattle.job.proofs.Jobs.{valid-sizes}
 use Rattle.file_format.specs.declared.FileRecord.{FileRecord}
 use Rattle.factor_file.specs.File.{recordsIn, fileStep, jobRecords, jobFile, writeTests, writeStep}

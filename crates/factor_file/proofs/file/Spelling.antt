@@ -5,7 +5,7 @@ use Prim.Native.Nat.{ℕ, _/_, _%_}
 use native.Mathlib.Omega.{arith}
 use lib.ListN.{length, length-append}
 use Rattle.lengths.specs.Lengths.{octalDigits}
-use Rattle.header.proofs.Digits.{digit-cons}
+use Rattle.lengths.proofs.Digits.{digit-cons}
 use Rattle.output.specs.Written.{Wrote, Ends}
 use Rattle.output.proofs.Writing.{wrote-none, wrote-append, wrote-as}
 use Rattle.file_format.proofs.layout.Digits.{no-digits, digit-more}

@@ -5,7 +5,7 @@ use Prim.Native.Nat.{ℕ, zero, suc, _/_, _^_, _<_, _≤_}
 use native.Mathlib.Omega.{arith}
 use lib.ListN.{length}
 use Rattle.lengths.specs.Lengths.{digits, octalDigits}
-use Rattle.header.proofs.Digits.{digit-cons}
+use Rattle.lengths.proofs.Digits.{digit-cons}
 
 pub no-digits : (n : ℕ) → n ≡ 0 → octalDigits n ≡ []
 unfolding digits

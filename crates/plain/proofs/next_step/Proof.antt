@@ -26,7 +26,7 @@ returns c =
     let p = c .before .before in
     let n = p .before .before .before in
     let s = n .before .before .before in
-    (n .next .ensures, step-sums (s .pre .1 .0) (n .next .ensures) (s .args .m) _ (s .pre .0 .1 .cycle) (p .step .ensures))
+    (n .next .ensures, step-sums (s .pre .1 .0) (n .next .ensures) (s .args .m) _ (s .pre .0 .1 .cycle) (p .step .ensures .0))
 
 pub next-step-spec : {M : Type 1} → statement M
 next-step-spec = tie.close (tie.spec next-requires cast-step step-requires same-length returns)

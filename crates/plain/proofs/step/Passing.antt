@@ -1,5 +1,5 @@
--- The loop over the places q A + s of a step: its round fills the B places (q B + c) A + s, and W^k is the factor e(s/AB). Together these
--- are all places, so that nothing need be said of what stood there before.
+-- The loop over the places q A + s of a step, where s is the transform's 𝐚: its round fills the B places (q B + c) A + s, and W^k is e(s/AB).
+-- Together these are all places, so that nothing need be said of what stood there before.
 use mathlib.Core.Path.{_≡_, sym, _∙_, ap, subst}
 use mathlib.Core.Logic.{⊎-elim}
 use mathlib.Core.List.{List}
@@ -13,22 +13,23 @@ use Rattle.numbers.proofs.Values.{field-ring}
 use Rattle.slices.specs.Pairs.{at, tab, valuesOf}
 use Rattle.slices.proofs.Pairs.{lt-or-ge, eq-or-ne, length-puts, at-puts, at-puts-other, is-tab}
 use Rattle.slices.proofs.Rows.{row-end, rows-wide, row-inj, row-split, block-inj, block-end}
-use Rattle.butterflies.specs.Butterflies.{outerAt, twiddledAt, spread, summed, Reads, Stores}
+use Rattle.butterflies.specs.Equation3.{factor, outer}
+use Rattle.butterflies.specs.Butterflies.{readAt, FactorsOf, spread, outerSums, Reads, Stores}
 use Rattle.butterflies.specs.declared.twiddle.Places.{Places}
-use Rattle.plain.specs.Plain.{twiddled, outerSum, Splits}
+use Rattle.plain.specs.Plain.{stepped, Splits}
 use Rattle.plain.proofs.step.Sizes.{whole-le, product-le, outer-pos, outer-share, twiddle-exponent}
 use Rattle.plain.proofs.step.Passes.{outer-place}
 
 -- what the step makes of the list x
 abbrev result : (m : ℕ) (W : Value m) (x : List ℕ) (A B M : ℕ) → ℕ → Pair
-result m W x A B M j = pairOf (outerSum (field m) W A B M (twiddled (field m) W A B M (valuesOf m x)) j)
+result m W x A B M j = pairOf (stepped (field m) W A B M (valuesOf m x) j)
 
 pub record Passing (m : ℕ) (W : Value m) (x : List ℕ) (A B M first s base k : ℕ) (d : List ℕ) : Type 0 where
   pub q : ℕ
   pub col : s < A
   pub first-is : first ≡ q * A + s
   pub base-is : base ≡ q * B * A + s
-  pub exponent-is : k ≡ s * (2880 / (A * B))
+  pub exponent-is : k ≡ 2880 / (A * B) * s
   pub long : length d ≡ 2 * (A * B * M)
   pub done : (i c t : ℕ) → i * A + t < first → t < A → c < B → at d ((i * B + c) * A + t) ≡ result m W x A B M ((i * B + c) * A + t)
 
@@ -72,17 +73,16 @@ module _ {m : ℕ} {W : Value m} {x : List ℕ} {A B M : ℕ} where
       pub passing-stores : Stores B here d
       passing-stores = record { inside = omega (arith, h .base-is, h .long, h .col, row-end (B * A) line) }
 
-      module _ {d′ : List ℕ} (sums : d′ ≡ summed m W B here x d) where
+      module _ {d′ : List ℕ} (sums : (A₁ 𝐚 : ℕ) → FactorsOf A₁ B 𝐚 here → d′ ≡ outerSums m W A₁ B 𝐚 here x d) where
         abbrev g : ℕ → Pair
-        g c = pairOf (outerAt (field m) W B (twiddledAt m W here x) c)
+        g c = pairOf (outer (field m) W B (λ b. factor (field m) W A B b s (readAt m here x b)) c)
 
         stores : d′ ≡ spread here g B d
-        unfolding summed
-        stores = sums
+        unfolding outerSums
+        stores = sums A s (h .exponent-is)
 
         sum-is : (c : ℕ) → c < B → g c ≡ f ((h .q * B + c) * A + s)
-        unfolding twiddledAt
-        sum-is c hc = ap pairOf (outer-place (field-ring m) W A B M (valuesOf m x) (h .col) line (h .first-is) (h .exponent-is) hc)
+        sum-is c hc = ap pairOf (outer-place (field-ring m) W A B M (valuesOf m x) (h .q) (h .col) (h .first-is) hc)
 
         place : (c : ℕ) → base + c * A ≡ (h .q * B + c) * A + s
         place c = omega (arith, h .base-is)

@@ -43,6 +43,9 @@ module _ {A B M : ℕ} (h : Splits A B M) where
   pub inner-whole : A * (2880 / A) ≡ 2880
   inner-whole = divides A (B * (M * share)) (omega (arith, h .divides))
 
+  pub product-divides : A * B * (2880 / (A * B)) ≡ 2880
+  product-divides = divides (A * B) (M * share) product-share
+
   pub product-pos : 0 < A * B
   product-pos = divisor-pos (A * B) (M * share) product-share
 

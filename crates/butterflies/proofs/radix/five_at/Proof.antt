@@ -7,25 +7,25 @@ use Rattle.butterflies.proofs.radix.Spreading.{asked, all-room, spread-
 use Rattle.butterflies.proofs.radix.five_at.Statement.{statement}
 use Rattle.butterflies.proofs.radix.five_at.Tie as tie
 
-twiddled-at-requires : tie.Need-twiddled-at-requires
-twiddled-at-requires c κs = asked (c .before .before .pre) 0 (lit< tt)
+times-factor-requires : tie.Need-times-factor-requires
+times-factor-requires c κs = asked (c .before .before .pre) 0 (lit< tt)
 
-twiddled-at-requires-2 : tie.Need-twiddled-at-requires-2
-twiddled-at-requires-2 c κs = asked (c .before .before .before .pre) 1 (lit< tt)
+times-factor-requires-2 : tie.Need-times-factor-requires-2
+times-factor-requires-2 c κs = asked (c .before .before .before .pre) 1 (lit< tt)
 
-twiddled-at-requires-3 : tie.Need-twiddled-at-requires-3
-twiddled-at-requires-3 c κs = asked (c .before .before .before .before .pre) 2 (lit< tt)
+times-factor-requires-3 : tie.Need-times-factor-requires-3
+times-factor-requires-3 c κs = asked (c .before .before .before .before .pre) 2 (lit< tt)
 
-twiddled-at-requires-4 : tie.Need-twiddled-at-requires-4
-twiddled-at-requires-4 c κs = asked (c .before .before .before .before .before .pre) 3 (lit< tt)
+times-factor-requires-4 : tie.Need-times-factor-requires-4
+times-factor-requires-4 c κs = asked (c .before .before .before .before .before .pre) 3 (lit< tt)
 
-twiddled-at-requires-5 : tie.Need-twiddled-at-requires-5
-twiddled-at-requires-5 c κs = asked (c .before .before .before .before .before .before .pre) 4 (lit< tt)
+times-factor-requires-5 : tie.Need-times-factor-requires-5
+times-factor-requires-5 c κs = asked (c .before .before .before .before .before .before .pre) 4 (lit< tt)
 
 five-requires : tie.Need-five-requires
 five-requires c κs =
     let s = c .before .before .before .before .before .before .before in
-    (s .pre .0, all-room (five-loaded (c .before .before .before .before .twiddled-at .ensures) (c .before .before .before .twiddled-at2 .ensures) (c .before .before .twiddled-at3 .ensures) (c .before .twiddled-at4 .ensures) (c .twiddled-at5 .ensures)))
+    (s .pre .0, all-room (five-loaded (c .before .before .before .before .times-factor .ensures) (c .before .before .before .times-factor2 .ensures) (c .before .before .times-factor3 .ensures) (c .before .times-factor4 .ensures) (c .times-factor5 .ensures)))
 
 store-at-requires : tie.Need-store-at-requires
 store-at-requires c κs = let s = c .before .before .before .before .before .before .before .before .before in omega (arith, s .pre .1 .1 .inside)
@@ -45,17 +45,17 @@ returns c =
     let at-next = at-next2 .before .before .before .before in
     let at-store = at-next .before .before .before .before in
     let at-five = at-store .before .before in
-    let at-twiddled5 = at-five .before in
-    let at-twiddled4 = at-twiddled5 .before in
-    let at-twiddled3 = at-twiddled4 .before in
-    let at-twiddled2 = at-twiddled3 .before in
-    let at-twiddled = at-twiddled2 .before in
-    let s = at-twiddled .before .before .before in
+    let at-factor5 = at-five .before in
+    let at-factor4 = at-factor5 .before in
+    let at-factor3 = at-factor4 .before in
+    let at-factor2 = at-factor3 .before in
+    let at-factor = at-factor2 .before in
+    let s = at-factor .before .before .before in
     let f = ofFive (at-five .five .result) in
     let d = s .args .to .now in
-    butterfly-stored (s .args .m) (s .args .at) d (five-loaded (at-twiddled .twiddled-at .ensures) (at-twiddled2 .twiddled-at2 .ensures) (at-twiddled3 .twiddled-at3 .ensures) (at-twiddled4 .twiddled-at4 .ensures) (at-twiddled5 .twiddled-at5 .ensures))
+    butterfly-stored (s .args .m) (s .args .at) d (five-loaded (at-factor .times-factor .ensures) (at-factor2 .times-factor2 .ensures) (at-factor3 .times-factor3 .ensures) (at-factor4 .times-factor4 .ensures) (at-factor5 .times-factor5 .ensures))
     (at-five .five .ensures)
     (spread-next (s .args .at) f d 3 (spread-next (s .args .at) f d 1 (spread-more (s .args .at) f d 0 (spread-none (s .args .at) f d) (at-store .store-at .ensures)) (at-next .store-next .ensures)) (at-next2 .store-next2 .ensures))
 
 pub five-at-spec : {M : Type 1} → statement M
-five-at-spec = tie.close (tie.spec twiddled-at-requires twiddled-at-requires-2 twiddled-at-requires-3 twiddled-at-requires-4 twiddled-at-requires-5 five-requires store-at-requires store-next-requires store-next-requires-2 same-length returns)
+five-at-spec = tie.close (tie.spec times-factor-requires times-factor-requires-2 times-factor-requires-3 times-factor-requires-4 times-factor-requires-5 five-requires store-at-requires store-next-requires store-next-requires-2 same-length returns)

@@ -8,16 +8,16 @@ use Rattle.butterflies.proofs.radix.Spreading.{asked, all-room, spread-
 use Rattle.butterflies.proofs.radix.two_at.Statement.{statement}
 use Rattle.butterflies.proofs.radix.two_at.Tie as tie
 
-twiddled-at-requires : tie.Need-twiddled-at-requires
-twiddled-at-requires c κs = asked (c .before .before .pre) 0 (lit< tt)
+times-factor-requires : tie.Need-times-factor-requires
+times-factor-requires c κs = asked (c .before .before .pre) 0 (lit< tt)
 
-twiddled-at-requires-2 : tie.Need-twiddled-at-requires-2
-twiddled-at-requires-2 c κs = asked (c .before .before .before .pre) 1 (lit< tt)
+times-factor-requires-2 : tie.Need-times-factor-requires-2
+times-factor-requires-2 c κs = asked (c .before .before .before .pre) 1 (lit< tt)
 
 two-requires : tie.Need-two-requires
 two-requires c κs =
     let s = c .before .before .before .before in
-    (s .pre .0 .0, all-room (two-loaded (c .before .twiddled-at .ensures) (c .twiddled-at2 .ensures)))
+    (s .pre .0 .0, all-room (two-loaded (c .before .times-factor .ensures) (c .times-factor2 .ensures)))
 
 store-next-requires : tie.Need-store-next-requires
 store-next-requires c κs = let s = c .before .before .before .before .before .before in (omega arith, omega (arith, s .pre .1 .1 .inside), omega (arith, s .pre .1 .1 .inside))
@@ -29,14 +29,14 @@ returns : tie.Need-returns
 returns c =
     let at-next = c .before .before in
     let at-two = at-next .before .before in
-    let at-twiddled2 = at-two .before in
-    let at-twiddled = at-twiddled2 .before in
-    let s = at-twiddled .before .before .before in
+    let at-factor2 = at-two .before in
+    let at-factor = at-factor2 .before in
+    let s = at-factor .before .before .before in
     let f = ofTwo (at-two .two .result) in
     let d = s .args .to .now in
-    butterfly-stored (s .args .m) (s .args .at) d (two-loaded (at-twiddled .twiddled-at .ensures) (at-twiddled2 .twiddled-at2 .ensures))
+    butterfly-stored (s .args .m) (s .args .at) d (two-loaded (at-factor .times-factor .ensures) (at-factor2 .times-factor2 .ensures))
     (at-two .two .ensures _ (half-turn (s .pre .0 .1)))
     (spread-next (s .args .at) f d 0 (spread-none (s .args .at) f d) (at-next .store-next .ensures))
 
 pub two-at-spec : {M : Type 1} → statement M
-two-at-spec = tie.close (tie.spec twiddled-at-requires twiddled-at-requires-2 two-requires store-next-requires same-length returns)
+two-at-spec = tie.close (tie.spec times-factor-requires times-factor-requires-2 two-requires store-next-requires same-length returns)

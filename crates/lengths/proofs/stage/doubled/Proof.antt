@@ -29,7 +29,7 @@ loop-less : tie.Need-loop-less Inv-loop μ-loop
 loop-less c = omega arith
 
 loop-again : tie.Need-loop-again Inv-loop μ-loop
-loop-again c = let i = c .before in doubling-next (i .before .loop .inv) (i .loop-test .taken)
+loop-again c = let i = c .before in doubling-next (i .before .loop .inv) (i .loop-test .taken) (omega arith)
 
 mul-result-2 : tie.Need-mul-result-2 Inv-loop μ-loop
 mul-result-2 c = omega (arith, c .before .loop .inv .low)

@@ -1,9 +1,12 @@
 -- `transform`: a plain line by the plain transform of its N points in each direction, the others by their fold.
 use borrow.Author.Needs.{needs}
 use native.Mathlib.Omega.{arith}
-use mathlib.Core.Path.{_≡_, sym, ap}
+use mathlib.Core.Path.{_≡_, sym, ap, subst}
+use Prim.Native.Nat.{ℕ, _*_}
 use Rattle.algebra.specs.lines.Kinds.{slots}
-use Rattle.lengths.specs.Lengths.{kindOf}
+use Rattle.lengths.specs.Lengths.{kindOf, octal, octalDigits, doubledList}
+use Rattle.lengths.specs.Admitted.{Factored}
+use Rattle.lengths.proofs.stage.Doubling.{doubled-factored}
 use Rattle.line.proofs.kinds.Dispatch.{prefix-length, half-list, count-of, plain-by, plain-back-by}
 use Rattle.line.proofs.transform.transform.Statement.{statement}
 use Rattle.line.proofs.transform.transform.Tie as tie
@@ -11,6 +14,10 @@ use Rattle.line.proofs.transform.transform.Tie as tie
 -- a direction that is not 0 is 1
 other : (s : tie.Start) → (s .args .direction ≡ 0 → ⊥) → s .args .direction ≡ 1
 other s n = omega (arith, s .pre .0 .2, n)
+
+-- the list of twice the length
+doubled-list : (s : tie.Start) {r : ℕ} → r ≡ octal (doubledList (octalDigits (s .args .factors))) → Factored r (2 * s .args .a)
+doubled-list s e = subst (λ r. Factored r (2 * s .args .a)) (sym e) (doubled-factored (half-list (s .args .a) (s .pre .1 .0 .0) (s .pre .1 .0 .1)))
 
 mul-n : tie.Need-mul-n
 mul-n c = let s = c .before .before .before .before in omega (arith, s .pre .1 .0 .0 .short)
@@ -35,7 +42,7 @@ transform-requires c κs =
     let e : s .args .kind ≡ 0 = omega arith in (
       (s .pre .0 .0, s .pre .0 .3 .powers),
       (
-        (d .doubled .ensures _ (half-list (s .args .a) (s .pre .1 .0 .0) (s .pre .1 .0 .1)), s .pre .1 .0 .0 .turns),
+        (doubled-list s (d .doubled .ensures), s .pre .1 .0 .0 .turns),
         ((count-of (s .args .a) (s .pre .1 .0 .0) (s .args .kind) (ap kindOf e) (s .pre .1 .1 .0 .0), prefix-length _ (s .args .work .now) (omega (arith, s .pre .1 .0 .0 .short, s .pre .1 .1 .1))), s .pre .1 .1 .0 .1),
       ),
     )
@@ -48,7 +55,7 @@ inverse-requires c κs =
     let e : s .args .kind ≡ 0 = omega arith in (
       (s .pre .0 .0, s .pre .0 .3 .powers),
       (
-        (d .doubled .ensures _ (half-list (s .args .a) (s .pre .1 .0 .0) (s .pre .1 .0 .1)), s .pre .1 .0 .0 .turns),
+        (doubled-list s (d .doubled .ensures), s .pre .1 .0 .0 .turns),
         ((count-of (s .args .a) (s .pre .1 .0 .0) (s .args .kind) (ap kindOf e) (s .pre .1 .1 .0 .0), prefix-length _ (s .args .work .now) (omega (arith, s .pre .1 .0 .0 .short, s .pre .1 .1 .1))), s .pre .1 .1 .0 .1),
       ),
     )

@@ -5,6 +5,7 @@ use Rattle.roots.specs.Table.{tableRoot}
 use Rattle.slices.proofs.Rows.{rows-wide}
 use Rattle.plain.proofs.step.Sizes.{outer-pos, product-le, product-pos, stride-le}
 use Rattle.plain.proofs.step.Passing.{Passing, passing-start, passing-reads, passing-stores, passing-column, passing-base, passing-exponent, passing-next, passing-again, passing-done}
+use Rattle.plain.proofs.Stepping.{step-parts}
 use Rattle.plain.proofs.step.step.Statement.{statement}
 use Rattle.plain.proofs.step.step.Tie as tie
 
@@ -36,8 +37,8 @@ loop-holds c =
     let s = c .before .before in
     passing-start (s .pre .1 .0 .inner) (s .pre .1 .1 .0 .1)
 
-butterfly-requires : tie.Need-butterfly-requires Inv-loop μ-loop
-butterfly-requires c κs =
+outer-sums-requires : tie.Need-outer-sums-requires Inv-loop μ-loop
+outer-sums-requires c κs =
     let at-loop-test = c .before in
     let at-loop = at-loop-test .before in
     let s = at-loop .before .before .before in
@@ -52,8 +53,8 @@ add-first c =
     let s = at-loop-test .before .before .before .before in
     omega (arith, at-loop-test .loop-test .taken, stride-le (s .pre .1 .0))
 
-add-s : tie.Need-add-s Inv-loop μ-loop
-add-s c =
+add-a : tie.Need-add-a Inv-loop μ-loop
+add-a c =
     let at-loop-test = c .before .before .before .before in
     let at-loop = at-loop-test .before in
     let s = at-loop .before .before .before in
@@ -91,7 +92,7 @@ loop-again c =
     let at-loop-test = at-butterfly .before .before in
     let at-loop = at-loop-test .before in
     let s = at-loop .before .before .before in
-    passing-again (at-loop .loop .inv) (at-loop-test .loop-test .taken) (at-butterfly .butterfly .ensures) (outer-pos (s .pre .1 .0)) (c .if1 .taken)
+    passing-again (at-loop .loop .inv) (at-loop-test .loop-test .taken) (at-butterfly .outer-sums .ensures) (outer-pos (s .pre .1 .0)) (c .if1 .taken)
 
 loop-less-2 : tie.Need-loop-less-2 Inv-loop μ-loop
 loop-less-2 c =
@@ -103,7 +104,7 @@ loop-again-2 c =
     let at-butterfly = c .before .before .before in
     let at-loop-test = at-butterfly .before .before in
     let at-loop = at-loop-test .before in
-    passing-next (at-loop .loop .inv) (at-loop-test .loop-test .taken) (at-butterfly .butterfly .ensures) (c .if1 .left)
+    passing-next (at-loop .loop .inv) (at-loop-test .loop-test .taken) (at-butterfly .outer-sums .ensures) (c .if1 .left)
 
 same-length : tie.Need-same-length Inv-loop μ-loop
 same-length c =
@@ -111,7 +112,10 @@ same-length c =
     omega (arith, at-loop .loop .inv .long)
 
 returns : tie.Need-returns Inv-loop μ-loop
-returns c = passing-done (c .before .loop .inv) (c .loop-test .left)
+returns c =
+    let s = c .before .before .before .before in
+    let left = passing-done (c .before .loop .inv) (c .loop-test .left) in
+    (left, λ X came. step-parts (s .args .m) _ (s .pre .0 .1 .cycle) (s .pre .1 .0) X came left)
 
 pub step-spec : {M : Type 1} → statement M
 step-spec =
@@ -125,9 +129,9 @@ step-spec =
     mul-exponent
     div-exponent
     loop-holds
-    butterfly-requires
+    outer-sums-requires
     add-first
-    add-s
+    add-a
     add-base
     add-k
     add-base-2

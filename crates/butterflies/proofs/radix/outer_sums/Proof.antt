@@ -1,23 +1,25 @@
 -- Each radix has its own.
 use borrow.Author.Needs.{needs}
-use mathlib.Core.Path.{_≡_, sym, _∙_, ap, subst}
+use mathlib.Core.Path.{_≡_, sym, subst}
 use mathlib.Core.List.{List}
 use Prim.Native.Nat.{ℕ, _≤_}
 use native.Mathlib.Omega.{arith}
 use Rattle.numbers.specs.Value.{prime}
 use Rattle.roots.specs.Table.{tableRoot}
 use Rattle.slices.specs.Pairs.{Below}
-use Rattle.butterflies.specs.Butterflies.{Reads, Stores, summed}
-use Rattle.butterflies.proofs.radix.butterfly.Statement.{statement}
-use Rattle.butterflies.proofs.radix.butterfly.Tie as tie
+use Rattle.butterflies.specs.Butterflies.{FactorsOf, Reads, Stores, outerSums}
+use Rattle.butterflies.proofs.radix.outer_sums.Statement.{statement}
+use Rattle.butterflies.proofs.radix.outer_sums.Tie as tie
 
 -- what is asked and what is done, at the radix that the tests have found
 asked : (s : tie.Start) {B : ℕ} → s .args .outer ≡ B → Reads B (s .args .at) (s .args .from .now) × Stores B (s .args .at) (s .args .to .now) × Below (prime (s .args .m)) (s .args .from .now)
 asked s e = (subst (λ B. Reads B (s .args .at) (s .args .from .now)) e (s .pre .1 .0 .2), subst (λ B. Stores B (s .args .at) (s .args .to .now)) e (s .pre .1 .0 .3), s .pre .1 .1)
 
-done : (s : tie.Start) {B : ℕ} {d : List ℕ} → s .args .outer ≡ B → d ≡ summed (s .args .m) (tableRoot (s .args .m) (s .args .re .now) (s .args .im .now)) B (s .args .at) (s .args .from .now) (s .args .to .now)
-    → d ≡ summed (s .args .m) (tableRoot (s .args .m) (s .args .re .now) (s .args .im .now)) (s .args .outer) (s .args .at) (s .args .from .now) (s .args .to .now)
-done s e h = h ∙ ap (λ B. summed (s .args .m) (tableRoot (s .args .m) (s .args .re .now) (s .args .im .now)) B (s .args .at) (s .args .from .now) (s .args .to .now)) (sym e)
+abbrev Sums : (s : tie.Start) (B : ℕ) (d : List ℕ) → Type 0
+Sums s B d = (A 𝐚 : ℕ) → FactorsOf A B 𝐚 (s .args .at) → d ≡ outerSums (s .args .m) (tableRoot (s .args .m) (s .args .re .now) (s .args .im .now)) A B 𝐚 (s .args .at) (s .args .from .now) (s .args .to .now)
+
+done : (s : tie.Start) {B : ℕ} {d : List ℕ} → s .args .outer ≡ B → Sums s B d → Sums s (s .args .outer) d
+done s {d = d} e h = subst (λ B. Sums s B d) (sym e) h
 
 -- 5 is left
 last : (s : tie.Start) → (s .args .outer ≡ 4 → ⊥) → (s .args .outer ≡ 2 → ⊥) → (s .args .outer ≡ 3 → ⊥) → s .args .outer ≡ 5
@@ -88,8 +90,8 @@ returns-4 c =
     let s = at-if1 .before .before .before in
     done s (last s (at-if1 .if1 .left) (at-if2 .if2 .left) (at-if3 .if3 .left)) (at-five-at .five-at .ensures)
 
-pub butterfly-spec : {M : Type 1} → statement M
-butterfly-spec =
+pub outer-sums-spec : {M : Type 1} → statement M
+outer-sums-spec =
     tie.close
     (tie.spec
     four-at-requires

@@ -5,8 +5,8 @@ use Rattle.numbers.proofs.Primes.{prime-most}
 use Rattle.slices.proofs.Bounds.{small-of}
 use Rattle.butterflies.proofs.quarter_turn.Powers.{root-small}
 use Rattle.butterflies.proofs.twiddle.Loading.{loaded-one, loaded-product}
-use Rattle.butterflies.proofs.twiddle.twiddled_at.Statement.{statement}
-use Rattle.butterflies.proofs.twiddle.twiddled_at.Tie as tie
+use Rattle.butterflies.proofs.twiddle.times_factor.Statement.{statement}
+use Rattle.butterflies.proofs.twiddle.times_factor.Tie as tie
 
 mul-k : tie.Need-mul-k
 mul-k c = search needs
@@ -50,5 +50,5 @@ returns-2 c =
     let s = at-get .before .before .before .before .before in
     loaded-product (s .args .m) (s .args .at) (s .args .from .now) (s .args .b) (at-get .get .ensures) (s .pre .0 .1) (s .pre .1 .1) (at-root-at .root-at .ensures) (c .product .ensures .0) (c .product .ensures .1)
 
-pub twiddled-at-spec : {M : Type 1} → statement M
-twiddled-at-spec = tie.close (tie.spec mul-k mul-get add-get get-requires of-pair-requires root-at-requires product-requires returns returns-2)
+pub times-factor-spec : {M : Type 1} → statement M
+times-factor-spec = tie.close (tie.spec mul-k mul-get add-get get-requires of-pair-requires root-at-requires product-requires returns returns-2)

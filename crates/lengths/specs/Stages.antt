@@ -1,6 +1,5 @@
 -- The stages of a transform by a factor list: a step takes the next factor off the list.
 use mathlib.Core.Path.{_≡_}
-use mathlib.Core.Bool.{Bool, true, false, not}
 use mathlib.Core.Logic.{_≢_}
 use mathlib.Core.List.{List}
 use lib.ListN.{take, drop}
@@ -25,11 +24,6 @@ splitStage l k = record { left = octal (drop k l); inner = product (take k l); l
 unfoldable pub stageAfter : ℕ → Stage → Stage
 stageAfter zero s = s
 stageAfter (suc k) s = after (stageAfter k s)
-
--- A stage that a line of n points comes to by its list, after an odd number of steps or an even one.
-pub data Reached (factors n : ℕ) : Bool → Stage → Type 0 where
-  start : Reached factors n false (record { left = factors; inner = 1; lines = n })
-  next : {odd : Bool} {s : Stage} → Reached factors n odd s → s .left ≢ 0 → Reached factors n (not odd) (after s)
 
 -- a stage that has a step ahead
 pub record Ahead (s : Stage) : Type 0 where

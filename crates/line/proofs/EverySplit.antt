@@ -9,7 +9,7 @@ use Rattle.numbers.specs.Value.{prime, IsModulus, Value, field}
 use Rattle.roots.proofs.Roots.{full-turn}
 use Rattle.roots.proofs.RootPowers.{conj-full-turn}
 use Rattle.slices.specs.Pairs.{Below}
-use Rattle.lengths.specs.Lengths.{product, admitted, factorsOk, doubledList}
+use Rattle.lengths.specs.Lengths.{product, factorsOk}
 use Rattle.lengths.specs.Admitted.{AdmittedLength}
 use Rattle.lengths.proofs.Factors.{factors-of, factors-ok}
 use Rattle.lengths.proofs.AdmittedLengths.{admitted-length}

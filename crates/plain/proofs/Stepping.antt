@@ -2,7 +2,6 @@
 use mathlib.Core.Path.{_≡_, sym, _∙_, ap, subst}
 use mathlib.Core.List.{List}
 use Prim.Native.Nat.{ℕ, _+_, _*_, _/_, _%_, _<_}
-use native.Mathlib.Nat as N
 use native.Mathlib.Omega.{arith}
 use Rattle.algebra.specs.ring.Ring.{Ops, pow}
 use Rattle.numbers.specs.Value.{Value, field}
@@ -10,10 +9,10 @@ use Rattle.numbers.proofs.Values.{field-ring}
 use Rattle.slices.specs.Pairs.{valuesOf, listOf}
 use Rattle.slices.proofs.Rows.{row-end}
 use Rattle.slices.proofs.Values.{values-list, list-cong}
-use Rattle.plain.specs.Plain.{innerSums, stepped, stepOf, StepParts, Splits, sumsAt}
+use Rattle.plain.specs.Plain.{innerSums, stepped, stepOf, StepParts, Splits}
 use Rattle.lengths.specs.declared.stage.Stage.{Stage}
 use Rattle.lengths.specs.Stages.{points, after, Ahead}
-use Rattle.lengths.proofs.stage.Factoring.{next-factor, next-length}
+use Rattle.lengths.proofs.stage.Factoring.{next-length}
 use Rattle.plain.proofs.Splitting.{next-splits}
 use Rattle.plain.proofs.Equation3.{found-at, parts-at, together-at, equation-3}
 
@@ -45,42 +44,19 @@ module _ (m : ℕ) (W : Value m) (cycle : pow (field m) W 2880 ≡ field m .one)
           let row : q * B + 𝐛 < M * B = omega (arith, row-end B hq) in
           ap (valuesOf m to) place ∙ ap (λ x. valuesOf m x ((q * B + 𝐛) * A + 𝐚)) left ∙ values-list m (A * B * M) _ ((q * B + 𝐛) * A + 𝐚) (omega (arith, row-end A row))
 
--- ---- the same from a stage to the next
+-- ---- the step of a stage
 
-module _ {s : Stage} (a : Ahead s) where
-  ahead-splits : Splits (s .inner) (s .left % 8) (s .lines / (s .left % 8))
-  ahead-splits = next-splits (s .inner) (a .factors) (a .more) (a .divides)
-
-  ahead-length : s .inner * (s .left % 8) * (s .lines / (s .left % 8)) ≡ points s
-  ahead-length = next-length (s .inner) (a .factors) (a .more)
-
-  lines-before : s .lines ≡ s .lines / (s .left % 8) * (s .left % 8)
-  lines-before = sym (N.mul-comm (s .lines / (s .left % 8)) (s .left % 8) ∙ next-factor (a .factors) (a .more) .whole)
-
-  ahead-sums : (m : ℕ) (W : Value m) → pow (field m) W 2880 ≡ field m .one → {from to : List ℕ} →
-      to ≡ stepOf m W (s .inner) (s .left % 8) (s .lines / (s .left % 8)) from
-      → (X : ℕ → Value m) → from ≡ sumsAt m W s X → to ≡ sumsAt m W (after s) X
+module _ {s : Stage} (a : Ahead s) {s′ : Stage} (e : s′ ≡ after s) where
+  lines-after : s .lines / (s .left % 8) ≡ s′ .lines
   unfolding after
-  ahead-sums m W cycle pass X came =
-      longer-sums m W cycle ahead-splits X
-      (came
-      ∙ ap (λ k. listOf (points s) (innerSums (field m) W (s .inner) k X)) lines-before
-      ∙ ap (λ k. listOf k (innerSums (field m) W (s .inner) (s .lines / (s .left % 8) * (s .left % 8)) X)) (sym ahead-length))
-      pass
+  lines-after = sym (ap (λ (t : Stage). t .lines) e)
 
-  -- s′ is the stage that the step comes to
-  module _ {s′ : Stage} (e : s′ ≡ after s) where
-    lines-after : s .lines / (s .left % 8) ≡ s′ .lines
-    unfolding after
-    lines-after = sym (ap (λ (t : Stage). t .lines) e)
+  pub step-splits : Splits (s .inner) (s .left % 8) (s′ .lines)
+  step-splits = subst (Splits (s .inner) (s .left % 8)) lines-after (next-splits (s .inner) (a .factors) (a .more) (a .divides))
 
-    pub step-splits : Splits (s .inner) (s .left % 8) (s′ .lines)
-    step-splits = subst (Splits (s .inner) (s .left % 8)) lines-after ahead-splits
+  pub step-long : {k : ℕ} → k ≡ 2 * points s → k ≡ 2 * (s .inner * (s .left % 8) * s′ .lines)
+  step-long long = long ∙ ap (λ k. 2 * k) (sym (next-length (s .inner) (a .factors) (a .more))) ∙ ap (λ k. 2 * (s .inner * (s .left % 8) * k)) lines-after
 
-    pub step-long : {k : ℕ} → k ≡ 2 * points s → k ≡ 2 * (s .inner * (s .left % 8) * s′ .lines)
-    step-long long = long ∙ ap (λ k. 2 * k) (sym ahead-length) ∙ ap (λ k. 2 * (s .inner * (s .left % 8) * k)) lines-after
-
-    pub step-sums : (m : ℕ) (W : Value m) → pow (field m) W 2880 ≡ field m .one → {from to : List ℕ} →
-        to ≡ stepOf m W (s .inner) (s .left % 8) (s′ .lines) from
-        → (X : ℕ → Value m) → from ≡ sumsAt m W s X → to ≡ sumsAt m W (after s) X
-    step-sums m W cycle {from} {to} pass = ahead-sums m W cycle (subst (λ M. to ≡ stepOf m W (s .inner) (s .left % 8) M from) (sym lines-after) pass)
+  pub step-left : (m : ℕ) (W : Value m) (from : List ℕ) {to : List ℕ} → to ≡ stepOf m W (s .inner) (s .left % 8) (s′ .lines) from
+      → to ≡ stepOf m W (s .inner) (s .left % 8) (s .lines / (s .left % 8)) from
+  step-left m W from {to} left = subst (λ M. to ≡ stepOf m W (s .inner) (s .left % 8) M from) (sym lines-after) left

@@ -3,15 +3,14 @@
 -- length of the whole line. The inner sums are what the steps before have left.
 use mathlib.Core.Path.{_≡_}
 use Prim.Native.Nat.{ℕ, zero, suc, _+_, _*_, _/_, _%_, _≤_, _<_}
-use mathlib.Core.Bool.{Bool, true, cond}
+use mathlib.Core.Bool.{Bool, cond}
 use mathlib.Core.List.{List}
+use lib.Dec.{eqb}
 use lib.ListN.{getD, take, drop}
 use Rattle.algebra.specs.ring.Ring.{Ops}
 use Rattle.butterflies.specs.Equation3.{direct, inner, factor, outer}
 use Rattle.numbers.specs.Value.{Value, field, i}
-use Rattle.lengths.specs.declared.stage.Stage.{Stage}
 use Rattle.lengths.specs.Lengths.{product}
-use Rattle.lengths.specs.Stages.{points, Reached}
 use Rattle.slices.specs.Pairs.{valuesOf, listOf}
 
 -- the line q of M
@@ -65,17 +64,10 @@ unfoldable pub afterSteps : (m : ℕ) → Value m → (l : List ℕ) (k : ℕ) (
 afterSteps m W l zero line = line
 afterSteps m W l (suc k) line = stepOf m W (innerLength l k) (outerLength l k) (lineCount l k) (afterSteps m W l k line)
 
--- ---- What the slices hold at a stage of a transform: the inner sums of equation (3).
-
--- what a slice holds at a stage: the inner sums of the line X
-abbrev pub sumsAt : (m : ℕ) → Value m → Stage → (ℕ → Value m) → List ℕ
-sumsAt m W s X = listOf (points s) (innerSums (field m) W (s .inner) (s .lines) X)
-
--- What the work slice, which held `before`, holds when `left` is left of the list: nothing is changed where no step was done, else it has the inner sums
--- as they stood after the last step of odd number, after which at most one factor more was left.
-pub data WorkLeft (m n : ℕ) (W : Value m) (factors left : ℕ) (X : ℕ → Value m) (before now : List ℕ) : Type 0 where
-  untouched : factors ≡ left → now ≡ before → WorkLeft m n W factors left X before now
-  last-odd : {s : Stage} → Reached factors n true s → s .left / 8 ≡ left → now ≡ sumsAt m W s X → WorkLeft m n W factors left X before now
+-- What the work slice, which held `work`, holds after the first k steps: the steps go to and fro, that of place k from the line to the work slice where k is even.
+unfoldable pub workAfter : (m : ℕ) → Value m → (l : List ℕ) (k : ℕ) (line work : List ℕ) → List ℕ
+workAfter m W l zero line work = work
+workAfter m W l (suc k) line work = cond (eqb (k % 2) 0) (afterSteps m W l (suc k) line) (workAfter m W l k line work)
 
 -- ---- What a line that is stored times i is multiplied by: i, or over i, which is -i.
 abbrev pub rotation : (m : ℕ) → (over : Bool) → Value m

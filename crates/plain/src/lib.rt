@@ -12,17 +12,18 @@ pub mod scale; // scale.rt
 
 use lengths::stage::Stage;
 ghost use mathlib.Core.Path.{_≡_};
-ghost use Prim.Native.Nat.{ℕ, _*_, _/_};
+ghost use Prim.Native.Nat.{_*_, _/_, _%_};
 ghost use lib.ListN.{length};
 ghost use Rattle.algebra.specs.ring.Ring.{Ops, pow, dft};
-ghost use Rattle.numbers.specs.Value.{prime, IsModulus, Value, field, part, real};
+ghost use Rattle.numbers.specs.Value.{prime, IsModulus, field, part, real};
 ghost use Rattle.roots.specs.Table.{tableRoot, RootTable};
+ghost use Rattle.lengths.specs.Lengths.{octalDigits};
 ghost use Rattle.lengths.specs.Admitted.{Factored};
 ghost use Rattle.lengths.specs.Stages.{points, after, Ahead};
 ghost use Rattle.slices.specs.Pairs.{Below, valuesOf, listOf};
-ghost use Rattle.plain.specs.Plain.{sumsAt, WorkLeft};
+ghost use Rattle.plain.specs.Plain.{stepOf, afterSteps, workAfter};
 
-// The transform of the line, in its natural order.
+// The transform of the line, in its natural order, by the steps of the list, one after the other.
 pub fn transform<'a>(
     m: u32,
     re: &'a [u32; 2880],
@@ -38,8 +39,10 @@ pub fn transform<'a>(
     requires { ⌜ Below (prime m) (now line) ⌝ }
     ensures { λ _. ⌜ now (line .exit) ≡ listOf n
         (dft (field m) n (pow (field m) (tableRoot m (now (re .entry)) (now (im .entry))) (2880 / n)) (valuesOf m (now (line .entry)))) ⌝ }
-    ensures { λ _. ⌜ WorkLeft m n (tableRoot m (now (re .entry)) (now (im .entry))) factors 0 (valuesOf m (now (line .entry))) (now (work .entry))
-        (now (work .exit)) ⌝ }
+    ensures { λ _. ⌜ now (line .exit) ≡ afterSteps m (tableRoot m (now (re .entry)) (now (im .entry))) (octalDigits factors) (length (octalDigits factors))
+        (now (line .entry)) ⌝ }
+    ensures { λ _. ⌜ now (work .exit) ≡ workAfter m (tableRoot m (now (re .entry)) (now (im .entry))) (octalDigits factors) (length (octalDigits factors))
+        (now (line .entry)) (now (work .entry)) ⌝ }
 {
     let mut at = Stage {
         left: factors,
@@ -73,8 +76,8 @@ pub fn inverse<'a>(
     ensures { λ _. ⌜ now (line .exit) ≡ listOf n
         (λ t. field m .mul (real m (part m n))
         (dft (field m) n (pow (field m) (tableRoot m (now (re .entry)) (now (im .entry))) (2880 / n)) (valuesOf m (now (line .entry))) t)) ⌝ }
-    ensures { λ _. ⌜ WorkLeft m n (tableRoot m (now (re .entry)) (now (im .entry))) factors 0 (valuesOf m (now (line .entry))) (now (work .entry))
-        (now (work .exit)) ⌝ }
+    ensures { λ _. ⌜ now (work .exit) ≡ workAfter m (tableRoot m (now (re .entry)) (now (im .entry))) (octalDigits factors) (length (octalDigits factors))
+        (now (line .entry)) (now (work .entry)) ⌝ }
 {
     transform(m, re, im, factors, n, line, work);
     crate::scale::divide(m, n, line);
@@ -94,8 +97,8 @@ fn next_step<'a>(
     requires { ⌜ (length (now from) ≡ 2 * points at) × (length (now to) ≡ 2 * points at) ⌝ }
     requires { ⌜ Below (prime m) (now from) ⌝ }
     ensures { λ r. ⌜ r ≡ after at ⌝ }
-    ensures { λ _. ⌜ ((X : ℕ → Value m) → now (from .entry) ≡ sumsAt m (tableRoot m (now (re .entry)) (now (im .entry))) at X → now (to .exit)
-        ≡ sumsAt m (tableRoot m (now (re .entry)) (now (im .entry))) (after at) X) ⌝ }
+    ensures { λ _. ⌜ now (to .exit) ≡ stepOf m (tableRoot m (now (re .entry)) (now (im .entry))) (at .inner) (at .left % 8) (at .lines / (at .left % 8))
+        (now (from .entry)) ⌝ }
 {
     let next = lengths::stage::next(at);
     crate::step::step(

@@ -10,8 +10,9 @@ use borrow.Author.Tests.{ne-eqb}
 use Rattle.lengths.specs.Lengths.{octal, product, digits, octalDigits, doubledList}
 use Rattle.lengths.specs.Admitted.{none, one, Factored, Factors}
 use Rattle.lengths.proofs.Digits.{digit-cons, octal-of-digits}
-use Rattle.lengths.proofs.Factors.{octal-digits, factors-ok}
-use Rattle.lengths.proofs.stage.Factoring.{packed, unpacked}
+use Rattle.lengths.proofs.Factors.{factors-of}
+use Rattle.lengths.proofs.stage.Factoring.{packed}
+use Rattle.lengths.proofs.stage.Listing.{digits-listed}
 
 -- ---- the first factor of a list
 
@@ -55,6 +56,7 @@ module _ {factors left place : ℕ} (h : Doubling factors left place) where
   doubled-end z =
       let two : octal (doubledList (octalDigits left)) ≡ 2 = ap (λ k. octal (doubledList (octalDigits k))) z ∙ none-doubled in
       sym (h .twice ∙ ap (λ k. h .passed + place * k) two ∙ omega (arith, h .whole, ap (λ k. place * k) z))
+
   module _ (more-left : left ≢ 0) where
     pub place-low : place ≤ factors
     place-low = omega (arith, h .whole, N.mul-le-mul-left {m = 1} {n = left} place (omega arith))
@@ -66,14 +68,14 @@ module _ {factors left place : ℕ} (h : Doubling factors left place) where
     pub doubled-here : left % 8 ≡ 2 → factors + 2 * place ≡ octal (doubledList (octalDigits factors))
     doubled-here two =
         let four : octal (doubledList (octalDigits left)) ≡ 4 + 8 * (left / 8) =
-            ap (λ l. octal (doubledList l)) (digit-cons left more-left) ∙ ap octal (doubled-two (octalDigits (left / 8)) two) ∙ octal-cons 4 (octalDigits (left / 8)) ∙ ap (λ k. 4 + 8 * k) (octal-of-digits (left / 8)) in
+        ap (λ l. octal (doubledList l)) (digit-cons left more-left) ∙ ap octal (doubled-two (octalDigits (left / 8)) two) ∙ octal-cons 4 (octalDigits (left / 8)) ∙ ap (λ k. 4 + 8 * k) (octal-of-digits (left / 8)) in
         sym (h .twice ∙ ap (λ k. h .passed + place * k) four ∙ omega (arith, h .whole, split, ap (λ k. place * k) two))
 
     -- it is passed
     pub doubling-next : (left % 8 ≡ 2 → ⊥) → Doubling factors (left / 8) (place * 8)
     doubling-next other =
         let rest : octal (doubledList (octalDigits left)) ≡ left % 8 + 8 * octal (doubledList (octalDigits (left / 8))) =
-            ap (λ l. octal (doubledList l)) (digit-cons left more-left) ∙ ap octal (doubled-other (octalDigits (left / 8)) other) ∙ octal-cons (left % 8) (doubledList (octalDigits (left / 8))) in
+        ap (λ l. octal (doubledList l)) (digit-cons left more-left) ∙ ap octal (doubled-other (octalDigits (left / 8)) other) ∙ octal-cons (left % 8) (doubledList (octalDigits (left / 8))) in
         record {
           passed = h .passed + place * (left % 8);
           whole = omega (arith, h .whole, split);
@@ -100,8 +102,6 @@ doubled-factors (one {f} {l} low high h) = ⊎-elim
     (two-or-other f)
 
 pub doubled-factored : {factors n : ℕ} → Factored factors n → Factored (octal (doubledList (octalDigits factors))) (2 * n)
-doubled-factored {factors} {n} h =
-    let u = unpacked h in
-    let list : octalDigits factors ≡ u .list = ap octalDigits (sym (u .packs)) ∙ octal-digits (u .list) (factors-ok (u .each)) in
-    subst (λ l. Factored (octal (doubledList l)) (2 * n)) (sym list)
-    (subst (Factored (octal (doubledList (u .list)))) (product-doubled (u .list) ∙ ap (λ k. 2 * k) (u .product-is)) (packed (doubled-factors (u .each))))
+doubled-factored {factors} h =
+    let u = digits-listed h in
+    subst (Factored (octal (doubledList (octalDigits factors)))) (product-doubled (octalDigits factors) ∙ ap (λ k. 2 * k) (u .product-is)) (packed (doubled-factors (factors-of (octalDigits factors) (u .each))))

@@ -34,18 +34,18 @@ module _ (l : List ℕ) (each : factorsOk l ≡ true) where
     rest : octal (drop k l) ≡ getD l k 0 + 8 * octal (drop (suc k) l)
     rest = octal-drop l k h ∙ ap (λ (n : ℕ). getD l k 0 + 8 * octal (drop n l)) (add-one k)
 
-    next-of : octal (drop k l) % 8 ≡ getD l k 0
+    pub next-of : octal (drop k l) % 8 ≡ getD l k 0
     next-of = let f = factor-at l k each h in omega (arith, rest, f .1)
 
     left-of : octal (drop k l) / 8 ≡ octal (drop (suc k) l)
     left-of = let f = factor-at l k each h in omega (arith, rest, f .1)
 
-    lines-of : product (drop k l) / getD l k 0 ≡ product (drop (suc k) l)
+    pub lines-of : product (drop k l) / getD l k 0 ≡ product (drop (suc k) l)
     lines-of =
         ap (λ (n : ℕ). n / getD l k 0) (product-drop l k h ∙ ap (λ (n : ℕ). getD l k 0 * product (drop n l)) (add-one k))
         ∙ N.mul-div-right (product (drop (suc k) l)) (omega (arith, factor-at l k each h .0))
 
-    split-next : after (splitStage l k) ≡ splitStage l (suc k)
+    pub split-next : after (splitStage l k) ≡ splitStage l (suc k)
     unfolding after
     split-next =
         ap (λ (x : ℕ). record { left = x; inner = product (take k l) * (octal (drop k l) % 8); lines = product (drop k l) / (octal (drop k l) % 8) }) left-of

@@ -29,7 +29,7 @@ returns c =
     let d = c .before .before in
     let t = d .before .before .before .before .before .before in
     let s = t .before .before .before .before .before in
-    (divided-values (s .args .m) (s .args .n) _ (t .transform .ensures .0) (d .divide .ensures), t .transform .ensures .1)
+    (divided-values (s .args .m) (s .args .n) _ (t .transform .ensures .0) (d .divide .ensures), t .transform .ensures .1 .1)
 
 pub inverse-spec : {M : Type 1} → statement M
 inverse-spec = tie.close (tie.spec transform-requires divide-requires same-length same-length-2 returns)

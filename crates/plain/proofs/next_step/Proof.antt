@@ -1,6 +1,6 @@
--- The pass of the next factor; equation (3) then says what it makes of inner sums.
+-- The step of the next factor.
 use borrow.Author.Needs.{needs}
-use Rattle.plain.proofs.Stepping.{step-splits, step-long, step-sums}
+use Rattle.plain.proofs.Stepping.{step-splits, step-long, step-left}
 use Rattle.plain.proofs.next_step.Statement.{statement}
 use Rattle.plain.proofs.next_step.Tie as tie
 
@@ -26,7 +26,7 @@ returns c =
     let p = c .before .before in
     let n = p .before .before .before in
     let s = n .before .before .before in
-    (n .next .ensures, step-sums (s .pre .1 .0) (n .next .ensures) (s .args .m) _ (s .pre .0 .1 .cycle) (p .step .ensures .0))
+    (n .next .ensures, step-left (s .pre .1 .0) (n .next .ensures) (s .args .m) _ (s .args .from .now) (p .step .ensures .0))
 
 pub next-step-spec : {M : Type 1} → statement M
 next-step-spec = tie.close (tie.spec next-requires cast-step step-requires same-length returns)

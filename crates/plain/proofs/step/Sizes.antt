@@ -21,16 +21,10 @@ module _ {A B M : ℕ} (h : Splits A B M) where
   by-product : 2880 / (A * B) ≡ M * share
   by-product = quotient (A * B) (M * share) product-share
 
-  by-inner : 2880 / A ≡ B * (M * share)
-  by-inner = quotient A (B * (M * share)) (omega (arith, h .divides))
-
   by-outer : 2880 / B ≡ A * (M * share)
   by-outer = quotient B (A * (M * share)) (omega (arith, h .divides))
 
   -- the step from one root to the next
-  pub inner-share : 2880 / A ≡ 2880 / (A * B) * B
-  inner-share = by-inner ∙ N.mul-comm B (M * share) ∙ ap (λ (k : ℕ). k * B) (sym by-product)
-
   pub outer-share : 2880 / B ≡ 2880 / (A * B) * A
   outer-share = by-outer ∙ N.mul-comm A (M * share) ∙ ap (λ (k : ℕ). k * A) (sym by-product)
 
@@ -39,9 +33,6 @@ module _ {A B M : ℕ} (h : Splits A B M) where
 
   outer-whole : B * (2880 / B) ≡ 2880
   outer-whole = divides B (A * (M * share)) outer-product
-
-  pub inner-whole : A * (2880 / A) ≡ 2880
-  inner-whole = divides A (B * (M * share)) (omega (arith, h .divides))
 
   pub product-divides : A * B * (2880 / (A * B)) ≡ 2880
   product-divides = divides (A * B) (M * share) product-share

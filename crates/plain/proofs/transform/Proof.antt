@@ -1,8 +1,8 @@
--- The loop's invariant is `Driving`: the line has the inner sums of what came in, for the factors that are done.
+-- The loop's invariant is `Driving`: the line has what the steps that are done leave of what came in.
 use mathlib.Core.Path.{_≡_}
 use native.Mathlib.Omega.{arith}
 use Rattle.roots.specs.Table.{tableRoot}
-use Rattle.plain.proofs.Driving.{standing-long, standing-end, standing-next, step-asks, after-left, Driving, driving-start, driving-next, driving-last}
+use Rattle.plain.proofs.Driving.{Lent, standing-long, standing-next, step-asks, after-left, Driving, driving-start, driving-next, driving-end, driving-last}
 use Rattle.plain.proofs.transform.Statement.{statement}
 use Rattle.plain.proofs.transform.Tie as tie
 
@@ -15,14 +15,17 @@ abbrev μ-loop : tie.MeasureT-loop
 abbrev St : tie.At-loop Inv-loop μ-loop → tie.Start Inv-loop μ-loop
 St l = l .before .before .before
 
+lent : (s : tie.Start Inv-loop μ-loop) → Lent (s .args .m) (tableRoot (s .args .m) (s .args .re .now) (s .args .im .now)) (s .args .factors) (s .args .n) (s .args .line .now)
+lent s = record { list = s .pre .1 .0 .0; divides = s .pre .1 .0 .1; cycle = s .pre .0 .1 .cycle; long = s .pre .1 .1 .0 .0; below = s .pre .1 .1 .1 }
+
 loop-holds : tie.Need-loop-holds Inv-loop μ-loop
-loop-holds c = let s = c .before .before in driving-start _ (s .args .factors) (s .pre .1 .1 .0 .0) (s .pre .1 .1 .0 .1) (s .pre .1 .1 .1)
+loop-holds c = let s = c .before .before in driving-start (lent s) (s .pre .1 .1 .0 .1)
 
 next-step-requires : tie.Need-next-step-requires Inv-loop μ-loop
 next-step-requires c κs =
     let l = c .before .before .before .before in
     let s = St l in
-    (s .pre .0, step-asks (s .pre .1 .0 .0) (l .loop .inv .stands) (omega arith) (s .pre .1 .0 .1) (l .loop .inv .work-long))
+    (s .pre .0, step-asks (lent s) (l .loop .inv .stands) (omega arith) (l .loop .inv .work-long))
 
 -- where the round of a first step began
 abbrev Round : tie.After-next-step Inv-loop μ-loop → tie.At-loop Inv-loop μ-loop
@@ -33,10 +36,9 @@ next-step-requires-2 c κs =
     let t = c .before .before .before .before in
     let l = Round t in
     let s = St l in
-    let list = s .pre .1 .0 .0 in
     let e = t .next-step .ensures .0 in
-    let h = standing-next list (l .loop .inv .stands) (omega arith) e (t .next-step .ensures .1) in
-    (s .pre .0, step-asks list h (omega (arith, after-left (l .loop .at) e)) (s .pre .1 .0 .1) (standing-long list (l .loop .inv .stands)))
+    let h = standing-next (lent s) (l .loop .inv .stands) (omega arith) e (t .next-step .ensures .1) in
+    (s .pre .0, step-asks (lent s) h (omega (arith, after-left (l .loop .at) e)) (standing-long (lent s) (l .loop .inv .stands)))
 
 loop-less : tie.Need-loop-less Inv-loop μ-loop
 loop-less c =
@@ -50,27 +52,26 @@ loop-again c =
     let t = u .before .before .before .before .before in
     let l = Round t in
     let s = St l in
-    let list = s .pre .1 .0 .0 in
     let e = t .next-step .ensures .0 in
-    let h = standing-next list (l .loop .inv .stands) (omega arith) e (t .next-step .ensures .1) in
-    driving-next (s .args .line .now) (s .args .work .now) list h (standing-next list h (omega (arith, after-left (l .loop .at) e)) (u .next-step2 .ensures .0) (u .next-step2 .ensures .1)) (u .next-step2 .ensures .0)
+    let h = standing-next (lent s) (l .loop .inv .stands) (omega arith) e (t .next-step .ensures .1) in
+    driving-next (lent s) (l .loop .inv) h (standing-next (lent s) h (omega (arith, after-left (l .loop .at) e)) (u .next-step2 .ensures .0) (u .next-step2 .ensures .1))
 
 next-step-requires-3 : tie.Need-next-step-requires-3 Inv-loop μ-loop
 next-step-requires-3 c κs =
     let l = c .before .before .before .before .before .before in
     let s = St l in
-    (s .pre .0, step-asks (s .pre .1 .0 .0) (l .loop .inv .stands) (omega arith) (s .pre .1 .0 .1) (l .loop .inv .work-long))
+    (s .pre .0, step-asks (lent s) (l .loop .inv .stands) (omega arith) (l .loop .inv .work-long))
 
 copy-requires : tie.Need-copy-requires Inv-loop μ-loop
 copy-requires c κs =
     let w = c .before .before .before in
     let l = w .before .before .before .before .before .before .before .before in
-    (omega (arith, w .work2 .given, l .loop .inv .work-long), omega (arith, standing-long (St l .pre .1 .0 .0) (l .loop .inv .stands)))
+    (omega (arith, w .work2 .given, l .loop .inv .work-long), omega (arith, standing-long (lent (St l)) (l .loop .inv .stands)))
 
 same-length : tie.Need-same-length Inv-loop μ-loop
 same-length c =
     let l = c .before .before .before .before .before .before .before .before .before .before .before .before .before .before in
-    omega (arith, c .before .line2 .given, standing-long (St l .pre .1 .0 .0) (l .loop .inv .stands))
+    omega (arith, c .before .line2 .given, standing-long (lent (St l)) (l .loop .inv .stands))
 
 same-length-2 : tie.Need-same-length-2 Inv-loop μ-loop
 same-length-2 c =
@@ -84,13 +85,12 @@ returns c =
     let t = k .before .before .before .before .before in
     let l = t .before .before .before .before .before .before .before in
     let s = St l in
-    let list = s .pre .1 .0 .0 in
     let e = t .next-step3 .ensures .0 in
-    let h = standing-next list (l .loop .inv .stands) (omega arith) e (t .next-step3 .ensures .1) in
-    driving-last (s .args .line .now) (s .args .work .now) (l .loop .line) list h (omega (arith, after-left (l .loop .at) e, t .before .before .before .before .before .if1 .left)) (standing-long list (l .loop .inv .stands)) (k .copy .ensures)
+    let h = standing-next (lent s) (l .loop .inv .stands) (omega arith) e (t .next-step3 .ensures .1) in
+    driving-last (lent s) (l .loop .inv) h (omega (arith, after-left (l .loop .at) e, t .before .before .before .before .before .if1 .left)) (k .copy .ensures)
 
 same-length-3 : tie.Need-same-length-3 Inv-loop μ-loop
-same-length-3 c = let l = c .before .before .before .before in omega (arith, standing-long (St l .pre .1 .0 .0) (l .loop .inv .stands))
+same-length-3 c = let l = c .before .before .before .before in omega (arith, standing-long (lent (St l)) (l .loop .inv .stands))
 
 same-length-4 : tie.Need-same-length-4 Inv-loop μ-loop
 same-length-4 c = omega (arith, c .before .before .before .before .loop .inv .work-long)
@@ -98,8 +98,7 @@ same-length-4 c = omega (arith, c .before .before .before .before .loop .inv .wo
 returns-2 : tie.Need-returns-2 Inv-loop μ-loop
 returns-2 c =
     let l = c .before .before .before .before in
-    let z : l .loop .at .left ≡ 0 = omega arith in
-    (standing-end (St l .pre .1 .0 .0) (l .loop .inv .stands) z, rw z at (l .loop .inv .work-is))
+    driving-end (lent (St l)) (l .loop .inv) (omega arith)
 
 pub transform-spec : {M : Type 1} → statement M
 transform-spec =

@@ -26,7 +26,7 @@ unfoldable pub each : (n : ℕ) → (ℕ → List ℕ) → List ℕ
 each zero f = []
 each (suc n) f = each n f ++ f n
 
--- ---- A call that fills an output: how many bytes it wrote, or the refusal's number; and what it leaves in the output.
+-- ---- A call that fills an output: how many places it wrote, or the refusal's number; and what it leaves in the output.
 
 pub data Filled : Type 0 where
   written : (count : ℕ) → Filled

@@ -7,7 +7,7 @@ ghost use mathlib.Core.List.{[], _∷_};
 ghost use Rattle.output.specs.Output.{decimal, blank};
 ghost use Rattle.output.specs.Written.{Wrote, Ends};
 
-// The answer of a call that fills an output: how many bytes it wrote, or why none.
+// The answer of a call that fills an output, or several alike: how many places it wrote, or why none.
 pub enum FillAnswer {
     Written(usize),
     Refused(Refusal),

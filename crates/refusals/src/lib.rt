@@ -28,6 +28,7 @@ pub enum Refusal {
     NoFactors,
     Occupied,
     ImpossibleJob,
+    Window,
 }
 
 // What a check says.
@@ -63,5 +64,6 @@ pub fn number_of(r: Refusal) -> u32
         Refusal::NoFactors => 23,
         Refusal::Occupied => 24,
         Refusal::ImpossibleJob => 25,
+        Refusal::Window => 34,
     }
 }

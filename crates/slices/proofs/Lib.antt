@@ -1,6 +1,7 @@
 pub mod Pairs
 pub mod Bounds
 pub mod Filling
+pub mod Stores
 pub mod Rows
 pub mod Segments
 pub mod Sets

@@ -1,0 +1,5 @@
+pub mod Scores
+pub mod FirstBest
+pub mod Outcome
+pub mod EachWindow
+pub mod Blocks

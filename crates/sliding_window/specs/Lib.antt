@@ -1,0 +1,4 @@
+pub mod Window
+pub mod FirstBest
+pub mod Blocks
+pub mod Answers

@@ -1,0 +1,49 @@
+// The refusals of the window's call: the number is that of the first test of the paper's order that holds.
+use refusals::Checked;
+use refusals::Refusal;
+ghost use mathlib.Core.Path.{_≡_};
+ghost use Prim.Native.Nat.{_+_, _-_, _<_};
+ghost use Rattle.refusals.specs.Refusals.{first};
+ghost use Rattle.refusals.specs.Checks.{checkedNumber};
+ghost use Rattle.sliding_window.specs.Window.{windowTests};
+
+// How many windows of w entries a run has. Of no entries there is none to speak of, and the call refuses it; its count is one more than
+// the run's length, wherever that can be counted.
+pub fn window_count(length: usize, w: u32) -> usize
+    requires { ⌜ length < 18446744073709551615 ⌝ }
+    ensures { λ r. ⌜ r ≡ length + 1 - w ⌝ }
+{
+    let size = w as usize;
+    if length < size { 0 } else { length + 1 - size }
+}
+
+pub fn check_window(
+    w: u32,
+    count: usize,
+    least: usize,
+    greatest: usize,
+    least_at: usize,
+    greatest_at: usize,
+) -> Checked
+    ensures { λ r. ⌜ checkedNumber r ≡ first (windowTests w count least greatest «least_at» «greatest_at») ⌝ }
+{
+    if w == 0 {
+        return Checked::Failed(Refusal::Window);
+    }
+    if 65 <= w {
+        return Checked::Failed(Refusal::Window);
+    }
+    if least < count {
+        return Checked::Failed(Refusal::OutputTooShort);
+    }
+    if greatest < count {
+        return Checked::Failed(Refusal::OutputTooShort);
+    }
+    if least_at < count {
+        return Checked::Failed(Refusal::OutputTooShort);
+    }
+    if greatest_at < count {
+        return Checked::Failed(Refusal::OutputTooShort);
+    }
+    Checked::Sound
+}

@@ -38,8 +38,10 @@ extern "C" {
 /* The version of the calls: 10,000 times the major, 100 times the minor, and the patch number. */
 #define RECORDER_VERSION 10000
 
-/* Limits: the modulus of residues, the longest axis, the most numbers of a volume, the numbers of a scratch. */
-enum { RECORDER_MODULUS = 86399, RECORDER_LONGEST = 2880, RECORDER_MOST_NUMBERS = 16777216, RECORDER_SCRATCH = 11520 };
+/* Limits: the modulus of residues, the longest axis, the most numbers of a volume, the numbers of a scratch, the most entries of a window. */
+enum {
+    RECORDER_MODULUS = 86399, RECORDER_LONGEST = 2880, RECORDER_MOST_NUMBERS = 16777216, RECORDER_SCRATCH = 11520, RECORDER_LONGEST_WINDOW = 64
+};
 
 /* Groups. */
 enum { RECORDER_P1 = 0, RECORDER_P21 = 1, RECORDER_PM = 2, RECORDER_PA = 3, RECORDER_P212121 = 4 };
@@ -74,12 +76,13 @@ enum {
     RECORDER_REFUSED_INCONSISTENT = 14,      /* no cell that obeys the group has these numbers */
     RECORDER_REFUSED_FILE_SHAPE = 15,        /* a file's bytes are not those that its count and header ask for */
     RECORDER_REFUSED_FILE_VERSION = 16,      /* a file's version not 1 */
-    RECORDER_REFUSED_OUTPUT_TOO_SHORT = 18,  /* output too short for the file */
+    RECORDER_REFUSED_OUTPUT_TOO_SHORT = 18,  /* output too short */
     RECORDER_REFUSED_NOT_COLLECTING = 21,    /* a record while not collecting */
     RECORDER_REFUSED_NO_MAP = 22,            /* no map held */
     RECORDER_REFUSED_NO_FACTORS = 23,        /* no factors held */
     RECORDER_REFUSED_OCCUPIED = 24,          /* a number that holds part of the record's orbit is not 0 */
-    RECORDER_REFUSED_IMPOSSIBLE_JOB = 25     /* no call could have given this job back */
+    RECORDER_REFUSED_IMPOSSIBLE_JOB = 25,    /* no call could have given this job back */
+    RECORDER_REFUSED_WINDOW = 34             /* window not of 1 to 64 entries */
 };
 
 /* A reflection's index (h, k, l) and a grid point's index (x, y, z): no call takes one for the other. */
@@ -131,8 +134,9 @@ recorder_answer recorder_open(uint32_t group, uint32_t kind, uint32_t n1, uint32
 recorder_file_answer recorder_open_file(const uint8_t *file, size_t file_length, uint32_t *volume, size_t volume_length);
 
 /* Writes the factor file of a job that holds factors: one record for each orbit with a value other than zero, at its lowest (h, k, l),
-   by rising h, then k, then l; where all are zero, a file of no records. So equal groups, lengths, factor lists and volumes give equal files, and a written file that is read and
-   written again is the same. Returns the count of bytes written; the places beyond are untouched.
+   by rising h, then k, then l; where all are zero, a file of no records. So equal groups, lengths, factor lists and volumes give equal
+   files, and a written file that is read and written again is the same. Returns the count of bytes written; the places beyond are
+   untouched.
    Refusals: 25, 23 no factors held, 6 volume not exactly as long as required, 7, 14, 18 output too short. */
 recorder_write_answer recorder_write_file(recorder_job job, const uint32_t *volume, size_t volume_length, uint8_t *out, size_t out_length);
 
@@ -165,6 +169,14 @@ recorder_factor_value recorder_factor(recorder_job job, recorder_reflection at, 
    exactly as long as its kind asks, 13 scratch too short, 7 a number of 86,399 or more. */
 uint32_t recorder_line(uint32_t kind, uint32_t direction, uint32_t length, const uint8_t *factors, size_t count,
                        uint32_t *line, size_t line_length, uint32_t *scratch, size_t scratch_length);
+
+/* The drift of a crystal: of a run of scores, for each w neighbouring entries (a window), the least and the greatest score and the first
+   place of each, counted in the run from 0. Place j of each output is that of the entries j to j + w - 1. Returns how many windows there
+   are, run_length + 1 - w, or 0 for a run that is shorter than w; the places beyond are untouched. The time is the same for every w.
+   Refusals: 34 w not 1 to 64, 18 an output with fewer places than windows. */
+recorder_write_answer recorder_drift(const int64_t *run, size_t run_length, uint32_t w, int64_t *least, size_t least_length,
+                                     int64_t *greatest, size_t greatest_length, uint64_t *least_at, size_t least_at_length,
+                                     uint64_t *greatest_at, size_t greatest_at_length);
 
 #ifdef __cplusplus
 }

@@ -25,7 +25,7 @@ FFI_NAMES = {"Reflection": "recorder_reflection", "GridPoint": "recorder_grid_po
              "Density": "recorder_density", "FactorValue": "recorder_factor_value"}
 # A struct that lacks the mark is not found, and so differs.
 LAID_OUT = r"#\[repr\(C\)\]\s*(?:#\[derive\([^)]*\)\]\s*)?"
-NUMBERS = {"u8": "uint8_t", "u32": "uint32_t", "usize": "size_t"}
+NUMBERS = {"u8": "uint8_t", "u32": "uint32_t", "u64": "uint64_t", "i64": "int64_t", "usize": "size_t"}
 
 
 def read(name):
@@ -153,6 +153,7 @@ DAMAGES = [
     (0, "RECORDER_REFUSED_INDEX = 10,", "RECORDER_REFUSED_INDEX = 11,"), (1, "Refusal::Occupied => 24,", ""),
     (1, "pub place: u32,", ""), (1, "fn recorder_analysis(", "fn recorder_analyse("),
     (1, "#[repr(C)]", ""), (2, "#[repr(C)]", ""),
+    (0, "int64_t *least, size_t least_length", "uint64_t *least, size_t least_length"),
     (2, "pub written: usize", "pub written: u32"), (2, "direction: u32,\n        length: u32,", "direction: u32,"),
 ]
 

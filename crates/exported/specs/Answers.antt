@@ -11,7 +11,8 @@ use Rattle.exported.specs.declared.answers.PointCoded.{PointCoded}
 use Rattle.exported.specs.declared.answers.FactorCoded.{FactorCoded}
 use Rattle.line.specs.Line.{LineOutcome}
 use Rattle.output.specs.Output.{Filled, Filled.written, Filled.notWritten, FillOutcome}
-use Rattle.exported.specs.declared.WriteCoded.{WriteCoded}
+use Rattle.exported.specs.declared.answers.WriteCoded.{WriteCoded}
+use Rattle.sliding_window.specs.Window.{Extremes, WindowOutcome}
 
 -- what stands for the job that a refused opening does not give
 abbrev pub noAxis : Axis
@@ -47,7 +48,7 @@ pointCoded a = record { number = replyOf a .number; density = replyOf a .x }
 abbrev pub factorCoded : Said → FactorCoded
 factorCoded a = record { number = replyOf a .number; a = replyOf a .x; b = replyOf a .y }
 
--- ---- the same of the writer and of a line
+-- ---- the same of the writer, of a line and of the windows of a run
 
 abbrev pub writingCoded : Filled → WriteCoded
 writingCoded (written n) = record { number = 0; written = n }
@@ -58,3 +59,6 @@ writeCoded o = (writingCoded (o .answer), o .output)
 
 abbrev pub lineCoded : LineOutcome → ℕ × List ℕ × List ℕ
 lineCoded o = (o .answer, o .line, o .scratch)
+
+abbrev pub windowCoded : WindowOutcome → WriteCoded × Extremes
+windowCoded o = (writingCoded (o .answer), o .outputs)

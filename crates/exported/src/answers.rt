@@ -1,4 +1,4 @@
-// What the calls of a job and of a factor file answer, as numbers, for programs in C: crate exported passes them on.
+// What the calls answer, as numbers, for programs in C: crate exported passes them on.
 //
 // Every answer has a number: 0, or the paper's number of the refusal. What only an accepted call gives is zero in a refused one.
 use factor_file::FileAnswer;
@@ -9,10 +9,12 @@ use job::Job;
 use job::OpenAnswer;
 use job::PointAnswer;
 use job::reply;
+use output::FillAnswer;
 ghost use mathlib.Core.Path.{_≡_};
 ghost use Rattle.job.specs.Answers.{said, saidOpen, saidPoint, saidFactor, replyOf};
 ghost use Rattle.factor_file.specs.Answers.{saidFile};
-ghost use Rattle.exported.specs.Answers.{noJob, openingCoded, fileAnswerCoded, pointCoded, factorCoded};
+ghost use Rattle.output.specs.Answers.{saidFill};
+ghost use Rattle.exported.specs.Answers.{noJob, openingCoded, fileAnswerCoded, pointCoded, factorCoded, writingCoded};
 
 // The answer of an opening, a record, a synthesis and an analysis.
 #[repr(C)]
@@ -41,6 +43,13 @@ pub struct FileCoded {
     pub number: u32,
     pub place: u32,
     pub job: Job,
+}
+
+// The answer of a call that fills outputs: the writer's, and that of the windows of a run.
+#[repr(C)]
+pub struct WriteCoded {
+    pub number: u32,
+    pub written: usize,
 }
 
 pub fn opening_coded(answer: OpenAnswer) -> JobCoded
@@ -105,6 +114,18 @@ pub fn factor_coded(answer: FactorAnswer) -> FactorCoded
         number: numbers.number,
         a: numbers.x,
         b: numbers.y,
+    }
+}
+
+pub fn filled_coded(answer: FillAnswer) -> WriteCoded
+    ensures { λ r. ⌜ r ≡ writingCoded (saidFill answer) ⌝ }
+{
+    match answer {
+        FillAnswer::Written(written) => WriteCoded { number: 0, written },
+        FillAnswer::Refused(refusal) => WriteCoded {
+            number: refusals::number_of(refusal),
+            written: 0,
+        },
     }
 }
 

@@ -1,5 +1,5 @@
-// The recorder for programs in C: each function is a public call of crate line, job or factor_file under a C name, and
-// include/recorder.h declares it again.
+// The recorder for programs in C: each function is a public call of crate line, job, factor_file or sliding_window under a
+// C name, and include/recorder.h declares it again.
 //
 // A job, an index and a point go in and come back by value; a buffer is a pointer and a length. Every answer has a number: 0, or
 // the paper's number of the refusal. What only an accepted call gives is zero in a refused one.
@@ -9,25 +9,19 @@ use crate::answers::FactorCoded;
 use crate::answers::FileCoded;
 use crate::answers::JobCoded;
 use crate::answers::PointCoded;
+use crate::answers::WriteCoded;
 use factor_file::open_file;
 use job::GridPoint;
 use job::Job;
 use job::Reflection;
 use line::LineAnswer;
-use output::FillAnswer;
 ghost use mathlib.Core.Path.{_≡_};
 ghost use Rattle.line.specs.Line.{lineStep};
 ghost use Rattle.line.specs.Answers.{saidLine};
 ghost use Rattle.job.specs.Job.{openStep, recordStep, synthesisStep, analysisStep, pointStep, factorStep};
 ghost use Rattle.factor_file.specs.File.{fileStep, writeStep};
-ghost use Rattle.exported.specs.Answers.{openCoded, fileCoded, recordCoded, workCoded, pointCoded, factorCoded, writeCoded, lineCoded};
-
-// The answer of the writer.
-#[repr(C)]
-pub struct WriteCoded {
-    pub number: u32,
-    pub written: usize,
-}
+ghost use Rattle.sliding_window.specs.Window.{windowStep};
+ghost use Rattle.exported.specs.Answers.{openCoded, fileCoded, recordCoded, workCoded, pointCoded, factorCoded, writeCoded, lineCoded, windowCoded};
 
 // Opens a job. A refused opening gives a job of zeros, which every call refuses.
 #[no_mangle]
@@ -61,14 +55,7 @@ pub extern "C" fn recorder_open_file(file: &[u8], volume: &mut [u32]) -> FileCod
 pub extern "C" fn recorder_write_file(held: Job, volume: &[u32], out: &mut [u8]) -> WriteCoded
     ensures { λ r. ⌜ (r, now (out .exit)) ≡ writeCoded (writeStep held (now (volume .entry)) (now (out .entry))) ⌝ }
 {
-    let answer = factor_file::writer::write_file(held, volume, out);
-    match answer {
-        FillAnswer::Written(written) => WriteCoded { number: 0, written },
-        FillAnswer::Refused(refusal) => WriteCoded {
-            number: refusals::number_of(refusal),
-            written: 0,
-        },
-    }
+    crate::answers::filled_coded(factor_file::writer::write_file(held, volume, out))
 }
 
 // Records the structure factor a + b i at an index.
@@ -140,4 +127,28 @@ fn line_number(answer: LineAnswer) -> u32
         LineAnswer::Transformed => 0,
         LineAnswer::Refused(refusal) => refusals::number_of(refusal),
     }
+}
+
+// The least and the greatest score of each window of a run, and the first places of both.
+#[no_mangle]
+pub extern "C" fn recorder_drift(
+    run: &[i64],
+    w: u32,
+    least: &mut [i64],
+    greatest: &mut [i64],
+    least_at: &mut [u64],
+    greatest_at: &mut [u64],
+) -> WriteCoded
+    ensures { λ r. ⌜ (r, record { least = now (least .exit); greatest = now (greatest .exit); leastAt = now («least_at» .exit); greatestAt = now («greatest_at» .exit) })
+        ≡ windowCoded (windowStep (now (run .entry)) w (record
+        { least = now (least .entry); greatest = now (greatest .entry); leastAt = now («least_at» .entry); greatestAt = now («greatest_at» .entry) })) ⌝ }
+{
+    crate::answers::filled_coded(sliding_window::window_extremes(
+        run,
+        w,
+        least,
+        greatest,
+        least_at,
+        greatest_at,
+    ))
 }

@@ -74,8 +74,8 @@ module _ {g : Bool} {run : List ℤ} where
 -- the definition joins one entry more at each step; the first is joined with itself
 best-from : (g : Bool) (run : List ℤ) (s w : ℕ) → BestAmong g run s (s + suc w) (bestOf g run s (suc w))
 unfolding bestOf
-best-from g run s zero = best-joined (best-one s {e = s + 1} refl) (best-one (s + 0) {e = s + 1} (omega arith)) (omega arith) (omega arith) (omega arith)
-best-from g run s (suc w) = best-joined (best-from g run s w) (best-one (s + suc w) {e = s + suc (suc w)} (omega arith)) (omega arith) (omega arith) (omega arith)
+best-from g run s zero = best-joined (best-one s {e = s + 1} refl) (best-one _ {e = s + 1} (omega arith)) (omega arith) (omega arith) (omega arith)
+best-from g run s (suc w) = best-joined (best-from g run s w) (best-one _ {e = s + suc (suc w)} (omega arith)) (omega arith) (omega arith) (omega arith)
 
 pub first-best : FirstBest
 first-best g run s zero l = absurd (omega arith)

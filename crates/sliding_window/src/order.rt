@@ -16,9 +16,6 @@ pub fn better(greatest: bool, run: &[i64], a: usize, b: usize) -> usize
     requires { ⌜ (a < length (now run)) × (b < length (now run)) ⌝ }
     ensures { λ r. ⌜ r ≡ betterOf greatest (now (run .entry)) a b ⌝ }
 {
-    if is_better(greatest, run[b], run[a]) {
-        b
-    } else {
-        a
-    }
+    let later = is_better(greatest, run[b], run[a]);
+    if later { b } else { a }
 }

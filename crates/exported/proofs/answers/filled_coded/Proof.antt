@@ -1,0 +1,24 @@
+-- What the answer says, coded.
+use borrow.Author.Needs.{needs}
+use Rattle.exported.proofs.answers.Coding.{written-coded, unwritten-coded}
+use Rattle.exported.proofs.answers.filled_coded.Statement.{statement}
+use Rattle.exported.proofs.answers.filled_coded.Tie as tie
+
+enum-known-answer : tie.Need-enum-known-answer
+enum-known-answer c = search needs
+
+enum-known-answer-2 : tie.Need-enum-known-answer-2
+enum-known-answer-2 c = search needs
+
+number-of-requires : tie.Need-number-of-requires
+number-of-requires c κs = search needs
+
+returns : tie.Need-returns
+returns c = written-coded _ _ (c .before .answer .given .1)
+
+returns-2 : tie.Need-returns-2
+returns-2 c = unwritten-coded _ _ _ (c .before .before .answer2 .given .1) (c .number-of .ensures)
+
+pub filled-coded-spec : {M : Type 1} → statement M
+filled-coded-spec =
+    tie.close (tie.spec enum-known-answer enum-known-answer-2 number-of-requires returns returns-2)

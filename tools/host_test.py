@@ -5,8 +5,9 @@
 
 Small grids: the printer test's files, files of no records among them, their maps as text and as map files, the factor files written from those, the
 files shuffled and rewritten, their records, readings of points and factors, all against the book of brute_force.py. Every refusal that a file, a map
-file or a line can give. Files that are damaged, empty, missing, endless or not to be written, or are the input itself; pipes that are closed; no
-memory; signals at random moments of writing. P1 and P2_1 2_1 2_1 at 240^3 and P2_1 at 288^3 there and back, byte for byte, with some densities summed
+file or a line can give. Runs of scores, their windows against window_cases.py. Files that are damaged, empty, missing, endless or not to be written,
+or are the input itself; pipes that are closed; no memory; signals at random moments of writing. P1 and P2_1 2_1 2_1 at 240^3 and P2_1 at 288^3 there
+and back, byte for byte, with some densities summed
 directly. The seed is fixed. Prints how many comparisons agreed; the exit status is 1 where one did not.
 """
 import filecmp
@@ -25,12 +26,15 @@ import time
 from brute_force import (LIMIT, P, ROOT, Book, all_points, analysed, e, file_bytes, images, number, open_file, pack_map, planes, point_images,
                          read_cell, volume_length)
 from printer_test import files
+from window_cases import SCORES, windows
 
 SEED = 1973
 # Every refusal that the tool's input can give, readings outside the cell among them.
 REFUSALS = {"factor file": {3, 4, 5, 7, 8, 9, 10, 11, 12, 15, 16, 24}, "map file": {3, 4, 5, 7, 8, 9, 10, 14, 15, 16},
-            "line": {1, 2, 3, 4, 5, 6, 7}}
-COMMANDS = ["map", "factors", "rewrite", "records", "check", "info", "point", "factor", "line"]
+            "line": {1, 2, 3, 4, 5, 6, 7}, "scores": {34}}
+COMMANDS = ["map", "factors", "rewrite", "records", "check", "info", "point", "factor", "line", "drift"]
+# Those that work on a factor file or a map file.
+ON_FILES = COMMANDS[:-2]
 LARGE = [(0, 240, [4, 5, 3, 2]), (1, 288, [4, 4, 3, 3]), (4, 240, [2, 3, 4, 5])]
 GROUPS = ["P1", "P2_1", "Pm", "Pa", "P2_1 2_1 2_1"]
 SAMPLES = [("p21", 6), ("p212121", 37), ("empty", 0)]
@@ -87,7 +91,7 @@ class Tool:
         self.seen[kind_of(words)].add(refusal)
         self.expect(what, (status, out), (1, b"refused %d at %d\n" % (refusal, place) if words[0] == "map" and "-o" not in words else b""))
         self.expect(what + ", its words", re.sub(rb"(?m)^found: .*\n", b"", err).count(b"\n"), 3)
-        of = "" if words[0] == "line" else words[1] + ": "
+        of = words[1] + ": " if words[0] in ON_FILES else ""
         self.expect(what + ", its number", err.split(b"\n")[0], b"recorder: %srefused %d at %d" % (of.encode(), refusal, place))
 
     def fails(self, what, words, part, given=b"", **more):
@@ -100,8 +104,8 @@ class Tool:
 
 def kind_of(words):
     """What a command works on."""
-    if words[0] == "line":
-        return "line"
+    if words[0] not in ON_FILES:
+        return {"line": "line", "drift": "scores"}[words[0]]
     with open(words[1], "rb") as file:
         return "map file" if file.read(4) == b"RMAP" else "factor file"
 
@@ -382,6 +386,52 @@ def lines(tool):
 
 # ---- files, streams and the command line
 
+def drift_text(run, w, between=" "):
+    """A line for each window: the place of its last entry, the least and its first place, the greatest and its first place."""
+    lines = ["entry,least,least_at,greatest,greatest_at"] if between == "," else []
+    for j, (least, greatest, least_at, greatest_at) in enumerate(windows(run, w)):
+        lines.append(between.join(map(str, (j + w - 1, least, least_at, greatest, greatest_at))))
+    return "".join(line + "\n" for line in lines).encode()
+
+
+def drift(tool):
+    """Runs of scores: of every length about a window's and about a part of the work, with ties and the ends of 64 bits, written in many ways."""
+    rng = random.Random(SEED)
+    for w in range(1, 65):
+        for n in (w - 1, w, w + 1, rng.randrange(4 * w)):
+            run = [rng.choice(SCORES[:rng.randrange(1, 9)] + [rng.randrange(-2 ** 63, 2 ** 63)]) for _ in range(n)]
+            given = "".join(str(x) + rng.choice([" ", "\n", "\t", "  \r\n", "\n\n"]) for x in run).encode()
+            what = "drift %d of %d scores" % (w, n)
+            tool.expect(what, tool.run("drift", w, given=given), (0, drift_text(run, w), b""))
+            tool.expect(what + " as a table", tool.run("drift", w, "-", "--csv", given=given.rstrip()), (0, drift_text(run, w, ","), b""))
+    for w, n in ((1, 4095), (1, 4096), (1, 4097), (2, 8193), (17, 10000), (63, 4096 + 62), (64, 4096 + 62), (64, 4096 + 63), (64, 3 * 4096 + 64)):
+        run = [rng.randrange(-9, 10) * 10 ** 17 for _ in range(n)]
+        path = tool.file("scores", "\n".join(map(str, run)).encode())
+        tool.expect("drift %d of %d scores of a file" % (w, n), tool.run("drift", w, path), (0, drift_text(run, w), b""))
+    for w in (0, 65, 2 ** 32 + 2):
+        tool.refused("drift %d" % w, ("drift", w), 34, given=b"1 2 3")
+        tool.refused("drift %d of no number" % w, ("drift", w), 34, given=b"none")
+    for given, line, word in ((b"1 2\n3 x", 2, b"x"), (b"1\n\n-\n", 3, b"-"), (b"--1", 1, b"--1"), (b"+1", 1, b"+1"), (b"1.5 2", 1, b"1.5"),
+                              (b"9223372036854775808", 1, b"9223372036854775808"), (b"1\r\n-9223372036854775809 ", 2, b"-9223372036854775809"),
+                              (b"1\n" + b"7" * 65, 2, b"7" * 65)):
+        for words in (("drift", 2), ("drift", 2, tool.file("scores", given), "--csv")):
+            tool.fails("drift of %.20r" % given, words, b'line %d: "%s" is not a whole number' % (line, word), given=given)
+    tool.expect("a long zero", tool.run("drift", 1, given=b"-" + b"0" * 63), (0, b"0 0 0 0 0\n", b""))
+    tool.fails("drift of a missing file", ("drift", 2, tool.path("missing")), b"check its name and folder")
+    tool.fails("drift of a folder", ("drift", 2, tool.folder), b"name a file in it")
+    with open("/dev/full", "wb") as full:
+        tool.fails("a full output of drift", ("drift", 1), b"make room", given=b"1", stdout=full)
+    status, out, err = tool.run_endless(b"x", "drift", 3)
+    tool.expect("drift of an endless word", (status, out, b"is not a whole number" in err), (2, b"", True))
+    tool.fails("drift with no memory", ("drift", 3), b"no memory", given=b"7 " * 8000000, preexec_fn=bounded(0))
+    with subprocess.Popen([tool.program, "drift", "1"], stdin=subprocess.PIPE, stdout=subprocess.PIPE, stderr=subprocess.PIPE) as run:
+        run.stdin.write(b"5\n" * 200000)
+        run.stdin.close()
+        run.stdout.read(5)
+        run.stdout.close()
+        tool.expect("a pipe of drift closed early", (run.stderr.read(), run.wait()), (b"", 0))
+
+
 def command_line(tool):
     status, out, err = tool.run("--help")
     tool.expect("help", (status, err, [name for name in COMMANDS if b"recorder " + name.encode() not in out]), (0, b"", []))
@@ -393,7 +443,8 @@ def command_line(tool):
     for words in ((), ("paint",), ("map",), ("map", path, path), ("map", path, "-o"), ("map", path, "--fast"), ("factors", path), ("rewrite", path),
                   ("check", path, "-o", "x"), ("records", path, "-o", "x"), ("rewrite", path, "-o", tool.path("none"), "--times"),
                   ("map", path, "-o", tool.path("none"), "-o", tool.path("none")),
-                  ("info", path, "--times"), ("point", path, 1, 2), ("point", path, 1, 2, "z"), ("factor", path, 1, 2, "-3"), ("line", 1, 0, 4, "2;3")):
+                  ("info", path, "--times"), ("point", path, 1, 2), ("point", path, 1, 2, "z"), ("factor", path, 1, 2, "-3"), ("line", 1, 0, 4, "2;3"),
+                  ("drift",), ("drift", "x"), ("drift", "-2"), ("drift", 2, "a", "b"), ("drift", 2, "-o", "x"), ("drift", 2, "--times"), ("map", path, "--csv")):
         tool.fails("usage %s" % (words,), words, b"--help")
     status, out, err = tool.run("map", path, "--times")
     tool.expect("times", (status, bool(re.fullmatch(rb"times: reading [0-9.]+ s synthesis [0-9.]+ s writing [0-9.]+ s\n", err))), (0, True))
@@ -404,7 +455,7 @@ def files_and_streams(tool):
     path = tool.path("sound")
     tool.refused("an empty file", ("map", tool.file("empty", b"")), 15)
     tool.refused("an endless file", ("map", "/dev/zero"), 15)
-    for name in COMMANDS[:-1]:
+    for name in ON_FILES:
         more = ["-o", tool.path("none")] if name in ("factors", "rewrite") else [0, 0, 0] if name in ("point", "factor") else []
         tool.fails(name + " of a missing file", (name, tool.path("missing"), *more), b"check its name and folder")
         tool.fails(name + " of a folder", (name, tool.folder, *more), b"name a file in it")
@@ -609,7 +660,7 @@ def progress(tool):
 def main():
     with tempfile.TemporaryDirectory() as folder:
         tool = Tool(os.path.abspath(sys.argv[1]), folder)
-        for part in (samples, small_grids, empty_cells, full_cells, refused_records, refused_headers, refused_maps, lines, command_line,
+        for part in (samples, small_grids, empty_cells, full_cells, refused_records, refused_headers, refused_maps, lines, drift, command_line,
                      files_and_streams, too_long, one_file, replaced, large_grids, closed_pipe, named_pipe, ended_by_signals, progress):
             part(tool)
         tool.expect("the refusals", tool.seen, REFUSALS)

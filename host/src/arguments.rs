@@ -8,6 +8,7 @@ pub struct Given {
     pub words: Vec<OsString>,
     pub output: Option<OsString>,
     pub times: bool,
+    pub csv: bool,
     pub help: bool,
 }
 
@@ -20,6 +21,7 @@ impl Given {
             match argument.to_str() {
                 Some("--help" | "-h") => given.help = true,
                 Some("--times") => given.times = true,
+                Some("--csv") => given.csv = true,
                 Some("-o") => {
                     let output = arguments.next().ok_or_else(|| Failure::Usage("-o needs the name of a file".into()))?;
                     if given.output.replace(output).is_some() {

@@ -1,5 +1,6 @@
 //! The commands. Each reads its input, makes the proved calls and writes the result.
 use crate::arguments::{self, Given};
+use crate::drift;
 use crate::factor_file;
 use crate::failure::{shown, Failure};
 use crate::ffi::{GridPoint, Reflection};
@@ -16,13 +17,14 @@ use std::ffi::{OsStr, OsString};
 
 struct Command {
     name: &'static str,
+    /// A word in brackets may be left out.
     words: &'static [&'static str],
     help: &'static str,
     run: fn(&Given) -> Result<(), Failure>,
 }
 
 const FILE: &str = "FILE";
-const COMMANDS: [Command; 9] = [
+const COMMANDS: [Command; 10] = [
     Command { name: "map", words: &[FILE], help: help::MAP, run: map },
     Command { name: "factors", words: &[FILE], help: help::FACTORS, run: factors },
     Command { name: "rewrite", words: &[FILE], help: help::REWRITE, run: rewrite },
@@ -32,6 +34,7 @@ const COMMANDS: [Command; 9] = [
     Command { name: "point", words: &[FILE, "x", "y", "z"], help: help::POINT, run: point },
     Command { name: "factor", words: &[FILE, "h", "k", "l"], help: help::FACTOR, run: factor },
     Command { name: "line", words: &["KIND", "DIRECTION", "N", "LIST"], help: help::LINE, run: line },
+    Command { name: "drift", words: &["W", "[FILE]"], help: help::DRIFT, run: drift },
 ];
 
 /// Runs the command that the arguments name.
@@ -56,7 +59,8 @@ pub fn run(mut arguments: impl Iterator<Item = OsString>) -> Result<(), Failure>
 fn fit(command: &Command, given: &Given) -> Result<(), Failure> {
     let (name, words) = (command.name, command.words);
     let writes = matches!(name, "map" | "factors" | "rewrite");
-    if given.words.len() != words.len() {
+    let least = words.iter().filter(|word| !word.starts_with('[')).count();
+    if !(least..=words.len()).contains(&given.words.len()) {
         return Err(Failure::Usage(format!("{name} takes {}, not {} words", words.join(" "), given.words.len())));
     }
     if given.output.is_some() && !writes {
@@ -64,6 +68,9 @@ fn fit(command: &Command, given: &Given) -> Result<(), Failure> {
     }
     if given.times && name != "map" {
         return Err(Failure::Usage(format!("{name} takes no --times")));
+    }
+    if given.csv && name != "drift" {
+        return Err(Failure::Usage(format!("{name} takes no --csv")));
     }
     if writes && output::is_input(given.output(), &given.words[0]) {
         return Err(Failure::Usage(format!("{} is the file to read and the file to write; name another file to write", shown(&given.words[0]))));
@@ -188,6 +195,19 @@ fn line(given: &Given) -> Result<(), Failure> {
     let mut numbers = input::line()?;
     recorder::line(kind, direction, length, &list, &mut numbers)?;
     output::open(None)?.write(|mut out| text::write_numbers(&numbers, &mut out))
+}
+
+/// Whether W is taken is asked before a score is read.
+fn drift(given: &Given) -> Result<(), Failure> {
+    let w = given.number(0)?;
+    drift::judge(w)?;
+    let run = during("reading", |_| drift::read(given.words.get(1).map_or("-".as_ref(), |name| name)))?;
+    let mut refused = Ok(());
+    output::open(None)?.write(|out| {
+        refused = drift::write(&run, w, given.csv, out)?;
+        Ok(())
+    })?;
+    Ok(refused?)
 }
 
 fn with_map(mut recorder: Recorder) -> Result<Recorder, Failure> {

@@ -109,6 +109,19 @@ extern "C" {
         scratch: *mut u32,
         scratch_length: usize,
     ) -> u32;
+    fn recorder_drift(
+        run: *const i64,
+        run_length: usize,
+        w: u32,
+        least: *mut i64,
+        least_length: usize,
+        greatest: *mut i64,
+        greatest_length: usize,
+        least_at: *mut u64,
+        least_at_length: usize,
+        greatest_at: *mut u64,
+        greatest_at_length: usize,
+    ) -> WriteAnswer;
 }
 
 pub fn open(group: u32, kind: u32, lengths: [u32; 3], lists: [&[u8]; 3], volume: &mut [u32]) -> Answer {
@@ -149,6 +162,24 @@ pub fn factor(job: Job, at: Reflection, volume: &[u32]) -> FactorValue {
 
 pub fn line(kind: u32, direction: u32, length: u32, list: &[u8], line: &mut [u32], scratch: &mut [u32]) -> u32 {
     unsafe { recorder_line(kind, direction, length, list.as_ptr(), list.len(), line.as_mut_ptr(), line.len(), scratch.as_mut_ptr(), scratch.len()) }
+}
+
+pub fn drift(run: &[i64], w: u32, least: &mut [i64], greatest: &mut [i64], least_at: &mut [u64], greatest_at: &mut [u64]) -> WriteAnswer {
+    unsafe {
+        recorder_drift(
+            run.as_ptr(),
+            run.len(),
+            w,
+            least.as_mut_ptr(),
+            least.len(),
+            greatest.as_mut_ptr(),
+            greatest.len(),
+            least_at.as_mut_ptr(),
+            least_at.len(),
+            greatest_at.as_mut_ptr(),
+            greatest_at.len(),
+        )
+    }
 }
 
 #[cfg(test)]

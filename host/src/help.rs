@@ -12,9 +12,11 @@ recorder: maps of unit cells from their structure factors, and back, modulo 86,3
   recorder point FILE x y z              the density at a point
   recorder factor FILE h k l             the structure factor at an index
   recorder line KIND DIRECTION N LIST    one line, its numbers from standard input
+  recorder drift W [FILE] [--csv]        the least and the greatest of each W neighbouring scores
   recorder COMMAND --help                more about a command
 
-A FILE is a factor file or a map file, told apart by its first four bytes; rewrite and records take a factor file. - is standard input.
+A FILE is a factor file or a map file, told apart by its first four bytes; rewrite and records take a factor file, drift a file of scores.
+- is standard input.
 Exit status: 0 done, 1 the input was refused, 2 a wrong command line or a file that cannot be read or written.
 ";
 
@@ -84,4 +86,13 @@ recorder line KIND DIRECTION N LIST
 Transforms one line of N values, whose packed numbers are read from standard input with blanks between them, and prints the packed result.
 KIND: 0 plain, 1 Hermitian, 2 anti-Hermitian, 3 alternating, 4 symmetric, 5 antisymmetric. DIRECTION: 0 forward, 1 inverse.
 LIST: the factors of N/2 with commas between them, each 2 to 5; - for N = 2. Example: echo 1 2 3 4 | recorder line 1 0 4 2
+";
+
+pub const DRIFT: &str = "\
+recorder drift W [FILE] [--csv]
+
+Reads a run of scores, whole numbers of 64 bits with blanks or ends of lines between them, from FILE or from standard input (-), and prints a line for
+each entry from the W-th on: the entry's place, the least of the last W scores and the first place where it stands, the greatest and the first place
+where it stands. Places are counted in the run from 0. A run of fewer than W scores prints no line. W is 1 to 64. With --csv the numbers have
+commas between them, and a first line has the columns' names. Example: echo 4 -1 7 7 | recorder drift 2
 ";

@@ -23,18 +23,22 @@ pub enum Entry {
     Map(Box<dyn Read>),
 }
 
-/// Opens a file; a minus sign names standard input.
-pub fn entry(name: &OsStr) -> Result<Entry, Failure> {
-    let unread = |error| Failure::unread(name, &error);
+/// Opens a file and says how long it is; a minus sign names standard input, whose length is not known, and 0.
+pub fn source(name: &OsStr) -> io::Result<(BufReader<Box<dyn Read>>, u64)> {
     let (source, length): (Box<dyn Read>, u64) = match name.to_str() {
         Some("-") => (Box::new(io::stdin()), 0),
         _ => {
-            let file = File::open(name).map_err(unread)?;
-            let length = file.metadata().map_err(unread)?.len();
+            let file = File::open(name)?;
+            let length = file.metadata()?.len();
             (Box::new(file), length)
         }
     };
-    sorted(BufReader::with_capacity(BUFFER, source), length).map_err(unread)
+    Ok((BufReader::with_capacity(BUFFER, source), length))
+}
+
+/// What a file is.
+pub fn entry(name: &OsStr) -> Result<Entry, Failure> {
+    source(name).and_then(|(source, length)| sorted(source, length)).map_err(|error| Failure::unread(name, &error))
 }
 
 /// No more is read of a factor file than one byte beyond its count: with that byte it is refused, whatever follows. One that goes on beyond the

@@ -3,6 +3,7 @@
 
 mod arguments;
 mod commands;
+mod drift;
 mod factor_file;
 mod failure;
 mod ffi;

@@ -49,10 +49,10 @@ fn push_numbers(line: &mut Vec<u8>, numbers: &[u32]) {
 }
 
 /// A number's decimal digits: a map has millions, and the standard library's formatting would take longer than the synthesis.
-fn push_number(line: &mut Vec<u8>, number: u32) {
-    let mut digits = [0; 10];
+pub fn push_number(line: &mut Vec<u8>, number: impl Into<u64>) {
+    let mut digits = [0; 20];
     let mut first = digits.len();
-    let mut rest = number;
+    let mut rest = number.into();
     loop {
         first -= 1;
         digits[first] = b'0' + (rest % 10) as u8;
@@ -62,6 +62,14 @@ fn push_number(line: &mut Vec<u8>, number: u32) {
         }
     }
     line.extend_from_slice(&digits[first..]);
+}
+
+/// The same of a number that may be below zero.
+pub fn push_signed(line: &mut Vec<u8>, number: i64) {
+    if number < 0 {
+        line.push(b'-');
+    }
+    push_number(line, number.unsigned_abs());
 }
 
 /// Numbers with a blank between them, as a line.

@@ -99,6 +99,7 @@ fn words(number: u32) -> (&'static str, &'static str) {
         23 => ("no factors are held", SHOULD_NOT_BE),
         24 => ("an earlier record gave this reflection or one of its images a value", "leave one of the two records out"),
         25 => ("no call could have made this job", SHOULD_NOT_BE),
+        34 => ("the window is not of 1 to 64 entries", "give W from 1 to 64"),
         _ => ("the number is not known to this tool", SHOULD_NOT_BE),
     }
 }

@@ -21,6 +21,8 @@ both() {
     python3 tools/job_cases.py "$1"
     python3 tools/file_cases.py "$1"
 }
+held crates/window_test/stdin python3 tools/window_cases.py cases
+held crates/window_test/stdout python3 tools/window_cases.py answers
 held crates/recorder_test/stdin both cases
 held crates/recorder_test/stdout both answers
-echo "5 stored expectations agree with what is computed anew"
+echo "7 stored expectations agree with what is computed anew"

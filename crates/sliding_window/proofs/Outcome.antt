@@ -1,6 +1,6 @@
 -- The outcome of a refused call and of an accepted one, and what is known where every test was passed.
 use mathlib.Core.Path.{_≡_, refl, _∙_, ap}
-use mathlib.Core.Bool.{Bool, true, false}
+use mathlib.Core.Bool.{true, false}
 use mathlib.Core.List.{List}
 use Prim.Native.Nat.{ℕ, _≤_}
 use native.Mathlib.Omega.{arith}
@@ -12,7 +12,7 @@ use Rattle.refusals.specs.Refusals.{numberOf, first}
 use Rattle.refusals.proofs.Tests.{passed, passes, fails}
 use Rattle.output.specs.Output.{Filled.written, Filled.notWritten}
 use Rattle.output.specs.declared.FillAnswer.the-variants as F
-use Rattle.sliding_window.specs.Window.{bestOf, bestScore, filledBy, windowCount, Extremes, windowTestsOf, windowsIn, WindowOutcome, windowStep}
+use Rattle.sliding_window.specs.Window.{bestOf, bestScore, filledBy, windowCount, Extremes, windowTestsOf, windowsIn, windowStep}
 use Rattle.sliding_window.specs.Answers.{windowOutcome}
 
 -- ---- every test was passed

@@ -7,8 +7,7 @@ ghost use Rattle.refusals.specs.Refusals.{first};
 ghost use Rattle.refusals.specs.Checks.{checkedNumber};
 ghost use Rattle.sliding_window.specs.Window.{windowTests};
 
-// How many windows of w entries a run has. Of no entries there is none to speak of, and the call refuses it; its count is one more than
-// the run's length, wherever that can be counted.
+// How many windows of w entries a run has. A window of none, which the call refuses, is counted as the definition counts it.
 pub fn window_count(length: usize, w: u32) -> usize
     requires { ⌜ length < 18446744073709551615 ⌝ }
     ensures { λ r. ⌜ r ≡ length + 1 - w ⌝ }
@@ -17,6 +16,7 @@ pub fn window_count(length: usize, w: u32) -> usize
     if length < size { 0 } else { length + 1 - size }
 }
 
+// The refusals, in the paper's order. The outputs count by their lengths alone.
 pub fn check_window(
     w: u32,
     count: usize,

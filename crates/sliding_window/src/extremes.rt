@@ -1,7 +1,7 @@
 // The best of every window of a run, by van Herk's method of blocks: three comparisons an entry, whatever the window's length.
 use crate::order::better;
 ghost use mathlib.Core.Path.{_≡_};
-ghost use Prim.Native.Nat.{ℕ, _+_, _*_, _-_, _≤_, _<_};
+ghost use Prim.Native.Nat.{_+_, _-_, _≤_, _<_};
 ghost use lib.ListN.{length};
 ghost use Rattle.slices.specs.Filling.{stores};
 ghost use Rattle.sliding_window.specs.Window.{bestOf, bestScore, filledBy, windowCount};

@@ -6,7 +6,7 @@ use lib.ListN.{length}
 use denote.Ref.{now}
 use Rattle.refusals.specs.Refusals.{first}
 use Rattle.refusals.specs.Checks.{checkedNumber}
-use Rattle.sliding_window.specs.Window.{Extremes, windowTests, windowTestsOf}
+use Rattle.sliding_window.specs.Window.{windowTests, windowTestsOf}
 use Rattle.sliding_window.proofs.Outcome.{Sound, sound, refused-outcome, accepted-outcome}
 use borrow.Author.Needs.{needs}
 use Rattle.sliding_window.proofs.window_extremes.Statement.{statement}

@@ -1,10 +1,9 @@
 -- `extremes`: the windows before `start` are done, block by block.
 use borrow.Author.Needs.{needs}
-use mathlib.Core.Path.{_≡_, refl, sym, _∙_, ap}
-use Prim.Native.Nat.{ℕ, _+_, _-_, _≤_}
+use mathlib.Core.Path.{_≡_, refl, sym}
+use Prim.Native.Nat.{_+_, _-_, _≤_}
 use native.Mathlib.Omega.{arith}
 use lib.ListN.{length}
-use denote.Ref.{now}
 use Rattle.slices.specs.Filling.{Filling, stores}
 use Rattle.slices.proofs.Filling.{filled-all, storing-start}
 use Rattle.sliding_window.specs.Window.{bestOf, bestScore}

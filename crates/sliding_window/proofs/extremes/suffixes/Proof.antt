@@ -1,8 +1,7 @@
 -- `suffixes`: from the block's end down to entry t.
-use mathlib.Core.Path.{_≡_, sym, _∙_, subst}
-use Prim.Native.Nat.{ℕ, _+_, _-_}
+use mathlib.Core.Path.{sym, _∙_}
+use Prim.Native.Nat.{_-_}
 use native.Mathlib.Omega.{arith}
-use lib.ListN.{set}
 use denote.Ref.{now}
 use Rattle.sliding_window.specs.Blocks.{Suffixes}
 use Rattle.sliding_window.proofs.Blocks.{suffixes-start, suffixes-next, suffixes-inside, suffixes-done}

@@ -1,3 +1,4 @@
+-- `is_better`: the machine's comparison is that of the whole numbers.
 use mathlib.Core.Path.{_≡_, sym, _∙_, ap}
 use mathlib.Core.Bool.{Bool}
 use lib.IntN.{ℤ}

@@ -1,5 +1,6 @@
 -- What an output is made of: numbers in decimal or in big-endian bytes, the blank and the line feed, and things in a row. A text is in ASCII.
 use Rattle.algebra.specs.Prelude.{cond, ltb, ℕ, zero, suc, _+_, _/_, _%_, List, [], _∷_, _++_, length, drop}
+use Rattle.signed.specs.Integers.{ℤ, pos, negsuc}
 
 -- a number in decimal, of at most `count` digits
 unfoldable pub digitsOf : (count n : ℕ) → List ℕ
@@ -9,6 +10,14 @@ digitsOf (suc c) n = cond (ltb n 10) ((48 + n) ∷ []) (digitsOf c (n / 10) ++ (
 -- a number of 64 bits has at most twenty
 abbrev pub decimal : ℕ → List ℕ
 decimal n = digitsOf 20 n
+
+-- a whole number: a minus, and the magnitude of one below zero
+abbrev pub minus : ℕ
+minus = 45
+
+unfoldable pub signedDecimal : ℤ → List ℕ
+signedDecimal (pos n) = decimal n
+signedDecimal (negsuc n) = minus ∷ decimal (suc n)
 
 -- n big-endian bytes of a number
 unfoldable pub bigEndian : (n x : ℕ) → List ℕ

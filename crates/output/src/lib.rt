@@ -4,7 +4,7 @@ pub mod big_endian; // big_endian.rt: numbers in two and in four bytes
 
 use refusals::Refusal;
 ghost use mathlib.Core.List.{[], _∷_};
-ghost use Rattle.output.specs.Output.{decimal, blank};
+ghost use Rattle.output.specs.Output.{decimal, signedDecimal, blank};
 ghost use Rattle.output.specs.Written.{Wrote, Ends};
 
 // The answer of a call that fills an output, or several alike: how many places it wrote, or why none.
@@ -66,4 +66,27 @@ pub fn put_field(out: &mut [u8], at: usize, n: u32) -> usize
 {
     let number = put_byte(out, at, b' ');
     put_decimal(out, number, n)
+}
+
+// A whole number in decimal: a minus before the magnitude of one below zero.
+pub fn put_signed(out: &mut [u8], at: usize, n: i64) -> usize
+    requires { ⌜ Ends at (signedDecimal n) ⌝ }
+    ensures { λ r. ⌜ Wrote at (signedDecimal n) (now (out .entry)) r (now (out .exit)) ⌝ }
+{
+    let size = signed::magnitude(n);
+    if n < 0 {
+        let digits = put_byte(out, at, b'-');
+        put_number(out, digits, size)
+    } else {
+        put_number(out, at, size)
+    }
+}
+
+// A blank and a whole number.
+pub fn put_signed_field(out: &mut [u8], at: usize, n: i64) -> usize
+    requires { ⌜ Ends at (blank ∷ signedDecimal n) ⌝ }
+    ensures { λ r. ⌜ Wrote at (blank ∷ signedDecimal n) (now (out .entry)) r (now (out .exit)) ⌝ }
+{
+    let number = put_byte(out, at, b' ');
+    put_signed(out, number, n)
 }

@@ -1,6 +1,7 @@
 -- What a call of a job returned and left, in the words of its promise: the left side of each promise.
 use Prim.Native.Nat.{ℕ}
 use Rattle.refusals.specs.Refusals.{numberOf}
+use Rattle.signed.specs.Integers.{pos}
 use mathlib.Core.List.{List}
 use Rattle.job.specs.declared.Answer.{Answer}
 use Rattle.job.specs.declared.Answer.the-variants as A
@@ -33,10 +34,10 @@ saidFactor (F.Refused r) = refused (numberOf r)
 
 -- An answer as three numbers: the refusal's number or 0, then the density and 0, or the two numbers of the factor, or twice 0.
 abbrev pub replyOf : Said → Reply
-replyOf done = record { number = 0; x = 0; y = 0 }
-replyOf (density n) = record { number = 0; x = n; y = 0 }
-replyOf (factor x y) = record { number = 0; x = x; y = y }
-replyOf (refused n) = record { number = n; x = 0; y = 0 }
+replyOf done = record { number = 0; x = pos 0; y = pos 0 }
+replyOf (density n) = record { number = 0; x = n; y = pos 0 }
+replyOf (factor x y) = record { number = 0; x = pos x; y = pos y }
+replyOf (refused n) = record { number = n; x = pos 0; y = pos 0 }
 
 -- A reading lends the volume only to be read, and gives no job back.
 abbrev pub openOutcome : OpenAnswer → List ℕ → OpenOutcome

@@ -11,6 +11,7 @@ use Rattle.cell.specs.declared.operations.UnitCell.{UnitCell}
 use Rattle.cell.specs.Operations.{cellGroup, cellHalves}
 use Rattle.job.specs.declared.Job.{Job}
 use Rattle.numbers.specs.Value.{value, prime}
+use Rattle.signed.specs.Integers.{ℤ, centred}
 use Rattle.cell.specs.Consistency.{recordOn, consistentFactors, consistentMap, agreesWithItself, orbitFree}
 use Rattle.job.specs.declared.Reflection.{Reflection}
 use Rattle.job.specs.declared.GridPoint.{GridPoint}
@@ -182,10 +183,10 @@ openStep h kind v =
     (record { answer = opened (jobOf h mapHeld); volume = v }))
     (λ n. record { answer = notOpened n 0; volume = v })
 
--- What a call of a job says, in the paper's numbers and values.
+-- What a call of a job says, in the paper's numbers and values: a density is a signed whole number, a factor two residues.
 pub data Said : Type 0 where
   done : Said
-  density : ℕ → Said
+  density : ℤ → Said
   factor : ℕ → ℕ → Said
   refused : ℕ → Said
 
@@ -239,10 +240,11 @@ analysisStep j v scratch =
     (record { outcome = record { answer = done; job = withState j factorsHeld; volume = analysed j v }; scratch = cleared scratch })
     (λ n. record { outcome = unchanged j v n; scratch = scratch })
 
+-- A reading of a point gives the signed whole number next to zero that is congruent to the point's residue.
 unfoldable pub pointStep : Job → GridPoint → List ℕ → Outcome
 pointStep j at v =
     accepted (first (pointTestsOf (validJob j) (j .state) (j .group) (headerOf j .lengths) (position at) v))
-    (record { answer = density (getD v (densityPlace (groupIn j) (halves j) (position at)) 0); job = j; volume = v })
+    (record { answer = density (centred p (getD v (densityPlace (groupIn j) (halves j) (position at)) 0)); job = j; volume = v })
     (unchanged j v)
 
 unfoldable pub factorStep : Job → Reflection → List ℕ → Outcome

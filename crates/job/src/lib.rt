@@ -59,9 +59,9 @@ pub enum OpenAnswer {
     Refused(Refusal),
 }
 
-// The answers of the two readings.
+// The answers of the two readings: a density is the signed whole number next to zero, a factor two residues.
 pub enum PointAnswer {
-    Density(u32),
+    Density(i32),
     Refused(Refusal),
 }
 

@@ -11,7 +11,7 @@ ghost use Rattle.job.specs.Job.{pointStep};
 ghost use Rattle.job.specs.Answers.{saidPoint};
 
 impl Job {
-    // The number of the map at a point anywhere in the cell.
+    // The density at a point anywhere in the cell, with its sign.
     pub fn point(self, at: GridPoint, volume: &[u32]) -> PointAnswer
         ensures { λ r. ⌜ saidPoint r ≡ (pointStep self at (now (volume .entry))) .answer ⌝ }
     {
@@ -32,7 +32,7 @@ impl Job {
             Checked::Failed(refusal) => PointAnswer::Refused(refusal),
             Checked::Sound => {
                 let place = places::density_place(cell, point);
-                PointAnswer::Density(volume[place])
+                PointAnswer::Density(signed::centre(numbers::modulus(1), volume[place]))
             }
         }
     }

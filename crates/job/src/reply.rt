@@ -1,5 +1,5 @@
 // What a call of a job answers, as three numbers: the refusal's number or 0, then the density and 0, or the two numbers of the factor, or
-// twice 0.
+// twice 0. A density has a sign; 64 bits hold it and every residue.
 use crate::Answer;
 use crate::FactorAnswer;
 use crate::PointAnswer;
@@ -11,8 +11,8 @@ ghost use Rattle.job.specs.Answers.{said, saidPoint, saidFactor, replyOf
 
 pub struct Reply {
     pub number: u32,
-    pub x: u32,
-    pub y: u32,
+    pub x: i64,
+    pub y: i64,
 }
 
 pub fn of_answer(answer: Answer) -> Reply
@@ -32,7 +32,11 @@ pub fn of_point(answer: PointAnswer) -> Reply
     ensures { λ r. ⌜ r ≡ replyOf (saidPoint answer) ⌝ }
 {
     match answer {
-        PointAnswer::Density(x) => Reply { number: 0, x, y: 0 },
+        PointAnswer::Density(x) => Reply {
+            number: 0,
+            x: x as i64,
+            y: 0,
+        },
         PointAnswer::Refused(refusal) => of_refusal(refusal),
     }
 }
@@ -41,7 +45,11 @@ pub fn of_factor(answer: FactorAnswer) -> Reply
     ensures { λ r. ⌜ r ≡ replyOf (saidFactor answer) ⌝ }
 {
     match answer {
-        FactorAnswer::Factor(x, y) => Reply { number: 0, x, y },
+        FactorAnswer::Factor(x, y) => Reply {
+            number: 0,
+            x: x as i64,
+            y: y as i64,
+        },
         FactorAnswer::Refused(refusal) => of_refusal(refusal),
     }
 }

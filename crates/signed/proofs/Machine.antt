@@ -9,8 +9,20 @@ use lib.IntN.{ℤ, pos, negsuc, natAbs, _-ℤ_, +ℤ-comm, -ℤ-one}
 use lib.Signed.{ltZ, nonNeg}
 use borrow.Author.Tests.{ltb-true, lt-ltb}
 use mir.Syntax.{w32, w64}
-use mir.Val.{Fits, SFits, toZ}
-use mir.ValLaws.{toZ-pos}
+use mir.Val.{Fits, SFits, toZ, ofZ}
+use mir.ValLaws.{toZ-pos, toZ-ofZ}
+
+-- ---- a number of 32 bits in 64
+
+fits-wide : (z : ℤ) → SFits w32 z → SFits w64 z
+fits-wide (pos n) f = record { sfits = omega (arith, f .sfits) }
+fits-wide (negsuc n) f = record { sfits = omega (arith, f .sfits) }
+
+pub wide-fits : (z : ℤ) → SFits w32 z → SFits w64 (toZ w32 (ofZ w32 z))
+wide-fits z f = subst (SFits w64) (sym (toZ-ofZ w32 z f)) (fits-wide z f)
+
+pub wide-is : (z : ℤ) → SFits w32 z → toZ w64 (ofZ w64 (toZ w32 (ofZ w32 z))) ≡ z
+wide-is z f = toZ-ofZ w64 _ (wide-fits z f) ∙ toZ-ofZ w32 z f
 
 -- ---- a difference below zero
 

@@ -1,19 +1,22 @@
--- Refused by the check, or the number at the point's place.
+-- Refused by the check, or the number at the point's place, with its sign.
 use borrow.Author.Needs.{needs}
 use native.Mathlib.Omega.{arith}
-use mathlib.Core.Path.{_≡_, _∙_, sym, ap, ap₂, subst}
+use mathlib.Core.Path.{_≡_, _∙_, sym, ap, ap₂, subst, subst₂}
 use mathlib.Core.Bool.{Bool}
 use Prim.Native.Nat.{ℕ, _<_}
-use lib.ListN.{length}
+use lib.ListN.{length, getD}
 use denote.Ref.{now}
-use borrow.Author.Tests.{not-false, eqb-true}
+use borrow.Author.Tests.{not-false, eqb-true, ltb-true}
+use mir.Syntax.{w32}
+use mir.ValLaws.{toZ-ofZ}
 use Rattle.refusals.specs.Refusals.{first}
 use Rattle.refusals.specs.Checks.{checkedNumber}
 use Rattle.refusals.proofs.Tests.{Passed, passed}
 use Rattle.cell.specs.declared.operations.UnitCell.{UnitCell}
 use Rattle.cell.specs.Volume.{volumeLength, densityPlace}
 use Rattle.cell.specs.Operations.{cellGroup, cellHalves, cellLengths, Sizes}
-use Rattle.job.specs.Job.{jobCell, groupIn, halves, position, pointTestsOf}
+use Rattle.signed.specs.Integers.{centred}
+use Rattle.job.specs.Job.{jobCell, groupIn, halves, position, pointTestsOf, density}
 use Rattle.job.specs.TestSteps.{pointTests}
 use Rattle.job.proofs.Jobs.{valid-sizes, cell-sizes}
 use Rattle.header.proofs.Headers.{place-small}
@@ -49,6 +52,13 @@ found c =
 placed : (c : tie.After-density-place) → c .density-place .result < length (now (c .before .before .before .before .before .before .before .args .volume))
 placed c = subst (λ (n : ℕ). c .density-place .result < n) (sym (eqb-true _ _ (not-false _ (clear (c .before) .1 .1 .1 .0)))) (found c .1)
 
+-- .. and is a residue
+below : (c : tie.After-modulus) → let d = c .before in getD (now (d .before .before .before .before .before .before .before .args .volume)) (d .density-place .result) 0 < c .modulus .result
+below c =
+    let d = c .before in
+    let v = now (d .before .before .before .before .before .before .before .args .volume) in
+    subst₂ (λ (q n : ℕ). getD v q 0 < n) (sym (found d .0)) (sym (c .modulus .ensures .0)) (ltb-true _ _ (not-false _ (clear (d .before) .1 .1 .1 .1 .0)))
+
 unit-cell-requires : tie.Need-unit-cell-requires
 unit-cell-requires c κs = search needs
 
@@ -70,11 +80,17 @@ density-place-requires c κs =
     let j = a .self in
     rw (c .before .before .before .before .unit-cell .ensures) (sizes c, point-within-of (jobCell j) (record { x = a .at .0; y = a .at .1; z = a .at .2 }) (not-false _ (clear c .1 .1 .0)))
 
-mul-t11 : tie.Need-mul-t11
-mul-t11 c = omega (arith, place-small _ (sizes (c .before)) (found c .1))
+modulus-requires : tie.Need-modulus-requires
+modulus-requires c κs = search needs
 
-shared-slice-read-t13 : tie.Need-shared-slice-read-t13
-shared-slice-read-t13 c = placed (c .before)
+mul-centre : tie.Need-mul-centre
+mul-centre c = let d = c .before in omega (arith, place-small _ (sizes (d .before)) (found d .1))
+
+shared-slice-read-centre : tie.Need-shared-slice-read-centre
+shared-slice-read-centre c = placed (c .before .before)
+
+centre-requires : tie.Need-centre-requires
+centre-requires c κs = let m = c .before in (below m, omega (arith, m .modulus .ensures))
 
 returns : tie.Need-returns
 returns c =
@@ -84,9 +100,11 @@ returns c =
 
 returns-2 : tie.Need-returns-2
 returns-2 c =
-    let d = c .before in
+    let m = c .before .before in
+    let d = m .before in
     let a = d .before .before .before .before .before .before .before .args in
-    point-read (a .self) (a .at) (now (a .volume)) (d .density-place .result) (none (d .before)) (found d .0)
+    let e = toZ-ofZ w32 (c .centre .result) (record { sfits = c .centre .ok }) ∙ c .centre .ensures in
+    ap density (e ∙ ap (λ n. centred n (getD (now (a .volume)) (d .density-place .result) 0)) (m .modulus .ensures .0)) ∙ point-read (a .self) (a .at) (now (a .volume)) (d .density-place .result) (none (d .before)) (found d .0)
 
 pub point-spec : {M : Type 1} → statement M
 point-spec =
@@ -98,7 +116,9 @@ point-spec =
     enum-known-checked
     enum-told
     density-place-requires
-    mul-t11
-    shared-slice-read-t13
+    modulus-requires
+    mul-centre
+    shared-slice-read-centre
+    centre-requires
     returns
     returns-2)

@@ -2,6 +2,7 @@
 use borrow.Author.Needs.{needs}
 use mathlib.Core.Path.{ap}
 use Prim.Native.Nat.{ℕ}
+use Rattle.signed.specs.Integers.{pos}
 use Rattle.job.specs.declared.reply.Reply.{Reply}
 use Rattle.job.proofs.reply.of_refusal.Statement.{statement}
 use Rattle.job.proofs.reply.of_refusal.Tie as tie
@@ -10,7 +11,7 @@ number-of-requires : tie.Need-number-of-requires
 number-of-requires c κs = search needs
 
 returns : tie.Need-returns
-returns c = ap {B = Reply} (λ (n : ℕ). record { number = n; x = 0; y = 0 }) (c .number-of .ensures)
+returns c = ap {B = Reply} (λ (n : ℕ). record { number = n; x = pos 0; y = pos 0 }) (c .number-of .ensures)
 
 pub of-refusal-spec : {M : Type 1} → statement M
 of-refusal-spec = tie.close (tie.spec number-of-requires returns)

@@ -23,7 +23,7 @@ use Rattle.job.specs.declared.Job.{Job}
 use Rattle.job.specs.declared.Reflection.{Reflection}
 use Rattle.job.specs.declared.GridPoint.{GridPoint}
 use Rattle.job.specs.Job.{Header, halfLengths, mapHeld, within, index, position, done, density, refused, Outcome, recordStep, pointStep}
-use Rattle.model.specs.Model.{Model, group, half, factorOf, densityOf, Call, recording, readPoint, modelTests, modelSaid, modelVolume, modelJob}
+use Rattle.model.specs.Model.{Model, group, half, factorOf, densityOf, signedReal, Call, recording, readPoint, modelTests, modelSaid, modelVolume, modelJob}
 use Rattle.demands.specs.Demands.{Ran, run, modelRan, modelEnd}
 use Rattle.model.proofs.Sound.{LawfulModel, within-inside, inside-within, map-obeys-group, density-real}
 use Rattle.model.proofs.OneCall.{one-call, accepted-call}
@@ -55,7 +55,7 @@ module _ (m : Model) (sound : LawfulModel m) where
   record-said k x y = ap (λ (o : Outcome). o .answer) (one-call m sound (recording k x y) .0)
 
   pub point-is-sum : m .state ≡ mapHeld → (x : GridPoint) → within (m .header .lengths) (position x) ≡ true →
-      (pointStep (modelJob m) x (modelVolume m) .answer ≡ density (densityOf m (position x) .0 .val)) × (densityOf m (position x) .1 .val ≡ 0)
+      (pointStep (modelJob m) x (modelVolume m) .answer ≡ density (signedReal (densityOf m (position x)))) × (densityOf m (position x) .1 .val ≡ 0)
   point-is-sum s x w = (
     ap (λ (o : Outcome). o .answer) (accepted-call m sound (readPoint x) (pass 22 _ (not-t _ (eq-eqb _ _ s)) (pass 10 _ (not-t _ w) none))),
     density-real m sound (position x) (within-inside m sound (position x) w),
@@ -68,7 +68,7 @@ module _ (m : Model) (sound : LawfulModel m) where
       let v : within (m .header .lengths) (position y) ≡ true = ap (within (m .header .lengths)) e ∙ inside-within m sound _ (point-inside (half m) q (position x) n) in
       let u = v ∙ sym w in
       let d : densityOf m (position y) ≡ densityOf m (position x) = ap (densityOf m) e ∙ map-obeys-group m sound q mq (position x) n ∙ ops-plain (conj 1) (group m) q mq _ in
-      λ i. accepted (first (not (eqb (m .state) mapHeld) ⇒ 22 ∷ not (u i) ⇒ 10 ∷ [])) (density (d i .0 .val)) refused
+      λ i. accepted (first (not (eqb (m .state) mapHeld) ⇒ 22 ∷ not (u i) ⇒ 10 ∷ [])) (density (signedReal (d i))) refused
 
   image-alike : (q : Sym) → Mem q (ops (group m)) → (x y : GridPoint) → within (m .header .lengths) (position x) ≡ true → position y ≡ pointImage (half m) q (position x) →
       pointStep (modelJob m) y (modelVolume m) .answer ≡ pointStep (modelJob m) x (modelVolume m) .answer
@@ -107,7 +107,7 @@ module _ (m : Model) (sound : LawfulModel m) (j : Job) (v : List ℕ) (is-job : 
   at-end P = subst P (sym (end-header m l))
 
   pub triple-sums : run j v l .job .state ≡ mapHeld → (x : GridPoint) → within (m .header .lengths) (position x) ≡ true →
-      (pointStep (run j v l .job) x (run j v l .volume) .answer ≡ density (densityOf (modelEnd m l) (position x) .0 .val)) × (densityOf (modelEnd m l) (position x) .1 .val ≡ 0)
+      (pointStep (run j v l .job) x (run j v l .volume) .answer ≡ density (signedReal (densityOf (modelEnd m l) (position x)))) × (densityOf (modelEnd m l) (position x) .1 .val ≡ 0)
   triple-sums s x w =
       let r = point-is-sum (modelEnd m l) (end-sound m sound l) (sym (ap (λ (r : Ran). r .job .state) runs) ∙ s) x (at-end (λ h. within (h .lengths) (position x) ≡ true) w) in
       (ap (λ (r : Ran). pointStep (r .job) x (r .volume) .answer) runs ∙ r .0, r .1)

@@ -15,7 +15,7 @@ use Rattle.job.specs.declared.GridPoint.{GridPoint}
 use Rattle.job.specs.Job.{Header, halfLengths, needed, mapHeld, factorsHeld, withState, headerOf, validJob, groupIn, halves, within, index, position, opened, notOpened, OpenOutcome, openStep, Said, done, density, refused, recordStep, synthesisStep, analysisStep, pointStep, factor}
 use Rattle.file_format.specs.declared.FileRecord.{FileRecord}
 use Rattle.factor_file.specs.File.{indexOf, countAt, recordsIn, fileStep, headerIn, writeStep}
-use Rattle.model.specs.Model.{Model, group, half, factorOf, densityOf, Call, modelVolume, modelJob, factorVolume, mapVolume, Beginning, begun, notBegun, recording, synthesis, analysis, readPoint, readFactor, modelSaid, modelAfter, openingModel, modelOpen, modelFile}
+use Rattle.model.specs.Model.{Model, group, half, factorOf, densityOf, signedReal, Call, modelVolume, modelJob, factorVolume, mapVolume, Beginning, begun, notBegun, recording, synthesis, analysis, readPoint, readFactor, modelSaid, modelAfter, openingModel, modelOpen, modelFile}
 use Rattle.output.specs.Output.{notWritten}
 pub use Rattle.job.specs.Job.{step}
 
@@ -135,18 +135,18 @@ pub record FactorsImplied : Type 0 where
       let o = firstModel s in
       factorOf (modelEnd m l) q ≡ recordAll (factorActs (field 1) (conj 1) (half o)) (full (group o)) (map entry (allRecords s j v l)) (factorOf o) q
 
--- Every number of a map that a list of calls leaves is the triple sum over the model's F, which is real: of any point of the cell, read by a call.
+-- Every number of a map that a list of calls leaves is the triple sum over the model's F, which is real: of any point of the cell, read by a call, which gives it with its sign.
 -- (The volume itself is `modelVolume`, by EveryList.)
 pub record TripleSums : Type 0 where
   pub sums : (s : Start) (j : Job) (v : List ℕ) (m : Model) → Started s j v m → (l : List Call) → run j v l .job .state ≡ mapHeld → (x : GridPoint) → within (m .header .lengths) (position x) ≡ true →
-      (pointStep (run j v l .job) x (run j v l .volume) .answer ≡ density (densityOf (modelEnd m l) (position x) .0 .val)) × (densityOf (modelEnd m l) (position x) .1 .val ≡ 0)
+      (pointStep (run j v l .job) x (run j v l .volume) .answer ≡ density (signedReal (densityOf (modelEnd m l) (position x)))) × (densityOf (modelEnd m l) (position x) .1 .val ≡ 0)
 
 -- A map is always real: for any job and volume that synthesis accepts, the triple sum over the factors that are read off the volume has no imaginary part, at any point of the cell.
--- Its real part is the number that a reading of the point gives afterwards.
+-- Its real part, with its sign, is the number that a reading of the point gives afterwards.
 pub record MapsReal : Type 0 where
   pub real : (j : Job) (v scratch : List ℕ) → let o = synthesisStep j v scratch .outcome in o .answer ≡ done → (x : GridPoint) → within (headerOf j .lengths) (position x) ≡ true →
       let d = at (mapOf 1 (halves j) (factorsIn (groupIn j) (halves j) 1 v)) (position x) in
-      (pointStep (o .job) x (o .volume) .answer ≡ density (d .0 .val)) × (d .1 .val ≡ 0)
+      (pointStep (o .job) x (o .volume) .answer ≡ density (signedReal d)) × (d .1 .val ≡ 0)
 
 -- All images of a point carry the same number.
 pub record ImagesAlike : Type 0 where

@@ -10,6 +10,7 @@ use lib.ListN.{length, getD}
 use borrow.Author.Tests.{not-false, lt-ltb, eq-eqb, eqb-true}
 use Rattle.algebra.specs.cells.Cell.{every, Inside, at}
 use Rattle.numbers.specs.Value.{Value, value}
+use Rattle.signed.specs.Integers.{centred}
 use Rattle.slices.specs.Pairs.{allBelow}
 use Rattle.slices.proofs.Bounds.{allBelow-below}
 use Rattle.refusals.specs.Refusals.{Test, _⇒_, first, accepted}
@@ -158,7 +159,7 @@ module _ (m : Model) (sound : LawfulModel m) where
   unfolding pointStep
   point-call x = agrees m (readPoint x) _ _ (point-tests x) (λ e.
       let t = passed (modelTests m (readPoint x)) tt e in
-      ap (λ (n : ℕ). record { answer = Said.density n; job = modelJob m; volume = modelVolume m })
+      ap (λ (n : ℕ). record { answer = Said.density (centred p n); job = modelJob m; volume = modelVolume m })
       (ap (λ (v : List ℕ). getD v (densityPlace (group m) (half m) (position x)) 0) (holds-map m (not-false _ (t .0))) ∙ density-read m sound (position x) (within-inside m sound (position x) (not-false _ (t .1 .0)))))
 
   factor-tests : (k : Reflection) → first (modelTests m (readFactor k)) ≡ first (factorTests (modelJob m) (index k) (modelVolume m))

@@ -3,6 +3,7 @@
 use Rattle.algebra.specs.Prelude.{_&&_, not, cond, eqb, leb, ltb, ℕ, suc, List, [], _∷_, length}
 use Rattle.algebra.specs.cells.Cell.{J, Group, Cell, at}
 use Rattle.numbers.specs.Value.{Value, value}
+use Rattle.signed.specs.Integers.{ℤ, centred}
 use Rattle.refusals.specs.Refusals.{Test, _⇒_, first, accepted}
 use Rattle.lengths.specs.Lengths.{scratchLength}
 use Rattle.cell.specs.Volume.{groupOf, packFactors, mapIn, packMap, mapOf, factorsOf}
@@ -33,6 +34,10 @@ factorOf m j = at (m .F) j
 abbrev pub densityOf : Model → J → Value 1
 densityOf m x = at (mapOf 1 (half m) (m .F)) x
 
+-- what a reading gives of a value of the map, which is real: the signed whole number next to zero that is congruent to it
+abbrev pub signedReal : Value 1 → ℤ
+signedReal d = centred p (d .0 .val)
+
 -- ---- calls
 
 -- The refusals of a call, in the paper's order. Faults of job or volume (25, 6, 14, and 7 in the volume) do not arise.
@@ -55,7 +60,7 @@ abbrev pub modelSays : Model → Call → Said
 modelSays m (recording k x y) = done
 modelSays m (synthesis scratch) = done
 modelSays m (analysis scratch) = done
-modelSays m (readPoint x) = density (densityOf m (position x) .0 .val)
+modelSays m (readPoint x) = density (signedReal (densityOf m (position x)))
 modelSays m (readFactor k) = factor (factorOf m (index k) .0 .val) (factorOf m (index k) .1 .val)
 
 -- .. and what the model is after it: a record puts its value at its index and the implied value at each image, synthesis and analysis change the state alone

@@ -14,7 +14,7 @@ fn replay_calls(
     script: &[u32],
     volume: &mut [u32],
     scratch: &mut [u32],
-    answers: &mut [u32],
+    answers: &mut [i64],
 ) -> Job {
     let r = scripts::replay::replay(job, script, volume, scratch, answers);
     test_io::print_replay(
@@ -31,7 +31,7 @@ fn replay_calls(
 fn replayed(job: Job, r: &[u32], volume: &mut [u32]) -> Job {
     let mut numbers = [0u32; 150];
     let mut scratch = [7u32; 12032];
-    let mut answers = [9u32; 80];
+    let mut answers = [9i64; 80];
     let n = test_io::length_at(r, 2, 150);
     let room = test_io::length_at(r, 3, 12032);
     let space = test_io::length_at(r, 4, 80);

@@ -1,7 +1,8 @@
--- The numbers of a script: six for a call, its operation, three of an index or a point, two of a value; and three for an answer.
+-- The numbers of a script: six for a call, its operation, three of an index or a point, two of a value; and three for an answer, which have signs.
 use mathlib.Core.List.{List, [], _∷_, _++_}
 use Prim.Native.Nat.{ℕ, _+_, _*_, zero, suc, _/_, min}
 use lib.ListN.{getD, length, drop}
+use Rattle.signed.specs.Integers.{ℤ, pos}
 use Rattle.scripts.specs.declared.numbers.CallNumbers.{CallNumbers}
 use Rattle.lengths.specs.Lengths.{cleared}
 use Rattle.job.specs.declared.Job.{Job}
@@ -19,8 +20,8 @@ abbrev pub numbersAt : (script : List ℕ) (i : ℕ) → CallNumbers
 numbersAt script i = record { operation = getD script (6 * i) 0; h = getD script (6 * i + 1) 0; k = getD script (6 * i + 2) 0; l = getD script (6 * i + 3) 0; x = getD script (6 * i + 4) 0; y = getD script (6 * i + 5) 0 }
 
 -- an answer as it is written
-abbrev pub replyNumbers : Reply → List ℕ
-replyNumbers r = r .number ∷ r .x ∷ r .y ∷ []
+abbrev pub replyNumbers : Reply → List ℤ
+replyNumbers r = pos (r .number) ∷ r .x ∷ r .y ∷ []
 
 -- ---- One call of a job as numbers, and what it answers and leaves of a job, a volume and a scratch.
 -- A call is six numbers: its operation, three of an index or a point, two of a value. Operation 0 records, 1 is synthesis, 2 analysis, 3 reads a point, any other a factor.
@@ -83,7 +84,7 @@ calls scratch script i (suc n) = callAt scratch script i ∷ calls scratch scrip
 
 -- ---- answers
 
-unfoldable pub allNumbers : List Said → List ℕ
+unfoldable pub allNumbers : List Said → List ℤ
 allNumbers [] = []
 allNumbers (a ∷ l) = replyNumbers (replyOf a) ++ allNumbers l
 
@@ -99,20 +100,20 @@ pub record ReplayOutcome : Type 0 where
   pub written : ℕ
   pub volume : List ℕ
   pub scratch : List ℕ
-  pub answers : List ℕ
+  pub answers : List ℤ
 
-abbrev pub replayOutcome : Replayed → (volume scratch answers : List ℕ) → ReplayOutcome
+abbrev pub replayOutcome : Replayed → (volume scratch : List ℕ) (answers : List ℤ) → ReplayOutcome
 replayOutcome r v s out = record { job = r .job; written = r .written; volume = v; scratch = s; answers = out }
 
 -- as many calls as the script has whole and the output has room to answer
-abbrev pub callCount : (script out : List ℕ) → ℕ
+abbrev pub callCount : (script : List ℕ) (out : List ℤ) → ℕ
 callCount script out = min (length script / 6) (length out / 3)
 
-abbrev pub scriptCalls : (scratch script out : List ℕ) → List Call
+abbrev pub scriptCalls : (scratch script : List ℕ) (out : List ℤ) → List Call
 scriptCalls scratch script out = calls scratch script 0 (callCount script out)
 
 -- what is left, given what the calls answered and left: the places of the output beyond the answers are as they were
-unfoldable pub ended : Ran → (script scratch out : List ℕ) → ReplayOutcome
+unfoldable pub ended : Ran → (script scratch : List ℕ) (out : List ℤ) → ReplayOutcome
 ended r script scratch out = record {
   job = r .job;
   written = 3 * callCount script out;
@@ -121,9 +122,9 @@ ended r script scratch out = record {
   answers = allNumbers (r .answers) ++ drop (3 * callCount script out) out;
 }
 
-abbrev pub replayStep : Job → (script volume scratch out : List ℕ) → ReplayOutcome
+abbrev pub replayStep : Job → (script volume scratch : List ℕ) (out : List ℤ) → ReplayOutcome
 replayStep j script v scratch out = ended (run j v (scriptCalls scratch script out)) script scratch out
 
 -- the same script in the reference model, which is handed no job and no volume
-abbrev pub modelReplay : Model → (script scratch out : List ℕ) → ReplayOutcome
+abbrev pub modelReplay : Model → (script scratch : List ℕ) (out : List ℤ) → ReplayOutcome
 modelReplay m script scratch out = ended (modelRan m (scriptCalls scratch script out)) script scratch out

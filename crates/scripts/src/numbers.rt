@@ -33,12 +33,15 @@ pub fn numbers_at(script: &[u32], i: usize) -> CallNumbers
 }
 
 // The answer number i goes to its three places.
-pub fn write_reply(answers: &mut [u32], i: usize, reply: Reply)
+pub fn write_reply(answers: &mut [i64], i: usize, reply: Reply)
     requires { ⌜ 3 * i + 3 ≤ length (now answers) ⌝ }
     ensures { λ _. ⌜ now (answers .exit) ≡ take (3 * i) (now (answers .entry)) ++ replyNumbers reply ++ drop (3 * i + 3) (now (answers .entry)) ⌝ }
 {
     let at = 3 * i;
-    answers[at] = reply.number;
-    answers[at + 1] = reply.x;
-    answers[at + 2] = reply.y;
+    let number = reply.number as i64;
+    let x = reply.x;
+    let y = reply.y;
+    answers[at] = number;
+    answers[at + 1] = x;
+    answers[at + 2] = y;
 }

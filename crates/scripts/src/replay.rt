@@ -32,7 +32,7 @@ pub fn replay(
     script: &[u32],
     volume: &mut [u32],
     scratch: &mut [u32],
-    answers: &mut [u32],
+    answers: &mut [i64],
 ) -> Replayed
     ensures { λ r. ⌜ replayOutcome r (now (volume .exit)) (now (scratch .exit)) (now (answers .exit))
         ≡ replayStep job (now (script .entry)) (now (volume .entry)) (now (scratch .entry)) (now (answers .entry)) ⌝ }

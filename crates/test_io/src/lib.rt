@@ -192,6 +192,30 @@ pub fn print_line(v: &[u32]) -> usize
     j
 }
 
+// A number j of a line, with its sign.
+fn print_next_signed(j: usize, x: i64) {
+    if 0 < j {
+        io::write_all(STDOUT_FILENO, b" ");
+    }
+    if x < 0 {
+        io::write_all(STDOUT_FILENO, b"-");
+    }
+    io::print_decimal(STDOUT_FILENO, signed::magnitude(x));
+}
+
+// A line of numbers with their signs; how many were printed.
+pub fn print_signed_line(v: &[i64]) -> usize
+    ensures { λ r. ⌜ r ≡ length (now (v .entry)) ⌝ }
+{
+    let mut j: usize = 0;
+    while j < v.len() {
+        print_next_signed(j, v[j]);
+        j += 1;
+    }
+    io::write_all(STDOUT_FILENO, b"\n");
+    j
+}
+
 // What a script of calls answered and left: how many numbers it wrote, the job's checksum and those of two buffers, then every answer;
 // how many answers were printed.
 pub fn print_replay(
@@ -199,13 +223,13 @@ pub fn print_replay(
     job: u32,
     volume: &[u32],
     scratch: &[u32],
-    answers: &[u32],
+    answers: &[i64],
 ) -> usize
     ensures { λ r. ⌜ r ≡ length (now (answers .entry)) ⌝ }
 {
     let said = [count(written), job, checksum(volume), checksum(scratch)];
     print_line(&said);
-    print_line(answers)
+    print_signed_line(answers)
 }
 
 // What a writing answered and left, in three numbers.

@@ -1,4 +1,4 @@
--- Numbers written into a list, one after another: what stands before them, and what behind.
+-- Things written into a list, one after another: what stands before them, and what behind.
 use mathlib.Core.Path.{_≡_, _∙_, ap}
 use mathlib.Core.List.{List, [], _∷_, _++_}
 use Prim.Native.Nat.{ℕ, suc, _+_, _-_, _≤_}
@@ -7,16 +7,16 @@ use lib.ListN.{length, set, take, drop, length-append}
 use lib.Seq.{length-take-le, take-at, drop-append-add, drop-drop, sets-eq}
 
 -- w from place k on
-abbrev pub placed : (out : List ℕ) (k : ℕ) (w : List ℕ) → List ℕ
+abbrev pub placed : {X : Type 0} → (out : List X) (k : ℕ) (w : List X) → List X
 placed out k w = take k out ++ w ++ drop (k + length w) out
 
-pub placed-three : (l : List ℕ) (k a b c : ℕ) → k + 3 ≤ length l → set (set (set l k a) (k + 1) b) (k + 2) c ≡ placed l k (a ∷ b ∷ c ∷ [])
+pub placed-three : {X : Type 0} (l : List X) (k : ℕ) (a b c : X) → k + 3 ≤ length l → set (set (set l k a) (k + 1) b) (k + 2) c ≡ placed l k (a ∷ b ∷ c ∷ [])
 placed-three l k a b c h =
     let one : k + 1 ≡ suc k = omega arith in
     let two : k + 2 ≡ suc (suc k) = omega arith in
     rw (one, two) (sets-eq (a ∷ b ∷ c ∷ []) l k h)
 
-module _ (out : List ℕ) (k : ℕ) (w : List ℕ) (fits : k + length w ≤ length out) where
+module _ {X : Type 0} (out : List X) (k : ℕ) (w : List X) (fits : k + length w ≤ length out) where
   length-front : length (take k out ++ w) ≡ k + length w
   length-front = length-append (take k out) w ∙ ap (λ (n : ℕ). n + length w) (length-take-le k out (omega arith))
 

@@ -2,11 +2,12 @@
 use mathlib.Core.Path.{_≡_, ap}
 use mathlib.Core.List.{List}
 use Prim.Native.Nat.{ℕ}
+use Rattle.signed.specs.Integers.{ℤ}
 use Rattle.job.specs.declared.Job.{Job}
 use Rattle.model.specs.Model.{Model}
 use Rattle.demands.specs.Demands.{Start, Ran, Started}
 use Rattle.demands.proofs.Starts.{every-start}
 use Rattle.scripts.specs.Script.{scriptCalls, ended, replayStep, modelReplay}
 
-pub replay-modelled : (s : Start) (m : Model) (j : Job) (script v scratch out : List ℕ) → Started s j v m → replayStep j script v scratch out ≡ modelReplay m script scratch out
+pub replay-modelled : (s : Start) (m : Model) (j : Job) (script v scratch : List ℕ) (out : List ℤ) → Started s j v m → replayStep j script v scratch out ≡ modelReplay m script scratch out
 replay-modelled s m j script v scratch out started = ap (λ (r : Ran). ended r script scratch out) (every-start .runs s j v m started (scriptCalls scratch script out))

@@ -5,6 +5,7 @@ use Prim.Native.Nat.{ℕ, suc, _+_, _-_, _*_, _≤_, _<_}
 use native.Mathlib.Nat.{sub-zero}
 use native.Mathlib.Omega.{arith}
 use lib.ListN.{length, take, drop, take-append-drop}
+use Rattle.signed.specs.Integers.{ℤ}
 use Rattle.job.specs.declared.Job.{Job}
 use Rattle.job.specs.declared.reply.Reply.{Reply}
 use Rattle.job.specs.Answers.{replyOf}
@@ -19,7 +20,7 @@ three-numbers : (a : Reply) → length (replyNumbers a) ≡ 3
 three-numbers a = refl
 
 -- the answer of call i of n, written to its three places, stands before the later ones
-answer-placed : (out out′ : List ℕ) (i n : ℕ) (a : Reply) (later : List ℕ) → i < n → 3 * n ≤ length out → out′ ≡ placed out (3 * i) (replyNumbers a) →
+answer-placed : (out out′ : List ℤ) (i n : ℕ) (a : Reply) (later : List ℤ) → i < n → 3 * n ≤ length out → out′ ≡ placed out (3 * i) (replyNumbers a) →
     take (3 * (i + 1)) out′ ++ later ++ drop (3 * n) out′ ≡ take (3 * i) out ++ (replyNumbers a ++ later) ++ drop (3 * n) out
 answer-placed out out′ i n a later h fits w =
     let t : 3 * (i + 1) ≡ 3 * i + length (replyNumbers a) = omega (arith, three-numbers a) in
@@ -29,7 +30,7 @@ answer-placed out out′ i n a later h fits w =
 
 module _ (script lent : List ℕ) (n : ℕ) where
   -- what the calls from number i on leave of a job, its buffers, and an output that has the answers of those before
-  unfoldable pub resumed : (i : ℕ) → Job → (volume scratch out : List ℕ) → ReplayOutcome
+  unfoldable pub resumed : (i : ℕ) → Job → (volume scratch : List ℕ) (out : List ℤ) → ReplayOutcome
   resumed i j v s out =
       let rest = calls lent script i (n - i) in
       let r = run j v rest in
@@ -46,7 +47,7 @@ module _ (script lent : List ℕ) (n : ℕ) where
   calls-cons i h = let e : n - i ≡ suc (n - (i + 1)) = omega arith in rw e
 
   -- a call and its answer
-  pub resumed-next : (i : ℕ) (j : Job) (v s out : List ℕ) (o : CallOutcome) (out′ : List ℕ) → i < n → 3 * n ≤ length out → o ≡ callStep j v s (callAt lent script i) → out′ ≡ placed out (3 * i) (replyNumbers (o .reply)) →
+  pub resumed-next : (i : ℕ) (j : Job) (v s : List ℕ) (out : List ℤ) (o : CallOutcome) (out′ : List ℤ) → i < n → 3 * n ≤ length out → o ≡ callStep j v s (callAt lent script i) → out′ ≡ placed out (3 * i) (replyNumbers (o .reply)) →
       resumed (i + 1) (o .job) (o .volume) (o .scratch) out′ ≡ resumed i j v s out
   unfolding resumed callStep run scratchAfter allNumbers
   resumed-next i j v s out o out′ h fits e w =
@@ -61,7 +62,7 @@ module _ (script lent : List ℕ) (n : ℕ) where
         answers = d x;
       })
 
-  pub resumed-all : (i : ℕ) (j : Job) (v s out : List ℕ) → i ≤ n → n ≤ i → record { job = j; written = 3 * n; volume = v; scratch = s; answers = out } ≡ resumed i j v s out
+  pub resumed-all : (i : ℕ) (j : Job) (v s : List ℕ) (out : List ℤ) → i ≤ n → n ≤ i → record { job = j; written = 3 * n; volume = v; scratch = s; answers = out } ≡ resumed i j v s out
   unfolding resumed calls run scratchAfter allNumbers
   resumed-all i j v s out h g =
       let e : n - i ≡ 0 = omega arith in
@@ -70,20 +71,20 @@ module _ (script lent : List ℕ) (n : ℕ) where
       rw (e, f) (λ x. record { job = j; written = 3 * n; volume = v; scratch = s; answers = d x })
 
 -- of no call yet
-pub resumed-none : (script v s out : List ℕ) (n : ℕ) (j : Job) → n ≡ callCount script out → resumed script s n 0 j v s out ≡ replayStep j script v s out
+pub resumed-none : (script v s : List ℕ) (out : List ℤ) (n : ℕ) (j : Job) → n ≡ callCount script out → resumed script s n 0 j v s out ≡ replayStep j script v s out
 unfolding resumed ended
 resumed-none script v s out n j e = rw (sub-zero, e)
 
 -- ---- the invariant: i of n calls are done
 
-pub record Replaying (script lent out₀ : List ℕ) (n : ℕ) (all : ReplayOutcome) (i : ℕ) (j : Job) (v s out : List ℕ) : Type 0 where
+pub record Replaying (script lent : List ℕ) (out₀ : List ℤ) (n : ℕ) (all : ReplayOutcome) (i : ℕ) (j : Job) (v s : List ℕ) (out : List ℤ) : Type 0 where
   pub le : i ≤ n
   pub scratch-length : length s ≡ length lent
   pub output-length : length out ≡ length out₀
   pub is : resumed script lent n i j v s out ≡ all
 
-module _ {script lent out₀ : List ℕ} {n : ℕ} {all : ReplayOutcome} {i : ℕ} {j : Job} {v s out : List ℕ} where
-  pub replaying-next : (o : CallOutcome) (out′ : List ℕ) → Replaying script lent out₀ n all i j v s out → i < n → 3 * n ≤ length out₀ → length (o .scratch) ≡ length s → length out′ ≡ length out →
+module _ {script lent : List ℕ} {out₀ : List ℤ} {n : ℕ} {all : ReplayOutcome} {i : ℕ} {j : Job} {v s : List ℕ} {out : List ℤ} where
+  pub replaying-next : (o : CallOutcome) (out′ : List ℤ) → Replaying script lent out₀ n all i j v s out → i < n → 3 * n ≤ length out₀ → length (o .scratch) ≡ length s → length out′ ≡ length out →
       o ≡ callStep j v s (callAt s script i) → out′ ≡ placed out (3 * i) (replyNumbers (o .reply)) → Replaying script lent out₀ n all (i + 1) (o .job) (o .volume) (o .scratch) out′
   replaying-next o out′ k h fits ls lo e w = record {
     le = omega arith;

@@ -23,7 +23,7 @@ call-count-requires c κs = search needs
 
 loop-holds : tie.Need-loop-holds Inv-loop μ-loop
 loop-holds c =
-    let a = c .before .before .before .before .before .args in
+    let a = c .before .before .before .before .args in
     (refl, record { le = omega arith; scratch-length = refl; output-length = refl; is = resumed-none (now (a .script)) (now (a .volume)) (now (a .scratch)) (now (a .answers)) (c .call-count .result) (a .job) (c .call-count .ensures) })
 
 call-at-requires : tie.Need-call-at-requires Inv-loop μ-loop
@@ -33,17 +33,17 @@ write-reply-requires : tie.Need-write-reply-requires Inv-loop μ-loop
 write-reply-requires c κs = omega arith
 
 add-i : tie.Need-add-i Inv-loop μ-loop
-add-i c = omega (arith, c .before .before .before .before .before .before .before .before .before .before .before .before .before .before .call-count .ensures, c .before .before .before .before .before .before .before .before .before .before .before .before .before .before .before .before .before .before .before .good .1 .0)
+add-i c = omega (arith, c .before .before .before .before .before .before .before .before .before .before .before .before .before .call-count .ensures, c .before .before .before .before .before .before .before .before .before .before .before .before .before .before .before .before .before .good .1 .0)
 
 loop-less : tie.Need-loop-less Inv-loop μ-loop
 loop-less c = omega arith
 
 loop-again : tie.Need-loop-again Inv-loop μ-loop
 loop-again c =
-    let d = c .before .before .before .before .before .before .before .before .before .call-at in
-    let l = c .before .before .before .before .before .before .before .before .before .before .before .before .before in
-    let w = c .before .before .before .write-reply in
-    (d .kept .1 .1 .1 .0 ∙ l .loop .inv .0, replaying-next (callOutcome (d .result) (d .last .1 .1 .1 .0) (d .last .1 .1 .1 .1 .0)) (w .last .0) (l .loop .inv .1) (c .before .before .before .before .before .before .before .before .before .before .before .before .loop-test .taken) (omega (arith, l .before .call-count .ensures)) (d .kept .1 .1 .1 .1 .0) (w .kept .0) (d .ensures) (w .ensures))
+    let d = c .before .before .before .before .before .before .before .before .call-at in
+    let l = c .before .before .before .before .before .before .before .before .before .before .before .before in
+    let w = c .before .before .write-reply in
+    (d .kept .1 .1 .1 .0 ∙ l .loop .inv .0, replaying-next (callOutcome (d .result) (d .last .1 .1 .1 .0) (d .last .1 .1 .1 .1 .0)) (w .last .0) (l .loop .inv .1) (c .before .before .before .before .before .before .before .before .before .before .before .loop-test .taken) (omega (arith, l .before .call-count .ensures)) (d .kept .1 .1 .1 .1 .0) (w .kept .0) (d .ensures) (w .ensures))
 
 mul-t10 : tie.Need-mul-t10 Inv-loop μ-loop
 mul-t10 c = omega arith
@@ -59,7 +59,7 @@ same-length-3 c = c .before .loop .inv .1 .output-length
 
 returns : tie.Need-returns Inv-loop μ-loop
 returns c =
-    let a = c .before .before .before .before .before .before .before .args in
+    let a = c .before .before .before .before .before .before .args in
     let e = replaying-all (c .before .loop .inv .1) (omega arith) in
     (e, λ s m started. e ∙ replay-modelled s m (a .job) (now (a .script)) (now (a .volume)) (now (a .scratch)) (now (a .answers)) started)
 

@@ -22,9 +22,9 @@ use Rattle.printing.specs.Fits.{AlwaysFits}
 use Rattle.printing.proofs.Synthesised.{synthesised-printable}
 use Rattle.printing.proofs.Opened.{opened-synthesis}
 
--- 88 bytes, and 21 for each of 2,048 numbers
+-- 88 bytes, and 22 for each of 2,048 numbers
 abbrev Short : List ℕ → Type 0
-Short text = length text ≤ 43096
+Short text = length text ≤ 45144
 
 short-refusal : (n place : ℕ) → Short (refusalText n place)
 short-refusal n place = omega (arith, refusal-short n place)
@@ -35,7 +35,7 @@ map-of-opened file v j w e l =
     let t = passed (synthesisTests j w scratchLength) tt (opened-synthesis file v j w e) in
     let p = synthesised-printable j w (not-false _ (t .0)) in
     let lent : length w ≡ volumeLength (groupIn j) (halves j) = eqb-true _ _ (not-false _ (t .1 .1 .0)) in
-    omega (arith, map-short p, p .long, lent, l)
+    omega (arith, map-short (p .fitting), p .fitting .long, lent, l)
 
 opened-short : (file v : List ℕ) → length (fileStep file v .volume) ≤ lentLimit → Short (openedText (fileStep file v))
 opened-short file v l = by (fileStep file v .answer) refl

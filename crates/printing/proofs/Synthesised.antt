@@ -5,18 +5,19 @@ use mathlib.Core.List.{List}
 use Prim.Native.Nat.{ℕ}
 use lib.Dec.{ltb, eqb}
 use lib.ListN.{length, replicate, length-replicate}
-use borrow.Author.Tests.{not-false}
+use borrow.Author.Tests.{not-false, lt-ltb}
 use Rattle.refusals.specs.Refusals.{first, accepted}
 use Rattle.lengths.specs.Lengths.{scratchLength, cleared}
 use Rattle.refusals.proofs.Tests.{passed}
-use Rattle.cell.proofs.VolumeLayout.{length-map}
+use Rattle.cell.proofs.VolumeLayout.{length-map, below-map}
+use Rattle.volume.proofs.consistent.Passing.{below-all}
 use Rattle.job.specs.declared.Job.{Job}
 use Rattle.job.specs.declared.Answered.{Answered}
 use Rattle.job.specs.Job.{headerOf, axisTests, validJob, withState, mapHeld, groupIn, halves, done, Outcome, Worked, unchanged, synthesised, synthesisStep}
 use Rattle.job.specs.TestSteps.{synthesisTests}
 use Rattle.job.specs.Answers.{worked}
 use Rattle.header.proofs.Headers.{all-three}
-use Rattle.printing.specs.Text.{mapText, putText, textStep}
+use Rattle.printing.specs.Text.{mapText, putText, textStep, printsResidues}
 use Rattle.printing.specs.Printable.{Printable}
 use Rattle.printing.proofs.map_text.Outcomes.{text-held}
 
@@ -28,7 +29,11 @@ valid-held j e =
     λ i. t .0 i && (t .1 i && true)
 
 pub synthesised-printable : (j : Job) (v : List ℕ) → validJob j ≡ true → Printable (withState j mapHeld) (synthesised j v)
-synthesised-printable j v e = record { valid = valid-held j e; long = length-map (groupIn j) (halves j) 1 _ }
+unfolding printsResidues
+synthesised-printable j v e = record {
+  fitting = record { valid = valid-held j e; long = length-map (groupIn j) (halves j) 1 _ };
+  residues = below-all _ _ (λ z. below-all _ _ (λ x. below-all _ _ (λ y. lt-ltb _ _ (below-map (groupIn j) (halves j) 1 _ .each _))));
+}
 
 -- the scratch that the printer lends
 abbrev pub scratch : List ℕ

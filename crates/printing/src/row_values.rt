@@ -1,22 +1,54 @@
-// The values of a row of a volume on an output.
-ghost use mathlib.Core.List.{_∷_};
-ghost use Prim.Native.Nat.{_+_, _≤_};
+// The values of a row of a volume: whether they are residues, and their text on an output.
+ghost use mathlib.Core.Path.{_≡_};
+ghost use mathlib.Core.Bool.{true};
+ghost use Prim.Native.Nat.{_+_, _<_, _≤_};
+ghost use lib.Dec.{ltb};
 ghost use lib.ListN.{length, getD};
-ghost use Rattle.output.specs.Output.{decimal, blank, each};
+ghost use Rattle.algebra.specs.cells.Cell.{below};
+ghost use Rattle.job.specs.Job.{p};
+ghost use Rattle.output.specs.Output.{each};
 ghost use Rattle.output.specs.Written.{Wrote, Ends};
+ghost use Rattle.printing.specs.Text.{valueText};
 
-// The n numbers of a volume from `start` on, a blank before each.
-pub fn put_values(out: &mut [u8], at: usize, volume: &[u32], start: usize, n: usize) -> usize
+// The n numbers of a volume from `start` on are residues.
+pub fn are_residues(volume: &[u32], start: usize, n: usize) -> bool
     requires { ⌜ start + n ≤ length (now volume) ⌝ }
-    requires { ⌜ Ends at (each n (λ y. blank ∷ decimal (getD (now volume) (start + y) 0))) ⌝ }
-    ensures { λ r. ⌜ Wrote at (each n (λ y. blank ∷ decimal (getD (now (volume .entry)) (start + y) 0))) (now (out .entry)) r (now (out .exit)) ⌝ }
+    ensures { λ r. ⌜ r ≡ below n (λ y. ltb (getD (now (volume .entry)) (start + y) 0) p) ⌝ }
 {
+    let most = numbers::modulus(1);
+    let mut y = 0;
+    while y < n {
+        if volume[start + y] < most {
+            y += 1;
+        } else {
+            return false;
+        }
+    }
+    true
+}
+
+// The n numbers of a volume from `start` on, which are residues, with their signs, a blank before each.
+pub fn put_values(out: &mut [u8], at: usize, volume: &[u32], start: usize, n: usize) -> usize
+    requires { ⌜ (start + n ≤ length (now volume)) × (below n (λ y. ltb (getD (now volume) (start + y) 0) p) ≡ true) ⌝ }
+    requires { ⌜ Ends at (each n (λ y. valueText (getD (now volume) (start + y) 0))) ⌝ }
+    ensures { λ r. ⌜ Wrote at (each n (λ y. valueText (getD (now (volume .entry)) (start + y) 0))) (now (out .entry)) r (now (out .exit)) ⌝ }
+{
+    let most = numbers::modulus(1);
     let mut place = at;
     let mut y = 0;
     while y < n {
         let value = volume[start + y];
-        place = output::put_field(out, place, value);
+        place = put_value(out, place, most, value);
         y += 1;
     }
     place
+}
+
+// The density of one residue, a blank before it.
+fn put_value(out: &mut [u8], at: usize, most: u32, value: u32) -> usize
+    requires { ⌜ (most ≡ p) × (value < p) ⌝ }
+    requires { ⌜ Ends at (valueText value) ⌝ }
+    ensures { λ r. ⌜ Wrote at (valueText value) (now (out .entry)) r (now (out .exit)) ⌝ }
+{
+    output::put_signed_field(out, at, signed::centre(most, value) as i64)
 }

@@ -47,18 +47,18 @@ module _ (j : Job) (v out : List ℕ) where
     pub text-printable : Printable j v
     text-printable =
         let t = passed (textTests j v (length out)) tt none in
-        record { valid = not-false _ (t .0); long = eqb-true _ _ (not-false _ (t .1 .1 .0)) }
+        record { fitting = record { valid = not-false _ (t .0); long = eqb-true _ _ (not-false _ (t .1 .1 .0)) }; residues = not-false _ (t .1 .1 .1 .0) }
 
     pub text-written : {n : ℕ} {out′ : List ℕ} → Wrote 0 (mapText j v) out n out′ → fillOutcome (Written n) out′ ≡ textStep j v out
     unfolding textStep
     text-written w =
         let t = passed (textTests j v (length out)) tt none in
-        wrote-put w (ltb-false _ _ (t .1 .1 .1 .0)) ∙ passes _ _ (λ n. record { answer = notWritten n; output = out }) none
+        wrote-put w (ltb-false _ _ (t .1 .1 .1 .1 .0)) ∙ passes _ _ (λ n. record { answer = notWritten n; output = out }) none
 
   -- of a map that is held, only the output's length is left to ask
   pub text-held : Printable j v → j .state ≡ mapHeld → textStep j v out ≡ putText (mapText j v) out
   unfolding textStep first
-  text-held p h = rw (p .valid, eq-eqb (j .state) mapHeld h, eq-eqb (length v) (volumeLength (groupIn j) (halves j)) (p .long)) (short (ltb (length out) (length (mapText j v))))
+  text-held p h = rw (p .fitting .valid, eq-eqb (j .state) mapHeld h, eq-eqb (length v) (volumeLength (groupIn j) (halves j)) (p .fitting .long), p .residues) (short (ltb (length out) (length (mapText j v))))
     where
       short : (b : Bool) → accepted (cond b 18 0) (filled (mapText j v) out) (λ n. record { answer = notWritten n; output = out }) ≡ cond b (record { answer = notWritten 18; output = out }) (filled (mapText j v) out)
       short true = refl

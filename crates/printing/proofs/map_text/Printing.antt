@@ -8,7 +8,7 @@ use native.Mathlib.Omega.{arith}
 use lib.Dec.{ltb, eqb}
 use lib.ListN.{length, getD, length-append}
 use borrow.Author.Tests.{eqb-true, ltb-false}
-use Rattle.algebra.specs.cells.Cell.{planes}
+use Rattle.algebra.specs.cells.Cell.{planes, below}
 use Rattle.refusals.specs.Refusals.{first}
 use Rattle.refusals.proofs.Tests.{passed}
 use Rattle.cell.specs.Operations.{Sizes}
@@ -16,14 +16,16 @@ use Rattle.cell.specs.Volume.{layers, rows, columns, pairPlace, mapPlace, volum
 use Rattle.cell.proofs.VolumeLayout.{place-inside}
 use Rattle.cell.proofs.StoredFactors.{layers-most, number-place}
 use Rattle.job.specs.declared.Job.{Job}
-use Rattle.job.specs.Job.{jobCell, groupIn, halves, validJob, headerOf, axisTests}
+use Rattle.volume.proofs.consistent.Passing.{passed-at}
+use Rattle.job.specs.Job.{p, jobCell, groupIn, halves, validJob, headerOf, axisTests}
 use Rattle.header.proofs.Headers.{all-three}
 use Rattle.job.proofs.Jobs.{valid-sizes}
+use Rattle.signed.specs.Integers.{centred}
 use Rattle.output.specs.Output.{decimal, blank, lineFeed, each}
 use Rattle.output.specs.Written.{Ends}
-use Rattle.printing.specs.Text.{headLine, rowLine, mapText}
-use Rattle.printing.specs.Printable.{Printable}
-use Rattle.output.proofs.Decimals.{decimal-short}
+use Rattle.printing.specs.Text.{valueText, headLine, rowLine, mapText, rowResidues, printsResidues}
+use Rattle.printing.specs.Printable.{Fitting, Printable}
+use Rattle.output.proofs.Decimals.{decimal-short, signed-short}
 
 -- ---- lengths of texts
 
@@ -38,7 +40,7 @@ head-short j = simp length-append (omega (arith, decimal-short (j .group), decim
 
 -- the values of a row, n of them from place `start` on
 abbrev pub valuesFrom : List ℕ → (start n : ℕ) → List ℕ
-valuesFrom v start n = each n (λ y. blank ∷ decimal (getD v (start + y) 0))
+valuesFrom v start n = each n (λ y. valueText (getD v (start + y) 0))
 
 module _ (j : Job) (v : List ℕ) where
   -- the place of a row's first value
@@ -49,19 +51,19 @@ module _ (j : Job) (v : List ℕ) where
   abbrev pub values : (z x : ℕ) → List ℕ
   values z x = valuesFrom v (rowStart z x) (j .b .length)
 
-  row-short : (z x : ℕ) → length (rowLine j v z x) ≤ 42 + j .b .length * 21
+  row-short : (z x : ℕ) → length (rowLine j v z x) ≤ 44 + j .b .length * 22
   unfolding rowLine
   row-short z x = simp length-append (omega (arith, decimal-short z, decimal-short x, short))
     where
-      short : length (values z x) ≤ j .b .length * 21
-      short = each-bound (λ y. blank ∷ decimal (getD v (rowStart z x + y) 0)) 21 (λ y. omega (arith, decimal-short (getD v (rowStart z x + y) 0))) (j .b .length)
+      short : length (values z x) ≤ j .b .length * 22
+      short = each-bound (λ y. valueText (getD v (rowStart z x + y) 0)) 22 (λ y. omega (arith, signed-short (centred p (getD v (rowStart z x + y) 0)))) (j .b .length)
 
-  text-short : length (mapText j v) ≤ 88 + layers (groupIn j) (halves j) * (j .a .length * (42 + j .b .length * 21))
+  text-short : length (mapText j v) ≤ 88 + layers (groupIn j) (halves j) * (j .a .length * (44 + j .b .length * 22))
   unfolding mapText
   text-short = rw length-append (omega (arith, head-short j, planes-short))
     where
-      planes-short : length (each (layers (groupIn j) (halves j)) (λ z. each (j .a .length) (λ x. rowLine j v z x))) ≤ layers (groupIn j) (halves j) * (j .a .length * (42 + j .b .length * 21))
-      planes-short = each-bound (λ z. each (j .a .length) (λ x. rowLine j v z x)) (j .a .length * (42 + j .b .length * 21)) (λ z. each-bound (λ x. rowLine j v z x) (42 + j .b .length * 21) (λ x. row-short z x) (j .a .length)) (layers (groupIn j) (halves j))
+      planes-short : length (each (layers (groupIn j) (halves j)) (λ z. each (j .a .length) (λ x. rowLine j v z x))) ≤ layers (groupIn j) (halves j) * (j .a .length * (44 + j .b .length * 22))
+      planes-short = each-bound (λ z. each (j .a .length) (λ x. rowLine j v z x)) (j .a .length * (44 + j .b .length * 22)) (λ z. each-bound (λ x. rowLine j v z x) (44 + j .b .length * 22) (λ x. row-short z x) (j .a .length)) (layers (groupIn j) (halves j))
 
 -- ---- the sizes of a job that can be printed
 
@@ -72,22 +74,22 @@ valid-limit j e =
     let t = all-three (ltb (j .group) 5) (eqb (first (axisTests (headerOf j))) 0) (ltb (j .state) 3) e in
     ltb-false _ _ (passed (axisTests (headerOf j)) tt (sym (eqb-true _ _ (t .1))) .1 .1 .1 .0)
 
-module _ {j : Job} {v : List ℕ} (p : Printable j v) where
+module _ {j : Job} {v : List ℕ} (f : Fitting j v) where
   pub printable-sizes : Sizes (jobCell j)
-  printable-sizes = valid-sizes j (p .valid)
+  printable-sizes = valid-sizes j (f .valid)
 
-  -- the text of a map is at most 88 bytes longer than 21 times its volume
-  pub map-short : length (mapText j v) ≤ 88 + 21 * length v
+  -- the text of a map is at most 88 bytes longer than 22 times its volume
+  pub map-short : length (mapText j v) ≤ 88 + 22 * length v
   map-short =
       let s = printable-sizes in
       let n1 : j .a .length ≡ 2 * (j .a .length / 2) = omega (arith, s .first .even) in
-      let row : 42 + j .b .length * 21 ≡ 21 * (2 * suc (j .b .length / 2)) = omega (arith, s .second .even) in
+      let row : 44 + j .b .length * 22 ≡ 22 * (2 * suc (j .b .length / 2)) = omega (arith, s .second .even) in
       let w = layers (groupIn j) (halves j) in
-      let whole : w * (j .a .length * (42 + j .b .length * 21)) ≡ w * (2 * (j .a .length / 2) * (21 * (2 * suc (j .b .length / 2)))) = λ i. w * (n1 i * row i) in
-      omega (arith, text-short j v, whole, p .long)
+      let whole : w * (j .a .length * (44 + j .b .length * 22)) ≡ w * (2 * (j .a .length / 2) * (22 * (2 * suc (j .b .length / 2)))) = λ i. w * (n1 i * row i) in
+      omega (arith, text-short j v, whole, f .long)
 
   pub map-ends : Ends 0 (mapText j v)
-  map-ends = record { low = omega (arith, map-short, valid-limit j (p .valid), p .long) }
+  map-ends = record { low = omega (arith, map-short, valid-limit j (f .valid), f .long) }
 
   pub layers-below : layers (groupIn j) (halves j) ≤ 2880
   layers-below = let s = printable-sizes in omega (arith, layers-most (s .third) (j .group) (s .known), s .third .high)
@@ -103,7 +105,16 @@ module _ {j : Job} {v : List ℕ} (p : Printable j v) where
       row-inside =
           let s = printable-sizes in
           let inside = place-inside (groupIn j) (halves j) {w = z} {h = x} {k = j .b .length / 2} lz (omega (arith, s .first .even)) (omega arith) in
-          omega (arith, inside, e, p .long, s .second .even)
+          omega (arith, inside, e, f .long, s .second .even)
 
       pub row-values : valuesFrom v (2 * q) (j .b .length) ≡ values j v z x
-      row-values = λ i. each (j .b .length) (λ y. blank ∷ decimal (getD v (number-place (j .b .length) (z * rows (groupIn j) (halves j) + x) q y e i) 0))
+      row-values = λ i. each (j .b .length) (λ y. valueText (getD v (number-place (j .b .length) (z * rows (groupIn j) (halves j) + x) q y e i) 0))
+
+      pub row-residues : below (j .b .length) (λ y. ltb (getD v (2 * q + y) 0) p) ≡ rowResidues j v z x
+      row-residues = λ i. below (j .b .length) (λ y. ltb (getD v (number-place (j .b .length) (z * rows (groupIn j) (halves j) + x) q y e i) 0) p)
+
+-- the numbers of a row of a map that can be printed
+pub residues-of-row : {j : Job} {v : List ℕ} → Printable j v → {z x : ℕ} → z < layers (groupIn j) (halves j) → x < j .a .length → rowResidues j v z x ≡ true
+unfolding printsResidues
+residues-of-row {j} {v} r {z} {x} lz lx =
+    passed-at (λ x. rowResidues j v z x) (j .a .length) x (passed-at (λ z. below (j .a .length) (λ x. rowResidues j v z x)) (layers (groupIn j) (halves j)) z (r .residues) lz) lx

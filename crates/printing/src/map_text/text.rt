@@ -1,4 +1,5 @@
 // The text of a map: a head line, then a line for each row of the volume.
+use crate::map_text::residues;
 use cell::places;
 use job::Job;
 use job::check::tests;
@@ -97,7 +98,7 @@ fn map_length(job: Job, volume: &[u32]) -> usize
     put_map(&mut nothing, job, volume)
 }
 
-// 25, 22, 6, 18.
+// 25, 22, 6, 7, 18.
 fn check_text(job: Job, volume: &[u32], room: usize) -> Checked
     ensures { λ r. ⌜ checkedNumber r ≡ first (textTests job (now (volume .entry)) room) ⌝ }
 {
@@ -109,6 +110,9 @@ fn check_text(job: Job, volume: &[u32], room: usize) -> Checked
     }
     if !tests::fits(job.unit_cell(), volume) {
         return Checked::Failed(Refusal::BufferLength);
+    }
+    if !residues::prints_residues(job, volume) {
+        return Checked::Failed(Refusal::NotResidue);
     }
     if room < map_length(job, volume) {
         return Checked::Failed(Refusal::OutputTooShort);

@@ -1,4 +1,4 @@
--- The job, its state, the volume's length and the text's in turn.
+-- The job, its state, the volume's length, its numbers and the text's length in turn.
 use borrow.Author.Needs.{needs}
 use borrow.Author.Tests.{eqb-true, eq-eqb, ne-eqb, lt-ltb, le-ltb}
 use mathlib.Core.Path.{_≡_, _∙_, ap, subst}
@@ -13,7 +13,8 @@ use Rattle.cell.specs.Operations.{cellGroup, cellHalves}
 use Rattle.cell.specs.Volume.{volumeLength}
 use Rattle.job.specs.Job.{validJob, mapHeld, fits}
 use Rattle.job.proofs.Jobs.{cell-sizes}
-use Rattle.printing.specs.Text.{mapText}
+use Rattle.printing.specs.Text.{mapText, printsResidues}
+use Rattle.printing.specs.Printable.{Fitting}
 use Rattle.printing.proofs.map_text.text.check_text.Statement.{statement}
 use Rattle.printing.proofs.map_text.text.check_text.Tie as tie
 
@@ -52,24 +53,42 @@ returns-3 c =
     let m = c .before .before .before in
     pass _ _ (not-t _ (valid (m .before .before))) (pass _ _ (held m) (stop _ (not-f _ (by-false _ _ (told (c .before)) (c .if3 .taken)))))
 
-map-length-requires : tie.Need-map-length-requires
-map-length-requires c κs = record { valid = valid (c .before .before .before .before .before); long = eqb-true _ _ (fitting c) }
+-- the job fits its volume, and its numbers are residues
+job-fits : (c : tie.Else3) → let s = c .before .before .before .before .before .before .before .before in Fitting (s .args .job) (s .args .volume .now)
+job-fits c = record { valid = valid (c .before .before .before .before .before); long = eqb-true _ _ (fitting c) }
+
+residues : (c : tie.Else4) → let s = c .before .before .before .before .before .before .before .before .before .before in printsResidues (s .args .job) (s .args .volume .now) ≡ true
+residues c = by-true _ _ (c .before .prints-residues .ensures) (c .if4 .left)
+
+prints-residues-requires : tie.Need-prints-residues-requires
+prints-residues-requires c κs = job-fits c
 
 returns-4 : tie.Need-returns-4
 returns-4 c =
     let f = c .before .before in
     let m = f .before .before .before in
-    let s = m .before .before .before .before .before in
-    let short : ltb (s .args .room) (length (mapText (s .args .job) (s .args .volume .now))) ≡ true = lt-ltb _ _ (subst (λ (n : ℕ). s .args .room < n) (c .before .map-length .ensures) (c .if4 .taken)) in
-    pass _ _ (not-t _ (valid (m .before .before))) (pass _ _ (held m) (pass _ _ (not-t _ (fitting f)) (stop _ short)))
+    pass _ _ (not-t _ (valid (m .before .before))) (pass _ _ (held m) (pass _ _ (not-t _ (fitting f)) (stop _ (not-f _ (by-false _ _ (c .before .prints-residues .ensures) (c .if4 .taken))))))
+
+map-length-requires : tie.Need-map-length-requires
+map-length-requires c κs = record { fitting = job-fits (c .before .before); residues = residues c }
 
 returns-5 : tie.Need-returns-5
 returns-5 c =
-    let f = c .before .before in
+    let r = c .before .before in
+    let f = r .before .before in
     let m = f .before .before .before in
     let s = m .before .before .before .before .before in
-    let long : ltb (s .args .room) (length (mapText (s .args .job) (s .args .volume .now))) ≡ false = le-ltb _ _ (subst (λ (n : ℕ). n ≤ s .args .room) (c .before .map-length .ensures) (c .if4 .left)) in
-    pass _ _ (not-t _ (valid (m .before .before))) (pass _ _ (held m) (pass _ _ (not-t _ (fitting f)) (pass _ _ long none)))
+    let short : ltb (s .args .room) (length (mapText (s .args .job) (s .args .volume .now))) ≡ true = lt-ltb _ _ (subst (λ (n : ℕ). s .args .room < n) (c .before .map-length .ensures) (c .if5 .taken)) in
+    pass _ _ (not-t _ (valid (m .before .before))) (pass _ _ (held m) (pass _ _ (not-t _ (fitting f)) (pass _ _ (not-t _ (residues r)) (stop _ short))))
+
+returns-6 : tie.Need-returns-6
+returns-6 c =
+    let r = c .before .before in
+    let f = r .before .before in
+    let m = f .before .before .before in
+    let s = m .before .before .before .before .before in
+    let long : ltb (s .args .room) (length (mapText (s .args .job) (s .args .volume .now))) ≡ false = le-ltb _ _ (subst (λ (n : ℕ). n ≤ s .args .room) (c .before .map-length .ensures) (c .if5 .left)) in
+    pass _ _ (not-t _ (valid (m .before .before))) (pass _ _ (held m) (pass _ _ (not-t _ (fitting f)) (pass _ _ (not-t _ (residues r)) (pass _ _ long none))))
 
 pub check-text-spec : {M : Type 1} → statement M
 check-text-spec =
@@ -81,6 +100,8 @@ check-text-spec =
     unit-cell-requires
     fits-requires
     returns-3
-    map-length-requires
+    prints-residues-requires
     returns-4
-    returns-5)
+    map-length-requires
+    returns-5
+    returns-6)

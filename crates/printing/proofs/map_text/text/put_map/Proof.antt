@@ -8,14 +8,14 @@ use Rattle.printing.proofs.map_text.text.put_map.Tie as tie
 
 put-head-requires : tie.Need-put-head-requires
 unfolding mapText
-put-head-requires c κs = ends-left _ _ (map-ends (c .before .before .before .pre))
+put-head-requires c κs = ends-left _ _ (map-ends (c .before .before .before .pre .fitting))
 
 put-planes-requires : tie.Need-put-planes-requires
 unfolding mapText
 put-planes-requires c κs =
     let w = c .before .before .before in
     let p = w .before .before .before .before .pre in
-    (p, ends-right _ (w .put-head .ensures) (map-ends p))
+    (p, ends-right _ (w .put-head .ensures) (map-ends (p .fitting)))
 
 same-length : tie.Need-same-length
 same-length c = search needs

@@ -12,7 +12,7 @@ use Rattle.cell.specs.Volume.{pairPlace}
 use Rattle.job.specs.Job.{groupIn, halves}
 use Rattle.printing.specs.Text.{rowLine}
 use Rattle.output.proofs.Writing.{wrote-append, ends-left, ends-right}
-use Rattle.printing.proofs.map_text.Printing.{printable-sizes, valuesFrom, values, row-asked, row-inside, row-values}
+use Rattle.printing.proofs.map_text.Printing.{printable-sizes, valuesFrom, values, row-asked, row-inside, row-values, row-residues, residues-of-row}
 use Rattle.printing.proofs.map_text.text.put_row.Statement.{statement}
 use Rattle.printing.proofs.map_text.text.put_row.Tie as tie
 
@@ -20,7 +20,7 @@ unit-cell-requires : tie.Need-unit-cell-requires
 unit-cell-requires c κs = search needs
 
 pair-place-requires : tie.Need-pair-place-requires
-pair-place-requires c κs = let p = c .before .before .before .pre .0 in rw (c .unit-cell .ensures) (row-asked (p .0) (p .1) (p .2))
+pair-place-requires c κs = let p = c .before .before .before .pre .0 in rw (c .unit-cell .ensures) (row-asked (p .0 .fitting) (p .1) (p .2))
 
 mul-start : tie.Need-mul-start
 mul-start c = search needs
@@ -36,7 +36,7 @@ put-field-requires c κs =
     ends-left _ _ (ends-right _ (w1 .put-decimal .ensures) (w1 .before .before .before .before .before .before .pre .1))
 
 cast-put-values : tie.Need-cast-put-values
-cast-put-values c = omega (arith, printable-sizes (c .before .before .before .before .before .before .before .before .before .before .before .before .before .pre .0 .0) .second .high)
+cast-put-values c = omega (arith, printable-sizes (c .before .before .before .before .before .before .before .before .before .before .before .before .before .pre .0 .0 .fitting) .second .high)
 
 -- the place of the row's first pair, in the job's own words
 placed : (c : tie.After-pair-place) → let s = c .before .before .before .before in c .pair-place .result ≡ pairPlace (groupIn (s .args .job)) (halves (s .args .job)) (s .args .z) (s .args .x) 0
@@ -46,7 +46,7 @@ placed c =
 
 -- the values as they are written are those of the row
 are-values : (c : tie.After-pair-place) → let s = c .before .before .before .before in valuesFrom (s .args .volume .now) (2 * c .pair-place .result) (s .args .job .b .length) ≡ values (s .args .job) (s .args .volume .now) (s .args .z) (s .args .x)
-are-values c = let p = c .before .before .before .before .pre .0 in row-values (p .0) (p .1) (p .2) (placed c)
+are-values c = let p = c .before .before .before .before .pre .0 in row-values (p .0 .fitting) (p .1) (p .2) (placed c)
 
 -- what follows the row's x ends too
 rest : (c : tie.After-put-field) → let s = c .before .before .before .before .before .before .before .before .before .before in
@@ -63,7 +63,7 @@ put-values-requires c κs =
     let w2 = c .before .before .before in
     let q = w2 .before .before .before .before .before .before in
     let p = q .before .before .before .before .pre .0 in
-    (row-inside (p .0) (p .1) (p .2) (placed q), ends-left _ _ (rest w2))
+    ((row-inside (p .0 .fitting) (p .1) (p .2) (placed q), row-residues (p .0 .fitting) (p .1) (p .2) (placed q) ∙ residues-of-row (p .0) (p .1) (p .2)), ends-left _ _ (rest w2))
 
 put-byte-requires : tie.Need-put-byte-requires
 put-byte-requires c κs =

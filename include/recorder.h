@@ -103,7 +103,7 @@ typedef struct {
 typedef struct { uint32_t number; recorder_job job; } recorder_answer;
 typedef struct { uint32_t number, place; recorder_job job; } recorder_file_answer;
 typedef struct { uint32_t number; size_t written; } recorder_write_answer;
-typedef struct { uint32_t number, density; } recorder_density;
+typedef struct { uint32_t number; int32_t density; } recorder_density;
 typedef struct { uint32_t number, a, b; } recorder_factor_value;
 
 /* The count of a volume's numbers; 0 where every opening is refused, because the group is above 4, a length above 2,880 or the volume
@@ -156,8 +156,9 @@ recorder_answer recorder_synthesis(recorder_job job, uint32_t *volume, size_t vo
 recorder_answer recorder_analysis(recorder_job job, uint32_t *volume, size_t volume_length,
                                   uint32_t *scratch, size_t scratch_length);
 
-/* The density at a point anywhere in the cell. On a plane that is not stored it is read at the point's image by the group's operation,
-   in group 4 by the first of its three. Refusals: 25, 22 no map held, 10, 6, 7 of the number read. */
+/* The density at a point anywhere in the cell: the whole number from -43,199 to 43,199 that is congruent to the point's number in the
+   volume. On a plane that is not stored it is read at the point's image by the group's operation, in group 4 by the first of its three.
+   Refusals: 25, 22 no map held, 10, 6, 7 of the number read. */
 recorder_density recorder_point(recorder_job job, recorder_grid_point at, const uint32_t *volume, size_t volume_length);
 
 /* The structure factor a + b i at an index anywhere in the cell. Refusals: 25, 23 no factors held, 10, 6, 7 of the numbers read. */

@@ -1,9 +1,10 @@
 -- What the calls of a job and of a factor file return and leave as numbers, from what their definitions say: the answer, then the buffers.
 use mathlib.Core.List.{List}
 use Prim.Native.Nat.{ℕ}
+use Rattle.signed.specs.Integers.{pos}
 use Rattle.job.specs.declared.Axis.{Axis}
 use Rattle.job.specs.declared.Job.{Job}
-use Rattle.job.specs.Job.{Opening, Opening.opened, Opening.notOpened, OpenOutcome, Said, Outcome, Worked}
+use Rattle.job.specs.Job.{Opening, Opening.opened, Opening.notOpened, OpenOutcome, Said, Said.done, Said.density, Said.factor, Said.refused, Outcome, Worked}
 use Rattle.job.specs.Answers.{replyOf}
 use Rattle.exported.specs.declared.answers.JobCoded.{JobCoded}
 use Rattle.exported.specs.declared.answers.FileCoded.{FileCoded}
@@ -43,10 +44,16 @@ workCoded w = (record { number = replyOf (w .outcome .answer) .number; job = w .
 
 -- A reading of a point says a density or a refusal, one of a factor a factor or a refusal: the other cases do not occur.
 abbrev pub pointCoded : Said → PointCoded
-pointCoded a = record { number = replyOf a .number; density = replyOf a .x }
+pointCoded (density n) = record { number = 0; density = n }
+pointCoded (refused n) = record { number = n; density = pos 0 }
+pointCoded done = record { number = 0; density = pos 0 }
+pointCoded (factor x y) = record { number = 0; density = pos 0 }
 
 abbrev pub factorCoded : Said → FactorCoded
-factorCoded a = record { number = replyOf a .number; a = replyOf a .x; b = replyOf a .y }
+factorCoded (factor x y) = record { number = 0; a = x; b = y }
+factorCoded (refused n) = record { number = n; a = 0; b = 0 }
+factorCoded done = record { number = 0; a = 0; b = 0 }
+factorCoded (density n) = record { number = 0; a = 0; b = 0 }
 
 -- ---- the same of the writer, of a line and of the windows of a run
 

@@ -23,11 +23,11 @@ pub struct JobCoded {
     pub job: Job,
 }
 
-// The answers of the two readings.
+// The answers of the two readings: a density has a sign, a factor is two residues.
 #[repr(C)]
 pub struct PointCoded {
     pub number: u32,
-    pub density: u32,
+    pub density: i32,
 }
 
 #[repr(C)]
@@ -99,21 +99,25 @@ pub fn answered_coded(answered: Answered) -> JobCoded
 pub fn point_coded(answer: PointAnswer) -> PointCoded
     ensures { λ r. ⌜ r ≡ pointCoded (saidPoint answer) ⌝ }
 {
-    let numbers = reply::of_point(answer);
-    PointCoded {
-        number: numbers.number,
-        density: numbers.x,
+    match answer {
+        PointAnswer::Density(density) => PointCoded { number: 0, density },
+        PointAnswer::Refused(refusal) => PointCoded {
+            number: refusals::number_of(refusal),
+            density: 0,
+        },
     }
 }
 
 pub fn factor_coded(answer: FactorAnswer) -> FactorCoded
     ensures { λ r. ⌜ r ≡ factorCoded (saidFactor answer) ⌝ }
 {
-    let numbers = reply::of_factor(answer);
-    FactorCoded {
-        number: numbers.number,
-        a: numbers.x,
-        b: numbers.y,
+    match answer {
+        FactorAnswer::Factor(a, b) => FactorCoded { number: 0, a, b },
+        FactorAnswer::Refused(refusal) => FactorCoded {
+            number: refusals::number_of(refusal),
+            a: 0,
+            b: 0,
+        },
     }
 }
 

@@ -9,6 +9,13 @@ SCRATCH = 11520
 LIMIT = 16777216
 
 
+# ---- a density as it is read and printed
+
+def signed(x):
+    """Of the whole numbers that are congruent to x, the one of the least magnitude: from -43,199 to 43,199."""
+    return min((x % P + k * P for k in (-1, 0, 1)), key=abs)
+
+
 # ---- values a + b i
 
 def mul(x, y):
@@ -400,7 +407,7 @@ class Machine:
         d = v[density_place(g, n, (x, y, z))]
         if d >= P:
             return 7, 0, 0
-        return 0, d, 0
+        return 0, signed(d), 0
 
     def factor(self, h, k, l):
         g, n, _, s = self.parts()
@@ -505,7 +512,7 @@ class Book:
             return 22, 0, 0
         if self.outside((x, y, z)):
             return 10, 0, 0
-        return 0, self.densities()[(x, y, z)], 0
+        return 0, signed(self.densities()[(x, y, z)]), 0
 
     def factor(self, h, k, l):
         if self.state == 2:

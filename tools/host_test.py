@@ -24,7 +24,7 @@ import tempfile
 import time
 
 from brute_force import (LIMIT, P, ROOT, Book, all_points, analysed, e, file_bytes, images, number, open_file, pack_map, planes, point_images,
-                         read_cell, volume_length)
+                         read_cell, signed, volume_length)
 from printer_test import files
 from window_cases import SCORES, windows
 
@@ -120,7 +120,7 @@ def map_text(g, n, M):
     lines = ["map %d %d %d %d" % (g, *n)]
     for z in range(planes(g, n)):
         for x in range(n[0]):
-            lines.append(" ".join(str(c) for c in [z, x] + [M[(x, y, z)] for y in range(n[1])]))
+            lines.append(" ".join(str(c) for c in [z, x] + [signed(M[(x, y, z)]) for y in range(n[1])]))
     return ("\n".join(lines) + "\n").encode()
 
 
@@ -201,7 +201,7 @@ def accepted_file(tool, rng, path, book, count):
         tool.fails(what + ": %s of a map" % command, (command, made, *(["-o", tool.path("none")] if command == "rewrite" else [])), b"has no records")
     for source in (path, made):
         j = tuple(rng.randrange(m) for m in n)
-        tool.expect(what + ": point", tool.run("point", source, *j), (0, b"%d\n" % M[j], b""))
+        tool.expect(what + ": point", tool.run("point", source, *j), (0, b"%d\n" % signed(M[j]), b""))
         tool.expect(what + ": factor", tool.run("factor", source, *j), (0, b"%d %d\n" % F[j], b""))
         tool.refused(what + ": a point outside", ("point", source, j[0], n[1], j[2]), 10)
         tool.refused(what + ": a factor outside", ("factor", source, n[0], j[1], 2 ** 40), 10)

@@ -25,7 +25,7 @@ FFI_NAMES = {"Reflection": "recorder_reflection", "GridPoint": "recorder_grid_po
              "Density": "recorder_density", "FactorValue": "recorder_factor_value"}
 # A struct that lacks the mark is not found, and so differs.
 LAID_OUT = r"#\[repr\(C\)\]\s*(?:#\[derive\([^)]*\)\]\s*)?"
-NUMBERS = {"u8": "uint8_t", "u32": "uint32_t", "u64": "uint64_t", "i64": "int64_t", "usize": "size_t"}
+NUMBERS = {"u8": "uint8_t", "u32": "uint32_t", "i32": "int32_t", "u64": "uint64_t", "i64": "int64_t", "usize": "size_t"}
 
 
 def read(name):

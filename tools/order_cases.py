@@ -17,6 +17,7 @@ def calls():
             yield from factors_read(g, n)
             yield from orbits_read(g, n)
         yield from points_read(g, (4, 4, 6))
+        yield from signs_read(g, (4, 4, 6))
 
 
 def opened(g, n):
@@ -171,6 +172,18 @@ def points_read(g, n):
             yield 7, (place, (P, P + 1, 2 * P, 4294967295)[place % 4])
             yield 11, (4, *points)
             yield 7, (place, place)
+
+
+def signs_read(g, n):
+    """A row of a map whose numbers are the ends of both halves of the residues: 0, 1, 43,199, 43,200 and 86,398, read at its points and their images."""
+    opening, job = opened(g, n)
+    yield from opening
+    yield 9, job[:7] + [2]
+    points = sorted({i for y in range(n[1]) for i in point_images(g, n, (1, y, 1))})
+    for start, numbers in ((0, (0, 1, P // 2, P // 2 + 1)), (2, (P - 1, P // 2 + 2))):
+        for y, x in enumerate(numbers):
+            yield 7, (pair(n, 1, 1, 0) + start + y, x)
+        yield 11, (4, *points)
 
 
 def orbits_read(g, n):

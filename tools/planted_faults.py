@@ -51,6 +51,7 @@ ADMITTED = "    if not all(admitted(m) for m in n):\n"
 PRODUCTS = "    if not all(product(fs) == m // 2 for fs, m in zip(lists, n)):\n"
 AXIS = "    for m, fs in zip(n, lists):\n" + "".join(refusal(condition, number, "") for condition, number in (
     ("not admitted(m)", 3), ("not all(2 <= f <= 5 for f in fs)", 4), ("product(fs) != m // 2", 5)))
+SIGNED = "    return min((x % P + k * P for k in (-1, 0, 1)), key=abs)\n"
 FILE_REST = "    if at + 14 * count != len(file):\n"
 FILE_GROUP = "    g = file[5]\n"
 FILE_HEADER = "    fault = header_fault(g, n, lists)\n"
@@ -72,6 +73,9 @@ FAULTS = [
     ("record: 6 before 12", ORBIT, LENGTH + ORBIT),
     ("point: 6 before 10", OUTSIDE_POINT, LENGTH + OUTSIDE_POINT),
     ("point: 10 before 22", "        if s != 2:\n", OUTSIDE_POINT + "        if s != 2:\n"),
+    ("point: the residue without its sign", SIGNED, "    return x % P\n"),
+    ("point: 43,200 read as 43,200", SIGNED, "    return x - P if x > 43200 else x\n"),
+    ("point: 43,199 read as -43,200", SIGNED, "    return x - P if x >= 43199 else x\n"),
     ("factor: 6 before 10", OUTSIDE_FACTOR, LENGTH + OUTSIDE_FACTOR),
     ("synthesis and analysis: 6 before 23 and 22", STATE, LENGTH + STATE),
     ("synthesis and analysis: 13 before 6", TRANSFORM_LENGTH + SCRATCH, SCRATCH + TRANSFORM_LENGTH),

@@ -11,7 +11,7 @@ import random
 import subprocess
 import sys
 
-from brute_force import P, factor_lists, file_bytes, images, number, open_file, planes
+from brute_force import P, factor_lists, file_bytes, images, number, open_file, planes, signed
 
 SEED = 1975
 FILE_LIMIT = 8192
@@ -40,7 +40,7 @@ def printed(file):
     lines = ["map %d %d %d %d" % (g, *n)]
     for z in range(planes(g, n)):
         for x in range(n[0]):
-            lines.append(" ".join(str(c) for c in [z, x] + [M[(x, y, z)] for y in range(n[1])]))
+            lines.append(" ".join(str(c) for c in [z, x] + [signed(M[(x, y, z)]) for y in range(n[1])]))
     return "\n".join(lines) + "\n"
 
 

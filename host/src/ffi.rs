@@ -65,7 +65,7 @@ pub struct WriteAnswer {
 #[repr(C)]
 pub struct Density {
     pub number: u32,
-    pub density: u32,
+    pub density: i32,
 }
 
 #[repr(C)]

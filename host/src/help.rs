@@ -24,10 +24,10 @@ pub const MAP: &str = "\
 recorder map FILE [-o OUT] [--times]
 
 Synthesises the map of a factor file (of a map file: the map it has). Without -o it is printed as text: group and lengths, then a line for each
-stored plane z and each x, with z, x and the values by y. A refusal prints 'refused NUMBER at PLACE' there and its reason on standard error.
+stored plane z and each x, with z, x and the values by y, whole numbers from -43,199 to 43,199. A refusal prints 'refused NUMBER at PLACE' there and its reason on standard error.
 With -o it is written to OUT (- is standard output) as a map file, big-endian: the letters RMAP, then as in a factor file version 1, group
 (1 byte), N1, N2, N3 (2 bytes each), three factor lists (a count byte, then a byte each), then the densities on the stored planes by
-rising z, x, y, 4 bytes each. OUT takes its name when it is whole, and cannot be FILE. --times says on standard error how long reading,
+rising z, x, y, as residues of 4 bytes each. OUT takes its name when it is whole, and cannot be FILE. --times says on standard error how long reading,
 synthesis and writing took.
 ";
 
@@ -71,7 +71,7 @@ across c and its glide along a, 4 P2_1 2_1 2_1.
 pub const POINT: &str = "\
 recorder point FILE x y z
 
-Prints the density at a point anywhere in the cell, 0 to 86,398.
+Prints the density at a point anywhere in the cell, the whole number from -43,199 to 43,199 that is congruent to its residue.
 ";
 
 pub const FACTOR: &str = "\

@@ -95,7 +95,7 @@ impl Recorder {
         accepted(answer.number)
     }
 
-    pub fn point(&self, at: GridPoint) -> Result<u32, Refusal> {
+    pub fn point(&self, at: GridPoint) -> Result<i32, Refusal> {
         let answer = ffi::point(self.job, at, &self.volume);
         accepted(answer.number)?;
         Ok(answer.density)

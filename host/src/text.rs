@@ -1,10 +1,11 @@
 //! Text: numbers, the records of a file, and the text of a map, as the map printer prints it: group and lengths, then a line for each stored plane z and each x, rising, with z, x and the
-//! values by y. crates/printing proves the printer's text in a buffer; this one goes out as it is made, so that no grid needs a second buffer.
+//! values by y, with their signs. crates/printing proves the printer's text in a buffer; this one goes out as it is made, so that no grid needs a second buffer.
 use crate::factor_file::{self, Record};
 use crate::ffi::Reflection;
 use crate::header::Header;
 use crate::progress::Told;
 use crate::recorder::Recorder;
+use crate::words::MODULUS;
 use std::io::{self, Write};
 
 /// Writes a held map.
@@ -18,7 +19,7 @@ pub fn write(recorder: &Recorder, out: &mut impl Write, told: &Told) -> io::Resu
         push_number(&mut line, z as u32);
         line.push(b' ');
         push_number(&mut line, x as u32);
-        push_numbers(&mut line, values);
+        push_densities(&mut line, values);
         line.push(b'\n');
         out.write_all(&line)?;
         told.done(z, header.planes());
@@ -38,6 +39,19 @@ pub fn write_records(file: &[u8], header: &Header, out: &mut impl Write) -> io::
         out.write_all(&line)?;
     }
     Ok(())
+}
+
+/// Densities with a blank before each: the whole number next to zero that is congruent to the residue.
+fn push_densities(line: &mut Vec<u8>, residues: &[u32]) {
+    for &residue in residues {
+        line.push(b' ');
+        if residue > MODULUS / 2 {
+            line.push(b'-');
+            push_number(line, MODULUS - residue);
+        } else {
+            push_number(line, residue);
+        }
+    }
 }
 
 /// Numbers with a blank before each.

@@ -2,10 +2,11 @@
    target/staticlib/libexported.a. Each is proved to do what its contract in crates/exported/src/lib.rt says, for every input.
    tools/interface_test.py holds the names and types of this header to that file, and the numbers of refusals to crates/refusals.
 
-   Numbers. A residue is 0 to 86,398. A value a + b i is two neighbouring residues, a pair. Every answer has a number: 0 for an
-   accepted call, else the number of the first refusal that applies, in the order given at each call; each has a name below, as have the
-   numbers of groups, kinds, states and directions. A refused call changes no buffer and no job, but for recorder_open_file, which leaves
-   the volume zero where it refuses a record; what only an accepted call gives is then 0.
+   Numbers. A residue is 0 to 86,398. A value a + b i is two neighbouring residues, a pair. A volume holds residues; a density is read as
+   the whole number from -43,199 to 43,199 that is congruent to its residue. Every answer has a number: 0 for an accepted call, else the
+   number of the first refusal that applies, in the order given at each call; each has a name below, as have the numbers of groups, kinds,
+   states and directions. A refused call changes no buffer and no job, but for recorder_open_file, which leaves the volume zero where it
+   refuses a record; what only an accepted call gives is then 0.
 
    Buffers. A buffer is a pointer and the count of its elements. The pointer is aligned and is not NULL, not even with the count 0: the
    library takes the two as a slice, which has no NULL. For no elements, as of the factor list of N = 2, any array of the type will do; it

@@ -1,5 +1,6 @@
 -- The groups: their tables are closed, both actions are actions, and each factor and point is read at a stored place.
 use mathlib.Core.Path.{_≡_, refl, sym as inv, _∙_, ap, subst}
+use mathlib.Core.Logic.{_↔_}
 use mathlib.Core.Bool.{Bool, true, false, _&&_, _||_, cond, not}
 use mathlib.Core.List.{List, [], _∷_}
 use Prim.Native.Nat.{ℕ, suc, _*_, _≤_, _<_}
@@ -9,11 +10,11 @@ use Rattle.algebra.specs.ring.Ring.{Ops}
 use Rattle.algebra.specs.ring.RingLaws.{CRing, Star}
 use Rattle.algebra.specs.orbits.Orbit.{Mem, first, later}
 use Rattle.algebra.specs.orbits.OrbitLaws.{Action, Closed}
-use Rattle.algebra.specs.cells.Cell.{every, J, Inside, Sym, sym, one, friedel, _·_, Group, P1, P2₁, Pm, Pa, P2₁2₁2₁, ops, full, imageOf, pointImage, negI, halfI, flip, shifted, sameJ, span, planes, planeSym, pointOperation, star, impliedValue, impliedDensity, factorActs}
+use Rattle.algebra.specs.cells.Cell.{every, J, Inside, Sym, sym, one, friedel, _·_, Group, P1, P2₁, Pm, Pa, P2₁2₁2₁, ops, full, imageOf, pointImage, negI, halfI, flip, shifted, sameJ, sameOrbit, span, planes, planeSym, pointOperation, star, impliedValue, impliedDensity, factorActs}
 use Rattle.algebra.specs.cells.CellSteps.{mapActs}
 use Rattle.algebra.specs.cells.CellPlaces.{lineSym, Stored, lineOperation, factorOperation, StoredPoint}
 use Rattle.algebra.proofs.ring.Paths.{triple}
-use Rattle.algebra.proofs.ring.Bool.{and-l, and-r, and-i, or-e, split, every-at}
+use Rattle.algebra.proofs.ring.Bool.{and-l, and-r, and-i, or-e, split, every-at, some-at, some-by}
 use Rattle.algebra.proofs.ring.Laws.{mul-zero}
 use Rattle.algebra.proofs.ring.Conj.{conj-zero}
 use Rattle.algebra.proofs.cells.CellAxis.{neg-pos, half-high}
@@ -25,6 +26,14 @@ sameJ-eq i j t = triple (eqb→eq (i .0) (j .0) (and-l (eqb (i .0) (j .0)) _ t))
 
 pub sameJ-refl : (i : J) → T (sameJ i i)
 sameJ-refl i = and-i (eqb (i .0) (i .0)) _ (eqb-refl (i .0)) (and-i (eqb (i .1) (i .1)) _ (eqb-refl (i .1)) (eqb-refl (i .2)))
+
+-- one orbit: the second is an image of the first
+pub orbit-iff : (g : Group) (a i j : J) → T (sameOrbit g a i j) ↔ ((s : Sym) × Mem s (full g) × (imageOf a s i ≡ j))
+unfolding sameOrbit
+orbit-iff g a i j = (
+  λ t. let r = some-at (full g) _ t in (r .0, r .1, sameJ-eq _ _ (r .2)),
+  λ r. some-by (full g) _ (r .0) (r .1) (subst (λ q. T (sameJ (imageOf a (r .0) i) q)) (r .2) (sameJ-refl (imageOf a (r .0) i))),
+)
 
 -- operations, as tests
 abbrev eqB : Bool → Bool → Bool

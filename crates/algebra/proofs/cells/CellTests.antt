@@ -16,6 +16,7 @@ use Rattle.algebra.specs.cells.CellPlaces.{Stored, factorOperation, Stor
 use Rattle.algebra.specs.cells.StoredTests.{consistentFactorsT, consistentMapT}
 use Rattle.algebra.proofs.ring.Bool.{and-l, and-r, and-i, imply-iff, every-at, every-by, below-at, below-by}
 use Rattle.algebra.proofs.orbits.Orbits as O
+use Rattle.algebra.proofs.orbits.OrbitOrder.{reorder-both}
 use Rattle.algebra.proofs.cells.CellGroup.{factor-action, map-action, closed, map-closed, operation-in, operation-stored, point-operation-in, point-operation-stored, sameJ-eq, sameJ-refl}
 
 pub every-place-at : (n m q : ℕ) (P : J → Bool) (j : J) → T (everyPlace n m q P) → j .0 < n → j .1 < m → j .2 < q → T (P j)
@@ -102,6 +103,7 @@ module _ {R : Type 0} {𝓞 : Ops R} {conj : R → R} {i : R} (𝓡 : CRing 𝓞
   unfolding mapActs
   map-read m M = O.consistent-one (map-action 𝓡 𝓢 a) (ops g) (map-closed 𝓡 𝓢 a g) (StoredPoint g a) (pointOperation g a) (λ j n. point-operation-in g a j) (λ j n. point-operation-stored g a j n) m M
 
-  pub records-order : {rs qs : List (J × R)} → Perm rs qs → (F : J → R) → Accepted 𝓐 (Inside a) (full g) rs F → Accepted 𝓐 (Inside a) (full g) qs F × (recordAll 𝓐 (full g) rs F ≡ recordAll 𝓐 (full g) qs F)
+  -- two orders in which every record is accepted
+  pub records-order : {rs qs : List (J × R)} → Perm rs qs → (F : J → R) → Obeying 𝓐 (Inside a) (full g) F → Accepted 𝓐 (Inside a) (full g) rs F → Accepted 𝓐 (Inside a) (full g) qs F → recordAll 𝓐 (full g) rs F ≡ recordAll 𝓐 (full g) qs F
   unfolding factorActs
-  records-order = O.reorder (factor-action 𝓡 𝓢 a) (full g) (closed 𝓡 𝓢 a g)
+  records-order = reorder-both (factor-action 𝓡 𝓢 a) (full g) (closed 𝓡 𝓢 a g) eq eq-iff

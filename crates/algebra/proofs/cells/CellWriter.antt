@@ -10,14 +10,14 @@ use lib.Dec.{T, ltb, eqb, leb→le, ltb→lt, le→leb, lt→ltb, eqb→eq, eqb-
 use Rattle.algebra.specs.ring.Ring.{Ops}
 use Rattle.algebra.specs.ring.RingLaws.{CRing, Star}
 use Rattle.algebra.specs.orbits.Orbit.{Mem, first, later, recordAll}
-use Rattle.algebra.specs.orbits.OrbitLaws.{Obeying, Accepted}
+use Rattle.algebra.specs.orbits.OrbitLaws.{Obeying, Accepted, Sound}
 use Rattle.algebra.specs.cells.Cell.{J, Inside, Group, full, factorActs, lineFrom, planeFrom, cellFrom, placesOf, lexLe, recordsOf}
 use Rattle.algebra.proofs.ring.Paths.{triple}
 use Rattle.algebra.proofs.ring.Members.{mem-left, mem-right}
 use Rattle.algebra.proofs.ring.Bool.{and-l, and-r, and-i, or-l, or-r, or-e}
 use Rattle.algebra.proofs.cells.CellGroup.{factor-action, closed}
 use Rattle.algebra.proofs.cells.CellOrder.{cell-mem, cell-rises, rises-distinct}
-use Rattle.algebra.proofs.orbits.OrbitWriter.{Order, writer-accepted, writer-reader}
+use Rattle.algebra.proofs.orbits.OrbitWriter.{Order, sound, writer-accepted, writer-reader}
 
 -- the order h, k, l
 data Lex (i j : J) : Type 0 where
@@ -121,10 +121,16 @@ module _ {R : Type 0} {𝓞 : Ops R} {conj : R → R} {i : R} (𝓡 : CRing 𝓞
   places-all : (j : J) → Inside a j → Mem j (placesOf a)
   places-all j n = cell-has (2 * a .2) (2 * a .1) 0 (2 * a .0) (j .0) (j .1) (j .2) (omega arith) (omega (arith, n .0)) (n .1) (n .2)
 
+  -- they are of different orbits, so they are accepted ..
+  pub written-sound : Sound (factorActs 𝓞 conj a) (Inside a) (full g) recs
+  unfolding factorActs
+  written-sound = sound (factor-action 𝓡 𝓢 a) (full g) (closed 𝓡 𝓢 a g) lexLe lex-order eq eq-iff F o (placesOf a) (rises-distinct (placesOf a) (cell-rises (2 * a .2) (2 * a .1) 0 (2 * a .0))) places-in
+
   pub written-accepted : Accepted (factorActs 𝓞 conj a) (Inside a) (full g) recs (λ j. 𝓞 .zer)
   unfolding factorActs
   written-accepted = writer-accepted (factor-action 𝓡 𝓢 a) (full g) (closed 𝓡 𝓢 a g) lexLe lex-order eq eq-iff F o (placesOf a) (rises-distinct (placesOf a) (cell-rises (2 * a .2) (2 * a .1) 0 (2 * a .0))) places-in places-all
 
+  -- .. and restore the cell
   pub written-read : (j : J) → Inside a j → recordAll (factorActs 𝓞 conj a) (full g) recs (λ j. 𝓞 .zer) j ≡ F j
   unfolding factorActs
   written-read = writer-reader (factor-action 𝓡 𝓢 a) (full g) (closed 𝓡 𝓢 a g) lexLe lex-order eq eq-iff F o (placesOf a) (rises-distinct (placesOf a) (cell-rises (2 * a .2) (2 * a .1) 0 (2 * a .0))) places-in places-all

@@ -1,9 +1,9 @@
 -- Lists of records on different orbits: what they leave, in any order; what writes a cell anew.
 use mathlib.Core.Path.{_≡_, refl, sym as inv, _∙_, ap}
-use mathlib.Core.Logic.{_≢_, _⊎_, inl, inr}
+use mathlib.Core.Logic.{_⊎_, inl, inr}
 use mathlib.Core.List.{List, [], _∷_}
-use Rattle.algebra.specs.orbits.Orbit.{Mem, first, later, Perm, p-nil, p-skip, p-swap, p-trans, Acts, recorded, recordAll}
-use Rattle.algebra.specs.orbits.OrbitLaws.{Action, Closed, AgreesWithItself, Obeying, Accepted, Off, OffAll, Sound}
+use Rattle.algebra.specs.orbits.Orbit.{Mem, first, later, Perm, p-nil, p-skip, p-swap, p-trans, Acts, recordAll}
+use Rattle.algebra.specs.orbits.OrbitLaws.{Action, Closed, Obeying, Accepted, Off, OffAll, Sound}
 use Rattle.algebra.proofs.orbits.Orbits as O
 
 module _ {S J R : Type 0} {𝓐 : Acts S J R} {In : J → Type 0} (𝓛 : Action 𝓐 In) (G : List S) (𝓖 : Closed 𝓐 G) where
@@ -41,21 +41,18 @@ module _ {S J R : Type 0} {𝓐 : Acts S J R} {In : J → Type 0} (𝓛 : Action
   off-perm i p-swap o = (o .1 .0, (o .0, o .1 .1))
   off-perm i (p-trans p q) o = off-perm i q (off-perm i p o)
 
-  -- records of different orbits, none zero, on a cell that is zero at them, are accepted
-  pub sound-accepted : (rs : List (J × R)) (F : J → R) → Sound 𝓐 In G rs → ((r : J × R) → Mem r rs → (r .1 ≢ zer) × (F (r .0) ≡ zer)) → Accepted 𝓐 In G rs F
+  pub sound-perm : {rs qs : List (J × R)} → Perm rs qs → Sound 𝓐 In G rs → Sound 𝓐 In G qs
+  unfolding OffAll Sound
+  sound-perm p-nil o = o
+  sound-perm (p-skip {x} p) o = (o .0, off-perm (x .0) p (o .1), sound-perm p (o .2))
+  sound-perm (p-swap {x} {y}) o = (o .2 .0, (O.off-sym 𝓛 G 𝓖 (x .0) (y .0) (o .0 .0) (o .2 .0 .0) (o .1 .0), o .2 .1), (o .0, o .1 .1, o .2 .2))
+  sound-perm (p-trans p q) o = sound-perm q (sound-perm p o)
+
+  -- records of different orbits on a cell that is zero at them are accepted
+  pub sound-accepted : (rs : List (J × R)) (F : J → R) → Sound 𝓐 In G rs → ((r : J × R) → Mem r rs → F (r .0) ≡ zer) → Accepted 𝓐 In G rs F
   unfolding Sound Accepted
   sound-accepted [] F o z = tt
-  sound-accepted (r ∷ rs) F o z = ((o .0 .0, z r first .0, o .0 .1, z r first .1), sound-accepted rs _ (o .2) (λ q m. (z q (later m) .0, O.record-off 𝓛 G 𝓖 (r .0) (q .0) (r .1) F (off-all-at (r .0) q rs (o .1) m) ∙ z q (later m) .1)))
-
-  -- and accepted records are such
-  accepted-zero : (rs : List (J × R)) (F : J → R) → Accepted 𝓐 In G rs F → (i : J) (u : R) → In i → AgreesWithItself 𝓐 G i u → (K : J → R) → F ≡ recorded 𝓐 G i u K → u ≢ zer → OffAll 𝓐 G i rs × Sound 𝓐 In G rs
-  unfolding Accepted OffAll Sound
-  accepted-zero [] F a i u n c K e nz = (tt, tt)
-  accepted-zero (r ∷ rs) F a i u n c K e nz =
-      let o = O.apart 𝓛 G 𝓖 i (r .0) u K n c nz (ap (λ f. f (r .0)) (inv e) ∙ a .0 .3) in
-      let q = accepted-zero rs _ (a .1) (r .0) (r .1) (a .0 .0) (a .0 .2) F refl (a .0 .1) in
-      let p = accepted-zero rs _ (a .1) i u n c (recorded 𝓐 G (r .0) (r .1) K) (ap (recorded 𝓐 G (r .0) (r .1)) e ∙ O.record-commute 𝓛 G 𝓖 i (r .0) u (r .1) K n (a .0 .0) c (a .0 .2) o) nz in
-      ((o, p .0), ((a .0 .0, a .0 .2), q .0, q .1))
+  sound-accepted (r ∷ rs) F o z = ((o .0 .0, o .0 .1, z r first), sound-accepted rs _ (o .2) (λ q m. O.record-off 𝓛 G 𝓖 (r .0) (q .0) (r .1) F (off-all-at (r .0) q rs (o .1) m) ∙ z q (later m)))
 
   -- reading a written file: one record for each orbit that is not zero, with F's value, restores F
   pub rebuild : (F : J → R) → Obeying 𝓐 In G F → (rs : List (J × R)) → Sound 𝓐 In G rs → ((r : J × R) → Mem r rs → r .1 ≡ F (r .0)) →

@@ -121,7 +121,7 @@ module _ {S J R : Type 0} {𝓐 : Acts S J R} {In : J → Type 0} (𝓛 : Action
     module _ (l : List J) (d : Distinct l) (n : (j : J) → Mem j l → In j) (c : (j : J) → In j → Mem j l) where
       -- the records are accepted on the zero cell ..
       pub writer-accepted : Accepted 𝓐 In G (Rec l) (λ j. zer)
-      writer-accepted = OL.sound-accepted 𝓛 G 𝓖 (Rec l) (λ j. zer) (sound l d n) (λ r m. (λ e. good l r m .3 (inv (good l r m .2) ∙ e), refl))
+      writer-accepted = OL.sound-accepted 𝓛 G 𝓖 (Rec l) (λ j. zer) (sound l d n) (λ r m. refl)
 
       -- .. and restore the cell
       pub writer-reader : (j : J) → In j → recordAll 𝓐 G (Rec l) (λ j. zer) j ≡ F j

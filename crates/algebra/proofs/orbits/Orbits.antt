@@ -4,8 +4,8 @@ use mathlib.Core.Logic.{_≢_, _↔_}
 use mathlib.Core.Bool.{Bool, true, false, cond}
 use mathlib.Core.List.{List, [], _∷_}
 use lib.Dec.{T}
-use Rattle.algebra.specs.orbits.Orbit.{Mem, first, later, Perm, p-nil, p-skip, p-swap, p-trans, Acts, written, recorded, recordAll}
-use Rattle.algebra.specs.orbits.OrbitLaws.{Action, Closed, AgreesWithItself, Obeying, Accepted, Fit, cellOf, Consistent, Off}
+use Rattle.algebra.specs.orbits.Orbit.{Mem, first, later, Acts, written, recorded}
+use Rattle.algebra.specs.orbits.OrbitLaws.{Action, Closed, AgreesWithItself, Obeying, cellOf, Consistent, Off}
 use Rattle.algebra.proofs.ring.Members.{none, mem-cons}
 
 module _ {S J R : Type 0} {𝓐 : Acts S J R} {In : J → Type 0} (𝓛 : Action 𝓐 In) (G : List S) (𝓖 : Closed 𝓐 G) where
@@ -101,20 +101,14 @@ module _ {S J R : Type 0} {𝓐 : Acts S J R} {In : J → Type 0} (𝓛 : Action
   pub apart : (i j : J) (u : R) (F : J → R) → In i → AgreesWithItself 𝓐 G i u → u ≢ zer → recorded 𝓐 G i u F j ≡ zer → Off 𝓐 G i j
   apart i j u F n c nz e s m h = nz (implied-live s i u (inv (record-at s i u F n m c) ∙ ap (recorded 𝓐 G i u F) h ∙ e))
 
-  -- accepted records in another order are accepted and leave the same cell
-  pub reorder : {rs qs : List (J × R)} → Perm rs qs → (F : J → R) → Accepted 𝓐 In G rs F → Accepted 𝓐 In G qs F × (recordAll 𝓐 G rs F ≡ recordAll 𝓐 G qs F)
-  unfolding Accepted recordAll
-  reorder p-nil F a = (a, refl)
-  reorder (p-skip {x} p) F a = let r = reorder p (recorded 𝓐 G (x .0) (x .1) F) (a .1) in ((a .0, r .0), r .1)
-  reorder (p-swap {x} {y} {l}) F a = swapped (x .0) (y .0) (x .1) (y .1) (a .0) (a .1 .0) (a .1 .1)
+  -- a zero on a place that is zero changes nothing
+  pub recorded-zero : (j : J) (v : R) (F : J → R) → In j → Obeying 𝓐 In G F → v ≡ zer → F j ≡ zer → recorded 𝓐 G j v F ≡ F
+  unfolding recorded
+  recorded-zero j v F n o z e = λ d j′. at j′ (locate G j j′) d
     where
-      swapped : (i j : J) (u v : R) → Fit 𝓐 In G i u F → Fit 𝓐 In G j v (recorded 𝓐 G i u F) → Accepted 𝓐 In G l (recorded 𝓐 G j v (recorded 𝓐 G i u F)) →
-          (Fit 𝓐 In G j v F × (Fit 𝓐 In G i u (recorded 𝓐 G j v F) × Accepted 𝓐 In G l (recorded 𝓐 G i u (recorded 𝓐 G j v F)))) × (recordAll 𝓐 G l (recorded 𝓐 G j v (recorded 𝓐 G i u F)) ≡ recordAll 𝓐 G l (recorded 𝓐 G i u (recorded 𝓐 G j v F)))
-      swapped i j u v (ni, nu, ci, zi) (nj, nv, cj, zj) rest =
-          let o = apart i j u F ni ci nu zj in
-          let e = record-commute i j u v F ni nj ci cj o in
-          (((nj, nv, cj, inv (record-off i j u F o) ∙ zj), ((ni, nu, ci, record-off j i v F (off-sym i j ni nj o) ∙ zi), subst (Accepted 𝓐 In G l) e rest)), ap (recordAll 𝓐 G l) e)
-  reorder (p-trans p q) F a = let r = reorder p F a in let t = reorder q F (r .0) in (t .0, r .1 ∙ t .1)
+      at : (j′ : J) → Where G j j′ → written 𝓐 G j v j′ (F j′) ≡ F j′
+      at j′ (hit s m h k) = k v (F j′) ∙ ap (implied s j) (z ∙ inv e) ∙ inv (o s m j n) ∙ ap F h
+      at j′ (miss h k) = k v (F j′)
 
   -- what is stored
   module _ (St : J → Type 0) (rep : J → S) (operation-in : (j : J) → In j → Mem (rep j) G) (operation-stored : (j : J) → In j → St (image (rep j) j)) where

@@ -8,7 +8,7 @@ use native.Mathlib.Omega.{arith}
 use native.Mathlib.Decide.{ℕ-discrete}
 use lib.Dec.{T}
 use Rattle.algebra.specs.orbits.Orbit.{Mem, first, later}
-use Rattle.algebra.specs.cells.Cell.{imply, below, every}
+use Rattle.algebra.specs.cells.Cell.{imply, below, every, some}
 
 pub and-l : (a b : Bool) → T (a && b) → T a
 and-l true b t = tt
@@ -65,6 +65,17 @@ pub every-by : {S : Type 0} (l : List S) (P : S → Bool) → ((s : S) → Mem s
 unfolding every
 every-by [] P f = tt
 every-by (u ∷ l) P f = and-i (P u) _ (f u first) (every-by l P (λ s m. f s (later m)))
+
+-- and at some member
+pub some-at : {S : Type 0} (l : List S) (P : S → Bool) → T (some l P) → (s : S) × Mem s l × T (P s)
+unfolding some
+some-at [] P t = absurd t
+some-at (u ∷ l) P t = or-e (P u) (some l P) _ t (λ h. (u, first, h)) (λ h. let r = some-at l P h in (r .0, later (r .1), r .2))
+
+pub some-by : {S : Type 0} (l : List S) (P : S → Bool) (s : S) → Mem s l → T (P s) → T (some l P)
+unfolding some
+some-by (u ∷ l) P s first t = or-l (P s) _ t
+some-by (u ∷ l) P s (later m) t = or-r (P u) _ (some-by l P s m t)
 
 pub below-at : (n : ℕ) (P : ℕ → Bool) (k : ℕ) → T (below n P) → k < n → T (P k)
 unfolding below

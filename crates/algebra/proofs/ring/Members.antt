@@ -1,6 +1,6 @@
--- The members of a list: of none, of a sum of two lists, of the images of a list.
+-- The members of a list: of none, of a sum of two lists, of the images of a list; of a list in another order.
 use mathlib.Core.List.{List, [], _∷_, _++_, map}
-use Rattle.algebra.specs.orbits.Orbit.{Mem, first, later}
+use Rattle.algebra.specs.orbits.Orbit.{Mem, first, later, Perm, p-nil, p-skip, p-swap, p-trans}
 
 module _ {S : Type 0} where
   pub none : {A : Type 0} {s : S} → Mem s [] → A
@@ -28,3 +28,19 @@ pub mem-map : {S U : Type 0} (f : S → U) (l : List S) (P : U → Type 0) → (
 mem-map f [] P g u m = none m
 mem-map f (x ∷ l) P g u first = g x first
 mem-map f (x ∷ l) P g u (later m) = mem-map f l P (λ s h. g s (later h)) u m
+
+-- the same list in another order
+pub perm-map : {A B : Type 0} (f : A → B) {l k : List A} → Perm l k → Perm (map f l) (map f k)
+perm-map f p-nil = p-nil
+perm-map f (p-skip r) = p-skip (perm-map f r)
+perm-map f p-swap = p-swap
+perm-map f (p-trans r q) = p-trans (perm-map f r) (perm-map f q)
+
+pub perm-mem : {A : Type 0} {l k : List A} → Perm l k → (x : A) → Mem x k → Mem x l
+perm-mem p-nil x i = i
+perm-mem (p-skip r) x first = first
+perm-mem (p-skip r) x (later i) = later (perm-mem r x i)
+perm-mem p-swap x first = later first
+perm-mem p-swap x (later first) = first
+perm-mem p-swap x (later (later i)) = later (later i)
+perm-mem (p-trans r q) x i = perm-mem r x (perm-mem q x i)

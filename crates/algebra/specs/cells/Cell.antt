@@ -169,6 +169,15 @@ unfoldable pub every : {S : Type 0} → List S → (S → Bool) → Bool
 every [] P = true
 every (s ∷ l) P = P s && every l P
 
+-- some member of a list
+unfoldable pub some : {S : Type 0} → List S → (S → Bool) → Bool
+some [] P = false
+some (s ∷ l) P = P s || some l P
+
+-- two indices are of one orbit: the second is an image of the first
+unfoldable pub sameOrbit : Group → (a i j : J) → Bool
+sameOrbit g a i j = some (full g) (λ s. sameJ (imageOf a s i) j)
+
 -- every place h < n, k < m, l < q
 unfoldable pub everyPlace : ℕ → ℕ → ℕ → (J → Bool) → Bool
 everyPlace n m q P = below n (λ h. below m (λ k. below q (λ l. P (h, k, l))))

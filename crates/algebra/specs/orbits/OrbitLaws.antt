@@ -1,6 +1,5 @@
 -- What is said of operations and records: the laws of an action, cells that obey, records that are accepted, what is read off the stored places.
 use mathlib.Core.Path.{_≡_}
-use mathlib.Core.Logic.{_≢_}
 use mathlib.Core.Bool.{Bool, cond}
 use mathlib.Core.List.{List, [], _∷_}
 use lib.Dec.{T}
@@ -35,8 +34,9 @@ module _ {S J R : Type 0} (𝓐 : Acts S J R) where
   abbrev pub Obeying : (J → Type 0) → List S → (J → R) → Type 0
   Obeying In G F = (s : S) → Mem s G → (j : J) → In j → F (image s j) ≡ implied s j (F j)
 
+  -- a record is accepted: it lies inside, agrees with itself, and its place is zero; its value may be zero too
   abbrev pub Fit : (J → Type 0) → List S → J → R → (J → R) → Type 0
-  Fit In G j v F = In j × (v ≢ zer) × AgreesWithItself G j v × (F j ≡ zer)
+  Fit In G j v F = In j × AgreesWithItself G j v × (F j ≡ zer)
 
   -- every record of a list is accepted in its turn
   unfoldable pub Accepted : (J → Type 0) → List S → List (J × R) → (J → R) → Type 0

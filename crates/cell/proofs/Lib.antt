@@ -10,6 +10,8 @@ pub mod Writing
 pub mod Records
 pub mod NumbersRead
 pub mod OrbitNumbers
+pub mod OrbitPlaces
+pub mod ZeroRecords
 pub mod Points
 pub mod OperationLaws
 pub mod PlaceLaws

@@ -45,7 +45,7 @@ module _ (g : Group) (a : J) (v : List ℕ) where
     λ f. mem-append own _ (λ q. getD v q 0 ≡ 0) (f u first) (r .1 (λ s i. f s (later i))),
   )
 
-  orbit-free-iff : (l : List Sym) (j : J) → Free v (orbitNumbers g a l j) ↔ ((s : Sym) → Mem s l → Free v (numbersRead g a (imageOf a s j)))
+  pub orbit-free-iff : (l : List Sym) (j : J) → Free v (orbitNumbers g a l j) ↔ ((s : Sym) → Mem s l → Free v (numbersRead g a (imageOf a s j)))
   orbit-free-iff l j = (
     λ t s i. free-iff v _ .1 (orbit-same-iff l j .0 (free-iff v _ .0 t) s i),
     λ f. free-iff v _ .1 (orbit-same-iff l j .1 (λ s i. free-iff v _ .0 (f s i))),

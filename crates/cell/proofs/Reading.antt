@@ -65,7 +65,7 @@ module _ (m : ℕ) (j : J) (x : Value m) where
   unfolding impliedValue sgn star
   implied-Pm = field-ring m .one-mul _ ∙ field-ring m .one-mul _ ∙ field-ring m .one-mul _
 
-  implied-Pa : impliedValue (field m) (conj m) (lineSym Pa) j x ≡ field m .mul (signOf (res-ring m) (even (j .0))) x
+  pub implied-Pa : impliedValue (field m) (conj m) (lineSym Pa) j x ≡ field m .mul (signOf (res-ring m) (even (j .0))) x
   unfolding impliedValue sgn star
   implied-Pa = ap₂ (field m .mul) (pow-even (res-ring m) (j .0)) (field-ring m .one-mul _ ∙ field-ring m .one-mul _)
 

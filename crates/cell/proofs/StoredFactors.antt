@@ -120,7 +120,7 @@ module _ (g : Group) (a : J) (m : ℕ) (v : List ℕ) (j : J) where
   pub pair-reads : (lineNumbersAt g a j ≡ pairNumbers g a (j .2) (j .0) (j .1)) × (storedFactor g a m v j ≡ pairsIn g a m v (j .2) (j .0) (j .1)) → {x : Pair} → x ≡ at v (pairPlace g a (j .2) (j .0) (j .1)) → IsStoredFactor g a m v j x
   pair-reads e x = reads-by (e .0) (e .1) (λ t. x ∙ sym (pair-value m (low-pair m v (pairPlace g a (j .2) (j .0) (j .1)) t)))
 
-own-pair : (c l : ℕ) → l ≤ c → min l (2 * c - l) ≡ l
+pub own-pair : (c l : ℕ) → l ≤ c → min l (2 * c - l) ≡ l
 own-pair c l s = omega arith
 
 -- an alternating line: one number at either end, else a pair

@@ -1,6 +1,6 @@
 -- Records, and the tests behind refusals 12, 14 and 24.
 -- A record at j implies a value at each image of j under the group with Friedel's rule (`full g`); an image is written where it is stored.
-use Rattle.algebra.specs.Prelude.{Bool, _&&_, cond, eqb, ltb, ℕ, _+_, _*_, List, [], _∷_, _++_, getD, set}
+use Rattle.algebra.specs.Prelude.{Bool, _&&_, _||_, cond, eqb, ltb, ℕ, _+_, _*_, List, [], _∷_, _++_, getD, set}
 use Rattle.algebra.specs.ring.Ring.{Res}
 use Rattle.algebra.specs.lines.Kinds.{Kind, Kind.plain, Kind.hermitian, Kind.antihermitian, Kind.alternating, Kind.symmetric, Kind.antisymmetric}
 use Rattle.algebra.specs.cells.Cell.{J, Sym, Group, Cell, full, ops, imageOf, pointImage, impliedValue, factorActs, every, everyPlace, imply, storedT, storedPointT, agreesT}
@@ -17,7 +17,8 @@ abbrev pub sameValue : {p : ℕ} → Res p × Res p → Res p × Res p → Bool
 sameValue x y = eqb (x .0 .val) (y .0 .val) && eqb (x .1 .val) (y .1 .val)
 
 module _ (g : Group) (a : J) where
-  -- The stored index (h, k, l) gets the pair x: a whole pair, but in an alternating line one number at l = 0 and one at l = A, the part that can differ from 0.
+  -- The stored index (h, k, l) gets the pair x: a whole pair, but in an alternating line one number at l = 0 and one at l = A, the part that can differ from 0;
+  -- in an antisymmetric line nothing there: the pairs 0 and A are no part of it.
   unfoldable pub writeAlternating : List ℕ → (h k l : ℕ) → Pair → List ℕ
   writeAlternating v h k l x =
       cond (eqb l 0) (set v (2 * pairPlace g a 0 h k) (x .re))
@@ -30,7 +31,7 @@ module _ (g : Group) (a : J) where
   writeLine antihermitian v j x = put v (pairPlace g a (j .2) (j .0) (j .1)) x
   writeLine alternating v j x = writeAlternating v (j .0) (j .1) (j .2) x
   writeLine symmetric v j x = put v (pairPlace g a (j .2) (j .0) (j .1)) x
-  writeLine antisymmetric v j x = put v (pairPlace g a (j .2) (j .0) (j .1)) x
+  writeLine antisymmetric v j x = cond (eqb (j .2) 0 || eqb (j .2) (a .2)) v (put v (pairPlace g a (j .2) (j .0) (j .1)) x)
 
   unfoldable pub write : List ℕ → J → Pair → List ℕ
   write v j x = writeLine (lineKind g (j .0)) v j x

@@ -67,9 +67,9 @@ module _ {S J R : Type 0} {𝓐 : Acts S J R} {In : J → Type 0} (𝓛 : Action
     drop-zeros (r ∷ rs) F o a =
         split (eq (r .1) zer) (λ b. Accepted 𝓐 In G (cond b (live rs) (r ∷ live rs)) F × (recordAll 𝓐 G rs (recorded 𝓐 G (r .0) (r .1) F) ≡ recordAll 𝓐 G (cond b (live rs) (r ∷ live rs)) F))
         (λ t.
-            let e = O.recorded-zero 𝓛 G 𝓖 (r .0) (r .1) F (a .0 .0) o (eq-iff _ _ .0 t) (a .0 .2) in
-            let q = drop-zeros rs F o (subst (Accepted 𝓐 In G rs) e (a .1)) in
-            (q .0, ap (recordAll 𝓐 G rs) e ∙ q .1))
+        let e = O.recorded-zero 𝓛 G 𝓖 (r .0) (r .1) F (a .0 .0) o (eq-iff _ _ .0 t) (a .0 .2) in
+        let q = drop-zeros rs F o (subst (Accepted 𝓐 In G rs) e (a .1)) in
+        (q .0, ap (recordAll 𝓐 G rs) e ∙ q .1))
         (λ t. let q = drop-zeros rs _ (O.record-obeys 𝓛 G 𝓖 (r .0) (r .1) F (a .0 .0) (a .0 .1) o) (a .1) in ((a .0, q .0), q .1))
 
     -- two orders in which every record is accepted leave the same cell

@@ -1,5 +1,5 @@
 // A factor written at its stored place: a whole pair, but at the ends of an alternating line the one number of pair 0 that
-// can differ from 0.
+// can differ from 0, and at those of an antisymmetric line nothing.
 use cell::operations::Index;
 use cell::operations::UnitCell;
 use cell::places;
@@ -21,9 +21,10 @@ pub fn write_factor(cell: UnitCell, j: Index, x: Pair, volume: &mut [u32])
     requires { ⌜ length (now volume) ≡ volumeLength (cellGroup cell) (cellHalves cell) ⌝ }
     ensures { λ _. ⌜ now (volume .exit) ≡ write (cellGroup cell) (cellHalves cell) (now (volume .entry)) (tripleOf j) x ⌝ }
 {
-    if places::line_kind(cell.group, j.h as usize) == 3 {
+    let kind = places::line_kind(cell.group, j.h as usize);
+    if kind == 3 {
         write_alternating(cell, j, x, volume);
-    } else {
+    } else if !places::is_absent(kind, cell.n3, j.l) {
         slices::store(volume, places::pair_place(cell, j.l, j.h, j.k), x);
     }
 }

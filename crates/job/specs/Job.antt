@@ -78,22 +78,26 @@ analysisTestsOf valid state group n v scratch =
 
 -- ---- a record
 
--- What a value implies at the images of its index: 12, 6, 24.
-abbrev pub orbitTests : (group : ℕ) (lengths at : J) (x y : ℕ) → List ℕ → List Test
-orbitTests group n at x y v =
+-- What its own numbers settle, whatever else was recorded: 10, 7, 12.
+abbrev pub ownTests : (group : ℕ) (lengths at : J) (x y : ℕ) → List Test
+ownTests group n at x y =
+    not (within n at) ⇒ 10 ∷ not (ltb x p && ltb y p) ⇒ 7 ∷
     not (agreesWithItself (groupOf group) (halfLengths n) 1 at (value 1 x y)) ⇒ 12 ∷
+    []
+
+-- What the volume holds of its orbit: 6, 24.
+abbrev pub orbitTests : (group : ℕ) (lengths at : J) → List ℕ → List Test
+orbitTests group n at v =
     not (asLong group n v) ⇒ 6 ∷
     not (orbitFree (groupOf group) (halfLengths n) v at) ⇒ 24 ∷
     []
 
--- Record: 25, 21, 10, 7, 11, 12, 6, 24.
+-- Record: 25, 21, 10, 7, 12, 6, 24.
 abbrev pub recordTestsOf : (valid : Bool) (state group : ℕ) (lengths at : J) (x y : ℕ) → List ℕ → List Test
 recordTestsOf valid state group n at x y v =
     not valid ⇒ 25 ∷
     not (eqb state collecting) ⇒ 21 ∷
-    not (within n at) ⇒ 10 ∷ not (ltb x p && ltb y p) ⇒ 7 ∷
-    (eqb x 0 && eqb y 0) ⇒ 11 ∷
-    orbitTests group n at x y v
+    (ownTests group n at x y ++ orbitTests group n at v)
 
 -- ---- the readings
 

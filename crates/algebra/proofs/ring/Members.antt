@@ -44,3 +44,9 @@ perm-mem p-swap x first = later first
 perm-mem p-swap x (later first) = first
 perm-mem p-swap x (later (later i)) = later (later i)
 perm-mem (p-trans r q) x i = perm-mem r x (perm-mem q x i)
+
+pub perm-sym : {A : Type 0} {l k : List A} → Perm l k → Perm k l
+perm-sym p-nil = p-nil
+perm-sym (p-skip r) = p-skip (perm-sym r)
+perm-sym p-swap = p-swap
+perm-sym (p-trans r q) = p-trans (perm-sym q) (perm-sym r)

@@ -19,7 +19,7 @@ use Rattle.job.specs.Job.{p, volumeTests, mapTests, openTests}
 
 -- ---- no refusal has the number 0
 
-not-zero : (r : Refusal) → numberOf r ≡ 0 → ⊥
+pub not-zero : (r : Refusal) → numberOf r ≡ 0 → ⊥
 not-zero r e = let z : _≡_ {A = ℕ} 0 1 = fails r 0 1 (λ n. 0) e in omega arith
 
 -- ---- a number that some tests give is that of more tests
@@ -28,7 +28,7 @@ append-one : (b : Bool) (n k rest whole : ℕ) → (n ≡ rest → n ≡ whole) 
 append-one true n k rest whole f e = e
 append-one false n k rest whole f e = f e
 
-append-stop : (n : ℕ) (ts us : List Test) → (n ≡ 0 → ⊥) → n ≡ first ts → n ≡ first (ts ++ us)
+pub append-stop : (n : ℕ) (ts us : List Test) → (n ≡ 0 → ⊥) → n ≡ first ts → n ≡ first (ts ++ us)
 unfolding first
 append-stop n [] us z e = absurd (z e)
 append-stop n (t ∷ ts) us z e = append-one (t .fails) n (t .number) (first ts) (first (ts ++ us)) (append-stop n ts us z) e

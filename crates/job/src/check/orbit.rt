@@ -1,5 +1,4 @@
-// The tests of a record at the images of its index: whether it agrees with itself, and whether its orbit is free; and the refusals
-// that they lead to, in the paper's order.
+// The tests of a record at the images of its index: whether it agrees with itself, and whether its orbit is free in the volume.
 //
 // Each test is one loop over the operations of the orbit, with a function for what one operation asks. They write nothing.
 use crate::check::tests;
@@ -20,17 +19,14 @@ ghost use Rattle.refusals.specs.Checks.{checkedNumber};
 ghost use Rattle.cell.specs.Volume.{volumeLength};
 ghost use Rattle.cell.specs.Consistency.{agreesWithItself, orbitFree};
 ghost use Rattle.cell.specs.Operations.{cellGroup, cellLengths, cellHalves, tripleOf, symOf, Sizes, Within};
-ghost use Rattle.job.specs.Job.{p, orbitTests};
+ghost use Rattle.job.specs.Job.{orbitTests};
 ghost use Rattle.job.specs.TestSteps.{agreesUnder};
 
-// 12, 6, 24: what the value implies at the images of its index, which is inside the cell; the value's numbers are residues.
-pub fn check_orbit(cell: UnitCell, at: Index, x: Pair, volume: &[u32]) -> Checked
-    requires { ⌜ Sizes cell × Within cell at × Small p x ⌝ }
-    ensures { λ r. ⌜ checkedNumber r ≡ first (orbitTests (cell .group) (cellLengths cell) (tripleOf at) (x .re) (x .im) (now (volume .entry))) ⌝ }
+// 6, 24: what the volume holds of the orbit of an index inside the cell.
+pub fn check_orbit(cell: UnitCell, at: Index, volume: &[u32]) -> Checked
+    requires { ⌜ Sizes cell × Within cell at ⌝ }
+    ensures { λ r. ⌜ checkedNumber r ≡ first (orbitTests (cell .group) (cellLengths cell) (tripleOf at) (now (volume .entry))) ⌝ }
 {
-    if !agrees(1, cell, at, x) {
-        return Checked::Failed(Refusal::Contradiction);
-    }
     if !tests::fits(cell, volume) {
         return Checked::Failed(Refusal::BufferLength);
     }
@@ -41,7 +37,7 @@ pub fn check_orbit(cell: UnitCell, at: Index, x: Pair, volume: &[u32]) -> Checke
 }
 
 // No image of the record falls on its own index with another value.
-fn agrees(m: u32, cell: UnitCell, j: Index, x: Pair) -> bool
+pub fn agrees(m: u32, cell: UnitCell, j: Index, x: Pair) -> bool
     requires { ⌜ IsModulus m × Small (prime m) x × Sizes cell × Within cell j ⌝ }
     ensures { λ r. ⌜ r ≡ agreesWithItself (cellGroup cell) (cellHalves cell) m (tripleOf j) (valueOf m x) ⌝ }
 {

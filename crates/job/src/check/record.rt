@@ -1,6 +1,7 @@
 // The tests of a record: the check answers the first refusal of the paper's order, or that there is none.
 //
 // It takes the job's numbers, an index, a value and the lent volume, and works nothing.
+use crate::check::orbit;
 use crate::check::tests;
 use cell::operations::Index;
 use cell::operations::UnitCell;
@@ -9,11 +10,11 @@ use refusals::Checked;
 use refusals::Refusal;
 ghost use mathlib.Core.Path.{_≡_};
 ghost use mathlib.Core.Bool.{true, _&&_};
-ghost use lib.Dec.{ltb, eqb};
+ghost use lib.Dec.{ltb};
 ghost use Rattle.refusals.specs.Refusals.{first};
 ghost use Rattle.refusals.specs.Checks.{checkedNumber};
 ghost use Rattle.cell.specs.Operations.{cellLengths, tripleOf, Sizes};
-ghost use Rattle.job.specs.Job.{p, recordTestsOf};
+ghost use Rattle.job.specs.Job.{p, ownTests, recordTestsOf};
 
 // Both numbers of a value are below the prime.
 fn residues(a: u32, b: u32) -> bool
@@ -23,13 +24,24 @@ fn residues(a: u32, b: u32) -> bool
     (a < bound) & (b < bound)
 }
 
-fn both_zero(a: u32, b: u32) -> bool
-    ensures { λ r. ⌜ r ≡ (eqb a 0 && eqb b 0) ⌝ }
+// 10, 7, 12: what the record's own numbers settle.
+pub fn check_own(cell: UnitCell, at: Index, x: Pair) -> Checked
+    requires { ⌜ Sizes cell ⌝ }
+    ensures { λ r. ⌜ checkedNumber r ≡ first (ownTests (cell .group) (cellLengths cell) (tripleOf at) (x .re) (x .im)) ⌝ }
 {
-    (a == 0) & (b == 0)
+    if !tests::inside(cell, at.h, at.k, at.l) {
+        return Checked::Failed(Refusal::Index);
+    }
+    if !residues(x.re, x.im) {
+        return Checked::Failed(Refusal::NotResidue);
+    }
+    if !orbit::agrees(1, cell, at, x) {
+        return Checked::Failed(Refusal::Contradiction);
+    }
+    Checked::Sound
 }
 
-// 25, 21, 10, 7, 11, then the orbit's.
+// 25, 21, the record's own, then the volume's.
 pub fn check_record(
     valid: bool,
     state: u32,
@@ -48,14 +60,9 @@ pub fn check_record(
     if state != 0 {
         return Checked::Failed(Refusal::NotCollecting);
     }
-    if !tests::inside(cell, at.h, at.k, at.l) {
-        return Checked::Failed(Refusal::Index);
+    let own = check_own(cell, at, x);
+    match own {
+        Checked::Failed(refusal) => Checked::Failed(refusal),
+        Checked::Sound => orbit::check_orbit(cell, at, volume),
     }
-    if !residues(x.re, x.im) {
-        return Checked::Failed(Refusal::NotResidue);
-    }
-    if both_zero(x.re, x.im) {
-        return Checked::Failed(Refusal::ZeroValue);
-    }
-    crate::check::orbit::check_orbit(cell, at, x, volume)
 }

@@ -53,7 +53,7 @@ write-images-requires c κs =
     let j = a .self in
     let t = clear (c .before) in
     let s = both _ _ (not-false _ (t .1 .1 .1 .0)) in
-    rw (c .before .before .before .before .before .before .unit-cell .ensures) ((first-modulus, record { re = ltb-true _ _ (s .0); im = ltb-true _ _ (s .1) }, valid-sizes j (not-false _ (t .0)), within-of (jobCell j) (record { h = a .at .0; k = a .at .1; l = a .at .2 }) (not-false _ (t .1 .1 .0))), eqb-true _ _ (not-false _ (t .1 .1 .1 .1 .1 .1 .0)))
+    rw (c .before .before .before .before .before .before .unit-cell .ensures) ((first-modulus, record { re = ltb-true _ _ (s .0); im = ltb-true _ _ (s .1) }, valid-sizes j (not-false _ (t .0)), within-of (jobCell j) (record { h = a .at .0; k = a .at .1; l = a .at .2 }) (not-false _ (t .1 .1 .0))), eqb-true _ _ (not-false _ (t .1 .1 .1 .1 .1 .0)))
 
 same-length : tie.Need-same-length
 same-length c = search needs

@@ -3,26 +3,32 @@ use mathlib.Core.Path.{_≡_, refl, _∙_}
 use mathlib.Core.List.{List, [], _∷_}
 use Prim.Native.Nat.{ℕ, zero, suc}
 use lib.ListN.{length, replicate, length-replicate}
+use Rattle.algebra.specs.cells.Cell.{J, Group, full}
+use Rattle.numbers.specs.Value.{value}
+use Rattle.cell.proofs.Writing.{length-images}
 use Rattle.refusals.specs.Refusals.{first, accepted}
 use Rattle.job.specs.declared.Job.{Job}
-use Rattle.job.specs.Job.{Opening, opened, notOpened, OpenOutcome, openStep, index, recordTests, recordStep}
-use Rattle.job.proofs.Lengths.{open-length, record-length}
+use Rattle.job.specs.Job.{Opening, opened, notOpened, OpenOutcome, openStep, headerOf, groupIn, halves}
+use Rattle.job.proofs.Lengths.{open-length}
 use Rattle.file_format.specs.declared.FileRecord.{FileRecord}
-use Rattle.factor_file.specs.File.{headerIn, recordsIn, shapeTests, indexOf, feed, fileStep}
+use Rattle.factor_file.specs.File.{headerIn, recordsIn, shapeTests, indexIn, Judgement, taken, refusedAt, judged, recordAllOn, feed, fileStep}
 
 -- the outcome's volume is as long as v
 abbrev AsLong : List ℕ → OpenOutcome → Type 0
 AsLong v o = length (o .volume) ≡ length v
 
-feed-length : (cs : List FileRecord) (place : ℕ) (j : Job) (v : List ℕ) → AsLong v (feed cs place j v)
+all-length : (g : Group) (a : J) (cs : List FileRecord) (v : List ℕ) → length (recordAllOn g a cs v) ≡ length v
+unfolding recordAllOn
+all-length g a [] v = refl
+all-length g a (c ∷ cs) v = all-length g a cs _ ∙ length-images g a 1 (indexIn c) (value 1 (c .a) (c .b)) (full g) v
+
+feed-length : (cs : List FileRecord) (j : Job) (v : List ℕ) → AsLong v (feed cs j v)
 unfolding feed
-feed-length [] place j v = refl
-feed-length (c ∷ cs) place j v =
-    by (first (recordTests j (index (indexOf c)) (c .a) (c .b) v)) (feed cs (suc place) j (recordStep j (indexOf c) (c .a) (c .b) v .volume)) (feed-length cs (suc place) j (recordStep j (indexOf c) (c .a) (c .b) v .volume) ∙ record-length j (indexOf c) (c .a) (c .b) v)
+feed-length cs j v = by (judged (j .group) (headerOf j .lengths) [] cs)
   where
-    by : (n : ℕ) (next : OpenOutcome) → AsLong v next → AsLong v (accepted n next (λ n. record { answer = notOpened n place; volume = replicate (length v) 0 }))
-    by zero next e = e
-    by (suc n) next e = length-replicate (length v) 0
+    by : (b : Judgement) → AsLong v (elim b [ taken ↦ record { answer = opened j; volume = recordAllOn (groupIn j) (halves j) cs v } | refusedAt n place ↦ record { answer = notOpened n place; volume = replicate (length v) 0 } ])
+    by taken = all-length (groupIn j) (halves j) cs v
+    by (refusedAt n place) = length-replicate (length v) 0
 
 pub file-length : (file v : List ℕ) → length (fileStep file v .volume) ≡ length v
 unfolding fileStep
@@ -31,7 +37,7 @@ file-length file v = by (first (shapeTests file)) (o .answer)
     o : OpenOutcome
     o = openStep (headerIn file) 0 v
 
-    by : (n : ℕ) (a : Opening) → AsLong v (accepted n (elim a [ opened j ↦ feed (recordsIn file) 0 j (o .volume) | notOpened n place ↦ o ]) (λ n. record { answer = notOpened n 0; volume = v }))
-    by zero (opened j) = feed-length (recordsIn file) 0 j (o .volume) ∙ open-length (headerIn file) 0 v
+    by : (n : ℕ) (a : Opening) → AsLong v (accepted n (elim a [ opened j ↦ feed (recordsIn file) j (o .volume) | notOpened n place ↦ o ]) (λ n. record { answer = notOpened n 0; volume = v }))
+    by zero (opened j) = feed-length (recordsIn file) j (o .volume) ∙ open-length (headerIn file) 0 v
     by zero (notOpened n place) = open-length (headerIn file) 0 v
     by (suc n) a = refl

@@ -1,4 +1,5 @@
 pub mod Openings
-pub mod Feeding
+pub mod Walking
+pub mod Judging
 pub mod Lengths
 pub mod RecordOrder

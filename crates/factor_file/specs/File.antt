@@ -1,17 +1,17 @@
 -- A factor file read, and written: what opening a job by it answers and leaves; the records of a volume, the file of a job, and what writing it answers and leaves.
 -- Its layout, its bytes and the tests of its shape are those of file_format's Format.
-use Rattle.algebra.specs.Prelude.{ℕ, suc, List, [], _∷_, length, replicate, Bool, not, eqb, ltb}
+use Rattle.algebra.specs.Prelude.{ℕ, List, [], _∷_, _++_, length, replicate, Bool, not, eqb, ltb}
 use Rattle.job.specs.declared.Job.{Job}
 use Rattle.job.specs.declared.Reflection.{Reflection}
-use Rattle.job.specs.Job.{opened, notOpened, OpenOutcome, index, recordTests, recordStep, openStep, headerOf, groupIn, halves, validJob, mapHeld, p, fits}
+use Rattle.job.specs.Job.{halfLengths, opened, notOpened, OpenOutcome, index, ownTests, openStep, headerOf, groupIn, halves, validJob, mapHeld, p, fits}
 use Rattle.file_format.specs.declared.FileRecord.{FileRecord}
 pub use Rattle.file_format.specs.Format.{byteAt, afterList, list1At, recordCount, recordsIn, shapeTests, headerIn}
 use Rattle.refusals.specs.Refusals.{first, accepted, Test, _⇒_}
-use Rattle.algebra.specs.cells.Cell.{J, Group, full, imageOf, at, factorActs, every, lexLe, placesOf}
+use Rattle.algebra.specs.cells.Cell.{J, Group, full, imageOf, at, factorActs, every, some, sameOrbit, lexLe, placesOf}
 use Rattle.algebra.specs.cells.Cell as Tests
-use Rattle.numbers.specs.Value.{Value, field, conj}
-use Rattle.cell.specs.Volume.{factorsIn}
-use Rattle.cell.specs.Consistency.{sameValue, consistentFactors}
+use Rattle.numbers.specs.Value.{Value, field, conj, value}
+use Rattle.cell.specs.Volume.{groupOf, factorsIn}
+use Rattle.cell.specs.Consistency.{sameValue, recordOn, consistentFactors}
 use Rattle.slices.specs.Pairs.{allBelow}
 use Rattle.file_format.specs.Format.{fileOf}
 use Rattle.output.specs.Output.{FillOutcome, filled, notFilled}
@@ -20,14 +20,40 @@ unfoldable pub use Rattle.file_format.specs.Format.{twoBytes, fourBytes, listAt
 abbrev pub indexOf : FileRecord → Reflection
 indexOf c = record { 0 = c .h; 1 = c .k; 2 = c .l }
 
--- One record after another, from place `place` of the file's records: each is tested and recorded as by the call, which leaves the job as it is. A refused record gives
--- its place, no job, and leaves the volume zero.
-unfoldable pub feed : List FileRecord → (place : ℕ) → Job → List ℕ → OpenOutcome
-feed [] place j v = record { answer = opened j; volume = v }
-feed (c ∷ cs) place j v =
-    accepted (first (recordTests j (index (indexOf c)) (c .a) (c .b) v))
-    (feed cs (suc place) j (recordStep j (indexOf c) (c .a) (c .b) v .volume))
-    (λ n. record { answer = notOpened n place; volume = replicate (length v) 0 })
+abbrev pub indexIn : FileRecord → J
+indexIn c = index (indexOf c)
+
+-- ---- the records of a file: each is judged by itself and against those before it, then all are recorded
+
+-- 24: one of the records before is of its orbit, whatever their values.
+abbrev pub orbitSeen : (group : ℕ) (lengths : J) (before : List J) (at : J) → List Test
+orbitSeen group n before at = some before (λ i. sameOrbit (groupOf group) (halfLengths n) i at) ⇒ 24 ∷ []
+
+-- A record of a file after records at the indices before it: 10, 7, 12, 24.
+abbrev pub judgeTests : (group : ℕ) (lengths : J) (before : List J) (at : J) (x y : ℕ) → List Test
+judgeTests group n before at x y = ownTests group n at x y ++ orbitSeen group n before at
+
+-- all records are taken, or the first that a test refuses: its number, and its place from 0
+pub data Judgement : Type 0 where
+  taken : Judgement
+  refusedAt : (number place : ℕ) → Judgement
+
+unfoldable pub judged : (group : ℕ) (lengths : J) (before : List J) → List FileRecord → Judgement
+judged group n before [] = taken
+judged group n before (c ∷ cs) = accepted (first (judgeTests group n before (indexIn c) (c .a) (c .b))) (judged group n (indexIn c ∷ before) cs) (λ k. refusedAt k (length before))
+
+-- every record puts its value at its index and the implied values at all images
+unfoldable pub recordAllOn : Group → J → List FileRecord → List ℕ → List ℕ
+recordAllOn g a [] v = v
+recordAllOn g a (c ∷ cs) v = recordAllOn g a cs (recordOn g a 1 (indexIn c) (value 1 (c .a) (c .b)) v)
+
+-- A refused record gives its place, no job, and leaves the volume zero.
+unfoldable pub feed : List FileRecord → Job → List ℕ → OpenOutcome
+feed cs j v =
+    elim (judged (j .group) (headerOf j .lengths) [] cs) [
+      | taken ↦ record { answer = opened j; volume = recordAllOn (groupIn j) (halves j) cs v }
+      | refusedAt n place ↦ record { answer = notOpened n place; volume = replicate (length v) 0 }
+    ]
 
 -- ---- the opening of a file
 
@@ -35,7 +61,7 @@ feed (c ∷ cs) place j v =
 unfoldable pub fileStep : (file volume : List ℕ) → OpenOutcome
 fileStep file v =
     accepted (first (shapeTests file))
-    (let o = openStep (headerIn file) 0 v in elim (o .answer) [ opened j ↦ feed (recordsIn file) 0 j (o .volume) | notOpened n place ↦ o ])
+    (let o = openStep (headerIn file) 0 v in elim (o .answer) [ opened j ↦ feed (recordsIn file) j (o .volume) | notOpened n place ↦ o ])
     (λ n. record { answer = notOpened n 0; volume = v })
 
 -- ---- a file written

@@ -1,4 +1,5 @@
 pub mod File
+pub mod Marks
 pub mod Steps
 pub mod Answers
 pub mod RecordOrder

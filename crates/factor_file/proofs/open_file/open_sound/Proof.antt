@@ -2,7 +2,9 @@
 use mathlib.Core.Path.{_∙_, sym, ap}
 use Rattle.job.specs.declared.OpenAnswer.{OpenAnswer}
 use Rattle.job.specs.Answers.{openOutcome}
-use Rattle.factor_file.proofs.Openings.{header-refused, records-decide}
+use denote.Ref.{now}
+use Rattle.factor_file.specs.File.{headerIn}
+use Rattle.factor_file.proofs.Openings.{header-refused, records-decide, opened-empty}
 use borrow.Author.Needs.{needs}
 use Rattle.factor_file.proofs.open_file.open_sound.Statement.{statement}
 use Rattle.factor_file.proofs.open_file.open_sound.Tie as tie
@@ -27,7 +29,12 @@ enum-known-answer-2 : tie.Need-enum-known-answer-2
 enum-known-answer-2 c = search needs
 
 feed-records-requires : tie.Need-feed-records-requires
-feed-records-requires c κs = search needs
+feed-records-requires c κs =
+    let w = c .before .before in
+    let h = w .before .before .before .before in
+    let s = h .before .before .before .before in
+    let v = h .open-header .last .1 .1 .0 in
+    (s .pre .0, s .pre .1, opened-empty (headerIn (now (s .args .file))) (now (s .args .volume)) v (w .answer2 .given .0 .0) (ap (λ (x : OpenAnswer). openOutcome x v) (sym (w .answer2 .given .1)) ∙ h .open-header .ensures))
 
 same-length-2 : tie.Need-same-length-2
 same-length-2 c = search needs

@@ -1,135 +1,102 @@
--- The invariant is `Feeding`: what is left of the records leads from job and volume, as they are, to the outcome of the whole.
+-- What the first walk says, on zeros again: refused, or what the second walk leaves.
 use borrow.Author.Needs.{needs}
-use mathlib.Core.Path.{_≡_, refl, _∙_, sym, ap}
-use mathlib.Core.List.{List}
-use Prim.Native.Nat.{ℕ, _+_, _-_, _<_, _≤_}
-use native.Mathlib.Omega.{arith}
-use lib.ListN.{length, replicate}
+use mathlib.Core.Path.{_≡_, _∙_, sym, ap, subst}
+use mathlib.Core.List.{List, []}
+use Prim.Native.Nat.{ℕ, _+_}
+use lib.ListN.{replicate}
 use denote.Ref.{now}
-use Rattle.job.specs.Answers.{said}
-use Rattle.file_format.specs.declared.reader.Found.the-variants.{Record}
-use Rattle.file_format.specs.Format.{byteAt, countAt, recordsIn}
-use Rattle.file_format.specs.Walk.{foundAt}
-use Rattle.file_format.proofs.integers.Numbers.{four-bytes-fit}
-use Rattle.file_format.proofs.Reading.{record-inside, record-after}
-use Rattle.factor_file.specs.declared.FileAnswer.the-variants.{Refused}
-use Rattle.factor_file.specs.File.{feed}
-use Rattle.factor_file.specs.Answers.{fileOutcome}
-use Rattle.factor_file.proofs.Feeding.{Feeding, feeding-start, feeding-end, record-left, feeding-next, feeding-refused}
+use Rattle.cell.specs.declared.operations.UnitCell.{UnitCell}
+use Rattle.cell.specs.Operations.{cellGroup, cellHalves, cellLengths}
+use Rattle.cell.specs.TestSteps.{IsVolume}
+use Rattle.job.specs.Job.{jobCell}
+use Rattle.file_format.specs.Format.{recordsIn}
+use Rattle.factor_file.specs.File.{judged, recordAllOn}
+use Rattle.factor_file.specs.Marks.{IsEmpty}
+use Rattle.factor_file.specs.Answers.{saidVerdict}
+use Rattle.factor_file.proofs.Openings.{feed-refused, feed-taken}
 use Rattle.factor_file.proofs.records.feed_records.Statement.{statement}
 use Rattle.factor_file.proofs.records.feed_records.Tie as tie
 
-abbrev Inv-loop : tie.InvT-loop
-Inv-loop file job volume₀ at₀ place₀ volume at place = (length volume ≡ length volume₀) × Feeding file (feed (recordsIn file) 0 job volume₀) at place job volume
+-- what the first walk says of the job's cell
+says : (c : tie.After-judge-records) → let s = c .before .before .before .before .before .before in let j = jobCell (s .args .job) in
+    saidVerdict (c .judge-records .result) ≡ judged (j .group) (cellLengths j) [] (recordsIn (now (s .args .file)))
+says c =
+    let s = c .before .before .before .before .before .before in
+    c .judge-records .ensures ∙ ap (λ (k : UnitCell). judged (k .group) (cellLengths k) [] (recordsIn (now (s .args .file)))) (c .before .before .before .unit-cell .ensures)
 
-abbrev μ-loop : tie.MeasureT-loop
-μ-loop file job volume₀ at₀ place₀ volume at place = length file - at
+same-volume : {k l : UnitCell} {v w : List ℕ} → k ≡ l → v ≡ w → IsVolume l w → IsVolume k v
+same-volume {k} {l} {v} e f x = subst (λ (k : UnitCell). IsVolume k v) (sym e) (subst (IsVolume l) (sym f) x)
 
--- the record at the reader's place
-reading : (c : tie.After-found Inv-loop μ-loop) → Record (c .found .given .0 .0) ≡ foundAt (now (c .before .before .before .before .before .before .before .args .file)) (c .before .before .before .loop .at)
-reading c = sym (c .found .given .1) ∙ c .before .before .read-record .ensures .0
+unit-cell-requires : tie.Need-unit-cell-requires
+unit-cell-requires c κs = search needs
 
--- its bytes are there, and its place fits
-inside : (c : tie.After-found Inv-loop μ-loop) → c .before .before .before .loop .at + 14 ≤ length (now (c .before .before .before .before .before .before .before .args .file))
-inside c = record-inside _ _ (c .found .given .0 .0) (reading c)
+first-record-requires : tie.Need-first-record-requires
+first-record-requires c κs = c .before .before .before .pre .0 .near
 
-bytes : (c : tie.After-shared-slice-known Inv-loop μ-loop) (i : ℕ) → byteAt (now (c .before .args .file)) i < 256
-bytes c i = omega (arith, c .shared-slice-known .given i)
+judge-records-requires : tie.Need-judge-records-requires
+judge-records-requires c κs =
+    let f = c .before in
+    let s = f .before .before .before .before in
+    (f .first-record .ensures ∙ ap (λ (n : ℕ). n + 4) (s .pre .0 .count), s .pre .1, subst (λ (k : UnitCell). IsEmpty k (now (s .args .volume))) (sym (f .before .unit-cell .ensures)) (s .pre .2))
 
-place-fits : (c : tie.After-found Inv-loop μ-loop) → c .before .before .before .loop .place + 1 < 4294967296
-place-fits c =
-    let l = c .before .before .before in
-    let s = l .before .before .before in
-    let file = now (s .before .args .file) in
-    omega (arith, record-left (l .loop .inv .1) (s .before .pre .1) (c .found .given .0 .0) (reading c), four-bytes-fit file (countAt file) (bytes s))
-
-first-record-requires : tie.Need-first-record-requires Inv-loop μ-loop
-first-record-requires c κs = c .before .before .pre .0 .near
-
-loop-holds : tie.Need-loop-holds Inv-loop μ-loop
-loop-holds c =
-    let s = c .before .before .before in
-    let a = s .args in
-    (refl, feeding-start (now (a .file)) _ (a .job) (now (a .volume)) (c .first-record .ensures ∙ ap (λ (n : ℕ). n + 4) (s .pre .0 .count)))
-
-read-record-requires : tie.Need-read-record-requires Inv-loop μ-loop
-read-record-requires c κs = search needs
-
-enum-known-found : tie.Need-enum-known-found Inv-loop μ-loop
-enum-known-found c = search needs
-
-enum-told : tie.Need-enum-told Inv-loop μ-loop
-enum-told c = search needs
-
-same-length : tie.Need-same-length Inv-loop μ-loop
-same-length c = c .before .before .before .loop .inv .0
-
-returns : tie.Need-returns Inv-loop μ-loop
-returns c =
-    let l = c .before .before .before in
-    feeding-end (l .loop .inv .1) (l .before .before .before .before .pre .1) (sym (c .enum-told .given .1) ∙ c .before .before .read-record .ensures .0)
-
-record-requires : tie.Need-record-requires Inv-loop μ-loop
-record-requires c κs = search needs
-
-enum-known-answer : tie.Need-enum-known-answer Inv-loop μ-loop
-enum-known-answer c = search needs
-
-zero-requires : tie.Need-zero-requires Inv-loop μ-loop
+zero-requires : tie.Need-zero-requires
 zero-requires c κs = search needs
 
-same-length-2 : tie.Need-same-length-2 Inv-loop μ-loop
-same-length-2 c =
-    let r = c .before .before .before .before .before .before .before .before .before in
-    c .before .before .zero .kept .0 ∙ r .«record» .kept .1 .1 .1 .1 .0 ∙ r .before .before .before .before .before .before .loop .inv .0
+enum-known-verdict : tie.Need-enum-known-verdict
+enum-known-verdict c = search needs
 
-returns-2 : tie.Need-returns-2 Inv-loop μ-loop
+same-length : tie.Need-same-length
+same-length c = search needs
+
+returns : tie.Need-returns
+returns c =
+    let v = c .before in
+    let z = v .before .before .before .before in
+    let r = z .before .before .before .before in
+    let s = r .before .before .before .before .before .before in
+    feed-refused (recordsIn (now (s .args .file))) (s .args .job) (now (s .args .volume)) (s .pre .2 .zeros) (z .zero .ensures ∙ ap (λ (n : ℕ). replicate n 0) (r .judge-records .kept .1 .1 .1 .0) ∙ sym (s .pre .2 .zeros)) (v .verdict .given .0 .0) (v .verdict .given .0 .1 .0) (ap saidVerdict (sym (v .verdict .given .1)) ∙ says r)
+
+enum-told : tie.Need-enum-told
+enum-told c = search needs
+
+record-all-requires : tie.Need-record-all-requires
+record-all-requires c κs =
+    let t = c .before in
+    let z = t .before .before .before .before in
+    let r = z .before .before .before .before in
+    let f = r .before .before in
+    let u = f .before in
+    let s = u .before .before .before in
+    let w = z .zero .ensures ∙ ap (λ (n : ℕ). replicate n 0) (r .judge-records .kept .1 .1 .1 .0) ∙ sym (s .pre .2 .zeros) in
+    ((f .first-record .ensures ∙ ap (λ (n : ℕ). n + 4) (s .pre .0 .count), s .pre .1, same-volume (u .unit-cell .ensures) w (s .pre .2 .volume)), sym (ap saidVerdict (sym (t .enum-told .given .1)) ∙ r .judge-records .ensures))
+
+same-length-2 : tie.Need-same-length-2
+same-length-2 c = search needs
+
+returns-2 : tie.Need-returns-2
 returns-2 c =
-    let a = c .before .before .before .before .before in
-    let r = a .before .before .before .before in
-    let f = r .before .before .before in
-    let l = f .before .before .before in
-    let zero = c .before .before .zero .ensures ∙ ap (λ (n : ℕ). replicate n 0) (r .«record» .kept .1 .1 .1 .1 .0) in
-    ap (λ (v : List ℕ). fileOutcome (Refused (a .answer .given .0 .0) (l .loop .place)) v) zero
-    ∙ feeding-refused (l .loop .inv .1) (l .before .before .before .before .pre .1) (f .found .given .0 .0) (reading f) _ (r .«record» .ensures) _ (ap said (a .answer .given .1))
-
-enum-told-2 : tie.Need-enum-told-2 Inv-loop μ-loop
-enum-told-2 c = search needs
-
-add-place : tie.Need-add-place Inv-loop μ-loop
-add-place c = omega (arith, place-fits (c .before .before .before .before .before .before .before))
-
-loop-less : tie.Need-loop-less Inv-loop μ-loop
-loop-less c =
-    let f = c .before .before .before .before .before .before .before in
-    omega (arith, inside f, f .before .before .read-record .ensures .1 ∙ record-after _ _ (f .found .given .0 .0) (reading f))
-
-loop-again : tie.Need-loop-again Inv-loop μ-loop
-loop-again c =
-    let r = c .before .before .before .before in
-    let f = r .before .before .before in
-    let l = f .before .before .before in
-    (r .«record» .kept .1 .1 .1 .1 .0 ∙ l .loop .inv .0, feeding-next (l .loop .inv .1) (l .before .before .before .before .pre .1) (f .found .given .0 .0) (reading f) _ (r .«record» .ensures) _ (f .before .before .read-record .ensures .1) (ap said (c .enum-told2 .given .1)))
+    let a = c .before .before in
+    let t = a .before .before in
+    let z = t .before .before .before .before in
+    let r = z .before .before .before .before in
+    let s = r .before .before .before .before .before .before in
+    let w = z .zero .ensures ∙ ap (λ (n : ℕ). replicate n 0) (r .judge-records .kept .1 .1 .1 .0) ∙ sym (s .pre .2 .zeros) in
+    let k = r .before .before .before .unit-cell .ensures in
+    feed-taken (recordsIn (now (s .args .file))) (s .args .job) (now (s .args .volume)) (ap saidVerdict (sym (t .enum-told .given .1)) ∙ says r)
+    (a .record-all .ensures ∙ λ i. recordAllOn (cellGroup (k i)) (cellHalves (k i)) (recordsIn (now (s .args .file))) (w i))
 
 pub feed-records-spec : {M : Type 1} → statement M
 feed-records-spec =
     tie.close
     (tie.spec
-    Inv-loop
-    μ-loop
+    unit-cell-requires
     first-record-requires
-    loop-holds
-    read-record-requires
-    enum-known-found
-    enum-told
+    judge-records-requires
+    zero-requires
+    enum-known-verdict
     same-length
     returns
-    record-requires
-    enum-known-answer
-    zero-requires
+    enum-told
+    record-all-requires
     same-length-2
-    returns-2
-    enum-told-2
-    add-place
-    loop-less
-    loop-again)
+    returns-2)

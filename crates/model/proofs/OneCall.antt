@@ -29,7 +29,7 @@ use Rattle.model.proofs.Sound.{LawfulModel, holds-map, holds-factors, m
 -- ---- tests
 
 -- the same test first on both sides, and the rest where it does not hold
-same-next : (b : Bool) (n : ℕ) (ts us : List Test) → (b ≡ false → first ts ≡ first us) → first (b ⇒ n ∷ ts) ≡ first (b ⇒ n ∷ us)
+pub same-next : (b : Bool) (n : ℕ) (ts us : List Test) → (b ≡ false → first ts ≡ first us) → first (b ⇒ n ∷ ts) ≡ first (b ⇒ n ∷ us)
 unfolding first
 same-next true n ts us f = refl
 same-next false n ts us f = f refl
@@ -100,8 +100,8 @@ module _ (m : Model) (sound : LawfulModel m) where
   record-tests : (k : Reflection) (x y : ℕ) → first (modelTests m (recording k x y)) ≡ first (recordTests (modelJob m) (index k) x y (modelVolume m))
   record-tests k x y =
       pass 25 _ no-25
-      (same-next _ 21 _ _ (λ s. same-next _ 10 _ _ (λ w. same-next _ 7 _ _ (λ b. same-next _ 11 _ _ (λ z. same-next _ 12 _ _ (λ a.
-      pass 6 _ no-6 (ap (λ b. first (not b ⇒ 24 ∷ [])) (occupied (not-false _ s) (not-false _ w)))))))))
+      (same-next _ 21 _ _ (λ s. same-next _ 10 _ _ (λ w. same-next _ 7 _ _ (λ b. same-next _ 12 _ _ (λ a.
+      pass 6 _ no-6 (ap (λ b. first (not b ⇒ 24 ∷ [])) (occupied (not-false _ s) (not-false _ w))))))))
     where
       occupied : eqb (m .state) collecting ≡ true → within (m .header .lengths) (index k) ≡ true → sameValue (factorOf m (index k)) (value 1 0 0) ≡ orbitFree (group m) (half m) (modelVolume m) (index k)
       occupied s w = rw (holds-factors m (not-map s)) (sym (orbit-zero m sound (index k) (within-inside m sound (index k) w)))
@@ -114,12 +114,12 @@ module _ (m : Model) (sound : LawfulModel m) where
     record-inside = within-inside m sound (index k) (not-false _ (passed (modelTests m (recording k x y)) tt e .1 .0))
 
     record-agrees : agreesWithItself (group m) (half m) 1 (index k) (value 1 x y) ≡ true
-    record-agrees = not-false _ (passed (modelTests m (recording k x y)) tt e .1 .1 .1 .1 .0)
+    record-agrees = not-false _ (passed (modelTests m (recording k x y)) tt e .1 .1 .1 .0)
 
-    record-leaves : recordOn (group m) (half m) 1 (index k) (value 1 x y) (modelVolume m) ≡ modelVolume (modelNext m (recording k x y))
+    pub record-leaves : recordOn (group m) (half m) 1 (index k) (value 1 x y) (modelVolume m) ≡ modelVolume (modelNext m (recording k x y))
     record-leaves = ap (recordOn (group m) (half m) 1 (index k) (value 1 x y)) (holds-factors m factors-stand) ∙ recorded-packed m sound (index k) (value 1 x y) record-inside record-agrees ∙ sym (holds-factors (modelNext m (recording k x y)) factors-stand)
 
-    record-sound : LawfulModel (modelNext m (recording k x y))
+    pub record-sound : LawfulModel (modelNext m (recording k x y))
     record-sound = record { valid = sound .valid; lawful = lawful-recorded m sound (index k) (value 1 x y) record-inside record-agrees }
 
   record-call : (k : Reflection) (x y : ℕ) → recordStep (modelJob m) k x y (modelVolume m) ≡ result (modelSaid m (recording k x y)) (modelAfter m (recording k x y))

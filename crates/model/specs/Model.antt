@@ -1,6 +1,6 @@
 -- The reference model (the paper's book): a state, and F for every (h, k, l) of the whole cell. It is fed the calls' arguments without job and volume,
 -- save a volume opened as a map, and knows no packing: its refusals follow from arguments and state alone.
-use Rattle.algebra.specs.Prelude.{_&&_, not, cond, eqb, leb, ltb, ℕ, suc, List, [], _∷_, length}
+use Rattle.algebra.specs.Prelude.{_&&_, not, cond, eqb, leb, ltb, ℕ, List, [], _∷_, length}
 use Rattle.algebra.specs.cells.Cell.{J, Group, Cell, at}
 use Rattle.numbers.specs.Value.{Value, value}
 use Rattle.signed.specs.Integers.{ℤ, centred}
@@ -12,6 +12,7 @@ use Rattle.job.specs.declared.Job.{Job}
 use Rattle.job.specs.Job.{Header, halfLengths, axisTests, collecting, factorsHeld, mapHeld, jobOf, p, within, index, position, Said, done, density, factor, refused}
 use Rattle.file_format.specs.declared.FileRecord.{FileRecord}
 use Rattle.file_format.specs.Format.{recordsIn, shapeTests, headerIn}
+use Rattle.factor_file.specs.File.{taken, refusedAt, judged}
 pub use Rattle.job.specs.Job.{Call, recording, synthesis, analysis, readPoint, readFactor}
 
 -- The header is the opening's. The model uses its group and its lengths; the factor lists are in the job that is given back.
@@ -46,7 +47,6 @@ modelTests m (recording k x y) =
     not (eqb (m .state) collecting) ⇒ 21 ∷
     not (within (m .header .lengths) (index k)) ⇒ 10 ∷
     not (ltb x p && ltb y p) ⇒ 7 ∷
-    (eqb x 0 && eqb y 0) ⇒ 11 ∷
     not (agreesWithItself (group m) (half m) 1 (index k) (value 1 x y)) ⇒ 12 ∷
     not (sameValue (factorOf m (index k)) (value 1 0 0)) ⇒ 24 ∷
     []
@@ -123,16 +123,20 @@ openingModel h kind v = cond (eqb kind 0) (zeroModel h) (mapModel h v)
 unfoldable pub modelOpen : Header → (kind : ℕ) → List ℕ → Beginning
 modelOpen h kind v = accepted (first (beginningTests h kind)) (begun (openingModel h kind v)) (λ n. notBegun n 0)
 
--- a file: an opening with kind 0, then its records
+-- A file: an opening with kind 0, then its records. They are judged by the file alone, each by itself and against those before it: two records of one orbit are refused,
+-- whatever their values. If none is refused, each is recorded.
 abbrev pub recordingOf : FileRecord → Call
 recordingOf c = recording (record { 0 = c .h; 1 = c .k; 2 = c .l }) (c .a) (c .b)
 
-unfoldable pub modelFeed : List FileRecord → (place : ℕ) → Model → Beginning
-modelFeed [] place m = begun m
-modelFeed (c ∷ cs) place m = accepted (first (modelTests m (recordingOf c))) (modelFeed cs (suc place) (modelNext m (recordingOf c))) (λ n. notBegun n place)
+unfoldable pub modelRecorded : List FileRecord → Model → Model
+modelRecorded [] m = m
+modelRecorded (c ∷ cs) m = modelRecorded cs (modelNext m (recordingOf c))
+
+unfoldable pub modelFeed : List FileRecord → Model → Beginning
+modelFeed cs m = elim (judged (m .header .group) (m .header .lengths) [] cs) [ taken ↦ begun (modelRecorded cs m) | refusedAt n place ↦ notBegun n place ]
 
 unfoldable pub modelFile : List ℕ → Beginning
 modelFile file =
     accepted (first (shapeTests file))
-    (accepted (first (beginningTests (headerIn file) 0)) (modelFeed (recordsIn file) 0 (zeroModel (headerIn file))) (λ n. notBegun n 0))
+    (accepted (first (beginningTests (headerIn file) 0)) (modelFeed (recordsIn file) (zeroModel (headerIn file))) (λ n. notBegun n 0))
     (λ n. notBegun n 0)

@@ -71,7 +71,6 @@ enum {
     RECORDER_REFUSED_GROUP = 8,              /* group not 0 to 4 */
     RECORDER_REFUSED_VOLUME_TOO_LARGE = 9,   /* volume above 16,777,216 numbers */
     RECORDER_REFUSED_INDEX = 10,             /* an index not below its length */
-    RECORDER_REFUSED_ZERO_VALUE = 11,        /* the value zero in a record */
     RECORDER_REFUSED_CONTRADICTION = 12,     /* an image falls on the index itself with another value */
     RECORDER_REFUSED_SCRATCH_TOO_SHORT = 13, /* scratch below 11,520 numbers */
     RECORDER_REFUSED_INCONSISTENT = 14,      /* no cell that obeys the group has these numbers */
@@ -81,7 +80,7 @@ enum {
     RECORDER_REFUSED_NOT_COLLECTING = 21,    /* a record while not collecting */
     RECORDER_REFUSED_NO_MAP = 22,            /* no map held */
     RECORDER_REFUSED_NO_FACTORS = 23,        /* no factors held */
-    RECORDER_REFUSED_OCCUPIED = 24,          /* a number that holds part of the record's orbit is not 0 */
+    RECORDER_REFUSED_OCCUPIED = 24,          /* of a record: a number that holds part of its orbit is not 0; in a file: an earlier record is of its orbit */
     RECORDER_REFUSED_IMPOSSIBLE_JOB = 25,    /* no call could have given this job back */
     RECORDER_REFUSED_WINDOW = 34             /* window not of 1 to 64 entries */
 };
@@ -131,7 +130,7 @@ recorder_answer recorder_open(uint32_t group, uint32_t kind, uint32_t n1, uint32
    records stands for a cell whose factors are all zero. A refused record gives its place from 0 and leaves the volume zero; every
    other refusal changes nothing. A refused file gives a job of zeros, which every call refuses.
    Refusals: 15 the count is not the bytes that follow, 16 version not 1, 15 header, lists and records do not fill the file, then
-   those of an opening, then those of each record in its turn. */
+   those of an opening, then of each record in its turn 10, 7, 12, and 24 if an earlier record is of its orbit, whatever their values. */
 recorder_file_answer recorder_open_file(const uint8_t *file, size_t file_length, uint32_t *volume, size_t volume_length);
 
 /* Writes the factor file of a job that holds factors: one record for each orbit with a value other than zero, at its lowest (h, k, l),
@@ -141,8 +140,9 @@ recorder_file_answer recorder_open_file(const uint8_t *file, size_t file_length,
    Refusals: 25, 23 no factors held, 6 volume not exactly as long as required, 7, 14, 18 output too short. */
 recorder_write_answer recorder_write_file(recorder_job job, const uint32_t *volume, size_t volume_length, uint8_t *out, size_t out_length);
 
-/* Records a + b i at an index, and the implied values at all images.
-   Refusals: 25, 21 not collecting, 10 an index not below its length, 7 a or b of 86,399 or more, 11 the value zero, 12 an image falls on
+/* Records a + b i at an index, and the implied values at all images. A zero is recorded too and changes no number; a later record of the
+   same orbit is then taken, and its value counts.
+   Refusals: 25, 21 not collecting, 10 an index not below its length, 7 a or b of 86,399 or more, 12 an image falls on
    the index itself with another value, 6 volume not exactly as long as required, 24 a number that holds part of the orbit is not 0. */
 recorder_answer recorder_record(recorder_job job, recorder_reflection at, uint32_t a, uint32_t b,
                                 uint32_t *volume, size_t volume_length);

@@ -356,8 +356,6 @@ class Machine:
             return 10, 0, 0
         if a >= P or b >= P:
             return 7, 0, 0
-        if a == 0 and b == 0:
-            return 11, 0, 0
         orbit = images(g, n, j, (a, b))
         if any(i == j and w != (a, b) for i, w in orbit):
             return 12, 0, 0
@@ -472,8 +470,6 @@ class Book:
             return 10, 0, 0
         if a >= P or b >= P:
             return 7, 0, 0
-        if a == 0 and b == 0:
-            return 11, 0, 0
         orbit = images(self.g, self.n, j, (a, b))
         if any(i == j and w != (a, b) for i, w in orbit):
             return 12, 0, 0
@@ -567,11 +563,16 @@ def open_file(file, lent):
     if lent != volume_length(g, n):
         return 6, 0, None
     book = Book(g, n, lists)
+    orbits = set()
     for place in range(count):
         r = file[at + 14 * place:at + 14 * place + 14]
-        refused = book.record(number(r[0:2]), number(r[2:4]), number(r[4:6]), number(r[6:10]), number(r[10:14]))[0]
+        j, v = tuple(number(r[q:q + 2]) for q in (0, 2, 4)), (number(r[6:10]), number(r[10:14]))
+        refused = book.record(*j, *v)[0]
+        if not refused and j in orbits:
+            refused = 24
         if refused:
             return refused, place, None
+        orbits.update(i for i, _ in images(g, n, j, v))
     return 0, 0, book
 
 

@@ -19,12 +19,13 @@ test_records.py says what the input holds and what is printed. The cases are mad
 The answers of openings and replays are those of the book in brute_force.py, which is fed the calls' arguments alone; a file is written
 from the job and the volume that the calls left. The seed is fixed.
 """
+import itertools
 import random
 import sys
 
 import test_records
-from brute_force import P, SCRATCH, Machine, factor_lists, file_bytes, images, open_file, volume_length
-from order_cases import fault_sets, faulty_arguments, faulty_header, faulty_job, pair
+from brute_force import P, SCRATCH, Machine, all_points, factor_lists, file_bytes, images, open_file, volume_length
+from order_cases import factors_of, fault_sets, faulty_arguments, faulty_header, faulty_job, pair
 from test_records import JOB, POKE, WRITE, checksum
 
 SEED = 1974
@@ -54,7 +55,7 @@ class TestProgram:
         refused, place, book = open_file(file, self.length)
         if book:
             volume = book.volume()
-        elif place or refused in (10, 11, 12, 24) or refused == 7:
+        elif place or refused in (7, 10, 12, 24):
             volume = [0] * self.length
         else:
             volume = [7] * self.length
@@ -279,7 +280,7 @@ def cases():
                     say(5, *call)
                 say(6, SCRATCH, 3 * len(calls))
                 say(7, 4096)
-    return out + [*faulty_files(), *(case for g in range(5) for case in (*faulty_records(g), *faulty_writings(g)))]
+    return out + [*faulty_files(), *(case for g in range(5) for case in (*faulty_records(g), *faulty_writings(g), *zero_files(g), *repeated_orbits(g)))]
 
 
 # ---- each fault alone and every two at once
@@ -302,13 +303,68 @@ def faulty_files():
 
 
 def faulty_records(g):
-    """Files whose second record has the faults; the first is F(0,0,0) = 5."""
+    """Files whose second record has the faults; the first is F(0,0,0) = 5, or 0."""
     n = (4, 4, 6)
     yield 2, (volume_length(g, n),)
-    for turn, faults in fault_sets((10, 7, 11, 12, 24)):
-        yield 0, ()
-        yield 1, (file_bytes(g, n, [[2], [2], [3]], [(0, 0, 0, 5, 0), faulty_arguments(n, 1, faults, turn)]),)
-        yield 3, ()
+    for first in (5, 0):
+        for turn, faults in fault_sets((10, 7, 12, 24)):
+            yield 0, ()
+            yield 1, (file_bytes(g, n, [[2], [2], [3]], [(0, 0, 0, first, 0), faulty_arguments(n, 1, faults, turn)]),)
+            yield 3, ()
+
+
+def lowest_indices(g, n):
+    """One index of each orbit."""
+    seen = set()
+    for j in all_points(n):
+        if j not in seen:
+            seen.update(i for i, _ in images(g, n, j, (0, 0)))
+            yield j
+
+
+def zero_files(g):
+    """A zero record for every orbit of a cell, then another for one of them at an image: at self-mates, in Pa's zero pairs, at both ends of
+    alternating lines; zeros and other values in turn, written and read on."""
+    for n in ((2, 2, 2), (4, 2, 4), (2, 4, 6)):
+        every = list(lowest_indices(g, n))
+        yield 2, (volume_length(g, n),)
+        zeros = [(*j, 0, 0) for j in every]
+        for j in every:
+            for i in sorted({i for i, _ in images(g, n, j, (0, 0))}):
+                for v in ((0, 0), (5, 0)):
+                    yield 0, ()
+                    yield 1, (file_bytes(g, n, factors_of(n), zeros + [(*i, *v)]),)
+                    yield 3, ()
+        sound = [next((v for v in ((3, 4), (3, 0), (0, 3)) if all(i != j or w == v for i, w in images(g, n, j, v))), (0, 0)) for j in every]
+        for turn in (0, 1):
+            yield 0, ()
+            yield 1, (file_bytes(g, n, factors_of(n), [(*j, *(v if place % 2 == turn else (0, 0))) for place, (j, v) in enumerate(zip(every, sound))]),)
+            yield 3, ()
+            yield 7, (4096,)
+            calls = [(0, *j, *v) for j, v in zip(every, sound)] + [(1,), (2,), (4,)]
+            for at in range(0, len(calls), 20):
+                yield 0, ()
+                for call in calls[at:at + 20]:
+                    yield 5, call
+                yield 6, (SCRATCH, 3 * len(calls[at:at + 20]))
+            yield 7, (4096,)
+
+
+def repeated_orbits(g):
+    """Short files in which the record at one place is of the orbit of another, at every two places, with and without zeros."""
+    n = (4, 4, 6)
+    yield 2, (volume_length(g, n),)
+    records = [((1, 1, 1), (3, 4)), ((0, 0, 3), (0, 0)), ((1, 0, 0), (0, 0)), ((2, 1, 2), (7, 8)), ((2, 2, 0), (0, 0))]
+    for first, second in itertools.combinations(range(len(records)), 2):
+        orbit = sorted({i for i, _ in images(g, n, records[first][0], (0, 0))})
+        for again in (orbit[0], orbit[-1]):
+            for v, w in itertools.product(((0, 0), records[first][1]), ((0, 0), (7, 8))):
+                file = list(records)
+                file[first] = records[first][0], v
+                file[second] = again, w
+                yield 0, ()
+                yield 1, (file_bytes(g, n, [[2], [2], [3]], [(*j, *x) for j, x in file]),)
+                yield 3, ()
 
 
 def faulty_writings(g):

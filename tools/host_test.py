@@ -30,7 +30,7 @@ from window_cases import SCORES, windows
 
 SEED = 1973
 # Every refusal that the tool's input can give, readings outside the cell among them.
-REFUSALS = {"factor file": {3, 4, 5, 7, 8, 9, 10, 11, 12, 15, 16, 24}, "map file": {3, 4, 5, 7, 8, 9, 10, 14, 15, 16},
+REFUSALS = {"factor file": {3, 4, 5, 7, 8, 9, 10, 12, 15, 16, 24}, "map file": {3, 4, 5, 7, 8, 9, 10, 14, 15, 16},
             "line": {1, 2, 3, 4, 5, 6, 7}, "scores": {34}}
 COMMANDS = ["map", "factors", "rewrite", "records", "check", "info", "point", "factor", "line", "drift"]
 # Those that work on a factor file or a map file.
@@ -252,6 +252,30 @@ def empty_cells(tool):
             tool.expect(what + ": its map", tool.run("map", tool.path("zeros"), "-o", "-"), (0, zeros, b""))
 
 
+def zero_records(tool):
+    """Files of zeros: written back without them; 100,000 at 240^3, and one more of an orbit that is among them."""
+    for g in range(5):
+        n, lists = (4, 2, 6), [[2], [], [3]]
+        file = file_bytes(g, n, lists, [(1, 0, 0, 0, 0), (0, 0, 3, 0, 0), (0, 0, 0, 7, 0), (3, 1, 2, 0, 0)])
+        what = "zeros of group %d" % g
+        path = tool.file("zeros", file)
+        tool.expect(what + ": check", tool.run("check", path), (0, b"accepted\n", b""))
+        tool.expect(what + ": rewrite", tool.run("rewrite", path, "-o", "-"), (0, file_bytes(g, n, lists, [(0, 0, 0, 7, 0)]), b""))
+        tool.expect(what + ": records", tool.run("records", path), (0, b"1 0 0 0 0\n0 0 3 0 0\n0 0 0 7 0\n3 1 2 0 0\n", b""))
+    n, lists = (240, 240, 240), [[4, 5, 3, 2]] * 3
+    zeros = [(1 + place // 1000, 1 + place // 10 % 100, 1 + place % 10, 0, 0) for place in range(100000)]
+    what = "100,000 zeros at 240^3"
+    path = tool.file("many", file_bytes(0, n, lists, zeros))
+    tool.expect(what, tool.run("rewrite", path, "-o", "-"), (0, file_bytes(0, n, lists, []), b""))
+    first = zeros[77777]
+    again = (240 - first[0], 240 - first[1], 240 - first[2], 0, 0)
+    path = tool.file("many", file_bytes(0, n, lists, zeros + [again]))
+    found = "found: record 100000, from byte %d on: h %d, k %d, l %d, a 0, b 0; of one orbit with record 77777, from byte %d on: h %d, k %d, l %d, a 0, b 0" % (
+        31 + 1400000, *again[:3], 31 + 14 * 77777, *first[:3])
+    status, out, err = tool.run("check", path)
+    tool.expect(what + ", and one twice", (status, out.decode().split("\n")[0::2][:2], err), (1, ["refused 24 at 100000", found], b""))
+
+
 def full_cells(tool):
     """Map files of random densities: as many records as a grid has orbits, back and forth."""
     rng = random.Random(SEED)
@@ -276,15 +300,15 @@ def refused_records(tool):
     n, lists = (4, 4, 4), [[2], [2], [2]]
     first = (1, 1, 3, 4, 5)
     for g, record, refusal in [(0, (1, 1, 4, 3, 0), 10), (1, (1, 65535, 1, 3, 0), 10), (2, (1, 1, 1, P, 0), 7), (3, (1, 1, 1, 3, 2 ** 32 - 1), 7),
-                               (0, (1, 1, 1, 0, 0), 11), (0, (0, 2, 0, 1, 1), 12), (1, (0, 0, 1, 5, 7), 12), (3, (1, 0, 0, 5, 7), 12),
+                               (0, (0, 2, 0, 1, 1), 12), (1, (0, 0, 1, 5, 7), 12), (3, (1, 0, 0, 5, 7), 12),
                                (4, (1, 0, 0, 0, 7), 12), (4, (0, 3, 0, 5, 0), 12), (4, (0, 0, 1, 5, 7), 12), (4, (1, 2, 0, 5, 7), 12),
-                               (2, (1, 1, 1, 4, 5), 24), (0, (3, 3, 1, 9, 9), 24), (4, (3, 1, 1, 9, 9), 24)]:
+                               (2, (1, 1, 1, 4, 5), 24), (0, (3, 3, 1, 9, 9), 24), (4, (3, 1, 1, 9, 9), 24), (2, (1, 1, 1, 0, 0), 24)]:
         path = tool.file("records", file_bytes(g, n, lists, [(0, 0, 0, 1, 0), first, record, (3, 3, 3, 3, 3)]))
         status, out, err = tool.run("check", path)
         head, _, found, _, end = out.decode().split("\n")
         contents = "found: record 2, from byte 50 on: h %d, k %d, l %d, a %d, b %d" % record
         if refusal == 24:
-            contents += "; its orbit has a value by record 1, from byte 36 on: h 1, k 1, l 3, a 4, b 5"
+            contents += "; of one orbit with record 1, from byte 36 on: h 1, k 1, l 3, a 4, b 5"
         what = "group %d, record %s" % (g, record)
         tool.expect(what, (status, head, found, end, err), (1, "refused %d at 2" % refusal, contents, "", b""))
         tool.refused(what, ("point", path, 0, 0, 0), refusal, 2)
@@ -660,8 +684,9 @@ def progress(tool):
 def main():
     with tempfile.TemporaryDirectory() as folder:
         tool = Tool(os.path.abspath(sys.argv[1]), folder)
-        for part in (samples, small_grids, empty_cells, full_cells, refused_records, refused_headers, refused_maps, lines, drift, command_line,
-                     files_and_streams, too_long, one_file, replaced, large_grids, closed_pipe, named_pipe, ended_by_signals, progress):
+        for part in (samples, small_grids, empty_cells, zero_records, full_cells, refused_records, refused_headers, refused_maps, lines, drift,
+                     command_line, files_and_streams, too_long, one_file, replaced, large_grids, closed_pipe, named_pipe, ended_by_signals,
+                     progress):
             part(tool)
         tool.expect("the refusals", tool.seen, REFUSALS)
     print("%d comparisons agree, %d do not" % (tool.agreed, tool.wrong))

@@ -6,7 +6,7 @@ import itertools
 from brute_force import P, SCRATCH, factor_lists, images, octal, planes, point_images, read_factor, volume_length
 
 # Of each call of a script, in their order.
-REFUSALS = {1: (25, 21, 10, 7, 11, 12, 6, 24), 2: (25, 23, 6, 13, 7, 14), 3: (25, 22, 6, 13, 7, 14), 4: (25, 22, 10, 6, 7), 5: (25, 23, 10, 6, 7)}
+REFUSALS = {1: (25, 21, 10, 7, 12, 6, 24), 2: (25, 23, 6, 13, 7, 14), 3: (25, 22, 6, 13, 7, 14), 4: (25, 22, 10, 6, 7), 5: (25, 23, 10, 6, 7)}
 
 
 def calls():
@@ -16,6 +16,7 @@ def calls():
         for n in ((4, 4, 4), (4, 4, 6)) if g in (1, 4) else ((4, 4, 6),):
             yield from factors_read(g, n)
             yield from orbits_read(g, n)
+            yield from zero_records(g, n)
         yield from points_read(g, (4, 4, 6))
         yield from signs_read(g, (4, 4, 6))
 
@@ -138,7 +139,7 @@ def faulty_arguments(n, op, faults, turn):
         j[turn % 3] += n[turn % 3]
     if op > 1:
         return tuple(j)
-    v = [0, 0] if 11 in faults else [3, 4] if 12 in faults else [3, 0]
+    v = [3, 4] if 12 in faults else [3, 0]
     if 7 in faults:
         v[turn % 2] += P
     return (*j, *v)
@@ -205,3 +206,33 @@ def orbits_read(g, n):
         for place in places:
             yield 7, (place, 0)
         yield 1, (*j, *v)
+
+
+def zero_records(g, n):
+    """Records of value zero: at the ends of lines, where the pairs that hold no factor are not zero; then another value for the orbit, and a
+    zero after that."""
+    opening, _ = opened(g, n)
+    b, a = n[1] // 2, n[2] // 2
+    yield from opening
+    for h, k, l in itertools.product((0, 1), (0, b), (0, a, 1)):
+        for w in sorted({0, planes(g, n) - 1}):
+            unread = pair(n, w, h, k) if g == 3 and h % 2 and w in (0, a) else None
+            if unread is not None:
+                yield 7, (unread, 5)
+                yield 7, (unread + 1, P)
+            yield 1, (h, k, l, 0, 0)
+            if unread is not None:
+                yield 7, (unread, 0)
+                yield 7, (unread + 1, 0)
+    for j in ((1, 1, 1), (1, 0, 0), (0, b, a), (2, 0, 1), (2, 0, 0), (0, 0, a)):
+        sound = [v for v in ((3, 4), (3, 0), (0, 3)) if all(i != j or w == v for i, w in images(g, n, j, v))]
+        orbit = sorted({i for i, _ in images(g, n, j, (0, 0))})
+        yield from opening
+        for i in orbit:
+            yield 1, (*i, 0, 0)
+        for v in sound[:1]:
+            yield 1, (*j, *v)
+            for i in orbit:
+                yield 1, (*i, 0, 0)
+            yield 11, (5, *orbit)
+            yield 2, (SCRATCH,)

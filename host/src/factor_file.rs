@@ -6,8 +6,8 @@ use std::fmt::{self, Display, Formatter};
 
 const COUNT: usize = 4;
 const RECORD: usize = 14;
-/// No accepted file has a greater count of bytes: its header has three lists of at most 255 factors, and each record makes one number at least
-/// of the volume, which has at most 16,777,216, other than the zero that it was.
+/// No accepted file has a greater count of bytes: its header has three lists of at most 255 factors, and no two of its records are of one orbit,
+/// each of which has a place of its own in the volume of at most 16,777,216 numbers.
 pub const MOST_COUNT: u64 = 8 + 3 * 256 + 4 + 14 * 16_777_216;
 
 /// The length of the file with a header and a count of records.
@@ -36,6 +36,17 @@ pub fn record(file: &[u8], header: &Header, place: u32) -> Record {
     let part = |from: usize, to: usize| number(&file[byte + from..byte + to]);
     let at = Reflection { h: part(0, 2), k: part(2, 4), l: part(4, 6) };
     Record { place, byte, at, a: part(6, 10), b: part(10, 14) }
+}
+
+/// The file of the first records of another, a count of them, and of its record at a place.
+pub fn with_first(file: &[u8], header: &Header, first: u32, place: u32) -> Vec<u8> {
+    let (count, end) = (records_at(header) - COUNT, length(header, first as usize));
+    let byte = length(header, place as usize);
+    let mut some = [&file[..end], &file[byte..byte + RECORD]].concat();
+    let following = (some.len() - COUNT) as u32;
+    some[..COUNT].copy_from_slice(&following.to_be_bytes());
+    some[count..count + COUNT].copy_from_slice(&(first + 1).to_be_bytes());
+    some
 }
 
 impl Display for Record {

@@ -53,8 +53,7 @@ impl Recorder {
         let refused = factor_file::record(file, &header, answer.place);
         let mut found = refused.to_string();
         if answer.number == TAKEN {
-            let taker = taker(file, &header, &refused, answer.place, &mut volume);
-            found += &taker.map_or(String::new(), |taker| format!("; its orbit has a value by {taker}"));
+            found += &format!("; of one orbit with {}", of_one_orbit(file, &header, answer.place, &mut volume));
         }
         Err(Refusal::of_record(answer.number, answer.place, found).into())
     }
@@ -139,13 +138,19 @@ pub fn line(kind: u32, direction: u32, length: u32, list: &[u8], line: &mut [u32
     accepted(ffi::line(kind, direction, length, list, line, &mut vec![0; SCRATCH]))
 }
 
-/// The record before a place that has the orbit of the one refused there. With the refused one alone in the volume, the others are recorded in
-/// their turn: they were accepted together, so the first that is refused now is the one.
-fn taker(file: &[u8], header: &Header, refused: &Record, place: u32, volume: &mut [u32]) -> Option<Record> {
-    let empty = opened(header, COLLECT, volume).job;
-    let job = ffi::record(empty, refused.at, refused.a, refused.b, volume).job;
-    let mut earlier = (0..place).map(|place| factor_file::record(file, header, place));
-    earlier.find(|record| ffi::record(job, record.at, record.a, record.b, volume).number == TAKEN)
+/// The record before a place that is of the orbit of the one refused there. The records before it were taken together, so the refused one behind
+/// the first few of them is refused exactly if the record is among these: how many they are is found by halving.
+fn of_one_orbit(file: &[u8], header: &Header, place: u32, volume: &mut [u32]) -> Record {
+    let (mut without, mut with) = (0, place);
+    while without + 1 < with {
+        let middle = without + (with - without) / 2;
+        let some = factor_file::with_first(file, header, middle, place);
+        match ffi::open_file(&some, volume).number {
+            0 => without = middle,
+            _ => with = middle,
+        }
+    }
+    factor_file::record(file, header, without)
 }
 
 fn opened(header: &Header, kind: u32, volume: &mut [u32]) -> Answer {

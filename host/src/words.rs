@@ -81,7 +81,6 @@ fn words(number: u32) -> (&'static str, &'static str) {
         8 => ("the group is not 0 to 4", "use 0 for P1, 1 for P2_1, 2 for Pm, 3 for Pa, 4 for P2_1 2_1 2_1"),
         9 => ("the volume would have more than 16,777,216 numbers", "use shorter lengths; every other group needs about half of what P1 does"),
         10 => ("an index is not below its axis length", "bring each index into the cell: 0 to length - 1"),
-        11 => ("the record's value is zero", "leave the record out: what no record names is zero"),
         12 => (
             "an image of the record falls on its own index with another value",
             "correct the value, or leave the record out: by group and Friedel's rule it must be its own image",
@@ -97,7 +96,7 @@ fn words(number: u32) -> (&'static str, &'static str) {
         21 => ("a record came while not collecting", SHOULD_NOT_BE),
         22 => ("no map is held", SHOULD_NOT_BE),
         23 => ("no factors are held", SHOULD_NOT_BE),
-        24 => ("an earlier record gave this reflection or one of its images a value", "leave one of the two records out"),
+        24 => ("an earlier record names this reflection or one of its images", "leave one of the two records out"),
         25 => ("no call could have made this job", SHOULD_NOT_BE),
         34 => ("the window is not of 1 to 64 entries", "give W from 1 to 64"),
         _ => ("the number is not known to this tool", SHOULD_NOT_BE),

@@ -5,97 +5,70 @@ use mathlib.Core.Bool.{Bool, true, false, _&&_}
 use mathlib.Core.List.{List, [], _∷_, _++_, map, append-nil}
 use Prim.Native.Nat.{ℕ, zero, suc, _<_}
 use native.Mathlib.Omega.{arith}
-use lib.Dec.{ltb, eqb}
-use borrow.Author.Tests.{not-false, ltb-true, lt-ltb, eqb-true, eq-eqb}
+use lib.Dec.{ltb}
+use borrow.Author.Tests.{not-false, ltb-true, lt-ltb, eq-eqb}
 use Rattle.algebra.specs.ring.Ring.{gauss, residues}
-use Rattle.algebra.specs.cells.Cell.{J, Inside, Sym, full, factorActs}
-use Rattle.algebra.specs.orbits.Orbit.{Mem, first as first-of, later, Acts, recordAll}
-use Rattle.algebra.specs.orbits.OrbitLaws.{Fit, Accepted}
-use Rattle.algebra.proofs.ring.Members.{none, mem-cons}
-use Rattle.numbers.specs.Value.{Value, field, conj, value, valueOf}
+use Rattle.algebra.specs.cells.Cell.{J, Inside, full, factorActs}
+use Rattle.algebra.specs.orbits.Orbit.{Mem, first as first-of, later, recordAll}
+use Rattle.algebra.specs.orbits.OrbitLaws.{Fit, Accepted, Sound}
+use Rattle.algebra.proofs.ring.Members.{none}
+use Rattle.algebra.proofs.orbits.OrbitLists.{sound-accepted}
+use Rattle.algebra.proofs.cells.CellGroup.{factor-action, closed}
+use Rattle.numbers.proofs.Values.{field-ring, field-star}
+use Rattle.numbers.specs.Value.{Value, value}
 use Rattle.refusals.specs.Refusals.{first, accepted}
 use Rattle.refusals.proofs.Tests.{both, passed, not-t, pass, none as no-test}
 use Rattle.cell.specs.Consistency.{sameValue, recordIn}
 use Rattle.cell.proofs.Tests.{true-iff}
 use Rattle.cell.proofs.Reading.{same-iff}
-use Rattle.cell.proofs.Consistency.{zero-pair}
 use Rattle.cell.proofs.Records.{agrees-iff}
 use Rattle.job.specs.declared.Job.{Job}
 use Rattle.job.specs.declared.Reflection.{Reflection}
 use Rattle.job.specs.Job.{collecting, factorsHeld, mapHeld, p, index, done, refused, openTests}
 use Rattle.file_format.specs.declared.FileRecord.{FileRecord}
-use Rattle.factor_file.specs.File.{indexOf, headerIn, recordsIn, shapeTests}
-use Rattle.model.specs.Model.{Model, group, half, factorOf, Call, recording, synthesis, analysis, readPoint, readFactor, modelTests, modelNext, modelSaid, modelAfter, inState, begun, notBegun, beginningTests, openingModel, modelOpen, modelFile, zeroModel, recordingOf, modelFeed}
+use Rattle.factor_file.specs.File.{indexOf, headerIn, recordsIn, shapeTests, Judgement, taken, refusedAt, judged}
+use Rattle.model.specs.Model.{Model, group, half, factorOf, Call, recording, synthesis, analysis, readPoint, readFactor, modelTests, modelNext, modelSaid, modelAfter, inState, begun, notBegun, beginningTests, openingModel, modelOpen, modelFile, zeroModel, recordingOf, modelRecorded, modelFeed}
 use Rattle.demands.specs.Demands.{Start, opening, reading, startHeader, startKind, startVolume, startRecords, firstModel, run, modelAnswers, modelEnd, acceptedRecord, acceptedRecords, Started, entry, FactorsImplied, allRecords}
 use Rattle.model.proofs.Sound.{LawfulModel, halves-positive, within-inside, inside-within}
 use Rattle.model.proofs.OneCall.{one-call}
 use Rattle.demands.proofs.Lists.{end-header}
+use Rattle.demands.proofs.Judged.{actsOn, DifferentIn, BelowPrime, judged-different, different-judged}
 use Rattle.demands.proofs.Openings.{opening-sound}
 use Rattle.demands.proofs.Starts.{opened-passes, started-sound, started-runs}
 
 -- ---- one record: the model's tests ask what an accepted record is
 
--- the operations on the factors of a model
-abbrev pub actsOn : J → Acts Sym J (Value 1)
-actsOn a = factorActs (field 1) (conj 1) a
-
 abbrev FitsIn : Model → J → Value 1 → Type 0
 FitsIn m j x = Fit (actsOn (half m)) (Inside (half m)) (full (group m)) j x (factorOf m)
 
-zero-value : (x y : ℕ) → x < p → y < p → value 1 x y ≡ field 1 .zer → (eqb x 0 && eqb y 0) ≡ true
-unfolding valueOf
-zero-value x y lx ly e =
-    let z = zero-pair 1 {v = record { re = x; im = y }} (record { re = lx; im = ly }) .0 e in
-    let u = eq-eqb x 0 (z .0) in
-    let v = eq-eqb y 0 (z .1) in
-    λ i. u i && v i
-
-record-fits : (m : Model) → LawfulModel m → (k : Reflection) (x y : ℕ) → 0 ≡ first (modelTests m (recording k x y)) → ((x < p) × (y < p)) × FitsIn m (index k) (value 1 x y)
+pub record-fits : (m : Model) → LawfulModel m → (k : Reflection) (x y : ℕ) → 0 ≡ first (modelTests m (recording k x y)) → ((x < p) × (y < p)) × FitsIn m (index k) (value 1 x y)
 unfolding factorActs gauss residues
 record-fits m sound k x y e =
     let t = passed (modelTests m (recording k x y)) tt e in
-    let b = both (ltb x p) (ltb y p) (not-false _ (t .1 .1 .0)) in
-    let lx = ltb-true x p (b .0) in
-    let ly = ltb-true y p (b .1) in (
-      (lx, ly),
+    let b = both (ltb x p) (ltb y p) (not-false _ (t .1 .1 .0)) in (
+      (ltb-true x p (b .0), ltb-true y p (b .1)),
       (
         within-inside m sound (index k) (not-false _ (t .1 .0)),
-        λ z. true-not-false (sym (zero-value x y lx ly z) ∙ t .1 .1 .1 .0),
-        agrees-iff (group m) (half m) (halves-positive m sound) 1 (index k) (value 1 x y) .0 (not-false _ (t .1 .1 .1 .1 .0)),
-        same-iff 1 (factorOf m (index k)) (value 1 0 0) .0 (true-iff (sameValue (factorOf m (index k)) (value 1 0 0)) .0 (not-false _ (t .1 .1 .1 .1 .1 .0))),
+        agrees-iff (group m) (half m) (halves-positive m sound) 1 (index k) (value 1 x y) .0 (not-false _ (t .1 .1 .1 .0)),
+        same-iff 1 (factorOf m (index k)) (value 1 0 0) .0 (true-iff (sameValue (factorOf m (index k)) (value 1 0 0)) .0 (not-false _ (t .1 .1 .1 .1 .0))),
       ),
     )
-  where
-    true-not-false : true ≡ false → ⊥
-    true-not-false q = let z : _≡_ {A = ℕ} 0 1 = cc in omega arith
 
-fits-passes : (m : Model) → LawfulModel m → m .state ≡ collecting → (k : Reflection) (x y : ℕ) → (x < p) × (y < p) → FitsIn m (index k) (value 1 x y) → 0 ≡ first (modelTests m (recording k x y))
+both-below : (x y : ℕ) → (x < p) × (y < p) → (ltb x p && ltb y p) ≡ true
+both-below x y l =
+    let u = lt-ltb x p (l .0) in
+    let v = lt-ltb y p (l .1) in
+    λ i. u i && v i
+
+pub fits-passes : (m : Model) → LawfulModel m → m .state ≡ collecting → (k : Reflection) (x y : ℕ) → (x < p) × (y < p) → FitsIn m (index k) (value 1 x y) → 0 ≡ first (modelTests m (recording k x y))
 unfolding factorActs gauss residues
 fits-passes m sound s k x y l f =
     pass 21 _ (not-t _ (eq-eqb (m .state) collecting s))
     (pass 10 _ (not-t _ (inside-within m sound (index k) (f .0)))
-    (pass 7 _ (not-t _ below)
-    (pass 11 _ (not-true-false _ (λ e. f .1 (zero-at e)))
-    (pass 12 _ (not-t _ (agrees-iff (group m) (half m) (halves-positive m sound) 1 (index k) (value 1 x y) .1 (f .2)))
-    (pass 24 _ (not-t _ (true-iff (sameValue (factorOf m (index k)) (value 1 0 0)) .1 (same-iff 1 (factorOf m (index k)) (value 1 0 0) .1 (f .3))))
-    no-test)))))
-  where
-    below : (ltb x p && ltb y p) ≡ true
-    below =
-        let u = lt-ltb x p (l .0) in
-        let v = lt-ltb y p (l .1) in
-        λ i. u i && v i
-
-    zero-at : (eqb x 0 && eqb y 0) ≡ true → value 1 x y ≡ value 1 0 0
-    zero-at e =
-        let b = both (eqb x 0) (eqb y 0) e in
-        let u = eqb-true x 0 (b .0) in
-        let v = eqb-true y 0 (b .1) in
-        λ i. value 1 (u i) (v i)
-
-    not-true-false : (b : Bool) → (b ≡ true → ⊥) → b ≡ false
-    not-true-false true f = absurd (f refl)
-    not-true-false false f = refl
+    (pass 7 _ (not-t _ (both-below x y l))
+    (pass 12 _ (not-t _ (agrees-iff (group m) (half m) (halves-positive m sound) 1 (index k) (value 1 x y) .1 (f .1)))
+    (pass 24 _ (not-t _ (true-iff (sameValue (factorOf m (index k)) (value 1 0 0)) .1 (same-iff 1 (factorOf m (index k)) (value 1 0 0) .1 (f .2))))
+    no-test))))
 
 -- ---- a list of calls
 
@@ -130,53 +103,71 @@ list-records m sound (c ∷ l) = call-records m sound c (modelEnd (modelAfter m 
 abbrev pub calls : List FileRecord → List Call
 calls cs = map recordingOf cs
 
--- from m to m′ by feeding these records: each was accepted, as a call of a list
+-- from m to m′ by feeding these records: they are of different orbits, and each was accepted, as a call of a list
 pub record Fed (cs : List FileRecord) (m m′ : Model) : Type 0 where
   pub same-header : m′ .header ≡ m .header
   pub same-state : m′ .state ≡ m .state
-  pub below : (c : FileRecord) → Mem c cs → (c .a < p) × (c .b < p)
+  pub below : BelowPrime cs
+  pub different : DifferentIn m cs
   pub records : (l : List Call) → acceptedRecords (calls cs ++ l) (modelAnswers m (calls cs ++ l)) ≡ cs ++ acceptedRecords l (modelAnswers m′ l)
   pub ends : (l : List Call) → modelEnd m (calls cs ++ l) ≡ modelEnd m′ l
 
 not-fed : (m m′ : Model) → m ≡ m′ → Fed [] m m′
+unfolding Sound
 not-fed m m′ is = record {
   same-header = ap (λ m. m .header) (sym is);
   same-state = ap (λ m. m .state) (sym is);
   below = λ c i. none i;
+  different = tt;
   records = λ l. ap (λ m. acceptedRecords l (modelAnswers m l)) is;
   ends = λ l. ap (λ m. modelEnd m l) is;
 }
 
-fed : (cs : List FileRecord) (place : ℕ) (m m′ : Model) → LawfulModel m → modelFeed cs place m ≡ begun m′ → Fed cs m m′
-unfolding modelFeed modelAnswers modelEnd acceptedRecords modelSaid modelAfter
-fed [] place m m′ sound e = not-fed m m′ (cc)
-fed (c ∷ cs) place m m′ sound e = by (first (modelTests m (recordingOf c))) refl (one-call m sound (recordingOf c) .1) e (fed cs (suc place) (modelNext m (recordingOf c)) m′)
-  where
-    next : Model
-    next = modelNext m (recordingOf c)
-
-    by : (n : ℕ) → first (modelTests m (recordingOf c)) ≡ n → LawfulModel (accepted n next (λ n. m)) → accepted n (modelFeed cs (suc place) next) (λ n. notBegun n place) ≡ begun m′ → (LawfulModel next → modelFeed cs (suc place) next ≡ begun m′ → Fed cs next m′) → Fed (c ∷ cs) m m′
-    by zero q s e f = let r = f s e in
-        record {
-          same-header = r .same-header;
-          same-state = r .same-state;
-          below = mem-cons (λ c. (c .a < p) × (c .b < p)) (record-fits m sound (indexOf c) (c .a) (c .b) (sym q) .0) (r .below);
-          records = λ l. ap (λ n. acceptedRecord (recordingOf c) (accepted n done refused) (acceptedRecords (calls cs ++ l) (modelAnswers (accepted n next (λ n. m)) (calls cs ++ l)))) q ∙ ap (λ rs. c ∷ rs) (r .records l);
-          ends = λ l. ap (λ n. modelEnd (accepted n next (λ n. m)) (calls cs ++ l)) q ∙ r .ends l;
-        }
-    by (suc n) q s e f = let z : _≡_ {A = ℕ} 0 1 = cc in absurd (omega arith)
-
--- and records that are accepted one after another are fed
-pub accepted-fed : (cs : List FileRecord) (place : ℕ) (m : Model) → LawfulModel m → m .state ≡ collecting → ((c : FileRecord) → Mem c cs → (c .a < p) × (c .b < p)) →
-    Accepted (actsOn (half m)) (Inside (half m)) (full (group m)) (map entry cs) (factorOf m) →
-    modelFeed cs place m ≡ begun (record { header = m .header; state = m .state; F = λ h k l. recordAll (actsOn (half m)) (full (group m)) (map entry cs) (factorOf m) (h, k, l) })
-unfolding modelFeed Accepted recordAll recordIn modelAfter
-accepted-fed [] place m sound s small ok = refl
-accepted-fed (c ∷ cs) place m sound s small ok =
+-- records that are accepted one after another are accepted as calls, and leave what all of them record
+accepted-calls : (cs : List FileRecord) (m : Model) → LawfulModel m → m .state ≡ collecting → BelowPrime cs → DifferentIn m cs → Accepted (actsOn (half m)) (Inside (half m)) (full (group m)) (map entry cs) (factorOf m) → Fed cs m (modelRecorded cs m)
+unfolding modelRecorded modelAnswers modelEnd acceptedRecords modelSaid modelAfter Accepted Sound recordIn
+accepted-calls [] m sound s small different ok = not-fed m m refl
+accepted-calls (c ∷ cs) m sound s small different ok =
     let next = modelNext m (recordingOf c) in
-    let e : first (modelTests m (recordingOf c)) ≡ 0 = sym (fits-passes m sound s (indexOf c) (c .a) (c .b) (small c first-of) (ok .0)) in
-    ap (λ n. accepted n (modelFeed cs (suc place) next) (λ n. notBegun n place)) e
-    ∙ accepted-fed cs (suc place) next (subst (λ n. LawfulModel (accepted n next (λ n. m))) e (one-call m sound (recordingOf c) .1)) s (λ c i. small c (later i)) (ok .1)
+    let q : first (modelTests m (recordingOf c)) ≡ 0 = sym (fits-passes m sound s (indexOf c) (c .a) (c .b) (small c first-of) (ok .0)) in
+    let r = accepted-calls cs next (subst (λ n. LawfulModel (accepted n next (λ n. m))) q (one-call m sound (recordingOf c) .1)) s (λ c i. small c (later i)) (different .2) (ok .1) in
+    record {
+      same-header = r .same-header;
+      same-state = r .same-state;
+      below = small;
+      different = different;
+      records = λ l. ap (λ n. acceptedRecord (recordingOf c) (accepted n done refused) (acceptedRecords (calls cs ++ l) (modelAnswers (accepted n next (λ n. m)) (calls cs ++ l)))) q ∙ ap (λ rs. c ∷ rs) (r .records l);
+      ends = λ l. ap (λ n. modelEnd (accepted n next (λ n. m)) (calls cs ++ l)) q ∙ r .ends l;
+    }
+
+-- on a cell of zeros all are accepted
+pub different-accepted : (cs : List FileRecord) (m : Model) → ((q : J) → factorOf m q ≡ value 1 0 0) → DifferentIn m cs → Accepted (actsOn (half m)) (Inside (half m)) (full (group m)) (map entry cs) (factorOf m)
+unfolding factorActs gauss residues
+different-accepted cs m zeros different = sound-accepted (factor-action (field-ring 1) (field-star 1) (half m)) (full (group m)) (closed (field-ring 1) (field-star 1) (half m) (group m)) (map entry cs) (factorOf m) different (λ r i. zeros (r .0))
+
+-- what a file's records make of a cell of zeros
+fed : (cs : List FileRecord) (m m′ : Model) → LawfulModel m → m .state ≡ collecting → ((q : J) → factorOf m q ≡ value 1 0 0) → modelFeed cs m ≡ begun m′ → Fed cs m m′
+unfolding modelFeed
+fed cs m m′ sound s zeros e = by (judged (m .header .group) (m .header .lengths) [] cs) refl e
+  where
+    by : (b : Judgement) → judged (m .header .group) (m .header .lengths) [] cs ≡ b → elim b [ taken ↦ begun (modelRecorded cs m) | refusedAt n place ↦ notBegun n place ] ≡ begun m′ → Fed cs m m′
+    by taken q e =
+        let is : modelRecorded cs m ≡ m′ = cc in
+        let j = judged-different m sound [] cs q in
+        subst (Fed cs m) is (accepted-calls cs m sound s (j .below) (j .different) (different-accepted cs m zeros (j .different)))
+    by (refusedAt n place) q e = let z : _≡_ {A = ℕ} 0 1 = cc in absurd (omega arith)
+
+-- F after all of them
+recorded-all : (cs : List FileRecord) (m : Model) → modelRecorded cs m ≡ record { header = m .header; state = m .state; F = λ h k l. recordAll (actsOn (half m)) (full (group m)) (map entry cs) (factorOf m) (h, k, l) }
+unfolding modelRecorded recordAll recordIn
+recorded-all [] m = refl
+recorded-all (c ∷ cs) m = recorded-all cs (modelNext m (recordingOf c))
+
+-- and records of different orbits are fed
+pub different-fed : (cs : List FileRecord) (m : Model) → LawfulModel m → BelowPrime cs → DifferentIn m cs →
+    modelFeed cs m ≡ begun (record { header = m .header; state = m .state; F = λ h k l. recordAll (actsOn (half m)) (full (group m)) (map entry cs) (factorOf m) (h, k, l) })
+unfolding modelFeed
+different-fed cs m sound small different = ap (λ (b : Judgement). elim b [ taken ↦ begun (modelRecorded cs m) | refusedAt n place ↦ notBegun n place ]) (different-judged m sound [] cs small different (λ i j. none j)) ∙ ap begun (recorded-all cs m)
 
 -- ---- from an accepted start on
 
@@ -196,8 +187,8 @@ start-fed (opening h kind w) j v m started = by (first (beginningTests h kind)) 
     by (suc n) e = let z : _≡_ {A = ℕ} 0 1 = cc in absurd (omega arith)
 start-fed (reading file w) j v m started = by (first (shapeTests file)) (first (beginningTests (headerIn file) 0)) (started .begins)
   where
-    by : (n k : ℕ) → accepted n (accepted k (modelFeed (recordsIn file) 0 (zeroModel (headerIn file))) (λ n. notBegun n 0)) (λ n. notBegun n 0) ≡ begun m → Fed (recordsIn file) (zeroModel (headerIn file)) m
-    by zero zero e = fed (recordsIn file) 0 (zeroModel (headerIn file)) m (first-sound (reading file w) j v m started) e
+    by : (n k : ℕ) → accepted n (accepted k (modelFeed (recordsIn file) (zeroModel (headerIn file))) (λ n. notBegun n 0)) (λ n. notBegun n 0) ≡ begun m → Fed (recordsIn file) (zeroModel (headerIn file)) m
+    by zero zero e = fed (recordsIn file) (zeroModel (headerIn file)) m (first-sound (reading file w) j v m started) refl (λ q. refl) e
     by zero (suc k) e = let z : _≡_ {A = ℕ} 0 1 = cc in absurd (omega arith)
     by (suc n) k e = let z : _≡_ {A = ℕ} 0 1 = cc in absurd (omega arith)
 

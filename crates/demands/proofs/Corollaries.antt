@@ -32,12 +32,12 @@ use Rattle.demands.proofs.Lists.{every-list, end-sound, end-header}
 -- ---- refusals by their number
 
 -- a test of another number was not the first
-not-this : (b : Bool) (k n : ℕ) (ts : List Test) → (k ≡ n → ⊥) → first (b ⇒ k ∷ ts) ≡ n → first ts ≡ n
+pub not-this : (b : Bool) (k n : ℕ) (ts : List Test) → (k ≡ n → ⊥) → first (b ⇒ k ∷ ts) ≡ n → first ts ≡ n
 unfolding first
 not-this true k n ts f e = absurd (f e)
 not-this false k n ts f e = e
 
-refused-number : (n k : ℕ) → accepted n done refused ≡ refused k → n ≡ k
+pub refused-number : (n k : ℕ) → accepted n done refused ≡ refused k → n ≡ k
 refused-number zero k e = let z : _≡_ {A = ℕ} 0 1 = cc in absurd (omega arith)
 refused-number (suc n) k e = cc
 
@@ -51,7 +51,7 @@ module _ (m : Model) (sound : LawfulModel m) where
   point-said : (x : GridPoint) → pointStep (modelJob m) x (modelVolume m) .answer ≡ modelSaid m (readPoint x)
   point-said x = ap (λ (o : Outcome). o .answer) (one-call m sound (readPoint x) .0)
 
-  record-said : (k : Reflection) (x y : ℕ) → recordStep (modelJob m) k x y (modelVolume m) .answer ≡ modelSaid m (recording k x y)
+  pub record-said : (k : Reflection) (x y : ℕ) → recordStep (modelJob m) k x y (modelVolume m) .answer ≡ modelSaid m (recording k x y)
   record-said k x y = ap (λ (o : Outcome). o .answer) (one-call m sound (recording k x y) .0)
 
   pub point-is-sum : m .state ≡ mapHeld → (x : GridPoint) → within (m .header .lengths) (position x) ≡ true →
@@ -77,13 +77,13 @@ module _ (m : Model) (sound : LawfulModel m) where
   -- 24 is the last test of a record
   occupied : (k : Reflection) (x y : ℕ) → first (modelTests m (recording k x y)) ≡ 24 → factorOf m (index k) ≡ value 1 0 0 → ⊥
   occupied k x y e z =
-      let last = not-this _ 12 24 _ (λ q. omega arith) (not-this _ 11 24 _ (λ q. omega arith) (not-this _ 7 24 _ (λ q. omega arith) (not-this _ 10 24 _ (λ q. omega arith) (not-this _ 21 24 _ (λ q. omega arith) e)))) in
+      let last = not-this _ 12 24 _ (λ q. omega arith) (not-this _ 7 24 _ (λ q. omega arith) (not-this _ 10 24 _ (λ q. omega arith) (not-this _ 21 24 _ (λ q. omega arith) e))) in
       let same = true-iff (sameValue (factorOf m (index k)) (value 1 0 0)) .1 (same-iff 1 _ _ .1 z) in
       let n : _≡_ {A = ℕ} 0 24 = pass 24 [] (not-t _ same) none ∙ last in
       omega arith
 
-  vacant : (k : Reflection) (x y : ℕ) → 0 ≡ first (modelTests m (recording k x y)) → factorOf m (index k) ≡ value 1 0 0
-  vacant k x y e = same-iff 1 _ _ .0 (true-iff (sameValue (factorOf m (index k)) (value 1 0 0)) .0 (not-false _ (passed (modelTests m (recording k x y)) tt e .1 .1 .1 .1 .1 .0)))
+  pub vacant : (k : Reflection) (x y : ℕ) → 0 ≡ first (modelTests m (recording k x y)) → factorOf m (index k) ≡ value 1 0 0
+  vacant k x y e = same-iff 1 _ _ .0 (true-iff (sameValue (factorOf m (index k)) (value 1 0 0)) .0 (not-false _ (passed (modelTests m (recording k x y)) tt e .1 .1 .1 .1 .0)))
 
   occupied-by : (k : Reflection) (x y : ℕ) → let a = recordStep (modelJob m) k x y (modelVolume m) .answer in
       ((n : ℕ) → a ≡ refused n → n ≡ 24) → ((a ≡ refused 24) ↔ (factorOf m (index k) ≡ value 1 0 0 → ⊥))

@@ -3,8 +3,11 @@ pub mod Lists
 pub mod Corollaries
 pub mod Restoring
 pub mod Openings
+pub mod Judged
 pub mod Starts
 pub mod Reachable
 pub mod Inconsistent
 pub mod AcceptedRecords
 pub mod Order
+pub mod FileRecords
+pub mod LaterValues

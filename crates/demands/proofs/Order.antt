@@ -1,5 +1,5 @@
--- The order of records. Records that were accepted are accepted in any other order and leave the same F: so a list's packed factors, its map and a file's outcome do not
--- depend on it. Of the header the model uses group and lengths alone, so starts that are alike answer every list alike.
+-- The order of records. Two orders in which every record is accepted leave the same F, and a file's records, which are of different orbits, are accepted in every order:
+-- so a list's packed factors, its map and a file's outcome do not depend on it. Of the header the model uses group and lengths alone, so starts that are alike answer every list alike.
 use mathlib.Core.Path.{_≡_, refl, sym, _∙_, ap, subst, subst₂}
 use mathlib.Core.Logic.{_⊎_, inl, inr}
 use mathlib.Core.Bool.{false, not, cond}
@@ -9,12 +9,16 @@ use native.Mathlib.Omega.{arith}
 use lib.ListN.{length}
 use lib.Dec.{leb, eqb}
 use borrow.Author.Tests.{eq-eqb, ne-eqb}
-use Rattle.algebra.specs.cells.Cell.{full}
-use Rattle.algebra.specs.orbits.Orbit.{Mem, first as first-of, later, Perm, p-nil, p-skip, p-swap, p-trans}
-use Rattle.algebra.proofs.orbits.Orbits.{reorder}
+use Rattle.algebra.specs.cells.Cell.{full, factorActs}
+use Rattle.algebra.specs.orbits.Orbit.{Perm, recordAll}
+use Rattle.algebra.proofs.ring.Members.{perm-map, perm-mem, perm-sym}
+use Rattle.algebra.proofs.orbits.OrbitLists.{sound-perm}
+use Rattle.algebra.proofs.cells.CellTests as CellTests
 use Rattle.algebra.proofs.cells.CellGroup.{factor-action, closed}
 use Rattle.numbers.proofs.Values.{field-ring, field-star}
 use Rattle.refusals.specs.Refusals.{_⇒_, first, accepted}
+use Rattle.cell.specs.Consistency.{sameValue}
+use Rattle.cell.proofs.Reading.{same-iff}
 use Rattle.cell.specs.Volume.{groupOf, packFactors, mapIn, packMap, mapOf, factorsOf}
 use Rattle.job.specs.declared.Job.{Job}
 use Rattle.job.specs.Job.{Header, halfLengths, needed, axisTests, factorsHeld, mapHeld, opened, openTests}
@@ -24,32 +28,19 @@ use Rattle.file_format.proofs.layout.Heads.{same-header}
 use Rattle.factor_file.specs.File.{countAt, headerIn, recordsIn, shapeTests, fileStep}
 use Rattle.model.specs.Model.{Model, group, half, factorOf, Call, recording, synthesis, analysis, readPoint, readFactor, modelTests, modelNext, modelSaid, modelAfter, inState, factorVolume, mapVolume, modelVolume, begun, zeroModel, mapModel, modelFeed}
 use Rattle.demands.specs.Demands.{Start, reading, startHeader, startKind, startVolume, startRecords, firstModel, run, modelAnswers, modelEnd, acceptedRecords, Started, entry, Alike, allRecords, OrderFree, AlikeStarts, FileOrderFree}
+use Rattle.model.proofs.Sound.{LawfulModel, halves-positive}
 use Rattle.demands.proofs.Openings.{kind-is}
+use Rattle.demands.proofs.Judged.{actsOn}
 use Rattle.demands.proofs.Starts.{file-shape, accepted-start, file-gives, started-runs}
-use Rattle.demands.proofs.AcceptedRecords.{Records, accepted-fed, start-passes, first-sound, start-fed, start-records, started-records, started-header}
+use Rattle.demands.proofs.AcceptedRecords.{Records, different-accepted, different-fed, start-passes, first-sound, start-fed, start-records, started-records, started-header}
 
--- ---- permutations
-
-perm-map : {A B : Type 0} (f : A → B) {l k : List A} → Perm l k → Perm (map f l) (map f k)
-perm-map f p-nil = p-nil
-perm-map f (p-skip r) = p-skip (perm-map f r)
-perm-map f p-swap = p-swap
-perm-map f (p-trans r q) = p-trans (perm-map f r) (perm-map f q)
-
-perm-mem : {A : Type 0} {l k : List A} → Perm l k → (x : A) → Mem x k → Mem x l
-perm-mem p-nil x i = i
-perm-mem (p-skip r) x first-of = first-of
-perm-mem (p-skip r) x (later i) = later (perm-mem r x i)
-perm-mem p-swap x first-of = later first-of
-perm-mem p-swap x (later first-of) = first-of
-perm-mem p-swap x (later (later i)) = later (later i)
-perm-mem (p-trans r q) x i = perm-mem r x (perm-mem q x i)
-
--- the order is free
-records-order : (m m′ : Model) {cs cs′ : List FileRecord} → Perm cs cs′ → Records m m′ cs → Records m m′ cs′
-records-order m m′ perm r =
-    let o = reorder (factor-action (field-ring 1) (field-star 1) (half m)) (full (group m)) (closed (field-ring 1) (field-star 1) (half m) (group m)) (perm-map entry perm) (factorOf m) (r .0) in
-    (o .0, r .1 ∙ o .1)
+-- two orders in which every record is accepted leave the same F
+records-order : (m m₁ m₂ : Model) → LawfulModel m → {cs cs′ : List FileRecord} → Perm cs cs′ → Records m m₁ cs → Records m m₂ cs′ → factorOf m₁ ≡ factorOf m₂
+unfolding factorActs
+records-order m m₁ m₂ sound perm r r′ =
+    r .1
+    ∙ CellTests.records-order (field-ring 1) (field-star 1) sameValue (same-iff 1) (group m) (half m) (halves-positive m sound) (perm-map entry perm) (factorOf m) (sound .lawful) (r .0) (r′ .0)
+    ∙ sym (r′ .1)
 
 -- ---- what the model uses
 
@@ -141,7 +132,7 @@ module _ (s s′ : Start) (j j′ : Job) (v v′ : List ℕ) (m m′ : Model) (s
   ends-same : (l l′ : List Call) → Perm (allRecords s j v l) (allRecords s′ j′ v′ l′) → SameCell (modelEnd m l) (modelEnd m′ l′)
   ends-same l l′ perm =
       let r : Records (firstModel s′) (modelEnd m l) (allRecords s j v l) = subst (λ b. Records b (modelEnd m l) (allRecords s j v l)) same-first (started-records s j v m started l) in
-      let e : factorOf (modelEnd m l) ≡ factorOf (modelEnd m′ l′) = records-order (firstModel s′) (modelEnd m l) perm r .1 ∙ sym (started-records s′ j′ v′ m′ started′ l′ .1) in
+      let e = records-order (firstModel s′) (modelEnd m l) (modelEnd m′ l′) (first-sound s′ j′ v′ m′ started′) perm r (started-records s′ j′ v′ m′ started′ l′) in
       let eh = started-header s j v m started l in
       let eh′ = sym (started-header s′ j′ v′ m′ started′ l′) in
       record {
@@ -203,10 +194,14 @@ records-moved file file′ v v′ j w eh shape perm long e =
     let started : Started s j w m = record { gives = e; begins = begins } in
     let empty = zeroModel (headerIn file) in
     let taken = start-fed s j w m started in
-    let r = records-order empty m perm (start-records s j w m started) in
-    let f = accepted-fed (recordsIn file′) 0 empty (first-sound s j w m started) refl (λ c i. taken .below c (perm-mem perm c i)) (r .0) in
-    let is : _ ≡ m = λ i. record { header = sym (taken .same-header) i; state = sym (taken .same-state) i; F = λ h k l. sym (r .1) i (h, k, l) } in
-    file-gives file′ v′ shape m (subst (λ h. 0 ≡ first (openTests h 0 v′)) eh (start-passes s j w m started ∙ same-tests (headerIn file) v v′ long)) (subst (λ h. modelFeed (recordsIn file′) 0 (zeroModel h) ≡ begun m) eh (f ∙ ap begun is))
+    let sound = first-sound s j w m started in
+    let records = recordsIn file′ in
+    let different = sound-perm (factor-action (field-ring 1) (field-star 1) (half empty)) (full (group empty)) (closed (field-ring 1) (field-star 1) (half empty) (group empty)) (perm-map entry perm) (taken .different) in
+    let left : Model = record { header = empty .header; state = empty .state; F = λ h k l. recordAll (actsOn (half empty)) (full (group empty)) (map entry records) (factorOf empty) (h, k, l) } in
+    let f = different-fed records empty sound (λ c i. taken .below c (perm-mem perm c i)) different in
+    let same = records-order empty left m sound (perm-sym perm) (different-accepted records empty (λ q. refl) different, refl) (start-records s j w m started) in
+    let is : left ≡ m = λ i. record { header = sym (taken .same-header) i; state = sym (taken .same-state) i; F = λ h k l. same i (h, k, l) } in
+    file-gives file′ v′ shape m (subst (λ h. 0 ≡ first (openTests h 0 v′)) eh (start-passes s j w m started ∙ same-tests (headerIn file) v v′ long)) (subst (λ h. modelFeed (recordsIn file′) (zeroModel h) ≡ begun m) eh (f ∙ ap begun is))
     ∙ λ i. record { answer = opened (sym ej i); volume = sym ew i }
 
 -- the shape and the header stand before the first record

@@ -5,16 +5,21 @@ use mathlib.Core.List.{List, [], _∷_}
 use Prim.Native.Nat.{ℕ, zero, suc}
 use native.Mathlib.Omega.{arith}
 use lib.ListN.{length, replicate}
+use lib.Dec.{eqb}
+use borrow.Author.Tests.{not-false}
+use Rattle.algebra.specs.cells.Cell.{J}
+use Rattle.numbers.specs.Value.{value}
+use Rattle.cell.specs.Consistency.{recordOn}
 use Rattle.refusals.specs.Refusals.{first, accepted}
+use Rattle.refusals.proofs.Tests.{passed}
 use Rattle.job.specs.declared.Job.{Job}
-use Rattle.job.specs.Job.{Header, openTests, Opening, opened, notOpened, OpenOutcome, done, refused}
+use Rattle.job.specs.Job.{Header, collecting, mapHeld, openTests, Opening, opened, notOpened, OpenOutcome}
 use Rattle.file_format.specs.declared.FileRecord.{FileRecord}
-use Rattle.factor_file.specs.File.{headerIn, recordsIn, shapeTests, indexOf, feed, fileStep}
-use Rattle.factor_file.proofs.Feeding.{said-number, record-number, keeps-job}
-use Rattle.model.specs.Model.{Model, Call, modelTests, modelNext, modelSaid, modelAfter, modelJob, modelVolume, zeroModel, beginningTests, Beginning, begun, notBegun, openingModel, modelOpen, recordingOf, modelFeed, modelFile}
+use Rattle.factor_file.specs.File.{headerIn, recordsIn, shapeTests, indexIn, judgeTests, Judgement, taken, refusedAt, judged, recordAllOn, feed, fileStep}
+use Rattle.factor_file.proofs.Judging.{taken-first}
+use Rattle.model.specs.Model.{Model, group, half, Call, modelNext, modelJob, factorVolume, modelVolume, zeroModel, beginningTests, Beginning, begun, notBegun, openingModel, modelOpen, recordingOf, modelRecorded, modelFeed, modelFile}
 use Rattle.demands.specs.Demands.{Start, opening, reading, start, modelStart, startHeader, startKind, startVolume, run, modelRan, Started, EveryList, RefusedStarts, Faultless, FaultlessStarts, TripleSums, ImagesAlike, OccupiedExactly}
-use Rattle.model.proofs.Sound.{LawfulModel}
-use Rattle.model.proofs.OneCall.{one-call}
+use Rattle.model.proofs.Sound.{LawfulModel, holds-factors, within-inside, lawful-recorded, recorded-packed}
 use Rattle.demands.proofs.Corollaries
 use Rattle.demands.proofs.Openings.{given, opening-sound, opening-gives, faultOf, Verdict, passes, fails, faulty, verdict, open-refused, no-fault, faultless}
 
@@ -27,38 +32,52 @@ Agrees o (notBegun n place) = o .answer ≡ notOpened n place
 
 -- what becomes of a file once it is opened
 abbrev pub afterOpening : List FileRecord → OpenOutcome → OpenOutcome
-afterOpening cs o = elim (o .answer) [ opened j ↦ feed cs 0 j (o .volume) | notOpened n place ↦ o ]
+afterOpening cs o = elim (o .answer) [ opened j ↦ feed cs j (o .volume) | notOpened n place ↦ o ]
 
-feed-agrees : (cs : List FileRecord) (place : ℕ) (m : Model) → LawfulModel m → Agrees (feed cs place (modelJob m) (modelVolume m)) (modelFeed cs place m)
-unfolding feed modelFeed modelSaid modelAfter
-feed-agrees [] place m s = (refl, s)
-feed-agrees (c ∷ cs) place m s =
-    let k = first (modelTests m (recordingOf c)) in
-    let o = one-call m s (recordingOf c) in
-    let number = sym (record-number (modelJob m) (indexOf c) (c .a) (c .b) (modelVolume m)) ∙ ap (λ o. said-number (o .answer)) (o .0) ∙ accepted-number k in
-    let job = sym (keeps-job (modelJob m) (indexOf c) (c .a) (c .b) (modelVolume m)) ∙ ap (λ o. o .job) (o .0) in
-    by _ k _ number job (ap (λ o. o .volume) (o .0)) (o .1) (feed-agrees cs (suc place) (modelNext m (recordingOf c)))
+-- what all records leave, on the volume and in the model
+record AllRecorded (cs : List FileRecord) (m : Model) : Type 0 where
+  pub volume : recordAllOn (group m) (half m) cs (modelVolume m) ≡ modelVolume (modelRecorded cs m)
+  pub job : modelJob (modelRecorded cs m) ≡ modelJob m
+  pub lawful : LawfulModel (modelRecorded cs m)
+
+-- while collecting the packed factors stand in the volume
+collected : (m : Model) → m .state ≡ collecting → modelVolume m ≡ factorVolume m
+collected m c = holds-factors m (ap (λ k. eqb k mapHeld) c)
+
+all-recorded : (before : List J) (cs : List FileRecord) (m : Model) → LawfulModel m → m .state ≡ collecting → judged (m .header .group) (m .header .lengths) before cs ≡ taken → AllRecorded cs m
+unfolding modelRecorded recordAllOn
+all-recorded before [] m s c e = record { volume = refl; job = refl; lawful = s }
+all-recorded before (d ∷ cs) m s c e =
+    let q = taken-first (m .header .group) (m .header .lengths) before d cs e in
+    let t = passed (judgeTests (m .header .group) (m .header .lengths) before (indexIn d) (d .a) (d .b)) tt (q .0) in
+    let x = value 1 (d .a) (d .b) in
+    let inside = within-inside m s (indexIn d) (not-false _ (t .0)) in
+    let agrees = not-false _ (t .1 .1 .0) in
+    let next = modelNext m (recordingOf d) in
+    let r = all-recorded (indexIn d ∷ before) cs next (record { valid = s .valid; lawful = lawful-recorded m s (indexIn d) x inside agrees }) c (q .1) in
+    record {
+      volume = ap (recordAllOn (group m) (half m) cs) (ap (recordOn (group m) (half m) 1 (indexIn d) x) (collected m c) ∙ recorded-packed m s (indexIn d) x inside agrees ∙ sym (collected next c)) ∙ r .volume;
+      job = r .job;
+      lawful = r .lawful;
+    }
+
+feed-agrees : (cs : List FileRecord) (m : Model) → LawfulModel m → m .state ≡ collecting → Agrees (feed cs (modelJob m) (modelVolume m)) (modelFeed cs m)
+unfolding feed modelFeed
+feed-agrees cs m s c = by (judged (m .header .group) (m .header .lengths) [] cs) refl
   where
-    next : Model
-    next = modelNext m (recordingOf c)
+    by : (b : Judgement) → judged (m .header .group) (m .header .lengths) [] cs ≡ b →
+        Agrees (elim b [ taken ↦ record { answer = opened (modelJob m); volume = recordAllOn (group m) (half m) cs (modelVolume m) } | refusedAt n place ↦ record { answer = notOpened n place; volume = replicate (length (modelVolume m)) 0 } ])
+        (elim b [ taken ↦ begun (modelRecorded cs m) | refusedAt n place ↦ notBegun n place ])
+    by taken q = let r = all-recorded [] cs m s c q in (λ i. record { answer = opened (sym (r .job) i); volume = r .volume i }, r .lawful)
+    by (refusedAt n place) q = refl
 
-    accepted-number : (k : ℕ) → said-number (accepted k done refused) ≡ k
-    accepted-number zero = refl
-    accepted-number (suc k) = refl
-
-    by : (n k : ℕ) (w : List ℕ) → n ≡ k → modelJob m ≡ modelJob (accepted k next (λ n. m)) → w ≡ modelVolume (accepted k next (λ n. m)) → LawfulModel (accepted k next (λ n. m)) →
-        (LawfulModel next → Agrees (feed cs (suc place) (modelJob next) (modelVolume next)) (modelFeed cs (suc place) next)) →
-        Agrees (accepted n (feed cs (suc place) (modelJob m) w) (λ n. record { answer = notOpened n place; volume = replicate (length (modelVolume m)) 0 })) (accepted k (modelFeed cs (suc place) next) (λ n. notBegun n place))
-    by n zero w e ej ev s f = rw (e, ej, ev) (f s)
-    by n (suc k) w e ej ev s f = rw e refl
-
-feed-gives : (cs : List FileRecord) (place : ℕ) (m m′ : Model) → LawfulModel m → modelFeed cs place m ≡ begun m′ → feed cs place (modelJob m) (modelVolume m) ≡ given m′
-feed-gives cs place m m′ s e = let a : Agrees _ (begun m′) = subst (Agrees _) e (feed-agrees cs place m s) in a .0
+feed-gives : (cs : List FileRecord) (m m′ : Model) → LawfulModel m → m .state ≡ collecting → modelFeed cs m ≡ begun m′ → feed cs (modelJob m) (modelVolume m) ≡ given m′
+feed-gives cs m m′ s c e = let a : Agrees _ (begun m′) = subst (Agrees _) e (feed-agrees cs m s c) in a .0
 
 -- ---- files
 
 module _ (file v : List ℕ) (shape : first (shapeTests file) ≡ 0) where
-  file-opened : 0 ≡ first (openTests (headerIn file) 0 v) → fileStep file v ≡ feed (recordsIn file) 0 (modelJob (zeroModel (headerIn file))) (modelVolume (zeroModel (headerIn file)))
+  pub file-opened : 0 ≡ first (openTests (headerIn file) 0 v) → fileStep file v ≡ feed (recordsIn file) (modelJob (zeroModel (headerIn file))) (modelVolume (zeroModel (headerIn file)))
   unfolding fileStep
   file-opened e = rw shape (ap (afterOpening (recordsIn file)) (opening-gives (headerIn file) 0 v e))
 
@@ -67,8 +86,8 @@ module _ (file v : List ℕ) (shape : first (shapeTests file) ≡ 0) where
   file-refused e = rw shape (ap (afterOpening (recordsIn file)) (open-refused (headerIn file) 0 v e))
 
   -- a file whose records the model takes
-  pub file-gives : (m : Model) → 0 ≡ first (openTests (headerIn file) 0 v) → modelFeed (recordsIn file) 0 (zeroModel (headerIn file)) ≡ begun m → fileStep file v ≡ given m
-  file-gives m none e = file-opened none ∙ feed-gives (recordsIn file) 0 (zeroModel (headerIn file)) m (opening-sound (headerIn file) 0 v none) e
+  pub file-gives : (m : Model) → 0 ≡ first (openTests (headerIn file) 0 v) → modelFeed (recordsIn file) (zeroModel (headerIn file)) ≡ begun m → fileStep file v ≡ given m
+  file-gives m none e = file-opened none ∙ feed-gives (recordsIn file) (zeroModel (headerIn file)) m (opening-sound (headerIn file) 0 v none) refl e
 
 opened-not : {o : Opening} {j : Job} {n place : ℕ} → o ≡ opened j → o ≡ notOpened n place → ⊥
 opened-not q r = let z : _≡_ {A = ℕ} 0 1 = cc in omega arith
@@ -103,12 +122,12 @@ course (reading file v) = shaped (first (shapeTests file)) refl
     h : Header
     h = headerIn file
 
-    fed : first (shapeTests file) ≡ 0 → first (openTests h 0 v) ≡ 0 → first (beginningTests h 0) ≡ 0 → (b : Beginning) → modelFeed (recordsIn file) 0 (zeroModel h) ≡ b → Agrees (feed (recordsIn file) 0 (modelJob (zeroModel h)) (modelVolume (zeroModel h))) b → Course (reading file v)
+    fed : first (shapeTests file) ≡ 0 → first (openTests h 0 v) ≡ 0 → first (beginningTests h 0) ≡ 0 → (b : Beginning) → modelFeed (recordsIn file) (zeroModel h) ≡ b → Agrees (feed (recordsIn file) (modelJob (zeroModel h)) (modelVolume (zeroModel h))) b → Course (reading file v)
     fed q e f (begun m) r a = begins m (file-opened file v q (sym e) ∙ a .0) (rw (q, f) r) (a .1) (sym e)
     fed q e f (notBegun n place) r a = refuses n place (ap (λ o. o .answer) (file-opened file v q (sym e)) ∙ a) (rw (q, f) r)
 
     by : first (shapeTests file) ≡ 0 → Verdict h 0 v → Course (reading file v)
-    by q (passes e f) = fed q e f (modelFeed (recordsIn file) 0 (zeroModel h)) refl (feed-agrees (recordsIn file) 0 (zeroModel h) (opening-sound h 0 v (sym e)))
+    by q (passes e f) = fed q e f (modelFeed (recordsIn file) (zeroModel h)) refl (feed-agrees (recordsIn file) (zeroModel h) (opening-sound h 0 v (sym e)) refl)
     by q (fails n e f) = refuses (suc n) 0 (ap (λ o. o .answer) (file-refused file v q e)) (rw (q, f))
     by q (faulty n e b f) = faults n (ap (λ o. o .answer) (file-refused file v q e)) b f
 

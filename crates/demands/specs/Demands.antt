@@ -1,9 +1,9 @@
 -- Lists of calls: what they answer and leave on a job and a volume, each call by its own promise, and what the model says of the same list.
 -- The third demand: over every list of calls from an accepted opening or file on, every answer, the job and the volume are the model's; and what follows from it.
 -- Each statement is the promise of the function of the same name in src/lib.rt.
-use Rattle.algebra.specs.Prelude.{_≡_, _↔_, true, eqb, ℕ, _+_, _≤_, List, [], _∷_, _++_, map, length, take}
+use Rattle.algebra.specs.Prelude.{_≡_, _↔_, true, eqb, ℕ, suc, _+_, _≤_, List, [], _∷_, _++_, map, length, take, replicate}
 use mathlib.Core.Logic.{_⊎_}
-use Rattle.algebra.specs.cells.Cell.{J, Sym, ops, full, pointImage, at, factorActs}
+use Rattle.algebra.specs.cells.Cell.{J, Sym, ops, full, imageOf, pointImage, at, factorActs}
 use Rattle.algebra.specs.orbits.Orbit.{Mem, Perm, recordAll}
 use Rattle.numbers.specs.Value.{Value, field, conj, value}
 use Rattle.lengths.specs.Lengths.{scratchLength}
@@ -12,12 +12,17 @@ use Rattle.cell.specs.Exactly.{FactorsConsistent, MapConsistent}
 use Rattle.job.specs.declared.Job.{Job}
 use Rattle.job.specs.declared.Reflection.{Reflection}
 use Rattle.job.specs.declared.GridPoint.{GridPoint}
-use Rattle.job.specs.Job.{Header, halfLengths, needed, mapHeld, factorsHeld, withState, headerOf, validJob, groupIn, halves, within, index, position, opened, notOpened, OpenOutcome, openStep, Said, done, density, refused, recordStep, synthesisStep, analysisStep, pointStep, factor}
+use Rattle.job.specs.Job.{Header, halfLengths, needed, mapHeld, factorsHeld, withState, headerOf, validJob, groupIn, halves, within, index, position, opened, notOpened, OpenOutcome, ownTests, openTests, openStep, Said, done, density, refused, recordStep, synthesisStep, analysisStep, pointStep, factor}
 use Rattle.file_format.specs.declared.FileRecord.{FileRecord}
-use Rattle.factor_file.specs.File.{indexOf, countAt, recordsIn, fileStep, headerIn, writeStep}
+use Rattle.refusals.specs.Refusals.{first}
+use Rattle.factor_file.specs.File.{indexOf, indexIn, countAt, recordsIn, shapeTests, fileStep, headerIn, writeStep}
 use Rattle.model.specs.Model.{Model, group, half, factorOf, densityOf, signedReal, Call, modelVolume, modelJob, factorVolume, mapVolume, Beginning, begun, notBegun, recording, synthesis, analysis, readPoint, readFactor, modelSaid, modelAfter, openingModel, modelOpen, modelFile}
 use Rattle.output.specs.Output.{notWritten}
 pub use Rattle.job.specs.Job.{step}
+
+-- two records of a file are of one orbit: the index of the second is an image of that of the first
+abbrev pub OneOrbit : Header → (c d : FileRecord) → Type 0
+OneOrbit h c d = (s : Sym) × Mem s (full (groupOf (h .group))) × (imageOf (halfLengths (h .lengths)) s (indexIn c) ≡ indexIn d)
 
 -- ---- how a job begins: an opening or a file, each with the volume that it is lent
 
@@ -165,7 +170,7 @@ pub record Alike (s s′ : Start) : Type 0 where
   pub same-kind : startKind s ≡ startKind s′
   pub same-map : startKind s ≡ 1 → startVolume s ≡ startVolume s′
 
--- Lists alike in opening and accepted records, in whatever order, have the same packed factors and the same map: so the same volume, where both hold a map or both hold factors.
+-- Lists alike in opening and accepted records, in whatever two orders in which every record is taken, have the same packed factors and the same map: so the same volume, where both hold a map or both hold factors.
 pub record OrderFree : Type 0 where
   pub same : (s s′ : Start) (j j′ : Job) (v v′ : List ℕ) (m m′ : Model) → Started s j v m → Started s′ j′ v′ m′ → Alike s s′ → (l l′ : List Call) → Perm (allRecords s j v l) (allRecords s′ j′ v′ l′) →
       (factorVolume (modelEnd m l) ≡ factorVolume (modelEnd m′ l′)) × (mapVolume (modelEnd m l) ≡ mapVolume (modelEnd m′ l′)) ×
@@ -187,11 +192,54 @@ pub record FileOrderFree : Type 0 where
   pub same : (file file′ v v′ : List ℕ) (j : Job) (w : List ℕ) → Reordered file file′ → length v ≡ length v′ →
       fileStep file v ≡ record { answer = opened j; volume = w } → fileStep file′ v′ ≡ record { answer = opened j; volume = w }
 
--- Refusal 24 exactly if F at the index is not zero: of a record that no other test refuses, after any list of calls.
+-- Refusal 24 of a call exactly if F at the index is not zero: of a record that no other test refuses, after any list of calls.
 pub record OccupiedExactly : Type 0 where
   pub exactly : (s : Start) (j : Job) (v : List ℕ) (m : Model) → Started s j v m → (l : List Call) (k : Reflection) (x y : ℕ) →
       let a = recordStep (run j v l .job) k x y (run j v l .volume) .answer in
       ((n : ℕ) → a ≡ refused n → n ≡ 24) → ((a ≡ refused 24) ↔ (factorOf (modelEnd m l) (index k) ≡ value 1 0 0 → ⊥))
+
+-- Refusal 24 of a file exactly if a record before is of the same orbit, whatever the values of both: of a record that no other test refuses, if none before it is refused.
+pub record FileOccupied : Type 0 where
+  pub exactly : (file v : List ℕ) → 0 ≡ first (shapeTests file) → 0 ≡ first (openTests (headerIn file) 0 v) → (cs rest : List FileRecord) (c : FileRecord) → recordsIn file ≡ cs ++ c ∷ rest →
+      let a = fileStep file v .answer in
+      ((n place : ℕ) → a ≡ notOpened n place → length cs ≤ place) → ((n : ℕ) → a ≡ notOpened n (length cs) → n ≡ 24) →
+      ((a ≡ notOpened 24 (length cs)) ↔ ((d : FileRecord) × Mem d cs × OneOrbit (headerIn file) d c))
+
+-- the records of a file called one by one, until one is refused: its number, its place, and the volume zero
+unfoldable pub called : List FileRecord → (place : ℕ) → Job → List ℕ → OpenOutcome
+called [] place j v = record { answer = opened j; volume = v }
+called (c ∷ cs) place j v = let o = recordStep j (indexOf c) (c .a) (c .b) v in
+    elim (o .answer) [
+      | done ↦ called cs (suc place) (o .job) (o .volume)
+      | density n ↦ called cs (suc place) (o .job) (o .volume)
+      | factor x y ↦ called cs (suc place) (o .job) (o .volume)
+      | refused n ↦ record { answer = notOpened n place; volume = replicate (length v) 0 }
+    ]
+
+-- no two records are of one orbit
+unfoldable pub DifferentOrbits : Header → List FileRecord → Type 0
+DifferentOrbits h [] = Unit {0}
+DifferentOrbits h (c ∷ cs) = ((d : FileRecord) → Mem d cs → OneOrbit h c d → ⊥) × DifferentOrbits h cs
+
+-- A file without two records of one orbit is its records called one by one, on the job and the volume that an opening with kind 0 gives.
+pub record FileAsCalls : Type 0 where
+  pub same : (file v : List ℕ) (j : Job) (w : List ℕ) → 0 ≡ first (shapeTests file) → openStep (headerIn file) 0 v ≡ record { answer = opened j; volume = w } → DifferentOrbits (headerIn file) (recordsIn file) →
+      fileStep file v ≡ called (recordsIn file) 0 j w
+
+-- A zero, and later another value for the same orbit by calls: the other value counts.
+pub record LaterValueCounts : Type 0 where
+  -- a record of value zero that is taken changes neither job nor volume, whatever the volume holds: no later call can tell that it was made
+  pub unchanged : (j : Job) (k : Reflection) (v : List ℕ) → recordStep j k 0 0 v .answer ≡ done → recordStep j k 0 0 v ≡ record { answer = done; job = j; volume = v }
+  -- it is refused by 12 at no index
+  pub agrees : (j : Job) (k : Reflection) (v : List ℕ) → recordStep j k 0 0 v .answer ≡ refused 12 → ⊥
+  -- after it a record of its orbit that its own numbers do not refuse is taken
+  pub taken : (s : Start) (j : Job) (v : List ℕ) (m : Model) → Started s j v m → (l : List Call) (k k′ : Reflection) (q : Sym) → Mem q (full (group m)) → imageOf (half m) q (index k) ≡ index k′ → (x y : ℕ) →
+      let r = run j v l in
+      recordStep (r .job) k 0 0 (r .volume) .answer ≡ done → 0 ≡ first (ownTests (m .header .group) (m .header .lengths) (index k′) x y) → recordStep (r .job) k′ x y (r .volume) .answer ≡ done
+  -- the value of a record that is taken is F at its index
+  pub counts : (s : Start) (j : Job) (v : List ℕ) (m : Model) → Started s j v m → (l : List Call) (k : Reflection) (x y : ℕ) →
+      let r = run j v l in
+      recordStep (r .job) k x y (r .volume) .answer ≡ done → factorOf (modelEnd m (l ++ recording k x y ∷ [])) (index k) ≡ value 1 x y
 
 -- Refusal 14 exactly if no whole cell that obeys group and Friedel has these packed factors, or none that obeys the group has this map with its zeros:
 -- of a call that no test before it refuses, whatever job, volume and scratch it is lent. In the writer 18 comes after it.

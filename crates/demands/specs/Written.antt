@@ -15,7 +15,8 @@ use Rattle.refusals.specs.Refusals.{first}
 use Rattle.job.specs.Job.{needed, collecting, factorsHeld, withState, headerOf, validJob, opened, openStep, index}
 use Rattle.file_format.specs.declared.FileRecord.{FileRecord}
 use Rattle.file_format.specs.Format.{fileOf}
-use Rattle.factor_file.specs.File.{indexOf, recordCount, recordsIn, shapeTests, headerIn, fileStep, writeStep}
+pub use Rattle.factor_file.specs.File.{indexIn}
+use Rattle.factor_file.specs.File.{recordCount, recordsIn, shapeTests, headerIn, fileStep, writeStep}
 use Rattle.model.specs.Model.{Model, densityOf, zeroModel}
 use Rattle.output.specs.Output.{written}
 use Rattle.factor_file.specs.RecordOrder.{Rising, LowestOfOrbit}
@@ -31,10 +32,6 @@ pub record ReadsBack : Type 0 where
   pub writes : (j : Job) (v output : List ℕ) (n : ℕ) → writeStep j v output .answer ≡ written n → Writes j v output (take n (writeStep j v output .output))
   pub reads-back : (j : Job) (v output file u : List ℕ) → Writes j v output file → length u ≡ length v →
       fileStep file u ≡ record { answer = opened (withState j collecting); volume = v }
-
--- the index of a record of a file
-abbrev pub indexIn : FileRecord → J
-indexIn c = index (indexOf c)
 
 -- The records of a written file rise by h, then k, then l; and no image of a record's index comes before it.
 pub record FileRises : Type 0 where

@@ -4,7 +4,7 @@
 pub mod read_back; // read_back.rt: what was written reads back
 pub mod specimens; // specimens.rt: the paper's specimens
 
-ghost use Rattle.demands.specs.Demands.{EveryList, RefusedStarts, FaultlessStarts, FactorsImplied, TripleSums, MapsReal, ImagesAlike, AnalysisRestores, OrderFree, AlikeStarts, FileOrderFree, OccupiedExactly, InconsistentExactly, ImpossibleExactly};
+ghost use Rattle.demands.specs.Demands.{EveryList, RefusedStarts, FaultlessStarts, FactorsImplied, TripleSums, MapsReal, ImagesAlike, AnalysisRestores, OrderFree, AlikeStarts, FileOrderFree, OccupiedExactly, FileOccupied, FileAsCalls, LaterValueCounts, InconsistentExactly, ImpossibleExactly};
 
 // Over every list of calls: answers, job and volume.
 pub fn every_list()
@@ -61,9 +61,24 @@ pub fn file_order_free()
     ensures { λ _. ⌜ FileOrderFree ⌝ }
 {}
 
-// Refusal 24 exactly if F at the index is not zero.
+// Refusal 24 of a call exactly if F at the index is not zero.
 pub fn occupied_exactly()
     ensures { λ _. ⌜ OccupiedExactly ⌝ }
+{}
+
+// Refusal 24 of a file exactly if a record before is of the same orbit.
+pub fn file_occupied()
+    ensures { λ _. ⌜ FileOccupied ⌝ }
+{}
+
+// A file without two records of one orbit is its records called one by one.
+pub fn file_as_calls()
+    ensures { λ _. ⌜ FileAsCalls ⌝ }
+{}
+
+// A zero and later another value for the same orbit by calls: the other value counts.
+pub fn later_value_counts()
+    ensures { λ _. ⌜ LaterValueCounts ⌝ }
 {}
 
 // Refusal 14 exactly if no whole cell has these packed factors, or this map.

@@ -26,7 +26,7 @@ use Rattle.job.specs.declared.Job.{Job}
 use Rattle.job.specs.Job.{Header, halfLengths, needed, headerOf, validJob, collecting, mapHeld, groupIn, halves, p, jobOf, Opening, opened, notOpened, OpenOutcome, openTests, openStep}
 use Rattle.job.proofs.Jobs.{valid-job-sizes}
 use Rattle.file_format.specs.Format.{fileOf}
-use Rattle.factor_file.specs.File.{countAt, recordCount, recordsFrom, recordsIn, shapeTests, headerIn, feed, fileStep, noLater, jobRecords, jobFile, writeTests}
+use Rattle.factor_file.specs.File.{countAt, recordCount, recordsFrom, recordsIn, shapeTests, headerIn, judged, recordAllOn, feed, fileStep, noLater, jobRecords, jobFile, writeTests}
 use Rattle.factor_file.proofs.file.Places.{records-none}
 use Rattle.model.specs.Model.{Model, densityOf, zeroModel}
 use Rattle.demands.specs.Demands.{reading, modelEnd, Started}
@@ -40,7 +40,7 @@ use Rattle.demands.proofs.read_back.EqualFiles.{below-map, accepted-wri
 -- ---- a file of no records, read
 
 nothing-fed : (a : Opening) (w : List ℕ) → afterOpening [] (record { answer = a; volume = w }) ≡ record { answer = a; volume = w }
-unfolding feed
+unfolding feed judged recordAllOn
 nothing-fed (opened j) w = refl
 nothing-fed (notOpened n place) w = refl
 

@@ -13,11 +13,13 @@ use borrow.Author.Tests.{not-false, eqb-true, eq-eqb, lt-leb}
 use Rattle.algebra.specs.ring.Ring.{gauss, residues}
 use Rattle.algebra.specs.cells.Cell.{J, Inside, Cell, full, at, factorActs}
 use Rattle.algebra.specs.cells.CellSteps.{Lawful}
-use Rattle.algebra.specs.orbits.Orbit.{Mem, first as first-of, later, Acts, recordAll}
-use Rattle.algebra.specs.orbits.OrbitLaws.{Accepted}
+use Rattle.algebra.specs.orbits.Orbit.{Mem, first as first-of, later, recordAll}
+use Rattle.algebra.specs.orbits.OrbitLaws.{Sound}
 use Rattle.algebra.proofs.ring.Members.{none as no-member, mem-map}
 use Rattle.algebra.proofs.cells.CellTests.{Positive}
-use Rattle.algebra.proofs.cells.CellWriter.{written-accepted, written-read}
+use Rattle.algebra.proofs.cells.CellWriter.{written-sound, written-read}
+use Rattle.algebra.proofs.orbits.OrbitLists.{sound-inside}
+use Rattle.algebra.proofs.cells.CellGroup.{factor-action, closed}
 use Rattle.numbers.specs.Value.{prime, Value, field, conj, value}
 use Rattle.numbers.proofs.Primes.{prime-pos}
 use Rattle.numbers.proofs.Residues.{res-val, val-small}
@@ -46,7 +48,8 @@ use Rattle.demands.specs.Demands.{entry}
 use Rattle.demands.specs.Written.{Writes, ReadsBack, indexIn, FileRises}
 use Rattle.demands.proofs.Openings.{opening-sound}
 use Rattle.demands.proofs.Starts.{file-gives}
-use Rattle.demands.proofs.AcceptedRecords.{actsOn, accepted-fed}
+use Rattle.demands.proofs.AcceptedRecords.{different-fed}
+use Rattle.demands.proofs.Judged.{actsOn}
 use Rattle.file_format.specs.Format.{fileOf}
 use Rattle.factor_file.specs.RecordOrder.{Rising, LowestOfOrbit}
 use Rattle.factor_file.proofs.RecordOrder.{records-of-volume-rise}
@@ -70,13 +73,6 @@ residues-below : (cs : List (J × Value 1)) (c : FileRecord) → Mem c (map file
 residues-below [] c m = no-member m
 residues-below (d ∷ cs) c first-of = (val-small 1 (d .1 .0), val-small 1 (d .1 .1))
 residues-below (d ∷ cs) c (later m) = residues-below cs c m
-
--- an accepted record lies in the cell
-accepted-inside : {S R : Type 0} (𝓐 : Acts S J R) (In : J → Type 0) (G : List S) (cs : List (J × R)) (F : J → R) → Accepted 𝓐 In G cs F → (c : J × R) → Mem c cs → In (c .0)
-unfolding Accepted
-accepted-inside 𝓐 In G [] F ok c m = no-member m
-accepted-inside 𝓐 In G (d ∷ cs) F ok c first-of = ok .0 .0
-accepted-inside 𝓐 In G (d ∷ cs) F ok c (later m) = accepted-inside 𝓐 In G cs _ (ok .1) c m
 
 -- a factor list is shorter than its product
 list-short : (l : List ℕ) → factorsOk l ≡ true → length l < product l
@@ -119,14 +115,14 @@ module _ (j : Job) (v output : List ℕ) (accepts : 0 ≡ first (writeTests j v 
   whole : Lawful (field 1) (conj 1) (halves j) (groupIn j) cell × (packFactors (groupIn j) (halves j) 1 cell ≡ v)
   whole = consistent-read (groupIn j) (halves j) positive 1 v long small (not-false _ (tests .1 .1 .1 .1 .0))
 
-  -- ---- its records are accepted, and give the cell
+  -- ---- its records are of different orbits, and give the cell
 
-  abbrev Taken : List (J × Value 1) → Type 0
-  Taken cs = Accepted (actsOn (halves j)) (Inside (halves j)) (full (groupIn j)) cs (λ q. value 1 0 0)
+  abbrev Different : List (J × Value 1) → Type 0
+  Different cs = Sound (actsOn (halves j)) (Inside (halves j)) (full (groupIn j)) cs
 
-  taken : Taken (jobRecords j v)
+  different : Different (jobRecords j v)
   unfolding jobRecords factorActs gauss residues
-  taken = written-accepted (field-ring 1) (field-star 1) sameValue (same-iff 1) (groupIn j) (halves j) (at cell) (whole .0)
+  different = written-sound (field-ring 1) (field-star 1) sameValue (same-iff 1) (groupIn j) (halves j) (at cell) (whole .0)
 
   cell-given : (q : J) → Inside (halves j) q → recordAll (actsOn (halves j)) (full (groupIn j)) (jobRecords j v) (λ q. value 1 0 0) q ≡ at cell q
   unfolding jobRecords factorActs gauss residues
@@ -153,7 +149,7 @@ module _ (j : Job) (v output : List ℕ) (accepts : 0 ≡ first (writeTests j v 
       let s = sound-lists (headerOf j) header-sound in
       record {
         lengths = record { h = omega (arith, sizes .first .high); k = omega (arith, sizes .second .high); l = omega (arith, sizes .third .high) };
-        indices = λ c m. inside-short (c .0) (accepted-inside (actsOn (halves j)) (Inside (halves j)) (full (groupIn j)) (jobRecords j v) (λ q. value 1 0 0) taken c m);
+        indices = λ c m. inside-short (c .0) (sound-inside (factor-action (field-ring 1) (field-star 1) (halves j)) (full (groupIn j)) (closed (field-ring 1) (field-star 1) (halves j) (groupIn j)) c (jobRecords j v) different m);
         short = omega (arith, length-body (headerOf j) (jobRecords j v), length-header (headerOf j), few, list-small _ (s .0), list-small _ (s .1), list-small _ (s .2));
       }
 
@@ -172,9 +168,9 @@ module _ (j : Job) (v output : List ℕ) (accepts : 0 ≡ first (writeTests j v 
     abbrev fed : List (J × Value 1) → Model
     fed cs = record { header = headerOf j; state = collecting; F = λ h k l. recordAll (actsOn (halves j)) (full (groupIn j)) cs (λ q. value 1 0 0) (h, k, l) }
 
-    feeds : modelFeed (map fileRecord (jobRecords j v)) 0 (zeroModel (headerOf j)) ≡ begun (fed (jobRecords j v))
+    feeds : modelFeed (map fileRecord (jobRecords j v)) (zeroModel (headerOf j)) ≡ begun (fed (jobRecords j v))
     feeds =
-        accepted-fed (map fileRecord (jobRecords j v)) 0 (zeroModel (headerOf j)) (opening-sound (headerOf j) 0 u opens) refl (residues-below (jobRecords j v)) (subst Taken (sym (entries (jobRecords j v))) taken)
+        different-fed (map fileRecord (jobRecords j v)) (zeroModel (headerOf j)) (opening-sound (headerOf j) 0 u opens) (residues-below (jobRecords j v)) (subst Different (sym (entries (jobRecords j v))) different)
         ∙ ap (λ cs. begun (fed cs)) (entries (jobRecords j v))
 
     volume-given : modelVolume (fed (jobRecords j v)) ≡ v
@@ -198,7 +194,7 @@ module _ (j : Job) (v output : List ℕ) (accepts : 0 ≡ first (writeTests j v 
         let er = sym (parses-back .records (headerOf j) (jobRecords j v) writable) in
         file-gives file u (sym (parses-back .shape (headerOf j) (jobRecords j v) writable)) (fed (jobRecords j v))
         (subst (λ h. 0 ≡ first (openTests h 0 u)) eh opens)
-        (subst (λ h. modelFeed (recordsIn file) 0 (zeroModel h) ≡ begun (fed (jobRecords j v))) eh (subst (λ cs. modelFeed cs 0 (zeroModel (headerOf j)) ≡ begun (fed (jobRecords j v))) er feeds))
+        (subst (λ h. modelFeed (recordsIn file) (zeroModel h) ≡ begun (fed (jobRecords j v))) eh (subst (λ cs. modelFeed cs (zeroModel (headerOf j)) ≡ begun (fed (jobRecords j v))) er feeds))
         ∙ λ i. record { answer = opened (job-given i); volume = volume-given i }
 
 -- ---- every written file

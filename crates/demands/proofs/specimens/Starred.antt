@@ -116,14 +116,10 @@ module _ (x : Specimen) (r : Reversed x) where
         (pass 21 _ refl
         (pass 10 _ (not-t _ inside)
         (pass 7 _ (not-t _ both-below)
-        (pass 11 _ one-not-zero
-        (stop _ (not-f _ disagreement))))))
+        (stop _ (not-f _ disagreement)))))
       where
         both-below : (ltb a p && ltb b p) ≡ true
         both-below = let x = lt-ltb a p la in let y = lt-ltb b p lb in λ i. x i && y i
-
-        one-not-zero : (eqb a 0 && eqb b 0) ≡ false
-        one-not-zero = is-false _ (λ q. let t = both (eqb a 0) (eqb b 0) q in n (eqb-true a 0 (t .0), eqb-true b 0 (t .1)))
 
         disagreement : agreesWithItself (groupOf (h .group)) (halfLengths (h .lengths)) 1 (index (x .at)) (value 1 a b) ≡ false
         disagreement = rw g (disagrees (halfLengths (h .lengths)) positive (value 1 a b) (not-zero a b la lb n))

@@ -3,3 +3,5 @@ pub mod Walking
 pub mod Judging
 pub mod Lengths
 pub mod RecordOrder
+pub mod FaultLaws
+pub mod FaultWalks

@@ -3,3 +3,5 @@ pub mod Marks
 pub mod Steps
 pub mod Answers
 pub mod RecordOrder
+pub mod Faults
+pub mod FaultSteps

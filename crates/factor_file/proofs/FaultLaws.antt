@@ -82,7 +82,7 @@ cond-no : {A : Type 0} (b : Bool) (x y : A) → (T b → ⊥) → cond b x y ≡
 cond-no true x y n = absurd (n tt)
 cond-no false x y n = refl
 
-refused-by : {O : Type 0} (n : ℕ) (o : O) (f : ℕ → O) → (n ≡ 0 → ⊥) → accepted n o f ≡ f n
+pub refused-by : {O : Type 0} (n : ℕ) (o : O) (f : ℕ → O) → (n ≡ 0 → ⊥) → accepted n o f ≡ f n
 refused-by zero o f z = absurd (z refl)
 refused-by (suc n) o f z = refl
 
@@ -156,10 +156,10 @@ module _ (c : UnitCell) (file : List ℕ) where
   step r l = ap (judged (c .group) (cellLengths c) (before r)) (first-left r l) ∙ ap (λ n. accepted (number r) (judgedFrom (suc r)) (λ k. refusedAt k n)) (before-length r)
 
   module _ (sizes : Sizes c) where
-    own-inside : (i : ℕ) → 0 ≡ ownAt c file i → Inside a (ix i)
+    pub own-inside : (i : ℕ) → 0 ≡ ownAt c file i → Inside a (ix i)
     own-inside i e = cell-inside sizes {j = record { h = at i .h; k = at i .k; l = at i .l }} (own-within c (at i) (record { h = at i .h; k = at i .k; l = at i .l }) refl e)
 
-    same-orbit : (i j : ℕ) → 0 ≡ ownAt c file i → 0 ≡ ownAt c file j → (placeAt c file i ≡ placeAt c file j) ↔ T (sameOrbit g a (ix i) (ix j))
+    pub same-orbit : (i j : ℕ) → 0 ≡ ownAt c file i → 0 ≡ ownAt c file j → (placeAt c file i ≡ placeAt c file j) ↔ T (sameOrbit g a (ix i) (ix j))
     unfolding placeOf
     same-orbit i j e f = same-place g a (cell-positive sizes) (ix i) (ix j) (own-inside i e) (own-inside j f)
 
@@ -192,17 +192,17 @@ module _ (c : UnitCell) (file : List ℕ) where
       judged-here : whole ≡ judgedFrom r
       judged-here = judged-to r (sound .some) (sound .each) (λ k i l h e. apart .each k i l h (omega arith) (place-low i (sound .each i h)) e)
 
-      all-taken : r ≡ recordCount file → whole ≡ taken
+      pub all-taken : r ≡ recordCount file → whole ≡ taken
       unfolding judged recordsFrom
       all-taken e = let n : recordCount file - r ≡ 0 = omega arith in judged-here ∙ ap (λ n. judged (c .group) (cellLengths c) (before r) (recordsFrom file (recordPlace file r) n)) n
 
-      own-refused : r < recordCount file → (ownAt c file r ≡ 0 → ⊥) → whole ≡ refusedAt (ownAt c file r) r
+      pub own-refused : r < recordCount file → (ownAt c file r ≡ 0 → ⊥) → whole ≡ refusedAt (ownAt c file r) r
       unfolding ownNumber
       own-refused l z =
           let n = append-stop (ownAt c file r) (ownTests (c .group) (cellLengths c) (ix r) (at r .a) (at r .b)) (orbitSeen (c .group) (cellLengths c) (before r) (ix r)) z refl in
           judged-here ∙ step r l ∙ ap (λ n. accepted n (judgedFrom (suc r)) (λ k. refusedAt k r)) (sym n) ∙ refused-by _ _ (λ k. refusedAt k r) z
 
-      orbit-refused : r < recordCount file → 0 ≡ ownAt c file r → (k : ℕ) → k < r → placeAt c file k ≡ placeAt c file r → whole ≡ refusedAt 24 r
+      pub orbit-refused : r < recordCount file → 0 ≡ ownAt c file r → (k : ℕ) → k < r → placeAt c file k ≡ placeAt c file r → whole ≡ refusedAt 24 r
       orbit-refused l e k h q =
           let n = then-orbit r e (stop _ (is-seen r k h (sound .each k h) e q)) in
           judged-here ∙ step r l ∙ ap (λ n. accepted n (judgedFrom (suc r)) (λ k. refusedAt k r)) (sym n)

@@ -5,3 +5,4 @@ pub mod Lengths
 pub mod RecordOrder
 pub mod FaultLaws
 pub mod FaultWalks
+pub mod FewestFaults

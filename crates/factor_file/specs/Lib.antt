@@ -5,3 +5,4 @@ pub mod Answers
 pub mod RecordOrder
 pub mod Faults
 pub mod FaultSteps
+pub mod Fewest

@@ -23,6 +23,7 @@ ghost use Rattle.file_format.specs.Format.{shapeTests, recordAt, recordCount, r
 ghost use Rattle.file_format.specs.Places.{PlacesOf};
 ghost use Rattle.factor_file.specs.File.{indexIn};
 ghost use Rattle.factor_file.specs.Faults.{headerTests, recordFaults, faultsIn, saidFaults};
+ghost use Rattle.factor_file.specs.Fewest.{FewestExactly};
 ghost use Rattle.factor_file.specs.FaultSteps.{Records, ownNumber, placeOf, SoundTo, FirstUnsound, Apart, Stops, FirstOf, range, Noted};
 
 // No record at fault, one, or two: the places, from 0, rise.
@@ -48,6 +49,11 @@ pub fn file_faults(file: &[u8]) -> Faults
         Checked::Sound => return sound_faults(file, places),
     }
 }
+
+// The records at fault are the fewest that are refused so, and no others are as few. The function does nothing; its promise is the statement.
+pub fn fewest_exactly()
+    ensures { λ _. ⌜ FewestExactly ⌝ }
+{}
 
 // The header, then the records, of a file of sound shape.
 fn sound_faults(file: &[u8], places: Places) -> Faults

@@ -6,3 +6,4 @@ pub mod RecordOrder
 pub mod FaultLaws
 pub mod FaultWalks
 pub mod FewestFaults
+pub mod FewestOpenings

@@ -6,3 +6,4 @@ pub mod RecordOrder
 pub mod Faults
 pub mod FaultSteps
 pub mod Fewest
+pub mod FewestOpened

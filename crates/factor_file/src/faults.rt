@@ -24,6 +24,7 @@ ghost use Rattle.file_format.specs.Places.{PlacesOf};
 ghost use Rattle.factor_file.specs.File.{indexIn};
 ghost use Rattle.factor_file.specs.Faults.{headerTests, recordFaults, faultsIn, saidFaults};
 ghost use Rattle.factor_file.specs.Fewest.{FewestExactly};
+ghost use Rattle.factor_file.specs.FewestOpened.{FewestAreOpened};
 ghost use Rattle.factor_file.specs.FaultSteps.{Records, ownNumber, placeOf, SoundTo, FirstUnsound, Apart, Stops, FirstOf, range, Noted};
 
 // No record at fault, one, or two: the places, from 0, rise.
@@ -53,6 +54,11 @@ pub fn file_faults(file: &[u8]) -> Faults
 // The records at fault are the fewest that are refused so, and no others are as few. The function does nothing; its promise is the statement.
 pub fn fewest_exactly()
     ensures { λ _. ⌜ FewestExactly ⌝ }
+{}
+
+// The same of the opening of a file of the chosen records under the same header.
+pub fn fewest_are_opened()
+    ensures { λ _. ⌜ FewestAreOpened ⌝ }
 {}
 
 // The header, then the records, of a file of sound shape.

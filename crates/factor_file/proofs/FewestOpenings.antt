@@ -1,0 +1,101 @@
+-- A file whose shape and header are not refused is opened, on a volume of the right length, as its records are judged; so the records at fault are the fewest of
+-- its opening too.
+use mathlib.Core.Path.{_≡_, refl, sym, _∙_, ap, subst}
+use mathlib.Core.List.{List, []}
+use Prim.Native.Nat.{ℕ, _<_, _≤_}
+use native.Mathlib.Omega.{arith}
+use lib.ListN.{length, replicate, length-replicate}
+use borrow.Author.Tests.{leb-false, eq-eqb}
+use Rattle.refusals.specs.Refusals.{first, accepted}
+use Rattle.refusals.proofs.Tests.{pass, none, passed}
+use Rattle.header.specs.Header.{Header, needed}
+use Rattle.job.specs.declared.Job.{Job}
+use Rattle.job.specs.Job.{collecting, jobOf, headerOf, groupIn, halves, Opening, opened, notOpened, OpenOutcome, openTests, openStep}
+use Rattle.job.proofs.check.Openings.{volume-decides, volume-collects}
+use Rattle.file_format.specs.declared.FileRecord.{FileRecord}
+use Rattle.factor_file.specs.File.{recordsIn, headerIn, shapeTests, Judgement, taken, refusedAt, judged, recordAllOn, feed, fileStep}
+use Rattle.factor_file.specs.Faults.{headerTests, faultsIn}
+use Rattle.factor_file.specs.Fewest.{chosen, judgedUnder, Fewest}
+use Rattle.factor_file.specs.FewestOpened.{Smaller, RefusedAt, FewestOpened, FewestAreOpened}
+use Rattle.factor_file.proofs.FewestFaults.{fewest-exactly}
+
+-- what an opening answers by its records
+abbrev answerBy : Job → Judgement → Opening
+answerBy j b = elim b [ taken ↦ opened j | refusedAt n place ↦ notOpened n place ]
+
+abbrev outcomeBy : List FileRecord → Job → List ℕ → Judgement → OpenOutcome
+outcomeBy cs j v b = elim b [ taken ↦ record { answer = opened j; volume = recordAllOn (groupIn j) (halves j) cs v } | refusedAt n place ↦ record { answer = notOpened n place; volume = replicate (length v) 0 } ]
+
+feed-answer : (cs : List FileRecord) (j : Job) (v : List ℕ) → feed cs j v .answer ≡ answerBy j (judged (j .group) (headerOf j .lengths) [] cs)
+unfolding feed
+feed-answer cs j v = by (judged (j .group) (headerOf j .lengths) [] cs)
+  where
+    by : (b : Judgement) → outcomeBy cs j v b .answer ≡ answerBy j b
+    by taken = refl
+    by (refusedAt n place) = refl
+
+-- the tests of an opening, those of the header and the volume's length
+opens : (h : Header) → 0 ≡ first (headerTests h) → (v : List ℕ) → length v ≡ needed h → 0 ≡ first (openTests h 0 v)
+opens h e v l =
+    let t = passed (headerTests h) tt e in
+    let axes = pass 3 _ (t .1 .0) (pass 4 _ (t .1 .1 .0) (pass 5 _ (t .1 .1 .1 .0) (pass 9 _ (t .1 .1 .1 .1 .0) none))) in
+    volume-decides h 0 v (leb-false _ _ (t .0)) (omega arith) axes (volume-collects (h .group) (h .lengths) 0 v (eq-eqb _ _ l) (λ q. omega (arith, q)))
+
+opening : (h : Header) → 0 ≡ first (headerTests h) → (v : List ℕ) → length v ≡ needed h → openStep h 0 v ≡ record { answer = opened (jobOf h collecting); volume = replicate (length v) 0 }
+unfolding openStep
+opening h e v l = ap (λ n. accepted {O = OpenOutcome} n (record { answer = opened (jobOf h collecting); volume = replicate (length v) 0 }) (λ n. record { answer = notOpened n 0; volume = v })) (sym (opens h e v l))
+
+module _ (file : List ℕ) (shape : 0 ≡ first (shapeTests file)) (header : 0 ≡ first (headerTests (headerIn file))) (v : List ℕ) (long : length v ≡ needed (headerIn file)) where
+  abbrev job : Job
+  job = jobOf (headerIn file) collecting
+
+  abbrev after : OpenOutcome → OpenOutcome
+  after o = elim (o .answer) [ opened j ↦ feed (recordsIn file) j (o .volume) | notOpened n place ↦ o ]
+
+  pub file-answer : fileStep file v .answer ≡ answerBy job (judgedUnder file (recordsIn file))
+  unfolding fileStep
+  file-answer =
+      ap (λ n. accepted {O = OpenOutcome} n (after (openStep (headerIn file) 0 v)) (λ n. record { answer = notOpened n 0; volume = v }) .answer) (sym shape)
+      ∙ ap (λ o. after o .answer) (opening (headerIn file) header v long)
+      ∙ feed-answer (recordsIn file) job (replicate (length v) 0)
+
+refused-back : (j : Job) (b : Judgement) (n place : ℕ) → answerBy j b ≡ notOpened n place → b ≡ refusedAt n place
+refused-back j taken n place e = let z : _≡_ {A = ℕ} 0 1 = cc in absurd (omega arith)
+refused-back j (refusedAt m q) n place e = let x : m ≡ n = cc in let y : q ≡ place = cc in λ i. refusedAt (x i) (y i)
+
+-- ---- a smaller file
+
+module _ (file : List ℕ) (header : 0 ≡ first (headerTests (headerIn file))) (qs smaller : List ℕ) (s : Smaller file qs smaller) where
+  same-made : judgedUnder smaller (recordsIn smaller) ≡ judgedUnder file (chosen (recordsIn file) qs)
+  same-made = let h = s .header in let r = s .records in λ i. judged (h i .group) (h i .lengths) [] (r i)
+
+  small-header : 0 ≡ first (headerTests (headerIn smaller))
+  small-header = header ∙ ap (λ h. first (headerTests h)) (sym (s .header))
+
+  small-answer : (v : List ℕ) → length v ≡ needed (headerIn file) → fileStep smaller v .answer ≡ answerBy (jobOf (headerIn smaller) collecting) (judgedUnder file (chosen (recordsIn file) qs))
+  small-answer v l = file-answer smaller (s .shape) small-header v (l ∙ ap needed (sym (s .header))) ∙ ap (answerBy (jobOf (headerIn smaller) collecting)) same-made
+
+  small-refused : {n place : ℕ} → judgedUnder file (chosen (recordsIn file) qs) ≡ refusedAt n place → RefusedAt file smaller n place
+  small-refused e = record { answer = λ v l. small-answer v l ∙ ap (answerBy (jobOf (headerIn smaller) collecting)) e }
+
+  small-judged : {n place : ℕ} → RefusedAt file smaller n place → judgedUnder file (chosen (recordsIn file) qs) ≡ refusedAt n place
+  small-judged {n} {place} w =
+      let v : List ℕ = replicate (needed (headerIn file)) 0 in
+      let l : length v ≡ needed (headerIn file) = length-replicate {A = ℕ} (needed (headerIn file)) 0 in
+      refused-back (jobOf (headerIn smaller) collecting) _ n place (sym (small-answer v l) ∙ w .answer v l)
+
+pub fewest-are-opened : FewestAreOpened
+fewest-are-opened = record { each = λ file shape header number r w. go file shape header number r w }
+  where
+    go : (file : List ℕ) → 0 ≡ first (shapeTests file) → 0 ≡ first (headerTests (headerIn file)) → (number r : ℕ) → RefusedAt file file number r → FewestOpened file number r
+    go file shape header number r w =
+        let v : List ℕ = replicate (needed (headerIn file)) 0 in
+        let l : length v ≡ needed (headerIn file) = length-replicate {A = ℕ} (needed (headerIn file)) 0 in
+        let e = refused-back (jobOf (headerIn file) collecting) _ number r (sym (file-answer file shape header v l) ∙ w .answer v l) in
+        let f = fewest-exactly .each file shape header number r e in
+        record {
+          rise = f .rise;
+          refused = λ smaller s. small-refused file header (faultsIn file) smaller s (f .refused);
+          fewest = λ qs u smaller s place w. f .fewest qs u place (small-judged file header qs smaller s w);
+          only = λ qs u smaller s place w n. f .only qs u place (small-judged file header qs smaller s w) n;
+        }

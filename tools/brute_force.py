@@ -586,6 +586,26 @@ def file_bytes(g, n, lists, records):
     return len(body).to_bytes(4, "big") + body
 
 
+def needed(file):
+    """How many numbers the volume of a file has, whatever its header."""
+    part = file + bytes(12)
+    return volume_length(part[5] % 5, [number(part[q:q + 2]) for q in (6, 8, 10)])
+
+
+def first_record(file):
+    """Where the records of a file of sound shape begin."""
+    at = 12
+    for _ in range(3):
+        at += 1 + file[at]
+    return at + 4
+
+
+def records_in(file):
+    """The records of a file of sound shape, in its order."""
+    ends = (0, 2, 4, 6, 10, 14)
+    return [tuple(number(file[q + a:q + b]) for a, b in zip(ends, ends[1:])) for q in range(first_record(file), len(file), 14)]
+
+
 def factor_lists(p):
     """Every factor list with the product p."""
     if p == 1:

@@ -23,8 +23,8 @@ import sys
 import tempfile
 import time
 
-from brute_force import (LIMIT, P, ROOT, Book, all_points, analysed, e, file_bytes, images, number, open_file, pack_map, planes, point_images,
-                         read_cell, signed, volume_length)
+from brute_force import (LIMIT, P, ROOT, Book, all_points, analysed, e, file_bytes, images, needed, number, open_file, pack_map, planes,
+                         point_images, read_cell, records_in, signed, volume_length)
 from printer_test import files
 from window_cases import SCORES, windows
 
@@ -110,12 +110,6 @@ def kind_of(words):
         return "map file" if file.read(4) == b"RMAP" else "factor file"
 
 
-def needed(file):
-    """How many numbers a file's volume has, 0 where the header is not sound."""
-    part = file + bytes(12)
-    return volume_length(part[5] % 5, [number(part[q:q + 2]) for q in (6, 8, 10)])
-
-
 def map_text(g, n, M):
     lines = ["map %d %d %d %d" % (g, *n)]
     for z in range(planes(g, n)):
@@ -140,15 +134,6 @@ def written(book):
         if book.F[j] != (0, 0) and j == min(i for i, _ in images(book.g, book.n, j, book.F[j])):
             found.append((*j, *book.F[j]))
     return file_bytes(book.g, book.n, book.lists, found)
-
-
-def records_in(contents):
-    """The records of an accepted file, in its order."""
-    at = 12
-    for _ in range(3):
-        at += 1 + contents[at]
-    ends = (0, 2, 4, 6, 10, 14)
-    return [tuple(number(contents[q + a:q + b]) for a, b in zip(ends, ends[1:])) for q in range(at + 4, len(contents), 14)]
 
 
 def records_text(found):

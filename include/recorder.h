@@ -20,8 +20,9 @@
 
    Threads and stack. The library keeps no state and asks for no memory: any number of threads may call it at once, each with buffers of its
    own; a volume that all of them only read (recorder_point, recorder_factor, recorder_write_file) may be shared. By measurement on x86-64
-   synthesis and analysis need some 92 KB of stack, recorder_line some 68 KB, every other call less than 8 KB, whatever the grid: give a
-   thread 128 KB or more.
+   synthesis and analysis need some 92 KB of stack, recorder_line some 68 KB, every other call but one less than 8 KB, whatever the grid: give
+   a thread 128 KB or more. The one is recorder_file_faults, which is lent no volume and marks the orbits of a file in an array of 256 KB of its
+   own: give a thread that calls it 384 KB or more.
 
    Lengths N1, N2, N3 are even divisors of 2,880. Groups: 0 P1, 1 P2_1 with axis c, 2 Pm with its mirror across c, 3 Pa with its mirror
    across c and its glide along a, 4 P2_1 2_1 2_1 with the operations (1/2 - x, -y, 1/2 + z), (-x, 1/2 + y, 1/2 - z) and
@@ -102,6 +103,7 @@ typedef struct {
 
 typedef struct { uint32_t number; recorder_job job; } recorder_answer;
 typedef struct { uint32_t number, place; recorder_job job; } recorder_file_answer;
+typedef struct { uint32_t count, first, second; } recorder_faults;
 typedef struct { uint32_t number; size_t written; } recorder_write_answer;
 typedef struct { uint32_t number; int32_t density; } recorder_density;
 typedef struct { uint32_t number, a, b; } recorder_factor_value;
@@ -132,6 +134,13 @@ recorder_answer recorder_open(uint32_t group, uint32_t kind, uint32_t n1, uint32
    Refusals: 15 the count is not the bytes that follow, 16 version not 1, 15 header, lists and records do not fill the file, then
    those of an opening, then of each record in its turn 10, 7, 12, and 24 if an earlier record is of its orbit, whatever their values. */
 recorder_file_answer recorder_open_file(const uint8_t *file, size_t file_length, uint32_t *volume, size_t volume_length);
+
+/* The fewest records at fault of a file of any bytes. For a file that recorder_open_file refuses at a record, on a volume as long as it asks
+   for, these are the places from 0, rising, of the fewest records, the refused one last among them, that under the same header (its counts
+   apart) and in the same order are refused with the same number: two for 24, first the earlier record of the orbit, one for 10, 7 and 12. Any
+   other file has none: one that is accepted, and one whose shape or header is refused. The count is 0, 1 or 2; a place that is not given is 0.
+   Refusals: none. The file is walked at most ten times. */
+recorder_faults recorder_file_faults(const uint8_t *file, size_t file_length);
 
 /* Writes the factor file of a job that holds factors: one record for each orbit with a value other than zero, at its lowest (h, k, l),
    by rising h, then k, then l; where all are zero, a file of no records. So equal groups, lengths, factor lists and volumes give equal

@@ -18,11 +18,11 @@ PASSED_ON = ["crates/job/src/lib.rt", "crates/exported/src/answers.rt", "crates/
 
 # The names of the header's types in the Rattle source and in the tool.
 SOURCE_NAMES = {"Reflection": "recorder_reflection", "GridPoint": "recorder_grid_point", "Axis": "recorder_axis", "Job": "recorder_job",
-                "JobCoded": "recorder_answer", "FileCoded": "recorder_file_answer", "WriteCoded": "recorder_write_answer",
-                "PointCoded": "recorder_density", "FactorCoded": "recorder_factor_value"}
+                "JobCoded": "recorder_answer", "FileCoded": "recorder_file_answer", "FaultsCoded": "recorder_faults",
+                "WriteCoded": "recorder_write_answer", "PointCoded": "recorder_density", "FactorCoded": "recorder_factor_value"}
 FFI_NAMES = {"Reflection": "recorder_reflection", "GridPoint": "recorder_grid_point", "Axis": "recorder_axis", "Job": "recorder_job",
-             "Answer": "recorder_answer", "FileAnswer": "recorder_file_answer", "WriteAnswer": "recorder_write_answer",
-             "Density": "recorder_density", "FactorValue": "recorder_factor_value"}
+             "Answer": "recorder_answer", "FileAnswer": "recorder_file_answer", "Faults": "recorder_faults",
+             "WriteAnswer": "recorder_write_answer", "Density": "recorder_density", "FactorValue": "recorder_factor_value"}
 # A struct that lacks the mark is not found, and so differs.
 LAID_OUT = r"#\[repr\(C\)\]\s*(?:#\[derive\([^)]*\)\]\s*)?"
 NUMBERS = {"u8": "uint8_t", "u32": "uint32_t", "i32": "int32_t", "u64": "uint64_t", "i64": "int64_t", "usize": "size_t"}
@@ -151,7 +151,7 @@ DAMAGES = [
     (0, "recorder_grid_point at,", "recorder_reflection at,"), (0, "uint32_t number, place;", "uint32_t place, number;"),
     (0, "const uint32_t *volume, size_t volume_length, uint8_t *out", "uint32_t *volume, size_t volume_length, uint8_t *out"),
     (0, "RECORDER_REFUSED_INDEX = 10,", "RECORDER_REFUSED_INDEX = 11,"), (1, "Refusal::Occupied => 24,", ""),
-    (1, "pub place: u32,", ""), (1, "fn recorder_analysis(", "fn recorder_analyse("),
+    (0, "uint32_t count, first, second;", "uint32_t count, second, first;"), (1, "pub place: u32,", ""), (1, "fn recorder_analysis(", "fn recorder_analyse("),
     (1, "#[repr(C)]", ""), (2, "#[repr(C)]", ""),
     (0, "int64_t *least, size_t least_length", "uint64_t *least, size_t least_length"),
     (2, "pub written: usize", "pub written: u32"), (2, "direction: u32,\n        length: u32,", "direction: u32,"),

@@ -56,6 +56,14 @@ pub struct FileAnswer {
     pub job: Job,
 }
 
+/// The places of the fewest records at fault: none, one or two of them.
+#[repr(C)]
+pub struct Faults {
+    pub count: u32,
+    pub first: u32,
+    pub second: u32,
+}
+
 #[repr(C)]
 pub struct WriteAnswer {
     pub number: u32,
@@ -92,6 +100,7 @@ extern "C" {
         volume_length: usize,
     ) -> Answer;
     fn recorder_open_file(file: *const u8, file_length: usize, volume: *mut u32, volume_length: usize) -> FileAnswer;
+    fn recorder_file_faults(file: *const u8, file_length: usize) -> Faults;
     fn recorder_write_file(job: Job, volume: *const u32, volume_length: usize, out: *mut u8, out_length: usize) -> WriteAnswer;
     /// The tool records by files alone; the declaration is held to the header with the others.
     #[allow(dead_code)]
@@ -138,8 +147,8 @@ pub fn open_file(file: &[u8], volume: &mut [u32]) -> FileAnswer {
     unsafe { recorder_open_file(file.as_ptr(), file.len(), volume.as_mut_ptr(), volume.len()) }
 }
 
-pub fn write_file(job: Job, volume: &[u32], out: &mut [u8]) -> WriteAnswer {
-    unsafe { recorder_write_file(job, volume.as_ptr(), volume.len(), out.as_mut_ptr(), out.len()) }
+pub fn file_faults(file: &[u8]) -> Faults {
+    unsafe { recorder_file_faults(file.as_ptr(), file.len()) }
 }
 
 pub fn synthesis(job: Job, volume: &mut [u32], scratch: &mut [u32]) -> Answer {
@@ -204,6 +213,7 @@ mod layout {
             layout!("recorder_job", Job, group, a, b, c, state),
             layout!("recorder_answer", Answer, number, job),
             layout!("recorder_file_answer", FileAnswer, number, place, job),
+            layout!("recorder_faults", Faults, count, first, second),
             layout!("recorder_write_answer", WriteAnswer, number, written),
             layout!("recorder_density", Density, number, density),
             layout!("recorder_factor_value", FactorValue, number, a, b),

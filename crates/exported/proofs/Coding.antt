@@ -12,15 +12,18 @@ use Rattle.job.specs.declared.FactorAnswer.{FactorAnswer}
 use Rattle.job.specs.Job.{OpenOutcome, Said, Outcome, Worked}
 use Rattle.job.specs.Answers.{said, saidOpen, saidPoint, saidFactor, replyOf, openOutcome, outcome, worked}
 use Rattle.factor_file.specs.declared.FileAnswer.{FileAnswer}
+use Rattle.factor_file.specs.declared.faults.Faults.{Faults}
+use Rattle.factor_file.specs.Faults.{saidFaults}
 use Rattle.factor_file.specs.Answers.{saidFile, fileOutcome}
 use Rattle.output.specs.Answers.{saidFill, fillOutcome}
 use Rattle.output.specs.declared.FillAnswer.{FillAnswer}
 use Rattle.output.specs.Output.{FillOutcome}
 use Rattle.exported.specs.declared.answers.JobCoded.{JobCoded}
 use Rattle.exported.specs.declared.answers.FileCoded.{FileCoded}
+use Rattle.exported.specs.declared.answers.FaultsCoded.{FaultsCoded}
 use Rattle.exported.specs.declared.answers.PointCoded.{PointCoded}
 use Rattle.exported.specs.declared.answers.FactorCoded.{FactorCoded}
-use Rattle.exported.specs.Answers.{openingCoded, openCoded, fileAnswerCoded, fileCoded, recordCoded, workCoded, pointCoded, factorCoded, writingCoded, writeCoded, lineCoded, windowCoded}
+use Rattle.exported.specs.Answers.{openingCoded, openCoded, fileAnswerCoded, fileCoded, faultsCoded, recordCoded, workCoded, pointCoded, factorCoded, writingCoded, writeCoded, lineCoded, windowCoded}
 use Rattle.exported.specs.declared.answers.WriteCoded.{WriteCoded}
 use Rattle.sliding_window.specs.Window.{Extremes, WindowOutcome}
 use Rattle.sliding_window.specs.Answers.{windowOutcome}
@@ -30,6 +33,9 @@ open-coded a r v o h e = ap (λ r. (r, v)) h ∙ ap openCoded e
 
 pub file-coded : (a : FileAnswer) (r : FileCoded) (v : List ℕ) (o : OpenOutcome) → r ≡ fileAnswerCoded (saidFile a) → fileOutcome a v ≡ o → (r, v) ≡ fileCoded o
 file-coded a r v o h e = ap (λ r. (r, v)) h ∙ ap fileCoded e
+
+pub faults-coded : (a : Faults) (r : FaultsCoded) (places : List ℕ) → r ≡ faultsCoded (saidFaults a) → saidFaults a ≡ places → r ≡ faultsCoded places
+faults-coded a r places h e = h ∙ ap faultsCoded e
 
 module _ (a : Answered) (r : JobCoded) (h : r ≡ record { number = replyOf (said (a .answer)) .number; job = a .job }) (v : List ℕ) where
   pub record-coded : (o : Outcome) → outcome a v ≡ o → (r, v) ≡ recordCoded o

@@ -1,5 +1,5 @@
 -- What the calls of a job and of a factor file return and leave as numbers, from what their definitions say: the answer, then the buffers.
-use mathlib.Core.List.{List}
+use mathlib.Core.List.{List, [], _∷_}
 use Prim.Native.Nat.{ℕ}
 use Rattle.signed.specs.Integers.{pos}
 use Rattle.job.specs.declared.Axis.{Axis}
@@ -8,6 +8,7 @@ use Rattle.job.specs.Job.{Opening, Opening.opened, Opening.notOpened, OpenOutco
 use Rattle.job.specs.Answers.{replyOf}
 use Rattle.exported.specs.declared.answers.JobCoded.{JobCoded}
 use Rattle.exported.specs.declared.answers.FileCoded.{FileCoded}
+use Rattle.exported.specs.declared.answers.FaultsCoded.{FaultsCoded}
 use Rattle.exported.specs.declared.answers.PointCoded.{PointCoded}
 use Rattle.exported.specs.declared.answers.FactorCoded.{FactorCoded}
 use Rattle.line.specs.Line.{LineOutcome}
@@ -35,6 +36,12 @@ fileAnswerCoded (notOpened n place) = record { number = n; place = place; job = 
 
 abbrev pub fileCoded : OpenOutcome → FileCoded × List ℕ
 fileCoded o = (fileAnswerCoded (o .answer), o .volume)
+
+-- The places of the fewest records at fault: there are no more than two.
+abbrev pub faultsCoded : List ℕ → FaultsCoded
+faultsCoded [] = record { count = 0; first = 0; second = 0 }
+faultsCoded (place ∷ []) = record { count = 1; first = place; second = 0 }
+faultsCoded (place ∷ later ∷ more) = record { count = 2; first = place; second = later }
 
 abbrev pub recordCoded : Outcome → JobCoded × List ℕ
 recordCoded o = (record { number = replyOf (o .answer) .number; job = o .job }, o .volume)

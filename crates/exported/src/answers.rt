@@ -2,6 +2,7 @@
 //
 // Every answer has a number: 0, or the paper's number of the refusal. What only an accepted call gives is zero in a refused one.
 use factor_file::FileAnswer;
+use factor_file::faults::Faults;
 use job::Answered;
 use job::Axis;
 use job::FactorAnswer;
@@ -13,8 +14,9 @@ use output::FillAnswer;
 ghost use mathlib.Core.Path.{_≡_};
 ghost use Rattle.job.specs.Answers.{said, saidOpen, saidPoint, saidFactor, replyOf};
 ghost use Rattle.factor_file.specs.Answers.{saidFile};
+ghost use Rattle.factor_file.specs.Faults.{saidFaults};
 ghost use Rattle.output.specs.Answers.{saidFill};
-ghost use Rattle.exported.specs.Answers.{noJob, openingCoded, fileAnswerCoded, pointCoded, factorCoded, writingCoded};
+ghost use Rattle.exported.specs.Answers.{noJob, openingCoded, fileAnswerCoded, faultsCoded, pointCoded, factorCoded, writingCoded};
 
 // The answer of an opening, a record, a synthesis and an analysis.
 #[repr(C)]
@@ -52,6 +54,14 @@ pub struct WriteCoded {
     pub written: usize,
 }
 
+// The fewest records at fault of a file: how many, none, one or two, and their places.
+#[repr(C)]
+pub struct FaultsCoded {
+    pub count: u32,
+    pub first: u32,
+    pub second: u32,
+}
+
 pub fn opening_coded(answer: OpenAnswer) -> JobCoded
     ensures { λ r. ⌜ r ≡ openingCoded (saidOpen answer) ⌝ }
 {
@@ -80,6 +90,28 @@ pub fn file_coded(answer: FileAnswer) -> FileCoded
             number: refusals::number_of(refusal),
             place,
             job: no_job(),
+        },
+    }
+}
+
+pub fn faults_coded(answer: Faults) -> FaultsCoded
+    ensures { λ r. ⌜ r ≡ faultsCoded (saidFaults answer) ⌝ }
+{
+    match answer {
+        Faults::NoFault => FaultsCoded {
+            count: 0,
+            first: 0,
+            second: 0,
+        },
+        Faults::One(place) => FaultsCoded {
+            count: 1,
+            first: place,
+            second: 0,
+        },
+        Faults::Two(first, second) => FaultsCoded {
+            count: 2,
+            first,
+            second,
         },
     }
 }

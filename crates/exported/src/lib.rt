@@ -6,10 +6,12 @@
 pub mod answers; // answers.rt: what the calls answer, as numbers
 
 use crate::answers::FactorCoded;
+use crate::answers::FaultsCoded;
 use crate::answers::FileCoded;
 use crate::answers::JobCoded;
 use crate::answers::PointCoded;
 use crate::answers::WriteCoded;
+use factor_file::faults;
 use factor_file::open_file;
 use job::GridPoint;
 use job::Job;
@@ -20,8 +22,9 @@ ghost use Rattle.line.specs.Line.{lineStep};
 ghost use Rattle.line.specs.Answers.{saidLine};
 ghost use Rattle.job.specs.Job.{openStep, recordStep, synthesisStep, analysisStep, pointStep, factorStep};
 ghost use Rattle.factor_file.specs.File.{fileStep, writeStep};
+ghost use Rattle.factor_file.specs.Faults.{faultsIn};
 ghost use Rattle.sliding_window.specs.Window.{windowStep};
-ghost use Rattle.exported.specs.Answers.{openCoded, fileCoded, recordCoded, workCoded, pointCoded, factorCoded, writeCoded, lineCoded, windowCoded};
+ghost use Rattle.exported.specs.Answers.{openCoded, fileCoded, faultsCoded, recordCoded, workCoded, pointCoded, factorCoded, writeCoded, lineCoded, windowCoded};
 
 // Opens a job. A refused opening gives a job of zeros, which every call refuses.
 #[no_mangle]
@@ -48,6 +51,14 @@ pub extern "C" fn recorder_open_file(file: &[u8], volume: &mut [u32]) -> FileCod
     ensures { λ r. ⌜ (r, now (volume .exit)) ≡ fileCoded (fileStep (now (file .entry)) (now (volume .entry))) ⌝ }
 {
     crate::answers::file_coded(open_file::open_file(file, volume))
+}
+
+// The fewest records at fault of a factor file.
+#[no_mangle]
+pub extern "C" fn recorder_file_faults(file: &[u8]) -> FaultsCoded
+    ensures { λ r. ⌜ r ≡ faultsCoded (faultsIn (now (file .entry))) ⌝ }
+{
+    crate::answers::faults_coded(faults::file_faults(file))
 }
 
 // Writes the factor file of a job that holds factors.

@@ -1,4 +1,4 @@
--- The numbers of an answer are those of what it says: one law for each kind of answer, refused or accepted.
+-- The numbers of an answer are those of what it says: one law for each kind of answer, refused or accepted, and one for records at fault.
 use mathlib.Core.Path.{_≡_, _∙_, sym, ap, ap₂}
 use Prim.Native.Nat.{ℕ}
 use Rattle.refusals.specs.declared.Refusal.{Refusal}
@@ -9,6 +9,8 @@ use Rattle.job.specs.declared.OpenAnswer.the-variants as O
 use Rattle.job.specs.Answers.{saidOpen}
 use Rattle.factor_file.specs.declared.FileAnswer.{FileAnswer}
 use Rattle.factor_file.specs.declared.FileAnswer.the-variants as I
+use Rattle.factor_file.specs.declared.faults.Faults.{Faults}
+use Rattle.factor_file.specs.Faults.{saidFaults}
 use Rattle.factor_file.specs.Answers.{saidFile}
 use Rattle.exported.specs.declared.answers.JobCoded.{JobCoded}
 use Rattle.output.specs.declared.FillAnswer.{FillAnswer}
@@ -16,7 +18,7 @@ use Rattle.output.specs.declared.FillAnswer.the-variants as W
 use Rattle.output.specs.Answers.{saidFill}
 use Rattle.exported.specs.declared.answers.FileCoded.{FileCoded}
 use Rattle.exported.specs.declared.answers.WriteCoded.{WriteCoded}
-use Rattle.exported.specs.Answers.{noJob, openingCoded, fileAnswerCoded, writingCoded}
+use Rattle.exported.specs.Answers.{noJob, openingCoded, fileAnswerCoded, faultsCoded, writingCoded}
 
 module _ (r : OpenAnswer) where
   pub opened-coded : (j : Job) → r ≡ O.Opened j → _≡_ {A = JobCoded} (record { number = 0; job = j }) (openingCoded (saidOpen r))
@@ -38,3 +40,6 @@ module _ (r : FillAnswer) where
 
   pub unwritten-coded : (f : Refusal) (n : ℕ) → r ≡ W.Refused f → n ≡ numberOf f → _≡_ {A = WriteCoded} (record { number = n; written = 0 }) (writingCoded (saidFill r))
   unwritten-coded f n g h = ap (λ n. record { number = n; written = 0 }) h ∙ ap (λ (a : FillAnswer). writingCoded (saidFill a)) (sym g)
+
+pub known-faults-coded : (r known : Faults) → r ≡ known → faultsCoded (saidFaults known) ≡ faultsCoded (saidFaults r)
+known-faults-coded r known g = ap (λ (a : Faults). faultsCoded (saidFaults a)) (sym g)

@@ -606,6 +606,19 @@ def records_in(file):
     return [tuple(number(file[q + a:q + b]) for a, b in zip(ends, ends[1:])) for q in range(first_record(file), len(file), 14)]
 
 
+def file_faults(file):
+    """The places of the fewest records at fault: of 24 the first record of the orbit and the refused one, of any other number that one alone."""
+    refused, place, _ = open_file(file, needed(file))
+    if refused not in (10, 7, 12, 24):
+        return []
+    if refused != 24:
+        return [place]
+    n = tuple(number(file[q:q + 2]) for q in (6, 8, 10))
+    indices = [record[:3] for record in records_in(file)]
+    orbit = {i for i, _ in images(file[5], n, indices[place], (0, 0))}
+    return [next(q for q, j in enumerate(indices) if j in orbit), place]
+
+
 def factor_lists(p):
     """Every factor list with the product p."""
     if p == 1:

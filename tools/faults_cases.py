@@ -1,22 +1,22 @@
 #!/usr/bin/env python3
-"""The fewest records at fault of a factor file, by trying all of its records' subsets.
+"""The fewest records at fault of a factor file, by trying all lists of its records.
 
     faults_cases.py
 
 `fewest` takes of a file that is refused at a record every list of its records that ends in the refused one, makes the file of each under the
-same header with its own counts, and gives the shortest that is refused with the same number. `by_rule` gives the same from what the number says: of 24 the
-first record of the refused one's orbit and the refused one, of any other number that one alone.
+same header with its own counts, and gives the shortest that is refused with the same number.
 
-Run as a program it compares the two on small files of all five groups: accepted, damaged, with faulty headers, with one faulty record and with
-several, with zeros. It demands too that the shortest list is the only one of its length, that each file tried is refused at its last record or not
-at all, and that every refusal of a file was met. The seed is fixed. Prints how many files agreed; the exit status is 1 where one did not.
+Run as a program it compares this with the rule of brute_force.py on small files of all five groups: accepted, damaged, with faulty headers, with
+one faulty record and with several, with zeros. It demands too that the shortest list is the only one of its length, that each file tried is
+refused at its last record or not at all, and that every refusal of a file was met. The seed is fixed. Prints how many files agreed; the exit
+status is 1 where one did not.
 """
 import itertools
 import random
 import sys
 from collections import Counter
 
-from brute_force import P, factor_lists, file_bytes, first_record, images, needed, number, open_file, records_in
+from brute_force import P, factor_lists, file_bytes, file_faults, first_record, images, needed, open_file
 
 SEED = 1112
 # The refusals of a record, and all those that a file gives by itself: 6 is of the volume that it is opened on.
@@ -48,18 +48,6 @@ def refused_so(file, places, refusal):
     if again and (again, at) != (refusal, len(places) - 1):
         sys.exit("file %s: its records %s are refused %d at %d" % (file.hex(), places, again, at))
     return again != 0
-
-
-def by_rule(file):
-    """The places as the refusal's number gives them."""
-    refusal, refused = judged(file)
-    if refusal not in OF_RECORDS:
-        return []
-    if refusal != 24:
-        return [refused]
-    indices = [record[:3] for record in records_in(file)]
-    orbit = {i for i, _ in images(file[5], tuple(number(file[q:q + 2]) for q in (6, 8, 10)), indices[refused], (0, 0))}
-    return [next(place for place, j in enumerate(indices) if j in orbit), refused]
 
 
 # ---- small files
@@ -119,7 +107,7 @@ def main():
     met, agreed, wrong = Counter(), 0, 0
     for file in files(1600):
         met[judged(file)[0]] += 1
-        shortest, rule = fewest(file), by_rule(file)
+        shortest, rule = fewest(file), file_faults(file)
         if shortest == ([rule] if rule else []):
             agreed += 1
         else:

@@ -4,10 +4,10 @@
     host_test.py PROGRAM
 
 Small grids: the printer test's files, files of no records among them, their maps as text and as map files, the factor files written from those, the
-files shuffled and rewritten, their records, readings of points and factors, all against the book of brute_force.py. Every refusal that a file, a map
-file or a line can give. Runs of scores, their windows against window_cases.py. Files that are damaged, empty, missing, endless or not to be written,
-or are the input itself; pipes that are closed; no memory; signals at random moments of writing. P1 and P2_1 2_1 2_1 at 240^3 and P2_1 at 288^3 there
-and back, byte for byte, with some densities summed
+files shuffled and rewritten, their records, readings of points and factors, all against the book of brute_force.py. The records at fault of small
+files, against all lists of their records (faults_cases.py). Every refusal that a file, a map file or a line can give. Runs of scores, their windows
+against window_cases.py. Files that are damaged, empty, missing, endless or not to be written, or are the input itself; pipes that are closed; no
+memory; signals at random moments of writing. P1 and P2_1 2_1 2_1 at 240^3 and P2_1 at 288^3 there and back, byte for byte, with some densities summed
 directly. The seed is fixed. Prints how many comparisons agreed; the exit status is 1 where one did not.
 """
 import filecmp
@@ -23,8 +23,10 @@ import sys
 import tempfile
 import time
 
-from brute_force import (LIMIT, P, ROOT, Book, all_points, analysed, e, file_bytes, images, needed, number, open_file, pack_map, planes,
+from brute_force import (LIMIT, P, ROOT, Book, all_points, analysed, e, file_bytes, first_record, images, needed, number, open_file, pack_map, planes,
                          point_images, read_cell, records_in, signed, volume_length)
+from faults_cases import fewest, judged
+from faults_cases import files as faulty_files
 from printer_test import files
 from window_cases import SCORES, windows
 
@@ -32,7 +34,7 @@ SEED = 1973
 # Every refusal that the tool's input can give, readings outside the cell among them.
 REFUSALS = {"factor file": {3, 4, 5, 7, 8, 9, 10, 12, 15, 16, 24}, "map file": {3, 4, 5, 7, 8, 9, 10, 14, 15, 16},
             "line": {1, 2, 3, 4, 5, 6, 7}, "scores": {34}}
-COMMANDS = ["map", "factors", "rewrite", "records", "check", "info", "point", "factor", "line", "drift"]
+COMMANDS = ["map", "factors", "rewrite", "records", "check", "faults", "info", "point", "factor", "line", "drift"]
 # Those that work on a factor file or a map file.
 ON_FILES = COMMANDS[:-2]
 LARGE = [(0, 240, [4, 5, 3, 2]), (1, 288, [4, 4, 3, 3]), (4, 240, [2, 3, 4, 5])]
@@ -40,6 +42,7 @@ GROUPS = ["P1", "P2_1", "Pm", "Pa", "P2_1 2_1 2_1"]
 SAMPLES = [("p21", 6), ("p212121", 37), ("empty", 0)]
 RECORDS = 7000
 SIGNALS = 50
+FAULTY = 100
 
 
 class Tool:
@@ -182,7 +185,7 @@ def accepted_file(tool, rng, path, book, count):
     tool.expect(what + ": the factor file", open(back, "rb").read(), written(book))
     tool.expect(what + ": factors of factors", tool.run("factors", path, "-o", "-"), (0, written(book), b""))
     rewritten(tool, rng, what, path, book)
-    for command in ("rewrite", "records"):
+    for command in ("rewrite", "records", "faults"):
         tool.fails(what + ": %s of a map" % command, (command, made, *(["-o", tool.path("none")] if command == "rewrite" else [])), b"has no records")
     for source in (path, made):
         j = tuple(rng.randrange(m) for m in n)
@@ -255,10 +258,10 @@ def zero_records(tool):
     first = zeros[77777]
     again = (240 - first[0], 240 - first[1], 240 - first[2], 0, 0)
     path = tool.file("many", file_bytes(0, n, lists, zeros + [again]))
-    found = "found: record 100000, from byte %d on: h %d, k %d, l %d, a 0, b 0; of one orbit with record 77777, from byte %d on: h %d, k %d, l %d, a 0, b 0" % (
-        31 + 1400000, *again[:3], 31 + 14 * 77777, *first[:3])
     status, out, err = tool.run("check", path)
+    found = found_text(31, zeros + [again], [77777, 100000])
     tool.expect(what + ", and one twice", (status, out.decode().split("\n")[0::2][:2], err), (1, ["refused 24 at 100000", found], b""))
+    tool.expect(what + ", the faults", tool.run("faults", path, preexec_fn=bounded(0)), (1, faults_text(zeros + [again], [77777, 100000]), b""))
 
 
 def full_cells(tool):
@@ -280,6 +283,38 @@ def full_cells(tool):
 
 # ---- refusals
 
+def found_text(start, records, places):
+    """What check says of the records at fault, of which the last is the refused one; the first begins at a byte."""
+    said = ["record %d, from byte %d on: h %d, k %d, l %d, a %d, b %d" % (place, start + 14 * place, *records[place]) for place in reversed(places)]
+    return "found: " + "; of one orbit with ".join(said)
+
+
+def faults_text(records, places):
+    """What faults prints."""
+    return "".join("%d: %d %d %d %d %d\n" % (place, *records[place]) for place in places).encode()
+
+
+def records_at_fault(tool):
+    """Small files: faults prints the records that brute force finds and check names them, for a file with none faults prints nothing."""
+    for file in faulty_files(FAULTY):
+        refusal, place = judged(file)
+        path, what = tool.file("faulty", file), "faults of %s" % file.hex()
+        for places in fewest(file):
+            records = records_in(file)
+            tool.expect(what, tool.run("faults", path), (1, faults_text(records, places), b""))
+            status, out, err = tool.run("check", path)
+            found = found_text(first_record(file), records, places)
+            tool.expect(what + ": check", (status, out.decode().split("\n")[0::2][:2], err), (1, ["refused %d at %d" % (refusal, place), found], b""))
+            break
+        else:
+            if refusal:
+                tool.refused(what, ("faults", path), refusal)
+            else:
+                tool.expect(what, tool.run("faults", path), (0, b"", b""))
+    with open(tool.file("faulty", file_bytes(0, (2, 2, 2), [[], [], []], [(0, 0, 2, 3, 4)])), "rb") as given:
+        tool.expect("faults of standard input", tool.run("faults", "-", stdin=given), (1, b"0: 0 0 2 3 4\n", b""))
+
+
 def refused_records(tool):
     """What check says of a record: its place, its contents, and of 24 the record that was there before."""
     n, lists = (4, 4, 4), [[2], [2], [2]]
@@ -291,9 +326,7 @@ def refused_records(tool):
         path = tool.file("records", file_bytes(g, n, lists, [(0, 0, 0, 1, 0), first, record, (3, 3, 3, 3, 3)]))
         status, out, err = tool.run("check", path)
         head, _, found, _, end = out.decode().split("\n")
-        contents = "found: record 2, from byte 50 on: h %d, k %d, l %d, a %d, b %d" % record
-        if refusal == 24:
-            contents += "; of one orbit with record 1, from byte 36 on: h 1, k 1, l 3, a 4, b 5"
+        contents = found_text(22, [(0, 0, 0, 1, 0), first, record], [1, 2] if refusal == 24 else [2])
         what = "group %d, record %s" % (g, record)
         tool.expect(what, (status, head, found, end, err), (1, "refused %d at 2" % refusal, contents, "", b""))
         tool.refused(what, ("point", path, 0, 0, 0), refusal, 2)
@@ -450,8 +483,8 @@ def command_line(tool):
             tool.expect("help of " + name, (status, out.startswith(b"recorder " + name.encode() + b" "), err), (0, True, b""))
     path = tool.file("sound", file_bytes(0, (2, 2, 2), [[], [], []], [(1, 0, 0, 3, 0)]))
     for words in ((), ("paint",), ("map",), ("map", path, path), ("map", path, "-o"), ("map", path, "--fast"), ("factors", path), ("rewrite", path),
-                  ("check", path, "-o", "x"), ("records", path, "-o", "x"), ("rewrite", path, "-o", tool.path("none"), "--times"),
-                  ("map", path, "-o", tool.path("none"), "-o", tool.path("none")),
+                  ("check", path, "-o", "x"), ("records", path, "-o", "x"), ("faults", path, "-o", "x"),
+                  ("rewrite", path, "-o", tool.path("none"), "--times"), ("map", path, "-o", tool.path("none"), "-o", tool.path("none")),
                   ("info", path, "--times"), ("point", path, 1, 2), ("point", path, 1, 2, "z"), ("factor", path, 1, 2, "-3"), ("line", 1, 0, 4, "2;3"),
                   ("drift",), ("drift", "x"), ("drift", "-2"), ("drift", 2, "a", "b"), ("drift", 2, "-o", "x"), ("drift", 2, "--times"), ("map", path, "--csv")):
         tool.fails("usage %s" % (words,), words, b"--help")
@@ -544,7 +577,8 @@ def closed_pipe(tool):
             run.stdout.read(5)
             run.stdout.close()
             tool.expect("a pipe closed early", (run.stderr.read(), run.wait()), (b"", 0))
-    for words, status in ((("check", tool.path("sound")), 0), (("check", tool.path("empty")), 1), (("map", tool.path("empty")), 1), (("--help",), 0)):
+    for words, status in ((("check", tool.path("sound")), 0), (("check", tool.path("empty")), 1), (("faults", tool.path("faulty")), 1),
+                          (("map", tool.path("empty")), 1), (("--help",), 0)):
         reading, writing = os.pipe()
         os.close(reading)
         got = tool.run(*words, stdout=writing)
@@ -669,9 +703,9 @@ def progress(tool):
 def main():
     with tempfile.TemporaryDirectory() as folder:
         tool = Tool(os.path.abspath(sys.argv[1]), folder)
-        for part in (samples, small_grids, empty_cells, zero_records, full_cells, refused_records, refused_headers, refused_maps, lines, drift,
-                     command_line, files_and_streams, too_long, one_file, replaced, large_grids, closed_pipe, named_pipe, ended_by_signals,
-                     progress):
+        for part in (samples, small_grids, empty_cells, zero_records, full_cells, records_at_fault, refused_records, refused_headers, refused_maps,
+                     lines, drift, command_line, files_and_streams, too_long, one_file, replaced, large_grids, closed_pipe, named_pipe,
+                     ended_by_signals, progress):
             part(tool)
         tool.expect("the refusals", tool.seen, REFUSALS)
     print("%d comparisons agree, %d do not" % (tool.agreed, tool.wrong))

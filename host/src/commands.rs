@@ -24,12 +24,13 @@ struct Command {
 }
 
 const FILE: &str = "FILE";
-const COMMANDS: [Command; 10] = [
+const COMMANDS: [Command; 11] = [
     Command { name: "map", words: &[FILE], help: help::MAP, run: map },
     Command { name: "factors", words: &[FILE], help: help::FACTORS, run: factors },
     Command { name: "rewrite", words: &[FILE], help: help::REWRITE, run: rewrite },
     Command { name: "records", words: &[FILE], help: help::RECORDS, run: records },
     Command { name: "check", words: &[FILE], help: help::CHECK, run: check },
+    Command { name: "faults", words: &[FILE], help: help::FAULTS, run: faults },
     Command { name: "info", words: &[FILE], help: help::INFO, run: info },
     Command { name: "point", words: &[FILE, "x", "y", "z"], help: help::POINT, run: point },
     Command { name: "factor", words: &[FILE, "h", "k", "l"], help: help::FACTOR, run: factor },
@@ -145,6 +146,18 @@ fn check(given: &Given) -> Result<(), Failure> {
         }
         Err(failure) => Err(failure),
     }
+}
+
+/// A file whose shape or header is refused has no record at fault, and is refused here as by every command.
+fn faults(given: &Given) -> Result<(), Failure> {
+    let file = input::factor_file(&given.words[0])?;
+    let header = recorder::factor_file_header(&file)?;
+    let places = during("reading", |_| recorder::faults(&file));
+    if places.is_empty() {
+        return Ok(());
+    }
+    output::print_even_unread(&text::records_at(&file, &header, &places))?;
+    Err(Failure::Reported)
 }
 
 fn info(given: &Given) -> Result<(), Failure> {

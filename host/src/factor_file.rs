@@ -25,9 +25,16 @@ pub fn records(file: &[u8], header: &Header) -> u32 {
 pub struct Record {
     place: u32,
     byte: usize,
-    pub at: Reflection,
-    pub a: u32,
-    pub b: u32,
+    at: Reflection,
+    a: u32,
+    b: u32,
+}
+
+impl Record {
+    /// h, k, l, a, b.
+    pub fn numbers(&self) -> [u32; 5] {
+        [self.at.h, self.at.k, self.at.l, self.a, self.b]
+    }
 }
 
 /// A record of a file whose shape is sound.
@@ -36,17 +43,6 @@ pub fn record(file: &[u8], header: &Header, place: u32) -> Record {
     let part = |from: usize, to: usize| number(&file[byte + from..byte + to]);
     let at = Reflection { h: part(0, 2), k: part(2, 4), l: part(4, 6) };
     Record { place, byte, at, a: part(6, 10), b: part(10, 14) }
-}
-
-/// The file of the first records of another, a count of them, and of its record at a place.
-pub fn with_first(file: &[u8], header: &Header, first: u32, place: u32) -> Vec<u8> {
-    let (count, end) = (records_at(header) - COUNT, length(header, first as usize));
-    let byte = length(header, place as usize);
-    let mut some = [&file[..end], &file[byte..byte + RECORD]].concat();
-    let following = (some.len() - COUNT) as u32;
-    some[..COUNT].copy_from_slice(&following.to_be_bytes());
-    some[count..count + COUNT].copy_from_slice(&(first + 1).to_be_bytes());
-    some
 }
 
 impl Display for Record {

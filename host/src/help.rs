@@ -8,6 +8,7 @@ recorder: maps of unit cells from their structure factors, and back, modulo 86,3
   recorder rewrite FILE -o OUT           the factor file in the writer's order
   recorder records FILE                  the records of a factor file, a line each
   recorder check FILE                    whether a file is accepted, and why not
+  recorder faults FILE                   the fewest records at fault, a line each
   recorder info FILE                     group, lengths, lists, volume, count of records
   recorder point FILE x y z              the density at a point
   recorder factor FILE h k l             the structure factor at an index
@@ -15,8 +16,8 @@ recorder: maps of unit cells from their structure factors, and back, modulo 86,3
   recorder drift W [FILE] [--csv]        the least and the greatest of each W neighbouring scores
   recorder COMMAND --help                more about a command
 
-A FILE is a factor file or a map file, told apart by its first four bytes; rewrite and records take a factor file, drift a file of scores.
-- is standard input.
+A FILE is a factor file or a map file, told apart by its first four bytes; rewrite, records and faults take a factor file, drift a file of
+scores. - is standard input.
 Exit status: 0 done, 1 the input was refused, 2 a wrong command line or a file that cannot be read or written.
 ";
 
@@ -57,7 +58,17 @@ records, which stands for a cell whose factors are all zero, it prints nothing.
 pub const CHECK: &str = "\
 recorder check FILE
 
-Prints 'accepted', or the refusal's number and the record's place, then why, what was found there and what to do. Exit status 0 or 1.
+Prints 'accepted', or the refusal's number and the record's place, then why, what was found there and what to do; for
+24 both records of the orbit are named. Exit status 0 or 1.
+";
+
+pub const FAULTS: &str = "\
+recorder faults FILE
+
+Of a factor file that is refused at a record, prints the fewest of its records, the refused one last, that under the same header are refused with the
+same number: 'PLACE: h k l a b', a line each, rising, places counted from 0. For refusal 24 these are the two records of one orbit, for any other the
+refused one alone; recorder check says which refusal it is. Exit status 1. Of a file that is accepted nothing is printed, exit status 0. A file
+whose shape or header is refused has no record at fault: nothing is printed but the refusal, on standard error. Exit status 1.
 ";
 
 pub const INFO: &str = "\

@@ -2,7 +2,7 @@
 //!
 //! No refusal is decided here. A file's header is judged by the proved call on an empty volume: 6, volume not exactly as long as required, comes
 //! after every refusal of a header, so it says that the header is sound, and only then is memory asked for.
-use crate::factor_file::{self, Record};
+use crate::factor_file;
 use crate::failure::Failure;
 use crate::ffi::{self, Answer, GridPoint, Job, Reflection};
 use crate::header::Header;
@@ -14,7 +14,6 @@ const COLLECT: u32 = 0;
 const MAP: u32 = 1;
 const MAP_HELD: u32 = 2;
 const VOLUME_LENGTH: u32 = 6;
-const TAKEN: u32 = 24;
 
 pub struct Recorder {
     pub header: Header,
@@ -31,6 +30,13 @@ pub fn factor_file_header(file: &[u8]) -> Result<Header, Refusal> {
         (SHAPE, _) => Err(Refusal::of_shape(factor_file::filling(file))),
         (number, found) => Err(Refusal::of_header(number, found.ok().as_ref())),
     }
+}
+
+/// The places of the fewest records that are refused as the file is, rising: two of one orbit, or the refused one alone. None where no record
+/// of the file is refused.
+pub fn faults(file: &[u8]) -> Vec<u32> {
+    let found = ffi::file_faults(file);
+    [found.first, found.second].into_iter().take(found.count as usize).collect()
 }
 
 /// Whether a job can be opened with a header.
@@ -52,8 +58,8 @@ impl Recorder {
         }
         let refused = factor_file::record(file, &header, answer.place);
         let mut found = refused.to_string();
-        if answer.number == TAKEN {
-            found += &format!("; of one orbit with {}", of_one_orbit(file, &header, answer.place, &mut volume));
+        if let [first, _] = faults(file)[..] {
+            found += &format!("; of one orbit with {}", factor_file::record(file, &header, first));
         }
         Err(Refusal::of_record(answer.number, answer.place, found).into())
     }
@@ -136,21 +142,6 @@ impl Recorder {
 /// Transforms one line in place.
 pub fn line(kind: u32, direction: u32, length: u32, list: &[u8], line: &mut [u32]) -> Result<(), Refusal> {
     accepted(ffi::line(kind, direction, length, list, line, &mut vec![0; SCRATCH]))
-}
-
-/// The record before a place that is of the orbit of the one refused there. The records before it were taken together, so the refused one behind
-/// the first few of them is refused exactly if the record is among these: how many they are is found by halving.
-fn of_one_orbit(file: &[u8], header: &Header, place: u32, volume: &mut [u32]) -> Record {
-    let (mut without, mut with) = (0, place);
-    while without + 1 < with {
-        let middle = without + (with - without) / 2;
-        let some = factor_file::with_first(file, header, middle, place);
-        match ffi::open_file(&some, volume).number {
-            0 => without = middle,
-            _ => with = middle,
-        }
-    }
-    factor_file::record(file, header, without)
 }
 
 fn opened(header: &Header, kind: u32, volume: &mut [u32]) -> Answer {

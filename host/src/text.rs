@@ -1,7 +1,6 @@
 //! Text: numbers, the records of a file, and the text of a map, as the map printer prints it: group and lengths, then a line for each stored plane z and each x, rising, with z, x and the
 //! values by y, with their signs. crates/printing proves the printer's text in a buffer; this one goes out as it is made, so that no grid needs a second buffer.
-use crate::factor_file::{self, Record};
-use crate::ffi::Reflection;
+use crate::factor_file;
 use crate::header::Header;
 use crate::progress::Told;
 use crate::recorder::Recorder;
@@ -31,10 +30,10 @@ pub fn write(recorder: &Recorder, out: &mut impl Write, told: &Told) -> io::Resu
 pub fn write_records(file: &[u8], header: &Header, out: &mut impl Write) -> io::Result<()> {
     let mut line = Vec::new();
     for place in 0..factor_file::records(file, header) {
-        let Record { at: Reflection { h, k, l }, a, b, .. } = factor_file::record(file, header, place);
+        let [h, rest @ ..] = factor_file::record(file, header, place).numbers();
         line.clear();
         push_number(&mut line, h);
-        push_numbers(&mut line, &[k, l, a, b]);
+        push_numbers(&mut line, &rest);
         line.push(b'\n');
         out.write_all(&line)?;
     }
@@ -52,6 +51,15 @@ fn push_densities(line: &mut Vec<u8>, residues: &[u32]) {
             push_number(line, residue);
         }
     }
+}
+
+/// Some records of a factor file, a line each: the place, then h, k, l, a, b.
+pub fn records_at(file: &[u8], header: &Header, places: &[u32]) -> String {
+    let line = |&place| {
+        let [h, k, l, a, b] = factor_file::record(file, header, place).numbers();
+        format!("{place}: {h} {k} {l} {a} {b}\n")
+    };
+    places.iter().map(line).collect()
 }
 
 /// Numbers with a blank before each.

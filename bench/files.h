@@ -1,12 +1,12 @@
 /* Records and factor files of a P1 cell of 240^3: 100,000 record calls, the file of the same records read and written, and the file of a
    box with a value for every orbit (6,912,004 records, 97 million bytes) written and read back. */
+#include "file_bytes.h"
 #include "passes.h"
 #include "recorder.h"
 #include "timing.h"
 
 enum { LENGTH = 240, SPARSE = 100000, HEADER = 31 };
 
-typedef struct { uint32_t h, k, l, a, b; } factor_record;
 typedef struct { double records, reading, writing, full_writing, full_reading; } file_times;
 
 /* What the runs share: the records and their file, the factors of the full box, a volume, and room for the longest file. */
@@ -18,12 +18,6 @@ typedef struct {
 } file_frame;
 
 static const uint8_t list_240[] = { 5, 4, 3, 2 };
-
-static uint8_t *put(uint8_t *out, int bytes, uint64_t x)
-{
-    for (int i = bytes - 1; i >= 0; i--) *out++ = x >> (8 * i);
-    return out;
-}
 
 /* Records of distinct orbits: h from 1 to 119, so that no index is its own mate nor another's. */
 static void make_records(factor_record *records)
@@ -39,19 +33,8 @@ static void make_records(factor_record *records)
 
 static size_t make_file(const factor_record *records, uint8_t *file)
 {
-    uint8_t *q = put(put(file + 4, 1, 1), 1, 0);
-    for (int axis = 0; axis < 3; axis++) q = put(q, 2, LENGTH);
-    for (int axis = 0; axis < 3; axis++) {
-        q = put(q, 1, sizeof list_240);
-        for (size_t j = 0; j < sizeof list_240; j++) q = put(q, 1, list_240[j]);
-    }
-    q = put(q, 4, SPARSE);
-    for (uint32_t i = 0; i < SPARSE; i++) {
-        factor_record r = records[i];
-        q = put(put(put(q, 2, r.h), 2, r.k), 2, r.l);
-        q = put(put(q, 4, r.a), 4, r.b);
-    }
-    put(file, 4, q - file - 4);
+    uint8_t *q = put_header(file, LENGTH, list_240, sizeof list_240, SPARSE);
+    for (uint32_t i = 0; i < SPARSE; i++) q = put_record(q, records[i]);
     return q - file;
 }
 

@@ -16,7 +16,8 @@ test_records.py says what the input holds and what is printed. The cases are mad
     8 poke      place, value: one number of the volume
     9 job       group, N1, list, N2, list, N3, list, state: the job itself (lists as octal digits)
 
-The answers of openings and replays are those of the book in brute_force.py, which is fed the calls' arguments alone; a file is written
+The answers of openings and replays are those of the book in brute_force.py, which is fed the calls' arguments alone; the records at fault are
+those of its rule, which faults_cases.py holds to all lists of records; a file is written
 from the job and the volume that the calls left. The seed is fixed.
 """
 import itertools
@@ -24,7 +25,7 @@ import random
 import sys
 
 import test_records
-from brute_force import P, SCRATCH, Machine, all_points, factor_lists, file_bytes, images, open_file, volume_length
+from brute_force import P, SCRATCH, Machine, all_points, factor_lists, file_bytes, file_faults, images, open_file, volume_length
 from order_cases import factors_of, fault_sets, faulty_arguments, faulty_header, faulty_job, pair
 from test_records import JOB, POKE, WRITE, checksum
 
@@ -51,7 +52,13 @@ class TestProgram:
         refused, file = self.left.write(room)
         return "%d %d %d" % (refused, len(file), checksum(file + bytes([7]) * (room - len(file))))
 
+    def faults(self, file):
+        places = file_faults(file)
+        return "%d %d %d" % (len(places), *places, *[0] * (2 - len(places)))
+
     def opening(self, file):
+        """What is printed of a file: its records at fault, then its opening."""
+        yield self.faults(file)
         refused, place, book = open_file(file, self.length)
         if book:
             volume = book.volume()
@@ -63,7 +70,7 @@ class TestProgram:
         if book:
             self.book = book
             self.leave()
-        return "%d %d %d %d" % (refused, place, checksum(job), checksum(volume))
+        yield "%d %d %d %d" % (refused, place, checksum(job), checksum(volume))
 
     def replay(self, scratch, room):
         book = self.book
@@ -124,10 +131,10 @@ class TestProgram:
         """The lines that are printed."""
         self.set(op, w)
         if op == 3:
-            yield self.opening(self.file)
+            yield from self.opening(self.file)
         elif op == 4:
             for file in self.damaged():
-                yield self.opening(file)
+                yield from self.opening(file)
         elif op == 6:
             yield from self.replay(*w)
         elif op == 7:

@@ -2,7 +2,7 @@
 
 A record is ten numbers (4 bytes each, big-endian): an operation, how many numbers of the buffer are lent as the volume, and eight more:
     0 open       group, kind, N1, N2, N3, the lengths of the three factor lists; the lists follow, 16 bytes for each
-    1 file       how many bytes the file has; they follow: the file is opened on a volume of sevens
+    1 file       how many bytes the file has; they follow: its records at fault are asked for, then the file is opened on a volume of sevens
     2 replay     how many numbers the script has, how many are lent as the scratch and for the answers; the script follows, six numbers a call:
                  it is replayed on the job, with a scratch of sevens and answers of nines
     3 write      how many bytes are lent as the output: the file of the job is written into an output of sevens
@@ -13,7 +13,8 @@ A call of a script is its operation (0 record, 1 synthesis, 2 analysis, 3 point,
 two of a value.
 
 A line is printed for each opening: the refusal's number or 0, the record's place or 0, checksums of the job and the volume; the job is
-the one that goes on, for a refused file all 0s.
+the one that goes on, for a refused file all 0s. The line before that of a file: how many of its records are at fault and their places, 0 for a
+place that is not given.
 For a replay: how many numbers of answers were written, checksums of the job, the volume and the scratch, then a line with every number lent for answers.
 For a writing: the refusal's number or 0, how many bytes were written and a checksum of the output.
 """

@@ -1,5 +1,5 @@
 // The records of the recorder test that ask for one call: openings by group, lengths and lists, openings of factor files, sound and
-// damaged, the files of jobs; and those that set a job or numbers of the volume. Each prints what its call answers and leaves.
+// damaged, and their records at fault, the files of jobs; and those that set a job or numbers of the volume. Each prints what its call answers and leaves.
 // tools/test_records.py says what a record holds and what is printed.
 ghost use mathlib.Core.Path.{_≡_};
 ghost use Prim.Native.Nat.{_<_};
@@ -7,6 +7,8 @@ ghost use lib.ListN.{length, replicate};
 ghost use Rattle.test_io.specs.Checksum.{checksumOf};
 ghost use Rattle.recorder_test.specs.Records.{numbersOf, axisIn, jobIn, JobAfter};
 use factor_file::FileAnswer;
+use factor_file::faults;
+use factor_file::faults::Faults;
 use factor_file::open_file;
 use job::Axis;
 use job::Job;
@@ -138,11 +140,26 @@ fn of_open(answer: OpenAnswer, before: Job) -> Opening {
     }
 }
 
-// The opening of the file that follows, on a volume of sevens.
+fn print_faults(answer: Faults) {
+    match answer {
+        Faults::NoFault => print_places(0, 0, 0),
+        Faults::One(place) => print_places(1, place, 0),
+        Faults::Two(first, second) => print_places(2, first, second),
+    }
+}
+
+// How many records of a file are at fault, and their places.
+fn print_places(count: u32, first: u32, second: u32) {
+    let said = [count, first, second];
+    test_io::print_line(&said);
+}
+
+// The records at fault of the file that follows, and its opening on a volume of sevens.
 fn file_opened(before: Job, r: &[u32], volume: &mut [u32]) -> Job {
     let mut bytes = [0u8; 1024];
     let n = test_io::length_at(r, 2, 1024);
     let file = test_io::bytes_read(&mut bytes[..n]);
+    print_faults(faults::file_faults(file));
     test_io::fill_with(volume, 7);
     let answer = open_file::open_file(file, volume);
     print_opening(of_file(answer, before), &volume[..])

@@ -16,6 +16,12 @@ slice-aggregate-bytes-read c = simp length-take (omega arith)
 bytes-read-requires : tie.Need-bytes-read-requires
 bytes-read-requires c κs = search needs
 
+file-faults-requires : tie.Need-file-faults-requires
+file-faults-requires c κs = search needs
+
+print-faults-requires : tie.Need-print-faults-requires
+print-faults-requires c κs = search needs
+
 fill-with-requires : tie.Need-fill-with-requires
 fill-with-requires c κs = search needs
 
@@ -42,6 +48,8 @@ file-opened-spec =
     array-borrow-prefix-bytes
     slice-aggregate-bytes-read
     bytes-read-requires
+    file-faults-requires
+    print-faults-requires
     fill-with-requires
     open-file-requires
     of-file-requires

@@ -587,9 +587,9 @@ def file_bytes(g, n, lists, records):
 
 
 def needed(file):
-    """How many numbers the volume of a file has, whatever its header."""
+    """How many numbers the volume of a file has, whatever its header; where that is more than any has, one more than that."""
     part = file + bytes(12)
-    return volume_length(part[5] % 5, [number(part[q:q + 2]) for q in (6, 8, 10)])
+    return min(volume_length(part[5] % 5, [number(part[q:q + 2]) for q in (6, 8, 10)]), LIMIT + 1)
 
 
 def first_record(file):

@@ -22,7 +22,7 @@
    own; a volume that all of them only read (recorder_point, recorder_factor, recorder_write_file) may be shared. By measurement on x86-64
    synthesis and analysis need some 92 KB of stack, recorder_line some 68 KB, every other call but one less than 8 KB, whatever the grid: give
    a thread 128 KB or more. The one is recorder_file_faults, which is lent no volume and marks the orbits of a file in an array of 256 KB of its
-   own: give a thread that calls it 384 KB or more.
+   own; it needs some 264 KB: give a thread that calls it 384 KB or more.
 
    Lengths N1, N2, N3 are even divisors of 2,880. Groups: 0 P1, 1 P2_1 with axis c, 2 Pm with its mirror across c, 3 Pa with its mirror
    across c and its glide along a, 4 P2_1 2_1 2_1 with the operations (1/2 - x, -y, 1/2 + z), (-x, 1/2 + y, 1/2 - z) and

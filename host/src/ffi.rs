@@ -151,6 +151,10 @@ pub fn file_faults(file: &[u8]) -> Faults {
     unsafe { recorder_file_faults(file.as_ptr(), file.len()) }
 }
 
+pub fn write_file(job: Job, volume: &[u32], out: &mut [u8]) -> WriteAnswer {
+    unsafe { recorder_write_file(job, volume.as_ptr(), volume.len(), out.as_mut_ptr(), out.len()) }
+}
+
 pub fn synthesis(job: Job, volume: &mut [u32], scratch: &mut [u32]) -> Answer {
     unsafe { recorder_synthesis(job, volume.as_mut_ptr(), volume.len(), scratch.as_mut_ptr(), scratch.len()) }
 }

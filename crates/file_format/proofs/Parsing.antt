@@ -1,28 +1,19 @@
 -- The bytes of a file read back: what stands from a place on settles the numbers, lists and records there, and what stands after them.
 use mathlib.Core.Path.{_≡_, refl, sym, _∙_, ap}
-use mathlib.Core.List.{List, [], _∷_, _++_, map, append-assoc}
+use mathlib.Core.List.{List, [], _∷_, _++_, append-assoc}
 use Prim.Native.Nat.{ℕ, _+_, _<_}
 use native.Mathlib.Omega.{arith}
 use lib.ListN.{length, getD, take, drop}
 use lib.Seq.{getD-drop, drop-drop, take-append-seam, drop-append-seam}
-use Rattle.algebra.specs.cells.Cell.{J}
-use Rattle.algebra.specs.ring.Ring.{Res}
 use Rattle.algebra.specs.orbits.Orbit.{Mem, first, later}
 use Rattle.algebra.proofs.ring.Laws.{along}
-use Rattle.numbers.specs.Value.{prime, Value}
-use Rattle.numbers.proofs.Residues.{val-small}
 use Rattle.file_format.specs.declared.FileRecord.{FileRecord}
 use Rattle.output.specs.Output.{bigEndian}
-use Rattle.file_format.specs.Format.{byteAt, twoBytes, fourBytes, listAt, afterList, recordAt, recordsFrom, listBytes, recordBytes, allBytes}
-use Rattle.file_format.specs.Parsed.{fileRecord, Short}
+use Rattle.file_format.specs.Format.{byteAt, twoBytes, fourBytes, listAt, afterList, recordAt, recordsFrom, listBytes, rawBytes, allBytes}
+use Rattle.file_format.specs.Parsed.{ShortRecord}
 
 right : (a b c d e t : List ℕ) → a ++ b ++ c ++ d ++ e ++ t ≡ a ++ (b ++ (c ++ (d ++ (e ++ t))))
 right a b c d e t = simp append-assoc
-
--- a residue has four bytes
-small : (x : Res (prime 1)) → x .val < 4294967296
-unfolding prime
-small x = omega (arith, val-small 1 x)
 
 module _ (file : List ℕ) where
   -- what stands from place q on
@@ -65,23 +56,20 @@ module _ (file : List ℕ) where
         along (λ n. drop n file) (q + 1 + byteAt file q) (q + 1 + length l) (omega (arith, c .0)) ∙ stands-after (q + 1) (length l) (l ++ t) rest ∙ drop-append-seam l t,
       )
 
-  pub record-at : (q : ℕ) (c : J × Value 1) (t : List ℕ) → Short (c .0) → Stands q (recordBytes c ++ t) → (recordAt file q ≡ fileRecord c) × Stands (q + 14) t
-  unfolding recordAt recordBytes
+  pub record-at : (q : ℕ) (c : FileRecord) (t : List ℕ) → ShortRecord c → Stands q (rawBytes c ++ t) → (recordAt file q ≡ c) × Stands (q + 14) t
+  unfolding recordAt
   record-at q c t s e =
-      let j = c .0 in
-      let x = c .1 .0 .val in
-      let y = c .1 .1 .val in
-      let h = two-at q (j .0) _ (s .h) (e ∙ right (bigEndian 2 (j .0)) (bigEndian 2 (j .1)) (bigEndian 2 (j .2)) (bigEndian 4 x) (bigEndian 4 y) t) in
-      let k = two-at (q + 2) (j .1) _ (s .k) (h .1) in
-      let l = two-at (q + 2 + 2) (j .2) _ (s .l) (k .1) in
-      let a = four-at (q + 2 + 2 + 2) x _ (small (c .1 .0)) (l .1) in
-      let b = four-at (q + 2 + 2 + 2 + 4) y t (small (c .1 .1)) (a .1) in
+      let h = two-at q (c .h) _ (s .index .h) (e ∙ right (bigEndian 2 (c .h)) (bigEndian 2 (c .k)) (bigEndian 2 (c .l)) (bigEndian 4 (c .a)) (bigEndian 4 (c .b)) t) in
+      let k = two-at (q + 2) (c .k) _ (s .index .k) (h .1) in
+      let l = two-at (q + 2 + 2) (c .l) _ (s .index .l) (k .1) in
+      let a = four-at (q + 2 + 2 + 2) (c .a) _ (s .a) (l .1) in
+      let b = four-at (q + 2 + 2 + 2 + 4) (c .b) t (s .b) (a .1) in
       let l′ = along (twoBytes file) (q + 4) (q + 2 + 2) (omega arith) ∙ l .0 in
       let a′ = along (fourBytes file) (q + 6) (q + 2 + 2 + 2) (omega arith) ∙ a .0 in
       let b′ = along (fourBytes file) (q + 10) (q + 2 + 2 + 2 + 4) (omega arith) ∙ b .0 in
       (λ i. record { h = h .0 i; k = k .0 i; l = l′ i; a = a′ i; b = b′ i }, along (λ n. drop n file) (q + 14) (q + 2 + 2 + 2 + 4 + 4) (omega arith) ∙ b .1)
 
-  pub records-at : (q : ℕ) (cs : List (J × Value 1)) → ((c : J × Value 1) → Mem c cs → Short (c .0)) → Stands q (allBytes cs) → recordsFrom file q (length cs) ≡ map fileRecord cs
+  pub records-at : (q : ℕ) (cs : List FileRecord) → ((c : FileRecord) → Mem c cs → ShortRecord c) → Stands q (allBytes cs) → recordsFrom file q (length cs) ≡ cs
   unfolding recordsFrom allBytes
   records-at q [] s e = refl
   records-at q (c ∷ cs) s e =

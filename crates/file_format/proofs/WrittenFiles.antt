@@ -1,19 +1,18 @@
 -- The file of a header and records read back: its header, its records and its shape.
 use mathlib.Core.Path.{_≡_, sym, _∙_, ap}
 use mathlib.Core.Bool.{_||_}
-use mathlib.Core.List.{List, _∷_, _++_, map, append-assoc}
+use mathlib.Core.List.{List, _∷_, _++_, append-assoc}
 use Prim.Native.Nat.{ℕ, _+_, _*_, _-_, _<_, _≤_}
 use native.Mathlib.Omega.{arith}
 use lib.ListN.{length, length-drop}
 use borrow.Author.Tests.{eq-eqb, le-ltb}
-use Rattle.algebra.specs.cells.Cell.{J}
-use Rattle.numbers.specs.Value.{Value}
 use Rattle.refusals.specs.Refusals.{first}
 use Rattle.refusals.proofs.Tests.{pass, none, not-t}
 use Rattle.header.specs.Header.{Header}
 use Rattle.output.specs.Output.{bigEndian}
+use Rattle.file_format.specs.declared.FileRecord.{FileRecord}
 use Rattle.file_format.specs.Format.{byteAt, fourBytes, list2At, list3At, countAt, recordCount, recordsIn, recordsFrom, shapeTests, headerIn, listBytes, headerBytes, allBytes, body, fileOf}
-use Rattle.file_format.specs.Parsed.{fileRecord, Writable, ParsesBack}
+use Rattle.file_format.specs.Parsed.{Writable, ParsesBack}
 use Rattle.file_format.proofs.layout.ByteLaws.{length-all}
 use Rattle.file_format.proofs.layout.FileParts.{length-body, length-file}
 use Rattle.file_format.proofs.Parsing.{Stands, byte-at, two-at, four-at, list-at, records-at}
@@ -22,7 +21,7 @@ use Rattle.file_format.proofs.Parsing.{Stands, byte-at, two-at, four-at
 header-right : (a b c d e f m n : List ℕ) → a ++ b ++ c ++ d ++ e ++ f ++ m ++ n ≡ a ++ (b ++ (c ++ (d ++ (e ++ (f ++ (m ++ n))))))
 header-right a b c d e f m n = simp append-assoc
 
-module _ (h : Header) (cs : List (J × Value 1)) (w : Writable h cs) where
+module _ (h : Header) (cs : List FileRecord) (w : Writable h cs) where
   abbrev file : List ℕ
   file = fileOf h cs
 
@@ -86,8 +85,8 @@ module _ (h : Header) (cs : List (J × Value 1)) (w : Writable h cs) where
   records-stand : (recordCount file ≡ length cs) × Stands file (countAt file + 4) (allBytes cs)
   records-stand = four-at file (countAt file) (length cs) (allBytes cs) few count-stands
 
-  records-read : recordsIn file ≡ map fileRecord cs
-  records-read = ap (recordsFrom file (countAt file + 4)) (records-stand .0) ∙ records-at file (countAt file + 4) cs (w .indices) (records-stand .1)
+  records-read : recordsIn file ≡ cs
+  records-read = ap (recordsFrom file (countAt file + 4)) (records-stand .0) ∙ records-at file (countAt file + 4) cs (w .records) (records-stand .1)
 
   -- ---- the shape
 

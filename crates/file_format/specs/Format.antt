@@ -5,8 +5,6 @@ use Rattle.algebra.specs.Prelude.{Bool, _||_, not, eqb, ltb, ℕ, zero, suc, _+
 use Rattle.file_format.specs.declared.FileRecord.{FileRecord}
 use Rattle.refusals.specs.Refusals.{Test, _⇒_}
 use Rattle.header.specs.Header.{Header}
-use Rattle.algebra.specs.cells.Cell.{J}
-use Rattle.numbers.specs.Value.{Value}
 use Rattle.output.specs.Output.{bigEndian}
 
 abbrev pub byteAt : List ℕ → ℕ → ℕ
@@ -103,24 +101,20 @@ headerIn file = record {
 abbrev pub listBytes : List ℕ → List ℕ
 listBytes l = length l ∷ l
 
--- a record by its numbers, whatever they are
+-- a record: three numbers of two bytes, and two of four, whatever they are
 abbrev pub rawBytes : FileRecord → List ℕ
 rawBytes c = bigEndian 2 (c .h) ++ bigEndian 2 (c .k) ++ bigEndian 2 (c .l) ++ bigEndian 4 (c .a) ++ bigEndian 4 (c .b)
 
--- a record: an index and a value
-unfoldable pub recordBytes : J × Value 1 → List ℕ
-recordBytes c = rawBytes (record { h = c .0 .0; k = c .0 .1; l = c .0 .2; a = c .1 .0 .val; b = c .1 .1 .val })
-
-unfoldable pub allBytes : List (J × Value 1) → List ℕ
+unfoldable pub allBytes : List FileRecord → List ℕ
 allBytes [] = []
-allBytes (c ∷ cs) = recordBytes c ++ allBytes cs
+allBytes (c ∷ cs) = rawBytes c ++ allBytes cs
 
 -- version, group, lengths and lists; then the count of the records and the records
 unfoldable pub headerBytes : Header → List ℕ
 headerBytes h = 1 ∷ h .group ∷ (bigEndian 2 (h .lengths .0) ++ bigEndian 2 (h .lengths .1) ++ bigEndian 2 (h .lengths .2) ++ listBytes (h .list1) ++ listBytes (h .list2) ++ listBytes (h .list3))
 
-abbrev pub body : Header → List (J × Value 1) → List ℕ
+abbrev pub body : Header → List FileRecord → List ℕ
 body h cs = headerBytes h ++ bigEndian 4 (length cs) ++ allBytes cs
 
-unfoldable pub fileOf : Header → List (J × Value 1) → List ℕ
+unfoldable pub fileOf : Header → List FileRecord → List ℕ
 fileOf h cs = bigEndian 4 (length (body h cs)) ++ body h cs

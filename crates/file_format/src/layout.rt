@@ -6,8 +6,6 @@ ghost use mathlib.Core.Path.{_≡_};
 ghost use mathlib.Core.List.{List};
 ghost use Prim.Native.Nat.{ℕ, _+_, _*_, _≤_, _<_};
 ghost use lib.ListN.{length};
-ghost use Rattle.algebra.specs.cells.Cell.{J};
-ghost use Rattle.numbers.specs.Value.{Value};
 ghost use Rattle.lengths.specs.Lengths.{octalDigits};
 ghost use Rattle.output.specs.Written.{Wrote, Ends};
 ghost use Rattle.file_format.specs.Format.{headerBytes, rawBytes, fileOf};
@@ -48,7 +46,7 @@ fn header_length(f1: u32, f2: u32, f3: u32) -> usize
 // How long a file of count records is: two counts of four bytes, the header, and 14 bytes for each record.
 pub fn file_length(f1: u32, f2: u32, f3: u32, count: usize) -> usize
     requires { ⌜ count ≤ 4294967296 ⌝ }
-    ensures { λ r. ⌜ ((group n1 n2 n3 : ℕ) (cs : List (J × Value 1)) → count ≡ length cs → r ≡ length (fileOf (headerWith group n1 n2 n3 f1 f2 f3) cs))
+    ensures { λ r. ⌜ ((group n1 n2 n3 : ℕ) (cs : List FileRecord) → count ≡ length cs → r ≡ length (fileOf (headerWith group n1 n2 n3 f1 f2 f3) cs))
         × (r ≤ 52 + 14 * count) ⌝ }
 {
     header_length(f1, f2, f3) + 8 + 14 * count

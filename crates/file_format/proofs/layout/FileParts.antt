@@ -4,11 +4,10 @@ use mathlib.Core.List.{List, _++_, append-assoc}
 use Prim.Native.Nat.{ℕ, _+_, _*_}
 use native.Mathlib.Omega.{arith}
 use lib.ListN.{length, length-append}
-use Rattle.algebra.specs.cells.Cell.{J}
-use Rattle.numbers.specs.Value.{Value}
 use Rattle.header.specs.Header.{Header}
 use Rattle.output.specs.Output.{bigEndian}
 use Rattle.output.proofs.BigEndian.{length-bytes}
+use Rattle.file_format.specs.declared.FileRecord.{FileRecord}
 use Rattle.file_format.specs.Format.{listBytes, headerBytes, allBytes, body, fileOf}
 use Rattle.file_format.proofs.layout.ByteLaws.{length-all}
 
@@ -21,15 +20,15 @@ length-header h =
     let n = bigEndian 2 (h .lengths .0) ++ bigEndian 2 (h .lengths .1) ++ bigEndian 2 (h .lengths .2) in
     omega (arith, length-append (n ++ a ++ b) c, length-append (n ++ a) b, length-append n a)
 
-pub length-body : (h : Header) (cs : List (J × Value 1)) → length (body h cs) ≡ length (headerBytes h) + 4 + 14 * length cs
+pub length-body : (h : Header) (cs : List FileRecord) → length (body h cs) ≡ length (headerBytes h) + 4 + 14 * length cs
 length-body h cs = omega (arith, length-append (headerBytes h ++ bigEndian 4 (length cs)) (allBytes cs), length-append (headerBytes h) (bigEndian 4 (length cs)), length-bytes 4 (length cs), length-all cs)
 
-pub length-file : (h : Header) (cs : List (J × Value 1)) → length (fileOf h cs) ≡ length (headerBytes h) + 8 + 14 * length cs
+pub length-file : (h : Header) (cs : List FileRecord) → length (fileOf h cs) ≡ length (headerBytes h) + 8 + 14 * length cs
 unfolding fileOf
 length-file h cs = omega (arith, length-append (bigEndian 4 (length (body h cs))) (body h cs), length-bytes 4 (length (body h cs)), length-body h cs)
 
 -- the parts as they are stored one after another; m is the count of the bytes that follow, n that of the records
-pub file-parts : (h : Header) (cs : List (J × Value 1)) (m n : ℕ) → m ≡ length (body h cs) → n ≡ length cs →
+pub file-parts : (h : Header) (cs : List FileRecord) (m n : ℕ) → m ≡ length (body h cs) → n ≡ length cs →
     bigEndian 4 m ++ headerBytes h ++ bigEndian 4 n ++ allBytes cs ≡ fileOf h cs
 unfolding fileOf
 file-parts h cs m n e f =

@@ -1,6 +1,6 @@
 -- A factor file read, and written: what opening a job by it answers and leaves; the records of a volume, the file of a job, and what writing it answers and leaves.
 -- Its layout, its bytes and the tests of its shape are those of file_format's Format.
-use Rattle.algebra.specs.Prelude.{ℕ, List, [], _∷_, _++_, length, replicate, Bool, not, eqb, ltb}
+use Rattle.algebra.specs.Prelude.{ℕ, List, [], _∷_, _++_, length, map, replicate, Bool, not, eqb, ltb}
 use Rattle.job.specs.declared.Job.{Job}
 use Rattle.job.specs.declared.Reflection.{Reflection}
 use Rattle.job.specs.Job.{halfLengths, opened, notOpened, OpenOutcome, index, ownTests, openStep, headerOf, groupIn, halves, validJob, mapHeld, p, fits}
@@ -14,6 +14,7 @@ use Rattle.cell.specs.Volume.{groupOf, factorsIn}
 use Rattle.cell.specs.Consistency.{sameValue, recordOn, consistentFactors}
 use Rattle.slices.specs.Pairs.{allBelow}
 use Rattle.file_format.specs.Format.{fileOf}
+use Rattle.file_format.specs.Parsed.{fileRecord}
 use Rattle.output.specs.Output.{FillOutcome, filled, notFilled}
 unfoldable pub use Rattle.file_format.specs.Format.{twoBytes, fourBytes, listAt, list2At, list3At, countAt, recordAt, recordsFrom}
 
@@ -86,7 +87,7 @@ unfoldable pub jobRecords : Job → List ℕ → List (J × Value 1)
 jobRecords j v = recordsAt (groupIn j) (halves j) v (placesOf (halves j))
 
 unfoldable pub jobFile : Job → List ℕ → List ℕ
-jobFile j v = fileOf (headerOf j) (jobRecords j v)
+jobFile j v = fileOf (headerOf j) (map (fileRecord 1) (jobRecords j v))
 
 -- ---- the call
 

@@ -1,5 +1,5 @@
 -- The writer's second step: the file of factors that are known to be sound.
-use mathlib.Core.List.{List, [], _∷_, _++_}
+use mathlib.Core.List.{List, [], _∷_, _++_, map}
 use Prim.Native.Nat.{ℕ, suc, _-_, _<_}
 use lib.ListN.{length, drop}
 use lib.Dec.{ltb}
@@ -18,7 +18,9 @@ use Rattle.cell.specs.declared.operations.UnitCell.{UnitCell}
 use Rattle.cell.specs.Operations.{cellGroup, cellHalves, tripleOf}
 use Rattle.cell.specs.TestSteps.{IsVolume}
 use Rattle.header.specs.Header.{Header}
+use Rattle.file_format.specs.declared.FileRecord.{FileRecord}
 use Rattle.file_format.specs.Format.{rawBytes, fileOf}
+use Rattle.file_format.specs.Parsed.{fileRecord}
 use Rattle.file_format.specs.Layout.{headerWith}
 
 -- 18: the file fits
@@ -61,11 +63,11 @@ abbrev pub pairBytes : J → Pair → List ℕ
 pairBytes j x = rawBytes (record { h = j .0; k = j .1; l = j .2; a = x .re; b = x .im })
 
 -- the record of one place, where it has one, and the records of the cell
-abbrev pub placeRecords : UnitCell → List ℕ → J → List (J × Value 1)
-placeRecords c v j = recordsAt (cellGroup c) (cellHalves c) v (j ∷ [])
+abbrev pub placeRecords : UnitCell → List ℕ → J → List FileRecord
+placeRecords c v j = map (fileRecord 1) (recordsAt (cellGroup c) (cellHalves c) v (j ∷ []))
 
-abbrev pub recordsWith : UnitCell → List ℕ → List (J × Value 1)
-recordsWith c v = recordsAt (cellGroup c) (cellHalves c) v (placesOf (cellHalves c))
+abbrev pub recordsWith : UnitCell → List ℕ → List FileRecord
+recordsWith c v = map (fileRecord 1) (recordsAt (cellGroup c) (cellHalves c) v (placesOf (cellHalves c)))
 
 -- the header and the file of a cell and three factor lists as octal digits
 abbrev pub headerFor : UnitCell → (f1 f2 f3 : ℕ) → Header

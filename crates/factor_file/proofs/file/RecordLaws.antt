@@ -1,11 +1,11 @@
 -- The records of a volume: what one place gives, how many there can be, and their bytes.
 use mathlib.Core.Path.{_≡_, refl, sym, _∙_, ap}
 use mathlib.Core.Bool.{Bool, true, false, _&&_, not, cond}
-use mathlib.Core.List.{List, [], _∷_, append-nil}
+use mathlib.Core.List.{List, [], _∷_, _++_, map, map-append, append-nil}
 use Prim.Native.Nat.{ℕ, suc, _*_, _/_, _<_, _≤_}
 use native.Mathlib.Nat.{mul-le-mul}
 use native.Mathlib.Omega.{arith}
-use lib.ListN.{length, getD}
+use lib.ListN.{length, length-map, getD}
 use borrow.Author.Tests.{lt-ltb}
 use Rattle.algebra.specs.ring.Ring.{gauss, residue, residues}
 use Rattle.algebra.specs.cells.Cell.{J, Group, full, planes, at, factorActs, cellFrom, placesOf, recordsOf, every}
@@ -21,7 +21,8 @@ use Rattle.cell.specs.TestSteps.{isZero}
 use Rattle.cell.proofs.OperationLaws.{by-group}
 use Rattle.output.specs.Written.{Wrote}
 use Rattle.output.proofs.Writing.{wrote-none, wrote-as}
-use Rattle.file_format.specs.Format.{recordBytes, allBytes}
+use Rattle.file_format.specs.Format.{rawBytes, allBytes}
+use Rattle.file_format.specs.Parsed.{fileRecord}
 use Rattle.factor_file.specs.File.{noLater, recordsAt, isLowest}
 use Rattle.factor_file.proofs.orbits.PlaceOrder.{upper-not-lowest}
 use Rattle.factor_file.specs.Steps.{recordValue, pairBytes, recordsWith}
@@ -42,11 +43,18 @@ small-at-all {p} {v} b (q ∷ places) = both _ _ (lt-ltb (getD v q 0) p (b .each
 abbrev pub alone : J → Value 1 → List (J × Value 1)
 alone j x = (j, x) ∷ []
 
+-- the bytes of records of indices and values
+abbrev pub bytesOf : List (J × Value 1) → List ℕ
+bytesOf cs = allBytes (map (fileRecord 1) cs)
+
+bytes-append : (cs ds : List (J × Value 1)) → bytesOf (cs ++ ds) ≡ bytesOf cs ++ bytesOf ds
+bytes-append cs ds = ap allBytes (map-append (fileRecord 1) cs ds) ∙ all-append (map (fileRecord 1) cs) (map (fileRecord 1) ds)
+
 module _ (g : Group) (a : J) (v : List ℕ) where
   -- ---- records and bytes of places, one after another
 
   abbrev pub bytesAt : List J → List ℕ
-  bytesAt places = allBytes (recordsAt g a v places)
+  bytesAt places = bytesOf (recordsAt g a v places)
 
   pub volume-records : Spreads (recordsAt g a v)
   volume-records = records-spread (factorActs (field 1) (conj 1) a) noLater sameValue (full g) (at (factorsIn g a 1 v))
@@ -54,8 +62,8 @@ module _ (g : Group) (a : J) (v : List ℕ) where
   pub volume-bytes : Spreads bytesAt
   unfolding allBytes
   volume-bytes = record {
-    nil = ap allBytes (volume-records .nil);
-    append = λ l m. ap allBytes (volume-records .append l m) ∙ all-append (recordsAt g a v l) (recordsAt g a v m);
+    nil = ap bytesOf (volume-records .nil);
+    append = λ l m. ap bytesOf (volume-records .append l m) ∙ bytes-append (recordsAt g a v l) (recordsAt g a v m);
   }
 
   pub few-records : (places : List J) → length (recordsAt g a v places) ≤ length places
@@ -99,11 +107,11 @@ module _ (g : Group) (a : J) (v : List ℕ) where
 
       pub no-bytes : (q : ℕ) (l : List ℕ) → t ≡ true → Wrote q (bytesAt (j ∷ [])) l q l
       unfolding allBytes
-      no-bytes q l h = wrote-as (wrote-none q l) (sym (ap allBytes (no-record h)))
+      no-bytes q l h = wrote-as (wrote-none q l) (sym (ap bytesOf (no-record h)))
 
       pub one-bytes : t ≡ false → pairBytes j x ≡ bytesAt (j ∷ [])
-      unfolding allBytes recordBytes pairOf
-      one-bytes h = ap (pairBytes j) e ∙ sym (append-nil (recordBytes (j, recordValue g a v j))) ∙ sym (ap allBytes (one-record h))
+      unfolding allBytes pairOf
+      one-bytes h = ap (pairBytes j) e ∙ sym (append-nil (rawBytes (fileRecord 1 (j, recordValue g a v j)))) ∙ sym (ap bytesOf (one-record h))
 
 -- ---- where records stand, and how many there can be
 
@@ -125,7 +133,7 @@ module _ {cell : UnitCell} (s : Sizes cell) where
 
     pub upper-bytes : NoneBeyond (bytesAt (cellGroup cell) (cellHalves cell) v) (cell .n1) (cell .n1 / 2)
     unfolding allBytes
-    upper-bytes j u l = ap allBytes (upper-records j u l)
+    upper-bytes j u l = ap bytesOf (upper-records j u l)
 
     abbrev count : List J → ℕ
     count places = length (recordsAt (cellGroup cell) (cellHalves cell) v places)
@@ -146,4 +154,4 @@ module _ {cell : UnitCell} (s : Sizes cell) where
         let same : 2 * a ≤ 2 * a = omega arith in
         let next : suc b ≤ suc b = omega arith in
         let most : c * (2 * a) * suc b ≤ planes (cellGroup cell) c * (2 * a) * suc b = mul-le-mul (mul-le-mul (planes-least c (cell .group) (s .known)) same) next in
-        omega (arith, few-records (cellGroup cell) (cellHalves cell) v (placesOf (cellHalves cell)), length-cell (2 * c) (2 * b) 0 (2 * a), most, e, h)
+        omega (arith, length-map (recordsAt (cellGroup cell) (cellHalves cell) v (placesOf (cellHalves cell))) (fileRecord 1), few-records (cellGroup cell) (cellHalves cell) v (placesOf (cellHalves cell)), length-cell (2 * c) (2 * b) 0 (2 * a), most, e, h)

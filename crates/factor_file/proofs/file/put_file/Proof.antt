@@ -5,11 +5,10 @@ use mathlib.Core.Path.{_≡_}
 use mathlib.Core.List.{List}
 use Prim.Native.Nat.{_+_, _*_, _-_, _≤_}
 use lib.ListN.{length}
-use Rattle.algebra.specs.cells.Cell.{J}
-use Rattle.numbers.specs.Value.{Value}
 use Rattle.header.specs.Header.{Header}
 use Rattle.output.specs.Output.{bigEndian}
 use Rattle.output.proofs.Writing.{wrote-append, wrote-as}
+use Rattle.file_format.specs.declared.FileRecord.{FileRecord}
 use Rattle.file_format.specs.Format.{headerBytes, body, fileOf}
 use Rattle.factor_file.specs.Steps.{headerFor, recordsWith}
 use Rattle.file_format.proofs.layout.ByteLaws.{length-all}
@@ -23,7 +22,7 @@ module _ (s : tie.Start) where
   abbrev head : Header
   head = let a = s .args in headerFor (a .cell) (a .f1) (a .f2) (a .f3)
 
-  abbrev records : List (J × Value 1)
+  abbrev records : List FileRecord
   records = let a = s .args in recordsWith (a .cell) (a .volume .now)
 
   few : s .args .count ≤ 33554432

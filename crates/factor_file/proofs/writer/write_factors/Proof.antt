@@ -5,9 +5,8 @@ use mathlib.Core.Path.{_≡_}
 use mathlib.Core.List.{List}
 use Prim.Native.Nat.{_≤_}
 use lib.ListN.{length}
-use Rattle.algebra.specs.cells.Cell.{J}
-use Rattle.numbers.specs.Value.{Value}
 use Rattle.job.specs.Job.{Header}
+use Rattle.file_format.specs.declared.FileRecord.{FileRecord}
 use Rattle.file_format.specs.Format.{fileOf}
 use Rattle.factor_file.specs.Steps.{headerFor, recordsWith}
 use Rattle.factor_file.proofs.file.RecordLaws.{admitted-few}
@@ -16,7 +15,7 @@ use Rattle.factor_file.proofs.writer.write_factors.Statement.{statement
 use Rattle.factor_file.proofs.writer.write_factors.Tie as tie
 
 module _ (s : tie.Start) where
-  abbrev records : List (J × Value 1)
+  abbrev records : List FileRecord
   records = let a = s .args in recordsWith (a .cell) (a .volume .now)
 
   abbrev head : Header

@@ -2,8 +2,10 @@
 use borrow.Author.Needs.{needs}
 use native.Mathlib.Omega.{arith}
 use mathlib.Core.Path.{ap}
-use lib.ListN.{length}
+use lib.ListN.{length, length-map}
+use Rattle.algebra.specs.cells.Cell.{placesOf}
 use Rattle.cell.specs.Operations.{cellGroup, cellHalves}
+use Rattle.file_format.specs.Parsed.{fileRecord}
 use Rattle.file_format.proofs.layout.ByteLaws.{length-all}
 use Rattle.factor_file.specs.File.{recordsAt}
 use Rattle.factor_file.specs.Steps.{recordsWith}
@@ -19,8 +21,9 @@ put-records-requires c κs =
     let s = c .before .before in
     let v = s .args .volume .now in
     let z = s .pre .volume .sizes in
-    let most = ap (λ t. length (recordsAt (cellGroup (s .args .cell)) (cellHalves (s .args .cell)) v t)) (cell-places z) in
-    (s .pre, record { low = omega (arith, length-all (recordsWith (s .args .cell) v), most, cell-few z v) })
+    let some = recordsAt (cellGroup (s .args .cell)) (cellHalves (s .args .cell)) v in
+    let most = ap (λ t. length (some t)) (cell-places z) in
+    (s .pre, record { low = omega (arith, length-all (recordsWith (s .args .cell) v), length-map (some (placesOf (cellHalves (s .args .cell)))) (fileRecord 1), most, cell-few z v) })
 
 returns : tie.Need-returns
 returns c =

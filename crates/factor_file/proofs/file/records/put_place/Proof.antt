@@ -9,7 +9,7 @@ use Rattle.cell.specs.Operations.{cellGroup, cellHalves, tripleOf}
 use Rattle.output.proofs.Writing.{wrote-none, wrote-as, ends-as}
 use Rattle.file_format.specs.Format.{allBytes}
 use Rattle.factor_file.specs.Steps.{recordValue, pairBytes}
-use Rattle.factor_file.proofs.file.RecordLaws.{bytesAt, small-at-all, lowest-value, not-lowest-none, no-bytes, one-bytes}
+use Rattle.factor_file.proofs.file.RecordLaws.{bytesOf, bytesAt, small-at-all, lowest-value, not-lowest-none, no-bytes, one-bytes}
 use Rattle.factor_file.proofs.file.records.put_place.Statement.{statement}
 use Rattle.factor_file.proofs.file.records.put_place.Tie as tie
 
@@ -68,7 +68,7 @@ returns-3 : tie.Need-returns-3
 unfolding allBytes
 returns-3 c =
     let a = c .before .before .before .before .args in
-    wrote-as (wrote-none (a .at) (a .out .now)) (sym (ap allBytes (not-lowest-none (cellGroup (a .cell)) (cellHalves (a .cell)) (a .volume .now) (tripleOf (a .j)) (sym (c .before .lowest .ensures) ∙ c .if1 .left))))
+    wrote-as (wrote-none (a .at) (a .out .now)) (sym (ap bytesOf (not-lowest-none (cellGroup (a .cell)) (cellHalves (a .cell)) (a .volume .now) (tripleOf (a .j)) (sym (c .before .lowest .ensures) ∙ c .if1 .left))))
 
 pub put-place-spec : {M : Type 1} → statement M
 put-place-spec =

@@ -25,7 +25,7 @@ use Rattle.file_format.specs.Format.{countAt, recordCount, recordAt, recordsFro
 use Rattle.factor_file.specs.File.{indexIn, orbitSeen, judgeTests, Judgement, taken, refusedAt, judged}
 use Rattle.factor_file.specs.Faults.{headerTests, recordFaults, faultsIn}
 use Rattle.factor_file.specs.FaultSteps.{recordPlace, ownNumber, ownAt, placeAt, SoundTo, Apart, FirstOf}
-use Rattle.factor_file.specs.Fewest.{chosen, Rising, last, next, judgedUnder, Fewest, FewestExactly}
+use Rattle.factor_file.specs.Fewest.{noRecord, chosen, Rising, last, next, judgedUnder, Fewest, FewestExactly}
 use Rattle.factor_file.proofs.FaultLaws.{same-orbit, place-low, all-taken, own-refused, orbit-refused, refused-by, faults-none, faults-one, faults-two, own-not-24, header-sound}
 use Rattle.factor_file.proofs.FaultWalks.{sound-start, sound-next, sound-fewer}
 
@@ -145,10 +145,7 @@ module _ (file : List ℕ) (shape : 0 ≡ first (shapeTests file)) (header : 0 �
   sizes : Sizes c
   sizes = header-sound (headerIn file) header .0
 
-  abbrev nothing : FileRecord
-  nothing = record { h = 0; k = 0; l = 0; a = 0; b = 0 }
-
-  record-in : (q n i : ℕ) → i < n → getD (recordsFrom file q n) i nothing ≡ recordAt file (q + 14 * i)
+  record-in : (q n i : ℕ) → i < n → getD (recordsFrom file q n) i noRecord ≡ recordAt file (q + 14 * i)
   unfolding recordsFrom
   record-in q zero i l = absurd (omega arith)
   record-in q (suc n) zero l = let e : q ≡ q + 14 * 0 = omega arith in ap (recordAt file) e

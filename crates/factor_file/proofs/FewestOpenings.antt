@@ -1,36 +1,39 @@
 -- A file whose shape and header are not refused is opened, on a volume of the right length, as its records are judged; so the records at fault are the fewest of
 -- its opening too.
 use mathlib.Core.Path.{_≡_, refl, sym, _∙_, ap, subst}
-use mathlib.Core.List.{List, []}
-use Prim.Native.Nat.{ℕ, _<_, _≤_}
+use mathlib.Core.List.{List, [], _∷_}
+use Prim.Native.Nat.{ℕ, zero, suc, _+_, _<_, _≤_}
 use native.Mathlib.Omega.{arith}
-use lib.ListN.{length, replicate, length-replicate}
+use lib.ListN.{length, length-map, getD, replicate, length-replicate}
 use borrow.Author.Tests.{leb-false, eq-eqb}
+use Rattle.algebra.specs.cells.Cell.{J}
+use Rattle.algebra.proofs.ring.Members.{mem-map}
 use Rattle.refusals.specs.Refusals.{first, accepted}
 use Rattle.refusals.proofs.Tests.{pass, none, passed}
 use Rattle.header.specs.Header.{Header, needed}
 use Rattle.job.specs.declared.Job.{Job}
-use Rattle.job.specs.Job.{collecting, jobOf, headerOf, groupIn, halves, Opening, opened, notOpened, OpenOutcome, openTests, openStep}
+use Rattle.job.specs.Job.{collecting, jobOf, headerOf, Opening, opened, notOpened, OpenOutcome, openTests, openStep}
 use Rattle.job.proofs.check.Openings.{volume-decides, volume-collects}
 use Rattle.file_format.specs.declared.FileRecord.{FileRecord}
-use Rattle.factor_file.specs.File.{recordsIn, headerIn, shapeTests, Judgement, taken, refusedAt, judged, recordAllOn, feed, fileStep}
+use Rattle.file_format.specs.Parsed.{Bytes, ShortRecord, Writable}
+use Rattle.file_format.proofs.WrittenFiles.{parses-back}
+use Rattle.file_format.proofs.Rewriting.{got-short, writable-again}
+use Rattle.factor_file.specs.File.{indexIn, countAt, recordCount, recordsIn, recordsFrom, headerIn, shapeTests, judgeTests, Judgement, taken, refusedAt, judged, feed, fileStep}
 use Rattle.factor_file.specs.Faults.{headerTests, faultsIn}
-use Rattle.factor_file.specs.Fewest.{chosen, judgedUnder, Fewest}
-use Rattle.factor_file.specs.FewestOpened.{Smaller, RefusedAt, FewestOpened, FewestAreOpened}
+use Rattle.factor_file.specs.Fewest.{noRecord, chosen, Rising, last, next, judgedUnder, Fewest}
+use Rattle.factor_file.specs.FewestOpened.{smallerFile, Smaller, RefusedAt, FewestOpened, FewestAreOpened}
+use Rattle.factor_file.proofs.Openings.{outcome}
 use Rattle.factor_file.proofs.FewestFaults.{fewest-exactly}
 
 -- what an opening answers by its records
 abbrev answerBy : Job → Judgement → Opening
 answerBy j b = elim b [ taken ↦ opened j | refusedAt n place ↦ notOpened n place ]
 
-abbrev outcomeBy : List FileRecord → Job → List ℕ → Judgement → OpenOutcome
-outcomeBy cs j v b = elim b [ taken ↦ record { answer = opened j; volume = recordAllOn (groupIn j) (halves j) cs v } | refusedAt n place ↦ record { answer = notOpened n place; volume = replicate (length v) 0 } ]
-
 feed-answer : (cs : List FileRecord) (j : Job) (v : List ℕ) → feed cs j v .answer ≡ answerBy j (judged (j .group) (headerOf j .lengths) [] cs)
 unfolding feed
 feed-answer cs j v = by (judged (j .group) (headerOf j .lengths) [] cs)
   where
-    by : (b : Judgement) → outcomeBy cs j v b .answer ≡ answerBy j b
+    by : (b : Judgement) → outcome cs j v b .answer ≡ answerBy j b
     by taken = refl
     by (refusedAt n place) = refl
 
@@ -65,7 +68,48 @@ refused-back j (refusedAt m q) n place e = let x : m ≡ n = cc in let y : q ≡
 
 -- ---- a smaller file
 
-module _ (file : List ℕ) (header : 0 ≡ first (headerTests (headerIn file))) (qs smaller : List ℕ) (s : Smaller file qs smaller) where
+-- a record is refused at a place that there is
+judged-inside : (group : ℕ) (n : J) (before : List J) (cs : List FileRecord) (k r : ℕ) → judged group n before cs ≡ refusedAt k r → r < length before + length cs
+unfolding judged
+judged-inside group n before [] k r e = let z : _≡_ {A = ℕ} 0 1 = cc in absurd (omega arith)
+judged-inside group n before (c ∷ cs) k r e = by (first (judgeTests group n before (indexIn c) (c .a) (c .b))) (judged-inside group n (indexIn c ∷ before) cs k r) e
+  where
+    by : (t : ℕ) → (judged group n (indexIn c ∷ before) cs ≡ refusedAt k r → r < suc (length before) + length cs) → accepted t (judged group n (indexIn c ∷ before) cs) (λ k. refusedAt k (length before)) ≡ refusedAt k r → r < length before + suc (length cs)
+    by zero f e = omega (arith, f e)
+    by (suc t) f e = let q : length before ≡ r = cc in omega arith
+
+length-from : (file : List ℕ) (q n : ℕ) → length (recordsFrom file q n) ≡ n
+unfolding recordsFrom
+length-from file q zero = refl
+length-from file q (suc n) = ap suc (length-from file (q + 14) n)
+
+rising-few : {low r : ℕ} {qs : List ℕ} → Rising low r qs → low + length qs ≤ suc r
+rising-few (last l) = omega arith
+rising-few (next l s) = let h = rising-few s in omega arith
+
+no-record-short : ShortRecord noRecord
+no-record-short = record { index = record { h = omega arith; k = omega arith; l = omega arith }; a = omega arith; b = omega arith }
+
+-- its numbers have as many bytes as they are written with, and its body is no longer than that of the file
+module _ (file : List ℕ) (bytes : Bytes file) (shape : 0 ≡ first (shapeTests file)) (r : ℕ) (some : r < recordCount file) (qs : List ℕ) (rise : Rising 0 r qs) where
+  few : length (chosen (recordsIn file) qs) ≤ recordCount file
+  few = omega (arith, length-map qs (λ q. getD (recordsIn file) q noRecord), rising-few rise)
+
+  writable : Writable (headerIn file) (chosen (recordsIn file) qs)
+  writable = writable-again file bytes shape (chosen (recordsIn file) qs) few
+      (mem-map (λ q. getD (recordsIn file) q noRecord) qs ShortRecord (λ q m. got-short file bytes noRecord no-record-short (countAt file + 4) (recordCount file) q))
+
+  is-smaller : Smaller file qs
+  unfolding smallerFile
+  is-smaller =
+      let h = headerIn file in
+      let cs = chosen (recordsIn file) qs in
+      record { shape = parses-back .shape h cs writable; header = parses-back .header h cs writable; records = parses-back .records h cs writable }
+
+module _ (file : List ℕ) (header : 0 ≡ first (headerTests (headerIn file))) (qs : List ℕ) (s : Smaller file qs) where
+  abbrev smaller : List ℕ
+  smaller = smallerFile file qs
+
   same-made : judgedUnder smaller (recordsIn smaller) ≡ judgedUnder file (chosen (recordsIn file) qs)
   same-made = let h = s .header in let r = s .records in λ i. judged (h i .group) (h i .lengths) [] (r i)
 
@@ -85,17 +129,19 @@ module _ (file : List ℕ) (header : 0 ≡ first (headerTests (headerIn file))) 
       refused-back (jobOf (headerIn smaller) collecting) _ n place (sym (small-answer v l) ∙ w .answer v l)
 
 pub fewest-are-opened : FewestAreOpened
-fewest-are-opened = record { each = λ file shape header number r w. go file shape header number r w }
+fewest-are-opened = record { smaller = is-smaller; each = go }
   where
-    go : (file : List ℕ) → 0 ≡ first (shapeTests file) → 0 ≡ first (headerTests (headerIn file)) → (number r : ℕ) → RefusedAt file file number r → FewestOpened file number r
-    go file shape header number r w =
+    go : (file : List ℕ) → Bytes file → 0 ≡ first (shapeTests file) → 0 ≡ first (headerTests (headerIn file)) → (number r : ℕ) → RefusedAt file file number r → FewestOpened file number r
+    go file bytes shape header number r w =
         let v : List ℕ = replicate (needed (headerIn file)) 0 in
         let l : length v ≡ needed (headerIn file) = length-replicate {A = ℕ} (needed (headerIn file)) 0 in
         let e = refused-back (jobOf (headerIn file) collecting) _ number r (sym (file-answer file shape header v l) ∙ w .answer v l) in
         let f = fewest-exactly .each file shape header number r e in
+        let inside = judged-inside (headerIn file .group) (headerIn file .lengths) [] (recordsIn file) number r e in
+        let s : (qs : List ℕ) → Rising 0 r qs → Smaller file qs = is-smaller file bytes shape r (omega (arith, inside, length-from file (countAt file + 4) (recordCount file))) in
         record {
           rise = f .rise;
-          refused = λ smaller s. small-refused file header (faultsIn file) smaller s (f .refused);
-          fewest = λ qs u smaller s place w. f .fewest qs u place (small-judged file header qs smaller s w);
-          only = λ qs u smaller s place w n. f .only qs u place (small-judged file header qs smaller s w) n;
+          refused = small-refused file header (faultsIn file) (s (faultsIn file) (f .rise)) (f .refused);
+          fewest = λ qs u place w. f .fewest qs u place (small-judged file header qs (s qs u) w);
+          only = λ qs u place w n. f .only qs u place (small-judged file header qs (s qs u) w) n;
         }

@@ -59,7 +59,7 @@ opened-empty h v v′ j e = by (first (openTests h 0 v)) refl e
 
 -- ---- what is left once the records are judged, on a volume of zeros
 
-abbrev outcome : List FileRecord → Job → List ℕ → Judgement → OpenOutcome
+abbrev pub outcome : List FileRecord → Job → List ℕ → Judgement → OpenOutcome
 outcome cs j v b = elim b [ taken ↦ record { answer = opened j; volume = recordAllOn (groupIn j) (halves j) cs v } | refusedAt n place ↦ record { answer = notOpened n place; volume = replicate (length v) 0 } ]
 
 module _ (cs : List FileRecord) (j : Job) (v : List ℕ) {w : List ℕ} where

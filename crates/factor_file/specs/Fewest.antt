@@ -5,9 +5,13 @@ use Rattle.file_format.specs.declared.FileRecord.{FileRecord}
 use Rattle.factor_file.specs.File.{Judgement, judged, refusedAt, recordsIn, headerIn, shapeTests}
 use Rattle.factor_file.specs.Faults.{headerTests, faultsIn}
 
+-- what stands for a record where there is none
+abbrev pub noRecord : FileRecord
+noRecord = record { h = 0; k = 0; l = 0; a = 0; b = 0 }
+
 -- the records at some places, in the order of these
 abbrev pub chosen : List FileRecord → List ℕ → List FileRecord
-chosen cs places = map (λ q. getD cs q (record { h = 0; k = 0; l = 0; a = 0; b = 0 })) places
+chosen cs places = map (λ q. getD cs q noRecord) places
 
 -- places that rise, none below the first number, and end in the second
 pub data Rising : ℕ → ℕ → List ℕ → Type 0 where

@@ -9,11 +9,15 @@ use Rattle.numbers.specs.Value.{Value}
 use Rattle.refusals.specs.Refusals.{first}
 use Rattle.header.specs.Header.{Header}
 use Rattle.file_format.specs.declared.FileRecord.{FileRecord}
-use Rattle.file_format.specs.Format.{shapeTests, headerIn, recordsIn, body, fileOf}
+use Rattle.file_format.specs.Format.{byteAt, shapeTests, headerIn, recordsIn, body, fileOf}
 
 -- an index and a value, as a record
 abbrev pub fileRecord : (m : ℕ) → J × Value m → FileRecord
 fileRecord m c = record { h = c .0 .0; k = c .0 .1; l = c .0 .2; a = c .1 .0 .val; b = c .1 .1 .val }
+
+-- the numbers of a file are bytes, as those of every slice of bytes that is lent; past its end byteAt gives 0
+pub record Bytes (file : List ℕ) : Type 0 where
+  pub each : (i : ℕ) → byteAt file i < 256
 
 -- three numbers of two bytes
 pub record Short (j : J) : Type 0 where

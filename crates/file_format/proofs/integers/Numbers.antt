@@ -7,7 +7,11 @@ use lib.ListN.{take}
 use lib.Seq.{getD-take}
 use Rattle.file_format.specs.Format.{byteAt, twoBytes, fourBytes}
 
--- a number of four bytes has 32 bits
+-- a number of two bytes has 16 bits, one of four has 32
+pub two-bytes-fit : (file : List ℕ) (q : ℕ) → ((i : ℕ) → byteAt file i < 256) → twoBytes file q < 65536
+unfolding twoBytes
+two-bytes-fit file q h = omega (arith, h q, h (q + 1))
+
 pub four-bytes-fit : (file : List ℕ) (q : ℕ) → ((i : ℕ) → byteAt file i < 256) → fourBytes file q < 4294967296
 unfolding twoBytes fourBytes
 four-bytes-fit file q h = omega (arith, h q, h (q + 1), h (q + 2), h (q + 2 + 1))

@@ -49,6 +49,13 @@ module _ (file : List ℕ) where
 pub filled-by : (file : List ℕ) → 0 ≡ first (shapeTests file) → countAt file + 4 + 14 * recordCount file ≡ length file
 filled-by file e = eqb-true _ _ (not-false _ (passed (shapeTests file) tt e .1 .1 .0))
 
+-- and its first four bytes count those that follow
+pub counted-by : (file : List ℕ) → 0 ≡ first (shapeTests file) → (fourBytes file 0 ≡ length file - 4) × (5 ≤ length file)
+counted-by file e =
+    let m = passed (shapeTests file) tt e .0 in
+    let long = versioned file m in
+    (eqb-true _ _ (not-false _ (counted file long ∙ m)), long)
+
 -- the lists stand one after the other behind the lengths, and the record count behind them
 pub record Ordered (file : List ℕ) (p : Places) : Type 0 where
   pub first-list : 13 ≤ p .list2

@@ -1,7 +1,7 @@
 -- A file of no records is an opening with kind 0, whose volume is zero; and of a volume of zeros every factor is zero, so that it gives no record.
 use mathlib.Core.Path.{_≡_, refl, sym, _∙_, ap, subst}
 use mathlib.Core.Bool.{true}
-use mathlib.Core.List.{List, []}
+use mathlib.Core.List.{List, [], map}
 use Prim.Native.Nat.{ℕ, _+_, _*_, _≤_}
 use native.Mathlib.Omega.{arith}
 use lib.ListN.{length, replicate, length-replicate}
@@ -26,6 +26,7 @@ use Rattle.job.specs.declared.Job.{Job}
 use Rattle.job.specs.Job.{Header, halfLengths, needed, headerOf, validJob, collecting, mapHeld, groupIn, halves, p, jobOf, Opening, opened, notOpened, OpenOutcome, openTests, openStep}
 use Rattle.job.proofs.Jobs.{valid-job-sizes}
 use Rattle.file_format.specs.Format.{fileOf}
+use Rattle.file_format.specs.Parsed.{fileRecord}
 use Rattle.factor_file.specs.File.{countAt, recordCount, recordsFrom, recordsIn, shapeTests, headerIn, judged, recordAllOn, feed, fileStep, noLater, jobRecords, jobFile, writeTests}
 use Rattle.factor_file.proofs.file.Places.{records-none}
 use Rattle.model.specs.Model.{Model, densityOf, zeroModel}
@@ -99,7 +100,7 @@ module _ (j : Job) (valid : validJob j ≡ true) where
 
   empty : jobFile j zeros ≡ fileOf (headerOf j) []
   unfolding jobFile
-  empty = ap (fileOf (headerOf j)) no-records
+  empty = ap (λ cs. fileOf (headerOf j) (map (fileRecord 1) cs)) no-records
 
   passes : (output : List ℕ) → WithFactors j → length (fileOf (headerOf j) []) ≤ length output → 0 ≡ first (writeTests j zeros output)
   passes output held room =

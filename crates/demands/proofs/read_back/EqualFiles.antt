@@ -2,14 +2,13 @@
 use mathlib.Core.Path.{_≡_, refl, sym, _∙_, ap, subst}
 use mathlib.Core.Logic.{_⊎_, inl, inr}
 use mathlib.Core.Bool.{Bool, true, not, _&&_}
-use mathlib.Core.List.{List, [], _∷_, _++_}
+use mathlib.Core.List.{List, [], _∷_, _++_, map}
 use Prim.Native.Nat.{ℕ, zero, suc, _+_, _<_, _≤_}
 use native.Mathlib.Omega.{arith}
 use lib.ListN.{length}
 use lib.Dec.{ltb, eqb}
 use borrow.Author.Tests.{not-false, eqb-true, eqb-false, ltb-true, lt-ltb, le-ltb, ne-eqb}
-use Rattle.algebra.specs.cells.Cell.{J, placesOf}
-use Rattle.numbers.specs.Value.{Value}
+use Rattle.algebra.specs.cells.Cell.{placesOf}
 use Rattle.slices.specs.Pairs.{allBelow}
 use Rattle.refusals.specs.Refusals.{Test, _⇒_, first}
 use Rattle.refusals.proofs.Tests.{passed, pass, none, not-t}
@@ -19,7 +18,9 @@ use Rattle.header.specs.Header.{Header, halfLengths, needed, axisTests}
 use Rattle.header.proofs.Headers.{all-three}
 use Rattle.job.specs.declared.Job.{Job}
 use Rattle.job.specs.Job.{headerOf, validJob, mapHeld, p, asLong, OpenOutcome, opened, openTests}
+use Rattle.file_format.specs.declared.FileRecord.{FileRecord}
 use Rattle.file_format.specs.Format.{fileOf}
+use Rattle.file_format.specs.Parsed.{fileRecord}
 use Rattle.file_format.proofs.layout.Heads.{same-header}
 use Rattle.factor_file.specs.File.{countAt, headerIn, fileStep, recordsAt, jobRecords, jobFile, writeTests, writeStep}
 use Rattle.factor_file.proofs.writer.Files.{told}
@@ -32,8 +33,8 @@ use Rattle.demands.proofs.read_back.ReadBack.{writes-file, reads-back}
 -- ---- the writer's tests by the header and the state of a job
 
 module _ (h : Header) (v : List ℕ) where
-  abbrev recordsBy : List (J × Value 1)
-  recordsBy = recordsAt (groupOf (h .group)) (halfLengths (h .lengths)) v (placesOf (halfLengths (h .lengths)))
+  abbrev recordsBy : List FileRecord
+  recordsBy = map (fileRecord 1) (recordsAt (groupOf (h .group)) (halfLengths (h .lengths)) v (placesOf (halfLengths (h .lengths))))
 
   -- those that ask for neither state nor output
   abbrev middle : List Test

@@ -10,7 +10,7 @@ use lib.ListN.{length, take, drop}
 use lib.Seq.{take-append-seam}
 use lib.Dec.{ltb, eqb}
 use borrow.Author.Tests.{not-false, eqb-true, eq-eqb, lt-leb}
-use Rattle.algebra.specs.ring.Ring.{gauss, residues}
+use Rattle.algebra.specs.ring.Ring.{Res, gauss, residues}
 use Rattle.algebra.specs.cells.Cell.{J, Inside, Cell, full, at, factorActs}
 use Rattle.algebra.specs.cells.CellSteps.{Lawful}
 use Rattle.algebra.specs.orbits.Orbit.{Mem, first as first-of, later, recordAll}
@@ -53,7 +53,7 @@ use Rattle.demands.proofs.Judged.{actsOn}
 use Rattle.file_format.specs.Format.{fileOf}
 use Rattle.factor_file.specs.RecordOrder.{Rising, LowestOfOrbit}
 use Rattle.factor_file.proofs.RecordOrder.{records-of-volume-rise}
-use Rattle.file_format.specs.Parsed.{fileRecord, Short, Writable}
+use Rattle.file_format.specs.Parsed.{fileRecord, Short, ShortRecord, Writable}
 use Rattle.file_format.proofs.layout.FileParts.{length-header, length-body}
 use Rattle.file_format.proofs.WrittenFiles.{parses-back}
 use Rattle.factor_file.proofs.file.RecordLaws.{admitted-few}
@@ -61,7 +61,7 @@ use Rattle.factor_file.proofs.writer.Files.{told, passed-on, valid-volume}
 
 -- ---- records of a file and what they stand for
 
-entries : (cs : List (J × Value 1)) → map entry (map fileRecord cs) ≡ cs
+entries : (cs : List (J × Value 1)) → map entry (map (fileRecord 1) cs) ≡ cs
 entries [] = refl
 entries (c ∷ cs) =
     let x = res-val 1 (c .1 .0) in
@@ -69,10 +69,15 @@ entries (c ∷ cs) =
     let others = entries cs in
     λ i. (c .0, (x i, y i)) ∷ others i
 
-residues-below : (cs : List (J × Value 1)) (c : FileRecord) → Mem c (map fileRecord cs) → (c .a < prime 1) × (c .b < prime 1)
+residues-below : (cs : List (J × Value 1)) (c : FileRecord) → Mem c (map (fileRecord 1) cs) → (c .a < prime 1) × (c .b < prime 1)
 residues-below [] c m = no-member m
 residues-below (d ∷ cs) c first-of = (val-small 1 (d .1 .0), val-small 1 (d .1 .1))
 residues-below (d ∷ cs) c (later m) = residues-below cs c m
+
+-- a residue has four bytes
+four-bytes : (x : Res (prime 1)) → x .val < 4294967296
+unfolding prime
+four-bytes x = omega (arith, val-small 1 x)
 
 -- a factor list is shorter than its product
 list-short : (l : List ℕ) → factorsOk l ≡ true → length l < product l
@@ -130,7 +135,10 @@ module _ (j : Job) (v output : List ℕ) (accepts : 0 ≡ first (writeTests j v 
 
   -- ---- its file
 
-  few : length (jobRecords j v) ≤ 33554432
+  abbrev records : List FileRecord
+  records = map (fileRecord 1) (jobRecords j v)
+
+  few : length records ≤ 33554432
   unfolding jobRecords
   few = admitted-few sizes v long (omega (arith, long, valid-volume j valid))
 
@@ -144,13 +152,20 @@ module _ (j : Job) (v output : List ℕ) (accepts : 0 ≡ first (writeTests j v 
     l = omega (arith, n .2, sizes .third .high);
   }
 
-  writable : Writable (headerOf j) (jobRecords j v)
+  record-short : (c : J × Value 1) → Mem c (jobRecords j v) → ShortRecord (fileRecord 1 c)
+  record-short c m = record {
+    index = inside-short (c .0) (sound-inside (factor-action (field-ring 1) (field-star 1) (halves j)) (full (groupIn j)) (closed (field-ring 1) (field-star 1) (halves j) (groupIn j)) c (jobRecords j v) different m);
+    a = four-bytes (c .1 .0);
+    b = four-bytes (c .1 .1);
+  }
+
+  writable : Writable (headerOf j) records
   writable =
       let s = sound-lists (headerOf j) header-sound in
       record {
         lengths = record { h = omega (arith, sizes .first .high); k = omega (arith, sizes .second .high); l = omega (arith, sizes .third .high) };
-        indices = λ c m. inside-short (c .0) (sound-inside (factor-action (field-ring 1) (field-star 1) (halves j)) (full (groupIn j)) (closed (field-ring 1) (field-star 1) (halves j) (groupIn j)) c (jobRecords j v) different m);
-        short = omega (arith, length-body (headerOf j) (jobRecords j v), length-header (headerOf j), few, list-small _ (s .0), list-small _ (s .1), list-small _ (s .2));
+        records = mem-map (fileRecord 1) (jobRecords j v) ShortRecord record-short;
+        short = omega (arith, length-body (headerOf j) records, length-header (headerOf j), few, list-small _ (s .0), list-small _ (s .1), list-small _ (s .2));
       }
 
   module _ (u : List ℕ) (same : length u ≡ length v) where
@@ -168,9 +183,9 @@ module _ (j : Job) (v output : List ℕ) (accepts : 0 ≡ first (writeTests j v 
     abbrev fed : List (J × Value 1) → Model
     fed cs = record { header = headerOf j; state = collecting; F = λ h k l. recordAll (actsOn (halves j)) (full (groupIn j)) cs (λ q. value 1 0 0) (h, k, l) }
 
-    feeds : modelFeed (map fileRecord (jobRecords j v)) (zeroModel (headerOf j)) ≡ begun (fed (jobRecords j v))
+    feeds : modelFeed records (zeroModel (headerOf j)) ≡ begun (fed (jobRecords j v))
     feeds =
-        different-fed (map fileRecord (jobRecords j v)) (zeroModel (headerOf j)) (opening-sound (headerOf j) 0 u opens) (residues-below (jobRecords j v)) (subst Different (sym (entries (jobRecords j v))) different)
+        different-fed records (zeroModel (headerOf j)) (opening-sound (headerOf j) 0 u opens) (residues-below (jobRecords j v)) (subst Different (sym (entries (jobRecords j v))) different)
         ∙ ap (λ cs. begun (fed cs)) (entries (jobRecords j v))
 
     volume-given : modelVolume (fed (jobRecords j v)) ≡ v
@@ -189,10 +204,10 @@ module _ (j : Job) (v output : List ℕ) (accepts : 0 ≡ first (writeTests j v 
     file-read : fileStep (jobFile j v) u ≡ record { answer = opened (withState j collecting); volume = v }
     unfolding jobFile
     file-read =
-        let file = fileOf (headerOf j) (jobRecords j v) in
-        let eh = sym (parses-back .header (headerOf j) (jobRecords j v) writable) in
-        let er = sym (parses-back .records (headerOf j) (jobRecords j v) writable) in
-        file-gives file u (sym (parses-back .shape (headerOf j) (jobRecords j v) writable)) (fed (jobRecords j v))
+        let file = fileOf (headerOf j) records in
+        let eh = sym (parses-back .header (headerOf j) records writable) in
+        let er = sym (parses-back .records (headerOf j) records writable) in
+        file-gives file u (sym (parses-back .shape (headerOf j) records writable)) (fed (jobRecords j v))
         (subst (λ h. 0 ≡ first (openTests h 0 u)) eh opens)
         (subst (λ h. modelFeed (recordsIn file) (zeroModel h) ≡ begun (fed (jobRecords j v))) eh (subst (λ cs. modelFeed cs (zeroModel (headerOf j)) ≡ begun (fed (jobRecords j v))) er feeds))
         ∙ λ i. record { answer = opened (job-given i); volume = volume-given i }
@@ -222,9 +237,9 @@ module _ {j : Job} {v output file : List ℕ} (w : Writes j v output file) where
   unfolding writeStep
   writes-file = told-file (jobFile j v) output (first (writeTests j v output)) file (w .outcome)
 
-  records-in : recordsIn file ≡ map fileRecord (jobRecords j v)
+  records-in : recordsIn file ≡ map (fileRecord 1) (jobRecords j v)
   unfolding jobFile
-  records-in = ap recordsIn (sym (writes-file .1)) ∙ parses-back .records (headerOf j) (jobRecords j v) (writable j v output (writes-file .0))
+  records-in = ap recordsIn (sym (writes-file .1)) ∙ parses-back .records (headerOf j) (map (fileRecord 1) (jobRecords j v)) (writable j v output (writes-file .0))
 
 pub reads-back : ReadsBack
 unfolding writeStep
@@ -233,12 +248,12 @@ reads-back = record {
   reads-back = λ j v output file u w same. let f = writes-file w in ap (λ f. fileStep f u) (sym (f .1)) ∙ file-read j v output (f .0) u same;
 }
 
-indices : (cs : List (J × Value 1)) → map indexIn (map fileRecord cs) ≡ map (λ c. c .0) cs
+indices : (cs : List (J × Value 1)) → map indexIn (map (fileRecord 1) cs) ≡ map (λ c. c .0) cs
 indices [] = refl
 indices (c ∷ cs) = ap (λ js. c .0 ∷ js) (indices cs)
 
 pub file-rises : FileRises
 file-rises = record {
   rise = λ j v output file w. subst Rising (sym (ap (map indexIn) (records-in w) ∙ indices (jobRecords j v))) (records-of-volume-rise .rise j v);
-  lowest = λ j v output file w c m. mem-map fileRecord (jobRecords j v) (λ c. LowestOfOrbit j (indexIn c)) (records-of-volume-rise .lowest j v) c (subst (Mem c) (records-in w) m);
+  lowest = λ j v output file w c m. mem-map (fileRecord 1) (jobRecords j v) (λ c. LowestOfOrbit j (indexIn c)) (records-of-volume-rise .lowest j v) c (subst (Mem c) (records-in w) m);
 }

@@ -17,8 +17,8 @@ use Rattle.job.proofs.check.Openings.{volume-decides, volume-collects}
 use Rattle.file_format.specs.declared.FileRecord.{FileRecord}
 use Rattle.file_format.specs.Parsed.{Bytes, ShortRecord, Writable}
 use Rattle.file_format.proofs.WrittenFiles.{parses-back}
-use Rattle.file_format.proofs.Rewriting.{got-short, writable-again}
-use Rattle.factor_file.specs.File.{indexIn, countAt, recordCount, recordsIn, recordsFrom, headerIn, shapeTests, judgeTests, Judgement, taken, refusedAt, judged, feed, fileStep}
+use Rattle.file_format.proofs.Rewriting.{length-from, got-short, writable-again}
+use Rattle.factor_file.specs.File.{indexIn, countAt, recordCount, recordsIn, headerIn, shapeTests, judgeTests, Judgement, taken, refusedAt, judged, feed, fileStep}
 use Rattle.factor_file.specs.Faults.{headerTests, faultsIn}
 use Rattle.factor_file.specs.Fewest.{noRecord, chosen, Rising, last, next, judgedUnder, Fewest}
 use Rattle.factor_file.specs.FewestOpened.{smallerFile, Smaller, RefusedAt, FewestOpened, FewestAreOpened}
@@ -77,11 +77,6 @@ judged-inside group n before (c ∷ cs) k r e = by (first (judgeTests group n be
     by : (t : ℕ) → (judged group n (indexIn c ∷ before) cs ≡ refusedAt k r → r < suc (length before) + length cs) → accepted t (judged group n (indexIn c ∷ before) cs) (λ k. refusedAt k (length before)) ≡ refusedAt k r → r < length before + suc (length cs)
     by zero f e = omega (arith, f e)
     by (suc t) f e = let q : length before ≡ r = cc in omega arith
-
-length-from : (file : List ℕ) (q n : ℕ) → length (recordsFrom file q n) ≡ n
-unfolding recordsFrom
-length-from file q zero = refl
-length-from file q (suc n) = ap suc (length-from file (q + 14) n)
 
 rising-few : {low r : ℕ} {qs : List ℕ} → Rising low r qs → low + length qs ≤ suc r
 rising-few (last l) = omega arith

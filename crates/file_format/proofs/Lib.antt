@@ -1,5 +1,5 @@
 pub mod Reading
 pub mod Walking
 pub mod Parsing
-pub mod WrittenFiles
 pub mod Rewriting
+pub mod WrittenFiles

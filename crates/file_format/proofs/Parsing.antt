@@ -12,7 +12,7 @@ use Rattle.output.specs.Output.{bigEndian}
 use Rattle.file_format.specs.Format.{byteAt, twoBytes, fourBytes, listAt, afterList, recordAt, recordsFrom, listBytes, rawBytes, allBytes}
 use Rattle.file_format.specs.Parsed.{ShortRecord}
 
-right : (a b c d e t : List ℕ) → a ++ b ++ c ++ d ++ e ++ t ≡ a ++ (b ++ (c ++ (d ++ (e ++ t))))
+pub right : (a b c d e t : List ℕ) → a ++ b ++ c ++ d ++ e ++ t ≡ a ++ (b ++ (c ++ (d ++ (e ++ t))))
 right a b c d e t = simp append-assoc
 
 module _ (file : List ℕ) where

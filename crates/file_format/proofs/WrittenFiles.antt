@@ -1,7 +1,7 @@
 -- The file of a header and records read back: its header, its records and its shape.
 use mathlib.Core.Path.{_≡_, sym, _∙_, ap}
 use mathlib.Core.Bool.{_||_}
-use mathlib.Core.List.{List, _∷_, _++_, append-assoc}
+use mathlib.Core.List.{List, _∷_, _++_}
 use Prim.Native.Nat.{ℕ, _+_, _*_, _-_, _<_, _≤_}
 use native.Mathlib.Omega.{arith}
 use lib.ListN.{length, length-drop}
@@ -11,15 +11,12 @@ use Rattle.refusals.proofs.Tests.{pass, none, not-t}
 use Rattle.header.specs.Header.{Header}
 use Rattle.output.specs.Output.{bigEndian}
 use Rattle.file_format.specs.declared.FileRecord.{FileRecord}
-use Rattle.file_format.specs.Format.{byteAt, fourBytes, list2At, list3At, countAt, recordCount, recordsIn, recordsFrom, shapeTests, headerIn, listBytes, headerBytes, allBytes, body, fileOf}
+use Rattle.file_format.specs.Format.{byteAt, fourBytes, list2At, list3At, countAt, recordCount, recordsIn, recordsFrom, shapeTests, headerIn, listBytes, allBytes, body, fileOf}
 use Rattle.file_format.specs.Parsed.{Writable, ParsesBack}
 use Rattle.file_format.proofs.layout.ByteLaws.{length-all}
-use Rattle.file_format.proofs.layout.FileParts.{length-body, length-file}
+use Rattle.file_format.proofs.layout.FileParts.{length-body, length-file, parts-apart}
 use Rattle.file_format.proofs.Parsing.{Stands, byte-at, two-at, four-at, list-at, records-at}
-
--- the parts of a header and what follows it, each before the rest
-header-right : (a b c d e f m n : List ℕ) → a ++ b ++ c ++ d ++ e ++ f ++ m ++ n ≡ a ++ (b ++ (c ++ (d ++ (e ++ (f ++ (m ++ n))))))
-header-right a b c d e f m n = simp append-assoc
+use Rattle.file_format.proofs.Rewriting.{file-again}
 
 module _ (h : Header) (cs : List FileRecord) (w : Writable h cs) where
   abbrev file : List ℕ
@@ -37,9 +34,7 @@ module _ (h : Header) (cs : List FileRecord) (w : Writable h cs) where
   lengths = bigEndian 2 (h .lengths .0) ++ (bigEndian 2 (h .lengths .1) ++ (bigEndian 2 (h .lengths .2) ++ lists))
 
   file-right : file ≡ bigEndian 4 (length (body h cs)) ++ 1 ∷ h .group ∷ lengths
-  unfolding fileOf headerBytes
-  file-right = ap (λ (l : List ℕ). bigEndian 4 (length (body h cs)) ++ 1 ∷ h .group ∷ l)
-      (header-right (bigEndian 2 (h .lengths .0)) (bigEndian 2 (h .lengths .1)) (bigEndian 2 (h .lengths .2)) (listBytes (h .list1)) (listBytes (h .list2)) (listBytes (h .list3)) (bigEndian 4 (length cs)) (allBytes cs))
+  file-right = parts-apart h cs
 
   count-read : (fourBytes file 0 ≡ length (body h cs)) × Stands file 4 (1 ∷ h .group ∷ lengths)
   count-read = four-at file 0 (length (body h cs)) (1 ∷ h .group ∷ lengths) (w .short) file-right
@@ -110,4 +105,4 @@ module _ (h : Header) (cs : List FileRecord) (w : Writable h cs) where
       none))
 
 pub parses-back : ParsesBack
-parses-back = record { shape = well-shaped; header = header-read; records = records-read }
+parses-back = record { shape = well-shaped; header = header-read; records = records-read; again = file-again }

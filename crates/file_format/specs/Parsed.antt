@@ -37,8 +37,10 @@ pub record Writable (h : Header) (cs : List FileRecord) : Type 0 where
   pub records : (c : FileRecord) → Mem c cs → ShortRecord c
   pub short : length (body h cs) < 4294967296
 
--- The file of a header and any records, none as well, is not refused for its shape, and has this header and these records.
+-- The file of a header and any records, none as well, is not refused for its shape, and has this header and these records; and every file of bytes that is not
+-- refused for its shape is the file of its header and its records.
 pub record ParsesBack : Type 0 where
   pub shape : (h : Header) (cs : List FileRecord) → Writable h cs → 0 ≡ first (shapeTests (fileOf h cs))
   pub header : (h : Header) (cs : List FileRecord) → Writable h cs → headerIn (fileOf h cs) ≡ h
   pub records : (h : Header) (cs : List FileRecord) → Writable h cs → recordsIn (fileOf h cs) ≡ cs
+  pub again : (file : List ℕ) → Bytes file → 0 ≡ first (shapeTests file) → fileOf (headerIn file) (recordsIn file) ≡ file

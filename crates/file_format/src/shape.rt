@@ -9,7 +9,7 @@ ghost use Rattle.refusals.specs.Refusals.{first};
 ghost use Rattle.refusals.specs.Checks.{checkedNumber};
 ghost use Rattle.file_format.specs.Format.{miscounted, fillingTests, shapeTests};
 ghost use Rattle.file_format.specs.Places.{PlacesOf};
-ghost use Rattle.file_format.specs.Parsed.{ParsesBack};
+ghost use Rattle.file_format.specs.Parsed.{Bytes, ParsesBack};
 
 // Whether the first four bytes do not count the bytes that follow, or no version follows.
 fn is_miscounted(file: &[u8]) -> bool
@@ -52,7 +52,16 @@ pub fn check_shape(file: &[u8], places: Places) -> Checked
     check_filling(file, places)
 }
 
-// The file of a header and records, or of no records, has a sound shape, and they are what is read in it.
+// The numbers of every file that is lent are bytes, which the statements on files ask for. Of what a lent slice holds a function is told where it
+// calls another; the call has no other purpose.
+pub fn are_bytes(file: &[u8])
+    ensures { λ _. ⌜ Bytes (now (file .entry)) ⌝ }
+{
+    crate::integers::wide(0);
+}
+
+// The file of a header and records, or of no records, has a sound shape, and they are what is read in it; and every file of sound shape is that of
+// its header and its records.
 pub fn parses_back()
     ensures { λ _. ⌜ ParsesBack ⌝ }
 {}

@@ -1,6 +1,6 @@
 -- The file, part by part: how long it is, and that its parts one after another make it.
 use mathlib.Core.Path.{_≡_, sym, _∙_, ap}
-use mathlib.Core.List.{List, _++_, append-assoc}
+use mathlib.Core.List.{List, _∷_, _++_, append-assoc}
 use Prim.Native.Nat.{ℕ, _+_, _*_}
 use native.Mathlib.Omega.{arith}
 use lib.ListN.{length, length-append}
@@ -36,3 +36,13 @@ file-parts h cs m n e f =
     ∙ append-assoc (bigEndian 4 m) (headerBytes h) (bigEndian 4 n ++ allBytes cs)
     ∙ ap (λ (l : List ℕ). bigEndian 4 m ++ l) (sym (append-assoc (headerBytes h) (bigEndian 4 n) (allBytes cs)))
     ∙ (λ i. bigEndian 4 (e i) ++ (headerBytes h ++ bigEndian 4 (f i) ++ allBytes cs))
+
+-- the parts, each before the rest
+header-right : (a b c d e f m n : List ℕ) → a ++ b ++ c ++ d ++ e ++ f ++ m ++ n ≡ a ++ (b ++ (c ++ (d ++ (e ++ (f ++ (m ++ n))))))
+header-right a b c d e f m n = simp append-assoc
+
+pub parts-apart : (h : Header) (cs : List FileRecord) → let n = h .lengths in
+    fileOf h cs ≡ bigEndian 4 (length (body h cs)) ++ 1 ∷ h .group ∷ (bigEndian 2 (n .0) ++ (bigEndian 2 (n .1) ++ (bigEndian 2 (n .2) ++ (listBytes (h .list1) ++ (listBytes (h .list2) ++ (listBytes (h .list3) ++ (bigEndian 4 (length cs) ++ allBytes cs)))))))
+unfolding fileOf headerBytes
+parts-apart h cs = ap (λ (l : List ℕ). bigEndian 4 (length (body h cs)) ++ 1 ∷ h .group ∷ l)
+    (header-right (bigEndian 2 (h .lengths .0)) (bigEndian 2 (h .lengths .1)) (bigEndian 2 (h .lengths .2)) (listBytes (h .list1)) (listBytes (h .list2)) (listBytes (h .list3)) (bigEndian 4 (length cs)) (allBytes cs))

@@ -7,3 +7,4 @@ pub mod FaultLaws
 pub mod FaultWalks
 pub mod FewestFaults
 pub mod FewestOpenings
+pub mod Measuring

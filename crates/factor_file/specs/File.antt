@@ -91,6 +91,10 @@ jobFile j v = fileOf (headerOf j) (map (fileRecord 1) (jobRecords j v))
 
 -- ---- the call
 
+-- 18: the output has fewer places than the file has bytes
+abbrev pub roomTests : (size room : ℕ) → List Test
+roomTests size room = ltb room size ⇒ 18 ∷ []
+
 -- Writer: 25, 23, 6, 7, 14, 18.
 abbrev pub writeTests : Job → (v output : List ℕ) → List Test
 writeTests j v output =
@@ -99,8 +103,7 @@ writeTests j v output =
     not (fits j v) ⇒ 6 ∷
     not (allBelow p v) ⇒ 7 ∷
     not (consistentFactors (groupIn j) (halves j) 1 v) ⇒ 14 ∷
-    ltb (length output) (length (jobFile j v)) ⇒ 18 ∷
-    []
+    roomTests (length (jobFile j v)) (length output)
 
 unfoldable pub writeStep : Job → (v output : List ℕ) → FillOutcome
 writeStep j v output = accepted (first (writeTests j v output)) (filled (jobFile j v) output) (notFilled output)

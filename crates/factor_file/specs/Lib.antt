@@ -7,3 +7,4 @@ pub mod Faults
 pub mod FaultSteps
 pub mod Fewest
 pub mod FewestOpened
+pub mod Measured

@@ -1,11 +1,11 @@
 -- The writer's second step: the file of factors that are known to be sound.
 use mathlib.Core.List.{List, [], _∷_, _++_, map}
 use Prim.Native.Nat.{ℕ, suc, _-_, _<_}
-use lib.ListN.{length, drop}
 use lib.Dec.{ltb}
-use Rattle.refusals.specs.Refusals.{Test, _⇒_, first, accepted}
-use Rattle.factor_file.specs.File.{isLowest, recordsAt}
-use Rattle.output.specs.Output.{written, notWritten, FillOutcome}
+use lib.ListN.{length}
+use Rattle.refusals.specs.Refusals.{first, accepted}
+use Rattle.factor_file.specs.File.{isLowest, recordsAt, roomTests}
+use Rattle.output.specs.Output.{FillOutcome, filled, notFilled}
 use mathlib.Core.Path.{_≡_}
 use mathlib.Core.Bool.{cond}
 use Rattle.algebra.specs.cells.Cell.{J, Group, at, lineFrom, planeFrom, cellFrom, placesOf}
@@ -23,16 +23,9 @@ use Rattle.file_format.specs.Format.{rawBytes, fileOf}
 use Rattle.file_format.specs.Parsed.{fileRecord}
 use Rattle.file_format.specs.Layout.{headerWith}
 
--- 18: the file fits
-abbrev pub fileTests : (size room : ℕ) → List Test
-fileTests size room = ltb room size ⇒ 18 ∷ []
-
 -- what is left to do once the factors are known to be sound
 abbrev pub filed : (file output : List ℕ) → FillOutcome
-filed file output =
-    accepted (first (fileTests (length file) (length output)))
-    (record { answer = written (length file); output = file ++ drop (length file) output })
-    (λ n. record { answer = notWritten n; output = output })
+filed file output = accepted (first (roomTests (length file) (length output))) (filled file output) (notFilled output)
 
 -- ---- The file step by step: what its functions are lent, the record of one place, and the file by the cell and the factor lists of a job.
 

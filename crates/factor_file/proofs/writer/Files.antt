@@ -4,7 +4,7 @@ use mathlib.Core.Bool.{Bool, true, false, not, cond, false≢true}
 use mathlib.Core.List.{List, [], _∷_, _++_}
 use Prim.Native.Nat.{ℕ, _<_, _≤_}
 use native.Mathlib.Omega.{arith}
-use lib.ListN.{length, drop}
+use lib.ListN.{length}
 use lib.Dec.{eqb, ltb}
 use borrow.Author.Tests.{lt-ltb, le-ltb, eqb-true, ltb-false}
 use Rattle.refusals.specs.declared.Refusal.{Refusal}
@@ -20,16 +20,16 @@ use Rattle.output.specs.Written.{Wrote}
 use Rattle.output.proofs.Writing.{wrote-whole}
 use Rattle.output.specs.declared.FillAnswer.{FillAnswer}
 use Rattle.output.specs.declared.FillAnswer.the-variants.{Refused}
-use Rattle.factor_file.specs.File.{jobRecords, jobFile, writeTests, writeStep}
-use Rattle.output.specs.Output.{written, notWritten, FillOutcome}
+use Rattle.factor_file.specs.File.{jobRecords, jobFile, roomTests, writeTests, writeStep}
+use Rattle.output.specs.Output.{written, notWritten, FillOutcome, filled, notFilled}
 use Rattle.output.specs.Answers.{fillOutcome}
-use Rattle.factor_file.specs.Steps.{fileWith, fileTests, filed}
+use Rattle.factor_file.specs.Steps.{fileWith, filed}
 
 -- ---- the outcome
 
 -- what the number of the first test makes of it
 abbrev pub told : (file output : List ℕ) → ℕ → FillOutcome
-told file output k = accepted k (record { answer = written (length file); output = file ++ drop (length file) output }) (λ n. record { answer = notWritten n; output = output })
+told file output k = accepted k (filled file output) (notFilled output)
 
 module _ (file output : List ℕ) where
   pub filed-short : length output < length file → record { answer = notWritten 18; output = output } ≡ filed file output
@@ -73,11 +73,11 @@ module _ (j : Job) (v output : List ℕ) where
   held-first = refl
 
   rest : List Test
-  rest = fileTests (length (jobFile j v)) (length output)
+  rest = roomTests (length (jobFile j v)) (length output)
 
   pub write-refused : (r : Refusal) → numberOf r ≡ first held → fillOutcome (Refused r) output ≡ writeStep j v output
   unfolding writeStep rest
-  write-refused r e = fails r (first (writeTests j v output)) _ (λ n. record { answer = notWritten n; output = output }) (failed-first held rest (numberOf r) (nonzero r) e)
+  write-refused r e = fails r (first (writeTests j v output)) _ (notFilled output) (failed-first held rest (numberOf r) (nonzero r) e)
 
   pub write-filed : (r : FillAnswer) (after : List ℕ) → Passed held →
       fillOutcome r after ≡ filed (fileWith (jobCell j) (j .a .factors) (j .b .factors) (j .c .factors) v) output →

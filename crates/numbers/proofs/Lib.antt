@@ -6,3 +6,4 @@ pub mod Parts
 pub mod RealValues
 pub mod Accumulators
 pub mod ModulusCases
+pub mod Quotients

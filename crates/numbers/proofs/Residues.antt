@@ -25,8 +25,8 @@ module _ (p : ℕ) where
   pub sum-below : (a b : ℕ) → a + b < p → a + b ≡ (residues p .add (residue p a) (residue p b)) .val
   sum-below a b h = stands-for (a + b) h (residue-add p a b)
 
-  pub sum-above : (a b : ℕ) → a < p → b < p → p ≤ a + b → a + b - p ≡ (residues p .add (residue p a) (residue p b)) .val
-  sum-above a b ha hb h = stands-for (a + b - p) (omega arith) (residue-less p (a + b) h ∙ residue-add p a b)
+  pub sum-above : (a b : ℕ) → a < p → b < p → p ≤ a + b → a - (p - b) ≡ (residues p .add (residue p a) (residue p b)) .val
+  sum-above a b ha hb h = along (λ (n : ℕ). n) (a - (p - b)) (a + b - p) (omega arith) ∙ stands-for (a + b - p) (omega arith) (residue-less p (a + b) h ∙ residue-add p a b)
 
   residue-difference : (a b : ℕ) → b < p → residue p (a + (p - b)) ≡ residues p .add (residue p a) (residues p .neg (residue p b))
   residue-difference a b h = residue-add p a (p - b) ∙ ap (residues p .add (residue p a)) (residue-neg p b h)

@@ -1,3 +1,4 @@
 pub mod Value
 pub mod Unreduced
 pub mod Bounds
+pub mod Division

@@ -1,6 +1,6 @@
 -- The two primes, chosen by the modulus number m: 86,399 at 1 and 302,399 at 2. Both are 2,880 c - 1.
 -- At a number that is no modulus stands the second prime too, as in the code: so what holds of both primes holds at every m.
-use Rattle.algebra.specs.Prelude.{cond, eqb, ℕ, _+_, _/_, _≤_}
+use Rattle.algebra.specs.Prelude.{Bool, _||_, cond, eqb, ℕ, _+_, _/_, _≤_}
 use Rattle.algebra.specs.ring.Ring.{Ops, Res, residue, residues}
 use Rattle.algebra.specs.ring.Ring as Gauss
 use Rattle.numbers.specs.declared.Pair.{Pair}
@@ -11,6 +11,10 @@ prime m = cond (eqb m 1) 86399 302399
 -- the paper's exponent c in r = ((a + i)/(a - i))^c
 unfoldable pub exponent : ℕ → ℕ
 exponent m = cond (eqb m 1) 30 105
+
+-- The modulus numbers, as a test (refusal 26) and as what a contract asks for.
+abbrev pub isModulus : ℕ → Bool
+isModulus m = eqb m 1 || eqb m 2
 
 pub record IsModulus (m : ℕ) : Type 0 where
   pub low : 1 ≤ m

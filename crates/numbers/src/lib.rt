@@ -4,11 +4,12 @@
 // values that the numbers stand for. Products are formed in 64 bits and reduced once.
 pub mod reciprocals; // reciprocals.rt
 pub mod unreduced; // unreduced.rt
+pub mod division; // division.rt
 
 ghost use mathlib.Core.Path.{_≡_};
 ghost use Prim.Native.Nat.{ℕ, _*_, _<_, _≤_};
 ghost use Rattle.algebra.specs.ring.Ring.{Ops, Res};
-ghost use Rattle.numbers.specs.Value.{prime, IsModulus, ring, field, conj, i, value, half, real, valueOf, pairOf};
+ghost use Rattle.numbers.specs.Value.{prime, isModulus, IsModulus, ring, field, conj, i, value, half, real, valueOf, pairOf};
 ghost use Rattle.numbers.specs.Bounds.{res, Small};
 ghost use Rattle.numbers.specs.Unreduced.{Accumulated};
 
@@ -22,6 +23,13 @@ pub struct Pair {
 pub struct Accumulator {
     pub re: u64,
     pub im: u64,
+}
+
+// A modulus number is 1 or 2.
+pub fn is_modulus(m: u32) -> bool
+    ensures { λ r. ⌜ r ≡ isModulus m ⌝ }
+{
+    m == 1 || m == 2
 }
 
 pub fn modulus(m: u32) -> u32
@@ -43,22 +51,22 @@ pub fn reduce(m: u32, x: u64) -> u32
     }
 }
 
-// The residue of an x below 2^60. The remainder by that power changes nothing but what the compiler knows of x: the division by a
-// constant takes three instructions less.
+// The residue of an x below 2^60.
 pub fn reduce_below(m: u32, x: u64) -> u32
     requires { ⌜ IsModulus m × (x < 1152921504606846976) ⌝ }
     ensures { λ r. ⌜ r ≡ res m x .val ⌝ }
 {
-    reduce(m, x % 1152921504606846976)
+    (x - crate::division::quotient(m, x) * (modulus(m) as u64)) as u32
 }
 
+// The sum is compared and reduced by what b lacks of the prime. Both results are ready with the comparison then, and the compiler chooses
+// between them; of a + b less 0 or p, where the prime is chosen at run time, it makes a jump that depends on the numbers.
 pub fn add(m: u32, a: u32, b: u32) -> u32
     requires { ⌜ IsModulus m × (a < prime m) × (b < prime m) ⌝ }
     ensures { λ r. ⌜ r ≡ ring m .add (res m a) (res m b) .val ⌝ }
 {
-    let p = modulus(m);
-    let s = a + b;
-    if s < p { s } else { s - p }
+    let rest = modulus(m) - b;
+    if a < rest { a + b } else { a - rest }
 }
 
 pub fn sub(m: u32, a: u32, b: u32) -> u32

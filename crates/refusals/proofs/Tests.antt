@@ -7,7 +7,7 @@ use native.Mathlib.Nat.{not-suc-le-zero}
 use lib.Dec.{T, leb, eqb, leb→le}
 use borrow.Author.Tests.{not-true, not-false, lt-ltb, le-ltb, le-leb, lt-leb, eq-eqb, ne-eqb}
 use Rattle.refusals.specs.declared.Refusal.{Refusal}
-use Rattle.refusals.specs.declared.Refusal.the-variants.{LineKind, Direction, Length, Factor, Product, BufferLength, NotResidue, Group, VolumeTooLarge, Index, Contradiction, ScratchTooShort, Inconsistent, FileShape, FileVersion, OutputTooShort, NotCollecting, NoMap, NoFactors, Occupied, ImpossibleJob, Window}
+use Rattle.refusals.specs.declared.Refusal.the-variants.{LineKind, Direction, Length, Factor, Product, BufferLength, NotResidue, Group, VolumeTooLarge, Index, Contradiction, ScratchTooShort, Inconsistent, FileShape, FileVersion, OutputTooShort, NotCollecting, NoMap, NoFactors, Occupied, ImpossibleJob, Modulus, DifferentCells, Magnitude, UnitCell, FloatRange, Window}
 use Rattle.refusals.specs.Refusals.{numberOf, Test, _⇒_, first, accepted}
 
 -- ---- conjunctions
@@ -107,6 +107,11 @@ fails r n o f e = rw (← e) (go r)
     go NoFactors = refl
     go Occupied = refl
     go ImpossibleJob = refl
+    go Modulus = refl
+    go DifferentCells = refl
+    go Magnitude = refl
+    go UnitCell = refl
+    go FloatRange = refl
     go Window = refl
 
 pub passes : {O : Type 0} (n : ℕ) (o : O) (f : ℕ → O) → 0 ≡ n → o ≡ accepted n o f

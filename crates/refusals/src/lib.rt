@@ -27,6 +27,11 @@ pub enum Refusal {
     NoFactors,
     Occupied,
     ImpossibleJob,
+    Modulus,
+    DifferentCells,
+    Magnitude,
+    UnitCell,
+    FloatRange,
     Window,
 }
 
@@ -62,6 +67,11 @@ pub fn number_of(r: Refusal) -> u32
         Refusal::NoFactors => 23,
         Refusal::Occupied => 24,
         Refusal::ImpossibleJob => 25,
+        Refusal::Modulus => 26,
+        Refusal::DifferentCells => 27,
+        Refusal::Magnitude => 28,
+        Refusal::UnitCell => 29,
+        Refusal::FloatRange => 30,
         Refusal::Window => 34,
     }
 }

@@ -2,14 +2,16 @@
    input and writes a line for each: the refusal's number or 0, a checksum of the line and one of the scratch.
 
    It shares no code with the crates and never folds: it unfolds the packed line by the paper's table, sums
-   X(t) e(ts/N) over all t for each s it needs, and packs the result. The root is found by the paper's rule. */
+   X(t) e(ts/N) over all t for each s it needs, and packs the result. The roots of the two primes are found by the paper's rule. */
 #include <stdint.h>
 #include <stdio.h>
 #include <stdlib.h>
 #include <string.h>
 
-#define P 86399u
 #define MAX 2880
+
+/* the prime of the call, and the powers of its root */
+static int64_t P;
 
 typedef struct { int64_t re, im; } value;
 
@@ -29,7 +31,7 @@ static value power(value x, int n)
 static int64_t inverse(int64_t x)
 {
     int64_t y = 1;
-    for (uint32_t e = P - 2; e; e >>= 1) {
+    for (int64_t e = P - 2; e; e >>= 1) {
         if (e & 1) y = y * x % P;
         x = x * x % P;
     }
@@ -37,16 +39,24 @@ static int64_t inverse(int64_t x)
 }
 static int is(value x, int64_t re, int64_t im) { return x.re == re && x.im == im; }
 
-static value root_power[MAX];
+static value powers[2][MAX];
+static value *root_power;
 
-/* ((a + i)/(a - i))^30 for the least a for which it has order exactly 2,880 and its 720th power is -i */
+/* the first prime and its root, or the second */
+static void choose(int second)
+{
+    P = second ? 302399 : 86399;
+    root_power = powers[second];
+}
+
+/* ((a + i)/(a - i))^c, where p = 2,880 c - 1, for the least a for which it has order exactly 2,880 and its 720th power is -i */
 static void find_root(void)
 {
     for (int64_t a = 1;; a++) {
         int64_t n = inverse((a * a + 1) % P);
         value top = { a, 1 };
         value r = mul(mul(top, top), (value){ n, 0 });
-        r = power(r, 30);
+        r = power(r, (P + 1) / 2880);
         value x = { 1, 0 };
         int order = 0;
         do { root_power[order] = x; x = mul(x, r); order++; } while (order < MAX && !is(x, 1, 0));
@@ -70,8 +80,9 @@ static uint32_t count_of(uint32_t kind, uint32_t n)
     }
 }
 
-static int refusal(uint32_t kind, uint32_t direction, uint32_t n, const unsigned char *f, int count, uint32_t length, uint32_t lent)
+static int refusal(uint32_t modulus, uint32_t kind, uint32_t direction, uint32_t n, const unsigned char *f, int count, uint32_t length, uint32_t lent)
 {
+    if (modulus != 1 && modulus != 2) return 26;
     if (kind > 5) return 1;
     if (direction > 1) return 2;
     if (n == 0 || n % 2 || 2880 % n) return 3;
@@ -194,20 +205,21 @@ static uint64_t checksum(const uint32_t *v, uint32_t n)
 
 int main(void)
 {
-    unsigned char c[48];
-    find_root();
-    while (fread(c, 1, 48, stdin) == 48) {
-        uint32_t kind = big(c), direction = big(c + 4), n = big(c + 8);
-        int count = c[12];
-        const unsigned char *f = c + 13;
-        uint32_t length = big(c + 28), state = big(c + 32), place = big(c + 36), spoilt = big(c + 40), lent = big(c + 44);
+    unsigned char c[52];
+    for (int second = 0; second < 2; second++) { choose(second); find_root(); }
+    while (fread(c, 1, 52, stdin) == 52) {
+        uint32_t modulus = big(c), kind = big(c + 4), direction = big(c + 8), n = big(c + 12);
+        int count = c[16];
+        const unsigned char *f = c + 17;
+        uint32_t length = big(c + 32), state = big(c + 36), place = big(c + 40), spoilt = big(c + 44), lent = big(c + 48);
+        choose(modulus != 1);
         for (uint32_t j = 0; j < length; j++) {
             state = ((uint64_t)state * 1103515245 + 12345) % 2147483648u;
             line[j] = state / 8 % P;
         }
         if (place < length) line[place] = spoilt;
         for (uint32_t j = 0; j < lent; j++) scratch[j] = 7;
-        int number = refusal(kind, direction, n, f, count, length, lent);
+        int number = refusal(modulus, kind, direction, n, f, count, length, lent);
         if (number == 0) {
             if (direction == 0) { unfold_before(kind, n); transform(n, 0); pack_after(kind, n); }
             else { unfold_after(kind, n); transform(n, 1); pack_before(kind, n); }

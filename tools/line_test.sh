@@ -1,6 +1,6 @@
 #!/bin/sh
 # Makes the calls of the line test and what it must print: crates/line_test/stdin and crates/line_test/stdout.
-# The expected output comes from a program of its own, by direct sums (half a minute).
+# The expected output comes from a program of its own, by direct sums (a minute).
 set -eu
 cd "$(dirname "$0")/.."
 made=$(mktemp -d)

@@ -6,7 +6,7 @@ use Prim.Native.Nat.{ℕ, _/_, _<_}
 use native.Mathlib.Omega.{arith}
 use lib.ListN.{length}
 use borrow.Author.Tests.{not-false}
-use Rattle.numbers.specs.Value.{prime, IsModulus, Value}
+use Rattle.numbers.specs.Value.{IsModulus, Value}
 use Rattle.slices.specs.Pairs.{valuesOf}
 use Rattle.slices.proofs.Values.{values-list}
 use Rattle.lengths.specs.Lengths.{kindOf, pairCount, admitted}
@@ -18,6 +18,7 @@ use Rattle.line.specs.Line.{transform, transformed, lineTests, lineStep}
 use Rattle.line.specs.Demands.{wholeBefore, wholeAfter, forwardSum, backSum, CallIsSum, ListFree}
 use Rattle.line.proofs.kinds.Reading.{before-cong, after-cong}
 use Rattle.line.proofs.Demands.{forward-is-sum, back-is-sum}
+use Rattle.line.proofs.Accepted.{accepted-modulus}
 use Rattle.line.proofs.Outcome.{none-held, accepted-outcome}
 
 -- ---- the whole line of a transformed list
@@ -41,21 +42,24 @@ module _ (m kind N : ℕ) (line : List ℕ) (is : IsModulus m) (e : admitted N �
 -- ---- the call
 
 module _ (m kind direction N : ℕ) (factors line scratch : List ℕ) (e : lineStep m kind direction N factors line scratch .answer ≡ 0) where
-  none : 0 ≡ first (lineTests (prime m) kind direction N factors line (length scratch))
+  none : 0 ≡ first (lineTests m kind direction N factors line (length scratch))
   none = none-held m kind direction N factors line scratch e
 
   size-admitted : admitted N ≡ true
-  size-admitted = not-false _ (passed (lineTests (prime m) kind direction N factors line (length scratch)) tt none .1 .1 .0)
+  size-admitted = not-false _ (passed (lineTests m kind direction N factors line (length scratch)) tt none .1 .1 .1 .0)
+
+  modulus-named : IsModulus m
+  modulus-named = accepted-modulus m kind direction N factors line (length scratch) none
 
   line-left : lineStep m kind direction N factors line scratch .line ≡ transformed m kind direction N line
   line-left = ap (λ o. o .line) (accepted-outcome m kind direction N factors line scratch none)
 
 pub call-is-sum : CallIsSum
 call-is-sum = record {
-  forward = λ m kind N factors line scratch is e s l.
-      ap (λ y. wholeAfter m kind N (valuesOf m y) s) (line-left m kind 0 N factors line scratch e) ∙ forward-list m kind N line is (size-admitted m kind 0 N factors line scratch e) s l;
-  back = λ m kind N factors line scratch is e t l.
-      ap (λ y. wholeBefore m kind N (valuesOf m y) t) (line-left m kind 1 N factors line scratch e) ∙ back-list m kind N line is (size-admitted m kind 1 N factors line scratch e) t l;
+  forward = λ m kind N factors line scratch e s l.
+      ap (λ y. wholeAfter m kind N (valuesOf m y) s) (line-left m kind 0 N factors line scratch e) ∙ forward-list m kind N line (modulus-named m kind 0 N factors line scratch e) (size-admitted m kind 0 N factors line scratch e) s l;
+  back = λ m kind N factors line scratch e t l.
+      ap (λ y. wholeBefore m kind N (valuesOf m y) t) (line-left m kind 1 N factors line scratch e) ∙ back-list m kind N line (modulus-named m kind 1 N factors line scratch e) (size-admitted m kind 1 N factors line scratch e) t l;
 }
 
 pub list-free : ListFree

@@ -34,7 +34,7 @@ same-list (x ∷ l) (y ∷ m) e =
 
 -- the tests with a scratch that is just long enough
 abbrev number : Specimen → ℕ
-number x = first (lineTests (prime 1) (x .kind) (x .direction) (x .length) (x .factors) (x .before) scratchLength)
+number x = first (lineTests 1 (x .kind) (x .direction) (x .length) (x .factors) (x .before) scratchLength)
 
 abbrev result : Specimen → List ℕ
 result x = transformed 1 (x .kind) (x .direction) (x .length) (x .before)
@@ -44,7 +44,7 @@ shows [] = true
 shows (x ∷ l) = (eqb 0 (number x) && sameList (result x) (x .after)) && shows l
 
 -- with a longer scratch the tests say the same
-longer : (x : Specimen) (n : ℕ) → scratchLength ≤ n → first (lineTests (prime 1) (x .kind) (x .direction) (x .length) (x .factors) (x .before) n) ≡ number x
+longer : (x : Specimen) (n : ℕ) → scratchLength ≤ n → first (lineTests 1 (x .kind) (x .direction) (x .length) (x .factors) (x .before) n) ≡ number x
 longer x n h = rw (le-ltb n scratchLength h)
 
 shown : (x : Specimen) → 0 ≡ number x → result x ≡ x .after → Shown x

@@ -3,6 +3,7 @@ use mathlib.Core.List.{List}
 use Prim.Native.Nat.{ℕ, _*_, _≤_, _<_}
 use lib.ListN.{length}
 use mathlib.Core.Path.{_≡_}
+use Rattle.numbers.specs.Value.{prime, IsModulus}
 use Rattle.slices.specs.Pairs.{Below}
 use Rattle.lengths.specs.Lengths.{scratchLength, pairCount}
 use Rattle.refusals.specs.Refusals.{numberOf}
@@ -23,7 +24,8 @@ lineOutcome r l s = record { answer = saidLine r; line = l; scratch = s }
 -- ---- What is known of a line whose every test was passed: it is transformed under these facts alone.
 
 -- The factors are the octal digits of the list.
-pub record Accepted (p kind direction N factors : ℕ) (line : List ℕ) (scratch : ℕ) : Type 0 where
+pub record Accepted (m kind direction N factors : ℕ) (line : List ℕ) (scratch : ℕ) : Type 0 where
+  pub modulus-is : IsModulus m
   pub kind-is : kind < 6
   pub direction-is : direction < 2
   pub size : AdmittedLength N
@@ -31,4 +33,4 @@ pub record Accepted (p kind direction N factors : ℕ) (line : List ℕ) (scratc
   pub line-length : length line ≡ 2 * pairCount kind N
   pub pairs-fit : pairCount kind N ≤ N
   pub scratch-fits : scratchLength ≤ scratch
-  pub below : Below p line
+  pub below : Below (prime m) line

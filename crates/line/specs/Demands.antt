@@ -46,9 +46,9 @@ pub record BackIsSum : Type 0 where
 
 -- The same of an accepted call: the whole line of the numbers that it leaves is the direct sum over the whole line of the numbers that it was lent.
 pub record CallIsSum : Type 0 where
-  pub forward : (m kind N : ℕ) (factors line scratch : List ℕ) → IsModulus m → let o = lineStep m kind 0 N factors line scratch in o .answer ≡ 0 →
+  pub forward : (m kind N : ℕ) (factors line scratch : List ℕ) → let o = lineStep m kind 0 N factors line scratch in o .answer ≡ 0 →
       (s : ℕ) → s < N → wholeAfter m kind N (valuesOf m (o .line)) s ≡ forwardSum m N (wholeBefore m kind N (valuesOf m line)) s
-  pub back : (m kind N : ℕ) (factors line scratch : List ℕ) → IsModulus m → let o = lineStep m kind 1 N factors line scratch in o .answer ≡ 0 →
+  pub back : (m kind N : ℕ) (factors line scratch : List ℕ) → let o = lineStep m kind 1 N factors line scratch in o .answer ≡ 0 →
       (t : ℕ) → t < N → wholeBefore m kind N (valuesOf m (o .line)) t ≡ backSum m N (wholeAfter m kind N (valuesOf m line)) t
 
 -- The factor list does not show: two accepted calls that differ in their lists alone leave the same line and the same scratch.
@@ -69,5 +69,5 @@ pub record RestoredAfter : Type 0 where
 
 -- An accepted call is taken back by the same call in the other direction: that is accepted too, and leaves the line as it was.
 pub record TakenBack : Type 0 where
-  pub taken-back : (m kind direction N : ℕ) (factors line scratch : List ℕ) → IsModulus m → let o = lineStep m kind direction N factors line scratch in o .answer ≡ 0 →
+  pub taken-back : (m kind direction N : ℕ) (factors line scratch : List ℕ) → let o = lineStep m kind direction N factors line scratch in o .answer ≡ 0 →
       lineStep m kind (1 - direction) N factors (o .line) (o .scratch) ≡ record { answer = 0; line = line; scratch = o .scratch }

@@ -5,7 +5,7 @@ use Rattle.algebra.specs.Prelude.{not, eqb, leb, ltb, ℕ, _*_, _/_, List, [], 
 use Rattle.slices.specs.Pairs.{allBelow, valuesOf, listOf}
 use Rattle.lengths.specs.Lengths.{product, admitted, factorsOk, scratchLength, pairCount, cleared, kindOf}
 use Rattle.refusals.specs.Refusals.{Test, _⇒_, first, accepted}
-use Rattle.numbers.specs.Value.{prime, Value, onValues}
+use Rattle.numbers.specs.Value.{prime, isModulus, Value, onValues}
 use Rattle.algebra.specs.lines.Kinds.{Kind, slots, forward, inverse}
 pub use Rattle.roots.specs.Root.{rootOf, axis}
 
@@ -24,12 +24,13 @@ transformed m kind direction N line = transformedLine m (kindOf kind) direction 
 
 -- ---- The refusals, in the paper's order
 
--- Line: 1, 2, 3, 4, 5, 6, 13, 7: the numbers, the factor list, the line and the scratch, which counts by its length alone.
-abbrev pub lineTests : (p kind direction N : ℕ) (factors line : List ℕ) (scratch : ℕ) → List Test
-lineTests p kind direction N factors line scratch =
-    leb 6 kind ⇒ 1 ∷ leb 2 direction ⇒ 2 ∷ not (admitted N) ⇒ 3 ∷
+-- Line: 26, 1, 2, 3, 4, 5, 6, 13, 7: the numbers, the factor list, the line and the scratch, which counts by its length alone. The residues are those of the
+-- modulus that is named.
+abbrev pub lineTests : (m kind direction N : ℕ) (factors line : List ℕ) (scratch : ℕ) → List Test
+lineTests m kind direction N factors line scratch =
+    not (isModulus m) ⇒ 26 ∷ leb 6 kind ⇒ 1 ∷ leb 2 direction ⇒ 2 ∷ not (admitted N) ⇒ 3 ∷
     not (factorsOk factors) ⇒ 4 ∷ not (eqb (product factors) (N / 2)) ⇒ 5 ∷
-    not (eqb (length line) (2 * pairCount kind N)) ⇒ 6 ∷ ltb scratch scratchLength ⇒ 13 ∷ not (allBelow p line) ⇒ 7 ∷
+    not (eqb (length line) (2 * pairCount kind N)) ⇒ 6 ∷ ltb scratch scratchLength ⇒ 13 ∷ not (allBelow (prime m) line) ⇒ 7 ∷
     []
 
 -- ---- The outcome
@@ -42,6 +43,6 @@ pub record LineOutcome : Type 0 where
 
 unfoldable pub lineStep : (m kind direction N : ℕ) (factors line scratch : List ℕ) → LineOutcome
 lineStep m kind direction N factors line scratch =
-    accepted (first (lineTests (prime m) kind direction N factors line (length scratch)))
+    accepted (first (lineTests m kind direction N factors line (length scratch)))
     (record { answer = 0; line = transformed m kind direction N line; scratch = cleared scratch })
     (λ n. record { answer = n; line = line; scratch = scratch })

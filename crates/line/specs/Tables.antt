@@ -28,13 +28,13 @@ pub record TablesOf (m direction : ℕ) (re im tan : List ℕ) : Type 0 where
 -- ---- how a call makes them
 
 -- direction 0 takes a table as it is, direction 1 negated
-abbrev pub OfDirection : (direction : ℕ) (of u : List ℕ) → Type 0
-OfDirection zero of u = u ≡ of
-OfDirection (suc direction) of u = NegatedTable 1 (length of) of u
+abbrev pub OfDirection : (m direction : ℕ) (of u : List ℕ) → Type 0
+OfDirection m zero of u = u ≡ of
+OfDirection m (suc direction) of u = NegatedTable m (length of) of u
 
 -- the n numbers of a table of the root, for a direction
-pub record Directed (Table : List ℕ → Type 0) (n direction : ℕ) (u : List ℕ) : Type 0 where
+pub record Directed (m : ℕ) (Table : List ℕ → Type 0) (n direction : ℕ) (u : List ℕ) : Type 0 where
   pub of : List ℕ
   pub count : length of ≡ n
   pub table : Table of
-  pub directed : OfDirection direction of u
+  pub directed : OfDirection m direction of u

@@ -1,6 +1,6 @@
 // The refusals of a line's call: the number is that of the first test of the paper's order that holds.
 //
-// The check takes the modulus' prime and the lent buffers, and works nothing.
+// The check takes the numbers and the lent buffers, and works nothing.
 use refusals::Checked;
 use refusals::Refusal;
 ghost use mathlib.Core.Path.{_≡_};
@@ -8,9 +8,9 @@ ghost use Rattle.refusals.specs.Refusals.{first};
 ghost use Rattle.refusals.specs.Checks.{checkedNumber};
 ghost use Rattle.line.specs.Line.{lineTests};
 
-// The refusals of a line, in the paper's order. Residues are below p; the scratch counts by its length.
+// The refusals of a line, in the paper's order. Residues are those of the modulus; the scratch counts by its length.
 pub fn check_line(
-    p: u32,
+    modulus: u32,
     kind: u32,
     direction: u32,
     length: u32,
@@ -18,8 +18,11 @@ pub fn check_line(
     line: &[u32],
     scratch: usize,
 ) -> Checked
-    ensures { λ r. ⌜ checkedNumber r ≡ first (lineTests p kind direction length (now (factors .entry)) (now (line .entry)) scratch) ⌝ }
+    ensures { λ r. ⌜ checkedNumber r ≡ first (lineTests modulus kind direction length (now (factors .entry)) (now (line .entry)) scratch) ⌝ }
 {
+    if !numbers::is_modulus(modulus) {
+        return Checked::Failed(Refusal::Modulus);
+    }
     if 6 <= kind {
         return Checked::Failed(Refusal::LineKind);
     }
@@ -42,7 +45,7 @@ pub fn check_line(
     if scratch < 11520 {
         return Checked::Failed(Refusal::ScratchTooShort);
     }
-    if !slices::buffers::all_below(line, p) {
+    if !slices::buffers::all_below(line, numbers::modulus(modulus)) {
         return Checked::Failed(Refusal::NotResidue);
     }
     Checked::Sound

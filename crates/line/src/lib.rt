@@ -8,7 +8,6 @@ use refusals::Checked;
 use refusals::Refusal;
 ghost use mathlib.Core.Path.{_≡_};
 ghost use lib.ListN.{length as lengthOf, drop};
-ghost use Rattle.numbers.specs.Value.{prime};
 ghost use Rattle.line.specs.Line.{transformed, lineStep};
 ghost use Rattle.lengths.specs.Lengths.{scratchLength};
 ghost use Rattle.line.specs.Answers.{Accepted, lineOutcome};
@@ -22,8 +21,10 @@ pub enum LineAnswer {
     Refused(Refusal),
 }
 
-// One line of structure factors, transformed in the lent line, or refused. Direction 0 is forward, 1 the inverse.
+// One line of structure factors, transformed in the lent line, or refused. The modulus number names the prime; direction 0 is forward, 1
+// the inverse.
 pub fn line(
+    modulus: u32,
     kind: u32,
     direction: u32,
     length: u32,
@@ -32,11 +33,10 @@ pub fn line(
     scratch: &mut [u32],
 ) -> LineAnswer
     ensures { λ r. ⌜ lineOutcome r (now (line .exit)) (now (scratch .exit))
-        ≡ lineStep 1 kind direction length (now (factors .entry)) (now (line .entry)) (now (scratch .entry)) ⌝ }
+        ≡ lineStep modulus kind direction length (now (factors .entry)) (now (line .entry)) (now (scratch .entry)) ⌝ }
 {
-    let p = numbers::modulus(1);
     let checked = crate::check::check_line(
-        p,
+        modulus,
         kind,
         direction,
         length,
@@ -48,6 +48,7 @@ pub fn line(
         Checked::Failed(refusal) => LineAnswer::Refused(refusal),
         Checked::Sound => {
             transform_line(
+                modulus,
                 kind,
                 direction,
                 length,
@@ -64,6 +65,7 @@ pub fn line(
 // The transform of an accepted line, in place. The tables of the direction are made once, and lent down; the folded line stands in the
 // scratch's first 5,760 numbers, and what it leaves there is not said.
 fn transform_line(
+    modulus: u32,
     kind: u32,
     direction: u32,
     length: u32,
@@ -71,18 +73,18 @@ fn transform_line(
     line: &mut [u32],
     scratch: &mut [u32],
 )
-    requires { ⌜ Accepted (prime 1) kind direction length factors (now line) (lengthOf (now scratch)) ⌝ }
-    ensures { λ _. ⌜ now (line .exit) ≡ transformed 1 kind direction length (now (line .entry)) ⌝ }
+    requires { ⌜ Accepted modulus kind direction length factors (now line) (lengthOf (now scratch)) ⌝ }
+    ensures { λ _. ⌜ now (line .exit) ≡ transformed modulus kind direction length (now (line .entry)) ⌝ }
     ensures { λ _. ⌜ drop scratchLength (now (scratch .exit)) ≡ drop scratchLength (now (scratch .entry)) ⌝ }
 {
     let a = (length / 2) as usize;
-    let re = roots::powers::real_parts(1);
-    let im = crate::table::imaginary_parts(direction);
-    let tan = crate::table::half_tangents(direction);
+    let re = roots::powers::real_parts(modulus);
+    let im = crate::table::imaginary_parts(modulus, direction);
+    let tan = crate::table::half_tangents(modulus, direction);
     let mut work = [0u32; 5760];
     let fold = &mut scratch[..5760];
     crate::transform::transform(
-        1,
+        modulus,
         kind,
         direction,
         &re,

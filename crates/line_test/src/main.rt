@@ -1,8 +1,8 @@
 // Runs the line transform on the calls of standard input and prints what each answers and leaves: the refusal's number
 // or 0, a checksum of the line, a checksum of the scratch. tools/line_cases.py writes the calls and says what a record
-// of 48 bytes holds; tools/line_expected.c computes by direct sums what this program must print.
+// of 52 bytes holds; tools/line_expected.c computes by direct sums what this program must print.
 ghost use mathlib.Core.Path.{_≡_};
-ghost use Prim.Native.Nat.{_≤_};
+ghost use Prim.Native.Nat.{_<_, _≤_};
 ghost use lib.ListN.{length};
 use line::LineAnswer;
 
@@ -13,14 +13,22 @@ fn number(answer: LineAnswer) -> u32 {
     }
 }
 
+// The prime whose residues fill the line of a call, the second for a number that is no modulus.
+fn prime_of(modulus: u32) -> u32
+    ensures { λ r. ⌜ 0 < r ⌝ }
+{
+    if modulus == 1 { 86399 } else { 302399 }
+}
+
 // One call on a line and a scratch of exactly the lengths that it names, the line by its seed and one number of it changed.
 fn run(head: &[u32], list: &[u8], tail: &[u32], line: &mut [u32], scratch: &mut [u32]) {
-    test_io::fill(line, test_io::at(tail, 1));
+    test_io::fill_below(line, test_io::at(tail, 1), prime_of(test_io::at(head, 0)));
     test_io::put_at(line, test_io::at(tail, 2), test_io::at(tail, 3));
     let answer = line::line(
         test_io::at(head, 0),
         test_io::at(head, 1),
         test_io::at(head, 2),
+        test_io::at(head, 3),
         list,
         line,
         scratch,
@@ -54,7 +62,7 @@ fn lend(head: &[u32], list: &[u8; 16], tail: &[u32]) {
 
 // Reads a call and runs it; answers whether to go on. The numbers before the list, the list with its length, the numbers behind it.
 fn next() -> bool {
-    let mut before = [0u32; 3];
+    let mut before = [0u32; 4];
     let mut list = [0u8; 16];
     let mut tail = [0u32; 5];
     let head = test_io::numbers_read(&mut before);

@@ -108,15 +108,23 @@ fn count(n: usize) -> u32 {
     (n % 4294967296) as u32
 }
 
-// Residues by a linear congruential generator.
+// Residues of the first prime by a linear congruential generator.
 pub fn fill(v: &mut [u32], seed: u32)
     ensures { λ _. ⌜ ((k : ℕ) → k < length (now (v .exit)) → getD (now (v .exit)) k 0 < 86399) ⌝ }
+{
+    fill_below(v, seed, 86399)
+}
+
+// Its numbers below p.
+pub fn fill_below(v: &mut [u32], seed: u32, p: u32)
+    requires { ⌜ 0 < p ⌝ }
+    ensures { λ _. ⌜ ((k : ℕ) → k < length (now (v .exit)) → getD (now (v .exit)) k 0 < p) ⌝ }
 {
     let mut state = seed as u64;
     let mut j: usize = 0;
     while j < v.len() {
         state = (state * 1103515245 + 12345) % 2147483648;
-        v[j] = (state / 8 % 86399) as u32;
+        v[j] = (state / 8 % p as u64) as u32;
         j += 1;
     }
 }

@@ -25,18 +25,18 @@ ghost use Rattle.volume_transform.specs.Turns.{turns};
 
 // A whole volume. The tables are made once, and lent down; the scratch is cleared of what the lines left there.
 pub fn transform_volume(plan: Plan, volume: &mut [u32], scratch: &mut [u32])
-    requires { ⌜ Planned plan × (plan .m ≡ 1) ⌝ }
+    requires { ⌜ Planned plan ⌝ }
     requires { ⌜ Fitting plan (now volume) × (scratchLength ≤ length (now scratch)) ⌝ }
     ensures { λ _. ⌜ (now (volume .exit) ≡ turns (planTurn plan) 0 (lineCount (planGroup plan) (planHalves plan)) (now (volume .entry)))
         × (now (scratch .exit) ≡ cleared (now (scratch .entry))) ⌝ }
 {
-    let re = roots::powers::real_parts(1);
-    let im = line::table::imaginary_parts(plan.direction);
-    let tan = line::table::half_tangents(plan.direction);
+    let re = roots::powers::real_parts(plan.m);
+    let im = line::table::imaginary_parts(plan.m, plan.direction);
+    let tan = line::table::half_tangents(plan.m, plan.direction);
     let mut fold = [0u32; 5760];
     let mut work = [0u32; 5760];
     turn_volume(
-        1,
+        plan.m,
         plan,
         &re,
         &im,
@@ -49,8 +49,8 @@ pub fn transform_volume(plan: Plan, volume: &mut [u32], scratch: &mut [u32])
     slices::buffers::clear(scratch, 11520);
 }
 
-// Every line of the job, one after the other. The modulus goes down beside the plan as a number of its own, so that the
-// compiler can see the constant that the calls hand in.
+// Every line of the job, one after the other. The modulus goes down beside the plan as a number of its own, so that no loop reads it from
+// memory.
 fn turn_volume<'a>(
     m: u32,
     plan: Plan,

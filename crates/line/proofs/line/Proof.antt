@@ -6,8 +6,6 @@ use mathlib.Core.List.{List, _++_}
 use Prim.Native.Nat.{ℕ}
 use lib.ListN.{length, replicate}
 use denote.Ref.{now}
-use Rattle.numbers.specs.Value.{prime}
-use Rattle.numbers.proofs.Primes.{prime-pos}
 use Rattle.lengths.specs.Lengths.{octal, cleared}
 use Rattle.refusals.specs.Refusals.{first}
 use Rattle.refusals.specs.Checks.{checkedNumber}
@@ -18,25 +16,16 @@ use Rattle.line.proofs.Outcome.{refused-outcome, transformed-outcome}
 use Rattle.line.proofs.line.Statement.{statement}
 use Rattle.line.proofs.line.Tie as tie
 
--- the check's number is the specification's
-told : (c : tie.After-check-line) → let a = c .before .before .before .before .before .before .args in
-    checkedNumber (c .check-line .result) ≡ first (lineTests (prime 1) (a .kind) (a .direction) (a .length) (now (a .factors)) (now (a .line)) (length (now (a .scratch))))
-told c =
-    let a = c .before .before .before .before .before .before .args in
-    c .check-line .ensures ∙ ap (λ (p : ℕ). first (lineTests p (a .kind) (a .direction) (a .length) (now (a .factors)) (now (a .line)) (length (now (a .scratch))))) (c .before .before .modulus .ensures .0)
+-- every test was passed
+none : (c : tie.After-enum-told) → let a = c .before .before .before .before .before .before .before .args in
+    0 ≡ first (lineTests (a .modulus) (a .kind) (a .direction) (a .length) (now (a .factors)) (now (a .line)) (length (now (a .scratch))))
+none c = ap checkedNumber (sym (c .enum-told .given .1)) ∙ c .before .before .check-line .ensures
 
-none : (c : tie.After-enum-told) → let a = c .before .before .before .before .before .before .before .before .args in
-    0 ≡ first (lineTests (prime 1) (a .kind) (a .direction) (a .length) (now (a .factors)) (now (a .line)) (length (now (a .scratch))))
-none c = ap checkedNumber (sym (c .enum-told .given .1)) ∙ told (c .before .before)
-
-sound : (c : tie.After-enum-told) → let a = c .before .before .before .before .before .before .before .before .args in
-    Accepted (prime 1) (a .kind) (a .direction) (a .length) (octal (now (a .factors))) (now (a .line)) (length (now (a .scratch)))
+sound : (c : tie.After-enum-told) → let a = c .before .before .before .before .before .before .before .args in
+    Accepted (a .modulus) (a .kind) (a .direction) (a .length) (octal (now (a .factors))) (now (a .line)) (length (now (a .scratch)))
 sound c =
-    let a = c .before .before .before .before .before .before .before .before .args in
-    accepted-line (prime 1) (a .kind) (a .direction) (a .length) (now (a .factors)) (now (a .line)) (length (now (a .scratch))) (none c) (prime-pos 1)
-
-modulus-requires : tie.Need-modulus-requires
-modulus-requires c κs = search needs
+    let a = c .before .before .before .before .before .before .before .args in
+    accepted-line (a .modulus) (a .kind) (a .direction) (a .length) (now (a .factors)) (now (a .line)) (length (now (a .scratch))) (none c)
 
 check-line-requires : tie.Need-check-line-requires
 check-line-requires c κs = search needs
@@ -49,8 +38,8 @@ enum-told c = search needs
 
 packed-requires : tie.Need-packed-requires
 packed-requires c κs =
-    let a = c .before .before .before .before .before .before .before .before .args in
-    let f = accepted-factors (prime 1) (a .kind) (a .direction) (a .length) (now (a .factors)) (now (a .line)) (length (now (a .scratch))) (none c) in
+    let a = c .before .before .before .before .before .before .before .args in
+    let f = accepted-factors (a .modulus) (a .kind) (a .direction) (a .length) (now (a .factors)) (now (a .line)) (length (now (a .scratch))) (none c) in
     (f .0, f .2)
 
 transform-line-requires : tie.Need-transform-line-requires
@@ -66,9 +55,9 @@ same-length c = search needs
 
 returns : tie.Need-returns
 returns c =
-    let a = c .before .before .before .before .before .before .before .before .before .args in
-    refused-outcome 1 (a .kind) (a .direction) (a .length) (now (a .factors)) (now (a .line)) (now (a .scratch)) (c .before .checked .given .0 .0)
-    (ap checkedNumber (sym (c .before .checked .given .1)) ∙ told (c .before .before .before))
+    let a = c .before .before .before .before .before .before .before .before .args in
+    refused-outcome (a .modulus) (a .kind) (a .direction) (a .length) (now (a .factors)) (now (a .line)) (now (a .scratch)) (c .before .checked .given .0 .0)
+    (ap checkedNumber (sym (c .before .checked .given .1)) ∙ c .before .before .before .check-line .ensures)
 
 same-length-2 : tie.Need-same-length-2
 same-length-2 c = search needs
@@ -81,15 +70,14 @@ unfolding cleared
 returns-2 c =
     let t = c .before .before .before .before .before .before .before .before in
     let e = t .before .before .before .before in
-    let a = e .before .before .before .before .before .before .before .before .args in
-    transformed-outcome 1 (a .kind) (a .direction) (a .length) (now (a .factors)) (now (a .line)) (now (a .scratch)) _ _ (none e) (t .transform-line .ensures .0)
+    let a = e .before .before .before .before .before .before .before .args in
+    transformed-outcome (a .modulus) (a .kind) (a .direction) (a .length) (now (a .factors)) (now (a .line)) (now (a .scratch)) _ _ (none e) (t .transform-line .ensures .0)
     (c .before .before .clear .ensures ∙ ap (λ (s : List ℕ). replicate 11520 0 ++ s) (t .transform-line .ensures .1))
 
 pub line-spec : {M : Type 1} → statement M
 line-spec =
     tie.close
     (tie.spec
-    modulus-requires
     check-line-requires
     enum-known-checked
     enum-told

@@ -1,8 +1,7 @@
 -- `transform_line`: the tables are those of the direction, the fold is the scratch's first part, and the line is the kind's.
 use borrow.Author.Needs.{needs}
 use native.Mathlib.Omega.{arith}
-use mathlib.Core.Path.{refl, sym}
-use Rattle.numbers.proofs.Primes.{first-modulus}
+use mathlib.Core.Path.{sym}
 use Rattle.line.proofs.kinds.Dispatch.{prefix-length}
 use Rattle.line.proofs.table.Directions.{tables-of}
 use Rattle.line.proofs.Whole.{rest-of, whole-size, whole-list, whole-count, whole-result}
@@ -13,13 +12,13 @@ cast-a : tie.Need-cast-a
 cast-a c = search needs
 
 real-parts-requires : tie.Need-real-parts-requires
-real-parts-requires c κs = search needs
+real-parts-requires c κs = c .before .before .pre .modulus-is
 
 imaginary-parts-requires : tie.Need-imaginary-parts-requires
-imaginary-parts-requires c κs = search needs
+imaginary-parts-requires c κs = c .before .before .before .pre .modulus-is
 
 half-tangents-requires : tie.Need-half-tangents-requires
-half-tangents-requires c κs = search needs
+half-tangents-requires c κs = c .before .before .before .before .pre .modulus-is
 
 slice-relend-prefix-fold : tie.Need-slice-relend-prefix-fold
 slice-relend-prefix-fold c = search needs
@@ -35,7 +34,7 @@ transform-requires c κs =
     let h = c .before .before .before .before .before .before in
     let s = h .before .before .before .before .before in
     let a = s .pre in (
-      (first-modulus, a .kind-is, a .direction-is, tables-of (h .before .before .real-parts .ensures) refl (s .args .direction) (h .before .imaginary-parts .ensures) (h .half-tangents .ensures)),
+      (a .modulus-is, a .kind-is, a .direction-is, tables-of (a .modulus-is) (h .before .before .real-parts .ensures) (s .args .direction) (h .before .imaginary-parts .ensures) (h .half-tangents .ensures)),
       (
         (whole-size (a .size), whole-list (a .size) (a .list)),
         (
@@ -55,7 +54,7 @@ returns : tie.Need-returns
 returns c =
     let r = c .before .before .before .before .before in
     let s = r .before .before .before .before .before .before .before .before .before .before .before .before in
-    (whole-result (s .pre .size) 1 (s .args .kind) (s .args .direction) (s .args .line .now) (r .transform .ensures), rest-of (r .transform .last .1 .1 .1 .1 .1 .1 .1 .1 .1 .0) (s .args .scratch .now) (s .pre .scratch-fits) (c .before .before .before .before .scratch .given .0))
+    (whole-result (s .pre .size) (s .args .modulus) (s .args .kind) (s .args .direction) (s .args .line .now) (r .transform .ensures), rest-of (r .transform .last .1 .1 .1 .1 .1 .1 .1 .1 .1 .0) (s .args .scratch .now) (s .pre .scratch-fits) (c .before .before .before .before .scratch .given .0))
 
 pub transform-line-spec : {M : Type 1} → statement M
 transform-line-spec =

@@ -1,7 +1,7 @@
 -- The tables are those of the direction, and the scratch is cleared of what the lines left there.
 use borrow.Author.Needs.{needs}
 use native.Mathlib.Omega.{arith}
-use mathlib.Core.Path.{_∙_, sym, ap}
+use mathlib.Core.Path.{refl, _∙_, ap}
 use mathlib.Core.List.{List, _++_}
 use Prim.Native.Nat.{ℕ}
 use lib.ListN.{replicate}
@@ -11,13 +11,13 @@ use Rattle.volume_transform.proofs.transform_volume.Statement.{statemen
 use Rattle.volume_transform.proofs.transform_volume.Tie as tie
 
 real-parts-requires : tie.Need-real-parts-requires
-real-parts-requires c κs = search needs
+real-parts-requires c κs = c .before .before .pre .0 .modulus
 
 imaginary-parts-requires : tie.Need-imaginary-parts-requires
-imaginary-parts-requires c κs = search needs
+imaginary-parts-requires c κs = c .before .before .before .pre .0 .modulus
 
 half-tangents-requires : tie.Need-half-tangents-requires
-half-tangents-requires c κs = search needs
+half-tangents-requires c κs = c .before .before .before .before .pre .0 .modulus
 
 slice-aggregate-turn-volume : tie.Need-slice-aggregate-turn-volume
 slice-aggregate-turn-volume c = search needs
@@ -29,7 +29,7 @@ turn-volume-requires : tie.Need-turn-volume-requires
 turn-volume-requires c κs =
     let h = c .before .before .before .before .before .before .before in
     let s = h .before .before .before .before .before in (
-      (s .pre .0 .0, tables-of (h .before .before .real-parts .ensures) (s .pre .0 .1) (s .args .plan .direction) (h .before .imaginary-parts .ensures) (h .half-tangents .ensures), sym (s .pre .0 .1)),
+      (s .pre .0, tables-of (s .pre .0 .modulus) (h .before .before .real-parts .ensures) (s .args .plan .direction) (h .before .imaginary-parts .ensures) (h .half-tangents .ensures), refl),
       (s .pre .1 .0, record { scratch-fits = s .pre .1 .1; fold-fits = omega arith; work-fits = omega arith }),
     )
 

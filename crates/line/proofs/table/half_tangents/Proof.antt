@@ -3,7 +3,6 @@ use borrow.Author.Needs.{needs}
 use native.Mathlib.Omega.{arith}
 use mathlib.Core.Path.{_≡_}
 use lib.ListN.{length}
-use Rattle.numbers.proofs.Primes.{first-modulus}
 use Rattle.roots.proofs.RootPowers.{tangent-below}
 use Rattle.line.proofs.table.Directions.{as-it-is, negated-table}
 use Rattle.line.proofs.table.half_tangents.Statement.{statement}
@@ -23,7 +22,7 @@ slice-aggregate-negate : tie.Need-slice-aggregate-negate
 slice-aggregate-negate c = search needs
 
 negate-requires : tie.Need-negate-requires
-negate-requires c κs = let t = c .before .before in (first-modulus, tangent-below 1 (t .half-tangents .ensures) (count t))
+negate-requires c κs = let t = c .before .before in (t .before .pre, tangent-below (t .before .args .m) (t .half-tangents .ensures) (count t))
 
 returns-2 : tie.Need-returns-2
 returns-2 c =

@@ -3,7 +3,6 @@ use borrow.Author.Needs.{needs}
 use native.Mathlib.Omega.{arith}
 use mathlib.Core.Path.{_≡_}
 use lib.ListN.{length}
-use Rattle.numbers.proofs.Primes.{first-modulus}
 use Rattle.roots.proofs.RootPowers.{imaginary-below}
 use Rattle.line.proofs.table.Directions.{as-it-is, negated-table}
 use Rattle.line.proofs.table.imaginary_parts.Statement.{statement}
@@ -23,7 +22,7 @@ slice-aggregate-negate : tie.Need-slice-aggregate-negate
 slice-aggregate-negate c = search needs
 
 negate-requires : tie.Need-negate-requires
-negate-requires c κs = let t = c .before .before in (first-modulus, imaginary-below 1 (t .imaginary-parts .ensures) (count t))
+negate-requires c κs = let t = c .before .before in (t .before .pre, imaginary-below (t .before .args .m) (t .imaginary-parts .ensures) (count t))
 
 returns-2 : tie.Need-returns-2
 returns-2 c =

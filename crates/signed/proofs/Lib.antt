@@ -1,2 +1,5 @@
 pub mod Machine
 pub mod Centred
+pub mod Floor
+pub mod IntegerRing
+pub mod Numerals

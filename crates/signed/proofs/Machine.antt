@@ -26,7 +26,7 @@ wide-is z f = toZ-ofZ w64 _ (wide-fits z f) ∙ toZ-ofZ w32 z f
 
 -- ---- a difference below zero
 
-below-zero : (x p : ℕ) → x < p → pos x -ℤ pos p ≡ negsuc (p - suc x)
+pub below-zero : (x p : ℕ) → x < p → pos x -ℤ pos p ≡ negsuc (p - suc x)
 below-zero x zero l = absurd (not-suc-le-zero l)
 below-zero x (suc p) l = ap (λ b. cond b (negsuc (suc p - suc x)) (pos (x - suc p))) (lt-ltb x (suc p) l)
 

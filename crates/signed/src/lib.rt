@@ -1,7 +1,7 @@
-// Whole numbers with a sign: the one next to zero that is congruent to a residue, and the magnitude of any.
+// Whole numbers with a sign: the one next to zero that is congruent to a residue, the magnitude of any, division rounded down.
 ghost use mathlib.Core.Path.{_≡_};
 ghost use Prim.Native.Nat.{_<_};
-ghost use Rattle.signed.specs.Integers.{natAbs, centred, CentredOnly};
+ghost use Rattle.signed.specs.Integers.{natAbs, centred, CentredOnly, FloorDivision};
 
 // The whole number from -p/2 to p/2, rounded towards zero, that is congruent to x modulo an odd p.
 pub fn centre(p: u32, x: u32) -> i32
@@ -31,4 +31,9 @@ pub fn magnitude(x: i64) -> u64
 // nothing: it is there for its promise.
 pub fn centred_only()
     ensures { λ _. ⌜ CentredOnly ⌝ }
+{}
+
+// A whole number divided by n and rounded down: the quotient times n and the remainder, which is from 0 to n - 1, make the number.
+pub fn floor_division()
+    ensures { λ _. ⌜ FloorDivision ⌝ }
 {}

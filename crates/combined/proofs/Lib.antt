@@ -1,0 +1,4 @@
+pub mod Remainders
+pub mod Tables
+pub mod PackedMaps
+pub mod CombinedMaps

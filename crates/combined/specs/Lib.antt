@@ -1,0 +1,2 @@
+pub mod Chinese
+pub mod CombinedMap

@@ -7,7 +7,9 @@ use borrow.Author.Tests.{lt-ltb, le-ltb, ltb-true, eq-eqb, eqb-true}
 use Rattle.lengths.specs.Lengths.{octal, factorsOk, octalDigits}
 use Rattle.refusals.specs.Refusals.{first}
 use Rattle.lengths.specs.Admitted.{FactorList}
-use Rattle.refusals.proofs.Tests.{by-true, by-false}
+use Rattle.refusals.proofs.Tests.{by-true, by-false, both}
+use Rattle.numbers.specs.Value.{isModulus, IsModulus}
+use Rattle.numbers.proofs.ModulusCases.{tested-modulus}
 use Rattle.lengths.proofs.Factors.{octal-digits}
 use Rattle.cell.specs.declared.operations.UnitCell.{UnitCell}
 use Rattle.cell.specs.Operations.{Sizes}
@@ -17,50 +19,69 @@ use Rattle.job.specs.declared.Job.{Job}
 use Rattle.header.proofs.Headers.{all-three, sound-sizes, sound-axes, sound-lists}
 use Rattle.lengths.proofs.Digits.{octal-of-digits}
 
--- the job of a job's header, in its state, is the job: the digits of a list's number give the number back
-pub job-of-header : (j : Job) → jobOf (headerOf j) (j .state) ≡ j
+-- the job of a job's modulus and header, in its state, is the job: the digits of a list's number give the number back
+pub job-of-header : (j : Job) → jobOf (j .modulus) (headerOf j) (j .state) ≡ j
 job-of-header j =
     let a = octal-of-digits (j .a .factors) in
     let b = octal-of-digits (j .b .factors) in
     let c = octal-of-digits (j .c .factors) in
-    λ i. record { group = j .group; a = record { length = j .a .length; factors = a i }; b = record { length = j .b .length; factors = b i }; c = record { length = j .c .length; factors = c i }; state = j .state }
+    λ i. record { group = j .group; modulus = j .modulus; a = record { length = j .a .length; factors = a i }; b = record { length = j .b .length; factors = b i }; c = record { length = j .c .length; factors = c i }; state = j .state }
 
 module _ (j : Job) where
   abbrev headerOk : Bool
   headerOk = eqb (first (axisTests (headerOf j))) 0
 
+  -- the four tests of a valid job
+  valid-tests : validJob j ≡ true → (ltb (j .group) 5 ≡ true) × (isModulus (j .modulus) ≡ true) × (headerOk ≡ true) × (ltb (j .state) 3 ≡ true)
+  unfolding validJob
+  valid-tests e =
+      let g = both (ltb (j .group) 5) (isModulus (j .modulus) && (headerOk && ltb (j .state) 3)) e in
+      let t = all-three (isModulus (j .modulus)) headerOk (ltb (j .state) 3) (g .1) in
+      (g .0, t .0, t .1, t .2)
+
   pub invalid-group : 5 ≤ j .group → false ≡ validJob j
   unfolding validJob
-  invalid-group h = ap (λ (b : Bool). b && (headerOk && ltb (j .state) 3)) (sym (le-ltb _ _ h))
+  invalid-group h = ap (λ (b : Bool). b && (isModulus (j .modulus) && (headerOk && ltb (j .state) 3))) (sym (le-ltb _ _ h))
 
-  pub invalid-header : {r : Bool} → j .group < 5 → r ≡ headerOk → not r ≡ true → false ≡ validJob j
+  pub invalid-modulus : j .group < 5 → isModulus (j .modulus) ≡ false → false ≡ validJob j
   unfolding validJob
-  invalid-header h e f =
+  invalid-modulus h q =
       let x = sym (lt-ltb _ _ h) in
+      let z = sym q in
+      λ i. x i && (z i && (headerOk && ltb (j .state) 3))
+
+  pub invalid-header : {r : Bool} → j .group < 5 → isModulus (j .modulus) ≡ true → r ≡ headerOk → not r ≡ true → false ≡ validJob j
+  unfolding validJob
+  invalid-header h q e f =
+      let x = sym (lt-ltb _ _ h) in
+      let z = sym q in
       let y = sym (by-false _ _ e f) in
-      λ i. x i && (y i && ltb (j .state) 3)
+      λ i. x i && (z i && (y i && ltb (j .state) 3))
 
   -- what is known of a valid job
-  pub valid-parts : validJob j ≡ true → (j .group < 5) × (0 ≡ first (axisTests (headerOf j))) × (j .state < 3)
-  unfolding validJob
+  pub valid-parts : validJob j ≡ true → (j .group < 5) × (0 ≡ first (axisTests (headerOf j))) × (j .state < 3) × (isModulus (j .modulus) ≡ true)
   valid-parts e =
-      let t = all-three (ltb (j .group) 5) headerOk (ltb (j .state) 3) e in
-      (ltb-true _ _ (t .0), sym (eqb-true _ _ (t .1)), ltb-true _ _ (t .2))
+      let t = valid-tests e in
+      (ltb-true _ _ (t .0), sym (eqb-true _ _ (t .2)), ltb-true _ _ (t .3), t .1)
+
+  pub valid-modulus : validJob j ≡ true → IsModulus (j .modulus)
+  valid-modulus e = tested-modulus (j .modulus) (valid-tests e .1)
 
   -- it stays valid in every state
   pub valid-with : (s : ℕ) → validJob j ≡ true → s < 3 → validJob (withState j s) ≡ true
   unfolding validJob
   valid-with s e l =
-      let t = all-three (ltb (j .group) 5) headerOk (ltb (j .state) 3) e in
+      let t = valid-tests e in
       let u = lt-ltb s 3 l in
-      λ i. (t .0) i && ((t .1) i && u i)
+      λ i. (t .0) i && ((t .1) i && ((t .2) i && u i))
 
   -- the sizes of a valid job
   pub valid-sizes : validJob j ≡ true → Sizes (jobCell j)
   valid-sizes e = let t = valid-parts e in sound-sizes (headerOf j) (t .1) (t .0)
 
-  pub cell-sizes : {cell : UnitCell} → cell ≡ jobCell j → validJob j ≡ true → Sizes cell
-  cell-sizes e v = subst Sizes (sym e) (valid-sizes v)
+  -- what every check of a call is lent where it has found the job valid
+  pub cell-sizes : {cell : UnitCell} → cell ≡ jobCell j → validJob j ≡ true → Sizes cell × IsModulus (j .modulus)
+  cell-sizes e v = (subst Sizes (sym e) (valid-sizes v), valid-modulus v)
 
   -- .. and what its lines are lent
   pub valid-job-sizes : validJob j ≡ true → JobSizes (jobCell j) (j .a .factors) (j .b .factors) (j .c .factors)
@@ -79,24 +100,25 @@ module _ (j : Job) where
       listed : (n f : ℕ) → FactorList n (octal (octalDigits f)) → FactorList n f
       listed n f l = subst (FactorList n) (octal-of-digits f) l
 
-  pub valid-state : {r : Bool} → j .group < 5 → r ≡ headerOk → not r ≡ false → ltb (j .state) 3 ≡ validJob j
+  pub valid-state : {r : Bool} → j .group < 5 → isModulus (j .modulus) ≡ true → r ≡ headerOk → not r ≡ false → ltb (j .state) 3 ≡ validJob j
   unfolding validJob
-  valid-state h e f =
+  valid-state h q e f =
       let x = sym (lt-ltb _ _ h) in
+      let z = sym q in
       let y = sym (by-true _ _ e f) in
-      λ i. x i && (y i && ltb (j .state) 3)
+      λ i. x i && (z i && (y i && ltb (j .state) 3))
 
--- the job of a header that no test refuses is valid: its lists are read back from their octal digits
-pub opened-valid : (h : Header) (s : ℕ) → h .group < 5 → 0 ≡ first (axisTests h) → s < 3 → validJob (jobOf h s) ≡ true
+-- the job of a modulus number and a header that no test refuses is valid: its lists are read back from their octal digits
+pub opened-valid : (m : ℕ) (h : Header) (s : ℕ) → isModulus m ≡ true → h .group < 5 → 0 ≡ first (axisTests h) → s < 3 → validJob (jobOf m h s) ≡ true
 unfolding validJob
-opened-valid h s g e l =
+opened-valid m h s is g e l =
     let t = sound-lists h e in
     let x = lt-ltb _ _ g in
     let y = ap (λ k. eqb (first (axisTests k)) 0) (read-back h (t .0 .0) (t .1 .0) (t .2 .0)) ∙ eq-eqb _ 0 (sym e) in
     let z = lt-ltb _ _ l in
-    λ i. x i && (y i && z i)
+    λ i. x i && (is i && (y i && z i))
   where
-    read-back : (h : Header) → factorsOk (h .list1) ≡ true → factorsOk (h .list2) ≡ true → factorsOk (h .list3) ≡ true → headerOf (jobOf h s) ≡ h
+    read-back : (h : Header) → factorsOk (h .list1) ≡ true → factorsOk (h .list2) ≡ true → factorsOk (h .list3) ≡ true → headerOf (jobOf m h s) ≡ h
     read-back h e f g =
         let a = octal-digits (h .list1) e in
         let b = octal-digits (h .list2) f in

@@ -13,23 +13,23 @@ use Rattle.job.specs.declared.OpenAnswer.the-variants.{Opened, Refused}
 use Rattle.job.specs.Job.{Header, jobOf, collecting, mapHeld, openTests, openStep, OpenOutcome, opened, notOpened}
 use Rattle.job.specs.Answers.{openOutcome}
 
-module _ (h : Header) (kind : ℕ) (v : List ℕ) where
-  pub open-refused : (r : Refusal) → numberOf r ≡ first (openTests h kind v) → openOutcome (Refused r) v ≡ openStep h kind v
+module _ (m : ℕ) (h : Header) (kind : ℕ) (v : List ℕ) where
+  pub open-refused : (r : Refusal) → numberOf r ≡ first (openTests m h kind v) → openOutcome (Refused r) v ≡ openStep m h kind v
   unfolding openStep
   open-refused r e = fails r _ _ (λ n. record { answer = notOpened n 0; volume = v }) e
 
-  pub open-collects : (j : Job) (v′ : List ℕ) → 0 ≡ first (openTests h kind v) → kind ≡ 0 → j ≡ jobOf h collecting → v′ ≡ replicate (length v) 0 → openOutcome (Opened j) v′ ≡ openStep h kind v
+  pub open-collects : (j : Job) (v′ : List ℕ) → 0 ≡ first (openTests m h kind v) → kind ≡ 0 → j ≡ jobOf m h collecting → v′ ≡ replicate (length v) 0 → openOutcome (Opened j) v′ ≡ openStep m h kind v
   unfolding openStep
   open-collects j v′ e k s z = rw (← e, s, z, eq-eqb kind 0 k)
 
-  pub open-map : (j : Job) → 0 ≡ first (openTests h kind v) → (kind ≡ 0 → ⊥) → j ≡ jobOf h mapHeld → openOutcome (Opened j) v ≡ openStep h kind v
+  pub open-map : (j : Job) → 0 ≡ first (openTests m h kind v) → (kind ≡ 0 → ⊥) → j ≡ jobOf m h mapHeld → openOutcome (Opened j) v ≡ openStep m h kind v
   unfolding openStep
   open-map j e k s = rw (← e, s, ne-eqb kind 0 k)
 
--- an opening to collect that gave a job: no test held, and the job is the header's
-pub opened-collecting : (h : Header) (v : List ℕ) {j : Job} {v′ : List ℕ} → openStep h 0 v ≡ record { answer = opened j; volume = v′ } → (0 ≡ first (openTests h 0 v)) × (j ≡ jobOf h collecting)
+-- an opening to collect that gave a job: no test held, and the job is that of the modulus number and the header
+pub opened-collecting : (m : ℕ) (h : Header) (v : List ℕ) {j : Job} {v′ : List ℕ} → openStep m h 0 v ≡ record { answer = opened j; volume = v′ } → (0 ≡ first (openTests m h 0 v)) × (j ≡ jobOf m h collecting)
 unfolding openStep
-opened-collecting h v e = by-number (first (openTests h 0 v)) (jobOf h collecting) (replicate (length v) 0) e
+opened-collecting m h v e = by-number (first (openTests m h 0 v)) (jobOf m h collecting) (replicate (length v) 0) e
   where
     by-number : (n : ℕ) (k : Job) (w : List ℕ) {j : Job} {v′ : List ℕ} → _≡_ {A = OpenOutcome} (accepted n (record { answer = opened k; volume = w }) (λ n. record { answer = notOpened n 0; volume = v })) (record { answer = opened j; volume = v′ }) → (0 ≡ n) × (j ≡ k)
     by-number zero k w e = let a = ap (λ (o : OpenOutcome). o .answer) e in (refl, cc)

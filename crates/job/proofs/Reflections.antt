@@ -22,7 +22,7 @@ module _ (j : Job) (at : Reflection) (v : List ℕ) where
   unfolding factorStep
   factor-refused r e = ap (λ (o : Outcome). o .answer) (fails r _ _ (unchanged j v) e)
 
-  pub factor-read : (x : Pair) → 0 ≡ first (factorTests j (index at) v) → x ≡ pairOf (factorsIn (groupIn j) (halves j) 1 v (at .0) (at .1) (at .2)) → factor (x .re) (x .im) ≡ (factorStep j at v) .answer
+  pub factor-read : (x : Pair) → 0 ≡ first (factorTests j (index at) v) → x ≡ pairOf (factorsIn (groupIn j) (halves j) (j .modulus) v (at .0) (at .1) (at .2)) → factor (x .re) (x .im) ≡ (factorStep j at v) .answer
   unfolding factorStep pairOf
   factor-read x e s = ap (λ (z : Pair). factor (z .re) (z .im)) s ∙ ap (λ (o : Outcome). o .answer) (passes _ _ (unchanged j v) e)
 
@@ -31,6 +31,6 @@ module _ (j : Job) (at : Reflection) (v : List ℕ) where
     unfolding recordStep
     record-refused r e = fails r _ _ (unchanged j v) e
 
-    pub record-written : (v′ : List ℕ) → 0 ≡ first (recordTests j (index at) x y v) → v′ ≡ recordOn (groupIn j) (halves j) 1 (index at) (valueOf 1 (record { re = x; im = y })) v → outcome (record { answer = Done; job = j }) v′ ≡ recordStep j at x y v
+    pub record-written : (v′ : List ℕ) → 0 ≡ first (recordTests j (index at) x y v) → v′ ≡ recordOn (groupIn j) (halves j) (j .modulus) (index at) (valueOf (j .modulus) (record { re = x; im = y })) v → outcome (record { answer = Done; job = j }) v′ ≡ recordStep j at x y v
     unfolding recordStep
-    record-written v′ e s = ap (λ (w : List ℕ). outcome (record { answer = Done; job = j }) w) (s ∙ ap (λ z. recordOn (groupIn j) (halves j) 1 (index at) z v) (pair-of-numbers x y)) ∙ passes _ _ (unchanged j v) e
+    record-written v′ e s = ap (λ (w : List ℕ). outcome (record { answer = Done; job = j }) w) (s ∙ ap (λ z. recordOn (groupIn j) (halves j) (j .modulus) (index at) z v) (pair-of-numbers (j .modulus) x y)) ∙ passes _ _ (unchanged j v) e

@@ -6,7 +6,7 @@ use Rattle.job.specs.Job.{jobCell}
 
 abbrev pub planOf : Job → (direction : ℕ) → Plan
 planOf j direction = record {
-  m = 1;
+  m = j .modulus;
   direction = direction;
   cell = jobCell j;
   f1 = j .a .factors;

@@ -12,13 +12,13 @@ abbrev pub agreesUnder : (a : J) (m : ℕ) (at : J) → Value m → Sym → Bool
 agreesUnder a m at x s = imply (sameJ (imageOf a s at) at) (sameValue (impliedValue (field m) (conj m) s at x) x)
 
 abbrev pub synthesisTests : Job → (v : List ℕ) (scratch : ℕ) → List Test
-synthesisTests j v scratch = synthesisTestsOf (validJob j) (j .state) (j .group) (headerOf j .lengths) v scratch
+synthesisTests j v scratch = synthesisTestsOf (validJob j) (j .state) (j .modulus) (j .group) (headerOf j .lengths) v scratch
 
 abbrev pub analysisTests : Job → (v : List ℕ) (scratch : ℕ) → List Test
-analysisTests j v scratch = analysisTestsOf (validJob j) (j .state) (j .group) (headerOf j .lengths) v scratch
+analysisTests j v scratch = analysisTestsOf (validJob j) (j .state) (j .modulus) (j .group) (headerOf j .lengths) v scratch
 
 abbrev pub pointTests : Job → J → List ℕ → List Test
-pointTests j x v = pointTestsOf (validJob j) (j .state) (j .group) (headerOf j .lengths) x v
+pointTests j x v = pointTestsOf (validJob j) (j .state) (j .modulus) (j .group) (headerOf j .lengths) x v
 
 abbrev pub factorTests : Job → J → List ℕ → List Test
-factorTests j at v = factorTestsOf (validJob j) (j .state) (j .group) (headerOf j .lengths) at v
+factorTests j at v = factorTestsOf (validJob j) (j .state) (j .modulus) (j .group) (headerOf j .lengths) at v

@@ -18,6 +18,7 @@ impl Job {
         let checked = crate::check::analysis::check_analysis(
             valid::valid_job(self),
             self.state,
+            self.modulus,
             cell,
             &volume[..],
             scratch.len(),

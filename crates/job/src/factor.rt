@@ -23,6 +23,7 @@ impl Job {
         let checked = crate::check::factor::check_factor(
             valid::valid_job(self),
             self.state,
+            self.modulus,
             cell,
             j,
             volume,
@@ -30,7 +31,7 @@ impl Job {
         match checked {
             Checked::Failed(refusal) => FactorAnswer::Refused(refusal),
             Checked::Sound => {
-                let x = volume::read::factor_at(1, cell, j, volume);
+                let x = volume::read::factor_at(self.modulus, cell, j, volume);
                 FactorAnswer::Factor(x.re, x.im)
             }
         }

@@ -32,10 +32,11 @@ pub struct Axis {
     pub factors: u32,
 }
 
-// The state is 0 collecting, 1 factors held, 2 map held.
+// The modulus is 1 for the prime 86,399 and 2 for 302,399. The state is 0 collecting, 1 factors held, 2 map held.
 #[repr(C)]
 pub struct Job {
     pub group: u32,
+    pub modulus: u32,
     pub a: Axis,
     pub b: Axis,
     pub c: Axis,

@@ -9,7 +9,7 @@ pub fn plan_of(job: Job, direction: u32) -> Plan
     ensures { λ r. ⌜ r ≡ planOf job direction ⌝ }
 {
     Plan {
-        m: 1,
+        m: job.modulus,
         direction,
         cell: job.unit_cell(),
         f1: job.a.factors,

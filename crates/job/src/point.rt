@@ -24,6 +24,7 @@ impl Job {
         let checked = crate::check::point::check_point(
             valid::valid_job(self),
             self.state,
+            self.modulus,
             cell,
             point,
             volume,
@@ -32,7 +33,7 @@ impl Job {
             Checked::Failed(refusal) => PointAnswer::Refused(refusal),
             Checked::Sound => {
                 let place = places::density_place(cell, point);
-                PointAnswer::Density(signed::centre(numbers::modulus(1), volume[place]))
+                PointAnswer::Density(signed::centre(numbers::modulus(self.modulus), volume[place]))
             }
         }
     }

@@ -26,6 +26,7 @@ impl Job {
         let checked = crate::check::record::check_record(
             valid::valid_job(self),
             self.state,
+            self.modulus,
             cell,
             j,
             x,
@@ -37,7 +38,7 @@ impl Job {
                 job: self,
             },
             Checked::Sound => {
-                volume::record::write_images(1, cell, j, x, volume);
+                volume::record::write_images(self.modulus, cell, j, x, volume);
                 Answered {
                     answer: Answer::Done,
                     job: self,

@@ -18,6 +18,7 @@ impl Job {
         let checked = crate::check::synthesis::check_synthesis(
             valid::valid_job(self),
             self.state,
+            self.modulus,
             cell,
             &volume[..],
             scratch.len(),

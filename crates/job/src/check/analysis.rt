@@ -6,6 +6,7 @@ use refusals::Checked;
 use refusals::Refusal;
 ghost use mathlib.Core.Path.{_≡_};
 ghost use mathlib.Core.Bool.{true};
+ghost use Rattle.numbers.specs.Value.{IsModulus};
 ghost use Rattle.refusals.specs.Refusals.{first};
 ghost use Rattle.refusals.specs.Checks.{checkedNumber};
 ghost use Rattle.cell.specs.Operations.{cellLengths, Sizes};
@@ -15,12 +16,13 @@ ghost use Rattle.job.specs.Job.{analysisTestsOf};
 pub fn check_analysis(
     valid: bool,
     state: u32,
+    modulus: u32,
     cell: UnitCell,
     volume: &[u32],
     scratch: usize,
 ) -> Checked
-    requires { ⌜ (valid ≡ true → Sizes cell) ⌝ }
-    ensures { λ r. ⌜ checkedNumber r ≡ first (analysisTestsOf valid state (cell .group) (cellLengths cell) (now (volume .entry)) scratch) ⌝ }
+    requires { ⌜ (valid ≡ true → Sizes cell × IsModulus modulus) ⌝ }
+    ensures { λ r. ⌜ checkedNumber r ≡ first (analysisTestsOf valid state modulus (cell .group) (cellLengths cell) (now (volume .entry)) scratch) ⌝ }
 {
     if !valid {
         return Checked::Failed(Refusal::ImpossibleJob);
@@ -34,5 +36,5 @@ pub fn check_analysis(
     if scratch < 11520 {
         return Checked::Failed(Refusal::ScratchTooShort);
     }
-    map::check_map(cell, volume)
+    map::check_map(modulus, cell, volume)
 }

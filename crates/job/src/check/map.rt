@@ -5,6 +5,7 @@ use refusals::Checked;
 use refusals::Refusal;
 use volume::consistent::map_test;
 ghost use mathlib.Core.Path.{_≡_};
+ghost use Rattle.numbers.specs.Value.{IsModulus};
 ghost use Rattle.refusals.specs.Refusals.{first};
 ghost use Rattle.refusals.specs.Checks.{checkedNumber};
 ghost use Rattle.cell.specs.Operations.{cellLengths};
@@ -12,11 +13,11 @@ ghost use Rattle.cell.specs.TestSteps.{IsVolume};
 ghost use Rattle.job.specs.Job.{mapTests};
 
 // 7, 14: a volume of the right length is a map.
-pub fn check_map(cell: UnitCell, volume: &[u32]) -> Checked
-    requires { ⌜ IsVolume cell (now volume) ⌝ }
-    ensures { λ r. ⌜ checkedNumber r ≡ first (mapTests (cell .group) (cellLengths cell) (now (volume .entry))) ⌝ }
+pub fn check_map(modulus: u32, cell: UnitCell, volume: &[u32]) -> Checked
+    requires { ⌜ IsVolume cell (now volume) × IsModulus modulus ⌝ }
+    ensures { λ r. ⌜ checkedNumber r ≡ first (mapTests modulus (cell .group) (cellLengths cell) (now (volume .entry))) ⌝ }
 {
-    if !tests::all_residues(volume) {
+    if !tests::all_residues(modulus, volume) {
         return Checked::Failed(Refusal::NotResidue);
     }
     if !map_test::consistent_map(cell, volume) {

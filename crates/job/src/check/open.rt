@@ -6,6 +6,7 @@ use header::bytes;
 use refusals::Checked;
 use refusals::Refusal;
 ghost use mathlib.Core.Path.{_≡_};
+ghost use Rattle.numbers.specs.Value.{IsModulus};
 ghost use Rattle.refusals.specs.Refusals.{first};
 ghost use Rattle.refusals.specs.Checks.{checkedNumber};
 ghost use Rattle.cell.specs.Operations.{cellLengths, Sizes};
@@ -13,9 +14,9 @@ ghost use Rattle.header.specs.Cells.{cellHeader};
 ghost use Rattle.job.specs.Job.{volumeTests, openTests};
 
 // 6, and for a map 7, 14.
-fn check_volume(cell: UnitCell, kind: u32, volume: &[u32]) -> Checked
-    requires { ⌜ Sizes cell ⌝ }
-    ensures { λ r. ⌜ checkedNumber r ≡ first (volumeTests (cell .group) (cellLengths cell) kind (now (volume .entry))) ⌝ }
+fn check_volume(modulus: u32, cell: UnitCell, kind: u32, volume: &[u32]) -> Checked
+    requires { ⌜ Sizes cell × IsModulus modulus ⌝ }
+    ensures { λ r. ⌜ checkedNumber r ≡ first (volumeTests modulus (cell .group) (cellLengths cell) kind (now (volume .entry))) ⌝ }
 {
     if !tests::fits(cell, volume) {
         return Checked::Failed(Refusal::BufferLength);
@@ -23,11 +24,12 @@ fn check_volume(cell: UnitCell, kind: u32, volume: &[u32]) -> Checked
     if kind != 1 {
         return Checked::Sound;
     }
-    map::check_map(cell, volume)
+    map::check_map(modulus, cell, volume)
 }
 
-// 8, 2, the header's, the volume's.
+// 8, 26, 2, the header's, the volume's.
 pub fn check_open(
+    modulus: u32,
     cell: UnitCell,
     kind: u32,
     f1: &[u8],
@@ -35,10 +37,13 @@ pub fn check_open(
     f3: &[u8],
     volume: &[u32],
 ) -> Checked
-    ensures { λ r. ⌜ checkedNumber r ≡ first (openTests (cellHeader cell (now (f1 .entry)) (now (f2 .entry)) (now (f3 .entry))) kind (now (volume .entry))) ⌝ }
+    ensures { λ r. ⌜ checkedNumber r ≡ first (openTests modulus (cellHeader cell (now (f1 .entry)) (now (f2 .entry)) (now (f3 .entry))) kind (now (volume .entry))) ⌝ }
 {
     if 5 <= cell.group {
         return Checked::Failed(Refusal::Group);
+    }
+    if !numbers::is_modulus(modulus) {
+        return Checked::Failed(Refusal::Modulus);
     }
     if 2 <= kind {
         return Checked::Failed(Refusal::Direction);
@@ -46,6 +51,6 @@ pub fn check_open(
     let checked = bytes::check_header(cell, f1, f2, f3);
     match checked {
         Checked::Failed(refusal) => Checked::Failed(refusal),
-        Checked::Sound => check_volume(cell, kind, volume),
+        Checked::Sound => check_volume(modulus, cell, kind, volume),
     }
 }

@@ -11,31 +11,33 @@ use refusals::Refusal;
 ghost use mathlib.Core.Path.{_≡_};
 ghost use mathlib.Core.Bool.{true, _&&_};
 ghost use lib.Dec.{ltb};
+ghost use Rattle.numbers.specs.Value.{prime, IsModulus};
 ghost use Rattle.refusals.specs.Refusals.{first};
 ghost use Rattle.refusals.specs.Checks.{checkedNumber};
 ghost use Rattle.cell.specs.Operations.{cellLengths, tripleOf, Sizes};
-ghost use Rattle.job.specs.Job.{p, ownTests, recordTestsOf};
+ghost use Rattle.job.specs.Job.{ownTests, recordTestsOf};
 
 // Both numbers of a value are below the prime.
-fn residues(a: u32, b: u32) -> bool
-    ensures { λ r. ⌜ r ≡ (ltb a p && ltb b p) ⌝ }
+fn residues(modulus: u32, a: u32, b: u32) -> bool
+    requires { ⌜ IsModulus modulus ⌝ }
+    ensures { λ r. ⌜ r ≡ (ltb a (prime modulus) && ltb b (prime modulus)) ⌝ }
 {
-    let bound = numbers::modulus(1);
+    let bound = numbers::modulus(modulus);
     (a < bound) & (b < bound)
 }
 
 // 10, 7, 12: what the record's own numbers settle.
-pub fn check_own(cell: UnitCell, at: Index, x: Pair) -> Checked
-    requires { ⌜ Sizes cell ⌝ }
-    ensures { λ r. ⌜ checkedNumber r ≡ first (ownTests (cell .group) (cellLengths cell) (tripleOf at) (x .re) (x .im)) ⌝ }
+pub fn check_own(modulus: u32, cell: UnitCell, at: Index, x: Pair) -> Checked
+    requires { ⌜ Sizes cell × IsModulus modulus ⌝ }
+    ensures { λ r. ⌜ checkedNumber r ≡ first (ownTests modulus (cell .group) (cellLengths cell) (tripleOf at) (x .re) (x .im)) ⌝ }
 {
     if !tests::inside(cell, at.h, at.k, at.l) {
         return Checked::Failed(Refusal::Index);
     }
-    if !residues(x.re, x.im) {
+    if !residues(modulus, x.re, x.im) {
         return Checked::Failed(Refusal::NotResidue);
     }
-    if !orbit::agrees(1, cell, at, x) {
+    if !orbit::agrees(modulus, cell, at, x) {
         return Checked::Failed(Refusal::Contradiction);
     }
     Checked::Sound
@@ -45,14 +47,15 @@ pub fn check_own(cell: UnitCell, at: Index, x: Pair) -> Checked
 pub fn check_record(
     valid: bool,
     state: u32,
+    modulus: u32,
     cell: UnitCell,
     at: Index,
     x: Pair,
     volume: &[u32],
 ) -> Checked
-    requires { ⌜ (valid ≡ true → Sizes cell) ⌝ }
+    requires { ⌜ (valid ≡ true → Sizes cell × IsModulus modulus) ⌝ }
     ensures { λ r. ⌜ checkedNumber r
-        ≡ first (recordTestsOf valid state (cell .group) (cellLengths cell) (tripleOf at) (x .re) (x .im) (now (volume .entry))) ⌝ }
+        ≡ first (recordTestsOf valid state modulus (cell .group) (cellLengths cell) (tripleOf at) (x .re) (x .im) (now (volume .entry))) ⌝ }
 {
     if !valid {
         return Checked::Failed(Refusal::ImpossibleJob);
@@ -60,7 +63,7 @@ pub fn check_record(
     if state != 0 {
         return Checked::Failed(Refusal::NotCollecting);
     }
-    let own = check_own(cell, at, x);
+    let own = check_own(modulus, cell, at, x);
     match own {
         Checked::Failed(refusal) => Checked::Failed(refusal),
         Checked::Sound => orbit::check_orbit(cell, at, volume),

@@ -4,10 +4,11 @@ use header::bytes;
 ghost use mathlib.Core.Path.{_≡_};
 ghost use lib.Dec.{eqb};
 ghost use lib.ListN.{length};
+ghost use Rattle.numbers.specs.Value.{prime, IsModulus};
 ghost use Rattle.slices.specs.Pairs.{allBelow};
 ghost use Rattle.cell.specs.Operations.{cellGroup, cellLengths, cellHalves, Sizes};
 ghost use Rattle.cell.specs.Volume.{volumeLength};
-ghost use Rattle.job.specs.Job.{p, within};
+ghost use Rattle.job.specs.Job.{within};
 
 // The numbers of an index, or of a point, are each below the axis length.
 pub fn inside(cell: UnitCell, x: u32, y: u32, z: u32) -> bool
@@ -25,8 +26,9 @@ pub fn fits(cell: UnitCell, volume: &[u32]) -> bool
 }
 
 // Every number of the volume is a residue.
-pub fn all_residues(volume: &[u32]) -> bool
-    ensures { λ r. ⌜ r ≡ allBelow p (now (volume .entry)) ⌝ }
+pub fn all_residues(modulus: u32, volume: &[u32]) -> bool
+    requires { ⌜ IsModulus modulus ⌝ }
+    ensures { λ r. ⌜ r ≡ allBelow (prime modulus) (now (volume .entry)) ⌝ }
 {
-    slices::buffers::all_below(volume, numbers::modulus(1))
+    slices::buffers::all_below(volume, numbers::modulus(modulus))
 }

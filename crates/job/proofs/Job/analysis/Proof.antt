@@ -21,7 +21,7 @@ use Rattle.job.proofs.Job.analysis.Tie as tie
 told : (c : tie.After-check-analysis) → let a = c .before .before .before .before .before .before .args in checkedNumber (c .check-analysis .result) ≡ first (analysisTests (a .self) (now (a .volume)) (length (now (a .scratch))))
 told c =
     let a = c .before .before .before .before .before .before .args in
-    c .check-analysis .ensures ∙ ap₂ (λ (b : Bool) (k : UnitCell). first (analysisTestsOf b (a .self .state) (k .group) (cellLengths k) (now (a .volume)) (length (now (a .scratch))))) (c .before .before .valid-job .ensures) (c .before .before .before .unit-cell .ensures)
+    c .check-analysis .ensures ∙ ap₂ (λ (b : Bool) (k : UnitCell). first (analysisTestsOf b (a .self .state) (a .self .modulus) (k .group) (cellLengths k) (now (a .volume)) (length (now (a .scratch))))) (c .before .before .valid-job .ensures) (c .before .before .before .unit-cell .ensures)
 
 -- no test holds
 none : (c : tie.After-enum-told) → let a = c .before .before .before .before .before .before .before .before .args in 0 ≡ first (analysisTests (a .self) (now (a .volume)) (length (now (a .scratch))))

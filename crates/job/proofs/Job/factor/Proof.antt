@@ -5,7 +5,6 @@ use mathlib.Core.Bool.{Bool}
 use denote.Ref.{now}
 use borrow.Author.Tests.{not-false, eqb-true}
 use Rattle.numbers.specs.Value.{pairOf}
-use Rattle.numbers.proofs.Primes.{first-modulus}
 use Rattle.refusals.specs.Refusals.{first}
 use Rattle.refusals.specs.Checks.{checkedNumber}
 use Rattle.refusals.proofs.Tests.{Passed, passed}
@@ -14,7 +13,7 @@ use Rattle.cell.specs.Volume.{factorsIn}
 use Rattle.cell.specs.Operations.{cellGroup, cellHalves, cellLengths, Sizes}
 use Rattle.job.specs.Job.{jobCell, index, factorTestsOf}
 use Rattle.job.specs.TestSteps.{factorTests}
-use Rattle.job.proofs.Jobs.{valid-sizes, cell-sizes}
+use Rattle.job.proofs.Jobs.{valid-modulus, valid-sizes, cell-sizes}
 use Rattle.job.proofs.check.Points.{within-of}
 use Rattle.job.proofs.Reflections.{factor-refused, factor-read}
 use Rattle.job.proofs.Job.factor.Statement.{statement}
@@ -24,7 +23,7 @@ use Rattle.job.proofs.Job.factor.Tie as tie
 told : (c : tie.After-check-factor) → let a = c .before .before .before .before .args in checkedNumber (c .check-factor .result) ≡ first (factorTests (a .self) (index (a .at)) (now (a .volume)))
 told c =
     let a = c .before .before .before .before .args in
-    c .check-factor .ensures ∙ ap₂ (λ (b : Bool) (k : UnitCell). first (factorTestsOf b (a .self .state) (k .group) (cellLengths k) (index (a .at)) (now (a .volume)))) (c .before .valid-job .ensures) (c .before .before .unit-cell .ensures)
+    c .check-factor .ensures ∙ ap₂ (λ (b : Bool) (k : UnitCell). first (factorTestsOf b (a .self .state) (a .self .modulus) (k .group) (cellLengths k) (index (a .at)) (now (a .volume)))) (c .before .valid-job .ensures) (c .before .before .unit-cell .ensures)
 
 -- no test holds
 none : (c : tie.After-enum-told) → let a = c .before .before .before .before .before .before .args in 0 ≡ first (factorTests (a .self) (index (a .at)) (now (a .volume)))
@@ -56,7 +55,7 @@ factor-at-requires c κs =
     let a = c .before .before .before .before .before .before .args in
     let j = a .self in
     let t = clear c .1 .1 in
-    rw (c .before .before .before .before .unit-cell .ensures) ((first-modulus, sizes c, within-of (jobCell j) (record { h = a .at .0; k = a .at .1; l = a .at .2 }) (not-false _ (t .0))), (eqb-true _ _ (not-false _ (t .1 .0)), not-false _ (t .1 .1 .0)))
+    rw (c .before .before .before .before .unit-cell .ensures) ((valid-modulus j (not-false _ (clear c .0)), sizes c, within-of (jobCell j) (record { h = a .at .0; k = a .at .1; l = a .at .2 }) (not-false _ (t .0))), (eqb-true _ _ (not-false _ (t .1 .0)), not-false _ (t .1 .1 .0)))
 
 returns : tie.Need-returns
 returns c =
@@ -67,7 +66,7 @@ returns c =
 returns-2 : tie.Need-returns-2
 returns-2 c =
     let a = c .before .before .before .before .before .before .before .args in
-    factor-read (a .self) (a .at) (now (a .volume)) (c .factor-at .result) (none (c .before)) (c .factor-at .ensures ∙ ap (λ (k : UnitCell). pairOf (factorsIn (cellGroup k) (cellHalves k) 1 (now (a .volume)) (a .at .0) (a .at .1) (a .at .2))) (c .before .before .before .before .before .unit-cell .ensures))
+    factor-read (a .self) (a .at) (now (a .volume)) (c .factor-at .result) (none (c .before)) (c .factor-at .ensures ∙ ap (λ (k : UnitCell). pairOf (factorsIn (cellGroup k) (cellHalves k) (a .self .modulus) (now (a .volume)) (a .at .0) (a .at .1) (a .at .2))) (c .before .before .before .before .before .unit-cell .ensures))
 
 pub factor-spec : {M : Type 1} → statement M
 factor-spec =

@@ -18,7 +18,7 @@ use Rattle.cell.specs.Operations.{cellGroup, cellHalves, cellLengths, Sizes}
 use Rattle.signed.specs.Integers.{centred}
 use Rattle.job.specs.Job.{jobCell, groupIn, halves, position, pointTestsOf, density}
 use Rattle.job.specs.TestSteps.{pointTests}
-use Rattle.job.proofs.Jobs.{valid-sizes, cell-sizes}
+use Rattle.job.proofs.Jobs.{valid-modulus, valid-sizes, cell-sizes}
 use Rattle.header.proofs.Headers.{place-small}
 use Rattle.job.proofs.check.Points.{point-within-of}
 use Rattle.job.proofs.Points.{point-refused, point-read}
@@ -29,7 +29,7 @@ use Rattle.job.proofs.Job.point.Tie as tie
 told : (c : tie.After-check-point) → let a = c .before .before .before .before .args in checkedNumber (c .check-point .result) ≡ first (pointTests (a .self) (position (a .at)) (now (a .volume)))
 told c =
     let a = c .before .before .before .before .args in
-    c .check-point .ensures ∙ ap₂ (λ (b : Bool) (k : UnitCell). first (pointTestsOf b (a .self .state) (k .group) (cellLengths k) (position (a .at)) (now (a .volume)))) (c .before .valid-job .ensures) (c .before .before .unit-cell .ensures)
+    c .check-point .ensures ∙ ap₂ (λ (b : Bool) (k : UnitCell). first (pointTestsOf b (a .self .state) (a .self .modulus) (k .group) (cellLengths k) (position (a .at)) (now (a .volume)))) (c .before .valid-job .ensures) (c .before .before .unit-cell .ensures)
 
 -- no test holds
 none : (c : tie.After-enum-told) → let a = c .before .before .before .before .before .before .args in 0 ≡ first (pointTests (a .self) (position (a .at)) (now (a .volume)))
@@ -81,7 +81,9 @@ density-place-requires c κs =
     rw (c .before .before .before .before .unit-cell .ensures) (sizes c, point-within-of (jobCell j) (record { x = a .at .0; y = a .at .1; z = a .at .2 }) (not-false _ (clear c .1 .1 .0)))
 
 modulus-requires : tie.Need-modulus-requires
-modulus-requires c κs = search needs
+modulus-requires c κs =
+    let t = c .before in
+    valid-modulus (t .before .before .before .before .before .before .args .self) (not-false _ (clear t .0))
 
 mul-centre : tie.Need-mul-centre
 mul-centre c = let d = c .before in omega (arith, place-small _ (sizes (d .before)) (found d .1))

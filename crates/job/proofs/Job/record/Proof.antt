@@ -5,7 +5,6 @@ use mathlib.Core.Bool.{Bool}
 use denote.Ref.{now}
 use borrow.Author.Tests.{not-false, ltb-true, eqb-true}
 use Rattle.numbers.specs.Value.{valueOf}
-use Rattle.numbers.proofs.Primes.{first-modulus}
 use Rattle.refusals.specs.Refusals.{first}
 use Rattle.refusals.specs.Checks.{checkedNumber}
 use Rattle.refusals.proofs.Tests.{Passed, passed, both}
@@ -13,7 +12,7 @@ use Rattle.cell.specs.declared.operations.UnitCell.{UnitCell}
 use Rattle.cell.specs.Operations.{cellGroup, cellHalves, cellLengths}
 use Rattle.cell.specs.Consistency.{recordOn}
 use Rattle.job.specs.Job.{jobCell, index, recordTests, recordTestsOf}
-use Rattle.job.proofs.Jobs.{valid-sizes, cell-sizes}
+use Rattle.job.proofs.Jobs.{valid-modulus, valid-sizes, cell-sizes}
 use Rattle.job.proofs.check.Points.{within-of}
 use Rattle.job.proofs.Reflections.{record-refused, record-written}
 use Rattle.job.proofs.Job.record.Statement.{statement}
@@ -23,7 +22,7 @@ use Rattle.job.proofs.Job.record.Tie as tie
 told : (c : tie.After-check-record) → let a = c .before .before .before .before .before .args in checkedNumber (c .check-record .result) ≡ first (recordTests (a .self) (index (a .at)) (a .a) (a .b) (now (a .volume)))
 told c =
     let a = c .before .before .before .before .before .args in
-    c .check-record .ensures ∙ ap₂ (λ (b : Bool) (k : UnitCell). first (recordTestsOf b (a .self .state) (k .group) (cellLengths k) (index (a .at)) (a .a) (a .b) (now (a .volume)))) (c .before .before .valid-job .ensures) (c .before .before .before .unit-cell .ensures)
+    c .check-record .ensures ∙ ap₂ (λ (b : Bool) (k : UnitCell). first (recordTestsOf b (a .self .state) (a .self .modulus) (k .group) (cellLengths k) (index (a .at)) (a .a) (a .b) (now (a .volume)))) (c .before .before .valid-job .ensures) (c .before .before .before .unit-cell .ensures)
 
 -- no test holds
 none : (c : tie.After-enum-told) → let a = c .before .before .before .before .before .before .before .args in 0 ≡ first (recordTests (a .self) (index (a .at)) (a .a) (a .b) (now (a .volume)))
@@ -53,7 +52,7 @@ write-images-requires c κs =
     let j = a .self in
     let t = clear (c .before) in
     let s = both _ _ (not-false _ (t .1 .1 .1 .0)) in
-    rw (c .before .before .before .before .before .before .unit-cell .ensures) ((first-modulus, record { re = ltb-true _ _ (s .0); im = ltb-true _ _ (s .1) }, valid-sizes j (not-false _ (t .0)), within-of (jobCell j) (record { h = a .at .0; k = a .at .1; l = a .at .2 }) (not-false _ (t .1 .1 .0))), eqb-true _ _ (not-false _ (t .1 .1 .1 .1 .1 .0)))
+    rw (c .before .before .before .before .before .before .unit-cell .ensures) ((valid-modulus j (not-false _ (t .0)), record { re = ltb-true _ _ (s .0); im = ltb-true _ _ (s .1) }, valid-sizes j (not-false _ (t .0)), within-of (jobCell j) (record { h = a .at .0; k = a .at .1; l = a .at .2 }) (not-false _ (t .1 .1 .0))), eqb-true _ _ (not-false _ (t .1 .1 .1 .1 .1 .0)))
 
 same-length : tie.Need-same-length
 same-length c = search needs
@@ -73,7 +72,7 @@ returns-2 c =
     let t = w .before .before in
     let a = t .before .before .before .before .before .before .before .args in
     record-written (a .self) (a .at) (now (a .volume)) (a .a) (a .b) _ (none t)
-    (w .write-images .ensures ∙ ap (λ (k : UnitCell). recordOn (cellGroup k) (cellHalves k) 1 (index (a .at)) (valueOf 1 (record { re = a .a; im = a .b })) (now (a .volume))) (t .before .before .before .before .before .unit-cell .ensures))
+    (w .write-images .ensures ∙ ap (λ (k : UnitCell). recordOn (cellGroup k) (cellHalves k) (a .self .modulus) (index (a .at)) (valueOf (a .self .modulus) (record { re = a .a; im = a .b })) (now (a .volume))) (t .before .before .before .before .before .unit-cell .ensures))
 
 pub record-spec : {M : Type 1} → statement M
 record-spec =

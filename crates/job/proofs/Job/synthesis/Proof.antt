@@ -21,7 +21,7 @@ use Rattle.job.proofs.Job.synthesis.Tie as tie
 told : (c : tie.After-check-synthesis) → let a = c .before .before .before .before .before .before .args in checkedNumber (c .check-synthesis .result) ≡ first (synthesisTests (a .self) (now (a .volume)) (length (now (a .scratch))))
 told c =
     let a = c .before .before .before .before .before .before .args in
-    c .check-synthesis .ensures ∙ ap₂ (λ (b : Bool) (k : UnitCell). first (synthesisTestsOf b (a .self .state) (k .group) (cellLengths k) (now (a .volume)) (length (now (a .scratch))))) (c .before .before .valid-job .ensures) (c .before .before .before .unit-cell .ensures)
+    c .check-synthesis .ensures ∙ ap₂ (λ (b : Bool) (k : UnitCell). first (synthesisTestsOf b (a .self .state) (a .self .modulus) (k .group) (cellLengths k) (now (a .volume)) (length (now (a .scratch))))) (c .before .before .valid-job .ensures) (c .before .before .before .unit-cell .ensures)
 
 -- no test holds
 none : (c : tie.After-enum-told) → let a = c .before .before .before .before .before .before .before .before .args in 0 ≡ first (synthesisTests (a .self) (now (a .volume)) (length (now (a .scratch))))

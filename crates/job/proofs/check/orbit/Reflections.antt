@@ -3,6 +3,6 @@ use mathlib.Core.Path.{_≡_, refl}
 use Prim.Native.Nat.{ℕ}
 use Rattle.numbers.specs.Value.{value, valueOf}
 
-pub pair-of-numbers : (x y : ℕ) → valueOf 1 (record { re = x; im = y }) ≡ value 1 x y
+pub pair-of-numbers : (m x y : ℕ) → valueOf m (record { re = x; im = y }) ≡ value m x y
 unfolding valueOf
-pair-of-numbers x y = refl
+pair-of-numbers m x y = refl

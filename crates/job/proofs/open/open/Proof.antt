@@ -14,11 +14,11 @@ abbrev header : tie.Start → Header
 header s = let a = s .args in record { group = a .group; lengths = (a .n1, a .n2, a .n3); list1 = now (a .f1); list2 = now (a .f2); list3 = now (a .f3) }
 
 -- the check's number
-told : (c : tie.After-check-open) → let s = c .before .before .before .before .before .before in checkedNumber (c .check-open .result) ≡ first (openTests (header s) (s .args .kind) (now (s .args .volume)))
+told : (c : tie.After-check-open) → let s = c .before .before .before .before .before .before in checkedNumber (c .check-open .result) ≡ first (openTests (s .args .modulus) (header s) (s .args .kind) (now (s .args .volume)))
 told c = c .check-open .ensures
 
 -- no test holds
-none : (c : tie.After-enum-told) → let s = c .before .before .before .before .before .before .before .before in 0 ≡ first (openTests (header s) (s .args .kind) (now (s .args .volume)))
+none : (c : tie.After-enum-told) → let s = c .before .before .before .before .before .before .before .before in 0 ≡ first (openTests (s .args .modulus) (header s) (s .args .kind) (now (s .args .volume)))
 none c = ap checkedNumber (sym (c .enum-told .given .1)) ∙ told (c .before .before)
 
 check-open-requires : tie.Need-check-open-requires
@@ -37,13 +37,13 @@ opened-requires : tie.Need-opened-requires
 opened-requires c κs =
     let t = c .before .before .before .before .before in
     let s = t .before .before .before .before .before .before .before .before in
-    header-passed (header s) (s .args .kind) (now (s .args .volume)) (none t)
+    header-passed (s .args .modulus) (header s) (s .args .kind) (now (s .args .volume)) (none t)
 
 opened-requires-2 : tie.Need-opened-requires-2
 opened-requires-2 c κs =
     let t = c .before in
     let s = t .before .before .before .before .before .before .before .before in
-    header-passed (header s) (s .args .kind) (now (s .args .volume)) (none t)
+    header-passed (s .args .modulus) (header s) (s .args .kind) (now (s .args .volume)) (none t)
 
 same-length : tie.Need-same-length
 same-length c = search needs
@@ -52,7 +52,7 @@ returns : tie.Need-returns
 returns c =
     let k = c .before .before .before in
     let s = k .before .before .before .before .before .before in
-    open-refused (header s) (s .args .kind) (now (s .args .volume)) (c .before .checked .given .0 .0) (ap checkedNumber (sym (c .before .checked .given .1)) ∙ told k)
+    open-refused (s .args .modulus) (header s) (s .args .kind) (now (s .args .volume)) (c .before .checked .given .0 .0) (ap checkedNumber (sym (c .before .checked .given .1)) ∙ told k)
 
 same-length-2 : tie.Need-same-length-2
 same-length-2 c = search needs
@@ -63,7 +63,7 @@ returns-2 c =
     let i = l .before .before in
     let t = i .before in
     let s = t .before .before .before .before .before .before .before .before in
-    open-collects (header s) (s .args .kind) (now (s .args .volume)) _ _ (none t) (i .if1 .taken) (c .opened .ensures) (l .zero .ensures)
+    open-collects (s .args .modulus) (header s) (s .args .kind) (now (s .args .volume)) _ _ (none t) (i .if1 .taken) (c .opened .ensures) (l .zero .ensures)
 
 same-length-3 : tie.Need-same-length-3
 same-length-3 c = search needs
@@ -73,7 +73,7 @@ returns-3 c =
     let i = c .before in
     let t = i .before in
     let s = t .before .before .before .before .before .before .before .before in
-    open-map (header s) (s .args .kind) (now (s .args .volume)) _ (none t) (i .if1 .left) (c .opened2 .ensures)
+    open-map (s .args .modulus) (header s) (s .args .kind) (now (s .args .volume)) _ (none t) (i .if1 .left) (c .opened2 .ensures)
 
 pub open-spec : {M : Type 1} → statement M
 open-spec =

@@ -7,7 +7,7 @@ use lib.ListN.{length}
 use lib.Dec.{eqb}
 use denote.Ref.{now}
 use borrow.Author.Tests.{not-false, eqb-true, eq-eqb, ne-eqb}
-use Rattle.numbers.specs.Value.{prime}
+use Rattle.numbers.specs.Value.{prime, IsModulus}
 use Rattle.refusals.specs.Refusals.{first}
 use Rattle.refusals.proofs.Tests.{stop, pass, none, not-t, not-f, by-true, by-false}
 use Rattle.cell.specs.Operations.{cellGroup, cellLengths, cellHalves, tripleOf, Sizes, Within}
@@ -18,7 +18,8 @@ use Rattle.job.proofs.check.Points.{within-of}
 use Rattle.job.proofs.check.factor.check_factor.Statement.{statement}
 use Rattle.job.proofs.check.factor.check_factor.Tie as tie
 
-sizes : (c : tie.Else1) → let a = c .before .before .args in Sizes (a .cell)
+-- the job is valid: what is known of its sizes and its modulus
+sizes : (c : tie.Else1) → let a = c .before .before .args in Sizes (a .cell) × IsModulus (a .modulus)
 sizes c = c .before .before .pre (not-false _ (c .if1 .left))
 
 inside : (c : tie.Else3) → let a = c .before .before .before .before .before .args in within (cellLengths (a .cell)) (tripleOf (a .at)) ≡ true
@@ -31,14 +32,14 @@ fit : (c : tie.Else4) → let a = c .before .before .before .before .before .bef
 fit c = by-true _ _ (c .before .fits2 .ensures) (c .if4 .left)
 
 -- the index is inside the cell: the numbers that are read decide
-numbers : (c : tie.Else3) {m : ℕ} → let a = c .before .before .before .before .before .args in m ≡ first (storedTests (a .cell .group) (cellLengths (a .cell)) (tripleOf (a .at)) (now (a .volume))) → m ≡ first (factorTestsOf (a .valid) (a .state) (a .cell .group) (cellLengths (a .cell)) (tripleOf (a .at)) (now (a .volume)))
+numbers : (c : tie.Else3) {number : ℕ} → let a = c .before .before .before .before .before .args in number ≡ first (storedTests (a .modulus) (a .cell .group) (cellLengths (a .cell)) (tripleOf (a .at)) (now (a .volume))) → number ≡ first (factorTestsOf (a .valid) (a .state) (a .modulus) (a .cell .group) (cellLengths (a .cell)) (tripleOf (a .at)) (now (a .volume)))
 numbers c n =
     let e = c .before .before in
     pass 25 _ (e .before .if1 .left) (pass 23 _ (ne-eqb _ _ (e .if2 .left)) (pass 10 _ (not-t _ (inside c)) n))
 
 -- what the test of the numbers read says
 below : (c : tie.After-factor-numbers-below) → let a = c .before .before .before .before .before .before .before .before .before .args in
-    c .factor-numbers-below .result ≡ allBelowAt (prime 1) (now (a .volume)) (numbersRead (cellGroup (a .cell)) (cellHalves (a .cell)) (tripleOf (a .at)))
+    c .factor-numbers-below .result ≡ allBelowAt (prime (a .modulus)) (now (a .volume)) (numbersRead (cellGroup (a .cell)) (cellHalves (a .cell)) (tripleOf (a .at)))
 below c =
     let a = c .before .before .before .before .before .before .before .before .before .args in
     c .factor-numbers-below .ensures ∙ ap (λ (p : ℕ). allBelowAt p (now (a .volume)) (numbersRead (cellGroup (a .cell)) (cellHalves (a .cell)) (tripleOf (a .at)))) (c .before .modulus .ensures .0)
@@ -56,19 +57,19 @@ returns-3 : tie.Need-returns-3
 returns-3 c = let e = c .before .before in pass 25 _ (e .before .if1 .left) (pass 23 _ (ne-eqb _ _ (e .if2 .left)) (stop _ (not-f _ (by-false _ _ (c .before .inside .ensures) (c .if3 .taken)))))
 
 fits-requires : tie.Need-fits-requires
-fits-requires c κs = sizes (c .before .before .before)
+fits-requires c κs = sizes (c .before .before .before) .0
 
 returns-4 : tie.Need-returns-4
 returns-4 c = numbers (c .before .before) (stop _ (not-f _ (by-false _ _ (c .before .fits2 .ensures) (c .if4 .taken))))
 
 modulus-requires : tie.Need-modulus-requires
-modulus-requires c κs = search needs
+modulus-requires c κs = sizes (c .before .before .before .before .before) .1
 
 factor-numbers-below-requires : tie.Need-factor-numbers-below-requires
 factor-numbers-below-requires c κs =
     let f = c .before in
     let i = f .before .before in
-    ((sizes (i .before .before .before), placed i), eqb-true _ _ (fit f))
+    ((sizes (i .before .before .before) .0, placed i), eqb-true _ _ (fit f))
 
 returns-5 : tie.Need-returns-5
 returns-5 c =

@@ -1,17 +1,16 @@
 -- Each return is the first test that holds, all the others before it being passed over.
-use borrow.Author.Needs.{needs}
 use Rattle.refusals.proofs.Tests.{stop, pass, none, not-t, not-f, by-true, by-false}
 use Rattle.job.proofs.check.map.check_map.Statement.{statement}
 use Rattle.job.proofs.check.map.check_map.Tie as tie
 
 all-residues-requires : tie.Need-all-residues-requires
-all-residues-requires c κs = search needs
+all-residues-requires c κs = c .before .pre .1
 
 returns : tie.Need-returns
 returns c = stop _ (not-f _ (by-false _ _ (c .before .all-residues .ensures) (c .if1 .taken)))
 
 consistent-map-requires : tie.Need-consistent-map-requires
-consistent-map-requires c κs = c .before .before .before .pre
+consistent-map-requires c κs = c .before .before .before .pre .0
 
 returns-2 : tie.Need-returns-2
 returns-2 c = let r = c .before .before in pass 7 _ (not-t _ (by-true _ _ (r .before .all-residues .ensures) (r .if1 .left))) (stop _ (not-f _ (by-false _ _ (c .before .consistent-map .ensures) (c .if2 .taken))))

@@ -8,7 +8,7 @@ use lib.ListN.{length, getD}
 use lib.Dec.{ltb, eqb}
 use denote.Ref.{now}
 use borrow.Author.Tests.{not-false, eqb-true, eq-eqb, ne-eqb}
-use Rattle.numbers.specs.Value.{prime}
+use Rattle.numbers.specs.Value.{prime, IsModulus}
 use Rattle.refusals.specs.Refusals.{first}
 use Rattle.refusals.proofs.Tests.{stop, pass, none, not-t, not-f, by-true, by-false}
 use Rattle.cell.specs.Operations.{cellGroup, cellLengths, cellHalves, pointOf, Sizes, PointWithin}
@@ -20,7 +20,8 @@ use Rattle.job.proofs.check.Numbers.{number-above, number-below}
 use Rattle.job.proofs.check.point.check_point.Statement.{statement}
 use Rattle.job.proofs.check.point.check_point.Tie as tie
 
-sizes : (c : tie.Else1) → let a = c .before .before .args in Sizes (a .cell)
+-- the job is valid: what is known of its sizes and its modulus
+sizes : (c : tie.Else1) → let a = c .before .before .args in Sizes (a .cell) × IsModulus (a .modulus)
 sizes c = c .before .before .pre (not-false _ (c .if1 .left))
 
 inside : (c : tie.Else3) → let a = c .before .before .before .before .before .args in within (cellLengths (a .cell)) (pointOf (a .at)) ≡ true
@@ -33,7 +34,7 @@ fit : (c : tie.Else4) → let a = c .before .before .before .before .before .bef
 fit c = by-true _ _ (c .before .fits2 .ensures) (c .if4 .left)
 
 -- the point is inside the cell: its number decides
-number : (c : tie.Else3) {m : ℕ} → let a = c .before .before .before .before .before .args in m ≡ first (densityTests (a .cell .group) (cellLengths (a .cell)) (pointOf (a .at)) (now (a .volume))) → m ≡ first (pointTestsOf (a .valid) (a .state) (a .cell .group) (cellLengths (a .cell)) (pointOf (a .at)) (now (a .volume)))
+number : (c : tie.Else3) {number : ℕ} → let a = c .before .before .before .before .before .args in number ≡ first (densityTests (a .modulus) (a .cell .group) (cellLengths (a .cell)) (pointOf (a .at)) (now (a .volume))) → number ≡ first (pointTestsOf (a .valid) (a .state) (a .modulus) (a .cell .group) (cellLengths (a .cell)) (pointOf (a .at)) (now (a .volume)))
 number c n =
     let e = c .before .before in
     pass 25 _ (e .before .if1 .left) (pass 22 _ (not-t _ (eq-eqb _ _ (e .if2 .left))) (pass 10 _ (not-t _ (inside c)) n))
@@ -55,19 +56,19 @@ returns-3 : tie.Need-returns-3
 returns-3 c = let e = c .before .before in pass 25 _ (e .before .if1 .left) (pass 22 _ (not-t _ (eq-eqb _ _ (e .if2 .left))) (stop _ (not-f _ (by-false _ _ (c .before .inside .ensures) (c .if3 .taken)))))
 
 fits-requires : tie.Need-fits-requires
-fits-requires c κs = sizes (c .before .before .before)
+fits-requires c κs = sizes (c .before .before .before) .0
 
 returns-4 : tie.Need-returns-4
 returns-4 c = number (c .before .before) (stop _ (not-f _ (by-false _ _ (c .before .fits2 .ensures) (c .if4 .taken))))
 
 modulus-requires : tie.Need-modulus-requires
-modulus-requires c κs = search needs
+modulus-requires c κs = sizes (c .before .before .before .before .before) .1
 
 density-place-requires : tie.Need-density-place-requires
-density-place-requires c κs = let i = c .before .before .before in (sizes (i .before .before .before), placed i)
+density-place-requires c κs = let i = c .before .before .before in (sizes (i .before .before .before) .0, placed i)
 
 mul-if5 : tie.Need-mul-if5
-mul-if5 c = omega (arith, place-small _ (sizes (c .before .before .before .before .before .before .before)) (c .density-place .ensures .1))
+mul-if5 c = omega (arith, place-small _ (sizes (c .before .before .before .before .before .before .before) .0) (c .density-place .ensures .1))
 
 shared-slice-read-if5 : tie.Need-shared-slice-read-if5
 shared-slice-read-if5 c = stored (c .before)
@@ -77,7 +78,7 @@ returns-5 c =
     let d = c .before .before in
     let f = d .before .before in
     let a = f .before .before .before .before .before .before .before .args in
-    let e : ltb (getD (now (a .volume)) (densityPlace (cellGroup (a .cell)) (cellHalves (a .cell)) (pointOf (a .at))) 0) (prime 1) ≡ false =
+    let e : ltb (getD (now (a .volume)) (densityPlace (cellGroup (a .cell)) (cellHalves (a .cell)) (pointOf (a .at))) 0) (prime (a .modulus)) ≡ false =
     number-above (now (a .volume)) (d .density-place .ensures .0) (d .before .modulus .ensures .0) (c .if5 .taken) in
     number (f .before .before) (pass 6 _ (not-t _ (fit f)) (stop _ (not-f _ e)))
 
@@ -86,7 +87,7 @@ returns-6 c =
     let d = c .before .before in
     let f = d .before .before in
     let a = f .before .before .before .before .before .before .before .args in
-    let e : ltb (getD (now (a .volume)) (densityPlace (cellGroup (a .cell)) (cellHalves (a .cell)) (pointOf (a .at))) 0) (prime 1) ≡ true =
+    let e : ltb (getD (now (a .volume)) (densityPlace (cellGroup (a .cell)) (cellHalves (a .cell)) (pointOf (a .at))) 0) (prime (a .modulus)) ≡ true =
     number-below (now (a .volume)) (d .density-place .ensures .0) (d .before .modulus .ensures .0) (c .if5 .left) in
     number (f .before .before) (pass 6 _ (not-t _ (fit f)) (pass 7 _ (not-t _ e) none))
 

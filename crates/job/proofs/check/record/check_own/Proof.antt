@@ -6,7 +6,6 @@ use lib.Dec.{ltb}
 use borrow.Author.Tests.{ltb-true}
 use Rattle.numbers.specs.Value.{prime, value}
 use Rattle.numbers.specs.Bounds.{Small}
-use Rattle.numbers.proofs.Primes.{first-modulus}
 use Rattle.refusals.proofs.Tests.{stop, pass, none, not-t, not-f, by-true, by-false, both}
 use Rattle.cell.specs.Operations.{cellGroup, cellHalves, cellLengths, tripleOf, Within}
 use Rattle.cell.specs.Consistency.{agreesWithItself}
@@ -24,17 +23,17 @@ inside c = by-true _ _ (c .before .inside .ensures) (c .if1 .left)
 placed : (c : tie.Else1) → let a = c .before .before .args in Within (a .cell) (a .at)
 placed c = let a = c .before .before .args in within-of (a .cell) (a .at) (inside c)
 
-below : (c : tie.Else2) → let a = c .before .before .before .before .args in (ltb (a .x .re) (prime 1) && ltb (a .x .im) (prime 1)) ≡ true
+below : (c : tie.Else2) → let a = c .before .before .before .before .args in (ltb (a .x .re) (prime (a .modulus)) && ltb (a .x .im) (prime (a .modulus))) ≡ true
 below c = by-true _ _ (c .before .residues .ensures) (c .if2 .left)
 
-small : (c : tie.Else2) → let a = c .before .before .before .before .args in Small (prime 1) (a .x)
+small : (c : tie.Else2) → let a = c .before .before .before .before .args in Small (prime (a .modulus)) (a .x)
 small c = let t = both _ _ (below c) in record { re = ltb-true _ _ (t .0); im = ltb-true _ _ (t .1) }
 
 -- what the test of the value says
-own : (c : tie.After-agrees) → let a = c .before .before .before .before .before .args in c .agrees .result ≡ agreesWithItself (cellGroup (a .cell)) (cellHalves (a .cell)) 1 (tripleOf (a .at)) (value 1 (a .x .re) (a .x .im))
+own : (c : tie.After-agrees) → let a = c .before .before .before .before .before .args in c .agrees .result ≡ agreesWithItself (cellGroup (a .cell)) (cellHalves (a .cell)) (a .modulus) (tripleOf (a .at)) (value (a .modulus) (a .x .re) (a .x .im))
 own c =
     let a = c .before .before .before .before .before .args in
-    c .agrees .ensures ∙ ap (agreesWithItself (cellGroup (a .cell)) (cellHalves (a .cell)) 1 (tripleOf (a .at))) (pair-of-numbers (a .x .re) (a .x .im))
+    c .agrees .ensures ∙ ap (agreesWithItself (cellGroup (a .cell)) (cellHalves (a .cell)) (a .modulus) (tripleOf (a .at))) (pair-of-numbers (a .modulus) (a .x .re) (a .x .im))
 
 -- ---- the needs
 
@@ -45,13 +44,16 @@ returns : tie.Need-returns
 returns c = stop _ (not-f _ (by-false _ _ (c .before .inside .ensures) (c .if1 .taken)))
 
 residues-requires : tie.Need-residues-requires
-residues-requires c κs = search needs
+residues-requires c κs = c .before .before .pre .1
 
 returns-2 : tie.Need-returns-2
 returns-2 c = pass 10 _ (not-t _ (inside (c .before .before))) (stop _ (not-f _ (by-false _ _ (c .before .residues .ensures) (c .if2 .taken))))
 
 agrees-requires : tie.Need-agrees-requires
-agrees-requires c κs = let i = c .before .before in (first-modulus, small c, i .before .before .pre, placed i)
+agrees-requires c κs =
+    let i = c .before .before in
+    let s = i .before .before .pre in
+    (s .1, small c, s .0, placed i)
 
 returns-3 : tie.Need-returns-3
 returns-3 c =

@@ -5,6 +5,7 @@ use mathlib.Core.Bool.{false, not}
 use lib.Dec.{eqb}
 use borrow.Author.Tests.{not-false, eq-eqb, ne-eqb}
 use denote.Ref.{now}
+use Rattle.numbers.specs.Value.{IsModulus}
 use Rattle.refusals.specs.Refusals.{numberOf}
 use Rattle.refusals.specs.Checks.{checkedNumber}
 use Rattle.refusals.proofs.Tests.{stop, pass, not-t, not-f, Passed, passed}
@@ -15,17 +16,18 @@ use Rattle.job.proofs.check.Openings.{not-zero, append-stop}
 use Rattle.job.proofs.check.record.check_record.Statement.{statement}
 use Rattle.job.proofs.check.record.check_record.Tie as tie
 
-sizes : (c : tie.Else1) → Sizes (c .before .before .args .cell)
+-- the job is valid: what is known of its sizes and its modulus
+sizes : (c : tie.Else1) → let a = c .before .before .args in Sizes (a .cell) × IsModulus (a .modulus)
 sizes c = c .before .before .pre (not-false _ (c .if1 .left))
 
 collects : (c : tie.Else2) → not (eqb (c .before .before .before .args .state) 0) ≡ false
 collects c = not-t _ (eq-eqb _ _ (c .if2 .left))
 
 -- no test of the record's own holds
-passes : (c : tie.After-enum-told) → let a = c .before .before .before .before .before .before .args in Passed (ownTests (a .cell .group) (cellLengths (a .cell)) (tripleOf (a .at)) (a .x .re) (a .x .im))
+passes : (c : tie.After-enum-told) → let a = c .before .before .before .before .before .before .args in Passed (ownTests (a .modulus) (a .cell .group) (cellLengths (a .cell)) (tripleOf (a .at)) (a .x .re) (a .x .im))
 passes c =
     let a = c .before .before .before .before .before .before .args in
-    passed (ownTests (a .cell .group) (cellLengths (a .cell)) (tripleOf (a .at)) (a .x .re) (a .x .im)) tt (ap checkedNumber (sym (c .enum-told .given .1)) ∙ c .before .before .check-own .ensures)
+    passed (ownTests (a .modulus) (a .cell .group) (cellLengths (a .cell)) (tripleOf (a .at)) (a .x .re) (a .x .im)) tt (ap checkedNumber (sym (c .enum-told .given .1)) ∙ c .before .before .check-own .ensures)
 
 returns : tie.Need-returns
 returns c = stop _ (c .if1 .taken)
@@ -46,7 +48,7 @@ check-orbit-requires : tie.Need-check-orbit-requires
 check-orbit-requires c κs =
     let e = c .before .before .before in
     let a = e .before .before .before .args in
-    (sizes (e .before), within-of (a .cell) (a .at) (not-false _ (passes c .0)))
+    (sizes (e .before) .0, within-of (a .cell) (a .at) (not-false _ (passes c .0)))
 
 returns-3 : tie.Need-returns-3
 returns-3 c =
@@ -54,7 +56,7 @@ returns-3 c =
     let e = k .before in
     let a = e .before .before .before .args in
     let r = c .before .own .given .0 .0 in
-    pass 25 _ (e .before .if1 .left) (pass 21 _ (collects e) (append-stop (numberOf r) (ownTests (a .cell .group) (cellLengths (a .cell)) (tripleOf (a .at)) (a .x .re) (a .x .im)) (orbitTests (a .cell .group) (cellLengths (a .cell)) (tripleOf (a .at)) (now (a .volume))) (not-zero r) (ap checkedNumber (sym (c .before .own .given .1)) ∙ k .check-own .ensures)))
+    pass 25 _ (e .before .if1 .left) (pass 21 _ (collects e) (append-stop (numberOf r) (ownTests (a .modulus) (a .cell .group) (cellLengths (a .cell)) (tripleOf (a .at)) (a .x .re) (a .x .im)) (orbitTests (a .cell .group) (cellLengths (a .cell)) (tripleOf (a .at)) (now (a .volume))) (not-zero r) (ap checkedNumber (sym (c .before .own .given .1)) ∙ k .check-own .ensures)))
 
 returns-4 : tie.Need-returns-4
 returns-4 c =

@@ -1,6 +1,4 @@
 -- Each return is the first test that holds, all the others before it being passed over.
-use borrow.Author.Needs.{needs}
-use native.Mathlib.Omega.{arith}
 use denote.Ref.{now}
 use Rattle.numbers.specs.Value.{prime}
 use Rattle.numbers.proofs.Primes.{prime-pos}
@@ -10,7 +8,7 @@ use Rattle.job.proofs.check.synthesis.check_factors.Statement.{statemen
 use Rattle.job.proofs.check.synthesis.check_factors.Tie as tie
 
 all-residues-requires : tie.Need-all-residues-requires
-all-residues-requires c κs = search needs
+all-residues-requires c κs = c .before .pre .1
 
 returns : tie.Need-returns
 returns c = stop _ (not-f _ (by-false _ _ (c .before .all-residues .ensures) (c .if1 .taken)))
@@ -18,7 +16,8 @@ returns c = stop _ (not-f _ (by-false _ _ (c .before .all-residues .ensures) (c 
 consistent-factors-requires : tie.Need-consistent-factors-requires
 consistent-factors-requires c κs =
     let s = c .before .before .before in
-    (s .pre, omega arith, below-allBelow (prime 1) (now (s .args .volume)) (prime-pos 1) (by-true _ _ (c .before .all-residues .ensures) (c .if1 .left)))
+    let m = s .args .modulus in
+    (s .pre .0, s .pre .1, below-allBelow (prime m) (now (s .args .volume)) (prime-pos m) (by-true _ _ (c .before .all-residues .ensures) (c .if1 .left)))
 
 returns-2 : tie.Need-returns-2
 returns-2 c = let r = c .before .before in pass 7 _ (not-t _ (by-true _ _ (r .before .all-residues .ensures) (r .if1 .left))) (stop _ (not-f _ (by-false _ _ (c .before .consistent-factors .ensures) (c .if2 .taken))))

@@ -23,15 +23,17 @@ use Rattle.cell.specs.declared.operations.Index.{Index}
 use Rattle.cell.specs.Operations.{cellGroup, cellHalves, cellLengths, tripleOf, Sizes, Within}
 use Rattle.cell.proofs.OrbitPlaces.{orbit-place-low, same-place}
 use Rattle.cell.specs.Consistency.{agreesWithItself}
-use Rattle.numbers.specs.Value.{value}
-use Rattle.job.specs.Job.{p, within, ownTests}
-use Rattle.header.specs.Header.{Header, needed}
+use Rattle.numbers.specs.Value.{prime, IsModulus, value}
+use Rattle.numbers.proofs.ModulusCases.{tested-modulus}
+use Rattle.job.specs.Job.{within, ownTests}
+use Rattle.header.specs.Header.{Header, needed, axisTests}
 use Rattle.header.specs.Cells.{headerCell}
 use Rattle.header.proofs.Headers.{sound-sizes}
 use Rattle.job.proofs.check.Points.{within-of}
 use Rattle.job.proofs.check.Openings.{append-stop}
 use Rattle.file_format.specs.declared.FileRecord.{FileRecord}
-use Rattle.file_format.specs.Format.{countAt, recordCount, recordAt, recordsFrom, recordsIn, headerIn, shapeTests}
+use Rattle.file_format.specs.Format.{countAt, recordCount, recordAt, recordsFrom, recordsIn, modulusIn, headerIn, shapeTests}
+use Rattle.file_format.specs.declared.places.HeaderNumbers.{HeaderNumbers}
 use Rattle.file_format.specs.Places.{NumbersOf}
 use Rattle.factor_file.specs.File.{indexIn, orbitSeen, judgeTests, Judgement, taken, refusedAt, judged}
 use Rattle.factor_file.specs.Faults.{headerTests, firstOfOrbit, recordFaults, faultsIn}
@@ -57,16 +59,16 @@ module _ (low place : ℕ) (s : List ℕ) where
 
 -- ---- a record that its own numbers do not refuse
 
-own-tested : (c : UnitCell) (r : FileRecord) → 0 ≡ ownNumber c r → within (cellLengths c) (indexIn r) ≡ true
+pub own-tested : (μ : ℕ) (c : UnitCell) (r : FileRecord) → 0 ≡ ownNumber μ c r → within (cellLengths c) (indexIn r) ≡ true
 unfolding ownNumber
-own-tested c r e = not-false _ (passed (ownTests (c .group) (cellLengths c) (indexIn r) (r .a) (r .b)) tt e .0)
+own-tested μ c r e = not-false _ (passed (ownTests μ (c .group) (cellLengths c) (indexIn r) (r .a) (r .b)) tt e .0)
 
-pub own-within : (c : UnitCell) (r : FileRecord) (j : Index) → tripleOf j ≡ indexIn r → 0 ≡ ownNumber c r → Within c j
-own-within c r j e o = within-of c j (ap (within (cellLengths c)) e ∙ own-tested c r o)
+pub record-within : (c : UnitCell) (r : FileRecord) (j : Index) → tripleOf j ≡ indexIn r → within (cellLengths c) (indexIn r) ≡ true → Within c j
+record-within c r j e o = within-of c j (ap (within (cellLengths c)) e ∙ o)
 
-pub own-not-24 : (c : UnitCell) (r : FileRecord) → ownNumber c r ≡ 24 → ⊥
+pub own-not-24 : (μ : ℕ) (c : UnitCell) (r : FileRecord) → ownNumber μ c r ≡ 24 → ⊥
 unfolding ownNumber first
-own-not-24 c r e = by (not (within (cellLengths c) (indexIn r))) (not (ltb (r .a) p && ltb (r .b) p)) (not (agreesWithItself (cellGroup c) (cellHalves c) 1 (indexIn r) (value 1 (r .a) (r .b)))) e
+own-not-24 μ c r e = by (not (within (cellLengths c) (indexIn r))) (not (ltb (r .a) (prime μ) && ltb (r .b) (prime μ))) (not (agreesWithItself (cellGroup c) (cellHalves c) μ (indexIn r) (value μ (r .a) (r .b)))) e
   where
     by : (b d f : Bool) → _≡_ {A = ℕ} (cond b 10 (cond d 7 (cond f 12 0))) 24 → ⊥
     by true d f e = omega (arith, e)
@@ -88,7 +90,7 @@ refused-by (suc n) o f z = refl
 
 -- ---- the records by their places
 
-module _ (c : UnitCell) (file : List ℕ) where
+module _ (μ : ℕ) (c : UnitCell) (file : List ℕ) where
   abbrev at : ℕ → FileRecord
   at i = recordAt file (recordPlace file i)
 
@@ -129,20 +131,20 @@ module _ (c : UnitCell) (file : List ℕ) where
   seen r = some (before r) (λ i. sameOrbit g a i (ix r))
 
   abbrev number : ℕ → ℕ
-  number r = first (judgeTests (c .group) (cellLengths c) (before r) (ix r) (at r .a) (at r .b))
+  number r = first (judgeTests μ (c .group) (cellLengths c) (before r) (ix r) (at r .a) (at r .b))
 
   abbrev left : ℕ → List FileRecord
   left r = recordsFrom file (recordPlace file r) (recordCount file - r)
 
   abbrev judgedFrom : ℕ → Judgement
-  judgedFrom r = judged (c .group) (cellLengths c) (before r) (left r)
+  judgedFrom r = judged μ (c .group) (cellLengths c) (before r) (left r)
 
   abbrev whole : Judgement
-  whole = judged (c .group) (cellLengths c) [] (recordsIn file)
+  whole = judged μ (c .group) (cellLengths c) [] (recordsIn file)
 
-  then-orbit : (r : ℕ) → 0 ≡ ownAt c file r → {n : ℕ} → n ≡ first (orbitSeen (c .group) (cellLengths c) (before r) (ix r)) → n ≡ number r
+  then-orbit : (r : ℕ) → 0 ≡ ownAt μ c file r → {n : ℕ} → n ≡ first (orbitSeen (c .group) (cellLengths c) (before r) (ix r)) → n ≡ number r
   unfolding ownNumber
-  then-orbit r e q = let p = passed (ownTests (c .group) (cellLengths c) (ix r) (at r .a) (at r .b)) tt e in pass 10 _ (p .0) (pass 7 _ (p .1 .0) (pass 12 _ (p .1 .1 .0) q))
+  then-orbit r e q = let p = passed (ownTests μ (c .group) (cellLengths c) (ix r) (at r .a) (at r .b)) tt e in pass 10 _ (p .0) (pass 7 _ (p .1 .0) (pass 12 _ (p .1 .1 .0) q))
 
   first-left : (r : ℕ) → r < recordCount file → left r ≡ at r ∷ left (suc r)
   unfolding recordsFrom
@@ -153,56 +155,56 @@ module _ (c : UnitCell) (file : List ℕ) where
 
   step : (r : ℕ) → r < recordCount file → judgedFrom r ≡ accepted (number r) (judgedFrom (suc r)) (λ k. refusedAt k r)
   unfolding judged before
-  step r l = ap (judged (c .group) (cellLengths c) (before r)) (first-left r l) ∙ ap (λ n. accepted (number r) (judgedFrom (suc r)) (λ k. refusedAt k n)) (before-length r)
+  step r l = ap (judged μ (c .group) (cellLengths c) (before r)) (first-left r l) ∙ ap (λ n. accepted (number r) (judgedFrom (suc r)) (λ k. refusedAt k n)) (before-length r)
 
   module _ (sizes : Sizes c) where
-    pub own-inside : (i : ℕ) → 0 ≡ ownAt c file i → Inside a (ix i)
-    own-inside i e = cell-inside sizes {j = record { h = at i .h; k = at i .k; l = at i .l }} (own-within c (at i) (record { h = at i .h; k = at i .k; l = at i .l }) refl e)
+    pub own-inside : (i : ℕ) → 0 ≡ ownAt μ c file i → Inside a (ix i)
+    own-inside i e = cell-inside sizes {j = record { h = at i .h; k = at i .k; l = at i .l }} (record-within c (at i) (record { h = at i .h; k = at i .k; l = at i .l }) refl (own-tested μ c (at i) e))
 
-    pub same-orbit : (i j : ℕ) → 0 ≡ ownAt c file i → 0 ≡ ownAt c file j → (placeAt c file i ≡ placeAt c file j) ↔ T (sameOrbit g a (ix i) (ix j))
+    pub same-orbit : (i j : ℕ) → 0 ≡ ownAt μ c file i → 0 ≡ ownAt μ c file j → (placeAt c file i ≡ placeAt c file j) ↔ T (sameOrbit g a (ix i) (ix j))
     unfolding placeOf
     same-orbit i j e f = same-place g a (cell-positive sizes) (ix i) (ix j) (own-inside i e) (own-inside j f)
 
-    pub place-low : (i : ℕ) → 0 ≡ ownAt c file i → placeAt c file i < volumeLength g a
+    pub place-low : (i : ℕ) → 0 ≡ ownAt μ c file i → placeAt c file i < volumeLength g a
     unfolding placeOf
     place-low i e = orbit-place-low g a (cell-positive sizes) (ix i) (own-inside i e)
 
-    unseen : (r : ℕ) → ((i : ℕ) → i < suc r → 0 ≡ ownAt c file i) → ((k : ℕ) → k < r → placeAt c file k ≡ placeAt c file r → ⊥) → seen r ≡ false
+    unseen : (r : ℕ) → ((i : ℕ) → i < suc r → 0 ≡ ownAt μ c file i) → ((k : ℕ) → k < r → placeAt c file k ≡ placeAt c file r → ⊥) → seen r ≡ false
     unseen r s n = same-test (seen r) false (λ t.
         let p = some-at (before r) _ t in
         let m = before-at r (p .0) (p .1) in
         n (m .0) (m .1) (same-orbit (m .0) r (s (m .0) (omega (arith, m .1))) (s r (omega arith)) .1 (subst (λ i. T (sameOrbit g a i (ix r))) (m .2) (p .2)))) (λ t. absurd t)
 
-    is-seen : (r k : ℕ) → k < r → 0 ≡ ownAt c file k → 0 ≡ ownAt c file r → placeAt c file k ≡ placeAt c file r → seen r ≡ true
+    is-seen : (r k : ℕ) → k < r → 0 ≡ ownAt μ c file k → 0 ≡ ownAt μ c file r → placeAt c file k ≡ placeAt c file r → seen r ≡ true
     is-seen r k l e f q = same-test (seen r) true (λ t. tt) (λ t. some-by (before r) _ (ix k) (in-before r k l) (same-orbit k r e f .0 q))
 
-    judged-to : (r : ℕ) → r ≤ recordCount file → ((i : ℕ) → i < r → 0 ≡ ownAt c file i) → ((k i : ℕ) → k < i → i < r → placeAt c file k ≡ placeAt c file i → ⊥) → whole ≡ judgedFrom r
+    judged-to : (r : ℕ) → r ≤ recordCount file → ((i : ℕ) → i < r → 0 ≡ ownAt μ c file i) → ((k i : ℕ) → k < i → i < r → placeAt c file k ≡ placeAt c file i → ⊥) → whole ≡ judgedFrom r
     unfolding before
     judged-to zero l s n =
         let q : countAt file + 4 ≡ recordPlace file 0 = omega arith in
         let m : recordCount file ≡ recordCount file - 0 = omega arith in
-        λ i. judged (c .group) (cellLengths c) [] (recordsFrom file (q i) (m i))
+        λ i. judged μ (c .group) (cellLengths c) [] (recordsFrom file (q i) (m i))
     judged-to (suc r) l s n =
         let z = then-orbit r (s r (omega arith)) (pass 24 _ (unseen r s (λ k h. n k r h (omega arith))) none) in
         judged-to r (omega arith) (λ i h. s i (omega arith)) (λ k i h u. n k i h (omega arith)) ∙ step r (omega arith) ∙ ap (λ n. accepted n (judgedFrom (suc r)) (λ k. refusedAt k r)) (sym z)
 
     -- ---- what is made of them
 
-    module _ (r : ℕ) (sound : SoundTo c file r) (apart : Apart c file 0 (volumeLength g a) r) where
+    module _ (r : ℕ) (sound : SoundTo μ c file r) (apart : Apart c file 0 (volumeLength g a) r) where
       judged-here : whole ≡ judgedFrom r
       judged-here = judged-to r (sound .some) (sound .each) (λ k i l h e. apart .each k i l h (omega arith) (place-low i (sound .each i h)) e)
 
       pub all-taken : r ≡ recordCount file → whole ≡ taken
       unfolding judged recordsFrom
-      all-taken e = let n : recordCount file - r ≡ 0 = omega arith in judged-here ∙ ap (λ n. judged (c .group) (cellLengths c) (before r) (recordsFrom file (recordPlace file r) n)) n
+      all-taken e = let n : recordCount file - r ≡ 0 = omega arith in judged-here ∙ ap (λ n. judged μ (c .group) (cellLengths c) (before r) (recordsFrom file (recordPlace file r) n)) n
 
-      pub own-refused : r < recordCount file → (ownAt c file r ≡ 0 → ⊥) → whole ≡ refusedAt (ownAt c file r) r
+      pub own-refused : r < recordCount file → (ownAt μ c file r ≡ 0 → ⊥) → whole ≡ refusedAt (ownAt μ c file r) r
       unfolding ownNumber
       own-refused l z =
-          let n = append-stop (ownAt c file r) (ownTests (c .group) (cellLengths c) (ix r) (at r .a) (at r .b)) (orbitSeen (c .group) (cellLengths c) (before r) (ix r)) z refl in
+          let n = append-stop (ownAt μ c file r) (ownTests μ (c .group) (cellLengths c) (ix r) (at r .a) (at r .b)) (orbitSeen (c .group) (cellLengths c) (before r) (ix r)) z refl in
           judged-here ∙ step r l ∙ ap (λ n. accepted n (judgedFrom (suc r)) (λ k. refusedAt k r)) (sym n) ∙ refused-by _ _ (λ k. refusedAt k r) z
 
-      pub orbit-refused : r < recordCount file → 0 ≡ ownAt c file r → (k : ℕ) → k < r → placeAt c file k ≡ placeAt c file r → whole ≡ refusedAt 24 r
+      pub orbit-refused : r < recordCount file → 0 ≡ ownAt μ c file r → (k : ℕ) → k < r → placeAt c file k ≡ placeAt c file r → whole ≡ refusedAt 24 r
       orbit-refused l e k h q =
           let n = then-orbit r e (stop _ (is-seen r k h (sound .each k h) e q)) in
           judged-here ∙ step r l ∙ ap (λ n. accepted n (judgedFrom (suc r)) (λ k. refusedAt k r)) (sym n)
@@ -229,40 +231,48 @@ module _ (c : UnitCell) (file : List ℕ) where
         ∙ ap suc (first-in j (q + 14) n f (omega arith) (subst (λ q. T (sameOrbit g a (indexIn (recordAt file q)) j)) e t)
         (λ k h s. let p : q + 14 + 14 * k ≡ q + 14 * suc k = omega arith in u (suc k) (omega arith) (subst (λ q. T (sameOrbit g a (indexIn (recordAt file q)) j)) p s)))
 
-    module _ (r : ℕ) (sound : SoundTo c file r) (apart : Apart c file 0 (volumeLength g a) r) where
-      pub faults-none : r ≡ recordCount file → [] ≡ recordFaults (c .group) (cellLengths c) (recordsIn file)
+    module _ (r : ℕ) (sound : SoundTo μ c file r) (apart : Apart c file 0 (volumeLength g a) r) where
+      pub faults-none : r ≡ recordCount file → [] ≡ recordFaults μ (c .group) (cellLengths c) (recordsIn file)
       unfolding recordFaults
       faults-none e = sym (ap faultsBy (all-taken r sound apart e))
 
-      pub faults-one : r < recordCount file → (ownAt c file r ≡ 0 → ⊥) → r ∷ [] ≡ recordFaults (c .group) (cellLengths c) (recordsIn file)
+      pub faults-one : r < recordCount file → (ownAt μ c file r ≡ 0 → ⊥) → r ∷ [] ≡ recordFaults μ (c .group) (cellLengths c) (recordsIn file)
       unfolding recordFaults
-      faults-one l z = sym (ap faultsBy (own-refused r sound apart l z) ∙ ap (λ b. cond b (firstOfOrbit g a (getD (map indexIn (recordsIn file)) r (0, 0, 0)) (map indexIn (recordsIn file)) ∷ r ∷ []) (r ∷ [])) (ne-eqb _ 24 (own-not-24 c (at r))))
+      faults-one l z = sym (ap faultsBy (own-refused r sound apart l z) ∙ ap (λ b. cond b (firstOfOrbit g a (getD (map indexIn (recordsIn file)) r (0, 0, 0)) (map indexIn (recordsIn file)) ∷ r ∷ []) (r ∷ [])) (ne-eqb _ 24 (own-not-24 μ c (at r))))
 
-      pub faults-two : r < recordCount file → 0 ≡ ownAt c file r → (k : ℕ) × (k < r) × (placeAt c file k ≡ placeAt c file r) → (f : ℕ) → FirstOf c file r f → f ∷ r ∷ [] ≡ recordFaults (c .group) (cellLengths c) (recordsIn file)
+      pub faults-two : r < recordCount file → 0 ≡ ownAt μ c file r → (k : ℕ) × (k < r) × (placeAt c file k ≡ placeAt c file r) → (f : ℕ) → FirstOf c file r f → f ∷ r ∷ [] ≡ recordFaults μ (c .group) (cellLengths c) (recordsIn file)
       unfolding recordFaults
       faults-two l e m f o =
-          let sounds : (i : ℕ) → i ≤ r → 0 ≡ ownAt c file i = λ i h. by i h (ℕ-discrete i r) in
+          let sounds : (i : ℕ) → i ≤ r → 0 ≡ ownAt μ c file i = λ i h. by i h (ℕ-discrete i r) in
           let j : getD (map indexIn (recordsIn file)) r (0, 0, 0) ≡ ix r = index-in (countAt file + 4) (recordCount file) r l in
           let first-is = first-in (ix r) (countAt file + 4) (recordCount file) f (omega (arith, o .some))
           (same-orbit f r (sounds f (o .some)) e .0 (o .same))
           (λ k h t. o .before k h (same-orbit k r (sounds k (omega (arith, o .some))) e .1 t)) in
           sym (ap faultsBy (orbit-refused r sound apart l e (m .0) (m .1) (m .2)) ∙ ap (λ f. f ∷ r ∷ []) (ap (λ j. firstOfOrbit g a j (map indexIn (recordsIn file))) j ∙ first-is))
         where
-          by : (i : ℕ) → i ≤ r → Dec (i ≡ r) → 0 ≡ ownAt c file i
-          by i h (yes q) = subst (λ i. 0 ≡ ownAt c file i) (sym q) e
+          by : (i : ℕ) → i ≤ r → Dec (i ≡ r) → 0 ≡ ownAt μ c file i
+          by i h (yes q) = subst (λ i. 0 ≡ ownAt μ c file i) (sym q) e
           by i h (no n) = sound .each i (omega arith)
 
 -- ---- the file
 
 -- a header that is not refused
-pub header-sound : (h : Header) → 0 ≡ first (headerTests h) → Sizes (headerCell h) × (needed h ≤ 16777216)
-header-sound h e =
-    let t = passed (headerTests h) tt e in
-    let axes = pass 3 _ (t .1 .0) (pass 4 _ (t .1 .1 .0) (pass 5 _ (t .1 .1 .1 .0) (pass 9 _ (t .1 .1 .1 .1 .0) none))) in
-    (sound-sizes h axes (leb-false _ _ (t .0)), ltb-false _ _ (t .1 .1 .1 .1 .0))
+pub record SoundHeader (μ : ℕ) (h : Header) : Type 0 where
+  pub group : h .group < 5
+  pub modulus : IsModulus μ
+  pub axes : 0 ≡ first (axisTests h)
+  pub sizes : Sizes (headerCell h)
+  pub near : needed h ≤ 16777216
+
+pub header-sound : (μ : ℕ) (h : Header) → 0 ≡ first (headerTests μ h) → SoundHeader μ h
+header-sound μ h e =
+    let t = passed (headerTests μ h) tt e in
+    let own = t .1 .1 in
+    let axes = pass 3 _ (own .0) (pass 4 _ (own .1 .0) (pass 5 _ (own .1 .1 .0) (pass 9 _ (own .1 .1 .1 .0) none))) in
+    record { group = leb-false _ _ (t .0); modulus = tested-modulus μ (not-false _ (t .1 .0)); axes = axes; sizes = sound-sizes h axes (leb-false _ _ (t .0)); near = ltb-false _ _ (own .1 .1 .1 .0) }
 
 -- the cell that the code holds
-pub cell-of : {file : List ℕ} {c : UnitCell} → NumbersOf file c → headerCell (headerIn file) ≡ c
+pub cell-of : {file : List ℕ} {h : HeaderNumbers} → NumbersOf file h → headerCell (headerIn file) ≡ h .cell
 cell-of n = λ i. record { group = sym (n .group) i; n1 = sym (n .first) i; n2 = sym (n .second) i; n3 = sym (n .third) i }
 
 module _ (file : List ℕ) where
@@ -271,12 +281,13 @@ module _ (file : List ℕ) where
   shape-faults r e = fails {O = List ℕ} r _ _ (λ n. []) e
 
   module _ (sound : 0 ≡ first (shapeTests file)) where
-    pub header-faults : (r : Refusal) → numberOf r ≡ first (headerTests (headerIn file)) → [] ≡ faultsIn file
+    pub header-faults : (r : Refusal) → numberOf r ≡ first (headerTests (modulusIn file) (headerIn file)) → [] ≡ faultsIn file
     unfolding faultsIn
-    header-faults r e = fails {O = List ℕ} r _ (recordFaults (headerIn file .group) (headerIn file .lengths) (recordsIn file)) (λ n. []) e ∙ passes _ _ (λ n. []) sound
+    header-faults r e = fails {O = List ℕ} r _ (recordFaults (modulusIn file) (headerIn file .group) (headerIn file .lengths) (recordsIn file)) (λ n. []) e ∙ passes _ _ (λ n. []) sound
 
-    pub records-fault : 0 ≡ first (headerTests (headerIn file)) → {c : UnitCell} → NumbersOf file c → {o : List ℕ} → o ≡ recordFaults (c .group) (cellLengths c) (recordsIn file) → o ≡ faultsIn file
+    pub records-fault : 0 ≡ first (headerTests (modulusIn file) (headerIn file)) → {h : HeaderNumbers} → NumbersOf file h → {o : List ℕ} → o ≡ recordFaults (h .modulus) (h .cell .group) (cellLengths (h .cell)) (recordsIn file) → o ≡ faultsIn file
     unfolding faultsIn
     records-fault h n e =
-        e ∙ ap (λ (c : UnitCell). recordFaults (c .group) (cellLengths c) (recordsIn file)) (sym (cell-of n))
-        ∙ passes _ (recordFaults (headerIn file .group) (headerIn file .lengths) (recordsIn file)) (λ n. []) h ∙ passes _ _ (λ n. []) sound
+        let cell = sym (cell-of n) in
+        e ∙ (λ i. recordFaults (n .modulus i) (cell i .group) (cellLengths (cell i)) (recordsIn file))
+        ∙ passes _ (recordFaults (modulusIn file) (headerIn file .group) (headerIn file .lengths) (recordsIn file)) (λ n. []) h ∙ passes _ _ (λ n. []) sound

@@ -11,13 +11,20 @@ use borrow.Author.Tests.{eq-eqb, ne-eqb}
 use Rattle.bits.specs.Set.{inSet}
 use Rattle.bits.proofs.Words.{none-in}
 use Rattle.cell.specs.declared.operations.UnitCell.{UnitCell}
+use Rattle.cell.specs.Operations.{cellLengths}
+use Rattle.job.specs.Job.{within}
 use Rattle.file_format.specs.Format.{countAt, recordCount, recordAt}
-use Rattle.factor_file.specs.FaultSteps.{Records, ownNumber, placeOf, ownAt, placeAt, SoundTo, Apart, Stops, range, Noted}
+use Rattle.factor_file.specs.File.{indexIn}
+use Rattle.factor_file.specs.FaultSteps.{Records, ownNumber, placeOf, ownAt, withinAt, placeAt, SoundTo, WithinTo, Apart, Stops, range, Noted}
+use Rattle.factor_file.proofs.FaultLaws.{own-tested}
 
 -- the record that the code reads is that of its place
 module _ {c : UnitCell} {file : List ℕ} {start : ℕ} (w : Records c file start) (i : ℕ) where
-  pub own-here : ownNumber c (recordAt file (start + 14 * i)) ≡ ownAt c file i
-  own-here = ap (λ s. ownNumber c (recordAt file (s + 14 * i))) (w .begins)
+  pub own-here : (μ : ℕ) → ownNumber μ c (recordAt file (start + 14 * i)) ≡ ownAt μ c file i
+  own-here μ = ap (λ s. ownNumber μ c (recordAt file (s + 14 * i))) (w .begins)
+
+  pub within-here : within (cellLengths c) (indexIn (recordAt file (start + 14 * i))) ≡ withinAt c file i
+  within-here = ap (λ s. within (cellLengths c) (indexIn (recordAt file (s + 14 * i)))) (w .begins)
 
   pub place-here : placeOf c (recordAt file (start + 14 * i)) ≡ placeAt c file i
   place-here = ap (λ s. placeOf c (recordAt file (s + 14 * i))) (w .begins)
@@ -27,20 +34,27 @@ module _ {c : UnitCell} {file : List ℕ} {start : ℕ} (w : Records c file star
 
 -- ---- the records' own numbers
 
-module _ (c : UnitCell) (file : List ℕ) where
-  pub sound-start : SoundTo c file 0
+module _ (μ : ℕ) (c : UnitCell) (file : List ℕ) where
+  pub sound-start : SoundTo μ c file 0
   sound-start = record { some = omega arith; each = λ i l. absurd (omega arith) }
 
-  pub sound-next : (r : ℕ) → SoundTo c file r → r < recordCount file → 0 ≡ ownAt c file r → SoundTo c file (r + 1)
+  pub sound-next : (r : ℕ) → SoundTo μ c file r → r < recordCount file → 0 ≡ ownAt μ c file r → SoundTo μ c file (r + 1)
   sound-next r s l e = record { some = omega arith; each = λ i h. by i h (ℕ-discrete i r) }
     where
-      by : (i : ℕ) → i < r + 1 → Dec (i ≡ r) → 0 ≡ ownAt c file i
-      by i h (yes q) = subst (λ i. 0 ≡ ownAt c file i) (sym q) e
+      by : (i : ℕ) → i < r + 1 → Dec (i ≡ r) → 0 ≡ ownAt μ c file i
+      by i h (yes q) = subst (λ i. 0 ≡ ownAt μ c file i) (sym q) e
       by i h (no n) = s .each i (omega arith)
 
   -- and fewer of them
-  pub sound-fewer : {r s : ℕ} → SoundTo c file r → s ≤ r → SoundTo c file s
+  pub sound-fewer : {r s : ℕ} → SoundTo μ c file r → s ≤ r → SoundTo μ c file s
   sound-fewer o l = record { some = omega (arith, o .some); each = λ i h. o .each i (omega arith) }
+
+-- their indices lie in the cell
+pub sound-within : {μ : ℕ} {c : UnitCell} {file : List ℕ} {r : ℕ} → SoundTo μ c file r → WithinTo c file r
+sound-within {μ} {c} s = record { some = s .some; each = λ i h. own-tested μ c _ (s .each i h) }
+
+pub within-fewer : {c : UnitCell} {file : List ℕ} {r s : ℕ} → WithinTo c file r → s ≤ r → WithinTo c file s
+within-fewer o l = record { some = omega (arith, o .some); each = λ i h. o .each i (omega arith) }
 
 -- ---- the orbits whose places lie in a range
 

@@ -87,36 +87,36 @@ module _ (g : Group) (a : J) (long : Positive a) (v : List ℕ) (before : List J
 -- ---- the records judged one after another
 
 -- `place` records were taken, their orbits are marked, and what is left decides
-pub record Judging (cell : UnitCell) (file marks : List ℕ) (at place : ℕ) : Type 0 where
+pub record Judging (μ : ℕ) (cell : UnitCell) (file marks : List ℕ) (at place : ℕ) : Type 0 where
   pub before : List J
   pub walked : Walked file at place
   pub count : length before ≡ place
-  pub rest : judged (cell .group) (cellLengths cell) [] (recordsIn file) ≡ judged (cell .group) (cellLengths cell) before (left file at place)
+  pub rest : judged μ (cell .group) (cellLengths cell) [] (recordsIn file) ≡ judged μ (cell .group) (cellLengths cell) before (left file at place)
   pub marked : Marked (cellGroup cell) (cellHalves cell) marks before
 
-pub judging-start : (cell : UnitCell) (file : List ℕ) {marks : List ℕ} {at : ℕ} → at ≡ countAt file + 4 → Marked (cellGroup cell) (cellHalves cell) marks [] → Judging cell file marks at 0
-judging-start cell file e m = let w = walk-start file e in record { before = []; walked = w .0; count = refl; rest = ap (judged (cell .group) (cellLengths cell) []) (w .1); marked = m }
+pub judging-start : (μ : ℕ) (cell : UnitCell) (file : List ℕ) {marks : List ℕ} {at : ℕ} → at ≡ countAt file + 4 → Marked (cellGroup cell) (cellHalves cell) marks [] → Judging μ cell file marks at 0
+judging-start μ cell file e m = let w = walk-start file e in record { before = []; walked = w .0; count = refl; rest = ap (judged μ (cell .group) (cellLengths cell) []) (w .1); marked = m }
 
-module _ {cell : UnitCell} {file marks : List ℕ} {at place : ℕ} (s : Judging cell file marks at place) (sound : 0 ≡ first (shapeTests file)) where
+module _ {μ : ℕ} {cell : UnitCell} {file marks : List ℕ} {at place : ℕ} (s : Judging μ cell file marks at place) (sound : 0 ≡ first (shapeTests file)) where
   abbrev whole : Judgement
-  whole = judged (cell .group) (cellLengths cell) [] (recordsIn file)
+  whole = judged μ (cell .group) (cellLengths cell) [] (recordsIn file)
 
   pub judging-end : End ≡ foundAt file at → taken ≡ whole
   unfolding judged
-  judging-end e = sym (s .rest ∙ ap (judged (cell .group) (cellLengths cell) (s .before)) (walk-end (s .walked) sound e))
+  judging-end e = sym (s .rest ∙ ap (judged μ (cell .group) (cellLengths cell) (s .before)) (walk-end (s .walked) sound e))
 
   module _ (c : FileRecord) (found : Record c ≡ foundAt file at) {after : ℕ} (on : after ≡ placeAfter file at) where
     abbrev number : ℕ
-    number = first (judgeTests (cell .group) (cellLengths cell) (s .before) (indexIn c) (c .a) (c .b))
+    number = first (judgeTests μ (cell .group) (cellLengths cell) (s .before) (indexIn c) (c .a) (c .b))
 
     abbrev next : Judgement
-    next = judged (cell .group) (cellLengths cell) (indexIn c ∷ s .before) (left file after (place + 1))
+    next = judged μ (cell .group) (cellLengths cell) (indexIn c ∷ s .before) (left file after (place + 1))
 
     opened : whole ≡ accepted number next (λ k. refusedAt k place)
     unfolding judged
-    opened = s .rest ∙ ap (judged (cell .group) (cellLengths cell) (s .before)) (walk-next (s .walked) sound c found on .1) ∙ ap (λ n. accepted number next (λ k. refusedAt k n)) (s .count)
+    opened = s .rest ∙ ap (judged μ (cell .group) (cellLengths cell) (s .before)) (walk-next (s .walked) sound c found on .1) ∙ ap (λ n. accepted number next (λ k. refusedAt k n)) (s .count)
 
-    pub judging-next : {marks′ : List ℕ} → 0 ≡ number → Marked (cellGroup cell) (cellHalves cell) marks′ (indexIn c ∷ s .before) → Judging cell file marks′ after (place + 1)
+    pub judging-next : {marks′ : List ℕ} → 0 ≡ number → Marked (cellGroup cell) (cellHalves cell) marks′ (indexIn c ∷ s .before) → Judging μ cell file marks′ after (place + 1)
     judging-next z m = record {
       before = indexIn c ∷ s .before;
       walked = walk-next (s .walked) sound c found on .0;
@@ -131,50 +131,50 @@ module _ {cell : UnitCell} {file marks : List ℕ} {at place : ℕ} (s : Judging
 -- ---- records that were all taken
 
 -- the first of them passed its tests, and so do the others
-pub taken-first : (group : ℕ) (n : J) (before : List J) (c : FileRecord) (cs : List FileRecord) → judged group n before (c ∷ cs) ≡ taken → (0 ≡ first (judgeTests group n before (indexIn c) (c .a) (c .b))) × (judged group n (indexIn c ∷ before) cs ≡ taken)
+pub taken-first : (μ group : ℕ) (n : J) (before : List J) (c : FileRecord) (cs : List FileRecord) → judged μ group n before (c ∷ cs) ≡ taken → (0 ≡ first (judgeTests μ group n before (indexIn c) (c .a) (c .b))) × (judged μ group n (indexIn c ∷ before) cs ≡ taken)
 unfolding judged
-taken-first group n before c cs e = by (first (judgeTests group n before (indexIn c) (c .a) (c .b))) (judged group n (indexIn c ∷ before) cs) e
+taken-first μ group n before c cs e = by (first (judgeTests μ group n before (indexIn c) (c .a) (c .b))) (judged μ group n (indexIn c ∷ before) cs) e
   where
     by : (k : ℕ) (next : Judgement) → accepted k next (λ k. refusedAt k (length before)) ≡ taken → (0 ≡ k) × (next ≡ taken)
     by zero next e = (refl, e)
     by (suc k) next e = absurd (let z : _≡_ {A = ℕ} 0 1 = cc in omega arith)
 
 -- what is left is to be recorded
-pub record Recording (cell : UnitCell) (file whole v : List ℕ) (at : ℕ) : Type 0 where
+pub record Recording (μ : ℕ) (cell : UnitCell) (file whole v : List ℕ) (at : ℕ) : Type 0 where
   pub place : ℕ
   pub before : List J
   pub walked : Walked file at place
-  pub passes : judged (cell .group) (cellLengths cell) before (left file at place) ≡ taken
-  pub rest : whole ≡ recordAllOn (cellGroup cell) (cellHalves cell) (left file at place) v
+  pub passes : judged μ (cell .group) (cellLengths cell) before (left file at place) ≡ taken
+  pub rest : whole ≡ recordAllOn (cellGroup cell) (cellHalves cell) μ (left file at place) v
 
-pub recording-start : (cell : UnitCell) (file v : List ℕ) {at : ℕ} → at ≡ countAt file + 4 → judged (cell .group) (cellLengths cell) [] (recordsIn file) ≡ taken → Recording cell file (recordAllOn (cellGroup cell) (cellHalves cell) (recordsIn file) v) v at
-recording-start cell file v e t = let w = walk-start file e in
+pub recording-start : (μ : ℕ) (cell : UnitCell) (file v : List ℕ) {at : ℕ} → at ≡ countAt file + 4 → judged μ (cell .group) (cellLengths cell) [] (recordsIn file) ≡ taken → Recording μ cell file (recordAllOn (cellGroup cell) (cellHalves cell) μ (recordsIn file) v) v at
+recording-start μ cell file v e t = let w = walk-start file e in
     record {
       place = 0;
       before = [];
       walked = w .0;
-      passes = ap (judged (cell .group) (cellLengths cell) []) (sym (w .1)) ∙ t;
-      rest = ap (λ cs. recordAllOn (cellGroup cell) (cellHalves cell) cs v) (w .1);
+      passes = ap (judged μ (cell .group) (cellLengths cell) []) (sym (w .1)) ∙ t;
+      rest = ap (λ cs. recordAllOn (cellGroup cell) (cellHalves cell) μ cs v) (w .1);
     }
 
-module _ {cell : UnitCell} {file whole v : List ℕ} {at : ℕ} (s : Recording cell file whole v at) (sound : 0 ≡ first (shapeTests file)) where
+module _ {μ : ℕ} {cell : UnitCell} {file whole v : List ℕ} {at : ℕ} (s : Recording μ cell file whole v at) (sound : 0 ≡ first (shapeTests file)) where
   pub recording-end : End ≡ foundAt file at → v ≡ whole
   unfolding recordAllOn
-  recording-end e = sym (s .rest ∙ ap (λ cs. recordAllOn (cellGroup cell) (cellHalves cell) cs v) (walk-end (s .walked) sound e))
+  recording-end e = sym (s .rest ∙ ap (λ cs. recordAllOn (cellGroup cell) (cellHalves cell) μ cs v) (walk-end (s .walked) sound e))
 
   module _ (c : FileRecord) (found : Record c ≡ foundAt file at) {after : ℕ} (on : after ≡ placeAfter file at) where
-    first-passes : (0 ≡ first (judgeTests (cell .group) (cellLengths cell) (s .before) (indexIn c) (c .a) (c .b))) × (judged (cell .group) (cellLengths cell) (indexIn c ∷ s .before) (left file after (s .place + 1)) ≡ taken)
-    first-passes = taken-first (cell .group) (cellLengths cell) (s .before) c _ (ap (judged (cell .group) (cellLengths cell) (s .before)) (sym (walk-next (s .walked) sound c found on .1)) ∙ s .passes)
+    first-passes : (0 ≡ first (judgeTests μ (cell .group) (cellLengths cell) (s .before) (indexIn c) (c .a) (c .b))) × (judged μ (cell .group) (cellLengths cell) (indexIn c ∷ s .before) (left file after (s .place + 1)) ≡ taken)
+    first-passes = taken-first μ (cell .group) (cellLengths cell) (s .before) c _ (ap (judged μ (cell .group) (cellLengths cell) (s .before)) (sym (walk-next (s .walked) sound c found on .1)) ∙ s .passes)
 
-    pub recording-passes : 0 ≡ first (judgeTests (cell .group) (cellLengths cell) (s .before) (indexIn c) (c .a) (c .b))
+    pub recording-passes : 0 ≡ first (judgeTests μ (cell .group) (cellLengths cell) (s .before) (indexIn c) (c .a) (c .b))
     recording-passes = first-passes .0
 
-    pub recording-next : {v′ : List ℕ} → v′ ≡ recordOn (cellGroup cell) (cellHalves cell) 1 (indexIn c) (value 1 (c .a) (c .b)) v → Recording cell file whole v′ after
+    pub recording-next : {v′ : List ℕ} → v′ ≡ recordOn (cellGroup cell) (cellHalves cell) μ (indexIn c) (value μ (c .a) (c .b)) v → Recording μ cell file whole v′ after
     unfolding recordAllOn
     recording-next e = record {
       place = s .place + 1;
       before = indexIn c ∷ s .before;
       walked = walk-next (s .walked) sound c found on .0;
       passes = first-passes .1;
-      rest = s .rest ∙ ap (λ cs. recordAllOn (cellGroup cell) (cellHalves cell) cs v) (walk-next (s .walked) sound c found on .1) ∙ ap (recordAllOn (cellGroup cell) (cellHalves cell) (left file after (s .place + 1))) (sym e);
+      rest = s .rest ∙ ap (λ cs. recordAllOn (cellGroup cell) (cellHalves cell) μ cs v) (walk-next (s .walked) sound c found on .1) ∙ ap (recordAllOn (cellGroup cell) (cellHalves cell) μ (left file after (s .place + 1))) (sym e);
     }

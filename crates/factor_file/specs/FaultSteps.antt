@@ -11,7 +11,7 @@ use Rattle.bits.specs.Set.{inSet}
 use Rattle.cell.specs.OrbitPlace.{orbitPlace}
 use Rattle.cell.specs.declared.operations.UnitCell.{UnitCell}
 use Rattle.cell.specs.Operations.{cellGroup, cellHalves, cellLengths, Sizes}
-use Rattle.job.specs.Job.{ownTests}
+use Rattle.job.specs.Job.{within, ownTests}
 use Rattle.file_format.specs.declared.FileRecord.{FileRecord}
 use Rattle.file_format.specs.Format.{countAt, recordCount, recordAt}
 use Rattle.factor_file.specs.File.{indexIn}
@@ -27,28 +27,36 @@ pub record Records (c : UnitCell) (file : List ℕ) (start : ℕ) : Type 0 where
   pub filled : countAt file + 4 + 14 * recordCount file ≡ length file
 
 -- the number that a record's own numbers refuse it with, 0 if they do not; and the place of its orbit
-unfoldable pub ownNumber : UnitCell → FileRecord → ℕ
-ownNumber c r = first (ownTests (c .group) (cellLengths c) (indexIn r) (r .a) (r .b))
+unfoldable pub ownNumber : (modulus : ℕ) → UnitCell → FileRecord → ℕ
+ownNumber m c r = first (ownTests m (c .group) (cellLengths c) (indexIn r) (r .a) (r .b))
 
 unfoldable pub placeOf : UnitCell → FileRecord → ℕ
 placeOf c r = orbitPlace (cellGroup c) (cellHalves c) (indexIn r)
 
--- the same of record i of a file
-abbrev pub ownAt : UnitCell → List ℕ → ℕ → ℕ
-ownAt c file i = ownNumber c (recordAt file (recordPlace file i))
+-- the same of record i of a file, and whether its index lies in the cell
+abbrev pub ownAt : (modulus : ℕ) → UnitCell → List ℕ → ℕ → ℕ
+ownAt m c file i = ownNumber m c (recordAt file (recordPlace file i))
+
+abbrev pub withinAt : UnitCell → List ℕ → ℕ → Bool
+withinAt c file i = within (cellLengths c) (indexIn (recordAt file (recordPlace file i)))
 
 abbrev pub placeAt : UnitCell → List ℕ → ℕ → ℕ
 placeAt c file i = placeOf c (recordAt file (recordPlace file i))
 
 -- the records before r are refused by none of their own numbers
-pub record SoundTo (c : UnitCell) (file : List ℕ) (r : ℕ) : Type 0 where
+pub record SoundTo (m : ℕ) (c : UnitCell) (file : List ℕ) (r : ℕ) : Type 0 where
   pub some : r ≤ recordCount file
-  pub each : (i : ℕ) → i < r → 0 ≡ ownAt c file i
+  pub each : (i : ℕ) → i < r → 0 ≡ ownAt m c file i
 
--- and r is the first that is, or there is none
-pub record FirstUnsound (c : UnitCell) (file : List ℕ) (r : ℕ) : Type 0 where
-  pub sound : SoundTo c file r
-  pub stops : r < recordCount file → ownAt c file r ≡ 0 → ⊥
+-- their indices lie in the cell, so that their orbits have places
+pub record WithinTo (c : UnitCell) (file : List ℕ) (r : ℕ) : Type 0 where
+  pub some : r ≤ recordCount file
+  pub each : (i : ℕ) → i < r → withinAt c file i ≡ true
+
+-- r is the first that its own numbers refuse, or there is none
+pub record FirstUnsound (m : ℕ) (c : UnitCell) (file : List ℕ) (r : ℕ) : Type 0 where
+  pub sound : SoundTo m c file r
+  pub stops : r < recordCount file → ownAt m c file r ≡ 0 → ⊥
 
 -- Of the records before r, none whose orbit has its place from low to below high is of the orbit of an earlier one.
 pub record Apart (c : UnitCell) (file : List ℕ) (low high r : ℕ) : Type 0 where

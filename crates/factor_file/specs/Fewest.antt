@@ -2,7 +2,7 @@
 use Rattle.algebra.specs.Prelude.{_≡_, ℕ, suc, _-_, _≤_, List, [], _∷_, length, getD, map}
 use Rattle.refusals.specs.Refusals.{first}
 use Rattle.file_format.specs.declared.FileRecord.{FileRecord}
-use Rattle.factor_file.specs.File.{Judgement, judged, refusedAt, recordsIn, headerIn, shapeTests}
+use Rattle.factor_file.specs.File.{Judgement, judged, refusedAt, recordsIn, modulusIn, headerIn, shapeTests}
 use Rattle.factor_file.specs.Faults.{headerTests, faultsIn}
 
 -- what stands for a record where there is none
@@ -20,7 +20,7 @@ pub data Rising : ℕ → ℕ → List ℕ → Type 0 where
 
 -- what is made of records under the header of a file
 abbrev pub judgedUnder : List ℕ → List FileRecord → Judgement
-judgedUnder file cs = judged (headerIn file .group) (headerIn file .lengths) [] cs
+judgedUnder file cs = judged (modulusIn file) (headerIn file .group) (headerIn file .lengths) [] cs
 
 -- the places of a choice that is refused with this number at its last record, r, as no shorter one is and no other as short
 pub record Fewest (file places : List ℕ) (number r : ℕ) : Type 0 where
@@ -31,4 +31,4 @@ pub record Fewest (file places : List ℕ) (number r : ℕ) : Type 0 where
 
 -- of every file whose shape and header are not refused, and one of whose records is
 pub record FewestExactly : Type 0 where
-  pub each : (file : List ℕ) → 0 ≡ first (shapeTests file) → 0 ≡ first (headerTests (headerIn file)) → (number r : ℕ) → judgedUnder file (recordsIn file) ≡ refusedAt number r → Fewest file (faultsIn file) number r
+  pub each : (file : List ℕ) → 0 ≡ first (shapeTests file) → 0 ≡ first (headerTests (modulusIn file) (headerIn file)) → (number r : ℕ) → judgedUnder file (recordsIn file) ≡ refusedAt number r → Fewest file (faultsIn file) number r

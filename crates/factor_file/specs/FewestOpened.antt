@@ -3,19 +3,20 @@ use Rattle.algebra.specs.Prelude.{_≡_, ℕ, _-_, _<_, _≤_, List, length}
 use Rattle.refusals.specs.Refusals.{first}
 use Rattle.header.specs.Header.{needed}
 use Rattle.job.specs.Job.{notOpened}
-use Rattle.file_format.specs.Format.{fileOf}
+use Rattle.file_format.specs.Format.{versionAt, fileOf}
 use Rattle.file_format.specs.Parsed.{Bytes}
-use Rattle.factor_file.specs.File.{recordCount, recordsIn, headerIn, shapeTests, fileStep}
+use Rattle.factor_file.specs.File.{byteAt, recordCount, recordsIn, modulusIn, headerIn, shapeTests, fileStep}
 use Rattle.factor_file.specs.Faults.{headerTests, faultsIn}
 use Rattle.factor_file.specs.Fewest.{chosen, Rising}
 
--- the bytes of the smaller file: the header of a file, and of its records those at some places, in the order of these
+-- the bytes of the smaller file: the version, the modulus and the header of a file, and of its records those at some places, in the order of these
 unfoldable pub smallerFile : (file places : List ℕ) → List ℕ
-smallerFile file places = fileOf (headerIn file) (chosen (recordsIn file) places)
+smallerFile file places = fileOf (byteAt file versionAt) (modulusIn file) (headerIn file) (chosen (recordsIn file) places)
 
 -- it is not refused for its shape, and this is what is read in it
 pub record Smaller (file places : List ℕ) : Type 0 where
   pub shape : 0 ≡ first (shapeTests (smallerFile file places))
+  pub modulus : modulusIn (smallerFile file places) ≡ modulusIn file
   pub header : headerIn (smallerFile file places) ≡ headerIn file
   pub records : recordsIn (smallerFile file places) ≡ chosen (recordsIn file) places
 
@@ -35,4 +36,4 @@ pub record FewestAreOpened : Type 0 where
   -- the smaller file of any choice has its header and the chosen records
   pub smaller : (file : List ℕ) → Bytes file → 0 ≡ first (shapeTests file) → (r : ℕ) → r < recordCount file → (qs : List ℕ) → Rising 0 r qs → Smaller file qs
   -- where its header is not refused, and it is refused at a record
-  pub each : (file : List ℕ) → Bytes file → 0 ≡ first (shapeTests file) → 0 ≡ first (headerTests (headerIn file)) → (number r : ℕ) → RefusedAt file file number r → FewestOpened file number r
+  pub each : (file : List ℕ) → Bytes file → 0 ≡ first (shapeTests file) → 0 ≡ first (headerTests (modulusIn file) (headerIn file)) → (number r : ℕ) → RefusedAt file file number r → FewestOpened file number r

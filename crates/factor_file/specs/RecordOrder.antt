@@ -21,4 +21,4 @@ LowestOfOrbit job j = (s : Sym) → Mem s (full (groupIn job)) → Before (image
 -- the records of a volume, as the writer lists them
 pub record RecordsRise : Type 0 where
   pub rise : (job : Job) (v : List ℕ) → Rising (map (λ c. c .0) (jobRecords job v))
-  pub lowest : (job : Job) (v : List ℕ) (c : J × Value 1) → Mem c (jobRecords job v) → LowestOfOrbit job (c .0)
+  pub lowest : (job : Job) (v : List ℕ) (c : J × Value (job .modulus)) → Mem c (jobRecords job v) → LowestOfOrbit job (c .0)

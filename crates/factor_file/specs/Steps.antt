@@ -10,7 +10,7 @@ use mathlib.Core.Path.{_≡_}
 use mathlib.Core.Bool.{cond}
 use Rattle.algebra.specs.cells.Cell.{J, Group, at, lineFrom, planeFrom, cellFrom, placesOf}
 use Rattle.numbers.specs.declared.Pair.{Pair}
-use Rattle.numbers.specs.Value.{prime, Value, value}
+use Rattle.numbers.specs.Value.{prime, IsModulus, Value, value}
 use Rattle.slices.specs.Pairs.{Below}
 use Rattle.cell.specs.Volume.{factorsIn}
 use Rattle.cell.specs.declared.operations.Index.{Index}
@@ -19,7 +19,7 @@ use Rattle.cell.specs.Operations.{cellGroup, cellHalves, tripleOf}
 use Rattle.cell.specs.TestSteps.{IsVolume}
 use Rattle.header.specs.Header.{Header}
 use Rattle.file_format.specs.declared.FileRecord.{FileRecord}
-use Rattle.file_format.specs.Format.{rawBytes, fileOf}
+use Rattle.file_format.specs.Format.{rawBytes, versionOf, fileOf}
 use Rattle.file_format.specs.Parsed.{fileRecord}
 use Rattle.file_format.specs.Layout.{headerWith}
 
@@ -29,14 +29,15 @@ filed file output = accepted (first (roomTests (length file) (length output))) (
 
 -- ---- The file step by step: what its functions are lent, the record of one place, and the file by the cell and the factor lists of a job.
 
--- a volume of residues, as long as its cell asks for
-pub record IsFactors (c : UnitCell) (v : List ℕ) : Type 0 where
+-- a volume of residues of a modulus, as long as its cell asks for
+pub record IsFactors (m : ℕ) (c : UnitCell) (v : List ℕ) : Type 0 where
+  pub modulus : IsModulus m
   pub volume : IsVolume c v
-  pub small : Below (prime 1) v
+  pub small : Below (prime m) v
 
 -- the factor at the lowest place of an orbit; elsewhere zero, which no record has
-unfoldable pub recordValue : Group → J → List ℕ → J → Value 1
-recordValue g a v j = cond (isLowest g a j) (at (factorsIn g a 1 v) j) (value 1 0 0)
+unfoldable pub recordValue : Group → J → (m : ℕ) → List ℕ → J → Value m
+recordValue g a m v j = cond (isLowest g a j) (at (factorsIn g a m v) j) (value m 0 0)
 
 -- the places of the cell from j on, rising in h, then k, then l: the rest of its line, of its plane, and of the cell
 unfoldable pub placesFrom : UnitCell → J → List J
@@ -56,19 +57,19 @@ abbrev pub pairBytes : J → Pair → List ℕ
 pairBytes j x = rawBytes (record { h = j .0; k = j .1; l = j .2; a = x .re; b = x .im })
 
 -- the record of one place, where it has one, and the records of the cell
-abbrev pub placeRecords : UnitCell → List ℕ → J → List FileRecord
-placeRecords c v j = map (fileRecord 1) (recordsAt (cellGroup c) (cellHalves c) v (j ∷ []))
+abbrev pub placeRecords : UnitCell → (m : ℕ) → List ℕ → J → List FileRecord
+placeRecords c m v j = map (fileRecord m) (recordsAt (cellGroup c) (cellHalves c) m v (j ∷ []))
 
-abbrev pub recordsWith : UnitCell → List ℕ → List FileRecord
-recordsWith c v = map (fileRecord 1) (recordsAt (cellGroup c) (cellHalves c) v (placesOf (cellHalves c)))
+abbrev pub recordsWith : UnitCell → (m : ℕ) → List ℕ → List FileRecord
+recordsWith c m v = map (fileRecord m) (recordsAt (cellGroup c) (cellHalves c) m v (placesOf (cellHalves c)))
 
 -- the header and the file of a cell and three factor lists as octal digits
 abbrev pub headerFor : UnitCell → (f1 f2 f3 : ℕ) → Header
 headerFor c f1 f2 f3 = headerWith (c .group) (c .n1) (c .n2) (c .n3) f1 f2 f3
 
-abbrev pub fileWith : UnitCell → (f1 f2 f3 : ℕ) → List ℕ → List ℕ
-fileWith c f1 f2 f3 v = fileOf (headerFor c f1 f2 f3) (recordsWith c v)
+abbrev pub fileWith : (modulus : ℕ) → UnitCell → (f1 f2 f3 : ℕ) → List ℕ → List ℕ
+fileWith m c f1 f2 f3 v = fileOf (versionOf m) m (headerFor c f1 f2 f3) (recordsWith c m v)
 
 -- and what is left to do with it
-abbrev pub filedWith : UnitCell → (f1 f2 f3 : ℕ) → (v output : List ℕ) → FillOutcome
-filedWith c f1 f2 f3 v output = filed (fileWith c f1 f2 f3 v) output
+abbrev pub filedWith : (modulus : ℕ) → UnitCell → (f1 f2 f3 : ℕ) → (v output : List ℕ) → FillOutcome
+filedWith m c f1 f2 f3 v output = filed (fileWith m c f1 f2 f3 v) output

@@ -19,13 +19,15 @@ ghost use Rattle.refusals.specs.Refusals.{first};
 ghost use Rattle.refusals.specs.Checks.{checkedNumber};
 ghost use Rattle.cell.specs.Volume.{volumeLength};
 ghost use Rattle.cell.specs.Operations.{cellGroup, cellHalves, cellLengths, tripleOf, Sizes};
-ghost use Rattle.file_format.specs.Format.{shapeTests, recordAt, recordCount, recordsIn, headerIn};
+ghost use Rattle.numbers.specs.Value.{IsModulus};
+ghost use Rattle.job.specs.Job.{within};
+ghost use Rattle.file_format.specs.Format.{shapeTests, recordAt, recordCount, recordsIn, modulusIn, headerIn};
 ghost use Rattle.file_format.specs.Places.{PlacesOf};
 ghost use Rattle.factor_file.specs.File.{indexIn};
 ghost use Rattle.factor_file.specs.Faults.{headerTests, recordFaults, faultsIn, saidFaults};
 ghost use Rattle.factor_file.specs.Fewest.{FewestExactly};
 ghost use Rattle.factor_file.specs.FewestOpened.{FewestAreOpened};
-ghost use Rattle.factor_file.specs.FaultSteps.{Records, ownNumber, placeOf, SoundTo, FirstUnsound, Apart, Stops, FirstOf, range, Noted};
+ghost use Rattle.factor_file.specs.FaultSteps.{Records, ownNumber, placeOf, WithinTo, FirstUnsound, Apart, Stops, FirstOf, range, Noted};
 
 // No record at fault, one, or two: the places, from 0, rise.
 pub enum Faults {
@@ -71,20 +73,25 @@ fn sound_faults(file: &[u8], places: Places) -> Faults
         return Faults::NoFault;
     }
     let start = file_format::places::first_record(places);
-    let cell = file_format::places::header_cell(file);
+    let header = file_format::places::header_numbers(file);
     let count = integers::four_bytes(file, places.count);
-    record_faults(file, start, cell, count)
+    record_faults(file, start, header.modulus, header.cell, count)
 }
 
-// 8, 3, 4, 5, 9. The lists are parts of the file.
+// 8, 26, 3, 4, 5, 9. The lists are parts of the file.
 fn check_header(file: &[u8], places: Places) -> Checked
     requires { ⌜ PlacesOf (now file) places × (0 ≡ first (shapeTests (now file))) ⌝ }
-    ensures { λ r. ⌜ checkedNumber r ≡ first (headerTests (headerIn (now (file .entry)))) ⌝ }
+    ensures { λ r. ⌜ checkedNumber r ≡ first (headerTests (modulusIn (now (file .entry))) (headerIn (now (file .entry)))) ⌝ }
 {
-    let cell = file_format::places::header_cell(file);
+    let header = file_format::places::header_numbers(file);
+    let cell = header.cell;
     if 5 <= cell.group {
         return Checked::Failed(Refusal::Group);
     }
+    if !numbers::is_modulus(header.modulus) {
+        return Checked::Failed(Refusal::Modulus);
+    }
+    let start1 = places.list1 + 1;
     let end1 = places.list2;
     let start2 = end1 + 1;
     let end2 = places.list3;
@@ -92,18 +99,18 @@ fn check_header(file: &[u8], places: Places) -> Checked
     let end3 = places.count;
     header::bytes::check_header(
         cell,
-        &file[file_format::places::FACTOR1..end1],
+        &file[start1..end1],
         &file[start2..end2],
         &file[start3..end3],
     )
 }
 
 // The first record that its own numbers refuse bounds the walks over the orbits.
-fn record_faults(file: &[u8], start: usize, cell: UnitCell, count: u32) -> Faults
-    requires { ⌜ Records cell (now file) start × (count ≡ recordCount (now file)) × (volumeLength (cellGroup cell) (cellHalves cell) ≤ 16777216) ⌝ }
-    ensures { λ r. ⌜ saidFaults r ≡ recordFaults (cell .group) (cellLengths cell) (recordsIn (now (file .entry))) ⌝ }
+fn record_faults(file: &[u8], start: usize, modulus: u32, cell: UnitCell, count: u32) -> Faults
+    requires { ⌜ IsModulus modulus × Records cell (now file) start × (count ≡ recordCount (now file)) × (volumeLength (cellGroup cell) (cellHalves cell) ≤ 16777216) ⌝ }
+    ensures { λ r. ⌜ saidFaults r ≡ recordFaults modulus (cell .group) (cellLengths cell) (recordsIn (now (file .entry))) ⌝ }
 {
-    let own = first_unsound(file, start, cell, count);
+    let own = first_unsound(file, start, modulus, cell, count);
     let again = first_repeated(file, start, cell, own);
     if again < own {
         return Faults::Two(first_of_orbit(file, start, cell, again), again);
@@ -128,25 +135,25 @@ fn index_at(file: &[u8], at: usize) -> Index
 }
 
 // Whether its own numbers do not refuse it.
-fn sound_at(file: &[u8], at: usize, cell: UnitCell) -> bool
-    requires { ⌜ Sizes cell × (at + 14 ≤ length (now file)) ⌝ }
-    ensures { λ r. ⌜ (r ≡ true → 0 ≡ ownNumber cell (recordAt (now (file .entry)) at)) × (r ≡ false → ownNumber cell (recordAt (now (file .entry)) at) ≡ 0 → ⊥) ⌝ }
+fn sound_at(file: &[u8], at: usize, modulus: u32, cell: UnitCell) -> bool
+    requires { ⌜ Sizes cell × IsModulus modulus × (at + 14 ≤ length (now file)) ⌝ }
+    ensures { λ r. ⌜ (r ≡ true → 0 ≡ ownNumber modulus cell (recordAt (now (file .entry)) at)) × (r ≡ false → ownNumber modulus cell (recordAt (now (file .entry)) at) ≡ 0 → ⊥) ⌝ }
 {
     let j = index_at(file, at);
     let x = Pair {
         re: integers::four_bytes(file, at + 6),
         im: integers::four_bytes(file, at + 10),
     };
-    let checked = job::check::record::check_own(cell, j, x);
+    let checked = job::check::record::check_own(modulus, cell, j, x);
     match checked {
         Checked::Failed(_) => return false,
         Checked::Sound => return true,
     }
 }
 
-// The place of its orbit, where its own numbers do not refuse it.
+// The place of its orbit, where its index lies in the cell.
 fn place_at(file: &[u8], at: usize, cell: UnitCell) -> usize
-    requires { ⌜ Sizes cell × (at + 14 ≤ length (now file)) × (0 ≡ ownNumber cell (recordAt (now file) at)) ⌝ }
+    requires { ⌜ Sizes cell × (at + 14 ≤ length (now file)) × (within (cellLengths cell) (indexIn (recordAt (now file) at)) ≡ true) ⌝ }
     ensures { λ r. ⌜ (r ≡ placeOf cell (recordAt (now (file .entry)) at)) × (r < volumeLength (cellGroup cell) (cellHalves cell)) ⌝ }
 {
     let j = index_at(file, at);
@@ -156,13 +163,13 @@ fn place_at(file: &[u8], at: usize, cell: UnitCell) -> usize
 // ---- the walks
 
 // The first record that its own numbers refuse, or the count.
-fn first_unsound(file: &[u8], start: usize, cell: UnitCell, count: u32) -> u32
-    requires { ⌜ Records cell (now file) start × (count ≡ recordCount (now file)) ⌝ }
-    ensures { λ r. ⌜ FirstUnsound cell (now (file .entry)) r ⌝ }
+fn first_unsound(file: &[u8], start: usize, modulus: u32, cell: UnitCell, count: u32) -> u32
+    requires { ⌜ IsModulus modulus × Records cell (now file) start × (count ≡ recordCount (now file)) ⌝ }
+    ensures { λ r. ⌜ FirstUnsound modulus cell (now (file .entry)) r ⌝ }
 {
     let mut i: u32 = 0;
     while i < count {
-        if !sound_at(file, start + 14 * i as usize, cell) {
+        if !sound_at(file, start + 14 * i as usize, modulus, cell) {
             return i;
         }
         i += 1;
@@ -172,7 +179,7 @@ fn first_unsound(file: &[u8], start: usize, cell: UnitCell, count: u32) -> u32
 
 // The first record below a limit whose orbit has come before, or the limit.
 fn first_repeated(file: &[u8], start: usize, cell: UnitCell, limit: u32) -> u32
-    requires { ⌜ Records cell (now file) start × SoundTo cell (now file) limit × (volumeLength (cellGroup cell) (cellHalves cell) ≤ 16777216) ⌝ }
+    requires { ⌜ Records cell (now file) start × WithinTo cell (now file) limit × (volumeLength (cellGroup cell) (cellHalves cell) ≤ 16777216) ⌝ }
     ensures { λ r. ⌜ Apart cell (now (file .entry)) 0 (volumeLength (cellGroup cell) (cellHalves cell)) r × Stops cell (now (file .entry)) limit r ⌝ }
 {
     let places = header::bytes::volume_length(cell) as usize;
@@ -187,7 +194,7 @@ fn first_repeated(file: &[u8], start: usize, cell: UnitCell, limit: u32) -> u32
 
 // The same for the orbits whose places lie in the range from low on.
 fn repeated_in_range(file: &[u8], start: usize, cell: UnitCell, limit: u32, low: usize) -> u32
-    requires { ⌜ Records cell (now file) start × SoundTo cell (now file) limit × (low < 16777216) ⌝ }
+    requires { ⌜ Records cell (now file) start × WithinTo cell (now file) limit × (low < 16777216) ⌝ }
     ensures { λ r. ⌜ Apart cell (now (file .entry)) low (low + range) r × Stops cell (now (file .entry)) limit r ⌝ }
 {
     let mut marks = [0u64; WORDS];
@@ -203,7 +210,7 @@ fn walk_range(
     low: usize,
     marks: &mut [u64],
 ) -> u32
-    requires { ⌜ Records cell (now file) start × SoundTo cell (now file) limit × (low < 16777216) × (now marks ≡ replicate 32768 0) ⌝ }
+    requires { ⌜ Records cell (now file) start × WithinTo cell (now file) limit × (low < 16777216) × (now marks ≡ replicate 32768 0) ⌝ }
     ensures { λ r. ⌜ Apart cell (now (file .entry)) low (low + range) r × Stops cell (now (file .entry)) limit r ⌝ }
 {
     let mut i: u32 = 0;
@@ -234,7 +241,7 @@ fn note(marks: &mut [u64], low: usize, place: usize) -> bool
 
 // The first record of the orbit of another, which may be that one itself.
 fn first_of_orbit(file: &[u8], start: usize, cell: UnitCell, last: u32) -> u32
-    requires { ⌜ Records cell (now file) start × SoundTo cell (now file) (last + 1) ⌝ }
+    requires { ⌜ Records cell (now file) start × WithinTo cell (now file) (last + 1) ⌝ }
     ensures { λ r. ⌜ FirstOf cell (now (file .entry)) last r ⌝ }
 {
     let place = place_at(file, start + 14 * last as usize, cell);

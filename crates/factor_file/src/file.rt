@@ -14,6 +14,7 @@ ghost use Rattle.factor_file.specs.Steps.{IsFactors, recordsWith, fileWi
 
 // The file, of count records.
 pub fn put_file(
+    modulus: u32,
     cell: UnitCell,
     f1: u32,
     f2: u32,
@@ -22,13 +23,13 @@ pub fn put_file(
     volume: &[u32],
     out: &mut [u8],
 ) -> usize
-    requires { ⌜ IsFactors cell (now volume) × (length (now volume) ≤ 16777216) ⌝ }
-    requires { ⌜ count ≡ length (recordsWith cell (now volume)) ⌝ }
-    ensures { λ r. ⌜ Wrote 0 (fileWith cell f1 f2 f3 (now (volume .entry))) (now (out .entry)) r (now (out .exit)) ⌝ }
+    requires { ⌜ IsFactors modulus cell (now volume) × (length (now volume) ≤ 16777216) ⌝ }
+    requires { ⌜ count ≡ length (recordsWith cell modulus (now volume)) ⌝ }
+    ensures { λ r. ⌜ Wrote 0 (fileWith modulus cell f1 f2 f3 (now (volume .entry))) (now (out .entry)) r (now (out .exit)) ⌝ }
 {
-    let follow = file_format::layout::file_length(f1, f2, f3, count) - 4;
+    let follow = file_format::layout::file_length(modulus, f1, f2, f3, count) - 4;
     let first = big_endian::put_four(out, 0, follow as u32);
-    let second = head::put_header(cell, f1, f2, f3, out, first);
+    let second = head::put_header(modulus, cell, f1, f2, f3, out, first);
     let third = big_endian::put_four(out, second, count as u32);
-    records::put_records(cell, volume, out, third)
+    records::put_records(modulus, cell, volume, out, third)
 }

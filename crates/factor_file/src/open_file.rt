@@ -9,15 +9,17 @@ ghost use Rattle.refusals.specs.Refusals.{first};
 ghost use Rattle.file_format.specs.Places.{PlacesOf};
 ghost use Rattle.job.specs.Job.{openStep};
 ghost use Rattle.job.specs.Answers.{openOutcome};
-ghost use Rattle.factor_file.specs.File.{shapeTests, headerIn, fileStep};
+ghost use Rattle.factor_file.specs.File.{shapeTests, modulusIn, headerIn, fileStep};
 ghost use Rattle.factor_file.specs.Answers.{fileOutcome};
 
 // The opening that the header names. The lists are parts of the file.
 fn open_header(file: &[u8], places: Places, volume: &mut [u32]) -> OpenAnswer
     requires { ⌜ PlacesOf (now file) places × (0 ≡ first (shapeTests (now file))) ⌝ }
-    ensures { λ r. ⌜ openOutcome r (now (volume .exit)) ≡ openStep (headerIn (now (file .entry))) 0 (now (volume .entry)) ⌝ }
+    ensures { λ r. ⌜ openOutcome r (now (volume .exit)) ≡ openStep (modulusIn (now (file .entry))) (headerIn (now (file .entry))) 0 (now (volume .entry)) ⌝ }
 {
-    let cell = file_format::places::header_cell(file);
+    let header = file_format::places::header_numbers(file);
+    let cell = header.cell;
+    let start1 = places.list1 + 1;
     let end1 = places.list2;
     let start2 = end1 + 1;
     let end2 = places.list3;
@@ -25,11 +27,12 @@ fn open_header(file: &[u8], places: Places, volume: &mut [u32]) -> OpenAnswer
     let end3 = places.count;
     job::open::open(
         cell.group,
+        header.modulus,
         0,
         cell.n1,
         cell.n2,
         cell.n3,
-        &file[file_format::places::FACTOR1..end1],
+        &file[start1..end1],
         &file[start2..end2],
         &file[start3..end3],
         volume,

@@ -21,6 +21,7 @@ ghost use Rattle.refusals.specs.Refusals.{first};
 ghost use Rattle.refusals.specs.Checks.{checkedNumber};
 ghost use Rattle.cell.specs.Operations.{cellGroup, cellHalves, cellLengths, tripleOf, Within};
 ghost use Rattle.cell.specs.TestSteps.{IsVolume};
+ghost use Rattle.numbers.specs.Value.{IsModulus};
 ghost use Rattle.file_format.specs.Format.{shapeTests, countAt, recordsIn};
 ghost use Rattle.file_format.specs.Places.{PlacesOf};
 ghost use Rattle.job.specs.Job.{jobCell};
@@ -36,26 +37,32 @@ enum Verdict {
 
 // The records of a file of sound shape, in a job that was opened: all are recorded, or one is refused, and the volume is left zero.
 pub fn feed_records(file: &[u8], places: Places, job: Job, volume: &mut [u32]) -> FileAnswer
-    requires { ⌜ PlacesOf (now file) places × (0 ≡ first (shapeTests (now file))) × IsEmpty (jobCell job) (now volume) ⌝ }
+    requires { ⌜ PlacesOf (now file) places × (0 ≡ first (shapeTests (now file))) × IsEmpty (jobCell job) (now volume) × IsModulus (job .modulus) ⌝ }
     ensures { λ r. ⌜ fileOutcome r (now (volume .exit)) ≡ feed (recordsIn (now (file .entry))) job (now (volume .entry)) ⌝ }
 {
     let cell = job.unit_cell();
     let start = file_format::places::first_record(places);
-    let verdict = judge_records(file, start, cell, volume);
+    let verdict = judge_records(file, start, job.modulus, cell, volume);
     slices::buffers::zero(volume);
     match verdict {
         Verdict::Refused(refusal, place) => return FileAnswer::Refused(refusal, place),
         Verdict::Taken => {
-            record_all(file, start, cell, volume);
+            record_all(file, start, job.modulus, cell, volume);
             return FileAnswer::Opened(job);
         }
     }
 }
 
 // The first walk, on numbers that are zero: afterwards they are marks.
-fn judge_records(file: &[u8], start: usize, cell: UnitCell, marks: &mut [u32]) -> Verdict
-    requires { ⌜ (start ≡ countAt (now file) + 4) × (0 ≡ first (shapeTests (now file))) × IsEmpty cell (now marks) ⌝ }
-    ensures { λ r. ⌜ saidVerdict r ≡ judged (cell .group) (cellLengths cell) [] (recordsIn (now (file .entry))) ⌝ }
+fn judge_records(
+    file: &[u8],
+    start: usize,
+    modulus: u32,
+    cell: UnitCell,
+    marks: &mut [u32],
+) -> Verdict
+    requires { ⌜ (start ≡ countAt (now file) + 4) × (0 ≡ first (shapeTests (now file))) × IsEmpty cell (now marks) × IsModulus modulus ⌝ }
+    ensures { λ r. ⌜ saidVerdict r ≡ judged modulus (cell .group) (cellLengths cell) [] (recordsIn (now (file .entry))) ⌝ }
 {
     let mut at = start;
     let mut place = 0;
@@ -71,7 +78,7 @@ fn judge_records(file: &[u8], start: usize, cell: UnitCell, marks: &mut [u32]) -
             l: c.l,
         };
         let x = Pair { re: c.a, im: c.b };
-        let checked = judge_record(cell, j, x, marks);
+        let checked = judge_record(modulus, cell, j, x, marks);
         if let Checked::Failed(refusal) = checked {
             return Verdict::Refused(refusal, place);
         }
@@ -81,13 +88,13 @@ fn judge_records(file: &[u8], start: usize, cell: UnitCell, marks: &mut [u32]) -
 }
 
 // 10, 7, 12, 24 of one record. The orbit of one that is taken is marked.
-fn judge_record(cell: UnitCell, j: Index, x: Pair, marks: &mut [u32]) -> Checked
-    requires { ⌜ IsVolume cell (now marks) ⌝ }
+fn judge_record(modulus: u32, cell: UnitCell, j: Index, x: Pair, marks: &mut [u32]) -> Checked
+    requires { ⌜ IsVolume cell (now marks) × IsModulus modulus ⌝ }
     ensures { λ r. ⌜ ((before : List J) → Marked (cellGroup cell) (cellHalves cell) (now (marks .entry)) before
-        → (checkedNumber r ≡ first (judgeTests (cell .group) (cellLengths cell) before (tripleOf j) (x .re) (x .im)))
+        → (checkedNumber r ≡ first (judgeTests modulus (cell .group) (cellLengths cell) before (tripleOf j) (x .re) (x .im)))
         × (checkedNumber r ≡ 0 → Marked (cellGroup cell) (cellHalves cell) (now (marks .exit)) (tripleOf j ∷ before))) ⌝ }
 {
-    let own = job::check::record::check_own(cell, j, x);
+    let own = job::check::record::check_own(modulus, cell, j, x);
     match own {
         Checked::Failed(refusal) => Checked::Failed(refusal),
         Checked::Sound => mark_orbit(cell, j, marks),
@@ -110,10 +117,10 @@ fn mark_orbit(cell: UnitCell, j: Index, marks: &mut [u32]) -> Checked
 }
 
 // The second walk: no test is left to make.
-fn record_all(file: &[u8], start: usize, cell: UnitCell, volume: &mut [u32])
-    requires { ⌜ (start ≡ countAt (now file) + 4) × (0 ≡ first (shapeTests (now file))) × IsVolume cell (now volume) ⌝ }
-    requires { ⌜ judged (cell .group) (cellLengths cell) [] (recordsIn (now file)) ≡ taken ⌝ }
-    ensures { λ _. ⌜ now (volume .exit) ≡ recordAllOn (cellGroup cell) (cellHalves cell) (recordsIn (now (file .entry))) (now (volume .entry)) ⌝ }
+fn record_all(file: &[u8], start: usize, modulus: u32, cell: UnitCell, volume: &mut [u32])
+    requires { ⌜ (start ≡ countAt (now file) + 4) × (0 ≡ first (shapeTests (now file))) × IsVolume cell (now volume) × IsModulus modulus ⌝ }
+    requires { ⌜ judged modulus (cell .group) (cellLengths cell) [] (recordsIn (now file)) ≡ taken ⌝ }
+    ensures { λ _. ⌜ now (volume .exit) ≡ recordAllOn (cellGroup cell) (cellHalves cell) modulus (recordsIn (now (file .entry))) (now (volume .entry)) ⌝ }
 {
     let mut at = start;
     loop {
@@ -128,7 +135,7 @@ fn record_all(file: &[u8], start: usize, cell: UnitCell, volume: &mut [u32])
             l: c.l,
         };
         let x = Pair { re: c.a, im: c.b };
-        volume::record::write_images(1, cell, j, x, volume);
+        volume::record::write_images(modulus, cell, j, x, volume);
         at = step.after;
     }
 }

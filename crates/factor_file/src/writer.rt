@@ -20,6 +20,7 @@ ghost use Rattle.factor_file.specs.Steps.{filedWith, IsFactors};
 
 // 18, and the file. Where all factors are zero it is a file of no records.
 fn write_factors(
+    modulus: u32,
     cell: UnitCell,
     f1: u32,
     f2: u32,
@@ -27,14 +28,14 @@ fn write_factors(
     volume: &[u32],
     out: &mut [u8],
 ) -> FillAnswer
-    requires { ⌜ IsFactors cell (now volume) × (length (now volume) ≤ 16777216) ⌝ }
-    ensures { λ r. ⌜ fillOutcome r (now (out .exit)) ≡ filedWith cell f1 f2 f3 (now (volume .entry)) (now (out .entry)) ⌝ }
+    requires { ⌜ IsFactors modulus cell (now volume) × (length (now volume) ≤ 16777216) ⌝ }
+    ensures { λ r. ⌜ fillOutcome r (now (out .exit)) ≡ filedWith modulus cell f1 f2 f3 (now (volume .entry)) (now (out .entry)) ⌝ }
 {
-    let count = records::count_records(cell, volume);
-    if out.len() < file_format::layout::file_length(f1, f2, f3, count) {
+    let count = records::count_records(modulus, cell, volume);
+    if out.len() < file_format::layout::file_length(modulus, f1, f2, f3, count) {
         return FillAnswer::Refused(Refusal::OutputTooShort);
     }
-    let written = crate::file::put_file(cell, f1, f2, f3, count, volume, out);
+    let written = crate::file::put_file(modulus, cell, f1, f2, f3, count, volume, out);
     FillAnswer::Written(written)
 }
 
@@ -44,12 +45,20 @@ pub fn write_file(job: Job, volume: &[u32], out: &mut [u8]) -> FillAnswer
     ensures { λ r. ⌜ fillOutcome r (now (out .exit)) ≡ writeStep job (now (volume .entry)) (now (out .entry)) ⌝ }
 {
     let cell = job.unit_cell();
-    let checked = synthesis::check_synthesis(valid::valid_job(job), job.state, cell, volume, 11520);
+    let checked = synthesis::check_synthesis(
+        valid::valid_job(job),
+        job.state,
+        job.modulus,
+        cell,
+        volume,
+        11520,
+    );
     match checked {
         Checked::Failed(refusal) => return FillAnswer::Refused(refusal),
         Checked::Sound => {}
     }
     write_factors(
+        job.modulus,
         cell,
         job.a.factors,
         job.b.factors,

@@ -1,24 +1,26 @@
--- A file of sound shape whose numbers are bytes: it is the file of its header and its records; and a file can hold its header, and as many short records as it has,
--- or fewer.
+-- A file of sound shape whose numbers are bytes: it is the file of its version, its modulus, its header and its records; and a file of its version can hold its modulus,
+-- its header, and as many short records as it has, or fewer.
 use mathlib.Core.Path.{_≡_, refl, sym, _∙_, ap}
+use mathlib.Core.Bool.{cond}
 use mathlib.Core.List.{List, [], _∷_, _++_, append-assoc}
 use Prim.Native.Nat.{ℕ, zero, suc, _+_, _*_, _-_, _/_, _%_, _<_, _≤_}
 use native.Mathlib.Omega.{arith}
+use native.Mathlib.Decide.{ℕ-discrete}
 use lib.ListN.{length, getD, take, drop, length-take, length-drop, take-append-drop, drop-of-length-le}
 use lib.Seq.{drop-cons, drop-drop, length-take-le}
-use borrow.Author.Tests.{not-false, eqb-true}
+use borrow.Author.Tests.{eq-eqb, ne-eqb}
 use Rattle.algebra.specs.orbits.Orbit.{Mem}
 use Rattle.algebra.proofs.ring.Laws.{along}
 use Rattle.refusals.specs.Refusals.{first}
-use Rattle.refusals.proofs.Tests.{passed}
 use Rattle.output.specs.Output.{bigEndian}
 use Rattle.output.proofs.BigEndian.{four-bytes}
 use Rattle.file_format.specs.declared.FileRecord.{FileRecord}
-use Rattle.file_format.specs.Format.{byteAt, twoBytes, fourBytes, listAt, afterList, list2At, list3At, countAt, recordAt, recordsFrom, recordCount, recordsIn, shapeTests, headerIn, listBytes, rawBytes, allBytes, body, fileOf}
+use Rattle.file_format.specs.Format.{byteAt, twoBytes, fourBytes, versionAt, groupAt, modulusAt, modulusIn, lengthsAt, listAt, afterList, list1At, list2At, list3At, countAt, recordAt, recordsFrom, recordCount, recordsIn, shapeTests, headerIn, modulusBytes, listBytes, rawBytes, allBytes, body, fileOf}
 use Rattle.file_format.specs.Parsed.{Bytes, ShortRecord, Writable}
 use Rattle.file_format.proofs.integers.Numbers.{two-bytes-fit, four-bytes-fit}
 use Rattle.file_format.proofs.layout.FileParts.{length-header, length-body, parts-apart}
-use Rattle.file_format.proofs.shape.Shapes.{filled-by, counted-by}
+use Rattle.file_format.proofs.places.Versions.{with-modulus, without-modulus, lengths-behind, lengths-low}
+use Rattle.file_format.proofs.shape.Shapes.{filled-by, counted-by, versions-by}
 use Rattle.file_format.proofs.Parsing.{right}
 
 pub length-from : (file : List ℕ) (q n : ℕ) → length (recordsFrom file q n) ≡ n
@@ -54,14 +56,17 @@ module _ (file : List ℕ) (b : Bytes file) where
 
   module _ (shape : 0 ≡ first (shapeTests file)) (cs : List FileRecord) (few : length cs ≤ recordCount file) where
     -- its body is no longer than the file's, which four bytes count
-    body-short : length (body (headerIn file) cs) < 4294967296
+    body-short : length (body (byteAt file versionAt) (modulusIn file) (headerIn file) cs) < 4294967296
     unfolding list2At list3At countAt
     body-short =
-        omega (arith, length-body (headerIn file) cs, length-header (headerIn file), list-long 12, list-long (list2At file), list-long (list3At file), few, filled-by file shape, counted-by file shape, four-bytes-fit file 0 (b .each))
+        let v = byteAt file versionAt in
+        let m = modulusIn file in
+        omega (arith, length-body v m (headerIn file) cs, length-header v m (headerIn file), lengths-behind file m, list-long (list1At file), list-long (list2At file), list-long (list3At file), few, filled-by file shape, counted-by file shape, four-bytes-fit file 0 (b .each))
 
-    pub writable-again : ((c : FileRecord) → Mem c cs → ShortRecord c) → Writable (headerIn file) cs
+    pub writable-again : ((c : FileRecord) → Mem c cs → ShortRecord c) → Writable (byteAt file versionAt) (modulusIn file) (headerIn file) cs
     writable-again s = record {
-      lengths = record { h = two-bytes-fit file 6 (b .each); k = two-bytes-fit file 8 (b .each); l = two-bytes-fit file 10 (b .each) };
+      versions = versions-by file shape;
+      lengths = record { h = two-bytes-fit file (lengthsAt file) (b .each); k = two-bytes-fit file (lengthsAt file + 2) (b .each); l = two-bytes-fit file (lengthsAt file + 4) (b .each) };
       records = s;
       short = body-short;
     }
@@ -130,38 +135,59 @@ module _ (file : List ℕ) (b : Bytes file) where
   -- ---- all of it
 
   module _ (shape : 0 ≡ first (shapeTests file)) where
-    version : byteAt file 4 ≡ 1
-    version = eqb-true _ _ (not-false _ (passed (shapeTests file) tt shape .1 .0))
+    abbrev version : ℕ
+    version = byteAt file versionAt
+
+    abbrev lengths : ℕ
+    lengths = lengthsAt file
 
     -- the lists, the count of the records and the records
     behind : List ℕ
-    behind = listBytes (listAt file 12) ++ (listBytes (listAt file (list2At file)) ++ (listBytes (listAt file (list3At file)) ++ (bigEndian 4 (recordCount file) ++ allBytes (recordsIn file))))
+    behind = listBytes (listAt file (list1At file)) ++ (listBytes (listAt file (list2At file)) ++ (listBytes (listAt file (list3At file)) ++ (bigEndian 4 (recordCount file) ++ allBytes (recordsIn file))))
 
-    behind-again : drop 12 file ≡ behind
+    behind-again : drop (list1At file) file ≡ behind
     unfolding behind list2At list3At countAt
     behind-again =
         let end = filled-by file shape in
         let records = followed (bigEndian 4 (recordCount file)) (four-again (countAt file) (omega (arith, end))) (records-again (countAt file + 4) (recordCount file) end) in
         let third = followed (listBytes (listAt file (list3At file))) (list-again (list3At file) (omega (arith, end))) records in
         let second = followed (listBytes (listAt file (list2At file))) (list-again (list2At file) (omega (arith, end))) third in
-        followed (listBytes (listAt file 12)) (list-again 12 (omega (arith, end))) second
+        followed (listBytes (listAt file (list1At file))) (list-again (list1At file) (omega (arith, end))) second
 
-    lengths-again : drop 6 file ≡ bigEndian 2 (twoBytes file 6) ++ (bigEndian 2 (twoBytes file 8) ++ (bigEndian 2 (twoBytes file 10) ++ behind))
+    lengths-again : drop lengths file ≡ bigEndian 2 (twoBytes file lengths) ++ (bigEndian 2 (twoBytes file (lengths + 2)) ++ (bigEndian 2 (twoBytes file (lengths + 4)) ++ behind))
     unfolding list2At list3At countAt
     lengths-again =
         let end = filled-by file shape in
-        followed (bigEndian 2 (twoBytes file 6)) (two-again 6 (omega (arith, end))) (followed (bigEndian 2 (twoBytes file 8)) (two-again 8 (omega (arith, end))) (followed (bigEndian 2 (twoBytes file 10)) (two-again 10 (omega (arith, end))) behind-again))
+        let x = bigEndian 2 (twoBytes file lengths) in
+        let y = bigEndian 2 (twoBytes file (lengths + 2)) in
+        let z = bigEndian 2 (twoBytes file (lengths + 4)) in
+        let third = followed z (two-again (lengths + 4) (omega (arith, end)) ∙ along (λ n. z ++ drop n file) (lengths + 4 + 2) (list1At file) (omega arith)) behind-again in
+        let second = followed y (two-again (lengths + 2) (omega (arith, end)) ∙ along (λ n. y ++ drop n file) (lengths + 2 + 2) (lengths + 4) (omega arith)) third in
+        followed x (two-again lengths (omega (arith, end))) second
 
-    whole-again : file ≡ bigEndian 4 (fourBytes file 0) ++ 1 ∷ byteAt file 5 ∷ (bigEndian 2 (twoBytes file 6) ++ (bigEndian 2 (twoBytes file 8) ++ (bigEndian 2 (twoBytes file 10) ++ behind)))
+    -- the modulus byte, where there is one
+    modulus-again : drop modulusAt file ≡ modulusBytes version (modulusIn file) ++ drop lengths file
+    unfolding list2At list3At countAt
+    modulus-again = let end = filled-by file shape in go (omega (arith, end, lengths-low file)) (ℕ-discrete version 2)
+      where
+        go : modulusAt < length file → Dec (version ≡ 2) → drop modulusAt file ≡ modulusBytes version (modulusIn file) ++ drop lengths file
+        go l (yes e) =
+            let r = with-modulus file e in
+            byte-again modulusAt l ∙ sym (ap (λ b. cond b (modulusIn file ∷ []) [] ++ drop lengths file) (eq-eqb version 2 e) ∙ λ i. r .0 i ∷ drop (r .1 i) file)
+        go l (no n) = sym (ap (λ b. cond b (modulusIn file ∷ []) [] ++ drop lengths file) (ne-eqb version 2 n) ∙ ap (λ (q : ℕ). drop q file) (without-modulus file n .1))
+
+    whole-again : file ≡ bigEndian 4 (fourBytes file 0) ++ version ∷ byteAt file groupAt ∷ (modulusBytes version (modulusIn file) ++ (bigEndian 2 (twoBytes file lengths) ++ (bigEndian 2 (twoBytes file (lengths + 2)) ++ (bigEndian 2 (twoBytes file (lengths + 4)) ++ behind))))
     unfolding list2At list3At countAt
     whole-again =
         let end = filled-by file shape in
-        let group = byte-again 5 (omega (arith, end)) ∙ ap (λ (t : List ℕ). byteAt file 5 ∷ t) lengths-again in
-        let one = byte-again 4 (omega (arith, end)) ∙ (λ i. version i ∷ group i) in
+        let low = lengths-low file in
+        let numbers = followed (modulusBytes version (modulusIn file)) modulus-again lengths-again in
+        let group = byte-again groupAt (omega (arith, end)) ∙ ap (λ (t : List ℕ). byteAt file groupAt ∷ t) numbers in
+        let one = byte-again versionAt (omega (arith, end)) ∙ ap (λ (t : List ℕ). version ∷ t) group in
         followed (bigEndian 4 (fourBytes file 0)) (four-again 0 (omega (arith, end))) one
 
     -- the counts are those that stand in it
-    bytes-counted : length (body (headerIn file) (recordsIn file)) ≡ fourBytes file 0
+    bytes-counted : length (body version (modulusIn file) (headerIn file) (recordsIn file)) ≡ fourBytes file 0
     unfolding list2At list3At countAt
     bytes-counted =
         let end = filled-by file shape in
@@ -169,19 +195,20 @@ module _ (file : List ℕ) (b : Bytes file) where
           arith,
           end,
           counted-by file shape,
-          length-body (headerIn file) (recordsIn file),
-          length-header (headerIn file),
+          length-body version (modulusIn file) (headerIn file) (recordsIn file),
+          length-header version (modulusIn file) (headerIn file),
+          lengths-behind file (modulusIn file),
           length-from file (countAt file + 4) (recordCount file),
-          list-whole 12 (omega (arith, end)),
+          list-whole (list1At file) (omega (arith, end)),
           list-whole (list2At file) (omega (arith, end)),
           list-whole (list3At file) (omega (arith, end)),
         )
 
-    pub file-again : fileOf (headerIn file) (recordsIn file) ≡ file
+    pub file-again : fileOf version (modulusIn file) (headerIn file) (recordsIn file) ≡ file
     unfolding behind
     file-again =
         let n = length-from file (countAt file + 4) (recordCount file) in
         let c = bytes-counted in
-        parts-apart (headerIn file) (recordsIn file)
-        ∙ (λ i. bigEndian 4 (c i) ++ 1 ∷ byteAt file 5 ∷ (bigEndian 2 (twoBytes file 6) ++ (bigEndian 2 (twoBytes file 8) ++ (bigEndian 2 (twoBytes file 10) ++ (listBytes (listAt file 12) ++ (listBytes (listAt file (list2At file)) ++ (listBytes (listAt file (list3At file)) ++ (bigEndian 4 (n i) ++ allBytes (recordsIn file)))))))))
+        parts-apart version (modulusIn file) (headerIn file) (recordsIn file)
+        ∙ (λ i. bigEndian 4 (c i) ++ version ∷ byteAt file groupAt ∷ (modulusBytes version (modulusIn file) ++ (bigEndian 2 (twoBytes file lengths) ++ (bigEndian 2 (twoBytes file (lengths + 2)) ++ (bigEndian 2 (twoBytes file (lengths + 4)) ++ (listBytes (listAt file (list1At file)) ++ (listBytes (listAt file (list2At file)) ++ (listBytes (listAt file (list3At file)) ++ (bigEndian 4 (n i) ++ allBytes (recordsIn file))))))))))
         ∙ sym whole-again

@@ -2,38 +2,62 @@
 use cell::operations::UnitCell;
 ghost use mathlib.Core.Path.{_≡_};
 ghost use Prim.Native.Nat.{_+_, _≤_, _<_};
-ghost use Rattle.file_format.specs.Format.{afterList};
+ghost use Rattle.file_format.specs.Format.{modulusIn, lengthsAt, afterList};
 ghost use Rattle.file_format.specs.Places.{PlacesOf, NumbersOf};
 
-// Where the header's numbers stand: the version, the group, and the three lengths of two bytes each. The first list begins behind them.
+// Where the header's numbers stand: the version, the group, in version 2 the modulus, and the three lengths of two bytes each. The first
+// list begins behind them.
 pub const VERSION: usize = 4;
 
 const GROUP: usize = 5;
 
-const LENGTH1: usize = 6;
+const MODULUS: usize = 6;
 
-const LENGTH2: usize = 8;
+// The numbers of a header: the modulus and the unit cell.
+pub struct HeaderNumbers {
+    pub modulus: u32,
+    pub cell: UnitCell,
+}
 
-const LENGTH3: usize = 10;
-
-const LIST1: usize = 12;
-// The first factor of the first list, behind its count byte.
-pub const FACTOR1: usize = 13;
-
-// The unit cell that the header names, whether the file has its bytes or not: a byte beyond it is read as 0.
-pub fn header_cell(file: &[u8]) -> UnitCell
+// They are read whether the file has their bytes or not: a byte beyond it is read as 0.
+pub fn header_numbers(file: &[u8]) -> HeaderNumbers
     ensures { λ r. ⌜ NumbersOf (now (file .entry)) r ⌝ }
 {
-    UnitCell {
-        group: crate::integers::byte_at(file, GROUP),
-        n1: crate::integers::two_at(file, LENGTH1),
-        n2: crate::integers::two_at(file, LENGTH2),
-        n3: crate::integers::two_at(file, LENGTH3),
+    let at = lengths_at(file);
+    HeaderNumbers {
+        modulus: modulus_in(file),
+        cell: UnitCell {
+            group: crate::integers::byte_at(file, GROUP),
+            n1: crate::integers::two_at(file, at),
+            n2: crate::integers::two_at(file, at + 2),
+            n3: crate::integers::two_at(file, at + 4),
+        },
     }
 }
 
-// Where the second and the third list begin, with their count bytes, and where the record count stands.
+// The modulus: a file of version 2 has a byte for it.
+fn modulus_in(file: &[u8]) -> u32
+    ensures { λ r. ⌜ r ≡ modulusIn (now (file .entry)) ⌝ }
+{
+    if crate::integers::byte_at(file, VERSION) == 2 {
+        return crate::integers::byte_at(file, MODULUS);
+    }
+    1
+}
+
+// Where the lengths begin, behind the group or behind the modulus.
+fn lengths_at(file: &[u8]) -> usize
+    ensures { λ r. ⌜ (r ≡ lengthsAt (now (file .entry))) × (r ≤ 7) ⌝ }
+{
+    if crate::integers::byte_at(file, VERSION) == 2 {
+        return 7;
+    }
+    6
+}
+
+// Where the three lists begin, with their count bytes, and where the record count stands.
 pub struct Places {
+    pub list1: usize,
     pub list2: usize,
     pub list3: usize,
     pub count: usize,
@@ -50,10 +74,12 @@ fn after_list(file: &[u8], q: usize) -> usize
 pub fn places_of(file: &[u8]) -> Places
     ensures { λ r. ⌜ PlacesOf (now (file .entry)) r ⌝ }
 {
-    let list2 = after_list(file, LIST1);
+    let list1 = lengths_at(file) + 6;
+    let list2 = after_list(file, list1);
     let list3 = after_list(file, list2);
     let count = after_list(file, list3);
     Places {
+        list1,
         list2,
         list3,
         count,

@@ -7,7 +7,7 @@ use refusals::Refusal;
 ghost use mathlib.Core.Path.{_≡_};
 ghost use Rattle.refusals.specs.Refusals.{first};
 ghost use Rattle.refusals.specs.Checks.{checkedNumber};
-ghost use Rattle.file_format.specs.Format.{miscounted, fillingTests, shapeTests};
+ghost use Rattle.file_format.specs.Format.{miscounted, isVersion, fillingTests, shapeTests};
 ghost use Rattle.file_format.specs.Places.{PlacesOf};
 ghost use Rattle.file_format.specs.Parsed.{Bytes, ParsesBack};
 
@@ -20,6 +20,12 @@ fn is_miscounted(file: &[u8]) -> bool
         return true;
     }
     crate::integers::four_bytes(file, 0) as usize != length - 4
+}
+
+fn is_version(version: u8) -> bool
+    ensures { λ r. ⌜ r ≡ isVersion version ⌝ }
+{
+    version == 1 || version == 2
 }
 
 // The test behind the version: 15 where header, lists and records do not fill the file.
@@ -46,7 +52,7 @@ pub fn check_shape(file: &[u8], places: Places) -> Checked
     if is_miscounted(file) {
         return Checked::Failed(Refusal::FileShape);
     }
-    if file[crate::places::VERSION] != 1 {
+    if !is_version(file[crate::places::VERSION]) {
         return Checked::Failed(Refusal::FileVersion);
     }
     check_filling(file, places)

@@ -6,7 +6,7 @@ use Prim.Native.Nat.{ℕ, _<_, _≤_}
 use native.Mathlib.Omega.{arith}
 use lib.ListN.{length}
 use lib.Dec.{eqb, ltb}
-use borrow.Author.Tests.{lt-ltb, le-ltb, eqb-true, ltb-false}
+use borrow.Author.Tests.{lt-ltb, le-ltb, ltb-false}
 use Rattle.refusals.specs.declared.Refusal.{Refusal}
 use Rattle.refusals.specs.Refusals.{numberOf, Test, _⇒_, first, accepted}
 use Rattle.lengths.specs.Lengths.{scratchLength}
@@ -15,7 +15,7 @@ use Rattle.cell.specs.Volume.{volumeLength}
 use Rattle.job.specs.declared.Job.{Job}
 use Rattle.job.specs.Job.{jobCell, headerOf, axisTests, validJob, mapHeld, groupIn, halves, fits, factorsTests}
 use Rattle.job.specs.TestSteps.{synthesisTests}
-use Rattle.header.proofs.Headers.{all-three}
+use Rattle.job.proofs.Jobs.{valid-parts}
 use Rattle.output.specs.Written.{Wrote}
 use Rattle.output.proofs.Writing.{wrote-whole}
 use Rattle.output.specs.declared.FillAnswer.{FillAnswer}
@@ -65,7 +65,7 @@ nonzero r e = false≢true (sym (fails r (numberOf r) false (λ n. true) refl �
 module _ (j : Job) (v output : List ℕ) where
   -- 25, 23, 6, 7, 14: the job holds factors, and the volume is those of a cell
   abbrev pub held : List Test
-  held = not (validJob j) ⇒ 25 ∷ eqb (j .state) mapHeld ⇒ 23 ∷ not (fits j v) ⇒ 6 ∷ factorsTests (j .group) (headerOf j .lengths) v
+  held = not (validJob j) ⇒ 25 ∷ eqb (j .state) mapHeld ⇒ 23 ∷ not (fits j v) ⇒ 6 ∷ factorsTests (j .modulus) (j .group) (headerOf j .lengths) v
 
   -- they are those of a synthesis with a scratch that is long enough
   pub held-first : first (synthesisTests j v scratchLength) ≡ first held
@@ -80,15 +80,13 @@ module _ (j : Job) (v output : List ℕ) where
   write-refused r e = fails r (first (writeTests j v output)) _ (notFilled output) (failed-first held rest (numberOf r) (nonzero r) e)
 
   pub write-filed : (r : FillAnswer) (after : List ℕ) → Passed held →
-      fillOutcome r after ≡ filed (fileWith (jobCell j) (j .a .factors) (j .b .factors) (j .c .factors) v) output →
+      fillOutcome r after ≡ filed (fileWith (j .modulus) (jobCell j) (j .a .factors) (j .b .factors) (j .c .factors) v) output →
       fillOutcome r after ≡ writeStep j v output
   unfolding writeStep rest jobFile jobRecords
   write-filed r after p e = e ∙ ap (told (jobFile j v) output) (sym (passed-on held rest p))
 
 -- the volume of a valid job is one that an opening admits
 pub valid-volume : (j : Job) → validJob j ≡ true → volumeLength (groupIn j) (halves j) ≤ 16777216
-unfolding validJob
 valid-volume j e =
-    let t = all-three (ltb (j .group) 5) (eqb (first (axisTests (headerOf j))) 0) (ltb (j .state) 3) e in
-    let p = passed (axisTests (headerOf j)) tt (sym (eqb-true _ _ (t .1))) in
+    let p = passed (axisTests (headerOf j)) tt (valid-parts j e .1) in
     ltb-false 16777216 (volumeLength (groupIn j) (halves j)) (p .1 .1 .1 .0)

@@ -30,13 +30,20 @@ fn put_record(j: Index, x: Pair, out: &mut [u8], at: usize) -> usize
 }
 
 // The record of the place j, where it has one.
-fn put_place(cell: UnitCell, j: Index, volume: &[u32], out: &mut [u8], at: usize) -> usize
-    requires { ⌜ IsFactors cell (now volume) × Within cell j ⌝ }
-    requires { ⌜ Ends at (allBytes (placeRecords cell (now volume) (tripleOf j))) ⌝ }
-    ensures { λ r. ⌜ Wrote at (allBytes (placeRecords cell (now (volume .entry)) (tripleOf j))) (now (out .entry)) r (now (out .exit)) ⌝ }
+fn put_place(
+    modulus: u32,
+    cell: UnitCell,
+    j: Index,
+    volume: &[u32],
+    out: &mut [u8],
+    at: usize,
+) -> usize
+    requires { ⌜ IsFactors modulus cell (now volume) × Within cell j ⌝ }
+    requires { ⌜ Ends at (allBytes (placeRecords cell modulus (now volume) (tripleOf j))) ⌝ }
+    ensures { λ r. ⌜ Wrote at (allBytes (placeRecords cell modulus (now (volume .entry)) (tripleOf j))) (now (out .entry)) r (now (out .exit)) ⌝ }
 {
     if crate::orbits::lowest(cell, j) {
-        let x = volume::read::walked_factor(1, cell, j, volume);
+        let x = volume::read::walked_factor(modulus, cell, j, volume);
         if volume::stored::is_zero(x) {
             at
         } else {
@@ -75,25 +82,31 @@ fn next_place(cell: UnitCell, j: Index) -> Index
     }
 }
 
-pub fn put_records(cell: UnitCell, volume: &[u32], out: &mut [u8], start: usize) -> usize
-    requires { ⌜ IsFactors cell (now volume) ⌝ }
-    requires { ⌜ Ends start (allBytes (recordsWith cell (now volume))) ⌝ }
-    ensures { λ r. ⌜ Wrote start (allBytes (recordsWith cell (now (volume .entry)))) (now (out .entry)) r (now (out .exit)) ⌝ }
+pub fn put_records(
+    modulus: u32,
+    cell: UnitCell,
+    volume: &[u32],
+    out: &mut [u8],
+    start: usize,
+) -> usize
+    requires { ⌜ IsFactors modulus cell (now volume) ⌝ }
+    requires { ⌜ Ends start (allBytes (recordsWith cell modulus (now volume))) ⌝ }
+    ensures { λ r. ⌜ Wrote start (allBytes (recordsWith cell modulus (now (volume .entry)))) (now (out .entry)) r (now (out .exit)) ⌝ }
 {
     let mut at = start;
     let mut j = Index { h: 0, k: 0, l: 0 };
     while j.h <= cell.n1 / 2 {
-        at = put_place(cell, j, volume, out, at);
+        at = put_place(modulus, cell, j, volume, out, at);
         j = next_place(cell, j);
     }
     at
 }
 
 // How many there are: an output of one byte has no room for them, and their bytes are counted all the same.
-pub fn count_records(cell: UnitCell, volume: &[u32]) -> usize
-    requires { ⌜ IsFactors cell (now volume) ⌝ }
-    ensures { λ r. ⌜ r ≡ length (recordsWith cell (now (volume .entry))) ⌝ }
+pub fn count_records(modulus: u32, cell: UnitCell, volume: &[u32]) -> usize
+    requires { ⌜ IsFactors modulus cell (now volume) ⌝ }
+    ensures { λ r. ⌜ r ≡ length (recordsWith cell modulus (now (volume .entry))) ⌝ }
 {
     let mut small: [u8; 1] = [0];
-    put_records(cell, volume, &mut small, 0) / 14
+    put_records(modulus, cell, volume, &mut small, 0) / 14
 }

@@ -1,13 +1,16 @@
 -- The first n bytes of a file settle where its parts stand, and what its lists are, as far as they stand below n.
 use mathlib.Core.Path.{_≡_, sym, ap, _∙_}
+use mathlib.Core.Bool.{cond}
 use mathlib.Core.List.{List, [], _∷_}
 use Prim.Native.Nat.{ℕ, zero, suc, _+_, _<_, _≤_}
 use native.Mathlib.Nat.{zero-add, suc-add}
 use native.Mathlib.Omega.{arith}
+use lib.Dec.{eqb}
 use lib.ListN.{take, drop}
 use lib.Seq.{take-nil, drop-nil, take-take}
-use Rattle.file_format.specs.Format.{byteAt, listAt, afterList, list1At, list2At, list3At, countAt}
+use Rattle.file_format.specs.Format.{byteAt, versionAt, modulusAt, modulusIn, lengthsAt, listAt, afterList, list1At, list2At, list3At, countAt}
 use Rattle.file_format.proofs.integers.Numbers.{same-byte}
+use Rattle.file_format.proofs.places.Versions.{lengths-low}
 
 -- ---- a part of a list, as a part of its first n
 
@@ -25,9 +28,23 @@ module _ (file file′ : List ℕ) (n : ℕ) (same : take n file ≡ take n file
   same-after : (q : ℕ) → q < n → afterList file q ≡ afterList file′ q
   same-after q h = ap (λ (b : ℕ). q + 1 + b) (same-byte file file′ n same q h)
 
-  pub same-list2 : list1At < n → list2At file ≡ list2At file′
+  pub same-lengths-at : versionAt < n → lengthsAt file ≡ lengthsAt file′
+  unfolding lengthsAt
+  same-lengths-at h = ap (λ (v : ℕ). cond (eqb v 2) 7 6) (same-byte file file′ n same versionAt h)
+
+  pub same-modulus : modulusAt < n → modulusIn file ≡ modulusIn file′
+  unfolding modulusIn
+  same-modulus h =
+      let version = same-byte file file′ n same versionAt (omega arith) in
+      let modulus = same-byte file file′ n same modulusAt h in
+      λ i. cond (eqb (version i) 2) (modulus i) 1
+
+  pub same-list1 : versionAt < n → list1At file ≡ list1At file′
+  same-list1 h = ap (λ (q : ℕ). q + 6) (same-lengths-at h)
+
+  pub same-list2 : list1At file < n → list2At file ≡ list2At file′
   unfolding list2At
-  same-list2 h = same-after list1At h
+  same-list2 h = same-after (list1At file) h ∙ ap (afterList file′) (same-list1 (omega (arith, lengths-low file)))
 
   pub same-list3 : list2At file < n → list3At file ≡ list3At file′
   unfolding list2At list3At

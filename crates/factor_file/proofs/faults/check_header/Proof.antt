@@ -1,30 +1,44 @@
 -- The numbers of the header and the parts that are its lists are those of the file.
 use borrow.Author.Needs.{needs}
-use borrow.Author.Tests.{le-leb, lt-leb}
-use mathlib.Core.Path.{refl, _∙_, ap, subst}
-use Prim.Native.Nat.{ℕ, _+_, _<_, _≤_}
+use borrow.Author.Tests.{le-leb, lt-leb, not-true, not-false}
+use mathlib.Core.Path.{_≡_, sym, _∙_, ap, subst}
+use mathlib.Core.Bool.{false}
+use Prim.Native.Nat.{_<_, _≤_}
 use native.Mathlib.Omega.{arith}
+use lib.Dec.{leb}
 use denote.Ref.{now}
 use Rattle.refusals.specs.Refusals.{first}
-use Rattle.refusals.proofs.Tests.{stop, pass}
+use Rattle.refusals.proofs.Tests.{stop, pass, not-t, not-f}
+use Rattle.numbers.specs.Value.{isModulus}
 use Rattle.header.specs.Header.{axisTests}
-use Rattle.file_format.specs.Format.{list2At, list3At, countAt}
-use Rattle.file_format.proofs.shape.Shapes.{Ordered, ordered, part-is-list}
+use Rattle.file_format.specs.Format.{modulusIn, headerIn}
+use Rattle.file_format.proofs.shape.Shapes.{Ordered, ordered, header-parts}
 use Rattle.factor_file.proofs.faults.check_header.Statement.{statement}
 use Rattle.factor_file.proofs.faults.check_header.Tie as tie
-use Rattle.factor_file.proofs.faults.check_header.Reads as reads
-use Rattle.factor_file.proofs.faults.check_header.Lts as lts
-use Rattle.file_format.proofs.places.header_cell.Reads as header-cell-reads
-use Rattle.header.proofs.bytes.check_header.Reads as check-header-reads
 
-standing : (c : tie.Else1) → Ordered (now (c .before .before .before .before .args .file)) (c .before .before .before .before .args .places)
-standing c = let s = c .before .before .before .before in ordered (now (s .args .file)) (s .args .places) (s .pre .0) (s .pre .1)
+standing : (c : tie.After-struct-known2) → Ordered (now (c .before .before .before .before .before .before .before .before .args .file)) (c .before .before .before .before .before .before .before .before .args .places)
+standing c = let s = c .before .before .before .before .before .before .before .before in ordered (now (s .args .file)) (s .args .places) (s .pre .0) (s .pre .1)
 
-header-cell-requires : tie.Need-header-cell-requires
-header-cell-requires c κs = search needs
+header-numbers-requires : tie.Need-header-numbers-requires
+header-numbers-requires c κs = search needs
 
 returns : tie.Need-returns
-returns c = stop _ (le-leb _ _ (subst (λ g. 5 ≤ g) (c .before .before .header-cell .ensures .group) (c .if1 .taken)))
+returns c = stop _ (le-leb _ _ (subst (λ g. 5 ≤ g) (c .before .before .before .header-numbers .ensures .group) (c .if1 .taken)))
+
+is-modulus-requires : tie.Need-is-modulus-requires
+is-modulus-requires c κs = search needs
+
+-- the group is known, and what was found of the modulus
+known : (c : tie.After-is-modulus) → let file = now (c .before .before .before .before .before .before .args .file) in (leb 5 (headerIn file .group) ≡ false) × (isModulus (modulusIn file) ≡ c .is-modulus .result)
+known c =
+    let n = c .before .before .before .before .header-numbers .ensures in
+    (lt-leb _ _ (subst (λ g. g < 5) (n .group) (c .before .if1 .left)), sym (c .is-modulus .ensures ∙ ap isModulus (n .modulus)))
+
+returns-2 : tie.Need-returns-2
+returns-2 c = let k = known (c .before) in pass 8 _ (k .0) (stop _ (not-f _ (k .1 ∙ not-true _ (c .if2 .taken))))
+
+add-start1 : tie.Need-add-start1
+add-start1 c = let o = standing c in omega arith
 
 add-start2 : tie.Need-add-start2
 add-start2 c = let o = standing c in omega arith
@@ -62,27 +76,23 @@ part-check-header-end-3 c = let o = standing (c .before .before) in omega arith
 check-header-requires : tie.Need-check-header-requires
 check-header-requires c κs = search needs
 
-returns-2 : tie.Need-returns-2
-unfolding list2At list3At countAt
-returns-2 c =
-    let t = c .before .before .before .before in
-    let n = t .before .before .header-cell .ensures in
-    let start = t .before .before .before .before in
-    let file = now (start .args .file) in
-    let second = start .pre .0 .second in
-    let third = start .pre .0 .third in
-    let list1 = part-is-list file 12 13 _ refl second in
-    let list2 = part-is-list file (list2At file) _ _ (ap (λ (n : ℕ). n + 1) second) third in
-    let list3 = part-is-list file (list3At file) _ _ (ap (λ (n : ℕ). n + 1) third) (start .pre .0 .count) in
-    pass 8 _ (lt-leb _ _ (subst (λ g. g < 5) (n .group) (t .if1 .left)))
-    (c .check-header .ensures ∙ λ i. first (axisTests (record { group = n .group i; lengths = (n .first i, n .second i, n .third i); list1 = list1 i; list2 = list2 i; list3 = list3 i })))
+returns-3 : tie.Need-returns-3
+returns-3 c =
+    let t = c .before .before .before .before .before in
+    let k = known (t .before) in
+    let p = t .before .before .before .before .before in
+    let start = p .before .before in
+    pass 8 _ (k .0) (pass 26 _ (not-t _ (k .1 ∙ not-false _ (t .if2 .left))) (c .check-header .ensures ∙ ap (λ h. first (axisTests h)) (header-parts (now (start .args .file)) (start .pre .0) (p .header-numbers .ensures))))
 
 pub check-header-spec : {M : Type 1} → statement M
 check-header-spec =
     tie.close
     (tie.spec
-    header-cell-requires
+    header-numbers-requires
     returns
+    is-modulus-requires
+    returns-2
+    add-start1
     add-start2
     add-start3
     sub-check-header
@@ -95,4 +105,4 @@ check-header-spec =
     part-check-header-start-3
     part-check-header-end-3
     check-header-requires
-    returns-2)
+    returns-3)

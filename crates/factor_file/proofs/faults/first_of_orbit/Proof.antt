@@ -6,7 +6,7 @@ use lib.ListN.{length}
 use denote.Ref.{now}
 use borrow.Author.Count.{below-more}
 use Rattle.factor_file.specs.FaultSteps.{placeAt}
-use Rattle.factor_file.proofs.FaultWalks.{own-here, place-here, inside-here}
+use Rattle.factor_file.proofs.FaultWalks.{within-here, place-here, inside-here}
 use Rattle.factor_file.proofs.faults.first_of_orbit.Statement.{statement}
 use Rattle.factor_file.proofs.faults.first_of_orbit.Tie as tie
 
@@ -23,7 +23,7 @@ add-place-at : tie.Need-add-place-at Inv-loop μ-loop
 add-place-at c = let w = c .before .pre in let a = c .before .args in omega (arith, inside-here (w .0) (a .last) (omega (arith, w .1 .some)), w .0 .filled)
 
 place-at-requires : tie.Need-place-at-requires Inv-loop μ-loop
-place-at-requires c κs = let w = c .before .pre in let a = c .before .args in (w .0 .sizes, omega (arith, inside-here (w .0) (a .last) (omega (arith, w .1 .some)), w .0 .filled), w .1 .each (a .last) (omega arith) ∙ sym (own-here (w .0) (a .last)))
+place-at-requires c κs = let w = c .before .pre in let a = c .before .args in (w .0 .sizes, omega (arith, inside-here (w .0) (a .last) (omega (arith, w .1 .some)), w .0 .filled), within-here (w .0) (a .last) ∙ w .1 .each (a .last) (omega arith))
 
 -- the two places of orbits that are compared
 there : (c : tie.After-place-at Inv-loop μ-loop) → let a = c .before .before .args in c .place-at .result ≡ placeAt (a .cell) (now (a .file)) (a .last)
@@ -45,7 +45,7 @@ add-place-at-2 : tie.Need-add-place-at-2 Inv-loop μ-loop
 add-place-at-2 c = let l = c .before in let w = l .before .before .before .pre in omega (arith, inside-here (w .0) (l .loop .i) (omega (arith, w .1 .some)), w .0 .filled)
 
 place-at-requires-2 : tie.Need-place-at-requires-2 Inv-loop μ-loop
-place-at-requires-2 c κs = let l = c .before in let w = l .before .before .before .pre in (w .0 .sizes, omega (arith, inside-here (w .0) (l .loop .i) (omega (arith, w .1 .some)), w .0 .filled), w .1 .each (l .loop .i) (omega arith) ∙ sym (own-here (w .0) (l .loop .i)))
+place-at-requires-2 c κs = let l = c .before in let w = l .before .before .before .pre in (w .0 .sizes, omega (arith, inside-here (w .0) (l .loop .i) (omega (arith, w .1 .some)), w .0 .filled), within-here (w .0) (l .loop .i) ∙ w .1 .each (l .loop .i) (omega arith))
 
 returns : tie.Need-returns Inv-loop μ-loop
 returns c = record { some = c .before .before .before .loop .inv .0; same = sym (here (c .before)) ∙ c .if1 .taken ∙ there (c .before .before .before .before); before = c .before .before .before .loop .inv .1 }

@@ -2,7 +2,7 @@
 use Prim.Native.Nat.{_-_}
 use native.Mathlib.Omega.{arith}
 use Rattle.factor_file.specs.FaultSteps.{Apart, Stops}
-use Rattle.factor_file.proofs.FaultWalks.{sound-fewer, apart-start, apart-next, apart-lower, stops-next}
+use Rattle.factor_file.proofs.FaultWalks.{within-fewer, apart-start, apart-next, apart-lower, stops-next}
 use Rattle.factor_file.proofs.faults.first_repeated.Statement.{statement}
 use Rattle.factor_file.proofs.faults.first_repeated.Tie as tie
 
@@ -22,7 +22,7 @@ repeated-in-range-requires : tie.Need-repeated-in-range-requires Inv-loop μ-loo
 repeated-in-range-requires c κs =
     let l = c .before in
     let s = l .before .before .before in
-    (s .pre .0, sound-fewer _ _ (s .pre .1) (l .loop .inv .1 .some), omega (arith, l .before .volume-length .ensures, s .pre .2))
+    (s .pre .0, within-fewer (s .pre .1) (l .loop .inv .1 .some), omega (arith, l .before .volume-length .ensures, s .pre .2))
 
 add-low : tie.Need-add-low Inv-loop μ-loop
 add-low c = let v = c .before .before .before in omega (arith, v .volume-length .ensures, v .before .before .pre .2)

@@ -1,10 +1,12 @@
 -- The record is within the cell, so its orbit has a place.
 use borrow.Author.Needs.{needs}
 use mathlib.Core.Path.{_∙_, ap}
+use denote.Ref.{now}
 use Rattle.cell.specs.Operations.{cellGroup, cellHalves}
 use Rattle.cell.specs.OrbitPlace.{orbitPlace}
+use Rattle.file_format.specs.Format.{recordAt}
 use Rattle.factor_file.specs.FaultSteps.{placeOf}
-use Rattle.factor_file.proofs.FaultLaws.{own-within}
+use Rattle.factor_file.proofs.FaultLaws.{record-within}
 use Rattle.factor_file.proofs.faults.place_at.Statement.{statement}
 use Rattle.factor_file.proofs.faults.place_at.Tie as tie
 use Rattle.factor_file.proofs.faults.place_at.Reads as reads
@@ -16,7 +18,7 @@ index-at-requires : tie.Need-index-at-requires
 index-at-requires c κs = search needs
 
 orbit-place-requires : tie.Need-orbit-place-requires
-orbit-place-requires c κs = let s = c .before .before in (s .pre .0, own-within (s .args .cell) _ (c .index-at .result) (c .index-at .ensures) (s .pre .2))
+orbit-place-requires c κs = let s = c .before .before in (s .pre .0, record-within (s .args .cell) (recordAt (now (s .args .file)) (s .args .at)) (c .index-at .result) (c .index-at .ensures) (s .pre .2))
 
 returns : tie.Need-returns
 unfolding placeOf

@@ -20,14 +20,14 @@ use Rattle.file_format.proofs.integers.four_bytes.Reads as four-bytes-reads
 use Rattle.job.proofs.check.record.check_own.Reads as check-own-reads
 
 -- the number of the check
-own : (c : tie.After-check-own) → let a = c .before .before .before .before .before .args in checkedNumber (c .check-own .result) ≡ ownNumber (a .cell) (recordAt (now (a .file)) (a .at))
+own : (c : tie.After-check-own) → let a = c .before .before .before .before .before .args in checkedNumber (c .check-own .result) ≡ ownNumber (a .modulus) (a .cell) (recordAt (now (a .file)) (a .at))
 unfolding ownNumber recordAt
 own c =
-    let cell = c .before .before .before .before .before .args .cell in
+    let a = c .before .before .before .before .before .args in
     let index = c .before .before .before .index-at .ensures in
     let re = c .before .before .four-bytes .ensures in
     let im = c .before .four-bytes2 .ensures in
-    c .check-own .ensures ∙ λ i. first (ownTests (cell .group) (cellLengths cell) (index i) (re i) (im i))
+    c .check-own .ensures ∙ λ i. first (ownTests (a .modulus) (a .cell .group) (cellLengths (a .cell)) (index i) (re i) (im i))
 
 index-at-requires : tie.Need-index-at-requires
 index-at-requires c κs = search needs

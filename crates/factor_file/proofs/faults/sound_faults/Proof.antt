@@ -5,10 +5,11 @@ use native.Mathlib.Omega.{arith}
 use denote.Ref.{now}
 use Rattle.refusals.specs.Refusals.{first}
 use Rattle.refusals.specs.Checks.{checkedNumber}
+use Rattle.numbers.specs.Value.{IsModulus}
 use Rattle.cell.specs.declared.operations.UnitCell.{UnitCell}
 use Rattle.cell.specs.Volume.{volumeLength}
 use Rattle.cell.specs.Operations.{cellGroup, cellHalves, Sizes}
-use Rattle.file_format.specs.Format.{fourBytes, headerIn}
+use Rattle.file_format.specs.Format.{fourBytes, modulusIn, headerIn}
 use Rattle.file_format.proofs.shape.Shapes.{ordered, filled-by}
 use Rattle.factor_file.specs.Faults.{headerTests}
 use Rattle.factor_file.proofs.FaultLaws.{header-sound, cell-of, header-faults, records-fault}
@@ -17,7 +18,7 @@ use Rattle.factor_file.proofs.faults.sound_faults.Statement.{statement}
 use Rattle.factor_file.proofs.faults.sound_faults.Tie as tie
 
 -- no test of the header holds
-passes : (c : tie.After-enum-told2) → 0 ≡ first (headerTests (headerIn (now (c .before .before .before .before .args .file))))
+passes : (c : tie.After-enum-told2) → 0 ≡ (let file = now (c .before .before .before .before .args .file) in first (headerTests (modulusIn file) (headerIn file)))
 passes c = ap checkedNumber (sym (c .enum-told2 .given .1)) ∙ c .before .before .check-header .ensures
 
 check-header-requires : tie.Need-check-header-requires
@@ -37,8 +38,8 @@ enum-told-2 c = search needs
 first-record-requires : tie.Need-first-record-requires
 first-record-requires c κs = search needs
 
-header-cell-requires : tie.Need-header-cell-requires
-header-cell-requires c κs = search needs
+header-numbers-requires : tie.Need-header-numbers-requires
+header-numbers-requires c κs = search needs
 
 four-bytes-requires : tie.Need-four-bytes-requires
 four-bytes-requires c κs = let s = c .before .before .before .before .before .before in ordered (now (s .args .file)) (s .args .places) (s .pre .0) (s .pre .1) .inside
@@ -49,7 +50,10 @@ record-faults-requires c κs =
     let t = n .before .before in
     let s = t .before .before .before .before in
     let file = now (s .args .file) in
-    let sound = subst (λ (c : UnitCell). Sizes c × (volumeLength (cellGroup c) (cellHalves c) ≤ 16777216)) (cell-of (n .header-cell .ensures)) (header-sound (headerIn file) (passes t)) in (
+    let h = n .header-numbers .ensures in
+    let head = header-sound (modulusIn file) (headerIn file) (passes t) in
+    let sound = subst (λ (c : UnitCell). Sizes c × (volumeLength (cellGroup c) (cellHalves c) ≤ 16777216)) (cell-of h) (head .sizes, head .near) in (
+      subst IsModulus (sym (h .modulus)) (head .modulus),
       record { sizes = sound .0; begins = n .before .first-record .ensures ∙ ap (λ q. q + 4) (s .pre .0 .count); filled = filled-by file (s .pre .1) },
       c .four-bytes .ensures ∙ ap (fourBytes file) (s .pre .0 .count),
       sound .1,
@@ -60,7 +64,7 @@ returns-2 c =
     let n = c .before .before in
     let t = n .before .before in
     let s = t .before .before .before .before in
-    records-fault (now (s .args .file)) (s .pre .1) (passes t) (n .header-cell .ensures) (c .record-faults .ensures)
+    records-fault (now (s .args .file)) (s .pre .1) (passes t) (n .header-numbers .ensures) (c .record-faults .ensures)
 
 pub sound-faults-spec : {M : Type 1} → statement M
 sound-faults-spec =
@@ -71,7 +75,7 @@ sound-faults-spec =
     returns
     enum-told-2
     first-record-requires
-    header-cell-requires
+    header-numbers-requires
     four-bytes-requires
     record-faults-requires
     returns-2)

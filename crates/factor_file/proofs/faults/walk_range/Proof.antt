@@ -5,7 +5,7 @@ use native.Mathlib.Omega.{arith}
 use lib.ListN.{length}
 use denote.Ref.{now}
 use lib.ListN.{replicate, length-replicate}
-use Rattle.factor_file.proofs.FaultWalks.{own-here, place-here, inside-here, Marking, marking-start, marking-hit, marking-next}
+use Rattle.factor_file.proofs.FaultWalks.{within-here, place-here, inside-here, Marking, marking-start, marking-hit, marking-next}
 use Rattle.factor_file.proofs.faults.walk_range.Statement.{statement}
 use Rattle.factor_file.proofs.faults.walk_range.Tie as tie
 
@@ -28,7 +28,7 @@ add-place-at : tie.Need-add-place-at Inv-loop μ-loop
 add-place-at c = let l = c .before in let w = l .before .before .before .pre in omega (arith, inside-here (w .0) (l .loop .i) (omega (arith, w .1 .some)), w .0 .filled)
 
 place-at-requires : tie.Need-place-at-requires Inv-loop μ-loop
-place-at-requires c κs = let l = c .before in let w = l .before .before .before .pre in (w .0 .sizes, omega (arith, inside-here (w .0) (l .loop .i) (omega (arith, w .1 .some)), w .0 .filled), w .1 .each (l .loop .i) (omega arith) ∙ sym (own-here (w .0) (l .loop .i)))
+place-at-requires c κs = let l = c .before in let w = l .before .before .before .pre in (w .0 .sizes, omega (arith, inside-here (w .0) (l .loop .i) (omega (arith, w .1 .some)), w .0 .filled), within-here (w .0) (l .loop .i) ∙ w .1 .each (l .loop .i) (omega arith))
 
 note-requires : tie.Need-note-requires Inv-loop μ-loop
 note-requires c κs =

@@ -1,20 +1,20 @@
 -- The numbers of the header and the parts that are its lists are those of the file.
 use borrow.Author.Needs.{needs}
-use mathlib.Core.Path.{refl, ap}
-use Prim.Native.Nat.{ℕ, _+_}
 use native.Mathlib.Omega.{arith}
 use denote.Ref.{now}
-use Rattle.factor_file.specs.File.{list2At, list3At, countAt}
-use Rattle.file_format.proofs.shape.Shapes.{Ordered, ordered, part-is-list}
+use Rattle.file_format.proofs.shape.Shapes.{Ordered, ordered, header-parts}
 use Rattle.factor_file.proofs.Openings.{opened-by}
 use Rattle.factor_file.proofs.open_file.open_header.Statement.{statement}
 use Rattle.factor_file.proofs.open_file.open_header.Tie as tie
 
-standing : (c : tie.After-header-cell) → Ordered (now (c .before .before .before .args .file)) (c .before .before .before .args .places)
-standing c = let s = c .before .before .before in ordered (now (s .args .file)) (s .args .places) (s .pre .0) (s .pre .1)
+standing : (c : tie.After-struct-known) → Ordered (now (c .before .before .before .before .before .args .file)) (c .before .before .before .before .before .args .places)
+standing c = let s = c .before .before .before .before .before in ordered (now (s .args .file)) (s .args .places) (s .pre .0) (s .pre .1)
 
-header-cell-requires : tie.Need-header-cell-requires
-header-cell-requires c κs = search needs
+header-numbers-requires : tie.Need-header-numbers-requires
+header-numbers-requires c κs = search needs
+
+add-start1 : tie.Need-add-start1
+add-start1 c = let o = standing c in omega arith
 
 add-start2 : tie.Need-add-start2
 add-start2 c = let o = standing c in omega arith
@@ -56,25 +56,20 @@ same-length : tie.Need-same-length
 same-length c = search needs
 
 returns : tie.Need-returns
-unfolding list2At list3At countAt
 returns c =
     let o = c .before .before in
-    let p = o .before .before .before .before .before in
-    let n = p .header-cell .ensures in
+    let p = o .before .before .before .before .before .before .before in
+    let n = p .header-numbers .ensures in
     let start = p .before .before .before in
     let file = now (start .args .file) in
-    let second = start .pre .0 .second in
-    let third = start .pre .0 .third in
-    let list1 = part-is-list file 12 13 _ refl second in
-    let list2 = part-is-list file (list2At file) _ _ (ap (λ (n : ℕ). n + 1) second) third in
-    let list3 = part-is-list file (list3At file) _ _ (ap (λ (n : ℕ). n + 1) third) (start .pre .0 .count) in
-    opened-by file (now (start .args .volume)) (o .«open» .ensures) (λ i. record { group = n .group i; lengths = (n .first i, n .second i, n .third i); list1 = list1 i; list2 = list2 i; list3 = list3 i })
+    opened-by file (now (start .args .volume)) (o .«open» .ensures) (n .modulus) (header-parts file (start .pre .0) n)
 
 pub open-header-spec : {M : Type 1} → statement M
 open-header-spec =
     tie.close
     (tie.spec
-    header-cell-requires
+    header-numbers-requires
+    add-start1
     add-start2
     add-start3
     sub-open

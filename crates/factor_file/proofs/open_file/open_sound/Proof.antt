@@ -3,7 +3,7 @@ use mathlib.Core.Path.{_∙_, sym, ap}
 use Rattle.job.specs.declared.OpenAnswer.{OpenAnswer}
 use Rattle.job.specs.Answers.{openOutcome}
 use denote.Ref.{now}
-use Rattle.factor_file.specs.File.{headerIn}
+use Rattle.factor_file.specs.File.{modulusIn, headerIn}
 use Rattle.factor_file.proofs.Openings.{header-refused, records-decide, opened-empty}
 use borrow.Author.Needs.{needs}
 use Rattle.factor_file.proofs.open_file.open_sound.Statement.{statement}
@@ -34,7 +34,9 @@ feed-records-requires c κs =
     let h = w .before .before .before .before in
     let s = h .before .before .before .before in
     let v = h .open-header .last .1 .1 .0 in
-    (s .pre .0, s .pre .1, opened-empty (headerIn (now (s .args .file))) (now (s .args .volume)) v (w .answer2 .given .0 .0) (ap (λ (x : OpenAnswer). openOutcome x v) (sym (w .answer2 .given .1)) ∙ h .open-header .ensures))
+    let file = now (s .args .file) in
+    let e = opened-empty (modulusIn file) (headerIn file) (now (s .args .volume)) v (w .answer2 .given .0 .0) (ap (λ (x : OpenAnswer). openOutcome x v) (sym (w .answer2 .given .1)) ∙ h .open-header .ensures) in
+    (s .pre .0, s .pre .1, e .0, e .1)
 
 same-length-2 : tie.Need-same-length-2
 same-length-2 c = search needs

@@ -19,10 +19,10 @@ use Rattle.factor_file.proofs.records.feed_records.Tie as tie
 
 -- what the first walk says of the job's cell
 says : (c : tie.After-judge-records) → let s = c .before .before .before .before .before .before in let j = jobCell (s .args .job) in
-    saidVerdict (c .judge-records .result) ≡ judged (j .group) (cellLengths j) [] (recordsIn (now (s .args .file)))
+    saidVerdict (c .judge-records .result) ≡ judged (s .args .job .modulus) (j .group) (cellLengths j) [] (recordsIn (now (s .args .file)))
 says c =
     let s = c .before .before .before .before .before .before in
-    c .judge-records .ensures ∙ ap (λ (k : UnitCell). judged (k .group) (cellLengths k) [] (recordsIn (now (s .args .file)))) (c .before .before .before .unit-cell .ensures)
+    c .judge-records .ensures ∙ ap (λ (k : UnitCell). judged (s .args .job .modulus) (k .group) (cellLengths k) [] (recordsIn (now (s .args .file)))) (c .before .before .before .unit-cell .ensures)
 
 same-volume : {k l : UnitCell} {v w : List ℕ} → k ≡ l → v ≡ w → IsVolume l w → IsVolume k v
 same-volume {k} {l} {v} e f x = subst (λ (k : UnitCell). IsVolume k v) (sym e) (subst (IsVolume l) (sym f) x)
@@ -37,7 +37,7 @@ judge-records-requires : tie.Need-judge-records-requires
 judge-records-requires c κs =
     let f = c .before in
     let s = f .before .before .before .before in
-    (f .first-record .ensures ∙ ap (λ (n : ℕ). n + 4) (s .pre .0 .count), s .pre .1, subst (λ (k : UnitCell). IsEmpty k (now (s .args .volume))) (sym (f .before .unit-cell .ensures)) (s .pre .2))
+    (f .first-record .ensures ∙ ap (λ (n : ℕ). n + 4) (s .pre .0 .count), s .pre .1, subst (λ (k : UnitCell). IsEmpty k (now (s .args .volume))) (sym (f .before .unit-cell .ensures)) (s .pre .2), s .pre .3)
 
 zero-requires : tie.Need-zero-requires
 zero-requires c κs = search needs
@@ -54,7 +54,7 @@ returns c =
     let z = v .before .before .before .before in
     let r = z .before .before .before .before in
     let s = r .before .before .before .before .before .before in
-    feed-refused (recordsIn (now (s .args .file))) (s .args .job) (now (s .args .volume)) (s .pre .2 .zeros) (z .zero .ensures ∙ ap (λ (n : ℕ). replicate n 0) (r .judge-records .kept .1 .1 .1 .0) ∙ sym (s .pre .2 .zeros)) (v .verdict .given .0 .0) (v .verdict .given .0 .1 .0) (ap saidVerdict (sym (v .verdict .given .1)) ∙ says r)
+    feed-refused (recordsIn (now (s .args .file))) (s .args .job) (now (s .args .volume)) (s .pre .2 .zeros) (z .zero .ensures ∙ ap (λ (n : ℕ). replicate n 0) (r .judge-records .kept .1 .1 .1 .1 .0) ∙ sym (s .pre .2 .zeros)) (v .verdict .given .0 .0) (v .verdict .given .0 .1 .0) (ap saidVerdict (sym (v .verdict .given .1)) ∙ says r)
 
 enum-told : tie.Need-enum-told
 enum-told c = search needs
@@ -67,8 +67,8 @@ record-all-requires c κs =
     let f = r .before .before in
     let u = f .before in
     let s = u .before .before .before in
-    let w = z .zero .ensures ∙ ap (λ (n : ℕ). replicate n 0) (r .judge-records .kept .1 .1 .1 .0) ∙ sym (s .pre .2 .zeros) in
-    ((f .first-record .ensures ∙ ap (λ (n : ℕ). n + 4) (s .pre .0 .count), s .pre .1, same-volume (u .unit-cell .ensures) w (s .pre .2 .volume)), sym (ap saidVerdict (sym (t .enum-told .given .1)) ∙ r .judge-records .ensures))
+    let w = z .zero .ensures ∙ ap (λ (n : ℕ). replicate n 0) (r .judge-records .kept .1 .1 .1 .1 .0) ∙ sym (s .pre .2 .zeros) in
+    ((f .first-record .ensures ∙ ap (λ (n : ℕ). n + 4) (s .pre .0 .count), s .pre .1, same-volume (u .unit-cell .ensures) w (s .pre .2 .volume), s .pre .3), sym (ap saidVerdict (sym (t .enum-told .given .1)) ∙ r .judge-records .ensures))
 
 same-length-2 : tie.Need-same-length-2
 same-length-2 c = search needs
@@ -80,10 +80,10 @@ returns-2 c =
     let z = t .before .before .before .before in
     let r = z .before .before .before .before in
     let s = r .before .before .before .before .before .before in
-    let w = z .zero .ensures ∙ ap (λ (n : ℕ). replicate n 0) (r .judge-records .kept .1 .1 .1 .0) ∙ sym (s .pre .2 .zeros) in
+    let w = z .zero .ensures ∙ ap (λ (n : ℕ). replicate n 0) (r .judge-records .kept .1 .1 .1 .1 .0) ∙ sym (s .pre .2 .zeros) in
     let k = r .before .before .before .unit-cell .ensures in
     feed-taken (recordsIn (now (s .args .file))) (s .args .job) (now (s .args .volume)) (ap saidVerdict (sym (t .enum-told .given .1)) ∙ says r)
-    (a .record-all .ensures ∙ λ i. recordAllOn (cellGroup (k i)) (cellHalves (k i)) (recordsIn (now (s .args .file))) (w i))
+    (a .record-all .ensures ∙ λ i. recordAllOn (cellGroup (k i)) (cellHalves (k i)) (s .args .job .modulus) (recordsIn (now (s .args .file))) (w i))
 
 pub feed-records-spec : {M : Type 1} → statement M
 feed-records-spec =

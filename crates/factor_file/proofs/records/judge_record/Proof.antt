@@ -14,10 +14,10 @@ use Rattle.factor_file.proofs.records.judge_record.Statement.{statement
 use Rattle.factor_file.proofs.records.judge_record.Tie as tie
 
 -- no test of the record's own holds
-passes : (c : tie.After-enum-told) → let a = c .before .before .before .before .args in Passed (ownTests (a .cell .group) (cellLengths (a .cell)) (tripleOf (a .j)) (a .x .re) (a .x .im))
+passes : (c : tie.After-enum-told) → let a = c .before .before .before .before .args in Passed (ownTests (a .modulus) (a .cell .group) (cellLengths (a .cell)) (tripleOf (a .j)) (a .x .re) (a .x .im))
 passes c =
     let a = c .before .before .before .before .args in
-    passed (ownTests (a .cell .group) (cellLengths (a .cell)) (tripleOf (a .j)) (a .x .re) (a .x .im)) tt (ap checkedNumber (sym (c .enum-told .given .1)) ∙ c .before .before .check-own .ensures)
+    passed (ownTests (a .modulus) (a .cell .group) (cellLengths (a .cell)) (tripleOf (a .j)) (a .x .re) (a .x .im)) tt (ap checkedNumber (sym (c .enum-told .given .1)) ∙ c .before .before .check-own .ensures)
 
 check-own-requires : tie.Need-check-own-requires
 check-own-requires c κs = search needs
@@ -31,7 +31,7 @@ enum-told c = search needs
 mark-orbit-requires : tie.Need-mark-orbit-requires
 mark-orbit-requires c κs =
     let s = c .before .before .before .before .before in
-    (s .pre, within-of (s .args .cell) (s .args .j) (not-false _ (passes (c .before) .0)))
+    (s .pre .0, within-of (s .args .cell) (s .args .j) (not-false _ (passes (c .before) .0)))
 
 returns : tie.Need-returns
 returns c =
@@ -39,7 +39,7 @@ returns c =
     let a = k .before .before .args in
     let r = c .before .own .given .0 .0 in
     λ before m. (
-      append-stop (numberOf r) (ownTests (a .cell .group) (cellLengths (a .cell)) (tripleOf (a .j)) (a .x .re) (a .x .im)) (orbitSeen (a .cell .group) (cellLengths (a .cell)) before (tripleOf (a .j))) (not-zero r) (ap checkedNumber (sym (c .before .own .given .1)) ∙ k .check-own .ensures),
+      append-stop (numberOf r) (ownTests (a .modulus) (a .cell .group) (cellLengths (a .cell)) (tripleOf (a .j)) (a .x .re) (a .x .im)) (orbitSeen (a .cell .group) (cellLengths (a .cell)) before (tripleOf (a .j))) (not-zero r) (ap checkedNumber (sym (c .before .own .given .1)) ∙ k .check-own .ensures),
       λ z. absurd (not-zero r z),
     )
 

@@ -17,10 +17,10 @@ use Rattle.factor_file.proofs.records.judge_records.Statement.{statemen
 use Rattle.factor_file.proofs.records.judge_records.Tie as tie
 
 abbrev Inv-loop : tie.InvT-loop
-Inv-loop file start cell marks₀ at₀ place₀ marks at place = (length marks ≡ length marks₀) × Judging cell file marks at place
+Inv-loop file start modulus cell marks₀ at₀ place₀ marks at place = (length marks ≡ length marks₀) × Judging modulus cell file marks at place
 
 abbrev μ-loop : tie.MeasureT-loop
-μ-loop file start cell marks₀ at₀ place₀ marks at place = length file - at
+μ-loop file start modulus cell marks₀ at₀ place₀ marks at place = length file - at
 
 -- the record at the walk's place
 reading : (c : tie.After-found Inv-loop μ-loop) → Record (c .found .given .0 .0) ≡ foundAt (now (c .before .before .before .before .before .before .args .file)) (c .before .before .before .loop .at)
@@ -43,7 +43,7 @@ place-fits c =
 loop-holds : tie.Need-loop-holds Inv-loop μ-loop
 loop-holds c =
     let s = c .before .before in
-    (refl, judging-start (s .args .cell) (now (s .args .file)) (s .pre .0) (none-marked _ _ (length (now (s .args .marks))) (s .pre .2 .zeros)))
+    (refl, judging-start (s .args .modulus) (s .args .cell) (now (s .args .file)) (s .pre .0) (none-marked _ _ (length (now (s .args .marks))) (s .pre .2 .zeros)))
 
 read-record-requires : tie.Need-read-record-requires Inv-loop μ-loop
 read-record-requires c κs = search needs
@@ -65,8 +65,8 @@ returns c =
 judge-record-requires : tie.Need-judge-record-requires Inv-loop μ-loop
 judge-record-requires c κs =
     let l = c .before .before .before .before .before in
-    let e = l .before .before .before .pre .2 in
-    record { sizes = e .volume .sizes; long = l .loop .inv .0 ∙ e .volume .long }
+    let p = l .before .before .before .pre in
+    (record { sizes = p .2 .volume .sizes; long = l .loop .inv .0 ∙ p .2 .volume .long }, p .3)
 
 enum-known-checked : tie.Need-enum-known-checked Inv-loop μ-loop
 enum-known-checked c = search needs
@@ -74,7 +74,7 @@ enum-known-checked c = search needs
 same-length-2 : tie.Need-same-length-2 Inv-loop μ-loop
 same-length-2 c =
     let r = c .before .before .before .before .before in
-    r .judge-record .kept .1 .1 .1 .0 ∙ r .before .before .before .before .before .before .loop .inv .0
+    r .judge-record .kept .1 .1 .1 .1 .0 ∙ r .before .before .before .before .before .before .loop .inv .0
 
 returns-2 : tie.Need-returns-2 Inv-loop μ-loop
 returns-2 c =
@@ -104,7 +104,7 @@ loop-again c =
     let s = l .loop .inv .1 in
     let e = r .judge-record .ensures (s .before) (s .marked) in
     let sound = ap checkedNumber (c .enum-told2 .given .1) in
-    (r .judge-record .kept .1 .1 .1 .0 ∙ l .loop .inv .0, judging-next s (l .before .before .before .pre .1) (f .found .given .0 .0) (reading f) (f .before .before .read-record .ensures .1) (sym sound ∙ e .0) (e .1 sound))
+    (r .judge-record .kept .1 .1 .1 .1 .0 ∙ l .loop .inv .0, judging-next s (l .before .before .before .pre .1) (f .found .given .0 .0) (reading f) (f .before .before .read-record .ensures .1) (sym sound ∙ e .0) (e .1 sound))
 
 pub judge-records-spec : {M : Type 1} → statement M
 judge-records-spec =

@@ -15,7 +15,7 @@ use Rattle.lengths.specs.Lengths.{scratchLength}
 use Rattle.cell.specs.declared.operations.UnitCell.{UnitCell}
 use Rattle.cell.specs.Operations.{cellLengths}
 use Rattle.job.specs.Job.{synthesisTestsOf}
-use Rattle.job.proofs.Jobs.{valid-sizes, cell-sizes}
+use Rattle.job.proofs.Jobs.{valid-sizes, valid-modulus, cell-sizes}
 use Rattle.factor_file.specs.Steps.{filedWith}
 use Rattle.factor_file.proofs.writer.Files.{held, held-first, write-refused, write-filed, valid-volume}
 use Rattle.factor_file.proofs.writer.write_file.Statement.{statement}
@@ -26,7 +26,7 @@ told : (c : tie.After-check-synthesis) → let a = c .before .before .before .be
 told c =
     let a = c .before .before .before .before .before .args in
     c .check-synthesis .ensures
-    ∙ ap₂ (λ (b : Bool) (k : UnitCell). first (synthesisTestsOf b (a .job .state) (k .group) (cellLengths k) (now (a .volume)) scratchLength)) (c .before .valid-job .ensures) (c .before .before .unit-cell .ensures)
+    ∙ ap₂ (λ (b : Bool) (k : UnitCell). first (synthesisTestsOf b (a .job .state) (a .job .modulus) (k .group) (cellLengths k) (now (a .volume)) scratchLength)) (c .before .valid-job .ensures) (c .before .before .unit-cell .ensures)
     ∙ held-first (a .job) (now (a .volume)) (now (a .out))
 
 -- no test holds
@@ -63,7 +63,7 @@ write-factors-requires c κs =
     let p = clear t in
     let ok = not-false _ (p .0) in
     let long = eqb-true _ _ (not-false _ (p .1 .1 .0)) in
-    rw (t .before .before .before .before .unit-cell .ensures) (record { volume = record { sizes = valid-sizes (a .job) ok; long = long }; small = below-allBelow (prime 1) (now (a .volume)) (prime-pos 1) (not-false _ (p .1 .1 .1 .0)) }, omega (arith, long, valid-volume (a .job) ok))
+    rw (t .before .before .before .before .unit-cell .ensures) (record { modulus = valid-modulus (a .job) ok; volume = record { sizes = valid-sizes (a .job) ok; long = long }; small = below-allBelow (prime (a .job .modulus)) (now (a .volume)) (prime-pos (a .job .modulus)) (not-false _ (p .1 .1 .1 .0)) }, omega (arith, long, valid-volume (a .job) ok))
 
 same-length : tie.Need-same-length
 same-length c = search needs
@@ -74,7 +74,7 @@ returns-2 c =
     let t = w .before .before in
     let a = t .before .before .before .before .before .before .before .args in
     write-filed (a .job) (now (a .volume)) (now (a .out)) (w .write-factors .result) _ (clear t)
-    (w .write-factors .ensures ∙ ap (λ (k : UnitCell). filedWith k (a .job .a .factors) (a .job .b .factors) (a .job .c .factors) (now (a .volume)) (now (a .out))) (t .before .before .before .before .unit-cell .ensures))
+    (w .write-factors .ensures ∙ ap (λ (k : UnitCell). filedWith (a .job .modulus) k (a .job .a .factors) (a .job .b .factors) (a .job .c .factors) (now (a .volume)) (now (a .out))) (t .before .before .before .before .unit-cell .ensures))
 
 pub write-file-spec : {M : Type 1} → statement M
 write-file-spec =

@@ -1,6 +1,7 @@
 -- Two counts, the header and the records.
 use borrow.Author.Needs.{needs}
 use native.Mathlib.Omega.{arith}
+use Rattle.file_format.specs.Format.{versionOf}
 use Rattle.file_format.specs.Layout.{headerWith}
 use Rattle.file_format.proofs.layout.FileParts.{length-file}
 use Rattle.file_format.proofs.layout.file_length.Statement.{statement}
@@ -22,7 +23,7 @@ returns : tie.Need-returns
 returns c =
     let a = c .before .args in
     let h = c .header-length .ensures in (
-      λ group n1 n2 n3 cs e. omega (arith, h .0 group n1 n2 n3, e, length-file (headerWith group n1 n2 n3 (a .f1) (a .f2) (a .f3)) cs),
+      λ group n1 n2 n3 cs e. omega (arith, h .0 group n1 n2 n3, e, length-file (versionOf (a .modulus)) (a .modulus) (headerWith group n1 n2 n3 (a .f1) (a .f2) (a .f3)) cs),
       omega (arith, h .1),
     )
 

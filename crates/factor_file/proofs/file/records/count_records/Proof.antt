@@ -20,15 +20,16 @@ put-records-requires : tie.Need-put-records-requires
 put-records-requires c κs =
     let s = c .before .before in
     let v = s .args .volume .now in
+    let m = s .args .modulus in
     let z = s .pre .volume .sizes in
-    let some = recordsAt (cellGroup (s .args .cell)) (cellHalves (s .args .cell)) v in
+    let some = recordsAt (cellGroup (s .args .cell)) (cellHalves (s .args .cell)) m v in
     let most = ap (λ t. length (some t)) (cell-places z) in
-    (s .pre, record { low = omega (arith, length-all (recordsWith (s .args .cell) v), length-map (some (placesOf (cellHalves (s .args .cell)))) (fileRecord 1), most, cell-few z v) })
+    (s .pre, record { low = omega (arith, length-all (recordsWith (s .args .cell) m v), length-map (some (placesOf (cellHalves (s .args .cell)))) (fileRecord m), most, cell-few z m v) })
 
 returns : tie.Need-returns
 returns c =
     let a = c .before .before .before .before .args in
-    omega (arith, c .before .put-records .ensures .place, length-all (recordsWith (a .cell) (a .volume .now)))
+    omega (arith, c .before .put-records .ensures .place, length-all (recordsWith (a .cell) (a .modulus) (a .volume .now)))
 
 pub count-records-spec : {M : Type 1} → statement M
 count-records-spec = tie.close (tie.spec slice-aggregate-put-records put-records-requires returns)

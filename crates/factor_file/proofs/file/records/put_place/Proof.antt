@@ -4,7 +4,6 @@ use native.Mathlib.Omega.{arith}
 use mathlib.Core.Path.{_≡_, sym, _∙_, ap}
 use mathlib.Core.List.{[], _∷_}
 use Rattle.numbers.specs.Value.{pairOf}
-use Rattle.numbers.proofs.Primes.{first-modulus}
 use Rattle.cell.specs.Operations.{cellGroup, cellHalves, tripleOf}
 use Rattle.output.proofs.Writing.{wrote-none, wrote-as, ends-as}
 use Rattle.file_format.specs.Format.{allBytes}
@@ -14,22 +13,22 @@ use Rattle.factor_file.proofs.file.records.put_place.Statement.{stateme
 use Rattle.factor_file.proofs.file.records.put_place.Tie as tie
 
 -- the factor is the record's value
-found : (c : tie.After-walked-factor) → let a = c .before .before .before .before .before .args in c .walked-factor .result ≡ pairOf (recordValue (cellGroup (a .cell)) (cellHalves (a .cell)) (a .volume .now) (tripleOf (a .j)))
+found : (c : tie.After-walked-factor) → let a = c .before .before .before .before .before .args in c .walked-factor .result ≡ pairOf (recordValue (cellGroup (a .cell)) (cellHalves (a .cell)) (a .modulus) (a .volume .now) (tripleOf (a .j)))
 found c =
     let t = c .before in
     let a = t .before .before .before .before .args in
-    lowest-value (cellGroup (a .cell)) (cellHalves (a .cell)) (a .volume .now) (tripleOf (a .j)) (sym (t .before .lowest .ensures) ∙ t .if1 .taken) (c .walked-factor .ensures)
+    lowest-value (cellGroup (a .cell)) (cellHalves (a .cell)) (a .modulus) (a .volume .now) (tripleOf (a .j)) (sym (t .before .lowest .ensures) ∙ t .if1 .taken) (c .walked-factor .ensures)
 
 -- the bytes of the record, once there is one
 bytes-are : (c : tie.Else2) →
     let x = c .before .before in
     let a = x .before .before .before .before .before .args in
-    pairBytes (tripleOf (a .j)) (x .walked-factor .result) ≡ bytesAt (cellGroup (a .cell)) (cellHalves (a .cell)) (a .volume .now) (tripleOf (a .j) ∷ [])
+    pairBytes (tripleOf (a .j)) (x .walked-factor .result) ≡ bytesAt (cellGroup (a .cell)) (cellHalves (a .cell)) (a .modulus) (a .volume .now) (tripleOf (a .j) ∷ [])
 bytes-are c =
     let z = c .before in
     let x = z .before in
     let a = x .before .before .before .before .before .args in
-    one-bytes (cellGroup (a .cell)) (cellHalves (a .cell)) (a .volume .now) (tripleOf (a .j)) (found x) (z .is-zero .ensures) (c .if2 .left)
+    one-bytes (cellGroup (a .cell)) (cellHalves (a .cell)) (a .modulus) (a .volume .now) (tripleOf (a .j)) (found x) (z .is-zero .ensures) (c .if2 .left)
 
 lowest-requires : tie.Need-lowest-requires
 lowest-requires c κs = let p = c .before .before .pre .0 in (p .0 .volume .sizes, p .1)
@@ -37,7 +36,7 @@ lowest-requires c κs = let p = c .before .before .pre .0 in (p .0 .volume .size
 walked-factor-requires : tie.Need-walked-factor-requires
 walked-factor-requires c κs =
     let p = c .before .before .before .before .pre .0 in
-    ((first-modulus, p .0 .volume .sizes, p .1), (p .0 .volume .long, small-at-all (p .0 .small) _))
+    ((p .0 .modulus, p .0 .volume .sizes, p .1), (p .0 .volume .long, small-at-all (p .0 .small) _))
 
 is-zero-requires : tie.Need-is-zero-requires
 is-zero-requires c κs = search needs
@@ -54,7 +53,7 @@ returns c =
     let z = c .before in
     let x = z .before in
     let a = x .before .before .before .before .before .args in
-    no-bytes (cellGroup (a .cell)) (cellHalves (a .cell)) (a .volume .now) (tripleOf (a .j)) (found x) (z .is-zero .ensures) (a .at) (a .out .now) (c .if2 .taken)
+    no-bytes (cellGroup (a .cell)) (cellHalves (a .cell)) (a .modulus) (a .volume .now) (tripleOf (a .j)) (found x) (z .is-zero .ensures) (a .at) (a .out .now) (c .if2 .taken)
 
 same-length : tie.Need-same-length
 same-length c = search needs
@@ -68,7 +67,7 @@ returns-3 : tie.Need-returns-3
 unfolding allBytes
 returns-3 c =
     let a = c .before .before .before .before .args in
-    wrote-as (wrote-none (a .at) (a .out .now)) (sym (ap bytesOf (not-lowest-none (cellGroup (a .cell)) (cellHalves (a .cell)) (a .volume .now) (tripleOf (a .j)) (sym (c .before .lowest .ensures) ∙ c .if1 .left))))
+    wrote-as (wrote-none (a .at) (a .out .now)) (sym (ap (bytesOf (a .modulus)) (not-lowest-none (cellGroup (a .cell)) (cellHalves (a .cell)) (a .modulus) (a .volume .now) (tripleOf (a .j)) (sym (c .before .lowest .ensures) ∙ c .if1 .left))))
 
 pub put-place-spec : {M : Type 1} → statement M
 put-place-spec =

@@ -14,17 +14,17 @@ use Rattle.factor_file.proofs.file.records.put_records.Statement.{state
 use Rattle.factor_file.proofs.file.records.put_records.Tie as tie
 
 abbrev Inv-loop : tie.InvT-loop
-Inv-loop cell volume out₀ start at₀ j₀ out at j = Putting (bytesAt (cellGroup cell) (cellHalves cell) volume) cell start out₀ at out j
+Inv-loop modulus cell volume out₀ start at₀ j₀ out at j = Putting (bytesAt (cellGroup cell) (cellHalves cell) modulus volume) cell start out₀ at out j
 
 abbrev μ-loop : tie.MeasureT-loop
-μ-loop cell volume out₀ start at₀ j₀ out at j = length (placesFrom cell (tripleOf j))
+μ-loop modulus cell volume out₀ start at₀ j₀ out at j = length (placesFrom cell (tripleOf j))
 
 module _ (s : tie.Start Inv-loop μ-loop) where
   abbrev bytes : List J → List ℕ
-  bytes = bytesAt (cellGroup (s .args .cell)) (cellHalves (s .args .cell)) (s .args .volume .now)
+  bytes = bytesAt (cellGroup (s .args .cell)) (cellHalves (s .args .cell)) (s .args .modulus) (s .args .volume .now)
 
   spread : Spreads bytes
-  spread = volume-bytes (cellGroup (s .args .cell)) (cellHalves (s .args .cell)) (s .args .volume .now)
+  spread = volume-bytes (cellGroup (s .args .cell)) (cellHalves (s .args .cell)) (s .args .modulus) (s .args .volume .now)
 
   whole : bytes (cellFrom (s .args .cell .n3) (s .args .cell .n2) 0 (s .args .cell .n1)) ≡ bytes (placesOf (cellHalves (s .args .cell)))
   whole = ap bytes (sym (cell-places (s .pre .0 .volume .sizes)))
@@ -71,7 +71,7 @@ returns : tie.Need-returns Inv-loop μ-loop
 returns c =
     let l = c .before .before .before in
     let s = l .before .before .before in
-    putting-done (spread s) (l .loop .inv) (upper-bytes (s .pre .0 .volume .sizes) (s .args .volume .now)) (c .if1 .left) (whole s)
+    putting-done (spread s) (l .loop .inv) (upper-bytes (s .pre .0 .volume .sizes) (s .args .modulus) (s .args .volume .now)) (c .if1 .left) (whole s)
 
 pub put-records-spec : {M : Type 1} → statement M
 put-records-spec =

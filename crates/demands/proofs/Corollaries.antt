@@ -47,7 +47,7 @@ refused-by (suc n) f = refl
 
 -- ---- of a sound model
 
-module _ (m : Model) (sound : LawfulModel m) where
+module _ {μ : ℕ} (m : Model μ) (sound : LawfulModel m) where
   point-said : (x : GridPoint) → pointStep (modelJob m) x (modelVolume m) .answer ≡ modelSaid m (readPoint x)
   point-said x = ap (λ (o : Outcome). o .answer) (one-call m sound (readPoint x) .0)
 
@@ -55,7 +55,7 @@ module _ (m : Model) (sound : LawfulModel m) where
   record-said k x y = ap (λ (o : Outcome). o .answer) (one-call m sound (recording k x y) .0)
 
   pub point-is-sum : m .state ≡ mapHeld → (x : GridPoint) → within (m .header .lengths) (position x) ≡ true →
-      (pointStep (modelJob m) x (modelVolume m) .answer ≡ density (signedReal (densityOf m (position x)))) × (densityOf m (position x) .1 .val ≡ 0)
+      (pointStep (modelJob m) x (modelVolume m) .answer ≡ density (signedReal μ (densityOf m (position x)))) × (densityOf m (position x) .1 .val ≡ 0)
   point-is-sum s x w = (
     ap (λ (o : Outcome). o .answer) (accepted-call m sound (readPoint x) (pass 22 _ (not-t _ (eq-eqb _ _ s)) (pass 10 _ (not-t _ w) none))),
     density-real m sound (position x) (within-inside m sound (position x) w),
@@ -67,26 +67,26 @@ module _ (m : Model) (sound : LawfulModel m) where
       let n = within-inside m sound (position x) w in
       let v : within (m .header .lengths) (position y) ≡ true = ap (within (m .header .lengths)) e ∙ inside-within m sound _ (point-inside (half m) q (position x) n) in
       let u = v ∙ sym w in
-      let d : densityOf m (position y) ≡ densityOf m (position x) = ap (densityOf m) e ∙ map-obeys-group m sound q mq (position x) n ∙ ops-plain (conj 1) (group m) q mq _ in
-      λ i. accepted (first (not (eqb (m .state) mapHeld) ⇒ 22 ∷ not (u i) ⇒ 10 ∷ [])) (density (signedReal (d i))) refused
+      let d : densityOf m (position y) ≡ densityOf m (position x) = ap (densityOf m) e ∙ map-obeys-group m sound q mq (position x) n ∙ ops-plain (conj μ) (group m) q mq _ in
+      λ i. accepted (first (not (eqb (m .state) mapHeld) ⇒ 22 ∷ not (u i) ⇒ 10 ∷ [])) (density (signedReal μ (d i))) refused
 
   image-alike : (q : Sym) → Mem q (ops (group m)) → (x y : GridPoint) → within (m .header .lengths) (position x) ≡ true → position y ≡ pointImage (half m) q (position x) →
       pointStep (modelJob m) y (modelVolume m) .answer ≡ pointStep (modelJob m) x (modelVolume m) .answer
   image-alike q mq x y w e = point-said y ∙ image-said q mq x y w e ∙ sym (point-said x)
 
   -- 24 is the last test of a record
-  occupied : (k : Reflection) (x y : ℕ) → first (modelTests m (recording k x y)) ≡ 24 → factorOf m (index k) ≡ value 1 0 0 → ⊥
+  occupied : (k : Reflection) (x y : ℕ) → first (modelTests m (recording k x y)) ≡ 24 → factorOf m (index k) ≡ value μ 0 0 → ⊥
   occupied k x y e z =
       let last = not-this _ 12 24 _ (λ q. omega arith) (not-this _ 7 24 _ (λ q. omega arith) (not-this _ 10 24 _ (λ q. omega arith) (not-this _ 21 24 _ (λ q. omega arith) e))) in
-      let same = true-iff (sameValue (factorOf m (index k)) (value 1 0 0)) .1 (same-iff 1 _ _ .1 z) in
+      let same = true-iff (sameValue (factorOf m (index k)) (value μ 0 0)) .1 (same-iff μ _ _ .1 z) in
       let n : _≡_ {A = ℕ} 0 24 = pass 24 [] (not-t _ same) none ∙ last in
       omega arith
 
-  pub vacant : (k : Reflection) (x y : ℕ) → 0 ≡ first (modelTests m (recording k x y)) → factorOf m (index k) ≡ value 1 0 0
-  vacant k x y e = same-iff 1 _ _ .0 (true-iff (sameValue (factorOf m (index k)) (value 1 0 0)) .0 (not-false _ (passed (modelTests m (recording k x y)) tt e .1 .1 .1 .1 .0)))
+  pub vacant : (k : Reflection) (x y : ℕ) → 0 ≡ first (modelTests m (recording k x y)) → factorOf m (index k) ≡ value μ 0 0
+  vacant k x y e = same-iff μ _ _ .0 (true-iff (sameValue (factorOf m (index k)) (value μ 0 0)) .0 (not-false _ (passed (modelTests m (recording k x y)) tt e .1 .1 .1 .1 .0)))
 
   occupied-by : (k : Reflection) (x y : ℕ) → let a = recordStep (modelJob m) k x y (modelVolume m) .answer in
-      ((n : ℕ) → a ≡ refused n → n ≡ 24) → ((a ≡ refused 24) ↔ (factorOf m (index k) ≡ value 1 0 0 → ⊥))
+      ((n : ℕ) → a ≡ refused n → n ≡ 24) → ((a ≡ refused 24) ↔ (factorOf m (index k) ≡ value μ 0 0 → ⊥))
   unfolding modelSaid
   occupied-by k x y only = (
     λ e. occupied k x y (refused-number _ _ (sym (record-said k x y) ∙ e)),
@@ -98,7 +98,7 @@ module _ (m : Model) (sound : LawfulModel m) where
 
 -- ---- after any list of calls on the job and the volume of a sound model
 
-module _ (m : Model) (sound : LawfulModel m) (j : Job) (v : List ℕ) (is-job : j ≡ modelJob m) (is-volume : v ≡ modelVolume m) (l : List Call) where
+module _ {μ : ℕ} (m : Model μ) (sound : LawfulModel m) (j : Job) (v : List ℕ) (is-job : j ≡ modelJob m) (is-volume : v ≡ modelVolume m) (l : List Call) where
   pub runs : run j v l ≡ modelRan m l
   runs = (λ i. run (is-job i) (is-volume i) l) ∙ every-list m sound l
 
@@ -107,7 +107,7 @@ module _ (m : Model) (sound : LawfulModel m) (j : Job) (v : List ℕ) (is-job : 
   at-end P = subst P (sym (end-header m l))
 
   pub triple-sums : run j v l .job .state ≡ mapHeld → (x : GridPoint) → within (m .header .lengths) (position x) ≡ true →
-      (pointStep (run j v l .job) x (run j v l .volume) .answer ≡ density (signedReal (densityOf (modelEnd m l) (position x)))) × (densityOf (modelEnd m l) (position x) .1 .val ≡ 0)
+      (pointStep (run j v l .job) x (run j v l .volume) .answer ≡ density (signedReal μ (densityOf (modelEnd m l) (position x)))) × (densityOf (modelEnd m l) (position x) .1 .val ≡ 0)
   triple-sums s x w =
       let r = point-is-sum (modelEnd m l) (end-sound m sound l) (sym (ap (λ (r : Ran). r .job .state) runs) ∙ s) x (at-end (λ h. within (h .lengths) (position x) ≡ true) w) in
       (ap (λ (r : Ran). pointStep (r .job) x (r .volume) .answer) runs ∙ r .0, r .1)
@@ -120,7 +120,7 @@ module _ (m : Model) (sound : LawfulModel m) (j : Job) (v : List ℕ) (is-job : 
       ∙ sym (ap (λ (r : Ran). pointStep (r .job) x (r .volume) .answer) runs)
 
   pub occupied-exactly : (k : Reflection) (x y : ℕ) → let a = recordStep (run j v l .job) k x y (run j v l .volume) .answer in
-      ((n : ℕ) → a ≡ refused n → n ≡ 24) → ((a ≡ refused 24) ↔ (factorOf (modelEnd m l) (index k) ≡ value 1 0 0 → ⊥))
+      ((n : ℕ) → a ≡ refused n → n ≡ 24) → ((a ≡ refused 24) ↔ (factorOf (modelEnd m l) (index k) ≡ value μ 0 0 → ⊥))
   occupied-exactly k x y =
-      subst (λ (r : Ran). ((n : ℕ) → recordStep (r .job) k x y (r .volume) .answer ≡ refused n → n ≡ 24) → ((recordStep (r .job) k x y (r .volume) .answer ≡ refused 24) ↔ (factorOf (modelEnd m l) (index k) ≡ value 1 0 0 → ⊥)))
+      subst (λ (r : Ran). ((n : ℕ) → recordStep (r .job) k x y (r .volume) .answer ≡ refused n → n ≡ 24) → ((recordStep (r .job) k x y (r .volume) .answer ≡ refused 24) ↔ (factorOf (modelEnd m l) (index k) ≡ value μ 0 0 → ⊥)))
       (sym runs) (occupied-by (modelEnd m l) (end-sound m sound l) k x y)

@@ -8,6 +8,7 @@ use lib.Dec.{T, leb, ltb, eqb}
 use lib.ListN.{length}
 use borrow.Author.Tests.{not-false, eqb-true}
 use Rattle.algebra.proofs.cells.CellTests.{Positive}
+use Rattle.numbers.specs.Value.{prime, isModulus}
 use Rattle.numbers.proofs.Primes.{prime-pos}
 use Rattle.slices.specs.Pairs.{allBelow}
 use Rattle.slices.proofs.Bounds.{below-allBelow}
@@ -21,7 +22,7 @@ use Rattle.cell.proofs.Consistency.{factors-consistent}
 use Rattle.cell.proofs.Maps.{map-consistent}
 use Rattle.header.proofs.Headers.{sound-axes}
 use Rattle.job.specs.declared.Job.{Job}
-use Rattle.job.specs.Job.{Header, halfLengths, axisTests, mapHeld, validJob, groupIn, halves, p, asLong, fits, Opening, opened, notOpened, OpenOutcome, openTests, openStep, Said, done, density, factor, refused, Worked, synthesisStep, analysisStep}
+use Rattle.job.specs.Job.{Header, halfLengths, axisTests, mapHeld, validJob, groupIn, halves, asLong, fits, Opening, opened, notOpened, OpenOutcome, openTests, openStep, Said, done, density, factor, refused, Worked, synthesisStep, analysisStep}
 use Rattle.job.specs.TestSteps.{synthesisTests, analysisTests}
 use Rattle.job.proofs.Jobs.{valid-job-sizes}
 use Rattle.factor_file.specs.File.{jobFile, writeTests, writeStep}
@@ -60,45 +61,45 @@ writingNumber (notWritten n) = n
 
 module _ (j : Job) (v : List ℕ) (scratch : ℕ) where
   abbrev beforeSynthesis : List Test
-  beforeSynthesis = not (validJob j) ⇒ 25 ∷ eqb (j .state) mapHeld ⇒ 23 ∷ not (fits j v) ⇒ 6 ∷ ltb scratch scratchLength ⇒ 13 ∷ not (allBelow p v) ⇒ 7 ∷ []
+  beforeSynthesis = not (validJob j) ⇒ 25 ∷ eqb (j .state) mapHeld ⇒ 23 ∷ not (fits j v) ⇒ 6 ∷ ltb scratch scratchLength ⇒ 13 ∷ not (allBelow (prime (j .modulus)) v) ⇒ 7 ∷ []
 
   abbrev beforeAnalysis : List Test
-  beforeAnalysis = not (validJob j) ⇒ 25 ∷ not (eqb (j .state) mapHeld) ⇒ 22 ∷ not (fits j v) ⇒ 6 ∷ ltb scratch scratchLength ⇒ 13 ∷ not (allBelow p v) ⇒ 7 ∷ []
+  beforeAnalysis = not (validJob j) ⇒ 25 ∷ not (eqb (j .state) mapHeld) ⇒ 22 ∷ not (fits j v) ⇒ 6 ∷ ltb scratch scratchLength ⇒ 13 ∷ not (allBelow (prime (j .modulus)) v) ⇒ 7 ∷ []
 
 abbrev beforeWriting : Job → List ℕ → List Test
-beforeWriting j v = not (validJob j) ⇒ 25 ∷ eqb (j .state) mapHeld ⇒ 23 ∷ not (fits j v) ⇒ 6 ∷ not (allBelow p v) ⇒ 7 ∷ []
+beforeWriting j v = not (validJob j) ⇒ 25 ∷ eqb (j .state) mapHeld ⇒ 23 ∷ not (fits j v) ⇒ 6 ∷ not (allBelow (prime (j .modulus)) v) ⇒ 7 ∷ []
 
-abbrev beforeMap : Header → List ℕ → List Test
-beforeMap h v = leb 5 (h .group) ⇒ 8 ∷ leb 2 1 ⇒ 2 ∷ (axisTests h ++ not (asLong (h .group) (h .lengths) v) ⇒ 6 ∷ not (allBelow p v) ⇒ 7 ∷ [])
+abbrev beforeMap : (μ : ℕ) → Header → List ℕ → List Test
+beforeMap μ h v = leb 5 (h .group) ⇒ 8 ∷ not (isModulus μ) ⇒ 26 ∷ leb 2 1 ⇒ 2 ∷ (axisTests h ++ not (asLong (h .group) (h .lengths) v) ⇒ 6 ∷ not (allBelow (prime μ) v) ⇒ 7 ∷ [])
 
 -- ---- a job whose test for 25, and a volume whose tests for 6 and 7 have passed
 
-module _ (j : Job) (v : List ℕ) (valid : not (validJob j) ≡ false) (long : not (fits j v) ≡ false) (below : not (allBelow p v) ≡ false) where
+module _ (j : Job) (v : List ℕ) (valid : not (validJob j) ≡ false) (long : not (fits j v) ≡ false) (below : not (allBelow (prime (j .modulus)) v) ≡ false) where
   sizes : Positive (halves j)
   sizes = let s = valid-job-sizes j (not-false _ valid) in (s .first .positive, s .second .positive, s .third .positive)
 
-  job-factors : (consistentFactors (groupIn j) (halves j) 1 v ≡ true) ↔ FactorsConsistent (groupIn j) (halves j) 1 v
-  job-factors = factors-consistent (groupIn j) (halves j) sizes 1 v (eqb-true _ _ (not-false _ long)) (below-allBelow p v (prime-pos 1) (not-false _ below))
+  job-factors : (consistentFactors (groupIn j) (halves j) (j .modulus) v ≡ true) ↔ FactorsConsistent (groupIn j) (halves j) (j .modulus) v
+  job-factors = factors-consistent (groupIn j) (halves j) sizes (j .modulus) v (eqb-true _ _ (not-false _ long)) (below-allBelow (prime (j .modulus)) v (prime-pos (j .modulus)) (not-false _ below))
 
-  job-map : (consistentMap (groupIn j) (halves j) v ≡ true) ↔ MapConsistent (groupIn j) (halves j) 1 v
-  job-map = map-consistent (groupIn j) (halves j) sizes 1 v (eqb-true _ _ (not-false _ long)) (below-allBelow p v (prime-pos 1) (not-false _ below))
+  job-map : (consistentMap (groupIn j) (halves j) v ≡ true) ↔ MapConsistent (groupIn j) (halves j) (j .modulus) v
+  job-map = map-consistent (groupIn j) (halves j) sizes (j .modulus) v (eqb-true _ _ (not-false _ long)) (below-allBelow (prime (j .modulus)) v (prime-pos (j .modulus)) (not-false _ below))
 
-header-map : (h : Header) (v : List ℕ) → 0 ≡ first (beforeMap h v) → (consistentMap (groupOf (h .group)) (halfLengths (h .lengths)) v ≡ true) ↔ MapConsistent (groupOf (h .group)) (halfLengths (h .lengths)) 1 v
-header-map h v e =
-    let t = passed (beforeMap h v) tt e .1 .1 in
+header-map : (μ : ℕ) (h : Header) (v : List ℕ) → 0 ≡ first (beforeMap μ h v) → (consistentMap (groupOf (h .group)) (halfLengths (h .lengths)) v ≡ true) ↔ MapConsistent (groupOf (h .group)) (halfLengths (h .lengths)) μ v
+header-map μ h v e =
+    let t = passed (beforeMap μ h v) tt e .1 .1 .1 in
     let s = sound-axes h (pass 3 _ (t .0) (pass 4 _ (t .1 .0) (pass 5 _ (t .1 .1 .0) (pass 9 _ (t .1 .1 .1 .0) none)))) in
-    map-consistent (groupOf (h .group)) (halfLengths (h .lengths)) (s .0 .size .positive, s .1 .size .positive, s .2 .size .positive) 1 v
-    (eqb-true _ _ (not-false _ (t .1 .1 .1 .1 .0))) (below-allBelow p v (prime-pos 1) (not-false _ (t .1 .1 .1 .1 .1 .0)))
+    map-consistent (groupOf (h .group)) (halfLengths (h .lengths)) (s .0 .size .positive, s .1 .size .positive, s .2 .size .positive) μ v
+    (eqb-true _ _ (not-false _ (t .1 .1 .1 .1 .0))) (below-allBelow (prime μ) v (prime-pos μ) (not-false _ (t .1 .1 .1 .1 .1 .0)))
 
 -- ---- the calls
 
 pub inconsistent-exactly : InconsistentExactly
 unfolding openStep synthesisStep analysisStep writeStep
 inconsistent-exactly = record {
-  opening = λ h v only. decides (beforeMap h v) [] (consistentMap (groupOf (h .group)) (halfLengths (h .lengths)) v) 13 tt (openStep h 1 v .answer) (λ n. notOpened n 0)
-      (says openingNumber (λ (o : OpenOutcome). o .answer) _ _ (λ n. notOpened n 0) (λ n. refl) (λ n. refl) refl (first (openTests h 1 v)))
-      tt (λ k e. at-fourteen (beforeMap h v) tt k (only (suc k) 0 e)) _ (header-map h v);
-  synthesis = λ j v scratch only. decides (beforeSynthesis j v (length scratch)) [] (consistentFactors (groupIn j) (halves j) 1 v) 13 tt (synthesisStep j v scratch .outcome .answer) refused
+  opening = λ μ h v only. decides (beforeMap μ h v) [] (consistentMap (groupOf (h .group)) (halfLengths (h .lengths)) v) 13 tt (openStep μ h 1 v .answer) (λ n. notOpened n 0)
+      (says openingNumber (λ (o : OpenOutcome). o .answer) _ _ (λ n. notOpened n 0) (λ n. refl) (λ n. refl) refl (first (openTests μ h 1 v)))
+      tt (λ k e. at-fourteen (beforeMap μ h v) tt k (only (suc k) 0 e)) _ (header-map μ h v);
+  synthesis = λ j v scratch only. decides (beforeSynthesis j v (length scratch)) [] (consistentFactors (groupIn j) (halves j) (j .modulus) v) 13 tt (synthesisStep j v scratch .outcome .answer) refused
       (says saidNumber (λ (o : Worked). o .outcome .answer) _ _ refused (λ n. refl) (λ n. refl) refl (first (synthesisTests j v (length scratch))))
       tt (λ k e. at-fourteen (beforeSynthesis j v (length scratch)) tt k (only (suc k) e)) _
       (λ e. let t = passed (beforeSynthesis j v (length scratch)) tt e in job-factors j v (t .0) (t .1 .1 .0) (t .1 .1 .1 .1 .0));
@@ -106,7 +107,7 @@ inconsistent-exactly = record {
       (says saidNumber (λ (o : Worked). o .outcome .answer) _ _ refused (λ n. refl) (λ n. refl) refl (first (analysisTests j v (length scratch))))
       tt (λ k e. at-fourteen (beforeAnalysis j v (length scratch)) tt k (only (suc k) e)) _
       (λ e. let t = passed (beforeAnalysis j v (length scratch)) tt e in job-map j v (t .0) (t .1 .1 .0) (t .1 .1 .1 .1 .0));
-  writer = λ j v output only. decides (beforeWriting j v) (ltb (length output) (length (jobFile j v)) ⇒ 18 ∷ []) (consistentFactors (groupIn j) (halves j) 1 v) 13 tt (writeStep j v output .answer) notWritten
+  writer = λ j v output only. decides (beforeWriting j v) (ltb (length output) (length (jobFile j v)) ⇒ 18 ∷ []) (consistentFactors (groupIn j) (halves j) (j .modulus) v) 13 tt (writeStep j v output .answer) notWritten
       (says writingNumber (λ (o : FillOutcome). o .answer) _ _ notWritten (λ n. refl) (λ n. refl) refl (first (writeTests j v output)))
       tt (λ k e. after-seven j v k (only (suc k) e)) _
       (λ e. let t = passed (beforeWriting j v) tt e in job-factors j v (t .0) (t .1 .1 .0) (t .1 .1 .1 .0));

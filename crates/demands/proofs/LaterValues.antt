@@ -12,7 +12,7 @@ use Rattle.algebra.specs.orbits.Orbit.{Mem}
 use Rattle.algebra.proofs.orbits.Orbits.{record-at, orbit-zero}
 use Rattle.algebra.proofs.cells.CellSym.{implied-one}
 use Rattle.algebra.proofs.cells.CellGroup.{factor-action, closed, implied-zero}
-use Rattle.numbers.specs.Value.{value}
+use Rattle.numbers.specs.Value.{prime, value}
 use Rattle.numbers.proofs.Values.{field-ring, field-star}
 use Rattle.refusals.specs.Refusals.{Test, _⇒_, first, accepted}
 use Rattle.refusals.proofs.Tests.{passed, pass, stop, not-t, both}
@@ -22,7 +22,7 @@ use Rattle.cell.proofs.Records.{agrees-iff}
 use Rattle.cell.proofs.ZeroRecords.{zero-record}
 use Rattle.job.specs.declared.Job.{Job}
 use Rattle.job.specs.declared.Reflection.{Reflection}
-use Rattle.job.specs.Job.{Header, halfLengths, collecting, p, headerOf, validJob, groupIn, halves, index, done, refused, Said, Outcome, unchanged, ownTests, orbitTests, recordTests, recordStep}
+use Rattle.job.specs.Job.{Header, halfLengths, collecting, headerOf, validJob, groupIn, halves, index, done, refused, Said, Outcome, unchanged, ownTests, orbitTests, recordTests, recordStep}
 use Rattle.job.proofs.Jobs.{valid-job-sizes}
 use Rattle.model.specs.Model.{Model, group, half, factorOf, Call, recording, modelTests, modelSaid, modelAfter, modelNext, modelJob, modelVolume}
 use Rattle.model.proofs.Sound.{LawfulModel, halves-positive, within-inside}
@@ -49,17 +49,17 @@ module _ (j : Job) (k : Reflection) (v : List ℕ) where
   zero-unchanged e = by (first zeroTests) refl e
     where
       written : List ℕ
-      written = recordOn (groupIn j) (halves j) 1 (index k) (value 1 0 0) v
+      written = recordOn (groupIn j) (halves j) (j .modulus) (index k) (value (j .modulus) 0 0) v
 
       by : (n : ℕ) → first zeroTests ≡ n → accepted {O = Outcome} n (record { answer = done; job = j; volume = written }) (unchanged j v) .answer ≡ done → accepted {O = Outcome} n (record { answer = done; job = j; volume = written }) (unchanged j v) ≡ record { answer = done; job = j; volume = v }
-      by zero q e = ap (λ (w : List ℕ). record { answer = done; job = j; volume = w }) (zero-record (groupIn j) (halves j) 1 v (index k) (not-false _ (passed zeroTests tt (sym q) .1 .1 .1 .1 .1 .1 .0)))
+      by zero q e = ap (λ (w : List ℕ). record { answer = done; job = j; volume = w }) (zero-record (groupIn j) (halves j) (j .modulus) v (index k) (not-false _ (passed zeroTests tt (sym q) .1 .1 .1 .1 .1 .1 .0)))
       by (suc n) q e = let z : _≡_ {A = ℕ} 0 1 = cc in absurd (omega arith)
 
-  agrees : validJob j ≡ true → agreesWithItself (groupIn j) (halves j) 1 (index k) (value 1 0 0) ≡ true
+  agrees : validJob j ≡ true → agreesWithItself (groupIn j) (halves j) (j .modulus) (index k) (value (j .modulus) 0 0) ≡ true
   unfolding gauss residues
   agrees valid =
       let s = valid-job-sizes j valid in
-      agrees-iff (groupIn j) (halves j) (s .first .positive, s .second .positive, s .third .positive) 1 (index k) (value 1 0 0) .1 (λ q mq e. implied-zero (field-ring 1) (field-star 1) (halves j) q (index k))
+      agrees-iff (groupIn j) (halves j) (s .first .positive, s .second .positive, s .third .positive) (j .modulus) (index k) (value (j .modulus) 0 0) .1 (λ q mq e. implied-zero (field-ring (j .modulus)) (field-star (j .modulus)) (halves j) q (index k))
 
   zero-agrees : recordStep j k 0 0 v .answer ≡ refused 12 → ⊥
   unfolding recordStep
@@ -75,57 +75,57 @@ module _ (j : Job) (k : Reflection) (v : List ℕ) where
       last : (a : Bool) → a ≡ true → first (not a ⇒ 12 ∷ rest) ≡ 12 → ⊥
       last a q e = let z : first rest ≡ 12 = pass 12 rest (not-t a q) refl ∙ e in other-first 11 rest tt z
 
-      by : (b : Bool) → (b ≡ true → agreesWithItself (groupIn j) (halves j) 1 (index k) (value 1 0 0) ≡ true) → first (not b ⇒ 25 ∷ not (eqb (j .state) collecting) ⇒ 21 ∷ (ownTests (j .group) (headerOf j .lengths) (index k) 0 0 ++ rest)) ≡ 12 → ⊥
+      by : (b : Bool) → (b ≡ true → agreesWithItself (groupIn j) (halves j) (j .modulus) (index k) (value (j .modulus) 0 0) ≡ true) → first (not b ⇒ 25 ∷ not (eqb (j .state) collecting) ⇒ 21 ∷ (ownTests (j .modulus) (j .group) (headerOf j .lengths) (index k) 0 0 ++ rest)) ≡ 12 → ⊥
       by true f e = last _ (f refl) (not-this _ 7 12 _ (λ q. omega arith) (not-this _ 10 12 _ (λ q. omega arith) (not-this _ 21 12 _ (λ q. omega arith) (not-this false 25 12 _ (λ q. omega arith) e))))
       by false f e = let z : _≡_ {A = ℕ} 25 12 = stop _ refl ∙ e in omega arith
 
 -- ---- after any list of calls
 
 -- a call at the end of a list
-end-append : (m : Model) (l : List Call) (c : Call) → modelEnd m (l ++ c ∷ []) ≡ modelAfter (modelEnd m l) c
+end-append : {μ : ℕ} (m : Model μ) (l : List Call) (c : Call) → modelEnd m (l ++ c ∷ []) ≡ modelAfter (modelEnd m l) c
 unfolding modelEnd
 end-append m [] c = refl
 end-append m (d ∷ l) c = end-append (modelAfter m d) l c
 
-module _ (m : Model) (sound : LawfulModel m) where
+module _ {μ : ℕ} (m : Model μ) (sound : LawfulModel m) where
   accepted-number : (k : Reflection) (x y : ℕ) → recordStep (modelJob m) k x y (modelVolume m) .answer ≡ done → 0 ≡ first (modelTests m (recording k x y))
   unfolding modelSaid
   accepted-number k x y e = done-number _ (sym (record-said m sound k x y) ∙ e)
 
   -- a zero was taken: F is zero on its orbit, and a record there is taken
   taken-after : (k k′ : Reflection) (q : Sym) → Mem q (full (group m)) → imageOf (half m) q (index k) ≡ index k′ → (x y : ℕ) → recordStep (modelJob m) k 0 0 (modelVolume m) .answer ≡ done →
-      0 ≡ first (ownTests (m .header .group) (m .header .lengths) (index k′) x y) → recordStep (modelJob m) k′ x y (modelVolume m) .answer ≡ done
+      0 ≡ first (ownTests μ (m .header .group) (m .header .lengths) (index k′) x y) → recordStep (modelJob m) k′ x y (modelVolume m) .answer ≡ done
   unfolding modelSaid factorActs gauss residues
   taken-after k k′ q mq e x y took own =
       let z = accepted-number k 0 0 took in
       let f = record-fits m sound k 0 0 z .1 in
-      let t = passed (ownTests (m .header .group) (m .header .lengths) (index k′) x y) tt own in
-      let b = both (ltb x p) (ltb y p) (not-false _ (t .1 .0)) in
-      let free = ap (factorOf m) (sym e) ∙ orbit-zero (factor-action (field-ring 1) (field-star 1) (half m)) (full (group m)) (closed (field-ring 1) (field-star 1) (half m) (group m)) q (index k) (factorOf m) (f .0) mq (sound .lawful) .1 (f .2) in
+      let t = passed (ownTests μ (m .header .group) (m .header .lengths) (index k′) x y) tt own in
+      let b = both (ltb x (prime μ)) (ltb y (prime μ)) (not-false _ (t .1 .0)) in
+      let free = ap (factorOf m) (sym e) ∙ orbit-zero (factor-action (field-ring μ) (field-star μ) (half m)) (full (group m)) (closed (field-ring μ) (field-star μ) (half m) (group m)) q (index k) (factorOf m) (f .0) mq (sound .lawful) .1 (f .2) in
       let state = eqb-true (m .state) collecting (not-false _ (passed (modelTests m (recording k 0 0)) tt z .0)) in
-      let n = fits-passes m sound state k′ x y (ltb-true x p (b .0), ltb-true y p (b .1)) (within-inside m sound (index k′) (not-false _ (t .0)), agrees-iff (group m) (half m) (halves-positive m sound) 1 (index k′) (value 1 x y) .0 (not-false _ (t .1 .1 .0)), free) in
+      let n = fits-passes m sound state k′ x y (ltb-true x (prime μ) (b .0), ltb-true y (prime μ) (b .1)) (within-inside m sound (index k′) (not-false _ (t .0)), agrees-iff (group m) (half m) (halves-positive m sound) μ (index k′) (value μ x y) .0 (not-false _ (t .1 .1 .0)), free) in
       record-said m sound k′ x y ∙ ap (λ n. accepted n done refused) (sym n)
 
-  counts-after : (k : Reflection) (x y : ℕ) → recordStep (modelJob m) k x y (modelVolume m) .answer ≡ done → factorOf (modelAfter m (recording k x y)) (index k) ≡ value 1 x y
+  counts-after : (k : Reflection) (x y : ℕ) → recordStep (modelJob m) k x y (modelVolume m) .answer ≡ done → factorOf (modelAfter m (recording k x y)) (index k) ≡ value μ x y
   unfolding modelAfter recordIn factorActs imageOf flip
   counts-after k x y e =
       let z = accepted-number k x y e in
       let f = record-fits m sound k x y z .1 in
       ap (λ n. factorOf (accepted n (modelNext m (recording k x y)) (λ n. m)) (index k)) (sym z)
-      ∙ record-at (factor-action (field-ring 1) (field-star 1) (half m)) (full (group m)) (closed (field-ring 1) (field-star 1) (half m) (group m)) one (index k) (value 1 x y) (factorOf m) (f .0) (closed (field-ring 1) (field-star 1) (half m) (group m) .has-one) (f .1)
-      ∙ implied-one (field-ring 1) (field-star 1) (index k) (value 1 x y)
+      ∙ record-at (factor-action (field-ring μ) (field-star μ) (half m)) (full (group m)) (closed (field-ring μ) (field-star μ) (half m) (group m)) one (index k) (value μ x y) (factorOf m) (f .0) (closed (field-ring μ) (field-star μ) (half m) (group m) .has-one) (f .1)
+      ∙ implied-one (field-ring μ) (field-star μ) (index k) (value μ x y)
 
 pub later-value-counts : LaterValueCounts
 later-value-counts = record {
   unchanged = zero-unchanged;
   agrees = zero-agrees;
-  taken = λ s j v m started l k k′ q mq e x y took own.
+  taken = λ μ s j v m started l k k′ q mq e x y took own.
       let sound = end-sound m (started-sound s j v m started .0) l in
       let ran = started-runs s j v m started l in
-      let h = subst (λ (h : Header). (Mem q (full (groupOf (h .group))) × (imageOf (halfLengths (h .lengths)) q (index k) ≡ index k′)) × (0 ≡ first (ownTests (h .group) (h .lengths) (index k′) x y))) (sym (end-header m l)) ((mq, e), own) in
+      let h = subst (λ (h : Header). (Mem q (full (groupOf (h .group))) × (imageOf (halfLengths (h .lengths)) q (index k) ≡ index k′)) × (0 ≡ first (ownTests μ (h .group) (h .lengths) (index k′) x y))) (sym (end-header m l)) ((mq, e), own) in
       ap (λ (r : Ran). recordStep (r .job) k′ x y (r .volume) .answer) ran
       ∙ taken-after (modelEnd m l) sound k k′ q (h .0 .0) (h .0 .1) x y (sym (ap (λ (r : Ran). recordStep (r .job) k 0 0 (r .volume) .answer) ran) ∙ took) (h .1);
-  counts = λ s j v m started l k x y e.
+  counts = λ μ s j v m started l k x y e.
       let sound = end-sound m (started-sound s j v m started .0) l in
       let ran = started-runs s j v m started l in
       ap (λ n. factorOf n (index k)) (end-append m l (recording k x y)) ∙ counts-after (modelEnd m l) sound k x y (sym (ap (λ (r : Ran). recordStep (r .job) k x y (r .volume) .answer) ran) ∙ e);

@@ -9,20 +9,20 @@ use Rattle.demands.specs.Demands.{answering, run, modelAnswers, modelEnd
 use Rattle.model.proofs.Sound.{LawfulModel}
 use Rattle.model.proofs.OneCall.{one-call}
 
-pub every-list : (m : Model) → LawfulModel m → (l : List Call) → run (modelJob m) (modelVolume m) l ≡ modelRan m l
+pub every-list : {μ : ℕ} (m : Model μ) → LawfulModel m → (l : List Call) → run (modelJob m) (modelVolume m) l ≡ modelRan m l
 unfolding run modelAnswers modelEnd
 every-list m sound [] = refl
 every-list m sound (c ∷ l) =
     let r = one-call m sound c in
     ap (λ (o : Outcome). answering (o .answer) (run (o .job) (o .volume) l)) (r .0) ∙ ap (answering (modelSaid m c)) (every-list (modelAfter m c) (r .1) l)
 
-pub end-sound : (m : Model) → LawfulModel m → (l : List Call) → LawfulModel (modelEnd m l)
+pub end-sound : {μ : ℕ} (m : Model μ) → LawfulModel m → (l : List Call) → LawfulModel (modelEnd m l)
 unfolding modelEnd
 end-sound m sound [] = sound
 end-sound m sound (c ∷ l) = end-sound (modelAfter m c) (one-call m sound c .1) l
 
 -- the header is the opening's after every list
-after-header : (m : Model) (c : Call) → modelAfter m c .header ≡ m .header
+after-header : {μ : ℕ} (m : Model μ) (c : Call) → modelAfter m c .header ≡ m .header
 unfolding modelAfter
 after-header m c = go (first (modelTests m c)) c
   where
@@ -34,7 +34,7 @@ after-header m c = go (first (modelTests m c)) c
     go zero (readFactor k) = refl
     go (suc n) c = refl
 
-pub end-header : (m : Model) (l : List Call) → modelEnd m l .header ≡ m .header
+pub end-header : {μ : ℕ} (m : Model μ) (l : List Call) → modelEnd m l .header ≡ m .header
 unfolding modelEnd
 end-header m [] = refl
 end-header m (c ∷ l) = end-header (modelAfter m c) l ∙ after-header m c

@@ -22,9 +22,10 @@ use Rattle.algebra.proofs.ring.Laws.{neg-zero, zero-mul}
 use Rattle.algebra.proofs.fourier.Sums.{sum-all-zero}
 use Rattle.algebra.proofs.cells.CellGroup.{implied-zero}
 use Rattle.algebra.proofs.cells.CellTests.{Positive}
-use Rattle.numbers.specs.Value.{prime, Value, field, conj, i, ring, value, valueOf}
+use Rattle.numbers.specs.Value.{prime, IsModulus, Value, field, conj, i, ring, value, valueOf}
 use Rattle.numbers.specs.Value as Value
-use Rattle.numbers.proofs.Primes.{first-modulus, prime-pos}
+use Rattle.numbers.proofs.ModulusCases.{tested-modulus}
+use Rattle.numbers.proofs.Primes.{prime-pos}
 use Rattle.numbers.proofs.Residues.{res-ring}
 use Rattle.numbers.proofs.Values.{value-path, field-ring, field-star}
 use Rattle.slices.specs.Pairs.{Below, allBelow}
@@ -39,7 +40,7 @@ use Rattle.cell.proofs.VolumeLayout.{place-inside, below-map}
 use Rattle.cell.proofs.Consistency.{packed-list}
 use Rattle.cell.proofs.Maps.{map-consistent}
 use Rattle.cell.proofs.Points.{opened-factors, opened-map}
-use Rattle.job.specs.Job.{Header, halfLengths, needed, axisTests, collecting, mapHeld, jobOf, validJob, p, volumeTests, openTests, openStep, opened, notOpened, OpenOutcome}
+use Rattle.job.specs.Job.{Header, halfLengths, needed, axisTests, collecting, mapHeld, jobOf, validJob, volumeTests, openTests, openStep, opened, notOpened, OpenOutcome}
 use Rattle.header.proofs.Headers.{sound-axes}
 use Rattle.job.proofs.check.Openings.{header-passed, volume-collects, volume-held}
 use Rattle.job.proofs.Jobs.{opened-valid}
@@ -50,35 +51,35 @@ use Rattle.demands.proofs.TestOrder.{first-append}
 
 -- ---- the cell that is zero everywhere
 
-pub zero-lawful : (g : Group) (a : J) → Lawful (field 1) (conj 1) a g (λ h k l. value 1 0 0)
+pub zero-lawful : (μ : ℕ) (g : Group) (a : J) → Lawful (field μ) (conj μ) a g (λ h k l. value μ 0 0)
 unfolding gauss residues
-zero-lawful g a s ms j n = sym (implied-zero (field-ring 1) (field-star 1) a s j)
+zero-lawful μ g a s ms j n = sym (implied-zero (field-ring μ) (field-star μ) a s j)
 
-either : (b : Bool) → _≡_ {A = Value 1} (value 1 0 0 .0, partOf (ring 1) b (value 1 0 0)) (value 1 0 0)
-either true = refl
-either false = refl
+either : (μ : ℕ) (b : Bool) → _≡_ {A = Value μ} (value μ 0 0 .0, partOf (ring μ) b (value μ 0 0)) (value μ 0 0)
+either μ true = refl
+either μ false = refl
 
-zero-rotated : (b : Bool) → Pack.timesI (ring 1) b (value 1 0 0) ≡ value 1 0 0
+zero-rotated : (μ : ℕ) (b : Bool) → Pack.timesI (ring μ) b (value μ 0 0) ≡ value μ 0 0
 unfolding Pack.timesI residues
-zero-rotated true = refl
-zero-rotated false = value-path (neg-zero (res-ring 1)) refl
+zero-rotated μ true = refl
+zero-rotated μ false = value-path (neg-zero (res-ring μ)) refl
 
-zero-pair : (g : Group) (a : J) (w h k : ℕ) → Pack.packFactors (ring 1) g a (λ h k l. value 1 0 0) w h k ≡ value 1 0 0
+zero-pair : (μ : ℕ) (g : Group) (a : J) (w h k : ℕ) → Pack.packFactors (ring μ) g a (λ h k l. value μ 0 0) w h k ≡ value μ 0 0
 unfolding Pack.packFactors packAlt
-zero-pair P1 a w h k = refl
-zero-pair P2₁ a zero h k = either (even (a .2))
-zero-pair P2₁ a (suc w) h k = refl
-zero-pair Pm a w h k = refl
-zero-pair Pa a w h k = refl
-zero-pair P2₁2₁2₁ a zero h k = ap (λ (x : Value 1). (x .0, partOf (ring 1) (even (a .2)) x)) (zero-rotated (even h)) ∙ either (even (a .2))
-zero-pair P2₁2₁2₁ a (suc w) h k = zero-rotated (even h)
+zero-pair μ P1 a w h k = refl
+zero-pair μ P2₁ a zero h k = either μ (even (a .2))
+zero-pair μ P2₁ a (suc w) h k = refl
+zero-pair μ Pm a w h k = refl
+zero-pair μ Pa a w h k = refl
+zero-pair μ P2₁2₁2₁ a zero h k = ap (λ (x : Value μ). (x .0, partOf (ring μ) (even (a .2)) x)) (zero-rotated μ (even h)) ∙ either μ (even (a .2))
+zero-pair μ P2₁2₁2₁ a (suc w) h k = zero-rotated μ (even h)
 
 -- its packed factors are zeros
-pub zero-packed : (g : Group) (a : J) → Positive a → packFactors g a 1 (λ h k l. value 1 0 0) ≡ replicate (volumeLength g a) 0
+pub zero-packed : (μ : ℕ) (g : Group) (a : J) → Positive a → packFactors g a μ (λ h k l. value μ 0 0) ≡ replicate (volumeLength g a) 0
 unfolding valueOf
-zero-packed g a long =
-    packed-list g a long 1 (λ h k l. value 1 0 0) (zero-lawful g a) (replicate (volumeLength g a) 0) (length-replicate (volumeLength g a) 0) (below-replicate (volumeLength g a) 0 (prime-pos 1))
-    (λ w h k lw lh lk. zero-pair g a w h k ∙ ap (valueOf 1) (sym (at-zeros _ _ (place-inside g a lw lh (omega arith)))))
+zero-packed μ g a long =
+    packed-list g a long μ (λ h k l. value μ 0 0) (zero-lawful μ g a) (replicate (volumeLength g a) 0) (length-replicate (volumeLength g a) 0) (below-replicate (volumeLength g a) 0 (prime-pos μ))
+    (λ w h k lw lh lk. zero-pair μ g a w h k ∙ ap (valueOf μ) (sym (at-zeros _ _ (place-inside g a lw lh (omega arith)))))
 
 -- its map is zero at every point
 module _ {R : Type 0} {𝓞 : Ops R} (𝓡 : CRing 𝓞) where
@@ -92,111 +93,114 @@ module _ {R : Type 0} {𝓞 : Ops R} (𝓡 : CRing 𝓞) where
   unfolding Cell.mapOf
   zero-sums X Y Z x y z = sum-all-zero 𝓡 _ _ (λ h i. sum-all-zero 𝓡 _ _ (λ k i. sum-all-zero 𝓡 _ _ (λ l i. zero-term _ _ _)))
 
-pub zero-map : (a x : J) → Cell.at (mapOf 1 a (λ h k l. value 1 0 0)) x ≡ value 1 0 0
+pub zero-map : (μ : ℕ) (a x : J) → Cell.at (mapOf μ a (λ h k l. value μ 0 0)) x ≡ value μ 0 0
 unfolding gauss residues
-zero-map a x = zero-sums (field-ring 1) (axis 1 (a .0)) (axis 1 (a .1)) (axis 1 (a .2)) (x .0) (x .1) (x .2)
+zero-map μ a x = zero-sums (field-ring μ) (axis μ (a .0)) (axis μ (a .1)) (axis μ (a .2)) (x .0) (x .1) (x .2)
 
 -- ---- an opening that no test refuses
 
 -- the job and the volume that a start gives with a model
-abbrev pub given : Model → OpenOutcome
+abbrev pub given : {μ : ℕ} → Model μ → OpenOutcome
 given m = record { answer = opened (modelJob m); volume = modelVolume m }
 
-module _ (h : Header) (kind : ℕ) (v : List ℕ) (none : 0 ≡ first (openTests h kind v)) where
-  tests : Passed (openTests h kind v)
-  tests = passed (openTests h kind v) tt none
+module _ (μ : ℕ) (h : Header) (kind : ℕ) (v : List ℕ) (none : 0 ≡ first (openTests μ h kind v)) where
+  tests : Passed (openTests μ h kind v)
+  tests = passed (openTests μ h kind v) tt none
 
   header-sound : 0 ≡ first (axisTests h)
-  header-sound = header-passed h kind v none
+  header-sound = header-passed μ h kind v none
 
   opening-long : Positive (halfLengths (h .lengths))
   opening-long = let s = sound-axes h header-sound in (s .0 .size .positive, s .1 .size .positive, s .2 .size .positive)
 
   volume-long : length v ≡ volumeLength (groupOf (h .group)) (halfLengths (h .lengths))
-  volume-long = eqb-true _ _ (not-false _ (tests .1 .1 .1 .1 .1 .1 .0))
+  volume-long = eqb-true _ _ (not-false _ (tests .1 .1 .1 .1 .1 .1 .1 .0))
 
   pub kind-is : (kind ≡ 0) ⊎ (kind ≡ 1)
-  kind-is = either kind (leb-false _ _ (tests .1 .0))
+  kind-is = either kind (leb-false _ _ (tests .1 .1 .0))
     where
       either : (k : ℕ) → k < 2 → (k ≡ 0) ⊎ (k ≡ 1)
       either zero l = inl refl
       either (suc zero) l = inr refl
       either (suc (suc k)) l = absurd (omega arith)
 
-  job-valid : (s : ℕ) → s < 3 → validJob (jobOf h s) ≡ true
-  job-valid s l = opened-valid h s (leb-false _ _ (tests .0)) header-sound l
+  modulus : IsModulus μ
+  modulus = tested-modulus μ (not-false _ (tests .1 .0))
+
+  job-valid : (s : ℕ) → s < 3 → validJob (jobOf μ h s) ≡ true
+  job-valid s l = opened-valid μ h s (not-false _ (tests .1 .0)) (leb-false _ _ (tests .0)) header-sound l
 
   -- kind 0
-  zero-sound : LawfulModel (zeroModel h)
-  zero-sound = record { valid = job-valid 0 (omega arith); lawful = zero-lawful (groupOf (h .group)) (halfLengths (h .lengths)) }
+  zero-sound : LawfulModel (zeroModel μ h)
+  zero-sound = record { valid = job-valid 0 (omega arith); lawful = zero-lawful μ (groupOf (h .group)) (halfLengths (h .lengths)) }
 
-  zero-volume : replicate (length v) 0 ≡ modelVolume (zeroModel h)
+  zero-volume : replicate (length v) 0 ≡ modelVolume (zeroModel μ h)
   unfolding modelVolume
-  zero-volume = ap (λ n. replicate n 0) volume-long ∙ sym (zero-packed (groupOf (h .group)) (halfLengths (h .lengths)) opening-long)
+  zero-volume = ap (λ n. replicate n 0) volume-long ∙ sym (zero-packed μ (groupOf (h .group)) (halfLengths (h .lengths)) opening-long)
 
   -- kind 1: the tests that only a map is put to
   module _ (map : kind ≡ 1) where
     asked : (b : Bool) → (eqb kind 1 && not b) ≡ false → b ≡ true
     asked b e = not-false b (ap (λ (x : Bool). x && not b) (sym (eq-eqb kind 1 map)) ∙ e)
 
-    volume-below : Below (prime 1) v
-    volume-below = below-allBelow (prime 1) v (prime-pos 1) (asked (allBelow p v) (tests .1 .1 .1 .1 .1 .1 .1 .0))
+    volume-below : Below (prime μ) v
+    volume-below = below-allBelow (prime μ) v (prime-pos μ) (asked (allBelow (prime μ) v) (tests .1 .1 .1 .1 .1 .1 .1 .1 .0))
 
     volume-consistent : consistentMap (groupOf (h .group)) (halfLengths (h .lengths)) v ≡ true
-    volume-consistent = asked _ (tests .1 .1 .1 .1 .1 .1 .1 .1 .0)
+    volume-consistent = asked _ (tests .1 .1 .1 .1 .1 .1 .1 .1 .1 .0)
 
-    map-sound : LawfulModel (mapModel h v)
+    map-sound : LawfulModel (mapModel μ h v)
     map-sound = let s = sound-axes h header-sound in
         record {
           valid = job-valid 2 (omega arith);
-          lawful = opened-factors (groupOf (h .group)) (halfLengths (h .lengths)) 1 (axis-laws 1 first-modulus (s .0 .size)) (axis-laws 1 first-modulus (s .1 .size)) (axis-laws 1 first-modulus (s .2 .size)) v volume-long volume-below volume-consistent;
+          lawful = opened-factors (groupOf (h .group)) (halfLengths (h .lengths)) μ (axis-laws μ modulus (s .0 .size)) (axis-laws μ modulus (s .1 .size)) (axis-laws μ modulus (s .2 .size)) v volume-long volume-below volume-consistent;
         }
 
-    map-volume : v ≡ modelVolume (mapModel h v)
+    map-volume : v ≡ modelVolume (mapModel μ h v)
     unfolding modelVolume
     map-volume = let s = sound-axes h header-sound in
-        sym (opened-map (groupOf (h .group)) (halfLengths (h .lengths)) 1 (axis-laws 1 first-modulus (s .0 .size)) (axis-laws 1 first-modulus (s .1 .size)) (axis-laws 1 first-modulus (s .2 .size)) v volume-long volume-below volume-consistent)
+        sym (opened-map (groupOf (h .group)) (halfLengths (h .lengths)) μ (axis-laws μ modulus (s .0 .size)) (axis-laws μ modulus (s .1 .size)) (axis-laws μ modulus (s .2 .size)) v volume-long volume-below volume-consistent)
 
     not-zero : eqb kind 0 ≡ false
     not-zero = ne-eqb kind 0 (λ e. omega arith)
 
-  pub opening-sound : LawfulModel (openingModel h kind v)
+  pub opening-sound : LawfulModel (openingModel μ h kind v)
   opening-sound = ⊎-elim (λ e. rw (eq-eqb kind 0 e) zero-sound) (λ e. rw (not-zero e) (map-sound e)) kind-is
 
-  pub opening-gives : openStep h kind v ≡ given (openingModel h kind v)
+  pub opening-gives : openStep μ h kind v ≡ given (openingModel μ h kind v)
   unfolding openStep
   opening-gives = ⊎-elim
-      (λ e. rw (← none, eq-eqb kind 0 e) (ap (λ w. record { answer = opened (jobOf h collecting); volume = w }) zero-volume))
-      (λ e. rw (← none, not-zero e) (ap (λ w. record { answer = opened (jobOf h mapHeld); volume = w }) (map-volume e)))
+      (λ e. rw (← none, eq-eqb kind 0 e) (ap (λ w. record { answer = opened (jobOf μ h collecting); volume = w }) zero-volume))
+      (λ e. rw (← none, not-zero e) (ap (λ w. record { answer = opened (jobOf μ h mapHeld); volume = w }) (map-volume e)))
       kind-is
 
 -- ---- every opening: the tests of the model come first, then those of the volume
 
-abbrev pub faultOf : Header → (kind : ℕ) → List ℕ → ℕ
-faultOf h kind v = first (volumeTests (h .group) (h .lengths) kind v)
+abbrev pub faultOf : (μ : ℕ) → Header → (kind : ℕ) → List ℕ → ℕ
+faultOf μ h kind v = first (volumeTests μ (h .group) (h .lengths) kind v)
 
-pub data Verdict (h : Header) (kind : ℕ) (v : List ℕ) : Type 0 where
-  passes : first (openTests h kind v) ≡ 0 → first (beginningTests h kind) ≡ 0 → Verdict h kind v
-  fails : (n : ℕ) → first (openTests h kind v) ≡ suc n → first (beginningTests h kind) ≡ suc n → Verdict h kind v
-  faulty : (n : ℕ) → first (openTests h kind v) ≡ suc n → first (beginningTests h kind) ≡ 0 → faultOf h kind v ≡ suc n → Verdict h kind v
+pub data Verdict (μ : ℕ) (h : Header) (kind : ℕ) (v : List ℕ) : Type 0 where
+  passes : first (openTests μ h kind v) ≡ 0 → first (beginningTests μ h kind) ≡ 0 → Verdict μ h kind v
+  fails : (n : ℕ) → first (openTests μ h kind v) ≡ suc n → first (beginningTests μ h kind) ≡ suc n → Verdict μ h kind v
+  faulty : (n : ℕ) → first (openTests μ h kind v) ≡ suc n → first (beginningTests μ h kind) ≡ 0 → faultOf μ h kind v ≡ suc n → Verdict μ h kind v
 
-module _ (h : Header) (kind : ℕ) (v : List ℕ) where
-  pub verdict : Verdict h kind v
-  verdict = by (first (beginningTests h kind)) (faultOf h kind v) refl refl (first-append (beginningTests h kind) (volumeTests (h .group) (h .lengths) kind v) tt)
+module _ (μ : ℕ) (h : Header) (kind : ℕ) (v : List ℕ) where
+  pub verdict : Verdict μ h kind v
+  verdict = by (first (beginningTests μ h kind)) (faultOf μ h kind v) refl refl (first-append (beginningTests μ h kind) (volumeTests μ (h .group) (h .lengths) kind v) tt)
     where
-      by : (b f : ℕ) → first (beginningTests h kind) ≡ b → faultOf h kind v ≡ f → first (openTests h kind v) ≡ accepted b f (λ n. n) → Verdict h kind v
+      by : (b f : ℕ) → first (beginningTests μ h kind) ≡ b → faultOf μ h kind v ≡ f → first (openTests μ h kind v) ≡ accepted b f (λ n. n) → Verdict μ h kind v
       by zero zero eb ef e = passes e eb
       by zero (suc n) eb ef e = faulty n e eb ef
       by (suc n) f eb ef e = fails n e eb
 
-  pub open-refused : {n : ℕ} → first (openTests h kind v) ≡ suc n → openStep h kind v ≡ record { answer = notOpened (suc n) 0; volume = v }
+  pub open-refused : {n : ℕ} → first (openTests μ h kind v) ≡ suc n → openStep μ h kind v ≡ record { answer = notOpened (suc n) 0; volume = v }
   unfolding openStep
   open-refused e = rw e
 
 -- a volume without fault: as long as the header asks for, and for kind 1 the map of a cell
-pub faultless : (h : Header) (kind : ℕ) (v : List ℕ) → first (beginningTests h kind) ≡ 0 → length v ≡ needed h
-    → (kind ≡ 1 → MapConsistent (groupOf (h .group)) (halfLengths (h .lengths)) 1 v) → 0 ≡ faultOf h kind v
-faultless h kind v none long map = by (ℕ-discrete kind 1)
+pub faultless : (μ : ℕ) (h : Header) (kind : ℕ) (v : List ℕ) → first (beginningTests μ h kind) ≡ 0 → length v ≡ needed h
+    → (kind ≡ 1 → MapConsistent (groupOf (h .group)) (halfLengths (h .lengths)) μ v) → 0 ≡ faultOf μ h kind v
+faultless μ h kind v none long map = by (ℕ-discrete kind 1)
   where
     g : Group
     g = groupOf (h .group)
@@ -205,26 +209,26 @@ faultless h kind v none long map = by (ℕ-discrete kind 1)
     a = halfLengths (h .lengths)
 
     axes-pass : 0 ≡ first (axisTests h)
-    axes-pass = let t = passed (beginningTests h kind) tt (sym none) .1 .1 in pass 3 _ (t .0) (pass 4 _ (t .1 .0) (pass 5 _ (t .1 .1 .0) (pass 9 _ (t .1 .1 .1 .0) no-test)))
+    axes-pass = let t = passed (beginningTests μ h kind) tt (sym none) .1 .1 .1 in pass 3 _ (t .0) (pass 4 _ (t .1 .0) (pass 5 _ (t .1 .1 .0) (pass 9 _ (t .1 .1 .1 .0) no-test)))
 
     fit : eqb (length v) (needed h) ≡ true
     fit = eq-eqb _ _ long
 
-    by : Dec (kind ≡ 1) → 0 ≡ faultOf h kind v
-    by (no n) = volume-collects (h .group) (h .lengths) kind v fit n
+    by : Dec (kind ≡ 1) → 0 ≡ faultOf μ h kind v
+    by (no n) = volume-collects μ (h .group) (h .lengths) kind v fit n
     by (yes e) =
         let s = sound-axes h axes-pass in
         let c = map e in
-        let small : Below (prime 1) v = subst (Below (prime 1)) (c .3) (below-map g a 1 (c .0)) in
-        volume-held (h .group) (h .lengths) kind v fit e
-        (pass 7 _ (not-t _ (allBelow-below p v small)) (pass 14 _ (not-t _ (map-consistent g a (s .0 .size .positive, s .1 .size .positive, s .2 .size .positive) 1 v long small .1 c)) no-test))
+        let small : Below (prime μ) v = subst (Below (prime μ)) (c .3) (below-map g a μ (c .0)) in
+        volume-held μ (h .group) (h .lengths) kind v fit e
+        (pass 7 _ (not-t _ (allBelow-below (prime μ) v small)) (pass 14 _ (not-t _ (map-consistent g a (s .0 .size .positive, s .1 .size .positive, s .2 .size .positive) μ v long small .1 c)) no-test))
 
 -- the faults of a volume: 6, and of a map 7, 14
-pub no-fault : (h : Header) (kind : ℕ) (v : List ℕ) (n : ℕ) → faultOf h kind v ≡ suc n → (suc n ≡ 6 → ⊥) → (kind ≡ 1 → (suc n ≡ 7 → ⊥) × (suc n ≡ 14 → ⊥)) → ⊥
+pub no-fault : (μ : ℕ) (h : Header) (kind : ℕ) (v : List ℕ) (n : ℕ) → faultOf μ h kind v ≡ suc n → (suc n ≡ 6 → ⊥) → (kind ≡ 1 → (suc n ≡ 7 → ⊥) × (suc n ≡ 14 → ⊥)) → ⊥
 unfolding first
-no-fault h kind v n e six map =
+no-fault μ h kind v n e six map =
     let a = halfLengths (h .lengths) in
-    by (not (eqb (length v) (volumeLength (groupOf (h .group)) a))) (eqb kind 1 && not (allBelow p v)) (eqb kind 1 && not (consistentMap (groupOf (h .group)) a v)) (asked-of _) (asked-of _) e
+    by (not (eqb (length v) (volumeLength (groupOf (h .group)) a))) (eqb kind 1 && not (allBelow (prime μ) v)) (eqb kind 1 && not (consistentMap (groupOf (h .group)) a v)) (asked-of _) (asked-of _) e
   where
     asked-of : (b : Bool) → (eqb kind 1 && b) ≡ true → kind ≡ 1
     asked-of b q = eqb-true kind 1 (both (eqb kind 1) b q .0)

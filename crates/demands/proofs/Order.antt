@@ -4,7 +4,7 @@ use mathlib.Core.Path.{_≡_, refl, sym, _∙_, ap, subst, subst₂}
 use mathlib.Core.Logic.{_⊎_, inl, inr}
 use mathlib.Core.Bool.{false, not, cond}
 use mathlib.Core.List.{List, [], _∷_, _++_, map, append-nil}
-use Prim.Native.Nat.{ℕ, zero, suc, _+_}
+use Prim.Native.Nat.{ℕ, zero, suc, _+_, _<_}
 use native.Mathlib.Omega.{arith}
 use lib.ListN.{length}
 use lib.Dec.{leb, eqb}
@@ -15,6 +15,7 @@ use Rattle.algebra.proofs.ring.Members.{perm-map, perm-mem, perm-sym}
 use Rattle.algebra.proofs.orbits.OrbitLists.{sound-perm}
 use Rattle.algebra.proofs.cells.CellTests as CellTests
 use Rattle.algebra.proofs.cells.CellGroup.{factor-action, closed}
+use Rattle.numbers.specs.Value.{isModulus}
 use Rattle.numbers.proofs.Values.{field-ring, field-star}
 use Rattle.refusals.specs.Refusals.{_⇒_, first, accepted}
 use Rattle.cell.specs.Consistency.{sameValue}
@@ -24,8 +25,10 @@ use Rattle.job.specs.declared.Job.{Job}
 use Rattle.job.specs.Job.{Header, halfLengths, needed, axisTests, factorsHeld, mapHeld, opened, openTests}
 use Rattle.file_format.specs.declared.FileRecord.{FileRecord}
 use Rattle.file_format.proofs.shape.Shapes.{same-shape}
+use Rattle.file_format.proofs.places.Heads.{same-modulus}
 use Rattle.file_format.proofs.layout.Heads.{same-header}
-use Rattle.factor_file.specs.File.{countAt, headerIn, recordsIn, shapeTests, fileStep}
+use Rattle.file_format.specs.Format.{modulusAt, list2At, list3At}
+use Rattle.factor_file.specs.File.{countAt, modulusIn, headerIn, recordsIn, shapeTests, fileStep}
 use Rattle.model.specs.Model.{Model, group, half, factorOf, Call, recording, synthesis, analysis, readPoint, readFactor, modelTests, modelNext, modelSaid, modelAfter, inState, factorVolume, mapVolume, modelVolume, begun, zeroModel, mapModel, modelFeed}
 use Rattle.demands.specs.Demands.{Start, reading, startHeader, startKind, startVolume, startRecords, firstModel, run, modelAnswers, modelEnd, acceptedRecords, Started, entry, Alike, allRecords, OrderFree, AlikeStarts, FileOrderFree}
 use Rattle.model.proofs.Sound.{LawfulModel, halves-positive}
@@ -35,40 +38,40 @@ use Rattle.demands.proofs.Starts.{file-shape, accepted-start, file-give
 use Rattle.demands.proofs.AcceptedRecords.{Records, different-accepted, different-fed, start-passes, first-sound, start-fed, start-records, started-records, started-header}
 
 -- two orders in which every record is accepted leave the same F
-records-order : (m m₁ m₂ : Model) → LawfulModel m → {cs cs′ : List FileRecord} → Perm cs cs′ → Records m m₁ cs → Records m m₂ cs′ → factorOf m₁ ≡ factorOf m₂
+records-order : {μ : ℕ} (m m₁ m₂ : Model μ) → LawfulModel m → {cs cs′ : List FileRecord} → Perm cs cs′ → Records m m₁ cs → Records m m₂ cs′ → factorOf m₁ ≡ factorOf m₂
 unfolding factorActs
-records-order m m₁ m₂ sound perm r r′ =
+records-order {μ} m m₁ m₂ sound perm r r′ =
     r .1
-    ∙ CellTests.records-order (field-ring 1) (field-star 1) sameValue (same-iff 1) (group m) (half m) (halves-positive m sound) (perm-map entry perm) (factorOf m) (sound .lawful) (r .0) (r′ .0)
+    ∙ CellTests.records-order (field-ring μ) (field-star μ) sameValue (same-iff μ) (group m) (half m) (halves-positive m sound) (perm-map (entry μ) perm) (factorOf m) (sound .lawful) (r .0) (r′ .0)
     ∙ sym (r′ .1)
 
 -- ---- what the model uses
 
 -- the same group, lengths and F, whatever the factor lists and the state
-record SameCell (m m′ : Model) : Type 0 where
+record SameCell {μ : ℕ} (m m′ : Model μ) : Type 0 where
   pub same-group : m .header .group ≡ m′ .header .group
   pub same-lengths : m .header .lengths ≡ m′ .header .lengths
   pub same-F : m .F ≡ m′ .F
 
-module _ {m m′ : Model} (same : SameCell m m′) where
+module _ {μ : ℕ} {m m′ : Model μ} (same : SameCell m m′) where
   same-factor-volume : factorVolume m ≡ factorVolume m′
-  same-factor-volume = λ i. packFactors (groupOf (same .same-group i)) (halfLengths (same .same-lengths i)) 1 (same .same-F i)
+  same-factor-volume = λ i. packFactors (groupOf (same .same-group i)) (halfLengths (same .same-lengths i)) μ (same .same-F i)
 
   same-map-volume : mapVolume m ≡ mapVolume m′
-  same-map-volume = λ i. packMap (groupOf (same .same-group i)) (halfLengths (same .same-lengths i)) 1 (mapOf 1 (halfLengths (same .same-lengths i)) (same .same-F i))
+  same-map-volume = λ i. packMap (groupOf (same .same-group i)) (halfLengths (same .same-lengths i)) μ (mapOf μ (halfLengths (same .same-lengths i)) (same .same-F i))
 
   same-volume : eqb (m .state) mapHeld ≡ eqb (m′ .state) mapHeld → modelVolume m ≡ modelVolume m′
   unfolding modelVolume
   same-volume e = λ i. cond (e i) (same-map-volume i) (same-factor-volume i)
 
 -- without the factor lists, which it does not use, a model answers the same
-abbrev unlisted : Model → Model
+abbrev unlisted : {μ : ℕ} → Model μ → Model μ
 unlisted m = record { header = record { group = m .header .group; lengths = m .header .lengths; list1 = []; list2 = []; list3 = [] }; state = m .state; F = m .F }
 
-same-unlisted : (m m′ : Model) → SameCell m m′ → m .state ≡ m′ .state → unlisted m ≡ unlisted m′
+same-unlisted : {μ : ℕ} (m m′ : Model μ) → SameCell m m′ → m .state ≡ m′ .state → unlisted m ≡ unlisted m′
 same-unlisted m m′ same e = λ i. record { header = record { group = same .same-group i; lengths = same .same-lengths i; list1 = []; list2 = []; list3 = [] }; state = e i; F = same .same-F i }
 
-unlisted-said : (m : Model) (c : Call) → modelSaid m c ≡ modelSaid (unlisted m) c
+unlisted-said : {μ : ℕ} (m : Model μ) (c : Call) → modelSaid m c ≡ modelSaid (unlisted m) c
 unfolding modelSaid
 unlisted-said m (recording k x y) = refl
 unlisted-said m (synthesis scratch) = refl
@@ -76,11 +79,11 @@ unlisted-said m (analysis scratch) = refl
 unlisted-said m (readPoint x) = refl
 unlisted-said m (readFactor k) = refl
 
-unlisted-accepted : (n : ℕ) (m next : Model) {next′ : Model} → unlisted next ≡ next′ → unlisted (accepted n next (λ n. m)) ≡ accepted n next′ (λ n. unlisted m)
+unlisted-accepted : {μ : ℕ} (n : ℕ) (m next : Model μ) {next′ : Model μ} → unlisted next ≡ next′ → unlisted (accepted n next (λ n. m)) ≡ accepted n next′ (λ n. unlisted m)
 unlisted-accepted zero m next e = e
 unlisted-accepted (suc n) m next e = refl
 
-unlisted-after : (m : Model) (c : Call) → unlisted (modelAfter m c) ≡ modelAfter (unlisted m) c
+unlisted-after : {μ : ℕ} (m : Model μ) (c : Call) → unlisted (modelAfter m c) ≡ modelAfter (unlisted m) c
 unfolding modelAfter
 unlisted-after m (recording k x y) = unlisted-accepted (first (modelTests m (recording k x y))) m (modelNext m (recording k x y)) refl
 unlisted-after m (synthesis scratch) = unlisted-accepted (first (modelTests m (synthesis scratch))) m (inState m mapHeld) refl
@@ -88,7 +91,7 @@ unlisted-after m (analysis scratch) = unlisted-accepted (first (modelTests m (an
 unlisted-after m (readPoint x) = unlisted-accepted (first (modelTests m (readPoint x))) m m refl
 unlisted-after m (readFactor k) = unlisted-accepted (first (modelTests m (readFactor k))) m m refl
 
-unlisted-answers : (m : Model) (l : List Call) → modelAnswers m l ≡ modelAnswers (unlisted m) l
+unlisted-answers : {μ : ℕ} (m : Model μ) (l : List Call) → modelAnswers m l ≡ modelAnswers (unlisted m) l
 unfolding modelAnswers
 unlisted-answers m [] = refl
 unlisted-answers m (c ∷ l) =
@@ -96,37 +99,37 @@ unlisted-answers m (c ∷ l) =
     let others = unlisted-answers (modelAfter m c) l ∙ ap (λ m. modelAnswers m l) (unlisted-after m c) in
     λ i. answer i ∷ others i
 
-unlisted-end : (m : Model) (l : List Call) → unlisted (modelEnd m l) ≡ modelEnd (unlisted m) l
+unlisted-end : {μ : ℕ} (m : Model μ) (l : List Call) → unlisted (modelEnd m l) ≡ modelEnd (unlisted m) l
 unfolding modelEnd
 unlisted-end m [] = refl
 unlisted-end m (c ∷ l) = unlisted-end (modelAfter m c) l ∙ ap (λ m. modelEnd m l) (unlisted-after m c)
 
 -- ---- starts that are alike
 
-first-collects : (s : Start) → startKind s ≡ 0 → firstModel s ≡ zeroModel (startHeader s)
-first-collects s e = ap (λ b. cond b (zeroModel (startHeader s)) (mapModel (startHeader s) (startVolume s))) (eq-eqb (startKind s) 0 e)
+first-collects : {μ : ℕ} (s : Start μ) → startKind s ≡ 0 → firstModel s ≡ zeroModel μ (startHeader s)
+first-collects {μ} s e = ap (λ b. cond b (zeroModel μ (startHeader s)) (mapModel μ (startHeader s) (startVolume s))) (eq-eqb (startKind s) 0 e)
 
-first-map : (s : Start) → startKind s ≡ 1 → firstModel s ≡ mapModel (startHeader s) (startVolume s)
-first-map s e = ap (λ b. cond b (zeroModel (startHeader s)) (mapModel (startHeader s) (startVolume s))) (ne-eqb (startKind s) 0 (λ z. omega arith))
+first-map : {μ : ℕ} (s : Start μ) → startKind s ≡ 1 → firstModel s ≡ mapModel μ (startHeader s) (startVolume s)
+first-map {μ} s e = ap (λ b. cond b (zeroModel μ (startHeader s)) (mapModel μ (startHeader s) (startVolume s))) (ne-eqb (startKind s) 0 (λ z. omega arith))
 
 -- they begin alike but for the factor lists
-alike-first : (s s′ : Start) → Alike s s′ → (startKind s ≡ 0) ⊎ (startKind s ≡ 1) → unlisted (firstModel s) ≡ unlisted (firstModel s′)
-alike-first s s′ a (inl e) =
+alike-first : {μ : ℕ} (s s′ : Start μ) → Alike s s′ → (startKind s ≡ 0) ⊎ (startKind s ≡ 1) → unlisted (firstModel s) ≡ unlisted (firstModel s′)
+alike-first {μ} s s′ a (inl e) =
     ap unlisted (first-collects s e)
-    ∙ same-unlisted (zeroModel (startHeader s)) (zeroModel (startHeader s′)) (record { same-group = a .same-group; same-lengths = a .same-lengths; same-F = refl }) refl
+    ∙ same-unlisted (zeroModel μ (startHeader s)) (zeroModel μ (startHeader s′)) (record { same-group = a .same-group; same-lengths = a .same-lengths; same-F = refl }) refl
     ∙ ap unlisted (sym (first-collects s′ (sym (a .same-kind) ∙ e)))
-alike-first s s′ a (inr e) =
+alike-first {μ} s s′ a (inr e) =
     ap unlisted (first-map s e)
-    ∙ same-unlisted (mapModel (startHeader s) (startVolume s)) (mapModel (startHeader s′) (startVolume s′)) (record {
+    ∙ same-unlisted (mapModel μ (startHeader s) (startVolume s)) (mapModel μ (startHeader s′) (startVolume s′)) (record {
       same-group = a .same-group;
       same-lengths = a .same-lengths;
-      same-F = λ i. factorsOf 1 (halfLengths (a .same-lengths i)) (mapIn (groupOf (a .same-group i)) (halfLengths (a .same-lengths i)) 1 (a .same-map e i));
+      same-F = λ i. factorsOf μ (halfLengths (a .same-lengths i)) (mapIn (groupOf (a .same-group i)) (halfLengths (a .same-lengths i)) μ (a .same-map e i));
     }) refl
     ∙ ap unlisted (sym (first-map s′ (sym (a .same-kind) ∙ e)))
 
-module _ (s s′ : Start) (j j′ : Job) (v v′ : List ℕ) (m m′ : Model) (started : Started s j v m) (started′ : Started s′ j′ v′ m′) (alike : Alike s s′) where
+module _ {μ : ℕ} (s s′ : Start μ) (j j′ : Job) (v v′ : List ℕ) (m m′ : Model μ) (started : Started s j v m) (started′ : Started s′ j′ v′ m′) (alike : Alike s s′) where
   same-first : unlisted (firstModel s) ≡ unlisted (firstModel s′)
-  same-first = alike-first s s′ alike (kind-is (startHeader s) (startKind s) (startVolume s) (start-passes s j v m started))
+  same-first = alike-first s s′ alike (kind-is μ (startHeader s) (startKind s) (startVolume s) (start-passes s j v m started))
 
   -- the same records in another order leave the same F
   ends-same : (l l′ : List Call) → Perm (allRecords s j v l) (allRecords s′ j′ v′ l′) → SameCell (modelEnd m l) (modelEnd m′ l′)
@@ -174,41 +177,48 @@ module _ (s s′ : Start) (j j′ : Job) (v v′ : List ℕ) (m m′ : Model) (s
       )
 
 pub order-free : OrderFree
-order-free = record { same = order }
+order-free = record { same = λ μ. order }
 
 pub alike-starts : AlikeStarts
-alike-starts = record { same = answers-alike }
+alike-starts = record { same = λ μ. answers-alike }
 
 -- ---- a file with its records in another order
 
 -- an opening with kind 0 asks of the volume its length alone
-same-tests : (h : Header) (v v′ : List ℕ) → length v ≡ length v′ → first (openTests h 0 v) ≡ first (openTests h 0 v′)
-same-tests h v v′ e = ap (λ n. first (leb 5 (h .group) ⇒ 8 ∷ leb 2 0 ⇒ 2 ∷ (axisTests h ++ not (eqb n (needed h)) ⇒ 6 ∷ false ⇒ 7 ∷ false ⇒ 14 ∷ []))) e
+same-tests : (μ : ℕ) (h : Header) (v v′ : List ℕ) → length v ≡ length v′ → first (openTests μ h 0 v) ≡ first (openTests μ h 0 v′)
+same-tests μ h v v′ e = ap (λ n. first (leb 5 (h .group) ⇒ 8 ∷ not (isModulus μ) ⇒ 26 ∷ leb 2 0 ⇒ 2 ∷ (axisTests h ++ not (eqb n (needed h)) ⇒ 6 ∷ false ⇒ 7 ∷ false ⇒ 14 ∷ []))) e
 
 -- a file of sound shape with the header and, in any order, the records of an accepted file
-records-moved : (file file′ v v′ : List ℕ) (j : Job) (w : List ℕ) → headerIn file ≡ headerIn file′ → first (shapeTests file′) ≡ 0 → Perm (recordsIn file) (recordsIn file′) → length v ≡ length v′ →
+records-moved : (file file′ v v′ : List ℕ) (j : Job) (w : List ℕ) → modulusIn file ≡ modulusIn file′ → headerIn file ≡ headerIn file′ → first (shapeTests file′) ≡ 0 → Perm (recordsIn file) (recordsIn file′) → length v ≡ length v′ →
     fileStep file v ≡ record { answer = opened j; volume = w } → fileStep file′ v′ ≡ record { answer = opened j; volume = w }
-records-moved file file′ v v′ j w eh shape perm long e =
-    let s = reading file v in
+records-moved file file′ v v′ j w em eh shape perm long e =
+    let μ = modulusIn file in
+    let s : Start μ = reading file v refl in
     let (m, begins, sound, ej, ew) = accepted-start s j w e in
     let started : Started s j w m = record { gives = e; begins = begins } in
-    let empty = zeroModel (headerIn file) in
+    let empty = zeroModel μ (headerIn file) in
     let taken = start-fed s j w m started in
     let sound = first-sound s j w m started in
     let records = recordsIn file′ in
-    let different = sound-perm (factor-action (field-ring 1) (field-star 1) (half empty)) (full (group empty)) (closed (field-ring 1) (field-star 1) (half empty) (group empty)) (perm-map entry perm) (taken .different) in
-    let left : Model = record { header = empty .header; state = empty .state; F = λ h k l. recordAll (actsOn (half empty)) (full (group empty)) (map entry records) (factorOf empty) (h, k, l) } in
+    let different = sound-perm (factor-action (field-ring μ) (field-star μ) (half empty)) (full (group empty)) (closed (field-ring μ) (field-star μ) (half empty) (group empty)) (perm-map (entry μ) perm) (taken .different) in
+    let left : Model μ = record { header = empty .header; state = empty .state; F = λ h k l. recordAll (actsOn μ (half empty)) (full (group empty)) (map (entry μ) records) (factorOf empty) (h, k, l) } in
     let f = different-fed records empty sound (λ c i. taken .below c (perm-mem perm c i)) different in
     let same = records-order empty left m sound (perm-sym perm) (different-accepted records empty (λ q. refl) different, refl) (start-records s j w m started) in
     let is : left ≡ m = λ i. record { header = sym (taken .same-header) i; state = sym (taken .same-state) i; F = λ h k l. same i (h, k, l) } in
-    file-gives file′ v′ shape m (subst (λ h. 0 ≡ first (openTests h 0 v′)) eh (start-passes s j w m started ∙ same-tests (headerIn file) v v′ long)) (subst (λ h. modelFeed (recordsIn file′) (zeroModel h) ≡ begun m) eh (f ∙ ap begun is))
+    file-gives file′ v′ (sym em) shape m (subst (λ h. 0 ≡ first (openTests μ h 0 v′)) eh (start-passes s j w m started ∙ same-tests μ (headerIn file) v v′ long)) (subst (λ h. modelFeed (recordsIn file′) (zeroModel μ h) ≡ begun m) eh (f ∙ ap begun is))
     ∙ λ i. record { answer = opened (sym ej i); volume = sym ew i }
 
--- the shape and the header stand before the first record
+-- the modulus, where a file has one, stands before its lists, which stand before the record count
+behind-modulus : (file : List ℕ) → modulusAt < countAt file + 4
+unfolding list2At list3At countAt
+behind-modulus file = omega arith
+
+-- the shape, the modulus and the header stand before the first record
 pub file-order-free : FileOrderFree
 file-order-free = record {
   same = λ file file′ v v′ j w moved long e.
+      let modulus = same-modulus file file′ (countAt file + 4) (moved .same-head) (behind-modulus file) in
       let header = same-header file file′ (countAt file + 4) (moved .same-head) (omega arith) in
       let shape = sym (same-shape file file′ (moved .same-length) (moved .same-head)) ∙ file-shape file v j (ap (λ o. o .answer) e) in
-      records-moved file file′ v v′ j w header shape (moved .same-records) long e;
+      records-moved file file′ v v′ j w modulus header shape (moved .same-records) long e;
 }

@@ -29,33 +29,33 @@ use Rattle.demands.proofs.Starts.{accepted-start}
 -- ---- what is reached is valid
 
 pub reached-valid : (j : Job) → Reachable j → validJob j ≡ true
-reached-valid j (s, i, v, l, gives, leaves) =
+reached-valid j (μ, s, i, v, l, gives, leaves) =
     let (m, b, sound, ei, ev) = accepted-start s i v gives in
     ap validJob (sym leaves ∙ ap (λ (r : Ran). r .job) (runs m sound i v ei ev l)) ∙ end-sound m sound l .valid
 
 -- ---- what is valid is reached
 
-module _ (h : Header) (scratch : List ℕ) (long : scratchLength ≤ length scratch) where
+module _ (μ : ℕ) (h : Header) (scratch : List ℕ) (long : scratchLength ≤ length scratch) where
   -- the calls that bring the opened job to a state
   abbrev callsTo : ℕ → List Call
   callsTo zero = []
   callsTo (suc zero) = synthesis scratch ∷ analysis scratch ∷ []
   callsTo (suc (suc s)) = synthesis scratch ∷ []
 
-  after : (m : Model) (c : Call) → 0 ≡ first (modelTests m c) → modelAfter m c ≡ modelNext m c
+  after : (m : Model μ) (c : Call) → 0 ≡ first (modelTests m c) → modelAfter m c ≡ modelNext m c
   unfolding modelAfter
   after m c e = λ i. accepted (sym e i) (modelNext m c) (λ n. m)
 
-  to-map : modelAfter (zeroModel h) (synthesis scratch) ≡ inState (zeroModel h) mapHeld
-  to-map = after (zeroModel h) (synthesis scratch) (pass 23 _ refl (pass 13 _ (le-ltb _ _ long) none))
+  to-map : modelAfter (zeroModel μ h) (synthesis scratch) ≡ inState (zeroModel μ h) mapHeld
+  to-map = after (zeroModel μ h) (synthesis scratch) (pass 23 _ refl (pass 13 _ (le-ltb _ _ long) none))
 
-  to-factors : modelAfter (inState (zeroModel h) mapHeld) (analysis scratch) ≡ inState (zeroModel h) factorsHeld
-  to-factors = after (inState (zeroModel h) mapHeld) (analysis scratch) (pass 22 _ refl (pass 13 _ (le-ltb _ _ long) none))
+  to-factors : modelAfter (inState (zeroModel μ h) mapHeld) (analysis scratch) ≡ inState (zeroModel μ h) factorsHeld
+  to-factors = after (inState (zeroModel μ h) mapHeld) (analysis scratch) (pass 22 _ refl (pass 13 _ (le-ltb _ _ long) none))
 
-  state-reached : (s : ℕ) → s < 3 → modelEnd (zeroModel h) (callsTo s) ≡ inState (zeroModel h) s
+  state-reached : (s : ℕ) → s < 3 → modelEnd (zeroModel μ h) (callsTo s) ≡ inState (zeroModel μ h) s
   unfolding modelEnd
   state-reached zero l = refl
-  state-reached (suc zero) l = ap (λ (m : Model). modelAfter m (analysis scratch)) to-map ∙ to-factors
+  state-reached (suc zero) l = ap (λ (m : Model μ). modelAfter m (analysis scratch)) to-map ∙ to-factors
   state-reached (suc (suc zero)) l = to-map
   state-reached (suc (suc (suc s))) l = absurd (omega arith)
 
@@ -64,25 +64,26 @@ module _ (j : Job) (valid : validJob j ≡ true) where
   zeros = replicate (needed (headerOf j)) 0
 
   -- no test refuses an opening of kind 0 with the job's header
-  passes : 0 ≡ first (openTests (headerOf j) 0 zeros)
+  passes : 0 ≡ first (openTests (j .modulus) (headerOf j) 0 zeros)
   passes =
       let t = valid-parts j valid in
-      volume-decides (headerOf j) 0 zeros (t .0) (omega arith) (t .1)
-      (volume-collects (j .group) (headerOf j .lengths) 0 zeros (eq-eqb _ _ (length-replicate (needed (headerOf j)) 0)) (λ e. omega arith))
+      volume-decides (j .modulus) (headerOf j) 0 zeros (t .0) (t .3) (omega arith) (t .1)
+      (volume-collects (j .modulus) (j .group) (headerOf j .lengths) 0 zeros (eq-eqb _ _ (length-replicate (needed (headerOf j)) 0)) (λ e. omega arith))
 
   pub valid-reached : Reachable j
   valid-reached =
-      let m = zeroModel (headerOf j) in
+      let m : Model (j .modulus) = zeroModel (j .modulus) (headerOf j) in
       let scratch : List ℕ = replicate scratchLength 0 in
       let long : scratchLength ≤ length scratch = rw length-replicate (omega arith) in
-      let sound : LawfulModel m = opening-sound (headerOf j) 0 zeros passes in
-      let l = callsTo (headerOf j) scratch long (j .state) in (
+      let sound : LawfulModel m = opening-sound (j .modulus) (headerOf j) 0 zeros passes in
+      let l = callsTo (j .modulus) (headerOf j) scratch long (j .state) in (
+        j .modulus,
         opening (headerOf j) 0 zeros,
         modelJob m,
         modelVolume m,
         l,
-        opening-gives (headerOf j) 0 zeros passes,
-        ap (λ (r : Ran). r .job) (every-list m sound l) ∙ ap modelJob (state-reached (headerOf j) scratch long (j .state) (valid-parts j valid .2)) ∙ job-of-header j,
+        opening-gives (j .modulus) (headerOf j) 0 zeros passes,
+        ap (λ (r : Ran). r .job) (every-list m sound l) ∙ ap modelJob (state-reached (j .modulus) (headerOf j) scratch long (j .state) (valid-parts j valid .2)) ∙ job-of-header j,
       )
 
 -- ---- every call tests 25 first, and no other test has that number

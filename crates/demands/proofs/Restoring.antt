@@ -7,7 +7,7 @@ use native.Mathlib.Omega.{arith}
 use lib.ListN.{length}
 use borrow.Author.Tests.{not-false, eqb-true, le-ltb}
 use Rattle.algebra.specs.cells.CellSteps.{Lawful}
-use Rattle.numbers.specs.Value.{field, conj}
+use Rattle.numbers.specs.Value.{prime, field, conj}
 use Rattle.numbers.proofs.Primes.{prime-pos}
 use Rattle.slices.proofs.Bounds.{below-allBelow}
 use Rattle.refusals.specs.Refusals.{first, accepted}
@@ -16,7 +16,7 @@ use Rattle.refusals.proofs.Tests.{none, pass, Passed, passed}
 use Rattle.cell.specs.Volume.{factorsIn}
 use Rattle.cell.proofs.Consistency.{consistent-read}
 use Rattle.job.specs.declared.Job.{Job}
-use Rattle.job.specs.Job.{factorsHeld, mapHeld, headerOf, withState, validJob, groupIn, halves, p, done, refused, Outcome, Worked, unchanged, synthesised, synthesisStep, analysisStep, pointStep}
+use Rattle.job.specs.Job.{factorsHeld, mapHeld, headerOf, withState, validJob, groupIn, halves, done, refused, Outcome, Worked, unchanged, synthesised, synthesisStep, analysisStep, pointStep}
 use Rattle.job.specs.TestSteps.{synthesisTests}
 use Rattle.job.proofs.Jobs.{job-of-header, valid-with, valid-job-sizes}
 use Rattle.model.specs.Model.{Model, group, half, analysis, inState, factorVolume, modelVolume, modelJob}
@@ -36,8 +36,8 @@ synthesis-accepted j v scratch a = accepted-done (first (synthesisTests j v (len
 
 module _ (j : Job) (v scratch : List ℕ) (e : 0 ≡ first (synthesisTests j v (length scratch))) where
   -- they are those of the model whose F is what is read off the volume
-  abbrev held : Model
-  held = record { header = headerOf j; state = j .state; F = factorsIn (groupIn j) (halves j) 1 v }
+  abbrev held : Model (j .modulus)
+  held = record { header = headerOf j; state = j .state; F = factorsIn (groupIn j) (halves j) (j .modulus) v }
 
   is-held : j ≡ modelJob held
   is-held = sym (job-of-header j)
@@ -48,11 +48,11 @@ module _ (j : Job) (v scratch : List ℕ) (e : 0 ≡ first (synthesisTests j v (
   valid : validJob j ≡ true
   valid = not-false _ (tests .0)
 
-  read-back : Lawful (field 1) (conj 1) (half held) (group held) (held .F) × (factorVolume held ≡ v)
+  read-back : Lawful (field (j .modulus)) (conj (j .modulus)) (half held) (group held) (held .F) × (factorVolume held ≡ v)
   read-back =
       let s = valid-job-sizes j valid in
-      consistent-read (groupIn j) (halves j) (s .first .positive, s .second .positive, s .third .positive) 1 v
-      (eqb-true _ _ (not-false _ (tests .1 .1 .0))) (below-allBelow p v (prime-pos 1) (not-false _ (tests .1 .1 .1 .1 .0))) (not-false _ (tests .1 .1 .1 .1 .1 .0))
+      consistent-read (groupIn j) (halves j) (s .first .positive, s .second .positive, s .third .positive) (j .modulus) v
+      (eqb-true _ _ (not-false _ (tests .1 .1 .0))) (below-allBelow (prime (j .modulus)) v (prime-pos (j .modulus)) (not-false _ (tests .1 .1 .1 .1 .0))) (not-false _ (tests .1 .1 .1 .1 .1 .0))
 
   held-sound : LawfulModel (inState held mapHeld)
   held-sound = record { valid = valid-with (modelJob held) mapHeld (subst (λ (j : Job). validJob j ≡ true) is-held valid) (omega arith); lawful = read-back .0 }

@@ -3,6 +3,8 @@ use mathlib.Core.Path.{_≡_}
 use mathlib.Core.List.{List, [], _∷_}
 use Prim.Native.Nat.{ℕ}
 use lib.ListN.{length}
+use mathlib.Core.Bool.{true}
+use Rattle.numbers.specs.Value.{isModulus}
 use Rattle.refusals.specs.Refusals.{accepted}
 use Rattle.job.specs.Job.{Header, needed, jobOf, collecting, opened, notOpened, openStep}
 
@@ -28,9 +30,9 @@ grids =
 abbrev pub headerOf : Grid → Header
 headerOf x = record { group = x .group; lengths = (x .length, x .length, x .length); list1 = x .factors; list2 = x .factors; list3 = x .factors }
 
--- whatever the volume of that many numbers holds
+-- under either modulus, whatever the volume of that many numbers holds
 abbrev pub Shown : Grid → Type 0
-Shown x = (needed (headerOf x) ≡ x .numbers) × ((v : List ℕ) → length v ≡ x .numbers → openStep (headerOf x) 0 v .answer ≡ accepted (x .refusal) (opened (jobOf (headerOf x) collecting)) (λ n. notOpened n 0))
+Shown x = (needed (headerOf x) ≡ x .numbers) × ((m : ℕ) → isModulus m ≡ true → (v : List ℕ) → length v ≡ x .numbers → openStep m (headerOf x) 0 v .answer ≡ accepted (x .refusal) (opened (jobOf m (headerOf x) collecting)) (λ n. notOpened n 0))
 
 abbrev pub AllShown : List Grid → Type 0
 AllShown [] = Unit

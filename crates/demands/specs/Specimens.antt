@@ -4,10 +4,11 @@ use mathlib.Core.Path.{_≡_}
 use mathlib.Core.List.{List, [], _∷_, _++_, map}
 use Prim.Native.Nat.{ℕ, _<_}
 use lib.ListN.{length, replicate}
+use Rattle.numbers.specs.Value.{prime}
 use Rattle.line.specs.Specimens as Lines
 use Rattle.job.specs.declared.Job.{Job}
 use Rattle.job.specs.declared.Reflection.{Reflection}
-use Rattle.job.specs.Job.{Header, jobOf, collecting, p, opened, openStep, done, recordStep, unchanged}
+use Rattle.job.specs.Job.{Header, jobOf, collecting, opened, openStep, done, recordStep, unchanged}
 
 pub record Specimen : Type 0 where
   pub group : ℕ
@@ -25,13 +26,13 @@ records =
     row 4 0 0 1 12 ∷
     []
 
--- Whatever lengths, factor lists and volume a job of the group is opened with to collect, and whatever value a + b i other than zero is recorded:
+-- Whatever modulus, lengths, factor lists and volume a job of the group is opened with to collect, and whatever value a + b i other than zero is recorded:
 -- the refusal has the number, and job and volume stay as the opening left them.
 abbrev pub Shown : Specimen → Type 0
-Shown x = (h : Header) (lent v : List ℕ) (j : Job) (a b : ℕ) → h .group ≡ x .group → openStep h 0 lent ≡ record { answer = opened j; volume = v } →
-    a < p → b < p → ((a ≡ 0) × (b ≡ 0) → ⊥) → recordStep j (x .at) a b v ≡ unchanged j v (x .number)
+Shown x = (m : ℕ) (h : Header) (lent v : List ℕ) (j : Job) (a b : ℕ) → h .group ≡ x .group → openStep m h 0 lent ≡ record { answer = opened j; volume = v } →
+    a < prime m → b < prime m → ((a ≡ 0) × (b ≡ 0) → ⊥) → recordStep j (x .at) a b v ≡ unchanged j v (x .number)
 
--- A record that a volume of zeros takes, and the numbers that it leaves.
+-- A record that a volume of zeros takes under the first prime, and the numbers that it leaves.
 pub record Taken : Type 0 where
   pub header : Header
   pub at : Reflection
@@ -55,8 +56,8 @@ takenRecords =
 abbrev pub ShownTaken : Taken → Type 0
 ShownTaken x =
     let zeros : List ℕ = replicate (length (x .left)) 0 in
-    let j = jobOf (x .header) collecting in
-    (openStep (x .header) 0 zeros ≡ record { answer = opened j; volume = zeros }) ×
+    let j = jobOf 1 (x .header) collecting in
+    (openStep 1 (x .header) 0 zeros ≡ record { answer = opened j; volume = zeros }) ×
     (recordStep j (x .at) (x .a) (x .b) zeros ≡ record { answer = done; job = j; volume = x .left }) ×
     (recordStep j (x .at) (x .b) (x .a) zeros ≡ unchanged j zeros 12)
 

@@ -1,7 +1,7 @@
 -- What is owed of the writer beside its promise: a file that was written reads back, its records rise, equal jobs and volumes give equal files,
 -- a file that was read is written back in one way, whatever the order of its records, and a file of no records is that of a cell whose factors are all zero.
 -- Each statement is the promise of the function of the same name in src/read_back.rt.
-use mathlib.Core.Path.{_≡_}
+use mathlib.Core.Path.{_≡_, refl}
 use mathlib.Core.Logic.{_⊎_}
 use mathlib.Core.Bool.{true}
 use mathlib.Core.List.{List, [], _++_, map}
@@ -14,9 +14,9 @@ use Rattle.numbers.specs.Value.{value}
 use Rattle.refusals.specs.Refusals.{first}
 use Rattle.job.specs.Job.{needed, collecting, factorsHeld, withState, headerOf, validJob, opened, openStep, index}
 use Rattle.file_format.specs.declared.FileRecord.{FileRecord}
-use Rattle.file_format.specs.Format.{fileOf}
+use Rattle.file_format.specs.Format.{versionOf, fileOf}
 pub use Rattle.factor_file.specs.File.{indexIn}
-use Rattle.factor_file.specs.File.{recordCount, recordsIn, shapeTests, headerIn, fileStep, writeStep}
+use Rattle.factor_file.specs.File.{recordCount, recordsIn, shapeTests, modulusIn, headerIn, fileStep, writeStep}
 use Rattle.model.specs.Model.{Model, densityOf, zeroModel}
 use Rattle.output.specs.Output.{written}
 use Rattle.factor_file.specs.RecordOrder.{Rising, LowestOfOrbit}
@@ -42,9 +42,9 @@ pub record FileRises : Type 0 where
 abbrev pub WithFactors : Job → Type 0
 WithFactors j = (j .state ≡ collecting) ⊎ (j .state ≡ factorsHeld)
 
--- Equal headers (group, lengths and factor lists) and equal volumes give equal files, whatever the outputs held and whichever the state with factors.
+-- Equal moduli, equal headers (group, lengths and factor lists) and equal volumes give equal files, whatever the outputs held and whichever the state with factors.
 pub record EqualFiles : Type 0 where
-  pub same : (j j′ : Job) (v output output′ file : List ℕ) → headerOf j ≡ headerOf j′ → WithFactors j′ → length file ≤ length output′ →
+  pub same : (j j′ : Job) (v output output′ file : List ℕ) → j .modulus ≡ j′ .modulus → headerOf j ≡ headerOf j′ → WithFactors j′ → length file ≤ length output′ →
       Writes j v output file → Writes j′ v output′ file
 
 -- Writing back what was read.
@@ -60,13 +60,13 @@ pub record WrittenTwice : Type 0 where
 -- A file of no records stands for the cell whose factors are all zero.
 pub record EmptyFiles : Type 0 where
   -- where its shape is sound, it does what an opening of its header with kind 0 does, refused or not
-  pub opens : (file v : List ℕ) → 0 ≡ first (shapeTests file) → recordCount file ≡ 0 → fileStep file v ≡ openStep (headerIn file) 0 v
+  pub opens : (file v : List ℕ) → 0 ≡ first (shapeTests file) → recordCount file ≡ 0 → fileStep file v ≡ openStep (modulusIn file) (headerIn file) 0 v
   -- where it is accepted, F is zero everywhere, and so is the volume
-  pub zero : (file v : List ℕ) (j : Job) (w : List ℕ) (m : Model) → Started (reading file v) j w m → recordCount file ≡ 0 → (m ≡ zeroModel (headerIn file)) × (w ≡ replicate (length v) 0)
+  pub zero : (file v : List ℕ) (j : Job) (w : List ℕ) (m : Model (modulusIn file)) → Started (reading file v refl) j w m → recordCount file ≡ 0 → (m ≡ zeroModel (modulusIn file) (headerIn file)) × (w ≡ replicate (length v) 0)
   -- and so is its map, at every point
-  pub map : (file v : List ℕ) (j : Job) (w : List ℕ) (m : Model) → Started (reading file v) j w m → recordCount file ≡ 0 → (x : J) → densityOf m x ≡ value 1 0 0
+  pub map : (file v : List ℕ) (j : Job) (w : List ℕ) (m : Model (modulusIn file)) → Started (reading file v refl) j w m → recordCount file ≡ 0 → (x : J) → densityOf m x ≡ value (modulusIn file) 0 0
   -- the writer gives it for a volume of zeros ..
-  pub written : (j : Job) (output : List ℕ) → validJob j ≡ true → WithFactors j → let file = fileOf (headerOf j) [] in
+  pub written : (j : Job) (output : List ℕ) → validJob j ≡ true → WithFactors j → let file = fileOf (versionOf (j .modulus)) (j .modulus) (headerOf j) [] in
       length file ≤ length output → Writes j (replicate (needed (headerOf j)) 0) output file
   -- .. and for no other
   pub only : (j : Job) (v output file : List ℕ) → Writes j v output file → recordCount file ≡ 0 → v ≡ replicate (length v) 0

@@ -9,7 +9,7 @@ use lib.Dec.{eqb}
 use lib.ListN.{length, getD}
 use borrow.Author.Tests.{not-false, lt-ltb, eq-eqb, eqb-true}
 use Rattle.algebra.specs.cells.Cell.{every, Inside, at}
-use Rattle.numbers.specs.Value.{Value, value}
+use Rattle.numbers.specs.Value.{prime, Value, value}
 use Rattle.signed.specs.Integers.{centred}
 use Rattle.slices.specs.Pairs.{allBelow}
 use Rattle.slices.proofs.Bounds.{allBelow-below}
@@ -20,7 +20,7 @@ use Rattle.cell.specs.Volume.{volumeLength, factorsIn, densityPlace, numbersRea
 use Rattle.cell.specs.Consistency.{recordOn, agreesWithItself, orbitFree, sameValue, consistentFactors, consistentMap}
 use Rattle.job.specs.declared.Reflection.{Reflection}
 use Rattle.job.specs.declared.GridPoint.{GridPoint}
-use Rattle.job.specs.Job.{collecting, factorsHeld, mapHeld, validJob, p, within, index, position, Said, Outcome, Worked, unchanged, recordTests, recordStep, synthesised, synthesisStep, analysed, analysisStep, pointStep, factorStep, step}
+use Rattle.job.specs.Job.{collecting, factorsHeld, mapHeld, validJob, within, index, position, Said, Outcome, Worked, unchanged, recordTests, recordStep, synthesised, synthesisStep, analysed, analysisStep, pointStep, factorStep, step}
 use Rattle.job.specs.TestSteps.{synthesisTests, analysisTests, pointTests, factorTests}
 use Rattle.model.specs.Model.{Model, group, half, factorOf, Call, recording, synthesis, analysis, readPoint, readFactor, modelTests, modelSays, modelNext, modelSaid, modelAfter, inState, modelVolume, modelJob}
 use Rattle.job.proofs.Jobs.{valid-with}
@@ -43,10 +43,10 @@ all-true P f (x ∷ l) = rw (f x) (all-true P f l)
 -- ---- outcomes
 
 -- what the model says of a call: the answer, and job and volume after it
-abbrev pub result : Said → Model → Outcome
+abbrev pub result : {μ : ℕ} → Said → Model μ → Outcome
 result s m = record { answer = s; job = modelJob m; volume = modelVolume m }
 
-module _ (m : Model) (c : Call) where
+module _ {μ : ℕ} (m : Model μ) (c : Call) where
   -- a call with the model's tests is the model's if it is where it is accepted ..
   agrees : (n : ℕ) (o : Outcome) → first (modelTests m c) ≡ n → (0 ≡ first (modelTests m c) → o ≡ result (modelSays m c) (modelNext m c)) → accepted n o (unchanged (modelJob m) (modelVolume m)) ≡ result (modelSaid m c) (modelAfter m c)
   unfolding modelSaid modelAfter
@@ -74,7 +74,7 @@ module _ (m : Model) (c : Call) where
       go zero h = h refl
       go (suc n) h = sound
 
-module _ (m : Model) (sound : LawfulModel m) where
+module _ {μ : ℕ} (m : Model μ) (sound : LawfulModel m) where
   -- ---- the faults that do not arise
 
   no-25 : not (validJob (modelJob m)) ≡ false
@@ -83,10 +83,10 @@ module _ (m : Model) (sound : LawfulModel m) where
   no-6 : not (eqb (length (modelVolume m)) (volumeLength (group m) (half m))) ≡ false
   no-6 = not-t _ (eq-eqb _ _ (model-length m))
 
-  no-7 : not (allBelow p (modelVolume m)) ≡ false
-  no-7 = not-t _ (allBelow-below p (modelVolume m) (model-below m))
+  no-7 : not (allBelow (prime μ) (modelVolume m)) ≡ false
+  no-7 = not-t _ (allBelow-below (prime μ) (modelVolume m) (model-below m))
 
-  factors-no-14 : eqb (m .state) mapHeld ≡ false → not (consistentFactors (group m) (half m) 1 (modelVolume m)) ≡ false
+  factors-no-14 : eqb (m .state) mapHeld ≡ false → not (consistentFactors (group m) (half m) μ (modelVolume m)) ≡ false
   factors-no-14 s = rw (holds-factors m s) (not-t _ (factors-pass m sound))
 
   map-no-14 : eqb (m .state) mapHeld ≡ true → not (consistentMap (group m) (half m) (modelVolume m)) ≡ false
@@ -103,7 +103,7 @@ module _ (m : Model) (sound : LawfulModel m) where
       (same-next _ 21 _ _ (λ s. same-next _ 10 _ _ (λ w. same-next _ 7 _ _ (λ b. same-next _ 12 _ _ (λ a.
       pass 6 _ no-6 (ap (λ b. first (not b ⇒ 24 ∷ [])) (occupied (not-false _ s) (not-false _ w))))))))
     where
-      occupied : eqb (m .state) collecting ≡ true → within (m .header .lengths) (index k) ≡ true → sameValue (factorOf m (index k)) (value 1 0 0) ≡ orbitFree (group m) (half m) (modelVolume m) (index k)
+      occupied : eqb (m .state) collecting ≡ true → within (m .header .lengths) (index k) ≡ true → sameValue (factorOf m (index k)) (value μ 0 0) ≡ orbitFree (group m) (half m) (modelVolume m) (index k)
       occupied s w = rw (holds-factors m (not-map s)) (sym (orbit-zero m sound (index k) (within-inside m sound (index k) w)))
 
   module _ (k : Reflection) (x y : ℕ) (e : 0 ≡ first (modelTests m (recording k x y))) where
@@ -113,14 +113,14 @@ module _ (m : Model) (sound : LawfulModel m) where
     record-inside : Inside (half m) (index k)
     record-inside = within-inside m sound (index k) (not-false _ (passed (modelTests m (recording k x y)) tt e .1 .0))
 
-    record-agrees : agreesWithItself (group m) (half m) 1 (index k) (value 1 x y) ≡ true
+    record-agrees : agreesWithItself (group m) (half m) μ (index k) (value μ x y) ≡ true
     record-agrees = not-false _ (passed (modelTests m (recording k x y)) tt e .1 .1 .1 .0)
 
-    pub record-leaves : recordOn (group m) (half m) 1 (index k) (value 1 x y) (modelVolume m) ≡ modelVolume (modelNext m (recording k x y))
-    record-leaves = ap (recordOn (group m) (half m) 1 (index k) (value 1 x y)) (holds-factors m factors-stand) ∙ recorded-packed m sound (index k) (value 1 x y) record-inside record-agrees ∙ sym (holds-factors (modelNext m (recording k x y)) factors-stand)
+    pub record-leaves : recordOn (group m) (half m) μ (index k) (value μ x y) (modelVolume m) ≡ modelVolume (modelNext m (recording k x y))
+    record-leaves = ap (recordOn (group m) (half m) μ (index k) (value μ x y)) (holds-factors m factors-stand) ∙ recorded-packed m sound (index k) (value μ x y) record-inside record-agrees ∙ sym (holds-factors (modelNext m (recording k x y)) factors-stand)
 
     pub record-sound : LawfulModel (modelNext m (recording k x y))
-    record-sound = record { valid = sound .valid; lawful = lawful-recorded m sound (index k) (value 1 x y) record-inside record-agrees }
+    record-sound = record { valid = sound .valid; lawful = lawful-recorded m sound (index k) (value μ x y) record-inside record-agrees }
 
   record-call : (k : Reflection) (x y : ℕ) → recordStep (modelJob m) k x y (modelVolume m) ≡ result (modelSaid m (recording k x y)) (modelAfter m (recording k x y))
   unfolding recordStep
@@ -159,7 +159,7 @@ module _ (m : Model) (sound : LawfulModel m) where
   unfolding pointStep
   point-call x = agrees m (readPoint x) _ _ (point-tests x) (λ e.
       let t = passed (modelTests m (readPoint x)) tt e in
-      ap (λ (n : ℕ). record { answer = Said.density (centred p n); job = modelJob m; volume = modelVolume m })
+      ap (λ (n : ℕ). record { answer = Said.density (centred (prime μ) n); job = modelJob m; volume = modelVolume m })
       (ap (λ (v : List ℕ). getD v (densityPlace (group m) (half m) (position x)) 0) (holds-map m (not-false _ (t .0))) ∙ density-read m sound (position x) (within-inside m sound (position x) (not-false _ (t .1 .0)))))
 
   factor-tests : (k : Reflection) → first (modelTests m (readFactor k)) ≡ first (factorTests (modelJob m) (index k) (modelVolume m))
@@ -169,12 +169,12 @@ module _ (m : Model) (sound : LawfulModel m) where
   unfolding factorStep
   factor-call k = agrees m (readFactor k) _ _ (factor-tests k) (λ e.
       let t = passed (modelTests m (readFactor k)) tt e in
-      ap (λ (z : Value 1). record { answer = Said.factor (z .0 .val) (z .1 .val); job = modelJob m; volume = modelVolume m })
-      (ap (λ (v : List ℕ). at (factorsIn (group m) (half m) 1 v) (index k)) (holds-factors m (t .0)) ∙ factor-read m sound (index k) (within-inside m sound (index k) (not-false _ (t .1 .0)))))
+      ap (λ (z : Value μ). record { answer = Said.factor (z .0 .val) (z .1 .val); job = modelJob m; volume = modelVolume m })
+      (ap (λ (v : List ℕ). at (factorsIn (group m) (half m) μ v) (index k)) (holds-factors m (t .0)) ∙ factor-read m sound (index k) (within-inside m sound (index k) (not-false _ (t .1 .0)))))
 
 -- ---- every call
 
-pub one-call : (m : Model) → LawfulModel m → (c : Call) → (step (modelJob m) (modelVolume m) c ≡ record { answer = modelSaid m c; job = modelJob (modelAfter m c); volume = modelVolume (modelAfter m c) }) × LawfulModel (modelAfter m c)
+pub one-call : {μ : ℕ} (m : Model μ) → LawfulModel m → (c : Call) → (step (modelJob m) (modelVolume m) c ≡ record { answer = modelSaid m c; job = modelJob (modelAfter m c); volume = modelVolume (modelAfter m c) }) × LawfulModel (modelAfter m c)
 one-call m sound (recording k x y) = (record-call m sound k x y, stays-sound m (recording k x y) sound (record-sound m sound k x y))
 one-call m sound (synthesis scratch) = (synthesis-call m sound scratch, stays-sound m (synthesis scratch) sound (λ e. record { valid = valid-with (modelJob m) mapHeld (sound .valid) (omega arith); lawful = sound .lawful }))
 one-call m sound (analysis scratch) = (analysis-call m sound scratch, stays-sound m (analysis scratch) sound (λ e. record { valid = valid-with (modelJob m) factorsHeld (sound .valid) (omega arith); lawful = sound .lawful }))
@@ -182,6 +182,6 @@ one-call m sound (readPoint x) = (point-call m sound x, stays-sound m (readPoint
 one-call m sound (readFactor k) = (factor-call m sound k, stays-sound m (readFactor k) sound (λ e. sound))
 
 -- a call that no test of the model refuses
-pub accepted-call : (m : Model) → LawfulModel m → (c : Call) → 0 ≡ first (modelTests m c) → step (modelJob m) (modelVolume m) c ≡ result (modelSays m c) (modelNext m c)
+pub accepted-call : {μ : ℕ} (m : Model μ) → LawfulModel m → (c : Call) → 0 ≡ first (modelTests m c) → step (modelJob m) (modelVolume m) c ≡ result (modelSays m c) (modelNext m c)
 unfolding modelSaid modelAfter
 accepted-call m sound c e = one-call m sound c .0 ∙ λ i. result (accepted (sym e i) (modelSays m c) Said.refused) (accepted (sym e i) (modelNext m c) (λ n. m))

@@ -14,9 +14,9 @@ use Rattle.algebra.specs.cells.CellSteps.{Lawful}
 use Rattle.algebra.proofs.ring.Bool.{same-test, split}
 use Rattle.algebra.proofs.cells.CellMap as CellMap
 use Rattle.algebra.proofs.cells.CellTests.{Positive}
-use Rattle.numbers.specs.Value.{prime, Value, field, conj, i, real, value}
+use Rattle.numbers.specs.Value.{prime, IsModulus, Value, field, conj, i, real, value}
 use Rattle.numbers.specs.Value as Value
-use Rattle.numbers.proofs.Primes.{first-modulus, prime-pos}
+use Rattle.numbers.proofs.Primes.{prime-pos}
 use Rattle.numbers.proofs.Residues.{val-res}
 use Rattle.numbers.proofs.Values.{field-ring}
 use Rattle.slices.specs.Pairs.{Below}
@@ -38,16 +38,16 @@ use Rattle.cell.proofs.OrbitNumbers.{orbit-free}
 use Rattle.header.specs.Cells.{headerCell}
 use Rattle.job.specs.Job.{mapHeld, validJob, within}
 use Rattle.header.proofs.Headers.{all-three}
-use Rattle.job.proofs.Jobs.{valid-job-sizes}
+use Rattle.job.proofs.Jobs.{valid-modulus, valid-job-sizes}
 use Rattle.model.specs.Model.{Model, group, half, factorOf, densityOf, factorVolume, mapVolume, modelVolume, modelJob}
 
-pub record LawfulModel (m : Model) : Type 0 where
+pub record LawfulModel {μ : ℕ} (m : Model μ) : Type 0 where
   pub valid : validJob (modelJob m) ≡ true
-  pub lawful : Lawful (field 1) (conj 1) (half m) (group m) (m .F)
+  pub lawful : Lawful (field μ) (conj μ) (half m) (group m) (m .F)
 
 -- ---- the volume, whatever F is
 
-module _ (m : Model) where
+module _ {μ : ℕ} (m : Model μ) where
   -- which of the two stands in it
   pub holds-map : eqb (m .state) mapHeld ≡ true → modelVolume m ≡ mapVolume m
   unfolding modelVolume
@@ -62,14 +62,17 @@ module _ (m : Model) where
   by-volume P f g = split (eqb (m .state) mapHeld) (λ b. P (cond b (mapVolume m) (factorVolume m))) (λ t. f) (λ t. g)
 
   pub model-length : length (modelVolume m) ≡ volumeLength (group m) (half m)
-  model-length = by-volume (λ v. length v ≡ volumeLength (group m) (half m)) (length-map (group m) (half m) 1 _) (length-factors (group m) (half m) 1 _)
+  model-length = by-volume (λ v. length v ≡ volumeLength (group m) (half m)) (length-map (group m) (half m) μ _) (length-factors (group m) (half m) μ _)
 
-  pub model-below : Below (prime 1) (modelVolume m)
-  model-below = by-volume (Below (prime 1)) (below-map (group m) (half m) 1 _) (below-factors (group m) (half m) 1 _)
+  pub model-below : Below (prime μ) (modelVolume m)
+  model-below = by-volume (Below (prime μ)) (below-map (group m) (half m) μ _) (below-factors (group m) (half m) μ _)
 
 -- ---- what a valid job and a lawful F give
 
-module _ (m : Model) (sound : LawfulModel m) where
+module _ {μ : ℕ} (m : Model μ) (sound : LawfulModel m) where
+  modulus : IsModulus μ
+  modulus = valid-modulus (modelJob m) (sound .valid)
+
   sizes : JobSizes (headerCell (m .header)) (octal (m .header .list1)) (octal (m .header .list2)) (octal (m .header .list3))
   sizes = valid-job-sizes (modelJob m) (sound .valid)
 
@@ -92,53 +95,53 @@ module _ (m : Model) (sound : LawfulModel m) where
 
   -- ---- factors
 
-  pub factors-pass : consistentFactors (group m) (half m) 1 (factorVolume m) ≡ true
-  factors-pass = factors-consistent (group m) (half m) halves-positive 1 (factorVolume m) (length-factors (group m) (half m) 1 (m .F)) (below-factors (group m) (half m) 1 (m .F)) .1 (m .F, sound .lawful, refl)
+  pub factors-pass : consistentFactors (group m) (half m) μ (factorVolume m) ≡ true
+  factors-pass = factors-consistent (group m) (half m) halves-positive μ (factorVolume m) (length-factors (group m) (half m) μ (m .F)) (below-factors (group m) (half m) μ (m .F)) .1 (m .F, sound .lawful, refl)
 
-  pub factor-read : (j : J) → Inside (half m) j → at (factorsIn (group m) (half m) 1 (factorVolume m)) j ≡ factorOf m j
-  factor-read = read-packed (group m) (half m) halves-positive 1 (m .F) (sound .lawful)
+  pub factor-read : (j : J) → Inside (half m) j → at (factorsIn (group m) (half m) μ (factorVolume m)) j ≡ factorOf m j
+  factor-read = read-packed (group m) (half m) halves-positive μ (m .F) (sound .lawful)
 
   -- 24: the numbers of an orbit are zero exactly if F is zero at its index
-  pub orbit-zero : (j : J) → Inside (half m) j → orbitFree (group m) (half m) (factorVolume m) j ≡ sameValue (factorOf m j) (value 1 0 0)
+  pub orbit-zero : (j : J) → Inside (half m) j → orbitFree (group m) (half m) (factorVolume m) j ≡ sameValue (factorOf m j) (value μ 0 0)
   unfolding gauss residues
   orbit-zero j n =
-      let free = orbit-free (group m) (half m) halves-positive 1 (m .F) (sound .lawful) j n in
-      let same = same-iff 1 (factorOf m j) (value 1 0 0) in
+      let free = orbit-free (group m) (half m) halves-positive μ (m .F) (sound .lawful) j n in
+      let same = same-iff μ (factorOf m j) (value μ 0 0) in
       same-test _ _ (λ t. same .1 (free .0 (true-iff _ .1 t))) (λ t. true-iff _ .0 (free .1 (same .0 t)))
 
   -- a record on the packed factors
-  module _ (j : J) (x : Value 1) (inside : Inside (half m) j) (agrees : agreesWithItself (group m) (half m) 1 j x ≡ true) where
-    pub lawful-recorded : Lawful (field 1) (conj 1) (half m) (group m) (recordIn (group m) (half m) 1 j x (m .F))
-    lawful-recorded = record-lawful (group m) (half m) halves-positive 1 (m .F) (sound .lawful) j inside x agrees
+  module _ (j : J) (x : Value μ) (inside : Inside (half m) j) (agrees : agreesWithItself (group m) (half m) μ j x ≡ true) where
+    pub lawful-recorded : Lawful (field μ) (conj μ) (half m) (group m) (recordIn (group m) (half m) μ j x (m .F))
+    lawful-recorded = record-lawful (group m) (half m) halves-positive μ (m .F) (sound .lawful) j inside x agrees
 
-    pub recorded-packed : recordOn (group m) (half m) 1 j x (factorVolume m) ≡ packFactors (group m) (half m) 1 (recordIn (group m) (half m) 1 j x (m .F))
-    recorded-packed = record-packed (group m) (half m) halves-positive 1 (m .F) (sound .lawful) j inside x agrees
+    pub recorded-packed : recordOn (group m) (half m) μ j x (factorVolume m) ≡ packFactors (group m) (half m) μ (recordIn (group m) (half m) μ j x (m .F))
+    recorded-packed = record-packed (group m) (half m) halves-positive μ (m .F) (sound .lawful) j inside x agrees
 
   -- ---- the map
 
-  map-is-real : RealMap (group m) (half m) 1 (mapOf 1 (half m) (m .F))
-  map-is-real = map-real (group m) (half m) 1 (axis-laws 1 first-modulus (sizes .first)) (axis-laws 1 first-modulus (sizes .second)) (axis-laws 1 first-modulus (sizes .third)) (m .F) (sound .lawful)
+  map-is-real : RealMap (group m) (half m) μ (mapOf μ (half m) (m .F))
+  map-is-real = map-real (group m) (half m) μ (axis-laws μ modulus (sizes .first)) (axis-laws μ modulus (sizes .second)) (axis-laws μ modulus (sizes .third)) (m .F) (sound .lawful)
 
   -- every image of a point has its value
-  pub map-obeys-group : ObeysGroup (group m) (half m) 1 (mapOf 1 (half m) (m .F))
-  map-obeys-group = map-obeys (group m) (half m) 1 (axis-laws 1 first-modulus (sizes .first)) (axis-laws 1 first-modulus (sizes .second)) (axis-laws 1 first-modulus (sizes .third)) (m .F) (sound .lawful)
+  pub map-obeys-group : ObeysGroup (group m) (half m) μ (mapOf μ (half m) (m .F))
+  map-obeys-group = map-obeys (group m) (half m) μ (axis-laws μ modulus (sizes .first)) (axis-laws μ modulus (sizes .second)) (axis-laws μ modulus (sizes .third)) (m .F) (sound .lawful)
 
   pub map-passes : consistentMap (group m) (half m) (mapVolume m) ≡ true
-  map-passes = map-consistent (group m) (half m) halves-positive 1 (mapVolume m) (length-map (group m) (half m) 1 _) (below-map (group m) (half m) 1 _) .1 (mapOf 1 (half m) (m .F), map-is-real, map-obeys-group, refl)
+  map-passes = map-consistent (group m) (half m) halves-positive μ (mapVolume m) (length-map (group m) (half m) μ _) (below-map (group m) (half m) μ _) .1 (mapOf μ (half m) (m .F), map-is-real, map-obeys-group, refl)
 
   -- a point's number is the real part of the triple sum there, whose imaginary part is zero
   pub density-read : (x : J) → Inside (half m) x → getD (mapVolume m) (densityPlace (group m) (half m) x) 0 ≡ densityOf m x .0 .val
   unfolding mapIn
   density-read x n =
-      sym (val-res 1 (below-map (group m) (half m) 1 (mapOf 1 (half m) (m .F)) .each _))
-      ∙ ap (λ y. y .0 .val) (read-point (group m) (half m) 1 (axis-laws 1 first-modulus (sizes .first)) (axis-laws 1 first-modulus (sizes .second)) (axis-laws 1 first-modulus (sizes .third)) (m .F) (sound .lawful) x n)
+      sym (val-res μ (below-map (group m) (half m) μ (mapOf μ (half m) (m .F)) .each _))
+      ∙ ap (λ y. y .0 .val) (read-point (group m) (half m) μ (axis-laws μ modulus (sizes .first)) (axis-laws μ modulus (sizes .second)) (axis-laws μ modulus (sizes .third)) (m .F) (sound .lawful) x n)
 
   pub density-real : (x : J) → Inside (half m) x → densityOf m x .1 .val ≡ 0
-  density-real x n = ap (λ y. y .1 .val) (map-is-real x n) ∙ val-res 1 (prime-pos 1)
+  density-real x n = ap (λ y. y .1 .val) (map-is-real x n) ∙ val-res μ (prime-pos μ)
 
   -- synthesis of the packed factors gives the map, analysis of the map the packed factors
-  pub synthesis-gives : packMap (group m) (half m) 1 (mapOf 1 (half m) (factorsIn (group m) (half m) 1 (factorVolume m))) ≡ mapVolume m
-  synthesis-gives = map-cong (group m) (half m) halves-positive 1 _ _ (λ x n. CellMap.map-cong (field-ring 1) (axis 1 (half m .0)) (axis 1 (half m .1)) (axis 1 (half m .2)) _ _ factor-read (x .0) (x .1) (x .2))
+  pub synthesis-gives : packMap (group m) (half m) μ (mapOf μ (half m) (factorsIn (group m) (half m) μ (factorVolume m))) ≡ mapVolume m
+  synthesis-gives = map-cong (group m) (half m) halves-positive μ _ _ (λ x n. CellMap.map-cong (field-ring μ) (axis μ (half m .0)) (axis μ (half m .1)) (axis μ (half m .2)) _ _ factor-read (x .0) (x .1) (x .2))
 
-  pub analysis-gives : packFactors (group m) (half m) 1 (factorsOf 1 (half m) (mapIn (group m) (half m) 1 (mapVolume m))) ≡ factorVolume m
-  analysis-gives = analysis-packed (group m) (half m) 1 (axis-laws 1 first-modulus (sizes .first)) (axis-laws 1 first-modulus (sizes .second)) (axis-laws 1 first-modulus (sizes .third)) (m .F) (sound .lawful)
+  pub analysis-gives : packFactors (group m) (half m) μ (factorsOf μ (half m) (mapIn (group m) (half m) μ (mapVolume m))) ≡ factorVolume m
+  analysis-gives = analysis-packed (group m) (half m) μ (axis-laws μ modulus (sizes .first)) (axis-laws μ modulus (sizes .second)) (axis-laws μ modulus (sizes .third)) (m .F) (sound .lawful)

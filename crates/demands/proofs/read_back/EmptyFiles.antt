@@ -23,11 +23,11 @@ use Rattle.cell.proofs.Tests.{true-iff}
 use Rattle.cell.proofs.Reading.{same-iff, read-packed}
 use Rattle.cell.proofs.Consistency.{factors-consistent}
 use Rattle.job.specs.declared.Job.{Job}
-use Rattle.job.specs.Job.{Header, halfLengths, needed, headerOf, validJob, collecting, mapHeld, groupIn, halves, p, jobOf, Opening, opened, notOpened, OpenOutcome, openTests, openStep}
+use Rattle.job.specs.Job.{Header, halfLengths, needed, headerOf, validJob, collecting, mapHeld, groupIn, halves, jobOf, Opening, opened, notOpened, OpenOutcome, openTests, openStep}
 use Rattle.job.proofs.Jobs.{valid-job-sizes}
-use Rattle.file_format.specs.Format.{fileOf}
+use Rattle.file_format.specs.Format.{versionOf, fileOf}
 use Rattle.file_format.specs.Parsed.{fileRecord}
-use Rattle.factor_file.specs.File.{countAt, recordCount, recordsFrom, recordsIn, shapeTests, headerIn, judged, recordAllOn, feed, fileStep, noLater, jobRecords, jobFile, writeTests}
+use Rattle.factor_file.specs.File.{countAt, recordCount, recordsFrom, recordsIn, shapeTests, modulusIn, headerIn, judged, recordAllOn, feed, fileStep, noLater, jobRecords, jobFile, writeTests}
 use Rattle.factor_file.proofs.file.Places.{records-none}
 use Rattle.model.specs.Model.{Model, densityOf, zeroModel}
 use Rattle.demands.specs.Demands.{reading, modelEnd, Started}
@@ -45,69 +45,72 @@ unfolding feed judged recordAllOn
 nothing-fed (opened j) w = refl
 nothing-fed (notOpened n place) w = refl
 
-opens : (file v : List ℕ) → 0 ≡ first (shapeTests file) → recordCount file ≡ 0 → fileStep file v ≡ openStep (headerIn file) 0 v
+opens : (file v : List ℕ) → 0 ≡ first (shapeTests file) → recordCount file ≡ 0 → fileStep file v ≡ openStep (modulusIn file) (headerIn file) 0 v
 unfolding fileStep recordsFrom
 opens file v shape empty =
-    let o = openStep (headerIn file) 0 v in
+    let o = openStep (modulusIn file) (headerIn file) 0 v in
     ap (λ n. accepted n (afterOpening (recordsIn file) o) (λ n. record { answer = notOpened n 0; volume = v })) (sym shape)
     ∙ ap (λ n. afterOpening (recordsFrom file (countAt file + 4) n) o) empty
     ∙ nothing-fed (o .answer) (o .volume)
 
 -- an accepted opening with kind 0 leaves zeros
-opening-zero : (h : Header) (v : List ℕ) → 0 ≡ first (openTests h 0 v) → openStep h 0 v ≡ record { answer = opened (jobOf h collecting); volume = replicate (length v) 0 }
+opening-zero : (μ : ℕ) (h : Header) (v : List ℕ) → 0 ≡ first (openTests μ h 0 v) → openStep μ h 0 v ≡ record { answer = opened (jobOf μ h collecting); volume = replicate (length v) 0 }
 unfolding openStep
-opening-zero h v none = rw (← none) refl
+opening-zero μ h v none = rw (← none) refl
 
 opened-zero : (file v : List ℕ) (j : Job) (w : List ℕ) → fileStep file v ≡ record { answer = opened j; volume = w } → recordCount file ≡ 0 → w ≡ replicate (length v) 0
 opened-zero file v j w e empty =
     let answer = ap (λ o. o .answer) e in
-    ap (λ o. o .volume) (sym e ∙ opens file v (sym (file-shape file v j answer)) empty ∙ opening-zero (headerIn file) v (opened-passes (reading file v) j answer))
+    ap (λ o. o .volume) (sym e ∙ opens file v (sym (file-shape file v j answer)) empty ∙ opening-zero (modulusIn file) (headerIn file) v (opened-passes {μ = modulusIn file} (reading file v refl) j answer))
 
-zero-model : (file v : List ℕ) (j : Job) (w : List ℕ) (m : Model) → Started (reading file v) j w m → recordCount file ≡ 0 → m ≡ zeroModel (headerIn file)
+zero-model : (file v : List ℕ) (j : Job) (w : List ℕ) (m : Model (modulusIn file)) → Started (reading file v refl) j w m → recordCount file ≡ 0 → m ≡ zeroModel (modulusIn file) (headerIn file)
 unfolding recordsFrom modelEnd
 zero-model file v j w m started empty =
-    let fed = subst (λ cs. Fed cs (zeroModel (headerIn file)) m) (ap (recordsFrom file (countAt file + 4)) empty) (start-fed (reading file v) j w m started) in
+    let fed = subst (λ cs. Fed cs (zeroModel (modulusIn file) (headerIn file)) m) (ap (recordsFrom file (countAt file + 4)) empty) (start-fed (reading file v refl) j w m started) in
     sym (fed .ends [])
 
 -- ---- a volume of zeros, written
 
 module _ (j : Job) (valid : validJob j ≡ true) where
+  abbrev μ : ℕ
+  μ = j .modulus
+
   abbrev zeros : List ℕ
   zeros = replicate (needed (headerOf j)) 0
 
   positive : Positive (halves j)
   positive = let s = valid-job-sizes j valid in (s .first .positive, s .second .positive, s .third .positive)
 
-  packed : packFactors (groupIn j) (halves j) 1 (λ h k l. value 1 0 0) ≡ zeros
-  packed = zero-packed (groupIn j) (halves j) positive
+  packed : packFactors (groupIn j) (halves j) μ (λ h k l. value μ 0 0) ≡ zeros
+  packed = zero-packed μ (groupIn j) (halves j) positive
 
-  below : Below (prime 1) zeros
-  below = below-replicate (needed (headerOf j)) 0 (prime-pos 1)
+  below : Below (prime μ) zeros
+  below = below-replicate (needed (headerOf j)) 0 (prime-pos μ)
 
-  consistent : consistentFactors (groupIn j) (halves j) 1 zeros ≡ true
-  consistent = factors-consistent (groupIn j) (halves j) positive 1 zeros (length-replicate (needed (headerOf j)) 0) below .1 ((λ h k l. value 1 0 0), zero-lawful (groupIn j) (halves j), packed)
+  consistent : consistentFactors (groupIn j) (halves j) μ zeros ≡ true
+  consistent = factors-consistent (groupIn j) (halves j) positive μ zeros (length-replicate (needed (headerOf j)) 0) below .1 ((λ h k l. value μ 0 0), zero-lawful μ (groupIn j) (halves j), packed)
 
-  read : (q : J) → Inside (halves j) q → at (factorsIn (groupIn j) (halves j) 1 zeros) q ≡ value 1 0 0
-  read q n = subst (λ v. at (factorsIn (groupIn j) (halves j) 1 v) q ≡ value 1 0 0) packed (read-packed (groupIn j) (halves j) positive 1 (λ h k l. value 1 0 0) (zero-lawful (groupIn j) (halves j)) q n)
+  read : (q : J) → Inside (halves j) q → at (factorsIn (groupIn j) (halves j) μ zeros) q ≡ value μ 0 0
+  read q n = subst (λ v. at (factorsIn (groupIn j) (halves j) μ v) q ≡ value μ 0 0) packed (read-packed (groupIn j) (halves j) positive μ (λ h k l. value μ 0 0) (zero-lawful μ (groupIn j) (halves j)) q n)
 
   inside : (q : J) → Mem q (placesOf (halves j)) → Inside (halves j) q
   inside q m = let a = halves j in let r = cell-mem (2 * a .2) (2 * a .1) 0 (2 * a .0) q m in (omega arith, r .2, r .3)
 
   no-records : jobRecords j zeros ≡ []
   unfolding jobRecords factorActs gauss residues
-  no-records = records-none (factorActs (field 1) (conj 1) (halves j)) noLater sameValue (full (groupIn j)) (at (factorsIn (groupIn j) (halves j) 1 zeros)) (placesOf (halves j))
-      (λ q m. true-iff _ .1 (same-iff 1 _ (value 1 0 0) .1 (read q (inside q m))))
+  no-records = records-none (factorActs (field μ) (conj μ) (halves j)) noLater sameValue (full (groupIn j)) (at (factorsIn (groupIn j) (halves j) μ zeros)) (placesOf (halves j))
+      (λ q m. true-iff _ .1 (same-iff μ _ (value μ 0 0) .1 (read q (inside q m))))
 
-  empty : jobFile j zeros ≡ fileOf (headerOf j) []
+  empty : jobFile j zeros ≡ fileOf (versionOf μ) μ (headerOf j) []
   unfolding jobFile
-  empty = ap (λ cs. fileOf (headerOf j) (map (fileRecord 1) cs)) no-records
+  empty = ap (λ cs. fileOf (versionOf μ) μ (headerOf j) (map (fileRecord μ) cs)) no-records
 
-  passes : (output : List ℕ) → WithFactors j → length (fileOf (headerOf j) []) ≤ length output → 0 ≡ first (writeTests j zeros output)
+  passes : (output : List ℕ) → WithFactors j → length (fileOf (versionOf μ) μ (headerOf j) []) ≤ length output → 0 ≡ first (writeTests j zeros output)
   passes output held room =
       pass 25 _ (not-t _ valid)
       (pass 23 _ (ne-eqb (j .state) mapHeld (λ e. omega (arith, below-map j held)))
       (pass 6 _ (not-t _ (eq-eqb _ _ (length-replicate (needed (headerOf j)) 0)))
-      (pass 7 _ (not-t _ (allBelow-below p zeros below))
+      (pass 7 _ (not-t _ (allBelow-below (prime μ) zeros below))
       (pass 14 _ (not-t _ consistent)
       (pass 18 _ (le-ltb (length output) (length (jobFile j zeros)) (subst (λ f. length f ≤ length output) (sym empty) room))
       no-test)))))
@@ -116,7 +119,7 @@ pub empty-files : EmptyFiles
 empty-files = record {
   opens = opens;
   zero = λ file v j w m started empty. (zero-model file v j w m started empty, opened-zero file v j w (started .gives) empty);
-  map = λ file v j w m started empty x. ap (λ m. densityOf m x) (zero-model file v j w m started empty) ∙ zero-map (halfLengths (headerIn file .lengths)) x;
+  map = λ file v j w m started empty x. ap (λ m. densityOf m x) (zero-model file v j w m started empty) ∙ zero-map (modulusIn file) (halfLengths (headerIn file .lengths)) x;
   written = λ j output valid held room. subst (Writes j (zeros j valid) output) (empty j valid) (accepted-writes j (zeros j valid) output (passes j valid output held room));
   only = λ j v output file x empty. opened-zero file v _ v (reads-back .reads-back j v output file v x refl) empty;
 }

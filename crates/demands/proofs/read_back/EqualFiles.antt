@@ -1,4 +1,4 @@
--- Equal headers and volumes give equal files, so a file that was read is written back in one way.
+-- Equal moduli, headers and volumes give equal files, so a file that was read is written back in one way.
 use mathlib.Core.Path.{_≡_, refl, sym, _∙_, ap, subst}
 use mathlib.Core.Logic.{_⊎_, inl, inr}
 use mathlib.Core.Bool.{Bool, true, not, _&&_}
@@ -7,22 +7,23 @@ use Prim.Native.Nat.{ℕ, zero, suc, _+_, _<_, _≤_}
 use native.Mathlib.Omega.{arith}
 use lib.ListN.{length}
 use lib.Dec.{ltb, eqb}
-use borrow.Author.Tests.{not-false, eqb-true, eqb-false, ltb-true, lt-ltb, le-ltb, ne-eqb}
-use Rattle.algebra.specs.cells.Cell.{placesOf}
+use borrow.Author.Tests.{not-false, eqb-true, eqb-false, lt-ltb, le-ltb, ne-eqb}
+use Rattle.algebra.specs.cells.Cell.{J, placesOf}
+use Rattle.numbers.specs.Value.{prime, isModulus, Value}
 use Rattle.slices.specs.Pairs.{allBelow}
 use Rattle.refusals.specs.Refusals.{Test, _⇒_, first}
-use Rattle.refusals.proofs.Tests.{passed, pass, none, not-t}
+use Rattle.refusals.proofs.Tests.{both, passed, pass, none, not-t}
 use Rattle.cell.specs.Volume.{groupOf}
 use Rattle.cell.specs.Consistency.{consistentFactors}
 use Rattle.header.specs.Header.{Header, halfLengths, needed, axisTests}
 use Rattle.header.proofs.Headers.{all-three}
 use Rattle.job.specs.declared.Job.{Job}
-use Rattle.job.specs.Job.{headerOf, validJob, mapHeld, p, asLong, OpenOutcome, opened, openTests}
-use Rattle.file_format.specs.declared.FileRecord.{FileRecord}
-use Rattle.file_format.specs.Format.{fileOf}
+use Rattle.job.specs.Job.{headerOf, validJob, mapHeld, asLong, OpenOutcome, opened, openTests}
+use Rattle.file_format.specs.Format.{versionOf, fileOf}
 use Rattle.file_format.specs.Parsed.{fileRecord}
+use Rattle.job.proofs.Jobs.{valid-parts}
 use Rattle.file_format.proofs.layout.Heads.{same-header}
-use Rattle.factor_file.specs.File.{countAt, headerIn, fileStep, recordsAt, jobRecords, jobFile, writeTests, writeStep}
+use Rattle.factor_file.specs.File.{countAt, modulusIn, headerIn, fileStep, recordsAt, jobRecords, jobFile, writeTests, writeStep}
 use Rattle.factor_file.proofs.writer.Files.{told}
 use Rattle.demands.specs.Demands.{reading}
 use Rattle.demands.specs.Written.{Writes, WithFactors, EqualFiles, WrittenTwice}
@@ -30,42 +31,52 @@ use Rattle.demands.proofs.Starts.{opened-passes}
 use Rattle.demands.proofs.Order.{file-order-free}
 use Rattle.demands.proofs.read_back.ReadBack.{writes-file, reads-back}
 
--- ---- the writer's tests by the header and the state of a job
+-- ---- the writer's tests by the modulus, the header and the state of a job
 
-module _ (h : Header) (v : List ℕ) where
-  abbrev recordsBy : List FileRecord
-  recordsBy = map (fileRecord 1) (recordsAt (groupOf (h .group)) (halfLengths (h .lengths)) v (placesOf (halfLengths (h .lengths))))
+module _ (μ : ℕ) (h : Header) (v : List ℕ) where
+  abbrev recordsBy : List (J × Value μ)
+  recordsBy = recordsAt (groupOf (h .group)) (halfLengths (h .lengths)) μ v (placesOf (halfLengths (h .lengths)))
+
+  abbrev fileBy : List ℕ
+  fileBy = fileOf (versionOf μ) μ h (map (fileRecord μ) recordsBy)
 
   -- those that ask for neither state nor output
   abbrev middle : List Test
   middle =
       not (asLong (h .group) (h .lengths) v) ⇒ 6 ∷
-      not (allBelow p v) ⇒ 7 ∷
-      not (consistentFactors (groupOf (h .group)) (halfLengths (h .lengths)) 1 v) ⇒ 14 ∷
+      not (allBelow (prime μ) v) ⇒ 7 ∷
+      not (consistentFactors (groupOf (h .group)) (halfLengths (h .lengths)) μ v) ⇒ 14 ∷
       []
 
   abbrev valid : ℕ → Bool
-  valid state = ltb (h .group) 5 && (eqb (first (axisTests h)) 0 && ltb state 3)
+  valid state = ltb (h .group) 5 && (isModulus μ && (eqb (first (axisTests h)) 0 && ltb state 3))
 
   abbrev testsBy : (state room : ℕ) → List Test
-  testsBy state room = not (valid state) ⇒ 25 ∷ eqb state mapHeld ⇒ 23 ∷ (middle ++ ltb room (length (fileOf h recordsBy)) ⇒ 18 ∷ [])
+  testsBy state room = not (valid state) ⇒ 25 ∷ eqb state mapHeld ⇒ 23 ∷ (middle ++ ltb room (length fileBy) ⇒ 18 ∷ [])
 
-  passes : (state state′ room room′ : ℕ) → state′ < mapHeld → length (fileOf h recordsBy) ≤ room′ → 0 ≡ first (testsBy state room) → 0 ≡ first (testsBy state′ room′)
+  -- the tests of a valid job but that of its state
+  sound : (state : ℕ) → valid state ≡ true → (ltb (h .group) 5 ≡ true) × (isModulus μ ≡ true) × (eqb (first (axisTests h)) 0 ≡ true) × (ltb state 3 ≡ true)
+  sound state e =
+      let g = both (ltb (h .group) 5) (isModulus μ && (eqb (first (axisTests h)) 0 && ltb state 3)) e in
+      let t = all-three (isModulus μ) (eqb (first (axisTests h)) 0) (ltb state 3) (g .1) in
+      (g .0, t .0, t .1, t .2)
+
+  passes : (state state′ room room′ : ℕ) → state′ < mapHeld → length fileBy ≤ room′ → 0 ≡ first (testsBy state room) → 0 ≡ first (testsBy state′ room′)
   passes state state′ room room′ held fits e =
       let t = passed (testsBy state room) tt e in
-      let old = all-three (ltb (h .group) 5) (eqb (first (axisTests h)) 0) (ltb state 3) (not-false _ (t .0)) in
+      let old = sound state (not-false _ (t .0)) in
       let low = lt-ltb state′ 3 (omega arith) in
-      let now : valid state′ ≡ true = λ i. old .0 i && (old .1 i && low i) in
+      let now : valid state′ ≡ true = λ i. old .0 i && (old .1 i && (old .2 i && low i)) in
       pass 25 _ (not-t _ now)
       (pass 23 _ (ne-eqb state′ mapHeld (λ e. omega arith))
       (pass 6 _ (t .1 .1 .0)
       (pass 7 _ (t .1 .1 .1 .0)
       (pass 14 _ (t .1 .1 .1 .1 .0)
-      (pass 18 _ (le-ltb room′ (length (fileOf h recordsBy)) fits)
+      (pass 18 _ (le-ltb room′ (length fileBy) fits)
       none)))))
 
--- they are the writer's, and the file too is the header's
-by-header : (j : Job) (v output : List ℕ) → (writeTests j v output ≡ testsBy (headerOf j) v (j .state) (length output)) × (jobFile j v ≡ fileOf (headerOf j) (recordsBy (headerOf j) v))
+-- they are the writer's, and the file too is that of modulus and header
+by-header : (j : Job) (v output : List ℕ) → (writeTests j v output ≡ testsBy (j .modulus) (headerOf j) v (j .state) (length output)) × (jobFile j v ≡ fileBy (j .modulus) (headerOf j) v)
 unfolding validJob jobRecords jobFile
 by-header j v output = (refl, refl)
 
@@ -77,15 +88,15 @@ pub accepted-writes : (j : Job) (v output : List ℕ) → 0 ≡ first (writeTest
 unfolding writeStep
 accepted-writes j v output e = record { outcome = ap (told (jobFile j v) output) (sym e) }
 
-equal : (j j′ : Job) (v output output′ file : List ℕ) → headerOf j ≡ headerOf j′ → WithFactors j′ → length file ≤ length output′ → Writes j v output file → Writes j′ v output′ file
-equal j j′ v output output′ file same held room w =
+equal : (j j′ : Job) (v output output′ file : List ℕ) → j .modulus ≡ j′ .modulus → headerOf j ≡ headerOf j′ → WithFactors j′ → length file ≤ length output′ → Writes j v output file → Writes j′ v output′ file
+equal j j′ v output output′ file of same held room w =
     let f = writes-file w in
     let b = by-header j v output in
     let b′ = by-header j′ v output′ in
-    let own : jobFile j′ v ≡ file = b′ .1 ∙ ap (λ h. fileOf h (recordsBy h v)) (sym same) ∙ sym (b .1) ∙ f .1 in
-    let old : 0 ≡ first (testsBy (headerOf j′) v (j .state) (length output)) = f .0 ∙ ap first (b .0) ∙ ap (λ h. first (testsBy h v (j .state) (length output))) same in
-    let fits : length (fileOf (headerOf j′) (recordsBy (headerOf j′) v)) ≤ length output′ = subst (λ f. length f ≤ length output′) (sym own ∙ b′ .1) room in
-    let new = passes (headerOf j′) v (j .state) (j′ .state) (length output) (length output′) (below-map j′ held) fits old ∙ sym (ap first (b′ .0)) in
+    let own : jobFile j′ v ≡ file = b′ .1 ∙ (λ i. fileBy (sym of i) (sym same i) v) ∙ sym (b .1) ∙ f .1 in
+    let old : 0 ≡ first (testsBy (j′ .modulus) (headerOf j′) v (j .state) (length output)) = f .0 ∙ ap first (b .0) ∙ (λ i. first (testsBy (of i) (same i) v (j .state) (length output))) in
+    let fits : length (fileBy (j′ .modulus) (headerOf j′) v) ≤ length output′ = subst (λ f. length f ≤ length output′) (sym own ∙ b′ .1) room in
+    let new = passes (j′ .modulus) (headerOf j′) v (j .state) (j′ .state) (length output) (length output′) (below-map j′ held) fits old ∙ sym (ap first (b′ .0)) in
     subst (Writes j′ v output′) own (accepted-writes j′ v output′ new)
 
 pub equal-files : EqualFiles
@@ -96,9 +107,8 @@ equal-files = record { same = equal }
 -- a job whose file was written holds factors
 with-factors : {j : Job} {v output file : List ℕ} → Writes j v output file → WithFactors j
 with-factors {j} {v} {output} w =
-    let t = passed (testsBy (headerOf j) v (j .state) (length output)) tt (writes-file w .0 ∙ ap first (by-header j v output .0)) in
-    let a = all-three (ltb (j .group) 5) (eqb (first (axisTests (headerOf j))) 0) (ltb (j .state) 3) (not-false _ (t .0)) in
-    one (j .state) (ltb-true (j .state) 3 (a .2)) (eqb-false (j .state) mapHeld (t .1 .0))
+    let t = passed (writeTests j v output) tt (writes-file w .0) in
+    one (j .state) (valid-parts j (not-false _ (t .0)) .2) (eqb-false (j .state) mapHeld (t .1 .0))
   where
     one : (s : ℕ) → s < 3 → (s ≡ 2 → ⊥) → (s ≡ 0) ⊎ (s ≡ 1)
     one zero h n = inl refl
@@ -108,8 +118,8 @@ with-factors {j} {v} {output} w =
 -- an accepted file was lent the volume that its header asks for
 volume-length : (file v : List ℕ) (j : Job) → fileStep file v .answer ≡ opened j → length v ≡ needed (headerIn file)
 volume-length file v j e =
-    let t = passed (openTests (headerIn file) 0 v) tt (opened-passes (reading file v) j e) in
-    eqb-true _ _ (not-false _ (t .1 .1 .1 .1 .1 .1 .0))
+    let t = passed (openTests (modulusIn file) (headerIn file) 0 v) tt (opened-passes {μ = modulusIn file} (reading file v refl) j e) in
+    eqb-true _ _ (not-false _ (t .1 .1 .1 .1 .1 .1 .1 .0))
 
 -- the job and the volume that a file gives
 module _ {o : OpenOutcome} {j j′ : Job} {w w′ : List ℕ} (e : o ≡ record { answer = opened j; volume = w }) (e′ : o ≡ record { answer = opened j′; volume = w′ }) where
@@ -126,10 +136,10 @@ pub written-twice : WrittenTwice
 written-twice = record {
   again = λ j i v w u output output′ file x same room e.
       let read = reads-back .reads-back j v output file u x same in
-      writes-too read e (equal j _ v output output′ file refl (inl refl) room x);
+      writes-too read e (equal j _ v output output′ file refl refl (inl refl) room x);
   reordered = λ j j′ v v′ w w′ output output′ file file′ back moved e e′ room x.
       let long = volume-length file v j (ap (λ o. o .answer) e) ∙ ap needed (same-header file file′ (countAt file + 4) (moved .same-head) (omega arith)) ∙ sym (volume-length file′ v′ j′ (ap (λ o. o .answer) e′)) in
       let read = file-order-free .same file file′ v v′ j w moved long e in
       let y = writes-too read e′ x in
-      equal j′ j′ w′ output output′ back refl (with-factors y) room y;
+      equal j′ j′ w′ output output′ back refl refl (with-factors y) room y;
 }

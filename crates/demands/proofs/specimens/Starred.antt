@@ -5,28 +5,29 @@ use mathlib.Core.List.{List, [], _∷_, _++_, map}
 use Prim.Native.Nat.{ℕ, _<_}
 use native.Mathlib.Omega.{arith}
 use lib.Dec.{ltb, eqb}
-use borrow.Author.Tests.{lt-ltb, eqb-true}
-use Rattle.algebra.specs.ring.Ring.{pow, residue, residues, gauss}
+use borrow.Author.Tests.{not-false, lt-ltb, eqb-true}
+use Rattle.algebra.specs.ring.Ring.{pow, residues, gauss}
 use Rattle.algebra.specs.orbits.Orbit.{Mem, Mem.first as here, Mem.later}
 use Rattle.algebra.specs.cells.Cell.{J, full, planeSym, imageOf, flip, impliedValue, sgn, star}
 use Rattle.algebra.proofs.ring.Laws.{self-neg}
 use Rattle.algebra.proofs.ring.Solver.{ring, quote}
 use Rattle.algebra.proofs.cells.CellAxis.{neg-zero}
 use Rattle.algebra.proofs.cells.CellTests.{Positive}
-use Rattle.numbers.specs.Value.{prime, Value, field, conj, real, half, value}
+use Rattle.numbers.specs.Value.{prime, isModulus, Value, field, conj, real, half, value}
+use Rattle.numbers.proofs.Primes.{prime-pos}
 use Rattle.numbers.proofs.Residues.{val-res}
 use Rattle.numbers.proofs.Values.{field-ring}
 use Rattle.numbers.proofs.Parts.{half-law}
 use Rattle.line.specs.Specimens as Lines
 use Rattle.refusals.specs.Refusals.{first}
 use Rattle.line.proofs.Specimens.{specimens-shown as lines-shown}
-use Rattle.refusals.proofs.Tests.{stop, pass, not-t, not-f, both}
+use Rattle.refusals.proofs.Tests.{passed, stop, pass, not-t, not-f, both}
 use Rattle.cell.specs.Operations.{Sizes}
 use Rattle.cell.specs.Volume.{groupOf}
 use Rattle.cell.specs.Consistency.{agreesWithItself}
 use Rattle.cell.proofs.Records.{agrees-iff}
 use Rattle.header.specs.Cells.{headerCell}
-use Rattle.job.specs.Job.{Header, axisTests, halfLengths, jobOf, collecting, p, within, index, recordTests, recordStep, unchanged}
+use Rattle.job.specs.Job.{Header, axisTests, halfLengths, jobOf, collecting, openTests, within, index, recordTests, recordStep, unchanged}
 use Rattle.demands.specs.Specimens.{Specimen, records, Shown, Starred, transformed, recorded, taken, takenRecords, AllHold, Specimens}
 use Rattle.header.proofs.Headers.{sound-sizes}
 use Rattle.job.proofs.Jobs.{opened-valid}
@@ -40,9 +41,9 @@ is-false true h = absurd (h refl)
 is-false false h = refl
 
 -- the value of two residues that are not both 0 is not 0
-not-zero : (x y : ℕ) → x < p → y < p → ((x ≡ 0) × (y ≡ 0) → ⊥) → value 1 x y ≡ field 1 .zer → ⊥
-unfolding gauss residues residue prime
-not-zero x y lx ly h e = h (sym (val-res 1 lx) ∙ ap (λ (z : Value 1). z .0 .val) e, sym (val-res 1 ly) ∙ ap (λ (z : Value 1). z .1 .val) e)
+not-zero : (μ x y : ℕ) → x < prime μ → y < prime μ → ((x ≡ 0) × (y ≡ 0) → ⊥) → value μ x y ≡ field μ .zer → ⊥
+unfolding gauss residues
+not-zero μ x y lx ly h e = h (sym (val-res μ lx) ∙ ap (λ (z : Value μ). z .0 .val) e ∙ val-res μ (prime-pos μ), sym (val-res μ ly) ∙ ap (λ (z : Value μ). z .1 .val) e ∙ val-res μ (prime-pos μ))
 
 -- what is computed of each row: the index is one of every cell, and the group's other operation leads it to itself with the negative value
 record Reversed (x : Specimen) : Type 0 where
@@ -50,7 +51,7 @@ record Reversed (x : Specimen) : Type 0 where
   low : (index (x .at) .0 < 2) × (index (x .at) .1 < 2) × (index (x .at) .2 < 2)
   member : Mem (planeSym (groupOf (x .group))) (full (groupOf (x .group)))
   fixed : (a : J) → imageOf a (planeSym (groupOf (x .group))) (index (x .at)) ≡ index (x .at)
-  negated : (z : Value 1) → impliedValue (field 1) (conj 1) (planeSym (groupOf (x .group))) (index (x .at)) z ≡ field 1 .neg z
+  negated : (μ : ℕ) (z : Value μ) → impliedValue (field μ) (conj μ) (planeSym (groupOf (x .group))) (index (x .at)) z ≡ field μ .neg z
   number : x .number ≡ 12
 
 abbrev AllReversed : List Specimen → Type 0
@@ -65,7 +66,7 @@ computed = (
     low = (omega arith, omega arith, omega arith);
     member = later here;
     fixed = λ a. rw (neg-zero (a .0), neg-zero (a .1));
-    negated = λ z. ring (field-ring 1) (z ∷ []) (search quote depth 40 fits 9999) refl;
+    negated = λ μ z. ring (field-ring μ) (z ∷ []) (search quote depth 40 fits 9999) refl;
     number = refl;
   },
   (
@@ -74,7 +75,7 @@ computed = (
       low = (omega arith, omega arith, omega arith);
       member = later here;
       fixed = λ a. rw (neg-zero (a .2));
-      negated = λ z. ring (field-ring 1) (z ∷ []) (search quote depth 40 fits 9999) refl;
+      negated = λ μ z. ring (field-ring μ) (z ∷ []) (search quote depth 40 fits 9999) refl;
       number = refl;
     },
     (
@@ -83,7 +84,7 @@ computed = (
         low = (omega arith, omega arith, omega arith);
         member = later here;
         fixed = λ a. rw (neg-zero (a .0), neg-zero (a .1));
-        negated = λ z. ring (field-ring 1) (z ∷ []) (search quote depth 40 fits 9999) refl;
+        negated = λ μ z. ring (field-ring μ) (z ∷ []) (search quote depth 40 fits 9999) refl;
         number = refl;
       },
       tt,
@@ -92,11 +93,11 @@ computed = (
 )
 
 module _ (x : Specimen) (r : Reversed x) where
-  disagrees : (a : J) → Positive a → (z : Value 1) → (z ≡ field 1 .zer → ⊥) → agreesWithItself (groupOf (x .group)) a 1 (index (x .at)) z ≡ false
-  disagrees a long z h = is-false _ (λ e. h (self-neg (field-ring 1) (real 1 (half 1)) (half-law 1) z
-      (sym (agrees-iff (groupOf (x .group)) a long 1 (index (x .at)) z .0 e (planeSym (groupOf (x .group))) (r .member) (r .fixed a)) ∙ r .negated z)))
+  disagrees : (μ : ℕ) (a : J) → Positive a → (z : Value μ) → (z ≡ field μ .zer → ⊥) → agreesWithItself (groupOf (x .group)) a μ (index (x .at)) z ≡ false
+  disagrees μ a long z h = is-false _ (λ e. h (self-neg (field-ring μ) (real μ (half μ)) (half-law μ) z
+      (sym (agrees-iff (groupOf (x .group)) a long μ (index (x .at)) z .0 e (planeSym (groupOf (x .group))) (r .member) (r .fixed a)) ∙ r .negated μ z)))
 
-  module _ (h : Header) (g : h .group ≡ x .group) (e : 0 ≡ first (axisTests h)) where
+  module _ (μ : ℕ) (is : isModulus μ ≡ true) (h : Header) (g : h .group ≡ x .group) (e : 0 ≡ first (axisTests h)) where
     sizes : Sizes (headerCell h)
     sizes = sound-sizes h e (omega (arith, g, r .known))
 
@@ -110,28 +111,28 @@ module _ (x : Specimen) (r : Reversed x) where
     positive : Positive (halfLengths (h .lengths))
     positive = (omega (arith, sizes .first .low), omega (arith, sizes .second .low), omega (arith, sizes .third .low))
 
-    contradiction : (v : List ℕ) (a b : ℕ) → a < p → b < p → ((a ≡ 0) × (b ≡ 0) → ⊥) → 12 ≡ first (recordTests (jobOf h collecting) (index (x .at)) a b v)
+    contradiction : (v : List ℕ) (a b : ℕ) → a < prime μ → b < prime μ → ((a ≡ 0) × (b ≡ 0) → ⊥) → 12 ≡ first (recordTests (jobOf μ h collecting) (index (x .at)) a b v)
     contradiction v a b la lb n =
-        pass 25 _ (not-t _ (opened-valid h collecting (omega (arith, g, r .known)) e (omega arith)))
+        pass 25 _ (not-t _ (opened-valid μ h collecting is (omega (arith, g, r .known)) e (omega arith)))
         (pass 21 _ refl
         (pass 10 _ (not-t _ inside)
         (pass 7 _ (not-t _ both-below)
         (stop _ (not-f _ disagreement)))))
       where
-        both-below : (ltb a p && ltb b p) ≡ true
-        both-below = let x = lt-ltb a p la in let y = lt-ltb b p lb in λ i. x i && y i
+        both-below : (ltb a (prime μ) && ltb b (prime μ)) ≡ true
+        both-below = let x = lt-ltb a (prime μ) la in let y = lt-ltb b (prime μ) lb in λ i. x i && y i
 
-        disagreement : agreesWithItself (groupOf (h .group)) (halfLengths (h .lengths)) 1 (index (x .at)) (value 1 a b) ≡ false
-        disagreement = rw g (disagrees (halfLengths (h .lengths)) positive (value 1 a b) (not-zero a b la lb n))
+        disagreement : agreesWithItself (groupOf (h .group)) (halfLengths (h .lengths)) μ (index (x .at)) (value μ a b) ≡ false
+        disagreement = rw g (disagrees μ (halfLengths (h .lengths)) positive (value μ a b) (not-zero μ a b la lb n))
 
-    refused : (v : List ℕ) (a b : ℕ) → a < p → b < p → ((a ≡ 0) × (b ≡ 0) → ⊥) → recordStep (jobOf h collecting) (x .at) a b v ≡ unchanged (jobOf h collecting) v (x .number)
+    refused : (v : List ℕ) (a b : ℕ) → a < prime μ → b < prime μ → ((a ≡ 0) × (b ≡ 0) → ⊥) → recordStep (jobOf μ h collecting) (x .at) a b v ≡ unchanged (jobOf μ h collecting) v (x .number)
     unfolding recordStep
     refused v a b la lb n = rw (← contradiction v a b la lb n, r .number)
 
   shown : Shown x
-  shown h lent v j a b g e la lb n =
-      let o = opened-collecting h lent e in
-      rw (o .1) (refused h g (header-passed h 0 lent (o .0)) v a b la lb n)
+  shown μ h lent v j a b g e la lb n =
+      let o = opened-collecting μ h lent e in
+      rw (o .1) (refused μ (not-false _ (passed (openTests μ h 0 lent) tt (o .0) .1 .0)) h g (header-passed μ h 0 lent (o .0)) v a b la lb n)
 
 hold-records : (l : List Specimen) → AllReversed l → (rest : List Starred) → AllHold rest → AllHold (map recorded l ++ rest)
 hold-records [] r rest k = k

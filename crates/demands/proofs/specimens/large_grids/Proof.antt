@@ -9,7 +9,7 @@ use Rattle.demands.proofs.specimens.large_grids.Tie as tie
 
 returns : tie.Need-returns
 unfolding openStep first planes admitted factorsOk product octal
-returns c = record { shown = ((refl, λ v e. rw e refl), ((refl, λ v e. refl), ((refl, λ v e. rw e refl), tt))) }
+returns c = record { shown = ((refl, λ m is v e. rw (is, e) refl), ((refl, λ m is v e. rw is refl), ((refl, λ m is v e. rw (is, e) refl), tt))) }
 
 pub large-grids-spec : {M : Type 1} → statement M
 large-grids-spec = tie.close (tie.spec returns)

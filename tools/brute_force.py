@@ -2,91 +2,95 @@
 
 It works on whole cells: factors are a table over every (h, k, l), orbits are enumerated, maps are triple sums over all factors, and packed
 factors are consistent if the cell read from them obeys every rule and packs to the same numbers. It never folds a line and shares no code
-with the crates.
+with the crates. What computes with residues is told the prime p, which is the first where none is named; a job and a file carry its number,
+1 or 2.
 """
-P = 86399
+PRIMES = {1: 86399, 2: 302399}
+P = PRIMES[1]
 SCRATCH = 11520
 LIMIT = 16777216
 
 
 # ---- a density as it is read and printed
 
-def signed(x):
-    """Of the whole numbers that are congruent to x, the one of the least magnitude: from -43,199 to 43,199."""
-    return min((x % P + k * P for k in (-1, 0, 1)), key=abs)
+def signed(x, p=P):
+    """Of the whole numbers that are congruent to x, the one of the least magnitude: from -43,199 to 43,199 or from -151,199 to 151,199."""
+    return min((x % p + k * p for k in (-1, 0, 1)), key=abs)
 
 
 # ---- values a + b i
 
-def mul(x, y):
-    return ((x[0] * y[0] - x[1] * y[1]) % P, (x[0] * y[1] + x[1] * y[0]) % P)
+def mul(x, y, p=P):
+    return ((x[0] * y[0] - x[1] * y[1]) % p, (x[0] * y[1] + x[1] * y[0]) % p)
 
 
-def add(x, y):
-    return ((x[0] + y[0]) % P, (x[1] + y[1]) % P)
+def neg(x, p=P):
+    return (-x[0] % p, -x[1] % p)
 
 
-def neg(x):
-    return (-x[0] % P, -x[1] % P)
+def conj(x, p=P):
+    return (x[0], -x[1] % p)
 
 
-def conj(x):
-    return (x[0], -x[1] % P)
-
-
-def find_root():
-    """((a + i)/(a - i))^30 for the least a for which it has order exactly 2,880 and its 720th power is -i."""
+def find_root(p):
+    """((a + i)/(a - i))^c, where p + 1 = 2,880 c, for the least a for which it has order exactly 2,880 and its 720th power is -i."""
     a = 1
     while True:
-        n = pow(a * a + 1, P - 2, P)
-        q = mul(mul((a, 1), (a, 1)), (n, 0))
+        n = pow(a * a + 1, p - 2, p)
+        q = mul(mul((a, 1), (a, 1), p), (n, 0), p)
         r = (1, 0)
-        for _ in range(30):
-            r = mul(r, q)
+        for _ in range((p + 1) // 2880):
+            r = mul(r, q, p)
         powers = [(1, 0)]
         while True:
-            x = mul(powers[-1], r)
+            x = mul(powers[-1], r, p)
             if x == (1, 0) or len(powers) > 2880:
                 break
             powers.append(x)
-        if len(powers) == 2880 and powers[720] == (0, P - 1):
+        if len(powers) == 2880 and powers[720] == (0, p - 1):
             return powers
         a += 1
 
 
-ROOT = find_root()
+ROOTS = {p: find_root(p) for p in PRIMES.values()}
+ROOT = ROOTS[P]
 
 
-def e(k, n):
-    return ROOT[2880 // n * k % 2880]
+def e(k, n, p=P):
+    return ROOTS[p][2880 // n * k % 2880]
 
 
 # ---- groups: an operation takes (h, k, l) to an image and the value there
 
-def operations(g, n):
+def operations(g, n, p=P):
     n1, n2, n3 = n
     ops = [lambda j, v: (j, v)]
     if g == 1:
-        ops.append(lambda j, v: ((-j[0] % n1, -j[1] % n2, j[2]), neg(v) if j[2] % 2 else v))
+        ops.append(lambda j, v: ((-j[0] % n1, -j[1] % n2, j[2]), neg(v, p) if j[2] % 2 else v))
     if g == 2:
         ops.append(lambda j, v: ((j[0], j[1], -j[2] % n3), v))
     if g == 3:
-        ops.append(lambda j, v: ((j[0], j[1], -j[2] % n3), neg(v) if j[0] % 2 else v))
+        ops.append(lambda j, v: ((j[0], j[1], -j[2] % n3), neg(v, p) if j[0] % 2 else v))
     if g == 4:
-        ops.append(lambda j, v: ((-j[0] % n1, -j[1] % n2, j[2]), neg(v) if (j[0] + j[2]) % 2 else v))
-        ops.append(lambda j, v: ((-j[0] % n1, j[1], -j[2] % n3), neg(v) if (j[1] + j[2]) % 2 else v))
-        ops.append(lambda j, v: ((j[0], -j[1] % n2, -j[2] % n3), neg(v) if (j[0] + j[1]) % 2 else v))
+        ops.append(lambda j, v: ((-j[0] % n1, -j[1] % n2, j[2]), neg(v, p) if (j[0] + j[2]) % 2 else v))
+        ops.append(lambda j, v: ((-j[0] % n1, j[1], -j[2] % n3), neg(v, p) if (j[1] + j[2]) % 2 else v))
+        ops.append(lambda j, v: ((j[0], -j[1] % n2, -j[2] % n3), neg(v, p) if (j[0] + j[1]) % 2 else v))
     return ops
 
 
-def images(g, n, j, v):
+def images(g, n, j, v, p=P):
     """Every image of a factor, with Friedel's rule."""
     out = []
-    for op in operations(g, n):
+    for op in operations(g, n, p):
         i, w = op(j, v)
         out.append((i, w))
-        out.append((tuple(-c % m for c, m in zip(i, n)), conj(w)))
+        out.append((tuple(-c % m for c, m in zip(i, n)), conj(w, p)))
     return out
+
+
+def orbit_of(g, n, j):
+    """The indices of every image of a factor, rising."""
+    return sorted({i for i, _ in images(g, n, j, (0, 0))})
 
 
 def point_images(g, n, x):
@@ -140,34 +144,34 @@ def standing(g, n, j):
     return [(pair(l), 0), (pair(l) + 1, 1)]
 
 
-def stored(g, j, x):
+def stored(g, j, x, p=P):
     """The value as its line stores it: times i for an odd h of group 4."""
-    return (-x[1] % P, x[0]) if g == 4 and j[0] % 2 else x
+    return (-x[1] % p, x[0]) if g == 4 and j[0] % 2 else x
 
 
-def unstored(g, j, x):
-    return (x[1], -x[0] % P) if g == 4 and j[0] % 2 else x
+def unstored(g, j, x, p=P):
+    return (x[1], -x[0] % p) if g == 4 and j[0] % 2 else x
 
 
-def along_l(g, n, j, value):
+def along_l(g, n, j, value, p=P):
     """The rule of a line: the value at (h, k, -l) from that at (h, k, l)."""
     if g == 1:
-        w = conj(value)
-        return neg(w) if j[2] % 2 else w
+        w = conj(value, p)
+        return neg(w, p) if j[2] % 2 else w
     if g == 3 and j[0] % 2:
-        return neg(value)
+        return neg(value, p)
     if g == 4:
-        w = conj(value)
-        return neg(w) if (j[0] + j[2]) % 2 else w
+        w = conj(value, p)
+        return neg(w, p) if (j[0] + j[2]) % 2 else w
     return value
 
 
-def read_factor(g, n, v, j):
+def read_factor(g, n, v, j, p=P):
     """A factor and the places of the numbers read."""
     h, k, l = j
     if k > n[1] // 2:
-        x, places = read_factor(g, n, v, tuple(-c % m for c, m in zip(j, n)))
-        return conj(x), places
+        x, places = read_factor(g, n, v, tuple(-c % m for c, m in zip(j, n)), p)
+        return conj(x, p), places
     flipped = g != 0 and l > n[2] // 2
     at = (h, k, n[2] - l) if flipped else j
     parts = [0, 0]
@@ -175,31 +179,31 @@ def read_factor(g, n, v, j):
     for place, part in standing(g, n, at):
         parts[part] = v[place]
         places.append(place)
-    x = unstored(g, at, tuple(c % P for c in parts))
-    return (along_l(g, n, at, x) if flipped else x), places
+    x = unstored(g, at, tuple(c % p for c in parts), p)
+    return (along_l(g, n, at, x, p) if flipped else x), places
 
 
-def read_cell(g, n, v):
-    return {j: read_factor(g, n, v, j)[0] for j in all_points(n)}
+def read_cell(g, n, v, p=P):
+    return {j: read_factor(g, n, v, j, p)[0] for j in all_points(n)}
 
 
-def pack_cell(g, n, F):
+def pack_cell(g, n, F, p=P):
     v = [0] * volume_length(g, n)
     for h in range(n[0]):
         for k in range(n[1] // 2 + 1):
             for l in range(n[2] if g == 0 else n[2] // 2 + 1):
                 for place, part in standing(g, n, (h, k, l)):
-                    v[place] = stored(g, (h, k, l), F[(h, k, l)])[part]
+                    v[place] = stored(g, (h, k, l), F[(h, k, l)], p)[part]
     return v
 
 
-def consistent(g, n, v):
-    F = read_cell(g, n, v)
+def consistent(g, n, v, p=P):
+    F = read_cell(g, n, v, p)
     for j in F:
-        for i, w in images(g, n, j, F[j]):
+        for i, w in images(g, n, j, F[j], p):
             if F[i] != w:
                 return False
-    return pack_cell(g, n, F) == v
+    return pack_cell(g, n, F, p) == v
 
 
 def density_place(g, n, x):
@@ -229,7 +233,7 @@ def consistent_map(g, n, v):
     return pack_map(g, n, M) == v
 
 
-def triple(n, X, sign):
+def triple(n, X, sign, p=P):
     """The sum over the whole cell of X times e(+-hx/N1) e(+-ky/N2) e(+-lz/N3)."""
     terms = [(j, x) for j, x in X.items() if x != (0, 0)]
     out = {}
@@ -237,23 +241,23 @@ def triple(n, X, sign):
         re = im = 0
         for j, x in terms:
             t = sum(sign * 2880 // m * a * b for a, b, m in zip(j, q, n)) % 2880
-            w = ROOT[t]
+            w = ROOTS[p][t]
             re += x[0] * w[0] - x[1] * w[1]
             im += x[0] * w[1] + x[1] * w[0]
-        out[q] = (re % P, im % P)
+        out[q] = (re % p, im % p)
     return out
 
 
-def synthesised(g, n, v):
-    M = triple(n, read_cell(g, n, v), 1)
+def synthesised(g, n, v, p=P):
+    M = triple(n, read_cell(g, n, v, p), 1, p)
     assert all(x[1] == 0 for x in M.values())
     return pack_map(g, n, {q: x[0] for q, x in M.items()})
 
 
-def analysed(g, n, v):
-    part = pow(n[0] * n[1] * n[2], P - 2, P)
-    F = triple(n, {x: (d, 0) for x, d in read_map(g, n, v).items()}, -1)
-    return pack_cell(g, n, {j: mul(x, (part, 0)) for j, x in F.items()})
+def analysed(g, n, v, p=P):
+    part = pow(n[0] * n[1] * n[2], p - 2, p)
+    F = triple(n, {x: (d, 0) for x, d in read_map(g, n, v).items()}, -1, p)
+    return pack_cell(g, n, {j: mul(x, (part, 0), p) for j, x in F.items()}, p)
 
 
 # ---- the calls
@@ -281,6 +285,10 @@ def digits(x):
     return out
 
 
+def residue(x, p):
+    return x < p
+
+
 def header_fault(g, n, lists):
     if not all(admitted(m) for m in n):
         return 3
@@ -297,7 +305,7 @@ class Machine:
     """A job and the buffers that a test program keeps."""
 
     def __init__(self):
-        self.job = [0] * 8
+        self.job = [0] * 9
         self.volume = [0] * 4096
         self.length = 0
         self.lists = [[], [], []]
@@ -316,17 +324,19 @@ class Machine:
         self.volume[:self.length] = v
 
     def parts(self):
-        g, n1, f1, n2, f2, n3, f3, s = self.job
-        return g, (n1, n2, n3), [digits(f1), digits(f2), digits(f3)], s
+        g, m, n1, f1, n2, f2, n3, f3, s = self.job
+        return g, PRIMES.get(m), (n1, n2, n3), [digits(f1), digits(f2), digits(f3)], s
 
     def valid(self):
-        g, n, lists, s = self.parts()
-        return g < 5 and s < 3 and header_fault(g, n, lists) == 0
+        g, p, n, lists, s = self.parts()
+        return g < 5 and p is not None and s < 3 and header_fault(g, n, lists) == 0
 
-    def open(self, g, kind, *n):
+    def open(self, g, m, kind, *n):
         v = self.lent()
         if g > 4:
             return 8, 0, 0
+        if m not in PRIMES:
+            return 26, 0, 0
         if kind > 1:
             return 2, 0, 0
         fault = header_fault(g, n, self.lists)
@@ -335,18 +345,18 @@ class Machine:
         if len(v) != volume_length(g, n):
             return 6, 0, 0
         if kind == 1:
-            if any(x >= P for x in v):
+            if not all(residue(x, PRIMES[m]) for x in v):
                 return 7, 0, 0
             if not consistent_map(g, n, v):
                 return 14, 0, 0
         fs = [octal(l) for l in self.lists]
-        self.job = [g, n[0], fs[0], n[1], fs[1], n[2], fs[2], 2 if kind else 0]
+        self.job = [g, m, n[0], fs[0], n[1], fs[1], n[2], fs[2], 2 if kind else 0]
         if kind == 0:
             self.keep([0] * len(v))
         return 0, 0, 0
 
     def record(self, h, k, l, a, b):
-        g, n, _, s = self.parts()
+        g, p, n, _, s = self.parts()
         j = (h, k, l)
         if not self.valid():
             return 25, 0, 0
@@ -354,9 +364,9 @@ class Machine:
             return 21, 0, 0
         if any(c >= m for c, m in zip(j, n)):
             return 10, 0, 0
-        if a >= P or b >= P:
+        if not (residue(a, p) and residue(b, p)):
             return 7, 0, 0
-        orbit = images(g, n, j, (a, b))
+        orbit = images(g, n, j, (a, b), p)
         if any(i == j and w != (a, b) for i, w in orbit):
             return 12, 0, 0
         v = self.lent()
@@ -367,12 +377,12 @@ class Machine:
         for i, w in orbit:
             if i[1] <= n[1] // 2 and (g == 0 or i[2] <= n[2] // 2):
                 for place, part in standing(g, n, i):
-                    v[place] = stored(g, i, w)[part]
+                    v[place] = stored(g, i, w, p)[part]
         self.keep(v)
         return 0, 0, 0
 
     def work(self, scratch, wants_map):
-        g, n, _, s = self.parts()
+        g, p, n, _, s = self.parts()
         if not self.valid():
             return 25, 0, 0
         if (s == 2) != wants_map:
@@ -382,17 +392,17 @@ class Machine:
             return 6, 0, 0
         if scratch < SCRATCH:
             return 13, 0, 0
-        if any(x >= P for x in v):
+        if not all(residue(x, p) for x in v):
             return 7, 0, 0
-        if not (consistent_map(g, n, v) if wants_map else consistent(g, n, v)):
+        if not (consistent_map(g, n, v) if wants_map else consistent(g, n, v, p)):
             return 14, 0, 0
-        self.keep(analysed(g, n, v) if wants_map else synthesised(g, n, v))
-        self.job[7] = 1 if wants_map else 2
+        self.keep(analysed(g, n, v, p) if wants_map else synthesised(g, n, v, p))
+        self.job[8] = 1 if wants_map else 2
         self.scratch[:SCRATCH] = [0] * SCRATCH
         return 0, 0, 0
 
     def point(self, x, y, z):
-        g, n, _, s = self.parts()
+        g, p, n, _, s = self.parts()
         if not self.valid():
             return 25, 0, 0
         if s != 2:
@@ -403,12 +413,12 @@ class Machine:
         if len(v) != volume_length(g, n):
             return 6, 0, 0
         d = v[density_place(g, n, (x, y, z))]
-        if d >= P:
+        if not residue(d, p):
             return 7, 0, 0
-        return 0, signed(d), 0
+        return 0, signed(d, p), 0
 
     def factor(self, h, k, l):
-        g, n, _, s = self.parts()
+        g, p, n, _, s = self.parts()
         if not self.valid():
             return 25, 0, 0
         if s == 2:
@@ -418,14 +428,14 @@ class Machine:
         v = self.lent()
         if len(v) != volume_length(g, n):
             return 6, 0, 0
-        x, places = read_factor(g, n, v, (h, k, l))
-        if any(v[q] >= P for q in places):
+        x, places = read_factor(g, n, v, (h, k, l), p)
+        if not all(residue(v[q], p) for q in places):
             return 7, 0, 0
         return 0, x[0], x[1]
 
     def write(self, room):
         """The file with one record for each orbit that has a value, at its lowest index: the refusal's number or 0, and its bytes."""
-        g, n, lists, s = self.parts()
+        g, p, n, lists, s = self.parts()
         if not self.valid():
             return 25, b""
         if s == 2:
@@ -433,18 +443,18 @@ class Machine:
         v = self.lent()
         if len(v) != volume_length(g, n):
             return 6, b""
-        if any(x >= P for x in v):
+        if not all(residue(x, p) for x in v):
             return 7, b""
-        if not consistent(g, n, v):
+        if not consistent(g, n, v, p):
             return 14, b""
-        F = read_cell(g, n, v)
+        F = read_cell(g, n, v, p)
         seen = set()
         records = []
         for j in sorted(F):
             if F[j] != (0, 0) and j not in seen:
                 records.append((*j, *F[j]))
-                seen.update(i for i, _ in images(g, n, j, F[j]))
-        file = file_bytes(g, n, lists, records)
+                seen.update(orbit_of(g, n, j))
+        file = file_bytes(g, n, lists, records, self.job[1])
         return (18, b"") if len(file) > room else (0, file)
 
 
@@ -453,8 +463,8 @@ class Machine:
 class Book:
     """What the calls from an accepted opening on must answer, and the volume that they must leave."""
 
-    def __init__(self, g, n, lists):
-        self.g, self.n, self.lists = g, n, lists
+    def __init__(self, g, n, lists, modulus=1):
+        self.g, self.n, self.lists, self.modulus, self.p = g, n, lists, modulus, PRIMES[modulus]
         self.state = 0
         self.F = {j: (0, 0) for j in all_points(n)}
         self.map = None
@@ -468,9 +478,9 @@ class Book:
             return 21, 0, 0
         if self.outside(j):
             return 10, 0, 0
-        if a >= P or b >= P:
+        if not (residue(a, self.p) and residue(b, self.p)):
             return 7, 0, 0
-        orbit = images(self.g, self.n, j, (a, b))
+        orbit = images(self.g, self.n, j, (a, b), self.p)
         if any(i == j and w != (a, b) for i, w in orbit):
             return 12, 0, 0
         if self.F[j] != (0, 0):
@@ -498,7 +508,7 @@ class Book:
 
     def densities(self):
         if self.map is None:
-            sums = triple(self.n, self.F, 1)
+            sums = triple(self.n, self.F, 1, self.p)
             assert all(x[1] == 0 for x in sums.values())
             self.map = {q: x[0] for q, x in sums.items()}
         return self.map
@@ -508,7 +518,7 @@ class Book:
             return 22, 0, 0
         if self.outside((x, y, z)):
             return 10, 0, 0
-        return 0, signed(self.densities()[(x, y, z)]), 0
+        return 0, signed(self.densities()[(x, y, z)], self.p), 0
 
     def factor(self, h, k, l):
         if self.state == 2:
@@ -519,12 +529,12 @@ class Book:
 
     def job(self):
         fs = [octal(l) for l in self.lists]
-        return [self.g, self.n[0], fs[0], self.n[1], fs[1], self.n[2], fs[2], self.state]
+        return [self.g, self.modulus, self.n[0], fs[0], self.n[1], fs[1], self.n[2], fs[2], self.state]
 
     def volume(self):
         if self.state == 2:
             return pack_map(self.g, self.n, self.densities())
-        return pack_cell(self.g, self.n, self.F)
+        return pack_cell(self.g, self.n, self.F, self.p)
 
 
 # ---- the factor file
@@ -533,13 +543,27 @@ def number(b):
     return int.from_bytes(b, "big")
 
 
+def lengths_at(file):
+    """Where the lengths stand: behind the group, in version 2 behind the modulus."""
+    return 7 if file[4:5] == b"\2" else 6
+
+
+def lengths_in(file):
+    return tuple(number(file[q:q + 2]) for q in range(lengths_at(file), lengths_at(file) + 6, 2))
+
+
+def modulus_in(file):
+    """The modulus number of a file, which is 1 in version 1."""
+    return file[6] if file[4] == 2 else 1
+
+
 def open_file(file, lent):
     """The refusal's number or 0, the record's place, and the book; lent is how many numbers the volume has."""
     if len(file) < 5 or number(file[:4]) != len(file) - 4:
         return 15, 0, None
-    if file[4] != 1:
+    if file[4] not in (1, 2):
         return 16, 0, None
-    at = 12
+    at = lengths_at(file) + 6
     lists = []
     for _ in range(3):
         if at >= len(file):
@@ -553,16 +577,17 @@ def open_file(file, lent):
     at += 4
     if at + 14 * count != len(file):
         return 15, 0, None
-    g = file[5]
-    n = tuple(number(file[q:q + 2]) for q in (6, 8, 10))
+    g, m, n = file[5], modulus_in(file), lengths_in(file)
     if g > 4:
         return 8, 0, None
+    if m not in PRIMES:
+        return 26, 0, None
     fault = header_fault(g, n, lists)
     if fault:
         return fault, 0, None
     if lent != volume_length(g, n):
         return 6, 0, None
-    book = Book(g, n, lists)
+    book = Book(g, n, lists, m)
     orbits = set()
     for place in range(count):
         r = file[at + 14 * place:at + 14 * place + 14]
@@ -572,12 +597,14 @@ def open_file(file, lent):
             refused = 24
         if refused:
             return refused, place, None
-        orbits.update(i for i, _ in images(g, n, j, v))
+        orbits.update(orbit_of(g, n, j))
     return 0, 0, book
 
 
-def file_bytes(g, n, lists, records):
-    body = bytes([1, g]) + b"".join(m.to_bytes(2, "big") for m in n)
+def file_bytes(g, n, lists, records, modulus=1, version=None):
+    """A file: of version 1 for the first prime and of version 2 for the second, where no version is named."""
+    version = modulus if version is None else version
+    body = bytes([version, g]) + bytes([modulus] if version == 2 else []) + b"".join(m.to_bytes(2, "big") for m in n)
     for fs in lists:
         body += bytes([len(fs)]) + bytes(fs)
     body += len(records).to_bytes(4, "big")
@@ -588,13 +615,13 @@ def file_bytes(g, n, lists, records):
 
 def needed(file):
     """How many numbers the volume of a file has, whatever its header; where that is more than any has, one more than that."""
-    part = file + bytes(12)
-    return min(volume_length(part[5] % 5, [number(part[q:q + 2]) for q in (6, 8, 10)]), LIMIT + 1)
+    part = file + bytes(13)
+    return min(volume_length(part[5] % 5, lengths_in(part)), LIMIT + 1)
 
 
 def first_record(file):
     """Where the records of a file of sound shape begin."""
-    at = 12
+    at = lengths_at(file) + 6
     for _ in range(3):
         at += 1 + file[at]
     return at + 4
@@ -613,9 +640,8 @@ def file_faults(file):
         return []
     if refused != 24:
         return [place]
-    n = tuple(number(file[q:q + 2]) for q in (6, 8, 10))
     indices = [record[:3] for record in records_in(file)]
-    orbit = {i for i, _ in images(file[5], n, indices[place], (0, 0))}
+    orbit = orbit_of(file[5], lengths_in(file), indices[place])
     return [next(q for q, j in enumerate(indices) if j in orbit), place]
 
 

@@ -14,19 +14,20 @@ test_records.py says what the input holds and what is printed. The cases are mad
     6 replay    lengths of the scratch and of the answers: the script is replayed on the job
     7 write     length of the output: the file of the job is written
     8 poke      place, value: one number of the volume
-    9 job       group, N1, list, N2, list, N3, list, state: the job itself (lists as octal digits)
+    9 job       group, modulus, N1, list, N2, list, N3, list, state: the job itself (lists as octal digits)
 
 The answers of openings and replays are those of the book in brute_force.py, which is fed the calls' arguments alone; the records at fault are
 those of its rule, which faults_cases.py holds to all lists of records; a file is written
-from the job and the volume that the calls left. The seed is fixed.
+from the job and the volume that the calls left. The random cases are shared between the two primes, which are files of version 1 and of version 2,
+where no version is named. The seed is fixed.
 """
 import itertools
 import random
 import sys
 
 import test_records
-from brute_force import P, SCRATCH, Machine, all_points, factor_lists, file_bytes, file_faults, images, open_file, volume_length
-from order_cases import factors_of, fault_sets, faulty_arguments, faulty_header, faulty_job, pair
+from brute_force import P, PRIMES, SCRATCH, Machine, all_points, factor_lists, file_bytes, file_faults, images, open_file, orbit_of, volume_length
+from order_cases import factors_of, fault_sets, faulty_arguments, faulty_header, faulty_job, pair, sound_values
 from test_records import JOB, POKE, WRITE, checksum
 
 SEED = 1974
@@ -66,7 +67,7 @@ class TestProgram:
             volume = [0] * self.length
         else:
             volume = [7] * self.length
-        job = book.job() if book else [0] * 8
+        job = book.job() if book else [0] * 9
         if book:
             self.book = book
             self.leave()
@@ -160,35 +161,37 @@ def cases():
     def index(n):
         return tuple(rng.choice([0, m // 2, rng.randrange(m), rng.randrange(m)]) for m in n)
 
-    def sound(g, n, j):
+    def sound(g, m, n, j):
         """A value at j that agrees with its own images, or None."""
-        a, b = rng.randrange(1, P), rng.randrange(1, P)
+        a, b = rng.randrange(1, PRIMES[m]), rng.randrange(1, PRIMES[m])
         for v in ((a, b), (a, 0), (0, b)):
-            if all(i != j or w == v for i, w in images(g, n, j, v)):
+            if all(i != j or w == v for i, w in images(g, n, j, v, PRIMES[m])):
                 return v
         return None
 
-    def records(g, n, most):
+    def records(g, m, n, most):
         taken = set()
         found = []
         for _ in range(40):
             j = index(n)
-            v = sound(g, n, j)
+            v = sound(g, m, n, j)
             if v is None or j in taken or len(found) == most:
                 continue
-            taken.update(i for i, _ in images(g, n, j, v))
+            taken.update(orbit_of(g, n, j))
             found.append((*j, *v))
         return found
 
     def lists(n):
         return [rng.choice(list(factor_lists(m // 2))) for m in n]
 
-    # the paper's specimen, and small files of all groups, at every byte and length
+    # the paper's specimen, and small files of all groups and both versions, at every byte and length
     specimen = bytes.fromhex("0000001D" "01" "00" "0002" "0002" "0002" "00" "00" "00" "00000001" "0001" "0000" "0000" "00000003" "00000000")
     damaged = [(0, (2, 2, 2), specimen)]
     for g in range(5):
         n = [(4, 4, 4), (4, 4, 6), (2, 4, 8), (4, 2, 12), (4, 4, 6)][g]
-        damaged.append((g, n, file_bytes(g, n, lists(n), records(g, n, 4))))
+        m = 1 + g % 2
+        damaged.append((g, n, file_bytes(g, n, lists(n), records(g, m, n, 4), m)))
+        damaged.append((g, (2, 2, 4), file_bytes(g, (2, 2, 4), [[], [], [2]], records(g, 2, (2, 2, 4), 1), 2)))
     for g, n, file in damaged:
         say_file(file)
         say(2, volume_length(g, n))
@@ -197,13 +200,14 @@ def cases():
 
     # lengths of the volume, no records, faults of the header, records out of order and refused records of every kind, at the first and at a later place
     for g in range(5):
-        n = (4, 6, 4)
-        rs = records(g, n, 5)
+        n, m = (4, 6, 4), 2 - g % 2
+        p = PRIMES[m]
+        rs = records(g, m, n, 5)
         length = volume_length(g, n)
-        files = [file_bytes(g, n, lists(n), rs), file_bytes(g, n, lists(n), rs[::-1]), file_bytes(g, n, lists(n), []), file_bytes(g, n, [[2], [3], [4]], rs), file_bytes(g, (4, 6, 14), lists(n), rs), file_bytes(g + 4, n, lists(n), rs), file_bytes(g, n, [[2], [7], [2]], rs)]
-        for spoilt in ((4, 0, 0, 1, 1), (0, 6, 0, 1, 1), (0, 0, 4, 1, 1), (1, 1, 1, P, 1), (1, 1, 1, 1, P), (1, 2, 1, 0, 0), (0, 0, 0, 1, 1), rs[0]):
-            files.append(file_bytes(g, n, lists(n), [spoilt] + rs))
-            files.append(file_bytes(g, n, lists(n), rs[:3] + [spoilt] + rs[3:]))
+        files = [file_bytes(g, n, lists(n), rs, m), file_bytes(g, n, lists(n), rs[::-1], m), file_bytes(g, n, lists(n), [], m), file_bytes(g, n, [[2], [3], [4]], rs, m), file_bytes(g, (4, 6, 14), lists(n), rs, m), file_bytes(g + 4, n, lists(n), rs, m), file_bytes(g, n, [[2], [7], [2]], rs, m)]
+        for spoilt in ((4, 0, 0, 1, 1), (0, 6, 0, 1, 1), (0, 0, 4, 1, 1), (1, 1, 1, p, 1), (1, 1, 1, 1, p), (1, 2, 1, 0, 0), (0, 0, 0, 1, 1), rs[0]):
+            files.append(file_bytes(g, n, lists(n), [spoilt] + rs, m))
+            files.append(file_bytes(g, n, lists(n), rs[:3] + [spoilt] + rs[3:], m))
         for file in files:
             say_file(file)
             for lent in (length, length - 1, length + 1):
@@ -213,19 +217,19 @@ def cases():
     # lists of calls, refused ones among them, on the jobs of accepted files
     for g in range(5):
         for n in [(2, 2, 2), (4, 4, 4), (6, 4, 2), (4, 6, 6), (2, 8, 6), (4, 4, 10), (6, 6, 6)]:
-            for _ in range(2):
-                say_file(file_bytes(g, n, lists(n), records(g, n, 3)))
+            for m, p in PRIMES.items():
+                say_file(file_bytes(g, n, lists(n), records(g, m, n, 3), m))
                 say(2, volume_length(g, n))
                 say(3)
                 count = 0
                 for _ in range(24):
                     op = rng.choice([0, 0, 0, 0, 1, 2, 3, 3, 4, 5])
                     j = index(n)
-                    v = sound(g, n, j) if rng.randrange(4) else (rng.randrange(P), rng.randrange(P))
+                    v = sound(g, m, n, j) if rng.randrange(4) else (rng.randrange(p), rng.randrange(p))
                     if rng.randrange(8) == 0:
                         j = tuple(c + rng.choice([0, m]) for c, m in zip(j, n))
                     if rng.randrange(12) == 0:
-                        v = rng.choice([(0, 0), (P, 0), (1, 4294967295)])
+                        v = rng.choice([(0, 0), (p, 0), (1, 4294967295), (3, PRIMES[2] - 1)])
                     say(5, op, *j, *(v or (3, 4)))
                     count += 1
                 say(6, rng.choice([SCRATCH, SCRATCH, SCRATCH + 480, SCRATCH - 1]), rng.choice([3 * count, 3 * count, 3 * count + 2, 3 * count - 1, 0]))
@@ -233,8 +237,9 @@ def cases():
 
     # files of jobs: outputs of every length around the file's, each refusal, and those of spoilt jobs and volumes
     for g in range(5):
-        for n in [(2, 2, 2), (4, 4, 4), (6, 4, 2), (4, 6, 6), (4, 2, 12), (2, 8, 10)]:
-            file = file_bytes(g, n, lists(n), records(g, n, rng.choice([1, 3, 12])))
+        for turn, n in enumerate([(2, 2, 2), (4, 4, 4), (6, 4, 2), (4, 6, 6), (4, 2, 12), (2, 8, 10)]):
+            m = 1 + (g + turn) % 2
+            file = file_bytes(g, n, lists(n), records(g, m, n, rng.choice([1, 3, 12])), m)
             book = open_file(file, volume_length(g, n))[2]
             length = len(file)
             say_file(file)
@@ -253,10 +258,10 @@ def cases():
             job, volume = book.job(), book.volume()
             for _ in range(6):
                 place = rng.randrange(len(volume))
-                say(8, place, rng.choice([0, 1, P - 1, P, rng.randrange(P)]))
+                say(8, place, rng.choice([0, 1, P, PRIMES[m] - 1, PRIMES[m], rng.randrange(P)]))
                 say(7, 4096)
                 say(8, place, volume[place])
-            for change in ((0, 5), (1, 14), (2, 7), (3, 0), (4, 2), (5, 2880), (7, 1), (7, 2), (7, 3)):
+            for change in ((0, 5), (1, 0), (1, 3 - m), (1, 3), (2, 14), (3, 7), (4, 0), (5, 2), (6, 2880), (8, 1), (8, 2), (8, 3)):
                 say(9, *job[:change[0]], change[1], *job[change[0] + 1:])
                 say(7, 4096)
             say(9, *job)
@@ -271,8 +276,8 @@ def cases():
 
     # files of no records at every byte and length; written back as they are read, after a synthesis and an analysis, and once a record has come
     for g in range(5):
-        for n in [(2, 2, 2), (4, 6, 6)]:
-            file = file_bytes(g, n, lists(n), [])
+        for n, m in [((2, 2, 2), 1), ((2, 2, 2), 2), ((4, 6, 6), 1 + g % 2)]:
+            file = file_bytes(g, n, lists(n), [], m)
             say_file(file)
             say(2, volume_length(g, n))
             if n == (2, 2, 2):
@@ -287,36 +292,57 @@ def cases():
                     say(5, *call)
                 say(6, SCRATCH, 3 * len(calls))
                 say(7, 4096)
-    return out + [*faulty_files(), *(case for g in range(5) for case in (*faulty_records(g), *faulty_writings(g), *zero_files(g), *repeated_orbits(g)))]
+    out += [case for m in PRIMES for case in faulty_files(m)]
+    for g in range(5):
+        out += versions(g)
+        for m in PRIMES:
+            out += [*faulty_records(g, m), *faulty_writings(g, m)]
+        out += [*zero_files(g, 2 - g % 2), *repeated_orbits(g, 1 + g % 2)]
+    return out
 
 
 # ---- each fault alone and every two at once
 
-def faulty_files():
+def versions(g):
+    """Files of every version and every modulus byte about those that are taken, of values below the first prime and below the second, and what is
+    written of those that are opened."""
+    n = (4, 2, 2)
+    yield 2, (volume_length(g, n),)
+    for version, m, a in itertools.product((0, 1, 2, 3, 255), (0, 1, 2, 3, 255), (P - 1, P, PRIMES[2] - 1, PRIMES[2])):
+        if version == 2 or m == 1:
+            yield 0, ()
+            yield 1, (file_bytes(g, n, [[2], [], []], [(0, 0, 0, a, 0)], m, version),)
+            yield 3, ()
+            if version == 2 and m in PRIMES and a < PRIMES[m]:
+                yield 7, (4096,)
+
+
+def faulty_files(m):
     """Files of P1 whose count is wrong (fault 0 here), with a byte beyond their records (15), with faults of version, header and length of the
-    volume, and with a second record that has 10; then files of no records."""
-    every = [(turn, faults, False) for turn, faults in fault_sets((0, 16, 15, 8, 3, 4, 5, 9, 6, 10))]
-    every += [(turn, faults, True) for turn, faults in fault_sets((0, 16, 15, 8, 3, 4, 5, 9, 6))]
+    volume, in version 2 of the modulus, and with a second record that has 10; then files of no records."""
+    faults_of_files = (0, 16, 15, 8, *[26] * (m == 2), 3, 4, 5, 9, 6, 10)
+    every = [(turn, faults, False) for turn, faults in fault_sets(faults_of_files)]
+    every += [(turn, faults, True) for turn, faults in fault_sets(faults_of_files[:-1])]
     for turn, faults, empty in every:
         n, lists = faulty_header((4, 4, 6), faults)
-        records = [] if empty else [(0, 0, 0, 5, 0), (1, 1, n[2] if 10 in faults else 1, 3, 4)]
-        body = file_bytes(5 if 8 in faults else 0, n, lists, records)[4:] + bytes(15 in faults)
+        records = [] if empty else [(0, 0, 0, PRIMES[m] - 5, 0), (1, 1, n[2] if 10 in faults else 1, 3, 4)]
+        body = file_bytes(5 if 8 in faults else 0, n, lists, records, 3 * (turn % 2) if 26 in faults else m, m)[4:] + bytes(15 in faults)
         if 16 in faults:
-            body = bytes([2 * (turn % 2)]) + body[1:]
+            body = bytes([3 * (turn % 2)]) + body[1:]
         yield 2, (volume_length(0, (4, 4, 6)) + (6 in faults),)
         yield 0, ()
         yield 1, ((len(body) + (0 in faults)).to_bytes(4, "big") + body,)
         yield 3, ()
 
 
-def faulty_records(g):
+def faulty_records(g, m):
     """Files whose second record has the faults; the first is F(0,0,0) = 5, or 0."""
     n = (4, 4, 6)
     yield 2, (volume_length(g, n),)
     for first in (5, 0):
         for turn, faults in fault_sets((10, 7, 12, 24)):
             yield 0, ()
-            yield 1, (file_bytes(g, n, [[2], [2], [3]], [(0, 0, 0, first, 0), faulty_arguments(n, 1, faults, turn)]),)
+            yield 1, (file_bytes(g, n, [[2], [2], [3]], [(0, 0, 0, first, 0), faulty_arguments(PRIMES[m], n, 1, faults, turn)], m),)
             yield 3, ()
 
 
@@ -325,11 +351,11 @@ def lowest_indices(g, n):
     seen = set()
     for j in all_points(n):
         if j not in seen:
-            seen.update(i for i, _ in images(g, n, j, (0, 0)))
+            seen.update(orbit_of(g, n, j))
             yield j
 
 
-def zero_files(g):
+def zero_files(g, m):
     """A zero record for every orbit of a cell, then another for one of them at an image: at self-mates, in Pa's zero pairs, at both ends of
     alternating lines; zeros and other values in turn, written and read on."""
     for n in ((2, 2, 2), (4, 2, 4), (2, 4, 6)):
@@ -337,15 +363,15 @@ def zero_files(g):
         yield 2, (volume_length(g, n),)
         zeros = [(*j, 0, 0) for j in every]
         for j in every:
-            for i in sorted({i for i, _ in images(g, n, j, (0, 0))}):
+            for i in orbit_of(g, n, j):
                 for v in ((0, 0), (5, 0)):
                     yield 0, ()
-                    yield 1, (file_bytes(g, n, factors_of(n), zeros + [(*i, *v)]),)
+                    yield 1, (file_bytes(g, n, factors_of(n), zeros + [(*i, *v)], m),)
                     yield 3, ()
-        sound = [next((v for v in ((3, 4), (3, 0), (0, 3)) if all(i != j or w == v for i, w in images(g, n, j, v))), (0, 0)) for j in every]
+        sound = [[*sound_values(g, PRIMES[m], n, j), (0, 0)][0] for j in every]
         for turn in (0, 1):
             yield 0, ()
-            yield 1, (file_bytes(g, n, factors_of(n), [(*j, *(v if place % 2 == turn else (0, 0))) for place, (j, v) in enumerate(zip(every, sound))]),)
+            yield 1, (file_bytes(g, n, factors_of(n), [(*j, *(v if place % 2 == turn else (0, 0))) for place, (j, v) in enumerate(zip(every, sound))], m),)
             yield 3, ()
             yield 7, (4096,)
             calls = [(0, *j, *v) for j, v in zip(every, sound)] + [(1,), (2,), (4,)]
@@ -357,34 +383,34 @@ def zero_files(g):
             yield 7, (4096,)
 
 
-def repeated_orbits(g):
+def repeated_orbits(g, m):
     """Short files in which the record at one place is of the orbit of another, at every two places, with and without zeros."""
     n = (4, 4, 6)
     yield 2, (volume_length(g, n),)
     records = [((1, 1, 1), (3, 4)), ((0, 0, 3), (0, 0)), ((1, 0, 0), (0, 0)), ((2, 1, 2), (7, 8)), ((2, 2, 0), (0, 0))]
     for first, second in itertools.combinations(range(len(records)), 2):
-        orbit = sorted({i for i, _ in images(g, n, records[first][0], (0, 0))})
+        orbit = orbit_of(g, n, records[first][0])
         for again in (orbit[0], orbit[-1]):
             for v, w in itertools.product(((0, 0), records[first][1]), ((0, 0), (7, 8))):
                 file = list(records)
                 file[first] = records[first][0], v
                 file[second] = again, w
                 yield 0, ()
-                yield 1, (file_bytes(g, n, [[2], [2], [3]], [(*j, *x) for j, x in file]),)
+                yield 1, (file_bytes(g, n, [[2], [2], [3]], [(*j, *x) for j, x in file], m),)
                 yield 3, ()
 
 
-def faulty_writings(g):
-    """Writings of the job with F(0,0,0) = 5, and of that whose factors are all zero. In Pa a zero pair is what makes its factors inconsistent."""
-    n = (4, 4, 6)
+def faulty_writings(g, m):
+    """Writings of the job with F(0,0,0) = p - 5, and of that whose factors are all zero. In Pa a zero pair is what makes its factors inconsistent."""
+    n, p = (4, 4, 6), PRIMES[m]
     length = volume_length(g, n)
-    file = file_bytes(g, n, [[2], [2], [3]], [(0, 0, 0, 5, 0)])
+    file = file_bytes(g, n, [[2], [2], [3]], [(0, 0, 0, p - 5, 0)], m)
     job = open_file(file, length)[2].job()
     inconsistent = pair(n, 0 if g == 3 else 1, 1, 0)
     yield from ((2, (length,)), (0, ()), (1, (file,)), (3, ()))
     every = [(turn, faults, empty) for empty in (False, True) for turn, faults in fault_sets((25, 23, 6, 7, 14, 18))]
     for turn, faults, empty in every:
-        pokes = [poke for holds, *poke in ((7 in faults, 1, P, 0), (14 in faults, inconsistent, 1, 0), (empty, 0, 0, 5)) if holds]
+        pokes = [poke for holds, *poke in ((7 in faults, 1, p, 0), (14 in faults, inconsistent, 1, 0), (empty, 0, 0, p - 5)) if holds]
         yield 9, faulty_job(job, 5, faults, turn)
         for place, wrong, _ in pokes:
             yield 8, (place, wrong)

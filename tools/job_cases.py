@@ -5,27 +5,27 @@
     job_cases.py answers writes what the test program must print
 
 test_records.py says what the input holds and what is printed. Each call of a job is a script of its own. The lists are made of
-    0 open       group, kind, N1, N2, N3                (lists as set by 8)
+    0 open       group, modulus, kind, N1, N2, N3       (lists as set by 8)
     1 record     h, k, l, a, b
     2 synthesis  length of the scratch
     3 analysis   length of the scratch
     4 point      x, y, z
     5 factor     h, k, l
-    6 fill       seed: the volume's numbers by a linear congruential generator
+    6 fill       seed: the volume's numbers, residues of both primes, by a linear congruential generator
     7 poke       place, value: one number of the volume
     8 list       axis, a factor list
-    9 job        group, N1, list, N2, list, N3, list, state: the job itself (lists as octal digits)
+    9 job        group, modulus, N1, list, N2, list, N3, list, state: the job itself (lists as octal digits)
    10 length     how many numbers of the buffer are lent as the volume
    11 readings   4 or 5, then points or indices: all of them in one script
 
-The answers are those of brute_force.py. The seed is fixed.
+The answers are those of brute_force.py. The random lists are shared between the two primes. The seed is fixed.
 """
 import random
 import sys
 
 import order_cases
 import test_records
-from brute_force import P, SCRATCH, Machine, factor_lists, images, octal, volume_length
+from brute_force import P, PRIMES, SCRATCH, Machine, factor_lists, images, octal, volume_length
 from test_records import FILL, JOB, POKE, checksum
 
 SEED = 1973
@@ -66,7 +66,7 @@ class TestProgram(Machine):
             kinds = {6: FILL, 7: POKE, 9: JOB}
             return test_records.record(kinds[op], self.length, *w) if op in kinds else b""
         if op == 0:
-            return test_records.opening(self.length, *w[:2], w[2:], self.lists)
+            return test_records.opening(self.length, *w[:3], w[3:], self.lists)
         numbers = [] if op in (2, 3) else list(w)
         return test_records.replay(self.length, [op - 1] + numbers + [0] * (5 - len(numbers)), w[0] if op in (2, 3) else SCRATCH, 3)
 
@@ -106,9 +106,9 @@ def scripts():
     def set_list(axis, fs):
         say(8, axis, fs)
 
-    def value():
+    def value(p):
         kind = rng.randrange(6)
-        a, b = rng.randrange(P), rng.randrange(P)
+        a, b = rng.randrange(p), rng.randrange(p)
         if kind == 0:
             return a, 0
         if kind == 1:
@@ -122,21 +122,21 @@ def scripts():
                 j[axis] = rng.choice([0, n[axis] // 2])
         return j
 
-    def sound(n, g):
+    def sound(n, g, p):
         """A record that agrees with its own images, where some value does."""
         j = tuple(index(n, g))
-        a, b = rng.randrange(1, P), rng.randrange(1, P)
+        a, b = rng.randrange(1, p), rng.randrange(1, p)
         for v in ((a, b), (a, 0), (0, b)):
-            if all(i != j or w == v for i, w in images(g, n, j, v)):
+            if all(i != j or w == v for i, w in images(g, n, j, v, p)):
                 break
         say(1, *j, *v)
 
-    def faulty(n, g):
+    def faulty(n, g, p):
         kind = rng.randrange(9)
         if kind == 0:
-            say(1, *[rng.choice([c, m, m + 1, 4294967295]) for c, m in zip(index(n, g), n)], *value())
+            say(1, *[rng.choice([c, m, m + 1, 4294967295]) for c, m in zip(index(n, g), n)], *value(p))
         elif kind == 1:
-            say(1, *index(n, g), rng.choice([P, P + 5, 4294967295]), 3)
+            say(1, *index(n, g), rng.choice([p, p + 5, PRIMES[2] - 1, 4294967295]), 3)
         elif kind == 2:
             say(1, *index(n, g), 0, 0)
         elif kind == 3:
@@ -151,24 +151,24 @@ def scripts():
             length = volume_length(g, n)
             say(10, rng.choice([0, length - 1, length + 1, length + 2]))
             for _ in range(3):
-                rng.choice([lambda: say(1, *index(n, g), *value()), lambda: say(2, SCRATCH), lambda: say(3, SCRATCH),
+                rng.choice([lambda: say(1, *index(n, g), *value(p)), lambda: say(2, SCRATCH), lambda: say(3, SCRATCH),
                             lambda: say(4, *index(n, g)), lambda: say(5, *index(n, g))])()
             say(10, length)
         else:
             say(rng.choice([2, 3]), SCRATCH)
 
-    def session(g, n, turns):
-        length = volume_length(g, n)
+    def session(g, m, n, turns):
+        length, p = volume_length(g, n), PRIMES[m]
         say(10, length)
         say(6, rng.randrange(1 << 31))
         lists(n)
-        say(0, g, 0, *n)
+        say(0, g, m, 0, *n)
         for _ in range(10):
-            sound(n, g)
+            sound(n, g, p)
         for _ in range(turns):
             kind = rng.randrange(16)
             if kind < 6:
-                say(1, *index(n, g), *value())
+                say(1, *index(n, g), *value(p))
             elif kind == 6:
                 say(2, rng.choice([11520, 11521, 12032]))
             elif kind == 7:
@@ -178,19 +178,19 @@ def scripts():
             elif kind in (10, 11):
                 say(5, *index(n, g))
             elif kind == 12:
-                faulty(n, g)
+                faulty(n, g, p)
             elif kind == 13:
                 lists(n)
-                say(0, g, 1, *n)
+                say(0, g, m, 1, *n)
             elif kind == 14:
-                say(7, rng.randrange(length), rng.choice([1, 5, P - 1, P, 4294967295, 0]))
-                rng.choice([lambda: say(2, SCRATCH), lambda: say(3, SCRATCH), lambda: say(0, g, 1, *n), lambda: say(1, *index(n, g), *value()),
+                say(7, rng.randrange(length), rng.choice([1, 5, P, p - 1, p, 4294967295, 0]))
+                rng.choice([lambda: say(2, SCRATCH), lambda: say(3, SCRATCH), lambda: say(0, g, m, 1, *n), lambda: say(1, *index(n, g), *value(p)),
                             lambda: say(5, *index(n, g)), lambda: say(4, *index(n, g))])()
                 if rng.randrange(2):
                     lists(n)
-                    say(0, g, 0, *n)
+                    say(0, g, m, 0, *n)
                     for _ in range(4):
-                        sound(n, g)
+                        sound(n, g, p)
             else:
                 say(5, *index(n, g))
         say(2, SCRATCH)
@@ -200,51 +200,54 @@ def scripts():
         for _ in range(4):
             say(5, *index(n, g))
         say(2, SCRATCH)
-        say(0, g, 1, *n)
+        say(0, g, m, 1, *n)
 
-    # every group on small grids: mates in the planes k = 0 and k = B, odd and even halves, one pair lines
+    # every group on small grids, the primes in turn: mates in the planes k = 0 and k = B, odd and even halves, one pair lines
     grids = [(2, 2, 2), (4, 2, 2), (2, 4, 2), (2, 2, 4), (4, 4, 4), (6, 4, 2), (4, 6, 6), (2, 8, 6), (6, 2, 8), (4, 4, 10), (8, 4, 4), (6, 6, 6)]
     for g in range(5):
-        for n in grids:
-            session(g, n, 30 if n[0] * n[1] * n[2] < 100 else 12)
+        for turn, n in enumerate(grids):
+            session(g, 1 + (g + turn) % 2, n, 30 if n[0] * n[1] * n[2] < 100 else 12)
 
     # the paper's specimens
     for axis in range(3):
         set_list(axis, [])
     say(10, volume_length(1, (2, 2, 2)))
-    say(0, 1, 0, 2, 2, 2)
+    say(0, 1, 1, 0, 2, 2, 2)
     say(1, 0, 0, 1, 3, 0)
     say(10, volume_length(3, (2, 2, 2)))
-    say(0, 3, 0, 2, 2, 2)
+    say(0, 3, 1, 0, 2, 2, 2)
     say(1, 1, 0, 0, 3, 0)
     set_list(2, [2])
     say(10, volume_length(2, (2, 2, 4)))
-    say(0, 2, 0, 2, 2, 4)
+    say(0, 2, 1, 0, 2, 2, 4)
     say(1, 0, 0, 1, 3, 0)
     say(1, 0, 0, 3, 3, 0)
     set_list(2, [])
     say(10, volume_length(3, (2, 2, 2)))
-    say(0, 3, 0, 2, 2, 2)
+    say(0, 3, 1, 0, 2, 2, 2)
     say(7, 0, 5)
-    say(0, 3, 1, 2, 2, 2)
+    say(0, 3, 1, 1, 2, 2, 2)
     big = [2, 3, 4, 5]
     for axis in range(3):
         set_list(axis, big)
     say(10, 0)
-    say(0, 0, 0, 240, 240, 240)
+    say(0, 0, 1, 0, 240, 240, 240)
     for axis in range(3):
         set_list(axis, [4, 4, 3, 3])
-    say(0, 0, 0, 288, 288, 288)
-    say(0, 1, 0, 288, 288, 288)
+    say(0, 0, 1, 0, 288, 288, 288)
+    say(0, 1, 1, 0, 288, 288, 288)
 
     # faults of openings, alone and in pairs
     def opening(faults):
         n = [rng.choice([2, 4, 6]) for _ in range(3)]
-        g, kind = rng.randrange(5), rng.randrange(2)
+        g, m, kind = rng.randrange(5), rng.randrange(1, 3), rng.randrange(2)
+        p = PRIMES[m]
         length = volume_length(g, n)
         ls = [rng.choice(list(factor_lists(m // 2))) for m in n]
         if 8 in faults:
             g = rng.choice([5, 6, 4294967295])
+        if 26 in faults:
+            m = rng.choice([0, 3, 4294967295])
         if 2 in faults:
             kind = rng.choice([2, 3, 4294967295])
         if 3 in faults:
@@ -258,12 +261,12 @@ def scripts():
         say(10, length)
         say(6, rng.randrange(1 << 31))
         if 7 in faults:
-            say(7, rng.randrange(length), rng.choice([P, 4294967295]))
+            say(7, rng.randrange(length), rng.choice([p, 4294967295]))
         for axis in range(3):
             set_list(axis, ls[axis])
-        say(0, g, kind, *n)
+        say(0, g, m, kind, *n)
 
-    kinds = [8, 2, 3, 4, 5, 6, 7]
+    kinds = [8, 26, 2, 3, 4, 5, 6, 7]
     for one in kinds:
         for _ in range(4):
             opening({one})
@@ -273,27 +276,29 @@ def scripts():
     # jobs that no opening could have made, and jobs that one could
     for _ in range(120):
         n = [rng.choice([2, 4, 6]) for _ in range(3)]
-        g, s = rng.randrange(5), rng.randrange(3)
+        g, m, s = rng.randrange(5), rng.randrange(1, 3), rng.randrange(3)
         fs = [octal(rng.choice(list(factor_lists(m // 2)))) for m in n]
-        spoil = rng.randrange(8)
-        job = [g, n[0], fs[0], n[1], fs[1], n[2], fs[2], s]
+        spoil = rng.randrange(9)
+        job = [g, m, n[0], fs[0], n[1], fs[1], n[2], fs[2], s]
         length = volume_length(g, n)
         if spoil == 0:
             job[0] = rng.choice([5, 4294967295])
         elif spoil == 1:
-            job[7] = rng.choice([3, 4294967295])
+            job[8] = rng.choice([3, 4294967295])
         elif spoil in (2, 3):
-            job[rng.choice([2, 4, 6])] = rng.choice([0, 1, 2, 3, 6, 7, 8, 16, 0o20, 0o203, 0o22222222222, 4294967295])
+            job[rng.choice([3, 5, 7])] = rng.choice([0, 1, 2, 3, 6, 7, 8, 16, 0o20, 0o203, 0o22222222222, 4294967295])
         elif spoil == 4:
-            job[rng.choice([1, 3, 5])] = rng.choice([0, 1, 2, 4, 6, 14, 2880, 4294967295])
+            job[rng.choice([2, 4, 6])] = rng.choice([0, 1, 2, 4, 6, 14, 2880, 4294967295])
         elif spoil == 5:
-            job[1], job[2], job[3], job[4], job[5], job[6] = 240, octal(big), 288, octal([4, 4, 3, 3]), 288, octal([4, 4, 3, 3])
+            job[2:8] = 240, octal(big), 288, octal([4, 4, 3, 3]), 288, octal([4, 4, 3, 3])
+        elif spoil == 6:
+            job[1] = rng.choice([0, 3, 4, 86399, 4294967295])
         say(10, length)
         say(6, rng.randrange(1 << 31))
         say(9, *job)
         for _ in range(5):
-            rng.choice([lambda: say(1, *index(n, g), *value()), lambda: say(2, SCRATCH), lambda: say(3, SCRATCH), lambda: say(4, *index(n, g)),
-                        lambda: say(5, *index(n, g)), lambda: faulty(n, g)])()
+            rng.choice([lambda: say(1, *index(n, g), *value(PRIMES[m])), lambda: say(2, SCRATCH), lambda: say(3, SCRATCH), lambda: say(4, *index(n, g)),
+                        lambda: say(5, *index(n, g)), lambda: faulty(n, g, PRIMES[m])])()
     return calls + list(order_cases.calls())
 
 

@@ -1,13 +1,13 @@
 """What the recorder test reads and prints, and the packing of its input.
 
-A record is ten numbers (4 bytes each, big-endian): an operation, how many numbers of the buffer are lent as the volume, and eight more:
-    0 open       group, kind, N1, N2, N3, the lengths of the three factor lists; the lists follow, 16 bytes for each
+A record is eleven numbers (4 bytes each, big-endian): an operation, how many numbers of the buffer are lent as the volume, and nine more:
+    0 open       group, modulus, kind, N1, N2, N3, the lengths of the three factor lists; the lists follow, 16 bytes for each
     1 file       how many bytes the file has; they follow: its records at fault are asked for, then the file is opened on a volume of sevens
     2 replay     how many numbers the script has, how many are lent as the scratch and for the answers; the script follows, six numbers a call:
                  it is replayed on the job, with a scratch of sevens and answers of nines
     3 write      how many bytes are lent as the output: the file of the job is written into an output of sevens
-    4 job        group, N1, list, N2, list, N3, list, state: the job itself (lists as octal digits)
-    5 fill       seed: the volume's numbers by a linear congruential generator
+    4 job        group, modulus, N1, list, N2, list, N3, list, state: the job itself (lists as octal digits)
+    5 fill       seed: the volume's numbers, residues of both primes, by a linear congruential generator
     6 poke       place, value: one number of the volume
 A call of a script is its operation (0 record, 1 synthesis, 2 analysis, 3 point, any other factor), three numbers of an index or a point and
 two of a value.
@@ -24,11 +24,11 @@ OPEN, FILE, REPLAY, WRITE, JOB, FILL, POKE = range(7)
 
 
 def record(operation, length, *numbers):
-    return struct.pack(">10I", operation, length, *numbers, *[0] * (8 - len(numbers)))
+    return struct.pack(">11I", operation, length, *numbers, *[0] * (9 - len(numbers)))
 
 
-def opening(length, group, kind, n, lists):
-    return record(OPEN, length, group, kind, *n, *map(len, lists)) + b"".join(bytes(fs) + bytes(16 - len(fs)) for fs in lists)
+def opening(length, group, modulus, kind, n, lists):
+    return record(OPEN, length, group, modulus, kind, *n, *map(len, lists)) + b"".join(bytes(fs) + bytes(16 - len(fs)) for fs in lists)
 
 
 def file(length, content):

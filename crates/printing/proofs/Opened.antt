@@ -12,7 +12,7 @@ use Rattle.lengths.specs.Lengths.{scratchLength}
 use Rattle.job.specs.declared.Job.{Job}
 use Rattle.job.specs.Job.{needed, collecting, mapHeld, withState, Opening, opened, done, Outcome, synthesised, synthesisStep}
 use Rattle.job.specs.TestSteps.{synthesisTests}
-use Rattle.factor_file.specs.File.{headerIn, fileStep}
+use Rattle.factor_file.specs.File.{modulusIn, headerIn, fileStep}
 use Rattle.model.specs.Model.{Model, synthesis, inState, mapVolume, modelVolume, modelJob, begun, notBegun, modelFile}
 use Rattle.model.proofs.Sound.{LawfulModel, holds-map}
 use Rattle.model.proofs.OneCall.{result, accepted-call}
@@ -26,7 +26,7 @@ use Rattle.printing.proofs.Synthesised.{scratch, scratch-length, synthe
 
 -- ---- of a sound model that collects
 
-module _ (m : Model) (sound : LawfulModel m) (state : m .state ≡ collecting) where
+module _ {μ : ℕ} (m : Model μ) (sound : LawfulModel m) (state : m .state ≡ collecting) where
   synthesis-done : synthesisStep (modelJob m) (modelVolume m) scratch .outcome ≡ result done (inState m mapHeld)
   synthesis-done =
       let long : scratchLength ≤ length scratch = omega (arith, scratch-length) in
@@ -40,16 +40,16 @@ module _ (m : Model) (sound : LawfulModel m) (state : m .state ≡ collecting) w
 
 -- ---- of a file
 
-module _ (file v : List ℕ) (j : Job) (w : List ℕ) (m : Model) (started : Started (reading file v) j w m) where
+module _ (file v : List ℕ) (j : Job) (w : List ℕ) (m : Model (modulusIn file)) (started : Started (reading file v refl) j w m) where
   pub file-lawful : LawfulModel m
-  file-lawful = started-sound (reading file v) j w m started .0
+  file-lawful = started-sound (reading file v refl) j w m started .0
 
   pub file-collects : m .state ≡ collecting
-  file-collects = start-fed (reading file v) j w m started .same-state
+  file-collects = start-fed (reading file v refl) j w m started .same-state
 
 pub opened-synthesis : (file v : List ℕ) (j : Job) (w : List ℕ) → fileStep file v ≡ record { answer = opened j; volume = w } → 0 ≡ first (synthesisTests j w scratchLength)
 opened-synthesis file v j w e =
-    let (m, b, sound, ej, ew) = accepted-start (reading file v) j w e in
+    let (m, b, sound, ej, ew) = accepted-start {μ = modulusIn file} (reading file v refl) j w e in
     subst₂ (λ (j : Job) (w : List ℕ). 0 ≡ first (synthesisTests j w scratchLength)) (sym ej) (sym ew) (model-synthesis m sound (file-collects file v j w m (record { gives = e; begins = b })))
 
 -- ---- the printer's text
@@ -58,7 +58,7 @@ module _ (file : List ℕ) (limits : WithinLimits file) where
   abbrev lent : List ℕ
   lent = replicate (needed (headerIn file)) 0
 
-  without-fault : Faultless (reading file lent)
+  without-fault : Faultless {μ = modulusIn file} (reading file lent refl)
   without-fault = record { long = length-replicate (needed (headerIn file)) 0; map = λ e. absurd (omega (arith, e)) }
 
   is-printed : printed file ≡ openedText (fileStep file lent)
@@ -66,16 +66,16 @@ module _ (file : List ℕ) (limits : WithinLimits file) where
   is-printed = let e : min (needed (headerIn file)) lentLimit ≡ needed (headerIn file) = omega (arith, limits .small) in
       rw (le-ltb fileLimit (length file) (limits .short)) (ap (λ n. openedText (fileStep file (replicate n 0))) e)
 
-  prints : (m : Model) → modelFile file ≡ begun m → printed file ≡ mapText (modelJob (inState m mapHeld)) (mapVolume m)
+  prints : (m : Model (modulusIn file)) → modelFile (modulusIn file) file ≡ begun m → printed file ≡ mapText (modelJob (inState m mapHeld)) (mapVolume m)
   prints m b =
-      let e = faultless-starts .accepts (reading file lent) m without-fault b in
-      let started : Started (reading file lent) (modelJob m) (modelVolume m) m = record { gives = e; begins = b } in
+      let e = faultless-starts .accepts (modulusIn file) (reading file lent refl) m without-fault b in
+      let started : Started (reading file lent refl) (modelJob m) (modelVolume m) m = record { gives = e; begins = b } in
       is-printed ∙ ap openedText e
       ∙ ap (mapText (withState (modelJob m) mapHeld)) (model-map m (file-lawful file lent (modelJob m) (modelVolume m) m started) (file-collects file lent (modelJob m) (modelVolume m) m started))
 
-  refused-alike : (n place : ℕ) → modelFile file ≡ notBegun n place → printed file ≡ refusalText n place
+  refused-alike : (n place : ℕ) → modelFile (modulusIn file) file ≡ notBegun n place → printed file ≡ refusalText n place
   refused-alike n place b =
-      is-printed ∙ ap (λ (a : Opening). openedText (record { answer = a; volume = fileStep file lent .volume })) (faultless-starts .refuses (reading file lent) n place without-fault b)
+      is-printed ∙ ap (λ (a : Opening). openedText (record { answer = a; volume = fileStep file lent .volume })) (faultless-starts .refuses (modulusIn file) (reading file lent refl) n place without-fault b)
 
 pub prints-model : PrintsModel
 prints-model = record { prints = λ file m limits. prints file limits m; refuses = λ file n place limits. refused-alike file limits n place }

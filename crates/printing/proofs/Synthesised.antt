@@ -1,9 +1,9 @@
 -- A synthesis that no test refuses: the map that it makes is printable, and what is printed of it.
 use mathlib.Core.Path.{_≡_, refl, sym, ap, _∙_}
-use mathlib.Core.Bool.{true, _&&_}
+use mathlib.Core.Bool.{true}
 use mathlib.Core.List.{List}
 use Prim.Native.Nat.{ℕ}
-use lib.Dec.{ltb, eqb}
+use native.Mathlib.Omega.{arith}
 use lib.ListN.{length, replicate, length-replicate}
 use borrow.Author.Tests.{not-false, lt-ltb}
 use Rattle.refusals.specs.Refusals.{first, accepted}
@@ -13,26 +13,19 @@ use Rattle.cell.proofs.VolumeLayout.{length-map, below-map}
 use Rattle.volume.proofs.consistent.Passing.{below-all}
 use Rattle.job.specs.declared.Job.{Job}
 use Rattle.job.specs.declared.Answered.{Answered}
-use Rattle.job.specs.Job.{headerOf, axisTests, validJob, withState, mapHeld, groupIn, halves, done, Outcome, Worked, unchanged, synthesised, synthesisStep}
+use Rattle.job.specs.Job.{validJob, withState, mapHeld, groupIn, halves, done, Outcome, Worked, unchanged, synthesised, synthesisStep}
 use Rattle.job.specs.TestSteps.{synthesisTests}
 use Rattle.job.specs.Answers.{worked}
-use Rattle.header.proofs.Headers.{all-three}
+use Rattle.job.proofs.Jobs.{valid-with}
 use Rattle.printing.specs.Text.{mapText, putText, textStep, printsResidues}
 use Rattle.printing.specs.Printable.{Printable}
 use Rattle.printing.proofs.map_text.Outcomes.{text-held}
 
--- a job is valid in every state
-valid-held : (j : Job) → validJob j ≡ true → validJob (withState j mapHeld) ≡ true
-unfolding validJob
-valid-held j e =
-    let t = all-three (ltb (j .group) 5) (eqb (first (axisTests (headerOf j))) 0) (ltb (j .state) 3) e in
-    λ i. t .0 i && (t .1 i && true)
-
 pub synthesised-printable : (j : Job) (v : List ℕ) → validJob j ≡ true → Printable (withState j mapHeld) (synthesised j v)
 unfolding printsResidues
 synthesised-printable j v e = record {
-  fitting = record { valid = valid-held j e; long = length-map (groupIn j) (halves j) 1 _ };
-  residues = below-all _ _ (λ z. below-all _ _ (λ x. below-all _ _ (λ y. lt-ltb _ _ (below-map (groupIn j) (halves j) 1 _ .each _))));
+  fitting = record { valid = valid-with j mapHeld e (omega arith); long = length-map (groupIn j) (halves j) (j .modulus) _ };
+  residues = below-all _ _ (λ z. below-all _ _ (λ x. below-all _ _ (λ y. lt-ltb _ _ (below-map (groupIn j) (halves j) (j .modulus) _ .each _))));
 }
 
 -- the scratch that the printer lends

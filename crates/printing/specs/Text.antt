@@ -7,20 +7,21 @@ use Rattle.output.specs.Output.{FillOutcome, filled, notFilled, decimal, signed
 use Rattle.refusals.specs.Refusals.{Test, _⇒_, first, accepted}
 use Rattle.cell.specs.Volume.{layers, mapPlace}
 use Rattle.job.specs.declared.Job.{Job}
-use Rattle.job.specs.Job.{p, groupIn, halves, validJob, mapHeld, fits, needed, withState, opened, notOpened, OpenOutcome, synthesised}
+use Rattle.numbers.specs.Value.{prime}
+use Rattle.job.specs.Job.{groupIn, halves, validJob, mapHeld, fits, needed, withState, opened, notOpened, OpenOutcome, synthesised}
 use Rattle.factor_file.specs.File.{headerIn, fileStep}
 
 -- "map 0 2 2 2"
 unfoldable pub headLine : Job → List ℕ
 headLine j = 109 ∷ 97 ∷ 112 ∷ blank ∷ (decimal (j .group) ++ blank ∷ (decimal (j .a .length) ++ blank ∷ (decimal (j .b .length) ++ blank ∷ (decimal (j .c .length) ++ lineFeed ∷ []))))
 
--- " -3": the density of a residue, behind a blank
-abbrev pub valueText : ℕ → List ℕ
-valueText x = blank ∷ signedDecimal (centred p x)
+-- " -3": the density of a residue modulo p, behind a blank
+abbrev pub valueText : (p residue : ℕ) → List ℕ
+valueText p x = blank ∷ signedDecimal (centred p x)
 
 -- "0 1 -3 -3": the row at z, x
 unfoldable pub rowLine : Job → List ℕ → (z x : ℕ) → List ℕ
-rowLine j v z x = decimal z ++ blank ∷ (decimal x ++ (each (j .b .length) (λ y. valueText (getD v (mapPlace (groupIn j) (halves j) (x, y, z)) 0)) ++ lineFeed ∷ []))
+rowLine j v z x = decimal z ++ blank ∷ (decimal x ++ (each (j .b .length) (λ y. valueText (prime (j .modulus)) (getD v (mapPlace (groupIn j) (halves j) (x, y, z)) 0)) ++ lineFeed ∷ []))
 
 unfoldable pub mapText : Job → List ℕ → List ℕ
 mapText j v = headLine j ++ each (layers (groupIn j) (halves j)) (λ z. each (j .a .length) (λ x. rowLine j v z x))
@@ -33,7 +34,7 @@ refusalText n place = 114 ∷ 101 ∷ 102 ∷ 117 ∷ 115 ∷ 101 ∷ 100 ∷ bl
 
 -- The numbers that are printed are residues, as those that a reading reads: each row of the stored planes, without the two numbers behind it.
 abbrev pub rowResidues : Job → List ℕ → (z x : ℕ) → Bool
-rowResidues j v z x = below (j .b .length) (λ y. ltb (getD v (mapPlace (groupIn j) (halves j) (x, y, z)) 0) p)
+rowResidues j v z x = below (j .b .length) (λ y. ltb (getD v (mapPlace (groupIn j) (halves j) (x, y, z)) 0) (prime (j .modulus)))
 
 unfoldable pub printsResidues : Job → List ℕ → Bool
 printsResidues j v = below (layers (groupIn j) (halves j)) (λ z. below (j .a .length) (λ x. rowResidues j v z x))

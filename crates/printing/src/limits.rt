@@ -19,7 +19,7 @@ pub fn too_long(file: &[u8]) -> bool
 pub fn lent_to(file: &[u8]) -> usize
     ensures { λ r. ⌜ r ≡ min (needed (headerIn (now (file .entry)))) lentLimit ⌝ }
 {
-    let length = header::bytes::volume_length(file_format::places::header_cell(file));
+    let length = header::bytes::volume_length(file_format::places::header_numbers(file).cell);
     if 2048 < length {
         return 2048;
     }

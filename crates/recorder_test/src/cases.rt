@@ -1,4 +1,4 @@
-// The records of the recorder test that ask for one call: openings by group, lengths and lists, openings of factor files, sound and
+// The records of the recorder test that ask for one call: openings by group, modulus, lengths and lists, openings of factor files, sound and
 // damaged, and their records at fault, the files of jobs; and those that set a job or numbers of the volume. Each prints what its call answers and leaves.
 // tools/test_records.py says what a record holds and what is printed.
 ghost use mathlib.Core.Path.{_≡_};
@@ -32,7 +32,7 @@ pub fn asked(job: Job, r: &[u32], volume: &mut [u32]) -> Job
 }
 
 pub fn no_job() -> Job
-    ensures { λ j. ⌜ numbersOf j ≡ replicate 8 0 ⌝ }
+    ensures { λ j. ⌜ numbersOf j ≡ replicate 9 0 ⌝ }
 {
     let none = Axis {
         length: 0,
@@ -40,6 +40,7 @@ pub fn no_job() -> Job
     };
     Job {
         group: 0,
+        modulus: 0,
         a: none,
         b: none,
         c: none,
@@ -52,6 +53,7 @@ pub fn job_checksum(j: Job) -> u32
 {
     let numbers = [
         j.group,
+        j.modulus,
         j.a.length,
         j.a.factors,
         j.b.length,
@@ -69,10 +71,11 @@ fn job_said(r: &[u32]) -> Job
 {
     Job {
         group: test_io::at(r, 2),
-        a: axis_said(r, 3),
-        b: axis_said(r, 5),
-        c: axis_said(r, 7),
-        state: test_io::at(r, 9),
+        modulus: test_io::at(r, 3),
+        a: axis_said(r, 4),
+        b: axis_said(r, 6),
+        c: axis_said(r, 8),
+        state: test_io::at(r, 10),
     }
 }
 
@@ -165,7 +168,7 @@ fn file_opened(before: Job, r: &[u32], volume: &mut [u32]) -> Job {
     print_opening(of_file(answer, before), &volume[..])
 }
 
-// The opening by group, kind, lengths and the lists that follow.
+// The opening by group, modulus, kind, lengths and the lists that follow.
 fn opened(before: Job, r: &[u32], volume: &mut [u32]) -> Job {
     let mut lists = [0u8; 48];
     test_io::read_bytes(&mut lists);
@@ -183,9 +186,10 @@ fn open_listed(r: &[u32], lists: &[u8], volume: &mut [u32]) -> OpenAnswer
         test_io::at(r, 4),
         test_io::at(r, 5),
         test_io::at(r, 6),
-        test_io::part(lists, 0, test_io::at(r, 7), 16),
-        test_io::part(lists, 16, test_io::at(r, 8), 16),
-        test_io::part(lists, 32, test_io::at(r, 9), 16),
+        test_io::at(r, 7),
+        test_io::part(lists, 0, test_io::at(r, 8), 16),
+        test_io::part(lists, 16, test_io::at(r, 9), 16),
+        test_io::part(lists, 32, test_io::at(r, 10), 16),
         volume,
     )
 }

@@ -1,4 +1,4 @@
-// Runs the recorder's public calls from standard input and prints what each answers and leaves: openings by group, lengths and lists,
+// Runs the recorder's public calls from standard input and prints what each answers and leaves: openings by group, modulus, lengths and lists,
 // openings of factor files, sound and damaged, scripts of calls, and the files of jobs. tools/test_records.py says what the input holds
 // and what is printed; tools/job_cases.py and tools/file_cases.py write the input and compute by brute force what must be printed.
 // Scripts are replayed here; `cases` does what every other record asks.
@@ -57,7 +57,7 @@ fn next(job: Job, r: &[u32], volume: &mut [u32]) -> Job {
 fn main() {
     let mut volume = [0u32; 4096];
     let mut job = cases::no_job();
-    let mut r = [0u32; 10];
+    let mut r = [0u32; 11];
     let mut turns = u32::MAX;
     while turns > 0 && test_io::read_numbers(&mut r) {
         job = next(job, &r, &mut volume);

@@ -126,5 +126,5 @@ abbrev pub replayStep : Job → (script volume scratch : List ℕ) (out : List �
 replayStep j script v scratch out = ended (run j v (scriptCalls scratch script out)) script scratch out
 
 -- the same script in the reference model, which is handed no job and no volume
-abbrev pub modelReplay : Model → (script scratch : List ℕ) (out : List ℤ) → ReplayOutcome
+abbrev pub modelReplay : {μ : ℕ} → Model μ → (script scratch : List ℕ) (out : List ℤ) → ReplayOutcome
 modelReplay m script scratch out = ended (modelRan m (scriptCalls scratch script out)) script scratch out

@@ -3,7 +3,7 @@ mod call; // call.rt: one call of a script
 
 use job::Job;
 ghost use mathlib.Core.Path.{_≡_};
-ghost use Prim.Native.Nat.{_/_, min};
+ghost use Prim.Native.Nat.{ℕ, _/_, min};
 ghost use Rattle.model.specs.Model.{Model};
 ghost use Rattle.demands.specs.Demands.{Start, Started};
 ghost use Rattle.scripts.specs.Script.{replayOutcome, replayStep, modelReplay};
@@ -36,7 +36,7 @@ pub fn replay(
 ) -> Replayed
     ensures { λ r. ⌜ replayOutcome r (now (volume .exit)) (now (scratch .exit)) (now (answers .exit))
         ≡ replayStep job (now (script .entry)) (now (volume .entry)) (now (scratch .entry)) (now (answers .entry)) ⌝ }
-    ensures { λ r. ⌜ ((s : Start) (m : Model) → Started s job (now (volume .entry)) m → replayOutcome r (now (volume .exit))
+    ensures { λ r. ⌜ ((μ : ℕ) (s : Start μ) (m : Model μ) → Started s job (now (volume .entry)) m → replayOutcome r (now (volume .exit))
         (now (scratch .exit)) (now (answers .exit)) ≡ modelReplay m (now (script .entry)) (now (scratch .entry)) (now (answers .entry))) ⌝ }
 {
     let count = call_count(script.len(), answers.len());

@@ -1,27 +1,25 @@
 -- A job and a volume as long as it needs: its sizes, where its rows stand, and how long its text can be.
-use mathlib.Core.Path.{_≡_, refl, ap, sym, subst, _∙_}
-use mathlib.Core.Bool.{true, false}
-use mathlib.Core.List.{List, [], _∷_, _++_}
+use mathlib.Core.Path.{_≡_}
+use mathlib.Core.Bool.{true}
+use mathlib.Core.List.{List}
 use Prim.Native.Nat.{ℕ, zero, suc, _+_, _*_, _/_, _<_, _≤_}
-use native.Mathlib.Nat.{mul-le-mul-left}
 use native.Mathlib.Omega.{arith}
-use lib.Dec.{ltb, eqb}
+use lib.Dec.{ltb}
 use lib.ListN.{length, getD, length-append}
-use borrow.Author.Tests.{eqb-true, ltb-false}
-use Rattle.algebra.specs.cells.Cell.{planes, below}
-use Rattle.refusals.specs.Refusals.{first}
+use borrow.Author.Tests.{ltb-false}
+use Rattle.algebra.specs.cells.Cell.{below}
 use Rattle.refusals.proofs.Tests.{passed}
 use Rattle.cell.specs.Operations.{Sizes}
-use Rattle.cell.specs.Volume.{layers, rows, columns, pairPlace, mapPlace, volumeLength}
+use Rattle.cell.specs.Volume.{layers, rows, columns, pairPlace, volumeLength}
 use Rattle.cell.proofs.VolumeLayout.{place-inside}
 use Rattle.cell.proofs.StoredFactors.{layers-most, number-place}
 use Rattle.job.specs.declared.Job.{Job}
 use Rattle.volume.proofs.consistent.Passing.{passed-at}
-use Rattle.job.specs.Job.{p, jobCell, groupIn, halves, validJob, headerOf, axisTests}
-use Rattle.header.proofs.Headers.{all-three}
-use Rattle.job.proofs.Jobs.{valid-sizes}
+use Rattle.job.specs.Job.{jobCell, groupIn, halves, validJob, headerOf, axisTests}
+use Rattle.numbers.specs.Value.{prime, IsModulus}
+use Rattle.job.proofs.Jobs.{valid-parts, valid-modulus, valid-sizes}
 use Rattle.signed.specs.Integers.{centred}
-use Rattle.output.specs.Output.{decimal, blank, lineFeed, each}
+use Rattle.output.specs.Output.{each}
 use Rattle.output.specs.Written.{Ends}
 use Rattle.printing.specs.Text.{valueText, headLine, rowLine, mapText, rowResidues, printsResidues}
 use Rattle.printing.specs.Printable.{Fitting, Printable}
@@ -39,8 +37,8 @@ unfolding headLine
 head-short j = simp length-append (omega (arith, decimal-short (j .group), decimal-short (j .a .length), decimal-short (j .b .length), decimal-short (j .c .length)))
 
 -- the values of a row, n of them from place `start` on
-abbrev pub valuesFrom : List ℕ → (start n : ℕ) → List ℕ
-valuesFrom v start n = each n (λ y. valueText (getD v (start + y) 0))
+abbrev pub valuesFrom : (p : ℕ) → List ℕ → (start n : ℕ) → List ℕ
+valuesFrom p v start n = each n (λ y. valueText p (getD v (start + y) 0))
 
 module _ (j : Job) (v : List ℕ) where
   -- the place of a row's first value
@@ -49,14 +47,14 @@ module _ (j : Job) (v : List ℕ) where
 
   -- the values of the row at z, x
   abbrev pub values : (z x : ℕ) → List ℕ
-  values z x = valuesFrom v (rowStart z x) (j .b .length)
+  values z x = valuesFrom (prime (j .modulus)) v (rowStart z x) (j .b .length)
 
   row-short : (z x : ℕ) → length (rowLine j v z x) ≤ 44 + j .b .length * 22
   unfolding rowLine
   row-short z x = simp length-append (omega (arith, decimal-short z, decimal-short x, short))
     where
       short : length (values z x) ≤ j .b .length * 22
-      short = each-bound (λ y. valueText (getD v (rowStart z x + y) 0)) 22 (λ y. omega (arith, signed-short (centred p (getD v (rowStart z x + y) 0)))) (j .b .length)
+      short = each-bound (λ y. valueText (prime (j .modulus)) (getD v (rowStart z x + y) 0)) 22 (λ y. omega (arith, signed-short (centred (prime (j .modulus)) (getD v (rowStart z x + y) 0)))) (j .b .length)
 
   text-short : length (mapText j v) ≤ 88 + layers (groupIn j) (halves j) * (j .a .length * (44 + j .b .length * 22))
   unfolding mapText
@@ -69,14 +67,14 @@ module _ (j : Job) (v : List ℕ) where
 
 -- a valid job needs no more numbers than an opening admits
 valid-limit : (j : Job) → validJob j ≡ true → volumeLength (groupIn j) (halves j) ≤ 16777216
-unfolding validJob
-valid-limit j e =
-    let t = all-three (ltb (j .group) 5) (eqb (first (axisTests (headerOf j))) 0) (ltb (j .state) 3) e in
-    ltb-false _ _ (passed (axisTests (headerOf j)) tt (sym (eqb-true _ _ (t .1))) .1 .1 .1 .0)
+valid-limit j e = ltb-false _ _ (passed (axisTests (headerOf j)) tt (valid-parts j e .1) .1 .1 .1 .0)
 
 module _ {j : Job} {v : List ℕ} (f : Fitting j v) where
   pub printable-sizes : Sizes (jobCell j)
   printable-sizes = valid-sizes j (f .valid)
+
+  pub printable-modulus : IsModulus (j .modulus)
+  printable-modulus = valid-modulus j (f .valid)
 
   -- the text of a map is at most 88 bytes longer than 22 times its volume
   pub map-short : length (mapText j v) ≤ 88 + 22 * length v
@@ -107,11 +105,11 @@ module _ {j : Job} {v : List ℕ} (f : Fitting j v) where
           let inside = place-inside (groupIn j) (halves j) {w = z} {h = x} {k = j .b .length / 2} lz (omega (arith, s .first .even)) (omega arith) in
           omega (arith, inside, e, f .long, s .second .even)
 
-      pub row-values : valuesFrom v (2 * q) (j .b .length) ≡ values j v z x
-      row-values = λ i. each (j .b .length) (λ y. valueText (getD v (number-place (j .b .length) (z * rows (groupIn j) (halves j) + x) q y e i) 0))
+      pub row-values : {p : ℕ} → p ≡ prime (j .modulus) → valuesFrom p v (2 * q) (j .b .length) ≡ values j v z x
+      row-values m = λ i. each (j .b .length) (λ y. valueText (m i) (getD v (number-place (j .b .length) (z * rows (groupIn j) (halves j) + x) q y e i) 0))
 
-      pub row-residues : below (j .b .length) (λ y. ltb (getD v (2 * q + y) 0) p) ≡ rowResidues j v z x
-      row-residues = λ i. below (j .b .length) (λ y. ltb (getD v (number-place (j .b .length) (z * rows (groupIn j) (halves j) + x) q y e i) 0) p)
+      pub row-residues : {p : ℕ} → p ≡ prime (j .modulus) → below (j .b .length) (λ y. ltb (getD v (2 * q + y) 0) p) ≡ rowResidues j v z x
+      row-residues m = λ i. below (j .b .length) (λ y. ltb (getD v (number-place (j .b .length) (z * rows (groupIn j) (halves j) + x) q y e i) 0) (m i))
 
 -- the numbers of a row of a map that can be printed
 pub residues-of-row : {j : Job} {v : List ℕ} → Printable j v → {z x : ℕ} → z < layers (groupIn j) (halves j) → x < j .a .length → rowResidues j v z x ≡ true

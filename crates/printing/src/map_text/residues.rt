@@ -49,6 +49,7 @@ fn row_residues(job: Job, volume: &[u32], z: u32, x: u32) -> bool
     ensures { λ r. ⌜ r ≡ rowResidues job (now (volume .entry)) z x ⌝ }
 {
     let n2 = job.b.length;
+    let p = numbers::modulus(job.modulus);
     let start = 2 * places::pair_place(job.unit_cell(), z, x, 0);
-    crate::row_values::are_residues(volume, start, n2 as usize)
+    crate::row_values::are_residues(p, volume, start, n2 as usize)
 }

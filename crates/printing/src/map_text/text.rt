@@ -40,10 +40,11 @@ fn put_row(out: &mut [u8], at: usize, job: Job, volume: &[u32], z: u32, x: u32) 
     ensures { λ r. ⌜ Wrote at (rowLine job (now (volume .entry)) z x) (now (out .entry)) r (now (out .exit)) ⌝ }
 {
     let n2 = job.b.length;
+    let p = numbers::modulus(job.modulus);
     let start = 2 * places::pair_place(job.unit_cell(), z, x, 0);
     let plane = output::put_decimal(out, at, z);
     let row = output::put_field(out, plane, x);
-    let values = crate::row_values::put_values(out, row, volume, start, n2 as usize);
+    let values = crate::row_values::put_values(out, row, p, volume, start, n2 as usize);
     output::put_byte(out, values, b'\n')
 }
 

@@ -5,7 +5,7 @@ use Rattle.recorder_test.proofs.main.Statement.{statement}
 use Rattle.recorder_test.proofs.main.Tie as tie
 
 abbrev Inv-loop : tie.InvT-loop
-Inv-loop volume₀ job₀ r₀ turns₀ volume job r turns = (length volume ≡ 4096) × (length r ≡ 10)
+Inv-loop volume₀ job₀ r₀ turns₀ volume job r turns = (length volume ≡ 4096) × (length r ≡ 11)
 
 abbrev μ-loop : tie.MeasureT-loop
 μ-loop volume₀ job₀ r₀ turns₀ volume job r turns = turns

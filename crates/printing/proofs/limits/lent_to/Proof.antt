@@ -11,14 +11,14 @@ use Rattle.printing.proofs.limits.lent_to.Tie as tie
 asked : (c : tie.After-volume-length) → c .volume-length .result ≡ needed (headerIn (c .before .before .before .args .file .now))
 asked c =
     let h = c .before in
-    let n = h .header-cell .ensures in
+    let n = h .header-numbers .ensures in
     header-needs (h .before .before .args .file .now) (c .volume-length .ensures) (n .group) (n .first) (n .second) (n .third)
 
-header-cell-requires : tie.Need-header-cell-requires
-header-cell-requires c κs = search needs
+header-numbers-requires : tie.Need-header-numbers-requires
+header-numbers-requires c κs = search needs
 
 volume-length-requires : tie.Need-volume-length-requires
-volume-length-requires c κs = c .header-cell .ensures .short
+volume-length-requires c κs = c .header-numbers .ensures .short
 
 returns : tie.Need-returns
 returns c = omega (arith, asked (c .before))
@@ -27,4 +27,4 @@ returns-2 : tie.Need-returns-2
 returns-2 c = omega (arith, asked (c .before))
 
 pub lent-to-spec : {M : Type 1} → statement M
-lent-to-spec = tie.close (tie.spec header-cell-requires volume-length-requires returns returns-2)
+lent-to-spec = tie.close (tie.spec header-numbers-requires volume-length-requires returns returns-2)

@@ -1,5 +1,4 @@
 -- The numbers before y are residues.
-use borrow.Author.Needs.{needs}
 use mathlib.Core.Path.{_≡_, refl, sym}
 use mathlib.Core.Bool.{true, false}
 use mathlib.Core.List.{List}
@@ -8,19 +7,15 @@ use native.Mathlib.Omega.{arith}
 use lib.Dec.{ltb}
 use lib.ListN.{getD}
 use Rattle.volume.proofs.consistent.Passing.{Passing, passing-start, passing-next, passing-stop, passing-done}
-use Rattle.job.specs.Job.{p}
 use Rattle.job.proofs.check.Numbers.{number-above, number-below}
 use Rattle.printing.proofs.row_values.are_residues.Statement.{statement}
 use Rattle.printing.proofs.row_values.are_residues.Tie as tie
 
 abbrev Inv-loop : tie.InvT-loop
-Inv-loop volume start n most y₀ y = Passing (λ y. ltb (getD volume (start + y) 0) p) n y
+Inv-loop p volume start n y₀ y = Passing (λ y. ltb (getD volume (start + y) 0) p) n y
 
 abbrev μ-loop : tie.MeasureT-loop
-μ-loop volume start n most y₀ y = n - y
-
-modulus-requires : tie.Need-modulus-requires Inv-loop μ-loop
-modulus-requires c κs = search needs
+μ-loop p volume start n y₀ y = n - y
 
 loop-holds : tie.Need-loop-holds Inv-loop μ-loop
 loop-holds c = passing-start _ _
@@ -43,14 +38,14 @@ loop-less c = omega arith
 loop-again : tie.Need-loop-again Inv-loop μ-loop
 loop-again c =
     let l = c .before .before .before in
-    let a = l .before .before .before .args in
-    passing-next (l .loop .inv) (c .before .before .loop-test .taken) (sym (number-below (a .volume .now) {q = a .start + l .loop .y} refl (l .before .modulus .ensures .0) (c .if1 .taken))) refl
+    let a = l .before .args in
+    passing-next (l .loop .inv) (c .before .before .loop-test .taken) (sym (number-below (a .volume .now) {q = a .start + l .loop .y} refl refl (c .if1 .taken))) refl
 
 returns : tie.Need-returns Inv-loop μ-loop
 returns c =
     let l = c .before .before .before in
-    let a = l .before .before .before .args in
-    passing-stop (l .loop .inv) (c .before .before .loop-test .taken) (sym (number-above (a .volume .now) {q = a .start + l .loop .y} refl (l .before .modulus .ensures .0) (c .if1 .left))) refl
+    let a = l .before .args in
+    passing-stop (l .loop .inv) (c .before .before .loop-test .taken) (sym (number-above (a .volume .now) {q = a .start + l .loop .y} refl refl (c .if1 .left))) refl
 
 returns-2 : tie.Need-returns-2 Inv-loop μ-loop
 returns-2 c = passing-done (c .before .loop .inv) (c .loop-test .left)
@@ -61,7 +56,6 @@ are-residues-spec =
     (tie.spec
     Inv-loop
     μ-loop
-    modulus-requires
     loop-holds
     add-if1
     mul-if1

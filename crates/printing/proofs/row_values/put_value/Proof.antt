@@ -1,14 +1,11 @@
 -- The residue's whole number, which 64 bits hold as it is, behind a blank.
 use borrow.Author.Needs.{needs}
-use mathlib.Core.Path.{_≡_, refl, sym, ap, _∙_}
+use mathlib.Core.Path.{_≡_, sym, ap, _∙_}
 use mathlib.Core.List.{_∷_}
 use native.Mathlib.Omega.{arith}
 use mir.Syntax.{w32, w64}
 use mir.Val.{SFits, toZ, ofZ}
-use Rattle.numbers.proofs.Primes.{prime-one}
-use Rattle.signed.specs.Integers.{centred}
 use Rattle.signed.proofs.Machine.{wide-fits, wide-is}
-use Rattle.job.specs.Job.{p}
 use Rattle.output.specs.Output.{blank, signedDecimal}
 use Rattle.output.proofs.Writing.{wrote-as, ends-as}
 use Rattle.printing.specs.Text.{valueText}
@@ -19,13 +16,11 @@ small : (c : tie.After-centre) → SFits w32 (c .centre .result)
 small c = record { sfits = c .centre .ok }
 
 -- the text as it is written is the value's
-text : (c : tie.After-centre) → blank ∷ signedDecimal (toZ w64 (ofZ w64 (toZ w32 (ofZ w32 (c .centre .result))))) ≡ valueText (c .before .before .before .args .value)
-text c =
-    let s = c .before .before .before in
-    ap (λ z. blank ∷ signedDecimal z) (wide-is (c .centre .result) (small c) ∙ c .centre .ensures ∙ ap (λ m. centred m (s .args .value)) (s .pre .0 .0))
+text : (c : tie.After-centre) → blank ∷ signedDecimal (toZ w64 (ofZ w64 (toZ w32 (ofZ w32 (c .centre .result))))) ≡ valueText (c .before .before .before .args .p) (c .before .before .before .args .value)
+text c = ap (λ z. blank ∷ signedDecimal z) (wide-is (c .centre .result) (small c) ∙ c .centre .ensures)
 
 centre-requires : tie.Need-centre-requires
-centre-requires c κs = let s = c .before .before in (omega (arith, s .pre .0 .0, s .pre .0 .1), omega (arith, s .pre .0 .0, prime-one {m = 1} refl))
+centre-requires c κs = let s = c .before .before in (omega (arith, s .pre .0 .0), omega (arith, s .pre .0 .1))
 
 cast-put-signed-field : tie.Need-cast-put-signed-field
 cast-put-signed-field c = wide-fits (c .centre .result) (small c)

@@ -61,7 +61,7 @@ returns : tie.Need-returns Inv-loop μ-loop
 returns c =
     let a = c .before .before .before .before .before .before .args in
     let e = replaying-all (c .before .loop .inv .1) (omega arith) in
-    (e, λ s m started. e ∙ replay-modelled s m (a .job) (now (a .script)) (now (a .volume)) (now (a .scratch)) (now (a .answers)) started)
+    (e, λ μ s m started. e ∙ replay-modelled μ s m (a .job) (now (a .script)) (now (a .volume)) (now (a .scratch)) (now (a .answers)) started)
 
 pub replay-spec : {M : Type 1} → statement M
 replay-spec =

@@ -46,7 +46,7 @@ unit-cell-requires : tie.Need-unit-cell-requires
 unit-cell-requires c κs = search needs
 
 fits-requires : tie.Need-fits-requires
-fits-requires c κs = let v = c .before .before .before in cell-sizes (v .before .before .before .args .job) (c .unit-cell .ensures) (valid v)
+fits-requires c κs = let v = c .before .before .before in cell-sizes (v .before .before .before .args .job) (c .unit-cell .ensures) (valid v) .0
 
 returns-3 : tie.Need-returns-3
 returns-3 c =

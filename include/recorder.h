@@ -2,11 +2,13 @@
    target/staticlib/libexported.a. Each is proved to do what its contract in crates/exported/src/lib.rt says, for every input.
    tools/interface_test.py holds the names and types of this header to that file, and the numbers of refusals to crates/refusals.
 
-   Numbers. A residue is 0 to 86,398. A value a + b i is two neighbouring residues, a pair. A volume holds residues; a density is read as
-   the whole number from -43,199 to 43,199 that is congruent to its residue. Every answer has a number: 0 for an accepted call, else the
-   number of the first refusal that applies, in the order given at each call; each has a name below, as have the numbers of groups, kinds,
-   states and directions. A refused call changes no buffer and no job, but for recorder_open_file, which leaves the volume zero where it
-   refuses a record; what only an accepted call gives is then 0.
+   Numbers. There are two primes: modulus 1 stands for 86,399 and modulus 2 for 302,399, and a job counts modulo one of them. A residue is
+   a number from 0 to its prime less 1. A value a + b i is two neighbouring residues, a pair. A volume holds residues; a density is read as
+   the whole number next to zero that is congruent to its residue, from -43,199 to 43,199 under modulus 1 and from -151,199 to 151,199 under
+   modulus 2. Two maps of one cell, one for each prime, are combined into whole numbers from -13,063,485,600 to 13,063,485,600. Every answer
+   has a number: 0 for an accepted call, else the number of the first refusal that applies, in the order given at each call; each has a name
+   below, as have the numbers of groups, moduli, kinds, states and directions. A refused call changes no buffer and no job, but for
+   recorder_open_file, which leaves the volume zero where it refuses a record; what only an accepted call gives is then 0.
 
    Buffers. A buffer is a pointer and the count of its elements. The pointer is aligned and is not NULL, not even with the count 0: the
    library takes the two as a slice, which has no NULL. For no elements, as of the factor list of N = 2, any array of the type will do; it
@@ -15,14 +17,16 @@
    - The volume has exactly W * N1 * (N2/2 + 1) pairs, where W is N3 in group 0, N3/2 in groups 1 and 4, N3/2 + 1 in groups 2 and 3: twice
      as many numbers, at most 16,777,216. It is filled as the scope lays out: packed factors (in group 4 a line along l of an odd h is
      packed times i), or the map on the planes z = 0 to W - 1 with two zeros after each row. recorder_volume_length computes the count.
+   - A combined map is laid out as a map is, in signed numbers of 64 bits: it has as many of them as the volume has numbers, and two zeros
+     after each row, which no call reads.
    - The scratch has at least 11,520 numbers. An accepted call leaves its first 11,520 numbers zero and the others untouched.
    - A factor list has the numbers 2 to 5 in any order, with the product N/2; it is empty for N = 2.
 
    Threads and stack. The library keeps no state and asks for no memory: any number of threads may call it at once, each with buffers of its
-   own; a volume that all of them only read (recorder_point, recorder_factor, recorder_write_file) may be shared. By measurement on x86-64
-   synthesis and analysis need some 92 KB of stack, recorder_line some 68 KB, every other call but one less than 8 KB, whatever the grid: give
-   a thread 128 KB or more. The one is recorder_file_faults, which is lent no volume and marks the orbits of a file in an array of 256 KB of its
-   own; it needs some 264 KB: give a thread that calls it 384 KB or more.
+   own; a volume that all of them only read (recorder_point, recorder_factor, recorder_write_file, recorder_combine) may be shared. By
+   measurement on x86-64 synthesis and analysis need some 92 KB of stack, recorder_line some 68 KB, every other call but one less than 8 KB,
+   whatever the grid: give a thread 128 KB or more. The one is recorder_file_faults, which is lent no volume and marks the orbits of a file in
+   an array of 256 KB of its own; it needs some 264 KB: give a thread that calls it 384 KB or more.
 
    Lengths N1, N2, N3 are even divisors of 2,880. Groups: 0 P1, 1 P2_1 with axis c, 2 Pm with its mirror across c, 3 Pa with its mirror
    across c and its glide along a, 4 P2_1 2_1 2_1 with the operations (1/2 - x, -y, 1/2 + z), (-x, 1/2 + y, 1/2 - z) and
@@ -38,15 +42,21 @@ extern "C" {
 #endif
 
 /* The version of the calls: 10,000 times the major, 100 times the minor, and the patch number. */
-#define RECORDER_VERSION 10000
+#define RECORDER_VERSION 20000
 
-/* Limits: the modulus of residues, the longest axis, the most numbers of a volume, the numbers of a scratch, the most entries of a window. */
+/* Limits: the primes of moduli 1 and 2, which no residue reaches, the longest axis, the most numbers of a volume, the numbers of a scratch, the
+   most entries of a window; and the greatest magnitude of a combined number. */
 enum {
-    RECORDER_MODULUS = 86399, RECORDER_LONGEST = 2880, RECORDER_MOST_NUMBERS = 16777216, RECORDER_SCRATCH = 11520, RECORDER_LONGEST_WINDOW = 64
+    RECORDER_PRIME_1 = 86399, RECORDER_PRIME_2 = 302399, RECORDER_LONGEST = 2880, RECORDER_MOST_NUMBERS = 16777216, RECORDER_SCRATCH = 11520,
+    RECORDER_LONGEST_WINDOW = 64
 };
+#define RECORDER_GREATEST_COMBINED INT64_C(13063485600)
 
 /* Groups. */
 enum { RECORDER_P1 = 0, RECORDER_P21 = 1, RECORDER_PM = 2, RECORDER_PA = 3, RECORDER_P212121 = 4 };
+
+/* Moduli: the numbers of the two primes. */
+enum { RECORDER_MODULUS_1 = 1, RECORDER_MODULUS_2 = 2 };
 
 /* Kinds of opening, and the states of a job. */
 enum { RECORDER_OPEN_COLLECTING = 0, RECORDER_OPEN_MAP = 1 };
@@ -67,8 +77,8 @@ enum {
     RECORDER_REFUSED_LENGTH = 3,             /* length not an even divisor of 2,880 */
     RECORDER_REFUSED_FACTOR = 4,             /* a factor not 2 to 5 */
     RECORDER_REFUSED_PRODUCT = 5,            /* product of a list not N/2 */
-    RECORDER_REFUSED_BUFFER_LENGTH = 6,      /* volume or line not exactly as long as required */
-    RECORDER_REFUSED_NOT_RESIDUE = 7,        /* a number of 86,399 or more */
+    RECORDER_REFUSED_BUFFER_LENGTH = 6,      /* volume, combined map or line not exactly as long as required */
+    RECORDER_REFUSED_NOT_RESIDUE = 7,        /* a number not below the prime of its modulus */
     RECORDER_REFUSED_GROUP = 8,              /* group not 0 to 4 */
     RECORDER_REFUSED_VOLUME_TOO_LARGE = 9,   /* volume above 16,777,216 numbers */
     RECORDER_REFUSED_INDEX = 10,             /* an index not below its length */
@@ -76,13 +86,15 @@ enum {
     RECORDER_REFUSED_SCRATCH_TOO_SHORT = 13, /* scratch below 11,520 numbers */
     RECORDER_REFUSED_INCONSISTENT = 14,      /* no cell that obeys the group has these numbers */
     RECORDER_REFUSED_FILE_SHAPE = 15,        /* a file's bytes are not those that its count and header ask for */
-    RECORDER_REFUSED_FILE_VERSION = 16,      /* a file's version not 1 */
+    RECORDER_REFUSED_FILE_VERSION = 16,      /* a file's version not 1 or 2 */
     RECORDER_REFUSED_OUTPUT_TOO_SHORT = 18,  /* output too short */
     RECORDER_REFUSED_NOT_COLLECTING = 21,    /* a record while not collecting */
     RECORDER_REFUSED_NO_MAP = 22,            /* no map held */
     RECORDER_REFUSED_NO_FACTORS = 23,        /* no factors held */
     RECORDER_REFUSED_OCCUPIED = 24,          /* of a record: a number that holds part of its orbit is not 0; in a file: an earlier record is of its orbit */
     RECORDER_REFUSED_IMPOSSIBLE_JOB = 25,    /* no call could have given this job back */
+    RECORDER_REFUSED_MODULUS = 26,           /* modulus not 1 or 2 */
+    RECORDER_REFUSED_DIFFERENT_CELLS = 27,   /* two jobs that differ in group or lengths, or whose moduli are not 1 and 2 in order */
     RECORDER_REFUSED_WINDOW = 34             /* window not of 1 to 64 entries */
 };
 
@@ -93,10 +105,10 @@ typedef struct { uint32_t x, y, z; } recorder_grid_point;
 /* An axis: its length, and its factor list as octal digits, the first factor lowest. */
 typedef struct { uint32_t length, factors; } recorder_axis;
 
-/* A job is handed in and handed back by value. Its state is 0 collecting, 1 factors held, 2 map held. A job that no call could have
-   given back is refused with 25. */
+/* A job is handed in and handed back by value. Its modulus is 1 or 2, its state 0 collecting, 1 factors held, 2 map held. A job that no
+   call could have given back is refused with 25. */
 typedef struct {
-    uint32_t group;
+    uint32_t group, modulus;
     recorder_axis a, b, c;
     uint32_t state;
 } recorder_job;
@@ -121,17 +133,18 @@ static inline size_t recorder_volume_length(uint32_t group, uint32_t n1, uint32_
 
 /* Opens a job. Kind 0 zeroes the volume and collects; kind 1 takes the volume as a map. A refused opening gives a job of zeros, which
    every call refuses.
-   Refusals: 8 group not 0 to 4, 2 kind not 0 or 1, then each over the three axes 3 length not admitted, 4 a factor not 2 to 5,
-   5 product not N/2; 9 volume above 16,777,216 numbers, 6 volume not exactly as long as required; for a map 7 a number of 86,399 or
-   more, 14 no cell that obeys the group has this map with its zeros. */
-recorder_answer recorder_open(uint32_t group, uint32_t kind, uint32_t n1, uint32_t n2, uint32_t n3,
+   Refusals: 8 group not 0 to 4, 26 modulus not 1 or 2, 2 kind not 0 or 1, then each over the three axes 3 length not admitted, 4 a factor
+   not 2 to 5, 5 product not N/2; 9 volume above 16,777,216 numbers, 6 volume not exactly as long as required; for a map 7 a number not
+   below the prime, 14 no cell that obeys the group has this map with its zeros. */
+recorder_answer recorder_open(uint32_t group, uint32_t modulus, uint32_t kind, uint32_t n1, uint32_t n2, uint32_t n3,
                               const uint8_t *factors1, size_t count1, const uint8_t *factors2, size_t count2,
                               const uint8_t *factors3, size_t count3, uint32_t *volume, size_t volume_length);
 
 /* Opens a job by a factor file of any bytes: an opening with kind 0, then its records, in whatever order they stand; a file of no
-   records stands for a cell whose factors are all zero. A refused record gives its place from 0 and leaves the volume zero; every
-   other refusal changes nothing. A refused file gives a job of zeros, which every call refuses.
-   Refusals: 15 the count is not the bytes that follow, 16 version not 1, 15 header, lists and records do not fill the file, then
+   records stands for a cell whose factors are all zero. A file of version 1 has modulus 1, one of version 2 the modulus that it names. A
+   refused record gives its place from 0 and leaves the volume zero; every other refusal changes nothing. A refused file gives a job of
+   zeros, which every call refuses.
+   Refusals: 15 the count is not the bytes that follow, 16 version not 1 or 2, 15 header, lists and records do not fill the file, then
    those of an opening, then of each record in its turn 10, 7, 12, and 24 if an earlier record is of its orbit, whatever their values. */
 recorder_file_answer recorder_open_file(const uint8_t *file, size_t file_length, uint32_t *volume, size_t volume_length);
 
@@ -143,22 +156,22 @@ recorder_file_answer recorder_open_file(const uint8_t *file, size_t file_length,
 recorder_faults recorder_file_faults(const uint8_t *file, size_t file_length);
 
 /* Writes the factor file of a job that holds factors: one record for each orbit with a value other than zero, at its lowest (h, k, l),
-   by rising h, then k, then l; where all are zero, a file of no records. So equal groups, lengths, factor lists and volumes give equal
-   files, and a written file that is read and written again is the same. Returns the count of bytes written; the places beyond are
-   untouched.
+   by rising h, then k, then l; where all are zero, a file of no records. Modulus 1 is written as version 1, modulus 2 as version 2. So equal
+   groups, moduli, lengths, factor lists and volumes give equal files, and a written file that is read and written again is the same.
+   Returns the count of bytes written; the places beyond are untouched.
    Refusals: 25, 23 no factors held, 6 volume not exactly as long as required, 7, 14, 18 output too short. */
 recorder_write_answer recorder_write_file(recorder_job job, const uint32_t *volume, size_t volume_length, uint8_t *out, size_t out_length);
 
 /* Records a + b i at an index, and the implied values at all images. A zero is recorded too and changes no number; a later record of the
    same orbit is then taken, and its value counts.
-   Refusals: 25, 21 not collecting, 10 an index not below its length, 7 a or b of 86,399 or more, 12 an image falls on
+   Refusals: 25, 21 not collecting, 10 an index not below its length, 7 a or b not below the prime, 12 an image falls on
    the index itself with another value, 6 volume not exactly as long as required, 24 a number that holds part of the orbit is not 0. */
 recorder_answer recorder_record(recorder_job job, recorder_reflection at, uint32_t a, uint32_t b,
                                 uint32_t *volume, size_t volume_length);
 
 /* From factors to the map: the job then holds a map.
    Refusals: 25, 23 no factors held (collecting counts as held), 6 volume not exactly as long as required, 13 scratch too short, 7 a
-   number of 86,399 or more, 14 no whole cell that obeys group and Friedel has these factors. */
+   number not below the prime, 14 no whole cell that obeys group and Friedel has these factors. */
 recorder_answer recorder_synthesis(recorder_job job, uint32_t *volume, size_t volume_length,
                                    uint32_t *scratch, size_t scratch_length);
 
@@ -166,19 +179,30 @@ recorder_answer recorder_synthesis(recorder_job job, uint32_t *volume, size_t vo
 recorder_answer recorder_analysis(recorder_job job, uint32_t *volume, size_t volume_length,
                                   uint32_t *scratch, size_t scratch_length);
 
-/* The density at a point anywhere in the cell: the whole number from -43,199 to 43,199 that is congruent to the point's number in the
-   volume. On a plane that is not stored it is read at the point's image by the group's operation, in group 4 by the first of its three.
+/* The density at a point anywhere in the cell: the whole number next to zero that is congruent to the point's number in the volume, from
+   -43,199 to 43,199 under modulus 1 and from -151,199 to 151,199 under modulus 2. On a plane that is not stored it is read at the point's
+   image by the group's operation, in group 4 by the first of its three.
    Refusals: 25, 22 no map held, 10, 6, 7 of the number read. */
 recorder_density recorder_point(recorder_job job, recorder_grid_point at, const uint32_t *volume, size_t volume_length);
 
 /* The structure factor a + b i at an index anywhere in the cell. Refusals: 25, 23 no factors held, 10, 6, 7 of the numbers read. */
 recorder_factor_value recorder_factor(recorder_job job, recorder_reflection at, const uint32_t *volume, size_t volume_length);
 
+/* Combines two maps of one cell, the first job's modulo 86,399 and the second job's modulo 302,399: each number of the output is the only whole
+   number from -13,063,485,600 to 13,063,485,600 that is congruent to the first map's number at its place and to the second's. So the output
+   is laid out as the maps are, with two zeros after each row. It has exactly as many numbers as each of the maps, and `written` is that
+   count. The factor lists of the two jobs may differ. The jobs and the maps stay as they are.
+   Refusals, each over both jobs or maps before the next: 25, 22 no map held, 27 the jobs differ in group or lengths, or their moduli are not 1
+   and 2 in order, 6 a map or the output not exactly as long as required, 7 a number not below its prime, 14 as of an opening with a map. */
+recorder_write_answer recorder_combine(recorder_job first, const uint32_t *first_map, size_t first_length,
+                                       recorder_job second, const uint32_t *second_map, size_t second_length,
+                                       int64_t *output, size_t output_length);
+
 /* Transforms one line in place, direction 0 forward, 1 inverse; returns the number. Kinds: 0 plain, 1 Hermitian, 2 anti-Hermitian,
    3 alternating, 4 symmetric, 5 antisymmetric.
-   Refusals: 1 kind not 0 to 5, 2 direction not 0 or 1, 3 length not admitted, 4 a factor not 2 to 5, 5 product not N/2, 6 line not
-   exactly as long as its kind asks, 13 scratch too short, 7 a number of 86,399 or more. */
-uint32_t recorder_line(uint32_t kind, uint32_t direction, uint32_t length, const uint8_t *factors, size_t count,
+   Refusals: 26 modulus not 1 or 2, 1 kind not 0 to 5, 2 direction not 0 or 1, 3 length not admitted, 4 a factor not 2 to 5, 5 product not
+   N/2, 6 line not exactly as long as its kind asks, 13 scratch too short, 7 a number not below the prime. */
+uint32_t recorder_line(uint32_t modulus, uint32_t kind, uint32_t direction, uint32_t length, const uint8_t *factors, size_t count,
                        uint32_t *line, size_t line_length, uint32_t *scratch, size_t scratch_length);
 
 /* The drift of a crystal: of a run of scores, for each w neighbouring entries (a window), the least and the greatest score and the first

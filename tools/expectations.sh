@@ -23,6 +23,8 @@ both() {
 }
 held crates/window_test/stdin python3 tools/window_cases.py cases
 held crates/window_test/stdout python3 tools/window_cases.py answers
+held crates/combine_test/stdin python3 tools/combine_cases.py cases
+held crates/combine_test/stdout python3 tools/combine_cases.py answers
 held crates/recorder_test/stdin both cases
 held crates/recorder_test/stdout both answers
-echo "7 stored expectations agree with what is computed anew"
+echo "9 stored expectations agree with what is computed anew"

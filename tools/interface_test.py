@@ -16,6 +16,8 @@ FILES = ["include/recorder.h", "crates/exported/src/lib.rt", "host/src/ffi.rs"]
 # What the source passes on: the structs of jobs and of their answers, and the numbers of refusals.
 PASSED_ON = ["crates/job/src/lib.rt", "crates/exported/src/answers.rt", "crates/refusals/src/lib.rt"]
 
+# Numbers that crates/refusals has and no exported call gives yet: the header has no names for them.
+NOT_GIVEN = {"MAGNITUDE", "UNIT_CELL", "FLOAT_RANGE"}
 # The names of the header's types in the Rattle source and in the tool.
 SOURCE_NAMES = {"Reflection": "recorder_reflection", "GridPoint": "recorder_grid_point", "Axis": "recorder_axis", "Job": "recorder_job",
                 "JobCoded": "recorder_answer", "FileCoded": "recorder_file_answer", "FaultsCoded": "recorder_faults",
@@ -75,8 +77,9 @@ def c_refusals(text):
 # ---- Rattle and Rust: 'name: type'
 
 def source_refusals(text):
-    """The refusals' numbers by their names as the header writes them."""
-    return {re.sub(r"(?<=.)(?=[A-Z])", "_", name).upper(): value for name, value in re.findall(r"Refusal::(\w+) => (\d+)", text)}
+    """The numbers of the refusals that calls give, by their names as the header writes them."""
+    found = {re.sub(r"(?<=.)(?=[A-Z])", "_", name).upper(): value for name, value in re.findall(r"Refusal::(\w+) => (\d+)", text)}
+    return {name: value for name, value in found.items() if name not in NOT_GIVEN}
 
 
 def named_type(kind, names):
@@ -151,6 +154,10 @@ DAMAGES = [
     (0, "recorder_grid_point at,", "recorder_reflection at,"), (0, "uint32_t number, place;", "uint32_t place, number;"),
     (0, "const uint32_t *volume, size_t volume_length, uint8_t *out", "uint32_t *volume, size_t volume_length, uint8_t *out"),
     (0, "RECORDER_REFUSED_INDEX = 10,", "RECORDER_REFUSED_INDEX = 11,"), (1, "Refusal::Occupied => 24,", ""),
+    (0, "uint32_t group, modulus;", "uint32_t modulus, group;"),
+    (0, "recorder_job second, const uint32_t *second_map", "recorder_job second, uint32_t *second_map"),
+    (1, "Refusal::DifferentCells => 27,", "Refusal::DifferentCells => 26,"), (2, "pub modulus: u32,", ""),
+    (0, "uint32_t recorder_line(uint32_t modulus, ", "uint32_t recorder_line("),
     (0, "uint32_t count, first, second;", "uint32_t count, second, first;"), (1, "pub place: u32,", ""), (1, "fn recorder_analysis(", "fn recorder_analyse("),
     (1, "#[repr(C)]", ""), (2, "#[repr(C)]", ""),
     (0, "int64_t *least, size_t least_length", "uint64_t *least, size_t least_length"),

@@ -2,6 +2,7 @@
 use mathlib.Core.Path.{_≡_, _∙_, ap}
 use mathlib.Core.List.{List}
 use Prim.Native.Nat.{ℕ}
+use Rattle.signed.specs.Integers.{ℤ}
 use Rattle.line.specs.declared.LineAnswer.{LineAnswer}
 use Rattle.line.specs.Line.{LineOutcome}
 use Rattle.line.specs.Answers.{saidLine, lineOutcome}
@@ -23,8 +24,10 @@ use Rattle.exported.specs.declared.answers.FileCoded.{FileCoded}
 use Rattle.exported.specs.declared.answers.FaultsCoded.{FaultsCoded}
 use Rattle.exported.specs.declared.answers.PointCoded.{PointCoded}
 use Rattle.exported.specs.declared.answers.FactorCoded.{FactorCoded}
-use Rattle.exported.specs.Answers.{openingCoded, openCoded, fileAnswerCoded, fileCoded, faultsCoded, recordCoded, workCoded, pointCoded, factorCoded, writingCoded, writeCoded, lineCoded, windowCoded}
+use Rattle.exported.specs.Answers.{openingCoded, openCoded, fileAnswerCoded, fileCoded, faultsCoded, recordCoded, workCoded, pointCoded, factorCoded, writingCoded, writeCoded, combineCoded, lineCoded, windowCoded}
 use Rattle.exported.specs.declared.answers.WriteCoded.{WriteCoded}
+use Rattle.combining.specs.Combining.{CombineOutcome}
+use Rattle.combining.specs.Answers.{combineOutcome}
 use Rattle.sliding_window.specs.Window.{Extremes, WindowOutcome}
 use Rattle.sliding_window.specs.Answers.{windowOutcome}
 
@@ -52,6 +55,9 @@ factor-coded a r s h e = h ∙ ap factorCoded e
 
 pub write-coded : (a : FillAnswer) (r : WriteCoded) (v : List ℕ) (o : FillOutcome) → r ≡ writingCoded (saidFill a) → fillOutcome a v ≡ o → (r, v) ≡ writeCoded o
 write-coded a r v o h e = ap (λ r. (r, v)) h ∙ ap writeCoded e
+
+pub combine-coded : (a : FillAnswer) (r : WriteCoded) (v : List ℤ) (o : CombineOutcome) → r ≡ writingCoded (saidFill a) → combineOutcome a v ≡ o → (r, v) ≡ combineCoded o
+combine-coded a r v o h e = ap (λ r. (r, v)) h ∙ ap combineCoded e
 
 pub window-coded : (a : FillAnswer) (r : WriteCoded) (v : Extremes) (o : WindowOutcome) → r ≡ writingCoded (saidFill a) → windowOutcome a (v .least) (v .greatest) (v .leastAt) (v .greatestAt) ≡ o → (r, v) ≡ windowCoded o
 window-coded a r v o h e = ap (λ r. (r, v)) h ∙ ap windowCoded e

@@ -1,7 +1,7 @@
 -- What the calls of a job and of a factor file return and leave as numbers, from what their definitions say: the answer, then the buffers.
 use mathlib.Core.List.{List, [], _∷_}
 use Prim.Native.Nat.{ℕ}
-use Rattle.signed.specs.Integers.{pos}
+use Rattle.signed.specs.Integers.{ℤ, pos}
 use Rattle.job.specs.declared.Axis.{Axis}
 use Rattle.job.specs.declared.Job.{Job}
 use Rattle.job.specs.Job.{Opening, Opening.opened, Opening.notOpened, OpenOutcome, Said, Said.done, Said.density, Said.factor, Said.refused, Outcome, Worked}
@@ -14,6 +14,7 @@ use Rattle.exported.specs.declared.answers.FactorCoded.{FactorCoded}
 use Rattle.line.specs.Line.{LineOutcome}
 use Rattle.output.specs.Output.{Filled, Filled.written, Filled.notWritten, FillOutcome}
 use Rattle.exported.specs.declared.answers.WriteCoded.{WriteCoded}
+use Rattle.combining.specs.Combining.{CombineOutcome}
 use Rattle.sliding_window.specs.Window.{Extremes, WindowOutcome}
 
 -- what stands for the job that a refused opening does not give
@@ -21,7 +22,7 @@ abbrev pub noAxis : Axis
 noAxis = record { length = 0; factors = 0 }
 
 abbrev pub noJob : Job
-noJob = record { group = 0; a = noAxis; b = noAxis; c = noAxis; state = 0 }
+noJob = record { group = 0; modulus = 0; a = noAxis; b = noAxis; c = noAxis; state = 0 }
 
 abbrev pub openingCoded : Opening → JobCoded
 openingCoded (opened j) = record { number = 0; job = j }
@@ -62,7 +63,7 @@ factorCoded (refused n) = record { number = n; a = 0; b = 0 }
 factorCoded done = record { number = 0; a = 0; b = 0 }
 factorCoded (density n) = record { number = 0; a = 0; b = 0 }
 
--- ---- the same of the writer, of a line and of the windows of a run
+-- ---- the same of the writer, of two combined maps, of a line and of the windows of a run
 
 abbrev pub writingCoded : Filled → WriteCoded
 writingCoded (written n) = record { number = 0; written = n }
@@ -70,6 +71,9 @@ writingCoded (notWritten n) = record { number = n; written = 0 }
 
 abbrev pub writeCoded : FillOutcome → WriteCoded × List ℕ
 writeCoded o = (writingCoded (o .answer), o .output)
+
+abbrev pub combineCoded : CombineOutcome → WriteCoded × List ℤ
+combineCoded o = (writingCoded (o .answer), o .output)
 
 abbrev pub lineCoded : LineOutcome → ℕ × List ℕ × List ℕ
 lineCoded o = (o .answer, o .line, o .scratch)

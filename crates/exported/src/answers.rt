@@ -170,6 +170,7 @@ fn no_job() -> Job
 {
     Job {
         group: 0,
+        modulus: 0,
         a: Axis {
             length: 0,
             factors: 0,

@@ -1,4 +1,4 @@
-// The recorder for programs in C: each function is a public call of crate line, job, factor_file or sliding_window under a
+// The recorder for programs in C: each function is a public call of crate line, job, factor_file, combining or sliding_window under a
 // C name, and include/recorder.h declares it again.
 //
 // A job, an index and a point go in and come back by value; a buffer is a pointer and a length. Every answer has a number: 0, or
@@ -23,13 +23,15 @@ ghost use Rattle.line.specs.Answers.{saidLine};
 ghost use Rattle.job.specs.Job.{openStep, recordStep, synthesisStep, analysisStep, pointStep, factorStep};
 ghost use Rattle.factor_file.specs.File.{fileStep, writeStep};
 ghost use Rattle.factor_file.specs.Faults.{faultsIn};
+ghost use Rattle.combining.specs.Combining.{combineStep};
 ghost use Rattle.sliding_window.specs.Window.{windowStep};
-ghost use Rattle.exported.specs.Answers.{openCoded, fileCoded, faultsCoded, recordCoded, workCoded, pointCoded, factorCoded, writeCoded, lineCoded, windowCoded};
+ghost use Rattle.exported.specs.Answers.{openCoded, fileCoded, faultsCoded, recordCoded, workCoded, pointCoded, factorCoded, writeCoded, combineCoded, lineCoded, windowCoded};
 
 // Opens a job. A refused opening gives a job of zeros, which every call refuses.
 #[no_mangle]
 pub extern "C" fn recorder_open(
     group: u32,
+    modulus: u32,
     kind: u32,
     n1: u32,
     n2: u32,
@@ -39,10 +41,21 @@ pub extern "C" fn recorder_open(
     f3: &[u8],
     volume: &mut [u32],
 ) -> JobCoded
-    ensures { λ r. ⌜ (r, now (volume .exit)) ≡ openCoded (openStep (record
+    ensures { λ r. ⌜ (r, now (volume .exit)) ≡ openCoded (openStep modulus (record
         { group = group; lengths = (n1, n2, n3); list1 = now (f1 .entry); list2 = now (f2 .entry); list3 = now (f3 .entry) }) kind (now (volume .entry))) ⌝ }
 {
-    crate::answers::opening_coded(job::open::open(group, kind, n1, n2, n3, f1, f2, f3, volume))
+    crate::answers::opening_coded(job::open::open(
+        group,
+        modulus,
+        kind,
+        n1,
+        n2,
+        n3,
+        f1,
+        f2,
+        f3,
+        volume,
+    ))
 }
 
 // Opens a job by a factor file. A refused file gives a job of zeros, which every call refuses.
@@ -115,9 +128,30 @@ pub extern "C" fn recorder_factor(held: Job, at: Reflection, volume: &[u32]) -> 
     crate::answers::factor_coded(held.factor(at, volume))
 }
 
+// Combines two maps of one cell, one for each prime.
+#[no_mangle]
+pub extern "C" fn recorder_combine(
+    first: Job,
+    first_map: &[u32],
+    second: Job,
+    second_map: &[u32],
+    output: &mut [i64],
+) -> WriteCoded
+    ensures { λ r. ⌜ (r, now (output .exit)) ≡ combineCoded (combineStep first (now («first_map» .entry)) second (now («second_map» .entry)) (now (output .entry))) ⌝ }
+{
+    crate::answers::filled_coded(combining::combine_maps(
+        first,
+        first_map,
+        second,
+        second_map,
+        output,
+    ))
+}
+
 // Transforms one line.
 #[no_mangle]
 pub extern "C" fn recorder_line(
+    modulus: u32,
     kind: u32,
     direction: u32,
     length: u32,
@@ -126,9 +160,9 @@ pub extern "C" fn recorder_line(
     scratch: &mut [u32],
 ) -> u32
     ensures { λ r. ⌜ (r, now (line .exit), now (scratch .exit))
-        ≡ lineCoded (lineStep 1 kind direction length (now (factors .entry)) (now (line .entry)) (now (scratch .entry))) ⌝ }
+        ≡ lineCoded (lineStep modulus kind direction length (now (factors .entry)) (now (line .entry)) (now (scratch .entry))) ⌝ }
 {
-    line_number(line::line(kind, direction, length, factors, line, scratch))
+    line_number(line::line(modulus, kind, direction, length, factors, line, scratch))
 }
 
 fn line_number(answer: LineAnswer) -> u32

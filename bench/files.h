@@ -56,7 +56,7 @@ static file_frame make_frame(cell c, const uint32_t *map, uint32_t *volume, uint
 static recorder_job open_empty(file_frame *f)
 {
     size_t n = sizeof list_240;
-    recorder_answer held = recorder_open(0, 0, LENGTH, LENGTH, LENGTH, list_240, n, list_240, n, list_240, n, f->volume, f->length);
+    recorder_answer held = recorder_open(0, 1, 0, LENGTH, LENGTH, LENGTH, list_240, n, list_240, n, list_240, n, f->volume, f->length);
     if (held.number) fail("opening refused", held.number);
     return held.job;
 }

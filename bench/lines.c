@@ -38,7 +38,7 @@ static void run_calls(unsigned repeats, uint32_t kind, uint32_t n, size_t count,
 {
     static const uint8_t list[] = { 5, 4, 4, 3, 3, 2 };
     for (unsigned t = 0; t < repeats; t++) {
-        uint32_t number = recorder_line(kind, 0, n, list, count, line, length, scratch, SCRATCH);
+        uint32_t number = recorder_line(1, kind, 0, n, list, count, line, length, scratch, SCRATCH);
         if (number) fail("line refused", number);
     }
 }

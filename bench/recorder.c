@@ -80,7 +80,7 @@ static recorder_job open_map(const measured *m, uint32_t *volume, size_t length)
     uint8_t list[8];
     size_t count = strlen(m->list);
     for (size_t j = 0; j < count; j++) list[j] = m->list[j] - '0';
-    recorder_answer held = recorder_open(m->group, 1, m->n, m->n, m->n, list, count, list, count, list, count, volume, length);
+    recorder_answer held = recorder_open(m->group, 1, 1, m->n, m->n, m->n, list, count, list, count, list, count, volume, length);
     if (held.number) fail("opening refused", held.number);
     return held.job;
 }

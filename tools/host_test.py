@@ -1,14 +1,16 @@
 #!/usr/bin/env python3
-"""The test of the command line tool: runs it on files of all five groups and compares all that it prints and writes with brute force.
+"""The test of the command line tool: runs it on files of all five groups and both primes and compares all that it prints and writes with brute force.
 
     host_test.py PROGRAM
 
 Small grids: the printer test's files, files of no records among them, their maps as text and as map files, the factor files written from those, the
-files shuffled and rewritten, their records, readings of points and factors, all against the book of brute_force.py. The records at fault of small
-files, against all lists of their records (faults_cases.py). Every refusal that a file, a map file or a line can give. Runs of scores, their windows
-against window_cases.py. Files that are damaged, empty, missing, endless or not to be written, or are the input itself; pipes that are closed; no
-memory; signals at random moments of writing. P1 and P2_1 2_1 2_1 at 240^3 and P2_1 at 288^3 there and back, byte for byte, with some densities summed
-directly. The seed is fixed. Prints how many comparisons agreed; the exit status is 1 where one did not.
+files shuffled and rewritten, their records, readings of points and factors, all against the book of brute_force.py. Maps combined from a file for
+each prime, and combined map files, against the number that all candidates are searched for. The records at fault of small files, against all
+lists of their records (faults_cases.py). Every refusal that a file, a map file, a combined map file or a line can give. Runs of scores, their
+windows against window_cases.py. Files that are damaged, empty, missing, endless or not to be written, or are the input itself; pipes that are
+closed; no memory; signals at random moments of writing. P1 and P2_1 2_1 2_1 at 240^3 and P2_1 at 288^3 there and back, byte for byte, with some
+densities summed directly; P2_1 2_1 2_1 combined with a file for the second prime. The seed is fixed. Prints how many comparisons agreed; the exit
+status is 1 where one did not.
 """
 import filecmp
 import os
@@ -23,23 +25,28 @@ import sys
 import tempfile
 import time
 
-from brute_force import (LIMIT, P, ROOT, Book, all_points, analysed, e, file_bytes, first_record, images, needed, number, open_file, pack_map, planes,
-                         point_images, read_cell, records_in, signed, volume_length)
+from brute_force import (LIMIT, P, PRIMES, ROOTS, Book, all_points, analysed, e, file_bytes, first_record, images, needed, number, open_file, pack_map,
+                         planes, point_images, read_cell, records_in, signed, volume_length)
 from faults_cases import fewest, judged
 from faults_cases import files as faulty_files
 from printer_test import files
+from samples import combined, combined_text, second_file
 from window_cases import SCORES, windows
 
 SEED = 1973
 # Every refusal that the tool's input can give, readings outside the cell among them.
-REFUSALS = {"factor file": {3, 4, 5, 7, 8, 9, 10, 12, 15, 16, 24}, "map file": {3, 4, 5, 7, 8, 9, 10, 14, 15, 16},
-            "line": {1, 2, 3, 4, 5, 6, 7}, "scores": {34}}
-COMMANDS = ["map", "factors", "rewrite", "records", "check", "faults", "info", "point", "factor", "line", "drift"]
-# Those that work on a factor file or a map file.
-ON_FILES = COMMANDS[:-2]
+REFUSALS = {"factor file": {3, 4, 5, 7, 8, 9, 10, 12, 15, 16, 24, 26}, "map file": {3, 4, 5, 7, 8, 9, 10, 14, 15, 16, 26},
+            "combined map file": {3, 8, 9, 10, 14, 15, 16, 28}, "two files": {7, 12, 14, 15, 26, 27}, "line": {1, 2, 3, 4, 5, 6, 7, 26}, "scores": {34}}
+COMMANDS = ["map", "factors", "rewrite", "records", "check", "faults", "info", "point", "factor", "combine", "line", "drift"]
+# Those that work on a factor file or a map file, and those of them that take a combined map file.
+ON_FILES = COMMANDS[:-3]
+ON_COMBINED = ["map", "check", "info", "point"]
+# The greatest magnitude of a combined map's number.
+GREATEST = (PRIMES[1] * PRIMES[2] - 1) // 2
 LARGE = [(0, 240, [4, 5, 3, 2]), (1, 288, [4, 4, 3, 3]), (4, 240, [2, 3, 4, 5])]
 GROUPS = ["P1", "P2_1", "Pm", "Pa", "P2_1 2_1 2_1"]
-SAMPLES = [("p21", 6), ("p212121", 37), ("empty", 0)]
+SAMPLES = [("p21", 6), ("p21.second", 6), ("p212121", 37), ("empty", 0)]
+SAMPLES_FOLDER = os.path.join(os.path.dirname(os.path.abspath(__file__)), "../samples")
 RECORDS = 7000
 SIGNALS = 50
 FAULTY = 100
@@ -88,14 +95,15 @@ class Tool:
             self.wrong += 1
             print("%s: got %.300r, expected %.300r" % (what, got, want))
 
-    def refused(self, what, words, refusal, place=0, given=b""):
-        """A command that must be refused: with its file, number and words on standard error, and nothing else."""
+    def refused(self, what, words, refusal, place=0, given=b"", of=None):
+        """A command that must be refused: with its file, number and words on standard error, and nothing else. Of two files the first line names that
+        which is at fault, or both."""
         status, out, err = self.run(*words, given=given)
         self.seen[kind_of(words)].add(refusal)
         self.expect(what, (status, out), (1, b"refused %d at %d\n" % (refusal, place) if words[0] == "map" and "-o" not in words else b""))
         self.expect(what + ", its words", re.sub(rb"(?m)^found: .*\n", b"", err).count(b"\n"), 3)
-        of = words[1] + ": " if words[0] in ON_FILES else ""
-        self.expect(what + ", its number", err.split(b"\n")[0], b"recorder: %srefused %d at %d" % (of.encode(), refusal, place))
+        of = of or (words[1] if words[0] in ON_FILES else "")
+        self.expect(what + ", its number", err.split(b"\n")[0], b"recorder: %srefused %d at %d" % ((of and of + ": ").encode(), refusal, place))
 
     def fails(self, what, words, part, given=b"", **more):
         """A command that cannot do what it is asked: status 2 and some words on what to do."""
@@ -108,44 +116,58 @@ class Tool:
 def kind_of(words):
     """What a command works on."""
     if words[0] not in ON_FILES:
-        return {"line": "line", "drift": "scores"}[words[0]]
+        return {"combine": "two files", "line": "line", "drift": "scores"}[words[0]]
     with open(words[1], "rb") as file:
-        return "map file" if file.read(4) == b"RMAP" else "factor file"
+        return {b"RMAP": "map file", b"RCMB": "combined map file"}.get(file.read(4), "factor file")
 
 
-def map_text(g, n, M):
+def text_of(g, n, numbers):
+    """The text of a map with the numbers that it prints."""
     lines = ["map %d %d %d %d" % (g, *n)]
     for z in range(planes(g, n)):
         for x in range(n[0]):
-            lines.append(" ".join(str(c) for c in [z, x] + [signed(M[(x, y, z)]) for y in range(n[1])]))
+            lines.append(" ".join(str(c) for c in [z, x] + [numbers[(x, y, z)] for y in range(n[1])]))
     return ("\n".join(lines) + "\n").encode()
 
 
-def map_head(g, n, lists, version=1):
-    return b"RMAP" + bytes([version]) + file_bytes(g, n, lists, [])[5:-4]
+def map_text(g, n, M, p=P):
+    return text_of(g, n, {q: signed(x, p) for q, x in M.items()})
 
 
-def map_bytes(g, n, lists, M):
-    rows = [(x, y, z) for z in range(planes(g, n)) for x in range(n[0]) for y in range(n[1])]
-    return map_head(g, n, lists) + b"".join(M[q].to_bytes(4, "big") for q in rows)
+def map_head(g, n, lists, modulus=1, version=None):
+    return b"RMAP" + file_bytes(g, n, lists, [], modulus, version)[4:-4]
+
+
+def stored_points(g, n):
+    """The points on the stored planes by rising z, x, y."""
+    return [(x, y, z) for z in range(planes(g, n)) for x in range(n[0]) for y in range(n[1])]
+
+
+def map_bytes(g, n, lists, M, modulus=1, version=None):
+    return map_head(g, n, lists, modulus, version) + b"".join(M[q].to_bytes(4, "big") for q in stored_points(g, n))
+
+
+def combined_bytes(g, n, numbers, version=1):
+    head = b"RCMB" + bytes([version, g]) + b"".join(m.to_bytes(2, "big") for m in n)
+    return head + b"".join(numbers[q].to_bytes(8, "big", signed=True) for q in stored_points(g, n))
 
 
 def written(book):
     """The writer's file: a record for each orbit with a value other than zero, at its lowest index, rising."""
     found = []
     for j in sorted(book.F):
-        if book.F[j] != (0, 0) and j == min(i for i, _ in images(book.g, book.n, j, book.F[j])):
+        if book.F[j] != (0, 0) and j == min(i for i, _ in images(book.g, book.n, j, book.F[j], book.p)):
             found.append((*j, *book.F[j]))
-    return file_bytes(book.g, book.n, book.lists, found)
+    return file_bytes(book.g, book.n, book.lists, found, book.modulus)
 
 
 def records_text(found):
     return "".join("%d %d %d %d %d\n" % record for record in found).encode()
 
 
-def shuffled(rng, g, n, found):
+def shuffled(rng, g, n, found, p=P):
     """The same orbits in another order, each at any of its places."""
-    places = [rng.choice(images(g, n, record[:3], record[3:])) for record in found]
+    places = [rng.choice(images(g, n, record[:3], record[3:], p)) for record in found]
     rng.shuffle(places)
     return [(*j, *v) for j, v in places]
 
@@ -154,33 +176,45 @@ def shuffled(rng, g, n, found):
 
 def samples(tool):
     """The repository's samples: the map of each is brute force's, and the text beside it."""
-    folder = os.path.join(os.path.dirname(os.path.abspath(__file__)), "../samples")
     for name, count in SAMPLES:
-        path = os.path.join(folder, name + ".factors")
-        with open(path, "rb") as file, open(os.path.join(folder, name + ".map.txt"), "rb") as text:
-            contents, shown = file.read(), text.read()
+        path = os.path.join(SAMPLES_FOLDER, name + ".factors")
+        contents = open(path, "rb").read()
         book = open_file(contents, needed(contents))[2]
-        tool.expect(name + ": the sample's text", shown, map_text(book.g, book.n, book.densities()))
+        text = os.path.join(SAMPLES_FOLDER, name + ".map.txt")
+        if os.path.exists(text):
+            tool.expect(name + ": the sample's text", open(text, "rb").read(), map_text(book.g, book.n, book.densities()))
         tool.expect(name + ": the sample's form", contents, written(book))
         accepted_file(tool, random.Random(SEED), path, book, count)
 
 
+def combined_sample(tool):
+    """The repository's combined sample: its two files are brute force's, and so is the text of what they are combined to."""
+    first, second, text = (os.path.join(SAMPLES_FOLDER, "p21." + name) for name in ("factors", "second.factors", "combined.txt"))
+    contents, others, shown = (open(name, "rb").read() for name in (first, second, text))
+    tool.expect("the second sample", others, second_file(contents))
+    tool.expect("the combined sample's text", shown, combined_text(contents, others))
+    made = tool.path("sample.combined")
+    tool.expect("combine of the samples", tool.run("combine", first, second, "-o", made), (0, b"", b""))
+    tool.expect("the combined map of the samples", tool.run("map", made), (0, shown, b""))
+
+
 def accepted_file(tool, rng, path, book, count):
-    g, n = book.g, book.n
-    what = "group %d, %s" % (g, n)
+    g, n, m, p = book.g, book.n, book.modulus, book.p
+    what = "group %d, modulus %d, %s" % (g, m, n)
     F, M = dict(book.F), book.densities()
-    tool.expect(what + ": map", tool.run("map", path), (0, map_text(g, n, M), b""))
+    tool.expect(what + ": map", tool.run("map", path), (0, map_text(g, n, M, p), b""))
     tool.expect(what + ": check", tool.run("check", path), (0, b"accepted\n", b""))
-    shape = "group %d %s\nlengths %d %d %d\nlists %s\nplanes %d\nvolume %d numbers, %d bytes\n" % (
-        g, GROUPS[g], *n, " ".join(",".join(map(str, fs)) or "-" for fs in book.lists),
+    shape = "group %d %s\nmodulus %d, the prime %d\nlengths %d %d %d\nlists %s\nplanes %d\nvolume %d numbers, %d bytes\n" % (
+        g, GROUPS[g], m, p, *n, " ".join(",".join(map(str, fs)) or "-" for fs in book.lists),
         planes(g, n), volume_length(g, n), 4 * volume_length(g, n))
-    tool.expect(what + ": info", tool.run("info", path), (0, ("factor file, version 1\n" + shape + "records %d\n" % count).encode(), b""))
+    version = open(path, "rb").read()[4]
+    tool.expect(what + ": info", tool.run("info", path), (0, ("factor file, version %d\n" % version + shape + "records %d\n" % count).encode(), b""))
     made, back = tool.path("made.map"), tool.path("back")
     tool.expect(what + ": map -o", tool.run("map", path, "-o", made), (0, b"", b""))
-    tool.expect(what + ": the map file", open(made, "rb").read(), map_bytes(g, n, book.lists, M))
-    tool.expect(what + ": map of a map", tool.run("map", made), (0, map_text(g, n, M), b""))
+    tool.expect(what + ": the map file", open(made, "rb").read(), map_bytes(g, n, book.lists, M, m))
+    tool.expect(what + ": map of a map", tool.run("map", made), (0, map_text(g, n, M, p), b""))
     points = planes(g, n) * n[0] * n[1]
-    tool.expect(what + ": info of a map", tool.run("info", made), (0, ("map file, version 1\n" + shape + "densities %d\n" % points).encode(), b""))
+    tool.expect(what + ": info of a map", tool.run("info", made), (0, ("map file, version %d\n" % m + shape + "densities %d\n" % points).encode(), b""))
     tool.expect(what + ": factors", tool.run("factors", made, "-o", back), (0, b"", b""))
     tool.expect(what + ": the factor file", open(back, "rb").read(), written(book))
     tool.expect(what + ": factors of factors", tool.run("factors", path, "-o", "-"), (0, written(book), b""))
@@ -189,7 +223,7 @@ def accepted_file(tool, rng, path, book, count):
         tool.fails(what + ": %s of a map" % command, (command, made, *(["-o", tool.path("none")] if command == "rewrite" else [])), b"has no records")
     for source in (path, made):
         j = tuple(rng.randrange(m) for m in n)
-        tool.expect(what + ": point", tool.run("point", source, *j), (0, b"%d\n" % signed(M[j]), b""))
+        tool.expect(what + ": point", tool.run("point", source, *j), (0, b"%d\n" % signed(M[j], p), b""))
         tool.expect(what + ": factor", tool.run("factor", source, *j), (0, b"%d %d\n" % F[j], b""))
         tool.refused(what + ": a point outside", ("point", source, j[0], n[1], j[2]), 10)
         tool.refused(what + ": a factor outside", ("factor", source, n[0], j[1], 2 ** 40), 10)
@@ -199,9 +233,9 @@ def rewritten(tool, rng, what, path, book):
     """A file and the same one shuffled are rewritten to the writer's file, which rewriting leaves as it is; records prints what each has."""
     with open(path, "rb") as file:
         found = records_in(file.read())
-    other = shuffled(rng, book.g, book.n, found)
+    other = shuffled(rng, book.g, book.n, found, book.p)
     back, form = tool.path("back"), written(book)
-    for source, records in ((path, found), (tool.file("shuffled", file_bytes(book.g, book.n, book.lists, other)), other)):
+    for source, records in ((path, found), (tool.file("shuffled", file_bytes(book.g, book.n, book.lists, other, book.modulus)), other)):
         tool.expect(what + ": records", tool.run("records", source), (0, records_text(records), b""))
         tool.expect(what + ": rewrite", tool.run("rewrite", source, "-o", back), (0, b"", b""))
         tool.expect(what + ": the file rewritten", open(back, "rb").read(), form)
@@ -217,7 +251,7 @@ def small_grids(tool):
         refused, place, book = open_file(file, needed(file))
         path = tool.file("small", file)
         if book:
-            accepted_file(tool, rng, path, book, number(file[15 + sum(map(len, book.lists)):][:4]))
+            accepted_file(tool, rng, path, book, len(records_in(file)))
             continue
         what = "file %s" % file[:40].hex()
         tool.refused(what, ("map", path), refused, place)
@@ -238,6 +272,8 @@ def empty_cells(tool):
             tool.expect(what + ": the factor file", open(tool.path("zeros"), "rb").read(), file_bytes(g, n, lists, []))
             tool.expect(what + ": its records", tool.run("records", tool.path("zeros")), (0, b"", b""))
             tool.expect(what + ": its map", tool.run("map", tool.path("zeros"), "-o", "-"), (0, zeros, b""))
+            second = file_bytes(g, n, lists, [], 2)
+            tool.expect(what + ": modulo the second prime", tool.run("factors", tool.file("zeros", second), "-o", "-"), (0, second, b""))
 
 
 def zero_records(tool):
@@ -265,20 +301,150 @@ def zero_records(tool):
 
 
 def full_cells(tool):
-    """Map files of random densities: as many records as a grid has orbits, back and forth."""
+    """Map files of random densities modulo both primes: as many records as a grid has orbits, back and forth. In version 2 the first prime is taken
+    too, and written as version 1."""
     rng = random.Random(SEED)
     for g in range(5):
         for n in [(2, 2, 2), (2, 2, 4), (4, 2, 6), (4, 4, 4), (4, 6, 4)]:
-            by_orbit = {q: rng.randrange(P) for q in all_points(n)}
-            M = {q: by_orbit[min(point_images(g, n, q))] for q in by_orbit}
-            book = Book(g, n, [[m // 2] if m > 2 else [] for m in n])
-            book.F = read_cell(g, n, analysed(g, n, pack_map(g, n, M)))
-            what = "a full cell of group %d, %s" % (g, n)
-            path = tool.file("full.map", map_bytes(g, n, book.lists, M))
-            tool.expect(what + ": check", tool.run("check", path), (0, b"accepted\n", b""))
-            tool.expect(what + ": factors", tool.run("factors", path, "-o", tool.path("full")), (0, b"", b""))
-            tool.expect(what + ": the factor file", open(tool.path("full"), "rb").read(), written(book))
-            tool.expect(what + ": its map", tool.run("map", tool.path("full"), "-o", "-"), (0, map_bytes(g, n, book.lists, M), b""))
+            for modulus, version in ((1, 1), (1, 2), (2, 2)):
+                M = some_numbers(rng, g, n, lambda: rng.randrange(PRIMES[modulus]))
+                book = Book(g, n, some_lists(n), modulus)
+                book.F = read_cell(g, n, analysed(g, n, pack_map(g, n, M), book.p), book.p)
+                what = "a full cell of group %d, modulus %d, %s" % (g, modulus, n)
+                path = tool.file("full.map", map_bytes(g, n, book.lists, M, modulus, version))
+                tool.expect(what + ": check", tool.run("check", path), (0, b"accepted\n", b""))
+                tool.expect(what + ": its version", tool.run("info", path)[1].split(b"\n")[0], b"map file, version %d" % version)
+                tool.expect(what + ": factors", tool.run("factors", path, "-o", tool.path("full")), (0, b"", b""))
+                tool.expect(what + ": the factor file", open(tool.path("full"), "rb").read(), written(book))
+                for source in (path, tool.path("full")):
+                    tool.expect(what + ": its map", tool.run("map", source, "-o", "-"), (0, map_bytes(g, n, book.lists, M, modulus), b""))
+
+
+# ---- maps combined
+
+def some_lists(n):
+    return [[m // 2] if m > 2 else [] for m in n]
+
+
+def some_numbers(rng, g, n, drawn):
+    """A number for every point of a cell, the same at all images of a point."""
+    by_orbit = {q: drawn() for q in all_points(n)}
+    return {q: by_orbit[min(point_images(g, n, q))] for q in by_orbit}
+
+
+def residues(numbers, modulus):
+    return {q: x % PRIMES[modulus] for q, x in numbers.items()}
+
+
+def some_count(rng):
+    """A whole number that a combined map can have: near an end, near a bound of either prime's signed numbers, or any."""
+    near = rng.choice([-GREATEST, GREATEST, 0, 43199, -43200, 151199, -151200, 86399, 302399])
+    drawn = rng.choice([near + rng.randrange(-3, 4), rng.randrange(-GREATEST, GREATEST + 1), rng.randrange(-10 ** 6, 10 ** 6)])
+    return max(-GREATEST, min(GREATEST, drawn))
+
+
+def combined_file(tool, rng, what, path, g, n, numbers):
+    """What the commands print and write of a combined map file."""
+    whole = combined_bytes(g, n, numbers)
+    tool.expect(what + ": the combined map", open(path, "rb").read(), whole)
+    tool.expect(what + ": its text", tool.run("map", path), (0, text_of(g, n, numbers), b""))
+    tool.expect(what + ": it written again", tool.run("map", path, "-o", "-"), (0, whole, b""))
+    tool.expect(what + ": check", tool.run("check", path), (0, b"accepted\n", b""))
+    shape = "combined map file, version 1\ngroup %d %s\nlengths %d %d %d\nplanes %d\nvolume %d numbers, %d bytes\nnumbers %d\n" % (
+        g, GROUPS[g], *n, planes(g, n), volume_length(g, n), 8 * volume_length(g, n), planes(g, n) * n[0] * n[1])
+    tool.expect(what + ": info", tool.run("info", path), (0, shape.encode(), b""))
+    for q in [rng.choice(all_points(n)), (n[0] - 1, n[1] - 1, n[2] - 1)]:
+        tool.expect(what + ": point %s" % (q,), tool.run("point", path, *q), (0, b"%d\n" % numbers[q], b""))
+    for axis in range(3):
+        outside = [m if axis == a else m - 1 for a, m in enumerate(n)]
+        tool.refused(what + ": a point outside", ("point", path, *outside), 10)
+
+
+def combined_maps(tool):
+    """Whole numbers of all five groups, the ends of their range among them: combined from map files, from factor files and from one of each, under
+    any factor lists."""
+    rng = random.Random(SEED)
+    for g in range(5):
+        for n, lists in [((2, 2, 2), [[], [], []]), ((4, 2, 6), [[2], [], [3]]), ((2, 8, 4), [[], [2, 2], [2]]), ((6, 4, 8), [[3], [2], [4]])]:
+            numbers = some_numbers(rng, g, n, lambda: some_count(rng))
+            for end, q in ((GREATEST, (0, 0, 0)), (-GREATEST, (1, 1, 0))):
+                numbers.update({i: end for i in point_images(g, n, q)})
+            what = "group %d, %s combined" % (g, n)
+            paths = {}
+            for m in PRIMES:
+                M = residues(numbers, m)
+                paths[m, "map"] = tool.file("combine%d.map" % m, map_bytes(g, n, lists if m == 1 else some_lists(n), M, m))
+                book = Book(g, n, lists, m)
+                book.F = read_cell(g, n, analysed(g, n, pack_map(g, n, M), book.p), book.p)
+                paths[m, "factors"] = tool.file("combine%d" % m, written(book))
+            tool.expect(what + ": by brute force", {q: combined(x % PRIMES[1], x % PRIMES[2]) for q, x in list(numbers.items())[:8]},
+                        dict(list(numbers.items())[:8]))
+            made = tool.path("combined")
+            for kinds in (("map", "map"), ("factors", "factors"), ("map", "factors"), ("factors", "map")):
+                words = ("combine", paths[1, kinds[0]], paths[2, kinds[1]], "-o", made)
+                tool.expect("%s: combine of %s" % (what, kinds), tool.run(*words), (0, b"", b""))
+                tool.expect("%s: of %s" % (what, kinds), open(made, "rb").read(), combined_bytes(g, n, numbers))
+            combined_file(tool, rng, what, made, g, n, numbers)
+            with open(paths[2, "map"], "rb") as given:
+                words = ("combine", paths[1, "map"], "-", "-o", "-")
+                tool.expect(what + ": by streams", tool.run(*words, stdin=given), (0, combined_bytes(g, n, numbers), b""))
+    small = some_numbers(rng, 4, (4, 4, 4), lambda: rng.randrange(-43199, 43200))
+    texts = [tool.run("map", tool.file("small%d" % m, map_bytes(4, (4, 4, 4), some_lists((4, 4, 4)), residues(small, m), m)))[1] for m in PRIMES]
+    tool.run("combine", tool.path("small1"), tool.path("small2"), "-o", tool.path("small3"))
+    tool.expect("small numbers are the same in all three maps", texts + [tool.run("map", tool.path("small3"))[1]], [text_of(4, (4, 4, 4), small)] * 3)
+
+
+def refused_pairs(tool):
+    """Two files that are not to be combined, and combined map files that are none."""
+    n = (4, 4, 4)
+    heads = {name: (g, lengths, m) for name, g, lengths, m in (("first", 1, n, 1), ("second", 1, n, 2), ("group", 4, n, 2), ("n1", 1, (2, 4, 4), 2),
+                                                              ("n2", 1, (4, 6, 4), 2), ("n3", 1, (4, 4, 8), 2), ("large", 0, (8, 8, 8), 1))}
+    path = {name: tool.file(name, file_bytes(g, lengths, some_lists(lengths), [(0, 0, 0, 1, 0)], m)) for name, (g, lengths, m) in heads.items()}
+    none = tool.path("none")
+    for names in (("first", "group"), ("first", "n1"), ("first", "n2"), ("first", "n3"), ("large", "second"), ("second", "first"), ("first", "first"),
+                  ("second", "second"), ("group", "n1")):
+        first, second = (path[name] for name in names)
+        tool.refused("combine of %s and %s" % names, ("combine", first, second, "-o", none), 27, of="%s and %s" % (first, second))
+    status, _, err = tool.run("combine", path["second"], path["first"], "-o", none)
+    head = "group 1 (P2_1), lengths 4 4 4, modulus %d, lists 2 2 2"
+    tool.expect("what 27 says", (status, err.decode().split("\n")[2]), (1, "found: " + head % 2 + "; and " + head % 1))
+    M = {q: 5 for q in all_points(n)}
+    faults = [("records", file_bytes(1, n, some_lists(n), [(0, 0, 1, 5, 7)], 2), 12), ("cut", file_bytes(1, n, some_lists(n), [], 2)[:-1], 15),
+              ("modulus", file_bytes(1, n, some_lists(n), [], 3, 2), 26), ("numbers", map_bytes(1, n, some_lists(n), {**M, (3, 3, 1): PRIMES[2]}, 2), 7),
+              ("images", map_bytes(3, n, some_lists(n), {**M, (1, 0, 0): 6}, 2), 14)]
+    for name, contents, refusal in faults:
+        bad = tool.file(name, contents)
+        tool.refused("combine of a file and %s" % name, ("combine", path["first"], bad, "-o", none), refusal, of=bad)
+        tool.refused("combine of %s and a file" % name, ("combine", bad, path["second"], "-o", none), refusal, of=bad)
+    whole = combined_bytes(1, n, {q: -x for q, x in M.items()})
+    made = tool.file("combined", whole)
+    for words in (("factors", made, "-o", none), ("factor", made, 0, 0, 0), ("rewrite", made, "-o", none), ("records", made), ("faults", made),
+                  ("combine", made, path["second"], "-o", none), ("combine", path["first"], made, "-o", none)):
+        tool.fails("%s of a combined map" % words[0], words, b"%s is a combined map file, which has no records and no factors" % made.encode())
+    for length in range(4, len(whole), 7):
+        tool.refused("a combined map cut at %d" % length, ("map", tool.file("cut", whole[:length])), 15)
+    tool.refused("a longer combined map", ("point", tool.file("cut", whole + b"x"), 0, 0, 0), 15)
+    for version in (0, 2):
+        tool.refused("a combined map of version %d" % version, ("info", tool.file("cut", whole[:4] + bytes([version]) + whole[5:])), 16)
+    for g, lengths, refusal in ((5, n, 8), (0, (4, 7, 4), 3), (0, (0, 4, 4), 3), (1, (4, 4, 14), 3), (0, (288, 288, 288), 9), (2, (2880, 2880, 2880), 9)):
+        head = tool.file("cut", b"RCMB" + bytes([1, g]) + b"".join(m.to_bytes(2, "big") for m in lengths) + bytes(64))
+        for words in (("info", head), ("map", head), ("map", head, "-o", none), ("point", head, 0, 0, 0)):
+            tool.refused("a combined map of group %d, %s" % (g, lengths), words, refusal)
+    for x in (GREATEST + 1, -GREATEST - 1, 2 ** 63 - 1, -2 ** 63):
+        beyond = tool.file("cut", combined_bytes(1, n, {**M, (1, 2, 1): x, (3, 3, 1): x}))
+        tool.refused("a number of %d" % x, ("map", beyond), 28)
+        status, out, _ = tool.run("check", beyond)
+        tool.expect("its place", (status, b"found: number %d at x 1, y 2, z 1\n" % x in out), (1, True))
+        tool.refused("a longer one too", ("map", tool.file("cut", open(beyond, "rb").read() + b"x")), 15)
+    for g, change in ((3, 1), (3, PRIMES[2]), (4, 1), (4, -PRIMES[2]), (2, 0)):
+        numbers = {q: 7 for q in all_points(n)}
+        numbers[(1, 1, 0)] += change
+        apart = tool.file("cut", combined_bytes(g, n, numbers))
+        if change:
+            tool.refused("images that differ by %d" % change, ("point", apart, 0, 0, 0), 14)
+        else:
+            tool.expect("images that do not differ", tool.run("point", apart, 1, 1, 0), (0, b"7\n", b""))
+    tool.expect("refused commands write no file", os.path.exists(none), False)
 
 
 # ---- refusals
@@ -342,13 +508,24 @@ def refused_headers(tool):
                                  (0, (8, 8, 8), [[4], [4], [1, 4]], 4), (0, (8, 8, 8), [[4], [2], [4]], 5), (0, (2, 2, 4), [[], [], []], 5),
                                  (0, (2, 2, 2), [[], [2] * 255, []], 5), (0, (288, 288, 288), [[4, 4, 3, 3]] * 3, 9),
                                  (2, (2880, 2880, 2880), [[5, 4, 4, 3, 3, 2]] * 3, 9), (4, (360, 360, 288), [[5, 4, 3, 3]] * 2 + [[4, 4, 3, 3]], 9)]:
-        what = "header %d %s %s" % (g, n, lists)
-        factors = tool.file("factors", file_bytes(g, n, lists, [(0, 0, 0, 1, 0)]))
-        empty = tool.file("no_records", file_bytes(g, n, lists, []))
-        densities = tool.file("densities", map_head(g, n, lists) + bytes(64))
-        for path in (factors, empty, densities):
-            for words in (("map", path), ("info", path), ("factors", path, "-o", tool.path("none")), ("factor", path, 0, 0, 0)):
-                tool.refused(what, words, refusal)
+        for modulus in PRIMES:
+            refused_header(tool, g, n, lists, modulus, modulus, refusal)
+    for modulus in (0, 3, 255):
+        refused_header(tool, 0, (2, 2, 2), [[], [], []], modulus, 2, 26)
+        refused_header(tool, 4, (2, 0, 2), [[], [7], []], modulus, 2, 26)
+        refused_header(tool, 5, (2, 2, 2), [[], [], []], modulus, 2, 8)
+    for version in (0, 3, 255):
+        refused_header(tool, 5, (2, 2, 2), [[], [], []], 3, version, 16)
+
+
+def refused_header(tool, g, n, lists, modulus, version, refusal):
+    what = "header %d %s %s, modulus %d" % (g, n, lists, modulus)
+    factors = tool.file("factors", file_bytes(g, n, lists, [(0, 0, 0, 1, 0)], modulus, version))
+    empty = tool.file("no_records", file_bytes(g, n, lists, [], modulus, version))
+    densities = tool.file("densities", map_head(g, n, lists, modulus, version) + bytes(64))
+    for path in (factors, empty, densities):
+        for words in (("map", path), ("info", path), ("factors", path, "-o", tool.path("none")), ("factor", path, 0, 0, 0)):
+            tool.refused(what, words, refusal)
 
 
 def refused_maps(tool):
@@ -361,10 +538,16 @@ def refused_maps(tool):
     for length in range(4, len(whole)):
         tool.refused("a map cut at %d" % length, ("map", tool.file("maps", whole[:length])), 15)
     tool.refused("a longer map", ("map", tool.file("maps", whole + b"x")), 15)
-    tool.refused("version 2", ("map", tool.file("maps", map_head(0, n, lists, 2) + whole[16:])), 16)
-    tool.refused("a map of 86,399", ("factors", tool.file("maps", whole[:-4] + P.to_bytes(4, "big")), "-o", tool.path("none")), 7)
-    status, out, _ = tool.run("check", path)
-    tool.expect("its place", (status, b"found: density 86399 at x 1, y 3, z 1\n" in out), (1, True))
+    tool.refused("version 3", ("map", tool.file("maps", map_head(0, n, lists, 1, 3) + whole[16:])), 16)
+    for modulus, p in PRIMES.items():
+        part = map_bytes(0, n, lists, M, modulus)[:-4]
+        tool.refused("a map of %d" % p, ("factors", tool.file("maps", part + p.to_bytes(4, "big")), "-o", tool.path("none")), 7)
+        status, out, _ = tool.run("check", path)
+        tool.expect("its place", (status, b"found: density %d at x 1, y 3, z 1\n" % p in out), (1, True))
+        tool.expect("a map of one less", tool.run("point", tool.file("maps", part + (p - 1).to_bytes(4, "big")), 1, 3, 1), (0, b"-1\n", b""))
+    second = map_bytes(0, n, lists, M, 2)
+    for length in range(4, len(second)):
+        tool.refused("a map of version 2 cut at %d" % length, ("map", tool.file("maps", second[:length])), 15)
     for g in (3, 4):
         tool.refused("a map that is not one of %s" % GROUPS[g], ("map", tool.file("maps", map_bytes(g, n, lists, M))), 14)
     tool.expect("refused commands write no file", os.path.exists(tool.path("none")), False)
@@ -372,7 +555,7 @@ def refused_maps(tool):
 
 # ---- lines
 
-def unpacked(kind, n, line):
+def unpacked(kind, n, line, p):
     """A line's n values from its packed half before the transform."""
     pair = list(zip(line[0::2], line[1::2]))
     half = n // 2
@@ -388,16 +571,16 @@ def unpacked(kind, n, line):
     for t in range(half + 1, n):
         a, b = X[n - t]
         sign = [1, 1, -1, (-1) ** t, 1, -1][kind]
-        X.append((sign * a % P, sign * (b if kind > 3 else -b) % P))
+        X.append((sign * a % p, sign * (b if kind > 3 else -b) % p))
     return X
 
 
-def packed_sums(kind, n, X):
+def packed_sums(kind, n, X, p):
     """The packed result: direct sums over the whole line."""
     sums = []
     for s in range(n):
-        terms = [(x, e(t * s, n)) for t, x in enumerate(X)]
-        sums.append((sum(x[0] * w[0] - x[1] * w[1] for x, w in terms) % P, sum(x[0] * w[1] + x[1] * w[0] for x, w in terms) % P))
+        terms = [(x, e(t * s, n, p)) for t, x in enumerate(X)]
+        sums.append((sum(x[0] * w[0] - x[1] * w[1] for x, w in terms) % p, sum(x[0] * w[1] + x[1] * w[0] for x, w in terms) % p))
     if kind in (1, 2):
         return [x[kind - 1] for x in sums]
     part = {0: sums, 3: sums[:n // 2], 4: sums[:n // 2 + 1], 5: sums[1:n // 2]}[kind]
@@ -408,16 +591,19 @@ def lines(tool):
     rng = random.Random(SEED)
     for kind in range(6):
         for n, fs in [(2, "-"), (4, "2"), (6, "3"), (12, "2,3"), (16, "2,4"), (20, "5,2"), (24, "3,4"), (30, "5,3")]:
-            line = [rng.randrange(P) for _ in range([2 * n, n, n, n, n + 2, n - 2][kind])]
-            after = packed_sums(kind, n, unpacked(kind, n, line))
-            said = [(" ".join(map(str, numbers)) + "\n").encode() for numbers in (line, after)]
-            what = "line of kind %d, %d values" % (kind, n)
-            tool.expect(what, tool.run("line", kind, 0, n, fs, given=said[0]), (0, said[1], b""))
-            tool.expect(what + ", inverse", tool.run("line", kind, 1, n, fs, given=said[1].replace(b" ", b"\n\t")), (0, said[0], b""))
+            for more, p in (((), P), (("--modulus", 1), P), (("--modulus", 2), PRIMES[2])):
+                line = [rng.randrange(p) for _ in range([2 * n, n, n, n, n + 2, n - 2][kind])]
+                after = packed_sums(kind, n, unpacked(kind, n, line, p), p)
+                said = [(" ".join(map(str, numbers)) + "\n").encode() for numbers in (line, after)]
+                what = "line of kind %d, %d values, modulo %d" % (kind, n, p)
+                tool.expect(what, tool.run("line", kind, 0, n, fs, *more, given=said[0]), (0, said[1], b""))
+                tool.expect(what + ", inverse", tool.run("line", kind, 1, n, fs, *more, given=said[1].replace(b" ", b"\n\t")), (0, said[0], b""))
     for words, given, refusal in [((6, 2, 3, 9), b"1", 1), ((2 ** 32 + 1, 0, 4, 2), b"1 2 3 4", 1), ((1, 2, 14, 9), b"1", 2), ((1, 0, 14, 7), b"1", 3),
                                   ((1, 0, 0, "-"), b"", 3), ((1, 0, 5760, 2), b"", 3), ((1, 0, 8, 6), b"1", 4), ((1, 0, 8, "258,2"), b"1", 4),
                                   ((1, 0, 8, 2), b"1", 5), ((1, 0, 4, 2), b"1 2 86399", 6), ((1, 0, 4, 2), b"1 2 3 4 5", 6),
-                                  ((1, 0, 4, 2), b"1 2 3 86399", 7), ((1, 0, 4, 2), b"1 2 3 99999999999", 7)]:
+                                  ((1, 0, 4, 2), b"1 2 3 86399", 7), ((1, 0, 4, 2), b"1 2 3 99999999999", 7),
+                                  ((1, 0, 4, 2, "--modulus", 2), b"1 2 3 302399", 7), ((6, 2, 3, 9, "--modulus", 0), b"1", 26),
+                                  ((1, 0, 4, 2, "--modulus", 3), b"1 2 3 4", 26), (("--modulus", 2 ** 32 + 1, 1, 0, 4, 2), b"1 2 3 4", 26)]:
         tool.refused("line %s" % (words,), ("line", *words), refusal, given=given)
     for part, status in ((b"1 2 3 4 ", 1), (b"\n", 2), (b"1", 2)):
         got = tool.run_endless(part, "line", 1, 0, 4, 2)
@@ -486,6 +672,9 @@ def command_line(tool):
                   ("check", path, "-o", "x"), ("records", path, "-o", "x"), ("faults", path, "-o", "x"),
                   ("rewrite", path, "-o", tool.path("none"), "--times"), ("map", path, "-o", tool.path("none"), "-o", tool.path("none")),
                   ("info", path, "--times"), ("point", path, 1, 2), ("point", path, 1, 2, "z"), ("factor", path, 1, 2, "-3"), ("line", 1, 0, 4, "2;3"),
+                  ("combine", path, path), ("combine", path, "-o", "x"), ("combine", path, path, path, "-o", "x"), ("combine", "-", "-", "-o", "x"),
+                  ("combine", path, path, "-o", tool.path("none"), "--times"), ("map", path, "--modulus", 2), ("line", 1, 0, 4, 2, "--modulus"),
+                  ("line", 1, 0, 4, 2, "--modulus", "x"), ("line", 1, 0, 4, 2, "--modulus", 1, "--modulus", 1),
                   ("drift",), ("drift", "x"), ("drift", "-2"), ("drift", 2, "a", "b"), ("drift", 2, "-o", "x"), ("drift", 2, "--times"), ("map", path, "--csv")):
         tool.fails("usage %s" % (words,), words, b"--help")
     status, out, err = tool.run("map", path, "--times")
@@ -501,6 +690,12 @@ def files_and_streams(tool):
         more = ["-o", tool.path("none")] if name in ("factors", "rewrite") else [0, 0, 0] if name in ("point", "factor") else []
         tool.fails(name + " of a missing file", (name, tool.path("missing"), *more), b"check its name and folder")
         tool.fails(name + " of a folder", (name, tool.folder, *more), b"name a file in it")
+        if name in ON_COMBINED:
+            made = tool.file("sound.combined", combined_bytes(0, (2, 2, 2), {q: -1 for q in all_points((2, 2, 2))}))
+            want = tool.run(name, made, *more)
+            tool.expect(name + " of a combined map by a stream", (want[0], tool.run(name, "-", *more, given=open(made, "rb").read())), (0, want))
+    for files in ((path, tool.path("missing")), (tool.path("missing"), path)):
+        tool.fails("combine of a missing file", ("combine", *files, "-o", tool.path("none")), b"check its name and folder")
     tool.fails("a folder that is not there", ("map", path, "-o", tool.path("no/where")), b"make its folder first")
     tool.fails("a folder as output", ("map", path, "-o", tool.folder), b"name a file in it")
     tool.fails("a full disk", ("map", path, "-o", "/dev/full"), b"make room")
@@ -514,7 +709,7 @@ def files_and_streams(tool):
 
 def too_long(tool):
     """Files that go on beyond what any factor file has: of a count that allows it, and of one that does not."""
-    most = 4 + 8 + 3 * 256 + 4 + 14 * LIMIT
+    most = 4 + 9 + 3 * 256 + 4 + 14 * LIMIT
     for length in (2 ** 32 - 5, most - 3):
         path = tool.file("long", length.to_bytes(4, "big"))
         os.truncate(path, 4 + length)
@@ -540,6 +735,9 @@ def one_file(tool):
     for name in ("file", "link", "other", "../one/./file"):
         for command in ("map", "factors", "rewrite"):
             tool.fails("%s to its own file as %s" % (command, name), (command, path, "-o", os.path.join(folder, name)), b"%s is the file to read and" % path.encode())
+        for files in ((path, tool.path("sound")), (tool.path("sound"), path)):
+            words = ("combine", *files, "-o", os.path.join(folder, name))
+            tool.fails("combine to its own file as %s" % name, words, b"%s is the file to read and" % path.encode())
     with open(path, "rb") as given:
         tool.fails("standard input's own file", ("map", "-", "-o", path), b"standard input is the file to read and", stdin=given)
     with open(path, "ab") as out:
@@ -588,32 +786,33 @@ def closed_pipe(tool):
 
 # ---- large grids
 
-def large_file(rng, g, n, lists):
+def large_file(rng, g, n, lists, modulus=1):
     """A file as the writer writes it: the lowest index of each orbit, rising."""
+    p = PRIMES[modulus]
     found = {}
     while len(found) < RECORDS:
         j = tuple(rng.randrange(m) for m in n)
-        v = (rng.randrange(1, P), rng.randrange(P))
-        orbit = images(g, n, j, v)
+        v = (rng.randrange(1, p), rng.randrange(p))
+        orbit = images(g, n, j, v, p)
         if all(i != j or w == v for i, w in orbit):
             lowest, value = min(orbit)
             found[lowest] = value
-    return found, file_bytes(g, n, lists, [(*j, *found[j]) for j in sorted(found)])
+    return found, file_bytes(g, n, lists, [(*j, *found[j]) for j in sorted(found)], modulus)
 
 
-def direct_density(g, n, found, q):
+def direct_density(g, n, found, q, p=P):
     """The triple sum at a point over every factor that the records imply."""
     total = 0
     for j, v in found.items():
-        for i, w in set(images(g, n, j, v)):
-            root = ROOT[sum(2880 // m * a * b for a, b, m in zip(i, q, n)) % 2880]
+        for i, w in set(images(g, n, j, v, p)):
+            root = ROOTS[p][sum(2880 // m * a * b for a, b, m in zip(i, q, n)) % 2880]
             total += w[0] * root[0] - w[1] * root[1]
-    return total % P
+    return total % p
 
 
-def bounded(volume):
-    """Room for the volume and 24 megabytes beside it: program, file, scratch and buffers."""
-    return lambda: resource.setrlimit(resource.RLIMIT_AS, (4 * volume + 24 * 2 ** 20,) * 2)
+def bounded(volume, each=4):
+    """Room for the volume, of so many bytes each number, and 24 megabytes beside it: program, file, scratch and buffers."""
+    return lambda: resource.setrlimit(resource.RLIMIT_AS, (each * volume + 24 * 2 ** 20,) * 2)
 
 
 def large_grids(tool):
@@ -634,7 +833,26 @@ def large_grids(tool):
                 q = tuple(rng.randrange(m) for m in (*n[:2], planes(g, n)))
                 densities.seek(len(map_head(g, n, [fs] * 3)) + 4 * ((q[2] * length + q[0]) * length + q[1]))
                 tool.expect(what + ": the density at %s" % (q,), number(densities.read(4)), direct_density(g, n, found, q))
+    large_combined(tool, rng, g, n, [fs] * 3, found)
     tool.fails("no memory", ("map", tool.path("large0")), b"no memory", preexec_fn=bounded(0))
+
+
+def large_combined(tool, rng, g, n, lists, found):
+    """The last large file and one for the second prime: there and back, combined, and read at some points."""
+    others, contents = large_file(rng, g, n, lists, 2)
+    path, made, back, what = tool.file("large.second", contents), tool.path("large.combined"), tool.path("large.back"), "group %d combined" % g
+    volume = volume_length(g, n)
+    tool.expect(what + ": there", tool.run("map", path, "-o", tool.path("large.second.map"), preexec_fn=bounded(volume)), (0, b"", b""))
+    tool.expect(what + ": and back", tool.run("factors", tool.path("large.second.map"), "-o", back, preexec_fn=bounded(volume)), (0, b"", b""))
+    tool.expect(what + ": the same file", filecmp.cmp(path, back, shallow=False), True)
+    words = ("combine", tool.path("large%d" % g), tool.path("large.second.map"), "-o", made)
+    tool.expect(what, tool.run(*words, preexec_fn=bounded(volume, 16)), (0, b"", b""))
+    tool.expect(what + ": written again", tool.run("map", made, "-o", back, preexec_fn=bounded(volume, 8)), (0, b"", b""))
+    tool.expect(what + ": the same", filecmp.cmp(made, back, shallow=False), True)
+    for _ in range(4):
+        q = tuple(rng.randrange(m) for m in n)
+        number = combined(direct_density(g, n, found, q), direct_density(g, n, others, q, PRIMES[2]))
+        tool.expect(what + ": at %s" % (q,), tool.run("point", made, *q, preexec_fn=bounded(volume, 8)), (0, b"%d\n" % number, b""))
 
 
 def named_pipe(tool):
@@ -703,9 +921,9 @@ def progress(tool):
 def main():
     with tempfile.TemporaryDirectory() as folder:
         tool = Tool(os.path.abspath(sys.argv[1]), folder)
-        for part in (samples, small_grids, empty_cells, zero_records, full_cells, records_at_fault, refused_records, refused_headers, refused_maps,
-                     lines, drift, command_line, files_and_streams, too_long, one_file, replaced, large_grids, closed_pipe, named_pipe,
-                     ended_by_signals, progress):
+        for part in (samples, combined_sample, small_grids, empty_cells, zero_records, full_cells, combined_maps, refused_pairs, records_at_fault,
+                     refused_records, refused_headers, refused_maps, lines, drift, command_line, files_and_streams, too_long, one_file, replaced,
+                     large_grids, closed_pipe, named_pipe, ended_by_signals, progress):
             part(tool)
         tool.expect("the refusals", tool.seen, REFUSALS)
     print("%d comparisons agree, %d do not" % (tool.agreed, tool.wrong))

@@ -7,6 +7,7 @@ use std::ffi::{OsStr, OsString};
 pub struct Given {
     pub words: Vec<OsString>,
     pub output: Option<OsString>,
+    pub modulus: Option<u32>,
     pub times: bool,
     pub csv: bool,
     pub help: bool,
@@ -26,6 +27,12 @@ impl Given {
                     let output = arguments.next().ok_or_else(|| Failure::Usage("-o needs the name of a file".into()))?;
                     if given.output.replace(output).is_some() {
                         return Err(Failure::Usage("-o is given twice; name one file to write".into()));
+                    }
+                }
+                Some("--modulus") => {
+                    let word = arguments.next().ok_or_else(|| Failure::Usage("--modulus needs a number".into()))?;
+                    if given.modulus.replace(number(&word.to_string_lossy())?).is_some() {
+                        return Err(Failure::Usage("--modulus is given twice; name one".into()));
                     }
                 }
                 Some(text) if text.len() > 1 && text.starts_with('-') => {

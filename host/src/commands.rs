@@ -1,12 +1,13 @@
 //! The commands. Each reads its input, makes the proved calls and writes the result.
 use crate::arguments::{self, Given};
+use crate::combined_map;
 use crate::drift;
 use crate::factor_file;
 use crate::failure::{shown, Failure};
 use crate::ffi::{GridPoint, Reflection};
-use crate::header::{list_text, Header};
+use crate::header::{list_text, Cell, Header};
 use crate::help;
-use crate::input::{self, Entry};
+use crate::input::{self, Entry, Held};
 use crate::map_file;
 use crate::output;
 use crate::progress::{during, during_output};
@@ -24,9 +25,10 @@ struct Command {
 }
 
 const FILE: &str = "FILE";
-const COMMANDS: [Command; 11] = [
+const COMMANDS: [Command; 12] = [
     Command { name: "map", words: &[FILE], help: help::MAP, run: map },
     Command { name: "factors", words: &[FILE], help: help::FACTORS, run: factors },
+    Command { name: "combine", words: &["FILE1", "FILE2"], help: help::COMBINE, run: combine },
     Command { name: "rewrite", words: &[FILE], help: help::REWRITE, run: rewrite },
     Command { name: "records", words: &[FILE], help: help::RECORDS, run: records },
     Command { name: "check", words: &[FILE], help: help::CHECK, run: check },
@@ -49,7 +51,7 @@ pub fn run(mut arguments: impl Iterator<Item = OsString>) -> Result<(), Failure>
         (_, Some(command)) => {
             fit(command, &given)?;
             (command.run)(&given).map_err(|failure| match command.words[0] {
-                FILE => Failure::Of(given.words[0].clone(), Box::new(failure)),
+                FILE => failure.of(shown(&given.words[0])),
                 _ => failure,
             })
         }
@@ -59,7 +61,7 @@ pub fn run(mut arguments: impl Iterator<Item = OsString>) -> Result<(), Failure>
 /// Whether a command was given the words and options that it takes.
 fn fit(command: &Command, given: &Given) -> Result<(), Failure> {
     let (name, words) = (command.name, command.words);
-    let writes = matches!(name, "map" | "factors" | "rewrite");
+    let writes = matches!(name, "map" | "factors" | "combine" | "rewrite");
     let least = words.iter().filter(|word| !word.starts_with('[')).count();
     if !(least..=words.len()).contains(&given.words.len()) {
         return Err(Failure::Usage(format!("{name} takes {}, not {} words", words.join(" "), given.words.len())));
@@ -73,29 +75,38 @@ fn fit(command: &Command, given: &Given) -> Result<(), Failure> {
     if given.csv && name != "drift" {
         return Err(Failure::Usage(format!("{name} takes no --csv")));
     }
-    if writes && output::is_input(given.output(), &given.words[0]) {
-        return Err(Failure::Usage(format!("{} is the file to read and the file to write; name another file to write", shown(&given.words[0]))));
+    if given.modulus.is_some() && name != "line" {
+        return Err(Failure::Usage(format!("{name} takes no --modulus")));
+    }
+    let inputs = if writes { &given.words[..] } else { &[] };
+    if let Some(input) = inputs.iter().find(|input| output::is_input(given.output(), input)) {
+        return Err(Failure::Usage(format!("{} is the file to read and the file to write; name another file to write", shown(input))));
     }
     Ok(())
 }
 
 fn map(given: &Given) -> Result<(), Failure> {
     let mut times = Times::start();
-    let held = input::open(&given.words[0]).and_then(|recorder| {
+    let held = input::held(&given.words[0]).and_then(|held| {
         times.took("reading");
-        with_map(recorder)
+        match held {
+            Held::Job(recorder) => with_map(recorder).map(Held::Job),
+            combined => Ok(combined),
+        }
     });
     if let (Err(Failure::Refused(refusal)), None) = (&held, given.output()) {
         output::print_even_unread(&(refusal.line() + "\n"))?;
     }
-    let recorder = held?;
+    let held = held?;
     times.took("synthesis");
     let to = given.output();
     let target = output::open(to)?;
     during_output(output::is_standard(to), "writing", |told| {
-        target.write(|mut out| match to {
-            None => text::write(&recorder, &mut out, told),
-            Some(_) => map_file::write(&recorder, &mut out, told),
+        target.write(|mut out| match (&held, to) {
+            (Held::Job(recorder), None) => text::write(&recorder.header.cell, recorder.signed_rows(), &mut out, told),
+            (Held::Job(recorder), Some(_)) => map_file::write(recorder, &mut out, told),
+            (Held::Combined(map), None) => text::write(&map.cell, map.rows(), &mut out, told),
+            (Held::Combined(map), Some(_)) => combined_map::write(&map.cell, map.rows(), &mut out, told),
         })
     })?;
     times.took("writing");
@@ -107,7 +118,24 @@ fn map(given: &Given) -> Result<(), Failure> {
 
 fn factors(given: &Given) -> Result<(), Failure> {
     let to = target("factors", given)?;
-    write_factor_file(&with_factors(input::open(&given.words[0])?)?, to)
+    write_factor_file(&with_factors(input::job(&given.words[0])?)?, to)
+}
+
+/// Both maps are held at once, with the room for what they give: whether they are of one cell, and in the order of the primes, the proved call
+/// says.
+fn combine(given: &Given) -> Result<(), Failure> {
+    let to = target("combine", given)?;
+    if given.words.iter().all(|name| name == "-") {
+        return Err(Failure::Usage("standard input can be one of the two files, not both".into()));
+    }
+    let names = [shown(&given.words[0]), shown(&given.words[1])];
+    let map = |at: usize| input::job(&given.words[at]).and_then(with_map).map_err(|failure| failure.of(names[at].clone()));
+    let (first, second) = (map(0)?, map(1)?);
+    let combined = during("combining", |_| recorder::combined(&first, &second)).map_err(|failure| failure.of(names.join(" and ")))?;
+    let cell = &first.header.cell;
+    let rows = recorder::rows(cell, &combined).map(|row| row.iter().copied());
+    let target = output::open(Some(to))?;
+    during_output(output::is_standard(Some(to)), "writing", |told| target.write(|mut out| combined_map::write(cell, rows, &mut out, told)))
 }
 
 fn rewrite(given: &Given) -> Result<(), Failure> {
@@ -138,7 +166,7 @@ fn write_factor_file(recorder: &Recorder, to: &OsStr) -> Result<(), Failure> {
 }
 
 fn check(given: &Given) -> Result<(), Failure> {
-    match input::open(&given.words[0]) {
+    match input::held(&given.words[0]) {
         Ok(_) => output::print("accepted\n"),
         Err(Failure::Refused(refusal)) => {
             output::print_even_unread(&format!("{}\n{}", refusal.line(), refusal.explained()))?;
@@ -169,35 +197,48 @@ fn info(given: &Given) -> Result<(), Failure> {
         }
         Entry::Map(mut rest) => {
             let header = map_file::read_header(name, &mut rest)?;
-            described("map file", &header) + &format!("densities {}\n", header.densities())
+            described("map file", &header) + &format!("densities {}\n", header.cell.densities())
+        }
+        Entry::Combined(mut rest) => {
+            let cell = combined_map::read_cell(name, &mut rest)?;
+            format!("combined map file, version 1\n{}{}numbers {}\n", cell_lines(&cell, ""), volume_lines(&cell, 8), cell.densities())
         }
     };
     output::print(&text)
 }
 
 fn described(kind: &str, header: &Header) -> String {
-    let [n1, n2, n3] = header.lengths;
     let [f1, f2, f3] = header.lists.each_ref().map(|list| list_text(list));
-    let numbers = header.volume_length();
-    format!(
-        "{kind}, version {}\ngroup {} {}\nlengths {n1} {n2} {n3}\nlists {f1} {f2} {f3}\nplanes {}\nvolume {numbers} numbers, {} bytes\n",
-        header.version,
-        header.group,
-        header.group_name(),
-        header.planes(),
-        4 * numbers
-    )
+    let modulus = format!("modulus {}, the prime {}\n", header.modulus, header.prime());
+    let (cell, volume) = (cell_lines(&header.cell, &modulus), volume_lines(&header.cell, 4));
+    format!("{kind}, version {}\n{cell}lists {f1} {f2} {f3}\n{volume}", header.version)
+}
+
+/// Group and lengths, and a line between them.
+fn cell_lines(cell: &Cell, between: &str) -> String {
+    let [n1, n2, n3] = cell.lengths;
+    format!("group {} {}\n{between}lengths {n1} {n2} {n3}\n", cell.group, cell.group_name())
+}
+
+/// Stored planes, and the volume with so many bytes for each of its numbers.
+fn volume_lines(cell: &Cell, bytes: usize) -> String {
+    let numbers = cell.volume_length();
+    format!("planes {}\nvolume {numbers} numbers, {} bytes\n", cell.planes(), bytes * numbers)
 }
 
 fn point(given: &Given) -> Result<(), Failure> {
     let [x, y, z] = given.indices(1)?;
-    let recorder = with_map(input::open(&given.words[0])?)?;
-    output::print(&format!("{}\n", recorder.point(GridPoint { x, y, z })?))
+    let at = GridPoint { x, y, z };
+    let number = match input::held(&given.words[0])? {
+        Held::Job(recorder) => i64::from(with_map(recorder)?.point(at)?),
+        Held::Combined(map) => map.point(at)?,
+    };
+    output::print(&format!("{number}\n"))
 }
 
 fn factor(given: &Given) -> Result<(), Failure> {
     let [h, k, l] = given.indices(1)?;
-    let recorder = with_factors(input::open(&given.words[0])?)?;
+    let recorder = with_factors(input::job(&given.words[0])?)?;
     let (a, b) = recorder.factor(Reflection { h, k, l })?;
     output::print(&format!("{a} {b}\n"))
 }
@@ -206,7 +247,7 @@ fn line(given: &Given) -> Result<(), Failure> {
     let [kind, direction, length] = given.indices(0)?;
     let list = arguments::list(&given.words[3])?;
     let mut numbers = input::line()?;
-    recorder::line(kind, direction, length, &list, &mut numbers)?;
+    recorder::line(given.modulus.unwrap_or(1), kind, direction, length, &list, &mut numbers)?;
     output::open(None)?.write(|mut out| text::write_numbers(&numbers, &mut out))
 }
 

@@ -8,7 +8,7 @@ const COUNT: usize = 4;
 const RECORD: usize = 14;
 /// No accepted file has a greater count of bytes: its header has three lists of at most 255 factors, and no two of its records are of one orbit,
 /// each of which has a place of its own in the volume of at most 16,777,216 numbers.
-pub const MOST_COUNT: u64 = 8 + 3 * 256 + 4 + 14 * 16_777_216;
+pub const MOST_COUNT: u64 = 9 + 3 * 256 + 4 + 14 * 16_777_216;
 
 /// The length of the file with a header and a count of records.
 pub fn length(header: &Header, records: usize) -> usize {

@@ -1,8 +1,8 @@
 //! Why a command ends without its result, what it says then on standard error, and its exit status.
 use crate::words::Refusal;
-use std::ffi::{OsStr, OsString};
+use std::ffi::OsStr;
 use std::fmt::Display;
-use std::io;
+use std::io::{self, ErrorKind};
 use std::path::Path;
 
 pub enum Failure {
@@ -18,8 +18,8 @@ pub enum Failure {
     NoMemory(usize),
     /// Who read standard output has closed it: all that was wanted is written.
     Closed,
-    /// Any of these, of a command that reads the file of this name.
-    Of(OsString, Box<Failure>),
+    /// Any of these, of the input that these words name.
+    Of(String, Box<Failure>),
 }
 
 impl Failure {
@@ -32,9 +32,17 @@ impl Failure {
         }
     }
 
+    /// The failure of an input; one that is of a part of it already stays that.
+    pub fn of(self, input: String) -> Failure {
+        match self {
+            Failure::Of(..) => self,
+            failure => Failure::Of(input, Box::new(failure)),
+        }
+    }
+
     pub fn said(&self) -> String {
         match self {
-            Failure::Of(name, failure) => failure.said_of(&(shown(name) + ": ")),
+            Failure::Of(input, failure) => failure.said_of(&format!("{input}: ")),
             failure => failure.said_of(""),
         }
     }
@@ -55,10 +63,10 @@ impl Failure {
 
     pub fn unread(name: &OsStr, error: &io::Error) -> Failure {
         let advice = match error.kind() {
-            io::ErrorKind::NotFound => "check its name and folder",
-            io::ErrorKind::PermissionDenied => "ask for the right to read it",
-            io::ErrorKind::IsADirectory => "name a file in it",
-            io::ErrorKind::OutOfMemory => "close other programs",
+            ErrorKind::NotFound => "check its name and folder",
+            ErrorKind::PermissionDenied => "ask for the right to read it",
+            ErrorKind::IsADirectory => "name a file in it",
+            ErrorKind::OutOfMemory => "close other programs",
             _ => "see that it is a whole, readable file",
         };
         Failure::trouble("cannot read", name, error, advice)
@@ -66,9 +74,9 @@ impl Failure {
 
     pub fn unwritten(name: &OsStr, error: &io::Error) -> Failure {
         let advice = match error.kind() {
-            io::ErrorKind::NotFound => "make its folder first",
-            io::ErrorKind::PermissionDenied => "choose a place where you may write",
-            io::ErrorKind::IsADirectory => "name a file in it",
+            ErrorKind::NotFound => "make its folder first",
+            ErrorKind::PermissionDenied => "choose a place where you may write",
+            ErrorKind::IsADirectory => "name a file in it",
             _ => "make room or choose another place, and run again: what was there before is unchanged",
         };
         Failure::trouble("cannot write", name, error, advice)
@@ -77,7 +85,7 @@ impl Failure {
     /// Of standard output, a named pipe or a device, which get what is written at once.
     pub fn unwritten_stream(name: &OsStr, error: &io::Error) -> Failure {
         let advice = match error.kind() {
-            io::ErrorKind::BrokenPipe => "run again with a reader that reads to the end: what it has now is not whole",
+            ErrorKind::BrokenPipe => "run again with a reader that reads to the end: what it has now is not whole",
             _ => "make room or choose another place, and run again: what is there now is not whole",
         };
         Failure::trouble("cannot write", name, error, advice)
@@ -85,6 +93,14 @@ impl Failure {
 
     fn trouble(what: &str, name: &OsStr, error: &dyn Display, advice: &str) -> Failure {
         Failure::Trouble(format!("{what} {}: {error}; {advice}", shown(name)))
+    }
+}
+
+/// Of an input that ends too soon: refused, with what was found. Any other error is the system's.
+pub fn cut(name: &OsStr, error: io::Error, found: impl FnOnce() -> String) -> Failure {
+    match error.kind() {
+        ErrorKind::UnexpectedEof => Refusal::of_shape(found()).into(),
+        _ => Failure::unread(name, &error),
     }
 }
 

@@ -37,6 +37,7 @@ pub struct Axis {
 #[derive(Clone, Copy)]
 pub struct Job {
     pub group: u32,
+    pub modulus: u32,
     pub a: Axis,
     pub b: Axis,
     pub c: Axis,
@@ -86,6 +87,7 @@ pub struct FactorValue {
 extern "C" {
     fn recorder_open(
         group: u32,
+        modulus: u32,
         kind: u32,
         n1: u32,
         n2: u32,
@@ -109,7 +111,18 @@ extern "C" {
     fn recorder_analysis(job: Job, volume: *mut u32, volume_length: usize, scratch: *mut u32, scratch_length: usize) -> Answer;
     fn recorder_point(job: Job, at: GridPoint, volume: *const u32, volume_length: usize) -> Density;
     fn recorder_factor(job: Job, at: Reflection, volume: *const u32, volume_length: usize) -> FactorValue;
+    fn recorder_combine(
+        first: Job,
+        first_map: *const u32,
+        first_length: usize,
+        second: Job,
+        second_map: *const u32,
+        second_length: usize,
+        output: *mut i64,
+        output_length: usize,
+    ) -> WriteAnswer;
     fn recorder_line(
+        modulus: u32,
         kind: u32,
         direction: u32,
         length: u32,
@@ -135,11 +148,26 @@ extern "C" {
     ) -> WriteAnswer;
 }
 
-pub fn open(group: u32, kind: u32, lengths: [u32; 3], lists: [&[u8]; 3], volume: &mut [u32]) -> Answer {
+pub fn open(group: u32, modulus: u32, kind: u32, lengths: [u32; 3], lists: [&[u8]; 3], volume: &mut [u32]) -> Answer {
     let [n1, n2, n3] = lengths;
     let [f1, f2, f3] = lists;
     unsafe {
-        recorder_open(group, kind, n1, n2, n3, f1.as_ptr(), f1.len(), f2.as_ptr(), f2.len(), f3.as_ptr(), f3.len(), volume.as_mut_ptr(), volume.len())
+        recorder_open(
+            group,
+            modulus,
+            kind,
+            n1,
+            n2,
+            n3,
+            f1.as_ptr(),
+            f1.len(),
+            f2.as_ptr(),
+            f2.len(),
+            f3.as_ptr(),
+            f3.len(),
+            volume.as_mut_ptr(),
+            volume.len(),
+        )
     }
 }
 
@@ -171,8 +199,16 @@ pub fn factor(job: Job, at: Reflection, volume: &[u32]) -> FactorValue {
     unsafe { recorder_factor(job, at, volume.as_ptr(), volume.len()) }
 }
 
-pub fn line(kind: u32, direction: u32, length: u32, list: &[u8], line: &mut [u32], scratch: &mut [u32]) -> u32 {
-    unsafe { recorder_line(kind, direction, length, list.as_ptr(), list.len(), line.as_mut_ptr(), line.len(), scratch.as_mut_ptr(), scratch.len()) }
+/// Each map with its job.
+pub fn combine(first: (Job, &[u32]), second: (Job, &[u32]), output: &mut [i64]) -> WriteAnswer {
+    let ((job1, map1), (job2, map2)) = (first, second);
+    unsafe { recorder_combine(job1, map1.as_ptr(), map1.len(), job2, map2.as_ptr(), map2.len(), output.as_mut_ptr(), output.len()) }
+}
+
+pub fn line(modulus: u32, kind: u32, direction: u32, length: u32, list: &[u8], line: &mut [u32], scratch: &mut [u32]) -> u32 {
+    unsafe {
+        recorder_line(modulus, kind, direction, length, list.as_ptr(), list.len(), line.as_mut_ptr(), line.len(), scratch.as_mut_ptr(), scratch.len())
+    }
 }
 
 pub fn drift(run: &[i64], w: u32, least: &mut [i64], greatest: &mut [i64], least_at: &mut [u64], greatest_at: &mut [u64]) -> WriteAnswer {
@@ -214,7 +250,7 @@ mod layout {
             layout!("recorder_reflection", Reflection, h, k, l),
             layout!("recorder_grid_point", GridPoint, x, y, z),
             layout!("recorder_axis", Axis, length, factors),
-            layout!("recorder_job", Job, group, a, b, c, state),
+            layout!("recorder_job", Job, group, modulus, a, b, c, state),
             layout!("recorder_answer", Answer, number, job),
             layout!("recorder_file_answer", FileAnswer, number, place, job),
             layout!("recorder_faults", Faults, count, first, second),
@@ -256,7 +292,7 @@ mod layout {
 
     #[test]
     fn another_layout_is_noticed() {
-        let other = assertions().replace("offsetof(recorder_job, state) == 28", "offsetof(recorder_job, state) == 24");
+        let other = assertions().replace("offsetof(recorder_job, state) == 32", "offsetof(recorder_job, state) == 28");
         assert!(other != assertions() && !compiles("other", &other));
     }
 }

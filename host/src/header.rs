@@ -1,39 +1,21 @@
-//! What a factor file and a map file both begin with, after their first four bytes: version 1, group (1 byte), N1, N2, N3 (2 bytes each,
-//! big-endian), three factor lists (a count byte, then a byte each).
+//! A cell by its group and lengths, and the header that a factor file and a map file both begin with, after their first four bytes: version 1 or
+//! 2, group (1 byte), in version 2 the modulus (1 byte), N1, N2, N3 (2 bytes each, big-endian), three factor lists (a count byte, then a byte
+//! each). Version 1 means modulus 1.
 //!
 //! Nothing here judges a header: the proved call does (recorder.rs), and what this file computes is used for sound headers only.
 use std::io::{self, Read};
 
 const GROUPS: [&str; 5] = ["P1", "P2_1", "Pm", "Pa", "P2_1 2_1 2_1"];
+/// The primes of moduli 1 and 2.
+pub const PRIMES: [u32; 2] = [86_399, 302_399];
 
 #[derive(Clone)]
-pub struct Header {
-    pub version: u8,
+pub struct Cell {
     pub group: u8,
     pub lengths: [u16; 3],
-    pub lists: [Vec<u8>; 3],
 }
 
-impl Header {
-    /// Reads a header; fails with `UnexpectedEof` where the input ends inside it.
-    pub fn read(input: &mut impl Read) -> io::Result<Header> {
-        let mut fixed = [0; 8];
-        input.read_exact(&mut fixed)?;
-        let [version, group, lengths @ ..] = fixed;
-        let length = |at: usize| u16::from_be_bytes([lengths[at], lengths[at + 1]]);
-        Ok(Header { version, group, lengths: [length(0), length(2), length(4)], lists: [read_list(input)?, read_list(input)?, read_list(input)?] })
-    }
-
-    pub fn bytes(&self) -> Vec<u8> {
-        let mut bytes = vec![self.version, self.group];
-        bytes.extend(self.lengths.iter().flat_map(|length| length.to_be_bytes()));
-        for list in &self.lists {
-            bytes.push(list.len() as u8);
-            bytes.extend(list);
-        }
-        bytes
-    }
-
+impl Cell {
     pub fn group_name(&self) -> &'static str {
         GROUPS.get(usize::from(self.group)).copied().unwrap_or("no group")
     }
@@ -48,32 +30,104 @@ impl Header {
         }
     }
 
+    /// The count of stored rows along y, each of one plane and one x.
+    pub fn rows(&self) -> usize {
+        self.planes() * self.length(0)
+    }
+
     /// The count of the volume's numbers: a row has N2 values and two zeros.
     pub fn volume_length(&self) -> usize {
-        self.planes() * self.length(0) * (self.length(1) + 2)
+        self.rows() * (self.length(1) + 2)
     }
 
     /// The count of the map's values on stored planes.
     pub fn densities(&self) -> usize {
-        self.planes() * self.length(0) * self.length(1)
+        self.rows() * self.length(1)
     }
 
     pub fn length(&self, axis: usize) -> usize {
         usize::from(self.lengths[axis])
     }
 
-    /// Group, lengths and lists in a line.
+    /// The point whose value stands at a place of the volume, in words.
+    pub fn point_at(&self, place: usize) -> String {
+        let along = self.length(1) + 2;
+        let (row, across) = (place / along, self.length(0));
+        format!("x {}, y {}, z {}", row % across, place % along, row / across)
+    }
+
     pub fn described(&self) -> String {
         let [n1, n2, n3] = self.lengths;
-        let lists: Vec<String> = self.lists.iter().map(|list| list_text(list)).collect();
-        format!("group {} ({}), lengths {n1} {n2} {n3}, lists {}", self.group, self.group_name(), lists.join(" "))
+        format!("group {} ({}), lengths {n1} {n2} {n3}", self.group, self.group_name())
     }
 }
 
+#[derive(Clone)]
+pub struct Header {
+    pub version: u8,
+    pub cell: Cell,
+    pub modulus: u8,
+    pub lists: [Vec<u8>; 3],
+}
+
+impl Header {
+    /// Reads a header; fails with `UnexpectedEof` where the input ends inside it.
+    pub fn read(input: &mut impl Read) -> io::Result<Header> {
+        let [version, group] = bytes_of(input)?;
+        let [modulus] = if version == 2 { bytes_of(input)? } else { [1] };
+        let cell = Cell { group, lengths: read_lengths(input)? };
+        Ok(Header { version, cell, modulus, lists: [read_list(input)?, read_list(input)?, read_list(input)?] })
+    }
+
+    pub fn bytes(&self) -> Vec<u8> {
+        let mut bytes = vec![self.version, self.cell.group];
+        if self.version == 2 {
+            bytes.push(self.modulus);
+        }
+        bytes.extend(length_bytes(&self.cell));
+        for list in &self.lists {
+            bytes.push(list.len() as u8);
+            bytes.extend(list);
+        }
+        bytes
+    }
+
+    /// The header of the file that is written: modulus 1 goes without its byte, as version 1, whatever was read.
+    pub fn written(&self) -> Header {
+        Header { version: if self.modulus == 1 { 1 } else { 2 }, ..self.clone() }
+    }
+
+    pub fn prime(&self) -> u32 {
+        PRIMES[usize::from(self.modulus) - 1]
+    }
+
+    /// Group, lengths, modulus and lists in a line.
+    pub fn described(&self) -> String {
+        let lists: Vec<String> = self.lists.iter().map(|list| list_text(list)).collect();
+        format!("{}, modulus {}, lists {}", self.cell.described(), self.modulus, lists.join(" "))
+    }
+}
+
+/// Some bytes of the input.
+pub fn bytes_of<const COUNT: usize>(input: &mut impl Read) -> io::Result<[u8; COUNT]> {
+    let mut bytes = [0; COUNT];
+    input.read_exact(&mut bytes)?;
+    Ok(bytes)
+}
+
+/// N1, N2, N3.
+pub fn read_lengths(input: &mut impl Read) -> io::Result<[u16; 3]> {
+    let bytes: [u8; 6] = bytes_of(input)?;
+    Ok([0, 2, 4].map(|at| u16::from_be_bytes([bytes[at], bytes[at + 1]])))
+}
+
+pub fn length_bytes(cell: &Cell) -> impl Iterator<Item = u8> + '_ {
+    cell.lengths.iter().flat_map(|length| length.to_be_bytes())
+}
+
 fn read_list(input: &mut impl Read) -> io::Result<Vec<u8>> {
-    let mut count = [0];
-    input.read_exact(&mut count)?;
-    let mut list = vec![0; usize::from(count[0])];
+    let [count] = bytes_of(input)?;
+    let mut list = vec![0; usize::from(count)];
     input.read_exact(&mut list)?;
     Ok(list)
 }

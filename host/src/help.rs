@@ -1,15 +1,16 @@
 //! What `--help` prints.
 
 pub const ALL: &str = "\
-recorder: maps of unit cells from their structure factors, and back, modulo 86,399
+recorder: maps of unit cells from their structure factors, and back, modulo 86,399 or 302,399
 
   recorder map FILE [-o OUT] [--times]   the map, as text or as a map file
   recorder factors FILE -o OUT           the factor file
+  recorder combine FILE1 FILE2 -o OUT    one map of whole numbers from a map for each prime
   recorder rewrite FILE -o OUT           the factor file in the writer's order
   recorder records FILE                  the records of a factor file, a line each
   recorder check FILE                    whether a file is accepted, and why not
   recorder faults FILE                   the fewest records at fault, a line each
-  recorder info FILE                     group, lengths, lists, volume, count of records
+  recorder info FILE                     group, modulus, lengths, lists, volume, count of records
   recorder point FILE x y z              the density at a point
   recorder factor FILE h k l             the structure factor at an index
   recorder line KIND DIRECTION N LIST    one line, its numbers from standard input
@@ -17,7 +18,7 @@ recorder: maps of unit cells from their structure factors, and back, modulo 86,3
   recorder COMMAND --help                more about a command
 
 A FILE is a factor file or a map file, told apart by its first four bytes; rewrite, records and faults take a factor file, drift a file of
-scores. - is standard input.
+scores; map, check, info and point take a combined map file too. - is standard input.
 Exit status: 0 done, 1 the input was refused, 2 a wrong command line or a file that cannot be read or written.
 ";
 
@@ -25,11 +26,13 @@ pub const MAP: &str = "\
 recorder map FILE [-o OUT] [--times]
 
 Synthesises the map of a factor file (of a map file: the map it has). Without -o it is printed as text: group and lengths, then a line for each
-stored plane z and each x, with z, x and the values by y, whole numbers from -43,199 to 43,199. A refusal prints 'refused NUMBER at PLACE' there and its reason on standard error.
+stored plane z and each x, with z, x and the values by y, whole numbers from -43,199 to 43,199, modulo 302,399 from -151,199 to 151,199, of a
+combined map as they are. A refusal prints 'refused NUMBER at PLACE' there and its reason on standard error.
 With -o it is written to OUT (- is standard output) as a map file, big-endian: the letters RMAP, then as in a factor file version 1, group
 (1 byte), N1, N2, N3 (2 bytes each), three factor lists (a count byte, then a byte each), then the densities on the stored planes by
-rising z, x, y, as residues of 4 bytes each. OUT takes its name when it is whole, and cannot be FILE. --times says on standard error how long reading,
-synthesis and writing took.
+rising z, x, y, as residues of 4 bytes each; modulo 302,399 as version 2, with the modulus, 2, in a byte behind the group. A combined map is
+written as it was read. OUT takes its name when it is whole, and cannot be FILE. --times says on standard error how long reading, synthesis and
+writing took.
 ";
 
 pub const FACTORS: &str = "\
@@ -38,6 +41,17 @@ recorder factors FILE -o OUT
 Analyses the map of a map file and writes its factor file to OUT (- is standard output): a record for each orbit with a value other than zero, at
 its lowest h, k, l, rising. A file of that form, made a map and written again, is the same byte for byte. Of a factor file it writes that form.
 A map of zeros gives a factor file of no records.
+";
+
+pub const COMBINE: &str = "\
+recorder combine FILE1 FILE2 -o OUT
+
+Combines two maps of one cell: FILE1's modulo 86,399 and FILE2's modulo 302,399, in this order. Each FILE is a map file, or a factor file, whose
+map is synthesised. OUT (- is standard output) gets for each point the only whole number from -13,063,485,600 to 13,063,485,600 that is
+congruent to both densities, as a combined map file, big-endian: the letters RCMB, version 1, group (1 byte each), N1, N2, N3 (2 bytes each),
+then the numbers on the stored planes by rising z, x, y, of 8 bytes each, those below zero in two's complement. recorder map prints it,
+recorder point reads it. The factor lists of the two files may differ. OUT takes its name when it is whole, and is neither FILE1 nor FILE2; one of
+them may be - (standard input). Both maps are held at once: memory is 16 bytes for each number of the volume.
 ";
 
 pub const REWRITE: &str = "\
@@ -74,15 +88,16 @@ whose shape or header is refused has no record at fault: nothing is printed but 
 pub const INFO: &str = "\
 recorder info FILE
 
-Prints a line each for the kind of file, group, lengths, factor lists (- is none), stored planes, volume and count of records (of a map file:
-densities). The header is judged, the records are not. Groups: 0 P1, 1 P2_1 with axis c, 2 Pm with its mirror across c, 3 Pa with its mirror
-across c and its glide along a, 4 P2_1 2_1 2_1.
+Prints a line each for the kind of file, group, modulus with its prime, lengths, factor lists (- is none), stored planes, volume and count of
+records (of a map file: densities; of a combined map file, which has no modulus and no lists: numbers). The header is judged, the records are
+not. Groups: 0 P1, 1 P2_1 with axis c, 2 Pm with its mirror across c, 3 Pa with its mirror across c and its glide along a, 4 P2_1 2_1 2_1.
 ";
 
 pub const POINT: &str = "\
 recorder point FILE x y z
 
-Prints the density at a point anywhere in the cell, the whole number from -43,199 to 43,199 that is congruent to its residue.
+Prints the density at a point anywhere in the cell, the whole number from -43,199 to 43,199 that is congruent to its residue, modulo 302,399 from
+-151,199 to 151,199; of a combined map the number of the point.
 ";
 
 pub const FACTOR: &str = "\
@@ -92,9 +107,10 @@ Prints the structure factor a + b i at an index anywhere in the cell, as 'a b'.
 ";
 
 pub const LINE: &str = "\
-recorder line KIND DIRECTION N LIST
+recorder line KIND DIRECTION N LIST [--modulus M]
 
 Transforms one line of N values, whose packed numbers are read from standard input with blanks between them, and prints the packed result.
+M is 1, modulo 86,399, where it is not given, or 2, modulo 302,399.
 KIND: 0 plain, 1 Hermitian, 2 anti-Hermitian, 3 alternating, 4 symmetric, 5 antisymmetric. DIRECTION: 0 forward, 1 inverse.
 LIST: the factors of N/2 with commas between them, each 2 to 5; - for N = 2. Example: echo 1 2 3 4 | recorder line 1 0 4 2
 ";

@@ -1,10 +1,11 @@
-//! What a command is given: a factor file or a map file, which its first four bytes tell, or a line's numbers. Nothing is read further than it
-//! can be right.
+//! What a command is given: a factor file, a map file or a combined map file, which its first four bytes tell, or a line's numbers. Nothing is
+//! read further than it can be right.
 use crate::arguments::number;
+use crate::combined_map::{self, CombinedMap};
 use crate::factor_file::MOST_COUNT;
 use crate::failure::{shown, Failure};
 use crate::map_file;
-use crate::progress;
+use crate::progress::{self, Told};
 use crate::recorder::Recorder;
 use std::ffi::OsStr;
 use std::fs::File;
@@ -17,10 +18,18 @@ const MOST_NUMBERS: usize = 2 * 2880;
 /// The most bytes that are read of a line: some 180 for each of its numbers, with the blanks.
 const MOST_TEXT: usize = 1 << 20;
 
-/// The file's bytes where it is a factor file; the input after the four letters where it is a map.
+/// The file's bytes where it is a factor file; the input after the four letters where it is a map or a combined map.
 pub enum Entry {
     Factors(Vec<u8>),
     Map(Box<dyn Read>),
+    Combined(Box<dyn Read>),
+}
+
+/// What a file holds.
+pub enum Held {
+    /// A job: collecting, or with its map held.
+    Job(Recorder),
+    Combined(CombinedMap),
 }
 
 /// Opens a file and says how long it is; a minus sign names standard input, whose length is not known, and 0.
@@ -49,8 +58,10 @@ fn sorted(mut source: BufReader<Box<dyn Read>>, length: u64) -> io::Result<Entry
     let Ok(first) = <[u8; 4]>::try_from(bytes.as_slice()) else {
         return Ok(Entry::Factors(bytes));
     };
-    if first == map_file::LETTERS {
-        return Ok(Entry::Map(Box::new(source)));
+    match first {
+        map_file::LETTERS => return Ok(Entry::Map(Box::new(source))),
+        combined_map::LETTERS => return Ok(Entry::Combined(Box::new(source))),
+        _ => {}
     }
     let count = u64::from(u32::from_be_bytes(first));
     let too_long = |following: u64| count > MOST_COUNT && following > MOST_COUNT;
@@ -65,12 +76,24 @@ fn sorted(mut source: BufReader<Box<dyn Read>>, length: u64) -> io::Result<Entry
     Err(io::Error::new(ErrorKind::InvalidData, format!("it has more bytes than any factor file, which has at most {}", MOST_COUNT + 4)))
 }
 
-/// The job of a file: collecting, or with its map held.
-pub fn open(name: &OsStr) -> Result<Recorder, Failure> {
+pub fn held(name: &OsStr) -> Result<Held, Failure> {
     progress::during("reading", |told| match entry(name)? {
+        Entry::Combined(mut rest) => combined_map::read(name, &mut rest, told).map(Held::Combined),
+        entry => job_of(name, entry, told).map(Held::Job),
+    })
+}
+
+/// The job of a file, for a command that a combined map has nothing for.
+pub fn job(name: &OsStr) -> Result<Recorder, Failure> {
+    progress::during("reading", |told| job_of(name, entry(name)?, told))
+}
+
+fn job_of(name: &OsStr, entry: Entry, told: &Told) -> Result<Recorder, Failure> {
+    match entry {
         Entry::Factors(file) => Recorder::of_factor_file(&file),
         Entry::Map(mut rest) => map_file::read(name, &mut rest, told),
-    })
+        Entry::Combined(_) => Err(of_combined_map(name)),
+    }
 }
 
 /// The bytes of a factor file, for a command that a map file has nothing for.
@@ -80,7 +103,12 @@ pub fn factor_file(name: &OsStr) -> Result<Vec<u8>, Failure> {
         Entry::Map(_) => {
             Err(Failure::Trouble(format!("{} is a map file, which has no records; recorder factors makes its factor file", shown(name))))
         }
+        Entry::Combined(_) => Err(of_combined_map(name)),
     }
+}
+
+fn of_combined_map(name: &OsStr) -> Failure {
+    Failure::Trouble(format!("{} is a combined map file, which has no records and no factors; name a file that it was combined from", shown(name)))
 }
 
 /// The numbers of a line, from standard input with blanks between them; where there are more than any line has, one more than that.

@@ -2,6 +2,7 @@
 #![deny(unsafe_code)]
 
 mod arguments;
+mod combined_map;
 mod commands;
 mod drift;
 mod factor_file;

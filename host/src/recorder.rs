@@ -5,9 +5,9 @@
 use crate::factor_file;
 use crate::failure::Failure;
 use crate::ffi::{self, Answer, GridPoint, Job, Reflection};
-use crate::header::Header;
+use crate::header::{Cell, Header};
 use crate::memory::zeros;
-use crate::words::{Refusal, SHAPE};
+use crate::words::{Refusal, DIFFERENT_CELLS, SHAPE};
 
 const SCRATCH: usize = 11_520;
 const COLLECT: u32 = 0;
@@ -51,7 +51,7 @@ impl Recorder {
     /// The job of a factor file, collecting.
     pub fn of_factor_file(file: &[u8]) -> Result<Recorder, Failure> {
         let header = factor_file_header(file)?;
-        let mut volume = zeros(header.volume_length())?;
+        let mut volume = zeros(header.cell.volume_length())?;
         let answer = ffi::open_file(file, &mut volume);
         if answer.number == 0 {
             return Ok(Recorder::new(header, answer.job, volume));
@@ -114,7 +114,7 @@ impl Recorder {
 
     /// The factor file of the held factors.
     pub fn factor_file(&self) -> Result<Vec<u8>, Failure> {
-        let mut out = zeros(factor_file::length(&self.header, self.most_records()))?;
+        let mut out = zeros(factor_file::length(&self.header.written(), self.most_records()))?;
         let answer = ffi::write_file(self.job, &self.volume, &mut out);
         accepted(answer.number)?;
         out.truncate(answer.written);
@@ -125,28 +125,57 @@ impl Recorder {
     /// plane hold two factors (P2_1 and P2_1 2_1 2_1 keep l = 0 and l = N3/2 in one). In P2_1 2_1 2_1 an orbit is an index with all changes of
     /// sign, so its record, at the lowest, has h up to N1/2 and is stored there: counting the other h too would ask for twice the room.
     fn most_records(&self) -> usize {
-        let across = self.header.length(0);
-        let most_h = if self.header.group == 4 { across / 2 } else { across - 1 };
+        let across = self.header.cell.length(0);
+        let most_h = if self.header.cell.group == 4 { across / 2 } else { across - 1 };
         let filled = |row: &[u32]| row.chunks_exact(2).filter(|pair| pair[0] != 0 || pair[1] != 0).count();
-        let rows = self.volume.chunks_exact(self.header.length(1) + 2).enumerate().filter(|(row, _)| row % across <= most_h);
+        let rows = self.volume.chunks_exact(self.header.cell.length(1) + 2).enumerate().filter(|(row, _)| row % across <= most_h);
         rows.map(|(row, pairs)| if row < across { 2 * filled(pairs) } else { filled(pairs) }).sum()
     }
 
-    /// The rows of a held map: plane z, x and the values by y, rising.
-    pub fn rows(&self) -> impl Iterator<Item = (usize, usize, &[u32])> {
-        let (across, along) = (self.header.length(0), self.header.length(1));
-        self.volume.chunks_exact(along + 2).enumerate().map(move |(row, values)| (row / across, row % across, &values[..along]))
+    /// The rows of a held map by rising z, then x: each has the residues by y.
+    pub fn rows(&self) -> impl Iterator<Item = &[u32]> {
+        rows(&self.header.cell, &self.volume)
+    }
+
+    /// The same as the whole numbers next to zero that are congruent to the residues.
+    pub fn signed_rows(&self) -> impl Iterator<Item = impl Iterator<Item = i64> + '_> {
+        let prime = self.header.prime();
+        let signed = move |&residue: &u32| if residue > prime / 2 { i64::from(residue) - i64::from(prime) } else { i64::from(residue) };
+        self.rows().map(move |values| values.iter().map(signed))
     }
 }
 
+/// The rows of a map by rising z, then x: each has its values by y, without the two zeros.
+pub fn rows<'a, T>(cell: &Cell, map: &'a [T]) -> impl Iterator<Item = &'a [T]> {
+    let along = cell.length(1);
+    map.chunks_exact(along + 2).map(move |row| &row[..along])
+}
+
+/// The combined map of two maps. Whether they are of one cell is asked with an output of no numbers: 6 comes after 27, so it says that they are,
+/// and only then is memory asked for.
+pub fn combined(first: &Recorder, second: &Recorder) -> Result<Vec<i64>, Failure> {
+    let call = |output: &mut [i64]| ffi::combine((first.job, &first.volume), (second.job, &second.volume), output).number;
+    match call(&mut []) {
+        VOLUME_LENGTH => {}
+        DIFFERENT_CELLS => {
+            let found = format!("{}; and {}", first.header.described(), second.header.described());
+            return Err(Refusal::of_found(DIFFERENT_CELLS, found).into());
+        }
+        number => accepted(number)?,
+    }
+    let mut output = zeros(first.volume.len())?;
+    accepted(call(&mut output))?;
+    Ok(output)
+}
+
 /// Transforms one line in place.
-pub fn line(kind: u32, direction: u32, length: u32, list: &[u8], line: &mut [u32]) -> Result<(), Refusal> {
-    accepted(ffi::line(kind, direction, length, list, line, &mut vec![0; SCRATCH]))
+pub fn line(modulus: u32, kind: u32, direction: u32, length: u32, list: &[u8], line: &mut [u32]) -> Result<(), Refusal> {
+    accepted(ffi::line(modulus, kind, direction, length, list, line, &mut vec![0; SCRATCH]))
 }
 
 fn opened(header: &Header, kind: u32, volume: &mut [u32]) -> Answer {
     let [f1, f2, f3] = &header.lists;
-    ffi::open(u32::from(header.group), kind, header.lengths.map(u32::from), [f1, f2, f3], volume)
+    ffi::open(u32::from(header.cell.group), u32::from(header.modulus), kind, header.cell.lengths.map(u32::from), [f1, f2, f3], volume)
 }
 
 fn accepted(number: u32) -> Result<(), Refusal> {

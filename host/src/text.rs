@@ -1,27 +1,28 @@
-//! Text: numbers, the records of a file, and the text of a map, as the map printer prints it: group and lengths, then a line for each stored plane z and each x, rising, with z, x and the
-//! values by y, with their signs. crates/printing proves the printer's text in a buffer; this one goes out as it is made, so that no grid needs a second buffer.
+//! Text: numbers, the records of a file, and the text of a map, as the map printer prints it: group and lengths, then a line for each stored plane
+//! z and each x, rising, with z, x and the values by y, with their signs. crates/printing proves the printer's text in a buffer; this one goes
+//! out as it is made, so that no grid needs a second buffer.
 use crate::factor_file;
-use crate::header::Header;
+use crate::header::{Cell, Header};
 use crate::progress::Told;
-use crate::recorder::Recorder;
-use crate::words::MODULUS;
 use std::io::{self, Write};
 
-/// Writes a held map.
-pub fn write(recorder: &Recorder, out: &mut impl Write, told: &Told) -> io::Result<()> {
-    let header = &recorder.header;
-    let [n1, n2, n3] = header.lengths;
-    writeln!(out, "map {} {n1} {n2} {n3}", header.group)?;
+/// Writes the numbers of a cell, row by row.
+pub fn write(cell: &Cell, rows: impl Iterator<Item = impl Iterator<Item = i64>>, out: &mut impl Write, told: &Told) -> io::Result<()> {
+    let [n1, n2, n3] = cell.lengths;
+    writeln!(out, "map {} {n1} {n2} {n3}", cell.group)?;
     let mut line = Vec::new();
-    for (z, x, values) in recorder.rows() {
+    for (done, row) in rows.enumerate() {
         line.clear();
-        push_number(&mut line, z as u32);
+        push_number(&mut line, (done / cell.length(0)) as u32);
         line.push(b' ');
-        push_number(&mut line, x as u32);
-        push_densities(&mut line, values);
+        push_number(&mut line, (done % cell.length(0)) as u32);
+        for number in row {
+            line.push(b' ');
+            push_signed(&mut line, number);
+        }
         line.push(b'\n');
         out.write_all(&line)?;
-        told.done(z, header.planes());
+        told.done(done, cell.rows());
     }
     Ok(())
 }
@@ -38,19 +39,6 @@ pub fn write_records(file: &[u8], header: &Header, out: &mut impl Write) -> io::
         out.write_all(&line)?;
     }
     Ok(())
-}
-
-/// Densities with a blank before each: the whole number next to zero that is congruent to the residue.
-fn push_densities(line: &mut Vec<u8>, residues: &[u32]) {
-    for &residue in residues {
-        line.push(b' ');
-        if residue > MODULUS / 2 {
-            line.push(b'-');
-            push_number(line, MODULUS - residue);
-        } else {
-            push_number(line, residue);
-        }
-    }
 }
 
 /// Some records of a factor file, a line each: the place, then h, k, l, a, b.

@@ -1,7 +1,5 @@
 //! Refusals in words: what the scope's number says, what was found, and what to do about it.
-use crate::header::Header;
-
-pub const MODULUS: u32 = 86_399;
+use crate::header::{Cell, Header};
 
 /// A refusal: its number, the record's place (0 where no record is at fault), and what was found in the input.
 pub struct Refusal {
@@ -19,10 +17,22 @@ impl Refusal {
     pub fn of_header(number: u32, found: Option<&Header>) -> Refusal {
         let found = match found {
             None => String::new(),
-            Some(header) if number == VERSION => format!("version {}", header.version),
-            Some(header) if number == TOO_LARGE => format!("{}: {} numbers", header.described(), header.volume_length()),
-            Some(header) => header.described(),
+            Some(header) if number == VERSION => return Refusal::of_version(header.version),
+            Some(header) => found_of(number, &header.cell, header.described()),
         };
+        Refusal::of_found(number, found)
+    }
+
+    /// Of a combined map, which has no more of a header than its cell.
+    pub fn of_cell(number: u32, cell: &Cell) -> Refusal {
+        Refusal::of_found(number, found_of(number, cell, cell.described()))
+    }
+
+    pub fn of_version(version: u8) -> Refusal {
+        Refusal::of_found(VERSION, format!("version {version}"))
+    }
+
+    pub fn of_found(number: u32, found: String) -> Refusal {
         Refusal { number, place: 0, found }
     }
 
@@ -32,17 +42,16 @@ impl Refusal {
 
     /// Of a map's densities.
     pub fn of_map(number: u32, header: &Header, volume: &[u32]) -> Refusal {
-        let row = header.length(1) + 2;
-        let found = match volume.iter().position(|&density| density >= MODULUS) {
-            Some(at) => format!("density {} at x {}, y {}, z {}", volume[at], at / row % header.length(0), at % row, at / row / header.length(0)),
+        let found = match volume.iter().position(|&density| density >= header.prime()) {
+            Some(place) => format!("density {} at {}", volume[place], header.cell.point_at(place)),
             None => header.described(),
         };
-        Refusal { number, place: 0, found }
+        Refusal::of_found(number, found)
     }
 
     /// Of a file that does not end where its header says.
     pub fn of_shape(found: String) -> Refusal {
-        Refusal { number: SHAPE, place: 0, found }
+        Refusal::of_found(SHAPE, found)
     }
 
     /// The printer's line.
@@ -61,9 +70,20 @@ impl Refusal {
     }
 }
 
+/// What was found, where it is a cell that is refused.
+fn found_of(number: u32, cell: &Cell, described: String) -> String {
+    match number {
+        TOO_LARGE => format!("{described}: {} numbers", cell.volume_length()),
+        _ => described,
+    }
+}
+
 const TOO_LARGE: u32 = 9;
 pub const SHAPE: u32 = 15;
-pub const VERSION: u32 = 16;
+const VERSION: u32 = 16;
+pub const DIFFERENT_CELLS: u32 = 27;
+/// Of a combined map's number, by the tool alone: no call that the library exports yet takes a combined map.
+pub const MAGNITUDE: u32 = 28;
 
 /// What a refusal's number says, and what to do.
 fn words(number: u32) -> (&'static str, &'static str) {
@@ -77,7 +97,7 @@ fn words(number: u32) -> (&'static str, &'static str) {
             "the line is not exactly as long as its kind and length ask",
             "give 2N numbers for kind 0, N for kinds 1 to 3, N + 2 for kind 4, N - 2 for kind 5",
         ),
-        7 => ("a number is 86,399 or more", "write residues modulo 86,399: 0 to 86,398"),
+        7 => ("a number is not below its prime", "write residues: 0 to 86,398 for modulus 1, 0 to 302,398 for modulus 2"),
         8 => ("the group is not 0 to 4", "use 0 for P1, 1 for P2_1, 2 for Pm, 3 for Pa, 4 for P2_1 2_1 2_1"),
         9 => ("the volume would have more than 16,777,216 numbers", "use shorter lengths; every other group needs about half of what P1 does"),
         10 => ("an index is not below its axis length", "bring each index into the cell: 0 to length - 1"),
@@ -91,13 +111,22 @@ fn words(number: u32) -> (&'static str, &'static str) {
             "the file does not have the bytes that its count and header ask for",
             "fetch or write the file again: it was cut, lengthened or is no such file",
         ),
-        16 => ("the version is not 1", "write the file as version 1"),
+        16 => (
+            "no file of its kind has this version",
+            "write a factor file or a map file as version 1, or as version 2 with its modulus, and a combined map as version 1",
+        ),
         18 => ("the output is too short", SHOULD_NOT_BE),
         21 => ("a record came while not collecting", SHOULD_NOT_BE),
         22 => ("no map is held", SHOULD_NOT_BE),
         23 => ("no factors are held", SHOULD_NOT_BE),
         24 => ("an earlier record names this reflection or one of its images", "leave one of the two records out"),
         25 => ("no call could have made this job", SHOULD_NOT_BE),
+        26 => ("the modulus is not 1 or 2", "use 1 for the prime 86,399, 2 for 302,399"),
+        27 => (
+            "the two maps are not of one cell, the first modulo 86,399 and the second modulo 302,399",
+            "give two files of the same group and lengths: first the one of modulus 1, then the one of modulus 2",
+        ),
+        28 => ("a number's magnitude is above 13,063,485,600", "combine the two maps again: no combined map has such a number"),
         34 => ("the window is not of 1 to 64 entries", "give W from 1 to 64"),
         _ => ("the number is not known to this tool", SHOULD_NOT_BE),
     }

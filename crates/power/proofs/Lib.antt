@@ -1,0 +1,6 @@
+pub mod Halves
+pub mod Norms
+pub mod MapPower
+pub mod FactorPower
+pub mod PowerLaws
+pub mod PowerKept

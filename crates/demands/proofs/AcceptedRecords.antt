@@ -27,7 +27,7 @@ use Rattle.job.specs.declared.Reflection.{Reflection}
 use Rattle.job.specs.Job.{collecting, factorsHeld, mapHeld, index, done, refused, openTests}
 use Rattle.file_format.specs.declared.FileRecord.{FileRecord}
 use Rattle.factor_file.specs.File.{indexOf, headerIn, recordsIn, shapeTests, Judgement, taken, refusedAt, judged}
-use Rattle.model.specs.Model.{Model, group, half, factorOf, Call, recording, synthesis, analysis, readPoint, readFactor, modelTests, modelNext, modelSaid, modelAfter, inState, begun, notBegun, beginningTests, openingModel, modelOpen, modelFile, zeroModel, recordingOf, modelRecorded, modelFeed}
+use Rattle.model.specs.Model.{Model, group, half, factorOf, Call, recording, synthesis, analysis, readPoint, readFactor, readMapPower, readFactorPower, modelTests, modelNext, modelSaid, modelAfter, inState, begun, notBegun, beginningTests, openingModel, modelOpen, modelFile, zeroModel, recordingOf, modelRecorded, modelFeed}
 use Rattle.demands.specs.Demands.{Start, opening, reading, startHeader, startKind, startVolume, startRecords, firstModel, run, modelAnswers, modelEnd, acceptedRecord, acceptedRecords, Started, entry, FactorsImplied, allRecords}
 use Rattle.model.proofs.Sound.{LawfulModel, halves-positive, within-inside, inside-within}
 use Rattle.model.proofs.OneCall.{one-call}
@@ -92,6 +92,8 @@ call-records m sound (synthesis scratch) m′ cs r = same-factors m mapHeld (fir
 call-records m sound (analysis scratch) m′ cs r = same-factors m factorsHeld (first (modelTests m (analysis scratch))) m′ cs r
 call-records m sound (readPoint x) m′ cs r = same-factors m (m .state) (first (modelTests m (readPoint x))) m′ cs r
 call-records m sound (readFactor k) m′ cs r = same-factors m (m .state) (first (modelTests m (readFactor k))) m′ cs r
+call-records m sound readMapPower m′ cs r = same-factors m (m .state) (first (modelTests m readMapPower)) m′ cs r
+call-records m sound readFactorPower m′ cs r = same-factors m (m .state) (first (modelTests m readFactorPower)) m′ cs r
 
 pub list-records : {μ : ℕ} (m : Model μ) → LawfulModel m → (l : List Call) → Records m (modelEnd m l) (acceptedRecords l (modelAnswers m l))
 unfolding modelEnd modelAnswers acceptedRecords Accepted recordAll

@@ -26,7 +26,7 @@ use Rattle.cell.specs.Consistency.{sameValue, recordIn}
 use Rattle.cell.proofs.Tests.{true-iff}
 use Rattle.cell.proofs.Reading.{same-iff}
 use Rattle.job.specs.declared.Job.{Job}
-use Rattle.job.specs.Job.{Header, halfLengths, collecting, jobOf, opened, notOpened, Opening, OpenOutcome, Said, done, density, factor, refused, Outcome, openTests, openStep, within}
+use Rattle.job.specs.Job.{Header, halfLengths, collecting, jobOf, opened, notOpened, Opening, OpenOutcome, Said, done, density, factor, power, refused, Outcome, openTests, openStep, within}
 use Rattle.file_format.specs.declared.FileRecord.{FileRecord}
 use Rattle.factor_file.specs.File.{indexOf, indexIn, modulusIn, headerIn, recordsIn, shapeTests, judgeTests, Judgement, taken, refusedAt, judged, recordAllOn, feed, fileStep}
 use Rattle.model.specs.Model.{Model, group, half, factorOf, Call, recordingOf, modelTests, modelSaid, modelAfter, modelNext, modelJob, modelVolume, zeroModel}
@@ -188,6 +188,7 @@ calledBy next place v o =
       | done ↦ next (o .job) (o .volume)
       | density n ↦ next (o .job) (o .volume)
       | factor x y ↦ next (o .job) (o .volume)
+      | power n ↦ next (o .job) (o .volume)
       | refused n ↦ record { answer = notOpened n place; volume = replicate (length v) 0 }
     ]
 

@@ -22,7 +22,7 @@ use Rattle.cell.proofs.Consistency.{factors-consistent}
 use Rattle.cell.proofs.Maps.{map-consistent}
 use Rattle.header.proofs.Headers.{sound-axes}
 use Rattle.job.specs.declared.Job.{Job}
-use Rattle.job.specs.Job.{Header, halfLengths, axisTests, mapHeld, validJob, groupIn, halves, asLong, fits, Opening, opened, notOpened, OpenOutcome, openTests, openStep, Said, done, density, factor, refused, Worked, synthesisStep, analysisStep}
+use Rattle.job.specs.Job.{Header, halfLengths, axisTests, mapHeld, validJob, groupIn, halves, asLong, fits, Opening, opened, notOpened, OpenOutcome, openTests, openStep, Said, done, density, factor, power, refused, Worked, synthesisStep, analysisStep}
 use Rattle.job.specs.TestSteps.{synthesisTests, analysisTests}
 use Rattle.job.proofs.Jobs.{valid-job-sizes}
 use Rattle.factor_file.specs.File.{jobFile, writeTests, writeStep}
@@ -47,6 +47,7 @@ abbrev saidNumber : Said → ℕ
 saidNumber done = 0
 saidNumber (density n) = 0
 saidNumber (factor x y) = 0
+saidNumber (power n) = 0
 saidNumber (refused n) = n
 
 abbrev openingNumber : Opening → ℕ

@@ -4,7 +4,7 @@ use mathlib.Core.List.{List, [], _∷_}
 use Prim.Native.Nat.{ℕ, zero, suc}
 use Rattle.refusals.specs.Refusals.{first, accepted}
 use Rattle.job.specs.Job.{Outcome}
-use Rattle.model.specs.Model.{Model, Call, recording, synthesis, analysis, readPoint, readFactor, modelTests, modelNext, modelSaid, modelAfter, modelVolume, modelJob}
+use Rattle.model.specs.Model.{Model, Call, recording, synthesis, analysis, readPoint, readFactor, readMapPower, readFactorPower, modelTests, modelNext, modelSaid, modelAfter, modelVolume, modelJob}
 use Rattle.demands.specs.Demands.{answering, run, modelAnswers, modelEnd, modelRan}
 use Rattle.model.proofs.Sound.{LawfulModel}
 use Rattle.model.proofs.OneCall.{one-call}
@@ -32,6 +32,8 @@ after-header m c = go (first (modelTests m c)) c
     go zero (analysis scratch) = refl
     go zero (readPoint x) = refl
     go zero (readFactor k) = refl
+    go zero readMapPower = refl
+    go zero readFactorPower = refl
     go (suc n) c = refl
 
 pub end-header : {μ : ℕ} (m : Model μ) (l : List Call) → modelEnd m l .header ≡ m .header

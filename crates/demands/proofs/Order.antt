@@ -29,7 +29,7 @@ use Rattle.file_format.proofs.places.Heads.{same-modulus}
 use Rattle.file_format.proofs.layout.Heads.{same-header}
 use Rattle.file_format.specs.Format.{modulusAt, list2At, list3At}
 use Rattle.factor_file.specs.File.{countAt, modulusIn, headerIn, recordsIn, shapeTests, fileStep}
-use Rattle.model.specs.Model.{Model, group, half, factorOf, Call, recording, synthesis, analysis, readPoint, readFactor, modelTests, modelNext, modelSaid, modelAfter, inState, factorVolume, mapVolume, modelVolume, begun, zeroModel, mapModel, modelFeed}
+use Rattle.model.specs.Model.{Model, group, half, factorOf, Call, recording, synthesis, analysis, readPoint, readFactor, readMapPower, readFactorPower, modelTests, modelNext, modelSaid, modelAfter, inState, factorVolume, mapVolume, modelVolume, begun, zeroModel, mapModel, modelFeed}
 use Rattle.demands.specs.Demands.{Start, reading, startHeader, startKind, startVolume, startRecords, firstModel, run, modelAnswers, modelEnd, acceptedRecords, Started, entry, Alike, allRecords, OrderFree, AlikeStarts, FileOrderFree}
 use Rattle.model.proofs.Sound.{LawfulModel, halves-positive}
 use Rattle.demands.proofs.Openings.{kind-is}
@@ -78,6 +78,8 @@ unlisted-said m (synthesis scratch) = refl
 unlisted-said m (analysis scratch) = refl
 unlisted-said m (readPoint x) = refl
 unlisted-said m (readFactor k) = refl
+unlisted-said m readMapPower = refl
+unlisted-said m readFactorPower = refl
 
 unlisted-accepted : {μ : ℕ} (n : ℕ) (m next : Model μ) {next′ : Model μ} → unlisted next ≡ next′ → unlisted (accepted n next (λ n. m)) ≡ accepted n next′ (λ n. unlisted m)
 unlisted-accepted zero m next e = e
@@ -90,6 +92,8 @@ unlisted-after m (synthesis scratch) = unlisted-accepted (first (modelTests m (s
 unlisted-after m (analysis scratch) = unlisted-accepted (first (modelTests m (analysis scratch))) m (inState m factorsHeld) refl
 unlisted-after m (readPoint x) = unlisted-accepted (first (modelTests m (readPoint x))) m m refl
 unlisted-after m (readFactor k) = unlisted-accepted (first (modelTests m (readFactor k))) m m refl
+unlisted-after m readMapPower = unlisted-accepted (first (modelTests m readMapPower)) m m refl
+unlisted-after m readFactorPower = unlisted-accepted (first (modelTests m readFactorPower)) m m refl
 
 unlisted-answers : {μ : ℕ} (m : Model μ) (l : List Call) → modelAnswers m l ≡ modelAnswers (unlisted m) l
 unfolding modelAnswers

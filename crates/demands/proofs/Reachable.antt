@@ -13,11 +13,11 @@ use Rattle.refusals.specs.Refusals.{Test, _⇒_, first, accepted}
 use Rattle.refusals.proofs.Tests.{pass, none}
 use Rattle.lengths.specs.Lengths.{scratchLength, cleared}
 use Rattle.job.specs.declared.Job.{Job}
-use Rattle.job.specs.Job.{Header, needed, factorsHeld, mapHeld, headerOf, withState, validJob, openTests, Said, done, density, factor, refused, Outcome, Worked, unchanged, recordStep, synthesised, synthesisStep, analysed, analysisStep, pointStep, factorStep}
+use Rattle.job.specs.Job.{Header, needed, factorsHeld, mapHeld, headerOf, withState, validJob, openTests, Said, done, density, factor, power, refused, Outcome, Worked, unchanged, recordStep, synthesised, synthesisStep, analysed, analysisStep, pointStep, factorStep, mapPowerStep, factorPowerStep}
 use Rattle.job.specs.TestSteps.{synthesisTests, analysisTests}
 use Rattle.job.proofs.check.Openings.{volume-collects, volume-decides}
 use Rattle.job.proofs.Jobs.{job-of-header, valid-parts, valid-with}
-use Rattle.model.specs.Model.{Model, Call, recording, synthesis, analysis, readPoint, readFactor, modelTests, modelNext, modelAfter, modelJob, modelVolume, inState, zeroModel}
+use Rattle.model.specs.Model.{Model, Call, recording, synthesis, analysis, readPoint, readFactor, readMapPower, readFactorPower, modelTests, modelNext, modelAfter, modelJob, modelVolume, inState, zeroModel}
 use Rattle.demands.specs.Demands.{opening, step, Ran, modelEnd, Reachable, ImpossibleExactly}
 use Rattle.model.proofs.Sound.{LawfulModel}
 use Rattle.demands.proofs.TestOrder.{others, other-first}
@@ -93,6 +93,7 @@ abbrev saysDone : Said → Bool
 saysDone done = true
 saysDone (density n) = true
 saysDone (factor x y) = true
+saysDone (power n) = true
 saysDone (refused n) = false
 
 true-not-false : true ≡ false → ⊥
@@ -131,7 +132,7 @@ record Tested (j : Job) (v : List ℕ) (c : Call) : Type 0 where
   is : step j v c ≡ accepted (first (not (validJob j) ⇒ 25 ∷ tests)) result (unchanged j v)
 
 tested : (j : Job) (v : List ℕ) (c : Call) → Tested j v c
-unfolding recordStep synthesisStep analysisStep pointStep factorStep
+unfolding recordStep synthesisStep analysisStep pointStep factorStep mapPowerStep factorPowerStep
 tested j v (recording k x y) = record { tests = _; result = _; other = tt; says = refl; kept = λ e. e; is = refl }
 tested j v (synthesis scratch) = let o : Outcome = record { answer = done; job = withState j mapHeld; volume = synthesised j v } in
     record { tests = rest (synthesisTests j v (length scratch)); result = o; other = tt; says = refl; kept = λ e. valid-with j mapHeld e (omega arith); is = lent j v o (first (synthesisTests j v (length scratch))) (cleared scratch) scratch }
@@ -139,6 +140,8 @@ tested j v (analysis scratch) = let o : Outcome = record { answer = done; job = 
     record { tests = rest (analysisTests j v (length scratch)); result = o; other = tt; says = refl; kept = λ e. valid-with j factorsHeld e (omega arith); is = lent j v o (first (analysisTests j v (length scratch))) (cleared scratch) scratch }
 tested j v (readPoint x) = record { tests = _; result = _; other = tt; says = refl; kept = λ e. e; is = refl }
 tested j v (readFactor k) = record { tests = _; result = _; other = tt; says = refl; kept = λ e. e; is = refl }
+tested j v readMapPower = record { tests = _; result = _; other = tt; says = refl; kept = λ e. e; is = refl }
+tested j v readFactorPower = record { tests = _; result = _; other = tt; says = refl; kept = λ e. e; is = refl }
 
 -- ---- refusal 25 exactly of the jobs that are not reached
 

@@ -18,21 +18,13 @@ use Rattle.cell.proofs.Consistency.{consistent-read}
 use Rattle.job.specs.declared.Job.{Job}
 use Rattle.job.specs.Job.{factorsHeld, mapHeld, headerOf, withState, validJob, groupIn, halves, done, refused, Outcome, Worked, unchanged, synthesised, synthesisStep, analysisStep, pointStep}
 use Rattle.job.specs.TestSteps.{synthesisTests}
+use Rattle.job.proofs.Outcomes.{synthesis-accepted}
 use Rattle.job.proofs.Jobs.{job-of-header, valid-with, valid-job-sizes}
 use Rattle.model.specs.Model.{Model, group, half, analysis, inState, factorVolume, modelVolume, modelJob}
 use Rattle.demands.specs.Demands.{MapsReal, AnalysisRestores}
 use Rattle.model.proofs.Sound.{LawfulModel, holds-map, holds-factors}
 use Rattle.model.proofs.OneCall.{result, accepted-call}
 use Rattle.demands.proofs.Corollaries.{point-is-sum}
-
--- the answer is a refusal where a test holds
-accepted-done : (n : ℕ) (o : Worked) (u : ℕ → Worked) → ((n : ℕ) → u n .outcome .answer ≡ refused n) → accepted n o u .outcome .answer ≡ done → 0 ≡ n
-accepted-done zero o u r e = refl
-accepted-done (suc n) o u r e = let z : refused (suc n) ≡ done = sym (r (suc n)) ∙ e in let y : _≡_ {A = ℕ} 0 1 = cc in absurd (omega arith)
-
-pub synthesis-accepted : (j : Job) (v scratch : List ℕ) → synthesisStep j v scratch .outcome .answer ≡ done → 0 ≡ first (synthesisTests j v (length scratch))
-unfolding synthesisStep
-synthesis-accepted j v scratch a = accepted-done (first (synthesisTests j v (length scratch))) _ (λ n. record { outcome = unchanged j v n; scratch = scratch }) (λ n. refl) a
 
 module _ (j : Job) (v scratch : List ℕ) (e : 0 ≡ first (synthesisTests j v (length scratch))) where
   -- they are those of the model whose F is what is read off the volume

@@ -12,11 +12,11 @@ use Rattle.cell.specs.Exactly.{FactorsConsistent, MapConsistent}
 use Rattle.job.specs.declared.Job.{Job}
 use Rattle.job.specs.declared.Reflection.{Reflection}
 use Rattle.job.specs.declared.GridPoint.{GridPoint}
-use Rattle.job.specs.Job.{Header, halfLengths, needed, mapHeld, factorsHeld, withState, headerOf, validJob, groupIn, halves, within, index, position, opened, notOpened, OpenOutcome, ownTests, openTests, openStep, Said, done, density, refused, recordStep, synthesisStep, analysisStep, pointStep, factor}
+use Rattle.job.specs.Job.{Header, halfLengths, needed, mapHeld, factorsHeld, withState, headerOf, validJob, groupIn, halves, within, index, position, opened, notOpened, OpenOutcome, ownTests, openTests, openStep, Said, done, density, refused, recordStep, synthesisStep, analysisStep, pointStep, factor, power}
 use Rattle.file_format.specs.declared.FileRecord.{FileRecord}
 use Rattle.refusals.specs.Refusals.{first}
 use Rattle.factor_file.specs.File.{indexOf, indexIn, countAt, recordsIn, shapeTests, fileStep, modulusIn, headerIn, writeStep}
-use Rattle.model.specs.Model.{Model, group, half, factorOf, densityOf, signedReal, Call, modelVolume, modelJob, factorVolume, mapVolume, Beginning, begun, notBegun, recording, synthesis, analysis, readPoint, readFactor, modelSaid, modelAfter, openingModel, modelOpen, modelFile}
+use Rattle.model.specs.Model.{Model, group, half, factorOf, densityOf, signedReal, Call, modelVolume, modelJob, factorVolume, mapVolume, Beginning, begun, notBegun, recording, synthesis, analysis, readPoint, readFactor, readMapPower, readFactorPower, modelSaid, modelAfter, openingModel, modelOpen, modelFile}
 use Rattle.output.specs.Output.{notWritten}
 pub use Rattle.job.specs.Job.{step}
 
@@ -92,11 +92,14 @@ abbrev pub acceptedRecord : Call → Said → List FileRecord → List FileRecor
 acceptedRecord (recording k x y) done cs = record { h = k .0; k = k .1; l = k .2; a = x; b = y } ∷ cs
 acceptedRecord (recording k x y) (density n) cs = cs
 acceptedRecord (recording k x y) (factor n n′) cs = cs
+acceptedRecord (recording k x y) (power n) cs = cs
 acceptedRecord (recording k x y) (refused n) cs = cs
 acceptedRecord (synthesis scratch) a cs = cs
 acceptedRecord (analysis scratch) a cs = cs
 acceptedRecord (readPoint x) a cs = cs
 acceptedRecord (readFactor k) a cs = cs
+acceptedRecord readMapPower a cs = cs
+acceptedRecord readFactorPower a cs = cs
 
 unfoldable pub acceptedRecords : List Call → List Said → List FileRecord
 acceptedRecords [] answers = []
@@ -214,6 +217,7 @@ called (c ∷ cs) place j v = let o = recordStep j (indexOf c) (c .a) (c .b) v i
       | done ↦ called cs (suc place) (o .job) (o .volume)
       | density n ↦ called cs (suc place) (o .job) (o .volume)
       | factor x y ↦ called cs (suc place) (o .job) (o .volume)
+      | power n ↦ called cs (suc place) (o .job) (o .volume)
       | refused n ↦ record { answer = notOpened n place; volume = replicate (length v) 0 }
     ]
 

@@ -4,4 +4,6 @@ pub mod Points
 pub mod Reflections
 pub mod Outcomes
 pub mod Volumes
+pub mod Powers
+pub mod PowersKept
 pub mod Lengths

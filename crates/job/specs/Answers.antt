@@ -12,8 +12,10 @@ use Rattle.job.specs.declared.PointAnswer.{PointAnswer}
 use Rattle.job.specs.declared.PointAnswer.the-variants as P
 use Rattle.job.specs.declared.FactorAnswer.{FactorAnswer}
 use Rattle.job.specs.declared.FactorAnswer.the-variants as F
+use Rattle.job.specs.declared.PowerAnswer.{PowerAnswer}
+use Rattle.job.specs.declared.PowerAnswer.the-variants as W
 use Rattle.job.specs.declared.reply.Reply.{Reply}
-use Rattle.job.specs.Job.{Opening, opened, notOpened, OpenOutcome, Said, done, density, factor, refused, Outcome, Worked}
+use Rattle.job.specs.Job.{Opening, opened, notOpened, OpenOutcome, Said, done, density, factor, power, refused, Outcome, Worked}
 
 -- what the declared answers say
 abbrev pub saidOpen : OpenAnswer → Opening
@@ -32,11 +34,16 @@ abbrev pub saidFactor : FactorAnswer → Said
 saidFactor (F.Factor x y) = factor x y
 saidFactor (F.Refused r) = refused (numberOf r)
 
--- An answer as three numbers: the refusal's number or 0, then the density and 0, or the two numbers of the factor, or twice 0.
+abbrev pub saidPower : PowerAnswer → Said
+saidPower (W.Power n) = power n
+saidPower (W.Refused r) = refused (numberOf r)
+
+-- An answer as three numbers: the refusal's number or 0, then the density and 0, or the two numbers of the factor, or the power and 0, or twice 0.
 abbrev pub replyOf : Said → Reply
 replyOf done = record { number = 0; x = pos 0; y = pos 0 }
 replyOf (density n) = record { number = 0; x = n; y = pos 0 }
 replyOf (factor x y) = record { number = 0; x = pos x; y = pos y }
+replyOf (power n) = record { number = 0; x = pos n; y = pos 0 }
 replyOf (refused n) = record { number = n; x = pos 0; y = pos 0 }
 
 -- A reading lends the volume only to be read, and gives no job back.

@@ -16,6 +16,7 @@ use Rattle.cell.specs.Consistency.{recordOn, consistentFactors, consistentMap, 
 use Rattle.job.specs.declared.Reflection.{Reflection}
 use Rattle.job.specs.declared.GridPoint.{GridPoint}
 use Rattle.slices.specs.Pairs.{allBelow}
+use Rattle.power.specs.Power.{mapPower, factorPower}
 
 -- ---- the tests
 
@@ -72,6 +73,21 @@ analysisTestsOf valid state m group n v scratch =
     not (asLong group n v) ⇒ 6 ∷
     ltb scratch scratchLength ⇒ 13 ∷
     mapTests m group n v
+
+-- The power of a map: 25, 22, 6, 7, 14, and of factors: 25, 23, 6, 7, 14: as an analysis and a synthesis, but they need no scratch.
+abbrev pub mapPowerTestsOf : (valid : Bool) (state modulus group : ℕ) (lengths : J) (v : List ℕ) → List Test
+mapPowerTestsOf valid state m group n v =
+    not valid ⇒ 25 ∷
+    not (eqb state mapHeld) ⇒ 22 ∷
+    not (asLong group n v) ⇒ 6 ∷
+    mapTests m group n v
+
+abbrev pub factorPowerTestsOf : (valid : Bool) (state modulus group : ℕ) (lengths : J) (v : List ℕ) → List Test
+factorPowerTestsOf valid state m group n v =
+    not valid ⇒ 25 ∷
+    eqb state mapHeld ⇒ 23 ∷
+    not (asLong group n v) ⇒ 6 ∷
+    factorsTests m group n v
 
 -- ---- a record
 
@@ -186,11 +202,12 @@ openStep m h kind v =
     (record { answer = opened (jobOf m h mapHeld); volume = v }))
     (λ n. record { answer = notOpened n 0; volume = v })
 
--- What a call of a job says, in the paper's numbers and values: a density is a signed whole number, a factor two residues.
+-- What a call of a job says, in the paper's numbers and values: a density is a signed whole number, a factor two residues, a power one.
 pub data Said : Type 0 where
   done : Said
   density : ℤ → Said
   factor : ℕ → ℕ → Said
+  power : ℕ → Said
   refused : ℕ → Said
 
 pub record Outcome : Type 0 where
@@ -256,6 +273,19 @@ factorStep j k v =
     (let x = at (factorsIn (groupIn j) (halves j) (j .modulus) v) (index k) in record { answer = factor (x .0 .val) (x .1 .val); job = j; volume = v })
     (unchanged j v)
 
+-- The power of the map that is held, and of the factors.
+unfoldable pub mapPowerStep : Job → List ℕ → Outcome
+mapPowerStep j v =
+    accepted (first (mapPowerTestsOf (validJob j) (j .state) (j .modulus) (j .group) (headerOf j .lengths) v))
+    (record { answer = power (mapPower (groupIn j) (halves j) (j .modulus) v); job = j; volume = v })
+    (unchanged j v)
+
+unfoldable pub factorPowerStep : Job → List ℕ → Outcome
+factorPowerStep j v =
+    accepted (first (factorPowerTestsOf (validJob j) (j .state) (j .modulus) (j .group) (headerOf j .lengths) v))
+    (record { answer = power (factorPower (groupIn j) (halves j) (j .modulus) v); job = j; volume = v })
+    (unchanged j v)
+
 -- ---- a call as a value
 
 -- A call's arguments. Synthesis and analysis are lent a scratch.
@@ -265,6 +295,8 @@ pub data Call : Type 0 where
   analysis : (scratch : List ℕ) → Call
   readPoint : GridPoint → Call
   readFactor : Reflection → Call
+  readMapPower : Call
+  readFactorPower : Call
 
 -- each call by its own promise
 abbrev pub step : Job → List ℕ → Call → Outcome
@@ -273,3 +305,5 @@ step j v (synthesis scratch) = synthesisStep j v scratch .outcome
 step j v (analysis scratch) = analysisStep j v scratch .outcome
 step j v (readPoint x) = pointStep j x v
 step j v (readFactor k) = factorStep j k v
+step j v readMapPower = mapPowerStep j v
+step j v readFactorPower = factorPowerStep j v

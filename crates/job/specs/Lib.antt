@@ -2,3 +2,4 @@ pub mod Job
 pub mod Plans
 pub mod Answers
 pub mod TestSteps
+pub mod PowerKept

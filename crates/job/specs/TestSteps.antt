@@ -2,7 +2,7 @@
 use Rattle.algebra.specs.Prelude.{Bool, ℕ, List}
 use Rattle.refusals.specs.Refusals.{Test}
 use Rattle.job.specs.declared.Job.{Job}
-use Rattle.job.specs.Job.{headerOf, validJob, synthesisTestsOf, analysisTestsOf, pointTestsOf, factorTestsOf}
+use Rattle.job.specs.Job.{headerOf, validJob, synthesisTestsOf, analysisTestsOf, mapPowerTestsOf, factorPowerTestsOf, pointTestsOf, factorTestsOf}
 use Rattle.algebra.specs.cells.Cell.{J, Sym, sameJ, imageOf, impliedValue, imply}
 use Rattle.numbers.specs.Value.{Value, field, conj}
 use Rattle.cell.specs.Consistency.{sameValue}
@@ -16,6 +16,12 @@ synthesisTests j v scratch = synthesisTestsOf (validJob j) (j .state) (j .modulu
 
 abbrev pub analysisTests : Job → (v : List ℕ) (scratch : ℕ) → List Test
 analysisTests j v scratch = analysisTestsOf (validJob j) (j .state) (j .modulus) (j .group) (headerOf j .lengths) v scratch
+
+abbrev pub mapPowerTests : Job → List ℕ → List Test
+mapPowerTests j v = mapPowerTestsOf (validJob j) (j .state) (j .modulus) (j .group) (headerOf j .lengths) v
+
+abbrev pub factorPowerTests : Job → List ℕ → List Test
+factorPowerTests j v = factorPowerTestsOf (validJob j) (j .state) (j .modulus) (j .group) (headerOf j .lengths) v
 
 abbrev pub pointTests : Job → J → List ℕ → List Test
 pointTests j x v = pointTestsOf (validJob j) (j .state) (j .modulus) (j .group) (headerOf j .lengths) x v

@@ -12,10 +12,13 @@ pub mod factor; // factor.rt: the reading of a structure factor
 pub mod record; // record.rt: the recording of a structure factor
 pub mod synthesis; // synthesis.rt: from the factors to the map
 pub mod analysis; // analysis.rt: from the map to the factors
+pub mod map_power; // map_power.rt: the sum of the squares of the map
+pub mod factor_power; // factor_power.rt: the sum of F × conj F
 pub mod reply; // reply.rt: the answers as numbers
 mod plan; // plan.rt: a job's numbers as the lines of its volume take them
 
 use refusals::Refusal;
+ghost use Rattle.job.specs.PowerKept.{PowerKept};
 
 // The index of a structure factor, in reciprocal space: h, k, l.
 #[repr(C)]
@@ -70,3 +73,14 @@ pub enum FactorAnswer {
     Factor(u32, u32),
     Refused(Refusal),
 }
+
+// The answer of both powers: a residue.
+pub enum PowerAnswer {
+    Power(u32),
+    Refused(Refusal),
+}
+
+// Power is kept by every accepted synthesis and by every accepted analysis.
+pub fn power_kept()
+    ensures { λ _. ⌜ PowerKept ⌝ }
+{}

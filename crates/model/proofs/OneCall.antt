@@ -20,11 +20,12 @@ use Rattle.cell.specs.Volume.{volumeLength, factorsIn, densityPlace, numbersRea
 use Rattle.cell.specs.Consistency.{recordOn, agreesWithItself, orbitFree, sameValue, consistentFactors, consistentMap}
 use Rattle.job.specs.declared.Reflection.{Reflection}
 use Rattle.job.specs.declared.GridPoint.{GridPoint}
-use Rattle.job.specs.Job.{collecting, factorsHeld, mapHeld, validJob, within, index, position, Said, Outcome, Worked, unchanged, recordTests, recordStep, synthesised, synthesisStep, analysed, analysisStep, pointStep, factorStep, step}
-use Rattle.job.specs.TestSteps.{synthesisTests, analysisTests, pointTests, factorTests}
-use Rattle.model.specs.Model.{Model, group, half, factorOf, Call, recording, synthesis, analysis, readPoint, readFactor, modelTests, modelSays, modelNext, modelSaid, modelAfter, inState, modelVolume, modelJob}
+use Rattle.job.specs.Job.{collecting, factorsHeld, mapHeld, validJob, within, index, position, Said, Outcome, Worked, unchanged, recordTests, recordStep, synthesised, synthesisStep, analysed, analysisStep, pointStep, factorStep, mapPowerStep, factorPowerStep, step}
+use Rattle.job.specs.TestSteps.{synthesisTests, analysisTests, pointTests, factorTests, mapPowerTests, factorPowerTests}
+use Rattle.power.specs.Power.{mapPower, factorPower}
+use Rattle.model.specs.Model.{Model, group, half, factorOf, Call, recording, synthesis, analysis, readPoint, readFactor, readMapPower, readFactorPower, modelTests, modelSays, modelNext, modelSaid, modelAfter, inState, modelVolume, modelJob}
 use Rattle.job.proofs.Jobs.{valid-with}
-use Rattle.model.proofs.Sound.{LawfulModel, holds-map, holds-factors, model-length, model-below, within-inside, factors-pass, factor-read, orbit-zero, lawful-recorded, recorded-packed, map-passes, density-read, synthesis-gives, analysis-gives}
+use Rattle.model.proofs.Sound.{LawfulModel, holds-map, holds-factors, model-length, model-below, within-inside, factors-pass, factor-read, orbit-zero, lawful-recorded, recorded-packed, map-passes, density-read, map-power-read, factor-power-read, synthesis-gives, analysis-gives}
 
 -- ---- tests
 
@@ -172,6 +173,26 @@ module _ {μ : ℕ} (m : Model μ) (sound : LawfulModel m) where
       ap (λ (z : Value μ). record { answer = Said.factor (z .0 .val) (z .1 .val); job = modelJob m; volume = modelVolume m })
       (ap (λ (v : List ℕ). at (factorsIn (group m) (half m) μ v) (index k)) (holds-factors m (t .0)) ∙ factor-read m sound (index k) (within-inside m sound (index k) (not-false _ (t .1 .0)))))
 
+  -- ---- the powers
+
+  map-power-tests : first (modelTests m readMapPower) ≡ first (mapPowerTests (modelJob m) (modelVolume m))
+  map-power-tests = pass 25 _ no-25 (same-next _ 22 _ _ (λ s. pass 6 _ no-6 (pass 7 _ no-7 (pass 14 _ (map-no-14 (not-false _ s)) refl))))
+
+  map-power-call : mapPowerStep (modelJob m) (modelVolume m) ≡ result (modelSaid m readMapPower) (modelAfter m readMapPower)
+  unfolding mapPowerStep
+  map-power-call = agrees m readMapPower _ _ map-power-tests (λ e.
+      ap (λ (n : ℕ). record { answer = Said.power n; job = modelJob m; volume = modelVolume m })
+      (ap (mapPower (group m) (half m) μ) (holds-map m (not-false _ (passed (modelTests m readMapPower) tt e .0))) ∙ map-power-read m sound))
+
+  factor-power-tests : first (modelTests m readFactorPower) ≡ first (factorPowerTests (modelJob m) (modelVolume m))
+  factor-power-tests = pass 25 _ no-25 (same-next _ 23 _ _ (λ s. pass 6 _ no-6 (pass 7 _ no-7 (pass 14 _ (factors-no-14 s) refl))))
+
+  factor-power-call : factorPowerStep (modelJob m) (modelVolume m) ≡ result (modelSaid m readFactorPower) (modelAfter m readFactorPower)
+  unfolding factorPowerStep
+  factor-power-call = agrees m readFactorPower _ _ factor-power-tests (λ e.
+      ap (λ (n : ℕ). record { answer = Said.power n; job = modelJob m; volume = modelVolume m })
+      (ap (factorPower (group m) (half m) μ) (holds-factors m (passed (modelTests m readFactorPower) tt e .0)) ∙ factor-power-read m sound))
+
 -- ---- every call
 
 pub one-call : {μ : ℕ} (m : Model μ) → LawfulModel m → (c : Call) → (step (modelJob m) (modelVolume m) c ≡ record { answer = modelSaid m c; job = modelJob (modelAfter m c); volume = modelVolume (modelAfter m c) }) × LawfulModel (modelAfter m c)
@@ -180,6 +201,8 @@ one-call m sound (synthesis scratch) = (synthesis-call m sound scratch, stays-so
 one-call m sound (analysis scratch) = (analysis-call m sound scratch, stays-sound m (analysis scratch) sound (λ e. record { valid = valid-with (modelJob m) factorsHeld (sound .valid) (omega arith); lawful = sound .lawful }))
 one-call m sound (readPoint x) = (point-call m sound x, stays-sound m (readPoint x) sound (λ e. sound))
 one-call m sound (readFactor k) = (factor-call m sound k, stays-sound m (readFactor k) sound (λ e. sound))
+one-call m sound readMapPower = (map-power-call m sound, stays-sound m readMapPower sound (λ e. sound))
+one-call m sound readFactorPower = (factor-power-call m sound, stays-sound m readFactorPower sound (λ e. sound))
 
 -- a call that no test of the model refuses
 pub accepted-call : {μ : ℕ} (m : Model μ) → LawfulModel m → (c : Call) → 0 ≡ first (modelTests m c) → step (modelJob m) (modelVolume m) c ≡ result (modelSays m c) (modelNext m c)

@@ -35,11 +35,13 @@ use Rattle.cell.proofs.Maps.{map-consistent, map-cong}
 use Rattle.cell.proofs.Points.{map-obeys, map-real, read-point, analysis-packed}
 use Rattle.cell.proofs.Records.{record-lawful, record-packed}
 use Rattle.cell.proofs.OrbitNumbers.{orbit-free}
+use Rattle.power.specs.Power.{mapPower, factorPower}
+use Rattle.power.proofs.PowerKept.{cell-cong}
 use Rattle.header.specs.Cells.{headerCell}
 use Rattle.job.specs.Job.{mapHeld, validJob, within}
 use Rattle.header.proofs.Headers.{all-three}
 use Rattle.job.proofs.Jobs.{valid-modulus, valid-job-sizes}
-use Rattle.model.specs.Model.{Model, group, half, factorOf, densityOf, factorVolume, mapVolume, modelVolume, modelJob}
+use Rattle.model.specs.Model.{Model, group, half, factorOf, densityOf, mapPowerOf, factorPowerOf, factorVolume, mapVolume, modelVolume, modelJob}
 
 pub record LawfulModel {μ : ℕ} (m : Model μ) : Type 0 where
   pub valid : validJob (modelJob m) ≡ true
@@ -135,6 +137,15 @@ module _ {μ : ℕ} (m : Model μ) (sound : LawfulModel m) where
   density-read x n =
       sym (val-res μ (below-map (group m) (half m) μ (mapOf μ (half m) (m .F)) .each _))
       ∙ ap (λ y. y .0 .val) (read-point (group m) (half m) μ (axis-laws μ modulus (sizes .first)) (axis-laws μ modulus (sizes .second)) (axis-laws μ modulus (sizes .third)) (m .F) (sound .lawful) x n)
+
+  -- the powers of what stands in the volume
+  pub map-power-read : mapPower (group m) (half m) μ (mapVolume m) ≡ mapPowerOf m
+  unfolding mapPower
+  map-power-read = ap (λ y. y .0 .val) (cell-cong μ (half m) _ _ (λ x n. ap (λ y. field μ .mul y y) (read-point (group m) (half m) μ (axis-laws μ modulus (sizes .first)) (axis-laws μ modulus (sizes .second)) (axis-laws μ modulus (sizes .third)) (m .F) (sound .lawful) x n)))
+
+  pub factor-power-read : factorPower (group m) (half m) μ (factorVolume m) ≡ factorPowerOf m
+  unfolding factorPower
+  factor-power-read = ap (λ y. y .0 .val) (cell-cong μ (half m) _ _ (λ j n. ap (λ y. field μ .mul y (conj μ y)) (factor-read j n)))
 
   pub density-real : (x : J) → Inside (half m) x → densityOf m x .1 .val ≡ 0
   density-real x n = ap (λ y. y .1 .val) (map-is-real x n) ∙ val-res μ (prime-pos μ)

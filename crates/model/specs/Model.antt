@@ -2,18 +2,19 @@
 -- save a volume opened as a map, and knows no packing: its refusals follow from arguments and state alone.
 use Rattle.algebra.specs.Prelude.{_&&_, not, cond, eqb, leb, ltb, ℕ, List, [], _∷_, length}
 use Rattle.algebra.specs.cells.Cell.{J, Group, Cell, at}
-use Rattle.numbers.specs.Value.{prime, isModulus, Value, value}
+use Rattle.numbers.specs.Value.{prime, isModulus, Value, value, field, conj}
 use Rattle.signed.specs.Integers.{ℤ, centred}
 use Rattle.refusals.specs.Refusals.{Test, _⇒_, first, accepted}
 use Rattle.lengths.specs.Lengths.{scratchLength}
 use Rattle.cell.specs.Volume.{groupOf, packFactors, mapIn, packMap, mapOf, factorsOf}
 use Rattle.cell.specs.Consistency.{sameValue, recordIn, agreesWithItself}
 use Rattle.job.specs.declared.Job.{Job}
-use Rattle.job.specs.Job.{Header, halfLengths, axisTests, collecting, factorsHeld, mapHeld, jobOf, within, index, position, Said, done, density, factor, refused}
+use Rattle.job.specs.Job.{Header, halfLengths, axisTests, collecting, factorsHeld, mapHeld, jobOf, within, index, position, Said, done, density, factor, power, refused}
+use Rattle.power.specs.Power.{overCell}
 use Rattle.file_format.specs.declared.FileRecord.{FileRecord}
 use Rattle.file_format.specs.Format.{recordsIn, shapeTests, headerIn}
 use Rattle.factor_file.specs.File.{taken, refusedAt, judged}
-pub use Rattle.job.specs.Job.{Call, recording, synthesis, analysis, readPoint, readFactor}
+pub use Rattle.job.specs.Job.{Call, recording, synthesis, analysis, readPoint, readFactor, readMapPower, readFactorPower}
 
 -- The header is the opening's. The model uses its group and its lengths; the factor lists are in the job that is given back.
 -- F is meant below the lengths: an image goes round the cell, and a call that names an index beyond it is refused.
@@ -40,6 +41,13 @@ densityOf {μ} m x = at (mapOf μ (half m) (m .F)) x
 abbrev pub signedReal : (μ : ℕ) → Value μ → ℤ
 signedReal μ d = centred (prime μ) (d .0 .val)
 
+-- the sum over the whole cell of the square of the map, and of F × conj F, each a residue: they are real
+abbrev pub mapPowerOf : {μ : ℕ} → Model μ → ℕ
+mapPowerOf {μ} m = (overCell μ (half m) (λ x y z. field μ .mul (densityOf m (x, y, z)) (densityOf m (x, y, z)))) .0 .val
+
+abbrev pub factorPowerOf : {μ : ℕ} → Model μ → ℕ
+factorPowerOf {μ} m = (overCell μ (half m) (λ h k l. field μ .mul (factorOf m (h, k, l)) (conj μ (factorOf m (h, k, l))))) .0 .val
+
 -- ---- calls
 
 -- The refusals of a call, in the paper's order. Faults of job or volume (25, 6, 14, and 7 in the volume) do not arise.
@@ -55,6 +63,8 @@ modelTests m (synthesis scratch) = eqb (m .state) mapHeld ⇒ 23 ∷ ltb (length
 modelTests m (analysis scratch) = not (eqb (m .state) mapHeld) ⇒ 22 ∷ ltb (length scratch) scratchLength ⇒ 13 ∷ []
 modelTests m (readPoint x) = not (eqb (m .state) mapHeld) ⇒ 22 ∷ not (within (m .header .lengths) (position x)) ⇒ 10 ∷ []
 modelTests m (readFactor k) = eqb (m .state) mapHeld ⇒ 23 ∷ not (within (m .header .lengths) (index k)) ⇒ 10 ∷ []
+modelTests m readMapPower = not (eqb (m .state) mapHeld) ⇒ 22 ∷ []
+modelTests m readFactorPower = eqb (m .state) mapHeld ⇒ 23 ∷ []
 
 -- what an accepted call says ..
 abbrev pub modelSays : {μ : ℕ} → Model μ → Call → Said
@@ -63,6 +73,8 @@ modelSays m (synthesis scratch) = done
 modelSays m (analysis scratch) = done
 modelSays {μ} m (readPoint x) = density (signedReal μ (densityOf m (position x)))
 modelSays m (readFactor k) = factor (factorOf m (index k) .0 .val) (factorOf m (index k) .1 .val)
+modelSays m readMapPower = power (mapPowerOf m)
+modelSays m readFactorPower = power (factorPowerOf m)
 
 -- .. and what the model is after it: a record puts its value at its index and the implied value at each image, synthesis and analysis change the state alone
 abbrev pub inState : {μ : ℕ} → Model μ → ℕ → Model μ
@@ -74,6 +86,8 @@ modelNext m (synthesis scratch) = inState m mapHeld
 modelNext m (analysis scratch) = inState m factorsHeld
 modelNext m (readPoint x) = m
 modelNext m (readFactor k) = m
+modelNext m readMapPower = m
+modelNext m readFactorPower = m
 
 -- a refused call answers its number and changes nothing
 unfoldable pub modelSaid : {μ : ℕ} → Model μ → Call → Said

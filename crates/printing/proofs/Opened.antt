@@ -17,7 +17,7 @@ use Rattle.model.specs.Model.{Model, synthesis, inState, mapVolume, modelVolume
 use Rattle.model.proofs.Sound.{LawfulModel, holds-map}
 use Rattle.model.proofs.OneCall.{result, accepted-call}
 use Rattle.demands.specs.Demands.{reading, Started, Faultless}
-use Rattle.demands.proofs.Restoring.{synthesis-accepted}
+use Rattle.job.proofs.Outcomes.{synthesis-accepted}
 use Rattle.demands.proofs.Starts.{accepted-start, started-sound, faultless-starts}
 use Rattle.demands.proofs.AcceptedRecords.{start-fed}
 use Rattle.printing.specs.Text.{mapText, refusalText, fileLimit, lentLimit, openedText, printed}

@@ -8,8 +8,8 @@ use Rattle.lengths.specs.Lengths.{cleared}
 use Rattle.job.specs.declared.Job.{Job}
 use Rattle.job.specs.declared.reply.Reply.{Reply}
 use Rattle.job.specs.Answers.{replyOf}
-use Rattle.job.specs.Job.{Said, done, density, factor, refused}
-pub use Rattle.job.specs.Job.{Call, recording, synthesis, analysis, readPoint, readFactor, step}
+use Rattle.job.specs.Job.{Said, done, density, factor, power, refused}
+pub use Rattle.job.specs.Job.{Call, recording, synthesis, analysis, readPoint, readFactor, readMapPower, readFactorPower, step}
 use Rattle.scripts.specs.declared.calls.Called.{Called}
 use Rattle.model.specs.Model.{Model, Call}
 use Rattle.demands.specs.Demands.{Ran, run, modelRan}
@@ -49,6 +49,7 @@ abbrev pub clearedIfDone : Said → List ℕ → List ℕ
 clearedIfDone done s = cleared s
 clearedIfDone (density n) s = s
 clearedIfDone (factor x y) s = s
+clearedIfDone (power n) s = s
 clearedIfDone (refused n) s = s
 
 abbrev pub scratchLeft : Call → Said → List ℕ → List ℕ
@@ -57,6 +58,8 @@ scratchLeft (synthesis lent) a s = clearedIfDone a s
 scratchLeft (analysis lent) a s = clearedIfDone a s
 scratchLeft (readPoint x) a s = s
 scratchLeft (readFactor k) a s = s
+scratchLeft readMapPower a s = s
+scratchLeft readFactorPower a s = s
 
 -- the three numbers that it answers, and what it leaves
 pub record CallOutcome : Type 0 where

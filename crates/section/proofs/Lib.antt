@@ -1,0 +1,9 @@
+pub mod Totals
+pub mod Readings
+pub mod Planes
+pub mod Floors
+pub mod Blanks
+pub mod Appended
+pub mod Widths
+pub mod Lined
+pub mod Outcomes

@@ -1,3 +1,4 @@
 pub mod Decimals
 pub mod BigEndian
+pub mod LittleEndian
 pub mod Writing

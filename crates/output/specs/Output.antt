@@ -1,4 +1,4 @@
--- What an output is made of: numbers in decimal or in big-endian bytes, the blank and the line feed, and things in a row. A text is in ASCII.
+-- What an output is made of: numbers in decimal, in big-endian or in little-endian bytes, the blank and the line feed, and things in a row. A text is in ASCII.
 use Rattle.algebra.specs.Prelude.{cond, ltb, ℕ, zero, suc, _+_, _/_, _%_, List, [], _∷_, _++_, length, drop}
 use Rattle.signed.specs.Integers.{ℤ, pos, negsuc}
 
@@ -23,6 +23,11 @@ signedDecimal (negsuc n) = minus ∷ decimal (suc n)
 unfoldable pub bigEndian : (n x : ℕ) → List ℕ
 bigEndian zero x = []
 bigEndian (suc n) x = bigEndian n (x / 256) ++ x % 256 ∷ []
+
+-- n little-endian bytes of a number
+unfoldable pub littleEndian : (n x : ℕ) → List ℕ
+littleEndian zero x = []
+littleEndian (suc n) x = x % 256 ∷ littleEndian n (x / 256)
 
 abbrev pub blank : ℕ
 blank = 32

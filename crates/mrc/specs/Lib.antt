@@ -1,0 +1,5 @@
+pub mod Floats
+pub mod Parameters
+pub mod Header
+pub mod Ranges
+pub mod Mrc

@@ -5,6 +5,7 @@ pub mod CellMap
 pub mod CellOps
 pub mod CellSteps
 pub mod CellPower
+pub mod CellCorrelation
 pub mod CellLawful
 pub mod CellLines
 pub mod CellTests

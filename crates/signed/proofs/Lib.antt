@@ -3,3 +3,4 @@ pub mod Centred
 pub mod Floor
 pub mod IntegerRing
 pub mod Numerals
+pub mod Magnitudes

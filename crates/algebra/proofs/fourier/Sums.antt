@@ -96,6 +96,19 @@ module _ {R : Type 0} {𝓞 : Ops R} (𝓡 : CRing 𝓞) where
       go (yes p) ih = rw p (ap (λ y. y ⊕ f n) (sum-all-zero n f (λ i l. e i (omega arith) (omega arith))) ∙ zero-add (f n))
       go (no np) ih = ap₂ _⊕_ (ih (omega arith)) (e n (omega arith) (omega arith)) ∙ add-zero 𝓡 (f u)
 
+  -- one term that is more by d
+  pub sum-one : (n u : ℕ) (d : R) (f g : ℕ → R) → u < n → g u ≡ f u ⊕ d → ((i : ℕ) → i < n → i ≢ u → g i ≡ f i) → sum 𝓞 n g ≡ sum 𝓞 n f ⊕ d
+  unfolding sum
+  sum-one zero u d f g h at e = absurd (omega arith)
+  sum-one (suc n) u d f g h at e = go (ℕ-discrete u n) (λ l. sum-one n u d f g l at (λ i l. e i (omega arith)))
+    where
+      swap : (x y z : R) → x ⊕ y ⊕ z ≡ x ⊕ z ⊕ y
+      swap x y z = ring 𝓡 (x ∷ y ∷ z ∷ []) (search quote depth 40 fits 9999) refl
+
+      go : Dec (u ≡ n) → (u < n → sum 𝓞 n g ≡ sum 𝓞 n f ⊕ d) → sum 𝓞 n g ⊕ g n ≡ sum 𝓞 n f ⊕ f n ⊕ d
+      go (yes p) ih = ap₂ _⊕_ (sum-cong n g f (λ i l. e i (omega arith) (omega arith))) (ap g (sym p) ∙ at ∙ ap (λ k. f k ⊕ d) p) ∙ sym (add-assoc (sum 𝓞 n f) (f n) d)
+      go (no np) ih = ap₂ _⊕_ (ih (omega arith)) (e n (omega arith) (omega arith)) ∙ swap _ _ _
+
   -- going round: a function with period n, moved
   pub sum-turn : (n : ℕ) (f : ℕ → R) → f n ≡ f 0 → sum 𝓞 n (λ i. f (suc i)) ≡ sum 𝓞 n f
   unfolding sum

@@ -1,0 +1,12 @@
+pub mod Scans
+pub mod Signs
+pub mod Numerals
+pub mod Folding
+pub mod Limits
+pub mod Volumes
+pub mod Correlated
+pub mod Turned
+pub mod Tests
+pub mod Restored
+pub mod Outcome
+pub mod Demands

@@ -1,0 +1,10 @@
+-- The theorems, promised.
+use Rattle.correlation.proofs.Demands.{sensitive, self-at-zero}
+use Rattle.correlation.proofs.sensitive.Statement.{statement}
+use Rattle.correlation.proofs.sensitive.Tie as tie
+
+returns : tie.Need-returns
+returns c = (sensitive, self-at-zero)
+
+pub sensitive-spec : {M : Type 1} → statement M
+sensitive-spec = tie.close (tie.spec returns)

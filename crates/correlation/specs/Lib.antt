@@ -1,0 +1,4 @@
+pub mod Correlation
+pub mod Steps
+pub mod Answers
+pub mod Demands

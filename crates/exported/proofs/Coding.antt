@@ -10,8 +10,9 @@ use Rattle.job.specs.declared.Answered.{Answered}
 use Rattle.job.specs.declared.OpenAnswer.{OpenAnswer}
 use Rattle.job.specs.declared.PointAnswer.{PointAnswer}
 use Rattle.job.specs.declared.FactorAnswer.{FactorAnswer}
+use Rattle.job.specs.declared.PowerAnswer.{PowerAnswer}
 use Rattle.job.specs.Job.{OpenOutcome, Said, Outcome, Worked}
-use Rattle.job.specs.Answers.{said, saidOpen, saidPoint, saidFactor, replyOf, openOutcome, outcome, worked}
+use Rattle.job.specs.Answers.{said, saidOpen, saidPoint, saidFactor, saidPower, replyOf, openOutcome, outcome, worked}
 use Rattle.factor_file.specs.declared.FileAnswer.{FileAnswer}
 use Rattle.factor_file.specs.declared.faults.Faults.{Faults}
 use Rattle.factor_file.specs.Faults.{saidFaults}
@@ -24,10 +25,16 @@ use Rattle.exported.specs.declared.answers.FileCoded.{FileCoded}
 use Rattle.exported.specs.declared.answers.FaultsCoded.{FaultsCoded}
 use Rattle.exported.specs.declared.answers.PointCoded.{PointCoded}
 use Rattle.exported.specs.declared.answers.FactorCoded.{FactorCoded}
-use Rattle.exported.specs.Answers.{openingCoded, openCoded, fileAnswerCoded, fileCoded, faultsCoded, recordCoded, workCoded, pointCoded, factorCoded, writingCoded, writeCoded, combineCoded, lineCoded, windowCoded}
+use Rattle.exported.specs.declared.answers.PowerCoded.{PowerCoded}
+use Rattle.exported.specs.Answers.{openingCoded, openCoded, fileAnswerCoded, fileCoded, faultsCoded, recordCoded, workCoded, pointCoded, factorCoded, powerCoded, writingCoded, writeCoded, combineCoded, correlationCoded, lineCoded, windowCoded}
 use Rattle.exported.specs.declared.answers.WriteCoded.{WriteCoded}
+use Rattle.cell.specs.declared.operations.UnitCell.{UnitCell}
+use Rattle.mrc.specs.declared.parameters.CellParameters.{CellParameters}
+use Rattle.mrc.specs.Mrc.{mrcStep}
 use Rattle.combining.specs.Combining.{CombineOutcome}
 use Rattle.combining.specs.Answers.{combineOutcome}
+use Rattle.correlation.specs.Correlation.{Buffers, CorrelationOutcome}
+use Rattle.correlation.specs.Answers.{correlationOutcome}
 use Rattle.sliding_window.specs.Window.{Extremes, WindowOutcome}
 use Rattle.sliding_window.specs.Answers.{windowOutcome}
 
@@ -53,11 +60,21 @@ point-coded a r s h e = h ∙ ap pointCoded e
 pub factor-coded : (a : FactorAnswer) (r : FactorCoded) (s : Said) → r ≡ factorCoded (saidFactor a) → saidFactor a ≡ s → r ≡ factorCoded s
 factor-coded a r s h e = h ∙ ap factorCoded e
 
+pub power-coded : (a : PowerAnswer) (r : PowerCoded) (s : Said) → r ≡ powerCoded (saidPower a) → saidPower a ≡ s → r ≡ powerCoded s
+power-coded a r s h e = h ∙ ap powerCoded e
+
 pub write-coded : (a : FillAnswer) (r : WriteCoded) (v : List ℕ) (o : FillOutcome) → r ≡ writingCoded (saidFill a) → fillOutcome a v ≡ o → (r, v) ≡ writeCoded o
 write-coded a r v o h e = ap (λ r. (r, v)) h ∙ ap writeCoded e
 
+-- of a viewer's file, whose unit cell is that of the struct
+pub mrc-coded : (a : FillAnswer) (r : WriteCoded) (v : List ℕ) (cell : UnitCell) (map : List ℤ) (p q : CellParameters) (output : List ℕ) → r ≡ writingCoded (saidFill a) → p ≡ q → fillOutcome a v ≡ mrcStep cell map p output → (r, v) ≡ writeCoded (mrcStep cell map q output)
+mrc-coded a r v cell map p q output h e f = write-coded a r v (mrcStep cell map q output) h (f ∙ ap (λ (x : CellParameters). mrcStep cell map x output) e)
+
 pub combine-coded : (a : FillAnswer) (r : WriteCoded) (v : List ℤ) (o : CombineOutcome) → r ≡ writingCoded (saidFill a) → combineOutcome a v ≡ o → (r, v) ≡ combineCoded o
 combine-coded a r v o h e = ap (λ r. (r, v)) h ∙ ap combineCoded e
+
+pub correlation-coded : (a : FillAnswer) (r : WriteCoded) (w : Buffers) (o : CorrelationOutcome) → r ≡ writingCoded (saidFill a) → correlationOutcome a w ≡ o → (r, w) ≡ correlationCoded o
+correlation-coded a r w o h e = ap (λ r. (r, w)) h ∙ ap correlationCoded e
 
 pub window-coded : (a : FillAnswer) (r : WriteCoded) (v : Extremes) (o : WindowOutcome) → r ≡ writingCoded (saidFill a) → windowOutcome a (v .least) (v .greatest) (v .leastAt) (v .greatestAt) ≡ o → (r, v) ≡ windowCoded o
 window-coded a r v o h e = ap (λ r. (r, v)) h ∙ ap windowCoded e

@@ -4,17 +4,19 @@ use Prim.Native.Nat.{ℕ}
 use Rattle.signed.specs.Integers.{ℤ, pos}
 use Rattle.job.specs.declared.Axis.{Axis}
 use Rattle.job.specs.declared.Job.{Job}
-use Rattle.job.specs.Job.{Opening, Opening.opened, Opening.notOpened, OpenOutcome, Said, Said.done, Said.density, Said.factor, Said.refused, Outcome, Worked}
+use Rattle.job.specs.Job.{Opening, Opening.opened, Opening.notOpened, OpenOutcome, Said, Said.done, Said.density, Said.factor, Said.power, Said.refused, Outcome, Worked}
 use Rattle.job.specs.Answers.{replyOf}
 use Rattle.exported.specs.declared.answers.JobCoded.{JobCoded}
 use Rattle.exported.specs.declared.answers.FileCoded.{FileCoded}
 use Rattle.exported.specs.declared.answers.FaultsCoded.{FaultsCoded}
 use Rattle.exported.specs.declared.answers.PointCoded.{PointCoded}
 use Rattle.exported.specs.declared.answers.FactorCoded.{FactorCoded}
+use Rattle.exported.specs.declared.answers.PowerCoded.{PowerCoded}
 use Rattle.line.specs.Line.{LineOutcome}
 use Rattle.output.specs.Output.{Filled, Filled.written, Filled.notWritten, FillOutcome}
 use Rattle.exported.specs.declared.answers.WriteCoded.{WriteCoded}
 use Rattle.combining.specs.Combining.{CombineOutcome}
+use Rattle.correlation.specs.Correlation.{Buffers, CorrelationOutcome}
 use Rattle.sliding_window.specs.Window.{Extremes, WindowOutcome}
 
 -- what stands for the job that a refused opening does not give
@@ -56,14 +58,24 @@ pointCoded (density n) = record { number = 0; density = n }
 pointCoded (refused n) = record { number = n; density = pos 0 }
 pointCoded done = record { number = 0; density = pos 0 }
 pointCoded (factor x y) = record { number = 0; density = pos 0 }
+pointCoded (power n) = record { number = 0; density = pos 0 }
 
 abbrev pub factorCoded : Said → FactorCoded
 factorCoded (factor x y) = record { number = 0; a = x; b = y }
 factorCoded (refused n) = record { number = n; a = 0; b = 0 }
 factorCoded done = record { number = 0; a = 0; b = 0 }
 factorCoded (density n) = record { number = 0; a = 0; b = 0 }
+factorCoded (power n) = record { number = 0; a = 0; b = 0 }
 
--- ---- the same of the writer, of two combined maps, of a line and of the windows of a run
+-- A power is said or refused.
+abbrev pub powerCoded : Said → PowerCoded
+powerCoded (power n) = record { number = 0; power = n }
+powerCoded (refused n) = record { number = n; power = 0 }
+powerCoded done = record { number = 0; power = 0 }
+powerCoded (density n) = record { number = 0; power = 0 }
+powerCoded (factor x y) = record { number = 0; power = 0 }
+
+-- ---- the same of the writer, of two combined maps, of their correlation, of a line and of the windows of a run
 
 abbrev pub writingCoded : Filled → WriteCoded
 writingCoded (written n) = record { number = 0; written = n }
@@ -74,6 +86,9 @@ writeCoded o = (writingCoded (o .answer), o .output)
 
 abbrev pub combineCoded : CombineOutcome → WriteCoded × List ℤ
 combineCoded o = (writingCoded (o .answer), o .output)
+
+abbrev pub correlationCoded : CorrelationOutcome → WriteCoded × Buffers
+correlationCoded o = (writingCoded (o .answer), o .buffers)
 
 abbrev pub lineCoded : LineOutcome → ℕ × List ℕ × List ℕ
 lineCoded o = (o .answer, o .line, o .scratch)

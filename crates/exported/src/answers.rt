@@ -9,14 +9,15 @@ use job::FactorAnswer;
 use job::Job;
 use job::OpenAnswer;
 use job::PointAnswer;
+use job::PowerAnswer;
 use job::reply;
 use output::FillAnswer;
 ghost use mathlib.Core.Path.{_≡_};
-ghost use Rattle.job.specs.Answers.{said, saidOpen, saidPoint, saidFactor, replyOf};
+ghost use Rattle.job.specs.Answers.{said, saidOpen, saidPoint, saidFactor, saidPower, replyOf};
 ghost use Rattle.factor_file.specs.Answers.{saidFile};
 ghost use Rattle.factor_file.specs.Faults.{saidFaults};
 ghost use Rattle.output.specs.Answers.{saidFill};
-ghost use Rattle.exported.specs.Answers.{noJob, openingCoded, fileAnswerCoded, faultsCoded, pointCoded, factorCoded, writingCoded};
+ghost use Rattle.exported.specs.Answers.{noJob, openingCoded, fileAnswerCoded, faultsCoded, pointCoded, factorCoded, powerCoded, writingCoded};
 
 // The answer of an opening, a record, a synthesis and an analysis.
 #[repr(C)]
@@ -37,6 +38,13 @@ pub struct FactorCoded {
     pub number: u32,
     pub a: u32,
     pub b: u32,
+}
+
+// The answer of both powers: a residue.
+#[repr(C)]
+pub struct PowerCoded {
+    pub number: u32,
+    pub power: u32,
 }
 
 // The answer of the opening of a file: the place is that of the refused record.
@@ -149,6 +157,18 @@ pub fn factor_coded(answer: FactorAnswer) -> FactorCoded
             number: refusals::number_of(refusal),
             a: 0,
             b: 0,
+        },
+    }
+}
+
+pub fn power_coded(answer: PowerAnswer) -> PowerCoded
+    ensures { λ r. ⌜ r ≡ powerCoded (saidPower answer) ⌝ }
+{
+    match answer {
+        PowerAnswer::Power(power) => PowerCoded { number: 0, power },
+        PowerAnswer::Refused(refusal) => PowerCoded {
+            number: refusals::number_of(refusal),
+            power: 0,
         },
     }
 }

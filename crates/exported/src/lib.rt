@@ -1,16 +1,21 @@
-// The recorder for programs in C: each function is a public call of crate line, job, factor_file, combining or sliding_window under a
+// The recorder for programs in C: each function is a public call of crate line, job, factor_file, combining, section, mrc,
+// correlation or sliding_window under a
 // C name, and include/recorder.h declares it again.
 //
 // A job, an index and a point go in and come back by value; a buffer is a pointer and a length. Every answer has a number: 0, or
 // the paper's number of the refusal. What only an accepted call gives is zero in a refused one.
 pub mod answers; // answers.rt: what the calls answer, as numbers
+pub mod cells; // cells.rt: the unit cell of a viewer's file
 
 use crate::answers::FactorCoded;
 use crate::answers::FaultsCoded;
 use crate::answers::FileCoded;
 use crate::answers::JobCoded;
 use crate::answers::PointCoded;
+use crate::answers::PowerCoded;
 use crate::answers::WriteCoded;
+use crate::cells::CellCoded;
+use cell::operations::UnitCell;
 use factor_file::faults;
 use factor_file::open_file;
 use job::GridPoint;
@@ -20,12 +25,17 @@ use line::LineAnswer;
 ghost use mathlib.Core.Path.{_≡_};
 ghost use Rattle.line.specs.Line.{lineStep};
 ghost use Rattle.line.specs.Answers.{saidLine};
-ghost use Rattle.job.specs.Job.{openStep, recordStep, synthesisStep, analysisStep, pointStep, factorStep};
+ghost use Rattle.job.specs.Job.{openStep, recordStep, synthesisStep, analysisStep, pointStep, factorStep, mapPowerStep, factorPowerStep};
 ghost use Rattle.factor_file.specs.File.{fileStep, writeStep};
 ghost use Rattle.factor_file.specs.Faults.{faultsIn};
 ghost use Rattle.combining.specs.Combining.{combineStep};
+ghost use Rattle.section.specs.Section.{sectionStep};
+ghost use Rattle.mrc.specs.Mrc.{mrcStep};
+ghost use Rattle.correlation.specs.Correlation.{headerOf, correlationStep};
+ghost use Rattle.correlation.specs.Answers.{buffers};
 ghost use Rattle.sliding_window.specs.Window.{windowStep};
-ghost use Rattle.exported.specs.Answers.{openCoded, fileCoded, faultsCoded, recordCoded, workCoded, pointCoded, factorCoded, writeCoded, combineCoded, lineCoded, windowCoded};
+ghost use Rattle.exported.specs.Answers.{openCoded, fileCoded, faultsCoded, recordCoded, workCoded, pointCoded, factorCoded, powerCoded, writeCoded, combineCoded, correlationCoded, lineCoded, windowCoded};
+ghost use Rattle.exported.specs.Cells.{parametersOf};
 
 // Opens a job. A refused opening gives a job of zeros, which every call refuses.
 #[no_mangle]
@@ -128,6 +138,22 @@ pub extern "C" fn recorder_factor(held: Job, at: Reflection, volume: &[u32]) -> 
     crate::answers::factor_coded(held.factor(at, volume))
 }
 
+// The power of a map: the sum of its squares over the whole cell, modulo the prime.
+#[no_mangle]
+pub extern "C" fn recorder_map_power(held: Job, volume: &[u32]) -> PowerCoded
+    ensures { λ r. ⌜ r ≡ powerCoded (mapPowerStep held (now (volume .entry)) .answer) ⌝ }
+{
+    crate::answers::power_coded(held.map_power(volume))
+}
+
+// The power of factors: the sum of F times its conjugate over the whole cell, modulo the prime.
+#[no_mangle]
+pub extern "C" fn recorder_factor_power(held: Job, volume: &[u32]) -> PowerCoded
+    ensures { λ r. ⌜ r ≡ powerCoded (factorPowerStep held (now (volume .entry)) .answer) ⌝ }
+{
+    crate::answers::power_coded(held.factor_power(volume))
+}
+
 // Combines two maps of one cell, one for each prime.
 #[no_mangle]
 pub extern "C" fn recorder_combine(
@@ -145,6 +171,77 @@ pub extern "C" fn recorder_combine(
         second,
         second_map,
         output,
+    ))
+}
+
+// A plane of a combined map as a page of text.
+#[no_mangle]
+pub extern "C" fn recorder_section(
+    group: u32,
+    n1: u32,
+    n2: u32,
+    n3: u32,
+    map: &[i64],
+    z: u32,
+    out: &mut [u8],
+) -> WriteCoded
+    ensures { λ r. ⌜ (r, now (out .exit)) ≡ writeCoded (sectionStep group (n1, n2, n3) (now (map .entry)) z (now (out .entry))) ⌝ }
+{
+    crate::answers::filled_coded(section::section_text(group, n1, n2, n3, map, z, out))
+}
+
+// The whole cell of a combined map as a file in the format MRC2014.
+#[no_mangle]
+pub extern "C" fn recorder_mrc(
+    group: u32,
+    n1: u32,
+    n2: u32,
+    n3: u32,
+    map: &[i64],
+    cell: CellCoded,
+    out: &mut [u8],
+) -> WriteCoded
+    ensures { λ r. ⌜ (r, now (out .exit)) ≡ writeCoded (mrcStep (record { group = group; n1 = n1; n2 = n2; n3 = n3 }) (now (map .entry)) (parametersOf cell) (now (out .entry))) ⌝ }
+{
+    let unit = UnitCell { group, n1, n2, n3 };
+    crate::answers::filled_coded(mrc::mrc_map(unit, map, crate::cells::parameters_of(cell), out))
+}
+
+// The correlation of two combined maps of P1, at every shift.
+#[no_mangle]
+pub extern "C" fn recorder_correlate(
+    n1: u32,
+    n2: u32,
+    n3: u32,
+    f1: &[u8],
+    f2: &[u8],
+    f3: &[u8],
+    a: &[i64],
+    b: &[i64],
+    output: &mut [i64],
+    work1: &mut [u32],
+    work2: &mut [u32],
+    work3: &mut [u32],
+    scratch: &mut [u32],
+) -> WriteCoded
+    ensures { λ r. ⌜ (r, buffers (now (output .exit)) (now (work1 .exit)) (now (work2 .exit)) (now (work3 .exit)) (now (scratch .exit)))
+        ≡ correlationCoded (correlationStep (headerOf (n1, n2, n3) (now (f1 .entry)) (now (f2 .entry)) (now (f3 .entry))) (now (a .entry)) (now (b .entry))
+        (buffers (now (output .entry)) (now (work1 .entry)) (now (work2 .entry)) (now (work3 .entry)) (now (scratch .entry)))) ⌝ }
+{
+    crate::answers::filled_coded(correlation::correlate(
+        n1,
+        n2,
+        n3,
+        f1,
+        f2,
+        f3,
+        a,
+        b,
+        output,
+        work1,
+        work2,
+        work3,
+        scratch,
     ))
 }
 

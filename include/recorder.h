@@ -19,14 +19,17 @@
      packed times i), or the map on the planes z = 0 to W - 1 with two zeros after each row. recorder_volume_length computes the count.
    - A combined map is laid out as a map is, in signed numbers of 64 bits: it has as many of them as the volume has numbers, and two zeros
      after each row, which no call reads.
+   - A work volume has exactly as many numbers as the volume. An accepted call leaves it zero, whatever it held.
    - The scratch has at least 11,520 numbers. An accepted call leaves its first 11,520 numbers zero and the others untouched.
    - A factor list has the numbers 2 to 5 in any order, with the product N/2; it is empty for N = 2.
 
    Threads and stack. The library keeps no state and asks for no memory: any number of threads may call it at once, each with buffers of its
-   own; a volume that all of them only read (recorder_point, recorder_factor, recorder_write_file, recorder_combine) may be shared. By
-   measurement on x86-64 synthesis and analysis need some 92 KB of stack, recorder_line some 68 KB, every other call but one less than 8 KB,
-   whatever the grid: give a thread 128 KB or more. The one is recorder_file_faults, which is lent no volume and marks the orbits of a file in
-   an array of 256 KB of its own; it needs some 264 KB: give a thread that calls it 384 KB or more.
+   own; a volume or a combined map that all of them only read (recorder_point, recorder_factor, recorder_map_power, recorder_factor_power,
+   recorder_write_file, recorder_combine, recorder_section, recorder_mrc, the maps of recorder_correlate) may be shared. By measurement on
+   x86-64 recorder_correlate needs some 117 KB of stack, synthesis and analysis some 92 KB, recorder_line some 68 KB, every other call but
+   one less than 8 KB, whatever the grid: give a thread 128 KB or more, one that calls recorder_correlate 192 KB or more. The one is
+   recorder_file_faults, which is lent no volume and marks the orbits of a file in an array of 256 KB of its own; it needs some 264 KB: give a
+   thread that calls it 384 KB or more.
 
    Lengths N1, N2, N3 are even divisors of 2,880. Groups: 0 P1, 1 P2_1 with axis c, 2 Pm with its mirror across c, 3 Pa with its mirror
    across c and its glide along a, 4 P2_1 2_1 2_1 with the operations (1/2 - x, -y, 1/2 + z), (-x, 1/2 + y, 1/2 - z) and
@@ -44,11 +47,12 @@ extern "C" {
 /* The version of the calls: 10,000 times the major, 100 times the minor, and the patch number. */
 #define RECORDER_VERSION 20000
 
-/* Limits: the primes of moduli 1 and 2, which no residue reaches, the longest axis, the most numbers of a volume, the numbers of a scratch, the
-   most entries of a window; and the greatest magnitude of a combined number. */
+/* Limits: the primes of moduli 1 and 2, which no residue reaches, the longest axis, the most numbers of a volume, the numbers of a scratch,
+   the most entries of a window, the greatest magnitude of a density for viewers and the bytes of the header before them; and the greatest
+   magnitude of a combined number. */
 enum {
     RECORDER_PRIME_1 = 86399, RECORDER_PRIME_2 = 302399, RECORDER_LONGEST = 2880, RECORDER_MOST_NUMBERS = 16777216, RECORDER_SCRATCH = 11520,
-    RECORDER_LONGEST_WINDOW = 64
+    RECORDER_LONGEST_WINDOW = 64, RECORDER_GREATEST_EXACT = 16777215, RECORDER_MRC_HEADER = 1024
 };
 #define RECORDER_GREATEST_COMBINED INT64_C(13063485600)
 
@@ -95,6 +99,9 @@ enum {
     RECORDER_REFUSED_IMPOSSIBLE_JOB = 25,    /* no call could have given this job back */
     RECORDER_REFUSED_MODULUS = 26,           /* modulus not 1 or 2 */
     RECORDER_REFUSED_DIFFERENT_CELLS = 27,   /* two jobs that differ in group or lengths, or whose moduli are not 1 and 2 in order */
+    RECORDER_REFUSED_MAGNITUDE = 28,         /* a magnitude, or of an overlay the sum of those in a times the largest in b, above 13,063,485,600 */
+    RECORDER_REFUSED_UNIT_CELL = 29,         /* edge not finite and above 0, angle not strictly between 0 and 180, or another kind of cell than the group's */
+    RECORDER_REFUSED_FLOAT_RANGE = 30,       /* a magnitude above 16,777,215 */
     RECORDER_REFUSED_WINDOW = 34             /* window not of 1 to 64 entries */
 };
 
@@ -113,12 +120,20 @@ typedef struct {
     uint32_t state;
 } recorder_job;
 
+/* A unit cell for viewers: its edges in angstrom, and how many angles in degrees are given. With 3 all of them are, as P1 asks; with any
+   other number gamma alone, as the other groups ask, alpha and beta are 90 and what stands for them here is not read. */
+typedef struct {
+    uint32_t angles;
+    float a, b, c, alpha, beta, gamma;
+} recorder_cell;
+
 typedef struct { uint32_t number; recorder_job job; } recorder_answer;
 typedef struct { uint32_t number, place; recorder_job job; } recorder_file_answer;
 typedef struct { uint32_t count, first, second; } recorder_faults;
 typedef struct { uint32_t number; size_t written; } recorder_write_answer;
 typedef struct { uint32_t number; int32_t density; } recorder_density;
 typedef struct { uint32_t number, a, b; } recorder_factor_value;
+typedef struct { uint32_t number, power; } recorder_power;
 
 /* The count of a volume's numbers; 0 where every opening is refused, because the group is above 4, a length above 2,880 or the volume
    too large. */
@@ -129,6 +144,13 @@ static inline size_t recorder_volume_length(uint32_t group, uint32_t n1, uint32_
         return 0;
     numbers = planes * n1 * 2 * (n2 / 2 + 1);
     return numbers > RECORDER_MOST_NUMBERS ? 0 : (size_t)numbers;
+}
+
+/* The count of a section's bytes: N1 rows of so many lines as N2 numbers need, five to a line, and three lines more. Both lengths are at most
+   2,880, so it is below 2^27. */
+static inline size_t recorder_section_length(uint32_t n1, uint32_t n2)
+{
+    return 70 * ((size_t)n1 * ((n2 + 4) / 5) + 3);
 }
 
 /* Opens a job. Kind 0 zeroes the volume and collects; kind 1 takes the volume as a map. A refused opening gives a job of zeros, which
@@ -188,6 +210,15 @@ recorder_density recorder_point(recorder_job job, recorder_grid_point at, const 
 /* The structure factor a + b i at an index anywhere in the cell. Refusals: 25, 23 no factors held, 10, 6, 7 of the numbers read. */
 recorder_factor_value recorder_factor(recorder_job job, recorder_reflection at, const uint32_t *volume, size_t volume_length);
 
+/* Two sums over the whole cell, on planes that are not stored too: of the square of the map's value at every point, and of F * conj F at every
+   index; each is a residue modulo the job's prime. For every job and volume that synthesis accepts the power of the map after it is
+   N1 * N2 * N3 times that of the factors before it, modulo the prime, and so it is the other way round of an analysis: one number tells
+   whether a whole entry was kept.
+   Refusals: as of analysis and of synthesis, but no scratch is lent: 25, 22 no map held (of factors: 23 no factors held; collecting counts
+   as held), 6, 7, 14. */
+recorder_power recorder_map_power(recorder_job job, const uint32_t *volume, size_t volume_length);
+recorder_power recorder_factor_power(recorder_job job, const uint32_t *volume, size_t volume_length);
+
 /* Combines two maps of one cell, the first job's modulo 86,399 and the second job's modulo 302,399: each number of the output is the only whole
    number from -13,063,485,600 to 13,063,485,600 that is congruent to the first map's number at its place and to the second's. So the output
    is laid out as the maps are, with two zeros after each row. It has exactly as many numbers as each of the maps, and `written` is that
@@ -197,6 +228,45 @@ recorder_factor_value recorder_factor(recorder_job job, recorder_reflection at, 
 recorder_write_answer recorder_combine(recorder_job first, const uint32_t *first_map, size_t first_length,
                                        recorder_job second, const uint32_t *second_map, size_t second_length,
                                        int64_t *output, size_t output_length);
+
+/* Writes plane z of the cell of a combined map as a page of text in ASCII: rows by rising x, each line 69 characters and a line feed: x in 4
+   places, then five numbers by rising y in 13 places each, all right-aligned. A row takes as many lines as its N2 numbers need, each with its x; the
+   places that are left are blanks. Three lines close the page, with T, M or R in the first place and a number that ends in the 69th: the
+   total of the plane; the mean, the total divided by N1 * N2 and rounded down, also below zero; the remainder, from 0 to N1 * N2 - 1. On a
+   plane that is not stored a number is read at the point's image, as by recorder_point. The page has recorder_section_length bytes, and
+   `written` is that count; the places beyond are untouched.
+   Refusals: 8 group not 0 to 4, 3 a length not admitted, 9 map above 16,777,216 numbers, 6 map not exactly as long as required, 10 z not below
+   N3, 28 a number of plane z with a magnitude above 13,063,485,600 (no other number is looked at), 18 output too short. */
+recorder_write_answer recorder_section(uint32_t group, uint32_t n1, uint32_t n2, uint32_t n3, const int64_t *map, size_t map_length,
+                                       uint32_t z, uint8_t *out, size_t out_length);
+
+/* Writes the whole cell of a combined map for viewers, in the format MRC2014, little-endian: a header of 1,024 bytes with the lengths as
+   counts and as sampling, mode 2, the edges and angles of the unit cell, axes 1, 2, 3, the least and the greatest density, the mean as
+   least minus 1 and the RMS as -1, which both mean not determined, space group 1, version 20140, the machine stamp 44 44 00 00, and zero in
+   every other word; then the density of each point as the 32-bit float that is equal to it, x fastest, then y, then z. A point on a plane
+   that is not stored is read at its image, as recorder_point does. Returns the count of bytes, 1,024 + 4 N1 N2 N3; the places beyond are
+   untouched.
+   Refusals: 8 group not 0 to 4, 3 length not admitted, 9 volume above 16,777,216 numbers, 6 map not exactly as long as required, 29 an edge
+   not finite and above 0, an angle not strictly between 0 and 180, or the other kind of cell than the group's (three angles for group 0,
+   gamma alone for the others, which is exactly 90 in group 4), 30 the magnitude of a density above 16,777,215, 18 output too short. */
+recorder_write_answer recorder_mrc(uint32_t group, uint32_t n1, uint32_t n2, uint32_t n3, const int64_t *map, size_t map_length,
+                                   recorder_cell cell, uint8_t *out, size_t out_length);
+
+/* Overlays two combined maps a and b of one cell in P1: at each shift s = (x, y, z) the sum over all points u of a(u) * b(u + s), the
+   indices going round the cell, as an exact whole number, in the layout of the maps with two zeros after each row. Maps, output and the
+   three work volumes have each exactly as many numbers as the volume of P1 with these lengths; `written` is that count. Lists of factors do
+   not change the result. An accepted call leaves the work volumes zero, and the scratch as any transform does. If one number of a changes
+   by d at a point u and both overlays are accepted, the value at s moves by exactly d * b(u + s).
+   Refusals: each over the three axes 3 length not admitted, 4 a factor not 2 to 5, 5 product not N/2; 9 volume above 16,777,216 numbers, 6
+   a map, the output or a work volume not exactly as long as required, 13 scratch too short, 28 the magnitude of a number in either map, or
+   the sum of the magnitudes in a times the largest in b, above 13,063,485,600: so every value of an accepted overlay is within the range of
+   a combined map. */
+recorder_write_answer recorder_correlate(uint32_t n1, uint32_t n2, uint32_t n3, const uint8_t *factors1, size_t count1,
+                                         const uint8_t *factors2, size_t count2, const uint8_t *factors3, size_t count3,
+                                         const int64_t *a, size_t a_length, const int64_t *b, size_t b_length,
+                                         int64_t *output, size_t output_length, uint32_t *work1, size_t work1_length,
+                                         uint32_t *work2, size_t work2_length, uint32_t *work3, size_t work3_length,
+                                         uint32_t *scratch, size_t scratch_length);
 
 /* Transforms one line in place, direction 0 forward, 1 inverse; returns the number. Kinds: 0 plain, 1 Hermitian, 2 anti-Hermitian,
    3 alternating, 4 symmetric, 5 antisymmetric.

@@ -27,8 +27,10 @@ held crates/combine_test/stdin python3 tools/combine_cases.py cases
 held crates/combine_test/stdout python3 tools/combine_cases.py answers
 held crates/section_test/stdin python3 tools/section_cases.py cases
 held crates/section_test/stdout python3 tools/section_cases.py answers
+held crates/correlation_test/stdin python3 tools/correlation_cases.py cases
+held crates/correlation_test/stdout python3 tools/correlation_cases.py answers
 held crates/mrc_test/stdin python3 tools/mrc_cases.py cases
 held crates/mrc_test/stdout python3 tools/mrc_cases.py answers
 held crates/recorder_test/stdin both cases
 held crates/recorder_test/stdout both answers
-echo "9 stored expectations agree with what is computed anew"
+echo "15 stored expectations agree with what is computed anew"

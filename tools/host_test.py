@@ -3,14 +3,16 @@
 
     host_test.py PROGRAM
 
-Small grids: the printer test's files, files of no records among them, their maps as text and as map files, the factor files written from those, the
-files shuffled and rewritten, their records, readings of points and factors, all against the book of brute_force.py. Maps combined from a file for
-each prime, and combined map files, against the number that all candidates are searched for. The records at fault of small files, against all
-lists of their records (faults_cases.py). Every refusal that a file, a map file, a combined map file or a line can give. Runs of scores, their
+Small grids: the printer test's files, files of no records among them, their maps as text and as map files, the factor files written from those,
+the files shuffled and rewritten, their records, readings of points and factors, all against the book of brute_force.py. The power of map and
+factors against sums over the whole cell. Maps combined from a file for each prime, and combined map files, against the number that all candidates
+are searched for; their planes as pages against section_cases.py, and as pictures, pixel by pixel; written for viewers, against mrc_cases.py;
+overlays of two of them and the best shift, against direct sums. The records at fault of small files, against all lists of their records
+(faults_cases.py). Every refusal that a file, a map file, a combined map file, a unit cell, an overlay or a line can give. Runs of scores, their
 windows against window_cases.py. Files that are damaged, empty, missing, endless or not to be written, or are the input itself; pipes that are
 closed; no memory; signals at random moments of writing. P1 and P2_1 2_1 2_1 at 240^3 and P2_1 at 288^3 there and back, byte for byte, with some
-densities summed directly; P2_1 2_1 2_1 combined with a file for the second prime. The seed is fixed. Prints how many comparisons agreed; the exit
-status is 1 where one did not.
+densities summed directly; P2_1 2_1 2_1 combined with a file for the second prime; P1 at 120^3 overlaid and for viewers. The seed is fixed. Prints
+how many comparisons agreed; the exit status is 1 where one did not.
 """
 import filecmp
 import os
@@ -20,29 +22,38 @@ import re
 import resource
 import signal
 import stat
+import struct
 import subprocess
 import sys
 import tempfile
 import time
+import zlib
 
 from brute_force import (LIMIT, P, PRIMES, ROOTS, Book, all_points, analysed, e, file_bytes, first_record, images, needed, number, open_file, pack_map,
                          planes, point_images, read_cell, records_in, signed, volume_length)
 from faults_cases import fewest, judged
 from faults_cases import files as faulty_files
+from mrc_cases import bits, mrc_file
 from printer_test import files
-from samples import combined, combined_text, second_file
+from samples import combined, combined_text, second_file, section_text
+from section_cases import page
 from window_cases import SCORES, windows
 
 SEED = 1973
 # Every refusal that the tool's input can give, readings outside the cell among them.
 REFUSALS = {"factor file": {3, 4, 5, 7, 8, 9, 10, 12, 15, 16, 24, 26}, "map file": {3, 4, 5, 7, 8, 9, 10, 14, 15, 16, 26},
-            "combined map file": {3, 8, 9, 10, 14, 15, 16, 28}, "two files": {7, 12, 14, 15, 26, 27}, "line": {1, 2, 3, 4, 5, 6, 7, 26}, "scores": {34}}
-COMMANDS = ["map", "factors", "rewrite", "records", "check", "faults", "info", "point", "factor", "combine", "line", "drift"]
-# Those that work on a factor file or a map file, and those of them that take a combined map file.
-ON_FILES = COMMANDS[:-3]
-ON_COMBINED = ["map", "check", "info", "point"]
+            "combined map file": {3, 8, 9, 10, 14, 15, 16, 28}, "two files": {7, 12, 14, 15, 26, 27}, "for viewers": {8, 14, 15, 28, 29, 30},
+            "overlay": {3, 15, 16, 28}, "best": {9, 15, 28}, "line": {1, 2, 3, 4, 5, 6, 7, 26}, "scores": {34}}
+COMMANDS = ["map", "factors", "rewrite", "records", "check", "faults", "info", "point", "factor", "power", "section", "picture", "combine", "mrc",
+            "overlay", "best", "line", "drift"]
+# Those that work on one file: on a factor file or a map file, on a combined map file too, on that alone.
+ON_FILES = COMMANDS[:12]
+ON_COMBINED = ["map", "check", "info", "point", "section", "picture"]
+ON_PLANES = ["section", "picture"]
 # The greatest magnitude of a combined map's number.
 GREATEST = (PRIMES[1] * PRIMES[2] - 1) // 2
+# The greatest magnitude of a density for viewers.
+EXACT = 2 ** 24 - 1
 LARGE = [(0, 240, [4, 5, 3, 2]), (1, 288, [4, 4, 3, 3]), (4, 240, [2, 3, 4, 5])]
 GROUPS = ["P1", "P2_1", "Pm", "Pa", "P2_1 2_1 2_1"]
 SAMPLES = [("p21", 6), ("p21.second", 6), ("p212121", 37), ("empty", 0)]
@@ -59,6 +70,7 @@ class Tool:
         self.program, self.folder = program, folder
         self.agreed = self.wrong = 0
         self.seen = {kind: set() for kind in REFUSALS}
+        self.glyphs = {}
 
     def path(self, name):
         return os.path.join(self.folder, name)
@@ -102,7 +114,7 @@ class Tool:
         self.seen[kind_of(words)].add(refusal)
         self.expect(what, (status, out), (1, b"refused %d at %d\n" % (refusal, place) if words[0] == "map" and "-o" not in words else b""))
         self.expect(what + ", its words", re.sub(rb"(?m)^found: .*\n", b"", err).count(b"\n"), 3)
-        of = of or (words[1] if words[0] in ON_FILES else "")
+        of = of or (words[1] if words[0] in ON_FILES + ["mrc", "best"] else "")
         self.expect(what + ", its number", err.split(b"\n")[0], b"recorder: %srefused %d at %d" % ((of and of + ": ").encode(), refusal, place))
 
     def fails(self, what, words, part, given=b"", **more):
@@ -116,7 +128,7 @@ class Tool:
 def kind_of(words):
     """What a command works on."""
     if words[0] not in ON_FILES:
-        return {"combine": "two files", "line": "line", "drift": "scores"}[words[0]]
+        return {"combine": "two files", "mrc": "for viewers", "overlay": "overlay", "best": "best", "line": "line", "drift": "scores"}[words[0]]
     with open(words[1], "rb") as file:
         return {b"RMAP": "map file", b"RCMB": "combined map file"}.get(file.read(4), "factor file")
 
@@ -196,6 +208,9 @@ def combined_sample(tool):
     made = tool.path("sample.combined")
     tool.expect("combine of the samples", tool.run("combine", first, second, "-o", made), (0, b"", b""))
     tool.expect("the combined map of the samples", tool.run("map", made), (0, shown, b""))
+    section = open(os.path.join(SAMPLES_FOLDER, "p21.section.txt"), "rb").read()
+    tool.expect("the sample's section", section, section_text(shown, 1))
+    tool.expect("section of the samples", tool.run("section", made, 1), (0, section, b""))
 
 
 def accepted_file(tool, rng, path, book, count):
@@ -219,6 +234,8 @@ def accepted_file(tool, rng, path, book, count):
     tool.expect(what + ": the factor file", open(back, "rb").read(), written(book))
     tool.expect(what + ": factors of factors", tool.run("factors", path, "-o", "-"), (0, written(book), b""))
     rewritten(tool, rng, what, path, book)
+    for source in (path, made):
+        tool.expect(what + ": power", tool.run("power", source), (0, power_text(n, F, M, m, p), b""))
     for command in ("rewrite", "records", "faults"):
         tool.fails(what + ": %s of a map" % command, (command, made, *(["-o", tool.path("none")] if command == "rewrite" else [])), b"has no records")
     for source in (path, made):
@@ -227,6 +244,14 @@ def accepted_file(tool, rng, path, book, count):
         tool.expect(what + ": factor", tool.run("factor", source, *j), (0, b"%d %d\n" % F[j], b""))
         tool.refused(what + ": a point outside", ("point", source, j[0], n[1], j[2]), 10)
         tool.refused(what + ": a factor outside", ("factor", source, n[0], j[1], 2 ** 40), 10)
+
+
+def power_text(n, F, M, modulus, p):
+    """The two sums over the whole cell, modulo the prime, and the second times the points, which is the first."""
+    of_map, of_factors = sum(x * x for x in M.values()) % p, sum(a * a + b * b for a, b in F.values()) % p
+    points = n[0] * n[1] * n[2]
+    assert len(M) == len(F) == points and (of_map - points * of_factors) % p == 0
+    return b"modulus %d, the prime %d\nmap %d\nfactors %d\n%d times factors %d\nthey agree\n" % (modulus, p, of_map, of_factors, points, of_map)
 
 
 def rewritten(tool, rng, what, path, book):
@@ -317,6 +342,7 @@ def full_cells(tool):
                 tool.expect(what + ": factors", tool.run("factors", path, "-o", tool.path("full")), (0, b"", b""))
                 tool.expect(what + ": the factor file", open(tool.path("full"), "rb").read(), written(book))
                 for source in (path, tool.path("full")):
+                    tool.expect(what + ": power", tool.run("power", source), (0, power_text(n, book.F, M, modulus, book.p), b""))
                     tool.expect(what + ": its map", tool.run("map", source, "-o", "-"), (0, map_bytes(g, n, book.lists, M, modulus), b""))
 
 
@@ -358,6 +384,11 @@ def combined_file(tool, rng, what, path, g, n, numbers):
     for axis in range(3):
         outside = [m if axis == a else m - 1 for a, m in enumerate(n)]
         tool.refused(what + ": a point outside", ("point", path, *outside), 10)
+    for z in range(n[2]):
+        plane(tool, what, path, z, [[numbers[(x, y, z)] for y in range(n[1])] for x in range(n[0])])
+    for z in (n[2], 2 ** 40):
+        tool.refused(what + ": a plane outside", ("section", path, z), 10)
+        tool.refused(what + ": a picture of one", ("picture", path, z, "-o", tool.path("none")), 10)
 
 
 def combined_maps(tool):
@@ -418,8 +449,8 @@ def refused_pairs(tool):
         tool.refused("combine of %s and a file" % name, ("combine", bad, path["second"], "-o", none), refusal, of=bad)
     whole = combined_bytes(1, n, {q: -x for q, x in M.items()})
     made = tool.file("combined", whole)
-    for words in (("factors", made, "-o", none), ("factor", made, 0, 0, 0), ("rewrite", made, "-o", none), ("records", made), ("faults", made),
-                  ("combine", made, path["second"], "-o", none), ("combine", path["first"], made, "-o", none)):
+    for words in (("factors", made, "-o", none), ("factor", made, 0, 0, 0), ("power", made), ("rewrite", made, "-o", none), ("records", made),
+                  ("faults", made), ("combine", made, path["second"], "-o", none), ("combine", path["first"], made, "-o", none)):
         tool.fails("%s of a combined map" % words[0], words, b"%s is a combined map file, which has no records and no factors" % made.encode())
     for length in range(4, len(whole), 7):
         tool.refused("a combined map cut at %d" % length, ("map", tool.file("cut", whole[:length])), 15)
@@ -444,6 +475,292 @@ def refused_pairs(tool):
             tool.refused("images that differ by %d" % change, ("point", apart, 0, 0, 0), 14)
         else:
             tool.expect("images that do not differ", tool.run("point", apart, 1, 1, 0), (0, b"7\n", b""))
+    tool.expect("refused commands write no file", os.path.exists(none), False)
+
+
+# ---- planes
+
+MARGIN, BAR, ADVANCE, TEXT = 12, 20, 12, 14
+LEFT, TOP = MARGIN + ADVANCE, MARGIN + TEXT + MARGIN // 2
+
+
+def plane(tool, what, path, z, rows):
+    """Plane z as a page, printed and written, and as a picture."""
+    what = "%s: plane %d" % (what, z)
+    drawn, laid = tool.path("plane.png"), tool.path("plane.txt")
+    tool.expect(what, tool.run("section", path, z), (0, page(rows), b""))
+    tool.expect(what + ", to a file", (tool.run("section", path, z, "-o", laid), open(laid, "rb").read()), ((0, b"", b""), page(rows)))
+    tool.expect(what + " as a picture", tool.run("picture", path, z, "-o", drawn), (0, b"", b""))
+    picture(tool, what, open(drawn, "rb").read(), z, rows)
+
+
+def shown_in(png):
+    """The rows of a grey picture, a byte for each pixel. Lengths and sums of all parts are compared."""
+    assert png[:8] == b"\x89PNG\r\n\x1a\n"
+    parts, at = [], 8
+    while at < len(png):
+        length = number(png[at:at + 4])
+        name, data = png[at + 4:at + 8], png[at + 8:at + 8 + length]
+        assert number(png[at + 8 + length:at + 12 + length]) == zlib.crc32(name + data)
+        parts.append((name, data))
+        at += 12 + length
+    assert [name for name, _ in parts] == [b"IHDR", b"IDAT", b"IEND"] and at == len(png) and parts[0][1][8:] == bytes([8, 0, 0, 0, 0])
+    width, height = number(parts[0][1][:4]), number(parts[0][1][4:8])
+    data = zlib.decompress(parts[1][1])
+    assert len(data) == height * (width + 1) and not any(data[::width + 1])
+    return [bytearray(data[q + 1:q + 1 + width]) for q in range(0, len(data), width + 1)]
+
+
+def cut_out(rows, left, top, width, height):
+    """A part of a picture, which is white there afterwards."""
+    part = [bytes(row[left:left + width]) for row in rows[top:top + height]]
+    for row in rows[top:top + height]:
+        row[left:left + width] = b"\xff" * width
+    return part
+
+
+def framed(tool, what, rows, left, top, width, height):
+    """A part of a picture inside its frame."""
+    part = cut_out(rows, left - 1, top - 1, width + 2, height + 2)
+    black = bytes(width + 2)
+    tool.expect(what + ", its frame", (part[0], part[-1], {(row[0], row[-1]) for row in part}), (black, black, {(0, 0)}))
+    return [row[1:-1] for row in part[1:-1]]
+
+
+def texts(tool, what, rows, found):
+    """Texts at their places: the letters are learnt from where each first stands, and are the same wherever else."""
+    for left, top, text in found:
+        for k, letter in enumerate(text):
+            shape = cut_out(rows, left + ADVANCE * k, top, ADVANCE - 2, TEXT)
+            if letter != " ":
+                tool.expect("%s: the letter %s of %s" % (what, letter, text), shape, tool.glyphs.setdefault(letter, shape))
+
+
+def text_width(text):
+    return ADVANCE * len(text) - 2
+
+
+def picture(tool, what, png, z, numbers):
+    """A picture has the shade of every number, the bar, the texts, and nothing else."""
+    rows = shown_in(png)
+    each = max(1, min(48, 720 // max(len(numbers), len(numbers[0]))))
+    least, greatest = min(map(min, numbers)), max(map(max, numbers))
+    high, wide = each * len(numbers), each * len(numbers[0])
+    head = max(wide, text_width("z %d" % z) + 24 + text_width("y"))
+    length = max(head, text_width(str(least)) + 24 + text_width(str(greatest)))
+    size = (LEFT + length + MARGIN, TOP + high + MARGIN + BAR + MARGIN // 2 + TEXT + MARGIN)
+    tool.expect(what + ": the picture's size", (len(rows[0]), len(rows)), size)
+    shades = [[(v - least) * 510 // max(1, greatest - least) for v in row] for row in numbers]
+    want = [b"".join(bytes([(s + 1) // 2]) * each for s in row) for row in shades for _ in range(each)]
+    tool.expect(what + ": the picture's shades", framed(tool, what, rows, LEFT, TOP, wide, high), want)
+    bar = framed(tool, what, rows, LEFT, TOP + high + MARGIN, length, BAR)
+    tool.expect(what + ": the bar", (set(bar), bar[0][0], bar[0][-1], len(set(bar[0]))), ({bytes(sorted(bar[0]))}, 0, 255, min(256, length)))
+    under = TOP + high + MARGIN + BAR + MARGIN // 2
+    texts(tool, what, rows, [(LEFT, MARGIN, "z %d" % z), (LEFT + head - text_width("y"), MARGIN, "y"),
+                             (10, TOP + high - min(TEXT, high), "x"), (LEFT, under, str(least)),
+                             (LEFT + length - text_width(str(greatest)), under, str(greatest))])
+    tool.expect(what + ": white elsewhere", {bytes(row) for row in rows}, {b"\xff" * size[0]})
+
+
+def planes_of_all_kinds(tool):
+    """Planes of one number, long and wide ones, and those of files that have none; every letter of the pictures was seen, each of its own shape."""
+    rng = random.Random(SEED)
+    for g, n in ((0, (2, 2, 2)), (1, (2880, 2, 2)), (4, (2, 2880, 2)), (0, (96, 120, 2)), (2, (2, 10, 12)), (3, (20, 18, 2))):
+        for drawn in (lambda: 7, lambda: -GREATEST, lambda: rng.randrange(-9, 10), lambda: some_count(rng)):
+            numbers = some_numbers(rng, g, n, drawn)
+            path = tool.file("planes", combined_bytes(g, n, numbers))
+            for z in (0, n[2] - 1):
+                plane(tool, "group %d, %s" % (g, n), path, z, [[numbers[(x, y, z)] for y in range(n[1])] for x in range(n[0])])
+    tool.expect("the letters", (sorted(tool.glyphs), len({tuple(shape) for shape in tool.glyphs.values()})), (sorted("0123456789-xyz"), 14))
+    n, none = (4, 4, 4), tool.path("none")
+    M = {q: 7 for q in all_points(n)}
+    for command, more in (("section", []), ("section", ["-o", none]), ("picture", ["-o", none])):
+        for name, contents in (("factors", file_bytes(1, n, some_lists(n), [])), ("map", map_bytes(1, n, some_lists(n), M))):
+            path = tool.file(name, contents)
+            said = b"%s is not a combined map file; recorder combine makes one" % path.encode()
+            tool.fails("%s of a file of %s" % (command, name), (command, path, 0, *more), said)
+        whole = combined_bytes(3, n, M)
+        for contents, refusal in ((whole[:-1], 15), (whole + b"x", 15), (whole[:4] + b"\2" + whole[5:], 16), (whole[:5] + b"\5" + whole[6:], 8),
+                                  (combined_bytes(3, n, {**M, (3, 3, 2): GREATEST + 1}), 28), (combined_bytes(3, n, {**M, (3, 3, 2): 8}), 14),
+                                  (combined_bytes(3, n, {**M, (3, 3, 0): 8}), 14)):
+            tool.refused("%s of a file that is refused" % command, (command, tool.file("planes", contents), 0, *more), refusal)
+    tool.expect("refused planes write no file", os.path.exists(none), False)
+    made = tool.file("planes", whole)
+    tool.file("1", b"old")
+    tool.expect("a file with the name of a plane", tool.run("section", made, 1, "-o", "1", cwd=tool.folder), (0, b"", b""))
+    tool.expect("its page", open(tool.path("1"), "rb").read(), page([[7] * 4] * 4))
+    tool.expect("a picture by streams", tool.run("picture", "-", 1, "-o", "-", given=whole)[1][1:4], b"PNG")
+
+
+# ---- combined maps for viewers
+
+def cell_words(g, edges, angles):
+    """The unit cell as the command line takes it, and as mrc_cases.py does."""
+    given = [*edges, *angles] if g == 0 else [*edges, angles[2]]
+    return ",".join(map(str, given)), 0 if g == 0 else 1, [bits(x) for x in (*edges, *angles)]
+
+
+def for_viewers(tool):
+    """Maps of all five groups, the ends of their range among them, byte for byte; edges and angles at the ends of what is taken."""
+    rng = random.Random(SEED)
+    edges = [(10.5, 23.25, 41.125), (0.1, 78.9, 1e30), (1e-45, 3.4028234e38, 123.456)]
+    angles = [(81.5, 95.25, 112.125), (1e-45, 179.99998, 60), (90, 90, 119.7)]
+    for g in range(5):
+        for n in [(2, 2, 2), (4, 2, 6), (2, 8, 4), (6, 4, 8), (10, 6, 4)]:
+            numbers = some_numbers(rng, g, n, lambda: max(-EXACT, min(EXACT, some_count(rng) % (2 * EXACT + 3) - EXACT - 1)))
+            for end, q in ((EXACT, (0, 0, 0)), (-EXACT, (1, 1, 0))):
+                numbers.update({i: end for i in point_images(g, n, q)})
+            path, made = tool.file("viewed", combined_bytes(g, n, numbers)), tool.path("viewed.mrc")
+            for three, others in zip(edges, angles):
+                words, kind, parameters = cell_words(g, three, (90, 90, 90) if g == 4 else others)
+                what = "group %d, %s for viewers, cell %s" % (g, n, words)
+                tool.expect(what, tool.run("mrc", path, "--cell", words, "-o", made), (0, b"", b""))
+                whole = mrc_file(g, n, pack_map(g, n, numbers), kind, parameters)
+                tool.expect(what + ": the file", open(made, "rb").read(), whole)
+                tool.expect(what + ": every number", struct.unpack_from("<%df" % len(numbers), whole, 1024),
+                            tuple(float(numbers[x, y, z]) for z in range(n[2]) for y in range(n[1]) for x in range(n[0])))
+            with open(path, "rb") as given:
+                tool.expect(what + ": by streams", tool.run("mrc", "-", "--cell", words, "-o", "-", stdin=given), (0, whole, b""))
+    not_for_viewers(tool)
+
+
+def not_for_viewers(tool):
+    """Unit cells of no edges, no angles or the other kind, numbers that no float is sure to hold, and files that are no combined maps."""
+    n, none = (4, 4, 4), tool.path("none")
+    path = {g: tool.file("viewed%d" % g, combined_bytes(g, n, {q: 7 for q in all_points(n)})) for g in range(5)}
+    sound = {g: cell_words(g, (1, 2, 3), (90, 90, 90))[0] for g in range(5)}
+    for g in range(5):
+        cells = [sound[1 if g == 0 else 0]]
+        cells += [",".join(sound[g].split(",")[:at] + [bad] + sound[g].split(",")[at + 1:])
+                  for at in range(3) for bad in ("0", "-0", "-1", "nan", "inf", "-inf", "1e39", "1e-60")]
+        cells += [",".join(sound[g].split(",")[:at] + [bad] + sound[g].split(",")[at + 1:])
+                  for at in range(3, len(sound[g].split(","))) for bad in ("0", "180", "-90", "nan", "inf", "360", "1e-60", "179.9999999")]
+        cells += [sound[4].replace("90", bad) for bad in ("89.99999", "90.00001", "60")] if g == 4 else []
+        for cell in cells:
+            tool.refused("cell %s of group %d" % (cell, g), ("mrc", path[g], "--cell", cell, "-o", none), 29)
+        for x in (EXACT + 1, -EXACT - 1, GREATEST, -GREATEST):
+            numbers = {q: 7 for q in all_points(n)}
+            numbers.update({i: x for i in point_images(g, n, (3, 2, 1))})
+            beyond = tool.file("beyond", combined_bytes(g, n, numbers))
+            tool.refused("a number of %d for viewers" % x, ("mrc", beyond, "--cell", sound[g], "-o", none), 30)
+            tool.refused("and no cell", ("mrc", beyond, "--cell", sound[g].replace("2", "0"), "-o", none), 29)
+            place = min((z, x, y) for x, y, z in point_images(g, n, (3, 2, 1)))
+            found = b"found: number %d at x %d, y %d, z %d\n" % (x, place[1], place[2], place[0])
+            tool.expect("its place", found in tool.run("mrc", beyond, "--cell", sound[g], "-o", none)[2], True)
+    status, _, err = tool.run("mrc", path[1], "--cell", "1,2.5,3,90,90,100", "-o", none)
+    found = b"found: edges 1, 2.5, 3, angles 90, 90, 100; group 1 (P2_1), lengths 4 4 4"
+    tool.expect("what 29 says", (status, err.split(b"\n")[2]), (1, found))
+    whole = open(path[3], "rb").read()
+    for contents, refusal in ((whole[:-1], 15), (whole[:9], 15), (whole[:5] + b"\5" + whole[6:], 8),
+                              (combined_bytes(3, n, {**{q: 7 for q in all_points(n)}, (1, 1, 0): 8}), 14),
+                              (combined_bytes(3, n, {q: GREATEST + 1 for q in all_points(n)}), 28)):
+        tool.refused("a damaged file for viewers", ("mrc", tool.file("cut", contents), "--cell", "nan,1,1,90", "-o", none), refusal)
+    factors = tool.file("cut", file_bytes(0, n, some_lists(n), []))
+    densities = tool.file("cut.map", map_bytes(0, n, some_lists(n), {q: 7 for q in all_points(n)}))
+    for other in (factors, densities):
+        for words in (("mrc", other, "--cell", sound[0], "-o", none), ("best", other), ("overlay", other, path[0], "-o", none),
+                      ("overlay", path[0], other, "-o", none)):
+            tool.fails("%s of no combined map" % words[0], words, b"%s is not a combined map file" % other.encode())
+    for words in ("", "1,2,3", "1,2,3,90,90", "1,2,3,90,90,90,90", "1,2,3,x", "1,2,,90", "1;2;3;90", " 1,2,3,90"):
+        tool.fails("a cell of %r" % words, ("mrc", path[1], "--cell", words, "-o", none), b"--cell takes a,b,c")
+    tool.expect("refused commands write no file", os.path.exists(none), False)
+
+
+# ---- overlays
+
+def overlaid(n, a, b):
+    """At each shift the sum of the products over all points, going round the cell. Points of zero are left out."""
+    first, second = ([(q, x) for q, x in numbers.items() if x] for numbers in (a, b))
+    values = {s: 0 for s in all_points(n)}
+    for u, x in first:
+        for v, y in second:
+            values[tuple((q - p) % m for p, q, m in zip(u, v, n))] += x * y
+    return values
+
+
+def best_text(values):
+    """The greatest value and the first of its shifts, the value at no shift, and the difference."""
+    greatest = max(values.values())
+    shift = min(s for s, x in values.items() if x == greatest)
+    unshifted = values[0, 0, 0]
+    return b"greatest %d at shift %d %d %d\nat shift 0 0 0 %d\ndifference %d\n" % (greatest, *shift, unshifted, greatest - unshifted)
+
+
+def overlays(tool):
+    """Two maps of P1 at every shift, a map with itself and shifted, single points at the limit; the best shift, among equals the first; and the scores
+    as a run of drift."""
+    rng = random.Random(SEED)
+    made, scores = tool.path("overlay"), []
+
+    def one(what, n, a, b):
+        paths = [tool.file("overlay%d" % k, combined_bytes(0, n, m)) for k, m in enumerate((a, b))]
+        values = overlaid(n, a, b)
+        tool.expect(what, tool.run("overlay", *paths, "-o", made), (0, b"", b""))
+        combined_file(tool, rng, what, made, 0, n, values)
+        tool.expect(what + ": best", tool.run("best", made), (0, best_text(values), b""))
+        tool.expect(what + ": its score", tool.run("best", "--score", made), (0, b"%d\n" % max(values.values()), b""))
+        for k in range(2):
+            with open(paths[k], "rb") as given:
+                words = ("overlay", *("-" if k == j else path for j, path in enumerate(paths)), "-o", "-")
+                got = tool.run(*words, stdin=given)
+            tool.expect(what + ": by streams", got, (0, combined_bytes(0, n, values), b""))
+        tool.expect(what + ": best by a stream", tool.run("best", "-", given=got[1]), (0, best_text(values), b""))
+        scores.append(max(values.values()))
+
+    for n in [(2, 2, 2), (4, 2, 6), (2, 8, 4), (6, 4, 8), (10, 2, 12), (16, 6, 2)]:
+        most = int((GREATEST / (n[0] * n[1] * n[2])) ** 0.5)
+        drawn = lambda least, greatest: {q: rng.randrange(least, greatest + 1) for q in all_points(n)}
+        a = drawn(-most, most)
+        one("an overlay at %s" % (n,), n, a, drawn(-most, most))
+        one("an overlay with itself at %s" % (n,), n, a, a)
+        shift = tuple(rng.randrange(m) for m in n)
+        one("a map and it shifted at %s" % (n,), n, a, {tuple((p + s) % m for p, s, m in zip(q, shift, n)): x for q, x in a.items()})
+        one("counts below zero at %s" % (n,), n, drawn(0, 3), drawn(-3, -1))
+        one("many equals at %s" % (n,), n, drawn(0, 1), {q: 1 for q in all_points(n)})
+        one("nothing at %s" % (n,), n, drawn(0, 0), a)
+        point = {q: GREATEST * (q == shift) for q in all_points(n)}
+        one("the limit at %s" % (n,), n, point, drawn(-1, 1))
+        one("the limit below zero at %s" % (n,), n, {q: -x for q, x in point.items()}, {q: int(q == (1, 1, 1)) for q in all_points(n)})
+    waves = [{q: sign * (3 - 6 * q[0]) for q in all_points((2, 2, 2))} for sign in (1, -1)]
+    one("the documented overlay", (2, 2, 2), *waves)
+    tool.expect("its documented text", tool.run("best", made)[1], b"greatest 72 at shift 1 0 0\nat shift 0 0 0 -72\ndifference 144\n")
+    log = "".join("%d\n" % x for x in scores).encode()
+    tool.expect("the drift of best scores", tool.run("drift", 5, given=log), (0, drift_text(scores, 5), b""))
+    refused_overlays(tool)
+
+
+def refused_overlays(tool):
+    """Maps whose overlay might be beyond the range, of other groups and lengths, and damaged files."""
+    n, none = (4, 2, 6), tool.path("none")
+    zero = {q: 0 for q in all_points(n)}
+    ones = {q: 1 for q in all_points(n)}
+    path = lambda name, numbers, g=0, lengths=n: tool.file(name, combined_bytes(g, lengths, numbers))
+    sound = path("sound.overlay", ones)
+    for a, b in (({**zero, (1, 0, 0): GREATEST, (2, 1, 3): -1}, ones), ({**zero, (3, 1, 5): 2}, {**zero, (0, 1, 0): -GREATEST}),
+                 (ones, {**zero, (0, 0, 0): GREATEST}), ({q: -GREATEST for q in ones}, {q: GREATEST for q in ones})):
+        first, second = path("beyond1", a), path("beyond2", b)
+        words = ("overlay", first, second, "-o", none)
+        tool.refused("an overlay beyond the range", words, 28, of="%s and %s" % (first, second))
+        magnitudes = [[abs(x) for x in numbers.values()] for numbers in (a, b)]
+        found = "found: the magnitudes of the first map sum up to %d, the largest of the second is %d" % (sum(magnitudes[0]), max(magnitudes[1]))
+        tool.expect("what 28 says", tool.run(*words)[2].decode().split("\n")[2], found)
+    for g in range(1, 5):
+        other = path("other.overlay", {q: 1 for q in all_points((4, 4, 4))}, g, (4, 4, 4))
+        for words in (("overlay", sound, other, "-o", none), ("overlay", other, sound, "-o", none), ("overlay", other, other, "-o", none), ("best", other)):
+            said = "%s has group %d (%s), lengths 4 4 4; overlays are of maps in P1" % (other, g, GROUPS[g])
+            tool.fails("%s of group %d" % (words[0], g), words, said.encode())
+    for lengths in ((2, 2, 6), (4, 4, 6), (4, 2, 4), (2, 4, 6)):
+        other = path("other.overlay", {q: 1 for q in all_points(lengths)}, 0, lengths)
+        for files in ((sound, other), (other, sound)):
+            tool.fails("an overlay of two cells", ("overlay", *files, "-o", none), b"%s and %s have group 0 (P1), lengths" % tuple(map(str.encode, files)))
+    whole = open(sound, "rb").read()
+    beyond = combined_bytes(0, n, {**zero, (1, 1, 1): GREATEST + 1})
+    for contents, refusal in ((whole[:-1], 15), (whole[:4] + b"\2" + whole[5:], 16), (whole[:7] + b"\7" + whole[8:], 3), (beyond, 28)):
+        bad = tool.file("bad.overlay", contents)
+        for files in ((sound, bad), (bad, sound)):
+            tool.refused("an overlay of a damaged file", ("overlay", *files, "-o", none), refusal, of=bad)
+    for contents, refusal in ((whole + b"x", 15), (whole[:6] + b"\1\x20" * 3 + whole[12:], 9), (beyond, 28)):
+        tool.refused("best of a damaged file", ("best", tool.file("bad.overlay", contents)), refusal)
     tool.expect("refused commands write no file", os.path.exists(none), False)
 
 
@@ -674,7 +991,13 @@ def command_line(tool):
                   ("info", path, "--times"), ("point", path, 1, 2), ("point", path, 1, 2, "z"), ("factor", path, 1, 2, "-3"), ("line", 1, 0, 4, "2;3"),
                   ("combine", path, path), ("combine", path, "-o", "x"), ("combine", path, path, path, "-o", "x"), ("combine", "-", "-", "-o", "x"),
                   ("combine", path, path, "-o", tool.path("none"), "--times"), ("map", path, "--modulus", 2), ("line", 1, 0, 4, 2, "--modulus"),
-                  ("line", 1, 0, 4, 2, "--modulus", "x"), ("line", 1, 0, 4, 2, "--modulus", 1, "--modulus", 1),
+                  ("power",), ("power", path, "-o", "x"), ("power", path, 0), ("section", path), ("section", path, "z"), ("section", path, -1),
+                  ("section", path, 0, 0), ("section", path, 0, "--times"), ("picture", path, 0), ("picture", path, "-o", "x"),
+                  ("picture", path, "y", "-o", "x"), ("line", 1, 0, 4, 2, "--modulus", "x"), ("line", 1, 0, 4, 2, "--modulus", 1, "--modulus", 1),
+                  ("mrc", path), ("mrc", path, "-o", tool.path("none")), ("mrc", path, "--cell", "1,2,3,90"), ("mrc", path, "-o", "x", "--cell"),
+                  ("mrc", path, "--cell", "1,2,3,90", "--cell", "1,2,3,90", "-o", tool.path("none")), ("map", path, "--cell", "1,2,3,90"),
+                  ("overlay", path, path), ("overlay", path, "-o", "x"), ("overlay", "-", "-", "-o", "x"), ("overlay", path, path, "-o", "x", "--score"),
+                  ("best",), ("best", path, path), ("best", path, "-o", "x"), ("best", path, "--csv"),
                   ("drift",), ("drift", "x"), ("drift", "-2"), ("drift", 2, "a", "b"), ("drift", 2, "-o", "x"), ("drift", 2, "--times"), ("map", path, "--csv")):
         tool.fails("usage %s" % (words,), words, b"--help")
     status, out, err = tool.run("map", path, "--times")
@@ -687,7 +1010,8 @@ def files_and_streams(tool):
     tool.refused("an empty file", ("map", tool.file("empty", b"")), 15)
     tool.refused("an endless file", ("map", "/dev/zero"), 15)
     for name in ON_FILES:
-        more = ["-o", tool.path("none")] if name in ("factors", "rewrite") else [0, 0, 0] if name in ("point", "factor") else []
+        more = [0, 0, 0] if name in ("point", "factor") else [0] if name in ON_PLANES else []
+        more += ["-o", tool.path("none")] if name in ("factors", "rewrite", "picture") else []
         tool.fails(name + " of a missing file", (name, tool.path("missing"), *more), b"check its name and folder")
         tool.fails(name + " of a folder", (name, tool.folder, *more), b"name a file in it")
         if name in ON_COMBINED:
@@ -695,13 +1019,19 @@ def files_and_streams(tool):
             want = tool.run(name, made, *more)
             tool.expect(name + " of a combined map by a stream", (want[0], tool.run(name, "-", *more, given=open(made, "rb").read())), (0, want))
     for files in ((path, tool.path("missing")), (tool.path("missing"), path)):
-        tool.fails("combine of a missing file", ("combine", *files, "-o", tool.path("none")), b"check its name and folder")
+        for command in ("combine", "overlay"):
+            files = [tool.path("sound.combined") if file == path and command == "overlay" else file for file in files]
+            tool.fails(command + " of a missing file", (command, *files, "-o", tool.path("none")), b"check its name and folder")
+    for name, more in (("mrc", ("--cell", "1,2,3,4,5,6", "-o", tool.path("none"))), ("best", ())):
+        tool.fails(name + " of a missing file", (name, tool.path("missing"), *more), b"check its name and folder")
+        tool.fails(name + " of a folder", (name, tool.folder, *more), b"name a file in it")
     tool.fails("a folder that is not there", ("map", path, "-o", tool.path("no/where")), b"make its folder first")
     tool.fails("a folder as output", ("map", path, "-o", tool.folder), b"name a file in it")
     tool.fails("a full disk", ("map", path, "-o", "/dev/full"), b"make room")
     with open("/dev/full", "wb") as full:
         for words in (("map", path), ("map", path, "-o", "-"), ("rewrite", path, "-o", "-"), ("records", path), ("check", path), ("info", path),
-                      ("point", path, 0, 0, 0), ("map", "--help")):
+                      ("power", path), ("point", path, 0, 0, 0), ("best", made), ("mrc", made, "--cell", "1,2,3,90,90,90", "-o", "-"), ("overlay", made, made, "-o", "-"),
+                      ("map", "--help")):
             tool.fails("a full output of %s" % words[0], words, b"make room", stdout=full)
         tool.expect("a full standard error", tool.run("check", tool.path("missing"), stderr=full)[0], 2)
         tool.expect("a full standard error", tool.run("map", tool.path("empty"), stderr=full)[0], 1)
@@ -735,9 +1065,15 @@ def one_file(tool):
     for name in ("file", "link", "other", "../one/./file"):
         for command in ("map", "factors", "rewrite"):
             tool.fails("%s to its own file as %s" % (command, name), (command, path, "-o", os.path.join(folder, name)), b"%s is the file to read and" % path.encode())
+        for command in ON_PLANES:
+            words = (command, path, 0, "-o", os.path.join(folder, name))
+            tool.fails("%s to its own file as %s" % (command, name), words, b"%s is the file to read and" % path.encode())
         for files in ((path, tool.path("sound")), (tool.path("sound"), path)):
-            words = ("combine", *files, "-o", os.path.join(folder, name))
-            tool.fails("combine to its own file as %s" % name, words, b"%s is the file to read and" % path.encode())
+            for command in ("combine", "overlay"):
+                words = (command, *files, "-o", os.path.join(folder, name))
+                tool.fails("%s to its own file as %s" % (command, name), words, b"%s is the file to read and" % path.encode())
+        words = ("mrc", path, "--cell", "1,2,3,90", "-o", os.path.join(folder, name))
+        tool.fails("mrc to its own file as %s" % name, words, b"%s is the file to read and" % path.encode())
     with open(path, "rb") as given:
         tool.fails("standard input's own file", ("map", "-", "-o", path), b"standard input is the file to read and", stdin=given)
     with open(path, "ab") as out:
@@ -810,6 +1146,15 @@ def direct_density(g, n, found, q, p=P):
     return total % p
 
 
+def large_power(g, n, found, modulus=1):
+    """What power prints: the sum over every factor that the records imply, and as the map's sum, whose points are too many to add here, that times the
+    points."""
+    p, points = PRIMES[modulus], n[0] * n[1] * n[2]
+    of_factors = sum(w[0] ** 2 + w[1] ** 2 for j, v in found.items() for _, w in set(images(g, n, j, v, p))) % p
+    of_map = points * of_factors % p
+    return b"modulus %d, the prime %d\nmap %d\nfactors %d\n%d times factors %d\nthey agree\n" % (modulus, p, of_map, of_factors, points, of_map)
+
+
 def bounded(volume, each=4):
     """Room for the volume, of so many bytes each number, and 24 megabytes beside it: program, file, scratch and buffers."""
     return lambda: resource.setrlimit(resource.RLIMIT_AS, (each * volume + 24 * 2 ** 20,) * 2)
@@ -828,12 +1173,15 @@ def large_grids(tool):
         other = tool.file("large.other", file_bytes(g, n, [fs] * 3, shuffled(rng, g, n, records_in(contents))))
         tool.expect(what + ": rewrite", tool.run("rewrite", other, "-o", back, preexec_fn=limit), (0, b"", b""))
         tool.expect(what + ": the file rewritten", filecmp.cmp(path, back, shallow=False), True)
+        for source in (path, made):
+            tool.expect(what + ": power", tool.run("power", source, preexec_fn=limit), (0, large_power(g, n, found), b""))
         with open(made, "rb") as densities:
             for _ in range(6):
                 q = tuple(rng.randrange(m) for m in (*n[:2], planes(g, n)))
                 densities.seek(len(map_head(g, n, [fs] * 3)) + 4 * ((q[2] * length + q[0]) * length + q[1]))
                 tool.expect(what + ": the density at %s" % (q,), number(densities.read(4)), direct_density(g, n, found, q))
     large_combined(tool, rng, g, n, [fs] * 3, found)
+    large_overlay(tool, rng)
     tool.fails("no memory", ("map", tool.path("large0")), b"no memory", preexec_fn=bounded(0))
 
 
@@ -845,6 +1193,7 @@ def large_combined(tool, rng, g, n, lists, found):
     tool.expect(what + ": there", tool.run("map", path, "-o", tool.path("large.second.map"), preexec_fn=bounded(volume)), (0, b"", b""))
     tool.expect(what + ": and back", tool.run("factors", tool.path("large.second.map"), "-o", back, preexec_fn=bounded(volume)), (0, b"", b""))
     tool.expect(what + ": the same file", filecmp.cmp(path, back, shallow=False), True)
+    tool.expect(what + ": power", tool.run("power", path, preexec_fn=bounded(volume)), (0, large_power(g, n, others, 2), b""))
     words = ("combine", tool.path("large%d" % g), tool.path("large.second.map"), "-o", made)
     tool.expect(what, tool.run(*words, preexec_fn=bounded(volume, 16)), (0, b"", b""))
     tool.expect(what + ": written again", tool.run("map", made, "-o", back, preexec_fn=bounded(volume, 8)), (0, b"", b""))
@@ -853,6 +1202,52 @@ def large_combined(tool, rng, g, n, lists, found):
         q = tuple(rng.randrange(m) for m in n)
         number = combined(direct_density(g, n, found, q), direct_density(g, n, others, q, PRIMES[2]))
         tool.expect(what + ": at %s" % (q,), tool.run("point", made, *q, preexec_fn=bounded(volume, 8)), (0, b"%d\n" % number, b""))
+        status, out, err = tool.run("section", made, q[2], preexec_fn=bounded(volume, 16))
+        rows = [[int(line[at:at + 13]) for line in lines for at in range(4, 69, 13) if line[at:at + 13].strip()] for lines in by_rows(n, out)]
+        tool.expect(what + ": plane %d" % q[2], (status, out, err, rows[q[0]][q[1]]), (0, page(rows), b"", number))
+        drawn = tool.run("picture", made, q[2], "-o", "-", preexec_fn=bounded(volume, 16))[1]
+        picture(tool, what, drawn, q[2], rows)
+
+
+def by_rows(n, text):
+    """The lines of each row of a page."""
+    lines, each = text.split(b"\n"), -(-n[1] // 5)
+    return [lines[x * each:(x + 1) * each] for x in range(n[0])]
+
+
+def sparse(n, found):
+    """A combined map file of P1 with few numbers that are not zero."""
+    contents = bytearray(12 + 8 * n[0] * n[1] * n[2])
+    contents[:12] = b"RCMB\1\0" + b"".join(m.to_bytes(2, "big") for m in n)
+    for (x, y, z), number in found.items():
+        at = 12 + 8 * ((z * n[0] + x) * n[1] + y)
+        contents[at:at + 8] = number.to_bytes(8, "big", signed=True)
+    return bytes(contents)
+
+
+def large_overlay(tool, rng):
+    """P1 at 120^3 with a few points: the whole overlay, the best shift and the file for viewers, in no more memory than is documented."""
+    n = (120, 120, 120)
+    volume = volume_length(0, n)
+    a, b = ({tuple(rng.randrange(m) for m in n): rng.randrange(-9000, 9001) for _ in range(40)} for _ in range(2))
+    values = {}
+    for u, x in a.items():
+        for v, y in b.items():
+            s = tuple((q - p) % m for p, q, m in zip(u, v, n))
+            values[s] = values.get(s, 0) + x * y
+    paths, made = [tool.file("large.a", sparse(n, a)), tool.file("large.b", sparse(n, b))], tool.path("large.overlay")
+    tool.expect("a large overlay", tool.run("overlay", *paths, "-o", made, preexec_fn=bounded(volume, 36)), (0, b"", b""))
+    tool.expect("its values", open(made, "rb").read() == sparse(n, values), True)
+    tool.expect("its best shift", tool.run("best", made, preexec_fn=bounded(volume, 8)), (0, best_text({(0, 0, 0): 0, **values}), b""))
+    tool.expect("no memory", tool.run("overlay", *paths, "-o", made, preexec_fn=bounded(volume, 12))[0], 2)
+    words = ("mrc", paths[0], "--cell", "10,20,30,90,95,100", "-o", tool.path("large.mrc"))
+    tool.expect("a large map for viewers", tool.run(*words, preexec_fn=bounded(volume, 16)), (0, b"", b""))
+    with open(tool.path("large.mrc"), "rb") as file:
+        whole = file.read()
+    tool.expect("its length", len(whole), 1024 + 4 * 120 ** 3)
+    for (x, y, z), number in a.items():
+        tool.expect("its number at %s" % ((x, y, z),), struct.unpack_from("<f", whole, 1024 + 4 * (x + 120 * (y + 120 * z)))[0], number)
+    tool.expect("and no others", sum(x != 0 for x in struct.unpack_from("<%df" % 120 ** 3, whole, 1024)), sum(x != 0 for x in a.values()))
 
 
 def named_pipe(tool):
@@ -921,9 +1316,9 @@ def progress(tool):
 def main():
     with tempfile.TemporaryDirectory() as folder:
         tool = Tool(os.path.abspath(sys.argv[1]), folder)
-        for part in (samples, combined_sample, small_grids, empty_cells, zero_records, full_cells, combined_maps, refused_pairs, records_at_fault,
-                     refused_records, refused_headers, refused_maps, lines, drift, command_line, files_and_streams, too_long, one_file, replaced,
-                     large_grids, closed_pipe, named_pipe, ended_by_signals, progress):
+        for part in (samples, combined_sample, small_grids, empty_cells, zero_records, full_cells, combined_maps, planes_of_all_kinds, refused_pairs,
+                     for_viewers, overlays, records_at_fault, refused_records, refused_headers, refused_maps, lines, drift, command_line,
+                     files_and_streams, too_long, one_file, replaced, large_grids, closed_pipe, named_pipe, ended_by_signals, progress):
             part(tool)
         tool.expect("the refusals", tool.seen, REFUSALS)
     print("%d comparisons agree, %d do not" % (tool.agreed, tool.wrong))

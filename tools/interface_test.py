@@ -13,21 +13,21 @@ import sys
 
 TOP = os.path.join(os.path.dirname(os.path.abspath(__file__)), "..")
 FILES = ["include/recorder.h", "crates/exported/src/lib.rt", "host/src/ffi.rs"]
-# What the source passes on: the structs of jobs and of their answers, and the numbers of refusals.
-PASSED_ON = ["crates/job/src/lib.rt", "crates/exported/src/answers.rt", "crates/refusals/src/lib.rt"]
+# What the source passes on: the structs of jobs, of their answers and of a unit cell, and the numbers of refusals.
+PASSED_ON = ["crates/job/src/lib.rt", "crates/exported/src/answers.rt", "crates/exported/src/cells.rt", "crates/refusals/src/lib.rt"]
 
-# Numbers that crates/refusals has and no exported call gives yet: the header has no names for them.
-NOT_GIVEN = {"MAGNITUDE", "UNIT_CELL", "FLOAT_RANGE"}
 # The names of the header's types in the Rattle source and in the tool.
 SOURCE_NAMES = {"Reflection": "recorder_reflection", "GridPoint": "recorder_grid_point", "Axis": "recorder_axis", "Job": "recorder_job",
-                "JobCoded": "recorder_answer", "FileCoded": "recorder_file_answer", "FaultsCoded": "recorder_faults",
-                "WriteCoded": "recorder_write_answer", "PointCoded": "recorder_density", "FactorCoded": "recorder_factor_value"}
+                "CellCoded": "recorder_cell", "JobCoded": "recorder_answer", "FileCoded": "recorder_file_answer", "FaultsCoded": "recorder_faults",
+                "WriteCoded": "recorder_write_answer", "PointCoded": "recorder_density", "FactorCoded": "recorder_factor_value",
+                "PowerCoded": "recorder_power"}
 FFI_NAMES = {"Reflection": "recorder_reflection", "GridPoint": "recorder_grid_point", "Axis": "recorder_axis", "Job": "recorder_job",
-             "Answer": "recorder_answer", "FileAnswer": "recorder_file_answer", "Faults": "recorder_faults",
-             "WriteAnswer": "recorder_write_answer", "Density": "recorder_density", "FactorValue": "recorder_factor_value"}
+             "UnitCell": "recorder_cell", "Answer": "recorder_answer", "FileAnswer": "recorder_file_answer", "Faults": "recorder_faults",
+             "WriteAnswer": "recorder_write_answer", "Density": "recorder_density", "FactorValue": "recorder_factor_value",
+             "Power": "recorder_power"}
 # A struct that lacks the mark is not found, and so differs.
 LAID_OUT = r"#\[repr\(C\)\]\s*(?:#\[derive\([^)]*\)\]\s*)?"
-NUMBERS = {"u8": "uint8_t", "u32": "uint32_t", "i32": "int32_t", "u64": "uint64_t", "i64": "int64_t", "usize": "size_t"}
+NUMBERS = {"u8": "uint8_t", "u32": "uint32_t", "i32": "int32_t", "u64": "uint64_t", "i64": "int64_t", "f32": "float", "usize": "size_t"}
 
 
 def read(name):
@@ -78,8 +78,7 @@ def c_refusals(text):
 
 def source_refusals(text):
     """The numbers of the refusals that calls give, by their names as the header writes them."""
-    found = {re.sub(r"(?<=.)(?=[A-Z])", "_", name).upper(): value for name, value in re.findall(r"Refusal::(\w+) => (\d+)", text)}
-    return {name: value for name, value in found.items() if name not in NOT_GIVEN}
+    return {re.sub(r"(?<=.)(?=[A-Z])", "_", name).upper(): value for name, value in re.findall(r"Refusal::(\w+) => (\d+)", text)}
 
 
 def named_type(kind, names):
@@ -161,6 +160,12 @@ DAMAGES = [
     (0, "uint32_t count, first, second;", "uint32_t count, second, first;"), (1, "pub place: u32,", ""), (1, "fn recorder_analysis(", "fn recorder_analyse("),
     (1, "#[repr(C)]", ""), (2, "#[repr(C)]", ""),
     (0, "int64_t *least, size_t least_length", "uint64_t *least, size_t least_length"),
+    (0, "uint32_t number, power;", "uint32_t power, number;"), (0, "RECORDER_REFUSED_MAGNITUDE = 28,", ""),
+    (1, "fn recorder_map_power(", "fn recorder_power_of_map("), (0, "uint32_t z, uint8_t *out", "uint8_t *out"),
+    (2, "map_length: usize,\n        z: u32,", "map_length: usize,"),
+    (0, "float a, b, c, alpha, beta, gamma;", "float a, b, c, gamma, alpha, beta;"), (1, "pub beta: f32,", "pub beta: u32,"),
+    (2, "cell: UnitCell,\n        out", "out"), (0, "const int64_t *b, size_t b_length", "int64_t *b, size_t b_length"),
+    (1, "Refusal::UnitCell => 29,", "Refusal::UnitCell => 30,"),
     (2, "pub written: usize", "pub written: u32"), (2, "direction: u32,\n        length: u32,", "direction: u32,"),
 ]
 

@@ -1,22 +1,26 @@
 #!/usr/bin/env python3
 """Reads files in the format MRC2014 with the programs that viewers are made of, and compares what they see, number for number.
 
-    /usr/bin/python3 tools/mrc_readers.py
+    /usr/bin/python3 tools/mrc_readers.py [PROGRAM]
 
-The files are written by the rule of mrc_cases.py, which the proved call gives byte for byte (crates/mrc_test). Debian has the
-readers: apt-get install gemmi python3-gemmi python3-mrcfile. Each file is read three times: by mrcfile, whose validate
-holds it to the standard, by the gemmi library, and by the command `gemmi map`. It runs outside the gate.
+The files are written by the rule of mrc_cases.py, which the proved call gives byte for byte (crates/mrc_test); where the command line tool is
+named, by its `mrc` of a combined map file, and must be the same bytes. Each file is read three times: by mrcfile, whose validate holds it to the
+standard, by the gemmi library, and by the command `gemmi map`. Debian has the readers: apt-get install gemmi python3-gemmi python3-mrcfile. It
+runs outside the gate.
 """
 import io
 import os
 import random
+import struct
 import subprocess
+import sys
 import tempfile
 
 import gemmi
 import mrcfile
 
-from mrc_cases import NUMBERS, SHAPES, bits, float_of, held_point, mrc_file, volume
+from brute_force import pack_map, point_images
+from mrc_cases import EXACT, NUMBERS, SHAPES, bits, float_of, held_point, mrc_file, volume
 
 ANGLES = {0: (81.5, 95.25, 112.125), 1: (90, 90, 103.5), 2: (90, 90, 77.0625), 3: (90, 90, 120.5), 4: (90, 90, 90)}
 EDGES = (10.5, 23.25, 41.125)
@@ -65,16 +69,35 @@ def by_command(path):
     return done.stdout
 
 
+def obeying(rng, group, n):
+    """The numbers of a map that obeys its group, which the tool asks for."""
+    drawn = {(x, y, z): NUMBERS[rng.choice(EXACT)] for x in range(n[0]) for y in range(n[1]) for z in range(n[2])}
+    return pack_map(group, n, {x: drawn[min(point_images(group, n, x))] for x in drawn})
+
+
+def by_tool(program, group, n, numbers):
+    """What the tool writes of a combined map file."""
+    width = n[1] + 2
+    held = [number for place, number in enumerate(numbers) if place % width < n[1]]
+    given = b"RCMB" + struct.pack(">2B3H", 1, group, *n) + struct.pack(">%dq" % len(held), *held)
+    angles = ANGLES[group] if group == 0 else ANGLES[group][2:]
+    words = [program, "mrc", "-", "--cell", ",".join(map(str, EDGES + angles)), "-o", "-"]
+    return subprocess.run(words, input=given, capture_output=True, check=True).stdout
+
+
 def main():
+    program = sys.argv[1] if sys.argv[1:] else None
     rng = random.Random(2014)
     files = points = 0
     shown = None
     for group in range(5):
         for n in SHAPES + [(12, 16, 10), (20, 8, 24)]:
-            numbers = [NUMBERS[c] for c in volume(rng, group, n)]
+            numbers = obeying(rng, group, n) if program else [NUMBERS[c] for c in volume(rng, group, n)]
             kind = 0 if group == 0 else 1
             parameters = [bits(v) for v in EDGES + ANGLES[group]]
             written = mrc_file(group, n, numbers, kind, parameters)
+            if program:
+                same("the tool's bytes", by_tool(program, group, n, numbers), written)
             density = {}
             for z in range(n[2]):
                 for y in range(n[1]):

@@ -1,17 +1,18 @@
 #!/usr/bin/env python3
-"""The second sample entry of P2_1 and the combined map: samples/p21.second.factors and samples/p21.combined.txt.
+"""The second sample entry of P2_1, the combined map and a section of it: samples/p21.second.factors, p21.combined.txt and p21.section.txt.
 
     samples.py [FOLDER]
 
-Both are made from samples/p21.factors alone, and written to the folder, or to samples/. An entry whose factors are whole numbers beyond the first
+All are made from samples/p21.factors alone, and written to the folder, or to samples/. An entry whose factors are whole numbers beyond the first
 prime: at each index that of p21.factors and some times 86,399. Its file modulo 86,399 is p21.factors itself; its file modulo 302,399 has the
 numbers as they are. The combined text has at each point the only whole number from -13,063,485,600 to 13,063,485,600 that is congruent to both
-triple sums, found by trying all numbers that are congruent to the first.
+triple sums, found by trying all numbers that are congruent to the first. The section is the page of plane 1.
 """
 import os
 import sys
 
 from brute_force import PRIMES, file_bytes, needed, open_file, planes, records_in
+from section_cases import page
 
 SAMPLES = os.path.join(os.path.dirname(os.path.abspath(__file__)), "../samples")
 # How often 86,399 is added to a and to b of each record.
@@ -43,12 +44,19 @@ def combined_text(contents, others):
     return ("\n".join(lines) + "\n").encode()
 
 
+def section_text(text, z):
+    """The page of a plane of the text of a combined map."""
+    lines = [list(map(int, line.split())) for line in text.decode().split("\n")[1:-1]]
+    return page([line[2:] for line in lines if line[0] == z])
+
+
 def main():
     with open(os.path.join(SAMPLES, "p21.factors"), "rb") as file:
         contents = file.read()
     others = second_file(contents)
     folder = sys.argv[1] if len(sys.argv) > 1 else SAMPLES
-    for name, made in (("p21.second.factors", others), ("p21.combined.txt", combined_text(contents, others))):
+    text = combined_text(contents, others)
+    for name, made in (("p21.second.factors", others), ("p21.combined.txt", text), ("p21.section.txt", section_text(text, 1))):
         with open(os.path.join(folder, name), "wb") as out:
             out.write(made)
 

@@ -10,6 +10,8 @@ pub struct Given {
     pub modulus: Option<u32>,
     pub times: bool,
     pub csv: bool,
+    pub score: bool,
+    pub cell: Option<OsString>,
     pub help: bool,
 }
 
@@ -23,6 +25,13 @@ impl Given {
                 Some("--help" | "-h") => given.help = true,
                 Some("--times") => given.times = true,
                 Some("--csv") => given.csv = true,
+                Some("--score") => given.score = true,
+                Some("--cell") => {
+                    let cell = arguments.next().ok_or_else(|| Failure::Usage("--cell needs edges and angles".into()))?;
+                    if given.cell.replace(cell).is_some() {
+                        return Err(Failure::Usage("--cell is given twice; name one".into()));
+                    }
+                }
                 Some("-o") => {
                     let output = arguments.next().ok_or_else(|| Failure::Usage("-o needs the name of a file".into()))?;
                     if given.output.replace(output).is_some() {

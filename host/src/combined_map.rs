@@ -35,6 +35,15 @@ impl CombinedMap {
         Ok(digit(&self.high)? * BASE + digit(&self.low)? - GREATEST)
     }
 
+    /// The cell, and the numbers as a call takes them: the layout of a volume, two zeros behind each row. The digits are held until it is filled.
+    pub fn into_volume(self) -> Result<(Cell, Vec<i64>), Failure> {
+        let mut volume = zeros(self.cell.volume_length())?;
+        for (places, row) in volume.chunks_exact_mut(self.cell.length(1) + 2).zip(self.rows()) {
+            places.iter_mut().zip(row).for_each(|(place, number)| *place = number);
+        }
+        Ok((self.cell, volume))
+    }
+
     /// The rows by rising z, then x: each has the numbers by y.
     pub fn rows(&self) -> impl Iterator<Item = impl Iterator<Item = i64> + '_> {
         let joined = |(&high, &low): (&u32, &u32)| i64::from(high) * BASE + i64::from(low) - GREATEST;
@@ -93,12 +102,13 @@ fn read_digits(name: &OsStr, input: &mut impl Read, cell: &Cell, told: &Told) ->
     }
 }
 
-/// The header of a digit's map. A combined map has no factor lists, since nothing of it is transformed; any that fit the lengths will do.
+/// The header of a digit's map. A combined map has no factor lists; any that fit the lengths will do.
 fn digit_header(cell: &Cell) -> Header {
     Header { version: 2, cell: cell.clone(), modulus: 2, lists: cell.lengths.map(any_list) }
 }
 
-fn any_list(length: u16) -> Vec<u8> {
+/// Factors of half a length, as of an admitted one.
+pub fn any_list(length: u16) -> Vec<u8> {
     let (mut rest, mut list) = (length / 2, Vec::new());
     for factor in [2, 3, 5] {
         while rest > 0 && rest % factor == 0 {

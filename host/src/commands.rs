@@ -1,6 +1,7 @@
 //! The commands. Each reads its input, makes the proved calls and writes the result.
 use crate::arguments::{self, Given};
-use crate::combined_map;
+use crate::combined_map::{self, CombinedMap};
+use crate::correlation;
 use crate::drift;
 use crate::factor_file;
 use crate::failure::{shown, Failure};
@@ -9,9 +10,13 @@ use crate::header::{list_text, Cell, Header};
 use crate::help;
 use crate::input::{self, Entry, Held};
 use crate::map_file;
+use crate::mrc;
 use crate::output;
+use crate::picture;
+use crate::png;
 use crate::progress::{during, during_output};
 use crate::recorder::{self, Recorder};
+use crate::section;
 use crate::text;
 use crate::times::Times;
 use std::ffi::{OsStr, OsString};
@@ -25,10 +30,14 @@ struct Command {
 }
 
 const FILE: &str = "FILE";
-const COMMANDS: [Command; 12] = [
+const COMBINED: &str = "COMBINED";
+const COMMANDS: [Command; 18] = [
     Command { name: "map", words: &[FILE], help: help::MAP, run: map },
     Command { name: "factors", words: &[FILE], help: help::FACTORS, run: factors },
     Command { name: "combine", words: &["FILE1", "FILE2"], help: help::COMBINE, run: combine },
+    Command { name: "mrc", words: &[COMBINED], help: help::MRC, run: mrc },
+    Command { name: "overlay", words: &["COMBINED1", "COMBINED2"], help: help::OVERLAY, run: overlay },
+    Command { name: "best", words: &[COMBINED], help: help::BEST, run: best },
     Command { name: "rewrite", words: &[FILE], help: help::REWRITE, run: rewrite },
     Command { name: "records", words: &[FILE], help: help::RECORDS, run: records },
     Command { name: "check", words: &[FILE], help: help::CHECK, run: check },
@@ -36,6 +45,9 @@ const COMMANDS: [Command; 12] = [
     Command { name: "info", words: &[FILE], help: help::INFO, run: info },
     Command { name: "point", words: &[FILE, "x", "y", "z"], help: help::POINT, run: point },
     Command { name: "factor", words: &[FILE, "h", "k", "l"], help: help::FACTOR, run: factor },
+    Command { name: "power", words: &[FILE], help: help::POWER, run: power },
+    Command { name: "section", words: &[COMBINED, "z"], help: help::SECTION, run: section },
+    Command { name: "picture", words: &[COMBINED, "z"], help: help::PICTURE, run: picture },
     Command { name: "line", words: &["KIND", "DIRECTION", "N", "LIST"], help: help::LINE, run: line },
     Command { name: "drift", words: &["W", "[FILE]"], help: help::DRIFT, run: drift },
 ];
@@ -51,7 +63,7 @@ pub fn run(mut arguments: impl Iterator<Item = OsString>) -> Result<(), Failure>
         (_, Some(command)) => {
             fit(command, &given)?;
             (command.run)(&given).map_err(|failure| match command.words[0] {
-                FILE => failure.of(shown(&given.words[0])),
+                FILE | COMBINED => failure.of(shown(&given.words[0])),
                 _ => failure,
             })
         }
@@ -61,7 +73,7 @@ pub fn run(mut arguments: impl Iterator<Item = OsString>) -> Result<(), Failure>
 /// Whether a command was given the words and options that it takes.
 fn fit(command: &Command, given: &Given) -> Result<(), Failure> {
     let (name, words) = (command.name, command.words);
-    let writes = matches!(name, "map" | "factors" | "combine" | "rewrite");
+    let writes = matches!(name, "map" | "factors" | "combine" | "mrc" | "overlay" | "rewrite" | "section" | "picture");
     let least = words.iter().filter(|word| !word.starts_with('[')).count();
     if !(least..=words.len()).contains(&given.words.len()) {
         return Err(Failure::Usage(format!("{name} takes {}, not {} words", words.join(" "), given.words.len())));
@@ -75,11 +87,17 @@ fn fit(command: &Command, given: &Given) -> Result<(), Failure> {
     if given.csv && name != "drift" {
         return Err(Failure::Usage(format!("{name} takes no --csv")));
     }
+    if given.score && name != "best" {
+        return Err(Failure::Usage(format!("{name} takes no --score")));
+    }
+    if given.cell.is_some() && name != "mrc" {
+        return Err(Failure::Usage(format!("{name} takes no --cell")));
+    }
     if given.modulus.is_some() && name != "line" {
         return Err(Failure::Usage(format!("{name} takes no --modulus")));
     }
-    let inputs = if writes { &given.words[..] } else { &[] };
-    if let Some(input) = inputs.iter().find(|input| output::is_input(given.output(), input)) {
+    let mut inputs = given.words.iter().zip(words).filter(|(_, word)| writes && (word.starts_with(FILE) || word.starts_with(COMBINED)));
+    if let Some((input, _)) = inputs.find(|(input, _)| output::is_input(given.output(), input)) {
         return Err(Failure::Usage(format!("{} is the file to read and the file to write; name another file to write", shown(input))));
     }
     Ok(())
@@ -125,17 +143,55 @@ fn factors(given: &Given) -> Result<(), Failure> {
 /// says.
 fn combine(given: &Given) -> Result<(), Failure> {
     let to = target("combine", given)?;
-    if given.words.iter().all(|name| name == "-") {
-        return Err(Failure::Usage("standard input can be one of the two files, not both".into()));
-    }
-    let names = [shown(&given.words[0]), shown(&given.words[1])];
+    let names = two_files(given)?;
     let map = |at: usize| input::job(&given.words[at]).and_then(with_map).map_err(|failure| failure.of(names[at].clone()));
     let (first, second) = (map(0)?, map(1)?);
     let combined = during("combining", |_| recorder::combined(&first, &second)).map_err(|failure| failure.of(names.join(" and ")))?;
-    let cell = &first.header.cell;
-    let rows = recorder::rows(cell, &combined).map(|row| row.iter().copied());
+    write_combined(&first.header.cell, &combined, to)
+}
+
+/// The names of two files, of which one can be standard input.
+fn two_files(given: &Given) -> Result<[String; 2], Failure> {
+    if given.words.iter().all(|name| name == "-") {
+        return Err(Failure::Usage("standard input can be one of the two files, not both".into()));
+    }
+    Ok([shown(&given.words[0]), shown(&given.words[1])])
+}
+
+/// Writes a combined map file of the numbers of a volume.
+fn write_combined(cell: &Cell, volume: &[i64], to: &OsStr) -> Result<(), Failure> {
+    let rows = recorder::rows(cell, volume).map(|row| row.iter().copied());
     let target = output::open(Some(to))?;
     during_output(output::is_standard(Some(to)), "writing", |told| target.write(|mut out| combined_map::write(cell, rows, &mut out, told)))
+}
+
+/// What the unit cell is said to be is read before the file, and judged by the proved call after it.
+fn mrc(given: &Given) -> Result<(), Failure> {
+    let to = target("mrc", given)?;
+    let cell = given.cell.as_ref().ok_or_else(|| Failure::Usage("mrc needs --cell and the edges and angles of the unit cell".into()))?;
+    let unit = mrc::unit_cell(&cell.to_string_lossy())?;
+    let (cell, volume) = input::combined(&given.words[0])?.into_volume()?;
+    let file = during("making the file", |_| mrc::file(&cell, &volume, unit))?;
+    output::open(Some(to))?.write(|out| out.write_all(&file))
+}
+
+fn overlay(given: &Given) -> Result<(), Failure> {
+    let to = target("overlay", given)?;
+    let names = two_files(given)?;
+    let map = |at: usize| correlation::read(&given.words[at]).and_then(CombinedMap::into_volume).map_err(|failure| failure.of(names[at].clone()));
+    let ((cell, first), (other, second)) = (map(0)?, map(1)?);
+    let names = names.join(" and ");
+    if cell.lengths != other.lengths {
+        let found = format!("{}; and {}", cell.described(), other.described());
+        return Err(Failure::Trouble(format!("{names} have {found}; overlays are of maps of the same lengths")));
+    }
+    let values = during("overlay", |_| correlation::overlay(&cell, &first, &second)).map_err(|failure| failure.of(names))?;
+    write_combined(&cell, &values, to)
+}
+
+fn best(given: &Given) -> Result<(), Failure> {
+    let best = correlation::best(&correlation::read(&given.words[0])?);
+    output::print(&if given.score { best.score() } else { best.described() })
 }
 
 fn rewrite(given: &Given) -> Result<(), Failure> {
@@ -209,9 +265,12 @@ fn info(given: &Given) -> Result<(), Failure> {
 
 fn described(kind: &str, header: &Header) -> String {
     let [f1, f2, f3] = header.lists.each_ref().map(|list| list_text(list));
-    let modulus = format!("modulus {}, the prime {}\n", header.modulus, header.prime());
-    let (cell, volume) = (cell_lines(&header.cell, &modulus), volume_lines(&header.cell, 4));
+    let (cell, volume) = (cell_lines(&header.cell, &modulus_line(header)), volume_lines(&header.cell, 4));
     format!("{kind}, version {}\n{cell}lists {f1} {f2} {f3}\n{volume}", header.version)
+}
+
+fn modulus_line(header: &Header) -> String {
+    format!("modulus {}, the prime {}\n", header.modulus, header.prime())
 }
 
 /// Group and lengths, and a line between them.
@@ -241,6 +300,46 @@ fn factor(given: &Given) -> Result<(), Failure> {
     let recorder = with_factors(input::job(&given.words[0])?)?;
     let (a, b) = recorder.factor(Reflection { h, k, l })?;
     output::print(&format!("{a} {b}\n"))
+}
+
+/// Both sums of one entry: of what the file has, and of what a synthesis or an analysis makes of it. That they agree is proved.
+fn power(given: &Given) -> Result<(), Failure> {
+    let mut recorder = input::job(&given.words[0])?;
+    let (of_map, of_factors) = if recorder.holds_map() {
+        let of_map = recorder.map_power()?;
+        recorder = with_factors(recorder)?;
+        (of_map, recorder.factor_power()?)
+    } else {
+        let of_factors = recorder.factor_power()?;
+        recorder = with_map(recorder)?;
+        (recorder.map_power()?, of_factors)
+    };
+    let (header, points) = (&recorder.header, recorder.header.cell.points());
+    let product = points * u64::from(of_factors) % u64::from(header.prime());
+    let agree = u64::from(of_map) == product;
+    let said = if agree { "they agree" } else { "they differ" };
+    let sums = format!("map {of_map}\nfactors {of_factors}\n{points} times factors {product}\n{said}\n");
+    output::print(&(modulus_line(header) + &sums))?;
+    if agree {
+        Ok(())
+    } else {
+        Err(Failure::Reported)
+    }
+}
+
+fn section(given: &Given) -> Result<(), Failure> {
+    let z = given.number(1)?;
+    let (_, page) = section::page(input::combined(&given.words[0])?, z)?;
+    output::open(given.output())?.write(|out| out.write_all(&page))
+}
+
+/// The picture shows the numbers that the page has.
+fn picture(given: &Given) -> Result<(), Failure> {
+    let to = target("picture", given)?;
+    let z = given.number(1)?;
+    let (cell, page) = section::page(input::combined(&given.words[0])?, z)?;
+    let picture = picture::of_plane(&cell, z, &section::numbers(&page, &cell));
+    output::open(Some(to))?.write(|mut out| png::write(picture.width, &picture.pixels, &mut out))
 }
 
 fn line(given: &Given) -> Result<(), Failure> {

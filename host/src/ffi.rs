@@ -65,6 +65,19 @@ pub struct Faults {
     pub second: u32,
 }
 
+/// A unit cell for viewers: edges in angstrom, and three angles in degrees, or gamma alone where `angles` is not 3.
+#[repr(C)]
+#[derive(Clone, Copy)]
+pub struct UnitCell {
+    pub angles: u32,
+    pub a: f32,
+    pub b: f32,
+    pub c: f32,
+    pub alpha: f32,
+    pub beta: f32,
+    pub gamma: f32,
+}
+
 #[repr(C)]
 pub struct WriteAnswer {
     pub number: u32,
@@ -82,6 +95,13 @@ pub struct FactorValue {
     pub number: u32,
     pub a: u32,
     pub b: u32,
+}
+
+/// A sum over the whole cell, a residue.
+#[repr(C)]
+pub struct Power {
+    pub number: u32,
+    pub power: u32,
 }
 
 extern "C" {
@@ -111,6 +131,8 @@ extern "C" {
     fn recorder_analysis(job: Job, volume: *mut u32, volume_length: usize, scratch: *mut u32, scratch_length: usize) -> Answer;
     fn recorder_point(job: Job, at: GridPoint, volume: *const u32, volume_length: usize) -> Density;
     fn recorder_factor(job: Job, at: Reflection, volume: *const u32, volume_length: usize) -> FactorValue;
+    fn recorder_map_power(job: Job, volume: *const u32, volume_length: usize) -> Power;
+    fn recorder_factor_power(job: Job, volume: *const u32, volume_length: usize) -> Power;
     fn recorder_combine(
         first: Job,
         first_map: *const u32,
@@ -120,6 +142,53 @@ extern "C" {
         second_length: usize,
         output: *mut i64,
         output_length: usize,
+    ) -> WriteAnswer;
+    fn recorder_section(
+        group: u32,
+        n1: u32,
+        n2: u32,
+        n3: u32,
+        map: *const i64,
+        map_length: usize,
+        z: u32,
+        out: *mut u8,
+        out_length: usize,
+    ) -> WriteAnswer;
+    fn recorder_mrc(
+        group: u32,
+        n1: u32,
+        n2: u32,
+        n3: u32,
+        map: *const i64,
+        map_length: usize,
+        cell: UnitCell,
+        out: *mut u8,
+        out_length: usize,
+    ) -> WriteAnswer;
+    fn recorder_correlate(
+        n1: u32,
+        n2: u32,
+        n3: u32,
+        factors1: *const u8,
+        count1: usize,
+        factors2: *const u8,
+        count2: usize,
+        factors3: *const u8,
+        count3: usize,
+        a: *const i64,
+        a_length: usize,
+        b: *const i64,
+        b_length: usize,
+        output: *mut i64,
+        output_length: usize,
+        work1: *mut u32,
+        work1_length: usize,
+        work2: *mut u32,
+        work2_length: usize,
+        work3: *mut u32,
+        work3_length: usize,
+        scratch: *mut u32,
+        scratch_length: usize,
     ) -> WriteAnswer;
     fn recorder_line(
         modulus: u32,
@@ -199,10 +268,67 @@ pub fn factor(job: Job, at: Reflection, volume: &[u32]) -> FactorValue {
     unsafe { recorder_factor(job, at, volume.as_ptr(), volume.len()) }
 }
 
+pub fn map_power(job: Job, volume: &[u32]) -> Power {
+    unsafe { recorder_map_power(job, volume.as_ptr(), volume.len()) }
+}
+
+pub fn factor_power(job: Job, volume: &[u32]) -> Power {
+    unsafe { recorder_factor_power(job, volume.as_ptr(), volume.len()) }
+}
+
 /// Each map with its job.
 pub fn combine(first: (Job, &[u32]), second: (Job, &[u32]), output: &mut [i64]) -> WriteAnswer {
     let ((job1, map1), (job2, map2)) = (first, second);
     unsafe { recorder_combine(job1, map1.as_ptr(), map1.len(), job2, map2.as_ptr(), map2.len(), output.as_mut_ptr(), output.len()) }
+}
+
+pub fn section(group: u32, lengths: [u32; 3], map: &[i64], z: u32, out: &mut [u8]) -> WriteAnswer {
+    let [n1, n2, n3] = lengths;
+    unsafe { recorder_section(group, n1, n2, n3, map.as_ptr(), map.len(), z, out.as_mut_ptr(), out.len()) }
+}
+
+pub fn mrc(group: u32, lengths: [u32; 3], map: &[i64], cell: UnitCell, out: &mut [u8]) -> WriteAnswer {
+    let [n1, n2, n3] = lengths;
+    unsafe { recorder_mrc(group, n1, n2, n3, map.as_ptr(), map.len(), cell, out.as_mut_ptr(), out.len()) }
+}
+
+/// Both maps, and the three work volumes.
+pub fn correlate(
+    lengths: [u32; 3],
+    lists: [&[u8]; 3],
+    maps: [&[i64]; 2],
+    output: &mut [i64],
+    work: [&mut [u32]; 3],
+    scratch: &mut [u32],
+) -> WriteAnswer {
+    let ([n1, n2, n3], [f1, f2, f3], [a, b], [work1, work2, work3]) = (lengths, lists, maps, work);
+    unsafe {
+        recorder_correlate(
+            n1,
+            n2,
+            n3,
+            f1.as_ptr(),
+            f1.len(),
+            f2.as_ptr(),
+            f2.len(),
+            f3.as_ptr(),
+            f3.len(),
+            a.as_ptr(),
+            a.len(),
+            b.as_ptr(),
+            b.len(),
+            output.as_mut_ptr(),
+            output.len(),
+            work1.as_mut_ptr(),
+            work1.len(),
+            work2.as_mut_ptr(),
+            work2.len(),
+            work3.as_mut_ptr(),
+            work3.len(),
+            scratch.as_mut_ptr(),
+            scratch.len(),
+        )
+    }
 }
 
 pub fn line(modulus: u32, kind: u32, direction: u32, length: u32, list: &[u8], line: &mut [u32], scratch: &mut [u32]) -> u32 {
@@ -254,9 +380,11 @@ mod layout {
             layout!("recorder_answer", Answer, number, job),
             layout!("recorder_file_answer", FileAnswer, number, place, job),
             layout!("recorder_faults", Faults, count, first, second),
+            layout!("recorder_cell", UnitCell, angles, a, b, c, alpha, beta, gamma),
             layout!("recorder_write_answer", WriteAnswer, number, written),
             layout!("recorder_density", Density, number, density),
             layout!("recorder_factor_value", FactorValue, number, a, b),
+            layout!("recorder_power", Power, number, power),
         ]
     }
 

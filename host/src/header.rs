@@ -45,6 +45,16 @@ impl Cell {
         self.rows() * self.length(1)
     }
 
+    /// The count of the cell's points: N1 N2 N3.
+    pub fn points(&self) -> u64 {
+        self.lengths.iter().map(|&length| u64::from(length)).product()
+    }
+
+    /// The count of a section's bytes: for each x so many lines as N2 numbers need, five to a line, and three lines more.
+    pub fn section_length(&self) -> usize {
+        70 * (self.length(0) * self.length(1).div_ceil(5) + 3)
+    }
+
     pub fn length(&self, axis: usize) -> usize {
         usize::from(self.lengths[axis])
     }

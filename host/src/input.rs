@@ -88,6 +88,17 @@ pub fn job(name: &OsStr) -> Result<Recorder, Failure> {
     progress::during("reading", |told| job_of(name, entry(name)?, told))
 }
 
+/// The combined map of a file, for a command that no other file has anything for.
+pub fn combined(name: &OsStr) -> Result<CombinedMap, Failure> {
+    progress::during("reading", |told| match entry(name)? {
+        Entry::Combined(mut rest) => combined_map::read(name, &mut rest, told),
+        _ => Err(Failure::Trouble(format!(
+            "{} is not a combined map file; recorder combine makes one from a factor file or a map file for each prime",
+            shown(name)
+        ))),
+    })
+}
+
 fn job_of(name: &OsStr, entry: Entry, told: &Told) -> Result<Recorder, Failure> {
     match entry {
         Entry::Factors(file) => Recorder::of_factor_file(&file),

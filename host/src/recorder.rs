@@ -9,11 +9,13 @@ use crate::header::{Cell, Header};
 use crate::memory::zeros;
 use crate::words::{Refusal, DIFFERENT_CELLS, SHAPE};
 
-const SCRATCH: usize = 11_520;
+pub const SCRATCH: usize = 11_520;
 const COLLECT: u32 = 0;
 const MAP: u32 = 1;
 const MAP_HELD: u32 = 2;
 const VOLUME_LENGTH: u32 = 6;
+const INDEX: u32 = 10;
+const OUTPUT_LENGTH: u32 = 18;
 
 pub struct Recorder {
     pub header: Header,
@@ -79,7 +81,7 @@ impl Recorder {
 
     /// Synthesis, where no map is held.
     pub fn hold_map(&mut self) -> Result<(), Refusal> {
-        if self.job.state == MAP_HELD {
+        if self.holds_map() {
             return Ok(());
         }
         let answer = ffi::synthesis(self.job, &mut self.volume, &mut self.scratch);
@@ -88,7 +90,7 @@ impl Recorder {
 
     /// Analysis, where no factors are held.
     pub fn hold_factors(&mut self) -> Result<(), Refusal> {
-        if self.job.state != MAP_HELD {
+        if !self.holds_map() {
             return Ok(());
         }
         let answer = ffi::analysis(self.job, &mut self.volume, &mut self.scratch);
@@ -110,6 +112,24 @@ impl Recorder {
         let answer = ffi::factor(self.job, at, &self.volume);
         accepted(answer.number)?;
         Ok((answer.a, answer.b))
+    }
+
+    /// The sum over the whole cell of the squares of the held map, modulo the prime.
+    pub fn map_power(&self) -> Result<u32, Refusal> {
+        let answer = ffi::map_power(self.job, &self.volume);
+        accepted(answer.number)?;
+        Ok(answer.power)
+    }
+
+    /// The sum over the whole cell of F times its conjugate, modulo the prime.
+    pub fn factor_power(&self) -> Result<u32, Refusal> {
+        let answer = ffi::factor_power(self.job, &self.volume);
+        accepted(answer.number)?;
+        Ok(answer.power)
+    }
+
+    pub fn holds_map(&self) -> bool {
+        self.job.state == MAP_HELD
     }
 
     /// The factor file of the held factors.
@@ -168,6 +188,20 @@ pub fn combined(first: &Recorder, second: &Recorder) -> Result<Vec<i64>, Failure
     Ok(output)
 }
 
+/// Plane z of a combined map as a page. Whether there is one is asked with an output of no bytes: 18 comes last, so it says that there is, and
+/// only then is memory asked for.
+pub fn section(cell: &Cell, map: &[i64], z: u32) -> Result<Vec<u8>, Failure> {
+    let call = |out: &mut [u8]| ffi::section(u32::from(cell.group), cell.lengths.map(u32::from), map, z, out).number;
+    match call(&mut []) {
+        OUTPUT_LENGTH => {}
+        INDEX => return Err(Refusal::of_found(INDEX, format!("plane {z} of {}", cell.described())).into()),
+        number => accepted(number)?,
+    }
+    let mut page = zeros(cell.section_length())?;
+    accepted(call(&mut page))?;
+    Ok(page)
+}
+
 /// Transforms one line in place.
 pub fn line(modulus: u32, kind: u32, direction: u32, length: u32, list: &[u8], line: &mut [u32]) -> Result<(), Refusal> {
     accepted(ffi::line(modulus, kind, direction, length, list, line, &mut vec![0; SCRATCH]))
@@ -178,7 +212,7 @@ fn opened(header: &Header, kind: u32, volume: &mut [u32]) -> Answer {
     ffi::open(u32::from(header.cell.group), u32::from(header.modulus), kind, header.cell.lengths.map(u32::from), [f1, f2, f3], volume)
 }
 
-fn accepted(number: u32) -> Result<(), Refusal> {
+pub fn accepted(number: u32) -> Result<(), Refusal> {
     match number {
         0 => Ok(()),
         number => Err(Refusal::plain(number)),

@@ -81,9 +81,12 @@ fn found_of(number: u32, cell: &Cell, described: String) -> String {
 const TOO_LARGE: u32 = 9;
 pub const SHAPE: u32 = 15;
 const VERSION: u32 = 16;
+pub const OUTPUT_LENGTH: u32 = 18;
 pub const DIFFERENT_CELLS: u32 = 27;
-/// Of a combined map's number, by the tool alone: no call that the library exports yet takes a combined map.
+/// Of an overlay, by its call; of a combined map's number: the tool says it of every number of a file, the call of a section of those that it prints.
 pub const MAGNITUDE: u32 = 28;
+pub const UNIT_CELL: u32 = 29;
+pub const FLOAT_RANGE: u32 = 30;
 
 /// What a refusal's number says, and what to do.
 fn words(number: u32) -> (&'static str, &'static str) {
@@ -126,7 +129,15 @@ fn words(number: u32) -> (&'static str, &'static str) {
             "the two maps are not of one cell, the first modulo 86,399 and the second modulo 302,399",
             "give two files of the same group and lengths: first the one of modulus 1, then the one of modulus 2",
         ),
-        28 => ("a number's magnitude is above 13,063,485,600", "combine the two maps again: no combined map has such a number"),
+        28 => (
+            "a number's magnitude, or of an overlay the sum of the magnitudes of the first map times the largest of the second, is above 13,063,485,600",
+            "combine the two maps again: no combined map has such a number; overlay maps of fewer or smaller numbers",
+        ),
+        29 => (
+            "the unit cell is not one of this group: edges are finite and above 0, angles strictly between 0 and 180",
+            "give --cell a,b,c,alpha,beta,gamma for P1 and a,b,c,gamma for any other group, gamma 90 for P2_1 2_1 2_1",
+        ),
+        30 => ("a number's magnitude is above 16,777,215", "write a map of smaller numbers: a 32-bit float holds no larger ones exactly"),
         34 => ("the window is not of 1 to 64 entries", "give W from 1 to 64"),
         _ => ("the number is not known to this tool", SHOULD_NOT_BE),
     }

@@ -154,7 +154,7 @@ def cases():
         3: lambda c: ((2, rng.choice([0, 1, 3, 7, 14, 2882]), 2), *c[1:]),
         4: lambda c: (c[0], [c[1][0], rng.choice([[1], [6], [0, 2], [255]]), c[1][2]], *c[2:]),
         5: lambda c: (c[0], [c[1][0] + [2], c[1][1], c[1][2]], *c[2:]),
-        9: lambda c: ((2880, 2880, 4), [[2, 2, 2, 2, 2, 3, 3, 5], [4, 4, 2, 3, 3, 5], [2]], *c[2:]),
+        9: lambda c: ((2880, 2880, 4), [[5, 3, 3, 2, 4, 4], [4, 4, 2, 3, 3, 5], [2]], *c[2:]),
         6: lambda c: short(c, rng.randrange(6)),
         13: lambda c: (*c[:4], c[4][:4] + [rng.choice([0, SCRATCH - 1])]),
         28: lambda c: (*c[:2], *rng.choice([(drawn(base, [0]), c[3]), (c[2], drawn(base, [14]))]), c[4]),

@@ -696,7 +696,7 @@ def overlays(tool):
         paths = [tool.file("overlay%d" % k, combined_bytes(0, n, m)) for k, m in enumerate((a, b))]
         values = overlaid(n, a, b)
         tool.expect(what, tool.run("overlay", *paths, "-o", made), (0, b"", b""))
-        combined_file(tool, rng, what, made, 0, n, values)
+        tool.expect(what + ": its values", open(made, "rb").read(), combined_bytes(0, n, values))
         tool.expect(what + ": best", tool.run("best", made), (0, best_text(values), b""))
         tool.expect(what + ": its score", tool.run("best", "--score", made), (0, b"%d\n" % max(values.values()), b""))
         for k in range(2):
@@ -706,12 +706,14 @@ def overlays(tool):
             tool.expect(what + ": by streams", got, (0, combined_bytes(0, n, values), b""))
         tool.expect(what + ": best by a stream", tool.run("best", "-", given=got[1]), (0, best_text(values), b""))
         scores.append(max(values.values()))
+        return values
 
     for n in [(2, 2, 2), (4, 2, 6), (2, 8, 4), (6, 4, 8), (10, 2, 12), (16, 6, 2)]:
         most = int((GREATEST / (n[0] * n[1] * n[2])) ** 0.5)
         drawn = lambda least, greatest: {q: rng.randrange(least, greatest + 1) for q in all_points(n)}
         a = drawn(-most, most)
-        one("an overlay at %s" % (n,), n, a, drawn(-most, most))
+        values = one("an overlay at %s" % (n,), n, a, drawn(-most, most))
+        combined_file(tool, rng, "an overlay at %s" % (n,), made, 0, n, values)
         one("an overlay with itself at %s" % (n,), n, a, a)
         shift = tuple(rng.randrange(m) for m in n)
         one("a map and it shifted at %s" % (n,), n, a, {tuple((p + s) % m for p, s, m in zip(q, shift, n)): x for q, x in a.items()})

@@ -4,8 +4,8 @@ use crate::failure::Failure;
 use crate::ffi::{self, UnitCell};
 use crate::header::Cell;
 use crate::memory::zeros;
-use crate::recorder;
-use crate::words::{Refusal, FLOAT_RANGE, OUTPUT_LENGTH, UNIT_CELL};
+use crate::recorder::{self, OUTPUT_LENGTH};
+use crate::words::{Refusal, FLOAT_RANGE, UNIT_CELL};
 
 const HEADER: usize = 1024;
 const DENSITY: usize = 4;

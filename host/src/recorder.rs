@@ -15,7 +15,7 @@ const MAP: u32 = 1;
 const MAP_HELD: u32 = 2;
 const VOLUME_LENGTH: u32 = 6;
 const INDEX: u32 = 10;
-const OUTPUT_LENGTH: u32 = 18;
+pub const OUTPUT_LENGTH: u32 = 18;
 
 pub struct Recorder {
     pub header: Header,

@@ -81,7 +81,6 @@ fn found_of(number: u32, cell: &Cell, described: String) -> String {
 const TOO_LARGE: u32 = 9;
 pub const SHAPE: u32 = 15;
 const VERSION: u32 = 16;
-pub const OUTPUT_LENGTH: u32 = 18;
 pub const DIFFERENT_CELLS: u32 = 27;
 /// Of an overlay, by its call; of a combined map's number: the tool says it of every number of a file, the call of a section of those that it prints.
 pub const MAGNITUDE: u32 = 28;

@@ -1,7 +1,7 @@
 -- The tests of the call in their order: those of the header, then those of the buffers; refusal 28 place by place; and what is known where no test holds.
 use mathlib.Core.Path.{_≡_, refl, sym, _∙_, ap}
 use mathlib.Core.Bool.{Bool, true, false, _||_, cond}
-use mathlib.Core.List.{List, [], _∷_, _++_}
+use mathlib.Core.List.{List}
 use Prim.Native.Nat.{ℕ, _+_, _*_, _≤_}
 use native.Mathlib.Omega.{arith}
 use lib.ListN.{length}
@@ -10,8 +10,8 @@ use lib.IntN.{ℤ}
 use borrow.Author.Tests.{not-false, ltb-false, eqb-true}
 use Rattle.algebra.specs.cells.Cell.{J, P1}
 use Rattle.refusals.specs.declared.Refusal.{Refusal}
-use Rattle.refusals.specs.Refusals.{numberOf, Test, first}
-use Rattle.refusals.proofs.Tests.{pass, none, passed, fails, both}
+use Rattle.refusals.specs.Refusals.{numberOf, first}
+use Rattle.refusals.proofs.Tests.{pass, none, passed, append-stop, append-pass, not-zero, both}
 use Rattle.lengths.specs.Lengths.{scratchLength}
 use Rattle.cell.specs.Volume.{volumeLength}
 use Rattle.header.specs.Header.{Header, halfLengths, axisTests}
@@ -36,20 +36,6 @@ or-none true b e = absurd (true-false e)
     true-false q = let z : _≡_ {A = ℕ} 1 0 = ap (λ t. cond t 1 0) q in omega arith
 or-none false b e = (refl, e)
 
--- ---- a number that some tests give is that of more tests
-
-not-zero : (r : Refusal) → numberOf r ≡ 0 → ⊥
-not-zero r e = let z : _≡_ {A = ℕ} 0 1 = fails r 0 1 (λ n. 0) e in omega arith
-
-append-one : (b : Bool) (n k rest whole : ℕ) → (n ≡ rest → n ≡ whole) → n ≡ cond b k rest → n ≡ cond b k whole
-append-one true n k rest whole f e = e
-append-one false n k rest whole f e = f e
-
-append-stop : (n : ℕ) (ts us : List Test) → (n ≡ 0 → ⊥) → n ≡ first ts → n ≡ first (ts ++ us)
-unfolding first
-append-stop n [] us z e = absurd (z e)
-append-stop n (t ∷ ts) us z e = append-one (t .fails) n (t .number) (first ts) (first (ts ++ us)) (append-stop n ts us z) e
-
 -- ---- refusal 28 by places
 
 pub exceeds-places : (h : J) (a b : List ℤ) → length a ≡ volumeLength P1 h → length b ≡ volumeLength P1 h → exceedsAt (h .1) a b ≡ exceeds h a b
@@ -65,10 +51,10 @@ exceeds-places h a b la lb = λ i. ltb limit (most a la i) || (ltb limit (most b
 
 module _ (c : Header) (a b : List ℤ) (output work1 work2 work3 scratch : ℕ) where
   pub header-refused : (r : Refusal) → numberOf r ≡ first (axisTests c) → numberOf r ≡ first (correlationTests c a b output work1 work2 work3 scratch)
-  header-refused r e = append-stop (numberOf r) (axisTests c) (buffersTests (c .lengths) a b output work1 work2 work3 scratch) (not-zero r) e
+  header-refused r e = append-stop (axisTests c) (buffersTests (c .lengths) a b output work1 work2 work3 scratch) (not-zero r) e
 
   pub buffers-decide : {number : ℕ} → 0 ≡ first (axisTests c) → number ≡ first (buffersTests (c .lengths) a b output work1 work2 work3 scratch) → number ≡ first (correlationTests c a b output work1 work2 work3 scratch)
-  buffers-decide e f = let t = passed (axisTests c) tt e in pass 3 _ (t .0) (pass 4 _ (t .1 .0) (pass 5 _ (t .1 .1 .0) (pass 9 _ (t .1 .1 .1 .0) f)))
+  buffers-decide e f = append-pass (axisTests c) _ (passed (axisTests c) tt e) f
 
 -- ---- the lengths
 

@@ -32,7 +32,7 @@ use Rattle.slices.specs.Pairs.{Below, allBelow}
 use Rattle.slices.proofs.Bounds.{below-replicate, below-allBelow, allBelow-below}
 use Rattle.slices.proofs.Segments.{at-zeros}
 use Rattle.refusals.specs.Refusals.{first, accepted}
-use Rattle.refusals.proofs.Tests.{both, Passed, passed, pass, not-t, none as no-test}
+use Rattle.refusals.proofs.Tests.{both, Passed, passed, first-append, pass, not-t, none as no-test}
 use Rattle.cell.specs.Volume.{groupOf, volumeLength, packFactors, axis, mapOf}
 use Rattle.cell.specs.Consistency.{consistentMap}
 use Rattle.cell.specs.Exactly.{MapConsistent}
@@ -47,7 +47,6 @@ use Rattle.job.proofs.Jobs.{opened-valid}
 use Rattle.model.specs.Model.{Model, modelJob, modelVolume, zeroModel, mapModel, openingModel, beginningTests}
 use Rattle.model.proofs.Sound.{LawfulModel}
 use Rattle.line.proofs.kinds.Axes.{axis-laws}
-use Rattle.demands.proofs.TestOrder.{first-append}
 
 -- ---- the cell that is zero everywhere
 

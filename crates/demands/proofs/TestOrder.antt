@@ -1,29 +1,14 @@
--- Tests after tests: which is first, and a test that decides alone once those before it have passed.
+-- A test that decides alone once those before it have passed.
 use mathlib.Core.Path.{_≡_, refl, sym, ap, _∙_, subst}
 use mathlib.Core.Logic.{_↔_}
 use mathlib.Core.Bool.{Bool, true, false, _&&_, not, cond}
 use mathlib.Core.List.{List, [], _∷_, _++_}
 use Prim.Native.Nat.{ℕ, zero, suc}
 use native.Mathlib.Omega.{arith}
-use lib.Dec.{T, leb, eqb}
+use lib.Dec.{T, eqb}
 use borrow.Author.Tests.{eq-eqb}
 use Rattle.refusals.specs.Refusals.{Test, _⇒_, first, accepted}
-use Rattle.refusals.proofs.Tests.{and-left, and-right}
-
--- no test has the number 0, which stands for none
-abbrev pub numbered : List Test → Bool
-numbered [] = true
-numbered (t ∷ ts) = leb 1 (t .number) && numbered ts
-
-pub first-append : (ts us : List Test) → T (numbered ts) → first (ts ++ us) ≡ accepted (first ts) (first us) (λ n. n)
-unfolding first
-first-append [] us h = refl
-first-append (t ∷ ts) us h = one (t .fails) (t .number) (and-left (leb 1 (t .number)) (numbered ts) h) (first-append ts us (and-right (leb 1 (t .number)) (numbered ts) h))
-  where
-    one : (b : Bool) (n : ℕ) → T (leb 1 n) → first (ts ++ us) ≡ accepted (first ts) (first us) (λ n. n) → cond b n (first (ts ++ us)) ≡ accepted (cond b n (first ts)) (first us) (λ n. n)
-    one true zero h e = absurd h
-    one true (suc n) h e = refl
-    one false n h e = e
+use Rattle.refusals.proofs.Tests.{and-left, and-right, positive, first-append}
 
 -- no test of the list has the number n
 abbrev pub others : ℕ → List Test → Bool
@@ -47,7 +32,7 @@ module _ (before after : List Test) (c : Bool) (n : ℕ) (unlike : T (others (su
 
   module _ {A : Type 0} (a : A) (refusal : ℕ → A) (says : (k : ℕ) → (first tests ≡ suc k) ↔ (a ≡ refusal (suc k))) where
     -- the tests before it have passed
-    before-passed : T (numbered before) → ((k : ℕ) → a ≡ refusal (suc k) → first before ≡ suc k → ⊥) → 0 ≡ first before
+    before-passed : T (positive before) → ((k : ℕ) → a ≡ refusal (suc k) → first before ≡ suc k → ⊥) → 0 ≡ first before
     before-passed t only = by (first before) refl
       where
         by : (k : ℕ) → first before ≡ k → 0 ≡ k
@@ -55,7 +40,7 @@ module _ (before after : List Test) (c : Bool) (n : ℕ) (unlike : T (others (su
         by (suc k) e = absurd (only k (says k .0 (first-append before (not c ⇒ suc n ∷ after) t ∙ ap (λ k. accepted k (first (not c ⇒ suc n ∷ after)) (λ n. n)) e)) e)
 
     -- it is then the first that holds, or those after it are asked
-    then : T (numbered before) → 0 ≡ first before → (c ≡ false) ↔ (first tests ≡ suc n)
+    then : T (positive before) → 0 ≡ first before → (c ≡ false) ↔ (first tests ≡ suc n)
     unfolding first
     then t e = let whole = first-append before (not c ⇒ suc n ∷ after) t ∙ ap (λ k. accepted k (first (not c ⇒ suc n ∷ after)) (λ n. n)) (sym e) in
         let d = by c in (λ f. whole ∙ d .0 f, λ f. d .1 (sym whole ∙ f))
@@ -64,7 +49,7 @@ module _ (before after : List Test) (c : Bool) (n : ℕ) (unlike : T (others (su
         by true = (λ f. absurd (subst T f tt), λ f. absurd (other-first n after unlike f))
         by false = (λ f. refl, λ f. refl)
 
-    pub decides : T (numbered before) → ((k : ℕ) → a ≡ refusal (suc k) → first before ≡ suc k → ⊥) → (C : Type 0) → (0 ≡ first before → (c ≡ true) ↔ C) → (a ≡ refusal (suc n)) ↔ (C → ⊥)
+    pub decides : T (positive before) → ((k : ℕ) → a ≡ refusal (suc k) → first before ≡ suc k → ⊥) → (C : Type 0) → (0 ≡ first before → (c ≡ true) ↔ C) → (a ≡ refusal (suc n)) ↔ (C → ⊥)
     decides t only C d =
         let e = before-passed t only in
         let f = then t e in

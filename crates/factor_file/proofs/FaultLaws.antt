@@ -15,7 +15,7 @@ use Rattle.algebra.proofs.ring.Bool.{same-test, some-at, some-by}
 use Rattle.algebra.proofs.ring.Members.{none as no-member, mem-cons}
 use Rattle.refusals.specs.declared.Refusal.{Refusal}
 use Rattle.refusals.specs.Refusals.{numberOf, first, accepted}
-use Rattle.refusals.proofs.Tests.{pass, none, stop, passed, fails, passes}
+use Rattle.refusals.proofs.Tests.{pass, none, stop, passed, append-stop, fails, passes}
 use Rattle.bits.specs.Set.{inSet, Inserted}
 use Rattle.cell.specs.Volume.{volumeLength}
 use Rattle.cell.specs.declared.operations.UnitCell.{UnitCell}
@@ -30,7 +30,6 @@ use Rattle.header.specs.Header.{Header, needed, axisTests}
 use Rattle.header.specs.Cells.{headerCell}
 use Rattle.header.proofs.Headers.{sound-sizes}
 use Rattle.job.proofs.check.Points.{within-of}
-use Rattle.job.proofs.check.Openings.{append-stop}
 use Rattle.file_format.specs.declared.FileRecord.{FileRecord}
 use Rattle.file_format.specs.Format.{countAt, recordCount, recordAt, recordsFrom, recordsIn, modulusIn, headerIn, shapeTests}
 use Rattle.file_format.specs.declared.places.HeaderNumbers.{HeaderNumbers}
@@ -201,7 +200,7 @@ module _ (μ : ℕ) (c : UnitCell) (file : List ℕ) where
       pub own-refused : r < recordCount file → (ownAt μ c file r ≡ 0 → ⊥) → whole ≡ refusedAt (ownAt μ c file r) r
       unfolding ownNumber
       own-refused l z =
-          let n = append-stop (ownAt μ c file r) (ownTests μ (c .group) (cellLengths c) (ix r) (at r .a) (at r .b)) (orbitSeen (c .group) (cellLengths c) (before r) (ix r)) z refl in
+          let n = append-stop (ownTests μ (c .group) (cellLengths c) (ix r) (at r .a) (at r .b)) (orbitSeen (c .group) (cellLengths c) (before r) (ix r)) z refl in
           judged-here ∙ step r l ∙ ap (λ n. accepted n (judgedFrom (suc r)) (λ k. refusedAt k r)) (sym n) ∙ refused-by _ _ (λ k. refusedAt k r) z
 
       pub orbit-refused : r < recordCount file → 0 ≡ ownAt μ c file r → (k : ℕ) → k < r → placeAt c file k ≡ placeAt c file r → whole ≡ refusedAt 24 r

@@ -13,13 +13,12 @@ use Rattle.algebra.specs.orbits.Orbit.{first as first-of}
 use Rattle.algebra.proofs.ring.Bool.{same-test, some-at, some-by}
 use Rattle.algebra.proofs.ring.Members.{none as no-member, mem-cons}
 use Rattle.refusals.specs.Refusals.{_⇒_, first, accepted}
-use Rattle.refusals.proofs.Tests.{pass, none, stop, passed, passes}
+use Rattle.refusals.proofs.Tests.{pass, none, stop, passed, append-stop, passes}
 use Rattle.cell.specs.Volume.{volumeLength}
 use Rattle.cell.specs.declared.operations.UnitCell.{UnitCell}
 use Rattle.cell.specs.Operations.{cellGroup, cellHalves, cellLengths, Sizes}
 use Rattle.header.specs.Cells.{headerCell}
 use Rattle.job.specs.Job.{ownTests}
-use Rattle.job.proofs.check.Openings.{append-stop}
 use Rattle.file_format.specs.declared.FileRecord.{FileRecord}
 use Rattle.file_format.specs.Format.{countAt, recordCount, recordAt, recordsFrom, recordsIn, modulusIn, headerIn, shapeTests}
 use Rattle.factor_file.specs.File.{indexIn, orbitSeen, judgeTests, Judgement, taken, refusedAt, judged}
@@ -86,7 +85,7 @@ module _ (μ : ℕ) (c : UnitCell) where
   one-refused : (x : FileRecord) → (ownNumber μ c x ≡ 0 → ⊥) → made (x ∷ []) ≡ refusedAt (ownNumber μ c x) 0
   unfolding judged ownNumber
   one-refused x z =
-      let n = append-stop (ownNumber μ c x) (ownTests μ (c .group) (cellLengths c) (indexIn x) (x .a) (x .b)) (orbitSeen (c .group) (cellLengths c) [] (indexIn x)) z refl in
+      let n = append-stop (ownTests μ (c .group) (cellLengths c) (indexIn x) (x .a) (x .b)) (orbitSeen (c .group) (cellLengths c) [] (indexIn x)) z refl in
       ap (λ n. accepted n taken (λ k. refusedAt k 0)) (sym n) ∙ refused-by _ _ (λ k. refusedAt k 0) z
 
   first-taken : (x : FileRecord) → 0 ≡ ownNumber μ c x → (cs : List FileRecord) → made (x ∷ cs) ≡ judged μ (c .group) (cellLengths c) (indexIn x ∷ []) cs

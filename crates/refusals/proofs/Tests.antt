@@ -1,9 +1,10 @@
 -- Laws of the tests: which one is first, that none holds where the number is 0, and what an outcome is in either case.
 use mathlib.Core.Path.{_≡_, refl, _∙_, sym, subst}
 use mathlib.Core.Bool.{Bool, true, false, not, _&&_, cond}
-use mathlib.Core.List.{List, [], _∷_}
-use Prim.Native.Nat.{ℕ, _≤_}
+use mathlib.Core.List.{List, [], _∷_, _++_}
+use Prim.Native.Nat.{ℕ, zero, suc, _≤_}
 use native.Mathlib.Nat.{not-suc-le-zero}
+use native.Mathlib.Omega.{arith}
 use lib.Dec.{T, leb, eqb, leb→le}
 use borrow.Author.Tests.{not-true, not-false, lt-ltb, le-ltb, le-leb, lt-leb, eq-eqb, ne-eqb}
 use Rattle.refusals.specs.declared.Refusal.{Refusal}
@@ -67,7 +68,8 @@ abbrev pub Passed : List Test → Type 0
 Passed [] = Unit
 Passed (t ∷ ts) = (t .fails ≡ false) × Passed ts
 
-abbrev positive : List Test → Bool
+-- no test has the number 0, which stands for none
+abbrev pub positive : List Test → Bool
 positive [] = true
 positive (t ∷ ts) = leb 1 (t .number) && positive ts
 
@@ -79,6 +81,31 @@ pub passed : (ts : List Test) → T (positive ts) → 0 ≡ first ts → Passed 
 unfolding first
 passed [] h e = tt
 passed (t ∷ ts) h e = passed-one t ts (t .fails) (t .number) refl h (passed ts) e
+
+-- ---- tests after tests: the number of the first list, or, where that has none, of the second
+
+pub append-stop : (ts us : List Test) {n : ℕ} → (n ≡ 0 → ⊥) → n ≡ first ts → n ≡ first (ts ++ us)
+unfolding first
+append-stop [] us z e = absurd (z e)
+append-stop (t ∷ ts) us {n} z e = one (t .fails) (append-stop ts us z) e
+  where
+    one : (b : Bool) → (n ≡ first ts → n ≡ first (ts ++ us)) → n ≡ cond b (t .number) (first ts) → n ≡ cond b (t .number) (first (ts ++ us))
+    one true h e = e
+    one false h e = h e
+
+pub append-pass : (ts us : List Test) {n : ℕ} → Passed ts → n ≡ first us → n ≡ first (ts ++ us)
+append-pass [] us p e = e
+append-pass (t ∷ ts) us p e = pass (t .number) (ts ++ us) (p .0) (append-pass ts us (p .1) e)
+
+pub first-append : (ts us : List Test) → T (positive ts) → first (ts ++ us) ≡ accepted (first ts) (first us) (λ n. n)
+unfolding first
+first-append [] us h = refl
+first-append (t ∷ ts) us h = one (t .fails) (t .number) (and-left (leb 1 (t .number)) (positive ts) h) (first-append ts us (and-right (leb 1 (t .number)) (positive ts) h))
+  where
+    one : (b : Bool) (n : ℕ) → T (leb 1 n) → first (ts ++ us) ≡ accepted (first ts) (first us) (λ n. n) → cond b n (first (ts ++ us)) ≡ accepted (cond b n (first ts)) (first us) (λ n. n)
+    one true zero h e = absurd h
+    one true (suc n) h e = refl
+    one false n h e = e
 
 -- ---- the outcome of a refused call and of an accepted one
 
@@ -113,6 +140,10 @@ fails r n o f e = rw (← e) (go r)
     go UnitCell = refl
     go FloatRange = refl
     go Window = refl
+
+-- no refusal has the number 0
+pub not-zero : (r : Refusal) → numberOf r ≡ 0 → ⊥
+not-zero r e = let z : _≡_ {A = ℕ} 0 1 = fails r 0 1 (λ n. 0) e in omega arith
 
 pub passes : {O : Type 0} (n : ℕ) (o : O) (f : ℕ → O) → 0 ≡ n → o ≡ accepted n o f
 passes n o f e = rw (← e)

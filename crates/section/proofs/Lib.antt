@@ -3,7 +3,6 @@ pub mod Readings
 pub mod Planes
 pub mod Floors
 pub mod Blanks
-pub mod Appended
 pub mod Widths
 pub mod Lined
 pub mod Outcomes

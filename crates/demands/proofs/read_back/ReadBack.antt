@@ -30,7 +30,7 @@ use Rattle.slices.specs.Pairs.{Below}
 use Rattle.slices.proofs.Bounds.{below-allBelow}
 use Rattle.lengths.specs.Lengths.{product, factorsOk}
 use Rattle.refusals.specs.Refusals.{first}
-use Rattle.refusals.proofs.Tests.{Passed, passed, pass, none, not-t}
+use Rattle.refusals.proofs.Tests.{Passed, passed, append-pass, pass, none, not-t}
 use Rattle.lengths.proofs.Factors.{factors-cons}
 use Rattle.cell.specs.Volume.{volumeLength, factorsIn, packFactors}
 use Rattle.cell.specs.Operations.{Sizes}
@@ -59,7 +59,7 @@ use Rattle.file_format.specs.Parsed.{fileRecord, Short, ShortRecord, Writable}
 use Rattle.file_format.proofs.layout.FileParts.{length-header, length-body}
 use Rattle.file_format.proofs.WrittenFiles.{parses-back}
 use Rattle.factor_file.proofs.file.RecordLaws.{admitted-few}
-use Rattle.factor_file.proofs.writer.Files.{told, passed-on, valid-volume}
+use Rattle.factor_file.proofs.writer.Files.{told, valid-volume}
 
 -- ---- records of a file and what they stand for
 
@@ -181,7 +181,7 @@ module _ (j : Job) (v output : List ℕ) (accepts : 0 ≡ first (writeTests j v 
         pass 8 _ (lt-leb 5 (j .group) (sizes .known))
         (pass 26 _ (not-t _ (valid-parts j valid .3))
         (pass 2 _ refl
-        (volume ∙ sym (passed-on (axisTests (headerOf j)) (volumeTests μ (j .group) (headerOf j .lengths) 0 u) (passed (axisTests (headerOf j)) tt header-sound)))))
+        (append-pass (axisTests (headerOf j)) (volumeTests μ (j .group) (headerOf j .lengths) 0 u) (passed (axisTests (headerOf j)) tt header-sound) volume)))
       where
         volume : 0 ≡ first (volumeTests μ (j .group) (headerOf j .lengths) 0 u)
         volume = pass 6 _ (not-t _ (eq-eqb (length u) (volumeLength (groupIn j) (halves j)) (same ∙ long))) (pass 7 _ refl (pass 14 _ refl none))

@@ -1,38 +1,21 @@
 -- The tests of an opening in their order.
 use mathlib.Core.Path.{_≡_, _∙_, sym, ap}
-use mathlib.Core.Bool.{Bool, true, false, _&&_, not, cond}
-use mathlib.Core.List.{List, [], _∷_, _++_}
+use mathlib.Core.Bool.{Bool, true, false, _&&_, not}
+use mathlib.Core.List.{List, [], _∷_}
 use Prim.Native.Nat.{ℕ, _<_}
-use native.Mathlib.Omega.{arith}
 use lib.ListN.{length}
 use lib.Dec.{eqb}
 use borrow.Author.Tests.{eq-eqb, ne-eqb, lt-leb}
 use Rattle.algebra.specs.cells.Cell.{J}
 use Rattle.slices.specs.Pairs.{allBelow}
 use Rattle.refusals.specs.declared.Refusal.{Refusal}
-use Rattle.refusals.specs.Refusals.{numberOf, Test, _⇒_, first}
-use Rattle.refusals.proofs.Tests.{pass, none, not-t, passed, fails}
+use Rattle.refusals.specs.Refusals.{numberOf, _⇒_, first}
+use Rattle.refusals.proofs.Tests.{pass, none, not-t, passed, append-stop, append-pass, not-zero}
 use Rattle.cell.specs.Volume.{groupOf, volumeLength}
 use Rattle.cell.specs.Consistency.{consistentMap}
 use Rattle.header.specs.Header.{Header, halfLengths, axisTests}
 use Rattle.numbers.specs.Value.{prime, isModulus}
 use Rattle.job.specs.Job.{volumeTests, mapTests, openTests}
-
--- ---- no refusal has the number 0
-
-pub not-zero : (r : Refusal) → numberOf r ≡ 0 → ⊥
-not-zero r e = let z : _≡_ {A = ℕ} 0 1 = fails r 0 1 (λ n. 0) e in omega arith
-
--- ---- a number that some tests give is that of more tests
-
-append-one : (b : Bool) (n k rest whole : ℕ) → (n ≡ rest → n ≡ whole) → n ≡ cond b k rest → n ≡ cond b k whole
-append-one true n k rest whole f e = e
-append-one false n k rest whole f e = f e
-
-pub append-stop : (n : ℕ) (ts us : List Test) → (n ≡ 0 → ⊥) → n ≡ first ts → n ≡ first (ts ++ us)
-unfolding first
-append-stop n [] us z e = absurd (z e)
-append-stop n (t ∷ ts) us z e = append-one (t .fails) n (t .number) (first ts) (first (ts ++ us)) (append-stop n ts us z) e
 
 -- ---- the tests that only a map is put to
 
@@ -57,12 +40,10 @@ module _ (m group : ℕ) (n : J) (kind : ℕ) (v : List ℕ) (fit : eqb (length 
 
 module _ (m : ℕ) (h : Header) (kind : ℕ) (v : List ℕ) where
   pub header-refused : (r : Refusal) → h .group < 5 → isModulus m ≡ true → kind < 2 → numberOf r ≡ first (axisTests h) → numberOf r ≡ first (openTests m h kind v)
-  header-refused r g is k e = pass 8 _ (lt-leb _ _ g) (pass 26 _ (not-t _ is) (pass 2 _ (lt-leb _ _ k) (append-stop (numberOf r) (axisTests h) (volumeTests m (h .group) (h .lengths) kind v) (not-zero r) e)))
+  header-refused r g is k e = pass 8 _ (lt-leb _ _ g) (pass 26 _ (not-t _ is) (pass 2 _ (lt-leb _ _ k) (append-stop (axisTests h) (volumeTests m (h .group) (h .lengths) kind v) (not-zero r) e)))
 
   pub volume-decides : {number : ℕ} → h .group < 5 → isModulus m ≡ true → kind < 2 → 0 ≡ first (axisTests h) → number ≡ first (volumeTests m (h .group) (h .lengths) kind v) → number ≡ first (openTests m h kind v)
-  volume-decides g is k e f =
-      let t = passed (axisTests h) tt e in
-      pass 8 _ (lt-leb _ _ g) (pass 26 _ (not-t _ is) (pass 2 _ (lt-leb _ _ k) (pass 3 _ (t .0) (pass 4 _ (t .1 .0) (pass 5 _ (t .1 .1 .0) (pass 9 _ (t .1 .1 .1 .0) f))))))
+  volume-decides g is k e f = pass 8 _ (lt-leb _ _ g) (pass 26 _ (not-t _ is) (pass 2 _ (lt-leb _ _ k) (append-pass (axisTests h) _ (passed (axisTests h) tt e) f)))
 
   pub header-passed : 0 ≡ first (openTests m h kind v) → 0 ≡ first (axisTests h)
   header-passed e =

@@ -8,7 +8,7 @@ use Rattle.refusals.specs.Refusals.{first}
 use Rattle.refusals.specs.Checks.{checkedNumber}
 use Rattle.cell.specs.Operations.{cellLengths}
 use Rattle.job.specs.Job.{ownTests}
-use Rattle.job.proofs.check.Openings.{not-zero}
+use Rattle.refusals.proofs.Tests.{not-zero}
 use Rattle.file_format.specs.Format.{recordAt}
 use Rattle.factor_file.specs.FaultSteps.{ownNumber}
 use Rattle.factor_file.proofs.faults.sound_at.Statement.{statement}

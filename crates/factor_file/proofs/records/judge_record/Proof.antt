@@ -2,13 +2,11 @@
 use borrow.Author.Needs.{needs}
 use mathlib.Core.Path.{_∙_, sym, ap}
 use borrow.Author.Tests.{not-false}
-use Rattle.refusals.specs.Refusals.{numberOf}
 use Rattle.refusals.specs.Checks.{checkedNumber}
-use Rattle.refusals.proofs.Tests.{pass, Passed, passed}
+use Rattle.refusals.proofs.Tests.{pass, Passed, passed, append-stop, not-zero}
 use Rattle.cell.specs.Operations.{cellLengths, tripleOf}
 use Rattle.job.specs.Job.{ownTests}
 use Rattle.job.proofs.check.Points.{within-of}
-use Rattle.job.proofs.check.Openings.{not-zero, append-stop}
 use Rattle.factor_file.specs.File.{orbitSeen}
 use Rattle.factor_file.proofs.records.judge_record.Statement.{statement}
 use Rattle.factor_file.proofs.records.judge_record.Tie as tie
@@ -39,7 +37,7 @@ returns c =
     let a = k .before .before .args in
     let r = c .before .own .given .0 .0 in
     λ before m. (
-      append-stop (numberOf r) (ownTests (a .modulus) (a .cell .group) (cellLengths (a .cell)) (tripleOf (a .j)) (a .x .re) (a .x .im)) (orbitSeen (a .cell .group) (cellLengths (a .cell)) before (tripleOf (a .j))) (not-zero r) (ap checkedNumber (sym (c .before .own .given .1)) ∙ k .check-own .ensures),
+      append-stop (ownTests (a .modulus) (a .cell .group) (cellLengths (a .cell)) (tripleOf (a .j)) (a .x .re) (a .x .im)) (orbitSeen (a .cell .group) (cellLengths (a .cell)) before (tripleOf (a .j))) (not-zero r) (ap checkedNumber (sym (c .before .own .given .1)) ∙ k .check-own .ensures),
       λ z. absurd (not-zero r z),
     )
 

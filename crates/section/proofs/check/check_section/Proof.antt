@@ -10,12 +10,11 @@ use lib.ListN.{length}
 use denote.Ref.{now}
 use Rattle.refusals.specs.Refusals.{Test, first, _⇒_}
 use Rattle.refusals.specs.Checks.{checkedNumber}
-use Rattle.refusals.proofs.Tests.{stop, pass, none, passed, not-t, not-f, by-false, by-true}
+use Rattle.refusals.proofs.Tests.{stop, pass, none, passed, not-t, not-f, by-false, by-true, append-stop, append-pass, not-zero}
 use Rattle.cell.specs.Operations.{cellLengths}
 use Rattle.combined.specs.CombinedMap.{combinedMapTests}
 use Rattle.section.specs.Section.{planeWithin, sectionText}
 use Rattle.section.specs.Sound.{Plane, Sound}
-use Rattle.section.proofs.Appended.{number-positive, append-pass, append-stop}
 use Rattle.section.proofs.Outcomes.{plane-of, page-long}
 use Rattle.section.proofs.check.check_section.Statement.{statement}
 use Rattle.section.proofs.check.check_section.Tie as tie
@@ -87,7 +86,7 @@ returns-3 c =
 returns-4 : tie.Need-returns-4
 returns-4 c =
     let k = c .before .before .before in
-    append-stop (map-tests (k .before)) (plane-tests (k .before)) (number-positive (c .before .checked .given .0 .0)) (ap checkedNumber (sym (c .before .checked .given .1)) ∙ k .check-combined-map .ensures)
+    append-stop (map-tests (k .before)) (plane-tests (k .before)) (not-zero (c .before .checked .given .0 .0)) (ap checkedNumber (sym (c .before .checked .given .1)) ∙ k .check-combined-map .ensures)
 
 returns-5 : tie.Need-returns-5
 returns-5 c =

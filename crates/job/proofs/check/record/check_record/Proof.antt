@@ -6,13 +6,11 @@ use lib.Dec.{eqb}
 use borrow.Author.Tests.{not-false, eq-eqb, ne-eqb}
 use denote.Ref.{now}
 use Rattle.numbers.specs.Value.{IsModulus}
-use Rattle.refusals.specs.Refusals.{numberOf}
 use Rattle.refusals.specs.Checks.{checkedNumber}
-use Rattle.refusals.proofs.Tests.{stop, pass, not-t, not-f, Passed, passed}
+use Rattle.refusals.proofs.Tests.{stop, pass, not-t, not-f, Passed, passed, append-stop, not-zero}
 use Rattle.cell.specs.Operations.{cellLengths, tripleOf, Sizes}
 use Rattle.job.specs.Job.{ownTests, orbitTests}
 use Rattle.job.proofs.check.Points.{within-of}
-use Rattle.job.proofs.check.Openings.{not-zero, append-stop}
 use Rattle.job.proofs.check.record.check_record.Statement.{statement}
 use Rattle.job.proofs.check.record.check_record.Tie as tie
 
@@ -56,7 +54,7 @@ returns-3 c =
     let e = k .before in
     let a = e .before .before .before .args in
     let r = c .before .own .given .0 .0 in
-    pass 25 _ (e .before .if1 .left) (pass 21 _ (collects e) (append-stop (numberOf r) (ownTests (a .modulus) (a .cell .group) (cellLengths (a .cell)) (tripleOf (a .at)) (a .x .re) (a .x .im)) (orbitTests (a .cell .group) (cellLengths (a .cell)) (tripleOf (a .at)) (now (a .volume))) (not-zero r) (ap checkedNumber (sym (c .before .own .given .1)) ∙ k .check-own .ensures)))
+    pass 25 _ (e .before .if1 .left) (pass 21 _ (collects e) (append-stop (ownTests (a .modulus) (a .cell .group) (cellLengths (a .cell)) (tripleOf (a .at)) (a .x .re) (a .x .im)) (orbitTests (a .cell .group) (cellLengths (a .cell)) (tripleOf (a .at)) (now (a .volume))) (not-zero r) (ap checkedNumber (sym (c .before .own .given .1)) ∙ k .check-own .ensures)))
 
 returns-4 : tie.Need-returns-4
 returns-4 c =

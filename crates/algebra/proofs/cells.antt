@@ -9,6 +9,7 @@ pub mod CellCorrelation
 pub mod CellLawful
 pub mod CellLines
 pub mod CellTests
+pub mod Passing
 pub mod CellPack
 pub mod CellRecord
 pub mod CellRefusals

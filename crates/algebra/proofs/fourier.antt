@@ -1,4 +1,5 @@
 pub mod Sums
+pub mod Halves
 pub mod Transform
 pub mod Properties
 pub mod PowerTable

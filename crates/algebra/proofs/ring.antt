@@ -6,4 +6,5 @@ pub mod Solver
 pub mod StarRules
 pub mod Conj
 pub mod GaussRing
+pub mod Norms
 pub mod ResidueRing

@@ -9,7 +9,7 @@ use native.Mathlib.Omega.{arith}
 use lib.Dec.{T, eqb, eqb→eq, lt→ltb, ltb→lt}
 use lib.ListN.{length, getD}
 use borrow.Author.Tests.{lt-ltb}
-use Rattle.algebra.specs.orbits.Orbit.{Mem}
+use Rattle.algebra.specs.orbits.Orbit.{Mem, Mem.first}
 use Rattle.algebra.specs.orbits.OrbitLaws.{Consistent, cellOf}
 use Rattle.algebra.specs.cells.Cell.{J, Inside, Sym, sym as operation, Group, P1, P2₁, Pm, Pa, P2₁2₁2₁, ops, pointImage, impliedDensity, star, planes, pointOperation, Cell, every, everyPlace, storedPointT}
 use Rattle.algebra.specs.cells.CellSteps.{mapActs}
@@ -17,7 +17,7 @@ use Rattle.algebra.specs.cells.CellPlaces.{StoredPoint}
 use Rattle.algebra.specs.cells.Cell as Cell
 use Rattle.algebra.proofs.ring.Bool.{and-l, and-r, and-i, imply-iff, every-at, every-by}
 use Rattle.algebra.proofs.orbits.Orbits as O
-use Rattle.algebra.proofs.cells.CellSym.{point-one, point-inside}
+use Rattle.algebra.proofs.cells.CellSym.{point-one, point-inside, density-one}
 use Rattle.algebra.proofs.cells.CellGroup.{map-action, map-closed, point-operation-in, point-operation-stored, point-operation-plain}
 use Rattle.algebra.proofs.cells.CellTests.{Positive, every-place-at, every-place-by}
 use Rattle.numbers.specs.Value.{prime, Value, field, conj, real, value}
@@ -48,6 +48,10 @@ ops-plain star′ g s ms x = plain s (every-at (ops g) plainT s (tables g) ms)
     plain : (s : Sym) → T (plainT s) → impliedDensity star′ s x ≡ x
     plain (operation false f g h p q r) t = refl
     plain (operation true f g h p q r) t = absurd t
+
+-- P1 has one operation, which every map obeys
+pub obeys-one : (a : J) (m : ℕ) (M : Cell (Value m)) → ObeysGroup P1 a m M
+obeys-one a m M s first x n = ap (Cell.at M) (point-one a x) ∙ sym (density-one (field-ring m) (field-star m) (Cell.at M x))
 
 -- a point of a stored plane is read where it is
 pub own-plane : (g : Group) (a x : J) → StoredPoint g a x → pointImage a (pointOperation g a x) x ≡ x

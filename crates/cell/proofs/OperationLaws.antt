@@ -68,6 +68,10 @@ own-at e f = λ i. getD (ops (groupOf (sym e i))) (sym f i) one
 
 -- ---- with Friedel's rule
 
+-- the identity is the first operation
+pub first-full : (n : ℕ) → n < 5 → (1 ≤ length (full (groupOf n))) × (one ≡ getD (full (groupOf n)) 0 one)
+first-full = by-group (λ g. (1 ≤ length (full g)) × (one ≡ getD (full g) 0 one)) (omega arith, refl) (omega arith, refl) (omega arith, refl) (omega arith, refl) (omega arith, refl)
+
 pub full-length : (n : ℕ) → 2 * length (ops (groupOf n)) ≡ length (full (groupOf n))
 full-length n =
     let l = ops (groupOf n) in

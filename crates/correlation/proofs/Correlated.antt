@@ -18,15 +18,16 @@ use Rattle.signed.proofs.Numerals.{to-mul, to-sum}
 use Rattle.lengths.specs.Admitted.{AdmittedLength}
 use Rattle.line.proofs.kinds.Axes.{axis-laws}
 use Rattle.cell.specs.Volume.{axis, packMap, packFactors, mapOf, factorsOf}
-use Rattle.cell.proofs.Maps.{map-cong}
+use Rattle.cell.proofs.Maps.{map-cong, obeys-one}
 use Rattle.volume_transform.specs.Axes.{lineCount, lineOfTurn, jobTurn}
 use Rattle.volume_transform.specs.Turns.{turns}
+use Rattle.volume_transform.proofs.sums.Whole.{synthesised-cell}
 use Rattle.combined.specs.CombinedMap.{countOf}
 use Rattle.correlation.specs.Correlation.{shiftedBy, totalOf, correlationAt}
 use Rattle.correlation.specs.Steps.{residueCell, countCell, correlationCell}
 use Rattle.algebra.proofs.cells.CellCorrelation.{correlation-map}
 use Rattle.correlation.proofs.Numerals.{cast-real, numeral-value}
-use Rattle.correlation.proofs.Volumes.{obeys-one, productCell, synthesised}
+use Rattle.correlation.proofs.Volumes.{productCell}
 
 -- a sum over the cell, as values
 numeral-total : (m : ℕ) (h : J) (f : J → ℤ) → numeral (field m) (totalOf h f) ≡ sum (field m) (2 * h .0) (λ x. sum (field m) (2 * h .1) (λ y. sum (field m) (2 * h .2) (λ z. numeral (field m) (f (x, y, z)))))
@@ -77,4 +78,4 @@ module _ (m : ℕ) (is : IsModulus m) {n1 n2 n3 : ℕ} (s1 : AdmittedLength n1) 
 
   -- the synthesis of the product
   pub correlated-map : turns (λ n w. jobTurn P1 h m 0 (lineOfTurn P1 h 0 n) w) 0 (lineCount P1 h) (packFactors P1 h m G) ≡ packMap P1 h m (residueCell m (correlationCell h u v))
-  correlated-map = synthesised m is s1 s2 s3 G product-lawful ∙ map-cong P1 h (s1 .positive, s2 .positive, s3 .positive) m (mapOf m h G) (residueCell m (correlationCell h u v)) (λ x n. sym (residue-map x))
+  correlated-map = synthesised-cell P1 m is s1 s2 s3 G product-lawful ∙ map-cong P1 h (s1 .positive, s2 .positive, s3 .positive) m (mapOf m h G) (residueCell m (correlationCell h u v)) (λ x n. sym (residue-map x))

@@ -15,14 +15,14 @@ use Rattle.signed.specs.Integers.{residueZ}
 use Rattle.cell.specs.Volume.{mapPlace, densityPlace, packMap}
 use Rattle.cell.specs.Consistency.{consistentMap}
 use Rattle.cell.proofs.VolumeLayout.{length-map, map-number, below-map}
-use Rattle.cell.proofs.Maps.{own-plane, map-consistent}
+use Rattle.cell.proofs.Maps.{own-plane, map-consistent, obeys-one}
 use Rattle.combined.specs.Chinese.{combinedNumbers}
 use Rattle.combined.specs.CombinedMap.{limit}
 use Rattle.combined.proofs.CombinedMaps.{restored}
 use Rattle.correlation.specs.Correlation.{correlation, magnitudes, largest}
 use Rattle.correlation.specs.Steps.{residueCell, correlationCell}
 use Rattle.correlation.proofs.Numerals.{residue-low}
-use Rattle.correlation.proofs.Volumes.{obeys-one, real-residues}
+use Rattle.correlation.proofs.Volumes.{real-residues}
 use Rattle.correlation.proofs.Limits.{correlation-most}
 
 module _ (h : J) (long : Positive h) (m : ℕ) (M : Cell ℤ) where

@@ -1,10 +1,8 @@
 -- The volumes of a call lent to the lines of its plan: what they ask for, and what all their turns come to.
 use mathlib.Core.Path.{_≡_, sym, _∙_, ap, ap₂, subst}
-use mathlib.Core.List.{List, _++_}
-use Prim.Native.Nat.{ℕ, _+_, _<_, _≤_}
-use native.Mathlib.Omega.{arith}
-use lib.ListN.{length, replicate, drop, length-append, length-replicate}
-use lib.Seq.{drop-append-seam}
+use mathlib.Core.List.{List}
+use Prim.Native.Nat.{ℕ, _<_, _≤_}
+use lib.ListN.{length}
 use lib.IntN.{ℤ}
 use Rattle.algebra.specs.ring.Ring.{Ops}
 use Rattle.algebra.specs.cells.Cell.{P1, Cell}
@@ -12,31 +10,18 @@ use Rattle.numbers.specs.Value.{prime, IsModulus, Value, field, conj, real}
 use Rattle.numbers.specs.Bounds.{res}
 use Rattle.numbers.proofs.Residues.{res-val}
 use Rattle.slices.specs.Pairs.{Below, tab, listOf}
-use Rattle.lengths.specs.Lengths.{scratchLength, cleared}
+use Rattle.lengths.specs.Lengths.{scratchLength}
 use Rattle.cell.specs.Volume.{volumePairs, volumeLength, packMap, packFactors, factorsOf}
+use Rattle.cell.proofs.Maps.{obeys-one}
 use Rattle.volume_transform.specs.declared.plan.Plan.{Plan}
 use Rattle.volume_transform.specs.Axes.{lineCount}
 use Rattle.volume_transform.specs.Plans.{planGroup, planHalves, Planned, Fitting, planTurn}
 use Rattle.volume_transform.specs.Turns.{turns}
+use Rattle.volume_transform.proofs.sums.Whole.{analysed-cell}
 use Rattle.correlation.specs.declared.modulo.Axes.{Axes}
 use Rattle.correlation.specs.Steps.{residuePair, correlated, residueCell, countCell, correlationCell, pointCount, axesHalves, SoundAxes, planOf}
-use Rattle.correlation.proofs.Volumes.{filled, multiplied, real-residues, analysed}
+use Rattle.correlation.proofs.Volumes.{filled, multiplied, real-residues}
 use Rattle.correlation.proofs.Correlated.{G, correlated-map}
-
--- ---- the scratch, cleared again and again
-
-pub cleared-long : (s : List ℕ) → scratchLength ≤ length (cleared s)
-unfolding cleared
-cleared-long s = subst (λ (n : ℕ). scratchLength ≤ n) (sym (length-append (replicate scratchLength 0) (drop scratchLength s))) (omega (arith, length-replicate {A = ℕ} scratchLength 0))
-
-zeros-twice : (n : ℕ) (s : List ℕ) → replicate n 0 ++ drop n (replicate n 0 ++ drop n s) ≡ replicate n 0 ++ drop n s
-zeros-twice n s = ap (λ t. replicate n 0 ++ t) (ap (λ k. drop k (replicate n 0 ++ drop n s)) (sym (length-replicate n 0)) ∙ drop-append-seam (replicate n 0) (drop n s))
-
-pub cleared-twice : (s : List ℕ) {t u : List ℕ} → t ≡ cleared s → u ≡ cleared t → u ≡ cleared s
-unfolding cleared
-cleared-twice s e f = f ∙ ap cleared e ∙ zeros-twice scratchLength s
-
--- ---- the plan
 
 abbrev allTurned : Plan → List ℕ → List ℕ
 allTurned p v = turns (planTurn p) 0 (lineCount (planGroup p) (planHalves p)) v
@@ -53,7 +38,7 @@ module _ (m : ℕ) (is : IsModulus m) (x : Axes) (s : SoundAxes x) where
 
   pub all-analysed : (a : List ℤ) (p : Plan) → p ≡ planOf m 1 x → {v : List ℕ} → v ≡ packMap P1 (axesHalves x) m (residueCell m (countCell (axesHalves x) a))
       → allTurned p v ≡ packFactors P1 (axesHalves x) m (factorsOf m (axesHalves x) (residueCell m (countCell (axesHalves x) a)))
-  all-analysed a p e f = ap₂ allTurned e f ∙ analysed m is (s .first) (s .second) (s .third) (residueCell m (countCell (axesHalves x) a)) (real-residues (axesHalves x) m (countCell (axesHalves x) a))
+  all-analysed a p e f = ap₂ allTurned e f ∙ analysed-cell P1 m is (s .first) (s .second) (s .third) _ (real-residues (axesHalves x) m (countCell (axesHalves x) a)) (obeys-one (axesHalves x) m (residueCell m (countCell (axesHalves x) a)))
 
   module _ (a b : List ℤ) where
     abbrev product : Cell (Value m)

@@ -1,56 +1,39 @@
--- The volumes of the call: the residues of a map are the map of a cell of real values, products of packed factors are the packed products, and what all lines of
--- such volumes come to.
+-- The volumes of the call: the residues of a map are the map of a cell of real values, and products of packed factors are the packed products.
 use mathlib.Core.Path.{_≡_, refl, sym, _∙_, ap, ap₂}
 use mathlib.Core.Bool.{cond}
 use mathlib.Core.List.{List}
-use Prim.Native.Nat.{ℕ, _+_, _*_, _/_, _<_}
+use Prim.Native.Nat.{ℕ, _+_, _*_, _<_}
 use native.Mathlib.Omega.{arith}
 use lib.Dec.{ltb}
 use lib.ListN.{getD}
 use lib.IntN.{ℤ, pos}
 use borrow.Author.Tests.{lt-ltb, le-ltb}
 use Rattle.algebra.specs.ring.Ring.{Ops}
-use Rattle.algebra.specs.orbits.Orbit.{Mem.first}
 use Rattle.algebra.specs.cells.Cell.{J, P1, Cell, planes}
-use Rattle.algebra.specs.cells.Cell as Cell
-use Rattle.algebra.specs.cells.CellSteps.{Lawful}
 use Rattle.algebra.proofs.ring.Laws.{along}
-use Rattle.algebra.proofs.cells.CellSym.{point-one, density-one}
 use Rattle.numbers.specs.declared.Pair.{Pair}
-use Rattle.numbers.specs.Value.{prime, IsModulus, Value, field, conj, real, valueOf, pairOf}
+use Rattle.numbers.specs.Value.{prime, Value, field, conj, real, valueOf, pairOf}
 use Rattle.numbers.specs.Bounds.{res, zeroPair}
 use Rattle.numbers.proofs.Residues.{val-res}
-use Rattle.numbers.proofs.Values.{pair-path, field-ring, field-star}
+use Rattle.numbers.proofs.Values.{pair-path}
 use Rattle.signed.specs.Integers.{residueZ}
 use Rattle.slices.specs.Pairs.{at, tab, listOf}
 use Rattle.slices.proofs.Pairs.{length-tab, at-tab}
 use Rattle.slices.proofs.Rows.{row-col}
-use Rattle.lengths.specs.Admitted.{AdmittedLength}
-use Rattle.line.proofs.kinds.Axes.{axis-laws}
-use Rattle.cell.specs.Volume.{rows, columns, volumePairs, pairPlace, mapPlace, mapPair, packMap, packFactors, mapOf, factorsOf}
-use Rattle.cell.specs.Exactly.{RealMap, ObeysGroup}
+use Rattle.cell.specs.Volume.{rows, columns, volumePairs, pairPlace, mapPlace, mapPair, packMap, packFactors}
+use Rattle.cell.specs.Exactly.{RealMap}
 use Rattle.cell.proofs.LineReading.{packed-plain}
 use Rattle.cell.proofs.Reading.{pairs-factors}
 use Rattle.cell.proofs.VolumeLayout.{place-inside, is-volume, by-row, mapPair-low, mapPair-end}
-use Rattle.volume_transform.specs.Axes.{lineCount, lineOfTurn, jobTurn}
-use Rattle.volume_transform.specs.Turns.{turns}
-use Rattle.volume_transform.proofs.sums.PassLaws.{synthesis-passes, analysis-passes}
-use Rattle.volume_transform.proofs.sums.Turns.{turned-along, turned-back}
-use Rattle.volume_transform.proofs.sums.Whole.{run-forward, run-backward}
 use Rattle.combined.specs.CombinedMap.{countOf}
 use Rattle.combined.proofs.PackedMaps.{count-stored}
 use Rattle.correlation.specs.Steps.{residuePair, correlated, residueCell, countCell}
 use Rattle.correlation.proofs.Numerals.{residue-low}
 
--- ---- P1: every cell obeys its one operation
-
-pub obeys-one : (a : J) (m : ℕ) (M : Cell (Value m)) → ObeysGroup P1 a m M
-obeys-one a m M s first x n = ap (Cell.at M) (point-one a x) ∙ sym (density-one (field-ring m) (field-star m) (Cell.at M x))
+-- ---- the residues of a map
 
 pub real-residues : (a : J) (m : ℕ) (M : Cell ℤ) → RealMap P1 a m (residueCell m M)
 real-residues a m M x n = refl
-
--- ---- the residues of a map
 
 module _ (h : J) (m : ℕ) (v : List ℤ) where
   abbrev p : ℕ
@@ -99,15 +82,3 @@ module _ (h : J) (m c : ℕ) (F G : Cell (Value m)) where
 
       read : (E : Cell (Value m)) (w x k : ℕ) → w < 2 * h .2 → x < rows P1 h → k < columns P1 h → valueOf m (at (packFactors P1 h m E) (pairPlace P1 h w x k)) ≡ E x k w
       read E w x k lw lx lk = pairs-factors P1 h m E w x k lw lx lk ∙ packed-plain P1 h m (λ l. E x k l) w lw
-
--- ---- all lines
-
-module _ (m : ℕ) (is : IsModulus m) {n1 n2 n3 : ℕ} (s1 : AdmittedLength n1) (s2 : AdmittedLength n2) (s3 : AdmittedLength n3) where
-  abbrev a : J
-  a = (n1 / 2, n2 / 2, n3 / 2)
-
-  pub synthesised : (F : Cell (Value m)) → Lawful (field m) (conj m) a P1 F → turns (λ n u. jobTurn P1 a m 0 (lineOfTurn P1 a 0 n) u) 0 (lineCount P1 a) (packFactors P1 a m F) ≡ packMap P1 a m (mapOf m a F)
-  synthesised F o = turned-along P1 a m 0 (lineCount P1 a) (packFactors P1 a m F) ∙ run-forward P1 a m 0 _ ∙ synthesis-passes P1 a m (axis-laws m is s1) (axis-laws m is s2) (axis-laws m is s3) F o
-
-  pub analysed : (M : Cell (Value m)) → RealMap P1 a m M → turns (λ n u. jobTurn P1 a m 1 (lineOfTurn P1 a 1 n) u) 0 (lineCount P1 a) (packMap P1 a m M) ≡ packFactors P1 a m (factorsOf m a M)
-  analysed M r = turned-back P1 a m 1 (packMap P1 a m M) ∙ run-backward P1 a m 1 (packMap P1 a m M) ∙ analysis-passes P1 a m (axis-laws m is s1) (axis-laws m is s2) (axis-laws m is s3) M r (obeys-one a m M)

@@ -2,4 +2,5 @@ pub mod Factors
 pub mod Digits
 pub mod Divisors
 pub mod Counts
+pub mod Scratch
 pub mod AdmittedLengths

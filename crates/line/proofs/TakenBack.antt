@@ -1,10 +1,9 @@
 -- The two directions, call after call: what an accepted call leaves is accepted by the call in the other direction, which restores the line.
 use mathlib.Core.Path.{_≡_, sym, _∙_, ap}
-use mathlib.Core.List.{List, _++_}
-use Prim.Native.Nat.{ℕ, zero, suc, _+_, _*_, _-_, _/_, _≤_, _<_}
+use mathlib.Core.List.{List}
+use Prim.Native.Nat.{ℕ, zero, suc, _*_, _-_, _/_, _≤_, _<_}
 use native.Mathlib.Omega.{arith}
-use lib.ListN.{length, drop, replicate, length-append, length-replicate, length-drop}
-use lib.Seq.{drop-append-seam}
+use lib.ListN.{length}
 use borrow.Author.Tests.{not-false, leb-false, ltb-false, eqb-true, lt-leb, le-ltb, eq-eqb}
 use Rattle.numbers.specs.Value.{prime}
 use Rattle.numbers.proofs.Primes.{prime-pos}
@@ -12,6 +11,7 @@ use Rattle.slices.specs.Pairs.{Below, valuesOf}
 use Rattle.slices.proofs.Bounds.{below-allBelow, allBelow-below}
 use Rattle.slices.proofs.Values.{length-list, below-list}
 use Rattle.lengths.specs.Lengths.{kindOf, pairCount, scratchLength, cleared}
+use Rattle.lengths.proofs.Scratch.{length-cleared, cleared-twice}
 use Rattle.line.specs.Line.{transform, transformed, lineTests, lineStep}
 use Rattle.refusals.specs.Refusals.{first}
 use Rattle.line.specs.Demands.{Restored, RestoredAfter, TakenBack}
@@ -19,22 +19,6 @@ use Rattle.refusals.proofs.Tests.{Passed, passed, pass, none, not-t}
 use Rattle.line.proofs.Demands.{restored, restored-after}
 use Rattle.line.proofs.Accepted.{accepted-modulus}
 use Rattle.line.proofs.Outcome.{none-held, accepted-outcome}
-
--- ---- a cleared scratch is as long as it was, and is cleared to itself
-
-length-zeros : (n : ℕ) (s : List ℕ) → n ≤ length s → length (replicate n 0 ++ drop n s) ≡ length s
-length-zeros n s h = simp (length-append, length-replicate, length-drop) (omega arith)
-
-zeros-twice : (n : ℕ) (s : List ℕ) → replicate n 0 ++ drop n (replicate n 0 ++ drop n s) ≡ replicate n 0 ++ drop n s
-zeros-twice n s = ap (λ t. replicate n 0 ++ t) (ap (λ k. drop k (replicate n 0 ++ drop n s)) (sym (length-replicate n 0)) ∙ drop-append-seam (replicate n 0) (drop n s))
-
-length-cleared : (s : List ℕ) → scratchLength ≤ length s → length (cleared s) ≡ length s
-unfolding cleared
-length-cleared s h = length-zeros scratchLength s h
-
-cleared-twice : (s : List ℕ) → cleared (cleared s) ≡ cleared s
-unfolding cleared
-cleared-twice s = zeros-twice scratchLength s
 
 -- ---- what a transform leaves
 

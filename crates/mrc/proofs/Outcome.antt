@@ -1,25 +1,24 @@
 -- What follows from the tests: of a call that is refused, and of one that is not.
 use borrow.Author.Tests.{leb-false, eqb-true, not-false, le-ltb}
-use mathlib.Core.Path.{_≡_, refl, sym, _∙_, ap, subst}
-use mathlib.Core.Bool.{Bool, true, false, _&&_, cond}
-use mathlib.Core.List.{List, [], _∷_, _++_}
-use Prim.Native.Nat.{ℕ, zero, suc, _≤_}
-use native.Mathlib.Nat.{zero-add}
-use lib.Dec.{T, leb}
+use mathlib.Core.Path.{_≡_, sym, _∙_, ap, subst}
+use mathlib.Core.Bool.{true, _&&_}
+use mathlib.Core.List.{List}
+use Prim.Native.Nat.{ℕ, _≤_}
+use lib.Dec.{leb}
 use lib.IntN.{ℤ, natAbs}
 use lib.ListN.{length}
 use Rattle.refusals.specs.declared.Refusal.{Refusal}
-use Rattle.refusals.specs.Refusals.{numberOf, Test, first, accepted}
-use Rattle.refusals.proofs.Tests.{and-left, and-right, passed, fails, passes, pass, none, not-t}
+use Rattle.refusals.specs.Refusals.{numberOf, first, accepted}
+use Rattle.refusals.proofs.Tests.{first-append, passed, fails, passes, pass, none, not-t}
 use Rattle.cell.specs.declared.operations.UnitCell.{UnitCell}
 use Rattle.cell.specs.Operations.{cellGroup, cellHalves, Sizes}
 use Rattle.cell.specs.Volume.{volumeLength}
 use Rattle.header.proofs.Headers.{sizes-of}
-use Rattle.output.specs.Output.{FillOutcome, Filled.written, filled, notFilled}
+use Rattle.output.specs.Output.{FillOutcome, filled, notFilled}
 use Rattle.output.specs.Written.{Wrote}
 use Rattle.output.specs.Answers.{fillOutcome}
 use Rattle.output.specs.declared.FillAnswer.the-variants.{Written, Refused}
-use Rattle.output.proofs.Writing.{wrote-whole}
+use Rattle.output.proofs.Writing.{wrote-filled}
 use Rattle.mrc.specs.Floats.{exactLimit}
 use Rattle.mrc.specs.Parameters.{ofGroup}
 use Rattle.mrc.specs.Ranges.{lesser, greater, Spans, ofCell, ofStored}
@@ -29,22 +28,6 @@ use Rattle.mrc.specs.declared.ranges.DensityRange.{DensityRange}
 use Rattle.mrc.proofs.Order.{lesser-chooses, greater-chooses}
 use Rattle.mrc.proofs.Densities.{stored-same, exact-by-ends}
 use Rattle.mrc.proofs.Bytes.{length-file}
-
--- no test has the number 0, which stands for none
-abbrev pub numbered : List Test → Bool
-numbered [] = true
-numbered (t ∷ ts) = leb 1 (t .number) && numbered ts
-
--- tests after tests
-pub first-append : (ts us : List Test) → T (numbered ts) → first (ts ++ us) ≡ accepted (first ts) (first us) (λ n. n)
-unfolding first
-first-append [] us h = refl
-first-append (t ∷ ts) us h = one (t .fails) (t .number) (and-left (leb 1 (t .number)) (numbered ts) h) (first-append ts us (and-right (leb 1 (t .number)) (numbered ts) h))
-  where
-    one : (b : Bool) (n : ℕ) → T (leb 1 n) → first (ts ++ us) ≡ accepted (first ts) (first us) (λ n. n) → cond b n (first (ts ++ us)) ≡ accepted (cond b n (first ts)) (first us) (λ n. n)
-    one true zero h e = absurd h
-    one true (suc n) h e = refl
-    one false n h e = e
 
 -- ---- what the tests leave
 
@@ -85,7 +68,7 @@ module _ (cell : UnitCell) (v : List ℤ) (parameters : CellParameters) where
   pub fill-written : {e : ℕ} {out out′ : List ℕ} → allExact cell v ≡ true → fileLength cell ≤ length out → Wrote 0 (mrcBytes cell v parameters) out e out′ → fillOutcome (Written e) out′ ≡ outcomeOf out
   fill-written {e} {out} {out′} exact long w =
       let len = length-file cell v parameters in
-      (λ i. record { answer = written ((w .place ∙ zero-add (length (mrcBytes cell v parameters))) i); output = wrote-whole w (subst (λ (n : ℕ). n ≤ length out) (sym len) long) i })
+      wrote-filled w (subst (λ (n : ℕ). n ≤ length out) (sym len) long)
       ∙ passes (first (fillTests cell v parameters (length out))) (filled (mrcBytes cell v parameters) out) (notFilled out)
       (pass 30 _ (not-t _ exact) (pass 18 _ (le-ltb _ _ (subst (λ (n : ℕ). n ≤ length out) (sym len) long)) none))
 

@@ -9,8 +9,10 @@ use native.Mathlib.Omega.{arith}
 use lib.ListN.{length, set, take, getD, drop, length-append, length-take}
 use lib.Seq.{sets, sets-eq, set-out, length-sets, take-suc}
 use Rattle.algebra.proofs.ring.Laws.{along}
-use Rattle.output.specs.Output.{each}
+use Rattle.output.specs.declared.FillAnswer.the-variants.{Written}
+use Rattle.output.specs.Output.{each, written, filled}
 use Rattle.output.specs.Written.{Wrote, Ends}
+use Rattle.output.specs.Answers.{fillOutcome}
 
 -- stores of two lists in a row
 sets-append : (d : List ℕ) (i : ℕ) (s t : List ℕ) → sets d i (s ++ t) ≡ sets (sets d i s) (i + length s) t
@@ -41,6 +43,10 @@ wrote-length {at} {e} {s} {d} h = ap length (h .bytes) ∙ length-sets d at s
 -- an output that is long enough holds the text
 pub wrote-whole : {e : ℕ} {s d d′ : List ℕ} → Wrote 0 s d e d′ → length s ≤ length d → d′ ≡ s ++ drop (length s) d
 wrote-whole {e} {s} {d} h l = h .bytes ∙ sets-eq s d 0 (omega arith) ∙ along (λ (n : ℕ). s ++ drop n d) (0 + length s) (length s) (omega arith)
+
+-- so it is filled with it
+pub wrote-filled : {e : ℕ} {s d d′ : List ℕ} → Wrote 0 s d e d′ → length s ≤ length d → fillOutcome (Written e) d′ ≡ filled s d
+wrote-filled {e} {s} w l = let n : e ≡ length s = omega (arith, w .place) in λ i. record { answer = written (n i); output = wrote-whole w l i }
 
 pub ends-as : {at : ℕ} {s t : List ℕ} → Ends at s → s ≡ t → Ends at t
 ends-as {at} h q = subst (Ends at) q h

@@ -65,8 +65,7 @@ pub fn put_field(out: &mut [u8], at: usize, n: u32) -> usize
     requires { ⌜ Ends at (blank ∷ decimal n) ⌝ }
     ensures { λ r. ⌜ Wrote at (blank ∷ decimal n) (now (out .entry)) r (now (out .exit)) ⌝ }
 {
-    let number = put_byte(out, at, b' ');
-    put_decimal(out, number, n)
+    put_signed_field(out, at, n as i64)
 }
 
 // A whole number in decimal: a minus before the magnitude of one below zero.

@@ -7,6 +7,7 @@ use native.Mathlib.Omega.{arith}
 use lib.ListN.{length}
 use borrow.Author.Tests.{le-leb, lt-leb}
 use Rattle.algebra.specs.ring.Ring.{sum, gauss, residues}
+use Rattle.algebra.specs.fourier.Halves.{doubled, between}
 use Rattle.algebra.specs.lines.Kinds.{Kind.plain, Kind.alternating, Kind.symmetric, Kind.antisymmetric}
 use Rattle.algebra.specs.cells.Cell.{J, Group, P1, P2₁, Pm, Pa, P2₁2₁2₁, planes, negI, flip}
 use Rattle.algebra.specs.cells.CellPack.{even}
@@ -24,9 +25,9 @@ use Rattle.cell.proofs.LineReading.{readLine, read-plain, alternating-first, al
 use Rattle.cell.proofs.Reading.{pairsIn, EmptyEnds, empty-ends}
 use Rattle.cell.proofs.Consistency.{consistent-read}
 use Rattle.power.specs.Power.{overCell, factorPower}
-use Rattle.power.specs.PowerSteps.{doubled, between, layerTwice, squareAt, squares, rowPower, layerPower, storedPower}
-use Rattle.power.proofs.Halves.{doubled-sum, half-ends, ends-and-between, whole-ends, sum-mirror, sum-flip}
-use Rattle.power.proofs.Norms.{norm, norm-conj-product, norm-conj, norm-neg, norm-over-i, norm-signed, norm-parts}
+use Rattle.power.specs.PowerSteps.{layerTwice, squareAt, squares, rowPower, layerPower, storedPower}
+use Rattle.algebra.proofs.fourier.Halves.{doubled-sum, half-ends, ends-and-between, whole-ends, sum-mirror, sum-flip}
+use Rattle.algebra.proofs.ring.Norms.{norm, norm-conj-product, norm-conj, norm-neg, norm-over-i, norm-signed, norm-parts}
 use Rattle.power.proofs.MapPower.{sum-rotate, real-cell}
 
 -- ---- one line, by its kind: q w is the value of its pair w

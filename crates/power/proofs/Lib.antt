@@ -1,5 +1,3 @@
-pub mod Halves
-pub mod Norms
 pub mod MapPower
 pub mod FactorPower
 pub mod PowerLaws

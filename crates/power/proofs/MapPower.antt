@@ -6,6 +6,7 @@ use Prim.Native.Nat.{ℕ, suc, _+_, _*_, _-_, _<_, _≤_}
 use native.Mathlib.Omega.{arith}
 use borrow.Author.Tests.{le-ltb}
 use Rattle.algebra.specs.ring.Ring.{sum, residues}
+use Rattle.algebra.specs.fourier.Halves.{doubled, between}
 use Rattle.algebra.specs.cells.Cell.{J, Sym, sym as operation, Group, P1, P2₁, Pm, Pa, P2₁2₁2₁, Cell, xor, negI, halfI, flip, shifted, planes, planeSym, pointImage, pointOperation}
 use Rattle.algebra.proofs.ring.Laws.{along}
 use Rattle.algebra.proofs.fourier.Sums.{sum-cong, sum-swap}
@@ -15,9 +16,9 @@ use Rattle.numbers.proofs.Residues.{res-ring}
 use Rattle.cell.specs.Volume.{rows, layers, pairPlace, mapPlace, densityPlace, mapIn}
 use Rattle.cell.proofs.Maps.{own-plane}
 use Rattle.power.specs.Power.{overCell, mapPower}
-use Rattle.power.specs.PowerSteps.{doubled, between, layerTwice, squareAt, squares, rowPower, layerPower, storedPower}
-use Rattle.power.proofs.Halves.{sum-mirror, sum-twice, sum-flip, sum-shifted}
-use Rattle.power.proofs.Norms.{real-square, real-sum}
+use Rattle.power.specs.PowerSteps.{layerTwice, squareAt, squares, rowPower, layerPower, storedPower}
+use Rattle.algebra.proofs.fourier.Halves.{sum-mirror, sum-twice, sum-flip, sum-shifted}
+use Rattle.algebra.proofs.ring.Norms.{real-square, real-sum}
 
 -- the operation of a point whose plane is not stored
 first-of : (g : Group) (a x : J) → planes g (a .2) ≤ x .2 → pointOperation g a x ≡ planeSym g

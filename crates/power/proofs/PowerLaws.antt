@@ -8,6 +8,7 @@ use native.Mathlib.Omega.{arith}
 use lib.ListN.{getD, length}
 use lib.Dec.{eqb}
 use Rattle.algebra.specs.ring.Ring.{Ops, Res, sum, residue, residues}
+use Rattle.algebra.specs.fourier.Halves.{between}
 use Rattle.algebra.specs.lines.Kinds.{Kind.plain, Kind.alternating}
 use Rattle.algebra.specs.cells.Cell.{J, Group, planes}
 use Rattle.algebra.proofs.ring.Laws.{along}
@@ -23,7 +24,7 @@ use Rattle.cell.specs.Operations.{cellGroup, cellHalves}
 use Rattle.cell.specs.TestSteps.{IsVolume}
 use Rattle.cell.proofs.LineKinds.{plain-group, by-alternating, by-other}
 use Rattle.cell.proofs.StoredFactors.{pair-inside}
-use Rattle.power.specs.PowerSteps.{between, layerTwice, layerPower, storedPower, squares, rowPower}
+use Rattle.power.specs.PowerSteps.{layerTwice, layerPower, storedPower, squares, rowPower}
 
 -- residues of any modulus are below the greater prime
 pub below-most : {m : ℕ} {v : List ℕ} → IsModulus m → Below (prime m) v → Below 302399 v

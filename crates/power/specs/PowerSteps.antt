@@ -1,18 +1,11 @@
 -- The two powers over the stored numbers, as the code adds them: the squares of each row, each layer once or twice, as often as it stands in the cell.
-use Rattle.algebra.specs.Prelude.{Bool, true, false, _||_, not, cond, eqb, ℕ, _+_, _*_, _-_, List, getD}
+use Rattle.algebra.specs.Prelude.{Bool, true, false, ℕ, _+_, _*_, _-_, List, getD}
 use Rattle.algebra.specs.ring.Ring.{Ops, sum}
+use Rattle.algebra.specs.fourier.Halves.{doubled, between}
 use Rattle.algebra.specs.cells.Cell.{J, Group, P1, P2₁, Pm, Pa, P2₁2₁2₁}
 use Rattle.numbers.specs.Value.{Residue, ring}
 use Rattle.numbers.specs.Bounds.{res}
 use Rattle.cell.specs.Volume.{layers, rows, pairPlace}
-
--- once or twice
-abbrev pub doubled : {R : Type 0} → Ops R → Bool → R → R
-doubled 𝓞 b x = cond b (𝓞 .add x x) x
-
--- an index from 0 to A that is not its own negative, so that it stands for two
-abbrev pub between : (A w : ℕ) → Bool
-between A w = not (eqb w 0 || eqb w A)
 
 -- Layer w stands twice in the cell. Of a map it is the plane z = w, in P2₁ and P2₁2₁2₁ each with another; of factors the pairs w of the lines along l, and pair 0 of an alternating line
 -- holds two of its numbers, each of which stands once.

@@ -10,7 +10,7 @@ use Rattle.refusals.specs.Refusals.{first, accepted}
 use Rattle.lengths.specs.Lengths.{scratchLength, cleared}
 use Rattle.refusals.proofs.Tests.{passed}
 use Rattle.cell.proofs.VolumeLayout.{length-map, below-map}
-use Rattle.volume.proofs.consistent.Passing.{below-all}
+use Rattle.algebra.proofs.cells.Passing.{below-all}
 use Rattle.job.specs.declared.Job.{Job}
 use Rattle.job.specs.declared.Answered.{Answered}
 use Rattle.job.specs.Job.{validJob, withState, mapHeld, groupIn, halves, done, Outcome, Worked, unchanged, synthesised, synthesisStep}

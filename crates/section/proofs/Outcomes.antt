@@ -17,10 +17,10 @@ use Rattle.cell.specs.Operations.{cellLengths}
 use Rattle.header.proofs.Headers.{sizes-of}
 use Rattle.combined.specs.CombinedMap.{combinedMapTests}
 use Rattle.output.specs.declared.FillAnswer.the-variants.{Written, Refused}
-use Rattle.output.specs.Output.{written, notWritten, filled}
+use Rattle.output.specs.Output.{written, notWritten}
 use Rattle.output.specs.Answers.{fillOutcome}
 use Rattle.output.specs.Written.{Wrote, Ends}
-use Rattle.output.proofs.Writing.{wrote-whole}
+use Rattle.output.proofs.Writing.{wrote-filled}
 use Rattle.section.specs.Section.{total, points, rowLines, sectionText, sectionTests, sectionStep}
 use Rattle.section.specs.SectionLaws.{Accepted, SectionLaws, SectionWidth}
 use Rattle.section.specs.Sound.{Plane, Sound}
@@ -74,11 +74,7 @@ module _ (cell : UnitCell) (v : List ℤ) (z : ℕ) where
     pub section-written : {n : ℕ} {out′ : List ℕ} → Accepted (cell .group) (cellLengths cell) v z (length out) → Wrote 0 (sectionText (cell .group) (cellLengths cell) v z) out n out′ →
         fillOutcome (Written n) out′ ≡ sectionStep (cell .group) (cellLengths cell) v z out
     unfolding sectionStep
-    section-written {n} none w =
-        let text = sectionText (cell .group) (cellLengths cell) v z in
-        let e : n ≡ length text = omega (arith, w .place) in
-        let f = wrote-whole w (fits (length out) none) in
-        (λ i. record { answer = written (e i); output = f i }) ∙ passes _ (filled text out) (λ n. record { answer = notWritten n; output = out }) none
+    section-written none w = wrote-filled w (fits (length out) none) ∙ passes _ _ (λ n. record { answer = notWritten n; output = out }) none
 
 -- ---- the laws
 

@@ -13,7 +13,7 @@ use Rattle.cell.specs.declared.operations.UnitCell.{UnitCell}
 use Rattle.cell.specs.declared.operations.Point.{Point}
 use Rattle.cell.specs.Operations.{cellGroup, cellLengths, cellHalves, Sizes, PointWithin}
 use Rattle.cell.specs.Volume.{volumeLength}
-use Rattle.volume.proofs.consistent.Passing.{passed-at}
+use Rattle.algebra.proofs.cells.Passing.{passed-at}
 use Rattle.combined.specs.CombinedMap.{limit}
 use Rattle.section.specs.Section.{sectionAt, rowTotal, rowWithin, planeWithin, aligned, valueField}
 use Rattle.section.specs.Sound.{Plane, Sound}

@@ -1,3 +1,2 @@
-pub mod Passing
 pub mod TestLaws
 pub mod Interior

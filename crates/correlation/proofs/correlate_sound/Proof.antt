@@ -11,10 +11,10 @@ use Rattle.numbers.specs.Value.{prime, IsModulus}
 use Rattle.numbers.proofs.Primes.{first-modulus}
 use Rattle.slices.specs.Pairs.{Below}
 use Rattle.lengths.specs.Lengths.{scratchLength}
+use Rattle.lengths.proofs.Scratch.{cleared-long, cleared-again}
 use Rattle.cell.specs.Volume.{volumeLength}
 use Rattle.cell.proofs.VolumeLayout.{length-map, below-map}
 use Rattle.correlation.specs.Steps.{axesHalves}
-use Rattle.correlation.proofs.Turned.{cleared-long, cleared-twice}
 use Rattle.correlation.proofs.Restored.{combined-correlation}
 use Rattle.correlation.proofs.Outcome.{zeros-as}
 use Rattle.correlation.proofs.correlate_sound.Statement.{statement}
@@ -113,7 +113,7 @@ returns c =
       zeros-as _ (volumeLength P1 h) (z1 .zero .ensures) l1,
       zeros-as (length (m2 .correlate-modulo2 .last .1 .1 .1 .1 .1 .0)) (volumeLength P1 h) (z2 .zero2 .ensures) (second-twice (co .before .before .before .before .before .before)),
       zeros-as _ (volumeLength P1 h) (z3 .zero3 .ensures) l2,
-      cleared-twice (now (a .scratch)) (m1 .correlate-modulo .ensures .1) (m2 .correlate-modulo2 .ensures .1),
+      cleared-again (now (a .scratch)) (m1 .correlate-modulo .ensures .1) (m2 .correlate-modulo2 .ensures .1),
     )
 
 pub correlate-sound-spec : {M : Type 1} → statement M

@@ -1,7 +1,7 @@
 -- The outcome of writing a file, from what was stored and the tests found.
-use mathlib.Core.Path.{_≡_, refl, sym, _∙_, ap}
-use mathlib.Core.Bool.{Bool, true, false, not, cond, false≢true}
-use mathlib.Core.List.{List, [], _∷_, _++_}
+use mathlib.Core.Path.{_≡_, refl, _∙_, ap}
+use mathlib.Core.Bool.{true, not}
+use mathlib.Core.List.{List, _∷_}
 use Prim.Native.Nat.{ℕ, _<_, _≤_}
 use native.Mathlib.Omega.{arith}
 use lib.ListN.{length}
@@ -10,14 +10,14 @@ use borrow.Author.Tests.{lt-ltb, le-ltb, ltb-false}
 use Rattle.refusals.specs.declared.Refusal.{Refusal}
 use Rattle.refusals.specs.Refusals.{numberOf, Test, _⇒_, first, accepted}
 use Rattle.lengths.specs.Lengths.{scratchLength}
-use Rattle.refusals.proofs.Tests.{Passed, passed, fails, stop, pass, none}
+use Rattle.refusals.proofs.Tests.{Passed, passed, fails, stop, pass, none, append-stop, append-pass, not-zero}
 use Rattle.cell.specs.Volume.{volumeLength}
 use Rattle.job.specs.declared.Job.{Job}
 use Rattle.job.specs.Job.{jobCell, headerOf, axisTests, validJob, mapHeld, groupIn, halves, fits, factorsTests}
 use Rattle.job.specs.TestSteps.{synthesisTests}
 use Rattle.job.proofs.Jobs.{valid-parts}
 use Rattle.output.specs.Written.{Wrote}
-use Rattle.output.proofs.Writing.{wrote-whole}
+use Rattle.output.proofs.Writing.{wrote-filled}
 use Rattle.output.specs.declared.FillAnswer.{FillAnswer}
 use Rattle.output.specs.declared.FillAnswer.the-variants.{Refused}
 use Rattle.factor_file.specs.File.{jobRecords, jobFile, roomTests, writeTests, writeStep}
@@ -36,31 +36,9 @@ module _ (file output : List ℕ) where
   filed-short h = ap (told file output) (stop _ (lt-ltb (length output) (length file) h))
 
   pub filed-whole : {r : ℕ} {after : List ℕ} → length file ≤ length output → Wrote 0 file output r after → record { answer = written r; output = after } ≡ filed file output
-  filed-whole {r} {after} h p =
-      let a : r ≡ length file = omega (arith, p .place) in
-      (λ i. record { answer = written (a i); output = wrote-whole p h i }) ∙ ap (told file output) (pass 18 _ (le-ltb (length output) (length file) h) none)
-
--- ---- tests in two parts, the first of which no test or some test of holds
-
-pub passed-on : (ts us : List Test) → Passed ts → first (ts ++ us) ≡ first us
-unfolding first
-passed-on [] us p = refl
-passed-on (t ∷ ts) us p = ap (λ b. cond b (t .number) (first (ts ++ us))) (p .0) ∙ passed-on ts us (p .1)
-
-pub failed-first : (ts us : List Test) (n : ℕ) → (n ≡ 0 → ⊥) → n ≡ first ts → n ≡ first (ts ++ us)
-unfolding first
-failed-first [] us n z e = absurd (z e)
-failed-first (t ∷ ts) us n z e = go (t .fails) (failed-first ts us n z) e
-  where
-    go : (b : Bool) → (n ≡ first ts → n ≡ first (ts ++ us)) → n ≡ cond b (t .number) (first ts) → n ≡ cond b (t .number) (first (ts ++ us))
-    go true f e = e
-    go false f e = f e
+  filed-whole h p = wrote-filled p (omega arith) ∙ ap (told file output) (pass 18 _ (le-ltb (length output) (length file) h) none)
 
 -- ---- a job's file
-
--- a refusal has a number
-nonzero : (r : Refusal) → numberOf r ≡ 0 → ⊥
-nonzero r e = false≢true (sym (fails r (numberOf r) false (λ n. true) refl ∙ ap (λ n. accepted n false (λ n. true)) e))
 
 module _ (j : Job) (v output : List ℕ) where
   -- 25, 23, 6, 7, 14: the job holds factors, and the volume is those of a cell
@@ -77,13 +55,13 @@ module _ (j : Job) (v output : List ℕ) where
 
   pub write-refused : (r : Refusal) → numberOf r ≡ first held → fillOutcome (Refused r) output ≡ writeStep j v output
   unfolding writeStep rest
-  write-refused r e = fails r (first (writeTests j v output)) _ (notFilled output) (failed-first held rest (numberOf r) (nonzero r) e)
+  write-refused r e = fails r (first (writeTests j v output)) _ (notFilled output) (append-stop held rest (not-zero r) e)
 
   pub write-filed : (r : FillAnswer) (after : List ℕ) → Passed held →
       fillOutcome r after ≡ filed (fileWith (j .modulus) (jobCell j) (j .a .factors) (j .b .factors) (j .c .factors) v) output →
       fillOutcome r after ≡ writeStep j v output
   unfolding writeStep rest jobFile jobRecords
-  write-filed r after p e = e ∙ ap (told (jobFile j v) output) (sym (passed-on held rest p))
+  write-filed r after p e = e ∙ ap (told (jobFile j v) output) (append-pass held rest p refl)
 
 -- the volume of a valid job is one that an opening admits
 pub valid-volume : (j : Job) → validJob j ≡ true → volumeLength (groupIn j) (halves j) ≤ 16777216

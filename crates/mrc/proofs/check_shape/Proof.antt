@@ -4,11 +4,10 @@ use mathlib.Core.Path.{_≡_, sym, _∙_, ap}
 use Prim.Native.Nat.{ℕ}
 use Rattle.refusals.specs.Refusals.{first, accepted}
 use Rattle.refusals.specs.Checks.{checkedNumber}
-use Rattle.refusals.proofs.Tests.{fails}
+use Rattle.refusals.proofs.Tests.{first-append, fails}
 use Rattle.cell.specs.Operations.{cellLengths}
 use Rattle.combined.specs.CombinedMap.{combinedMapTests}
 use Rattle.mrc.specs.Mrc.{parameterTests}
-use Rattle.mrc.proofs.Outcome.{first-append}
 use Rattle.mrc.proofs.check_shape.Statement.{statement}
 use Rattle.mrc.proofs.check_shape.Tie as tie
 

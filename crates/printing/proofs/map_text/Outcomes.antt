@@ -3,7 +3,6 @@ use mathlib.Core.Path.{_≡_, refl, _∙_}
 use mathlib.Core.Bool.{Bool, true, false, cond}
 use mathlib.Core.List.{List}
 use Prim.Native.Nat.{ℕ, _<_, _≤_}
-use native.Mathlib.Omega.{arith}
 use lib.Dec.{ltb}
 use lib.ListN.{length}
 use borrow.Author.Tests.{not-false, eqb-true, ltb-false, eq-eqb, lt-ltb, le-ltb}
@@ -16,25 +15,19 @@ use Rattle.job.specs.declared.Job.{Job}
 use Rattle.job.specs.Job.{groupIn, halves, mapHeld}
 use Rattle.output.specs.declared.FillAnswer.the-variants.{Written, Refused}
 use Rattle.printing.specs.Text.{mapText, textTests, putText, textStep}
-use Rattle.output.specs.Output.{written, notWritten, filled}
+use Rattle.output.specs.Output.{notWritten, filled}
 use Rattle.output.specs.Answers.{fillOutcome}
 use Rattle.output.specs.Written.{Wrote}
 use Rattle.printing.specs.Printable.{Printable}
-use Rattle.output.proofs.Writing.{wrote-whole}
+use Rattle.output.proofs.Writing.{wrote-filled}
 
 -- ---- a text that goes to an output if that is long enough
 
 pub put-refused : (text out : List ℕ) → length out < length text → fillOutcome (Refused OutputTooShort) out ≡ putText text out
 put-refused text out h = rw (lt-ltb (length out) (length text) h)
 
-wrote-put : {n : ℕ} {text out out′ : List ℕ} → Wrote 0 text out n out′ → length text ≤ length out → fillOutcome (Written n) out′ ≡ filled text out
-wrote-put {n} {text} {out} {out′} w l =
-    let e : n ≡ length text = omega (arith, w .place) in
-    let f = wrote-whole w l in
-    λ i. record { answer = written (e i); output = f i }
-
 pub put-written : {n : ℕ} {text out out′ : List ℕ} → Wrote 0 text out n out′ → length text ≤ length out → fillOutcome (Written n) out′ ≡ putText text out
-put-written {n} {text} {out} {out′} w l = rw (le-ltb (length out) (length text) l) (wrote-put w l)
+put-written {n} {text} {out} {out′} w l = rw (le-ltb (length out) (length text) l) (wrote-filled w l)
 
 -- ---- the call
 
@@ -53,7 +46,7 @@ module _ (j : Job) (v out : List ℕ) where
     unfolding textStep
     text-written w =
         let t = passed (textTests j v (length out)) tt none in
-        wrote-put w (ltb-false _ _ (t .1 .1 .1 .1 .0)) ∙ passes _ _ (λ n. record { answer = notWritten n; output = out }) none
+        wrote-filled w (ltb-false _ _ (t .1 .1 .1 .1 .0)) ∙ passes _ _ (λ n. record { answer = notWritten n; output = out }) none
 
   -- of a map that is held, only the output's length is left to ask
   pub text-held : Printable j v → j .state ≡ mapHeld → textStep j v out ≡ putText (mapText j v) out

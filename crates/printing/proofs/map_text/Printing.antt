@@ -14,7 +14,7 @@ use Rattle.cell.specs.Volume.{layers, rows, columns, pairPlace, volumeLength}
 use Rattle.cell.proofs.VolumeLayout.{place-inside}
 use Rattle.cell.proofs.StoredFactors.{layers-most, number-place}
 use Rattle.job.specs.declared.Job.{Job}
-use Rattle.volume.proofs.consistent.Passing.{passed-at}
+use Rattle.algebra.proofs.cells.Passing.{passed-at}
 use Rattle.job.specs.Job.{jobCell, groupIn, halves, validJob, headerOf, axisTests}
 use Rattle.numbers.specs.Value.{prime, IsModulus}
 use Rattle.job.proofs.Jobs.{valid-parts, valid-modulus, valid-sizes}

@@ -4,11 +4,11 @@ use mathlib.Core.Bool.{Bool, true, false, _&&_}
 use mathlib.Core.List.{List}
 use Prim.Native.Nat.{ℕ, _*_, _/_, _<_, _≤_}
 use native.Mathlib.Omega.{arith}
-use lib.ListN.{length, getD}
+use lib.ListN.{getD}
 use lib.Dec.{T, leb, leb→le, ltb, ltb→lt, eqb}
 use borrow.Author.Tests.{lt-ltb, le-ltb, eq-eqb}
 use Rattle.algebra.specs.lines.Kinds.{Kind.antisymmetric}
-use Rattle.algebra.specs.cells.Cell.{J, Inside, Sym, Sym.sym as op, one, Group, full, span, imageOf, pointImage, impliedValue, below, everyPlace, imply, storedT}
+use Rattle.algebra.specs.cells.Cell.{J, Inside, Sym, Sym.sym as op, one, Group, span, imageOf, pointImage, impliedValue, below, everyPlace, imply, storedT}
 use Rattle.algebra.proofs.ring.Bool.{and-l, and-r, imply-iff, below-by}
 use Rattle.algebra.proofs.cells.CellSym.{square, image-one, image-image, point-one, implied-one, implied-image, implied-twice}
 use Rattle.algebra.proofs.cells.CellTests.{every-place-by}
@@ -25,15 +25,10 @@ use Rattle.cell.specs.TestSteps.{IsStored, samePair, isZero, imageAgrees, point
 use Rattle.cell.proofs.Tests.{true-iff}
 use Rattle.cell.proofs.LineKinds.{ends-left-out, odd-antisymmetric}
 use Rattle.cell.proofs.PlaceLaws.{odd-is}
-use Rattle.volume.proofs.consistent.Passing.{below-one, below-cong, by-rows}
+use Rattle.algebra.proofs.cells.Passing.{below-one, below-cong, by-rows}
 use Rattle.cell.proofs.VolumeLayout.{number-even, number-odd}
 use Rattle.cell.proofs.Reading.{same-iff, lineAt}
 use Rattle.cell.proofs.OperationLaws.{by-group}
-
--- ---- the identity is the first operation
-
-pub first-full : (n : ℕ) → n < 5 → (1 ≤ length (full (groupOf n))) × (one ≡ getD (full (groupOf n)) 0 one)
-first-full = by-group (λ g. (1 ≤ length (full g)) × (one ≡ getD (full g) 0 one)) (omega arith, refl) (omega arith, refl) (omega arith, refl) (omega arith, refl) (omega arith, refl)
 
 -- ---- stored indices
 

@@ -5,16 +5,18 @@ use mathlib.Core.List.{List}
 use Prim.Native.Nat.{ℕ, _+_, _/_}
 use native.Mathlib.Omega.{arith}
 use lib.ListN.{length}
-use Rattle.algebra.specs.cells.Cell.{J, Group}
+use Rattle.algebra.specs.cells.Cell.{J, Group, Cell}
+use Rattle.algebra.specs.cells.CellSteps.{Lawful}
 use Rattle.algebra.proofs.ring.Laws.{along}
 use Rattle.algebra.proofs.cells.CellTests.{Positive}
-use Rattle.numbers.specs.Value.{prime, IsModulus, field, conj, i, half, real}
+use Rattle.numbers.specs.Value.{prime, IsModulus, Value, field, conj}
 use Rattle.slices.specs.Pairs.{Below}
 use Rattle.slices.specs.Sweep.{Layout, sweep, onLists}
 use Rattle.lengths.specs.Admitted.{AdmittedLength}
 use Rattle.line.proofs.kinds.Axes.{axis-laws}
 use Rattle.cell.specs.Volume.{volumeLength, factorsIn, packFactors, mapIn, packMap, mapOf, factorsOf}
 use Rattle.cell.specs.Consistency.{consistentFactors, consistentMap}
+use Rattle.cell.specs.Exactly.{RealMap, ObeysGroup}
 use Rattle.cell.specs.declared.operations.UnitCell.{UnitCell}
 use Rattle.cell.specs.Operations.{cellGroup, cellHalves}
 use Rattle.volume_transform.specs.Turns.{turns}
@@ -64,29 +66,39 @@ module _ (g : Group) (a : J) (m direction : ℕ) where
   pub run-backward : (d : List ℕ) → run 0 first (run first second (run (first + second) third d)) ≡ pass (alongL g a) (turnedL g a m direction) (pass (alongH g a) (turnedH g a m direction) (pass (alongK g a) (turnedK g a m direction) d))
   run-backward d = run-l _ ∙ ap (pass (alongL g a) (turnedL g a m direction)) (run-h _ ∙ ap (pass (alongH g a) (turnedH g a m direction)) (run-k d))
 
+-- ---- all lines of a packed cell
+
+module _ (g : Group) (m : ℕ) (is : IsModulus m) {n1 n2 n3 : ℕ} (s1 : AdmittedLength n1) (s2 : AdmittedLength n2) (s3 : AdmittedLength n3) where
+  abbrev a : J
+  a = (n1 / 2, n2 / 2, n3 / 2)
+
+  -- in the order of their numbers
+  pub synthesised-cell : (F : Cell (Value m)) → Lawful (field m) (conj m) a g F → turns (λ n u. jobTurn g a m 0 (lineOfTurn g a 0 n) u) 0 (lineCount g a) (packFactors g a m F) ≡ packMap g a m (mapOf m a F)
+  synthesised-cell F o = turned-along g a m 0 (lineCount g a) (packFactors g a m F) ∙ run-forward g a m 0 _ ∙ synthesis-passes g a m (axis-laws m is s1) (axis-laws m is s2) (axis-laws m is s3) F o
+
+  -- the lines along k, then those along h, then those along l
+  pub analysed-cell : (M : Cell (Value m)) → RealMap g a m M → ObeysGroup g a m M → turns (λ n u. jobTurn g a m 1 (lineOfTurn g a 1 n) u) 0 (lineCount g a) (packMap g a m M) ≡ packFactors g a m (factorsOf m a M)
+  analysed-cell M r o = turned-back g a m 1 (packMap g a m M) ∙ run-backward g a m 1 (packMap g a m M) ∙ analysis-passes g a m (axis-laws m is s1) (axis-laws m is s2) (axis-laws m is s3) M r o
+
 -- ---- a checked job
 
 module _ (m : ℕ) (is : IsModulus m) {cell : UnitCell} {f1 f2 f3 : ℕ} (job : JobSizes cell f1 f2 f3) (v : List ℕ) (len : length v ≡ volumeLength (cellGroup cell) (cellHalves cell)) (small : Below (prime m) v) where
-  abbrev g : Group
-  g = cellGroup cell
+  abbrev group : Group
+  group = cellGroup cell
 
-  abbrev a : J
-  a = cellHalves cell
+  abbrev halves : J
+  halves = cellHalves cell
 
-  long : Positive a
+  abbrev all : ℕ → List ℕ → List ℕ
+  all direction v = turns (λ n u. jobTurn group halves m direction (lineOfTurn group halves direction n) u) 0 (lineCount group halves) v
+
+  long : Positive halves
   long = (job .first .positive, job .second .positive, job .third .positive)
 
-  -- all lines, in the order of their numbers
-  pub synthesised : consistentFactors g a m v ≡ true → turns (λ n u. jobTurn g a m 0 (lineOfTurn g a 0 n) u) 0 (lineCount g a) v ≡ packMap g a m (mapOf m a (factorsIn g a m v))
-  synthesised e =
-      let r = consistent-read g a long m v len small e in
-      turned-along g a m 0 (lineCount g a) v ∙ ap (turns (jobTurn g a m 0) 0 (lineCount g a)) (sym (r .1)) ∙ run-forward g a m 0 _
-      ∙ synthesis-passes g a m (axis-laws m is (job .first)) (axis-laws m is (job .second)) (axis-laws m is (job .third)) (factorsIn g a m v) (r .0)
+  pub synthesised : consistentFactors group halves m v ≡ true → all 0 v ≡ packMap group halves m (mapOf m halves (factorsIn group halves m v))
+  synthesised e = let r = consistent-read group halves long m v len small e in
+      ap (all 0) (sym (r .1)) ∙ synthesised-cell group m is (job .first) (job .second) (job .third) (factorsIn group halves m v) (r .0)
 
-  -- the lines along k, then those along h, then those along l
-  pub analysed : consistentMap g a v ≡ true → turns (λ n u. jobTurn g a m 1 (lineOfTurn g a 1 n) u) 0 (lineCount g a) v ≡ packFactors g a m (factorsOf m a (mapIn g a m v))
-  analysed e =
-      let r = consistent-map-read g a long m v len small e in
-      turned-back g a m 1 v ∙ run-backward g a m 1 v
-      ∙ ap (λ u. sweep (alongL g a) (onLists (alongL g a) (turnedL g a m 1)) (alongL g a .count) (sweep (alongH g a) (onLists (alongH g a) (turnedH g a m 1)) (alongH g a .count) (sweep (alongK g a) (onLists (alongK g a) (turnedK g a m 1)) (alongK g a .count) u))) (sym (r .2))
-      ∙ analysis-passes g a m (axis-laws m is (job .first)) (axis-laws m is (job .second)) (axis-laws m is (job .third)) (mapIn g a m v) (r .0) (r .1)
+  pub analysed : consistentMap group halves v ≡ true → all 1 v ≡ packFactors group halves m (factorsOf m halves (mapIn group halves m v))
+  analysed e = let r = consistent-map-read group halves long m v len small e in
+      ap (all 1) (sym (r .2)) ∙ analysed-cell group m is (job .first) (job .second) (job .third) (mapIn group halves m v) (r .0) (r .1)

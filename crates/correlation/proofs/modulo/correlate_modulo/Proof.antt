@@ -10,12 +10,13 @@ use Rattle.algebra.specs.cells.Cell.{P1}
 use Rattle.numbers.specs.Value.{prime}
 use Rattle.slices.specs.Pairs.{Below}
 use Rattle.lengths.specs.Lengths.{scratchLength}
+use Rattle.lengths.proofs.Scratch.{cleared-long, cleared-again}
 use Rattle.cell.specs.Volume.{packFactors}
 use Rattle.cell.proofs.Reading.{length-factors, below-factors}
 use Rattle.cell.proofs.VolumeLayout.{length-map}
 use Rattle.correlation.specs.Steps.{axesHalves}
 use Rattle.correlation.proofs.Correlated.{G}
-use Rattle.correlation.proofs.Turned.{cleared-long, cleared-twice, lent, multiplied-factors, all-synthesised}
+use Rattle.correlation.proofs.Turned.{lent, multiplied-factors, all-synthesised}
 use Rattle.correlation.proofs.modulo.correlate_modulo.Statement.{statement}
 use Rattle.correlation.proofs.modulo.correlate_modulo.Tie as tie
 
@@ -92,7 +93,7 @@ returns c =
     let s = a1 .before .before .before .before .before .before in
     let a = s .args in (
       t .transform-volume .ensures .0 ∙ all-synthesised (a .m) (s .pre .0 .0) (a .axes) (s .pre .0 .1) (now (a .a)) (now (a .b)) (p .plan-of .result) (p .plan-of .ensures) (product cp),
-      cleared-twice (now (a .scratch)) (cleared-twice (now (a .scratch)) (a1 .analyse .ensures .1) (a2 .analyse2 .ensures .1)) (t .transform-volume .ensures .1),
+      cleared-again (now (a .scratch)) (cleared-again (now (a .scratch)) (a1 .analyse .ensures .1) (a2 .analyse2 .ensures .1)) (t .transform-volume .ensures .1),
     )
 
 same-length : tie.Need-same-length

@@ -6,8 +6,8 @@ use native.Mathlib.Omega.{arith}
 use Rattle.algebra.specs.cells.Cell.{one, full, imageOf}
 use Rattle.factor_file.specs.File.{noLater}
 use Rattle.cell.specs.Operations.{cellGroup, cellHalves, tripleOf, symOf}
-use Rattle.volume.proofs.consistent.Passing.{PassingMembers, members-second, members-next, members-stop, members-done}
-use Rattle.volume.proofs.consistent.TestLaws.{first-full}
+use Rattle.cell.proofs.OperationLaws.{first-full}
+use Rattle.algebra.proofs.cells.Passing.{PassingMembers, members-second, members-next, members-stop, members-done}
 use Rattle.factor_file.proofs.orbits.PlaceOrder.{identity-no-later}
 use Rattle.factor_file.proofs.orbits.none_before.Statement.{statement}
 use Rattle.factor_file.proofs.orbits.none_before.Tie as tie

@@ -6,7 +6,7 @@ use Prim.Native.Nat.{ℕ, _+_, _-_}
 use native.Mathlib.Omega.{arith}
 use lib.Dec.{ltb}
 use lib.ListN.{getD}
-use Rattle.volume.proofs.consistent.Passing.{Passing, passing-start, passing-next, passing-stop, passing-done}
+use Rattle.algebra.proofs.cells.Passing.{Passing, passing-start, passing-next, passing-stop, passing-done}
 use Rattle.job.proofs.check.Numbers.{number-above, number-below}
 use Rattle.printing.proofs.row_values.are_residues.Statement.{statement}
 use Rattle.printing.proofs.row_values.are_residues.Tie as tie

@@ -6,7 +6,7 @@ use native.Mathlib.Omega.{arith}
 use lib.Dec.{ltb}
 use lib.ListN.{getD}
 use borrow.Author.Tests.{ltb-true}
-use Rattle.volume.proofs.consistent.Passing.{passed-at}
+use Rattle.algebra.proofs.cells.Passing.{passed-at}
 use Rattle.output.specs.Output.{each}
 use Rattle.output.specs.Written.{Wrote}
 use Rattle.output.proofs.Writing.{each-none, each-ends, each-next, each-done, wrote-length}

@@ -2,7 +2,7 @@
 use Prim.Native.Nat.{_-_}
 use native.Mathlib.Omega.{arith}
 use Rattle.cell.specs.Operations.{cellLengths}
-use Rattle.volume.proofs.consistent.Passing.{Passing, passing-start, passing-next, passing-stop, passing-done}
+use Rattle.algebra.proofs.cells.Passing.{Passing, passing-start, passing-next, passing-stop, passing-done}
 use Rattle.section.specs.Section.{rowWithin, planeWithin}
 use Rattle.section.proofs.check.plane_within.Statement.{statement}
 use Rattle.section.proofs.check.plane_within.Tie as tie

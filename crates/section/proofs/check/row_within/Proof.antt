@@ -11,7 +11,7 @@ use mir.ValLaws.{toZ-ofZ}
 use denote.Ref.{now}
 use Rattle.cell.specs.Operations.{cellLengths}
 use Rattle.combined.specs.CombinedMap.{limit}
-use Rattle.volume.proofs.consistent.Passing.{Passing, passing-start, passing-next, passing-stop, passing-done}
+use Rattle.algebra.proofs.cells.Passing.{Passing, passing-start, passing-next, passing-stop, passing-done}
 use Rattle.section.specs.Section.{sectionAt}
 use Rattle.section.proofs.Planes.{asked}
 use Rattle.section.proofs.check.row_within.Statement.{statement}

@@ -1,7 +1,7 @@
 -- The rows before x have residues.
 use Prim.Native.Nat.{_-_}
 use native.Mathlib.Omega.{arith}
-use Rattle.volume.proofs.consistent.Passing.{Passing, passing-start, passing-next, passing-stop, passing-done}
+use Rattle.algebra.proofs.cells.Passing.{Passing, passing-start, passing-next, passing-stop, passing-done}
 use Rattle.printing.specs.Text.{rowResidues}
 use Rattle.printing.proofs.map_text.residues.plane_residues.Statement.{statement}
 use Rattle.printing.proofs.map_text.residues.plane_residues.Tie as tie

@@ -7,7 +7,7 @@ use Rattle.algebra.specs.cells.Cell.{below}
 use Rattle.cell.specs.declared.operations.UnitCell.{UnitCell}
 use Rattle.cell.specs.Operations.{cellGroup, cellHalves}
 use Rattle.cell.specs.Volume.{layers}
-use Rattle.volume.proofs.consistent.Passing.{Passing, passing-start, passing-next, passing-stop, passing-done}
+use Rattle.algebra.proofs.cells.Passing.{Passing, passing-start, passing-next, passing-stop, passing-done}
 use Rattle.job.specs.Job.{groupIn, halves}
 use Rattle.printing.specs.Text.{rowResidues, printsResidues}
 use Rattle.printing.proofs.map_text.residues.prints_residues.Statement.{statement}

@@ -3,7 +3,7 @@ use borrow.Author.Needs.{needs}
 use Rattle.cell.specs.Consistency.{consistentFactors}
 use Rattle.cell.specs.Operations.{cellGroup, cellHalves}
 use Rattle.cell.proofs.LineKinds.{is-kind, other-kind}
-use Rattle.volume.proofs.consistent.Passing.{both-passed, first-failed}
+use Rattle.algebra.proofs.cells.Passing.{both-passed, first-failed}
 use Rattle.volume.proofs.consistent.TestLaws.{ends-tested, ends-none}
 use Rattle.volume.proofs.consistent.factor_test.consistent_factors.Statement.{statement}
 use Rattle.volume.proofs.consistent.factor_test.consistent_factors.Tie as tie

@@ -4,7 +4,7 @@ use Prim.Native.Nat.{suc, _-_, _/_}
 use native.Mathlib.Omega.{arith}
 use Rattle.cell.specs.Operations.{cellGroup, cellHalves}
 use Rattle.cell.specs.TestSteps.{emptyEnds}
-use Rattle.volume.proofs.consistent.Passing.{Passing, passing-start, passing-next, passing-stop, passing-done}
+use Rattle.algebra.proofs.cells.Passing.{Passing, passing-start, passing-next, passing-stop, passing-done}
 use Rattle.volume.proofs.consistent.factor_test.empty_row.Statement.{statement}
 use Rattle.volume.proofs.consistent.factor_test.empty_row.Tie as tie
 

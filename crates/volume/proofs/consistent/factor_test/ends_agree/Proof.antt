@@ -2,7 +2,7 @@
 use borrow.Author.Needs.{needs}
 use Prim.Native.Nat.{_/_}
 use native.Mathlib.Omega.{arith}
-use Rattle.volume.proofs.consistent.Passing.{both-passed, first-failed}
+use Rattle.algebra.proofs.cells.Passing.{both-passed, first-failed}
 use Rattle.volume.proofs.consistent.factor_test.ends_agree.Statement.{statement}
 use Rattle.volume.proofs.consistent.factor_test.ends_agree.Tie as tie
 

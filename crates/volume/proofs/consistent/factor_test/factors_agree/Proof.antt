@@ -6,7 +6,7 @@ use native.Mathlib.Omega.{arith}
 use Rattle.algebra.specs.cells.Cell.{span, below}
 use Rattle.cell.specs.Consistency.{lineAgrees}
 use Rattle.cell.specs.Operations.{cellGroup, cellHalves}
-use Rattle.volume.proofs.consistent.Passing.{Passing, passing-start, passing-next, passing-stop, passing-done, by-layers}
+use Rattle.algebra.proofs.cells.Passing.{Passing, passing-start, passing-next, passing-stop, passing-done, by-layers}
 use Rattle.volume.proofs.consistent.factor_test.factors_agree.Statement.{statement}
 use Rattle.volume.proofs.consistent.factor_test.factors_agree.Tie as tie
 

@@ -5,8 +5,9 @@ use native.Mathlib.Omega.{arith}
 use Rattle.algebra.specs.cells.Cell.{one, full}
 use Rattle.cell.specs.Operations.{cellGroup, cellHalves, tripleOf}
 use Rattle.cell.specs.TestSteps.{imageAgrees}
-use Rattle.volume.proofs.consistent.Passing.{PassingMembers, members-second, members-next, members-stop, members-done}
-use Rattle.volume.proofs.consistent.TestLaws.{first-full, identity-agrees}
+use Rattle.cell.proofs.OperationLaws.{first-full}
+use Rattle.algebra.proofs.cells.Passing.{PassingMembers, members-second, members-next, members-stop, members-done}
+use Rattle.volume.proofs.consistent.TestLaws.{identity-agrees}
 use Rattle.volume.proofs.consistent.factor_test.images_agree.Statement.{statement}
 use Rattle.volume.proofs.consistent.factor_test.images_agree.Tie as tie
 

@@ -5,7 +5,7 @@ use Rattle.algebra.specs.cells.Cell.{negI, below}
 use Rattle.algebra.proofs.cells.CellAxis.{neg-pos}
 use Rattle.cell.specs.Consistency.{lineAgrees}
 use Rattle.cell.specs.Operations.{cellGroup, cellHalves}
-use Rattle.volume.proofs.consistent.Passing.{passed-at, Passing, passing-start, passing-next, passing-stop, passing-done}
+use Rattle.algebra.proofs.cells.Passing.{passed-at, Passing, passing-start, passing-next, passing-stop, passing-done}
 use Rattle.volume.proofs.consistent.factor_test.layer_agrees.Statement.{statement}
 use Rattle.volume.proofs.consistent.factor_test.layer_agrees.Tie as tie
 

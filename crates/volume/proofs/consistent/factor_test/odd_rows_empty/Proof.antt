@@ -11,7 +11,7 @@ use Rattle.cell.specs.Operations.{cellGroup, cellHalves}
 use Rattle.cell.specs.TestSteps.{emptyIfLeftOut}
 use Rattle.cell.proofs.LineKinds.{odd-antisymmetric, even-other}
 use Rattle.cell.proofs.PlaceLaws.{even-is, odd-is}
-use Rattle.volume.proofs.consistent.Passing.{Passing, passing-start, passing-next, passing-stop, passing-done}
+use Rattle.algebra.proofs.cells.Passing.{Passing, passing-start, passing-next, passing-stop, passing-done}
 use Rattle.volume.proofs.consistent.TestLaws.{has-ends, ends-left}
 use Rattle.volume.proofs.consistent.factor_test.odd_rows_empty.Statement.{statement}
 use Rattle.volume.proofs.consistent.factor_test.odd_rows_empty.Tie as tie

@@ -3,7 +3,7 @@ use Prim.Native.Nat.{suc, _-_, _/_}
 use native.Mathlib.Omega.{arith}
 use Rattle.cell.specs.Consistency.{lineAgrees}
 use Rattle.cell.specs.Operations.{cellGroup, cellHalves}
-use Rattle.volume.proofs.consistent.Passing.{passed-at, below-ends, Passing, passing-start, passing-next, passing-stop, passing-done}
+use Rattle.algebra.proofs.cells.Passing.{passed-at, below-ends, Passing, passing-start, passing-next, passing-stop, passing-done}
 use Rattle.volume.proofs.consistent.factor_test.row_agrees.Statement.{statement}
 use Rattle.volume.proofs.consistent.factor_test.row_agrees.Tie as tie
 

@@ -6,7 +6,7 @@ use native.Mathlib.Omega.{arith}
 use Rattle.algebra.specs.cells.Cell.{planes, below}
 use Rattle.cell.specs.Operations.{cellGroup, cellHalves}
 use Rattle.cell.specs.TestSteps.{rowAgrees}
-use Rattle.volume.proofs.consistent.Passing.{Passing, passing-start, passing-next, passing-stop, passing-done}
+use Rattle.algebra.proofs.cells.Passing.{Passing, passing-start, passing-next, passing-stop, passing-done}
 use Rattle.volume.proofs.consistent.TestLaws.{map-tested}
 use Rattle.volume.proofs.consistent.map_test.consistent_map.Statement.{statement}
 use Rattle.volume.proofs.consistent.map_test.consistent_map.Tie as tie

@@ -9,7 +9,7 @@ use Rattle.algebra.specs.cells.Cell.{one, ops}
 use Rattle.cell.specs.Operations.{cellGroup, cellHalves}
 use Rattle.cell.specs.TestSteps.{pointImageAgrees}
 use Rattle.cell.proofs.OperationLaws.{first-own, order-least}
-use Rattle.volume.proofs.consistent.Passing.{PassingMembers, members-second, members-next, members-done}
+use Rattle.algebra.proofs.cells.Passing.{PassingMembers, members-second, members-next, members-done}
 use Rattle.volume.proofs.consistent.TestLaws.{identity-point, plane-skipped}
 use Rattle.volume.proofs.consistent.map_test.meets_stored.Statement.{statement}
 use Rattle.volume.proofs.consistent.map_test.meets_stored.Tie as tie

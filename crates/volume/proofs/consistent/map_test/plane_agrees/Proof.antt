@@ -4,7 +4,7 @@ use native.Mathlib.Omega.{arith}
 use Rattle.cell.specs.Operations.{cellGroup, cellHalves}
 use Rattle.cell.specs.TestSteps.{rowAgrees}
 use Rattle.cell.proofs.StoredFactors.{layers-most}
-use Rattle.volume.proofs.consistent.Passing.{Passing, passing-start, passing-next, passing-stop, passing-done}
+use Rattle.algebra.proofs.cells.Passing.{Passing, passing-start, passing-next, passing-stop, passing-done}
 use Rattle.volume.proofs.consistent.map_test.plane_agrees.Statement.{statement}
 use Rattle.volume.proofs.consistent.map_test.plane_agrees.Tie as tie
 

@@ -6,7 +6,7 @@ use Rattle.algebra.specs.cells.Cell.{one, ops}
 use Rattle.cell.specs.Operations.{cellGroup, cellHalves, pointOf}
 use Rattle.cell.specs.TestSteps.{pointImageAgrees}
 use Rattle.cell.proofs.OperationLaws.{first-own, order-least}
-use Rattle.volume.proofs.consistent.Passing.{PassingMembers, members-second, members-next, members-stop, members-done}
+use Rattle.algebra.proofs.cells.Passing.{PassingMembers, members-second, members-next, members-stop, members-done}
 use Rattle.volume.proofs.consistent.TestLaws.{identity-point}
 use Rattle.volume.proofs.consistent.map_test.point_agrees.Statement.{statement}
 use Rattle.volume.proofs.consistent.map_test.point_agrees.Tie as tie

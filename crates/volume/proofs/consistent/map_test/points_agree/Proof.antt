@@ -2,10 +2,11 @@
 use mathlib.Core.Path.{sym}
 use Prim.Native.Nat.{_*_, _-_, _/_}
 use native.Mathlib.Omega.{arith}
+use borrow.Author.Tests.{not-true}
 use Rattle.cell.specs.Consistency.{pointAgrees}
 use Rattle.cell.specs.Operations.{cellGroup, cellHalves}
 use Rattle.cell.proofs.StoredFactors.{layers-most}
-use Rattle.volume.proofs.consistent.Passing.{Passing, passing-start, passing-next, passing-stop, passing-done, below-all, not-true}
+use Rattle.algebra.proofs.cells.Passing.{Passing, passing-start, passing-next, passing-stop, passing-done, below-all}
 use Rattle.volume.proofs.consistent.map_test.points_agree.Statement.{statement}
 use Rattle.volume.proofs.consistent.map_test.points_agree.Tie as tie
 

@@ -2,7 +2,7 @@
 use borrow.Author.Needs.{needs}
 use native.Mathlib.Omega.{arith}
 use Rattle.cell.specs.Operations.{cellGroup, cellHalves}
-use Rattle.volume.proofs.consistent.Passing.{both-passed, first-failed}
+use Rattle.algebra.proofs.cells.Passing.{both-passed, first-failed}
 use Rattle.cell.proofs.StoredFactors.{pair-inside}
 use Rattle.volume.proofs.consistent.TestLaws.{row-ends}
 use Rattle.volume.proofs.consistent.map_test.row_agrees.Statement.{statement}

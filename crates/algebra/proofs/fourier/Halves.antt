@@ -1,18 +1,17 @@
 -- Sums over a whole line of what is the same at t and -t: over its stored half, where all but the ends count twice.
 use mathlib.Core.Path.{_≡_, refl, sym, _∙_, ap, ap₂}
-use mathlib.Core.Bool.{Bool, true, false, cond}
+use mathlib.Core.Bool.{Bool, true, false}
 use mathlib.Core.List.{[], _∷_}
 use Prim.Native.Nat.{ℕ, zero, suc, _+_, _*_, _-_, _<_}
 use native.Mathlib.Omega.{arith}
-use lib.Dec.{eqb}
 use borrow.Author.Tests.{eq-eqb, ne-eqb}
 use Rattle.algebra.specs.ring.Ring.{Ops, sum}
 use Rattle.algebra.specs.ring.RingLaws.{CRing}
+use Rattle.algebra.specs.fourier.Halves.{doubled, between}
 use Rattle.algebra.specs.cells.Cell.{negI, halfI, flip, shifted}
 use Rattle.algebra.proofs.ring.Laws.{along}
 use Rattle.algebra.proofs.ring.Solver.{ring, quote}
 use Rattle.algebra.proofs.fourier.Sums.{sum-cong, sum-add, sum-append, sum-first, sum-rev, sum-neg-mod, sum-shift-mod}
-use Rattle.power.specs.PowerSteps.{doubled, between}
 
 pub between-inner : (A w : ℕ) → 0 < w → w < A → between A w ≡ true
 between-inner A w p l = rw (ne-eqb w 0 (λ e. omega arith), ne-eqb w A (λ e. omega arith))

@@ -2,17 +2,17 @@
 -- so does a loop over the members of a list, and one over the places of a volume as they lie in it.
 use mathlib.Core.Path.{_≡_, refl, sym, _∙_, ap, subst}
 use mathlib.Core.Logic.{⊎-elim}
-use mathlib.Core.Bool.{Bool, true, false, _&&_, not}
+use mathlib.Core.Bool.{Bool, true, false, _&&_}
 use mathlib.Core.List.{List, [], _∷_}
 use Prim.Native.Nat.{ℕ, zero, suc, _+_, _<_, _≤_}
+use native.Mathlib.Nat.{eq-or-lt-of-le}
 use native.Mathlib.Numerals.{add-one}
 use native.Mathlib.Omega.{arith}
 use lib.Dec.{T}
 use lib.ListN.{length, getD}
 use Rattle.algebra.specs.cells.Cell.{J, below, every, everyPlace}
 use Rattle.algebra.proofs.ring.Bool.{and-l, and-r, and-i, same-test, below-at, below-by}
-use Rattle.slices.proofs.Pairs.{lt-or-ge}
 use Rattle.algebra.proofs.cells.CellTests.{every-place-at, every-place-by}
 
 -- ---- one more number, the first that fails, and one of those that passed
 
@@ -30,9 +30,6 @@ passed-at P n k e l = same-test (P k) true (λ t. tt) (λ t. below-at n P k (sub
 pub below-all : (P : ℕ → Bool) (n : ℕ) → ((k : ℕ) → P k ≡ true) → below n P ≡ true
 below-all P n h = same-test (below n P) true (λ t. tt) (λ t. below-by n P (λ k l. subst T (sym (h k)) tt))
 
-at-last : (P : ℕ → Bool) (b k : ℕ) → k < suc b → b ≤ k → T (P b) → T (P k)
-at-last P b k l h t = subst (λ q. T (P q)) {x = b} {y = k} (omega arith) t
-
 pub below-ends : (P : ℕ → Bool) (b : ℕ) → ((k : ℕ) → 0 < k → k < b → P k ≡ true) → {r : Bool} → r ≡ (P 0 && P b) → r ≡ below (suc b) P
 below-ends P b inner e = e ∙ same-test (P 0 && P b) (below (suc b) P)
     (λ t. below-by (suc b) P (λ k l. each t k l))
@@ -40,7 +37,7 @@ below-ends P b inner e = e ∙ same-test (P 0 && P b) (below (suc b) P)
   where
     each : T (P 0 && P b) → (k : ℕ) → k < suc b → T (P k)
     each t zero l = and-l (P 0) (P b) t
-    each t (suc k) l = ⊎-elim (λ h. subst T (sym (inner (suc k) (omega arith) h)) tt) (λ h. at-last P b (suc k) l h (and-r (P 0) (P b) t)) (lt-or-ge (suc k) b)
+    each t (suc k) l = ⊎-elim (λ (e : suc k ≡ b). subst (λ q. T (P q)) (sym e) (and-r (P 0) (P b) t)) (λ (h : suc k < b). subst T (sym (inner (suc k) (omega arith) h)) tt) (eq-or-lt-of-le (omega arith))
 
 -- The invariant of a loop over the numbers below n: those below k have passed.
 pub record Passing (P : ℕ → Bool) (n k : ℕ) : Type 0 where
@@ -61,10 +58,6 @@ module _ {P : ℕ → Bool} {n k : ℕ} where
 
   pub passing-done : Passing P n k → n ≤ k → true ≡ below n P
   passing-done s l = let e : k ≡ n = omega arith in sym (ap (λ q. below q P) (sym e) ∙ s .passed)
-
-pub not-true : (b : Bool) → not b ≡ true → b ≡ false
-not-true true e = sym e
-not-true false e = refl
 
 -- ---- two tests, the second made only if the first is passed; x is what the code found of it
 

@@ -1,12 +1,12 @@
 -- The norm a² + b² of a value a + b i: it is the value times its conjugate, and units do not change it.
-use mathlib.Core.Path.{_≡_, refl, sym, _∙_, ap, ap₂}
+use mathlib.Core.Path.{_≡_, refl, _∙_, ap}
 use mathlib.Core.Bool.{Bool, true, false}
 use mathlib.Core.List.{[], _∷_}
-use Prim.Native.Nat.{ℕ, zero, suc, _+_, _*_}
+use Prim.Native.Nat.{ℕ, zero, suc, _+_}
 use Rattle.algebra.specs.ring.Ring.{Ops, pow, sum, gauss, conj, imag}
 use Rattle.algebra.specs.ring.RingLaws.{CRing}
 use Rattle.algebra.specs.cells.CellPack.{ofPart}
 use Rattle.algebra.proofs.ring.Solver.{ring, quote}
 
 module _ {R : Type 0} (𝓞 : Ops R) where
   abbrev pub norm : R × R → R

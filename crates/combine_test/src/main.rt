@@ -43,7 +43,7 @@ fn high(x: i64) -> u32 {
 }
 
 // What a call answered, and the checksums of the low parts of an output and of the high ones.
-fn print_output(number: u32, count: u32, v: &[i64])
+fn print_output(answer: FillAnswer, v: &[i64])
     requires { ⌜ length (now v) ≤ 256 ⌝ }
 {
     let mut lows = [0u32; 256];
@@ -54,29 +54,18 @@ fn print_output(number: u32, count: u32, v: &[i64])
         highs[j] = high(v[j]);
         j += 1;
     }
-    let said = [
-        number,
-        count,
+    let left = [
         test_io::checksum(&lows[..j]),
         test_io::checksum(&highs[..j]),
     ];
-    test_io::print_line(&said);
-}
-
-fn print_answer(answer: FillAnswer, output: &[i64])
-    requires { ⌜ length (now output) ≤ 256 ⌝ }
-{
-    match answer {
-        FillAnswer::Written(n) => print_output(0, (n % 4294967296) as u32, output),
-        FillAnswer::Refused(refusal) => print_output(refusals::number_of(refusal), 0, output),
-    }
+    test_io::print_answer(answer, &left);
 }
 
 fn run_call(first: Job, first_map: &[u32], second: Job, second_map: &[u32], output: &mut [i64])
     requires { ⌜ length (now output) ≤ 256 ⌝ }
 {
     let answer = combining::combine_maps(first, first_map, second, second_map, output);
-    print_answer(answer, &output[..])
+    print_output(answer, &output[..])
 }
 
 // Reads the maps of a call, of the lengths that it names, and lends an output of nines.

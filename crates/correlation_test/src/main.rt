@@ -3,54 +3,27 @@
 // tools/correlation_cases.py writes the calls and says what a record holds, and computes by brute force what this program must print.
 //
 // A count is one of sixteen, the limit, its neighbours and the ends of 64 bits among them.
-use output::FillAnswer;
 ghost use mathlib.Core.Path.{_≡_};
 ghost use lib.ListN.{length};
 
-fn count_of(code: u8) -> i64 {
-    match code {
-        0 => -9223372036854775808,
-        1 => -13063485601,
-        2 => -13063485600,
-        3 => -114295,
-        4 => -3,
-        5 => -2,
-        6 => -1,
-        7 => 0,
-        8 => 1,
-        9 => 2,
-        10 => 5,
-        11 => 114296,
-        12 => 6531742800,
-        13 => 13063485600,
-        14 => 13063485601,
-        _ => 9223372036854775807,
-    }
-}
-
-fn take_counts(codes: &[u8], map: &mut [i64])
-    requires { ⌜ length (now codes) ≡ length (now map) ⌝ }
-{
-    let mut j: usize = 0;
-    while j < map.len() {
-        map[j] = count_of(codes[j]);
-        j += 1;
-    }
-}
-
-fn number(answer: FillAnswer) -> u32 {
-    match answer {
-        FillAnswer::Written(_) => 0,
-        FillAnswer::Refused(r) => refusals::number_of(r),
-    }
-}
-
-fn count(answer: FillAnswer) -> u32 {
-    match answer {
-        FillAnswer::Written(n) => (n % 4294967296) as u32,
-        FillAnswer::Refused(_) => 0,
-    }
-}
+const COUNTS: [i64; 16] = [
+    -9223372036854775808,
+    -13063485601,
+    -13063485600,
+    -114295,
+    -3,
+    -2,
+    -1,
+    0,
+    1,
+    2,
+    5,
+    114296,
+    6531742800,
+    13063485600,
+    13063485601,
+    9223372036854775807,
+];
 
 // One call on the buffers, and all that they hold then.
 fn run_call(
@@ -81,15 +54,13 @@ fn run_call(
         work3,
         scratch,
     );
-    let said = [
-        number(answer),
-        count(answer),
+    let left = [
         test_io::checksum(work1),
         test_io::checksum(work2),
         test_io::checksum(work3),
         test_io::checksum(scratch),
     ];
-    test_io::print_line(&said);
+    test_io::print_answer(answer, &left);
     test_io::print_signed_line(output);
 }
 
@@ -121,28 +92,21 @@ fn lend(head: &[u32], lists: &[u8], a: &[i64], b: &[i64])
 }
 
 // The second map of a call by its codes.
-fn lend_second(head: &[u32], lists: &[u8], a: &[i64], codes: &[u8], b: &mut [i64])
-    requires { ⌜ (length (now lists) ≡ 24) × (length (now codes) ≡ length (now b)) ⌝ }
+fn lend_second(head: &[u32], lists: &[u8], a: &[i64], b: &mut [i64])
+    requires { ⌜ length (now lists) ≡ 24 ⌝ }
 {
-    take_counts(codes, b);
+    test_io::read_named(&COUNTS, b);
     lend(head, lists, a, b)
 }
 
-// The first map of a call by its codes, and the codes of the second read.
-fn lend_first(head: &[u32], lists: &[u8], codes: &[u8], a: &mut [i64])
-    requires { ⌜ (length (now lists) ≡ 24) × (length (now codes) ≡ length (now a)) ⌝ }
+// The first map of a call by its codes, then the second.
+fn lend_first(head: &[u32], lists: &[u8], a: &mut [i64])
+    requires { ⌜ length (now lists) ≡ 24 ⌝ }
 {
-    take_counts(codes, a);
-    let mut others = [0u8; 256];
+    test_io::read_named(&COUNTS, a);
     let mut b = [0i64; 256];
     let n = test_io::length_at(head, 7, 256);
-    lend_second(
-        head,
-        lists,
-        a,
-        test_io::bytes_read(&mut others[..n]),
-        &mut b[..n],
-    )
+    lend_second(head, lists, a, &mut b[..n])
 }
 
 // Reads a call and runs it; answers whether to go on. Three lengths, those of the three lists, of the two maps, the output, the three
@@ -153,15 +117,9 @@ fn next() -> bool {
     if whole {
         let mut lists = [0u8; 24];
         test_io::read_bytes(&mut lists);
-        let mut codes = [0u8; 256];
         let mut a = [0i64; 256];
         let n = test_io::length_at(&head, 6, 256);
-        lend_first(
-            &head,
-            &lists,
-            test_io::bytes_read(&mut codes[..n]),
-            &mut a[..n],
-        );
+        lend_first(&head, &lists, &mut a[..n]);
     }
     whole
 }

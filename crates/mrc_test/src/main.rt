@@ -5,42 +5,27 @@
 // A number of the map is one of eighteen, the ends of what a float holds and of 64 bits among them.
 use cell::operations::UnitCell;
 use mrc::parameters::CellParameters;
-use output::FillAnswer;
-ghost use mathlib.Core.Path.{_≡_};
-ghost use lib.ListN.{length};
 
-fn number(code: u8) -> i64 {
-    match code {
-        0 => 0,
-        1 => 1,
-        2 => -1,
-        3 => 2,
-        4 => -3,
-        5 => 7,
-        6 => 1000,
-        7 => -43199,
-        8 => 151199,
-        9 => 16777214,
-        10 => 16777215,
-        11 => -16777215,
-        12 => 16777216,
-        13 => -16777216,
-        14 => 13063485600,
-        15 => -13063485600,
-        16 => 9223372036854775807,
-        _ => -9223372036854775808,
-    }
-}
-
-fn take_numbers(codes: &[u8], map: &mut [i64])
-    requires { ⌜ length (now codes) ≡ length (now map) ⌝ }
-{
-    let mut j: usize = 0;
-    while j < map.len() {
-        map[j] = number(codes[j]);
-        j += 1;
-    }
-}
+const NUMBERS: [i64; 18] = [
+    0,
+    1,
+    -1,
+    2,
+    -3,
+    7,
+    1000,
+    -43199,
+    151199,
+    16777214,
+    16777215,
+    -16777215,
+    16777216,
+    -16777216,
+    13063485600,
+    -13063485600,
+    9223372036854775807,
+    -9223372036854775808,
+];
 
 // The float of some bits. There is one NaN here, whatever its bits.
 fn float_of(bits: u32) -> f32 {
@@ -82,31 +67,15 @@ fn cell_of(head: &[u32]) -> UnitCell {
     }
 }
 
-fn refusal(answer: FillAnswer) -> u32 {
-    match answer {
-        FillAnswer::Written(_) => 0,
-        FillAnswer::Refused(r) => refusals::number_of(r),
-    }
-}
-
-fn count(answer: FillAnswer) -> usize {
-    match answer {
-        FillAnswer::Written(n) => n,
-        FillAnswer::Refused(_) => 0,
-    }
-}
-
 // One call on an output, and all that it holds then.
 fn run_call(head: &[u32], map: &[i64], out: &mut [u8]) {
     let answer = mrc::mrc_map(cell_of(head), map, parameters_of(head), out);
-    test_io::print_writing(refusal(answer), count(answer), out);
+    test_io::print_writing(answer, out);
 }
 
 // The map of a call by its codes, and an output of nines.
-fn lend_map(head: &[u32], codes: &[u8], map: &mut [i64])
-    requires { ⌜ length (now codes) ≡ length (now map) ⌝ }
-{
-    take_numbers(codes, map);
+fn lend_map(head: &[u32], map: &mut [i64]) {
+    test_io::read_named(&NUMBERS, map);
     let mut out = [9u8; 2048];
     let room = test_io::length_at(head, 12, 2048);
     run_call(head, map, &mut out[..room]);
@@ -117,10 +86,9 @@ fn next() -> bool {
     let mut head = [0u32; 13];
     let whole = test_io::read_numbers(&mut head);
     if whole {
-        let mut codes = [0u8; 1024];
         let mut map = [0i64; 1024];
         let n = test_io::length_at(&head, 4, 1024);
-        lend_map(&head, test_io::bytes_read(&mut codes[..n]), &mut map[..n]);
+        lend_map(&head, &mut map[..n]);
     }
     whole
 }

@@ -13,7 +13,6 @@ use factor_file::open_file;
 use job::Axis;
 use job::Job;
 use job::OpenAnswer;
-use output::FillAnswer;
 
 // What a record asks of the part of the volume that it lends; the job that goes on.
 pub fn asked(job: Job, r: &[u32], volume: &mut [u32]) -> Job
@@ -202,16 +201,6 @@ fn written(job: Job, r: &[u32], volume: &[u32]) {
 }
 
 fn write_bytes(job: Job, volume: &[u32], out: &mut [u8]) {
-    of_writing(factor_file::writer::write_file(job, volume, out), &out[..])
-}
-
-fn of_writing(answer: FillAnswer, out: &[u8]) {
-    match answer {
-        FillAnswer::Written(written) => {
-            test_io::print_writing(0, written, out);
-        }
-        FillAnswer::Refused(refusal) => {
-            test_io::print_writing(refusals::number_of(refusal), 0, out);
-        }
-    }
+    let answer = factor_file::writer::write_file(job, volume, out);
+    test_io::print_writing(answer, &out[..]);
 }

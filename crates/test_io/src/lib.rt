@@ -1,6 +1,7 @@
 // What the test programs share: numbers of the input, buffers filled, checksums, lines of numbers printed.
 use libc::STDIN_FILENO;
 use libc::STDOUT_FILENO;
+use output::FillAnswer;
 ghost use mathlib.Core.Path.{_≡_};
 ghost use Prim.Native.Nat.{ℕ, _+_, _*_, _%_, _<_, _≤_, min};
 ghost use lib.ListN.{length, getD, set, replicate, take, drop};
@@ -65,6 +66,28 @@ pub fn numbers_read(v: &mut [u32]) -> &[u32]
 {
     read_numbers(v);
     v
+}
+
+// The number that a byte names: its place in a table. 0 beyond it.
+fn named(table: &[i64], code: u8) -> i64 {
+    let i = code as usize;
+    if i < table.len() {
+        return table[i];
+    }
+    0
+}
+
+// The next numbers of the input, a byte each, which names a number of a table.
+pub fn read_named(table: &[i64], v: &mut [i64])
+    ensures { λ _. ⌜ length (now (v .exit)) ≡ length (now (v .entry)) ⌝ }
+{
+    let mut j: usize = 0;
+    while j < v.len() {
+        let mut c = [0u8; 1];
+        read_bytes(&mut c);
+        v[j] = named(table, c[0]);
+        j += 1;
+    }
 }
 
 // The number at a place of a record, 0 beyond it.
@@ -240,10 +263,30 @@ pub fn print_replay(
     print_signed_line(answers)
 }
 
-// What a writing answered and left, in three numbers.
-pub fn print_writing(number: u32, written: usize, out: &[u8]) -> usize
+// What a call that fills an output answered, the refusal's number or 0 and how many places it wrote; then numbers that tell what it left.
+// How many were printed.
+pub fn print_answer(answer: FillAnswer, left: &[u32]) -> usize
+    ensures { λ r. ⌜ r ≡ 2 + length (now (left .entry)) ⌝ }
+{
+    match answer {
+        FillAnswer::Written(n) => print_before(0, count(n), left),
+        FillAnswer::Refused(refusal) => print_before(refusals::number_of(refusal), 0, left),
+    }
+}
+
+fn print_before(number: u32, written: u32, left: &[u32]) -> usize
+    ensures { λ r. ⌜ r ≡ 2 + length (now (left .entry)) ⌝ }
+{
+    print_next(0, number);
+    print_next(1, written);
+    io::write_all(STDOUT_FILENO, b" ");
+    2 + print_line(left)
+}
+
+// The same of a writing, which leaves bytes.
+pub fn print_writing(answer: FillAnswer, out: &[u8]) -> usize
     ensures { λ r. ⌜ r ≡ 3 ⌝ }
 {
-    let said = [number, count(written), byte_checksum(out)];
-    print_line(&said)
+    let left = [byte_checksum(out)];
+    print_answer(answer, &left)
 }

@@ -8,10 +8,10 @@ use Rattle.combine_test.proofs.print_output.Statement.{statement}
 use Rattle.combine_test.proofs.print_output.Tie as tie
 
 abbrev Inv-loop : tie.InvT-loop
-Inv-loop number count v lows₀ highs₀ j₀ lows highs j = (j ≤ length v) × (length lows ≡ 256) × (length highs ≡ 256)
+Inv-loop answer v lows₀ highs₀ j₀ lows highs j = (j ≤ length v) × (length lows ≡ 256) × (length highs ≡ 256)
 
 abbrev μ-loop : tie.MeasureT-loop
-μ-loop number count v lows₀ highs₀ j₀ lows highs j = length v - j
+μ-loop answer v lows₀ highs₀ j₀ lows highs j = length v - j
 
 loop-holds : tie.Need-loop-holds Inv-loop μ-loop
 loop-holds c = (omega arith, refl, refl)
@@ -73,11 +73,11 @@ slice-aggregate-checksum-2 c = simp length-take (omega arith)
 checksum-requires-2 : tie.Need-checksum-requires-2 Inv-loop μ-loop
 checksum-requires-2 c κs = search needs
 
-slice-aggregate-print-line : tie.Need-slice-aggregate-print-line Inv-loop μ-loop
-slice-aggregate-print-line c = search needs
+slice-aggregate-print-answer : tie.Need-slice-aggregate-print-answer Inv-loop μ-loop
+slice-aggregate-print-answer c = search needs
 
-print-line-requires : tie.Need-print-line-requires Inv-loop μ-loop
-print-line-requires c κs = search needs
+print-answer-requires : tie.Need-print-answer-requires Inv-loop μ-loop
+print-answer-requires c κs = search needs
 
 returns : tie.Need-returns Inv-loop μ-loop
 returns c = search needs
@@ -108,6 +108,6 @@ print-output-spec =
     array-share-prefix-highs
     slice-aggregate-checksum-2
     checksum-requires-2
-    slice-aggregate-print-line
-    print-line-requires
+    slice-aggregate-print-answer
+    print-answer-requires
     returns)

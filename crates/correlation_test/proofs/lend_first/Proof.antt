@@ -1,25 +1,18 @@
--- As many codes are read as the second map has counts.
-use mathlib.Core.Path.{_∙_}
+-- The part that is lent has the length that the call names.
 use native.Mathlib.Omega.{arith}
 use lib.ListN.{length-take}
 use borrow.Author.Needs.{needs}
 use Rattle.correlation_test.proofs.lend_first.Statement.{statement}
 use Rattle.correlation_test.proofs.lend_first.Tie as tie
 
-take-counts-requires : tie.Need-take-counts-requires
-take-counts-requires c κs = search needs
+slice-aggregate-read-named : tie.Need-slice-aggregate-read-named
+slice-aggregate-read-named c = search needs
+
+read-named-requires : tie.Need-read-named-requires
+read-named-requires c κs = search needs
 
 length-at-requires : tie.Need-length-at-requires
 length-at-requires c κs = search needs
-
-array-borrow-prefix-others : tie.Need-array-borrow-prefix-others
-array-borrow-prefix-others c = search needs
-
-slice-aggregate-bytes-read : tie.Need-slice-aggregate-bytes-read
-slice-aggregate-bytes-read c = simp length-take (omega arith)
-
-bytes-read-requires : tie.Need-bytes-read-requires
-bytes-read-requires c κs = search needs
 
 array-borrow-prefix-b : tie.Need-array-borrow-prefix-b
 array-borrow-prefix-b c = search needs
@@ -28,7 +21,7 @@ slice-aggregate-lend-second : tie.Need-slice-aggregate-lend-second
 slice-aggregate-lend-second c = simp length-take (omega arith)
 
 lend-second-requires : tie.Need-lend-second-requires
-lend-second-requires c κs = (c .before .before .before .before .before .before .before .before .before .before .before .pre .0, c .before .bytes-read .ensures ∙ simp length-take (omega arith))
+lend-second-requires c κs = search needs
 
 same-length : tie.Need-same-length
 same-length c = search needs
@@ -40,11 +33,9 @@ pub lend-first-spec : {M : Type 1} → statement M
 lend-first-spec =
     tie.close
     (tie.spec
-    take-counts-requires
+    slice-aggregate-read-named
+    read-named-requires
     length-at-requires
-    array-borrow-prefix-others
-    slice-aggregate-bytes-read
-    bytes-read-requires
     array-borrow-prefix-b
     slice-aggregate-lend-second
     lend-second-requires

@@ -1,5 +1,4 @@
--- As many codes are read as the first map has counts.
-use mathlib.Core.Path.{_∙_}
+-- The part that is lent has the length that the call names.
 use native.Mathlib.Omega.{arith}
 use lib.ListN.{length-take}
 use borrow.Author.Needs.{needs}
@@ -30,15 +29,6 @@ slice-aggregate-lend-first c = search needs
 slice-aggregate-lend-first-2 : tie.Need-slice-aggregate-lend-first-2
 slice-aggregate-lend-first-2 c = search needs
 
-array-borrow-prefix-codes : tie.Need-array-borrow-prefix-codes
-array-borrow-prefix-codes c = search needs
-
-slice-aggregate-bytes-read : tie.Need-slice-aggregate-bytes-read
-slice-aggregate-bytes-read c = simp length-take (omega arith)
-
-bytes-read-requires : tie.Need-bytes-read-requires
-bytes-read-requires c κs = search needs
-
 array-borrow-prefix-a : tie.Need-array-borrow-prefix-a
 array-borrow-prefix-a c = search needs
 
@@ -46,7 +36,7 @@ slice-aggregate-lend-first-3 : tie.Need-slice-aggregate-lend-first-3
 slice-aggregate-lend-first-3 c = simp length-take (omega arith)
 
 lend-first-requires : tie.Need-lend-first-requires
-lend-first-requires c κs = (omega arith, c .before .bytes-read .ensures ∙ simp length-take (omega arith))
+lend-first-requires c κs = omega arith
 
 returns : tie.Need-returns
 returns c = search needs
@@ -66,9 +56,6 @@ next-spec =
     length-at-requires
     slice-aggregate-lend-first
     slice-aggregate-lend-first-2
-    array-borrow-prefix-codes
-    slice-aggregate-bytes-read
-    bytes-read-requires
     array-borrow-prefix-a
     slice-aggregate-lend-first-3
     lend-first-requires

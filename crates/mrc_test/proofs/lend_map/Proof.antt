@@ -5,8 +5,11 @@ use borrow.Author.Needs.{needs}
 use Rattle.mrc_test.proofs.lend_map.Statement.{statement}
 use Rattle.mrc_test.proofs.lend_map.Tie as tie
 
-take-numbers-requires : tie.Need-take-numbers-requires
-take-numbers-requires c κs = search needs
+slice-aggregate-read-named : tie.Need-slice-aggregate-read-named
+slice-aggregate-read-named c = search needs
+
+read-named-requires : tie.Need-read-named-requires
+read-named-requires c κs = search needs
 
 length-at-requires : tie.Need-length-at-requires
 length-at-requires c κs = search needs
@@ -30,7 +33,8 @@ pub lend-map-spec : {M : Type 1} → statement M
 lend-map-spec =
     tie.close
     (tie.spec
-    take-numbers-requires
+    slice-aggregate-read-named
+    read-named-requires
     length-at-requires
     array-borrow-prefix-out
     slice-aggregate-run-call

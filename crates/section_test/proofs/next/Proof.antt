@@ -1,5 +1,4 @@
--- As many codes are read as the map has numbers.
-use mathlib.Core.Path.{_∙_}
+-- The part that is lent has the length that the call names.
 use native.Mathlib.Omega.{arith}
 use lib.ListN.{length-take}
 use borrow.Author.Needs.{needs}
@@ -21,15 +20,6 @@ length-at-requires c κs = search needs
 slice-aggregate-lend-map : tie.Need-slice-aggregate-lend-map
 slice-aggregate-lend-map c = search needs
 
-array-borrow-prefix-codes : tie.Need-array-borrow-prefix-codes
-array-borrow-prefix-codes c = search needs
-
-slice-aggregate-bytes-read : tie.Need-slice-aggregate-bytes-read
-slice-aggregate-bytes-read c = simp length-take (omega arith)
-
-bytes-read-requires : tie.Need-bytes-read-requires
-bytes-read-requires c κs = search needs
-
 array-borrow-prefix-map : tie.Need-array-borrow-prefix-map
 array-borrow-prefix-map c = search needs
 
@@ -37,7 +27,7 @@ slice-aggregate-lend-map-2 : tie.Need-slice-aggregate-lend-map-2
 slice-aggregate-lend-map-2 c = simp length-take (omega arith)
 
 lend-map-requires : tie.Need-lend-map-requires
-lend-map-requires c κs = c .before .bytes-read .ensures ∙ simp length-take (omega arith)
+lend-map-requires c κs = search needs
 
 returns : tie.Need-returns
 returns c = search needs
@@ -54,9 +44,6 @@ next-spec =
     slice-aggregate-length-at
     length-at-requires
     slice-aggregate-lend-map
-    array-borrow-prefix-codes
-    slice-aggregate-bytes-read
-    bytes-read-requires
     array-borrow-prefix-map
     slice-aggregate-lend-map-2
     lend-map-requires

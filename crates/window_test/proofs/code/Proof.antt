@@ -6,19 +6,22 @@ use Rattle.window_test.proofs.code.Statement.{statement}
 use Rattle.window_test.proofs.code.Tie as tie
 
 abbrev Inv-loop : tie.InvT-loop
-Inv-loop x c₀ c = Unit {0}
+Inv-loop scores x c₀ c = Unit {0}
 
 abbrev μ-loop : tie.MeasureT-loop
-μ-loop x c₀ c = 8 - c
+μ-loop scores x c₀ c = 8 - c
 
 loop-holds : tie.Need-loop-holds Inv-loop μ-loop
 loop-holds c = tt
 
-score-requires : tie.Need-score-requires Inv-loop μ-loop
-score-requires c κs = search needs
+cast-if1 : tie.Need-cast-if1 Inv-loop μ-loop
+cast-if1 c = search needs
 
-wide-requires : tie.Need-wide-requires Inv-loop μ-loop
-wide-requires c κs = search needs
+mul-if1 : tie.Need-mul-if1 Inv-loop μ-loop
+mul-if1 c = omega arith
+
+element-copy-out-if1 : tie.Need-element-copy-out-if1 Inv-loop μ-loop
+element-copy-out-if1 c = search needs
 
 returns : tie.Need-returns Inv-loop μ-loop
 returns c = search needs
@@ -42,8 +45,9 @@ code-spec =
     Inv-loop
     μ-loop
     loop-holds
-    score-requires
-    wide-requires
+    cast-if1
+    mul-if1
+    element-copy-out-if1
     returns
     add-c
     loop-less

@@ -1,5 +1,4 @@
--- As many codes are read as the run has scores.
-use mathlib.Core.Path.{_∙_}
+-- The part that is lent has the length that the call names.
 use native.Mathlib.Omega.{arith}
 use lib.ListN.{length-take}
 use borrow.Author.Needs.{needs}
@@ -21,15 +20,6 @@ length-at-requires c κs = search needs
 slice-aggregate-lend-run : tie.Need-slice-aggregate-lend-run
 slice-aggregate-lend-run c = search needs
 
-array-borrow-prefix-codes : tie.Need-array-borrow-prefix-codes
-array-borrow-prefix-codes c = search needs
-
-slice-aggregate-bytes-read : tie.Need-slice-aggregate-bytes-read
-slice-aggregate-bytes-read c = simp length-take (omega arith)
-
-bytes-read-requires : tie.Need-bytes-read-requires
-bytes-read-requires c κs = search needs
-
 array-borrow-prefix-run : tie.Need-array-borrow-prefix-run
 array-borrow-prefix-run c = search needs
 
@@ -37,7 +27,7 @@ slice-aggregate-lend-run-2 : tie.Need-slice-aggregate-lend-run-2
 slice-aggregate-lend-run-2 c = simp length-take (omega arith)
 
 lend-run-requires : tie.Need-lend-run-requires
-lend-run-requires c κs = c .before .bytes-read .ensures ∙ simp length-take (omega arith)
+lend-run-requires c κs = search needs
 
 returns : tie.Need-returns
 returns c = search needs
@@ -54,9 +44,6 @@ next-spec =
     slice-aggregate-length-at
     length-at-requires
     slice-aggregate-lend-run
-    array-borrow-prefix-codes
-    slice-aggregate-bytes-read
-    bytes-read-requires
     array-borrow-prefix-run
     slice-aggregate-lend-run-2
     lend-run-requires

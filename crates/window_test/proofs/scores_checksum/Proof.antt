@@ -8,10 +8,10 @@ use Rattle.window_test.proofs.scores_checksum.Statement.{statement}
 use Rattle.window_test.proofs.scores_checksum.Tie as tie
 
 abbrev Inv-loop : tie.InvT-loop
-Inv-loop v codes₀ j₀ codes j = (j ≤ length v) × (length codes ≡ 256)
+Inv-loop v scores codes₀ j₀ codes j = (j ≤ length v) × (length codes ≡ 256)
 
 abbrev μ-loop : tie.MeasureT-loop
-μ-loop v codes₀ j₀ codes j = length v - j
+μ-loop v scores codes₀ j₀ codes j = length v - j
 
 loop-holds : tie.Need-loop-holds Inv-loop μ-loop
 loop-holds c = (omega arith, refl)
@@ -38,7 +38,7 @@ loop-less : tie.Need-loop-less Inv-loop μ-loop
 loop-less c = omega arith
 
 loop-again : tie.Need-loop-again Inv-loop μ-loop
-loop-again c = (omega arith, simp length-set (c .before .before .before .loop .inv .1))
+loop-again c = (omega arith, simp length-set (c .before .before .before .before .loop .inv .1))
 
 array-share-prefix-codes : tie.Need-array-share-prefix-codes Inv-loop μ-loop
 array-share-prefix-codes c = omega arith

@@ -14,8 +14,8 @@ use Rattle.job.specs.declared.PowerAnswer.{PowerAnswer}
 use Rattle.job.specs.Job.{OpenOutcome, Said, Outcome, Worked}
 use Rattle.job.specs.Answers.{said, saidOpen, saidPoint, saidFactor, saidPower, replyOf, openOutcome, outcome, worked}
 use Rattle.factor_file.specs.declared.FileAnswer.{FileAnswer}
-use Rattle.factor_file.specs.declared.faults.Faults.{Faults}
-use Rattle.factor_file.specs.Faults.{saidFaults}
+use Rattle.faults.specs.declared.Faults.{Faults}
+use Rattle.faults.specs.Faults.{saidFaults}
 use Rattle.factor_file.specs.Answers.{saidFile, fileOutcome}
 use Rattle.output.specs.Answers.{saidFill, fillOutcome}
 use Rattle.output.specs.declared.FillAnswer.{FillAnswer}

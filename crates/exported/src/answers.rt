@@ -2,7 +2,7 @@
 //
 // Every answer has a number: 0, or the paper's number of the refusal. What only an accepted call gives is zero in a refused one.
 use factor_file::FileAnswer;
-use factor_file::faults::Faults;
+use faults::Faults;
 use job::Answered;
 use job::Axis;
 use job::FactorAnswer;
@@ -15,7 +15,7 @@ use output::FillAnswer;
 ghost use mathlib.Core.Path.{_≡_};
 ghost use Rattle.job.specs.Answers.{said, saidOpen, saidPoint, saidFactor, saidPower, replyOf};
 ghost use Rattle.factor_file.specs.Answers.{saidFile};
-ghost use Rattle.factor_file.specs.Faults.{saidFaults};
+ghost use Rattle.faults.specs.Faults.{saidFaults};
 ghost use Rattle.output.specs.Answers.{saidFill};
 ghost use Rattle.exported.specs.Answers.{noJob, openingCoded, fileAnswerCoded, faultsCoded, pointCoded, factorCoded, powerCoded, writingCoded};
 

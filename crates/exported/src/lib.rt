@@ -1,6 +1,5 @@
-// The recorder for programs in C: each function is a public call of crate line, job, factor_file, combining, section, mrc,
-// correlation or sliding_window under a
-// C name, and include/recorder.h declares it again.
+// The recorder for programs in C: each function is a public call of crate line, job, factor_file, faults, combining, section, mrc, correlation or
+// sliding_window under a C name, and include/recorder.h declares it again.
 //
 // A job, an index and a point go in and come back by value; a buffer is a pointer and a length. Every answer has a number: 0, or
 // the paper's number of the refusal. What only an accepted call gives is zero in a refused one.
@@ -16,7 +15,6 @@ use crate::answers::PowerCoded;
 use crate::answers::WriteCoded;
 use crate::cells::CellCoded;
 use cell::operations::UnitCell;
-use factor_file::faults;
 use factor_file::open_file;
 use job::GridPoint;
 use job::Job;
@@ -27,7 +25,7 @@ ghost use Rattle.line.specs.Line.{lineStep};
 ghost use Rattle.line.specs.Answers.{saidLine};
 ghost use Rattle.job.specs.Job.{openStep, recordStep, synthesisStep, analysisStep, pointStep, factorStep, mapPowerStep, factorPowerStep};
 ghost use Rattle.factor_file.specs.File.{fileStep, writeStep};
-ghost use Rattle.factor_file.specs.Faults.{faultsIn};
+ghost use Rattle.faults.specs.Faults.{faultsIn};
 ghost use Rattle.combining.specs.Combining.{combineStep};
 ghost use Rattle.section.specs.Section.{sectionStep};
 ghost use Rattle.mrc.specs.Mrc.{mrcStep};

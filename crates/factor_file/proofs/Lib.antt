@@ -3,8 +3,4 @@ pub mod Walking
 pub mod Judging
 pub mod Lengths
 pub mod RecordOrder
-pub mod FaultLaws
-pub mod FaultWalks
-pub mod FewestFaults
-pub mod FewestOpenings
 pub mod Measuring

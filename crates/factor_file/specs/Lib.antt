@@ -3,8 +3,4 @@ pub mod Marks
 pub mod Steps
 pub mod Answers
 pub mod RecordOrder
-pub mod Faults
-pub mod FaultSteps
-pub mod Fewest
-pub mod FewestOpened
 pub mod Measured

@@ -5,7 +5,6 @@ pub mod record_order; // record_order.rt: the order of the records
 pub mod file; // file.rt: the bytes of a file
 pub mod open_file; // open_file.rt: the opening of a job by a file
 mod records; // records.rt: its records, recorded in the job one after another
-pub mod faults; // faults.rt: the fewest records at fault
 
 use job::Job;
 use refusals::Refusal;

@@ -9,8 +9,8 @@ use Rattle.job.specs.declared.OpenAnswer.the-variants as O
 use Rattle.job.specs.Answers.{saidOpen}
 use Rattle.factor_file.specs.declared.FileAnswer.{FileAnswer}
 use Rattle.factor_file.specs.declared.FileAnswer.the-variants as I
-use Rattle.factor_file.specs.declared.faults.Faults.{Faults}
-use Rattle.factor_file.specs.Faults.{saidFaults}
+use Rattle.faults.specs.declared.Faults.{Faults}
+use Rattle.faults.specs.Faults.{saidFaults}
 use Rattle.factor_file.specs.Answers.{saidFile}
 use Rattle.exported.specs.declared.answers.JobCoded.{JobCoded}
 use Rattle.output.specs.declared.FillAnswer.{FillAnswer}

@@ -1,0 +1,4 @@
+pub mod FaultLaws
+pub mod FaultWalks
+pub mod FewestFaults
+pub mod FewestOpenings

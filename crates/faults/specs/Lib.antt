@@ -1,0 +1,4 @@
+pub mod Faults
+pub mod FaultSteps
+pub mod Fewest
+pub mod FewestOpened

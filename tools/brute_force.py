@@ -260,6 +260,11 @@ def analysed(g, n, v, p=P):
     return pack_cell(g, n, {j: mul(x, (part, 0), p) for j, x in F.items()}, p)
 
 
+def power(values, p=P):
+    """The sum of each value times its conjugate, a real number: over a whole map, which is real, the sum of the squares."""
+    return sum(mul(x, conj(x, p), p)[0] for x in values) % p
+
+
 # ---- the calls
 
 def admitted(n):
@@ -433,6 +438,22 @@ class Machine:
             return 7, 0, 0
         return 0, x[0], x[1]
 
+    def power(self, of_map):
+        """The power of the map or of the factors over the whole cell."""
+        g, p, n, _, s = self.parts()
+        if not self.valid():
+            return 25, 0, 0
+        if (s == 2) != of_map:
+            return (22 if of_map else 23), 0, 0
+        v = self.lent()
+        if len(v) != volume_length(g, n):
+            return 6, 0, 0
+        if not all(residue(x, p) for x in v):
+            return 7, 0, 0
+        if not (consistent_map(g, n, v) if of_map else consistent(g, n, v, p)):
+            return 14, 0, 0
+        return 0, power(((d, 0) for d in read_map(g, n, v).values()) if of_map else read_cell(g, n, v, p).values(), p), 0
+
     def write(self, room):
         """The file with one record for each orbit that has a value, at its lowest index: the refusal's number or 0, and its bytes."""
         g, p, n, lists, s = self.parts()
@@ -526,6 +547,11 @@ class Book:
         if self.outside((h, k, l)):
             return 10, 0, 0
         return 0, *self.F[(h, k, l)]
+
+    def power(self, of_map):
+        if (self.state == 2) != of_map:
+            return (22 if of_map else 23), 0, 0
+        return 0, power(((d, 0) for d in self.densities().values()) if of_map else self.F.values(), self.p), 0
 
     def job(self):
         fs = [octal(l) for l in self.lists]

@@ -88,6 +88,8 @@ class TestProgram:
                 out += answer
             elif op == 3:
                 out += book.point(h, k, l)
+            elif op == 5 or op == 6:
+                out += book.power(op == 5)
             else:
                 out += book.factor(h, k, l)
         self.leave()
@@ -214,7 +216,8 @@ def cases():
                 say(2, lent)
                 say(3)
 
-    # lists of calls, refused ones among them, on the jobs of accepted files
+    # lists of calls, refused ones among them, on the jobs of accepted files; the two powers and numbers that stand for no other call in turn
+    others = itertools.cycle((5, 6, 7, 5, 6, 4294967295))
     for g in range(5):
         for n in [(2, 2, 2), (4, 4, 4), (6, 4, 2), (4, 6, 6), (2, 8, 6), (4, 4, 10), (6, 6, 6)]:
             for m, p in PRIMES.items():
@@ -224,6 +227,7 @@ def cases():
                 count = 0
                 for _ in range(24):
                     op = rng.choice([0, 0, 0, 0, 1, 2, 3, 3, 4, 5])
+                    op = next(others) if op == 5 else op
                     j = index(n)
                     v = sound(g, m, n, j) if rng.randrange(4) else (rng.randrange(p), rng.randrange(p))
                     if rng.randrange(8) == 0:

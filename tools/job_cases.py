@@ -17,6 +17,8 @@ test_records.py says what the input holds and what is printed. Each call of a jo
     9 job        group, modulus, N1, list, N2, list, N3, list, state: the job itself (lists as octal digits)
    10 length     how many numbers of the buffer are lent as the volume
    11 readings   4 or 5, then points or indices: all of them in one script
+   12 power      of the map
+   13 power      of the factors
 
 The answers are those of brute_force.py. The random lists are shared between the two primes. The seed is fixed.
 """
@@ -29,6 +31,9 @@ from brute_force import P, PRIMES, SCRATCH, Machine, factor_lists, images, octal
 from test_records import FILL, JOB, POKE, checksum
 
 SEED = 1973
+
+# The operations of a script.
+OPERATIONS = {1: 0, 2: 1, 3: 2, 4: 3, 5: 4, 12: 5, 13: 6}
 
 
 class TestProgram(Machine):
@@ -53,29 +58,29 @@ class TestProgram(Machine):
 
     def answer(self, op, w):
         """The three numbers that a call of a script answers."""
-        return [lambda: self.record(*w), lambda: self.work(w[0], False), lambda: self.work(w[0], True),
-                lambda: self.point(*w), lambda: self.factor(*w)][op - 1]()
+        return {1: lambda: self.record(*w), 2: lambda: self.work(w[0], False), 3: lambda: self.work(w[0], True),
+                4: lambda: self.point(*w), 5: lambda: self.factor(*w), 12: lambda: self.power(True), 13: lambda: self.power(False)}[op]()
 
     def packed(self, op, w):
         """The records of the input."""
         if op == 11:
-            script = [x for j in w[1:] for x in (w[0] - 1, *j, 0, 0)]
+            script = [x for j in w[1:] for x in (OPERATIONS[w[0]], *j, 0, 0)]
             return test_records.replay(self.length, script, SCRATCH, len(script) // 2)
-        if op > 5:
+        if op > 5 and op not in OPERATIONS:
             self.set(op, w)
             kinds = {6: FILL, 7: POKE, 9: JOB}
             return test_records.record(kinds[op], self.length, *w) if op in kinds else b""
         if op == 0:
             return test_records.opening(self.length, *w[:3], w[3:], self.lists)
         numbers = [] if op in (2, 3) else list(w)
-        return test_records.replay(self.length, [op - 1] + numbers + [0] * (5 - len(numbers)), w[0] if op in (2, 3) else SCRATCH, 3)
+        return test_records.replay(self.length, [OPERATIONS[op]] + numbers + [0] * (5 - len(numbers)), w[0] if op in (2, 3) else SCRATCH, 3)
 
     def lines(self, op, w):
         """The lines of an opening, a call or readings, none for the others."""
         if op == 11:
             answers = [x for j in w[1:] for x in self.answer(w[0], j)]
             return self.replayed([7] * SCRATCH, answers)
-        if op > 5:
+        if op > 5 and op not in OPERATIONS:
             self.set(op, w)
             return []
         if op == 0:
@@ -121,6 +126,10 @@ def scripts():
             if rng.randrange(3) == 0:
                 j[axis] = rng.choice([0, n[axis] // 2])
         return j
+
+    def powers():
+        say(12)
+        say(13)
 
     def sound(n, g, p):
         """A record that agrees with its own images, where some value does."""
@@ -186,6 +195,7 @@ def scripts():
                 say(7, rng.randrange(length), rng.choice([1, 5, P, p - 1, p, 4294967295, 0]))
                 rng.choice([lambda: say(2, SCRATCH), lambda: say(3, SCRATCH), lambda: say(0, g, m, 1, *n), lambda: say(1, *index(n, g), *value(p)),
                             lambda: say(5, *index(n, g)), lambda: say(4, *index(n, g))])()
+                powers()
                 if rng.randrange(2):
                     lists(n)
                     say(0, g, m, 0, *n)
@@ -196,9 +206,11 @@ def scripts():
         say(2, SCRATCH)
         for _ in range(4):
             say(4, *index(n, g))
+        powers()
         say(3, SCRATCH)
         for _ in range(4):
             say(5, *index(n, g))
+        powers()
         say(2, SCRATCH)
         say(0, g, m, 1, *n)
 
@@ -299,6 +311,7 @@ def scripts():
         for _ in range(5):
             rng.choice([lambda: say(1, *index(n, g), *value(PRIMES[m])), lambda: say(2, SCRATCH), lambda: say(3, SCRATCH), lambda: say(4, *index(n, g)),
                         lambda: say(5, *index(n, g)), lambda: faulty(n, g, PRIMES[m])])()
+        powers()
     return calls + list(order_cases.calls())
 
 

@@ -8,7 +8,8 @@ from brute_force import P, PRIMES, SCRATCH, factor_lists, images, octal, orbit_o
 
 # Of each call of a script, in their order.
 NO_MODULI = (0, 3, 4294967295)
-REFUSALS = {1: (25, 21, 10, 7, 12, 6, 24), 2: (25, 23, 6, 13, 7, 14), 3: (25, 22, 6, 13, 7, 14), 4: (25, 22, 10, 6, 7), 5: (25, 23, 10, 6, 7)}
+REFUSALS = {1: (25, 21, 10, 7, 12, 6, 24), 2: (25, 23, 6, 13, 7, 14), 3: (25, 22, 6, 13, 7, 14), 4: (25, 22, 10, 6, 7), 5: (25, 23, 10, 6, 7),
+            12: (25, 22, 6, 7, 14), 13: (25, 23, 6, 7, 14)}
 
 
 def calls():
@@ -90,10 +91,10 @@ def together(g, m, n):
     opening, job = opened(g, m, n)
     yield from opening
     yield 1, (0, 0, 0, PRIMES[m] - 5, 0)
-    for op in (1, 2, 5):
+    for op in (1, 2, 5, 13):
         yield from faulty_calls(g, m, n, job, op)
     yield 2, (SCRATCH,)
-    for op in (3, 4):
+    for op in (3, 4, 12):
         yield from faulty_calls(g, m, n, job[:8] + [2], op)
     yield 3, (SCRATCH,)
 
@@ -126,7 +127,7 @@ def fault_sets(faults):
 def faulty_job(job, op, faults, turn):
     spoilt = list(job)
     if faults & {21, 22, 23}:
-        spoilt[8] = {1: 1 + turn % 2, 2: 2, 3: turn % 2, 4: turn % 2, 5: 2}[op]
+        spoilt[8] = {1: 1 + turn % 2, 2: 2, 3: turn % 2, 4: turn % 2, 5: 2, 12: turn % 2, 13: 2}[op]
     if 25 in faults:
         place, wrong = ((0, 5), (2, 14), (5, 7), *((1, wrong) for wrong in NO_MODULI))[(turn + job[0]) % 6]
         spoilt[place] = wrong
@@ -140,12 +141,15 @@ def faulty_numbers(g, p, n, op, faults, turn):
     if 7 in faults and op > 1:
         pokes.append((0, too_large(p, turn), p - 5))
     if 14 in faults:
-        pokes.append((n[1] if op == 3 else pair(n, 0 if g == 3 else 1, 1, 0), 1, 0))
+        pokes.append((n[1] if op in (3, 12) else pair(n, 0 if g == 3 else 1, 1, 0), 1, 0))
     return pokes
 
 
 def faulty_arguments(p, n, op, faults, turn):
-    """What a call is given: beside the faults asked for, a free index for a record, a place whose number is right or poked for a reading."""
+    """What a call is given: beside the faults asked for, a free index for a record, a place whose number is right or poked for a reading; a power
+    is given nothing."""
+    if op > 5:
+        return ()
     if op in (2, 3):
         return (SCRATCH - 1 if 13 in faults else SCRATCH,)
     j = [0, 0, 0] if op > 1 or 24 in faults else [2, 0, 0] if 12 in faults else [1, 1, 1]

@@ -9,8 +9,8 @@ A record is eleven numbers (4 bytes each, big-endian): an operation, how many nu
     4 job        group, modulus, N1, list, N2, list, N3, list, state: the job itself (lists as octal digits)
     5 fill       seed: the volume's numbers, residues of both primes, by a linear congruential generator
     6 poke       place, value: one number of the volume
-A call of a script is its operation (0 record, 1 synthesis, 2 analysis, 3 point, any other factor), three numbers of an index or a point and
-two of a value.
+A call of a script is its operation (0 record, 1 synthesis, 2 analysis, 3 point, 5 power of the map, 6 power of the factors, any other factor),
+three numbers of an index or a point and two of a value.
 
 A line is printed for each opening: the refusal's number or 0, the record's place or 0, checksums of the job and the volume; the job is
 the one that goes on, for a refused file all 0s. The line before that of a file: how many of its records are at fault and their places, 0 for a

@@ -3,7 +3,7 @@ use mathlib.Core.List.{List, [], _∷_, _++_}
 use Prim.Native.Nat.{ℕ, _+_, _*_, zero, suc, _/_, min}
 use lib.ListN.{getD, length, drop}
 use Rattle.signed.specs.Integers.{ℤ, pos}
-use Rattle.scripts.specs.declared.numbers.CallNumbers.{CallNumbers}
+use Rattle.scripts.specs.declared.layout.CallNumbers.{CallNumbers}
 use Rattle.lengths.specs.Lengths.{cleared}
 use Rattle.job.specs.declared.Job.{Job}
 use Rattle.job.specs.declared.reply.Reply.{Reply}
@@ -24,7 +24,8 @@ abbrev pub replyNumbers : Reply → List ℤ
 replyNumbers r = pos (r .number) ∷ r .x ∷ r .y ∷ []
 
 -- ---- One call of a job as numbers, and what it answers and leaves of a job, a volume and a scratch.
--- A call is six numbers: its operation, three of an index or a point, two of a value. Operation 0 records, 1 is synthesis, 2 analysis, 3 reads a point, any other a factor.
+-- A call is six numbers: its operation, three of an index or a point, two of a value. Operation 0 records, 1 is synthesis, 2 analysis, 3 reads a point, 5 the power of a map,
+-- 6 that of factors, any other a factor.
 
 -- ---- the call
 
@@ -34,7 +35,10 @@ callOf scratch zero h k l x y = recording (record { 0 = h; 1 = k; 2 = l }) x y
 callOf scratch (suc zero) h k l x y = synthesis scratch
 callOf scratch (suc (suc zero)) h k l x y = analysis scratch
 callOf scratch (suc (suc (suc zero))) h k l x y = readPoint (record { 0 = h; 1 = k; 2 = l })
-callOf scratch (suc (suc (suc (suc o)))) h k l x y = readFactor (record { 0 = h; 1 = k; 2 = l })
+callOf scratch (suc (suc (suc (suc zero)))) h k l x y = readFactor (record { 0 = h; 1 = k; 2 = l })
+callOf scratch (suc (suc (suc (suc (suc zero))))) h k l x y = readMapPower
+callOf scratch (suc (suc (suc (suc (suc (suc zero)))))) h k l x y = readFactorPower
+callOf scratch (suc (suc (suc (suc (suc (suc (suc o))))))) h k l x y = readFactor (record { 0 = h; 1 = k; 2 = l })
 
 abbrev pub callAt : (scratch script : List ℕ) (i : ℕ) → Call
 callAt scratch script i = callOf scratch (getD script (6 * i) 0) (getD script (6 * i + 1) 0) (getD script (6 * i + 2) 0) (getD script (6 * i + 3) 0) (getD script (6 * i + 4) 0) (getD script (6 * i + 5) 0)

@@ -1,5 +1,5 @@
-// The calls of a script that transform nothing: a record and the two readings, by their numbers, each answered as three numbers.
-use crate::numbers::CallNumbers;
+// The calls of a script that transform nothing: a record, the two readings and the two powers, by their numbers, each answered as three numbers.
+use crate::layout::CallNumbers;
 use job::Answered;
 use job::GridPoint;
 use job::Job;
@@ -35,7 +35,7 @@ pub fn record_call(job: Job, n: CallNumbers, volume: &mut [u32]) -> Called
     of_answered(job.record(Reflection(n.h, n.k, n.l), n.x, n.y, volume))
 }
 
-// A reading hands no job back: the one that was handed in goes on.
+// A reading or a power hands no job back: the one that was handed in goes on.
 pub fn point_call(job: Job, n: CallNumbers, volume: &[u32]) -> Called
     requires { ⌜ n .operation ≡ 3 ⌝ }
     ensures { λ r. ⌜ ((s : List ℕ) → callOutcome r (now (volume .entry)) s ≡ callStep job (now (volume .entry)) s (callSaid s n)) ⌝ }
@@ -47,11 +47,31 @@ pub fn point_call(job: Job, n: CallNumbers, volume: &[u32]) -> Called
 }
 
 pub fn factor_call(job: Job, n: CallNumbers, volume: &[u32]) -> Called
-    requires { ⌜ 4 ≤ n .operation ⌝ }
+    requires { ⌜ (4 ≤ n .operation) × (n .operation ≡ 5 → ⊥) × (n .operation ≡ 6 → ⊥) ⌝ }
     ensures { λ r. ⌜ ((s : List ℕ) → callOutcome r (now (volume .entry)) s ≡ callStep job (now (volume .entry)) s (callSaid s n)) ⌝ }
 {
     Called {
         reply: reply::of_factor(job.factor(Reflection(n.h, n.k, n.l), volume)),
+        job,
+    }
+}
+
+pub fn map_power_call(job: Job, n: CallNumbers, volume: &[u32]) -> Called
+    requires { ⌜ n .operation ≡ 5 ⌝ }
+    ensures { λ r. ⌜ ((s : List ℕ) → callOutcome r (now (volume .entry)) s ≡ callStep job (now (volume .entry)) s (callSaid s n)) ⌝ }
+{
+    Called {
+        reply: reply::of_power(job.map_power(volume)),
+        job,
+    }
+}
+
+pub fn factor_power_call(job: Job, n: CallNumbers, volume: &[u32]) -> Called
+    requires { ⌜ n .operation ≡ 6 ⌝ }
+    ensures { λ r. ⌜ ((s : List ℕ) → callOutcome r (now (volume .entry)) s ≡ callStep job (now (volume .entry)) s (callSaid s n)) ⌝ }
+{
+    Called {
+        reply: reply::of_power(job.factor_power(volume)),
         job,
     }
 }

@@ -44,7 +44,7 @@ pub fn replay(
     let mut i: usize = 0;
     while i < count {
         let called = call::call_at(held, script, i, volume, scratch);
-        crate::numbers::write_reply(answers, i, called.reply);
+        crate::layout::write_reply(answers, i, called.reply);
         held = called.job;
         i += 1;
     }

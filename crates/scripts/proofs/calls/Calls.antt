@@ -10,24 +10,27 @@ use Rattle.job.specs.declared.Answered.{Answered}
 use Rattle.job.specs.declared.Job.{Job}
 use Rattle.job.specs.declared.Reflection.{Reflection}
 use Rattle.job.specs.declared.GridPoint.{GridPoint}
-use Rattle.job.specs.Job.{withState, factorsHeld, mapHeld, Said, done, Outcome, Worked, unchanged, position, index, recordStep, synthesised, synthesisStep, analysed, analysisStep, pointStep, factorStep}
-use Rattle.job.specs.TestSteps.{synthesisTests, analysisTests, pointTests, factorTests}
+use Rattle.job.specs.Job.{withState, factorsHeld, mapHeld, Said, done, Outcome, Worked, unchanged, position, index, recordStep, synthesised, synthesisStep, analysed, analysisStep, pointStep, factorStep, mapPowerStep, factorPowerStep}
+use Rattle.job.specs.TestSteps.{synthesisTests, analysisTests, pointTests, factorTests, mapPowerTests, factorPowerTests}
 use Rattle.job.specs.Answers.{said, outcome, worked, replyOf}
-use Rattle.scripts.specs.declared.numbers.CallNumbers.{CallNumbers}
-use Rattle.scripts.specs.Script.{Call, recording, synthesis, analysis, readPoint, readFactor, step, callOf, callAt, numbersAt, callSaid, clearedIfDone, scratchLeft, callStep, callOutcome}
+use Rattle.scripts.specs.declared.layout.CallNumbers.{CallNumbers}
+use Rattle.scripts.specs.Script.{Call, recording, synthesis, analysis, readPoint, readFactor, readMapPower, readFactorPower, step, callOf, callAt, numbersAt, callSaid, clearedIfDone, scratchLeft, callStep, callOutcome}
 use Rattle.scripts.specs.declared.calls.Called.{Called}
 
 -- ---- what an operation's number stands for
 
-call-other : (s : List ℕ) (o h k l x y : ℕ) → 4 ≤ o → callOf s o h k l x y ≡ readFactor (record { 0 = h; 1 = k; 2 = l })
+call-other : (s : List ℕ) (o h k l x y : ℕ) → 4 ≤ o → (o ≡ 5 → ⊥) → (o ≡ 6 → ⊥) → readFactor (record { 0 = h; 1 = k; 2 = l }) ≡ callOf s o h k l x y
 unfolding callOf
-call-other s zero h k l x y p = absurd (omega arith)
-call-other s (suc zero) h k l x y p = absurd (omega arith)
-call-other s (suc (suc zero)) h k l x y p = absurd (omega arith)
-call-other s (suc (suc (suc zero))) h k l x y p = absurd (omega arith)
-call-other s (suc (suc (suc (suc o)))) h k l x y p = refl
+call-other s zero h k l x y p q r = absurd (omega arith)
+call-other s (suc zero) h k l x y p q r = absurd (omega arith)
+call-other s (suc (suc zero)) h k l x y p q r = absurd (omega arith)
+call-other s (suc (suc (suc zero))) h k l x y p q r = absurd (omega arith)
+call-other s (suc (suc (suc (suc zero)))) h k l x y p q r = refl
+call-other s (suc (suc (suc (suc (suc zero))))) h k l x y p q r = absurd (q refl)
+call-other s (suc (suc (suc (suc (suc (suc zero)))))) h k l x y p q r = absurd (r refl)
+call-other s (suc (suc (suc (suc (suc (suc (suc o))))))) h k l x y p q r = refl
 
--- no number but the four
+-- no number but the first four
 pub four-on : (o : ℕ) → (o ≡ 0 → ⊥) → (o ≡ 1 → ⊥) → (o ≡ 2 → ⊥) → (o ≡ 3 → ⊥) → 4 ≤ o
 four-on zero p q r t = absurd (p refl)
 four-on (suc zero) p q r t = absurd (q refl)
@@ -44,11 +47,23 @@ module _ (s : List ℕ) (n : CallNumbers) where
   unfolding callOf
   is-analysis z = rw z refl
 
+  is-point : n .operation ≡ 3 → readPoint (record { 0 = n .h; 1 = n .k; 2 = n .l }) ≡ callSaid s n
+  unfolding callOf
+  is-point z = rw z refl
+
+  is-map-power : n .operation ≡ 5 → readMapPower ≡ callSaid s n
+  unfolding callOf
+  is-map-power z = rw z refl
+
+  is-factor-power : n .operation ≡ 6 → readFactorPower ≡ callSaid s n
+  unfolding callOf
+  is-factor-power z = rw z refl
+
 -- a call by its numbers is the script's
 pub call-in-script : (j : Job) (v s script : List ℕ) (i : ℕ) (n : CallNumbers) → n ≡ numbersAt script i → callStep j v s (callSaid s n) ≡ callStep j v s (callAt s script i)
 call-in-script j v s script i n e = ap (λ (m : CallNumbers). callStep j v s (callSaid s m)) e
 
--- ---- a reading leaves job and volume
+-- ---- a reading or a power leaves job and volume
 
 abbrev reading : Said → Job → List ℕ → Outcome
 reading a j v = record { answer = a; job = j; volume = v }
@@ -65,6 +80,14 @@ module _ (j : Job) (v : List ℕ) where
   factor-keeps : (k : Reflection) → reading (factorStep j k v .answer) j v ≡ factorStep j k v
   unfolding factorStep
   factor-keeps k = reading-keeps (first (factorTests j (index k) v)) _ j v
+
+  map-power-keeps : reading (mapPowerStep j v .answer) j v ≡ mapPowerStep j v
+  unfolding mapPowerStep
+  map-power-keeps = reading-keeps (first (mapPowerTests j v)) _ j v
+
+  factor-power-keeps : reading (factorPowerStep j v .answer) j v ≡ factorPowerStep j v
+  unfolding factorPowerStep
+  factor-power-keeps = reading-keeps (first (factorPowerTests j v)) _ j v
 
 -- ---- synthesis and analysis: an outcome that counts the scratch's length alone, and the scratch
 
@@ -113,9 +136,12 @@ module _ (j : Job) (v : List ℕ) where
   call-by-length t s s′ (suc zero) h k l x y e = rw (synthesis-by-length s s′ e)
   call-by-length t s s′ (suc (suc zero)) h k l x y e = rw (analysis-by-length s s′ e)
   call-by-length t s s′ (suc (suc (suc zero))) h k l x y e = refl
-  call-by-length t s s′ (suc (suc (suc (suc o)))) h k l x y e = refl
+  call-by-length t s s′ (suc (suc (suc (suc zero)))) h k l x y e = refl
+  call-by-length t s s′ (suc (suc (suc (suc (suc zero))))) h k l x y e = refl
+  call-by-length t s s′ (suc (suc (suc (suc (suc (suc zero)))))) h k l x y e = refl
+  call-by-length t s s′ (suc (suc (suc (suc (suc (suc (suc o))))))) h k l x y e = refl
 
--- ---- each of the five calls
+-- ---- each of the seven calls
 
 module _ (j : Job) (v : List ℕ) (r : Called) where
   -- a call whose job and volume are an outcome's, said as numbers
@@ -141,15 +167,17 @@ module _ (j : Job) (v : List ℕ) (r : Called) where
     call-analysis s s′ e = of-outcome (outcome a v′) (analysis s) s s′ (ap (λ (w : Worked). w .outcome) e) says goes (ap (λ (w : Worked). w .scratch) e ∙ analysis-scratch j v s)
 
   module _ (a : Said) (says : r .reply ≡ replyOf a) (goes : r .job ≡ j) (s : List ℕ) (n : CallNumbers) where
-    pub call-point : n .operation ≡ 3 → a ≡ pointStep j (record { 0 = n .h; 1 = n .k; 2 = n .l }) v .answer → callOutcome r v s ≡ callStep j v s (callSaid s n)
-    unfolding callOf
-    call-point z e =
-        let x : GridPoint = record { 0 = n .h; 1 = n .k; 2 = n .l } in
-        of-outcome (reading a j v) (readPoint x) s s (ap (λ (b : Said). reading b j v) e ∙ point-keeps j v x) says goes refl
-        ∙ rw z refl
+    read : (c : Call) → c ≡ callSaid s n → reading (step j v c .answer) j v ≡ step j v c → s ≡ scratchLeft c (step j v c .answer) s → a ≡ step j v c .answer → callOutcome r v s ≡ callStep j v s (callSaid s n)
+    read c is keeps same e = of-outcome (reading a j v) c s s (ap (λ (b : Said). reading b j v) e ∙ keeps) says goes same ∙ ap (callStep j v s) is
 
-    pub call-factor : 4 ≤ n .operation → a ≡ factorStep j (record { 0 = n .h; 1 = n .k; 2 = n .l }) v .answer → callOutcome r v s ≡ callStep j v s (callSaid s n)
-    call-factor z e =
-        let k : Reflection = record { 0 = n .h; 1 = n .k; 2 = n .l } in
-        of-outcome (reading a j v) (readFactor k) s s (ap (λ (b : Said). reading b j v) e ∙ factor-keeps j v k) says goes refl
-        ∙ ap (callStep j v s) (sym (call-other s _ _ _ _ _ _ z))
+    pub call-point : n .operation ≡ 3 → a ≡ pointStep j (record { 0 = n .h; 1 = n .k; 2 = n .l }) v .answer → callOutcome r v s ≡ callStep j v s (callSaid s n)
+    call-point z e = read _ (is-point s n z) (point-keeps j v _) refl e
+
+    pub call-factor : (4 ≤ n .operation) × (n .operation ≡ 5 → ⊥) × (n .operation ≡ 6 → ⊥) → a ≡ factorStep j (record { 0 = n .h; 1 = n .k; 2 = n .l }) v .answer → callOutcome r v s ≡ callStep j v s (callSaid s n)
+    call-factor z e = read _ (call-other s _ _ _ _ _ _ (z .0) (z .1) (z .2)) (factor-keeps j v _) refl e
+
+    pub call-map-power : n .operation ≡ 5 → a ≡ mapPowerStep j v .answer → callOutcome r v s ≡ callStep j v s (callSaid s n)
+    call-map-power z e = read readMapPower (is-map-power s n z) (map-power-keeps j v) refl e
+
+    pub call-factor-power : n .operation ≡ 6 → a ≡ factorPowerStep j v .answer → callOutcome r v s ≡ callStep j v s (callSaid s n)
+    call-factor-power z e = read readFactorPower (is-factor-power s n z) (factor-power-keeps j v) refl e

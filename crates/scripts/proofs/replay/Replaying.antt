@@ -12,7 +12,7 @@ use Rattle.job.specs.Answers.{replyOf}
 use Rattle.demands.specs.Demands.{step, run}
 use Rattle.scripts.specs.Script.{callAt, replyNumbers, scratchLeft, CallOutcome, callStep, calls, allNumbers, scratchAfter, ReplayOutcome, callCount, ended, replayStep}
 use Rattle.scripts.proofs.calls.Calls.{call-by-length}
-use Rattle.scripts.proofs.numbers.Placed.{placed, take-placed, drop-placed}
+use Rattle.scripts.proofs.layout.Placed.{placed, take-placed, drop-placed}
 
 -- ---- an answer among the others
 

@@ -18,13 +18,15 @@ pub fn call_at(
     ensures { λ r. ⌜ callOutcome r (now (volume .exit)) (now (scratch .exit))
         ≡ callStep job (now (volume .entry)) (now (scratch .entry)) (callAt (now (scratch .entry)) (now (script .entry)) i) ⌝ }
 {
-    let numbers = crate::numbers::numbers_at(script, i);
+    let numbers = crate::layout::numbers_at(script, i);
     let operation = numbers.operation;
     match operation {
         0 => return crate::calls::record_call(job, numbers, volume),
         1 => return synthesis_call(job, volume, scratch),
         2 => return analysis_call(job, volume, scratch),
         3 => return crate::calls::point_call(job, numbers, &volume[..]),
+        5 => return crate::calls::map_power_call(job, numbers, &volume[..]),
+        6 => return crate::calls::factor_power_call(job, numbers, &volume[..]),
         _ => return crate::calls::factor_call(job, numbers, &volume[..]),
     }
 }

@@ -64,14 +64,38 @@ returns-4 c =
     let m = c .before .before .before .numbers-at in
     c .point-call .ensures (now (a .scratch)) ∙ call-in-script (a .job) (now (a .volume)) (now (a .scratch)) (now (a .script)) (a .i) (m .result) (m .ensures)
 
-factor-call-requires : tie.Need-factor-call-requires
-factor-call-requires c κs = let n = c .before .match .rest in four-on _ (n .0 .0 .0 .1) (n .0 .0 .1) (n .0 .1) (n .1)
+map-power-call-requires : tie.Need-map-power-call-requires
+map-power-call-requires c κs = c .before .match .keys5
 
 same-length-7 : tie.Need-same-length-7
 same-length-7 c = refl
 
 returns-5 : tie.Need-returns-5
 returns-5 c =
+    let a = c .before .before .before .before .before .before .before .args in
+    let m = c .before .before .before .numbers-at in
+    c .map-power-call .ensures (now (a .scratch)) ∙ call-in-script (a .job) (now (a .volume)) (now (a .scratch)) (now (a .script)) (a .i) (m .result) (m .ensures)
+
+factor-power-call-requires : tie.Need-factor-power-call-requires
+factor-power-call-requires c κs = c .before .match .keys6
+
+same-length-8 : tie.Need-same-length-8
+same-length-8 c = refl
+
+returns-6 : tie.Need-returns-6
+returns-6 c =
+    let a = c .before .before .before .before .before .before .before .args in
+    let m = c .before .before .before .numbers-at in
+    c .factor-power-call .ensures (now (a .scratch)) ∙ call-in-script (a .job) (now (a .volume)) (now (a .scratch)) (now (a .script)) (a .i) (m .result) (m .ensures)
+
+factor-call-requires : tie.Need-factor-call-requires
+factor-call-requires c κs = let n = c .before .match .rest in (four-on _ (n .0 .0 .0 .0 .0 .1) (n .0 .0 .0 .0 .1) (n .0 .0 .0 .1) (n .0 .0 .1), n .0 .1, n .1)
+
+same-length-9 : tie.Need-same-length-9
+same-length-9 c = refl
+
+returns-7 : tie.Need-returns-7
+returns-7 c =
     let a = c .before .before .before .before .before .before .before .args in
     let m = c .before .before .before .numbers-at in
     c .factor-call .ensures (now (a .scratch)) ∙ call-in-script (a .job) (now (a .volume)) (now (a .scratch)) (now (a .script)) (a .i) (m .result) (m .ensures)
@@ -95,6 +119,12 @@ call-at-spec =
     point-call-requires
     same-length-6
     returns-4
-    factor-call-requires
+    map-power-call-requires
     same-length-7
-    returns-5)
+    returns-5
+    factor-power-call-requires
+    same-length-8
+    returns-6
+    factor-call-requires
+    same-length-9
+    returns-7)

@@ -9,9 +9,9 @@ use mir.Syntax.{w64}
 use mir.Val.{toZ, ofZ}
 use mir.ValLaws.{toZ-ofZ, toZ-pos}
 use Rattle.signed.specs.Integers.{pos}
-use Rattle.scripts.proofs.numbers.Placed.{placed-three}
-use Rattle.scripts.proofs.numbers.write_reply.Statement.{statement}
-use Rattle.scripts.proofs.numbers.write_reply.Tie as tie
+use Rattle.scripts.proofs.layout.Placed.{placed-three}
+use Rattle.scripts.proofs.layout.write_reply.Statement.{statement}
+use Rattle.scripts.proofs.layout.write_reply.Tie as tie
 
 mul-at : tie.Need-mul-at
 mul-at c = search needs

@@ -1,8 +1,8 @@
 -- The six numbers, read one after another.
 use borrow.Author.Needs.{needs}
 use mathlib.Core.Path.{refl}
-use Rattle.scripts.proofs.numbers.numbers_at.Statement.{statement}
-use Rattle.scripts.proofs.numbers.numbers_at.Tie as tie
+use Rattle.scripts.proofs.layout.numbers_at.Statement.{statement}
+use Rattle.scripts.proofs.layout.numbers_at.Tie as tie
 
 mul-at : tie.Need-mul-at
 mul-at c = search needs

@@ -24,19 +24,19 @@ import signal
 import stat
 import struct
 import subprocess
-import sys
-import tempfile
 import time
 import zlib
 
 from brute_force import (LIMIT, P, PRIMES, ROOTS, Book, all_points, analysed, e, file_bytes, first_record, images, needed, number, open_file, pack_map,
                          planes, point_images, read_cell, records_in, signed, volume_length)
+from expected_files import combined_bytes, map_bytes, map_head, map_text, records_text, shuffled, text_of, written
 from faults_cases import fewest, judged
 from faults_cases import files as faulty_files
 from mrc_cases import bits, mrc_file
 from printer_test import files
 from samples import combined, combined_text, second_file, section_text
 from section_cases import page
+from tool import Tool, tested
 from window_cases import SCORES, windows
 
 SEED = 1973
@@ -63,49 +63,13 @@ SIGNALS = 50
 FAULTY = 100
 
 
-class Tool:
-    """The program, a folder for its files, and the count of comparisons."""
+class Recorder(Tool):
+    """The tool, with the refusals and the letters of pictures that were seen."""
 
     def __init__(self, program, folder):
-        self.program, self.folder = program, folder
-        self.agreed = self.wrong = 0
+        super().__init__(program, folder)
         self.seen = {kind: set() for kind in REFUSALS}
         self.glyphs = {}
-
-    def path(self, name):
-        return os.path.join(self.folder, name)
-
-    def file(self, name, contents):
-        with open(self.path(name), "wb") as out:
-            out.write(contents)
-        return self.path(name)
-
-    def run(self, *words, given=b"", **more):
-        more = {"stdout": subprocess.PIPE, "stderr": subprocess.PIPE, **({} if "stdin" in more else {"input": given}), **more}
-        done = subprocess.run([self.program, *map(str, words)], check=False, **more)
-        return done.returncode, done.stdout, done.stderr
-
-    def run_endless(self, part, *words, first=b""):
-        """Runs a command whose standard input has a part again and again, until the command closes it."""
-        with subprocess.Popen([self.program, *map(str, words)], stdin=subprocess.PIPE, stdout=subprocess.PIPE, stderr=subprocess.PIPE) as run:
-            try:
-                run.stdin.write(first)
-                while True:
-                    run.stdin.write(part * (65536 // len(part)))
-            except BrokenPipeError:
-                pass
-            try:
-                run.stdin.close()
-            except BrokenPipeError:
-                pass
-            return run.wait(), run.stdout.read(), run.stderr.read()
-
-    def expect(self, what, got, want):
-        if got == want:
-            self.agreed += 1
-        else:
-            self.wrong += 1
-            print("%s: got %.300r, expected %.300r" % (what, got, want))
 
     def refused(self, what, words, refusal, place=0, given=b"", of=None):
         """A command that must be refused: with its file, number and words on standard error, and nothing else. Of two files the first line names that
@@ -117,13 +81,6 @@ class Tool:
         of = of or (words[1] if words[0] in ON_FILES + ["mrc", "best"] else "")
         self.expect(what + ", its number", err.split(b"\n")[0], b"recorder: %srefused %d at %d" % ((of and of + ": ").encode(), refusal, place))
 
-    def fails(self, what, words, part, given=b"", **more):
-        """A command that cannot do what it is asked: status 2 and some words on what to do."""
-        status, out, err = self.run(*words, given=given, **more)
-        self.expect(what, (status, out or b"", part in (err or b"")), (2, b"", True))
-
-
-# ---- what the tool must say
 
 def kind_of(words):
     """What a command works on."""
@@ -131,57 +88,6 @@ def kind_of(words):
         return {"combine": "two files", "mrc": "for viewers", "overlay": "overlay", "best": "best", "line": "line", "drift": "scores"}[words[0]]
     with open(words[1], "rb") as file:
         return {b"RMAP": "map file", b"RCMB": "combined map file"}.get(file.read(4), "factor file")
-
-
-def text_of(g, n, numbers):
-    """The text of a map with the numbers that it prints."""
-    lines = ["map %d %d %d %d" % (g, *n)]
-    for z in range(planes(g, n)):
-        for x in range(n[0]):
-            lines.append(" ".join(str(c) for c in [z, x] + [numbers[(x, y, z)] for y in range(n[1])]))
-    return ("\n".join(lines) + "\n").encode()
-
-
-def map_text(g, n, M, p=P):
-    return text_of(g, n, {q: signed(x, p) for q, x in M.items()})
-
-
-def map_head(g, n, lists, modulus=1, version=None):
-    return b"RMAP" + file_bytes(g, n, lists, [], modulus, version)[4:-4]
-
-
-def stored_points(g, n):
-    """The points on the stored planes by rising z, x, y."""
-    return [(x, y, z) for z in range(planes(g, n)) for x in range(n[0]) for y in range(n[1])]
-
-
-def map_bytes(g, n, lists, M, modulus=1, version=None):
-    return map_head(g, n, lists, modulus, version) + b"".join(M[q].to_bytes(4, "big") for q in stored_points(g, n))
-
-
-def combined_bytes(g, n, numbers, version=1):
-    head = b"RCMB" + bytes([version, g]) + b"".join(m.to_bytes(2, "big") for m in n)
-    return head + b"".join(numbers[q].to_bytes(8, "big", signed=True) for q in stored_points(g, n))
-
-
-def written(book):
-    """The writer's file: a record for each orbit with a value other than zero, at its lowest index, rising."""
-    found = []
-    for j in sorted(book.F):
-        if book.F[j] != (0, 0) and j == min(i for i, _ in images(book.g, book.n, j, book.F[j], book.p)):
-            found.append((*j, *book.F[j]))
-    return file_bytes(book.g, book.n, book.lists, found, book.modulus)
-
-
-def records_text(found):
-    return "".join("%d %d %d %d %d\n" % record for record in found).encode()
-
-
-def shuffled(rng, g, n, found, p=P):
-    """The same orbits in another order, each at any of its places."""
-    places = [rng.choice(images(g, n, record[:3], record[3:], p)) for record in found]
-    rng.shuffle(places)
-    return [(*j, *v) for j, v in places]
 
 
 # ---- small grids
@@ -981,7 +887,7 @@ def drift(tool):
 
 def command_line(tool):
     status, out, err = tool.run("--help")
-    tool.expect("help", (status, err, [name for name in COMMANDS if b"recorder " + name.encode() not in out]), (0, b"", []))
+    tool.expect("help", (status, err, [name for name in COMMANDS if b"\n  " + name.encode() + b" " not in out]), (0, b"", []))
     for name in COMMANDS:
         for words in ((name, "--help"), (name, "some", "-h")):
             status, out, err = tool.run(*words)
@@ -1315,17 +1221,13 @@ def progress(tool):
     os.close(ours)
 
 
-def main():
-    with tempfile.TemporaryDirectory() as folder:
-        tool = Tool(os.path.abspath(sys.argv[1]), folder)
-        for part in (samples, combined_sample, small_grids, empty_cells, zero_records, full_cells, combined_maps, planes_of_all_kinds, refused_pairs,
-                     for_viewers, overlays, records_at_fault, refused_records, refused_headers, refused_maps, lines, drift, command_line,
-                     files_and_streams, too_long, one_file, replaced, large_grids, closed_pipe, named_pipe, ended_by_signals, progress):
-            part(tool)
-        tool.expect("the refusals", tool.seen, REFUSALS)
-    print("%d comparisons agree, %d do not" % (tool.agreed, tool.wrong))
-    sys.exit(1 if tool.wrong else 0)
+def all_parts(tool):
+    for part in (samples, combined_sample, small_grids, empty_cells, zero_records, full_cells, combined_maps, planes_of_all_kinds, refused_pairs,
+                 for_viewers, overlays, records_at_fault, refused_records, refused_headers, refused_maps, lines, drift, command_line,
+                 files_and_streams, too_long, one_file, replaced, large_grids, closed_pipe, named_pipe, ended_by_signals, progress):
+        part(tool)
+    tool.expect("the refusals", tool.seen, REFUSALS)
 
 
 if __name__ == "__main__":
-    main()
+    tested(all_parts, Recorder)

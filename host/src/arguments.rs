@@ -2,55 +2,69 @@
 use crate::failure::Failure;
 use std::ffi::{OsStr, OsString};
 
+/// An option of a command: its name, what its value is (none where that is empty), and what it does.
+pub struct Switch {
+    pub name: &'static str,
+    pub value: &'static str,
+    pub brief: &'static str,
+}
+
+/// Where a command writes.
+pub const OUTPUT: Switch = Switch { name: "-o", value: "the name of a file", brief: "the file to write; - is standard output" };
+
 /// What a command was given.
 #[derive(Default)]
 pub struct Given {
     pub words: Vec<OsString>,
-    pub output: Option<OsString>,
-    pub modulus: Option<u32>,
-    pub times: bool,
-    pub csv: bool,
-    pub score: bool,
-    pub cell: Option<OsString>,
+    switches: Vec<(&'static str, OsString)>,
     pub help: bool,
 }
 
 impl Given {
-    /// Sorts the arguments after a command's name. A minus sign alone is a word.
-    pub fn sorted(arguments: impl IntoIterator<Item = OsString>) -> Result<Given, Failure> {
+    /// Sorts the arguments after a command's name. A minus sign alone is a word, and so is one with a number behind it; after two of them all are.
+    pub fn sorted(command: &str, takes: &'static [Switch], arguments: impl IntoIterator<Item = OsString>) -> Result<Given, Failure> {
         let mut given = Given::default();
         let mut arguments = arguments.into_iter();
         while let Some(argument) = arguments.next() {
             match argument.to_str() {
+                Some("--") => given.words.extend(arguments.by_ref()),
                 Some("--help" | "-h") => given.help = true,
-                Some("--times") => given.times = true,
-                Some("--csv") => given.csv = true,
-                Some("--score") => given.score = true,
-                Some("--cell") => {
-                    let cell = arguments.next().ok_or_else(|| Failure::Usage("--cell needs edges and angles".into()))?;
-                    if given.cell.replace(cell).is_some() {
-                        return Err(Failure::Usage("--cell is given twice; name one".into()));
-                    }
-                }
-                Some("-o") => {
-                    let output = arguments.next().ok_or_else(|| Failure::Usage("-o needs the name of a file".into()))?;
-                    if given.output.replace(output).is_some() {
-                        return Err(Failure::Usage("-o is given twice; name one file to write".into()));
-                    }
-                }
-                Some("--modulus") => {
-                    let word = arguments.next().ok_or_else(|| Failure::Usage("--modulus needs a number".into()))?;
-                    if given.modulus.replace(number(&word.to_string_lossy())?).is_some() {
-                        return Err(Failure::Usage("--modulus is given twice; name one".into()));
-                    }
-                }
-                Some(text) if text.len() > 1 && text.starts_with('-') => {
-                    return Err(Failure::Usage(format!("there is no option {text}")));
-                }
+                Some(text) if is_switch(text) => given.take(command, takes, text, &mut arguments)?,
                 _ => given.words.push(argument),
             }
         }
         Ok(given)
+    }
+
+    /// Takes an option, whose value stands behind an equals sign or is the next argument.
+    fn take(&mut self, command: &str, takes: &'static [Switch], text: &str, arguments: &mut impl Iterator<Item = OsString>) -> Result<(), Failure> {
+        let (name, behind) = text.split_once('=').map_or((text, None), |(name, value)| (name, Some(value)));
+        let switch = takes.iter().find(|switch| switch.name == name).ok_or_else(|| Failure::Usage(format!("{command} takes no {name}")))?;
+        let value = match (switch.value, behind) {
+            ("", None) => OsString::new(),
+            ("", Some(_)) => return Err(Failure::Usage(format!("{name} has no value"))),
+            (_, Some(value)) => value.into(),
+            (what, None) => arguments.next().ok_or_else(|| Failure::Usage(format!("{name} needs {what}")))?,
+        };
+        if self.value(name).is_some() {
+            return Err(Failure::Usage(format!("{name} is given twice; give it once")));
+        }
+        self.switches.push((switch.name, value));
+        Ok(())
+    }
+
+    pub fn flag(&self, name: &str) -> bool {
+        self.value(name).is_some()
+    }
+
+    /// The value of an option, if it was given.
+    pub fn value(&self, name: &str) -> Option<&OsStr> {
+        self.switches.iter().find(|(switch, _)| *switch == name).map(|(_, value)| value.as_os_str())
+    }
+
+    /// The same of one that is a number.
+    pub fn number_of(&self, name: &str) -> Result<Option<u32>, Failure> {
+        self.value(name).map(|value| number(&value.to_string_lossy())).transpose()
     }
 
     pub fn number(&self, at: usize) -> Result<u32, Failure> {
@@ -63,8 +77,13 @@ impl Given {
     }
 
     pub fn output(&self) -> Option<&OsStr> {
-        self.output.as_deref()
+        self.value(OUTPUT.name)
     }
+}
+
+/// Whether an argument is an option: a minus sign with something behind it that is no number.
+fn is_switch(text: &str) -> bool {
+    text.strip_prefix('-').is_some_and(|rest| rest.starts_with(|first: char| !first.is_ascii_digit()))
 }
 
 /// A whole number from 0 on. One beyond 32 bits stands in a call as the greatest of 32 bits, which is refused as it would be.

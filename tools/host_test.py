@@ -25,14 +25,14 @@ import stat
 import struct
 import subprocess
 import time
-import zlib
 
-from brute_force import (LIMIT, P, PRIMES, ROOTS, Book, all_points, analysed, e, file_bytes, first_record, images, needed, number, open_file, pack_map,
-                         planes, point_images, read_cell, records_in, signed, volume_length)
+from brute_force import (LIMIT, P, PRIMES, ROOTS, Book, all_points, analysed, e, file_bytes, first_record, images, lengths_in, needed, number,
+                         open_file, pack_map, planes, point_images, read_cell, records_in, signed, volume_length)
 from expected_files import combined_bytes, map_bytes, map_head, map_text, records_text, shuffled, text_of, written
 from faults_cases import fewest, judged
 from faults_cases import files as faulty_files
 from mrc_cases import bits, mrc_file
+from pictures import picture, plane
 from printer_test import files
 from samples import combined, combined_text, second_file, section_text
 from section_cases import page
@@ -44,11 +44,11 @@ SEED = 1973
 REFUSALS = {"factor file": {3, 4, 5, 7, 8, 9, 10, 12, 15, 16, 24, 26}, "map file": {3, 4, 5, 7, 8, 9, 10, 14, 15, 16, 26},
             "combined map file": {3, 8, 9, 10, 14, 15, 16, 28}, "two files": {7, 12, 14, 15, 26, 27}, "for viewers": {8, 14, 15, 28, 29, 30},
             "overlay": {3, 15, 16, 28}, "best": {9, 15, 28}, "line": {1, 2, 3, 4, 5, 6, 7, 26}, "scores": {34}}
-COMMANDS = ["map", "factors", "rewrite", "records", "check", "faults", "info", "point", "factor", "power", "section", "picture", "combine", "mrc",
-            "overlay", "best", "line", "drift"]
-# Those that work on one file: on a factor file or a map file, on a combined map file too, on that alone.
-ON_FILES = COMMANDS[:12]
-ON_COMBINED = ["map", "check", "info", "point", "section", "picture"]
+COMMANDS = ["map", "factors", "rewrite", "records", "check", "faults", "info", "point", "factor", "power", "section", "picture", "stats",
+            "combine", "mrc", "overlay", "best", "line", "drift", "compare", "log"]
+# Those that work on one file: on a factor file or a map file, on a combined map file too, on one of its planes.
+ON_FILES = COMMANDS[:13]
+ON_COMBINED = ["map", "check", "info", "point", "section", "picture", "stats"]
 ON_PLANES = ["section", "picture"]
 # The greatest magnitude of a combined map's number.
 GREATEST = (PRIMES[1] * PRIMES[2] - 1) // 2
@@ -226,7 +226,7 @@ def zero_records(tool):
     again = (240 - first[0], 240 - first[1], 240 - first[2], 0, 0)
     path = tool.file("many", file_bytes(0, n, lists, zeros + [again]))
     status, out, err = tool.run("check", path)
-    found = found_text(31, zeros + [again], [77777, 100000])
+    found = found_text(31, zeros + [again], [77777, 100000], n)
     tool.expect(what + ", and one twice", (status, out.decode().split("\n")[0::2][:2], err), (1, ["refused 24 at 100000", found], b""))
     tool.expect(what + ", the faults", tool.run("faults", path, preexec_fn=bounded(0)), (1, faults_text(zeros + [again], [77777, 100000]), b""))
 
@@ -386,90 +386,8 @@ def refused_pairs(tool):
 
 # ---- planes
 
-MARGIN, BAR, ADVANCE, TEXT = 12, 20, 12, 14
-LEFT, TOP = MARGIN + ADVANCE, MARGIN + TEXT + MARGIN // 2
-
-
-def plane(tool, what, path, z, rows):
-    """Plane z as a page, printed and written, and as a picture."""
-    what = "%s: plane %d" % (what, z)
-    drawn, laid = tool.path("plane.png"), tool.path("plane.txt")
-    tool.expect(what, tool.run("section", path, z), (0, page(rows), b""))
-    tool.expect(what + ", to a file", (tool.run("section", path, z, "-o", laid), open(laid, "rb").read()), ((0, b"", b""), page(rows)))
-    tool.expect(what + " as a picture", tool.run("picture", path, z, "-o", drawn), (0, b"", b""))
-    picture(tool, what, open(drawn, "rb").read(), z, rows)
-
-
-def shown_in(png):
-    """The rows of a grey picture, a byte for each pixel. Lengths and sums of all parts are compared."""
-    assert png[:8] == b"\x89PNG\r\n\x1a\n"
-    parts, at = [], 8
-    while at < len(png):
-        length = number(png[at:at + 4])
-        name, data = png[at + 4:at + 8], png[at + 8:at + 8 + length]
-        assert number(png[at + 8 + length:at + 12 + length]) == zlib.crc32(name + data)
-        parts.append((name, data))
-        at += 12 + length
-    assert [name for name, _ in parts] == [b"IHDR", b"IDAT", b"IEND"] and at == len(png) and parts[0][1][8:] == bytes([8, 0, 0, 0, 0])
-    width, height = number(parts[0][1][:4]), number(parts[0][1][4:8])
-    data = zlib.decompress(parts[1][1])
-    assert len(data) == height * (width + 1) and not any(data[::width + 1])
-    return [bytearray(data[q + 1:q + 1 + width]) for q in range(0, len(data), width + 1)]
-
-
-def cut_out(rows, left, top, width, height):
-    """A part of a picture, which is white there afterwards."""
-    part = [bytes(row[left:left + width]) for row in rows[top:top + height]]
-    for row in rows[top:top + height]:
-        row[left:left + width] = b"\xff" * width
-    return part
-
-
-def framed(tool, what, rows, left, top, width, height):
-    """A part of a picture inside its frame."""
-    part = cut_out(rows, left - 1, top - 1, width + 2, height + 2)
-    black = bytes(width + 2)
-    tool.expect(what + ", its frame", (part[0], part[-1], {(row[0], row[-1]) for row in part}), (black, black, {(0, 0)}))
-    return [row[1:-1] for row in part[1:-1]]
-
-
-def texts(tool, what, rows, found):
-    """Texts at their places: the letters are learnt from where each first stands, and are the same wherever else."""
-    for left, top, text in found:
-        for k, letter in enumerate(text):
-            shape = cut_out(rows, left + ADVANCE * k, top, ADVANCE - 2, TEXT)
-            if letter != " ":
-                tool.expect("%s: the letter %s of %s" % (what, letter, text), shape, tool.glyphs.setdefault(letter, shape))
-
-
-def text_width(text):
-    return ADVANCE * len(text) - 2
-
-
-def picture(tool, what, png, z, numbers):
-    """A picture has the shade of every number, the bar, the texts, and nothing else."""
-    rows = shown_in(png)
-    each = max(1, min(48, 720 // max(len(numbers), len(numbers[0]))))
-    least, greatest = min(map(min, numbers)), max(map(max, numbers))
-    high, wide = each * len(numbers), each * len(numbers[0])
-    head = max(wide, text_width("z %d" % z) + 24 + text_width("y"))
-    length = max(head, text_width(str(least)) + 24 + text_width(str(greatest)))
-    size = (LEFT + length + MARGIN, TOP + high + MARGIN + BAR + MARGIN // 2 + TEXT + MARGIN)
-    tool.expect(what + ": the picture's size", (len(rows[0]), len(rows)), size)
-    shades = [[(v - least) * 510 // max(1, greatest - least) for v in row] for row in numbers]
-    want = [b"".join(bytes([(s + 1) // 2]) * each for s in row) for row in shades for _ in range(each)]
-    tool.expect(what + ": the picture's shades", framed(tool, what, rows, LEFT, TOP, wide, high), want)
-    bar = framed(tool, what, rows, LEFT, TOP + high + MARGIN, length, BAR)
-    tool.expect(what + ": the bar", (set(bar), bar[0][0], bar[0][-1], len(set(bar[0]))), ({bytes(sorted(bar[0]))}, 0, 255, min(256, length)))
-    under = TOP + high + MARGIN + BAR + MARGIN // 2
-    texts(tool, what, rows, [(LEFT, MARGIN, "z %d" % z), (LEFT + head - text_width("y"), MARGIN, "y"),
-                             (10, TOP + high - min(TEXT, high), "x"), (LEFT, under, str(least)),
-                             (LEFT + length - text_width(str(greatest)), under, str(greatest))])
-    tool.expect(what + ": white elsewhere", {bytes(row) for row in rows}, {b"\xff" * size[0]})
-
-
 def planes_of_all_kinds(tool):
-    """Planes of one number, long and wide ones, and those of files that have none; every letter of the pictures was seen, each of its own shape."""
+    """Planes of one number, long and wide ones, and those of files that are refused; every letter of the pictures was seen, each of its own shape."""
     rng = random.Random(SEED)
     for g, n in ((0, (2, 2, 2)), (1, (2880, 2, 2)), (4, (2, 2880, 2)), (0, (96, 120, 2)), (2, (2, 10, 12)), (3, (20, 18, 2))):
         for drawn in (lambda: 7, lambda: -GREATEST, lambda: rng.randrange(-9, 10), lambda: some_count(rng)):
@@ -481,10 +399,6 @@ def planes_of_all_kinds(tool):
     n, none = (4, 4, 4), tool.path("none")
     M = {q: 7 for q in all_points(n)}
     for command, more in (("section", []), ("section", ["-o", none]), ("picture", ["-o", none])):
-        for name, contents in (("factors", file_bytes(1, n, some_lists(n), [])), ("map", map_bytes(1, n, some_lists(n), M))):
-            path = tool.file(name, contents)
-            said = b"%s is not a combined map file; recorder combine makes one" % path.encode()
-            tool.fails("%s of a file of %s" % (command, name), (command, path, 0, *more), said)
         whole = combined_bytes(3, n, M)
         for contents, refusal in ((whole[:-1], 15), (whole + b"x", 15), (whole[:4] + b"\2" + whole[5:], 16), (whole[:5] + b"\5" + whole[6:], 8),
                                   (combined_bytes(3, n, {**M, (3, 3, 2): GREATEST + 1}), 28), (combined_bytes(3, n, {**M, (3, 3, 2): 8}), 14),
@@ -564,8 +478,7 @@ def not_for_viewers(tool):
     factors = tool.file("cut", file_bytes(0, n, some_lists(n), []))
     densities = tool.file("cut.map", map_bytes(0, n, some_lists(n), {q: 7 for q in all_points(n)}))
     for other in (factors, densities):
-        for words in (("mrc", other, "--cell", sound[0], "-o", none), ("best", other), ("overlay", other, path[0], "-o", none),
-                      ("overlay", path[0], other, "-o", none)):
+        for words in (("best", other), ("overlay", other, path[0], "-o", none), ("overlay", path[0], other, "-o", none)):
             tool.fails("%s of no combined map" % words[0], words, b"%s is not a combined map file" % other.encode())
     for words in ("", "1,2,3", "1,2,3,90,90", "1,2,3,90,90,90,90", "1,2,3,x", "1,2,,90", "1;2;3;90", " 1,2,3,90"):
         tool.fails("a cell of %r" % words, ("mrc", path[1], "--cell", words, "-o", none), b"--cell takes a,b,c")
@@ -674,10 +587,13 @@ def refused_overlays(tool):
 
 # ---- refusals
 
-def found_text(start, records, places):
-    """What check says of the records at fault, of which the last is the refused one; the first begins at a byte."""
+def found_text(start, records, places, n):
+    """What check says of the records at fault, of which the last is the refused one; the first begins at a byte. Then the indices that are not in the
+    cell."""
     said = ["record %d, from byte %d on: h %d, k %d, l %d, a %d, b %d" % (place, start + 14 * place, *records[place]) for place in reversed(places)]
-    return "found: " + "; of one orbit with ".join(said)
+    index = records[places[-1]]
+    outside = ["; %s is %d, but N%d is %d" % ("hkl"[axis], index[axis], axis + 1, n[axis]) for axis in range(3) if index[axis] >= n[axis]]
+    return "found: " + "; of one orbit with ".join(said) + "".join(outside)
 
 
 def faults_text(records, places):
@@ -694,7 +610,7 @@ def records_at_fault(tool):
             records = records_in(file)
             tool.expect(what, tool.run("faults", path), (1, faults_text(records, places), b""))
             status, out, err = tool.run("check", path)
-            found = found_text(first_record(file), records, places)
+            found = found_text(first_record(file), records, places, lengths_in(file))
             tool.expect(what + ": check", (status, out.decode().split("\n")[0::2][:2], err), (1, ["refused %d at %d" % (refusal, place), found], b""))
             break
         else:
@@ -717,7 +633,7 @@ def refused_records(tool):
         path = tool.file("records", file_bytes(g, n, lists, [(0, 0, 0, 1, 0), first, record, (3, 3, 3, 3, 3)]))
         status, out, err = tool.run("check", path)
         head, _, found, _, end = out.decode().split("\n")
-        contents = found_text(22, [(0, 0, 0, 1, 0), first, record], [1, 2] if refusal == 24 else [2])
+        contents = found_text(22, [(0, 0, 0, 1, 0), first, record], [1, 2] if refusal == 24 else [2], n)
         what = "group %d, record %s" % (g, record)
         tool.expect(what, (status, head, found, end, err), (1, "refused %d at 2" % refusal, contents, "", b""))
         tool.refused(what, ("point", path, 0, 0, 0), refusal, 2)
@@ -896,10 +812,10 @@ def command_line(tool):
     for words in ((), ("paint",), ("map",), ("map", path, path), ("map", path, "-o"), ("map", path, "--fast"), ("factors", path), ("rewrite", path),
                   ("check", path, "-o", "x"), ("records", path, "-o", "x"), ("faults", path, "-o", "x"),
                   ("rewrite", path, "-o", tool.path("none"), "--times"), ("map", path, "-o", tool.path("none"), "-o", tool.path("none")),
-                  ("info", path, "--times"), ("point", path, 1, 2), ("point", path, 1, 2, "z"), ("factor", path, 1, 2, "-3"), ("line", 1, 0, 4, "2;3"),
+                  ("info", path, "--times"), ("point", path, 1, 2), ("point", path, 1, 2, "z"), ("factor", path, 1, 2, "-"), ("line", 1, 0, 4, "2;3"),
                   ("combine", path, path), ("combine", path, "-o", "x"), ("combine", path, path, path, "-o", "x"), ("combine", "-", "-", "-o", "x"),
                   ("combine", path, path, "-o", tool.path("none"), "--times"), ("map", path, "--modulus", 2), ("line", 1, 0, 4, 2, "--modulus"),
-                  ("power",), ("power", path, "-o", "x"), ("power", path, 0), ("section", path), ("section", path, "z"), ("section", path, -1),
+                  ("power",), ("power", path, "-o", "x"), ("power", path, "--json"), ("section", path), ("section", path, "z"), ("section", path, "--1"),
                   ("section", path, 0, 0), ("section", path, 0, "--times"), ("picture", path, 0), ("picture", path, "-o", "x"),
                   ("picture", path, "y", "-o", "x"), ("line", 1, 0, 4, 2, "--modulus", "x"), ("line", 1, 0, 4, 2, "--modulus", 1, "--modulus", 1),
                   ("mrc", path), ("mrc", path, "-o", tool.path("none")), ("mrc", path, "--cell", "1,2,3,90"), ("mrc", path, "-o", "x", "--cell"),

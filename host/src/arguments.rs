@@ -1,5 +1,6 @@
 //! The command line: words and options of a command, and numbers in them.
 use crate::failure::Failure;
+use crate::indices::{Index, MEANT};
 use std::ffi::{OsStr, OsString};
 
 /// An option of a command: its name, what its value is (none where that is empty), and what it does.
@@ -11,6 +12,9 @@ pub struct Switch {
 
 /// Where a command writes.
 pub const OUTPUT: Switch = Switch { name: "-o", value: "the name of a file", brief: "the file to write; - is standard output" };
+
+/// For a program that reads what a command prints.
+pub const JSON: Switch = Switch { name: "--json", value: "", brief: "print a JSON object for each file, in a line of its own" };
 
 /// What a command was given.
 #[derive(Default)]
@@ -39,7 +43,7 @@ impl Given {
     /// Takes an option, whose value stands behind an equals sign or is the next argument.
     fn take(&mut self, command: &str, takes: &'static [Switch], text: &str, arguments: &mut impl Iterator<Item = OsString>) -> Result<(), Failure> {
         let (name, behind) = text.split_once('=').map_or((text, None), |(name, value)| (name, Some(value)));
-        let switch = takes.iter().find(|switch| switch.name == name).ok_or_else(|| Failure::Usage(format!("{command} takes no {name}")))?;
+        let switch = takes.iter().find(|switch| switch.name == name).ok_or_else(|| unknown(command, takes, name))?;
         let value = match (switch.value, behind) {
             ("", None) => OsString::new(),
             ("", Some(_)) => return Err(Failure::Usage(format!("{name} has no value"))),
@@ -71,14 +75,44 @@ impl Given {
         number(&self.words[at].to_string_lossy())
     }
 
-    /// Three indices from a place on.
-    pub fn indices(&self, from: usize) -> Result<[u32; 3], Failure> {
+    /// Three numbers from a place on.
+    pub fn numbers(&self, from: usize) -> Result<[u32; 3], Failure> {
         Ok([self.number(from)?, self.number(from + 1)?, self.number(from + 2)?])
+    }
+
+    pub fn index(&self, at: usize) -> Result<Index, Failure> {
+        index(&self.words[at])
+    }
+
+    /// The index that is the value of an option, if it was given.
+    pub fn index_of(&self, name: &str) -> Result<Option<Index>, Failure> {
+        self.value(name).map(index).transpose()
+    }
+
+    /// Three indices from a place on.
+    pub fn indices(&self, from: usize) -> Result<[Index; 3], Failure> {
+        Ok([self.index(from)?, self.index(from + 1)?, self.index(from + 2)?])
     }
 
     pub fn output(&self) -> Option<&OsStr> {
         self.value(OUTPUT.name)
     }
+}
+
+/// An option that the command does not take: those that it takes are named.
+fn unknown(command: &str, takes: &[Switch], name: &str) -> Failure {
+    let names: Vec<&str> = takes.iter().map(|switch| switch.name).collect();
+    let taken = match names.as_slice() {
+        [] => "no option but --help".into(),
+        [only] => format!("{only} alone"),
+        [first @ .., last] => format!("{} and {last}", first.join(", ")),
+    };
+    Failure::Usage(format!("{command} takes no {name}; it takes {taken}"))
+}
+
+fn index(word: &OsStr) -> Result<Index, Failure> {
+    let word = word.to_string_lossy();
+    Index::read(word.as_bytes()).ok_or_else(|| Failure::Usage(format!("{word:?} is not an index, {MEANT}")))
 }
 
 /// Whether an argument is an option: a minus sign with something behind it that is no number.

@@ -6,7 +6,8 @@
 //! it (14 where two images of a point have different numbers) and that read its points, through an image where a plane is not stored.
 use crate::failure::{cut, Failure};
 use crate::ffi::GridPoint;
-use crate::header::{bytes_of, length_bytes, read_lengths, Cell, Header, PRIMES};
+use crate::header::{bytes_of, chosen_list, length_bytes, read_lengths, Cell, Header, PRIMES};
+use crate::images;
 use crate::memory::zeros;
 use crate::progress::Told;
 use crate::recorder::{self, Recorder};
@@ -16,7 +17,7 @@ use std::io::{self, Read, Write};
 
 /// No factor file that is accepted begins with these letters: as a count they ask for more records than any volume has places.
 pub const LETTERS: [u8; 4] = *b"RCMB";
-const VERSION: u8 = 1;
+pub const VERSION: u8 = 1;
 const NUMBER: usize = 8;
 const BASE: i64 = PRIMES[1] as i64;
 /// The greatest magnitude: every number is one of 86,399 x 302,399 neighbours, as many below zero as above.
@@ -37,16 +38,12 @@ impl CombinedMap {
 
     /// The cell, and the numbers as a call takes them: the layout of a volume, two zeros behind each row. The digits are held until it is filled.
     pub fn into_volume(self) -> Result<(Cell, Vec<i64>), Failure> {
-        let mut volume = zeros(self.cell.volume_length())?;
-        for (places, row) in volume.chunks_exact_mut(self.cell.length(1) + 2).zip(self.rows()) {
-            places.iter_mut().zip(row).for_each(|(place, number)| *place = number);
-        }
+        let volume = recorder::laid_out(&self.cell, self.rows())?;
         Ok((self.cell, volume))
     }
 
     /// The rows by rising z, then x: each has the numbers by y.
     pub fn rows(&self) -> impl Iterator<Item = impl Iterator<Item = i64> + '_> {
-        let joined = |(&high, &low): (&u32, &u32)| i64::from(high) * BASE + i64::from(low) - GREATEST;
         self.high.rows().zip(self.low.rows()).map(move |(high, low)| high.iter().zip(low).map(joined))
     }
 }
@@ -54,10 +51,27 @@ impl CombinedMap {
 /// Reads what follows the letters in the file of a name.
 pub fn read(name: &OsStr, input: &mut impl Read, told: &Told) -> Result<CombinedMap, Failure> {
     let cell = read_cell(name, input)?;
+    read_numbers(name, input, cell, told)
+}
+
+/// Reads what follows the lengths.
+pub fn read_numbers(name: &OsStr, input: &mut impl Read, cell: Cell, told: &Told) -> Result<CombinedMap, Failure> {
     let [high, low] = read_digits(name, input, &cell, told)?;
-    let held = |volume| Recorder::of_map(digit_header(&cell), volume).map_err(|refusal| Refusal::of_cell(refusal.number, &cell));
-    let (high, low) = (held(high)?, held(low)?);
+    let held = |volume| Recorder::of_map(digit_header(&cell), volume);
+    let high = held(high).map_err(|(number, high)| refused(number, &cell, &high, &low))?;
+    let low = held(low).map_err(|(number, low)| refused(number, &cell, high.volume(), &low))?;
     Ok(CombinedMap { cell, high, low })
+}
+
+/// The refusal of a map by one of its digits.
+fn refused(number: u32, cell: &Cell, high: &[u32], low: &[u32]) -> Refusal {
+    let found = images::said(cell, "number", |place| joined((&high[place], &low[place])));
+    Refusal::of_found(number, found.unwrap_or_else(|| cell.described()))
+}
+
+/// The number of two digits.
+fn joined((&high, &low): (&u32, &u32)) -> i64 {
+    i64::from(high) * BASE + i64::from(low) - GREATEST
 }
 
 /// Reads group and lengths, which follow the letters, and has them judged.
@@ -66,8 +80,14 @@ pub fn read_cell(name: &OsStr, input: &mut impl Read) -> Result<Cell, Failure> {
     if version != VERSION {
         return Err(Refusal::of_version(version).into());
     }
-    recorder::judge(&digit_header(&cell)).map_err(|refusal| Refusal::of_cell(refusal.number, &cell))?;
+    judge(&cell)?;
     Ok(cell)
+}
+
+/// Whether there can be a combined map of a cell.
+pub fn judge(cell: &Cell) -> Result<(), Refusal> {
+    let header = digit_header(cell);
+    recorder::judge(&header).map_err(|refusal| Refusal::of_cell(refusal.number, &recorder::axes_at_fault(refusal.number, &header), cell))
 }
 
 fn read_header(input: &mut impl Read) -> io::Result<(u8, Cell)> {
@@ -104,19 +124,7 @@ fn read_digits(name: &OsStr, input: &mut impl Read, cell: &Cell, told: &Told) ->
 
 /// The header of a digit's map. A combined map has no factor lists; any that fit the lengths will do.
 fn digit_header(cell: &Cell) -> Header {
-    Header { version: 2, cell: cell.clone(), modulus: 2, lists: cell.lengths.map(any_list) }
-}
-
-/// Factors of half a length, as of an admitted one.
-pub fn any_list(length: u16) -> Vec<u8> {
-    let (mut rest, mut list) = (length / 2, Vec::new());
-    for factor in [2, 3, 5] {
-        while rest > 0 && rest % factor == 0 {
-            rest /= factor;
-            list.push(factor as u8);
-        }
-    }
-    list
+    Header { version: 2, cell: cell.clone(), modulus: 2, lists: cell.lengths.map(chosen_list) }
 }
 
 /// Writes the numbers of a cell, row by row.

@@ -1,9 +1,9 @@
 //! The overlay of two combined maps of P1: at each shift the sum of their products over the cell, which the proved call finds. And the best of
 //! its shifts, whose value is what the log of a crystal keeps as a score.
-use crate::combined_map::{any_list, CombinedMap};
+use crate::combined_map::CombinedMap;
 use crate::failure::{shown, Failure};
 use crate::ffi;
-use crate::header::Cell;
+use crate::header::{chosen_list, Cell};
 use crate::input;
 use crate::memory::zeros;
 use crate::recorder::{self, SCRATCH};
@@ -26,7 +26,7 @@ pub fn read(name: &OsStr) -> Result<CombinedMap, Failure> {
 /// that is 36 bytes for each number of the volume. Combined maps have no factor lists, and the values do not depend on them: any that fit the
 /// lengths will do.
 pub fn overlay(cell: &Cell, first: &[i64], second: &[i64]) -> Result<Vec<i64>, Failure> {
-    let lists = cell.lengths.map(any_list);
+    let lists = cell.lengths.map(chosen_list);
     let count = cell.volume_length();
     let (mut values, mut work1, mut work2, mut work3) = (zeros(count)?, zeros(count)?, zeros(count)?, zeros(count)?);
     let answer = ffi::correlate(

@@ -134,6 +134,9 @@ fn score(word: &[u8]) -> Option<i64> {
 }
 
 fn no_score(name: &OsStr, line: usize, word: &[u8]) -> Failure {
+    if word.iter().any(u8::is_ascii_control) {
+        return Failure::Trouble(format!("{}, line {line}, has bytes that are no text; name a file of whole numbers", shown(name)));
+    }
     let word = String::from_utf8_lossy(word);
     Failure::Trouble(format!("{}, line {line}: {word:?} is not a whole number from {} to {}", shown(name), i64::MIN, i64::MAX))
 }

@@ -5,7 +5,18 @@ use std::cmp::Ordering;
 use std::fmt::{self, Display, Formatter};
 
 const COUNT: usize = 4;
-const RECORD: usize = 14;
+pub const RECORD: usize = 14;
+/// The first bytes that tell whether a file is a text, and the letters of it that are shown.
+const LOOKED_AT: usize = 256;
+const LINE_SHOWN: usize = 40;
+const TEXT: &str = "make a factor file of it with recorder pack, if it has records, or name the factor file";
+/// Files of other kinds that come to hand: where their letters stand, these letters, what they are and what to do.
+const OTHERS: [(usize, &[u8], &str, &str); 4] = [
+    (0, &[0x1f, 0x8b], "a file that is compressed, by gzip", "decompress it first: gunzip FILE"),
+    (0, b"PK\x03\x04", "an archive, by zip", "take the file out of it first: unzip FILE"),
+    (0, b"\x89PNG", "a picture, a PNG file", "name the file that it was made from: no command reads a picture"),
+    (208, b"MAP ", "a map for viewers, in the format MRC", "name the file that it was made from: no command reads a map for viewers"),
+];
 /// No accepted file has a greater count of bytes: its header has three lists of at most 255 factors, and no two of its records are of one orbit,
 /// each of which has a place of its own in the volume of at most 16,777,216 numbers.
 pub const MOST_COUNT: u64 = 9 + 3 * 256 + 4 + 14 * 16_777_216;
@@ -31,6 +42,11 @@ pub struct Record {
 }
 
 impl Record {
+    /// h, k, l.
+    pub fn index(&self) -> [u32; 3] {
+        [self.at.h, self.at.k, self.at.l]
+    }
+
     /// h, k, l, a, b.
     pub fn numbers(&self) -> [u32; 5] {
         [self.at.h, self.at.k, self.at.l, self.a, self.b]
@@ -39,7 +55,15 @@ impl Record {
 
 /// A record of a file whose shape is sound.
 pub fn record(file: &[u8], header: &Header, place: u32) -> Record {
-    let byte = length(header, place as usize);
+    record_from(file, place, length(header, place as usize))
+}
+
+/// All records of a file whose shape is sound, in its order.
+pub fn all_records<'a>(file: &'a [u8], header: &Header) -> impl Iterator<Item = Record> + 'a {
+    (0..).zip((records_at(header)..file.len()).step_by(RECORD)).map(|(place, byte)| record_from(file, place, byte))
+}
+
+fn record_from(file: &[u8], place: u32, byte: usize) -> Record {
     let part = |from: usize, to: usize| number(&file[byte + from..byte + to]);
     let at = Reflection { h: part(0, 2), k: part(2, 4), l: part(4, 6) };
     Record { place, byte, at, a: part(6, 10), b: part(10, 14) }
@@ -54,15 +78,33 @@ impl Display for Record {
 
 /// How a file that is refused for its length is filled.
 pub fn filling(file: &[u8]) -> String {
-    if file.len() < 5 {
-        return format!("{} bytes, fewer than 5", file.len());
+    match file.len() {
+        0 => return "an empty file".into(),
+        1..5 => return format!("{} bytes, fewer than 5", file.len()),
+        _ => {}
     }
     let (count, following) = (number(&file[..COUNT]) as usize, file.len() - COUNT);
     match following.cmp(&count) {
-        Ordering::Less => format!("{following} bytes after a count of {count}"),
+        Ordering::Less => format!("{following} bytes after the count, which asks for {count}"),
         Ordering::Equal => format!("header, lists and records that do not fill the {count} bytes exactly"),
-        Ordering::Greater => format!("more bytes than the count of {count}"),
+        Ordering::Greater => format!("more bytes after the count than the {count} that it asks for"),
     }
+}
+
+/// What a file that is refused for its length looks like, and what to do then: of a file of a kind that is told by its first bytes, or of a text.
+pub fn another_kind(file: &[u8]) -> Option<(String, &'static str)> {
+    let known = OTHERS.iter().find(|(at, letters, _, _)| file.get(*at..).is_some_and(|rest| rest.starts_with(letters)));
+    let text = || text(&file[..file.len().min(LOOKED_AT)]).map(|line| (format!("a text, which begins with {line:?}"), TEXT));
+    known.map(|&(_, _, kind, remedy)| (kind.into(), remedy)).or_else(text)
+}
+
+/// The beginning of the first line with something on it, where bytes are letters, blanks and ends of lines alone; the last letter may be cut.
+fn text(bytes: &[u8]) -> Option<String> {
+    let end = std::str::from_utf8(bytes).map_or_else(|error| error.error_len().map_or(error.valid_up_to(), |_| 0), str::len);
+    let text =
+        std::str::from_utf8(&bytes[..end]).ok().filter(|text| text.chars().all(|letter| !letter.is_control() || letter.is_ascii_whitespace()))?;
+    let line = text.lines().find(|line| !line.trim().is_empty())?;
+    Some(line.chars().take(LINE_SHOWN).collect())
 }
 
 fn records_at(header: &Header) -> usize {

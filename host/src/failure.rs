@@ -12,8 +12,14 @@ pub enum Failure {
     Reported,
     /// The command line asks for nothing that there is.
     Usage(String),
+    /// The same of a command: its name and what follows it.
+    Misused(String, &'static str, &'static str),
     /// A file or a stream could not be read or written.
     Trouble(String),
+    /// The same for a reason of the system's: what could not be done, with which file, why, and what to do.
+    File { what: &'static str, name: String, why: String, advice: &'static str },
+    /// The same of one among several files, and the command has said which.
+    Told,
     /// The system has no memory for so many bytes.
     NoMemory(usize),
     /// Who read standard output has closed it: all that was wanted is written.
@@ -27,7 +33,7 @@ impl Failure {
         match self {
             Failure::Closed => 0,
             Failure::Refused(_) | Failure::Reported => 1,
-            Failure::Usage(_) | Failure::Trouble(_) | Failure::NoMemory(_) => 2,
+            Failure::Usage(_) | Failure::Misused(..) | Failure::Trouble(_) | Failure::File { .. } | Failure::Told | Failure::NoMemory(_) => 2,
             Failure::Of(_, failure) => failure.status(),
         }
     }
@@ -37,6 +43,14 @@ impl Failure {
         match self {
             Failure::Of(..) => self,
             failure => Failure::Of(input, Box::new(failure)),
+        }
+    }
+
+    /// A wrong command line, of a command.
+    pub fn of_command(self, name: &'static str, usage: &'static str) -> Failure {
+        match self {
+            Failure::Usage(text) => Failure::Misused(text, name, usage),
+            failure => failure,
         }
     }
 
@@ -50,14 +64,26 @@ impl Failure {
     /// What is said, with the file where the words do not name it.
     fn said_of(&self, file: &str) -> String {
         match self {
-            Failure::Closed | Failure::Reported => String::new(),
+            Failure::Closed | Failure::Reported | Failure::Told => String::new(),
             Failure::Refused(refusal) => format!("recorder: {file}{}\n{}", refusal.line(), refusal.explained()),
             Failure::Usage(text) => format!("recorder: {text}\nrecorder --help lists the commands; recorder COMMAND --help explains one.\n"),
-            Failure::Trouble(text) => format!("recorder: {text}\n"),
-            Failure::NoMemory(bytes) => {
-                format!("recorder: {file}there is no memory for {bytes} bytes; close other programs, or use a smaller grid\n")
+            Failure::Misused(text, name, usage) => {
+                format!("recorder: {text}\nusage: recorder {name} {usage}\nrecorder {name} --help says more.\n")
             }
+            Failure::Trouble(text) => format!("recorder: {text}\n"),
+            Failure::File { what, name, why, advice } => format!("recorder: {what} {name}: {why}; {advice}\n"),
+            Failure::NoMemory(bytes) => format!("recorder: {file}{}; {NO_MEMORY_ADVICE}\n", no_memory(*bytes)),
             Failure::Of(_, failure) => failure.said_of(file),
+        }
+    }
+
+    /// What could not be done, why, and what to do: of a file that is not named, since it is one among several.
+    pub fn apart(&self) -> (&'static str, String, &'static str) {
+        match self {
+            Failure::Of(_, failure) => failure.apart(),
+            Failure::File { what, why, advice, .. } => (what, why.clone(), advice),
+            Failure::NoMemory(bytes) => (UNREAD, no_memory(*bytes), NO_MEMORY_ADVICE),
+            other => (UNREAD, other.said().trim_end().into(), "see what recorder check says of the file alone"),
         }
     }
 
@@ -69,7 +95,17 @@ impl Failure {
             ErrorKind::OutOfMemory => "close other programs",
             _ => "see that it is a whole, readable file",
         };
-        Failure::trouble("cannot read", name, error, advice)
+        Failure::trouble(UNREAD, name, error, advice)
+    }
+
+    /// Of a combined map among several files, where it has nothing for the command.
+    pub fn combined(name: &OsStr) -> Failure {
+        Failure::trouble(UNREAD, name, &"a combined map file has no records and no factors", "name a file that it was combined from")
+    }
+
+    /// Of a folder, a pipe or a device, where the bytes must be there to be read again.
+    pub fn irregular(name: &OsStr) -> Failure {
+        Failure::trouble(UNREAD, name, &"it is not a regular file", "name a file")
     }
 
     pub fn unwritten(name: &OsStr, error: &io::Error) -> Failure {
@@ -79,7 +115,7 @@ impl Failure {
             ErrorKind::IsADirectory => "name a file in it",
             _ => "make room or choose another place, and run again: what was there before is unchanged",
         };
-        Failure::trouble("cannot write", name, error, advice)
+        Failure::trouble(UNWRITTEN, name, error, advice)
     }
 
     /// Of standard output, a named pipe or a device, which get what is written at once.
@@ -88,12 +124,20 @@ impl Failure {
             ErrorKind::BrokenPipe => "run again with a reader that reads to the end: what it has now is not whole",
             _ => "make room or choose another place, and run again: what is there now is not whole",
         };
-        Failure::trouble("cannot write", name, error, advice)
+        Failure::trouble(UNWRITTEN, name, error, advice)
     }
 
-    fn trouble(what: &str, name: &OsStr, error: &dyn Display, advice: &str) -> Failure {
-        Failure::Trouble(format!("{what} {}: {error}; {advice}", shown(name)))
+    fn trouble(what: &'static str, name: &OsStr, error: &dyn Display, advice: &'static str) -> Failure {
+        Failure::File { what, name: shown(name), why: error.to_string(), advice }
     }
+}
+
+pub const UNREAD: &str = "cannot read";
+pub const UNWRITTEN: &str = "cannot write";
+const NO_MEMORY_ADVICE: &str = "close other programs, or use a smaller grid";
+
+fn no_memory(bytes: usize) -> String {
+    format!("there is no memory for {bytes} bytes")
 }
 
 /// Of an input that ends too soon: refused, with what was found. Any other error is the system's.

@@ -2,8 +2,8 @@
 //!
 //! Each call is lent slices, so what the header asks of a buffer holds: the pointer is not null and is aligned, the memory is initialised, and
 //! no two buffers of a call overlap but those that are only read. The library keeps no pointer. tools/interface_test.py holds the declarations
-//! here to the header and the header to crates/exported/src/lib.rt; the test below holds the structs' layouts to those of a C compiler, and the
-//! header's version to the tool's.
+//! here to the header and the header to crates/exported/src/lib.rt; the test below holds the structs' layouts to those of a C compiler. The header's
+//! version is that of the calls, and stays where the tool alone changes: the test holds it to the tool's first number, and to be no later.
 #![allow(unsafe_code)]
 
 /// A reflection's index.
@@ -390,8 +390,9 @@ mod layout {
 
     /// A C program that fails to compile where a layout differs.
     fn assertions() -> String {
-        let version = env!("CARGO_PKG_VERSION").split('.').fold(0, |all, part| 100 * all + part.parse::<u32>().expect("a number"));
-        let mut text = format!("#include \"recorder.h\"\n_Static_assert(RECORDER_VERSION == {version}, \"version of the tool\");\n");
+        let tool = env!("CARGO_PKG_VERSION").split('.').fold(0, |all, part| 100 * all + part.parse::<u32>().expect("a number"));
+        let version = format!("RECORDER_VERSION / 10000 == {} && RECORDER_VERSION <= {tool}", tool / 10000);
+        let mut text = format!("#include \"recorder.h\"\n_Static_assert({version}, \"version of the tool\");\n");
         for Layout(name, size, alignment, fields) in layouts() {
             text += &format!("_Static_assert(sizeof({name}) == {size}, \"size of {name}\");\n");
             text += &format!("_Static_assert(_Alignof({name}) == {alignment}, \"alignment of {name}\");\n");

@@ -9,6 +9,13 @@ const GROUPS: [&str; 5] = ["P1", "P2_1", "Pm", "Pa", "P2_1 2_1 2_1"];
 /// The primes of moduli 1 and 2.
 pub const PRIMES: [u32; 2] = [86_399, 302_399];
 
+/// The group of a name, however its screw axes and blanks are written: P2_1 2_1 2_1, P2_12_12_1, P212121, P 21 21 21 or with the subscript ₁.
+pub fn group_named(name: &str) -> Option<u8> {
+    let plain = |name: &str| name.replace("2₁", "21").replace("2_1", "21").replace(' ', "");
+    let named = plain(name);
+    GROUPS.iter().position(|group| plain(group) == named).map(|group| group as u8)
+}
+
 #[derive(Clone)]
 pub struct Cell {
     pub group: u8,
@@ -66,6 +73,11 @@ impl Cell {
         format!("x {}, y {}, z {}", row % across, place % along, row / across)
     }
 
+    /// The same lengths in P1, which stores every plane.
+    pub fn in_p1(&self) -> Cell {
+        Cell { group: 0, ..self.clone() }
+    }
+
     pub fn described(&self) -> String {
         let [n1, n2, n3] = self.lengths;
         format!("group {} ({}), lengths {n1} {n2} {n3}", self.group, self.group_name())
@@ -87,6 +99,15 @@ impl Header {
         let [modulus] = if version == 2 { bytes_of(input)? } else { [1] };
         let cell = Cell { group, lengths: read_lengths(input)? };
         Ok(Header { version, cell, modulus, lists: [read_list(input)?, read_list(input)?, read_list(input)?] })
+    }
+
+    /// The same with a list on one of its axes, and the two others the shortest that there are, which have no factors.
+    pub fn of_axis(&self, axis: usize, list: &[u8]) -> Header {
+        let mut alone = Header { lists: [const { Vec::new() }; 3], ..self.clone() };
+        alone.cell.lengths = [2; 3];
+        alone.cell.lengths[axis] = self.cell.lengths[axis];
+        alone.lists[axis] = list.to_vec();
+        alone
     }
 
     pub fn bytes(&self) -> Vec<u8> {
@@ -111,10 +132,24 @@ impl Header {
         PRIMES[usize::from(self.modulus) - 1]
     }
 
+    /// The whole number next to zero that is congruent to a residue.
+    pub fn signed(&self, residue: u32) -> i64 {
+        let (prime, residue) = (i64::from(self.prime()), i64::from(residue));
+        if residue > prime / 2 {
+            residue - prime
+        } else {
+            residue
+        }
+    }
+
     /// Group, lengths, modulus and lists in a line.
     pub fn described(&self) -> String {
-        let lists: Vec<String> = self.lists.iter().map(|list| list_text(list)).collect();
-        format!("{}, modulus {}, lists {}", self.cell.described(), self.modulus, lists.join(" "))
+        format!("{}, modulus {}, lists {}", self.cell.described(), self.modulus, self.lists_text())
+    }
+
+    /// The three factor lists with blanks between them.
+    pub fn lists_text(&self) -> String {
+        self.lists.each_ref().map(|list| list_text(list)).join(" ")
     }
 }
 
@@ -140,6 +175,18 @@ fn read_list(input: &mut impl Read) -> io::Result<Vec<u8>> {
     let mut list = vec![0; usize::from(count)];
     input.read_exact(&mut list)?;
     Ok(list)
+}
+
+/// Factors of half an admitted length, as few as can be, 4 before the others: for what has no list of its own.
+pub fn chosen_list(length: u16) -> Vec<u8> {
+    let (mut rest, mut list) = (length / 2, Vec::new());
+    for factor in [4, 5, 3, 2] {
+        while rest > 0 && rest % factor == 0 {
+            rest /= factor;
+            list.push(factor as u8);
+        }
+    }
+    list
 }
 
 /// A factor list as the command line takes it: numbers with commas between them, a minus sign for no factors.

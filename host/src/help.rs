@@ -1,19 +1,26 @@
-//! What help prints: an overview of all commands, or what one of them does.
-use crate::commands::{Command, COMMANDS};
+//! What help prints: an overview of all commands, what one of them does, the version, and the few words for who names no command.
+use crate::commands::{all_commands, Command, COMMANDS};
 
-const FIRST: &str = "recorder: maps of unit cells from their structure factors, and back, modulo 86,399 or 302,399\n";
-const LAST: &str = "
-recorder COMMAND --help says more about a command.
+pub const FIRST: &str = "maps of unit cells from their structure factors, and back, modulo 86,399 or 302,399";
+pub const VERSION: &str = concat!("recorder ", env!("CARGO_PKG_VERSION"));
+/// What a FILE is.
+pub const FILES: &str = "\
 A FILE is a factor file or a map file, told apart by its first four bytes; rewrite, records and faults take a factor file, drift a file of
-scores; map, check, info and point take a combined map file too, section, picture, mrc, overlay and best that alone. - is standard input.
-Exit status: 0 done, 1 the input was refused, 2 a wrong command line or a file that cannot be read or written.
+scores; map, check, info, log, point, section, picture, mrc, stats and compare take a combined map file too, overlay and best that alone, pack a
+text. - is standard input.
 ";
+/// The exit statuses and what they mean.
+pub const STATUSES: [(&str, &str); 3] = [
+    ("0", "done"),
+    ("1", "the input was refused, or two files that compare was given are not the same"),
+    ("2", "a wrong command line or a file that cannot be read or written"),
+];
 /// Where what a command gives stands in its line.
 const COLUMN: usize = 38;
 
 /// The overview: a line for each command, two where its words are many.
 pub fn all() -> String {
-    let mut text = FIRST.to_string();
+    let mut text = format!("recorder: {FIRST}\n");
     for (heading, commands) in COMMANDS {
         text += &format!("\n{heading}\n");
         for command in commands {
@@ -25,7 +32,10 @@ pub fn all() -> String {
             };
         }
     }
-    text + LAST
+    let statuses = STATUSES.map(|(status, meaning)| format!("  {status} {meaning}\n")).concat();
+    text + "\nrecorder help COMMAND, or recorder COMMAND --help, says more about a command; recorder --version has the version.\n"
+        + FILES
+        + &format!("Exit status:\n{statuses}")
 }
 
 /// What a command does, and its options.
@@ -35,7 +45,18 @@ pub fn of(command: &Command) -> String {
         text += "\nOptions\n";
     }
     for switch in command.switches {
-        text += &format!("  {:12}{}\n", switch.name, switch.brief);
+        text += &format!("  {:14}{}\n", switch.name, switch.brief);
     }
     text
+}
+
+/// What is said where no command is named.
+pub fn short() -> String {
+    let names: Vec<&str> = all_commands().map(|command| command.name).collect();
+    format!("{FIRST}\nusage: recorder COMMAND [FILE ..] [OPTION ..]\ncommands: {}", names.join(" "))
+}
+
+/// The version, and what proved the library that is linked.
+pub fn version() -> String {
+    format!("{VERSION}\n{}\n", env!("RECORDER_TOOLCHAIN"))
 }

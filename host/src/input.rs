@@ -2,11 +2,15 @@
 //! read further than it can be right.
 use crate::arguments::number;
 use crate::combined_map::{self, CombinedMap};
-use crate::factor_file::MOST_COUNT;
+use crate::factor_file::{self, MOST_COUNT};
 use crate::failure::{shown, Failure};
+use crate::ffi::GridPoint;
+use crate::header::Cell;
+use crate::known::Known;
 use crate::map_file;
 use crate::progress::{self, Told};
-use crate::recorder::Recorder;
+use crate::recorder::{self, factor_file_header, Recorder};
+use crate::words::Refusal;
 use std::ffi::OsStr;
 use std::fs::File;
 use std::io::{self, BufReader, ErrorKind, Read};
@@ -25,11 +29,49 @@ pub enum Entry {
     Combined(Box<dyn Read>),
 }
 
+impl Entry {
+    /// What a file is, in words, as far as that is known.
+    fn described(&self) -> Option<String> {
+        match self {
+            Entry::Map(_) => Some("a map file".into()),
+            Entry::Combined(_) => Some("a combined map file".into()),
+            Entry::Factors(file) if file.is_empty() => Some("an empty file".into()),
+            Entry::Factors(file) if factor_file_header(file).is_ok() => Some("a factor file".into()),
+            Entry::Factors(file) => factor_file::another_kind(file).map(|(kind, _)| kind),
+        }
+    }
+}
+
 /// What a file holds.
 pub enum Held {
     /// A job: collecting, or with its map held.
     Job(Recorder),
     Combined(CombinedMap),
+}
+
+impl Held {
+    /// Synthesis, where no map is held.
+    pub fn with_map(mut self) -> Result<Held, Failure> {
+        if let Held::Job(recorder) = &mut self {
+            progress::during("synthesis", |_| recorder.hold_map())?;
+        }
+        Ok(self)
+    }
+
+    pub fn cell(&self) -> &Cell {
+        match self {
+            Held::Job(recorder) => &recorder.header.cell,
+            Held::Combined(map) => &map.cell,
+        }
+    }
+
+    /// The whole number at a point of the map.
+    pub fn point(&self, at: GridPoint) -> Result<i64, Refusal> {
+        match self {
+            Held::Job(recorder) => recorder.point(at).map(i64::from),
+            Held::Combined(map) => map.point(at),
+        }
+    }
 }
 
 /// Opens a file and says how long it is; a minus sign names standard input, whose length is not known, and 0.
@@ -48,6 +90,11 @@ pub fn source(name: &OsStr) -> io::Result<(BufReader<Box<dyn Read>>, u64)> {
 /// What a file is.
 pub fn entry(name: &OsStr) -> Result<Entry, Failure> {
     source(name).and_then(|(source, length)| sorted(source, length)).map_err(|error| Failure::unread(name, &error))
+}
+
+/// The same of a file that is open, with its length.
+pub fn entry_of(name: &OsStr, source: Box<dyn Read>, length: u64) -> Result<Entry, Failure> {
+    sorted(BufReader::with_capacity(BUFFER, source), length).map_err(|error| Failure::unread(name, &error))
 }
 
 /// No more is read of a factor file than one byte beyond its count: with that byte it is refused, whatever follows. One that goes on beyond the
@@ -77,10 +124,45 @@ fn sorted(mut source: BufReader<Box<dyn Read>>, length: u64) -> io::Result<Entry
 }
 
 pub fn held(name: &OsStr) -> Result<Held, Failure> {
-    progress::during("reading", |told| match entry(name)? {
-        Entry::Combined(mut rest) => combined_map::read(name, &mut rest, told).map(Held::Combined),
-        entry => job_of(name, entry, told).map(Held::Job),
-    })
+    progress::during("reading", |told| held_of(name, entry(name)?, &mut None, told))
+}
+
+/// The same, and what the header says as soon as it is judged: it is known also where what follows is refused.
+pub fn held_and_known(name: &OsStr, known: &mut Option<Known>) -> Result<Held, Failure> {
+    progress::during("reading", |told| held_of(name, entry(name)?, known, told))
+}
+
+pub fn held_of(name: &OsStr, entry: Entry, known: &mut Option<Known>, told: &Told) -> Result<Held, Failure> {
+    match entry {
+        Entry::Factors(file) => {
+            *known = Some(Known::of_factors(&file)?);
+            Recorder::of_factor_file(&file).map(Held::Job)
+        }
+        Entry::Map(mut rest) => {
+            let header = map_file::read_header(name, &mut rest)?;
+            *known = Some(Known::of_map(&header));
+            map_file::read_densities(name, &mut rest, header, told).map(Held::Job)
+        }
+        Entry::Combined(mut rest) => {
+            let cell = combined_map::read_cell(name, &mut rest)?;
+            *known = Some(Known::of_combined(&cell));
+            combined_map::read_numbers(name, &mut rest, cell, told).map(Held::Combined)
+        }
+    }
+}
+
+/// The map of any file; that of a factor file is synthesised.
+pub fn map(name: &OsStr) -> Result<Held, Failure> {
+    held(name)?.with_map()
+}
+
+/// The cell of any file's map and its whole numbers as a call takes them: the layout of a volume, two zeros behind each row. What they are made
+/// from is held until they are there: 12 bytes for each number of the volume, of a combined map 16, then 8.
+pub fn numbers(name: &OsStr) -> Result<(Cell, Vec<i64>), Failure> {
+    match map(name)? {
+        Held::Job(recorder) => recorder::laid_out(&recorder.header.cell, recorder.signed_rows()).map(|numbers| (recorder.header.cell, numbers)),
+        Held::Combined(map) => map.into_volume(),
+    }
 }
 
 /// The job of a file, for a command that a combined map has nothing for.
@@ -88,13 +170,29 @@ pub fn job(name: &OsStr) -> Result<Recorder, Failure> {
     progress::during("reading", |told| job_of(name, entry(name)?, told))
 }
 
+/// The same, and what the header says.
+pub fn job_and_known(name: &OsStr, known: &mut Option<Known>) -> Result<Recorder, Failure> {
+    progress::during("reading", |told| {
+        let mut entry = entry(name)?;
+        if let Entry::Combined(_) = entry {
+            *known = Known::of(name, &mut entry).ok();
+            return Err(Failure::combined(name));
+        }
+        match held_of(name, entry, known, told)? {
+            Held::Job(recorder) => Ok(recorder),
+            Held::Combined(_) => Err(Failure::combined(name)),
+        }
+    })
+}
+
 /// The combined map of a file, for a command that no other file has anything for.
 pub fn combined(name: &OsStr) -> Result<CombinedMap, Failure> {
     progress::during("reading", |told| match entry(name)? {
         Entry::Combined(mut rest) => combined_map::read(name, &mut rest, told),
-        _ => Err(Failure::Trouble(format!(
-            "{} is not a combined map file; recorder combine makes one from a factor file or a map file for each prime",
-            shown(name)
+        other => Err(Failure::Trouble(format!(
+            "{} is not a combined map file{}; recorder combine makes one from a factor file or a map file for each prime",
+            shown(name),
+            other.described().map_or_else(String::new, |kind| format!(" but {kind}"))
         ))),
     })
 }
@@ -137,7 +235,8 @@ pub fn line() -> Result<Vec<u32>, Failure> {
         if !byte.is_ascii_whitespace() {
             word.push(byte);
         } else if !word.is_empty() {
-            numbers.push(number(&String::from_utf8_lossy(&word))?);
+            let text = String::from_utf8_lossy(&word);
+            numbers.push(number(&text).map_err(|_| Failure::Trouble(format!("standard input: {text:?} is not a whole number from 0 on")))?);
             word.clear();
         }
         if numbers.len() > MOST_NUMBERS {

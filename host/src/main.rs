@@ -1,29 +1,47 @@
-//! The map recorder as a command line tool, over the proved library that `rt staticlib exported` writes. `recorder --help` explains it.
+//! The map recorder as a command line tool, over the proved library that `rt staticlib exported` writes. `recorder help` explains it.
 #![deny(unsafe_code)]
 
 mod arguments;
+mod axes;
+mod batch;
 mod combined_map;
 mod commands;
+mod completion;
 mod correlation;
+mod date;
+mod deflate;
+mod difference;
 mod drift;
 mod factor_file;
+mod factor_text;
 mod failure;
 mod ffi;
+mod hashed;
 mod header;
 mod help;
+mod images;
+mod indices;
 mod input;
+mod json;
+mod known;
+mod man;
 mod map_file;
 mod memory;
 mod mrc;
+mod nearest;
+mod one_line;
 mod output;
 mod picture;
 mod png;
 mod progress;
+mod readings;
 mod recorder;
 mod section;
+mod sha256;
 mod signals;
 mod text;
 mod times;
+mod whole_cell;
 mod words;
 
 use std::env;

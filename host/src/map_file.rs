@@ -19,8 +19,13 @@ const DENSITY: usize = 4;
 /// Reads what follows the letters in the file of a name.
 pub fn read(name: &OsStr, input: &mut impl Read, told: &Told) -> Result<Recorder, Failure> {
     let header = read_header(name, input)?;
+    read_densities(name, input, header, told)
+}
+
+/// Reads what follows the header.
+pub fn read_densities(name: &OsStr, input: &mut impl Read, header: Header, told: &Told) -> Result<Recorder, Failure> {
     let volume = read_volume(name, input, &header.cell, told)?;
-    Ok(Recorder::of_map(header, volume)?)
+    Recorder::of_map(header.clone(), volume).map_err(|(number, volume)| Refusal::of_map(number, &header, &volume).into())
 }
 
 /// Reads the header that follows the letters, and has it judged.
@@ -53,15 +58,19 @@ fn read_volume(name: &OsStr, input: &mut impl Read, cell: &Cell, told: &Told) ->
 
 /// Writes a held map.
 pub fn write(recorder: &Recorder, out: &mut impl Write, told: &Told) -> io::Result<()> {
+    write_rows(&recorder.header, recorder.rows().map(|values| values.iter().copied()), out, told)
+}
+
+/// Writes the residues of a header's cell, row by row.
+pub fn write_rows(header: &Header, rows: impl Iterator<Item = impl Iterator<Item = u32>>, out: &mut impl Write, told: &Told) -> io::Result<()> {
     out.write_all(&LETTERS)?;
-    out.write_all(&recorder.header.written().bytes())?;
-    let rows = recorder.header.cell.rows();
+    out.write_all(&header.written().bytes())?;
     let mut bytes = Vec::new();
-    for (done, values) in recorder.rows().enumerate() {
+    for (done, row) in rows.enumerate() {
         bytes.clear();
-        bytes.extend(values.iter().flat_map(|density| density.to_be_bytes()));
+        bytes.extend(row.flat_map(u32::to_be_bytes));
         out.write_all(&bytes)?;
-        told.done(done, rows);
+        told.done(done, header.cell.rows());
     }
     Ok(())
 }

@@ -7,3 +7,8 @@ pub fn zeros<T: Clone + Default>(count: usize) -> Result<Vec<T>, Failure> {
     buffer.resize(count, T::default());
     Ok(buffer)
 }
+
+/// Room for some more behind what a buffer has.
+pub fn room<T>(buffer: &mut Vec<T>, more: usize) -> Result<(), Failure> {
+    buffer.try_reserve(more).map_err(|_| Failure::NoMemory((buffer.len() + more) * size_of::<T>()))
+}

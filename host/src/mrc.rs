@@ -1,4 +1,4 @@
-//! The whole cell of a combined map as a file for viewers, in the format MRC2014. The proved call makes its bytes, all of them at once: beside the
+//! The whole cell of a map as a file for viewers, in the format MRC2014. The proved call makes its bytes, all of them at once: beside the
 //! map the file is held, 4 bytes for each point of the cell.
 use crate::failure::Failure;
 use crate::ffi::{self, UnitCell};

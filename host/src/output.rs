@@ -64,7 +64,7 @@ fn named(name: &OsStr) -> io::Result<Output<'_>> {
 }
 
 /// The path that a name leads to by symbolic links, so that these stay.
-fn followed(name: &OsStr) -> PathBuf {
+pub fn followed(name: &OsStr) -> PathBuf {
     let mut path = PathBuf::from(name);
     for _ in 0..MOST_LINKS {
         match fs::read_link(&path) {

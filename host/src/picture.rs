@@ -1,4 +1,4 @@
-//! A plane of a combined map as a picture: x goes down and y to the right, as on the section's page, whose numbers it shows. Black is the least
+//! A plane of a map as a picture: x goes down and y to the right, as on the section's page, whose numbers it shows. Black is the least
 //! number of the plane and white the greatest; a bar below the plane has all shades, and the two numbers under its ends. The line above it
 //! has the plane's z; y stands at the end of the columns and x at the end of the rows.
 use crate::header::Cell;

@@ -1,14 +1,13 @@
-//! A grey picture as a PNG file: rows of pixels, a byte each from 0, black, to 255, white. The pixels are stored as they are, without compression, so
-//! that the format needs no more than the two sums that it asks for.
+//! A grey picture as a PNG file: rows of pixels, a byte each from 0, black, to 255, white. Each row is written less the one above it, so that rows
+//! alike are runs of zeros, which take next to nothing.
+use crate::deflate;
 use std::io::{self, Write};
 
-/// The most bytes of a stored block.
-const BLOCK: usize = 65_535;
 const SIGNATURE: [u8; 8] = *b"\x89PNG\r\n\x1a\n";
 /// Eight bits a pixel, grey, and the only methods of compression, filters and rows that there are.
 const GREY: [u8; 5] = [8, 0, 0, 0, 0];
-/// A zlib stream in the least window, fastest level.
-const ZLIB: [u8; 2] = [0x78, 0x01];
+/// The number of the filter that takes away the row above.
+const UP: u8 = 2;
 
 /// Writes a picture of so many pixels a row.
 pub fn write(width: usize, pixels: &[u8], out: &mut impl Write) -> io::Result<()> {
@@ -17,33 +16,20 @@ pub fn write(width: usize, pixels: &[u8], out: &mut impl Write) -> io::Result<()
     size.extend(GREY);
     out.write_all(&SIGNATURE)?;
     write_chunk(*b"IHDR", &size, out)?;
-    write_chunk(*b"IDAT", &stored(&filtered(width, pixels)), out)?;
+    write_chunk(*b"IDAT", &deflate::zlib(&filtered(width, pixels)), out)?;
     write_chunk(*b"IEND", &[], out)
 }
 
-/// Each row behind the number of its filter: 0, none.
+/// Each row less the one above it, the first less zeros, behind the number of its filter.
 fn filtered(width: usize, pixels: &[u8]) -> Vec<u8> {
     let mut bytes = Vec::with_capacity(pixels.len() + pixels.len() / width);
+    let mut above = vec![0; width];
     for row in pixels.chunks_exact(width) {
-        bytes.push(0);
-        bytes.extend_from_slice(row);
+        bytes.push(UP);
+        bytes.extend(row.iter().zip(&above).map(|(pixel, above)| pixel.wrapping_sub(*above)));
+        above.copy_from_slice(row);
     }
     bytes
-}
-
-/// A zlib stream of stored blocks: each says whether it is the last, its length and the length's complement.
-fn stored(bytes: &[u8]) -> Vec<u8> {
-    let mut stream = ZLIB.to_vec();
-    let last = bytes.chunks(BLOCK).count() - 1;
-    for (at, block) in bytes.chunks(BLOCK).enumerate() {
-        let length = block.len() as u16;
-        stream.push(u8::from(at == last));
-        stream.extend(length.to_le_bytes());
-        stream.extend((!length).to_le_bytes());
-        stream.extend_from_slice(block);
-    }
-    stream.extend(adler32(bytes).to_be_bytes());
-    stream
 }
 
 fn write_chunk(name: [u8; 4], bytes: &[u8], out: &mut impl Write) -> io::Result<()> {
@@ -51,15 +37,6 @@ fn write_chunk(name: [u8; 4], bytes: &[u8], out: &mut impl Write) -> io::Result<
     out.write_all(&name)?;
     out.write_all(bytes)?;
     out.write_all(&crc32(name.iter().chain(bytes)).to_be_bytes())
-}
-
-/// The sum of a zlib stream: of its bytes, and of these sums, modulo the greatest prime of 16 bits.
-fn adler32(bytes: &[u8]) -> u32 {
-    let (low, high) = bytes.iter().fold((1, 0), |(low, high), &byte| {
-        let low = (low + u32::from(byte)) % 65_521;
-        (low, (high + low) % 65_521)
-    });
-    high << 16 | low
 }
 
 /// The sum of a chunk: the remainder by a polynomial over two elements, whose lowest power stands in the highest bit.
@@ -73,8 +50,7 @@ mod sums {
     use super::*;
 
     #[test]
-    fn the_sums_of_the_nine_digits() {
+    fn the_sum_of_the_nine_digits() {
         assert_eq!(crc32(b"123456789".iter()), 0xcbf4_3926);
-        assert_eq!(adler32(b"123456789"), 0x091e_01de);
     }
 }

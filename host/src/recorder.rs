@@ -2,19 +2,20 @@
 //!
 //! No refusal is decided here. A file's header is judged by the proved call on an empty volume: 6, volume not exactly as long as required, comes
 //! after every refusal of a header, so it says that the header is sound, and only then is memory asked for.
+use crate::axes::Axis;
 use crate::factor_file;
 use crate::failure::Failure;
 use crate::ffi::{self, Answer, GridPoint, Job, Reflection};
 use crate::header::{Cell, Header};
+use crate::indices::{self, Index, REFLECTION};
 use crate::memory::zeros;
-use crate::words::{Refusal, DIFFERENT_CELLS, SHAPE};
+use crate::words::{Refusal, DIFFERENT_CELLS, INDEX, SHAPE};
 
 pub const SCRATCH: usize = 11_520;
 const COLLECT: u32 = 0;
 const MAP: u32 = 1;
 const MAP_HELD: u32 = 2;
 const VOLUME_LENGTH: u32 = 6;
-const INDEX: u32 = 10;
 pub const OUTPUT_LENGTH: u32 = 18;
 
 pub struct Recorder {
@@ -29,8 +30,12 @@ pub fn factor_file_header(file: &[u8]) -> Result<Header, Refusal> {
     let answer = ffi::open_file(file, &mut []);
     match (answer.number, Header::read(&mut file.get(4..).unwrap_or(&[]))) {
         (VOLUME_LENGTH, Ok(header)) => Ok(header),
-        (SHAPE, _) => Err(Refusal::of_shape(factor_file::filling(file))),
-        (number, found) => Err(Refusal::of_header(number, found.ok().as_ref())),
+        (SHAPE, _) => Err(match factor_file::another_kind(file) {
+            Some((kind, remedy)) => Refusal::of_shape(kind).with_remedy(remedy),
+            None => Refusal::of_shape(factor_file::filling(file)),
+        }),
+        (number, Ok(header)) => Err(Refusal::of_header(number, &axes_at_fault(number, &header), &header)),
+        (number, Err(_)) => Err(Refusal::plain(number)),
     }
 }
 
@@ -45,8 +50,21 @@ pub fn faults(file: &[u8]) -> Vec<u32> {
 pub fn judge(header: &Header) -> Result<(), Refusal> {
     match opened(header, COLLECT, &mut []).number {
         VOLUME_LENGTH => Ok(()),
-        number => Err(Refusal::of_header(number, Some(header))),
+        number => Err(Refusal::of_header(number, &axes_at_fault(number, header), header)),
     }
+}
+
+/// What of the axes is refused with a number, in words.
+pub fn axes_at_fault(number: u32, header: &Header) -> String {
+    let faults: Vec<String> = (0..3).filter_map(|axis| axis_at_fault(number, header, axis)).collect();
+    faults.join(", ")
+}
+
+/// What of an axis is refused with a number, in words: the opening is asked about it alone, the other two being the shortest.
+pub fn axis_at_fault(number: u32, header: &Header, axis: usize) -> Option<String> {
+    let (length, list) = (header.cell.lengths[axis], &header.lists[axis]);
+    let number_of = |list: &[u8]| opened(&Header::of_axis(header, axis, list), COLLECT, &mut []).number;
+    Axis::new(format!("N{}", axis + 1), length, list).fault(number, number_of)
 }
 
 impl Recorder {
@@ -63,15 +81,18 @@ impl Recorder {
         if let [first, _] = faults(file)[..] {
             found += &format!("; of one orbit with {}", factor_file::record(file, &header, first));
         }
+        if answer.number == INDEX {
+            found += &format!("; {}", outside(&header, refused.index(), &mut volume));
+        }
         Err(Refusal::of_record(answer.number, answer.place, found).into())
     }
 
-    /// The job of a map: the volume has the map's rows, each with its two zeros.
-    pub fn of_map(header: Header, mut volume: Vec<u32>) -> Result<Recorder, Refusal> {
+    /// The job of a map: the volume has the map's rows, each with its two zeros. Where it is refused, the number and the volume.
+    pub fn of_map(header: Header, mut volume: Vec<u32>) -> Result<Recorder, (u32, Vec<u32>)> {
         let answer = opened(&header, MAP, &mut volume);
         match answer.number {
             0 => Ok(Recorder::new(header, answer.job, volume)),
-            number => Err(Refusal::of_map(number, &header, &volume)),
+            number => Err((number, volume)),
         }
     }
 
@@ -128,6 +149,11 @@ impl Recorder {
         Ok(answer.power)
     }
 
+    /// The numbers of the volume, the two at the end of each row among them.
+    pub fn volume(&self) -> &[u32] {
+        &self.volume
+    }
+
     pub fn holds_map(&self) -> bool {
         self.job.state == MAP_HELD
     }
@@ -159,9 +185,7 @@ impl Recorder {
 
     /// The same as the whole numbers next to zero that are congruent to the residues.
     pub fn signed_rows(&self) -> impl Iterator<Item = impl Iterator<Item = i64> + '_> {
-        let prime = self.header.prime();
-        let signed = move |&residue: &u32| if residue > prime / 2 { i64::from(residue) - i64::from(prime) } else { i64::from(residue) };
-        self.rows().map(move |values| values.iter().map(signed))
+        self.rows().map(|values| values.iter().map(|&residue| self.header.signed(residue)))
     }
 }
 
@@ -169,6 +193,15 @@ impl Recorder {
 pub fn rows<'a, T>(cell: &Cell, map: &'a [T]) -> impl Iterator<Item = &'a [T]> {
     let along = cell.length(1);
     map.chunks_exact(along + 2).map(move |row| &row[..along])
+}
+
+/// Rows of numbers as a call takes them: the layout of a volume, two zeros behind each row.
+pub fn laid_out(cell: &Cell, rows: impl Iterator<Item = impl Iterator<Item = i64>>) -> Result<Vec<i64>, Failure> {
+    let mut volume = zeros(cell.volume_length())?;
+    for (places, row) in volume.chunks_exact_mut(cell.length(1) + 2).zip(rows) {
+        places.iter_mut().zip(row).for_each(|(place, number)| *place = number);
+    }
+    Ok(volume)
 }
 
 /// The combined map of two maps. Whether they are of one cell is asked with an output of no numbers: 6 comes after 27, so it says that they are,
@@ -188,13 +221,14 @@ pub fn combined(first: &Recorder, second: &Recorder) -> Result<Vec<i64>, Failure
     Ok(output)
 }
 
-/// Plane z of a combined map as a page. Whether there is one is asked with an output of no bytes: 18 comes last, so it says that there is, and
+/// Plane z of a map as a page. Whether there is one is asked with an output of no bytes: 18 comes last, so it says that there is, and
 /// only then is memory asked for.
-pub fn section(cell: &Cell, map: &[i64], z: u32) -> Result<Vec<u8>, Failure> {
-    let call = |out: &mut [u8]| ffi::section(u32::from(cell.group), cell.lengths.map(u32::from), map, z, out).number;
+pub fn section(cell: &Cell, map: &[i64], z: Index) -> Result<Vec<u8>, Failure> {
+    let at = z.on(cell.lengths[2]);
+    let call = |out: &mut [u8]| ffi::section(u32::from(cell.group), cell.lengths.map(u32::from), map, at, out).number;
     match call(&mut []) {
         OUTPUT_LENGTH => {}
-        INDEX => return Err(Refusal::of_found(INDEX, format!("plane {z} of {}", cell.described())).into()),
+        INDEX => return Err(of_plane(INDEX, cell, z).into()),
         number => accepted(number)?,
     }
     let mut page = zeros(cell.section_length())?;
@@ -202,9 +236,24 @@ pub fn section(cell: &Cell, map: &[i64], z: u32) -> Result<Vec<u8>, Failure> {
     Ok(page)
 }
 
-/// Transforms one line in place.
-pub fn line(modulus: u32, kind: u32, direction: u32, length: u32, list: &[u8], line: &mut [u32]) -> Result<(), Refusal> {
-    accepted(ffi::line(modulus, kind, direction, length, list, line, &mut vec![0; SCRATCH]))
+/// The refusal of a plane of a cell.
+pub fn of_plane(number: u32, cell: &Cell, z: Index) -> Refusal {
+    match number {
+        INDEX => Refusal::of_found(INDEX, format!("{}; {}", indices::on_axis("z", z, cell, 2), cell.described())),
+        number => Refusal::plain(number),
+    }
+}
+
+/// Transforms one line in place; the number of the answer.
+pub fn line(modulus: u32, kind: u32, direction: u32, length: u32, list: &[u8], line: &mut [u32]) -> u32 {
+    ffi::line(modulus, kind, direction, length, list, line, &mut vec![0; SCRATCH])
+}
+
+/// Which index of a refused record is not in the cell: a job with its header, which is sound, is asked for the factor there.
+fn outside(header: &Header, [h, k, l]: [u32; 3], volume: &mut [u32]) -> String {
+    let job = opened(header, COLLECT, volume).job;
+    let refused = |[h, k, l]: [u32; 3]| ffi::factor(job, Reflection { h, k, l }, volume).number == INDEX;
+    indices::outside(REFLECTION, [h, k, l].map(Index::from), &header.cell, refused)
 }
 
 fn opened(header: &Header, kind: u32, volume: &mut [u32]) -> Answer {

@@ -1,17 +1,19 @@
-//! The section page of a combined map: plane z as the proved call lays it out, and its numbers read back from that text.
-use crate::combined_map::CombinedMap;
+//! The section page of a map: plane z as the proved call lays it out, and its numbers read back from that text.
 use crate::failure::Failure;
 use crate::header::Cell;
+use crate::indices::Index;
+use crate::input;
 use crate::recorder;
+use std::ffi::OsStr;
 
 const LINE: usize = 70;
 /// The places of x, and of each of the five numbers behind it.
 const INDEX: usize = 4;
 const NUMBER: usize = 13;
 
-/// A map's cell, and plane z as a page.
-pub fn page(map: CombinedMap, z: u32) -> Result<(Cell, Vec<u8>), Failure> {
-    let (cell, numbers) = map.into_volume()?;
+/// The cell of a file's map, and plane z as a page.
+pub fn page(name: &OsStr, z: Index) -> Result<(Cell, Vec<u8>), Failure> {
+    let (cell, numbers) = input::numbers(name)?;
     let page = recorder::section(&cell, &numbers, z)?;
     Ok((cell, page))
 }

@@ -1,19 +1,31 @@
-//! Text: numbers, the records of a file, and the text of a map, as the map printer prints it: group and lengths, then a line for each stored plane
+//! Text: numbers, records at fault, and the text of a map, as the map printer prints it: group and lengths, then a line for each stored plane
 //! z and each x, rising, with z, x and the values by y, with their signs. crates/printing proves the printer's text in a buffer; this one goes
 //! out as it is made, so that no grid needs a second buffer.
 use crate::factor_file;
 use crate::header::{Cell, Header};
 use crate::progress::Told;
 use std::io::{self, Write};
+use std::ops::Range;
 
-/// Writes the numbers of a cell, row by row.
+/// Writes the numbers of a cell on its stored planes, row by row.
 pub fn write(cell: &Cell, rows: impl Iterator<Item = impl Iterator<Item = i64>>, out: &mut impl Write, told: &Told) -> io::Result<()> {
+    write_planes(cell, 0..cell.planes(), rows, out, told)
+}
+
+/// The same of some planes, whose rows these are.
+pub fn write_planes(
+    cell: &Cell,
+    planes: Range<usize>,
+    rows: impl Iterator<Item = impl Iterator<Item = i64>>,
+    out: &mut impl Write,
+    told: &Told,
+) -> io::Result<()> {
     let [n1, n2, n3] = cell.lengths;
     writeln!(out, "map {} {n1} {n2} {n3}", cell.group)?;
     let mut line = Vec::new();
     for (done, row) in rows.enumerate() {
         line.clear();
-        push_number(&mut line, (done / cell.length(0)) as u32);
+        push_number(&mut line, (planes.start + done / cell.length(0)) as u32);
         line.push(b' ');
         push_number(&mut line, (done % cell.length(0)) as u32);
         for number in row {
@@ -22,21 +34,7 @@ pub fn write(cell: &Cell, rows: impl Iterator<Item = impl Iterator<Item = i64>>,
         }
         line.push(b'\n');
         out.write_all(&line)?;
-        told.done(done, cell.rows());
-    }
-    Ok(())
-}
-
-/// Writes the records of an accepted factor file, a line each and in the file's order: h, k, l, a, b.
-pub fn write_records(file: &[u8], header: &Header, out: &mut impl Write) -> io::Result<()> {
-    let mut line = Vec::new();
-    for place in 0..factor_file::records(file, header) {
-        let [h, rest @ ..] = factor_file::record(file, header, place).numbers();
-        line.clear();
-        push_number(&mut line, h);
-        push_numbers(&mut line, &rest);
-        line.push(b'\n');
-        out.write_all(&line)?;
+        told.done(done, planes.len() * cell.length(0));
     }
     Ok(())
 }
@@ -48,14 +46,6 @@ pub fn records_at(file: &[u8], header: &Header, places: &[u32]) -> String {
         format!("{place}: {h} {k} {l} {a} {b}\n")
     };
     places.iter().map(line).collect()
-}
-
-/// Numbers with a blank before each.
-fn push_numbers(line: &mut Vec<u8>, numbers: &[u32]) {
-    for &number in numbers {
-        line.push(b' ');
-        push_number(line, number);
-    }
 }
 
 /// A number's decimal digits: a map has millions, and the standard library's formatting would take longer than the synthesis.

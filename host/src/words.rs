@@ -1,31 +1,32 @@
 //! Refusals in words: what the scope's number says, what was found, and what to do about it.
 use crate::header::{Cell, Header};
+use crate::images;
 
-/// A refusal: its number, the record's place (0 where no record is at fault), and what was found in the input.
+/// A refusal: its number, the record's place (0 where no record is at fault), what was found in the input, and what to do, where that is something
+/// else than of every input.
 pub struct Refusal {
     pub number: u32,
     pub place: u32,
-    found: String,
+    pub found: String,
+    remedy: Option<&'static str>,
 }
 
 impl Refusal {
     pub fn plain(number: u32) -> Refusal {
-        Refusal { number, place: 0, found: String::new() }
+        Refusal::of_found(number, String::new())
     }
 
-    /// Of a header, as far as there is one.
-    pub fn of_header(number: u32, found: Option<&Header>) -> Refusal {
-        let found = match found {
-            None => String::new(),
-            Some(header) if number == VERSION => return Refusal::of_version(header.version),
-            Some(header) => found_of(number, &header.cell, header.described()),
-        };
-        Refusal::of_found(number, found)
+    /// Of a header, with what is wrong on its axes.
+    pub fn of_header(number: u32, axes: &str, header: &Header) -> Refusal {
+        match number {
+            VERSION => Refusal::of_version(header.version),
+            _ => Refusal::of_found(number, found_of(number, axes, &header.cell, header.described())),
+        }
     }
 
     /// Of a combined map, which has no more of a header than its cell.
-    pub fn of_cell(number: u32, cell: &Cell) -> Refusal {
-        Refusal::of_found(number, found_of(number, cell, cell.described()))
+    pub fn of_cell(number: u32, axes: &str, cell: &Cell) -> Refusal {
+        Refusal::of_found(number, found_of(number, axes, cell, cell.described()))
     }
 
     pub fn of_version(version: u8) -> Refusal {
@@ -33,20 +34,21 @@ impl Refusal {
     }
 
     pub fn of_found(number: u32, found: String) -> Refusal {
-        Refusal { number, place: 0, found }
+        Refusal::of_record(number, 0, found)
     }
 
     pub fn of_record(number: u32, place: u32, found: String) -> Refusal {
-        Refusal { number, place, found }
+        Refusal { number, place, found, remedy: None }
     }
 
     /// Of a map's densities.
     pub fn of_map(number: u32, header: &Header, volume: &[u32]) -> Refusal {
+        let cell = &header.cell;
         let found = match volume.iter().position(|&density| density >= header.prime()) {
-            Some(place) => format!("density {} at {}", volume[place], header.cell.point_at(place)),
-            None => header.described(),
+            Some(place) => Some(format!("density {} at {}", volume[place], cell.point_at(place))),
+            None => images::said(cell, "density", |place| volume[place]),
         };
-        Refusal::of_found(number, found)
+        Refusal::of_found(number, found.unwrap_or_else(|| header.described()))
     }
 
     /// Of a file that does not end where its header says.
@@ -54,14 +56,24 @@ impl Refusal {
         Refusal::of_found(SHAPE, found)
     }
 
+    pub fn with_remedy(self, remedy: &'static str) -> Refusal {
+        Refusal { remedy: Some(remedy), ..self }
+    }
+
     /// The printer's line.
     pub fn line(&self) -> String {
         format!("refused {} at {}", self.number, self.place)
     }
 
+    /// Why it was refused, and what to do.
+    pub fn words(&self) -> (&'static str, &'static str) {
+        let (why, remedy) = words(self.number);
+        (why, self.remedy.unwrap_or(remedy))
+    }
+
     /// Why it was refused, what was found and what to do, a line each.
     pub fn explained(&self) -> String {
-        let (why, remedy) = words(self.number);
+        let (why, remedy) = self.words();
         let mut text = format!("why: {why}\n");
         if !self.found.is_empty() {
             text += &format!("found: {}\n", self.found);
@@ -71,14 +83,16 @@ impl Refusal {
 }
 
 /// What was found, where it is a cell that is refused.
-fn found_of(number: u32, cell: &Cell, described: String) -> String {
-    match number {
-        TOO_LARGE => format!("{described}: {} numbers", cell.volume_length()),
-        _ => described,
+pub fn found_of(number: u32, axes: &str, cell: &Cell, described: String) -> String {
+    match (number, axes) {
+        (TOO_LARGE, _) => format!("{described}: {} numbers", cell.volume_length()),
+        (_, "") => described,
+        _ => format!("{axes}; {described}"),
     }
 }
 
 const TOO_LARGE: u32 = 9;
+pub const INDEX: u32 = 10;
 pub const SHAPE: u32 = 15;
 const VERSION: u32 = 16;
 pub const DIFFERENT_CELLS: u32 = 27;
@@ -102,7 +116,10 @@ fn words(number: u32) -> (&'static str, &'static str) {
         7 => ("a number is not below its prime", "write residues: 0 to 86,398 for modulus 1, 0 to 302,398 for modulus 2"),
         8 => ("the group is not 0 to 4", "use 0 for P1, 1 for P2_1, 2 for Pm, 3 for Pa, 4 for P2_1 2_1 2_1"),
         9 => ("the volume would have more than 16,777,216 numbers", "use shorter lengths; every other group needs about half of what P1 does"),
-        10 => ("an index is not below its axis length", "bring each index into the cell: 0 to length - 1"),
+        10 => (
+            "an index is not below its axis length",
+            "bring each index into the cell: 0 to length - 1, or on the command line -1 (the last) down to -length",
+        ),
         12 => (
             "an image of the record falls on its own index with another value",
             "correct the value, or leave the record out: by group and Friedel's rule it must be its own image",

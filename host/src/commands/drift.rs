@@ -5,6 +5,7 @@ use crate::drift;
 use crate::failure::Failure;
 use crate::output;
 use crate::progress::during;
+use crate::words::Refusal;
 
 pub const COMMAND: Command = Command {
     name: "drift",
@@ -24,7 +25,7 @@ commas between them, and a first line has the columns' names. Example: echo 4 -1
 /// Whether W is taken is asked before a score is read.
 fn run(given: &Given) -> Result<(), Failure> {
     let w = given.number(0)?;
-    drift::judge(w)?;
+    drift::judge(w).map_err(|refusal| Refusal::of_found(refusal.number, format!("W is {}", given.words[0].to_string_lossy())))?;
     let run = during("reading", |_| drift::read(given.words.get(1).map_or("-".as_ref(), |name| name)))?;
     let mut refused = Ok(());
     output::open(None)?.write(|out| {

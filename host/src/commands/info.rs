@@ -1,62 +1,65 @@
 //! `recorder info`: group, modulus, lengths, lists, volume, count of records.
-use crate::arguments::Given;
-use crate::combined_map;
+use crate::arguments::{Given, JSON};
+use crate::batch::{self, End};
 use crate::commands::{steps, Command};
-use crate::factor_file;
 use crate::failure::Failure;
-use crate::header::{list_text, Cell, Header};
-use crate::input::{self, Entry};
-use crate::map_file;
+use crate::header::{list_text, Header};
+use crate::input;
+use crate::json::Object;
+use crate::known::Known;
 use crate::output;
-use crate::recorder;
+use std::ffi::OsStr;
 
 pub const COMMAND: Command = Command {
     name: "info",
-    usage: "FILE",
+    usage: "FILE.. [--json]",
     brief: "group, modulus, lengths, lists, volume, count of records",
-    words: &["FILE"],
-    switches: &[],
+    words: &["FILE.."],
+    switches: &[JSON],
     help: "\
 Prints a line each for the kind of file, group, modulus with its prime, lengths, factor lists (- is none), stored planes, volume and count of
 records (of a map file: densities; of a combined map file, which has no modulus and no lists: numbers). The header is judged, the records are
 not. Groups: 0 P1, 1 P2_1 with axis c, 2 Pm with its mirror across c, 3 Pa with its mirror across c and its glide along a, 4 P2_1 2_1 2_1.
+Of several files it prints a line each: name, group, lengths, count, version, modulus and lists, or the refusal, and seconds. A last line sums up.
+recorder check FILE of one alone says why and what to do. Exit status 2 where one cannot be read, else 1 where one is refused.
+With --json it prints an object for each file in a line of its own; no line sums up.
 ",
     run,
 };
 
+const WORDS: [(End, &str); 3] = [(End::Done, "sound"), (End::Refused, "refused"), (End::Unread, "unread")];
+
 fn run(given: &Given) -> Result<(), Failure> {
-    let name = &given.words[0];
-    let text = match input::entry(name)? {
-        Entry::Factors(file) => {
-            let header = recorder::factor_file_header(&file)?;
-            described("factor file", &header) + &format!("records {}\n", factor_file::records(&file, &header))
-        }
-        Entry::Map(mut rest) => {
-            let header = map_file::read_header(name, &mut rest)?;
-            described("map file", &header) + &format!("densities {}\n", header.cell.densities())
-        }
-        Entry::Combined(mut rest) => {
-            let cell = combined_map::read_cell(name, &mut rest)?;
-            format!("combined map file, version 1\n{}{}numbers {}\n", cell_lines(&cell, ""), volume_lines(&cell, 8), cell.densities())
-        }
-    };
-    output::print(&text)
+    match given.words.as_slice() {
+        names if given.flag(JSON.name) => batch::objects(names, "sound", tell, read),
+        [name] => output::print(&described(&Known::of(name, &mut input::entry(name)?)?)),
+        names => batch::lines(names, &WORDS, read),
+    }
 }
 
-fn described(kind: &str, header: &Header) -> String {
-    let [f1, f2, f3] = header.lists.each_ref().map(|list| list_text(list));
-    let (cell, volume) = (cell_lines(&header.cell, &steps::modulus_line(header)), volume_lines(&header.cell, 4));
-    format!("{kind}, version {}\n{cell}lists {f1} {f2} {f3}\n{volume}", header.version)
+fn read(name: &OsStr, known: &mut Option<Known>) -> batch::Outcome {
+    let found = known.insert(Known::of(name, &mut input::entry(name)?)?);
+    let modulus = |header: &Header| format!(", modulus {}, lists {}", header.modulus, lists(header));
+    Ok((End::Done, format!("version {}{}", found.version, found.header.as_ref().map_or(String::new(), modulus))))
 }
 
-/// Group and lengths, and a line between them.
-fn cell_lines(cell: &Cell, between: &str) -> String {
-    let [n1, n2, n3] = cell.lengths;
-    format!("group {} {}\n{between}lengths {n1} {n2} {n3}\n", cell.group, cell.group_name())
+fn tell(known: &Known, object: &mut Object) {
+    object.number("planes", known.cell.planes());
+    object.number("volume", known.cell.volume_length());
 }
 
-/// Stored planes, and the volume with so many bytes for each of its numbers.
-fn volume_lines(cell: &Cell, bytes: usize) -> String {
-    let numbers = cell.volume_length();
-    format!("planes {}\nvolume {numbers} numbers, {} bytes\n", cell.planes(), bytes * numbers)
+fn described(known: &Known) -> String {
+    let (cell, header) = (&known.cell, known.header.as_ref());
+    let ([n1, n2, n3], numbers) = (cell.lengths, cell.volume_length());
+    let mut text = format!("{}, version {}\ngroup {} {}\n", known.kind, known.version, cell.group, cell.group_name());
+    text += &header.map_or(String::new(), steps::modulus_line);
+    text += &format!("lengths {n1} {n2} {n3}\n");
+    text += &header.map_or(String::new(), |header| format!("lists {}\n", lists(header)));
+    // A combined map is held as two digits of each number.
+    let bytes = if header.is_some() { 4 } else { 8 } * numbers;
+    text + &format!("planes {}\nvolume {numbers} numbers, {bytes} bytes\n{} {}\n", cell.planes(), known.counted, known.count)
+}
+
+fn lists(header: &Header) -> String {
+    header.lists.each_ref().map(|list| list_text(list)).join(" ")
 }

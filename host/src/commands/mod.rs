@@ -2,26 +2,34 @@
 mod best;
 mod check;
 mod combine;
+mod compare;
 mod drift;
 mod factor;
 mod factors;
 mod faults;
+mod help;
 mod info;
 mod line;
+mod log;
 mod map;
+mod map_folder;
 mod mrc;
 mod overlay;
+mod pack;
 mod picture;
+mod planes;
 mod point;
 mod power;
 mod records;
 mod rewrite;
 mod section;
+mod stats;
 mod steps;
 
 use crate::arguments::{Given, Switch};
 use crate::failure::{shown, Failure};
-use crate::help;
+use crate::help as pages;
+use crate::nearest::nearest;
 use crate::output;
 use std::ffi::OsString;
 
@@ -40,39 +48,61 @@ pub struct Command {
 }
 
 /// All commands, under the headings of the help.
-pub const COMMANDS: [(&str, &[&Command]); 4] = [
-    ("Files", &[&check::COMMAND, &faults::COMMAND, &info::COMMAND, &records::COMMAND, &rewrite::COMMAND]),
-    ("Maps and factors", &[&map::COMMAND, &factors::COMMAND, &point::COMMAND, &factor::COMMAND, &power::COMMAND, &line::COMMAND]),
-    ("Maps through both primes", &[&combine::COMMAND, &section::COMMAND, &picture::COMMAND, &mrc::COMMAND]),
-    ("A crystal over time", &[&overlay::COMMAND, &best::COMMAND, &drift::COMMAND]),
+pub const COMMANDS: [(&str, &[&Command]); 6] = [
+    ("Files", &[&check::COMMAND, &faults::COMMAND, &info::COMMAND, &compare::COMMAND, &log::COMMAND]),
+    ("Factor files from text, and as text", &[&pack::COMMAND, &records::COMMAND, &rewrite::COMMAND]),
+    ("Maps and factors", &[&map::COMMAND, &factors::COMMAND, &point::COMMAND, &factor::COMMAND, &stats::COMMAND, &power::COMMAND]),
+    ("A look at a map", &[&section::COMMAND, &picture::COMMAND, &mrc::COMMAND]),
+    ("Two maps, and a crystal over time", &[&combine::COMMAND, &overlay::COMMAND, &best::COMMAND, &drift::COMMAND]),
+    ("One line, and the tool itself", &[&line::COMMAND, &help::COMMAND]),
 ];
+
+pub fn all_commands() -> impl Iterator<Item = &'static Command> {
+    COMMANDS.into_iter().flat_map(|(_, commands)| commands.iter().copied())
+}
 
 /// Runs the command that the arguments name.
 pub fn run(mut arguments: impl Iterator<Item = OsString>) -> Result<(), Failure> {
-    let name = arguments.next().ok_or_else(|| Failure::Usage("no command was given".into()))?;
-    if name == "--help" || name == "-h" {
-        return output::print(&help::all());
+    let name = arguments.next().ok_or_else(|| Failure::Usage(pages::short()))?;
+    match name.to_str() {
+        Some("--help" | "-h") => return output::print(&pages::all()),
+        Some("--version") => return output::print(&pages::version()),
+        _ => {}
     }
     let command = named(&name.to_string_lossy())?;
-    let given = Given::sorted(command.name, command.switches, arguments)?;
+    let misused = |failure: Failure| failure.of_command(command.name, command.usage);
+    let given = Given::sorted(command.name, command.switches, arguments).map_err(misused)?;
     if given.help {
-        return output::print(&help::of(command));
+        return output::print(&pages::of(command));
     }
-    fit(command, &given)?;
-    (command.run)(&given).map_err(|failure| match given.words.as_slice() {
+    fit(command, &given).map_err(misused)?;
+    (command.run)(&given).map_err(misused).map_err(|failure| match given.words.as_slice() {
         [file, ..] if is_file(command.words[0]) => failure.of(shown(file)),
         _ => failure,
     })
 }
 
+/// The command of a name; of one that there is not, the nearest is told.
 fn named(name: &str) -> Result<&'static Command, Failure> {
-    let mut commands = COMMANDS.iter().flat_map(|(_, commands)| commands.iter());
-    commands.find(|command| command.name == name).copied().ok_or_else(|| Failure::Usage(format!("there is no command {name:?}")))
+    all_commands().find(|command| command.name == name).ok_or_else(|| {
+        let meant = match nearest(name, all_commands().map(|command| command.name)) {
+            Some(near) => format!("; did you mean {near}?"),
+            None if name.starts_with('-') => "; the command comes first, then its options".into(),
+            None => String::new(),
+        };
+        Failure::Usage(format!("there is no command {name:?}{meant}"))
+    })
+}
+
+/// Whether a command's word is the name of a file that it reads.
+pub fn names_file(word: &str) -> bool {
+    let word = word.trim_start_matches('[');
+    ["FILE", "COMBINED", "TEXT"].iter().any(|name| word.starts_with(name))
 }
 
 /// Whether a command's word is the name of its only file, or of the first where that is the one at fault.
 fn is_file(word: &str) -> bool {
-    matches!(word, "FILE" | "COMBINED")
+    matches!(word, "FILE" | "FILE.." | "COMBINED" | "TEXT")
 }
 
 /// Whether a command was given the words that it takes, and is not to write a file that it reads.
@@ -81,11 +111,17 @@ fn fit(command: &Command, given: &Given) -> Result<(), Failure> {
     let least = words.iter().filter(|word| !word.starts_with('[')).count();
     let several = words.last().is_some_and(|word| word.ends_with(".."));
     if given.words.len() < least || given.words.len() > words.len() && !several {
-        return Err(Failure::Usage(format!("{name} takes {}, not {} words", words.join(" "), given.words.len())));
+        let count = match given.words.len() {
+            0 => "nothing".into(),
+            1 => "one word".into(),
+            count => format!("{count} words"),
+        };
+        return Err(Failure::Usage(format!("{name} was given {count}; it takes {}", words.join(" ").replace("] [", " "))));
     }
     let writes = command.switches.iter().any(|switch| switch.name == "-o");
     let what = |at: usize| words[at.min(words.len() - 1)];
-    let mut inputs = given.words.iter().enumerate().filter(|(at, _)| writes && (what(*at).starts_with("FILE") || what(*at).starts_with("COMBINED")));
+    let reads = |at: usize| names_file(what(at));
+    let mut inputs = given.words.iter().enumerate().filter(|(at, _)| writes && reads(*at));
     if let Some((_, input)) = inputs.find(|(_, input)| output::is_input(given.output(), input)) {
         return Err(Failure::Usage(format!("{} is the file to read and the file to write; name another file to write", shown(input))));
     }

@@ -3,10 +3,13 @@ use crate::arguments::Given;
 use crate::combined_map;
 use crate::failure::{shown, Failure};
 use crate::header::{Cell, Header};
+use crate::indices::Index;
 use crate::output;
 use crate::progress::{during, during_output};
 use crate::recorder::{self, Recorder};
 use std::ffi::OsStr;
+
+pub type Indices = [Index; 3];
 
 pub fn with_map(mut recorder: Recorder) -> Result<Recorder, Failure> {
     during("synthesis", |_| recorder.hold_map())?;
@@ -18,6 +21,36 @@ pub fn with_factors(mut recorder: Recorder) -> Result<Recorder, Failure> {
     Ok(recorder)
 }
 
+/// The sums of the squares of map and factors over the whole cell, modulo the prime, and N1 N2 N3 times the second.
+pub struct Power {
+    pub header: Header,
+    pub of_map: u32,
+    pub of_factors: u32,
+    pub product: u32,
+}
+
+impl Power {
+    pub fn agree(&self) -> bool {
+        self.of_map == self.product
+    }
+}
+
+/// Both sums of a job: of what it holds, and of what a synthesis or an analysis makes of it. That they agree is proved.
+pub fn power(mut recorder: Recorder) -> Result<Power, Failure> {
+    let (of_map, of_factors) = if recorder.holds_map() {
+        let of_map = recorder.map_power()?;
+        recorder = with_factors(recorder)?;
+        (of_map, recorder.factor_power()?)
+    } else {
+        let of_factors = recorder.factor_power()?;
+        recorder = with_map(recorder)?;
+        (recorder.map_power()?, of_factors)
+    };
+    let header = recorder.header;
+    let product = (header.cell.points() * u64::from(of_factors) % u64::from(header.prime())) as u32;
+    Ok(Power { header, of_map, of_factors, product })
+}
+
 pub fn accepted(file: &[u8]) -> Result<Recorder, Failure> {
     during("reading", |_| Recorder::of_factor_file(file))
 }
@@ -25,6 +58,19 @@ pub fn accepted(file: &[u8]) -> Result<Recorder, Failure> {
 /// Where a command writes that has no other output.
 pub fn target<'a>(name: &str, given: &'a Given) -> Result<&'a OsStr, Failure> {
     given.output().ok_or_else(|| Failure::Usage(format!("{name} needs -o and the name of the file to write")))
+}
+
+/// The indices behind a file's name, or none where they are to be read from standard input, which the file cannot be then.
+pub fn indices(given: &Given, names: [&str; 3]) -> Result<Option<Indices>, Failure> {
+    let names = names.join(" ");
+    match given.words.as_slice() {
+        [file] if file == "-" => {
+            Err(Failure::Usage(format!("standard input cannot be the file and have the indices too; name the file, or {names}")))
+        }
+        [_] => Ok(None),
+        [_, _, _, _] => given.indices(1).map(Some),
+        words => Err(Failure::Usage(format!("give all of {names}, or none to have them read from standard input, not {}", words.len() - 1))),
+    }
 }
 
 /// The names of two files, of which one can be standard input.

@@ -1,0 +1,38 @@
+//! `recorder pack`: a factor file from a text.
+use crate::arguments::{Given, OUTPUT};
+use crate::commands::{steps, Command};
+use crate::factor_text;
+use crate::failure::Failure;
+use crate::output;
+use crate::progress::during;
+
+pub const COMMAND: Command = Command {
+    name: "pack",
+    usage: "TEXT -o FILE",
+    brief: "a factor file from a text or a table",
+    words: &["TEXT"],
+    switches: &[OUTPUT],
+    help: "\
+Reads a text (- is standard input) and writes the factor file that it stands for to FILE (- is standard output), if that is accepted. Blanks, tabs and
+commas separate words, # begins a comment, and empty lines are skipped. First the header, a line for each item, in any order:
+
+  group P2_1      P1, P2_1, Pm, Pa or P2_1 2_1 2_1 (also P21, P212121), or its number in a factor file, 0 to 4
+  lengths 6 8 6   N1, N2 and N3
+  modulus 1       1, modulo 86,399, or 2, modulo 302,399; 1 where the line is missing
+  list h 3        the factors of N1/2, and with k and l those of N2/2 and N3/2; chosen where the line is missing
+
+then a line for each record, five whole numbers: h k l a b. An index below zero counts from the length: -1 stands for N - 1, and so on to -N. A value
+below zero counts from the prime: -3 stands for p - 3, and so on to -(p - 1). A line of the columns' names 'h k l a b' is skipped.
+
+The records keep their order; recorder rewrite sorts them. Modulus 1 is written as version 1, modulus 2 as version 2. A refusal names the line at
+fault, for 24 both lines. What is no such text is told with its line, exit status 2. recorder records FILE --header prints a file as such a text.
+Example: printf 'group P1\\nlengths 4 4 4\\n0 0 0 84 0\\n1 0 -1 5 -7\\n' | recorder pack - -o some.factors
+",
+    run,
+};
+
+fn run(given: &Given) -> Result<(), Failure> {
+    let to = steps::target("pack", given)?;
+    let file = during("reading", |_| factor_text::read(&given.words[0]))?;
+    output::open(Some(to))?.write(|out| out.write_all(&file))
+}

@@ -1,0 +1,352 @@
+//! The text of a factor file, which `recorder pack` reads and `recorder records` writes: the items of the header, a line each, then the records.
+//! Blanks, tabs and commas separate words, `#` begins a comment, empty lines and a line of the columns' names are skipped:
+//!
+//!     group P2_1        # a name, or the number that a file has
+//!     lengths 6 8 6
+//!     modulus 1         # 1 where this line is missing
+//!     list h 3          # factors of N1/2, chosen where this line is missing; so k and l
+//!     h k l a b
+//!     -1 0 2 40 -7      # h counts from N1, b from the prime
+//!
+//! What is no number is told here. Whether a number is right is not judged here: it goes into the file's bytes, as the greatest that they hold
+//! where it does not fit them, which is refused as it would be; the proved reader refuses the file, and this adds the line of the text.
+use crate::factor_file;
+use crate::failure::{shown, Failure};
+use crate::header::{chosen_list, group_named, Cell, Header};
+use crate::input;
+use crate::memory::room;
+use crate::recorder::{self, Recorder};
+use crate::text::push_signed;
+use crate::words::{found_of, Refusal};
+use std::ffi::OsStr;
+use std::io::{self, BufRead, BufReader, Read, Write};
+
+const GROUP: &str = "group";
+const LENGTHS: &str = "lengths";
+const MODULUS: &str = "modulus";
+const LIST: &str = "list";
+const LISTS: [&str; 3] = ["list h", "list k", "list l"];
+const COLUMNS: [&str; 5] = ["h", "k", "l", "a", "b"];
+/// The refusals of a header that are of other items than the lengths.
+const LENGTH: u32 = 3;
+const FACTOR: u32 = 4;
+const PRODUCT: u32 = 5;
+const NO_GROUP: u32 = 8;
+const NO_MODULUS: u32 = 26;
+/// The most bytes of a line, with its end.
+const MOST_BYTES: usize = 4096;
+/// The most letters that are shown of a word.
+const MOST_LETTERS: usize = 64;
+/// The most factors of a list: its count is a byte.
+const MOST_FACTORS: usize = 255;
+const BYTE_ORDER_MARK: &[u8] = "\u{feff}".as_bytes();
+
+/// How records are written: as a table with commas and the columns' names, with values below zero, with the header before them.
+pub struct Form {
+    pub table: bool,
+    pub signed: bool,
+    pub header: bool,
+}
+
+/// Writes the records of an accepted factor file, a line each and in the file's order.
+pub fn write(file: &[u8], header: &Header, form: &Form, out: &mut impl Write) -> io::Result<()> {
+    let between = if form.table { "," } else { " " };
+    if form.header {
+        out.write_all(header_lines(header, between).as_bytes())?;
+    }
+    if form.table {
+        writeln!(out, "{}", COLUMNS.join(between))?;
+    }
+    let mut line = Vec::new();
+    for place in 0..factor_file::records(file, header) {
+        line.clear();
+        for (column, number) in factor_file::record(file, header, place).numbers().into_iter().enumerate() {
+            line.extend_from_slice(if column == 0 { b"" } else { between.as_bytes() });
+            push_signed(&mut line, if form.signed && column > 2 { header.signed(number) } else { i64::from(number) });
+        }
+        line.push(b'\n');
+        out.write_all(&line)?;
+    }
+    Ok(())
+}
+
+fn header_lines(header: &Header, between: &str) -> String {
+    let line = |name: &str, words: Vec<String>| [vec![name.replace(' ', between)], words].concat().join(between) + "\n";
+    let mut lines = line(GROUP, vec![header.cell.group_name().into()]);
+    lines += &line(LENGTHS, header.cell.lengths.iter().map(u16::to_string).collect());
+    lines += &line(MODULUS, vec![header.modulus.to_string()]);
+    for (name, list) in LISTS.iter().zip(&header.lists) {
+        lines += &line(name, list.iter().map(u8::to_string).collect());
+    }
+    lines
+}
+
+/// The factor file that a text stands for, accepted. The header is judged where the records begin, these at the end of the text, or where they are
+/// too many for any file.
+pub fn read(name: &OsStr) -> Result<Vec<u8>, Failure> {
+    let mut lines = Lines::open(name)?;
+    let (mut head, mut records, mut text) = (Head::default(), None::<Records>, String::new());
+    while lines.next(&mut text)? {
+        let words: Vec<&str> = text.split([' ', '\t', ',']).filter(|word| !word.is_empty()).collect();
+        match words[..] {
+            [] => {}
+            _ if words == COLUMNS => {}
+            [item @ (GROUP | LENGTHS | MODULUS | LIST), ..] => match &records {
+                None => head.take(lines.number, &words).map_err(|text| lines.wrong(&text))?,
+                Some(records) => {
+                    return Err(lines.wrong(&format!("{item} stands behind the first record, in line {}; write it before", records.line(0))))
+                }
+            },
+            _ => {
+                let numbers = record(&words).map_err(|text| lines.wrong(&text))?;
+                let records = match &mut records {
+                    Some(records) => records,
+                    None => records.insert(Records::new(head.judged(&lines)?)),
+                };
+                records.push(lines.number, &words, numbers)?;
+                if records.are_too_many() {
+                    break;
+                }
+            }
+        }
+    }
+    match records {
+        Some(records) => records.judged(),
+        None => Records::new(head.judged(&lines)?).judged(),
+    }
+}
+
+/// The lines of a text, one after the other.
+struct Lines<'a> {
+    name: &'a OsStr,
+    source: BufReader<Box<dyn Read>>,
+    bytes: Vec<u8>,
+    /// Of the line that was read last, counted from 1.
+    number: usize,
+}
+
+impl Lines<'_> {
+    fn open(name: &OsStr) -> Result<Lines<'_>, Failure> {
+        let source = input::source(name).map_err(|error| Failure::unread(name, &error))?.0;
+        Ok(Lines { name, source, bytes: Vec::new(), number: 0 })
+    }
+
+    /// Reads a line without its end and its comment; whether there was one.
+    fn next(&mut self, text: &mut String) -> Result<bool, Failure> {
+        self.bytes.clear();
+        let most = MOST_BYTES as u64 + 1;
+        let read = self.source.by_ref().take(most).read_until(b'\n', &mut self.bytes).map_err(|error| Failure::unread(self.name, &error))?;
+        self.number += usize::from(read > 0);
+        if read > MOST_BYTES {
+            return Err(self.wrong(&format!("it has more than {MOST_BYTES} bytes; a record is a line of five numbers")));
+        }
+        let mut line = self.bytes.strip_suffix(b"\n").unwrap_or(&self.bytes);
+        line = line.strip_suffix(b"\r").unwrap_or(line);
+        if self.number == 1 {
+            line = line.strip_prefix(BYTE_ORDER_MARK).unwrap_or(line);
+        }
+        let said = line.split(|&byte| byte == b'#').next().unwrap_or(line);
+        text.clear();
+        text.push_str(&String::from_utf8_lossy(said));
+        Ok(read > 0)
+    }
+
+    /// What is no such text, at the line that was read last.
+    fn wrong(&self, text: &str) -> Failure {
+        Failure::Trouble(format!("{}, line {}: {text}", shown(self.name), self.number.max(1)))
+    }
+}
+
+/// An item of the header: its name, its line, the words that stand there and their numbers.
+struct Item {
+    name: &'static str,
+    line: usize,
+    words: String,
+    numbers: Vec<i64>,
+}
+
+#[derive(Default)]
+struct Head(Vec<Item>);
+
+impl Head {
+    fn take(&mut self, line: usize, words: &[&str]) -> Result<(), String> {
+        let (name, numbers) = item(words)?;
+        if let Some(first) = self.item(name) {
+            return Err(format!("{name} is given twice, first in line {}; give it once", first.line));
+        }
+        self.0.push(Item { name, line, words: words.join(" "), numbers });
+        Ok(())
+    }
+
+    fn item(&self, name: &str) -> Option<&Item> {
+        self.0.iter().find(|item| item.name == name)
+    }
+
+    /// The header, sound; the lines have been read to its end.
+    fn judged(&self, lines: &Lines) -> Result<Header, Failure> {
+        let needed = |name| self.item(name).ok_or_else(|| lines.wrong(&format!("there is no line {name} so far; write it before the records")));
+        let (group, lengths) = (byte(needed(GROUP)?.numbers[0]), &needed(LENGTHS)?.numbers);
+        let lengths = [0, 1, 2].map(|axis| u16::try_from(lengths[axis]).unwrap_or(u16::MAX));
+        let modulus = self.item(MODULUS).map_or(1, |item| byte(item.numbers[0]));
+        let list = |axis: usize| match self.item(LISTS[axis]) {
+            Some(item) => item.numbers.iter().map(|&factor| byte(factor)).collect(),
+            None => chosen_list(lengths[axis]),
+        };
+        let header = Header { version: 1, cell: Cell { group, lengths }, modulus, lists: [0, 1, 2].map(list) }.written();
+        recorder::judge(&header).map_err(|refusal| Refusal::of_found(refusal.number, self.found(refusal.number, &header)))?;
+        Ok(header)
+    }
+
+    /// The item for which the header is refused; of lengths also which axes. The line's words are shown, not the numbers that the call gets for them.
+    fn found(&self, number: u32, header: &Header) -> String {
+        let at_fault: Vec<usize> = (0..3).filter(|&axis| recorder::axis_at_fault(number, header, axis).is_some()).collect();
+        let name = match number {
+            NO_GROUP => GROUP,
+            NO_MODULUS => MODULUS,
+            FACTOR | PRODUCT => at_fault.first().map_or(LENGTHS, |&axis| LISTS[axis]),
+            _ => LENGTHS,
+        };
+        let described = self.item(name).map_or_else(|| header.described(), |item| format!("line {}: {}", item.line, item.words));
+        match number {
+            LENGTH => described + "; " + &at_fault.iter().map(|axis| format!("N{}", axis + 1)).collect::<Vec<_>>().join(", "),
+            _ => found_of(number, "", &header.cell, described),
+        }
+    }
+}
+
+/// The name of a header's item and its numbers.
+fn item(words: &[&str]) -> Result<(&'static str, Vec<i64>), String> {
+    let numbers = |words: &[&str]| words.iter().map(|word| whole(word)).collect::<Result<Vec<i64>, String>>();
+    match words {
+        [GROUP, name @ ..] => Ok((GROUP, vec![group(&name.join(" "))?])),
+        [LENGTHS, lengths @ ..] if lengths.len() == 3 => Ok((LENGTHS, numbers(lengths)?)),
+        [LENGTHS, ..] => Err("lengths takes three numbers: N1, N2 and N3".into()),
+        [MODULUS, modulus @ ..] if modulus.len() == 1 => Ok((MODULUS, numbers(modulus)?)),
+        [MODULUS, ..] => Err("modulus takes one number: 1 for the prime 86,399, 2 for 302,399".into()),
+        [LIST, axis @ ("h" | "k" | "l"), factors @ ..] if factors.len() <= MOST_FACTORS => {
+            let axis = COLUMNS.iter().take_while(|column| *column != axis).count();
+            Ok((LISTS[axis], numbers(factors)?))
+        }
+        _ => Err(format!("list takes h, k or l and the factors of half that length, at most {MOST_FACTORS}")),
+    }
+}
+
+/// The number of a group, by name or as it is.
+fn group(name: &str) -> Result<i64, String> {
+    let remedy = "a group is P1, P2_1, Pm, Pa or P2_1 2_1 2_1, or its number in a factor file, 0 to 4";
+    group_named(name).map_or_else(|| whole(name).map_err(|text| format!("{text} and no group; {remedy}")), |group| Ok(group.into()))
+}
+
+/// A number of the header that is a byte there. One that does not fit is refused as 255 is.
+fn byte(number: i64) -> u8 {
+    u8::try_from(number).unwrap_or(u8::MAX)
+}
+
+/// The five numbers of a record.
+fn record(words: &[&str]) -> Result<[i64; 5], String> {
+    let mut numbers = [0; 5];
+    for (word, number) in words.iter().zip(numbers.iter_mut()) {
+        *number = whole(word).map_err(|text| format!("{text}; a line has h k l a b, or begins with group, lengths, modulus or list"))?;
+    }
+    match words.len() {
+        5 => Ok(numbers),
+        count => Err(format!("{count} words; a record has five numbers, h k l a b")),
+    }
+}
+
+/// A whole number. One beyond 64 bits is the one at their end: it fits nowhere either. Of a long word that is none the beginning is shown.
+fn whole(word: &str) -> Result<i64, String> {
+    let (digits, end) = word.strip_prefix('-').map_or((word, i64::MAX), |digits| (digits, i64::MIN));
+    if digits.is_empty() || !digits.bytes().all(|byte| byte.is_ascii_digit()) {
+        return Err(format!("{:?} is not a whole number", word.chars().take(MOST_LETTERS).collect::<String>()));
+    }
+    Ok(word.parse().unwrap_or(end))
+}
+
+/// The records of a text as the factor file under a sound header, and their lines.
+struct Records {
+    header: Header,
+    file: Vec<u8>,
+    count: u32,
+    /// The place and line of each record that is not in the line behind that of the record before.
+    lines: Vec<(u32, usize)>,
+    /// The first record with a number that its bytes cannot hold: its place and words.
+    beyond: Option<(u32, [String; 5])>,
+}
+
+impl Records {
+    fn new(header: Header) -> Records {
+        let file = [&[0; 4], &header.bytes()[..], &[0; 4]].concat();
+        Records { header, file, count: 0, lines: Vec::new(), beyond: None }
+    }
+
+    /// An index that does not fit is refused as 65,535 is, a value as the greatest of 32 bits.
+    fn push(&mut self, line: usize, words: &[&str], numbers: [i64; 5]) -> Result<(), Failure> {
+        let (lengths, prime) = (self.header.cell.lengths.map(i64::from), i64::from(self.header.prime()));
+        let indices = [0, 1, 2].map(|axis| standing(numbers[axis], lengths[axis], lengths[axis]).and_then(|index| u16::try_from(index).ok()));
+        let values = [3, 4].map(|column: usize| standing(numbers[column], prime, prime - 1).and_then(|value| u32::try_from(value).ok()));
+        if self.beyond.is_none() && (indices.contains(&None) || values.contains(&None)) {
+            self.beyond = Some((self.count, [0, 1, 2, 3, 4].map(|column| words[column].into())));
+        }
+        room(&mut self.file, factor_file::RECORD)?;
+        indices.iter().for_each(|index| self.file.extend(index.unwrap_or(u16::MAX).to_be_bytes()));
+        values.iter().for_each(|value| self.file.extend(value.unwrap_or(u32::MAX).to_be_bytes()));
+        if self.count == 0 || self.line(self.count) != line {
+            room(&mut self.lines, 1)?;
+            self.lines.push((self.count, line));
+        }
+        self.count += 1;
+        Ok(())
+    }
+
+    /// Whether no file of this header has so many records and is accepted: each orbit has a place of its own in the volume, so two are of one.
+    fn are_too_many(&self) -> bool {
+        self.count as usize > self.header.cell.volume_length()
+    }
+
+    /// The line of a record, or the one behind the last.
+    fn line(&self, place: u32) -> usize {
+        let (first, line) = self.lines[self.lines.partition_point(|&(first, _)| first <= place) - 1];
+        line + (place - first) as usize
+    }
+
+    /// The file, accepted whole.
+    fn judged(mut self) -> Result<Vec<u8>, Failure> {
+        let records_at = factor_file::length(&self.header, 0);
+        let following = self.file.len() as u32 - 4;
+        self.file[..4].copy_from_slice(&following.to_be_bytes());
+        self.file[records_at - 4..records_at].copy_from_slice(&self.count.to_be_bytes());
+        match Recorder::of_factor_file(&self.file) {
+            Err(Failure::Refused(refusal)) => Err(Refusal::of_record(refusal.number, refusal.place, self.found(refusal.place)).into()),
+            Err(failure) => Err(failure),
+            Ok(_) if self.are_too_many() => Err(Failure::Trouble("a file of more records than its cell has places was accepted; report it".into())),
+            Ok(_) => Ok(self.file),
+        }
+    }
+
+    /// The refused record, and the one that it is of one orbit with.
+    fn found(&self, place: u32) -> String {
+        match recorder::faults(&self.file)[..] {
+            [first, _] => format!("{}; of one orbit with {}", self.said(place), self.said(first)),
+            _ => self.said(place),
+        }
+    }
+
+    /// A record with its line: the numbers of the file, or the words where one does not fit.
+    fn said(&self, place: u32) -> String {
+        let [h, k, l, a, b] = match &self.beyond {
+            Some((beyond, words)) if *beyond == place => words.clone(),
+            _ => factor_file::record(&self.file, &self.header, place).numbers().map(|number| number.to_string()),
+        };
+        format!("line {}: h {h}, k {k}, l {l}, a {a}, b {b}", self.line(place))
+    }
+}
+
+/// What a number of a record stands for: one below zero counts from a length or a prime, as far as the least one does.
+fn standing(number: i64, from: i64, most: i64) -> Option<i64> {
+    match number {
+        0.. => Some(number),
+        _ if -most <= number => Some(number + from),
+        _ => None,
+    }
+}

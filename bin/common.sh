@@ -1,4 +1,4 @@
-# What bin/build, bin/sample and bin/test share: what the machine must have, a line for each crate while rt proves, the first error where
+# What bin/build, bin/sample, bin/install and bin/test share: what the machine must have, a line for each crate while rt proves, the first error where
 # something fails, and the build of the library and of the tool. They source it in the repository's top folder.
 # shellcheck shell=bash
 
@@ -27,6 +27,7 @@ purpose() { # PROGRAM
     cargo) echo "of Rust $(least_cargo) or later, which builds the command line tool" ;;
     gcc) echo "the C compiler, with which cargo links the tool and the tests compile C" ;;
     cc) echo "the name by which cargo calls the C compiler to link the tool" ;;
+    install) echo "of the GNU core utilities, which copies a file with its permissions" ;;
     python3) echo "in which the tests beside the proofs are written" ;;
     esac
 }

@@ -26,10 +26,9 @@
    Threads and stack. The library keeps no state and asks for no memory: any number of threads may call it at once, each with buffers of its
    own; a volume or a combined map that all of them only read (recorder_point, recorder_factor, recorder_map_power, recorder_factor_power,
    recorder_write_file, recorder_combine, recorder_section, recorder_mrc, the maps of recorder_correlate) may be shared. By measurement on
-   x86-64 recorder_correlate needs some 117 KB of stack, synthesis and analysis some 92 KB, recorder_line some 68 KB, every other call but
-   one less than 8 KB, whatever the grid: give a thread 128 KB or more, one that calls recorder_correlate 192 KB or more. The one is
-   recorder_file_faults, which is lent no volume and marks the orbits of a file in an array of 256 KB of its own; it needs some 264 KB: give a
-   thread that calls it 384 KB or more.
+   x86-64 synthesis, analysis and recorder_correlate need less than 120,000 bytes of stack, recorder_line less than 67,000, every other call but
+   one less than 1,000, whatever the grid: give a thread 192 KB or more. The one is recorder_file_faults, which is lent no volume and marks the
+   orbits of a file in an array of 256 KB of its own; it needs less than 263,000: give a thread that calls it 384 KB or more.
 
    Lengths N1, N2, N3 are even divisors of 2,880. Groups: 0 P1, 1 P2_1 with axis c, 2 Pm with its mirror across c, 3 Pa with its mirror
    across c and its glide along a, 4 P2_1 2_1 2_1 with the operations (1/2 - x, -y, 1/2 + z), (-x, 1/2 + y, 1/2 - z) and

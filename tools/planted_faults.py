@@ -41,7 +41,8 @@ OUTSIDE_BOOK = "        if self.outside(j):\n"
 STATE = "        if (s == 2) != wants_map:\n"
 READ = "        x, places = read_factor(g, n, v, (h, k, l), p)\n"
 ORBIT = "        orbit = images(g, n, j, (a, b), p)\n"
-POWER_VALID = '        """The power of the map or of the factors over the whole cell."""\n        g, p, n, _, s = self.parts()\n' + refusal("not self.valid()", 25)
+POWER_VALID = ('        """The power of the map or of the factors over the whole cell."""\n        g, p, n, _, s = self.parts()\n'
+               + refusal("not self.valid()", 25))
 POWER_STATE = "        if (s == 2) != of_map:\n            return (22 if of_map else 23), 0, 0\n"
 POWER_LENGTH = "        v = self.lent()\n" + TRANSFORM_LENGTH
 POWER_WHOLE = refusal("not (consistent_map(g, n, v) if of_map else consistent(g, n, v, p))", 14)
@@ -139,8 +140,10 @@ FAULTS = [
     ("powers: those of the book without 22 and 23", "        if (self.state == 2) != of_map:\n", "        if False:\n"),
     ("powers: squares of factors in place of F times its conjugate", "    return sum(mul(x, conj(x, p), p)[0] for x in values) % p\n",
      "    return sum(mul(x, x, p)[0] for x in values) % p\n"),
-    ("powers: the stored planes of a map alone", "power(((d, 0) for d in read_map(g, n, v).values())", "power(((d, 0) for x, d in read_map(g, n, v).items() if x[2] < planes(g, n))"),
-    ("powers: modulo the first prime", "    return sum(mul(x, conj(x, p), p)[0] for x in values) % p\n", "    return sum(mul(x, conj(x, P), P)[0] for x in values) % P\n"),
+    ("powers: the stored planes of a map alone", "power(((d, 0) for d in read_map(g, n, v).values())",
+     "power(((d, 0) for x, d in read_map(g, n, v).items() if x[2] < planes(g, n))"),
+    ("powers: modulo the first prime", "    return sum(mul(x, conj(x, p), p)[0] for x in values) % p\n",
+     "    return sum(mul(x, conj(x, P), P)[0] for x in values) % P\n"),
     ("opening: 2 before 8", GROUP, KIND + GROUP),
     ("opening: 6 before 3, 4, 5 and 9", HEADER, LENGTH + HEADER),
     ("opening: 14 before 7", MAP_NUMBERS + MAP_WHOLE, MAP_WHOLE + MAP_NUMBERS),

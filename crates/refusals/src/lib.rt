@@ -4,8 +4,8 @@
 ghost use mathlib.Core.Path.{_≡_};
 ghost use Rattle.refusals.specs.Refusals.{numberOf};
 
-// Why a call is turned back: one case for each number of the paper but 11 and 17, which no call gives any more (a zero is a value like others, and a file may
-// have no records), and 31 to 33, which belong to calls that are not here yet.
+// Why a call is turned back: one case for each number of the paper but 11 and 17, which no call gives any more (a zero is a value like others,
+// and a file may have no records), and 31 to 33, which belong to calls that are not here yet.
 pub enum Refusal {
     LineKind,
     Direction,

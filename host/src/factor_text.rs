@@ -27,7 +27,7 @@ const MODULUS: &str = "modulus";
 const LIST: &str = "list";
 const LISTS: [&str; 3] = ["list h", "list k", "list l"];
 const COLUMNS: [&str; 5] = ["h", "k", "l", "a", "b"];
-/// The refusals of a header that are of other items than the lengths.
+/// The refusals of a header that one of its items is named for; any other is of the lengths together.
 const LENGTH: u32 = 3;
 const FACTOR: u32 = 4;
 const PRODUCT: u32 = 5;

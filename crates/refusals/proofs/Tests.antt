@@ -8,7 +8,7 @@ use native.Mathlib.Omega.{arith}
 use lib.Dec.{T, leb, eqb, leb→le}
 use borrow.Author.Tests.{not-true, not-false, lt-ltb, le-ltb, le-leb, lt-leb, eq-eqb, ne-eqb}
 use Rattle.refusals.specs.declared.Refusal.{Refusal}
-use Rattle.refusals.specs.declared.Refusal.the-variants.{LineKind, Direction, Length, Factor, Product, BufferLength, NotResidue, Group, VolumeTooLarge, Index, Contradiction, ScratchTooShort, Inconsistent, FileShape, FileVersion, OutputTooShort, NotCollecting, NoMap, NoFactors, Occupied, ImpossibleJob, Modulus, DifferentCells, Magnitude, UnitCell, FloatRange, Window}
+use Rattle.refusals.specs.declared.Refusal.the-variants.{LineKind, Direction, Length, Factor, Product, BufferLength, NotResidue, Group, VolumeTooLarge, Index, Contradiction, ScratchTooShort, Inconsistent, FileShape, FileVersion, OutputTooShort, NotCollecting, NoMap, NoFactors, Occupied, ImpossibleJob, Modulus, DifferentCells, Magnitude, UnitCell, FloatRange, Lane, Capacity, NothingRuns, Window}
 use Rattle.refusals.specs.Refusals.{numberOf, Test, _⇒_, first, accepted}
 
 -- ---- conjunctions
@@ -139,6 +139,9 @@ fails r n o f e = rw (← e) (go r)
     go Magnitude = refl
     go UnitCell = refl
     go FloatRange = refl
+    go Lane = refl
+    go Capacity = refl
+    go NothingRuns = refl
     go Window = refl
 
 -- no refusal has the number 0

@@ -1,7 +1,7 @@
 -- The paper's number of each refusal.
 use Prim.Native.Nat.{ℕ, zero, suc}
 use Rattle.refusals.specs.declared.Refusal.{Refusal}
-use Rattle.refusals.specs.declared.Refusal.the-variants.{LineKind, Direction, Length, Factor, Product, BufferLength, NotResidue, Group, VolumeTooLarge, Index, Contradiction, ScratchTooShort, Inconsistent, FileShape, FileVersion, OutputTooShort, NotCollecting, NoMap, NoFactors, Occupied, ImpossibleJob, Modulus, DifferentCells, Magnitude, UnitCell, FloatRange, Window}
+use Rattle.refusals.specs.declared.Refusal.the-variants.{LineKind, Direction, Length, Factor, Product, BufferLength, NotResidue, Group, VolumeTooLarge, Index, Contradiction, ScratchTooShort, Inconsistent, FileShape, FileVersion, OutputTooShort, NotCollecting, NoMap, NoFactors, Occupied, ImpossibleJob, Modulus, DifferentCells, Magnitude, UnitCell, FloatRange, Lane, Capacity, NothingRuns, Window}
 use mathlib.Core.Bool.{Bool, cond}
 use mathlib.Core.List.{List, [], _∷_}
 
@@ -32,6 +32,9 @@ numberOf DifferentCells = 27
 numberOf Magnitude = 28
 numberOf UnitCell = 29
 numberOf FloatRange = 30
+numberOf Lane = 31
+numberOf Capacity = 32
+numberOf NothingRuns = 33
 numberOf Window = 34
 
 -- ---- Tests in the paper's order, each with the number that it refuses with, and what a call makes of the first that holds.

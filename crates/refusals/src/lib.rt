@@ -5,7 +5,7 @@ ghost use mathlib.Core.Path.{_≡_};
 ghost use Rattle.refusals.specs.Refusals.{numberOf};
 
 // Why a call is turned back: one case for each number of the paper but 11 and 17, which no call gives any more (a zero is a value like others,
-// and a file may have no records), and 31 to 33, which belong to calls that are not here yet.
+// and a file may have no records).
 pub enum Refusal {
     LineKind,
     Direction,
@@ -33,6 +33,9 @@ pub enum Refusal {
     Magnitude,
     UnitCell,
     FloatRange,
+    Lane,
+    Capacity,
+    NothingRuns,
     Window,
 }
 
@@ -73,6 +76,9 @@ pub fn number_of(r: Refusal) -> u32
         Refusal::Magnitude => 28,
         Refusal::UnitCell => 29,
         Refusal::FloatRange => 30,
+        Refusal::Lane => 31,
+        Refusal::Capacity => 32,
+        Refusal::NothingRuns => 33,
         Refusal::Window => 34,
     }
 }

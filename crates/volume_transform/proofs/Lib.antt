@@ -1,2 +1,4 @@
 pub mod Turning
 pub mod Ready
+pub mod OwnTurns
+pub mod Rising

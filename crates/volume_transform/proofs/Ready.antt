@@ -24,3 +24,12 @@ module _ (p : Plan) (j : ℕ) (x : Line) (v re im tan : List ℕ) (f : Fitting p
   pub line-ready : LineAt p j x → (Placed (length v) x × TablesFor x re im tan) × LineBelow x v
   line-ready (inl g) = ready (g .modulus) (g .direction) (inl (g .other, g .placed))
   line-ready (inr r) = ready (r .modulus) (r .direction) (inr (r .placed))
+
+-- where its line lies, whatever the volume holds
+pub line-placed : (p : Plan) (j : ℕ) (x : Line) → LineAt p j x → Placed (volumeLength (planGroup p) (planHalves p)) x
+line-placed p j x (inl g) = inl (g .other, g .placed)
+line-placed p j x (inr r) = inr (r .placed)
+
+pub line-directed : (p : Plan) (j : ℕ) (x : Line) → LineAt p j x → x .direction ≡ p .direction
+line-directed p j x (inl g) = g .direction
+line-directed p j x (inr r) = r .direction

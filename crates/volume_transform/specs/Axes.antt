@@ -62,6 +62,10 @@ module _ (m B : ℕ) where
 abbrev pub turnOf : Layout → (ℕ → List ℕ → List ℕ) → ℕ → List ℕ → List ℕ
 turnOf L G y d = setLine L y (onLists L G y (lineOf L y d)) d
 
+-- the numbers of line y, pair after pair
+abbrev pub numbersOf : Layout → ℕ → List ℕ → List ℕ
+numbersOf L y d = tab (L .size y) (lineOf L y d)
+
 module _ (g : Group) (a : J) where
   -- line y = h (B + 1) + k along l, the pairs of its kind
   abbrev pub kindAt : ℕ → Kind
@@ -79,6 +83,13 @@ module _ (g : Group) (a : J) where
 
   abbrev pub lineCount : ℕ
   lineCount = alongL .count + alongH .count + alongK .count
+
+  -- the numbers of line number j of a job
+  unfoldable pub lineNumbers : ℕ → List ℕ → List ℕ
+  lineNumbers j d =
+      cond (ltb j (alongL .count)) (numbersOf alongL j d)
+      (cond (ltb j (alongL .count + alongH .count)) (numbersOf alongH (j - alongL .count) d)
+      (numbersOf alongK (j - (alongL .count + alongH .count)) d))
 
   -- the line of turn n: synthesis takes them by their numbers, analysis those along k first and those along l last
   unfoldable pub lineOfTurn : (direction n : ℕ) → ℕ

@@ -2,3 +2,4 @@ pub mod Axes
 pub mod Lines
 pub mod Plans
 pub mod Turns
+pub mod RisingPlaces

@@ -1,15 +1,15 @@
 -- One line of a volume: its kind, its length and its places, what is known of them, and its turn.
 use mathlib.Core.Path.{_≡_}
 use mathlib.Core.Logic.{_⊎_}
-use mathlib.Core.Bool.{cond}
+use mathlib.Core.Bool.{Bool, cond}
 use mathlib.Core.List.{List}
 use Prim.Native.Nat.{ℕ, _+_, _*_, _<_, _≤_, zero, suc}
 use lib.Dec.{eqb}
 use Rattle.algebra.specs.lines.Kinds.{slots}
 use Rattle.numbers.specs.Value.{prime, IsModulus}
 use Rattle.numbers.specs.Bounds.{Small}
-use Rattle.slices.specs.Pairs.{at, tab, puts}
-use Rattle.lengths.specs.Lengths.{kindOf}
+use Rattle.slices.specs.Pairs.{at, tab, puts, allBelow}
+use Rattle.lengths.specs.Lengths.{kindOf, cleared}
 use Rattle.lengths.specs.Admitted.{AdmittedLength, FactorList}
 use Rattle.volume_transform.specs.Axes.{turnedLine, turnedStored, turnedRow}
 use Rattle.volume_transform.specs.declared.plan.Line.{Line}
@@ -34,6 +34,10 @@ storedTurn x l = turnedStored (x .m) (x .half) (x .direction) (x .rotated) (kind
 -- the n pairs of v at the places p 0, p 1, .. go through F
 abbrev pub turnedAt : (p : ℕ → ℕ) (n : ℕ) (F : List ℕ → List ℕ) → List ℕ → List ℕ
 turnedAt p n F v = puts p (at (F (tab n (λ j. at v (p j))))) n v
+
+-- its numbers, pair after pair
+abbrev pub numbersIn : Line → List ℕ → List ℕ
+numbersIn x v = tab (x .count) (λ j. at v (x .start + j * x .stride))
 
 abbrev pub gatheredTurn : Line → List ℕ → List ℕ
 gatheredTurn x v = turnedAt (λ j. x .start + j * x .stride) (x .count) (storedTurn x) v
@@ -69,6 +73,12 @@ pub record LineBelow (x : Line) (v : List ℕ) : Type 0 where
 -- and its turn: a row is known by its kind
 abbrev pub lineTurned : Line → List ℕ → List ℕ
 lineTurned x v = cond (eqb (x .kind) 1) (rowTurn x v) (gatheredTurn x v)
+
+-- A line that is transformed if its own numbers are residues, the scratch then cleared; if they are not, nothing changes.
+pub record OwnTurn (turned : List ℕ → List ℕ) (x : Line) (done : Bool) (v v′ scratch scratch′ : List ℕ) : Type 0 where
+  pub tested : done ≡ allBelow (prime (x .m)) (numbersIn x v)
+  pub volume : v′ ≡ cond done (turned v) v
+  pub lent : scratch′ ≡ cond done (cleared scratch) scratch
 
 -- ---- What the turn of a line is lent, and the ends of a row.
 

@@ -10,8 +10,8 @@ use Rattle.slices.specs.Pairs.{Below}
 use Rattle.cell.specs.Volume.{volumeLength}
 use Rattle.cell.specs.Operations.{cellGroup, cellHalves}
 use Rattle.volume_transform.specs.declared.plan.Line.{Line}
-use Rattle.volume_transform.specs.Lines.{gatheredTurn, rowTurn, Spaced, Beside}
-use Rattle.volume_transform.specs.Axes.{alongL, alongH, alongK, jobTurn, lineOfTurn, JobSizes}
+use Rattle.volume_transform.specs.Lines.{numbersIn, gatheredTurn, rowTurn, Spaced, Beside}
+use Rattle.volume_transform.specs.Axes.{alongL, alongH, alongK, jobTurn, lineNumbers, lineOfTurn, JobSizes}
 use Rattle.volume_transform.specs.declared.plan.Plan.{Plan}
 use Rattle.volume_transform.specs.declared.plan.Counts.{Counts}
 
@@ -43,6 +43,10 @@ lineTurn p j d = jobTurn (planGroup p) (planHalves p) (p .m) (p .direction) j d
 abbrev pub planTurn : Plan → ℕ → List ℕ → List ℕ
 planTurn p n d = lineTurn p (lineOfTurn (planGroup p) (planHalves p) (p .direction) n) d
 
+-- the numbers of line number j
+abbrev pub planNumbers : Plan → ℕ → List ℕ → List ℕ
+planNumbers p j d = lineNumbers (planGroup p) (planHalves p) j d
+
 -- how many lines each axis has
 pub record Counted (p : Plan) (c : Counts) : Type 0 where
   pub l : c .l ≡ alongL (planGroup p) (planHalves p) .count
@@ -53,19 +57,21 @@ pub record Counted (p : Plan) (c : Counts) : Type 0 where
 
 -- ---- the line of a number
 
--- x is a line of the plan's job, and its turn is that of `step`
-pub record Gathered (p : Plan) (step : List ℕ → List ℕ) (x : Line) : Type 0 where
+-- x is a line of the plan's job, its turn is that of `step`, and its numbers are `own`
+pub record Gathered (p : Plan) (step own : List ℕ → List ℕ) (x : Line) : Type 0 where
   pub modulus : x .m ≡ p .m
   pub direction : x .direction ≡ p .direction
   pub other : x .kind ≡ 1 → ⊥
   pub placed : Spaced (volumeLength (planGroup p) (planHalves p)) x
   pub turn : (v : List ℕ) → gatheredTurn x v ≡ step v
+  pub numbers : (v : List ℕ) → numbersIn x v ≡ own v
 
-pub record Row (p : Plan) (step : List ℕ → List ℕ) (x : Line) : Type 0 where
+pub record Row (p : Plan) (step own : List ℕ → List ℕ) (x : Line) : Type 0 where
   pub modulus : x .m ≡ p .m
   pub direction : x .direction ≡ p .direction
   pub placed : Beside (volumeLength (planGroup p) (planHalves p)) x
   pub turn : (v : List ℕ) → rowTurn x v ≡ step v
+  pub numbers : (v : List ℕ) → numbersIn x v ≡ own v
 
 abbrev pub LineAt : (p : Plan) (j : ℕ) (x : Line) → Type 0
-LineAt p j x = Gathered p (lineTurn p j) x ⊎ Row p (lineTurn p j) x
+LineAt p j x = Gathered p (lineTurn p j) (planNumbers p j) x ⊎ Row p (lineTurn p j) (planNumbers p j) x

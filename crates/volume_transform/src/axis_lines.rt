@@ -4,7 +4,7 @@ use crate::plan::Counts;
 use crate::plan::Line;
 use crate::plan::Plan;
 ghost use Prim.Native.Nat.{_<_};
-ghost use Rattle.volume_transform.specs.Axes.{turnOf, alongH, alongK, turnedH, turnedK};
+ghost use Rattle.volume_transform.specs.Axes.{turnOf, numbersOf, alongH, alongK, turnedH, turnedK};
 ghost use Rattle.volume_transform.specs.Plans.{planGroup, planHalves, SizesIn, Planned, Counted, Gathered, Row};
 
 // How many lines there are along each axis.
@@ -26,7 +26,7 @@ pub fn line_counts(plan: Plan) -> Counts
 pub fn along_h(plan: Plan, y: usize) -> Line
     requires { ⌜ Planned plan × (y < alongH (planGroup plan) (planHalves plan) .count) ⌝ }
     ensures { λ r. ⌜ Gathered plan (turnOf (alongH (planGroup plan) (planHalves plan))
-        (turnedH (planGroup plan) (planHalves plan) (plan .m) (plan .direction)) y) r ⌝ }
+        (turnedH (planGroup plan) (planHalves plan) (plan .m) (plan .direction)) y) (numbersOf (alongH (planGroup plan) (planHalves plan)) y) r ⌝ }
 {
     let width = (plan.cell.n2 / 2 + 1) as usize;
     let rows = plan.cell.n1 as usize;
@@ -47,7 +47,7 @@ pub fn along_h(plan: Plan, y: usize) -> Line
 pub fn row_at(plan: Plan, y: usize) -> Line
     requires { ⌜ Planned plan × (y < alongK (planGroup plan) (planHalves plan) .count) ⌝ }
     ensures { λ r. ⌜ Row plan (turnOf (alongK (planGroup plan) (planHalves plan)) (turnedK (planGroup plan) (planHalves plan) (plan .m) (plan .direction)) y)
-        r ⌝ }
+        (numbersOf (alongK (planGroup plan) (planHalves plan)) y) r ⌝ }
 {
     let half = (plan.cell.n2 / 2) as usize;
     let width = half + 1;

@@ -8,6 +8,7 @@ pub mod axis_lines; // axis_lines.rt: the lines along h and k, and how many ther
 pub mod numbering; // numbering.rt: all lines by their numbers
 pub mod row; // row.rt: the ends of a row along k
 pub mod sums; // sums.rt: what all lines come to, the triple sum and its inverse
+pub mod one_line; // one_line.rt: one line in a call of its own
 mod lines; // lines.rt: one line along l or h
 mod rows; // rows.rt: one row along k
 
@@ -22,6 +23,7 @@ ghost use Rattle.volume_transform.specs.Lines.{TablesFor, Lent, Kept, Pl
 ghost use Rattle.volume_transform.specs.Axes.{lineCount};
 ghost use Rattle.volume_transform.specs.Plans.{planGroup, planHalves, Planned, Fitting, planTurn};
 ghost use Rattle.volume_transform.specs.Turns.{turns};
+ghost use Rattle.volume_transform.specs.RisingPlaces.{RisingPlaces};
 
 // A whole volume. The tables are made once, and lent down; the scratch is cleared of what the lines left there.
 pub fn transform_volume(plan: Plan, volume: &mut [u32], scratch: &mut [u32])
@@ -103,3 +105,8 @@ fn turn<'a>(
         lines::turn_gathered(m, line, re, im, tan, volume, scratch, fold, work);
     }
 }
+
+// The lines of each axis come by rising place of their pair at index 0.
+pub fn rising_places()
+    ensures { λ _. ⌜ RisingPlaces ⌝ }
+{}

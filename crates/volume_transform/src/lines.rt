@@ -34,7 +34,7 @@ pub fn turn_gathered<'a>(
 }
 
 // The numbers of a packed line as it is stored: one that is stored times i loses it after synthesis, and gets it before analysis.
-fn turn_stored<'a>(
+pub fn turn_stored<'a>(
     m: u32,
     line: Line,
     re: &'a [u32; 2880],

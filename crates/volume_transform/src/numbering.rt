@@ -7,7 +7,7 @@ ghost use mathlib.Core.Path.{_≡_};
 ghost use Prim.Native.Nat.{_<_, _≤_};
 ghost use Rattle.cell.specs.Volume.{firstPair};
 ghost use Rattle.lengths.specs.Lengths.{kindOf};
-ghost use Rattle.volume_transform.specs.Axes.{lineCount, lineOfTurn, turnOf, alongL, turnedL};
+ghost use Rattle.volume_transform.specs.Axes.{lineCount, lineOfTurn, turnOf, numbersOf, alongL, turnedL};
 ghost use Rattle.volume_transform.specs.Plans.{planGroup, planHalves, Planned, Counted, Gathered, LineAt};
 
 // The line that turn n transforms.
@@ -52,7 +52,7 @@ fn line_at(plan: Plan, counts: Counts, j: usize) -> Line
 fn along_l(plan: Plan, y: usize) -> Line
     requires { ⌜ Planned plan × (y < alongL (planGroup plan) (planHalves plan) .count) ⌝ }
     ensures { λ r. ⌜ Gathered plan (turnOf (alongL (planGroup plan) (planHalves plan))
-        (turnedL (planGroup plan) (planHalves plan) (plan .m) (plan .direction)) y) r ⌝ }
+        (turnedL (planGroup plan) (planHalves plan) (plan .m) (plan .direction)) y) (numbersOf (alongL (planGroup plan) (planHalves plan)) y) r ⌝ }
 {
     let width = (plan.cell.n2 / 2 + 1) as usize;
     let stride = (plan.cell.n1 as usize) * width;

@@ -8,15 +8,16 @@ use native.Mathlib.Omega.{arith}
 use Rattle.algebra.specs.lines.Kinds.{Kind.symmetric, Kind.antisymmetric, slots}
 use Rattle.algebra.specs.cells.Cell.{J, Group, P1, P2₁, Pm, Pa, P2₁2₁2₁, planes}
 use Rattle.algebra.specs.cells.CellPack.{even}
+use Rattle.slices.specs.Pairs.{at, tab}
 use Rattle.slices.proofs.Rows.{row-end, row-split, strided-block}
 use Rattle.slices.proofs.Layouts.{fits-second}
 use Rattle.lengths.specs.Lengths.{kindOf, pairCount}
 use Rattle.cell.specs.Volume.{lineKind, rotated, firstPair, layers, rows, columns, volumeLength}
 use Rattle.cell.specs.declared.operations.UnitCell.{UnitCell}
 use Rattle.cell.specs.Operations.{cellGroup, cellHalves, Sizes}
-use Rattle.volume_transform.specs.Axes.{turnedStored, turnOf, kindAt, alongL, alongH, alongK, turnedL}
+use Rattle.volume_transform.specs.Axes.{turnedStored, turnOf, numbersOf, kindAt, alongL, alongH, alongK, turnedL}
 use Rattle.volume_transform.specs.Lines.{turnedAt}
-use Rattle.volume_transform.proofs.plan.Numbered.{by-places}
+use Rattle.volume_transform.proofs.plan.Numbered.{by-places, numbers-at}
 
 -- the pairs of a line along l are among the layers
 module _ (a : J) where
@@ -117,6 +118,9 @@ module _ {cell : UnitCell} (h : Sizes cell) where
 
     pub turned-l : (m direction : ℕ) (v : List ℕ) → turnedAt (λ j. y + f * (cell .n1 * (cell .n2 / 2 + 1)) + j * (cell .n1 * (cell .n2 / 2 + 1))) count (turnedStored m (cell .n3 / 2) direction b (kindOf kind)) v ≡ turnOf (alongL g a) (turnedL g a m direction) y v
     turned-l m direction v = by-places (alongL g a) (turnedL g a m direction) y count _ (turnedStored m (cell .n3 / 2) direction b (kindOf kind)) v _ size-l (λ j l. place-l j) (λ l. ap₂ (λ b k. turnedStored m (cell .n3 / 2) direction b k l) rotated-is kind-is) refl
+
+    pub numbers-l : (v : List ℕ) → tab count (λ j. at v (y + f * (cell .n1 * (cell .n2 / 2 + 1)) + j * (cell .n1 * (cell .n2 / 2 + 1)))) ≡ numbersOf (alongL g a) y v
+    numbers-l v = numbers-at (alongL g a) y count _ v size-l (λ j l. place-l j)
 
   -- a row along k
   module _ (y : ℕ) (l : y < layers g a * rows g a) where

@@ -11,7 +11,7 @@ use Rattle.slices.specs.Sweep.{Layout, lineOf}
 use Rattle.slices.proofs.Pairs.{puts-same, tab-cong}
 use Rattle.lengths.specs.Lengths.{kindOf}
 use Rattle.cell.specs.Volume.{firstPair}
-use Rattle.volume_transform.specs.Axes.{turnOf, alongL, alongH, alongK, lineOfTurn, turnedL, turnedH, turnedK, jobTurn}
+use Rattle.volume_transform.specs.Axes.{turnOf, alongL, alongH, alongK, lineOfTurn, turnedL, turnedH, turnedK, jobTurn, numbersOf, lineNumbers}
 
 -- where the code says the places of a line in another way than the layout
 pub by-places : (L : Layout) (G : ℕ → List ℕ → List ℕ) (y n : ℕ) (p : ℕ → ℕ) (F : List ℕ → List ℕ) (v v′ : List ℕ) → n ≡ L .size y → ((j : ℕ) → j < L .size y → p j ≡ L .place y j) → ((l : List ℕ) → F l ≡ G y l)
@@ -19,6 +19,9 @@ pub by-places : (L : Layout) (G : ℕ → List ℕ → List ℕ) (y n : ℕ) (p 
 by-places L G y n p F v v′ e q f h =
     h ∙ ap (λ n. puts p (at (F (tab n (λ j. at v (p j))))) n v) e
     ∙ puts-same p (L .place y) _ _ (L .size y) v q (λ j l. ap (λ x. at x j) (f _ ∙ ap (G y) (tab-cong (L .size y) _ (lineOf L y v) (λ j l. ap (at v) (q j l)))))
+
+pub numbers-at : (L : Layout) (y n : ℕ) (p : ℕ → ℕ) (v : List ℕ) → n ≡ L .size y → ((j : ℕ) → j < L .size y → p j ≡ L .place y j) → tab n (λ j. at v (p j)) ≡ numbersOf L y v
+numbers-at L y n p v e q = ap (λ n. tab n (λ j. at v (p j))) e ∙ tab-cong (L .size y) _ (lineOf L y v) (λ j l. ap (at v) (q j l))
 
 -- ---- the order of the lines
 
@@ -57,6 +60,24 @@ module _ (g : Group) (a : J) (m direction : ℕ) where
   turn-k y d =
       rw (le-ltb (alongL g a .count + alongH g a .count + y) (alongL g a .count) (omega arith), le-ltb (alongL g a .count + alongH g a .count + y) (alongL g a .count + alongH g a .count) (omega arith))
       (along (λ y. turnOf (alongK g a) (turnedK g a m direction) y d) (alongL g a .count + alongH g a .count + y - (alongL g a .count + alongH g a .count)) y (omega arith))
+
+-- and which numbers
+module _ (g : Group) (a : J) where
+  pub numbers-of-l : (y : ℕ) → y < alongL g a .count → (d : List ℕ) → lineNumbers g a (0 + y) d ≡ numbersOf (alongL g a) y d
+  unfolding lineNumbers
+  numbers-of-l y l d = along (λ q. lineNumbers g a q d) (0 + y) y (omega arith) ∙ rw (lt-ltb y (alongL g a .count) l) refl
+
+  pub numbers-of-h : (y : ℕ) → y < alongH g a .count → (d : List ℕ) → lineNumbers g a (alongL g a .count + y) d ≡ numbersOf (alongH g a) y d
+  unfolding lineNumbers
+  numbers-of-h y l d =
+      rw (le-ltb (alongL g a .count + y) (alongL g a .count) (omega arith), lt-ltb (alongL g a .count + y) (alongL g a .count + alongH g a .count) (omega arith))
+      (along (λ y. numbersOf (alongH g a) y d) (alongL g a .count + y - alongL g a .count) y (omega arith))
+
+  pub numbers-of-k : (y : ℕ) → (d : List ℕ) → lineNumbers g a (alongL g a .count + alongH g a .count + y) d ≡ numbersOf (alongK g a) y d
+  unfolding lineNumbers
+  numbers-of-k y d =
+      rw (le-ltb (alongL g a .count + alongH g a .count + y) (alongL g a .count) (omega arith), le-ltb (alongL g a .count + alongH g a .count + y) (alongL g a .count + alongH g a .count) (omega arith))
+      (along (λ y. numbersOf (alongK g a) y d) (alongL g a .count + alongH g a .count + y - (alongL g a .count + alongH g a .count)) y (omega arith))
 
 -- ---- kinds by their numbers
 

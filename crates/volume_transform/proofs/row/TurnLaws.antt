@@ -58,7 +58,7 @@ line-length a kind h = h ∙ along (λ c. 2 * slots (kindOf kind) c) a (2 * a / 
 
 -- ---- gathered, transformed, scattered
 
-module _ (m a direction : ℕ) (b : Bool) (k : Kind) (count : ℕ) (p : ℕ → ℕ) (v s₀ s₁ : List ℕ) (counted : count ≡ slots k a) (low : count ≤ 2880) (fits : 11520 ≤ length s₀) (gathered : s₁ ≡ fills (λ j. at v (p j)) count s₀) where
+module _ (m a direction : ℕ) (b : Bool) (k : Kind) (count : ℕ) (p : ℕ → ℕ) (v s₀ s₁ : List ℕ) (counted : count ≡ slots k a) (low : count ≤ 2880) (fits : 2 * count ≤ length s₀) (gathered : s₁ ≡ fills (λ j. at v (p j)) count s₀) where
   lent : take (2 * count) s₁ ≡ tab count (λ j. at v (p j))
   lent = ap (take (2 * count)) gathered ∙ take-fills (λ j. at v (p j)) count s₀ (omega arith)
 

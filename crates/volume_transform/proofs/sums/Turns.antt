@@ -20,7 +20,7 @@ use Rattle.slices.specs.Sweep.{Layout, sweep, onLists}
 use Rattle.slices.proofs.Pairs.{length-puts}
 use Rattle.slices.proofs.Bounds.{small-at, below-puts, below-tab}
 use Rattle.slices.proofs.Values.{below-list}
-use Rattle.volume_transform.specs.Axes.{turnOf, alongL, alongH, alongK, lineCount, lineOfTurn, turnedL, turnedH, turnedK, jobTurn, unpackedRow, turnedLine, turnedStored, turnedRow}
+use Rattle.volume_transform.specs.Axes.{turnOf, numbersOf, lineNumbers, alongL, alongH, alongK, lineCount, lineOfTurn, turnedL, turnedH, turnedK, jobTurn, unpackedRow, turnedLine, turnedStored, turnedRow}
 use Rattle.volume_transform.proofs.plan.Numbered.{order-k, order-h, order-l}
 use Rattle.volume_transform.specs.Turns.{turns}
 
@@ -144,3 +144,17 @@ module _ (g : Group) (a : J) (m direction : ℕ) where
   pub turned-along : (n : ℕ) (d : List ℕ) → turns (λ n v. jobTurn g a m direction (lineOfTurn g a 0 n) v) 0 n d ≡ turns (jobTurn g a m direction) 0 n d
   unfolding lineOfTurn
   turned-along n d = refl
+
+-- the numbers of a line are among those of the volume
+module _ (g : Group) (a : J) (m : ℕ) where
+  below-of : (L : Layout) (y : ℕ) (d : List ℕ) → Below (prime m) d → Below (prime m) (numbersOf L y d)
+  below-of L y d b = below-tab (prime m) (L .size y) _ (prime-pos m) (λ i l. small-at (prime m) d (L .place y i) b)
+
+  pub below-numbers : (j : ℕ) (d : List ℕ) → Below (prime m) d → Below (prime m) (lineNumbers g a j d)
+  unfolding lineNumbers
+  below-numbers j d b = go (ltb j (alongL g a .count)) (ltb j (alongL g a .count + alongH g a .count))
+    where
+      go : (b c : Bool) → Below (prime m) (cond b (numbersOf (alongL g a) j d) (cond c (numbersOf (alongH g a) (j - alongL g a .count) d) (numbersOf (alongK g a) (j - (alongL g a .count + alongH g a .count)) d)))
+      go true c = below-of (alongL g a) j d b
+      go false true = below-of (alongH g a) (j - alongL g a .count) d b
+      go false false = below-of (alongK g a) (j - (alongL g a .count + alongH g a .count)) d b

@@ -37,7 +37,7 @@ turn-stored-requires c κs =
     let g = c .before .before .before .before .before .before in
     let s = g .before .before .before .before .before .before .before in
     let x = s .args .line in
-    ((s .pre .0 .0 .sound, s .pre .0 .1, s .pre .0 .2, s .pre .0 .0 .counted), ((prefix-length _ _ (omega (arith, ap length (g .gather .ensures), length-fills (λ j. at (s .args .volume .now) (x .start + j * x .stride)) (x .count) (s .args .scratch .now), s .pre .0 .0 .low, s .pre .1 .1 .scratch-fits)) ∙ ap (λ n. 2 * n) (s .pre .0 .0 .counted), below-lent (x .m) (x .half) (x .direction) (x .rotated) (kindOf (x .kind)) (x .count) (λ j. x .start + j * x .stride) (s .args .volume .now) (s .args .scratch .now) _ (s .pre .0 .0 .counted) (s .pre .0 .0 .low) (s .pre .1 .1 .scratch-fits) (g .gather .ensures) (s .pre .1 .0 .each)), (s .pre .1 .1 .fold-fits, s .pre .1 .1 .work-fits)))
+    ((s .pre .0 .0 .sound, s .pre .0 .1, s .pre .0 .2, s .pre .0 .0 .counted), ((prefix-length _ _ (omega (arith, ap length (g .gather .ensures), length-fills (λ j. at (s .args .volume .now) (x .start + j * x .stride)) (x .count) (s .args .scratch .now), s .pre .0 .0 .low, s .pre .1 .1 .scratch-fits)) ∙ ap (λ n. 2 * n) (s .pre .0 .0 .counted), below-lent (x .m) (x .half) (x .direction) (x .rotated) (kindOf (x .kind)) (x .count) (λ j. x .start + j * x .stride) (s .args .volume .now) (s .args .scratch .now) _ (s .pre .0 .0 .counted) (s .pre .0 .0 .low) (omega (arith, s .pre .0 .0 .low, s .pre .1 .1 .scratch-fits)) (g .gather .ensures) (s .pre .1 .0 .each)), (s .pre .1 .1 .fold-fits, s .pre .1 .1 .work-fits)))
 
 scatter-requires : tie.Need-scatter-requires
 scatter-requires c κs =
@@ -45,7 +45,7 @@ scatter-requires c κs =
     let g = t .before .before .before .before .before .before .before in
     let s = g .before .before .before .before .before .before .before in
     let x = s .args .line in
-    (returned-fits (x .m) (x .half) (x .direction) (x .rotated) (kindOf (x .kind)) (x .count) (λ j. x .start + j * x .stride) (s .args .volume .now) (s .args .scratch .now) _ (s .pre .0 .0 .counted) (s .pre .0 .0 .low) (s .pre .1 .1 .scratch-fits) (g .gather .ensures) _ _ (t .turn-stored .ensures), s .pre .0 .0 .fits)
+    (returned-fits (x .m) (x .half) (x .direction) (x .rotated) (kindOf (x .kind)) (x .count) (λ j. x .start + j * x .stride) (s .args .volume .now) (s .args .scratch .now) _ (s .pre .0 .0 .counted) (s .pre .0 .0 .low) (omega (arith, s .pre .0 .0 .low, s .pre .1 .1 .scratch-fits)) (g .gather .ensures) _ _ (t .turn-stored .ensures), s .pre .0 .0 .fits)
 
 same-length : tie.Need-same-length
 same-length c = c .before .volume .given
@@ -66,7 +66,7 @@ returns c =
     let g = t .before .before .before .before .before .before .before in
     let s = g .before .before .before .before .before .before .before in
     let x = s .args .line in
-    (turned-line (x .m) (x .half) (x .direction) (x .rotated) (kindOf (x .kind)) (x .count) (λ j. x .start + j * x .stride) (s .args .volume .now) (s .args .scratch .now) _ (s .pre .0 .0 .counted) (s .pre .0 .0 .low) (s .pre .1 .1 .scratch-fits) (g .gather .ensures) _ _ _ (t .turn-stored .ensures) refl (d .scatter .ensures), kept (x .m) (x .half) (x .direction) (x .rotated) (kindOf (x .kind)) (x .count) (λ j. x .start + j * x .stride) (s .args .volume .now) (s .args .scratch .now) _ (s .pre .0 .0 .counted) (s .pre .0 .0 .low) (s .pre .1 .1 .scratch-fits) (g .gather .ensures) _ _ _ (t .turn-stored .ensures) refl (d .scatter .ensures))
+    (turned-line (x .m) (x .half) (x .direction) (x .rotated) (kindOf (x .kind)) (x .count) (λ j. x .start + j * x .stride) (s .args .volume .now) (s .args .scratch .now) _ (s .pre .0 .0 .counted) (s .pre .0 .0 .low) (omega (arith, s .pre .0 .0 .low, s .pre .1 .1 .scratch-fits)) (g .gather .ensures) _ _ _ (t .turn-stored .ensures) refl (d .scatter .ensures), kept (x .m) (x .half) (x .direction) (x .rotated) (kindOf (x .kind)) (x .count) (λ j. x .start + j * x .stride) (s .args .volume .now) (s .args .scratch .now) _ (s .pre .0 .0 .counted) (s .pre .0 .0 .low) (omega (arith, s .pre .0 .0 .low, s .pre .1 .1 .scratch-fits)) (g .gather .ensures) _ _ _ (t .turn-stored .ensures) refl (d .scatter .ensures))
 
 pub turn-gathered-spec : {M : Type 1} → statement M
 turn-gathered-spec =

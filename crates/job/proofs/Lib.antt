@@ -7,3 +7,4 @@ pub mod Volumes
 pub mod Powers
 pub mod PowersKept
 pub mod Lengths
+pub mod Turns

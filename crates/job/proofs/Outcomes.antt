@@ -1,5 +1,5 @@
 -- The outcome of a synthesis or an analysis, refused or accepted, as the call's own parts have it.
-use mathlib.Core.Path.{_≡_, refl, sym, _∙_}
+use mathlib.Core.Path.{_≡_, refl, sym, ap, _∙_}
 use mathlib.Core.List.{List}
 use Prim.Native.Nat.{ℕ, zero, suc}
 use native.Mathlib.Omega.{arith}
@@ -45,3 +45,6 @@ module _ (j : Job) (v scratch : List ℕ) where
       worked (record { answer = Done; job = withState j factorsHeld }) v′ scratch′ ≡ analysisStep j v scratch
   unfolding analysisStep
   analysis-done v′ scratch′ e l s = rw (← e, l, s)
+
+  pub synthesis-volume : synthesisStep j v scratch .outcome .answer ≡ done → synthesisStep j v scratch .outcome .volume ≡ synthesised j v
+  synthesis-volume a = ap (λ (w : Worked). w .outcome .volume) (sym (synthesis-done (synthesised j v) (cleared scratch) (synthesis-accepted a) refl refl))

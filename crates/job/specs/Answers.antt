@@ -1,6 +1,8 @@
 -- What a call of a job returned and left, in the words of its promise: the left side of each promise.
 use Prim.Native.Nat.{ℕ}
 use Rattle.refusals.specs.Refusals.{numberOf}
+use Rattle.refusals.specs.declared.Checked.{Checked}
+use Rattle.refusals.specs.Checks.{checkedNumber}
 use Rattle.signed.specs.Integers.{pos}
 use mathlib.Core.List.{List}
 use Rattle.job.specs.declared.Answer.{Answer}
@@ -16,6 +18,7 @@ use Rattle.job.specs.declared.PowerAnswer.{PowerAnswer}
 use Rattle.job.specs.declared.PowerAnswer.the-variants as W
 use Rattle.job.specs.declared.reply.Reply.{Reply}
 use Rattle.job.specs.Job.{Opening, opened, notOpened, OpenOutcome, Said, done, density, factor, power, refused, Outcome, Worked}
+use Rattle.job.specs.Turns.{TurnOutcome}
 
 -- what the declared answers say
 abbrev pub saidOpen : OpenAnswer → Opening
@@ -55,3 +58,7 @@ outcome r v = record { answer = said (r .answer); job = r .job; volume = v }
 
 abbrev pub worked : Answered → (v scratch : List ℕ) → Worked
 worked r v s = record { outcome = outcome r v; scratch = s }
+
+-- a turn of one line gives no job back
+abbrev pub turnOutcome : Checked → (v scratch : List ℕ) → TurnOutcome
+turnOutcome r v s = record { answer = checkedNumber r; volume = v; scratch = s }

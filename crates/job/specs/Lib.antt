@@ -3,3 +3,4 @@ pub mod Plans
 pub mod Answers
 pub mod TestSteps
 pub mod PowerKept
+pub mod Turns

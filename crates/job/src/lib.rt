@@ -11,6 +11,7 @@ pub mod point; // point.rt: the reading of a point
 pub mod factor; // factor.rt: the reading of a structure factor
 pub mod record; // record.rt: the recording of a structure factor
 pub mod synthesis; // synthesis.rt: from the factors to the map
+pub mod turn; // turn.rt: one line of a synthesis
 pub mod analysis; // analysis.rt: from the map to the factors
 pub mod map_power; // map_power.rt: the sum of the squares of the map
 pub mod factor_power; // factor_power.rt: the sum of F × conj F
@@ -19,6 +20,7 @@ mod plan; // plan.rt: a job's numbers as the lines of its volume take them
 
 use refusals::Refusal;
 ghost use Rattle.job.specs.PowerKept.{PowerKept};
+ghost use Rattle.job.specs.Turns.{TurnsSynthesise, MapAsAlone};
 
 // The index of a structure factor, in reciprocal space: h, k, l.
 #[repr(C)]
@@ -83,4 +85,9 @@ pub enum PowerAnswer {
 // Power is kept by every accepted synthesis and by every accepted analysis.
 pub fn power_kept()
     ensures { λ _. ⌜ PowerKept ⌝ }
+{}
+
+// The lines of a job, each in a turn of its own, come to what a synthesis leaves, whatever happens between the turns.
+pub fn turns_synthesise()
+    ensures { λ _. ⌜ TurnsSynthesise × MapAsAlone ⌝ }
 {}

@@ -5,6 +5,7 @@ pub mod read_back; // read_back.rt: what was written reads back
 pub mod specimens; // specimens.rt: the paper's specimens
 
 ghost use Rattle.demands.specs.Demands.{EveryList, RefusedStarts, FaultlessStarts, FactorsImplied, TripleSums, MapsReal, ImagesAlike, AnalysisRestores, OrderFree, AlikeStarts, FileOrderFree, OccupiedExactly, FileOccupied, FileAsCalls, LaterValueCounts, InconsistentExactly, ImpossibleExactly};
+ghost use Rattle.demands.specs.ByTurns.{AsOneSynthesis};
 
 // Over every list of calls: answers, job and volume.
 pub fn every_list()
@@ -89,4 +90,9 @@ pub fn inconsistent_exactly()
 // Refusal 25 exactly of a job that no opening and no later call could have made.
 pub fn impossible_exactly()
     ensures { λ _. ⌜ ImpossibleExactly ⌝ }
+{}
+
+// A synthesis taken by turns, so finished, stands in a list as one synthesis.
+pub fn as_one_synthesis()
+    ensures { λ _. ⌜ AsOneSynthesis ⌝ }
 {}

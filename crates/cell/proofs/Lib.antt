@@ -5,6 +5,7 @@ pub mod LineReading
 pub mod RotatedLines
 pub mod Reading
 pub mod Consistency
+pub mod ZeroCell
 pub mod Maps
 pub mod Writing
 pub mod Records

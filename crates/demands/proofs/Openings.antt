@@ -7,37 +7,23 @@ use mathlib.Core.List.{List}
 use Prim.Native.Nat.{ℕ, zero, suc, _<_}
 use native.Mathlib.Omega.{arith}
 use native.Mathlib.Decide.{ℕ-discrete}
-use lib.ListN.{length, replicate, length-replicate}
+use lib.ListN.{length, replicate}
 use lib.Dec.{eqb}
 use borrow.Author.Tests.{not-false, leb-false, eqb-true, eq-eqb, ne-eqb}
-use Rattle.algebra.specs.ring.Ring.{Ops, gauss, residues}
-use Rattle.algebra.specs.ring.RingLaws.{CRing}
-use Rattle.algebra.specs.fourier.Axis.{Axis}
-use Rattle.algebra.specs.cells.Cell as Cell
-use Rattle.algebra.specs.cells.Cell.{J, Group, P1, P2₁, Pm, Pa, P2₁2₁2₁}
-use Rattle.algebra.specs.cells.CellPack as Pack
-use Rattle.algebra.specs.cells.CellPack.{even, partOf, packAlt}
-use Rattle.algebra.specs.cells.CellSteps.{Lawful}
-use Rattle.algebra.proofs.ring.Laws.{neg-zero, zero-mul}
-use Rattle.algebra.proofs.fourier.Sums.{sum-all-zero}
-use Rattle.algebra.proofs.cells.CellGroup.{implied-zero}
+use Rattle.algebra.specs.cells.Cell.{J, Group}
 use Rattle.algebra.proofs.cells.CellTests.{Positive}
-use Rattle.numbers.specs.Value.{prime, IsModulus, Value, field, conj, i, ring, value, valueOf}
-use Rattle.numbers.specs.Value as Value
+use Rattle.numbers.specs.Value.{prime, IsModulus}
 use Rattle.numbers.proofs.ModulusCases.{tested-modulus}
 use Rattle.numbers.proofs.Primes.{prime-pos}
-use Rattle.numbers.proofs.Residues.{res-ring}
-use Rattle.numbers.proofs.Values.{value-path, field-ring, field-star}
 use Rattle.slices.specs.Pairs.{Below, allBelow}
-use Rattle.slices.proofs.Bounds.{below-replicate, below-allBelow, allBelow-below}
-use Rattle.slices.proofs.Segments.{at-zeros}
+use Rattle.slices.proofs.Bounds.{below-allBelow, allBelow-below}
 use Rattle.refusals.specs.Refusals.{first, accepted}
 use Rattle.refusals.proofs.Tests.{both, Passed, passed, first-append, pass, not-t, none as no-test}
-use Rattle.cell.specs.Volume.{groupOf, volumeLength, packFactors, axis, mapOf}
+use Rattle.cell.specs.Volume.{groupOf, volumeLength}
 use Rattle.cell.specs.Consistency.{consistentMap}
 use Rattle.cell.specs.Exactly.{MapConsistent}
-use Rattle.cell.proofs.VolumeLayout.{place-inside, below-map}
-use Rattle.cell.proofs.Consistency.{packed-list}
+use Rattle.cell.proofs.VolumeLayout.{below-map}
+use Rattle.cell.proofs.ZeroCell.{zero-lawful, zero-packed}
 use Rattle.cell.proofs.Maps.{map-consistent}
 use Rattle.cell.proofs.Points.{opened-factors, opened-map}
 use Rattle.job.specs.Job.{Header, halfLengths, needed, axisTests, collecting, mapHeld, jobOf, validJob, volumeTests, openTests, openStep, opened, notOpened, OpenOutcome}
@@ -47,54 +33,6 @@ use Rattle.job.proofs.Jobs.{opened-valid}
 use Rattle.model.specs.Model.{Model, modelJob, modelVolume, zeroModel, mapModel, openingModel, beginningTests}
 use Rattle.model.proofs.Sound.{LawfulModel}
 use Rattle.line.proofs.kinds.Axes.{axis-laws}
-
--- ---- the cell that is zero everywhere
-
-pub zero-lawful : (μ : ℕ) (g : Group) (a : J) → Lawful (field μ) (conj μ) a g (λ h k l. value μ 0 0)
-unfolding gauss residues
-zero-lawful μ g a s ms j n = sym (implied-zero (field-ring μ) (field-star μ) a s j)
-
-either : (μ : ℕ) (b : Bool) → _≡_ {A = Value μ} (value μ 0 0 .0, partOf (ring μ) b (value μ 0 0)) (value μ 0 0)
-either μ true = refl
-either μ false = refl
-
-zero-rotated : (μ : ℕ) (b : Bool) → Pack.timesI (ring μ) b (value μ 0 0) ≡ value μ 0 0
-unfolding Pack.timesI residues
-zero-rotated μ true = refl
-zero-rotated μ false = value-path (neg-zero (res-ring μ)) refl
-
-zero-pair : (μ : ℕ) (g : Group) (a : J) (w h k : ℕ) → Pack.packFactors (ring μ) g a (λ h k l. value μ 0 0) w h k ≡ value μ 0 0
-unfolding Pack.packFactors packAlt
-zero-pair μ P1 a w h k = refl
-zero-pair μ P2₁ a zero h k = either μ (even (a .2))
-zero-pair μ P2₁ a (suc w) h k = refl
-zero-pair μ Pm a w h k = refl
-zero-pair μ Pa a w h k = refl
-zero-pair μ P2₁2₁2₁ a zero h k = ap (λ (x : Value μ). (x .0, partOf (ring μ) (even (a .2)) x)) (zero-rotated μ (even h)) ∙ either μ (even (a .2))
-zero-pair μ P2₁2₁2₁ a (suc w) h k = zero-rotated μ (even h)
-
--- its packed factors are zeros
-pub zero-packed : (μ : ℕ) (g : Group) (a : J) → Positive a → packFactors g a μ (λ h k l. value μ 0 0) ≡ replicate (volumeLength g a) 0
-unfolding valueOf
-zero-packed μ g a long =
-    packed-list g a long μ (λ h k l. value μ 0 0) (zero-lawful μ g a) (replicate (volumeLength g a) 0) (length-replicate (volumeLength g a) 0) (below-replicate (volumeLength g a) 0 (prime-pos μ))
-    (λ w h k lw lh lk. zero-pair μ g a w h k ∙ ap (valueOf μ) (sym (at-zeros _ _ (place-inside g a lw lh (omega arith)))))
-
--- its map is zero at every point
-module _ {R : Type 0} {𝓞 : Ops R} (𝓡 : CRing 𝓞) where
-  open Ops 𝓞 using (mul as _⊗_, zer as 𝟘)
-
-  infixl 70 _⊗_
-  zero-term : (a b c : R) → 𝟘 ⊗ a ⊗ b ⊗ c ≡ 𝟘
-  zero-term a b c = ap (λ t. t ⊗ b ⊗ c) (zero-mul 𝓡 a) ∙ ap (λ t. t ⊗ c) (zero-mul 𝓡 b) ∙ zero-mul 𝓡 c
-
-  zero-sums : (X Y Z : Axis R) (x y z : ℕ) → Cell.mapOf 𝓞 X Y Z (λ h k l. 𝟘) x y z ≡ 𝟘
-  unfolding Cell.mapOf
-  zero-sums X Y Z x y z = sum-all-zero 𝓡 _ _ (λ h i. sum-all-zero 𝓡 _ _ (λ k i. sum-all-zero 𝓡 _ _ (λ l i. zero-term _ _ _)))
-
-pub zero-map : (μ : ℕ) (a x : J) → Cell.at (mapOf μ a (λ h k l. value μ 0 0)) x ≡ value μ 0 0
-unfolding gauss residues
-zero-map μ a x = zero-sums (field-ring μ) (axis μ (a .0)) (axis μ (a .1)) (axis μ (a .2)) (x .0) (x .1) (x .2)
 
 -- ---- an opening that no test refuses
 

@@ -21,7 +21,7 @@ use Rattle.cell.specs.Volume.{volumeLength, factorsIn, packFactors}
 use Rattle.cell.specs.Consistency.{sameValue, consistentFactors}
 use Rattle.cell.proofs.Tests.{true-iff}
 use Rattle.cell.proofs.Reading.{same-iff, read-packed}
-use Rattle.cell.proofs.Consistency.{factors-consistent}
+use Rattle.cell.proofs.ZeroCell.{zero-lawful, zero-packed, zero-consistent, zero-map}
 use Rattle.job.specs.declared.Job.{Job}
 use Rattle.job.specs.Job.{Header, halfLengths, needed, headerOf, validJob, collecting, mapHeld, groupIn, halves, jobOf, Opening, opened, notOpened, OpenOutcome, openTests, openStep}
 use Rattle.job.proofs.Jobs.{valid-job-sizes}
@@ -32,7 +32,6 @@ use Rattle.factor_file.proofs.file.Places.{records-none}
 use Rattle.model.specs.Model.{Model, densityOf, zeroModel}
 use Rattle.demands.specs.Demands.{reading, modelEnd, Started}
 use Rattle.demands.specs.Written.{Writes, WithFactors, EmptyFiles}
-use Rattle.demands.proofs.Openings.{zero-lawful, zero-packed, zero-map}
 use Rattle.demands.proofs.Starts.{afterOpening, file-shape, opened-passes}
 use Rattle.demands.proofs.AcceptedRecords.{Fed, start-fed}
 use Rattle.demands.proofs.read_back.ReadBack.{reads-back}
@@ -88,7 +87,7 @@ module _ (j : Job) (valid : validJob j ≡ true) where
   below = below-replicate (needed (headerOf j)) 0 (prime-pos μ)
 
   consistent : consistentFactors (groupIn j) (halves j) μ zeros ≡ true
-  consistent = factors-consistent (groupIn j) (halves j) positive μ zeros (length-replicate (needed (headerOf j)) 0) below .1 ((λ h k l. value μ 0 0), zero-lawful μ (groupIn j) (halves j), packed)
+  consistent = zero-consistent μ (groupIn j) (halves j) positive
 
   read : (q : J) → Inside (halves j) q → at (factorsIn (groupIn j) (halves j) μ zeros) q ≡ value μ 0 0
   read q n = subst (λ v. at (factorsIn (groupIn j) (halves j) μ v) q ≡ value μ 0 0) packed (read-packed (groupIn j) (halves j) positive μ (λ h k l. value μ 0 0) (zero-lawful μ (groupIn j) (halves j)) q n)

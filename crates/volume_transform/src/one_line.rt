@@ -1,8 +1,8 @@
-// One line of a synthesis in a call of its own, which is lent the volume as it then is: only the numbers of that line are looked at, and where
-// one of them is no residue nothing changes.
+// One line of a synthesis in a call of its own, which is lent the volume as it then is: only the numbers of that line
+// are looked at, and where one of them is no residue nothing changes.
 //
-// A call leaves the scratch's first 11,520 numbers zero, so it may as well be the buffer of the fold. The tables are made after the test, once:
-// a synthesis takes them as they are.
+// A call leaves the scratch's first 11,520 numbers zero, so it may as well be the buffer of the fold. The tables are
+// made after the test, once: a synthesis takes them as they are.
 use crate::lines;
 use crate::plan::Line;
 use crate::rows;
@@ -15,7 +15,8 @@ ghost use Rattle.volume_transform.specs.Lines.{Placed, Spaced, Beside, O
 // The line is transformed if its numbers are residues, which is the answer.
 pub fn turn_alone(line: Line, volume: &mut [u32], scratch: &mut [u32]) -> bool
     requires { ⌜ Placed (length (now volume)) line × (line .direction ≡ 0) × (scratchLength ≤ length (now scratch)) ⌝ }
-    ensures { λ r. ⌜ OwnTurn (lineTurned line) line r (now (volume .entry)) (now (volume .exit)) (now (scratch .entry)) (now (scratch .exit)) ⌝ }
+    ensures { λ r. ⌜ OwnTurn (lineTurned line) line r
+        (now (volume .entry)) (now (volume .exit)) (now (scratch .entry)) (now (scratch .exit)) ⌝ }
 {
     if line.kind == 1 {
         row_alone(line.m, line, volume, scratch)
@@ -27,8 +28,10 @@ pub fn turn_alone(line: Line, volume: &mut [u32], scratch: &mut [u32]) -> bool
 
 // A row is a part of the volume.
 fn row_alone(m: u32, line: Line, volume: &mut [u32], scratch: &mut [u32]) -> bool
-    requires { ⌜ Beside (length (now volume)) line × (m ≡ line .m) × (line .direction ≡ 0) × (scratchLength ≤ length (now scratch)) ⌝ }
-    ensures { λ r. ⌜ OwnTurn (rowTurn line) line r (now (volume .entry)) (now (volume .exit)) (now (scratch .entry)) (now (scratch .exit)) ⌝ }
+    requires { ⌜ Beside (length (now volume)) line × (m ≡ line .m) × (line .direction ≡ 0)
+        × (scratchLength ≤ length (now scratch)) ⌝ }
+    ensures { λ r. ⌜ OwnTurn (rowTurn line) line r
+        (now (volume .entry)) (now (volume .exit)) (now (scratch .entry)) (now (scratch .exit)) ⌝ }
 {
     let start = 2 * line.start;
     let end = start + 2 * line.count;
@@ -62,8 +65,10 @@ fn gathered_alone(
     scratch: &mut [u32],
     packed: &mut [u32],
 ) -> bool
-    requires { ⌜ Spaced (length (now volume)) line × (m ≡ line .m) × (line .direction ≡ 0) × (scratchLength ≤ length (now scratch)) × (5760 ≤ length (now packed)) ⌝ }
-    ensures { λ r. ⌜ OwnTurn (gatheredTurn line) line r (now (volume .entry)) (now (volume .exit)) (now (scratch .entry)) (now (scratch .exit)) ⌝ }
+    requires { ⌜ Spaced (length (now volume)) line × (m ≡ line .m) × (line .direction ≡ 0)
+        × (scratchLength ≤ length (now scratch)) × (5760 ≤ length (now packed)) ⌝ }
+    ensures { λ r. ⌜ OwnTurn (gatheredTurn line) line r
+        (now (volume .entry)) (now (volume .exit)) (now (scratch .entry)) (now (scratch .exit)) ⌝ }
 {
     slices::gathering::gather(volume, line.start, line.stride, packed, line.count);
     let size = 2 * line.count;

@@ -74,7 +74,8 @@ pub record LineBelow (x : Line) (v : List ℕ) : Type 0 where
 abbrev pub lineTurned : Line → List ℕ → List ℕ
 lineTurned x v = cond (eqb (x .kind) 1) (rowTurn x v) (gatheredTurn x v)
 
--- A line that is transformed if its own numbers are residues, the scratch then cleared; if they are not, nothing changes.
+-- A line that is transformed if its own numbers are residues, the scratch then cleared; if they are not, nothing
+-- changes.
 pub record OwnTurn (turned : List ℕ → List ℕ) (x : Line) (done : Bool) (v v′ scratch scratch′ : List ℕ) : Type 0 where
   pub tested : done ≡ allBelow (prime (x .m)) (numbersIn x v)
   pub volume : v′ ≡ cond done (turned v) v

@@ -25,8 +25,10 @@ pub fn line_counts(plan: Plan) -> Counts
 // Line y = w (B + 1) + k along h, a plain one.
 pub fn along_h(plan: Plan, y: usize) -> Line
     requires { ⌜ Planned plan × (y < alongH (planGroup plan) (planHalves plan) .count) ⌝ }
-    ensures { λ r. ⌜ Gathered plan (turnOf (alongH (planGroup plan) (planHalves plan))
-        (turnedH (planGroup plan) (planHalves plan) (plan .m) (plan .direction)) y) (numbersOf (alongH (planGroup plan) (planHalves plan)) y) r ⌝ }
+    ensures { λ r. ⌜ Gathered plan
+        (turnOf (alongH (planGroup plan) (planHalves plan))
+        (turnedH (planGroup plan) (planHalves plan) (plan .m) (plan .direction)) y)
+        (numbersOf (alongH (planGroup plan) (planHalves plan)) y) r ⌝ }
 {
     let width = (plan.cell.n2 / 2 + 1) as usize;
     let rows = plan.cell.n1 as usize;
@@ -46,7 +48,9 @@ pub fn along_h(plan: Plan, y: usize) -> Line
 // Row y = w N1 + h along k.
 pub fn row_at(plan: Plan, y: usize) -> Line
     requires { ⌜ Planned plan × (y < alongK (planGroup plan) (planHalves plan) .count) ⌝ }
-    ensures { λ r. ⌜ Row plan (turnOf (alongK (planGroup plan) (planHalves plan)) (turnedK (planGroup plan) (planHalves plan) (plan .m) (plan .direction)) y)
+    ensures { λ r. ⌜ Row plan
+        (turnOf (alongK (planGroup plan) (planHalves plan))
+        (turnedK (planGroup plan) (planHalves plan) (plan .m) (plan .direction)) y)
         (numbersOf (alongK (planGroup plan) (planHalves plan)) y) r ⌝ }
 {
     let half = (plan.cell.n2 / 2) as usize;

@@ -51,8 +51,10 @@ fn line_at(plan: Plan, counts: Counts, j: usize) -> Line
 // Line y = h (B + 1) + k along l, by its kind.
 fn along_l(plan: Plan, y: usize) -> Line
     requires { ⌜ Planned plan × (y < alongL (planGroup plan) (planHalves plan) .count) ⌝ }
-    ensures { λ r. ⌜ Gathered plan (turnOf (alongL (planGroup plan) (planHalves plan))
-        (turnedL (planGroup plan) (planHalves plan) (plan .m) (plan .direction)) y) (numbersOf (alongL (planGroup plan) (planHalves plan)) y) r ⌝ }
+    ensures { λ r. ⌜ Gathered plan
+        (turnOf (alongL (planGroup plan) (planHalves plan))
+        (turnedL (planGroup plan) (planHalves plan) (plan .m) (plan .direction)) y)
+        (numbersOf (alongL (planGroup plan) (planHalves plan)) y) r ⌝ }
 {
     let width = (plan.cell.n2 / 2 + 1) as usize;
     let stride = (plan.cell.n1 as usize) * width;

@@ -1,25 +1,28 @@
 -- A synthesis line by line: each line of a job in a turn of its own, on the volume as it then is.
 --
--- A job has N1 (B + 1) + W (B + 1) + W N1 lines. They are taken along l, then h, then k, each by rising place of its pair at index 0: `alongL`, `alongH` and `alongK` of
--- volume_transform's Axes say which pairs each has. Along l a line has the pairs of its kind, so an odd h's of Pa has the pairs 1 to A - 1, and none where N3 = 2; along k it has
--- all N2 + 2 numbers. What becomes of a line is the direct sum of its kind over the whole line; an odd h's line of P2₁2₁2₁ is stored times i, and along l it is divided by i.
-use Rattle.algebra.specs.Prelude.{_≡_, not, ltb, ℕ, zero, suc, _≤_, List, [], _∷_, length}
+-- The lines are taken along l, then h, then k, each by rising place of its pair at index 0, as RisingPlaces of
+-- volume_transform says; `alongL`, `alongH` and `alongK` of its Axes are the pairs of each. Along l a line has the
+-- pairs of its kind, so an odd h's of Pa has the pairs 1 to A - 1, and none where N3 = 2; along k it has all N2 + 2
+-- numbers. What becomes of a line is the direct sum of its kind over the whole line; an odd h's line of P2₁2₁2₁ is
+-- stored times i, and along l it is divided by i.
+use Rattle.algebra.specs.Prelude.{_≡_, true, not, ltb, ℕ, zero, suc, _+_, _*_, _/_, _≤_, List, [], _∷_, length}
 use Rattle.refusals.specs.Refusals.{first, Test, accepted, _⇒_}
 use Rattle.numbers.specs.Value.{prime}
 use Rattle.slices.specs.Pairs.{allBelow}
 use Rattle.lengths.specs.Lengths.{cleared, scratchLength}
+use Rattle.cell.specs.Volume.{layers}
 use Rattle.volume_transform.specs.Axes.{lineCount, lineNumbers, jobTurn}
 use Rattle.job.specs.declared.Job.{Job}
-use Rattle.job.specs.Job.{groupIn, halves, fits, done, synthesisStep}
+use Rattle.job.specs.Job.{validJob, groupIn, halves, fits, done, synthesisStep}
 
-abbrev pub linesOf : Job → ℕ
+unfoldable pub linesOf : Job → ℕ
 linesOf j = lineCount (groupIn j) (halves j)
 
 -- the numbers of line n, and the volume after that line's transform
 abbrev pub numbersAt : Job → (n : ℕ) → List ℕ → List ℕ
 numbersAt j n v = lineNumbers (groupIn j) (halves j) n v
 
-abbrev pub lineSynthesised : Job → (n : ℕ) → List ℕ → List ℕ
+unfoldable pub lineSynthesised : Job → (n : ℕ) → List ℕ → List ℕ
 lineSynthesised j n v = jobTurn (groupIn j) (halves j) (j .modulus) 0 n v
 
 -- ---- one turn
@@ -50,42 +53,23 @@ unfoldable pub afterTurns : Job → (s : ℕ → List ℕ) (n : ℕ) → List �
 afterTurns j s zero v = v
 afterTurns j s (suc n) v = turnStep j n (afterTurns j s n v) (s n) .volume
 
--- From a volume that synthesis accepts no turn is refused that is lent scratch enough, and after the last the volume is what the synthesis leaves.
+-- A job has N1 (B + 1) + W (B + 1) + W N1 lines. From a volume that synthesis accepts no turn is refused that is lent
+-- scratch enough, and after the last the volume is what the synthesis leaves.
 pub record TurnsSynthesise : Type 0 where
-  pub taken : (j : Job) (v scratch : List ℕ) → synthesisStep j v scratch .outcome .answer ≡ done → (s : ℕ → List ℕ) → ((i : ℕ) → scratchLength ≤ length (s i)) →
-      (n : ℕ) → turnStep j n (afterTurns j s n v) (s n) .answer ≡ 0
-  pub whole : (j : Job) (v scratch : List ℕ) → synthesisStep j v scratch .outcome .answer ≡ done → (s : ℕ → List ℕ) → ((i : ℕ) → scratchLength ≤ length (s i)) →
-      afterTurns j s (linesOf j) v ≡ synthesisStep j v scratch .outcome .volume
-
--- ---- the turns of one job among other things
-
--- what a turn is lent
-pub record Lent : Type 0 where
-  pub volume : List ℕ
-  pub scratch : List ℕ
-
--- How far a job has come: the lines that are done, and the volume that its last accepted turn left, at first that of its entering.
-pub record Progress : Type 0 where
-  pub done : ℕ
-  pub volume : List ℕ
-
-abbrev pub entered : List ℕ → Progress
-entered v = record { done = 0; volume = v }
-
--- a turn that is refused changes nothing: the same line is the next one's
-abbrev pub progress : Job → Progress → Lent → Progress
-progress j p x = let o = turnStep j (p .done) (x .volume) (x .scratch) in accepted (o .answer) (record { done = suc (p .done); volume = o .volume }) (λ n. p)
-
-unfoldable pub progressed : Job → Progress → List Lent → Progress
-progressed j p [] = p
-progressed j p (x ∷ l) = progressed j (progress j p x) l
-
--- Each turn that is accepted was lent the volume that the last accepted one left; one that is refused may have been lent anything.
-unfoldable pub Followed : Job → Progress → List Lent → Type 0
-Followed j p [] = Unit
-Followed j p (x ∷ l) = (turnStep j (p .done) (x .volume) (x .scratch) .answer ≡ 0 → x .volume ≡ p .volume) × Followed j (progress j p x) l
-
--- A job whose volume synthesis accepts, and whose turns have come to its last line: the volume is what the synthesis leaves.
-pub record MapAsAlone : Type 0 where
-  pub same : (j : Job) (v scratch : List ℕ) → synthesisStep j v scratch .outcome .answer ≡ done → (l : List Lent) → Followed j (entered v) l →
-      progressed j (entered v) l .done ≡ linesOf j → progressed j (entered v) l .volume ≡ synthesisStep j v scratch .outcome .volume
+  pub counted :
+      (j : Job)
+      → validJob j ≡ true
+      → let N1 = j .a .length in
+      let B = j .b .length / 2 in
+      let W = layers (groupIn j) (halves j) in
+      linesOf j ≡ N1 * (B + 1) + W * (B + 1) + W * N1
+  pub taken :
+      (j : Job) (v scratch : List ℕ) (s : ℕ → List ℕ) (n : ℕ)
+      → synthesisStep j v scratch .outcome .answer ≡ done
+      → ((i : ℕ) → scratchLength ≤ length (s i))
+      → turnStep j n (afterTurns j s n v) (s n) .answer ≡ 0
+  pub whole :
+      (j : Job) (v scratch : List ℕ) (s : ℕ → List ℕ)
+      → synthesisStep j v scratch .outcome .answer ≡ done
+      → ((i : ℕ) → scratchLength ≤ length (s i))
+      → afterTurns j s (linesOf j) v ≡ synthesisStep j v scratch .outcome .volume

@@ -20,7 +20,7 @@ mod plan; // plan.rt: a job's numbers as the lines of its volume take them
 
 use refusals::Refusal;
 ghost use Rattle.job.specs.PowerKept.{PowerKept};
-ghost use Rattle.job.specs.Turns.{TurnsSynthesise, MapAsAlone};
+ghost use Rattle.job.specs.Turns.{TurnsSynthesise};
 
 // The index of a structure factor, in reciprocal space: h, k, l.
 #[repr(C)]
@@ -87,7 +87,7 @@ pub fn power_kept()
     ensures { λ _. ⌜ PowerKept ⌝ }
 {}
 
-// The lines of a job, each in a turn of its own, come to what a synthesis leaves, whatever happens between the turns.
+// The lines of a job, each in a turn of its own, come to what a synthesis leaves.
 pub fn turns_synthesise()
-    ensures { λ _. ⌜ TurnsSynthesise × MapAsAlone ⌝ }
+    ensures { λ _. ⌜ TurnsSynthesise ⌝ }
 {}

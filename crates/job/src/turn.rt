@@ -24,7 +24,8 @@ impl Job {
     // Line n is transformed in its place; a refused turn changes nothing. Only the numbers of that line are looked at.
     pub fn turn(self, n: usize, volume: &mut [u32], scratch: &mut [u32]) -> Checked
         requires { ⌜ (validJob self ≡ true) × (n < linesOf self) ⌝ }
-        ensures { λ r. ⌜ turnOutcome r (now (volume .exit)) (now (scratch .exit)) ≡ turnStep self n (now (volume .entry)) (now (scratch .entry)) ⌝ }
+        ensures { λ r. ⌜ turnOutcome r (now (volume .exit)) (now (scratch .exit))
+            ≡ turnStep self n (now (volume .entry)) (now (scratch .entry)) ⌝ }
     {
         if !tests::fits(self.unit_cell(), &volume[..]) {
             return Checked::Failed(Refusal::BufferLength);

@@ -11,4 +11,4 @@ pub mod AcceptedRecords
 pub mod Order
 pub mod FileRecords
 pub mod LaterValues
-pub mod ByTurns
+pub mod SharedItems

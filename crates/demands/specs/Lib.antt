@@ -2,4 +2,4 @@ pub mod Demands
 pub mod Written
 pub mod Specimens
 pub mod Grids
-pub mod ByTurns
+pub mod Shared

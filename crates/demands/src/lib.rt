@@ -5,7 +5,7 @@ pub mod read_back; // read_back.rt: what was written reads back
 pub mod specimens; // specimens.rt: the paper's specimens
 
 ghost use Rattle.demands.specs.Demands.{EveryList, RefusedStarts, FaultlessStarts, FactorsImplied, TripleSums, MapsReal, ImagesAlike, AnalysisRestores, OrderFree, AlikeStarts, FileOrderFree, OccupiedExactly, FileOccupied, FileAsCalls, LaterValueCounts, InconsistentExactly, ImpossibleExactly};
-ghost use Rattle.demands.specs.ByTurns.{AsOneSynthesis};
+ghost use Rattle.demands.specs.Shared.{SharedSynthesis};
 
 // Over every list of calls: answers, job and volume.
 pub fn every_list()
@@ -92,7 +92,7 @@ pub fn impossible_exactly()
     ensures { λ _. ⌜ ImpossibleExactly ⌝ }
 {}
 
-// A synthesis taken by turns, so finished, stands in a list as one synthesis.
-pub fn as_one_synthesis()
-    ensures { λ _. ⌜ AsOneSynthesis ⌝ }
+// An entering and the turns that finish its lane stand in a job's list of calls as one synthesis.
+pub fn shared_synthesis()
+    ensures { λ _. ⌜ SharedSynthesis ⌝ }
 {}

@@ -22,8 +22,7 @@ use Rattle.scheduler.specs.Schedules.{above, NextAbove, TurnOf, serving,
 use Rattle.scheduler.proofs.Numbers.{before, after, never}
 use Rattle.scheduler.proofs.Validity.{valid-parts, parts-valid, last-low}
 use Rattle.scheduler.proofs.NextLane.{next-runs, next-some, next-first}
-use Rattle.scheduler.proofs.Steps.{lane-number, below-eight, turn-serves, turn-idles}
-use Rattle.scheduler.proofs.Contracts.{is-lane}
+use Rattle.scheduler.proofs.Steps.{lane-number, is-lane, below-eight, turn-serves, turn-idles}
 use Rattle.scheduler.proofs.Accepted.{Serves, Turn, turned-back, idling, turn-cases, refused-next, refused-idle, idle-next, refused-served, refused-finished}
 use Rattle.scheduler.proofs.Accepted as Accepted
 use Rattle.scheduler.proofs.Capacity.{serving-turn, finishing-turn}
@@ -103,7 +102,7 @@ module _ (s : Scheduler) where
   runs : (d : ℕ) → nextStep s ≡ next d → (isLane d ≡ true) × (running (laneAt s d) ≡ true)
   runs d e =
       let n = is-named d e in
-      let r = next-runs (s .lanes) (s .last) 0 8 (n .index) (n .found) in
+      let r = next-runs (s .lanes) _ 0 8 (n .index) (n .found) in
       subst (λ k. (isLane k ≡ true) × (running (laneAt s k) ≡ true)) (n .number)
       (is-lane (omega arith) (r .0), ap (λ k. running (getD (s .lanes) k free)) (before (n .index)) ∙ r .1)
 

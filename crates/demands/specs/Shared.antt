@@ -53,7 +53,9 @@ itemStep j v (sharing x) =
 -- that its last one left, the first that of its entering; and the last turn finished the lane.
 pub record SharingFinished (j : Job) (v : List ℕ) (x : Sharing) : Type 0 where
   pub begun : entered j v x .answer ≡ Lanes.done
-  pub followed : Follows (x .lane) (entered j v x .scheduler) v (x .between) (x .after) (x .volume)
+  pub followed :
+      let o = entered j v x in
+      Follows (x .lane) (o .scheduler) (o .volume) (x .between) (x .after) (x .volume)
   pub ended : (k : Job) × (finishing x .answer ≡ Lanes.finished (x .lane) k)
 
 -- of a call nothing is asked

@@ -19,7 +19,7 @@ use Rattle.scheduler.specs.declared.Lane.{Lane}
 use Rattle.scheduler.specs.declared.Scheduler.{Scheduler}
 use Rattle.scheduler.specs.Scheduler.{free, running, doneIn, validScheduler, nextLane, isLane, laneAt, Said, next, served, finished, idle, refused, Outcome, unchanged, nextSaid, nextStep, turnSaid, serve, turnStep}
 use Rattle.scheduler.specs.Schedules.{above, NextAbove, TurnOf, serving, finishing, TurnsNamed}
-use Rattle.scheduler.proofs.Numbers.{before, after, never}
+use Rattle.scheduler.proofs.Numbers.{not-zero, before, after, never}
 use Rattle.scheduler.proofs.Validity.{valid-parts, parts-valid, last-low}
 use Rattle.scheduler.proofs.NextLane.{next-runs, next-some, next-first}
 use Rattle.scheduler.proofs.Steps.{lane-number, is-lane, below-eight, turn-serves, turn-idles}
@@ -186,9 +186,6 @@ module _ (s : Scheduler) (v scratch : List ℕ) where
   serves : (d : ℕ) → nextStep s ≡ next d → TurnOf d (turnStep s v scratch .answer) ⊎ ((n : ℕ) × (turnStep s v scratch .answer ≡ refused n) × OwnNumber n)
   serves d e = go (turn-cases s v scratch)
     where
-      not-zero : {i : ℕ} → 0 ≡ suc i → ⊥
-      not-zero z = omega arith
-
       n : Named s d
       n = is-named s d e
 

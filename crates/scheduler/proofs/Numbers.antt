@@ -14,6 +14,9 @@ some h = omega arith
 pub none : {n : ℕ} → 1 ≤ n → n ≡ 0 → ⊥
 none h z = omega arith
 
+pub not-zero : {n : ℕ} → 0 ≡ suc n → ⊥
+not-zero e = omega arith
+
 -- one less of a number that is not 1
 pub two : {n : ℕ} → 1 ≤ n → (n ≡ 1 → ⊥) → 1 ≤ n - 1
 two h q = omega arith

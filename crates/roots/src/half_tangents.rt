@@ -5,12 +5,30 @@
 ghost use Rattle.numbers.specs.Value.{IsModulus};
 ghost use Rattle.roots.specs.TableLaws.{TangentTable};
 
+// The half tangents of the first prime.
+pub fn first_half_tangents() -> [u32; 1440]
+    ensures { λ r. ⌜ TangentTable 1 r ⌝ }
+{
+    TANGENT_1
+}
+
+// The half tangents of the second prime.
+pub fn second_half_tangents() -> [u32; 1440]
+    ensures { λ r. ⌜ TangentTable 2 r ⌝ }
+{
+    TANGENT_2
+}
+
 // The half tangents of the prime that m chooses.
 pub fn half_tangents(m: u32) -> [u32; 1440]
     requires { ⌜ IsModulus m ⌝ }
     ensures { λ r. ⌜ TangentTable m r ⌝ }
 {
-    if m == 1 { TANGENT_1 } else { TANGENT_2 }
+    if m == 1 {
+        first_half_tangents()
+    } else {
+        second_half_tangents()
+    }
 }
 
 #[rattlefmt::skip]

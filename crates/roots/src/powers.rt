@@ -1,7 +1,8 @@
 // The constant table of the powers of the root r of order 2,880, for each of the two primes: an array of their real parts, and beside it
 // one of their imaginary parts. Its rule, that the pair at place 0 is 1 and every other the former times r, is tested once over both arrays.
 //
-// A constant array is built anew wherever it is mentioned: each is mentioned in one function, whose result is lent down.
+// A constant array is built anew wherever it is mentioned: each is mentioned in one function, whose result is lent down. Where a call is
+// short beside its tables it branches on the prime first and takes that prime's: a choice between arrays is made number by number.
 ghost use Rattle.numbers.specs.Value.{IsModulus};
 ghost use Rattle.roots.specs.Table.{RealTable, ImaginaryTable};
 
@@ -11,21 +12,35 @@ pub struct PowerTable {
     pub im: [u32; 2880],
 }
 
+// The table of the first prime.
+pub fn first_powers() -> PowerTable
+    ensures { λ r. ⌜ RealTable 1 (r .re) × ImaginaryTable 1 (r .im) ⌝ }
+{
+    PowerTable {
+        re: REAL_1,
+        im: IMAGINARY_1,
+    }
+}
+
+// The table of the second prime.
+pub fn second_powers() -> PowerTable
+    ensures { λ r. ⌜ RealTable 2 (r .re) × ImaginaryTable 2 (r .im) ⌝ }
+{
+    PowerTable {
+        re: REAL_2,
+        im: IMAGINARY_2,
+    }
+}
+
 // The table of the prime that m chooses.
 pub fn table(m: u32) -> PowerTable
     requires { ⌜ IsModulus m ⌝ }
     ensures { λ r. ⌜ RealTable m (r .re) × ImaginaryTable m (r .im) ⌝ }
 {
     if m == 1 {
-        PowerTable {
-            re: REAL_1,
-            im: IMAGINARY_1,
-        }
+        first_powers()
     } else {
-        PowerTable {
-            re: REAL_2,
-            im: IMAGINARY_2,
-        }
+        second_powers()
     }
 }
 

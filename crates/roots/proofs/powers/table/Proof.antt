@@ -1,19 +1,23 @@
--- The two arrays of each prime pass the test.
-use Rattle.algebra.specs.ring.Ring.{residue}
-use Rattle.numbers.specs.Value.{prime}
+-- The table of each prime is that of its function.
+use mathlib.Core.Path.{sym, subst}
 use Rattle.numbers.proofs.ModulusCases.{second}
-use Rattle.roots.specs.Root.{root}
-use Rattle.roots.proofs.Tables.{follows, power-table}
+use Rattle.roots.specs.Table.{RealTable, ImaginaryTable}
 use Rattle.roots.proofs.powers.table.Statement.{statement}
 use Rattle.roots.proofs.powers.table.Tie as tie
 
+first-powers-requires : tie.Need-first-powers-requires
+first-powers-requires c κs = tt
+
+second-powers-requires : tie.Need-second-powers-requires
+second-powers-requires c κs = tt
+
 returns : tie.Need-returns
-unfolding follows prime root residue
-returns c = power-table 1 (c .if1 .taken) tt
+returns c = let r = c .first-powers .result in subst (λ m. RealTable m (r .re) × ImaginaryTable m (r .im)) (sym (c .before .if1 .taken)) (c .first-powers .ensures)
 
 returns-2 : tie.Need-returns-2
-unfolding follows prime root residue
-returns-2 c = power-table 2 (second (c .before .pre) (c .if1 .left)) tt
+returns-2 c =
+    let r = c .second-powers .result in
+    subst (λ m. RealTable m (r .re) × ImaginaryTable m (r .im)) (sym (second (c .before .before .pre) (c .before .if1 .left))) (c .second-powers .ensures)
 
 pub table-spec : {M : Type 1} → statement M
-table-spec = tie.close (tie.spec returns returns-2)
+table-spec = tie.close (tie.spec first-powers-requires second-powers-requires returns returns-2)

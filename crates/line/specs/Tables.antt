@@ -25,6 +25,12 @@ pub record TablesOf (m direction : ℕ) (re im tan : List ℕ) : Type 0 where
   pub tangents : TangentsFor m direction tan
   pub small : Tangents m tan
 
+-- the tables that a line of a kind is lent: a plain one is not folded, and needs no half tangents
+pub record LineTables (m kind direction : ℕ) (re im tan : List ℕ) : Type 0 where
+  pub powers : RootTable m re im
+  pub of-root : tableRoot m re im ≡ rootFor m direction
+  pub folding : (kind ≡ 0 → ⊥) → TablesOf m direction re im tan
+
 -- ---- how a call makes them
 
 -- direction 0 takes a table as it is, direction 1 negated

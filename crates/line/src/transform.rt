@@ -12,10 +12,10 @@ ghost use Rattle.numbers.specs.Value.{prime, IsModulus};
 ghost use Rattle.slices.specs.Pairs.{Below};
 ghost use Rattle.lengths.specs.Lengths.{pairCount};
 ghost use Rattle.line.specs.Line.{transformed};
-ghost use Rattle.line.specs.Tables.{TablesOf};
+ghost use Rattle.line.specs.Tables.{TablesOf, LineTables};
 ghost use Rattle.lengths.specs.Admitted.{AdmittedLength, FactorList};
 
-// The slices `fold` and `work` are lent for the work, and left with anything.
+// The slices `fold` and `work` are lent for the work, and left with anything. A plain line uses neither the half tangents nor `fold`.
 pub fn transform<'a>(
     m: u32,
     kind: u32,
@@ -29,10 +29,10 @@ pub fn transform<'a>(
     fold: &mut [u32],
     work: &mut [u32],
 )
-    requires { ⌜ IsModulus m × (kind < 6) × (direction < 2) × TablesOf m direction (now re) (now im) (now tan) ⌝ }
+    requires { ⌜ IsModulus m × (kind < 6) × (direction < 2) × LineTables m kind direction (now re) (now im) (now tan) ⌝ }
     requires { ⌜ AdmittedLength (2 * a) × FactorList (2 * a) factors ⌝ }
     requires { ⌜ (length (now line) ≡ 2 * pairCount kind (2 * a)) × Below (prime m) (now line) ⌝ }
-    requires { ⌜ (5760 ≤ length (now fold)) × (5760 ≤ length (now work)) ⌝ }
+    requires { ⌜ (2 * a ≤ length (now fold)) × (4 * a ≤ length (now work)) ⌝ }
     ensures { λ _. ⌜ now (line .exit) ≡ transformed m kind direction (2 * a) (now (line .entry)) ⌝ }
 {
     if kind == 0 {

@@ -16,7 +16,7 @@ use Rattle.lengths.specs.Admitted.{Factored, AdmittedLength, FactorList}
 use Rattle.fold_formulas.specs.FoldFormulas.{Frame, folded}
 use Rattle.folds.specs.FoldedLines.{hermitianKind, mirrorKind}
 use Rattle.line.specs.Line.{transformed}
-use Rattle.line.specs.Tables.{TablesOf}
+use Rattle.line.specs.Tables.{rootFor, TablesOf, LineTables}
 use Rattle.lengths.proofs.Counts.{count-half}
 use Rattle.line.proofs.kinds.Transforms.{half-length, folded-line, plain-line, plain-back-line}
 
@@ -68,10 +68,11 @@ module _ (a : ℕ) (size : AdmittedLength (2 * a)) where
         ∙ folded-line m is a half-positive half-divides _ (subst (λ d. TablesOf m d re im tan) o tables) kind e line
         ∙ ap (λ d. transformed m kind d (2 * a) line) (sym o)
 
+  module _ (m : ℕ) (is : IsModulus m) (kind : ℕ) (line : List ℕ) {direction : ℕ} {re im tan : List ℕ} (tables : LineTables m kind direction re im tan) where
     pub plain-by : kind ≡ 0 → direction ≡ 0 → {l : List ℕ} →
         l ≡ listOf (2 * a) (dft (field m) (2 * a) (pow (field m) (tableRoot m re im) (2880 / (2 * a))) (valuesOf m line)) → l ≡ transformed m kind direction (2 * a) line
-    plain-by e o el = el ∙ plain-line m is a half-positive half-divides (subst (λ d. TablesOf m d re im tan) o tables) line ∙ ap₂ (λ k d. transformed m k d (2 * a) line) (sym e) (sym o)
+    plain-by e o el = el ∙ plain-line m is a half-positive half-divides re im (tables .of-root ∙ ap (rootFor m) o) line ∙ ap₂ (λ k d. transformed m k d (2 * a) line) (sym e) (sym o)
 
     pub plain-back-by : kind ≡ 0 → direction ≡ 1 → {l : List ℕ} →
         l ≡ listOf (2 * a) (λ t. field m .mul (real m (part m (2 * a))) (dft (field m) (2 * a) (pow (field m) (tableRoot m re im) (2880 / (2 * a))) (valuesOf m line) t)) → l ≡ transformed m kind direction (2 * a) line
-    plain-back-by e o el = el ∙ plain-back-line m is a half-positive half-divides (subst (λ d. TablesOf m d re im tan) o tables) line ∙ ap₂ (λ k d. transformed m k d (2 * a) line) (sym e) (sym o)
+    plain-back-by e o el = el ∙ plain-back-line m is a half-positive half-divides re im (tables .of-root ∙ ap (rootFor m) o) line ∙ ap₂ (λ k d. transformed m k d (2 * a) line) (sym e) (sym o)

@@ -18,7 +18,7 @@ use Rattle.slices.proofs.Values.{list-cong}
 use Rattle.fold_formulas.specs.FoldFormulas.{lineRoot, tangent, folded}
 use Rattle.lengths.specs.Lengths.{kindOf}
 use Rattle.line.specs.Line.{transform, transformedLine, transformed}
-use Rattle.line.specs.Tables.{TablesOf}
+use Rattle.line.specs.Tables.{rootFor, TablesOf}
 use Rattle.line.proofs.kinds.Axes.{axis-forward, axis-backward, line-root, conj-line-root}
 
 -- N/2 of N = 2 A
@@ -53,17 +53,18 @@ module _ (m : ℕ) (is : IsModulus m) (A : ℕ) (pos : 0 < A) (divides : A * (14
         listOf (slots k A) (folded m direction A re im tan k (valuesOf m line)) ≡ transformed m kind direction (2 * A) line
     folded-line direction h kind {k} e line = transformed-by m A kind direction e line _ (folded-is-transform direction h k (valuesOf m line))
 
-    -- a plain line, whose transform has N points
-    pub plain-line : TablesOf m 0 re im tan → (line : List ℕ) → listOf (2 * A) (dft (field m) (2 * A) (pow (field m) (tableRoot m re im) (2880 / (2 * A))) (valuesOf m line)) ≡ transformed m 0 0 (2 * A) line
+  -- a plain line, whose transform has N points
+  module _ (re im : List ℕ) where
+    pub plain-line : tableRoot m re im ≡ rootFor m 0 → (line : List ℕ) → listOf (2 * A) (dft (field m) (2 * A) (pow (field m) (tableRoot m re im) (2880 / (2 * A))) (valuesOf m line)) ≡ transformed m 0 0 (2 * A) line
     unfolding slots unfoldBefore packAfter
     plain-line h line =
         transformed-by m A 0 0 refl line _
-        (λ j l. ap (λ v. dft (field m) (2 * A) (pow (field m) v (2880 / (2 * A))) (valuesOf m line) j) (h .of-root))
+        (λ j l. ap (λ v. dft (field m) (2 * A) (pow (field m) v (2880 / (2 * A))) (valuesOf m line) j) h)
 
-    pub plain-back-line : TablesOf m 1 re im tan → (line : List ℕ) →
+    pub plain-back-line : tableRoot m re im ≡ rootFor m 1 → (line : List ℕ) →
         listOf (2 * A) (λ t. real m (part m (2 * A)) ⊗ dft (field m) (2 * A) (pow (field m) (tableRoot m re im) (2880 / (2 * A))) (valuesOf m line) t) ≡ transformed m 0 1 (2 * A) line
     unfolding slots unfoldAfter packBefore
     plain-back-line h line =
         transformed-by m A 0 1 refl line _
         (λ j l. ap (λ v. real m (part m (2 * A)) ⊗ dft (field m) (2 * A) v (valuesOf m line) j)
-        (ap (λ v. pow (field m) v (2880 / (2 * A))) (h .of-root) ∙ sym (conj-pow (field-ring m) (field-star m) (root m) (2880 / (2 * A)))))
+        (ap (λ v. pow (field m) v (2880 / (2 * A))) h ∙ sym (conj-pow (field-ring m) (field-star m) (root m) (2880 / (2 * A)))))

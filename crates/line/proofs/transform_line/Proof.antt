@@ -4,6 +4,7 @@ use native.Mathlib.Omega.{arith}
 use mathlib.Core.Path.{sym}
 use Rattle.line.proofs.kinds.Dispatch.{prefix-length}
 use Rattle.line.proofs.table.Directions.{tables-of}
+use Rattle.line.proofs.kinds.Tables.{line-tables}
 use Rattle.line.proofs.Whole.{rest-of, whole-size, whole-list, whole-count, whole-result}
 use Rattle.line.proofs.transform_line.Statement.{statement}
 use Rattle.line.proofs.transform_line.Tie as tie
@@ -34,12 +35,12 @@ transform-requires c κs =
     let h = c .before .before .before .before .before .before in
     let s = h .before .before .before .before .before in
     let a = s .pre in (
-      (a .modulus-is, a .kind-is, a .direction-is, tables-of (a .modulus-is) (h .before .before .real-parts .ensures) (s .args .direction) (h .before .imaginary-parts .ensures) (h .half-tangents .ensures)),
+      (a .modulus-is, a .kind-is, a .direction-is, line-tables (s .args .kind) (tables-of (a .modulus-is) (h .before .before .real-parts .ensures) (s .args .direction) (h .before .imaginary-parts .ensures) (h .half-tangents .ensures))),
       (
         (whole-size (a .size), whole-list (a .size) (a .list)),
         (
           (whole-count (a .size) (s .args .kind) (a .line-length), a .below),
-          (omega (arith, prefix-length 5760 (s .args .scratch .now) (omega (arith, a .scratch-fits))), omega arith),
+          (omega (arith, prefix-length 5760 (s .args .scratch .now) (omega (arith, a .scratch-fits)), a .size .short, a .size .whole), omega (arith, a .size .short, a .size .whole)),
         ),
       ),
     )

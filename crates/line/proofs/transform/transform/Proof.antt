@@ -78,7 +78,7 @@ slice-aggregate-folded-2 c = let s = c .before .before .before .before .before .
 folded-requires : tie.Need-folded-requires
 folded-requires c κs =
     let s = c .before .before .before .before .before .before .before in (
-      (s .pre .0 .0, omega arith, s .pre .0 .1, s .pre .0 .2, s .pre .0 .3),
+      (s .pre .0 .0, omega arith, s .pre .0 .1, s .pre .0 .2, s .pre .0 .3 .folding (λ (e : s .args .kind ≡ 0). omega arith)),
       (s .pre .1 .0, (s .pre .1 .1 .0, (prefix-length _ (s .args .fold .now) (omega (arith, s .pre .1 .0 .0 .short, s .pre .1 .1 .1)), prefix-length _ (s .args .work .now) (omega (arith, s .pre .1 .0 .0 .short, s .pre .1 .1 .1))))),
     )
 

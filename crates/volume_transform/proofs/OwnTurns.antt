@@ -1,5 +1,6 @@
 -- A line in a call of its own: what was tested are the line's numbers, and what is left is its turn, or what was there.
 use mathlib.Core.Path.{_≡_, refl, sym, _∙_, ap, ap₂, subst}
+use mathlib.Core.Logic.{inl, inr}
 use mathlib.Core.Bool.{Bool, true, false, not, cond}
 use mathlib.Core.List.{List, _++_}
 use Prim.Native.Nat.{ℕ, _+_, _*_, _≤_}
@@ -13,11 +14,12 @@ use Rattle.slices.specs.Segments.{segment}
 use Rattle.slices.proofs.Pairs.{tab-cong}
 use Rattle.slices.proofs.Segments.{segment-tab, take-fills}
 use Rattle.slices.proofs.Bounds.{below-allBelow}
-use Rattle.lengths.specs.Lengths.{scratchLength, cleared}
-use Rattle.line.specs.Tables.{TablesOf}
+use Rattle.lengths.specs.Lengths.{kindOf, scratchLength, cleared}
+use Rattle.lengths.proofs.Counts.{slots-le}
+use Rattle.line.specs.Tables.{LineTables}
 use Rattle.line.proofs.Whole.{rest-of}
-use Rattle.line.proofs.kinds.Dispatch.{prefix-length}
-use Rattle.volume_transform.specs.Lines.{Beside, Spaced, TablesFor, OwnTurn, numbersIn}
+use Rattle.line.proofs.kinds.Dispatch.{prefix-length, half-positive}
+use Rattle.volume_transform.specs.Lines.{SoundLine, Beside, Spaced, Placed, TablesFor, OwnTurn, numbersIn}
 use Rattle.volume_transform.specs.declared.plan.Line.{Line}
 use Rattle.volume_transform.proofs.row.RowLaws.{row-pairs}
 
@@ -29,8 +31,20 @@ row-numbers x v b = segment-tab (row-pairs x v b) ∙ tab-cong (x .count) _ _ (�
     neighbour j = omega arith
 
 -- those of a line that stands apart are what was gathered
-pub gathered-numbers : {len : ℕ} (x : Line) (v l l₀ : List ℕ) → Spaced len x → 5760 ≤ length l₀ → l ≡ fills (λ j. at v (x .start + j * x .stride)) (x .count) l₀ → take (2 * x .count) l ≡ numbersIn x v
-gathered-numbers x v l l₀ s fits e = ap (take (2 * x .count)) e ∙ take-fills _ (x .count) l₀ (omega (arith, s .low))
+pub gathered-numbers : {len : ℕ} (x : Line) (v l l₀ : List ℕ) → Spaced len x → 2 * x .count ≤ length l₀ → l ≡ fills (λ j. at v (x .start + j * x .stride)) (x .count) l₀ → take (2 * x .count) l ≡ numbersIn x v
+gathered-numbers x v l l₀ s fits e = ap (take (2 * x .count)) e ∙ take-fills _ (x .count) l₀ fits
+
+-- a line has its place in a volume either way, and can be transformed
+pub placed-sound : {len : ℕ} (x : Line) → Placed len x → SoundLine x
+placed-sound x (inl s) = s .1 .sound
+placed-sound x (inr b) = b .sound
+
+-- slices that are long enough for all kinds of line of the length
+pub packed-fits : {len n : ℕ} (x : Line) → Spaced len x → 4 * x .half ≤ n → 2 * x .count ≤ n
+packed-fits x s h = omega (arith, s .counted, slots-le (kindOf (x .kind)) (x .half) (omega (arith, half-positive (x .half) (s .sound .size))))
+
+pub fold-room : (x : Line) → SoundLine x → (s : List ℕ) → scratchLength ≤ length s → 2 * x .half ≤ length (take 5760 s)
+fold-room x h s l = omega (arith, prefix-length 5760 s (omega arith), h .size .short)
 
 -- the scratch whose first part was lent as the fold
 pub returned-long : (s fold : List ℕ) → scratchLength ≤ length s → length fold ≡ length (take 5760 s) → scratchLength ≤ length (fold ++ drop 5760 s)
@@ -44,8 +58,8 @@ module _ (x : Line) (v : List ℕ) {m : ℕ} (em : m ≡ x .m) where
   pub modulus-of : IsModulus (x .m) → IsModulus m
   modulus-of is = subst IsModulus (sym em) is
 
-  pub tables-for : {re im tan : List ℕ} → x .direction ≡ 0 → TablesOf m 0 re im tan → TablesFor x re im tan
-  tables-for {re} {im} {tan} e t = subst (λ d. TablesOf (x .m) d re im tan) (sym e) (subst (λ m. TablesOf m 0 re im tan) em t)
+  pub tables-for : {re im tan : List ℕ} → x .direction ≡ 0 → LineTables m (x .kind) 0 re im tan → TablesFor x re im tan
+  tables-for {re} {im} {tan} e t = subst (λ d. LineTables (x .m) (x .kind) d re im tan) (sym e) (subst (λ m. LineTables m (x .kind) 0 re im tan) em t)
 
   module _ {r : Bool} {q : ℕ} {l : List ℕ} (n : l ≡ numbersIn x v) (eq : q ≡ prime m) (e : r ≡ allBelow q l) where
     told : r ≡ allBelow (prime (x .m)) (numbersIn x v)

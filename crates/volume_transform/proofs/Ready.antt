@@ -13,11 +13,12 @@ use Rattle.volume_transform.specs.Plans.{planGroup, planHalves, Fitting,
 use Rattle.volume_transform.specs.declared.plan.Plan.{Plan}
 use Rattle.volume_transform.specs.declared.plan.Line.{Line}
 use Rattle.line.specs.Tables.{TablesOf}
+use Rattle.line.proofs.kinds.Tables.{line-tables}
 
 module _ (p : Plan) (j : ℕ) (x : Line) (v re im tan : List ℕ) (f : Fitting p v) (t : TablesOf (p .m) (p .direction) re im tan) where
   ready : x .m ≡ p .m → x .direction ≡ p .direction → Placed (volumeLength (planGroup p) (planHalves p)) x → (Placed (length v) x × TablesFor x re im tan) × LineBelow x v
   ready em ed placed = (
-    (subst (λ n. Placed n x) (sym (f .long)) placed, subst (λ d. TablesOf (x .m) d re im tan) (sym ed) (subst (λ m. TablesOf m (p .direction) re im tan) (sym em) t)),
+    (subst (λ n. Placed n x) (sym (f .long)) placed, line-tables (x .kind) (subst (λ d. TablesOf (x .m) d re im tan) (sym ed) (subst (λ m. TablesOf m (p .direction) re im tan) (sym em) t))),
     record { each = λ k l. small-at (prime (x .m)) v _ (subst (λ m. Below (prime m) v) (sym em) (f .small)) },
   )
 

@@ -14,7 +14,7 @@ use Rattle.lengths.specs.Admitted.{AdmittedLength, FactorList}
 use Rattle.volume_transform.specs.Axes.{turnedLine, turnedStored, turnedRow}
 use Rattle.volume_transform.specs.declared.plan.Line.{Line}
 use lib.ListN.{length, drop, getD, set}
-use Rattle.line.specs.Tables.{TablesOf}
+use Rattle.line.specs.Tables.{LineTables}
 
 -- it can be transformed
 pub record SoundLine (x : Line) : Type 0 where
@@ -93,8 +93,12 @@ pub record Lent (scratch fold work : List ℕ) : Type 0 where
 abbrev pub Kept : List ℕ → List ℕ → Type 0
 Kept before after = drop 11520 after ≡ drop 11520 before
 
+-- and the slices that its turn alone is lent are as long as it needs
+abbrev pub Room : Line → (fold work : List ℕ) → Type 0
+Room x fold work = (2 * x .half ≤ length fold) × (4 * x .half ≤ length work)
+
 abbrev pub TablesFor : Line → (re im tan : List ℕ) → Type 0
-TablesFor x re im tan = TablesOf (x .m) (x .direction) re im tan
+TablesFor x re im tan = LineTables (x .m) (x .kind) (x .direction) re im tan
 
 -- ---- the row of a packed Hermitian line of n numbers: the real part of the last pair stands in the second number of the first
 abbrev pub opened : (direction n : ℕ) → List ℕ → List ℕ

@@ -2,13 +2,13 @@
 // line's own kind, and scattered back.
 use crate::plan::Line;
 ghost use mathlib.Core.Path.{_≡_};
-ghost use Prim.Native.Nat.{_*_, _≤_};
+ghost use Prim.Native.Nat.{_*_};
 ghost use lib.ListN.{length};
 ghost use Rattle.algebra.specs.lines.Kinds.{slots};
 ghost use Rattle.numbers.specs.Value.{prime};
 ghost use Rattle.slices.specs.Pairs.{Below};
 ghost use Rattle.lengths.specs.Lengths.{kindOf};
-ghost use Rattle.volume_transform.specs.Lines.{Lent, Kept, TablesFor, SoundLine, Spaced, LineBelow, turnedPacked, storedTurn, gatheredTurn};
+ghost use Rattle.volume_transform.specs.Lines.{Lent, Kept, TablesFor, Room, SoundLine, Spaced, LineBelow, turnedPacked, storedTurn, gatheredTurn};
 
 // A line whose pairs stand apart.
 pub fn turn_gathered<'a>(
@@ -46,7 +46,7 @@ pub fn turn_stored<'a>(
 )
     requires { ⌜ SoundLine line × TablesFor line (now re) (now im) (now tan) × (m ≡ line .m) × (line .count ≡ slots (kindOf (line .kind)) (line .half)) ⌝ }
     requires { ⌜ (length (now packed) ≡ 2 * slots (kindOf (line .kind)) (line .half)) × Below (prime (line .m)) (now packed) ⌝ }
-    requires { ⌜ (5760 ≤ length (now fold)) × (5760 ≤ length (now work)) ⌝ }
+    requires { ⌜ Room line (now fold) (now work) ⌝ }
     ensures { λ _. ⌜ now (packed .exit) ≡ storedTurn line (now (packed .entry)) ⌝ }
 {
     if line.rotated {
@@ -75,7 +75,7 @@ pub fn turn_packed<'a>(
 )
     requires { ⌜ SoundLine line × TablesFor line (now re) (now im) (now tan) × (m ≡ line .m) ⌝ }
     requires { ⌜ (length (now packed) ≡ 2 * slots (kindOf (line .kind)) (line .half)) × Below (prime (line .m)) (now packed) ⌝ }
-    requires { ⌜ (5760 ≤ length (now fold)) × (5760 ≤ length (now work)) ⌝ }
+    requires { ⌜ Room line (now fold) (now work) ⌝ }
     ensures { λ _. ⌜ now (packed .exit) ≡ turnedPacked line (now (packed .entry)) ⌝ }
 {
     line::transform::transform(

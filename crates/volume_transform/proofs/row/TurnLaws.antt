@@ -32,7 +32,12 @@ use Rattle.line.proofs.kinds.Reading.{forward-cong, back-cong}
 use Rattle.cell.proofs.LineReading.{by-half}
 use Rattle.cell.specs.Volume.{axis}
 use Rattle.volume_transform.specs.Axes.{turnedLine, turnedStored, forwardValues, inverseValues, packedRow, unpackedRow, forwardRow, inverseRow}
-use Rattle.volume_transform.specs.Lines.{Kept}
+use Rattle.volume_transform.specs.Lines.{Kept, SoundLine, Lent, Room}
+use Rattle.volume_transform.specs.declared.plan.Line.{Line}
+
+-- what a volume's lines are lent is long enough for each of them
+pub room : (x : Line) {s fold work : List ℕ} → SoundLine x → Lent s fold work → Room x fold work
+room x h l = (omega (arith, h .size .short, l .fold-fits), omega (arith, h .size .short, l .work-fits))
 
 -- ---- a packed line
 

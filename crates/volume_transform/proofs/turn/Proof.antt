@@ -3,6 +3,7 @@ use native.Mathlib.Omega.{arith}
 use mathlib.Core.Path.{refl, _∙_}
 use lib.ListN.{length}
 use Rattle.volume_transform.specs.Lines.{Beside}
+use Rattle.volume_transform.proofs.row.TurnLaws.{room}
 use Rattle.volume_transform.proofs.row.RowLaws.{row-long, row-below, row-placed, part-same, beside, spaced}
 use Rattle.volume_transform.proofs.plan.AxisLines.{row-is, gathered-is}
 use Rattle.volume_transform.proofs.turn.Statement.{statement}
@@ -43,7 +44,7 @@ turn-row-requires c κs =
     let s = start i in
     let x = s .args .line in
     let b = row i in
-    ((b .sound, b .hermitian, s .pre .0 .1, s .pre .0 .2), ((row-long x (s .args .volume .now) b, row-below x (s .args .volume .now) b (s .pre .1 .0)), (s .pre .1 .1 .fold-fits, s .pre .1 .1 .work-fits)))
+    ((b .sound, b .hermitian, s .pre .0 .1, s .pre .0 .2), ((row-long x (s .args .volume .now) b, row-below x (s .args .volume .now) b (s .pre .1 .0)), room x (b .sound) (s .pre .1 .1)))
 
 turn-gathered-requires : tie.Need-turn-gathered-requires
 turn-gathered-requires c κs =

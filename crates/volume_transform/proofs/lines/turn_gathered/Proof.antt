@@ -8,7 +8,7 @@ use Rattle.slices.specs.Pairs.{at}
 use Rattle.slices.proofs.Pairs.{length-fills}
 use Rattle.lengths.specs.Lengths.{kindOf}
 use Rattle.line.proofs.kinds.Dispatch.{prefix-length}
-use Rattle.volume_transform.proofs.row.TurnLaws.{turned-line, kept, below-lent, returned-fits}
+use Rattle.volume_transform.proofs.row.TurnLaws.{room, turned-line, kept, below-lent, returned-fits}
 use Rattle.volume_transform.proofs.lines.turn_gathered.Statement.{statement}
 use Rattle.volume_transform.proofs.lines.turn_gathered.Tie as tie
 
@@ -37,7 +37,7 @@ turn-stored-requires c κs =
     let g = c .before .before .before .before .before .before in
     let s = g .before .before .before .before .before .before .before in
     let x = s .args .line in
-    ((s .pre .0 .0 .sound, s .pre .0 .1, s .pre .0 .2, s .pre .0 .0 .counted), ((prefix-length _ _ (omega (arith, ap length (g .gather .ensures), length-fills (λ j. at (s .args .volume .now) (x .start + j * x .stride)) (x .count) (s .args .scratch .now), s .pre .0 .0 .low, s .pre .1 .1 .scratch-fits)) ∙ ap (λ n. 2 * n) (s .pre .0 .0 .counted), below-lent (x .m) (x .half) (x .direction) (x .rotated) (kindOf (x .kind)) (x .count) (λ j. x .start + j * x .stride) (s .args .volume .now) (s .args .scratch .now) _ (s .pre .0 .0 .counted) (s .pre .0 .0 .low) (omega (arith, s .pre .0 .0 .low, s .pre .1 .1 .scratch-fits)) (g .gather .ensures) (s .pre .1 .0 .each)), (s .pre .1 .1 .fold-fits, s .pre .1 .1 .work-fits)))
+    ((s .pre .0 .0 .sound, s .pre .0 .1, s .pre .0 .2, s .pre .0 .0 .counted), ((prefix-length _ _ (omega (arith, ap length (g .gather .ensures), length-fills (λ j. at (s .args .volume .now) (x .start + j * x .stride)) (x .count) (s .args .scratch .now), s .pre .0 .0 .low, s .pre .1 .1 .scratch-fits)) ∙ ap (λ n. 2 * n) (s .pre .0 .0 .counted), below-lent (x .m) (x .half) (x .direction) (x .rotated) (kindOf (x .kind)) (x .count) (λ j. x .start + j * x .stride) (s .args .volume .now) (s .args .scratch .now) _ (s .pre .0 .0 .counted) (s .pre .0 .0 .low) (omega (arith, s .pre .0 .0 .low, s .pre .1 .1 .scratch-fits)) (g .gather .ensures) (s .pre .1 .0 .each)), room x (s .pre .0 .0 .sound) (s .pre .1 .1)))
 
 scatter-requires : tie.Need-scatter-requires
 scatter-requires c κs =

@@ -2,7 +2,7 @@
 use mathlib.Core.Path.{sym, _∙_, ap, subst}
 use Rattle.numbers.specs.Value.{prime, IsModulus}
 use Rattle.slices.specs.Pairs.{Below}
-use Rattle.line.specs.Tables.{TablesOf}
+use Rattle.line.specs.Tables.{LineTables}
 use Rattle.volume_transform.proofs.row.TurnLaws.{turned-packed, line-length}
 use Rattle.lengths.specs.Lengths.{kindOf}
 use Rattle.volume_transform.specs.Axes.{turnedLine}
@@ -15,7 +15,7 @@ transform-requires c κs =
     let x = s .args .line in
     let sound = s .pre .0 .0 in
     let same = sym (s .pre .0 .2) in
-    ((subst IsModulus same (sound .modulus), sound .known, sound .directed, subst (λ n. TablesOf n (x .direction) (s .args .re .now) (s .args .im .now) (s .args .tan .now)) same (s .pre .0 .1)), ((sound .size, sound .list), ((line-length (x .half) (x .kind) (s .pre .1 .0 .0), subst (λ n. Below (prime n) (s .args .packed .now)) same (s .pre .1 .0 .1)), s .pre .1 .1)))
+    ((subst IsModulus same (sound .modulus), sound .known, sound .directed, subst (λ n. LineTables n (x .kind) (x .direction) (s .args .re .now) (s .args .im .now) (s .args .tan .now)) same (s .pre .0 .1)), ((sound .size, sound .list), ((line-length (x .half) (x .kind) (s .pre .1 .0 .0), subst (λ n. Below (prime n) (s .args .packed .now)) same (s .pre .1 .0 .1)), s .pre .1 .1)))
 
 same-length : tie.Need-same-length
 same-length c = c .before .before .before .before .before .packed .given

@@ -31,6 +31,8 @@ held crates/correlation_test/stdin python3 tools/correlation_cases.py cases
 held crates/correlation_test/stdout python3 tools/correlation_cases.py answers
 held crates/mrc_test/stdin python3 tools/mrc_cases.py cases
 held crates/mrc_test/stdout python3 tools/mrc_cases.py answers
+held crates/scheduler_test/stdin python3 tools/scheduler_cases.py cases
+held crates/scheduler_test/stdout python3 tools/scheduler_cases.py answers
 held crates/recorder_test/stdin both cases
 held crates/recorder_test/stdout both answers
-echo "15 stored expectations agree with what is computed anew"
+echo "17 stored expectations agree with what is computed anew"

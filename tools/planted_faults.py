@@ -1,9 +1,10 @@
 #!/usr/bin/env python3
-"""Plants faults into the brute-force program and shows that each changes lines of the recorder test's stored output, so that the test would
-find it in the recorder too. Prints a line for each fault; exit status 1 if one changes no line, or cannot be planted.
+"""Plants faults into the brute-force programs and shows that each changes lines of a test's stored output, so that the test would find it in
+the crates too: those of brute_force.py in that of the recorder test, those of lanes.py in that of the scheduler test. Prints a line for each
+fault; exit status 1 if one changes no line, or cannot be planted.
 
-A fault is a text of brute_force.py, which must occur there once, and another in its place: refusals in another order, numbers judged that
-a call does not read, or not judged that it reads, one prime in place of the other.
+A fault is a text of the program, which must occur there once, and another in its place: refusals in another order, numbers judged that
+a call does not read, or not judged that it reads, one prime in place of the other. Those of lanes stand in lane_faults.py.
 """
 import functools
 import importlib
@@ -15,11 +16,12 @@ from pathlib import Path
 import brute_force
 import file_cases
 import job_cases
+import scheduler_cases
+import scheduler_records
 import test_records
+from lane_faults import LANE_FAULTS
 
 TOOLS = Path(__file__).parent
-SOURCE = (TOOLS / "brute_force.py").read_text()
-STORED = (TOOLS.parent / "crates/recorder_test/stdout").read_text().splitlines()
 
 
 def refusal(condition, number, rest=", 0, 0", indent=8):
@@ -179,39 +181,56 @@ checksums = functools.cache(test_records.checksum)
 test_records.checksum = lambda v: checksums(tuple(v))
 
 
-def program(source):
+def program(name, source):
     """The brute-force program of a source."""
-    module = types.ModuleType("brute_force")
-    exec(compile(source, "brute_force.py", "exec"), module.__dict__)
-    module.triple = lambda n, X, sign, p: sums(tuple(n), tuple(X.items()), sign, p)
+    module = types.ModuleType(name)
+    exec(compile(source, name + ".py", "exec"), module.__dict__)
     return module
 
 
-def lines(source, calls):
-    """What the test program must print by the program of a source."""
-    sys.modules["brute_force"] = program(source)
+def recorder_lines(calls, source):
+    """What the recorder test must print by the program of a source."""
+    planted = program("brute_force", source)
+    planted.triple = lambda n, X, sign, p: sums(tuple(n), tuple(X.items()), sign, p)
+    sys.modules["brute_force"] = planted
     printed = []
     for name in ("job_cases", "file_cases"):
         test_program = importlib.reload(sys.modules[name]).TestProgram()
         for op, w in calls[name]:
             printed += test_program.lines(op, w)
+    sys.modules["brute_force"] = brute_force
     return printed
+
+
+def scheduler_lines(records, source):
+    """What the scheduler test must print by the program of a source."""
+    return scheduler_records.lines(records, program("lanes", source))
+
+
+def plant(name, test, faults, lines):
+    """Plants each fault into a program; how many change no stored line of a test."""
+    source = (TOOLS / (name + ".py")).read_text()
+    stored = (TOOLS.parent / "crates" / test / "stdout").read_text().splitlines()
+    if lines(source) != stored:
+        sys.exit("the stored output of %s is not what %s.py gives: the scripts of this folder make it anew" % (test, name))
+    unseen = 0
+    for what, text, fault in faults:
+        if source.count(text) != 1:
+            sys.exit("%s: its text stands %d times in %s.py" % (what, source.count(text), name))
+        changed = sum(a != b for a, b in itertools.zip_longest(stored, lines(source.replace(text, fault))))
+        print("%s: changes %d of the stored lines" % (what, changed))
+        unseen += changed == 0
+    print("%d of %d faults planted into %s.py each change some of the %d stored lines of %s" % (len(faults) - unseen, len(faults), name, len(stored), test))
+    return unseen
 
 
 def main():
     calls = {"job_cases": job_cases.scripts(), "file_cases": file_cases.cases()}
-    if lines(SOURCE, calls) != STORED:
-        sys.exit("the stored output is not what brute_force.py gives: tools/recorder_test.sh makes it anew")
-    unseen = 0
-    for what, text, fault in FAULTS:
-        if SOURCE.count(text) != 1:
-            sys.exit("%s: its text stands %d times in brute_force.py" % (what, SOURCE.count(text)))
-        changed = sum(a != b for a, b in itertools.zip_longest(STORED, lines(SOURCE.replace(text, fault), calls)))
-        print("%s: changes %d of the stored lines" % (what, changed))
-        unseen += changed == 0
+    unseen = plant("lanes", "scheduler_test", LANE_FAULTS, functools.partial(scheduler_lines, scheduler_cases.records()))
+    unseen += plant("brute_force", "recorder_test", FAULTS, functools.partial(recorder_lines, calls))
     if unseen:
-        sys.exit("%d of %d planted faults change no line" % (unseen, len(FAULTS)))
-    print("%d planted faults each change some of %d stored lines" % (len(FAULTS), len(STORED)))
+        sys.exit("%d of %d planted faults change no line" % (unseen, len(FAULTS) + len(LANE_FAULTS)))
+    print("%d planted faults each change some of the stored lines" % (len(FAULTS) + len(LANE_FAULTS)))
 
 
 main()

@@ -77,7 +77,7 @@ def lane_with(job, done=0):
 # ---- lanes alone and together
 
 def alone(rng, out):
-    """Every group on every grid with one of the primes, and small ones with both, by itself in a lane from its entering to its map."""
+    """Every group on every grid with one of the primes, on one grid with both, by itself in a lane from its entering to its map, then idle."""
     for (turn, n), g, m in itertools.product(enumerate(GRIDS), range(5), PRIMES):
         if n == (2, 4, 4) or m == 1 + (turn + g) % 2:
             out.new()

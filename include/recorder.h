@@ -44,14 +44,14 @@ extern "C" {
 #endif
 
 /* The version of the calls: 10,000 times the major, 100 times the minor, and the patch number. */
-#define RECORDER_VERSION 20000
+#define RECORDER_VERSION 20100
 
 /* Limits: the primes of moduli 1 and 2, which no residue reaches, the longest axis, the most numbers of a volume, the numbers of a scratch,
-   the most entries of a window, the greatest magnitude of a density for viewers and the bytes of the header before them; and the greatest
-   magnitude of a combined number. */
+   the most entries of a window, the greatest magnitude of a density for viewers and the bytes of the header before them, the lanes of a
+   scheduler; and the greatest magnitude of a combined number. */
 enum {
     RECORDER_PRIME_1 = 86399, RECORDER_PRIME_2 = 302399, RECORDER_LONGEST = 2880, RECORDER_MOST_NUMBERS = 16777216, RECORDER_SCRATCH = 11520,
-    RECORDER_LONGEST_WINDOW = 64, RECORDER_GREATEST_EXACT = 16777215, RECORDER_MRC_HEADER = 1024
+    RECORDER_LONGEST_WINDOW = 64, RECORDER_GREATEST_EXACT = 16777215, RECORDER_MRC_HEADER = 1024, RECORDER_LANES = 8
 };
 #define RECORDER_GREATEST_COMBINED INT64_C(13063485600)
 
@@ -95,12 +95,15 @@ enum {
     RECORDER_REFUSED_NO_MAP = 22,            /* no map held */
     RECORDER_REFUSED_NO_FACTORS = 23,        /* no factors held */
     RECORDER_REFUSED_OCCUPIED = 24,          /* of a record: a number that holds part of its orbit is not 0; in a file: an earlier record is of its orbit */
-    RECORDER_REFUSED_IMPOSSIBLE_JOB = 25,    /* no call could have given this job back */
+    RECORDER_REFUSED_IMPOSSIBLE_JOB = 25,    /* no call could have given this job, or this scheduler, back */
     RECORDER_REFUSED_MODULUS = 26,           /* modulus not 1 or 2 */
     RECORDER_REFUSED_DIFFERENT_CELLS = 27,   /* two jobs that differ in group or lengths, or whose moduli are not 1 and 2 in order */
     RECORDER_REFUSED_MAGNITUDE = 28,         /* a magnitude, or of an overlay the sum of those in a times the largest in b, above 13,063,485,600 */
     RECORDER_REFUSED_UNIT_CELL = 29,         /* edge not finite and above 0, angle not strictly between 0 and 180, or another kind of cell than the group's */
     RECORDER_REFUSED_FLOAT_RANGE = 30,       /* a magnitude above 16,777,215 */
+    RECORDER_REFUSED_LANE = 31,              /* lane not 1 to 8, or busy when entering */
+    RECORDER_REFUSED_CAPACITY = 32,          /* the volumes of all lanes would have more than 16,777,216 numbers */
+    RECORDER_REFUSED_NOTHING_RUNS = 33,      /* withdrawing from a lane in which nothing runs */
     RECORDER_REFUSED_WINDOW = 34             /* window not of 1 to 64 entries */
 };
 
@@ -126,6 +129,16 @@ typedef struct {
     float a, b, c, alpha, beta, gamma;
 } recorder_cell;
 
+/* A lane of a scheduler: how many lines of its job are left, and the job. A free lane is all zeros. */
+typedef struct { uint32_t left; recorder_job job; } recorder_lane;
+
+/* A scheduler is handed in and handed back by value: its lanes, lane 1 first, and the lane that was served last, 0 before any turn. One that
+   no calls could have left is refused with 25. */
+typedef struct {
+    recorder_lane lanes[8];
+    uint32_t last;
+} recorder_scheduler;
+
 typedef struct { uint32_t number; recorder_job job; } recorder_answer;
 typedef struct { uint32_t number, place; recorder_job job; } recorder_file_answer;
 typedef struct { uint32_t count, first, second; } recorder_faults;
@@ -133,6 +146,9 @@ typedef struct { uint32_t number; size_t written; } recorder_write_answer;
 typedef struct { uint32_t number; int32_t density; } recorder_density;
 typedef struct { uint32_t number, a, b; } recorder_factor_value;
 typedef struct { uint32_t number, power; } recorder_power;
+typedef struct { uint32_t number, lane; } recorder_next_answer;
+typedef struct { uint32_t number; recorder_scheduler scheduler; } recorder_scheduler_answer;
+typedef struct { uint32_t number, lane, finished; recorder_job job; recorder_scheduler scheduler; } recorder_turn_answer;
 
 /* The count of a volume's numbers; 0 where every opening is refused, because the group is above 4, a length above 2,880 or the volume
    too large. */
@@ -281,6 +297,59 @@ uint32_t recorder_line(uint32_t modulus, uint32_t kind, uint32_t direction, uint
 recorder_write_answer recorder_drift(const int64_t *run, size_t run_length, uint32_t w, int64_t *least, size_t least_length,
                                      int64_t *greatest, size_t greatest_length, uint64_t *least_at, size_t least_at_length,
                                      uint64_t *greatest_at, size_t greatest_at_length);
+
+/* Several syntheses at once. A scheduler runs those of up to eight jobs together, so that a large entry does not hold up a small one: each call
+   of recorder_scheduler_turn transforms one line of one job, and the lanes that run have their turns one after the other. It is used so:
+
+       recorder_scheduler s = recorder_scheduler_new();
+       recorder_scheduler_answer e = recorder_scheduler_enter(s, lane, job, volumes[lane], lengths[lane], scratch, RECORDER_SCRATCH);
+       if (e.number == 0) s = e.scheduler;                            (the job is in its lane; its copy is not used any more)
+       while ((next = recorder_scheduler_next(s)).number == 0 && next.lane != 0) {
+           t = recorder_scheduler_turn(s, volumes[next.lane], lengths[next.lane], scratch, RECORDER_SCRATCH);
+           s = t.scheduler;
+           if (t.finished) maps[t.lane] = t.job;                                      (volumes[t.lane] is its map; lane t.lane is free)
+       }
+
+   The caller keeps the scheduler, which is a value of 324 bytes, and a volume for each job that runs; the scheduler has no pointer to either.
+   What follows holds where every call is handed the scheduler that the last accepted call left; a refused call leaves it as it was.
+   - A job is in its lane from its entering on. Its copy outside is not to be used until the lane is finished or withdrawn, and the volume is not
+     to be written: no guarantee about maps covers what is done with either.
+   - A turn serves the next lane that runs above the one served last, from lane 1 at first and again after lane 8. recorder_scheduler_next names
+     it; that turn is to be lent the volume of that lane, as its last accepted turn left it (the first: as it was at its entering). Another
+     volume may be noticed, by 6 or 7, or not: the map is then not that of the job.
+   - A job has N1 * (N2/2 + 1) + W * (N2/2 + 1) + W * N1 lines, along l, then h, then k, where W counts the planes of its volume as above. A lane
+     with n lines left is finished within 8 n turns, however the other lanes come and go, provided it is not withdrawn and no turn is refused.
+   - The turn that takes its last line finishes it: it gives the job, map held, frees the lane and gives its numbers back. The volume is then
+     what recorder_synthesis would have left, and so is the job.
+   - Withdrawing frees a lane before that, gives its numbers back, and gives no job. The volume stays as it stands, half factors and half map:
+     no guarantee covers it until it is opened anew.
+   - The volumes of all lanes that run have at most 16,777,216 numbers together. Entering is refused with 32 where they would have more: wait
+     until a lane is finished.
+   - A scheduler is a value, and each call needs what the last one gave: calls on one scheduler are made one after another, by one thread at a
+     time. Threads with a scheduler of their own each may call at once. */
+
+/* Eight free lanes, of which none was served. */
+recorder_scheduler recorder_scheduler_new(void);
+
+/* The lane that the next turn serves, 1 to 8, or 0: no lane runs, the scheduler is idle. Refusals: 25 of the scheduler. */
+recorder_next_answer recorder_scheduler_next(recorder_scheduler scheduler);
+
+/* A job that holds factors enters a free lane, 1 to 8, with its volume, which is looked at and not changed.
+   Refusals: 25 of the scheduler, 31 lane not 1 to 8 or busy, 25 of the job, 32 the volumes of all lanes would have more than 16,777,216 numbers,
+   then as of synthesis: 23 no factors held (collecting counts as held), 6, 13, 7, 14. */
+recorder_scheduler_answer recorder_scheduler_enter(recorder_scheduler scheduler, uint32_t lane, recorder_job job,
+                                                   const uint32_t *volume, size_t volume_length, uint32_t *scratch, size_t scratch_length);
+
+/* One line of the lane that recorder_scheduler_next names, in its volume. The answer has the lane that was served, 1 to 8, or 0 where none runs:
+   nothing changes then, and volume and scratch are not looked at. `finished` is 1 where no line of the lane is left, with the job, map held; else it
+   is 0, and the job is all zeros.
+   Refusals: 25 of the scheduler, then of the line of that turn alone 6 volume not exactly as long as required, 13 scratch too short, 7 a number of
+   the line not below the prime (along k of all N2 + 2 numbers of its row). A refused turn changes nothing: the same lane's turn is next. */
+recorder_turn_answer recorder_scheduler_turn(recorder_scheduler scheduler, uint32_t *volume, size_t volume_length,
+                                             uint32_t *scratch, size_t scratch_length);
+
+/* Frees a lane whose job is not finished. Refusals: 25 of the scheduler, 31 lane not 1 to 8, 33 nothing runs in it. */
+recorder_scheduler_answer recorder_scheduler_withdraw(recorder_scheduler scheduler, uint32_t lane);
 
 #ifdef __cplusplus
 }

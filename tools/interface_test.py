@@ -13,18 +13,21 @@ import sys
 
 TOP = os.path.join(os.path.dirname(os.path.abspath(__file__)), "..")
 FILES = ["include/recorder.h", "crates/exported/src/lib.rt", "host/src/ffi.rs"]
-# What the source passes on: the structs of jobs, of their answers and of a unit cell, and the numbers of refusals.
-PASSED_ON = ["crates/job/src/lib.rt", "crates/exported/src/answers.rt", "crates/exported/src/cells.rt", "crates/refusals/src/lib.rt"]
+# What the source passes on: the structs of jobs, of schedulers, of their answers and of a unit cell, and the numbers of refusals.
+PASSED_ON = ["crates/job/src/lib.rt", "crates/scheduler/src/lib.rt", "crates/exported/src/answers.rt", "crates/exported/src/lanes.rt",
+             "crates/exported/src/cells.rt", "crates/refusals/src/lib.rt"]
 
 # The names of the header's types in the Rattle source and in the tool.
 SOURCE_NAMES = {"Reflection": "recorder_reflection", "GridPoint": "recorder_grid_point", "Axis": "recorder_axis", "Job": "recorder_job",
                 "CellCoded": "recorder_cell", "JobCoded": "recorder_answer", "FileCoded": "recorder_file_answer", "FaultsCoded": "recorder_faults",
                 "WriteCoded": "recorder_write_answer", "PointCoded": "recorder_density", "FactorCoded": "recorder_factor_value",
-                "PowerCoded": "recorder_power"}
+                "PowerCoded": "recorder_power", "Lane": "recorder_lane", "Scheduler": "recorder_scheduler", "NextCoded": "recorder_next_answer",
+                "LaneCoded": "recorder_scheduler_answer", "TurnCoded": "recorder_turn_answer"}
 FFI_NAMES = {"Reflection": "recorder_reflection", "GridPoint": "recorder_grid_point", "Axis": "recorder_axis", "Job": "recorder_job",
              "UnitCell": "recorder_cell", "Answer": "recorder_answer", "FileAnswer": "recorder_file_answer", "Faults": "recorder_faults",
              "WriteAnswer": "recorder_write_answer", "Density": "recorder_density", "FactorValue": "recorder_factor_value",
-             "Power": "recorder_power"}
+             "Power": "recorder_power", "Lane": "recorder_lane", "Scheduler": "recorder_scheduler", "NextAnswer": "recorder_next_answer",
+             "SchedulerAnswer": "recorder_scheduler_answer", "TurnAnswer": "recorder_turn_answer"}
 # A struct that lacks the mark is not found, and so differs.
 LAID_OUT = r"#\[repr\(C\)\]\s*(?:#\[derive\([^)]*\)\]\s*)?"
 NUMBERS = {"u8": "uint8_t", "u32": "uint32_t", "i32": "int32_t", "u64": "uint64_t", "i64": "int64_t", "f32": "float", "usize": "size_t"}
@@ -60,13 +63,14 @@ def c_structs(text):
         for line in filter(str.strip, body.split(";")):
             first, *others = parts(line)
             kind, field = first.rsplit(" ", 1)
-            fields += [(field, kind)] + [(other, kind) for other in others]
+            several = re.fullmatch(r"(\w+)(\[\d+\])", field)
+            fields += [(several[1], kind + several[2]) if several else (field, kind)] + [(other, kind) for other in others]
         found[name] = fields
     return found
 
 
 def c_functions(text):
-    return {name: ([c_type(p) for p in parts(taken)], given)
+    return {name: ([c_type(p) for p in parts(taken) if p != "void"], given)
             for given, name, taken in re.findall(r"^(\w+) (recorder_\w+)\((.*?)\);", text, re.S | re.M)}
 
 
@@ -91,6 +95,9 @@ def named_type(kind, names):
     pointer = re.fullmatch(r"\*(const|mut) (\w+)", kind)
     if pointer:
         return [("const " if pointer[1] == "const" else "") + NUMBERS[pointer[2]] + " *"]
+    several = re.fullmatch(r"\[(\w+); (\d+)\]", kind)
+    if several:
+        return [named_type(several[1], names)[0] + "[%s]" % several[2]]
     return [names.get(kind, "unknown type " + kind)]
 
 
@@ -166,6 +173,10 @@ DAMAGES = [
     (0, "float a, b, c, alpha, beta, gamma;", "float a, b, c, gamma, alpha, beta;"), (1, "pub beta: f32,", "pub beta: u32,"),
     (2, "cell: UnitCell,\n        out", "out"), (0, "const int64_t *b, size_t b_length", "int64_t *b, size_t b_length"),
     (1, "Refusal::UnitCell => 29,", "Refusal::UnitCell => 30,"),
+    (0, "recorder_lane lanes[8];", "recorder_lane lanes[7];"), (1, "pub lanes: [Lane; 8],", "pub lanes: [Job; 8],"), (2, "pub last: u32,", ""),
+    (0, "uint32_t number, lane, finished;", "uint32_t number, finished, lane;"), (1, "Refusal::Capacity => 32,", "Refusal::Capacity => 31,"),
+    (0, "recorder_scheduler recorder_scheduler_new(void);", ""), (2, "pub finished: u32,", "pub finished: u8,"),
+    (0, "const uint32_t *volume, size_t volume_length, uint32_t *scratch", "uint32_t *volume, size_t volume_length, uint32_t *scratch"),
     (2, "pub written: usize", "pub written: u32"), (2, "direction: u32,\n        length: u32,", "direction: u32,"),
 ]
 

@@ -104,6 +104,44 @@ pub struct Power {
     pub power: u32,
 }
 
+/// A lane of a scheduler: the lines of its job that are left, and the job.
+#[repr(C)]
+#[derive(Clone, Copy)]
+pub struct Lane {
+    pub left: u32,
+    pub job: Job,
+}
+
+/// A scheduler, handed in and handed back by value.
+#[repr(C)]
+#[derive(Clone, Copy)]
+pub struct Scheduler {
+    pub lanes: [Lane; 8],
+    pub last: u32,
+}
+
+#[repr(C)]
+pub struct NextAnswer {
+    pub number: u32,
+    pub lane: u32,
+}
+
+#[repr(C)]
+pub struct SchedulerAnswer {
+    pub number: u32,
+    pub scheduler: Scheduler,
+}
+
+/// The lane that a turn served, whether that was its last, 1 or 0, and then the job.
+#[repr(C)]
+pub struct TurnAnswer {
+    pub number: u32,
+    pub lane: u32,
+    pub finished: u32,
+    pub job: Job,
+    pub scheduler: Scheduler,
+}
+
 extern "C" {
     fn recorder_open(
         group: u32,
@@ -215,6 +253,25 @@ extern "C" {
         greatest_at: *mut u64,
         greatest_at_length: usize,
     ) -> WriteAnswer;
+    fn recorder_scheduler_new() -> Scheduler;
+    fn recorder_scheduler_next(scheduler: Scheduler) -> NextAnswer;
+    fn recorder_scheduler_enter(
+        scheduler: Scheduler,
+        lane: u32,
+        job: Job,
+        volume: *const u32,
+        volume_length: usize,
+        scratch: *mut u32,
+        scratch_length: usize,
+    ) -> SchedulerAnswer;
+    fn recorder_scheduler_turn(
+        scheduler: Scheduler,
+        volume: *mut u32,
+        volume_length: usize,
+        scratch: *mut u32,
+        scratch_length: usize,
+    ) -> TurnAnswer;
+    fn recorder_scheduler_withdraw(scheduler: Scheduler, lane: u32) -> SchedulerAnswer;
 }
 
 pub fn open(group: u32, modulus: u32, kind: u32, lengths: [u32; 3], lists: [&[u8]; 3], volume: &mut [u32]) -> Answer {
@@ -355,6 +412,26 @@ pub fn drift(run: &[i64], w: u32, least: &mut [i64], greatest: &mut [i64], least
     }
 }
 
+pub fn new_scheduler() -> Scheduler {
+    unsafe { recorder_scheduler_new() }
+}
+
+pub fn next_lane(scheduler: Scheduler) -> NextAnswer {
+    unsafe { recorder_scheduler_next(scheduler) }
+}
+
+pub fn enter(scheduler: Scheduler, lane: u32, job: Job, volume: &[u32], scratch: &mut [u32]) -> SchedulerAnswer {
+    unsafe { recorder_scheduler_enter(scheduler, lane, job, volume.as_ptr(), volume.len(), scratch.as_mut_ptr(), scratch.len()) }
+}
+
+pub fn turn(scheduler: Scheduler, volume: &mut [u32], scratch: &mut [u32]) -> TurnAnswer {
+    unsafe { recorder_scheduler_turn(scheduler, volume.as_mut_ptr(), volume.len(), scratch.as_mut_ptr(), scratch.len()) }
+}
+
+pub fn withdraw(scheduler: Scheduler, lane: u32) -> SchedulerAnswer {
+    unsafe { recorder_scheduler_withdraw(scheduler, lane) }
+}
+
 #[cfg(test)]
 mod layout {
     use super::*;
@@ -385,6 +462,11 @@ mod layout {
             layout!("recorder_density", Density, number, density),
             layout!("recorder_factor_value", FactorValue, number, a, b),
             layout!("recorder_power", Power, number, power),
+            layout!("recorder_lane", Lane, left, job),
+            layout!("recorder_scheduler", Scheduler, lanes, last),
+            layout!("recorder_next_answer", NextAnswer, number, lane),
+            layout!("recorder_scheduler_answer", SchedulerAnswer, number, scheduler),
+            layout!("recorder_turn_answer", TurnAnswer, number, lane, finished, job, scheduler),
         ]
     }
 

@@ -28,6 +28,15 @@ use Rattle.exported.specs.declared.answers.FactorCoded.{FactorCoded}
 use Rattle.exported.specs.declared.answers.PowerCoded.{PowerCoded}
 use Rattle.exported.specs.Answers.{openingCoded, openCoded, fileAnswerCoded, fileCoded, faultsCoded, recordCoded, workCoded, pointCoded, factorCoded, powerCoded, writingCoded, writeCoded, combineCoded, correlationCoded, lineCoded, windowCoded}
 use Rattle.exported.specs.declared.answers.WriteCoded.{WriteCoded}
+use Rattle.scheduler.specs.declared.LaneAnswered.{LaneAnswered}
+use Rattle.scheduler.specs.declared.NextAnswer.{NextAnswer}
+use Rattle.scheduler.specs.declared.TurnAnswered.{TurnAnswered}
+use Rattle.scheduler.specs.Scheduler as Lanes
+use Rattle.scheduler.specs.Answers.{saidLane, saidNext, saidTurn, laneOutcome, turnOutcome}
+use Rattle.exported.specs.declared.lanes.NextCoded.{NextCoded}
+use Rattle.exported.specs.declared.lanes.LaneCoded.{LaneCoded}
+use Rattle.exported.specs.declared.lanes.TurnCoded.{TurnCoded}
+use Rattle.exported.specs.Lanes.{nextCoded, steppedCoded, laneCoded, enterCoded, turnedCoded, turnCoded}
 use Rattle.cell.specs.declared.operations.UnitCell.{UnitCell}
 use Rattle.mrc.specs.declared.parameters.CellParameters.{CellParameters}
 use Rattle.mrc.specs.Mrc.{mrcStep}
@@ -81,3 +90,18 @@ window-coded a r v o h e = ap (λ r. (r, v)) h ∙ ap windowCoded e
 
 pub line-coded : (r : LineAnswer) (n : ℕ) (l s : List ℕ) (o : LineOutcome) → n ≡ saidLine r → lineOutcome r l s ≡ o → (n, l, s) ≡ lineCoded o
 line-coded r n l s o h e = ap (λ n. (n, l, s)) h ∙ ap lineCoded e
+
+-- ---- the same of a scheduler
+
+pub next-coded : (a : NextAnswer) (r : NextCoded) (s : Lanes.Said) → r ≡ nextCoded (saidNext a) → saidNext a ≡ s → r ≡ nextCoded s
+next-coded a r s h e = h ∙ ap nextCoded e
+
+module _ (a : LaneAnswered) (r : LaneCoded) (h : r ≡ steppedCoded (saidLane (a .answer)) (a .scheduler)) (v s : List ℕ) (o : Lanes.Outcome) (e : laneOutcome a v s ≡ o) where
+  pub lane-coded : r ≡ laneCoded o
+  lane-coded = h ∙ ap laneCoded e
+
+  pub enter-coded : (r, s) ≡ enterCoded o
+  enter-coded = ap (λ r. (r, s)) h ∙ ap enterCoded e
+
+pub turn-coded : (a : TurnAnswered) (r : TurnCoded) (v s : List ℕ) (o : Lanes.Outcome) → r ≡ turnedCoded (saidTurn (a .answer)) (a .scheduler) → turnOutcome a v s ≡ o → (r, v, s) ≡ turnCoded o
+turn-coded a r v s o h e = ap (λ r. (r, v, s)) h ∙ ap turnCoded e

@@ -185,7 +185,7 @@ pub fn filled_coded(answer: FillAnswer) -> WriteCoded
     }
 }
 
-fn no_job() -> Job
+pub fn no_job() -> Job
     ensures { λ r. ⌜ r ≡ noJob ⌝ }
 {
     Job {

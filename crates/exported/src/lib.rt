@@ -1,10 +1,11 @@
-// The recorder for programs in C: each function is a public call of crate line, job, factor_file, faults, combining, section, mrc, correlation or
-// sliding_window under a C name, and include/recorder.h declares it again.
+// The recorder for programs in C: each function is a public call of crate line, job, factor_file, faults, combining, section, mrc, correlation,
+// sliding_window or scheduler under a C name, and include/recorder.h declares it again.
 //
-// A job, an index and a point go in and come back by value; a buffer is a pointer and a length. Every answer has a number: 0, or
+// A job, a scheduler, an index and a point go in and come back by value; a buffer is a pointer and a length. Every answer has a number: 0, or
 // the paper's number of the refusal. What only an accepted call gives is zero in a refused one.
 pub mod answers; // answers.rt: what the calls answer, as numbers
 pub mod cells; // cells.rt: the unit cell of a viewer's file
+pub mod lanes; // lanes.rt: what the calls of a scheduler answer, as numbers
 
 use crate::answers::FactorCoded;
 use crate::answers::FaultsCoded;
@@ -14,12 +15,16 @@ use crate::answers::PointCoded;
 use crate::answers::PowerCoded;
 use crate::answers::WriteCoded;
 use crate::cells::CellCoded;
+use crate::lanes::LaneCoded;
+use crate::lanes::NextCoded;
+use crate::lanes::TurnCoded;
 use cell::operations::UnitCell;
 use factor_file::open_file;
 use job::GridPoint;
 use job::Job;
 use job::Reflection;
 use line::LineAnswer;
+use scheduler::Scheduler;
 ghost use mathlib.Core.Path.{_≡_};
 ghost use Rattle.line.specs.Line.{lineStep};
 ghost use Rattle.line.specs.Answers.{saidLine};
@@ -32,8 +37,10 @@ ghost use Rattle.mrc.specs.Mrc.{mrcStep};
 ghost use Rattle.correlation.specs.Correlation.{headerOf, correlationStep};
 ghost use Rattle.correlation.specs.Answers.{buffers};
 ghost use Rattle.sliding_window.specs.Window.{windowStep};
+ghost use Rattle.scheduler.specs.Scheduler.{newScheduler, nextStep, enterStep, turnStep, withdrawStep};
 ghost use Rattle.exported.specs.Answers.{openCoded, fileCoded, faultsCoded, recordCoded, workCoded, pointCoded, factorCoded, powerCoded, writeCoded, combineCoded, correlationCoded, lineCoded, windowCoded};
 ghost use Rattle.exported.specs.Cells.{parametersOf};
+ghost use Rattle.exported.specs.Lanes.{nextCoded, laneCoded, enterCoded, turnCoded};
 
 // Opens a job. A refused opening gives a job of zeros, which every call refuses.
 #[no_mangle]
@@ -291,4 +298,56 @@ pub extern "C" fn recorder_drift(
         least_at,
         greatest_at,
     ))
+}
+
+// Eight free lanes, of which none was served.
+#[no_mangle]
+pub extern "C" fn recorder_scheduler_new() -> Scheduler
+    ensures { λ r. ⌜ r ≡ newScheduler ⌝ }
+{
+    Scheduler::new()
+}
+
+// The lane that the next turn serves.
+#[no_mangle]
+pub extern "C" fn recorder_scheduler_next(held: Scheduler) -> NextCoded
+    ensures { λ r. ⌜ r ≡ nextCoded (nextStep held) ⌝ }
+{
+    crate::lanes::next_coded(held.next())
+}
+
+// A job enters a lane.
+#[no_mangle]
+pub extern "C" fn recorder_scheduler_enter(
+    held: Scheduler,
+    lane: u32,
+    job: Job,
+    volume: &[u32],
+    scratch: &mut [u32],
+) -> LaneCoded
+    ensures { λ r. ⌜ (r, now (scratch .exit))
+        ≡ enterCoded (enterStep held lane job (now (volume .entry)) (now (scratch .entry))) ⌝ }
+{
+    crate::lanes::lane_coded(held.enter(lane, job, volume, scratch))
+}
+
+// One line of the lane whose turn is next, in the volume of that lane.
+#[no_mangle]
+pub extern "C" fn recorder_scheduler_turn(
+    held: Scheduler,
+    volume: &mut [u32],
+    scratch: &mut [u32],
+) -> TurnCoded
+    ensures { λ r. ⌜ (r, now (volume .exit), now (scratch .exit))
+        ≡ turnCoded (turnStep held (now (volume .entry)) (now (scratch .entry))) ⌝ }
+{
+    crate::lanes::turn_coded(held.turn(volume, scratch))
+}
+
+// A job leaves its lane before it is finished.
+#[no_mangle]
+pub extern "C" fn recorder_scheduler_withdraw(held: Scheduler, lane: u32) -> LaneCoded
+    ensures { λ r. ⌜ r ≡ laneCoded (withdrawStep held lane) ⌝ }
+{
+    crate::lanes::lane_coded(held.withdraw(lane))
 }

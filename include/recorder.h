@@ -25,10 +25,12 @@
 
    Threads and stack. The library keeps no state and asks for no memory: any number of threads may call it at once, each with buffers of its
    own; a volume or a combined map that all of them only read (recorder_point, recorder_factor, recorder_map_power, recorder_factor_power,
-   recorder_write_file, recorder_combine, recorder_section, recorder_mrc, the maps of recorder_correlate) may be shared. By measurement on
-   x86-64 synthesis, analysis and recorder_correlate need less than 120,000 bytes of stack, recorder_line less than 67,000, every other call but
-   one less than 1,000, whatever the grid: give a thread 192 KB or more. The one is recorder_file_faults, which is lent no volume and marks the
-   orbits of a file in an array of 256 KB of its own; it needs less than 263,000: give a thread that calls it 384 KB or more.
+   recorder_write_file, recorder_combine, recorder_section, recorder_mrc, the maps of recorder_correlate, recorder_scheduler_enter) may be
+   shared. Calls on one scheduler are made one after another: it is a value, and each needs what the last one gave. By measurement on
+   x86-64 synthesis, analysis and recorder_correlate need less than 128,000 bytes of stack, recorder_scheduler_turn less than 83,000,
+   recorder_line less than 76,000, the other calls of a scheduler less than 4,000, every other call but one less than 1,000, whatever the
+   grid: give a thread 192 KB or more. The one is recorder_file_faults, which is lent no volume and marks the orbits of a file in an array of
+   256 KB of its own; it needs less than 263,000: give a thread that calls it 384 KB or more.
 
    Lengths N1, N2, N3 are even divisors of 2,880. Groups: 0 P1, 1 P2_1 with axis c, 2 Pm with its mirror across c, 3 Pa with its mirror
    across c and its glide along a, 4 P2_1 2_1 2_1 with the operations (1/2 - x, -y, 1/2 + z), (-x, 1/2 + y, 1/2 - z) and
@@ -325,8 +327,8 @@ recorder_write_answer recorder_drift(const int64_t *run, size_t run_length, uint
      no guarantee covers it until it is opened anew.
    - The volumes of all lanes that run have at most 16,777,216 numbers together. Entering is refused with 32 where they would have more: wait
      until a lane is finished.
-   - A scheduler is a value, and each call needs what the last one gave: calls on one scheduler are made one after another, by one thread at a
-     time. Threads with a scheduler of their own each may call at once. */
+   - Calls on one scheduler are made one after another, by one thread at a time; threads that have each a scheduler of their own may call at
+     once. */
 
 /* Eight free lanes, of which none was served. */
 recorder_scheduler recorder_scheduler_new(void);

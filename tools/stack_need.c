@@ -23,6 +23,7 @@ static uint32_t *map[2], *factors, *work[3], *scratch, line[2 * RECORDER_LONGEST
 static int64_t *combined, *output;
 static uint8_t *file, *room;
 static recorder_job held[2], collected;
+static recorder_scheduler running;
 static unsigned char *stack;
 static uint32_t answer;
 
@@ -109,6 +110,28 @@ static void drift(void)
     answer = recorder_drift(run, RUN, RECORDER_LONGEST_WINDOW, least, RUN, greatest, RUN, least_at, RUN, greatest_at, RUN).number;
 }
 
+static void scheduler_new(void) { answer = recorder_scheduler_new().last; }
+static void scheduler_next(void) { answer = recorder_scheduler_next(running).number; }
+static void scheduler_withdraw(void) { answer = recorder_scheduler_withdraw(running, 1).number; }
+
+static void scheduler_enter(void)
+{
+    answer = recorder_scheduler_enter(recorder_scheduler_new(), 8, collected, factors, numbers, scratch, RECORDER_SCRATCH).number;
+}
+
+/* The first line along l, along h and along k, and the last one: how many lines are left tells which is next. */
+static void scheduler_turn(void)
+{
+    uint32_t pairs = n2 / 2 + 1, planes = (uint32_t)(numbers / (2 * pairs * n1)), along_k = planes * n1, along_h = planes * pairs;
+    uint32_t left[] = { n1 * pairs + along_h + along_k, along_h + along_k, along_k, 1 };
+    memcpy(work[0], factors, numbers * sizeof *factors);
+    for (uint32_t at = 0; at < sizeof left / sizeof *left && answer == RECORDER_ACCEPTED; at++) {
+        recorder_scheduler before = running;
+        before.lanes[0].left = left[at], before.last = at > 0;
+        answer = recorder_scheduler_turn(before, work[0], numbers, scratch, RECORDER_SCRATCH).number;
+    }
+}
+
 /* A line of zeros with each kind, direction and prime; its length is the first that the kind does not refuse. */
 static void one_line(void)
 {
@@ -124,7 +147,8 @@ static const struct { const char *name; void (*call)(void); } calls[] = {
     { "recorder_write_file", write_file }, { "recorder_synthesis", synthesis }, { "recorder_analysis", analysis }, { "recorder_point", point },
     { "recorder_factor", factor }, { "recorder_map_power", map_power }, { "recorder_factor_power", factor_power }, { "recorder_combine", combine },
     { "recorder_section", section }, { "recorder_mrc", mrc }, { "recorder_correlate", correlate }, { "recorder_drift", drift },
-    { "recorder_file_faults", file_faults }
+    { "recorder_file_faults", file_faults }, { "recorder_scheduler_new", scheduler_new }, { "recorder_scheduler_next", scheduler_next },
+    { "recorder_scheduler_enter", scheduler_enter }, { "recorder_scheduler_turn", scheduler_turn }, { "recorder_scheduler_withdraw", scheduler_withdraw }
 };
 
 static void *run(void *call)
@@ -171,6 +195,7 @@ static void prepare(void)
     file_length = recorder_write_file(collected, factors, numbers, file, ROOM).written;
     memcpy(map[0], factors, numbers * sizeof *factors);
     held[0] = recorder_synthesis(collected, map[0], numbers, scratch, RECORDER_SCRATCH).job;
+    running = recorder_scheduler_enter(recorder_scheduler_new(), 1, collected, factors, numbers, scratch, RECORDER_SCRATCH).scheduler;
     held[1] = recorder_synthesis(opened(2, RECORDER_OPEN_COLLECTING, map[1]).job, map[1], numbers, scratch, RECORDER_SCRATCH).job;
 }
 

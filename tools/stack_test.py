@@ -15,10 +15,11 @@ import tempfile
 
 TOP = os.path.dirname(os.path.dirname(os.path.abspath(__file__)))
 # What the comment says, and the calls that its figures are of; None stands for every other call.
-SAID = (r"synthesis, analysis and recorder_correlate need less than ([\d,]+) bytes of stack, recorder_line less than ([\d,]+), every other call but "
-        r"one less than ([\d,]+), whatever the grid: give a thread (\d+) KB or more\. The one is recorder_file_faults, .*? it needs less than "
-        r"([\d,]+): give a thread that calls it (\d+) KB or more\.")
-NAMED = [{"recorder_synthesis", "recorder_analysis", "recorder_correlate"}, {"recorder_line"}, None, {"recorder_file_faults"}]
+SAID = (r"synthesis, analysis and recorder_correlate need less than ([\d,]+) bytes of stack, recorder_scheduler_turn less than ([\d,]+), recorder_line "
+        r"less than ([\d,]+), the other calls of a scheduler less than ([\d,]+), every other call but one less than ([\d,]+), whatever the grid: give a "
+        r"thread (\d+) KB or more\. The one is recorder_file_faults, .*? it needs less than ([\d,]+): give a thread that calls it (\d+) KB or more\.")
+NAMED = [{"recorder_synthesis", "recorder_analysis", "recorder_correlate"}, {"recorder_scheduler_turn"}, {"recorder_line"},
+         {"recorder_scheduler_" + call for call in ("new", "next", "enter", "withdraw")}, None, {"recorder_file_faults"}]
 # For the thread itself and a signal with all registers of the machine.
 BESIDE = 32 * 1024
 
@@ -44,12 +45,12 @@ def main():
     said = re.search(SAID, " ".join(text.split()))
     if not said:
         sys.exit("include/recorder.h does not say the stack as this test reads it")
-    transform, line, other, thread, faults, faults_thread = (int(figure.replace(",", "")) for figure in said.groups())
+    transform, turn, line, scheduler, other, thread, faults, faults_thread = (int(figure.replace(",", "")) for figure in said.groups())
     need = measured(sys.argv[1])
     others = set(need) - set.union(*(names for names in NAMED if names))
     declared = set(re.findall(r"(?m)^\w+ (recorder_\w+)\(", text))
     compared = [("every call is measured", declared == set(need))]
-    for names, figure in zip(NAMED, (transform, line, other, faults)):
+    for names, figure in zip(NAMED, (transform, turn, line, scheduler, other, faults)):
         greatest = max(need[name] for name in names or others)
         compared += [("%s needs %d, the header says less than %d" % (name, need[name], figure), need[name] < figure) for name in names or others]
         compared.append(("the greatest need is %d, the header says less than %d" % (greatest, figure), names is None or figure < 1.1 * greatest))

@@ -1,5 +1,5 @@
-//! Several files one after the other, of which one is held at a time: what becomes of each, in a line as soon as it is done, all of them in a last
-//! line, and one exit status. A file that fails does not stop the others.
+//! Several files: what becomes of each, in a line as soon as it is done, all of them in a last line, and one exit status. A file that fails does not
+//! stop the others. Most commands take them one after the other, and hold one at a time.
 use crate::failure::{shown, Failure, UNWRITTEN};
 use crate::json::Object;
 use crate::known::Known;
@@ -17,6 +17,9 @@ pub enum End {
     Refused,
     Unread,
     Unwritten,
+    /// A signal came while it was in its lane, or before it entered one.
+    Withdrawn,
+    NotEntered,
 }
 
 /// What work on a file gives: how it ended, and the result in words.
@@ -41,25 +44,12 @@ impl Report<'_> {
     }
 
     pub fn end(&self) -> End {
-        match &self.result {
-            Ok((end, _)) => *end,
-            Err(failure) => end_of(failure),
-        }
+        end(&self.result)
     }
 
-    /// Name, what is known, result and seconds.
+    /// What became of the file, and the seconds.
     pub fn line(&self) -> String {
-        let name = if self.name == "-" { shown(self.name) } else { one_line::escaped(self.name) };
-        let known = self.known.as_ref().map_or(String::new(), |known| known.described() + ", ");
-        let result = match &self.result {
-            Ok((_, said)) => said.clone(),
-            Err(Failure::Refused(refusal)) => refusal.line(),
-            Err(failure) => {
-                let (what, why, _) = failure.apart();
-                format!("{what}: {why}")
-            }
-        };
-        format!("{name}: {known}{result}, {:.3} s\n", self.seconds)
+        format!("{}, {:.3} s\n", said(self.name, self.known.as_ref(), &self.result), self.seconds)
     }
 
     /// The same as a JSON object, with what is told of a known file besides.
@@ -95,6 +85,29 @@ impl Report<'_> {
     }
 }
 
+/// How the work on a file ended.
+pub fn end(result: &Outcome) -> End {
+    match result {
+        Ok((end, _)) => *end,
+        Err(failure) => end_of(failure),
+    }
+}
+
+/// What became of a file: name, what is known, and result.
+pub fn said(name: &OsStr, known: Option<&Known>, result: &Outcome) -> String {
+    let name = if name == "-" { shown(name) } else { one_line::escaped(name) };
+    let known = known.map_or(String::new(), |known| known.described() + ", ");
+    let result = match result {
+        Ok((_, said)) => said.clone(),
+        Err(Failure::Refused(refusal)) => refusal.line(),
+        Err(failure) => {
+            let (what, why, _) = failure.apart();
+            format!("{what}: {why}")
+        }
+    };
+    format!("{name}: {known}{result}")
+}
+
 /// How a failure ends the work on a file.
 pub fn end_of(failure: &Failure) -> End {
     match failure {
@@ -106,7 +119,7 @@ pub fn end_of(failure: &Failure) -> End {
 
 /// How many files ended in each way.
 #[derive(Default)]
-pub struct Ends([usize; 5]);
+pub struct Ends([usize; 7]);
 
 impl Ends {
     fn of(&self, end: End) -> usize {
@@ -125,43 +138,71 @@ impl Ends {
     }
 
     /// The last line, with a command's words for the ends that its work can have.
-    fn summed(&self, words: &[(End, &str)], since: Instant) -> String {
+    fn summed(&self, words: &[(End, &str)]) -> String {
         let files: usize = self.0.iter().sum();
         let counts: Vec<String> = words.iter().map(|(end, word)| format!("{} {word}", self.of(*end))).collect();
-        format!("{files} file{}: {}, {:.2} s\n", if files == 1 { "" } else { "s" }, counts.join(", "), since.elapsed().as_secs_f64())
+        format!("{files} file{}: {}", if files == 1 { "" } else { "s" }, counts.join(", "))
     }
 }
 
-/// Does the work on each file in turn, and prints the line that it gives in one piece. Where nobody reads the lines any more the rest is left, but
-/// work that writes files is done: they are what is wanted.
-pub fn each(names: &[OsString], writes: bool, mut work: impl FnMut(&OsStr) -> (End, String)) -> Result<Ends, Failure> {
+/// The lines of files as they are done, each printed in one piece, and how the files ended.
+pub struct Account {
+    pub ends: Ends,
+    read: bool,
+}
+
+impl Account {
+    pub fn new() -> Account {
+        Account { ends: Ends::default(), read: true }
+    }
+
+    /// Files that no line is printed of.
+    pub fn count(&mut self, end: End, files: usize) {
+        self.ends.0[end as usize] += files;
+    }
+
+    /// Says whether anybody reads the lines.
+    pub fn tell(&mut self, end: End, line: &str) -> Result<bool, Failure> {
+        self.count(end, 1);
+        match if self.read { output::print(line) } else { Ok(()) } {
+            Err(Failure::Closed) => self.read = false,
+            printed => printed?,
+        }
+        Ok(self.read)
+    }
+
+    /// Prints the last line, with what else it is to have.
+    pub fn close(&self, words: &[(End, &str)], more: &str) -> Result<(), Failure> {
+        output::print_even_unread(&format!("{}{more}\n", self.ends.summed(words)))?;
+        self.ends.status()
+    }
+}
+
+/// Does the work on each file in turn, and prints the line that it gives. Where nobody reads the lines any more the rest is left, but work that
+/// writes files is done: they are what is wanted.
+pub fn each(names: &[OsString], writes: bool, mut work: impl FnMut(&OsStr) -> (End, String)) -> Result<Account, Failure> {
     if names.iter().filter(|name| *name == "-").count() > 1 {
         return Err(Failure::Usage("standard input can be one of several files, not more".into()));
     }
-    let mut ends = Ends::default();
-    let mut read = true;
+    let mut account = Account::new();
     for name in names {
         let (end, line) = work(name);
-        ends.0[end as usize] += 1;
-        match if read { output::print(&line) } else { Ok(()) } {
-            Err(Failure::Closed) if writes => read = false,
-            Err(Failure::Closed) => break,
-            printed => printed?,
+        if !account.tell(end, &line)? && !writes {
+            break;
         }
     }
-    Ok(ends)
+    Ok(account)
 }
 
 /// A line for each file, and one for all.
 pub fn lines(names: &[OsString], words: &[(End, &str)], mut work: impl FnMut(&OsStr, &mut Option<Known>) -> Outcome) -> Result<(), Failure> {
     let since = Instant::now();
     let writes = words.iter().any(|(end, _)| *end == End::Unwritten);
-    let ends = each(names, writes, |name| {
+    let account = each(names, writes, |name| {
         let report = Report::of(name, |known| work(name, known));
         (report.end(), report.line())
     })?;
-    output::print_even_unread(&ends.summed(words, since))?;
-    ends.status()
+    account.close(words, &format!(", {:.2} s", since.elapsed().as_secs_f64()))
 }
 
 /// A JSON object for each file, with a word for those that are done.
@@ -171,9 +212,9 @@ pub fn objects(
     more: fn(&Known, &mut Object),
     mut work: impl FnMut(&OsStr, &mut Option<Known>) -> Outcome,
 ) -> Result<(), Failure> {
-    let ends = each(names, false, |name| {
+    let account = each(names, false, |name| {
         let report = Report::of(name, |known| work(name, known));
         (report.end(), report.object(done, more))
     })?;
-    ends.status()
+    account.ends.status()
 }

@@ -103,6 +103,11 @@ impl Failure {
         Failure::trouble(UNREAD, name, &"a combined map file has no records and no factors", "name a file that it was combined from")
     }
 
+    /// Of a map file among several files, where only factors have something for the command.
+    pub fn map(name: &OsStr) -> Failure {
+        Failure::trouble(UNREAD, name, &"a map file has no factors to synthesise", "name a factor file; recorder map --to takes a map file as it is")
+    }
+
     /// Of a folder, a pipe or a device, where the bytes must be there to be read again.
     pub fn irregular(name: &OsStr) -> Failure {
         Failure::trouble(UNREAD, name, &"it is not a regular file", "name a file")

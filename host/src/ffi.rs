@@ -264,13 +264,7 @@ extern "C" {
         scratch: *mut u32,
         scratch_length: usize,
     ) -> SchedulerAnswer;
-    fn recorder_scheduler_turn(
-        scheduler: Scheduler,
-        volume: *mut u32,
-        volume_length: usize,
-        scratch: *mut u32,
-        scratch_length: usize,
-    ) -> TurnAnswer;
+    fn recorder_scheduler_turn(scheduler: Scheduler, volume: *mut u32, volume_length: usize, scratch: *mut u32, scratch_length: usize) -> TurnAnswer;
     fn recorder_scheduler_withdraw(scheduler: Scheduler, lane: u32) -> SchedulerAnswer;
 }
 

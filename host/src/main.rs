@@ -24,6 +24,7 @@ mod indices;
 mod input;
 mod json;
 mod known;
+mod lanes;
 mod man;
 mod map_file;
 mod memory;

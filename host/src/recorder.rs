@@ -5,7 +5,7 @@
 use crate::axes::Axis;
 use crate::factor_file;
 use crate::failure::Failure;
-use crate::ffi::{self, Answer, GridPoint, Job, Reflection};
+use crate::ffi::{self, Answer, GridPoint, Job, Reflection, Scheduler, SchedulerAnswer, TurnAnswer};
 use crate::header::{Cell, Header};
 use crate::indices::{self, Index, REFLECTION};
 use crate::memory::zeros;
@@ -116,6 +116,25 @@ impl Recorder {
         }
         let answer = ffi::analysis(self.job, &mut self.volume, &mut self.scratch);
         self.keep(answer)
+    }
+
+    /// Enters a lane of a scheduler. From then on the job is in its lane: the one kept here is not used until the lane is finished.
+    pub fn enter(&mut self, scheduler: Scheduler, lane: u32) -> SchedulerAnswer {
+        ffi::enter(scheduler, lane, self.job, &self.volume, &mut self.scratch)
+    }
+
+    /// A turn of a scheduler whose next lane is this one's; the turn that finishes it gives the job, map held.
+    pub fn turn(&mut self, scheduler: Scheduler) -> TurnAnswer {
+        let answer = ffi::turn(scheduler, &mut self.volume, &mut self.scratch);
+        if answer.finished == 1 {
+            self.job = answer.job;
+        }
+        answer
+    }
+
+    /// The job alone, of a file that is to be read again: a call that needs the volume refuses it with 6.
+    pub fn without_volume(self) -> Recorder {
+        Recorder { volume: Vec::new(), ..self }
     }
 
     fn keep(&mut self, answer: Answer) -> Result<(), Refusal> {

@@ -100,6 +100,8 @@ pub const DIFFERENT_CELLS: u32 = 27;
 pub const MAGNITUDE: u32 = 28;
 pub const UNIT_CELL: u32 = 29;
 pub const FLOAT_RANGE: u32 = 30;
+/// The lanes of a scheduler have no room for a job: the tool waits then.
+pub const CAPACITY: u32 = 32;
 
 /// What a refusal's number says, and what to do.
 fn words(number: u32) -> (&'static str, &'static str) {
@@ -139,7 +141,7 @@ fn words(number: u32) -> (&'static str, &'static str) {
         22 => ("no map is held", SHOULD_NOT_BE),
         23 => ("no factors are held", SHOULD_NOT_BE),
         24 => ("an earlier record names this reflection or one of its images", "leave one of the two records out"),
-        25 => ("no call could have made this job", SHOULD_NOT_BE),
+        25 => ("no call could have made this job, or these lanes", SHOULD_NOT_BE),
         26 => ("the modulus is not 1 or 2", "use 1 for the prime 86,399, 2 for 302,399"),
         27 => (
             "the two maps are not of one cell, the first modulo 86,399 and the second modulo 302,399",
@@ -154,6 +156,9 @@ fn words(number: u32) -> (&'static str, &'static str) {
             "give --cell a,b,c,alpha,beta,gamma for P1 and a,b,c,gamma for any other group, gamma 90 for P2_1 2_1 2_1",
         ),
         30 => ("a number's magnitude is above 16,777,215", "write a map of smaller numbers: a 32-bit float holds no larger ones exactly"),
+        31 => ("the lane is not 1 to 8, or is busy", SHOULD_NOT_BE),
+        32 => ("the volumes of all lanes would have more than 16,777,216 numbers", SHOULD_NOT_BE),
+        33 => ("nothing runs in the lane", SHOULD_NOT_BE),
         34 => ("the window is not of 1 to 64 entries", "give W from 1 to 64"),
         _ => ("the number is not known to this tool", SHOULD_NOT_BE),
     }

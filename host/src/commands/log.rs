@@ -40,14 +40,14 @@ fn run(given: &Given) -> Result<(), Failure> {
     if let Some(input) = given.words.iter().find(|name| output::is_input(None, name)) {
         return Err(Failure::Usage(format!("{} is a file to read and the log to write; name another log", shown(input))));
     }
-    let ends = batch::each(&given.words, false, |name| {
+    let account = batch::each(&given.words, false, |name| {
         line(name, &clock).unwrap_or_else(|failure| {
             let end = batch::end_of(&failure);
             let _ = io::stderr().write_all(failure.of(shown(name)).said().as_bytes());
             (end, String::new())
         })
     })?;
-    ends.status()
+    account.ends.status()
 }
 
 /// How a file ended, and its line.

@@ -1,4 +1,4 @@
-//! `recorder map --to`: the maps of several files, each written to a file of its own in a folder.
+//! `recorder map --to`: the maps of several files, each written to a file of its own in a folder, as `recorder lanes` does too.
 use crate::arguments::{Given, Switch, OUTPUT};
 use crate::batch::{self, End, Outcome};
 use crate::combined_map;
@@ -19,21 +19,32 @@ use std::path::{Path, PathBuf};
 pub const TO: Switch = Switch { name: "--to", value: "the name of a folder", brief: "write the map of each file to NAME.map in this folder" };
 /// What else map can be asked for, of one file.
 const OF_ONE: [&str; 4] = [planes::PLANE.name, planes::WHOLE_CELL.name, OUTPUT.name, "--times"];
-const WORDS: [(End, &str); 4] = [(End::Done, "written"), (End::Refused, "refused"), (End::Unread, "unread"), (End::Unwritten, "unwritten")];
+pub const WORDS: [(End, &str); 4] = [(End::Done, "written"), (End::Refused, "refused"), (End::Unread, "unread"), (End::Unwritten, "unwritten")];
 
 /// The files to write are known, and the folder is there, before anything is read.
 pub fn run(given: &Given) -> Result<(), Failure> {
-    let folder = given.value(TO.name).ok_or_else(|| Failure::Usage("map of several files needs --to and the name of a folder".into()))?;
+    let folder = folder("map of several files", given)?;
     if let Some(other) = OF_ONE.iter().find(|other| given.flag(other)) {
         return Err(Failure::Usage(format!("--to and {other} do not go together; --to writes the map file of each, and says how long it took")));
     }
-    let targets = targets(Path::new(folder), &given.words)?;
+    let targets = prepared(folder, &given.words)?;
+    let mut next = targets.iter();
+    batch::lines(&given.words, &WORDS, |name, known| written(name, next.next().expect("each file has a target"), known))
+}
+
+/// The folder to write to.
+pub fn folder<'a>(what: &str, given: &'a Given) -> Result<&'a OsStr, Failure> {
+    given.value(TO.name).ok_or_else(|| Failure::Usage(format!("{what} needs --to and the name of a folder")))
+}
+
+/// The file to write for each that is read, and the folder made.
+pub fn prepared(folder: &OsStr, names: &[OsString]) -> Result<Vec<PathBuf>, Failure> {
+    let targets = targets(Path::new(folder), names)?;
     match fs::create_dir(folder) {
         Err(_) if Path::new(folder).is_dir() => {}
         made => made.map_err(|error| Failure::unwritten(folder, &error))?,
     }
-    let mut next = targets.iter();
-    batch::lines(&given.words, &WORDS, |name, known| written(name, next.next().expect("each file has a target"), known))
+    Ok(targets)
 }
 
 /// The file to write for each that is read: no two the same, and none of those that are read, whatever their names.
@@ -80,12 +91,17 @@ fn written(name: &OsStr, to: &Path, known: &mut Option<Known>) -> Outcome {
         Held::Job(recorder) => Held::Job(steps::with_map(recorder)?),
         combined => combined,
     };
+    Ok((End::Done, write(&held, to)?))
+}
+
+/// Writes a map, and says where.
+pub fn write(held: &Held, to: &Path) -> Result<String, Failure> {
     let target = output::open(Some(to.as_os_str()))?;
     during("writing", |told| {
-        target.write(|mut out| match &held {
+        target.write(|mut out| match held {
             Held::Job(recorder) => map_file::write(recorder, &mut out, told),
             Held::Combined(map) => combined_map::write(&map.cell, map.rows(), &mut out, told),
         })
     })?;
-    Ok((End::Done, format!("written to {}", one_line::escaped(to.as_os_str()))))
+    Ok(format!("written to {}", one_line::escaped(to.as_os_str())))
 }

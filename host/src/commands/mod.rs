@@ -9,6 +9,7 @@ mod factors;
 mod faults;
 mod help;
 mod info;
+mod lanes;
 mod line;
 mod log;
 mod map;
@@ -51,7 +52,7 @@ pub struct Command {
 pub const COMMANDS: [(&str, &[&Command]); 6] = [
     ("Files", &[&check::COMMAND, &faults::COMMAND, &info::COMMAND, &compare::COMMAND, &log::COMMAND]),
     ("Factor files from text, and as text", &[&pack::COMMAND, &records::COMMAND, &rewrite::COMMAND]),
-    ("Maps and factors", &[&map::COMMAND, &factors::COMMAND, &point::COMMAND, &factor::COMMAND, &stats::COMMAND, &power::COMMAND]),
+    ("Maps and factors", &[&map::COMMAND, &lanes::COMMAND, &factors::COMMAND, &point::COMMAND, &factor::COMMAND, &stats::COMMAND, &power::COMMAND]),
     ("A look at a map", &[&section::COMMAND, &picture::COMMAND, &mrc::COMMAND]),
     ("Two maps, and a crystal over time", &[&combine::COMMAND, &overlay::COMMAND, &best::COMMAND, &drift::COMMAND]),
     ("One line, and the tool itself", &[&line::COMMAND, &help::COMMAND]),

@@ -1,29 +1,33 @@
 #!/usr/bin/env python3
-"""The test of the examples: builds map_of_file.c as a stranger would, and runs it and map_of_file.py on factor files.
+"""The test of the examples: builds map_of_file.c and eight_lanes.c as a stranger would, and runs them and map_of_file.py on factor files.
 
     examples_test.py PREFIX_OR_BUILD
 
 With a prefix that bin/install has filled, C is compiled by what pkg-config says, without a warning as C99: with the shared library, with -static,
-and with the archive that the file names; and the commands of examples/README.md are run as they stand. On a machine without pkg-config the program
-is linked with the archive alone, and the last line says so. With the repository's top folder, once the library is built, C is compiled with
+and with the archive that the file names; and the commands of examples/README.md are run as they stand. On a machine without pkg-config the programs
+are linked with the archive alone, and the last line says so. With the repository's top folder, once the library is built, C is compiled with
 include/ and the archive, and a shared library is made of that. The files are the samples and the printer test's: all five groups, both primes and
 both versions, sound, cut at every length, changed at every byte, refused in header and records; then files that are not there or cannot be read.
-What must be printed is computed by brute_force.py: triple sums, sums over whole cells, orbits enumerated. Prints how many comparisons agreed; the
-exit status is 1 where one did not.
+What must be printed is computed by brute_force.py: triple sums, sums over whole cells, orbits enumerated. The lanes of many files, more than there are
+lanes and two that have no room together, are those of lanes_test.py. Prints how many comparisons agreed; the exit status is 1 where one did not.
 """
 import glob
 import os
+import random
 import re
 import shutil
 import subprocess
 import sys
 import tempfile
 
-from brute_force import file_faults, lengths_in, needed, open_file, product, signed
+from brute_force import PRIMES, file_faults, lengths_in, needed, open_file, product, signed
+from lanes_test import Empty, Lanes
+from many_test import Case
 from printer_test import files
 
 TOP = os.path.dirname(os.path.dirname(os.path.abspath(__file__)))
-SOURCE, SCRIPT = (os.path.join(TOP, "examples", name) for name in ("map_of_file.c", "map_of_file.py"))
+SCRIPT = os.path.join(TOP, "examples/map_of_file.py")
+SEED = 2026
 STRICT = ["-std=c99", "-Wall", "-Wextra", "-pedantic", "-Werror", "-O2"]
 # Triple sums over more points take too long: a larger cell is tried where it is refused.
 MOST_POINTS = 24 ** 3
@@ -58,35 +62,37 @@ def must(command, **more):
     return out.split()
 
 
-def programs_of_prefix(prefix, folder):
-    """The program linked in three ways by pkg-config, and where the shared library is."""
+def built(example, ways, folder):
+    """The program of an example, linked in each way."""
+    made = {}
+    for way, flags in ways.items():
+        made[way] = os.path.join(folder, "%s %s" % (example, way))
+        must(["gcc", *STRICT, "-o", made[way], os.path.join(TOP, "examples", example + ".c"), *flags])
+    return made
+
+
+def ways_of_prefix(prefix, _):
+    """Three ways of linking by pkg-config, and where the shared library is."""
     libraries = os.path.join(prefix, "lib")
     found = {**os.environ, "PKG_CONFIG_PATH": os.path.join(libraries, "pkgconfig")}
     header = must(["pkg-config", "--cflags", "recorder"], env=found)
     shared = must(["pkg-config", "--libs", "recorder"], env=found)
     static = ["-static"] + must(["pkg-config", "--static", "--libs", "recorder"], env=found)
     archive = must(["pkg-config", "--variable=archive", "recorder"], env=found)
-    made = {}
-    for name, linked in (("shared", shared), ("static", static), ("archive", archive)):
-        made[name] = os.path.join(folder, name)
-        must(["gcc", *STRICT, "-o", made[name], SOURCE, *header, *linked])
-    return made, libraries
+    return {"shared": header + shared, "static": header + static, "archive": header + archive}, libraries
 
 
-def programs_of_archive(prefix, folder):
-    """The program with the archive of a prefix, where no pkg-config can be asked."""
-    made, libraries = os.path.join(folder, "archive"), os.path.join(prefix, "lib")
-    must(["gcc", *STRICT, "-I" + os.path.join(prefix, "include"), "-o", made, SOURCE, os.path.join(libraries, "librecorder.a")])
-    return {"archive": made}, libraries
+def ways_of_archive(prefix, _):
+    """With the archive of a prefix, where no pkg-config can be asked."""
+    libraries = os.path.join(prefix, "lib")
+    return {"archive": ["-I" + os.path.join(prefix, "include"), os.path.join(libraries, "librecorder.a")]}, libraries
 
 
-def programs_of_build(top, folder):
-    """The program with the archive of a build, and a shared library made of it."""
+def ways_of_build(top, folder):
+    """With the archive of a build, and a shared library made of it."""
     archive = os.path.join(top, "target/staticlib/libexported.a")
-    made = os.path.join(folder, "archive")
-    must(["gcc", *STRICT, "-I" + os.path.join(top, "include"), "-o", made, SOURCE, archive])
     must(["gcc", "-shared", "-o", os.path.join(folder, "librecorder.so.2"), "-Wl,--whole-archive", archive, "-Wl,--no-whole-archive"])
-    return {"archive": made}, folder
+    return {"archive": ["-I" + os.path.join(top, "include"), archive]}, folder
 
 
 def powers(book):
@@ -121,12 +127,13 @@ def readme_runs(prefix, folder, compared):
         os.symlink(os.path.join(TOP, name), os.path.join(folder, name))
     with open(os.path.join(TOP, "examples/README.md"), encoding="utf-8") as text:
         blocks = [re.sub("(?m)^    ", "", block) for block in re.findall("(?m)(?:^    .*\n)+", text.read())]
-    shown = [block for block in blocks if block.startswith("group ")]
-    commands = [block for block in blocks if "PREFIX" in block]
-    compared.expect("the blocks of examples/README.md", (len(shown), len(commands)), (1, 3))
-    for block in commands:
-        done = ended(["sh", "-e", "-c", block], cwd=folder, env={**os.environ, "PREFIX": prefix})
-        compared.expect("commands of examples/README.md", done, (0, shown[0], ""))
+    for example, opening, count in (("map_of_file", "group ", 3), ("eight_lanes", "lane ", 1)):
+        shown = [block for block in blocks if block.startswith(opening)]
+        commands = [block for block in blocks if "PREFIX" in block and example in block]
+        compared.expect("the blocks of examples/README.md for " + example, (len(shown), len(commands)), (1, count))
+        for block in commands:
+            done = ended(["sh", "-e", "-c", block], cwd=folder, env={**os.environ, "PREFIX": prefix})
+            compared.expect("commands of examples/README.md", done, (0, shown[0], ""))
 
 
 def runs(given, programs, libraries, folder, compared):
@@ -154,6 +161,48 @@ def runs(given, programs, libraries, folder, compared):
             compared.expect("a wrong command line", ended(program + words, env=found), (2, "", "usage: map_of_file FILE\n"))
 
 
+class Folder:
+    """Files by their names, as those of a tool under test."""
+
+    def __init__(self, folder):
+        self.folder = folder
+
+    def file(self, name, contents):
+        path = os.path.join(self.folder, name)
+        with open(path, "wb") as out:
+            out.write(contents)
+        return path
+
+
+def in_lanes(found):
+    """The lines of files that run in lanes."""
+    said = ""
+    for case, *counts in Lanes(found, "").finished:
+        density, power = 0, 0
+        if not isinstance(case, Empty):
+            density, power = signed(case.M[0, 0, 0], PRIMES[case.known.modulus]), case.powers()[0]
+        said += "lane %d: %s: %d turns of at most %d, density at (0, 0, 0): %d, power of the map: %d\n" % (
+            counts[0], case.path, *counts[1:], density, power)
+    return said
+
+
+def lanes(given, programs, libraries, folder, compared):
+    """Lists of files in the lanes; a refused file among them; two that have no room together; what is no file."""
+    rng, found, there = random.Random(SEED), {**os.environ, "LD_LIBRARY_PATH": libraries}, Folder(folder)
+    samples = [Case(name, file) for name, file in given]
+    small = [file for file in files() if not sound_and_large(file)]
+    cases = [Case(there.file("small %d" % place, file), file) for place, file in enumerate(small) if not open_file(file, needed(file))[0]]
+    refused = there.file("refused", next(file for file in small if file_faults(file)))
+    large = [Empty(there, "large %d" % place, 0, (240, 240, 240), [[4, 5, 3, 2]] * 3) for place in range(2)]
+    for way, program in programs.items():
+        for part in (samples, samples * 3, large, *[rng.choices(cases, k=count) for count in (1, 7, 8, 9, 20)]):
+            compared.expect("lanes, %s" % way, ended([program, *[case.path for case in part]], env=found), (0, in_lanes(part), ""))
+        want = expected(refused, open(refused, "rb").read())
+        compared.expect("lanes and a refused file", ended([program, *[case.path for case in samples], refused], env=found), want)
+        compared.expect("lanes of nothing", ended([program], env=found), (2, "", "usage: eight_lanes FILE..\n"))
+        compared.expect("lanes of no file", ended([program, "no/such"], env=found), (2, "", "no/such: No such file or directory\n"))
+
+
 def main():
     if len(sys.argv) != 2:
         sys.exit("usage: examples_test.py PREFIX_OR_BUILD")
@@ -164,8 +213,9 @@ def main():
         with open(name, "rb") as file:
             samples.append((name, file.read()))
     with tempfile.TemporaryDirectory() as folder:
-        make = programs_of_build if not installed else programs_of_prefix if asked else programs_of_archive
-        runs(samples, *make(where, folder), folder, compared)
+        ways, libraries = (ways_of_build if not installed else ways_of_prefix if asked else ways_of_archive)(where, folder)
+        runs(samples, built("map_of_file", ways, folder), libraries, folder, compared)
+        lanes(samples, built("eight_lanes", ways, folder), libraries, folder, compared)
         if installed and asked:
             readme_runs(where, folder, compared)
     without = "" if asked or not installed else "; without pkg-config, which this machine does not have"

@@ -75,10 +75,11 @@ def described(case):
 
 
 class Lanes:
-    """What is printed of a list of files, in its order: how each ends, and its line."""
+    """What becomes of a list of files: the lane of each that is finished, its turns and the most that there can be; and what is printed, how each
+    ends and its line."""
 
     def __init__(self, found, folder):
-        self.rest, self.waiting, self.folder, self.told = list(found), [], folder, []
+        self.rest, self.waiting, self.folder, self.finished, self.told = list(found), [], folder, [], []
         self.lanes, self.last, self.turns = [None] * LANES, 0, 0
         self.fill()
         while any(self.lanes):
@@ -114,8 +115,9 @@ class Lanes:
             self.lanes[at] = None
             case, _, before = lane
             to = escaped(os.path.join(self.folder, target(case)))
-            most = 8 * lines_of(*cell_of(case))
-            self.tell(case, "written", b"lane %d, %d turns of at most %d, written to %s" % (at + 1, self.turns - before, most, to))
+            counts = (at + 1, self.turns - before, 8 * lines_of(*cell_of(case)))
+            self.finished.append((case, *counts))
+            self.tell(case, "written", b"lane %d, %d turns of at most %d, written to %s" % (*counts, to))
             self.fill()
 
     def tell(self, case, end, said):
@@ -177,10 +179,9 @@ def equal(tool, sound):
     for count in (1, 8, 11):
         part = [Case(tool.file("equals/%d %d.x" % (count, place), case.contents), case.contents) for place in range(count)]
         run(tool, "%d equal files" % count, part, tool.path("equal %d" % count))
-        turns = re.findall(rb"lane ([1-8]), (\d+) turns of at most (\d+)", b"".join(line for _, line in Lanes(part, "x").told))
-        want = {1: [(1, n)], 8: [(lane, 8 * n - 8 + lane) for lane in range(1, 9)]}.get(count)
-        if want:
-            tool.expect("%d equal files: their turns" % count, turns, [(b"%d" % lane, b"%d" % turn, b"%d" % (8 * n)) for lane, turn in want])
+        turns = [counts for _, *counts in Lanes(part, "x").finished]
+        want = {1: [[1, n, 8 * n]], 8: [[lane, 8 * n - 8 + lane, 8 * n] for lane in range(1, 9)]}
+        tool.expect("%d equal files: their turns" % count, turns, want.get(count, turns))
 
 
 # ---- cells that have to wait

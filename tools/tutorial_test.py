@@ -5,27 +5,29 @@
 
 A block of the page that opens with ```text NAME is a file to be typed; one that opens with ```console has commands behind a $ and under each what it
 prints, on standard output and standard error, to the letter but for blanks at the ends of lines; three dots as the last line stand for more. There
-are no other blocks, there are ten commands, and each is one of the program's and ends with status 0. Then the files that the commands have made:
-factor files and picture are the stored samples, byte for byte, so the picture on README's first screen is what the program writes; the combined map
-and the file for viewers are those of brute_force.py. Prints how many comparisons agreed; the exit status is 1 where one did not.
+are no other blocks, there are twelve commands, and each is one of the program's and ends with status 0. Then the files that the commands have made:
+factor files and picture are the stored samples, byte for byte, so the picture on README's first screen is what the program writes; the combined map,
+the file for viewers and the maps in the folder are those of brute_force.py. Prints how many comparisons agreed; the exit status is 1 where one did not.
 """
 import os
 import re
 import subprocess
 
-from brute_force import needed, open_file, pack_map, signed
-from expected_files import combined_bytes
+from brute_force import file_bytes, needed, open_file, pack_map, signed
+from expected_files import combined_bytes, map_bytes
 from mrc_cases import bits, mrc_file
 from samples import combined
 from tool import tested
 
 TOP = os.path.dirname(os.path.dirname(os.path.abspath(__file__)))
-COMMANDS = 10
+COMMANDS = 12
 # What stands in the folder in the end, and the sample that it is equal to.
 MADE = {"p21.text": None, "p21.factors": "p21.factors", "p21.png": "p21.section.png", "p21.mrc": None, "p21.second.text": None,
-        "p21.second.factors": "p21.second.factors", "p21.combined": None}
+        "p21.second.factors": "p21.second.factors", "p21.combined": None, "large.text": None, "large.factors": None, "maps": None}
 # The unit cell that the tutorial names: its edges, two angles that the group has for itself, and gamma.
 UNIT_CELL = (30, 40, 30, 90, 90, 90)
+# The large entry, with the lists that pack chooses.
+LARGE = file_bytes(0, (60, 60, 60), [[5, 3, 2]] * 3, [(1, 2, 3, 4, 5)])
 
 
 def contents(*names):
@@ -95,13 +97,17 @@ def run_page(tool, page):
 def compare_files(tool, folder):
     """The files that the commands have made."""
     tool.expect("the files in the folder", sorted(os.listdir(folder)), sorted(MADE))
-    made = {name: contents(folder, name) for name in MADE if os.path.exists(os.path.join(folder, name))}
+    made = {name: contents(folder, name) for name in MADE if os.path.isfile(os.path.join(folder, name))}
     for name, sample in MADE.items():
         if sample:
             tool.expect("%s and samples/%s" % (name, sample), made.get(name), contents(TOP, "samples", sample))
     first, second = (open_file(file, needed(file))[2] for file in (contents(TOP, "samples", name) for name in ("p21.factors", "p21.second.factors")))
     M, N = first.densities(), second.densities()
     tool.expect("p21.combined", made.get("p21.combined"), combined_bytes(first.g, first.n, {q: combined(M[q], N[q]) for q in M}))
+    tool.expect("large.factors", made.get("large.factors"), LARGE)
+    books = {"p21.map": first, "p21.second.map": second, "large.map": open_file(LARGE, needed(LARGE))[2]}
+    maps = {name: map_bytes(book.g, book.n, book.lists, book.densities(), book.modulus) for name, book in books.items()}
+    tool.expect("the maps", {name: contents(folder, "maps", name) for name in os.listdir(os.path.join(folder, "maps"))}, maps)
     volume = pack_map(first.g, first.n, {q: signed(x) for q, x in M.items()})
     tool.expect("p21.mrc", made.get("p21.mrc"), mrc_file(first.g, first.n, volume, 1, [bits(x) for x in UNIT_CELL]))
 

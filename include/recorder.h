@@ -305,17 +305,18 @@ recorder_write_answer recorder_drift(const int64_t *run, size_t run_length, uint
 
        recorder_scheduler s = recorder_scheduler_new();
        recorder_scheduler_answer e = recorder_scheduler_enter(s, lane, job, volumes[lane], lengths[lane], scratch, RECORDER_SCRATCH);
-       if (e.number == 0) s = e.scheduler;                            (the job is in its lane; its copy is not used any more)
+       s = e.scheduler;                                        (if e.number is 0: else it is as it was, and the job has not entered)
        while ((next = recorder_scheduler_next(s)).number == 0 && next.lane != 0) {
            t = recorder_scheduler_turn(s, volumes[next.lane], lengths[next.lane], scratch, RECORDER_SCRATCH);
+           if (t.number != 0) break;                           (what was lent is not what is asked for: nothing has changed)
            s = t.scheduler;
-           if (t.finished) maps[t.lane] = t.job;                                      (volumes[t.lane] is its map; lane t.lane is free)
+           if (t.finished) maps[t.lane] = t.job;               (volumes[t.lane] is its map, and the lane is free)
        }
 
-   The caller keeps the scheduler, which is a value of 324 bytes, and a volume for each job that runs; the scheduler has no pointer to either.
-   What follows holds where every call is handed the scheduler that the last accepted call left; a refused call leaves it as it was.
-   - A job is in its lane from its entering on. Its copy outside is not to be used until the lane is finished or withdrawn, and the volume is not
-     to be written: no guarantee about maps covers what is done with either.
+   The caller keeps the scheduler, which is a value of 324 bytes, and a volume for each job that runs; the scheduler has no pointer to any. What
+   follows holds where every call is handed the scheduler that the last accepted call left; a refused call gives it back as it was.
+   - From its entering on a job is in its lane. A copy of it that is kept outside is covered by no guarantee about maps, nor is a volume that is
+     written between its turns: what counts is the job that the finishing turn gives, with that turn's volume.
    - A turn serves the next lane that runs above the one served last, from lane 1 at first and again after lane 8. recorder_scheduler_next names
      it; that turn is to be lent the volume of that lane, as its last accepted turn left it (the first: as it was at its entering). Another
      volume may be noticed, by 6 or 7, or not: the map is then not that of the job.
@@ -323,7 +324,7 @@ recorder_write_answer recorder_drift(const int64_t *run, size_t run_length, uint
      with n lines left is finished within 8 n turns, however the other lanes come and go, provided it is not withdrawn and no turn is refused.
    - The turn that takes its last line finishes it: it gives the job, map held, frees the lane and gives its numbers back. The volume is then
      what recorder_synthesis would have left, and so is the job.
-   - Withdrawing frees a lane before that, gives its numbers back, and gives no job. The volume stays as it stands, half factors and half map:
+   - Withdrawing frees a lane before that, gives its numbers back, and gives no job. The volume stays as it stands, neither factors nor a map:
      no guarantee covers it until it is opened anew.
    - The volumes of all lanes that run have at most 16,777,216 numbers together. Entering is refused with 32 where they would have more: wait
      until a lane is finished.
@@ -344,7 +345,7 @@ recorder_scheduler_answer recorder_scheduler_enter(recorder_scheduler scheduler,
 
 /* One line of the lane that recorder_scheduler_next names, in its volume. The answer has the lane that was served, 1 to 8, or 0 where none runs:
    nothing changes then, and volume and scratch are not looked at. `finished` is 1 where no line of the lane is left, with the job, map held; else it
-   is 0, and the job is all zeros.
+   is 0, and the job is all zeros. Of a refused turn the lane is 0 too.
    Refusals: 25 of the scheduler, then of the line of that turn alone 6 volume not exactly as long as required, 13 scratch too short, 7 a number of
    the line not below the prime (along k of all N2 + 2 numbers of its row). A refused turn changes nothing: the same lane's turn is next. */
 recorder_turn_answer recorder_scheduler_turn(recorder_scheduler scheduler, uint32_t *volume, size_t volume_length,

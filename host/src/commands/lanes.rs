@@ -92,27 +92,25 @@ impl<'a> Work<'a> {
         Ok(())
     }
 
-    /// Fills the lanes that are free: by those that wait and find room now, then by files that are not read yet.
+    /// Fills the lanes that are free.
     fn fill(&mut self) -> Result<(), Failure> {
-        let mut at = 0;
         while self.lanes.is_free() && signals::kept().is_none() {
-            if at < self.waiting.len() {
-                if self.lanes.has_room(&mut self.waiting[at].1) {
-                    let (entry, _) = self.waiting.remove(at);
-                    self.enter(entry)?;
-                } else {
-                    at += 1;
-                }
-            } else if self.waiting.len() < MOST_WAITING {
-                let Some(entry) = self.files.pop_front() else {
-                    break;
-                };
-                self.enter(entry)?;
-            } else {
+            let Some(entry) = self.next() else {
                 break;
-            }
+            };
+            self.enter(entry)?;
         }
         Ok(())
+    }
+
+    /// The next file for a lane: the first that waits and finds room now, else one that is not read yet.
+    fn next(&mut self) -> Option<Entry<'a>> {
+        let lanes = &self.lanes;
+        match self.waiting.iter_mut().position(|(_, job)| lanes.has_room(job)) {
+            Some(at) => Some(self.waiting.remove(at).0),
+            None if self.waiting.len() < MOST_WAITING => self.files.pop_front(),
+            None => None,
+        }
     }
 
     /// Reads a file, and has its job enter a lane.

@@ -7,8 +7,8 @@ use Prim.Native.Nat.{ℕ, zero, suc, _+_, _*_, _-_, _<_, _≤_}
 use native.Mathlib.Omega.{arith}
 use native.Mathlib.Decide.{ℕ-discrete}
 use lib.Dec.{T, eqb, ltb}
-use lib.ListN.{length, getD}
-use borrow.Author.Tests.{not-false, eq-eqb, ne-eqb, leb-false, ltb-false}
+use lib.ListN.{length, getD, replicate}
+use borrow.Author.Tests.{not-false, eq-eqb, ne-eqb, leb-false, ltb-false, eqb-true}
 use Rattle.algebra.specs.cells.Cell.{J, Inside, Group, some, sameOrbit}
 use Rattle.algebra.specs.orbits.Orbit.{Mem, first as first-of, later}
 use Rattle.algebra.proofs.ring.Bool.{same-test, some-at, some-by}
@@ -25,11 +25,13 @@ use Rattle.cell.proofs.OrbitPlaces.{orbit-place-low, same-place}
 use Rattle.cell.specs.Consistency.{agreesWithItself}
 use Rattle.numbers.specs.Value.{prime, IsModulus, value}
 use Rattle.numbers.proofs.ModulusCases.{tested-modulus}
-use Rattle.job.specs.Job.{within, ownTests}
+use Rattle.job.specs.declared.Job.{Job}
+use Rattle.job.specs.Job.{within, ownTests, collecting, jobOf, opened, notOpened, OpenOutcome, openTests, openStep}
 use Rattle.header.specs.Header.{Header, needed, axisTests}
 use Rattle.header.specs.Cells.{headerCell}
 use Rattle.header.proofs.Headers.{sound-sizes}
 use Rattle.job.proofs.check.Points.{within-of}
+use Rattle.job.proofs.check.Openings.{header-passed}
 use Rattle.file_format.specs.declared.FileRecord.{FileRecord}
 use Rattle.file_format.specs.Format.{countAt, recordCount, recordAt, recordsFrom, recordsIn, modulusIn, headerIn, shapeTests}
 use Rattle.file_format.specs.declared.places.HeaderNumbers.{HeaderNumbers}
@@ -210,7 +212,7 @@ module _ (μ : ℕ) (c : UnitCell) (file : List ℕ) where
 
     -- ---- the records at fault
 
-    abbrev faultsBy : Judgement → List ℕ
+    abbrev pub faultsBy : Judgement → List ℕ
     faultsBy j = elim j [ taken ↦ [] | refusedAt k r ↦ cond (eqb k 24) (firstOfOrbit g a (getD (map indexIn (recordsIn file)) r (0, 0, 0)) (map indexIn (recordsIn file)) ∷ r ∷ []) (r ∷ []) ]
 
     index-in : (q n i : ℕ) → i < n → getD (map indexIn (recordsFrom file q n)) i (0, 0, 0) ≡ indexIn (recordAt file (q + 14 * i))
@@ -269,6 +271,24 @@ header-sound μ h e =
     let own = t .1 .1 in
     let axes = pass 3 _ (own .0) (pass 4 _ (own .1 .0) (pass 5 _ (own .1 .1 .0) (pass 9 _ (own .1 .1 .1 .0) none))) in
     record { group = leb-false _ _ (t .0); modulus = tested-modulus μ (not-false _ (t .1 .0)); axes = axes; sizes = sound-sizes h axes (leb-false _ _ (t .0)); near = ltb-false _ _ (own .1 .1 .1 .0) }
+
+-- an opening that gives a job has passed its tests: those of the header, whatever is tested of a file's, and the volume is as long as it must be
+pub open-tested : (μ : ℕ) (h : Header) (v : List ℕ) (j : Job) → openStep μ h 0 v .answer ≡ opened j → 0 ≡ first (openTests μ h 0 v)
+unfolding openStep
+open-tested μ h v j e = by (first (openTests μ h 0 v)) refl e
+  where
+    by : (n : ℕ) → first (openTests μ h 0 v) ≡ n → accepted {O = OpenOutcome} n (record { answer = opened (jobOf μ h collecting); volume = replicate (length v) 0 }) (λ n. record { answer = notOpened n 0; volume = v }) .answer ≡ opened j → 0 ≡ first (openTests μ h 0 v)
+    by zero q e = sym q
+    by (suc n) q e = let z : _≡_ {A = ℕ} 0 1 = cc in absurd (omega arith)
+
+pub header-opened : (μ : ℕ) (h : Header) (v : List ℕ) (j : Job) → openStep μ h 0 v .answer ≡ opened j → 0 ≡ first (headerTests μ h)
+header-opened μ h v j e =
+    let o = open-tested μ h v j e in
+    let t = passed (openTests μ h 0 v) tt o in
+    pass 8 _ (t .0) (pass 26 _ (t .1 .0) (header-passed μ h 0 v o))
+
+pub long-opened : (μ : ℕ) (h : Header) (v : List ℕ) (j : Job) → openStep μ h 0 v .answer ≡ opened j → length v ≡ needed h
+long-opened μ h v j e = let t = passed (openTests μ h 0 v) tt (open-tested μ h v j e) in eqb-true _ _ (not-false _ (t .1 .1 .1 .1 .1 .1 .1 .0))
 
 -- the cell that the code holds
 pub cell-of : {file : List ℕ} {h : HeaderNumbers} → NumbersOf file h → headerCell (headerIn file) ≡ h .cell

@@ -25,7 +25,7 @@ use Rattle.factor_file.specs.File.{indexIn, orbitSeen, judgeTests, Judgement, t
 use Rattle.faults.specs.Faults.{headerTests, recordFaults, faultsIn}
 use Rattle.faults.specs.FaultSteps.{recordPlace, ownNumber, ownAt, placeAt, SoundTo, Apart, FirstOf}
 use Rattle.faults.specs.Fewest.{noRecord, chosen, Rising, last, next, judgedUnder, Fewest, FewestExactly}
-use Rattle.faults.proofs.FaultLaws.{same-orbit, place-low, all-taken, own-refused, orbit-refused, refused-by, faults-none, faults-one, faults-two, own-not-24, header-sound}
+use Rattle.faults.proofs.FaultLaws.{same-orbit, place-low, all-taken, own-refused, orbit-refused, refused-by, faults-none, faults-one, faults-two, own-not-24, header-sound, header-opened}
 use Rattle.faults.proofs.FaultWalks.{sound-start, sound-next, sound-fewer}
 
 -- ---- what is made of the records of a file, found in the logic
@@ -207,7 +207,7 @@ module _ (file : List ℕ) (shape : 0 ≡ first (shapeTests file)) (header : 0 �
       let q = same-refusal {n = m} {m = number} {r = s} {s = r} (sym e ∙ f) in
       subst (λ n. Fewest file (faultsIn file) n r) (q .0) (subst (λ r. Fewest file (faultsIn file) m r) (q .1) (subst (λ ps. Fewest file ps m s) (p ∙ faults-are) w))
 
-  fewest-of : (number r : ℕ) → judgedUnder file (recordsIn file) ≡ refusedAt number r → Fewest file (faultsIn file) number r
+  pub fewest-of : (number r : ℕ) → judgedUnder file (recordsIn file) ≡ refusedAt number r → Fewest file (faultsIn file) number r
   fewest-of number r e = go (scan μ c file (recordCount file) (omega arith))
     where
       go : Scanned μ c file (recordCount file) → Fewest file (faultsIn file) number r
@@ -216,4 +216,4 @@ module _ (file : List ℕ) (shape : 0 ≡ first (shapeTests file)) (header : 0 �
       go (orbit q f l s a z h o) = as-found (orbit-refused μ c file sizes q s a l z f h (o .same)) e (orbit-fewest q f l s a z h o) (faults-two μ c file sizes q s a l z (f, h, o .same) f o)
 
 pub fewest-exactly : FewestExactly
-fewest-exactly = record { each = fewest-of }
+fewest-exactly = record { each = λ file v j shape e. fewest-of file shape (header-opened (modulusIn file) (headerIn file) v j e) }

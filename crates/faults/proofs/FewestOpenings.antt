@@ -24,11 +24,11 @@ use Rattle.faults.specs.Faults.{headerTests, faultsIn}
 use Rattle.faults.specs.Fewest.{noRecord, chosen, Rising, last, next, judgedUnder, Fewest}
 use Rattle.faults.specs.FewestOpened.{smallerFile, Smaller, RefusedAt, FewestOpened, FewestAreOpened}
 use Rattle.factor_file.proofs.Openings.{outcome}
-use Rattle.faults.proofs.FaultLaws.{header-sound}
-use Rattle.faults.proofs.FewestFaults.{fewest-exactly}
+use Rattle.faults.proofs.FaultLaws.{header-sound, header-opened, long-opened}
+use Rattle.faults.proofs.FewestFaults.{fewest-of}
 
 -- what an opening answers by its records
-abbrev answerBy : Job → Judgement → Opening
+abbrev pub answerBy : Job → Judgement → Opening
 answerBy j b = elim b [ taken ↦ opened j | refusedAt n place ↦ notOpened n place ]
 
 feed-answer : (cs : List FileRecord) (j : Job) (v : List ℕ) → feed cs j v .answer ≡ answerBy j (judged (j .modulus) (j .group) (headerOf j .lengths) [] cs)
@@ -45,7 +45,7 @@ opens μ h e v l =
     let s = header-sound μ h e in
     volume-decides μ h 0 v (s .group) (modulus-tested μ (s .modulus)) (omega arith) (s .axes) (volume-collects μ (h .group) (h .lengths) 0 v (eq-eqb _ _ l) (λ q. omega (arith, q)))
 
-opening : (μ : ℕ) (h : Header) → 0 ≡ first (headerTests μ h) → (v : List ℕ) → length v ≡ needed h → openStep μ h 0 v ≡ record { answer = opened (jobOf μ h collecting); volume = replicate (length v) 0 }
+pub opening : (μ : ℕ) (h : Header) → 0 ≡ first (headerTests μ h) → (v : List ℕ) → length v ≡ needed h → openStep μ h 0 v ≡ record { answer = opened (jobOf μ h collecting); volume = replicate (length v) 0 }
 unfolding openStep
 opening μ h e v l = ap (λ n. accepted {O = OpenOutcome} n (record { answer = opened (jobOf μ h collecting); volume = replicate (length v) 0 }) (λ n. record { answer = notOpened n 0; volume = v })) (sym (opens μ h e v l))
 
@@ -129,12 +129,12 @@ module _ (file : List ℕ) (header : 0 ≡ first (headerTests (modulusIn file) (
 pub fewest-are-opened : FewestAreOpened
 fewest-are-opened = record { smaller = is-smaller; each = go }
   where
-    go : (file : List ℕ) → Bytes file → 0 ≡ first (shapeTests file) → 0 ≡ first (headerTests (modulusIn file) (headerIn file)) → (number r : ℕ) → RefusedAt file file number r → FewestOpened file number r
-    go file bytes shape header number r w =
-        let v : List ℕ = replicate (needed (headerIn file)) 0 in
-        let l : length v ≡ needed (headerIn file) = length-replicate {A = ℕ} (needed (headerIn file)) 0 in
-        let e = refused-back (jobOf (modulusIn file) (headerIn file) collecting) _ number r (sym (file-answer file shape header v l) ∙ w .answer v l) in
-        let f = fewest-exactly .each file shape header number r e in
+    go : (file v : List ℕ) (j : Job) → Bytes file → 0 ≡ first (shapeTests file) → openStep (modulusIn file) (headerIn file) 0 v .answer ≡ opened j → (number r : ℕ) → fileStep file v .answer ≡ notOpened number r → FewestOpened file number r
+    go file v j bytes shape o number r w =
+        let header = header-opened (modulusIn file) (headerIn file) v j o in
+        let l = long-opened (modulusIn file) (headerIn file) v j o in
+        let e = refused-back (jobOf (modulusIn file) (headerIn file) collecting) _ number r (sym (file-answer file shape header v l) ∙ w) in
+        let f = fewest-of file shape header number r e in
         let inside = judged-inside (modulusIn file) (headerIn file .group) (headerIn file .lengths) [] (recordsIn file) number r e in
         let s : (qs : List ℕ) → Rising 0 r qs → Smaller file qs = is-smaller file bytes shape r (omega (arith, inside, length-from file (countAt file + 4) (recordCount file))) in
         record {

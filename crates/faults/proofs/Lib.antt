@@ -2,3 +2,4 @@ pub mod FaultLaws
 pub mod FaultWalks
 pub mod FewestFaults
 pub mod FewestOpenings
+pub mod OtherFiles

@@ -27,6 +27,7 @@ ghost use Rattle.factor_file.specs.File.{indexIn};
 ghost use Rattle.faults.specs.Faults.{headerTests, recordFaults, faultsIn, saidFaults};
 ghost use Rattle.faults.specs.Fewest.{FewestExactly};
 ghost use Rattle.faults.specs.FewestOpened.{FewestAreOpened};
+ghost use Rattle.faults.specs.Others.{OthersGiveNone};
 ghost use Rattle.faults.specs.FaultSteps.{Records, ownNumber, placeOf, WithinTo, FirstUnsound, Apart, Stops, FirstOf, range, Noted};
 
 // No record at fault, one, or two: the places, from 0, rise.
@@ -61,6 +62,11 @@ pub fn fewest_exactly()
 // The same of the opening of a file of the chosen records under the same header.
 pub fn fewest_are_opened()
     ensures { λ _. ⌜ FewestAreOpened ⌝ }
+{}
+
+// A file that its shape refuses, whose header opens no job, or that is accepted has no record at fault.
+pub fn others_give_none()
+    ensures { λ _. ⌜ OthersGiveNone ⌝ }
 {}
 
 // The header, then the records, of a file of sound shape.

@@ -6,3 +6,4 @@ pub mod Blanks
 pub mod Widths
 pub mod Lined
 pub mod Outcomes
+pub mod Places

@@ -15,7 +15,7 @@ use Rattle.section.specs.Section.{sectionAt, total, points, mean, remain
 use Rattle.section.specs.SectionLaws.{IsLine}
 use Rattle.section.proofs.Widths.{index-narrow, count-narrow, total-narrow, aligned-wide, each-wide, Plain, plain-more, plain-append, plain-blanks, plain-decimal, plain-signed, plain-aligned, plain-each}
 
-line-length : {line : List ℕ} → IsLine line → length line ≡ 70
+pub line-length : {line : List ℕ} → IsLine line → length line ≡ 70
 line-length l = ap length (l .ends) ∙ length-append (l .characters) (lineFeed ∷ []) ∙ omega (arith, l .wide)
 
 pub closing-line : (letter : ℕ) (t : ℤ) → (letter ≡ lineFeed → ⊥) → IsLine (closingLine letter t)
@@ -40,7 +40,7 @@ closing-length t n =
     ∙ omega (arith, first, second, third, length-append (closingLine 77 (mean t n)) (closingLine 82 (pos (remainder t n))))
 
 module _ (group : ℕ) (n : J) (v : List ℤ) (z : ℕ) (few : n .0 ≤ 2880) (near : (x y : ℕ) → x < n .0 → y < n .1 → natAbs (sectionAt group n v z x y) ≤ limit) where
-  field-wide : (x y : ℕ) → x < n .0 → length (valueField group n v z x y) ≡ 13
+  pub field-wide : (x y : ℕ) → x < n .0 → length (valueField group n v z x y) ≡ 13
   field-wide x y lx = either (ltb y (n .1)) refl
     where
       either : (b : Bool) → ltb y (n .1) ≡ b → length (cond b (aligned 13 (signedDecimal (sectionAt group n v z x y))) (replicate 13 blank)) ≡ 13
@@ -69,7 +69,7 @@ module _ (group : ℕ) (n : J) (v : List ℤ) (z : ℕ) (few : n .0 ≤ 2880) (n
   abbrev row : ℕ → List ℕ
   row x = each (rowLines n) (λ i. sectionLine group n v z x i)
 
-  rows-wide : length (each (n .0) row) ≡ n .0 * (rowLines n * 70)
+  pub rows-wide : length (each (n .0) row) ≡ n .0 * (rowLines n * 70)
   rows-wide = each-wide row (rowLines n * 70) (n .0) (λ x lx. each-wide (λ i. sectionLine group n v z x i) 70 (rowLines n) (λ i l. line-length (row-line x i lx)))
 
   pub text-long : length (sectionText group n v z) ≡ 70 * (n .0 * rowLines n + 3)

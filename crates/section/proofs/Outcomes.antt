@@ -78,7 +78,7 @@ module _ (cell : UnitCell) (v : List ℤ) (z : ℕ) where
 
 -- ---- the laws
 
-abbrev cellOf : (group : ℕ) → J → UnitCell
+abbrev pub cellOf : (group : ℕ) → J → UnitCell
 cellOf group n = record { group = group; n1 = n .0; n2 = n .1; n3 = n .2 }
 
 pub section-laws : SectionLaws

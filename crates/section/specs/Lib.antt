@@ -1,3 +1,4 @@
 pub mod Section
 pub mod SectionLaws
 pub mod Sound
+pub mod SectionPlaces

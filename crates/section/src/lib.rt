@@ -16,6 +16,7 @@ ghost use Rattle.output.specs.Written.{Wrote, Ends};
 ghost use Rattle.output.specs.Answers.{fillOutcome};
 ghost use Rattle.section.specs.Section.{sectionText, sectionStep};
 ghost use Rattle.section.specs.SectionLaws.{SectionLaws, SectionWidth, SectionPoints};
+ghost use Rattle.section.specs.SectionPlaces.{SectionPlaces};
 ghost use Rattle.section.specs.Sound.{Sound};
 
 // The page goes to the output's first bytes, or the call is turned back and changes nothing.
@@ -55,8 +56,8 @@ fn put_section(out: &mut [u8], cell: UnitCell, map: &[i64], z: u32) -> usize
 }
 
 // Of every section that is written: the total is the mean times the points and the remainder, and every line has 69 characters and a line
-// feed. Of a combined map of a cell: the section has the cell's numbers, on planes that are not stored too. The function does nothing: it
-// is there for its promise.
+// feed, and each number stands at its bytes of the page. Of a combined map of a cell: the section has the cell's numbers, on planes that
+// are not stored too. The function does nothing: it is there for its promise.
 pub fn section_laws()
-    ensures { λ _. ⌜ SectionLaws × SectionWidth × SectionPoints ⌝ }
+    ensures { λ _. ⌜ SectionLaws × SectionWidth × SectionPoints × SectionPlaces ⌝ }
 {}

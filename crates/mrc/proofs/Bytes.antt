@@ -51,7 +51,7 @@ length-file cell v parameters =
 -- ---- where a byte stands
 
 -- byte i of thing j
-each-byte : (n k : ℕ) (f : ℕ → List ℕ) → ((j : ℕ) → length (f j) ≡ k) → (j i : ℕ) → j < n → i < k → getD (each n f) (j * k + i) 0 ≡ getD (f j) i 0
+pub each-byte : (n k : ℕ) (f : ℕ → List ℕ) → ((j : ℕ) → length (f j) ≡ k) → (j i : ℕ) → j < n → i < k → getD (each n f) (j * k + i) 0 ≡ getD (f j) i 0
 unfolding each
 each-byte zero k f h j i l m = absurd (not-suc-le-zero l)
 each-byte (suc n) k f h j i l m = ⊎-elim

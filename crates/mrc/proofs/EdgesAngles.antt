@@ -1,13 +1,15 @@
 -- Edges and angles: what a comparison with the ends says, and that neither is a NaN.
 use mathlib.Core.Path.{_≡_, refl, sym, _∙_, ap, subst}
 use mathlib.Core.Bool.{Bool, true, false, not, _&&_, cond}
-use Prim.Native.Nat.{ℕ}
+use Prim.Native.Nat.{ℕ, _≤_}
+use native.Mathlib.Omega.{arith}
+use borrow.Author.Tests.{ne-eqb}
 use lib.Dec.{T, eqb}
 use lib.IntN.{pos}
 use lib.Ieee.{Float, nan, inf, fin, binary32, lt, eq, ofInt, ofBits, isNan}
 use Rattle.refusals.proofs.Tests.{both}
 use Rattle.mrc.specs.Floats.{floatOf}
-use Rattle.mrc.specs.Parameters.{isEdge, isAngle, isGamma, areEdges, areAngles, ParameterEnds}
+use Rattle.mrc.specs.Parameters.{isEdge, isAngle, isGamma, areEdges, areAngles, ofGroup, ParameterEnds, GroupParameters}
 
 never {ℓ} : {X : Type ℓ} → false ≡ true → X
 never e = absurd (subst T (sym e) tt)
@@ -104,4 +106,31 @@ parameter-ends = record {
   right-gamma = refl;
   no-less-gamma = refl;
   no-greater-gamma = refl;
+}
+
+-- ---- every group
+
+regroup : (a b c x : Bool) → (a && (b && c)) && x ≡ a && (b && (c && x))
+regroup false b c x = refl
+regroup true false c x = refl
+regroup true true c x = refl
+
+other-group : (group : ℕ) (x : Bool) → (group ≡ 0 → ⊥) → eqb group 0 && x ≡ false
+other-group group x n = ap (λ (b : Bool). b && x) (ne-eqb group 0 n)
+
+one-angle : (group : ℕ) (a b c x : Float) → 1 ≤ group → group ≤ 3 → not (eqb group 0) && (areEdges a b c && isGamma group x) ≡ isEdge a && (isEdge b && (isEdge c && isAngle x))
+unfolding areEdges isGamma
+one-angle group a b c x l m =
+    ap (λ (q : Bool). not q && (areEdges a b c && isGamma group x)) (ne-eqb group 0 (λ e. absurd (omega (arith, e, l))))
+    ∙ ap (λ (q : Bool). areEdges a b c && cond q (eq x (floatOf (pos 90))) (isAngle x)) (ne-eqb group 4 (λ e. absurd (omega (arith, e, m))))
+    ∙ regroup (isEdge a) (isEdge b) (isEdge c) (isAngle x)
+
+pub group-parameters : GroupParameters
+unfolding ofGroup areEdges areAngles isGamma
+group-parameters = record {
+  p1 = λ a b c alpha beta gamma. regroup (isEdge a) (isEdge b) (isEdge c) (isAngle alpha && (isAngle beta && isAngle gamma));
+  p1-not-one = λ a b c gamma. refl;
+  not-three = λ group n a b c alpha beta gamma. other-group group (areEdges a b c && areAngles alpha beta gamma) n;
+  one = λ group l m a b c gamma. one-angle group a b c gamma l m;
+  right = λ a b c gamma. regroup (isEdge a) (isEdge b) (isEdge c) (eq gamma (floatOf (pos 90)));
 }

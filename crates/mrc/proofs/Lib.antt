@@ -5,3 +5,4 @@ pub mod Order
 pub mod Densities
 pub mod Bytes
 pub mod Outcome
+pub mod Reading

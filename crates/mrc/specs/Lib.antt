@@ -3,3 +3,4 @@ pub mod Parameters
 pub mod Header
 pub mod Ranges
 pub mod Mrc
+pub mod HeaderRead

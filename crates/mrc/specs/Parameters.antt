@@ -1,5 +1,5 @@
 -- The unit cell's edges and angles, and what is refused of them.
-use Rattle.algebra.specs.Prelude.{_≡_, Bool, true, false, _&&_, not, cond, eqb, ℕ}
+use Rattle.algebra.specs.Prelude.{_≡_, Bool, true, false, _&&_, not, cond, eqb, ℕ, _≤_}
 use Rattle.signed.specs.Integers.{pos}
 use lib.Ieee.{Float, Float.nan, Float.inf, Float.fin, lt, eq}
 use Rattle.mrc.specs.Floats.{floatOf, binary32, ofBits}
@@ -49,3 +49,21 @@ pub record ParameterEnds : Type 0 where
   pub right-gamma : isGamma 4 (floatOf (pos 90)) ≡ true
   pub no-less-gamma : isGamma 4 (ofBits binary32 1119092735) ≡ false
   pub no-greater-gamma : isGamma 4 (ofBits binary32 1119092737) ≡ false
+
+-- What is taken in each group. P1 has three angles, each any; the others have gamma alone: any in groups 1, 2 and 3, and 90 in group 4.
+pub record GroupParameters : Type 0 where
+  pub p1 :
+      (a b c alpha beta gamma : Float) →
+      ofGroup 0 (Triclinic a b c alpha beta gamma)
+      ≡ isEdge a && (isEdge b && (isEdge c && (isAngle alpha && (isAngle beta && isAngle gamma))))
+  pub p1-not-one : (a b c gamma : Float) → ofGroup 0 (Monoclinic a b c gamma) ≡ false
+  pub not-three :
+      (group : ℕ) → (group ≡ 0 → ⊥) →
+      (a b c alpha beta gamma : Float) → ofGroup group (Triclinic a b c alpha beta gamma) ≡ false
+  pub one :
+      (group : ℕ) → 1 ≤ group → group ≤ 3 →
+      (a b c gamma : Float) →
+      ofGroup group (Monoclinic a b c gamma) ≡ isEdge a && (isEdge b && (isEdge c && isAngle gamma))
+  pub right :
+      (a b c gamma : Float) →
+      ofGroup 4 (Monoclinic a b c gamma) ≡ isEdge a && (isEdge b && (isEdge c && eq gamma (floatOf (pos 90))))

@@ -25,7 +25,8 @@ ghost use Rattle.output.specs.Answers.{fillOutcome};
 ghost use Rattle.output.specs.Written.{Wrote};
 ghost use Rattle.mrc.specs.Floats.{FloatsExact};
 ghost use Rattle.mrc.specs.Header.{Undetermined};
-ghost use Rattle.mrc.specs.Parameters.{ofGroup, ParameterEnds};
+ghost use Rattle.mrc.specs.HeaderRead.{HeaderRead};
+ghost use Rattle.mrc.specs.Parameters.{ofGroup, ParameterEnds, GroupParameters};
 ghost use Rattle.mrc.specs.Ranges.{Spans, ofStored, CellValues};
 ghost use Rattle.mrc.specs.Mrc.{mrcBytes, fileLength, parameterTests, shapeTests, fillTests, mrcStep, Writable, PointsPlaced};
 
@@ -118,6 +119,16 @@ pub fn points_placed()
 // Which floats are taken for edges and angles, at the ends.
 pub fn parameter_ends()
     ensures { λ _. ⌜ ParameterEnds ⌝ }
+{}
+
+// What is taken in each group, and the other kind of cell than the group's is not.
+pub fn group_parameters()
+    ensures { λ _. ⌜ GroupParameters ⌝ }
+{}
+
+// A reader finds each word of the header by its number.
+pub fn header_read()
+    ensures { λ _. ⌜ HeaderRead ⌝ }
 {}
 
 // Nothing is lost between a density and its four bytes.

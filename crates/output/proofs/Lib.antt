@@ -2,3 +2,4 @@ pub mod Decimals
 pub mod BigEndian
 pub mod LittleEndian
 pub mod Writing
+pub mod Numerals

@@ -1,3 +1,4 @@
 pub mod Output
 pub mod Written
 pub mod Answers
+pub mod Numerals

@@ -1,4 +1,5 @@
--- What an output is made of: numbers in decimal, in big-endian or in little-endian bytes, the blank and the line feed, and things in a row. A text is in ASCII.
+-- What an output is made of: numbers in decimal, in big-endian or in little-endian bytes, the blank and the line feed,
+-- and things in a row. A text is in ASCII.
 use Rattle.algebra.specs.Prelude.{cond, ltb, ℕ, zero, suc, _+_, _/_, _%_, List, [], _∷_, _++_, length, drop}
 use Rattle.signed.specs.Integers.{ℤ, pos, negsuc}
 
@@ -40,7 +41,7 @@ unfoldable pub each : (n : ℕ) → (ℕ → List ℕ) → List ℕ
 each zero f = []
 each (suc n) f = each n f ++ f n
 
--- ---- A call that fills an output: how many places it wrote, or the refusal's number; and what it leaves in the output.
+-- ---- A call that fills an output: how many places it wrote, or the refusal's number; and what it leaves there.
 
 pub data Filled : Type 0 where
   written : (count : ℕ) → Filled

@@ -5,8 +5,8 @@ use mathlib.Core.Path.{_≡_}
 use lib.ListN.{length}
 use lib.Seq.{sets}
 
--- The bytes of a text from place `at` on: those that fall inside the output are stored, all are counted. So the same function measures a text, on an
--- output of no bytes, and writes it. `next` is the place after the text.
+-- The bytes of a text from place `at` on: those that fall inside the output are stored, all are counted. So the same
+-- function measures a text, on an output of no bytes, and writes it. `next` is the place after the text.
 pub record Wrote (at : ℕ) (text before : List ℕ) (next : ℕ) (after : List ℕ) : Type 0 where
   pub place : next ≡ at + length text
   pub bytes : after ≡ sets before at text

@@ -7,6 +7,7 @@ use refusals::Refusal;
 ghost use mathlib.Core.List.{[], _∷_};
 ghost use Rattle.output.specs.Output.{decimal, signedDecimal, blank};
 ghost use Rattle.output.specs.Written.{Wrote, Ends};
+ghost use Rattle.output.specs.Numerals.{DecimalsReadBack};
 
 // The answer of a call that fills an output, or several alike: how many places it wrote, or why none.
 pub enum FillAnswer {
@@ -90,3 +91,8 @@ pub fn put_signed_field(out: &mut [u8], at: usize, n: i64) -> usize
     let number = put_byte(out, at, b' ');
     put_signed(out, number, n)
 }
+
+// Decimal text and its number determine each other. The function does nothing; its promise is the statement.
+pub fn decimals_read_back()
+    ensures { λ _. ⌜ DecimalsReadBack ⌝ }
+{}

@@ -9,12 +9,14 @@ use lib.Dec.{ltb}
 use lib.ListN.{length, getD}
 use lib.IntN.{ℤ, pos}
 use borrow.Author.Tests.{lt-ltb, le-ltb}
-use Rattle.algebra.specs.cells.Cell.{J, Group, Cell}
+use Rattle.algebra.specs.cells.Cell.{J, Inside, Group, Cell, pointImage, pointOperation}
+use Rattle.algebra.proofs.cells.CellSym.{point-inside}
+use Rattle.algebra.proofs.cells.CellGroup.{point-operation-in, point-operation-stored}
 use Rattle.slices.proofs.Pairs.{lt-or-ge}
 use Rattle.slices.proofs.Rows.{row-col, row-split, block-end}
 use Rattle.cell.specs.Volume.{layers, rows, columns, volumeLength, mapPlace}
 use Rattle.cell.proofs.Maps.{own-plane}
-use Rattle.combined.specs.CombinedMap.{countOf, numberAt, packSigned, Packs, PackedExactly}
+use Rattle.combined.specs.CombinedMap.{countOf, numberAt, packSigned, Packs, PackedExactly, Symmetric}
 use Rattle.combined.proofs.Tables.{length-tabulate, getD-tabulate, is-tabulate}
 
 module _ (g : Group) (a : J) where
@@ -90,6 +92,17 @@ module _ (g : Group) (a : J) where
             (λ (l : y < 2 * a .1). sym (count-stored v x y z lz) ∙ p .stored x y z lx l lz ∙ sym (number-point M x y z lx l))
             (λ (l : 2 * a .1 ≤ y). at-row-end x y z lx l wide lz ∙ sym (number-end M x y z lx l wide))
             (lt-or-ge y (2 * a .1))
+
+-- of a symmetric cell every point is read off, stored or not: its image has its number
+pub packed-point : (g : Group) (a : J) (M : Cell ℤ) → Symmetric g a M → (x : J) → Inside a x → countOf g a (packSigned g a M) x ≡ M (x .0) (x .1) (x .2)
+packed-point g a M obeys x h =
+    let s = pointOperation g a x in
+    let q = pointImage a s x in
+    let inside = point-inside a s x h in
+    let stored = point-operation-stored g a x h in
+    sym (count-stored g a (packSigned g a M) (q .0) (q .1) (q .2) stored)
+    ∙ packs g a M .stored (q .0) (q .1) (q .2) (inside .0) (inside .1) stored
+    ∙ obeys s (point-operation-in g a x) x h
 
 pub packed-exactly : PackedExactly
 packed-exactly g a M v = (

@@ -1,7 +1,9 @@
 -- A combined map, which is the paper's joined map: a cell of signed whole numbers in the layout of a map. For each stored plane z and each x, both rising,
 -- it has the N2 numbers by y, then two zeros, which no call reads.
 use Rattle.algebra.specs.Prelude.{_≡_, _↔_, not, cond, eqb, leb, ltb, ℕ, _+_, _*_, _/_, _%_, _<_, List, [], _∷_, length, getD}
-use Rattle.algebra.specs.cells.Cell.{J, Group, Cell}
+use Rattle.algebra.specs.orbits.Orbit.{Mem}
+use Rattle.algebra.specs.cells.Cell.{J, Inside, Sym, Group, Cell, ops, pointImage}
+use Rattle.algebra.specs.cells.Cell as Cell
 use Rattle.signed.specs.Integers.{ℤ, pos}
 use Rattle.refusals.specs.Refusals.{Test, _⇒_}
 use Rattle.cell.specs.Volume.{groupOf, layers, rows, columns, volumeLength, mapPlace, densityPlace}
@@ -34,6 +36,13 @@ pub record Packs (g : Group) (a : J) (M : Cell ℤ) (v : List ℤ) : Type 0 wher
 -- this is what packSigned does, and nothing else of the volume's length does
 abbrev pub PackedExactly : Type 0
 PackedExactly = (g : Group) (a : J) (M : Cell ℤ) (v : List ℤ) → (v ≡ packSigned g a M) ↔ ((length v ≡ volumeLength g a) × Packs g a M v)
+
+-- a cell of whole numbers that every operation of the group leaves as it is
+abbrev pub Symmetric : Group → J → Cell ℤ → Type 0
+Symmetric g a M =
+    (s : Sym) → Mem s (ops g) →
+    (x : J) → Inside a x →
+    Cell.at M (pointImage a s x) ≡ Cell.at M x
 
 -- What is refused of a combined map of a group and three lengths: 8, 3, 9, and 6 where it is not exactly as long as they ask for. No factor lists: nothing is
 -- transformed.

@@ -1,27 +1,30 @@
 -- Where the bytes of a section stand: its lines are of one length, and so are the fields of a line.
-use mathlib.Core.Path.{_≡_, refl, sym, _∙_, ap}
+use mathlib.Core.Path.{_≡_, refl, sym, _∙_, ap, subst}
 use mathlib.Core.Logic.{⊎-elim}
 use mathlib.Core.Bool.{Bool, true, false, cond}
 use mathlib.Core.List.{List, [], _∷_, _++_}
 use Prim.Native.Nat.{ℕ, zero, suc, _+_, _*_, _-_, _/_, _%_, _<_, _≤_}
-use native.Mathlib.Nat.{le-antisymm, le-of-suc-le-suc, not-suc-le-zero}
+use native.Mathlib.Nat.{le-antisymm, le-of-suc-le-suc, not-suc-le-zero, div-le-self}
 use native.Mathlib.Omega.{arith}
 use lib.Dec.{ltb}
-use lib.ListN.{length, getD, replicate, length-append, length-replicate, getD-replicate, List·getD-append}
-use lib.Seq.{getD-append-add}
-use lib.IntN.{ℤ, pos, natAbs}
+use lib.ListN.{length, getD, take, drop, replicate, length-append, length-take, length-drop, length-replicate, getD-replicate, List·getD-append}
+use lib.Seq.{getD-append-add, getD-take, getD-drop, ext-getD}
+use lib.IntN.{ℤ, pos, negsuc, natAbs}
 use Rattle.algebra.specs.cells.Cell.{J}
 use Rattle.algebra.proofs.ring.Laws.{along}
 use Rattle.slices.proofs.Pairs.{lt-or-ge}
 use Rattle.slices.proofs.Rows.{row-end}
+use Rattle.signed.proofs.Floor.{floor-division}
 use Rattle.output.specs.Output.{decimal, signedDecimal, blank, lineFeed, each}
+use Rattle.output.specs.Numerals.{SignedNumeral}
+use Rattle.output.proofs.Numerals.{signed-numeral}
 use Rattle.combined.specs.CombinedMap.{limit}
 use Rattle.section.specs.Section.{sectionAt, total, points, mean, remainder, aligned, valueField, sectionLine, rowLines, closingLine, totalLetter, meanLetter, remainderLetter, closingText, sectionText}
-use Rattle.section.specs.SectionPlaces.{Ended, linesOf, behindRows, Placed, SectionPlaces}
+use Rattle.section.specs.SectionPlaces.{part, Ended, linesOf, behindRows, Placed, SectionPlaces}
 use Rattle.section.proofs.Widths.{index-narrow, count-narrow, total-narrow, aligned-wide, each-wide}
 use Rattle.section.proofs.Lined.{line-length, field-wide, row-line, closing-lines, rows-wide, text-long}
-use Rattle.section.proofs.Planes.{field-inside, field-beyond, within}
-use Rattle.section.proofs.Outcomes.{cellOf, sound-of}
+use Rattle.section.proofs.Planes.{field-inside, field-beyond, within, plane-small}
+use Rattle.section.proofs.Outcomes.{cellOf, sound-of, points-few}
 
 -- ---- things of one length in a row
 
@@ -57,20 +60,40 @@ aligned-blank width t q l =
 aligned-text : (width : ℕ) (t : List ℕ) (q i : ℕ) → q ≡ (width - length t) + i → getD (aligned width t) q 0 ≡ getD t i 0
 aligned-text width t q i e = behind (replicate (width - length t) blank) t (width - length t) q i (length-replicate {A = ℕ} (width - length t) blank) e
 
--- a page that has it from byte `start` on
-ended : (page : List ℕ) (width start end : ℕ) (k : ℤ) → length (signedDecimal k) ≤ width → end + 1 ≡ start + width →
-    ((q : ℕ) → q < width → getD page (start + q) 0 ≡ getD (aligned width (signedDecimal k)) q 0) → Ended page width end k
-ended page width start end k l e f = record {
-  fits = l;
-  character = λ i h.
-      along (λ (p : ℕ). getD page p 0) (end - i) (start + (width - 1 - i)) (omega (arith, l, e, h))
-      ∙ f (width - 1 - i) (omega (arith, l, h))
-      ∙ aligned-text width (signedDecimal k) (width - 1 - i) (length (signedDecimal k) - 1 - i) (omega (arith, l, h));
-  blanks = λ i h m.
-      along (λ (p : ℕ). getD page p 0) (end - i) (start + (width - 1 - i)) (omega (arith, e, m))
-      ∙ f (width - 1 - i) (omega (arith, m))
-      ∙ aligned-blank width (signedDecimal k) (width - 1 - i) (omega (arith, l, h, m));
-}
+-- a page that has the text of a number so from byte `start` on
+module _ (page : List ℕ) (width start end : ℕ) (k : ℤ) (small : natAbs k < 18446744073709551616) where
+  abbrev text : List ℕ
+  text = signedDecimal k
+
+  ended : length text ≤ width → end + 1 ≡ start + width → end < length page → ((q : ℕ) → q < width → getD page (start + q) 0 ≡ getD (aligned width text) q 0) → Ended page width end k
+  ended l e inside f = record {
+    characters = length text;
+    fits = l;
+    numeral = subst (λ (t : List ℕ). SignedNumeral t k) (sym characters) (signed-numeral k small);
+    blanks = λ i h m.
+        along (λ (p : ℕ). getD page p 0) (end - i) (start + (width - 1 - i)) (omega (arith, e, m))
+        ∙ f (width - 1 - i) (omega (arith, m))
+        ∙ aligned-blank width text (width - 1 - i) (omega (arith, l, h, m));
+  }
+    where
+      long : length (take (length text) (drop (end + 1 - length text) page)) ≡ length text
+      long = omega (arith, length-take (length text) (drop (end + 1 - length text) page), length-drop (end + 1 - length text) page, inside)
+
+      character : (i : ℕ) → i < length text → getD (take (length text) (drop (end + 1 - length text) page)) i 0 ≡ getD text i 0
+      character i h =
+          getD-take (length text) (drop (end + 1 - length text) page) i 0 h
+          ∙ getD-drop (end + 1 - length text) page i 0
+          ∙ along (λ (p : ℕ). getD page p 0) (end + 1 - length text + i) (start + (width - length text + i)) (omega (arith, l, e, h))
+          ∙ f (width - length text + i) (omega (arith, l, h))
+          ∙ aligned-text width text (width - length text + i) i (omega arith)
+
+      characters : part page (end + 1 - length text) (length text) ≡ text
+      characters = ext-getD 0 (take (length text) (drop (end + 1 - length text) page)) text long (λ i h. character i (omega (arith, h, long)))
+
+-- mean and remainder are no longer than the total and the points
+mean-small : (t : ℤ) (n : ℕ) → natAbs (mean t n) ≤ natAbs t
+mean-small (pos t) n = div-le-self t n
+mean-small (negsuc t) n = omega (arith, div-le-self t n)
 
 -- ---- a closing line
 
@@ -116,7 +139,8 @@ module _ (t : ℤ) (n : ℕ) where
 
 -- ---- the page
 
-module _ (group : ℕ) (n : J) (v : List ℤ) (z : ℕ) (few : n .0 ≤ 2880) (near : (x y : ℕ) → x < n .0 → y < n .1 → natAbs (sectionAt group n v z x y) ≤ limit) where
+module _ (group : ℕ) (n : J) (v : List ℤ) (z : ℕ) (few : n .0 ≤ 2880) (near : (x y : ℕ) → x < n .0 → y < n .1 → natAbs (sectionAt group n v z x y) ≤ limit)
+    (plane : (natAbs (total group n v z) < 9223372036854775808) × (1 ≤ points n) × (points n ≤ 8294400)) where
   abbrev page : List ℕ
   page = sectionText group n v z
 
@@ -176,13 +200,21 @@ module _ (group : ℕ) (n : J) (v : List ℤ) (z : ℕ) (few : n .0 ≤ 2880) (n
       ∙ field-byte x (y / 5) lx (y % 5) q (omega arith) lq
       ∙ along (λ (w : ℕ). getD (valueField group n v z x w) q 0) (5 * (y / 5) + y % 5) y (omega arith)
 
+  -- line i of row x ends before the page does
+  line-inside : (x i b : ℕ) → x < n .0 → i < linesOf n → b < 70 → 70 * (x * linesOf n + i) + b < length page
+  line-inside x i b lx li lb = omega (arith, text-long group n v z few near, row-end (linesOf n) lx, li, lb)
+
   index-ended : (x i : ℕ) → x < n .0 → i < linesOf n → Ended page 4 (70 * (x * linesOf n + i) + 3) (pos x)
   unfolding signedDecimal
-  index-ended x i lx li = ended page 4 (70 * (x * linesOf n + i)) (70 * (x * linesOf n + i) + 3) (pos x) (index-narrow x (omega arith)) (omega arith)
+  index-ended x i lx li =
+      ended page 4 (70 * (x * linesOf n + i)) (70 * (x * linesOf n + i) + 3) (pos x) (omega (arith, lx, few))
+      (index-narrow x (omega arith)) (omega arith) (line-inside x i 3 lx li (omega arith))
       (λ q l. line-byte x i q lx li (omega (arith, l)) ∙ index-byte x i lx q l)
 
   value-ended : (x y : ℕ) → x < n .0 → y < n .1 → Ended page 13 (70 * (x * linesOf n + y / 5) + 4 + 13 * (y % 5) + 12) (sectionAt group n v z x y)
-  value-ended x y lx ly = ended page 13 (70 * (x * linesOf n + y / 5) + 4 + 13 * (y % 5)) (70 * (x * linesOf n + y / 5) + 4 + 13 * (y % 5) + 12) (sectionAt group n v z x y) (count-narrow (sectionAt group n v z x y) (near x y lx ly)) (omega arith)
+  value-ended x y lx ly =
+      ended page 13 (70 * (x * linesOf n + y / 5) + 4 + 13 * (y % 5)) (70 * (x * linesOf n + y / 5) + 4 + 13 * (y % 5) + 12) (sectionAt group n v z x y) (omega (arith, near x y lx ly))
+      (count-narrow (sectionAt group n v z x y) (near x y lx ly)) (omega arith) (omega (arith, line-inside x (y / 5) (4 + 13 * (y % 5) + 12) lx (omega (arith, ly)) (omega arith)))
       (λ q l. value-byte x y q lx (omega (arith, ly)) l ∙ ap (λ t. getD t q 0) (sym (field-inside group n v z x y ly)))
 
   unused-byte : (x y q : ℕ) → x < n .0 → n .1 ≤ y → y < 5 * linesOf n → q < 13 → getD page (70 * (x * linesOf n + y / 5) + 4 + 13 * (y % 5) + q) 0 ≡ 32
@@ -200,6 +232,14 @@ module _ (group : ℕ) (n : J) (v : List ℤ) (z : ℕ) (few : n .0 ≤ 2880) (n
   feed-line (suc (suc zero)) l = third-line t m 69 ∙ closing-feed remainderLetter (pos (remainder t m))
   feed-line (suc (suc (suc i))) l = absurd (omega (arith, l))
 
+  -- the number of a closing line
+  closed : (start end : ℕ) (k : ℤ) → natAbs k < 9223372036854775808 → start ≤ 140 → end ≡ behindRows n + start + 68 → ((q : ℕ) → q < 68 → getD closing (start + suc q) 0 ≡ getD (aligned 68 (signedDecimal k)) q 0) →
+      Ended page 68 end k
+  closed start end k small low e f =
+      ended page 68 (behindRows n + start + 1) end k (omega (arith, small))
+      (total-narrow k) (omega (arith, e)) (omega (arith, text-long group n v z few near, low, e))
+      (λ q l. closing-byte (behindRows n + start + 1 + q) (start + suc q) (omega arith) ∙ f q l)
+
   pub placed : Placed group n v z page
   placed = record {
     value = value-ended;
@@ -210,12 +250,12 @@ module _ (group : ℕ) (n : J) (v : List ℤ) (z : ℕ) (few : n .0 ≤ 2880) (n
     letterT = closing-byte (behindRows n) 0 (omega arith) ∙ first-line t m 0 (omega arith) ∙ closing-letter totalLetter t;
     letterM = closing-byte (behindRows n + 70) 70 (omega arith) ∙ second-line t m 0 (omega arith) ∙ closing-letter meanLetter (mean t m);
     letterR = closing-byte (behindRows n + 140) 140 (omega arith) ∙ third-line t m 0 ∙ closing-letter remainderLetter (pos (remainder t m));
-    ofTotal = ended page 68 (behindRows n + 1) (behindRows n + 68) t (total-narrow t) (omega arith)
-        (λ q l. closing-byte (behindRows n + 1 + q) (suc q) (omega arith) ∙ first-line t m (suc q) (omega (arith, l)) ∙ closing-number totalLetter t q l);
-    ofMean = ended page 68 (behindRows n + 71) (behindRows n + 70 + 68) (mean t m) (total-narrow (mean t m)) (omega arith)
-        (λ q l. closing-byte (behindRows n + 71 + q) (70 + (suc q)) (omega arith) ∙ second-line t m (suc q) (omega (arith, l)) ∙ closing-number meanLetter (mean t m) q l);
-    ofRemainder = ended page 68 (behindRows n + 141) (behindRows n + 140 + 68) (pos (remainder t m)) (total-narrow (pos (remainder t m))) (omega arith)
-        (λ q l. closing-byte (behindRows n + 141 + q) (140 + (suc q)) (omega arith) ∙ third-line t m (suc q) ∙ closing-number remainderLetter (pos (remainder t m)) q l);
+    ofTotal = closed 0 (behindRows n + 68) t (plane .0) (omega arith) (omega arith)
+        (λ q l. along (λ (b : ℕ). getD closing b 0) (0 + suc q) (suc q) (omega arith) ∙ first-line t m (suc q) (omega (arith, l)) ∙ closing-number totalLetter t q l);
+    ofMean = closed 70 (behindRows n + 70 + 68) (mean t m) (omega (arith, mean-small t m, plane .0)) (omega arith) (omega arith)
+        (λ q l. second-line t m (suc q) (omega (arith, l)) ∙ closing-number meanLetter (mean t m) q l);
+    ofRemainder = closed 140 (behindRows n + 140 + 68) (pos (remainder t m)) (omega (arith, floor-division t m (plane .1) .below, plane .2)) (omega arith) (omega arith)
+        (λ q l. third-line t m (suc q) ∙ closing-number remainderLetter (pos (remainder t m)) q l);
     long = omega (arith, text-long group n v z few near);
   }
 
@@ -223,5 +263,6 @@ pub section-places : SectionPlaces
 section-places = record {
   each = λ group n v z room none.
       let s = sound-of (cellOf group n) v z room none in
-      placed group n v z (s .plane .sizes .first .high) (within s);
+      let few = points-few (cellOf group n) v z s in
+      placed group n v z (s .plane .sizes .first .high) (within s) (plane-small s, few .0, few .1);
 }

@@ -15,7 +15,7 @@ use Rattle.cell.specs.Operations.{cellGroup, cellLengths, cellHalves, Sizes, Po
 use Rattle.cell.specs.Volume.{volumeLength}
 use Rattle.algebra.proofs.cells.Passing.{passed-at}
 use Rattle.combined.specs.CombinedMap.{limit}
-use Rattle.section.specs.Section.{sectionAt, rowTotal, rowWithin, planeWithin, aligned, valueField}
+use Rattle.section.specs.Section.{sectionAt, rowTotal, total, rowWithin, planeWithin, aligned, valueField}
 use Rattle.section.specs.Sound.{Plane, Sound}
 use Rattle.section.proofs.Totals.{abs-sum}
 
@@ -39,6 +39,9 @@ module _ {cell : UnitCell} {v : List ℤ} {z : ℕ} where
 
     pub plane-range : cell .n1 * 37622838528000 < 9223372036854775808
     plane-range = omega (arith, h .plane .sizes .first .high)
+
+    pub plane-small : natAbs (total (cell .group) (cellLengths cell) v z) < 9223372036854775808
+    plane-small = omega (arith, abs-sum (λ x. rowTotal (cell .group) (cellLengths cell) v z x) 37622838528000 (cell .n1) row-small, plane-range)
 
 -- ---- the field of a value, and of none
 

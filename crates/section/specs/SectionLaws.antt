@@ -1,15 +1,15 @@
--- What holds of every section that is written: what its three last numbers are to each other, and that its lines are of one width. And what is read for a plane.
+-- What holds of every section that is written: what its three last numbers are to each other, and that its lines are of
+-- one width. And what is read for a plane.
 use Rattle.algebra.specs.Prelude.{_≡_, ℕ, _+_, _*_, _<_, List, [], _∷_, _++_, length, getD}
-use Rattle.algebra.specs.orbits.Orbit.{Mem}
-use Rattle.algebra.specs.cells.Cell.{J, Inside, Sym, Group, Cell, ops, pointImage}
-use Rattle.algebra.specs.cells.Cell as Cell
+use Rattle.algebra.specs.cells.Cell.{J, Inside, Cell}
 use Rattle.signed.specs.Integers.{ℤ, pos, _+ℤ_, _*ℤ_}
 use Rattle.output.specs.Output.{lineFeed}
 use Rattle.refusals.specs.Refusals.{first}
 use Rattle.cell.specs.Volume.{groupOf}
 use Rattle.header.specs.Header.{halfLengths}
-use Rattle.combined.specs.CombinedMap.{packSigned}
-use Rattle.section.specs.Section.{sectionAt, total, points, mean, remainder, sectionLine, rowLines, closingLine, totalLetter, meanLetter, remainderLetter, sectionText, sectionTests}
+use Rattle.combined.specs.CombinedMap.{packSigned, Symmetric}
+use Rattle.section.specs.Section.{sectionAt, total, points, mean, remainder, sectionLine, rowLines, sectionText}
+use Rattle.section.specs.Section.{closingLine, totalLetter, meanLetter, remainderLetter, sectionTests}
 
 -- a call of these arguments is accepted
 abbrev pub Accepted : (group : ℕ) (lengths : J) (map : List ℤ) (z room : ℕ) → Type 0
@@ -21,7 +21,10 @@ pub record Divides (t : ℤ) (n : ℕ) : Type 0 where
   pub below : remainder t n < n
 
 abbrev pub SectionLaws : Type 0
-SectionLaws = (group : ℕ) (n : J) (v : List ℤ) (z room : ℕ) → Accepted group n v z room → Divides (total group n v z) (points n)
+SectionLaws =
+    (group : ℕ) (n : J) (v : List ℤ) (z room : ℕ) →
+    Accepted group n v z room →
+    Divides (total group n v z) (points n)
 
 -- 69 characters, none of them a line feed, and a line feed
 pub record IsLine (line : List ℕ) : Type 0 where
@@ -33,17 +36,21 @@ pub record IsLine (line : List ℕ) : Type 0 where
 -- every line is one, and there are as many as the rows take, and three
 pub record Lined (group : ℕ) (n : J) (v : List ℤ) (z : ℕ) : Type 0 where
   pub rows : (x i : ℕ) → x < n .0 → i < rowLines n → IsLine (sectionLine group n v z x i)
-  pub last : (t : ℤ) → IsLine (closingLine totalLetter t) × IsLine (closingLine meanLetter t) × IsLine (closingLine remainderLetter t)
+  pub last :
+      (t : ℤ) →
+      IsLine (closingLine totalLetter t) × IsLine (closingLine meanLetter t) × IsLine (closingLine remainderLetter t)
   pub count : length (sectionText group n v z) ≡ 70 * (n .0 * rowLines n + 3)
 
 abbrev pub SectionWidth : Type 0
-SectionWidth = (group : ℕ) (n : J) (v : List ℤ) (z room : ℕ) → Accepted group n v z room → Lined group n v z
+SectionWidth =
+    (group : ℕ) (n : J) (v : List ℤ) (z room : ℕ) →
+    Accepted group n v z room →
+    Lined group n v z
 
--- a cell of whole numbers that every operation of the group leaves as it is
-abbrev pub Symmetric : Group → J → Cell ℤ → Type 0
-Symmetric g a M = (s : Sym) → Mem s (ops g) → (x : J) → Inside a x → Cell.at M (pointImage a s x) ≡ Cell.at M x
-
--- the section of its combined map has its numbers, on every plane, stored or not
+-- the section of the combined map of a symmetric cell has its numbers, on every plane, stored or not
 abbrev pub SectionPoints : Type 0
-SectionPoints = (group : ℕ) (n : J) (M : Cell ℤ) → Symmetric (groupOf group) (halfLengths n) M → (x y z : ℕ) → Inside (halfLengths n) (x, y, z) →
+SectionPoints =
+    (group : ℕ) (n : J) (M : Cell ℤ) →
+    Symmetric (groupOf group) (halfLengths n) M →
+    (x y z : ℕ) → Inside (halfLengths n) (x, y, z) →
     sectionAt group n (packSigned (groupOf group) (halfLengths n) M) z x y ≡ M x y z

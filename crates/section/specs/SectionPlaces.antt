@@ -1,22 +1,23 @@
 -- Where each number of a section that is written stands, in bytes from 0: every byte of the page is named, by its place
 -- alone. A row of N2 numbers has ⌈N2 / 5⌉ lines of 70 bytes; 84, 77, 82, 32 and 10 are T, M, R, the blank and the line
 -- feed in ASCII.
-use Rattle.algebra.specs.Prelude.{_≡_, ℕ, _+_, _*_, _-_, _/_, _%_, _<_, _≤_, List, length, getD}
+use Rattle.algebra.specs.Prelude.{_≡_, ℕ, _+_, _*_, _-_, _/_, _%_, _<_, _≤_, List, length, getD, take, drop}
 use Rattle.algebra.specs.cells.Cell.{J}
 use Rattle.signed.specs.Integers.{ℤ, pos}
-use Rattle.output.specs.Output.{signedDecimal}
+use Rattle.output.specs.Numerals.{SignedNumeral}
 use Rattle.section.specs.Section.{sectionAt, total, points, mean, remainder, sectionText}
 use Rattle.section.specs.SectionLaws.{Accepted}
 
--- the last character of a number stands at byte `end`, the others before it, and blanks before them: `width` bytes
+-- the bytes of a page from one on
+abbrev pub part : List ℕ → (from count : ℕ) → List ℕ
+part page from count = take count (drop from page)
+
+-- a numeral that reads as k has its last character at byte `end`, and blanks before it: `width` bytes in all
 pub record Ended (page : List ℕ) (width end : ℕ) (k : ℤ) : Type 0 where
-  pub fits : length (signedDecimal k) ≤ width
-  pub character :
-      (i : ℕ) → i < length (signedDecimal k) →
-      getD page (end - i) 0 ≡ getD (signedDecimal k) (length (signedDecimal k) - 1 - i) 0
-  pub blanks :
-      (i : ℕ) → length (signedDecimal k) ≤ i → i < width →
-      getD page (end - i) 0 ≡ 32
+  pub characters : ℕ
+  pub fits : characters ≤ width
+  pub numeral : SignedNumeral (part page (end + 1 - characters) characters) k
+  pub blanks : (i : ℕ) → characters ≤ i → i < width → getD page (end - i) 0 ≡ 32
 
 -- the lines of a row, and the first byte behind the rows
 abbrev pub linesOf : J → ℕ

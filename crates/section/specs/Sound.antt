@@ -1,4 +1,5 @@
--- What the work of the call may take for granted: a map of a cell, and a plane of it whose numbers are within the range.
+-- What the work of the call may take for granted: a map of a cell, and a plane of it whose numbers are within the
+-- range.
 use Rattle.algebra.specs.Prelude.{_≡_, true, ℕ, _<_, List, length}
 use Rattle.signed.specs.Integers.{ℤ}
 use Rattle.cell.specs.declared.operations.UnitCell.{UnitCell}

@@ -13,7 +13,8 @@ ghost use Rattle.section.specs.Sound.{Plane};
 
 // 8, 3, 9, 6, 10, 28, 18. The plane is looked at once, and nothing is written to know how long the page is.
 pub fn check_section(cell: UnitCell, map: &[i64], z: u32, room: usize) -> Checked
-    ensures { λ r. ⌜ checkedNumber r ≡ first (sectionTests (cell .group) (cellLengths cell) (now (map .entry)) z room) ⌝ }
+    ensures { λ r. ⌜ checkedNumber r
+        ≡ first (sectionTests (cell .group) (cellLengths cell) (now (map .entry)) z room) ⌝ }
 {
     let checked = combined::check_combined_map(cell, map.len());
     match checked {

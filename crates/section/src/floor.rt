@@ -1,4 +1,5 @@
-// Division of a whole number by a count, rounded down: of -(t + 1) the quotient is -(t / n + 1), and what is left is n - 1 - t % n.
+// Division of a whole number by a count, rounded down: of -(t + 1) the quotient is -(t / n + 1), and what is left is
+// n - 1 - t % n.
 ghost use mathlib.Core.Path.{_≡_};
 ghost use Prim.Native.Nat.{_<_, _≤_};
 ghost use Rattle.section.specs.Section.{mean, remainder};

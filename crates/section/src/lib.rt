@@ -1,4 +1,5 @@
-// The section text: plane z of a combined map as a page of lines, 69 characters each, with the plane's total, mean and remainder at its end.
+// The section text: plane z of a combined map as a page of lines, 69 characters each, with the plane's total, mean and
+// remainder at its end.
 //
 // Every line has one width, so the length of the page is known before anything is written.
 mod check; // check.rt: the refusals
@@ -19,7 +20,7 @@ ghost use Rattle.section.specs.SectionLaws.{SectionLaws, SectionWidth, S
 ghost use Rattle.section.specs.SectionPlaces.{SectionPlaces};
 ghost use Rattle.section.specs.Sound.{Sound};
 
-// The page goes to the output's first bytes, or the call is turned back and changes nothing.
+// The page goes to the output's first bytes, or the call is refused and changes nothing.
 pub fn section_text(
     group: u32,
     n1: u32,
@@ -29,7 +30,8 @@ pub fn section_text(
     z: u32,
     out: &mut [u8],
 ) -> FillAnswer
-    ensures { λ r. ⌜ fillOutcome r (now (out .exit)) ≡ sectionStep group (n1, n2, n3) (now (map .entry)) z (now (out .entry)) ⌝ }
+    ensures { λ r. ⌜ fillOutcome r (now (out .exit))
+        ≡ sectionStep group (n1, n2, n3) (now (map .entry)) z (now (out .entry)) ⌝ }
 {
     let cell = UnitCell {
         group: group,
@@ -47,7 +49,8 @@ pub fn section_text(
 // The rows, then the three closing lines.
 fn put_section(out: &mut [u8], cell: UnitCell, map: &[i64], z: u32) -> usize
     requires { ⌜ Sound cell (now map) z ⌝ }
-    ensures { λ r. ⌜ Wrote 0 (sectionText (cell .group) (cellLengths cell) (now (map .entry)) z) (now (out .entry)) r (now (out .exit)) ⌝ }
+    ensures { λ r. ⌜ Wrote 0 (sectionText (cell .group) (cellLengths cell) (now (map .entry)) z)
+        (now (out .entry)) r (now (out .exit)) ⌝ }
 {
     let total = crate::sums::plane_total(cell, map, z);
     let points = (cell.n1 as u64) * (cell.n2 as u64);
@@ -55,9 +58,10 @@ fn put_section(out: &mut [u8], cell: UnitCell, map: &[i64], z: u32) -> usize
     crate::fields::put_closing(out, rows, total, points)
 }
 
-// Of every section that is written: the total is the mean times the points and the remainder, and every line has 69 characters and a line
-// feed, and each number stands at its bytes of the page. Of a combined map of a cell: the section has the cell's numbers, on planes that
-// are not stored too. The function does nothing: it is there for its promise.
+// Of every section that is written: the total is the mean times the points and the remainder, every line has 69
+// characters and a line feed, and each number is read at its bytes of the page. Of a combined map of a cell: the
+// section has the cell's numbers, on planes that are not stored too. The function does nothing: it is there for its
+// promise.
 pub fn section_laws()
     ensures { λ _. ⌜ SectionLaws × SectionWidth × SectionPoints × SectionPlaces ⌝ }
 {}

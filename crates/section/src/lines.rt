@@ -6,14 +6,14 @@ ghost use Prim.Native.Nat.{_+_, _*_, _<_};
 ghost use Rattle.cell.specs.Operations.{cellLengths};
 ghost use Rattle.output.specs.Output.{each};
 ghost use Rattle.output.specs.Written.{Wrote, Ends};
-ghost use Rattle.section.specs.Section.{valueField, sectionLine, rowLines};
+ghost use Rattle.section.specs.Section.{valueField, sectionLine, rowLines, rowText, rowsText};
 ghost use Rattle.section.specs.Sound.{Plane};
 
 // All rows, by rising x.
 pub fn put_rows(out: &mut [u8], at: usize, cell: UnitCell, map: &[i64], z: u32) -> usize
     requires { ⌜ Plane cell (now map) z ⌝ }
-    requires { ⌜ Ends at (each (cell .n1) (λ x. each (rowLines (cellLengths cell)) (λ i. sectionLine (cell .group) (cellLengths cell) (now map) z x i))) ⌝ }
-    ensures { λ r. ⌜ Wrote at (each (cell .n1) (λ x. each (rowLines (cellLengths cell)) (λ i. sectionLine (cell .group) (cellLengths cell) (now (map .entry)) z x i)))
+    requires { ⌜ Ends at (rowsText (cell .group) (cellLengths cell) (now map) z) ⌝ }
+    ensures { λ r. ⌜ Wrote at (rowsText (cell .group) (cellLengths cell) (now (map .entry)) z)
         (now (out .entry)) r (now (out .exit)) ⌝ }
 {
     let mut place = at;
@@ -28,8 +28,8 @@ pub fn put_rows(out: &mut [u8], at: usize, cell: UnitCell, map: &[i64], z: u32) 
 // The lines of row x.
 fn put_row(out: &mut [u8], at: usize, cell: UnitCell, map: &[i64], z: u32, x: u32) -> usize
     requires { ⌜ Plane cell (now map) z × (x < cell .n1) ⌝ }
-    requires { ⌜ Ends at (each (rowLines (cellLengths cell)) (λ i. sectionLine (cell .group) (cellLengths cell) (now map) z x i)) ⌝ }
-    ensures { λ r. ⌜ Wrote at (each (rowLines (cellLengths cell)) (λ i. sectionLine (cell .group) (cellLengths cell) (now (map .entry)) z x i))
+    requires { ⌜ Ends at (rowText (cell .group) (cellLengths cell) (now map) z x) ⌝ }
+    ensures { λ r. ⌜ Wrote at (rowText (cell .group) (cellLengths cell) (now (map .entry)) z x)
         (now (out .entry)) r (now (out .exit)) ⌝ }
 {
     let lines = (cell.n2 + 4) / 5;
@@ -46,7 +46,8 @@ fn put_row(out: &mut [u8], at: usize, cell: UnitCell, map: &[i64], z: u32, x: u3
 fn put_line(out: &mut [u8], at: usize, cell: UnitCell, map: &[i64], z: u32, x: u32, i: u32) -> usize
     requires { ⌜ Plane cell (now map) z × (x < cell .n1) × (i < rowLines (cellLengths cell)) ⌝ }
     requires { ⌜ Ends at (sectionLine (cell .group) (cellLengths cell) (now map) z x i) ⌝ }
-    ensures { λ r. ⌜ Wrote at (sectionLine (cell .group) (cellLengths cell) (now (map .entry)) z x i) (now (out .entry)) r (now (out .exit)) ⌝ }
+    ensures { λ r. ⌜ Wrote at (sectionLine (cell .group) (cellLengths cell) (now (map .entry)) z x i)
+        (now (out .entry)) r (now (out .exit)) ⌝ }
 {
     let first = crate::fields::put_aligned(out, at, 4, x as i64);
     let end = put_values(out, first, cell, map, z, x, 5 * i);
@@ -65,7 +66,8 @@ fn put_values(
 ) -> usize
     requires { ⌜ Plane cell (now map) z × (x < cell .n1) × (y < 4000) ⌝ }
     requires { ⌜ Ends at (each 5 (λ t. valueField (cell .group) (cellLengths cell) (now map) z x (y + t))) ⌝ }
-    ensures { λ r. ⌜ Wrote at (each 5 (λ t. valueField (cell .group) (cellLengths cell) (now (map .entry)) z x (y + t))) (now (out .entry)) r (now (out .exit)) ⌝ }
+    ensures { λ r. ⌜ Wrote at (each 5 (λ t. valueField (cell .group) (cellLengths cell) (now (map .entry)) z x (y + t)))
+        (now (out .entry)) r (now (out .exit)) ⌝ }
 {
     let mut place = at;
     let mut t: u32 = 0;
@@ -88,7 +90,8 @@ fn put_value(
 ) -> usize
     requires { ⌜ Plane cell (now map) z × (x < cell .n1) ⌝ }
     requires { ⌜ Ends at (valueField (cell .group) (cellLengths cell) (now map) z x y) ⌝ }
-    ensures { λ r. ⌜ Wrote at (valueField (cell .group) (cellLengths cell) (now (map .entry)) z x y) (now (out .entry)) r (now (out .exit)) ⌝ }
+    ensures { λ r. ⌜ Wrote at (valueField (cell .group) (cellLengths cell) (now (map .entry)) z x y)
+        (now (out .entry)) r (now (out .exit)) ⌝ }
 {
     if y < cell.n2 {
         let point = Point { x: x, y: y, z: z };

@@ -108,7 +108,7 @@ module _ (cell : UnitCell) (v : List ℤ) (sizes : Sizes cell) where
   pub plane-inside : (z : ℕ) → z < layers g a → z < cell .n3
   plane-inside z l = subst (λ (n : ℕ). z < n) (even-double (sizes .third)) (layers-fit g a (omega (arith, sizes .third .low)) z l)
 
-  inside-of : (x y z : ℕ) → x < cell .n1 → y < cell .n2 → z < cell .n3 → Inside a (x, y, z)
+  pub inside-of : (x y z : ℕ) → x < cell .n1 → y < cell .n2 → z < cell .n3 → Inside a (x, y, z)
   inside-of x y z lx ly lz = (omega (arith, even-double (sizes .first)), omega (arith, even-double (sizes .second)), omega (arith, even-double (sizes .third)))
 
   -- a point is read where a stored one stands

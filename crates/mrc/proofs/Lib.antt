@@ -6,3 +6,4 @@ pub mod Densities
 pub mod Bytes
 pub mod Outcome
 pub mod Reading
+pub mod Viewing

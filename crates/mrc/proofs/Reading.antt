@@ -35,7 +35,7 @@ use Rattle.mrc.proofs.Densities.{ends-exact}
 use Rattle.mrc.proofs.Bytes.{length-header, each-byte}
 
 -- four bytes back to their number
-little-back : (w : ℕ) → w < 4294967296 → getD (littleEndian 4 w) 0 0 + 256 * (getD (littleEndian 4 w) 1 0 + 256 * (getD (littleEndian 4 w) 2 0 + 256 * getD (littleEndian 4 w) 3 0)) ≡ w
+pub little-back : (w : ℕ) → w < 4294967296 → getD (littleEndian 4 w) 0 0 + 256 * (getD (littleEndian 4 w) 1 0 + 256 * (getD (littleEndian 4 w) 2 0 + 256 * getD (littleEndian 4 w) 3 0)) ≡ w
 unfolding littleEndian
 little-back w l = omega (arith, l)
 

@@ -25,7 +25,8 @@ unfoldable pub ofLittleEndian : List ℕ → ℕ
 ofLittleEndian [] = 0
 ofLittleEndian (b ∷ l) = b + 256 * ofLittleEndian l
 
--- the float of n has its sign and its size over 1, it is n again as a whole number of 64 bits, and its four bytes read back are the float
+-- the float of n has its sign and its size over 1, it is n again as a whole number of 64 bits, and its four bytes read
+-- back are the float
 pub record ExactFloat (n : ℤ) : Type 0 where
   pub value : HasValue (floatOf n) (ltZ n (pos 0)) (natAbs n) 1
   pub back : toSigned 63 (floatOf n) ≡ n

@@ -9,8 +9,8 @@ use Rattle.mrc.specs.declared.parameters.CellParameters.{CellParameters}
 use Rattle.mrc.specs.declared.parameters.CellParameters.the-variants.{Triclinic, Monoclinic}
 use Rattle.mrc.specs.declared.file_header.MrcHeader.{MrcHeader}
 
--- The header of a map with these lengths, edges, angles, and least and greatest density. The mean is one less than the least and the RMS deviation is -1,
--- which the format reads as not determined.
+-- The header of a map with these lengths, edges, angles, and least and greatest density. The mean is one less than the
+-- least and the RMS deviation is -1, which the format reads as not determined.
 abbrev pub headed : (n : J) (a b c alpha beta gamma : Float) (least greatest : ℤ) → MrcHeader
 headed n a b c alpha beta gamma least greatest = record {
   n1 = n .0;
@@ -31,7 +31,8 @@ headed n a b c alpha beta gamma least greatest = record {
 -- the angles that are not given are 90 degrees
 abbrev pub headerOf : (n : J) → CellParameters → (least greatest : ℤ) → MrcHeader
 headerOf n (Triclinic a b c alpha beta gamma) least greatest = headed n a b c alpha beta gamma least greatest
-headerOf n (Monoclinic a b c gamma) least greatest = headed n a b c (floatOf (pos 90)) (floatOf (pos 90)) gamma least greatest
+headerOf n (Monoclinic a b c gamma) least greatest =
+    headed n a b c (floatOf (pos 90)) (floatOf (pos 90)) gamma least greatest
 
 -- The 256 words of the header as MRC2014 has them, which counts them from 1; those behind the list are zero: no labels.
 unfoldable pub headerWords : MrcHeader → List ℕ
@@ -56,7 +57,8 @@ headerWords h =
     0 ∷ 0 ∷ 0 ∷ 0 ∷ 20140 ∷
     -- 29 to 52, EXTRA and ORIGIN
     (replicate 24 0 ++
-    -- 53, MAP: the letters "MAP " by which a reader knows the format; 54, MACHST: the bytes 44 44 00 00, which say little-endian; 55, RMS
+    -- 53, MAP: the letters "MAP " by which a reader knows the format; 54, MACHST: the bytes 44 44 00 00, which say
+    -- little-endian; 55, RMS
     542130509 ∷ 17476 ∷ bits (h .rms) ∷ [])
 
 -- no float of the header is a NaN
@@ -72,10 +74,14 @@ pub record NoNan (h : MrcHeader) : Type 0 where
   pub mean : T (not (isNan (h .mean)))
   pub rms : T (not (isNan (h .rms)))
 
--- How the format says that they are not determined: the mean is less than the least density, and the RMS deviation less than zero.
+-- How the format says that they are not determined: the mean is less than the least density, and the RMS deviation less
+-- than zero.
 pub record NotDetermined (h : MrcHeader) : Type 0 where
   pub mean : lt (h .mean) (h .least) ≡ true
   pub rms : lt (h .rms) (floatOf (pos 0)) ≡ true
 
 abbrev pub Undetermined : Type 0
-Undetermined = (n : J) (parameters : CellParameters) (least greatest : ℤ) → natAbs least ≤ exactLimit → NotDetermined (headerOf n parameters least greatest)
+Undetermined =
+    (n : J) (parameters : CellParameters) (least greatest : ℤ) →
+    natAbs least ≤ exactLimit →
+    NotDetermined (headerOf n parameters least greatest)

@@ -4,3 +4,4 @@ pub mod Header
 pub mod Ranges
 pub mod Mrc
 pub mod HeaderRead
+pub mod Viewed

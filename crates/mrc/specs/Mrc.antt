@@ -34,20 +34,25 @@ abbrev pub cellBytes : UnitCell → List ℤ → List ℕ
 cellBytes cell v = each (cell .n3) (λ z. planeBytes cell v z)
 
 unfoldable pub mrcBytes : UnitCell → List ℤ → CellParameters → List ℕ
-mrcBytes cell v parameters = headerBytes (headerOf (cellLengths cell) parameters (ofCell cell v lesser) (ofCell cell v greater)) ++ cellBytes cell v
+mrcBytes cell v parameters =
+    headerBytes (headerOf (cellLengths cell) parameters (ofCell cell v lesser) (ofCell cell v greater)) ++
+    cellBytes cell v
 
 -- how many bytes that is
 abbrev pub fileLength : UnitCell → ℕ
 fileLength cell = 1024 + cell .n3 * (cell .n2 * (cell .n1 * 4))
 
--- A reader's place of a point, by the header's own numbers: NX points a row and NY rows a section, four bytes each, behind the header. There the file has
--- the bytes of the point's density.
+-- A point's place by the lengths: N1 points a row and N2 rows a section, four bytes each, behind the header. There the
+-- file has the bytes of the point's density.
 abbrev pub pointPlace : UnitCell → (x y z : ℕ) → ℕ
 pointPlace cell x y z = 1024 + 4 * (x + cell .n1 * (y + cell .n2 * z))
 
 abbrev pub PointsPlaced : Type 0
-PointsPlaced = (cell : UnitCell) (v : List ℤ) (parameters : CellParameters) (x y z byte : ℕ) → x < cell .n1 → y < cell .n2 → z < cell .n3 → byte < 4
-    → getD (mrcBytes cell v parameters) (pointPlace cell x y z + byte) 0 ≡ getD (densityBytes (density cell v (x, y, z))) byte 0
+PointsPlaced =
+    (cell : UnitCell) (v : List ℤ) (parameters : CellParameters) →
+    (x y z byte : ℕ) → x < cell .n1 → y < cell .n2 → z < cell .n3 → byte < 4 →
+    getD (mrcBytes cell v parameters) (pointPlace cell x y z + byte) 0
+    ≡ getD (densityBytes (density cell v (x, y, z))) byte 0
 
 -- ---- The call: 8, 3, 9, 6 of the map, then 29, 30, 18
 
@@ -60,7 +65,8 @@ abbrev pub parameterTests : (group : ℕ) → CellParameters → List Test
 parameterTests group parameters = not (ofGroup group parameters) ⇒ 29 ∷ []
 
 abbrev pub shapeTests : UnitCell → (length : ℕ) → CellParameters → List Test
-shapeTests cell length parameters = combinedMapTests (cell .group) (cellLengths cell) length ++ parameterTests (cell .group) parameters
+shapeTests cell length parameters =
+    combinedMapTests (cell .group) (cellLengths cell) length ++ parameterTests (cell .group) parameters
 
 abbrev pub fillTests : UnitCell → List ℤ → CellParameters → (room : ℕ) → List Test
 fillTests cell v parameters room =
@@ -73,7 +79,10 @@ mrcTests cell v parameters room = shapeTests cell (length v) parameters ++ fillT
 
 -- the bytes go to the output's first places; a refused call leaves it as it was
 unfoldable pub mrcStep : UnitCell → List ℤ → CellParameters → (output : List ℕ) → FillOutcome
-mrcStep cell v parameters output = accepted (first (mrcTests cell v parameters (length output))) (filled (mrcBytes cell v parameters) output) (notFilled output)
+mrcStep cell v parameters output =
+    accepted (first (mrcTests cell v parameters (length output)))
+    (filled (mrcBytes cell v parameters) output)
+    (notFilled output)
 
 -- ---- what the writing functions ask: a map of the cell's length whose densities are all exact
 

@@ -26,15 +26,16 @@ areEdges a b c = isEdge a && (isEdge b && isEdge c)
 unfoldable pub areAngles : (alpha beta gamma : Float) → Bool
 areAngles alpha beta gamma = isAngle alpha && (isAngle beta && isAngle gamma)
 
--- the parameters are of the group's kind, three angles for group 0, P1, and one for the others; and each is an edge or an angle
+-- the parameters are of the group's kind, three angles for group 0, P1, and one for the others; and each is an edge or
+-- an angle
 unfoldable pub ofGroup : (group : ℕ) → CellParameters → Bool
 ofGroup group (Triclinic a b c alpha beta gamma) = eqb group 0 && (areEdges a b c && areAngles alpha beta gamma)
 ofGroup group (Monoclinic a b c gamma) = not (eqb group 0) && (areEdges a b c && isGamma group gamma)
 
 -- ---- the ends of what is taken
 
--- No NaN, no infinity and neither zero is an edge; the least and the greatest positive float are. No NaN, not 0 and not 180 are an angle; the floats next to
--- them are. Group 4 has 90 alone: neither of the floats next to it.
+-- No NaN, no infinity and neither zero is an edge; the least and the greatest positive float are. No NaN, not 0 and not
+-- 180 are an angle; the floats next to them are. Group 4 has 90 alone: neither of the floats next to it.
 pub record ParameterEnds : Type 0 where
   pub no-nan-edge : isEdge nan ≡ false
   pub no-infinite-edge : (s : Bool) → isEdge (inf s) ≡ false
@@ -50,7 +51,8 @@ pub record ParameterEnds : Type 0 where
   pub no-less-gamma : isGamma 4 (ofBits binary32 1119092735) ≡ false
   pub no-greater-gamma : isGamma 4 (ofBits binary32 1119092737) ≡ false
 
--- What is taken in each group. P1 has three angles, each any; the others have gamma alone: any in groups 1, 2 and 3, and 90 in group 4.
+-- What is taken in each group. P1 has three angles, each any; the others have gamma alone: any in groups 1, 2 and 3,
+-- and 90 in group 4.
 pub record GroupParameters : Type 0 where
   pub p1 :
       (a b c alpha beta gamma : Float) →

@@ -1,4 +1,4 @@
--- The least and the greatest of many numbers: of a row of them, of the points of a cell, and of those that a map stores.
+-- The least and the greatest of many numbers: of a row of them, of the points of a cell, of those that a map stores.
 use Rattle.algebra.specs.Prelude.{_≡_, cond, ℕ, zero, suc, _<_, List}
 use Rattle.algebra.specs.cells.Cell.{J}
 use Rattle.signed.specs.Integers.{ℤ}

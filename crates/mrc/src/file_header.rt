@@ -28,7 +28,8 @@ pub struct MrcHeader {
     pub rms: f32,
 }
 
-// The header of a map with these edges and angles, least and greatest density. Mean and RMS deviation are not determined.
+// The header of a map with these edges and angles, least and greatest density. Mean and RMS deviation are not
+// determined.
 fn headed(
     cell: UnitCell,
     a: f32,

@@ -1,7 +1,8 @@
 // Maps for the viewers: the whole cell of a combined map as a file in the format MRC2014.
 //
-// The map's shape and the cell's parameters are checked first, then its densities are read once for their range, which decides
-// whether floats can hold them and stands in the header; then the header and the densities are written, x fastest.
+// The map's shape and the cell's parameters are checked first, then its densities are read once for their range, which
+// decides whether floats can hold them and stands in the header; then the header and the densities are written, x
+// fastest.
 pub mod floats; // floats.rt: whole numbers as floats, and their bits
 pub mod parameters; // parameters.rt: the unit cell's edges and angles
 pub mod file_header; // file_header.rt: the header as a struct, and its words
@@ -28,16 +29,19 @@ ghost use Rattle.mrc.specs.Header.{Undetermined};
 ghost use Rattle.mrc.specs.HeaderRead.{HeaderRead};
 ghost use Rattle.mrc.specs.Parameters.{ofGroup, ParameterEnds, GroupParameters};
 ghost use Rattle.mrc.specs.Ranges.{Spans, ofStored, CellValues};
-ghost use Rattle.mrc.specs.Mrc.{mrcBytes, fileLength, parameterTests, shapeTests, fillTests, mrcStep, Writable, PointsPlaced};
+ghost use Rattle.mrc.specs.Mrc.{mrcBytes, fileLength, parameterTests, shapeTests, fillTests, mrcStep};
+ghost use Rattle.mrc.specs.Mrc.{Writable, PointsPlaced};
+ghost use Rattle.mrc.specs.Viewed.{PointsViewed, FloatLimit};
 
-// The whole cell of a combined map goes to the output's first bytes, or the call is turned back and changes nothing.
+// The whole cell of a combined map goes to the output's first bytes, or the call is refused and changes nothing.
 pub fn mrc_map(
     cell: UnitCell,
     map: &[i64],
     parameters: CellParameters,
     out: &mut [u8],
 ) -> FillAnswer
-    ensures { λ r. ⌜ fillOutcome r (now (out .exit)) ≡ mrcStep cell (now (map .entry)) parameters (now (out .entry)) ⌝ }
+    ensures { λ r. ⌜ fillOutcome r (now (out .exit))
+        ≡ mrcStep cell (now (map .entry)) parameters (now (out .entry)) ⌝ }
 {
     let checked = check_shape(cell, map.len(), parameters);
     match checked {
@@ -92,7 +96,9 @@ fn put_file(
     range: DensityRange,
     out: &mut [u8],
 ) -> usize
-    requires { ⌜ Writable cell (now map) × (ofGroup (cell .group) parameters ≡ true) × Spans range (ofStored cell (now map)) ⌝ }
+    requires { ⌜ Writable cell (now map)
+        × (ofGroup (cell .group) parameters ≡ true)
+        × Spans range (ofStored cell (now map)) ⌝ }
     ensures { λ r. ⌜ Wrote 0 (mrcBytes cell (now (map .entry)) parameters) (now (out .entry)) r (now (out .exit)) ⌝ }
 {
     let header = file_header::header_of(cell, parameters, range.least, range.greatest);
@@ -114,6 +120,16 @@ fn file_length(cell: UnitCell) -> usize
 // A reader finds each point's density at its place in the file.
 pub fn points_placed()
     ensures { λ _. ⌜ PointsPlaced ⌝ }
+{}
+
+// Of a cell that obeys its group, a viewer finds each point's number where the header says that it stands.
+pub fn points_viewed()
+    ensures { λ _. ⌜ PointsViewed ⌝ }
+{}
+
+// A map is refused 30 exactly if a density's magnitude is above 16,777,215.
+pub fn float_limit()
+    ensures { λ _. ⌜ FloatLimit ⌝ }
 {}
 
 // Which floats are taken for edges and angles, at the ends.

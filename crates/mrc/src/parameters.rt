@@ -2,8 +2,9 @@
 ghost use mathlib.Core.Path.{_≡_};
 ghost use Rattle.mrc.specs.Parameters.{isEdge, isAngle, isGamma, areEdges, areAngles, ofGroup};
 
-// Three edges, and three angles or the one that is free, the others being 90. The names are those of the crystal systems: group 0 is
-// triclinic, groups 1 to 3 are monoclinic with c unique. Group 4 is orthorhombic, and its gamma is 90 too.
+// Three edges, and three angles or the one that is free, the others being 90. The names are those of the crystal
+// systems: group 0 is triclinic, groups 1 to 3 are monoclinic with c unique. Group 4 is orthorhombic, and its gamma is
+// 90 too.
 pub enum CellParameters {
     Triclinic {
         a: f32,

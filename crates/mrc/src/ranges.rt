@@ -1,5 +1,5 @@
-// The least and the greatest density of a map, found in one pass over the rows that it stores. The two numbers behind each row are
-// not read.
+// The least and the greatest density of a map, found in one pass over the rows that it stores. The two numbers behind
+// each row are not read.
 use cell::operations::UnitCell;
 use cell::places;
 ghost use mathlib.Core.Path.{_≡_};
@@ -66,7 +66,10 @@ fn row_range(map: &[i64], start: usize, n: usize) -> DensityRange
 
 // The row at z, x of a map.
 fn stored_row(cell: UnitCell, map: &[i64], z: u32, x: u32) -> DensityRange
-    requires { ⌜ Sizes cell × (length (now map) ≡ volumeLength (cellGroup cell) (cellHalves cell)) × (z < layers (cellGroup cell) (cellHalves cell)) × (x < cell .n1) ⌝ }
+    requires { ⌜ Sizes cell
+        × (length (now map) ≡ volumeLength (cellGroup cell) (cellHalves cell))
+        × (z < layers (cellGroup cell) (cellHalves cell))
+        × (x < cell .n1) ⌝ }
     ensures { λ r. ⌜ Spans r (ofRow cell (now (map .entry)) z x) ⌝ }
 {
     row_range(map, 2 * places::pair_place(cell, z, x, 0), cell.n2 as usize)
@@ -74,7 +77,9 @@ fn stored_row(cell: UnitCell, map: &[i64], z: u32, x: u32) -> DensityRange
 
 // The stored plane z.
 fn plane_range(cell: UnitCell, map: &[i64], z: u32) -> DensityRange
-    requires { ⌜ Sizes cell × (length (now map) ≡ volumeLength (cellGroup cell) (cellHalves cell)) × (z < layers (cellGroup cell) (cellHalves cell)) ⌝ }
+    requires { ⌜ Sizes cell
+        × (length (now map) ≡ volumeLength (cellGroup cell) (cellHalves cell))
+        × (z < layers (cellGroup cell) (cellHalves cell)) ⌝ }
     ensures { λ r. ⌜ Spans r (ofPlane cell (now (map .entry)) z) ⌝ }
 {
     let n1 = cell.n1;

@@ -124,8 +124,8 @@ typedef struct {
     uint32_t state;
 } recorder_job;
 
-/* A unit cell for viewers: its edges in angstrom, and how many angles in degrees are given. With 3 all of them are, as P1 asks; with any
-   other number gamma alone, as the other groups ask, alpha and beta are 90 and what stands for them here is not read. */
+/* A unit cell for viewers: its edges in angstrom, and how many angles in degrees are given. With 3 all of them are, as P1 asks; with 1
+   gamma alone, as the other groups ask, alpha and beta are 90 and what stands for them here is not read. Another count is refused with 29. */
 typedef struct {
     uint32_t angles;
     float a, b, c, alpha, beta, gamma;
@@ -265,7 +265,8 @@ recorder_write_answer recorder_section(uint32_t group, uint32_t n1, uint32_t n2,
    untouched.
    Refusals: 8 group not 0 to 4, 3 length not admitted, 9 volume above 16,777,216 numbers, 6 map not exactly as long as required, 29 an edge
    not finite and above 0, an angle not strictly between 0 and 180, or the other kind of cell than the group's (three angles for group 0,
-   gamma alone for the others, which is exactly 90 in group 4), 30 the magnitude of a density above 16,777,215, 18 output too short. */
+   gamma alone for the others, which is exactly 90 in group 4; a count of angles that is neither 3 nor 1 is no kind), 30 the magnitude of a
+   density above 16,777,215, 18 output too short. */
 recorder_write_answer recorder_mrc(uint32_t group, uint32_t n1, uint32_t n2, uint32_t n3, const int64_t *map, size_t map_length,
                                    recorder_cell cell, uint8_t *out, size_t out_length);
 

@@ -65,7 +65,7 @@ pub struct Faults {
     pub second: u32,
 }
 
-/// A unit cell for viewers: edges in angstrom, and three angles in degrees, or gamma alone where `angles` is not 3.
+/// A unit cell for viewers: edges in angstrom, and three angles in degrees where `angles` is 3, or gamma alone where it is 1.
 #[repr(C)]
 #[derive(Clone, Copy)]
 pub struct UnitCell {

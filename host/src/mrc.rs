@@ -52,3 +52,24 @@ fn beyond(cell: &Cell, volume: &[i64]) -> String {
     let place = volume.iter().position(|number| number.unsigned_abs() > GREATEST);
     place.map_or_else(String::new, |place| format!("number {} at {}", volume[place], cell.point_at(place)))
 }
+
+#[cfg(test)]
+mod tests {
+    use super::*;
+
+    /// The call's number for a map of zeros, 2 points along each axis, and a unit cell with this count of angles.
+    fn answered(group: u32, numbers: usize, angles: u32) -> u32 {
+        let unit = UnitCell { angles, a: 30.0, b: 40.0, c: 50.0, alpha: 90.0, beta: 90.0, gamma: 90.0 };
+        ffi::mrc(group, [2; 3], &vec![0; numbers], unit, &mut [0; HEADER + 8 * DENSITY]).number
+    }
+
+    #[test]
+    fn a_count_of_angles_of_neither_kind_is_refused() {
+        for (group, numbers, count) in [(0, 16, 3), (1, 8, 1), (2, 16, 1), (3, 16, 1), (4, 8, 1)] {
+            for angles in [0, 1, 2, 3, 4, u32::MAX] {
+                let expected = if angles == count { 0 } else { UNIT_CELL };
+                assert_eq!(answered(group, numbers, angles), expected, "group {group}, {angles} angles");
+            }
+        }
+    }
+}

@@ -60,7 +60,11 @@ pub record FirstUnsound (m : ℕ) (c : UnitCell) (file : List ℕ) (r : ℕ) : T
 
 -- Of the records before r, none whose orbit has its place from low to below high is of the orbit of an earlier one.
 pub record Apart (c : UnitCell) (file : List ℕ) (low high r : ℕ) : Type 0 where
-  pub each : (k i : ℕ) → k < i → i < r → low ≤ placeAt c file i → placeAt c file i < high → placeAt c file k ≡ placeAt c file i → ⊥
+  pub each :
+      (k i : ℕ) → k < i → i < r →
+      low ≤ placeAt c file i → placeAt c file i < high →
+      placeAt c file k ≡ placeAt c file i →
+      ⊥
 
 -- r is not beyond a limit, and where it is below it, it is of the orbit of an earlier record
 pub record Stops (c : UnitCell) (file : List ℕ) (limit r : ℕ) : Type 0 where
@@ -77,7 +81,8 @@ pub record FirstOf (c : UnitCell) (file : List ℕ) (last r : ℕ) : Type 0 wher
 abbrev pub range : ℕ
 range = 2097152
 
--- A place is noted in marks that cover the places from low on: whether it was among them, and what they are afterwards. A place out of their range is not.
+-- A place is noted in marks that cover the places from low on: whether it was among them, and what they are afterwards.
+-- A place out of their range is not.
 pub record Noted (low place : ℕ) (before : List ℕ) (seen : Bool) (after : List ℕ) : Type 0 where
   pub hit : seen ≡ true → (low ≤ place) × (place < low + range) × (inSet before (place - low) ≡ true)
   pub miss : seen ≡ false → low ≤ place → place < low + range → inSet before (place - low) ≡ false

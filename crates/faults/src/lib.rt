@@ -1,8 +1,10 @@
-// The records at fault of a factor file: of a file that is refused at a record, the places of the fewest records that alone are refused so.
+// The records at fault of a factor file: of a file that is refused at a record, the places of the fewest records that
+// alone are refused so.
 //
-// A record that its own numbers refuse is at fault alone. One whose orbit has come before is at fault with the first record of the orbit. No
-// volume is lent, so the orbits that have come before are kept as a set of bits of 256 KB, which covers a range of orbit places; the file
-// is walked once for each range that its volume has, at most eight times, and each walk ends at the least place that was refused so far.
+// A record that its own numbers refuse is at fault alone. One whose orbit has come before is at fault with the first
+// record of the orbit. No volume is lent, so the orbits that have come before are kept as a set of bits of 256 KB,
+// which covers a range of orbit places; the file is walked once for each range that its volume has, at most eight
+// times, and each walk ends at the least place that was refused so far.
 use cell::operations::Index;
 use cell::operations::UnitCell;
 use file_format::integers;
@@ -28,7 +30,8 @@ ghost use Rattle.faults.specs.Faults.{headerTests, recordFaults, faultsI
 ghost use Rattle.faults.specs.Fewest.{FewestExactly};
 ghost use Rattle.faults.specs.FewestOpened.{FewestAreOpened};
 ghost use Rattle.faults.specs.Others.{OthersGiveNone};
-ghost use Rattle.faults.specs.FaultSteps.{Records, ownNumber, placeOf, WithinTo, FirstUnsound, Apart, Stops, FirstOf, range, Noted};
+ghost use Rattle.faults.specs.FaultSteps.{Records, ownNumber, placeOf, WithinTo, FirstUnsound};
+ghost use Rattle.faults.specs.FaultSteps.{Apart, Stops, FirstOf, range, Noted};
 
 // No record at fault, one, or two: the places, from 0, rise.
 pub enum Faults {
@@ -54,7 +57,8 @@ pub fn file_faults(file: &[u8]) -> Faults
     }
 }
 
-// The records at fault are the fewest that are refused so, and no others are as few. The function does nothing; its promise is the statement.
+// The records at fault are the fewest that are refused so, and no others are as few. The function does nothing; its
+// promise is the statement.
 pub fn fewest_exactly()
     ensures { λ _. ⌜ FewestExactly ⌝ }
 {}
@@ -87,7 +91,8 @@ fn sound_faults(file: &[u8], places: Places) -> Faults
 // 8, 26, 3, 4, 5, 9. The lists are parts of the file.
 fn check_header(file: &[u8], places: Places) -> Checked
     requires { ⌜ PlacesOf (now file) places × (0 ≡ first (shapeTests (now file))) ⌝ }
-    ensures { λ r. ⌜ checkedNumber r ≡ first (headerTests (modulusIn (now (file .entry))) (headerIn (now (file .entry)))) ⌝ }
+    ensures { λ r. ⌜ checkedNumber r
+        ≡ first (headerTests (modulusIn (now (file .entry))) (headerIn (now (file .entry)))) ⌝ }
 {
     let header = file_format::places::header_numbers(file);
     let cell = header.cell;
@@ -113,8 +118,12 @@ fn check_header(file: &[u8], places: Places) -> Checked
 
 // The first record that its own numbers refuse bounds the walks over the orbits.
 fn record_faults(file: &[u8], start: usize, modulus: u32, cell: UnitCell, count: u32) -> Faults
-    requires { ⌜ IsModulus modulus × Records cell (now file) start × (count ≡ recordCount (now file)) × (volumeLength (cellGroup cell) (cellHalves cell) ≤ 16777216) ⌝ }
-    ensures { λ r. ⌜ saidFaults r ≡ recordFaults modulus (cell .group) (cellLengths cell) (recordsIn (now (file .entry))) ⌝ }
+    requires { ⌜ IsModulus modulus
+        × Records cell (now file) start
+        × (count ≡ recordCount (now file))
+        × (volumeLength (cellGroup cell) (cellHalves cell) ≤ 16777216) ⌝ }
+    ensures { λ r. ⌜ saidFaults r
+        ≡ recordFaults modulus (cell .group) (cellLengths cell) (recordsIn (now (file .entry))) ⌝ }
 {
     let own = first_unsound(file, start, modulus, cell, count);
     let again = first_repeated(file, start, cell, own);
@@ -143,7 +152,8 @@ fn index_at(file: &[u8], at: usize) -> Index
 // Whether its own numbers do not refuse it.
 fn sound_at(file: &[u8], at: usize, modulus: u32, cell: UnitCell) -> bool
     requires { ⌜ Sizes cell × IsModulus modulus × (at + 14 ≤ length (now file)) ⌝ }
-    ensures { λ r. ⌜ (r ≡ true → 0 ≡ ownNumber modulus cell (recordAt (now (file .entry)) at)) × (r ≡ false → ownNumber modulus cell (recordAt (now (file .entry)) at) ≡ 0 → ⊥) ⌝ }
+    ensures { λ r. ⌜ (r ≡ true → 0 ≡ ownNumber modulus cell (recordAt (now (file .entry)) at))
+        × (r ≡ false → ownNumber modulus cell (recordAt (now (file .entry)) at) ≡ 0 → ⊥) ⌝ }
 {
     let j = index_at(file, at);
     let x = Pair {
@@ -159,8 +169,11 @@ fn sound_at(file: &[u8], at: usize, modulus: u32, cell: UnitCell) -> bool
 
 // The place of its orbit, where its index lies in the cell.
 fn place_at(file: &[u8], at: usize, cell: UnitCell) -> usize
-    requires { ⌜ Sizes cell × (at + 14 ≤ length (now file)) × (within (cellLengths cell) (indexIn (recordAt (now file) at)) ≡ true) ⌝ }
-    ensures { λ r. ⌜ (r ≡ placeOf cell (recordAt (now (file .entry)) at)) × (r < volumeLength (cellGroup cell) (cellHalves cell)) ⌝ }
+    requires { ⌜ Sizes cell
+        × (at + 14 ≤ length (now file))
+        × (within (cellLengths cell) (indexIn (recordAt (now file) at)) ≡ true) ⌝ }
+    ensures { λ r. ⌜ (r ≡ placeOf cell (recordAt (now (file .entry)) at))
+        × (r < volumeLength (cellGroup cell) (cellHalves cell)) ⌝ }
 {
     let j = index_at(file, at);
     volume::orbit_place::orbit_place(cell, j)
@@ -185,8 +198,11 @@ fn first_unsound(file: &[u8], start: usize, modulus: u32, cell: UnitCell, count:
 
 // The first record below a limit whose orbit has come before, or the limit.
 fn first_repeated(file: &[u8], start: usize, cell: UnitCell, limit: u32) -> u32
-    requires { ⌜ Records cell (now file) start × WithinTo cell (now file) limit × (volumeLength (cellGroup cell) (cellHalves cell) ≤ 16777216) ⌝ }
-    ensures { λ r. ⌜ Apart cell (now (file .entry)) 0 (volumeLength (cellGroup cell) (cellHalves cell)) r × Stops cell (now (file .entry)) limit r ⌝ }
+    requires { ⌜ Records cell (now file) start
+        × WithinTo cell (now file) limit
+        × (volumeLength (cellGroup cell) (cellHalves cell) ≤ 16777216) ⌝ }
+    ensures { λ r. ⌜ Apart cell (now (file .entry)) 0 (volumeLength (cellGroup cell) (cellHalves cell)) r
+        × Stops cell (now (file .entry)) limit r ⌝ }
 {
     let places = header::bytes::volume_length(cell) as usize;
     let mut least = limit;
@@ -216,7 +232,10 @@ fn walk_range(
     low: usize,
     marks: &mut [u64],
 ) -> u32
-    requires { ⌜ Records cell (now file) start × WithinTo cell (now file) limit × (low < 16777216) × (now marks ≡ replicate 32768 0) ⌝ }
+    requires { ⌜ Records cell (now file) start
+        × WithinTo cell (now file) limit
+        × (low < 16777216)
+        × (now marks ≡ replicate 32768 0) ⌝ }
     ensures { λ r. ⌜ Apart cell (now (file .entry)) low (low + range) r × Stops cell (now (file .entry)) limit r ⌝ }
 {
     let mut i: u32 = 0;

@@ -3,3 +3,4 @@ pub mod Synthesised
 pub mod Opened
 pub mod Files
 pub mod Fits
+pub mod ReadText

@@ -3,3 +3,4 @@ pub mod Specimen
 pub mod Fits
 pub mod Text
 pub mod Printable
+pub mod ReadText

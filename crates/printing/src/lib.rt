@@ -8,6 +8,7 @@ pub mod printer; // printer.rt: from a factor file to the text of its map
 ghost use Rattle.printing.specs.Specimen.{PrintedSpecimen};
 ghost use Rattle.printing.specs.Fits.{AlwaysFits};
 ghost use Rattle.printing.specs.PrintedModel.{PrintsModel};
+ghost use Rattle.printing.specs.ReadText.{TextReads};
 
 // The paper's printed specimen follows from the definitions.
 pub fn printed_specimen()
@@ -17,6 +18,11 @@ pub fn printed_specimen()
 // The text of every file fits into an output of 65,536 bytes.
 pub fn always_fits()
     ensures { λ _. ⌜ AlwaysFits ⌝ }
+{}
+
+// The numbers of a text are read back from it.
+pub fn text_reads()
+    ensures { λ _. ⌜ TextReads ⌝ }
 {}
 
 // The text of a file within the limits is that of the reference model's map, or of its refusal.

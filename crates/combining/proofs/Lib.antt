@@ -1,3 +1,4 @@
 pub mod Tests
 pub mod Outcome
 pub mod Points
+pub mod Orders

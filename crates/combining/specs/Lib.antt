@@ -1,3 +1,4 @@
 pub mod Combining
 pub mod Answers
 pub mod Points
+pub mod Orders

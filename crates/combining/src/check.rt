@@ -11,6 +11,7 @@ ghost use Rattle.refusals.specs.Refusals.{first};
 ghost use Rattle.refusals.specs.Checks.{checkedNumber};
 ghost use Rattle.cell.specs.Operations.{cellLengths, Sizes};
 ghost use Rattle.combining.specs.Combining.{ofOneCell, mapsTests, combineTests};
+ghost use Rattle.combining.specs.Orders.{CombineRefusals};
 
 // 25, 22, 27, then the maps': each over both jobs before the next.
 pub fn check_maps(i: Job, first_map: &[u32], j: Job, second_map: &[u32], room: usize) -> Checked
@@ -55,3 +56,9 @@ fn check_volumes(cell: UnitCell, first_map: &[u32], second_map: &[u32], room: us
     }
     Checked::Sound
 }
+
+// The refusals stand in the papers' order; 27 is exactly that of jobs of different cells or primes, and 14 that of a volume that is no map
+// of the cell.
+pub fn refusal_order()
+    ensures { λ _. ⌜ CombineRefusals ⌝ }
+{}

@@ -10,3 +10,4 @@ pub mod Tests
 pub mod Restored
 pub mod Outcome
 pub mod Demands
+pub mod Orders

@@ -1,10 +1,10 @@
 -- The correlation is within the limit where refusal 28 does not hold.
-use mathlib.Core.Path.{_≡_, _∙_, subst}
+use mathlib.Core.Path.{_≡_, refl, _∙_, ap, subst}
 use mathlib.Core.List.{List}
 use Prim.Native.Nat.{ℕ, zero, suc, _+_, _*_, _<_, _≤_}
 use native.Mathlib.Nat.{mod-lt, mul-le-mul-left}
 use native.Mathlib.Omega.{arith}
-use lib.IntN.{ℤ, natAbs, _*ℤ_}
+use lib.IntN.{ℤ, pos, natAbs, _+ℤ_, _*ℤ_}
 use Rattle.algebra.specs.ring.Ring.{sum}
 use Rattle.algebra.specs.cells.Cell.{J, Inside, P1}
 use Rattle.signed.specs.IntegerRing.{integers}
@@ -20,7 +20,13 @@ unfolding sum integers over
 abs-sum zero f = omega arith
 abs-sum (suc n) f = omega (arith, abs-add (sum integers n f) (f n), abs-sum n f)
 
-abs-below : (n : ℕ) (f : ℕ → ℤ) (g : ℕ → ℕ) → ((i : ℕ) → i < n → natAbs (f i) ≤ g i) → natAbs (sum integers n f) ≤ over _+_ n g
+-- the sum of numbers that are not below zero
+pub sum-positive : (n : ℕ) (f : ℕ → ℕ) → sum integers n (λ i. pos (f i)) ≡ pos (over _+_ n f)
+unfolding sum integers over
+sum-positive zero f = refl
+sum-positive (suc n) f = ap (λ k. k +ℤ pos (f n)) (sum-positive n f)
+
+pub abs-below : (n : ℕ) (f : ℕ → ℤ) (g : ℕ → ℕ) → ((i : ℕ) → i < n → natAbs (f i) ≤ g i) → natAbs (sum integers n f) ≤ over _+_ n g
 abs-below n f g e = omega (arith, abs-sum n f, over-most n (λ i. natAbs (f i)) g e)
 
 module _ (h : J) (v : List ℤ) where

@@ -29,7 +29,7 @@ or-first b e = sym (ap (λ t. t || b) e)
 pub or-later : {a b r : Bool} → a ≡ false → r ≡ b → r ≡ (a || b)
 or-later {a} {b} e q = q ∙ sym (ap (λ t. t || b) e)
 
-or-none : (a b : Bool) → (a || b) ≡ false → (a ≡ false) × (b ≡ false)
+pub or-none : (a b : Bool) → (a || b) ≡ false → (a ≡ false) × (b ≡ false)
 or-none true b e = absurd (true-false e)
   where
     true-false : true ≡ false → ⊥

@@ -12,6 +12,7 @@ ghost use Rattle.cell.specs.Operations.{cellHalves, cellLengths, Sizes};
 ghost use Rattle.cell.specs.Volume.{volumeLength};
 ghost use Rattle.correlation.specs.Correlation.{allLong, buffersTests, correlationTests, headerOf};
 ghost use Rattle.correlation.specs.Steps.{exceedsAt};
+ghost use Rattle.correlation.specs.Orders.{CorrelationRefusals};
 
 // 3, 4, 5, each over the three axes, 9, then the buffers'.
 pub fn check_correlation(
@@ -107,3 +108,9 @@ fn exceeds_limit(half: usize, a: &[i64], b: &[i64]) -> bool
     let sum = crate::magnitudes::sum_of_magnitudes(a, half);
     crate::magnitudes::product_exceeds(sum, most_b)
 }
+
+// The refusals stand in the papers' order, and 28 is exactly that of magnitudes, or of a product of them, beyond the
+// limit.
+pub fn refusal_order()
+    ensures { λ _. ⌜ CorrelationRefusals ⌝ }
+{}

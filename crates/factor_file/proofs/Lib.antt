@@ -4,3 +4,4 @@ pub mod Judging
 pub mod Lengths
 pub mod RecordOrder
 pub mod Measuring
+pub mod Orders

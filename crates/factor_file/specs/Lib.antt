@@ -4,3 +4,4 @@ pub mod Steps
 pub mod Answers
 pub mod RecordOrder
 pub mod Measured
+pub mod Orders

@@ -8,9 +8,15 @@ mod records; // records.rt: its records, recorded in the job one after another
 
 use job::Job;
 use refusals::Refusal;
+ghost use Rattle.factor_file.specs.Orders.{FileRefusals};
 
 // The answer of the opening of a file: a job, or the refusal and the place, from 0, of the record at fault (0 where it is no record).
 pub enum FileAnswer {
     Opened(Job),
     Refused(Refusal, u32),
 }
+
+// The refusals of a file's record and of the writer stand in the papers' order.
+pub fn refusal_order()
+    ensures { λ _. ⌜ FileRefusals ⌝ }
+{}

@@ -3,3 +3,4 @@ pub mod Places
 pub mod Walk
 pub mod Layout
 pub mod Parsed
+pub mod Orders

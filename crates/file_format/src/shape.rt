@@ -10,6 +10,7 @@ ghost use Rattle.refusals.specs.Checks.{checkedNumber};
 ghost use Rattle.file_format.specs.Format.{miscounted, isVersion, fillingTests, shapeTests};
 ghost use Rattle.file_format.specs.Places.{PlacesOf};
 ghost use Rattle.file_format.specs.Parsed.{Bytes, ParsesBack};
+ghost use Rattle.file_format.specs.Orders.{ShapeRefusals};
 
 // Whether the first four bytes do not count the bytes that follow, or no version follows.
 fn is_miscounted(file: &[u8]) -> bool
@@ -70,4 +71,9 @@ pub fn are_bytes(file: &[u8])
 // its header and its records.
 pub fn parses_back()
     ensures { λ _. ⌜ ParsesBack ⌝ }
+{}
+
+// The refusals of a file's shape stand in the papers' order.
+pub fn refusal_order()
+    ensures { λ _. ⌜ ShapeRefusals ⌝ }
 {}

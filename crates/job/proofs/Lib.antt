@@ -8,3 +8,5 @@ pub mod Powers
 pub mod PowersKept
 pub mod Lengths
 pub mod Turns
+pub mod Orders
+pub mod SaidNumbers

@@ -4,3 +4,4 @@ pub mod Answers
 pub mod TestSteps
 pub mod PowerKept
 pub mod Turns
+pub mod Orders

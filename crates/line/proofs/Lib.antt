@@ -6,3 +6,4 @@ pub mod Demands
 pub mod TakenBack
 pub mod CalledSums
 pub mod EverySplit
+pub mod Orders

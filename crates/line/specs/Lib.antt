@@ -4,3 +4,4 @@ pub mod Specimens
 pub mod Tables
 pub mod Answers
 pub mod EverySplit
+pub mod Orders

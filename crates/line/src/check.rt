@@ -7,6 +7,7 @@ ghost use mathlib.Core.Path.{_≡_};
 ghost use Rattle.refusals.specs.Refusals.{first};
 ghost use Rattle.refusals.specs.Checks.{checkedNumber};
 ghost use Rattle.line.specs.Line.{lineTests};
+ghost use Rattle.line.specs.Orders.{LineRefusals};
 
 // The refusals of a line, in the paper's order. Residues are those of the modulus; the scratch counts by its length.
 pub fn check_line(
@@ -50,3 +51,8 @@ pub fn check_line(
     }
     Checked::Sound
 }
+
+// The refusals of a line stand in the papers' order, and 26 is exactly that of a modulus that is neither 1 nor 2.
+pub fn refusal_order()
+    ensures { λ _. ⌜ LineRefusals ⌝ }
+{}

@@ -7,3 +7,4 @@ pub mod Bytes
 pub mod Outcome
 pub mod Reading
 pub mod Viewing
+pub mod Orders

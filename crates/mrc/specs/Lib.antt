@@ -5,3 +5,4 @@ pub mod Ranges
 pub mod Mrc
 pub mod HeaderRead
 pub mod Viewed
+pub mod Orders

@@ -32,6 +32,7 @@ ghost use Rattle.mrc.specs.Ranges.{Spans, ofStored, CellValues};
 ghost use Rattle.mrc.specs.Mrc.{mrcBytes, fileLength, parameterTests, shapeTests, fillTests, mrcStep};
 ghost use Rattle.mrc.specs.Mrc.{Writable, PointsPlaced};
 ghost use Rattle.mrc.specs.Viewed.{PointsViewed, FloatLimit};
+ghost use Rattle.mrc.specs.Orders.{MrcRefusals};
 
 // The whole cell of a combined map goes to the output's first bytes, or the call is refused and changes nothing.
 pub fn mrc_map(
@@ -160,4 +161,9 @@ pub fn undetermined()
 // The least and the greatest density are those of the whole cell.
 pub fn cell_values()
     ensures { λ _. ⌜ CellValues ⌝ }
+{}
+
+// The refusals stand in the papers' order.
+pub fn refusal_order()
+    ensures { λ _. ⌜ MrcRefusals ⌝ }
 {}

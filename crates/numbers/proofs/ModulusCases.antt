@@ -1,5 +1,6 @@
 -- The modulus number is 1 or 2: what is computed for both holds for each.
 use mathlib.Core.Path.{_≡_, refl, sym, subst, _∙_}
+use mathlib.Core.Logic.{_↔_, _⊎_, inl, inr}
 use mathlib.Core.Bool.{true, false, _||_}
 use Prim.Native.Nat.{ℕ}
 use native.Mathlib.Omega.{arith}
@@ -32,3 +33,11 @@ tested-modulus m t = go (ℕ-discrete m 1) (ℕ-discrete m 2)
 
 pub modulus-tested : (m : ℕ) → IsModulus m → isModulus m ≡ true
 modulus-tested m is = by-modulus (λ m. isModulus m ≡ true) refl refl m is
+
+-- the test says that the modulus number is 1 or 2
+pub one-or-two : (m : ℕ) → (isModulus m ≡ true) ↔ ((m ≡ 1) ⊎ (m ≡ 2))
+one-or-two m = (λ t. by-modulus (λ m. (m ≡ 1) ⊎ (m ≡ 2)) (inl refl) (inr refl) m (tested-modulus m t), λ o. modulus-tested m (named o))
+  where
+    named : (m ≡ 1) ⊎ (m ≡ 2) → IsModulus m
+    named (inl e) = record { low = omega arith; high = omega arith }
+    named (inr e) = record { low = omega arith; high = omega arith }

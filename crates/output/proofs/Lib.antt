@@ -3,3 +3,4 @@ pub mod BigEndian
 pub mod LittleEndian
 pub mod Writing
 pub mod Numerals
+pub mod Answered

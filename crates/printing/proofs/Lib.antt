@@ -4,3 +4,4 @@ pub mod Opened
 pub mod Files
 pub mod Fits
 pub mod ReadText
+pub mod Orders

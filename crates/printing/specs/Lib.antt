@@ -4,3 +4,4 @@ pub mod Fits
 pub mod Text
 pub mod Printable
 pub mod ReadText
+pub mod Orders

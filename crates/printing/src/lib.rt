@@ -9,6 +9,7 @@ ghost use Rattle.printing.specs.Specimen.{PrintedSpecimen};
 ghost use Rattle.printing.specs.Fits.{AlwaysFits};
 ghost use Rattle.printing.specs.PrintedModel.{PrintsModel};
 ghost use Rattle.printing.specs.ReadText.{TextReads};
+ghost use Rattle.printing.specs.Orders.{TextRefusals};
 
 // The paper's printed specimen follows from the definitions.
 pub fn printed_specimen()
@@ -28,4 +29,9 @@ pub fn text_reads()
 // The text of a file within the limits is that of the reference model's map, or of its refusal.
 pub fn prints_model()
     ensures { λ _. ⌜ PrintsModel ⌝ }
+{}
+
+// The refusals of a map's text stand in the order of the writer's.
+pub fn refusal_order()
+    ensures { λ _. ⌜ TextRefusals ⌝ }
 {}

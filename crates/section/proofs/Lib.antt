@@ -7,3 +7,4 @@ pub mod Widths
 pub mod Lined
 pub mod Outcomes
 pub mod Places
+pub mod Orders

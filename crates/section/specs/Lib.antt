@@ -2,3 +2,4 @@ pub mod Section
 pub mod SectionLaws
 pub mod Sound
 pub mod SectionPlaces
+pub mod Orders

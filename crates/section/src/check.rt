@@ -10,6 +10,7 @@ ghost use Rattle.refusals.specs.Checks.{checkedNumber};
 ghost use Rattle.cell.specs.Operations.{cellLengths, Sizes};
 ghost use Rattle.section.specs.Section.{rowWithin, planeWithin, rowLines, sectionTests};
 ghost use Rattle.section.specs.Sound.{Plane};
+ghost use Rattle.section.specs.Orders.{SectionRefusals};
 
 // 8, 3, 9, 6, 10, 28, 18. The plane is looked at once, and nothing is written to know how long the page is.
 pub fn check_section(cell: UnitCell, map: &[i64], z: u32, room: usize) -> Checked
@@ -75,3 +76,8 @@ fn row_within(cell: UnitCell, map: &[i64], z: u32, x: u32) -> bool
     }
     true
 }
+
+// The refusals stand in the papers' order, and 28 is exactly that of a magnitude in the plane beyond the limit.
+pub fn refusal_order()
+    ensures { λ _. ⌜ SectionRefusals ⌝ }
+{}

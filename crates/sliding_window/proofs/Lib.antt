@@ -3,3 +3,4 @@ pub mod FirstBest
 pub mod Outcome
 pub mod EachWindow
 pub mod Blocks
+pub mod Orders

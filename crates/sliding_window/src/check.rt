@@ -6,6 +6,7 @@ ghost use Prim.Native.Nat.{_+_, _-_, _<_};
 ghost use Rattle.refusals.specs.Refusals.{first};
 ghost use Rattle.refusals.specs.Checks.{checkedNumber};
 ghost use Rattle.sliding_window.specs.Window.{windowTests};
+ghost use Rattle.sliding_window.specs.Orders.{WindowRefusals};
 
 // How many windows of w entries a run has. A window of none, which the call refuses, is counted as the definition counts it.
 pub fn window_count(length: usize, w: u32) -> usize
@@ -47,3 +48,8 @@ pub fn check_window(
     }
     Checked::Sound
 }
+
+// The refusals stand in the papers' order, and 34 is exactly that of a window that is not of 1 to 64 entries.
+pub fn refusal_order()
+    ensures { λ _. ⌜ WindowRefusals ⌝ }
+{}

@@ -2,7 +2,8 @@
 use mathlib.Core.Path.{_≡_, refl, sym, _∙_, ap, ap₂}
 use mathlib.Core.Bool.{cond}
 use mathlib.Core.List.{List}
-use Prim.Native.Nat.{ℕ, zero, suc, _+_, _*_, _<_, _≤_}
+use Prim.Native.Nat.{ℕ, zero, suc, _+_, _-_, _*_, _%_, _<_, _≤_}
+use native.Mathlib.Nat.{mod-eq-of-lt, add-mod-right}
 use native.Mathlib.Omega.{arith}
 use lib.Dec.{ltb}
 use lib.ListN.{getD}
@@ -39,7 +40,7 @@ larger-folds = record {
 }
 
 module _ {op : ℕ → ℕ → ℕ} (𝓕 : Folds op) where
-  over-append : (m n : ℕ) (f : ℕ → ℕ) → over op (m + n) f ≡ op (over op m f) (over op n (λ i. f (m + i)))
+  pub over-append : (m n : ℕ) (f : ℕ → ℕ) → over op (m + n) f ≡ op (over op m f) (over op n (λ i. f (m + i)))
   unfolding over
   over-append m zero f = along (λ k. over op k f) (m + 0) m (omega arith) ∙ sym (𝓕 .right-zero _)
   over-append m (suc n) f = along (λ k. over op k f) (m + suc n) (suc (m + n)) (omega arith) ∙ ap (λ k. op k (f (m + n))) (over-append m n f) ∙ 𝓕 .assoc _ _ _
@@ -90,7 +91,7 @@ unfolding over
 over-zero zero = refl
 over-zero (suc n) = omega (arith, over-zero n)
 
-over-add : (n : ℕ) (f g : ℕ → ℕ) → over _+_ n (λ i. f i + g i) ≡ over _+_ n f + over _+_ n g
+pub over-add : (n : ℕ) (f g : ℕ → ℕ) → over _+_ n (λ i. f i + g i) ≡ over _+_ n f + over _+_ n g
 unfolding over
 over-add zero f g = refl
 over-add (suc n) f g = omega (arith, over-add n f g)
@@ -109,3 +110,19 @@ pub over-most : (n : ℕ) (f g : ℕ → ℕ) → ((i : ℕ) → i < n → f i �
 unfolding over
 over-most zero f g e = omega arith
 over-most (suc n) f g e = omega (arith, over-most n f g (λ i l. e i (omega arith)), e n (omega arith))
+
+-- a sum over a whole line does not depend on where it starts
+pub over-round : (n s : ℕ) (f : ℕ → ℕ) → s < n → over _+_ n (λ x. f ((x + s) % n)) ≡ over _+_ n f
+over-round n s f l =
+    along (λ k. over _+_ k (λ x. f ((x + s) % n))) n (n - s + s) (omega arith)
+    ∙ over-append sum-folds (n - s) s (λ x. f ((x + s) % n))
+    ∙ ap₂ _+_ (over-cong _+_ (n - s) _ _ (λ x lx. low x lx)) (over-cong _+_ s _ _ (λ x lx. high x lx))
+    ∙ omega arith
+    ∙ sym (over-append sum-folds s (n - s) f)
+    ∙ along (λ k. over _+_ k f) (s + (n - s)) n (omega arith)
+  where
+    low : (x : ℕ) → x < n - s → f ((x + s) % n) ≡ f (s + x)
+    low x lx = ap f (mod-eq-of-lt (omega arith)) ∙ along f (x + s) (s + x) (omega arith)
+
+    high : (x : ℕ) → x < s → f ((n - s + x + s) % n) ≡ f x
+    high x lx = along (λ k. f (k % n)) (n - s + x + s) (x + n) (omega arith) ∙ ap f (add-mod-right x n ∙ mod-eq-of-lt (omega arith))

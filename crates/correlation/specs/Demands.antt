@@ -17,13 +17,44 @@ pub record Moved (h : J) (b : List ℤ) (u : J) (d : ℤ) (s : J) (before after 
   pub exactly : after ≡ before +ℤ d *ℤ countOf P1 h b (shiftedBy h u s)
   pub most : natAbs (d *ℤ countOf P1 h b (shiftedBy h u s)) ≤ natAbs d * largest h b
 
--- two calls of one cell that are both accepted, with any buffers
+-- two calls of one cell that are both accepted, with any factor lists and any buffers
 abbrev pub Sensitive : Type 0
-Sensitive = (c : Header) (a a′ b : List ℤ) (w w′ : Buffers) (n n′ : ℕ) (u : J) (d : ℤ) → let h = halfLengths (c .lengths) in
-    correlationStep c a b w .answer ≡ written n → correlationStep c a′ b w′ .answer ≡ written n′ → Inside h u → OneCount h a a′ u d
-    → (s : J) → Inside h s → Moved h b u d s (countOf P1 h (correlationStep c a b w .buffers .output) s) (countOf P1 h (correlationStep c a′ b w′ .buffers .output) s)
+Sensitive =
+    (c c′ : Header) → c .lengths ≡ c′ .lengths →
+    (a a′ b : List ℤ) (w w′ : Buffers) (n n′ : ℕ) (u : J) (d : ℤ) →
+    let h = halfLengths (c .lengths) in
+    correlationStep c a b w .answer ≡ written n →
+    correlationStep c′ a′ b w′ .answer ≡ written n′ →
+    Inside h u →
+    OneCount h a a′ u d →
+    (s : J) → Inside h s →
+    Moved h b u d s
+    (countOf P1 h (correlationStep c a b w .buffers .output) s)
+    (countOf P1 h (correlationStep c′ a′ b w′ .buffers .output) s)
 
--- a map with itself: at no shift stands the sum of the squares
+-- the value at every shift is within the range of a combined map
+abbrev pub WithinRange : Type 0
+WithinRange =
+    (c : Header) (a b : List ℤ) (w : Buffers) (n : ℕ) →
+    let h = halfLengths (c .lengths) in
+    correlationStep c a b w .answer ≡ written n →
+    (s : J) → Inside h s →
+    natAbs (countOf P1 h (correlationStep c a b w .buffers .output) s) ≤ 13063485600
+
+-- a map with itself: at no shift stands the sum of the squares, and no shift has a greater magnitude
 abbrev pub SelfAtZero : Type 0
-SelfAtZero = (c : Header) (a : List ℤ) (w : Buffers) (n : ℕ) → let h = halfLengths (c .lengths) in
-    correlationStep c a a w .answer ≡ written n → countOf P1 h (correlationStep c a a w .buffers .output) (0, 0, 0) ≡ totalOf h (λ u. countOf P1 h a u *ℤ countOf P1 h a u)
+SelfAtZero =
+    (c : Header) (a : List ℤ) (w : Buffers) (n : ℕ) →
+    let h = halfLengths (c .lengths) in
+    correlationStep c a a w .answer ≡ written n →
+    countOf P1 h (correlationStep c a a w .buffers .output) (0, 0, 0)
+    ≡ totalOf h (λ u. countOf P1 h a u *ℤ countOf P1 h a u)
+
+abbrev pub GreatestAtZero : Type 0
+GreatestAtZero =
+    (c : Header) (a : List ℤ) (w : Buffers) (n : ℕ) →
+    let h = halfLengths (c .lengths) in
+    let out = correlationStep c a a w .buffers .output in
+    correlationStep c a a w .answer ≡ written n →
+    (s : J) → Inside h s →
+    natAbs (countOf P1 h out s) ≤ natAbs (countOf P1 h out (0, 0, 0))

@@ -19,7 +19,7 @@ ghost use Rattle.combined.specs.CombinedMap.{limit};
 ghost use Rattle.correlation.specs.Correlation.{magnitudes, largest, correlation, headerOf, correlationStep};
 ghost use Rattle.correlation.specs.Steps.{axesHalves, SoundAxes};
 ghost use Rattle.correlation.specs.Answers.{buffers, correlationOutcome};
-ghost use Rattle.correlation.specs.Demands.{Sensitive, SelfAtZero};
+ghost use Rattle.correlation.specs.Demands.{Sensitive, WithinRange, SelfAtZero, GreatestAtZero};
 
 // At each shift the sum over all points of a(u) b(u + s), in the layout of the maps. The answer is how many numbers there are, or a
 // refusal, which leaves every buffer as it was. An accepted call leaves the work volumes zero.
@@ -101,8 +101,18 @@ fn correlate_sound(
     slices::buffers::zero(work3);
 }
 
-// If one count of a at u changes by d and both calls are accepted, the value at s moves by exactly d b(u + s); of a map with itself the
-// value at no shift is the sum of the squares. The function does nothing: it is there for its promise.
+// If one count of a at u changes by d and both calls are accepted, the value at s moves by exactly d b(u + s). The
+// function does nothing: it is there for its promise, as those below.
 pub fn sensitive()
-    ensures { λ _. ⌜ Sensitive × SelfAtZero ⌝ }
+    ensures { λ _. ⌜ Sensitive ⌝ }
+{}
+
+// The value at every shift is within the range of a combined map.
+pub fn within_range()
+    ensures { λ _. ⌜ WithinRange ⌝ }
+{}
+
+// Of a map with itself the value at no shift is the sum of the squares, and no shift has a greater magnitude.
+pub fn with_itself()
+    ensures { λ _. ⌜ SelfAtZero × GreatestAtZero ⌝ }
 {}

@@ -14,6 +14,10 @@ pub use Rattle.combined.specs.Chinese.{limit, tabulate}
 abbrev pub countOf : Group → J → List ℤ → J → ℤ
 countOf g a v x = getD v (densityPlace g a x) (pos 0)
 
+-- two maps that have the same number at every point of the cell, whatever stands behind their rows
+abbrev pub SamePoints : Group → J → (v w : List ℤ) → Type 0
+SamePoints g a v w = (x : J) → Inside a x → countOf g a v x ≡ countOf g a w x
+
 -- the number of a cell at a place of the layout: row z N1 + x has N2 + 2 places
 abbrev pub numberAt : Group → J → Cell ℤ → (place : ℕ) → ℤ
 numberAt g a M n =

@@ -11,3 +11,4 @@ pub mod Restored
 pub mod Outcome
 pub mod Demands
 pub mod Orders
+pub mod RowEnds

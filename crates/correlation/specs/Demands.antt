@@ -1,9 +1,9 @@
 -- What may be relied on of accepted calls: how the correlation moves with one count, and what it is of a map with itself at no shift.
-use Rattle.algebra.specs.Prelude.{_≡_, ℕ, _*_, _≤_, List}
+use Rattle.algebra.specs.Prelude.{_≡_, ℕ, _*_, _≤_, List, length}
 use Rattle.algebra.specs.cells.Cell.{J, Inside, P1}
 use Rattle.signed.specs.Integers.{ℤ, natAbs, _+ℤ_, _*ℤ_}
 use Rattle.header.specs.Header.{Header, halfLengths}
-use Rattle.combined.specs.CombinedMap.{countOf}
+use Rattle.combined.specs.CombinedMap.{countOf, SamePoints}
 use Rattle.output.specs.Output.{Filled.written}
 use Rattle.correlation.specs.Correlation.{shiftedBy, totalOf, largest, Buffers, correlationStep}
 
@@ -58,3 +58,15 @@ GreatestAtZero =
     correlationStep c a a w .answer ≡ written n →
     (s : J) → Inside h s →
     natAbs (countOf P1 h out s) ≤ natAbs (countOf P1 h out (0, 0, 0))
+
+-- what the two numbers behind each row hold does not matter: maps that agree at every point of the cell give the same
+-- answer and leave the same
+abbrev pub RowEndsUnread : Type 0
+RowEndsUnread =
+    (c : Header) (a a′ b b′ : List ℤ) (w : Buffers) →
+    let h = halfLengths (c .lengths) in
+    length a ≡ length a′ →
+    length b ≡ length b′ →
+    SamePoints P1 h a a′ →
+    SamePoints P1 h b b′ →
+    correlationStep c a b w ≡ correlationStep c a′ b′ w

@@ -19,7 +19,7 @@ ghost use Rattle.combined.specs.CombinedMap.{limit};
 ghost use Rattle.correlation.specs.Correlation.{magnitudes, largest, correlation, headerOf, correlationStep};
 ghost use Rattle.correlation.specs.Steps.{axesHalves, SoundAxes};
 ghost use Rattle.correlation.specs.Answers.{buffers, correlationOutcome};
-ghost use Rattle.correlation.specs.Demands.{Sensitive, WithinRange, SelfAtZero, GreatestAtZero};
+ghost use Rattle.correlation.specs.Demands.{Sensitive, WithinRange, SelfAtZero, GreatestAtZero, RowEndsUnread};
 
 // At each shift the sum over all points of a(u) b(u + s), in the layout of the maps. The answer is how many numbers there are, or a
 // refusal, which leaves every buffer as it was. An accepted call leaves the work volumes zero.
@@ -115,4 +115,9 @@ pub fn within_range()
 // Of a map with itself the value at no shift is the sum of the squares, and no shift has a greater magnitude.
 pub fn with_itself()
     ensures { λ _. ⌜ SelfAtZero × GreatestAtZero ⌝ }
+{}
+
+// No number behind a row is read.
+pub fn row_ends_unread()
+    ensures { λ _. ⌜ RowEndsUnread ⌝ }
 {}

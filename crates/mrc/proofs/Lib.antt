@@ -8,3 +8,4 @@ pub mod Outcome
 pub mod Reading
 pub mod Viewing
 pub mod Orders
+pub mod PointsRead

@@ -6,3 +6,4 @@ pub mod Mrc
 pub mod HeaderRead
 pub mod Viewed
 pub mod Orders
+pub mod PointsRead

@@ -28,6 +28,7 @@ ghost use Rattle.mrc.specs.Floats.{FloatsExact};
 ghost use Rattle.mrc.specs.Header.{Undetermined};
 ghost use Rattle.mrc.specs.HeaderRead.{HeaderRead};
 ghost use Rattle.mrc.specs.Parameters.{ofGroup, ParameterEnds, GroupParameters};
+ghost use Rattle.mrc.specs.PointsRead.{ReadsPointsAlone};
 ghost use Rattle.mrc.specs.Ranges.{Spans, ofStored, CellValues};
 ghost use Rattle.mrc.specs.Mrc.{mrcBytes, fileLength, parameterTests, shapeTests, fillTests, mrcStep};
 ghost use Rattle.mrc.specs.Mrc.{Writable, PointsPlaced};
@@ -117,6 +118,11 @@ fn file_length(cell: UnitCell) -> usize
     let n3 = cell.n3 as usize;
     1024 + n3 * (n2 * (n1 * 4))
 }
+
+// Nothing but the numbers of the cell's points is read.
+pub fn reads_points_alone()
+    ensures { λ _. ⌜ ReadsPointsAlone ⌝ }
+{}
 
 // A reader finds each point's density at its place in the file.
 pub fn points_placed()

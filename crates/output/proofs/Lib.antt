@@ -4,3 +4,4 @@ pub mod LittleEndian
 pub mod Writing
 pub mod Numerals
 pub mod Answered
+pub mod Each

@@ -8,3 +8,4 @@ pub mod Lined
 pub mod Outcomes
 pub mod Places
 pub mod Orders
+pub mod PointsRead

@@ -3,3 +3,4 @@ pub mod SectionLaws
 pub mod Sound
 pub mod SectionPlaces
 pub mod Orders
+pub mod PointsRead

@@ -16,6 +16,7 @@ ghost use Rattle.cell.specs.Operations.{cellLengths};
 ghost use Rattle.output.specs.Written.{Wrote, Ends};
 ghost use Rattle.output.specs.Answers.{fillOutcome};
 ghost use Rattle.section.specs.Section.{sectionText, sectionStep};
+ghost use Rattle.section.specs.PointsRead.{ReadsPlaneAlone};
 ghost use Rattle.section.specs.SectionLaws.{SectionLaws, SectionWidth, SectionPoints};
 ghost use Rattle.section.specs.SectionPlaces.{SectionPlaces};
 ghost use Rattle.section.specs.Sound.{Sound};
@@ -57,6 +58,11 @@ fn put_section(out: &mut [u8], cell: UnitCell, map: &[i64], z: u32) -> usize
     let rows = crate::lines::put_rows(out, 0, cell, map, z);
     crate::fields::put_closing(out, rows, total, points)
 }
+
+// Nothing but the numbers of the plane's points is read.
+pub fn reads_plane_alone()
+    ensures { λ _. ⌜ ReadsPlaneAlone ⌝ }
+{}
 
 // Of every section that is written: the total is the mean times the points and the remainder, every line has 69
 // characters and a line feed, and each number is read at its bytes of the page. Of a combined map of a cell: the

@@ -1,5 +1,6 @@
 -- Every transform fact, for every prime of the shape: of a line of any admitted length 2 A, where A divides 1,440, and of a cell of three such lengths.
 use mathlib.Core.Path.{_≡_, refl, sym, _∙_, ap, subst}
+use mathlib.Core.Bool.{Bool, true, false}
 use mathlib.Core.List.{[], _∷_}
 use Prim.Native.Nat.{ℕ, zero, suc, _+_, _*_, _/_, _<_}
 use native.Mathlib.Nat as N
@@ -8,15 +9,25 @@ use native.Mathlib.Decide.{decLt}
 use Rattle.algebra.specs.ring.Ring.{Ops, pow, dft}
 use Rattle.algebra.specs.fourier.Axis.{cast, Root, AxisLaws}
 use Rattle.algebra.specs.lines.Kinds.{Kind}
-use Rattle.algebra.proofs.ring.Laws.{pow-add}
+use Rattle.algebra.proofs.ring.Laws.{pow-add, neg-one-mul}
 use Rattle.algebra.proofs.ring.Solver.{ring, quote, linear}
 use Rattle.algebra.proofs.fourier.Transform.{pow-mul, root-of}
 use Rattle.algebra.proofs.ring.Conj.{conj-pow}
 use Rattle.algebra.proofs.lines.FoldAll.{forward-is, back-is, restores, restores-after}
 use Rattle.algebra.proofs.lines.Rules.{before-rule, after-rule, before-pack, after-pack, transform-rule, inverse-rule}
+use Rattle.algebra.specs.cells.Cell.{negI}
+use Rattle.algebra.specs.cells.CellPack.{even}
 use Rattle.algebra.proofs.cells.CellMap.{factors-map, map-factors}
+use Rattle.algebra.proofs.cells.CellOps.{friedel-real}
+use Rattle.algebra.proofs.cells.CellPower.{power}
+use Rattle.algebra.proofs.cells.CellCorrelation.{correlation}
+use Rattle.algebra.proofs.cells.CellSteps.{synthesis, analysis, hermitian}
+use Rattle.algebra.proofs.cells.CellLines.{line-P2₁, line-Pm, line-Pa, line-4}
+use Rattle.algebra.proofs.cells.CellLawful.{map-lawful}
+use Rattle.algebra.proofs.cells.CellPack.{signOf, pow-even}
 use Rattle.prime_shape.specs.Shape.{Value, field, conj, i, part, Shape}
-use Rattle.prime_shape.specs.Transform.{rootOf, axisOf, forwardOf, inverseOf, wholeBefore, wholeAfter, HalfTangents, LineFacts, CellFacts, EveryPrime}
+use Rattle.prime_shape.specs.Transform.{rootOf, axisOf, forwardOf, inverseOf, wholeBefore, wholeAfter, HalfTangents, LineFacts, CellFacts, SumFacts, PassFacts, EveryPrime}
+use Rattle.prime_shape.proofs.Inverses.{ring-of}
 use Rattle.prime_shape.proofs.Shapes.{field-ring, field-star, part-law, half-law, half-turn, root-of-unity}
 
 module _ {p c a : ℕ} {r : Value p} (S : Shape p c a r) where
@@ -115,15 +126,56 @@ module _ {p c a : ℕ} {r : Value p} (S : Shape p c a r) where
       fold-back-is = λ tau h. back-is (field-ring S) (field-star S) (axis-by tau h);
     }
 
-  cell-facts : (A B C : ℕ) → LineFacts p r A → LineFacts p r B → LineFacts p r C → CellFacts p r A B C
-  cell-facts A B C x y z =
-      let X = x .axis (x .some-tangents .0) (x .some-tangents .1) in
-      let Y = y .axis (y .some-tangents .0) (y .some-tangents .1) in
-      let Z = z .axis (z .some-tangents .0) (z .some-tangents .1) in
-      record { factors-map = factors-map (field-ring S) X Y Z; map-factors = map-factors (field-ring S) X Y Z }
+  module _ (A B C : ℕ) (x : LineFacts p r A) (y : LineFacts p r B) (z : LineFacts p r C) where
+    abbrev X : AxisLaws (field p) (conj p) (i p) (part p 2) (axisOf p r A) (x .some-tangents .0)
+    X = x .axis (x .some-tangents .0) (x .some-tangents .1)
+
+    abbrev Y : AxisLaws (field p) (conj p) (i p) (part p 2) (axisOf p r B) (y .some-tangents .0)
+    Y = y .axis (y .some-tangents .0) (y .some-tangents .1)
+
+    abbrev Z : AxisLaws (field p) (conj p) (i p) (part p 2) (axisOf p r C) (z .some-tangents .0)
+    Z = z .axis (z .some-tangents .0) (z .some-tangents .1)
+
+    pub cell-facts : CellFacts p r A B C
+    cell-facts = record { factors-map = factors-map (field-ring S) X Y Z; map-factors = map-factors (field-ring S) X Y Z }
+
+    pub sum-facts : SumFacts p r A B C
+    sum-facts = record {
+      real = λ F o x y z lx ly lz. sym (friedel-real (field-ring S) (field-star S) X Y Z F .0 o (x, y, z) (lx, ly, lz));
+      power = power (field-ring S) (field-star S) X Y Z;
+      correlation = λ M K real s t u. correlation (field-ring S) (field-star S) X Y Z s t u M K real;
+    }
+
+    -- (-1)^h, by the parity of h
+    sign-of : (h : ℕ) (b : Bool) → even h ≡ b → pow (field p) (⊖ 𝟙) h ≡ signOf (ring-of (S .is-prime)) b
+    sign-of h b e = pow-even (ring-of (S .is-prime)) h ∙ ap (signOf (ring-of (S .is-prime))) e
+
+    -- i times -s conj v is s times the conjugate of i v
+    turned-rule : (s v : Value p) → i p ⊗ (⊖ 𝟙 ⊗ (s ⊗ conj p v)) ≡ s ⊗ conj p (i p ⊗ v)
+    turned-rule s v = step s (conj p v) ∙ ap (λ y. s ⊗ y) (ap (λ y. y ⊗ conj p v) (sym (field-star S .conj-i)) ∙ sym (field-star S .conj-mul (i p) v))
+      where
+        step : (s u : Value p) → i p ⊗ (⊖ 𝟙 ⊗ (s ⊗ u)) ≡ s ⊗ (⊖ i p ⊗ u)
+        step s u = ring (field-ring S) (i p ∷ s ∷ u ∷ []) (search quote depth 40 fits 9999) refl
+
+    pub pass-facts : PassFacts p r A B C
+    unfolding negI
+    pass-facts = record {
+      passes = synthesis (field-ring S) (conj p) (axisOf p r A) (axisOf p r B) (axisOf p r C);
+      passes-back = analysis (field-ring S) (conj p) (axisOf p r A) (axisOf p r B) (axisOf p r C);
+      p21 = λ F o h k lh lk l ll. line-P2₁ (field-ring S) (field-star S) (A, B, C) F o h k l lh lk ll;
+      pm = λ F o h k lh lk l ll. line-Pm (field-ring S) (field-star S) (A, B, C) F o h k l lh lk ll;
+      pa-even = λ F o h k lh lk e l ll. line-Pa (field-ring S) (field-star S) (A, B, C) F o h k l lh lk ll ∙ ap (λ y. y ⊗ F h k l) (sign-of h true e) ∙ field-ring S .one-mul _;
+      pa-odd = λ F o h k lh lk e l ll. line-Pa (field-ring S) (field-star S) (A, B, C) F o h k l lh lk ll ∙ ap (λ y. y ⊗ F h k l) (sign-of h false e) ∙ neg-one-mul (field-ring S) _;
+      p212121-even = λ F o h k lh lk e l ll. line-4 (field-ring S) (field-star S) (A, B, C) F o h k l lh lk ll ∙ ap (λ y. y ⊗ (pow (field p) (⊖ 𝟙) l ⊗ conj p (F h k l))) (sign-of h true e) ∙ field-ring S .one-mul _;
+      p212121-odd = λ F o h k lh lk e l ll. ap (λ y. i p ⊗ y) (line-4 (field-ring S) (field-star S) (A, B, C) F o h k l lh lk ll ∙ ap (λ y. y ⊗ (pow (field p) (⊖ 𝟙) l ⊗ conj p (F h k l))) (sign-of h false e)) ∙ turned-rule (pow (field p) (⊖ 𝟙) l) (F h k l);
+      along-k = λ F o x z lx lz k lk. hermitian (field-ring S) (field-star S) X Y Z F o x k z lx lk lz;
+      images = map-lawful (field-ring S) (field-star S) X Y Z;
+    }
 
 pub every-prime : EveryPrime
 every-prime = record {
   lines = λ p c a r S. line-facts S;
   cells = λ p c a r S A B C x y z dx dy dz. cell-facts S A B C (line-facts S A x dx) (line-facts S B y dy) (line-facts S C z dz);
+  sums = λ p c a r S A B C x y z dx dy dz. sum-facts S A B C (line-facts S A x dx) (line-facts S B y dy) (line-facts S C z dz);
+  passes = λ p c a r S A B C x y z dx dy dz. pass-facts S A B C (line-facts S A x dx) (line-facts S B y dy) (line-facts S C z dz);
 }

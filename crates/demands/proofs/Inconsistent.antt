@@ -1,5 +1,5 @@
 -- Refusal 14: the tests before it make the volume one of residues, as long as the sizes ask for, and then its test decides whether a whole cell has it.
-use mathlib.Core.Path.{_≡_, refl, sym, ap, _∙_}
+use mathlib.Core.Path.{_≡_, refl, _∙_}
 use mathlib.Core.Logic.{_↔_, _⊎_, inl, inr}
 use mathlib.Core.Bool.{true, false, not}
 use mathlib.Core.List.{List, [], _∷_, _++_}
@@ -12,8 +12,9 @@ use Rattle.numbers.specs.Value.{prime, isModulus}
 use Rattle.numbers.proofs.Primes.{prime-pos}
 use Rattle.slices.specs.Pairs.{allBelow}
 use Rattle.slices.proofs.Bounds.{below-allBelow}
-use Rattle.refusals.specs.Refusals.{Test, _⇒_, first, accepted}
+use Rattle.refusals.specs.Refusals.{Test, _⇒_, first}
 use Rattle.refusals.proofs.Tests.{pass, none, passed}
+use Rattle.refusals.proofs.Orders.{others, other-first, refused-unless, negated}
 use Rattle.lengths.specs.Lengths.{scratchLength}
 use Rattle.cell.specs.Volume.{groupOf}
 use Rattle.cell.specs.Consistency.{consistentFactors, consistentMap}
@@ -22,41 +23,14 @@ use Rattle.cell.proofs.Consistency.{factors-consistent}
 use Rattle.cell.proofs.Maps.{map-consistent}
 use Rattle.header.proofs.Headers.{sound-axes}
 use Rattle.job.specs.declared.Job.{Job}
-use Rattle.job.specs.Job.{Header, halfLengths, axisTests, mapHeld, validJob, groupIn, halves, asLong, fits, Opening, opened, notOpened, OpenOutcome, openTests, openStep, Said, done, density, factor, power, refused, Worked, synthesisStep, analysisStep}
-use Rattle.job.specs.TestSteps.{synthesisTests, analysisTests}
+use Rattle.job.specs.Job.{Header, halfLengths, axisTests, mapHeld, validJob, groupIn, halves, asLong, fits, notOpened, OpenOutcome, openTests, openStep, refused, Outcome, Worked, synthesisStep, analysisStep, mapPowerStep, factorPowerStep}
+use Rattle.job.specs.TestSteps.{synthesisTests, analysisTests, mapPowerTests, factorPowerTests}
 use Rattle.job.proofs.Jobs.{valid-job-sizes}
+use Rattle.job.proofs.SaidNumbers.{said-says, opening-says}
 use Rattle.factor_file.specs.File.{jobFile, writeTests, writeStep}
-use Rattle.output.specs.Output.{Filled, written, notWritten, FillOutcome}
+use Rattle.output.specs.Output.{notWritten, FillOutcome}
+use Rattle.output.proofs.Answered.{fill-says}
 use Rattle.demands.specs.Demands.{InconsistentExactly}
-use Rattle.demands.proofs.TestOrder.{others, other-first, decides}
-
--- ---- what an answer says of the first test that holds: the number of a refusal, 0 of any other answer
-
--- the outcome is o where no test holds, else f of the number, and its answer tells which
-says-number : {O A : Type 0} (number : A → ℕ) (answer : O → A) (o : O) (f : ℕ → O) (r : ℕ → A) → ((n : ℕ) → answer (f n) ≡ r n) → ((n : ℕ) → number (r n) ≡ n) → number (answer o) ≡ 0 → (n : ℕ) → number (answer (accepted n o f)) ≡ n
-says-number number answer o f r e g z zero = z
-says-number number answer o f r e g z (suc n) = ap number (e (suc n)) ∙ g (suc n)
-
-says : {O A : Type 0} (number : A → ℕ) (answer : O → A) (o : O) (f : ℕ → O) (r : ℕ → A) → ((n : ℕ) → answer (f n) ≡ r n) → ((n : ℕ) → number (r n) ≡ n) → number (answer o) ≡ 0 → (n k : ℕ) → (n ≡ suc k) ↔ (answer (accepted n o f) ≡ r (suc k))
-says number answer o f r e g z n k = (
-  λ q. ap (λ n. answer (accepted n o f)) q ∙ e (suc k),
-  λ q. sym (says-number number answer o f r e g z n) ∙ ap number q ∙ g (suc k),
-)
-
-abbrev saidNumber : Said → ℕ
-saidNumber done = 0
-saidNumber (density n) = 0
-saidNumber (factor x y) = 0
-saidNumber (power n) = 0
-saidNumber (refused n) = n
-
-abbrev openingNumber : Opening → ℕ
-openingNumber (opened j) = 0
-openingNumber (notOpened n place) = n
-
-abbrev writingNumber : Filled → ℕ
-writingNumber (written n) = 0
-writingNumber (notWritten n) = n
 
 -- ---- the tests before 14
 
@@ -94,24 +68,39 @@ header-map μ h v e =
 
 -- ---- the calls
 
+module _ (j : Job) (v : List ℕ) where
+  abbrev beforeMapPower : List Test
+  beforeMapPower = not (validJob j) ⇒ 25 ∷ not (eqb (j .state) mapHeld) ⇒ 22 ∷ not (fits j v) ⇒ 6 ∷ not (allBelow (prime (j .modulus)) v) ⇒ 7 ∷ []
+
+  abbrev beforeFactorPower : List Test
+  beforeFactorPower = not (validJob j) ⇒ 25 ∷ eqb (j .state) mapHeld ⇒ 23 ∷ not (fits j v) ⇒ 6 ∷ not (allBelow (prime (j .modulus)) v) ⇒ 7 ∷ []
+
 pub inconsistent-exactly : InconsistentExactly
-unfolding openStep synthesisStep analysisStep writeStep
+unfolding openStep synthesisStep analysisStep mapPowerStep factorPowerStep writeStep
 inconsistent-exactly = record {
-  opening = λ μ h v only. decides (beforeMap μ h v) [] (consistentMap (groupOf (h .group)) (halfLengths (h .lengths)) v) 13 tt (openStep μ h 1 v .answer) (λ n. notOpened n 0)
-      (says openingNumber (λ (o : OpenOutcome). o .answer) _ _ (λ n. notOpened n 0) (λ n. refl) (λ n. refl) refl (first (openTests μ h 1 v)))
-      tt (λ k e. at-fourteen (beforeMap μ h v) tt k (only (suc k) 0 e)) _ (header-map μ h v);
-  synthesis = λ j v scratch only. decides (beforeSynthesis j v (length scratch)) [] (consistentFactors (groupIn j) (halves j) (j .modulus) v) 13 tt (synthesisStep j v scratch .outcome .answer) refused
-      (says saidNumber (λ (o : Worked). o .outcome .answer) _ _ refused (λ n. refl) (λ n. refl) refl (first (synthesisTests j v (length scratch))))
+  opening = λ μ h v only. refused-unless (beforeMap μ h v) [] (not (consistentMap (groupOf (h .group)) (halfLengths (h .lengths)) v)) 13 tt (openStep μ h 1 v .answer) (λ n. notOpened n 0)
+      (opening-says _ _ refl (λ n. refl) (first (openTests μ h 1 v)))
+      tt (λ k e. at-fourteen (beforeMap μ h v) tt k (only (suc k) 0 e)) _ (λ e. negated _ (header-map μ h v e));
+  synthesis = λ j v scratch only. refused-unless (beforeSynthesis j v (length scratch)) [] (not (consistentFactors (groupIn j) (halves j) (j .modulus) v)) 13 tt (synthesisStep j v scratch .outcome .answer) refused
+      (said-says (λ (o : Worked). o .outcome .answer) _ _ refl (λ n. refl) (first (synthesisTests j v (length scratch))))
       tt (λ k e. at-fourteen (beforeSynthesis j v (length scratch)) tt k (only (suc k) e)) _
-      (λ e. let t = passed (beforeSynthesis j v (length scratch)) tt e in job-factors j v (t .0) (t .1 .1 .0) (t .1 .1 .1 .1 .0));
-  analysis = λ j v scratch only. decides (beforeAnalysis j v (length scratch)) [] (consistentMap (groupIn j) (halves j) v) 13 tt (analysisStep j v scratch .outcome .answer) refused
-      (says saidNumber (λ (o : Worked). o .outcome .answer) _ _ refused (λ n. refl) (λ n. refl) refl (first (analysisTests j v (length scratch))))
+      (λ e. let t = passed (beforeSynthesis j v (length scratch)) tt e in negated _ (job-factors j v (t .0) (t .1 .1 .0) (t .1 .1 .1 .1 .0)));
+  analysis = λ j v scratch only. refused-unless (beforeAnalysis j v (length scratch)) [] (not (consistentMap (groupIn j) (halves j) v)) 13 tt (analysisStep j v scratch .outcome .answer) refused
+      (said-says (λ (o : Worked). o .outcome .answer) _ _ refl (λ n. refl) (first (analysisTests j v (length scratch))))
       tt (λ k e. at-fourteen (beforeAnalysis j v (length scratch)) tt k (only (suc k) e)) _
-      (λ e. let t = passed (beforeAnalysis j v (length scratch)) tt e in job-map j v (t .0) (t .1 .1 .0) (t .1 .1 .1 .1 .0));
-  writer = λ j v output only. decides (beforeWriting j v) (ltb (length output) (length (jobFile j v)) ⇒ 18 ∷ []) (consistentFactors (groupIn j) (halves j) (j .modulus) v) 13 tt (writeStep j v output .answer) notWritten
-      (says writingNumber (λ (o : FillOutcome). o .answer) _ _ notWritten (λ n. refl) (λ n. refl) refl (first (writeTests j v output)))
+      (λ e. let t = passed (beforeAnalysis j v (length scratch)) tt e in negated _ (job-map j v (t .0) (t .1 .1 .0) (t .1 .1 .1 .1 .0)));
+  map-power = λ j v only. refused-unless (beforeMapPower j v) [] (not (consistentMap (groupIn j) (halves j) v)) 13 tt (mapPowerStep j v .answer) refused
+      (said-says (λ (o : Outcome). o .answer) _ _ refl (λ n. refl) (first (mapPowerTests j v)))
+      tt (λ k e. at-fourteen (beforeMapPower j v) tt k (only (suc k) e)) _
+      (λ e. let t = passed (beforeMapPower j v) tt e in negated _ (job-map j v (t .0) (t .1 .1 .0) (t .1 .1 .1 .0)));
+  factor-power = λ j v only. refused-unless (beforeFactorPower j v) [] (not (consistentFactors (groupIn j) (halves j) (j .modulus) v)) 13 tt (factorPowerStep j v .answer) refused
+      (said-says (λ (o : Outcome). o .answer) _ _ refl (λ n. refl) (first (factorPowerTests j v)))
+      tt (λ k e. at-fourteen (beforeFactorPower j v) tt k (only (suc k) e)) _
+      (λ e. let t = passed (beforeFactorPower j v) tt e in negated _ (job-factors j v (t .0) (t .1 .1 .0) (t .1 .1 .1 .0)));
+  writer = λ j v output only. refused-unless (beforeWriting j v) (ltb (length output) (length (jobFile j v)) ⇒ 18 ∷ []) (not (consistentFactors (groupIn j) (halves j) (j .modulus) v)) 13 tt (writeStep j v output .answer) notWritten
+      (fill-says (λ (o : FillOutcome). o .answer) _ _ (length (jobFile j v)) refl (λ n. refl) (first (writeTests j v output)))
       tt (λ k e. after-seven j v k (only (suc k) e)) _
-      (λ e. let t = passed (beforeWriting j v) tt e in job-factors j v (t .0) (t .1 .1 .0) (t .1 .1 .1 .0));
+      (λ e. let t = passed (beforeWriting j v) tt e in negated _ (job-factors j v (t .0) (t .1 .1 .0) (t .1 .1 .1 .0)));
 }
   where
     at-fourteen : (ts : List Test) → T (others 14 ts) → (k : ℕ) → suc k ≡ 14 → first ts ≡ suc k → ⊥

@@ -27,7 +27,7 @@ use Rattle.job.proofs.Jobs.{valid-job-sizes}
 use Rattle.model.specs.Model.{Model, group, half, factorOf, Call, recording, modelTests, modelSaid, modelAfter, modelNext, modelJob, modelVolume}
 use Rattle.model.proofs.Sound.{LawfulModel, halves-positive, within-inside}
 use Rattle.demands.specs.Demands.{modelEnd, Ran, LaterValueCounts}
-use Rattle.demands.proofs.TestOrder.{other-first}
+use Rattle.refusals.proofs.Orders.{other-first}
 use Rattle.demands.proofs.Corollaries.{not-this, record-said}
 use Rattle.demands.proofs.Lists.{end-sound, end-header}
 use Rattle.demands.proofs.Starts.{started-sound, started-runs}

@@ -1,4 +1,3 @@
-pub mod TestOrder
 pub mod Lists
 pub mod Corollaries
 pub mod Restoring

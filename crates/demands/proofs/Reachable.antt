@@ -20,7 +20,7 @@ use Rattle.job.proofs.Jobs.{job-of-header, valid-parts, valid-with}
 use Rattle.model.specs.Model.{Model, Call, recording, synthesis, analysis, readPoint, readFactor, readMapPower, readFactorPower, modelTests, modelNext, modelAfter, modelJob, modelVolume, inState, zeroModel}
 use Rattle.demands.specs.Demands.{opening, step, Ran, modelEnd, Reachable, ImpossibleExactly}
 use Rattle.model.proofs.Sound.{LawfulModel}
-use Rattle.demands.proofs.TestOrder.{others, other-first}
+use Rattle.refusals.proofs.Orders.{others, other-first}
 use Rattle.demands.proofs.Corollaries.{runs}
 use Rattle.demands.proofs.Lists.{every-list, end-sound}
 use Rattle.demands.proofs.Openings.{opening-sound, opening-gives}

@@ -12,7 +12,7 @@ use Rattle.cell.specs.Exactly.{FactorsConsistent, MapConsistent}
 use Rattle.job.specs.declared.Job.{Job}
 use Rattle.job.specs.declared.Reflection.{Reflection}
 use Rattle.job.specs.declared.GridPoint.{GridPoint}
-use Rattle.job.specs.Job.{Header, halfLengths, needed, mapHeld, factorsHeld, withState, headerOf, validJob, groupIn, halves, within, index, position, opened, notOpened, OpenOutcome, ownTests, openTests, openStep, Said, done, density, refused, recordStep, synthesisStep, analysisStep, pointStep, factor, power}
+use Rattle.job.specs.Job.{Header, halfLengths, needed, mapHeld, factorsHeld, withState, headerOf, validJob, groupIn, halves, within, index, position, opened, notOpened, OpenOutcome, ownTests, openTests, openStep, Said, done, density, refused, recordStep, synthesisStep, analysisStep, pointStep, mapPowerStep, factorPowerStep, factor, power}
 use Rattle.file_format.specs.declared.FileRecord.{FileRecord}
 use Rattle.refusals.specs.Refusals.{first}
 use Rattle.factor_file.specs.File.{indexOf, indexIn, countAt, recordsIn, shapeTests, fileStep, modulusIn, headerIn, writeStep}
@@ -255,6 +255,16 @@ pub record InconsistentExactly : Type 0 where
       ((n : ℕ) → a ≡ refused n → n ≡ 14) → ((a ≡ refused 14) ↔ (FactorsConsistent (groupIn j) (halves j) (j .modulus) v → ⊥))
   pub analysis : (j : Job) (v scratch : List ℕ) → let a = analysisStep j v scratch .outcome .answer in
       ((n : ℕ) → a ≡ refused n → n ≡ 14) → ((a ≡ refused 14) ↔ (MapConsistent (groupIn j) (halves j) (j .modulus) v → ⊥))
+  pub map-power :
+      (j : Job) (v : List ℕ) →
+      let a = mapPowerStep j v .answer in
+      ((n : ℕ) → a ≡ refused n → n ≡ 14) →
+      ((a ≡ refused 14) ↔ (MapConsistent (groupIn j) (halves j) (j .modulus) v → ⊥))
+  pub factor-power :
+      (j : Job) (v : List ℕ) →
+      let a = factorPowerStep j v .answer in
+      ((n : ℕ) → a ≡ refused n → n ≡ 14) →
+      ((a ≡ refused 14) ↔ (FactorsConsistent (groupIn j) (halves j) (j .modulus) v → ⊥))
   pub writer : (j : Job) (v output : List ℕ) → let a = writeStep j v output .answer in
       ((n : ℕ) → a ≡ notWritten n → (n ≡ 14) ⊎ (n ≡ 18)) → ((a ≡ notWritten 14) ↔ (FactorsConsistent (groupIn j) (halves j) (j .modulus) v → ⊥))
 

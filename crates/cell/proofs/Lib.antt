@@ -18,3 +18,4 @@ pub mod OperationLaws
 pub mod PlaceLaws
 pub mod Scans
 pub mod StoredFactors
+pub mod ZeroSlots

@@ -1,29 +1,35 @@
 -- Records of value zero by calls: one that is taken changes nothing, so that a later record of its orbit is taken too, and its value counts.
 use mathlib.Core.Path.{_≡_, refl, sym, _∙_, ap, subst}
-use mathlib.Core.Bool.{Bool, true, false, not}
+use mathlib.Core.Logic.{_↔_, _⊎_}
+use mathlib.Core.Bool.{Bool, true, false, _&&_, not}
 use mathlib.Core.List.{List, [], _∷_, _++_}
-use Prim.Native.Nat.{ℕ, zero, suc}
+use Prim.Native.Nat.{ℕ, zero, suc, _/_, _%_}
 use native.Mathlib.Omega.{arith}
 use lib.Dec.{ltb, eqb}
-use borrow.Author.Tests.{not-false, eqb-true, ltb-true}
+use borrow.Author.Tests.{not-false, eqb-true, ltb-true, lt-ltb}
 use Rattle.algebra.specs.ring.Ring.{gauss, residues}
-use Rattle.algebra.specs.cells.Cell.{Sym, one, full, imageOf, flip, factorActs}
+use Rattle.algebra.specs.cells.Cell.{Inside, Sym, one, full, imageOf, flip, factorActs}
 use Rattle.algebra.specs.orbits.Orbit.{Mem}
 use Rattle.algebra.proofs.orbits.Orbits.{record-at, orbit-zero}
 use Rattle.algebra.proofs.cells.CellSym.{implied-one}
 use Rattle.algebra.proofs.cells.CellGroup.{factor-action, closed, implied-zero}
 use Rattle.numbers.specs.Value.{prime, value}
 use Rattle.numbers.proofs.Values.{field-ring, field-star}
+use Rattle.numbers.proofs.Primes.{prime-pos}
 use Rattle.refusals.specs.Refusals.{Test, _⇒_, first, accepted}
-use Rattle.refusals.proofs.Tests.{passed, pass, stop, not-t, both}
+use Rattle.refusals.specs.Orders.{NoneOf}
+use Rattle.refusals.proofs.Tests.{passed, pass, none, stop, not-t, both}
 use Rattle.cell.specs.Volume.{groupOf}
-use Rattle.cell.specs.Consistency.{recordOn, recordIn, agreesWithItself}
+use Rattle.cell.specs.Consistency.{recordOn, recordIn, agreesWithItself, orbitFree}
 use Rattle.cell.proofs.Records.{agrees-iff}
 use Rattle.cell.proofs.ZeroRecords.{zero-record}
+use Rattle.cell.proofs.ZeroSlots.{slot-free}
+use Rattle.header.proofs.Headers.{all-three}
 use Rattle.job.specs.declared.Job.{Job}
 use Rattle.job.specs.declared.Reflection.{Reflection}
-use Rattle.job.specs.Job.{Header, halfLengths, collecting, headerOf, validJob, groupIn, halves, index, done, refused, Said, Outcome, unchanged, ownTests, orbitTests, recordTests, recordStep}
+use Rattle.job.specs.Job.{Header, halfLengths, collecting, headerOf, validJob, groupIn, halves, asLong, within, index, done, refused, Said, Outcome, unchanged, ownTests, orbitTests, recordTests, recordStep}
 use Rattle.job.proofs.Jobs.{valid-job-sizes}
+use Rattle.job.proofs.SaidNumbers.{said-says}
 use Rattle.model.specs.Model.{Model, group, half, factorOf, Call, recording, modelTests, modelSaid, modelAfter, modelNext, modelJob, modelVolume}
 use Rattle.model.proofs.Sound.{LawfulModel, halves-positive, within-inside}
 use Rattle.demands.specs.Demands.{modelEnd, Ran, LaterValueCounts}
@@ -79,6 +85,59 @@ module _ (j : Job) (k : Reflection) (v : List ℕ) where
       by true f e = last _ (f refl) (not-this _ 7 12 _ (λ q. omega arith) (not-this _ 10 12 _ (λ q. omega arith) (not-this _ 21 12 _ (λ q. omega arith) (not-this false 25 12 _ (λ q. omega arith) e))))
       by false f e = let z : _≡_ {A = ℕ} 25 12 = stop _ refl ∙ e in omega arith
 
+-- ---- Pa's zero slots
+
+-- a test that is not the first to hold does not hold
+settled : (b : Bool) (n : ℕ) (ts : List Test) → (first (not b ⇒ n ∷ ts) ≡ n → ⊥) → b ≡ true
+unfolding first
+settled true n ts f = refl
+settled false n ts f = absurd (f refl)
+
+module _ (j : Job) (k : Reflection) (v : List ℕ) where
+  abbrev zeroAnswer : Said
+  zeroAnswer = recordStep j k 0 0 v .answer
+
+  zero-says : (n : ℕ) → (first (recordTests j (index k) 0 0 v) ≡ suc n) ↔ (zeroAnswer ≡ refused (suc n))
+  unfolding recordStep
+  zero-says = said-says (λ (o : Outcome). o .answer) _ _ refl (λ n. refl) (first (recordTests j (index k) 0 0 v))
+
+  zero-done : 0 ≡ first (recordTests j (index k) 0 0 v) → zeroAnswer ≡ done
+  unfolding recordStep
+  zero-done e =
+      let written = recordOn (groupIn j) (halves j) (j .modulus) (index k) (value (j .modulus) 0 0) v in
+      ap (λ n. accepted {O = Outcome} n (record { answer = done; job = j; volume = written }) (unchanged j v) .answer) (sym e)
+
+  inside-of : validJob j ≡ true → within (headerOf j .lengths) (index k) ≡ true → Inside (halves j) (index k)
+  inside-of valid e =
+      let s = valid-job-sizes j valid in
+      let t = all-three (ltb (k .0) (j .a .length)) (ltb (k .1) (j .b .length)) (ltb (k .2) (j .c .length)) e in
+      (rw (s .first .whole) (ltb-true _ _ (t .0)), rw (s .second .whole) (ltb-true _ _ (t .1)), rw (s .third .whole) (ltb-true _ _ (t .2)))
+
+  slot-vacant : j .group ≡ 3 → k .0 % 2 ≡ 1 → (k .2 ≡ 0) ⊎ (k .2 ≡ j .c .length / 2) → validJob j ≡ true → within (headerOf j .lengths) (index k) ≡ true →
+      orbitFree (groupOf (j .group)) (halfLengths (headerOf j .lengths)) v (index k) ≡ true
+  slot-vacant g odd end valid within =
+      let s = valid-job-sizes j valid in
+      ap (λ n. orbitFree (groupOf n) (halfLengths (headerOf j .lengths)) v (index k)) g
+      ∙ slot-free (halves j) (s .first .positive, s .second .positive, s .third .positive) v (index k) (inside-of valid within) odd end
+
+  zero-slot : j .group ≡ 3 → k .0 % 2 ≡ 1 → (k .2 ≡ 0) ⊎ (k .2 ≡ j .c .length / 2) → NoneOf refused (25 ∷ 21 ∷ 10 ∷ 6 ∷ []) zeroAnswer → zeroAnswer ≡ done
+  zero-slot g odd end given =
+      let n = headerOf j .lengths in
+      let residues : (ltb 0 (prime (j .modulus)) && ltb 0 (prime (j .modulus))) ≡ true = λ i. lt-ltb 0 _ (prime-pos (j .modulus)) i && lt-ltb 0 _ (prime-pos (j .modulus)) i in
+      let six = orbitTests (j .group) n (index k) v in
+      let twelve = not (agreesWithItself (groupOf (j .group)) (halfLengths n) (j .modulus) (index k) (value (j .modulus) 0 0)) ⇒ 12 ∷ six in
+      let seven = not (ltb 0 (prime (j .modulus)) && ltb 0 (prime (j .modulus))) ⇒ 7 ∷ twelve in
+      let ten = not (within n (index k)) ⇒ 10 ∷ seven in
+      let twentyone = not (eqb (j .state) collecting) ⇒ 21 ∷ ten in
+      let valid = settled (validJob j) 25 twentyone (λ e. given .0 (zero-says 24 .0 e)) in
+      let p = pass {m = first twentyone} 25 twentyone (not-t _ valid) refl in
+      let state = settled (eqb (j .state) collecting) 21 ten (λ e. given .1 .0 (zero-says 20 .0 (sym p ∙ e))) in
+      let q = pass {m = first ten} 21 ten (not-t _ state) refl ∙ p in
+      let inner = settled (within n (index k)) 10 seven (λ e. given .1 .1 .0 (zero-says 9 .0 (sym q ∙ e))) in
+      let r = pass {m = first six} 12 six (not-t _ (agrees j k v valid)) refl ∙ pass {m = first twelve} 7 twelve (not-t _ residues) refl ∙ pass {m = first seven} 10 seven (not-t _ inner) refl ∙ q in
+      let long = settled (asLong (j .group) n v) 6 (not (orbitFree (groupOf (j .group)) (halfLengths n) v (index k)) ⇒ 24 ∷ []) (λ e. given .1 .1 .1 .0 (zero-says 5 .0 (sym r ∙ e))) in
+      zero-done (pass 6 _ (not-t _ long) (pass 24 [] (not-t _ (slot-vacant g odd end valid inner)) none) ∙ r)
+
 -- ---- after any list of calls
 
 -- a call at the end of a list
@@ -118,6 +177,7 @@ module _ {μ : ℕ} (m : Model μ) (sound : LawfulModel m) where
 pub later-value-counts : LaterValueCounts
 later-value-counts = record {
   unchanged = zero-unchanged;
+  zero-slot = zero-slot;
   agrees = zero-agrees;
   taken = λ μ s j v m started l k k′ q mq e x y took own.
       let sound = end-sound m (started-sound s j v m started .0) l in

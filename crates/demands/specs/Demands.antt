@@ -1,7 +1,7 @@
 -- Lists of calls: what they answer and leave on a job and a volume, each call by its own promise, and what the model says of the same list.
 -- The third demand: over every list of calls from an accepted opening or file on, every answer, the job and the volume are the model's; and what follows from it.
 -- Each statement is the promise of the function of the same name in src/lib.rt.
-use Rattle.algebra.specs.Prelude.{_≡_, _↔_, true, eqb, ℕ, suc, _+_, _≤_, List, [], _∷_, _++_, map, length, take, replicate}
+use Rattle.algebra.specs.Prelude.{_≡_, _↔_, true, eqb, ℕ, suc, _+_, _/_, _%_, _≤_, List, [], _∷_, _++_, map, length, take, replicate}
 use mathlib.Core.Logic.{_⊎_}
 use Rattle.algebra.specs.cells.Cell.{J, Sym, ops, full, imageOf, pointImage, at, factorActs}
 use Rattle.algebra.specs.orbits.Orbit.{Mem, Perm, recordAll}
@@ -15,6 +15,7 @@ use Rattle.job.specs.declared.GridPoint.{GridPoint}
 use Rattle.job.specs.Job.{Header, halfLengths, needed, mapHeld, factorsHeld, withState, headerOf, validJob, groupIn, halves, within, index, position, opened, notOpened, OpenOutcome, ownTests, openTests, openStep, Said, done, density, refused, recordStep, synthesisStep, analysisStep, pointStep, mapPowerStep, factorPowerStep, factor, power}
 use Rattle.file_format.specs.declared.FileRecord.{FileRecord}
 use Rattle.refusals.specs.Refusals.{first}
+use Rattle.refusals.specs.Orders.{NoneOf}
 use Rattle.factor_file.specs.File.{indexOf, indexIn, countAt, recordsIn, shapeTests, fileStep, modulusIn, headerIn, writeStep}
 use Rattle.model.specs.Model.{Model, group, half, factorOf, densityOf, signedReal, Call, modelVolume, modelJob, factorVolume, mapVolume, Beginning, begun, notBegun, recording, synthesis, analysis, readPoint, readFactor, readMapPower, readFactorPower, modelSaid, modelAfter, openingModel, modelOpen, modelFile}
 use Rattle.output.specs.Output.{notWritten}
@@ -235,6 +236,14 @@ pub record FileAsCalls : Type 0 where
 pub record LaterValueCounts : Type 0 where
   -- a record of value zero that is taken changes neither job nor volume, whatever the volume holds: no later call can tell that it was made
   pub unchanged : (j : Job) (k : Reflection) (v : List ℕ) → recordStep j k 0 0 v .answer ≡ done → recordStep j k 0 0 v ≡ record { answer = done; job = j; volume = v }
+  -- at Pa's zero slots, where h is odd and l is 0 or A, it is taken whatever stands there
+  pub zero-slot :
+      (j : Job) (k : Reflection) (v : List ℕ) →
+      j .group ≡ 3 →
+      k .0 % 2 ≡ 1 →
+      (k .2 ≡ 0) ⊎ (k .2 ≡ j .c .length / 2) →
+      NoneOf refused (25 ∷ 21 ∷ 10 ∷ 6 ∷ []) (recordStep j k 0 0 v .answer) →
+      recordStep j k 0 0 v .answer ≡ done
   -- it is refused by 12 at no index
   pub agrees : (j : Job) (k : Reflection) (v : List ℕ) → recordStep j k 0 0 v .answer ≡ refused 12 → ⊥
   -- after it a record of its orbit that its own numbers do not refuse is taken

@@ -11,3 +11,4 @@ pub mod Order
 pub mod FileRecords
 pub mod LaterValues
 pub mod SharedItems
+pub mod ModelPower

@@ -3,3 +3,4 @@ pub mod Written
 pub mod Specimens
 pub mod Grids
 pub mod Shared
+pub mod ModelPower

@@ -6,6 +6,7 @@ pub mod specimens; // specimens.rt: the paper's specimens
 
 ghost use Rattle.demands.specs.Demands.{EveryList, RefusedStarts, FaultlessStarts, FactorsImplied, TripleSums, MapsReal, ImagesAlike, AnalysisRestores, OrderFree, AlikeStarts, FileOrderFree, OccupiedExactly, FileOccupied, FileAsCalls, LaterValueCounts, InconsistentExactly, ImpossibleExactly};
 ghost use Rattle.demands.specs.Shared.{SharedSynthesis};
+ghost use Rattle.demands.specs.ModelPower.{ModelPower};
 
 // Over every list of calls: answers, job and volume.
 pub fn every_list()
@@ -95,4 +96,9 @@ pub fn impossible_exactly()
 // An entering and the turns that finish its lane stand in a job's list of calls as one synthesis.
 pub fn shared_synthesis()
     ensures { λ _. ⌜ SharedSynthesis ⌝ }
+{}
+
+// The model's two powers are real, and the first is N1 N2 N3 times the second.
+pub fn model_power()
+    ensures { λ _. ⌜ ModelPower ⌝ }
 {}

@@ -39,7 +39,7 @@ even-whole n e = omega arith
 
 module _ (j : Job) (valid : validJob j ≡ true) where
   -- the cell's points by the job's lengths
-  points : (p : ℕ) → (cellPoints (halves j) * p) % prime (j .modulus) ≡ timesPoints j p
+  pub points : (p : ℕ) → (cellPoints (halves j) * p) % prime (j .modulus) ≡ timesPoints j p
   points p =
       let s = valid-job-sizes j valid .sizes in
       ap (λ n. (n * p) % prime (j .modulus)) (ap₂ (λ x y. x * y) (ap₂ (λ x y. x * y) (even-whole _ (s .first .even)) (even-whole _ (s .second .even))) (even-whole _ (s .third .even)))

@@ -121,7 +121,7 @@ module _ {μ : ℕ} (m : Model μ) (sound : LawfulModel m) where
 
   -- ---- the map
 
-  map-is-real : RealMap (group m) (half m) μ (mapOf μ (half m) (m .F))
+  pub map-is-real : RealMap (group m) (half m) μ (mapOf μ (half m) (m .F))
   map-is-real = map-real (group m) (half m) μ (axis-laws μ modulus (sizes .first)) (axis-laws μ modulus (sizes .second)) (axis-laws μ modulus (sizes .third)) (m .F) (sound .lawful)
 
   -- every image of a point has its value

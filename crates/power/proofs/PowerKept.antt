@@ -54,7 +54,7 @@ module _ (g : Group) (a : J) (m : ℕ) {h : Value m} {tx ty tz : ℕ → Value m
   long = (𝓧 .positive, 𝓨 .positive, 𝓩 .positive)
 
   -- a cell F that obeys the group, and cells that are its map and itself inside
-  kept : (F M E : Cell (Value m)) → Lawful (field m) (conj m) a g F → ((j : J) → Inside a j → Cell.at M j ≡ Cell.at (mapOf m a F) j) → ((j : J) → Inside a j → Cell.at E j ≡ Cell.at F j)
+  pub kept : (F M E : Cell (Value m)) → Lawful (field m) (conj m) a g F → ((j : J) → Inside a j → Cell.at M j ≡ Cell.at (mapOf m a F) j) → ((j : J) → Inside a j → Cell.at E j ≡ Cell.at F j)
       → (overCell m a (λ x y z. field m .mul (M x y z) (M x y z))) .0 .val ≡ (cellPoints a * (overCell m a (λ h k l. field m .mul (E h k l) (conj m (E h k l)))) .0 .val) % prime m
   unfolding total residue
   kept F M E lawful em ee =

@@ -10,7 +10,7 @@ use Rattle.numbers.specs.declared.Pair.{Pair}
 use Rattle.numbers.specs.Value.{prime, Value, field, valueOf}
 use Rattle.slices.specs.Pairs.{listOf}
 use Rattle.butterflies.specs.Equation3.{outer}
-use Rattle.plain.specs.Plain.{stepped}
+use Rattle.plain.specs.Plain.{innerSums, stepped, StepParts}
 use Rattle.butterflies.specs.declared.twiddle.Places.{Places}
 use Rattle.batches.specs.declared.lane.Three.{Three}
 use Rattle.batches.specs.declared.lane.Four.{Four}
@@ -94,3 +94,9 @@ fivePairs p q (suc (suc (suc (suc n)))) = record { re = p .x4; im = q .x4 }
 pub record SteppedLanes (m : ℕ) (W : Value m) (A B M : ℕ) (from to : List ℕ) : Type 0 where
   pub each : (v j : ℕ) → v < 16 → j < A * B * M
       → valueOf m (laneAt to j v) ≡ stepped (field m) W A B M (λ i. valueOf m (laneAt from i v)) j
+
+-- the three parts of equation (3) in each lane, for every line X that the lane's line came from
+pub record LaneParts (m : ℕ) (W : Value m) (A B M : ℕ) (from to : List ℕ) : Type 0 where
+  pub each : (v : ℕ) → v < 16 → (X : ℕ → Value m)
+      → lineIn m (A * B * M) v from ≡ listOf (A * B * M) (innerSums (field m) W A (M * B) X)
+      → StepParts m W A B M X (lineIn m (A * B * M) v from) (lineIn m (A * B * M) v to)

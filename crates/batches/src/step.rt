@@ -7,7 +7,7 @@ ghost use Rattle.numbers.specs.Value.{prime, IsModulus};
 ghost use Rattle.roots.specs.Table.{tableRoot, RootTable};
 ghost use Rattle.plain.specs.Plain.{Splits};
 ghost use Rattle.batches.specs.Reduction.{ShiftedTable};
-ghost use Rattle.batches.specs.Lanes.{UpTo, Apart, FirstStep, SteppedLanes};
+ghost use Rattle.batches.specs.Lanes.{UpTo, Apart, FirstStep, SteppedLanes, LaneParts};
 ghost use Rattle.batches.specs.Copying.{PlacedSums};
 
 // The B outer sums of one 𝐚, at their places. y is lent for the work.
@@ -62,8 +62,10 @@ pub fn step<'a>(
         × (length (now to) ≡ 32 * (inner * outer * lines)) ⌝ }
     requires { ⌜ UpTo 1073741823 (now from) × (inner ≡ 1 → UpTo (8 * prime m) (now from)) ⌝ }
     ensures { λ _. ⌜ SteppedLanes m (tableRoot m (now (re .entry)) (now (im .entry))) inner outer lines
-        (now (from .entry)) (now (to .exit))
-        × ((X : ℕ) → UpTo X (now (from .entry)) → UpTo (X + 32 * prime m) (now (to .exit))) ⌝ }
+        (now (from .entry)) (now (to .exit)) ⌝ }
+    ensures { λ _. ⌜ ((X : ℕ) → UpTo X (now (from .entry)) → UpTo (X + 32 * prime m) (now (to .exit))) ⌝ }
+    ensures { λ _. ⌜ LaneParts m (tableRoot m (now (re .entry)) (now (im .entry))) inner outer lines
+        (now (from .entry)) (now (to .exit)) ⌝ }
 {
     let stride = lines * inner;
     let skip = outer * inner - inner;

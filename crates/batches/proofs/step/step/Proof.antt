@@ -7,6 +7,7 @@ use Rattle.roots.specs.Table.{tableRoot}
 use Rattle.slices.proofs.Rows.{rows-wide}
 use Rattle.plain.proofs.step.Sizes.{outer-pos, product-le, product-pos, stride-le}
 use Rattle.batches.proofs.PassingLanes.{PassingLanes, passing-start, passing-apart, passing-stores, passing-first, passing-column, passing-base, passing-exponent, passing-next, passing-again, passing-all, passing-done, up-of}
+use Rattle.batches.proofs.LaneLaw.{lane-parts}
 use Rattle.batches.proofs.step.step.Statement.{statement}
 use Rattle.batches.proofs.step.step.Tie as tie
 
@@ -118,7 +119,13 @@ returns c =
     let at-loop = c .before in
     let s = at-loop .before .before .before in
     let h = at-loop .loop .inv .0 in
-    (passing-done h (c .loop-test .left) (s .pre .1 .1 .0), λ X up. up-of (h .long) (λ v j hv lj. let g = passing-all h (c .loop-test .left) X up v j hv lj in (g .re, g .im)))
+    let left = passing-done h (c .loop-test .left) (s .pre .1 .1 .0) in (
+      left,
+      (
+        λ X up. up-of (h .long) (λ v j hv lj. let g = passing-all h (c .loop-test .left) X up v j hv lj in (g .re, g .im)),
+        record { each = λ v lv X came. lane-parts (s .args .m) _ left lv (s .pre .1 .0 .0) (s .pre .0 .1 .cycle) X came },
+      ),
+    )
 
 pub step-spec : {M : Type 1} → statement M
 step-spec = tie.close (tie.spec Inv-loop μ-loop mul-stride mul-skip sub-skip mul-exponent div-exponent loop-holds outer-sums-requires add-first add-a add-base add-k add-base-2 loop-less loop-again loop-less-2 loop-again-2 same-length returns)

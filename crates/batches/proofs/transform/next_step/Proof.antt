@@ -28,7 +28,7 @@ returns c =
     let p = c .before .before in
     let n = p .before .before .before in
     let s = n .before .before .before in
-    (n .next .ensures, (batch-left (s .pre .1 .0 .0) (n .next .ensures) (p .step .ensures .0), p .step .ensures .1))
+    (n .next .ensures, (batch-left (s .pre .1 .0 .0) (n .next .ensures) (p .step .ensures .0), p .step .ensures .1 .0))
 
 pub next-step-spec : {M : Type 1} → statement M
 next-step-spec = tie.close (tie.spec next-requires cast-step step-requires same-length returns)

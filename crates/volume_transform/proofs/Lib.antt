@@ -1,3 +1,4 @@
+pub mod GroupTurns
 pub mod Turning
 pub mod Ready
 pub mod OwnTurns

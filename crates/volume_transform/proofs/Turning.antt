@@ -12,7 +12,7 @@ use Rattle.volume_transform.specs.Axes.{lineOfTurn}
 use Rattle.volume_transform.specs.Plans.{planGroup, planHalves, Fitting, planTurn}
 use Rattle.volume_transform.specs.declared.plan.Plan.{Plan}
 use Rattle.volume_transform.specs.Turns.{turns}
-use Rattle.volume_transform.proofs.sums.Turns.{turns-next, length-turns, below-turns}
+use Rattle.volume_transform.proofs.sums.Turns.{turns-one, turns-add, length-turns, below-turns}
 
 -- n of count turns are done
 pub record Turning (step : ℕ → List ℕ → List ℕ) (count n : ℕ) (v₀ v s₀ s fold₀ fold work₀ work : List ℕ) : Type 0 where
@@ -28,16 +28,21 @@ unfolding turns
 turning-start = record { le = omega arith; is = refl; same = refl; scratch-long = refl; fold-long = refl; work-long = refl }
 
 module _ {step : ℕ → List ℕ → List ℕ} {count n : ℕ} {v₀ v s₀ s fold₀ fold work₀ work : List ℕ} where
-  pub turning-next : {v′ s′ fold′ work′ : List ℕ} → Turning step count n v₀ v s₀ s fold₀ fold work₀ work → n < count → v′ ≡ step n v → Kept s s′ → length s′ ≡ length s → length fold′ ≡ length fold → length work′ ≡ length work
-      → Turning step count (n + 1) v₀ v′ s₀ s′ fold₀ fold′ work₀ work′
-  turning-next t l e k a b c = record {
-    le = omega arith;
-    is = e ∙ ap (step n) (t .is) ∙ along (λ q. step q (turns step 0 n v₀)) n (0 + n) (omega arith) ∙ sym (turns-next step 0 n v₀);
-    same = k ∙ t .same;
+  -- k more turns
+  pub turning-more : {v′ s′ fold′ work′ : List ℕ} → Turning step count n v₀ v s₀ s fold₀ fold work₀ work → (k : ℕ) → n + k ≤ count → v′ ≡ turns step n k v → Kept s s′ → length s′ ≡ length s → length fold′ ≡ length fold → length work′ ≡ length work
+      → Turning step count (n + k) v₀ v′ s₀ s′ fold₀ fold′ work₀ work′
+  turning-more t k l e same a b c = record {
+    le = l;
+    is = e ∙ ap (turns step n k) (t .is) ∙ along (λ q. turns step q k (turns step 0 n v₀)) n (0 + n) (omega arith) ∙ sym (turns-add step 0 n k v₀);
+    same = same ∙ t .same;
     scratch-long = a ∙ t .scratch-long;
     fold-long = b ∙ t .fold-long;
     work-long = c ∙ t .work-long;
   }
+
+  pub turning-next : {v′ s′ fold′ work′ : List ℕ} → Turning step count n v₀ v s₀ s fold₀ fold work₀ work → n < count → v′ ≡ step n v → Kept s s′ → length s′ ≡ length s → length fold′ ≡ length fold → length work′ ≡ length work
+      → Turning step count (n + 1) v₀ v′ s₀ s′ fold₀ fold′ work₀ work′
+  turning-next t l e same a b c = turning-more t 1 (omega arith) (e ∙ sym (turns-one step n v)) same a b c
 
   pub turning-done : Turning step count n v₀ v s₀ s fold₀ fold work₀ work → count ≤ n → v ≡ turns step 0 count v₀
   turning-done t l = t .is ∙ along (λ k. turns step 0 k v₀) n count (omega (arith, t .le))

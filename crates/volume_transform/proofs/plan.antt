@@ -1,3 +1,4 @@
 pub mod Numbered
 pub mod JobTurns
 pub mod AxisLines
+pub mod Neighbours

@@ -52,6 +52,20 @@ pub record Spaced (len : ℕ) (x : Line) : Type 0 where
   pub low : x .count ≤ 2880
   pub fits : 2 * (x .start + x .count * x .stride) + 2 ≤ len + 2 * x .stride
 
+-- the line v places further on
+abbrev pub shifted : Line → ℕ → Line
+shifted x v = record {
+  m = x .m;
+  direction = x .direction;
+  kind = x .kind;
+  rotated = x .rotated;
+  factors = x .factors;
+  half = x .half;
+  start = x .start + v;
+  stride = x .stride;
+  count = x .count;
+}
+
 -- the neighbouring pairs of a row
 pub record Beside (len : ℕ) (x : Line) : Type 0 where
   pub sound : SoundLine x

@@ -6,6 +6,7 @@ use crate::plan::Plan;
 ghost use Prim.Native.Nat.{_<_};
 ghost use Rattle.volume_transform.specs.Axes.{turnOf, numbersOf, alongH, alongK, turnedH, turnedK};
 ghost use Rattle.volume_transform.specs.Plans.{planGroup, planHalves, SizesIn, Planned, Counted, Gathered, Row};
+ghost use Rattle.volume_transform.specs.Groups.{Neighbours};
 
 // How many lines there are along each axis.
 pub fn line_counts(plan: Plan) -> Counts
@@ -29,6 +30,9 @@ pub fn along_h(plan: Plan, y: usize) -> Line
         (turnOf (alongH (planGroup plan) (planHalves plan))
         (turnedH (planGroup plan) (planHalves plan) (plan .m) (plan .direction)) y)
         (numbersOf (alongH (planGroup plan) (planHalves plan)) y) r ⌝ }
+    ensures { λ r. ⌜ Neighbours plan (turnOf (alongH (planGroup plan) (planHalves plan))
+        (turnedH (planGroup plan) (planHalves plan) (plan .m) (plan .direction)))
+        (numbersOf (alongH (planGroup plan) (planHalves plan))) y r ⌝ }
 {
     let width = (plan.cell.n2 / 2 + 1) as usize;
     let rows = plan.cell.n1 as usize;

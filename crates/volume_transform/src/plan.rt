@@ -31,3 +31,9 @@ pub struct Line {
     pub stride: usize,
     pub count: usize,
 }
+
+// A line and those that are turned together with it: as many lines as there are lanes, each a place further on than the one before.
+pub struct LineGroup {
+    pub line: Line,
+    pub lanes: usize,
+}

@@ -115,15 +115,21 @@ module _ {p : Plan} {x : Line} {step other own mine : List ℕ → List ℕ} (e 
   row-as r = record { modulus = r .modulus; direction = r .direction; placed = r .placed; turn = λ v. r .turn v ∙ sym (e v); numbers = λ v. r .numbers v ∙ sym (f v) }
 
 module _ (p : Plan) (c : Counts) (counts : Counted p c) (j : ℕ) {x : Line} where
-  pub at-l : j < c .l → Gathered p (turnOf (alongL (planGroup p) (planHalves p)) (turnedL (planGroup p) (planHalves p) (p .m) (p .direction)) j) (numbersOf (alongL (planGroup p) (planHalves p)) j) x → LineAt p j x
-  at-l lt g = inl (gathered-as
+  pub gathered-at-l : j < c .l → Gathered p (turnOf (alongL (planGroup p) (planHalves p)) (turnedL (planGroup p) (planHalves p) (p .m) (p .direction)) j) (numbersOf (alongL (planGroup p) (planHalves p)) j) x → Gathered p (lineTurn p j) (planNumbers p j) x
+  gathered-at-l lt g = gathered-as
       (λ v. along (λ q. lineTurn p q v) j (0 + j) (omega arith) ∙ turn-l (planGroup p) (planHalves p) (p .m) (p .direction) j (omega (arith, counts .l)) v)
-      (λ v. along (λ q. planNumbers p q v) j (0 + j) (omega arith) ∙ numbers-of-l (planGroup p) (planHalves p) j (omega (arith, counts .l)) v) g)
+      (λ v. along (λ q. planNumbers p q v) j (0 + j) (omega arith) ∙ numbers-of-l (planGroup p) (planHalves p) j (omega (arith, counts .l)) v) g
+
+  pub at-l : j < c .l → Gathered p (turnOf (alongL (planGroup p) (planHalves p)) (turnedL (planGroup p) (planHalves p) (p .m) (p .direction)) j) (numbersOf (alongL (planGroup p) (planHalves p)) j) x → LineAt p j x
+  at-l lt g = inl (gathered-at-l lt g)
+
+  pub gathered-at-h : c .l ≤ j → j < c .l + c .h → Gathered p (turnOf (alongH (planGroup p) (planHalves p)) (turnedH (planGroup p) (planHalves p) (p .m) (p .direction)) (j - c .l)) (numbersOf (alongH (planGroup p) (planHalves p)) (j - c .l)) x → Gathered p (lineTurn p j) (planNumbers p j) x
+  gathered-at-h ge lt g = gathered-as
+      (λ v. along (λ q. lineTurn p q v) j (alongL (planGroup p) (planHalves p) .count + (j - c .l)) (omega (arith, counts .l)) ∙ turn-h (planGroup p) (planHalves p) (p .m) (p .direction) (j - c .l) (omega (arith, counts .h)) v)
+      (λ v. along (λ q. planNumbers p q v) j (alongL (planGroup p) (planHalves p) .count + (j - c .l)) (omega (arith, counts .l)) ∙ numbers-of-h (planGroup p) (planHalves p) (j - c .l) (omega (arith, counts .h)) v) g
 
   pub at-h : c .l ≤ j → j < c .l + c .h → Gathered p (turnOf (alongH (planGroup p) (planHalves p)) (turnedH (planGroup p) (planHalves p) (p .m) (p .direction)) (j - c .l)) (numbersOf (alongH (planGroup p) (planHalves p)) (j - c .l)) x → LineAt p j x
-  at-h ge lt g = inl (gathered-as
-      (λ v. along (λ q. lineTurn p q v) j (alongL (planGroup p) (planHalves p) .count + (j - c .l)) (omega (arith, counts .l)) ∙ turn-h (planGroup p) (planHalves p) (p .m) (p .direction) (j - c .l) (omega (arith, counts .h)) v)
-      (λ v. along (λ q. planNumbers p q v) j (alongL (planGroup p) (planHalves p) .count + (j - c .l)) (omega (arith, counts .l)) ∙ numbers-of-h (planGroup p) (planHalves p) (j - c .l) (omega (arith, counts .h)) v) g)
+  at-h ge lt g = inl (gathered-at-h ge lt g)
 
   pub at-k : c .l + c .h ≤ j → Row p (turnOf (alongK (planGroup p) (planHalves p)) (turnedK (planGroup p) (planHalves p) (p .m) (p .direction)) (j - (c .l + c .h))) (numbersOf (alongK (planGroup p) (planHalves p)) (j - (c .l + c .h))) x → LineAt p j x
   at-k ge r = inr (row-as

@@ -4,7 +4,6 @@ use mathlib.Core.Bool.{Bool, true, false, cond}
 use mathlib.Core.List.{List}
 use Prim.Native.Nat.{ℕ, zero, suc, _+_, _-_, _<_}
 use native.Mathlib.Nat.{add-zero, add-suc}
-use native.Mathlib.Numerals.{add-one}
 use native.Mathlib.Omega.{arith}
 use lib.Dec.{ltb}
 use lib.ListN.{length}
@@ -25,9 +24,9 @@ use Rattle.volume_transform.proofs.plan.Numbered.{order-k, order-h, ord
 use Rattle.volume_transform.specs.Turns.{turns}
 
 module _ (step : ℕ → List ℕ → List ℕ) where
-  pub turns-next : (j n : ℕ) (d : List ℕ) → turns step j (n + 1) d ≡ step (j + n) (turns step j n d)
+  pub turns-one : (j : ℕ) (d : List ℕ) → turns step j 1 d ≡ step j d
   unfolding turns
-  turns-next j n d = rw add-one
+  turns-one j d = along (λ q. step q d) (j + 0) j (omega arith)
 
   pub turns-add : (j n p : ℕ) (d : List ℕ) → turns step j (n + p) d ≡ turns step (j + n) p (turns step j n d)
   unfolding turns

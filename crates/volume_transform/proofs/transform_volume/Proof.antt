@@ -1,11 +1,7 @@
--- The tables are those of the direction, and the scratch is cleared of what the lines left there.
+-- The tables are those of the direction.
 use borrow.Author.Needs.{needs}
 use native.Mathlib.Omega.{arith}
-use mathlib.Core.Path.{refl, _∙_, ap}
-use mathlib.Core.List.{List, _++_}
-use Prim.Native.Nat.{ℕ}
-use lib.ListN.{replicate}
-use Rattle.lengths.specs.Lengths.{cleared}
+use mathlib.Core.Path.{refl}
 use Rattle.line.proofs.table.Directions.{tables-of}
 use Rattle.volume_transform.proofs.transform_volume.Statement.{statement}
 use Rattle.volume_transform.proofs.transform_volume.Tie as tie
@@ -27,17 +23,17 @@ slice-aggregate-turn-volume-2 c = search needs
 
 turn-volume-requires : tie.Need-turn-volume-requires
 turn-volume-requires c κs =
-    let h = c .before .before .before .before .before .before .before in
+    let h = c .before .before .before .before .before .before .before .before .before .before in
     let s = h .before .before .before .before .before in (
       (s .pre .0, tables-of (s .pre .0 .modulus) (h .before .before .real-parts .ensures) (s .args .plan .direction) (h .before .imaginary-parts .ensures) (h .half-tangents .ensures), refl),
-      (s .pre .1 .0, record { scratch-fits = s .pre .1 .1; fold-fits = omega arith; work-fits = omega arith }),
+      ((omega arith, omega arith, λ more. absurd (omega (arith, more))), (s .pre .1 .0, record { scratch-fits = s .pre .1 .1; fold-fits = omega arith; work-fits = omega arith })),
     )
 
-clear-requires : tie.Need-clear-requires
-clear-requires c κs =
-    let t = c .before .before .before .before in
-    let s = t .before .before .before .before .before .before .before .before .before .before .before .before .before .before .before .before in
-    omega (arith, t .scratch .given, s .pre .1 .1)
+turn-groups-requires : tie.Need-turn-groups-requires
+turn-groups-requires c κs =
+    let h = c .before .before .before .before .before .before in
+    let s = h .before .before .before .before .before in
+    ((s .pre .0, tables-of (s .pre .0 .modulus) (h .before .before .real-parts .ensures) (s .args .plan .direction) (h .before .imaginary-parts .ensures) (h .half-tangents .ensures), refl), s .pre .1)
 
 same-length : tie.Need-same-length
 same-length c = search needs
@@ -46,11 +42,16 @@ same-length-2 : tie.Need-same-length-2
 same-length-2 c = search needs
 
 returns : tie.Need-returns
-unfolding cleared
-returns c =
-    let k = c .before .before in
-    let t = k .before .before .before .before .before .before .before .before in
-    (t .turn-volume .ensures .0, k .clear .ensures ∙ ap (λ (s : List ℕ). replicate 11520 0 ++ s) (t .turn-volume .ensures .1))
+returns c = c .before .before .before .before .before .before .turn-volume .ensures
+
+same-length-3 : tie.Need-same-length-3
+same-length-3 c = search needs
+
+same-length-4 : tie.Need-same-length-4
+same-length-4 c = search needs
+
+returns-2 : tie.Need-returns-2
+returns-2 c = c .before .before .before .before .turn-groups .ensures
 
 pub transform-volume-spec : {M : Type 1} → statement M
 transform-volume-spec =
@@ -62,7 +63,10 @@ transform-volume-spec =
     slice-aggregate-turn-volume
     slice-aggregate-turn-volume-2
     turn-volume-requires
-    clear-requires
+    turn-groups-requires
     same-length
     same-length-2
-    returns)
+    returns
+    same-length-3
+    same-length-4
+    returns-2)

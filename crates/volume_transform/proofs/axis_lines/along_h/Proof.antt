@@ -3,6 +3,7 @@ use borrow.Author.Needs.{needs}
 use native.Mathlib.Omega.{arith}
 use Rattle.volume_transform.proofs.plan.JobTurns.{width-low, plane-low, start-h}
 use Rattle.volume_transform.proofs.plan.AxisLines.{gathered-h}
+use Rattle.volume_transform.proofs.plan.Neighbours.{neighbours-h}
 use Rattle.volume_transform.proofs.axis_lines.along_h.Statement.{statement}
 use Rattle.volume_transform.proofs.axis_lines.along_h.Tie as tie
 
@@ -34,7 +35,7 @@ add-t12 : tie.Need-add-t12
 add-t12 c = let s = c .before .before .before in omega (arith, start-h (s .pre .0 .sizes .sizes) (s .args .y) (s .pre .1))
 
 returns : tie.Need-returns
-returns c = let s = c .before .before .before in gathered-h (s .args .plan) (s .pre .0) (s .args .y) (s .pre .1)
+returns c = let s = c .before .before .before in (gathered-h (s .args .plan) (s .pre .0) (s .args .y) (s .pre .1), neighbours-h (s .args .plan) (s .pre .0) (s .args .y) (s .pre .1))
 
 pub along-h-spec : {M : Type 1} → statement M
 along-h-spec =

@@ -3,6 +3,7 @@ use borrow.Author.Needs.{needs}
 use native.Mathlib.Omega.{arith}
 use Rattle.volume_transform.proofs.plan.JobTurns.{width-low, plane-low, rows-low, start-l}
 use Rattle.volume_transform.proofs.plan.AxisLines.{gathered-l}
+use Rattle.volume_transform.proofs.plan.Neighbours.{neighbours-l}
 use Rattle.volume_transform.proofs.numbering.along_l.Statement.{statement}
 use Rattle.volume_transform.proofs.numbering.along_l.Tie as tie
 
@@ -56,8 +57,10 @@ returns c =
     let s = k .before .before .before in
     let kind = k .line-kind in
     let first = f .first-pair in
-    let pairs = c .pair-count in
-    gathered-l (s .args .plan) (s .pre .0) (s .args .y) (kind .result) _ _ _ (s .pre .1) (kind .ensures .0) (kind .ensures .1) (t .is-rotated .ensures) (kind .ensures .2) (first .ensures .0) (first .ensures .1) (pairs .ensures .0) (pairs .ensures .1)
+    let pairs = c .pair-count in (
+      gathered-l (s .args .plan) (s .pre .0) (s .args .y) (kind .result) _ _ _ (s .pre .1) (kind .ensures .0) (kind .ensures .1) (t .is-rotated .ensures) (kind .ensures .2) (first .ensures .0) (first .ensures .1) (pairs .ensures .0) (pairs .ensures .1),
+      neighbours-l (s .args .plan) (s .pre .0) (s .args .y) (kind .result) _ _ _ (s .pre .1) (kind .ensures .0) (kind .ensures .1) (t .is-rotated .ensures) (kind .ensures .2) (first .ensures .0) (first .ensures .1) (pairs .ensures .0) (pairs .ensures .1),
+    )
 
 pub along-l-spec : {M : Type 1} → statement M
 along-l-spec =

@@ -39,7 +39,7 @@ pub fn transform_volume(plan: Plan, volume: &mut [u32], scratch: &mut [u32])
     let re = roots::powers::real_parts(plan.m);
     let im = line::table::imaginary_parts(plan.m, plan.direction);
     let tan = line::table::half_tangents(plan.m, plan.direction);
-    if volume.len() < 8192 {
+    if is_small(volume.len(), plan.cell.n2) {
         let mut fold = [0u32; 5760];
         let mut work = [0u32; 5760];
         turn_volume(
@@ -59,6 +59,11 @@ pub fn transform_volume(plan: Plan, volume: &mut [u32], scratch: &mut [u32])
     } else {
         turn_groups(plan.m, plan, &re, &im, &tan, volume, scratch);
     }
+}
+
+// The volume has few numbers, or no four lines side by side.
+fn is_small(length: usize, n2: u32) -> bool {
+    length < 8192 || n2 < 6
 }
 
 // Every line, in groups of up to sixteen: with the tables of the batches, and room for one.

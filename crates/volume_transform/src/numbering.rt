@@ -38,6 +38,9 @@ fn lanes_from(plan: Plan, counts: Counts, j: usize, line: Line, most: usize) -> 
     requires { ⌜ Planned plan × Counted plan counts × (j < lineCount (planGroup plan) (planHalves plan)) × (0 < most) ⌝ }
     ensures { λ r. ⌜ (0 < r) × (r ≤ most) × (1 < r → Batched plan j line r) ⌝ }
 {
+    if most == 1 {
+        return 1;
+    }
     if line.kind != 0 {
         return 1;
     }

@@ -15,6 +15,9 @@ imaginary-parts-requires c κs = c .before .before .before .pre .0 .modulus
 half-tangents-requires : tie.Need-half-tangents-requires
 half-tangents-requires c κs = c .before .before .before .before .pre .0 .modulus
 
+is-small-requires : tie.Need-is-small-requires
+is-small-requires c κs = search needs
+
 slice-aggregate-turn-volume : tie.Need-slice-aggregate-turn-volume
 slice-aggregate-turn-volume c = search needs
 
@@ -23,7 +26,7 @@ slice-aggregate-turn-volume-2 c = search needs
 
 turn-volume-requires : tie.Need-turn-volume-requires
 turn-volume-requires c κs =
-    let h = c .before .before .before .before .before .before .before .before .before .before in
+    let h = c .before .before .before .before .before .before .before .before .before .before .before in
     let s = h .before .before .before .before .before in (
       (s .pre .0, tables-of (s .pre .0 .modulus) (h .before .before .real-parts .ensures) (s .args .plan .direction) (h .before .imaginary-parts .ensures) (h .half-tangents .ensures), refl),
       ((omega arith, omega arith, λ more. absurd (omega (arith, more))), (s .pre .1 .0, record { scratch-fits = s .pre .1 .1; fold-fits = omega arith; work-fits = omega arith })),
@@ -31,7 +34,7 @@ turn-volume-requires c κs =
 
 turn-groups-requires : tie.Need-turn-groups-requires
 turn-groups-requires c κs =
-    let h = c .before .before .before .before .before .before in
+    let h = c .before .before .before .before .before .before .before in
     let s = h .before .before .before .before .before in
     ((s .pre .0, tables-of (s .pre .0 .modulus) (h .before .before .real-parts .ensures) (s .args .plan .direction) (h .before .imaginary-parts .ensures) (h .half-tangents .ensures), refl), s .pre .1)
 
@@ -60,6 +63,7 @@ transform-volume-spec =
     real-parts-requires
     imaginary-parts-requires
     half-tangents-requires
+    is-small-requires
     slice-aggregate-turn-volume
     slice-aggregate-turn-volume-2
     turn-volume-requires

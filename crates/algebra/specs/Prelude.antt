@@ -1,4 +1,5 @@
--- The words of the logic's own libraries that definitions are written in: equality, truth values and tests, numbers, lists.
+-- The words of the logic's own libraries that definitions are written in: equality, truth values and tests, numbers,
+-- lists.
 pub use mathlib.Core.Path.{_≡_}
 pub use mathlib.Core.Logic.{_↔_}
 pub use mathlib.Core.Bool.{Bool, true, false, _&&_, _||_, not, cond}

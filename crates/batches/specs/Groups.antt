@@ -40,7 +40,9 @@ pub record Scattered (m c : ℕ) (s : List ℕ) (start stride lanes n : ℕ) (be
   pub long : length after ≡ length before
   pub new : (c₀ : Residue m) → Holds m c c₀ → (j v : ℕ) → j < n → v < lanes
       → at after (start + j * stride + v) ≡ pairOf (field m .mul (real m c₀) (valueOf m (laneAt s j v)))
-  pub kept : (k : ℕ) → ((j v : ℕ) → j < n → v < lanes → start + j * stride + v ≢ k) → at after k ≡ at before k
+  pub kept : (k : ℕ) →
+      ((j v : ℕ) → j < n → v < lanes → start + j * stride + v ≢ k) →
+      at after k ≡ at before k
 
 -- ---- a group of neighbouring lines
 

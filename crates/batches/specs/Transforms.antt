@@ -17,6 +17,8 @@ pub record TransformedLanes (m : ℕ) (W : Value m) (factors n : ℕ) (before af
   pub few : length (octalDigits factors) ≤ 11
   pub low : (X : ℕ) → UpTo X before → UpTo (X + 32 * prime m * length (octalDigits factors)) after
   pub steps : (v : ℕ) → v < 16
-      → lineIn m n v after ≡ afterSteps m W (octalDigits factors) (length (octalDigits factors)) (lineIn m n v before)
+      → lineIn m n v after
+      ≡ afterSteps m W (octalDigits factors) (length (octalDigits factors)) (lineIn m n v before)
   pub is : (v : ℕ) → v < 16
-      → lineIn m n v after ≡ listOf n (dft (field m) n (pow (field m) W (2880 / n)) (valuesOf m (lineIn m n v before)))
+      → lineIn m n v after
+      ≡ listOf n (dft (field m) n (pow (field m) W (2880 / n)) (valuesOf m (lineIn m n v before)))

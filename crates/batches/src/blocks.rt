@@ -18,7 +18,8 @@ ghost use Rattle.batches.specs.Lanes.{laneAt, putLane, UpTo, Apart, Firs
 fn part(at: Places, from: &[u32], b: usize, v: usize) -> u32
     requires { ⌜ (b < 5) × (v < 32) × (32 * (b * at .stride + at .first) + 32 ≤ length (now from))
         × UpTo 1073741823 (now from) ⌝ }
-    ensures { λ r. ⌜ (r ≡ getD (now (from .entry)) (32 * (b * at .stride + at .first) + v) 0) × (r ≤ 1073741823) ⌝ }
+    ensures { λ r. ⌜ (r ≡ getD (now (from .entry)) (32 * (b * at .stride + at .first) + v) 0)
+        × (r ≤ 1073741823) ⌝ }
 {
     let k = 32 * (b * at.stride + at.first) + v;
     from[k]
@@ -65,7 +66,9 @@ pub fn two_turned<'a>(
     from: &[u32],
     y: &mut [u32; 160],
 )
-    requires { ⌜ IsModulus m × RootTable m (now re) (now im) × ShiftedTable m (now re) (now im) (now sre) (now sim) ⌝ }
+    requires { ⌜ IsModulus m
+        × RootTable m (now re) (now im)
+        × ShiftedTable m (now re) (now im) (now sre) (now sim) ⌝ }
     requires { ⌜ Apart 2 at (now from) × UpTo 1073741823 (now from) × (length (now y) ≡ 160) ⌝ }
     ensures { λ _. ⌜ Summed m (tableRoot m (now (re .entry)) (now (im .entry))) 2 at (now (from .entry)) 16
         (now (y .exit)) ⌝ }
@@ -100,7 +103,9 @@ pub fn two_first<'a>(
     from: &[u32],
     y: &mut [u32; 160],
 )
-    requires { ⌜ IsModulus m × RootTable m (now re) (now im) × ShiftedTable m (now re) (now im) (now sre) (now sim) ⌝ }
+    requires { ⌜ IsModulus m
+        × RootTable m (now re) (now im)
+        × ShiftedTable m (now re) (now im) (now sre) (now sim) ⌝ }
     requires { ⌜ Apart 2 at (now from) × UpTo 1073741823 (now from) × (length (now y) ≡ 160)
         × FirstStep m at (now from) ⌝ }
     ensures { λ _. ⌜ Summed m (tableRoot m (now (re .entry)) (now (im .entry))) 2 at (now (from .entry)) 16
@@ -134,7 +139,9 @@ pub fn three_turned<'a>(
     from: &[u32],
     y: &mut [u32; 160],
 )
-    requires { ⌜ IsModulus m × RootTable m (now re) (now im) × ShiftedTable m (now re) (now im) (now sre) (now sim) ⌝ }
+    requires { ⌜ IsModulus m
+        × RootTable m (now re) (now im)
+        × ShiftedTable m (now re) (now im) (now sre) (now sim) ⌝ }
     requires { ⌜ Apart 3 at (now from) × UpTo 1073741823 (now from) × (length (now y) ≡ 160) ⌝ }
     ensures { λ _. ⌜ Summed m (tableRoot m (now (re .entry)) (now (im .entry))) 3 at (now (from .entry)) 16
         (now (y .exit)) ⌝ }
@@ -174,7 +181,9 @@ pub fn three_first<'a>(
     from: &[u32],
     y: &mut [u32; 160],
 )
-    requires { ⌜ IsModulus m × RootTable m (now re) (now im) × ShiftedTable m (now re) (now im) (now sre) (now sim) ⌝ }
+    requires { ⌜ IsModulus m
+        × RootTable m (now re) (now im)
+        × ShiftedTable m (now re) (now im) (now sre) (now sim) ⌝ }
     requires { ⌜ Apart 3 at (now from) × UpTo 1073741823 (now from) × (length (now y) ≡ 160)
         × FirstStep m at (now from) ⌝ }
     ensures { λ _. ⌜ Summed m (tableRoot m (now (re .entry)) (now (im .entry))) 3 at (now (from .entry)) 16
@@ -212,7 +221,9 @@ pub fn four_turned<'a>(
     from: &[u32],
     y: &mut [u32; 160],
 )
-    requires { ⌜ IsModulus m × RootTable m (now re) (now im) × ShiftedTable m (now re) (now im) (now sre) (now sim) ⌝ }
+    requires { ⌜ IsModulus m
+        × RootTable m (now re) (now im)
+        × ShiftedTable m (now re) (now im) (now sre) (now sim) ⌝ }
     requires { ⌜ Apart 4 at (now from) × UpTo 1073741823 (now from) × (length (now y) ≡ 160) ⌝ }
     ensures { λ _. ⌜ Summed m (tableRoot m (now (re .entry)) (now (im .entry))) 4 at (now (from .entry)) 16
         (now (y .exit)) ⌝ }
@@ -254,7 +265,9 @@ pub fn four_first<'a>(
     from: &[u32],
     y: &mut [u32; 160],
 )
-    requires { ⌜ IsModulus m × RootTable m (now re) (now im) × ShiftedTable m (now re) (now im) (now sre) (now sim) ⌝ }
+    requires { ⌜ IsModulus m
+        × RootTable m (now re) (now im)
+        × ShiftedTable m (now re) (now im) (now sre) (now sim) ⌝ }
     requires { ⌜ Apart 4 at (now from) × UpTo 1073741823 (now from) × (length (now y) ≡ 160)
         × FirstStep m at (now from) ⌝ }
     ensures { λ _. ⌜ Summed m (tableRoot m (now (re .entry)) (now (im .entry))) 4 at (now (from .entry)) 16
@@ -293,7 +306,9 @@ pub fn five_turned<'a>(
     from: &[u32],
     y: &mut [u32; 160],
 )
-    requires { ⌜ IsModulus m × RootTable m (now re) (now im) × ShiftedTable m (now re) (now im) (now sre) (now sim) ⌝ }
+    requires { ⌜ IsModulus m
+        × RootTable m (now re) (now im)
+        × ShiftedTable m (now re) (now im) (now sre) (now sim) ⌝ }
     requires { ⌜ Apart 5 at (now from) × UpTo 1073741823 (now from) × (length (now y) ≡ 160) ⌝ }
     ensures { λ _. ⌜ Summed m (tableRoot m (now (re .entry)) (now (im .entry))) 5 at (now (from .entry)) 16
         (now (y .exit)) ⌝ }
@@ -344,7 +359,9 @@ pub fn five_first<'a>(
     from: &[u32],
     y: &mut [u32; 160],
 )
-    requires { ⌜ IsModulus m × RootTable m (now re) (now im) × ShiftedTable m (now re) (now im) (now sre) (now sim) ⌝ }
+    requires { ⌜ IsModulus m
+        × RootTable m (now re) (now im)
+        × ShiftedTable m (now re) (now im) (now sre) (now sim) ⌝ }
     requires { ⌜ Apart 5 at (now from) × UpTo 1073741823 (now from) × (length (now y) ≡ 160)
         × FirstStep m at (now from) ⌝ }
     ensures { λ _. ⌜ Summed m (tableRoot m (now (re .entry)) (now (im .entry))) 5 at (now (from .entry)) 16

@@ -24,8 +24,11 @@ pub fn gather(volume: &[u32], start: usize, stride: usize, lanes: usize, n: usiz
 
 // Place j of the batch.
 fn gather_place(volume: &[u32], first: usize, lanes: usize, d: &mut [u32], j: usize)
-    requires { ⌜ (lanes ≤ 16) × (2 * (first + lanes) ≤ length (now volume)) × (32 * j + 32 ≤ length (now d)) ⌝ }
-    ensures { λ _. ⌜ PutLanes (lanePair (now (volume .entry)) first lanes) j 16 (now (d .entry)) (now (d .exit)) ⌝ }
+    requires { ⌜ (lanes ≤ 16)
+        × (2 * (first + lanes) ≤ length (now volume))
+        × (32 * j + 32 ≤ length (now d)) ⌝ }
+    ensures { λ _. ⌜ PutLanes (lanePair (now (volume .entry)) first lanes) j 16 (now (d .entry))
+        (now (d .exit)) ⌝ }
 {
     let mut v = 0;
     while v < lanes {
@@ -63,7 +66,8 @@ pub fn scatter(
     requires { ⌜ IsModulus m × (c < prime m) × (lanes ≤ 16) × (lanes ≤ stride) × (length (now s) ≡ 32 * n)
         × UpTo 2147483647 (now s) ⌝ }
     requires { ⌜ 2 * (start + n * stride + lanes) ≤ length (now volume) + 2 * stride ⌝ }
-    ensures { λ _. ⌜ Scattered m c (now (s .entry)) start stride lanes n (now (volume .entry)) (now (volume .exit)) ⌝ }
+    ensures { λ _. ⌜ Scattered m c (now (s .entry)) start stride lanes n (now (volume .entry))
+        (now (volume .exit)) ⌝ }
 {
     let mut y = [0u32; 32];
     let mut j = 0;

@@ -26,14 +26,17 @@ pub fn turn_lines<'a>(
     line: &mut [u32],
     work: &mut [u32],
 )
-    requires { ⌜ IsModulus m × RootTable m (now re) (now im) × ShiftedTable m (now re) (now im) (now sre) (now sim) ⌝ }
+    requires { ⌜ IsModulus m
+        × RootTable m (now re) (now im)
+        × ShiftedTable m (now re) (now im) (now sre) (now sim) ⌝ }
     requires { ⌜ Factored factors n × (n * (2880 / n) ≡ 2880) ⌝ }
     requires { ⌜ (length (now line) ≡ 32 * n) × (length (now work) ≡ 32 * n) × (c < prime m) × (lanes ≤ 16)
         × (lanes ≤ stride) ⌝ }
     requires { ⌜ (2 * (start + n * stride + lanes) ≤ length (now volume) + 2 * stride)
         × LinesBelow m start stride n lanes (now volume) ⌝ }
     ensures { λ _. ⌜ ((z : Residue m) → Holds m c z
-        → now (volume .exit) ≡ turnedLines m (tableRoot m (now (re .entry)) (now (im .entry))) z start stride n lanes
+        → now (volume .exit)
+        ≡ turnedLines m (tableRoot m (now (re .entry)) (now (im .entry))) z start stride n lanes
         (now (volume .entry))) ⌝ }
 {
     crate::gathering::gather(volume, start, stride, lanes, n, line);

@@ -99,7 +99,13 @@ pub fn apart(o: u32, a: u32, b: u32) -> u32
 
 // Radix 3: the sums' parts of a, b and c, where `turn` is that part of i (b - c).
 pub fn of_three(m: u32, z: Factor, o: u32, a: u32, b: u32, c: u32, turn: u32) -> Three
-    requires { ⌜ IsModulus m × Held m z × (o ≡ 8 * prime m) × (a ≤ 1073741823) × (b ≤ o) × (c ≤ o) × (turn ≤ o + o) ⌝ }
+    requires { ⌜ IsModulus m
+        × Held m z
+        × (o ≡ 8 * prime m)
+        × (a ≤ 1073741823)
+        × (b ≤ o)
+        × (c ≤ o)
+        × (turn ≤ o + o) ⌝ }
     ensures { λ r. ⌜ ThreeOf m z o a b c turn r ⌝ }
 {
     let t = b + c;
@@ -114,7 +120,12 @@ pub fn of_three(m: u32, z: Factor, o: u32, a: u32, b: u32, c: u32, turn: u32) ->
 
 // Radix 4: `turn` is the part of e(1/4) (b - d).
 pub fn of_four(o: u32, a: u32, b: u32, c: u32, d: u32, turn: u32) -> Four
-    requires { ⌜ (o ≤ 2419192) × (a ≤ 1073741823) × (b ≤ o) × (c ≤ o) × (d ≤ o) × (turn ≤ o + o) ⌝ }
+    requires { ⌜ (o ≤ 2419192)
+        × (a ≤ 1073741823)
+        × (b ≤ o)
+        × (c ≤ o)
+        × (d ≤ o)
+        × (turn ≤ o + o) ⌝ }
     ensures { λ r. ⌜ FourOf o a b c d turn r ⌝ }
 {
     let even = a + c;

@@ -20,7 +20,9 @@ pub fn first_sums<'a>(
     from: &[u32],
     y: &mut [u32; 160],
 )
-    requires { ⌜ IsModulus m × RootTable m (now re) (now im) × ShiftedTable m (now re) (now im) (now sre) (now sim) ⌝ }
+    requires { ⌜ IsModulus m
+        × RootTable m (now re) (now im)
+        × ShiftedTable m (now re) (now im) (now sre) (now sim) ⌝ }
     requires { ⌜ (2 ≤ outer) × (outer ≤ 5) × Apart outer at (now from) × UpTo 1073741823 (now from)
         × (length (now y) ≡ 160) × FirstStep m at (now from) ⌝ }
     ensures { λ _. ⌜ Summed m (tableRoot m (now (re .entry)) (now (im .entry))) outer at (now (from .entry)) 16
@@ -49,7 +51,9 @@ pub fn turned_sums<'a>(
     from: &[u32],
     y: &mut [u32; 160],
 )
-    requires { ⌜ IsModulus m × RootTable m (now re) (now im) × ShiftedTable m (now re) (now im) (now sre) (now sim) ⌝ }
+    requires { ⌜ IsModulus m
+        × RootTable m (now re) (now im)
+        × ShiftedTable m (now re) (now im) (now sre) (now sim) ⌝ }
     requires { ⌜ (2 ≤ outer) × (outer ≤ 5) × Apart outer at (now from) × UpTo 1073741823 (now from)
         × (length (now y) ≡ 160) ⌝ }
     ensures { λ _. ⌜ Summed m (tableRoot m (now (re .entry)) (now (im .entry))) outer at (now (from .entry)) 16

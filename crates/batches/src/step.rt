@@ -23,7 +23,9 @@ fn outer_sums<'a>(
     to: &mut [u32],
     y: &mut [u32; 160],
 )
-    requires { ⌜ IsModulus m × RootTable m (now re) (now im) × ShiftedTable m (now re) (now im) (now sre) (now sim) ⌝ }
+    requires { ⌜ IsModulus m
+        × RootTable m (now re) (now im)
+        × ShiftedTable m (now re) (now im) (now sre) (now sim) ⌝ }
     requires { ⌜ (2 ≤ outer) × (outer ≤ 5) × Apart outer at (now from) × UpTo 1073741823 (now from)
         × (length (now y) ≡ 160) ⌝ }
     requires { ⌜ (0 < at .gap) × (32 * (at .base + outer * at .gap) + 32 ≤ length (now to) + 32 * at .gap)
@@ -57,7 +59,9 @@ pub fn step<'a>(
     from: &[u32],
     to: &mut [u32],
 )
-    requires { ⌜ IsModulus m × RootTable m (now re) (now im) × ShiftedTable m (now re) (now im) (now sre) (now sim) ⌝ }
+    requires { ⌜ IsModulus m
+        × RootTable m (now re) (now im)
+        × ShiftedTable m (now re) (now im) (now sre) (now sim) ⌝ }
     requires { ⌜ Splits inner outer lines × (length (now from) ≡ 32 * (inner * outer * lines))
         × (length (now to) ≡ 32 * (inner * outer * lines)) ⌝ }
     requires { ⌜ UpTo 1073741823 (now from) × (inner ≡ 1 → UpTo (8 * prime m) (now from)) ⌝ }

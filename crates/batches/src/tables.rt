@@ -13,7 +13,10 @@ pub fn shift_tables<'a>(
     sre: &mut [u32; 2880],
     sim: &mut [u32; 2880],
 )
-    requires { ⌜ IsModulus m × RootTable m (now re) (now im) × (length (now sre) ≡ 2880) × (length (now sim) ≡ 2880) ⌝ }
+    requires { ⌜ IsModulus m
+        × RootTable m (now re) (now im)
+        × (length (now sre) ≡ 2880)
+        × (length (now sim) ≡ 2880) ⌝ }
     ensures { λ _. ⌜ ShiftedTable m (now (re .entry)) (now (im .entry)) (now (sre .exit)) (now (sim .exit)) ⌝ }
 {
     shift_list(m, re, sre);
@@ -21,7 +24,9 @@ pub fn shift_tables<'a>(
 }
 
 fn shift_list<'a>(m: u32, from: &'a [u32; 2880], to: &mut [u32; 2880])
-    requires { ⌜ IsModulus m × ((k : ℕ) → k < 2880 → getD (now from) k 0 < prime m) × (length (now to) ≡ 2880) ⌝ }
+    requires { ⌜ IsModulus m
+        × ((k : ℕ) → k < 2880 → getD (now from) k 0 < prime m)
+        × (length (now to) ≡ 2880) ⌝ }
     ensures { λ _. ⌜ ShiftedList m (now (from .entry)) 2880 (now (to .exit)) ⌝ }
 {
     let c = crate::residues::shift(m);

@@ -24,9 +24,13 @@ pub fn transform<'a>(
     line: &mut [u32],
     work: &mut [u32],
 )
-    requires { ⌜ IsModulus m × RootTable m (now re) (now im) × ShiftedTable m (now re) (now im) (now sre) (now sim) ⌝ }
+    requires { ⌜ IsModulus m
+        × RootTable m (now re) (now im)
+        × ShiftedTable m (now re) (now im) (now sre) (now sim) ⌝ }
     requires { ⌜ Factored factors n × (n * (2880 / n) ≡ 2880) ⌝ }
-    requires { ⌜ (length (now line) ≡ 32 * n) × (length (now work) ≡ 32 * n) × UpTo (8 * prime m) (now line) ⌝ }
+    requires { ⌜ (length (now line) ≡ 32 * n)
+        × (length (now work) ≡ 32 * n)
+        × UpTo (8 * prime m) (now line) ⌝ }
     ensures { λ _. ⌜ TransformedLanes m (tableRoot m (now (re .entry)) (now (im .entry))) factors n
         (now (line .entry)) (now (line .exit)) ⌝ }
 {
@@ -56,7 +60,9 @@ fn next_step<'a>(
     from: &[u32],
     to: &mut [u32],
 ) -> Stage
-    requires { ⌜ IsModulus m × RootTable m (now re) (now im) × ShiftedTable m (now re) (now im) (now sre) (now sim) ⌝ }
+    requires { ⌜ IsModulus m
+        × RootTable m (now re) (now im)
+        × ShiftedTable m (now re) (now im) (now sre) (now sim) ⌝ }
     requires { ⌜ Ahead at × (length (now from) ≡ 32 * points at) × (length (now to) ≡ 32 * points at) ⌝ }
     requires { ⌜ UpTo 1073741823 (now from) × (at .inner ≡ 1 → UpTo (8 * prime m) (now from)) ⌝ }
     ensures { λ r. ⌜ r ≡ after at ⌝ }

@@ -1,5 +1,6 @@
--- The butterflies of equation (3) of document 001: what a butterfly takes and gives, the values that it reads, with their factors, and where a step has it read and
--- store. Equation3.antt beside this has the parts of the equation by their names.
+-- The butterflies of equation (3) of document 001: what a butterfly takes and gives, the values that it reads, with
+-- their factors, and where a step has it read and store. Equation3.antt beside this has the parts of the equation by
+-- their names.
 use Prim.Native.Nat.{ℕ, _*_, _/_, zero, suc, _<_, _+_}
 use mathlib.Core.Path.{_≡_}
 use mathlib.Core.List.{List}
@@ -78,7 +79,8 @@ pub record AllRoom (B : ℕ) (x : ℕ → Accumulator) : Type 0 where
 pub record Butterfly (m : ℕ) (W : Value m) (B : ℕ) (X : ℕ → Value m) (y : ℕ → Pair) : Type 0 where
   pub sums : (c : ℕ) → c < B → y c ≡ pairOf (outer (field m) W B X c)
 
--- The two parts of a + w b + z c + z' d + w' e, where w' and z' are the conjugates of w and z: exchanging w, z and w', z' leaves the first and negates the second.
+-- The two parts of a + w b + z c + z' d + w' e, where w' and z' are the conjugates of w and z: exchanging w, z and w',
+-- z' leaves the first and negates the second.
 module _ (m : ℕ) (w z : Pair) where
   open Ops (field m) using (add as _⊕_, mul as _⊗_, neg as ⊖_)
 
@@ -89,7 +91,8 @@ module _ (m : ℕ) (w z : Pair) where
   evenPart a b c d e = a ⊕ (real m (res m (w .re)) ⊗ (b ⊕ e) ⊕ real m (res m (z .re)) ⊗ (c ⊕ d))
 
   unfoldable pub oddPart : (b c d e : Value m) → Value m
-  oddPart b c d e = real m (res m (w .im)) ⊗ (i m ⊗ (b ⊕ ⊖ e)) ⊕ real m (res m (z .im)) ⊗ (i m ⊗ (c ⊕ ⊖ d))
+  oddPart b c d e =
+      real m (res m (w .im)) ⊗ (i m ⊗ (b ⊕ ⊖ e)) ⊕ real m (res m (z .im)) ⊗ (i m ⊗ (c ⊕ ⊖ d))
 
 -- ---- The values that a butterfly of a step reads, times their factors.
 
@@ -104,7 +107,8 @@ FactorsOf A B 𝐚 p = p .k ≡ 2880 / (A * B) * 𝐚
 -- a stands for the value for b times the factor e(b𝐚/AB), and is at most as large as one product
 pub record Loaded (m : ℕ) (W : Value m) (p : Places) (l : List ℕ) (b : ℕ) (a : Accumulator) : Type 0 where
   pub room : Room 182890310402 a
-  pub value-is : (A B 𝐚 : ℕ) → FactorsOf A B 𝐚 p → meant m a ≡ factor (field m) W A B b 𝐚 (readAt m p l b)
+  pub value-is : (A B 𝐚 : ℕ) → FactorsOf A B 𝐚 p →
+      meant m a ≡ factor (field m) W A B b 𝐚 (readAt m p l b)
 
 -- ---- Where their outer sums go.
 
@@ -114,7 +118,8 @@ spread p f B d = puts (λ c. p .base + c * p .gap) f B d
 
 -- d with the B outer sums at their places: the sum for 𝐛 is that over b of the value for b times its factor
 unfoldable pub outerSums : (m : ℕ) → Value m → (A B 𝐚 : ℕ) → Places → (l d : List ℕ) → List ℕ
-outerSums m W A B 𝐚 p l d = spread p (λ 𝐛. pairOf (outer (field m) W B (λ b. factor (field m) W A B b 𝐚 (readAt m p l b)) 𝐛)) B d
+outerSums m W A B 𝐚 p l d =
+    spread p (λ 𝐛. pairOf (outer (field m) W B (λ b. factor (field m) W A B b 𝐚 (readAt m p l b)) 𝐛)) B d
 
 -- the B values lie inside l, and their exponents in the tables
 pub record Reads (B : ℕ) (p : Places) (l : List ℕ) : Type 0 where
@@ -126,5 +131,6 @@ pub record Stores (B : ℕ) (p : Places) (d : List ℕ) : Type 0 where
   pub inside : 2 * (p .base + B * p .gap) + 1 < length d + 2 * p .gap
 
 -- each of the first B sums stands for its value
-pub record AllLoaded (m : ℕ) (W : Value m) (B : ℕ) (p : Places) (l : List ℕ) (x : ℕ → Accumulator) : Type 0 where
+pub record AllLoaded (m : ℕ) (W : Value m) (B : ℕ) (p : Places) (l : List ℕ)
+    (x : ℕ → Accumulator) : Type 0 where
   pub each : (b : ℕ) → b < B → Loaded m W p l b (x b)

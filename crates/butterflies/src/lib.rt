@@ -20,7 +20,8 @@ ghost use Rattle.numbers.specs.Bounds.{res};
 ghost use Rattle.numbers.specs.Unreduced.{Accumulated, meant, Room};
 ghost use Rattle.roots.specs.Table.{tableRoot, RootTable};
 ghost use Rattle.butterflies.specs.Equation3.{EquationThree};
-ghost use Rattle.butterflies.specs.Butterflies.{ofTwo, ofThree, ofFour, ofFive, ofTwoSums, ofThreeSums, ofFourSums, ofFiveSums, AllRoom, Butterfly, evenPart, oddPart};
+ghost use Rattle.butterflies.specs.Butterflies.{ofTwo, ofThree, ofFour, ofFive, ofTwoSums, ofThreeSums};
+ghost use Rattle.butterflies.specs.Butterflies.{ofFourSums, ofFiveSums, AllRoom, Butterfly, evenPart, oddPart};
 
 // What a butterfly takes: values that are not reduced.
 pub struct TwoSums {
@@ -77,7 +78,9 @@ pub struct FivePairs {
 // Radix 2.
 pub fn two(m: u32, v: TwoSums) -> TwoPairs
     requires { ⌜ IsModulus m × AllRoom 2 (ofTwoSums v) ⌝ }
-    ensures { λ r. ⌜ ((W : Value m) → pow (field m) W 1440 ≡ field m .neg (field m .one) → Butterfly m W 2 (λ b. meant m (ofTwoSums v b)) (ofTwo r)) ⌝ }
+    ensures { λ r. ⌜ ((W : Value m) →
+        pow (field m) W 1440 ≡ field m .neg (field m .one) →
+        Butterfly m W 2 (λ b. meant m (ofTwoSums v b)) (ofTwo r)) ⌝ }
 {
     both_ways(m, v.x0, v.x1)
 }
@@ -86,7 +89,9 @@ pub fn two(m: u32, v: TwoSums) -> TwoPairs
 fn both_ways(m: u32, x: Accumulator, y: Accumulator) -> TwoPairs
     requires { ⌜ IsModulus m ⌝ }
     requires { ⌜ Room 500000000000000000 x × Room 444158510417000000 y ⌝ }
-    ensures { λ r. ⌜ ((n k : ℕ) (a b : Value m) → Accumulated m n x a → Accumulated m k y b → (r .x0 ≡ pairOf (field m .add a b))
+    ensures { λ r. ⌜ ((n k : ℕ) (a b : Value m) →
+        Accumulated m n x a → Accumulated m k y b →
+        (r .x0 ≡ pairOf (field m .add a b))
         × (r .x1 ≡ pairOf (field m .add a (field m .neg b)))) ⌝ }
 {
     TwoPairs {
@@ -99,7 +104,8 @@ fn both_ways(m: u32, x: Accumulator, y: Accumulator) -> TwoPairs
 pub fn three<'a>(m: u32, re: &'a [u32; 2880], im: &'a [u32; 2880], v: ThreeSums) -> ThreePairs
     requires { ⌜ IsModulus m × RootTable m (now re) (now im) ⌝ }
     requires { ⌜ AllRoom 3 (ofThreeSums v) ⌝ }
-    ensures { λ r. ⌜ Butterfly m (tableRoot m (now (re .entry)) (now (im .entry))) 3 (λ b. meant m (ofThreeSums v b)) (ofThree r) ⌝ }
+    ensures { λ r. ⌜ Butterfly m (tableRoot m (now (re .entry)) (now (im .entry))) 3
+        (λ b. meant m (ofThreeSums v b)) (ofThree r) ⌝ }
 {
     let w = roots::root_at(re, im, 960);
     let t = numbers::unreduced::sum(v.x1, v.x2);
@@ -115,7 +121,8 @@ pub fn three<'a>(m: u32, re: &'a [u32; 2880], im: &'a [u32; 2880], v: ThreeSums)
 pub fn four<'a>(m: u32, re: &'a [u32; 2880], im: &'a [u32; 2880], v: FourSums) -> FourPairs
     requires { ⌜ IsModulus m × RootTable m (now re) (now im) ⌝ }
     requires { ⌜ AllRoom 4 (ofFourSums v) ⌝ }
-    ensures { λ r. ⌜ Butterfly m (tableRoot m (now (re .entry)) (now (im .entry))) 4 (λ b. meant m (ofFourSums v b)) (ofFour r) ⌝ }
+    ensures { λ r. ⌜ Butterfly m (tableRoot m (now (re .entry)) (now (im .entry))) 4 (λ b. meant m (ofFourSums v b))
+        (ofFour r) ⌝ }
 {
     let near = both_ways(
         m,
@@ -134,7 +141,8 @@ pub fn four<'a>(m: u32, re: &'a [u32; 2880], im: &'a [u32; 2880], v: FourSums) -
 pub fn five<'a>(m: u32, re: &'a [u32; 2880], im: &'a [u32; 2880], v: FiveSums) -> FivePairs
     requires { ⌜ IsModulus m × RootTable m (now re) (now im) ⌝ }
     requires { ⌜ AllRoom 5 (ofFiveSums v) ⌝ }
-    ensures { λ r. ⌜ Butterfly m (tableRoot m (now (re .entry)) (now (im .entry))) 5 (λ b. meant m (ofFiveSums v b)) (ofFive r) ⌝ }
+    ensures { λ r. ⌜ Butterfly m (tableRoot m (now (re .entry)) (now (im .entry))) 5 (λ b. meant m (ofFiveSums v b))
+        (ofFive r) ⌝ }
 {
     let w = roots::root_at(re, im, 576);
     let z = roots::root_at(re, im, 1152);
@@ -157,9 +165,18 @@ fn conjugates(
     d: Accumulator,
     e: Accumulator,
 ) -> TwoPairs
-    requires { ⌜ IsModulus m × (w .re ≤ 302399) × (w .im ≤ 302399) × (z .re ≤ 302399) × (z .im ≤ 302399) ⌝ }
-    requires { ⌜ Room 182890310402 a × Room 182890310402 b × Room 182890310402 c × Room 182890310402 d × Room 182890310402 e ⌝ }
-    ensures { λ r. ⌜ (r .x0 ≡ pairOf (field m .add (evenPart m w z (meant m a) (meant m b) (meant m c) (meant m d) (meant m e))
+    requires { ⌜ IsModulus m
+        × (w .re ≤ 302399)
+        × (w .im ≤ 302399)
+        × (z .re ≤ 302399)
+        × (z .im ≤ 302399) ⌝ }
+    requires { ⌜ Room 182890310402 a
+        × Room 182890310402 b
+        × Room 182890310402 c
+        × Room 182890310402 d
+        × Room 182890310402 e ⌝ }
+    ensures { λ r. ⌜ (r .x0
+        ≡ pairOf (field m .add (evenPart m w z (meant m a) (meant m b) (meant m c) (meant m d) (meant m e))
         (oddPart m w z (meant m b) (meant m c) (meant m d) (meant m e))))
         × (r .x1 ≡ pairOf (field m .add (evenPart m w z (meant m a) (meant m b) (meant m c) (meant m d) (meant m e))
         (field m .neg (oddPart m w z (meant m b) (meant m c) (meant m d) (meant m e))))) ⌝ }
@@ -186,7 +203,8 @@ fn conjugates(
 fn weighed(c: u32, t: Accumulator, d: u32, s: Accumulator) -> Accumulator
     requires { ⌜ (c ≤ 302399) × (d ≤ 302399) × Room 731561241608 t × Room 731561241608 s ⌝ }
     ensures { λ r. ⌜ ((m n k : ℕ) (x y : Value m) → Accumulated m n t x → Accumulated m k s y
-        → Accumulated m (302399 * n + 302399 * k) r (field m .add (field m .mul (real m (res m c)) x) (field m .mul (real m (res m d)) y))) ⌝ }
+        → Accumulated m (302399 * n + 302399 * k) r
+        (field m .add (field m .mul (real m (res m c)) x) (field m .mul (real m (res m d)) y))) ⌝ }
 {
     numbers::unreduced::sum(
         numbers::unreduced::scaled(c, t),

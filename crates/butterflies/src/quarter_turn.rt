@@ -9,7 +9,8 @@ ghost use Rattle.roots.specs.Table.{tableRoot, RootTable};
 // i (x - y) of two products: 418,031,539,216 is 16 times the product of both primes, so that the result is no larger than four products.
 pub fn difference_times_i(x: Accumulator, y: Accumulator) -> Accumulator
     requires { ⌜ Room 182890310402 x × Room 182890310402 y ⌝ }
-    ensures { λ r. ⌜ ((m : ℕ) → IsModulus m → Accumulated m 4 r (field m .mul (i m) (field m .add (meant m x) (field m .neg (meant m y))))) ⌝ }
+    ensures { λ r. ⌜ ((m : ℕ) → IsModulus m →
+        Accumulated m 4 r (field m .mul (i m) (field m .add (meant m x) (field m .neg (meant m y))))) ⌝ }
 {
     Accumulator {
         re: y.im + (418031539216 - x.im),
@@ -27,7 +28,8 @@ pub fn difference_times_quarter<'a>(
 ) -> Accumulator
     requires { ⌜ IsModulus m × RootTable m (now re) (now im) ⌝ }
     requires { ⌜ Room 182890310402 x × Room 182890310402 y ⌝ }
-    ensures { λ r. ⌜ Accumulated m 4 r (field m .mul (pow (field m) (tableRoot m (now (re .entry)) (now (im .entry))) 720)
+    ensures { λ r. ⌜ Accumulated m 4 r
+        (field m .mul (pow (field m) (tableRoot m (now (re .entry)) (now (im .entry))) 720)
         (field m .add (meant m x) (field m .neg (meant m y)))) ⌝ }
 {
     if roots::root_at(re, im, 720).im == 1 {

@@ -28,7 +28,8 @@ pub fn outer_sums<'a>(
     requires { ⌜ (2 ≤ outer) × (outer ≤ 5) × Reads outer at (now from) × Stores outer at (now to) ⌝ }
     requires { ⌜ Below (prime m) (now from) ⌝ }
     ensures { λ _. ⌜ ((A 𝐚 : ℕ) → FactorsOf A outer 𝐚 at → now (to .exit)
-        ≡ outerSums m (tableRoot m (now (re .entry)) (now (im .entry))) A outer 𝐚 at (now (from .entry)) (now (to .entry))) ⌝ }
+        ≡ outerSums m (tableRoot m (now (re .entry)) (now (im .entry))) A outer 𝐚 at (now (from .entry))
+        (now (to .entry))) ⌝ }
 {
     if outer == 4 {
         four_at(m, re, im, at, from, to);
@@ -52,7 +53,8 @@ fn two_at<'a>(
     requires { ⌜ IsModulus m × RootTable m (now re) (now im) ⌝ }
     requires { ⌜ Reads 2 at (now from) × Stores 2 at (now to) × Below (prime m) (now from) ⌝ }
     ensures { λ _. ⌜ ((A 𝐚 : ℕ) → FactorsOf A 2 𝐚 at → now (to .exit)
-        ≡ outerSums m (tableRoot m (now (re .entry)) (now (im .entry))) A 2 𝐚 at (now (from .entry)) (now (to .entry))) ⌝ }
+        ≡ outerSums m (tableRoot m (now (re .entry)) (now (im .entry))) A 2 𝐚 at (now (from .entry))
+        (now (to .entry))) ⌝ }
 {
     let v = TwoSums {
         x0: crate::twiddle::times_factor(m, re, im, at, 0, from),
@@ -73,7 +75,8 @@ fn three_at<'a>(
     requires { ⌜ IsModulus m × RootTable m (now re) (now im) ⌝ }
     requires { ⌜ Reads 3 at (now from) × Stores 3 at (now to) × Below (prime m) (now from) ⌝ }
     ensures { λ _. ⌜ ((A 𝐚 : ℕ) → FactorsOf A 3 𝐚 at → now (to .exit)
-        ≡ outerSums m (tableRoot m (now (re .entry)) (now (im .entry))) A 3 𝐚 at (now (from .entry)) (now (to .entry))) ⌝ }
+        ≡ outerSums m (tableRoot m (now (re .entry)) (now (im .entry))) A 3 𝐚 at (now (from .entry))
+        (now (to .entry))) ⌝ }
 {
     let v = ThreeSums {
         x0: crate::twiddle::times_factor(m, re, im, at, 0, from),
@@ -96,7 +99,8 @@ fn four_at<'a>(
     requires { ⌜ IsModulus m × RootTable m (now re) (now im) ⌝ }
     requires { ⌜ Reads 4 at (now from) × Stores 4 at (now to) × Below (prime m) (now from) ⌝ }
     ensures { λ _. ⌜ ((A 𝐚 : ℕ) → FactorsOf A 4 𝐚 at → now (to .exit)
-        ≡ outerSums m (tableRoot m (now (re .entry)) (now (im .entry))) A 4 𝐚 at (now (from .entry)) (now (to .entry))) ⌝ }
+        ≡ outerSums m (tableRoot m (now (re .entry)) (now (im .entry))) A 4 𝐚 at (now (from .entry))
+        (now (to .entry))) ⌝ }
 {
     let v = FourSums {
         x0: crate::twiddle::times_factor(m, re, im, at, 0, from),
@@ -120,7 +124,8 @@ fn five_at<'a>(
     requires { ⌜ IsModulus m × RootTable m (now re) (now im) ⌝ }
     requires { ⌜ Reads 5 at (now from) × Stores 5 at (now to) × Below (prime m) (now from) ⌝ }
     ensures { λ _. ⌜ ((A 𝐚 : ℕ) → FactorsOf A 5 𝐚 at → now (to .exit)
-        ≡ outerSums m (tableRoot m (now (re .entry)) (now (im .entry))) A 5 𝐚 at (now (from .entry)) (now (to .entry))) ⌝ }
+        ≡ outerSums m (tableRoot m (now (re .entry)) (now (im .entry))) A 5 𝐚 at (now (from .entry))
+        (now (to .entry))) ⌝ }
 {
     let v = FiveSums {
         x0: crate::twiddle::times_factor(m, re, im, at, 0, from),

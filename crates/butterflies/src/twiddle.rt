@@ -28,7 +28,9 @@ pub fn times_factor<'a>(
     from: &[u32],
 ) -> Accumulator
     requires { ⌜ IsModulus m × RootTable m (now re) (now im) ⌝ }
-    requires { ⌜ (2 * (b * at .stride + at .first) + 1 < length (now from)) × (b * at .k < 2880) × Below (prime m) (now from) ⌝ }
+    requires { ⌜ (2 * (b * at .stride + at .first) + 1 < length (now from))
+        × (b * at .k < 2880)
+        × Below (prime m) (now from) ⌝ }
     ensures { λ r. ⌜ Loaded m (tableRoot m (now (re .entry)) (now (im .entry))) at (now (from .entry)) b r ⌝ }
 {
     let k = b * at.k;

@@ -24,7 +24,18 @@ module _ (g : Group) (a : J) (m : ℕ) where
   abbrev pub MapConsistent : List ℕ → Type 0
   MapConsistent v = (M : Cell (Value m)) × RealMap M × ObeysGroup M × (packMap g a m M ≡ v)
 
--- Refusal 14, which stands behind the refusals of a volume's length and of numbers that are no residues, is exactly this for any axes.
+-- Refusal 14, which stands behind the refusals of a volume's length and of numbers that are no residues, is exactly
+-- this for any axes.
 pub record ConsistentExactly : Type 0 where
-  pub factors : (g : Group) (a : J) → (1 ≤ a .0) × (1 ≤ a .1) × (1 ≤ a .2) → (m : ℕ) (v : List ℕ) → length v ≡ volumeLength g a → Below (prime m) v → (consistentFactors g a m v ≡ true) ↔ FactorsConsistent g a m v
-  pub maps : (g : Group) (a : J) → (1 ≤ a .0) × (1 ≤ a .1) × (1 ≤ a .2) → (m : ℕ) (v : List ℕ) → length v ≡ volumeLength g a → Below (prime m) v → (consistentMap g a v ≡ true) ↔ MapConsistent g a m v
+  pub factors : (g : Group) (a : J) →
+      (1 ≤ a .0) × (1 ≤ a .1) × (1 ≤ a .2) →
+      (m : ℕ) (v : List ℕ) →
+      length v ≡ volumeLength g a →
+      Below (prime m) v →
+      (consistentFactors g a m v ≡ true) ↔ FactorsConsistent g a m v
+  pub maps : (g : Group) (a : J) →
+      (1 ≤ a .0) × (1 ≤ a .1) × (1 ≤ a .2) →
+      (m : ℕ) (v : List ℕ) →
+      length v ≡ volumeLength g a →
+      Below (prime m) v →
+      (consistentMap g a v ≡ true) ↔ MapConsistent g a m v

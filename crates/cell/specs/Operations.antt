@@ -1,4 +1,5 @@
--- What the numbers of a call stand for: the axes, an index or a point, an operation; and what holds of them once a call is checked.
+-- What the numbers of a call stand for: the axes, an index or a point, an operation; and what holds of them once a call
+-- is checked.
 use mathlib.Core.Path.{_≡_}
 use Prim.Native.Nat.{ℕ, _/_, _%_, _<_, _≤_}
 use Rattle.algebra.specs.cells.Cell.{J, Sym, sym, Group}
@@ -29,7 +30,8 @@ abbrev pub pointOf : Point → J
 pointOf p = (p .x, p .y, p .z)
 
 abbrev pub symOf : Operation → Sym
-symOf o = sym (o .conjugate) (o .«minus_h») (o .«minus_k») (o .«minus_l») (o .«odd_h») (o .«odd_k») (o .«odd_l»)
+symOf o =
+    sym (o .conjugate) (o .«minus_h») (o .«minus_k») (o .«minus_l») (o .«odd_h») (o .«odd_k») (o .«odd_l»)
 
 -- an even length from 2 to 2,880
 pub record Length (n : ℕ) : Type 0 where

@@ -1,12 +1,14 @@
--- The place of an orbit in a volume: the least of the places that its stored images have. Each orbit has one, and no two orbits have the same.
+-- The place of an orbit in a volume: the least of the places that its stored images have. Each orbit has one, and no
+-- two orbits have the same.
 use Rattle.algebra.specs.Prelude.{_≡_, _↔_, true, _&&_, cond, eqb, ltb, ℕ, _+_, _*_, _<_, _≤_, List, [], _∷_}
-use Rattle.algebra.specs.lines.Kinds.{Kind, Kind.plain, Kind.hermitian, Kind.antihermitian, Kind.alternating, Kind.symmetric, Kind.antisymmetric}
+use Rattle.algebra.specs.lines.Kinds.{Kind, Kind.plain, Kind.hermitian, Kind.antihermitian, Kind.alternating}
+use Rattle.algebra.specs.lines.Kinds.{Kind.symmetric, Kind.antisymmetric}
 use Rattle.algebra.specs.cells.Cell.{J, Inside, Sym, Group, full, imageOf, sameOrbit, storedT}
 use Rattle.cell.specs.Volume.{lineKind, pairPlace, volumeLength}
 
 module _ (g : Group) (a : J) where
-  -- The place of a stored index is that of the first number of its pair; l = A of an alternating line has the second number of pair 0.
-  -- The pairs that an antisymmetric line leaves out have their places too.
+  -- The place of a stored index is that of the first number of its pair; l = A of an alternating line has the second
+  -- number of pair 0. The pairs that an antisymmetric line leaves out have their places too.
   abbrev pub placeInLine : Kind → (h k l : ℕ) → ℕ
   placeInLine plain h k l = 2 * pairPlace g a l h k
   placeInLine hermitian h k l = 2 * pairPlace g a l h k
@@ -32,5 +34,13 @@ module _ (g : Group) (a : J) where
 
 -- An orbit's place lies in the volume, and two indices have the same exactly if they are of one orbit.
 pub record SamePlace : Type 0 where
-  pub inside : (g : Group) (a : J) → (1 ≤ a .0) × (1 ≤ a .1) × (1 ≤ a .2) → (j : J) → Inside a j → orbitPlace g a j < volumeLength g a
-  pub same : (g : Group) (a : J) → (1 ≤ a .0) × (1 ≤ a .1) × (1 ≤ a .2) → (i j : J) → Inside a i → Inside a j → (orbitPlace g a i ≡ orbitPlace g a j) ↔ (sameOrbit g a i j ≡ true)
+  pub inside : (g : Group) (a : J) →
+      (1 ≤ a .0) × (1 ≤ a .1) × (1 ≤ a .2) →
+      (j : J) →
+      Inside a j →
+      orbitPlace g a j < volumeLength g a
+  pub same : (g : Group) (a : J) →
+      (1 ≤ a .0) × (1 ≤ a .1) × (1 ≤ a .2) →
+      (i j : J) →
+      Inside a i → Inside a j →
+      (orbitPlace g a i ≡ orbitPlace g a j) ↔ (sameOrbit g a i j ≡ true)

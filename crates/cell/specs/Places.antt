@@ -43,7 +43,8 @@ storedFactor g a m v j = wholeLine g a m v (j .0) (j .1) (j .2)
 
 -- the pair r is that factor, if the numbers that it is read from are below the prime
 abbrev pub IsStoredFactor : Group → J → (m : ℕ) → List ℕ → J → Pair → Type 0
-IsStoredFactor g a m v j r = allBelowAt (prime m) v (lineNumbersAt g a j) ≡ true → r ≡ pairOf (storedFactor g a m v j)
+IsStoredFactor g a m v j r = allBelowAt (prime m) v (lineNumbersAt g a j) ≡ true →
+    r ≡ pairOf (storedFactor g a m v j)
 
 -- the groups with alternating lines, by their numbers
 abbrev pub alternates : ℕ → Bool

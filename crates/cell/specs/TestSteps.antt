@@ -73,9 +73,12 @@ module _ (g : Group) (a : J) where
   abbrev pub rowAgrees : List ℕ → (z x : ℕ) → Bool
   rowAgrees v z x = pointsAgree v z x && rowEnds g a v z x
 
--- whatever the volume holds, no factor between the ends of k in a row at l has an image to be tried, and no point of the plane z has one
+-- whatever the volume holds, no factor between the ends of k in a row at l has an image to be tried, and no point of
+-- the plane z has one
 abbrev pub InnerAgree : UnitCell → ℕ → Type 0
-InnerAgree c l = (m : ℕ) (v : List ℕ) (h k : ℕ) → 0 < k → k < c .n2 / 2 → lineAgrees (cellGroup c) (cellHalves c) m v (h, k, l) ≡ true
+InnerAgree c l = (m : ℕ) (v : List ℕ) (h k : ℕ) →
+    0 < k → k < c .n2 / 2 →
+    lineAgrees (cellGroup c) (cellHalves c) m v (h, k, l) ≡ true
 
 abbrev pub PlaneAgrees : UnitCell → ℕ → Type 0
 PlaneAgrees c z = (v : List ℕ) (x y : ℕ) → pointAgrees (cellGroup c) (cellHalves c) v (x, y, z) ≡ true

@@ -1,8 +1,12 @@
--- The volume as a list of numbers: the packed factors (the paper's box) and the map with its zeros, and the cells that both stand for.
--- An axis is known by its half: a = (N1/2, B, A) with N2 = 2 B and N3 = 2 A. A volume has W * N1 * (B + 1) pairs.
-use Rattle.algebra.specs.Prelude.{Bool, true, false, _&&_, _||_, not, cond, eqb, leb, ltb, ℕ, suc, _+_, _*_, _-_, _/_, _%_, min, List, [], _∷_, getD}
-use Rattle.algebra.specs.lines.Kinds.{Kind, Kind.plain, Kind.hermitian, Kind.antihermitian, Kind.alternating, Kind.symmetric, Kind.antisymmetric, slots, unfoldBefore, packBefore}
-use Rattle.algebra.specs.cells.Cell.{J, Group, P1, P2₁, Pm, Pa, P2₁2₁2₁, Cell, pointImage, negI, planes, pointOperation}
+-- The volume as a list of numbers: the packed factors (the paper's box) and the map with its zeros, and the cells that
+-- both stand for. An axis is known by its half: a = (N1/2, B, A) with N2 = 2 B and N3 = 2 A. A volume has W * N1 * (B +
+-- 1) pairs.
+use Rattle.algebra.specs.Prelude.{Bool, true, false, _&&_, _||_, not, cond, eqb, leb, ltb, ℕ, suc, _+_, _*_, _-_}
+use Rattle.algebra.specs.Prelude.{_/_, _%_, min, List, [], _∷_, getD}
+use Rattle.algebra.specs.lines.Kinds.{Kind, Kind.plain, Kind.hermitian, Kind.antihermitian, Kind.alternating}
+use Rattle.algebra.specs.lines.Kinds.{Kind.symmetric, Kind.antisymmetric, slots, unfoldBefore, packBefore}
+use Rattle.algebra.specs.cells.Cell.{J, Group, P1, P2₁, Pm, Pa, P2₁2₁2₁, Cell, pointImage, negI, planes}
+use Rattle.algebra.specs.cells.Cell.{pointOperation}
 use Rattle.algebra.specs.cells.CellPack.{even}
 use Rattle.algebra.specs.ring.Ring.{Res}
 use Rattle.numbers.specs.declared.Pair.{Pair}
@@ -74,37 +78,47 @@ module _ (g : Group) (a : J) where
   unfoldable pub volumeOf : (ℕ → ℕ → ℕ → Pair) → List ℕ
   volumeOf f = tab volumePairs (λ j. f (j / columns / rows) (j / columns % rows) (j % columns))
 
-  -- Packed factors. The packed line of (h, k) is the pairs of its kind, of the line times i where it is rotated; in Pa with h odd the pairs 0 and A are no part of it, and zero.
+  -- Packed factors. The packed line of (h, k) is the pairs of its kind, of the line times i where it is rotated; in Pa
+  -- with h odd the pairs 0 and A are no part of it, and zero.
   module _ (m : ℕ) where
     abbrev pub packedLine : List ℕ → (h k : ℕ) → ℕ → Value m
     packedLine v h k w = valuesOf m v (pairPlace (firstPair (lineKind g h) + w) h k)
 
     -- the whole line that the pairs stand for, and the factors: a rotated line loses its i
     unfoldable pub wholeLine : List ℕ → (h k : ℕ) → ℕ → Value m
-    wholeLine v h k l = unfoldBefore (field m) (conj m) (i m) (real m (half m)) (a .2) (lineKind g h) (packedLine v h k) l
+    wholeLine v h k l =
+        unfoldBefore (field m) (conj m) (i m) (real m (half m)) (a .2) (lineKind g h) (packedLine v h k) l
 
     unfoldable pub lineIn : List ℕ → (h k : ℕ) → ℕ → Value m
     lineIn v h k l = overI m (rotated g h) (wholeLine v h k l)
 
     -- The factors that a volume stands for: k above B through the line of (-h, -k), any other from its own.
     unfoldable pub factorsIn : List ℕ → Cell (Value m)
-    factorsIn v h k l = cond (leb k (a .1)) (lineIn v h k l) (conj m (lineIn v (negI (a .0) h) (negI (a .1) k) (negI (a .2) l)))
+    factorsIn v h k l =
+        cond (leb k (a .1)) (lineIn v h k l) (conj m (lineIn v (negI (a .0) h) (negI (a .1) k) (negI (a .2) l)))
 
-    -- and back: a line X along l packed by its kind, as before the transform; it is F(h, k, l), times i where it is rotated
+    -- and back: a line X along l packed by its kind, as before the transform; it is F(h, k, l), times i where it is
+    -- rotated
     unfoldable pub packed : Kind → (ℕ → Value m) → ℕ → Value m
-    packed kind X w = cond (leb (firstPair kind) w && ltb w (firstPair kind + slots kind (a .2))) (packBefore (field m) (conj m) (i m) (real m (half m)) (a .2) kind X (w - firstPair kind)) (value m 0 0)
+    packed kind X w =
+        cond (leb (firstPair kind) w && ltb w (firstPair kind + slots kind (a .2)))
+        (packBefore (field m) (conj m) (i m) (real m (half m)) (a .2) kind X (w - firstPair kind)) (value m 0 0)
 
     unfoldable pub packFactors : Cell (Value m) → List ℕ
     packFactors F = volumeOf (λ w h k. pairOf (packed (lineKind g h) (λ l. timesI m (rotated g h) (F h k l)) w))
 
-  -- The map: for each stored plane z and each x, both rising, the N2 numbers by y, then two zeros; the pair k of a row has y = 2 k and y = 2 k + 1.
+  -- The map: for each stored plane z and each x, both rising, the N2 numbers by y, then two zeros; the pair k of a row
+  -- has y = 2 k and y = 2 k + 1.
   unfoldable pub mapPair : {p : ℕ} → Cell (Res p × Res p) → ℕ → ℕ → ℕ → Pair
-  mapPair M z x k = cond (ltb k (a .1)) (record { re = (M x (2 * k) z) .0 .val; im = (M x (2 * k + 1) z) .0 .val }) (record { re = 0; im = 0 })
+  mapPair M z x k =
+      cond (ltb k (a .1)) (record { re = (M x (2 * k) z) .0 .val; im = (M x (2 * k + 1) z) .0 .val })
+      (record { re = 0; im = 0 })
 
   abbrev pub mapPlace : J → ℕ
   mapPlace x = (x .2 * rows + x .0) * (2 * columns) + x .1
 
-  -- the place of a point's number: on a plane that is not stored, that of its image under the group's first operation but the identity
+  -- the place of a point's number: on a plane that is not stored, that of its image under the group's first operation
+  -- but the identity
   abbrev pub densityPlace : J → ℕ
   densityPlace x = mapPlace (pointImage a (pointOperation g a x) x)
 
@@ -115,7 +129,8 @@ module _ (g : Group) (a : J) where
     unfoldable pub mapIn : List ℕ → Cell (Value m)
     mapIn v x y z = value m (getD v (densityPlace (x, y, z)) 0) 0
 
-  -- The numbers that a factor at (h, k, l), k from 0 to B, is read from: one in pair 0 of an alternating line, none in the zero pairs of Pa.
+  -- The numbers that a factor at (h, k, l), k from 0 to B, is read from: one in pair 0 of an alternating line, none in
+  -- the zero pairs of Pa.
   abbrev pub pairNumbers : (w h k : ℕ) → List ℕ
   pairNumbers w h k = 2 * pairPlace w h k ∷ (2 * pairPlace w h k + 1) ∷ []
 
@@ -123,7 +138,9 @@ module _ (g : Group) (a : J) where
   lineNumbers plain h k l = pairNumbers l h k
   lineNumbers hermitian h k l = []
   lineNumbers antihermitian h k l = []
-  lineNumbers alternating h k l = cond (eqb l 0) (2 * pairPlace 0 h k ∷ []) (cond (eqb l (a .2)) ((2 * pairPlace 0 h k + 1) ∷ []) (pairNumbers (min l (2 * a .2 - l)) h k))
+  lineNumbers alternating h k l =
+      cond (eqb l 0) (2 * pairPlace 0 h k ∷ [])
+      (cond (eqb l (a .2)) ((2 * pairPlace 0 h k + 1) ∷ []) (pairNumbers (min l (2 * a .2 - l)) h k))
   lineNumbers symmetric h k l = pairNumbers (min l (2 * a .2 - l)) h k
   lineNumbers antisymmetric h k l = cond (eqb l 0 || eqb l (a .2)) [] (pairNumbers (min l (2 * a .2 - l)) h k)
 

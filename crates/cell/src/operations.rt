@@ -9,12 +9,14 @@ ghost use mathlib.Core.Bool.{true, false};
 ghost use Prim.Native.Nat.{_/_, _<_, _≤_};
 ghost use lib.ListN.{length, getD};
 ghost use Rattle.algebra.specs.ring.Ring.{Ops};
-ghost use Rattle.algebra.specs.cells.Cell.{Sym, P2₁2₁2₁, one, friedel, _·_, ops, full, xor, flip, shifted, imageOf, pointImage, sgn, impliedValue};
+ghost use Rattle.algebra.specs.cells.Cell.{Sym, P2₁2₁2₁, one, friedel, _·_, ops, full, xor, flip, shifted};
+ghost use Rattle.algebra.specs.cells.Cell.{imageOf, pointImage, sgn, impliedValue};
 ghost use Rattle.algebra.specs.cells.CellPlaces.{lineSym};
 ghost use Rattle.numbers.specs.Value.{prime, IsModulus, field, conj, valueOf, pairOf};
 ghost use Rattle.numbers.specs.Bounds.{Small};
 ghost use Rattle.cell.specs.Volume.{groupOf};
-ghost use Rattle.cell.specs.Operations.{cellHalves, tripleOf, pointOf, symOf, Length, Sizes, Within, PointWithin};
+ghost use Rattle.cell.specs.Operations.{cellHalves, tripleOf, pointOf, symOf, Length, Sizes, Within};
+ghost use Rattle.cell.specs.Operations.{PointWithin};
 
 // A unit cell as a call knows it: the number of its symmetry group, and the lengths of its three axes.
 pub struct UnitCell {
@@ -72,7 +74,8 @@ fn row(
     odd_k: bool,
     odd_l: bool,
 ) -> Operation
-    ensures { λ r. ⌜ symOf r ≡ Sym.sym false «minus_h» «minus_k» «minus_l» «odd_h» «odd_k» «odd_l» ⌝ }
+    ensures { λ r. ⌜ symOf r
+        ≡ Sym.sym false «minus_h» «minus_k» «minus_l» «odd_h» «odd_k» «odd_l» ⌝ }
 {
     Operation {
         conjugate: false,

@@ -13,8 +13,10 @@ ghost use Rattle.algebra.specs.cells.Cell.{span, pointImage, pointOperation, st
 ghost use Rattle.numbers.specs.Value.{prime, IsModulus, valueOf, pairOf};
 ghost use Rattle.numbers.specs.Bounds.{Small};
 ghost use Rattle.lengths.specs.Lengths.{kindOf};
-ghost use Rattle.cell.specs.Volume.{groupOf, lineKind, rotated, timesI, overI, layers, volumeLength, pairPlace, numbersRead, densityPlace};
-ghost use Rattle.cell.specs.Operations.{cellGroup, cellHalves, tripleOf, pointOf, Length, Sizes, Within, PointWithin};
+ghost use Rattle.cell.specs.Volume.{groupOf, lineKind, rotated, timesI, overI, layers, volumeLength, pairPlace};
+ghost use Rattle.cell.specs.Volume.{numbersRead, densityPlace};
+ghost use Rattle.cell.specs.Operations.{cellGroup, cellHalves, tripleOf, pointOf, Length, Sizes, Within};
+ghost use Rattle.cell.specs.Operations.{PointWithin};
 ghost use Rattle.cell.specs.Places.{IsRun, storedColumn, lineNumbersAt};
 
 // Neighbouring numbers of a volume.
@@ -141,7 +143,9 @@ pub fn folded(n3: u32, l: u32) -> u32
 // j if its k is stored, else its Friedel mate: the index whose line the factor at j is read from.
 pub fn stored_column(cell: UnitCell, j: Index) -> Index
     requires { ⌜ Sizes cell × Within cell j ⌝ }
-    ensures { λ r. ⌜ (tripleOf r ≡ storedColumn (cellHalves cell) (tripleOf j)) × Within cell r × (r .k ≤ cell .n2 / 2) ⌝ }
+    ensures { λ r. ⌜ (tripleOf r ≡ storedColumn (cellHalves cell) (tripleOf j))
+        × Within cell r
+        × (r .k ≤ cell .n2 / 2) ⌝ }
 {
     if j.k <= cell.n2 / 2 {
         j
@@ -168,9 +172,13 @@ fn pair_numbers(cell: UnitCell, w: u32, h: u32, k: u32) -> Run
 // The numbers at the ends l = 0 and l = A of a line that is stored by half: one in an alternating line, none in an
 // antisymmetric one.
 fn end_numbers(cell: UnitCell, kind: u32, j: Index) -> Run
-    requires { ⌜ Sizes cell × Within cell j × (j .k ≤ cell .n2 / 2) × ((eqb (j .l) 0 || eqb (j .l) (cell .n3 / 2)) ≡ true) ⌝ }
+    requires { ⌜ Sizes cell
+        × Within cell j
+        × (j .k ≤ cell .n2 / 2)
+        × ((eqb (j .l) 0 || eqb (j .l) (cell .n3 / 2)) ≡ true) ⌝ }
     requires { ⌜ (kind < 6) × (kindOf kind ≡ lineKind (cellGroup cell) (j .h)) × (kind ≡ 0 → ⊥) ⌝ }
-    ensures { λ r. ⌜ IsRun (volumeLength (cellGroup cell) (cellHalves cell)) (lineNumbersAt (cellGroup cell) (cellHalves cell) (tripleOf j)) r ⌝ }
+    ensures { λ r. ⌜ IsRun (volumeLength (cellGroup cell) (cellHalves cell))
+        (lineNumbersAt (cellGroup cell) (cellHalves cell) (tripleOf j)) r ⌝ }
 {
     if kind == 3 {
         let place = 2 * pair_place(cell, 0, j.h, j.k);
@@ -195,7 +203,8 @@ fn end_numbers(cell: UnitCell, kind: u32, j: Index) -> Run
 // The numbers of the line (h, k) that the factor at l is read from.
 fn line_numbers(cell: UnitCell, j: Index) -> Run
     requires { ⌜ Sizes cell × Within cell j × (j .k ≤ cell .n2 / 2) ⌝ }
-    ensures { λ r. ⌜ IsRun (volumeLength (cellGroup cell) (cellHalves cell)) (lineNumbersAt (cellGroup cell) (cellHalves cell) (tripleOf j)) r ⌝ }
+    ensures { λ r. ⌜ IsRun (volumeLength (cellGroup cell) (cellHalves cell))
+        (lineNumbersAt (cellGroup cell) (cellHalves cell) (tripleOf j)) r ⌝ }
 {
     let kind = line_kind(cell.group, j.h as usize);
     if kind == 0 {
@@ -210,7 +219,8 @@ fn line_numbers(cell: UnitCell, j: Index) -> Run
 // The numbers that the factor at j is read from.
 pub fn factor_numbers(cell: UnitCell, j: Index) -> Run
     requires { ⌜ Sizes cell × Within cell j ⌝ }
-    ensures { λ r. ⌜ IsRun (volumeLength (cellGroup cell) (cellHalves cell)) (numbersRead (cellGroup cell) (cellHalves cell) (tripleOf j)) r ⌝ }
+    ensures { λ r. ⌜ IsRun (volumeLength (cellGroup cell) (cellHalves cell))
+        (numbersRead (cellGroup cell) (cellHalves cell) (tripleOf j)) r ⌝ }
 {
     line_numbers(cell, stored_column(cell, j))
 }
@@ -218,7 +228,9 @@ pub fn factor_numbers(cell: UnitCell, j: Index) -> Run
 // The point itself if its plane is stored, else its image under the group's first operation but the identity.
 fn stored_point(cell: UnitCell, p: Point) -> Point
     requires { ⌜ Sizes cell × PointWithin cell p ⌝ }
-    ensures { λ r. ⌜ pointOf r ≡ pointImage (cellHalves cell) (pointOperation (cellGroup cell) (cellHalves cell) (pointOf p)) (pointOf p) ⌝ }
+    ensures { λ r. ⌜ pointOf r
+        ≡ pointImage (cellHalves cell) (pointOperation (cellGroup cell) (cellHalves cell) (pointOf p))
+        (pointOf p) ⌝ }
     ensures { λ r. ⌜ PointWithin cell r ⌝ }
 {
     if p.z < layer_count(cell) {
@@ -232,7 +244,8 @@ fn stored_point(cell: UnitCell, p: Point) -> Point
 // The place of a point's number.
 pub fn density_place(cell: UnitCell, p: Point) -> usize
     requires { ⌜ Sizes cell × PointWithin cell p ⌝ }
-    ensures { λ r. ⌜ (r ≡ densityPlace (cellGroup cell) (cellHalves cell) (pointOf p)) × (r < volumeLength (cellGroup cell) (cellHalves cell)) ⌝ }
+    ensures { λ r. ⌜ (r ≡ densityPlace (cellGroup cell) (cellHalves cell) (pointOf p))
+        × (r < volumeLength (cellGroup cell) (cellHalves cell)) ⌝ }
 {
     let q = stored_point(cell, p);
     2 * pair_place(cell, q.z, q.x, 0) + (q.y as usize)

@@ -1,4 +1,5 @@
--- The Chinese remainder theorem for the two primes 86,399 and 302,399: the whole number next to zero with two given residues.
+-- The Chinese remainder theorem for the two primes 86,399 and 302,399: the whole number next to zero with two given
+-- residues.
 use Rattle.algebra.specs.Prelude.{_≡_, ℕ, _+_, _*_, _-_, _%_, _<_, _≤_, List, length, getD, replicate}
 use Rattle.signed.specs.Integers.{ℤ, pos, natAbs, residueZ, centred}
 use Rattle.slices.specs.Filling.{stores}

@@ -35,7 +35,9 @@ pub fn check_combined_map(cell: UnitCell, length: usize) -> Checked
 
 // The number of a point of the cell.
 pub fn count_at(cell: UnitCell, point: Point, map: &[i64]) -> i64
-    requires { ⌜ Sizes cell × PointWithin cell point × (length (now map) ≡ volumeLength (cellGroup cell) (cellHalves cell)) ⌝ }
+    requires { ⌜ Sizes cell
+        × PointWithin cell point
+        × (length (now map) ≡ volumeLength (cellGroup cell) (cellHalves cell)) ⌝ }
     ensures { λ r. ⌜ r ≡ countOf (cellGroup cell) (cellHalves cell) (now (map .entry)) (pointOf point) ⌝ }
 {
     map[cell::places::density_place(cell, point)]

@@ -1,4 +1,5 @@
--- The combined map of two jobs of one cell, which is the paper's joined map: the tests of the call in the paper's order, and what it answers and leaves.
+-- The combined map of two jobs of one cell, which is the paper's joined map: the tests of the call in the paper's
+-- order, and what it answers and leaves.
 use Rattle.algebra.specs.Prelude.{Bool, _&&_, not, eqb, ℕ, List, [], _∷_, length}
 use Rattle.algebra.specs.cells.Cell.{J}
 use Rattle.numbers.specs.Value.{prime}
@@ -16,7 +17,11 @@ use Rattle.job.specs.Job.{validJob, mapHeld, headerOf, asLong, halfLengths}
 abbrev pub ofOneCell : (i j : Job) → Bool
 ofOneCell i j =
     eqb (i .group) (j .group)
-    && (eqb (i .a .length) (j .a .length) && (eqb (i .b .length) (j .b .length) && (eqb (i .c .length) (j .c .length) && (eqb (i .modulus) 1 && eqb (j .modulus) 2))))
+    &&
+    (eqb (i .a .length) (j .a .length)
+    &&
+    (eqb (i .b .length) (j .b .length)
+    && (eqb (i .c .length) (j .c .length) && (eqb (i .modulus) 1 && eqb (j .modulus) 2))))
 
 -- Two maps of a cell, and an output of `room` numbers: 6, 7, 14.
 abbrev pub mapsTests : (group : ℕ) (lengths : J) (v w : List ℕ) (room : ℕ) → List Test
@@ -26,7 +31,8 @@ mapsTests group n v w room =
     not (consistentMap (groupOf group) (halfLengths n) v && consistentMap (groupOf group) (halfLengths n) w) ⇒ 14 ∷
     []
 
--- 25, 22, 27, 6, 7, 14, each over both jobs or volumes before the next. Behind 27 the group and the lengths of the first are those of the second.
+-- 25, 22, 27, 6, 7, 14, each over both jobs or volumes before the next. Behind 27 the group and the lengths of the
+-- first are those of the second.
 abbrev pub combineTests : (i j : Job) (v w : List ℕ) (room : ℕ) → List Test
 combineTests i j v w room =
     not (validJob i && validJob j) ⇒ 25 ∷

@@ -15,7 +15,8 @@ ghost use Rattle.combining.specs.Orders.{CombineRefusals};
 
 // 25, 22, 27, then the maps': each over both jobs before the next.
 pub fn check_maps(i: Job, first_map: &[u32], j: Job, second_map: &[u32], room: usize) -> Checked
-    ensures { λ r. ⌜ checkedNumber r ≡ first (combineTests i j (now («first_map» .entry)) (now («second_map» .entry)) room) ⌝ }
+    ensures { λ r. ⌜ checkedNumber r
+        ≡ first (combineTests i j (now («first_map» .entry)) (now («second_map» .entry)) room) ⌝ }
 {
     if !(valid::valid_job(i) & valid::valid_job(j)) {
         return Checked::Failed(Refusal::ImpossibleJob);
@@ -42,7 +43,10 @@ fn of_one_cell(i: Job, j: Job) -> bool
 // 6, 7, 14: each over both maps before the next, 6 of the output too.
 fn check_volumes(cell: UnitCell, first_map: &[u32], second_map: &[u32], room: usize) -> Checked
     requires { ⌜ Sizes cell ⌝ }
-    ensures { λ r. ⌜ checkedNumber r ≡ first (mapsTests (cell .group) (cellLengths cell) (now («first_map» .entry)) (now («second_map» .entry)) room) ⌝ }
+    ensures { λ r. ⌜ checkedNumber r
+        ≡ first
+        (mapsTests (cell .group) (cellLengths cell)
+        (now («first_map» .entry)) (now («second_map» .entry)) room) ⌝ }
 {
     let needed = header::bytes::volume_length(cell);
     if !(tests::fits(cell, first_map) & (tests::fits(cell, second_map) & (room as u64 == needed))) {

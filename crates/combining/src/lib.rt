@@ -18,7 +18,9 @@ pub fn combine_maps(
     second_map: &[u32],
     output: &mut [i64],
 ) -> FillAnswer
-    ensures { λ r. ⌜ combineOutcome r (now (output .exit)) ≡ combineStep first (now («first_map» .entry)) second (now («second_map» .entry)) (now (output .entry)) ⌝ }
+    ensures { λ r. ⌜ combineOutcome r (now (output .exit))
+        ≡ combineStep first (now («first_map» .entry)) second (now («second_map» .entry))
+        (now (output .entry)) ⌝ }
 {
     let count = output.len();
     let checked = crate::check::check_maps(first, first_map, second, second_map, count);

@@ -1,6 +1,8 @@
--- The correlation of two combined maps of one cell in P1, which is the paper's overlay of two joined maps: at each shift the sum over all points of their products,
--- as whole numbers; the tests of the call in the paper's order, and what it answers and leaves.
-use Rattle.algebra.specs.Prelude.{Bool, _&&_, _||_, not, cond, eqb, ltb, ℕ, zero, suc, _+_, _*_, _%_, List, [], _∷_, _++_, length, replicate}
+-- The correlation of two combined maps of one cell in P1, which is the paper's overlay of two joined maps: at each
+-- shift the sum over all points of their products, as whole numbers; the tests of the call in the paper's order, and
+-- what it answers and leaves.
+use Rattle.algebra.specs.Prelude.{Bool, _&&_, _||_, not, cond, eqb, ltb, ℕ, zero, suc, _+_, _*_, _%_, List, []}
+use Rattle.algebra.specs.Prelude.{_∷_, _++_, length, replicate}
 use Rattle.algebra.specs.ring.Ring.{sum}
 use Rattle.algebra.specs.cells.Cell.{J, P1}
 use Rattle.signed.specs.Integers.{ℤ, natAbs, _*ℤ_}
@@ -20,7 +22,8 @@ shiftedBy h u s = ((u .0 + s .0) % (2 * h .0), (u .1 + s .1) % (2 * h .1), (u .2
 
 -- the sum over all points of the cell
 unfoldable pub totalOf : J → (J → ℤ) → ℤ
-totalOf h f = sum integers (2 * h .0) (λ x. sum integers (2 * h .1) (λ y. sum integers (2 * h .2) (λ z. f (x, y, z))))
+totalOf h f =
+    sum integers (2 * h .0) (λ x. sum integers (2 * h .1) (λ y. sum integers (2 * h .2) (λ z. f (x, y, z))))
 
 -- at the shift s the sum over all points u of a(u) × b(u + s)
 unfoldable pub correlationAt : J → (a b : List ℤ) → J → ℤ
@@ -72,7 +75,8 @@ pub record Buffers : Type 0 where
 
 -- maps, output and work volumes are exactly as long as the lengths ask for
 abbrev pub allLong : (needed a b output work1 work2 work3 : ℕ) → Bool
-allLong n a b output work1 work2 work3 = eqb a n && (eqb b n && (eqb output n && (eqb work1 n && (eqb work2 n && eqb work3 n))))
+allLong n a b output work1 work2 work3 =
+    eqb a n && (eqb b n && (eqb output n && (eqb work1 n && (eqb work2 n && eqb work3 n))))
 
 -- 6, 13, 28, of buffers of these lengths
 abbrev pub buffersTests : (lengths : J) (a b : List ℤ) (output work1 work2 work3 scratch : ℕ) → List Test
@@ -84,7 +88,8 @@ buffersTests n a b output work1 work2 work3 scratch =
 
 -- 3, 4, 5, each over the three axes, 9, then these
 abbrev pub correlationTests : Header → (a b : List ℤ) (output work1 work2 work3 scratch : ℕ) → List Test
-correlationTests c a b output work1 work2 work3 scratch = axisTests c ++ buffersTests (c .lengths) a b output work1 work2 work3 scratch
+correlationTests c a b output work1 work2 work3 scratch =
+    axisTests c ++ buffersTests (c .lengths) a b output work1 work2 work3 scratch
 
 pub record CorrelationOutcome : Type 0 where
   pub answer : Filled
@@ -108,6 +113,9 @@ correlatedOutcome n a b w =
 -- or a refusal's number and all as it was
 unfoldable pub correlationStep : Header → (a b : List ℤ) → Buffers → CorrelationOutcome
 correlationStep c a b w =
-    accepted (first (correlationTests c a b (length (w .output)) (length (w .work1)) (length (w .work2)) (length (w .work3)) (length (w .scratch))))
+    accepted
+    (first
+    (correlationTests c a b (length (w .output)) (length (w .work1)) (length (w .work2)) (length (w .work3))
+    (length (w .scratch))))
     (correlatedOutcome (c .lengths) a b w)
     (λ n. record { answer = notWritten n; buffers = w })

@@ -1,4 +1,5 @@
--- What may be relied on of accepted calls: how the correlation moves with one count, and what it is of a map with itself at no shift.
+-- What may be relied on of accepted calls: how the correlation moves with one count, and what it is of a map with
+-- itself at no shift.
 use Rattle.algebra.specs.Prelude.{_≡_, ℕ, _*_, _≤_, List, length}
 use Rattle.algebra.specs.cells.Cell.{J, Inside, P1}
 use Rattle.signed.specs.Integers.{ℤ, natAbs, _+ℤ_, _*ℤ_}

@@ -1,4 +1,5 @@
--- The steps of the call: the residues of a map's points, the products of two volumes of factors, the magnitudes place by place.
+-- The steps of the call: the residues of a map's points, the products of two volumes of factors, the magnitudes place
+-- by place.
 use Rattle.algebra.specs.Prelude.{Bool, _||_, cond, ltb, ℕ, suc, _+_, _*_, _%_, List, length, getD}
 use Rattle.algebra.specs.ring.Ring.{Ops}
 use Rattle.algebra.specs.cells.Cell.{J, P1, Cell}
@@ -22,7 +23,9 @@ magnitudeAt B v n = cond (ltb (n % (2 * suc B)) (2 * B)) (natAbs (getD v n (pos 
 
 -- the residues of pair j of the layout, the last pair of a row being two zeros
 abbrev pub residuePair : (p B : ℕ) → List ℤ → ℕ → Pair
-residuePair p B v j = cond (ltb (j % suc B) B) (record { re = residueZ p (getD v (2 * j) (pos 0)); im = residueZ p (getD v (2 * j + 1) (pos 0)) }) zeroPair
+residuePair p B v j =
+    cond (ltb (j % suc B) B)
+    (record { re = residueZ p (getD v (2 * j) (pos 0)); im = residueZ p (getD v (2 * j + 1) (pos 0)) }) zeroPair
 
 -- c times the conjugate of the first volume's value times the second's
 abbrev pub correlated : (m c : ℕ) → (first second : List ℕ) → ℕ → Value m
@@ -47,7 +50,8 @@ pointCount h = 2 * h .0 * (2 * h .1) * (2 * h .2)
 abbrev pub exceedsAt : (B : ℕ) (a b : List ℤ) → Bool
 exceedsAt B a b =
     let most = over larger (length b) (magnitudeAt B b) in
-    ltb limit (over larger (length a) (magnitudeAt B a)) || (ltb limit most || ltb limit (over _+_ (length a) (magnitudeAt B a) * most))
+    ltb limit (over larger (length a) (magnitudeAt B a))
+    || (ltb limit most || ltb limit (over _+_ (length a) (magnitudeAt B a) * most))
 
 -- ---- the axes of a call: lengths, and factor lists in octal digits
 

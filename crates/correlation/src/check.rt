@@ -30,7 +30,10 @@ pub fn check_correlation(
     work3: usize,
     scratch: usize,
 ) -> Checked
-    ensures { λ r. ⌜ checkedNumber r ≡ first (correlationTests (headerOf (n1, n2, n3) (now (f1 .entry)) (now (f2 .entry)) (now (f3 .entry))) (now (a .entry)) (now (b .entry)) output work1 work2 work3 scratch) ⌝ }
+    ensures { λ r. ⌜ checkedNumber r
+        ≡ first
+        (correlationTests (headerOf (n1, n2, n3) (now (f1 .entry)) (now (f2 .entry)) (now (f3 .entry)))
+        (now (a .entry)) (now (b .entry)) output work1 work2 work3 scratch) ⌝ }
 {
     let cell = UnitCell {
         group: 0,
@@ -57,7 +60,9 @@ fn check_buffers(
     scratch: usize,
 ) -> Checked
     requires { ⌜ Sizes cell × (cell .group ≡ 0) × (volumeLength P1 (cellHalves cell) ≤ 16777216) ⌝ }
-    ensures { λ r. ⌜ checkedNumber r ≡ first (buffersTests (cellLengths cell) (now (a .entry)) (now (b .entry)) output work1 work2 work3 scratch) ⌝ }
+    ensures { λ r. ⌜ checkedNumber r
+        ≡ first
+        (buffersTests (cellLengths cell) (now (a .entry)) (now (b .entry)) output work1 work2 work3 scratch) ⌝ }
 {
     let needed = header::bytes::volume_length(cell);
     if !all_long(needed, a.len(), b.len(), output, work1, work2, work3) {

@@ -38,9 +38,12 @@ pub fn correlate(
     work3: &mut [u32],
     scratch: &mut [u32],
 ) -> FillAnswer
-    ensures { λ r. ⌜ correlationOutcome r (buffers (now (output .exit)) (now (work1 .exit)) (now (work2 .exit)) (now (work3 .exit)) (now (scratch .exit)))
-        ≡ correlationStep (headerOf (n1, n2, n3) (now (f1 .entry)) (now (f2 .entry)) (now (f3 .entry))) (now (a .entry)) (now (b .entry))
-        (buffers (now (output .entry)) (now (work1 .entry)) (now (work2 .entry)) (now (work3 .entry)) (now (scratch .entry))) ⌝ }
+    ensures { λ r. ⌜ correlationOutcome r
+        (buffers (now (output .exit)) (now (work1 .exit)) (now (work2 .exit)) (now (work3 .exit)) (now (scratch .exit)))
+        ≡ correlationStep (headerOf (n1, n2, n3) (now (f1 .entry)) (now (f2 .entry)) (now (f3 .entry)))
+        (now (a .entry)) (now (b .entry))
+        (buffers (now (output .entry)) (now (work1 .entry)) (now (work2 .entry)) (now (work3 .entry))
+        (now (scratch .entry))) ⌝ }
 {
     let count = output.len();
     let checked = crate::check::check_correlation(
@@ -86,12 +89,20 @@ fn correlate_sound(
     work3: &mut [u32],
     scratch: &mut [u32],
 )
-    requires { ⌜ SoundAxes axes × (magnitudes (axesHalves axes) (now a) * largest (axesHalves axes) (now b) ≤ limit) × (scratchLength ≤ length (now scratch)) ⌝ }
-    requires { ⌜ (length (now a) ≡ volumeLength P1 (axesHalves axes)) × (length (now b) ≡ volumeLength P1 (axesHalves axes)) × (length (now output) ≡ volumeLength P1 (axesHalves axes)) ⌝ }
-    requires { ⌜ (length (now work1) ≡ volumeLength P1 (axesHalves axes)) × (length (now work2) ≡ volumeLength P1 (axesHalves axes)) × (length (now work3) ≡ volumeLength P1 (axesHalves axes)) ⌝ }
+    requires { ⌜ SoundAxes axes
+        × (magnitudes (axesHalves axes) (now a) * largest (axesHalves axes) (now b) ≤ limit)
+        × (scratchLength ≤ length (now scratch)) ⌝ }
+    requires { ⌜ (length (now a) ≡ volumeLength P1 (axesHalves axes))
+        × (length (now b) ≡ volumeLength P1 (axesHalves axes))
+        × (length (now output) ≡ volumeLength P1 (axesHalves axes)) ⌝ }
+    requires { ⌜ (length (now work1) ≡ volumeLength P1 (axesHalves axes))
+        × (length (now work2) ≡ volumeLength P1 (axesHalves axes))
+        × (length (now work3) ≡ volumeLength P1 (axesHalves axes)) ⌝ }
     ensures { λ _. ⌜ (now (output .exit) ≡ correlation (axesHalves axes) (now (a .entry)) (now (b .entry)))
-        × (now (work1 .exit) ≡ replicate (volumeLength P1 (axesHalves axes)) 0) × (now (work2 .exit) ≡ replicate (volumeLength P1 (axesHalves axes)) 0)
-        × (now (work3 .exit) ≡ replicate (volumeLength P1 (axesHalves axes)) 0) × (now (scratch .exit) ≡ cleared (now (scratch .entry))) ⌝ }
+        × (now (work1 .exit) ≡ replicate (volumeLength P1 (axesHalves axes)) 0)
+        × (now (work2 .exit) ≡ replicate (volumeLength P1 (axesHalves axes)) 0)
+        × (now (work3 .exit) ≡ replicate (volumeLength P1 (axesHalves axes)) 0)
+        × (now (scratch .exit) ≡ cleared (now (scratch .entry))) ⌝ }
 {
     crate::modulo::correlate_modulo(1, axes, a, b, work1, work2, scratch);
     crate::modulo::correlate_modulo(2, axes, a, b, work3, work2, scratch);

@@ -11,7 +11,8 @@ ghost use Rattle.numbers.specs.Value.{prime, IsModulus};
 ghost use Rattle.numbers.specs.Bounds.{res};
 ghost use Rattle.lengths.specs.Lengths.{scratchLength, cleared};
 ghost use Rattle.cell.specs.Volume.{volumeLength, packMap, packFactors, factorsOf};
-ghost use Rattle.correlation.specs.Steps.{residueCell, countCell, correlationCell, pointCount, axesHalves, SoundAxes, planOf};
+ghost use Rattle.correlation.specs.Steps.{residueCell, countCell, correlationCell, pointCount, axesHalves};
+ghost use Rattle.correlation.specs.Steps.{SoundAxes, planOf};
 
 // Three lengths and the factor lists of their halves in octal digits.
 pub struct Axes {
@@ -55,9 +56,12 @@ fn point_count(m: u32, axes: Axes) -> u32
 // The factors of a map modulo the prime.
 fn analyse(m: u32, axes: Axes, map: &[i64], volume: &mut [u32], scratch: &mut [u32])
     requires { ⌜ IsModulus m × SoundAxes axes ⌝ }
-    requires { ⌜ (length (now map) ≡ volumeLength P1 (axesHalves axes)) × (length (now volume) ≡ volumeLength P1 (axesHalves axes)) ⌝ }
+    requires { ⌜ (length (now map) ≡ volumeLength P1 (axesHalves axes))
+        × (length (now volume) ≡ volumeLength P1 (axesHalves axes)) ⌝ }
     requires { ⌜ scratchLength ≤ length (now scratch) ⌝ }
-    ensures { λ _. ⌜ (now (volume .exit) ≡ packFactors P1 (axesHalves axes) m (factorsOf m (axesHalves axes) (residueCell m (countCell (axesHalves axes) (now (map .entry))))))
+    ensures { λ _. ⌜ (now (volume .exit)
+        ≡ packFactors P1 (axesHalves axes) m
+        (factorsOf m (axesHalves axes) (residueCell m (countCell (axesHalves axes) (now (map .entry))))))
         × (now (scratch .exit) ≡ cleared (now (scratch .entry))) ⌝ }
 {
     let pairs = volume.len() / 2;
@@ -77,10 +81,14 @@ pub fn correlate_modulo(
     scratch: &mut [u32],
 )
     requires { ⌜ IsModulus m × SoundAxes axes ⌝ }
-    requires { ⌜ (length (now a) ≡ volumeLength P1 (axesHalves axes)) × (length (now b) ≡ volumeLength P1 (axesHalves axes)) ⌝ }
-    requires { ⌜ (length (now first) ≡ volumeLength P1 (axesHalves axes)) × (length (now second) ≡ volumeLength P1 (axesHalves axes)) ⌝ }
+    requires { ⌜ (length (now a) ≡ volumeLength P1 (axesHalves axes))
+        × (length (now b) ≡ volumeLength P1 (axesHalves axes)) ⌝ }
+    requires { ⌜ (length (now first) ≡ volumeLength P1 (axesHalves axes))
+        × (length (now second) ≡ volumeLength P1 (axesHalves axes)) ⌝ }
     requires { ⌜ scratchLength ≤ length (now scratch) ⌝ }
-    ensures { λ _. ⌜ (now (first .exit) ≡ packMap P1 (axesHalves axes) m (residueCell m (correlationCell (axesHalves axes) (now (a .entry)) (now (b .entry)))))
+    ensures { λ _. ⌜ (now (first .exit)
+        ≡ packMap P1 (axesHalves axes) m
+        (residueCell m (correlationCell (axesHalves axes) (now (a .entry)) (now (b .entry)))))
         × (now (scratch .exit) ≡ cleared (now (scratch .entry))) ⌝ }
 {
     analyse(m, axes, a, first, scratch);

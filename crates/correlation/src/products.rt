@@ -12,7 +12,8 @@ ghost use Rattle.correlation.specs.Steps.{correlated};
 // c times the conjugate of x, times y.
 fn correlate_pair(m: u32, c: u32, x: Pair, y: Pair) -> Pair
     requires { ⌜ IsModulus m × (c < prime m) × Small (prime m) x × Small (prime m) y ⌝ }
-    ensures { λ r. ⌜ r ≡ pairOf (field m .mul (real m (res m c)) (field m .mul (conj m (valueOf m x)) (valueOf m y))) ⌝ }
+    ensures { λ r. ⌜ r
+        ≡ pairOf (field m .mul (real m (res m c)) (field m .mul (conj m (valueOf m x)) (valueOf m y))) ⌝ }
 {
     let product = numbers::unreduced::product(m, numbers::conjugate(m, x), y);
     numbers::scaled(m, c, numbers::reduced_below(m, product))

@@ -1,4 +1,5 @@
--- The paper's large grids, which are not starred: how many numbers their volumes have, and whether an opening takes a volume of that many.
+-- The paper's large grids, which are not starred: how many numbers their volumes have, and whether an opening takes a
+-- volume of that many.
 use mathlib.Core.Path.{_≡_}
 use mathlib.Core.List.{List, [], _∷_}
 use Prim.Native.Nat.{ℕ}
@@ -28,11 +29,25 @@ grids =
     []
 
 abbrev pub headerOf : Grid → Header
-headerOf x = record { group = x .group; lengths = (x .length, x .length, x .length); list1 = x .factors; list2 = x .factors; list3 = x .factors }
+headerOf x =
+    record {
+      group = x .group;
+      lengths = (x .length, x .length, x .length);
+      list1 = x .factors;
+      list2 = x .factors;
+      list3 = x .factors;
+    }
 
 -- under either modulus, whatever the volume of that many numbers holds
 abbrev pub Shown : Grid → Type 0
-Shown x = (needed (headerOf x) ≡ x .numbers) × ((m : ℕ) → isModulus m ≡ true → (v : List ℕ) → length v ≡ x .numbers → openStep m (headerOf x) 0 v .answer ≡ accepted (x .refusal) (opened (jobOf m (headerOf x) collecting)) (λ n. notOpened n 0))
+Shown x =
+    (needed (headerOf x) ≡ x .numbers)
+    ×
+    ((m : ℕ) → isModulus m ≡ true →
+    (v : List ℕ) →
+    length v ≡ x .numbers →
+    openStep m (headerOf x) 0 v .answer
+    ≡ accepted (x .refusal) (opened (jobOf m (headerOf x) collecting)) (λ n. notOpened n 0))
 
 abbrev pub AllShown : List Grid → Type 0
 AllShown [] = Unit

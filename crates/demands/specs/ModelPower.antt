@@ -1,6 +1,6 @@
 -- Power kept, of the model's own two numbers: after any list of calls the sum of the squares of its map over the whole
--- cell, and that of F × conj F, are real, and the first is N1 × N2 × N3 times the second modulo the prime. That the two
--- calls answer these numbers is part of EveryList.
+-- cell, and that of F × conj F, are real, and the first is N1 × N2 × N3 times the second modulo the prime. That the
+-- two calls answer these numbers is part of EveryList.
 use Rattle.algebra.specs.Prelude.{_≡_, ℕ, _*_, _%_, List}
 use Rattle.algebra.specs.ring.Ring.{Ops}
 use Rattle.numbers.specs.Value.{prime, Value, field, conj}
@@ -18,7 +18,8 @@ abbrev pub mapSquares : {μ : ℕ} → Model μ → Value μ
 mapSquares {μ} m = overCell μ (half m) (λ x y z. field μ .mul (densityOf m (x, y, z)) (densityOf m (x, y, z)))
 
 abbrev pub factorSquares : {μ : ℕ} → Model μ → Value μ
-factorSquares {μ} m = overCell μ (half m) (λ h k l. field μ .mul (factorOf m (h, k, l)) (conj μ (factorOf m (h, k, l))))
+factorSquares {μ} m =
+    overCell μ (half m) (λ h k l. field μ .mul (factorOf m (h, k, l)) (conj μ (factorOf m (h, k, l))))
 
 pub record PowerOf {μ : ℕ} (m : Model μ) : Type 0 where
   pub map-real : mapSquares m .1 .val ≡ 0

@@ -1,5 +1,6 @@
--- The paper's starred specimens in one table, with those of ours for P2₁2₁2₁: the lines of crate line; records, each by group, index, and the number that every
--- record there is refused with; and records that are taken, each with the numbers that it leaves.
+-- The paper's starred specimens in one table, with those of ours for P2₁2₁2₁: the lines of crate line; records,
+-- each by group, index, and the number that every record there is refused with; and records that are taken, each with
+-- the numbers that it leaves.
 use mathlib.Core.Path.{_≡_}
 use mathlib.Core.List.{List, [], _∷_, _++_, map}
 use Prim.Native.Nat.{ℕ, _<_}
@@ -26,11 +27,15 @@ records =
     row 4 0 0 1 12 ∷
     []
 
--- Whatever modulus, lengths, factor lists and volume a job of the group is opened with to collect, and whatever value a + b i other than zero is recorded:
--- the refusal has the number, and job and volume stay as the opening left them.
+-- Whatever modulus, lengths, factor lists and volume a job of the group is opened with to collect, and whatever value a
+-- + b i other than zero is recorded: the refusal has the number, and job and volume stay as the opening left them.
 abbrev pub Shown : Specimen → Type 0
-Shown x = (m : ℕ) (h : Header) (lent v : List ℕ) (j : Job) (a b : ℕ) → h .group ≡ x .group → openStep m h 0 lent ≡ record { answer = opened j; volume = v } →
-    a < prime m → b < prime m → ((a ≡ 0) × (b ≡ 0) → ⊥) → recordStep j (x .at) a b v ≡ unchanged j v (x .number)
+Shown x = (m : ℕ) (h : Header) (lent v : List ℕ) (j : Job) (a b : ℕ) →
+    h .group ≡ x .group →
+    openStep m h 0 lent ≡ record { answer = opened j; volume = v } →
+    a < prime m → b < prime m →
+    ((a ≡ 0) × (b ≡ 0) → ⊥) →
+    recordStep j (x .at) a b v ≡ unchanged j v (x .number)
 
 -- A record that a volume of zeros takes under the first prime, and the numbers that it leaves.
 pub record Taken : Type 0 where
@@ -44,12 +49,25 @@ pub record Taken : Type 0 where
 abbrev pub small : Header
 small = record { group = 4; lengths = (4, 2, 2); list1 = 2 ∷ []; list2 = []; list3 = [] }
 
--- Both ends of the line of (1, 1), which is stored times i, as is that of (3, 1). At l = 0 the factor is imaginary: 5 i is stored as -5, and the implied -5 i at (3, 1, 0) as 5.
--- At l = A, which is odd, it is real: 5 is stored as 5 i, by its imaginary part, the second number of the pair.
+-- Both ends of the line of (1, 1), which is stored times i, as is that of (3, 1). At l = 0 the factor is imaginary: 5 i
+-- is stored as -5, and the implied -5 i at (3, 1, 0) as 5. At l = A, which is odd, it is real: 5 is stored as 5 i, by
+-- its imaginary part, the second number of the pair.
 abbrev pub takenRecords : List Taken
 takenRecords =
-    record { header = small; at = record { 0 = 1; 1 = 1; 2 = 0 }; a = 0; b = 5; left = 0 ∷ 0 ∷ 0 ∷ 0 ∷ 0 ∷ 0 ∷ 86394 ∷ 0 ∷ 0 ∷ 0 ∷ 0 ∷ 0 ∷ 0 ∷ 0 ∷ 5 ∷ 0 ∷ [] } ∷
-    record { header = small; at = record { 0 = 1; 1 = 1; 2 = 1 }; a = 5; b = 0; left = 0 ∷ 0 ∷ 0 ∷ 0 ∷ 0 ∷ 0 ∷ 0 ∷ 5 ∷ 0 ∷ 0 ∷ 0 ∷ 0 ∷ 0 ∷ 0 ∷ 0 ∷ 5 ∷ [] } ∷
+    record {
+      header = small;
+      at = record { 0 = 1; 1 = 1; 2 = 0 };
+      a = 0;
+      b = 5;
+      left = 0 ∷ 0 ∷ 0 ∷ 0 ∷ 0 ∷ 0 ∷ 86394 ∷ 0 ∷ 0 ∷ 0 ∷ 0 ∷ 0 ∷ 0 ∷ 0 ∷ 5 ∷ 0 ∷ [];
+    } ∷
+    record {
+      header = small;
+      at = record { 0 = 1; 1 = 1; 2 = 1 };
+      a = 5;
+      b = 0;
+      left = 0 ∷ 0 ∷ 0 ∷ 0 ∷ 0 ∷ 0 ∷ 0 ∷ 5 ∷ 0 ∷ 0 ∷ 0 ∷ 0 ∷ 0 ∷ 0 ∷ 0 ∷ 5 ∷ [];
+    } ∷
     []
 
 -- The volume is opened, and the record is taken; with its two numbers exchanged it is refused 12.

@@ -4,7 +4,10 @@
 pub mod read_back; // read_back.rt: what was written reads back
 pub mod specimens; // specimens.rt: the paper's specimens
 
-ghost use Rattle.demands.specs.Demands.{EveryList, RefusedStarts, FaultlessStarts, FactorsImplied, TripleSums, MapsReal, ImagesAlike, AnalysisRestores, OrderFree, AlikeStarts, FileOrderFree, OccupiedExactly, FileOccupied, FileAsCalls, LaterValueCounts, InconsistentExactly, ImpossibleExactly};
+ghost use Rattle.demands.specs.Demands.{EveryList, RefusedStarts, FaultlessStarts, FactorsImplied, TripleSums};
+ghost use Rattle.demands.specs.Demands.{MapsReal, ImagesAlike, AnalysisRestores, OrderFree, AlikeStarts};
+ghost use Rattle.demands.specs.Demands.{FileOrderFree, OccupiedExactly, FileOccupied, FileAsCalls};
+ghost use Rattle.demands.specs.Demands.{LaterValueCounts, InconsistentExactly, ImpossibleExactly};
 ghost use Rattle.demands.specs.Shared.{SharedSynthesis};
 ghost use Rattle.demands.specs.ModelPower.{ModelPower};
 

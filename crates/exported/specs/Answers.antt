@@ -1,10 +1,12 @@
--- What the calls of a job and of a factor file return and leave as numbers, from what their definitions say: the answer, then the buffers.
+-- What the calls of a job and of a factor file return and leave as numbers, from what their definitions say: the
+-- answer, then the buffers.
 use mathlib.Core.List.{List, [], _∷_}
 use Prim.Native.Nat.{ℕ}
 use Rattle.signed.specs.Integers.{ℤ, pos}
 use Rattle.job.specs.declared.Axis.{Axis}
 use Rattle.job.specs.declared.Job.{Job}
-use Rattle.job.specs.Job.{Opening, Opening.opened, Opening.notOpened, OpenOutcome, Said, Said.done, Said.density, Said.factor, Said.power, Said.refused, Outcome, Worked}
+use Rattle.job.specs.Job.{Opening, Opening.opened, Opening.notOpened, OpenOutcome, Said, Said.done, Said.density}
+use Rattle.job.specs.Job.{Said.factor, Said.power, Said.refused, Outcome, Worked}
 use Rattle.job.specs.Answers.{replyOf}
 use Rattle.exported.specs.declared.answers.JobCoded.{JobCoded}
 use Rattle.exported.specs.declared.answers.FileCoded.{FileCoded}
@@ -50,9 +52,11 @@ abbrev pub recordCoded : Outcome → JobCoded × List ℕ
 recordCoded o = (record { number = replyOf (o .answer) .number; job = o .job }, o .volume)
 
 abbrev pub workCoded : Worked → JobCoded × List ℕ × List ℕ
-workCoded w = (record { number = replyOf (w .outcome .answer) .number; job = w .outcome .job }, w .outcome .volume, w .scratch)
+workCoded w =
+    (record { number = replyOf (w .outcome .answer) .number; job = w .outcome .job }, w .outcome .volume, w .scratch)
 
--- A reading of a point says a density or a refusal, one of a factor a factor or a refusal: the other cases do not occur.
+-- A reading of a point says a density or a refusal, one of a factor a factor or a refusal: the other cases do not
+-- occur.
 abbrev pub pointCoded : Said → PointCoded
 pointCoded (density n) = record { number = 0; density = n }
 pointCoded (refused n) = record { number = n; density = pos 0 }

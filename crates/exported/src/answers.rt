@@ -17,7 +17,8 @@ ghost use Rattle.job.specs.Answers.{said, saidOpen, saidPoint, saidFactor, said
 ghost use Rattle.factor_file.specs.Answers.{saidFile};
 ghost use Rattle.faults.specs.Faults.{saidFaults};
 ghost use Rattle.output.specs.Answers.{saidFill};
-ghost use Rattle.exported.specs.Answers.{noJob, openingCoded, fileAnswerCoded, faultsCoded, pointCoded, factorCoded, powerCoded, writingCoded};
+ghost use Rattle.exported.specs.Answers.{noJob, openingCoded, fileAnswerCoded, faultsCoded, pointCoded};
+ghost use Rattle.exported.specs.Answers.{factorCoded, powerCoded, writingCoded};
 
 // The answer of an opening, a record, a synthesis and an analysis.
 #[repr(C)]

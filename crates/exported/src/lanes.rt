@@ -82,7 +82,8 @@ pub fn turn_coded(answered: TurnAnswered) -> TurnCoded
 
 // A turn that gives no job.
 fn unfinished(number: u32, lane: u32, scheduler: Scheduler) -> TurnCoded
-    ensures { λ r. ⌜ r ≡ record { number = number; lane = lane; finished = 0; job = noJob; scheduler = scheduler } ⌝ }
+    ensures { λ r. ⌜ r
+        ≡ record { number = number; lane = lane; finished = 0; job = noJob; scheduler = scheduler } ⌝ }
 {
     TurnCoded {
         number,

@@ -28,7 +28,8 @@ use scheduler::Scheduler;
 ghost use mathlib.Core.Path.{_≡_};
 ghost use Rattle.line.specs.Line.{lineStep};
 ghost use Rattle.line.specs.Answers.{saidLine};
-ghost use Rattle.job.specs.Job.{openStep, recordStep, synthesisStep, analysisStep, pointStep, factorStep, mapPowerStep, factorPowerStep};
+ghost use Rattle.job.specs.Job.{openStep, recordStep, synthesisStep, analysisStep, pointStep, factorStep};
+ghost use Rattle.job.specs.Job.{mapPowerStep, factorPowerStep};
 ghost use Rattle.factor_file.specs.File.{fileStep, writeStep};
 ghost use Rattle.faults.specs.Faults.{faultsIn};
 ghost use Rattle.combining.specs.Combining.{combineStep};
@@ -38,7 +39,9 @@ ghost use Rattle.correlation.specs.Correlation.{headerOf, correlationStep};
 ghost use Rattle.correlation.specs.Answers.{buffers};
 ghost use Rattle.sliding_window.specs.Window.{windowStep};
 ghost use Rattle.scheduler.specs.Scheduler.{newScheduler, nextStep, enterStep, turnStep, withdrawStep};
-ghost use Rattle.exported.specs.Answers.{openCoded, fileCoded, faultsCoded, recordCoded, workCoded, pointCoded, factorCoded, powerCoded, writeCoded, combineCoded, correlationCoded, lineCoded, windowCoded};
+ghost use Rattle.exported.specs.Answers.{openCoded, fileCoded, faultsCoded, recordCoded, workCoded, pointCoded};
+ghost use Rattle.exported.specs.Answers.{factorCoded, powerCoded, writeCoded, combineCoded, correlationCoded};
+ghost use Rattle.exported.specs.Answers.{lineCoded, windowCoded};
 ghost use Rattle.exported.specs.Cells.{parametersOf};
 ghost use Rattle.exported.specs.Lanes.{nextCoded, laneCoded, enterCoded, turnCoded};
 
@@ -56,8 +59,15 @@ pub extern "C" fn recorder_open(
     f3: &[u8],
     volume: &mut [u32],
 ) -> JobCoded
-    ensures { λ r. ⌜ (r, now (volume .exit)) ≡ openCoded (openStep modulus (record
-        { group = group; lengths = (n1, n2, n3); list1 = now (f1 .entry); list2 = now (f2 .entry); list3 = now (f3 .entry) }) kind (now (volume .entry))) ⌝ }
+    ensures { λ r. ⌜ (r, now (volume .exit)) ≡ openCoded (openStep modulus (record {
+      group = group;
+      lengths = (n1, n2, n3);
+      list1 = now (f1 .entry);
+      list2 = now (f2 .entry);
+      list3 = now
+          (f3 .entry);
+    }) kind (now
+        (volume .entry))) ⌝ }
 {
     crate::answers::opening_coded(job::open::open(
         group,
@@ -92,7 +102,8 @@ pub extern "C" fn recorder_file_faults(file: &[u8]) -> FaultsCoded
 // Writes the factor file of a job that holds factors.
 #[no_mangle]
 pub extern "C" fn recorder_write_file(held: Job, volume: &[u32], out: &mut [u8]) -> WriteCoded
-    ensures { λ r. ⌜ (r, now (out .exit)) ≡ writeCoded (writeStep held (now (volume .entry)) (now (out .entry))) ⌝ }
+    ensures { λ r. ⌜ (r, now (out .exit))
+        ≡ writeCoded (writeStep held (now (volume .entry)) (now (out .entry))) ⌝ }
 {
     crate::answers::filled_coded(factor_file::writer::write_file(held, volume, out))
 }
@@ -114,7 +125,8 @@ pub extern "C" fn recorder_record(
 // From factors to the map.
 #[no_mangle]
 pub extern "C" fn recorder_synthesis(held: Job, volume: &mut [u32], scratch: &mut [u32]) -> JobCoded
-    ensures { λ r. ⌜ (r, now (volume .exit), now (scratch .exit)) ≡ workCoded (synthesisStep held (now (volume .entry)) (now (scratch .entry))) ⌝ }
+    ensures { λ r. ⌜ (r, now (volume .exit), now (scratch .exit))
+        ≡ workCoded (synthesisStep held (now (volume .entry)) (now (scratch .entry))) ⌝ }
 {
     crate::answers::answered_coded(held.synthesis(volume, scratch))
 }
@@ -122,7 +134,8 @@ pub extern "C" fn recorder_synthesis(held: Job, volume: &mut [u32], scratch: &mu
 // From the map to its factors.
 #[no_mangle]
 pub extern "C" fn recorder_analysis(held: Job, volume: &mut [u32], scratch: &mut [u32]) -> JobCoded
-    ensures { λ r. ⌜ (r, now (volume .exit), now (scratch .exit)) ≡ workCoded (analysisStep held (now (volume .entry)) (now (scratch .entry))) ⌝ }
+    ensures { λ r. ⌜ (r, now (volume .exit), now (scratch .exit))
+        ≡ workCoded (analysisStep held (now (volume .entry)) (now (scratch .entry))) ⌝ }
 {
     crate::answers::answered_coded(held.analysis(volume, scratch))
 }
@@ -168,7 +181,10 @@ pub extern "C" fn recorder_combine(
     second_map: &[u32],
     output: &mut [i64],
 ) -> WriteCoded
-    ensures { λ r. ⌜ (r, now (output .exit)) ≡ combineCoded (combineStep first (now («first_map» .entry)) second (now («second_map» .entry)) (now (output .entry))) ⌝ }
+    ensures { λ r. ⌜ (r, now (output .exit))
+        ≡ combineCoded
+        (combineStep first (now («first_map» .entry)) second (now («second_map» .entry))
+        (now (output .entry))) ⌝ }
 {
     crate::answers::filled_coded(combining::combine_maps(
         first,
@@ -190,7 +206,8 @@ pub extern "C" fn recorder_section(
     z: u32,
     out: &mut [u8],
 ) -> WriteCoded
-    ensures { λ r. ⌜ (r, now (out .exit)) ≡ writeCoded (sectionStep group (n1, n2, n3) (now (map .entry)) z (now (out .entry))) ⌝ }
+    ensures { λ r. ⌜ (r, now (out .exit))
+        ≡ writeCoded (sectionStep group (n1, n2, n3) (now (map .entry)) z (now (out .entry))) ⌝ }
 {
     crate::answers::filled_coded(section::section_text(group, n1, n2, n3, map, z, out))
 }
@@ -206,7 +223,10 @@ pub extern "C" fn recorder_mrc(
     cell: CellCoded,
     out: &mut [u8],
 ) -> WriteCoded
-    ensures { λ r. ⌜ (r, now (out .exit)) ≡ writeCoded (mrcStep (record { group = group; n1 = n1; n2 = n2; n3 = n3 }) (now (map .entry)) (parametersOf cell) (now (out .entry))) ⌝ }
+    ensures { λ r. ⌜ (r, now (out .exit))
+        ≡ writeCoded
+        (mrcStep (record { group = group; n1 = n1; n2 = n2; n3 = n3 }) (now (map .entry)) (parametersOf cell)
+        (now (out .entry))) ⌝ }
 {
     let unit = UnitCell { group, n1, n2, n3 };
     crate::answers::filled_coded(mrc::mrc_map(unit, map, crate::cells::parameters_of(cell), out))
@@ -229,9 +249,16 @@ pub extern "C" fn recorder_correlate(
     work3: &mut [u32],
     scratch: &mut [u32],
 ) -> WriteCoded
-    ensures { λ r. ⌜ (r, buffers (now (output .exit)) (now (work1 .exit)) (now (work2 .exit)) (now (work3 .exit)) (now (scratch .exit)))
-        ≡ correlationCoded (correlationStep (headerOf (n1, n2, n3) (now (f1 .entry)) (now (f2 .entry)) (now (f3 .entry))) (now (a .entry)) (now (b .entry))
-        (buffers (now (output .entry)) (now (work1 .entry)) (now (work2 .entry)) (now (work3 .entry)) (now (scratch .entry)))) ⌝ }
+    ensures { λ r. ⌜ (
+      r,
+      buffers (now (output .exit)) (now (work1 .exit)) (now (work2 .exit)) (now (work3 .exit))
+          (now (scratch .exit)),
+    )
+        ≡ correlationCoded
+        (correlationStep (headerOf (n1, n2, n3) (now (f1 .entry)) (now (f2 .entry)) (now (f3 .entry)))
+        (now (a .entry)) (now (b .entry))
+        (buffers (now (output .entry)) (now (work1 .entry)) (now (work2 .entry)) (now (work3 .entry))
+        (now (scratch .entry)))) ⌝ }
 {
     crate::answers::filled_coded(correlation::correlate(
         n1,
@@ -262,7 +289,8 @@ pub extern "C" fn recorder_line(
     scratch: &mut [u32],
 ) -> u32
     ensures { λ r. ⌜ (r, now (line .exit), now (scratch .exit))
-        ≡ lineCoded (lineStep modulus kind direction length (now (factors .entry)) (now (line .entry)) (now (scratch .entry))) ⌝ }
+        ≡ lineCoded
+        (lineStep modulus kind direction length (now (factors .entry)) (now (line .entry)) (now (scratch .entry))) ⌝ }
 {
     line_number(line::line(modulus, kind, direction, length, factors, line, scratch))
 }
@@ -286,9 +314,22 @@ pub extern "C" fn recorder_drift(
     least_at: &mut [u64],
     greatest_at: &mut [u64],
 ) -> WriteCoded
-    ensures { λ r. ⌜ (r, record { least = now (least .exit); greatest = now (greatest .exit); leastAt = now («least_at» .exit); greatestAt = now («greatest_at» .exit) })
-        ≡ windowCoded (windowStep (now (run .entry)) w (record
-        { least = now (least .entry); greatest = now (greatest .entry); leastAt = now («least_at» .entry); greatestAt = now («greatest_at» .entry) })) ⌝ }
+    ensures { λ r. ⌜ (
+      r,
+      record {
+        least = now (least .exit);
+        greatest = now (greatest .exit);
+        leastAt = now («least_at» .exit);
+        greatestAt = now («greatest_at» .exit);
+      },
+    )
+        ≡ windowCoded (windowStep (now (run .entry)) w (record {
+          least = now (least .entry);
+          greatest = now (greatest .entry);
+          leastAt = now
+              («least_at» .entry);
+          greatestAt = now («greatest_at» .entry);
+        })) ⌝ }
 {
     crate::answers::filled_coded(sliding_window::window_extremes(
         run,

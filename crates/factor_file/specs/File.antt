@@ -1,9 +1,11 @@
--- A factor file read, and written: what opening a job by it answers and leaves; the records of a volume, the file of a job, and what writing it answers and leaves.
--- Its layout, its bytes and the tests of its shape are those of file_format's Format.
+-- A factor file read, and written: what opening a job by it answers and leaves; the records of a volume, the file of a
+-- job, and what writing it answers and leaves. Its layout, its bytes and the tests of its shape are those of
+-- file_format's Format.
 use Rattle.algebra.specs.Prelude.{ℕ, List, [], _∷_, _++_, length, map, replicate, Bool, not, eqb, ltb}
 use Rattle.job.specs.declared.Job.{Job}
 use Rattle.job.specs.declared.Reflection.{Reflection}
-use Rattle.job.specs.Job.{halfLengths, opened, notOpened, OpenOutcome, index, ownTests, openStep, headerOf, groupIn, halves, validJob, mapHeld, fits}
+use Rattle.job.specs.Job.{halfLengths, opened, notOpened, OpenOutcome, index, ownTests, openStep, headerOf, groupIn}
+use Rattle.job.specs.Job.{halves, validJob, mapHeld, fits}
 use Rattle.file_format.specs.declared.FileRecord.{FileRecord}
 pub use Rattle.file_format.specs.Format.{byteAt, afterList, list1At, recordCount, recordsIn, shapeTests, headerIn}
 use Rattle.refusals.specs.Refusals.{first, accepted, Test, _⇒_}
@@ -16,7 +18,8 @@ use Rattle.slices.specs.Pairs.{allBelow}
 use Rattle.file_format.specs.Format.{versionOf, fileOf}
 use Rattle.file_format.specs.Parsed.{fileRecord}
 use Rattle.output.specs.Output.{FillOutcome, filled, notFilled}
-unfoldable pub use Rattle.file_format.specs.Format.{twoBytes, fourBytes, modulusIn, lengthsAt, listAt, list2At, list3At, countAt, recordAt, recordsFrom}
+unfoldable pub use Rattle.file_format.specs.Format.{twoBytes, fourBytes, modulusIn, lengthsAt, listAt, list2At}
+unfoldable pub use Rattle.file_format.specs.Format.{list3At, countAt, recordAt, recordsFrom}
 
 abbrev pub indexOf : FileRecord → Reflection
 indexOf c = record { 0 = c .h; 1 = c .k; 2 = c .l }
@@ -41,7 +44,9 @@ pub data Judgement : Type 0 where
 
 unfoldable pub judged : (modulus group : ℕ) (lengths : J) (before : List J) → List FileRecord → Judgement
 judged m group n before [] = taken
-judged m group n before (c ∷ cs) = accepted (first (judgeTests m group n before (indexIn c) (c .a) (c .b))) (judged m group n (indexIn c ∷ before) cs) (λ k. refusedAt k (length before))
+judged m group n before (c ∷ cs) =
+    accepted (first (judgeTests m group n before (indexIn c) (c .a) (c .b)))
+    (judged m group n (indexIn c ∷ before) cs) (λ k. refusedAt k (length before))
 
 -- every record puts its value at its index and the implied values at all images
 unfoldable pub recordAllOn : Group → J → (modulus : ℕ) → List FileRecord → List ℕ → List ℕ
@@ -62,7 +67,8 @@ feed cs j v =
 unfoldable pub fileStep : (file volume : List ℕ) → OpenOutcome
 fileStep file v =
     accepted (first (shapeTests file))
-    (let o = openStep (modulusIn file) (headerIn file) 0 v in elim (o .answer) [ opened j ↦ feed (recordsIn file) j (o .volume) | notOpened n place ↦ o ])
+    (let o = openStep (modulusIn file) (headerIn file) 0 v in
+    elim (o .answer) [ opened j ↦ feed (recordsIn file) j (o .volume) | notOpened n place ↦ o ])
     (λ n. record { answer = notOpened n 0; volume = v })
 
 -- ---- a file written
@@ -75,11 +81,13 @@ noLater i j = lexLe i j
 abbrev pub isLowest : Group → (a j : J) → Bool
 isLowest g a j = every (full g) (λ s. noLater j (imageOf a s j))
 
--- ---- the records of a volume of packed factors: one for each orbit with a value other than zero, at its lowest (h, k, l), by rising h, then k, then l.
+-- ---- the records of a volume of packed factors: one for each orbit with a value other than zero, at its lowest (h, k,
+-- l), by rising h, then k, then l.
 
 -- of the places of a list, each that is the lowest of its orbit and has a factor other than zero gives a record
 abbrev pub recordsAt : Group → J → (m : ℕ) → List ℕ → List J → List (J × Value m)
-recordsAt g a m v places = Tests.recordsOf (factorActs (field m) (conj m) a) noLater sameValue (full g) (at (factorsIn g a m v)) places
+recordsAt g a m v places =
+    Tests.recordsOf (factorActs (field m) (conj m) a) noLater sameValue (full g) (at (factorsIn g a m v)) places
 
 -- ---- the file of a job
 

@@ -1,4 +1,5 @@
--- The order of a file's records: each comes before the next by h, then k, then l, and each stands at the lowest place of its orbit.
+-- The order of a file's records: each comes before the next by h, then k, then l, and each stands at the lowest place
+-- of its orbit.
 use mathlib.Core.Path.{_≡_}
 use mathlib.Core.List.{List, _∷_, _++_, map}
 use Prim.Native.Nat.{ℕ}
@@ -21,4 +22,6 @@ LowestOfOrbit job j = (s : Sym) → Mem s (full (groupIn job)) → Before (image
 -- the records of a volume, as the writer lists them
 pub record RecordsRise : Type 0 where
   pub rise : (job : Job) (v : List ℕ) → Rising (map (λ c. c .0) (jobRecords job v))
-  pub lowest : (job : Job) (v : List ℕ) (c : J × Value (job .modulus)) → Mem c (jobRecords job v) → LowestOfOrbit job (c .0)
+  pub lowest : (job : Job) (v : List ℕ) (c : J × Value (job .modulus)) →
+      Mem c (jobRecords job v) →
+      LowestOfOrbit job (c .0)

@@ -27,7 +27,8 @@ use Rattle.file_format.specs.Layout.{headerWith}
 abbrev pub filed : (file output : List ℕ) → FillOutcome
 filed file output = accepted (first (roomTests (length file) (length output))) (filled file output) (notFilled output)
 
--- ---- The file step by step: what its functions are lent, the record of one place, and the file by the cell and the factor lists of a job.
+-- ---- The file step by step: what its functions are lent, the record of one place, and the file by the cell and the
+-- factor lists of a job.
 
 -- a volume of residues of a modulus, as long as its cell asks for
 pub record IsFactors (m : ℕ) (c : UnitCell) (v : List ℕ) : Type 0 where
@@ -43,7 +44,10 @@ recordValue g a m v j = cond (isLowest g a j) (at (factorsIn g a m v) j) (value 
 unfoldable pub placesFrom : UnitCell → J → List J
 placesFrom c j =
     cond (ltb (j .0) (c .n1))
-    (lineFrom (j .0) (j .1) (j .2) (c .n3 - j .2) ++ (planeFrom (c .n3) (j .0) (suc (j .1)) (c .n2 - suc (j .1)) ++ cellFrom (c .n3) (c .n2) (suc (j .0)) (c .n1 - suc (j .0))))
+    (lineFrom (j .0) (j .1) (j .2) (c .n3 - j .2)
+    ++
+    (planeFrom (c .n3) (j .0) (suc (j .1)) (c .n2 - suc (j .1))
+    ++ cellFrom (c .n3) (c .n2) (suc (j .0)) (c .n1 - suc (j .0))))
     []
 
 -- r is the place after j

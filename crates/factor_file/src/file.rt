@@ -25,7 +25,8 @@ pub fn put_file(
 ) -> usize
     requires { ⌜ IsFactors modulus cell (now volume) × (length (now volume) ≤ 16777216) ⌝ }
     requires { ⌜ count ≡ length (recordsWith cell modulus (now volume)) ⌝ }
-    ensures { λ r. ⌜ Wrote 0 (fileWith modulus cell f1 f2 f3 (now (volume .entry))) (now (out .entry)) r (now (out .exit)) ⌝ }
+    ensures { λ r. ⌜ Wrote 0 (fileWith modulus cell f1 f2 f3 (now (volume .entry))) (now (out .entry)) r
+        (now (out .exit)) ⌝ }
 {
     let follow = file_format::layout::file_length(modulus, f1, f2, f3, count) - 4;
     let first = big_endian::put_four(out, 0, follow as u32);

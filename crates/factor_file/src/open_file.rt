@@ -15,7 +15,8 @@ ghost use Rattle.factor_file.specs.Answers.{fileOutcome};
 // The opening that the header names. The lists are parts of the file.
 fn open_header(file: &[u8], places: Places, volume: &mut [u32]) -> OpenAnswer
     requires { ⌜ PlacesOf (now file) places × (0 ≡ first (shapeTests (now file))) ⌝ }
-    ensures { λ r. ⌜ openOutcome r (now (volume .exit)) ≡ openStep (modulusIn (now (file .entry))) (headerIn (now (file .entry))) 0 (now (volume .entry)) ⌝ }
+    ensures { λ r. ⌜ openOutcome r (now (volume .exit))
+        ≡ openStep (modulusIn (now (file .entry))) (headerIn (now (file .entry))) 0 (now (volume .entry)) ⌝ }
 {
     let header = file_format::places::header_numbers(file);
     let cell = header.cell;

@@ -37,8 +37,12 @@ enum Verdict {
 
 // The records of a file of sound shape, in a job that was opened: all are recorded, or one is refused, and the volume is left zero.
 pub fn feed_records(file: &[u8], places: Places, job: Job, volume: &mut [u32]) -> FileAnswer
-    requires { ⌜ PlacesOf (now file) places × (0 ≡ first (shapeTests (now file))) × IsEmpty (jobCell job) (now volume) × IsModulus (job .modulus) ⌝ }
-    ensures { λ r. ⌜ fileOutcome r (now (volume .exit)) ≡ feed (recordsIn (now (file .entry))) job (now (volume .entry)) ⌝ }
+    requires { ⌜ PlacesOf (now file) places
+        × (0 ≡ first (shapeTests (now file)))
+        × IsEmpty (jobCell job) (now volume)
+        × IsModulus (job .modulus) ⌝ }
+    ensures { λ r. ⌜ fileOutcome r (now (volume .exit))
+        ≡ feed (recordsIn (now (file .entry))) job (now (volume .entry)) ⌝ }
 {
     let cell = job.unit_cell();
     let start = file_format::places::first_record(places);
@@ -61,8 +65,12 @@ fn judge_records(
     cell: UnitCell,
     marks: &mut [u32],
 ) -> Verdict
-    requires { ⌜ (start ≡ countAt (now file) + 4) × (0 ≡ first (shapeTests (now file))) × IsEmpty cell (now marks) × IsModulus modulus ⌝ }
-    ensures { λ r. ⌜ saidVerdict r ≡ judged modulus (cell .group) (cellLengths cell) [] (recordsIn (now (file .entry))) ⌝ }
+    requires { ⌜ (start ≡ countAt (now file) + 4)
+        × (0 ≡ first (shapeTests (now file)))
+        × IsEmpty cell (now marks)
+        × IsModulus modulus ⌝ }
+    ensures { λ r. ⌜ saidVerdict r
+        ≡ judged modulus (cell .group) (cellLengths cell) [] (recordsIn (now (file .entry))) ⌝ }
 {
     let mut at = start;
     let mut place = 0;
@@ -91,8 +99,12 @@ fn judge_records(
 fn judge_record(modulus: u32, cell: UnitCell, j: Index, x: Pair, marks: &mut [u32]) -> Checked
     requires { ⌜ IsVolume cell (now marks) × IsModulus modulus ⌝ }
     ensures { λ r. ⌜ ((before : List J) → Marked (cellGroup cell) (cellHalves cell) (now (marks .entry)) before
-        → (checkedNumber r ≡ first (judgeTests modulus (cell .group) (cellLengths cell) before (tripleOf j) (x .re) (x .im)))
-        × (checkedNumber r ≡ 0 → Marked (cellGroup cell) (cellHalves cell) (now (marks .exit)) (tripleOf j ∷ before))) ⌝ }
+        →
+        (checkedNumber r
+        ≡ first (judgeTests modulus (cell .group) (cellLengths cell) before (tripleOf j) (x .re) (x .im)))
+        ×
+        (checkedNumber r ≡ 0 →
+        Marked (cellGroup cell) (cellHalves cell) (now (marks .exit)) (tripleOf j ∷ before))) ⌝ }
 {
     let own = job::check::record::check_own(modulus, cell, j, x);
     match own {
@@ -106,7 +118,9 @@ fn mark_orbit(cell: UnitCell, j: Index, marks: &mut [u32]) -> Checked
     requires { ⌜ IsVolume cell (now marks) × Within cell j ⌝ }
     ensures { λ r. ⌜ ((before : List J) → Marked (cellGroup cell) (cellHalves cell) (now (marks .entry)) before
         → (checkedNumber r ≡ first (orbitSeen (cell .group) (cellLengths cell) before (tripleOf j)))
-        × (checkedNumber r ≡ 0 → Marked (cellGroup cell) (cellHalves cell) (now (marks .exit)) (tripleOf j ∷ before))) ⌝ }
+        ×
+        (checkedNumber r ≡ 0 →
+        Marked (cellGroup cell) (cellHalves cell) (now (marks .exit)) (tripleOf j ∷ before))) ⌝ }
 {
     let place = volume::orbit_place::orbit_place(cell, j);
     if marks[place] != 0 {
@@ -118,9 +132,14 @@ fn mark_orbit(cell: UnitCell, j: Index, marks: &mut [u32]) -> Checked
 
 // The second walk: no test is left to make.
 fn record_all(file: &[u8], start: usize, modulus: u32, cell: UnitCell, volume: &mut [u32])
-    requires { ⌜ (start ≡ countAt (now file) + 4) × (0 ≡ first (shapeTests (now file))) × IsVolume cell (now volume) × IsModulus modulus ⌝ }
+    requires { ⌜ (start ≡ countAt (now file) + 4)
+        × (0 ≡ first (shapeTests (now file)))
+        × IsVolume cell (now volume)
+        × IsModulus modulus ⌝ }
     requires { ⌜ judged modulus (cell .group) (cellLengths cell) [] (recordsIn (now file)) ≡ taken ⌝ }
-    ensures { λ _. ⌜ now (volume .exit) ≡ recordAllOn (cellGroup cell) (cellHalves cell) modulus (recordsIn (now (file .entry))) (now (volume .entry)) ⌝ }
+    ensures { λ _. ⌜ now (volume .exit)
+        ≡ recordAllOn (cellGroup cell) (cellHalves cell) modulus (recordsIn (now (file .entry)))
+        (now (volume .entry)) ⌝ }
 {
     let mut at = start;
     loop {

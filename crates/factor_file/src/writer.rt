@@ -29,7 +29,8 @@ fn write_factors(
     out: &mut [u8],
 ) -> FillAnswer
     requires { ⌜ IsFactors modulus cell (now volume) × (length (now volume) ≤ 16777216) ⌝ }
-    ensures { λ r. ⌜ fillOutcome r (now (out .exit)) ≡ filedWith modulus cell f1 f2 f3 (now (volume .entry)) (now (out .entry)) ⌝ }
+    ensures { λ r. ⌜ fillOutcome r (now (out .exit))
+        ≡ filedWith modulus cell f1 f2 f3 (now (volume .entry)) (now (out .entry)) ⌝ }
 {
     let count = records::count_records(modulus, cell, volume);
     if out.len() < file_format::layout::file_length(modulus, f1, f2, f3, count) {

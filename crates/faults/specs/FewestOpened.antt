@@ -26,7 +26,9 @@ pub record Smaller (file places : List ℕ) : Type 0 where
 
 -- opened on a volume as long as the header of the first asks for, the second is refused with a number at a place
 pub record RefusedAt (file opened : List ℕ) (number place : ℕ) : Type 0 where
-  pub answer : (v : List ℕ) → length v ≡ needed (headerIn file) → fileStep opened v .answer ≡ notOpened number place
+  pub answer : (v : List ℕ) →
+      length v ≡ needed (headerIn file) →
+      fileStep opened v .answer ≡ notOpened number place
 
 -- the file of the records at fault is refused with the same number at the last of them; one of fewer, or of others as
 -- few, that ends in the refused record is not

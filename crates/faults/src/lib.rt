@@ -217,7 +217,8 @@ fn first_repeated(file: &[u8], start: usize, cell: UnitCell, limit: u32) -> u32
 // The same for the orbits whose places lie in the range from low on.
 fn repeated_in_range(file: &[u8], start: usize, cell: UnitCell, limit: u32, low: usize) -> u32
     requires { ⌜ Records cell (now file) start × WithinTo cell (now file) limit × (low < 16777216) ⌝ }
-    ensures { λ r. ⌜ Apart cell (now (file .entry)) low (low + range) r × Stops cell (now (file .entry)) limit r ⌝ }
+    ensures { λ r. ⌜ Apart cell (now (file .entry)) low (low + range) r
+        × Stops cell (now (file .entry)) limit r ⌝ }
 {
     let mut marks = [0u64; WORDS];
     walk_range(file, start, cell, limit, low, &mut marks)
@@ -236,7 +237,8 @@ fn walk_range(
         × WithinTo cell (now file) limit
         × (low < 16777216)
         × (now marks ≡ replicate 32768 0) ⌝ }
-    ensures { λ r. ⌜ Apart cell (now (file .entry)) low (low + range) r × Stops cell (now (file .entry)) limit r ⌝ }
+    ensures { λ r. ⌜ Apart cell (now (file .entry)) low (low + range) r
+        × Stops cell (now (file .entry)) limit r ⌝ }
 {
     let mut i: u32 = 0;
     while i < limit {

@@ -1,8 +1,9 @@
--- The factor file, byte by byte.
--- Layout: count of the bytes that follow (4 bytes), version (1), group (1), in version 2 the modulus (1), N1, N2, N3 (2 each), three factor lists
--- (a count byte, then a byte each), record count (4), records of 14 bytes: h, k, l (2 each), a, b (4 each). Version 1 means the first prime.
--- Numbers are big-endian; a place beyond the file reads as 0.
-use Rattle.algebra.specs.Prelude.{Bool, _||_, not, cond, eqb, ltb, ℕ, zero, suc, _+_, _*_, _-_, List, [], _∷_, _++_, length, getD, take, drop}
+-- The factor file, byte by byte. Layout: count of the bytes that follow (4 bytes), version (1), group (1), in version 2
+-- the modulus (1), N1, N2, N3 (2 each), three factor lists (a count byte, then a byte each), record count (4), records
+-- of 14 bytes: h, k, l (2 each), a, b (4 each). Version 1 means the first prime. Numbers are big-endian; a place beyond
+-- the file reads as 0.
+use Rattle.algebra.specs.Prelude.{Bool, _||_, not, cond, eqb, ltb, ℕ, zero, suc, _+_, _*_, _-_, List, [], _∷_}
+use Rattle.algebra.specs.Prelude.{_++_, length, getD, take, drop}
 use Rattle.file_format.specs.declared.FileRecord.{FileRecord}
 use Rattle.refusals.specs.Refusals.{Test, _⇒_}
 use Rattle.header.specs.Header.{Header}
@@ -17,7 +18,8 @@ twoBytes file q = byteAt file q * 256 + byteAt file (q + 1)
 unfoldable pub fourBytes : List ℕ → ℕ → ℕ
 fourBytes file q = twoBytes file q * 65536 + twoBytes file (q + 2)
 
--- ---- where its parts stand: the numbers of the header, three factor lists behind them, the record count behind these, and the records behind that
+-- ---- where its parts stand: the numbers of the header, three factor lists behind them, the record count behind these,
+-- and the records behind that
 
 abbrev pub versionAt : ℕ
 versionAt = 4
@@ -72,7 +74,14 @@ countAt file = afterList file (list3At file)
 -- ---- a record, and n of them
 
 unfoldable pub recordAt : List ℕ → ℕ → FileRecord
-recordAt file q = record { h = twoBytes file q; k = twoBytes file (q + 2); l = twoBytes file (q + 4); a = fourBytes file (q + 6); b = fourBytes file (q + 10) }
+recordAt file q =
+    record {
+      h = twoBytes file q;
+      k = twoBytes file (q + 2);
+      l = twoBytes file (q + 4);
+      a = fourBytes file (q + 6);
+      b = fourBytes file (q + 10);
+    }
 
 -- n records from place q on
 unfoldable pub recordsFrom : List ℕ → (q n : ℕ) → List FileRecord
@@ -139,7 +148,10 @@ allBytes (c ∷ cs) = rawBytes c ++ allBytes cs
 
 -- version, group, modulus, lengths and lists; then the count of the records and the records
 unfoldable pub headerBytes : (version modulus : ℕ) → Header → List ℕ
-headerBytes version m h = version ∷ h .group ∷ (modulusBytes version m ++ bigEndian 2 (h .lengths .0) ++ bigEndian 2 (h .lengths .1) ++ bigEndian 2 (h .lengths .2) ++ listBytes (h .list1) ++ listBytes (h .list2) ++ listBytes (h .list3))
+headerBytes version m h =
+    version ∷ h .group ∷
+    (modulusBytes version m ++ bigEndian 2 (h .lengths .0) ++ bigEndian 2 (h .lengths .1) ++ bigEndian 2 (h .lengths .2)
+    ++ listBytes (h .list1) ++ listBytes (h .list2) ++ listBytes (h .list3))
 
 abbrev pub body : (version modulus : ℕ) → Header → List FileRecord → List ℕ
 body version m h cs = headerBytes version m h ++ bigEndian 4 (length cs) ++ allBytes cs

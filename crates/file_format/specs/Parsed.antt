@@ -1,4 +1,5 @@
--- The file of a modulus, a header and records, read: what its bytes can hold comes back, whether there are records or not.
+-- The file of a modulus, a header and records, read: what its bytes can hold comes back, whether there are records or
+-- not.
 use mathlib.Core.Path.{_≡_}
 use mathlib.Core.Logic.{_⊎_}
 use mathlib.Core.List.{List}
@@ -10,7 +11,8 @@ use Rattle.numbers.specs.Value.{Value}
 use Rattle.refusals.specs.Refusals.{first}
 use Rattle.header.specs.Header.{Header}
 use Rattle.file_format.specs.declared.FileRecord.{FileRecord}
-use Rattle.file_format.specs.Format.{byteAt, versionAt, shapeTests, modulusIn, headerIn, recordsIn, body, fileOf}
+use Rattle.file_format.specs.Format.{byteAt, versionAt, shapeTests, modulusIn, headerIn, recordsIn, body}
+use Rattle.file_format.specs.Format.{fileOf}
 
 -- an index and a value, as a record
 abbrev pub fileRecord : (m : ℕ) → J × Value m → FileRecord
@@ -39,11 +41,23 @@ pub record Writable (version m : ℕ) (h : Header) (cs : List FileRecord) : Type
   pub records : (c : FileRecord) → Mem c cs → ShortRecord c
   pub short : length (body version m h cs) < 4294967296
 
--- The file of a modulus, a header and any records, none as well, is not refused for its shape, and has this modulus, this header and these records; and every file
--- of bytes that is not refused for its shape is the file of its version, its modulus, its header and its records.
+-- The file of a modulus, a header and any records, none as well, is not refused for its shape, and has this modulus,
+-- this header and these records; and every file of bytes that is not refused for its shape is the file of its version,
+-- its modulus, its header and its records.
 pub record ParsesBack : Type 0 where
-  pub shape : (version m : ℕ) (h : Header) (cs : List FileRecord) → Writable version m h cs → 0 ≡ first (shapeTests (fileOf version m h cs))
-  pub modulus : (version m : ℕ) (h : Header) (cs : List FileRecord) → Writable version m h cs → modulusIn (fileOf version m h cs) ≡ m
-  pub header : (version m : ℕ) (h : Header) (cs : List FileRecord) → Writable version m h cs → headerIn (fileOf version m h cs) ≡ h
-  pub records : (version m : ℕ) (h : Header) (cs : List FileRecord) → Writable version m h cs → recordsIn (fileOf version m h cs) ≡ cs
-  pub again : (file : List ℕ) → Bytes file → 0 ≡ first (shapeTests file) → fileOf (byteAt file versionAt) (modulusIn file) (headerIn file) (recordsIn file) ≡ file
+  pub shape : (version m : ℕ) (h : Header) (cs : List FileRecord) →
+      Writable version m h cs →
+      0 ≡ first (shapeTests (fileOf version m h cs))
+  pub modulus : (version m : ℕ) (h : Header) (cs : List FileRecord) →
+      Writable version m h cs →
+      modulusIn (fileOf version m h cs) ≡ m
+  pub header : (version m : ℕ) (h : Header) (cs : List FileRecord) →
+      Writable version m h cs →
+      headerIn (fileOf version m h cs) ≡ h
+  pub records : (version m : ℕ) (h : Header) (cs : List FileRecord) →
+      Writable version m h cs →
+      recordsIn (fileOf version m h cs) ≡ cs
+  pub again : (file : List ℕ) →
+      Bytes file →
+      0 ≡ first (shapeTests file) →
+      fileOf (byteAt file versionAt) (modulusIn file) (headerIn file) (recordsIn file) ≡ file

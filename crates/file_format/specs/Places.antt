@@ -2,7 +2,8 @@
 use mathlib.Core.Path.{_≡_}
 use mathlib.Core.List.{List}
 use Prim.Native.Nat.{ℕ, _<_}
-use Rattle.file_format.specs.Format.{byteAt, twoBytes, groupAt, modulusIn, length1At, length2At, length3At, list1At, list2At, list3At, countAt}
+use Rattle.file_format.specs.Format.{byteAt, twoBytes, groupAt, modulusIn, length1At, length2At, length3At}
+use Rattle.file_format.specs.Format.{list1At, list2At, list3At, countAt}
 use Rattle.file_format.specs.declared.places.Places.{Places}
 use Rattle.file_format.specs.declared.places.HeaderNumbers.{HeaderNumbers}
 

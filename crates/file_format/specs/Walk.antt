@@ -25,6 +25,9 @@ unfoldable pub walk : List ℕ → (at n : ℕ) → List Found
 walk file at zero = []
 walk file at (suc n) = foundAt file at ∷ walk file (placeAfter file at) n
 
--- Where n records fill the file from place q on, as in a file of sound shape from its first record on, a walk hands out these records, in their order, and then the end at every step.
+-- Where n records fill the file from place q on, as in a file of sound shape from its first record on, a walk hands out
+-- these records, in their order, and then the end at every step.
 unfoldable pub WalkHandsOutRecords : Type 0
-WalkHandsOutRecords = (file : List ℕ) (q n : ℕ) → q + 14 * n ≡ length file → (steps : ℕ) → walk file q (n + steps) ≡ map (λ c. Record c) (recordsFrom file q n) ++ replicate steps End
+WalkHandsOutRecords = (file : List ℕ) (q n : ℕ) →
+    q + 14 * n ≡ length file → (steps : ℕ) →
+    walk file q (n + steps) ≡ map (λ c. Record c) (recordsFrom file q n) ++ replicate steps End

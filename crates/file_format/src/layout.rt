@@ -48,7 +48,9 @@ fn fixed_length(modulus: u32) -> usize
 
 // How long the header is.
 fn header_length(modulus: u32, f1: u32, f2: u32, f3: u32) -> usize
-    ensures { λ r. ⌜ ((group n1 n2 n3 : ℕ) → r ≡ length (headerBytes (versionOf modulus) modulus (headerWith group n1 n2 n3 f1 f2 f3))) × (r ≤ 45) ⌝ }
+    ensures { λ r. ⌜ ((group n1 n2 n3 : ℕ) →
+        r ≡ length (headerBytes (versionOf modulus) modulus (headerWith group n1 n2 n3 f1 f2 f3)))
+        × (r ≤ 45) ⌝ }
 {
     fixed_length(modulus) + digit_count(f1) + digit_count(f2) + digit_count(f3)
 }
@@ -56,7 +58,9 @@ fn header_length(modulus: u32, f1: u32, f2: u32, f3: u32) -> usize
 // How long a file of count records is: two counts of four bytes, the header, and 14 bytes for each record.
 pub fn file_length(modulus: u32, f1: u32, f2: u32, f3: u32, count: usize) -> usize
     requires { ⌜ count ≤ 4294967296 ⌝ }
-    ensures { λ r. ⌜ ((group n1 n2 n3 : ℕ) (cs : List FileRecord) → count ≡ length cs → r ≡ length (fileOf (versionOf modulus) modulus (headerWith group n1 n2 n3 f1 f2 f3) cs))
+    ensures { λ r. ⌜ ((group n1 n2 n3 : ℕ) (cs : List FileRecord) →
+        count ≡ length cs →
+        r ≡ length (fileOf (versionOf modulus) modulus (headerWith group n1 n2 n3 f1 f2 f3) cs))
         × (r ≤ 53 + 14 * count) ⌝ }
 {
     header_length(modulus, f1, f2, f3) + 8 + 14 * count

@@ -41,7 +41,8 @@ pub fn next<'a>(r: RecordReader<'a>) -> Found
 
 // The reader one record on.
 pub fn after<'a>(r: RecordReader<'a>) -> RecordReader<'a>
-    ensures { λ s. ⌜ (s .file ≡ r .entry .file) × (s .at ≡ placeAfter (now (r .entry .file)) (r .entry .at)) ⌝ }
+    ensures { λ s. ⌜ (s .file ≡ r .entry .file)
+        × (s .at ≡ placeAfter (now (r .entry .file)) (r .entry .at)) ⌝ }
 {
     RecordReader {
         file: r.file,
@@ -51,7 +52,8 @@ pub fn after<'a>(r: RecordReader<'a>) -> RecordReader<'a>
 
 // One step of a walk from a place.
 pub fn read_record(file: &[u8], at: usize) -> Step
-    ensures { λ t. ⌜ (t .found ≡ foundAt (now (file .entry)) at) × (t .after ≡ placeAfter (now (file .entry)) at) ⌝ }
+    ensures { λ t. ⌜ (t .found ≡ foundAt (now (file .entry)) at)
+        × (t .after ≡ placeAfter (now (file .entry)) at) ⌝ }
 {
     let r = new(file, at);
     Step {

@@ -9,7 +9,8 @@ ghost use Rattle.numbers.specs.Bounds.{res};
 
 // The middle of an alternating line from its one number x: X(A) = (-1)^A conj X(A) is real for an even A, and imaginary for an odd one.
 pub fn middle(a: usize, x: u32) -> Pair
-    ensures { λ r. ⌜ ((m : ℕ) → x < prime m → r ≡ pairOf (field m .mul (onValues m unit a a) (real m (res m x)))) ⌝ }
+    ensures { λ r. ⌜ ((m : ℕ) → x < prime m →
+        r ≡ pairOf (field m .mul (onValues m unit a a) (real m (res m x)))) ⌝ }
 {
     if a % 2 == 0 {
         Pair { re: x, im: 0 }

@@ -24,7 +24,8 @@ pub fn sum_and_difference(m: u32, v: Pair) -> Pair
 // R + i S, where R = x + y and S = e (x - y).
 pub fn fold_pair(m: u32, e: Pair, x: Pair, y: Pair) -> Pair
     requires { ⌜ IsModulus m × Small (prime m) e × Small (prime m) x × Small (prime m) y ⌝ }
-    ensures { λ r. ⌜ ((A : ℕ) → r ≡ pairOf (onValues m Folds.hermitianPoint A (valueOf m e) (valueOf m x) (valueOf m y))) ⌝ }
+    ensures { λ r. ⌜ ((A : ℕ) →
+        r ≡ pairOf (onValues m Folds.hermitianPoint A (valueOf m e) (valueOf m x) (valueOf m y))) ⌝ }
 {
     let rotated = numbers::times_i(m, numbers::difference(m, x, y));
     numbers::unreduced::plus_product(m, x, y, e, rotated)
@@ -33,7 +34,8 @@ pub fn fold_pair(m: u32, e: Pair, x: Pair, y: Pair) -> Pair
 // R + e S, where R = (x + y)/2 and i S = (x - y)/2.
 pub fn unfold_pair(m: u32, e: Pair, x: Pair, y: Pair) -> Pair
     requires { ⌜ IsModulus m × Small (prime m) e × Small (prime m) x × Small (prime m) y ⌝ }
-    ensures { λ r. ⌜ ((A : ℕ) → r ≡ pairOf (onValues m Folds.hermitianValue A (valueOf m e) (valueOf m x) (valueOf m y))) ⌝ }
+    ensures { λ r. ⌜ ((A : ℕ) →
+        r ≡ pairOf (onValues m Folds.hermitianValue A (valueOf m e) (valueOf m x) (valueOf m y))) ⌝ }
 {
     let rotated = numbers::times_i(m, numbers::difference(m, y, x));
     numbers::halved(m, numbers::unreduced::plus_product(m, x, y, e, rotated))

@@ -12,7 +12,10 @@ ghost use Rattle.fold_formulas.specs.FoldFormulas.{sigma};
 // sum and difference is multiplied by i tau.
 pub fn finish_between(m: u32, first: usize, tau: u32, y: Pair, z: Pair) -> Pair
     requires { ⌜ IsModulus m × (first ≤ 1) × (tau < prime m) × Small (prime m) y × Small (prime m) z ⌝ }
-    ensures { λ r. ⌜ r ≡ pairOf (mirrorValue (field m) (real m (half m)) (sigma (field m) first) (field m .mul (i m) (real m (res m tau))) (valueOf m y)
+    ensures { λ r. ⌜ r
+        ≡ pairOf
+        (mirrorValue (field m) (real m (half m)) (sigma (field m) first) (field m .mul (i m) (real m (res m tau)))
+        (valueOf m y)
         (valueOf m z)) ⌝ }
 {
     if first == 0 {
@@ -28,7 +31,8 @@ pub fn finish_between(m: u32, first: usize, tau: u32, y: Pair, z: Pair) -> Pair
 fn half_sum(m: u32, tau: u32, x: Pair, w: Pair, d: Pair) -> Pair
     requires { ⌜ IsModulus m × (tau < prime m) × Small (prime m) x × Small (prime m) w × Small (prime m) d ⌝ }
     ensures { λ r. ⌜ r ≡ pairOf (field m .mul (real m (half m))
-        (field m .add (field m .add (valueOf m x) (valueOf m w)) (field m .mul (i m) (field m .mul (real m (res m tau)) (valueOf m d))))) ⌝ }
+        (field m .add (field m .add (valueOf m x) (valueOf m w))
+        (field m .mul (i m) (field m .mul (real m (res m tau)) (valueOf m d))))) ⌝ }
 {
     let i_tau = Pair { re: 0, im: tau };
     numbers::halved(m, numbers::unreduced::plus_product(m, x, w, i_tau, d))

@@ -35,7 +35,8 @@ pub fn forward<'a>(
     requires { ⌜ (length (now line) ≡ 2 * a) × Below (prime m) (now line) ⌝ }
     requires { ⌜ (length (now fold) ≡ 2 * a) × (length (now work) ≡ 2 * a) ⌝ }
     ensures { λ _. ⌜ now (line .exit) ≡ listOf (slots alternating a)
-        (folded m 0 a (now (re .entry)) (now (im .entry)) (now (tan .entry)) alternating (valuesOf m (now (line .entry)))) ⌝ }
+        (folded m 0 a (now (re .entry)) (now (im .entry)) (now (tan .entry)) alternating
+        (valuesOf m (now (line .entry)))) ⌝ }
 {
     let odd = crate::alternating::before::odd_imaginary_sum(m, a, line);
     crate::alternating::before::short_line(m, a, line, fold);
@@ -60,7 +61,8 @@ pub fn inverse<'a>(
     requires { ⌜ (length (now line) ≡ 2 * a) × Below (prime m) (now line) ⌝ }
     requires { ⌜ (length (now fold) ≡ 2 * a) × (length (now work) ≡ 2 * a) ⌝ }
     ensures { λ _. ⌜ now (line .exit) ≡ listOf (slots alternating a)
-        (folded m 1 a (now (re .entry)) (now (im .entry)) (now (tan .entry)) alternating (valuesOf m (now (line .entry)))) ⌝ }
+        (folded m 1 a (now (re .entry)) (now (im .entry)) (now (tan .entry)) alternating
+        (valuesOf m (now (line .entry)))) ⌝ }
 {
     let share = fold_formulas::share(m, a);
     let twice = crate::alternating::after::twice_sum(m, line);

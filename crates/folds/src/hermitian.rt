@@ -33,7 +33,8 @@ pub fn forward<'a>(
     requires { ⌜ Below (prime m) (now line) ⌝ }
     ensures { λ _. ⌜ ((tan : List ℕ) → now (line .exit)
         ≡ listOf (slots (hermitianKind anti) a)
-        (folded m 0 a (now (re .entry)) (now (im .entry)) tan (hermitianKind anti) (valuesOf m (now (line .entry))))) ⌝ }
+        (folded m 0 a (now (re .entry)) (now (im .entry)) tan (hermitianKind anti)
+        (valuesOf m (now (line .entry))))) ⌝ }
 {
     crate::hermitian::before::short_line(m, re, im, anti, a, line, fold);
     plain::transform(m, re, im, factors, a, fold, work);
@@ -57,7 +58,8 @@ pub fn inverse<'a>(
     requires { ⌜ Below (prime m) (now line) ⌝ }
     ensures { λ _. ⌜ ((tan : List ℕ) → now (line .exit)
         ≡ listOf (slots (hermitianKind anti) a)
-        (folded m 1 a (now (re .entry)) (now (im .entry)) tan (hermitianKind anti) (valuesOf m (now (line .entry))))) ⌝ }
+        (folded m 1 a (now (re .entry)) (now (im .entry)) tan (hermitianKind anti)
+        (valuesOf m (now (line .entry))))) ⌝ }
 {
     let c = fold_formulas::share(m, a);
     slices::copy(line, fold, a);

@@ -30,10 +30,13 @@ pub fn forward<'a>(
     work: &mut [u32],
 )
     requires { ⌜ Frame m a (now re) (now im) × Tangents m (now tan) × Factored factors a × (first ≤ 1) ⌝ }
-    requires { ⌜ (length (now line) ≡ 2 * slots (mirrorKind first) a) × (length (now fold) ≡ 2 * a) × (length (now work) ≡ 2 * a) ⌝ }
+    requires { ⌜ (length (now line) ≡ 2 * slots (mirrorKind first) a)
+        × (length (now fold) ≡ 2 * a)
+        × (length (now work) ≡ 2 * a) ⌝ }
     requires { ⌜ Below (prime m) (now line) ⌝ }
     ensures { λ _. ⌜ now (line .exit) ≡ listOf (slots (mirrorKind first) a)
-        (folded m 0 a (now (re .entry)) (now (im .entry)) (now (tan .entry)) (mirrorKind first) (valuesOf m (now (line .entry)))) ⌝ }
+        (folded m 0 a (now (re .entry)) (now (im .entry)) (now (tan .entry)) (mirrorKind first)
+        (valuesOf m (now (line .entry)))) ⌝ }
 {
     let odds = crate::mirror::before::odd_sum(m, first, a, line);
     crate::mirror::before::short_line(m, first, a, line, fold);
@@ -56,10 +59,13 @@ pub fn inverse<'a>(
     work: &mut [u32],
 )
     requires { ⌜ Frame m a (now re) (now im) × Tangents m (now tan) × Factored factors a × (first ≤ 1) ⌝ }
-    requires { ⌜ (length (now line) ≡ 2 * slots (mirrorKind first) a) × (length (now fold) ≡ 2 * a) × (length (now work) ≡ 2 * a) ⌝ }
+    requires { ⌜ (length (now line) ≡ 2 * slots (mirrorKind first) a)
+        × (length (now fold) ≡ 2 * a)
+        × (length (now work) ≡ 2 * a) ⌝ }
     requires { ⌜ Below (prime m) (now line) ⌝ }
     ensures { λ _. ⌜ now (line .exit) ≡ listOf (slots (mirrorKind first) a)
-        (folded m 1 a (now (re .entry)) (now (im .entry)) (now (tan .entry)) (mirrorKind first) (valuesOf m (now (line .entry)))) ⌝ }
+        (folded m 1 a (now (re .entry)) (now (im .entry)) (now (tan .entry)) (mirrorKind first)
+        (valuesOf m (now (line .entry)))) ⌝ }
 {
     let c = fold_formulas::share(m, a);
     let n = a + 1 - 2 * first;

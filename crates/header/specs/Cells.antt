@@ -10,4 +10,5 @@ abbrev pub headerCell : Header → UnitCell
 headerCell h = record { group = h .group; n1 = h .lengths .0; n2 = h .lengths .1; n3 = h .lengths .2 }
 
 abbrev pub cellHeader : UnitCell → (list1 list2 list3 : List ℕ) → Header
-cellHeader c list1 list2 list3 = record { group = c .group; lengths = cellLengths c; list1 = list1; list2 = list2; list3 = list3 }
+cellHeader c list1 list2 list3 =
+    record { group = c .group; lengths = cellLengths c; list1 = list1; list2 = list2; list3 = list3 }

@@ -31,7 +31,8 @@ abbrev pub allFactors : (list1 list2 list3 : List ℕ) → Bool
 allFactors list1 list2 list3 = factorsOk list1 && (factorsOk list2 && factorsOk list3)
 
 abbrev pub allProducts : (lengths : J) (list1 list2 list3 : List ℕ) → Bool
-allProducts n list1 list2 list3 = eqb (product list1) (n .0 / 2) && (eqb (product list2) (n .1 / 2) && eqb (product list3) (n .2 / 2))
+allProducts n list1 list2 list3 =
+    eqb (product list1) (n .0 / 2) && (eqb (product list2) (n .1 / 2) && eqb (product list3) (n .2 / 2))
 
 -- 3, 4, 5, each over the three axes, then 9
 abbrev pub axisTests : Header → List Test

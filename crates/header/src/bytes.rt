@@ -51,7 +51,8 @@ fn all_products(f1: &[u8], f2: &[u8], f3: &[u8], cell: UnitCell) -> bool
 // 3, 4, 5, each over the three axes, then 9.
 pub fn check_header(cell: UnitCell, f1: &[u8], f2: &[u8], f3: &[u8]) -> Checked
     requires { ⌜ cell .group < 5 ⌝ }
-    ensures { λ r. ⌜ checkedNumber r ≡ first (axisTests (cellHeader cell (now (f1 .entry)) (now (f2 .entry)) (now (f3 .entry)))) ⌝ }
+    ensures { λ r. ⌜ checkedNumber r
+        ≡ first (axisTests (cellHeader cell (now (f1 .entry)) (now (f2 .entry)) (now (f3 .entry)))) ⌝ }
 {
     if !all_admitted(cell) {
         return Checked::Failed(Refusal::Length);

@@ -28,7 +28,8 @@ fn digits_product_is(factors: u32, n: u32) -> bool
 
 // The length is admitted, and the digits are a factor list of its half.
 fn valid_axis(n: u32, factors: u32) -> bool
-    ensures { λ r. ⌜ r ≡ (admitted n && (factorsOk (octalDigits factors) && eqb (product (octalDigits factors)) (n / 2))) ⌝ }
+    ensures { λ r. ⌜ r
+        ≡ (admitted n && (factorsOk (octalDigits factors) && eqb (product (octalDigits factors)) (n / 2))) ⌝ }
 {
     lengths::admitted(n) & digits_product_is(factors, n / 2)
 }
@@ -36,7 +37,8 @@ fn valid_axis(n: u32, factors: u32) -> bool
 // No test of the header that the numbers make holds.
 pub fn valid_header(cell: UnitCell, f1: u32, f2: u32, f3: u32) -> bool
     requires { ⌜ cell .group < 5 ⌝ }
-    ensures { λ r. ⌜ r ≡ eqb (first (axisTests (cellHeader cell (octalDigits f1) (octalDigits f2) (octalDigits f3)))) 0 ⌝ }
+    ensures { λ r. ⌜ r
+        ≡ eqb (first (axisTests (cellHeader cell (octalDigits f1) (octalDigits f2) (octalDigits f3)))) 0 ⌝ }
 {
     if valid_axis(cell.n1, f1) & (valid_axis(cell.n2, f2) & valid_axis(cell.n3, f3)) {
         bytes::volume_length(cell) <= 16777216

@@ -17,7 +17,8 @@ use Rattle.job.specs.declared.FactorAnswer.the-variants as F
 use Rattle.job.specs.declared.PowerAnswer.{PowerAnswer}
 use Rattle.job.specs.declared.PowerAnswer.the-variants as W
 use Rattle.job.specs.declared.reply.Reply.{Reply}
-use Rattle.job.specs.Job.{Opening, opened, notOpened, OpenOutcome, Said, done, density, factor, power, refused, Outcome, Worked}
+use Rattle.job.specs.Job.{Opening, opened, notOpened, OpenOutcome, Said, done, density, factor, power, refused}
+use Rattle.job.specs.Job.{Outcome, Worked}
 use Rattle.job.specs.Turns.{TurnOutcome}
 
 -- what the declared answers say
@@ -41,7 +42,8 @@ abbrev pub saidPower : PowerAnswer → Said
 saidPower (W.Power n) = power n
 saidPower (W.Refused r) = refused (numberOf r)
 
--- An answer as three numbers: the refusal's number or 0, then the density and 0, or the two numbers of the factor, or the power and 0, or twice 0.
+-- An answer as three numbers: the refusal's number or 0, then the density and 0, or the two numbers of the factor, or
+-- the power and 0, or twice 0.
 abbrev pub replyOf : Said → Reply
 replyOf done = record { number = 0; x = pos 0; y = pos 0 }
 replyOf (density n) = record { number = 0; x = n; y = pos 0 }

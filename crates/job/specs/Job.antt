@@ -1,12 +1,15 @@
--- The job: the tests of every call, in the paper's order of refusals, on plain numbers; what an opening makes of a header, which
--- jobs an opening or a later call could have made (refusal 25), and what each call answers and leaves.
-pub use Rattle.header.specs.Header.{Header, halfLengths, volumeLimit, needed, axisTests, collecting, factorsHeld, mapHeld}
+-- The job: the tests of every call, in the paper's order of refusals, on plain numbers; what an opening makes of a
+-- header, which jobs an opening or a later call could have made (refusal 25), and what each call answers and leaves.
+pub use Rattle.header.specs.Header.{Header, halfLengths, volumeLimit, needed, axisTests, collecting, factorsHeld}
+pub use Rattle.header.specs.Header.{mapHeld}
 pub use Rattle.header.specs.Cells.{cellHeader}
-use Rattle.algebra.specs.Prelude.{Bool, _&&_, cond, eqb, ltb, ℕ, List, length, getD, replicate, not, leb, [], _∷_, _++_}
+use Rattle.algebra.specs.Prelude.{Bool, _&&_, cond, eqb, ltb, ℕ, List, length, getD, replicate, not, leb, [], _∷_}
+use Rattle.algebra.specs.Prelude.{_++_}
 use Rattle.algebra.specs.cells.Cell.{J, Group, at, every}
 use Rattle.lengths.specs.Lengths.{octal, octalDigits, cleared, scratchLength}
 use Rattle.refusals.specs.Refusals.{first, Test, accepted, _⇒_}
-use Rattle.cell.specs.Volume.{factorsIn, packFactors, densityPlace, mapIn, packMap, mapOf, factorsOf, groupOf, volumeLength, numbersRead}
+use Rattle.cell.specs.Volume.{factorsIn, packFactors, densityPlace, mapIn, packMap, mapOf, factorsOf, groupOf}
+use Rattle.cell.specs.Volume.{volumeLength, numbersRead}
 use Rattle.cell.specs.declared.operations.UnitCell.{UnitCell}
 use Rattle.cell.specs.Operations.{cellGroup, cellHalves}
 use Rattle.job.specs.declared.Job.{Job}
@@ -57,7 +60,9 @@ mapTests m group n v =
     []
 
 -- Synthesis: 25, 23, 6, 13, 7, 14.
-abbrev pub synthesisTestsOf : (valid : Bool) (state modulus group : ℕ) (lengths : J) (v : List ℕ) (scratch : ℕ) → List Test
+abbrev pub synthesisTestsOf : (valid : Bool) (state modulus group : ℕ) (lengths : J) (v : List ℕ)
+    (scratch : ℕ) →
+    List Test
 synthesisTestsOf valid state m group n v scratch =
     not valid ⇒ 25 ∷
     eqb state mapHeld ⇒ 23 ∷
@@ -66,7 +71,8 @@ synthesisTestsOf valid state m group n v scratch =
     factorsTests m group n v
 
 -- Analysis: 25, 22, 6, 13, 7, 14.
-abbrev pub analysisTestsOf : (valid : Bool) (state modulus group : ℕ) (lengths : J) (v : List ℕ) (scratch : ℕ) → List Test
+abbrev pub analysisTestsOf : (valid : Bool) (state modulus group : ℕ) (lengths : J) (v : List ℕ) (scratch : ℕ) →
+    List Test
 analysisTestsOf valid state m group n v scratch =
     not valid ⇒ 25 ∷
     not (eqb state mapHeld) ⇒ 22 ∷
@@ -74,7 +80,8 @@ analysisTestsOf valid state m group n v scratch =
     ltb scratch scratchLength ⇒ 13 ∷
     mapTests m group n v
 
--- The power of a map: 25, 22, 6, 7, 14, and of factors: 25, 23, 6, 7, 14: as an analysis and a synthesis, but they need no scratch.
+-- The power of a map: 25, 22, 6, 7, 14, and of factors: 25, 23, 6, 7, 14: as an analysis and a synthesis, but they need
+-- no scratch.
 abbrev pub mapPowerTestsOf : (valid : Bool) (state modulus group : ℕ) (lengths : J) (v : List ℕ) → List Test
 mapPowerTestsOf valid state m group n v =
     not valid ⇒ 25 ∷
@@ -106,7 +113,9 @@ orbitTests group n at v =
     []
 
 -- Record: 25, 21, 10, 7, 12, 6, 24.
-abbrev pub recordTestsOf : (valid : Bool) (state modulus group : ℕ) (lengths at : J) (x y : ℕ) → List ℕ → List Test
+abbrev pub recordTestsOf : (valid : Bool) (state modulus group : ℕ) (lengths at : J) (x y : ℕ) →
+    List ℕ →
+    List Test
 recordTestsOf valid state m group n at x y v =
     not valid ⇒ 25 ∷
     not (eqb state collecting) ⇒ 21 ∷
@@ -171,7 +180,8 @@ withState j s = record { group = j .group; modulus = j .modulus; a = j .a; b = j
 
 -- Refusal 25 is not this: an opening or a later call could have made the job.
 unfoldable pub validJob : Job → Bool
-validJob j = ltb (j .group) 5 && (isModulus (j .modulus) && (eqb (first (axisTests (headerOf j))) 0 && ltb (j .state) 3))
+validJob j =
+    ltb (j .group) 5 && (isModulus (j .modulus) && (eqb (first (axisTests (headerOf j))) 0 && ltb (j .state) 3))
 
 -- a job's unit cell, the cell's group, and the halves of its lengths
 abbrev pub jobCell : Job → UnitCell
@@ -185,7 +195,8 @@ halves j = cellHalves (jobCell j)
 
 -- ---- the calls: what each answers and leaves, for every input
 
--- What an opening or a file answers: a job, or the refusal's number and the place of the record at fault (0 where it is no record).
+-- What an opening or a file answers: a job, or the refusal's number and the place of the record at fault (0 where it is
+-- no record).
 pub data Opening : Type 0 where
   opened : Job → Opening
   notOpened : (number place : ℕ) → Opening
@@ -202,7 +213,8 @@ openStep m h kind v =
     (record { answer = opened (jobOf m h mapHeld); volume = v }))
     (λ n. record { answer = notOpened n 0; volume = v })
 
--- What a call of a job says, in the paper's numbers and values: a density is a signed whole number, a factor two residues, a power one.
+-- What a call of a job says, in the paper's numbers and values: a density is a signed whole number, a factor two
+-- residues, a power one.
 pub data Said : Type 0 where
   done : Said
   density : ℤ → Said
@@ -234,7 +246,11 @@ recordTests j at x y v = recordTestsOf (validJob j) (j .state) (j .modulus) (j .
 unfoldable pub recordStep : Job → Reflection → (x y : ℕ) → List ℕ → Outcome
 recordStep j at x y v =
     accepted (first (recordTests j (index at) x y v))
-    (record { answer = done; job = j; volume = recordOn (groupIn j) (halves j) (j .modulus) (index at) (value (j .modulus) x y) v })
+    (record {
+      answer = done;
+      job = j;
+      volume = recordOn (groupIn j) (halves j) (j .modulus) (index at) (value (j .modulus) x y) v;
+    })
     (unchanged j v)
 
 -- Synthesis and analysis are lent a scratch too.
@@ -243,34 +259,54 @@ pub record Worked : Type 0 where
   pub scratch : List ℕ
 
 abbrev pub synthesised : Job → List ℕ → List ℕ
-synthesised j v = packMap (groupIn j) (halves j) (j .modulus) (mapOf (j .modulus) (halves j) (factorsIn (groupIn j) (halves j) (j .modulus) v))
+synthesised j v =
+    packMap (groupIn j) (halves j) (j .modulus)
+    (mapOf (j .modulus) (halves j) (factorsIn (groupIn j) (halves j) (j .modulus) v))
 
 unfoldable pub synthesisStep : Job → (v scratch : List ℕ) → Worked
 synthesisStep j v scratch =
-    accepted (first (synthesisTestsOf (validJob j) (j .state) (j .modulus) (j .group) (headerOf j .lengths) v (length scratch)))
-    (record { outcome = record { answer = done; job = withState j mapHeld; volume = synthesised j v }; scratch = cleared scratch })
+    accepted
+    (first
+    (synthesisTestsOf (validJob j) (j .state) (j .modulus) (j .group) (headerOf j .lengths) v (length scratch)))
+    (record {
+      outcome = record { answer = done; job = withState j mapHeld; volume = synthesised j v };
+      scratch = cleared scratch;
+    })
     (λ n. record { outcome = unchanged j v n; scratch = scratch })
 
 abbrev pub analysed : Job → List ℕ → List ℕ
-analysed j v = packFactors (groupIn j) (halves j) (j .modulus) (factorsOf (j .modulus) (halves j) (mapIn (groupIn j) (halves j) (j .modulus) v))
+analysed j v =
+    packFactors (groupIn j) (halves j) (j .modulus)
+    (factorsOf (j .modulus) (halves j) (mapIn (groupIn j) (halves j) (j .modulus) v))
 
 unfoldable pub analysisStep : Job → (v scratch : List ℕ) → Worked
 analysisStep j v scratch =
-    accepted (first (analysisTestsOf (validJob j) (j .state) (j .modulus) (j .group) (headerOf j .lengths) v (length scratch)))
-    (record { outcome = record { answer = done; job = withState j factorsHeld; volume = analysed j v }; scratch = cleared scratch })
+    accepted
+    (first
+    (analysisTestsOf (validJob j) (j .state) (j .modulus) (j .group) (headerOf j .lengths) v (length scratch)))
+    (record {
+      outcome = record { answer = done; job = withState j factorsHeld; volume = analysed j v };
+      scratch = cleared scratch;
+    })
     (λ n. record { outcome = unchanged j v n; scratch = scratch })
 
 -- A reading of a point gives the signed whole number next to zero that is congruent to the point's residue.
 unfoldable pub pointStep : Job → GridPoint → List ℕ → Outcome
 pointStep j at v =
-    accepted (first (pointTestsOf (validJob j) (j .state) (j .modulus) (j .group) (headerOf j .lengths) (position at) v))
-    (record { answer = density (centred (prime (j .modulus)) (getD v (densityPlace (groupIn j) (halves j) (position at)) 0)); job = j; volume = v })
+    accepted
+    (first (pointTestsOf (validJob j) (j .state) (j .modulus) (j .group) (headerOf j .lengths) (position at) v))
+    (record {
+      answer = density (centred (prime (j .modulus)) (getD v (densityPlace (groupIn j) (halves j) (position at)) 0));
+      job = j;
+      volume = v;
+    })
     (unchanged j v)
 
 unfoldable pub factorStep : Job → Reflection → List ℕ → Outcome
 factorStep j k v =
     accepted (first (factorTestsOf (validJob j) (j .state) (j .modulus) (j .group) (headerOf j .lengths) (index k) v))
-    (let x = at (factorsIn (groupIn j) (halves j) (j .modulus) v) (index k) in record { answer = factor (x .0 .val) (x .1 .val); job = j; volume = v })
+    (let x = at (factorsIn (groupIn j) (halves j) (j .modulus) v) (index k) in
+    record { answer = factor (x .0 .val) (x .1 .val); job = j; volume = v })
     (unchanged j v)
 
 -- The power of the map that is held, and of the factors.

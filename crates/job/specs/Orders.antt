@@ -2,10 +2,12 @@
 use Rattle.algebra.specs.Prelude.{_≡_, _↔_, ℕ, List}
 use mathlib.Core.Logic.{_⊎_}
 use Rattle.algebra.specs.cells.Cell.{J}
-use Rattle.refusals.specs.Orders.{Ordered, RefusedUnless, ofOpening, ofRecord, ofSynthesis, ofAnalysis, ofPoint, ofFactor, ofMapPower, ofFactorPower, ofTurn}
+use Rattle.refusals.specs.Orders.{Ordered, RefusedUnless, ofOpening, ofRecord, ofSynthesis, ofAnalysis, ofPoint}
+use Rattle.refusals.specs.Orders.{ofFactor, ofMapPower, ofFactorPower, ofTurn}
 use Rattle.job.specs.declared.Job.{Job}
 use Rattle.job.specs.Job.{Header, openTests, openStep, notOpened, recordTests}
-use Rattle.job.specs.TestSteps.{synthesisTests, analysisTests, pointTests, factorTests, mapPowerTests, factorPowerTests}
+use Rattle.job.specs.TestSteps.{synthesisTests, analysisTests, pointTests, factorTests, mapPowerTests}
+use Rattle.job.specs.TestSteps.{factorPowerTests}
 use Rattle.job.specs.Turns.{turnTests}
 
 pub record JobRefusals : Type 0 where

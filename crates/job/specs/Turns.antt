@@ -3,8 +3,8 @@
 -- The lines are taken along l, then h, then k, each by rising place of its pair at index 0, as RisingPlaces of
 -- volume_transform says; `alongL`, `alongH` and `alongK` of its Axes are the pairs of each. Along l a line has the
 -- pairs of its kind, so an odd h's of Pa has the pairs 1 to A - 1, and none where N3 = 2; along k it has all N2 + 2
--- numbers. What becomes of a line is the direct sum of its kind over the whole line; an odd h's line of P2₁2₁2₁ is
--- stored times i, and along l it is divided by i.
+-- numbers. What becomes of a line is the direct sum of its kind over the whole line; an odd h's line of P2₁2₁2₁
+-- is stored times i, and along l it is divided by i.
 use Rattle.algebra.specs.Prelude.{_≡_, true, not, ltb, ℕ, zero, suc, _+_, _*_, _/_, _≤_, List, [], _∷_, length}
 use Rattle.refusals.specs.Refusals.{first, Test, accepted, _⇒_}
 use Rattle.numbers.specs.Value.{prime}

@@ -12,7 +12,8 @@ ghost use Rattle.job.specs.Answers.{worked};
 impl Job {
     // The map that the volume holds becomes its factors; a refused call changes nothing.
     pub fn analysis(mut self, volume: &mut [u32], scratch: &mut [u32]) -> Answered
-        ensures { λ r. ⌜ worked r (now (volume .exit)) (now (scratch .exit)) ≡ analysisStep self (now (volume .entry)) (now (scratch .entry)) ⌝ }
+        ensures { λ r. ⌜ worked r (now (volume .exit)) (now (scratch .exit))
+            ≡ analysisStep self (now (volume .entry)) (now (scratch .entry)) ⌝ }
     {
         let cell = self.unit_cell();
         let checked = crate::check::analysis::check_analysis(

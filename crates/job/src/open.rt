@@ -26,7 +26,8 @@ fn axis(length: u32, factors: &[u8]) -> Axis
 // The job of a modulus number and a header that no test refuses.
 fn opened(modulus: u32, cell: UnitCell, f1: &[u8], f2: &[u8], f3: &[u8], state: u32) -> Job
     requires { ⌜ 0 ≡ first (axisTests (cellHeader cell (now f1) (now f2) (now f3))) ⌝ }
-    ensures { λ r. ⌜ r ≡ jobOf modulus (cellHeader cell (now (f1 .entry)) (now (f2 .entry)) (now (f3 .entry))) state ⌝ }
+    ensures { λ r. ⌜ r
+        ≡ jobOf modulus (cellHeader cell (now (f1 .entry)) (now (f2 .entry)) (now (f3 .entry))) state ⌝ }
 {
     Job {
         group: cell.group,
@@ -52,7 +53,15 @@ pub fn open(
     volume: &mut [u32],
 ) -> OpenAnswer
     ensures { λ r. ⌜ openOutcome r (now (volume .exit))
-        ≡ openStep modulus (record { group = group; lengths = (n1, n2, n3); list1 = now (f1 .entry); list2 = now (f2 .entry); list3 = now (f3 .entry) }) kind (now (volume .entry)) ⌝ }
+        ≡ openStep modulus
+        (record {
+          group = group;
+          lengths = (n1, n2, n3);
+          list1 = now (f1 .entry);
+          list2 = now (f2 .entry);
+          list3 = now (f3 .entry);
+        }) kind
+        (now (volume .entry)) ⌝ }
 {
     let cell = UnitCell { group, n1, n2, n3 };
     let checked = crate::check::open::check_open(modulus, cell, kind, f1, f2, f3, &volume[..]);

@@ -12,7 +12,8 @@ ghost use Rattle.job.specs.Answers.{worked};
 impl Job {
     // The factors that the volume holds become the map that they stand for; a refused call changes nothing.
     pub fn synthesis(mut self, volume: &mut [u32], scratch: &mut [u32]) -> Answered
-        ensures { λ r. ⌜ worked r (now (volume .exit)) (now (scratch .exit)) ≡ synthesisStep self (now (volume .entry)) (now (scratch .entry)) ⌝ }
+        ensures { λ r. ⌜ worked r (now (volume .exit)) (now (scratch .exit))
+            ≡ synthesisStep self (now (volume .entry)) (now (scratch .entry)) ⌝ }
     {
         let cell = self.unit_cell();
         let checked = crate::check::synthesis::check_synthesis(

@@ -15,7 +15,8 @@ pub data Factors : List ℕ → Type 0 where
   none : Factors []
   one : {f : ℕ} {l : List ℕ} → 2 ≤ f → f ≤ 5 → Factors l → Factors (f ∷ l)
 
--- A length N = 2 A that divides 2,880: e(1/N) is the root's power 2,880/N, e(A/N) its power 1,440, and e(1/A) the square of e(1/N).
+-- A length N = 2 A that divides 2,880: e(1/N) is the root's power 2,880/N, e(A/N) its power 1,440, and e(1/A) the
+-- square of e(1/N).
 pub record AdmittedLength (N : ℕ) : Type 0 where
   pub positive : 1 ≤ N / 2
   pub whole : 2 * (N / 2) ≡ N

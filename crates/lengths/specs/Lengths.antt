@@ -1,6 +1,8 @@
 -- Factor lists: the factors of a length, 2 to 5 each, packed as octal digits with the first factor lowest.
-use Rattle.algebra.specs.Prelude.{Bool, true, _&&_, cond, eqb, leb, ltb, ℕ, zero, suc, _+_, _*_, _/_, _%_, List, [], _∷_, _++_, getD, drop, replicate}
-use Rattle.algebra.specs.lines.Kinds.{Kind, plain, hermitian, antihermitian, alternating, symmetric, antisymmetric, slots}
+use Rattle.algebra.specs.Prelude.{Bool, true, _&&_, cond, eqb, leb, ltb, ℕ, zero, suc, _+_, _*_, _/_, _%_, List, []}
+use Rattle.algebra.specs.Prelude.{_∷_, _++_, getD, drop, replicate}
+use Rattle.algebra.specs.lines.Kinds.{Kind, plain, hermitian, antihermitian, alternating, symmetric, antisymmetric}
+use Rattle.algebra.specs.lines.Kinds.{slots}
 
 -- a list of factors as one number, and its product
 unfoldable pub octal : List ℕ → ℕ
@@ -31,8 +33,8 @@ digits base (suc c) n = cond (eqb n 0) [] (n % base ∷ digits base c (n / base)
 abbrev pub octalDigits : ℕ → List ℕ
 octalDigits n = digits 8 n n
 
--- The list of twice the length, by which a plain line goes: it has N points, and its list names the factors of N/2. Its first 2 becomes a 4, or, where
--- it has none, a 2 is added at its end.
+-- The list of twice the length, by which a plain line goes: it has N points, and its list names the factors of N/2. Its
+-- first 2 becomes a 4, or, where it has none, a 2 is added at its end.
 unfoldable pub doubledList : List ℕ → List ℕ
 doubledList [] = 2 ∷ []
 doubledList (f ∷ l) = cond (eqb f 2) (4 ∷ l) (f ∷ doubledList l)

@@ -1,4 +1,5 @@
--- What the call of a line returned and left, in the words of its promise; and what is known of a line whose every test was passed.
+-- What the call of a line returned and left, in the words of its promise; and what is known of a line whose every test
+-- was passed.
 use mathlib.Core.List.{List}
 use Prim.Native.Nat.{ℕ, _*_, _≤_, _<_}
 use lib.ListN.{length}

@@ -1,6 +1,7 @@
--- One line: its transform, for the six kinds and both directions, by direct sums over the whole line of N = 2 A values; what the call refuses, and what it
--- answers and leaves for every input. `unfoldBefore` and `unfoldAfter` of algebra's Kinds are the whole line of what is packed before and after the transform,
--- `forward` and `inverse` the sums, packed again.
+-- One line: its transform, for the six kinds and both directions, by direct sums over the whole line of N = 2 A values;
+-- what the call refuses, and what it answers and leaves for every input. `unfoldBefore` and `unfoldAfter` of algebra's
+-- Kinds are the whole line of what is packed before and after the transform, `forward` and `inverse` the sums, packed
+-- again.
 use Rattle.algebra.specs.Prelude.{not, eqb, leb, ltb, ℕ, _*_, _/_, List, [], _∷_, length, zero, suc}
 use Rattle.slices.specs.Pairs.{allBelow, valuesOf, listOf}
 use Rattle.lengths.specs.Lengths.{product, admitted, factorsOk, scratchLength, pairCount, cleared, kindOf}
@@ -24,13 +25,14 @@ transformed m kind direction N line = transformedLine m (kindOf kind) direction 
 
 -- ---- The refusals, in the paper's order
 
--- Line: 26, 1, 2, 3, 4, 5, 6, 13, 7: the numbers, the factor list, the line and the scratch, which counts by its length alone. The residues are those of the
--- modulus that is named.
+-- Line: 26, 1, 2, 3, 4, 5, 6, 13, 7: the numbers, the factor list, the line and the scratch, which counts by its length
+-- alone. The residues are those of the modulus that is named.
 abbrev pub lineTests : (m kind direction N : ℕ) (factors line : List ℕ) (scratch : ℕ) → List Test
 lineTests m kind direction N factors line scratch =
     not (isModulus m) ⇒ 26 ∷ leb 6 kind ⇒ 1 ∷ leb 2 direction ⇒ 2 ∷ not (admitted N) ⇒ 3 ∷
     not (factorsOk factors) ⇒ 4 ∷ not (eqb (product factors) (N / 2)) ⇒ 5 ∷
-    not (eqb (length line) (2 * pairCount kind N)) ⇒ 6 ∷ ltb scratch scratchLength ⇒ 13 ∷ not (allBelow (prime m) line) ⇒ 7 ∷
+    not (eqb (length line) (2 * pairCount kind N)) ⇒ 6 ∷ ltb scratch scratchLength ⇒ 13 ∷
+    not (allBelow (prime m) line) ⇒ 7 ∷
     []
 
 -- ---- The outcome

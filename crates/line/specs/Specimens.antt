@@ -33,7 +33,8 @@ specimens =
 -- with any scratch that is long enough
 abbrev pub Shown : Specimen → Type 0
 Shown x = (scratch : List ℕ) → scratchLength ≤ length scratch →
-    lineStep 1 (x .kind) (x .direction) (x .length) (x .factors) (x .before) scratch ≡ record { answer = 0; line = x .after; scratch = cleared scratch }
+    lineStep 1 (x .kind) (x .direction) (x .length) (x .factors) (x .before) scratch
+    ≡ record { answer = 0; line = x .after; scratch = cleared scratch }
 
 abbrev pub AllShown : List Specimen → Type 0
 AllShown [] = Unit

@@ -1,4 +1,5 @@
--- The tables that a line's transform is lent: those of the root for direction 0, those of its conjugate for direction 1. No reader of the promise needs this page.
+-- The tables that a line's transform is lent: those of the root for direction 0, those of its conjugate for direction
+-- 1. No reader of the promise needs this page.
 use mathlib.Core.Path.{_≡_}
 use mathlib.Core.List.{List}
 use Prim.Native.Nat.{ℕ, zero, suc}

@@ -19,7 +19,8 @@ pub fn check_line(
     line: &[u32],
     scratch: usize,
 ) -> Checked
-    ensures { λ r. ⌜ checkedNumber r ≡ first (lineTests modulus kind direction length (now (factors .entry)) (now (line .entry)) scratch) ⌝ }
+    ensures { λ r. ⌜ checkedNumber r
+        ≡ first (lineTests modulus kind direction length (now (factors .entry)) (now (line .entry)) scratch) ⌝ }
 {
     if !numbers::is_modulus(modulus) {
         return Checked::Failed(Refusal::Modulus);

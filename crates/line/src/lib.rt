@@ -13,7 +13,8 @@ ghost use Rattle.lengths.specs.Lengths.{scratchLength};
 ghost use Rattle.line.specs.Answers.{Accepted, lineOutcome};
 ghost use Rattle.line.specs.Specimens.{Specimens};
 ghost use Rattle.line.specs.EverySplit.{EverySplit};
-ghost use Rattle.line.specs.Demands.{RulesKept, ForwardIsSum, BackIsSum, CallIsSum, ListFree, Restored, RestoredAfter, TakenBack};
+ghost use Rattle.line.specs.Demands.{RulesKept, ForwardIsSum, BackIsSum, CallIsSum, ListFree, Restored};
+ghost use Rattle.line.specs.Demands.{RestoredAfter, TakenBack};
 
 // The answer of a line.
 pub enum LineAnswer {
@@ -33,7 +34,8 @@ pub fn line(
     scratch: &mut [u32],
 ) -> LineAnswer
     ensures { λ r. ⌜ lineOutcome r (now (line .exit)) (now (scratch .exit))
-        ≡ lineStep modulus kind direction length (now (factors .entry)) (now (line .entry)) (now (scratch .entry)) ⌝ }
+        ≡ lineStep modulus kind direction length (now (factors .entry)) (now (line .entry))
+        (now (scratch .entry)) ⌝ }
 {
     let checked = crate::check::check_line(
         modulus,

@@ -29,7 +29,10 @@ pub fn transform<'a>(
     fold: &mut [u32],
     work: &mut [u32],
 )
-    requires { ⌜ IsModulus m × (kind < 6) × (direction < 2) × LineTables m kind direction (now re) (now im) (now tan) ⌝ }
+    requires { ⌜ IsModulus m
+        × (kind < 6)
+        × (direction < 2)
+        × LineTables m kind direction (now re) (now im) (now tan) ⌝ }
     requires { ⌜ AdmittedLength (2 * a) × FactorList (2 * a) factors ⌝ }
     requires { ⌜ (length (now line) ≡ 2 * pairCount kind (2 * a)) × Below (prime m) (now line) ⌝ }
     requires { ⌜ (2 * a ≤ length (now fold)) × (4 * a ≤ length (now work)) ⌝ }
@@ -77,7 +80,11 @@ fn folded<'a>(
     fold: &mut [u32],
     work: &mut [u32],
 )
-    requires { ⌜ IsModulus m × (0 < kind) × (kind < 6) × (direction < 2) × TablesOf m direction (now re) (now im) (now tan) ⌝ }
+    requires { ⌜ IsModulus m
+        × (0 < kind)
+        × (kind < 6)
+        × (direction < 2)
+        × TablesOf m direction (now re) (now im) (now tan) ⌝ }
     requires { ⌜ AdmittedLength (2 * a) × FactorList (2 * a) factors ⌝ }
     requires { ⌜ (length (now line) ≡ 2 * pairCount kind (2 * a)) × Below (prime m) (now line) ⌝ }
     requires { ⌜ (length (now fold) ≡ 2 * a) × (length (now work) ≡ 2 * a) ⌝ }

@@ -1,5 +1,6 @@
 -- The map of a whole cell in the format MRC2014: its bytes, what the call refuses, and what it answers and leaves.
-use Rattle.algebra.specs.Prelude.{_≡_, Bool, true, not, leb, ltb, ℕ, _+_, _*_, _<_, List, [], _∷_, _++_, length, getD}
+use Rattle.algebra.specs.Prelude.{_≡_, Bool, true, not, leb, ltb, ℕ, _+_, _*_, _<_, List, [], _∷_, _++_, length}
+use Rattle.algebra.specs.Prelude.{getD}
 use Rattle.algebra.specs.cells.Cell.{everyPlace}
 use Rattle.signed.specs.Integers.{ℤ, natAbs}
 use Rattle.refusals.specs.Refusals.{Test, _⇒_, first, accepted}

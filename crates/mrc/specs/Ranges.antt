@@ -33,7 +33,8 @@ module _ (cell : UnitCell) (v : List ℤ) where
 
   -- of the densities of the whole cell, and of those of the stored planes
   unfoldable pub ofCell : (pick : ℤ → ℤ → ℤ) → ℤ
-  ofCell pick = among pick (cell .n3) (λ z. among pick (cell .n2) (λ y. among pick (cell .n1) (λ x. density (x, y, z))))
+  ofCell pick =
+      among pick (cell .n3) (λ z. among pick (cell .n2) (λ y. among pick (cell .n1) (λ x. density (x, y, z))))
 
   abbrev pub ofRow : (z x : ℕ) (pick : ℤ → ℤ → ℤ) → ℤ
   ofRow z x pick = among pick (cell .n2) (λ y. density (x, y, z))
@@ -58,8 +59,10 @@ module _ (cell : UnitCell) (v : List ℤ) where
   pub record CellRange : Type 0 where
     pub least-at : Attained (ofCell lesser)
     pub greatest-at : Attained (ofCell greater)
-    pub none-less : (x y z : ℕ) → x < cell .n1 → y < cell .n2 → z < cell .n3 → ofCell lesser ≤ℤ density (x, y, z)
-    pub none-greater : (x y z : ℕ) → x < cell .n1 → y < cell .n2 → z < cell .n3 → density (x, y, z) ≤ℤ ofCell greater
+    pub none-less : (x y z : ℕ) → x < cell .n1 → y < cell .n2 → z < cell .n3 →
+        ofCell lesser ≤ℤ density (x, y, z)
+    pub none-greater : (x y z : ℕ) → x < cell .n1 → y < cell .n2 → z < cell .n3 →
+        density (x, y, z) ≤ℤ ofCell greater
     pub least-stored : ofStored lesser ≡ ofCell lesser
     pub greatest-stored : ofStored greater ≡ ofCell greater
 

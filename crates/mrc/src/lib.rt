@@ -101,7 +101,8 @@ fn put_file(
     requires { ⌜ Writable cell (now map)
         × (ofGroup (cell .group) parameters ≡ true)
         × Spans range (ofStored cell (now map)) ⌝ }
-    ensures { λ r. ⌜ Wrote 0 (mrcBytes cell (now (map .entry)) parameters) (now (out .entry)) r (now (out .exit)) ⌝ }
+    ensures { λ r. ⌜ Wrote 0 (mrcBytes cell (now (map .entry)) parameters) (now (out .entry)) r
+        (now (out .exit)) ⌝ }
 {
     let header = file_header::header_of(cell, parameters, range.least, range.greatest);
     let densities = writing::put_header(out, 0, header);

@@ -32,7 +32,8 @@ fn greater_of(x: i64, y: i64) -> i64
 
 // The range of two ranges' numbers.
 fn joined(r: DensityRange, s: DensityRange) -> DensityRange
-    ensures { λ t. ⌜ (t .least ≡ lesser (r .least) (s .least)) × (t .greatest ≡ greater (r .greatest) (s .greatest)) ⌝ }
+    ensures { λ t. ⌜ (t .least ≡ lesser (r .least) (s .least))
+        × (t .greatest ≡ greater (r .greatest) (s .greatest)) ⌝ }
 {
     DensityRange {
         least: lesser_of(r.least, s.least),
@@ -109,7 +110,8 @@ pub fn map_range(cell: UnitCell, map: &[i64]) -> DensityRange
 
 // The numbers of a range are exact as floats.
 pub fn is_exact(range: DensityRange) -> bool
-    ensures { λ r. ⌜ r ≡ (leb (natAbs (range .least)) exactLimit && leb (natAbs (range .greatest)) exactLimit) ⌝ }
+    ensures { λ r. ⌜ r
+        ≡ (leb (natAbs (range .least)) exactLimit && leb (natAbs (range .greatest)) exactLimit) ⌝ }
 {
     (signed::magnitude(range.least) <= 16777215) & (signed::magnitude(range.greatest) <= 16777215)
 }

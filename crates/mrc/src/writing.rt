@@ -37,7 +37,10 @@ fn put_density(out: &mut [u8], at: usize, n: i64) -> usize
 
 // The densities at z, y, by rising x.
 fn put_row(out: &mut [u8], at: usize, cell: UnitCell, map: &[i64], z: u32, y: u32) -> usize
-    requires { ⌜ Writable cell (now map) × (z < cell .n3) × (y < cell .n2) × Ends at (rowBytes cell (now map) z y) ⌝ }
+    requires { ⌜ Writable cell (now map)
+        × (z < cell .n3)
+        × (y < cell .n2)
+        × Ends at (rowBytes cell (now map) z y) ⌝ }
     ensures { λ r. ⌜ Wrote at (rowBytes cell (now (map .entry)) z y) (now (out .entry)) r (now (out .exit)) ⌝ }
 {
     let n1 = cell.n1;

@@ -1,5 +1,5 @@
--- The two primes, chosen by the modulus number m: 86,399 at 1 and 302,399 at 2. Both are 2,880 c - 1.
--- At a number that is no modulus stands the second prime too, as in the code: so what holds of both primes holds at every m.
+-- The two primes, chosen by the modulus number m: 86,399 at 1 and 302,399 at 2. Both are 2,880 c - 1. At a number that
+-- is no modulus stands the second prime too, as in the code: so what holds of both primes holds at every m.
 use Rattle.algebra.specs.Prelude.{Bool, _||_, cond, eqb, ℕ, _+_, _/_, _≤_}
 use Rattle.algebra.specs.ring.Ring.{Ops, Res, residue, residues}
 use Rattle.algebra.specs.ring.Ring as Gauss
@@ -20,7 +20,8 @@ pub record IsModulus (m : ℕ) : Type 0 where
   pub low : 1 ≤ m
   pub high : m ≤ 2
 
--- ---- Values a + b i over the residues modulo the prime that m chooses, and the pairs of numbers that hold them at run time.
+-- ---- Values a + b i over the residues modulo the prime that m chooses, and the pairs of numbers that hold them at run
+-- time.
 
 -- A residue of the paper, and a value: the pair (a, b) means a + b i.
 abbrev pub Residue : ℕ → Type 0
@@ -57,7 +58,9 @@ abbrev pub real : (m : ℕ) → Residue m → Value m
 real m x = (x, residue (prime m) 0)
 
 -- a definition of the algebra over these values: the operations, the conjugation, i and 1/2 are what it takes first
-abbrev pub onValues {ℓ} : (m : ℕ) {T : Type ℓ} → (Ops (Value m) → (Value m → Value m) → Value m → Value m → T) → T
+abbrev pub onValues {ℓ} : (m : ℕ) {T : Type ℓ} →
+    (Ops (Value m) → (Value m → Value m) → Value m → Value m → T) →
+    T
 onValues m f = f (field m) (conj m) (i m) (real m (half m))
 
 -- what a pair of numbers stands for, and the pair of a value: both numbers are below p

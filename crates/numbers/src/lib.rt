@@ -9,7 +9,8 @@ pub mod division; // division.rt
 ghost use mathlib.Core.Path.{_≡_};
 ghost use Prim.Native.Nat.{ℕ, _*_, _<_, _≤_};
 ghost use Rattle.algebra.specs.ring.Ring.{Ops, Res};
-ghost use Rattle.numbers.specs.Value.{prime, isModulus, IsModulus, ring, field, conj, i, value, half, real, valueOf, pairOf};
+ghost use Rattle.numbers.specs.Value.{prime, isModulus, IsModulus, ring, field, conj, i, value, half, real};
+ghost use Rattle.numbers.specs.Value.{valueOf, pairOf};
 ghost use Rattle.numbers.specs.Bounds.{res, Small};
 ghost use Rattle.numbers.specs.Unreduced.{Accumulated};
 

@@ -38,7 +38,9 @@ pub fn product(m: u32, x: Pair, y: Pair) -> Accumulator
 // x + y.
 pub fn sum(x: Accumulator, y: Accumulator) -> Accumulator
     requires { ⌜ Room 500000000000000000 x × Room 444158510417000000 y ⌝ }
-    ensures { λ r. ⌜ ((m n k : ℕ) (a b : Value m) → Accumulated m n x a → Accumulated m k y b → Accumulated m (n + k) r (field m .add a b)) ⌝ }
+    ensures { λ r. ⌜ ((m n k : ℕ) (a b : Value m) →
+        Accumulated m n x a → Accumulated m k y b →
+        Accumulated m (n + k) r (field m .add a b)) ⌝ }
 {
     Accumulator {
         re: x.re + y.re,
@@ -61,7 +63,9 @@ pub fn apart(x: Accumulator, y: Accumulator) -> Accumulator
 // The residue c times x, of four products at most.
 pub fn scaled(c: u32, x: Accumulator) -> Accumulator
     requires { ⌜ (c ≤ 302399) × Room 731561241608 x ⌝ }
-    ensures { λ r. ⌜ ((m n : ℕ) (a : Value m) → Accumulated m n x a → Accumulated m (302399 * n) r (field m .mul (real m (res m c)) a)) ⌝ }
+    ensures { λ r. ⌜ ((m n : ℕ) (a : Value m) →
+        Accumulated m n x a →
+        Accumulated m (302399 * n) r (field m .mul (real m (res m c)) a)) ⌝ }
 {
     Accumulator {
         re: (c as u64) * x.re,
@@ -73,7 +77,9 @@ pub fn scaled(c: u32, x: Accumulator) -> Accumulator
 pub fn total(m: u32, x: Accumulator, y: Accumulator) -> Pair
     requires { ⌜ IsModulus m ⌝ }
     requires { ⌜ Room 500000000000000000 x × Room 444158510417000000 y ⌝ }
-    ensures { λ r. ⌜ ((n k : ℕ) (a b : Value m) → Accumulated m n x a → Accumulated m k y b → r ≡ pairOf (field m .add a b)) ⌝ }
+    ensures { λ r. ⌜ ((n k : ℕ) (a b : Value m) →
+        Accumulated m n x a → Accumulated m k y b →
+        r ≡ pairOf (field m .add a b)) ⌝ }
 {
     crate::reduced_below(m, sum(x, y))
 }
@@ -82,7 +88,9 @@ pub fn total(m: u32, x: Accumulator, y: Accumulator) -> Pair
 pub fn rest(m: u32, x: Accumulator, y: Accumulator) -> Pair
     requires { ⌜ IsModulus m ⌝ }
     requires { ⌜ Room 500000000000000000 x × Room 444158510417000000 y ⌝ }
-    ensures { λ r. ⌜ ((n k : ℕ) (a b : Value m) → Accumulated m n x a → Accumulated m k y b → r ≡ pairOf (field m .add a (field m .neg b))) ⌝ }
+    ensures { λ r. ⌜ ((n k : ℕ) (a b : Value m) →
+        Accumulated m n x a → Accumulated m k y b →
+        r ≡ pairOf (field m .add a (field m .neg b))) ⌝ }
 {
     crate::reduced_below(m, apart(x, y))
 }
@@ -90,7 +98,9 @@ pub fn rest(m: u32, x: Accumulator, y: Accumulator) -> Pair
 // x + y + e d, reduced once.
 pub fn plus_product(m: u32, x: Pair, y: Pair, e: Pair, d: Pair) -> Pair
     requires { ⌜ IsModulus m × Small (prime m) x × Small (prime m) y × Small (prime m) e × Small (prime m) d ⌝ }
-    ensures { λ r. ⌜ r ≡ pairOf (field m .add (field m .add (valueOf m x) (valueOf m y)) (field m .mul (valueOf m e) (valueOf m d))) ⌝ }
+    ensures { λ r. ⌜ r
+        ≡ pairOf
+        (field m .add (field m .add (valueOf m x) (valueOf m y)) (field m .mul (valueOf m e) (valueOf m d))) ⌝ }
 {
     total(m, sum(of_pair(x), of_pair(y)), product(m, e, d))
 }

@@ -36,4 +36,7 @@ pub record DecimalsReadBack : Type 0 where
   pub number : (n : ℕ) → n < 18446744073709551616 → Numeral (decimal n) n
   pub signed : (k : ℤ) → natAbs k < 18446744073709551616 → SignedNumeral (signedDecimal k) k
   pub back : (k : ℤ) → natAbs k < 18446744073709551616 → readSigned (signedDecimal k) ≡ k
-  pub only : (text : List ℕ) (k : ℤ) → natAbs k < 18446744073709551616 → SignedNumeral text k → text ≡ signedDecimal k
+  pub only : (text : List ℕ) (k : ℤ) →
+      natAbs k < 18446744073709551616 →
+      SignedNumeral text k →
+      text ≡ signedDecimal k

@@ -1,6 +1,7 @@
--- A step of the plain transform: equation (3) of document 001, whose parts and letters are those of Equation3.antt in `butterflies`, for M lines at once.
--- The line q of them has the points q, q + M, q + 2 M, .. of the whole line X. A is the product of the factors before, B the factor of this step, and A B M the
--- length of the whole line. The inner sums are what the steps before have left.
+-- A step of the plain transform: equation (3) of document 001, whose parts and letters are those of Equation3.antt in
+-- `butterflies`, for M lines at once. The line q of them has the points q, q + M, q + 2 M, .. of the whole line X. A is
+-- the product of the factors before, B the factor of this step, and A B M the length of the whole line. The inner sums
+-- are what the steps before have left.
 use mathlib.Core.Path.{_≡_}
 use Prim.Native.Nat.{ℕ, zero, suc, _+_, _*_, _/_, _%_, _≤_, _<_}
 use mathlib.Core.Bool.{Bool, cond}
@@ -22,25 +23,32 @@ module _ {R : Type 0} (𝓞 : Ops R) (W : R) where
   unfoldable pub innerSums : (A B : ℕ) → (ℕ → R) → ℕ → R
   innerSums A B X j = inner 𝓞 W A B X (j / A) (j % A)
 
-  -- What a step makes of the values Y: place q A B + (𝐚 + 𝐛 A) has the outer sum for 𝐛, over b, of the value at place (b M + q) A + 𝐚 times its factor.
+  -- What a step makes of the values Y: place q A B + (𝐚 + 𝐛 A) has the outer sum for 𝐛, over b, of the value
+  -- at place (b M + q) A + 𝐚 times its factor.
   unfoldable pub stepped : (A B M : ℕ) → (ℕ → R) → ℕ → R
-  stepped A B M Y j = outer 𝓞 W B (λ b. factor 𝓞 W A B b (j % A) (Y ((b * M + j / A / B) * A + j % A))) (j / A % B)
+  stepped A B M Y j =
+      outer 𝓞 W B (λ b. factor 𝓞 W A B b (j % A) (Y ((b * M + j / A / B) * A + j % A))) (j / A % B)
 
 -- the same on the numbers of a slice
 abbrev pub stepOf : (m : ℕ) → Value m → (A B M : ℕ) → List ℕ → List ℕ
 stepOf m W A B M from = listOf (A * B * M) (stepped (field m) W A B M (valuesOf m from))
 
--- The three parts of equation (3) as a step gives them for each of its lines: `from` is the slice that it reads, `to` the one that it leaves.
+-- The three parts of equation (3) as a step gives them for each of its lines: `from` is the slice that it reads, `to`
+-- the one that it leaves.
 pub record StepParts (m : ℕ) (W : Value m) (A B M : ℕ) (X : ℕ → Value m) (from to : List ℕ) : Type 0 where
   -- what it finds for b and 𝐚 is the inner sum ..
-  pub inner-sum : (q b 𝐚 : ℕ) → q < M → b < B → 𝐚 < A → valuesOf m from ((b * M + q) * A + 𝐚) ≡ inner (field m) W A B (lineOf M q X) b 𝐚
+  pub inner-sum : (q b 𝐚 : ℕ) → q < M → b < B → 𝐚 < A →
+      valuesOf m from ((b * M + q) * A + 𝐚) ≡ inner (field m) W A B (lineOf M q X) b 𝐚
   -- .. what it leaves for 𝐚 and 𝐛 is the outer sum of those times their factors ..
   pub outer-sum : (q 𝐚 𝐛 : ℕ) → q < M → 𝐚 < A → 𝐛 < B →
-      valuesOf m to (q * (A * B) + (𝐚 + 𝐛 * A)) ≡ outer (field m) W B (λ b. factor (field m) W A B b 𝐚 (inner (field m) W A B (lineOf M q X) b 𝐚)) 𝐛
+      valuesOf m to (q * (A * B) + (𝐚 + 𝐛 * A))
+      ≡ outer (field m) W B (λ b. factor (field m) W A B b 𝐚 (inner (field m) W A B (lineOf M q X) b 𝐚)) 𝐛
   -- .. and that is the direct sum.
-  pub direct-sum : (q 𝐚 𝐛 : ℕ) → q < M → 𝐚 < A → 𝐛 < B → valuesOf m to (q * (A * B) + (𝐚 + 𝐛 * A)) ≡ direct (field m) W (A * B) (lineOf M q X) (𝐚 + 𝐛 * A)
+  pub direct-sum : (q 𝐚 𝐛 : ℕ) → q < M → 𝐚 < A → 𝐛 < B →
+      valuesOf m to (q * (A * B) + (𝐚 + 𝐛 * A)) ≡ direct (field m) W (A * B) (lineOf M q X) (𝐚 + 𝐛 * A)
 
--- What one step needs of its numbers: the inner length A, the factor B of this step and the count M of the lines, whose product divides 2,880.
+-- What one step needs of its numbers: the inner length A, the factor B of this step and the count M of the lines, whose
+-- product divides 2,880.
 pub record Splits (A B M : ℕ) : Type 0 where
   pub inner : 0 < A
   pub low : 2 ≤ B
@@ -64,7 +72,8 @@ unfoldable pub afterSteps : (m : ℕ) → Value m → (l : List ℕ) (k : ℕ) (
 afterSteps m W l zero line = line
 afterSteps m W l (suc k) line = stepOf m W (innerLength l k) (outerLength l k) (lineCount l k) (afterSteps m W l k line)
 
--- What the work slice, which held `work`, holds after the first k steps: the steps go to and fro, that of place k from the line to the work slice where k is even.
+-- What the work slice, which held `work`, holds after the first k steps: the steps go to and fro, that of place k from
+-- the line to the work slice where k is even.
 unfoldable pub workAfter : (m : ℕ) → Value m → (l : List ℕ) (k : ℕ) (line work : List ℕ) → List ℕ
 workAfter m W l zero line work = work
 workAfter m W l (suc k) line work = cond (eqb (k % 2) 0) (afterSteps m W l (suc k) line) (workAfter m W l k line work)

@@ -38,10 +38,15 @@ pub fn transform<'a>(
     requires { ⌜ (length (now line) ≡ 2 * n) × (length (now work) ≡ 2 * n) ⌝ }
     requires { ⌜ Below (prime m) (now line) ⌝ }
     ensures { λ _. ⌜ now (line .exit) ≡ listOf n
-        (dft (field m) n (pow (field m) (tableRoot m (now (re .entry)) (now (im .entry))) (2880 / n)) (valuesOf m (now (line .entry)))) ⌝ }
-    ensures { λ _. ⌜ now (line .exit) ≡ afterSteps m (tableRoot m (now (re .entry)) (now (im .entry))) (octalDigits factors) (length (octalDigits factors))
+        (dft (field m) n (pow (field m) (tableRoot m (now (re .entry)) (now (im .entry))) (2880 / n))
+        (valuesOf m (now (line .entry)))) ⌝ }
+    ensures { λ _. ⌜ now (line .exit)
+        ≡ afterSteps m (tableRoot m (now (re .entry)) (now (im .entry))) (octalDigits factors)
+        (length (octalDigits factors))
         (now (line .entry)) ⌝ }
-    ensures { λ _. ⌜ now (work .exit) ≡ workAfter m (tableRoot m (now (re .entry)) (now (im .entry))) (octalDigits factors) (length (octalDigits factors))
+    ensures { λ _. ⌜ now (work .exit)
+        ≡ workAfter m (tableRoot m (now (re .entry)) (now (im .entry))) (octalDigits factors)
+        (length (octalDigits factors))
         (now (line .entry)) (now (work .entry)) ⌝ }
 {
     let mut at = Stage {
@@ -75,8 +80,11 @@ pub fn inverse<'a>(
     requires { ⌜ Below (prime m) (now line) ⌝ }
     ensures { λ _. ⌜ now (line .exit) ≡ listOf n
         (λ t. field m .mul (real m (part m n))
-        (dft (field m) n (pow (field m) (tableRoot m (now (re .entry)) (now (im .entry))) (2880 / n)) (valuesOf m (now (line .entry))) t)) ⌝ }
-    ensures { λ _. ⌜ now (work .exit) ≡ workAfter m (tableRoot m (now (re .entry)) (now (im .entry))) (octalDigits factors) (length (octalDigits factors))
+        (dft (field m) n (pow (field m) (tableRoot m (now (re .entry)) (now (im .entry))) (2880 / n))
+        (valuesOf m (now (line .entry))) t)) ⌝ }
+    ensures { λ _. ⌜ now (work .exit)
+        ≡ workAfter m (tableRoot m (now (re .entry)) (now (im .entry))) (octalDigits factors)
+        (length (octalDigits factors))
         (now (line .entry)) (now (work .entry)) ⌝ }
 {
     transform(m, re, im, factors, n, line, work);
@@ -97,7 +105,9 @@ fn next_step<'a>(
     requires { ⌜ (length (now from) ≡ 2 * points at) × (length (now to) ≡ 2 * points at) ⌝ }
     requires { ⌜ Below (prime m) (now from) ⌝ }
     ensures { λ r. ⌜ r ≡ after at ⌝ }
-    ensures { λ _. ⌜ now (to .exit) ≡ stepOf m (tableRoot m (now (re .entry)) (now (im .entry))) (at .inner) (at .left % 8) (at .lines / (at .left % 8))
+    ensures { λ _. ⌜ now (to .exit)
+        ≡ stepOf m (tableRoot m (now (re .entry)) (now (im .entry))) (at .inner) (at .left % 8)
+        (at .lines / (at .left % 8))
         (now (from .entry)) ⌝ }
 {
     let next = lengths::stage::next(at);

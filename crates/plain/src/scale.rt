@@ -15,7 +15,8 @@ pub fn divide(m: u32, n: usize, line: &mut [u32])
     requires { ⌜ IsModulus m × (0 < n) × (n ≤ 2880) ⌝ }
     requires { ⌜ length (now line) ≡ 2 * n ⌝ }
     requires { ⌜ Below (prime m) (now line) ⌝ }
-    ensures { λ _. ⌜ now (line .exit) ≡ listOf n (λ t. field m .mul (real m (part m n)) (valuesOf m (now (line .entry)) t)) ⌝ }
+    ensures { λ _. ⌜ now (line .exit)
+        ≡ listOf n (λ t. field m .mul (real m (part m n)) (valuesOf m (now (line .entry)) t)) ⌝ }
 {
     if 1 < n {
         scale(m, numbers::reciprocals::reciprocal(m, n as u32), n, line);
@@ -27,7 +28,8 @@ pub fn scale(m: u32, c: u32, n: usize, line: &mut [u32])
     requires { ⌜ IsModulus m × (c < prime m) ⌝ }
     requires { ⌜ length (now line) ≡ 2 * n ⌝ }
     requires { ⌜ Below (prime m) (now line) ⌝ }
-    ensures { λ _. ⌜ now (line .exit) ≡ listOf n (λ t. field m .mul (real m (res m c)) (valuesOf m (now (line .entry)) t)) ⌝ }
+    ensures { λ _. ⌜ now (line .exit)
+        ≡ listOf n (λ t. field m .mul (real m (res m c)) (valuesOf m (now (line .entry)) t)) ⌝ }
 {
     let mut j = 0;
     while j < n {
@@ -42,7 +44,8 @@ pub fn rotate(m: u32, over: bool, n: usize, line: &mut [u32])
     requires { ⌜ IsModulus m ⌝ }
     requires { ⌜ length (now line) ≡ 2 * n ⌝ }
     requires { ⌜ Below (prime m) (now line) ⌝ }
-    ensures { λ _. ⌜ now (line .exit) ≡ listOf n (λ t. field m .mul (rotation m over) (valuesOf m (now (line .entry)) t)) ⌝ }
+    ensures { λ _. ⌜ now (line .exit)
+        ≡ listOf n (λ t. field m .mul (rotation m over) (valuesOf m (now (line .entry)) t)) ⌝ }
 {
     let mut j = 0;
     while j < n {

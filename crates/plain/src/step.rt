@@ -29,12 +29,16 @@ pub fn step<'a>(
 )
     requires { ⌜ IsModulus m × RootTable m (now re) (now im) ⌝ }
     requires { ⌜ Splits inner outer lines ⌝ }
-    requires { ⌜ (length (now from) ≡ 2 * (inner * outer * lines)) × (length (now to) ≡ 2 * (inner * outer * lines)) ⌝ }
+    requires { ⌜ (length (now from) ≡ 2 * (inner * outer * lines))
+        × (length (now to) ≡ 2 * (inner * outer * lines)) ⌝ }
     requires { ⌜ Below (prime m) (now from) ⌝ }
-    ensures { λ _. ⌜ now (to .exit) ≡ stepOf m (tableRoot m (now (re .entry)) (now (im .entry))) inner outer lines (now (from .entry)) ⌝ }
+    ensures { λ _. ⌜ now (to .exit)
+        ≡ stepOf m (tableRoot m (now (re .entry)) (now (im .entry))) inner outer lines (now (from .entry)) ⌝ }
     ensures { λ _. ⌜ ((X : ℕ → Value m) → now (from .entry)
-        ≡ listOf (inner * outer * lines) (innerSums (field m) (tableRoot m (now (re .entry)) (now (im .entry))) inner (lines * outer) X)
-        → StepParts m (tableRoot m (now (re .entry)) (now (im .entry))) inner outer lines X (now (from .entry)) (now (to .exit))) ⌝ }
+        ≡ listOf (inner * outer * lines)
+        (innerSums (field m) (tableRoot m (now (re .entry)) (now (im .entry))) inner (lines * outer) X)
+        → StepParts m (tableRoot m (now (re .entry)) (now (im .entry))) inner outer lines X (now (from .entry))
+        (now (to .exit))) ⌝ }
 {
     let stride = lines * inner;
     let skip = outer * inner - inner;

@@ -1,4 +1,5 @@
--- The two powers over the stored numbers, as the code adds them: the squares of each row, each layer once or twice, as often as it stands in the cell.
+-- The two powers over the stored numbers, as the code adds them: the squares of each row, each layer once or twice, as
+-- often as it stands in the cell.
 use Rattle.algebra.specs.Prelude.{Bool, true, false, ℕ, _+_, _*_, _-_, List, getD}
 use Rattle.algebra.specs.ring.Ring.{Ops, sum}
 use Rattle.algebra.specs.fourier.Halves.{doubled, between}
@@ -7,8 +8,9 @@ use Rattle.numbers.specs.Value.{Residue, ring}
 use Rattle.numbers.specs.Bounds.{res}
 use Rattle.cell.specs.Volume.{layers, rows, pairPlace}
 
--- Layer w stands twice in the cell. Of a map it is the plane z = w, in P2₁ and P2₁2₁2₁ each with another; of factors the pairs w of the lines along l, and pair 0 of an alternating line
--- holds two of its numbers, each of which stands once.
+-- Layer w stands twice in the cell. Of a map it is the plane z = w, in P2₁ and P2₁2₁2₁ each with another; of
+-- factors the pairs w of the lines along l, and pair 0 of an alternating line holds two of its numbers, each of which
+-- stands once.
 abbrev pub layerTwice : (ofMap : Bool) → Group → (A w : ℕ) → Bool
 layerTwice ofMap P1 A w = false
 layerTwice true P2₁ A w = true
@@ -35,7 +37,8 @@ module _ (g : Group) (a : J) (m : ℕ) (v : List ℕ) where
       (doubled (ring m) true (squares m v (2 * pairPlace g a w h 1) (2 * (a .1 - 1))))
 
   unfoldable pub layerPower : (ofMap : Bool) (w : ℕ) → Residue m
-  layerPower ofMap w = doubled (ring m) (layerTwice ofMap g (a .2) w) (sum (ring m) (rows g a) (λ h. rowPower ofMap w h))
+  layerPower ofMap w =
+      doubled (ring m) (layerTwice ofMap g (a .2) w) (sum (ring m) (rows g a) (λ h. rowPower ofMap w h))
 
   unfoldable pub storedPower : (ofMap : Bool) → Residue m
   storedPower ofMap = sum (ring m) (layers g a) (λ w. layerPower ofMap w)

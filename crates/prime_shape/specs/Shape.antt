@@ -1,4 +1,5 @@
--- A prime of the papers' shape, p + 1 = 2,880 c, and its root r = ((a + i)/(a - i))^c: all that the transform facts use of them.
+-- A prime of the papers' shape, p + 1 = 2,880 c, and its root r = ((a + i)/(a - i))^c: all that the transform facts use
+-- of them.
 use mathlib.Core.Path.{_≡_}
 use Prim.Native.Nat.{ℕ, _+_, _*_, _/_, _%_, _≤_, _<_}
 use Rattle.algebra.specs.ring.Ring.{Ops, pow, Res, residue, residues}

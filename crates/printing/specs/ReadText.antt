@@ -48,7 +48,8 @@ pub record RefusalRead (number place : ℕ) : Type 0 where
   pub second : List ℕ
   pub named :
       refusalText number place
-      ≡ 114 ∷ 101 ∷ 102 ∷ 117 ∷ 115 ∷ 101 ∷ 100 ∷ 32 ∷ (first ++ 32 ∷ 97 ∷ 116 ∷ 32 ∷ (second ++ 10 ∷ []))
+      ≡ 114 ∷ 101 ∷ 102 ∷ 117 ∷ 115 ∷ 101 ∷ 100 ∷ 32 ∷
+      (first ++ 32 ∷ 97 ∷ 116 ∷ 32 ∷ (second ++ 10 ∷ []))
   pub is-number : Numeral first number
   pub is-place : Numeral second place
 

@@ -18,7 +18,8 @@ ghost use Rattle.output.specs.Answers.{fillOutcome};
 // The map of the factors that a job holds. No test refuses its synthesis, so the answer is not asked.
 fn print_job(job: Job, volume: &mut [u32], out: &mut [u8]) -> FillAnswer
     requires { ⌜ 0 ≡ first (synthesisTests job (now volume) scratchLength) ⌝ }
-    ensures { λ r. ⌜ fillOutcome r (now (out .exit)) ≡ putText (mapText (withState job mapHeld) (synthesised job (now (volume .entry)))) (now (out .entry)) ⌝ }
+    ensures { λ r. ⌜ fillOutcome r (now (out .exit))
+        ≡ putText (mapText (withState job mapHeld) (synthesised job (now (volume .entry)))) (now (out .entry)) ⌝ }
 {
     let mut scratch = [0u32; 11520];
     let answered = job.synthesis(volume, &mut scratch);
@@ -27,7 +28,8 @@ fn print_job(job: Job, volume: &mut [u32], out: &mut [u8]) -> FillAnswer
 
 // The map of a file that is lent a volume.
 fn print_opened(file: &[u8], volume: &mut [u32], out: &mut [u8]) -> FillAnswer
-    ensures { λ r. ⌜ fillOutcome r (now (out .exit)) ≡ putText (openedText (fileStep (now (file .entry)) (now (volume .entry)))) (now (out .entry)) ⌝ }
+    ensures { λ r. ⌜ fillOutcome r (now (out .exit))
+        ≡ putText (openedText (fileStep (now (file .entry)) (now (volume .entry)))) (now (out .entry)) ⌝ }
 {
     let answer = open_file::open_file(file, volume);
     match answer {

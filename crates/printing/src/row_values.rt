@@ -34,9 +34,12 @@ pub fn put_values(
     start: usize,
     n: usize,
 ) -> usize
-    requires { ⌜ (start + n ≤ length (now volume)) × (below n (λ y. ltb (getD (now volume) (start + y) 0) p) ≡ true) × (p ≤ 302399) ⌝ }
+    requires { ⌜ (start + n ≤ length (now volume))
+        × (below n (λ y. ltb (getD (now volume) (start + y) 0) p) ≡ true)
+        × (p ≤ 302399) ⌝ }
     requires { ⌜ Ends at (each n (λ y. valueText p (getD (now volume) (start + y) 0))) ⌝ }
-    ensures { λ r. ⌜ Wrote at (each n (λ y. valueText p (getD (now (volume .entry)) (start + y) 0))) (now (out .entry)) r (now (out .exit)) ⌝ }
+    ensures { λ r. ⌜ Wrote at (each n (λ y. valueText p (getD (now (volume .entry)) (start + y) 0)))
+        (now (out .entry)) r (now (out .exit)) ⌝ }
 {
     let mut place = at;
     let mut y = 0;

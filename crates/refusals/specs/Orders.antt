@@ -1,8 +1,10 @@
--- The order of every call's refusals, a table to be laid beside the papers; that a list of tests stands in it; and what it is that a number says exactly.
+-- The order of every call's refusals, a table to be laid beside the papers; that a list of tests stands in it; and what
+-- it is that a number says exactly.
 --
--- The scope prints the first rows in its paragraph "Order", and the requests change them: 11 and 17 are gone (M-102, M-103); 26 stands behind 8, and first of all
--- for a line; 27 behind 25 and 22 and before 6, 7 and 14 (M-105). The other rows are those that the requests name. A text of a map is refused as the writer's file is,
--- in the numbers of a map that is held.
+-- The scope prints the first rows in its paragraph "Order", and the requests change them: 11 and 17 are gone (M-102,
+-- M-103); 26 stands behind 8, and first of all for a line; 27 behind 25 and 22 and before 6, 7 and 14 (M-105). The
+-- other rows are those that the requests name. A text of a map is refused as the writer's file is, in the numbers of a
+-- map that is held.
 use Prim.Native.Nat.{ℕ}
 use mathlib.Core.Path.{_≡_}
 use mathlib.Core.Logic.{_↔_}

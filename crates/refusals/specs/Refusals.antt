@@ -1,7 +1,13 @@
 -- The paper's number of each refusal.
 use Prim.Native.Nat.{ℕ, zero, suc}
 use Rattle.refusals.specs.declared.Refusal.{Refusal}
-use Rattle.refusals.specs.declared.Refusal.the-variants.{LineKind, Direction, Length, Factor, Product, BufferLength, NotResidue, Group, VolumeTooLarge, Index, Contradiction, ScratchTooShort, Inconsistent, FileShape, FileVersion, OutputTooShort, NotCollecting, NoMap, NoFactors, Occupied, ImpossibleJob, Modulus, DifferentCells, Magnitude, UnitCell, FloatRange, Lane, Capacity, NothingRuns, Window}
+use Rattle.refusals.specs.declared.Refusal.the-variants.{LineKind, Direction, Length, Factor, Product}
+use Rattle.refusals.specs.declared.Refusal.the-variants.{BufferLength, NotResidue, Group, VolumeTooLarge, Index}
+use Rattle.refusals.specs.declared.Refusal.the-variants.{Contradiction, ScratchTooShort, Inconsistent}
+use Rattle.refusals.specs.declared.Refusal.the-variants.{FileShape, FileVersion, OutputTooShort, NotCollecting}
+use Rattle.refusals.specs.declared.Refusal.the-variants.{NoMap, NoFactors, Occupied, ImpossibleJob, Modulus}
+use Rattle.refusals.specs.declared.Refusal.the-variants.{DifferentCells, Magnitude, UnitCell, FloatRange, Lane}
+use Rattle.refusals.specs.declared.Refusal.the-variants.{Capacity, NothingRuns, Window}
 use mathlib.Core.Bool.{Bool, cond}
 use mathlib.Core.List.{List, [], _∷_}
 
@@ -37,7 +43,8 @@ numberOf Capacity = 32
 numberOf NothingRuns = 33
 numberOf Window = 34
 
--- ---- Tests in the paper's order, each with the number that it refuses with, and what a call makes of the first that holds.
+-- ---- Tests in the paper's order, each with the number that it refuses with, and what a call makes of the first that
+-- holds.
 
 pub record Test : Type 0 where
   pub fails : Bool

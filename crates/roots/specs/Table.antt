@@ -28,4 +28,5 @@ pub record RootTable (m : ℕ) (re im : List ℕ) : Type 0 where
   pub cycle : pow (field m) (tableRoot m re im) 2880 ≡ field m .one
   pub entry : (k : ℕ) → k < 2880 → entryAt re im k ≡ pairOf (pow (field m) (tableRoot m re im) k)
   pub circle : field m .mul (tableRoot m re im) (conj m (tableRoot m re im)) ≡ field m .one
-  pub quarter : (pow (field m) (tableRoot m re im) 720 ≡ i m) ⊎ (pow (field m) (tableRoot m re im) 720 ≡ field m .neg (i m))
+  pub quarter : (pow (field m) (tableRoot m re im) 720 ≡ i m)
+      ⊎ (pow (field m) (tableRoot m re im) 720 ≡ field m .neg (i m))

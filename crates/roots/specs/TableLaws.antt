@@ -1,4 +1,5 @@
--- The half tangents of the root's powers, tables with every number negated, and all that is proved of the root and its tables.
+-- The half tangents of the root's powers, tables with every number negated, and all that is proved of the root and its
+-- tables.
 use mathlib.Core.Path.{_≡_}
 use mathlib.Core.List.{List}
 use Prim.Native.Nat.{ℕ, _-_, _≤_, _<_}
@@ -44,14 +45,18 @@ module _ (m : ℕ) where
 
   -- what the half tangents are for, with r^k = c + d i: 1/(1 + r^k), 1/d and c/d without a division
   pub record TangentLaws (t : List ℕ) : Type 0 where
-    pub law : (k : ℕ) → k < 1440 → (𝟙 ⊕ ⊖ (i m ⊗ real m (tau t k))) ⊗ (𝟙 ⊕ root m ^ k) ≡ 𝟙 ⊕ 𝟙
+    pub law : (k : ℕ) → k < 1440 →
+        (𝟙 ⊕ ⊖ (i m ⊗ real m (tau t k))) ⊗ (𝟙 ⊕ root m ^ k) ≡ 𝟙 ⊕ 𝟙
     pub mirror : (k : ℕ) → 0 < k → k < 1440 → tau t k ⊠ tau t (1440 - k) ≡ 𝟏
-    pub cosecant : (k : ℕ) → 0 < k → k < 1440 → half m ⊠ (tau t k ⊞ tau t (1440 - k)) ⊠ (root m ^ k) .1 ≡ 𝟏
-    pub cotangent : (k : ℕ) → 0 < k → k < 1440 → half m ⊠ (tau t (1440 - k) ⊞ ⊟ tau t k) ⊠ (root m ^ k) .1 ≡ (root m ^ k) .0
+    pub cosecant : (k : ℕ) → 0 < k → k < 1440 →
+        half m ⊠ (tau t k ⊞ tau t (1440 - k)) ⊠ (root m ^ k) .1 ≡ 𝟏
+    pub cotangent : (k : ℕ) → 0 < k → k < 1440 →
+        half m ⊠ (tau t (1440 - k) ⊞ ⊟ tau t k) ⊠ (root m ^ k) .1 ≡ (root m ^ k) .0
 
   -- the first of them for the conjugate root and the negated half tangents
   pub record BackwardTangents (t : List ℕ) : Type 0 where
-    pub law : (k : ℕ) → k < 1440 → (𝟙 ⊕ ⊖ (i m ⊗ real m (tau t k))) ⊗ (𝟙 ⊕ conj m (root m) ^ k) ≡ 𝟙 ⊕ 𝟙
+    pub law : (k : ℕ) → k < 1440 →
+        (𝟙 ⊕ ⊖ (i m ⊗ real m (tau t k))) ⊗ (𝟙 ⊕ conj m (root m) ^ k) ≡ 𝟙 ⊕ 𝟙
 
   -- everything that is proved of the root and its tables
   pub record RootLaws : Type 0 where
@@ -64,7 +69,9 @@ module _ (m : ℕ) where
     pub order : OrderIs (prime m) 2880 (root m)
     pub conjugate : (k : ℕ) → k ≤ 2880 → conj m (root m ^ k) ≡ root m ^ (2880 - k)
     -- the tables are those of r, and with the imaginary parts and half tangents negated those of its conjugate
-    pub table : (re im : List ℕ) → RealTable m re → ImaginaryTable m im → RootTable m re im × (tableRoot m re im ≡ root m)
+    pub table : (re im : List ℕ) →
+        RealTable m re → ImaginaryTable m im →
+        RootTable m re im × (tableRoot m re im ≡ root m)
     pub backward : (re im u : List ℕ) → RealTable m re → ImaginaryTable m im → NegatedTable m 2880 im u →
         RootTable m re u × (tableRoot m re u ≡ conj m (root m))
     pub tangents : (t : List ℕ) → TangentTable t → TangentLaws t

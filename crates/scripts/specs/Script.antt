@@ -1,4 +1,5 @@
--- The numbers of a script: six for a call, its operation, three of an index or a point, two of a value; and three for an answer, which have signs.
+-- The numbers of a script: six for a call, its operation, three of an index or a point, two of a value; and three for
+-- an answer, which have signs.
 use mathlib.Core.List.{List, [], _∷_, _++_}
 use Prim.Native.Nat.{ℕ, _+_, _*_, zero, suc, _/_, min}
 use lib.ListN.{getD, length, drop}
@@ -9,7 +10,8 @@ use Rattle.job.specs.declared.Job.{Job}
 use Rattle.job.specs.declared.reply.Reply.{Reply}
 use Rattle.job.specs.Answers.{replyOf}
 use Rattle.job.specs.Job.{Said, done, density, factor, power, refused}
-pub use Rattle.job.specs.Job.{Call, recording, synthesis, analysis, readPoint, readFactor, readMapPower, readFactorPower, step}
+pub use Rattle.job.specs.Job.{Call, recording, synthesis, analysis, readPoint, readFactor, readMapPower}
+pub use Rattle.job.specs.Job.{readFactorPower, step}
 use Rattle.scripts.specs.declared.calls.Called.{Called}
 use Rattle.model.specs.Model.{Model, Call}
 use Rattle.demands.specs.Demands.{Ran, run, modelRan}
@@ -17,19 +19,28 @@ use Rattle.scripts.specs.declared.replay.Replayed.{Replayed}
 
 -- the numbers of call i
 abbrev pub numbersAt : (script : List ℕ) (i : ℕ) → CallNumbers
-numbersAt script i = record { operation = getD script (6 * i) 0; h = getD script (6 * i + 1) 0; k = getD script (6 * i + 2) 0; l = getD script (6 * i + 3) 0; x = getD script (6 * i + 4) 0; y = getD script (6 * i + 5) 0 }
+numbersAt script i =
+    record {
+      operation = getD script (6 * i) 0;
+      h = getD script (6 * i + 1) 0;
+      k = getD script (6 * i + 2) 0;
+      l = getD script (6 * i + 3) 0;
+      x = getD script (6 * i + 4) 0;
+      y = getD script (6 * i + 5) 0;
+    }
 
 -- an answer as it is written
 abbrev pub replyNumbers : Reply → List ℤ
 replyNumbers r = pos (r .number) ∷ r .x ∷ r .y ∷ []
 
--- ---- One call of a job as numbers, and what it answers and leaves of a job, a volume and a scratch.
--- A call is six numbers: its operation, three of an index or a point, two of a value. Operation 0 records, 1 is synthesis, 2 analysis, 3 reads a point, 5 the power of a map,
--- 6 that of factors, any other a factor.
+-- ---- One call of a job as numbers, and what it answers and leaves of a job, a volume and a scratch. A call is six
+-- numbers: its operation, three of an index or a point, two of a value. Operation 0 records, 1 is synthesis, 2
+-- analysis, 3 reads a point, 5 the power of a map, 6 that of factors, any other a factor.
 
 -- ---- the call
 
--- A synthesis or an analysis is said with the scratch as it was lent at first: of a scratch its call asks the length alone.
+-- A synthesis or an analysis is said with the scratch as it was lent at first: of a scratch its call asks the length
+-- alone.
 unfoldable pub callOf : (scratch : List ℕ) (operation h k l x y : ℕ) → Call
 callOf scratch zero h k l x y = recording (record { 0 = h; 1 = k; 2 = l }) x y
 callOf scratch (suc zero) h k l x y = synthesis scratch
@@ -41,7 +52,9 @@ callOf scratch (suc (suc (suc (suc (suc (suc zero)))))) h k l x y = readFactorPo
 callOf scratch (suc (suc (suc (suc (suc (suc (suc o))))))) h k l x y = readFactor (record { 0 = h; 1 = k; 2 = l })
 
 abbrev pub callAt : (scratch script : List ℕ) (i : ℕ) → Call
-callAt scratch script i = callOf scratch (getD script (6 * i) 0) (getD script (6 * i + 1) 0) (getD script (6 * i + 2) 0) (getD script (6 * i + 3) 0) (getD script (6 * i + 4) 0) (getD script (6 * i + 5) 0)
+callAt scratch script i =
+    callOf scratch (getD script (6 * i) 0) (getD script (6 * i + 1) 0) (getD script (6 * i + 2) 0)
+    (getD script (6 * i + 3) 0) (getD script (6 * i + 4) 0) (getD script (6 * i + 5) 0)
 
 abbrev pub callSaid : (scratch : List ℕ) → CallNumbers → Call
 callSaid scratch n = callOf scratch (n .operation) (n .h) (n .k) (n .l) (n .x) (n .y)
@@ -73,7 +86,9 @@ pub record CallOutcome : Type 0 where
   pub scratch : List ℕ
 
 unfoldable pub callStep : Job → (volume scratch : List ℕ) → Call → CallOutcome
-callStep j v s c = let o = step j v c in record { reply = replyOf (o .answer); job = o .job; volume = o .volume; scratch = scratchLeft c (o .answer) s }
+callStep j v s c =
+    let o = step j v c in
+    record { reply = replyOf (o .answer); job = o .job; volume = o .volume; scratch = scratchLeft c (o .answer) s }
 
 -- ---- What one call of a script answered and left, as an outcome: the left side of its promise.
 

@@ -30,7 +30,8 @@ pub fn of_answered(r: Answered) -> Called
 
 pub fn record_call(job: Job, n: CallNumbers, volume: &mut [u32]) -> Called
     requires { ⌜ n .operation ≡ 0 ⌝ }
-    ensures { λ r. ⌜ ((s : List ℕ) → callOutcome r (now (volume .exit)) s ≡ callStep job (now (volume .entry)) s (callSaid s n)) ⌝ }
+    ensures { λ r. ⌜ ((s : List ℕ) →
+        callOutcome r (now (volume .exit)) s ≡ callStep job (now (volume .entry)) s (callSaid s n)) ⌝ }
 {
     of_answered(job.record(Reflection(n.h, n.k, n.l), n.x, n.y, volume))
 }
@@ -38,7 +39,8 @@ pub fn record_call(job: Job, n: CallNumbers, volume: &mut [u32]) -> Called
 // A reading or a power hands no job back: the one that was handed in goes on.
 pub fn point_call(job: Job, n: CallNumbers, volume: &[u32]) -> Called
     requires { ⌜ n .operation ≡ 3 ⌝ }
-    ensures { λ r. ⌜ ((s : List ℕ) → callOutcome r (now (volume .entry)) s ≡ callStep job (now (volume .entry)) s (callSaid s n)) ⌝ }
+    ensures { λ r. ⌜ ((s : List ℕ) →
+        callOutcome r (now (volume .entry)) s ≡ callStep job (now (volume .entry)) s (callSaid s n)) ⌝ }
 {
     Called {
         reply: reply::of_point(job.point(GridPoint(n.h, n.k, n.l), volume)),
@@ -48,7 +50,8 @@ pub fn point_call(job: Job, n: CallNumbers, volume: &[u32]) -> Called
 
 pub fn factor_call(job: Job, n: CallNumbers, volume: &[u32]) -> Called
     requires { ⌜ (4 ≤ n .operation) × (n .operation ≡ 5 → ⊥) × (n .operation ≡ 6 → ⊥) ⌝ }
-    ensures { λ r. ⌜ ((s : List ℕ) → callOutcome r (now (volume .entry)) s ≡ callStep job (now (volume .entry)) s (callSaid s n)) ⌝ }
+    ensures { λ r. ⌜ ((s : List ℕ) →
+        callOutcome r (now (volume .entry)) s ≡ callStep job (now (volume .entry)) s (callSaid s n)) ⌝ }
 {
     Called {
         reply: reply::of_factor(job.factor(Reflection(n.h, n.k, n.l), volume)),
@@ -58,7 +61,8 @@ pub fn factor_call(job: Job, n: CallNumbers, volume: &[u32]) -> Called
 
 pub fn map_power_call(job: Job, n: CallNumbers, volume: &[u32]) -> Called
     requires { ⌜ n .operation ≡ 5 ⌝ }
-    ensures { λ r. ⌜ ((s : List ℕ) → callOutcome r (now (volume .entry)) s ≡ callStep job (now (volume .entry)) s (callSaid s n)) ⌝ }
+    ensures { λ r. ⌜ ((s : List ℕ) →
+        callOutcome r (now (volume .entry)) s ≡ callStep job (now (volume .entry)) s (callSaid s n)) ⌝ }
 {
     Called {
         reply: reply::of_power(job.map_power(volume)),
@@ -68,7 +72,8 @@ pub fn map_power_call(job: Job, n: CallNumbers, volume: &[u32]) -> Called
 
 pub fn factor_power_call(job: Job, n: CallNumbers, volume: &[u32]) -> Called
     requires { ⌜ n .operation ≡ 6 ⌝ }
-    ensures { λ r. ⌜ ((s : List ℕ) → callOutcome r (now (volume .entry)) s ≡ callStep job (now (volume .entry)) s (callSaid s n)) ⌝ }
+    ensures { λ r. ⌜ ((s : List ℕ) →
+        callOutcome r (now (volume .entry)) s ≡ callStep job (now (volume .entry)) s (callSaid s n)) ⌝ }
 {
     Called {
         reply: reply::of_power(job.factor_power(volume)),

@@ -35,7 +35,8 @@ pub fn numbers_at(script: &[u32], i: usize) -> CallNumbers
 // The answer number i goes to its three places.
 pub fn write_reply(answers: &mut [i64], i: usize, reply: Reply)
     requires { ⌜ 3 * i + 3 ≤ length (now answers) ⌝ }
-    ensures { λ _. ⌜ now (answers .exit) ≡ take (3 * i) (now (answers .entry)) ++ replyNumbers reply ++ drop (3 * i + 3) (now (answers .entry)) ⌝ }
+    ensures { λ _. ⌜ now (answers .exit) ≡ take (3 * i) (now (answers .entry)) ++ replyNumbers reply
+        ++ drop (3 * i + 3) (now (answers .entry)) ⌝ }
 {
     let at = 3 * i;
     let number = reply.number as i64;

@@ -35,9 +35,13 @@ pub fn replay(
     answers: &mut [i64],
 ) -> Replayed
     ensures { λ r. ⌜ replayOutcome r (now (volume .exit)) (now (scratch .exit)) (now (answers .exit))
-        ≡ replayStep job (now (script .entry)) (now (volume .entry)) (now (scratch .entry)) (now (answers .entry)) ⌝ }
-    ensures { λ r. ⌜ ((μ : ℕ) (s : Start μ) (m : Model μ) → Started s job (now (volume .entry)) m → replayOutcome r (now (volume .exit))
-        (now (scratch .exit)) (now (answers .exit)) ≡ modelReplay m (now (script .entry)) (now (scratch .entry)) (now (answers .entry))) ⌝ }
+        ≡ replayStep job (now (script .entry)) (now (volume .entry)) (now (scratch .entry))
+        (now (answers .entry)) ⌝ }
+    ensures { λ r. ⌜ ((μ : ℕ) (s : Start μ) (m : Model μ) →
+        Started s job (now (volume .entry)) m →
+        replayOutcome r (now (volume .exit))
+        (now (scratch .exit)) (now (answers .exit))
+        ≡ modelReplay m (now (script .entry)) (now (scratch .entry)) (now (answers .entry))) ⌝ }
 {
     let count = call_count(script.len(), answers.len());
     let mut held = job;

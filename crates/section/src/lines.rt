@@ -66,7 +66,8 @@ fn put_values(
 ) -> usize
     requires { ⌜ Plane cell (now map) z × (x < cell .n1) × (y < 4000) ⌝ }
     requires { ⌜ Ends at (each 5 (λ t. valueField (cell .group) (cellLengths cell) (now map) z x (y + t))) ⌝ }
-    ensures { λ r. ⌜ Wrote at (each 5 (λ t. valueField (cell .group) (cellLengths cell) (now (map .entry)) z x (y + t)))
+    ensures { λ r. ⌜ Wrote at
+        (each 5 (λ t. valueField (cell .group) (cellLengths cell) (now (map .entry)) z x (y + t)))
         (now (out .entry)) r (now (out .exit)) ⌝ }
 {
     let mut place = at;

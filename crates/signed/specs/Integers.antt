@@ -7,7 +7,8 @@ unfoldable pub residueZ : (p : ℕ) → ℤ → ℕ
 residueZ p (pos n) = n % p
 residueZ p (negsuc n) = p - suc (n % p)
 
--- the whole number next to 0 that is congruent to x modulo an odd p, for an x below p: x itself in the lower half, x - p in the upper
+-- the whole number next to 0 that is congruent to x modulo an odd p, for an x below p: x itself in the lower half, x -
+-- p in the upper
 unfoldable pub centred : (p x : ℕ) → ℤ
 centred p x = cond (leb x (p / 2)) (pos x) (negsuc (p - suc x))
 

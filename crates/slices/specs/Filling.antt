@@ -6,9 +6,10 @@ use lib.ListN.{length, set}
 use Rattle.numbers.specs.declared.Pair.{Pair}
 use Rattle.slices.specs.Pairs.{puts}
 
--- A loop of n turns stores f j at place p j in its turn j; j turns are done, and d₀ has become d. `run p f j d₀` is the list after j stores: its elements, and
--- what is stored, are of any type.
-pub record Filling {E S : Type 0} (run : (ℕ → ℕ) → (ℕ → S) → ℕ → List E → List E) (p : ℕ → ℕ) (f : ℕ → S) (n j : ℕ) (d₀ d : List E) : Type 0 where
+-- A loop of n turns stores f j at place p j in its turn j; j turns are done, and d₀ has become d. `run p f j d₀` is
+-- the list after j stores: its elements, and what is stored, are of any type.
+pub record Filling {E S : Type 0} (run : (ℕ → ℕ) → (ℕ → S) → ℕ → List E → List E) (p : ℕ → ℕ)
+    (f : ℕ → S) (n j : ℕ) (d₀ d : List E) : Type 0 where
   pub le : j ≤ n
   pub len : length d ≡ length d₀
   pub is : d ≡ run p f j d₀

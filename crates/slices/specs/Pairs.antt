@@ -1,8 +1,9 @@
 -- Pairs in a list of numbers. The pair at place j is the numbers 2 j and 2 j + 1.
 --
--- What a loop leaves is said as a run of stores: at places 0, 1, .. (`fills`), over a whole list (`tab`), or at any places
--- (`puts`). That all the rest is untouched is then part of the statement.
-use Rattle.algebra.specs.Prelude.{Bool, true, _&&_, ltb, ℕ, zero, suc, _+_, _*_, _<_, List, [], _∷_, getD, set, replicate}
+-- What a loop leaves is said as a run of stores: at places 0, 1, .. (`fills`), over a whole list (`tab`), or at any
+-- places (`puts`). That all the rest is untouched is then part of the statement.
+use Rattle.algebra.specs.Prelude.{Bool, true, _&&_, ltb, ℕ, zero, suc, _+_, _*_, _<_, List, [], _∷_, getD, set}
+use Rattle.algebra.specs.Prelude.{replicate}
 use Rattle.numbers.specs.declared.Pair.{Pair}
 use Rattle.algebra.specs.ring.Ring.{Res}
 use Rattle.numbers.specs.Value.{Value, valueOf, pairOf}

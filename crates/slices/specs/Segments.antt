@@ -1,5 +1,5 @@
--- A part of a slice that is lent on: what `&s[a..e]` and `&mut s[a..e]` hand to a call, and what the slice holds once the
--- part has come back. The forms are those in which a proof meets them.
+-- A part of a slice that is lent on: what `&s[a..e]` and `&mut s[a..e]` hand to a call, and what the slice holds once
+-- the part has come back. The forms are those in which a proof meets them.
 use mathlib.Core.Path.{_≡_}
 use mathlib.Core.List.{List, _++_}
 use Prim.Native.Nat.{ℕ, _+_, _-_, _*_, _≤_}

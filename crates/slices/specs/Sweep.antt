@@ -27,11 +27,18 @@ sweep L g (suc y) d = setLine L y (g y (lineOf L y (sweep L g y d))) (sweep L g 
 -- the lines lie inside a list of len numbers, and no two have a place in common
 pub record Disjoint (L : Layout) (len : ℕ) : Type 0 where
   pub inside : (y i : ℕ) → y < L .count → i < L .size y → 2 * L .place y i + 1 < len
-  pub apart : (y z i j : ℕ) → y < L .count → z < L .count → i < L .size y → j < L .size z → L .place y i ≡ L .place z j → (y ≡ z) × (i ≡ j)
+  pub apart : (y z i j : ℕ) → y < L .count → z < L .count → i < L .size y →
+      j < L .size z →
+      L .place y i ≡ L .place z j →
+      (y ≡ z) × (i ≡ j)
 
 -- g makes line y of the pairs of line y alone
 pub record Local (L : Layout) (g : ℕ → (ℕ → Pair) → ℕ → Pair) : Type 0 where
-  pub same : (y : ℕ) (v w : ℕ → Pair) → y < L .count → ((i : ℕ) → i < L .size y → v i ≡ w i) → (i : ℕ) → i < L .size y → g y v i ≡ g y w i
+  pub same : (y : ℕ) (v w : ℕ → Pair) →
+      y < L .count →
+      ((i : ℕ) → i < L .size y → v i ≡ w i) →
+      (i : ℕ) → i < L .size y →
+      g y v i ≡ g y w i
 
 -- a function of lists, as a function of lines
 abbrev pub onLists : Layout → (ℕ → List ℕ → List ℕ) → ℕ → (ℕ → Pair) → ℕ → Pair

@@ -8,7 +8,8 @@ ghost use Rattle.slices.specs.Pairs.{at, puts, fills};
 pub fn gather(s: &[u32], start: usize, stride: usize, d: &mut [u32], n: usize)
     requires { ⌜ 2 * (start + n * stride) + 2 ≤ length (now s) + 2 * stride ⌝ }
     requires { ⌜ 2 * n ≤ length (now d) ⌝ }
-    ensures { λ _. ⌜ now (d .exit) ≡ fills (λ j. at (now (s .entry)) (start + j * stride)) n (now (d .entry)) ⌝ }
+    ensures { λ _. ⌜ now (d .exit)
+        ≡ fills (λ j. at (now (s .entry)) (start + j * stride)) n (now (d .entry)) ⌝ }
 {
     let mut j = 0;
     while j < n {

@@ -6,4 +6,8 @@ use Rattle.output.specs.Answers.{saidFill}
 use Rattle.sliding_window.specs.Window.{WindowOutcome}
 
 abbrev pub windowOutcome : FillAnswer → (least greatest : List ℤ) (leastAt greatestAt : List ℕ) → WindowOutcome
-windowOutcome r least greatest leastAt greatestAt = record { answer = saidFill r; outputs = record { least = least; greatest = greatest; leastAt = leastAt; greatestAt = greatestAt } }
+windowOutcome r least greatest leastAt greatestAt =
+    record {
+      answer = saidFill r;
+      outputs = record { least = least; greatest = greatest; leastAt = leastAt; greatestAt = greatestAt };
+    }

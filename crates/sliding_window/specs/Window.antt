@@ -1,6 +1,7 @@
--- The sliding window over a run of scores: the least and the greatest of every w neighbouring entries, and the first place of each. What the call refuses,
--- and what it answers and leaves for every input.
-use Rattle.algebra.specs.Prelude.{Bool, true, false, cond, eqb, leb, ltb, ℕ, zero, suc, _+_, _-_, List, [], _∷_, length, getD}
+-- The sliding window over a run of scores: the least and the greatest of every w neighbouring entries, and the first
+-- place of each. What the call refuses, and what it answers and leaves for every input.
+use Rattle.algebra.specs.Prelude.{Bool, true, false, cond, eqb, leb, ltb, ℕ, zero, suc, _+_, _-_, List, [], _∷_}
+use Rattle.algebra.specs.Prelude.{length, getD}
 use lib.IntN.{ℤ, pos}
 use lib.Signed.{ltZ}
 use Rattle.slices.specs.Filling.{stores}
@@ -41,7 +42,8 @@ pub record Extremes : Type 0 where
   pub leastAt : List ℕ
   pub greatestAt : List ℕ
 
--- 34 for a window that is not of 1 to 64 entries, 18 where one of the outputs has fewer than n places. The outputs count by their lengths alone.
+-- 34 for a window that is not of 1 to 64 entries, 18 where one of the outputs has fewer than n places. The outputs
+-- count by their lengths alone.
 abbrev pub windowTests : (w n least greatest leastAt greatestAt : ℕ) → List Test
 windowTests w n least greatest leastAt greatestAt =
     eqb w 0 ⇒ 34 ∷ leb 65 w ⇒ 34 ∷
@@ -49,7 +51,9 @@ windowTests w n least greatest leastAt greatestAt =
     []
 
 abbrev pub windowTestsOf : (run : List ℤ) (w : ℕ) (outputs : Extremes) → List Test
-windowTestsOf run w o = windowTests w (windowCount run w) (length (o .least)) (length (o .greatest)) (length (o .leastAt)) (length (o .greatestAt))
+windowTestsOf run w o =
+    windowTests w (windowCount run w) (length (o .least)) (length (o .greatest)) (length (o .leastAt))
+    (length (o .greatestAt))
 
 -- ---- The outcome
 

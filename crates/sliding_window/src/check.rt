@@ -26,7 +26,8 @@ pub fn check_window(
     least_at: usize,
     greatest_at: usize,
 ) -> Checked
-    ensures { λ r. ⌜ checkedNumber r ≡ first (windowTests w count least greatest «least_at» «greatest_at») ⌝ }
+    ensures { λ r. ⌜ checkedNumber r
+        ≡ first (windowTests w count least greatest «least_at» «greatest_at») ⌝ }
 {
     if w == 0 {
         return Checked::Failed(Refusal::Window);

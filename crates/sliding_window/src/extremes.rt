@@ -16,9 +16,15 @@ pub fn extremes(
     scores: &mut [i64],
     places: &mut [u64],
 )
-    requires { ⌜ (1 ≤ w) × (w ≤ 64) × (count ≤ windowCount (now run) w) × (count ≤ length (now scores)) × (count ≤ length (now places)) ⌝ }
-    ensures { λ _. ⌜ now (scores .exit) ≡ filledBy (λ j. bestScore greatest (now (run .entry)) j w) count (now (scores .entry)) ⌝ }
-    ensures { λ _. ⌜ now (places .exit) ≡ filledBy (λ j. bestOf greatest (now (run .entry)) j w) count (now (places .entry)) ⌝ }
+    requires { ⌜ (1 ≤ w)
+        × (w ≤ 64)
+        × (count ≤ windowCount (now run) w)
+        × (count ≤ length (now scores))
+        × (count ≤ length (now places)) ⌝ }
+    ensures { λ _. ⌜ now (scores .exit)
+        ≡ filledBy (λ j. bestScore greatest (now (run .entry)) j w) count (now (scores .entry)) ⌝ }
+    ensures { λ _. ⌜ now (places .exit)
+        ≡ filledBy (λ j. bestOf greatest (now (run .entry)) j w) count (now (places .entry)) ⌝ }
 {
     let mut best = [0usize; 64];
     let mut start = 0;
@@ -41,9 +47,16 @@ fn windows(
     scores: &mut [i64],
     places: &mut [u64],
 )
-    requires { ⌜ Block (now run) start w size × Suffixes greatest (now run) start w 0 (now best) × (start + size ≤ length (now scores)) × (start + size ≤ length (now places)) ⌝ }
-    ensures { λ _. ⌜ now (scores .exit) ≡ stores (λ r. start + r) (λ r. bestScore greatest (now (run .entry)) (start + r) w) size (now (scores .entry)) ⌝ }
-    ensures { λ _. ⌜ now (places .exit) ≡ stores (λ r. start + r) (λ r. bestOf greatest (now (run .entry)) (start + r) w) size (now (places .entry)) ⌝ }
+    requires { ⌜ Block (now run) start w size
+        × Suffixes greatest (now run) start w 0 (now best)
+        × (start + size ≤ length (now scores))
+        × (start + size ≤ length (now places)) ⌝ }
+    ensures { λ _. ⌜ now (scores .exit)
+        ≡ stores (λ r. start + r) (λ r. bestScore greatest (now (run .entry)) (start + r) w) size
+        (now (scores .entry)) ⌝ }
+    ensures { λ _. ⌜ now (places .exit)
+        ≡ stores (λ r. start + r) (λ r. bestOf greatest (now (run .entry)) (start + r) w) size
+        (now (places .entry)) ⌝ }
 {
     let end = start + (w - 1);
     let mut ahead = end;

@@ -22,9 +22,15 @@ pub fn window_extremes(
     least_at: &mut [u64],
     greatest_at: &mut [u64],
 ) -> FillAnswer
-    ensures { λ r. ⌜ windowOutcome r (now (least .exit)) (now (greatest .exit)) (now («least_at» .exit)) (now («greatest_at» .exit))
-        ≡ windowStep (now (run .entry)) w (record
-        { least = now (least .entry); greatest = now (greatest .entry); leastAt = now («least_at» .entry); greatestAt = now («greatest_at» .entry) }) ⌝ }
+    ensures { λ r. ⌜ windowOutcome r (now (least .exit)) (now (greatest .exit)) (now («least_at» .exit))
+        (now («greatest_at» .exit))
+        ≡ windowStep (now (run .entry)) w (record {
+          least = now (least .entry);
+          greatest = now (greatest .entry);
+          leastAt = now
+              («least_at» .entry);
+          greatestAt = now («greatest_at» .entry);
+        }) ⌝ }
 {
     let count = crate::check::window_count(run.len(), w);
     let checked = crate::check::check_window(

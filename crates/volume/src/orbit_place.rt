@@ -14,7 +14,8 @@ ghost use Rattle.cell.specs.Operations.{cellGroup, cellHalves, tripleOf, Sizes,
 // The place of the orbit of j.
 pub fn orbit_place(cell: UnitCell, j: Index) -> usize
     requires { ⌜ Sizes cell × Within cell j ⌝ }
-    ensures { λ r. ⌜ (r ≡ orbitPlace (cellGroup cell) (cellHalves cell) (tripleOf j)) × (r < volumeLength (cellGroup cell) (cellHalves cell)) ⌝ }
+    ensures { λ r. ⌜ (r ≡ orbitPlace (cellGroup cell) (cellHalves cell) (tripleOf j))
+        × (r < volumeLength (cellGroup cell) (cellHalves cell)) ⌝ }
 {
     let count = operations::operation_count(cell.group);
     // the length of the volume: every place is lower

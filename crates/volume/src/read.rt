@@ -39,7 +39,8 @@ pub fn run_below(r: Run, p: u32, volume: &[u32]) -> bool
 pub fn factor_numbers_below(cell: UnitCell, j: Index, p: u32, volume: &[u32]) -> bool
     requires { ⌜ Sizes cell × Within cell j ⌝ }
     requires { ⌜ length (now volume) ≡ volumeLength (cellGroup cell) (cellHalves cell) ⌝ }
-    ensures { λ r. ⌜ r ≡ allBelowAt p (now (volume .entry)) (numbersRead (cellGroup cell) (cellHalves cell) (tripleOf j)) ⌝ }
+    ensures { λ r. ⌜ r
+        ≡ allBelowAt p (now (volume .entry)) (numbersRead (cellGroup cell) (cellHalves cell) (tripleOf j)) ⌝ }
 {
     run_below(places::factor_numbers(cell, j), p, volume)
 }
@@ -48,9 +49,11 @@ pub fn factor_numbers_below(cell: UnitCell, j: Index, p: u32, volume: &[u32]) ->
 fn stored_index(cell: UnitCell, j: Index) -> Index
     requires { ⌜ Sizes cell × Within cell j × (j .k ≤ cell .n2 / 2) ⌝ }
     ensures { λ r. ⌜ IsStored cell r ⌝ }
-    ensures { λ r. ⌜ lineNumbersAt (cellGroup cell) (cellHalves cell) (tripleOf r) ≡ lineNumbersAt (cellGroup cell) (cellHalves cell) (tripleOf j) ⌝ }
+    ensures { λ r. ⌜ lineNumbersAt (cellGroup cell) (cellHalves cell) (tripleOf r)
+        ≡ lineNumbersAt (cellGroup cell) (cellHalves cell) (tripleOf j) ⌝ }
     ensures { λ r. ⌜ (j .l < span (cellGroup cell) (cell .n3 / 2) → tripleOf r ≡ tripleOf j) ⌝ }
-    ensures { λ r. ⌜ (span (cellGroup cell) (cell .n3 / 2) ≤ j .l → tripleOf r ≡ imageOf (cellHalves cell) (lineSym (cellGroup cell)) (tripleOf j)) ⌝ }
+    ensures { λ r. ⌜ (span (cellGroup cell) (cell .n3 / 2) ≤ j .l →
+        tripleOf r ≡ imageOf (cellHalves cell) (lineSym (cellGroup cell)) (tripleOf j)) ⌝ }
 {
     if j.l < places::stored_count(cell) {
         j
@@ -67,8 +70,10 @@ fn stored_index(cell: UnitCell, j: Index) -> Index
 fn line_value(m: u32, cell: UnitCell, j: Index, volume: &[u32]) -> Pair
     requires { ⌜ IsModulus m × Sizes cell × Within cell j × (j .k ≤ cell .n2 / 2) ⌝ }
     requires { ⌜ length (now volume) ≡ volumeLength (cellGroup cell) (cellHalves cell) ⌝ }
-    requires { ⌜ allBelowAt (prime m) (now volume) (lineNumbersAt (cellGroup cell) (cellHalves cell) (tripleOf j)) ≡ true ⌝ }
-    ensures { λ r. ⌜ r ≡ pairOf (lineFactor (cellGroup cell) (cellHalves cell) m (now (volume .entry)) (tripleOf j)) ⌝ }
+    requires { ⌜ allBelowAt (prime m) (now volume) (lineNumbersAt (cellGroup cell) (cellHalves cell) (tripleOf j))
+        ≡ true ⌝ }
+    ensures { λ r. ⌜ r
+        ≡ pairOf (lineFactor (cellGroup cell) (cellHalves cell) m (now (volume .entry)) (tripleOf j)) ⌝ }
 {
     let i = stored_index(cell, j);
     let x = crate::stored::value_at(m, cell, volume, i);
@@ -83,8 +88,10 @@ fn line_value(m: u32, cell: UnitCell, j: Index, volume: &[u32]) -> Pair
 pub fn factor_at(m: u32, cell: UnitCell, j: Index, volume: &[u32]) -> Pair
     requires { ⌜ IsModulus m × Sizes cell × Within cell j ⌝ }
     requires { ⌜ length (now volume) ≡ volumeLength (cellGroup cell) (cellHalves cell) ⌝ }
-    requires { ⌜ allBelowAt (prime m) (now volume) (numbersRead (cellGroup cell) (cellHalves cell) (tripleOf j)) ≡ true ⌝ }
-    ensures { λ r. ⌜ r ≡ pairOf (factorsIn (cellGroup cell) (cellHalves cell) m (now (volume .entry)) (j .h) (j .k) (j .l)) ⌝ }
+    requires { ⌜ allBelowAt (prime m) (now volume) (numbersRead (cellGroup cell) (cellHalves cell) (tripleOf j))
+        ≡ true ⌝ }
+    ensures { λ r. ⌜ r
+        ≡ pairOf (factorsIn (cellGroup cell) (cellHalves cell) m (now (volume .entry)) (j .h) (j .k) (j .l)) ⌝ }
 {
     let x = line_value(m, cell, places::stored_column(cell, j), volume);
     if j.k <= cell.n2 / 2 {
@@ -99,8 +106,10 @@ pub fn factor_at(m: u32, cell: UnitCell, j: Index, volume: &[u32]) -> Pair
 pub fn walked_factor(m: u32, cell: UnitCell, j: Index, volume: &[u32]) -> Pair
     requires { ⌜ IsModulus m × Sizes cell × Within cell j ⌝ }
     requires { ⌜ length (now volume) ≡ volumeLength (cellGroup cell) (cellHalves cell) ⌝ }
-    requires { ⌜ allBelowAt (prime m) (now volume) (numbersRead (cellGroup cell) (cellHalves cell) (tripleOf j)) ≡ true ⌝ }
-    ensures { λ r. ⌜ r ≡ pairOf (factorsIn (cellGroup cell) (cellHalves cell) m (now (volume .entry)) (j .h) (j .k) (j .l)) ⌝ }
+    requires { ⌜ allBelowAt (prime m) (now volume) (numbersRead (cellGroup cell) (cellHalves cell) (tripleOf j))
+        ≡ true ⌝ }
+    ensures { λ r. ⌜ r
+        ≡ pairOf (factorsIn (cellGroup cell) (cellHalves cell) m (now (volume .entry)) (j .h) (j .k) (j .l)) ⌝ }
 {
     let i = places::stored_column(cell, j);
     if places::is_end(cell.n3, i.l) {

@@ -20,7 +20,8 @@ ghost use Rattle.cell.specs.Operations.{cellGroup, cellHalves, tripleOf, symOf,
 pub fn write_images(m: u32, cell: UnitCell, j: Index, x: Pair, volume: &mut [u32])
     requires { ⌜ IsModulus m × Small (prime m) x × Sizes cell × Within cell j ⌝ }
     requires { ⌜ length (now volume) ≡ volumeLength (cellGroup cell) (cellHalves cell) ⌝ }
-    ensures { λ _. ⌜ now (volume .exit) ≡ recordOn (cellGroup cell) (cellHalves cell) m (tripleOf j) (valueOf m x) (now (volume .entry)) ⌝ }
+    ensures { λ _. ⌜ now (volume .exit)
+        ≡ recordOn (cellGroup cell) (cellHalves cell) m (tripleOf j) (valueOf m x) (now (volume .entry)) ⌝ }
 {
     let count = operations::operation_count(cell.group);
     let mut number = 0;
@@ -41,7 +42,9 @@ pub fn write_images(m: u32, cell: UnitCell, j: Index, x: Pair, volume: &mut [u32
 fn write_image(m: u32, o: Operation, cell: UnitCell, j: Index, x: Pair, volume: &mut [u32])
     requires { ⌜ IsModulus m × Small (prime m) x × Sizes cell × Within cell j ⌝ }
     requires { ⌜ length (now volume) ≡ volumeLength (cellGroup cell) (cellHalves cell) ⌝ }
-    ensures { λ _. ⌜ now (volume .exit) ≡ writeImages (cellGroup cell) (cellHalves cell) m (symOf o ∷ []) (tripleOf j) (valueOf m x) (now (volume .entry)) ⌝ }
+    ensures { λ _. ⌜ now (volume .exit)
+        ≡ writeImages (cellGroup cell) (cellHalves cell) m (symOf o ∷ []) (tripleOf j) (valueOf m x)
+        (now (volume .entry)) ⌝ }
 {
     let to = operations::image(o, cell, j);
     if places::is_stored(cell, to) {

@@ -48,8 +48,11 @@ fn alternating_pair(half: u32, l: u32) -> u32
 // The factor at a stored index of an alternating line, as it is stored: at l = 0 and at l = A one number of pair 0, real at l = 0 and at an
 // even A, imaginary at an odd A; else a pair.
 fn alternating_factor(cell: UnitCell, volume: &[u32], j: Index) -> Pair
-    requires { ⌜ IsVolume cell (now volume) × IsStored cell j × (lineKind (cellGroup cell) (j .h) ≡ alternating) ⌝ }
-    ensures { λ r. ⌜ ((m : ℕ) → IsStoredFactor (cellGroup cell) (cellHalves cell) m (now (volume .entry)) (tripleOf j) r) ⌝ }
+    requires { ⌜ IsVolume cell (now volume)
+        × IsStored cell j
+        × (lineKind (cellGroup cell) (j .h) ≡ alternating) ⌝ }
+    ensures { λ r. ⌜ ((m : ℕ) →
+        IsStoredFactor (cellGroup cell) (cellHalves cell) m (now (volume .entry)) (tripleOf j) r) ⌝ }
 {
     let half = cell.n3 / 2;
     let x = pair_at(cell, volume, alternating_pair(half, j.l), j.h, j.k);
@@ -70,7 +73,8 @@ fn alternating_factor(cell: UnitCell, volume: &[u32], j: Index) -> Pair
 // the prime.
 pub fn stored_factor(cell: UnitCell, volume: &[u32], j: Index) -> Pair
     requires { ⌜ IsVolume cell (now volume) × IsStored cell j ⌝ }
-    ensures { λ r. ⌜ ((m : ℕ) → IsStoredFactor (cellGroup cell) (cellHalves cell) m (now (volume .entry)) (tripleOf j) r) ⌝ }
+    ensures { λ r. ⌜ ((m : ℕ) →
+        IsStoredFactor (cellGroup cell) (cellHalves cell) m (now (volume .entry)) (tripleOf j) r) ⌝ }
 {
     let kind = places::line_kind(cell.group, j.h as usize);
     if kind == 3 {
@@ -85,8 +89,10 @@ pub fn stored_factor(cell: UnitCell, volume: &[u32], j: Index) -> Pair
 // The factor at a stored index: a rotated line loses its i.
 pub fn stored_value(m: u32, cell: UnitCell, volume: &[u32], j: Index) -> Pair
     requires { ⌜ IsModulus m × IsVolume cell (now volume) × IsStored cell j ⌝ }
-    requires { ⌜ allBelowAt (prime m) (now volume) (lineNumbersAt (cellGroup cell) (cellHalves cell) (tripleOf j)) ≡ true ⌝ }
-    ensures { λ r. ⌜ r ≡ pairOf (lineFactor (cellGroup cell) (cellHalves cell) m (now (volume .entry)) (tripleOf j)) ⌝ }
+    requires { ⌜ allBelowAt (prime m) (now volume) (lineNumbersAt (cellGroup cell) (cellHalves cell) (tripleOf j))
+        ≡ true ⌝ }
+    ensures { λ r. ⌜ r
+        ≡ pairOf (lineFactor (cellGroup cell) (cellHalves cell) m (now (volume .entry)) (tripleOf j)) ⌝ }
 {
     places::without_i(m, cell.group, j.h, stored_factor(cell, volume, j))
 }
@@ -94,9 +100,15 @@ pub fn stored_value(m: u32, cell: UnitCell, volume: &[u32], j: Index) -> Pair
 // The same between the ends of l: there it is the pair at its place, whatever the kind of the line. Loops that read every factor read
 // most of them here, without a call.
 pub fn between_value(m: u32, cell: UnitCell, volume: &[u32], j: Index) -> Pair
-    requires { ⌜ IsModulus m × IsVolume cell (now volume) × IsStored cell j × (j .l ≡ 0 → ⊥) × (j .l ≡ cell .n3 / 2 → ⊥) ⌝ }
-    requires { ⌜ allBelowAt (prime m) (now volume) (lineNumbersAt (cellGroup cell) (cellHalves cell) (tripleOf j)) ≡ true ⌝ }
-    ensures { λ r. ⌜ r ≡ pairOf (lineFactor (cellGroup cell) (cellHalves cell) m (now (volume .entry)) (tripleOf j)) ⌝ }
+    requires { ⌜ IsModulus m
+        × IsVolume cell (now volume)
+        × IsStored cell j
+        × (j .l ≡ 0 → ⊥)
+        × (j .l ≡ cell .n3 / 2 → ⊥) ⌝ }
+    requires { ⌜ allBelowAt (prime m) (now volume) (lineNumbersAt (cellGroup cell) (cellHalves cell) (tripleOf j))
+        ≡ true ⌝ }
+    ensures { λ r. ⌜ r
+        ≡ pairOf (lineFactor (cellGroup cell) (cellHalves cell) m (now (volume .entry)) (tripleOf j)) ⌝ }
 {
     places::without_i(m, cell.group, j.h, pair_at(cell, volume, j.l, j.h, j.k))
 }
@@ -104,8 +116,10 @@ pub fn between_value(m: u32, cell: UnitCell, volume: &[u32], j: Index) -> Pair
 // Either, by where l is.
 pub fn value_at(m: u32, cell: UnitCell, volume: &[u32], j: Index) -> Pair
     requires { ⌜ IsModulus m × IsVolume cell (now volume) × IsStored cell j ⌝ }
-    requires { ⌜ allBelowAt (prime m) (now volume) (lineNumbersAt (cellGroup cell) (cellHalves cell) (tripleOf j)) ≡ true ⌝ }
-    ensures { λ r. ⌜ r ≡ pairOf (lineFactor (cellGroup cell) (cellHalves cell) m (now (volume .entry)) (tripleOf j)) ⌝ }
+    requires { ⌜ allBelowAt (prime m) (now volume) (lineNumbersAt (cellGroup cell) (cellHalves cell) (tripleOf j))
+        ≡ true ⌝ }
+    ensures { λ r. ⌜ r
+        ≡ pairOf (lineFactor (cellGroup cell) (cellHalves cell) m (now (volume .entry)) (tripleOf j)) ⌝ }
 {
     if places::is_end(cell.n3, j.l) {
         stored_value(m, cell, volume, j)
@@ -117,7 +131,8 @@ pub fn value_at(m: u32, cell: UnitCell, volume: &[u32], j: Index) -> Pair
 // The number of a point of a stored plane.
 pub fn stored_number(cell: UnitCell, volume: &[u32], p: Point) -> u32
     requires { ⌜ PairInside cell (now volume) (p .z) (p .x) (p .y / 2) ⌝ }
-    ensures { λ r. ⌜ r ≡ getD (now (volume .entry)) (mapPlace (cellGroup cell) (cellHalves cell) (pointOf p)) 0 ⌝ }
+    ensures { λ r. ⌜ r
+        ≡ getD (now (volume .entry)) (mapPlace (cellGroup cell) (cellHalves cell) (pointOf p)) 0 ⌝ }
 {
     let place = 2 * places::pair_place(cell, p.z, p.x, 0) + (p.y as usize);
     volume[place]

@@ -17,9 +17,13 @@ ghost use Rattle.cell.specs.Operations.{cellGroup, cellHalves, tripleOf, Sizes,
 
 // x goes to the stored index j.
 pub fn write_factor(cell: UnitCell, j: Index, x: Pair, volume: &mut [u32])
-    requires { ⌜ Sizes cell × Within cell j × (j .k ≤ cell .n2 / 2) × (j .l < span (cellGroup cell) (cell .n3 / 2)) ⌝ }
+    requires { ⌜ Sizes cell
+        × Within cell j
+        × (j .k ≤ cell .n2 / 2)
+        × (j .l < span (cellGroup cell) (cell .n3 / 2)) ⌝ }
     requires { ⌜ length (now volume) ≡ volumeLength (cellGroup cell) (cellHalves cell) ⌝ }
-    ensures { λ _. ⌜ now (volume .exit) ≡ write (cellGroup cell) (cellHalves cell) (now (volume .entry)) (tripleOf j) x ⌝ }
+    ensures { λ _. ⌜ now (volume .exit)
+        ≡ write (cellGroup cell) (cellHalves cell) (now (volume .entry)) (tripleOf j) x ⌝ }
 {
     let kind = places::line_kind(cell.group, j.h as usize);
     if kind == 3 {
@@ -31,9 +35,14 @@ pub fn write_factor(cell: UnitCell, j: Index, x: Pair, volume: &mut [u32])
 
 // x goes to j in an alternating line: one number of pair 0 at either end, else a pair.
 fn write_alternating(cell: UnitCell, j: Index, x: Pair, volume: &mut [u32])
-    requires { ⌜ Sizes cell × (lineKind (cellGroup cell) (j .h) ≡ alternating) × Within cell j × (j .k ≤ cell .n2 / 2) × (j .l ≤ cell .n3 / 2) ⌝ }
+    requires { ⌜ Sizes cell
+        × (lineKind (cellGroup cell) (j .h) ≡ alternating)
+        × Within cell j
+        × (j .k ≤ cell .n2 / 2)
+        × (j .l ≤ cell .n3 / 2) ⌝ }
     requires { ⌜ length (now volume) ≡ volumeLength (cellGroup cell) (cellHalves cell) ⌝ }
-    ensures { λ _. ⌜ now (volume .exit) ≡ writeAlternating (cellGroup cell) (cellHalves cell) (now (volume .entry)) (j .h) (j .k) (j .l) x ⌝ }
+    ensures { λ _. ⌜ now (volume .exit)
+        ≡ writeAlternating (cellGroup cell) (cellHalves cell) (now (volume .entry)) (j .h) (j .k) (j .l) x ⌝ }
 {
     let half = cell.n3 / 2;
     let first = 2 * places::pair_place(cell, 0, j.h, j.k);

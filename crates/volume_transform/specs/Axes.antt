@@ -1,4 +1,5 @@
--- One packed line of a volume transformed, and one row along k: its pairs 0 and B are real, and a packed Hermitian line has the second of them in the first.
+-- One packed line of a volume transformed, and one row along k: its pairs 0 and B are real, and a packed Hermitian line
+-- has the second of them in the first.
 use mathlib.Core.Bool.{Bool, cond}
 use mathlib.Core.List.{List}
 use Prim.Native.Nat.{ℕ, zero, suc, _+_, _*_, _-_, _/_}
@@ -28,12 +29,14 @@ module _ (m A : ℕ) where
   abbrev pub turnedLine : ℕ → Kind → List ℕ → List ℕ
   turnedLine direction kind l = transformedLine m kind direction A l
 
-  -- the same of a line that is stored times i, if b says so: synthesis divides by i after the transform, analysis multiplies before it
+  -- the same of a line that is stored times i, if b says so: synthesis divides by i after the transform, analysis
+  -- multiplies before it
   abbrev pub turnedStored : ℕ → Bool → Kind → List ℕ → List ℕ
   turnedStored zero b kind l = listOf (slots kind A) (λ s. overI m b (forwardValues kind (valuesOf m l) s))
   turnedStored (suc direction) b kind l = listOf (slots kind A) (inverseValues kind (λ s. timesI m b (valuesOf m l s)))
 
--- The pairs 0 to B of a k-line, of which pair 0 and pair B are real: the real part of pair B is the second number of pair 0.
+-- The pairs 0 to B of a k-line, of which pair 0 and pair B are real: the real part of pair B is the second number of
+-- pair 0.
 unfoldable pub packedRow : (B : ℕ) → (ℕ → Pair) → ℕ → Pair
 packedRow B v zero = record { re = (v 0) .re; im = (v B) .re }
 packedRow B v (suc t) = v (suc t)
@@ -46,7 +49,10 @@ unpackedRow B v (suc t) = cond (ltb (suc t) B) (v (suc t)) (record { re = (v 0) 
 module _ (m B : ℕ) where
   -- a row of B + 1 pairs becomes N2 real values and two zeros
   abbrev pub forwardRow : List ℕ → List ℕ
-  forwardRow l = tab (suc B) (λ t. cond (ltb t B) (pairOf (forwardValues m B hermitian (λ s. valueOf m (packedRow B (at l) s)) t)) zeroPair)
+  forwardRow l =
+      tab (suc B)
+      (λ t. cond (ltb t B)
+      (pairOf (forwardValues m B hermitian (λ s. valueOf m (packedRow B (at l) s)) t)) zeroPair)
 
   abbrev pub inverseRow : List ℕ → List ℕ
   inverseRow l = tab (suc B) (unpackedRow B (λ t. pairOf (inverseValues m B hermitian (valuesOf m l) t)))
@@ -55,8 +61,9 @@ module _ (m B : ℕ) where
   turnedRow zero = forwardRow
   turnedRow (suc direction) = inverseRow
 
--- ---- The lines of a volume along each axis and what becomes of each: along l by the kind of its group, with or without its i, along h as a plain line, along k as a Hermitian one.
--- The lines of a job are numbered: first those along l, then h, then k, each by rising place of its first pair.
+-- ---- The lines of a volume along each axis and what becomes of each: along l by the kind of its group, with or
+-- without its i, along h as a plain line, along k as a Hermitian one. The lines of a job are numbered: first those
+-- along l, then h, then k, each by rising place of its first pair.
 
 -- line y of the list d becomes what G makes of it
 abbrev pub turnOf : Layout → (ℕ → List ℕ → List ℕ) → ℕ → List ℕ → List ℕ
@@ -72,7 +79,12 @@ module _ (g : Group) (a : J) where
   kindAt y = lineKind g (y / columns g a)
 
   abbrev pub alongL : Layout
-  alongL = record { count = rows g a * columns g a; size = λ y. slots (kindAt y) (a .2); place = λ y j. y + (firstPair (kindAt y) + j) * (rows g a * columns g a) }
+  alongL =
+      record {
+        count = rows g a * columns g a;
+        size = λ y. slots (kindAt y) (a .2);
+        place = λ y j. y + (firstPair (kindAt y) + j) * (rows g a * columns g a);
+      }
 
   -- line y = w (B + 1) + k along h, and row y = w N1 + h along k
   abbrev pub alongH : Layout

@@ -90,7 +90,8 @@ lineTurned x v = cond (eqb (x .kind) 1) (rowTurn x v) (gatheredTurn x v)
 
 -- A line that is transformed if its own numbers are residues, the scratch then cleared; if they are not, nothing
 -- changes.
-pub record OwnTurn (turned : List ℕ → List ℕ) (x : Line) (done : Bool) (v v′ scratch scratch′ : List ℕ) : Type 0 where
+pub record OwnTurn (turned : List ℕ → List ℕ) (x : Line) (done : Bool)
+    (v v′ scratch scratch′ : List ℕ) : Type 0 where
   pub tested : done ≡ allBelow (prime (x .m)) (numbersIn x v)
   pub volume : v′ ≡ cond done (turned v) v
   pub lent : scratch′ ≡ cond done (cleared scratch) scratch
@@ -114,7 +115,8 @@ Room x fold work = (2 * x .half ≤ length fold) × (4 * x .half ≤ length work
 abbrev pub TablesFor : Line → (re im tan : List ℕ) → Type 0
 TablesFor x re im tan = LineTables (x .m) (x .kind) (x .direction) re im tan
 
--- ---- the row of a packed Hermitian line of n numbers: the real part of the last pair stands in the second number of the first
+-- ---- the row of a packed Hermitian line of n numbers: the real part of the last pair stands in the second number of
+-- the first
 abbrev pub opened : (direction n : ℕ) → List ℕ → List ℕ
 opened zero n l = set l 1 (getD l n 0)
 opened (suc direction) n l = l

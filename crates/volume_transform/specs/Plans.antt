@@ -1,4 +1,5 @@
--- The lines of a job as the code takes them: the plan of a job's transform, and what is known of it and of the line that it makes of a number.
+-- The lines of a job as the code takes them: the plan of a job's transform, and what is known of it and of the line
+-- that it makes of a number.
 use mathlib.Core.Path.{_≡_}
 use mathlib.Core.Logic.{_⊎_}
 use mathlib.Core.List.{List}

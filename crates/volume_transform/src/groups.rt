@@ -25,10 +25,13 @@ pub fn turn_group<'a>(
     scratch: &mut [u32],
     work: &mut [u32],
 )
-    requires { ⌜ PlainLines line lanes (now volume) × TablesFor line (now re) (now im) (now tan) × (m ≡ line .m) ⌝ }
+    requires { ⌜ PlainLines line lanes (now volume)
+        × TablesFor line (now re) (now im) (now tan)
+        × (m ≡ line .m) ⌝ }
     requires { ⌜ ShiftedTable m (now re) (now im) (now sre) (now sim) ⌝ }
     requires { ⌜ (11520 ≤ length (now scratch)) × (11520 ≤ length (now work)) ⌝ }
-    ensures { λ _. ⌜ (now (volume .exit) ≡ groupTurn line lanes (now (volume .entry))) × Kept (now (scratch .entry)) (now (scratch .exit)) ⌝ }
+    ensures { λ _. ⌜ (now (volume .exit) ≡ groupTurn line lanes (now (volume .entry)))
+        × Kept (now (scratch .entry)) (now (scratch .exit)) ⌝ }
 {
     let n = line.count;
     let size = 32 * n;

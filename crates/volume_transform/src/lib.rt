@@ -33,7 +33,8 @@ ghost use Rattle.volume_transform.specs.RisingPlaces.{RisingPlaces};
 pub fn transform_volume(plan: Plan, volume: &mut [u32], scratch: &mut [u32])
     requires { ⌜ Planned plan ⌝ }
     requires { ⌜ Fitting plan (now volume) × (scratchLength ≤ length (now scratch)) ⌝ }
-    ensures { λ _. ⌜ (now (volume .exit) ≡ turns (planTurn plan) 0 (lineCount (planGroup plan) (planHalves plan)) (now (volume .entry)))
+    ensures { λ _. ⌜ (now (volume .exit)
+        ≡ turns (planTurn plan) 0 (lineCount (planGroup plan) (planHalves plan)) (now (volume .entry)))
         × (now (scratch .exit) ≡ cleared (now (scratch .entry))) ⌝ }
 {
     let re = roots::powers::real_parts(plan.m);
@@ -76,9 +77,12 @@ fn turn_groups<'a>(
     volume: &mut [u32],
     scratch: &mut [u32],
 )
-    requires { ⌜ Planned plan × TablesOf (plan .m) (plan .direction) (now re) (now im) (now tan) × (m ≡ plan .m) ⌝ }
+    requires { ⌜ Planned plan
+        × TablesOf (plan .m) (plan .direction) (now re) (now im) (now tan)
+        × (m ≡ plan .m) ⌝ }
     requires { ⌜ Fitting plan (now volume) × (scratchLength ≤ length (now scratch)) ⌝ }
-    ensures { λ _. ⌜ (now (volume .exit) ≡ turns (planTurn plan) 0 (lineCount (planGroup plan) (planHalves plan)) (now (volume .entry)))
+    ensures { λ _. ⌜ (now (volume .exit)
+        ≡ turns (planTurn plan) 0 (lineCount (planGroup plan) (planHalves plan)) (now (volume .entry)))
         × (now (scratch .exit) ≡ cleared (now (scratch .entry))) ⌝ }
 {
     let mut sre = [0u32; 2880];
@@ -119,11 +123,16 @@ fn turn_volume<'a>(
     fold: &mut [u32],
     work: &mut [u32],
 )
-    requires { ⌜ Planned plan × TablesOf (plan .m) (plan .direction) (now re) (now im) (now tan) × (m ≡ plan .m) ⌝ }
-    requires { ⌜ (0 < most) × (most ≤ 16) × (1 < most → RoomForGroups m (now re) (now im) (now sre) (now sim) (now work)) ⌝ }
+    requires { ⌜ Planned plan
+        × TablesOf (plan .m) (plan .direction) (now re) (now im) (now tan)
+        × (m ≡ plan .m) ⌝ }
+    requires { ⌜ (0 < most)
+        × (most ≤ 16)
+        × (1 < most → RoomForGroups m (now re) (now im) (now sre) (now sim) (now work)) ⌝ }
     requires { ⌜ Fitting plan (now volume) ⌝ }
     requires { ⌜ Lent (now scratch) (now fold) (now work) ⌝ }
-    ensures { λ _. ⌜ (now (volume .exit) ≡ turns (planTurn plan) 0 (lineCount (planGroup plan) (planHalves plan)) (now (volume .entry)))
+    ensures { λ _. ⌜ (now (volume .exit)
+        ≡ turns (planTurn plan) 0 (lineCount (planGroup plan) (planHalves plan)) (now (volume .entry)))
         × (now (scratch .exit) ≡ cleared (now (scratch .entry))) ⌝ }
 {
     let counts = crate::axis_lines::line_counts(plan);
@@ -166,10 +175,13 @@ fn turn<'a>(
     fold: &mut [u32],
     work: &mut [u32],
 )
-    requires { ⌜ Placed (length (now volume)) line × TablesFor line (now re) (now im) (now tan) × (m ≡ line .m) ⌝ }
+    requires { ⌜ Placed (length (now volume)) line
+        × TablesFor line (now re) (now im) (now tan)
+        × (m ≡ line .m) ⌝ }
     requires { ⌜ LineBelow line (now volume) ⌝ }
     requires { ⌜ Lent (now scratch) (now fold) (now work) ⌝ }
-    ensures { λ _. ⌜ (now (volume .exit) ≡ lineTurned line (now (volume .entry))) × Kept (now (scratch .entry)) (now (scratch .exit)) ⌝ }
+    ensures { λ _. ⌜ (now (volume .exit) ≡ lineTurned line (now (volume .entry)))
+        × Kept (now (scratch .entry)) (now (scratch .exit)) ⌝ }
 {
     if line.kind == 1 {
         let start = 2 * line.start;

@@ -8,7 +8,8 @@ ghost use Rattle.algebra.specs.lines.Kinds.{slots};
 ghost use Rattle.numbers.specs.Value.{prime};
 ghost use Rattle.slices.specs.Pairs.{Below};
 ghost use Rattle.lengths.specs.Lengths.{kindOf};
-ghost use Rattle.volume_transform.specs.Lines.{Lent, Kept, TablesFor, Room, SoundLine, Spaced, LineBelow, turnedPacked, storedTurn, gatheredTurn};
+ghost use Rattle.volume_transform.specs.Lines.{Lent, Kept, TablesFor, Room, SoundLine, Spaced, LineBelow};
+ghost use Rattle.volume_transform.specs.Lines.{turnedPacked, storedTurn, gatheredTurn};
 
 // A line whose pairs stand apart.
 pub fn turn_gathered<'a>(
@@ -22,10 +23,13 @@ pub fn turn_gathered<'a>(
     fold: &mut [u32],
     work: &mut [u32],
 )
-    requires { ⌜ Spaced (length (now volume)) line × TablesFor line (now re) (now im) (now tan) × (m ≡ line .m) ⌝ }
+    requires { ⌜ Spaced (length (now volume)) line
+        × TablesFor line (now re) (now im) (now tan)
+        × (m ≡ line .m) ⌝ }
     requires { ⌜ LineBelow line (now volume) ⌝ }
     requires { ⌜ Lent (now scratch) (now fold) (now work) ⌝ }
-    ensures { λ _. ⌜ (now (volume .exit) ≡ gatheredTurn line (now (volume .entry))) × Kept (now (scratch .entry)) (now (scratch .exit)) ⌝ }
+    ensures { λ _. ⌜ (now (volume .exit) ≡ gatheredTurn line (now (volume .entry)))
+        × Kept (now (scratch .entry)) (now (scratch .exit)) ⌝ }
 {
     slices::gathering::gather(volume, line.start, line.stride, scratch, line.count);
     let size = 2 * line.count;
@@ -44,8 +48,12 @@ pub fn turn_stored<'a>(
     fold: &mut [u32],
     work: &mut [u32],
 )
-    requires { ⌜ SoundLine line × TablesFor line (now re) (now im) (now tan) × (m ≡ line .m) × (line .count ≡ slots (kindOf (line .kind)) (line .half)) ⌝ }
-    requires { ⌜ (length (now packed) ≡ 2 * slots (kindOf (line .kind)) (line .half)) × Below (prime (line .m)) (now packed) ⌝ }
+    requires { ⌜ SoundLine line
+        × TablesFor line (now re) (now im) (now tan)
+        × (m ≡ line .m)
+        × (line .count ≡ slots (kindOf (line .kind)) (line .half)) ⌝ }
+    requires { ⌜ (length (now packed) ≡ 2 * slots (kindOf (line .kind)) (line .half))
+        × Below (prime (line .m)) (now packed) ⌝ }
     requires { ⌜ Room line (now fold) (now work) ⌝ }
     ensures { λ _. ⌜ now (packed .exit) ≡ storedTurn line (now (packed .entry)) ⌝ }
 {
@@ -74,7 +82,8 @@ pub fn turn_packed<'a>(
     work: &mut [u32],
 )
     requires { ⌜ SoundLine line × TablesFor line (now re) (now im) (now tan) × (m ≡ line .m) ⌝ }
-    requires { ⌜ (length (now packed) ≡ 2 * slots (kindOf (line .kind)) (line .half)) × Below (prime (line .m)) (now packed) ⌝ }
+    requires { ⌜ (length (now packed) ≡ 2 * slots (kindOf (line .kind)) (line .half))
+        × Below (prime (line .m)) (now packed) ⌝ }
     requires { ⌜ Room line (now fold) (now work) ⌝ }
     ensures { λ _. ⌜ now (packed .exit) ≡ turnedPacked line (now (packed .entry)) ⌝ }
 {

@@ -8,8 +8,10 @@ ghost use mathlib.Core.Path.{_≡_};
 ghost use Prim.Native.Nat.{_+_, _<_, _≤_};
 ghost use Rattle.cell.specs.Volume.{firstPair};
 ghost use Rattle.lengths.specs.Lengths.{kindOf};
-ghost use Rattle.volume_transform.specs.Axes.{lineCount, lineOfTurn, turnOf, numbersOf, alongL, alongH, turnedL};
-ghost use Rattle.volume_transform.specs.Plans.{planGroup, planHalves, Planned, Counted, lineTurn, planNumbers, Gathered, LineAt};
+ghost use Rattle.volume_transform.specs.Axes.{lineCount, lineOfTurn, turnOf, numbersOf, alongL, alongH};
+ghost use Rattle.volume_transform.specs.Axes.{turnedL};
+ghost use Rattle.volume_transform.specs.Plans.{planGroup, planHalves, Planned, Counted, lineTurn, planNumbers};
+ghost use Rattle.volume_transform.specs.Plans.{Gathered, LineAt};
 ghost use Rattle.volume_transform.specs.Groups.{Neighbours, Batched, GroupAt};
 
 // The line that turn n transforms.
@@ -22,7 +24,10 @@ pub fn line_in_turn(plan: Plan, counts: Counts, n: usize) -> Line
 
 // The same with those after it that are turned together with it, `most` lines at the most.
 pub fn group_in_turn(plan: Plan, counts: Counts, n: usize, most: usize) -> LineGroup
-    requires { ⌜ Planned plan × Counted plan counts × (n < lineCount (planGroup plan) (planHalves plan)) × (0 < most) ⌝ }
+    requires { ⌜ Planned plan
+        × Counted plan counts
+        × (n < lineCount (planGroup plan) (planHalves plan))
+        × (0 < most) ⌝ }
     ensures { λ r. ⌜ GroupAt plan n most r ⌝ }
 {
     let j = line_of_turn(plan, counts, n);
@@ -35,7 +40,10 @@ pub fn group_in_turn(plan: Plan, counts: Counts, n: usize, most: usize) -> LineG
 
 // How many lines are turned together from line number j on: plain ones to the end of its row, which a batch has room for.
 fn lanes_from(plan: Plan, counts: Counts, j: usize, line: Line, most: usize) -> usize
-    requires { ⌜ Planned plan × Counted plan counts × (j < lineCount (planGroup plan) (planHalves plan)) × (0 < most) ⌝ }
+    requires { ⌜ Planned plan
+        × Counted plan counts
+        × (j < lineCount (planGroup plan) (planHalves plan))
+        × (0 < most) ⌝ }
     ensures { λ r. ⌜ (0 < r) × (r ≤ most) × (1 < r → Batched plan j line r) ⌝ }
 {
     if most == 1 {
@@ -61,7 +69,8 @@ fn lanes_from(plan: Plan, counts: Counts, j: usize, line: Line, most: usize) -> 
 // Its number: analysis takes the axes in the other order.
 fn line_of_turn(plan: Plan, counts: Counts, n: usize) -> usize
     requires { ⌜ Planned plan × Counted plan counts × (n < lineCount (planGroup plan) (planHalves plan)) ⌝ }
-    ensures { λ r. ⌜ (r ≡ lineOfTurn (planGroup plan) (planHalves plan) (plan .direction) n) × (r < lineCount (planGroup plan) (planHalves plan)) ⌝ }
+    ensures { λ r. ⌜ (r ≡ lineOfTurn (planGroup plan) (planHalves plan) (plan .direction) n)
+        × (r < lineCount (planGroup plan) (planHalves plan)) ⌝ }
 {
     if plan.direction == 0 {
         n
@@ -78,7 +87,8 @@ fn line_of_turn(plan: Plan, counts: Counts, n: usize) -> usize
 fn line_at(plan: Plan, counts: Counts, j: usize) -> Line
     requires { ⌜ Planned plan × Counted plan counts × (j < lineCount (planGroup plan) (planHalves plan)) ⌝ }
     ensures { λ r. ⌜ LineAt plan j r ⌝ }
-    ensures { λ r. ⌜ (j < alongL (planGroup plan) (planHalves plan) .count + alongH (planGroup plan) (planHalves plan) .count
+    ensures { λ r. ⌜ (j
+        < alongL (planGroup plan) (planHalves plan) .count + alongH (planGroup plan) (planHalves plan) .count
         → Neighbours plan (lineTurn plan) (planNumbers plan) j r) ⌝ }
 {
     if j < counts.l {

@@ -11,11 +11,14 @@ ghost use mathlib.Core.Path.{_≡_};
 ghost use Prim.Native.Nat.{_*_, _≤_};
 ghost use lib.ListN.{length};
 ghost use Rattle.lengths.specs.Lengths.{scratchLength};
-ghost use Rattle.volume_transform.specs.Lines.{Placed, Spaced, Beside, TablesFor, OwnTurn, lineTurned, gatheredTurn, rowTurn};
+ghost use Rattle.volume_transform.specs.Lines.{Placed, Spaced, Beside, TablesFor, OwnTurn, lineTurned};
+ghost use Rattle.volume_transform.specs.Lines.{gatheredTurn, rowTurn};
 
 // The line is transformed if its numbers are residues, which is the answer.
 pub fn turn_alone(line: Line, volume: &mut [u32], scratch: &mut [u32]) -> bool
-    requires { ⌜ Placed (length (now volume)) line × (line .direction ≡ 0) × (scratchLength ≤ length (now scratch)) ⌝ }
+    requires { ⌜ Placed (length (now volume)) line
+        × (line .direction ≡ 0)
+        × (scratchLength ≤ length (now scratch)) ⌝ }
     ensures { λ r. ⌜ OwnTurn (lineTurned line) line r
         (now (volume .entry)) (now (volume .exit)) (now (scratch .entry)) (now (scratch .exit)) ⌝ }
 {
@@ -74,7 +77,9 @@ fn alone<'a>(
     volume: &mut [u32],
     scratch: &mut [u32],
 ) -> bool
-    requires { ⌜ Placed (length (now volume)) line × TablesFor line (now re) (now im) (now tan) × (m ≡ line .m) ⌝ }
+    requires { ⌜ Placed (length (now volume)) line
+        × TablesFor line (now re) (now im) (now tan)
+        × (m ≡ line .m) ⌝ }
     requires { ⌜ scratchLength ≤ length (now scratch) ⌝ }
     ensures { λ r. ⌜ OwnTurn (lineTurned line) line r
         (now (volume .entry)) (now (volume .exit)) (now (scratch .entry)) (now (scratch .exit)) ⌝ }
@@ -122,7 +127,9 @@ fn alone_in<'a>(
     packed: &mut [u32],
     work: &mut [u32],
 ) -> bool
-    requires { ⌜ Placed (length (now volume)) line × TablesFor line (now re) (now im) (now tan) × (m ≡ line .m) ⌝ }
+    requires { ⌜ Placed (length (now volume)) line
+        × TablesFor line (now re) (now im) (now tan)
+        × (m ≡ line .m) ⌝ }
     requires { ⌜ (scratchLength ≤ length (now scratch))
         × (4 * line .half ≤ length (now packed)) × (4 * line .half ≤ length (now work)) ⌝ }
     ensures { λ r. ⌜ OwnTurn (lineTurned line) line r
@@ -146,7 +153,9 @@ fn row_alone<'a>(
     scratch: &mut [u32],
     work: &mut [u32],
 ) -> bool
-    requires { ⌜ Beside (length (now volume)) line × TablesFor line (now re) (now im) (now tan) × (m ≡ line .m) ⌝ }
+    requires { ⌜ Beside (length (now volume)) line
+        × TablesFor line (now re) (now im) (now tan)
+        × (m ≡ line .m) ⌝ }
     requires { ⌜ (scratchLength ≤ length (now scratch)) × (4 * line .half ≤ length (now work)) ⌝ }
     ensures { λ r. ⌜ OwnTurn (rowTurn line) line r
         (now (volume .entry)) (now (volume .exit)) (now (scratch .entry)) (now (scratch .exit)) ⌝ }
@@ -182,7 +191,9 @@ fn gathered_alone<'a>(
     packed: &mut [u32],
     work: &mut [u32],
 ) -> bool
-    requires { ⌜ Spaced (length (now volume)) line × TablesFor line (now re) (now im) (now tan) × (m ≡ line .m) ⌝ }
+    requires { ⌜ Spaced (length (now volume)) line
+        × TablesFor line (now re) (now im) (now tan)
+        × (m ≡ line .m) ⌝ }
     requires { ⌜ (scratchLength ≤ length (now scratch))
         × (2 * line .count ≤ length (now packed)) × (4 * line .half ≤ length (now work)) ⌝ }
     ensures { λ r. ⌜ OwnTurn (gatheredTurn line) line r

@@ -20,7 +20,10 @@ pub fn turn_row<'a>(
     fold: &mut [u32],
     work: &mut [u32],
 )
-    requires { ⌜ SoundLine line × (line .kind ≡ 1) × TablesFor line (now re) (now im) (now tan) × (m ≡ line .m) ⌝ }
+    requires { ⌜ SoundLine line
+        × (line .kind ≡ 1)
+        × TablesFor line (now re) (now im) (now tan)
+        × (m ≡ line .m) ⌝ }
     requires { ⌜ (length (now row) ≡ 2 * (line .half + 1)) × Below (prime (line .m)) (now row) ⌝ }
     requires { ⌜ Room line (now fold) (now work) ⌝ }
     ensures { λ _. ⌜ now (row .exit) ≡ turnedRow (line .m) (line .half) (line .direction) (now (row .entry)) ⌝ }

@@ -63,7 +63,10 @@ fn run_call(
     least_at: &mut [u64],
     greatest_at: &mut [u64],
 )
-    requires { ⌜ (length (now least) ≤ 256) × (length (now greatest) ≤ 256) × (length (now «least_at») ≤ 256) × (length (now «greatest_at») ≤ 256) ⌝ }
+    requires { ⌜ (length (now least) ≤ 256)
+        × (length (now greatest) ≤ 256)
+        × (length (now «least_at») ≤ 256)
+        × (length (now «greatest_at») ≤ 256) ⌝ }
 {
     let answer = sliding_window::window_extremes(run, w, least, greatest, least_at, greatest_at);
     let left = [

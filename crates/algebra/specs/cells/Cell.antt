@@ -1,6 +1,7 @@
--- Cells of three even axes: indices going round, operations, groups, which factors and points a volume stores, the map as a triple sum and its inverse.
--- An axis is known by its half a: its length is 2 * a.
-use Rattle.algebra.specs.Prelude.{_≡_, Bool, true, false, _&&_, cond, eqb, ltb, ℕ, suc, _+_, _*_, _-_, _%_, _<_, List, [], _∷_, _++_, map, getD, _||_, not, leb, zero}
+-- Cells of three even axes: indices going round, operations, groups, which factors and points a volume stores, the map
+-- as a triple sum and its inverse. An axis is known by its half a: its length is 2 * a.
+use Rattle.algebra.specs.Prelude.{_≡_, Bool, true, false, _&&_, cond, eqb, ltb, ℕ, suc, _+_, _*_, _-_, _%_}
+use Rattle.algebra.specs.Prelude.{_<_, List, [], _∷_, _++_, map, getD, _||_, not, leb, zero}
 use Rattle.algebra.specs.ring.Ring.{Ops, pow, sum}
 use Rattle.algebra.specs.fourier.Axis.{Axis}
 use Rattle.algebra.specs.orbits.Orbit.{Acts}
@@ -46,7 +47,8 @@ abbrev pub friedel : Sym
 friedel = sym true true true true false false false
 
 abbrev pub _·_ : Sym → Sym → Sym
-_·_ (sym c f g h p q r) (sym c′ f′ g′ h′ p′ q′ r′) = sym (xor c c′) (xor f f′) (xor g g′) (xor h h′) (xor p p′) (xor q q′) (xor r r′)
+_·_ (sym c f g h p q r) (sym c′ f′ g′ h′ p′ q′ r′) =
+    sym (xor c c′) (xor f f′) (xor g g′) (xor h h′) (xor p p′) (xor q q′) (xor r r′)
 
 infixl 70 _·_
 -- the image of an index
@@ -55,7 +57,12 @@ imageOf a (sym c f g h p q r) j = (flip f (a .0) (j .0), flip g (a .1) (j .1), f
 
 -- the image of a point
 unfoldable pub pointImage : J → Sym → J → J
-pointImage a (sym c f g h p q r) x = (shifted p (a .0) (flip (xor c f) (a .0) (x .0)), shifted q (a .1) (flip (xor c g) (a .1) (x .1)), shifted r (a .2) (flip (xor c h) (a .2) (x .2)))
+pointImage a (sym c f g h p q r) x = (
+  shifted p (a .0) (flip (xor c f) (a .0) (x .0)),
+  shifted q (a .1) (flip (xor c g) (a .1) (x .1)),
+  shifted r (a .2)
+      (flip (xor c h) (a .2) (x .2)),
+)
 
 -- the groups, and the operations of each
 pub data Group : Type 0 where
@@ -66,7 +73,9 @@ ops P1 = one ∷ []
 ops P2₁ = one ∷ sym false true true false false false true ∷ []
 ops Pm = one ∷ sym false false false true false false false ∷ []
 ops Pa = one ∷ sym false false false true true false false ∷ []
-ops P2₁2₁2₁ = one ∷ sym false true true false true false true ∷ sym false true false true false true true ∷ sym false false true true true true false ∷ []
+ops P2₁2₁2₁ =
+    one ∷ sym false true true false true false true ∷ sym false true false true false true true ∷
+    sym false false true true true true false ∷ []
 
 -- each with and without Friedel
 abbrev pub twice : List Sym → List Sym
@@ -87,7 +96,8 @@ span Pm c = suc c
 span Pa c = suc c
 span P2₁2₁2₁ c = suc c
 
--- the stored planes of a map (the paper's held planes), the operation that leads to them (the first but the identity), and the one to read a point by
+-- the stored planes of a map (the paper's held planes), the operation that leads to them (the first but the identity),
+-- and the one to read a point by
 unfoldable pub planes : Group → ℕ → ℕ
 planes P1 c = 2 * c
 planes P2₁ c = c
@@ -117,11 +127,22 @@ module _ {R : Type 0} (𝓞 : Ops R) where
   infix 75 ⊖_
   -- the map: the triple sum over the axes X, Y, Z
   unfoldable pub mapOf : (X Y Z : Axis R) → Cell R → Cell R
-  mapOf X Y Z F x y z = sum 𝓞 (2 * X .half) (λ h. sum 𝓞 (2 * Y .half) (λ k. sum 𝓞 (2 * Z .half) (λ l. F h k l ⊗ pow 𝓞 (X .w) (h * x) ⊗ pow 𝓞 (Y .w) (k * y) ⊗ pow 𝓞 (Z .w) (l * z))))
+  mapOf X Y Z F x y z =
+      sum 𝓞 (2 * X .half)
+      (λ h. sum 𝓞 (2 * Y .half)
+      (λ k. sum 𝓞 (2 * Z .half)
+      (λ l. F h k l ⊗ pow 𝓞 (X .w) (h * x) ⊗ pow 𝓞 (Y .w) (k * y)
+      ⊗ pow 𝓞 (Z .w) (l * z))))
 
   -- and the factors of a map: its inverse
   unfoldable pub factorsOf : (conj : R → R) (X Y Z : Axis R) → Cell R → Cell R
-  factorsOf conj X Y Z M h k l = X .part ⊗ Y .part ⊗ Z .part ⊗ sum 𝓞 (2 * X .half) (λ x. sum 𝓞 (2 * Y .half) (λ y. sum 𝓞 (2 * Z .half) (λ z. M x y z ⊗ pow 𝓞 (conj (X .w)) (x * h) ⊗ pow 𝓞 (conj (Y .w)) (y * k) ⊗ pow 𝓞 (conj (Z .w)) (z * l))))
+  factorsOf conj X Y Z M h k l =
+      X .part ⊗ Y .part ⊗ Z .part
+      ⊗ sum 𝓞 (2 * X .half)
+      (λ x. sum 𝓞 (2 * Y .half)
+      (λ y. sum 𝓞 (2 * Z .half)
+      (λ z. M x y z ⊗ pow 𝓞 (conj (X .w)) (x * h) ⊗ pow 𝓞 (conj (Y .w)) (y * k)
+      ⊗ pow 𝓞 (conj (Z .w)) (z * l))))
 
   -- 1, or (-1)^h
   unfoldable pub sgn : Bool → ℕ → R
@@ -148,13 +169,15 @@ module _ {R : Type 0} (𝓞 : Ops R) (conj : R → R) where
   infixl 70 _⊗_
   -- the value at the image of j that v at j implies
   unfoldable pub impliedValue : Sym → J → R → R
-  impliedValue (sym c f g h p q r) j v = star conj c (sgn 𝓞 p (j .0) ⊗ (sgn 𝓞 q (j .1) ⊗ (sgn 𝓞 r (j .2) ⊗ v)))
+  impliedValue (sym c f g h p q r) j v =
+      star conj c (sgn 𝓞 p (j .0) ⊗ (sgn 𝓞 q (j .1) ⊗ (sgn 𝓞 r (j .2) ⊗ v)))
 
   -- the action on factors
   unfoldable pub factorActs : J → Acts Sym J R
   factorActs a = record { mul = _·_; one = one; same = sameJ; image = imageOf a; implied = impliedValue; zer = 𝟘 }
 
--- ---- Tests over places and operations: refusal 12 over any values with an equality test; the places of a cell in their order, and the records of its orbits.
+-- ---- Tests over places and operations: refusal 12 over any values with an equality test; the places of a cell in
+-- their order, and the records of its orbits.
 
 -- tests of tests: an implication; every number below n; every member of a list
 abbrev pub imply : Bool → Bool → Bool

@@ -62,7 +62,10 @@ module _ {K : Type 0} (𝓚 : Ops K) where
 
   -- B holds the packed factors of the cell F
   abbrev pub PackedIn : Group → J → Cell (K × K) → FactorVolume K → Type 0
-  PackedIn g a F B = (w h k : ℕ) → w < planes g (a .2) → h < 2 * a .0 → k ≤ a .1 → packFactors g a F w h k ≡ B w h k
+  PackedIn g a F B = (w h k : ℕ) →
+      w < planes g (a .2) →
+      h < 2 * a .0 → k ≤ a .1 →
+      packFactors g a F w h k ≡ B w h k
 
   -- a new pair at the place (w, h, k)
   unfoldable pub upd : FactorVolume K → (w h k : ℕ) → K × K → FactorVolume K

@@ -2,7 +2,8 @@
 use mathlib.Core.Bool.{true, false, cond}
 use Prim.Native.Nat.{_≤_, _<_}
 use lib.Dec.{leb, ltb}
-use Rattle.algebra.specs.cells.Cell.{J, Sym, Sym.sym, one, friedel, _·_, imageOf, Group, P1, P2₁, Pm, Pa, P2₁2₁2₁, span, planes}
+use Rattle.algebra.specs.cells.Cell.{J, Sym, Sym.sym, one, friedel, _·_, imageOf, Group, P1, P2₁, Pm, Pa}
+use Rattle.algebra.specs.cells.Cell.{P2₁2₁2₁, span, planes}
 
 -- the operation along l alone
 abbrev pub lineSym : Group → Sym
@@ -24,4 +25,5 @@ unfoldable pub lineOperation : Group → J → J → Sym
 lineOperation g a j = cond (ltb (j .2) (span g (a .2))) one (lineSym g)
 
 unfoldable pub factorOperation : Group → J → J → Sym
-factorOperation g a j = cond (leb (j .1) (a .1)) (lineOperation g a j) (lineOperation g a (imageOf a friedel j) · friedel)
+factorOperation g a j =
+    cond (leb (j .1) (a .1)) (lineOperation g a j) (lineOperation g a (imageOf a friedel j) · friedel)

@@ -4,7 +4,8 @@ use Prim.Native.Nat.{_*_}
 use Rattle.algebra.specs.ring.Ring.{Ops, sum, dft}
 use Rattle.algebra.specs.fourier.Axis.{Axis}
 use Rattle.algebra.specs.orbits.Orbit.{Mem, Acts}
-use Rattle.algebra.specs.cells.Cell.{J, Inside, Group, full, Cell, Sym, one, _·_, sameJ, at, imageOf, pointImage, impliedValue, impliedDensity}
+use Rattle.algebra.specs.cells.Cell.{J, Inside, Group, full, Cell, Sym, one, _·_, sameJ, at, imageOf}
+use Rattle.algebra.specs.cells.Cell.{pointImage, impliedValue, impliedDensity}
 
 -- half the lengths of three axes
 abbrev pub halves : {R : Type 0} → Axis R → Axis R → Axis R → J
@@ -49,4 +50,12 @@ module _ {R : Type 0} (𝓞 : Ops R) (conj : R → R) where
 
   -- the action on maps
   unfoldable pub mapActs : J → Acts Sym J R
-  mapActs a = record { mul = _·_; one = one; same = sameJ; image = pointImage a; implied = λ s j v. impliedDensity conj s v; zer = 𝟘 }
+  mapActs a =
+      record {
+        mul = _·_;
+        one = one;
+        same = sameJ;
+        image = pointImage a;
+        implied = λ s j v. impliedDensity conj s v;
+        zer = 𝟘;
+      }

@@ -33,4 +33,5 @@ module _ {R : Type 0} (𝓞 : Ops R) where
     pub root : Root (2 * axis .half) (axis .w) (conj (axis .w)) (axis .part)
     pub turn : pow 𝓞 (axis .w) (axis .half) ≡ ⊖ 𝟙
     pub halves : half ⊗ (𝟙 ⊕ 𝟙) ≡ 𝟙
-    pub tan : (s : ℕ) → 0 < s → s < axis .half → (𝟙 ⊕ ⊖ (i ⊗ tau s)) ⊗ (𝟙 ⊕ pow 𝓞 (axis .w) s) ≡ 𝟙 ⊕ 𝟙
+    pub tan : (s : ℕ) → 0 < s → s < axis .half →
+        (𝟙 ⊕ ⊖ (i ⊗ tau s)) ⊗ (𝟙 ⊕ pow 𝓞 (axis .w) s) ≡ 𝟙 ⊕ 𝟙

@@ -1,5 +1,6 @@
--- What the folds compute: the short line of A points from the packed half, and the packed half from the short transform.
--- No reader of the line's promise needs this page: the proofs say that each fold gives the sum over the whole line.
+-- What the folds compute: the short line of A points from the packed half, and the packed half from the short
+-- transform. No reader of the line's promise needs this page: the proofs say that each fold gives the sum over the
+-- whole line.
 use Prim.Native.Nat.{ℕ, zero, suc, _+_, _*_, _-_}
 use Rattle.algebra.specs.ring.Ring.{Ops, pow}
 use Rattle.algebra.specs.lines.Kinds.{re, im, three, interleave}
@@ -34,7 +35,8 @@ module _ {R : Type 0} (𝓞 : Ops R) where
   -- the places 0 .. A, from the short transform y and the sum o of the line's odd places
   unfoldable pub finish : (half : R) (A : ℕ) (th : ℕ → R) (σ : R) (y : ℕ → R) (o : R) → ℕ → R
   finish half A th σ y o zero = y 0
-  finish half A th σ y o (suc s) = three (suc s) A (mirrorValue half σ (th (suc s)) (y (suc s)) (y (A - suc s))) (y 0 ⊕ ⊖ (o ⊕ o)) 𝟘
+  finish half A th σ y o (suc s) =
+      three (suc s) A (mirrorValue half σ (th (suc s)) (y (suc s)) (y (A - suc s))) (y 0 ⊕ ⊖ (o ⊕ o)) 𝟘
 
   -- from two half tangents
   module _ (half : R) (A : ℕ) (tau : ℕ → R) where
@@ -72,13 +74,17 @@ module _ {R : Type 0} (𝓞 : Ops R) where
     -- kind 3, forward: m is the sum of the imaginary parts at the line's odd places
     unfoldable pub finish3 : (tau y : ℕ → R) (m : R) → ℕ → R
     finish3 tau y m zero = (ℜ (y 0) ⊕ m) ⊕ i ⊗ m
-    finish3 tau y m (suc s) = (ℜ (y (suc s)) ⊕ ℑ (y (suc s)) ⊗ cot half A tau (suc s)) ⊕ i ⊗ (ℑ (y (suc s)) ⊗ csc half A tau (suc s))
+    finish3 tau y m (suc s) =
+        (ℜ (y (suc s)) ⊕ ℑ (y (suc s)) ⊗ cot half A tau (suc s))
+        ⊕ i ⊗ (ℑ (y (suc s)) ⊗ csc half A tau (suc s))
 
-    -- kind 3, back: V(s) with V + conj V = 2 E(s) and V + e(-s/A) conj V = -2 e(-s/N) b(s), from q(s) = E(s) + i b(s); at s = 0 the two
-    -- rules disagree, and V(0) = E(0) keeps the first
+    -- kind 3, back: V(s) with V + conj V = 2 E(s) and V + e(-s/A) conj V = -2 e(-s/N) b(s), from q(s) = E(s) + i b(s);
+    -- at s = 0 the two rules disagree, and V(0) = E(0) keeps the first
     unfoldable pub alternatingSpectrum : (tau q : ℕ → R) → ℕ → R
     alternatingSpectrum tau q zero = ℜ (q 0)
-    alternatingSpectrum tau q (suc s) = ℜ (q (suc s)) ⊕ i ⊗ (ℜ (q (suc s)) ⊗ cot half A tau (suc s) ⊕ ℑ (q (suc s)) ⊗ csc half A tau (suc s))
+    alternatingSpectrum tau q (suc s) =
+        ℜ (q (suc s))
+        ⊕ i ⊗ (ℜ (q (suc s)) ⊗ cot half A tau (suc s) ⊕ ℑ (q (suc s)) ⊗ csc half A tau (suc s))
 
     -- what the second rule lacks at s = 0, the same at every odd place: 2 (E(0) + b(0))
     unfoldable pub twice-M : (ℕ → R) → R
@@ -86,4 +92,6 @@ module _ {R : Type 0} (𝓞 : Ops R) where
 
     -- the whole line from the short transform y of V, and m = twice-M
     unfoldable pub line3 : (part : R) (y : ℕ → R) (m : R) → ℕ → R
-    line3 part y m = interleave (λ t. part ⊗ (y t ⊕ conj (y (mate A t)))) (λ t. part ⊗ (i ⊗ (m ⊕ ⊖ (y t ⊕ conj (y (A - suc t))))))
+    line3 part y m =
+        interleave (λ t. part ⊗ (y t ⊕ conj (y (mate A t))))
+        (λ t. part ⊗ (i ⊗ (m ⊕ ⊖ (y t ⊕ conj (y (A - suc t))))))

@@ -1,7 +1,9 @@
--- The six kinds of line, as the paper's table has them: what a packed line holds before the transform and after it, and what the transform is.
+-- The six kinds of line, as the paper's table has them: what a packed line holds before the transform and after it, and
+-- what the transform is.
 --
--- A line X has N = 2 A values, indices modulo N. `unfoldBefore` and `unfoldAfter` are the whole line that a packed one stands for, `packBefore` and
--- `packAfter` the pairs that are packed of a whole line. The transform, `forward`, and its inverse are sums over the whole line: no fold stands here.
+-- A line X has N = 2 A values, indices modulo N. `unfoldBefore` and `unfoldAfter` are the whole line that a packed one
+-- stands for, `packBefore` and `packAfter` the pairs that are packed of a whole line. The transform, `forward`, and its
+-- inverse are sums over the whole line: no fold stands here.
 use Rattle.algebra.specs.Prelude.{_≡_, ℕ, zero, suc, _*_, _-_, _/_, _%_, _<_, _+_}
 use Prim.Native.Nat.{compare, Ordering·lt, Ordering·eq, Ordering·gt}
 use Rattle.algebra.specs.ring.Ring.{Ops, pow, dft}
@@ -82,19 +84,21 @@ module _ {R : Type 0} (𝓞 : Ops R) (conj : R → R) (i half : R) (A : ℕ) whe
   abbrev ℑ : R → R
   ℑ z = im 𝓞 conj i half z
 
-  -- The whole line from what is packed before the transform: pair t is X(t) for 0 < t < A, the rule of the kind gives X(-t).
-  -- Hermitian: pair 0 holds X(0) and X(A), both real; antihermitian: their imaginary parts. Alternating: X(0), real, and the part of X(A) that can differ from 0,
-  -- the real one for even A, the imaginary one for odd A. Symmetric: the pairs 0 .. A are X(0) .. X(A); antisymmetric: X(0) and X(A) are zero, pair 0 is X(1).
+  -- The whole line from what is packed before the transform: pair t is X(t) for 0 < t < A, the rule of the kind gives
+  -- X(-t). Hermitian: pair 0 holds X(0) and X(A), both real; antihermitian: their imaginary parts. Alternating: X(0),
+  -- real, and the part of X(A) that can differ from 0, the real one for even A, the imaginary one for odd A. Symmetric:
+  -- the pairs 0 .. A are X(0) .. X(A); antisymmetric: X(0) and X(A) are zero, pair 0 is X(1).
   unfoldable pub unfoldBefore : Kind → (ℕ → R) → ℕ → R
   unfoldBefore plain p = p
   unfoldBefore hermitian p = unfold-by A (ℜ (p 0)) (ℑ (p 0)) (λ t x. conj x) p
   unfoldBefore antihermitian p = unfold-by A (i ⊗ ℜ (p 0)) (i ⊗ ℑ (p 0)) (λ t x. ⊖ conj x) p
-  unfoldBefore alternating p = unfold-by A (ℜ (p 0)) (unit 𝓞 conj i half A A ⊗ ℑ (p 0)) (λ t x. sign 𝓞 t ⊗ conj x) p
+  unfoldBefore alternating p =
+      unfold-by A (ℜ (p 0)) (unit 𝓞 conj i half A A ⊗ ℑ (p 0)) (λ t x. sign 𝓞 t ⊗ conj x) p
   unfoldBefore symmetric p = unfold-by A (p 0) (p A) (λ t x. x) p
   unfoldBefore antisymmetric p = unfold-by A 𝟘 𝟘 (λ t x. ⊖ x) (λ t. p (t - 1))
 
-  -- The whole line from what is packed after it. Hermitian: N real parts, two in a pair; antihermitian: N imaginary parts. Alternating: X^(0) .. X^(A - 1), the
-  -- other half is their conjugates.
+  -- The whole line from what is packed after it. Hermitian: N real parts, two in a pair; antihermitian: N imaginary
+  -- parts. Alternating: X^(0) .. X^(A - 1), the other half is their conjugates.
   unfoldable pub unfoldAfter : Kind → (ℕ → R) → ℕ → R
   unfoldAfter plain q = q
   unfoldAfter hermitian q = interleave (λ s. ℜ (q s)) (λ s. ℑ (q s))
@@ -137,7 +141,8 @@ module _ {R : Type 0} (𝓞 : Ops R) (conj : R → R) (i half : R) (A : ℕ) whe
   RuleAfter symmetric Z = RuleBefore symmetric Z
   RuleAfter antisymmetric Z = RuleBefore antisymmetric Z
 
-  -- Direction 0: pack the sums X^(s) of X(t) e(ts/N) over all t, w = e(1/N). Direction 1: the same with e(-ts/N), times part = 1/N.
+  -- Direction 0: pack the sums X^(s) of X(t) e(ts/N) over all t, w = e(1/N). Direction 1: the same with e(-ts/N), times
+  -- part = 1/N.
   abbrev pub forward : (w : R) → Kind → (ℕ → R) → ℕ → R
   forward w k p = packAfter k (λ s. dft 𝓞 (2 * A) w (unfoldBefore k p) s)
 

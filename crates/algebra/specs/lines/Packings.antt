@@ -1,7 +1,8 @@
 -- The rules and the packings of the kinds that are folded, by name: what Kinds says of each.
 use Rattle.algebra.specs.Prelude.{ℕ, _+_, _*_, _-_}
 use Rattle.algebra.specs.ring.Ring.{Ops}
-use Rattle.algebra.specs.lines.Kinds.{three, Reflected as reflected, sign, re, im, unfold-by, pack-by, interleave, unit as unit-of}
+use Rattle.algebra.specs.lines.Kinds.{three, Reflected as reflected, sign, re, im, unfold-by, pack-by}
+use Rattle.algebra.specs.lines.Kinds.{interleave, unit as unit-of}
 
 module _ {R : Type 0} (𝓞 : Ops R) where
   open Ops 𝓞 using (mul as _⊗_, neg as ⊖_)
@@ -48,8 +49,8 @@ module _ {R : Type 0} (𝓞 : Ops R) (conj : R → R) (i half : R) (A : ℕ) whe
   abbrev pub unfoldB2 : (ℕ → R) → ℕ → R
   unfoldB2 p = unfold-by A (i ⊗ ℜ (p 0)) (i ⊗ ℑ (p 0)) (λ t x. ⊖ conj x) p
 
-  -- Kind 3: pair 0 holds X(0), real, and the part of X(A) that can differ from 0: the real one for even A, the imaginary one for odd A;
-  -- X(-t) = (-1)^t conj X(t).
+  -- Kind 3: pair 0 holds X(0), real, and the part of X(A) that can differ from 0: the real one for even A, the
+  -- imaginary one for odd A; X(-t) = (-1)^t conj X(t).
   abbrev pub unfoldB3 : (ℕ → R) → ℕ → R
   unfoldB3 p = unfold-by A (ℜ (p 0)) (unit A ⊗ ℑ (p 0)) (λ t x. sign 𝓞 t ⊗ conj x) p
 
@@ -61,7 +62,8 @@ module _ {R : Type 0} (𝓞 : Ops R) (conj : R → R) (i half : R) (A : ℕ) whe
   abbrev pub unfold5 : (ℕ → R) → ℕ → R
   unfold5 p = unfold-by A 𝟘 𝟘 (λ t x. ⊖ x) p
 
-  -- The whole line from what is packed after the transform (A). Kind 1: N real parts, two in a pair. Kind 2: N imaginary parts.
+  -- The whole line from what is packed after the transform (A). Kind 1: N real parts, two in a pair. Kind 2: N
+  -- imaginary parts.
   abbrev pub unfoldA1 : (ℕ → R) → ℕ → R
   unfoldA1 q = interleave (λ s. ℜ (q s)) (λ s. ℑ (q s))
 

@@ -1,4 +1,5 @@
--- Operations that act on places and on values, whatever the places, and records: a value at a place and the implied value at each image.
+-- Operations that act on places and on values, whatever the places, and records: a value at a place and the implied
+-- value at each image.
 use Rattle.algebra.specs.Prelude.{Bool, cond, List, [], _∷_}
 
 -- the members of a list

@@ -1,4 +1,5 @@
--- What is said of operations and records: the laws of an action, cells that obey, records that are accepted, what is read off the stored places.
+-- What is said of operations and records: the laws of an action, cells that obey, records that are accepted, what is
+-- read off the stored places.
 use mathlib.Core.Path.{_≡_}
 use mathlib.Core.Bool.{Bool, cond}
 use mathlib.Core.List.{List, [], _∷_}
@@ -49,7 +50,12 @@ module _ {S J R : Type 0} (𝓐 : Acts S J R) where
 
   -- refusal 14 is not this: every stored image has the implied value
   abbrev pub Consistent : (In St : J → Type 0) → List S → (J → R) → Type 0
-  Consistent In St G b = (s : S) → Mem s G → (j : J) → In j → St j → St (image s j) → b (image s j) ≡ implied s j (b j)
+  Consistent In St G b = (s : S) →
+      Mem s G →
+      (j : J) →
+      In j → St j →
+      St (image s j) →
+      b (image s j) ≡ implied s j (b j)
 
   -- no image of i is j
   abbrev pub Off : List S → J → J → Type 0

@@ -1,4 +1,5 @@
--- Rings: the operations over a carrier, powers and finite sums; residues, pairs of them with an i; the transform. The laws are in RingLaws.
+-- Rings: the operations over a carrier, powers and finite sums; residues, pairs of them with an i; the transform. The
+-- laws are in RingLaws.
 use Rattle.algebra.specs.Prelude.{ℕ, zero, suc, _≡_, _+_, _*_, _-_, _%_}
 use native.Mathlib.Nat.{mod-mod}
 

@@ -33,8 +33,11 @@ fn put_list(factors: u32, out: &mut [u8], at: usize) -> usize
 
 // The version, which the modulus settles, the group, and the second modulus.
 fn put_numbers(modulus: u32, group: u32, out: &mut [u8], at: usize) -> usize
-    requires { ⌜ (modulus < 256) × (group < 256) × Ends at (versionOf modulus ∷ group ∷ modulusBytes (versionOf modulus) modulus) ⌝ }
-    ensures { λ r. ⌜ Wrote at (versionOf modulus ∷ group ∷ modulusBytes (versionOf modulus) modulus) (now (out .entry)) r (now (out .exit)) ⌝ }
+    requires { ⌜ (modulus < 256)
+        × (group < 256)
+        × Ends at (versionOf modulus ∷ group ∷ modulusBytes (versionOf modulus) modulus) ⌝ }
+    ensures { λ r. ⌜ Wrote at (versionOf modulus ∷ group ∷ modulusBytes (versionOf modulus) modulus)
+        (now (out .entry)) r (now (out .exit)) ⌝ }
 {
     if modulus == 1 {
         let next = output::put_byte(out, at, 1);
@@ -54,9 +57,14 @@ pub fn put_header(
     out: &mut [u8],
     at: usize,
 ) -> usize
-    requires { ⌜ (modulus < 256) × (cell .group < 256) × (cell .n1 < 65536) × (cell .n2 < 65536) × (cell .n3 < 65536) ⌝ }
+    requires { ⌜ (modulus < 256)
+        × (cell .group < 256)
+        × (cell .n1 < 65536)
+        × (cell .n2 < 65536)
+        × (cell .n3 < 65536) ⌝ }
     requires { ⌜ Ends at (headerBytes (versionOf modulus) modulus (headerFor cell f1 f2 f3)) ⌝ }
-    ensures { λ r. ⌜ Wrote at (headerBytes (versionOf modulus) modulus (headerFor cell f1 f2 f3)) (now (out .entry)) r (now (out .exit)) ⌝ }
+    ensures { λ r. ⌜ Wrote at (headerBytes (versionOf modulus) modulus (headerFor cell f1 f2 f3))
+        (now (out .entry)) r (now (out .exit)) ⌝ }
 {
     let first_axis = put_numbers(modulus, cell.group, out, at);
     let second_axis = big_endian::put_two(out, first_axis, cell.n1);

@@ -40,7 +40,8 @@ fn put_place(
 ) -> usize
     requires { ⌜ IsFactors modulus cell (now volume) × Within cell j ⌝ }
     requires { ⌜ Ends at (allBytes (placeRecords cell modulus (now volume) (tripleOf j))) ⌝ }
-    ensures { λ r. ⌜ Wrote at (allBytes (placeRecords cell modulus (now (volume .entry)) (tripleOf j))) (now (out .entry)) r (now (out .exit)) ⌝ }
+    ensures { λ r. ⌜ Wrote at (allBytes (placeRecords cell modulus (now (volume .entry)) (tripleOf j)))
+        (now (out .entry)) r (now (out .exit)) ⌝ }
 {
     if crate::orbits::lowest(cell, j) {
         let x = volume::read::walked_factor(modulus, cell, j, volume);
@@ -91,7 +92,8 @@ pub fn put_records(
 ) -> usize
     requires { ⌜ IsFactors modulus cell (now volume) ⌝ }
     requires { ⌜ Ends start (allBytes (recordsWith cell modulus (now volume))) ⌝ }
-    ensures { λ r. ⌜ Wrote start (allBytes (recordsWith cell modulus (now (volume .entry)))) (now (out .entry)) r (now (out .exit)) ⌝ }
+    ensures { λ r. ⌜ Wrote start (allBytes (recordsWith cell modulus (now (volume .entry)))) (now (out .entry)) r
+        (now (out .exit)) ⌝ }
 {
     let mut at = start;
     let mut j = Index { h: 0, k: 0, l: 0 };

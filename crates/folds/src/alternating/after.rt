@@ -22,7 +22,8 @@ pub fn finish(m: u32, tan: &[u32; 1440], a: usize, odd: u32, fold: &[u32], line:
     requires { ⌜ (length (now fold) ≡ 2 * a) × Below (prime m) (now fold) ⌝ }
     requires { ⌜ length (now line) ≡ 2 * a ⌝ }
     ensures { λ _. ⌜ now (line .exit) ≡ listOf a
-        (onValues m finish3 a (tangent m a (now (tan .entry))) (valuesOf m (now (fold .entry))) (real m (res m odd))) ⌝ }
+        (onValues m finish3 a (tangent m a (now (tan .entry)))
+        (valuesOf m (now (fold .entry))) (real m (res m odd))) ⌝ }
 {
     let step = 1440 / a;
     let mut s = 0;
@@ -42,7 +43,8 @@ pub fn inverse_short_line(m: u32, tan: &[u32; 1440], a: usize, line: &[u32], fol
     requires { ⌜ (length (now line) ≡ 2 * a) × Below (prime m) (now line) ⌝ }
     requires { ⌜ length (now fold) ≡ 2 * a ⌝ }
     ensures { λ _. ⌜ now (fold .exit) ≡ listOf a
-        (onValues m alternatingSpectrum a (λ s. field m .neg (tangent m a (now (tan .entry)) s)) (valuesOf m (now (line .entry)))) ⌝ }
+        (onValues m alternatingSpectrum a (λ s. field m .neg (tangent m a (now (tan .entry)) s))
+        (valuesOf m (now (line .entry)))) ⌝ }
 {
     let step = 1440 / a;
     let mut s = 0;
@@ -57,7 +59,8 @@ pub fn inverse_short_line(m: u32, tan: &[u32; 1440], a: usize, line: &[u32], fol
 pub fn twice_sum(m: u32, line: &[u32]) -> u32
     requires { ⌜ IsModulus m ⌝ }
     requires { ⌜ (1 < length (now line)) × Below (prime m) (now line) ⌝ }
-    ensures { λ r. ⌜ (r < prime m) × ((A : ℕ) → real m (res m r) ≡ onValues m twice-M A (valuesOf m (now (line .entry)))) ⌝ }
+    ensures { λ r. ⌜ (r < prime m)
+        × ((A : ℕ) → real m (res m r) ≡ onValues m twice-M A (valuesOf m (now (line .entry)))) ⌝ }
 {
     let z = slices::get(line, 0);
     let s = numbers::add(m, z.re, z.im);
@@ -70,7 +73,8 @@ pub fn pack(m: u32, part: u32, twice: u32, a: usize, fold: &[u32], line: &mut [u
     requires { ⌜ (length (now fold) ≡ 2 * a) × Below (prime m) (now fold) ⌝ }
     requires { ⌜ length (now line) ≡ 2 * a ⌝ }
     ensures { λ _. ⌜ now (line .exit) ≡ listOf a
-        (onValues m packB3 a (onValues m line3 a (real m (res m part)) (valuesOf m (now (fold .entry))) (real m (res m twice)))) ⌝ }
+        (onValues m packB3 a
+        (onValues m line3 a (real m (res m part)) (valuesOf m (now (fold .entry))) (real m (res m twice)))) ⌝ }
 {
     let mut t = 0;
     while t < a {
@@ -93,7 +97,10 @@ fn finish_at(
     requires { ⌜ IsModulus m × Tangents m (now tan) × (odd < prime m) ⌝ }
     requires { ⌜ (step ≡ stride a) × (a * step ≡ 1440) × (s < a) ⌝ }
     requires { ⌜ (length (now fold) ≡ 2 * a) × Below (prime m) (now fold) ⌝ }
-    ensures { λ r. ⌜ r ≡ pairOf (onValues m finish3 a (tangent m a (now (tan .entry))) (valuesOf m (now (fold .entry))) (real m (res m odd)) s) ⌝ }
+    ensures { λ r. ⌜ r
+        ≡ pairOf
+        (onValues m finish3 a (tangent m a (now (tan .entry))) (valuesOf m (now (fold .entry)))
+        (real m (res m odd)) s) ⌝ }
 {
     let v = slices::get(fold, s);
     if s == 0 {
@@ -124,7 +131,10 @@ fn inverse_short_at(
     requires { ⌜ IsModulus m × Tangents m (now tan) ⌝ }
     requires { ⌜ (step ≡ stride a) × (a * step ≡ 1440) × (s < a) ⌝ }
     requires { ⌜ (length (now line) ≡ 2 * a) × Below (prime m) (now line) ⌝ }
-    ensures { λ r. ⌜ r ≡ pairOf (onValues m alternatingSpectrum a (λ s. field m .neg (tangent m a (now (tan .entry)) s)) (valuesOf m (now (line .entry))) s) ⌝ }
+    ensures { λ r. ⌜ r
+        ≡ pairOf
+        (onValues m alternatingSpectrum a (λ s. field m .neg (tangent m a (now (tan .entry)) s))
+        (valuesOf m (now (line .entry))) s) ⌝ }
 {
     let z = slices::get(line, s);
     if s == 0 {
@@ -145,7 +155,8 @@ fn inverse_short_at(
 fn angle(m: u32, tan: &[u32; 1440], step: usize, a: usize, s: usize) -> Pair
     requires { ⌜ IsModulus m × Tangents m (now tan) ⌝ }
     requires { ⌜ (step ≡ stride a) × (a * step ≡ 1440) × (0 < s) × (s < a) ⌝ }
-    ensures { λ r. ⌜ Small (prime m) r × (real m (res m (r .re)) ≡ cot (field m) (real m (half m)) a (tangent m a (now (tan .entry))) s)
+    ensures { λ r. ⌜ Small (prime m) r
+        × (real m (res m (r .re)) ≡ cot (field m) (real m (half m)) a (tangent m a (now (tan .entry))) s)
         × (real m (res m (r .im)) ≡ csc (field m) (real m (half m)) a (tangent m a (now (tan .entry))) s) ⌝ }
 {
     let near = tan[step * s];
@@ -160,7 +171,10 @@ fn angle(m: u32, tan: &[u32; 1440], step: usize, a: usize, s: usize) -> Pair
 fn pack_at(m: u32, part: u32, twice: u32, a: usize, fold: &[u32], t: usize) -> Pair
     requires { ⌜ IsModulus m × (part < prime m) × (twice < prime m) × (t < a) ⌝ }
     requires { ⌜ (length (now fold) ≡ 2 * a) × Below (prime m) (now fold) ⌝ }
-    ensures { λ r. ⌜ r ≡ pairOf (onValues m packB3 a (onValues m line3 a (real m (res m part)) (valuesOf m (now (fold .entry))) (real m (res m twice))) t) ⌝ }
+    ensures { λ r. ⌜ r
+        ≡ pairOf
+        (onValues m packB3 a
+        (onValues m line3 a (real m (res m part)) (valuesOf m (now (fold .entry))) (real m (res m twice))) t) ⌝ }
 {
     let x = line_at(m, part, twice, a, fold, t);
     if t == 0 {
@@ -181,7 +195,9 @@ fn pack_at(m: u32, part: u32, twice: u32, a: usize, fold: &[u32], t: usize) -> P
 fn line_at(m: u32, part: u32, twice: u32, a: usize, fold: &[u32], j: usize) -> Pair
     requires { ⌜ IsModulus m × (part < prime m) × (twice < prime m) × (j < 2 * a) ⌝ }
     requires { ⌜ (length (now fold) ≡ 2 * a) × Below (prime m) (now fold) ⌝ }
-    ensures { λ r. ⌜ r ≡ pairOf (onValues m line3 a (real m (res m part)) (valuesOf m (now (fold .entry))) (real m (res m twice)) j) ⌝ }
+    ensures { λ r. ⌜ r
+        ≡ pairOf
+        (onValues m line3 a (real m (res m part)) (valuesOf m (now (fold .entry))) (real m (res m twice)) j) ⌝ }
 {
     let y = slices::get(fold, j / 2);
     let c = numbers::conjugate(m, slices::get(fold, mate_of(a, (j + 1) / 2)));

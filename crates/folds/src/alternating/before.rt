@@ -19,7 +19,8 @@ pub fn short_line(m: u32, a: usize, line: &[u32], fold: &mut [u32])
     requires { ⌜ IsModulus m ⌝ }
     requires { ⌜ (length (now line) ≡ 2 * a) × Below (prime m) (now line) ⌝ }
     requires { ⌜ length (now fold) ≡ 2 * a ⌝ }
-    ensures { λ _. ⌜ now (fold .exit) ≡ listOf a (alternatingPoint (field m) (i m) (onValues m unfoldB3 a (valuesOf m (now (line .entry))))) ⌝ }
+    ensures { λ _. ⌜ now (fold .exit)
+        ≡ listOf a (alternatingPoint (field m) (i m) (onValues m unfoldB3 a (valuesOf m (now (line .entry))))) ⌝ }
 {
     let mut t = 0;
     while t < a {
@@ -35,7 +36,8 @@ pub fn odd_imaginary_sum(m: u32, a: usize, line: &[u32]) -> u32
     requires { ⌜ IsModulus m × (a ≤ 1440) ⌝ }
     requires { ⌜ (length (now line) ≡ 2 * a) × Below (prime m) (now line) ⌝ }
     ensures { λ r. ⌜ (r < prime m) × (real m (res m r)
-        ≡ sum (field m) a (λ t. onValues m im (onValues m unfoldB3 a (valuesOf m (now (line .entry))) (2 * t + 1)))) ⌝ }
+        ≡ sum (field m) a
+        (λ t. onValues m im (onValues m unfoldB3 a (valuesOf m (now (line .entry))) (2 * t + 1)))) ⌝ }
 {
     let mut s: u64 = 0;
     let mut t = 0;
@@ -51,7 +53,8 @@ pub fn odd_imaginary_sum(m: u32, a: usize, line: &[u32]) -> u32
 fn short_at(m: u32, a: usize, line: &[u32], t: usize) -> Pair
     requires { ⌜ IsModulus m × (t < a) ⌝ }
     requires { ⌜ (length (now line) ≡ 2 * a) × Below (prime m) (now line) ⌝ }
-    ensures { λ r. ⌜ r ≡ pairOf (alternatingPoint (field m) (i m) (onValues m unfoldB3 a (valuesOf m (now (line .entry)))) t) ⌝ }
+    ensures { λ r. ⌜ r
+        ≡ pairOf (alternatingPoint (field m) (i m) (onValues m unfoldB3 a (valuesOf m (now (line .entry)))) t) ⌝ }
 {
     let even = value_at(m, a, line, 2 * t);
     let odd = value_at(m, a, line, 2 * t + 1);

@@ -25,7 +25,8 @@ pub fn unfold<'a>(
     requires { ⌜ (length (now fold) ≡ 2 * a) × (length (now out) ≡ 2 * a) ⌝ }
     requires { ⌜ Below (prime m) (now fold) ⌝ }
     ensures { λ _. ⌜ now (out .exit) ≡ listOf a
-        (fromHermitian m anti (onValues m back1 a (real m (res m c)) (conj m (lineRoot m a (now (re .entry)) (now (im .entry))))
+        (fromHermitian m anti
+        (onValues m back1 a (real m (res m c)) (conj m (lineRoot m a (now (re .entry)) (now (im .entry))))
         (valuesOf m (now (fold .entry))))) ⌝ }
 {
     let step = 1440 / a;
@@ -52,7 +53,8 @@ fn unfold_at<'a>(
     requires { ⌜ length (now fold) ≡ 2 * a ⌝ }
     requires { ⌜ Below (prime m) (now fold) ⌝ }
     ensures { λ r. ⌜ r ≡ pairOf (fromHermitian m anti
-        (onValues m back1 a (real m (res m c)) (conj m (lineRoot m a (now (re .entry)) (now (im .entry)))) (valuesOf m (now (fold .entry)))) t) ⌝ }
+        (onValues m back1 a (real m (res m c)) (conj m (lineRoot m a (now (re .entry)) (now (im .entry))))
+        (valuesOf m (now (fold .entry)))) t) ⌝ }
 {
     let x = slices::get(fold, t);
     if t == 0 {

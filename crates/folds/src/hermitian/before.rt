@@ -27,7 +27,8 @@ pub fn short_line<'a>(
     requires { ⌜ (length (now line) ≡ 2 * a) × (length (now out) ≡ 2 * a) ⌝ }
     requires { ⌜ Below (prime m) (now line) ⌝ }
     ensures { λ _. ⌜ now (out .exit) ≡ listOf a
-        (onValues m fold1 a (lineRoot m a (now (re .entry)) (now (im .entry))) (toHermitian m anti (valuesOf m (now (line .entry))))) ⌝ }
+        (onValues m fold1 a (lineRoot m a (now (re .entry)) (now (im .entry)))
+        (toHermitian m anti (valuesOf m (now (line .entry))))) ⌝ }
 {
     let step = 1440 / a;
     let mut t = 0;

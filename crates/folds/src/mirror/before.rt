@@ -21,7 +21,8 @@ pub fn short_line(m: u32, first: usize, a: usize, line: &[u32], fold: &mut [u32]
     requires { ⌜ IsModulus m × (first ≤ 1) ⌝ }
     requires { ⌜ (length (now line) ≡ 2 * storedCount a first) × (length (now fold) ≡ 2 * a) ⌝ }
     requires { ⌜ Below (prime m) (now line) ⌝ }
-    ensures { λ _. ⌜ now (fold .exit) ≡ listOf a (mirrorPoint (field m) (wholeLine m a first (now (line .entry)))) ⌝ }
+    ensures { λ _. ⌜ now (fold .exit)
+        ≡ listOf a (mirrorPoint (field m) (wholeLine m a first (now (line .entry)))) ⌝ }
 {
     let mut t = 0;
     while t < a {
@@ -103,7 +104,9 @@ fn antisymmetric_at(m: u32, a: usize, line: &[u32], j: usize) -> Pair
 fn plus(s: Accumulator, x: Pair) -> Accumulator
     requires { ⌜ (x .re ≤ 302399) × (x .im ≤ 302399) ⌝ }
     requires { ⌜ (s .re ≤ 1000000000000000000) × (s .im ≤ 1000000000000000000) ⌝ }
-    ensures { λ r. ⌜ ((m n : ℕ) (z : Value m) → Accumulated m n s z → Accumulated m (n + 1) r (field m .add z (valueOf m x))) ⌝ }
+    ensures { λ r. ⌜ ((m n : ℕ) (z : Value m) →
+        Accumulated m n s z →
+        Accumulated m (n + 1) r (field m .add z (valueOf m x))) ⌝ }
 {
     Accumulator {
         re: s.re + x.re as u64,

@@ -22,7 +22,9 @@ pub fn check_analysis(
     scratch: usize,
 ) -> Checked
     requires { ⌜ (valid ≡ true → Sizes cell × IsModulus modulus) ⌝ }
-    ensures { λ r. ⌜ checkedNumber r ≡ first (analysisTestsOf valid state modulus (cell .group) (cellLengths cell) (now (volume .entry)) scratch) ⌝ }
+    ensures { λ r. ⌜ checkedNumber r
+        ≡ first
+        (analysisTestsOf valid state modulus (cell .group) (cellLengths cell) (now (volume .entry)) scratch) ⌝ }
 {
     if !valid {
         return Checked::Failed(Refusal::ImpossibleJob);

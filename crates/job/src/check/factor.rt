@@ -22,7 +22,9 @@ pub fn check_factor(
     volume: &[u32],
 ) -> Checked
     requires { ⌜ (valid ≡ true → Sizes cell × IsModulus modulus) ⌝ }
-    ensures { λ r. ⌜ checkedNumber r ≡ first (factorTestsOf valid state modulus (cell .group) (cellLengths cell) (tripleOf at) (now (volume .entry))) ⌝ }
+    ensures { λ r. ⌜ checkedNumber r
+        ≡ first
+        (factorTestsOf valid state modulus (cell .group) (cellLengths cell) (tripleOf at) (now (volume .entry))) ⌝ }
 {
     if !valid {
         return Checked::Failed(Refusal::ImpossibleJob);

@@ -15,7 +15,8 @@ ghost use Rattle.job.specs.Job.{mapTests};
 // 7, 14: a volume of the right length is a map.
 pub fn check_map(modulus: u32, cell: UnitCell, volume: &[u32]) -> Checked
     requires { ⌜ IsVolume cell (now volume) × IsModulus modulus ⌝ }
-    ensures { λ r. ⌜ checkedNumber r ≡ first (mapTests modulus (cell .group) (cellLengths cell) (now (volume .entry))) ⌝ }
+    ensures { λ r. ⌜ checkedNumber r
+        ≡ first (mapTests modulus (cell .group) (cellLengths cell) (now (volume .entry))) ⌝ }
 {
     if !tests::all_residues(modulus, volume) {
         return Checked::Failed(Refusal::NotResidue);

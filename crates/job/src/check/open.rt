@@ -16,7 +16,8 @@ ghost use Rattle.job.specs.Job.{volumeTests, openTests};
 // 6, and for a map 7, 14.
 fn check_volume(modulus: u32, cell: UnitCell, kind: u32, volume: &[u32]) -> Checked
     requires { ⌜ Sizes cell × IsModulus modulus ⌝ }
-    ensures { λ r. ⌜ checkedNumber r ≡ first (volumeTests modulus (cell .group) (cellLengths cell) kind (now (volume .entry))) ⌝ }
+    ensures { λ r. ⌜ checkedNumber r
+        ≡ first (volumeTests modulus (cell .group) (cellLengths cell) kind (now (volume .entry))) ⌝ }
 {
     if !tests::fits(cell, volume) {
         return Checked::Failed(Refusal::BufferLength);
@@ -37,7 +38,10 @@ pub fn check_open(
     f3: &[u8],
     volume: &[u32],
 ) -> Checked
-    ensures { λ r. ⌜ checkedNumber r ≡ first (openTests modulus (cellHeader cell (now (f1 .entry)) (now (f2 .entry)) (now (f3 .entry))) kind (now (volume .entry))) ⌝ }
+    ensures { λ r. ⌜ checkedNumber r
+        ≡ first
+        (openTests modulus (cellHeader cell (now (f1 .entry)) (now (f2 .entry)) (now (f3 .entry))) kind
+        (now (volume .entry))) ⌝ }
 {
     if 5 <= cell.group {
         return Checked::Failed(Refusal::Group);

@@ -25,7 +25,8 @@ ghost use Rattle.job.specs.TestSteps.{agreesUnder};
 // 6, 24: what the volume holds of the orbit of an index inside the cell.
 pub fn check_orbit(cell: UnitCell, at: Index, volume: &[u32]) -> Checked
     requires { ⌜ Sizes cell × Within cell at ⌝ }
-    ensures { λ r. ⌜ checkedNumber r ≡ first (orbitTests (cell .group) (cellLengths cell) (tripleOf at) (now (volume .entry))) ⌝ }
+    ensures { λ r. ⌜ checkedNumber r
+        ≡ first (orbitTests (cell .group) (cellLengths cell) (tripleOf at) (now (volume .entry))) ⌝ }
 {
     if !tests::fits(cell, volume) {
         return Checked::Failed(Refusal::BufferLength);

@@ -23,7 +23,9 @@ pub fn check_point(
     volume: &[u32],
 ) -> Checked
     requires { ⌜ (valid ≡ true → Sizes cell × IsModulus modulus) ⌝ }
-    ensures { λ r. ⌜ checkedNumber r ≡ first (pointTestsOf valid state modulus (cell .group) (cellLengths cell) (pointOf at) (now (volume .entry))) ⌝ }
+    ensures { λ r. ⌜ checkedNumber r
+        ≡ first
+        (pointTestsOf valid state modulus (cell .group) (cellLengths cell) (pointOf at) (now (volume .entry))) ⌝ }
 {
     if !valid {
         return Checked::Failed(Refusal::ImpossibleJob);

@@ -29,7 +29,8 @@ fn residues(modulus: u32, a: u32, b: u32) -> bool
 // 10, 7, 12: what the record's own numbers settle.
 pub fn check_own(modulus: u32, cell: UnitCell, at: Index, x: Pair) -> Checked
     requires { ⌜ Sizes cell × IsModulus modulus ⌝ }
-    ensures { λ r. ⌜ checkedNumber r ≡ first (ownTests modulus (cell .group) (cellLengths cell) (tripleOf at) (x .re) (x .im)) ⌝ }
+    ensures { λ r. ⌜ checkedNumber r
+        ≡ first (ownTests modulus (cell .group) (cellLengths cell) (tripleOf at) (x .re) (x .im)) ⌝ }
 {
     if !tests::inside(cell, at.h, at.k, at.l) {
         return Checked::Failed(Refusal::Index);
@@ -55,7 +56,9 @@ pub fn check_record(
 ) -> Checked
     requires { ⌜ (valid ≡ true → Sizes cell × IsModulus modulus) ⌝ }
     ensures { λ r. ⌜ checkedNumber r
-        ≡ first (recordTestsOf valid state modulus (cell .group) (cellLengths cell) (tripleOf at) (x .re) (x .im) (now (volume .entry))) ⌝ }
+        ≡ first
+        (recordTestsOf valid state modulus (cell .group) (cellLengths cell) (tripleOf at) (x .re) (x .im)
+        (now (volume .entry))) ⌝ }
 {
     if !valid {
         return Checked::Failed(Refusal::ImpossibleJob);

@@ -16,7 +16,8 @@ ghost use Rattle.job.specs.Job.{factorsTests, synthesisTestsOf};
 // 7, 14: a volume of the right length is held as factors.
 fn check_factors(modulus: u32, cell: UnitCell, volume: &[u32]) -> Checked
     requires { ⌜ IsVolume cell (now volume) × IsModulus modulus ⌝ }
-    ensures { λ r. ⌜ checkedNumber r ≡ first (factorsTests modulus (cell .group) (cellLengths cell) (now (volume .entry))) ⌝ }
+    ensures { λ r. ⌜ checkedNumber r
+        ≡ first (factorsTests modulus (cell .group) (cellLengths cell) (now (volume .entry))) ⌝ }
 {
     if !tests::all_residues(modulus, volume) {
         return Checked::Failed(Refusal::NotResidue);
@@ -37,7 +38,9 @@ pub fn check_synthesis(
     scratch: usize,
 ) -> Checked
     requires { ⌜ (valid ≡ true → Sizes cell × IsModulus modulus) ⌝ }
-    ensures { λ r. ⌜ checkedNumber r ≡ first (synthesisTestsOf valid state modulus (cell .group) (cellLengths cell) (now (volume .entry)) scratch) ⌝ }
+    ensures { λ r. ⌜ checkedNumber r
+        ≡ first
+        (synthesisTestsOf valid state modulus (cell .group) (cellLengths cell) (now (volume .entry)) scratch) ⌝ }
 {
     if !valid {
         return Checked::Failed(Refusal::ImpossibleJob);

@@ -29,7 +29,8 @@ fn refusal_length(number: u32, place: u32) -> usize
 
 // The text of a refusal goes to the output's first bytes, if they are enough for it.
 pub fn refusal_text(refusal: Refusal, place: u32, out: &mut [u8]) -> FillAnswer
-    ensures { λ r. ⌜ fillOutcome r (now (out .exit)) ≡ putText (refusalText (numberOf refusal) place) (now (out .entry)) ⌝ }
+    ensures { λ r. ⌜ fillOutcome r (now (out .exit))
+        ≡ putText (refusalText (numberOf refusal) place) (now (out .entry)) ⌝ }
 {
     let number = refusals::number_of(refusal);
     if out.len() < refusal_length(number, place) {

@@ -52,7 +52,8 @@ fn put_row(out: &mut [u8], at: usize, job: Job, volume: &[u32], z: u32, x: u32) 
 fn put_plane(out: &mut [u8], at: usize, job: Job, volume: &[u32], z: u32) -> usize
     requires { ⌜ Printable job (now volume) × (z < layers (groupIn job) (halves job)) ⌝ }
     requires { ⌜ Ends at (each (job .a .length) (λ x. rowLine job (now volume) z x)) ⌝ }
-    ensures { λ r. ⌜ Wrote at (each (job .a .length) (λ x. rowLine job (now (volume .entry)) z x)) (now (out .entry)) r (now (out .exit)) ⌝ }
+    ensures { λ r. ⌜ Wrote at (each (job .a .length) (λ x. rowLine job (now (volume .entry)) z x))
+        (now (out .entry)) r (now (out .exit)) ⌝ }
 {
     let n1 = job.a.length;
     let mut place = at;
@@ -67,8 +68,12 @@ fn put_plane(out: &mut [u8], at: usize, job: Job, volume: &[u32], z: u32) -> usi
 // The stored planes, by rising z.
 fn put_planes(out: &mut [u8], at: usize, job: Job, volume: &[u32]) -> usize
     requires { ⌜ Printable job (now volume) ⌝ }
-    requires { ⌜ Ends at (each (layers (groupIn job) (halves job)) (λ z. each (job .a .length) (λ x. rowLine job (now volume) z x))) ⌝ }
-    ensures { λ r. ⌜ Wrote at (each (layers (groupIn job) (halves job)) (λ z. each (job .a .length) (λ x. rowLine job (now (volume .entry)) z x)))
+    requires { ⌜ Ends at
+        (each (layers (groupIn job) (halves job))
+        (λ z. each (job .a .length) (λ x. rowLine job (now volume) z x))) ⌝ }
+    ensures { λ r. ⌜ Wrote at
+        (each (layers (groupIn job) (halves job))
+        (λ z. each (job .a .length) (λ x. rowLine job (now (volume .entry)) z x)))
         (now (out .entry)) r (now (out .exit)) ⌝ }
 {
     let planes = places::layer_count(job.unit_cell());

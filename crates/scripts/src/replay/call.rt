@@ -16,7 +16,8 @@ pub fn call_at(
 ) -> Called
     requires { ⌜ 6 * i + 6 ≤ length (now script) ⌝ }
     ensures { λ r. ⌜ callOutcome r (now (volume .exit)) (now (scratch .exit))
-        ≡ callStep job (now (volume .entry)) (now (scratch .entry)) (callAt (now (scratch .entry)) (now (script .entry)) i) ⌝ }
+        ≡ callStep job (now (volume .entry)) (now (scratch .entry))
+        (callAt (now (scratch .entry)) (now (script .entry)) i) ⌝ }
 {
     let numbers = crate::layout::numbers_at(script, i);
     let operation = numbers.operation;

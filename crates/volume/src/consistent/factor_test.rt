@@ -17,7 +17,8 @@ ghost use Rattle.slices.specs.Pairs.{Below};
 ghost use Rattle.cell.specs.Volume.{lineKind};
 ghost use Rattle.cell.specs.Consistency.{lineAgrees, consistentFactors};
 ghost use Rattle.cell.specs.Operations.{cellGroup, cellHalves, tripleOf, symOf};
-ghost use Rattle.cell.specs.TestSteps.{IsVolume, IsStored, mirrored, imageAgrees, lineRowAgrees, rowEndsAgree, InnerAgree, linesAgree, emptyEnds, leftOutEmpty};
+ghost use Rattle.cell.specs.TestSteps.{IsVolume, IsStored, mirrored, imageAgrees, lineRowAgrees, rowEndsAgree};
+ghost use Rattle.cell.specs.TestSteps.{InnerAgree, linesAgree, emptyEnds, leftOutEmpty};
 
 // The volume is the packed factors of some cell that obeys group and Friedel.
 pub fn consistent_factors(m: u32, cell: UnitCell, volume: &[u32]) -> bool
@@ -39,7 +40,8 @@ pub fn consistent_factors(m: u32, cell: UnitCell, volume: &[u32]) -> bool
 // The image of j under o, where it is stored, has the value that the factor at j implies.
 fn image_agrees(m: u32, cell: UnitCell, volume: &[u32], o: Operation, j: Index) -> bool
     requires { ⌜ IsVolume cell (now volume) × IsModulus m × Below (prime m) (now volume) × IsStored cell j ⌝ }
-    ensures { λ r. ⌜ r ≡ imageAgrees (cellGroup cell) (cellHalves cell) m (now (volume .entry)) (tripleOf j) (symOf o) ⌝ }
+    ensures { λ r. ⌜ r
+        ≡ imageAgrees (cellGroup cell) (cellHalves cell) m (now (volume .entry)) (tripleOf j) (symOf o) ⌝ }
 {
     let i = operations::image(o, cell, j);
     if places::is_stored(cell, i) {
@@ -55,7 +57,9 @@ fn image_agrees(m: u32, cell: UnitCell, volume: &[u32], o: Operation, j: Index) 
 // the sign of h and no other. It leads back from -h to h, so that beyond N1/2 it has been tried at -h.
 fn factor_agrees(m: u32, cell: UnitCell, volume: &[u32], j: Index) -> bool
     requires { ⌜ IsVolume cell (now volume) × IsModulus m × Below (prime m) (now volume) × IsStored cell j ⌝ }
-    requires { ⌜ (cell .n1 / 2 < j .h → lineAgrees (cellGroup cell) (cellHalves cell) m (now volume) (negI (cell .n1 / 2) (j .h), j .k, j .l) ≡ true) ⌝ }
+    requires { ⌜ (cell .n1 / 2 < j .h →
+        lineAgrees (cellGroup cell) (cellHalves cell) m (now volume) (negI (cell .n1 / 2) (j .h), j .k, j .l)
+        ≡ true) ⌝ }
     ensures { λ r. ⌜ r ≡ lineAgrees (cellGroup cell) (cellHalves cell) m (now (volume .entry)) (tripleOf j) ⌝ }
 {
     if (cell.group == 4) & (between(j.k, cell.n2 / 2) & between(j.l, cell.n3 / 2)) {
@@ -71,9 +75,14 @@ fn factor_agrees(m: u32, cell: UnitCell, volume: &[u32], j: Index) -> bool
 
 // The same by that operation, which leads j to a stored index between the ends too.
 fn mirrored_agrees(m: u32, cell: UnitCell, volume: &[u32], j: Index) -> bool
-    requires { ⌜ IsVolume cell (now volume) × IsModulus m × Below (prime m) (now volume) × IsStored cell j × (cell .group ≡ 4) ⌝ }
+    requires { ⌜ IsVolume cell (now volume)
+        × IsModulus m
+        × Below (prime m) (now volume)
+        × IsStored cell j
+        × (cell .group ≡ 4) ⌝ }
     requires { ⌜ (0 < j .l) × (j .l < cell .n3 / 2) ⌝ }
-    ensures { λ r. ⌜ r ≡ imageAgrees (cellGroup cell) (cellHalves cell) m (now (volume .entry)) (tripleOf j) mirrored ⌝ }
+    ensures { λ r. ⌜ r
+        ≡ imageAgrees (cellGroup cell) (cellHalves cell) m (now (volume .entry)) (tripleOf j) mirrored ⌝ }
 {
     let o = operations::operation_at(cell.group, 7);
     let i = operations::image(o, cell, j);
@@ -117,7 +126,11 @@ fn ends_alone(cell: UnitCell, l: u32) -> bool
 
 // The ends k = 0 and k = B of the row (l, h).
 fn ends_agree(m: u32, cell: UnitCell, volume: &[u32], l: u32, h: u32) -> bool
-    requires { ⌜ IsVolume cell (now volume) × IsModulus m × Below (prime m) (now volume) × (l < span (cellGroup cell) (cell .n3 / 2)) × (h < cell .n1) ⌝ }
+    requires { ⌜ IsVolume cell (now volume)
+        × IsModulus m
+        × Below (prime m) (now volume)
+        × (l < span (cellGroup cell) (cell .n3 / 2))
+        × (h < cell .n1) ⌝ }
     ensures { λ r. ⌜ r ≡ rowEndsAgree (cellGroup cell) (cellHalves cell) m (now (volume .entry)) l h ⌝ }
 {
     if images_agree(m, cell, volume, Index { h, k: 0, l }) {
@@ -130,8 +143,13 @@ fn ends_agree(m: u32, cell: UnitCell, volume: &[u32], l: u32, h: u32) -> bool
 
 // All k of the row (l, h), after those of the row (l, -h) where h is beyond N1/2.
 fn row_agrees(m: u32, cell: UnitCell, volume: &[u32], l: u32, h: u32) -> bool
-    requires { ⌜ IsVolume cell (now volume) × IsModulus m × Below (prime m) (now volume) × (l < span (cellGroup cell) (cell .n3 / 2)) × (h < cell .n1) ⌝ }
-    requires { ⌜ (cell .n1 / 2 < h → lineRowAgrees (cellGroup cell) (cellHalves cell) m (now volume) l (negI (cell .n1 / 2) h) ≡ true) ⌝ }
+    requires { ⌜ IsVolume cell (now volume)
+        × IsModulus m
+        × Below (prime m) (now volume)
+        × (l < span (cellGroup cell) (cell .n3 / 2))
+        × (h < cell .n1) ⌝ }
+    requires { ⌜ (cell .n1 / 2 < h →
+        lineRowAgrees (cellGroup cell) (cellHalves cell) m (now volume) l (negI (cell .n1 / 2) h) ≡ true) ⌝ }
     ensures { λ r. ⌜ r ≡ lineRowAgrees (cellGroup cell) (cellHalves cell) m (now (volume .entry)) l h ⌝ }
 {
     if ends_alone(cell, l) {
@@ -150,8 +168,13 @@ fn row_agrees(m: u32, cell: UnitCell, volume: &[u32], l: u32, h: u32) -> bool
 
 // All h of the layer l, rising: a row is tested after that of -h.
 fn layer_agrees(m: u32, cell: UnitCell, volume: &[u32], l: u32) -> bool
-    requires { ⌜ IsVolume cell (now volume) × IsModulus m × Below (prime m) (now volume) × (l < span (cellGroup cell) (cell .n3 / 2)) ⌝ }
-    ensures { λ r. ⌜ r ≡ below (2 * (cell .n1 / 2)) (λ h. lineRowAgrees (cellGroup cell) (cellHalves cell) m (now (volume .entry)) l h) ⌝ }
+    requires { ⌜ IsVolume cell (now volume)
+        × IsModulus m
+        × Below (prime m) (now volume)
+        × (l < span (cellGroup cell) (cell .n3 / 2)) ⌝ }
+    ensures { λ r. ⌜ r
+        ≡ below (2 * (cell .n1 / 2))
+        (λ h. lineRowAgrees (cellGroup cell) (cellHalves cell) m (now (volume .entry)) l h) ⌝ }
 {
     let mut h = 0;
     while h < cell.n1 {
@@ -183,7 +206,10 @@ fn factors_agree(m: u32, cell: UnitCell, volume: &[u32]) -> bool
 
 // The pairs 0 and A of the line (h, k) are zero.
 fn empty_line(cell: UnitCell, volume: &[u32], h: u32, k: u32) -> bool
-    requires { ⌜ IsVolume cell (now volume) × (lineKind (cellGroup cell) h ≡ antisymmetric) × (h < cell .n1) × (k ≤ cell .n2 / 2) ⌝ }
+    requires { ⌜ IsVolume cell (now volume)
+        × (lineKind (cellGroup cell) h ≡ antisymmetric)
+        × (h < cell .n1)
+        × (k ≤ cell .n2 / 2) ⌝ }
     ensures { λ r. ⌜ r ≡ emptyEnds (cellGroup cell) (cellHalves cell) (now (volume .entry)) h k ⌝ }
 {
     let first = crate::stored::pair_at(cell, volume, 0, h, k);
@@ -194,7 +220,9 @@ fn empty_line(cell: UnitCell, volume: &[u32], h: u32, k: u32) -> bool
 // The same for all k.
 fn empty_row(cell: UnitCell, volume: &[u32], h: u32) -> bool
     requires { ⌜ IsVolume cell (now volume) × (lineKind (cellGroup cell) h ≡ antisymmetric) × (h < cell .n1) ⌝ }
-    ensures { λ r. ⌜ r ≡ below (suc (cell .n2 / 2)) (λ k. emptyEnds (cellGroup cell) (cellHalves cell) (now (volume .entry)) h k) ⌝ }
+    ensures { λ r. ⌜ r
+        ≡ below (suc (cell .n2 / 2))
+        (λ k. emptyEnds (cellGroup cell) (cellHalves cell) (now (volume .entry)) h k) ⌝ }
 {
     let mut k = 0;
     while k <= cell.n2 / 2 {

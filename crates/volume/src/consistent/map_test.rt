@@ -35,8 +35,11 @@ pub fn consistent_map(cell: UnitCell, volume: &[u32]) -> bool
 
 // The image of the point under o, where its plane is stored, has the point's number.
 fn image_agrees(cell: UnitCell, volume: &[u32], o: Operation, p: Point) -> bool
-    requires { ⌜ IsVolume cell (now volume) × PointWithin cell p × (p .z < layers (cellGroup cell) (cellHalves cell)) ⌝ }
-    ensures { λ r. ⌜ r ≡ pointImageAgrees (cellGroup cell) (cellHalves cell) (now (volume .entry)) (pointOf p) (symOf o) ⌝ }
+    requires { ⌜ IsVolume cell (now volume)
+        × PointWithin cell p
+        × (p .z < layers (cellGroup cell) (cellHalves cell)) ⌝ }
+    ensures { λ r. ⌜ r
+        ≡ pointImageAgrees (cellGroup cell) (cellHalves cell) (now (volume .entry)) (pointOf p) (symOf o) ⌝ }
 {
     let q = operations::point_image(o, cell, p);
     if q.z < places::layer_count(cell) {
@@ -49,7 +52,9 @@ fn image_agrees(cell: UnitCell, volume: &[u32], o: Operation, p: Point) -> bool
 
 // Every image of the point agrees. The first operation leaves it where it is, and need not be tried.
 fn point_agrees(cell: UnitCell, volume: &[u32], p: Point) -> bool
-    requires { ⌜ IsVolume cell (now volume) × PointWithin cell p × (p .z < layers (cellGroup cell) (cellHalves cell)) ⌝ }
+    requires { ⌜ IsVolume cell (now volume)
+        × PointWithin cell p
+        × (p .z < layers (cellGroup cell) (cellHalves cell)) ⌝ }
     ensures { λ r. ⌜ r ≡ pointAgrees (cellGroup cell) (cellHalves cell) (now (volume .entry)) (pointOf p) ⌝ }
 {
     let count = operations::group_order(cell.group);
@@ -86,7 +91,10 @@ fn meets_stored(cell: UnitCell, z: u32) -> bool
 
 // The points of the row at z and x, where they are to be tried.
 fn points_agree(cell: UnitCell, volume: &[u32], tried: bool, z: u32, x: u32) -> bool
-    requires { ⌜ IsVolume cell (now volume) × (z < layers (cellGroup cell) (cellHalves cell)) × (x < cell .n1) × (tried ≡ false → PlaneAgrees cell z) ⌝ }
+    requires { ⌜ IsVolume cell (now volume)
+        × (z < layers (cellGroup cell) (cellHalves cell))
+        × (x < cell .n1)
+        × (tried ≡ false → PlaneAgrees cell z) ⌝ }
     ensures { λ r. ⌜ r ≡ pointsAgree (cellGroup cell) (cellHalves cell) (now (volume .entry)) z x ⌝ }
 {
     if !tried {
@@ -105,7 +113,10 @@ fn points_agree(cell: UnitCell, volume: &[u32], tried: bool, z: u32, x: u32) -> 
 
 // The row at z and x: its points, then its two zeros.
 fn row_agrees(cell: UnitCell, volume: &[u32], tried: bool, z: u32, x: u32) -> bool
-    requires { ⌜ IsVolume cell (now volume) × (z < layers (cellGroup cell) (cellHalves cell)) × (x < cell .n1) × (tried ≡ false → PlaneAgrees cell z) ⌝ }
+    requires { ⌜ IsVolume cell (now volume)
+        × (z < layers (cellGroup cell) (cellHalves cell))
+        × (x < cell .n1)
+        × (tried ≡ false → PlaneAgrees cell z) ⌝ }
     ensures { λ r. ⌜ r ≡ rowAgrees (cellGroup cell) (cellHalves cell) (now (volume .entry)) z x ⌝ }
 {
     if points_agree(cell, volume, tried, z, x) {
@@ -118,7 +129,9 @@ fn row_agrees(cell: UnitCell, volume: &[u32], tried: bool, z: u32, x: u32) -> bo
 // All x of the plane z.
 fn plane_agrees(cell: UnitCell, volume: &[u32], z: u32) -> bool
     requires { ⌜ IsVolume cell (now volume) × (z < layers (cellGroup cell) (cellHalves cell)) ⌝ }
-    ensures { λ r. ⌜ r ≡ below (2 * (cell .n1 / 2)) (λ x. rowAgrees (cellGroup cell) (cellHalves cell) (now (volume .entry)) z x) ⌝ }
+    ensures { λ r. ⌜ r
+        ≡ below (2 * (cell .n1 / 2))
+        (λ x. rowAgrees (cellGroup cell) (cellHalves cell) (now (volume .entry)) z x) ⌝ }
 {
     let tried = meets_stored(cell, z);
     let mut x = 0;

@@ -257,12 +257,12 @@ recorder_write_answer recorder_combine(recorder_job first, const uint32_t *first
 recorder_write_answer recorder_section(uint32_t group, uint32_t n1, uint32_t n2, uint32_t n3, const int64_t *map, size_t map_length,
                                        uint32_t z, uint8_t *out, size_t out_length);
 
-/* Writes the whole cell of a combined map for viewers, in the format MRC2014, little-endian: a header of 1,024 bytes with the lengths as
-   counts and as sampling, mode 2, the edges and angles of the unit cell, axes 1, 2, 3, the least and the greatest density, the mean as
-   least minus 1 and the RMS as -1, which both mean not determined, space group 1, version 20140, the machine stamp 44 44 00 00, and zero in
-   every other word; then the density of each point as the 32-bit float that is equal to it, x fastest, then y, then z. A point on a plane
-   that is not stored is read at its image, as recorder_point does. Returns the count of bytes, 1,024 + 4 N1 N2 N3; the places beyond are
-   untouched.
+/* Writes the whole cell of a combined map for viewers, in the format MRC2014, little-endian: a header of 1,024 bytes with the lengths as counts
+   and as sampling, mode 2, the edges and angles of the unit cell, axes 1, 2, 3, the least and the greatest density, the mean as least minus 1 and
+   the RMS as -1, which both mean not determined, space group 1, version 20140, the letters `MAP ` in word 53, the machine stamp 44 44 00 00 in
+   word 54, and zero in every other word; then the density of each point as the 32-bit float that is equal to it, x fastest, then y, then z. A
+   point on a plane that is not stored is read at its image, as recorder_point does. Returns the count of bytes, 1,024 + 4 N1 N2 N3; the places
+   beyond are untouched.
    Refusals: 8 group not 0 to 4, 3 length not admitted, 9 volume above 16,777,216 numbers, 6 map not exactly as long as required, 29 an edge
    not finite and above 0, an angle not strictly between 0 and 180, or the other kind of cell than the group's (three angles for group 0,
    gamma alone for the others, which is exactly 90 in group 4; a count of angles that is neither 3 nor 1 is no kind), 30 the magnitude of a

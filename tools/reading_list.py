@@ -128,11 +128,15 @@ def followed():
 
 
 def listed():
-    """The files that the list names: by their paths, or by their names beside the path before."""
+    """The files that the list names: by their paths, by their names beside the path before, or as a file that each crate may have."""
     folder, files = "", set()
-    for path, name in re.findall(r"(crates/[\w/]+/specs/[\w/]+\.antt)|(?<![\w/.])([A-Z]\w*\.antt)", open(READING, encoding="utf-8").read()):
-        folder = os.path.dirname(path) or folder
-        files.add(path or f"{folder}/{name}")
+    names = r"each crate's specs/(\w+\.antt)|(crates/[\w/]+/specs/[\w/]+\.antt)|(?<![\w/.])([A-Z]\w*\.antt)"
+    for each, path, name in re.findall(names, open(READING, encoding="utf-8").read()):
+        if each:
+            files.update(glob.glob(f"crates/*/specs/{each}"))
+        else:
+            folder = os.path.dirname(path) or folder
+            files.add(path or f"{folder}/{name}")
     return files
 
 

@@ -5,6 +5,7 @@
 #define _POSIX_C_SOURCE 199309L
 #include "files.h"
 #include "fftw.h"
+#include "maps.h"
 
 enum { TURNS = 5, SCRATCH = 11520 };
 
@@ -40,39 +41,10 @@ static uint32_t factor_sum(const measured *m)
     return total;
 }
 
-/* In Pa the planes 0 and A are their own images by the glide, so there the second half of the rows repeats the first. */
-static void glide(cell c, uint32_t *map)
+static void make_cell_map(cell c, uint32_t *map)
 {
-    size_t plane = c.n * (c.n + 2), last = cell_layers(c) - 1;
-    memcpy(map + plane / 2, map, plane / 2 * sizeof *map);
-    memcpy(map + last * plane + plane / 2, map + last * plane, plane / 2 * sizeof *map);
-}
-
-/* In P2_1 2_1 2_1 each point of a stored plane z has one more image on one: for z = 0 (1/2 + x, 1/2 - y, -z), else (-x, 1/2 + y, 1/2 - z).
-   Each is the other's image, and the later one in the volume repeats the earlier. */
-static void screw(cell c, uint32_t *map)
-{
-    size_t n = c.n, half = n / 2, row = n + 2;
-    for (size_t z = 0; z < half; z++)
-        for (size_t x = 0; x < n; x++)
-            for (size_t y = 0; y < n; y++) {
-                size_t from = z ? ((half - z) * n + (n - x) % n) * row + (y + half) % n : (x + half) % n * row + (half + n - y) % n;
-                size_t to = (z * n + x) * row + y;
-                if (from < to) map[to] = map[from];
-            }
-}
-
-/* A map of the group: any numbers with two zeros after each row, and images that are alike. */
-static void make_map(cell c, uint32_t *map)
-{
-    size_t row = c.n + 2;
-    uint64_t state = 1;
-    for (size_t j = 0; j < 2 * cell_pairs(c); j++) {
-        state = (state * 1103515245 + 12345) % 2147483648u;
-        map[j] = j % row < c.n ? state / 64 % P : 0;
-    }
-    if (c.group == 3) glide(c, map);
-    if (c.group == 4) screw(c, map);
+    const uint32_t n[3] = { c.n, c.n, c.n };
+    make_map(c.group, n, P, map);
 }
 
 static recorder_job open_map(const measured *m, uint32_t *volume, size_t length)
@@ -95,7 +67,7 @@ static void run_cell(measured *m, uint32_t *map, uint32_t *volume, uint32_t *pla
 {
     cell c = cell_of(m);
     size_t length = 2 * cell_pairs(c);
-    make_map(c, map);
+    make_cell_map(c, map);
     memcpy(volume, map, length * sizeof *map);
     memcpy(plain, map, length * sizeof *map);
     recorder_job job = open_map(m, volume, length);
@@ -168,7 +140,7 @@ static void run_syntheses(const measured *m, uint32_t *factors, uint32_t *volume
 {
     cell c = cell_of(m);
     size_t length = 2 * cell_pairs(c);
-    make_map(c, factors);
+    make_cell_map(c, factors);
     plain_analysis(c, factors, scratch);
     recorder_job job = open_map(m, volume, length);
     job.state = 1;
@@ -196,7 +168,7 @@ int main(int argc, char **argv)
     }
     make_arrays(288, 240);
     for (int g = 0; g < GRIDS; g++) grids[g] = make_plans(lengths[g], lengths[g] <= 240);
-    make_map(cell_of(&cells[P1_240]), map);
+    make_cell_map(cell_of(&cells[P1_240]), map);
     file_frame frame = make_frame(cell_of(&cells[P1_240]), map, volume, scratch);
     file_times files = { 0 };
     for (int turn = 0; turn < TURNS; turn++) {

@@ -22,7 +22,6 @@ use Rattle.slices.proofs.Values.{list-cong}
 use Rattle.lengths.specs.Lengths.{kindOf}
 use Rattle.roots.specs.Table.{tableRoot}
 use Rattle.line.specs.Line.{transformed}
-use Rattle.line.specs.Tables.{TablesOf}
 use Rattle.line.proofs.kinds.Dispatch.{plain-by, plain-back-by}
 use Rattle.cell.specs.Volume.{volumeLength}
 use Rattle.batches.specs.Reduction.{Holds}
@@ -54,7 +53,7 @@ module _ {m : ℕ} where
 one-times : (m : ℕ) (z : Value m) → field m .mul (real m (ring m .one)) z ≡ z
 one-times m z = real-times m (ring m .one) z ∙ λ i. (res-ring m .one-mul (z .0) i, res-ring m .one-mul (z .1) i)
 
-module _ (x : Line) {re im tan : List ℕ} (tables : TablesOf (x .m) (x .direction) re im tan) (sound : SoundLine x) (plain : x .kind ≡ 0) (unrotated : x .rotated ≡ false) (counted : x .count ≡ 2 * x .half) where
+module _ (x : Line) {re im tan : List ℕ} (tables : TablesFor x re im tan) (sound : SoundLine x) (plain : x .kind ≡ 0) (unrotated : x .rotated ≡ false) (counted : x .count ≡ 2 * x .half) where
   abbrev m : ℕ
   m = x .m
 

@@ -1,10 +1,10 @@
 // The refusals: each has the paper's number, and a call answers the first that holds of its tests in the paper's order.
 //
-// Every call is turned back in this way; what each tests is said where its check is.
+// Every call is refused in this way; what each tests is said where its check is.
 ghost use mathlib.Core.Path.{_≡_};
 ghost use Rattle.refusals.specs.Refusals.{numberOf};
 
-// Why a call is turned back: one case for each number of the paper but 11 and 17, which no call gives any more (a zero is a value like others,
+// Why a call is refused: one case for each number of the paper but 11 and 17, which no call gives any more (a zero is a value like others,
 // and a file may have no records).
 pub enum Refusal {
     LineKind,

@@ -126,7 +126,7 @@ fn check_text(job: Job, volume: &[u32], room: usize) -> Checked
     Checked::Sound
 }
 
-// The text of the map that a job holds goes to the output's first bytes, or the call is turned back and changes nothing.
+// The text of the map that a job holds goes to the output's first bytes, or the call is refused and changes nothing.
 pub fn map_text(job: Job, volume: &[u32], out: &mut [u8]) -> FillAnswer
     ensures { λ r. ⌜ fillOutcome r (now (out .exit)) ≡ textStep job (now (volume .entry)) (now (out .entry)) ⌝ }
 {

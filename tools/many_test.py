@@ -562,7 +562,7 @@ def wrong_logs(tool, found):
         status, out, err = tool.run("log", name, path, env=environment(0))
         tool.expect("a log of %s" % name, (status, out.count(b"\n"), b"it is not a regular file; name a file" in err), (2, 1, True))
     with open(path, "ab") as out:
-        tool.fails("the log that is read", ("log", sound.path, path), b"is a file to read and the log to write", stdout=out)
+        tool.fails("the log that is read", ("log", sound.path, path), b"is the file to read and the file to write by standard output", stdout=out)
     tool.expect("the file that is read", open(path, "rb").read(), sound.contents)
     for value in ("", "x", "-1", "+1", "1.5", " 1", "1 ", "0x10", "253402300800", str(2 ** 64)):
         tool.fails("a date of %r" % value, ("log", path), b"SOURCE_DATE_EPOCH", env=environment(value))

@@ -1,6 +1,6 @@
 //! Several files: what becomes of each, in a line as soon as it is done, all of them in a last line, and one exit status. A file that fails does not
 //! stop the others. Most commands take them one after the other, and hold one at a time.
-use crate::failure::{shown, Failure, UNWRITTEN};
+use crate::failure::{shown, Failure, UNREAD};
 use crate::json::Object;
 use crate::known::Known;
 use crate::one_line;
@@ -112,8 +112,8 @@ pub fn said(name: &OsStr, known: Option<&Known>, result: &Outcome) -> String {
 pub fn end_of(failure: &Failure) -> End {
     match failure {
         Failure::Refused(_) => End::Refused,
-        failure if failure.apart().0 == UNWRITTEN => End::Unwritten,
-        _ => End::Unread,
+        failure if failure.apart().0 == UNREAD => End::Unread,
+        _ => End::Unwritten,
     }
 }
 

@@ -1,6 +1,6 @@
 //! What lets a shell complete the command line: scripts for bash, zsh and fish, made from the table of commands. Commands come first, then a
 //! command's options where a word begins with a minus sign, and the names of files anywhere else.
-use crate::arguments::{Switch, OUTPUT};
+use crate::arguments::Switch;
 use crate::commands::{all_commands, names_file, Command};
 
 pub const SHELLS: [&str; 3] = ["bash", "zsh", "fish"];
@@ -27,7 +27,7 @@ enum Values {
 fn values(switch: &Switch) -> Values {
     match switch.value {
         "" => Values::None,
-        value if value == OUTPUT.value => Values::Files,
+        value if value.starts_with("the name of a ") => Values::Files,
         value if SHELLS.iter().all(|shell| value.contains(shell)) => Values::Words(SHELLS.join(" ")),
         _ => Values::Unknown,
     }

@@ -1,4 +1,5 @@
 //! Why a command ends without its result, what it says then on standard error, and its exit status.
+use crate::system;
 use crate::words::Refusal;
 use std::ffi::OsStr;
 use std::fmt::Display;
@@ -123,10 +124,16 @@ impl Failure {
         Failure::trouble(UNWRITTEN, name, error, advice)
     }
 
+    /// Of a file that is written and has its name, where its folder cannot be brought to the disk.
+    pub fn unsettled(name: &OsStr, error: &io::Error) -> Failure {
+        Failure::trouble(UNSETTLED, name, error, "the file is whole, but may have its old name after a power cut; see to the disk and run again")
+    }
+
     /// Of standard output, a named pipe or a device, which get what is written at once.
     pub fn unwritten_stream(name: &OsStr, error: &io::Error) -> Failure {
         let advice = match error.kind() {
             ErrorKind::BrokenPipe => "run again with a reader that reads to the end: what it has now is not whole",
+            _ if error.raw_os_error() == Some(system::BAD_DESCRIPTOR) => "open it for writing, or name a file to write with -o where there is that",
             _ => "make room or choose another place, and run again: what is there now is not whole",
         };
         Failure::trouble(UNWRITTEN, name, error, advice)
@@ -139,6 +146,7 @@ impl Failure {
 
 pub const UNREAD: &str = "cannot read";
 pub const UNWRITTEN: &str = "cannot write";
+const UNSETTLED: &str = "cannot bring to the disk the folder of";
 const NO_MEMORY_ADVICE: &str = "close other programs, or use a smaller grid";
 
 fn no_memory(bytes: usize) -> String {

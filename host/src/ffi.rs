@@ -1,4 +1,4 @@
-//! The proved calls of include/recorder.h. Unsafe code is here and in signals.rs alone.
+//! The proved calls of include/recorder.h. Unsafe code is here, in signals.rs and in system.rs alone.
 //!
 //! Each call is lent slices, so what the header asks of a buffer holds: the pointer is not null and is aligned, the memory is initialised, and
 //! no two buffers of a call overlap but those that are only read. The library keeps no pointer. tools/interface_test.py holds the declarations

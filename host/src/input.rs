@@ -10,6 +10,7 @@ use crate::known::Known;
 use crate::map_file;
 use crate::progress::{self, Told};
 use crate::recorder::{self, factor_file_header, Recorder};
+use crate::system;
 use crate::words::Refusal;
 use std::ffi::OsStr;
 use std::fs::File;
@@ -77,7 +78,10 @@ impl Held {
 /// Opens a file and says how long it is; a minus sign names standard input, whose length is not known, and 0.
 pub fn source(name: &OsStr) -> io::Result<(BufReader<Box<dyn Read>>, u64)> {
     let (source, length): (Box<dyn Read>, u64) = match name.to_str() {
-        Some("-") => (Box::new(io::stdin()), 0),
+        Some("-") => {
+            system::opened(system::INPUT)?;
+            (Box::new(io::stdin()), 0)
+        }
         _ => {
             let file = File::open(name)?;
             let length = file.metadata()?.len();
@@ -224,9 +228,10 @@ fn of_combined_map(name: &OsStr) -> Failure {
 pub fn line() -> Result<Vec<u32>, Failure> {
     let mut numbers = Vec::new();
     let mut word = Vec::new();
-    let bytes = BufReader::new(io::stdin()).bytes().chain(iter::once(Ok(b' ')));
-    for (read, byte) in bytes.enumerate() {
-        let byte = byte.map_err(|error| Failure::unread("-".as_ref(), &error))?;
+    let unread = |error| Failure::unread("-".as_ref(), &error);
+    let source = source("-".as_ref()).map_err(unread)?.0;
+    for (read, byte) in source.bytes().chain(iter::once(Ok(b' '))).enumerate() {
+        let byte = byte.map_err(unread)?;
         if read > MOST_TEXT {
             return Err(Failure::Trouble(format!(
                 "standard input has more than {MOST_TEXT} bytes; give the numbers of one line, a blank between them"

@@ -4,12 +4,12 @@
 //! the name is as it was.
 use crate::failure::Failure;
 use crate::signals;
+use crate::system;
 use std::ffi::OsStr;
-use std::fs::{self, File, Metadata, OpenOptions, Permissions};
+use std::fs::{self, File, OpenOptions, Permissions};
 use std::io::{self, BufWriter, ErrorKind, Write};
 use std::os::fd::AsFd;
-use std::os::unix::fs::MetadataExt;
-use std::path::PathBuf;
+use std::path::{Path, PathBuf};
 use std::process;
 
 const BUFFER: usize = 1 << 18;
@@ -22,18 +22,10 @@ pub fn is_standard(name: Option<&OsStr>) -> bool {
     name.is_none_or(|name| name == "-")
 }
 
-/// Whether the result would go to the very file that is read, under whatever names.
-pub fn is_input(name: Option<&OsStr>, input: &OsStr) -> bool {
-    let read = if input == "-" { metadata_of(io::stdin()) } else { fs::metadata(input) };
-    let written = name.filter(|_| !is_standard(name)).map_or_else(|| metadata_of(io::stdout()), fs::metadata);
-    match (read, written) {
-        (Ok(read), Ok(written)) => read.is_file() && (read.dev(), read.ino()) == (written.dev(), written.ino()),
-        _ => false,
-    }
-}
-
-fn metadata_of(stream: impl AsFd) -> io::Result<Metadata> {
-    File::from(stream.as_fd().try_clone_to_owned()?).metadata()
+/// Standard output as a file: what cannot be written there is an error, also where it is closed, which Rust's own stream takes for written.
+fn standard() -> io::Result<File> {
+    system::opened(system::OUTPUT)?;
+    Ok(File::from(io::stdout().as_fd().try_clone_to_owned()?))
 }
 
 pub enum Output<'a> {
@@ -43,8 +35,8 @@ pub enum Output<'a> {
     File(&'a OsStr, Unfinished),
 }
 
-/// Opens what a name stands for, when the result is known, so that a refused command leaves what was there. It is called while the tool has one
-/// thread: a signal that comes while the unfinished file is made cannot be another thread's.
+/// Opens what a name stands for, when the result is known, so that a refused command leaves what was there. It is called by the thread that takes
+/// signals: one that comes while the unfinished file is made is not another thread's.
 pub fn open(name: Option<&OsStr>) -> Result<Output<'_>, Failure> {
     match name {
         Some(name) if name != "-" => named(name).map_err(|error| Failure::unwritten(name, &error)),
@@ -79,12 +71,16 @@ impl Output<'_> {
     /// Does the writing.
     pub fn write(self, work: impl FnOnce(&mut dyn Write) -> io::Result<()>) -> Result<(), Failure> {
         match self {
-            Output::Standard => buffered(io::stdout().lock(), work).map_err(|error| match error.kind() {
+            Output::Standard => standard().and_then(|out| buffered(out, work)).map_err(|error| match error.kind() {
                 ErrorKind::BrokenPipe => Failure::Closed,
                 _ => Failure::unwritten_stream(STANDARD.as_ref(), &error),
             }),
             Output::Stream(name, stream) => buffered(stream, work).map_err(|error| Failure::unwritten_stream(name, &error)),
-            Output::File(name, file) => buffered(&file.file, work).and_then(|()| file.take_name()).map_err(|error| Failure::unwritten(name, &error)),
+            Output::File(name, file) => {
+                let unwritten = |error| Failure::unwritten(name, &error);
+                let path = buffered(&file.file, work).and_then(|()| file.take_name()).map_err(unwritten)?;
+                folder_to_disk(&path).map_err(|error| Failure::unsettled(name, &error))
+            }
         }
     }
 }
@@ -121,9 +117,21 @@ impl Unfinished {
         }
     }
 
-    fn take_name(self) -> io::Result<()> {
+    /// The path under which the file stands, whole and on the disk.
+    fn take_name(self) -> io::Result<PathBuf> {
         self.file.sync_all()?;
-        fs::rename(&self.path, &self.becomes)
+        fs::rename(&self.path, &self.becomes)?;
+        Ok(self.becomes.clone())
+    }
+}
+
+/// Brings the folder of a path to the disk, and with it the name of a file that is there. A folder that may not be read, or a file system that
+/// knows no such thing, has done what it can.
+pub fn folder_to_disk(path: &Path) -> io::Result<()> {
+    let folder = path.parent().filter(|folder| !folder.as_os_str().is_empty()).unwrap_or(Path::new("."));
+    match File::open(folder).and_then(|folder| folder.sync_all()) {
+        Err(error) if matches!(error.kind(), ErrorKind::PermissionDenied | ErrorKind::InvalidInput | ErrorKind::Unsupported) => Ok(()),
+        result => result,
     }
 }
 

@@ -1,5 +1,6 @@
 //! Progress of long work on standard error, where that is a terminal: what is being done, for how long or how far. Nothing is shown of work that
 //! is done within a tenth of a second, and nothing stays behind.
+use crate::signals;
 use std::array;
 use std::io::{self, IsTerminal, Write};
 use std::sync::atomic::{AtomicU32, Ordering};
@@ -27,7 +28,7 @@ impl Told {
     }
 }
 
-/// Does some work and shows its progress.
+/// Does some work and shows its progress, if the system has room for a thread that does.
 pub fn during<T>(what: &str, work: impl FnOnce(&Told) -> T) -> T {
     let told = Told::unknown();
     let said = || told.hundredths().map_or(format!("{what}: "), |hundredths| format!("{what}: {hundredths} % in "));
@@ -48,7 +49,7 @@ fn showing<T>(said: impl Fn() -> String + Sync, work: impl FnOnce() -> T) -> T {
     }
     let (working, finished) = channel::<()>();
     thread::scope(|scope| {
-        scope.spawn(|| show(&said, finished));
+        let _ = thread::Builder::new().spawn_scoped(scope, || show(&said, finished));
         let result = work();
         drop(working);
         result
@@ -63,8 +64,9 @@ pub fn during_output<T>(to_stdout: bool, what: &str, work: impl FnOnce(&Told) ->
     during(what, work)
 }
 
-/// Rewrites one line of the terminal until the work is finished, then clears it.
+/// Rewrites one line of the terminal until the work is finished, then clears it. Signals are for the thread that works.
 fn show(said: &dyn Fn() -> String, finished: Receiver<()>) {
+    signals::hold_back();
     let began = Instant::now();
     let mut width = 0;
     while finished.recv_timeout(PAUSE) == Err(RecvTimeoutError::Timeout) {

@@ -8,7 +8,6 @@ use crate::hashed;
 use crate::input::{self, Held};
 use crate::known::Known;
 use crate::one_line;
-use crate::output;
 use crate::progress::during;
 use std::ffi::OsStr;
 use std::io::{self, Write};
@@ -36,9 +35,6 @@ fn run(given: &Given) -> Result<(), Failure> {
     let clock = Clock::chosen()?;
     if given.words.iter().any(|name| name == "-") {
         return Err(Failure::Usage("log takes files by their names, not standard input".into()));
-    }
-    if let Some(input) = given.words.iter().find(|name| output::is_input(None, name)) {
-        return Err(Failure::Usage(format!("{} is a file to read and the log to write; name another log", shown(input))));
     }
     let account = batch::each(&given.words, false, |name| {
         line(name, &clock).unwrap_or_else(|failure| {

@@ -10,10 +10,10 @@ use crate::map_file;
 use crate::one_line;
 use crate::output;
 use crate::progress::during;
+use crate::separate::Identity;
 use std::collections::HashMap;
 use std::ffi::{OsStr, OsString};
 use std::fs;
-use std::os::unix::fs::MetadataExt;
 use std::path::{Path, PathBuf};
 
 pub const TO: Switch = Switch { name: "--to", value: "the name of a folder", brief: "write the map of each file to NAME.map in this folder" };
@@ -42,7 +42,10 @@ pub fn prepared(folder: &OsStr, names: &[OsString]) -> Result<Vec<PathBuf>, Fail
     let targets = targets(Path::new(folder), names)?;
     match fs::create_dir(folder) {
         Err(_) if Path::new(folder).is_dir() => {}
-        made => made.map_err(|error| Failure::unwritten(folder, &error))?,
+        made => {
+            made.map_err(|error| Failure::unwritten(folder, &error))?;
+            output::folder_to_disk(Path::new(folder)).map_err(|error| Failure::unsettled(folder, &error))?;
+        }
     }
     Ok(targets)
 }
@@ -50,10 +53,10 @@ pub fn prepared(folder: &OsStr, names: &[OsString]) -> Result<Vec<PathBuf>, Fail
 /// The file to write for each that is read: no two the same, and none of those that are read, whatever their names.
 fn targets(folder: &Path, names: &[OsString]) -> Result<Vec<PathBuf>, Failure> {
     let targets: Vec<PathBuf> = names.iter().map(|name| target(folder, name)).collect::<Result<_, _>>()?;
-    let inputs: HashMap<(u64, u64), &OsString> = names.iter().filter_map(|name| Some((identity(name.as_ref())?, name))).collect();
+    let inputs: HashMap<Identity, &OsString> = names.iter().filter_map(|name| Some((Identity::read(name)?, name))).collect();
     let mut sources = HashMap::new();
     for (name, target) in names.iter().zip(&targets) {
-        if let Some(input) = identity(target).and_then(|identity| inputs.get(&identity)) {
+        if let Some(input) = Identity::written(Some(target.as_os_str())).and_then(|written| inputs.get(&written)) {
             return Err(Failure::Usage(format!("{} is a file to read and the file to write for {}; name another folder", shown(input), shown(name))));
         }
         if let Some(other) = sources.insert(place(target), name) {
@@ -78,12 +81,6 @@ fn place(target: &Path) -> PathBuf {
         (Some(folder), Some(name)) => folder.join(name),
         _ => path,
     }
-}
-
-/// The file that a path leads to, under whatever names.
-fn identity(path: &Path) -> Option<(u64, u64)> {
-    let found = fs::metadata(path).ok().filter(|found| found.is_file())?;
-    Some((found.dev(), found.ino()))
 }
 
 fn written(name: &OsStr, to: &Path, known: &mut Option<Known>) -> Outcome {

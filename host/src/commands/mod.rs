@@ -32,6 +32,7 @@ use crate::failure::{shown, Failure};
 use crate::help as pages;
 use crate::nearest::nearest;
 use crate::output;
+use crate::separate;
 use std::ffi::OsString;
 
 pub struct Command {
@@ -119,12 +120,5 @@ fn fit(command: &Command, given: &Given) -> Result<(), Failure> {
         };
         return Err(Failure::Usage(format!("{name} was given {count}; it takes {}", words.join(" ").replace("] [", " "))));
     }
-    let writes = command.switches.iter().any(|switch| switch.name == "-o");
-    let what = |at: usize| words[at.min(words.len() - 1)];
-    let reads = |at: usize| names_file(what(at));
-    let mut inputs = given.words.iter().enumerate().filter(|(at, _)| writes && reads(*at));
-    if let Some((_, input)) = inputs.find(|(_, input)| output::is_input(given.output(), input)) {
-        return Err(Failure::Usage(format!("{} is the file to read and the file to write; name another file to write", shown(input))));
-    }
-    Ok(())
+    separate::judge(command, given)
 }

@@ -521,7 +521,7 @@ def log_line(case, date):
         said = said.encode()
     result = b"refused,%d,%d" % case.refusal if case.refusal else b"accepted"
     digest = hashlib.sha256(case.contents).hexdigest().encode()
-    return b"%s sha256=%s %s result=%s file=%s\n" % (date.encode(), digest, said, result, escaped(case.path))
+    return b"%s format=2 sha256=%s %s result=%s file=%s\n" % (date.encode(), digest, said, result, escaped(case.path))
 
 
 def environment(seconds):

@@ -32,7 +32,8 @@ N, LISTS = (2, 2, 2), [[], [], []]
 # here more than once. What standard input has, where it is read without a word.
 USES = [
     ("check", "FILE"), ("check", "MAP", "FILE"), ("check", "FILE", "--json"), ("faults", "FILE"), ("info", "FILE"), ("info", "COMBINED", "FILE"),
-    ("compare", "FILE", "MAP"), ("compare", "COMBINED", "COMBINED2"), ("log", "FILE", "MAP"), ("pack", "TEXT", "-o", "OUT"),
+    ("compare", "FILE", "MAP"), ("compare", "COMBINED", "COMBINED2"), ("log", "FILE", "MAP"), ("log", "--verify", "LOG"),
+    ("pack", "TEXT", "-o", "OUT"),
     ("pack", "TEXT", "-o", "-"), ("records", "FILE"), ("records", "FILE", "--header"), ("rewrite", "FILE", "-o", "OUT"), ("map", "FILE"),
     ("map", "FILE", "-o", "OUT"), ("map", "MAP", "--plane", "0"), ("map", "COMBINED", "--whole-cell", "-o", "-"), ("map", "FILE", "--to", "DIR"),
     ("factors", "MAP", "-o", "OUT"), ("point", "FILE", "0", "0", "0"), ("factor", "FILE", "0", "0", "0"), ("stats", "MAP"), ("power", "FILE"),

@@ -73,7 +73,7 @@ fn inputs<'a>(command: &Command, given: &'a Given) -> Vec<&'a OsStr> {
 /// Whether words were left out that standard input stands for, or a command has nothing else to read.
 fn reads_standard_input(command: &Command, given: &Given) -> bool {
     let files = command.words.iter().any(|word| names_file(word));
-    let left_out = command.words.get(given.words.len()).is_some_and(|word| word.starts_with('['));
+    let left_out = command.words.get(given.words.len()).is_some_and(|word| word.starts_with('[') && !word.ends_with("..]"));
     command.name == "line" || files && left_out
 }
 

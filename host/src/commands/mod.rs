@@ -12,6 +12,7 @@ mod info;
 mod lanes;
 mod line;
 mod log;
+mod log_line;
 mod map;
 mod map_folder;
 mod mrc;
@@ -26,6 +27,7 @@ mod rewrite;
 mod section;
 mod stats;
 mod steps;
+mod verify;
 
 use crate::arguments::{Given, Switch};
 use crate::failure::{shown, Failure};
@@ -111,7 +113,7 @@ fn is_file(word: &str) -> bool {
 fn fit(command: &Command, given: &Given) -> Result<(), Failure> {
     let (name, words) = (command.name, command.words);
     let least = words.iter().filter(|word| !word.starts_with('[')).count();
-    let several = words.last().is_some_and(|word| word.ends_with(".."));
+    let several = words.last().is_some_and(|word| word.trim_end_matches(']').ends_with(".."));
     if given.words.len() < least || given.words.len() > words.len() && !several {
         let count = match given.words.len() {
             0 => "nothing".into(),

@@ -196,12 +196,17 @@ pub fn each(names: &[OsString], writes: bool, mut work: impl FnMut(&OsStr) -> (E
 
 /// A line for each file, and one for all.
 pub fn lines(names: &[OsString], words: &[(End, &str)], mut work: impl FnMut(&OsStr, &mut Option<Known>) -> Outcome) -> Result<(), Failure> {
-    let since = Instant::now();
-    let writes = words.iter().any(|(end, _)| *end == End::Unwritten);
-    let account = each(names, writes, |name| {
+    texts(names, words, |name| {
         let report = Report::of(name, |known| work(name, known));
         (report.end(), report.line())
-    })?;
+    })
+}
+
+/// A text for each file, and a line for all.
+pub fn texts(names: &[OsString], words: &[(End, &str)], work: impl FnMut(&OsStr) -> (End, String)) -> Result<(), Failure> {
+    let since = Instant::now();
+    let writes = words.iter().any(|(end, _)| *end == End::Unwritten);
+    let account = each(names, writes, work)?;
     account.close(words, &format!(", {:.2} s", since.elapsed().as_secs_f64()))
 }
 

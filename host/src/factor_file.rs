@@ -17,13 +17,23 @@ const OTHERS: [(usize, &[u8], &str, &str); 4] = [
     (0, b"\x89PNG", "a picture, a PNG file", "name the file that it was made from: no command reads a picture"),
     (208, b"MAP ", "a map for viewers, in the format MRC", "name the file that it was made from: no command reads a map for viewers"),
 ];
-/// No accepted file has a greater count of bytes: its header has three lists of at most 255 factors, and no two of its records are of one orbit,
-/// each of which has a place of its own in the volume of at most 16,777,216 numbers.
-pub const MOST_COUNT: u64 = 9 + 3 * 256 + 4 + 14 * 16_777_216;
+/// No accepted file has more records: no two of them are of one orbit, each of which has a place of its own in the volume, the largest of which has
+/// so many numbers.
+pub const MOST_RECORDS: usize = 16_777_216;
+/// No accepted file has a greater count of bytes: its header has three lists of at most 255 factors.
+pub const MOST_COUNT: u64 = 9 + 3 * 256 + 4 + 14 * MOST_RECORDS as u64;
 
 /// The length of the file with a header and a count of records.
 pub fn length(header: &Header, records: usize) -> usize {
     records_at(header) + RECORD * records
+}
+
+/// Writes both counts of a file with a header and some records, which are known when all records are there.
+pub fn fill_counts(file: &mut [u8], header: &Header) {
+    let at = records_at(header);
+    let (following, records) = (file.len() - COUNT, (file.len() - at) / RECORD);
+    file[..COUNT].copy_from_slice(&(following as u32).to_be_bytes());
+    file[at - COUNT..at].copy_from_slice(&(records as u32).to_be_bytes());
 }
 
 /// The count of records that a file states.
@@ -42,6 +52,10 @@ pub struct Record {
 }
 
 impl Record {
+    pub fn place(&self) -> u32 {
+        self.place
+    }
+
     /// h, k, l.
     pub fn index(&self) -> [u32; 3] {
         [self.at.h, self.at.k, self.at.l]

@@ -10,6 +10,7 @@
 //!
 //! What is no number is told here. Whether a number is right is not judged here: it goes into the file's bytes, as the greatest that they hold
 //! where it does not fit them, which is refused as it would be; the proved reader refuses the file, and this adds the line of the text.
+use crate::all_faults::AllFaults;
 use crate::factor_file;
 use crate::failure::{shown, Failure};
 use crate::header::{chosen_list, group_named, Cell, Header};
@@ -39,6 +40,8 @@ const MOST_BYTES: usize = 4096;
 const MOST_LETTERS: usize = 64;
 /// The most factors of a list: its count is a byte.
 const MOST_FACTORS: usize = 255;
+/// As many lines that are no records are told at once.
+const MOST_WRONG: usize = 1000;
 const BYTE_ORDER_MARK: &[u8] = "\u{feff}".as_bytes();
 
 /// How records are written: as a table with commas and the columns' names, with values below zero, with the header before them.
@@ -84,8 +87,32 @@ fn header_lines(header: &Header, between: &str) -> String {
 /// The factor file that a text stands for, accepted. The header is judged where the records begin, these at the end of the text, or where they are
 /// too many for any file.
 pub fn read(name: &OsStr) -> Result<Vec<u8>, Failure> {
+    collected(name, false)?.0.judged()
+}
+
+/// The same, or every line that is no record and every record that is refused, which are written out.
+pub fn read_all(name: &OsStr, out: &mut dyn Write) -> Result<Vec<u8>, Failure> {
+    let (mut records, wrong) = collected(name, true)?;
+    factor_file::fill_counts(&mut records.file, &records.header);
+    let all = AllFaults::of(&records.file)?;
+    let unsaid = |error| Failure::unwritten_stream("standard error".as_ref(), &error);
+    out.write_all(wrong.concat().as_bytes()).map_err(unsaid)?;
+    if !all.faults.is_empty() {
+        let before = format!("recorder: {}: ", shown(name));
+        all.write_each(&before, |place| records.said(place), out).and_then(|()| out.write_all(all.summed().as_bytes())).map_err(unsaid)?;
+    }
+    out.flush().map_err(unsaid)?;
+    match (wrong.is_empty(), all.faults.is_empty()) {
+        (false, _) => Err(Failure::Told),
+        (true, false) => Err(Failure::Reported),
+        (true, true) => Ok(records.file),
+    }
+}
+
+/// The records of a text, not judged. Where all that is wrong is asked for, lines that are no records are told and left out, so many at most.
+fn collected(name: &OsStr, all: bool) -> Result<(Records, Vec<String>), Failure> {
     let mut lines = Lines::open(name)?;
-    let (mut head, mut records, mut text) = (Head::default(), None::<Records>, String::new());
+    let (mut head, mut records, mut text, mut wrong) = (Head::default(), None::<Records>, String::new(), Vec::new());
     while lines.next(&mut text)? {
         let words: Vec<&str> = text.split([' ', '\t', ',']).filter(|word| !word.is_empty()).collect();
         match words[..] {
@@ -98,22 +125,34 @@ pub fn read(name: &OsStr) -> Result<Vec<u8>, Failure> {
                 }
             },
             _ => {
-                let numbers = record(&words).map_err(|text| lines.wrong(&text))?;
+                let numbers = match record(&words) {
+                    Ok(numbers) => numbers,
+                    Err(text) if all && wrong.len() < MOST_WRONG => {
+                        wrong.push(lines.wrong(&text).said());
+                        continue;
+                    }
+                    Err(_) if all => {
+                        wrong.push(lines.wrong("reading ends here, so many lines are no records").said());
+                        break;
+                    }
+                    Err(text) => return Err(lines.wrong(&text)),
+                };
                 let records = match &mut records {
                     Some(records) => records,
-                    None => records.insert(Records::new(head.judged(&lines)?)),
+                    None => records.insert(Records::new(head.judged(&lines)?, all)),
                 };
                 records.push(lines.number, &words, numbers)?;
-                if records.are_too_many() {
+                if records.are_enough() {
                     break;
                 }
             }
         }
     }
-    match records {
-        Some(records) => records.judged(),
-        None => Records::new(head.judged(&lines)?).judged(),
-    }
+    let records = match records {
+        Some(records) => records,
+        None => Records::new(head.judged(&lines)?, all),
+    };
+    Ok((records, wrong))
 }
 
 /// The lines of a text, one after the other.
@@ -270,14 +309,16 @@ struct Records {
     count: u32,
     /// The place and line of each record that is not in the line behind that of the record before.
     lines: Vec<(u32, usize)>,
-    /// The first record with a number that its bytes cannot hold: its place and words.
-    beyond: Option<(u32, [String; 5])>,
+    /// The records with a number that their bytes cannot hold, or the first of them: place and words.
+    beyond: Vec<(u32, Box<[String; 5]>)>,
+    /// Whether every record that is refused is asked for, not the first alone.
+    all: bool,
 }
 
 impl Records {
-    fn new(header: Header) -> Records {
+    fn new(header: Header, all: bool) -> Records {
         let file = [&[0; 4], &header.bytes()[..], &[0; 4]].concat();
-        Records { header, file, count: 0, lines: Vec::new(), beyond: None }
+        Records { header, file, count: 0, lines: Vec::new(), beyond: Vec::new(), all }
     }
 
     /// An index that does not fit is refused as 65,535 is, a value as the greatest of 32 bits.
@@ -285,8 +326,9 @@ impl Records {
         let (lengths, prime) = (self.header.cell.lengths.map(i64::from), i64::from(self.header.prime()));
         let indices = [0, 1, 2].map(|axis| standing(numbers[axis], lengths[axis], lengths[axis]).and_then(|index| u16::try_from(index).ok()));
         let values = [3, 4].map(|column: usize| standing(numbers[column], prime, prime - 1).and_then(|value| u32::try_from(value).ok()));
-        if self.beyond.is_none() && (indices.contains(&None) || values.contains(&None)) {
-            self.beyond = Some((self.count, [0, 1, 2, 3, 4].map(|column| words[column].into())));
+        if (self.all || self.beyond.is_empty()) && (indices.contains(&None) || values.contains(&None)) {
+            room(&mut self.beyond, 1)?;
+            self.beyond.push((self.count, Box::new([0, 1, 2, 3, 4].map(|column| words[column].into()))));
         }
         room(&mut self.file, factor_file::RECORD)?;
         indices.iter().for_each(|index| self.file.extend(index.unwrap_or(u16::MAX).to_be_bytes()));
@@ -304,6 +346,11 @@ impl Records {
         self.count as usize > self.header.cell.volume_length()
     }
 
+    /// Whether no more need be read: one that is refused is among them, and where all are asked for no file has more.
+    fn are_enough(&self) -> bool {
+        self.are_too_many() && (!self.all || self.count as usize > factor_file::MOST_RECORDS)
+    }
+
     /// The line of a record, or the one behind the last.
     fn line(&self, place: u32) -> usize {
         let (first, line) = self.lines[self.lines.partition_point(|&(first, _)| first <= place) - 1];
@@ -312,10 +359,7 @@ impl Records {
 
     /// The file, accepted whole.
     fn judged(mut self) -> Result<Vec<u8>, Failure> {
-        let records_at = factor_file::length(&self.header, 0);
-        let following = self.file.len() as u32 - 4;
-        self.file[..4].copy_from_slice(&following.to_be_bytes());
-        self.file[records_at - 4..records_at].copy_from_slice(&self.count.to_be_bytes());
+        factor_file::fill_counts(&mut self.file, &self.header);
         match Recorder::of_factor_file(&self.file) {
             Err(Failure::Refused(refusal)) => Err(Refusal::of_record(refusal.number, refusal.place, self.found(refusal.place)).into()),
             Err(failure) => Err(failure),
@@ -334,9 +378,9 @@ impl Records {
 
     /// A record with its line: the numbers of the file, or the words where one does not fit.
     fn said(&self, place: u32) -> String {
-        let [h, k, l, a, b] = match &self.beyond {
-            Some((beyond, words)) if *beyond == place => words.clone(),
-            _ => factor_file::record(&self.file, &self.header, place).numbers().map(|number| number.to_string()),
+        let [h, k, l, a, b] = match self.beyond.binary_search_by_key(&place, |(beyond, _)| *beyond) {
+            Ok(at) => *self.beyond[at].1.clone(),
+            Err(_) => factor_file::record(&self.file, &self.header, place).numbers().map(|number| number.to_string()),
         };
         format!("line {}: h {h}, k {k}, l {l}, a {a}, b {b}", self.line(place))
     }

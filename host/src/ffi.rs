@@ -162,8 +162,6 @@ extern "C" {
     fn recorder_open_file(file: *const u8, file_length: usize, volume: *mut u32, volume_length: usize) -> FileAnswer;
     fn recorder_file_faults(file: *const u8, file_length: usize) -> Faults;
     fn recorder_write_file(job: Job, volume: *const u32, volume_length: usize, out: *mut u8, out_length: usize) -> WriteAnswer;
-    /// The tool records by files alone; the declaration is held to the header with the others.
-    #[allow(dead_code)]
     fn recorder_record(job: Job, at: Reflection, a: u32, b: u32, volume: *mut u32, volume_length: usize) -> Answer;
     fn recorder_synthesis(job: Job, volume: *mut u32, volume_length: usize, scratch: *mut u32, scratch_length: usize) -> Answer;
     fn recorder_analysis(job: Job, volume: *mut u32, volume_length: usize, scratch: *mut u32, scratch_length: usize) -> Answer;
@@ -301,6 +299,10 @@ pub fn file_faults(file: &[u8]) -> Faults {
 
 pub fn write_file(job: Job, volume: &[u32], out: &mut [u8]) -> WriteAnswer {
     unsafe { recorder_write_file(job, volume.as_ptr(), volume.len(), out.as_mut_ptr(), out.len()) }
+}
+
+pub fn record(job: Job, at: Reflection, a: u32, b: u32, volume: &mut [u32]) -> Answer {
+    unsafe { recorder_record(job, at, a, b, volume.as_mut_ptr(), volume.len()) }
 }
 
 pub fn synthesis(job: Job, volume: &mut [u32], scratch: &mut [u32]) -> Answer {

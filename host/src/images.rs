@@ -1,5 +1,5 @@
-//! The images of a point by the group, to tell which two numbers of a map make it no map of its group. They are used for words alone: that a map is
-//! refused, the proved call says.
+//! The images of a point by the group, to tell which two numbers of a map make it no map of its group, and the lowest index of a reflection's orbit, to
+//! name the record that another clashes with. They are used for words alone: what is refused, the proved calls say.
 use crate::header::Cell;
 use std::fmt::Display;
 
@@ -40,6 +40,19 @@ fn image(cell: &Cell, point: [usize; 3], operation: &[Move; 3]) -> [usize; 3] {
         let moved = if opposite { length - point[axis] } else { point[axis] };
         (moved + if half { length / 2 } else { 0 }) % length
     })
+}
+
+/// The lowest index of the orbit of a reflection in the cell, by the group and by Friedel's rule: an operation moves an index as it moves a point, but
+/// for its shift, which changes the value alone. An index that is not in the cell has itself.
+pub fn lowest_reflection(cell: &Cell, index: [u32; 3]) -> [u32; 3] {
+    let lengths = cell.lengths.map(u32::from);
+    if (0..3).any(|axis| index[axis] >= lengths[axis]) {
+        return index;
+    }
+    let opposite = |axis: usize| if index[axis] == 0 { 0 } else { lengths[axis] - index[axis] };
+    let moved = |changed: [bool; 3]| [0, 1, 2].map(|axis| if changed[axis] { opposite(axis) } else { index[axis] });
+    let operations = OPERATIONS[usize::from(cell.group)].iter().map(|operation| operation.map(|(opposite, _)| opposite)).chain([[false; 3]]);
+    operations.flat_map(|changed| [moved(changed), moved(changed.map(|changed| !changed))]).min().unwrap_or(index)
 }
 
 fn place(cell: &Cell, [x, y, z]: [usize; 3]) -> usize {

@@ -27,8 +27,13 @@ impl Object {
     }
 }
 
+/// An object in a line with one more field, whose value is JSON already.
+pub fn with(line: &str, name: &str, value: &str) -> String {
+    format!("{}, {}: {value}}}\n", line.trim_end().trim_end_matches('}'), quoted(name))
+}
+
 /// A string in quotes. Control characters, those beyond ASCII too, and the two line ends of Unicode are escaped, so that a line stays one.
-fn quoted(text: &str) -> String {
+pub fn quoted(text: &str) -> String {
     let mut out = String::from('"');
     for letter in text.chars() {
         match letter {

@@ -1,6 +1,7 @@
 //! The map recorder as a command line tool, over the proved library that `rt staticlib exported` writes. `recorder help` explains it.
 #![deny(unsafe_code)]
 
+mod all_faults;
 mod arguments;
 mod axes;
 mod batch;

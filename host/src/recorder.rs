@@ -54,6 +54,12 @@ pub fn judge(header: &Header) -> Result<(), Refusal> {
     }
 }
 
+/// A job with a sound header that collects records.
+pub fn collecting(header: &Header, volume: &mut [u32]) -> Result<Job, Refusal> {
+    let answer = opened(header, COLLECT, volume);
+    accepted(answer.number).map(|()| answer.job)
+}
+
 /// What of the axes is refused with a number, in words.
 pub fn axes_at_fault(number: u32, header: &Header) -> String {
     let faults: Vec<String> = (0..3).filter_map(|axis| axis_at_fault(number, header, axis)).collect();

@@ -104,7 +104,7 @@ pub const FLOAT_RANGE: u32 = 30;
 pub const CAPACITY: u32 = 32;
 
 /// What a refusal's number says, and what to do.
-fn words(number: u32) -> (&'static str, &'static str) {
+pub fn words(number: u32) -> (&'static str, &'static str) {
     match number {
         1 => ("the kind of line is not 0 to 5", "give a kind from 0 (plain) to 5 (antisymmetric)"),
         2 => ("the direction is not 0 or 1", "give 0 for forward or 1 for inverse"),

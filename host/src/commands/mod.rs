@@ -1,6 +1,7 @@
 //! The commands, a file each. Each reads its input, makes the proved calls and writes the result.
 mod best;
 mod check;
+mod check_all;
 mod combine;
 mod compare;
 mod drift;

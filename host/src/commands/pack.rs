@@ -1,17 +1,18 @@
 //! `recorder pack`: a factor file from a text.
 use crate::arguments::{Given, OUTPUT};
-use crate::commands::{steps, Command};
+use crate::commands::{check::ALL, steps, Command};
 use crate::factor_text;
 use crate::failure::Failure;
 use crate::output;
 use crate::progress::during;
+use std::io::{self, BufWriter};
 
 pub const COMMAND: Command = Command {
     name: "pack",
-    usage: "TEXT -o FILE",
+    usage: "TEXT -o FILE [--all]",
     brief: "a factor file from a text or a table",
     words: &["TEXT"],
-    switches: &[OUTPUT],
+    switches: &[OUTPUT, ALL],
     help: "\
 Reads a text (- is standard input) and writes the factor file that it stands for to FILE (- is standard output), if that is accepted. Blanks, tabs and
 commas separate words, # begins a comment, and empty lines are skipped. First the header, a line for each item, in any order:
@@ -26,6 +27,8 @@ below zero counts from the prime: -3 stands for p - 3, and so on to -(p - 1). A 
 
 The records keep their order; recorder rewrite sorts them. Modulus 1 is written as version 1, modulus 2 as version 2. A refusal names the line at
 fault, for 24 both lines. What is no such text is told with its line, exit status 2. recorder records FILE --header prints a file as such a text.
+With --all every record that is refused is told, a line each with its number, its place and its line, then how many there are of each number, why, and
+what to do: as by recorder check --all, in one run. Lines that are no records are told too, up to 1,000, and left out.
 Example: printf 'group P1\\nlengths 4 4 4\\n0 0 0 84 0\\n1 0 -1 5 -7\\n' | recorder pack - -o some.factors
 ",
     run,
@@ -33,6 +36,10 @@ Example: printf 'group P1\\nlengths 4 4 4\\n0 0 0 84 0\\n1 0 -1 5 -7\\n' | recor
 
 fn run(given: &Given) -> Result<(), Failure> {
     let to = steps::target("pack", given)?;
-    let file = during("reading", |_| factor_text::read(&given.words[0]))?;
+    let name = &given.words[0];
+    let file = during("reading", |_| match given.flag(ALL.name) {
+        true => factor_text::read_all(name, &mut BufWriter::new(io::stderr())),
+        false => factor_text::read(name),
+    })?;
     output::open(Some(to))?.write(|out| out.write_all(&file))
 }

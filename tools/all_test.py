@@ -18,7 +18,7 @@ import subprocess
 import time
 from collections import Counter
 
-from brute_force import PRIMES, admitted, file_bytes, first_record, images, modulus_in, lengths_in, needed, open_file, orbit_of, records_in
+from brute_force import PRIMES, file_bytes, first_record, images, modulus_in, lengths_in, needed, open_file, orbit_of, records_in
 from expected_files import map_head
 from faults_cases import OF_RECORDS, files as small_files
 from many_test import header_in
@@ -27,7 +27,6 @@ from tool import Tool, tested
 SEED = 1848
 GROUPS = ["P1", "P2_1", "Pm", "Pa", "P2_1 2_1 2_1"]
 CELLS = [(2, 2, 2), (4, 2, 6), (4, 4, 4), (2, 6, 8), (6, 8, 6)]
-# The absent orbits of (0, 0, 1) in P2_1 and the like are met in small cells by zeros at such indices.
 
 
 def refusal_of(g, n, p, record, taken):
@@ -176,6 +175,14 @@ def larger(tool):
         records = [(*i, 0, 0) for i in orbit_of(g, n, j) * 2] + [(0, 0, 0, 5, 0), (*j, 0, 0), (*j, 1, 0), (0, 0, 0, 0, 0)]
         faults = checked(tool, "zeros alone in group %d" % g, file_bytes(g, n, lists, records), g, n, PRIMES[1], records)
         tool.expect("zeros alone in group %d: faults" % g, len(faults), len(records) - 2)
+
+
+def documented(tool):
+    """What docs/FORMATS.md shows."""
+    page = open(os.path.join(os.path.dirname(os.path.abspath(__file__)), "../docs/FORMATS.md"), encoding="utf-8").read()
+    records = [(0, 0, 0, 1000, 0), (0, 0, 6, 5, 0), (0, 0, 2, 40, 7), (0, 0, 4, 1, 0)]
+    out = tool.run("check", "--all", tool.file("all", file_bytes(1, (6, 8, 6), [[3], [4], [3]], records)))[1].decode()
+    tool.expect("the documented faults", "".join("    %s\n" % line for line in out.split("\n")[:-1]) in page, True)
 
 
 def several(tool):
@@ -335,9 +342,8 @@ def every_orbit(tool):
 
 
 def test(tool):
-    assert admitted(60)
     tool.reasons()
-    for part in (small, larger, several, texts, in_time, every_orbit):
+    for part in (small, larger, documented, several, texts, in_time, every_orbit):
         part(tool)
 
 

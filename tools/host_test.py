@@ -563,8 +563,9 @@ def refused_overlays(tool):
         words = ("overlay", first, second, "-o", none)
         tool.refused("an overlay beyond the range", words, 28, of="%s and %s" % (first, second))
         magnitudes = [[abs(x) for x in numbers.values()] for numbers in (a, b)]
-        found = "found: the magnitudes of the first map sum up to %d, the largest of the second is %d" % (sum(magnitudes[0]), max(magnitudes[1]))
-        tool.expect("what 28 says", tool.run(*words)[2].decode().split("\n")[2], found)
+        found = "found: the magnitudes of the first map sum up to %d, the largest of the second is %d: their product %d is above %d; divide the numbers of " % (
+            sum(magnitudes[0]), max(magnitudes[1]), sum(magnitudes[0]) * max(magnitudes[1]), GREATEST)
+        tool.expect("what 28 says", tool.run(*words)[2].decode().split("\n")[2][:len(found)], found)
     for g in range(1, 5):
         other = path("other.overlay", {q: 1 for q in all_points((4, 4, 4))}, g, (4, 4, 4))
         for words in (("overlay", sound, other, "-o", none), ("overlay", other, sound, "-o", none), ("overlay", other, other, "-o", none), ("best", other)):

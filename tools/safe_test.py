@@ -39,7 +39,9 @@ USES = [
     ("factors", "MAP", "-o", "OUT"), ("point", "FILE", "0", "0", "0"), ("factor", "FILE", "0", "0", "0"), ("stats", "MAP"), ("power", "FILE"),
     ("power", "FILE", "MAP"), ("section", "FILE", "0"), ("picture", "FILE", "0", "-o", "OUT"), ("picture", "FILE", "0", "-o", "-"),
     ("mrc", "FILE", "--cell", "1,2,3,90,90,90", "-o", "OUT"), ("combine", "FILE", "SECOND", "-o", "OUT"),
-    ("overlay", "COMBINED", "COMBINED2", "-o", "OUT"), ("best", "COMBINED"), ("best", "COMBINED", "--score"), ("drift", "2", "SCORES"),
+    ("overlay", "COMBINED", "COMBINED2", "-o", "OUT"), ("best", "COMBINED"), ("best", "COMBINED", "--score"), ("best", "COMBINED", "-n", "3"),
+    ("drift", "2", "SCORES"), ("check", "FILE", "--all"), ("pack", "TEXT", "-o", "OUT", "--all"), ("stats", "MAP", "--peaks", "3"),
+    ("match", "COMBINED", "COMBINED2"), ("match", "FILE", "MAP", "--json"), ("match", "FILE", "SECOND", "FILE", "SECOND", "-o", "OUT"),
 ]
 BY_INPUT = [(("point", "FILE"), b"0 0 0\n"), (("factor", "FILE"), b"0 0 0\n"), (("line", "1", "0", "2", "-"), b"1 2\n"), (("drift", "2"), b"1 2 3\n")]
 

@@ -4,6 +4,7 @@ use crate::combined_map::CombinedMap;
 use crate::failure::{shown, Failure};
 use crate::ffi;
 use crate::header::{chosen_list, Cell};
+use crate::highest::{Found, Highest};
 use crate::input;
 use crate::memory::zeros;
 use crate::recorder::{self, SCRATCH};
@@ -12,6 +13,9 @@ use std::cmp::Reverse;
 use std::ffi::OsStr;
 
 const P1: u8 = 0;
+/// The greatest product of the magnitudes' sum of one map and the largest of the other, for words: the proved call has it for its own.
+const LIMIT: u128 = 13_063_485_600;
+const REMEDY: &str = "divide the numbers of that map, rounded towards zero, or compare maps of fewer or smaller numbers";
 
 /// The combined map of a file, which must be in P1.
 pub fn read(name: &OsStr) -> Result<CombinedMap, Failure> {
@@ -38,31 +42,53 @@ pub fn overlay(cell: &Cell, first: &[i64], second: &[i64]) -> Result<Vec<i64>, F
         &mut vec![0; SCRATCH],
     );
     match answer.number {
-        MAGNITUDE => Err(Refusal::of_found(MAGNITUDE, magnitudes(first, second)).into()),
+        MAGNITUDE => Err(Refusal::of_found(MAGNITUDE, magnitudes(first, second)).with_remedy(REMEDY).into()),
         number => recorder::accepted(number).map(|()| values).map_err(Failure::from),
     }
 }
 
-/// What is too large, in words: numbers that a file was read with are within the range themselves.
+/// The magnitudes of a map: what an overlay is refused for.
+pub struct Magnitudes {
+    pub sum: u64,
+    pub largest: u64,
+}
+
+impl Magnitudes {
+    pub fn of(map: &[i64]) -> Magnitudes {
+        let magnitudes = || map.iter().map(|number| number.unsigned_abs());
+        Magnitudes { sum: magnitudes().sum(), largest: magnitudes().max().unwrap_or(0) }
+    }
+}
+
+/// What is too large, in words, and what to scale by how much: numbers that a file was read with are within the range themselves, so it is a product.
+/// That the overlay is refused, the proved call says; divided by the number that is named and rounded towards zero, a map gives a product within the
+/// limit, and the one of the larger numbers loses least by it.
 fn magnitudes(first: &[i64], second: &[i64]) -> String {
-    let sum: u64 = first.iter().map(|number| number.unsigned_abs()).sum();
-    let largest = second.iter().map(|number| number.unsigned_abs()).max().unwrap_or(0);
-    format!("the magnitudes of the first map sum up to {sum}, the largest of the second is {largest}")
+    let [first, second] = [first, second].map(Magnitudes::of);
+    let product = |one: &Magnitudes, other: &Magnitudes| u128::from(one.sum) * u128::from(other.largest);
+    let together = product(&first, &second);
+    let divisor = together.div_ceil(LIMIT);
+    let which = if first.largest >= second.largest { "first" } else { "second" };
+    let turned =
+        if product(&second, &first) <= LIMIT { "; the two the other way round are taken, and their shifts have the opposite sign" } else { "" };
+    format!(
+        "the magnitudes of the first map sum up to {}, the largest of the second is {}: their product {together} is above {LIMIT}; \
+         divide the numbers of the {which} by {divisor}, rounded towards zero{turned}",
+        first.sum, second.largest
+    )
 }
 
 /// The greatest value of an overlay and its shift, and the value where nothing is shifted.
 pub struct Best {
-    greatest: i64,
-    shift: [usize; 3],
-    unshifted: i64,
+    pub greatest: i64,
+    pub shift: [usize; 3],
+    pub unshifted: i64,
 }
 
 /// Of several shifts with the greatest value the first, by rising x, then y, then z.
-pub fn best(map: &CombinedMap) -> Best {
-    let across = map.cell.length(0);
-    let values = map.rows().enumerate().flat_map(|(row, values)| values.enumerate().map(move |(y, value)| (value, [row % across, y, row / across])));
+pub fn best(cell: &Cell, rows: impl Iterator<Item = impl Iterator<Item = i64>>) -> Best {
     let mut best = Best { greatest: i64::MIN, shift: [0; 3], unshifted: 0 };
-    for (value, shift) in values {
+    for (value, shift) in values(cell, rows) {
         if shift == [0; 3] {
             best.unshifted = value;
         }
@@ -71,6 +97,19 @@ pub fn best(map: &CombinedMap) -> Best {
         }
     }
     best
+}
+
+/// Some of the greatest values with their shifts, the greatest first, and of equal ones the first shift.
+pub fn several(map: &CombinedMap, count: usize) -> Vec<Found> {
+    let mut highest = Highest::new(count);
+    values(&map.cell, map.rows()).for_each(|found| highest.offer(found));
+    highest.sorted()
+}
+
+/// The values with their shifts.
+fn values(cell: &Cell, rows: impl Iterator<Item = impl Iterator<Item = i64>>) -> impl Iterator<Item = Found> {
+    let across = cell.length(0);
+    rows.enumerate().flat_map(move |(row, values)| values.enumerate().map(move |(y, value)| (value, [row % across, y, row / across])))
 }
 
 impl Best {

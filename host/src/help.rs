@@ -6,8 +6,8 @@ pub const VERSION: &str = concat!("recorder ", env!("CARGO_PKG_VERSION"));
 /// What a FILE is.
 pub const FILES: &str = "\
 A FILE is a factor file or a map file, told apart by its first four bytes; rewrite, records and faults take a factor file, drift a file of
-scores; map, check, info, log, point, section, picture, mrc, stats and compare take a combined map file too, overlay and best that alone, pack a
-text. - is standard input.
+scores; map, check, info, log, point, section, picture, mrc, stats, compare and match take a combined map file too, overlay and best that alone, pack
+a text. - is standard input.
 ";
 /// The exit statuses and what they mean.
 pub const STATUSES: [(&str, &str); 3] = [

@@ -1,5 +1,6 @@
-//! The images of a point by the group, to tell which two numbers of a map make it no map of its group, and the lowest index of a reflection's orbit, to
-//! name the record that another clashes with. They are used for words alone: what is refused, the proved calls say.
+//! The images of a point by the group, to tell which two numbers of a map make it no map of its group, and to name a peak once for all of them; and
+//! the lowest index of a reflection's orbit, to name the record that another clashes with. They are used for words alone: what is refused, and which
+//! number a point has, the proved calls say.
 use crate::header::Cell;
 use std::fmt::Display;
 
@@ -32,6 +33,18 @@ fn differing<T: PartialEq>(cell: &Cell, value: impl Fn(usize) -> T) -> Option<(u
 pub fn said<T: PartialEq + Display>(cell: &Cell, what: &str, value: impl Fn(usize) -> T) -> Option<String> {
     let (point, image) = differing(cell, &value)?;
     Some(format!("{what} {} at {}, but {} at its image {}", value(point), cell.point_at(point), value(image), cell.point_at(image)))
+}
+
+/// The points of the cell that are images of a point, itself among them, each once.
+pub fn of_point(cell: &Cell, point: [usize; 3]) -> Vec<[usize; 3]> {
+    let mut found = vec![point];
+    for operation in OPERATIONS[usize::from(cell.group)] {
+        let image = image(cell, point, operation);
+        if !found.contains(&image) {
+            found.push(image);
+        }
+    }
+    found
 }
 
 fn image(cell: &Cell, point: [usize; 3], operation: &[Move; 3]) -> [usize; 3] {

@@ -16,6 +16,7 @@ mod log;
 mod log_line;
 mod map;
 mod map_folder;
+mod match_crystals;
 mod mrc;
 mod overlay;
 mod pack;
@@ -58,7 +59,7 @@ pub const COMMANDS: [(&str, &[&Command]); 6] = [
     ("Factor files from text, and as text", &[&pack::COMMAND, &records::COMMAND, &rewrite::COMMAND]),
     ("Maps and factors", &[&map::COMMAND, &lanes::COMMAND, &factors::COMMAND, &point::COMMAND, &factor::COMMAND, &stats::COMMAND, &power::COMMAND]),
     ("A look at a map", &[&section::COMMAND, &picture::COMMAND, &mrc::COMMAND]),
-    ("Two maps, and a crystal over time", &[&combine::COMMAND, &overlay::COMMAND, &best::COMMAND, &drift::COMMAND]),
+    ("Two maps, and a crystal over time", &[&match_crystals::COMMAND, &combine::COMMAND, &overlay::COMMAND, &best::COMMAND, &drift::COMMAND]),
     ("One line, and the tool itself", &[&line::COMMAND, &help::COMMAND]),
 ];
 
@@ -102,7 +103,7 @@ fn named(name: &str) -> Result<&'static Command, Failure> {
 /// Whether a command's word is the name of a file that it reads.
 pub fn names_file(word: &str) -> bool {
     let word = word.trim_start_matches('[');
-    ["FILE", "COMBINED", "TEXT"].iter().any(|name| word.starts_with(name))
+    ["FILE", "COMBINED", "TEXT", "DEPOSIT", "RETURNED"].iter().any(|name| word.starts_with(name))
 }
 
 /// Whether a command's word is the name of its only file, or of the first where that is the one at fault.

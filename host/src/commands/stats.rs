@@ -1,7 +1,9 @@
 //! `recorder stats`: the points of the whole cell in a few numbers.
-use crate::arguments::Given;
-use crate::commands::Command;
+use crate::arguments::{Given, Switch};
+use crate::commands::{steps, Command};
 use crate::failure::Failure;
+use crate::highest::{Found, Highest};
+use crate::images;
 use crate::input::{self, Held};
 use crate::output;
 use crate::progress::during;
@@ -10,27 +12,51 @@ use std::cmp::Reverse;
 
 pub const COMMAND: Command = Command {
     name: "stats",
-    usage: "FILE",
+    usage: "FILE [--peaks COUNT]",
     brief: "least and greatest number, total, mean and zeros of the cell",
     words: &["FILE"],
-    switches: &[],
+    switches: &[PEAKS],
     help: "\
 Prints of the map over the whole cell, on planes that are not stored too, a line each: the count of its points, N1 N2 N3; the least number and its
 point x y z, the greatest and its point, of several the first by rising x, then y, then z; the total; the mean, which is the total divided by the
 points and rounded down, with its remainder, so that total = mean x points + remainder, then the quotient to the nearest thousandth; how many
 points are zero. FILE is a factor file, whose map is synthesised, a map file, or a combined map file.
+With --peaks it prints as many lines more as COUNT says, from 1 to 100,000, for the highest points: 'peak', the number, the point x y z, and how many
+points of the cell are its images, itself among them. Points that are images of each other are one, at the lowest x, then y, then z. The highest comes
+first, and of equal ones the lowest point.
 ",
     run,
 };
 
+const PEAKS: Switch = Switch { name: "--peaks", value: "a count", brief: "so many of the highest points too, each once for all its images" };
+
 fn run(given: &Given) -> Result<(), Failure> {
+    let count = steps::count(given, PEAKS.name)?;
     let map = input::map(&given.words[0])?;
     let stats = during("counting", |told| Stats::of(&map, |row, rows| told.done(row, rows)));
-    output::print(&stats.described())
+    let peaks = count.map_or(String::new(), |count| during("counting", |told| peaks(&map, count, |row, rows| told.done(row, rows))));
+    output::print(&(stats.described() + &peaks))
 }
 
-/// A number and the point that has it.
-type Found = (i64, [usize; 3]);
+/// The highest points in words, each once for all its images: at the lowest of them.
+fn peaks(map: &Held, count: usize, told: impl Fn(usize, usize)) -> String {
+    let (cell, mut highest) = (map.cell(), Highest::new(count));
+    let rows = cell.length(0) * cell.length(2);
+    for (done, ([z, x], row)) in whole_cell::all_rows(map).enumerate() {
+        for (y, &number) in row.iter().enumerate() {
+            let found = (number, [x, y, z]);
+            if highest.takes(found) && images::of_point(cell, found.1).iter().min() == Some(&found.1) {
+                highest.offer(found);
+            }
+        }
+        told(done, rows);
+    }
+    let line = |(number, at): Found| {
+        let ([x, y, z], images) = (at, images::of_point(cell, at).len());
+        format!("peak {number} at {x} {y} {z}, {images} point{}\n", if images == 1 { "" } else { "s" })
+    };
+    highest.sorted().into_iter().map(line).collect()
+}
 
 struct Stats {
     points: u64,
@@ -61,7 +87,7 @@ impl Stats {
         let Stats { points, least: (least, [x, y, z]), greatest: (greatest, [u, v, w]), total, zeros } = self;
         let count = *points as i64;
         let (mean, remainder) = (total.div_euclid(count), total.rem_euclid(count));
-        let decimal = thousandths(*total, count);
+        let decimal = steps::thousandths(i128::from(*total), i128::from(count));
         format!(
             "points {points}\nleast {least} at {x} {y} {z}\ngreatest {greatest} at {u} {v} {w}\ntotal {total}\n\
              mean {mean}, remainder {remainder} of {points} points; {decimal}\nzeros {zeros}\n"
@@ -76,27 +102,5 @@ fn greater(first: Found, second: Found) -> Found {
         second
     } else {
         first
-    }
-}
-
-/// A quotient to the nearest thousandth; of two that are as near, the one further from zero.
-fn thousandths(total: i64, points: i64) -> String {
-    let (total, points) = (i128::from(total), i128::from(points));
-    let nearest = (2000 * total.abs() + points) / (2 * points);
-    let sign = if total < 0 && nearest > 0 { "-" } else { "" };
-    format!("{sign}{}.{:03}", nearest / 1000, nearest % 1000)
-}
-
-#[cfg(test)]
-mod decimals {
-    use super::*;
-
-    #[test]
-    fn quotients_are_rounded_to_the_nearest() {
-        let cases = [(0, 8, "0.000"), (7, 8, "0.875"), (-7, 8, "-0.875"), (1, 2000, "0.001"), (-1, 2000, "-0.001"), (-1, 2001, "0.000")];
-        for (total, points, said) in cases {
-            assert_eq!(thousandths(total, points), said);
-        }
-        assert_eq!(thousandths(-13_063_485_600 << 25, 1 << 25), "-13063485600.000");
     }
 }

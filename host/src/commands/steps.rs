@@ -60,6 +60,18 @@ pub fn target<'a>(name: &str, given: &'a Given) -> Result<&'a OsStr, Failure> {
     given.output().ok_or_else(|| Failure::Usage(format!("{name} needs -o and the name of the file to write")))
 }
 
+/// The most that can be listed of the highest.
+const MOST_LISTED: u32 = 100_000;
+
+/// How many of the highest an option asks for, if it was given.
+pub fn count(given: &Given, name: &str) -> Result<Option<usize>, Failure> {
+    match given.number_of(name)? {
+        Some(count @ 1..=MOST_LISTED) => Ok(Some(count as usize)),
+        Some(_) => Err(Failure::Usage(format!("{name} takes a count from 1 to {MOST_LISTED}"))),
+        None => Ok(None),
+    }
+}
+
 /// The indices behind a file's name, or none where they are to be read from standard input, which the file cannot be then.
 pub fn indices(given: &Given, names: [&str; 3]) -> Result<Option<Indices>, Failure> {
     let names = names.join(" ");
@@ -95,4 +107,25 @@ pub fn write_combined(cell: &Cell, volume: &[i64], to: &OsStr) -> Result<(), Fai
 
 pub fn modulus_line(header: &Header) -> String {
     format!("modulus {}, the prime {}\n", header.modulus, header.prime())
+}
+
+/// A quotient to the nearest thousandth; of two that are as near, the one further from zero.
+pub fn thousandths(total: i128, points: i128) -> String {
+    let nearest = (2000 * total.abs() + points) / (2 * points);
+    let sign = if total < 0 && nearest > 0 { "-" } else { "" };
+    format!("{sign}{}.{:03}", nearest / 1000, nearest % 1000)
+}
+
+#[cfg(test)]
+mod decimals {
+    use super::*;
+
+    #[test]
+    fn quotients_are_rounded_to_the_nearest() {
+        let cases = [(0, 8, "0.000"), (7, 8, "0.875"), (-7, 8, "-0.875"), (1, 2000, "0.001"), (-1, 2000, "-0.001"), (-1, 2001, "0.000")];
+        for (total, points, said) in cases {
+            assert_eq!(thousandths(total, points), said);
+        }
+        assert_eq!(thousandths(-13_063_485_600 << 25, 1 << 25), "-13063485600.000");
+    }
 }

@@ -265,6 +265,13 @@ def wrong(tool):
         for option in ("--append", "-o"):
             tool.fails("%s of a file that is read" % option, ("match", first, path, option, name), b"is the file to read and the file to write")
     tool.expect("the files", (open(path, "rb").read(), open(first, "rb").read()), (combined_bytes(0, n, a), factor_file(0, n, a, 1)))
+    kept = tool.file("kept", b"12\n")
+    os.symlink("kept", tool.path("kept.link"))
+    with open(kept, "ab") as out:
+        tool.fails("the run as standard output", ("match", path, path, "--append", kept), b"is the file to read and the file to write by standard", stdout=out)
+    for words in (("--append", kept, "-o", tool.path("kept.link")), ("--append", tool.path("kept.link"), "-o", kept)):
+        tool.fails("the run as the overlay", ("match", path, path, *words), b"is the file to read and the file to write")
+    tool.expect("the run is as it was", open(kept, "rb").read(), b"12\n")
     limit = lambda: resource.setrlimit(resource.RLIMIT_FSIZE, (4, 4))
     kept = tool.file("kept", b"12\n")
     status, out, err = tool.run("match", path, path, "--append", kept, preexec_fn=limit)

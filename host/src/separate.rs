@@ -10,8 +10,9 @@ use std::io;
 use std::os::fd::AsFd;
 use std::os::unix::ffi::OsStrExt;
 use std::os::unix::fs::MetadataExt;
+use std::ptr;
 
-/// What the values of options that are read are called, and of those that are written.
+/// What the values of options that are read are called, and of those that are read and written behind their end.
 pub const READ: &str = "the name of a log";
 pub const APPENDED: &str = "the name of a file of scores";
 const STANDARD_INPUT: &str = "-";
@@ -43,13 +44,14 @@ fn metadata_of(stream: impl AsFd) -> io::Result<Metadata> {
     File::from(stream.as_fd().try_clone_to_owned()?).metadata()
 }
 
-/// Whether a command is to write no file that it reads.
+/// Whether a command is to write no file that it reads, but one of scores, which is read to see that it is one.
 pub fn judge(command: &Command, given: &Given) -> Result<(), Failure> {
     let inputs = inputs(command, given);
     for name in outputs(command, given) {
         let Some(written) = Identity::written(name) else { continue };
         let by_standard = if output::is_standard(name) { " by standard output" } else { "" };
-        if let Some(input) = inputs.iter().find(|input| Identity::read(input) == Some(written)) {
+        let others = inputs.iter().filter(|input| !name.is_some_and(|name| ptr::eq(name, **input)));
+        if let Some(input) = { others }.find(|input| Identity::read(input) == Some(written)) {
             let input = shown(input);
             return Err(Failure::Usage(format!("{input} is the file to read and the file to write{by_standard}; name another file to write")));
         }
@@ -62,8 +64,8 @@ fn inputs<'a>(command: &Command, given: &'a Given) -> Vec<&'a OsStr> {
     let words = command.words;
     let what = |at: usize| words[at.min(words.len() - 1)];
     let files = given.words.iter().enumerate().filter(|(at, _)| names_file(what(*at))).map(|(_, name)| name.as_os_str());
-    let logs = command.switches.iter().filter(|switch| switch.value == READ).filter_map(|switch| given.value(switch.name));
-    let mut inputs: Vec<&OsStr> = files.chain(logs).collect();
+    let kept = command.switches.iter().filter(|switch| [READ, APPENDED].contains(&switch.value)).filter_map(|switch| given.value(switch.name));
+    let mut inputs: Vec<&OsStr> = files.chain(kept).collect();
     if reads_standard_input(command, given) {
         inputs.push(STANDARD_INPUT.as_ref());
     }

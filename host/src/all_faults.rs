@@ -42,10 +42,14 @@ pub struct AllFaults<'a> {
 }
 
 impl AllFaults<'_> {
-    /// Of a file whose shape and header are sound.
+    /// Of a file whose shape and header are sound. One that is accepted has none.
     pub fn of(file: &[u8]) -> Result<AllFaults<'_>, Failure> {
         let header = recorder::factor_file_header(file)?;
         let mut volume = zeros(header.cell.volume_length())?;
+        let answer = ffi::open_file(file, &mut volume);
+        if answer.number == 0 {
+            return Ok(AllFaults { file, header, job: answer.job, volume, faults: Vec::new() });
+        }
         let job = recorder::collecting(&header, &mut volume)?;
         let mut all = AllFaults { file, header, job, volume, faults: Vec::new() };
         all.find()?;
@@ -107,11 +111,7 @@ impl AllFaults<'_> {
 
     /// Has the file of all records that are not refused read by the proved call, which accepts it.
     fn accept_the_others(&mut self) -> Result<(), Failure> {
-        let answer = if self.faults.is_empty() {
-            ffi::open_file(self.file, &mut self.volume)
-        } else {
-            ffi::open_file(&self.file_of_others()?, &mut self.volume)
-        };
+        let answer = ffi::open_file(&self.file_of_others()?, &mut self.volume);
         match answer.number {
             0 => Ok(()),
             number => Err(Failure::Trouble(format!("of the records that were accepted one by one, {} is refused {number}; report it", answer.place))),

@@ -16,6 +16,7 @@ use crate::failure::{shown, Failure};
 use crate::header::{chosen_list, group_named, Cell, Header};
 use crate::input;
 use crate::memory::room;
+use crate::progress::during;
 use crate::recorder::{self, Recorder};
 use crate::text::push_signed;
 use crate::words::{found_of, Refusal};
@@ -87,14 +88,14 @@ fn header_lines(header: &Header, between: &str) -> String {
 /// The factor file that a text stands for, accepted. The header is judged where the records begin, these at the end of the text, or where they are
 /// too many for any file.
 pub fn read(name: &OsStr) -> Result<Vec<u8>, Failure> {
-    collected(name, false)?.0.judged()
+    during("reading", |_| collected(name, false)?.0.judged())
 }
 
 /// The same, or every line that is no record and every record that is refused, which are written out.
 pub fn read_all(name: &OsStr, out: &mut dyn Write) -> Result<Vec<u8>, Failure> {
-    let (mut records, wrong) = collected(name, true)?;
+    let (mut records, wrong) = during("reading", |_| collected(name, true))?;
     factor_file::fill_counts(&mut records.file, &records.header);
-    let all = AllFaults::of(&records.file)?;
+    let all = during("reading", |_| AllFaults::of(&records.file))?;
     let unsaid = |error| Failure::unwritten_stream("standard error".as_ref(), &error);
     out.write_all(wrong.concat().as_bytes()).map_err(unsaid)?;
     if !all.faults.is_empty() {

@@ -12,7 +12,7 @@ use std::ptr::null_mut;
 use std::sync::atomic::{AtomicBool, AtomicI32, AtomicPtr, Ordering};
 
 const FILE_SIZE: c_int = 25;
-/// Hangup, interrupt, quit, the two of a user, alarm, terminate, and no more time on the processor.
+/// By their numbers on Linux: hangup, interrupt, quit, the two of a user, alarm, terminate, and no more time on the processor.
 const ENDING: [c_int; 8] = [1, 2, 3, 10, 12, 14, 15, 24];
 const DEFAULT: usize = 0;
 const IGNORED: usize = 1;

@@ -4,7 +4,6 @@ use crate::commands::{check::ALL, steps, Command};
 use crate::factor_text;
 use crate::failure::Failure;
 use crate::output;
-use crate::progress::during;
 use std::io::{self, BufWriter};
 
 pub const COMMAND: Command = Command {
@@ -37,9 +36,9 @@ Example: printf 'group P1\\nlengths 4 4 4\\n0 0 0 84 0\\n1 0 -1 5 -7\\n' | recor
 fn run(given: &Given) -> Result<(), Failure> {
     let to = steps::target("pack", given)?;
     let name = &given.words[0];
-    let file = during("reading", |_| match given.flag(ALL.name) {
-        true => factor_text::read_all(name, &mut BufWriter::new(io::stderr())),
-        false => factor_text::read(name),
-    })?;
+    let file = match given.flag(ALL.name) {
+        true => factor_text::read_all(name, &mut BufWriter::new(io::stderr()))?,
+        false => factor_text::read(name)?,
+    };
     output::open(Some(to))?.write(|out| out.write_all(&file))
 }

@@ -126,7 +126,12 @@ impl Failure {
 
     /// Of a file that is written and has its name, where its folder cannot be brought to the disk.
     pub fn unsettled(name: &OsStr, error: &io::Error) -> Failure {
-        Failure::trouble(UNSETTLED, name, error, "the file is whole, but may have its old name after a power cut; see to the disk and run again")
+        Failure::trouble(
+            UNSETTLED,
+            name,
+            error,
+            "it is written whole, but a power cut may bring back what was there before; see to the disk and run again",
+        )
     }
 
     /// Of standard output, a named pipe or a device, which get what is written at once.

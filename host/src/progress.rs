@@ -3,7 +3,7 @@
 use crate::signals;
 use std::array;
 use std::io::{self, IsTerminal, Write};
-use std::sync::atomic::{AtomicU32, Ordering};
+use std::sync::atomic::{AtomicBool, AtomicU32, Ordering};
 use std::sync::mpsc::{channel, Receiver, RecvTimeoutError};
 use std::thread;
 use std::time::{Duration, Instant};
@@ -28,6 +28,9 @@ impl Told {
     }
 }
 
+/// Whether progress is shown: of work within other work it is that of the whole.
+static SHOWN: AtomicBool = AtomicBool::new(false);
+
 /// Does some work and shows its progress, if the system has room for a thread that does.
 pub fn during<T>(what: &str, work: impl FnOnce(&Told) -> T) -> T {
     let told = Told::unknown();
@@ -44,16 +47,18 @@ pub fn during_each<const N: usize, T>(what: &str, work: impl FnOnce(&[Told; N]) 
 
 /// Does some work, and shows what is said of it and the seconds, where standard error is a terminal.
 fn showing<T>(said: impl Fn() -> String + Sync, work: impl FnOnce() -> T) -> T {
-    if !io::stderr().is_terminal() {
+    if !io::stderr().is_terminal() || SHOWN.swap(true, Ordering::Relaxed) {
         return work();
     }
     let (working, finished) = channel::<()>();
-    thread::scope(|scope| {
+    let result = thread::scope(|scope| {
         let _ = thread::Builder::new().spawn_scoped(scope, || show(&said, finished));
         let result = work();
         drop(working);
         result
-    })
+    });
+    SHOWN.store(false, Ordering::Relaxed);
+    result
 }
 
 /// Does work that writes to standard output: where that is a terminal too, progress would stand between its lines.

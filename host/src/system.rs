@@ -41,7 +41,7 @@ pub fn opened(stream: usize) -> io::Result<()> {
     Ok(())
 }
 
-/// All threads take memory from one heap: another would set aside 64 megabytes of addresses, which a limit on memory counts.
+/// All threads take memory from one heap: the GNU C library would set aside 64 megabytes of addresses for another, which a limit on memory counts.
 pub fn one_heap() {
     // Sound: called before there is another thread.
     unsafe { mallopt(MOST_HEAPS, 1) };

@@ -122,7 +122,8 @@ def appended(tool):
             with open(path, "ab") as out:
                 what = "%s 2>> %s" % (" ".join(use), name)
                 status, said, _ = tool.run(*tool.words(*use), stderr=out)
-                tool.expect(what, (status, said), (2, b"recorder: standard error is a file to read; send it to another\n"))
+                words = b"recorder: standard error goes to a file that the command line names, or to standard input's; send it to another\n"
+                tool.expect(what, (status, said), (2, words))
                 tool.unchanged(what)
             with open(path, "ab") as out:
                 what = "%s >> %s 2>&1" % (" ".join(use), name)

@@ -78,11 +78,12 @@ fn main() -> ExitCode {
     })
 }
 
-/// Runs the command that the arguments name; its exit status. Where words would be written into a file that it reads, they go to standard output,
+/// Runs the command that the arguments name; its exit status. Where words would be written into a file that it may read, they go to standard output,
 /// unless that is such a file too.
 fn work(arguments: Vec<OsString>) -> u8 {
     if separate::is_standard_error(&arguments) {
-        let failure = Failure::Trouble("standard error is a file to read; send it to another".into());
+        let failure =
+            Failure::Trouble("standard error goes to a file that the command line names, or to standard input's; send it to another".into());
         if !separate::is_standard_output(&arguments) {
             let _ = output::print(&failure.said());
         }

@@ -351,7 +351,7 @@ def other_kinds(tool):
                                     ("\u00e9".encode() * 200, begins % ("\u00e9".encode() * 40), b"recorder pack"),
                                     (gzip.compress(b"1"), b"compressed", b"gunzip"),
                                     (b"\x89PNG\r\n\x1a\n" + bytes(40), b"a picture", b"no command reads"),
-                                    (bytes([9, 0, 0, 0]) + bytes(204) + b"MAP ", b"for viewers", b"no command reads"),
+                                    (bytes([9, 0, 0, 0]) + bytes(204) + b"MAP ", b"for viewers", b"recorder import"),
                                     (b"", b"an empty file", b"fetch or write"), (b"\0\0\0", b"3 bytes, fewer than 5", b"fetch or write"),
                                     (b"\0\0\0\x09ab", b"2 bytes after the count, which asks for 9", b"fetch or write"),
                                     (b"\0\0\0\x01abc", b"more bytes after the count than the 1 ", b"fetch or write"),

@@ -21,7 +21,7 @@ pub const VERSION: u8 = 1;
 const NUMBER: usize = 8;
 const BASE: i64 = PRIMES[1] as i64;
 /// The greatest magnitude: every number is one of 86,399 x 302,399 neighbours, as many below zero as above.
-const GREATEST: i64 = (PRIMES[0] as i64 * BASE - 1) / 2;
+pub const GREATEST: i64 = (PRIMES[0] as i64 * BASE - 1) / 2;
 
 pub struct CombinedMap {
     pub cell: Cell,

@@ -11,11 +11,13 @@ const LOOKED_AT: usize = 256;
 const LINE_SHOWN: usize = 40;
 const TEXT: &str = "make a factor file of it with recorder pack, if it has records, or name the factor file";
 /// Files of other kinds that come to hand: where their letters stand, these letters, what they are and what to do.
-const OTHERS: [(usize, &[u8], &str, &str); 4] = [
+const OTHERS: [(usize, &[u8], &str, &str); 6] = [
     (0, &[0x1f, 0x8b], "a file that is compressed, by gzip", "decompress it first: gunzip FILE"),
-    (0, b"PK\x03\x04", "an archive, by zip", "take the file out of it first: unzip FILE"),
+    (0, b"PK\x03\x04", "an archive, by zip, or a spreadsheet", "take the file out of it first, unzip FILE, or save the table as CSV"),
+    (0, &[0xff, 0xfe], "a text in UTF-16", "save it in UTF-8"),
+    (0, &[0xfe, 0xff], "a text in UTF-16", "save it in UTF-8"),
     (0, b"\x89PNG", "a picture, a PNG file", "name the file that it was made from: no command reads a picture"),
-    (208, b"MAP ", "a map for viewers, in the format MRC", "name the file that it was made from: no command reads a map for viewers"),
+    (208, b"MAP ", "a map for viewers, in the format MRC", "make a map file of it with recorder import, or name the file that it was made from"),
 ];
 /// No accepted file has more records: no two of them are of one orbit, each of which has a place of its own in the volume, the largest of which has
 /// so many numbers.
@@ -107,9 +109,25 @@ pub fn filling(file: &[u8]) -> String {
 
 /// What a file that is refused for its length looks like, and what to do then: of a file of a kind that is told by its first bytes, or of a text.
 pub fn another_kind(file: &[u8]) -> Option<(String, &'static str)> {
-    let known = OTHERS.iter().find(|(at, letters, _, _)| file.get(*at..).is_some_and(|rest| rest.starts_with(letters)));
     let text = || text(&file[..file.len().min(LOOKED_AT)]).map(|line| (format!("a text, which begins with {line:?}"), TEXT));
-    known.map(|&(_, _, kind, remedy)| (kind.into(), remedy)).or_else(text)
+    by_letters(file).map(|(kind, remedy)| (kind.into(), remedy)).or_else(text)
+}
+
+/// What a file is that begins as one of another kind, and what to do then.
+fn by_letters(file: &[u8]) -> Option<(&'static str, &'static str)> {
+    let known = OTHERS.iter().find(|(at, letters, _, _)| file.get(*at..).is_some_and(|rest| rest.starts_with(letters)));
+    known.map(|&(_, _, kind, remedy)| (kind, remedy))
+}
+
+/// What a file is that is given for a text and is none, by its first bytes, and what to do then.
+pub fn no_text(head: &[u8]) -> Option<(&'static str, &'static str)> {
+    let no_letters = head.iter().any(|&byte| byte < b' ' && !byte.is_ascii_whitespace());
+    match head {
+        [b'R', b'M', b'A', b'P', 1 | 2, ..] => Some(("a map file", "it is what it would become; recorder map prints it")),
+        [b'R', b'C', b'M', b'B', 1, ..] => Some(("a combined map file", "it is what it would become; recorder map prints it")),
+        [_, _, _, _, 1 | 2, 0..=4, ..] if no_letters => Some(("a factor file", "recorder map makes a map of it, recorder records a text")),
+        _ => by_letters(head).or(no_letters.then_some(("no text", "give a text, in UTF-8"))),
+    }
 }
 
 /// The beginning of the first line with something on it, where bytes are letters, blanks and ends of lines alone; the last letter may be cut.

@@ -16,6 +16,26 @@ pub fn group_named(name: &str) -> Option<u8> {
     GROUPS.iter().position(|group| plain(group) == named).map(|group| group as u8)
 }
 
+/// The groups that the International Tables have under the numbers of a factor file, from 1 on.
+const IN_THE_TABLES: [&str; 4] = ["P1", "P-1", "P2", "P2_1"];
+
+/// The group that words name: a name, a name behind its number in a factor file, as `recorder info` prints both, or 0, which is P1 alone. Any other
+/// number of a factor file is one of another group in the International Tables too.
+pub fn group_of(words: &str) -> Result<u8, String> {
+    let remedy = "a group is P1, P2_1, Pm, Pa or P2_1 2_1 2_1";
+    let numbered = |number: &str| number.parse::<u8>().ok().filter(|&group| usize::from(group) < GROUPS.len());
+    match (group_named(words), words.split_once(' '), numbered(words)) {
+        (Some(group), _, _) => Ok(group),
+        (None, Some((number, name)), _) if numbered(number).is_some() && numbered(number) == group_named(name) => Ok(group_named(name).unwrap_or(0)),
+        (None, _, Some(0)) => Ok(0),
+        (None, _, Some(group)) => {
+            let (ours, tables) = (GROUPS[usize::from(group)], IN_THE_TABLES[usize::from(group) - 1]);
+            Err(format!("{words} is {ours} in a factor file and {tables} in the International Tables; give the group's name"))
+        }
+        _ => Err(format!("{words:?} is no group; {remedy}")),
+    }
+}
+
 #[derive(Clone)]
 pub struct Cell {
     pub group: u8,
@@ -71,6 +91,12 @@ impl Cell {
         let along = self.length(1) + 2;
         let (row, across) = (place / along, self.length(0));
         format!("x {}, y {}, z {}", row % across, place % along, row / across)
+    }
+
+    /// The same of a place in a map, whose rows have no zeros behind them.
+    pub fn point_in_map(&self, place: usize) -> String {
+        let (row, across) = (place / self.length(1), self.length(0));
+        format!("x {}, y {}, z {}", row % across, place % self.length(1), row / across)
     }
 
     /// The same lengths in P1, which stores every plane.

@@ -1,9 +1,11 @@
 //! No input is ever damaged: whatever a command reads is compared with where its output goes before a byte is written. This is done here, for every
 //! command, by its words and options: a file is the same under whatever names, by links too, and standard input and output may be files.
 use crate::arguments::{Given, Switch, OUTPUT};
+use crate::both;
 use crate::commands::{names_file, Command};
 use crate::failure::{shown, Failure};
 use crate::output;
+use std::borrow::Cow;
 use std::ffi::{OsStr, OsString};
 use std::fs::{self, File, Metadata};
 use std::io;
@@ -48,6 +50,7 @@ fn metadata_of(stream: impl AsFd) -> io::Result<Metadata> {
 pub fn judge(command: &Command, given: &Given) -> Result<(), Failure> {
     let inputs = inputs(command, given);
     for name in outputs(command, given) {
+        let name = name.as_deref();
         let Some(written) = Identity::written(name) else { continue };
         let by_standard = if output::is_standard(name) { " by standard output" } else { "" };
         let others = inputs.iter().filter(|input| !name.is_some_and(|name| ptr::eq(name, **input)));
@@ -80,10 +83,11 @@ fn reads_standard_input(command: &Command, given: &Given) -> bool {
 }
 
 /// Where a command writes: standard output, whatever its options, and the files of these.
-fn outputs<'a>(command: &Command, given: &'a Given) -> Vec<Option<&'a OsStr>> {
+fn outputs<'a>(command: &Command, given: &'a Given) -> Vec<Option<Cow<'a, OsStr>>> {
     let written = |switch: &&Switch| switch.name == OUTPUT.name || switch.value == APPENDED;
     let named = command.switches.iter().filter(written).filter_map(|switch| given.value(switch.name));
-    named.map(Some).chain([None]).collect()
+    let files = named.flat_map(|name| both::written(command.name, given, name));
+    files.map(Some).chain([None]).collect()
 }
 
 /// Whether standard error is a file that the arguments name, or standard input: nothing can be said there without damage to it.

@@ -9,6 +9,7 @@ mod factor;
 mod factors;
 mod faults;
 mod help;
+mod import;
 mod info;
 mod lanes;
 mod line;
@@ -57,7 +58,10 @@ pub struct Command {
 pub const COMMANDS: [(&str, &[&Command]); 6] = [
     ("Files", &[&check::COMMAND, &faults::COMMAND, &info::COMMAND, &compare::COMMAND, &log::COMMAND]),
     ("Factor files from text, and as text", &[&pack::COMMAND, &records::COMMAND, &rewrite::COMMAND]),
-    ("Maps and factors", &[&map::COMMAND, &lanes::COMMAND, &factors::COMMAND, &point::COMMAND, &factor::COMMAND, &stats::COMMAND, &power::COMMAND]),
+    (
+        "Maps and factors",
+        &[&import::COMMAND, &map::COMMAND, &lanes::COMMAND, &factors::COMMAND, &point::COMMAND, &factor::COMMAND, &stats::COMMAND, &power::COMMAND],
+    ),
     ("A look at a map", &[&section::COMMAND, &picture::COMMAND, &mrc::COMMAND]),
     ("Two maps, and a crystal over time", &[&match_crystals::COMMAND, &combine::COMMAND, &overlay::COMMAND, &best::COMMAND, &drift::COMMAND]),
     ("One line, and the tool itself", &[&line::COMMAND, &help::COMMAND]),
@@ -103,12 +107,12 @@ fn named(name: &str) -> Result<&'static Command, Failure> {
 /// Whether a command's word is the name of a file that it reads.
 pub fn names_file(word: &str) -> bool {
     let word = word.trim_start_matches('[');
-    ["FILE", "COMBINED", "TEXT", "DEPOSIT", "RETURNED"].iter().any(|name| word.starts_with(name))
+    ["FILE", "COMBINED", "TEXT", "COUNTS", "DEPOSIT", "RETURNED"].iter().any(|name| word.starts_with(name))
 }
 
 /// Whether a command's word is the name of its only file, or of the first where that is the one at fault.
 fn is_file(word: &str) -> bool {
-    matches!(word, "FILE" | "FILE.." | "COMBINED" | "TEXT")
+    matches!(word, "FILE" | "FILE.." | "COMBINED" | "TEXT" | "COUNTS")
 }
 
 /// Whether a command was given the words that it takes, and is not to write a file that it reads.

@@ -4,6 +4,8 @@ use crate::combined_map;
 use crate::failure::{shown, Failure};
 use crate::header::{Cell, Header};
 use crate::indices::Index;
+use crate::known::Known;
+use crate::one_line;
 use crate::output;
 use crate::progress::{during, during_output};
 use crate::recorder::{self, Recorder};
@@ -96,6 +98,15 @@ pub fn two_files(given: &Given) -> Result<[String; 2], Failure> {
 pub fn write_factor_file(recorder: &Recorder, to: &OsStr) -> Result<(), Failure> {
     let file = during("collecting records", |_| recorder.factor_file())?;
     output::open(Some(to))?.write(|out| out.write_all(&file))
+}
+
+/// Says in a line what was made, unless the file itself went to standard output.
+pub fn say_made(to: &OsStr, known: &Known) -> Result<(), Failure> {
+    if output::is_standard(Some(to)) {
+        return Ok(());
+    }
+    let more = known.header.as_ref().map_or(String::new(), |header| format!(", modulus {}, lists {}", header.modulus, header.lists_text()));
+    output::print(&format!("{}: {}, {}{more}\n", one_line::escaped(to), known.kind, known.described()))
 }
 
 /// Writes a combined map file of the numbers of a volume.

@@ -22,6 +22,7 @@ from brute_force import PRIMES, file_bytes, first_record, images, modulus_in, le
 from expected_files import map_head
 from faults_cases import OF_RECORDS, files as small_files
 from many_test import header_in
+from pack_test import made_line
 from tool import Tool, tested
 
 SEED = 1848
@@ -268,8 +269,9 @@ def texts(tool):
         for (line, said), text in zip(wrong, got):
             head = "recorder: %s, line %d: %s" % (path, line, said)
             tool.expect("text %d, line %d" % (turn, line), text[:len(head)], head)
-        tool.expect("text %d" % turn, (status, out, got[len(wrong):]), (2 if wrong else 1 if faults else 0, b"", want))
         contents = open(made, "rb").read()
+        line = b"" if wrong or faults else made_line(made, contents)
+        tool.expect("text %d" % turn, (status, out, got[len(wrong):]), (2 if wrong else 1 if faults else 0, line, want))
         if wrong or faults:
             tool.expect("text %d: the file" % turn, contents, b"as it was")
         else:

@@ -45,7 +45,7 @@ class Packer(Tool):
     def pack(self, what, text, want):
         """A text that is packed to some bytes."""
         made = self.file("made", b"nothing")
-        self.expect(what, self.run("pack", self.file("text", text), "-o", made), (0, b"", b""))
+        self.expect(what, self.run("pack", self.file("text", text), "-o", made), (0, made_line(made, want), b""))
         with open(made, "rb") as file:
             self.expect(what + ", its bytes", file.read(), want)
 
@@ -71,6 +71,18 @@ class Packer(Tool):
             self.expect(what + ", the old file", file.read(), b"as it was")
 
 
+def made_line(path, file):
+    """What is said of the file that was made."""
+    two = file[4] == 2
+    at, lists = 13 if two else 12, []
+    for _ in range(3):
+        lists.append(",".join(map(str, file[at + 1:at + 1 + file[at]])) or "-")
+        at += 1 + file[at]
+    n = [int.from_bytes(file[c:c + 2], "big") for c in ((7, 9, 11) if two else (6, 8, 10))]
+    said = (path, GROUPS[file[5]], *n, int.from_bytes(file[at:at + 4], "big"), file[6] if two else 1, " ".join(lists))
+    return ("%s: factor file, %s, %d %d %d, %d records, modulus %d, lists %s\n" % said).encode()
+
+
 def explained(refusal, lines):
     """The lines that explain a refusal, if they are those of `why`, `found` and `what to do`, and say why."""
     why = {3: "a length", 4: "a factor", 5: "the product", 7: "a number", 8: "the group", 9: "the volume", 10: "an index", 12: "an image",
@@ -82,14 +94,15 @@ def explained(refusal, lines):
 # ---- texts
 
 def between(rng):
-    return "".join(rng.choice(" \t,") for _ in range(rng.choice((1, 1, 1, 2, 5))))
+    return "".join(rng.choice(" \t,;") for _ in range(rng.choice((1, 1, 1, 2, 5))))
 
 
 def word(rng, number):
-    """A number as a word, sometimes with zeros before it."""
-    if isinstance(number, str):
-        return number
-    return ("-" if number < 0 else "") + rng.choice(("", "", "", "", "0", "000")) + str(abs(number))
+    """A number as a word, sometimes with zeros before it, and any word sometimes in quotes."""
+    shown = number
+    if not isinstance(number, str):
+        shown = ("-" if number < 0 else "") + rng.choice(("", "", "", "", "0", "000")) + str(abs(number))
+    return '"%s"' % shown if rng.random() < 0.1 else shown
 
 
 def written(rng, items, records):
@@ -105,7 +118,7 @@ def written(rng, items, records):
         while rng.random() < 0.25:
             lines.append(rng.choice((b"", b" \t", b",,,", b"# a comment", b"#", b"  # \xff\xfe # h k l", "# P2\u2081".encode())))
         if rng.random() < 0.1:
-            add(["h", "k", "l", "a", "b"])
+            add(rng.choice((["h", "k", "l", "a", "b"], ["H", "K", "L", "A", "B"], ["h", "K", "l", "A", "b"])))
 
     for name in rng.sample(sorted(items), len(items)):
         idle()
@@ -125,7 +138,7 @@ def written(rng, items, records):
 
 def items_of(rng, g, n, lists, modulus):
     """The items of a header, each with its words; of a list that is None there is none, nor always of modulus 1."""
-    named = rng.choice(SPELLINGS[g] + [str(g)])
+    named = rng.choice(SPELLINGS[g] + ["%d %s" % (g, name) for name in SPELLINGS[g]] + ["0"] * (g == 0))
     items = {"group": ["group", *re.split("[ ,\t]+", named)], "lengths": ["lengths", *n]}
     if modulus != 1 or rng.random() < 0.5:
         items["modulus"] = ["modulus", modulus]
@@ -208,8 +221,68 @@ def full_cells(tool):
 
 def names(tool):
     for g, spellings in enumerate(SPELLINGS):
-        for name in spellings + [str(g), "00%d" % g]:
+        for name in spellings + ["%d %s" % (g, name) for name in spellings] + ["0", "000"] * (g == 0):
             tool.pack("group " + name, ("group %s\nlengths 2 4 2\n" % name).encode(), file_bytes(g, (2, 4, 2), [[], [2], []], []))
+    for g, ours, others in ((1, "P2_1", "P1"), (2, "Pm", "P-1"), (3, "Pa", "P2"), (4, "P2_1 2_1 2_1", "P2_1")):
+        for number in (str(g), "00%d" % g):
+            part = "group %s is %s in a factor file and %s in the International Tables; give the group's name" % (number, ours, others)
+            tool.no_text("a bare number", ("\ngroup %s\nlengths 2 4 2\n" % number).encode(), 2, part)
+        other = "group %d %s\nlengths 2 2 2\n" % (g, GROUPS[g - 1])
+        tool.no_text("a number and another name", other.encode(), 1, "no group; a group is P1")
+
+
+def packed_both(tool, text):
+    """The answer, and what stands in the two files."""
+    names = [tool.file("both" + ending, b"as it was") for ending in (".factors", ".second.factors")]
+    answer = tool.run("pack", tool.file("text", text), "--both", "-o", tool.path("both"))
+    return answer, names, [open(name, "rb").read() for name in names]
+
+
+def both_primes(tool):
+    """Whole numbers beyond a prime: a file for each, of the residues that Python has."""
+    rng, most = random.Random(SEED), 13063485600
+    for g, n in itertools.product(range(5), GRIDS):
+        found, taken = [], set()
+        for j in rng.sample(all_points(n), min(40, len(all_points(n)))):
+            a, b = (rng.choice((most, -most, 86399, -302399, 0, rng.randint(-most, most), rng.randint(-9, 9))) for _ in range(2))
+            for v in rng.sample([(a, b), (a, 0), (0, a)], 3) + [(0, 0)]:
+                alike = [all(i != j or w == (v[0] % p, v[1] % p) for i, w in images(g, n, j, (v[0] % p, v[1] % p), p)) for p in PRIMES.values()]
+                if j not in taken and all(alike):
+                    found.append((*j, *v))
+                    taken.update(i for i, _ in images(g, n, j, (0, 0)))
+        items = {name: words for name, words in items_of(rng, g, n, [None] * 3, 1).items() if name != "modulus"}
+        text = written(rng, items, found)[0]
+        lists = [chosen(c) for c in n]
+        want = [file_bytes(g, n, lists, [(*r[:3], r[3] % p, r[4] % p) for r in found], m) for m, p in PRIMES.items()]
+        answer, names, files = packed_both(tool, text)
+        tool.expect("both primes, group %d, %s" % (g, n), (answer, files), ((0, b"".join(map(made_line, names, want)), b""), want))
+        again = tool.run("pack", tool.file("text", text), "--both", "--all", "-o", tool.path("both"))
+        tool.expect("the same with --all", again, answer)
+        tool.expect("they combine", tool.run("combine", *names, "-o", tool.path("combined"))[0], 0)
+    head = b"group P1\nlengths 4 4 4\n"
+    for text, status, part in ((b"0 0 0 5 86399\n", 1, b"refused 12 at 0\n"), (b"0 0 0 5 86399\n", 1, b"found: line 3: h 0, k 0, l 0, a 5, b 86399\n"),
+                               (b"0 0 1 1 1\n0 0 3 86400 302400\n", 1, b"line 4: h 0, k 0, l 3, a 86400, b 302400; of one orbit with line 3: h 0, k 0, l 1, a 1, b 1\n"),
+                               (b"0 0 0 %d 0\n" % (most + 1), 2, b"line 3: %d is beyond %d" % (most + 1, most)),
+                               (b"0 0 0 %d 0\n" % -BIG, 2, b"is beyond"), (b"modulus 1\n0 0 0 1 0\n", 2, b"a modulus is given, in line 3"),
+                               (b"4 0 0 1 0\n", 1, b"refused 10 at 0")):
+        answer, _, files = packed_both(tool, head + text)
+        tool.expect("refused for both: %r" % text, (answer[0], answer[1], part in answer[2], files), (status, b"", True, [b"as it was"] * 2))
+    for what in ("--all", "--both"):
+        words = ["pack", tool.file("text", head + b"0 0 0 5 86399\n"), "--both", "-o", tool.path("both")] + (["--all"] if what == "--all" else [])
+        tool.expect("refused by the second prime", tool.run(*words)[:2], (1, b""))
+    tool.fails("both to standard output", ["pack", "-", "--both", "-o", "-"], b"--both writes several files", given=head)
+    own = tool.file("own.second.factors", head)
+    tool.fails("over its own text", ["pack", own, "--both", "-o", tool.path("own")], b"is the file to read and the file to write")
+
+
+def other_files(tool):
+    """Files that are no texts are named."""
+    for contents, part in ((b"\x1f\x8b\x08\0rest", b"is a file that is compressed, by gzip"), (b"PK\x03\x04rest", b"a spreadsheet; take the file out"),
+                           ("group P1\n".encode("utf-16"), b"is a text in UTF-16; save it in UTF-8"), (b"\xfe\xff\0g\0r", b"UTF-16"),
+                           (file_bytes(1, (2, 2, 2), [[]] * 3, [(0, 0, 0, 1, 0)]), b"is a factor file; "), (b"RMAP\1\0\0\2", b"is a map file; "),
+                           (b"RCMB\1\0\0\2", b"is a combined map file; "), (bytes([9, 0, 0, 0]) + bytes(204) + b"MAP ", b"a map for viewers")):
+        tool.fails("no text: %r" % contents[:8], ["pack", tool.file("text", contents), "-o", tool.path("none")], part)
+        tool.fails("no text, from standard input", ["pack", "-", "-o", tool.path("none")], part, given=contents)
 
 
 def chosen_lists(tool):
@@ -324,11 +397,11 @@ def refused_header(tool, rng, what, g, modulus, n, lists, records=((0, 0, 0, 1, 
     if refusal == 6:
         return False
     items = items_of(rng, 0, n, lists, modulus)
-    items["group"] = ["group", g]
+    items["group"] = ["group", *SPELLINGS[g][0].split()] if g in range(5) else ["group", g]
     text, lines, _ = written(rng, items, rng.choice(((), records)))
     name = at_fault(refusal, n, lists)
     # The words as they stand there, which may have zeros before them.
-    stand = re.split(rb"[ \t,]+", re.sub(rb"#.*|\r", b"", text.removeprefix(b"\xef\xbb\xbf").split(b"\n")[lines[name] - 1]).strip(b" \t,"))
+    stand = re.split(rb"[ \t,;]+", re.sub(rb"#.*|\r|\"", b"", text.removeprefix(b"\xef\xbb\xbf").split(b"\n")[lines[name] - 1]).strip(b" \t,;"))
     assert [int(c) for c in stand if c.lstrip(b"-").isdigit()] == [c for c in items[name] if isinstance(c, int)]
     found = "line %d: %s" % (lines[name], b" ".join(stand).decode())
     if refusal == 3:
@@ -462,10 +535,10 @@ NO_HEADER = [(b"", 1, "no line group"), (b"\n\n# nothing\n", 3, "no line group")
              (b"lengths 2 2 2", 1, "no line group"), (b"modulus 2\nlist h\n", 2, "no line group"),
              (b"group P1\n\n0 0 0 1 0\nlengths 2 2 2\n", 3, "no line lengths"), (b"lengths 2 2 2\nh k l a b\n0 0 0 1 0\n", 3, "no line group")]
 # Records that are none.
-COUNTS = [b"0", b"0 0 0 1", b"0,0,0,,1", b"0 0 0 1 #0", b"0 0 0 1 0 0", b"0 0 0 1 0 h", b"0 0 0 1 0 group P1"]
-NO_NUMBERS = ["x", "1.5", "1e3", "+1", "-", "--1", "1-", "0x1", "1_0", "1'0", "0;0", "\"1\"", "P1", "group",
+COUNTS = [b"0", b"0 0 0 1", b"0,0,0,,1", b"0 0 0 1 #0", b"0 0 0 1 0 0", b"0 0 0 1 0 h", b"0 0 0 1 0 group P1", b"0 0 0 1 0;0", b"0;0;0;1"]
+NO_NUMBERS = ["x", "1.5", "1e3", "+1", "-", "--1", "1-", "0x1", "1_0", "1'0", "\"1", "1\"", "\"1,000\"", "\"\"", "P1", "group",
               "\u0661", "\u22121", "1\u00a0", "\ufeff1", "1\f", "1\v1"]
-COLUMNS = [b"h k l a", b"h k l a b c", b"H K L A B", b"h l k a b", b"k l a b", b"h"]
+COLUMNS = [b"h k l a", b"h k l a b c", b"h l k a b", b"k l a b", b"h"]
 # Header items that are none: the line and a part of the words.
 GROUP_LINES = [b"group", b"group P3", b"group p1", b"group 1 2", b"group P-1", b"group P_1", b"group P2", b"group P2_1 2_1", b"group 1.0",
                b"group P1 P1", b"group P 1 21 1", b"group P222", b"group \xff"]
@@ -540,7 +613,8 @@ def large_texts(tool):
     limit = {"preexec_fn": lambda: resource.setrlimit(resource.RLIMIT_AS, (room, room))}
     path, made = tool.file("large.txt", head + numbers), tool.file("large.factors", b"nothing")
     before = seconds()
-    tool.expect("100,000 records", tool.run("pack", path, "-o", made, **limit), (0, b"", b""))
+    line = made_line(made, file_bytes(0, n, lists, [])).replace(b", 0 records", b", 100000 records")
+    tool.expect("100,000 records", tool.run("pack", path, "-o", made, **limit), (0, line, b""))
     tool.expect("the file of 100,000 records", open(made, "rb").read() == file_bytes(0, n, lists, records), True)
     tool.expect("the text of 100,000 records", tool.run("records", made, "--header") ==
                 (0, b"group P1\nlengths 96 96 96\nmodulus 1\n" + b"".join(b"list %c 4 4 3\n" % axis for axis in b"hkl") + numbers, b""), True)
@@ -603,6 +677,8 @@ def help_texts(tool):
 def test(tool):
     sample(tool)
     names(tool)
+    both_primes(tool)
+    other_files(tool)
     random_texts(tool)
     full_cells(tool)
     chosen_lists(tool)

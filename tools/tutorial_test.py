@@ -22,7 +22,7 @@ from tool import tested
 TOP = os.path.dirname(os.path.dirname(os.path.abspath(__file__)))
 COMMANDS = 12
 # What stands in the folder in the end, and the sample that it is equal to.
-MADE = {"p21.text": None, "p21.factors": "p21.factors", "p21.png": "p21.section.png", "p21.mrc": None, "p21.second.text": None,
+MADE = {"p21.text": None, "p21.factors": "p21.factors", "p21.png": "p21.section.png", "p21.mrc": None, "p21.whole.text": None,
         "p21.second.factors": "p21.second.factors", "p21.combined": None, "large.text": None, "large.factors": None, "maps": None}
 # The unit cell that the tutorial names: its edges, two angles that the group has for itself, and gamma.
 UNIT_CELL = (30, 40, 30, 90, 90, 90)

@@ -126,7 +126,7 @@ pub fn no_text(head: &[u8]) -> Option<(&'static str, &'static str)> {
         [b'R', b'M', b'A', b'P', 1 | 2, ..] => Some(("a map file", "it is what it would become; recorder map prints it")),
         [b'R', b'C', b'M', b'B', 1, ..] => Some(("a combined map file", "it is what it would become; recorder map prints it")),
         [_, _, _, _, 1 | 2, 0..=4, ..] if no_letters => Some(("a factor file", "recorder map makes a map of it, recorder records a text")),
-        _ => by_letters(head).or(no_letters.then_some(("no text", "give a text, in UTF-8"))),
+        _ => by_letters(head),
     }
 }
 

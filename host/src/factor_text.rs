@@ -1,7 +1,7 @@
 //! The text of a factor file, which `recorder pack` reads and `recorder records` writes: the items of the header, a line each, then the records.
-//! Blanks, tabs and commas separate words, `#` begins a comment, empty lines and a line of the columns' names are skipped:
+//! Words stand as lines.rs has them; empty lines and a line of the columns' names are skipped:
 //!
-//!     group P2_1        # a name, or the number that a file has
+//!     group P2_1        # a name: a number alone is another group in the International Tables
 //!     lengths 6 8 6
 //!     modulus 1         # 1 where this line is missing
 //!     list h 3          # factors of N1/2, chosen where this line is missing; so k and l
@@ -11,17 +11,19 @@
 //! What is no number is told here. Whether a number is right is not judged here: it goes into the file's bytes, as the greatest that they hold
 //! where it does not fit them, which is refused as it would be; the proved reader refuses the file, and this adds the line of the text.
 use crate::all_faults::AllFaults;
+use crate::combined_map::GREATEST;
 use crate::factor_file;
 use crate::failure::{shown, Failure};
-use crate::header::{chosen_list, group_named, Cell, Header};
+use crate::header::{chosen_list, group_of, Cell, Header, GROUPS_MEANT};
 use crate::input;
+use crate::lines::{are_columns, whole, words, Lines};
 use crate::memory::room;
 use crate::progress::during;
 use crate::recorder::{self, Recorder};
 use crate::text::push_signed;
 use crate::words::{found_of, Refusal};
 use std::ffi::OsStr;
-use std::io::{self, BufRead, BufReader, Read, Write};
+use std::io::{self, Write};
 
 const GROUP: &str = "group";
 const LENGTHS: &str = "lengths";
@@ -37,13 +39,11 @@ const NO_GROUP: u32 = 8;
 const NO_MODULUS: u32 = 26;
 /// The most bytes of a line, with its end.
 const MOST_BYTES: usize = 4096;
-/// The most letters that are shown of a word.
-const MOST_LETTERS: usize = 64;
+const MEANT: &str = "a record is a line of five numbers";
 /// The most factors of a list: its count is a byte.
 const MOST_FACTORS: usize = 255;
 /// As many lines that are no records are told at once.
 const MOST_WRONG: usize = 1000;
-const BYTE_ORDER_MARK: &[u8] = "\u{feff}".as_bytes();
 
 /// How records are written: as a table with commas and the columns' names, with values below zero, with the header before them.
 pub struct Form {
@@ -85,40 +85,41 @@ fn header_lines(header: &Header, between: &str) -> String {
     lines
 }
 
-/// The factor file that a text stands for, accepted. The header is judged where the records begin, these at the end of the text, or where they are
-/// too many for any file.
-pub fn read(name: &OsStr) -> Result<Vec<u8>, Failure> {
-    during("reading", |_| collected(name, false)?.0.judged())
+/// How a text is read: whether all that is wrong is asked for, and whether it stands for a file for each prime.
+#[derive(Clone, Copy)]
+pub struct Reading {
+    pub all: bool,
+    pub both: bool,
 }
 
-/// The same, or every line that is no record and every record that is refused, which are written out.
-pub fn read_all(name: &OsStr, out: &mut dyn Write) -> Result<Vec<u8>, Failure> {
-    let (mut records, wrong) = during("reading", |_| collected(name, true))?;
-    factor_file::fill_counts(&mut records.file, &records.header);
-    let all = during("reading", |_| AllFaults::of(&records.file))?;
+/// The factor files that a text stands for, one or one for each prime, accepted. The header is judged where the records begin, these at the end of
+/// the text, or where they are too many for any file. Where all that is wrong is asked for, it is written out.
+pub fn read(name: &OsStr, reading: Reading, out: &mut dyn Write) -> Result<Vec<Vec<u8>>, Failure> {
+    let (first, wrong) = during("reading", |_| collected(name, reading))?;
+    let second = if reading.both { Some(first.for_second_prime()?) } else { None };
     let unsaid = |error| Failure::unwritten_stream("standard error".as_ref(), &error);
-    out.write_all(wrong.concat().as_bytes()).map_err(unsaid)?;
-    if !all.faults.is_empty() {
-        let before = format!("recorder: {}: ", shown(name));
-        all.write_each(&before, |place| records.said(place), out).and_then(|()| out.write_all(all.summed().as_bytes())).map_err(unsaid)?;
-    }
-    out.flush().map_err(unsaid)?;
-    match (wrong.is_empty(), all.faults.is_empty()) {
-        (false, _) => Err(Failure::Told),
-        (true, false) => Err(Failure::Reported),
-        (true, true) => Ok(records.file),
+    out.write_all(wrong.concat().as_bytes()).and_then(|()| out.flush()).map_err(unsaid)?;
+    let judged = |records: Records| match reading.all {
+        true => records.all_judged(name, out),
+        false => during("reading", |_| records.judged()),
+    };
+    let files = [Some(first), second].into_iter().flatten().map(judged).collect::<Result<Vec<_>, Failure>>();
+    if wrong.is_empty() {
+        files
+    } else {
+        Err(Failure::Told)
     }
 }
 
 /// The records of a text, not judged. Where all that is wrong is asked for, lines that are no records are told and left out, so many at most.
-fn collected(name: &OsStr, all: bool) -> Result<(Records, Vec<String>), Failure> {
-    let mut lines = Lines::open(name)?;
+fn collected(name: &OsStr, reading: Reading) -> Result<(Records, Vec<String>), Failure> {
+    let mut lines = Lines::new(name, input::text(name)?, (MOST_BYTES, MEANT));
     let (mut head, mut records, mut text, mut wrong) = (Head::default(), None::<Records>, String::new(), Vec::new());
     while lines.next(&mut text)? {
-        let words: Vec<&str> = text.split([' ', '\t', ',']).filter(|word| !word.is_empty()).collect();
+        let words: Vec<&str> = words(&text).collect();
         match words[..] {
             [] => {}
-            _ if words == COLUMNS => {}
+            _ if are_columns(&words, &COLUMNS) => {}
             [item @ (GROUP | LENGTHS | MODULUS | LIST), ..] => match &records {
                 None => head.take(lines.number, &words).map_err(|text| lines.wrong(&text))?,
                 Some(records) => {
@@ -126,13 +127,13 @@ fn collected(name: &OsStr, all: bool) -> Result<(Records, Vec<String>), Failure>
                 }
             },
             _ => {
-                let numbers = match record(&words) {
+                let numbers = match record(&words, reading.both) {
                     Ok(numbers) => numbers,
-                    Err(text) if all && wrong.len() < MOST_WRONG => {
+                    Err(text) if reading.all && wrong.len() < MOST_WRONG => {
                         wrong.push(lines.wrong(&text).said());
                         continue;
                     }
-                    Err(_) if all => {
+                    Err(_) if reading.all => {
                         wrong.push(lines.wrong("reading ends here, so many lines are no records").said());
                         break;
                     }
@@ -140,7 +141,7 @@ fn collected(name: &OsStr, all: bool) -> Result<(Records, Vec<String>), Failure>
                 };
                 let records = match &mut records {
                     Some(records) => records,
-                    None => records.insert(Records::new(head.judged(&lines)?, all)),
+                    None => records.insert(Records::new(head.judged(&lines, reading.both)?, reading)),
                 };
                 records.push(lines.number, &words, numbers)?;
                 if records.are_enough() {
@@ -151,50 +152,9 @@ fn collected(name: &OsStr, all: bool) -> Result<(Records, Vec<String>), Failure>
     }
     let records = match records {
         Some(records) => records,
-        None => Records::new(head.judged(&lines)?, all),
+        None => Records::new(head.judged(&lines, reading.both)?, reading),
     };
     Ok((records, wrong))
-}
-
-/// The lines of a text, one after the other.
-struct Lines<'a> {
-    name: &'a OsStr,
-    source: BufReader<Box<dyn Read>>,
-    bytes: Vec<u8>,
-    /// Of the line that was read last, counted from 1.
-    number: usize,
-}
-
-impl Lines<'_> {
-    fn open(name: &OsStr) -> Result<Lines<'_>, Failure> {
-        let source = input::source(name).map_err(|error| Failure::unread(name, &error))?.0;
-        Ok(Lines { name, source, bytes: Vec::new(), number: 0 })
-    }
-
-    /// Reads a line without its end and its comment; whether there was one.
-    fn next(&mut self, text: &mut String) -> Result<bool, Failure> {
-        self.bytes.clear();
-        let most = MOST_BYTES as u64 + 1;
-        let read = self.source.by_ref().take(most).read_until(b'\n', &mut self.bytes).map_err(|error| Failure::unread(self.name, &error))?;
-        self.number += usize::from(read > 0);
-        if read > MOST_BYTES {
-            return Err(self.wrong(&format!("it has more than {MOST_BYTES} bytes; a record is a line of five numbers")));
-        }
-        let mut line = self.bytes.strip_suffix(b"\n").unwrap_or(&self.bytes);
-        line = line.strip_suffix(b"\r").unwrap_or(line);
-        if self.number == 1 {
-            line = line.strip_prefix(BYTE_ORDER_MARK).unwrap_or(line);
-        }
-        let said = line.split(|&byte| byte == b'#').next().unwrap_or(line);
-        text.clear();
-        text.push_str(&String::from_utf8_lossy(said));
-        Ok(read > 0)
-    }
-
-    /// What is no such text, at the line that was read last.
-    fn wrong(&self, text: &str) -> Failure {
-        Failure::Trouble(format!("{}, line {}: {text}", shown(self.name), self.number.max(1)))
-    }
 }
 
 /// An item of the header: its name, its line, the words that stand there and their numbers.
@@ -223,7 +183,10 @@ impl Head {
     }
 
     /// The header, sound; the lines have been read to its end.
-    fn judged(&self, lines: &Lines) -> Result<Header, Failure> {
+    fn judged(&self, lines: &Lines, both: bool) -> Result<Header, Failure> {
+        if let Some(Item { line, .. }) = self.item(MODULUS).filter(|_| both) {
+            return Err(lines.wrong(&format!("a modulus is given, in line {line}, and --both takes both; leave it out")));
+        }
         let needed = |name| self.item(name).ok_or_else(|| lines.wrong(&format!("there is no line {name} so far; write it before the records")));
         let (group, lengths) = (byte(needed(GROUP)?.numbers[0]), &needed(LENGTHS)?.numbers);
         let lengths = [0, 1, 2].map(|axis| u16::try_from(lengths[axis]).unwrap_or(u16::MAX));
@@ -233,7 +196,12 @@ impl Head {
             None => chosen_list(lengths[axis]),
         };
         let header = Header { version: 1, cell: Cell { group, lengths }, modulus, lists: [0, 1, 2].map(list) }.written();
-        recorder::judge(&header).map_err(|refusal| Refusal::of_found(refusal.number, self.found(refusal.number, &header)))?;
+        recorder::judge(&header).map_err(|refusal| {
+            match (refusal.number, Refusal::of_found(refusal.number, self.found(refusal.number, &header))) {
+                (NO_GROUP, refusal) => refusal.with_remedy("name the group: P1, P2_1, Pm, Pa or P2_1 2_1 2_1"),
+                (_, refusal) => refusal,
+            }
+        })?;
         Ok(header)
     }
 
@@ -271,10 +239,14 @@ fn item(words: &[&str]) -> Result<(&'static str, Vec<i64>), String> {
     }
 }
 
-/// The number of a group, by name or as it is.
+/// The number of a group, by its name. A number that no group of a factor file has is judged as it is.
 fn group(name: &str) -> Result<i64, String> {
-    let remedy = "a group is P1, P2_1, Pm, Pa or P2_1 2_1 2_1, or its number in a factor file, 0 to 4";
-    group_named(name).map_or_else(|| whole(name).map_err(|text| format!("{text} and no group; {remedy}")), |group| Ok(group.into()))
+    match (group_of(name), whole(name)) {
+        (Ok(group), _) => Ok(group.into()),
+        (Err(text), Ok(0..=4)) => Err(format!("group {text}")),
+        (Err(_), Ok(number)) => Ok(number),
+        (Err(_), Err(text)) => Err(format!("{text} and no group; {GROUPS_MEANT}")),
+    }
 }
 
 /// A number of the header that is a byte there. One that does not fit is refused as 255 is.
@@ -282,25 +254,19 @@ fn byte(number: i64) -> u8 {
     u8::try_from(number).unwrap_or(u8::MAX)
 }
 
-/// The five numbers of a record.
-fn record(words: &[&str]) -> Result<[i64; 5], String> {
+/// The five numbers of a record; for both primes the values are no larger than these tell apart.
+fn record(words: &[&str], both: bool) -> Result<[i64; 5], String> {
     let mut numbers = [0; 5];
     for (word, number) in words.iter().zip(numbers.iter_mut()) {
         *number = whole(word).map_err(|text| format!("{text}; a line has h k l a b, or begins with group, lengths, modulus or list"))?;
     }
     match words.len() {
-        5 => Ok(numbers),
+        5 => match numbers[3..].iter().find(|value| both && value.unsigned_abs() > GREATEST.unsigned_abs()) {
+            Some(value) => Err(format!("{value} is beyond {GREATEST}, the greatest value that both primes tell from all others")),
+            None => Ok(numbers),
+        },
         count => Err(format!("{count} words; a record has five numbers, h k l a b")),
     }
-}
-
-/// A whole number. One beyond 64 bits is the one at their end: it fits nowhere either. Of a long word that is none the beginning is shown.
-fn whole(word: &str) -> Result<i64, String> {
-    let (digits, end) = word.strip_prefix('-').map_or((word, i64::MAX), |digits| (digits, i64::MIN));
-    if digits.is_empty() || !digits.bytes().all(|byte| byte.is_ascii_digit()) {
-        return Err(format!("{:?} is not a whole number", word.chars().take(MOST_LETTERS).collect::<String>()));
-    }
-    Ok(word.parse().unwrap_or(end))
 }
 
 /// The records of a text as the factor file under a sound header, and their lines.
@@ -312,22 +278,44 @@ struct Records {
     lines: Vec<(u32, usize)>,
     /// The records with a number that their bytes cannot hold, or the first of them: place and words.
     beyond: Vec<(u32, Box<[String; 5]>)>,
-    /// Whether every record that is refused is asked for, not the first alone.
-    all: bool,
+    /// The values as they stand in the text, where it stands for a file for each prime.
+    values: Vec<[i64; 2]>,
+    reading: Reading,
 }
 
 impl Records {
-    fn new(header: Header, all: bool) -> Records {
+    fn new(header: Header, reading: Reading) -> Records {
         let file = [&[0; 4], &header.bytes()[..], &[0; 4]].concat();
-        Records { header, file, count: 0, lines: Vec::new(), beyond: Vec::new(), all }
+        Records { header, file, count: 0, lines: Vec::new(), beyond: Vec::new(), values: Vec::new(), reading }
+    }
+
+    /// The same records modulo the second prime.
+    fn for_second_prime(&self) -> Result<Records, Failure> {
+        let header = Header { modulus: 2, ..self.header.clone() }.written();
+        let prime = i64::from(header.prime());
+        let of_text =
+            Records { lines: self.lines.clone(), beyond: self.beyond.clone(), values: self.values.clone(), ..Records::new(header, self.reading) };
+        let mut second = Records { count: self.count, ..of_text };
+        room(&mut second.file, factor_file::RECORD * self.values.len())?;
+        for (place, values) in (0..).zip(&self.values) {
+            let index = factor_file::record(&self.file, &self.header, place).index();
+            second.file.extend(index.into_iter().flat_map(|index| (index as u16).to_be_bytes()));
+            second.file.extend(values.iter().flat_map(|value| (value.rem_euclid(prime) as u32).to_be_bytes()));
+        }
+        Ok(second)
     }
 
     /// An index that does not fit is refused as 65,535 is, a value as the greatest of 32 bits.
     fn push(&mut self, line: usize, words: &[&str], numbers: [i64; 5]) -> Result<(), Failure> {
         let (lengths, prime) = (self.header.cell.lengths.map(i64::from), i64::from(self.header.prime()));
         let indices = [0, 1, 2].map(|axis| standing(numbers[axis], lengths[axis], lengths[axis]).and_then(|index| u16::try_from(index).ok()));
-        let values = [3, 4].map(|column: usize| standing(numbers[column], prime, prime - 1).and_then(|value| u32::try_from(value).ok()));
-        if (self.all || self.beyond.is_empty()) && (indices.contains(&None) || values.contains(&None)) {
+        let value = |number: i64| if self.reading.both { Some(number.rem_euclid(prime)) } else { standing(number, prime, prime - 1) };
+        let values = [3, 4].map(|column: usize| value(numbers[column]).and_then(|value| u32::try_from(value).ok()));
+        if self.reading.both {
+            room(&mut self.values, 1)?;
+            self.values.push([numbers[3], numbers[4]]);
+        }
+        if (self.reading.all || self.beyond.is_empty()) && (indices.contains(&None) || values.contains(&None)) {
             room(&mut self.beyond, 1)?;
             self.beyond.push((self.count, Box::new([0, 1, 2, 3, 4].map(|column| words[column].into()))));
         }
@@ -349,7 +337,7 @@ impl Records {
 
     /// Whether no more need be read: one that is refused is among them, and where all are asked for no file has more.
     fn are_enough(&self) -> bool {
-        self.are_too_many() && (!self.all || self.count as usize > factor_file::MOST_RECORDS)
+        self.are_too_many() && (!self.reading.all || self.count as usize > factor_file::MOST_RECORDS)
     }
 
     /// The line of a record, or the one behind the last.
@@ -369,6 +357,20 @@ impl Records {
         }
     }
 
+    /// The file, accepted whole, or every record that is refused, which are written out.
+    fn all_judged(mut self, name: &OsStr, out: &mut dyn Write) -> Result<Vec<u8>, Failure> {
+        factor_file::fill_counts(&mut self.file, &self.header);
+        let all = during("reading", |_| AllFaults::of(&self.file))?;
+        if all.faults.is_empty() {
+            return Ok(self.file);
+        }
+        let unsaid = |error| Failure::unwritten_stream("standard error".as_ref(), &error);
+        let before = format!("recorder: {}: ", shown(name));
+        all.write_each(&before, |place| self.said(place), out).and_then(|()| out.write_all(all.summed().as_bytes())).map_err(unsaid)?;
+        out.flush().map_err(unsaid)?;
+        Err(Failure::Reported)
+    }
+
     /// The refused record, and the one that it is of one orbit with.
     fn found(&self, place: u32) -> String {
         match recorder::faults(&self.file)[..] {
@@ -377,12 +379,15 @@ impl Records {
         }
     }
 
-    /// A record with its line: the numbers of the file, or the words where one does not fit.
+    /// A record with its line: the numbers of the file, or the words where one does not fit, and the values of the text where that has two files.
     fn said(&self, place: u32) -> String {
-        let [h, k, l, a, b] = match self.beyond.binary_search_by_key(&place, |(beyond, _)| *beyond) {
+        let [h, k, l, mut a, mut b] = match self.beyond.binary_search_by_key(&place, |(beyond, _)| *beyond) {
             Ok(at) => *self.beyond[at].1.clone(),
             Err(_) => factor_file::record(&self.file, &self.header, place).numbers().map(|number| number.to_string()),
         };
+        if let Some([first, second]) = self.values.get(place as usize) {
+            (a, b) = (first.to_string(), second.to_string());
+        }
         format!("line {}: h {h}, k {k}, l {l}, a {a}, b {b}", self.line(place))
     }
 }

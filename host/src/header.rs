@@ -6,6 +6,8 @@
 use std::io::{self, Read};
 
 const GROUPS: [&str; 5] = ["P1", "P2_1", "Pm", "Pa", "P2_1 2_1 2_1"];
+/// What names a group, in words.
+pub const GROUPS_MEANT: &str = "a group is P1, P2_1, Pm, Pa or P2_1 2_1 2_1";
 /// The primes of moduli 1 and 2.
 pub const PRIMES: [u32; 2] = [86_399, 302_399];
 
@@ -22,7 +24,6 @@ const IN_THE_TABLES: [&str; 4] = ["P1", "P-1", "P2", "P2_1"];
 /// The group that words name: a name, a name behind its number in a factor file, as `recorder info` prints both, or 0, which is P1 alone. Any other
 /// number of a factor file is one of another group in the International Tables too.
 pub fn group_of(words: &str) -> Result<u8, String> {
-    let remedy = "a group is P1, P2_1, Pm, Pa or P2_1 2_1 2_1";
     let numbered = |number: &str| number.parse::<u8>().ok().filter(|&group| usize::from(group) < GROUPS.len());
     match (group_named(words), words.split_once(' '), numbered(words)) {
         (Some(group), _, _) => Ok(group),
@@ -32,7 +33,7 @@ pub fn group_of(words: &str) -> Result<u8, String> {
             let (ours, tables) = (GROUPS[usize::from(group)], IN_THE_TABLES[usize::from(group) - 1]);
             Err(format!("{words} is {ours} in a factor file and {tables} in the International Tables; give the group's name"))
         }
-        _ => Err(format!("{words:?} is no group; {remedy}")),
+        _ => Err(format!("{words:?} is no group; {GROUPS_MEANT}")),
     }
 }
 

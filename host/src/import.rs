@@ -1,8 +1,7 @@
 //! What a file of counts is: a file of other programs, or a text. Its first bytes tell.
 use crate::count_text;
 use crate::counts::{Asked, Counts};
-use crate::factor_file;
-use crate::failure::{shown, Failure};
+use crate::failure::Failure;
 use crate::input;
 use crate::progress::Told;
 use crate::viewer_file;
@@ -16,8 +15,6 @@ pub fn read(asked: &Asked, told: &Told) -> Result<Counts, Failure> {
     if viewer_file::is_one(&head) {
         return viewer_file::read(asked, &head, &mut source, told);
     }
-    if let Some((kind, remedy)) = factor_file::no_text(&head) {
-        return Err(Failure::Trouble(format!("{} is {kind}; {remedy}", shown(asked.name))));
-    }
+    input::judge_text(asked.name, &head)?;
     count_text::read(asked, BufReader::new(Box::new(Cursor::new(head).chain(source))), told)
 }

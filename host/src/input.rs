@@ -14,10 +14,12 @@ use crate::system;
 use crate::words::Refusal;
 use std::ffi::OsStr;
 use std::fs::File;
-use std::io::{self, BufReader, ErrorKind, Read};
+use std::io::{self, BufRead, BufReader, ErrorKind, Read};
 use std::iter;
 
 const BUFFER: usize = 1 << 18;
+/// The first bytes of a text that are looked at.
+const LOOKED_AT: usize = 256;
 /// The most numbers that any line has: 2N of a plain one of the greatest length.
 const MOST_NUMBERS: usize = 2 * 2880;
 /// The most bytes that are read of a line: some 180 for each of its numbers, with the blanks.
@@ -89,6 +91,21 @@ pub fn source(name: &OsStr) -> io::Result<(BufReader<Box<dyn Read>>, u64)> {
         }
     };
     Ok((BufReader::with_capacity(BUFFER, source), length))
+}
+
+/// Opens a text. A file that is none, by its first bytes, is told to be what it is.
+pub fn text(name: &OsStr) -> Result<BufReader<Box<dyn Read>>, Failure> {
+    let mut source = source(name).map_err(|error| Failure::unread(name, &error))?.0;
+    judge_text(name, source.fill_buf().map_err(|error| Failure::unread(name, &error))?)?;
+    Ok(source)
+}
+
+/// Whether the first bytes of a file are those of a file of another kind.
+pub fn judge_text(name: &OsStr, head: &[u8]) -> Result<(), Failure> {
+    match factor_file::no_text(&head[..head.len().min(LOOKED_AT)]) {
+        Some((kind, remedy)) => Err(Failure::Trouble(format!("{} is {kind}; {remedy}", shown(name)))),
+        None => Ok(()),
+    }
 }
 
 /// What a file is.

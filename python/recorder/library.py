@@ -1,0 +1,48 @@
+"""Where the shared library is found, and its loading, with the types of its calls: once, at the first call."""
+from __future__ import annotations
+
+import ctypes
+import functools
+import os
+from typing import List
+
+from .declarations import CALLS, Lent
+
+NAME = "librecorder.so.2"
+VARIABLE = "RECORDER_LIBRARY"
+HERE = os.path.dirname(os.path.abspath(__file__))
+
+
+def places() -> List[str]:
+    """Where the library may be, the first that is there counts: PREFIX/lib of an installation, then what bin/install makes in the build's folder."""
+    return [os.path.normpath(os.path.join(HERE, up, NAME)) for up in ("../../..", "../../target/install")]
+
+
+def found() -> str:
+    """The library's file: what RECORDER_LIBRARY names, else the first place that has it, else its name, for which the loader searches."""
+    return os.environ.get(VARIABLE) or next((place for place in places() if os.path.exists(place)), NAME)
+
+
+def opened(name: str) -> ctypes.CDLL:
+    """A library by its file, or OSError with words on what to do."""
+    try:
+        return ctypes.CDLL(name)
+    except OSError as error:
+        looked = "named by %s" % VARIABLE if os.environ.get(VARIABLE) else "looked for in %s and where the loader looks" % ", ".join(places())
+        raise OSError("the recorder's library cannot be loaded (%s), %s: run bin/install PREFIX, or let %s name %s"
+                      % (error, looked, VARIABLE, NAME)) from None
+
+
+@functools.lru_cache(maxsize=None)
+def library() -> ctypes.CDLL:
+    """The loaded library, with the types of its calls."""
+    name = found()
+    loaded = opened(name)
+    for call, (gives, takes) in CALLS.items():
+        if not hasattr(loaded, call):
+            raise OSError("%s has no call %s: it is of another version" % (name, call))
+        function = getattr(loaded, call)
+        function.restype = gives
+        function.argtypes = [part for kind in takes.values()
+                             for part in ((ctypes.c_void_p, ctypes.c_size_t) if isinstance(kind, Lent) else (kind,))]
+    return loaded

@@ -20,7 +20,8 @@ def places() -> List[str]:
 
 def found() -> str:
     """The library's file: what RECORDER_LIBRARY names, else the first place that has it, else its name, for which the loader searches."""
-    return os.environ.get(VARIABLE) or next((place for place in places() if os.path.exists(place)), NAME)
+    named = os.environ.get(VARIABLE, "")
+    return named or next((place for place in places() if os.path.exists(place)), NAME)
 
 
 def opened(name: str) -> ctypes.CDLL:

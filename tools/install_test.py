@@ -6,7 +6,8 @@
 Library and tool have to be built before: stand-ins for rt and cargo, first in PATH, do nothing, so nothing is proved or built anew. Into an empty
 prefix, once more into the same, with DESTDIR, under a relative name with a blank in it; prefixes that cannot be written or named, a machine that
 lacks something, a build that fails and a copy that fails midway: each is told in words and leaves what was there. The shared library has the calls of
-the C header as its names, no others, and pkg-config gives the flags. Prints how many comparisons agreed; the exit status is 1 where one did not.
+the C header as its names, no others, and pkg-config gives the flags. The Python package of the prefix finds the library beside it. Prints how many
+comparisons agreed; the exit status is 1 where one did not.
 """
 import ctypes
 import os
@@ -14,6 +15,7 @@ import re
 import shutil
 import stat
 import subprocess
+import sys
 
 from tool import tested
 
@@ -32,6 +34,15 @@ PLACES = {
     "share/zsh/site-functions/_recorder": (0o644, ["help", "--completion", "zsh"]),
     "share/fish/vendor_completions.d/recorder.fish": (0o644, ["help", "--completion", "fish"]),
 }
+PACKAGE = "lib/python3/dist-packages/recorder"
+MODULES = ["__init__.py", "arrays.py", "calling.py", "calls.py", "cells.py", "declarations.py", "entries.py", "lanes.py", "library.py", "lines.py",
+           "maps.py", "refusals.py", "py.typed"]
+PLACES.update({"%s/%s" % (PACKAGE, name): (0o644, "python/recorder/" + name) for name in MODULES})
+# What a program of the package prints: where the library was found, and a density of the sample.
+PROGRAM_IN_PYTHON = """
+import recorder, recorder.library, sys
+print(recorder.library.found(), recorder.read(sys.argv[1]).synthesis().point(0, 0, 0))
+"""
 STAND_IN = "#!/bin/sh\necho 'cargo 9999.0.0'\n"
 BROKEN = "#!/bin/sh\nexit 1\n"
 # What copies half of a file, says nothing and fails.
@@ -79,7 +90,9 @@ def compare_tree(tool, what, root, prefix):
     for place in PLACES:
         held = must_hold(place)
         if held is not None:
-            tool.expect("%s, %s" % (what, place), held != b"" and found.get(place, (0, b""))[1] == held, True)
+            # py.typed is empty, and nothing else is
+            whole = held != b"" or place.endswith("py.typed")
+            tool.expect("%s, %s" % (what, place), whole and found.get(place, (0, b""))[1] == held, True)
     tool.expect(what + ", the link", os.readlink(os.path.join(root, "lib/librecorder.so")), "librecorder.so.2")
     lines = found.get("lib/pkgconfig/recorder.pc", (0, b""))[1].decode().split("\n")
     version = re.search('(?m)^version = "(.*)"$', contents(os.path.join(TOP, "host/Cargo.toml")).decode()).group(1)
@@ -99,6 +112,23 @@ def compare_shared(tool, prefix):
     tool.expect("it is loaded", [name for name in calls if not hasattr(ctypes.CDLL(path), name)], [])
 
 
+def compare_package(tool, prefix):
+    """The Python package finds the library of its prefix, whatever the loader finds."""
+    env = {key: value for key, value in os.environ.items() if key not in ("RECORDER_LIBRARY", "LD_LIBRARY_PATH")}
+    env = {**env, "PYTHONPATH": os.path.dirname(os.path.join(prefix, PACKAGE)), "PYTHONDONTWRITEBYTECODE": "1"}
+    sample = os.path.join(TOP, "samples/p21.factors")
+    done = subprocess.run([sys.executable, "-c", PROGRAM_IN_PYTHON, sample], env=env, stdout=subprocess.PIPE, stderr=subprocess.STDOUT, check=False)
+    tool.expect("the Python package", done.stdout.decode(), "%s/lib/librecorder.so.2 2180\n" % prefix)
+
+
+def compile_package(tool, prefix):
+    """What Python leaves beside a module when it is imported, under two versions' names, and a file that is not of the package."""
+    os.mkdir(os.path.join(prefix, PACKAGE, "__pycache__"))
+    for name in MODULES[:-1]:
+        for version in ("cpython-39", "cpython-311.opt-1"):
+            tool.file(os.path.join(prefix, PACKAGE, "__pycache__", name.replace(".py", "." + version + ".pyc")), b"compiled")
+
+
 def compare_flags(tool, prefix):
     """What pkg-config says, where the machine has it; a blank in a name is behind a backslash."""
     if shutil.which("pkg-config"):
@@ -116,6 +146,7 @@ def installs(tool, env):
     tool.expect("install", (status, said), (0, ["installed %s/%s" % (prefix, place) for place in PLACES]))
     compare_tree(tool, "install", prefix, prefix)
     compare_shared(tool, prefix)
+    compare_package(tool, prefix)
     compare_flags(tool, prefix)
     before = tree(prefix)
     tool.expect("install again", (tool.run(prefix, env=env)[0], tree(prefix) == before), (0, True))
@@ -124,6 +155,7 @@ def installs(tool, env):
     compare_tree(tool, "DESTDIR", stage + "/opt/the recorder", "/opt/the recorder")
     tool.expect("a relative prefix", tool.run("a blank/in it", env=env, cwd=tool.folder)[0], 0)
     compare_tree(tool, "a relative prefix", tool.path("a blank/in it"), tool.path("a blank/in it"))
+    compare_package(tool, tool.path("a blank/in it"))
     compare_flags(tool, tool.path("a blank/in it"))
 
 
@@ -159,10 +191,12 @@ def uninstalls(tool, env):
     """Exactly what was installed goes: what stands beside stays, as do folders."""
     prefix = tool.path("prefix")
     tool.file("prefix/lib/librecorder.so.1", b"of another version")
+    compile_package(tool, prefix)
     for what, words in (("uninstall", "removed "), ("uninstall again", "not there: ")):
         status, out, _ = tool.run("--uninstall", prefix, env=env)
         tool.expect(what, (status, out.decode().splitlines()), (0, [words + "%s/%s" % (prefix, place) for place in PLACES]))
         tool.expect(what + ", what is left", list(tree(prefix)), ["lib/librecorder.so.1"])
+        tool.expect(what + ", the folders of the package", os.path.exists(os.path.join(prefix, PACKAGE)), False)
     tool.expect("uninstall with DESTDIR", tool.run("--uninstall", "/opt/the recorder", env={**env, "DESTDIR": tool.path("stage")})[0], 0)
     tool.expect("uninstall with DESTDIR, what is left", tree(tool.path("stage")), {})
 

@@ -6,7 +6,7 @@ pub const VERSION: &str = concat!("recorder ", env!("CARGO_PKG_VERSION"));
 /// What a FILE is.
 pub const FILES: &str = "\
 A FILE is a factor file or a map file, told apart by its first four bytes; rewrite, records and faults take a factor file, drift a file of
-scores; map, check, info, log, point, section, picture, mrc, stats, compare and match take a combined map file too, overlay and best that alone, pack
+scores; map, check, info, log, point, section, picture, page, mrc, stats, compare and match take a combined map file too, overlay and best that alone, pack
 a text, import a text, a table or a file of MRC. - is standard input.
 ";
 /// The exit statuses and what they mean.

@@ -40,6 +40,7 @@ mod mrc;
 mod nearest;
 mod one_line;
 mod output;
+mod page;
 mod picture;
 mod png;
 mod progress;

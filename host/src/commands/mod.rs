@@ -21,6 +21,7 @@ mod match_crystals;
 mod mrc;
 mod overlay;
 mod pack;
+mod page;
 mod picture;
 mod planes;
 mod point;
@@ -28,8 +29,8 @@ mod power;
 mod records;
 mod rewrite;
 mod section;
-mod stats;
-mod steps;
+pub mod stats;
+pub mod steps;
 mod verify;
 
 use crate::arguments::{Given, Switch};
@@ -62,7 +63,7 @@ pub const COMMANDS: [(&str, &[&Command]); 6] = [
         "Maps and factors",
         &[&import::COMMAND, &map::COMMAND, &lanes::COMMAND, &factors::COMMAND, &point::COMMAND, &factor::COMMAND, &stats::COMMAND, &power::COMMAND],
     ),
-    ("A look at a map", &[&section::COMMAND, &picture::COMMAND, &mrc::COMMAND]),
+    ("A look at a map", &[&section::COMMAND, &picture::COMMAND, &page::COMMAND, &mrc::COMMAND]),
     ("Two maps, and a crystal over time", &[&match_crystals::COMMAND, &combine::COMMAND, &overlay::COMMAND, &best::COMMAND, &drift::COMMAND]),
     ("One line, and the tool itself", &[&line::COMMAND, &help::COMMAND]),
 ];

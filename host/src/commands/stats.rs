@@ -58,17 +58,17 @@ fn peaks(map: &Held, count: usize, told: impl Fn(usize, usize)) -> String {
     highest.sorted().into_iter().map(line).collect()
 }
 
-struct Stats {
+pub struct Stats {
     points: u64,
-    least: Found,
-    greatest: Found,
+    pub least: Found,
+    pub greatest: Found,
     total: i64,
     zeros: u64,
 }
 
 impl Stats {
     /// The total is within 64 bits: no map has more than 2^25 points, and no number a magnitude of 2^34.
-    fn of(map: &Held, told: impl Fn(usize, usize)) -> Stats {
+    pub fn of(map: &Held, told: impl Fn(usize, usize)) -> Stats {
         let cell = map.cell();
         let rows = cell.length(0) * cell.length(2);
         let mut stats = Stats { points: cell.points(), least: (i64::MAX, [0; 3]), greatest: (i64::MIN, [0; 3]), total: 0, zeros: 0 };

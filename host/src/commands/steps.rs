@@ -32,6 +32,11 @@ pub struct Power {
 }
 
 impl Power {
+    pub fn new(header: Header, of_map: u32, of_factors: u32) -> Power {
+        let product = (header.cell.points() * u64::from(of_factors) % u64::from(header.prime())) as u32;
+        Power { header, of_map, of_factors, product }
+    }
+
     pub fn agree(&self) -> bool {
         self.of_map == self.product
     }
@@ -48,9 +53,7 @@ pub fn power(mut recorder: Recorder) -> Result<Power, Failure> {
         recorder = with_map(recorder)?;
         (recorder.map_power()?, of_factors)
     };
-    let header = recorder.header;
-    let product = (header.cell.points() * u64::from(of_factors) % u64::from(header.prime())) as u32;
-    Ok(Power { header, of_map, of_factors, product })
+    Ok(Power::new(recorder.header, of_map, of_factors))
 }
 
 pub fn accepted(file: &[u8]) -> Result<Recorder, Failure> {

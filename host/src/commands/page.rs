@@ -84,7 +84,8 @@ fn window(given: &Given) -> Result<u32, Failure> {
         return Err(Failure::Usage("--window is of --scores; give both".into()));
     }
     let w = w.unwrap_or(WINDOW_LENGTH);
-    drift::judge(w).map_err(|refusal| Refusal::of_found(refusal.number, format!("W is {w}")))?;
+    let refused = |refusal: Refusal| Failure::from(Refusal::of_found(refusal.number, format!("W is {w}"))).of(WINDOW.name.into());
+    drift::judge(w).map_err(refused)?;
     Ok(w)
 }
 

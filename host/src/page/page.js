@@ -5,11 +5,12 @@
 // Colours from zero to the greatest magnitude below and above it; blue and orange differ for the colour-blind, and each darkens evenly.
 const BELOW = [[255, 255, 255], [209, 229, 240], [146, 197, 222], [67, 147, 195], [33, 102, 172]];
 const ABOVE = [[255, 255, 255], [254, 224, 182], [253, 184, 99], [224, 130, 20], [179, 88, 6]];
-// The longer side of a section in pixels, the colours of each sign, the most contours above zero, as many numbers as are written out before they are
-// asked for, and the most numbers at an axis.
+// The longer side of a section in pixels, the colours of each sign, the most contours above zero, the pixels between two on average (where they
+// would be closer there are none), as many numbers as are written out before they are asked for, and the most numbers at an axis.
 const SIDE = 1200;
 const SHADES = 500;
 const LEVELS = 5;
+const CLOSEST = 20;
 const LISTED = 16384;
 const TICKS = 6;
 
@@ -73,6 +74,13 @@ function crossed(path, rows, above, x, y, level, size) {
   }
 }
 
+// How many contours there are between two neighbours along y, on average.
+function crossings(rows, step) {
+  const band = (number) => Math.floor(number / step);
+  const total = rows.reduce((sum, row) => row.reduce((sum, number, y) => sum + Math.abs(band(number) - band(row[(y + 1) % row.length])), sum), 0);
+  return total / (rows.length * rows[0].length);
+}
+
 // ---- a section
 
 class Panel {
@@ -120,7 +128,7 @@ class Panel {
     if (!this.rows) return;
     const most = full === "plane" ? greatest(this.rows) : full;
     this.paint(most);
-    this.legend(most, contours ? this.draw(most) : 0);
+    this.legend(most, contours ? this.draw(most) : "");
     this.describe();
     this.list();
   }
@@ -138,10 +146,11 @@ class Panel {
     onto.drawImage(small, 0, 0, this.canvas.width, this.canvas.height);
   }
 
-  // Draws the contours and gives their distance: whole lines above zero, dashed ones below.
+  // Draws the contours, whole lines above zero and dashed ones below, and says where they are.
   draw(most) {
-    if (most === 0) return 0;
+    if (most === 0) return "";
     const step = roundStep(most / LEVELS);
+    if (crossings(this.rows, step) * CLOSEST > this.size) return "No contours here: neighbouring numbers differ by too much for lines between them. ";
     const onto = this.canvas.getContext("2d");
     onto.strokeStyle = "#1b1f24";
     onto.lineWidth = 2;
@@ -151,18 +160,17 @@ class Panel {
       onto.setLineDash([9, 7]);
       onto.stroke(contour(this.rows, -level, this.size));
     }
-    return step;
+    return `Contours at multiples of ${step}: whole lines above zero, dashed below. `;
   }
 
-  legend(most, step) {
+  legend(most, contours) {
     this.part(".ends").replaceChildren(...[-most, 0, most].map((number) => {
       const end = document.createElement("span");
       end.textContent = number === 0 ? 0 : number;
       return end;
     }));
     this.part(".bar").setAttribute("aria-label", `Colours: blue to ${-most}, white at 0, orange to ${most}`);
-    const lines = step > 0 ? `Contours at multiples of ${step}: whole lines above zero, dashed below. ` : "";
-    this.part(".levels").textContent = `${lines}x goes down, y to the right.`;
+    this.part(".levels").textContent = `${contours}x goes down, y to the right.`;
   }
 
   describe() {

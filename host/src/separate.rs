@@ -68,7 +68,8 @@ fn inputs<'a>(command: &Command, given: &'a Given) -> Vec<&'a OsStr> {
     let words = command.words;
     let what = |at: usize| words[at.min(words.len() - 1)];
     let files = given.words.iter().enumerate().filter(|(at, _)| names_file(what(*at))).map(|(_, name)| name.as_os_str());
-    let kept = command.switches.iter().filter(|switch| [READ, READ_TOO, APPENDED].contains(&switch.value)).filter_map(|switch| given.value(switch.name));
+    let kept =
+        command.switches.iter().filter(|switch| [READ, READ_TOO, APPENDED].contains(&switch.value)).filter_map(|switch| given.value(switch.name));
     let mut inputs: Vec<&OsStr> = files.chain(kept).collect();
     if reads_standard_input(command, given) {
         inputs.push(STANDARD_INPUT.as_ref());

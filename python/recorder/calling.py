@@ -1,13 +1,12 @@
 """The one place where memory is lent to the library: every argument is looked at before a pointer is.
 
-A buffer is anything with Python's buffer protocol: a numpy array, an array.array, bytes, a memoryview. It is lent as it is, without a copy, if its
-elements are of the type that the call asks for, in this machine's byte order, one after the other, aligned, and may be written where the call writes; no
-buffer that is written may share memory with another. All else is a TypeError or a ValueError before the call.
+A buffer is anything with Python's buffer protocol: a numpy array, an array.array, bytes, a memoryview of one. It is lent as it is, without a copy, if
+its elements are of the type that the call asks for, in this machine's byte order, one after the other, aligned, and may be written where the call writes;
+no buffer that is written may share memory with another. All else is a TypeError or a ValueError before the call.
 """
 from __future__ import annotations
 
 import ctypes
-import sys
 from ctypes import c_int64, c_uint8, c_uint32, c_uint64
 from typing import Any, List, NamedTuple, Optional
 
@@ -15,9 +14,9 @@ from .declarations import CALLS, Lent, checked
 from .library import library
 from .refusals import Refused
 
-# The letters that the struct module has for an element, whichever of them has its size here.
+# The letters that the struct module has for an element in this machine's order, whichever of them has its size here. A format that names an order
+# is another: Python could not give such memory a shape.
 LETTERS = {c_uint8: "B", c_uint32: "IL", c_uint64: "LQ", c_int64: "lq"}
-NATIVE = "@=<" if sys.byteorder == "little" else "@=>!"
 # The refusals of a file that are of a record.
 OF_RECORD = (7, 10, 12, 24)
 
@@ -57,8 +56,7 @@ def address_of(view: memoryview) -> int:
 
 def of_elements(view: memoryview, element: Any) -> bool:
     """Whether a view's elements are of a C type."""
-    order, letter = view.format[:-1], view.format[-1:]
-    return view.itemsize == ctypes.sizeof(element) and letter != "" and letter in LETTERS[element] and (order == "" or order in tuple(NATIVE))
+    return view.itemsize == ctypes.sizeof(element) and view.format in tuple(LETTERS[element])
 
 
 def lend(name: str, buffer: Any, asked: Lent) -> Loan:

@@ -136,7 +136,12 @@ RANGES[c_size_t] = (0, 2**(8 * ctypes.sizeof(c_size_t)) - 1)
 def checked(name: str, value: Any, kind: Any) -> Any:
     """A value that a C type holds: TypeError for what is none, ValueError for a number beyond its ends."""
     if kind is c_float:
-        return float(value)
+        try:
+            return c_float(value).value
+        except TypeError:
+            raise TypeError("%s has to be a number, and is a %s" % (name, type(value).__name__)) from None
+        except OverflowError:
+            raise ValueError("%s is beyond every float" % name) from None
     if kind not in RANGES:
         # Exactly this type: a subclass may have more fields, and so another place for what follows it in C.
         if type(value) is not kind:

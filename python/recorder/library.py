@@ -4,24 +4,25 @@ from __future__ import annotations
 import ctypes
 import functools
 import os
-from typing import List
-
 from .declarations import CALLS, Lent
 
 NAME = "librecorder.so.2"
 VARIABLE = "RECORDER_LIBRARY"
 HERE = os.path.dirname(os.path.abspath(__file__))
+# Where bin/install puts the package under a prefix.
+INSTALLED = os.path.join("lib", "python3", "dist-packages", "recorder")
 
 
-def places() -> List[str]:
-    """Where the library may be, the first that is there counts: PREFIX/lib of an installation, then what bin/install makes in the build's folder."""
-    return [os.path.normpath(os.path.join(HERE, up, NAME)) for up in ("../../..", "../../target/install")]
+def place() -> str:
+    """Where the library of this package is: in PREFIX/lib if it is installed, else what bin/install makes in the build's folder."""
+    if HERE.endswith(os.sep + INSTALLED):
+        return os.path.join(HERE[:-len(INSTALLED)], "lib", NAME)
+    return os.path.normpath(os.path.join(HERE, "../../target/install", NAME))
 
 
 def found() -> str:
-    """The library's file: what RECORDER_LIBRARY names, else the first place that has it, else its name, for which the loader searches."""
-    named = os.environ.get(VARIABLE, "")
-    return named or next((place for place in places() if os.path.exists(place)), NAME)
+    """The library's file: what RECORDER_LIBRARY names, else the package's own if it is there, else its name, for which the loader searches."""
+    return os.environ.get(VARIABLE, "") or (place() if os.path.exists(place()) else NAME)
 
 
 def opened(name: str) -> ctypes.CDLL:
@@ -29,7 +30,7 @@ def opened(name: str) -> ctypes.CDLL:
     try:
         return ctypes.CDLL(name)
     except OSError as error:
-        looked = "named by %s" % VARIABLE if os.environ.get(VARIABLE) else "looked for in %s and where the loader looks" % ", ".join(places())
+        looked = "named by %s" % VARIABLE if os.environ.get(VARIABLE) else "looked for as %s and where the loader looks" % place()
         raise OSError("the recorder's library cannot be loaded (%s), %s: run bin/install PREFIX, or let %s name %s"
                       % (error, looked, VARIABLE, NAME)) from None
 

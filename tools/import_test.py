@@ -262,7 +262,7 @@ def wrong(tool, rng):
         ("three lengths", b"map 1 6 8\n", "line 1: map takes four numbers"), ("a long line", b"map 1 6 8 4\n" + b" " * 70000, "more than 65536 bytes"),
         ("a map file", map_file(1, n, M), "is a map file"), ("a combined map file", combined_bytes(1, n, M), "is a combined map file"),
         ("a factor file", file_bytes(1, n, [[3], [4], [2]], [(0, 0, 0, 1, 0)]), "is a factor file"), ("gzip", b"\x1f\x8b\x08\0rest", "by gzip"),
-        ("a spreadsheet", b"PK\x03\x04rest", "a spreadsheet"), ("UTF-16", "map 1".encode("utf-16"), "UTF-16"), ("bytes", b"\0\1\2\3", "is no text"),
+        ("a spreadsheet", b"PK\x03\x04rest", "a spreadsheet"), ("UTF-16", "map 1".encode("utf-16"), "UTF-16"), ("bytes", b"\0\1\2\3", "names no group"),
         ("a picture", b"\x89PNG\r\n", "a picture"),
     ]:
         told(tool, what, given, [], part)

@@ -24,11 +24,12 @@ from tool import Tool, tested
 
 SEED = 1976
 SIGNALS = 12
+COUNTS = b"map 0 2 2 2\n0 0 3 1\n0 1 -3 2\n1 0 3 4\n1 1 -3 0\n"
 TEXT = b"group P1\nlengths 2 2 2\n0 0 0 7 0\n1 0 0 5 0\n"
 RECORDS = [(0, 0, 0, 7, 0), (1, 0, 0, 5, 0)]
 N, LISTS = (2, 2, 2), [[], [], []]
 
-# The words of each command, with FILE, MAP, COMBINED, TEXT, SCORES and LOG for files that it reads and OUT for one that it writes; a command may stand
+# The words of each command, with FILE, MAP, COMBINED, TEXT, COUNTS, SCORES and LOG for files that it reads and OUT for one that it writes; a command may stand
 # here more than once. What standard input has, where it is read without a word.
 USES = [
     ("check", "FILE"), ("check", "MAP", "FILE"), ("check", "FILE", "--json"), ("faults", "FILE"), ("info", "FILE"), ("info", "COMBINED", "FILE"),
@@ -40,7 +41,8 @@ USES = [
     ("power", "FILE", "MAP"), ("section", "FILE", "0"), ("picture", "FILE", "0", "-o", "OUT"), ("picture", "FILE", "0", "-o", "-"),
     ("mrc", "FILE", "--cell", "1,2,3,90,90,90", "-o", "OUT"), ("combine", "FILE", "SECOND", "-o", "OUT"),
     ("overlay", "COMBINED", "COMBINED2", "-o", "OUT"), ("best", "COMBINED"), ("best", "COMBINED", "--score"), ("best", "COMBINED", "-n", "3"),
-    ("drift", "2", "SCORES"), ("check", "FILE", "--all"), ("pack", "TEXT", "-o", "OUT", "--all"), ("stats", "MAP", "--peaks", "3"),
+    ("drift", "2", "SCORES"), ("check", "FILE", "--all"), ("pack", "TEXT", "-o", "OUT", "--all"), ("pack", "TEXT", "--both", "-o", "OUT"),
+    ("import", "COUNTS", "-o", "OUT"), ("import", "COUNTS", "--both", "-o", "OUT"), ("import", "COUNTS", "--combined", "-o", "-"), ("stats", "MAP", "--peaks", "3"),
     ("match", "COMBINED", "COMBINED2"), ("match", "FILE", "MAP", "--json"), ("match", "FILE", "SECOND", "FILE", "SECOND", "-o", "OUT"),
 ]
 BY_INPUT = [(("point", "FILE"), b"0 0 0\n"), (("factor", "FILE"), b"0 0 0\n"), (("line", "1", "0", "2", "-"), b"1 2\n"), (("drift", "2"), b"1 2 3\n")]
@@ -79,7 +81,7 @@ class Safe(Tool):
 
     def prepare(self):
         numbers = {q: 3 * q[0] - q[1] + 7 * q[2] for q in all_points(N)}
-        self.contents = {"FILE": file_bytes(0, N, LISTS, RECORDS), "SECOND": file_bytes(0, N, LISTS, RECORDS, 2), "TEXT": TEXT, "SCORES": b"1 2 3\n",
+        self.contents = {"FILE": file_bytes(0, N, LISTS, RECORDS), "SECOND": file_bytes(0, N, LISTS, RECORDS, 2), "TEXT": TEXT, "SCORES": b"1 2 3\n", "COUNTS": COUNTS,
                          "MAP": map_bytes(0, N, LISTS, {q: x % 86399 for q, x in numbers.items()}), "COMBINED": combined_bytes(0, N, numbers),
                          "COMBINED2": combined_bytes(0, N, {q: 1 for q in numbers})}
         self.restore()

@@ -4,7 +4,7 @@ use crate::both::{self, BOTH, MAPS};
 use crate::commands::{steps, Command};
 use crate::counts::{Asked, Counts};
 use crate::failure::Failure;
-use crate::header::{self, Header};
+use crate::header;
 use crate::import;
 use crate::known::Known;
 use crate::map_file;
@@ -63,10 +63,12 @@ fn run(given: &Given) -> Result<(), Failure> {
     }
     if given.flag(COMBINED.name) {
         let [first, second] = during("comparing", |told| counts.both_maps(told))?;
-        return write_combined(&first, &second, to);
+        write_combined(&first, &second, to)?;
+        return steps::say_made(to, &Known::of_combined(&first.header.cell));
     }
     let map = during("comparing", |told| counts.map(told))?;
-    write_map(&map, to)
+    write_map(&map, to)?;
+    steps::say_made(to, &Known::of_map(&map.header))
 }
 
 fn asked(given: &Given) -> Result<Asked<'_>, Failure> {
@@ -93,24 +95,24 @@ fn lists(word: &str) -> Result<[Vec<u8>; 3], Failure> {
         .map_err(|_| Failure::Usage(format!("{word:?} is not three factor lists; --lists takes them as recorder info prints them, '3 2,2 3'")))
 }
 
+/// All files are written before any is told.
 fn write_both(counts: &Counts, to: &OsStr) -> Result<(), Failure> {
     let [first, second] = during("comparing", |told| counts.both_maps(told))?;
     let names = both::names(to, MAPS);
     write_map(&first, &names[0])?;
     write_map(&second, &names[1])?;
-    write_combined(&first, &second, &names[2])
+    write_combined(&first, &second, &names[2])?;
+    let made = [Known::of_map(&first.header), Known::of_map(&second.header), Known::of_combined(&first.header.cell)];
+    names.iter().zip(&made).try_for_each(|(name, made)| steps::say_made(name, made))
 }
 
 fn write_map(map: &Recorder, to: &OsStr) -> Result<(), Failure> {
     let target = output::open(Some(to))?;
-    during_output(output::is_standard(Some(to)), "writing", |told| target.write(|mut out| map_file::write(map, &mut out, told)))?;
-    steps::say_made(to, &Known::of_map(&map.header))
+    during_output(output::is_standard(Some(to)), "writing", |told| target.write(|mut out| map_file::write(map, &mut out, told)))
 }
 
 /// The proved call makes the combined map of the two.
 fn write_combined(first: &Recorder, second: &Recorder, to: &OsStr) -> Result<(), Failure> {
-    let Header { cell, .. } = &first.header;
     let combined = during("combining", |_| recorder::combined(first, second))?;
-    steps::write_combined(cell, &combined, to)?;
-    steps::say_made(to, &Known::of_combined(cell))
+    steps::write_combined(&first.header.cell, &combined, to)
 }

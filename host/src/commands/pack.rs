@@ -54,9 +54,6 @@ fn run(given: &Given) -> Result<(), Failure> {
     let reading = Reading { all: given.flag(ALL.name), both: both::asked(given, to)? };
     let files = factor_text::read(name, reading, &mut BufWriter::new(io::stderr()))?;
     let names = if reading.both { both::names(to, FACTORS).into() } else { vec![to.to_owned()] };
-    for (file, name) in files.iter().zip(&names) {
-        output::open(Some(name))?.write(|out| out.write_all(file))?;
-        steps::say_made(name, &Known::of_factors(file)?)?;
-    }
-    Ok(())
+    files.iter().zip(&names).try_for_each(|(file, name)| output::open(Some(name))?.write(|out| out.write_all(file)))?;
+    files.iter().zip(&names).try_for_each(|(file, name)| steps::say_made(name, &Known::of_factors(file)?))
 }

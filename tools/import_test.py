@@ -235,6 +235,9 @@ def beyond(tool, rng):
             part = "%d at x %d, y %d, z %d is beyond %d" % (M[x], *x, MOST[modulus])
             told(tool, "beyond modulus %d" % modulus, text_of(g, n, M), ["--modulus", modulus], part)
             told(tool, "and what to do", whole_text(g, n, M), ["--modulus", modulus], more)
+            for number in (-10 ** 30, -2 ** 63, 2 ** 63, 2 ** 64 + 1):
+                given = text_of(g, n, {**M, **{y: number for y in point_images(g, n, x)}})
+                told(tool, "far beyond modulus %d" % modulus, given, ["--modulus", modulus], "at x %d, y %d, z %d is beyond %d" % (*x, MOST[modulus]))
         for number in (GREATEST + 1, -GREATEST - 1, 10 ** 30):
             M.update((y, number) for y in point_images(g, n, x))
             for word in ("--combined", "--both"):
@@ -289,6 +292,10 @@ def wrong(tool, rng):
         told(tool, what, given, of_group, part)
     for mode in (3, 4, 5, 7, 12, 101, -1):
         told(tool, "mode %d" % mode, mrc(n, M, header=[(4, mode)]), of_group, "mode %d: whole numbers stand in" % mode)
+    for float_ in (1e30, -1e30, -2.0 ** 63, 2.0 ** 63):
+        x = rng.choice(all_points(n))
+        of_p1 = mrc(n, {**M, x: float_}), ["--group", "P1"]
+        told(tool, "%r" % float_, *of_p1, "at x %d, y %d, z %d is beyond 43199" % x)
     for float_ in (0.5, -1e-30, 43198.998, float("nan"), float("inf"), -float("inf")):
         x = rng.choice(all_points(n))
         told(tool, "%r" % float_, mrc(n, {**M, x: float_}), of_group, "at x %d, y %d, z %d is no whole number" % x)

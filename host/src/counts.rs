@@ -53,7 +53,7 @@ impl Counts {
     /// The map modulo the header's prime.
     pub fn map(&self, told: &Told) -> Result<Recorder, Failure> {
         let most = i64::from(self.header.prime() / 2);
-        if let Some(place) = self.numbers.iter().position(|number| number.abs() > most) {
+        if let Some(place) = self.numbers.iter().position(|number| number.unsigned_abs() > most.unsigned_abs()) {
             let (number, point, modulus) = (self.numbers[place], self.header.cell.point_in_map(place), self.header.modulus);
             let wider = if modulus == 1 { "--modulus 2 (to 151199), " } else { "" };
             return Err(Failure::Trouble(format!(

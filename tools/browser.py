@@ -12,7 +12,7 @@ NAMES = ("chromium", "chromium-browser", "google-chrome")
 FLAGS = ["--headless", "--disable-gpu", "--no-first-run", "--disable-background-networking", "--disable-component-update", "--remote-debugging-pipe"]
 # The browser reads what it is told from descriptor 3 and answers on 4.
 LAUNCH = "import os, sys; os.dup2(int(sys.argv[1]), 3); os.dup2(int(sys.argv[2]), 4); os.execvp(sys.argv[3], sys.argv[3:])"
-SECONDS = 60
+SECONDS = 120
 
 
 def installed():
@@ -24,8 +24,10 @@ class Browser:
     """A browser with one page at a time; what the pages say and ask for is kept."""
 
     def __init__(self, program, folder):
-        ends = [fcntl.fcntl(end, fcntl.F_DUPFD, 10) for pair in (os.pipe(), os.pipe()) for end in pair]
-        told, self.tell, self.hear, said = ends
+        ends = [*os.pipe(), *os.pipe()]
+        told, self.tell, self.hear, said = (fcntl.fcntl(end, fcntl.F_DUPFD_CLOEXEC, 10) for end in ends)
+        for end in ends:
+            os.close(end)
         flags = FLAGS + ["--user-data-dir=" + folder] + (["--no-sandbox"] if os.geteuid() == 0 else [])
         words = [sys.executable, "-c", LAUNCH, str(told), str(said), program, *flags, "about:blank"]
         self.run = subprocess.Popen(words, pass_fds=(told, said), stdin=subprocess.DEVNULL, stdout=subprocess.DEVNULL, stderr=subprocess.DEVNULL)

@@ -35,6 +35,8 @@ SEED = 1953
 SIZES = [(2, 2, 2), (4, 6, 4), (6, 4, 8)]
 MOST_NUMBERS = 2 ** 20
 MOST_SCORES = 4096
+# Within these a large page is open, on a busy machine too; on an idle one it takes less than one.
+MOST_SECONDS = 60
 WINDOW = 8
 VOID = {"meta", "link", "br", "input", "path", "polyline"}
 SKIPPED = "no browser is installed (chromium): what pages show was skipped, what stands in them was tested"
@@ -276,7 +278,7 @@ def large(tool):
             took = time.monotonic() - began
             tool.expect("64^3: plane %d" % z, tool.text(".numbers"), "".join(lines[64 * z:64 * z + 64]))
             tool.expect("64^3: its point", tool.text(".point"), "x 63, y 7, z %d: %d" % (z, rows[64 * z + 63][7]))
-            tool.expect("64^3: opened in %.1f s" % took, took < 20, True)
+            tool.expect("64^3: opened in %.1f s" % took, took < MOST_SECONDS, True)
     path = tool.file("large", file_bytes(1, (120, 120, 120), [[4, 5, 3]] * 3, records[:1]))
     page = tool.page("120^3", path)
     shown_planes = sorted(z for _, z in page.planes)
@@ -297,7 +299,7 @@ def large(tool):
         tool.browser.value("document.querySelector('details').open = true; new Promise(done => setTimeout(done, 200))")
         tool.expect("a large plane: its numbers", tool.text(".numbers").split("\n")[959], "1 959" + " 9" * 960)
         took = time.monotonic() - began
-        tool.expect("a large plane: opened in %.1f s" % took, took < 30, True)
+        tool.expect("a large plane: opened in %.1f s" % took, took < MOST_SECONDS, True)
     path = tool.file("large", file_bytes(0, (1440, 960, 2), [[4, 4, 5, 3, 3], [4, 4, 5, 3, 2], []], [(0, 0, 0, 9, 0)]))
     page = tool.page("a plane beyond a page", path)
     tool.expect("a plane beyond a page", (page.planes, "this page has 0 planes of 2" in page.texts["note"]), ({}, True))
@@ -391,6 +393,7 @@ def hands(tool):
     entry = Entry(3, (6, 8, 6), some_numbers(rng, 3, (6, 8, 6), lambda: rng.randrange(-43199, 43200)), modulus=1)
     tool.page("hands", entry.files(tool)[1])
     browser = tool.browser
+    browser.call("Emulation.setDeviceMetricsOverride", width=1200, height=1600, deviceScaleFactor=1, mobile=False)
     tool.open("hands")
 
     def at(what, x, y, z):
@@ -407,7 +410,7 @@ def hands(tool):
     for key, x, y in (("ArrowDown", 1, 0), ("ArrowRight", 1, 1), ("ArrowRight", 1, 2), ("ArrowUp", 0, 2), ("ArrowUp", 0, 2), ("ArrowLeft", 0, 1)):
         browser.press(key)
         at(key + " on the section", x, y, 1)
-    box = browser.value("(() => { scrollTo(0, 400); const b = document.querySelector('canvas').getBoundingClientRect(); return [b.left, b.top, b.width, b.height]; })()")
+    box = browser.value("(() => { const b = document.querySelector('canvas').getBoundingClientRect(); return [b.left, b.top, b.width, b.height]; })()")
     for x, y in ((0, 0), (5, 7), (3, 4), (2, 6)):
         browser.point(box[0] + (y + 0.4) / 8 * box[2], box[1] + (x + 0.6) / 6 * box[3], press=(x, y) == (2, 6))
         at("the pointer", x, y, 1)
@@ -431,7 +434,7 @@ def colours(tool):
     pixel = "(([x, y]) => { const c = document.querySelector('canvas'); return [...c.getContext('2d').getImageData(c.width * (y + .5) / 16, c.height * (x + .3) / 2, 1, 1).data]; })"
     tool.expect("colours: the legend", [tool.text(".ends span", k) for k in range(3)], ["-80", "0", "80"])
     tool.expect("colours: contours in words", "Contours at multiples of 20: whole lines above zero, dashed below." in tool.text(".levels"), True)
-    dark = "[...Array(%d).keys()].filter(i => { const c = document.querySelector('canvas'); return c.getContext('2d').getImageData(i, c.height / 2 - 1, 1, 1).data[0] < 60; }).length"
+    dark = "[...Array(%d).keys()].filter(i => { const c = document.querySelector('canvas'); return c.getContext('2d').getImageData(i, c.height / 2 - 1, 1, 1).data[1] < 60; }).length"
     lines = browser.value(dark % 1200)
     tool.expect("colours: contours", lines > 10, True)
     browser.value("document.getElementById('contours').click()")

@@ -121,15 +121,15 @@ class Panel {
     const script = this.planes.get(z);
     this.z = z;
     this.rows = script ? JSON.parse(script.textContent) : null;
-    this.part(".plane").textContent = this.rows ? `z = ${z}` : `has no plane z = ${z} in this page`;
-    this.figure.classList.toggle("empty", !this.rows);
     this.part(".numbers").textContent = "";
-    this.canvas.getContext("2d").clearRect(0, 0, this.canvas.width, this.canvas.height);
-    if (!this.rows) return;
+    this.describe();
+    if (!this.rows) {
+      this.canvas.getContext("2d").clearRect(0, 0, this.canvas.width, this.canvas.height);
+      return;
+    }
     const most = full === "plane" ? greatest(this.rows) : full;
     this.paint(most);
     this.legend(most, contours ? this.draw(most) : "");
-    this.describe();
     this.list();
   }
 
@@ -174,10 +174,13 @@ class Panel {
   }
 
   describe() {
-    const numbers = this.rows.map((row) => [Math.min(...row), Math.max(...row)]);
-    const [least, most] = [Math.min(...numbers.map(([low]) => low)), Math.max(...numbers.map(([, high]) => high))];
-    this.part(".plane").textContent = `z = ${this.z}: from ${least} to ${most}`;
-    this.canvas.setAttribute("aria-label", `Section z = ${this.z} of ${this.figure.dataset.name}: numbers from ${least} to ${most}, x down, y to the right`);
+    let said = `has no plane z = ${this.z} in this page`;
+    if (this.rows) {
+      const [least, most] = [Math.min, Math.max].map((end) => end(...this.rows.map((row) => end(...row))));
+      said = `z = ${this.z}: from ${least} to ${most}`;
+    }
+    this.part(".plane").textContent = said;
+    this.canvas.setAttribute("aria-label", `Section of ${this.figure.dataset.name}: ${said}`);
   }
 
   // The numbers as text: of a large plane when they are asked for.

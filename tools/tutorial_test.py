@@ -20,10 +20,11 @@ from samples import combined
 from tool import tested
 
 TOP = os.path.dirname(os.path.dirname(os.path.abspath(__file__)))
-COMMANDS = 12
+COMMANDS = 18
 # What stands in the folder in the end, and the sample that it is equal to.
 MADE = {"p21.text": None, "p21.factors": "p21.factors", "p21.png": "p21.section.png", "p21.mrc": None, "p21.whole.text": None,
-        "p21.second.factors": "p21.second.factors", "p21.combined": None, "large.text": None, "large.factors": None, "maps": None}
+        "p21.second.factors": "p21.second.factors", "p21.combined": None, "large.text": None, "large.factors": None, "maps": None,
+        "deposit.text": None, "deposit.map": None, "returned.csv": None, "returned.map": None, "vault.log": None, "scores": None}
 # The unit cell that the tutorial names: its edges, two angles that the group has for itself, and gamma.
 UNIT_CELL = (30, 40, 30, 90, 90, 90)
 # The large entry, with the lists that pack chooses.
@@ -94,6 +95,19 @@ def run_page(tool, page):
     return folder
 
 
+def counts(text, table):
+    """The counts of the day in the vault: those of a text that map prints, and those of a table."""
+    rows = [[int(c) for c in line.split()] for line in text.split("\n")[1:] if line]
+    cells = [[int(c) for c in line.split(";")] for line in table.split("\n")[1:] if line]
+    return {(row[1], y, row[0]): c for row in rows for y, c in enumerate(row[2:])}, {(x, y, z): c for x, y, z, c in cells}
+
+
+def score(first, second):
+    """The sum of products at every shift of a cell of 4 x 2 x 2 points."""
+    n = (4, 2, 2)
+    return {s: sum(c * second[tuple((u + t) % m for u, t, m in zip(at, s, n))] for at, c in first.items()) for s in first}
+
+
 def compare_files(tool, folder):
     """The files that the commands have made."""
     tool.expect("the files in the folder", sorted(os.listdir(folder)), sorted(MADE))
@@ -108,6 +122,11 @@ def compare_files(tool, folder):
     books = {"p21.map": first, "p21.second.map": second, "large.map": open_file(LARGE, needed(LARGE))[2]}
     maps = {name: map_bytes(book.g, book.n, book.lists, book.densities(), book.modulus) for name, book in books.items()}
     tool.expect("the maps", {name: contents(folder, "maps", name) for name in os.listdir(os.path.join(folder, "maps"))}, maps)
+    deposit, returned = counts(contents(folder, "deposit.text").decode(), contents(folder, "returned.csv").decode())
+    for name, numbers in (("deposit.map", deposit), ("returned.map", returned)):
+        tool.expect(name, made.get(name), map_bytes(0, (4, 2, 2), [[2], [], []], numbers))
+    tool.expect("scores", made.get("scores"), b"%d\n" % max(score(deposit, returned).values()))
+    tool.expect("the lines of the log", made.get("vault.log", b"").count(b"\n"), 2)
     volume = pack_map(first.g, first.n, {q: signed(x) for q, x in M.items()})
     tool.expect("p21.mrc", made.get("p21.mrc"), mrc_file(first.g, first.n, volume, 1, [bits(x) for x in UNIT_CELL]))
 

@@ -8,13 +8,13 @@ use native.Mathlib.Omega.{arith}
 use lib.ListN.{get_or, set, length, length-set}
 use lib.Seq.{get_or-set_same, get_or-set_other}
 use Rattle.numbers.proofs.Values.{pair_path}
-use Rattle.slices.proofs.Pairs.{eq-or-ne}
-use Rattle.slices.proofs.Rows.{row-end}
+use Rattle.slices.proofs.Pairs.{eq_or_ne}
+use Rattle.slices.proofs.Rows.{row_end}
 use Rattle.algebra.proofs.ring.Laws.{along}
 use Rattle.numbers.specs.Value.{prime, Value, field}
 use Rattle.butterflies.specs.Equation3.{outer}
 use Rattle.butterflies.specs.declared.twiddle.Places.{Places}
-use Rattle.batches.specs.Lanes.{laneAt, UpTo, Good, Summed, turnedValue}
+use Rattle.batches.specs.Lanes.{lane_at, UpTo, Good, Summed, turned_value}
 use Rattle.batches.specs.Copying.{PutBlock, PutBlocks, PlacedSums}
 
 -- v numbers of block c are copied to block j
@@ -24,23 +24,23 @@ pub record Copying (y : List ℕ) (c j v : ℕ) (before after : List ℕ) : Type
   pub kept : (k : ℕ) → ((i : ℕ) → i < 32 → k ≢ 32 * j + i) → get_or after k 0 ≡ get_or before k 0
 
 module _ {y : List ℕ} {c j : ℕ} {before : List ℕ} where
-  pub copying-start : Copying y c j 0 before before
-  copying-start = record { long = refl; new = λ k l. absurd (not-suc-le-zero l); kept = λ k h. refl }
+  pub copying_start : Copying y c j 0 before before
+  copying_start = record { long = refl; new = λ k l. absurd (not-suc-le-zero l); kept = λ k h. refl }
 
   module _ {v : ℕ} {d : List ℕ} (h : Copying y c j v before d) where
-    pub copying-next : v < 32 → 32 * j + 32 ≤ length before → Copying y c j (v + 1) before (set d (32 * j + v) (get_or y (32 * c + v) 0))
-    copying-next lv fits = record {
+    pub copying_next : v < 32 → 32 * j + 32 ≤ length before → Copying y c j (v + 1) before (set d (32 * j + v) (get_or y (32 * c + v) 0))
+    copying_next lv fits = record {
       long = length-set d (32 * j + v) (get_or y (32 * c + v) 0) ∙ h.long;
       new = λ k lk. ⊎_elim
           (λ (e : k ≡ v). rw e (get_or-set_same d (32 * j + v) (get_or y (32 * c + v) 0) 0 (omega (arith, h.long))))
           (λ (other : k ≢ v). get_or-set_other d (32 * j + v) (32 * j + k) (get_or y (32 * c + v) 0) 0 (λ e. other (omega arith)) ∙ h.new k (omega (arith, other)))
-          (eq-or-ne k v);
+          (eq_or_ne k v);
       kept = λ k away. get_or-set_other d (32 * j + v) k (get_or y (32 * c + v) 0) 0 (away v lv) ∙ h.kept k away;
     }
 
-    pub copying-done : 32 ≤ v → PutBlock y c j before d
-    unfolding laneAt
-    copying-done lv = record {
+    pub copying_done : 32 ≤ v → PutBlock y c j before d
+    unfolding lane_at
+    copying_done lv = record {
       long = h.long;
       new = λ u lu. pair_path (h.new u (omega arith))
           (along (λ k. get_or d k 0) (32 * j + u + 16) (32 * j + (u + 16)) (omega arith) ∙ h.new (u + 16) (omega arith) ∙ along (λ k. get_or y k 0) (32 * c + (u + 16)) (32 * c + u + 16) (omega arith));
@@ -51,25 +51,25 @@ module _ {y : List ℕ} {base gap : ℕ} {before : List ℕ} where
   pub blocks_start : PutBlocks y base gap 0 before before
   blocks_start = record { long = refl; new = λ c v l. absurd (not-suc-le-zero l); kept = λ i v lv h. refl }
 
-  pub blocks-next : {n : ℕ} {d e : List ℕ} → PutBlocks y base gap n before d → 0 < gap → PutBlock y n (base + n * gap) d e → PutBlocks y base gap (n + 1) before e
-  blocks-next {n} {d} {e} h pos p = record {
+  pub blocks_next : {n : ℕ} {d e : List ℕ} → PutBlocks y base gap n before d → 0 < gap → PutBlock y n (base + n * gap) d e → PutBlocks y base gap (n + 1) before e
+  blocks_next {n} {d} {e} h pos p = record {
     long = p.long ∙ h.long;
     new = λ c v lc lv. ⊎_elim
         (λ (is : c ≡ n). rw is (p.new v lv))
-        (λ (other : c ≢ n). p.kept (base + c * gap) v lv (λ q. omega (arith, row-end gap (below n c lc other))) ∙ h.new c v (below n c lc other) lv)
-        (eq-or-ne c n);
+        (λ (other : c ≢ n). p.kept (base + c * gap) v lv (λ q. omega (arith, row_end gap (below n c lc other))) ∙ h.new c v (below n c lc other) lv)
+        (eq_or_ne c n);
     kept = λ i v lv away. p.kept i v lv (λ q. away n (omega arith) (sym q)) ∙ h.kept i v lv (λ c lc. away c (omega arith));
   }
     where
       below : (n c : ℕ) → c < n + 1 → c ≢ n → c < n
       below n c l other = omega (arith, other)
 
-pub blocks-done : {y : List ℕ} {base gap c n : ℕ} {before after : List ℕ} → PutBlocks y base gap c before after → c ≡ n → PutBlocks y base gap n before after
-blocks-done {y} {base} {gap} {before = before} {after = after} h e = subst (λ n. PutBlocks y base gap n before after) e h
+pub blocks_done : {y : List ℕ} {base gap c n : ℕ} {before after : List ℕ} → PutBlocks y base gap c before after → c ≡ n → PutBlocks y base gap n before after
+blocks_done {y} {base} {gap} {before = before} {after = after} h e = subst (λ n. PutBlocks y base gap n before after) e h
 
 pub placed_by : {m : ℕ} {W : Value m} {B : ℕ} {p : Places} {l y before after : List ℕ} → Summed m W B p l 16 y → PutBlocks y p.base p.gap B before after → PlacedSums m W B p l before after
 placed_by {m} {W} {B} {p} {l} s h = record {
   long = h.long;
-  new = λ X up v c lv lc. subst (λ x. Good m (X + 32 * prime m) x (outer (field m) W B (turnedValue m W p l v) c)) (sym (h.new c v lc lv)) (s.lanes X up v c lv lc);
+  new = λ X up v c lv lc. subst (λ x. Good m (X + 32 * prime m) x (outer (field m) W B (turned_value m W p l v) c)) (sym (h.new c v lc lv)) (s.lanes X up v c lv lc);
   kept = h.kept;
 }

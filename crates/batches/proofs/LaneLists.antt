@@ -10,146 +10,146 @@ use lib.ListN.{get_or, set, length, length-set}
 use lib.Seq.{get_or-set_same, get_or-set_other}
 use Rattle.algebra.specs.ring.Ring.{Ops, pow}
 use Rattle.algebra.proofs.ring.Laws.{along}
-use Rattle.algebra.proofs.fourier.Transform.{pow-zero}
+use Rattle.algebra.proofs.fourier.Transform.{pow_zero}
 use Rattle.numbers.specs.declared.Pair.{Pair}
 use Rattle.numbers.specs.Value.{prime, Value, field, value, value_of}
-use Rattle.numbers.proofs.Values.{pair_path, field-ring}
-use Rattle.slices.proofs.Pairs.{eq-or-ne}
+use Rattle.numbers.proofs.Values.{pair_path, field_ring}
+use Rattle.slices.proofs.Pairs.{eq_or_ne}
 use Rattle.butterflies.specs.Equation3.{outer}
 use Rattle.butterflies.specs.declared.twiddle.Places.{Places}
 use Rattle.numbers.specs.Bounds.{res}
-use Rattle.roots.specs.Table.{entry_at, tableRoot, RootTable}
+use Rattle.roots.specs.Table.{entry_at, table_root, RootTable}
 use Rattle.batches.specs.declared.lane.Factor.{Factor}
-use Rattle.batches.specs.Reduction.{Divided, Held, Shifted, ShiftedTable, factorAt}
-use Rattle.batches.proofs.Meaning.{turned-value, shifted-power, shifted_at, held_at}
+use Rattle.batches.specs.Reduction.{Divided, Held, Shifted, ShiftedTable, factor_at}
+use Rattle.batches.proofs.Meaning.{turned_value_lem, shifted_power, shifted_at, held_at}
 use Rattle.batches.specs.declared.lane.Three.{Three}
 use Rattle.batches.specs.declared.lane.Five.{Five}
 use Rattle.batches.specs.Formulas.{ThreeOf, FiveOf}
-use Rattle.batches.specs.Lanes.{laneAt, putLane, spreadLane, UpTo, Good, Summed, turnedValue}
+use Rattle.batches.specs.Lanes.{lane_at, put_lane, spread_lane, UpTo, Good, Summed, turned_value}
 
-pub length-lane : (l : List ℕ) (j v : ℕ) (x : Pair) → length (putLane l j v x) ≡ length l
-unfolding putLane
-length-lane l j v x = length-set (set l (32 * j + v) x.re) (32 * j + v + 16) x.im ∙ length-set l (32 * j + v) x.re
+pub length_lane : (l : List ℕ) (j v : ℕ) (x : Pair) → length (put_lane l j v x) ≡ length l
+unfolding put_lane
+length_lane l j v x = length-set (set l (32 * j + v) x.re) (32 * j + v + 16) x.im ∙ length-set l (32 * j + v) x.re
 
-pub lane-same : (l : List ℕ) (j v : ℕ) (x : Pair) → 32 * j + v + 16 < length l → laneAt (putLane l j v x) j v ≡ x
-unfolding laneAt putLane
-lane-same l j v x h = pair_path
+pub lane_same : (l : List ℕ) (j v : ℕ) (x : Pair) → 32 * j + v + 16 < length l → lane_at (put_lane l j v x) j v ≡ x
+unfolding lane_at put_lane
+lane_same l j v x h = pair_path
     (get_or-set_other (set l (32 * j + v) x.re) (32 * j + v + 16) (32 * j + v) x.im 0 (λ e. omega arith) ∙ get_or-set_same l (32 * j + v) x.re 0 (omega arith))
     (get_or-set_same (set l (32 * j + v) x.re) (32 * j + v + 16) x.im 0 (omega (arith, length-set l (32 * j + v) x.re)))
 
 -- another place, or another lane of it
-pub lane-other : (l : List ℕ) (j v : ℕ) (x : Pair) (i u : ℕ) → v < 16 → u < 16 → (32 * j + v ≡ 32 * i + u → ⊥) → laneAt (putLane l j v x) i u ≡ laneAt l i u
-unfolding laneAt putLane
-lane-other l j v x i u lv lu n = pair_path
+pub lane_other : (l : List ℕ) (j v : ℕ) (x : Pair) (i u : ℕ) → v < 16 → u < 16 → (32 * j + v ≡ 32 * i + u → ⊥) → lane_at (put_lane l j v x) i u ≡ lane_at l i u
+unfolding lane_at put_lane
+lane_other l j v x i u lv lu n = pair_path
     (get_or-set_other (set l (32 * j + v) x.re) (32 * j + v + 16) (32 * i + u) x.im 0 (λ e. omega arith) ∙ get_or-set_other l (32 * j + v) (32 * i + u) x.re 0 (λ e. n (sym e)))
     (get_or-set_other (set l (32 * j + v) x.re) (32 * j + v + 16) (32 * i + u + 16) x.im 0 (λ e. n (omega arith)) ∙ get_or-set_other l (32 * j + v) (32 * i + u + 16) x.re 0 (λ e. omega arith))
 
 module _ (f : ℕ → Pair) (v : ℕ) (lv : v < 16) where
-  pub length-spread : (n : ℕ) (l : List ℕ) → length (spreadLane f n v l) ≡ length l
-  unfolding spreadLane
-  length-spread zero l = refl
-  length-spread (suc n) l = length-lane (spreadLane f n v l) n v (f n) ∙ length-spread n l
+  pub length_spread : (n : ℕ) (l : List ℕ) → length (spread_lane f n v l) ≡ length l
+  unfolding spread_lane
+  length_spread zero l = refl
+  length_spread (suc n) l = length_lane (spread_lane f n v l) n v (f n) ∙ length_spread n l
 
-  pub spread-other : (n : ℕ) (l : List ℕ) (c u : ℕ) → u < 16 → (u ≡ v → ⊥) → laneAt (spreadLane f n v l) c u ≡ laneAt l c u
-  unfolding spreadLane
-  spread-other zero l c u lu other = refl
-  spread-other (suc n) l c u lu other = lane-other (spreadLane f n v l) n v (f n) c u lv lu (λ e. other (omega arith)) ∙ spread-other n l c u lu other
+  pub spread_other : (n : ℕ) (l : List ℕ) (c u : ℕ) → u < 16 → (u ≡ v → ⊥) → lane_at (spread_lane f n v l) c u ≡ lane_at l c u
+  unfolding spread_lane
+  spread_other zero l c u lu other = refl
+  spread_other (suc n) l c u lu other = lane_other (spread_lane f n v l) n v (f n) c u lv lu (λ e. other (omega arith)) ∙ spread_other n l c u lu other
 
-  pub spread_same : (n : ℕ) (l : List ℕ) (c : ℕ) → 32 * n ≤ length l → c < n → laneAt (spreadLane f n v l) c v ≡ f c
-  unfolding spreadLane
+  pub spread_same : (n : ℕ) (l : List ℕ) (c : ℕ) → 32 * n ≤ length l → c < n → lane_at (spread_lane f n v l) c v ≡ f c
+  unfolding spread_lane
   spread_same zero l c h lc = absurd (not-suc-le-zero lc)
   spread_same (suc n) l c h lc = ⊎_elim
-      (λ (e : c ≡ n). rw e (lane-same (spreadLane f n v l) n v (f n) (omega (arith, length-spread n l))))
-      (λ (other : c ≢ n). lane-other (spreadLane f n v l) n v (f n) c v lv lv (λ e. other (omega arith)) ∙ spread_same n l c (omega arith) (below n c lc other))
-      (eq-or-ne c n)
+      (λ (e : c ≡ n). rw e (lane_same (spread_lane f n v l) n v (f n) (omega (arith, length_spread n l))))
+      (λ (other : c ≢ n). lane_other (spread_lane f n v l) n v (f n) c v lv lv (λ e. other (omega arith)) ∙ spread_same n l c (omega arith) (below n c lc other))
+      (eq_or_ne c n)
     where
       below : (n c : ℕ) → c < suc n → c ≢ n → c < n
       below n c l other = omega (arith, other)
 
 module _ {m : ℕ} {W : Value m} {B : ℕ} {p : Places} {l : List ℕ} where
-  pub summed-start : {y : List ℕ} → length y ≡ 160 → Summed m W B p l 0 y
-  summed-start e = record { long = e; lanes = λ X h v c lv lc. absurd (not-suc-le-zero lv) }
+  pub summed_start : {y : List ℕ} → length y ≡ 160 → Summed m W B p l 0 y
+  summed_start e = record { long = e; lanes = λ X h v c lv lc. absurd (not-suc-le-zero lv) }
 
-  pub summed-next : {v : ℕ} {y z : List ℕ} (f : ℕ → Pair) → Summed m W B p l v y → v < 16 → B ≤ 5 → z ≡ spreadLane f B v y
-      → ((X : ℕ) → UpTo X l → (c : ℕ) → c < B → Good m (X + 32 * prime m) (f c) (outer (field m) W B (turnedValue m W p l v) c)) → Summed m W B p l (v + 1) z
-  summed-next {v} {y} {z} f s lv few is new = record { long = ap length is ∙ length-spread f v lv B y ∙ s.long; lanes = lanes }
+  pub summed_next : {v : ℕ} {y z : List ℕ} (f : ℕ → Pair) → Summed m W B p l v y → v < 16 → B ≤ 5 → z ≡ spread_lane f B v y
+      → ((X : ℕ) → UpTo X l → (c : ℕ) → c < B → Good m (X + 32 * prime m) (f c) (outer (field m) W B (turned_value m W p l v) c)) → Summed m W B p l (v + 1) z
+  summed_next {v} {y} {z} f s lv few is new = record { long = ap length is ∙ length_spread f v lv B y ∙ s.long; lanes = lanes }
     where
-      lanes : (X : ℕ) → UpTo X l → (u c : ℕ) → u < v + 1 → c < B → Good m (X + 32 * prime m) (laneAt z c u) (outer (field m) W B (turnedValue m W p l u) c)
+      lanes : (X : ℕ) → UpTo X l → (u c : ℕ) → u < v + 1 → c < B → Good m (X + 32 * prime m) (lane_at z c u) (outer (field m) W B (turned_value m W p l u) c)
       lanes X up u c lu lc = ⊎_elim
-          (λ (e : u ≡ v). rw (is, e) (subst (λ x. Good m (X + 32 * prime m) x (outer (field m) W B (turnedValue m W p l v) c)) (sym (spread_same f v lv B y c (omega (arith, s.long)) lc)) (new X up c lc)))
-          (λ (other : u ≢ v). rw is (subst (λ x. Good m (X + 32 * prime m) x (outer (field m) W B (turnedValue m W p l u) c)) (sym (spread-other f v lv B y c u (omega arith) other)) (s.lanes X up u c (omega (arith, other)) lc)))
-          (eq-or-ne u v)
+          (λ (e : u ≡ v). rw (is, e) (subst (λ x. Good m (X + 32 * prime m) x (outer (field m) W B (turned_value m W p l v) c)) (sym (spread_same f v lv B y c (omega (arith, s.long)) lc)) (new X up c lc)))
+          (λ (other : u ≢ v). rw is (subst (λ x. Good m (X + 32 * prime m) x (outer (field m) W B (turned_value m W p l u) c)) (sym (spread_other f v lv B y c u (omega arith) other)) (s.lanes X up u c (omega (arith, other)) lc)))
+          (eq_or_ne u v)
 
 -- two to five stores
 module _ (f : ℕ → Pair) (v : ℕ) where
-  pub spread-2 : (y : List ℕ) {a b : List ℕ} → a ≡ putLane y 0 v (f 0) → b ≡ putLane a 1 v (f 1) → b ≡ spreadLane f 2 v y
-  unfolding spreadLane
-  spread-2 y e₀ e₁ = e₁ ∙ ap (λ x. putLane x 1 v (f 1)) e₀
+  pub spread_2 : (y : List ℕ) {a b : List ℕ} → a ≡ put_lane y 0 v (f 0) → b ≡ put_lane a 1 v (f 1) → b ≡ spread_lane f 2 v y
+  unfolding spread_lane
+  spread_2 y e₀ e₁ = e₁ ∙ ap (λ x. put_lane x 1 v (f 1)) e₀
 
-  module _ (y : List ℕ) {a b c : List ℕ} (e₀ : a ≡ putLane y 0 v (f 0)) (e₁ : b ≡ putLane a 1 v (f 1)) (e₂ : c ≡ putLane b 2 v (f 2)) where
-    pub spread-3 : c ≡ spreadLane f 3 v y
-    unfolding spreadLane
-    spread-3 = e₂ ∙ ap (λ x. putLane x 2 v (f 2)) (spread-2 y e₀ e₁)
+  module _ (y : List ℕ) {a b c : List ℕ} (e₀ : a ≡ put_lane y 0 v (f 0)) (e₁ : b ≡ put_lane a 1 v (f 1)) (e₂ : c ≡ put_lane b 2 v (f 2)) where
+    pub spread_3 : c ≡ spread_lane f 3 v y
+    unfolding spread_lane
+    spread_3 = e₂ ∙ ap (λ x. put_lane x 2 v (f 2)) (spread_2 y e₀ e₁)
 
-    module _ {d : List ℕ} (e₃ : d ≡ putLane c 3 v (f 3)) where
-      pub spread-4 : d ≡ spreadLane f 4 v y
-      unfolding spreadLane
-      spread-4 = e₃ ∙ ap (λ x. putLane x 3 v (f 3)) spread-3
+    module _ {d : List ℕ} (e₃ : d ≡ put_lane c 3 v (f 3)) where
+      pub spread_4 : d ≡ spread_lane f 4 v y
+      unfolding spread_lane
+      spread_4 = e₃ ∙ ap (λ x. put_lane x 3 v (f 3)) spread_3
 
-      pub spread-5 : {e : List ℕ} → e ≡ putLane d 4 v (f 4) → e ≡ spreadLane f 5 v y
-      unfolding spreadLane
-      spread-5 e₄ = e₄ ∙ ap (λ x. putLane x 4 v (f 4)) spread-4
+      pub spread_5 : {e : List ℕ} → e ≡ put_lane d 4 v (f 4) → e ≡ spread_lane f 5 v y
+      unfolding spread_lane
+      spread_5 e₄ = e₄ ∙ ap (λ x. put_lane x 4 v (f 4)) spread_4
 
 -- what a lane holds, by its numbers
-pub lane-is : (m : ℕ) (l : List ℕ) (j v : ℕ) {a b : ℕ} → a ≡ get_or l (32 * j + v) 0 → b ≡ get_or l (32 * j + (v + 16)) 0 → value m a b ≡ value_of m (laneAt l j v)
-unfolding laneAt value_of
-lane-is m l j v ea eb = ap₂ (value m) ea (eb ∙ along (λ k. get_or l k 0) (32 * j + (v + 16)) (32 * j + v + 16) (omega arith))
+pub lane_is : (m : ℕ) (l : List ℕ) (j v : ℕ) {a b : ℕ} → a ≡ get_or l (32 * j + v) 0 → b ≡ get_or l (32 * j + (v + 16)) 0 → value m a b ≡ value_of m (lane_at l j v)
+unfolding lane_at value_of
+lane_is m l j v ea eb = ap₂ (value m) ea (eb ∙ along (λ k. get_or l k 0) (32 * j + (v + 16)) (32 * j + v + 16) (omega arith))
 
-pub lane_low : {X : ℕ} {l : List ℕ} → UpTo X l → (j v : ℕ) → ((laneAt l j v).re ≤ X) × ((laneAt l j v).im ≤ X)
-unfolding laneAt
+pub lane_low : {X : ℕ} {l : List ℕ} → UpTo X l → (j v : ℕ) → ((lane_at l j v).re ≤ X) × ((lane_at l j v).im ≤ X)
+unfolding lane_at
 lane_low {X} {l} h j v = (h.each (32 * j + v), h.each (32 * j + v + 16))
 
 -- times the factor 1
-pub one-turn : (m : ℕ) (W : Value m) (k : ℕ) (z : Value m) → k ≡ 0 → z ≡ (field m).mul (pow (field m) W k) z
-one-turn m W k z e = sym (ap (λ n. (field m).mul (pow (field m) W n) z) e ∙ ap (λ y. (field m).mul y z) (pow-zero (field-ring m) W) ∙ (field-ring m).one-mul z)
+pub one_turn : (m : ℕ) (W : Value m) (k : ℕ) (z : Value m) → k ≡ 0 → z ≡ (field m).mul (pow (field m) W k) z
+one_turn m W k z e = sym (ap (λ n. (field m).mul (pow (field m) W n) z) e ∙ ap (λ y. (field m).mul y z) (pow_zero (field_ring m) W) ∙ (field_ring m).one_mul z)
 
 -- the first value of a butterfly, and every value of the first step
 pub plain_lane : (m : ℕ) (W : Value m) (p : Places) (l : List ℕ) (v b : ℕ) {x y : ℕ} → b * p.k ≡ 0 → x ≡ get_or l (32 * (b * p.stride + p.first) + v) 0 → y ≡ get_or l (32 * (b * p.stride + p.first) + (v + 16)) 0
-    → value m x y ≡ turnedValue m W p l v b
-plain_lane m W p l v b none ex ey = lane-is m l (b * p.stride + p.first) v ex ey ∙ one-turn m W (b * p.k) _ none
+    → value m x y ≡ turned_value m W p l v b
+plain_lane m W p l v b none ex ey = lane_is m l (b * p.stride + p.first) v ex ey ∙ one_turn m W (b * p.k) _ none
 
 -- a value times its factor
-pub turned-lane : {m : ℕ} {re im sre sim : List ℕ} (h : RootTable m re im) (t : ShiftedTable m re im sre sim) (p : Places) (l : List ℕ) (v b k : ℕ) {w : Factor} {x y : ℕ}
-    → k ≡ b * p.k → k < 2880 → w ≡ factorAt m sre sim k
-    → Divided m (w.re * (laneAt l (b * p.stride + p.first) v).re + w.minus * (laneAt l (b * p.stride + p.first) v).im) x
-    → Divided m (w.re * (laneAt l (b * p.stride + p.first) v).im + w.im * (laneAt l (b * p.stride + p.first) v).re) y
-    → value m x y ≡ turnedValue m (tableRoot m re im) p l v b
+pub turned_lane : {m : ℕ} {re im sre sim : List ℕ} (h : RootTable m re im) (t : ShiftedTable m re im sre sim) (p : Places) (l : List ℕ) (v b k : ℕ) {w : Factor} {x y : ℕ}
+    → k ≡ b * p.k → k < 2880 → w ≡ factor_at m sre sim k
+    → Divided m (w.re * (lane_at l (b * p.stride + p.first) v).re + w.minus * (lane_at l (b * p.stride + p.first) v).im) x
+    → Divided m (w.re * (lane_at l (b * p.stride + p.first) v).im + w.im * (lane_at l (b * p.stride + p.first) v).re) y
+    → value m x y ≡ turned_value m (table_root m re im) p l v b
 unfolding value_of
-turned-lane {m} {re} {im} {sre} {sim} h t p l v b k {w} e lt is hx hy =
-    turned-value m (laneAt l (b * p.stride + p.first) v).re (laneAt l (b * p.stride + p.first) v).im
-    (subst (λ w. Shifted m w (pow (field m) (tableRoot m re im) k)) (sym is) (shifted-power t k h lt)) hx hy
-    ∙ ap (λ n. (field m).mul (pow (field m) (tableRoot m re im) n) (value_of m (laneAt l (b * p.stride + p.first) v))) e
+turned_lane {m} {re} {im} {sre} {sim} h t p l v b k {w} e lt is hx hy =
+    turned_value_lem m (lane_at l (b * p.stride + p.first) v).re (lane_at l (b * p.stride + p.first) v).im
+    (subst (λ w. Shifted m w (pow (field m) (table_root m re im) k)) (sym is) (shifted_power t k h lt)) hx hy
+    ∙ ap (λ n. (field m).mul (pow (field m) (table_root m re im) n) (value_of m (lane_at l (b * p.stride + p.first) v))) e
 
-pub held_by : {m : ℕ} {re im sre sim : List ℕ} (t : ShiftedTable m re im sre sim) (k : ℕ) {w : Factor} → w ≡ factorAt m sre sim k → Held m w
+pub held_by : {m : ℕ} {re im sre sim : List ℕ} (t : ShiftedTable m re im sre sim) (k : ℕ) {w : Factor} → w ≡ factor_at m sre sim k → Held m w
 held_by {m} t k e = subst (Held m) (sym e) (held_at t k)
 
-pub summed-all : {m : ℕ} {W : Value m} {B : ℕ} {p : Places} {l y : List ℕ} {v : ℕ} → Summed m W B p l v y → 16 ≤ v → Summed m W B p l 16 y
-summed-all s h = record { long = s.long; lanes = λ X up u c lu lc. s.lanes X up u c (omega arith) lc }
+pub summed_all : {m : ℕ} {W : Value m} {B : ℕ} {p : Places} {l y : List ℕ} {v : ℕ} → Summed m W B p l v y → 16 ≤ v → Summed m W B p l 16 y
+summed_all s h = record { long = s.long; lanes = λ X up u c lu lc. s.lanes X up u c (omega arith) lc }
 
 pub low_by : {X : ℕ} {l : List ℕ} → UpTo X l → (k : ℕ) {x : ℕ} → x ≡ get_or l k 0 → x ≤ X
 low_by {X} h k e = subst (λ y. y ≤ X) (sym e) (h.each k)
 
-pub shifted_by : {m : ℕ} {re im sre sim : List ℕ} (t : ShiftedTable m re im sre sim) (k : ℕ) {w : Factor} → k < 2880 → w ≡ factorAt m sre sim k
+pub shifted_by : {m : ℕ} {re im sre sim : List ℕ} (t : ShiftedTable m re im sre sim) (k : ℕ) {w : Factor} → k < 2880 → w ≡ factor_at m sre sim k
     → Shifted m w (res m (entry_at re im k).re, res m (entry_at re im k).im)
 unfolding entry_at
 shifted_by {m} {re} {im} t k lt e = subst (λ w. Shifted m w (res m (get_or re k 0), res m (get_or im k 0))) (sym e) (shifted_at t k lt)
 
-pub store-as : (y : List ℕ) {z : List ℕ} (c v : ℕ) {a b a' b' : ℕ} → z ≡ putLane y c v (record { re = a; im = b }) → a ≡ a' → b ≡ b' → z ≡ putLane y c v (record { re = a'; im = b' })
-store-as y c v e ea eb = e ∙ ap₂ (λ a b. putLane y c v (record { re = a; im = b })) ea eb
+pub store_as : (y : List ℕ) {z : List ℕ} (c v : ℕ) {a b a' b' : ℕ} → z ≡ put_lane y c v (record { re = a; im = b }) → a ≡ a' → b ≡ b' → z ≡ put_lane y c v (record { re = a'; im = b' })
+store_as y c v e ea eb = e ∙ ap₂ (λ a b. put_lane y c v (record { re = a; im = b })) ea eb
 
 -- with the turn as it was computed
-pub three-as : {m : ℕ} {z : Factor} {o a b c t u : ℕ} {r : Three} → t ≡ u → ThreeOf m z o a b c t r → ThreeOf m z o a b c u r
-three-as {m} {z} {o} {a} {b} {c} {r = r} e h = subst (λ t. ThreeOf m z o a b c t r) e h
+pub three_as : {m : ℕ} {z : Factor} {o a b c t u : ℕ} {r : Three} → t ≡ u → ThreeOf m z o a b c t r → ThreeOf m z o a b c u r
+three_as {m} {z} {o} {a} {b} {c} {r = r} e h = subst (λ t. ThreeOf m z o a b c t r) e h
 
-pub five-as : {m : ℕ} {w z : Factor} {o a b c d e t u t' u' : ℕ} {r : Five} → t ≡ t' → u ≡ u' → FiveOf m w z o a b c d e t u r → FiveOf m w z o a b c d e t' u' r
-five-as {m} {w} {z} {o} {a} {b} {c} {d} {e} {t} {u} {t'} {u'} {r} p q h = subst (λ t. FiveOf m w z o a b c d e t u' r) p (subst (λ u. FiveOf m w z o a b c d e t u r) q h)
+pub five_as : {m : ℕ} {w z : Factor} {o a b c d e t u t' u' : ℕ} {r : Five} → t ≡ t' → u ≡ u' → FiveOf m w z o a b c d e t u r → FiveOf m w z o a b c d e t' u' r
+five_as {m} {w} {z} {o} {a} {b} {c} {d} {e} {t} {u} {t'} {u'} {r} p q h = subst (λ t. FiveOf m w z o a b c d e t u' r) p (subst (λ u. FiveOf m w z o a b c d e t u r) q h)

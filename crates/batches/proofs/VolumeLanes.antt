@@ -13,140 +13,140 @@ use Rattle.algebra.specs.ring.Ring.{Ops}
 use Rattle.algebra.proofs.ring.Laws.{along}
 use Rattle.numbers.specs.declared.Pair.{Pair}
 use Rattle.numbers.specs.Value.{prime, Residue, ring, field, real, value_of, pair_of}
-use Rattle.numbers.specs.Bounds.{res, zeroPair, Small}
-use Rattle.numbers.proofs.Primes.{prime-pos}
-use Rattle.numbers.proofs.Values.{pair_path, real-times}
+use Rattle.numbers.specs.Bounds.{res, zero_pair, Small}
+use Rattle.numbers.proofs.Primes.{prime_pos}
+use Rattle.numbers.proofs.Values.{pair_path, real_times}
 use Rattle.slices.specs.Pairs.{at, puts, values_of, list_of}
-use Rattle.slices.proofs.Pairs.{eq-or-ne, lt-or-ge, at-puts, at-puts-other, length-puts}
-use Rattle.slices.proofs.Values.{list-cong}
-use Rattle.slices.proofs.Rows.{row-end}
+use Rattle.slices.proofs.Pairs.{eq_or_ne, lt_or_ge, at_puts, at_puts_other, length_puts}
+use Rattle.slices.proofs.Values.{list_cong}
+use Rattle.slices.proofs.Rows.{row_end}
 use Rattle.batches.specs.Reduction.{Holds}
-use Rattle.batches.specs.Lanes.{laneAt, putLane, lineIn, UpTo}
-use Rattle.batches.specs.Groups.{lanePair, PutLanes, Gathered, ReducedPlace, Scattered, LinesBelow}
-use Rattle.batches.proofs.LaneLists.{length-lane, lane-same, lane-other}
+use Rattle.batches.specs.Lanes.{lane_at, put_lane, line_in, UpTo}
+use Rattle.batches.specs.Groups.{lane_pair, PutLanes, Gathered, ReducedPlace, Scattered, LinesBelow}
+use Rattle.batches.proofs.LaneLists.{length_lane, lane_same, lane_other}
 use Rattle.batches.proofs.PassingLanes.{up_of}
 
 -- ---- one place
 
 module _ (volume : List ℕ) (first : ℕ) {lanes v : ℕ} where
-  pub pair-used : v < lanes → at volume (first + v) ≡ lanePair volume first lanes v
-  unfolding lanePair
-  pair-used l = sym (ap (λ b. cond b (at volume (first + v)) zeroPair) (lt-ltb v lanes l))
+  pub pair_used : v < lanes → at volume (first + v) ≡ lane_pair volume first lanes v
+  unfolding lane_pair
+  pair_used l = sym (ap (λ b. cond b (at volume (first + v)) zero_pair) (lt-ltb v lanes l))
 
-  pub pair-unused : lanes ≤ v → zeroPair ≡ lanePair volume first lanes v
-  unfolding lanePair
-  pair-unused l = sym (ap (λ b. cond b (at volume (first + v)) zeroPair) (le-ltb v lanes l))
+  pub pair_unused : lanes ≤ v → zero_pair ≡ lane_pair volume first lanes v
+  unfolding lane_pair
+  pair_unused l = sym (ap (λ b. cond b (at volume (first + v)) zero_pair) (le-ltb v lanes l))
 
 below_other : {i n : ℕ} → i < n + 1 → i ≢ n → i < n
 below_other l other = omega (arith, other)
 
 module _ {f : ℕ → Pair} {j : ℕ} {before : List ℕ} where
-  pub putting-start : PutLanes f j 0 before before
-  putting-start = record { long = refl; new = λ v l. absurd (not-suc-le-zero l); kept = λ i v lv h. refl }
+  pub putting_start : PutLanes f j 0 before before
+  putting_start = record { long = refl; new = λ v l. absurd (not-suc-le-zero l); kept = λ i v lv h. refl }
 
-  pub putting-next : {v : ℕ} {d e : List ℕ} {x : Pair} → PutLanes f j v before d → v < 16 → 32 * j + 32 ≤ length before → e ≡ putLane d j v x → x ≡ f v → PutLanes f j (v + 1) before e
-  putting-next {v} {d} {e} {x} h lv fits is stands = record {
-    long = ap length is ∙ length-lane d j v x ∙ h.long;
-    new = λ u lu. ap (λ y. laneAt y j u) is ∙ ⊎_elim
-        (λ (q : u ≡ v). ap (laneAt (putLane d j v x) j) q ∙ lane-same d j v x (omega (arith, h.long)) ∙ stands ∙ ap f (sym q))
-        (λ (other : u ≢ v). lane-other d j v x j u lv (omega arith) (λ q. other (omega arith)) ∙ h.new u (below_other lu other))
-        (eq-or-ne u v);
-    kept = λ i u lu away. ap (λ y. laneAt y i u) is
-        ∙ lane-other d j v x i u lv lu (λ q. let same : i ≡ j = omega arith in omega (arith, away same))
+  pub putting_next : {v : ℕ} {d e : List ℕ} {x : Pair} → PutLanes f j v before d → v < 16 → 32 * j + 32 ≤ length before → e ≡ put_lane d j v x → x ≡ f v → PutLanes f j (v + 1) before e
+  putting_next {v} {d} {e} {x} h lv fits is stands = record {
+    long = ap length is ∙ length_lane d j v x ∙ h.long;
+    new = λ u lu. ap (λ y. lane_at y j u) is ∙ ⊎_elim
+        (λ (q : u ≡ v). ap (lane_at (put_lane d j v x) j) q ∙ lane_same d j v x (omega (arith, h.long)) ∙ stands ∙ ap f (sym q))
+        (λ (other : u ≢ v). lane_other d j v x j u lv (omega arith) (λ q. other (omega arith)) ∙ h.new u (below_other lu other))
+        (eq_or_ne u v);
+    kept = λ i u lu away. ap (λ y. lane_at y i u) is
+        ∙ lane_other d j v x i u lv lu (λ q. let same : i ≡ j = omega arith in omega (arith, away same))
         ∙ h.kept i u lu (λ q. omega (arith, away q));
   }
 
-pub putting-as : {f : ℕ → Pair} {j v n : ℕ} {before after : List ℕ} → PutLanes f j v before after → v ≡ n → PutLanes f j n before after
-putting-as {f} {j} {before = before} {after = after} h e = subst (λ n. PutLanes f j n before after) e h
+pub putting_as : {f : ℕ → Pair} {j v n : ℕ} {before after : List ℕ} → PutLanes f j v before after → v ≡ n → PutLanes f j n before after
+putting_as {f} {j} {before = before} {after = after} h e = subst (λ n. PutLanes f j n before after) e h
 
 -- ---- all places
 
 module _ {volume : List ℕ} {start stride lanes : ℕ} where
-  pub gathering-start : {d : List ℕ} → Gathered volume start stride lanes 0 d
-  gathering-start = record { each = λ j v l. absurd (not-suc-le-zero l) }
+  pub gathering_start : {d : List ℕ} → Gathered volume start stride lanes 0 d
+  gathering_start = record { each = λ j v l. absurd (not-suc-le-zero l) }
 
-  pub gathering-next : {j : ℕ} {d e : List ℕ} → Gathered volume start stride lanes j d → PutLanes (lanePair volume (start + j * stride) lanes) j 16 d e → Gathered volume start stride lanes (j + 1) e
-  gathering-next {j} {d} {e} h p = record {
+  pub gathering_next : {j : ℕ} {d e : List ℕ} → Gathered volume start stride lanes j d → PutLanes (lane_pair volume (start + j * stride) lanes) j 16 d e → Gathered volume start stride lanes (j + 1) e
+  gathering_next {j} {d} {e} h p = record {
     each = λ i v li lv. ⊎_elim
-        (λ (q : i ≡ j). ap (λ k. laneAt e k v) q ∙ p.new v lv ∙ ap (λ k. lanePair volume (start + k * stride) lanes v) (sym q))
+        (λ (q : i ≡ j). ap (λ k. lane_at e k v) q ∙ p.new v lv ∙ ap (λ k. lane_pair volume (start + k * stride) lanes v) (sym q))
         (λ (other : i ≢ j). p.kept i v lv (λ q. absurd (other q)) ∙ h.each i v (below_other li other) lv)
-        (eq-or-ne i j);
+        (eq_or_ne i j);
   }
 
-pub gathering-done : {volume : List ℕ} {start stride lanes j n : ℕ} {d : List ℕ} → Gathered volume start stride lanes j d → n ≤ j → Gathered volume start stride lanes n d
-gathering-done h l = record { each = λ i v li lv. h.each i v (omega arith) lv }
+pub gathering_done : {volume : List ℕ} {start stride lanes j n : ℕ} {d : List ℕ} → Gathered volume start stride lanes j d → n ≤ j → Gathered volume start stride lanes n d
+gathering_done h l = record { each = λ i v li lv. h.each i v (omega arith) lv }
 
 -- the line of a lane is the line of the volume
 module _ {volume : List ℕ} {start stride lanes n : ℕ} {d : List ℕ} (h : Gathered volume start stride lanes n d) (m : ℕ) where
-  pub gathered-line : {v : ℕ} → lanes ≤ 16 → v < lanes → lineIn m n v d ≡ list_of n (λ j. values_of m volume (start + j * stride + v))
-  gathered-line {v} few lv = list-cong m n _ _ (λ j lj. ap (value_of m) (h.each j v lj (omega arith) ∙ sym (pair-used volume (start + j * stride) lv)))
+  pub gathered_line : {v : ℕ} → lanes ≤ 16 → v < lanes → line_in m n v d ≡ list_of n (λ j. values_of m volume (start + j * stride + v))
+  gathered_line {v} few lv = list_cong m n _ _ (λ j lj. ap (value_of m) (h.each j v lj (omega arith) ∙ sym (pair_used volume (start + j * stride) lv)))
 
   -- where the lines hold residues, the batch does
-  pub gathered-low : LinesBelow m start stride n lanes volume → length d ≡ 32 * n → UpTo (8 * prime m) d
-  gathered-low below long = up_of long (λ v j lv lj. let s = small v j lv lj in (omega (arith, s.re), omega (arith, s.im)))
+  pub gathered_low : LinesBelow m start stride n lanes volume → length d ≡ 32 * n → UpTo (8 * prime m) d
+  gathered_low below long = up_of long (λ v j lv lj. let s = small v j lv lj in (omega (arith, s.re), omega (arith, s.im)))
     where
-      zero-small : Small (prime m) zeroPair
-      zero-small = record { re = prime-pos m; im = prime-pos m }
+      zero_small : Small (prime m) zero_pair
+      zero_small = record { re = prime_pos m; im = prime_pos m }
 
-      small : (v j : ℕ) → v < 16 → j < n → Small (prime m) (laneAt d j v)
+      small : (v j : ℕ) → v < 16 → j < n → Small (prime m) (lane_at d j v)
       small v j lv lj = subst (Small (prime m)) (sym (h.each j v lj lv)) (⊎_elim
-          (λ (lt : v < lanes). subst (Small (prime m)) (along (at volume) (start + v + j * stride) (start + j * stride + v) (omega arith) ∙ pair-used volume (start + j * stride) lt) (below.each v j lt lj))
-          (λ (ge : lanes ≤ v). subst (Small (prime m)) (pair-unused volume (start + j * stride) ge) zero-small)
-          (lt-or-ge v lanes))
+          (λ (lt : v < lanes). subst (Small (prime m)) (along (at volume) (start + v + j * stride) (start + j * stride + v) (omega arith) ∙ pair_used volume (start + j * stride) lt) (below.each v j lt lj))
+          (λ (ge : lanes ≤ v). subst (Small (prime m)) (pair_unused volume (start + j * stride) ge) zero_small)
+          (lt_or_ge v lanes))
 
 -- ---- and back
 
 module _ {m c : ℕ} {s : List ℕ} {j : ℕ} where
-  pub reducing-start : {y : List ℕ} → length y ≡ 32 → ReducedPlace m c s j 0 y
-  reducing-start e = record { long = e; is = λ c₀ h u l. absurd (not-suc-le-zero l) }
+  pub reducing_start : {y : List ℕ} → length y ≡ 32 → ReducedPlace m c s j 0 y
+  reducing_start e = record { long = e; is = λ c₀ h u l. absurd (not-suc-le-zero l) }
 
-  pub reducing-next : {u : ℕ} {y : List ℕ} {x : ℕ} → ReducedPlace m c s j u y → u < 32 → ((c₀ : Residue m) → Holds m c c₀ → x ≡ ((ring m).mul c₀ (res m (get_or s (32 * j + u) 0))).val)
+  pub reducing_next : {u : ℕ} {y : List ℕ} {x : ℕ} → ReducedPlace m c s j u y → u < 32 → ((c₀ : Residue m) → Holds m c c₀ → x ≡ ((ring m).mul c₀ (res m (get_or s (32 * j + u) 0))).val)
       → ReducedPlace m c s j (u + 1) (set y u x)
-  reducing-next {u} {y} {x} h l is = record {
+  reducing_next {u} {y} {x} h l is = record {
     long = length-set y u x ∙ h.long;
     is = λ c₀ e i li. ⊎_elim
         (λ (q : i ≡ u). ap (λ k. get_or (set y u x) k 0) q ∙ get_or-set_same y u x 0 (omega (arith, h.long)) ∙ is c₀ e ∙ ap (λ k. ((ring m).mul c₀ (res m (get_or s (32 * j + k) 0))).val) (sym q))
         (λ (other : i ≢ u). get_or-set_other y u i x 0 other ∙ h.is c₀ e i (below_other li other))
-        (eq-or-ne i u);
+        (eq_or_ne i u);
   }
 
-  pub reducing-done : {u : ℕ} {y : List ℕ} → ReducedPlace m c s j u y → 32 ≤ u → ReducedPlace m c s j 32 y
-  reducing-done h l = record { long = h.long; is = λ c₀ e i li. h.is c₀ e i (omega arith) }
+  pub reducing_done : {u : ℕ} {y : List ℕ} → ReducedPlace m c s j u y → 32 ≤ u → ReducedPlace m c s j 32 y
+  reducing_done h l = record { long = h.long; is = λ c₀ e i li. h.is c₀ e i (omega arith) }
 
   -- its pairs
-  pub reduced-pair : {y : List ℕ} → ReducedPlace m c s j 32 y → (c₀ : Residue m) → Holds m c c₀ → (v : ℕ) → v < 16 → laneAt y 0 v ≡ pair_of ((field m).mul (real m c₀) (value_of m (laneAt s j v)))
-  unfolding laneAt pair_of value_of
-  reduced-pair {y} h c₀ e v lv =
+  pub reduced_pair : {y : List ℕ} → ReducedPlace m c s j 32 y → (c₀ : Residue m) → Holds m c c₀ → (v : ℕ) → v < 16 → lane_at y 0 v ≡ pair_of ((field m).mul (real m c₀) (value_of m (lane_at s j v)))
+  unfolding lane_at pair_of value_of
+  reduced_pair {y} h c₀ e v lv =
       pair_path
       (along (λ k. get_or y k 0) (32 * 0 + v) v (omega arith) ∙ h.is c₀ e v (omega arith))
       (along (λ k. get_or y k 0) (32 * 0 + v + 16) (v + 16) (omega arith) ∙ h.is c₀ e (v + 16) (omega arith) ∙ along (λ k. ((ring m).mul c₀ (res m (get_or s k 0))).val) (32 * j + (v + 16)) (32 * j + v + 16) (omega arith))
-      ∙ ap pair_of (sym (real-times m c₀ (value_of m (laneAt s j v))))
+      ∙ ap pair_of (sym (real_times m c₀ (value_of m (lane_at s j v))))
 
-pub numbers-lane : (y : List ℕ) (v : ℕ) → record { re = get_or y v 0; im = get_or y (v + 16) 0 } ≡ laneAt y 0 v
-unfolding laneAt
-numbers-lane y v = pair_path (along (λ k. get_or y k 0) v (32 * 0 + v) (omega arith)) (along (λ k. get_or y k 0) (v + 16) (32 * 0 + v + 16) (omega arith))
+pub numbers_lane : (y : List ℕ) (v : ℕ) → record { re = get_or y v 0; im = get_or y (v + 16) 0 } ≡ lane_at y 0 v
+unfolding lane_at
+numbers_lane y v = pair_path (along (λ k. get_or y k 0) v (32 * 0 + v) (omega arith)) (along (λ k. get_or y k 0) (v + 16) (32 * 0 + v + 16) (omega arith))
 
 module _ {m c : ℕ} {s : List ℕ} {start stride lanes : ℕ} {before : List ℕ} where
-  pub scattering-start : Scattered m c s start stride lanes 0 before before
-  scattering-start = record { long = refl; new = λ c₀ e j v l. absurd (not-suc-le-zero l); kept = λ k h. refl }
+  pub scattering_start : Scattered m c s start stride lanes 0 before before
+  scattering_start = record { long = refl; new = λ c₀ e j v l. absurd (not-suc-le-zero l); kept = λ k h. refl }
 
-  pub scattering-next : {j : ℕ} (d : List ℕ) {e y : List ℕ} → Scattered m c s start stride lanes j before d → ReducedPlace m c s j 32 y → e ≡ puts (λ v. start + j * stride + v) (λ v. laneAt y 0 v) lanes d
+  pub scattering_next : {j : ℕ} (d : List ℕ) {e y : List ℕ} → Scattered m c s start stride lanes j before d → ReducedPlace m c s j 32 y → e ≡ puts (λ v. start + j * stride + v) (λ v. lane_at y 0 v) lanes d
       → lanes ≤ 16 → lanes ≤ stride → 2 * (start + j * stride + lanes) ≤ length before → Scattered m c s start stride lanes (j + 1) before e
-  scattering-next {j} d {e} {y} h r is few wide inside = record {
-    long = ap length is ∙ length-puts (λ v. start + j * stride + v) (λ v. laneAt y 0 v) lanes d ∙ h.long;
+  scattering_next {j} d {e} {y} h r is few wide inside = record {
+    long = ap length is ∙ length_puts (λ v. start + j * stride + v) (λ v. lane_at y 0 v) lanes d ∙ h.long;
     new = λ c₀ q i v li lv. ap (λ x. at x (start + i * stride + v)) is ∙ ⊎_elim
-        (λ (same : i ≡ j). ap (λ k. at (puts (λ v. start + j * stride + v) (λ v. laneAt y 0 v) lanes d) (start + k * stride + v)) same
-        ∙ at-puts (λ v. start + j * stride + v) (λ v. laneAt y 0 v) lanes v d lv (omega (arith, h.long)) (λ u lu lt p. omega arith)
-        ∙ reduced-pair r c₀ q v (omega arith)
-        ∙ ap (λ k. pair_of ((field m).mul (real m c₀) (value_of m (laneAt s k v)))) (sym same))
-        (λ (other : i ≢ j). at-puts-other (λ v. start + j * stride + v) (λ v. laneAt y 0 v) lanes (start + i * stride + v) d
-        (λ u lu p. omega (arith, row-end stride (below_other li other)))
+        (λ (same : i ≡ j). ap (λ k. at (puts (λ v. start + j * stride + v) (λ v. lane_at y 0 v) lanes d) (start + k * stride + v)) same
+        ∙ at_puts (λ v. start + j * stride + v) (λ v. lane_at y 0 v) lanes v d lv (omega (arith, h.long)) (λ u lu lt p. omega arith)
+        ∙ reduced_pair r c₀ q v (omega arith)
+        ∙ ap (λ k. pair_of ((field m).mul (real m c₀) (value_of m (lane_at s k v)))) (sym same))
+        (λ (other : i ≢ j). at_puts_other (λ v. start + j * stride + v) (λ v. lane_at y 0 v) lanes (start + i * stride + v) d
+        (λ u lu p. omega (arith, row_end stride (below_other li other)))
         ∙ h.new c₀ q i v (below_other li other) lv)
-        (eq-or-ne i j);
+        (eq_or_ne i j);
     kept = λ k away. ap (λ x. at x k) is
-        ∙ at-puts-other (λ v. start + j * stride + v) (λ v. laneAt y 0 v) lanes k d (λ u lu. away j u (omega arith) lu)
+        ∙ at_puts_other (λ v. start + j * stride + v) (λ v. lane_at y 0 v) lanes k d (λ u lu. away j u (omega arith) lu)
         ∙ h.kept k (λ i v li lv. away i v (omega arith) lv);
   }
 
-pub scattering-done : {m c : ℕ} {s : List ℕ} {start stride lanes j n : ℕ} {before after : List ℕ} → Scattered m c s start stride lanes j before after → j ≡ n → Scattered m c s start stride lanes n before after
-scattering-done {m} {c} {s} {start} {stride} {lanes} {before = before} {after = after} h e = subst (λ n. Scattered m c s start stride lanes n before after) e h
+pub scattering_done : {m c : ℕ} {s : List ℕ} {start stride lanes j n : ℕ} {before after : List ℕ} → Scattered m c s start stride lanes j before after → j ≡ n → Scattered m c s start stride lanes n before after
+scattering_done {m} {c} {s} {start} {stride} {lanes} {before = before} {after = after} h e = subst (λ n. Scattered m c s start stride lanes n before after) e h

@@ -27,14 +27,14 @@ pub record FourOf (o a b c d turn : ℕ) (r : Four) : Type 0 where
 pub record FiveOf (m : ℕ) (w z : Factor) (o a b c d e outer inner : ℕ) (r : Five) : Type 0 where
   pub near : ℕ
   pub far : ℕ
-  pub near-odd : ℕ
-  pub far-odd : ℕ
-  pub near-is : Divided m (w.re * (b + e) + z.re * (c + d)) near
-  pub far-is : Divided m (z.re * (b + e) + w.re * (c + d)) far
-  pub near-odd-is : Divided m (w.im * outer + z.im * inner) near-odd
-  pub far-odd-is : Divided m (z.im * outer + w.minus * inner) far-odd
+  pub near_odd : ℕ
+  pub far_odd : ℕ
+  pub near_is : Divided m (w.re * (b + e) + z.re * (c + d)) near
+  pub far_is : Divided m (z.re * (b + e) + w.re * (c + d)) far
+  pub near_odd_is : Divided m (w.im * outer + z.im * inner) near_odd
+  pub far_odd_is : Divided m (z.im * outer + w.minus * inner) far_odd
   pub x0 : r.x0 ≡ a + (b + e) + (c + d)
-  pub x1 : r.x1 ≡ a + near + near-odd
-  pub x2 : r.x2 ≡ a + far + far-odd
-  pub x3 : r.x3 ≡ a + far + (o - far-odd)
-  pub x4 : r.x4 ≡ a + near + (o - near-odd)
+  pub x1 : r.x1 ≡ a + near + near_odd
+  pub x2 : r.x2 ≡ a + far + far_odd
+  pub x3 : r.x3 ≡ a + far + (o - far_odd)
+  pub x4 : r.x4 ≡ a + near + (o - near_odd)

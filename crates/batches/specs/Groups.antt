@@ -3,25 +3,25 @@ use Rattle.std.specs.Prelude.{◌≡◌, ◌≢◌, cond, List, ℕ, ◌+◌, �
 use Rattle.algebra.specs.ring.Ring.{Ops, pow, dft}
 use Rattle.numbers.specs.declared.Pair.{Pair}
 use Rattle.numbers.specs.Value.{prime, Value, Residue, ring, field, real, value_of, pair_of}
-use Rattle.numbers.specs.Bounds.{res, zeroPair, Small}
+use Rattle.numbers.specs.Bounds.{res, zero_pair, Small}
 use Rattle.slices.specs.Pairs.{at, values_of, list_of}
-use Rattle.slices.specs.Sweep.{Layout, sweep, onLists}
+use Rattle.slices.specs.Sweep.{Layout, sweep, on_lists}
 use Rattle.batches.specs.Reduction.{Holds}
-use Rattle.batches.specs.Lanes.{laneAt}
+use Rattle.batches.specs.Lanes.{lane_at}
 
 -- what lane v has where `lanes` lanes are used: the pair first + v of the volume, or zero
-unfoldable pub lanePair : (volume : List ℕ) (first lanes v : ℕ) → Pair
-lanePair volume first lanes v = cond (ltb v lanes) (at volume (first + v)) zeroPair
+unfoldable pub lane_pair : (volume : List ℕ) (first lanes v : ℕ) → Pair
+lane_pair volume first lanes v = cond (ltb v lanes) (at volume (first + v)) zero_pair
 
 -- the first n lanes of place j are f 0, f 1, .., and every other lane of any place is as it was
 pub record PutLanes (f : ℕ → Pair) (j n : ℕ) (before after : List ℕ) : Type 0 where
   pub long : length after ≡ length before
-  pub new : (v : ℕ) → v < n → laneAt after j v ≡ f v
-  pub kept : (i v : ℕ) → v < 16 → (i ≡ j → n ≤ v) → laneAt after i v ≡ laneAt before i v
+  pub new : (v : ℕ) → v < n → lane_at after j v ≡ f v
+  pub kept : (i v : ℕ) → v < 16 → (i ≡ j → n ≤ v) → lane_at after i v ≡ lane_at before i v
 
 -- lane v of the batch is line v of the volume, and the lanes that are not used are zero
 pub record Gathered (volume : List ℕ) (start stride lanes n : ℕ) (d : List ℕ) : Type 0 where
-  pub each : (j v : ℕ) → j < n → v < 16 → laneAt d j v ≡ lanePair volume (start + j * stride) lanes v
+  pub each : (j v : ℕ) → j < n → v < 16 → lane_at d j v ≡ lane_pair volume (start + j * stride) lanes v
 
 -- the first n numbers of y are those of place j, times what c stands for, over 2^32
 pub record ReducedPlace (m c : ℕ) (s : List ℕ) (j n : ℕ) (y : List ℕ) : Type 0 where
@@ -33,7 +33,7 @@ pub record ReducedPlace (m c : ℕ) (s : List ℕ) (j n : ℕ) (y : List ℕ) : 
 pub record Scattered (m c : ℕ) (s : List ℕ) (start stride lanes n : ℕ) (before after : List ℕ) : Type 0 where
   pub long : length after ≡ length before
   pub new : (c₀ : Residue m) → Holds m c c₀ → (j v : ℕ) → j < n → v < lanes
-      → at after (start + j * stride + v) ≡ pair_of ((field m).mul (real m c₀) (value_of m (laneAt s j v)))
+      → at after (start + j * stride + v) ≡ pair_of ((field m).mul (real m c₀) (value_of m (lane_at s j v)))
   pub kept : (k : ℕ) →
       ((j v : ℕ) → j < n → v < lanes → start + j * stride + v ≢ k) →
       at after k ≡ at before k
@@ -49,12 +49,12 @@ pub record LinesBelow (m : ℕ) (start stride n lanes : ℕ) (volume : List ℕ)
   pub each : (v j : ℕ) → v < lanes → j < n → Small (prime m) (at volume (start + v + j * stride))
 
 -- the transform of a line of n pairs, times z: with 1 the transform, with 1/n and the conjugate root the inverse
-abbrev pub scaledTransform : (m : ℕ) (W : Value m) (z : Residue m) (n : ℕ) → List ℕ → List ℕ
-scaledTransform m W z n l =
+abbrev pub scaled_transform : (m : ℕ) (W : Value m) (z : Residue m) (n : ℕ) → List ℕ → List ℕ
+scaled_transform m W z n l =
     list_of n (λ t. (field m).mul (real m z) (dft (field m) n (pow (field m) W (2880 / n)) (values_of m l) t))
 
 -- the lines one after the other
-abbrev pub turnedLines : (m : ℕ) (W : Value m) (z : Residue m) (start stride n lanes : ℕ) → List ℕ → List ℕ
-turnedLines m W z start stride n lanes d =
+abbrev pub turned_lines : (m : ℕ) (W : Value m) (z : Residue m) (start stride n lanes : ℕ) → List ℕ → List ℕ
+turned_lines m W z start stride n lanes d =
     sweep (neighbours start stride n lanes)
-    (onLists (neighbours start stride n lanes) (λ v. scaledTransform m W z n)) lanes d
+    (on_lists (neighbours start stride n lanes) (λ v. scaled_transform m W z n)) lanes d

@@ -6,8 +6,8 @@ use Rattle.numbers.specs.Bounds.{res}
 use Rattle.batches.specs.declared.lane.Factor.{Factor}
 
 -- -1/p modulo 2^32
-unfoldable pub minusInverse : ℕ → ℕ
-minusInverse m = cond (eqb m 1) 743674241 2496671041
+unfoldable pub minus_inverse : ℕ → ℕ
+minus_inverse m = cond (eqb m 1) 743674241 2496671041
 
 -- r stands for x over 2^32: a multiple of the prime makes x whole
 pub record Divided (m x r : ℕ) : Type 0 where
@@ -16,8 +16,8 @@ pub record Divided (m x r : ℕ) : Type 0 where
   pub is : 4294967296 * r ≡ x + prime m * times
 
 -- the factor at place k of two tables
-abbrev pub factorAt : (m : ℕ) (re im : List ℕ) (k : ℕ) → Factor
-factorAt m re im k = record { re = get_or re k 0; im = get_or im k 0; minus = prime m - get_or im k 0 }
+abbrev pub factor_at : (m : ℕ) (re im : List ℕ) (k : ℕ) → Factor
+factor_at m re im k = record { re = get_or re k 0; im = get_or im k 0; minus = prime m - get_or im k 0 }
 
 -- the first n numbers of `to` are residues, those of `from` times 2^32
 pub record ShiftedList (m : ℕ) (from : List ℕ) (n : ℕ) (to : List ℕ) : Type 0 where
@@ -27,10 +27,10 @@ pub record ShiftedList (m : ℕ) (from : List ℕ) (n : ℕ) (to : List ℕ) : T
 
 -- the tables sre and sim hold what re and im hold, times 2^32
 pub record ShiftedTable (m : ℕ) (re im sre sim : List ℕ) : Type 0 where
-  pub low-re : (k : ℕ) → get_or sre k 0 < prime m
-  pub low-im : (k : ℕ) → get_or sim k 0 < prime m
-  pub re-is : (k : ℕ) → k < 2880 → res m (get_or sre k 0) ≡ (ring m).mul (res m 4294967296) (res m (get_or re k 0))
-  pub im-is : (k : ℕ) → k < 2880 → res m (get_or sim k 0) ≡ (ring m).mul (res m 4294967296) (res m (get_or im k 0))
+  pub low_re : (k : ℕ) → get_or sre k 0 < prime m
+  pub low_im : (k : ℕ) → get_or sim k 0 < prime m
+  pub re_is : (k : ℕ) → k < 2880 → res m (get_or sre k 0) ≡ (ring m).mul (res m 4294967296) (res m (get_or re k 0))
+  pub im_is : (k : ℕ) → k < 2880 → res m (get_or sim k 0) ≡ (ring m).mul (res m 4294967296) (res m (get_or im k 0))
 
 -- the numbers of a factor are no larger than the prime
 pub record Held (m : ℕ) (w : Factor) : Type 0 where

@@ -6,9 +6,9 @@
 // In the first step all factors are 1, and nothing is multiplied.
 ghost use Rattle.std.specs.Prelude.{◌≡◌, get_or, length, ◌+◌, ◌*◌, ◌<◌, ◌≤◌};
 ghost use Rattle.numbers.specs.Value.{prime, IsModulus};
-ghost use Rattle.roots.specs.Table.{tableRoot, RootTable};
-ghost use Rattle.batches.specs.Reduction.{Divided, Held, ShiftedTable, factorAt};
-ghost use Rattle.batches.specs.Lanes.{laneAt, putLane, UpTo, Apart, FirstStep, Summed};
+ghost use Rattle.roots.specs.Table.{table_root, RootTable};
+ghost use Rattle.batches.specs.Reduction.{Divided, Held, ShiftedTable, factor_at};
+ghost use Rattle.batches.specs.Lanes.{lane_at, put_lane, UpTo, Apart, FirstStep, Summed};
 
 use crate::lane::Factor;
 use butterflies::twiddle::Places;
@@ -28,8 +28,8 @@ fn part(at: Places, from: &[u32], b: usize, v: usize) -> u32
 fn turned_re(m: u32, w: Factor, at: Places, from: &[u32], b: usize, v: usize) -> u32
     requires { IsModulus m × Held m w × (b < 5) × (v < 16)
         × (32 * (b * at.stride + at.first) + 32 ≤ length from.now) × UpTo 1073741823 from.now }
-    ensures { Divided m (w.re * (laneAt from.now (b * at.stride + at.first) v).re
-        + w.minus * (laneAt from.now (b * at.stride + at.first) v).im) result }
+    ensures { Divided m (w.re * (lane_at from.now (b * at.stride + at.first) v).re
+        + w.minus * (lane_at from.now (b * at.stride + at.first) v).im) result }
 {
     crate::lane::turned_re(m, w, part(at, from, b, v), part(at, from, b, v + 16))
 }
@@ -38,8 +38,8 @@ fn turned_re(m: u32, w: Factor, at: Places, from: &[u32], b: usize, v: usize) ->
 fn turned_im(m: u32, w: Factor, at: Places, from: &[u32], b: usize, v: usize) -> u32
     requires { IsModulus m × Held m w × (b < 5) × (v < 16)
         × (32 * (b * at.stride + at.first) + 32 ≤ length from.now) × UpTo 1073741823 from.now }
-    ensures { Divided m (w.re * (laneAt from.now (b * at.stride + at.first) v).im
-        + w.im * (laneAt from.now (b * at.stride + at.first) v).re) result }
+    ensures { Divided m (w.re * (lane_at from.now (b * at.stride + at.first) v).im
+        + w.im * (lane_at from.now (b * at.stride + at.first) v).re) result }
 {
     crate::lane::turned_im(m, w, part(at, from, b, v), part(at, from, b, v + 16))
 }
@@ -47,7 +47,7 @@ fn turned_im(m: u32, w: Factor, at: Places, from: &[u32], b: usize, v: usize) ->
 // The pair a + b i goes to lane v of block c.
 fn store_lane(y: &mut [u32; 160], c: usize, v: usize, a: u32, b: u32)
     requires { (c < 5) × (v < 16) }
-    ensures { y.new ≡ putLane y.old c v (record { re = a; im = b }) }
+    ensures { y.new ≡ put_lane y.old c v (record { re = a; im = b }) }
 {
     let k = 32 * c + v;
     y[k] = a;
@@ -69,7 +69,7 @@ pub fn two_turned<'a>(
         × RootTable m re.now im.now
         × ShiftedTable m re.now im.now sre.now sim.now }
     requires apart { Apart 2 at from.now × UpTo 1073741823 from.now × (length y.old ≡ 160) }
-    ensures { Summed m (tableRoot m re.now im.now) 2 at from.now 16
+    ensures { Summed m (table_root m re.now im.now) 2 at from.now 16
         y.new }
 {
     let k = at.k;
@@ -107,7 +107,7 @@ pub fn two_first<'a>(
         × ShiftedTable m re.now im.now sre.now sim.now }
     requires apart { Apart 2 at from.now × UpTo 1073741823 from.now × (length y.old ≡ 160)
         × FirstStep m at from.now }
-    ensures { Summed m (tableRoot m re.now im.now) 2 at from.now 16
+    ensures { Summed m (table_root m re.now im.now) 2 at from.now 16
         y.new }
 {
     let o = 8 * numbers::modulus(m);
@@ -142,7 +142,7 @@ pub fn three_turned<'a>(
         × RootTable m re.now im.now
         × ShiftedTable m re.now im.now sre.now sim.now }
     requires apart { Apart 3 at from.now × UpTo 1073741823 from.now × (length y.old ≡ 160) }
-    ensures { Summed m (tableRoot m re.now im.now) 3 at from.now 16
+    ensures { Summed m (table_root m re.now im.now) 3 at from.now 16
         y.new }
 {
     let k = at.k;
@@ -185,7 +185,7 @@ pub fn three_first<'a>(
         × ShiftedTable m re.now im.now sre.now sim.now }
     requires apart { Apart 3 at from.now × UpTo 1073741823 from.now × (length y.old ≡ 160)
         × FirstStep m at from.now }
-    ensures { Summed m (tableRoot m re.now im.now) 3 at from.now 16
+    ensures { Summed m (table_root m re.now im.now) 3 at from.now 16
         y.new }
 {
     let z = crate::lane::factor_at(m, sre, sim, 960);
@@ -224,7 +224,7 @@ pub fn four_turned<'a>(
         × RootTable m re.now im.now
         × ShiftedTable m re.now im.now sre.now sim.now }
     requires apart { Apart 4 at from.now × UpTo 1073741823 from.now × (length y.old ≡ 160) }
-    ensures { Summed m (tableRoot m re.now im.now) 4 at from.now 16
+    ensures { Summed m (table_root m re.now im.now) 4 at from.now 16
         y.new }
 {
     let k = at.k;
@@ -269,7 +269,7 @@ pub fn four_first<'a>(
         × ShiftedTable m re.now im.now sre.now sim.now }
     requires apart { Apart 4 at from.now × UpTo 1073741823 from.now × (length y.old ≡ 160)
         × FirstStep m at from.now }
-    ensures { Summed m (tableRoot m re.now im.now) 4 at from.now 16
+    ensures { Summed m (table_root m re.now im.now) 4 at from.now 16
         y.new }
 {
     let o = 8 * numbers::modulus(m);
@@ -309,7 +309,7 @@ pub fn five_turned<'a>(
         × RootTable m re.now im.now
         × ShiftedTable m re.now im.now sre.now sim.now }
     requires apart { Apart 5 at from.now × UpTo 1073741823 from.now × (length y.old ≡ 160) }
-    ensures { Summed m (tableRoot m re.now im.now) 5 at from.now 16
+    ensures { Summed m (table_root m re.now im.now) 5 at from.now 16
         y.new }
 {
     let k = at.k;
@@ -363,7 +363,7 @@ pub fn five_first<'a>(
         × ShiftedTable m re.now im.now sre.now sim.now }
     requires apart { Apart 5 at from.now × UpTo 1073741823 from.now × (length y.old ≡ 160)
         × FirstStep m at from.now }
-    ensures { Summed m (tableRoot m re.now im.now) 5 at from.now 16
+    ensures { Summed m (table_root m re.now im.now) 5 at from.now 16
         y.new }
 {
     let w = crate::lane::factor_at(m, sre, sim, 576);

@@ -3,8 +3,8 @@
 ghost use Rattle.std.specs.Prelude.{◌≡◌, length, ◌+◌, ◌*◌, ◌<◌, ◌≤◌};
 ghost use Rattle.numbers.specs.Value.{prime, IsModulus};
 ghost use Rattle.slices.specs.Pairs.{puts};
-ghost use Rattle.batches.specs.Lanes.{laneAt, putLane, UpTo};
-ghost use Rattle.batches.specs.Groups.{lanePair, PutLanes, Gathered, ReducedPlace, Scattered};
+ghost use Rattle.batches.specs.Lanes.{lane_at, put_lane, UpTo};
+ghost use Rattle.batches.specs.Groups.{lane_pair, PutLanes, Gathered, ReducedPlace, Scattered};
 
 use numbers::Pair;
 
@@ -26,7 +26,7 @@ fn gather_place(volume: &[u32], first: usize, lanes: usize, d: &mut [u32], j: us
     requires { (lanes ≤ 16)
         × (2 * (first + lanes) ≤ length volume.now)
         × (32 * j + 32 ≤ length d.old) }
-    ensures { PutLanes (lanePair volume.now first lanes) j 16 d.old
+    ensures { PutLanes (lane_pair volume.now first lanes) j 16 d.old
         d.new }
 {
     let mut v = 0;
@@ -44,7 +44,7 @@ fn gather_place(volume: &[u32], first: usize, lanes: usize, d: &mut [u32], j: us
 // The pair a + b i goes to lane v of place j.
 pub fn store_lane(d: &mut [u32], j: usize, v: usize, a: u32, b: u32)
     requires { (v < 16) × (32 * j + 32 ≤ length d.old) }
-    ensures { d.new ≡ putLane d.old j v (record { re = a; im = b }) }
+    ensures { d.new ≡ put_lane d.old j v (record { re = a; im = b }) }
 {
     let k = 32 * j + v;
     d[k] = a;
@@ -95,7 +95,7 @@ pub fn reduce_place(m: u32, c: u32, s: &[u32], j: usize, y: &mut [u32; 32])
 fn put_place(y: &[u32; 32], lanes: usize, volume: &mut [u32], first: usize)
     requires { (lanes ≤ 16) × (2 * (first + lanes) ≤ length volume.old) }
     ensures { volume.new
-        ≡ puts (λ v. first + v) (λ v. laneAt y.now 0 v) lanes volume.old }
+        ≡ puts (λ v. first + v) (λ v. lane_at y.now 0 v) lanes volume.old }
 {
     let mut v = 0;
     while v < lanes {

@@ -2,10 +2,10 @@
 // back.
 ghost use Rattle.std.specs.Prelude.{◌≡◌, length, ◌+◌, ◌*◌, ◌/◌, ◌<◌, ◌≤◌};
 ghost use Rattle.numbers.specs.Value.{prime, IsModulus, Residue};
-ghost use Rattle.roots.specs.Table.{tableRoot, RootTable};
+ghost use Rattle.roots.specs.Table.{table_root, RootTable};
 ghost use Rattle.lengths.specs.Admitted.{Factored};
 ghost use Rattle.batches.specs.Reduction.{ShiftedTable, Holds};
-ghost use Rattle.batches.specs.Groups.{LinesBelow, turnedLines};
+ghost use Rattle.batches.specs.Groups.{LinesBelow, turned_lines};
 
 // What the lines become is what they become one after the other. c stands for 1 or 1/n, times 2^32.
 pub fn turn_lines<'a>(
@@ -34,7 +34,7 @@ pub fn turn_lines<'a>(
         × LinesBelow m start stride n lanes volume.old }
     ensures { (z : Residue m) → Holds m c z
         → volume.new
-        ≡ turnedLines m (tableRoot m re.now im.now) z start stride n lanes
+        ≡ turned_lines m (table_root m re.now im.now) z start stride n lanes
         volume.old }
 {
     crate::gathering::gather(volume, start, stride, lanes, n, line);

@@ -9,7 +9,7 @@
 // 64, and undo that in every lane.
 ghost use Rattle.std.specs.Prelude.{◌≡◌, cond, get_or, length, ◌+◌, ◌*◌, ◌-◌, ◌<◌, ◌≤◌};
 ghost use Rattle.numbers.specs.Value.{prime, IsModulus};
-ghost use Rattle.batches.specs.Reduction.{Divided, Held, factorAt};
+ghost use Rattle.batches.specs.Reduction.{Divided, Held, factor_at};
 ghost use Rattle.batches.specs.Formulas.{ThreeOf, FourOf, FiveOf};
 
 // A power of the root times 2^32: its parts, and minus the imaginary one.
@@ -47,7 +47,7 @@ pub struct Five {
 // The factor at place k of tables that are held times 2^32.
 pub fn factor_at<'a>(m: u32, re: &'a [u32; 2880], im: &'a [u32; 2880], k: usize) -> Factor
     requires { IsModulus m × (k < 2880) × (get_or im.now k 0 ≤ prime m) }
-    ensures { result ≡ factorAt m re.now im.now k }
+    ensures { result ≡ factor_at m re.now im.now k }
 {
     let s = im[k];
     let p = numbers::modulus(m);

@@ -1,7 +1,7 @@
 // The outer sums of one butterfly of sixteen lanes, by its radix.
 ghost use Rattle.std.specs.Prelude.{◌≡◌, length, ◌≤◌};
 ghost use Rattle.numbers.specs.Value.{IsModulus};
-ghost use Rattle.roots.specs.Table.{tableRoot, RootTable};
+ghost use Rattle.roots.specs.Table.{table_root, RootTable};
 ghost use Rattle.batches.specs.Reduction.{ShiftedTable};
 ghost use Rattle.batches.specs.Lanes.{UpTo, Apart, FirstStep, Summed};
 
@@ -24,7 +24,7 @@ pub fn first_sums<'a>(
         × ShiftedTable m re.now im.now sre.now sim.now }
     requires le_outer { (2 ≤ outer) × (outer ≤ 5) × Apart outer at from.now × UpTo 1073741823 from.now
         × (length y.old ≡ 160) × FirstStep m at from.now }
-    ensures { Summed m (tableRoot m re.now im.now) outer at from.now 16
+    ensures { Summed m (table_root m re.now im.now) outer at from.now 16
         y.new }
 {
     if outer == 4 {
@@ -55,7 +55,7 @@ pub fn turned_sums<'a>(
         × ShiftedTable m re.now im.now sre.now sim.now }
     requires le_outer { (2 ≤ outer) × (outer ≤ 5) × Apart outer at from.now × UpTo 1073741823 from.now
         × (length y.old ≡ 160) }
-    ensures { Summed m (tableRoot m re.now im.now) outer at from.now 16
+    ensures { Summed m (table_root m re.now im.now) outer at from.now 16
         y.new }
 {
     if outer == 4 {

@@ -2,7 +2,7 @@
 // products of 32 bits and no comparison, so that the compiler works on several numbers at a time.
 ghost use Rattle.std.specs.Prelude.{◌≡◌, ◌+◌, ◌*◌, ◌<◌, ◌≤◌};
 ghost use Rattle.numbers.specs.Value.{prime, IsModulus};
-ghost use Rattle.batches.specs.Reduction.{Divided, minusInverse};
+ghost use Rattle.batches.specs.Reduction.{Divided, minus_inverse};
 
 pub fn divided(m: u32, x: u64) -> u32
     requires { IsModulus m × (x < prime m * 4294967296) }
@@ -14,7 +14,7 @@ pub fn divided(m: u32, x: u64) -> u32
 
 fn inverse(m: u32) -> u64
     requires { IsModulus m }
-    ensures { (result ≡ minusInverse m) × (result < 4294967296) }
+    ensures { (result ≡ minus_inverse m) × (result < 4294967296) }
 {
     if m == 1 { 743674241 } else { 2496671041 }
 }

@@ -1,7 +1,7 @@
 // A step of equation (3) of document 001 over a batch of sixteen lanes: as plain::step::step, lane by lane.
 ghost use Rattle.std.specs.Prelude.{◌≡◌, length, ℕ, ◌+◌, ◌*◌, ◌<◌, ◌≤◌};
 ghost use Rattle.numbers.specs.Value.{prime, IsModulus};
-ghost use Rattle.roots.specs.Table.{tableRoot, RootTable};
+ghost use Rattle.roots.specs.Table.{table_root, RootTable};
 ghost use Rattle.plain.specs.Plain.{Splits};
 ghost use Rattle.batches.specs.Reduction.{ShiftedTable};
 ghost use Rattle.batches.specs.Lanes.{UpTo, Apart, FirstStep, SteppedLanes, LaneParts};
@@ -29,7 +29,7 @@ fn outer_sums<'a>(
         × (length y.old ≡ 160) }
     requires gap_nonzero { (0 < at.gap) × (32 * (at.base + outer * at.gap) + 32 ≤ length to.old + 32 * at.gap)
         × (at.gap ≡ 1 → FirstStep m at from.now) }
-    ensures { PlacedSums m (tableRoot m re.now im.now) outer at from.now
+    ensures { PlacedSums m (table_root m re.now im.now) outer at from.now
         to.old to.new
         × (length y.new ≡ 160) }
 {
@@ -64,10 +64,10 @@ pub fn step<'a>(
     requires splits { Splits inner outer lines × (length from.now ≡ 32 * (inner * outer * lines))
         × (length to.old ≡ 32 * (inner * outer * lines)) }
     requires up_to { UpTo 1073741823 from.now × (inner ≡ 1 → UpTo (8 * prime m) from.now) }
-    ensures stepped_lanes { SteppedLanes m (tableRoot m re.now im.now) inner outer lines
+    ensures stepped_lanes { SteppedLanes m (table_root m re.now im.now) inner outer lines
         from.now to.new }
     ensures by_index { (X : ℕ) → UpTo X from.now → UpTo (X + 32 * prime m) to.new }
-    ensures lane_parts { LaneParts m (tableRoot m re.now im.now) inner outer lines
+    ensures lane_parts { LaneParts m (table_root m re.now im.now) inner outer lines
         from.now to.new }
 {
     let stride = lines * inner;

@@ -2,7 +2,7 @@
 // than 32 p with each step.
 ghost use Rattle.std.specs.Prelude.{◌≡◌, length, ℕ, ◌+◌, ◌*◌, ◌/◌, ◌%◌};
 ghost use Rattle.numbers.specs.Value.{prime, IsModulus};
-ghost use Rattle.roots.specs.Table.{tableRoot, RootTable};
+ghost use Rattle.roots.specs.Table.{table_root, RootTable};
 ghost use Rattle.lengths.specs.Admitted.{Factored};
 ghost use Rattle.lengths.specs.Stages.{points, after, Ahead};
 ghost use Rattle.batches.specs.Reduction.{ShiftedTable};
@@ -30,7 +30,7 @@ pub fn transform<'a>(
     requires line_len { (length line.old ≡ 32 * n)
         × (length work.old ≡ 32 * n)
         × UpTo (8 * prime m) line.old }
-    ensures { TransformedLanes m (tableRoot m re.now im.now) factors n
+    ensures { TransformedLanes m (table_root m re.now im.now) factors n
         line.old line.new }
 {
     let mut at = Stage {
@@ -65,7 +65,7 @@ fn next_step<'a>(
     requires ahead { Ahead at × (length from.now ≡ 32 * points at) × (length to.old ≡ 32 * points at) }
     requires up_to { UpTo 1073741823 from.now × (at.inner ≡ 1 → UpTo (8 * prime m) from.now) }
     ensures value { result ≡ after at }
-    ensures stepped_lanes { SteppedLanes m (tableRoot m re.now im.now) at.inner (at.left % 8)
+    ensures stepped_lanes { SteppedLanes m (table_root m re.now im.now) at.inner (at.left % 8)
         (at.lines / (at.left % 8)) from.now to.new
         × ((X : ℕ) → UpTo X from.now → UpTo (X + 32 * prime m) to.new) }
 {

@@ -22,14 +22,14 @@ use Rattle.butterflies.specs.declared.twiddle.Places.{Places}
 -- ---- What a butterfly takes and gives: B sums that are not reduced become their B outer sums, reduced.
 
 -- the pairs in order
-abbrev pub ofTwo : TwoPairs → ℕ → Pair
-ofTwo v zero = v.x0
-ofTwo v (suc b) = v.x1
+abbrev pub of_two : TwoPairs → ℕ → Pair
+of_two v zero = v.x0
+of_two v (suc b) = v.x1
 
-abbrev pub ofThree : ThreePairs → ℕ → Pair
-ofThree v zero = v.x0
-ofThree v (suc zero) = v.mates.x0
-ofThree v (suc (suc b)) = v.mates.x1
+abbrev pub of_three : ThreePairs → ℕ → Pair
+of_three v zero = v.x0
+of_three v (suc zero) = v.mates.x0
+of_three v (suc (suc b)) = v.mates.x1
 
 abbrev pub of_four : FourPairs → ℕ → Pair
 of_four v zero = v.near.x0
@@ -37,35 +37,35 @@ of_four v (suc zero) = v.far.x0
 of_four v (suc (suc zero)) = v.near.x1
 of_four v (suc (suc (suc b))) = v.far.x1
 
-abbrev pub ofFive : FivePairs → ℕ → Pair
-ofFive v zero = v.x0
-ofFive v (suc zero) = v.near.x0
-ofFive v (suc (suc zero)) = v.far.x0
-ofFive v (suc (suc (suc zero))) = v.far.x1
-ofFive v (suc (suc (suc (suc b)))) = v.near.x1
+abbrev pub of_five : FivePairs → ℕ → Pair
+of_five v zero = v.x0
+of_five v (suc zero) = v.near.x0
+of_five v (suc (suc zero)) = v.far.x0
+of_five v (suc (suc (suc zero))) = v.far.x1
+of_five v (suc (suc (suc (suc b)))) = v.near.x1
 
 -- the sums in order
-abbrev pub ofTwoSums : TwoSums → ℕ → Accumulator
-ofTwoSums v zero = v.x0
-ofTwoSums v (suc b) = v.x1
+abbrev pub of_two_sums : TwoSums → ℕ → Accumulator
+of_two_sums v zero = v.x0
+of_two_sums v (suc b) = v.x1
 
-abbrev pub ofThreeSums : ThreeSums → ℕ → Accumulator
-ofThreeSums v zero = v.x0
-ofThreeSums v (suc zero) = v.x1
-ofThreeSums v (suc (suc b)) = v.x2
+abbrev pub of_three_sums : ThreeSums → ℕ → Accumulator
+of_three_sums v zero = v.x0
+of_three_sums v (suc zero) = v.x1
+of_three_sums v (suc (suc b)) = v.x2
 
-abbrev pub ofFourSums : FourSums → ℕ → Accumulator
-ofFourSums v zero = v.x0
-ofFourSums v (suc zero) = v.x1
-ofFourSums v (suc (suc zero)) = v.x2
-ofFourSums v (suc (suc (suc b))) = v.x3
+abbrev pub of_four_sums : FourSums → ℕ → Accumulator
+of_four_sums v zero = v.x0
+of_four_sums v (suc zero) = v.x1
+of_four_sums v (suc (suc zero)) = v.x2
+of_four_sums v (suc (suc (suc b))) = v.x3
 
-abbrev pub ofFiveSums : FiveSums → ℕ → Accumulator
-ofFiveSums v zero = v.x0
-ofFiveSums v (suc zero) = v.x1
-ofFiveSums v (suc (suc zero)) = v.x2
-ofFiveSums v (suc (suc (suc zero))) = v.x3
-ofFiveSums v (suc (suc (suc (suc b)))) = v.x4
+abbrev pub of_five_sums : FiveSums → ℕ → Accumulator
+of_five_sums v zero = v.x0
+of_five_sums v (suc zero) = v.x1
+of_five_sums v (suc (suc zero)) = v.x2
+of_five_sums v (suc (suc (suc zero))) = v.x3
+of_five_sums v (suc (suc (suc (suc b)))) = v.x4
 
 -- each of the first B sums is at most as large as one product of two values
 pub record AllRoom (B : ℕ) (x : ℕ → Accumulator) : Type 0 where
@@ -83,18 +83,18 @@ module _ (m : ℕ) (w z : Pair) where
   infixl 65 ◌⊕◌
   infixl 70 ◌⊗◌
   infix 75 ⊖◌
-  unfoldable pub evenPart : (a b c d e : Value m) → Value m
-  evenPart a b c d e = a ⊕ (real m (res m w.re) ⊗ (b ⊕ e) ⊕ real m (res m z.re) ⊗ (c ⊕ d))
+  unfoldable pub even_part : (a b c d e : Value m) → Value m
+  even_part a b c d e = a ⊕ (real m (res m w.re) ⊗ (b ⊕ e) ⊕ real m (res m z.re) ⊗ (c ⊕ d))
 
-  unfoldable pub oddPart : (b c d e : Value m) → Value m
-  oddPart b c d e =
+  unfoldable pub odd_part : (b c d e : Value m) → Value m
+  odd_part b c d e =
       real m (res m w.im) ⊗ (i m ⊗ (b ⊕ ⊖ e)) ⊕ real m (res m z.im) ⊗ (i m ⊗ (c ⊕ ⊖ d))
 
 -- ---- The values that a butterfly of a step reads, times their factors.
 
 -- the value for b
-abbrev pub readAt : (m : ℕ) → Places → List ℕ → ℕ → Value m
-readAt m p l b = values_of m l (b * p.stride + p.first)
+abbrev pub read_at : (m : ℕ) → Places → List ℕ → ℕ → Value m
+read_at m p l b = values_of m l (b * p.stride + p.first)
 
 -- The factors at these places are those of the transform's 𝐚 in a split by A and B: W^k is e(𝐚/AB).
 abbrev pub FactorsOf : (A B 𝐚 : ℕ) → Places → Type 0
@@ -103,8 +103,8 @@ FactorsOf A B 𝐚 p = p.k ≡ 2880 / (A * B) * 𝐚
 -- a stands for the value for b times the factor e(b𝐚/AB), and is at most as large as one product
 pub record Loaded (m : ℕ) (W : Value m) (p : Places) (l : List ℕ) (b : ℕ) (a : Accumulator) : Type 0 where
   pub room : Room 182890310402 a
-  pub value-is : (A B 𝐚 : ℕ) → FactorsOf A B 𝐚 p →
-      meant m a ≡ factor (field m) W A B b 𝐚 (readAt m p l b)
+  pub value_is : (A B 𝐚 : ℕ) → FactorsOf A B 𝐚 p →
+      meant m a ≡ factor (field m) W A B b 𝐚 (read_at m p l b)
 
 -- ---- Where their outer sums go.
 
@@ -113,9 +113,9 @@ abbrev pub spread : Places → (ℕ → Pair) → (B : ℕ) → List ℕ → Lis
 spread p f B d = puts (λ c. p.base + c * p.gap) f B d
 
 -- d with the B outer sums at their places: the sum for 𝐛 is that over b of the value for b times its factor
-unfoldable pub outerSums : (m : ℕ) → Value m → (A B 𝐚 : ℕ) → Places → (l d : List ℕ) → List ℕ
-outerSums m W A B 𝐚 p l d =
-    spread p (λ 𝐛. pair_of (outer (field m) W B (λ b. factor (field m) W A B b 𝐚 (readAt m p l b)) 𝐛)) B d
+unfoldable pub outer_sums : (m : ℕ) → Value m → (A B 𝐚 : ℕ) → Places → (l d : List ℕ) → List ℕ
+outer_sums m W A B 𝐚 p l d =
+    spread p (λ 𝐛. pair_of (outer (field m) W B (λ b. factor (field m) W A B b 𝐚 (read_at m p l b)) 𝐛)) B d
 
 -- the B values lie inside l, and their exponents in the tables
 pub record Reads (B : ℕ) (p : Places) (l : List ℕ) : Type 0 where

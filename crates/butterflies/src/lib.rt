@@ -15,10 +15,10 @@ ghost use Rattle.algebra.specs.ring.Ring.{Ops, pow};
 ghost use Rattle.numbers.specs.Value.{IsModulus, Value, field, real, pair_of};
 ghost use Rattle.numbers.specs.Bounds.{res};
 ghost use Rattle.numbers.specs.Unreduced.{Accumulated, meant, Room};
-ghost use Rattle.roots.specs.Table.{tableRoot, RootTable};
+ghost use Rattle.roots.specs.Table.{table_root, RootTable};
 ghost use Rattle.butterflies.specs.Equation3.{EquationThree};
-ghost use Rattle.butterflies.specs.Butterflies.{ofTwo, ofThree, of_four, ofFive, ofTwoSums, ofThreeSums};
-ghost use Rattle.butterflies.specs.Butterflies.{ofFourSums, ofFiveSums, AllRoom, Butterfly, evenPart, oddPart};
+ghost use Rattle.butterflies.specs.Butterflies.{of_two, of_three, of_four, of_five, of_two_sums, of_three_sums};
+ghost use Rattle.butterflies.specs.Butterflies.{of_four_sums, of_five_sums, AllRoom, Butterfly, even_part, odd_part};
 
 use numbers::{Accumulator, Pair};
 
@@ -84,10 +84,10 @@ pub struct FivePairs {
 
 // Radix 2.
 pub fn two(m: u32, v: TwoSums) -> TwoPairs
-    requires { IsModulus m × AllRoom 2 (ofTwoSums v) }
+    requires { IsModulus m × AllRoom 2 (of_two_sums v) }
     ensures { (W : Value m) →
         pow (field m) W 1440 ≡ (field m).neg (field m).one →
-        Butterfly m W 2 (λ b. meant m (ofTwoSums v b)) (ofTwo result) }
+        Butterfly m W 2 (λ b. meant m (of_two_sums v b)) (of_two result) }
 {
     both_ways(m, v.x0, v.x1)
 }
@@ -110,9 +110,9 @@ fn both_ways(m: u32, x: Accumulator, y: Accumulator) -> TwoPairs
 // Radix 3: w = e(1/3).
 pub fn three<'a>(m: u32, re: &'a [u32; 2880], im: &'a [u32; 2880], v: ThreeSums) -> ThreePairs
     requires modulus { IsModulus m × RootTable m re.now im.now }
-    requires all_room { AllRoom 3 (ofThreeSums v) }
-    ensures { Butterfly m (tableRoot m re.now im.now) 3
-        (λ b. meant m (ofThreeSums v b)) (ofThree result) }
+    requires all_room { AllRoom 3 (of_three_sums v) }
+    ensures { Butterfly m (table_root m re.now im.now) 3
+        (λ b. meant m (of_three_sums v b)) (of_three result) }
 {
     let w = roots::root_at(re, im, 960);
     let t = numbers::unreduced::sum(v.x1, v.x2);
@@ -127,8 +127,8 @@ pub fn three<'a>(m: u32, re: &'a [u32; 2880], im: &'a [u32; 2880], v: ThreeSums)
 // Radix 4.
 pub fn four<'a>(m: u32, re: &'a [u32; 2880], im: &'a [u32; 2880], v: FourSums) -> FourPairs
     requires modulus { IsModulus m × RootTable m re.now im.now }
-    requires all_room { AllRoom 4 (ofFourSums v) }
-    ensures { Butterfly m (tableRoot m re.now im.now) 4 (λ b. meant m (ofFourSums v b))
+    requires all_room { AllRoom 4 (of_four_sums v) }
+    ensures { Butterfly m (table_root m re.now im.now) 4 (λ b. meant m (of_four_sums v b))
         (of_four result) }
 {
     let near = both_ways(
@@ -147,9 +147,9 @@ pub fn four<'a>(m: u32, re: &'a [u32; 2880], im: &'a [u32; 2880], v: FourSums) -
 // Radix 5: w = e(1/5), z = e(2/5). In the sums 2 and 3 they change places, since e(4/5) is the conjugate of w.
 pub fn five<'a>(m: u32, re: &'a [u32; 2880], im: &'a [u32; 2880], v: FiveSums) -> FivePairs
     requires modulus { IsModulus m × RootTable m re.now im.now }
-    requires all_room { AllRoom 5 (ofFiveSums v) }
-    ensures { Butterfly m (tableRoot m re.now im.now) 5 (λ b. meant m (ofFiveSums v b))
-        (ofFive result) }
+    requires all_room { AllRoom 5 (of_five_sums v) }
+    ensures { Butterfly m (table_root m re.now im.now) 5 (λ b. meant m (of_five_sums v b))
+        (of_five result) }
 {
     let w = roots::root_at(re, im, 576);
     let z = roots::root_at(re, im, 1152);
@@ -183,10 +183,10 @@ fn conjugates(
         × Room 182890310402 d
         × Room 182890310402 e }
     ensures { (result.x0
-        ≡ pair_of ((field m).add (evenPart m w z (meant m a) (meant m b) (meant m c) (meant m d) (meant m e))
-        (oddPart m w z (meant m b) (meant m c) (meant m d) (meant m e))))
-        × (result.x1 ≡ pair_of ((field m).add (evenPart m w z (meant m a) (meant m b) (meant m c) (meant m d) (meant m e))
-        ((field m).neg (oddPart m w z (meant m b) (meant m c) (meant m d) (meant m e))))) }
+        ≡ pair_of ((field m).add (even_part m w z (meant m a) (meant m b) (meant m c) (meant m d) (meant m e))
+        (odd_part m w z (meant m b) (meant m c) (meant m d) (meant m e))))
+        × (result.x1 ≡ pair_of ((field m).add (even_part m w z (meant m a) (meant m b) (meant m c) (meant m d) (meant m e))
+        ((field m).neg (odd_part m w z (meant m b) (meant m c) (meant m d) (meant m e))))) }
 {
     let even = numbers::unreduced::sum(
         a,

@@ -3,7 +3,7 @@ ghost use Rattle.std.specs.Prelude.{ℕ};
 ghost use Rattle.algebra.specs.ring.Ring.{Ops, pow};
 ghost use Rattle.numbers.specs.Value.{IsModulus, field, i};
 ghost use Rattle.numbers.specs.Unreduced.{Accumulated, meant, Room};
-ghost use Rattle.roots.specs.Table.{tableRoot, RootTable};
+ghost use Rattle.roots.specs.Table.{table_root, RootTable};
 
 use numbers::Accumulator;
 
@@ -30,7 +30,7 @@ pub fn difference_times_quarter<'a>(
     requires modulus { IsModulus m × RootTable m re.now im.now }
     requires room { Room 182890310402 x × Room 182890310402 y }
     ensures { Accumulated m 4 result
-        ((field m).mul (pow (field m) (tableRoot m re.now im.now) 720)
+        ((field m).mul (pow (field m) (table_root m re.now im.now) 720)
         ((field m).add (meant m x) ((field m).neg (meant m y)))) }
 {
     if roots::root_at(re, im, 720).im == 1 {

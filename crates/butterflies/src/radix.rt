@@ -1,10 +1,10 @@
 // The outer sum of equation (3) of document 001 (`outer` in specs/Equation3.antt): one butterfly of a step, by its radix. Its values are read
-// at their places and multiplied by their factors, summed over b, and the sums stored at theirs (`outerSums` in specs/Butterflies.antt).
+// at their places and multiplied by their factors, summed over b, and the sums stored at theirs (`outer_sums` in specs/Butterflies.antt).
 ghost use Rattle.std.specs.Prelude.{◌≡◌, ℕ, ◌≤◌};
 ghost use Rattle.numbers.specs.Value.{prime, IsModulus};
-ghost use Rattle.roots.specs.Table.{tableRoot, RootTable};
+ghost use Rattle.roots.specs.Table.{table_root, RootTable};
 ghost use Rattle.slices.specs.Pairs.{Below};
-ghost use Rattle.butterflies.specs.Butterflies.{FactorsOf, Reads, Stores, outerSums};
+ghost use Rattle.butterflies.specs.Butterflies.{FactorsOf, Reads, Stores, outer_sums};
 
 use crate::twiddle::Places;
 use crate::{FiveSums, FourSums, ThreeSums, TwoSums};
@@ -25,7 +25,7 @@ pub fn outer_sums<'a>(
     requires le_outer { (2 ≤ outer) × (outer ≤ 5) × Reads outer at from.now × Stores outer at to.old }
     requires below { Below (prime m) from.now }
     ensures { (A 𝐚 : ℕ) → FactorsOf A outer 𝐚 at → to.new
-        ≡ outerSums m (tableRoot m re.now im.now) A outer 𝐚 at from.now
+        ≡ outer_sums m (table_root m re.now im.now) A outer 𝐚 at from.now
         to.old }
 {
     if outer == 4 {
@@ -50,7 +50,7 @@ fn two_at<'a>(
     requires modulus { IsModulus m × RootTable m re.now im.now }
     requires reads { Reads 2 at from.now × Stores 2 at to.old × Below (prime m) from.now }
     ensures { (A 𝐚 : ℕ) → FactorsOf A 2 𝐚 at → to.new
-        ≡ outerSums m (tableRoot m re.now im.now) A 2 𝐚 at from.now
+        ≡ outer_sums m (table_root m re.now im.now) A 2 𝐚 at from.now
         to.old }
 {
     let v = TwoSums {
@@ -72,7 +72,7 @@ fn three_at<'a>(
     requires modulus { IsModulus m × RootTable m re.now im.now }
     requires reads { Reads 3 at from.now × Stores 3 at to.old × Below (prime m) from.now }
     ensures { (A 𝐚 : ℕ) → FactorsOf A 3 𝐚 at → to.new
-        ≡ outerSums m (tableRoot m re.now im.now) A 3 𝐚 at from.now
+        ≡ outer_sums m (table_root m re.now im.now) A 3 𝐚 at from.now
         to.old }
 {
     let v = ThreeSums {
@@ -96,7 +96,7 @@ fn four_at<'a>(
     requires modulus { IsModulus m × RootTable m re.now im.now }
     requires reads { Reads 4 at from.now × Stores 4 at to.old × Below (prime m) from.now }
     ensures { (A 𝐚 : ℕ) → FactorsOf A 4 𝐚 at → to.new
-        ≡ outerSums m (tableRoot m re.now im.now) A 4 𝐚 at from.now
+        ≡ outer_sums m (table_root m re.now im.now) A 4 𝐚 at from.now
         to.old }
 {
     let v = FourSums {
@@ -121,7 +121,7 @@ fn five_at<'a>(
     requires modulus { IsModulus m × RootTable m re.now im.now }
     requires reads { Reads 5 at from.now × Stores 5 at to.old × Below (prime m) from.now }
     ensures { (A 𝐚 : ℕ) → FactorsOf A 5 𝐚 at → to.new
-        ≡ outerSums m (tableRoot m re.now im.now) A 5 𝐚 at from.now
+        ≡ outer_sums m (table_root m re.now im.now) A 5 𝐚 at from.now
         to.old }
 {
     let v = FiveSums {

@@ -3,7 +3,7 @@
 // This module reads one value; module `radix` has the outer sums by their radix.
 ghost use Rattle.std.specs.Prelude.{◌+◌, ◌*◌, ◌<◌, length};
 ghost use Rattle.numbers.specs.Value.{prime, IsModulus};
-ghost use Rattle.roots.specs.Table.{tableRoot, RootTable};
+ghost use Rattle.roots.specs.Table.{table_root, RootTable};
 ghost use Rattle.slices.specs.Pairs.{Below};
 ghost use Rattle.butterflies.specs.Butterflies.{Loaded};
 
@@ -32,7 +32,7 @@ pub fn times_factor<'a>(
     requires first_in_bounds { (2 * (b * at.stride + at.first) + 1 < length from.now)
         × (b * at.k < 2880)
         × Below (prime m) from.now }
-    ensures { Loaded m (tableRoot m re.now im.now) at from.now b result }
+    ensures { Loaded m (table_root m re.now im.now) at from.now b result }
 {
     let k = b * at.k;
     let v = slices::get(from, b * at.stride + at.first);

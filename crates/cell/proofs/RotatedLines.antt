@@ -4,40 +4,40 @@ use mathlib.Core.Logic.{◌↔◌}
 use mathlib.Core.Bool.{Bool, true, false}
 use Prim.Native.Nat.{ℕ, zero, suc, ◌<◌}
 use native.Mathlib.Omega.{arith}
-use Rattle.algebra.proofs.ring.Laws.{mul-zero}
-use Rattle.algebra.proofs.cells.CellPack.{times-over}
+use Rattle.algebra.proofs.ring.Laws.{mul_zero}
+use Rattle.algebra.proofs.cells.CellPack.{times_over}
 use Rattle.numbers.specs.declared.Pair.{Pair}
 use Rattle.numbers.specs.Value.{prime, Value, field, i, value_of, pair_of}
 use Rattle.numbers.specs.Bounds.{Small}
-use Rattle.numbers.proofs.Residues.{res-ring}
-use Rattle.numbers.proofs.Values.{pair-value, field-ring}
-use Rattle.cell.specs.Volume.{group_of, rotated, timesI, overI}
+use Rattle.numbers.proofs.Residues.{res_ring}
+use Rattle.numbers.proofs.Values.{pair_value, field_ring}
+use Rattle.cell.specs.Volume.{group_of, rotated, times_i, over_i}
 
 module _ (m : ℕ) where
   -- a pair that the code has rotated, or not
   module _ {x : Pair} (s : Small (prime m) x) {b : Bool} where
-    pub times-not : b ≡ false → x ≡ pair_of (timesI m b (value_of m x))
-    times-not e = sym (ap (λ b. pair_of (timesI m b (value_of m x))) e ∙ pair-value m s)
+    pub times_not : b ≡ false → x ≡ pair_of (times_i m b (value_of m x))
+    times_not e = sym (ap (λ b. pair_of (times_i m b (value_of m x))) e ∙ pair_value m s)
 
-    pub times-pair : b ≡ true → {y : Pair} → y ≡ pair_of ((field m).mul (i m) (value_of m x)) → y ≡ pair_of (timesI m b (value_of m x))
-    times-pair e f = f ∙ sym (ap (λ b. pair_of (timesI m b (value_of m x))) e)
+    pub times_pair : b ≡ true → {y : Pair} → y ≡ pair_of ((field m).mul (i m) (value_of m x)) → y ≡ pair_of (times_i m b (value_of m x))
+    times_pair e f = f ∙ sym (ap (λ b. pair_of (times_i m b (value_of m x))) e)
 
-    pub over-not : b ≡ false → x ≡ pair_of (overI m b (value_of m x))
-    over-not e = sym (ap (λ b. pair_of (overI m b (value_of m x))) e ∙ pair-value m s)
+    pub over_not : b ≡ false → x ≡ pair_of (over_i m b (value_of m x))
+    over_not e = sym (ap (λ b. pair_of (over_i m b (value_of m x))) e ∙ pair_value m s)
 
-    pub over-pair : b ≡ true → {y : Pair} → y ≡ pair_of ((field m).mul ((field m).neg (i m)) (value_of m x)) → y ≡ pair_of (overI m b (value_of m x))
-    over-pair e f = f ∙ sym (ap (λ b. pair_of (overI m b (value_of m x))) e)
+    pub over_pair : b ≡ true → {y : Pair} → y ≡ pair_of ((field m).mul ((field m).neg (i m)) (value_of m x)) → y ≡ pair_of (over_i m b (value_of m x))
+    over_pair e f = f ∙ sym (ap (λ b. pair_of (over_i m b (value_of m x))) e)
 
-  pub times_none : (b : Bool) → timesI m b (field m).zer ≡ (field m).zer
+  pub times_none : (b : Bool) → times_i m b (field m).zer ≡ (field m).zer
   times_none false = refl
-  times_none true = mul-zero (field-ring m) _
+  times_none true = mul_zero (field_ring m) _
 
-  pub over_none : (b : Bool) → overI m b (field m).zer ≡ (field m).zer
+  pub over_none : (b : Bool) → over_i m b (field m).zer ≡ (field m).zer
   over_none false = refl
-  over_none true = mul-zero (field-ring m) _
+  over_none true = mul_zero (field_ring m) _
 
-  pub over_zero : (b : Bool) (x : Value m) → (overI m b x ≡ (field m).zer) ↔ (x ≡ (field m).zer)
-  over_zero b x = (λ e. sym (times-over (res-ring m) b x) ∙ ap (timesI m b) e ∙ times_none b, λ e. ap (overI m b) e ∙ over_none b)
+  pub over_zero : (b : Bool) (x : Value m) → (over_i m b x ≡ (field m).zer) ↔ (x ≡ (field m).zer)
+  over_zero b x = (λ e. sym (times_over (res_ring m) b x) ∙ ap (times_i m b) e ∙ times_none b, λ e. ap (over_i m b) e ∙ over_none b)
 
 -- the one group that has lines that are stored times i
 pub unrotated : (n h : ℕ) → n < 5 → (n ≡ 4 → ⊥) → rotated (group_of n) h ≡ false

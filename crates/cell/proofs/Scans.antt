@@ -18,8 +18,8 @@ module _ (P : ℕ → Bool) (first count : ℕ) where
   abbrev rest : ℕ → Bool
   rest i = every (consecutive (first + i) (count - i)) P
 
-  pub run-start : every (consecutive first count) P ≡ rest 0
-  run-start = along (λ f. every (consecutive f count) P) first (first + 0) (omega arith) ∙ along (λ n. every (consecutive (first + 0) n) P) count (count - 0) (omega arith)
+  pub run_start : every (consecutive first count) P ≡ rest 0
+  run_start = along (λ f. every (consecutive f count) P) first (first + 0) (omega arith) ∙ along (λ n. every (consecutive (first + 0) n) P) count (count - 0) (omega arith)
 
   module _ (i : ℕ) {r : Bool} (done : r ≡ rest i) where
     opened : i < count → r ≡ (P (first + i) && rest (i + 1))
@@ -29,11 +29,11 @@ module _ (P : ℕ → Bool) (first count : ℕ) where
         ∙ along (λ n. every (consecutive (first + i) n) P) (count - i) (suc (count - (i + 1))) (omega arith)
         ∙ along (λ q. P (first + i) && every (consecutive q (count - (i + 1))) P) (first + i + 1) (first + (i + 1)) (omega arith)
 
-    pub run-next : i < count → P (first + i) ≡ true → r ≡ rest (i + 1)
-    run-next l e = opened l ∙ rw e refl
+    pub run_next : i < count → P (first + i) ≡ true → r ≡ rest (i + 1)
+    run_next l e = opened l ∙ rw e refl
 
-    pub run-stop : i < count → P (first + i) ≡ false → false ≡ r
-    run-stop l e = sym (opened l ∙ rw e refl)
+    pub run_stop : i < count → P (first + i) ≡ false → false ≡ r
+    run_stop l e = sym (opened l ∙ rw e refl)
 
     pub run_end : count ≤ i → true ≡ r
     unfolding every consecutive
@@ -43,23 +43,23 @@ module _ (P : ℕ → Bool) (first count : ℕ) where
 
 module _ {S : Type 0} (l : List S) {count : ℕ} (size : count ≡ length l) (i : ℕ) where
   -- the rest begins with member i
-  pub rest-opens : (d : S) → i < count → drop i l ≡ get_or l i d ∷ drop (i + 1) l
-  rest-opens d b = drop-cons l i d (omega arith) ∙ ap (λ k. get_or l i d ∷ drop k l) (sym (add-one i))
+  pub rest_opens : (d : S) → i < count → drop i l ≡ get_or l i d ∷ drop (i + 1) l
+  rest_opens d b = drop-cons l i d (omega arith) ∙ ap (λ k. get_or l i d ∷ drop k l) (sym (add-one i))
 
-  pub rest-ends : count ≤ i → drop i l ≡ []
-  rest-ends b = drop_of_length-le l {i = i} (omega arith)
+  pub rest_ends : count ≤ i → drop i l ≡ []
+  rest_ends b = drop_of_length-le l {i = i} (omega arith)
 
   module _ (P : S → Bool) {r : Bool} (done : r ≡ every (drop i l) P) where
     tested : (d : S) {s : S} {t : Bool} → i < count → s ≡ get_or l i d → t ≡ P s → r ≡ (t && every (drop (i + 1) l) P)
     unfolding every
-    tested d b e f = done ∙ ap (λ k. every k P) (rest-opens d b) ∙ ap (λ t. t && every (drop (i + 1) l) P) (sym (f ∙ ap P e))
+    tested d b e f = done ∙ ap (λ k. every k P) (rest_opens d b) ∙ ap (λ t. t && every (drop (i + 1) l) P) (sym (f ∙ ap P e))
 
-    pub every-next : (d : S) {s : S} {t : Bool} → i < count → s ≡ get_or l i d → t ≡ P s → t ≡ true → r ≡ every (drop (i + 1) l) P
-    every-next d b e f q = tested d b e f ∙ ap (λ t. t && every (drop (i + 1) l) P) q
+    pub every_next : (d : S) {s : S} {t : Bool} → i < count → s ≡ get_or l i d → t ≡ P s → t ≡ true → r ≡ every (drop (i + 1) l) P
+    every_next d b e f q = tested d b e f ∙ ap (λ t. t && every (drop (i + 1) l) P) q
 
-    pub every-stop : (d : S) {s : S} {t : Bool} → i < count → s ≡ get_or l i d → t ≡ P s → t ≡ false → false ≡ r
-    every-stop d b e f q = sym (tested d b e f ∙ ap (λ t. t && every (drop (i + 1) l) P) q)
+    pub every_stop : (d : S) {s : S} {t : Bool} → i < count → s ≡ get_or l i d → t ≡ P s → t ≡ false → false ≡ r
+    every_stop d b e f q = sym (tested d b e f ∙ ap (λ t. t && every (drop (i + 1) l) P) q)
 
-    pub every-end : count ≤ i → true ≡ r
+    pub every_end : count ≤ i → true ≡ r
     unfolding every
-    every-end b = sym (done ∙ ap (λ k. every k P) (rest-ends b))
+    every_end b = sym (done ∙ ap (λ k. every k P) (rest_ends b))

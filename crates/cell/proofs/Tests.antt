@@ -5,9 +5,9 @@ use mathlib.Core.Bool.{Bool, true, false}
 use Prim.Native.Nat.{ℕ}
 use lib.Dec.{T, eqb, eqb_refl}
 
-pub true-iff : (b : Bool) → (b ≡ true) ↔ T b
-true-iff true = (λ e. tt, λ t. refl)
-true-iff false = (λ e. subst T (sym e) tt, λ t. absurd t)
+pub true_iff : (b : Bool) → (b ≡ true) ↔ T b
+true_iff true = (λ e. tt, λ t. refl)
+true_iff false = (λ e. subst T (sym e) tt, λ t. absurd t)
 
 pub eq→eqb : {x y : ℕ} → x ≡ y → T (eqb x y)
 eq→eqb {x} e = subst (λ z. T (eqb x z)) e (eqb_refl x)

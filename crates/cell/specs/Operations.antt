@@ -9,18 +9,18 @@ use Rattle.cell.specs.declared.operations.Point.{Point}
 use Rattle.cell.specs.declared.operations.Operation.{Operation}
 
 -- the axes by their halves
-abbrev pub halvesOf : (n1 n2 n3 : ℕ) → J
-halvesOf n1 n2 n3 = (n1 / 2, n2 / 2, n3 / 2)
+abbrev pub halves_of : (n1 n2 n3 : ℕ) → J
+halves_of n1 n2 n3 = (n1 / 2, n2 / 2, n3 / 2)
 
 -- a cell's symmetry group, its lengths, and their halves
-abbrev pub cellGroup : UnitCell → Group
-cellGroup c = group_of c.group
+abbrev pub cell_group : UnitCell → Group
+cell_group c = group_of c.group
 
-abbrev pub cellLengths : UnitCell → J
-cellLengths c = (c.n1, c.n2, c.n3)
+abbrev pub cell_lengths : UnitCell → J
+cell_lengths c = (c.n1, c.n2, c.n3)
 
-abbrev pub cellHalves : UnitCell → J
-cellHalves c = halvesOf c.n1 c.n2 c.n3
+abbrev pub cell_halves : UnitCell → J
+cell_halves c = halves_of c.n1 c.n2 c.n3
 
 abbrev pub triple_of : Index → J
 triple_of j = (j.h, j.k, j.l)
@@ -28,8 +28,8 @@ triple_of j = (j.h, j.k, j.l)
 abbrev pub point_of : Point → J
 point_of p = (p.x, p.y, p.z)
 
-abbrev pub symOf : Operation → Sym
-symOf o =
+abbrev pub sym_of : Operation → Sym
+sym_of o =
     sym o.conjugate o.minus_h o.minus_k o.minus_l o.odd_h o.odd_k o.odd_l
 
 -- an even length from 2 to 2,880

@@ -4,11 +4,11 @@ use Rattle.std.specs.Prelude.{cond, ℕ, zero, suc, ltb}
 use Rattle.numbers.specs.declared.Pair.{Pair}
 
 -- The packed line of a row: the real part of pair B is the second number of pair 0.
-unfoldable pub packedRow : (B : ℕ) → (ℕ → Pair) → ℕ → Pair
-packedRow B v zero = record { re = (v 0).re; im = (v B).re }
-packedRow B v (suc t) = v (suc t)
+unfoldable pub packed_row : (B : ℕ) → (ℕ → Pair) → ℕ → Pair
+packed_row B v zero = record { re = (v 0).re; im = (v B).re }
+packed_row B v (suc t) = v (suc t)
 
 -- and back
-unfoldable pub unpackedRow : (B : ℕ) → (ℕ → Pair) → ℕ → Pair
-unpackedRow B v zero = record { re = (v 0).re; im = 0 }
-unpackedRow B v (suc t) = cond (ltb (suc t) B) (v (suc t)) (record { re = (v 0).im; im = 0 })
+unfoldable pub unpacked_row : (B : ℕ) → (ℕ → Pair) → ℕ → Pair
+unpacked_row B v zero = record { re = (v 0).re; im = 0 }
+unpacked_row B v (suc t) = cond (ltb (suc t) B) (v (suc t)) (record { re = (v 0).im; im = 0 })

@@ -6,12 +6,12 @@
 ghost use Rattle.std.specs.Prelude.{◌≡◌, true, false, ◌/◌, ◌<◌, ◌≤◌, length, get_or};
 ghost use Rattle.algebra.specs.ring.Ring.{Ops};
 ghost use Rattle.algebra.specs.cells.Cell.{Sym, P2₁2₁2₁, one, friedel, ◌·◌, ops, full, xor, flip, shifted};
-ghost use Rattle.algebra.specs.cells.Cell.{image_of, pointImage, sgn, impliedValue};
-ghost use Rattle.algebra.specs.cells.CellPlaces.{lineSym};
+ghost use Rattle.algebra.specs.cells.Cell.{image_of, point_image, sgn, implied_value};
+ghost use Rattle.algebra.specs.cells.CellPlaces.{line_sym};
 ghost use Rattle.numbers.specs.Value.{prime, IsModulus, field, conj, value_of, pair_of};
 ghost use Rattle.numbers.specs.Bounds.{Small};
 ghost use Rattle.cell.specs.Volume.{group_of};
-ghost use Rattle.cell.specs.Operations.{cellHalves, triple_of, point_of, symOf, Length, Sizes, Within};
+ghost use Rattle.cell.specs.Operations.{cell_halves, triple_of, point_of, sym_of, Length, Sizes, Within};
 ghost use Rattle.cell.specs.Operations.{PointWithin};
 
 use numbers::Pair;
@@ -76,7 +76,7 @@ fn row(
     odd_k: bool,
     odd_l: bool,
 ) -> Operation
-    ensures { symOf result
+    ensures { sym_of result
         ≡ Sym.sym false minus_h minus_k minus_l odd_h odd_k odd_l }
 {
     Operation {
@@ -93,7 +93,7 @@ fn row(
 // The three screw axes of P2₁2₁2₁: number 1 along c, 2 along b, 3 along a. Each keeps the sign along its own axis alone; no two have the same parities.
 fn screw_axis(number: u32) -> Operation
     requires { (0 < number) × (number < 4) }
-    ensures { symOf result ≡ get_or (ops P2₁2₁2₁) number one }
+    ensures { sym_of result ≡ get_or (ops P2₁2₁2₁) number one }
 {
     row(
         number != 3,
@@ -108,7 +108,7 @@ fn screw_axis(number: u32) -> Operation
 // The group's own operations, the identity first.
 pub fn group_operation(group: u32, number: u32) -> Operation
     requires { (group < 5) × (number < length (ops (group_of group))) }
-    ensures { symOf result ≡ get_or (ops (group_of group)) number one }
+    ensures { sym_of result ≡ get_or (ops (group_of group)) number one }
 {
     if number == 0 {
         row(false, false, false, false, false, false)
@@ -125,7 +125,7 @@ pub fn group_operation(group: u32, number: u32) -> Operation
 
 // The same together with Friedel's rule.
 fn with_friedel(o: Operation) -> Operation
-    ensures { symOf result ≡ friedel · symOf o }
+    ensures { sym_of result ≡ friedel · sym_of o }
 {
     Operation {
         conjugate: !o.conjugate,
@@ -148,7 +148,7 @@ pub fn operation_count(group: u32) -> u32
 
 pub fn operation_at(group: u32, number: u32) -> Operation
     requires { (group < 5) × (number < length (full (group_of group))) }
-    ensures { symOf result ≡ get_or (full (group_of group)) number one }
+    ensures { sym_of result ≡ get_or (full (group_of group)) number one }
 {
     let own = group_order(group);
     if number < own {
@@ -161,7 +161,7 @@ pub fn operation_at(group: u32, number: u32) -> Operation
 // The operation that maps each line along l to itself.
 pub fn line_operation(group: u32) -> Operation
     requires { group < 5 }
-    ensures { symOf result ≡ lineSym (group_of group) }
+    ensures { sym_of result ≡ line_sym (group_of group) }
 {
     if group == 0 {
         operation_at(group, 0)
@@ -202,7 +202,7 @@ fn half_shifted(odd: bool, n: u32, x: u32) -> u32
 // The image of an index.
 pub fn image(o: Operation, cell: UnitCell, j: Index) -> Index
     requires { Sizes cell × Within cell j }
-    ensures { (triple_of result ≡ image_of (cellHalves cell) (symOf o) (triple_of j)) × Within cell result }
+    ensures { (triple_of result ≡ image_of (cell_halves cell) (sym_of o) (triple_of j)) × Within cell result }
 {
     Index {
         h: flipped(o.minus_h, cell.n1, j.h),
@@ -222,7 +222,7 @@ fn moved(conjugate: bool, minus: bool, odd: bool, n: u32, x: u32) -> u32
 // The image of a point.
 pub fn point_image(o: Operation, cell: UnitCell, p: Point) -> Point
     requires { Sizes cell × PointWithin cell p }
-    ensures { (point_of result ≡ pointImage (cellHalves cell) (symOf o) (point_of p)) × PointWithin cell result }
+    ensures { (point_of result ≡ point_image (cell_halves cell) (sym_of o) (point_of p)) × PointWithin cell result }
 {
     Point {
         x: moved(o.conjugate, o.minus_h, o.odd_h, cell.n1, p.x),
@@ -250,7 +250,7 @@ pub fn signed(m: u32, odd: bool, h: u32, x: Pair) -> Pair
 // The value at the image of j that x at j implies.
 pub fn implied(m: u32, o: Operation, j: Index, x: Pair) -> Pair
     requires { IsModulus m × Small (prime m) x }
-    ensures { result ≡ pair_of (impliedValue (field m) (conj m) (symOf o) (triple_of j) (value_of m x)) }
+    ensures { result ≡ pair_of (implied_value (field m) (conj m) (sym_of o) (triple_of j) (value_of m x)) }
 {
     let y = signed(
         m,

@@ -1,15 +1,15 @@
 // Where factors and points stand in a volume: the places of pairs, the numbers that a factor is read from, the number of
 // a point.
 ghost use Rattle.std.specs.Prelude.{◌≡◌, true, ◌&&◌, ◌||◌, ◌+◌, ◌*◌, ◌-◌, ◌/◌, ◌<◌, ◌≤◌, min, eqb};
-ghost use Rattle.algebra.specs.cells.Cell.{span, pointImage, pointOperation, storedT};
+ghost use Rattle.algebra.specs.cells.Cell.{span, point_image, point_operation, stored_t};
 ghost use Rattle.numbers.specs.Value.{prime, IsModulus, value_of, pair_of};
 ghost use Rattle.numbers.specs.Bounds.{Small};
 ghost use Rattle.lengths.specs.Lengths.{kind_of};
-ghost use Rattle.cell.specs.Volume.{group_of, lineKind, rotated, timesI, overI, layers, volumeLength, pairPlace};
-ghost use Rattle.cell.specs.Volume.{numbersRead, densityPlace};
-ghost use Rattle.cell.specs.Operations.{cellGroup, cellHalves, triple_of, point_of, Length, Sizes, Within};
+ghost use Rattle.cell.specs.Volume.{group_of, line_kind, rotated, times_i, over_i, layers, volume_length, pair_place};
+ghost use Rattle.cell.specs.Volume.{numbers_read, density_place};
+ghost use Rattle.cell.specs.Operations.{cell_group, cell_halves, triple_of, point_of, Length, Sizes, Within};
 ghost use Rattle.cell.specs.Operations.{PointWithin};
-ghost use Rattle.cell.specs.Places.{IsRun, storedColumn, lineNumbersAt};
+ghost use Rattle.cell.specs.Places.{IsRun, stored_column, line_numbers_at};
 
 use crate::operations;
 use crate::operations::{Index, Point, UnitCell};
@@ -24,7 +24,7 @@ pub struct Run {
 
 // The number of the kind of the line along l at h: plain 0, alternating 3, symmetric 4, antisymmetric 5.
 pub fn line_kind(group: u32, h: usize) -> u32
-    ensures { (result < 6) × (kind_of result ≡ lineKind (group_of group) h) × (result ≡ 1 → ⊥) }
+    ensures { (result < 6) × (kind_of result ≡ line_kind (group_of group) h) × (result ≡ 1 → ⊥) }
 {
     if group == 1 {
         3
@@ -50,7 +50,7 @@ pub fn is_rotated(group: u32, h: usize) -> bool
 // x as the line at h stores it.
 pub fn with_i(m: u32, group: u32, h: u32, x: Pair) -> Pair
     requires { IsModulus m × Small (prime m) x × (group < 5) }
-    ensures { result ≡ pair_of (timesI m (rotated (group_of group) h) (value_of m x)) }
+    ensures { result ≡ pair_of (times_i m (rotated (group_of group) h) (value_of m x)) }
 {
     if is_rotated(group, h as usize) {
         numbers::times_i(m, x)
@@ -62,7 +62,7 @@ pub fn with_i(m: u32, group: u32, h: u32, x: Pair) -> Pair
 // And back.
 pub fn without_i(m: u32, group: u32, h: u32, x: Pair) -> Pair
     requires { IsModulus m × Small (prime m) x × (group < 5) }
-    ensures { result ≡ pair_of (overI m (rotated (group_of group) h) (value_of m x)) }
+    ensures { result ≡ pair_of (over_i m (rotated (group_of group) h) (value_of m x)) }
 {
     if is_rotated(group, h as usize) {
         numbers::over_i(m, x)
@@ -74,7 +74,7 @@ pub fn without_i(m: u32, group: u32, h: u32, x: Pair) -> Pair
 // The paper's W: how many planes of the map are stored, as many as the line along l at h = 0 has pairs. A number that no group has
 // reads as P1.
 pub fn layer_count(cell: UnitCell) -> u32
-    ensures { result ≡ layers (cellGroup cell) (cellHalves cell) }
+    ensures { result ≡ layers (cell_group cell) (cell_halves cell) }
 {
     let kind = line_kind(cell.group, 0);
     if kind == 0 {
@@ -89,7 +89,7 @@ pub fn layer_count(cell: UnitCell) -> u32
 // How many of the factors along l are stored: in an alternating line, l = 0 and l = A share a pair.
 pub fn stored_count(cell: UnitCell) -> u32
     requires { Sizes cell }
-    ensures { result ≡ span (cellGroup cell) (cell.n3 / 2) }
+    ensures { result ≡ span (cell_group cell) (cell.n3 / 2) }
 {
     if cell.group == 0 {
         cell.n3
@@ -101,7 +101,7 @@ pub fn stored_count(cell: UnitCell) -> u32
 // The place of the pair w of (h, k).
 pub fn pair_place(cell: UnitCell, w: u32, h: u32, k: u32) -> usize
     requires { Sizes cell × (w ≤ 2880) × (h ≤ 2880) × (k ≤ 2880) }
-    ensures { (result ≡ pairPlace (cellGroup cell) (cellHalves cell) w h k) × (result ≤ 12000000000) }
+    ensures { (result ≡ pair_place (cell_group cell) (cell_halves cell) w h k) × (result ≤ 12000000000) }
 {
     let row = (w as usize) * (cell.n1 as usize) + (h as usize);
     row * ((cell.n2 / 2 + 1) as usize) + (k as usize)
@@ -110,7 +110,7 @@ pub fn pair_place(cell: UnitCell, w: u32, h: u32, k: u32) -> usize
 // The factor at j has a place of its own in the volume.
 pub fn is_stored(cell: UnitCell, j: Index) -> bool
     requires { Sizes cell }
-    ensures { result ≡ storedT (cellGroup cell) (cellHalves cell) (triple_of j) }
+    ensures { result ≡ stored_t (cell_group cell) (cell_halves cell) (triple_of j) }
 {
     (j.k <= cell.n2 / 2) & (j.l < stored_count(cell))
 }
@@ -140,7 +140,7 @@ pub fn folded(n3: u32, l: u32) -> u32
 // j if its k is stored, else its Friedel mate: the index whose line the factor at j is read from.
 pub fn stored_column(cell: UnitCell, j: Index) -> Index
     requires { Sizes cell × Within cell j }
-    ensures { (triple_of result ≡ storedColumn (cellHalves cell) (triple_of j))
+    ensures { (triple_of result ≡ stored_column (cell_halves cell) (triple_of j))
         × Within cell result
         × (result.k ≤ cell.n2 / 2) }
 {
@@ -158,7 +158,7 @@ pub fn stored_column(cell: UnitCell, j: Index) -> Index
 // The two numbers of the pair w of (h, k).
 fn pair_numbers(cell: UnitCell, w: u32, h: u32, k: u32) -> Run
     requires { Sizes cell × (w ≤ 2880) × (h ≤ 2880) × (k ≤ 2880) }
-    ensures { (result.first ≡ 2 * pairPlace (cellGroup cell) (cellHalves cell) w h k) × (result.count ≡ 2) }
+    ensures { (result.first ≡ 2 * pair_place (cell_group cell) (cell_halves cell) w h k) × (result.count ≡ 2) }
 {
     Run {
         first: 2 * pair_place(cell, w, h, k),
@@ -173,9 +173,9 @@ fn end_numbers(cell: UnitCell, kind: u32, j: Index) -> Run
         × Within cell j
         × (j.k ≤ cell.n2 / 2)
         × ((eqb j.l 0 || eqb j.l (cell.n3 / 2)) ≡ true) }
-    requires kind_bound { (kind < 6) × (kind_of kind ≡ lineKind (cellGroup cell) j.h) × (kind ≡ 0 → ⊥) }
-    ensures { IsRun (volumeLength (cellGroup cell) (cellHalves cell))
-        (lineNumbersAt (cellGroup cell) (cellHalves cell) (triple_of j)) result }
+    requires kind_bound { (kind < 6) × (kind_of kind ≡ line_kind (cell_group cell) j.h) × (kind ≡ 0 → ⊥) }
+    ensures { IsRun (volume_length (cell_group cell) (cell_halves cell))
+        (line_numbers_at (cell_group cell) (cell_halves cell) (triple_of j)) result }
 {
     if kind == 3 {
         let place = 2 * pair_place(cell, 0, j.h, j.k);
@@ -200,8 +200,8 @@ fn end_numbers(cell: UnitCell, kind: u32, j: Index) -> Run
 // The numbers of the line (h, k) that the factor at l is read from.
 fn line_numbers(cell: UnitCell, j: Index) -> Run
     requires { Sizes cell × Within cell j × (j.k ≤ cell.n2 / 2) }
-    ensures { IsRun (volumeLength (cellGroup cell) (cellHalves cell))
-        (lineNumbersAt (cellGroup cell) (cellHalves cell) (triple_of j)) result }
+    ensures { IsRun (volume_length (cell_group cell) (cell_halves cell))
+        (line_numbers_at (cell_group cell) (cell_halves cell) (triple_of j)) result }
 {
     let kind = line_kind(cell.group, j.h as usize);
     if kind == 0 {
@@ -216,8 +216,8 @@ fn line_numbers(cell: UnitCell, j: Index) -> Run
 // The numbers that the factor at j is read from.
 pub fn factor_numbers(cell: UnitCell, j: Index) -> Run
     requires { Sizes cell × Within cell j }
-    ensures { IsRun (volumeLength (cellGroup cell) (cellHalves cell))
-        (numbersRead (cellGroup cell) (cellHalves cell) (triple_of j)) result }
+    ensures { IsRun (volume_length (cell_group cell) (cell_halves cell))
+        (numbers_read (cell_group cell) (cell_halves cell) (triple_of j)) result }
 {
     line_numbers(cell, stored_column(cell, j))
 }
@@ -226,7 +226,7 @@ pub fn factor_numbers(cell: UnitCell, j: Index) -> Run
 fn stored_point(cell: UnitCell, p: Point) -> Point
     requires { Sizes cell × PointWithin cell p }
     ensures result_value { point_of result
-        ≡ pointImage (cellHalves cell) (pointOperation (cellGroup cell) (cellHalves cell) (point_of p))
+        ≡ point_image (cell_halves cell) (point_operation (cell_group cell) (cell_halves cell) (point_of p))
         (point_of p) }
     ensures point_within { PointWithin cell result }
 {
@@ -241,8 +241,8 @@ fn stored_point(cell: UnitCell, p: Point) -> Point
 // The place of a point's number.
 pub fn density_place(cell: UnitCell, p: Point) -> usize
     requires { Sizes cell × PointWithin cell p }
-    ensures { (result ≡ densityPlace (cellGroup cell) (cellHalves cell) (point_of p))
-        × (result < volumeLength (cellGroup cell) (cellHalves cell)) }
+    ensures { (result ≡ density_place (cell_group cell) (cell_halves cell) (point_of p))
+        × (result < volume_length (cell_group cell) (cell_halves cell)) }
 {
     let q = stored_point(cell, p);
     2 * pair_place(cell, q.z, q.x, 0) + (q.y as usize)

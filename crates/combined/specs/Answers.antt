@@ -2,8 +2,8 @@
 use Rattle.refusals.specs.Refusals.{number_of}
 use Rattle.combined.specs.declared.reading.CountAnswer.{CountAnswer}
 use Rattle.combined.specs.declared.reading.CountAnswer.TheVariants as C
-use Rattle.combined.specs.Reading.{Counted, counted, notCounted}
+use Rattle.combined.specs.Reading.{Counted, counted, not_counted}
 
-abbrev pub saidCount : CountAnswer → Counted
-saidCount (C.Count n) = counted n
-saidCount (C.Refused r) = notCounted (number_of r)
+abbrev pub said_count : CountAnswer → Counted
+said_count (C.Count n) = counted n
+said_count (C.Refused r) = not_counted (number_of r)

@@ -1,7 +1,7 @@
 -- The Chinese remainder theorem for the two primes 86,399 and 302,399: the whole number next to zero with two given
 -- residues.
 use Rattle.algebra.specs.Prelude.{◌≡◌, ℕ, ◌+◌, ◌*◌, ◌-◌, ◌%◌, ◌<◌, ◌≤◌, List, length, get_or, replicate}
-use Rattle.signed.specs.Integers.{ℤ, pos, nat_abs, residueZ, centred}
+use Rattle.signed.specs.Integers.{ℤ, pos, nat_abs, residue_z, centred}
 use Rattle.slices.specs.Filling.{stores}
 
 -- the largest magnitude: (86,399 * 302,399 - 1)/2
@@ -18,8 +18,8 @@ combined x y = centred 26126971201 (common x y)
 
 -- z has both residues, and is from -limit to limit
 pub record Combines (x y : ℕ) (z : ℤ) : Type 0 where
-  pub first : residueZ 86399 z ≡ x
-  pub second : residueZ 302399 z ≡ y
+  pub first : residue_z 86399 z ≡ x
+  pub second : residue_z 302399 z ≡ y
   pub near : nat_abs z ≤ limit
 
 -- Of two residues: combined x y is such a number, and the only one; so it is zero for zeros.
@@ -33,5 +33,5 @@ abbrev pub tabulate : (n : ℕ) (f : ℕ → ℤ) → List ℤ
 tabulate n f = stores (λ j. j) f n (replicate n (pos 0))
 
 -- two lists of residues, number by number
-abbrev pub combinedNumbers : (v w : List ℕ) → List ℤ
-combinedNumbers v w = tabulate (length v) (λ n. combined (get_or v n 0) (get_or w n 0))
+abbrev pub combined_numbers : (v w : List ℕ) → List ℤ
+combined_numbers v w = tabulate (length v) (λ n. combined (get_or v n 0) (get_or w n 0))

@@ -2,7 +2,7 @@
 ghost use Rattle.std.specs.Prelude.{◌≡◌, ◌<◌, length};
 ghost use Rattle.signed.specs.Integers.{centred};
 ghost use Rattle.slices.specs.Pairs.{Below};
-ghost use Rattle.combined.specs.Chinese.{combined, combinedNumbers, CombinedOnly};
+ghost use Rattle.combined.specs.Chinese.{combined, combined_numbers, CombinedOnly};
 
 // The whole number next to zero that is congruent to n modulo 86,399 * 302,399.
 fn nearest(n: u64) -> i64
@@ -30,7 +30,7 @@ pub fn combine(x: u32, y: u32) -> i64
 pub fn combine_all(first: &[u32], second: &[u32], output: &mut [i64])
     requires below { Below 86399 first.now × Below 302399 second.now }
     requires second_len { (length second.now ≡ length first.now) × (length output.old ≡ length first.now) }
-    ensures { output.new ≡ combinedNumbers first.now second.now }
+    ensures { output.new ≡ combined_numbers first.now second.now }
 {
     let mut n: usize = 0;
     while n < first.len() {

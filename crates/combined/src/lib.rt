@@ -4,17 +4,17 @@ pub mod reading; // reading.rt: the number of a point, as a call
 
 ghost use Rattle.std.specs.Prelude.{◌≡◌, length};
 ghost use Rattle.refusals.specs.Refusals.{first};
-ghost use Rattle.refusals.specs.Checks.{checkedNumber};
-ghost use Rattle.cell.specs.Volume.{volumeLength};
-ghost use Rattle.cell.specs.Operations.{cellGroup, cellLengths, cellHalves, point_of, Sizes, PointWithin};
-ghost use Rattle.combined.specs.CombinedMap.{count_of, combinedMapTests, PackedExactly};
+ghost use Rattle.refusals.specs.Checks.{checked_number};
+ghost use Rattle.cell.specs.Volume.{volume_length};
+ghost use Rattle.cell.specs.Operations.{cell_group, cell_lengths, cell_halves, point_of, Sizes, PointWithin};
+ghost use Rattle.combined.specs.CombinedMap.{count_of, combined_map_tests, PackedExactly};
 
 use cell::operations::{Point, UnitCell};
 use refusals::{Checked, Refusal};
 
 // 8, 3, 9, 6: whether a map of this length is one of the cell.
 pub fn check_combined_map(cell: UnitCell, length: usize) -> Checked
-    ensures { checkedNumber result ≡ first (combinedMapTests cell.group (cellLengths cell) length) }
+    ensures { checked_number result ≡ first (combined_map_tests cell.group (cell_lengths cell) length) }
 {
     if 5 <= cell.group {
         return Checked::Failed(Refusal::Group);
@@ -36,8 +36,8 @@ pub fn check_combined_map(cell: UnitCell, length: usize) -> Checked
 pub fn count_at(cell: UnitCell, point: Point, map: &[i64]) -> i64
     requires { Sizes cell
         × PointWithin cell point
-        × (length map.now ≡ volumeLength (cellGroup cell) (cellHalves cell)) }
-    ensures { result ≡ count_of (cellGroup cell) (cellHalves cell) map.now (point_of point) }
+        × (length map.now ≡ volume_length (cell_group cell) (cell_halves cell)) }
+    ensures { result ≡ count_of (cell_group cell) (cell_halves cell) map.now (point_of point) }
 {
     map[cell::places::density_place(cell, point)]
 }

@@ -1,10 +1,10 @@
 // The reading of a point of a combined map: the call, which refuses what is no map of the cell and no point of it.
 ghost use Rattle.std.specs.Prelude.{◌≡◌};
 ghost use Rattle.refusals.specs.Refusals.{first};
-ghost use Rattle.refusals.specs.Checks.{checkedNumber};
-ghost use Rattle.cell.specs.Operations.{cellLengths, point_of};
-ghost use Rattle.combined.specs.Reading.{within, countTests, countStep, CountsRead};
-ghost use Rattle.combined.specs.Answers.{saidCount};
+ghost use Rattle.refusals.specs.Checks.{checked_number};
+ghost use Rattle.cell.specs.Operations.{cell_lengths, point_of};
+ghost use Rattle.combined.specs.Reading.{within, count_tests, count_step, CountsRead};
+ghost use Rattle.combined.specs.Answers.{said_count};
 
 use cell::operations::{Point, UnitCell};
 use refusals::{Checked, Refusal};
@@ -18,7 +18,7 @@ pub enum CountAnswer {
 
 // The number of a point anywhere in the cell.
 pub fn count(cell: UnitCell, at: Point, map: &[i64]) -> CountAnswer
-    ensures { saidCount result ≡ countStep cell.group (cellLengths cell) map.now (point_of at) }
+    ensures { said_count result ≡ count_step cell.group (cell_lengths cell) map.now (point_of at) }
 {
     let checked = check_count(cell, at, map.len());
     match checked {
@@ -29,7 +29,7 @@ pub fn count(cell: UnitCell, at: Point, map: &[i64]) -> CountAnswer
 
 // 8, 3, 9, 6, 10.
 fn check_count(cell: UnitCell, at: Point, length: usize) -> Checked
-    ensures { checkedNumber result ≡ first (countTests cell.group (cellLengths cell) length (point_of at)) }
+    ensures { checked_number result ≡ first (count_tests cell.group (cell_lengths cell) length (point_of at)) }
 {
     let checked = crate::check_combined_map(cell, length);
     match checked {
@@ -45,7 +45,7 @@ fn check_count(cell: UnitCell, at: Point, length: usize) -> Checked
 
 // Each number of the point is below its axis length.
 fn inside(cell: UnitCell, at: Point) -> bool
-    ensures { result ≡ within (cellLengths cell) (point_of at) }
+    ensures { result ≡ within (cell_lengths cell) (point_of at) }
 {
     (at.x < cell.n1) & ((at.y < cell.n2) & (at.z < cell.n3))
 }

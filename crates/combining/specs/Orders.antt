@@ -1,12 +1,12 @@
 -- The refusals of the call stand in the papers' order; and what 27 and 14 say.
 use Rattle.algebra.specs.Prelude.{◌≡◌, ℕ, List}
 use Rattle.signed.specs.Integers.{ℤ}
-use Rattle.refusals.specs.Orders.{Ordered, RefusedUnless, ofCombining}
+use Rattle.refusals.specs.Orders.{Ordered, RefusedUnless, of_combining}
 use Rattle.cell.specs.Exactly.{MapConsistent}
-use Rattle.output.specs.Output.{Filled.notWritten}
+use Rattle.output.specs.Output.{Filled.not_written}
 use Rattle.job.specs.declared.Job.{Job}
-use Rattle.job.specs.Job.{groupIn, halves}
-use Rattle.combining.specs.Combining.{combineTests, combineStep}
+use Rattle.job.specs.Job.{group_in, halves}
+use Rattle.combining.specs.Combining.{combine_tests, combine_step}
 
 -- the two jobs do not differ in group or lengths, and their moduli are 1 and 2 in order
 pub record OneCell (i j : Job) : Type 0 where
@@ -19,14 +19,14 @@ pub record OneCell (i j : Job) : Type 0 where
 
 -- each volume is the map, with its zeros, of some cell that obeys the group
 pub record BothMaps (i : Job) (v w : List ℕ) : Type 0 where
-  pub first : MapConsistent (groupIn i) (halves i) 1 v
-  pub second : MapConsistent (groupIn i) (halves i) 2 w
+  pub first : MapConsistent (group_in i) (halves i) 1 v
+  pub second : MapConsistent (group_in i) (halves i) 2 w
 
 pub record CombineRefusals : Type 0 where
-  pub ordered : (i j : Job) (v w : List ℕ) (room : ℕ) → Ordered (combineTests i j v w room) ofCombining
+  pub ordered : (i j : Job) (v w : List ℕ) (room : ℕ) → Ordered (combine_tests i j v w room) of_combining
   pub cells :
       (i : Job) (v : List ℕ) (j : Job) (w : List ℕ) (output : List ℤ) →
-      RefusedUnless notWritten ofCombining 27 (combineStep i v j w output).answer (OneCell i j)
+      RefusedUnless not_written of_combining 27 (combine_step i v j w output).answer (OneCell i j)
   pub maps :
       (i : Job) (v : List ℕ) (j : Job) (w : List ℕ) (output : List ℤ) →
-      RefusedUnless notWritten ofCombining 14 (combineStep i v j w output).answer (BothMaps i v w)
+      RefusedUnless not_written of_combining 14 (combine_step i v j w output).answer (BothMaps i v w)

@@ -1,9 +1,9 @@
 // The refusals of a combined map: the number is that of the first test of the paper's order that holds.
 ghost use Rattle.std.specs.Prelude.{◌≡◌};
 ghost use Rattle.refusals.specs.Refusals.{first};
-ghost use Rattle.refusals.specs.Checks.{checkedNumber};
-ghost use Rattle.cell.specs.Operations.{cellLengths, Sizes};
-ghost use Rattle.combining.specs.Combining.{ofOneCell, mapsTests, combineTests};
+ghost use Rattle.refusals.specs.Checks.{checked_number};
+ghost use Rattle.cell.specs.Operations.{cell_lengths, Sizes};
+ghost use Rattle.combining.specs.Combining.{of_one_cell, maps_tests, combine_tests};
 ghost use Rattle.combining.specs.Orders.{CombineRefusals};
 
 use cell::operations::UnitCell;
@@ -14,8 +14,8 @@ use volume::consistent::map_test;
 
 // 25, 22, 27, then the maps': each over both jobs before the next.
 pub fn check_maps(i: Job, first_map: &[u32], j: Job, second_map: &[u32], room: usize) -> Checked
-    ensures { checkedNumber result
-        ≡ first (combineTests i j first_map.now second_map.now room) }
+    ensures { checked_number result
+        ≡ first (combine_tests i j first_map.now second_map.now room) }
 {
     if !(valid::valid_job(i) & valid::valid_job(j)) {
         return Checked::Failed(Refusal::ImpossibleJob);
@@ -31,7 +31,7 @@ pub fn check_maps(i: Job, first_map: &[u32], j: Job, second_map: &[u32], room: u
 
 // One group and the same lengths, and the moduli 1 and 2 in order.
 fn of_one_cell(i: Job, j: Job) -> bool
-    ensures { result ≡ ofOneCell i j }
+    ensures { result ≡ of_one_cell i j }
 {
     (i.group == j.group)
         & ((i.a.length == j.a.length)
@@ -42,9 +42,9 @@ fn of_one_cell(i: Job, j: Job) -> bool
 // 6, 7, 14: each over both maps before the next, 6 of the output too.
 fn check_volumes(cell: UnitCell, first_map: &[u32], second_map: &[u32], room: usize) -> Checked
     requires { Sizes cell }
-    ensures { checkedNumber result
+    ensures { checked_number result
         ≡ first
-        (mapsTests cell.group (cellLengths cell)
+        (maps_tests cell.group (cell_lengths cell)
         first_map.now second_map.now room) }
 {
     let needed = header::bytes::volume_length(cell);

@@ -2,8 +2,8 @@
 pub mod check; // check.rt: the refusals
 
 ghost use Rattle.std.specs.Prelude.{◌≡◌};
-ghost use Rattle.combining.specs.Combining.{combineStep};
-ghost use Rattle.combining.specs.Answers.{combineOutcome};
+ghost use Rattle.combining.specs.Combining.{combine_step};
+ghost use Rattle.combining.specs.Answers.{combine_outcome};
 ghost use Rattle.combining.specs.Points.{CombinedPoints, CombinedRestores};
 
 use job::Job;
@@ -19,8 +19,8 @@ pub fn combine_maps(
     second_map: &[u32],
     output: &mut [i64],
 ) -> FillAnswer
-    ensures { combineOutcome result output.new
-        ≡ combineStep first first_map.now second second_map.now
+    ensures { combine_outcome result output.new
+        ≡ combine_step first first_map.now second second_map.now
         output.old }
 {
     let count = output.len();

@@ -8,12 +8,12 @@ use native.Mathlib.Numerals.{add-one}
 use native.Mathlib.Omega.{arith}
 use lib.Dec.{ltb}
 use borrow.Author.Tests.{lt-ltb, le-ltb}
-use Rattle.slices.proofs.Pairs.{lt-or-ge}
+use Rattle.slices.proofs.Pairs.{lt_or_ge}
 use Rattle.correlation.specs.Correlation.{larger, over}
 
-pub over-next : (op : ℕ → ℕ → ℕ) (n : ℕ) (f : ℕ → ℕ) → op (over op n f) (f n) ≡ over op (n + 1) f
+pub over_next : (op : ℕ → ℕ → ℕ) (n : ℕ) (f : ℕ → ℕ) → op (over op n f) (f n) ≡ over op (n + 1) f
 unfolding over
-over-next op n f = rw add-one refl
+over_next op n f = rw add-one refl
 
 pub over_none : (op : ℕ → ℕ → ℕ) (f : ℕ → ℕ) → 0 ≡ over op 0 f
 unfolding over
@@ -21,61 +21,61 @@ over_none op f = refl
 
 -- ---- the larger of two
 
-pub larger-is : (a b : ℕ) → larger a b ≡ a + (b - a)
-larger-is a b = ⊎_elim
+pub larger_is : (a b : ℕ) → larger a b ≡ a + (b - a)
+larger_is a b = ⊎_elim
     (λ (l : a < b). ap (λ t. cond t b a) (lt-ltb a b l) ∙ omega arith)
     (λ (g : b ≤ a). ap (λ t. cond t b a) (le-ltb a b g) ∙ omega arith)
-    (lt-or-ge a b)
+    (lt_or_ge a b)
 
-pub below-largest : (n k : ℕ) (f : ℕ → ℕ) → k < n → f k ≤ over larger n f
+pub below_largest : (n k : ℕ) (f : ℕ → ℕ) → k < n → f k ≤ over larger n f
 unfolding over
-below-largest zero k f l = absurd (omega arith)
-below-largest (suc n) k f l = ⊎_elim
-    (λ (e : k ≡ n). rw e (omega (arith, larger-is (over larger n f) (f n))))
-    (λ (m : k < n). omega (arith, larger-is (over larger n f) (f n), below-largest n k f m))
+below_largest zero k f l = absurd (omega arith)
+below_largest (suc n) k f l = ⊎_elim
+    (λ (e : k ≡ n). rw e (omega (arith, larger_is (over larger n f) (f n))))
+    (λ (m : k < n). omega (arith, larger_is (over larger n f) (f n), below_largest n k f m))
     (eq-or-lt_of_le (le_of_suc-le-suc l))
 
 -- n numbers that are at most L
-pub sum-most : (n L : ℕ) (f : ℕ → ℕ) → ((k : ℕ) → k < n → f k ≤ L) → over ◌+◌ n f ≤ n * L
+pub sum_most : (n L : ℕ) (f : ℕ → ℕ) → ((k : ℕ) → k < n → f k ≤ L) → over ◌+◌ n f ≤ n * L
 unfolding over
-sum-most zero L f h = omega arith
-sum-most (suc n) L f h = omega (arith, sum-most n L f (λ k l. h k (omega arith)), h n (omega arith))
+sum_most zero L f h = omega arith
+sum_most (suc n) L f h = omega (arith, sum_most n L f (λ k l. h k (omega arith)), h n (omega arith))
 
 -- ---- tests
 
 pub same_test : {a b c d : ℕ} → (a < b) ↔ (c < d) → ltb a b ≡ ltb c d
 same_test {a} {b} {c} {d} h = ⊎_elim
     (λ (l : a < b). lt-ltb a b l ∙ sym (lt-ltb c d (h.0 l)))
-    (λ (g : b ≤ a). le-ltb a b g ∙ sym (⊎_elim (λ (k : c < d). absurd (omega (arith, h.1 k))) (λ (k : d ≤ c). le-ltb c d k) (lt-or-ge c d)))
-    (lt-or-ge a b)
+    (λ (g : b ≤ a). le-ltb a b g ∙ sym (⊎_elim (λ (k : c < d). absurd (omega (arith, h.1 k))) (λ (k : d ≤ c). le-ltb c d k) (lt_or_ge c d)))
+    (lt_or_ge a b)
 
 -- ---- columns
 
-pub column-next : (n width : ℕ) {column : ℕ} → column ≡ n % width → (column + 1) % width ≡ (n + 1) % width
-column-next n width e = ap (λ k. (k + 1) % width) e ∙ mod-add-mod n width 1
+pub column_next : (n width : ℕ) {column : ℕ} → column ≡ n % width → (column + 1) % width ≡ (n + 1) % width
+column_next n width e = ap (λ k. (k + 1) % width) e ∙ mod-add-mod n width 1
 
 -- ---- a scan in rows of a width: the first n of count places are done, and the next one's column is known
 
 pub record Scanned (op : ℕ → ℕ → ℕ) (f : ℕ → ℕ) (count width n column done : ℕ) : Type 0 where
   pub le : n ≤ count
-  pub column-is : column ≡ n % width
-  pub column-low : column < width
+  pub column_is : column ≡ n % width
+  pub column_low : column < width
   pub is : done ≡ over op n f
 
 module _ {op : ℕ → ℕ → ℕ} {f : ℕ → ℕ} {count width : ℕ} where
-  pub scan-start : 0 < width → Scanned op f count width 0 0 0
-  scan-start w = record { le = omega arith; column-is = sym (mod-eq_of_lt w); column-low = w; is = over_none op f }
+  pub scan_start : 0 < width → Scanned op f count width 0 0 0
+  scan_start w = record { le = omega arith; column_is = sym (mod-eq_of_lt w); column_low = w; is = over_none op f }
 
-  pub scan-next : {n column done column' done' : ℕ} → Scanned op f count width n column done → n < count → done' ≡ op done (f n) → column' ≡ (column + 1) % width
+  pub scan_next : {n column done column' done' : ℕ} → Scanned op f count width n column done → n < count → done' ≡ op done (f n) → column' ≡ (column + 1) % width
       → Scanned op f count width (n + 1) column' done'
-  scan-next {n} {column} {done} s l d k =
-      let w : 0 < width = omega (arith, s.column-low) in
+  scan_next {n} {column} {done} s l d k =
+      let w : 0 < width = omega (arith, s.column_low) in
       record {
         le = omega arith;
-        column-is = k ∙ column-next n width s.column-is;
-        column-low = subst (λ (j : ℕ). j < width) (sym k) (mod-lt (column + 1) w);
-        is = d ∙ ap (λ j. op j (f n)) s.is ∙ over-next op n f;
+        column_is = k ∙ column_next n width s.column_is;
+        column_low = subst (λ (j : ℕ). j < width) (sym k) (mod-lt (column + 1) w);
+        is = d ∙ ap (λ j. op j (f n)) s.is ∙ over_next op n f;
       }
 
-  pub scan-done : {n column done : ℕ} → Scanned op f count width n column done → count ≤ n → done ≡ over op count f
-  scan-done {n} {column} {done} s l = subst (λ (k : ℕ). done ≡ over op k f) (omega (arith, s.le)) s.is
+  pub scan_done : {n column done : ℕ} → Scanned op f count width n column done → count ≤ n → done ≡ over op count f
+  scan_done {n} {column} {done} s l = subst (λ (k : ℕ). done ≡ over op k f) (omega (arith, s.le)) s.is

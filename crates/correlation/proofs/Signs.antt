@@ -10,27 +10,27 @@ use lib.Signed.{lt_z}
 use borrow.Author.Tests.{ltb-true}
 use Rattle.algebra.specs.ring.Ring.{residue}
 use Rattle.algebra.proofs.ring.Laws.{along}
-use Rattle.signed.specs.Integers.{residueZ}
+use Rattle.signed.specs.Integers.{residue_z}
 use Rattle.numbers.specs.Value.{prime}
 use Rattle.numbers.specs.Bounds.{res}
 
-pub rest-is : (m x : ℕ) → (res m x).val ≡ x % prime m
+pub rest_is : (m x : ℕ) → (res m x).val ≡ x % prime m
 unfolding residue
-rest-is m x = refl
+rest_is m x = refl
 
-pub below-zero : (x : ℤ) → lt_z x (pos 0) ≡ true → 1 ≤ nat_abs x
-below-zero (pos n) e = absurd (not-suc-le-zero (ltb-true n 0 e))
-below-zero (negsuc n) e = omega arith
+pub below_zero : (x : ℤ) → lt_z x (pos 0) ≡ true → 1 ≤ nat_abs x
+below_zero (pos n) e = absurd (not-suc-le-zero (ltb-true n 0 e))
+below_zero (negsuc n) e = omega arith
 
 -- -(n + 1) is p - 1 - n % p
-pub residue-negative : (p r : ℕ) (x : ℤ) → lt_z x (pos 0) ≡ true → r ≡ (nat_abs x - 1) % p → p - 1 - r ≡ residueZ p x
-unfolding residueZ
-residue-negative p r (pos n) e q = absurd (not-suc-le-zero (ltb-true n 0 e))
-residue-negative p r (negsuc n) e q =
+pub residue_negative : (p r : ℕ) (x : ℤ) → lt_z x (pos 0) ≡ true → r ≡ (nat_abs x - 1) % p → p - 1 - r ≡ residue_z p x
+unfolding residue_z
+residue_negative p r (pos n) e q = absurd (not-suc-le-zero (ltb-true n 0 e))
+residue_negative p r (negsuc n) e q =
     let back : r ≡ n % p = q ∙ along (λ k. k % p) (suc n - 1) n (omega arith) in
     along (λ k. p - 1 - k) r (n % p) back ∙ omega arith
 
-pub residue-plain : (p r : ℕ) (x : ℤ) → lt_z x (pos 0) ≡ false → r ≡ nat_abs x % p → r ≡ residueZ p x
-unfolding residueZ
-residue-plain p r (pos n) e q = q
-residue-plain p r (negsuc n) e q = absurd (subst T e tt)
+pub residue_plain : (p r : ℕ) (x : ℤ) → lt_z x (pos 0) ≡ false → r ≡ nat_abs x % p → r ≡ residue_z p x
+unfolding residue_z
+residue_plain p r (pos n) e q = q
+residue_plain p r (negsuc n) e q = absurd (subst T e tt)

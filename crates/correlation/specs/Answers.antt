@@ -2,12 +2,12 @@
 use Rattle.algebra.specs.Prelude.{ℕ, List}
 use Rattle.signed.specs.Integers.{ℤ}
 use Rattle.output.specs.declared.FillAnswer.{FillAnswer}
-use Rattle.output.specs.Answers.{saidFill}
+use Rattle.output.specs.Answers.{said_fill}
 use Rattle.correlation.specs.Correlation.{Buffers, CorrelationOutcome}
 
 abbrev pub buffers : List ℤ → (work1 work2 work3 scratch : List ℕ) → Buffers
 buffers output work1 work2 work3 scratch =
     record { output = output; work1 = work1; work2 = work2; work3 = work3; scratch = scratch }
 
-abbrev pub correlationOutcome : FillAnswer → Buffers → CorrelationOutcome
-correlationOutcome r w = record { answer = saidFill r; buffers = w }
+abbrev pub correlation_outcome : FillAnswer → Buffers → CorrelationOutcome
+correlation_outcome r w = record { answer = said_fill r; buffers = w }

@@ -4,10 +4,10 @@ use Rattle.std.specs.Prelude.{◌⊎◌}
 use Rattle.algebra.specs.Prelude.{◌≡◌, ℕ, ◌+◌, ◌*◌, ◌<◌, ◌≤◌, List, length}
 use Rattle.algebra.specs.cells.Cell.{J, Inside, P1}
 use Rattle.signed.specs.Integers.{ℤ, nat_abs, ◌+ℤ◌, ◌*ℤ◌}
-use Rattle.header.specs.Header.{Header, halfLengths}
+use Rattle.header.specs.Header.{Header, half_lengths}
 use Rattle.combined.specs.CombinedMap.{count_of, SamePoints}
 use Rattle.output.specs.Output.{Filled.written}
-use Rattle.correlation.specs.Correlation.{shifted_by, total_of, largest, Buffers, correlationStep}
+use Rattle.correlation.specs.Correlation.{shifted_by, total_of, largest, Buffers, correlation_step}
 
 -- a' is a but for the point u, whose count is more by d; what the maps have at the rows' ends does not matter
 pub record OneCount (h : J) (a a' : List ℤ) (u : J) (d : ℤ) : Type 0 where
@@ -35,40 +35,40 @@ abbrev pub Sensitive : Type 0
 Sensitive =
     (c c' : Header) → c.lengths ≡ c'.lengths →
     (a a' b : List ℤ) (w w' : Buffers) (n n' : ℕ) (u : J) (d : ℤ) →
-    let h = halfLengths c.lengths in
-    (correlationStep c a b w).answer ≡ written n →
-    (correlationStep c' a' b w').answer ≡ written n' →
+    let h = half_lengths c.lengths in
+    (correlation_step c a b w).answer ≡ written n →
+    (correlation_step c' a' b w').answer ≡ written n' →
     Inside h u →
     OneCount h a a' u d →
     (s : J) → Inside h s →
     Moved h b u d s
-    (count_of P1 h (correlationStep c a b w).buffers.output s)
-    (count_of P1 h (correlationStep c' a' b w').buffers.output s)
+    (count_of P1 h (correlation_step c a b w).buffers.output s)
+    (count_of P1 h (correlation_step c' a' b w').buffers.output s)
 
 -- the value at every shift is within the range of a combined map
 abbrev pub WithinRange : Type 0
 WithinRange =
     (c : Header) (a b : List ℤ) (w : Buffers) (n : ℕ) →
-    let h = halfLengths c.lengths in
-    (correlationStep c a b w).answer ≡ written n →
+    let h = half_lengths c.lengths in
+    (correlation_step c a b w).answer ≡ written n →
     (s : J) → Inside h s →
-    nat_abs (count_of P1 h (correlationStep c a b w).buffers.output s) ≤ 13063485600
+    nat_abs (count_of P1 h (correlation_step c a b w).buffers.output s) ≤ 13063485600
 
 -- a map with itself: at no shift stands the sum of the squares, and no shift has a greater magnitude
 abbrev pub SelfAtZero : Type 0
 SelfAtZero =
     (c : Header) (a : List ℤ) (w : Buffers) (n : ℕ) →
-    let h = halfLengths c.lengths in
-    (correlationStep c a a w).answer ≡ written n →
-    count_of P1 h (correlationStep c a a w).buffers.output (0, 0, 0)
+    let h = half_lengths c.lengths in
+    (correlation_step c a a w).answer ≡ written n →
+    count_of P1 h (correlation_step c a a w).buffers.output (0, 0, 0)
     ≡ total_of h (λ u. count_of P1 h a u *ℤ count_of P1 h a u)
 
 abbrev pub GreatestAtZero : Type 0
 GreatestAtZero =
     (c : Header) (a : List ℤ) (w : Buffers) (n : ℕ) →
-    let h = halfLengths c.lengths in
-    let out = (correlationStep c a a w).buffers.output in
-    (correlationStep c a a w).answer ≡ written n →
+    let h = half_lengths c.lengths in
+    let out = (correlation_step c a a w).buffers.output in
+    (correlation_step c a a w).answer ≡ written n →
     (s : J) → Inside h s →
     nat_abs (count_of P1 h out s) ≤ nat_abs (count_of P1 h out (0, 0, 0))
 
@@ -77,9 +77,9 @@ GreatestAtZero =
 abbrev pub RowEndsUnread : Type 0
 RowEndsUnread =
     (c : Header) (a a' b b' : List ℤ) (w : Buffers) →
-    let h = halfLengths c.lengths in
+    let h = half_lengths c.lengths in
     length a ≡ length a' →
     length b ≡ length b' →
     SamePoints P1 h a a' →
     SamePoints P1 h b b' →
-    correlationStep c a b w ≡ correlationStep c a' b' w
+    correlation_step c a b w ≡ correlation_step c a' b' w

@@ -2,11 +2,11 @@
 ghost use Rattle.std.specs.Prelude.{◌≡◌, ◌≤◌, length};
 ghost use Rattle.algebra.specs.cells.Cell.{P1};
 ghost use Rattle.refusals.specs.Refusals.{first};
-ghost use Rattle.refusals.specs.Checks.{checkedNumber};
-ghost use Rattle.cell.specs.Operations.{cellHalves, cellLengths, Sizes};
-ghost use Rattle.cell.specs.Volume.{volumeLength};
-ghost use Rattle.correlation.specs.Correlation.{allLong, buffersTests, correlationTests, headerOf};
-ghost use Rattle.correlation.specs.Steps.{exceedsAt};
+ghost use Rattle.refusals.specs.Checks.{checked_number};
+ghost use Rattle.cell.specs.Operations.{cell_halves, cell_lengths, Sizes};
+ghost use Rattle.cell.specs.Volume.{volume_length};
+ghost use Rattle.correlation.specs.Correlation.{all_long, buffers_tests, correlation_tests, header_of};
+ghost use Rattle.correlation.specs.Steps.{exceeds_at};
 ghost use Rattle.correlation.specs.Orders.{CorrelationRefusals};
 
 use cell::operations::UnitCell;
@@ -28,9 +28,9 @@ pub fn check_correlation(
     work3: usize,
     scratch: usize,
 ) -> Checked
-    ensures { checkedNumber result
+    ensures { checked_number result
         ≡ first
-        (correlationTests (headerOf (n1, n2, n3) f1.now f2.now f3.now)
+        (correlation_tests (header_of (n1, n2, n3) f1.now f2.now f3.now)
         a.now b.now output work1 work2 work3 scratch) }
 {
     let cell = UnitCell {
@@ -57,10 +57,10 @@ fn check_buffers(
     work3: usize,
     scratch: usize,
 ) -> Checked
-    requires { Sizes cell × (cell.group ≡ 0) × (volumeLength P1 (cellHalves cell) ≤ 16777216) }
-    ensures { checkedNumber result
+    requires { Sizes cell × (cell.group ≡ 0) × (volume_length P1 (cell_halves cell) ≤ 16777216) }
+    ensures { checked_number result
         ≡ first
-        (buffersTests (cellLengths cell) a.now b.now output work1 work2 work3 scratch) }
+        (buffers_tests (cell_lengths cell) a.now b.now output work1 work2 work3 scratch) }
 {
     let needed = header::bytes::volume_length(cell);
     if !all_long(needed, a.len(), b.len(), output, work1, work2, work3) {
@@ -85,7 +85,7 @@ fn all_long(
     work2: usize,
     work3: usize,
 ) -> bool
-    ensures { result ≡ allLong needed a b output work1 work2 work3 }
+    ensures { result ≡ all_long needed a b output work1 work2 work3 }
 {
     (a as u64 == needed)
         & ((b as u64 == needed)
@@ -98,7 +98,7 @@ fn all_long(
 // 2 half points.
 fn exceeds_limit(half: usize, a: &[i64], b: &[i64]) -> bool
     requires { (half ≤ 1440) × (length a.now ≤ 16777216) }
-    ensures { result ≡ exceedsAt half a.now b.now }
+    ensures { result ≡ exceeds_at half a.now b.now }
 {
     let most_a = crate::magnitudes::largest_magnitude(a, half);
     if 13063485600 < most_a {

@@ -8,12 +8,12 @@ pub mod residues; // residues.rt: a map's numbers modulo a prime
 
 ghost use Rattle.std.specs.Prelude.{◌≡◌, ◌*◌, ◌≤◌, length, replicate};
 ghost use Rattle.algebra.specs.cells.Cell.{P1};
-ghost use Rattle.lengths.specs.Lengths.{scratchLength, cleared};
-ghost use Rattle.cell.specs.Volume.{volumeLength};
+ghost use Rattle.lengths.specs.Lengths.{scratch_length, cleared};
+ghost use Rattle.cell.specs.Volume.{volume_length};
 ghost use Rattle.combined.specs.CombinedMap.{limit};
-ghost use Rattle.correlation.specs.Correlation.{magnitudes, largest, correlation, headerOf, correlationStep};
-ghost use Rattle.correlation.specs.Steps.{axesHalves, SoundAxes};
-ghost use Rattle.correlation.specs.Answers.{buffers, correlationOutcome};
+ghost use Rattle.correlation.specs.Correlation.{magnitudes, largest, correlation, header_of, correlation_step};
+ghost use Rattle.correlation.specs.Steps.{axes_halves, SoundAxes};
+ghost use Rattle.correlation.specs.Answers.{buffers, correlation_outcome};
 ghost use Rattle.correlation.specs.Demands.{Sensitive, WithinRange, SelfAtZero, GreatestAtZero, RowEndsUnread};
 
 use crate::modulo::Axes;
@@ -37,9 +37,9 @@ pub fn correlate(
     work3: &mut [u32],
     scratch: &mut [u32],
 ) -> FillAnswer
-    ensures { correlationOutcome result
+    ensures { correlation_outcome result
         (buffers output.new work1.new work2.new work3.new scratch.new)
-        ≡ correlationStep (headerOf (n1, n2, n3) f1.now f2.now f3.now)
+        ≡ correlation_step (header_of (n1, n2, n3) f1.now f2.now f3.now)
         a.now b.now
         (buffers output.old work1.old work2.old work3.old
         scratch.old) }
@@ -89,18 +89,18 @@ fn correlate_sound(
     scratch: &mut [u32],
 )
     requires sound_axes { SoundAxes axes
-        × (magnitudes (axesHalves axes) a.now * largest (axesHalves axes) b.now ≤ limit)
-        × (scratchLength ≤ length scratch.old) }
-    requires a_len { (length a.now ≡ volumeLength P1 (axesHalves axes))
-        × (length b.now ≡ volumeLength P1 (axesHalves axes))
-        × (length output.old ≡ volumeLength P1 (axesHalves axes)) }
-    requires work1_len { (length work1.old ≡ volumeLength P1 (axesHalves axes))
-        × (length work2.old ≡ volumeLength P1 (axesHalves axes))
-        × (length work3.old ≡ volumeLength P1 (axesHalves axes)) }
-    ensures { (output.new ≡ correlation (axesHalves axes) a.now b.now)
-        × (work1.new ≡ replicate (volumeLength P1 (axesHalves axes)) 0)
-        × (work2.new ≡ replicate (volumeLength P1 (axesHalves axes)) 0)
-        × (work3.new ≡ replicate (volumeLength P1 (axesHalves axes)) 0)
+        × (magnitudes (axes_halves axes) a.now * largest (axes_halves axes) b.now ≤ limit)
+        × (scratch_length ≤ length scratch.old) }
+    requires a_len { (length a.now ≡ volume_length P1 (axes_halves axes))
+        × (length b.now ≡ volume_length P1 (axes_halves axes))
+        × (length output.old ≡ volume_length P1 (axes_halves axes)) }
+    requires work1_len { (length work1.old ≡ volume_length P1 (axes_halves axes))
+        × (length work2.old ≡ volume_length P1 (axes_halves axes))
+        × (length work3.old ≡ volume_length P1 (axes_halves axes)) }
+    ensures { (output.new ≡ correlation (axes_halves axes) a.now b.now)
+        × (work1.new ≡ replicate (volume_length P1 (axes_halves axes)) 0)
+        × (work2.new ≡ replicate (volume_length P1 (axes_halves axes)) 0)
+        × (work3.new ≡ replicate (volume_length P1 (axes_halves axes)) 0)
         × (scratch.new ≡ cleared scratch.old) }
 {
     crate::modulo::correlate_modulo(1, axes, a, b, work1, work2, scratch);

@@ -2,7 +2,7 @@
 ghost use Rattle.std.specs.Prelude.{◌≡◌, suc, ◌+◌, ◌*◌, ◌%◌, ◌<◌, ◌≤◌, ltb, length};
 ghost use Rattle.combined.specs.CombinedMap.{limit};
 ghost use Rattle.correlation.specs.Correlation.{larger, over};
-ghost use Rattle.correlation.specs.Steps.{magnitudeAt};
+ghost use Rattle.correlation.specs.Steps.{magnitude_at};
 
 // The column after one, in rows of `width`.
 pub fn next_column(column: usize, width: usize) -> usize
@@ -16,7 +16,7 @@ pub fn next_column(column: usize, width: usize) -> usize
 // The magnitude at a place in this column.
 fn magnitude_at(v: &[i64], n: usize, column: usize, b: usize) -> u64
     requires { (n < length v.now) × (column ≡ n % (2 * suc b)) × (b ≤ 1440) }
-    ensures { result ≡ magnitudeAt b v.now n }
+    ensures { result ≡ magnitude_at b v.now n }
 {
     if column < 2 * b {
         signed::magnitude(v[n])
@@ -34,7 +34,7 @@ fn larger_of(x: u64, y: u64) -> u64
 // The largest magnitude.
 pub fn largest_magnitude(v: &[i64], b: usize) -> u64
     requires { b ≤ 1440 }
-    ensures { result ≡ over larger (length v.now) (magnitudeAt b v.now) }
+    ensures { result ≡ over larger (length v.now) (magnitude_at b v.now) }
 {
     let width = 2 * b + 2;
     let mut most: u64 = 0;
@@ -51,8 +51,8 @@ pub fn largest_magnitude(v: &[i64], b: usize) -> u64
 // The sum of the magnitudes, none of which exceeds the limit: it is below 2^58.
 pub fn sum_of_magnitudes(v: &[i64], b: usize) -> u64
     requires b_bound { (b ≤ 1440) × (length v.now ≤ 16777216) }
-    requires v_bound { over larger (length v.now) (magnitudeAt b v.now) ≤ limit }
-    ensures { result ≡ over ◌+◌ (length v.now) (magnitudeAt b v.now) }
+    requires v_bound { over larger (length v.now) (magnitude_at b v.now) ≤ limit }
+    ensures { result ≡ over ◌+◌ (length v.now) (magnitude_at b v.now) }
 {
     let width = 2 * b + 2;
     let mut sum: u64 = 0;

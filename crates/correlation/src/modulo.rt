@@ -5,9 +5,9 @@ ghost use Rattle.algebra.specs.ring.Ring.{Res};
 ghost use Rattle.algebra.specs.cells.Cell.{P1};
 ghost use Rattle.numbers.specs.Value.{prime, IsModulus};
 ghost use Rattle.numbers.specs.Bounds.{res};
-ghost use Rattle.lengths.specs.Lengths.{scratchLength, cleared};
-ghost use Rattle.cell.specs.Volume.{volumeLength, packMap, packFactors, factorsOf};
-ghost use Rattle.correlation.specs.Steps.{residueCell, countCell, correlationCell, pointCount, axesHalves};
+ghost use Rattle.lengths.specs.Lengths.{scratch_length, cleared};
+ghost use Rattle.cell.specs.Volume.{volume_length, pack_map, pack_factors, factors_of};
+ghost use Rattle.correlation.specs.Steps.{residue_cell, count_cell, correlation_cell, point_count, axes_halves};
 ghost use Rattle.correlation.specs.Steps.{SoundAxes, plan_of};
 
 use cell::operations::UnitCell;
@@ -45,7 +45,7 @@ fn plan_of(m: u32, direction: u32, axes: Axes) -> Plan
 // How many points the cell has, modulo the prime.
 fn point_count(m: u32, axes: Axes) -> u32
     requires { IsModulus m × SoundAxes axes }
-    ensures { (result ≡ (res m (pointCount (axesHalves axes))).val) × (result < prime m) }
+    ensures { (result ≡ (res m (point_count (axes_halves axes))).val) × (result < prime m) }
 {
     let n1 = axes.n1 as u64;
     let n2 = axes.n2 as u64;
@@ -56,12 +56,12 @@ fn point_count(m: u32, axes: Axes) -> u32
 // The factors of a map modulo the prime.
 fn analyse(m: u32, axes: Axes, map: &[i64], volume: &mut [u32], scratch: &mut [u32])
     requires modulus { IsModulus m × SoundAxes axes }
-    requires map_len { (length map.now ≡ volumeLength P1 (axesHalves axes))
-        × (length volume.old ≡ volumeLength P1 (axesHalves axes)) }
-    requires scratch_length_in_bounds { scratchLength ≤ length scratch.old }
+    requires map_len { (length map.now ≡ volume_length P1 (axes_halves axes))
+        × (length volume.old ≡ volume_length P1 (axes_halves axes)) }
+    requires scratch_length_in_bounds { scratch_length ≤ length scratch.old }
     ensures { (volume.new
-        ≡ packFactors P1 (axesHalves axes) m
-        (factorsOf m (axesHalves axes) (residueCell m (countCell (axesHalves axes) map.now))))
+        ≡ pack_factors P1 (axes_halves axes) m
+        (factors_of m (axes_halves axes) (residue_cell m (count_cell (axes_halves axes) map.now))))
         × (scratch.new ≡ cleared scratch.old) }
 {
     let pairs = volume.len() / 2;
@@ -81,14 +81,14 @@ pub fn correlate_modulo(
     scratch: &mut [u32],
 )
     requires modulus { IsModulus m × SoundAxes axes }
-    requires a_len { (length a.now ≡ volumeLength P1 (axesHalves axes))
-        × (length b.now ≡ volumeLength P1 (axesHalves axes)) }
-    requires first_len { (length first.old ≡ volumeLength P1 (axesHalves axes))
-        × (length second.old ≡ volumeLength P1 (axesHalves axes)) }
-    requires scratch_length_in_bounds { scratchLength ≤ length scratch.old }
+    requires a_len { (length a.now ≡ volume_length P1 (axes_halves axes))
+        × (length b.now ≡ volume_length P1 (axes_halves axes)) }
+    requires first_len { (length first.old ≡ volume_length P1 (axes_halves axes))
+        × (length second.old ≡ volume_length P1 (axes_halves axes)) }
+    requires scratch_length_in_bounds { scratch_length ≤ length scratch.old }
     ensures { (first.new
-        ≡ packMap P1 (axesHalves axes) m
-        (residueCell m (correlationCell (axesHalves axes) a.now b.now)))
+        ≡ pack_map P1 (axes_halves axes) m
+        (residue_cell m (correlation_cell (axes_halves axes) a.now b.now)))
         × (scratch.new ≡ cleared scratch.old) }
 {
     analyse(m, axes, a, first, scratch);

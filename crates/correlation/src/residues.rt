@@ -1,16 +1,16 @@
 // The numbers of a combined map modulo a prime, in the layout of a map: each row ends in two zeros, whatever the map has there.
 ghost use Rattle.std.specs.Prelude.{◌≡◌, suc, ◌+◌, ◌*◌, ◌%◌, ◌<◌, ◌≤◌, length};
-ghost use Rattle.signed.specs.Integers.{residueZ};
+ghost use Rattle.signed.specs.Integers.{residue_z};
 ghost use Rattle.numbers.specs.Value.{prime, IsModulus};
 ghost use Rattle.slices.specs.Pairs.{tab};
-ghost use Rattle.correlation.specs.Steps.{residuePair};
+ghost use Rattle.correlation.specs.Steps.{residue_pair};
 
 use numbers::Pair;
 
 // The residue of any number, of the least one too.
 fn residue(m: u32, x: i64) -> u32
     requires { IsModulus m }
-    ensures { result ≡ residueZ (prime m) x }
+    ensures { result ≡ residue_z (prime m) x }
 {
     let size = signed::magnitude(x);
     if x < 0 {
@@ -23,7 +23,7 @@ fn residue(m: u32, x: i64) -> u32
 // The residues of pair j, which stands in this column.
 fn residue_pair(m: u32, v: &[i64], j: usize, column: usize, b: usize) -> Pair
     requires { IsModulus m × (2 * j + 1 < length v.now) × (column ≡ j % suc b) }
-    ensures { result ≡ residuePair (prime m) b v.now j }
+    ensures { result ≡ residue_pair (prime m) b v.now j }
 {
     if column < b {
         let a = 2 * j;
@@ -40,7 +40,7 @@ fn residue_pair(m: u32, v: &[i64], j: usize, column: usize, b: usize) -> Pair
 pub fn fill_residues(m: u32, n: usize, b: usize, v: &[i64], d: &mut [u32])
     requires modulus { IsModulus m × (b ≤ 1440) }
     requires v_len { (length v.now ≡ 2 * n) × (length d.old ≡ 2 * n) }
-    ensures { d.new ≡ tab n (residuePair (prime m) b v.now) }
+    ensures { d.new ≡ tab n (residue_pair (prime m) b v.now) }
 {
     let width = b + 1;
     let mut column: usize = 0;

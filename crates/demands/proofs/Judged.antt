@@ -6,37 +6,37 @@ use Prim.Native.Nat.{ℕ, ◌<◌}
 use lib.Dec.{T, ltb}
 use lib.ListN.{length}
 use borrow.Author.Tests.{not-false, ltb-true, lt-ltb}
-use Rattle.algebra.specs.cells.Cell.{J, Inside, Sym, full, factorActs, some, sameOrbit}
+use Rattle.algebra.specs.cells.Cell.{J, Inside, Sym, full, factor_acts, some, same_orbit}
 use Rattle.algebra.specs.orbits.Orbit.{Mem, first as first_of, later, Acts}
 use Rattle.algebra.specs.orbits.OrbitLaws.{Off, OffAll, Sound}
-use Rattle.algebra.proofs.ring.Bool.{same_test, some_at, some-by}
-use Rattle.algebra.proofs.ring.Members.{none, mem-cons}
-use Rattle.algebra.proofs.cells.CellGroup.{orbit-iff}
+use Rattle.algebra.proofs.ring.Bool.{same_test, some_at, some_by}
+use Rattle.algebra.proofs.ring.Members.{none, mem_cons}
+use Rattle.algebra.proofs.cells.CellGroup.{orbit_iff}
 use Rattle.numbers.specs.Value.{prime, Value, field, conj, value}
 use Rattle.refusals.specs.Refusals.{first, accepted}
 use Rattle.refusals.proofs.Tests.{both, passed, not_t, pass, none as no_test}
-use Rattle.cell.proofs.Records.{agrees-iff}
+use Rattle.cell.proofs.Records.{agrees_iff}
 use Rattle.file_format.specs.declared.FileRecord.{FileRecord}
-use Rattle.factor_file.specs.File.{indexIn, judgeTests, Judgement, taken, refusedAt, judged}
-use Rattle.factor_file.proofs.Judging.{taken-first}
+use Rattle.factor_file.specs.File.{index_in, judge_tests, Judgement, taken, refused_at, judged}
+use Rattle.factor_file.proofs.Judging.{taken_first}
 use Rattle.model.specs.Model.{Model, group, half}
-use Rattle.model.proofs.Sound.{LawfulModel, halves-positive, within-inside, inside-within}
+use Rattle.model.proofs.Sound.{LawfulModel, halves_positive, within_inside, inside_within}
 use Rattle.demands.specs.Demands.{entry}
 
 -- the operations on the factors of a model
-abbrev pub actsOn : (μ : ℕ) → J → Acts Sym J (Value μ)
-actsOn μ a = factorActs (field μ) (conj μ) a
+abbrev pub acts_on : (μ : ℕ) → J → Acts Sym J (Value μ)
+acts_on μ a = factor_acts (field μ) (conj μ) a
 
 -- records inside the cell of a model that agree with themselves, no two of one orbit
 abbrev pub DifferentIn : {μ : ℕ} → Model μ → List FileRecord → Type 0
-DifferentIn {μ} m cs = Sound (actsOn μ (half m)) (Inside (half m)) (full (group m)) (map (entry μ) cs)
+DifferentIn {μ} m cs = Sound (acts_on μ (half m)) (Inside (half m)) (full (group m)) (map (entry μ) cs)
 
 abbrev pub BelowPrime : (μ : ℕ) → List FileRecord → Type 0
 BelowPrime μ cs = (c : FileRecord) → Mem c cs → (c.a < prime μ) × (c.b < prime μ)
 
 -- .. and none of an orbit of these indices
 abbrev OffBefore : {μ : ℕ} → Model μ → List J → List FileRecord → Type 0
-OffBefore {μ} m before cs = (i : J) → Mem i before → OffAll (actsOn μ (half m)) (full (group m)) i (map (entry μ) cs)
+OffBefore {μ} m before cs = (i : J) → Mem i before → OffAll (acts_on μ (half m)) (full (group m)) i (map (entry μ) cs)
 
 module _ {μ : ℕ} (m : Model μ) (sound : LawfulModel m) where
   pub record JudgedTaken (before : List J) (cs : List FileRecord) : Type 0 where
@@ -44,37 +44,37 @@ module _ {μ : ℕ} (m : Model μ) (sound : LawfulModel m) where
     pub different : DifferentIn m cs
     pub off : OffBefore m before cs
 
-  abbrev seenIn : List J → J → Bool
-  seenIn before j = some before (λ i. sameOrbit (group m) (half m) i j)
+  abbrev seen_in : List J → J → Bool
+  seen_in before j = some before (λ i. same_orbit (group m) (half m) i j)
 
-  not_seen : (before : List J) (i j : J) → seenIn before j ≡ false → Mem i before → Off (actsOn μ (half m)) (full (group m)) i j
-  unfolding factorActs
-  not_seen before i j e mi s ms q = subst T e (some-by before _ i mi ((orbit-iff (group m) (half m) i j).1 (s, ms, q)))
+  not_seen : (before : List J) (i j : J) → seen_in before j ≡ false → Mem i before → Off (acts_on μ (half m)) (full (group m)) i j
+  unfolding factor_acts
+  not_seen before i j e mi s ms q = subst T e (some_by before _ i mi ((orbit_iff (group m) (half m) i j).1 (s, ms, q)))
 
-  pub unseen : (before : List J) (j : J) → ((i : J) → Mem i before → Off (actsOn μ (half m)) (full (group m)) i j) → seenIn before j ≡ false
-  unfolding factorActs
-  unseen before j f = same_test (seenIn before j) false (λ t. let r = some_at before _ t in let o = (orbit-iff (group m) (half m) r.0 j).0 r.2 in f r.0 r.1 o.0 o.1 o.2) (λ t. absurd t)
+  pub unseen : (before : List J) (j : J) → ((i : J) → Mem i before → Off (acts_on μ (half m)) (full (group m)) i j) → seen_in before j ≡ false
+  unfolding factor_acts
+  unseen before j f = same_test (seen_in before j) false (λ t. let r = some_at before _ t in let o = (orbit_iff (group m) (half m) r.0 j).0 r.2 in f r.0 r.1 o.0 o.1 o.2) (λ t. absurd t)
 
-  pub judged-different : (before : List J) (cs : List FileRecord) → judged μ m.header.group m.header.lengths before cs ≡ taken → JudgedTaken before cs
-  unfolding judged Sound OffAll factorActs
-  judged-different before [] e = record { below = λ c i. none i; different = tt; off = λ i mi. tt }
-  judged-different before (c ∷ cs) e =
-      let q = taken-first μ m.header.group m.header.lengths before c cs e in
-      let t = passed (judgeTests μ m.header.group m.header.lengths before (indexIn c) c.a c.b) tt q.0 in
+  pub judged_different : (before : List J) (cs : List FileRecord) → judged μ m.header.group m.header.lengths before cs ≡ taken → JudgedTaken before cs
+  unfolding judged Sound OffAll factor_acts
+  judged_different before [] e = record { below = λ c i. none i; different = tt; off = λ i mi. tt }
+  judged_different before (c ∷ cs) e =
+      let q = taken_first μ m.header.group m.header.lengths before c cs e in
+      let t = passed (judge_tests μ m.header.group m.header.lengths before (index_in c) c.a c.b) tt q.0 in
       let b = both (ltb c.a (prime μ)) (ltb c.b (prime μ)) (not-false _ t.1.0) in
-      let r = judged-different (indexIn c ∷ before) cs q.1 in
+      let r = judged_different (index_in c ∷ before) cs q.1 in
       record {
-        below = mem-cons (λ c. (c.a < prime μ) × (c.b < prime μ)) (ltb-true _ _ b.0, ltb-true _ _ b.1) r.below;
-        different = ((within-inside m sound (indexIn c) (not-false _ t.0), (agrees-iff (group m) (half m) (halves-positive m sound) μ (indexIn c) (value μ c.a c.b)).0 (not-false _ t.1.1.0)), r.off (indexIn c) first_of, r.different);
-        off = λ i mi. (not_seen before i (indexIn c) t.1.1.1.0 mi, r.off i (later mi));
+        below = mem_cons (λ c. (c.a < prime μ) × (c.b < prime μ)) (ltb-true _ _ b.0, ltb-true _ _ b.1) r.below;
+        different = ((within_inside m sound (index_in c) (not-false _ t.0), (agrees_iff (group m) (half m) (halves_positive m sound) μ (index_in c) (value μ c.a c.b)).0 (not-false _ t.1.1.0)), r.off (index_in c) first_of, r.different);
+        off = λ i mi. (not_seen before i (index_in c) t.1.1.1.0 mi, r.off i (later mi));
       }
 
-  pub different-judged : (before : List J) (cs : List FileRecord) → BelowPrime μ cs → DifferentIn m cs → OffBefore m before cs → judged μ m.header.group m.header.lengths before cs ≡ taken
-  unfolding judged Sound OffAll factorActs
-  different-judged before [] small o off = refl
-  different-judged before (c ∷ cs) small o off =
-      ap (λ n. accepted n (judged μ m.header.group m.header.lengths (indexIn c ∷ before) cs) (λ k. refusedAt k (length before))) (sym passes)
-      ∙ different-judged (indexIn c ∷ before) cs (λ d i. small d (later i)) o.2 (mem-cons (λ i. OffAll (actsOn μ (half m)) (full (group m)) i (map (entry μ) cs)) o.1 (λ i mi. (off i mi).1))
+  pub different_judged : (before : List J) (cs : List FileRecord) → BelowPrime μ cs → DifferentIn m cs → OffBefore m before cs → judged μ m.header.group m.header.lengths before cs ≡ taken
+  unfolding judged Sound OffAll factor_acts
+  different_judged before [] small o off = refl
+  different_judged before (c ∷ cs) small o off =
+      ap (λ n. accepted n (judged μ m.header.group m.header.lengths (index_in c ∷ before) cs) (λ k. refused_at k (length before))) (sym passes)
+      ∙ different_judged (index_in c ∷ before) cs (λ d i. small d (later i)) o.2 (mem_cons (λ i. OffAll (acts_on μ (half m)) (full (group m)) i (map (entry μ) cs)) o.1 (λ i mi. (off i mi).1))
     where
       below : (ltb c.a (prime μ) && ltb c.b (prime μ)) ≡ true
       below =
@@ -82,10 +82,10 @@ module _ {μ : ℕ} (m : Model μ) (sound : LawfulModel m) where
           let v = lt-ltb c.b (prime μ) (small c first_of).1 in
           λ i. u i && v i
 
-      passes : 0 ≡ first (judgeTests μ m.header.group m.header.lengths before (indexIn c) c.a c.b)
+      passes : 0 ≡ first (judge_tests μ m.header.group m.header.lengths before (index_in c) c.a c.b)
       passes =
-          pass 10 _ (not_t _ (inside-within m sound (indexIn c) o.0.0))
+          pass 10 _ (not_t _ (inside_within m sound (index_in c) o.0.0))
           (pass 7 _ (not_t _ below)
-          (pass 12 _ (not_t _ ((agrees-iff (group m) (half m) (halves-positive m sound) μ (indexIn c) (value μ c.a c.b)).1 o.0.1))
-          (pass 24 _ (unseen before (indexIn c) (λ i mi. (off i mi).0))
+          (pass 12 _ (not_t _ ((agrees_iff (group m) (half m) (halves_positive m sound) μ (index_in c) (value μ c.a c.b)).1 o.0.1))
+          (pass 24 _ (unseen before (index_in c) (λ i mi. (off i mi).0))
           no_test)))

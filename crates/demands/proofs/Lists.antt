@@ -4,39 +4,39 @@ use mathlib.Core.List.{List, [], ◌∷◌}
 use Prim.Native.Nat.{ℕ, zero, suc}
 use Rattle.refusals.specs.Refusals.{first, accepted}
 use Rattle.job.specs.Job.{Outcome}
-use Rattle.model.specs.Model.{Model, Call, recording, synthesis, analysis, readPoint, readFactor, readMapPower, readFactorPower, modelTests, modelNext, modelSaid, modelAfter, modelVolume, modelJob}
-use Rattle.demands.specs.Demands.{answering, run, modelAnswers, modelEnd, modelRan}
+use Rattle.model.specs.Model.{Model, Call, recording, synthesis, analysis, read_point, read_factor, read_map_power, read_factor_power, model_tests, model_next, model_said, model_after, model_volume, model_job}
+use Rattle.demands.specs.Demands.{answering, run, model_answers, model_end, model_ran}
 use Rattle.model.proofs.Sound.{LawfulModel}
-use Rattle.model.proofs.OneCall.{one-call}
+use Rattle.model.proofs.OneCall.{one_call}
 
-pub every-list : {μ : ℕ} (m : Model μ) → LawfulModel m → (l : List Call) → run (modelJob m) (modelVolume m) l ≡ modelRan m l
-unfolding run modelAnswers modelEnd
-every-list m sound [] = refl
-every-list m sound (c ∷ l) =
-    let r = one-call m sound c in
-    ap (λ (o : Outcome). answering o.answer (run o.job o.volume l)) r.0 ∙ ap (answering (modelSaid m c)) (every-list (modelAfter m c) r.1 l)
+pub every_list : {μ : ℕ} (m : Model μ) → LawfulModel m → (l : List Call) → run (model_job m) (model_volume m) l ≡ model_ran m l
+unfolding run model_answers model_end
+every_list m sound [] = refl
+every_list m sound (c ∷ l) =
+    let r = one_call m sound c in
+    ap (λ (o : Outcome). answering o.answer (run o.job o.volume l)) r.0 ∙ ap (answering (model_said m c)) (every_list (model_after m c) r.1 l)
 
-pub end-sound : {μ : ℕ} (m : Model μ) → LawfulModel m → (l : List Call) → LawfulModel (modelEnd m l)
-unfolding modelEnd
-end-sound m sound [] = sound
-end-sound m sound (c ∷ l) = end-sound (modelAfter m c) (one-call m sound c).1 l
+pub end_sound : {μ : ℕ} (m : Model μ) → LawfulModel m → (l : List Call) → LawfulModel (model_end m l)
+unfolding model_end
+end_sound m sound [] = sound
+end_sound m sound (c ∷ l) = end_sound (model_after m c) (one_call m sound c).1 l
 
 -- the header is the opening's after every list
-after-header : {μ : ℕ} (m : Model μ) (c : Call) → (modelAfter m c).header ≡ m.header
-unfolding modelAfter
-after-header m c = go (first (modelTests m c)) c
+after_header : {μ : ℕ} (m : Model μ) (c : Call) → (model_after m c).header ≡ m.header
+unfolding model_after
+after_header m c = go (first (model_tests m c)) c
   where
-    go : (n : ℕ) (c : Call) → (accepted n (modelNext m c) (λ n. m)).header ≡ m.header
+    go : (n : ℕ) (c : Call) → (accepted n (model_next m c) (λ n. m)).header ≡ m.header
     go zero (recording k x y) = refl
     go zero (synthesis scratch) = refl
     go zero (analysis scratch) = refl
-    go zero (readPoint x) = refl
-    go zero (readFactor k) = refl
-    go zero readMapPower = refl
-    go zero readFactorPower = refl
+    go zero (read_point x) = refl
+    go zero (read_factor k) = refl
+    go zero read_map_power = refl
+    go zero read_factor_power = refl
     go (suc n) c = refl
 
-pub end-header : {μ : ℕ} (m : Model μ) (l : List Call) → (modelEnd m l).header ≡ m.header
-unfolding modelEnd
-end-header m [] = refl
-end-header m (c ∷ l) = end-header (modelAfter m c) l ∙ after-header m c
+pub end_header : {μ : ℕ} (m : Model μ) (l : List Call) → (model_end m l).header ≡ m.header
+unfolding model_end
+end_header m [] = refl
+end_header m (c ∷ l) = end_header (model_after m c) l ∙ after_header m c

@@ -1,9 +1,9 @@
 -- The paper's large grids, which are not starred: how many numbers their volumes have, and whether an opening takes a
 -- volume of that many.
 use Rattle.std.specs.Prelude.{◌≡◌, List, [], ◌∷◌, ℕ, length, true}
-use Rattle.numbers.specs.Value.{isModulus}
+use Rattle.numbers.specs.Value.{is_modulus}
 use Rattle.refusals.specs.Refusals.{accepted}
-use Rattle.job.specs.Job.{Header, needed, job_of, collecting, opened, notOpened, openStep}
+use Rattle.job.specs.Job.{Header, needed, job_of, collecting, opened, not_opened, open_step}
 
 -- three axes of one length and one factor list; the number of the refusal, 0 for none
 pub record Grid : Type 0 where
@@ -24,8 +24,8 @@ grids =
     row 1 288 (4 ∷ 4 ∷ 3 ∷ 3 ∷ []) 12026880 0 ∷
     []
 
-abbrev pub headerOf : Grid → Header
-headerOf x =
+abbrev pub header_of : Grid → Header
+header_of x =
     record {
       group = x.group;
       lengths = (x.length, x.length, x.length);
@@ -37,13 +37,13 @@ headerOf x =
 -- under either modulus, whatever the volume of that many numbers holds
 abbrev pub Shown : Grid → Type 0
 Shown x =
-    (needed (headerOf x) ≡ x.numbers)
+    (needed (header_of x) ≡ x.numbers)
     ×
-    ((m : ℕ) → isModulus m ≡ true →
+    ((m : ℕ) → is_modulus m ≡ true →
     (v : List ℕ) →
     length v ≡ x.numbers →
-    (openStep m (headerOf x) 0 v).answer
-    ≡ accepted x.refusal (opened (job_of m (headerOf x) collecting)) (λ n. notOpened n 0))
+    (open_step m (header_of x) 0 v).answer
+    ≡ accepted x.refusal (opened (job_of m (header_of x) collecting)) (λ n. not_opened n 0))
 
 abbrev pub AllShown : List Grid → Type 0
 AllShown [] = Unit

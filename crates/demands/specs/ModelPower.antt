@@ -4,29 +4,29 @@
 use Rattle.algebra.specs.Prelude.{◌≡◌, ℕ, ◌*◌, ◌%◌, List}
 use Rattle.algebra.specs.ring.Ring.{Ops}
 use Rattle.numbers.specs.Value.{prime, Value, field, conj}
-use Rattle.power.specs.Power.{overCell}
+use Rattle.power.specs.Power.{over_cell}
 use Rattle.job.specs.declared.Job.{Job}
-use Rattle.model.specs.Model.{Model, half, factorOf, densityOf, mapPowerOf, factorPowerOf, Call}
-use Rattle.demands.specs.Demands.{Start, Started, modelEnd}
+use Rattle.model.specs.Model.{Model, half, factor_of, density_of, map_power_of, factor_power_of, Call}
+use Rattle.demands.specs.Demands.{Start, Started, model_end}
 
 -- N1 N2 N3
 abbrev pub points_of : {μ : ℕ} → Model μ → ℕ
 points_of m = m.header.lengths.0 * m.header.lengths.1 * m.header.lengths.2
 
 -- the two sums
-abbrev pub mapSquares : {μ : ℕ} → Model μ → Value μ
-mapSquares {μ} m = overCell μ (half m) (λ x y z. (field μ).mul (densityOf m (x, y, z)) (densityOf m (x, y, z)))
+abbrev pub map_squares : {μ : ℕ} → Model μ → Value μ
+map_squares {μ} m = over_cell μ (half m) (λ x y z. (field μ).mul (density_of m (x, y, z)) (density_of m (x, y, z)))
 
-abbrev pub factorSquares : {μ : ℕ} → Model μ → Value μ
-factorSquares {μ} m =
-    overCell μ (half m) (λ h k l. (field μ).mul (factorOf m (h, k, l)) (conj μ (factorOf m (h, k, l))))
+abbrev pub factor_squares : {μ : ℕ} → Model μ → Value μ
+factor_squares {μ} m =
+    over_cell μ (half m) (λ h k l. (field μ).mul (factor_of m (h, k, l)) (conj μ (factor_of m (h, k, l))))
 
 pub record PowerOf {μ : ℕ} (m : Model μ) : Type 0 where
-  pub map-real : (mapSquares m).1.val ≡ 0
-  pub factors-real : (factorSquares m).1.val ≡ 0
-  pub kept : mapPowerOf m ≡ (points_of m * factorPowerOf m) % prime μ
+  pub map_real : (map_squares m).1.val ≡ 0
+  pub factors_real : (factor_squares m).1.val ≡ 0
+  pub kept : map_power_of m ≡ (points_of m * factor_power_of m) % prime μ
 
 pub record ModelPower : Type 0 where
   pub after :
       (μ : ℕ) (s : Start μ) (j : Job) (v : List ℕ) (m : Model μ) → Started s j v m →
-      (l : List Call) → PowerOf (modelEnd m l)
+      (l : List Call) → PowerOf (model_end m l)

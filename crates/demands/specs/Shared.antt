@@ -6,9 +6,9 @@ use Rattle.job.specs.Job.{Call, synthesis, Outcome, done, step}
 use Rattle.model.specs.Model.{Model}
 use Rattle.scheduler.specs.declared.Scheduler.{Scheduler}
 use Rattle.scheduler.specs.Scheduler as Lanes
-use Rattle.scheduler.specs.Scheduler.{enterStep, turnStep}
+use Rattle.scheduler.specs.Scheduler.{enter_step, turn_step}
 use Rattle.scheduler.specs.Schedules.{Follows}
-use Rattle.demands.specs.Demands.{Start, Started, Ran, answering, run, modelRan}
+use Rattle.demands.specs.Demands.{Start, Started, Ran, answering, run, model_ran}
 
 -- The calls of a shared synthesis: an entering of a lane, lent a scratch, on the scheduler before it; the calls on the
 -- scheduler between, whoever's they are; and the turn that finishes the lane, on the scheduler after them, with the
@@ -20,7 +20,7 @@ pub record Sharing : Type 0 where
   pub between : List Lanes.Call
   pub after : Scheduler
   pub volume : List ℕ
-  pub last-scratch : List ℕ
+  pub last_scratch : List ℕ
 
 -- an item of a list: a call, or a shared synthesis
 pub data Item : Type 0 where
@@ -29,10 +29,10 @@ pub data Item : Type 0 where
 
 -- the entering and the finishing turn
 abbrev pub entered : Job → List ℕ → Sharing → Lanes.Outcome
-entered j v x = enterStep x.before x.lane j v x.scratch
+entered j v x = enter_step x.before x.lane j v x.scratch
 
 abbrev pub finishing : Sharing → Lanes.Outcome
-finishing x = turnStep x.after x.volume x.last-scratch
+finishing x = turn_step x.after x.volume x.last_scratch
 
 -- the job that a finishing turn gives
 abbrev pub given : Lanes.Said → Job → Job
@@ -44,9 +44,9 @@ given Lanes.idle j = j
 given (Lanes.refused n) j = j
 
 -- what an item answers and leaves
-abbrev pub itemStep : Job → List ℕ → Item → Outcome
-itemStep j v (calling c) = step j v c
-itemStep j v (sharing x) =
+abbrev pub item_step : Job → List ℕ → Item → Outcome
+item_step j v (calling c) = step j v c
+item_step j v (sharing x) =
     record { answer = done; job = given (finishing x).answer j; volume = (finishing x).volume }
 
 -- A shared synthesis is finished: the entering was accepted; the lane stayed, and each of its turns was lent the volume
@@ -64,20 +64,20 @@ Finished j v (calling c) = Unit
 Finished j v (sharing x) = SharingFinished j v x
 
 -- a list of items, each handed the job and the volume that the one before left
-unfoldable pub runItems : Job → List ℕ → List Item → Ran
-runItems j v [] = record { answers = []; job = j; volume = v }
-runItems j v (x ∷ l) =
-    let o = itemStep j v x in
-    answering o.answer (runItems o.job o.volume l)
+unfoldable pub run_items : Job → List ℕ → List Item → Ran
+run_items j v [] = record { answers = []; job = j; volume = v }
+run_items j v (x ∷ l) =
+    let o = item_step j v x in
+    answering o.answer (run_items o.job o.volume l)
 
 unfoldable pub AllFinished : Job → List ℕ → List Item → Type 0
 AllFinished j v [] = Unit
-AllFinished j v (x ∷ l) = Finished j v x × AllFinished (itemStep j v x).job (itemStep j v x).volume l
+AllFinished j v (x ∷ l) = Finished j v x × AllFinished (item_step j v x).job (item_step j v x).volume l
 
 -- the call that an item stands for
-abbrev pub asCall : Item → Call
-asCall (calling c) = c
-asCall (sharing x) = synthesis x.scratch
+abbrev pub as_call : Item → Call
+as_call (calling c) = c
+as_call (sharing x) = synthesis x.scratch
 
 -- So finished, an entering and its turns are one synthesis: a list of items answers and leaves what the list of calls
 -- does, and so what the model says; every other statement about lists of calls holds of it.
@@ -85,9 +85,9 @@ pub record SharedSynthesis : Type 0 where
   pub same :
       (j : Job) (v : List ℕ) (l : List Item)
       → AllFinished j v l
-      → runItems j v l ≡ run j v (map asCall l)
+      → run_items j v l ≡ run j v (map as_call l)
   pub runs :
       (μ : ℕ) (s : Start μ) (j : Job) (v : List ℕ) (m : Model μ) (l : List Item)
       → Started s j v m
       → AllFinished j v l
-      → runItems j v l ≡ modelRan m (map asCall l)
+      → run_items j v l ≡ model_ran m (map as_call l)

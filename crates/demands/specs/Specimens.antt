@@ -6,7 +6,7 @@ use Rattle.numbers.specs.Value.{prime}
 use Rattle.line.specs.Specimens as Lines
 use Rattle.job.specs.declared.Job.{Job}
 use Rattle.job.specs.declared.Reflection.{Reflection}
-use Rattle.job.specs.Job.{Header, job_of, collecting, opened, openStep, done, recordStep, unchanged}
+use Rattle.job.specs.Job.{Header, job_of, collecting, opened, open_step, done, record_step, unchanged}
 
 pub record Specimen : Type 0 where
   pub group : ℕ
@@ -29,10 +29,10 @@ records =
 abbrev pub Shown : Specimen → Type 0
 Shown x = (m : ℕ) (h : Header) (lent v : List ℕ) (j : Job) (a b : ℕ) →
     h.group ≡ x.group →
-    openStep m h 0 lent ≡ record { answer = opened j; volume = v } →
+    open_step m h 0 lent ≡ record { answer = opened j; volume = v } →
     a < prime m → b < prime m →
     ((a ≡ 0) × (b ≡ 0) → ⊥) →
-    recordStep j x.at a b v ≡ unchanged j v x.number
+    record_step j x.at a b v ≡ unchanged j v x.number
 
 -- A record that a volume of zeros takes under the first prime, and the numbers that it leaves.
 pub record Taken : Type 0 where
@@ -49,8 +49,8 @@ small = record { group = 4; lengths = (4, 2, 2); list1 = 2 ∷ []; list2 = []; l
 -- Both ends of the line of (1, 1), which is stored times i, as is that of (3, 1). At l = 0 the factor is imaginary: 5 i
 -- is stored as -5, and the implied -5 i at (3, 1, 0) as 5. At l = A, which is odd, it is real: 5 is stored as 5 i, by
 -- its imaginary part, the second number of the pair.
-abbrev pub takenRecords : List Taken
-takenRecords =
+abbrev pub taken_records : List Taken
+taken_records =
     record {
       header = small;
       at = record { 0 = 1; 1 = 1; 2 = 0 };
@@ -72,9 +72,9 @@ abbrev pub ShownTaken : Taken → Type 0
 ShownTaken x =
     let zeros : List ℕ = replicate (length x.left) 0 in
     let j = job_of 1 x.header collecting in
-    (openStep 1 x.header 0 zeros ≡ record { answer = opened j; volume = zeros }) ×
-    (recordStep j x.at x.a x.b zeros ≡ record { answer = done; job = j; volume = x.left }) ×
-    (recordStep j x.at x.b x.a zeros ≡ unchanged j zeros 12)
+    (open_step 1 x.header 0 zeros ≡ record { answer = opened j; volume = zeros }) ×
+    (record_step j x.at x.a x.b zeros ≡ record { answer = done; job = j; volume = x.left }) ×
+    (record_step j x.at x.b x.a zeros ≡ unchanged j zeros 12)
 
 -- the whole table
 pub data Starred : Type 0 where
@@ -83,7 +83,7 @@ pub data Starred : Type 0 where
   taken : Taken → Starred
 
 abbrev pub starred : List Starred
-starred = map transformed Lines.specimens ++ (map recorded records ++ map taken takenRecords)
+starred = map transformed Lines.specimens ++ (map recorded records ++ map taken taken_records)
 
 abbrev pub Holds : Starred → Type 0
 Holds (transformed x) = Lines.Shown x

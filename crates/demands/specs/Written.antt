@@ -8,12 +8,12 @@ use Rattle.algebra.specs.orbits.Orbit.{Mem}
 use Rattle.job.specs.declared.Job.{Job}
 use Rattle.numbers.specs.Value.{value}
 use Rattle.refusals.specs.Refusals.{first}
-use Rattle.job.specs.Job.{needed, collecting, factorsHeld, withState, headerOf, validJob, opened, openStep, index}
+use Rattle.job.specs.Job.{needed, collecting, factors_held, with_state, header_of, valid_job, opened, open_step, index}
 use Rattle.file_format.specs.declared.FileRecord.{FileRecord}
-use Rattle.file_format.specs.Format.{versionOf, fileOf}
-pub use Rattle.factor_file.specs.File.{indexIn}
-use Rattle.factor_file.specs.File.{recordCount, recordsIn, shapeTests, modulusIn, headerIn, fileStep, writeStep}
-use Rattle.model.specs.Model.{Model, densityOf, zeroModel}
+use Rattle.file_format.specs.Format.{version_of, file_of}
+pub use Rattle.factor_file.specs.File.{index_in}
+use Rattle.factor_file.specs.File.{record_count, records_in, shape_tests, modulus_in, header_in, file_step, write_step}
+use Rattle.model.specs.Model.{Model, density_of, zero_model}
 use Rattle.output.specs.Output.{written}
 use Rattle.factor_file.specs.RecordOrder.{Rising, LowestOfOrbit}
 use Rattle.demands.specs.Demands.{reading, Started, Reordered}
@@ -21,7 +21,7 @@ use Rattle.demands.specs.Demands.{reading, Started, Reordered}
 -- The writer puts a file into an output: it answers the count of the file's bytes, they stand first, and the places
 -- beyond them are as they were.
 pub record Writes (j : Job) (v output file : List ℕ) : Type 0 where
-  pub outcome : writeStep j v output
+  pub outcome : write_step j v output
       ≡ record { answer = written (length file); output = file ++ drop (length file) output }
 
 -- The file that was written, read into any volume as long as the one that it was written from, gives the job and its
@@ -29,29 +29,29 @@ pub record Writes (j : Job) (v output file : List ℕ) : Type 0 where
 pub record ReadsBack : Type 0 where
   -- a call that is not refused has put a file into its output
   pub writes : (j : Job) (v output : List ℕ) (n : ℕ) →
-      (writeStep j v output).answer ≡ written n →
-      Writes j v output (take n (writeStep j v output).output)
-  pub reads-back : (j : Job) (v output file u : List ℕ) → Writes j v output file → length u ≡ length v →
-      fileStep file u ≡ record { answer = opened (withState j collecting); volume = v }
+      (write_step j v output).answer ≡ written n →
+      Writes j v output (take n (write_step j v output).output)
+  pub reads_back : (j : Job) (v output file u : List ℕ) → Writes j v output file → length u ≡ length v →
+      file_step file u ≡ record { answer = opened (with_state j collecting); volume = v }
 
 -- The records of a written file rise by h, then k, then l; and no image of a record's index comes before it.
 pub record FileRises : Type 0 where
-  pub rise : (j : Job) (v output file : List ℕ) → Writes j v output file → Rising (map indexIn (recordsIn file))
+  pub rise : (j : Job) (v output file : List ℕ) → Writes j v output file → Rising (map index_in (records_in file))
   pub lowest : (j : Job) (v output file : List ℕ) →
       Writes j v output file →
       (c : FileRecord) →
-      Mem c (recordsIn file) →
-      LowestOfOrbit j (indexIn c)
+      Mem c (records_in file) →
+      LowestOfOrbit j (index_in c)
 
 -- the two states with factors
 abbrev pub WithFactors : Job → Type 0
-WithFactors j = (j.state ≡ collecting) ⊎ (j.state ≡ factorsHeld)
+WithFactors j = (j.state ≡ collecting) ⊎ (j.state ≡ factors_held)
 
 -- Equal moduli, equal headers (group, lengths and factor lists) and equal volumes give equal files, whatever the
 -- outputs held and whichever the state with factors.
 pub record EqualFiles : Type 0 where
   pub same : (j j' : Job) (v output output' file : List ℕ) →
-      j.modulus ≡ j'.modulus → headerOf j ≡ headerOf j' → WithFactors j' →
+      j.modulus ≡ j'.modulus → header_of j ≡ header_of j' → WithFactors j' →
       length file ≤ length output' →
       Writes j v output file → Writes j' v output' file
 
@@ -61,38 +61,38 @@ pub record WrittenTwice : Type 0 where
   pub again : (j i : Job) (v w u output output' file : List ℕ) →
       Writes j v output file → length u ≡ length v →
       length file ≤ length output' →
-      fileStep file u ≡ record { answer = opened i; volume = w } → Writes i w output' file
+      file_step file u ≡ record { answer = opened i; volume = w } → Writes i w output' file
   -- two accepted files of the same records, in whatever order, are written back alike
   pub reordered : (j j' : Job) (v v' w w' output output' file file' back : List ℕ) →
       Reordered file file' →
-      fileStep file v ≡ record { answer = opened j; volume = w } →
-      fileStep file' v' ≡ record { answer = opened j'; volume = w' } →
+      file_step file v ≡ record { answer = opened j; volume = w } →
+      file_step file' v' ≡ record { answer = opened j'; volume = w' } →
       length back ≤ length output' → Writes j w output back → Writes j' w' output' back
 
 -- A file of no records stands for the cell whose factors are all zero.
 pub record EmptyFiles : Type 0 where
   -- where its shape is sound, it does what an opening of its header with kind 0 does, refused or not
   pub opens : (file v : List ℕ) →
-      0 ≡ first (shapeTests file) →
-      recordCount file ≡ 0 →
-      fileStep file v ≡ openStep (modulusIn file) (headerIn file) 0 v
+      0 ≡ first (shape_tests file) →
+      record_count file ≡ 0 →
+      file_step file v ≡ open_step (modulus_in file) (header_in file) 0 v
   -- where it is accepted, F is zero everywhere, and so is the volume
-  pub zero : (file v : List ℕ) (j : Job) (w : List ℕ) (m : Model (modulusIn file)) →
+  pub zero : (file v : List ℕ) (j : Job) (w : List ℕ) (m : Model (modulus_in file)) →
       Started (reading file v refl) j w m →
-      recordCount file ≡ 0 →
-      (m ≡ zeroModel (modulusIn file) (headerIn file)) × (w ≡ replicate (length v) 0)
+      record_count file ≡ 0 →
+      (m ≡ zero_model (modulus_in file) (header_in file)) × (w ≡ replicate (length v) 0)
   -- and so is its map, at every point
-  pub map : (file v : List ℕ) (j : Job) (w : List ℕ) (m : Model (modulusIn file)) →
+  pub map : (file v : List ℕ) (j : Job) (w : List ℕ) (m : Model (modulus_in file)) →
       Started (reading file v refl) j w m →
-      recordCount file ≡ 0 →
+      record_count file ≡ 0 →
       (x : J) →
-      densityOf m x ≡ value (modulusIn file) 0 0
+      density_of m x ≡ value (modulus_in file) 0 0
   -- the writer gives it for a volume of zeros ..
   pub written : (j : Job) (output : List ℕ) →
-      validJob j ≡ true → WithFactors j →
-      let file = fileOf (versionOf j.modulus) j.modulus (headerOf j) [] in
-      length file ≤ length output → Writes j (replicate (needed (headerOf j)) 0) output file
+      valid_job j ≡ true → WithFactors j →
+      let file = file_of (version_of j.modulus) j.modulus (header_of j) [] in
+      length file ≤ length output → Writes j (replicate (needed (header_of j)) 0) output file
   -- .. and for no other
   pub only : (j : Job) (v output file : List ℕ) →
-      Writes j v output file → recordCount file ≡ 0 →
+      Writes j v output file → record_count file ≡ 0 →
       v ≡ replicate (length v) 0

@@ -5,30 +5,30 @@ use Prim.Native.Nat.{ℕ}
 use Rattle.signed.specs.Integers.{ℤ}
 use Rattle.line.specs.declared.LineAnswer.{LineAnswer}
 use Rattle.line.specs.Line.{LineOutcome}
-use Rattle.line.specs.Answers.{saidLine, lineOutcome}
+use Rattle.line.specs.Answers.{said_line, line_outcome}
 use Rattle.job.specs.declared.Answered.{Answered}
 use Rattle.job.specs.declared.OpenAnswer.{OpenAnswer}
 use Rattle.job.specs.declared.PointAnswer.{PointAnswer}
 use Rattle.job.specs.declared.FactorAnswer.{FactorAnswer}
 use Rattle.job.specs.declared.PowerAnswer.{PowerAnswer}
 use Rattle.job.specs.Job.{OpenOutcome, Said, Outcome, Worked}
-use Rattle.job.specs.Answers.{said, saidOpen, saidPoint, saidFactor, saidPower, replyOf, openOutcome, outcome, worked}
+use Rattle.job.specs.Answers.{said, said_open, said_point, said_factor, said_power, reply_of, open_outcome, outcome, worked}
 use Rattle.factor_file.specs.declared.FileAnswer.{FileAnswer}
 use Rattle.faults.specs.declared.Faults.{Faults}
-use Rattle.faults.specs.Faults.{saidFaults}
-use Rattle.factor_file.specs.Answers.{saidFile, fileOutcome, saidHeader, saidSize}
+use Rattle.faults.specs.Faults.{said_faults}
+use Rattle.factor_file.specs.Answers.{said_file, file_outcome, said_header, said_size}
 use Rattle.factor_file.specs.declared.file_header.HeaderAnswer.{HeaderAnswer}
 use Rattle.factor_file.specs.declared.writer.SizeAnswer.{SizeAnswer}
 use Rattle.factor_file.specs.File.{Sized}
 use Rattle.factor_file.specs.HeaderRead.{HeaderSaid}
 use Rattle.combined.specs.declared.reading.CountAnswer.{CountAnswer}
 use Rattle.combined.specs.Reading.{Counted}
-use Rattle.combined.specs.Answers.{saidCount}
+use Rattle.combined.specs.Answers.{said_count}
 use Rattle.exported.specs.declared.answers.HeaderCoded.{HeaderCoded}
 use Rattle.exported.specs.declared.answers.LengthCoded.{LengthCoded}
 use Rattle.exported.specs.declared.answers.CountCoded.{CountCoded}
-use Rattle.exported.specs.Answers.{headerCoded, lengthCoded, countCoded}
-use Rattle.output.specs.Answers.{saidFill, fillOutcome}
+use Rattle.exported.specs.Answers.{header_coded, length_coded, count_coded}
+use Rattle.output.specs.Answers.{said_fill, fill_outcome}
 use Rattle.output.specs.declared.FillAnswer.{FillAnswer}
 use Rattle.output.specs.Output.{FillOutcome}
 use Rattle.exported.specs.declared.answers.JobCoded.{JobCoded}
@@ -37,91 +37,91 @@ use Rattle.exported.specs.declared.answers.FaultsCoded.{FaultsCoded}
 use Rattle.exported.specs.declared.answers.PointCoded.{PointCoded}
 use Rattle.exported.specs.declared.answers.FactorCoded.{FactorCoded}
 use Rattle.exported.specs.declared.answers.PowerCoded.{PowerCoded}
-use Rattle.exported.specs.Answers.{openingCoded, openCoded, fileAnswerCoded, fileCoded, faultsCoded, recordCoded, workCoded, pointCoded, factorCoded, powerCoded, writingCoded, writeCoded, combineCoded, correlationCoded, lineCoded, windowCoded}
+use Rattle.exported.specs.Answers.{opening_coded, open_coded, file_answer_coded, file_coded, faults_coded, record_coded, work_coded, point_coded, factor_coded, power_coded, writing_coded, write_coded, combine_coded, correlation_coded, line_coded, window_coded}
 use Rattle.exported.specs.declared.answers.WriteCoded.{WriteCoded}
 use Rattle.scheduler.specs.declared.LaneAnswered.{LaneAnswered}
 use Rattle.scheduler.specs.declared.NextAnswer.{NextAnswer}
 use Rattle.scheduler.specs.declared.TurnAnswered.{TurnAnswered}
 use Rattle.scheduler.specs.Scheduler as Lanes
-use Rattle.scheduler.specs.Answers.{saidLane, saidNext, saidTurn, laneOutcome, turnOutcome}
+use Rattle.scheduler.specs.Answers.{said_lane, said_next, said_turn, lane_outcome, turn_outcome}
 use Rattle.exported.specs.declared.lanes.NextCoded.{NextCoded}
 use Rattle.exported.specs.declared.lanes.LaneCoded.{LaneCoded}
 use Rattle.exported.specs.declared.lanes.TurnCoded.{TurnCoded}
-use Rattle.exported.specs.Lanes.{nextCoded, steppedCoded, laneCoded, enterCoded, turnedCoded, turnCoded}
+use Rattle.exported.specs.Lanes.{next_coded, stepped_coded, lane_coded, enter_coded, turned_coded, turn_coded}
 use Rattle.cell.specs.declared.operations.UnitCell.{UnitCell}
 use Rattle.mrc.specs.declared.parameters.CellParameters.{CellParameters}
-use Rattle.mrc.specs.Mrc.{mrcStep}
+use Rattle.mrc.specs.Mrc.{mrc_step}
 use Rattle.combining.specs.Combining.{CombineOutcome}
-use Rattle.combining.specs.Answers.{combineOutcome}
+use Rattle.combining.specs.Answers.{combine_outcome}
 use Rattle.correlation.specs.Correlation.{Buffers, CorrelationOutcome}
-use Rattle.correlation.specs.Answers.{correlationOutcome}
+use Rattle.correlation.specs.Answers.{correlation_outcome}
 use Rattle.sliding_window.specs.Window.{Extremes, WindowOutcome}
-use Rattle.sliding_window.specs.Answers.{windowOutcome}
+use Rattle.sliding_window.specs.Answers.{window_outcome}
 
-pub open-coded : (a : OpenAnswer) (r : JobCoded) (v : List ℕ) (o : OpenOutcome) → r ≡ openingCoded (saidOpen a) → openOutcome a v ≡ o → (r, v) ≡ openCoded o
-open-coded a r v o h e = ap (λ r. (r, v)) h ∙ ap openCoded e
+pub open_coded_lem : (a : OpenAnswer) (r : JobCoded) (v : List ℕ) (o : OpenOutcome) → r ≡ opening_coded (said_open a) → open_outcome a v ≡ o → (r, v) ≡ open_coded o
+open_coded_lem a r v o h e = ap (λ r. (r, v)) h ∙ ap open_coded e
 
-pub file-coded : (a : FileAnswer) (r : FileCoded) (v : List ℕ) (o : OpenOutcome) → r ≡ fileAnswerCoded (saidFile a) → fileOutcome a v ≡ o → (r, v) ≡ fileCoded o
-file-coded a r v o h e = ap (λ r. (r, v)) h ∙ ap fileCoded e
+pub file_coded_lem : (a : FileAnswer) (r : FileCoded) (v : List ℕ) (o : OpenOutcome) → r ≡ file_answer_coded (said_file a) → file_outcome a v ≡ o → (r, v) ≡ file_coded o
+file_coded_lem a r v o h e = ap (λ r. (r, v)) h ∙ ap file_coded e
 
-pub faults-coded : (a : Faults) (r : FaultsCoded) (places : List ℕ) → r ≡ faultsCoded (saidFaults a) → saidFaults a ≡ places → r ≡ faultsCoded places
-faults-coded a r places h e = h ∙ ap faultsCoded e
+pub faults_coded_lem : (a : Faults) (r : FaultsCoded) (places : List ℕ) → r ≡ faults_coded (said_faults a) → said_faults a ≡ places → r ≡ faults_coded places
+faults_coded_lem a r places h e = h ∙ ap faults_coded e
 
-module _ (a : Answered) (r : JobCoded) (h : r ≡ record { number = (replyOf (said a.answer)).number; job = a.job }) (v : List ℕ) where
-  pub record-coded : (o : Outcome) → outcome a v ≡ o → (r, v) ≡ recordCoded o
-  record-coded o e = ap (λ r. (r, v)) h ∙ ap recordCoded e
+module _ (a : Answered) (r : JobCoded) (h : r ≡ record { number = (reply_of (said a.answer)).number; job = a.job }) (v : List ℕ) where
+  pub record_coded_lem : (o : Outcome) → outcome a v ≡ o → (r, v) ≡ record_coded o
+  record_coded_lem o e = ap (λ r. (r, v)) h ∙ ap record_coded e
 
-  pub work-coded : (s : List ℕ) (w : Worked) → worked a v s ≡ w → (r, v, s) ≡ workCoded w
-  work-coded s w e = ap (λ r. (r, v, s)) h ∙ ap workCoded e
+  pub work_coded_lem : (s : List ℕ) (w : Worked) → worked a v s ≡ w → (r, v, s) ≡ work_coded w
+  work_coded_lem s w e = ap (λ r. (r, v, s)) h ∙ ap work_coded e
 
-pub point-coded : (a : PointAnswer) (r : PointCoded) (s : Said) → r ≡ pointCoded (saidPoint a) → saidPoint a ≡ s → r ≡ pointCoded s
-point-coded a r s h e = h ∙ ap pointCoded e
+pub point_coded_lem : (a : PointAnswer) (r : PointCoded) (s : Said) → r ≡ point_coded (said_point a) → said_point a ≡ s → r ≡ point_coded s
+point_coded_lem a r s h e = h ∙ ap point_coded e
 
-pub factor-coded : (a : FactorAnswer) (r : FactorCoded) (s : Said) → r ≡ factorCoded (saidFactor a) → saidFactor a ≡ s → r ≡ factorCoded s
-factor-coded a r s h e = h ∙ ap factorCoded e
+pub factor_coded_lem : (a : FactorAnswer) (r : FactorCoded) (s : Said) → r ≡ factor_coded (said_factor a) → said_factor a ≡ s → r ≡ factor_coded s
+factor_coded_lem a r s h e = h ∙ ap factor_coded e
 
-pub power-coded : (a : PowerAnswer) (r : PowerCoded) (s : Said) → r ≡ powerCoded (saidPower a) → saidPower a ≡ s → r ≡ powerCoded s
-power-coded a r s h e = h ∙ ap powerCoded e
+pub power_coded_lem : (a : PowerAnswer) (r : PowerCoded) (s : Said) → r ≡ power_coded (said_power a) → said_power a ≡ s → r ≡ power_coded s
+power_coded_lem a r s h e = h ∙ ap power_coded e
 
-pub header-coded : (a : HeaderAnswer) (r : HeaderCoded) (s : HeaderSaid) → r ≡ headerCoded (saidHeader a) → saidHeader a ≡ s → r ≡ headerCoded s
-header-coded a r s h e = h ∙ ap headerCoded e
+pub header_coded_lem : (a : HeaderAnswer) (r : HeaderCoded) (s : HeaderSaid) → r ≡ header_coded (said_header a) → said_header a ≡ s → r ≡ header_coded s
+header_coded_lem a r s h e = h ∙ ap header_coded e
 
-pub length-coded : (a : SizeAnswer) (r : LengthCoded) (s : Sized) → r ≡ lengthCoded (saidSize a) → saidSize a ≡ s → r ≡ lengthCoded s
-length-coded a r s h e = h ∙ ap lengthCoded e
+pub length_coded_lem : (a : SizeAnswer) (r : LengthCoded) (s : Sized) → r ≡ length_coded (said_size a) → said_size a ≡ s → r ≡ length_coded s
+length_coded_lem a r s h e = h ∙ ap length_coded e
 
-pub count-coded : (a : CountAnswer) (r : CountCoded) (s : Counted) → r ≡ countCoded (saidCount a) → saidCount a ≡ s → r ≡ countCoded s
-count-coded a r s h e = h ∙ ap countCoded e
+pub count_coded_lem : (a : CountAnswer) (r : CountCoded) (s : Counted) → r ≡ count_coded (said_count a) → said_count a ≡ s → r ≡ count_coded s
+count_coded_lem a r s h e = h ∙ ap count_coded e
 
-pub write-coded : (a : FillAnswer) (r : WriteCoded) (v : List ℕ) (o : FillOutcome) → r ≡ writingCoded (saidFill a) → fillOutcome a v ≡ o → (r, v) ≡ writeCoded o
-write-coded a r v o h e = ap (λ r. (r, v)) h ∙ ap writeCoded e
+pub write_coded_lem : (a : FillAnswer) (r : WriteCoded) (v : List ℕ) (o : FillOutcome) → r ≡ writing_coded (said_fill a) → fill_outcome a v ≡ o → (r, v) ≡ write_coded o
+write_coded_lem a r v o h e = ap (λ r. (r, v)) h ∙ ap write_coded e
 
 -- of a viewer's file, whose unit cell is that of the struct
-pub mrc-coded : (a : FillAnswer) (r : WriteCoded) (v : List ℕ) (cell : UnitCell) (map : List ℤ) (p q : CellParameters) (output : List ℕ) → r ≡ writingCoded (saidFill a) → p ≡ q → fillOutcome a v ≡ mrcStep cell map p output → (r, v) ≡ writeCoded (mrcStep cell map q output)
-mrc-coded a r v cell map p q output h e f = write-coded a r v (mrcStep cell map q output) h (f ∙ ap (λ (x : CellParameters). mrcStep cell map x output) e)
+pub mrc_coded : (a : FillAnswer) (r : WriteCoded) (v : List ℕ) (cell : UnitCell) (map : List ℤ) (p q : CellParameters) (output : List ℕ) → r ≡ writing_coded (said_fill a) → p ≡ q → fill_outcome a v ≡ mrc_step cell map p output → (r, v) ≡ write_coded (mrc_step cell map q output)
+mrc_coded a r v cell map p q output h e f = write_coded_lem a r v (mrc_step cell map q output) h (f ∙ ap (λ (x : CellParameters). mrc_step cell map x output) e)
 
-pub combine-coded : (a : FillAnswer) (r : WriteCoded) (v : List ℤ) (o : CombineOutcome) → r ≡ writingCoded (saidFill a) → combineOutcome a v ≡ o → (r, v) ≡ combineCoded o
-combine-coded a r v o h e = ap (λ r. (r, v)) h ∙ ap combineCoded e
+pub combine_coded_lem : (a : FillAnswer) (r : WriteCoded) (v : List ℤ) (o : CombineOutcome) → r ≡ writing_coded (said_fill a) → combine_outcome a v ≡ o → (r, v) ≡ combine_coded o
+combine_coded_lem a r v o h e = ap (λ r. (r, v)) h ∙ ap combine_coded e
 
-pub correlation-coded : (a : FillAnswer) (r : WriteCoded) (w : Buffers) (o : CorrelationOutcome) → r ≡ writingCoded (saidFill a) → correlationOutcome a w ≡ o → (r, w) ≡ correlationCoded o
-correlation-coded a r w o h e = ap (λ r. (r, w)) h ∙ ap correlationCoded e
+pub correlation_coded_lem : (a : FillAnswer) (r : WriteCoded) (w : Buffers) (o : CorrelationOutcome) → r ≡ writing_coded (said_fill a) → correlation_outcome a w ≡ o → (r, w) ≡ correlation_coded o
+correlation_coded_lem a r w o h e = ap (λ r. (r, w)) h ∙ ap correlation_coded e
 
-pub window-coded : (a : FillAnswer) (r : WriteCoded) (v : Extremes) (o : WindowOutcome) → r ≡ writingCoded (saidFill a) → windowOutcome a v.least v.greatest v.leastAt v.greatestAt ≡ o → (r, v) ≡ windowCoded o
-window-coded a r v o h e = ap (λ r. (r, v)) h ∙ ap windowCoded e
+pub window_coded_lem : (a : FillAnswer) (r : WriteCoded) (v : Extremes) (o : WindowOutcome) → r ≡ writing_coded (said_fill a) → window_outcome a v.least v.greatest v.place_of_least v.place_of_greatest ≡ o → (r, v) ≡ window_coded o
+window_coded_lem a r v o h e = ap (λ r. (r, v)) h ∙ ap window_coded e
 
-pub line-coded : (r : LineAnswer) (n : ℕ) (l s : List ℕ) (o : LineOutcome) → n ≡ saidLine r → lineOutcome r l s ≡ o → (n, l, s) ≡ lineCoded o
-line-coded r n l s o h e = ap (λ n. (n, l, s)) h ∙ ap lineCoded e
+pub line_coded_lem : (r : LineAnswer) (n : ℕ) (l s : List ℕ) (o : LineOutcome) → n ≡ said_line r → line_outcome r l s ≡ o → (n, l, s) ≡ line_coded o
+line_coded_lem r n l s o h e = ap (λ n. (n, l, s)) h ∙ ap line_coded e
 
 -- ---- the same of a scheduler
 
-pub next-coded : (a : NextAnswer) (r : NextCoded) (s : Lanes.Said) → r ≡ nextCoded (saidNext a) → saidNext a ≡ s → r ≡ nextCoded s
-next-coded a r s h e = h ∙ ap nextCoded e
+pub next_coded_lem : (a : NextAnswer) (r : NextCoded) (s : Lanes.Said) → r ≡ next_coded (said_next a) → said_next a ≡ s → r ≡ next_coded s
+next_coded_lem a r s h e = h ∙ ap next_coded e
 
-module _ (a : LaneAnswered) (r : LaneCoded) (h : r ≡ steppedCoded (saidLane a.answer) a.scheduler) (v s : List ℕ) (o : Lanes.Outcome) (e : laneOutcome a v s ≡ o) where
-  pub lane-coded : r ≡ laneCoded o
-  lane-coded = h ∙ ap laneCoded e
+module _ (a : LaneAnswered) (r : LaneCoded) (h : r ≡ stepped_coded (said_lane a.answer) a.scheduler) (v s : List ℕ) (o : Lanes.Outcome) (e : lane_outcome a v s ≡ o) where
+  pub lane_coded_lem : r ≡ lane_coded o
+  lane_coded_lem = h ∙ ap lane_coded e
 
-  pub enter-coded : (r, s) ≡ enterCoded o
-  enter-coded = ap (λ r. (r, s)) h ∙ ap enterCoded e
+  pub enter_coded_lem : (r, s) ≡ enter_coded o
+  enter_coded_lem = ap (λ r. (r, s)) h ∙ ap enter_coded e
 
-pub turn-coded : (a : TurnAnswered) (r : TurnCoded) (v s : List ℕ) (o : Lanes.Outcome) → r ≡ turnedCoded (saidTurn a.answer) a.scheduler → turnOutcome a v s ≡ o → (r, v, s) ≡ turnCoded o
-turn-coded a r v s o h e = ap (λ r. (r, v, s)) h ∙ ap turnCoded e
+pub turn_coded_lem : (a : TurnAnswered) (r : TurnCoded) (v s : List ℕ) (o : Lanes.Outcome) → r ≡ turned_coded (said_turn a.answer) a.scheduler → turn_outcome a v s ≡ o → (r, v, s) ≡ turn_coded o
+turn_coded_lem a r v s o h e = ap (λ r. (r, v, s)) h ∙ ap turn_coded e

@@ -2,15 +2,15 @@
 //
 // Every answer has a number: 0, or the paper's number of the refusal. What only an accepted call gives is zero in a refused one.
 ghost use Rattle.std.specs.Prelude.{◌≡◌};
-ghost use Rattle.job.specs.Answers.{said, saidOpen, saidPoint, saidFactor, saidPower, replyOf};
-ghost use Rattle.combined.specs.Answers.{saidCount};
-ghost use Rattle.factor_file.specs.Answers.{saidFile, saidHeader, saidSize};
-ghost use Rattle.factor_file.specs.HeaderRead.{named, notNamed};
-ghost use Rattle.faults.specs.Faults.{saidFaults};
-ghost use Rattle.output.specs.Answers.{saidFill};
-ghost use Rattle.exported.specs.Answers.{noAxis, noJob, openingCoded, fileAnswerCoded, faultsCoded, pointCoded};
-ghost use Rattle.exported.specs.Answers.{factorCoded, powerCoded, writingCoded};
-ghost use Rattle.exported.specs.Answers.{headerCoded, lengthCoded, countCoded};
+ghost use Rattle.job.specs.Answers.{said, said_open, said_point, said_factor, said_power, reply_of};
+ghost use Rattle.combined.specs.Answers.{said_count};
+ghost use Rattle.factor_file.specs.Answers.{said_file, said_header, said_size};
+ghost use Rattle.factor_file.specs.HeaderRead.{named, not_named};
+ghost use Rattle.faults.specs.Faults.{said_faults};
+ghost use Rattle.output.specs.Answers.{said_fill};
+ghost use Rattle.exported.specs.Answers.{no_axis, no_job, opening_coded, file_answer_coded, faults_coded, point_coded};
+ghost use Rattle.exported.specs.Answers.{factor_coded, power_coded, writing_coded};
+ghost use Rattle.exported.specs.Answers.{header_coded, length_coded, count_coded};
 
 use combined::reading::CountAnswer;
 use factor_file::FileAnswer;
@@ -109,7 +109,7 @@ pub struct CountCoded {
 }
 
 pub fn opening_coded(answer: OpenAnswer) -> JobCoded
-    ensures { result ≡ openingCoded (saidOpen answer) }
+    ensures { result ≡ opening_coded (said_open answer) }
 {
     match answer {
         OpenAnswer::Opened(opened) => JobCoded {
@@ -124,7 +124,7 @@ pub fn opening_coded(answer: OpenAnswer) -> JobCoded
 }
 
 pub fn file_coded(answer: FileAnswer) -> FileCoded
-    ensures { result ≡ fileAnswerCoded (saidFile answer) }
+    ensures { result ≡ file_answer_coded (said_file answer) }
 {
     match answer {
         FileAnswer::Opened(opened) => FileCoded {
@@ -141,7 +141,7 @@ pub fn file_coded(answer: FileAnswer) -> FileCoded
 }
 
 pub fn faults_coded(answer: Faults) -> FaultsCoded
-    ensures { result ≡ faultsCoded (saidFaults answer) }
+    ensures { result ≡ faults_coded (said_faults answer) }
 {
     match answer {
         Faults::NoFault => FaultsCoded {
@@ -164,7 +164,7 @@ pub fn faults_coded(answer: Faults) -> FaultsCoded
 
 // Of a record, a synthesis and an analysis.
 pub fn answered_coded(answered: Answered) -> JobCoded
-    ensures { result ≡ record { number = (replyOf (said answered.answer)).number; job = answered.job } }
+    ensures { result ≡ record { number = (reply_of (said answered.answer)).number; job = answered.job } }
 {
     let answer = answered.answer;
     let next = answered.job;
@@ -175,7 +175,7 @@ pub fn answered_coded(answered: Answered) -> JobCoded
 }
 
 pub fn point_coded(answer: PointAnswer) -> PointCoded
-    ensures { result ≡ pointCoded (saidPoint answer) }
+    ensures { result ≡ point_coded (said_point answer) }
 {
     match answer {
         PointAnswer::Density(density) => PointCoded { number: 0, density },
@@ -187,7 +187,7 @@ pub fn point_coded(answer: PointAnswer) -> PointCoded
 }
 
 pub fn factor_coded(answer: FactorAnswer) -> FactorCoded
-    ensures { result ≡ factorCoded (saidFactor answer) }
+    ensures { result ≡ factor_coded (said_factor answer) }
 {
     match answer {
         FactorAnswer::Factor(a, b) => FactorCoded { number: 0, a, b },
@@ -200,7 +200,7 @@ pub fn factor_coded(answer: FactorAnswer) -> FactorCoded
 }
 
 pub fn power_coded(answer: PowerAnswer) -> PowerCoded
-    ensures { result ≡ powerCoded (saidPower answer) }
+    ensures { result ≡ power_coded (said_power answer) }
 {
     match answer {
         PowerAnswer::Power(power) => PowerCoded { number: 0, power },
@@ -212,7 +212,7 @@ pub fn power_coded(answer: PowerAnswer) -> PowerCoded
 }
 
 pub fn filled_coded(answer: FillAnswer) -> WriteCoded
-    ensures { result ≡ writingCoded (saidFill answer) }
+    ensures { result ≡ writing_coded (said_fill answer) }
 {
     match answer {
         FillAnswer::Written(written) => WriteCoded { number: 0, written },
@@ -224,7 +224,7 @@ pub fn filled_coded(answer: FillAnswer) -> WriteCoded
 }
 
 pub fn header_coded(answer: HeaderAnswer) -> HeaderCoded
-    ensures { result ≡ headerCoded (saidHeader answer) }
+    ensures { result ≡ header_coded (said_header answer) }
 {
     match answer {
         HeaderAnswer::Header(found) => header_named(found),
@@ -233,7 +233,7 @@ pub fn header_coded(answer: HeaderAnswer) -> HeaderCoded
 }
 
 fn header_named(found: FileHeader) -> HeaderCoded
-    ensures { result ≡ headerCoded (named found) }
+    ensures { result ≡ header_coded (named found) }
 {
     let a = found.a;
     let b = found.b;
@@ -251,7 +251,7 @@ fn header_named(found: FileHeader) -> HeaderCoded
 }
 
 fn header_refused(number: u32) -> HeaderCoded
-    ensures { result ≡ headerCoded (notNamed number) }
+    ensures { result ≡ header_coded (not_named number) }
 {
     HeaderCoded {
         number,
@@ -266,7 +266,7 @@ fn header_refused(number: u32) -> HeaderCoded
 }
 
 pub fn length_coded(answer: SizeAnswer) -> LengthCoded
-    ensures { result ≡ lengthCoded (saidSize answer) }
+    ensures { result ≡ length_coded (said_size answer) }
 {
     match answer {
         SizeAnswer::Bytes(length) => LengthCoded { number: 0, length },
@@ -278,7 +278,7 @@ pub fn length_coded(answer: SizeAnswer) -> LengthCoded
 }
 
 pub fn count_coded(answer: CountAnswer) -> CountCoded
-    ensures { result ≡ countCoded (saidCount answer) }
+    ensures { result ≡ count_coded (said_count answer) }
 {
     match answer {
         CountAnswer::Count(density) => CountCoded { number: 0, density },
@@ -290,7 +290,7 @@ pub fn count_coded(answer: CountAnswer) -> CountCoded
 }
 
 fn no_axis() -> Axis
-    ensures { result ≡ noAxis }
+    ensures { result ≡ no_axis }
 {
     Axis {
         length: 0,
@@ -299,7 +299,7 @@ fn no_axis() -> Axis
 }
 
 pub fn no_job() -> Job
-    ensures { result ≡ noJob }
+    ensures { result ≡ no_job }
 {
     Job {
         group: 0,

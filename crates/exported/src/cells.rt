@@ -1,6 +1,6 @@
 // The unit cell of a viewer's file, as a program in C hands it in.
 ghost use Rattle.std.specs.Prelude.{◌≡◌};
-ghost use Rattle.exported.specs.Cells.{parametersOf, AngleCounts};
+ghost use Rattle.exported.specs.Cells.{parameters_of, AngleCounts};
 
 use mrc::parameters::CellParameters;
 
@@ -19,7 +19,7 @@ pub struct CellCoded {
 }
 
 pub fn parameters_of(cell: CellCoded) -> CellParameters
-    ensures { result ≡ parametersOf cell }
+    ensures { result ≡ parameters_of cell }
 {
     if cell.angles == 3 {
         CellParameters::Triclinic {

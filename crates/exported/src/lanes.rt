@@ -2,9 +2,9 @@
 //
 // A lane is 1 to 8; 0 stands for none, where no lane runs and in a refused call.
 ghost use Rattle.std.specs.Prelude.{◌≡◌};
-ghost use Rattle.scheduler.specs.Answers.{saidLane, saidNext, saidTurn};
-ghost use Rattle.exported.specs.Answers.{noJob};
-ghost use Rattle.exported.specs.Lanes.{nextCoded, steppedCoded, turnedCoded};
+ghost use Rattle.scheduler.specs.Answers.{said_lane, said_next, said_turn};
+ghost use Rattle.exported.specs.Answers.{no_job};
+ghost use Rattle.exported.specs.Lanes.{next_coded, stepped_coded, turned_coded};
 
 use job::{Job, reply};
 use scheduler::{LaneAnswered, NextAnswer, Scheduler, TurnAnswer, TurnAnswered};
@@ -37,7 +37,7 @@ pub struct TurnCoded {
 }
 
 pub fn next_coded(answer: NextAnswer) -> NextCoded
-    ensures { result ≡ nextCoded (saidNext answer) }
+    ensures { result ≡ next_coded (said_next answer) }
 {
     match answer {
         NextAnswer::Lane(lane) => NextCoded { number: 0, lane },
@@ -50,7 +50,7 @@ pub fn next_coded(answer: NextAnswer) -> NextCoded
 }
 
 pub fn lane_coded(answered: LaneAnswered) -> LaneCoded
-    ensures { result ≡ steppedCoded (saidLane answered.answer) answered.scheduler }
+    ensures { result ≡ stepped_coded (said_lane answered.answer) answered.scheduler }
 {
     let answer = answered.answer;
     let scheduler = answered.scheduler;
@@ -61,7 +61,7 @@ pub fn lane_coded(answered: LaneAnswered) -> LaneCoded
 }
 
 pub fn turn_coded(answered: TurnAnswered) -> TurnCoded
-    ensures { result ≡ turnedCoded (saidTurn answered.answer) answered.scheduler }
+    ensures { result ≡ turned_coded (said_turn answered.answer) answered.scheduler }
 {
     let answer = answered.answer;
     let scheduler = answered.scheduler;
@@ -82,7 +82,7 @@ pub fn turn_coded(answered: TurnAnswered) -> TurnCoded
 // A turn that gives no job.
 fn unfinished(number: u32, lane: u32, scheduler: Scheduler) -> TurnCoded
     ensures { result
-        ≡ record { number = number; lane = lane; finished = 0; job = noJob; scheduler = scheduler } }
+        ≡ record { number = number; lane = lane; finished = 0; job = no_job; scheduler = scheduler } }
 {
     TurnCoded {
         number,

@@ -8,27 +8,27 @@ pub mod cells; // cells.rt: the unit cell of a viewer's file
 pub mod lanes; // lanes.rt: what the calls of a scheduler answer, as numbers
 
 ghost use Rattle.std.specs.Prelude.{◌≡◌};
-ghost use Rattle.line.specs.Line.{lineStep};
-ghost use Rattle.line.specs.Answers.{saidLine};
-ghost use Rattle.job.specs.Job.{openStep, recordStep, synthesisStep, analysisStep, pointStep, factorStep};
-ghost use Rattle.job.specs.Job.{position, mapPowerStep, factorPowerStep};
-ghost use Rattle.factor_file.specs.File.{fileStep, writeStep, lengthStep};
-ghost use Rattle.factor_file.specs.HeaderRead.{headerStep};
-ghost use Rattle.combined.specs.Reading.{countStep};
-ghost use Rattle.factor_lists.specs.Chosen.{listStep};
-ghost use Rattle.faults.specs.Faults.{faultsIn};
-ghost use Rattle.combining.specs.Combining.{combineStep};
-ghost use Rattle.section.specs.Section.{sectionStep};
-ghost use Rattle.mrc.specs.Mrc.{mrcStep};
-ghost use Rattle.correlation.specs.Correlation.{headerOf, correlationStep};
+ghost use Rattle.line.specs.Line.{line_step};
+ghost use Rattle.line.specs.Answers.{said_line};
+ghost use Rattle.job.specs.Job.{open_step, record_step, synthesis_step, analysis_step, point_step, factor_step};
+ghost use Rattle.job.specs.Job.{position, map_power_step, factor_power_step};
+ghost use Rattle.factor_file.specs.File.{file_step, write_step, length_step};
+ghost use Rattle.factor_file.specs.HeaderRead.{header_step};
+ghost use Rattle.combined.specs.Reading.{count_step};
+ghost use Rattle.factor_lists.specs.Chosen.{list_step};
+ghost use Rattle.faults.specs.Faults.{faults_in};
+ghost use Rattle.combining.specs.Combining.{combine_step};
+ghost use Rattle.section.specs.Section.{section_step};
+ghost use Rattle.mrc.specs.Mrc.{mrc_step};
+ghost use Rattle.correlation.specs.Correlation.{header_of, correlation_step};
 ghost use Rattle.correlation.specs.Answers.{buffers};
-ghost use Rattle.sliding_window.specs.Window.{windowStep};
-ghost use Rattle.scheduler.specs.Scheduler.{newScheduler, nextStep, enterStep, turnStep, withdrawStep};
-ghost use Rattle.exported.specs.Answers.{openCoded, fileCoded, faultsCoded, recordCoded, workCoded, pointCoded};
-ghost use Rattle.exported.specs.Answers.{factorCoded, powerCoded, writeCoded, combineCoded, correlationCoded};
-ghost use Rattle.exported.specs.Answers.{lineCoded, windowCoded, headerCoded, lengthCoded, countCoded, version};
-ghost use Rattle.exported.specs.Cells.{parametersOf};
-ghost use Rattle.exported.specs.Lanes.{nextCoded, laneCoded, enterCoded, turnCoded};
+ghost use Rattle.sliding_window.specs.Window.{window_step};
+ghost use Rattle.scheduler.specs.Scheduler.{new_scheduler, next_step, enter_step, turn_step, withdraw_step};
+ghost use Rattle.exported.specs.Answers.{open_coded, file_coded, faults_coded, record_coded, work_coded, point_coded};
+ghost use Rattle.exported.specs.Answers.{factor_coded, power_coded, write_coded, combine_coded, correlation_coded};
+ghost use Rattle.exported.specs.Answers.{line_coded, window_coded, header_coded, length_coded, count_coded, version};
+ghost use Rattle.exported.specs.Cells.{parameters_of};
+ghost use Rattle.exported.specs.Lanes.{next_coded, lane_coded, enter_coded, turn_coded};
 
 use crate::answers::{
     CountCoded, FactorCoded, FaultsCoded, FileCoded, HeaderCoded, JobCoded, LengthCoded,
@@ -54,7 +54,7 @@ pub extern "C" fn recorder_version() -> u32
 // The factor list of a length that comes without one.
 #[unsafe(no_mangle)]
 pub extern "C" fn recorder_factor_list(length: u32, out: &mut [u8]) -> WriteCoded
-    ensures { (result, out.new) ≡ writeCoded (listStep length out.old) }
+    ensures { (result, out.new) ≡ write_coded (list_step length out.old) }
 {
     crate::answers::filled_coded(factor_lists::factor_list(length, out))
 }
@@ -73,7 +73,7 @@ pub extern "C" fn recorder_open(
     f3: &[u8],
     volume: &mut [u32],
 ) -> JobCoded
-    ensures { (result, volume.new) ≡ openCoded (openStep modulus (record {
+    ensures { (result, volume.new) ≡ open_coded (open_step modulus (record {
       group = group;
       lengths = (n1, n2, n3);
       list1 = f1.now;
@@ -89,7 +89,7 @@ pub extern "C" fn recorder_open(
 // Opens a job by a factor file. A refused file gives a job of zeros, which every call refuses.
 #[unsafe(no_mangle)]
 pub extern "C" fn recorder_open_file(file: &[u8], volume: &mut [u32]) -> FileCoded
-    ensures { (result, volume.new) ≡ fileCoded (fileStep file.now volume.old) }
+    ensures { (result, volume.new) ≡ file_coded (file_step file.now volume.old) }
 {
     crate::answers::file_coded(open_file::open_file(file, volume))
 }
@@ -97,7 +97,7 @@ pub extern "C" fn recorder_open_file(file: &[u8], volume: &mut [u32]) -> FileCod
 // What the header of a factor file names.
 #[unsafe(no_mangle)]
 pub extern "C" fn recorder_file_header(file: &[u8]) -> HeaderCoded
-    ensures { result ≡ headerCoded (headerStep file.now) }
+    ensures { result ≡ header_coded (header_step file.now) }
 {
     crate::answers::header_coded(file_header::file_header(file))
 }
@@ -105,7 +105,7 @@ pub extern "C" fn recorder_file_header(file: &[u8]) -> HeaderCoded
 // The fewest records at fault of a factor file.
 #[unsafe(no_mangle)]
 pub extern "C" fn recorder_file_faults(file: &[u8]) -> FaultsCoded
-    ensures { result ≡ faultsCoded (faultsIn file.now) }
+    ensures { result ≡ faults_coded (faults_in file.now) }
 {
     crate::answers::faults_coded(faults::file_faults(file))
 }
@@ -113,7 +113,7 @@ pub extern "C" fn recorder_file_faults(file: &[u8]) -> FaultsCoded
 // How long the factor file of a job that holds factors is.
 #[unsafe(no_mangle)]
 pub extern "C" fn recorder_file_length(held: Job, volume: &[u32]) -> LengthCoded
-    ensures { result ≡ lengthCoded (lengthStep held volume.now) }
+    ensures { result ≡ length_coded (length_step held volume.now) }
 {
     crate::answers::length_coded(factor_file::writer::file_length(held, volume))
 }
@@ -122,7 +122,7 @@ pub extern "C" fn recorder_file_length(held: Job, volume: &[u32]) -> LengthCoded
 #[unsafe(no_mangle)]
 pub extern "C" fn recorder_write_file(held: Job, volume: &[u32], out: &mut [u8]) -> WriteCoded
     ensures { (result, out.new)
-        ≡ writeCoded (writeStep held volume.now out.old) }
+        ≡ write_coded (write_step held volume.now out.old) }
 {
     crate::answers::filled_coded(factor_file::writer::write_file(held, volume, out))
 }
@@ -136,7 +136,7 @@ pub extern "C" fn recorder_record(
     b: u32,
     volume: &mut [u32],
 ) -> JobCoded
-    ensures { (result, volume.new) ≡ recordCoded (recordStep held at a b volume.old) }
+    ensures { (result, volume.new) ≡ record_coded (record_step held at a b volume.old) }
 {
     crate::answers::answered_coded(held.record(at, a, b, volume))
 }
@@ -145,7 +145,7 @@ pub extern "C" fn recorder_record(
 #[unsafe(no_mangle)]
 pub extern "C" fn recorder_synthesis(held: Job, volume: &mut [u32], scratch: &mut [u32]) -> JobCoded
     ensures { (result, volume.new, scratch.new)
-        ≡ workCoded (synthesisStep held volume.old scratch.old) }
+        ≡ work_coded (synthesis_step held volume.old scratch.old) }
 {
     crate::answers::answered_coded(held.synthesis(volume, scratch))
 }
@@ -154,7 +154,7 @@ pub extern "C" fn recorder_synthesis(held: Job, volume: &mut [u32], scratch: &mu
 #[unsafe(no_mangle)]
 pub extern "C" fn recorder_analysis(held: Job, volume: &mut [u32], scratch: &mut [u32]) -> JobCoded
     ensures { (result, volume.new, scratch.new)
-        ≡ workCoded (analysisStep held volume.old scratch.old) }
+        ≡ work_coded (analysis_step held volume.old scratch.old) }
 {
     crate::answers::answered_coded(held.analysis(volume, scratch))
 }
@@ -162,7 +162,7 @@ pub extern "C" fn recorder_analysis(held: Job, volume: &mut [u32], scratch: &mut
 // Reads a point of the map.
 #[unsafe(no_mangle)]
 pub extern "C" fn recorder_point(held: Job, at: GridPoint, volume: &[u32]) -> PointCoded
-    ensures { result ≡ pointCoded (pointStep held at volume.now).answer }
+    ensures { result ≡ point_coded (point_step held at volume.now).answer }
 {
     crate::answers::point_coded(held.point(at, volume))
 }
@@ -170,7 +170,7 @@ pub extern "C" fn recorder_point(held: Job, at: GridPoint, volume: &[u32]) -> Po
 // Reads a structure factor.
 #[unsafe(no_mangle)]
 pub extern "C" fn recorder_factor(held: Job, at: Reflection, volume: &[u32]) -> FactorCoded
-    ensures { result ≡ factorCoded (factorStep held at volume.now).answer }
+    ensures { result ≡ factor_coded (factor_step held at volume.now).answer }
 {
     crate::answers::factor_coded(held.factor(at, volume))
 }
@@ -178,7 +178,7 @@ pub extern "C" fn recorder_factor(held: Job, at: Reflection, volume: &[u32]) -> 
 // The power of a map: the sum of its squares over the whole cell, modulo the prime.
 #[unsafe(no_mangle)]
 pub extern "C" fn recorder_map_power(held: Job, volume: &[u32]) -> PowerCoded
-    ensures { result ≡ powerCoded (mapPowerStep held volume.now).answer }
+    ensures { result ≡ power_coded (map_power_step held volume.now).answer }
 {
     crate::answers::power_coded(held.map_power(volume))
 }
@@ -186,7 +186,7 @@ pub extern "C" fn recorder_map_power(held: Job, volume: &[u32]) -> PowerCoded
 // The power of factors: the sum of F times its conjugate over the whole cell, modulo the prime.
 #[unsafe(no_mangle)]
 pub extern "C" fn recorder_factor_power(held: Job, volume: &[u32]) -> PowerCoded
-    ensures { result ≡ powerCoded (factorPowerStep held volume.now).answer }
+    ensures { result ≡ power_coded (factor_power_step held volume.now).answer }
 {
     crate::answers::power_coded(held.factor_power(volume))
 }
@@ -201,8 +201,8 @@ pub extern "C" fn recorder_combine(
     output: &mut [i64],
 ) -> WriteCoded
     ensures { (result, output.new)
-        ≡ combineCoded
-        (combineStep first first_map.now second second_map.now
+        ≡ combine_coded
+        (combine_step first first_map.now second second_map.now
         output.old) }
 {
     crate::answers::filled_coded(combining::combine_maps(
@@ -220,7 +220,7 @@ pub extern "C" fn recorder_combined_point(
     map: &[i64],
     at: GridPoint,
 ) -> CountCoded
-    ensures { result ≡ countCoded (countStep group (n1, n2, n3) map.now (position at)) }
+    ensures { result ≡ count_coded (count_step group (n1, n2, n3) map.now (position at)) }
 {
     let unit = UnitCell { group, n1, n2, n3 };
     let point = Point {
@@ -243,7 +243,7 @@ pub extern "C" fn recorder_section(
     out: &mut [u8],
 ) -> WriteCoded
     ensures { (result, out.new)
-        ≡ writeCoded (sectionStep group (n1, n2, n3) map.now z out.old) }
+        ≡ write_coded (section_step group (n1, n2, n3) map.now z out.old) }
 {
     crate::answers::filled_coded(section::section_text(group, n1, n2, n3, map, z, out))
 }
@@ -260,8 +260,8 @@ pub extern "C" fn recorder_mrc(
     out: &mut [u8],
 ) -> WriteCoded
     ensures { (result, out.new)
-        ≡ writeCoded
-        (mrcStep (record { group = group; n1 = n1; n2 = n2; n3 = n3 }) map.now (parametersOf cell)
+        ≡ write_coded
+        (mrc_step (record { group = group; n1 = n1; n2 = n2; n3 = n3 }) map.now (parameters_of cell)
         out.old) }
 {
     let unit = UnitCell { group, n1, n2, n3 };
@@ -290,8 +290,8 @@ pub extern "C" fn recorder_correlate(
       buffers output.new work1.new work2.new work3.new
           scratch.new,
     )
-        ≡ correlationCoded
-        (correlationStep (headerOf (n1, n2, n3) f1.now f2.now f3.now)
+        ≡ correlation_coded
+        (correlation_step (header_of (n1, n2, n3) f1.now f2.now f3.now)
         a.now b.now
         (buffers output.old work1.old work2.old work3.old
         scratch.old)) }
@@ -313,14 +313,14 @@ pub extern "C" fn recorder_line(
     scratch: &mut [u32],
 ) -> u32
     ensures { (result, line.new, scratch.new)
-        ≡ lineCoded
-        (lineStep modulus kind direction length factors.now line.old scratch.old) }
+        ≡ line_coded
+        (line_step modulus kind direction length factors.now line.old scratch.old) }
 {
     line_number(line::line(modulus, kind, direction, length, factors, line, scratch))
 }
 
 fn line_number(answer: LineAnswer) -> u32
-    ensures { result ≡ saidLine answer }
+    ensures { result ≡ said_line answer }
 {
     match answer {
         LineAnswer::Transformed => 0,
@@ -343,15 +343,15 @@ pub extern "C" fn recorder_drift(
       record {
         least = least.exit.now;
         greatest = greatest.new;
-        leastAt = least_at.new;
-        greatestAt = greatest_at.new;
+        place_of_least = least_at.new;
+        place_of_greatest = greatest_at.new;
       },
     )
-        ≡ windowCoded (windowStep run.now w (record {
+        ≡ window_coded (window_step run.now w (record {
           least = least.entry.now;
           greatest = greatest.old;
-          leastAt = least_at.old;
-          greatestAt = greatest_at.old;
+          place_of_least = least_at.old;
+          place_of_greatest = greatest_at.old;
         })) }
 {
     crate::answers::filled_coded(sliding_window::window_extremes(
@@ -367,7 +367,7 @@ pub extern "C" fn recorder_drift(
 // Eight free lanes, of which none was served.
 #[unsafe(no_mangle)]
 pub extern "C" fn recorder_scheduler_new() -> Scheduler
-    ensures { result ≡ newScheduler }
+    ensures { result ≡ new_scheduler }
 {
     Scheduler::new()
 }
@@ -375,7 +375,7 @@ pub extern "C" fn recorder_scheduler_new() -> Scheduler
 // The lane that the next turn serves.
 #[unsafe(no_mangle)]
 pub extern "C" fn recorder_scheduler_next(held: Scheduler) -> NextCoded
-    ensures { result ≡ nextCoded (nextStep held) }
+    ensures { result ≡ next_coded (next_step held) }
 {
     crate::lanes::next_coded(held.next())
 }
@@ -390,7 +390,7 @@ pub extern "C" fn recorder_scheduler_enter(
     scratch: &mut [u32],
 ) -> LaneCoded
     ensures { (result, scratch.new)
-        ≡ enterCoded (enterStep held lane job volume.now scratch.old) }
+        ≡ enter_coded (enter_step held lane job volume.now scratch.old) }
 {
     crate::lanes::lane_coded(held.enter(lane, job, volume, scratch))
 }
@@ -403,7 +403,7 @@ pub extern "C" fn recorder_scheduler_turn(
     scratch: &mut [u32],
 ) -> TurnCoded
     ensures { (result, volume.new, scratch.new)
-        ≡ turnCoded (turnStep held volume.old scratch.old) }
+        ≡ turn_coded (turn_step held volume.old scratch.old) }
 {
     crate::lanes::turn_coded(held.turn(volume, scratch))
 }
@@ -411,7 +411,7 @@ pub extern "C" fn recorder_scheduler_turn(
 // A job leaves its lane before it is finished.
 #[unsafe(no_mangle)]
 pub extern "C" fn recorder_scheduler_withdraw(held: Scheduler, lane: u32) -> LaneCoded
-    ensures { result ≡ laneCoded (withdrawStep held lane) }
+    ensures { result ≡ lane_coded (withdraw_step held lane) }
 {
     crate::lanes::lane_coded(held.withdraw(lane))
 }

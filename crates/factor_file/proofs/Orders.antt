@@ -2,5 +2,5 @@
 use mathlib.Core.Path.{refl}
 use Rattle.factor_file.specs.Orders.{FileRefusals}
 
-pub file-refusals : FileRefusals
-file-refusals = record { recorded = λ m group n before at x y. refl; writer = λ j v output. refl }
+pub file_refusals : FileRefusals
+file_refusals = record { recorded = λ m group n before at x y. refl; writer = λ j v output. refl }

@@ -8,48 +8,48 @@ use lib.ListN.{length}
 use Rattle.refusals.specs.Refusals.{first}
 use Rattle.file_format.specs.declared.FileRecord.{FileRecord}
 use Rattle.file_format.specs.declared.reader.Found.TheVariants.{Record, End}
-use Rattle.file_format.specs.Format.{countAt, recordCount, recordsFrom, recordsIn, shapeTests}
-use Rattle.file_format.specs.Walk.{found_at, placeAfter}
-use Rattle.file_format.proofs.shape.Shapes.{filled-by}
-use Rattle.file_format.proofs.Reading.{end-found, record-inside, record-found, record-after}
+use Rattle.file_format.specs.Format.{count_at, record_count, records_from, records_in, shape_tests}
+use Rattle.file_format.specs.Walk.{found_at, place_after}
+use Rattle.file_format.proofs.shape.Shapes.{filled_by_lem}
+use Rattle.file_format.proofs.Reading.{end_found, record_inside, record_found, record_after}
 
 -- the walk stands behind `place` records
 pub record Walked (file : List ℕ) (at place : ℕ) : Type 0 where
-  pub some : place ≤ recordCount file
-  pub behind : at ≡ countAt file + 4 + 14 * place
+  pub some : place ≤ record_count file
+  pub behind : at ≡ count_at file + 4 + 14 * place
 
 abbrev pub left : List ℕ → (at place : ℕ) → List FileRecord
-left file at place = recordsFrom file at (recordCount file - place)
+left file at place = records_from file at (record_count file - place)
 
-pub walk_start : (file : List ℕ) {at : ℕ} → at ≡ countAt file + 4 → Walked file at 0 × (recordsIn file ≡ left file at 0)
+pub walk_start : (file : List ℕ) {at : ℕ} → at ≡ count_at file + 4 → Walked file at 0 × (records_in file ≡ left file at 0)
 walk_start file {at} e =
-    let n : recordCount file ≡ recordCount file - 0 = omega arith in
+    let n : record_count file ≡ record_count file - 0 = omega arith in
     let a = sym e in
-    (record { some = omega arith; behind = omega arith }, λ i. recordsFrom file (a i) (n i))
+    (record { some = omega arith; behind = omega arith }, λ i. records_from file (a i) (n i))
 
-module _ {file : List ℕ} {at place : ℕ} (w : Walked file at place) (sound : 0 ≡ first (shapeTests file)) where
+module _ {file : List ℕ} {at place : ℕ} (w : Walked file at place) (sound : 0 ≡ first (shape_tests file)) where
   -- at the end of the file no record is left
   pub walk_end : End ≡ found_at file at → left file at place ≡ []
-  unfolding recordsFrom
+  unfolding records_from
   walk_end e =
-      let f = filled-by file sound in
-      let h = end-found file at e in
-      let n : recordCount file - place ≡ 0 = omega (arith, w.behind, w.some) in
-      ap (recordsFrom file at) n
+      let f = filled_by_lem file sound in
+      let h = end_found file at e in
+      let n : record_count file - place ≡ 0 = omega (arith, w.behind, w.some) in
+      ap (records_from file at) n
 
   -- a record that is found is the first of those left
   module _ (c : FileRecord) (found : Record c ≡ found_at file at) where
-    pub record-left : place < recordCount file
-    record-left =
-        let f = filled-by file sound in
-        let h = record-inside file at c found in
+    pub record_left : place < record_count file
+    record_left =
+        let f = filled_by_lem file sound in
+        let h = record_inside file at c found in
         omega (arith, w.behind, w.some)
 
-    pub walk-next : {after : ℕ} → after ≡ placeAfter file at → Walked file after (place + 1) × (left file at place ≡ c ∷ left file after (place + 1))
-    unfolding recordsFrom
-    walk-next {after} on =
-        let l = record-left in
-        let a : after ≡ at + 14 = on ∙ record-after file at c found in
-        let n : recordCount file - place ≡ suc (recordCount file - (place + 1)) = omega arith in
-        let r = sym (record-found file at c found) in
-        (record { some = omega arith; behind = omega (arith, w.behind, a) }, ap (recordsFrom file at) n ∙ λ i. r i ∷ recordsFrom file (sym a i) (recordCount file - (place + 1)))
+    pub walk_next : {after : ℕ} → after ≡ place_after file at → Walked file after (place + 1) × (left file at place ≡ c ∷ left file after (place + 1))
+    unfolding records_from
+    walk_next {after} on =
+        let l = record_left in
+        let a : after ≡ at + 14 = on ∙ record_after file at c found in
+        let n : record_count file - place ≡ suc (record_count file - (place + 1)) = omega arith in
+        let r = sym (record_found file at c found) in
+        (record { some = omega arith; behind = omega (arith, w.behind, a) }, ap (records_from file at) n ∙ λ i. r i ∷ records_from file (sym a i) (record_count file - (place + 1)))

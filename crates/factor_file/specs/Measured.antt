@@ -3,19 +3,19 @@
 -- writer: the places that it names are enough, fewer are not, and where it is refused the writer is refused alike.
 use Rattle.algebra.specs.Prelude.{◌≡◌, ℕ, ◌<◌, ◌≤◌, List, length}
 use Rattle.job.specs.declared.Job.{Job}
-use Rattle.output.specs.Output.{notWritten, filled, notFilled}
-use Rattle.factor_file.specs.File.{jobFile, writeStep, bytes, notSized, lengthStep}
+use Rattle.output.specs.Output.{not_written, filled, not_filled}
+use Rattle.factor_file.specs.File.{job_file, write_step, bytes, not_sized, length_step}
 
 pub record Measured : Type 0 where
   pub short : (j : Job) (v output : List ℕ) →
-      (writeStep j v output).answer ≡ notWritten 18 →
-      length output < length (jobFile j v)
+      (write_step j v output).answer ≡ not_written 18 →
+      length output < length (job_file j v)
   pub enough : (j : Job) (v output : List ℕ) (n : ℕ) →
-      lengthStep j v ≡ bytes n → n ≤ length output →
-      writeStep j v output ≡ filled (jobFile j v) output
+      length_step j v ≡ bytes n → n ≤ length output →
+      write_step j v output ≡ filled (job_file j v) output
   pub fewer : (j : Job) (v output : List ℕ) (n : ℕ) →
-      lengthStep j v ≡ bytes n → length output < n →
-      writeStep j v output ≡ notFilled output 18
+      length_step j v ≡ bytes n → length output < n →
+      write_step j v output ≡ not_filled output 18
   pub alike : (j : Job) (v output : List ℕ) (n : ℕ) →
-      lengthStep j v ≡ notSized n →
-      writeStep j v output ≡ notFilled output n
+      length_step j v ≡ not_sized n →
+      write_step j v output ≡ not_filled output n

@@ -6,8 +6,8 @@ use Rattle.algebra.specs.cells.CellOrder.{Before}
 use Rattle.algebra.specs.orbits.Orbit.{Mem}
 use Rattle.numbers.specs.Value.{Value}
 use Rattle.job.specs.declared.Job.{Job}
-use Rattle.job.specs.Job.{groupIn, halves}
-use Rattle.factor_file.specs.File.{jobRecords}
+use Rattle.job.specs.Job.{group_in, halves}
+use Rattle.factor_file.specs.File.{job_records}
 
 -- each comes before the next
 abbrev pub Rising : List J → Type 0
@@ -15,11 +15,11 @@ Rising places = (xs ys : List J) (i j : J) → places ≡ xs ++ i ∷ j ∷ ys �
 
 -- no image of j comes before it
 abbrev pub LowestOfOrbit : Job → J → Type 0
-LowestOfOrbit job j = (s : Sym) → Mem s (full (groupIn job)) → Before (image_of (halves job) s j) j → ⊥
+LowestOfOrbit job j = (s : Sym) → Mem s (full (group_in job)) → Before (image_of (halves job) s j) j → ⊥
 
 -- the records of a volume, as the writer lists them
 pub record RecordsRise : Type 0 where
-  pub rise : (job : Job) (v : List ℕ) → Rising (map (λ c. c.0) (jobRecords job v))
+  pub rise : (job : Job) (v : List ℕ) → Rising (map (λ c. c.0) (job_records job v))
   pub lowest : (job : Job) (v : List ℕ) (c : J × Value job.modulus) →
-      Mem c (jobRecords job v) →
+      Mem c (job_records job v) →
       LowestOfOrbit job c.0

@@ -6,7 +6,7 @@ pub mod records; // records.rt: the records of a volume, counted and written
 
 ghost use Rattle.std.specs.Prelude.{◌≡◌, ◌≤◌, length};
 ghost use Rattle.output.specs.Written.{Wrote};
-ghost use Rattle.factor_file.specs.Steps.{IsFactors, recordsWith, fileWith};
+ghost use Rattle.factor_file.specs.Steps.{IsFactors, records_with, file_with};
 
 use cell::operations::UnitCell;
 use output::big_endian;
@@ -23,8 +23,8 @@ pub fn put_file(
     out: &mut [u8],
 ) -> usize
     requires factors { IsFactors modulus cell volume.now × (length volume.now ≤ 16777216) }
-    requires count_value { count ≡ length (recordsWith cell modulus volume.now) }
-    ensures { Wrote 0 (fileWith modulus cell f1 f2 f3 volume.now) out.old result
+    requires count_value { count ≡ length (records_with cell modulus volume.now) }
+    ensures { Wrote 0 (file_with modulus cell f1 f2 f3 volume.now) out.old result
         out.new }
 {
     let follow = file_format::layout::file_length(modulus, f1, f2, f3, count) - 4;

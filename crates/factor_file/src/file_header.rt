@@ -1,15 +1,15 @@
 // The header of a file, read by itself: no volume is lent and no record looked at, so that a caller learns from it how long a volume to lend.
 ghost use Rattle.std.specs.Prelude.{◌≡◌, true, ◌≤◌};
-ghost use Rattle.lengths.specs.Lengths.{product, octal, factorsOk};
+ghost use Rattle.lengths.specs.Lengths.{product, octal, factors_ok};
 ghost use Rattle.refusals.specs.Refusals.{first};
-ghost use Rattle.refusals.specs.Checks.{checkedNumber};
+ghost use Rattle.refusals.specs.Checks.{checked_number};
 ghost use Rattle.cell.specs.Operations.{Sizes};
 ghost use Rattle.file_format.specs.Places.{PlacesOf};
-ghost use Rattle.job.specs.Job.{cellHeader, axisTests};
-ghost use Rattle.factor_file.specs.File.{shapeTests};
-ghost use Rattle.factor_file.specs.HeaderRead.{openingTests, headerNamed, judgedHeader, headerStep};
+ghost use Rattle.job.specs.Job.{cell_header, axis_tests};
+ghost use Rattle.factor_file.specs.File.{shape_tests};
+ghost use Rattle.factor_file.specs.HeaderRead.{opening_tests, header_named, judged_header, header_step};
 ghost use Rattle.factor_file.specs.HeaderRead.{HeaderAsOpened};
-ghost use Rattle.factor_file.specs.Answers.{saidHeader};
+ghost use Rattle.factor_file.specs.Answers.{said_header};
 
 use cell::operations::UnitCell;
 use file_format::places::Places;
@@ -37,7 +37,7 @@ pub enum HeaderAnswer {
 
 // Shape, header.
 pub fn file_header(file: &[u8]) -> HeaderAnswer
-    ensures { saidHeader result ≡ headerStep file.now }
+    ensures { said_header result ≡ header_step file.now }
 {
     let places = file_format::places::places_of(file);
     let checked = file_format::shape::check_shape(file, places);
@@ -49,8 +49,8 @@ pub fn file_header(file: &[u8]) -> HeaderAnswer
 
 // The header of a file of sound shape. The lists are parts of the file.
 fn sound_header(file: &[u8], places: Places) -> HeaderAnswer
-    requires { PlacesOf file.now places × (0 ≡ first (shapeTests file.now)) }
-    ensures { saidHeader result ≡ headerStep file.now }
+    requires { PlacesOf file.now places × (0 ≡ first (shape_tests file.now)) }
+    ensures { said_header result ≡ header_step file.now }
 {
     let header = file_format::places::header_numbers(file);
     let records = file_format::integers::four_bytes(file, places.count);
@@ -78,8 +78,8 @@ fn judged_header(
     f3: &[u8],
     records: u32,
 ) -> HeaderAnswer
-    ensures { saidHeader result
-        ≡ judgedHeader modulus (cellHeader cell f1.now f2.now f3.now) records }
+    ensures { said_header result
+        ≡ judged_header modulus (cell_header cell f1.now f2.now f3.now) records }
 {
     let checked = check_opening(modulus, cell, f1, f2, f3);
     match checked {
@@ -90,8 +90,8 @@ fn judged_header(
 
 // 8, 26, then 3, 4, 5, 9.
 fn check_opening(modulus: u32, cell: UnitCell, f1: &[u8], f2: &[u8], f3: &[u8]) -> Checked
-    ensures { checkedNumber result
-        ≡ first (openingTests modulus (cellHeader cell f1.now f2.now f3.now)) }
+    ensures { checked_number result
+        ≡ first (opening_tests modulus (cell_header cell f1.now f2.now f3.now)) }
 {
     if 5 <= cell.group {
         return Checked::Failed(Refusal::Group);
@@ -103,9 +103,9 @@ fn check_opening(modulus: u32, cell: UnitCell, f1: &[u8], f2: &[u8], f3: &[u8]) 
 }
 
 fn named(modulus: u32, cell: UnitCell, f1: &[u8], f2: &[u8], f3: &[u8], records: u32) -> FileHeader
-    requires { Sizes cell × (0 ≡ first (axisTests (cellHeader cell f1.now f2.now f3.now))) }
+    requires { Sizes cell × (0 ≡ first (axis_tests (cell_header cell f1.now f2.now f3.now))) }
     ensures { result
-        ≡ headerNamed modulus (cellHeader cell f1.now f2.now f3.now) records }
+        ≡ header_named modulus (cell_header cell f1.now f2.now f3.now) records }
 {
     let numbers = bytes::volume_length(cell) as u32;
     FileHeader {
@@ -121,7 +121,7 @@ fn named(modulus: u32, cell: UnitCell, f1: &[u8], f2: &[u8], f3: &[u8], records:
 
 // An axis: the list goes on as octal digits.
 fn axis(length: u32, factors: &[u8]) -> Axis
-    requires { (factorsOk factors.now ≡ true) × (product factors.now ≤ 1440) }
+    requires { (factors_ok factors.now ≡ true) × (product factors.now ≤ 1440) }
     ensures { result ≡ record { length = length; factors = octal factors.now } }
 {
     Axis {

@@ -2,10 +2,10 @@
 ghost use Rattle.std.specs.Prelude.{◌≡◌};
 ghost use Rattle.refusals.specs.Refusals.{first};
 ghost use Rattle.file_format.specs.Places.{PlacesOf};
-ghost use Rattle.job.specs.Job.{openStep};
-ghost use Rattle.job.specs.Answers.{openOutcome};
-ghost use Rattle.factor_file.specs.File.{shapeTests, modulusIn, headerIn, fileStep};
-ghost use Rattle.factor_file.specs.Answers.{fileOutcome};
+ghost use Rattle.job.specs.Job.{open_step};
+ghost use Rattle.job.specs.Answers.{open_outcome};
+ghost use Rattle.factor_file.specs.File.{shape_tests, modulus_in, header_in, file_step};
+ghost use Rattle.factor_file.specs.Answers.{file_outcome};
 
 use crate::{FileAnswer, records};
 use file_format::places::Places;
@@ -14,9 +14,9 @@ use refusals::Checked;
 
 // The opening that the header names. The lists are parts of the file.
 fn open_header(file: &[u8], places: Places, volume: &mut [u32]) -> OpenAnswer
-    requires { PlacesOf file.now places × (0 ≡ first (shapeTests file.now)) }
-    ensures { openOutcome result volume.new
-        ≡ openStep (modulusIn file.now) (headerIn file.now) 0 volume.old }
+    requires { PlacesOf file.now places × (0 ≡ first (shape_tests file.now)) }
+    ensures { open_outcome result volume.new
+        ≡ open_step (modulus_in file.now) (header_in file.now) 0 volume.old }
 {
     let header = file_format::places::header_numbers(file);
     let cell = header.cell;
@@ -42,8 +42,8 @@ fn open_header(file: &[u8], places: Places, volume: &mut [u32]) -> OpenAnswer
 
 // The header, then the records, of a file of sound shape.
 fn open_sound(file: &[u8], places: Places, volume: &mut [u32]) -> FileAnswer
-    requires { PlacesOf file.now places × (0 ≡ first (shapeTests file.now)) }
-    ensures { fileOutcome result volume.new ≡ fileStep file.now volume.old }
+    requires { PlacesOf file.now places × (0 ≡ first (shape_tests file.now)) }
+    ensures { file_outcome result volume.new ≡ file_step file.now volume.old }
 {
     let answer = open_header(file, places, volume);
     match answer {
@@ -54,7 +54,7 @@ fn open_sound(file: &[u8], places: Places, volume: &mut [u32]) -> FileAnswer
 
 // Shape, header, records.
 pub fn open_file(file: &[u8], volume: &mut [u32]) -> FileAnswer
-    ensures { fileOutcome result volume.new ≡ fileStep file.now volume.old }
+    ensures { file_outcome result volume.new ≡ file_step file.now volume.old }
 {
     let places = file_format::places::places_of(file);
     let checked = file_format::shape::check_shape(file, places);

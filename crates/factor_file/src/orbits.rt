@@ -2,15 +2,15 @@
 //
 // A place is the lowest of its orbit if it comes no later than any of its images.
 ghost use Rattle.std.specs.Prelude.{◌≡◌};
-ghost use Rattle.cell.specs.Operations.{cellGroup, cellHalves, triple_of, Sizes, Within};
-ghost use Rattle.factor_file.specs.File.{noLater, isLowest};
+ghost use Rattle.cell.specs.Operations.{cell_group, cell_halves, triple_of, Sizes, Within};
+ghost use Rattle.factor_file.specs.File.{no_later, is_lowest};
 
 use cell::operations;
 use cell::operations::{Index, UnitCell};
 
 // i comes no later than j in the order h, k, l.
 fn no_later(i: Index, j: Index) -> bool
-    ensures { result ≡ noLater (triple_of i) (triple_of j) }
+    ensures { result ≡ no_later (triple_of i) (triple_of j) }
 {
     (i.h < j.h) | ((i.h == j.h) & ((i.k < j.k) | ((i.k == j.k) & (i.l <= j.l))))
 }
@@ -18,7 +18,7 @@ fn no_later(i: Index, j: Index) -> bool
 // No image of j comes before it. In P1 the one other image is the Friedel mate, which comes later wherever h is between 0 and N1/2.
 pub fn lowest(cell: UnitCell, j: Index) -> bool
     requires { Sizes cell × Within cell j }
-    ensures { result ≡ isLowest (cellGroup cell) (cellHalves cell) (triple_of j) }
+    ensures { result ≡ is_lowest (cell_group cell) (cell_halves cell) (triple_of j) }
 {
     if cell.group == 0 {
         if j.h < cell.n1 / 2 {
@@ -33,7 +33,7 @@ pub fn lowest(cell: UnitCell, j: Index) -> bool
 // The same by trying every image. The first operation leaves j where it is, and need not be tried.
 fn none_before(cell: UnitCell, j: Index) -> bool
     requires { Sizes cell × Within cell j }
-    ensures { result ≡ isLowest (cellGroup cell) (cellHalves cell) (triple_of j) }
+    ensures { result ≡ is_lowest (cell_group cell) (cell_halves cell) (triple_of j) }
 {
     let count = operations::operation_count(cell.group);
     let mut number = 1;

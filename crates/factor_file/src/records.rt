@@ -6,16 +6,16 @@
 ghost use Rattle.std.specs.Prelude.{◌≡◌, List, [], ◌∷◌, ◌+◌};
 ghost use Rattle.algebra.specs.cells.Cell.{J};
 ghost use Rattle.refusals.specs.Refusals.{first};
-ghost use Rattle.refusals.specs.Checks.{checkedNumber};
-ghost use Rattle.cell.specs.Operations.{cellGroup, cellHalves, cellLengths, triple_of, Within};
+ghost use Rattle.refusals.specs.Checks.{checked_number};
+ghost use Rattle.cell.specs.Operations.{cell_group, cell_halves, cell_lengths, triple_of, Within};
 ghost use Rattle.cell.specs.TestSteps.{IsVolume};
 ghost use Rattle.numbers.specs.Value.{IsModulus};
-ghost use Rattle.file_format.specs.Format.{shapeTests, countAt, recordsIn};
+ghost use Rattle.file_format.specs.Format.{shape_tests, count_at, records_in};
 ghost use Rattle.file_format.specs.Places.{PlacesOf};
-ghost use Rattle.job.specs.Job.{jobCell};
-ghost use Rattle.factor_file.specs.File.{judgeTests, orbitSeen, taken, judged, recordAllOn, feed};
+ghost use Rattle.job.specs.Job.{job_cell};
+ghost use Rattle.factor_file.specs.File.{judge_tests, orbit_seen, taken, judged, record_all_on, feed};
 ghost use Rattle.factor_file.specs.Marks.{Marked, IsEmpty};
-ghost use Rattle.factor_file.specs.Answers.{saidVerdict, fileOutcome};
+ghost use Rattle.factor_file.specs.Answers.{said_verdict, file_outcome};
 
 use crate::FileAnswer;
 use cell::operations::{Index, UnitCell};
@@ -36,11 +36,11 @@ enum Verdict {
 // The records of a file of sound shape, in a job that was opened: all are recorded, or one is refused, and the volume is left zero.
 pub fn feed_records(file: &[u8], places: Places, job: Job, volume: &mut [u32]) -> FileAnswer
     requires { PlacesOf file.now places
-        × (0 ≡ first (shapeTests file.now))
-        × IsEmpty (jobCell job) volume.old
+        × (0 ≡ first (shape_tests file.now))
+        × IsEmpty (job_cell job) volume.old
         × IsModulus job.modulus }
-    ensures { fileOutcome result volume.new
-        ≡ feed (recordsIn file.now) job volume.old }
+    ensures { file_outcome result volume.new
+        ≡ feed (records_in file.now) job volume.old }
 {
     let cell = job.unit_cell();
     let start = file_format::places::first_record(places);
@@ -63,12 +63,12 @@ fn judge_records(
     cell: UnitCell,
     marks: &mut [u32],
 ) -> Verdict
-    requires { (start ≡ countAt file.now + 4)
-        × (0 ≡ first (shapeTests file.now))
+    requires { (start ≡ count_at file.now + 4)
+        × (0 ≡ first (shape_tests file.now))
         × IsEmpty cell marks.old
         × IsModulus modulus }
-    ensures { saidVerdict result
-        ≡ judged modulus cell.group (cellLengths cell) [] (recordsIn file.now) }
+    ensures { said_verdict result
+        ≡ judged modulus cell.group (cell_lengths cell) [] (records_in file.now) }
 {
     let mut at = start;
     let mut place = 0;
@@ -96,13 +96,13 @@ fn judge_records(
 // 10, 7, 12, 24 of one record. The orbit of one that is taken is marked.
 fn judge_record(modulus: u32, cell: UnitCell, j: Index, x: Pair, marks: &mut [u32]) -> Checked
     requires { IsVolume cell marks.old × IsModulus modulus }
-    ensures { (before : List J) → Marked (cellGroup cell) (cellHalves cell) marks.old before
+    ensures { (before : List J) → Marked (cell_group cell) (cell_halves cell) marks.old before
         →
-        (checkedNumber result
-        ≡ first (judgeTests modulus cell.group (cellLengths cell) before (triple_of j) x.re x.im))
+        (checked_number result
+        ≡ first (judge_tests modulus cell.group (cell_lengths cell) before (triple_of j) x.re x.im))
         ×
-        (checkedNumber result ≡ 0 →
-        Marked (cellGroup cell) (cellHalves cell) marks.new (triple_of j ∷ before)) }
+        (checked_number result ≡ 0 →
+        Marked (cell_group cell) (cell_halves cell) marks.new (triple_of j ∷ before)) }
 {
     let own = job::check::record::check_own(modulus, cell, j, x);
     match own {
@@ -114,11 +114,11 @@ fn judge_record(modulus: u32, cell: UnitCell, j: Index, x: Pair, marks: &mut [u3
 // 24 if the orbit is marked, and else it is marked.
 fn mark_orbit(cell: UnitCell, j: Index, marks: &mut [u32]) -> Checked
     requires { IsVolume cell marks.old × Within cell j }
-    ensures { (before : List J) → Marked (cellGroup cell) (cellHalves cell) marks.old before
-        → (checkedNumber result ≡ first (orbitSeen cell.group (cellLengths cell) before (triple_of j)))
+    ensures { (before : List J) → Marked (cell_group cell) (cell_halves cell) marks.old before
+        → (checked_number result ≡ first (orbit_seen cell.group (cell_lengths cell) before (triple_of j)))
         ×
-        (checkedNumber result ≡ 0 →
-        Marked (cellGroup cell) (cellHalves cell) marks.new (triple_of j ∷ before)) }
+        (checked_number result ≡ 0 →
+        Marked (cell_group cell) (cell_halves cell) marks.new (triple_of j ∷ before)) }
 {
     let place = volume::orbit_place::orbit_place(cell, j);
     if marks[place] != 0 {
@@ -130,13 +130,13 @@ fn mark_orbit(cell: UnitCell, j: Index, marks: &mut [u32]) -> Checked
 
 // The second walk: no test is left to make.
 fn record_all(file: &[u8], start: usize, modulus: u32, cell: UnitCell, volume: &mut [u32])
-    requires start_value { (start ≡ countAt file.now + 4)
-        × (0 ≡ first (shapeTests file.now))
+    requires start_value { (start ≡ count_at file.now + 4)
+        × (0 ≡ first (shape_tests file.now))
         × IsVolume cell volume.old
         × IsModulus modulus }
-    requires file_value { judged modulus cell.group (cellLengths cell) [] (recordsIn file.now) ≡ taken }
+    requires file_value { judged modulus cell.group (cell_lengths cell) [] (records_in file.now) ≡ taken }
     ensures { volume.new
-        ≡ recordAllOn (cellGroup cell) (cellHalves cell) modulus (recordsIn file.now)
+        ≡ record_all_on (cell_group cell) (cell_halves cell) modulus (records_in file.now)
         volume.old }
 {
     let mut at = start;

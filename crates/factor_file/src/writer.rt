@@ -3,11 +3,11 @@
 // A first pass over the cell counts the records, so that nothing is written before the file is known to fit; a second
 // writes them.
 ghost use Rattle.std.specs.Prelude.{◌≡◌, ◌≤◌, length};
-ghost use Rattle.factor_file.specs.File.{writeStep, lengthStep};
+ghost use Rattle.factor_file.specs.File.{write_step, length_step};
 ghost use Rattle.factor_file.specs.Measured.{Measured};
-ghost use Rattle.output.specs.Answers.{fillOutcome};
-ghost use Rattle.factor_file.specs.Answers.{saidSize};
-ghost use Rattle.factor_file.specs.Steps.{filedWith, IsFactors};
+ghost use Rattle.output.specs.Answers.{fill_outcome};
+ghost use Rattle.factor_file.specs.Answers.{said_size};
+ghost use Rattle.factor_file.specs.Steps.{filed_with, IsFactors};
 
 use crate::file::records;
 use cell::operations::UnitCell;
@@ -27,8 +27,8 @@ fn write_factors(
     out: &mut [u8],
 ) -> FillAnswer
     requires { IsFactors modulus cell volume.now × (length volume.now ≤ 16777216) }
-    ensures { fillOutcome result out.new
-        ≡ filedWith modulus cell f1 f2 f3 volume.now out.old }
+    ensures { fill_outcome result out.new
+        ≡ filed_with modulus cell f1 f2 f3 volume.now out.old }
 {
     let count = records::count_records(modulus, cell, volume);
     if out.len() < file_format::layout::file_length(modulus, f1, f2, f3, count) {
@@ -41,7 +41,7 @@ fn write_factors(
 // The file of the job whose factors the volume holds; the places of the output beyond it are as they were. Job and volume are asked
 // for what a synthesis asks: 25, 23, 6, 7, 14. The writer needs no scratch: the check is told of one that is long enough.
 pub fn write_file(job: Job, volume: &[u32], out: &mut [u8]) -> FillAnswer
-    ensures { fillOutcome result out.new ≡ writeStep job volume.now out.old }
+    ensures { fill_outcome result out.new ≡ write_step job volume.now out.old }
 {
     let cell = job.unit_cell();
     let checked = synthesis::check_synthesis(
@@ -76,7 +76,7 @@ pub enum SizeAnswer {
 
 // How many places `write_file` needs for this job and volume: the bytes of the file. No output is lent, and nothing is written.
 pub fn file_length(job: Job, volume: &[u32]) -> SizeAnswer
-    ensures { saidSize result ≡ lengthStep job volume.now }
+    ensures { said_size result ≡ length_step job volume.now }
 {
     let cell = job.unit_cell();
     let checked = synthesis::check_synthesis(

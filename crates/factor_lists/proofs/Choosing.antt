@@ -9,8 +9,8 @@ use lib.ListN.{length, length-append}
 use borrow.Author.Tests.{le-leb, lt-leb}
 use Rattle.lengths.specs.Lengths.{product}
 use Rattle.output.specs.Written.{Wrote, Ends}
-use Rattle.output.proofs.Writing.{wrote_none, wrote-append, wrote_as}
-use Rattle.factor_lists.specs.Chosen.{nextFactor, factored}
+use Rattle.output.proofs.Writing.{wrote_none, wrote_append, wrote_as}
+use Rattle.factor_lists.specs.Chosen.{next_factor, factored}
 
 pub record Choosing (n : ℕ) (before : List ℕ) (rest at : ℕ) (after : List ℕ) : Type 0 where
   pub left : ℕ
@@ -20,8 +20,8 @@ pub record Choosing (n : ℕ) (before : List ℕ) (rest at : ℕ) (after : List 
   pub enough : product (factored left rest) ≡ rest
   pub wrote : Wrote 0 done before at after
 
-pub choosing-start : (n : ℕ) (before : List ℕ) → product (factored 8 n) ≡ n → Choosing n before n 0 before
-choosing-start n before e = record { left = 8; done = []; count = refl; whole = refl; enough = e; wrote = wrote_none 0 before }
+pub choosing_start : (n : ℕ) (before : List ℕ) → product (factored 8 n) ≡ n → Choosing n before n 0 before
+choosing_start n before e = record { left = 8; done = []; count = refl; whole = refl; enough = e; wrote = wrote_none 0 before }
 
 -- 1 is left, or nothing: no factor more
 none_left : (c n : ℕ) → n ≤ 1 → factored c n ≡ []
@@ -30,7 +30,7 @@ none_left zero n h = refl
 none_left (suc c) n h = rw (le-leb n 1 h)
 
 -- more is left: a factor more
-one_more : (c n : ℕ) → 1 < n → factored (suc c) n ≡ nextFactor n ∷ factored c (n / nextFactor n)
+one_more : (c n : ℕ) → 1 < n → factored (suc c) n ≡ next_factor n ∷ factored c (n / next_factor n)
 unfolding factored
 one_more c n h = rw (lt-leb n 1 h)
 
@@ -38,12 +38,12 @@ quotient : (f p n : ℕ) → 2 ≤ f → f * p ≡ n → p ≡ n / f
 quotient f p n z e = sym (subst (λ (x : ℕ). x / f ≡ p) e (mul-div_right p (omega arith)))
 
 module _ {n : ℕ} {before : List ℕ} {rest at : ℕ} {after : List ℕ} (s : Choosing n before rest at after) where
-  pub choosing-ends : (f : ℕ) → Ends at (f ∷ [])
-  choosing-ends f = record { low = omega (arith, s.wrote.place, s.count) }
+  pub choosing_ends : (f : ℕ) → Ends at (f ∷ [])
+  choosing_ends f = record { low = omega (arith, s.wrote.place, s.count) }
 
-  pub choosing-next : 1 < rest → {f : ℕ} → f ≡ nextFactor rest → 2 ≤ f → {r : ℕ} {m : List ℕ} → Wrote at (f ∷ []) after r m → Choosing n before (rest / f) r m
+  pub choosing_next : 1 < rest → {f : ℕ} → f ≡ next_factor rest → 2 ≤ f → {r : ℕ} {m : List ℕ} → Wrote at (f ∷ []) after r m → Choosing n before (rest / f) r m
   unfolding product factored
-  choosing-next h {f} e z {r} {m} o = by s.left refl
+  choosing_next h {f} e z {r} {m} o = by s.left refl
     where
       by : (c : ℕ) → s.left ≡ c → Choosing n before (rest / f) r m
       by zero q = let p : product (factored 0 rest) ≡ rest = subst (λ (c : ℕ). product (factored c rest) ≡ rest) q s.enough in absurd (omega (arith, p))
@@ -56,8 +56,8 @@ module _ {n : ℕ} {before : List ℕ} {rest at : ℕ} {after : List ℕ} (s : C
             count = omega (arith, s.count, q, length-append s.done (f ∷ []));
             whole = s.whole ∙ ap (λ (l : List ℕ). s.done ++ l) list ∙ sym (append_assoc s.done (f ∷ []) (factored c (rest / f)));
             enough = quotient f _ rest z p;
-            wrote = wrote-append s.wrote o;
+            wrote = wrote_append s.wrote o;
           }
 
-  pub choosing-done : rest ≤ 1 → Wrote 0 (factored 8 n) before at after
-  choosing-done h = wrote_as s.wrote (sym (s.whole ∙ ap (λ (l : List ℕ). s.done ++ l) (none_left s.left rest h) ∙ append-nil s.done))
+  pub choosing_done : rest ≤ 1 → Wrote 0 (factored 8 n) before at after
+  choosing_done h = wrote_as s.wrote (sym (s.whole ∙ ap (λ (l : List ℕ). s.done ++ l) (none_left s.left rest h) ∙ append-nil s.done))

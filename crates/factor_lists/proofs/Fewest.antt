@@ -10,38 +10,38 @@ use native.Mathlib.Omega.{arith}
 use lib.Dec.{leb, eqb}
 use lib.ListN.{length}
 use borrow.Author.Tests.{leb-true, eq-eqb, eqb-true}
-use Rattle.lengths.specs.Lengths.{product, admitted, factorsOk}
+use Rattle.lengths.specs.Lengths.{product, admitted, factors_ok}
 use Rattle.lengths.specs.Admitted.{none, one, Factors}
-use Rattle.lengths.proofs.Factors.{factors-of}
-use Rattle.lengths.proofs.AdmittedLengths.{admitted-length}
+use Rattle.lengths.proofs.Factors.{factors_of_lem}
+use Rattle.lengths.proofs.AdmittedLengths.{admitted_length}
 use Rattle.refusals.proofs.Tests.{both}
-use Rattle.factor_lists.specs.Chosen.{nextFactor, factored, chosenList, listTests, ChosenLists}
+use Rattle.factor_lists.specs.Chosen.{next_factor, factored, chosen_list, list_tests, ChosenLists}
 
 -- ---- each is a list of its length
 
 abbrev sound : ℕ → Bool
-sound N = factorsOk (chosenList N) && eqb (product (chosenList N)) (N / 2)
+sound N = factors_ok (chosen_list N) && eqb (product (chosen_list N)) (N / 2)
 
-unfoldable soundBelow : ℕ → Bool
-soundBelow zero = true
-soundBelow (suc N) = (not (admitted (suc N)) || sound (suc N)) && soundBelow N
+unfoldable sound_below : ℕ → Bool
+sound_below zero = true
+sound_below (suc N) = (not (admitted (suc N)) || sound (suc N)) && sound_below N
 
-tested : soundBelow 2880 ≡ true
-unfolding soundBelow admitted factored nextFactor factorsOk product
+tested : sound_below 2880 ≡ true
+unfolding sound_below admitted factored next_factor factors_ok product
 tested = refl
 
-sound-at : (k N : ℕ) → soundBelow k ≡ true → 1 ≤ N → N ≤ k → admitted N ≡ true → sound N ≡ true
-unfolding soundBelow
-sound-at zero N e g l d = absurd (omega arith)
-sound-at (suc k) N e g l d =
-    let h = both (not (admitted (suc k)) || sound (suc k)) (soundBelow k) e in
-    ⊎_elim (λ (q : N ≡ suc k). let t = subst (λ (m : ℕ). (not (admitted m) || sound m) ≡ true) (sym q) h.0 in simp d at t) (λ (lt : N < suc k). sound-at k N h.1 g (le_of_suc-le-suc lt) d) (eq-or-lt_of_le l)
+sound_at : (k N : ℕ) → sound_below k ≡ true → 1 ≤ N → N ≤ k → admitted N ≡ true → sound N ≡ true
+unfolding sound_below
+sound_at zero N e g l d = absurd (omega arith)
+sound_at (suc k) N e g l d =
+    let h = both (not (admitted (suc k)) || sound (suc k)) (sound_below k) e in
+    ⊎_elim (λ (q : N ≡ suc k). let t = subst (λ (m : ℕ). (not (admitted m) || sound m) ≡ true) (sym q) h.0 in simp d at t) (λ (lt : N < suc k). sound_at k N h.1 g (le_of_suc-le-suc lt) d) (eq-or-lt_of_le l)
 
-sound-list : (N : ℕ) → admitted N ≡ true → (factorsOk (chosenList N) ≡ true) × (eqb (product (chosenList N)) (N / 2) ≡ true)
-sound-list N e = let a = admitted-length N e in both (factorsOk (chosenList N)) (eqb (product (chosenList N)) (N / 2)) (sound-at 2880 N tested (omega (arith, a.positive)) a.short e)
+sound_list : (N : ℕ) → admitted N ≡ true → (factors_ok (chosen_list N) ≡ true) × (eqb (product (chosen_list N)) (N / 2) ≡ true)
+sound_list N e = let a = admitted_length N e in both (factors_ok (chosen_list N)) (eqb (product (chosen_list N)) (N / 2)) (sound_at 2880 N tested (omega (arith, a.positive)) a.short e)
 
-pub chosen-product : (N : ℕ) → admitted N ≡ true → product (chosenList N) ≡ N / 2
-chosen-product N e = eqb-true _ _ (sound-list N e).1
+pub chosen_product : (N : ℕ) → admitted N ≡ true → product (chosen_list N) ≡ N / 2
+chosen_product N e = eqb-true _ _ (sound_list N e).1
 
 -- ---- none is shorter
 
@@ -52,33 +52,33 @@ count n = length (factored 8 n)
 abbrev falls : (n f : ℕ) → Bool
 falls n f = not (eqb (n % f) 0) || leb (count n) (suc (count (n / f)))
 
-abbrev fallsAll : ℕ → Bool
-fallsAll n = falls n 2 && (falls n 3 && (falls n 4 && falls n 5))
+abbrev falls_all : ℕ → Bool
+falls_all n = falls n 2 && (falls n 3 && (falls n 4 && falls n 5))
 
-unfoldable fallsBelow : ℕ → Bool
-fallsBelow zero = true
-fallsBelow (suc n) = (not (eqb (1440 % suc n) 0) || fallsAll (suc n)) && fallsBelow n
+unfoldable falls_below : ℕ → Bool
+falls_below zero = true
+falls_below (suc n) = (not (eqb (1440 % suc n) 0) || falls_all (suc n)) && falls_below n
 
-falls-tested : fallsBelow 1440 ≡ true
-unfolding fallsBelow factored nextFactor
-falls-tested = refl
+falls_tested : falls_below 1440 ≡ true
+unfolding falls_below factored next_factor
+falls_tested = refl
 
-falls_at : (k n : ℕ) → fallsBelow k ≡ true → 1 ≤ n → n ≤ k → 1440 % n ≡ 0 → fallsAll n ≡ true
-unfolding fallsBelow
+falls_at : (k n : ℕ) → falls_below k ≡ true → 1 ≤ n → n ≤ k → 1440 % n ≡ 0 → falls_all n ≡ true
+unfolding falls_below
 falls_at zero n e g l d = absurd (omega arith)
 falls_at (suc k) n e g l d =
-    let h = both (not (eqb (1440 % suc k) 0) || fallsAll (suc k)) (fallsBelow k) e in
-    ⊎_elim (λ (q : n ≡ suc k). let t = subst (λ (m : ℕ). (not (eqb (1440 % m) 0) || fallsAll m) ≡ true) (sym q) h.0 in simp (eq-eqb (1440 % n) 0 d) at t) (λ (lt : n < suc k). falls_at k n h.1 g (le_of_suc-le-suc lt) d) (eq-or-lt_of_le l)
+    let h = both (not (eqb (1440 % suc k) 0) || falls_all (suc k)) (falls_below k) e in
+    ⊎_elim (λ (q : n ≡ suc k). let t = subst (λ (m : ℕ). (not (eqb (1440 % m) 0) || falls_all m) ≡ true) (sym q) h.0 in simp (eq-eqb (1440 % n) 0 d) at t) (λ (lt : n < suc k). falls_at k n h.1 g (le_of_suc-le-suc lt) d) (eq-or-lt_of_le l)
 
 -- one of the four
-falls-by : (n f : ℕ) → fallsAll n ≡ true → 2 ≤ f → f ≤ 5 → falls n f ≡ true
-falls-by n zero e g l = absurd (not-suc-le-zero g)
-falls-by n (suc zero) e g l = absurd (omega arith)
-falls-by n (suc (suc zero)) e g l = (both (falls n 2) (falls n 3 && (falls n 4 && falls n 5)) e).0
-falls-by n (suc (suc (suc zero))) e g l = (both (falls n 3) (falls n 4 && falls n 5) (both (falls n 2) (falls n 3 && (falls n 4 && falls n 5)) e).1).0
-falls-by n (suc (suc (suc (suc zero)))) e g l = (both (falls n 4) (falls n 5) (both (falls n 3) (falls n 4 && falls n 5) (both (falls n 2) (falls n 3 && (falls n 4 && falls n 5)) e).1).1).0
-falls-by n (suc (suc (suc (suc (suc zero))))) e g l = (both (falls n 4) (falls n 5) (both (falls n 3) (falls n 4 && falls n 5) (both (falls n 2) (falls n 3 && (falls n 4 && falls n 5)) e).1).1).1
-falls-by n (suc (suc (suc (suc (suc (suc f)))))) e g l = absurd (omega arith)
+falls_by : (n f : ℕ) → falls_all n ≡ true → 2 ≤ f → f ≤ 5 → falls n f ≡ true
+falls_by n zero e g l = absurd (not-suc-le-zero g)
+falls_by n (suc zero) e g l = absurd (omega arith)
+falls_by n (suc (suc zero)) e g l = (both (falls n 2) (falls n 3 && (falls n 4 && falls n 5)) e).0
+falls_by n (suc (suc (suc zero))) e g l = (both (falls n 3) (falls n 4 && falls n 5) (both (falls n 2) (falls n 3 && (falls n 4 && falls n 5)) e).1).0
+falls_by n (suc (suc (suc (suc zero)))) e g l = (both (falls n 4) (falls n 5) (both (falls n 3) (falls n 4 && falls n 5) (both (falls n 2) (falls n 3 && (falls n 4 && falls n 5)) e).1).1).0
+falls_by n (suc (suc (suc (suc (suc zero))))) e g l = (both (falls n 4) (falls n 5) (both (falls n 3) (falls n 4 && falls n 5) (both (falls n 2) (falls n 3 && (falls n 4 && falls n 5)) e).1).1).1
+falls_by n (suc (suc (suc (suc (suc (suc f)))))) e g l = absurd (omega arith)
 
 -- a factor f times k
 fall : (f k n r : ℕ) → 2 ≤ f → f ≤ 5 → f * k ≡ n → 1 ≤ n → n ≤ 1440 → n * r ≡ 1440 → count n ≤ suc (count k)
@@ -86,7 +86,7 @@ fall f k n r g l e z h d =
     let divides : 1440 % n ≡ 0 = subst (λ (x : ℕ). x % n ≡ 0) d (mul-mod_right n r) in
     let whole : n % f ≡ 0 = subst (λ (x : ℕ). x % f ≡ 0) e (mul-mod_right f k) in
     let part : n / f ≡ k = subst (λ (x : ℕ). x / f ≡ k) e (mul-div_right k (omega arith)) in
-    let t : falls n f ≡ true = falls-by n f (falls_at 1440 n falls-tested z h divides) g l in
+    let t : falls n f ≡ true = falls_by n f (falls_at 1440 n falls_tested z h divides) g l in
     leb-true (count n) (suc (count k)) (simp (eq-eqb (n % f) 0 whole, part) at t)
 
 shortest : (l : List ℕ) (n r : ℕ) → Factors l → product l ≡ n → 1 ≤ n → n ≤ 1440 → n * r ≡ 1440 → count n ≤ length l
@@ -102,17 +102,17 @@ shortest (f ∷ l) n r (one low high t) e z h d =
 at_most : (c n : ℕ) → length (factored c n) ≤ c
 unfolding factored
 at_most zero n = omega arith
-at_most (suc c) n = by (leb n 1) (at_most c (n / nextFactor n))
+at_most (suc c) n = by (leb n 1) (at_most c (n / next_factor n))
   where
-    by : (b : Bool) → length (factored c (n / nextFactor n)) ≤ c → length (cond b [] (nextFactor n ∷ factored c (n / nextFactor n))) ≤ suc c
+    by : (b : Bool) → length (factored c (n / next_factor n)) ≤ c → length (cond b [] (next_factor n ∷ factored c (n / next_factor n))) ≤ suc c
     by true h = omega arith
     by false h = omega (arith, h)
 
-pub chosen-lists : ChosenLists
-chosen-lists = record {
-  factors = λ N e. (sound-list N e).0;
-  multiplied = λ N e. chosen-product N e;
-  fewest = λ N e list ok p. let a = admitted-length N e in shortest list (N / 2) (1440 / (N / 2)) (factors-of list ok) p a.positive (omega (arith, a.short)) a.half-turns;
+pub chosen_lists : ChosenLists
+chosen_lists = record {
+  factors = λ N e. (sound_list N e).0;
+  multiplied = λ N e. chosen_product N e;
+  fewest = λ N e list ok p. let a = admitted_length N e in shortest list (N / 2) (1440 / (N / 2)) (factors_of_lem list ok) p a.positive (omega (arith, a.short)) a.half_turns;
   eight = λ N. at_most 8 (N / 2);
   order = λ N output. refl;
 }

@@ -4,15 +4,15 @@
 ghost use Rattle.std.specs.Prelude.{◌≡◌, ◌≤◌, length};
 ghost use Rattle.lengths.specs.Lengths.{product};
 ghost use Rattle.output.specs.Written.{Wrote};
-ghost use Rattle.output.specs.Answers.{fillOutcome};
-ghost use Rattle.factor_lists.specs.Chosen.{nextFactor, factored, listStep, ChosenLists};
+ghost use Rattle.output.specs.Answers.{fill_outcome};
+ghost use Rattle.factor_lists.specs.Chosen.{next_factor, factored, list_step, ChosenLists};
 
 use output::FillAnswer;
 use refusals::Refusal;
 
 // The list goes to the output's first places, or the call is refused and changes nothing.
 pub fn factor_list(length: u32, out: &mut [u8]) -> FillAnswer
-    ensures { fillOutcome result out.new ≡ listStep length out.old }
+    ensures { fill_outcome result out.new ≡ list_step length out.old }
 {
     if !lengths::admitted(length) {
         return FillAnswer::Refused(Refusal::Length);
@@ -50,7 +50,7 @@ fn put_factors(n: u32, out: &mut [u8]) -> usize
 
 // 4 where it goes into n, else 5, else 3, else 2.
 fn next_factor(n: u32) -> u32
-    ensures { (result ≡ nextFactor n) × (2 ≤ result) × (result ≤ 5) }
+    ensures { (result ≡ next_factor n) × (2 ≤ result) × (result ≤ 5) }
 {
     if n % 4 == 0 {
         4

@@ -5,22 +5,22 @@ use Rattle.algebra.specs.Prelude.{◌≡◌, ℕ, List, [], length}
 use Rattle.refusals.specs.Refusals.{first}
 use Rattle.header.specs.Header.{needed}
 use Rattle.job.specs.declared.Job.{Job}
-use Rattle.job.specs.Job.{opened, notOpened, openStep}
-use Rattle.factor_file.specs.File.{modulusIn, headerIn, shapeTests, fileStep}
-use Rattle.faults.specs.Faults.{faultsIn}
+use Rattle.job.specs.Job.{opened, not_opened, open_step}
+use Rattle.factor_file.specs.File.{modulus_in, header_in, shape_tests, file_step}
+use Rattle.faults.specs.Faults.{faults_in}
 
 pub record OthersGiveNone : Type 0 where
   pub shape :
       (file : List ℕ) →
-      (first (shapeTests file) ≡ 0 → ⊥) →
-      faultsIn file ≡ []
+      (first (shape_tests file) ≡ 0 → ⊥) →
+      faults_in file ≡ []
   -- on a volume as long as the header asks for: 6 does not arise
   pub opening :
       (file v : List ℕ) →
-      length v ≡ needed (headerIn file) →
-      (number place : ℕ) → (openStep (modulusIn file) (headerIn file) 0 v).answer ≡ notOpened number place →
-      faultsIn file ≡ []
+      length v ≡ needed (header_in file) →
+      (number place : ℕ) → (open_step (modulus_in file) (header_in file) 0 v).answer ≡ not_opened number place →
+      faults_in file ≡ []
   pub accepted :
       (file v : List ℕ) (j : Job) →
-      (fileStep file v).answer ≡ opened j →
-      faultsIn file ≡ []
+      (file_step file v).answer ≡ opened j →
+      faults_in file ≡ []

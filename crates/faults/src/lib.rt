@@ -7,19 +7,19 @@
 // times, and each walk ends at the least place that was refused so far.
 ghost use Rattle.std.specs.Prelude.{◌≡◌, true, false, List, ℕ, ◌+◌, ◌<◌, ◌≤◌, length, replicate};
 ghost use Rattle.refusals.specs.Refusals.{first};
-ghost use Rattle.refusals.specs.Checks.{checkedNumber};
-ghost use Rattle.cell.specs.Volume.{volumeLength};
-ghost use Rattle.cell.specs.Operations.{cellGroup, cellHalves, cellLengths, triple_of, Sizes};
+ghost use Rattle.refusals.specs.Checks.{checked_number};
+ghost use Rattle.cell.specs.Volume.{volume_length};
+ghost use Rattle.cell.specs.Operations.{cell_group, cell_halves, cell_lengths, triple_of, Sizes};
 ghost use Rattle.numbers.specs.Value.{IsModulus};
 ghost use Rattle.job.specs.Job.{within};
-ghost use Rattle.file_format.specs.Format.{shapeTests, recordAt, recordCount, recordsIn, modulusIn, headerIn};
+ghost use Rattle.file_format.specs.Format.{shape_tests, record_at, record_count, records_in, modulus_in, header_in};
 ghost use Rattle.file_format.specs.Places.{PlacesOf};
-ghost use Rattle.factor_file.specs.File.{indexIn};
-ghost use Rattle.faults.specs.Faults.{headerTests, recordFaults, faultsIn, saidFaults};
+ghost use Rattle.factor_file.specs.File.{index_in};
+ghost use Rattle.faults.specs.Faults.{header_tests, record_faults, faults_in, said_faults};
 ghost use Rattle.faults.specs.Fewest.{FewestExactly};
 ghost use Rattle.faults.specs.FewestOpened.{FewestAreOpened};
 ghost use Rattle.faults.specs.Others.{OthersGiveNone};
-ghost use Rattle.faults.specs.FaultSteps.{Records, ownNumber, place_of, WithinTo, FirstUnsound};
+ghost use Rattle.faults.specs.FaultSteps.{Records, own_number, place_of, WithinTo, FirstUnsound};
 ghost use Rattle.faults.specs.FaultSteps.{Apart, Stops, FirstOf, range, Noted};
 
 use cell::operations::{Index, UnitCell};
@@ -43,7 +43,7 @@ const RANGE: usize = 2097152;
 
 // By the file alone. A file that its shape or its header refuses has no record at fault.
 pub fn file_faults(file: &[u8]) -> Faults
-    ensures { saidFaults result ≡ faultsIn file.now }
+    ensures { said_faults result ≡ faults_in file.now }
 {
     let places = file_format::places::places_of(file);
     let checked = file_format::shape::check_shape(file, places);
@@ -71,8 +71,8 @@ pub fn others_give_none()
 
 // The header, then the records, of a file of sound shape.
 fn sound_faults(file: &[u8], places: Places) -> Faults
-    requires { PlacesOf file.now places × (0 ≡ first (shapeTests file.now)) }
-    ensures { saidFaults result ≡ faultsIn file.now }
+    requires { PlacesOf file.now places × (0 ≡ first (shape_tests file.now)) }
+    ensures { said_faults result ≡ faults_in file.now }
 {
     let checked = check_header(file, places);
     if let Checked::Failed(_) = checked {
@@ -86,9 +86,9 @@ fn sound_faults(file: &[u8], places: Places) -> Faults
 
 // 8, 26, 3, 4, 5, 9. The lists are parts of the file.
 fn check_header(file: &[u8], places: Places) -> Checked
-    requires { PlacesOf file.now places × (0 ≡ first (shapeTests file.now)) }
-    ensures { checkedNumber result
-        ≡ first (headerTests (modulusIn file.now) (headerIn file.now)) }
+    requires { PlacesOf file.now places × (0 ≡ first (shape_tests file.now)) }
+    ensures { checked_number result
+        ≡ first (header_tests (modulus_in file.now) (header_in file.now)) }
 {
     let header = file_format::places::header_numbers(file);
     let cell = header.cell;
@@ -116,10 +116,10 @@ fn check_header(file: &[u8], places: Places) -> Checked
 fn record_faults(file: &[u8], start: usize, modulus: u32, cell: UnitCell, count: u32) -> Faults
     requires { IsModulus modulus
         × Records cell file.now start
-        × (count ≡ recordCount file.now)
-        × (volumeLength (cellGroup cell) (cellHalves cell) ≤ 16777216) }
-    ensures { saidFaults result
-        ≡ recordFaults modulus cell.group (cellLengths cell) (recordsIn file.now) }
+        × (count ≡ record_count file.now)
+        × (volume_length (cell_group cell) (cell_halves cell) ≤ 16777216) }
+    ensures { said_faults result
+        ≡ record_faults modulus cell.group (cell_lengths cell) (records_in file.now) }
 {
     let own = first_unsound(file, start, modulus, cell, count);
     let again = first_repeated(file, start, cell, own);
@@ -136,7 +136,7 @@ fn record_faults(file: &[u8], start: usize, modulus: u32, cell: UnitCell, count:
 
 fn index_at(file: &[u8], at: usize) -> Index
     requires { at + 14 ≤ length file.now }
-    ensures { triple_of result ≡ indexIn (recordAt file.now at) }
+    ensures { triple_of result ≡ index_in (record_at file.now at) }
 {
     let c = reader::standing_record(file, at);
     Index {
@@ -149,8 +149,8 @@ fn index_at(file: &[u8], at: usize) -> Index
 // Whether its own numbers do not refuse it.
 fn sound_at(file: &[u8], at: usize, modulus: u32, cell: UnitCell) -> bool
     requires { Sizes cell × IsModulus modulus × (at + 14 ≤ length file.now) }
-    ensures { (result ≡ true → 0 ≡ ownNumber modulus cell (recordAt file.now at))
-        × (result ≡ false → ownNumber modulus cell (recordAt file.now at) ≡ 0 → ⊥) }
+    ensures { (result ≡ true → 0 ≡ own_number modulus cell (record_at file.now at))
+        × (result ≡ false → own_number modulus cell (record_at file.now at) ≡ 0 → ⊥) }
 {
     let c = reader::standing_record(file, at);
     let j = Index {
@@ -170,9 +170,9 @@ fn sound_at(file: &[u8], at: usize, modulus: u32, cell: UnitCell) -> bool
 fn place_at(file: &[u8], at: usize, cell: UnitCell) -> usize
     requires { Sizes cell
         × (at + 14 ≤ length file.now)
-        × (within (cellLengths cell) (indexIn (recordAt file.now at)) ≡ true) }
-    ensures { (result ≡ place_of cell (recordAt file.now at))
-        × (result < volumeLength (cellGroup cell) (cellHalves cell)) }
+        × (within (cell_lengths cell) (index_in (record_at file.now at)) ≡ true) }
+    ensures { (result ≡ place_of cell (record_at file.now at))
+        × (result < volume_length (cell_group cell) (cell_halves cell)) }
 {
     let j = index_at(file, at);
     volume::orbit_place::orbit_place(cell, j)
@@ -182,7 +182,7 @@ fn place_at(file: &[u8], at: usize, cell: UnitCell) -> usize
 
 // The first record that its own numbers refuse, or the count.
 fn first_unsound(file: &[u8], start: usize, modulus: u32, cell: UnitCell, count: u32) -> u32
-    requires { IsModulus modulus × Records cell file.now start × (count ≡ recordCount file.now) }
+    requires { IsModulus modulus × Records cell file.now start × (count ≡ record_count file.now) }
     ensures { FirstUnsound modulus cell file.now result }
 {
     let mut i: u32 = 0;
@@ -199,8 +199,8 @@ fn first_unsound(file: &[u8], start: usize, modulus: u32, cell: UnitCell, count:
 fn first_repeated(file: &[u8], start: usize, cell: UnitCell, limit: u32) -> u32
     requires { Records cell file.now start
         × WithinTo cell file.now limit
-        × (volumeLength (cellGroup cell) (cellHalves cell) ≤ 16777216) }
-    ensures { Apart cell file.now 0 (volumeLength (cellGroup cell) (cellHalves cell)) result
+        × (volume_length (cell_group cell) (cell_halves cell) ≤ 16777216) }
+    ensures { Apart cell file.now 0 (volume_length (cell_group cell) (cell_halves cell)) result
         × Stops cell file.now limit result }
 {
     let places = header::bytes::volume_length(cell) as usize;

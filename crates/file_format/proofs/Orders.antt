@@ -2,5 +2,5 @@
 use mathlib.Core.Path.{refl}
 use Rattle.file_format.specs.Orders.{ShapeRefusals}
 
-pub shape-refusals : ShapeRefusals
-shape-refusals = record { ordered = λ file. refl }
+pub shape_refusals : ShapeRefusals
+shape_refusals = record { ordered = λ file. refl }

@@ -11,137 +11,137 @@ use Rattle.algebra.proofs.ring.Laws.{along}
 use Rattle.refusals.specs.Refusals.{first}
 use Rattle.refusals.proofs.Tests.{pass, none, not_t}
 use Rattle.header.specs.Header.{Header}
-use Rattle.output.specs.Output.{bigEndian}
+use Rattle.output.specs.Output.{big_endian}
 use Rattle.file_format.specs.declared.FileRecord.{FileRecord}
-use Rattle.file_format.specs.Format.{byte_at, twoBytes, fourBytes, versionAt, modulusIn, lengthsAt, list1At, list2At, list3At, countAt, recordCount, recordsIn, recordsFrom, isVersion, shapeTests, headerIn, modulusBytes, listBytes, all_bytes, body, fileOf}
+use Rattle.file_format.specs.Format.{byte_at, two_bytes, four_bytes, version_at, modulus_in, lengths_at, list1_at, list2_at, list3_at, count_at, record_count, records_in, records_from, is_version, shape_tests, header_in, modulus_bytes, list_bytes, all_bytes, body, file_of}
 use Rattle.file_format.specs.Parsed.{Writable, ParsesBack}
-use Rattle.file_format.proofs.layout.ByteLaws.{length-all}
-use Rattle.file_format.proofs.layout.FileParts.{length-body, length-file, parts-apart}
-use Rattle.file_format.proofs.places.Versions.{with-modulus, without-modulus}
-use Rattle.file_format.proofs.Parsing.{Stands, byte-at, two_at, four-at, list_at, records-at}
-use Rattle.file_format.proofs.Rewriting.{file-again}
+use Rattle.file_format.proofs.layout.ByteLaws.{length_all}
+use Rattle.file_format.proofs.layout.FileParts.{length_body, length_file, parts_apart}
+use Rattle.file_format.proofs.places.Versions.{with_modulus, without_modulus}
+use Rattle.file_format.proofs.Parsing.{Stands, byte_at_lem, two_at, four_at, list_at, records_at_lem}
+use Rattle.file_format.proofs.Rewriting.{file_again}
 
 module _ (version m : ℕ) (h : Header) (cs : List FileRecord) (w : Writable version m h cs) where
   abbrev file : List ℕ
-  file = fileOf version m h cs
+  file = file_of version m h cs
 
   -- ---- what stands after each part
 
   abbrev records : List ℕ
-  records = bigEndian 4 (length cs) ++ all_bytes cs
+  records = big_endian 4 (length cs) ++ all_bytes cs
 
   abbrev lists : List ℕ
-  lists = listBytes h.list1 ++ (listBytes h.list2 ++ (listBytes h.list3 ++ records))
+  lists = list_bytes h.list1 ++ (list_bytes h.list2 ++ (list_bytes h.list3 ++ records))
 
   abbrev lengths : List ℕ
-  lengths = bigEndian 2 h.lengths.0 ++ (bigEndian 2 h.lengths.1 ++ (bigEndian 2 h.lengths.2 ++ lists))
+  lengths = big_endian 2 h.lengths.0 ++ (big_endian 2 h.lengths.1 ++ (big_endian 2 h.lengths.2 ++ lists))
 
-  file-right : file ≡ bigEndian 4 (length (body version m h cs)) ++ version ∷ h.group ∷ (modulusBytes version m ++ lengths)
-  file-right = parts-apart version m h cs
+  file_right : file ≡ big_endian 4 (length (body version m h cs)) ++ version ∷ h.group ∷ (modulus_bytes version m ++ lengths)
+  file_right = parts_apart version m h cs
 
-  count-read : (fourBytes file 0 ≡ length (body version m h cs)) × Stands file 4 (version ∷ h.group ∷ (modulusBytes version m ++ lengths))
-  count-read = four-at file 0 (length (body version m h cs)) (version ∷ h.group ∷ (modulusBytes version m ++ lengths)) w.short file-right
+  count_read : (four_bytes file 0 ≡ length (body version m h cs)) × Stands file 4 (version ∷ h.group ∷ (modulus_bytes version m ++ lengths))
+  count_read = four_at file 0 (length (body version m h cs)) (version ∷ h.group ∷ (modulus_bytes version m ++ lengths)) w.short file_right
 
-  version-read : (byte_at file versionAt ≡ version) × Stands file 5 (h.group ∷ (modulusBytes version m ++ lengths))
-  version-read = byte-at file 4 version (h.group ∷ (modulusBytes version m ++ lengths)) count-read.1
+  version_read : (byte_at file version_at ≡ version) × Stands file 5 (h.group ∷ (modulus_bytes version m ++ lengths))
+  version_read = byte_at_lem file 4 version (h.group ∷ (modulus_bytes version m ++ lengths)) count_read.1
 
-  group-read : (byte_at file 5 ≡ h.group) × Stands file 6 (modulusBytes version m ++ lengths)
-  group-read = byte-at file 5 h.group (modulusBytes version m ++ lengths) version-read.1
+  group_read : (byte_at file 5 ≡ h.group) × Stands file 6 (modulus_bytes version m ++ lengths)
+  group_read = byte_at_lem file 5 h.group (modulus_bytes version m ++ lengths) version_read.1
 
   -- ---- the modulus, by the version
 
   -- version 2 has a byte for it, and the lengths behind that
-  second : version ≡ 2 → (modulusIn file ≡ m) × Stands file (lengthsAt file) lengths
+  second : version ≡ 2 → (modulus_in file ≡ m) × Stands file (lengths_at file) lengths
   second e =
-      let read = with-modulus file (version-read.0 ∙ e) in
-      let bytes = byte-at file 6 m lengths (group-read.1 ∙ ap (λ (v : ℕ). modulusBytes v m ++ lengths) e) in
+      let read = with_modulus file (version_read.0 ∙ e) in
+      let bytes = byte_at_lem file 6 m lengths (group_read.1 ∙ ap (λ (v : ℕ). modulus_bytes v m ++ lengths) e) in
       (read.0 ∙ bytes.0, ap (λ (q : ℕ). drop q file) read.1 ∙ bytes.1)
 
   -- version 1 has none
-  only-first : version ≡ 1 → m ≡ 1 → (modulusIn file ≡ m) × Stands file (lengthsAt file) lengths
-  only-first e one =
-      let read = without-modulus file (λ (t : byte_at file versionAt ≡ 2). omega (arith, version-read.0)) in
-      (read.0 ∙ sym one, ap (λ (q : ℕ). drop q file) read.1 ∙ group-read.1 ∙ ap (λ (v : ℕ). modulusBytes v m ++ lengths) e)
+  only_first : version ≡ 1 → m ≡ 1 → (modulus_in file ≡ m) × Stands file (lengths_at file) lengths
+  only_first e one =
+      let read = without_modulus file (λ (t : byte_at file version_at ≡ 2). omega (arith, version_read.0)) in
+      (read.0 ∙ sym one, ap (λ (q : ℕ). drop q file) read.1 ∙ group_read.1 ∙ ap (λ (v : ℕ). modulus_bytes v m ++ lengths) e)
 
-  behind-group : (modulusIn file ≡ m) × Stands file (lengthsAt file) lengths
-  behind-group = ⊎_elim second (λ (e : (version ≡ 1) × (m ≡ 1)). only-first e.0 e.1) w.versions
+  behind_group : (modulus_in file ≡ m) × Stands file (lengths_at file) lengths
+  behind_group = ⊎_elim second (λ (e : (version ≡ 1) × (m ≡ 1)). only_first e.0 e.1) w.versions
 
   -- ---- the lengths, and what stands behind them
 
-  length1-read : (twoBytes file (lengthsAt file) ≡ h.lengths.0) × Stands file (lengthsAt file + 2) (bigEndian 2 h.lengths.1 ++ (bigEndian 2 h.lengths.2 ++ lists))
-  length1-read = two_at file (lengthsAt file) h.lengths.0 _ w.lengths.h behind-group.1
+  length1_read : (two_bytes file (lengths_at file) ≡ h.lengths.0) × Stands file (lengths_at file + 2) (big_endian 2 h.lengths.1 ++ (big_endian 2 h.lengths.2 ++ lists))
+  length1_read = two_at file (lengths_at file) h.lengths.0 _ w.lengths.h behind_group.1
 
-  length2-read : (twoBytes file (lengthsAt file + 2) ≡ h.lengths.1) × Stands file (lengthsAt file + 4) (bigEndian 2 h.lengths.2 ++ lists)
-  length2-read =
-      let r = two_at file (lengthsAt file + 2) h.lengths.1 _ w.lengths.k length1-read.1 in
-      (r.0, along (λ (q : ℕ). drop q file) (lengthsAt file + 4) (lengthsAt file + 2 + 2) (omega arith) ∙ r.1)
+  length2_read : (two_bytes file (lengths_at file + 2) ≡ h.lengths.1) × Stands file (lengths_at file + 4) (big_endian 2 h.lengths.2 ++ lists)
+  length2_read =
+      let r = two_at file (lengths_at file + 2) h.lengths.1 _ w.lengths.k length1_read.1 in
+      (r.0, along (λ (q : ℕ). drop q file) (lengths_at file + 4) (lengths_at file + 2 + 2) (omega arith) ∙ r.1)
 
-  length3-read : (twoBytes file (lengthsAt file + 4) ≡ h.lengths.2) × Stands file (list1At file) lists
-  length3-read =
-      let r = two_at file (lengthsAt file + 4) h.lengths.2 lists w.lengths.l length2-read.1 in
-      (r.0, along (λ (q : ℕ). drop q file) (list1At file) (lengthsAt file + 4 + 2) (omega arith) ∙ r.1)
+  length3_read : (two_bytes file (lengths_at file + 4) ≡ h.lengths.2) × Stands file (list1_at file) lists
+  length3_read =
+      let r = two_at file (lengths_at file + 4) h.lengths.2 lists w.lengths.l length2_read.1 in
+      (r.0, along (λ (q : ℕ). drop q file) (list1_at file) (lengths_at file + 4 + 2) (omega arith) ∙ r.1)
 
-  list2-stands : Stands file (list2At file) (listBytes h.list2 ++ (listBytes h.list3 ++ records))
-  unfolding list2At
-  list2-stands = (list_at file (list1At file) h.list1 (listBytes h.list2 ++ (listBytes h.list3 ++ records)) length3-read.1).1
+  list2_stands : Stands file (list2_at file) (list_bytes h.list2 ++ (list_bytes h.list3 ++ records))
+  unfolding list2_at
+  list2_stands = (list_at file (list1_at file) h.list1 (list_bytes h.list2 ++ (list_bytes h.list3 ++ records)) length3_read.1).1
 
-  list3-stands : Stands file (list3At file) (listBytes h.list3 ++ records)
-  unfolding list3At
-  list3-stands = (list_at file (list2At file) h.list2 (listBytes h.list3 ++ records) list2-stands).1
+  list3_stands : Stands file (list3_at file) (list_bytes h.list3 ++ records)
+  unfolding list3_at
+  list3_stands = (list_at file (list2_at file) h.list2 (list_bytes h.list3 ++ records) list2_stands).1
 
-  count-stands : Stands file (countAt file) records
-  unfolding countAt
-  count-stands = (list_at file (list3At file) h.list3 records list3-stands).1
+  count_stands : Stands file (count_at file) records
+  unfolding count_at
+  count_stands = (list_at file (list3_at file) h.list3 records list3_stands).1
 
   -- ---- the header
 
-  header_read : headerIn file ≡ h
+  header_read : header_in file ≡ h
   header_read =
-      let x = length1-read.0 in
-      let y = length2-read.0 in
-      let z = length3-read.0 in
-      let l = (list_at file (list1At file) h.list1 _ length3-read.1).0 in
-      let m = (list_at file (list2At file) h.list2 _ list2-stands).0 in
-      let n = (list_at file (list3At file) h.list3 _ list3-stands).0 in
-      λ i. record { group = group-read.0 i; lengths = (x i, y i, z i); list1 = l i; list2 = m i; list3 = n i }
+      let x = length1_read.0 in
+      let y = length2_read.0 in
+      let z = length3_read.0 in
+      let l = (list_at file (list1_at file) h.list1 _ length3_read.1).0 in
+      let m = (list_at file (list2_at file) h.list2 _ list2_stands).0 in
+      let n = (list_at file (list3_at file) h.list3 _ list3_stands).0 in
+      λ i. record { group = group_read.0 i; lengths = (x i, y i, z i); list1 = l i; list2 = m i; list3 = n i }
 
   -- ---- the records
 
   few : length cs < 4294967296
-  few = omega (arith, w.short, length-body version m h cs)
+  few = omega (arith, w.short, length_body version m h cs)
 
-  records-stand : (recordCount file ≡ length cs) × Stands file (countAt file + 4) (all_bytes cs)
-  records-stand = four-at file (countAt file) (length cs) (all_bytes cs) few count-stands
+  records_stand : (record_count file ≡ length cs) × Stands file (count_at file + 4) (all_bytes cs)
+  records_stand = four_at file (count_at file) (length cs) (all_bytes cs) few count_stands
 
-  records-read : recordsIn file ≡ cs
-  records-read = ap (recordsFrom file (countAt file + 4)) records-stand.0 ∙ records-at file (countAt file + 4) cs w.records records-stand.1
+  records_read : records_in file ≡ cs
+  records_read = ap (records_from file (count_at file + 4)) records_stand.0 ∙ records_at_lem file (count_at file + 4) cs w.records records_stand.1
 
   -- ---- the shape
 
-  filled : countAt file + 4 + 14 * recordCount file ≡ length file
-  unfolding bigEndian
-  filled = omega (arith, records-stand.0, length-drop (countAt file) file, ap length count-stands, length-all cs)
+  filled : count_at file + 4 + 14 * record_count file ≡ length file
+  unfolding big_endian
+  filled = omega (arith, records_stand.0, length-drop (count_at file) file, ap length count_stands, length_all cs)
 
-  counted : fourBytes file 0 ≡ length file - 4
-  counted = omega (arith, count-read.0, length-file version m h cs, length-body version m h cs)
+  counted : four_bytes file 0 ≡ length file - 4
+  counted = omega (arith, count_read.0, length_file version m h cs, length_body version m h cs)
 
   long : 5 ≤ length file
-  long = omega (arith, length-file version m h cs)
+  long = omega (arith, length_file version m h cs)
 
-  known : isVersion version ≡ true
-  known = ⊎_elim (λ (e : version ≡ 2). ap isVersion e) (λ (e : (version ≡ 1) × (m ≡ 1)). ap isVersion e.0) w.versions
+  known : is_version version ≡ true
+  known = ⊎_elim (λ (e : version ≡ 2). ap is_version e) (λ (e : (version ≡ 1) × (m ≡ 1)). ap is_version e.0) w.versions
 
-  modulus-read : modulusIn file ≡ m
-  modulus-read = behind-group.0
+  modulus_read : modulus_in file ≡ m
+  modulus_read = behind_group.0
 
-  well-shaped : 0 ≡ first (shapeTests file)
-  well-shaped =
+  well_shaped : 0 ≡ first (shape_tests file)
+  well_shaped =
       let a = le-ltb (length file) _ long in
-      let b = not_t _ (eq-eqb (fourBytes file 0) (length file - 4) counted) in
+      let b = not_t _ (eq-eqb (four_bytes file 0) (length file - 4) counted) in
       pass 15 _ (λ i. a i || b i)
-      (pass 16 _ (not_t _ (ap isVersion version-read.0 ∙ known))
-      (pass 15 _ (not_t _ (eq-eqb (countAt file + 4 + 14 * recordCount file) (length file) filled))
+      (pass 16 _ (not_t _ (ap is_version version_read.0 ∙ known))
+      (pass 15 _ (not_t _ (eq-eqb (count_at file + 4 + 14 * record_count file) (length file) filled))
       none))
 
-pub parses-back : ParsesBack
-parses-back = record { shape = well-shaped; modulus = modulus-read; header = header_read; records = records-read; again = file-again }
+pub parses_back : ParsesBack
+parses_back = record { shape = well_shaped; modulus = modulus_read; header = header_read; records = records_read; again = file_again }

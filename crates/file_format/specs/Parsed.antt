@@ -7,12 +7,12 @@ use Rattle.numbers.specs.Value.{Value}
 use Rattle.refusals.specs.Refusals.{first}
 use Rattle.header.specs.Header.{Header}
 use Rattle.file_format.specs.declared.FileRecord.{FileRecord}
-use Rattle.file_format.specs.Format.{byte_at, versionAt, shapeTests, modulusIn, headerIn, recordsIn, body}
-use Rattle.file_format.specs.Format.{fileOf}
+use Rattle.file_format.specs.Format.{byte_at, version_at, shape_tests, modulus_in, header_in, records_in, body}
+use Rattle.file_format.specs.Format.{file_of}
 
 -- an index and a value, as a record
-abbrev pub fileRecord : (m : ℕ) → J × Value m → FileRecord
-fileRecord m c = record { h = c.0.0; k = c.0.1; l = c.0.2; a = c.1.0.val; b = c.1.1.val }
+abbrev pub file_record : (m : ℕ) → J × Value m → FileRecord
+file_record m c = record { h = c.0.0; k = c.0.1; l = c.0.2; a = c.1.0.val; b = c.1.1.val }
 
 -- the numbers of a file are bytes, as those of every slice of bytes that is lent; past its end byte_at gives 0
 pub record Bytes (file : List ℕ) : Type 0 where
@@ -43,17 +43,17 @@ pub record Writable (version m : ℕ) (h : Header) (cs : List FileRecord) : Type
 pub record ParsesBack : Type 0 where
   pub shape : (version m : ℕ) (h : Header) (cs : List FileRecord) →
       Writable version m h cs →
-      0 ≡ first (shapeTests (fileOf version m h cs))
+      0 ≡ first (shape_tests (file_of version m h cs))
   pub modulus : (version m : ℕ) (h : Header) (cs : List FileRecord) →
       Writable version m h cs →
-      modulusIn (fileOf version m h cs) ≡ m
+      modulus_in (file_of version m h cs) ≡ m
   pub header : (version m : ℕ) (h : Header) (cs : List FileRecord) →
       Writable version m h cs →
-      headerIn (fileOf version m h cs) ≡ h
+      header_in (file_of version m h cs) ≡ h
   pub records : (version m : ℕ) (h : Header) (cs : List FileRecord) →
       Writable version m h cs →
-      recordsIn (fileOf version m h cs) ≡ cs
+      records_in (file_of version m h cs) ≡ cs
   pub again : (file : List ℕ) →
       Bytes file →
-      0 ≡ first (shapeTests file) →
-      fileOf (byte_at file versionAt) (modulusIn file) (headerIn file) (recordsIn file) ≡ file
+      0 ≡ first (shape_tests file) →
+      file_of (byte_at file version_at) (modulus_in file) (header_in file) (records_in file) ≡ file

@@ -1,6 +1,6 @@
 // The numbers of a file: its bytes, and big-endian numbers of two and of four bytes, the higher byte first.
 ghost use Rattle.std.specs.Prelude.{◌≡◌, ◌+◌, ◌≤◌, ◌<◌, length};
-ghost use Rattle.file_format.specs.Format.{byte_at, twoBytes, fourBytes};
+ghost use Rattle.file_format.specs.Format.{byte_at, two_bytes, four_bytes};
 
 // A byte as a number of 32 bits.
 pub fn wide(x: u8) -> u32
@@ -22,7 +22,7 @@ pub fn byte_at(file: &[u8], q: usize) -> u32
 // The number of the two bytes from place q on.
 pub fn two_bytes(file: &[u8], q: usize) -> u32
     requires { q + 2 ≤ length file.now }
-    ensures { (result ≡ twoBytes file.now q) × (result < 65536) }
+    ensures { (result ≡ two_bytes file.now q) × (result < 65536) }
 {
     wide(file[q]) * 256 + wide(file[q + 1])
 }
@@ -30,7 +30,7 @@ pub fn two_bytes(file: &[u8], q: usize) -> u32
 // The same near the start of a file, whether it has the bytes or not: one beyond it is 0.
 pub fn two_at(file: &[u8], q: usize) -> u32
     requires { q < 256 }
-    ensures { (result ≡ twoBytes file.now q) × (result < 65536) }
+    ensures { (result ≡ two_bytes file.now q) × (result < 65536) }
 {
     byte_at(file, q) * 256 + byte_at(file, q + 1)
 }
@@ -38,7 +38,7 @@ pub fn two_at(file: &[u8], q: usize) -> u32
 // The number of the four bytes from place q on.
 pub fn four_bytes(file: &[u8], q: usize) -> u32
     requires { q + 4 ≤ length file.now }
-    ensures { result ≡ fourBytes file.now q }
+    ensures { result ≡ four_bytes file.now q }
 {
     two_bytes(file, q) * 65536 + two_bytes(file, q + 2)
 }

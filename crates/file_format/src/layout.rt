@@ -1,17 +1,17 @@
 // The layout of a factor file: a record as bytes, and how long a file is. The header's length depends on the modulus and the factor lists alone,
 // and each record has as many bytes as any other. A job holds its lists as octal digits, the first factor lowest.
 ghost use Rattle.std.specs.Prelude.{◌≡◌, List, ℕ, ◌+◌, ◌*◌, ◌≤◌, ◌<◌, length};
-ghost use Rattle.lengths.specs.Lengths.{octalDigits};
+ghost use Rattle.lengths.specs.Lengths.{octal_digits};
 ghost use Rattle.output.specs.Written.{Wrote, Ends};
-ghost use Rattle.file_format.specs.Format.{versionOf, modulusBytes, headerBytes, rawBytes, fileOf};
-ghost use Rattle.file_format.specs.Layout.{headerWith};
+ghost use Rattle.file_format.specs.Format.{version_of, modulus_bytes, header_bytes, raw_bytes, file_of};
+ghost use Rattle.file_format.specs.Layout.{header_with};
 
 use crate::FileRecord;
 use output::big_endian;
 
 // How many octal digits a number has.
 pub fn digit_count(factors: u32) -> usize
-    ensures { result ≡ length (octalDigits factors) }
+    ensures { result ≡ length (octal_digits factors) }
 {
     let mut count: usize = 0;
     let mut rest = factors;
@@ -24,8 +24,8 @@ pub fn digit_count(factors: u32) -> usize
 
 // A record, whatever its value: three numbers of two bytes, and two of four.
 pub fn put_record(c: FileRecord, out: &mut [u8], at: usize) -> usize
-    requires { (c.h < 65536) × (c.k < 65536) × (c.l < 65536) × Ends at (rawBytes c) }
-    ensures { Wrote at (rawBytes c) out.old result out.new }
+    requires { (c.h < 65536) × (c.k < 65536) × (c.l < 65536) × Ends at (raw_bytes c) }
+    ensures { Wrote at (raw_bytes c) out.old result out.new }
 {
     let k = big_endian::put_two(out, at, c.h);
     let l = big_endian::put_two(out, k, c.k);
@@ -36,7 +36,7 @@ pub fn put_record(c: FileRecord, out: &mut [u8], at: usize) -> usize
 
 // How many bytes of the header are in no list: the second modulus has one of its own.
 fn fixed_length(modulus: u32) -> usize
-    ensures { (result ≡ 11 + length (modulusBytes (versionOf modulus) modulus)) × (result ≤ 12) }
+    ensures { (result ≡ 11 + length (modulus_bytes (version_of modulus) modulus)) × (result ≤ 12) }
 {
     if modulus == 1 {
         return 11;
@@ -47,7 +47,7 @@ fn fixed_length(modulus: u32) -> usize
 // How long the header is.
 fn header_length(modulus: u32, f1: u32, f2: u32, f3: u32) -> usize
     ensures { ((group n1 n2 n3 : ℕ) →
-        result ≡ length (headerBytes (versionOf modulus) modulus (headerWith group n1 n2 n3 f1 f2 f3)))
+        result ≡ length (header_bytes (version_of modulus) modulus (header_with group n1 n2 n3 f1 f2 f3)))
         × (result ≤ 45) }
 {
     fixed_length(modulus) + digit_count(f1) + digit_count(f2) + digit_count(f3)
@@ -58,7 +58,7 @@ pub fn file_length(modulus: u32, f1: u32, f2: u32, f3: u32, count: usize) -> usi
     requires { count ≤ 4294967296 }
     ensures { ((group n1 n2 n3 : ℕ) (cs : List FileRecord) →
         count ≡ length cs →
-        result ≡ length (fileOf (versionOf modulus) modulus (headerWith group n1 n2 n3 f1 f2 f3) cs))
+        result ≡ length (file_of (version_of modulus) modulus (header_with group n1 n2 n3 f1 f2 f3) cs))
         × (result ≤ 53 + 14 * count) }
 {
     header_length(modulus, f1, f2, f3) + 8 + 14 * count

@@ -1,6 +1,6 @@
 // Where the parts of a factor file stand: the numbers of its header, its lists, its record count and its first record.
 ghost use Rattle.std.specs.Prelude.{◌≡◌, ◌+◌, ◌≤◌, ◌<◌};
-ghost use Rattle.file_format.specs.Format.{modulusIn, lengthsAt, afterList};
+ghost use Rattle.file_format.specs.Format.{modulus_in, lengths_at, after_list};
 ghost use Rattle.file_format.specs.Places.{PlacesOf, NumbersOf};
 
 use cell::operations::UnitCell;
@@ -38,7 +38,7 @@ pub fn header_numbers(file: &[u8]) -> HeaderNumbers
 
 // The modulus: a file of version 2 has a byte for it.
 fn modulus_in(file: &[u8]) -> u32
-    ensures { result ≡ modulusIn file.now }
+    ensures { result ≡ modulus_in file.now }
 {
     if crate::integers::byte_at(file, VERSION) == 2 {
         return crate::integers::byte_at(file, MODULUS);
@@ -48,7 +48,7 @@ fn modulus_in(file: &[u8]) -> u32
 
 // Where the lengths begin, behind the group or behind the modulus.
 fn lengths_at(file: &[u8]) -> usize
-    ensures { (result ≡ lengthsAt file.now) × (result ≤ 7) }
+    ensures { (result ≡ lengths_at file.now) × (result ≤ 7) }
 {
     if crate::integers::byte_at(file, VERSION) == 2 {
         return 7;
@@ -68,7 +68,7 @@ pub struct Places {
 // The place after the list whose count byte stands at q.
 fn after_list(file: &[u8], q: usize) -> usize
     requires { q < 1024 }
-    ensures { (result ≡ afterList file.now q) × (result ≤ q + 256) }
+    ensures { (result ≡ after_list file.now q) × (result ≤ q + 256) }
 {
     q + 1 + crate::integers::byte_at(file, q) as usize
 }

@@ -5,8 +5,8 @@
 // all steps together hand out. The functions over the reader only take it apart and put it together: the work is done by `record_at` and `place_after`, on
 // the file and a place.
 ghost use Rattle.std.specs.Prelude.{◌≡◌, ◌+◌, ◌≤◌, length};
-ghost use Rattle.file_format.specs.Format.{recordAt};
-ghost use Rattle.file_format.specs.Walk.{recordStands, found_at, placeAfter, WalkHandsOutRecords};
+ghost use Rattle.file_format.specs.Format.{record_at};
+ghost use Rattle.file_format.specs.Walk.{record_stands, found_at, place_after, WalkHandsOutRecords};
 
 use crate::FileRecord;
 
@@ -47,7 +47,7 @@ pub fn next<'a>(r: RecordReader<'a>) -> Found
 // The reader one record on.
 pub fn after<'a>(r: RecordReader<'a>) -> RecordReader<'a>
     ensures { (result.file ≡ r.entry.file)
-        × (result.at ≡ placeAfter r.entry.file.now r.entry.at) }
+        × (result.at ≡ place_after r.entry.file.now r.entry.at) }
 {
     RecordReader {
         file: r.file,
@@ -58,7 +58,7 @@ pub fn after<'a>(r: RecordReader<'a>) -> RecordReader<'a>
 // One step of a walk from a place.
 pub fn read_record(file: &[u8], at: usize) -> Step
     ensures { (result.found ≡ found_at file.now at)
-        × (result.after ≡ placeAfter file.now at) }
+        × (result.after ≡ place_after file.now at) }
 {
     let r = new(file, at);
     Step {
@@ -75,7 +75,7 @@ pub fn hands_out_records()
 
 // Whether the fourteen bytes of a record are there.
 fn record_stands(file: &[u8], at: usize) -> bool
-    ensures { result ≡ recordStands file.now at }
+    ensures { result ≡ record_stands file.now at }
 {
     14 <= file.len() && at <= file.len() - 14
 }
@@ -93,7 +93,7 @@ pub fn record_at(file: &[u8], at: usize) -> Found
 // The same where the fourteen bytes are known to be there.
 pub fn standing_record(file: &[u8], at: usize) -> FileRecord
     requires { at + 14 ≤ length file.now }
-    ensures { result ≡ recordAt file.now at }
+    ensures { result ≡ record_at file.now at }
 {
     FileRecord {
         h: crate::integers::two_bytes(file, at),
@@ -106,7 +106,7 @@ pub fn standing_record(file: &[u8], at: usize) -> FileRecord
 
 // The place one record on. Where no record stands it is the same place: a walk that has come to the end stays there.
 pub fn place_after(file: &[u8], at: usize) -> usize
-    ensures { result ≡ placeAfter file.now at }
+    ensures { result ≡ place_after file.now at }
 {
     if record_stands(file, at) { at + 14 } else { at }
 }

@@ -3,8 +3,8 @@
 // Nothing here knows what a job makes of the header and the records.
 ghost use Rattle.std.specs.Prelude.{◌≡◌};
 ghost use Rattle.refusals.specs.Refusals.{first};
-ghost use Rattle.refusals.specs.Checks.{checkedNumber};
-ghost use Rattle.file_format.specs.Format.{miscounted, isVersion, fillingTests, shapeTests};
+ghost use Rattle.refusals.specs.Checks.{checked_number};
+ghost use Rattle.file_format.specs.Format.{miscounted, is_version, filling_tests, shape_tests};
 ghost use Rattle.file_format.specs.Places.{PlacesOf};
 ghost use Rattle.file_format.specs.Parsed.{Bytes, ParsesBack};
 ghost use Rattle.file_format.specs.Orders.{ShapeRefusals};
@@ -24,7 +24,7 @@ fn is_miscounted(file: &[u8]) -> bool
 }
 
 fn is_version(version: u8) -> bool
-    ensures { result ≡ isVersion version }
+    ensures { result ≡ is_version version }
 {
     version == 1 || version == 2
 }
@@ -32,7 +32,7 @@ fn is_version(version: u8) -> bool
 // The test behind the version: 15 where header, lists and records do not fill the file.
 fn check_filling(file: &[u8], places: Places) -> Checked
     requires { PlacesOf file.now places }
-    ensures { checkedNumber result ≡ first (fillingTests file.now) }
+    ensures { checked_number result ≡ first (filling_tests file.now) }
 {
     let at = crate::places::first_record(places);
     if file.len() < at {
@@ -48,7 +48,7 @@ fn check_filling(file: &[u8], places: Places) -> Checked
 // 15 for the count, 16 for the version, then the rest.
 pub fn check_shape(file: &[u8], places: Places) -> Checked
     requires { PlacesOf file.now places }
-    ensures { checkedNumber result ≡ first (shapeTests file.now) }
+    ensures { checked_number result ≡ first (shape_tests file.now) }
 {
     if is_miscounted(file) {
         return Checked::Failed(Refusal::FileShape);

@@ -4,18 +4,18 @@
 use Rattle.std.specs.Prelude.{◌≡◌, List, ℕ, zero, suc, ◌*◌, ◌/◌, ◌<◌, get_or, Bool, true, false}
 use Rattle.algebra.specs.ring.Ring.{Ops, pow}
 use Rattle.algebra.specs.lines.Kinds.{Kind, re, im}
-use Rattle.algebra.specs.lines.FoldKinds.{fold-forward, fold-back}
-use Rattle.numbers.specs.Value.{prime, IsModulus, Value, field, conj, real, half, part, onValues, i}
+use Rattle.algebra.specs.lines.FoldKinds.{fold_forward, fold_back}
+use Rattle.numbers.specs.Value.{prime, IsModulus, Value, field, conj, real, half, part, on_values, i}
 use Rattle.numbers.specs.Bounds.{res}
-use Rattle.roots.specs.Table.{tableRoot, RootTable}
+use Rattle.roots.specs.Table.{table_root, RootTable}
 
 -- the step of the tables' places: e(k/N) is the power k (1440 / A) of the lent root
 abbrev pub stride : ℕ → ℕ
 stride A = 1440 / A
 
 -- e(1/N) of the lent root
-abbrev pub lineRoot : (m A : ℕ) (re im : List ℕ) → Value m
-lineRoot m A re im = pow (field m) (tableRoot m re im) (stride A)
+abbrev pub line_root : (m A : ℕ) (re im : List ℕ) → Value m
+line_root m A re im = pow (field m) (table_root m re im) (stride A)
 
 -- the half tangents of the length, from the lent table
 abbrev pub tangent : (m A : ℕ) (tan : List ℕ) → ℕ → Value m
@@ -25,9 +25,9 @@ tangent m A tan s = real m (res m (get_or tan (stride A * s) 0))
 -- line is the conjugate of the lent one, and its half tangents are the lent ones negated.
 abbrev pub folded : (m direction A : ℕ) (re im tan : List ℕ) → Kind → (ℕ → Value m) → ℕ → Value m
 folded m zero A re im tan k X =
-    onValues m fold-forward A (lineRoot m A re im) (real m (part m (2 * A))) (tangent m A tan) k X
+    on_values m fold_forward A (line_root m A re im) (real m (part m (2 * A))) (tangent m A tan) k X
 folded m (suc direction) A re im tan k X =
-    onValues m fold-back A (conj m (lineRoot m A re im)) (real m (part m (2 * A)))
+    on_values m fold_back A (conj m (line_root m A re im)) (real m (part m (2 * A)))
     (λ s. (field m).neg (tangent m A tan s)) k X
 
 pub record Frame (m A : ℕ) (re im : List ℕ) : Type 0 where
@@ -43,17 +43,17 @@ pub record Tangents (m : ℕ) (tan : List ℕ) : Type 0 where
 -- ---- Hermitian lines: pair 0 holds two reals, X(0) and X(A); the short line and the line have the same formula there.
 
 -- (x + y) + i (x - y) of the two reals x and y that share a pair
-unfoldable pub sumAndDifference : (m : ℕ) → Value m → Value m
-sumAndDifference m z =
-    let x = onValues m re z in
-    let y = onValues m im z in
+unfoldable pub sum_and_difference : (m : ℕ) → Value m → Value m
+sum_and_difference m z =
+    let x = on_values m re z in
+    let y = on_values m im z in
     (field m).add ((field m).add x y) ((field m).mul (i m) ((field m).add x ((field m).neg y)))
 
 -- a value of an antihermitian line as one of the Hermitian line that it is i times, and a value of a Hermitian line as
 -- it is
-unfoldable pub toHermitianValue : (m : ℕ) → Bool → Value m → Value m
-toHermitianValue m false z = z
-toHermitianValue m true z = (field m).mul ((field m).neg (i m)) z
+unfoldable pub to_hermitian_value : (m : ℕ) → Bool → Value m → Value m
+to_hermitian_value m false z = z
+to_hermitian_value m true z = (field m).mul ((field m).neg (i m)) z
 
 -- ---- Symmetric and antisymmetric lines, kinds 4 and 5: `first` is 0 for a symmetric line and 1 for an antisymmetric
 -- one.

@@ -4,16 +4,16 @@
 // conj Y(A - t) of the short line, and e is e(-t/N).
 ghost use Rattle.std.specs.Prelude.{◌≡◌, ℕ};
 ghost use Rattle.algebra.specs.lines.Folds as Folds;
-ghost use Rattle.numbers.specs.Value.{prime, IsModulus, conj, i, value_of, pair_of, onValues};
+ghost use Rattle.numbers.specs.Value.{prime, IsModulus, conj, i, value_of, pair_of, on_values};
 ghost use Rattle.numbers.specs.Bounds.{Small};
-ghost use Rattle.fold_formulas.specs.FoldFormulas.{sumAndDifference, toHermitianValue};
+ghost use Rattle.fold_formulas.specs.FoldFormulas.{sum_and_difference, to_hermitian_value};
 
 use numbers::Pair;
 
 // x + y and x - y of the two reals that share a pair: again two reals that share a pair.
 pub fn sum_and_difference(m: u32, v: Pair) -> Pair
     requires { IsModulus m × Small (prime m) v }
-    ensures { result ≡ pair_of (sumAndDifference m (value_of m v)) }
+    ensures { result ≡ pair_of (sum_and_difference m (value_of m v)) }
 {
     Pair {
         re: numbers::add(m, v.re, v.im),
@@ -25,7 +25,7 @@ pub fn sum_and_difference(m: u32, v: Pair) -> Pair
 pub fn fold_pair(m: u32, e: Pair, x: Pair, y: Pair) -> Pair
     requires { IsModulus m × Small (prime m) e × Small (prime m) x × Small (prime m) y }
     ensures { (A : ℕ) →
-        result ≡ pair_of (onValues m Folds.hermitianPoint A (value_of m e) (value_of m x) (value_of m y)) }
+        result ≡ pair_of (on_values m Folds.hermitian_point A (value_of m e) (value_of m x) (value_of m y)) }
 {
     let rotated = numbers::times_i(m, numbers::difference(m, x, y));
     numbers::unreduced::plus_product(m, x, y, e, rotated)
@@ -35,7 +35,7 @@ pub fn fold_pair(m: u32, e: Pair, x: Pair, y: Pair) -> Pair
 pub fn unfold_pair(m: u32, e: Pair, x: Pair, y: Pair) -> Pair
     requires { IsModulus m × Small (prime m) e × Small (prime m) x × Small (prime m) y }
     ensures { (A : ℕ) →
-        result ≡ pair_of (onValues m Folds.hermitianValue A (value_of m e) (value_of m x) (value_of m y)) }
+        result ≡ pair_of (on_values m Folds.hermitian_value A (value_of m e) (value_of m x) (value_of m y)) }
 {
     let rotated = numbers::times_i(m, numbers::difference(m, y, x));
     numbers::halved(m, numbers::unreduced::plus_product(m, x, y, e, rotated))
@@ -44,7 +44,7 @@ pub fn unfold_pair(m: u32, e: Pair, x: Pair, y: Pair) -> Pair
 // -i v, the value of the Hermitian line of which an antihermitian one is i times; a Hermitian line's own value as it is.
 pub fn to_hermitian(m: u32, anti: bool, v: Pair) -> Pair
     requires { IsModulus m × Small (prime m) v }
-    ensures { result ≡ pair_of (toHermitianValue m anti (value_of m v)) }
+    ensures { result ≡ pair_of (to_hermitian_value m anti (value_of m v)) }
 {
     if anti {
         numbers::negated(m, numbers::times_i(m, v))

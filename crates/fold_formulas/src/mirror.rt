@@ -1,7 +1,7 @@
 // Symmetric and antisymmetric lines: a place of the transform from two places of the short transform.
 ghost use Rattle.std.specs.Prelude.{◌≡◌, ◌<◌, ◌≤◌};
 ghost use Rattle.algebra.specs.ring.Ring.{Ops};
-ghost use Rattle.algebra.specs.lines.Folds.{mirrorValue};
+ghost use Rattle.algebra.specs.lines.Folds.{mirror_value};
 ghost use Rattle.numbers.specs.Value.{prime, IsModulus, field, i, real, half, value_of, pair_of};
 ghost use Rattle.numbers.specs.Bounds.{res, Small};
 ghost use Rattle.fold_formulas.specs.FoldFormulas.{sigma};
@@ -14,7 +14,7 @@ pub fn finish_between(m: u32, first: usize, tau: u32, y: Pair, z: Pair) -> Pair
     requires { IsModulus m × (first ≤ 1) × (tau < prime m) × Small (prime m) y × Small (prime m) z }
     ensures { result
         ≡ pair_of
-        (mirrorValue (field m) (real m (half m)) (sigma (field m) first) ((field m).mul (i m) (real m (res m tau)))
+        (mirror_value (field m) (real m (half m)) (sigma (field m) first) ((field m).mul (i m) (real m (res m tau)))
         (value_of m y)
         (value_of m z)) }
 {

@@ -13,53 +13,53 @@ use Rattle.algebra.proofs.ring.Laws.{along}
 use Rattle.numbers.specs.declared.Pair.{Pair}
 use Rattle.numbers.specs.Value.{prime, IsModulus, Value, ring, field, real, part, value_of, pair_of}
 use Rattle.numbers.specs.Bounds.{res, Small}
-use Rattle.numbers.proofs.Primes.{prime-pos, prime-most}
-use Rattle.numbers.proofs.Residues.{res-by}
-use Rattle.numbers.proofs.Values.{pair_path, pair-value, field-ring}
+use Rattle.numbers.proofs.Primes.{prime_pos, prime_most}
+use Rattle.numbers.proofs.Residues.{res_by}
+use Rattle.numbers.proofs.Values.{pair_path, pair_value, field_ring}
 use Rattle.slices.specs.Pairs.{at, values_of, tab}
-use Rattle.slices.proofs.Pairs.{lt-or-ge, at-tab}
+use Rattle.slices.proofs.Pairs.{lt_or_ge, at_tab}
 use Rattle.batches.specs.Reduction.{Holds}
-use Rattle.batches.specs.Lanes.{laneAt, UpTo}
+use Rattle.batches.specs.Lanes.{lane_at, UpTo}
 use Rattle.batches.specs.Groups.{Gathered, Scattered, LinesBelow}
-use Rattle.batches.proofs.DrivingLanes.{up-as}
-use Rattle.batches.proofs.GroupLaw.{group-law}
+use Rattle.batches.proofs.DrivingLanes.{up_as}
+use Rattle.batches.proofs.GroupLaw.{group_law}
 use Rattle.batches.proofs.LaneLists.{lane_low}
 use Rattle.batches.proofs.PassingLanes.{up_of}
-use Rattle.batches.proofs.VolumeLanes.{pair-used, pair-unused}
-use Rattle.folded_batches.specs.FoldedGroups.{foldedStored, foldedLines}
+use Rattle.batches.proofs.VolumeLanes.{pair_used, pair_unused}
+use Rattle.folded_batches.specs.FoldedGroups.{folded_stored, folded_lines}
 use Rattle.folded_batches.specs.AlternatingLanes.{LaneIs, Packed, SynthesisLanes, AnalysisLanes}
 
 -- a lane of a batch that is lent with more behind it
-lane-front : (l r : List ℕ) {n j v : ℕ} → length l ≡ 32 * n → j < n → v < 16 → laneAt (l ++ r) j v ≡ laneAt l j v
-unfolding laneAt
-lane-front l r {n} {j} {v} long lj lv = pair_path (get_or-append l r 0 (32 * j + v) (omega (arith, long))) (get_or-append l r 0 (32 * j + v + 16) (omega (arith, long)))
+lane_front : (l r : List ℕ) {n j v : ℕ} → length l ≡ 32 * n → j < n → v < 16 → lane_at (l ++ r) j v ≡ lane_at l j v
+unfolding lane_at
+lane_front l r {n} {j} {v} long lj lv = pair_path (get_or-append l r 0 (32 * j + v) (omega (arith, long))) (get_or-append l r 0 (32 * j + v + 16) (omega (arith, long)))
 
 pub reducible : {m : ℕ} {l : List ℕ} → IsModulus m → UpTo (2 * prime m) l → UpTo 2147483647 l
-reducible {m} is h = up-as h (omega (arith, prime-most is))
+reducible {m} is h = up_as h (omega (arith, prime_most is))
 
 -- with more behind it, a batch holds the same lines
-pub gathered-front : {start stride lanes A : ℕ} {volume front : List ℕ} → Gathered volume start stride lanes A front → length front ≡ 32 * A → (rest : List ℕ) → Gathered volume start stride lanes A (front ++ rest)
-gathered-front {front = front} came long rest = record { each = λ j v lj lv. lane-front front rest long lj lv ∙ came.each j v lj lv }
+pub gathered_front : {start stride lanes A : ℕ} {volume front : List ℕ} → Gathered volume start stride lanes A front → length front ≡ 32 * A → (rest : List ℕ) → Gathered volume start stride lanes A (front ++ rest)
+gathered_front {front = front} came long rest = record { each = λ j v lj lv. lane_front front rest long lj lv ∙ came.each j v lj lv }
 
 module _ {m start stride lanes A : ℕ} {volume line : List ℕ} (came : Gathered volume start stride lanes A line) (below : LinesBelow m start stride A lanes volume) where
   -- the lanes hold residues
-  pub gathered-packed : Packed m A line
-  gathered-packed = record {
+  pub gathered_packed : Packed m A line
+  gathered_packed = record {
     each = λ v j lv lj. subst (Small (prime m)) (sym (came.each j v lj lv)) (⊎_elim
-        (λ (lt : v < lanes). subst (Small (prime m)) (along (at volume) (start + v + j * stride) (start + j * stride + v) (omega arith) ∙ pair-used volume (start + j * stride) lt) (below.each v j lt lj))
-        (λ (ge : lanes ≤ v). subst (Small (prime m)) (pair-unused volume (start + j * stride) ge) (record { re = prime-pos m; im = prime-pos m }))
-        (lt-or-ge v lanes));
+        (λ (lt : v < lanes). subst (Small (prime m)) (along (at volume) (start + v + j * stride) (start + j * stride + v) (omega arith) ∙ pair_used volume (start + j * stride) lt) (below.each v j lt lj))
+        (λ (ge : lanes ≤ v). subst (Small (prime m)) (pair_unused volume (start + j * stride) ge) (record { re = prime_pos m; im = prime_pos m }))
+        (lt_or_ge v lanes));
   }
 
   -- lane v is line v
-  gathered-lane : (v : ℕ) → v < lanes → lanes ≤ 16 → LaneIs m A line v (values_of m (tab A (λ i. at volume (start + v + i * stride))))
-  gathered-lane v lv few = record {
+  gathered_lane : (v : ℕ) → v < lanes → lanes ≤ 16 → LaneIs m A line v (values_of m (tab A (λ i. at volume (start + v + i * stride))))
+  gathered_lane v lv few = record {
     each = λ j lj.
         came.each j v lj (omega arith)
-        ∙ sym (pair-used volume (start + j * stride) lv)
+        ∙ sym (pair_used volume (start + j * stride) lv)
         ∙ along (at volume) (start + j * stride + v) (start + v + j * stride) (omega arith)
-        ∙ sym (pair-value m (below.each v j lv lj))
-        ∙ ap (λ x. pair_of (value_of m x)) (sym (at-tab (λ i. at volume (start + v + i * stride)) A j lj));
+        ∙ sym (pair_value m (below.each v j lv lj))
+        ∙ ap (λ x. pair_of (value_of m x)) (sym (at_tab (λ i. at volume (start + v + i * stride)) A j lj));
   }
 
 -- ---- what is scattered
@@ -68,55 +68,55 @@ is_one : (m : ℕ) → real m (ring m).one ≡ (field m).one
 unfolding gauss residues
 is_one m = refl
 
-one-times : (m : ℕ) (z : Value m) → (field m).mul (real m (ring m).one) z ≡ z
-one-times m z = ap (λ x. (field m).mul x z) (is_one m) ∙ (field-ring m).one-mul z
+one_times : (m : ℕ) (z : Value m) → (field m).mul (real m (ring m).one) z ≡ z
+one_times m z = ap (λ x. (field m).mul x z) (is_one m) ∙ (field_ring m).one_mul z
 
 -- a batch of which the first n places are lent
-lane-taken : (l : List ℕ) (n : ℕ) {j v : ℕ} → j < n → v < 16 → laneAt (take (32 * n) l) j v ≡ laneAt l j v
-unfolding laneAt
-lane-taken l n {j} {v} lj lv = pair_path (get_or-take (32 * n) l (32 * j + v) 0 (omega arith)) (get_or-take (32 * n) l (32 * j + v + 16) 0 (omega arith))
+lane_taken : (l : List ℕ) (n : ℕ) {j v : ℕ} → j < n → v < 16 → lane_at (take (32 * n) l) j v ≡ lane_at l j v
+unfolding lane_at
+lane_taken l n {j} {v} lj lv = pair_path (get_or-take (32 * n) l (32 * j + v) 0 (omega arith)) (get_or-take (32 * n) l (32 * j + v + 16) 0 (omega arith))
 
-pub taken-reducible : {X : ℕ} (l : List ℕ) (n : ℕ) → UpTo X l → 32 * n ≤ length l → UpTo X (take (32 * n) l)
-taken-reducible {X} l n up fits = up_of (length-take-le (32 * n) l fits) (λ v j lv lj. subst (λ (x : Pair). (x.re ≤ X) × (x.im ≤ X)) (sym (lane-taken l n lj lv)) (lane_low up j v))
+pub taken_reducible : {X : ℕ} (l : List ℕ) (n : ℕ) → UpTo X l → 32 * n ≤ length l → UpTo X (take (32 * n) l)
+taken_reducible {X} l n up fits = up_of (length-take-le (32 * n) l fits) (λ v j lv lj. subst (λ (x : Pair). (x.re ≤ X) × (x.im ≤ X)) (sym (lane_taken l n lj lv)) (lane_low up j v))
 
 module _ {m A : ℕ} {re im tan : List ℕ} {b : Bool} {c start stride lanes : ℕ} {volume line : List ℕ} (came : Gathered volume start stride lanes A line) (below : LinesBelow m start stride A lanes volume)
     (few : lanes ≤ 16) (wide : lanes ≤ stride) (fits : 2 * (start + A * stride + lanes) ≤ length volume + 2 * stride) {fold after : List ℕ} where
-  pub synthesis-group : SynthesisLanes m b A re im tan line fold → Scattered m c fold start stride lanes A volume after → Holds m c (ring m).one
-      → after ≡ foldedLines m 0 b A re im tan alternating start stride lanes volume
+  pub synthesis_group : SynthesisLanes m b A re im tan line fold → Scattered m c fold start stride lanes A volume after → Holds m c (ring m).one
+      → after ≡ folded_lines m 0 b A re im tan alternating start stride lanes volume
   unfolding slots
-  synthesis-group h left e = group-law start A wide (foldedStored m 0 b A re im tan alternating) volume after fits left.long
+  synthesis_group h left e = group_law start A wide (folded_stored m 0 b A re im tan alternating) volume after fits left.long
       (λ v j lv lj.
       along (at after) (start + v + j * stride) (start + j * stride + v) (omega arith)
       ∙ left.new (ring m).one e j v lj lv
-      ∙ ap pair_of (one-times m (value_of m (laneAt fold j v)) ∙ (h.is v (omega arith) _ (gathered-lane came below v lv few) j lj).is)
-      ∙ sym (at-tab _ A j lj))
+      ∙ ap pair_of (one_times m (value_of m (lane_at fold j v)) ∙ (h.is v (omega arith) _ (gathered_lane came below v lv few) j lj).is)
+      ∙ sym (at_tab _ A j lj))
       (λ k away. left.kept k (λ j v lj lv q. away v j lv lj (omega (arith, q))))
 
-  pub analysis-group : AnalysisLanes m b A re im tan line fold → Scattered m c (take (32 * A) fold) start stride lanes A volume after → Holds m c (part m (2 * A))
-      → after ≡ foldedLines m 1 b A re im tan alternating start stride lanes volume
+  pub analysis_group : AnalysisLanes m b A re im tan line fold → Scattered m c (take (32 * A) fold) start stride lanes A volume after → Holds m c (part m (2 * A))
+      → after ≡ folded_lines m 1 b A re im tan alternating start stride lanes volume
   unfolding slots
-  analysis-group h left e = group-law start A wide (foldedStored m 1 b A re im tan alternating) volume after fits left.long
+  analysis_group h left e = group_law start A wide (folded_stored m 1 b A re im tan alternating) volume after fits left.long
       (λ v j lv lj.
       along (at after) (start + v + j * stride) (start + j * stride + v) (omega arith)
       ∙ left.new (part m (2 * A)) e j v lj lv
-      ∙ ap (λ x. pair_of ((field m).mul (real m (part m (2 * A))) (value_of m x))) (lane-taken fold A lj (omega arith))
-      ∙ ap pair_of (h.is v (omega arith) _ (gathered-lane came below v lv few) j lj)
-      ∙ sym (at-tab _ A j lj))
+      ∙ ap (λ x. pair_of ((field m).mul (real m (part m (2 * A))) (value_of m x))) (lane_taken fold A lj (omega arith))
+      ∙ ap pair_of (h.is v (omega arith) _ (gathered_lane came below v lv few) j lj)
+      ∙ sym (at_tab _ A j lj))
       (λ k away. left.kept k (λ j v lj lv q. away v j lv lj (omega (arith, q))))
 
 -- 1/N, times 2^32
 pub share_holds : (m N : ℕ) {one share c : ℕ} → one ≡ (res m 4294967296).val → share ≡ (part m N).val → c ≡ ((ring m).mul (res m one) (res m share)).val → Holds m c (part m N)
 share_holds m N {one} {share} eo es ec = record {
-  is = res-by m ((ring m).mul (res m one) (res m share)) ec ∙ ap₂ (ring m).mul (res-by m (res m 4294967296) eo) (res-by m (part m N) es);
+  is = res_by m ((ring m).mul (res m one) (res m share)) ec ∙ ap₂ (ring m).mul (res_by m (res m 4294967296) eo) (res_by m (part m N) es);
 }
 
 -- by the direction
 module _ (m A : ℕ) (b : Bool) (re im tan : List ℕ) (start stride lanes : ℕ) (volume : List ℕ) {after : List ℕ} where
-  pub turned_zero : {direction : ℕ} → direction ≡ 0 → after ≡ foldedLines m 0 b A re im tan alternating start stride lanes volume → after ≡ foldedLines m direction b A re im tan alternating start stride lanes volume
-  turned_zero e h = subst (λ d. after ≡ foldedLines m d b A re im tan alternating start stride lanes volume) (sym e) h
+  pub turned_zero : {direction : ℕ} → direction ≡ 0 → after ≡ folded_lines m 0 b A re im tan alternating start stride lanes volume → after ≡ folded_lines m direction b A re im tan alternating start stride lanes volume
+  turned_zero e h = subst (λ d. after ≡ folded_lines m d b A re im tan alternating start stride lanes volume) (sym e) h
 
-  pub turned-one : {direction : ℕ} → (direction ≡ 0 → ⊥) → direction < 2 → after ≡ foldedLines m 1 b A re im tan alternating start stride lanes volume → after ≡ foldedLines m direction b A re im tan alternating start stride lanes volume
-  turned-one {direction} e l h = subst (λ d. after ≡ foldedLines m d b A re im tan alternating start stride lanes volume) (sym (one direction e l)) h
+  pub turned_one : {direction : ℕ} → (direction ≡ 0 → ⊥) → direction < 2 → after ≡ folded_lines m 1 b A re im tan alternating start stride lanes volume → after ≡ folded_lines m direction b A re im tan alternating start stride lanes volume
+  turned_one {direction} e l h = subst (λ d. after ≡ folded_lines m d b A re im tan alternating start stride lanes volume) (sym (one direction e l)) h
     where
       one : (d : ℕ) → (d ≡ 0 → ⊥) → d < 2 → d ≡ 1
       one d e l = omega (arith, e)

@@ -7,7 +7,7 @@ use Rattle.algebra.proofs.ring.Solver.{ring, quote}
 use Rattle.numbers.specs.Value.{prime, Residue, half}
 use Rattle.numbers.specs.Value as Value
 use Rattle.numbers.specs.Bounds.{res}
-use Rattle.numbers.proofs.Residues.{res-ring, res-by, below_by}
+use Rattle.numbers.proofs.Residues.{res_ring, res_by, below_by}
 use Rattle.batches.specs.Reduction.{Holds}
 use Rattle.batches.proofs.Meaning.{shift}
 
@@ -17,28 +17,28 @@ module _ (m : ℕ) where
   infixl 65 ◌⊞◌
   infixl 70 ◌⊠◌
   infix 75 ⊟◌
-  pub held-sum : (a b : ℕ) {r : ℕ} {x y : Residue m} → r ≡ (res m a ⊞ res m b).val → Holds m a x → Holds m b y → Holds m r (x ⊞ y)
-  held-sum a b {x = x} {y = y} e ha hb = record { is = res-by m (res m a ⊞ res m b) e ∙ ap₂ ◌⊞◌ ha.is hb.is ∙ ring (res-ring m) (shift m ∷ x ∷ y ∷ []) (search quote depth 40 fits 9999) refl }
+  pub held_sum : (a b : ℕ) {r : ℕ} {x y : Residue m} → r ≡ (res m a ⊞ res m b).val → Holds m a x → Holds m b y → Holds m r (x ⊞ y)
+  held_sum a b {x = x} {y = y} e ha hb = record { is = res_by m (res m a ⊞ res m b) e ∙ ap₂ ◌⊞◌ ha.is hb.is ∙ ring (res_ring m) (shift m ∷ x ∷ y ∷ []) (search quote depth 40 fits 9999) refl }
 
-  pub held-difference : (a b : ℕ) {r : ℕ} {x y : Residue m} → r ≡ (res m a ⊞ ⊟ res m b).val → Holds m a x → Holds m b y → Holds m r (x ⊞ ⊟ y)
-  held-difference a b {x = x} {y = y} e ha hb = record { is = res-by m (res m a ⊞ ⊟ res m b) e ∙ ap₂ (λ u v. u ⊞ ⊟ v) ha.is hb.is ∙ ring (res-ring m) (shift m ∷ x ∷ y ∷ []) (search quote depth 40 fits 9999) refl }
+  pub held_difference : (a b : ℕ) {r : ℕ} {x y : Residue m} → r ≡ (res m a ⊞ ⊟ res m b).val → Holds m a x → Holds m b y → Holds m r (x ⊞ ⊟ y)
+  held_difference a b {x = x} {y = y} e ha hb = record { is = res_by m (res m a ⊞ ⊟ res m b) e ∙ ap₂ (λ u v. u ⊞ ⊟ v) ha.is hb.is ∙ ring (res_ring m) (shift m ∷ x ∷ y ∷ []) (search quote depth 40 fits 9999) refl }
 
-  pub held-negative : (a : ℕ) {r : ℕ} {x : Residue m} → r ≡ (⊟ res m a).val → Holds m a x → Holds m r (⊟ x)
-  held-negative a {x = x} e ha = record { is = res-by m (⊟ res m a) e ∙ ap ⊟◌ ha.is ∙ ring (res-ring m) (shift m ∷ x ∷ []) (search quote depth 40 fits 9999) refl }
+  pub held_negative : (a : ℕ) {r : ℕ} {x : Residue m} → r ≡ (⊟ res m a).val → Holds m a x → Holds m r (⊟ x)
+  held_negative a {x = x} e ha = record { is = res_by m (⊟ res m a) e ∙ ap ⊟◌ ha.is ∙ ring (res_ring m) (shift m ∷ x ∷ []) (search quote depth 40 fits 9999) refl }
 
   -- a number that is held, times one that is not
-  pub held-product : (a b : ℕ) {r : ℕ} {x : Residue m} → r ≡ (res m a ⊠ res m b).val → Holds m a x → Holds m r (x ⊠ res m b)
-  held-product a b {x = x} e ha = record { is = res-by m (res m a ⊠ res m b) e ∙ ap (λ u. u ⊠ res m b) ha.is ∙ ring (res-ring m) (shift m ∷ x ∷ res m b ∷ []) (search quote depth 40 fits 9999) refl }
+  pub held_product : (a b : ℕ) {r : ℕ} {x : Residue m} → r ≡ (res m a ⊠ res m b).val → Holds m a x → Holds m r (x ⊠ res m b)
+  held_product a b {x = x} e ha = record { is = res_by m (res m a ⊠ res m b) e ∙ ap (λ u. u ⊠ res m b) ha.is ∙ ring (res_ring m) (shift m ∷ x ∷ res m b ∷ []) (search quote depth 40 fits 9999) refl }
 
   -- none is larger than the prime
-  pub residue-most : (x : Residue m) {r : ℕ} → r ≡ x.val → r ≤ prime m
-  residue-most x e = omega (arith, below_by m x e)
+  pub residue_most : (x : Residue m) {r : ℕ} → r ≡ x.val → r ≤ prime m
+  residue_most x e = omega (arith, below_by m x e)
 
 -- 2^32 times half of c
-pub half-held : (m : ℕ) (x : Residue m) {s c h r : ℕ} → s ≡ (res m 4294967296).val → c ≡ x.val → h ≡ ((Value.ring m).mul (half m) (res m c)).val → r ≡ ((Value.ring m).mul (res m s) (res m h)).val
+pub half_held : (m : ℕ) (x : Residue m) {s c h r : ℕ} → s ≡ (res m 4294967296).val → c ≡ x.val → h ≡ ((Value.ring m).mul (half m) (res m c)).val → r ≡ ((Value.ring m).mul (res m s) (res m h)).val
     → Holds m r ((Value.ring m).mul (half m) x)
-half-held m x {s} {c} {h} es ec eh er = record {
+half_held m x {s} {c} {h} es ec eh er = record {
   is =
-      res-by m ((Value.ring m).mul (res m s) (res m h)) er
-      ∙ ap₂ (Value.ring m).mul (res-by m (res m 4294967296) es) (res-by m ((Value.ring m).mul (half m) (res m c)) eh ∙ ap ((Value.ring m).mul (half m)) (res-by m x ec));
+      res_by m ((Value.ring m).mul (res m s) (res m h)) er
+      ∙ ap₂ (Value.ring m).mul (res_by m (res m 4294967296) es) (res_by m ((Value.ring m).mul (half m) (res m c)) eh ∙ ap ((Value.ring m).mul (half m)) (res_by m x ec));
 }

@@ -11,16 +11,16 @@ use Rattle.algebra.specs.ring.Ring.{gauss, residues}
 use Rattle.algebra.proofs.ring.Solver.{ring, quote}
 use Rattle.numbers.specs.declared.Pair.{Pair}
 use Rattle.numbers.specs.Value.{prime, Value, field, value, value_of}
-use Rattle.numbers.specs.Bounds.{zeroPair}
-use Rattle.numbers.proofs.Values.{pair_path, value-add, field-ring}
-use Rattle.slices.proofs.Pairs.{eq-or-ne}
+use Rattle.numbers.specs.Bounds.{zero_pair}
+use Rattle.numbers.proofs.Values.{pair_path, value_add, field_ring}
+use Rattle.slices.proofs.Pairs.{eq_or_ne}
 use Rattle.batches.specs.Reduction.{Zero}
 use Rattle.batches.specs.Copying.{PutBlock}
-use Rattle.batches.specs.Lanes.{laneAt, UpTo, Good}
+use Rattle.batches.specs.Lanes.{lane_at, UpTo, Good}
 use Rattle.batches.specs.Groups.{PutLanes}
-use Rattle.batches.proofs.Meaning.{apart-value}
-use Rattle.batches.proofs.LaneLists.{lane-is}
-use Rattle.batches.proofs.VolumeLanes.{numbers-lane}
+use Rattle.batches.proofs.Meaning.{apart_value}
+use Rattle.batches.proofs.LaneLists.{lane_is}
+use Rattle.batches.proofs.VolumeLanes.{numbers_lane}
 use Rattle.folded_batches.specs.MirrorLanes.{Numbers, Raised, BlockOf, Places, twice}
 
 -- ---- number by number
@@ -29,55 +29,55 @@ below_other : {i n : ℕ} → i < n + 1 → i ≢ n → i < n
 below_other l other = omega (arith, other)
 
 module _ {f : ℕ → ℕ} where
-  pub numbers-start : {y : List ℕ} → length y ≡ 32 → Numbers f 0 y
-  numbers-start e = record { long = e; is = λ u l. absurd (not-suc-le-zero l) }
+  pub numbers_start : {y : List ℕ} → length y ≡ 32 → Numbers f 0 y
+  numbers_start e = record { long = e; is = λ u l. absurd (not-suc-le-zero l) }
 
-  pub numbers-next : {u : ℕ} {y : List ℕ} {x : ℕ} → Numbers f u y → u < 32 → x ≡ f u → Numbers f (u + 1) (set y u x)
-  numbers-next {u} {y} {x} h l e = record {
+  pub numbers_next : {u : ℕ} {y : List ℕ} {x : ℕ} → Numbers f u y → u < 32 → x ≡ f u → Numbers f (u + 1) (set y u x)
+  numbers_next {u} {y} {x} h l e = record {
     long = length-set y u x ∙ h.long;
     is = λ i li. ⊎_elim
         (λ (q : i ≡ u). ap (λ k. get_or (set y u x) k 0) q ∙ get_or-set_same y u x 0 (omega (arith, h.long)) ∙ e ∙ ap f (sym q))
         (λ (other : i ≢ u). get_or-set_other y u i x 0 other ∙ h.is i (below_other li other))
-        (eq-or-ne i u);
+        (eq_or_ne i u);
   }
 
-  pub numbers-done : {u : ℕ} {y : List ℕ} → Numbers f u y → 32 ≤ u → Numbers f 32 y
-  numbers-done h l = record { long = h.long; is = λ i li. h.is i (omega arith) }
+  pub numbers_done : {u : ℕ} {y : List ℕ} → Numbers f u y → 32 ≤ u → Numbers f 32 y
+  numbers_done h l = record { long = h.long; is = λ i li. h.is i (omega arith) }
 
-  pub raised-start : {y : List ℕ} → Raised f 0 y y
-  raised-start = record { long = refl; new = λ u l. absurd (not-suc-le-zero l); kept = λ u l. refl }
+  pub raised_start : {y : List ℕ} → Raised f 0 y y
+  raised_start = record { long = refl; new = λ u l. absurd (not-suc-le-zero l); kept = λ u l. refl }
 
-  pub raised-next : {u : ℕ} {before y : List ℕ} {x : ℕ} → Raised f u before y → u < length before → x ≡ get_or y u 0 + f u → Raised f (u + 1) before (set y u x)
-  raised-next {u} {before} {y} {x} h l e = record {
+  pub raised_next : {u : ℕ} {before y : List ℕ} {x : ℕ} → Raised f u before y → u < length before → x ≡ get_or y u 0 + f u → Raised f (u + 1) before (set y u x)
+  raised_next {u} {before} {y} {x} h l e = record {
     long = length-set y u x ∙ h.long;
     new = λ i li. ⊎_elim
         (λ (q : i ≡ u). ap (λ k. get_or (set y u x) k 0) q ∙ get_or-set_same y u x 0 (omega (arith, h.long)) ∙ e ∙ ap (λ n. n + f u) (h.kept u (omega arith)) ∙ ap (λ k. get_or before k 0 + f k) (sym q))
         (λ (other : i ≢ u). get_or-set_other y u i x 0 other ∙ h.new i (below_other li other))
-        (eq-or-ne i u);
+        (eq_or_ne i u);
     kept = λ i li. get_or-set_other y u i x 0 (λ q. omega arith) ∙ h.kept i (omega arith);
   }
 
-  pub raised-done : {u : ℕ} {before y : List ℕ} → Raised f u before y → 32 ≤ u → u ≤ 32 → Raised f 32 before y
-  raised-done {u} {before} {y} h l k = subst (λ n. Raised f n before y) same h
+  pub raised_done : {u : ℕ} {before y : List ℕ} → Raised f u before y → 32 ≤ u → u ≤ 32 → Raised f 32 before y
+  raised_done {u} {before} {y} h l k = subst (λ n. Raised f n before y) same h
     where
       same : u ≡ 32
       same = omega arith
 
 -- zeros were written
-pub cleared-place : {j : ℕ} {before after : List ℕ} → PutBlock [] 0 j before after → PutLanes (λ v. zeroPair) j 16 before after
-unfolding laneAt
-cleared-place h = record { long = h.long; new = h.new; kept = λ i v lv away. h.kept i v lv (λ q. omega (arith, away q)) }
+pub cleared_place : {j : ℕ} {before after : List ℕ} → PutBlock [] 0 j before after → PutLanes (λ v. zero_pair) j 16 before after
+unfolding lane_at
+cleared_place h = record { long = h.long; new = h.new; kept = λ i v lv away. h.kept i v lv (λ q. omega (arith, away q)) }
 
 -- ---- what a block stands for
 
-pub lane_of : {f : ℕ → ℕ} {y : List ℕ} → Numbers f 32 y → (v : ℕ) → v < 16 → laneAt y 0 v ≡ record { re = f v; im = f (v + 16) }
-lane_of {f} {y} h v lv = sym (numbers-lane y v) ∙ pair_path (h.is v (omega arith)) (h.is (v + 16) (omega arith))
+pub lane_of : {f : ℕ → ℕ} {y : List ℕ} → Numbers f 32 y → (v : ℕ) → v < 16 → lane_at y 0 v ≡ record { re = f v; im = f (v + 16) }
+lane_of {f} {y} h v lv = sym (numbers_lane y v) ∙ pair_path (h.is v (omega arith)) (h.is (v + 16) (omega arith))
 
-pub good-as : {m X : ℕ} {x y : Pair} {z w : Value m} → x ≡ y → z ≡ w → Good m X y z → Good m X x w
-good-as {m} {X} {x} {y} {z} {w} e f g = subst (Good m X x) f (subst (λ p. Good m X p z) (sym e) g)
+pub good_as : {m X : ℕ} {x y : Pair} {z w : Value m} → x ≡ y → z ≡ w → Good m X y z → Good m X x w
+good_as {m} {X} {x} {y} {z} {w} e f g = subst (Good m X x) f (subst (λ p. Good m X p z) (sym e) g)
 
-pub good-up : {m X Y : ℕ} {x : Pair} {z : Value m} → X ≤ Y → Good m X x z → Good m Y x z
-good-up l g = record { re = omega (arith, g.re); im = omega (arith, g.im); is = g.is }
+pub good_up : {m X Y : ℕ} {x : Pair} {z : Value m} → X ≤ Y → Good m X x z → Good m Y x z
+good_up l g = record { re = omega (arith, g.re); im = omega (arith, g.im); is = g.is }
 
 module _ (m : ℕ) where
   open field m use {add as ◌⊕◌, mul as ◌⊗◌, neg as ⊖◌, zer as 𝟘}
@@ -85,26 +85,26 @@ module _ (m : ℕ) where
   infixl 65 ◌⊕◌
   infixl 70 ◌⊗◌
   infix 75 ⊖◌
-  pub zero-value : value m 0 0 ≡ 𝟘
+  pub zero_value : value m 0 0 ≡ 𝟘
   unfolding gauss residues
-  zero-value = refl
+  zero_value = refl
 
-  pub minus-value : {o : ℕ} → Zero m o → (u v : ℕ) → u ≤ o → v ≤ o → value m (o - u) (o - v) ≡ ⊖ value m u v
-  minus-value {o} none u v lu lv =
+  pub minus_value : {o : ℕ} → Zero m o → (u v : ℕ) → u ≤ o → v ≤ o → value m (o - u) (o - v) ≡ ⊖ value m u v
+  minus_value {o} none u v lu lv =
       ap₂ (value m) (plus u) (plus v)
-      ∙ apart-value m none 0 0 u v lu lv
-      ∙ ap (λ x. x ⊕ ⊖ value m u v) zero-value
-      ∙ ring (field-ring m) (value m u v ∷ []) (search quote depth 40 fits 9999) refl
+      ∙ apart_value m none 0 0 u v lu lv
+      ∙ ap (λ x. x ⊕ ⊖ value m u v) zero_value
+      ∙ ring (field_ring m) (value m u v ∷ []) (search quote depth 40 fits 9999) refl
     where
       plus : (n : ℕ) → o - n ≡ 0 + (o - n)
       plus n = omega arith
 
   -- the sum of two places
-  pub sum-good : {X : ℕ} (l : List ℕ) (i j : ℕ) {y : List ℕ} → UpTo X l → Numbers (λ u. get_or l (32 * i + u) 0 + get_or l (32 * j + u) 0) 32 y → (v : ℕ) → v < 16
-      → Good m (2 * X) (laneAt y 0 v) (value_of m (laneAt l i v) ⊕ value_of m (laneAt l j v))
+  pub sum_good : {X : ℕ} (l : List ℕ) (i j : ℕ) {y : List ℕ} → UpTo X l → Numbers (λ u. get_or l (32 * i + u) 0 + get_or l (32 * j + u) 0) 32 y → (v : ℕ) → v < 16
+      → Good m (2 * X) (lane_at y 0 v) (value_of m (lane_at l i v) ⊕ value_of m (lane_at l j v))
   unfolding value_of
-  sum-good {X} l i j up h v lv = good-as (lane_of h v lv)
-      (value-add m (get_or l (32 * i + v) 0) (get_or l (32 * i + (v + 16)) 0) (get_or l (32 * j + v) 0) (get_or l (32 * j + (v + 16)) 0) ∙ ap₂ ◌⊕◌ (lane-is m l i v refl refl) (lane-is m l j v refl refl))
+  sum_good {X} l i j up h v lv = good_as (lane_of h v lv)
+      (value_add m (get_or l (32 * i + v) 0) (get_or l (32 * i + (v + 16)) 0) (get_or l (32 * j + v) 0) (get_or l (32 * j + (v + 16)) 0) ∙ ap₂ ◌⊕◌ (lane_is m l i v refl refl) (lane_is m l j v refl refl))
       (record {
         re = omega (arith, up.each (32 * i + v), up.each (32 * j + v));
         im = omega (arith, up.each (32 * i + (v + 16)), up.each (32 * j + (v + 16)));
@@ -112,25 +112,25 @@ module _ (m : ℕ) where
       })
 
   -- and its negative
-  pub minus-good : (l : List ℕ) (i j : ℕ) {y : List ℕ} → UpTo (prime m) l → Numbers (λ u. 2 * prime m - (get_or l (32 * i + u) 0 + get_or l (32 * j + u) 0)) 32 y → (v : ℕ) → v < 16
-      → Good m (2 * prime m) (laneAt y 0 v) (⊖ (value_of m (laneAt l i v) ⊕ value_of m (laneAt l j v)))
+  pub minus_good : (l : List ℕ) (i j : ℕ) {y : List ℕ} → UpTo (prime m) l → Numbers (λ u. 2 * prime m - (get_or l (32 * i + u) 0 + get_or l (32 * j + u) 0)) 32 y → (v : ℕ) → v < 16
+      → Good m (2 * prime m) (lane_at y 0 v) (⊖ (value_of m (lane_at l i v) ⊕ value_of m (lane_at l j v)))
   unfolding value_of
-  minus-good l i j up h v lv = good-as (lane_of h v lv)
-      (minus-value (record { times = 2; is = omega arith }) (get_or l (32 * i + v) 0 + get_or l (32 * j + v) 0) (get_or l (32 * i + (v + 16)) 0 + get_or l (32 * j + (v + 16)) 0)
+  minus_good l i j up h v lv = good_as (lane_of h v lv)
+      (minus_value (record { times = 2; is = omega arith }) (get_or l (32 * i + v) 0 + get_or l (32 * j + v) 0) (get_or l (32 * i + (v + 16)) 0 + get_or l (32 * j + (v + 16)) 0)
       (omega (arith, up.each (32 * i + v), up.each (32 * j + v))) (omega (arith, up.each (32 * i + (v + 16)), up.each (32 * j + (v + 16))))
-      ∙ ap (λ x. ⊖ x) (value-add m (get_or l (32 * i + v) 0) (get_or l (32 * i + (v + 16)) 0) (get_or l (32 * j + v) 0) (get_or l (32 * j + (v + 16)) 0) ∙ ap₂ ◌⊕◌ (lane-is m l i v refl refl) (lane-is m l j v refl refl)))
+      ∙ ap (λ x. ⊖ x) (value_add m (get_or l (32 * i + v) 0) (get_or l (32 * i + (v + 16)) 0) (get_or l (32 * j + v) 0) (get_or l (32 * j + (v + 16)) 0) ∙ ap₂ ◌⊕◌ (lane_is m l i v refl refl) (lane_is m l j v refl refl)))
       (record { re = omega arith; im = omega arith; is = refl })
 
   -- twice the first place less twice a block
-  pub middle-good : (l o : List ℕ) {y : List ℕ} → prime m ≤ 302399 → UpTo (360 * prime m) l → UpTo (1440 * prime m) o → Numbers (λ u. 2 * (get_or l u 0 + (2880 * prime m - 2 * get_or o u 0))) 32 y → (v : ℕ) → v < 16
-      → Good m 2147483647 (laneAt y 0 v) (twice m (value_of m (laneAt l 0 v) ⊕ ⊖ twice m (value_of m (laneAt o 0 v))))
+  pub middle_good : (l o : List ℕ) {y : List ℕ} → prime m ≤ 302399 → UpTo (360 * prime m) l → UpTo (1440 * prime m) o → Numbers (λ u. 2 * (get_or l u 0 + (2880 * prime m - 2 * get_or o u 0))) 32 y → (v : ℕ) → v < 16
+      → Good m 2147483647 (lane_at y 0 v) (twice m (value_of m (lane_at l 0 v) ⊕ ⊖ twice m (value_of m (lane_at o 0 v))))
   unfolding value_of
-  middle-good l o most up low h v lv = good-as (lane_of h v lv)
+  middle_good l o most up low h v lv = good_as (lane_of h v lv)
       (ap₂ (value m) (doubled (get_or l v 0 + (2880 * prime m - 2 * get_or o v 0))) (doubled (get_or l (v + 16) 0 + (2880 * prime m - 2 * get_or o (v + 16) 0)))
-      ∙ value-add m _ _ _ _
-      ∙ ap (twice m) (apart-value m (record { times = 2880; is = omega arith }) (get_or l v 0) (get_or l (v + 16) 0) (2 * get_or o v 0) (2 * get_or o (v + 16) 0)
+      ∙ value_add m _ _ _ _
+      ∙ ap (twice m) (apart_value m (record { times = 2880; is = omega arith }) (get_or l v 0) (get_or l (v + 16) 0) (2 * get_or o v 0) (2 * get_or o (v + 16) 0)
       (omega (arith, low.each v)) (omega (arith, low.each (v + 16)))
-      ∙ ap₂ (λ x z. x ⊕ ⊖ z) (first_lane l) (ap₂ (value m) (doubled (get_or o v 0)) (doubled (get_or o (v + 16) 0)) ∙ value-add m _ _ _ _ ∙ ap (twice m) (first_lane o))))
+      ∙ ap₂ (λ x z. x ⊕ ⊖ z) (first_lane l) (ap₂ (value m) (doubled (get_or o v 0)) (doubled (get_or o (v + 16) 0)) ∙ value_add m _ _ _ _ ∙ ap (twice m) (first_lane o))))
       (record {
         re = omega (arith, up.each v);
         im = omega (arith, up.each (v + 16));
@@ -140,22 +140,22 @@ module _ (m : ℕ) where
       doubled : (n : ℕ) → 2 * n ≡ n + n
       doubled n = omega arith
 
-      first_lane : (l : List ℕ) → value m (get_or l v 0) (get_or l (v + 16) 0) ≡ value m (laneAt l 0 v).re (laneAt l 0 v).im
-      first_lane l = ap (λ (x : Pair). value m x.re x.im) (numbers-lane l v)
+      first_lane : (l : List ℕ) → value m (get_or l v 0) (get_or l (v + 16) 0) ≡ value m (lane_at l 0 v).re (lane_at l 0 v).im
+      first_lane l = ap (λ (x : Pair). value m x.re x.im) (numbers_lane l v)
 
 -- ---- blocks to their places
 
 module _ {m X : ℕ} {F : (v j : ℕ) → Value m} {b : ℕ} where
-  pub places-start : {d : List ℕ} → Places m X F b b d
-  places-start = record { each = λ v j lv l k. absurd (omega (arith, l, k)) }
+  pub places_start : {d : List ℕ} → Places m X F b b d
+  places_start = record { each = λ v j lv l k. absurd (omega (arith, l, k)) }
 
-  pub places-next : {t : ℕ} {d e y : List ℕ} → Places m X F b t d → BlockOf m X (λ v. F v t) y → PutBlock y 0 t d e → Places m X F b (t + 1) e
-  places-next {t} {d} {e} {y} h k p = record {
+  pub places_next : {t : ℕ} {d e y : List ℕ} → Places m X F b t d → BlockOf m X (λ v. F v t) y → PutBlock y 0 t d e → Places m X F b (t + 1) e
+  places_next {t} {d} {e} {y} h k p = record {
     each = λ v j lv l lj. ⊎_elim
-        (λ (q : j ≡ t). subst (λ n. Good m X (laneAt e n v) (F v n)) (sym q) (good-as (p.new v lv) refl (k.each v lv)))
-        (λ (other : j ≢ t). good-as (p.kept j v lv other) refl (h.each v j lv l (below_other lj other)))
-        (eq-or-ne j t);
+        (λ (q : j ≡ t). subst (λ n. Good m X (lane_at e n v) (F v n)) (sym q) (good_as (p.new v lv) refl (k.each v lv)))
+        (λ (other : j ≢ t). good_as (p.kept j v lv other) refl (h.each v j lv l (below_other lj other)))
+        (eq_or_ne j t);
   }
 
-  pub places-as : {t n : ℕ} {d : List ℕ} → Places m X F b t d → t ≡ n → Places m X F b n d
-  places-as {d = d} h e = subst (λ n. Places m X F b n d) e h
+  pub places_as : {t n : ℕ} {d : List ℕ} → Places m X F b t d → t ≡ n → Places m X F b n d
+  places_as {d = d} h e = subst (λ n. Places m X F b n d) e h

@@ -10,99 +10,99 @@ use Rattle.algebra.specs.ring.Ring.{gauss}
 use Rattle.algebra.specs.ring.Ring as Gauss
 use Rattle.algebra.proofs.ring.Laws.{along}
 use Rattle.algebra.proofs.ring.Solver.{ring, quote}
-use Rattle.algebra.proofs.ring.ResidueRing.{residue-add, residue-mul}
+use Rattle.algebra.proofs.ring.ResidueRing.{residue_add, residue_mul}
 use Rattle.numbers.specs.declared.Pair.{Pair}
 use Rattle.numbers.specs.Value.{prime, Value, Residue, field, conj, value, value_of}
 use Rattle.numbers.specs.Value as Value
 use Rattle.numbers.specs.Bounds.{res}
-use Rattle.numbers.proofs.Residues.{res-ring}
-use Rattle.numbers.proofs.Values.{value-path}
-use Rattle.slices.proofs.Pairs.{eq-or-ne}
+use Rattle.numbers.proofs.Residues.{res_ring}
+use Rattle.numbers.proofs.Values.{value_path}
+use Rattle.slices.proofs.Pairs.{eq_or_ne}
 use Rattle.batches.specs.Reduction.{Divided, Holds}
-use Rattle.batches.specs.Lanes.{laneAt, putLane, Good}
-use Rattle.batches.proofs.Meaning.{shift, cancel, divided-res, weighed-res}
-use Rattle.batches.proofs.Copies.{Copying, copying-next}
-use Rattle.batches.proofs.LaneLists.{length-lane, lane-same, lane-other}
+use Rattle.batches.specs.Lanes.{lane_at, put_lane, Good}
+use Rattle.batches.proofs.Meaning.{shift, cancel, divided_res, weighed_res}
+use Rattle.batches.proofs.Copies.{Copying, copying_next}
+use Rattle.batches.proofs.LaneLists.{length_lane, lane_same, lane_other}
 use Rattle.folded_batches.specs.declared.mixing.Mix.{Mix}
 use Rattle.folded_batches.specs.Mixing.{Mixed, MixedAlone, OnParts, Times, TimesConjugate}
 
 -- ---- the loop
 
 -- what was read is the part of the lane
-pub read-re : (l : List ℕ) (i v : ℕ) {x : ℕ} → x ≡ get_or l (32 * i + v) 0 → x ≡ (laneAt l i v).re
-unfolding laneAt
-read-re l i v e = e
+pub read_re : (l : List ℕ) (i v : ℕ) {x : ℕ} → x ≡ get_or l (32 * i + v) 0 → x ≡ (lane_at l i v).re
+unfolding lane_at
+read_re l i v e = e
 
-pub read-im : (l : List ℕ) (i v : ℕ) {x : ℕ} → x ≡ get_or l (32 * i + (v + 16)) 0 → x ≡ (laneAt l i v).im
-unfolding laneAt
-read-im l i v e = e ∙ along (λ k. get_or l k 0) (32 * i + (v + 16)) (32 * i + v + 16) (omega arith)
+pub read_im : (l : List ℕ) (i v : ℕ) {x : ℕ} → x ≡ get_or l (32 * i + (v + 16)) 0 → x ≡ (lane_at l i v).im
+unfolding lane_at
+read_im l i v e = e ∙ along (λ k. get_or l k 0) (32 * i + (v + 16)) (32 * i + v + 16) (omega arith)
 
-pub four-as : {m : ℕ} (c1 c2 c3 c4 : ℕ) {x1 x2 x3 x4 y1 y2 y3 y4 r : ℕ} → x1 ≡ y1 → x2 ≡ y2 → x3 ≡ y3 → x4 ≡ y4
+pub four_as : {m : ℕ} (c1 c2 c3 c4 : ℕ) {x1 x2 x3 x4 y1 y2 y3 y4 r : ℕ} → x1 ≡ y1 → x2 ≡ y2 → x3 ≡ y3 → x4 ≡ y4
     → Divided m (c1 * x1 + c2 * x2 + c3 * x3 + c4 * x4) r → Divided m (c1 * y1 + c2 * y2 + c3 * y3 + c4 * y4) r
-four-as {m} c1 c2 c3 c4 {r = r} e1 e2 e3 e4 h = subst (λ n. Divided m n r) (ap₂ ◌+◌ (ap₂ ◌+◌ (ap₂ ◌+◌ (ap (λ x. c1 * x) e1) (ap (λ x. c2 * x) e2)) (ap (λ x. c3 * x) e3)) (ap (λ x. c4 * x) e4)) h
+four_as {m} c1 c2 c3 c4 {r = r} e1 e2 e3 e4 h = subst (λ n. Divided m n r) (ap₂ ◌+◌ (ap₂ ◌+◌ (ap₂ ◌+◌ (ap (λ x. c1 * x) e1) (ap (λ x. c2 * x) e2)) (ap (λ x. c3 * x) e3)) (ap (λ x. c4 * x) e4)) h
 
-pub two-as : {m : ℕ} (c1 c2 : ℕ) {x1 x2 y1 y2 r : ℕ} → x1 ≡ y1 → x2 ≡ y2 → Divided m (c1 * x1 + c2 * x2) r → Divided m (c1 * y1 + c2 * y2) r
-two-as {m} c1 c2 {r = r} e1 e2 h = subst (λ n. Divided m n r) (ap₂ (λ x y. c1 * x + c2 * y) e1 e2) h
+pub two_as : {m : ℕ} (c1 c2 : ℕ) {x1 x2 y1 y2 r : ℕ} → x1 ≡ y1 → x2 ≡ y2 → Divided m (c1 * x1 + c2 * x2) r → Divided m (c1 * y1 + c2 * y2) r
+two_as {m} c1 c2 {r = r} e1 e2 h = subst (λ n. Divided m n r) (ap₂ (λ x y. c1 * x + c2 * y) e1 e2) h
 
 -- four products as the code holds them
-pub four-numbers : (c1 x1 c2 x2 c3 x3 c4 x4 : ℕ) {m p1 p2 p3 p4 r : ℕ} → p1 ≡ c1 * x1 → p2 ≡ c2 * x2 → p3 ≡ c3 * x3 → p4 ≡ c4 * x4 → Divided m (p1 + p2 + p3 + p4) r → Divided m (c1 * x1 + c2 * x2 + c3 * x3 + c4 * x4) r
-four-numbers c1 x1 c2 x2 c3 x3 c4 x4 {m} {r = r} e1 e2 e3 e4 h = subst (λ n. Divided m n r) (ap₂ ◌+◌ (ap₂ ◌+◌ (ap₂ ◌+◌ e1 e2) e3) e4) h
+pub four_numbers : (c1 x1 c2 x2 c3 x3 c4 x4 : ℕ) {m p1 p2 p3 p4 r : ℕ} → p1 ≡ c1 * x1 → p2 ≡ c2 * x2 → p3 ≡ c3 * x3 → p4 ≡ c4 * x4 → Divided m (p1 + p2 + p3 + p4) r → Divided m (c1 * x1 + c2 * x2 + c3 * x3 + c4 * x4) r
+four_numbers c1 x1 c2 x2 c3 x3 c4 x4 {m} {r = r} e1 e2 e3 e4 h = subst (λ n. Divided m n r) (ap₂ ◌+◌ (ap₂ ◌+◌ (ap₂ ◌+◌ e1 e2) e3) e4) h
 
 -- the two stores of a lane of a block
-pub stores_as : (y : List ℕ) (v a b : ℕ) → set (set y v a) (v + 16) b ≡ putLane y 0 v (record { re = a; im = b })
-unfolding putLane
+pub stores_as : (y : List ℕ) (v a b : ℕ) → set (set y v a) (v + 16) b ≡ put_lane y 0 v (record { re = a; im = b })
+unfolding put_lane
 stores_as y v a b = along (λ k. set (set y k a) (k + 16) b) v (32 * 0 + v) (omega arith)
 
 -- a number more of a block that stands alone
-pub copying-first : {y : List ℕ} {j v : ℕ} {before d : List ℕ} → Copying y 0 j v before d → v < 32 → 32 * j + 32 ≤ length before → Copying y 0 j (v + 1) before (set d (32 * j + v) (get_or y v 0))
-copying-first {y} {j} {v} {before} {d} h lv fits = subst (Copying y 0 j (v + 1) before) (along (λ k. set d (32 * j + v) (get_or y k 0)) (32 * 0 + v) v (omega arith)) (copying-next h lv fits)
+pub copying_first : {y : List ℕ} {j v : ℕ} {before d : List ℕ} → Copying y 0 j v before d → v < 32 → 32 * j + 32 ≤ length before → Copying y 0 j (v + 1) before (set d (32 * j + v) (get_or y v 0))
+copying_first {y} {j} {v} {before} {d} h lv fits = subst (Copying y 0 j (v + 1) before) (along (λ k. set d (32 * j + v) (get_or y k 0)) (32 * 0 + v) v (omega arith)) (copying_next h lv fits)
 
 -- a block of which a lane more is written
-module _ (y : List ℕ) {z : List ℕ} {v : ℕ} (a b : ℕ) (long : length y ≡ 32) (lv : v < 16) (is : z ≡ putLane y 0 v (record { re = a; im = b })) where
-  pub block-long : length z ≡ 32
-  block-long = ap length is ∙ length-lane y 0 v (record { re = a; im = b }) ∙ long
+module _ (y : List ℕ) {z : List ℕ} {v : ℕ} (a b : ℕ) (long : length y ≡ 32) (lv : v < 16) (is : z ≡ put_lane y 0 v (record { re = a; im = b })) where
+  pub block_long : length z ≡ 32
+  block_long = ap length is ∙ length_lane y 0 v (record { re = a; im = b }) ∙ long
 
-  pub block_new : (P : ℕ → Pair → Type 0) → ((u : ℕ) → u < v → P u (laneAt y 0 u)) → P v (record { re = a; im = b }) → (u : ℕ) → u < v + 1 → P u (laneAt z 0 u)
+  pub block_new : (P : ℕ → Pair → Type 0) → ((u : ℕ) → u < v → P u (lane_at y 0 u)) → P v (record { re = a; im = b }) → (u : ℕ) → u < v + 1 → P u (lane_at z 0 u)
   block_new P before new u lu = ⊎_elim
-      (λ (e : u ≡ v). subst (λ k. P k (laneAt z 0 k)) (sym e) (subst (P v) (sym (ap (λ x. laneAt x 0 v) is ∙ lane-same y 0 v (record { re = a; im = b }) (omega (arith, long)))) new))
-      (λ (other : u ≢ v). subst (P u) (sym (ap (λ x. laneAt x 0 u) is ∙ lane-other y 0 v (record { re = a; im = b }) 0 u lv (omega arith) (λ e. other (omega arith)))) (before u (omega (arith, other))))
-      (eq-or-ne u v)
+      (λ (e : u ≡ v). subst (λ k. P k (lane_at z 0 k)) (sym e) (subst (P v) (sym (ap (λ x. lane_at x 0 v) is ∙ lane_same y 0 v (record { re = a; im = b }) (omega (arith, long)))) new))
+      (λ (other : u ≢ v). subst (P u) (sym (ap (λ x. lane_at x 0 u) is ∙ lane_other y 0 v (record { re = a; im = b }) 0 u lv (omega arith) (λ e. other (omega arith)))) (before u (omega (arith, other))))
+      (eq_or_ne u v)
 
 -- the sums of lane v
-abbrev reSum : (k : Mix) (l : List ℕ) (i j : ℕ) → ℕ → ℕ
-reSum k l i j v = k.a1 * (laneAt l i v).re + k.a2 * (laneAt l i v).im + k.b1 * (laneAt l j v).re + k.b2 * (laneAt l j v).im
+abbrev re_sum : (k : Mix) (l : List ℕ) (i j : ℕ) → ℕ → ℕ
+re_sum k l i j v = k.a1 * (lane_at l i v).re + k.a2 * (lane_at l i v).im + k.b1 * (lane_at l j v).re + k.b2 * (lane_at l j v).im
 
-abbrev imSum : (k : Mix) (l : List ℕ) (i j : ℕ) → ℕ → ℕ
-imSum k l i j v = k.a3 * (laneAt l i v).re + k.a4 * (laneAt l i v).im + k.b3 * (laneAt l j v).re + k.b4 * (laneAt l j v).im
+abbrev im_sum : (k : Mix) (l : List ℕ) (i j : ℕ) → ℕ → ℕ
+im_sum k l i j v = k.a3 * (lane_at l i v).re + k.a4 * (lane_at l i v).im + k.b3 * (lane_at l j v).re + k.b4 * (lane_at l j v).im
 
 module _ {m : ℕ} {k : Mix} {l : List ℕ} {i j : ℕ} where
-  pub mixing-start : {y : List ℕ} → length y ≡ 32 → Mixed m k l i j 0 y
-  mixing-start e = record { long = e; re = λ v l. absurd (not-suc-le-zero l); im = λ v l. absurd (not-suc-le-zero l) }
+  pub mixing_start : {y : List ℕ} → length y ≡ 32 → Mixed m k l i j 0 y
+  mixing_start e = record { long = e; re = λ v l. absurd (not-suc-le-zero l); im = λ v l. absurd (not-suc-le-zero l) }
 
-  pub mixing-next : {v : ℕ} (a b : ℕ) (y : List ℕ) {z : List ℕ} → Mixed m k l i j v y → v < 16 → z ≡ putLane y 0 v (record { re = a; im = b }) → Divided m (reSum k l i j v) a → Divided m (imSum k l i j v) b → Mixed m k l i j (v + 1) z
-  mixing-next a b y h lv is ha hb = record {
-    long = block-long y a b h.long lv is;
-    re = block_new y a b h.long lv is (λ u x. Divided m (reSum k l i j u) x.re) h.re ha;
-    im = block_new y a b h.long lv is (λ u x. Divided m (imSum k l i j u) x.im) h.im hb;
+  pub mixing_next : {v : ℕ} (a b : ℕ) (y : List ℕ) {z : List ℕ} → Mixed m k l i j v y → v < 16 → z ≡ put_lane y 0 v (record { re = a; im = b }) → Divided m (re_sum k l i j v) a → Divided m (im_sum k l i j v) b → Mixed m k l i j (v + 1) z
+  mixing_next a b y h lv is ha hb = record {
+    long = block_long y a b h.long lv is;
+    re = block_new y a b h.long lv is (λ u x. Divided m (re_sum k l i j u) x.re) h.re ha;
+    im = block_new y a b h.long lv is (λ u x. Divided m (im_sum k l i j u) x.im) h.im hb;
   }
 
-  pub mixing-done : {v : ℕ} {y : List ℕ} → Mixed m k l i j v y → 16 ≤ v → Mixed m k l i j 16 y
-  mixing-done h l = record { long = h.long; re = λ u lu. h.re u (omega arith); im = λ u lu. h.im u (omega arith) }
+  pub mixing_done : {v : ℕ} {y : List ℕ} → Mixed m k l i j v y → 16 ≤ v → Mixed m k l i j 16 y
+  mixing_done h l = record { long = h.long; re = λ u lu. h.re u (omega arith); im = λ u lu. h.im u (omega arith) }
 
 module _ {m : ℕ} {k : Mix} {l : List ℕ} {i : ℕ} where
-  pub alone-start : {y : List ℕ} → length y ≡ 32 → MixedAlone m k l i 0 y
-  alone-start e = record { long = e; re = λ v l. absurd (not-suc-le-zero l); im = λ v l. absurd (not-suc-le-zero l) }
+  pub alone_start : {y : List ℕ} → length y ≡ 32 → MixedAlone m k l i 0 y
+  alone_start e = record { long = e; re = λ v l. absurd (not-suc-le-zero l); im = λ v l. absurd (not-suc-le-zero l) }
 
-  pub alone-next : {v : ℕ} (a b : ℕ) (y : List ℕ) {z : List ℕ} → MixedAlone m k l i v y → v < 16 → z ≡ putLane y 0 v (record { re = a; im = b })
-      → Divided m (k.a1 * (laneAt l i v).re + k.a2 * (laneAt l i v).im) a → Divided m (k.a3 * (laneAt l i v).re + k.a4 * (laneAt l i v).im) b → MixedAlone m k l i (v + 1) z
-  alone-next a b y h lv is ha hb = record {
-    long = block-long y a b h.long lv is;
-    re = block_new y a b h.long lv is (λ u x. Divided m (k.a1 * (laneAt l i u).re + k.a2 * (laneAt l i u).im) x.re) h.re ha;
-    im = block_new y a b h.long lv is (λ u x. Divided m (k.a3 * (laneAt l i u).re + k.a4 * (laneAt l i u).im) x.im) h.im hb;
+  pub alone_next : {v : ℕ} (a b : ℕ) (y : List ℕ) {z : List ℕ} → MixedAlone m k l i v y → v < 16 → z ≡ put_lane y 0 v (record { re = a; im = b })
+      → Divided m (k.a1 * (lane_at l i v).re + k.a2 * (lane_at l i v).im) a → Divided m (k.a3 * (lane_at l i v).re + k.a4 * (lane_at l i v).im) b → MixedAlone m k l i (v + 1) z
+  alone_next a b y h lv is ha hb = record {
+    long = block_long y a b h.long lv is;
+    re = block_new y a b h.long lv is (λ u x. Divided m (k.a1 * (lane_at l i u).re + k.a2 * (lane_at l i u).im) x.re) h.re ha;
+    im = block_new y a b h.long lv is (λ u x. Divided m (k.a3 * (lane_at l i u).re + k.a4 * (lane_at l i u).im) x.im) h.im hb;
   }
 
-  pub alone-done : {v : ℕ} {y : List ℕ} → MixedAlone m k l i v y → 16 ≤ v → MixedAlone m k l i 16 y
-  alone-done h l = record { long = h.long; re = λ u lu. h.re u (omega arith); im = λ u lu. h.im u (omega arith) }
+  pub alone_done : {v : ℕ} {y : List ℕ} → MixedAlone m k l i v y → 16 ≤ v → MixedAlone m k l i 16 y
+  alone_done h l = record { long = h.long; re = λ u lu. h.re u (omega arith); im = λ u lu. h.im u (omega arith) }
 
 -- ---- what the result stands for
 
@@ -112,32 +112,32 @@ module _ (m : ℕ) where
   infixl 65 ◌⊞◌
   infixl 70 ◌⊠◌
   infix 75 ⊟◌
-  pub four-res : (c1 x1 c2 x2 c3 x3 c4 x4 : ℕ) {r : ℕ} {r₁ r₂ r₃ r₄ : Residue m} → Divided m (c1 * x1 + c2 * x2 + c3 * x3 + c4 * x4) r → Holds m c1 r₁ → Holds m c2 r₂ → Holds m c3 r₃ → Holds m c4 r₄
+  pub four_res : (c1 x1 c2 x2 c3 x3 c4 x4 : ℕ) {r : ℕ} {r₁ r₂ r₃ r₄ : Residue m} → Divided m (c1 * x1 + c2 * x2 + c3 * x3 + c4 * x4) r → Holds m c1 r₁ → Holds m c2 r₂ → Holds m c3 r₃ → Holds m c4 r₄
       → res m r ≡ r₁ ⊠ res m x1 ⊞ r₂ ⊠ res m x2 ⊞ r₃ ⊠ res m x3 ⊞ r₄ ⊠ res m x4
-  four-res c1 x1 c2 x2 c3 x3 c4 x4 {r} {r₁} {r₂} {r₃} {r₄} h h1 h2 h3 h4 = cancel m
-      (divided-res m h
-      ∙ residue-add (prime m) (c1 * x1 + c2 * x2 + c3 * x3) (c4 * x4)
-      ∙ ap₂ ◌⊞◌ (residue-add (prime m) (c1 * x1 + c2 * x2) (c3 * x3) ∙ ap₂ ◌⊞◌ (residue-add (prime m) (c1 * x1) (c2 * x2) ∙ ap₂ ◌⊞◌ (one c1 x1 h1) (one c2 x2 h2)) (one c3 x3 h3)) (one c4 x4 h4)
-      ∙ ring (res-ring m) (shift m ∷ r₁ ∷ r₂ ∷ r₃ ∷ r₄ ∷ res m x1 ∷ res m x2 ∷ res m x3 ∷ res m x4 ∷ []) (search quote depth 40 fits 9999) refl)
+  four_res c1 x1 c2 x2 c3 x3 c4 x4 {r} {r₁} {r₂} {r₃} {r₄} h h1 h2 h3 h4 = cancel m
+      (divided_res m h
+      ∙ residue_add (prime m) (c1 * x1 + c2 * x2 + c3 * x3) (c4 * x4)
+      ∙ ap₂ ◌⊞◌ (residue_add (prime m) (c1 * x1 + c2 * x2) (c3 * x3) ∙ ap₂ ◌⊞◌ (residue_add (prime m) (c1 * x1) (c2 * x2) ∙ ap₂ ◌⊞◌ (one c1 x1 h1) (one c2 x2 h2)) (one c3 x3 h3)) (one c4 x4 h4)
+      ∙ ring (res_ring m) (shift m ∷ r₁ ∷ r₂ ∷ r₃ ∷ r₄ ∷ res m x1 ∷ res m x2 ∷ res m x3 ∷ res m x4 ∷ []) (search quote depth 40 fits 9999) refl)
     where
       one : (c x : ℕ) {r : Residue m} → Holds m c r → res m (c * x) ≡ shift m ⊠ r ⊠ res m x
-      one c x h = residue-mul (prime m) c x ∙ ap (λ y. y ⊠ res m x) h.is
+      one c x h = residue_mul (prime m) c x ∙ ap (λ y. y ⊠ res m x) h.is
 
   -- four residues on the parts of a value
-  abbrev pub onParts : (r₁ r₂ r₃ r₄ : Residue m) → Value m → Value m
-  onParts r₁ r₂ r₃ r₄ z = (r₁ ⊠ z.0 ⊞ r₂ ⊠ z.1, r₃ ⊠ z.0 ⊞ r₄ ⊠ z.1)
+  abbrev pub on_parts : (r₁ r₂ r₃ r₄ : Residue m) → Value m → Value m
+  on_parts r₁ r₂ r₃ r₄ z = (r₁ ⊠ z.0 ⊞ r₂ ⊠ z.1, r₃ ⊠ z.0 ⊞ r₄ ⊠ z.1)
 
-  pub times-parts : (z x : Value m) → onParts z.0 (⊟ z.1) z.1 z.0 x ≡ (field m).mul z x
+  pub times_parts : (z x : Value m) → on_parts z.0 (⊟ z.1) z.1 z.0 x ≡ (field m).mul z x
   unfolding gauss
-  times-parts z x = value-path
-      (ring (res-ring m) (z.0 ∷ z.1 ∷ x.0 ∷ x.1 ∷ []) (search quote depth 40 fits 9999) refl)
-      (ring (res-ring m) (z.0 ∷ z.1 ∷ x.0 ∷ x.1 ∷ []) (search quote depth 40 fits 9999) refl)
+  times_parts z x = value_path
+      (ring (res_ring m) (z.0 ∷ z.1 ∷ x.0 ∷ x.1 ∷ []) (search quote depth 40 fits 9999) refl)
+      (ring (res_ring m) (z.0 ∷ z.1 ∷ x.0 ∷ x.1 ∷ []) (search quote depth 40 fits 9999) refl)
 
-  pub times-conjugate-parts : (z x : Value m) → onParts z.0 z.1 z.1 (⊟ z.0) x ≡ (field m).mul z (conj m x)
+  pub times_conjugate_parts : (z x : Value m) → on_parts z.0 z.1 z.1 (⊟ z.0) x ≡ (field m).mul z (conj m x)
   unfolding gauss Gauss.conj
-  times-conjugate-parts z x = value-path
-      (ring (res-ring m) (z.0 ∷ z.1 ∷ x.0 ∷ x.1 ∷ []) (search quote depth 40 fits 9999) refl)
-      (ring (res-ring m) (z.0 ∷ z.1 ∷ x.0 ∷ x.1 ∷ []) (search quote depth 40 fits 9999) refl)
+  times_conjugate_parts z x = value_path
+      (ring (res_ring m) (z.0 ∷ z.1 ∷ x.0 ∷ x.1 ∷ []) (search quote depth 40 fits 9999) refl)
+      (ring (res_ring m) (z.0 ∷ z.1 ∷ x.0 ∷ x.1 ∷ []) (search quote depth 40 fits 9999) refl)
 
 module _ {m : ℕ} {k : Mix} {l : List ℕ} {i j : ℕ} {y : List ℕ} (h : Mixed m k l i j 16 y) {v : ℕ} (lv : v < 16) where
   open Value.ring m use {add as ◌⊞◌, mul as ◌⊠◌}
@@ -145,50 +145,50 @@ module _ {m : ℕ} {k : Mix} {l : List ℕ} {i j : ℕ} {y : List ℕ} (h : Mixe
   infixl 65 ◌⊞◌
   infixl 70 ◌⊠◌
   -- real combinations of the parts
-  pub mixed-parts : {r₁ r₂ r₃ r₄ s₁ s₂ s₃ s₄ : Residue m} → OnParts m k.a1 k.a2 k.a3 k.a4 r₁ r₂ r₃ r₄ → OnParts m k.b1 k.b2 k.b3 k.b4 s₁ s₂ s₃ s₄
-      → Good m (2 * prime m) (laneAt y 0 v) ((field m).add (onParts m r₁ r₂ r₃ r₄ (value_of m (laneAt l i v))) (onParts m s₁ s₂ s₃ s₄ (value_of m (laneAt l j v))))
+  pub mixed_parts : {r₁ r₂ r₃ r₄ s₁ s₂ s₃ s₄ : Residue m} → OnParts m k.a1 k.a2 k.a3 k.a4 r₁ r₂ r₃ r₄ → OnParts m k.b1 k.b2 k.b3 k.b4 s₁ s₂ s₃ s₄
+      → Good m (2 * prime m) (lane_at y 0 v) ((field m).add (on_parts m r₁ r₂ r₃ r₄ (value_of m (lane_at l i v))) (on_parts m s₁ s₂ s₃ s₄ (value_of m (lane_at l j v))))
   unfolding value_of gauss
-  mixed-parts {r₁} {r₂} {r₃} {r₄} {s₁} {s₂} {s₃} {s₄} a b = record {
+  mixed_parts {r₁} {r₂} {r₃} {r₄} {s₁} {s₂} {s₃} {s₄} a b = record {
     re = omega (arith, (h.re v lv).low);
     im = omega (arith, (h.im v lv).low);
-    is = value-path
-        (four-res m k.a1 x k.a2 x' k.b1 w k.b2 w' (h.re v lv) a.first a.second b.first b.second ∙ halves r₁ r₂ s₁ s₂)
-        (four-res m k.a3 x k.a4 x' k.b3 w k.b4 w' (h.im v lv) a.third a.fourth b.third b.fourth ∙ halves r₃ r₄ s₃ s₄);
+    is = value_path
+        (four_res m k.a1 x k.a2 x' k.b1 w k.b2 w' (h.re v lv) a.first a.second b.first b.second ∙ halves r₁ r₂ s₁ s₂)
+        (four_res m k.a3 x k.a4 x' k.b3 w k.b4 w' (h.im v lv) a.third a.fourth b.third b.fourth ∙ halves r₃ r₄ s₃ s₄);
   }
     where
       x : ℕ
-      x = (laneAt l i v).re
+      x = (lane_at l i v).re
 
       x' : ℕ
-      x' = (laneAt l i v).im
+      x' = (lane_at l i v).im
 
       w : ℕ
-      w = (laneAt l j v).re
+      w = (lane_at l j v).re
 
       w' : ℕ
-      w' = (laneAt l j v).im
+      w' = (lane_at l j v).im
 
       halves : (a b c d : Residue m) → a ⊠ res m x ⊞ b ⊠ res m x' ⊞ c ⊠ res m w ⊞ d ⊠ res m w' ≡ (a ⊠ res m x ⊞ b ⊠ res m x') ⊞ (c ⊠ res m w ⊞ d ⊠ res m w')
-      halves a b c d = (res-ring m).add_assoc (a ⊠ res m x ⊞ b ⊠ res m x') (c ⊠ res m w) (d ⊠ res m w')
+      halves a b c d = (res_ring m).add_assoc (a ⊠ res m x ⊞ b ⊠ res m x') (c ⊠ res m w) (d ⊠ res m w')
 
   module _ {α β : Value m} (a : Times m k.a1 k.a2 k.a3 k.a4 α) where
     -- α z + β w
-    pub mixed-good : Times m k.b1 k.b2 k.b3 k.b4 β
-        → Good m (2 * prime m) (laneAt y 0 v) ((field m).add ((field m).mul α (value_of m (laneAt l i v))) ((field m).mul β (value_of m (laneAt l j v))))
-    mixed-good b = subst (Good m (2 * prime m) (laneAt y 0 v)) (ap₂ (field m).add (times-parts m α (value_of m (laneAt l i v))) (times-parts m β (value_of m (laneAt l j v)))) (mixed-parts a b)
+    pub mixed_good : Times m k.b1 k.b2 k.b3 k.b4 β
+        → Good m (2 * prime m) (lane_at y 0 v) ((field m).add ((field m).mul α (value_of m (lane_at l i v))) ((field m).mul β (value_of m (lane_at l j v))))
+    mixed_good b = subst (Good m (2 * prime m) (lane_at y 0 v)) (ap₂ (field m).add (times_parts m α (value_of m (lane_at l i v))) (times_parts m β (value_of m (lane_at l j v)))) (mixed_parts a b)
 
     -- α z + β conj w
-    pub mixed-conjugate-good : TimesConjugate m k.b1 k.b2 k.b3 k.b4 β
-        → Good m (2 * prime m) (laneAt y 0 v) ((field m).add ((field m).mul α (value_of m (laneAt l i v))) ((field m).mul β (conj m (value_of m (laneAt l j v)))))
-    mixed-conjugate-good b = subst (Good m (2 * prime m) (laneAt y 0 v)) (ap₂ (field m).add (times-parts m α (value_of m (laneAt l i v))) (times-conjugate-parts m β (value_of m (laneAt l j v)))) (mixed-parts a b)
+    pub mixed_conjugate_good : TimesConjugate m k.b1 k.b2 k.b3 k.b4 β
+        → Good m (2 * prime m) (lane_at y 0 v) ((field m).add ((field m).mul α (value_of m (lane_at l i v))) ((field m).mul β (conj m (value_of m (lane_at l j v)))))
+    mixed_conjugate_good b = subst (Good m (2 * prime m) (lane_at y 0 v)) (ap₂ (field m).add (times_parts m α (value_of m (lane_at l i v))) (times_conjugate_parts m β (value_of m (lane_at l j v)))) (mixed_parts a b)
 
 module _ {m : ℕ} {k : Mix} {l : List ℕ} {i : ℕ} {y : List ℕ} (h : MixedAlone m k l i 16 y) {v : ℕ} (lv : v < 16) where
-  pub alone-parts : {r₁ r₂ r₃ r₄ : Residue m} → OnParts m k.a1 k.a2 k.a3 k.a4 r₁ r₂ r₃ r₄ → Good m (2 * prime m) (laneAt y 0 v) (onParts m r₁ r₂ r₃ r₄ (value_of m (laneAt l i v)))
+  pub alone_parts : {r₁ r₂ r₃ r₄ : Residue m} → OnParts m k.a1 k.a2 k.a3 k.a4 r₁ r₂ r₃ r₄ → Good m (2 * prime m) (lane_at y 0 v) (on_parts m r₁ r₂ r₃ r₄ (value_of m (lane_at l i v)))
   unfolding value_of
-  alone-parts a = record {
+  alone_parts a = record {
     re = omega (arith, (h.re v lv).low);
     im = omega (arith, (h.im v lv).low);
-    is = value-path
-        (weighed-res m k.a1 (laneAt l i v).re k.a2 (laneAt l i v).im (h.re v lv) a.first a.second)
-        (weighed-res m k.a3 (laneAt l i v).re k.a4 (laneAt l i v).im (h.im v lv) a.third a.fourth);
+    is = value_path
+        (weighed_res m k.a1 (lane_at l i v).re k.a2 (lane_at l i v).im (h.re v lv) a.first a.second)
+        (weighed_res m k.a3 (lane_at l i v).re k.a4 (lane_at l i v).im (h.im v lv) a.third a.fourth);
   }

@@ -3,7 +3,7 @@ use Rattle.std.specs.Prelude.{◌≡◌, List, ℕ, ◌+◌, ◌*◌, ◌<◌, �
 use Rattle.algebra.specs.ring.Ring.{Ops}
 use Rattle.numbers.specs.Value.{prime, Value, Residue, ring}
 use Rattle.batches.specs.Reduction.{Divided, Holds}
-use Rattle.batches.specs.Lanes.{laneAt}
+use Rattle.batches.specs.Lanes.{lane_at}
 use Rattle.folded_batches.specs.declared.mixing.Mix.{Mix}
 
 -- no coefficient is larger than the prime
@@ -21,19 +21,19 @@ pub record HeldMix (m : ℕ) (k : Mix) : Type 0 where
 pub record Mixed (m : ℕ) (k : Mix) (l : List ℕ) (i j n : ℕ) (y : List ℕ) : Type 0 where
   pub long : length y ≡ 32
   pub re : (v : ℕ) → v < n
-      → Divided m (k.a1 * (laneAt l i v).re + k.a2 * (laneAt l i v).im + k.b1 * (laneAt l j v).re
-      + k.b2 * (laneAt l j v).im) (laneAt y 0 v).re
+      → Divided m (k.a1 * (lane_at l i v).re + k.a2 * (lane_at l i v).im + k.b1 * (lane_at l j v).re
+      + k.b2 * (lane_at l j v).im) (lane_at y 0 v).re
   pub im : (v : ℕ) → v < n
-      → Divided m (k.a3 * (laneAt l i v).re + k.a4 * (laneAt l i v).im + k.b3 * (laneAt l j v).re
-      + k.b4 * (laneAt l j v).im) (laneAt y 0 v).im
+      → Divided m (k.a3 * (lane_at l i v).re + k.a4 * (lane_at l i v).im + k.b3 * (lane_at l j v).re
+      + k.b4 * (lane_at l j v).im) (lane_at y 0 v).im
 
 -- those of the place i alone
 pub record MixedAlone (m : ℕ) (k : Mix) (l : List ℕ) (i n : ℕ) (y : List ℕ) : Type 0 where
   pub long : length y ≡ 32
   pub re : (v : ℕ) → v < n
-      → Divided m (k.a1 * (laneAt l i v).re + k.a2 * (laneAt l i v).im) (laneAt y 0 v).re
+      → Divided m (k.a1 * (lane_at l i v).re + k.a2 * (lane_at l i v).im) (lane_at y 0 v).re
   pub im : (v : ℕ) → v < n
-      → Divided m (k.a3 * (laneAt l i v).re + k.a4 * (laneAt l i v).im) (laneAt y 0 v).im
+      → Divided m (k.a3 * (lane_at l i v).re + k.a4 * (lane_at l i v).im) (lane_at y 0 v).im
 
 -- ---- what four coefficients stand for: they take the parts x and y of a value to c₁ x + c₂ y and c₃ x + c₄ y
 

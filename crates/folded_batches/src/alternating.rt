@@ -17,7 +17,7 @@ ghost use Rattle.fold_formulas.specs.FoldFormulas.{Frame, Tangents};
 ghost use Rattle.batches.specs.Reduction.{ShiftedTable};
 ghost use Rattle.batches.specs.Lanes.{UpTo};
 ghost use Rattle.batches.specs.Groups.{LinesBelow};
-ghost use Rattle.folded_batches.specs.FoldedGroups.{foldedLines};
+ghost use Rattle.folded_batches.specs.FoldedGroups.{folded_lines};
 ghost use Rattle.folded_batches.specs.AlternatingLanes.{Packed, SynthesisLanes, AnalysisLanes};
 
 // A group of up to sixteen neighbouring lines: what they become is what they become one after the other. Direction 0 is
@@ -48,7 +48,7 @@ pub fn turn_lines<'a>(
     requires lanes_in_bounds { (2 * (start + a * stride + lanes) ≤ length volume.old + 2 * stride)
         × LinesBelow m start stride a lanes volume.old }
     ensures { volume.new
-        ≡ foldedLines m direction rotated a re.now im.now tan.now alternating
+        ≡ folded_lines m direction rotated a re.now im.now tan.now alternating
         start stride lanes volume.old }
 {
     if direction == 0 {
@@ -86,7 +86,7 @@ fn synthesis_lines<'a>(
     requires lanes_in_bounds { (2 * (start + a * stride + lanes) ≤ length volume.old + 2 * stride)
         × LinesBelow m start stride a lanes volume.old }
     ensures { volume.new
-        ≡ foldedLines m 0 rotated a re.now im.now tan.now alternating
+        ≡ folded_lines m 0 rotated a re.now im.now tan.now alternating
         start stride lanes volume.old }
 {
     let size = 32 * a;
@@ -120,7 +120,7 @@ fn analysis_lines<'a>(
     requires lanes_in_bounds { (2 * (start + a * stride + lanes) ≤ length volume.old + 2 * stride)
         × LinesBelow m start stride a lanes volume.old }
     ensures { volume.new
-        ≡ foldedLines m 1 rotated a re.now im.now tan.now alternating
+        ≡ folded_lines m 1 rotated a re.now im.now tan.now alternating
         start stride lanes volume.old }
 {
     let size = 32 * a;

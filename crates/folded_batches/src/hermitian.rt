@@ -13,8 +13,8 @@ ghost use Rattle.slices.specs.Pairs.{Below};
 ghost use Rattle.lengths.specs.Admitted.{Factored};
 ghost use Rattle.fold_formulas.specs.FoldFormulas.{Frame};
 ghost use Rattle.batches.specs.Reduction.{ShiftedTable, Holds};
-ghost use Rattle.folded_batches.specs.Rows.{foldedRows};
-ghost use Rattle.folded_batches.specs.HermitianLanes.{shareFor};
+ghost use Rattle.folded_batches.specs.Rows.{folded_rows};
+ghost use Rattle.folded_batches.specs.HermitianLanes.{share_for};
 
 // What the rows become is what they become one after the other. `line` and `fold` are lent for the work.
 pub fn turn_rows<'a>(
@@ -36,7 +36,7 @@ pub fn turn_rows<'a>(
     requires lanes_bound { (lanes ≤ 16) × (length rows.old ≡ 2 * ((b + 1) * lanes)) × Below (prime m) rows.old }
     requires b_in_bounds { (32 * b ≤ length line.old) × (length fold.old ≡ 32 * b) }
     ensures { (tan : List ℕ) → rows.new
-        ≡ foldedRows m direction b re.now im.now tan lanes rows.old }
+        ≡ folded_rows m direction b re.now im.now tan lanes rows.old }
 {
     let size = 32 * b;
     if direction == 0 {
@@ -89,7 +89,7 @@ fn synthesis<'a>(
     requires lanes_bound { (lanes ≤ 16) × (length rows.old ≡ 2 * ((b + 1) * lanes)) × Below (prime m) rows.old }
     requires line_len { (length line.old ≡ 32 * b) × (length fold.old ≡ 32 * b) }
     ensures { (tan : List ℕ) → rows.new
-        ≡ foldedRows m 0 b re.now im.now tan lanes rows.old }
+        ≡ folded_rows m 0 b re.now im.now tan lanes rows.old }
 {
     let c = batches::residues::shift(m);
     rows::gather(rows, 2 * b, b, lanes, line);
@@ -117,7 +117,7 @@ fn analysis<'a>(
     requires lanes_bound { (lanes ≤ 16) × (length rows.old ≡ 2 * ((b + 1) * lanes)) × Below (prime m) rows.old }
     requires line_len { (length line.old ≡ 32 * b) × (length fold.old ≡ 32 * b) }
     ensures { (tan : List ℕ) → rows.new
-        ≡ foldedRows m 1 b re.now im.now tan lanes rows.old }
+        ≡ folded_rows m 1 b re.now im.now tan lanes rows.old }
 {
     let c = last_factor(m, b);
     rows::gather(rows, 1, b, lanes, fold);
@@ -130,7 +130,7 @@ fn analysis<'a>(
 // twice the line.
 fn last_factor(m: u32, b: usize) -> u32
     requires { IsModulus m × (0 < b) × (b ≤ 1440) }
-    ensures { (result < prime m) × Holds m result (shareFor m 1 b) }
+    ensures { (result < prime m) × Holds m result (share_for m 1 b) }
 {
     let shift = batches::residues::shift(m);
     numbers::mul(m, shift, numbers::halve(m, fold_formulas::share(m, b)))

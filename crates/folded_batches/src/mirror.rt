@@ -16,10 +16,10 @@ ghost use Rattle.batches.specs.Reduction.{ShiftedTable, Holds};
 ghost use Rattle.batches.specs.Lanes.{UpTo};
 ghost use Rattle.batches.specs.Groups.{LinesBelow};
 ghost use Rattle.fold_formulas.specs.FoldFormulas.{Frame, Tangents};
-ghost use Rattle.folds.specs.FoldedLines.{mirrorKind, storedCount, wholeLine};
-ghost use Rattle.folded_batches.specs.FoldedGroups.{foldedLines};
+ghost use Rattle.folds.specs.FoldedLines.{mirror_kind, stored_count, whole_line};
+ghost use Rattle.folded_batches.specs.FoldedGroups.{folded_lines};
 ghost use Rattle.folded_batches.specs.MirrorLanes.{WholeLines, PackedLines, ClearedEnds, Unpacked};
-ghost use Rattle.folded_batches.specs.MirrorLanes.{TurnedBatch, mirrorScale};
+ghost use Rattle.folded_batches.specs.MirrorLanes.{TurnedBatch, mirror_scale};
 
 // What the lines become is what they become one after the other.
 pub fn turn_lines<'a>(
@@ -47,10 +47,10 @@ pub fn turn_lines<'a>(
         × (first ≤ 1) }
     requires direction_bound { (direction < 2) × (a ≤ 359) × (length line.old ≡ 32 * (a + 1)) × (length fold.old ≡ 32 * a)
         × (lanes ≤ 16) × (lanes ≤ stride) }
-    requires lanes_in_bounds { (2 * (start + slots (mirrorKind first) a * stride + lanes) ≤ length volume.old + 2 * stride)
-        × LinesBelow m start stride (slots (mirrorKind first) a) lanes volume.old }
+    requires lanes_in_bounds { (2 * (start + slots (mirror_kind first) a * stride + lanes) ≤ length volume.old + 2 * stride)
+        × LinesBelow m start stride (slots (mirror_kind first) a) lanes volume.old }
     ensures { volume.new
-        ≡ foldedLines m direction false a re.now im.now tan.now (mirrorKind first)
+        ≡ folded_lines m direction false a re.now im.now tan.now (mirror_kind first)
         start stride lanes volume.old }
 {
     let n = a + 1 - 2 * first;
@@ -73,7 +73,7 @@ fn unpack(
     line: &mut [u32],
 )
     requires { (first ≤ 1) × (0 < a) × (a ≤ 359) × (lanes ≤ 16) × (length line.old ≡ 32 * (a + 1))
-        × (2 * (start + storedCount a first * stride + lanes) ≤ length volume.now + 2 * stride) }
+        × (2 * (start + stored_count a first * stride + lanes) ≤ length volume.now + 2 * stride) }
     ensures { Unpacked volume.now first a start stride lanes line.new }
 {
     let n = a + 1 - 2 * first;
@@ -115,7 +115,7 @@ fn turn_batch<'a>(
     requires first_bound { (first ≤ 1) × (length line.old ≡ 32 * (a + 1)) × (length fold.old ≡ 32 * a)
         × UpTo (prime m) line.old × PackedLines m a first line.old }
     ensures { (L : ℕ → List ℕ)
-        → WholeLines m a first line.old (λ v. wholeLine m a first (L v))
+        → WholeLines m a first line.old (λ v. whole_line m a first (L v))
         → TurnedBatch m a first re.now im.now tan.now L line.new }
 {
     let size = 32 * a;
@@ -128,7 +128,7 @@ fn turn_batch<'a>(
 // What the numbers of a lane are multiplied by as they are reduced: 2^32 over 2, and in analysis over N as well.
 fn last_factor(m: u32, direction: u32, a: usize) -> u32
     requires { IsModulus m × (direction < 2) × (0 < a) × (a ≤ 1440) }
-    ensures { (result < prime m) × Holds m result (mirrorScale m direction a) }
+    ensures { (result < prime m) × Holds m result (mirror_scale m direction a) }
 {
     let half = numbers::halve(m, batches::residues::shift(m));
     if direction == 0 {

@@ -8,7 +8,7 @@
 ghost use Rattle.std.specs.Prelude.{◌≡◌, get_or, length, ◌+◌, ◌*◌, ◌<◌, ◌≤◌};
 ghost use Rattle.numbers.specs.Value.{prime, IsModulus};
 ghost use Rattle.batches.specs.Reduction.{Divided};
-ghost use Rattle.batches.specs.Lanes.{laneAt, putLane, UpTo};
+ghost use Rattle.batches.specs.Lanes.{lane_at, put_lane, UpTo};
 ghost use Rattle.batches.specs.Copying.{PutBlock};
 ghost use Rattle.folded_batches.specs.Mixing.{HeldMix, Mixed, MixedAlone};
 
@@ -71,8 +71,8 @@ fn of_two(
     requires modulus { IsModulus m × (c1 ≤ prime m) × (c2 ≤ prime m) × (c3 ≤ prime m) × (c4 ≤ prime m) }
     requires v_bound { (v < 16) × (32 * i + 32 ≤ length from.now) × (32 * j + 32 ≤ length from.now)
         × UpTo 1073741823 from.now }
-    ensures { Divided m (c1 * (laneAt from.now i v).re + c2 * (laneAt from.now i v).im
-        + c3 * (laneAt from.now j v).re + c4 * (laneAt from.now j v).im) result }
+    ensures { Divided m (c1 * (lane_at from.now i v).re + c2 * (lane_at from.now i v).im
+        + c3 * (lane_at from.now j v).re + c4 * (lane_at from.now j v).im) result }
 {
     four(
         m,
@@ -91,8 +91,8 @@ fn of_two(
 fn of_one(m: u32, c1: u32, c2: u32, from: &[u32], i: usize, v: usize) -> u32
     requires modulus { IsModulus m × (c1 ≤ prime m) × (c2 ≤ prime m) }
     requires v_bound { (v < 16) × (32 * i + 32 ≤ length from.now) × UpTo 1073741823 from.now }
-    ensures { Divided m (c1 * (laneAt from.now i v).re
-        + c2 * (laneAt from.now i v).im) result }
+    ensures { Divided m (c1 * (lane_at from.now i v).re
+        + c2 * (lane_at from.now i v).im) result }
 {
     batches::reduction::weighed(m, c1, part(from, i, v), c2, part(from, i, v + 16))
 }
@@ -121,7 +121,7 @@ pub fn part(from: &[u32], i: usize, u: usize) -> u32
 // The pair a + b i goes to lane v of the block.
 pub fn store_lane(y: &mut [u32; 32], v: usize, a: u32, b: u32)
     requires { v < 16 }
-    ensures { y.new ≡ putLane y.old 0 v (record { re = a; im = b }) }
+    ensures { y.new ≡ put_lane y.old 0 v (record { re = a; im = b }) }
 {
     y[v] = a;
     y[v + 16] = b;

@@ -11,7 +11,7 @@ ghost use Rattle.numbers.specs.Value.{prime};
 ghost use Rattle.slices.specs.Pairs.{Below, values_of, list_of};
 ghost use Rattle.lengths.specs.Admitted.{Factored};
 ghost use Rattle.fold_formulas.specs.FoldFormulas.{Frame, folded};
-ghost use Rattle.folds.specs.FoldedLines.{hermitianKind};
+ghost use Rattle.folds.specs.FoldedLines.{hermitian_kind};
 
 // The transform of a packed line of either kind, antihermitian where `anti` says so. `fold` and `work` are lent for the work.
 pub fn forward<'a>(
@@ -29,8 +29,8 @@ pub fn forward<'a>(
     requires line_len { (length line.old ≡ 2 * a) × (length fold.old ≡ 2 * a) × (length work.old ≡ 2 * a) }
     requires below { Below (prime m) line.old }
     ensures { (tan : List ℕ) → line.new
-        ≡ list_of (slots (hermitianKind anti) a)
-        (folded m 0 a re.now im.now tan (hermitianKind anti)
+        ≡ list_of (slots (hermitian_kind anti) a)
+        (folded m 0 a re.now im.now tan (hermitian_kind anti)
         (values_of m line.old)) }
 {
     crate::hermitian::before::short_line(m, re, im, anti, a, line, fold);
@@ -54,8 +54,8 @@ pub fn inverse<'a>(
     requires line_len { (length line.old ≡ 2 * a) × (length fold.old ≡ 2 * a) × (length work.old ≡ 2 * a) }
     requires below { Below (prime m) line.old }
     ensures { (tan : List ℕ) → line.new
-        ≡ list_of (slots (hermitianKind anti) a)
-        (folded m 1 a re.now im.now tan (hermitianKind anti)
+        ≡ list_of (slots (hermitian_kind anti) a)
+        (folded m 1 a re.now im.now tan (hermitian_kind anti)
         (values_of m line.old)) }
 {
     let c = fold_formulas::share(m, a);

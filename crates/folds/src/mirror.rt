@@ -12,7 +12,7 @@ ghost use Rattle.numbers.specs.Value.{prime};
 ghost use Rattle.slices.specs.Pairs.{Below, values_of, list_of};
 ghost use Rattle.lengths.specs.Admitted.{Factored};
 ghost use Rattle.fold_formulas.specs.FoldFormulas.{Frame, Tangents, folded};
-ghost use Rattle.folds.specs.FoldedLines.{mirrorKind};
+ghost use Rattle.folds.specs.FoldedLines.{mirror_kind};
 
 // The transform of a line, from the packed half to the packed half.
 pub fn forward<'a>(
@@ -28,12 +28,12 @@ pub fn forward<'a>(
     work: &mut [u32],
 )
     requires frame { Frame m a re.now im.now × Tangents m tan.now × Factored factors a × (first ≤ 1) }
-    requires line_len { (length line.old ≡ 2 * slots (mirrorKind first) a)
+    requires line_len { (length line.old ≡ 2 * slots (mirror_kind first) a)
         × (length fold.old ≡ 2 * a)
         × (length work.old ≡ 2 * a) }
     requires below { Below (prime m) line.old }
-    ensures { line.new ≡ list_of (slots (mirrorKind first) a)
-        (folded m 0 a re.now im.now tan.now (mirrorKind first)
+    ensures { line.new ≡ list_of (slots (mirror_kind first) a)
+        (folded m 0 a re.now im.now tan.now (mirror_kind first)
         (values_of m line.old)) }
 {
     let odds = crate::mirror::before::odd_sum(m, first, a, line);
@@ -57,12 +57,12 @@ pub fn inverse<'a>(
     work: &mut [u32],
 )
     requires frame { Frame m a re.now im.now × Tangents m tan.now × Factored factors a × (first ≤ 1) }
-    requires line_len { (length line.old ≡ 2 * slots (mirrorKind first) a)
+    requires line_len { (length line.old ≡ 2 * slots (mirror_kind first) a)
         × (length fold.old ≡ 2 * a)
         × (length work.old ≡ 2 * a) }
     requires below { Below (prime m) line.old }
-    ensures { line.new ≡ list_of (slots (mirrorKind first) a)
-        (folded m 1 a re.now im.now tan.now (mirrorKind first)
+    ensures { line.new ≡ list_of (slots (mirror_kind first) a)
+        (folded m 1 a re.now im.now tan.now (mirror_kind first)
         (values_of m line.old)) }
 {
     let c = fold_formulas::share(m, a);

@@ -5,38 +5,38 @@ use mathlib.Core.List.{List}
 use Prim.Native.Nat.{ℕ, ◌*◌, ◌/◌, ◌%◌, ◌≤◌}
 use native.Mathlib.Nat.{mul-le-mul}
 use native.Mathlib.Omega.{arith}
-use Rattle.lengths.specs.Lengths.{product, factorsOk, digits, octalDigits}
-use Rattle.lengths.specs.Admitted.{isFactor}
-use Rattle.lengths.proofs.Digits.{digit-cons}
+use Rattle.lengths.specs.Lengths.{product, factors_ok, digits, octal_digits}
+use Rattle.lengths.specs.Admitted.{is_factor}
+use Rattle.lengths.proofs.Digits.{digit_cons}
 
 -- ---- whether every digit is a factor: what is settled so far, and the rest n of the digits of f
 
-ok-cons : (n : ℕ) → (n ≡ 0 → ⊥) → factorsOk (octalDigits n) ≡ (isFactor (n % 8) && factorsOk (octalDigits (n / 8)))
-unfolding factorsOk
-ok-cons n z = ap factorsOk (digit-cons n z)
+ok_cons : (n : ℕ) → (n ≡ 0 → ⊥) → factors_ok (octal_digits n) ≡ (is_factor (n % 8) && factors_ok (octal_digits (n / 8)))
+unfolding factors_ok
+ok_cons n z = ap factors_ok (digit_cons n z)
 
-pub ok-next : (ok : Bool) (f n : ℕ) → (n ≡ 0 → ⊥) → (ok && factorsOk (octalDigits n)) ≡ factorsOk (octalDigits f) → ((ok && isFactor (n % 8)) && factorsOk (octalDigits (n / 8))) ≡ factorsOk (octalDigits f)
-ok-next true f n z h = sym (ok-cons n z) ∙ h
-ok-next false f n z h = h
+pub ok_next : (ok : Bool) (f n : ℕ) → (n ≡ 0 → ⊥) → (ok && factors_ok (octal_digits n)) ≡ factors_ok (octal_digits f) → ((ok && is_factor (n % 8)) && factors_ok (octal_digits (n / 8))) ≡ factors_ok (octal_digits f)
+ok_next true f n z h = sym (ok_cons n z) ∙ h
+ok_next false f n z h = h
 
-pub ok-ends : (ok : Bool) (f n : ℕ) → n ≡ 0 → (ok && factorsOk (octalDigits n)) ≡ factorsOk (octalDigits f) → ok ≡ factorsOk (octalDigits f)
-unfolding factorsOk digits
-ok-ends true f n z h = ap (λ (k : ℕ). factorsOk (octalDigits k)) (sym z) ∙ h
-ok-ends false f n z h = h
+pub ok_ends : (ok : Bool) (f n : ℕ) → n ≡ 0 → (ok && factors_ok (octal_digits n)) ≡ factors_ok (octal_digits f) → ok ≡ factors_ok (octal_digits f)
+unfolding factors_ok digits
+ok_ends true f n z h = ap (λ (k : ℕ). factors_ok (octal_digits k)) (sym z) ∙ h
+ok_ends false f n z h = h
 
 -- ---- the product d so far, times that of the rest n
 
-pub product-cons : (f n d : ℕ) → (n ≡ 0 → ⊥) → product (octalDigits f) ≡ d * product (octalDigits n) → product (octalDigits f) ≡ d * (n % 8) * product (octalDigits (n / 8))
+pub product_cons : (f n d : ℕ) → (n ≡ 0 → ⊥) → product (octal_digits f) ≡ d * product (octal_digits n) → product (octal_digits f) ≡ d * (n % 8) * product (octal_digits (n / 8))
 unfolding product
-product-cons f n d z p = p ∙ ap (λ (l : List ℕ). d * product l) (digit-cons n z) ∙ omega arith
+product_cons f n d z p = p ∙ ap (λ (l : List ℕ). d * product l) (digit_cons n z) ∙ omega arith
 
-pub product-ends : (f n d : ℕ) → n ≡ 0 → product (octalDigits f) ≡ d * product (octalDigits n) → product (octalDigits f) ≡ d
+pub product_ends : (f n d : ℕ) → n ≡ 0 → product (octal_digits f) ≡ d * product (octal_digits n) → product (octal_digits f) ≡ d
 unfolding product digits
-product-ends f n d z p = p ∙ ap (λ (k : ℕ). d * product (octalDigits k)) z ∙ omega arith
+product_ends f n d z p = p ∙ ap (λ (k : ℕ). d * product (octal_digits k)) z ∙ omega arith
 
 -- the product so far, times the number that the rest of the digits make, is at most the number of all of them
-pub product-room : (f n d : ℕ) → (n ≡ 0 → ⊥) → d * n ≤ f → d * (n % 8) ≤ f
-product-room f n d z h =
+pub product_room : (f n d : ℕ) → (n ≡ 0 → ⊥) → d * n ≤ f → d * (n % 8) ≤ f
+product_room f n d z h =
     let low : n % 8 ≤ n = omega arith in
     let same : d ≤ d = omega arith in
     omega (arith, mul-le-mul same low)

@@ -1,11 +1,11 @@
 // The tests of a header: what an opening names besides the volume. They are those of a job's own numbers too.
 ghost use Rattle.std.specs.Prelude.{◌≡◌, true, ◌<◌};
 ghost use Rattle.refusals.specs.Refusals.{first};
-ghost use Rattle.refusals.specs.Checks.{checkedNumber};
-ghost use Rattle.cell.specs.Operations.{cellGroup, cellLengths, cellHalves};
-ghost use Rattle.cell.specs.Volume.{volumeLength};
-ghost use Rattle.header.specs.Header.{allAdmitted, allFactors, allProducts, axisTests};
-ghost use Rattle.header.specs.Cells.{cellHeader};
+ghost use Rattle.refusals.specs.Checks.{checked_number};
+ghost use Rattle.cell.specs.Operations.{cell_group, cell_lengths, cell_halves};
+ghost use Rattle.cell.specs.Volume.{volume_length};
+ghost use Rattle.header.specs.Header.{all_admitted, all_factors, all_products, axis_tests};
+ghost use Rattle.header.specs.Cells.{cell_header};
 
 use cell::operations::UnitCell;
 use cell::places;
@@ -14,7 +14,7 @@ use refusals::{Checked, Refusal};
 // How many numbers the volume has, where the lengths are any numbers of two bytes: they may be those of a header that is refused.
 pub fn volume_length(cell: UnitCell) -> u64
     requires { (cell.n1 < 65536) × (cell.n2 < 65536) × (cell.n3 < 65536) }
-    ensures { result ≡ volumeLength (cellGroup cell) (cellHalves cell) }
+    ensures { result ≡ volume_length (cell_group cell) (cell_halves cell) }
 {
     let layers = places::layer_count(cell) as u64;
     let rows = (2 * (cell.n1 / 2)) as u64;
@@ -24,23 +24,23 @@ pub fn volume_length(cell: UnitCell) -> u64
 
 // The three lengths are admitted.
 pub fn all_admitted(cell: UnitCell) -> bool
-    ensures { result ≡ allAdmitted (cellLengths cell) }
+    ensures { result ≡ all_admitted (cell_lengths cell) }
 {
     lengths::admitted(cell.n1) & (lengths::admitted(cell.n2) & lengths::admitted(cell.n3))
 }
 
 // Every number of the three lists is a factor.
 fn all_factors(f1: &[u8], f2: &[u8], f3: &[u8]) -> bool
-    ensures { result ≡ allFactors f1.now f2.now f3.now }
+    ensures { result ≡ all_factors f1.now f2.now f3.now }
 {
     lengths::factors_ok(f1) & (lengths::factors_ok(f2) & lengths::factors_ok(f3))
 }
 
 // The product of each list is half of its axis.
 fn all_products(f1: &[u8], f2: &[u8], f3: &[u8], cell: UnitCell) -> bool
-    requires cell_value { allAdmitted (cellLengths cell) ≡ true }
-    requires f3_value { allFactors f1.now f2.now f3.now ≡ true }
-    ensures { result ≡ allProducts (cellLengths cell) f1.now f2.now f3.now }
+    requires cell_value { all_admitted (cell_lengths cell) ≡ true }
+    requires f3_value { all_factors f1.now f2.now f3.now ≡ true }
+    ensures { result ≡ all_products (cell_lengths cell) f1.now f2.now f3.now }
 {
     lengths::has_product(f1, cell.n1 / 2)
         & (lengths::has_product(f2, cell.n2 / 2) & lengths::has_product(f3, cell.n3 / 2))
@@ -49,8 +49,8 @@ fn all_products(f1: &[u8], f2: &[u8], f3: &[u8], cell: UnitCell) -> bool
 // 3, 4, 5, each over the three axes, then 9.
 pub fn check_header(cell: UnitCell, f1: &[u8], f2: &[u8], f3: &[u8]) -> Checked
     requires { cell.group < 5 }
-    ensures { checkedNumber result
-        ≡ first (axisTests (cellHeader cell f1.now f2.now f3.now)) }
+    ensures { checked_number result
+        ≡ first (axis_tests (cell_header cell f1.now f2.now f3.now)) }
 {
     if !all_admitted(cell) {
         return Checked::Failed(Refusal::Length);

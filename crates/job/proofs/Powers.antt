@@ -6,36 +6,36 @@ use Prim.Native.Nat.{ℕ}
 use Rattle.refusals.specs.declared.Refusal.{Refusal}
 use Rattle.refusals.specs.Refusals.{number_of, first, ◌⇒◌}
 use Rattle.refusals.proofs.Tests.{fails, passes}
-use Rattle.lengths.specs.Lengths.{scratchLength}
-use Rattle.power.specs.Power.{mapPower, factorPower}
+use Rattle.lengths.specs.Lengths.{scratch_length}
+use Rattle.power.specs.Power.{map_power, factor_power}
 use Rattle.job.specs.declared.Job.{Job}
-use Rattle.job.specs.Job.{validJob, groupIn, halves, mapPowerStep, factorPowerStep, unchanged, power, refused, Outcome}
-use Rattle.job.specs.TestSteps.{synthesisTests, analysisTests, mapPowerTests, factorPowerTests}
+use Rattle.job.specs.Job.{valid_job, group_in, halves, map_power_step, factor_power_step, unchanged, power, refused, Outcome}
+use Rattle.job.specs.TestSteps.{synthesis_tests, analysis_tests, map_power_tests, factor_power_tests}
 
 -- with scratch enough, 13 is as if it were not asked
-pub without-scratch : (b c d e f : Bool) (n : ℕ) → first (b ⇒ 25 ∷ c ⇒ n ∷ d ⇒ 6 ∷ false ⇒ 13 ∷ e ⇒ 7 ∷ f ⇒ 14 ∷ []) ≡ first (b ⇒ 25 ∷ c ⇒ n ∷ d ⇒ 6 ∷ e ⇒ 7 ∷ f ⇒ 14 ∷ [])
+pub without_scratch : (b c d e f : Bool) (n : ℕ) → first (b ⇒ 25 ∷ c ⇒ n ∷ d ⇒ 6 ∷ false ⇒ 13 ∷ e ⇒ 7 ∷ f ⇒ 14 ∷ []) ≡ first (b ⇒ 25 ∷ c ⇒ n ∷ d ⇒ 6 ∷ e ⇒ 7 ∷ f ⇒ 14 ∷ [])
 unfolding first
-without-scratch b c d e f n = refl
+without_scratch b c d e f n = refl
 
 module _ (j : Job) (v : List ℕ) where
-  pub as-analysis : first (analysisTests j v scratchLength) ≡ first (mapPowerTests j v)
-  as-analysis = without-scratch (not (validJob j)) _ _ _ _ 22
+  pub as_analysis : first (analysis_tests j v scratch_length) ≡ first (map_power_tests j v)
+  as_analysis = without_scratch (not (valid_job j)) _ _ _ _ 22
 
-  pub as-synthesis : first (synthesisTests j v scratchLength) ≡ first (factorPowerTests j v)
-  as-synthesis = without-scratch (not (validJob j)) _ _ _ _ 23
+  pub as_synthesis : first (synthesis_tests j v scratch_length) ≡ first (factor_power_tests j v)
+  as_synthesis = without_scratch (not (valid_job j)) _ _ _ _ 23
 
-  pub map-power-refused : (r : Refusal) → number_of r ≡ first (mapPowerTests j v) → refused (number_of r) ≡ (mapPowerStep j v).answer
-  unfolding mapPowerStep
-  map-power-refused r e = ap (λ (o : Outcome). o.answer) (fails r _ _ (unchanged j v) e)
+  pub map_power_refused : (r : Refusal) → number_of r ≡ first (map_power_tests j v) → refused (number_of r) ≡ (map_power_step j v).answer
+  unfolding map_power_step
+  map_power_refused r e = ap (λ (o : Outcome). o.answer) (fails r _ _ (unchanged j v) e)
 
-  pub map-power-said : (n : ℕ) → 0 ≡ first (mapPowerTests j v) → n ≡ mapPower (groupIn j) (halves j) j.modulus v → power n ≡ (mapPowerStep j v).answer
-  unfolding mapPowerStep
-  map-power-said n e s = ap power s ∙ ap (λ (o : Outcome). o.answer) (passes _ _ (unchanged j v) e)
+  pub map_power_said : (n : ℕ) → 0 ≡ first (map_power_tests j v) → n ≡ map_power (group_in j) (halves j) j.modulus v → power n ≡ (map_power_step j v).answer
+  unfolding map_power_step
+  map_power_said n e s = ap power s ∙ ap (λ (o : Outcome). o.answer) (passes _ _ (unchanged j v) e)
 
-  pub factor-power-refused : (r : Refusal) → number_of r ≡ first (factorPowerTests j v) → refused (number_of r) ≡ (factorPowerStep j v).answer
-  unfolding factorPowerStep
-  factor-power-refused r e = ap (λ (o : Outcome). o.answer) (fails r _ _ (unchanged j v) e)
+  pub factor_power_refused : (r : Refusal) → number_of r ≡ first (factor_power_tests j v) → refused (number_of r) ≡ (factor_power_step j v).answer
+  unfolding factor_power_step
+  factor_power_refused r e = ap (λ (o : Outcome). o.answer) (fails r _ _ (unchanged j v) e)
 
-  pub factor-power-said : (n : ℕ) → 0 ≡ first (factorPowerTests j v) → n ≡ factorPower (groupIn j) (halves j) j.modulus v → power n ≡ (factorPowerStep j v).answer
-  unfolding factorPowerStep
-  factor-power-said n e s = ap power s ∙ ap (λ (o : Outcome). o.answer) (passes _ _ (unchanged j v) e)
+  pub factor_power_said : (n : ℕ) → 0 ≡ first (factor_power_tests j v) → n ≡ factor_power (group_in j) (halves j) j.modulus v → power n ≡ (factor_power_step j v).answer
+  unfolding factor_power_step
+  factor_power_said n e s = ap power s ∙ ap (λ (o : Outcome). o.answer) (passes _ _ (unchanged j v) e)

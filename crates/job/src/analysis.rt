@@ -1,6 +1,6 @@
 // Analysis: from the map of a job to its structure factors.
 ghost use Rattle.std.specs.Prelude.{◌≡◌};
-ghost use Rattle.job.specs.Job.{analysisStep};
+ghost use Rattle.job.specs.Job.{analysis_step};
 ghost use Rattle.job.specs.Answers.{worked};
 
 use crate::{Answer, Answered, Job, plan, valid};
@@ -10,7 +10,7 @@ impl Job {
     // The map that the volume holds becomes its factors; a refused call changes nothing.
     pub fn analysis(mut self, volume: &mut [u32], scratch: &mut [u32]) -> Answered
         ensures { worked result volume.new scratch.new
-            ≡ analysisStep self volume.old scratch.old }
+            ≡ analysis_step self volume.old scratch.old }
     {
         let cell = self.unit_cell();
         let checked = crate::check::analysis::check_analysis(

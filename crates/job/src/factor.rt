@@ -1,7 +1,7 @@
 // The reading of a structure factor.
 ghost use Rattle.std.specs.Prelude.{◌≡◌};
-ghost use Rattle.job.specs.Job.{factorStep};
-ghost use Rattle.job.specs.Answers.{saidFactor};
+ghost use Rattle.job.specs.Job.{factor_step};
+ghost use Rattle.job.specs.Answers.{said_factor};
 
 use crate::{FactorAnswer, Job, Reflection, valid};
 use cell::operations::Index;
@@ -10,7 +10,7 @@ use refusals::Checked;
 impl Job {
     // The factor at an index anywhere in the cell.
     pub fn factor(self, at: Reflection, volume: &[u32]) -> FactorAnswer
-        ensures { saidFactor result ≡ (factorStep self at volume.now).answer }
+        ensures { said_factor result ≡ (factor_step self at volume.now).answer }
     {
         let cell = self.unit_cell();
         let j = Index {

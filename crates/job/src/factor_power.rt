@@ -1,7 +1,7 @@
 // The power of the factors: the sum of F × conj F over the whole cell, modulo the prime.
 ghost use Rattle.std.specs.Prelude.{◌≡◌};
-ghost use Rattle.job.specs.Job.{factorPowerStep};
-ghost use Rattle.job.specs.Answers.{saidPower};
+ghost use Rattle.job.specs.Job.{factor_power_step};
+ghost use Rattle.job.specs.Answers.{said_power};
 
 use crate::{Job, PowerAnswer, valid};
 use refusals::Checked;
@@ -9,7 +9,7 @@ use refusals::Checked;
 impl Job {
     // It is checked as a synthesis that has scratch enough: it needs none.
     pub fn factor_power(self, volume: &[u32]) -> PowerAnswer
-        ensures { saidPower result ≡ (factorPowerStep self volume.now).answer }
+        ensures { said_power result ≡ (factor_power_step self volume.now).answer }
     {
         let cell = self.unit_cell();
         let checked = crate::check::synthesis::check_synthesis(

@@ -1,7 +1,7 @@
 // The power of a map: the sum of its squares over the whole cell, modulo the prime.
 ghost use Rattle.std.specs.Prelude.{◌≡◌};
-ghost use Rattle.job.specs.Job.{mapPowerStep};
-ghost use Rattle.job.specs.Answers.{saidPower};
+ghost use Rattle.job.specs.Job.{map_power_step};
+ghost use Rattle.job.specs.Answers.{said_power};
 
 use crate::{Job, PowerAnswer, valid};
 use refusals::Checked;
@@ -9,7 +9,7 @@ use refusals::Checked;
 impl Job {
     // It is checked as an analysis that has scratch enough: it needs none.
     pub fn map_power(self, volume: &[u32]) -> PowerAnswer
-        ensures { saidPower result ≡ (mapPowerStep self volume.now).answer }
+        ensures { said_power result ≡ (map_power_step self volume.now).answer }
     {
         let cell = self.unit_cell();
         let checked = crate::check::analysis::check_analysis(

@@ -1,9 +1,9 @@
 // The opening of a job: to collect records in a volume that is zeroed, or with a volume that is a map.
 ghost use Rattle.std.specs.Prelude.{◌≡◌, true, ◌≤◌};
-ghost use Rattle.lengths.specs.Lengths.{product, octal, factorsOk};
+ghost use Rattle.lengths.specs.Lengths.{product, octal, factors_ok};
 ghost use Rattle.refusals.specs.Refusals.{first};
-ghost use Rattle.job.specs.Job.{cellHeader, axisTests, job_of, openStep};
-ghost use Rattle.job.specs.Answers.{openOutcome};
+ghost use Rattle.job.specs.Job.{cell_header, axis_tests, job_of, open_step};
+ghost use Rattle.job.specs.Answers.{open_outcome};
 
 use crate::{Axis, Job, OpenAnswer};
 use cell::operations::UnitCell;
@@ -11,7 +11,7 @@ use refusals::Checked;
 
 // An axis of a job: the list goes on as octal digits.
 fn axis(length: u32, factors: &[u8]) -> Axis
-    requires { (factorsOk factors.now ≡ true) × (product factors.now ≤ 1440) }
+    requires { (factors_ok factors.now ≡ true) × (product factors.now ≤ 1440) }
     ensures { result ≡ record { length = length; factors = octal factors.now } }
 {
     Axis {
@@ -22,9 +22,9 @@ fn axis(length: u32, factors: &[u8]) -> Axis
 
 // The job of a modulus number and a header that no test refuses.
 fn opened(modulus: u32, cell: UnitCell, f1: &[u8], f2: &[u8], f3: &[u8], state: u32) -> Job
-    requires { 0 ≡ first (axisTests (cellHeader cell f1.now f2.now f3.now)) }
+    requires { 0 ≡ first (axis_tests (cell_header cell f1.now f2.now f3.now)) }
     ensures { result
-        ≡ job_of modulus (cellHeader cell f1.now f2.now f3.now) state }
+        ≡ job_of modulus (cell_header cell f1.now f2.now f3.now) state }
 {
     Job {
         group: cell.group,
@@ -49,8 +49,8 @@ pub fn open(
     f3: &[u8],
     volume: &mut [u32],
 ) -> OpenAnswer
-    ensures { openOutcome result volume.new
-        ≡ openStep modulus
+    ensures { open_outcome result volume.new
+        ≡ open_step modulus
         (record {
           group = group;
           lengths = (n1, n2, n3);

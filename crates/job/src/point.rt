@@ -1,7 +1,7 @@
 // The reading of a point of the map.
 ghost use Rattle.std.specs.Prelude.{◌≡◌};
-ghost use Rattle.job.specs.Job.{pointStep};
-ghost use Rattle.job.specs.Answers.{saidPoint};
+ghost use Rattle.job.specs.Job.{point_step};
+ghost use Rattle.job.specs.Answers.{said_point};
 
 use crate::{GridPoint, Job, PointAnswer, valid};
 use cell::operations::Point;
@@ -11,7 +11,7 @@ use refusals::Checked;
 impl Job {
     // The density at a point anywhere in the cell, with its sign.
     pub fn point(self, at: GridPoint, volume: &[u32]) -> PointAnswer
-        ensures { saidPoint result ≡ (pointStep self at volume.now).answer }
+        ensures { said_point result ≡ (point_step self at volume.now).answer }
     {
         let cell = self.unit_cell();
         let point = Point {

@@ -1,6 +1,6 @@
 // The recording of a structure factor: its value at its index, and the implied values at all images.
 ghost use Rattle.std.specs.Prelude.{◌≡◌};
-ghost use Rattle.job.specs.Job.{recordStep};
+ghost use Rattle.job.specs.Job.{record_step};
 ghost use Rattle.job.specs.Answers.{outcome};
 
 use crate::{Answer, Answered, Job, Reflection, valid};
@@ -11,7 +11,7 @@ use refusals::Checked;
 impl Job {
     // The value a + b i goes to its index, and what it implies to the images that are stored.
     pub fn record(mut self, at: Reflection, a: u32, b: u32, volume: &mut [u32]) -> Answered
-        ensures { outcome result volume.new ≡ recordStep self at a b volume.old }
+        ensures { outcome result volume.new ≡ record_step self at a b volume.old }
     {
         let cell = self.unit_cell();
         let j = Index {

@@ -3,7 +3,7 @@
 ghost use Rattle.std.specs.Prelude.{◌≡◌};
 ghost use Rattle.refusals.specs.Refusals.{number_of};
 ghost use Rattle.job.specs.Job.{refused};
-ghost use Rattle.job.specs.Answers.{said, saidPoint, saidFactor, saidPower, replyOf};
+ghost use Rattle.job.specs.Answers.{said, said_point, said_factor, said_power, reply_of};
 
 use crate::{Answer, FactorAnswer, PointAnswer, PowerAnswer};
 use refusals::Refusal;
@@ -16,7 +16,7 @@ pub struct Reply {
 }
 
 pub fn of_answer(answer: Answer) -> Reply
-    ensures { result ≡ replyOf (said answer) }
+    ensures { result ≡ reply_of (said answer) }
 {
     match answer {
         Answer::Done => Reply {
@@ -29,7 +29,7 @@ pub fn of_answer(answer: Answer) -> Reply
 }
 
 pub fn of_point(answer: PointAnswer) -> Reply
-    ensures { result ≡ replyOf (saidPoint answer) }
+    ensures { result ≡ reply_of (said_point answer) }
 {
     match answer {
         PointAnswer::Density(x) => Reply {
@@ -42,7 +42,7 @@ pub fn of_point(answer: PointAnswer) -> Reply
 }
 
 pub fn of_factor(answer: FactorAnswer) -> Reply
-    ensures { result ≡ replyOf (saidFactor answer) }
+    ensures { result ≡ reply_of (said_factor answer) }
 {
     match answer {
         FactorAnswer::Factor(x, y) => Reply {
@@ -55,7 +55,7 @@ pub fn of_factor(answer: FactorAnswer) -> Reply
 }
 
 pub fn of_power(answer: PowerAnswer) -> Reply
-    ensures { result ≡ replyOf (saidPower answer) }
+    ensures { result ≡ reply_of (said_power answer) }
 {
     match answer {
         PowerAnswer::Power(x) => Reply {
@@ -68,7 +68,7 @@ pub fn of_power(answer: PowerAnswer) -> Reply
 }
 
 fn of_refusal(refusal: Refusal) -> Reply
-    ensures { result ≡ replyOf (refused (number_of refusal)) }
+    ensures { result ≡ reply_of (refused (number_of refusal)) }
 {
     Reply {
         number: refusals::number_of(refusal),

@@ -1,6 +1,6 @@
 // Synthesis: from the structure factors of a job to its map.
 ghost use Rattle.std.specs.Prelude.{◌≡◌};
-ghost use Rattle.job.specs.Job.{synthesisStep};
+ghost use Rattle.job.specs.Job.{synthesis_step};
 ghost use Rattle.job.specs.Answers.{worked};
 
 use crate::{Answer, Answered, Job, plan, valid};
@@ -10,7 +10,7 @@ impl Job {
     // The factors that the volume holds become the map that they stand for; a refused call changes nothing.
     pub fn synthesis(mut self, volume: &mut [u32], scratch: &mut [u32]) -> Answered
         ensures { worked result volume.new scratch.new
-            ≡ synthesisStep self volume.old scratch.old }
+            ≡ synthesis_step self volume.old scratch.old }
     {
         let cell = self.unit_cell();
         let checked = crate::check::synthesis::check_synthesis(

@@ -1,6 +1,6 @@
 // The unit cell of a job.
 ghost use Rattle.std.specs.Prelude.{◌≡◌};
-ghost use Rattle.job.specs.Job.{jobCell};
+ghost use Rattle.job.specs.Job.{job_cell};
 
 use crate::Job;
 use cell::operations::UnitCell;
@@ -8,7 +8,7 @@ use cell::operations::UnitCell;
 impl Job {
     // The job's group and the lengths of its axes.
     pub fn unit_cell(self) -> UnitCell
-        ensures { result ≡ jobCell self }
+        ensures { result ≡ job_cell self }
     {
         UnitCell {
             group: self.group,

@@ -27,33 +27,33 @@ count n = primes 11 n
 abbrev falls : (n f : ℕ) → Bool
 falls n f = not (eqb (n % f) 0) || leb (suc (count (n / f))) (count n)
 
-abbrev fallsAll : ℕ → Bool
-fallsAll n = falls n 2 && (falls n 3 && (falls n 4 && falls n 5))
+abbrev falls_all : ℕ → Bool
+falls_all n = falls n 2 && (falls n 3 && (falls n 4 && falls n 5))
 
-unfoldable fallsBelow : ℕ → Bool
-fallsBelow zero = true
-fallsBelow (suc n) = (not (eqb (1440 % suc n) 0) || fallsAll (suc n)) && fallsBelow n
+unfoldable falls_below : ℕ → Bool
+falls_below zero = true
+falls_below (suc n) = (not (eqb (1440 % suc n) 0) || falls_all (suc n)) && falls_below n
 
-tested : fallsBelow 1440 ≡ true
-unfolding fallsBelow primes
+tested : falls_below 1440 ≡ true
+unfolding falls_below primes
 tested = refl
 
-falls_at : (k n : ℕ) → fallsBelow k ≡ true → 1 ≤ n → n ≤ k → 1440 % n ≡ 0 → fallsAll n ≡ true
-unfolding fallsBelow
+falls_at : (k n : ℕ) → falls_below k ≡ true → 1 ≤ n → n ≤ k → 1440 % n ≡ 0 → falls_all n ≡ true
+unfolding falls_below
 falls_at zero n e g l d = absurd (omega arith)
 falls_at (suc k) n e g l d =
-    let h = both (not (eqb (1440 % suc k) 0) || fallsAll (suc k)) (fallsBelow k) e in
-    ⊎_elim (λ (q : n ≡ suc k). let t = subst (λ (m : ℕ). (not (eqb (1440 % m) 0) || fallsAll m) ≡ true) (sym q) h.0 in simp (eq-eqb (1440 % n) 0 d) at t) (λ (lt : n < suc k). falls_at k n h.1 g (le_of_suc-le-suc lt) d) (eq-or-lt_of_le l)
+    let h = both (not (eqb (1440 % suc k) 0) || falls_all (suc k)) (falls_below k) e in
+    ⊎_elim (λ (q : n ≡ suc k). let t = subst (λ (m : ℕ). (not (eqb (1440 % m) 0) || falls_all m) ≡ true) (sym q) h.0 in simp (eq-eqb (1440 % n) 0 d) at t) (λ (lt : n < suc k). falls_at k n h.1 g (le_of_suc-le-suc lt) d) (eq-or-lt_of_le l)
 
 -- one of the four
-falls-by : (n f : ℕ) → fallsAll n ≡ true → 2 ≤ f → f ≤ 5 → falls n f ≡ true
-falls-by n zero e g l = absurd (not-suc-le-zero g)
-falls-by n (suc zero) e g l = absurd (omega arith)
-falls-by n (suc (suc zero)) e g l = (both (falls n 2) (falls n 3 && (falls n 4 && falls n 5)) e).0
-falls-by n (suc (suc (suc zero))) e g l = (both (falls n 3) (falls n 4 && falls n 5) (both (falls n 2) (falls n 3 && (falls n 4 && falls n 5)) e).1).0
-falls-by n (suc (suc (suc (suc zero)))) e g l = (both (falls n 4) (falls n 5) (both (falls n 3) (falls n 4 && falls n 5) (both (falls n 2) (falls n 3 && (falls n 4 && falls n 5)) e).1).1).0
-falls-by n (suc (suc (suc (suc (suc zero))))) e g l = (both (falls n 4) (falls n 5) (both (falls n 3) (falls n 4 && falls n 5) (both (falls n 2) (falls n 3 && (falls n 4 && falls n 5)) e).1).1).1
-falls-by n (suc (suc (suc (suc (suc (suc f)))))) e g l = absurd (omega arith)
+falls_by : (n f : ℕ) → falls_all n ≡ true → 2 ≤ f → f ≤ 5 → falls n f ≡ true
+falls_by n zero e g l = absurd (not-suc-le-zero g)
+falls_by n (suc zero) e g l = absurd (omega arith)
+falls_by n (suc (suc zero)) e g l = (both (falls n 2) (falls n 3 && (falls n 4 && falls n 5)) e).0
+falls_by n (suc (suc (suc zero))) e g l = (both (falls n 3) (falls n 4 && falls n 5) (both (falls n 2) (falls n 3 && (falls n 4 && falls n 5)) e).1).0
+falls_by n (suc (suc (suc (suc zero)))) e g l = (both (falls n 4) (falls n 5) (both (falls n 3) (falls n 4 && falls n 5) (both (falls n 2) (falls n 3 && (falls n 4 && falls n 5)) e).1).1).0
+falls_by n (suc (suc (suc (suc (suc zero))))) e g l = (both (falls n 4) (falls n 5) (both (falls n 3) (falls n 4 && falls n 5) (both (falls n 2) (falls n 3 && (falls n 4 && falls n 5)) e).1).1).1
+falls_by n (suc (suc (suc (suc (suc (suc f)))))) e g l = absurd (omega arith)
 
 -- a factor f times k
 fall : (f k n r : ℕ) → 2 ≤ f → f ≤ 5 → f * k ≡ n → 1 ≤ n → n ≤ 1440 → n * r ≡ 1440 → suc (count k) ≤ count n
@@ -61,7 +61,7 @@ fall f k n r g l e z h d =
     let divides : 1440 % n ≡ 0 = subst (λ (x : ℕ). x % n ≡ 0) d (mul-mod_right n r) in
     let whole : n % f ≡ 0 = subst (λ (x : ℕ). x % f ≡ 0) e (mul-mod_right f k) in
     let part : n / f ≡ k = subst (λ (x : ℕ). x / f ≡ k) e (mul-div_right k (omega arith)) in
-    let t : falls n f ≡ true = falls-by n f (falls_at 1440 n tested z h divides) g l in
+    let t : falls n f ≡ true = falls_by n f (falls_at 1440 n tested z h divides) g l in
     leb-true (suc (count k)) (count n) (simp (eq-eqb (n % f) 0 whole, part) at t)
 
 counted : (l : List ℕ) (q n r : ℕ) → Factors l → product l * q ≡ n → 1 ≤ n → n ≤ 1440 → n * r ≡ 1440 → length l ≤ count n
@@ -75,6 +75,6 @@ counted (f ∷ l) q n r (one low high t) e z h d =
     let d' : k * f * r ≡ 1440 = ap (λ (x : ℕ). x * r) (mul_comm k f ∙ e') ∙ d in
     omega (arith, fall f k n r low high e' z h d, counted l q k (f * r) t refl pos le (sym (mul_assoc k f r) ∙ d'))
 
-pub at-most-eight : (l : List ℕ) (q : ℕ) → Factors l → product l * q ≡ 1440 → length l ≤ 8
+pub at_most_eight : (l : List ℕ) (q : ℕ) → Factors l → product l * q ≡ 1440 → length l ≤ 8
 unfolding primes
-at-most-eight l q t e = counted l q 1440 1 t e (omega arith) (omega arith) (omega arith)
+at_most_eight l q t e = counted l q 1440 1 t e (omega arith) (omega arith) (omega arith)

@@ -18,11 +18,11 @@ pub record AdmittedLength (N : ℕ) : Type 0 where
   pub whole : 2 * (N / 2) ≡ N
   pub short : N ≤ 2880
   pub turns : N * (2880 / N) ≡ 2880
-  pub half-turn : 2880 / N * (N / 2) ≡ 1440
+  pub half_turn : 2880 / N * (N / 2) ≡ 1440
   pub half_step : 1440 / (N / 2) ≡ 2880 / N
-  pub half-turns : N / 2 * (1440 / (N / 2)) ≡ 1440
+  pub half_turns : N / 2 * (1440 / (N / 2)) ≡ 1440
   pub square : 2880 / (N / 2) ≡ 2 * (2880 / N)
-  pub square-turns : N / 2 * (2880 / (N / 2)) ≡ 2880
+  pub square_turns : N / 2 * (2880 / (N / 2)) ≡ 2880
 
 -- A factor list in octal digits, as the plain transform takes it, of the A points of a folded line.
 pub record FactorList (N factors : ℕ) : Type 0 where
@@ -31,5 +31,5 @@ pub record FactorList (N factors : ℕ) : Type 0 where
   pub folded : Factored factors (N / 2)
 
 -- the test of one factor
-abbrev pub isFactor : ℕ → Bool
-isFactor f = leb 2 f && leb f 5
+abbrev pub is_factor : ℕ → Bool
+is_factor f = leb 2 f && leb f 5

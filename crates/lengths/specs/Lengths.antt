@@ -20,9 +20,9 @@ unfoldable pub admitted : ℕ → Bool
 admitted N = ltb 0 N && (eqb (N % 2) 0 && eqb (2880 % N) 0)
 
 -- A factor list: each number is 2 to 5.
-unfoldable pub factorsOk : List ℕ → Bool
-factorsOk [] = true
-factorsOk (f ∷ l) = (leb 2 f && leb f 5) && factorsOk l
+unfoldable pub factors_ok : List ℕ → Bool
+factors_ok [] = true
+factors_ok (f ∷ l) = (leb 2 f && leb f 5) && factors_ok l
 
 -- The list that a number holds in its octal digits, the first factor lowest (`octal` is the number of a list):
 -- digits to a base, the lowest first, of at most `count` digits.
@@ -30,21 +30,21 @@ unfoldable pub digits : (base count n : ℕ) → List ℕ
 digits base zero n = []
 digits base (suc c) n = cond (eqb n 0) [] (n % base ∷ digits base c (n / base))
 
-abbrev pub octalDigits : ℕ → List ℕ
-octalDigits n = digits 8 n n
+abbrev pub octal_digits : ℕ → List ℕ
+octal_digits n = digits 8 n n
 
 -- The list of twice the length, by which a plain line goes: it has N points, and its list names the factors of N/2. Its
 -- first 2 becomes a 4, or, where it has none, a 2 is added at its end.
-unfoldable pub doubledList : List ℕ → List ℕ
-doubledList [] = 2 ∷ []
-doubledList (f ∷ l) = cond (eqb f 2) (4 ∷ l) (f ∷ doubledList l)
+unfoldable pub doubled_list : List ℕ → List ℕ
+doubled_list [] = 2 ∷ []
+doubled_list (f ∷ l) = cond (eqb f 2) (4 ∷ l) (f ∷ doubled_list l)
 
 -- What an accepted call leaves of the lent scratch: its first 11,520 numbers zero, the others as they were.
-abbrev pub scratchLength : ℕ
-scratchLength = 11520
+abbrev pub scratch_length : ℕ
+scratch_length = 11520
 
 unfoldable pub cleared : List ℕ → List ℕ
-cleared s = replicate scratchLength 0 ++ drop scratchLength s
+cleared s = replicate scratch_length 0 ++ drop scratch_length s
 
 -- ---- The six kinds by number, and how many pairs a packed line of a kind and a length has.
 
@@ -53,5 +53,5 @@ abbrev pub kind_of : ℕ → Kind
 kind_of n = get_or (plain ∷ hermitian ∷ antihermitian ∷ alternating ∷ symmetric ∷ antisymmetric ∷ []) n plain
 
 -- how many pairs a packed line of a kind and a length has
-abbrev pub pairCount : (kind N : ℕ) → ℕ
-pairCount kind N = slots (kind_of kind) (N / 2)
+abbrev pub pair_count : (kind N : ℕ) → ℕ
+pair_count kind N = slots (kind_of kind) (N / 2)

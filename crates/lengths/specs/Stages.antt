@@ -13,13 +13,13 @@ unfoldable pub after : Stage → Stage
 after s = record { left = s.left / 8; inner = s.inner * (s.left % 8); lines = s.lines / (s.left % 8) }
 
 -- the stage of a list at which its first k factors are done
-abbrev pub splitStage : List ℕ → ℕ → Stage
-splitStage l k = record { left = octal (drop k l); inner = product (take k l); lines = product (drop k l) }
+abbrev pub split_stage : List ℕ → ℕ → Stage
+split_stage l k = record { left = octal (drop k l); inner = product (take k l); lines = product (drop k l) }
 
 -- the stage after k steps
-unfoldable pub stageAfter : ℕ → Stage → Stage
-stageAfter zero s = s
-stageAfter (suc k) s = after (stageAfter k s)
+unfoldable pub stage_after : ℕ → Stage → Stage
+stage_after zero s = s
+stage_after (suc k) s = after (stage_after k s)
 
 -- a stage that has a step ahead
 pub record Ahead (s : Stage) : Type 0 where

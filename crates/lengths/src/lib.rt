@@ -4,8 +4,8 @@
 pub mod stage; // stage.rt
 
 ghost use Rattle.std.specs.Prelude.{◌≡◌, true, ◌<◌, ◌≤◌, eqb};
-ghost use Rattle.lengths.specs.Lengths.{product, octal, admitted, factorsOk, pairCount};
-ghost use Rattle.lengths.specs.Admitted.{isFactor};
+ghost use Rattle.lengths.specs.Lengths.{product, octal, admitted, factors_ok, pair_count};
+ghost use Rattle.lengths.specs.Admitted.{is_factor};
 
 // An even divisor of 2,880.
 pub fn admitted(length: u32) -> bool
@@ -18,14 +18,14 @@ pub fn admitted(length: u32) -> bool
 }
 
 fn is_factor(x: u8) -> bool
-    ensures { result ≡ isFactor x }
+    ensures { result ≡ is_factor x }
 {
     (2 <= x) & (x <= 5)
 }
 
 // Every number is 2, 3, 4 or 5.
 pub fn factors_ok(factors: &[u8]) -> bool
-    ensures { result ≡ factorsOk factors.now }
+    ensures { result ≡ factors_ok factors.now }
 {
     let mut i: usize = 0;
     while i < factors.len() {
@@ -45,7 +45,7 @@ fn wide(x: u8) -> u32
 
 // Whether a factor list of any length has the product n: a partial product above n settles it.
 pub fn has_product(factors: &[u8], n: u32) -> bool
-    requires factors_value { factorsOk factors.now ≡ true }
+    requires factors_value { factors_ok factors.now ≡ true }
     requires n_bound { n ≤ 1440 }
     ensures { result ≡ eqb (product factors.now) n }
 {
@@ -63,7 +63,7 @@ pub fn has_product(factors: &[u8], n: u32) -> bool
 
 // The octal digits of an accepted list.
 pub fn packed(factors: &[u8]) -> u32
-    requires factors_value { factorsOk factors.now ≡ true }
+    requires factors_value { factors_ok factors.now ≡ true }
     requires factors_bound { product factors.now ≤ 1440 }
     ensures { result ≡ octal factors.now }
 {
@@ -79,7 +79,7 @@ pub fn packed(factors: &[u8]) -> u32
 // How many pairs a packed line has.
 pub fn pair_count(kind: u32, length: u32) -> usize
     requires { (kind < 6) × (2 ≤ length) × (length ≤ 2880) }
-    ensures { (result ≡ pairCount kind length) × (result ≤ 2880) }
+    ensures { (result ≡ pair_count kind length) × (result ≤ 2880) }
 {
     let half = (length / 2) as usize;
     match kind {

@@ -1,7 +1,7 @@
 -- The paper's starred specimens of lines, in one table: each line before is accepted and becomes the line after.
 use Rattle.std.specs.Prelude.{◌≡◌, List, [], ◌∷◌, ℕ, ◌≤◌, length}
-use Rattle.lengths.specs.Lengths.{scratchLength, cleared}
-use Rattle.line.specs.Line.{lineStep}
+use Rattle.lengths.specs.Lengths.{scratch_length, cleared}
+use Rattle.line.specs.Line.{line_step}
 
 pub record Specimen : Type 0 where
   pub kind : ℕ
@@ -29,8 +29,8 @@ specimens =
 
 -- with any scratch that is long enough
 abbrev pub Shown : Specimen → Type 0
-Shown x = (scratch : List ℕ) → scratchLength ≤ length scratch →
-    lineStep 1 x.kind x.direction x.length x.factors x.before scratch
+Shown x = (scratch : List ℕ) → scratch_length ≤ length scratch →
+    line_step 1 x.kind x.direction x.length x.factors x.before scratch
     ≡ record { answer = 0; line = x.after; scratch = cleared scratch }
 
 abbrev pub AllShown : List Specimen → Type 0

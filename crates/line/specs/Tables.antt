@@ -3,14 +3,14 @@
 use Rattle.std.specs.Prelude.{◌≡◌, List, ℕ, zero, suc, length}
 use Rattle.numbers.specs.Value.{Value, conj}
 use Rattle.roots.specs.Root.{root}
-use Rattle.roots.specs.Table.{tableRoot, RootTable}
+use Rattle.roots.specs.Table.{table_root, RootTable}
 use Rattle.roots.specs.TableLaws.{TangentLaws, BackwardTangents, NegatedTable}
 use Rattle.fold_formulas.specs.FoldFormulas.{Tangents}
 
 -- the root of a direction, and its half tangents: those of the conjugate are the negated ones
-abbrev pub rootFor : (m direction : ℕ) → Value m
-rootFor m zero = root m
-rootFor m (suc direction) = conj m (root m)
+abbrev pub root_for : (m direction : ℕ) → Value m
+root_for m zero = root m
+root_for m (suc direction) = conj m (root m)
 
 abbrev pub TangentsFor : (m direction : ℕ) → List ℕ → Type 0
 TangentsFor m zero tan = TangentLaws m tan
@@ -19,14 +19,14 @@ TangentsFor m (suc direction) tan = BackwardTangents m tan
 -- the powers of the root of a direction, and its half tangents
 pub record TablesOf (m direction : ℕ) (re im tan : List ℕ) : Type 0 where
   pub powers : RootTable m re im
-  pub of-root : tableRoot m re im ≡ rootFor m direction
+  pub of_root : table_root m re im ≡ root_for m direction
   pub tangents : TangentsFor m direction tan
   pub small : Tangents m tan
 
 -- the tables that a line of a kind is lent: a plain one is not folded, and needs no half tangents
 pub record LineTables (m kind direction : ℕ) (re im tan : List ℕ) : Type 0 where
   pub powers : RootTable m re im
-  pub of-root : tableRoot m re im ≡ rootFor m direction
+  pub of_root : table_root m re im ≡ root_for m direction
   pub folding : (kind ≡ 0 → ⊥) → TablesOf m direction re im tan
 
 -- ---- how a call makes them

@@ -3,8 +3,8 @@
 // The check takes the numbers and the lent buffers, and works nothing.
 ghost use Rattle.std.specs.Prelude.{◌≡◌};
 ghost use Rattle.refusals.specs.Refusals.{first};
-ghost use Rattle.refusals.specs.Checks.{checkedNumber};
-ghost use Rattle.line.specs.Line.{lineTests};
+ghost use Rattle.refusals.specs.Checks.{checked_number};
+ghost use Rattle.line.specs.Line.{line_tests};
 ghost use Rattle.line.specs.Orders.{LineRefusals};
 
 use refusals::{Checked, Refusal};
@@ -19,8 +19,8 @@ pub fn check_line(
     line: &[u32],
     scratch: usize,
 ) -> Checked
-    ensures { checkedNumber result
-        ≡ first (lineTests modulus kind direction length factors.now line.now scratch) }
+    ensures { checked_number result
+        ≡ first (line_tests modulus kind direction length factors.now line.now scratch) }
 {
     if !numbers::is_modulus(modulus) {
         return Checked::Failed(Refusal::Modulus);

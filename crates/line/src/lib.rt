@@ -5,9 +5,9 @@ pub mod table; // table.rt
 pub mod kinds; // kinds.rt
 
 ghost use Rattle.std.specs.Prelude.{◌≡◌, length as length_of, drop};
-ghost use Rattle.line.specs.Line.{transformed, lineStep};
-ghost use Rattle.lengths.specs.Lengths.{scratchLength};
-ghost use Rattle.line.specs.Answers.{Accepted, lineOutcome};
+ghost use Rattle.line.specs.Line.{transformed, line_step};
+ghost use Rattle.lengths.specs.Lengths.{scratch_length};
+ghost use Rattle.line.specs.Answers.{Accepted, line_outcome};
 ghost use Rattle.line.specs.Specimens.{Specimens};
 ghost use Rattle.line.specs.EverySplit.{EverySplit};
 ghost use Rattle.line.specs.Demands.{RulesKept, ForwardIsSum, BackIsSum, CallIsSum, ListFree, Restored};
@@ -33,8 +33,8 @@ pub fn line(
     line: &mut [u32],
     scratch: &mut [u32],
 ) -> LineAnswer
-    ensures { lineOutcome result line.new scratch.new
-        ≡ lineStep modulus kind direction length factors.now line.old
+    ensures { line_outcome result line.new scratch.new
+        ≡ line_step modulus kind direction length factors.now line.old
         scratch.old }
 {
     let checked = crate::check::check_line(
@@ -78,7 +78,7 @@ fn transform_line(
 )
     requires { Accepted modulus kind direction length factors line.old (length_of scratch.old) }
     ensures line_after { line.new ≡ transformed modulus kind direction length line.old }
-    ensures scratch_unchanged { drop scratchLength scratch.new ≡ drop scratchLength scratch.old }
+    ensures scratch_unchanged { drop scratch_length scratch.new ≡ drop scratch_length scratch.old }
 {
     let a = (length / 2) as usize;
     let re = roots::powers::real_parts(modulus);

@@ -5,9 +5,9 @@
 ghost use Rattle.std.specs.Prelude.{◌≡◌, ◌*◌, ◌<◌, ◌≤◌, length};
 ghost use Rattle.numbers.specs.Value.{prime, IsModulus};
 ghost use Rattle.slices.specs.Pairs.{Below};
-ghost use Rattle.lengths.specs.Lengths.{pairCount, octalDigits};
+ghost use Rattle.lengths.specs.Lengths.{pair_count, octal_digits};
 ghost use Rattle.line.specs.Line.{transformed};
-ghost use Rattle.line.specs.EverySplit.{plainWork};
+ghost use Rattle.line.specs.EverySplit.{plain_work};
 ghost use Rattle.line.specs.Tables.{TablesOf, LineTables};
 ghost use Rattle.lengths.specs.Admitted.{AdmittedLength, FactorList};
 
@@ -33,11 +33,11 @@ pub fn transform<'a>(
         × (direction < 2)
         × LineTables m kind direction re.now im.now tan.now }
     requires admitted_length { AdmittedLength (2 * a) × FactorList (2 * a) factors }
-    requires line_len { (length line.old ≡ 2 * pairCount kind (2 * a)) × Below (prime m) line.old }
+    requires line_len { (length line.old ≡ 2 * pair_count kind (2 * a)) × Below (prime m) line.old }
     requires a_in_bounds { (2 * a ≤ length fold.old) × (4 * a ≤ length work.old) }
     ensures line_after { line.new ≡ transformed m kind direction (2 * a) line.old }
     ensures work_after { kind ≡ 0 →
-        work.new ≡ plainWork m direction a (octalDigits factors) line.old work.old }
+        work.new ≡ plain_work m direction a (octal_digits factors) line.old work.old }
 {
     if kind == 0 {
         let n = 2 * a;
@@ -87,7 +87,7 @@ fn folded<'a>(
         × (direction < 2)
         × TablesOf m direction re.now im.now tan.now }
     requires admitted_length { AdmittedLength (2 * a) × FactorList (2 * a) factors }
-    requires line_len { (length line.old ≡ 2 * pairCount kind (2 * a)) × Below (prime m) line.old }
+    requires line_len { (length line.old ≡ 2 * pair_count kind (2 * a)) × Below (prime m) line.old }
     requires fold_len { (length fold.old ≡ 2 * a) × (length work.old ≡ 2 * a) }
     ensures { line.new ≡ transformed m kind direction (2 * a) line.old }
 {

@@ -9,59 +9,59 @@ use lib.ListN.{length, get_or, length-append, get_or-append}
 use lib.Seq.{get_or-append-add}
 use lib.IntN.{ℤ}
 use Rattle.algebra.proofs.ring.Laws.{along}
-use Rattle.slices.proofs.Pairs.{lt-or-ge}
-use Rattle.slices.proofs.Rows.{row-end}
+use Rattle.slices.proofs.Pairs.{lt_or_ge}
+use Rattle.slices.proofs.Rows.{row_end}
 use Rattle.cell.specs.declared.operations.UnitCell.{UnitCell}
-use Rattle.cell.specs.Operations.{cellLengths, Sizes}
+use Rattle.cell.specs.Operations.{cell_lengths, Sizes}
 use Rattle.output.specs.Output.{each}
 use Rattle.output.specs.Written.{Ends}
-use Rattle.output.proofs.LittleEndian.{length-little}
-use Rattle.mrc.specs.Floats.{floatOf, bits}
-use Rattle.mrc.specs.Header.{headerOf}
-use Rattle.mrc.specs.Ranges.{lesser, greater, density, ofCell}
-use Rattle.mrc.specs.Mrc.{headerBytes, densityBytes, rowBytes, planeBytes, cellBytes, mrcBytes, fileLength, pointPlace, PointsPlaced}
+use Rattle.output.proofs.LittleEndian.{length_little}
+use Rattle.mrc.specs.Floats.{float_of, bits}
+use Rattle.mrc.specs.Header.{header_of}
+use Rattle.mrc.specs.Ranges.{lesser, greater, density, of_cell}
+use Rattle.mrc.specs.Mrc.{header_bytes, density_bytes, row_bytes, plane_bytes, cell_bytes, mrc_bytes, file_length, point_place, PointsPlaced}
 use Rattle.mrc.specs.declared.parameters.CellParameters.{CellParameters}
 use Rattle.mrc.specs.declared.file_header.MrcHeader.{MrcHeader}
 
 -- n things of k bytes
-pub length-each : (n k : ℕ) (f : ℕ → List ℕ) → ((j : ℕ) → length (f j) ≡ k) → length (each n f) ≡ n * k
+pub length_each : (n k : ℕ) (f : ℕ → List ℕ) → ((j : ℕ) → length (f j) ≡ k) → length (each n f) ≡ n * k
 unfolding each
-length-each zero k f h = omega arith
-length-each (suc n) k f h = length-append (each n f) (f n) ∙ omega (arith, length-each n k f h, h n)
+length_each zero k f h = omega arith
+length_each (suc n) k f h = length-append (each n f) (f n) ∙ omega (arith, length_each n k f h, h n)
 
-pub length-header : (h : MrcHeader) → length (headerBytes h) ≡ 1024
-unfolding headerBytes
-length-header h = length-each 256 4 _ (λ k. length-little 4 _)
+pub length_header : (h : MrcHeader) → length (header_bytes h) ≡ 1024
+unfolding header_bytes
+length_header h = length_each 256 4 _ (λ k. length_little 4 _)
 
-length-row : (cell : UnitCell) (v : List ℤ) (z y : ℕ) → length (rowBytes cell v z y) ≡ cell.n1 * 4
-length-row cell v z y = length-each cell.n1 4 _ (λ x. length-little 4 (bits (floatOf (density cell v (x, y, z)))))
+length_row : (cell : UnitCell) (v : List ℤ) (z y : ℕ) → length (row_bytes cell v z y) ≡ cell.n1 * 4
+length_row cell v z y = length_each cell.n1 4 _ (λ x. length_little 4 (bits (float_of (density cell v (x, y, z)))))
 
-length-plane : (cell : UnitCell) (v : List ℤ) (z : ℕ) → length (planeBytes cell v z) ≡ cell.n2 * (cell.n1 * 4)
-length-plane cell v z = length-each cell.n2 (cell.n1 * 4) (rowBytes cell v z) (length-row cell v z)
+length_plane : (cell : UnitCell) (v : List ℤ) (z : ℕ) → length (plane_bytes cell v z) ≡ cell.n2 * (cell.n1 * 4)
+length_plane cell v z = length_each cell.n2 (cell.n1 * 4) (row_bytes cell v z) (length_row cell v z)
 
-pub length-cell : (cell : UnitCell) (v : List ℤ) → length (cellBytes cell v) ≡ cell.n3 * (cell.n2 * (cell.n1 * 4))
-length-cell cell v = length-each cell.n3 (cell.n2 * (cell.n1 * 4)) (planeBytes cell v) (length-plane cell v)
+pub length_cell : (cell : UnitCell) (v : List ℤ) → length (cell_bytes cell v) ≡ cell.n3 * (cell.n2 * (cell.n1 * 4))
+length_cell cell v = length_each cell.n3 (cell.n2 * (cell.n1 * 4)) (plane_bytes cell v) (length_plane cell v)
 
-pub length-file : (cell : UnitCell) (v : List ℤ) (parameters : CellParameters) → length (mrcBytes cell v parameters) ≡ fileLength cell
-unfolding mrcBytes
-length-file cell v parameters =
-    let h = headerOf (cellLengths cell) parameters (ofCell cell v lesser) (ofCell cell v greater) in
-    length-append (headerBytes h) (cellBytes cell v) ∙ omega (arith, length-header h, length-cell cell v)
+pub length_file : (cell : UnitCell) (v : List ℤ) (parameters : CellParameters) → length (mrc_bytes cell v parameters) ≡ file_length cell
+unfolding mrc_bytes
+length_file cell v parameters =
+    let h = header_of (cell_lengths cell) parameters (of_cell cell v lesser) (of_cell cell v greater) in
+    length-append (header_bytes h) (cell_bytes cell v) ∙ omega (arith, length_header h, length_cell cell v)
 
 -- ---- where a byte stands
 
 -- byte i of thing j
-pub each-byte : (n k : ℕ) (f : ℕ → List ℕ) → ((j : ℕ) → length (f j) ≡ k) → (j i : ℕ) → j < n → i < k → get_or (each n f) (j * k + i) 0 ≡ get_or (f j) i 0
+pub each_byte : (n k : ℕ) (f : ℕ → List ℕ) → ((j : ℕ) → length (f j) ≡ k) → (j i : ℕ) → j < n → i < k → get_or (each n f) (j * k + i) 0 ≡ get_or (f j) i 0
 unfolding each
-each-byte zero k f h j i l m = absurd (not-suc-le-zero l)
-each-byte (suc n) k f h j i l m = ⊎_elim
-    (λ (q : j < n). get_or-append (each n f) (f n) 0 (j * k + i) (omega (arith, row-end k q, length-each n k f h)) ∙ each-byte n k f h j i q m)
+each_byte zero k f h j i l m = absurd (not-suc-le-zero l)
+each_byte (suc n) k f h j i l m = ⊎_elim
+    (λ (q : j < n). get_or-append (each n f) (f n) 0 (j * k + i) (omega (arith, row_end k q, length_each n k f h)) ∙ each_byte n k f h j i q m)
     (λ (q : n ≤ j). last (le_antisymm q (le_of_suc-le-suc l)))
-    (lt-or-ge j n)
+    (lt_or_ge j n)
   where
     last : n ≡ j → get_or (each n f ++ f n) (j * k + i) 0 ≡ get_or (f j) i 0
     last e =
-        along (λ (p : ℕ). get_or (each n f ++ f n) p 0) (j * k + i) (length (each n f) + i) (omega (arith, length-each n k f h, ap (λ (p : ℕ). p * k) e))
+        along (λ (p : ℕ). get_or (each n f ++ f n) p 0) (j * k + i) (length (each n f) + i) (omega (arith, length_each n k f h, ap (λ (p : ℕ). p * k) e))
         ∙ get_or-append-add (each n f) (f n) i 0
         ∙ ap (λ (p : ℕ). get_or (f p) i 0) e
 
@@ -70,38 +70,38 @@ module _ (cell : UnitCell) (v : List ℤ) (x y z byte : ℕ) (lx : x < cell.n1) 
   abbrev in_row : ℕ
   in_row = x * 4 + byte
 
-  abbrev in-plane : ℕ
-  in-plane = y * (cell.n1 * 4) + in_row
+  abbrev in_plane : ℕ
+  in_plane = y * (cell.n1 * 4) + in_row
 
-  in-row-low : in_row < cell.n1 * 4
-  in-row-low = omega (arith, row-end 4 lx)
+  in_row_low : in_row < cell.n1 * 4
+  in_row_low = omega (arith, row_end 4 lx)
 
-  in-plane-low : in-plane < cell.n2 * (cell.n1 * 4)
-  in-plane-low = omega (arith, row-end (cell.n1 * 4) ly, in-row-low)
+  in_plane_low : in_plane < cell.n2 * (cell.n1 * 4)
+  in_plane_low = omega (arith, row_end (cell.n1 * 4) ly, in_row_low)
 
-  point-byte : get_or (cellBytes cell v) (z * (cell.n2 * (cell.n1 * 4)) + in-plane) 0 ≡ get_or (densityBytes (density cell v (x, y, z))) byte 0
-  point-byte =
-      each-byte cell.n3 (cell.n2 * (cell.n1 * 4)) (planeBytes cell v) (length-plane cell v) z in-plane lz in-plane-low
-      ∙ each-byte cell.n2 (cell.n1 * 4) (rowBytes cell v z) (length-row cell v z) y in_row ly in-row-low
-      ∙ each-byte cell.n1 4 (λ x. densityBytes (density cell v (x, y, z))) (λ x. length-little 4 (bits (floatOf (density cell v (x, y, z))))) x byte lx lb
+  point_byte : get_or (cell_bytes cell v) (z * (cell.n2 * (cell.n1 * 4)) + in_plane) 0 ≡ get_or (density_bytes (density cell v (x, y, z))) byte 0
+  point_byte =
+      each_byte cell.n3 (cell.n2 * (cell.n1 * 4)) (plane_bytes cell v) (length_plane cell v) z in_plane lz in_plane_low
+      ∙ each_byte cell.n2 (cell.n1 * 4) (row_bytes cell v z) (length_row cell v z) y in_row ly in_row_low
+      ∙ each_byte cell.n1 4 (λ x. density_bytes (density cell v (x, y, z))) (λ x. length_little 4 (bits (float_of (density cell v (x, y, z))))) x byte lx lb
 
-pub points-placed : PointsPlaced
-unfolding mrcBytes
-points-placed cell v parameters x y z byte lx ly lz lb =
-    let h = headerOf (cellLengths cell) parameters (ofCell cell v lesser) (ofCell cell v greater) in
-    along (λ (p : ℕ). get_or (headerBytes h ++ cellBytes cell v) p 0) (pointPlace cell x y z + byte) (length (headerBytes h) + (z * (cell.n2 * (cell.n1 * 4)) + (y * (cell.n1 * 4) + (x * 4 + byte)))) (omega (arith, length-header h))
-    ∙ get_or-append-add (headerBytes h) (cellBytes cell v) (z * (cell.n2 * (cell.n1 * 4)) + (y * (cell.n1 * 4) + (x * 4 + byte))) 0
-    ∙ point-byte cell v x y z byte lx ly lz lb
+pub points_placed : PointsPlaced
+unfolding mrc_bytes
+points_placed cell v parameters x y z byte lx ly lz lb =
+    let h = header_of (cell_lengths cell) parameters (of_cell cell v lesser) (of_cell cell v greater) in
+    along (λ (p : ℕ). get_or (header_bytes h ++ cell_bytes cell v) p 0) (point_place cell x y z + byte) (length (header_bytes h) + (z * (cell.n2 * (cell.n1 * 4)) + (y * (cell.n1 * 4) + (x * 4 + byte)))) (omega (arith, length_header h))
+    ∙ get_or-append-add (header_bytes h) (cell_bytes cell v) (z * (cell.n2 * (cell.n1 * 4)) + (y * (cell.n1 * 4) + (x * 4 + byte))) 0
+    ∙ point_byte cell v x y z byte lx ly lz lb
 
 -- a machine word counts them
-product-most : (a b m k : ℕ) → a ≤ m → b ≤ k → a * b ≤ m * k
-product-most a b m k h l = le_trans (mul-le-mul_right b h) (mul-le-mul_left m l)
+product_most : (a b m k : ℕ) → a ≤ m → b ≤ k → a * b ≤ m * k
+product_most a b m k h l = le_trans (mul-le-mul_right b h) (mul-le-mul_left m l)
 
 pub row_small : (cell : UnitCell) → Sizes cell → cell.n2 * (cell.n1 * 4) ≤ 33177600
-row_small cell s = product-most cell.n2 (cell.n1 * 4) 2880 11520 s.second.high (omega (arith, s.first.high))
+row_small cell s = product_most cell.n2 (cell.n1 * 4) 2880 11520 s.second.high (omega (arith, s.first.high))
 
-pub cell-small : (cell : UnitCell) → Sizes cell → cell.n3 * (cell.n2 * (cell.n1 * 4)) ≤ 95551488000
-cell-small cell s = product-most cell.n3 (cell.n2 * (cell.n1 * 4)) 2880 33177600 s.third.high (row_small cell s)
+pub cell_small : (cell : UnitCell) → Sizes cell → cell.n3 * (cell.n2 * (cell.n1 * 4)) ≤ 95551488000
+cell_small cell s = product_most cell.n3 (cell.n2 * (cell.n1 * 4)) 2880 33177600 s.third.high (row_small cell s)
 
-pub file-ends : (cell : UnitCell) (v : List ℤ) (parameters : CellParameters) → Sizes cell → Ends 0 (mrcBytes cell v parameters)
-file-ends cell v parameters s = record { low = omega (arith, length-file cell v parameters, cell-small cell s) }
+pub file_ends : (cell : UnitCell) (v : List ℤ) (parameters : CellParameters) → Sizes cell → Ends 0 (mrc_bytes cell v parameters)
+file_ends cell v parameters s = record { low = omega (arith, length_file cell v parameters, cell_small cell s) }

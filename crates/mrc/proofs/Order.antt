@@ -53,8 +53,8 @@ pub record Chooses (pick : ℤ → ℤ → ℤ) (Before : ℤ → ℤ → Type 0
   pub same : {a b : ℤ} → Before a b → Before b a → a ≡ b
   pub either : (P : ℤ → Type 0) (a b : ℤ) → P a → P b → P (pick a b)
 
-pub lesser-chooses : Chooses lesser (λ m x. m ≤ℤ x)
-lesser-chooses = record {
+pub lesser_chooses : Chooses lesser (λ m x. m ≤ℤ x)
+lesser_chooses = record {
   left = λ a b. split (lt_z b a) (λ t. cond t b a ≤ℤ a) (λ t. record { le = weaken b a t }) (λ t. ≤ℤ_refl a);
   right = λ a b. split (lt_z b a) (λ t. cond t b a ≤ℤ b) (λ t. ≤ℤ_refl b) (λ t. lt_z_no t);
   through = ≤ℤ-trans;
@@ -62,8 +62,8 @@ lesser-chooses = record {
   either = λ P a b p q. split (lt_z b a) (λ t. P (cond t b a)) (λ t. q) (λ t. p);
 }
 
-pub greater-chooses : Chooses greater (λ m x. x ≤ℤ m)
-greater-chooses = record {
+pub greater_chooses : Chooses greater (λ m x. x ≤ℤ m)
+greater_chooses = record {
   left = λ a b. split (lt_z a b) (λ t. a ≤ℤ cond t b a) (λ t. record { le = weaken a b t }) (λ t. ≤ℤ_refl a);
   right = λ a b. split (lt_z a b) (λ t. b ≤ℤ cond t b a) (λ t. ≤ℤ_refl b) (λ t. lt_z_no t);
   through = λ h k. ≤ℤ-trans k h;

@@ -2,5 +2,5 @@
 use mathlib.Core.Path.{refl}
 use Rattle.mrc.specs.Orders.{MrcRefusals}
 
-pub mrc-refusals : MrcRefusals
-mrc-refusals = record { ordered = λ cell v parameters room. refl }
+pub mrc_refusals : MrcRefusals
+mrc_refusals = record { ordered = λ cell v parameters room. refl }

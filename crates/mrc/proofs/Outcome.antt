@@ -9,25 +9,25 @@ use lib.IntN.{ℤ, nat_abs}
 use lib.ListN.{length}
 use Rattle.refusals.specs.declared.Refusal.{Refusal}
 use Rattle.refusals.specs.Refusals.{number_of, first, accepted}
-use Rattle.refusals.proofs.Tests.{first-append, passed, fails, passes, pass, none, not_t}
+use Rattle.refusals.proofs.Tests.{first_append, passed, fails, passes, pass, none, not_t}
 use Rattle.cell.specs.declared.operations.UnitCell.{UnitCell}
-use Rattle.cell.specs.Operations.{cellGroup, cellHalves, Sizes}
-use Rattle.cell.specs.Volume.{volumeLength}
-use Rattle.header.proofs.Headers.{sizes-of}
-use Rattle.output.specs.Output.{FillOutcome, filled, notFilled}
+use Rattle.cell.specs.Operations.{cell_group, cell_halves, Sizes}
+use Rattle.cell.specs.Volume.{volume_length}
+use Rattle.header.proofs.Headers.{sizes_of}
+use Rattle.output.specs.Output.{FillOutcome, filled, not_filled}
 use Rattle.output.specs.Written.{Wrote}
-use Rattle.output.specs.Answers.{fillOutcome}
+use Rattle.output.specs.Answers.{fill_outcome}
 use Rattle.output.specs.declared.FillAnswer.TheVariants.{Written, Refused}
-use Rattle.output.proofs.Writing.{wrote-filled}
-use Rattle.mrc.specs.Floats.{exactLimit}
-use Rattle.mrc.specs.Parameters.{ofGroup}
-use Rattle.mrc.specs.Ranges.{lesser, greater, Spans, ofCell, ofStored}
-use Rattle.mrc.specs.Mrc.{mrcBytes, fileLength, allExact, shapeTests, fillTests, mrcTests, mrcStep}
+use Rattle.output.proofs.Writing.{wrote_filled}
+use Rattle.mrc.specs.Floats.{exact_limit}
+use Rattle.mrc.specs.Parameters.{of_group}
+use Rattle.mrc.specs.Ranges.{lesser, greater, Spans, of_cell, of_stored}
+use Rattle.mrc.specs.Mrc.{mrc_bytes, file_length, all_exact, shape_tests, fill_tests, mrc_tests, mrc_step}
 use Rattle.mrc.specs.declared.parameters.CellParameters.{CellParameters}
 use Rattle.mrc.specs.declared.ranges.DensityRange.{DensityRange}
-use Rattle.mrc.proofs.Order.{lesser-chooses, greater-chooses}
-use Rattle.mrc.proofs.Densities.{stored_same, exact-by-ends}
-use Rattle.mrc.proofs.Bytes.{length-file}
+use Rattle.mrc.proofs.Order.{lesser_chooses, greater_chooses}
+use Rattle.mrc.proofs.Densities.{stored_same, exact_by_ends}
+use Rattle.mrc.proofs.Bytes.{length_file}
 
 -- ---- what the tests leave
 
@@ -35,56 +35,56 @@ module _ (cell : UnitCell) (v : List ℤ) (parameters : CellParameters) where
   -- the shape passes
   pub record Shaped : Type 0 where
     pub sizes : Sizes cell
-    pub long : length v ≡ volumeLength (cellGroup cell) (cellHalves cell)
-    pub sound : ofGroup cell.group parameters ≡ true
+    pub long : length v ≡ volume_length (cell_group cell) (cell_halves cell)
+    pub sound : of_group cell.group parameters ≡ true
 
-  pub shape-passed : 0 ≡ first (shapeTests cell (length v) parameters) → Shaped
-  shape-passed e =
-      let p = passed (shapeTests cell (length v) parameters) tt e in record {
-        sizes = sizes-of {cell = cell} (leb-false 5 cell.group p.0) (not-false _ p.1.0);
+  pub shape_passed : 0 ≡ first (shape_tests cell (length v) parameters) → Shaped
+  shape_passed e =
+      let p = passed (shape_tests cell (length v) parameters) tt e in record {
+        sizes = sizes_of {cell = cell} (leb-false 5 cell.group p.0) (not-false _ p.1.0);
         long = eqb-true _ _ (not-false _ p.1.1.1.0);
         sound = not-false _ p.1.1.1.1.0;
       }
 
-  module _ (sizes : Sizes cell) (r : DensityRange) (spans : Spans r (ofStored cell v)) where
+  module _ (sizes : Sizes cell) (r : DensityRange) (spans : Spans r (of_stored cell v)) where
     -- the ends of the range are those of the cell
-    pub range-low : r.least ≡ ofCell cell v lesser
-    range-low = spans.low ∙ stored_same cell v sizes lesser-chooses
+    pub range_low : r.least ≡ of_cell cell v lesser
+    range_low = spans.low ∙ stored_same cell v sizes lesser_chooses
 
-    pub range-high : r.greatest ≡ ofCell cell v greater
-    range-high = spans.high ∙ stored_same cell v sizes greater-chooses
+    pub range_high : r.greatest ≡ of_cell cell v greater
+    range_high = spans.high ∙ stored_same cell v sizes greater_chooses
 
-    pub range-exact : (leb (nat_abs r.least) exactLimit && leb (nat_abs r.greatest) exactLimit) ≡ allExact cell v
-    range-exact = (λ i. leb (nat_abs (range-low i)) exactLimit && leb (nat_abs (range-high i)) exactLimit) ∙ exact-by-ends cell v sizes
+    pub range_exact : (leb (nat_abs r.least) exact_limit && leb (nat_abs r.greatest) exact_limit) ≡ all_exact cell v
+    range_exact = (λ i. leb (nat_abs (range_low i)) exact_limit && leb (nat_abs (range_high i)) exact_limit) ∙ exact_by_ends cell v sizes
 
   -- ---- the outcome of the second half of the call
 
-  abbrev outcomeOf : List ℕ → FillOutcome
-  outcomeOf out = accepted (first (fillTests cell v parameters (length out))) (filled (mrcBytes cell v parameters) out) (notFilled out)
+  abbrev outcome_of : List ℕ → FillOutcome
+  outcome_of out = accepted (first (fill_tests cell v parameters (length out))) (filled (mrc_bytes cell v parameters) out) (not_filled out)
 
-  pub fill-refused : (r : Refusal) (out : List ℕ) → number_of r ≡ first (fillTests cell v parameters (length out)) → fillOutcome (Refused r) out ≡ outcomeOf out
-  fill-refused r out e = fails r (first (fillTests cell v parameters (length out))) (filled (mrcBytes cell v parameters) out) (notFilled out) e
+  pub fill_refused : (r : Refusal) (out : List ℕ) → number_of r ≡ first (fill_tests cell v parameters (length out)) → fill_outcome (Refused r) out ≡ outcome_of out
+  fill_refused r out e = fails r (first (fill_tests cell v parameters (length out))) (filled (mrc_bytes cell v parameters) out) (not_filled out) e
 
-  pub fill-written : {e : ℕ} {out out' : List ℕ} → allExact cell v ≡ true → fileLength cell ≤ length out → Wrote 0 (mrcBytes cell v parameters) out e out' → fillOutcome (Written e) out' ≡ outcomeOf out
-  fill-written {e} {out} {out'} exact long w =
-      let len = length-file cell v parameters in
-      wrote-filled w (subst (λ (n : ℕ). n ≤ length out) (sym len) long)
-      ∙ passes (first (fillTests cell v parameters (length out))) (filled (mrcBytes cell v parameters) out) (notFilled out)
+  pub fill_written : {e : ℕ} {out out' : List ℕ} → all_exact cell v ≡ true → file_length cell ≤ length out → Wrote 0 (mrc_bytes cell v parameters) out e out' → fill_outcome (Written e) out' ≡ outcome_of out
+  fill_written {e} {out} {out'} exact long w =
+      let len = length_file cell v parameters in
+      wrote_filled w (subst (λ (n : ℕ). n ≤ length out) (sym len) long)
+      ∙ passes (first (fill_tests cell v parameters (length out))) (filled (mrc_bytes cell v parameters) out) (not_filled out)
       (pass 30 _ (not_t _ exact) (pass 18 _ (le-ltb _ _ (subst (λ (n : ℕ). n ≤ length out) (sym len) long)) none))
 
   -- ---- the whole call
 
-  tests-appended : (room : ℕ) → first (mrcTests cell v parameters room) ≡ accepted (first (shapeTests cell (length v) parameters)) (first (fillTests cell v parameters room)) (λ n. n)
-  tests-appended room = first-append (shapeTests cell (length v) parameters) (fillTests cell v parameters room) tt
+  tests_appended : (room : ℕ) → first (mrc_tests cell v parameters room) ≡ accepted (first (shape_tests cell (length v) parameters)) (first (fill_tests cell v parameters room)) (λ n. n)
+  tests_appended room = first_append (shape_tests cell (length v) parameters) (fill_tests cell v parameters room) tt
 
-  pub call-refused : (r : Refusal) (out : List ℕ) → number_of r ≡ first (shapeTests cell (length v) parameters) → fillOutcome (Refused r) out ≡ mrcStep cell v parameters out
-  unfolding mrcStep
-  call-refused r out e =
-      fails r (first (mrcTests cell v parameters (length out))) (filled (mrcBytes cell v parameters) out) (notFilled out)
-      (fails r (first (shapeTests cell (length v) parameters)) (first (fillTests cell v parameters (length out))) (λ n. n) e ∙ sym (tests-appended (length out)))
+  pub call_refused : (r : Refusal) (out : List ℕ) → number_of r ≡ first (shape_tests cell (length v) parameters) → fill_outcome (Refused r) out ≡ mrc_step cell v parameters out
+  unfolding mrc_step
+  call_refused r out e =
+      fails r (first (mrc_tests cell v parameters (length out))) (filled (mrc_bytes cell v parameters) out) (not_filled out)
+      (fails r (first (shape_tests cell (length v) parameters)) (first (fill_tests cell v parameters (length out))) (λ n. n) e ∙ sym (tests_appended (length out)))
 
-  pub call-filled : (out : List ℕ) → 0 ≡ first (shapeTests cell (length v) parameters) → outcomeOf out ≡ mrcStep cell v parameters out
-  unfolding mrcStep
-  call-filled out e =
-      ap (λ (n : ℕ). accepted n (filled (mrcBytes cell v parameters) out) (notFilled out))
-      (ap (λ (n : ℕ). accepted n (first (fillTests cell v parameters (length out))) (λ n. n)) e ∙ sym (tests-appended (length out)))
+  pub call_filled : (out : List ℕ) → 0 ≡ first (shape_tests cell (length v) parameters) → outcome_of out ≡ mrc_step cell v parameters out
+  unfolding mrc_step
+  call_filled out e =
+      ap (λ (n : ℕ). accepted n (filled (mrc_bytes cell v parameters) out) (not_filled out))
+      (ap (λ (n : ℕ). accepted n (first (fill_tests cell v parameters (length out))) (λ n. n)) e ∙ sym (tests_appended (length out)))

@@ -3,7 +3,7 @@ use Rattle.algebra.specs.Prelude.{◌≡◌, true, not, ℕ, ◌≤◌, List, []
 use Rattle.algebra.specs.cells.Cell.{J}
 use Rattle.signed.specs.Integers.{ℤ, pos, negsuc, nat_abs}
 use Rattle.std.specs.Prelude.{◌-ℤ◌, T}
-use Rattle.mrc.specs.Floats.{Float, floatOf, bits, lt, is_nan, exactLimit}
+use Rattle.mrc.specs.Floats.{Float, float_of, bits, lt, is_nan, exact_limit}
 use Rattle.mrc.specs.declared.parameters.CellParameters.{CellParameters}
 use Rattle.mrc.specs.declared.parameters.CellParameters.TheVariants.{Triclinic, Monoclinic}
 use Rattle.mrc.specs.declared.file_header.MrcHeader.{MrcHeader}
@@ -21,21 +21,21 @@ headed n a b c alpha beta gamma least greatest = record {
   alpha = alpha;
   beta = beta;
   gamma = gamma;
-  least = floatOf least;
-  greatest = floatOf greatest;
-  mean = floatOf (least -ℤ pos 1);
-  rms = floatOf (negsuc 0);
+  least = float_of least;
+  greatest = float_of greatest;
+  mean = float_of (least -ℤ pos 1);
+  rms = float_of (negsuc 0);
 }
 
 -- the angles that are not given are 90 degrees
-abbrev pub headerOf : (n : J) → CellParameters → (least greatest : ℤ) → MrcHeader
-headerOf n (Triclinic a b c alpha beta gamma) least greatest = headed n a b c alpha beta gamma least greatest
-headerOf n (Monoclinic a b c gamma) least greatest =
-    headed n a b c (floatOf (pos 90)) (floatOf (pos 90)) gamma least greatest
+abbrev pub header_of : (n : J) → CellParameters → (least greatest : ℤ) → MrcHeader
+header_of n (Triclinic a b c alpha beta gamma) least greatest = headed n a b c alpha beta gamma least greatest
+header_of n (Monoclinic a b c gamma) least greatest =
+    headed n a b c (float_of (pos 90)) (float_of (pos 90)) gamma least greatest
 
 -- The 256 words of the header as MRC2014 has them, which counts them from 1; those behind the list are zero: no labels.
-unfoldable pub headerWords : MrcHeader → List ℕ
-headerWords h =
+unfoldable pub header_words : MrcHeader → List ℕ
+header_words h =
     -- 1 to 3, NX NY NZ: the points along the columns, rows and sections of the file
     h.n1 ∷ h.n2 ∷ h.n3 ∷
     -- 4, MODE: 32-bit floats
@@ -77,10 +77,10 @@ pub record NoNan (h : MrcHeader) : Type 0 where
 -- than zero.
 pub record NotDetermined (h : MrcHeader) : Type 0 where
   pub mean : lt h.mean h.least ≡ true
-  pub rms : lt h.rms (floatOf (pos 0)) ≡ true
+  pub rms : lt h.rms (float_of (pos 0)) ≡ true
 
 abbrev pub Undetermined : Type 0
 Undetermined =
     (n : J) (parameters : CellParameters) (least greatest : ℤ) →
-    nat_abs least ≤ exactLimit →
-    NotDetermined (headerOf n parameters least greatest)
+    nat_abs least ≤ exact_limit →
+    NotDetermined (header_of n parameters least greatest)

@@ -5,12 +5,12 @@ use Rattle.signed.specs.Integers.{ℤ, pos, negsuc, nat_abs}
 use Rattle.std.specs.Prelude.{◌-ℤ◌}
 use Rattle.std.specs.Int.Signed.{lt_z}
 use Rattle.std.specs.Float.Ieee.Exact.{HasValue}
-use Rattle.output.specs.Output.{littleEndian}
+use Rattle.output.specs.Output.{little_endian}
 use Rattle.refusals.specs.Refusals.{first}
 use Rattle.cell.specs.declared.operations.UnitCell.{UnitCell}
 use Rattle.mrc.specs.Floats.{Float, binary32, to_bits, of_bits}
-use Rattle.mrc.specs.Ranges.{lesser, greater, ofCell}
-use Rattle.mrc.specs.Mrc.{mrcBytes, mrcTests}
+use Rattle.mrc.specs.Ranges.{lesser, greater, of_cell}
+use Rattle.mrc.specs.Mrc.{mrc_bytes, mrc_tests}
 use Rattle.mrc.specs.declared.parameters.CellParameters.{CellParameters}
 use Rattle.mrc.specs.declared.parameters.CellParameters.TheVariants.{Triclinic, Monoclinic}
 
@@ -29,7 +29,7 @@ pub record Whole (file : List ℕ) (k : ℕ) (n : ℤ) : Type 0 where
 
 -- the four bytes of word k are those of a float that was given
 pub record Given (file : List ℕ) (k : ℕ) (x : Float) : Type 0 where
-  pub byte : (i : ℕ) → i < 4 → get_or file (4 * k - 4 + i) 0 ≡ get_or (littleEndian 4 (to_bits binary32 x)) i 0
+  pub byte : (i : ℕ) → i < 4 → get_or file (4 * k - 4 + i) 0 ≡ get_or (little_endian 4 (to_bits binary32 x)) i 0
 
 -- the words that do not depend on edges and angles
 pub record Words (cell : UnitCell) (file : List ℕ) (least greatest : ℤ) : Type 0 where
@@ -56,9 +56,9 @@ pub record Words (cell : UnitCell) (file : List ℕ) (least greatest : ℤ) : Ty
   -- EXTRA and ORIGIN
   pub extra : (k : ℕ) → 29 ≤ k → k ≤ 52 → word_in file k ≡ 0
   -- 53, MAP: the letters M, A, P and a blank
-  pub letterM : get_or file 208 0 ≡ 77
-  pub letterA : get_or file 209 0 ≡ 65
-  pub letterP : get_or file 210 0 ≡ 80
+  pub letter_m : get_or file 208 0 ≡ 77
+  pub letter_a : get_or file 209 0 ≡ 65
+  pub letter_p : get_or file 210 0 ≡ 80
   pub blank : get_or file 211 0 ≡ 32
   -- 54, MACHST: hexadecimal 44 44 00 00
   pub stamp1 : get_or file 212 0 ≡ 68
@@ -90,11 +90,11 @@ pub record HeaderRead : Type 0 where
   -- of every call that is accepted
   pub words :
       (cell : UnitCell) (v : List ℤ) (parameters : CellParameters) (room : ℕ) →
-      0 ≡ first (mrcTests cell v parameters room) →
-      Words cell (mrcBytes cell v parameters) (ofCell cell v lesser) (ofCell cell v greater)
+      0 ≡ first (mrc_tests cell v parameters room) →
+      Words cell (mrc_bytes cell v parameters) (of_cell cell v lesser) (of_cell cell v greater)
   pub three :
       (cell : UnitCell) (v : List ℤ) (a b c alpha beta gamma : Float) →
-      ThreeAngles (mrcBytes cell v (Triclinic a b c alpha beta gamma)) a b c alpha beta gamma
+      ThreeAngles (mrc_bytes cell v (Triclinic a b c alpha beta gamma)) a b c alpha beta gamma
   pub one :
       (cell : UnitCell) (v : List ℤ) (a b c gamma : Float) →
-      OneAngle (mrcBytes cell v (Monoclinic a b c gamma)) a b c gamma
+      OneAngle (mrc_bytes cell v (Monoclinic a b c gamma)) a b c gamma

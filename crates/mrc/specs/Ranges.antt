@@ -5,7 +5,7 @@ use Rattle.signed.specs.Integers.{ℤ}
 use Rattle.std.specs.Int.Signed.{lt_z}
 use Rattle.std.specs.Prelude.{◌≤ℤ◌}
 use Rattle.cell.specs.declared.operations.UnitCell.{UnitCell}
-use Rattle.cell.specs.Operations.{cellGroup, cellHalves, Sizes}
+use Rattle.cell.specs.Operations.{cell_group, cell_halves, Sizes}
 use Rattle.cell.specs.Volume.{layers}
 use Rattle.combined.specs.CombinedMap.{count_of}
 use Rattle.mrc.specs.declared.ranges.DensityRange.{DensityRange}
@@ -30,42 +30,42 @@ pub record Spans (r : DensityRange) (numbers : (pick : ℤ → ℤ → ℤ) → 
 module _ (cell : UnitCell) (v : List ℤ) where
   -- the density at a point of the cell
   abbrev pub density : J → ℤ
-  density x = count_of (cellGroup cell) (cellHalves cell) v x
+  density x = count_of (cell_group cell) (cell_halves cell) v x
 
   -- of the densities of the whole cell, and of those of the stored planes
-  unfoldable pub ofCell : (pick : ℤ → ℤ → ℤ) → ℤ
-  ofCell pick =
+  unfoldable pub of_cell : (pick : ℤ → ℤ → ℤ) → ℤ
+  of_cell pick =
       among pick cell.n3 (λ z. among pick cell.n2 (λ y. among pick cell.n1 (λ x. density (x, y, z))))
 
-  abbrev pub ofRow : (z x : ℕ) (pick : ℤ → ℤ → ℤ) → ℤ
-  ofRow z x pick = among pick cell.n2 (λ y. density (x, y, z))
+  abbrev pub of_row : (z x : ℕ) (pick : ℤ → ℤ → ℤ) → ℤ
+  of_row z x pick = among pick cell.n2 (λ y. density (x, y, z))
 
-  abbrev pub ofPlane : (z : ℕ) (pick : ℤ → ℤ → ℤ) → ℤ
-  ofPlane z pick = among pick cell.n1 (λ x. ofRow z x pick)
+  abbrev pub of_plane : (z : ℕ) (pick : ℤ → ℤ → ℤ) → ℤ
+  of_plane z pick = among pick cell.n1 (λ x. of_row z x pick)
 
-  unfoldable pub ofStored : (pick : ℤ → ℤ → ℤ) → ℤ
-  ofStored pick = among pick (layers (cellGroup cell) (cellHalves cell)) (λ z. ofPlane z pick)
+  unfoldable pub of_stored : (pick : ℤ → ℤ → ℤ) → ℤ
+  of_stored pick = among pick (layers (cell_group cell) (cell_halves cell)) (λ z. of_plane z pick)
 
   -- m is the density of a point of the cell
   pub record Attained (m : ℤ) : Type 0 where
     pub x : ℕ
     pub y : ℕ
     pub z : ℕ
-    pub x-inside : x < cell.n1
-    pub y-inside : y < cell.n2
-    pub z-inside : z < cell.n3
+    pub x_inside : x < cell.n1
+    pub y_inside : y < cell.n2
+    pub z_inside : z < cell.n3
     pub there : density (x, y, z) ≡ m
 
   -- the least and the greatest density: one of a point each, none less, none greater; the stored points have the same
   pub record CellRange : Type 0 where
-    pub least_at : Attained (ofCell lesser)
-    pub greatest-at : Attained (ofCell greater)
-    pub none-less : (x y z : ℕ) → x < cell.n1 → y < cell.n2 → z < cell.n3 →
-        ofCell lesser ≤ℤ density (x, y, z)
-    pub none-greater : (x y z : ℕ) → x < cell.n1 → y < cell.n2 → z < cell.n3 →
-        density (x, y, z) ≤ℤ ofCell greater
-    pub least-stored : ofStored lesser ≡ ofCell lesser
-    pub greatest-stored : ofStored greater ≡ ofCell greater
+    pub least_at : Attained (of_cell lesser)
+    pub greatest_at : Attained (of_cell greater)
+    pub none_less : (x y z : ℕ) → x < cell.n1 → y < cell.n2 → z < cell.n3 →
+        of_cell lesser ≤ℤ density (x, y, z)
+    pub none_greater : (x y z : ℕ) → x < cell.n1 → y < cell.n2 → z < cell.n3 →
+        density (x, y, z) ≤ℤ of_cell greater
+    pub least_stored : of_stored lesser ≡ of_cell lesser
+    pub greatest_stored : of_stored greater ≡ of_cell greater
 
 -- of every map of an accepted cell
 abbrev pub CellValues : Type 0

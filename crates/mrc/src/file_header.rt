@@ -1,8 +1,8 @@
 // The header of an MRC2014 file: a struct first, then its words.
 ghost use Rattle.std.specs.Prelude.{◌≡◌, ◌≤◌, nat_abs, get_or};
-ghost use Rattle.cell.specs.Operations.{cellLengths};
-ghost use Rattle.mrc.specs.Floats.{exactLimit};
-ghost use Rattle.mrc.specs.Header.{headed, headerOf, headerWords, NoNan};
+ghost use Rattle.cell.specs.Operations.{cell_lengths};
+ghost use Rattle.mrc.specs.Floats.{exact_limit};
+ghost use Rattle.mrc.specs.Header.{headed, header_of, header_words, NoNan};
 
 use crate::floats::{bits_of, float_of};
 use crate::parameters::CellParameters;
@@ -39,8 +39,8 @@ fn headed(
     least: i64,
     greatest: i64,
 ) -> MrcHeader
-    requires { (nat_abs least ≤ exactLimit) × (nat_abs greatest ≤ exactLimit) }
-    ensures { result ≡ headed (cellLengths cell) a b c alpha beta gamma least greatest }
+    requires { (nat_abs least ≤ exact_limit) × (nat_abs greatest ≤ exact_limit) }
+    ensures { result ≡ headed (cell_lengths cell) a b c alpha beta gamma least greatest }
 {
     MrcHeader {
         n1: cell.n1,
@@ -61,8 +61,8 @@ fn headed(
 
 // The same of a cell's parameters: the angles that are not given are 90 degrees.
 pub fn header_of(cell: UnitCell, parameters: CellParameters, least: i64, greatest: i64) -> MrcHeader
-    requires { (nat_abs least ≤ exactLimit) × (nat_abs greatest ≤ exactLimit) }
-    ensures { result ≡ headerOf (cellLengths cell) parameters least greatest }
+    requires { (nat_abs least ≤ exact_limit) × (nat_abs greatest ≤ exact_limit) }
+    ensures { result ≡ header_of (cell_lengths cell) parameters least greatest }
 {
     match parameters {
         CellParameters::Triclinic {
@@ -82,7 +82,7 @@ pub fn header_of(cell: UnitCell, parameters: CellParameters, least: i64, greates
 // The words of the header up to the last that is not always zero. The format's names stand in the definition.
 pub fn header_words(h: MrcHeader) -> [u32; 55]
     requires { NoNan h }
-    ensures { result ≡ headerWords h }
+    ensures { result ≡ header_words h }
 {
     let a = bits_of(h.a);
     let b = bits_of(h.b);

@@ -11,18 +11,18 @@ pub mod writing; // writing.rt: words and densities on an output
 
 ghost use Rattle.std.specs.Prelude.{◌≡◌, true, length};
 ghost use Rattle.refusals.specs.Refusals.{first, accepted};
-ghost use Rattle.refusals.specs.Checks.{checkedNumber};
+ghost use Rattle.refusals.specs.Checks.{checked_number};
 ghost use Rattle.cell.specs.Operations.{Sizes};
-ghost use Rattle.output.specs.Output.{filled, notFilled};
-ghost use Rattle.output.specs.Answers.{fillOutcome};
+ghost use Rattle.output.specs.Output.{filled, not_filled};
+ghost use Rattle.output.specs.Answers.{fill_outcome};
 ghost use Rattle.output.specs.Written.{Wrote};
 ghost use Rattle.mrc.specs.Floats.{FloatsExact};
 ghost use Rattle.mrc.specs.Header.{Undetermined};
 ghost use Rattle.mrc.specs.HeaderRead.{HeaderRead};
-ghost use Rattle.mrc.specs.Parameters.{ofGroup, ParameterEnds, GroupParameters};
+ghost use Rattle.mrc.specs.Parameters.{of_group, ParameterEnds, GroupParameters};
 ghost use Rattle.mrc.specs.PointsRead.{ReadsPointsAlone};
-ghost use Rattle.mrc.specs.Ranges.{Spans, ofStored, CellValues};
-ghost use Rattle.mrc.specs.Mrc.{mrcBytes, fileLength, parameterTests, shapeTests, fillTests, mrcStep};
+ghost use Rattle.mrc.specs.Ranges.{Spans, of_stored, CellValues};
+ghost use Rattle.mrc.specs.Mrc.{mrc_bytes, file_length, parameter_tests, shape_tests, fill_tests, mrc_step};
 ghost use Rattle.mrc.specs.Mrc.{Writable, PointsPlaced};
 ghost use Rattle.mrc.specs.Viewed.{PointsViewed, FloatLimit};
 ghost use Rattle.mrc.specs.Orders.{MrcRefusals};
@@ -40,8 +40,8 @@ pub fn mrc_map(
     parameters: CellParameters,
     out: &mut [u8],
 ) -> FillAnswer
-    ensures { fillOutcome result out.new
-        ≡ mrcStep cell map.now parameters out.old }
+    ensures { fill_outcome result out.new
+        ≡ mrc_step cell map.now parameters out.old }
 {
     let checked = check_shape(cell, map.len(), parameters);
     match checked {
@@ -52,7 +52,7 @@ pub fn mrc_map(
 
 // 8, 3, 9, 6, 29: what needs no density.
 fn check_shape(cell: UnitCell, length: usize, parameters: CellParameters) -> Checked
-    ensures { checkedNumber result ≡ first (shapeTests cell length parameters) }
+    ensures { checked_number result ≡ first (shape_tests cell length parameters) }
 {
     let checked = combined::check_combined_map(cell, length);
     match checked {
@@ -62,7 +62,7 @@ fn check_shape(cell: UnitCell, length: usize, parameters: CellParameters) -> Che
 }
 
 fn check_parameters(group: u32, parameters: CellParameters) -> Checked
-    ensures { checkedNumber result ≡ first (parameterTests group parameters) }
+    ensures { checked_number result ≡ first (parameter_tests group parameters) }
 {
     if parameters::of_group(group, parameters) {
         Checked::Sound
@@ -73,10 +73,10 @@ fn check_parameters(group: u32, parameters: CellParameters) -> Checked
 
 // 30, 18, and the file.
 fn fill(cell: UnitCell, map: &[i64], parameters: CellParameters, out: &mut [u8]) -> FillAnswer
-    requires { 0 ≡ first (shapeTests cell (length map.now) parameters) }
-    ensures { fillOutcome result out.new
-        ≡ accepted (first (fillTests cell map.now parameters (length out.old)))
-        (filled (mrcBytes cell map.now parameters) out.old) (notFilled out.old) }
+    requires { 0 ≡ first (shape_tests cell (length map.now) parameters) }
+    ensures { fill_outcome result out.new
+        ≡ accepted (first (fill_tests cell map.now parameters (length out.old)))
+        (filled (mrc_bytes cell map.now parameters) out.old) (not_filled out.old) }
 {
     let range = ranges::map_range(cell, map);
     if !ranges::is_exact(range) {
@@ -97,9 +97,9 @@ fn put_file(
     out: &mut [u8],
 ) -> usize
     requires { Writable cell map.now
-        × (ofGroup cell.group parameters ≡ true)
-        × Spans range (ofStored cell map.now) }
-    ensures { Wrote 0 (mrcBytes cell map.now parameters) out.old result
+        × (of_group cell.group parameters ≡ true)
+        × Spans range (of_stored cell map.now) }
+    ensures { Wrote 0 (mrc_bytes cell map.now parameters) out.old result
         out.new }
 {
     let header = file_header::header_of(cell, parameters, range.least, range.greatest);
@@ -110,7 +110,7 @@ fn put_file(
 // How many bytes the file has.
 fn file_length(cell: UnitCell) -> usize
     requires { Sizes cell }
-    ensures { result ≡ fileLength cell }
+    ensures { result ≡ file_length cell }
 {
     let n1 = cell.n1 as usize;
     let n2 = cell.n2 as usize;

@@ -1,10 +1,10 @@
 // The least and the greatest density of a map, found in one pass over the rows that it stores. The two numbers behind
 // each row are not read.
 ghost use Rattle.std.specs.Prelude.{◌≡◌, ◌&&◌, ◌+◌, ◌<◌, ◌≤◌, leb, ℤ, pos, nat_abs, length, get_or};
-ghost use Rattle.cell.specs.Operations.{cellGroup, cellHalves, Sizes};
-ghost use Rattle.cell.specs.Volume.{layers, volumeLength};
-ghost use Rattle.mrc.specs.Floats.{exactLimit};
-ghost use Rattle.mrc.specs.Ranges.{lesser, greater, among, Spans, ofRow, ofPlane, ofStored};
+ghost use Rattle.cell.specs.Operations.{cell_group, cell_halves, Sizes};
+ghost use Rattle.cell.specs.Volume.{layers, volume_length};
+ghost use Rattle.mrc.specs.Floats.{exact_limit};
+ghost use Rattle.mrc.specs.Ranges.{lesser, greater, among, Spans, of_row, of_plane, of_stored};
 
 use cell::operations::UnitCell;
 use cell::places;
@@ -65,10 +65,10 @@ fn row_range(map: &[i64], start: usize, n: usize) -> DensityRange
 // The row at z, x of a map.
 fn stored_row(cell: UnitCell, map: &[i64], z: u32, x: u32) -> DensityRange
     requires { Sizes cell
-        × (length map.now ≡ volumeLength (cellGroup cell) (cellHalves cell))
-        × (z < layers (cellGroup cell) (cellHalves cell))
+        × (length map.now ≡ volume_length (cell_group cell) (cell_halves cell))
+        × (z < layers (cell_group cell) (cell_halves cell))
         × (x < cell.n1) }
-    ensures { Spans result (ofRow cell map.now z x) }
+    ensures { Spans result (of_row cell map.now z x) }
 {
     row_range(map, 2 * places::pair_place(cell, z, x, 0), cell.n2 as usize)
 }
@@ -76,9 +76,9 @@ fn stored_row(cell: UnitCell, map: &[i64], z: u32, x: u32) -> DensityRange
 // The stored plane z.
 fn plane_range(cell: UnitCell, map: &[i64], z: u32) -> DensityRange
     requires { Sizes cell
-        × (length map.now ≡ volumeLength (cellGroup cell) (cellHalves cell))
-        × (z < layers (cellGroup cell) (cellHalves cell)) }
-    ensures { Spans result (ofPlane cell map.now z) }
+        × (length map.now ≡ volume_length (cell_group cell) (cell_halves cell))
+        × (z < layers (cell_group cell) (cell_halves cell)) }
+    ensures { Spans result (of_plane cell map.now z) }
 {
     let n1 = cell.n1;
     let mut range = stored_row(cell, map, z, 0);
@@ -92,8 +92,8 @@ fn plane_range(cell: UnitCell, map: &[i64], z: u32) -> DensityRange
 
 // All stored planes.
 pub fn map_range(cell: UnitCell, map: &[i64]) -> DensityRange
-    requires { Sizes cell × (length map.now ≡ volumeLength (cellGroup cell) (cellHalves cell)) }
-    ensures { Spans result (ofStored cell map.now) }
+    requires { Sizes cell × (length map.now ≡ volume_length (cell_group cell) (cell_halves cell)) }
+    ensures { Spans result (of_stored cell map.now) }
 {
     let planes = places::layer_count(cell);
     let mut range = plane_range(cell, map, 0);
@@ -108,7 +108,7 @@ pub fn map_range(cell: UnitCell, map: &[i64]) -> DensityRange
 // The numbers of a range are exact as floats.
 pub fn is_exact(range: DensityRange) -> bool
     ensures { result
-        ≡ (leb (nat_abs range.least) exactLimit && leb (nat_abs range.greatest) exactLimit) }
+        ≡ (leb (nat_abs range.least) exact_limit && leb (nat_abs range.greatest) exact_limit) }
 {
     (signed::magnitude(range.least) <= 16777215) & (signed::magnitude(range.greatest) <= 16777215)
 }

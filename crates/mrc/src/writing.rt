@@ -1,9 +1,9 @@
 // The header's words and the densities on an output.
 ghost use Rattle.std.specs.Prelude.{◌<◌, ◌≤◌, nat_abs};
 ghost use Rattle.output.specs.Written.{Wrote, Ends};
-ghost use Rattle.mrc.specs.Floats.{exactLimit};
+ghost use Rattle.mrc.specs.Floats.{exact_limit};
 ghost use Rattle.mrc.specs.Header.{NoNan};
-ghost use Rattle.mrc.specs.Mrc.{headerBytes, densityBytes, rowBytes, planeBytes, cellBytes, Writable};
+ghost use Rattle.mrc.specs.Mrc.{header_bytes, density_bytes, row_bytes, plane_bytes, cell_bytes, Writable};
 
 use crate::file_header::MrcHeader;
 use crate::{file_header, floats};
@@ -12,8 +12,8 @@ use output::little_endian;
 
 // The 256 words of the header.
 pub fn put_header(out: &mut [u8], at: usize, header: MrcHeader) -> usize
-    requires { NoNan header × Ends at (headerBytes header) }
-    ensures { Wrote at (headerBytes header) out.old result out.new }
+    requires { NoNan header × Ends at (header_bytes header) }
+    ensures { Wrote at (header_bytes header) out.old result out.new }
 {
     let words = file_header::header_words(header);
     let mut place = at;
@@ -27,8 +27,8 @@ pub fn put_header(out: &mut [u8], at: usize, header: MrcHeader) -> usize
 
 // The float of a density.
 fn put_density(out: &mut [u8], at: usize, n: i64) -> usize
-    requires { (nat_abs n ≤ exactLimit) × Ends at (densityBytes n) }
-    ensures { Wrote at (densityBytes n) out.old result out.new }
+    requires { (nat_abs n ≤ exact_limit) × Ends at (density_bytes n) }
+    ensures { Wrote at (density_bytes n) out.old result out.new }
 {
     little_endian::put_four(out, at, floats::float_bits(n))
 }
@@ -38,8 +38,8 @@ fn put_row(out: &mut [u8], at: usize, cell: UnitCell, map: &[i64], z: u32, y: u3
     requires { Writable cell map.now
         × (z < cell.n3)
         × (y < cell.n2)
-        × Ends at (rowBytes cell map.now z y) }
-    ensures { Wrote at (rowBytes cell map.now z y) out.old result out.new }
+        × Ends at (row_bytes cell map.now z y) }
+    ensures { Wrote at (row_bytes cell map.now z y) out.old result out.new }
 {
     let n1 = cell.n1;
     let mut place = at;
@@ -54,8 +54,8 @@ fn put_row(out: &mut [u8], at: usize, cell: UnitCell, map: &[i64], z: u32, y: u3
 
 // The plane z, by rising y.
 fn put_plane(out: &mut [u8], at: usize, cell: UnitCell, map: &[i64], z: u32) -> usize
-    requires { Writable cell map.now × (z < cell.n3) × Ends at (planeBytes cell map.now z) }
-    ensures { Wrote at (planeBytes cell map.now z) out.old result out.new }
+    requires { Writable cell map.now × (z < cell.n3) × Ends at (plane_bytes cell map.now z) }
+    ensures { Wrote at (plane_bytes cell map.now z) out.old result out.new }
 {
     let n2 = cell.n2;
     let mut place = at;
@@ -69,8 +69,8 @@ fn put_plane(out: &mut [u8], at: usize, cell: UnitCell, map: &[i64], z: u32) -> 
 
 // The whole cell, by rising z.
 pub fn put_cell(out: &mut [u8], at: usize, cell: UnitCell, map: &[i64]) -> usize
-    requires { Writable cell map.now × Ends at (cellBytes cell map.now) }
-    ensures { Wrote at (cellBytes cell map.now) out.old result out.new }
+    requires { Writable cell map.now × Ends at (cell_bytes cell map.now) }
+    ensures { Wrote at (cell_bytes cell map.now) out.old result out.new }
 {
     let n3 = cell.n3;
     let mut place = at;

@@ -7,13 +7,13 @@ use Rattle.numbers.specs.declared.Accumulator.{Accumulator}
 use Rattle.numbers.specs.Value.{Value, field, value, pair_of}
 use Rattle.numbers.specs.Unreduced.{Accumulated}
 
-pub accumulated-pair : {m n : ℕ} {a : Accumulator} {z : Value m} → Accumulated m n a z → pair_of (value m a.re a.im) ≡ pair_of z
-accumulated-pair h = ap pair_of h.value-is
+pub accumulated_pair : {m n : ℕ} {a : Accumulator} {z : Value m} → Accumulated m n a z → pair_of (value m a.re a.im) ≡ pair_of z
+accumulated_pair h = ap pair_of h.value_is
 
-pub accumulated-start : (m : ℕ) → Accumulated m 0 (record { re = 0; im = 0 }) (field m).zer
+pub accumulated_start : (m : ℕ) → Accumulated m 0 (record { re = 0; im = 0 }) (field m).zer
 unfolding gauss residues
-accumulated-start m = record { re = omega arith; im = omega arith; value-is = refl }
+accumulated_start m = record { re = omega arith; im = omega arith; value_is = refl }
 
 -- five million products leave room for one more
-pub accumulated-room : {m n : ℕ} {a : Accumulator} {z : Value m} → n ≤ 5000000 → Accumulated m n a z → (a.re ≤ 1000000000000000000) × (a.im ≤ 1000000000000000000)
-accumulated-room l h = omega arith
+pub accumulated_room : {m n : ℕ} {a : Accumulator} {z : Value m} → n ≤ 5000000 → Accumulated m n a z → (a.re ≤ 1000000000000000000) × (a.im ≤ 1000000000000000000)
+accumulated_room l h = omega arith

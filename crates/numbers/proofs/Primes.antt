@@ -9,42 +9,42 @@ use Rattle.numbers.specs.declared.Pair.{Pair}
 use Rattle.numbers.specs.Value.{prime, exponent, IsModulus}
 use Rattle.numbers.specs.Bounds.{Small}
 
-pub first-modulus : IsModulus 1
-first-modulus = record { low = omega arith; high = omega arith }
+pub first_modulus : IsModulus 1
+first_modulus = record { low = omega arith; high = omega arith }
 
 -- what holds of both primes holds at every m
-pub by-choice : (P : Bool → Type 0) → P true → P false → (b : Bool) → P b
-by-choice P one two true = one
-by-choice P one two false = two
+pub by_choice : (P : Bool → Type 0) → P true → P false → (b : Bool) → P b
+by_choice P one two true = one
+by_choice P one two false = two
 
-pub prime-one : {m : ℕ} → m ≡ 1 → prime m ≡ 86399
+pub prime_one : {m : ℕ} → m ≡ 1 → prime m ≡ 86399
 unfolding prime
-prime-one e = ap (λ b. cond b 86399 302399) (eq-eqb _ 1 e)
+prime_one e = ap (λ b. cond b 86399 302399) (eq-eqb _ 1 e)
 
-pub prime-two : {m : ℕ} → IsModulus m → (m ≡ 1 → ⊥) → prime m ≡ 302399
+pub prime_two : {m : ℕ} → IsModulus m → (m ≡ 1 → ⊥) → prime m ≡ 302399
 unfolding prime
-prime-two is n = ap (λ b. cond b 86399 302399) (ne_eqb _ 1 n)
+prime_two is n = ap (λ b. cond b 86399 302399) (ne_eqb _ 1 n)
 
-pub prime-least : (m : ℕ) → 86399 ≤ prime m
+pub prime_least : (m : ℕ) → 86399 ≤ prime m
 unfolding prime
-prime-least m = by-choice (λ b. 86399 ≤ cond b 86399 302399) (omega arith) (omega arith) (eqb m 1)
+prime_least m = by_choice (λ b. 86399 ≤ cond b 86399 302399) (omega arith) (omega arith) (eqb m 1)
 
-pub prime-most : {m : ℕ} → IsModulus m → prime m ≤ 302399
+pub prime_most : {m : ℕ} → IsModulus m → prime m ≤ 302399
 unfolding prime
-prime-most {m} is = by-choice (λ b. cond b 86399 302399 ≤ 302399) (omega arith) (omega arith) (eqb m 1)
+prime_most {m} is = by_choice (λ b. cond b 86399 302399 ≤ 302399) (omega arith) (omega arith) (eqb m 1)
 
 -- a pair of residues of either modulus
-pub small-most : {m : ℕ} {v : Pair} → IsModulus m → Small (prime m) v → Small 302399 v
-small-most c h = record { re = omega (arith, prime-most c); im = omega (arith, prime-most c) }
+pub small_most : {m : ℕ} {v : Pair} → IsModulus m → Small (prime m) v → Small 302399 v
+small_most c h = record { re = omega (arith, prime_most c); im = omega (arith, prime_most c) }
 
-pub prime-pos : (m : ℕ) → 0 < prime m
-prime-pos m = omega (arith, prime-least m)
+pub prime_pos : (m : ℕ) → 0 < prime m
+prime_pos m = omega (arith, prime_least m)
 
 -- p + 1 = 2,880 c
-pub prime-next : (m : ℕ) → prime m + 1 ≡ 2880 * exponent m
+pub prime_next : (m : ℕ) → prime m + 1 ≡ 2880 * exponent m
 unfolding prime exponent
-prime-next m = by-choice (λ b. cond b 86399 302399 + 1 ≡ 2880 * cond b 30 105) refl refl (eqb m 1)
+prime_next m = by_choice (λ b. cond b 86399 302399 + 1 ≡ 2880 * cond b 30 105) refl refl (eqb m 1)
 
 -- p is odd
-pub prime-half : (m : ℕ) → (prime m + 1) / 2 + (prime m + 1) / 2 ≡ prime m + 1
-prime-half m = omega (arith, prime-next m)
+pub prime_half : (m : ℕ) → (prime m + 1) / 2 + (prime m + 1) / 2 ≡ prime m + 1
+prime_half m = omega (arith, prime_next m)

@@ -6,7 +6,7 @@ use native.Mathlib.Omega.{arith}
 use Rattle.algebra.proofs.ring.Laws.{along}
 use Rattle.numbers.specs.Value.{prime, IsModulus}
 use Rattle.numbers.specs.Division.{scale}
-use Rattle.numbers.proofs.ModulusCases.{by-modulus}
+use Rattle.numbers.proofs.ModulusCases.{by_modulus}
 
 -- ---- the high part of a product
 
@@ -42,38 +42,38 @@ joined : (q k e t : ℕ) → q * (k + e) + t ≡ q * k + (q * e + t)
 joined q k e t = omega arith
 
 -- where s p is k and a little more, x s over k is x over p as long as what is left stays below k
-by-scale : (p s k e x : ℕ) → 0 < k → s * p ≡ k + e → x / p * e + x % p * s < k → x * s / k ≡ x / p
-by-scale p s k e x pos is small =
+by_scale : (p s k e x : ℕ) → 0 < k → s * p ≡ k + e → x / p * e + x % p * s < k → x * s / k ≡ x / p
+by_scale p s k e x pos is small =
     ap (λ (n : ℕ). n * s / k) (sym (N.div-add-mod' x p))
     ∙ ap (λ (n : ℕ). n / k) (spread (x / p) (x % p) p s ∙ ap (λ (n : ℕ). x / p * n + x % p * s) is ∙ joined (x / p) k e (x % p * s))
     ∙ N.mul-add-div_right pos (x / p) (x / p * e + x % p * s)
     ∙ ap (λ (n : ℕ). x / p + n) (N.div-eq_of_lt small)
     ∙ N.add-zero (x / p)
 
-first-left : (q r : ℕ) → q ≤ 13344153342131 → r < 86399 → q * 20859 + r * 3498089733719803397 < 302231454903657293676544
-first-left q r hq hr = omega arith
+first_left : (q r : ℕ) → q ≤ 13344153342131 → r < 86399 → q * 20859 + r * 3498089733719803397 < 302231454903657293676544
+first_left q r hq hr = omega arith
 
-second-left : (q r : ℕ) → q ≤ 3812583720868 → r < 302399 → q * 214687 + r * 999445946923294369 < 302231454903657293676544
-second-left q r hq hr = omega arith
+second_left : (q r : ℕ) → q ≤ 3812583720868 → r < 302399 → q * 214687 + r * 999445946923294369 < 302231454903657293676544
+second_left q r hq hr = omega arith
 
 -- 2^78 in two steps
 two_steps : (n k : ℕ) → 18446744073709551616 * 16384 ≡ k → n / 18446744073709551616 / 16384 ≡ n / k
 two_steps n k e = N.div-div-eq-div-mul n 18446744073709551616 16384 ∙ ap (λ (k : ℕ). n / k) e
 
-first-quotient : (x : ℕ) → x < 1152921504606846976 → x * 3498089733719803397 / 18446744073709551616 / 16384 ≡ x / 86399
-first-quotient x h =
+first_quotient : (x : ℕ) → x < 1152921504606846976 → x * 3498089733719803397 / 18446744073709551616 / 16384 ≡ x / 86399
+first_quotient x h =
     two_steps (x * 3498089733719803397) 302231454903657293676544 refl
-    ∙ by-scale 86399 3498089733719803397 302231454903657293676544 20859 x (omega arith) refl (first-left (x / 86399) (x % 86399) (omega arith) (omega arith))
+    ∙ by_scale 86399 3498089733719803397 302231454903657293676544 20859 x (omega arith) refl (first_left (x / 86399) (x % 86399) (omega arith) (omega arith))
 
-second-quotient : (x : ℕ) → x < 1152921504606846976 → x * 999445946923294369 / 18446744073709551616 / 16384 ≡ x / 302399
-second-quotient x h =
+second_quotient : (x : ℕ) → x < 1152921504606846976 → x * 999445946923294369 / 18446744073709551616 / 16384 ≡ x / 302399
+second_quotient x h =
     two_steps (x * 999445946923294369) 302231454903657293676544 refl
-    ∙ by-scale 302399 999445946923294369 302231454903657293676544 214687 x (omega arith) refl (second-left (x / 302399) (x % 302399) (omega arith) (omega arith))
+    ∙ by_scale 302399 999445946923294369 302231454903657293676544 214687 x (omega arith) refl (second_left (x / 302399) (x % 302399) (omega arith) (omega arith))
 
 pub quotient_is : (m x : ℕ) → IsModulus m → x < 1152921504606846976 → x * scale m / 18446744073709551616 / 16384 ≡ x / prime m
 unfolding prime
-quotient_is m x is h = by-modulus (λ m. x * scale m / 18446744073709551616 / 16384 ≡ x / prime m) (first-quotient x h) (second-quotient x h) m is
+quotient_is m x is h = by_modulus (λ m. x * scale m / 18446744073709551616 / 16384 ≡ x / prime m) (first_quotient x h) (second_quotient x h) m is
 
 -- what the quotient leaves
-pub rest-is : (p x : ℕ) → x - x / p * p ≡ x % p
-rest-is p x = along (λ (n : ℕ). n - x / p * p) x (x / p * p + x % p) (sym (N.div-add-mod' x p)) ∙ omega arith
+pub rest_is : (p x : ℕ) → x - x / p * p ≡ x % p
+rest_is p x = along (λ (n : ℕ). n - x / p * p) x (x / p * p + x % p) (sym (N.div-add-mod' x p)) ∙ omega arith

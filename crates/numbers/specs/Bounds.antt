@@ -4,8 +4,8 @@ use Rattle.algebra.specs.ring.Ring.{residue}
 use Rattle.numbers.specs.declared.Pair.{Pair}
 use Rattle.numbers.specs.Value.{prime, Residue}
 
-abbrev pub zeroPair : Pair
-zeroPair = record { re = 0; im = 0 }
+abbrev pub zero_pair : Pair
+zero_pair = record { re = 0; im = 0 }
 
 abbrev pub res : (m : ℕ) → ℕ → Residue m
 res m x = residue (prime m) x

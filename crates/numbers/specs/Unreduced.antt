@@ -7,7 +7,7 @@ use Rattle.numbers.specs.Value.{Value, value}
 pub record Accumulated (m n : ℕ) (a : Accumulator) (z : Value m) : Type 0 where
   pub re : a.re ≤ 182890310402 * n
   pub im : a.im ≤ 182890310402 * n
-  pub value-is : value m a.re a.im ≡ z
+  pub value_is : value m a.re a.im ≡ z
 
 -- ---- Sums that are not reduced: what they stand for, and how large they are.
 

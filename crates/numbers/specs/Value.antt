@@ -13,8 +13,8 @@ unfoldable pub exponent : ℕ → ℕ
 exponent m = cond (eqb m 1) 30 105
 
 -- The modulus numbers, as a test (refusal 26) and as what a contract asks for.
-abbrev pub isModulus : ℕ → Bool
-isModulus m = eqb m 1 || eqb m 2
+abbrev pub is_modulus : ℕ → Bool
+is_modulus m = eqb m 1 || eqb m 2
 
 pub record IsModulus (m : ℕ) : Type 0 where
   pub low : 1 ≤ m
@@ -58,10 +58,10 @@ abbrev pub real : (m : ℕ) → Residue m → Value m
 real m x = (x, residue (prime m) 0)
 
 -- a definition of the algebra over these values: the operations, the conjugation, i and 1/2 are what it takes first
-abbrev pub onValues {ℓ} : (m : ℕ) {T : Type ℓ} →
+abbrev pub on_values {ℓ} : (m : ℕ) {T : Type ℓ} →
     (Ops (Value m) → (Value m → Value m) → Value m → Value m → T) →
     T
-onValues m f = f (field m) (conj m) (i m) (real m (half m))
+on_values m f = f (field m) (conj m) (i m) (real m (half m))
 
 -- what a pair of numbers stands for, and the pair of a value: both numbers are below p
 unfoldable pub value_of : (m : ℕ) → Pair → Value m

@@ -8,7 +8,7 @@ pub mod division; // division.rt
 
 ghost use Rattle.std.specs.Prelude.{◌≡◌, ℕ, ◌*◌, ◌<◌, ◌≤◌};
 ghost use Rattle.algebra.specs.ring.Ring.{Ops, Res};
-ghost use Rattle.numbers.specs.Value.{prime, isModulus, IsModulus, ring, field, conj, i, value, half, real};
+ghost use Rattle.numbers.specs.Value.{prime, is_modulus, IsModulus, ring, field, conj, i, value, half, real};
 ghost use Rattle.numbers.specs.Value.{value_of, pair_of};
 ghost use Rattle.numbers.specs.Bounds.{res, Small};
 ghost use Rattle.numbers.specs.Unreduced.{Accumulated};
@@ -29,7 +29,7 @@ pub struct Accumulator {
 
 // A modulus number is 1 or 2.
 pub fn is_modulus(m: u32) -> bool
-    ensures { result ≡ isModulus m }
+    ensures { result ≡ is_modulus m }
 {
     m == 1 || m == 2
 }

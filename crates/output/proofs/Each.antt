@@ -5,7 +5,7 @@ use Prim.Native.Nat.{ℕ, zero, suc, ◌<◌}
 use native.Mathlib.Omega.{arith}
 use Rattle.output.specs.Output.{each}
 
-pub each-cong : (n : ℕ) (f g : ℕ → List ℕ) → ((k : ℕ) → k < n → f k ≡ g k) → each n f ≡ each n g
+pub each_cong : (n : ℕ) (f g : ℕ → List ℕ) → ((k : ℕ) → k < n → f k ≡ g k) → each n f ≡ each n g
 unfolding each
-each-cong zero f g e = refl
-each-cong (suc n) f g e = ap₂ ◌++◌ (each-cong n f g (λ k l. e k (omega arith))) (e n (omega arith))
+each_cong zero f g e = refl
+each_cong (suc n) f g e = ap₂ ◌++◌ (each_cong n f g (λ k l. e k (omega arith))) (e n (omega arith))

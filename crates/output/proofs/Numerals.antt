@@ -11,24 +11,24 @@ use lib.ListN.{length, get_or, length-append, get_or-append}
 use lib.Seq.{get_or-append_seam}
 use lib.IntN.{ℤ, pos, negsuc, nat_abs, neg_ℤ}
 use borrow.Author.Tests.{ltb-true, ltb-false, ne_eqb}
-use Rattle.output.specs.Output.{digitsOf, decimal, signedDecimal}
-use Rattle.output.specs.Numerals.{read_on, readDecimal, readSigned, Numeral, SignedNumeral, unsigned, negative, DecimalsReadBack}
+use Rattle.output.specs.Output.{digits_of, decimal, signed_decimal}
+use Rattle.output.specs.Numerals.{read_on, read_decimal, read_signed, Numeral, SignedNumeral, unsigned, negative, DecimalsReadBack}
 
-lt-or-ge : (a b : ℕ) → (a < b) ⊎ (b ≤ a)
-lt-or-ge a b = ⊎_elim (λ e. inr (omega arith)) (λ l. inl (omega arith)) (eq-zero-or-pos (b - a))
+lt_or_ge : (a b : ℕ) → (a < b) ⊎ (b ≤ a)
+lt_or_ge a b = ⊎_elim (λ e. inr (omega arith)) (λ l. inl (omega arith)) (eq-zero-or-pos (b - a))
 
 -- ---- reading
 
-read-append : (m : ℕ) (s t : List ℕ) → read_on m (s ++ t) ≡ read_on (read_on m s) t
+read_append : (m : ℕ) (s t : List ℕ) → read_on m (s ++ t) ≡ read_on (read_on m s) t
 unfolding read_on
-read-append m [] t = refl
-read-append m (d ∷ ds) t = read-append (10 * m + (d - 48)) ds t
+read_append m [] t = refl
+read_append m (d ∷ ds) t = read_append (10 * m + (d - 48)) ds t
 
 -- ---- one digit, and one digit more
 
-one-digit : (n : ℕ) → n < 10 → Numeral ((48 + n) ∷ []) n
+one_digit : (n : ℕ) → n < 10 → Numeral ((48 + n) ∷ []) n
 unfolding read_on
-one-digit n l = record {
+one_digit n l = record {
   reads = omega arith;
   some = omega arith;
   digits = λ i h. digit i (omega (arith, h));
@@ -40,22 +40,22 @@ one-digit n l = record {
     digit (suc i) h = absurd (omega (arith, h))
 
 -- a number above zero does not begin with the digit 0
-pub lead-digit : (text : List ℕ) (n : ℕ) → Numeral text n → 1 ≤ n → get_or text 0 0 ≡ 48 → ⊥
+pub lead_digit : (text : List ℕ) (n : ℕ) → Numeral text n → 1 ≤ n → get_or text 0 0 ≡ 48 → ⊥
 unfolding read_on
-lead-digit [] n h l e = not-suc-le-zero h.some
-lead-digit (d ∷ []) n h l e = absurd (omega (arith, h.reads, e, l))
-lead-digit (d ∷ c ∷ ds) n h l e = absurd (omega (arith, h.lead e))
+lead_digit [] n h l e = not-suc-le-zero h.some
+lead_digit (d ∷ []) n h l e = absurd (omega (arith, h.reads, e, l))
+lead_digit (d ∷ c ∷ ds) n h l e = absurd (omega (arith, h.lead e))
 
-digit-more : (text : List ℕ) (n d : ℕ) → Numeral text n → 1 ≤ n → d < 10 → Numeral (text ++ (48 + d) ∷ []) (10 * n + d)
+digit_more : (text : List ℕ) (n d : ℕ) → Numeral text n → 1 ≤ n → d < 10 → Numeral (text ++ (48 + d) ∷ []) (10 * n + d)
 unfolding read_on
-digit-more text n d h l m = record {
-  reads = read-append 0 text ((48 + d) ∷ []) ∙ omega (arith, h.reads);
+digit_more text n d h l m = record {
+  reads = read_append 0 text ((48 + d) ∷ []) ∙ omega (arith, h.reads);
   some = omega (arith, long);
   digits = λ i b. ⊎_elim
       (λ (q : i < length text). subst Digit (sym (get_or-append text ((48 + d) ∷ []) 0 i q)) (h.digits i q))
-      (λ (q : length text ≤ i). subst Digit (sym (at-end i (omega (arith, b, long, q)))) (omega arith, omega (arith, m)))
-      (lt-or-ge i (length text));
-  lead = λ e. absurd (lead-digit text n h l (sym (get_or-append text ((48 + d) ∷ []) 0 0 h.some) ∙ e));
+      (λ (q : length text ≤ i). subst Digit (sym (at_end i (omega (arith, b, long, q)))) (omega arith, omega (arith, m)))
+      (lt_or_ge i (length text));
+  lead = λ e. absurd (lead_digit text n h l (sym (get_or-append text ((48 + d) ∷ []) 0 0 h.some) ∙ e));
 }
   where
     Digit : ℕ → Type 0
@@ -64,8 +64,8 @@ digit-more text n d h l m = record {
     long : length (text ++ (48 + d) ∷ []) ≡ length text + 1
     long = length-append text ((48 + d) ∷ [])
 
-    at-end : (i : ℕ) → i ≡ length text → get_or (text ++ (48 + d) ∷ []) i 0 ≡ 48 + d
-    at-end i e = ap (λ (q : ℕ). get_or (text ++ (48 + d) ∷ []) q 0) e ∙ get_or-append_seam text (48 + d) [] 0
+    at_end : (i : ℕ) → i ≡ length text → get_or (text ++ (48 + d) ∷ []) i 0 ≡ 48 + d
+    at_end i e = ap (λ (q : ℕ). get_or (text ++ (48 + d) ∷ []) q 0) e ∙ get_or-append_seam text (48 + d) [] 0
 
 -- ---- the digits of a number
 
@@ -74,34 +74,34 @@ by_digits : (n : ℕ) (rest : List ℕ) → (10 ≤ n → Numeral rest (n / 10))
 by_digits n rest h = either (ltb n 10) refl
   where
     either : (b : Bool) → ltb n 10 ≡ b → Numeral (cond b ((48 + n) ∷ []) (rest ++ (48 + n % 10) ∷ [])) n
-    either true e = one-digit n (omega (arith, ltb-true n 10 e))
+    either true e = one_digit n (omega (arith, ltb-true n 10 e))
     either false e =
         let l = ltb-false n 10 e in
-        subst (Numeral (rest ++ (48 + n % 10) ∷ [])) {x = 10 * (n / 10) + n % 10} {y = n} (omega arith) (digit-more rest (n / 10) (n % 10) (h l) (omega (arith, l)) (omega arith))
+        subst (Numeral (rest ++ (48 + n % 10) ∷ [])) {x = 10 * (n / 10) + n % 10} {y = n} (omega arith) (digit_more rest (n / 10) (n % 10) (h l) (omega (arith, l)) (omega arith))
 
-digits-numeral : (c n : ℕ) → n < 10 ^ suc c → Numeral (digitsOf (suc c) n) n
-unfolding digitsOf
-digits-numeral zero n l = by_digits n [] (λ h. absurd (omega (arith, l, h)))
-digits-numeral (suc c) n l = by_digits n (digitsOf (suc c) (n / 10)) (λ h. digits-numeral c (n / 10) (omega (arith, l)))
+digits_numeral : (c n : ℕ) → n < 10 ^ suc c → Numeral (digits_of (suc c) n) n
+unfolding digits_of
+digits_numeral zero n l = by_digits n [] (λ h. absurd (omega (arith, l, h)))
+digits_numeral (suc c) n l = by_digits n (digits_of (suc c) (n / 10)) (λ h. digits_numeral c (n / 10) (omega (arith, l)))
 
-pub decimal-numeral : (n : ℕ) → n < 18446744073709551616 → Numeral (decimal n) n
-decimal-numeral n l = digits-numeral 19 n (omega (arith, l))
+pub decimal_numeral : (n : ℕ) → n < 18446744073709551616 → Numeral (decimal n) n
+decimal_numeral n l = digits_numeral 19 n (omega (arith, l))
 
-pub signed-numeral : (k : ℤ) → nat_abs k < 18446744073709551616 → SignedNumeral (signedDecimal k) k
-unfolding signedDecimal
-signed-numeral (pos n) l = unsigned (decimal-numeral n l)
-signed-numeral (negsuc n) l = negative (decimal-numeral (suc n) l)
+pub signed_numeral : (k : ℤ) → nat_abs k < 18446744073709551616 → SignedNumeral (signed_decimal k) k
+unfolding signed_decimal
+signed_numeral (pos n) l = unsigned (decimal_numeral n l)
+signed_numeral (negsuc n) l = negative (decimal_numeral (suc n) l)
 
 -- ---- what a numeral reads as
 
-pub numeral_reads : (text : List ℕ) (k : ℤ) → SignedNumeral text k → readSigned text ≡ k
-unfolding readSigned
-numeral_reads text k (unsigned {n = n} h) = digits-alone text n h
+pub numeral_reads : (text : List ℕ) (k : ℤ) → SignedNumeral text k → read_signed text ≡ k
+unfolding read_signed
+numeral_reads text k (unsigned {n = n} h) = digits_alone text n h
   where
-    digits-alone : (text : List ℕ) (n : ℕ) → Numeral text n → readSigned text ≡ pos n
-    digits-alone [] n h = absurd (not-suc-le-zero h.some)
-    digits-alone (c ∷ cs) n h =
-        ap (λ (b : Bool). cond b (neg_ℤ (pos (readDecimal cs))) (pos (readDecimal (c ∷ cs)))) (ne_eqb c 45 (λ e. absurd (omega (arith, e, (h.digits 0 h.some).0))))
+    digits_alone : (text : List ℕ) (n : ℕ) → Numeral text n → read_signed text ≡ pos n
+    digits_alone [] n h = absurd (not-suc-le-zero h.some)
+    digits_alone (c ∷ cs) n h =
+        ap (λ (b : Bool). cond b (neg_ℤ (pos (read_decimal cs))) (pos (read_decimal (c ∷ cs)))) (ne_eqb c 45 (λ e. absurd (omega (arith, e, (h.digits 0 h.some).0))))
         ∙ ap pos h.reads
 numeral_reads text k (negative {text = digits} h) = ap (λ (m : ℕ). neg_ℤ (pos m)) h.reads
 
@@ -110,8 +110,8 @@ numeral_reads text k (negative {text = digits} h) = ap (λ (m : ℕ). neg_ℤ (p
 abbrev Digits : List ℕ → Type 0
 Digits text = (i : ℕ) → i < length text → (48 ≤ get_or text i 0) × (get_or text i 0 ≤ 57)
 
-rest-digits : (d : ℕ) (ds : List ℕ) → Digits (d ∷ ds) → Digits ds
-rest-digits d ds h i l = h (suc i) (omega (arith, l))
+rest_digits : (d : ℕ) (ds : List ℕ) → Digits (d ∷ ds) → Digits ds
+rest_digits d ds h i l = h (suc i) (omega (arith, l))
 
 -- of one length: by their digits, and what they stand behind
 same_length : (s t : List ℕ) (m k : ℕ) → length s ≡ length t → Digits s → Digits t → read_on m s ≡ read_on k t → (m ≡ k) × (s ≡ t)
@@ -120,47 +120,47 @@ same_length [] [] m k l a b e = (e, refl)
 same_length [] (d ∷ t) m k l a b e = absurd (omega (arith, l))
 same_length (c ∷ s) [] m k l a b e = absurd (omega (arith, l))
 same_length (c ∷ s) (d ∷ t) m k l a b e =
-    let h = same_length s t (10 * m + (c - 48)) (10 * k + (d - 48)) (suc_inj l) (rest-digits c s a) (rest-digits d t b) e in
+    let h = same_length s t (10 * m + (c - 48)) (10 * k + (d - 48)) (suc_inj l) (rest_digits c s a) (rest_digits d t b) e in
     let x = a 0 (omega arith) in
     let y = b 0 (omega arith) in
     let first : c ≡ d = omega (arith, h.0, x.0, x.1, y.0, y.1) in
     (omega (arith, h.0, x.0, x.1, y.0, y.1), λ i. first i ∷ h.1 i)
 
 -- digits behind a number above zero are not read as fewer or as many alone
-not-shorter : (s t : List ℕ) (m : ℕ) → length t ≤ length s → 1 ≤ m → Digits s → Digits t → read_on m s ≡ read_on 0 t → ⊥
+not_shorter : (s t : List ℕ) (m : ℕ) → length t ≤ length s → 1 ≤ m → Digits s → Digits t → read_on m s ≡ read_on 0 t → ⊥
 unfolding read_on
-not-shorter [] t m l p a b e = absurd (omega (arith, p, (same_length [] t m 0 (omega (arith, l)) a b e).0))
-not-shorter (c ∷ s) t m l p a b e = ⊎_elim
+not_shorter [] t m l p a b e = absurd (omega (arith, p, (same_length [] t m 0 (omega (arith, l)) a b e).0))
+not_shorter (c ∷ s) t m l p a b e = ⊎_elim
     (λ (q : length s < length t). absurd (omega (arith, p, (same_length (c ∷ s) t m 0 (omega (arith, l, q)) a b e).0)))
-    (λ (q : length t ≤ length s). not-shorter s t (10 * m + (c - 48)) q (omega (arith, p)) (rest-digits c s a) b e)
-    (lt-or-ge (length s) (length t))
+    (λ (q : length t ≤ length s). not_shorter s t (10 * m + (c - 48)) q (omega (arith, p)) (rest_digits c s a) b e)
+    (lt_or_ge (length s) (length t))
 
-none-longer : (s t : List ℕ) (n : ℕ) → Numeral s n → Numeral t n → length t < length s → ⊥
+none_longer : (s t : List ℕ) (n : ℕ) → Numeral s n → Numeral t n → length t < length s → ⊥
 unfolding read_on
-none-longer [] t n a b l = not-suc-le-zero l
-none-longer (c ∷ s) t n a b l = ⊎_elim
+none_longer [] t n a b l = not-suc-le-zero l
+none_longer (c ∷ s) t n a b l = ⊎_elim
     (λ (q : c < 49). absurd (omega (arith, l, b.some, a.lead (omega (arith, q, (a.digits 0 a.some).0)))))
-    (λ (q : 49 ≤ c). not-shorter s t (10 * 0 + (c - 48)) (omega (arith, l)) (omega (arith, q)) (rest-digits c s a.digits) b.digits (a.reads ∙ sym b.reads))
-    (lt-or-ge c 49)
+    (λ (q : 49 ≤ c). not_shorter s t (10 * 0 + (c - 48)) (omega (arith, l)) (omega (arith, q)) (rest_digits c s a.digits) b.digits (a.reads ∙ sym b.reads))
+    (lt_or_ge c 49)
 
-pub same-numeral : (s t : List ℕ) (n : ℕ) → Numeral s n → Numeral t n → s ≡ t
-same-numeral s t n a b = ⊎_elim
-    (λ (l : length s < length t). absurd (none-longer t s n b a l))
+pub same_numeral : (s t : List ℕ) (n : ℕ) → Numeral s n → Numeral t n → s ≡ t
+same_numeral s t n a b = ⊎_elim
+    (λ (l : length s < length t). absurd (none_longer t s n b a l))
     (λ (l : length t ≤ length s). ⊎_elim
-    (λ (m : length t < length s). absurd (none-longer s t n a b m))
+    (λ (m : length t < length s). absurd (none_longer s t n a b m))
     (λ (m : length s ≤ length t). (same_length s t 0 0 (omega (arith, l, m)) a.digits b.digits (a.reads ∙ sym b.reads)).1)
-    (lt-or-ge (length t) (length s)))
-    (lt-or-ge (length s) (length t))
+    (lt_or_ge (length t) (length s)))
+    (lt_or_ge (length s) (length t))
 
-only-numeral : (text : List ℕ) (k : ℤ) → nat_abs k < 18446744073709551616 → SignedNumeral text k → text ≡ signedDecimal k
-unfolding signedDecimal
-only-numeral text k l (unsigned {n = n} h) = same-numeral text (decimal n) n h (decimal-numeral n l)
-only-numeral text k l (negative {text = digits} {n = n} h) = ap (λ (t : List ℕ). 45 ∷ t) (same-numeral digits (decimal (suc n)) (suc n) h (decimal-numeral (suc n) l))
+only_numeral : (text : List ℕ) (k : ℤ) → nat_abs k < 18446744073709551616 → SignedNumeral text k → text ≡ signed_decimal k
+unfolding signed_decimal
+only_numeral text k l (unsigned {n = n} h) = same_numeral text (decimal n) n h (decimal_numeral n l)
+only_numeral text k l (negative {text = digits} {n = n} h) = ap (λ (t : List ℕ). 45 ∷ t) (same_numeral digits (decimal (suc n)) (suc n) h (decimal_numeral (suc n) l))
 
-pub decimals-read-back : DecimalsReadBack
-decimals-read-back = record {
-  number = decimal-numeral;
-  signed = signed-numeral;
-  back = λ k l. numeral_reads (signedDecimal k) k (signed-numeral k l);
-  only = only-numeral;
+pub decimals_read_back : DecimalsReadBack
+decimals_read_back = record {
+  number = decimal_numeral;
+  signed = signed_numeral;
+  back = λ k l. numeral_reads (signed_decimal k) k (signed_numeral k l);
+  only = only_numeral;
 }

@@ -4,37 +4,37 @@ use Rattle.algebra.specs.Prelude.{cond, ltb, ℕ, zero, suc, ◌+◌, ◌/◌, �
 use Rattle.signed.specs.Integers.{ℤ, pos, negsuc}
 
 -- a number in decimal, of at most `count` digits
-unfoldable pub digitsOf : (count n : ℕ) → List ℕ
-digitsOf zero n = []
-digitsOf (suc c) n = cond (ltb n 10) ((48 + n) ∷ []) (digitsOf c (n / 10) ++ (48 + n % 10) ∷ [])
+unfoldable pub digits_of : (count n : ℕ) → List ℕ
+digits_of zero n = []
+digits_of (suc c) n = cond (ltb n 10) ((48 + n) ∷ []) (digits_of c (n / 10) ++ (48 + n % 10) ∷ [])
 
 -- a number of 64 bits has at most twenty
 abbrev pub decimal : ℕ → List ℕ
-decimal n = digitsOf 20 n
+decimal n = digits_of 20 n
 
 -- a whole number: a minus, and the magnitude of one below zero
 abbrev pub minus : ℕ
 minus = 45
 
-unfoldable pub signedDecimal : ℤ → List ℕ
-signedDecimal (pos n) = decimal n
-signedDecimal (negsuc n) = minus ∷ decimal (suc n)
+unfoldable pub signed_decimal : ℤ → List ℕ
+signed_decimal (pos n) = decimal n
+signed_decimal (negsuc n) = minus ∷ decimal (suc n)
 
 -- n big-endian bytes of a number
-unfoldable pub bigEndian : (n x : ℕ) → List ℕ
-bigEndian zero x = []
-bigEndian (suc n) x = bigEndian n (x / 256) ++ x % 256 ∷ []
+unfoldable pub big_endian : (n x : ℕ) → List ℕ
+big_endian zero x = []
+big_endian (suc n) x = big_endian n (x / 256) ++ x % 256 ∷ []
 
 -- n little-endian bytes of a number
-unfoldable pub littleEndian : (n x : ℕ) → List ℕ
-littleEndian zero x = []
-littleEndian (suc n) x = x % 256 ∷ littleEndian n (x / 256)
+unfoldable pub little_endian : (n x : ℕ) → List ℕ
+little_endian zero x = []
+little_endian (suc n) x = x % 256 ∷ little_endian n (x / 256)
 
 abbrev pub blank : ℕ
 blank = 32
 
-abbrev pub lineFeed : ℕ
-lineFeed = 10
+abbrev pub line_feed : ℕ
+line_feed = 10
 
 -- n things in a row
 unfoldable pub each : (n : ℕ) → (ℕ → List ℕ) → List ℕ
@@ -45,7 +45,7 @@ each (suc n) f = each n f ++ f n
 
 pub data Filled : Type 0 where
   written : (count : ℕ) → Filled
-  notWritten : (number : ℕ) → Filled
+  not_written : (number : ℕ) → Filled
 
 pub record FillOutcome : Type 0 where
   pub answer : Filled
@@ -55,5 +55,5 @@ pub record FillOutcome : Type 0 where
 abbrev pub filled : (bytes output : List ℕ) → FillOutcome
 filled bytes output = record { answer = written (length bytes); output = bytes ++ drop (length bytes) output }
 
-abbrev pub notFilled : (output : List ℕ) (number : ℕ) → FillOutcome
-notFilled output n = record { answer = notWritten n; output = output }
+abbrev pub not_filled : (output : List ℕ) (number : ℕ) → FillOutcome
+not_filled output n = record { answer = not_written n; output = output }

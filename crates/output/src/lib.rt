@@ -4,7 +4,7 @@ pub mod big_endian; // big_endian.rt: numbers in two and in four bytes
 pub mod little_endian; // little_endian.rt: numbers in four bytes
 
 ghost use Rattle.std.specs.Prelude.{[], ◌∷◌};
-ghost use Rattle.output.specs.Output.{decimal, signedDecimal, blank};
+ghost use Rattle.output.specs.Output.{decimal, signed_decimal, blank};
 ghost use Rattle.output.specs.Written.{Wrote, Ends};
 ghost use Rattle.output.specs.Numerals.{DecimalsReadBack};
 
@@ -73,8 +73,8 @@ pub fn put_field(out: &mut [u8], at: usize, n: u32) -> usize
 
 // A whole number in decimal: a minus before the magnitude of one below zero.
 pub fn put_signed(out: &mut [u8], at: usize, n: i64) -> usize
-    requires { Ends at (signedDecimal n) }
-    ensures { Wrote at (signedDecimal n) out.old result out.new }
+    requires { Ends at (signed_decimal n) }
+    ensures { Wrote at (signed_decimal n) out.old result out.new }
 {
     let size = signed::magnitude(n);
     if n < 0 {
@@ -87,8 +87,8 @@ pub fn put_signed(out: &mut [u8], at: usize, n: i64) -> usize
 
 // A blank and a whole number.
 pub fn put_signed_field(out: &mut [u8], at: usize, n: i64) -> usize
-    requires { Ends at (blank ∷ signedDecimal n) }
-    ensures { Wrote at (blank ∷ signedDecimal n) out.old result out.new }
+    requires { Ends at (blank ∷ signed_decimal n) }
+    ensures { Wrote at (blank ∷ signed_decimal n) out.old result out.new }
 {
     let number = put_byte(out, at, b' ');
     put_signed(out, number, n)

@@ -1,12 +1,12 @@
 // Numbers in four bytes, the lowest byte first.
-ghost use Rattle.output.specs.Output.{littleEndian};
+ghost use Rattle.output.specs.Output.{little_endian};
 ghost use Rattle.output.specs.Written.{Wrote, Ends};
 
 use crate::put_byte;
 
 pub fn put_four(out: &mut [u8], at: usize, x: u32) -> usize
-    requires { Ends at (littleEndian 4 x) }
-    ensures { Wrote at (littleEndian 4 x) out.old result out.new }
+    requires { Ends at (little_endian 4 x) }
+    ensures { Wrote at (little_endian 4 x) out.old result out.new }
 {
     let second = put_byte(out, at, (x % 256) as u8);
     let third = put_byte(out, second, (x / 256 % 256) as u8);

@@ -15,8 +15,8 @@ line_of M q X t = X (q + M * t)
 
 module _ {R : Type 0} (𝓞 : Ops R) (W : R) where
   -- What a slice holds before a step: place b A + 𝐚 has the inner sum for b and 𝐚 of a line of A B points.
-  unfoldable pub innerSums : (A B : ℕ) → (ℕ → R) → ℕ → R
-  innerSums A B X j = inner 𝓞 W A B X (j / A) (j % A)
+  unfoldable pub inner_sums : (A B : ℕ) → (ℕ → R) → ℕ → R
+  inner_sums A B X j = inner 𝓞 W A B X (j / A) (j % A)
 
   -- What a step makes of the values Y: place q A B + (𝐚 + 𝐛 A) has the outer sum for 𝐛, over b, of the value
   -- at place (b M + q) A + 𝐚 times its factor.
@@ -32,14 +32,14 @@ step_of m W A B M from = list_of (A * B * M) (stepped (field m) W A B M (values_
 -- the one that it leaves.
 pub record StepParts (m : ℕ) (W : Value m) (A B M : ℕ) (X : ℕ → Value m) (from to : List ℕ) : Type 0 where
   -- what it finds for b and 𝐚 is the inner sum ..
-  pub inner-sum : (q b 𝐚 : ℕ) → q < M → b < B → 𝐚 < A →
+  pub inner_sum : (q b 𝐚 : ℕ) → q < M → b < B → 𝐚 < A →
       values_of m from ((b * M + q) * A + 𝐚) ≡ inner (field m) W A B (line_of M q X) b 𝐚
   -- .. what it leaves for 𝐚 and 𝐛 is the outer sum of those times their factors ..
-  pub outer-sum : (q 𝐚 𝐛 : ℕ) → q < M → 𝐚 < A → 𝐛 < B →
+  pub outer_sum : (q 𝐚 𝐛 : ℕ) → q < M → 𝐚 < A → 𝐛 < B →
       values_of m to (q * (A * B) + (𝐚 + 𝐛 * A))
       ≡ outer (field m) W B (λ b. factor (field m) W A B b 𝐚 (inner (field m) W A B (line_of M q X) b 𝐚)) 𝐛
   -- .. and that is the direct sum.
-  pub direct-sum : (q 𝐚 𝐛 : ℕ) → q < M → 𝐚 < A → 𝐛 < B →
+  pub direct_sum : (q 𝐚 𝐛 : ℕ) → q < M → 𝐚 < A → 𝐛 < B →
       values_of m to (q * (A * B) + (𝐚 + 𝐛 * A)) ≡ direct (field m) W (A * B) (line_of M q X) (𝐚 + 𝐛 * A)
 
 -- What one step needs of its numbers: the inner length A, the factor B of this step and the count M of the lines, whose
@@ -53,25 +53,25 @@ pub record Splits (A B M : ℕ) : Type 0 where
 
 -- ---- The steps of a list of factors. That of place k, counted from 0, has these A, B and M.
 
-abbrev pub innerLength : List ℕ → ℕ → ℕ
-innerLength l k = product (take k l)
+abbrev pub inner_length : List ℕ → ℕ → ℕ
+inner_length l k = product (take k l)
 
-abbrev pub outerLength : List ℕ → ℕ → ℕ
-outerLength l k = get_or l k 0
+abbrev pub outer_length : List ℕ → ℕ → ℕ
+outer_length l k = get_or l k 0
 
-abbrev pub lineCount : List ℕ → ℕ → ℕ
-lineCount l k = product (drop (suc k) l)
+abbrev pub line_count : List ℕ → ℕ → ℕ
+line_count l k = product (drop (suc k) l)
 
 -- the slice after the first k steps, from the numbers of a line
-unfoldable pub afterSteps : (m : ℕ) → Value m → (l : List ℕ) (k : ℕ) (line : List ℕ) → List ℕ
-afterSteps m W l zero line = line
-afterSteps m W l (suc k) line = step_of m W (innerLength l k) (outerLength l k) (lineCount l k) (afterSteps m W l k line)
+unfoldable pub after_steps : (m : ℕ) → Value m → (l : List ℕ) (k : ℕ) (line : List ℕ) → List ℕ
+after_steps m W l zero line = line
+after_steps m W l (suc k) line = step_of m W (inner_length l k) (outer_length l k) (line_count l k) (after_steps m W l k line)
 
 -- What the work slice, which held `work`, holds after the first k steps: the steps go to and fro, that of place k from
 -- the line to the work slice where k is even.
-unfoldable pub workAfter : (m : ℕ) → Value m → (l : List ℕ) (k : ℕ) (line work : List ℕ) → List ℕ
-workAfter m W l zero line work = work
-workAfter m W l (suc k) line work = cond (eqb (k % 2) 0) (afterSteps m W l (suc k) line) (workAfter m W l k line work)
+unfoldable pub work_after : (m : ℕ) → Value m → (l : List ℕ) (k : ℕ) (line work : List ℕ) → List ℕ
+work_after m W l zero line work = work
+work_after m W l (suc k) line work = cond (eqb (k % 2) 0) (after_steps m W l (suc k) line) (work_after m W l k line work)
 
 -- ---- What a line that is stored times i is multiplied by: i, or over i, which is -i.
 abbrev pub rotation : (m : ℕ) → (over : Bool) → Value m

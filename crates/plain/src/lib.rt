@@ -13,12 +13,12 @@ pub mod scale; // scale.rt
 ghost use Rattle.std.specs.Prelude.{◌≡◌, ◌*◌, ◌/◌, ◌%◌, length};
 ghost use Rattle.algebra.specs.ring.Ring.{Ops, pow, dft};
 ghost use Rattle.numbers.specs.Value.{prime, IsModulus, field, part, real};
-ghost use Rattle.roots.specs.Table.{tableRoot, RootTable};
-ghost use Rattle.lengths.specs.Lengths.{octalDigits};
+ghost use Rattle.roots.specs.Table.{table_root, RootTable};
+ghost use Rattle.lengths.specs.Lengths.{octal_digits};
 ghost use Rattle.lengths.specs.Admitted.{Factored};
 ghost use Rattle.lengths.specs.Stages.{points, after, Ahead};
 ghost use Rattle.slices.specs.Pairs.{Below, values_of, list_of};
-ghost use Rattle.plain.specs.Plain.{step_of, afterSteps, workAfter};
+ghost use Rattle.plain.specs.Plain.{step_of, after_steps, work_after};
 
 use lengths::stage::Stage;
 
@@ -37,15 +37,15 @@ pub fn transform<'a>(
     requires line_len { (length line.old ≡ 2 * n) × (length work.old ≡ 2 * n) }
     requires below { Below (prime m) line.old }
     ensures line_after { line.new ≡ list_of n
-        (dft (field m) n (pow (field m) (tableRoot m re.now im.now) (2880 / n))
+        (dft (field m) n (pow (field m) (table_root m re.now im.now) (2880 / n))
         (values_of m line.old)) }
     ensures line_after_2 { line.new
-        ≡ afterSteps m (tableRoot m re.now im.now) (octalDigits factors)
-        (length (octalDigits factors))
+        ≡ after_steps m (table_root m re.now im.now) (octal_digits factors)
+        (length (octal_digits factors))
         line.old }
     ensures work_after { work.new
-        ≡ workAfter m (tableRoot m re.now im.now) (octalDigits factors)
-        (length (octalDigits factors))
+        ≡ work_after m (table_root m re.now im.now) (octal_digits factors)
+        (length (octal_digits factors))
         line.old work.old }
 {
     let mut at = Stage {
@@ -79,11 +79,11 @@ pub fn inverse<'a>(
     requires below { Below (prime m) line.old }
     ensures line_after { line.new ≡ list_of n
         (λ t. (field m).mul (real m (part m n))
-        (dft (field m) n (pow (field m) (tableRoot m re.now im.now) (2880 / n))
+        (dft (field m) n (pow (field m) (table_root m re.now im.now) (2880 / n))
         (values_of m line.old) t)) }
     ensures work_after { work.new
-        ≡ workAfter m (tableRoot m re.now im.now) (octalDigits factors)
-        (length (octalDigits factors))
+        ≡ work_after m (table_root m re.now im.now) (octal_digits factors)
+        (length (octal_digits factors))
         line.old work.old }
 {
     transform(m, re, im, factors, n, line, work);
@@ -105,7 +105,7 @@ fn next_step<'a>(
     requires below { Below (prime m) from.now }
     ensures value { result ≡ after at }
     ensures to_after { to.new
-        ≡ step_of m (tableRoot m re.now im.now) at.inner (at.left % 8)
+        ≡ step_of m (table_root m re.now im.now) at.inner (at.left % 8)
         (at.lines / (at.left % 8))
         from.now }
 {

@@ -7,9 +7,9 @@
 // The roots are lent as tables of the powers of W: those of r, or those of its conjugate for the other direction.
 ghost use Rattle.std.specs.Prelude.{◌≡◌, ℕ, ◌*◌, length};
 ghost use Rattle.numbers.specs.Value.{prime, IsModulus, Value, field};
-ghost use Rattle.roots.specs.Table.{tableRoot, RootTable};
+ghost use Rattle.roots.specs.Table.{table_root, RootTable};
 ghost use Rattle.slices.specs.Pairs.{Below, list_of};
-ghost use Rattle.plain.specs.Plain.{innerSums, step_of, StepParts, Splits};
+ghost use Rattle.plain.specs.Plain.{inner_sums, step_of, StepParts, Splits};
 
 use butterflies::twiddle::Places;
 
@@ -32,11 +32,11 @@ pub fn step<'a>(
         × (length to.old ≡ 2 * (inner * outer * lines)) }
     requires below { Below (prime m) from.now }
     ensures to_after { to.new
-        ≡ step_of m (tableRoot m re.now im.now) inner outer lines from.now }
+        ≡ step_of m (table_root m re.now im.now) inner outer lines from.now }
     ensures by_index { (X : ℕ → Value m) → from.now
         ≡ list_of (inner * outer * lines)
-        (innerSums (field m) (tableRoot m re.now im.now) inner (lines * outer) X)
-        → StepParts m (tableRoot m re.now im.now) inner outer lines X from.now
+        (inner_sums (field m) (table_root m re.now im.now) inner (lines * outer) X)
+        → StepParts m (table_root m re.now im.now) inner outer lines X from.now
         to.new }
 {
     let stride = lines * inner;

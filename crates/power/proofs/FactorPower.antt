@@ -9,26 +9,26 @@ use borrow.Author.Tests.{le-leb, lt-leb}
 use Rattle.algebra.specs.ring.Ring.{sum, gauss, residues}
 use Rattle.algebra.specs.fourier.Halves.{doubled, between}
 use Rattle.algebra.specs.lines.Kinds.{Kind.plain, Kind.alternating, Kind.symmetric, Kind.antisymmetric}
-use Rattle.algebra.specs.cells.Cell.{J, Group, P1, P2₁, Pm, Pa, P2₁2₁2₁, planes, negI, flip}
+use Rattle.algebra.specs.cells.Cell.{J, Group, P1, P2₁, Pm, Pa, P2₁2₁2₁, planes, neg_i, flip}
 use Rattle.algebra.specs.cells.CellPack.{even}
 use Rattle.algebra.proofs.ring.Bool.{split}
 use Rattle.algebra.proofs.ring.Laws.{along}
-use Rattle.algebra.proofs.fourier.Sums.{sum-cong, sum-swap, sum-blocks}
-use Rattle.algebra.proofs.cells.CellAxis.{neg-pos}
+use Rattle.algebra.proofs.fourier.Sums.{sum_cong, sum_swap, sum_blocks}
+use Rattle.algebra.proofs.cells.CellAxis.{neg_pos}
 use Rattle.algebra.proofs.cells.CellTests.{Positive}
 use Rattle.numbers.specs.Value.{prime, Residue, Value, ring, field, conj, value_of}
-use Rattle.numbers.proofs.Residues.{res-ring}
+use Rattle.numbers.proofs.Residues.{res_ring}
 use Rattle.slices.specs.Pairs.{at, Below, values_of}
-use Rattle.cell.specs.Volume.{lineKind, rotated, overI, rows, columns, layers, pairPlace, volumeLength, wholeLine, lineIn, factorsIn}
-use Rattle.cell.specs.Consistency.{consistentFactors}
-use Rattle.cell.proofs.LineReading.{readLine, read_plain, alternating-first, alternating-middle, alternating-low, read-symmetric, read-antisymmetric, mirror-alternating, mirror-symmetric, mirror-antisymmetric}
-use Rattle.cell.proofs.Reading.{pairsIn, EmptyEnds, empty-ends}
-use Rattle.cell.proofs.Consistency.{consistent-read}
-use Rattle.power.specs.Power.{overCell, factorPower}
-use Rattle.power.specs.PowerSteps.{layerTwice, squareAt, squares, rowPower, layerPower, storedPower}
-use Rattle.algebra.proofs.fourier.Halves.{doubled-sum, half-ends, ends-and-between, whole-ends, sum-mirror, sum-flip}
-use Rattle.algebra.proofs.ring.Norms.{norm, norm-conj-product, norm-conj, norm-neg, norm-over-i, norm-signed, norm-parts}
-use Rattle.power.proofs.MapPower.{sum-rotate, real-cell}
+use Rattle.cell.specs.Volume.{line_kind, rotated, over_i, rows, columns, layers, pair_place, volume_length, whole_line, line_in, factors_in}
+use Rattle.cell.specs.Consistency.{consistent_factors}
+use Rattle.cell.proofs.LineReading.{read_line, read_plain, alternating_first, alternating_middle, alternating_low, read_symmetric, read_antisymmetric, mirror_alternating, mirror_symmetric, mirror_antisymmetric}
+use Rattle.cell.proofs.Reading.{pairs_in, EmptyEnds, empty_ends_lem}
+use Rattle.cell.proofs.Consistency.{consistent_read}
+use Rattle.power.specs.Power.{over_cell, factor_power}
+use Rattle.power.specs.PowerSteps.{layer_twice, square_at, squares, row_power, layer_power, stored_power}
+use Rattle.algebra.proofs.fourier.Halves.{doubled_sum, half_ends, ends_and_between, whole_ends, sum_mirror, sum_flip}
+use Rattle.algebra.proofs.ring.Norms.{norm, norm_conj_product, norm_conj, norm_neg, norm_over_i, norm_signed, norm_parts}
+use Rattle.power.proofs.MapPower.{sum_rotate, real_cell}
 
 -- ---- one line, by its kind: q w is the value of its pair w
 
@@ -36,140 +36,140 @@ module _ (m c : ℕ) (q : ℕ → Value m) where
   abbrev normed : ℕ → Residue m
   normed w = norm (ring m) (q w)
 
-  plain-norms : sum (ring m) (2 * c) (λ l. norm (ring m) (readLine m c plain q l)) ≡ sum (ring m) (2 * c) normed
-  plain-norms = sum-cong (res-ring m) (2 * c) _ _ (λ l h. ap (norm (ring m)) (read_plain m c q l))
+  plain_norms : sum (ring m) (2 * c) (λ l. norm (ring m) (read_line m c plain q l)) ≡ sum (ring m) (2 * c) normed
+  plain_norms = sum_cong (res_ring m) (2 * c) _ _ (λ l h. ap (norm (ring m)) (read_plain m c q l))
 
-  symmetric-norms : 0 < c → sum (ring m) (2 * c) (λ l. norm (ring m) (readLine m c symmetric q l)) ≡ sum (ring m) (suc c) (λ w. doubled (ring m) (between c w) (normed w))
-  symmetric-norms pos =
-      sum-mirror (res-ring m) c _ pos (λ t u p h e. ap (norm (ring m)) (mirror-symmetric m c q u t h p e))
-      ∙ sum-cong (res-ring m) (suc c) _ _ (λ w h. ap (λ x. doubled (ring m) (between c w) (norm (ring m) x)) (read-symmetric m c pos q w h))
+  symmetric_norms : 0 < c → sum (ring m) (2 * c) (λ l. norm (ring m) (read_line m c symmetric q l)) ≡ sum (ring m) (suc c) (λ w. doubled (ring m) (between c w) (normed w))
+  symmetric_norms pos =
+      sum_mirror (res_ring m) c _ pos (λ t u p h e. ap (norm (ring m)) (mirror_symmetric m c q u t h p e))
+      ∙ sum_cong (res_ring m) (suc c) _ _ (λ w h. ap (λ x. doubled (ring m) (between c w) (norm (ring m) x)) (read_symmetric m c pos q w h))
 
-  antisymmetric-norms : 0 < c → q 0 ≡ (field m).zer → q c ≡ (field m).zer → sum (ring m) (2 * c) (λ l. norm (ring m) (readLine m c antisymmetric q l)) ≡ sum (ring m) (suc c) (λ w. doubled (ring m) (between c w) (normed w))
-  antisymmetric-norms pos e0 ec =
-      sum-mirror (res-ring m) c _ pos (λ t u p h e. ap (norm (ring m)) (mirror-antisymmetric m c q u t h p e) ∙ norm-neg (res-ring m) _)
-      ∙ sum-cong (res-ring m) (suc c) _ _ (λ w h. ap (λ x. doubled (ring m) (between c w) (norm (ring m) x)) (read-antisymmetric m c pos q e0 ec w h))
+  antisymmetric_norms : 0 < c → q 0 ≡ (field m).zer → q c ≡ (field m).zer → sum (ring m) (2 * c) (λ l. norm (ring m) (read_line m c antisymmetric q l)) ≡ sum (ring m) (suc c) (λ w. doubled (ring m) (between c w) (normed w))
+  antisymmetric_norms pos e0 ec =
+      sum_mirror (res_ring m) c _ pos (λ t u p h e. ap (norm (ring m)) (mirror_antisymmetric m c q u t h p e) ∙ norm_neg (res_ring m) _)
+      ∙ sum_cong (res_ring m) (suc c) _ _ (λ w h. ap (λ x. doubled (ring m) (between c w) (norm (ring m) x)) (read_antisymmetric m c pos q e0 ec w h))
 
 -- pair 0 of an alternating line holds its two ends
-alternating-norms : (m c : ℕ) (q : ℕ → Value m) → 0 < c → sum (ring m) (2 * c) (λ l. norm (ring m) (readLine m c alternating q l)) ≡ sum (ring m) c (λ w. doubled (ring m) (between c w) (normed m c q w))
-alternating-norms m zero q pos = absurd (omega arith)
-alternating-norms m (suc n) q pos =
-    whole-ends (res-ring m) n _ (λ t u p h e. ap (norm (ring m)) (mirror-alternating m (suc n) q u t h p e) ∙ norm-signed (res-ring m) t _ ∙ norm-conj (res-ring m) _)
+alternating_norms : (m c : ℕ) (q : ℕ → Value m) → 0 < c → sum (ring m) (2 * c) (λ l. norm (ring m) (read_line m c alternating q l)) ≡ sum (ring m) c (λ w. doubled (ring m) (between c w) (normed m c q w))
+alternating_norms m zero q pos = absurd (omega arith)
+alternating_norms m (suc n) q pos =
+    whole_ends (res_ring m) n _ (λ t u p h e. ap (norm (ring m)) (mirror_alternating m (suc n) q u t h p e) ∙ norm_signed (res_ring m) t _ ∙ norm_conj (res_ring m) _)
     ∙ ap₂ (λ x y. (ring m).add x (doubled (ring m) true y))
-    (ap₂ (λ x y. (ring m).add (norm (ring m) x) (norm (ring m) y)) (alternating-first m (suc n) q) (alternating-middle m (suc n) q pos) ∙ norm-parts (res-ring m) (even (suc n)) (q 0).0 (q 0).1)
-    (sum-cong (res-ring m) n _ _ (λ i l. ap (norm (ring m)) (alternating-low m (suc n) q (suc i) (omega arith) (omega arith))))
-    ∙ sym (half-ends (res-ring m) n (normed m (suc n) q))
+    (ap₂ (λ x y. (ring m).add (norm (ring m) x) (norm (ring m) y)) (alternating_first m (suc n) q) (alternating_middle m (suc n) q pos) ∙ norm_parts (res_ring m) (even (suc n)) (q 0).0 (q 0).1)
+    (sum_cong (res_ring m) n _ _ (λ i l. ap (norm (ring m)) (alternating_low m (suc n) q (suc i) (omega arith) (omega arith))))
+    ∙ sym (half_ends (res_ring m) n (normed m (suc n) q))
 
 -- Pa has both kinds of mirrored lines
-mirrored-norms : (m c : ℕ) (q : ℕ → Value m) (b : Bool) → 0 < c → (cond b symmetric antisymmetric ≡ antisymmetric → (q 0 ≡ (field m).zer) × (q c ≡ (field m).zer))
-    → sum (ring m) (2 * c) (λ l. norm (ring m) (readLine m c (cond b symmetric antisymmetric) q l)) ≡ sum (ring m) (suc c) (λ w. doubled (ring m) (between c w) (normed m c q w))
-mirrored-norms m c q true pos e = symmetric-norms m c q pos
-mirrored-norms m c q false pos e = antisymmetric-norms m c q pos (e refl).0 (e refl).1
+mirrored_norms : (m c : ℕ) (q : ℕ → Value m) (b : Bool) → 0 < c → (cond b symmetric antisymmetric ≡ antisymmetric → (q 0 ≡ (field m).zer) × (q c ≡ (field m).zer))
+    → sum (ring m) (2 * c) (λ l. norm (ring m) (read_line m c (cond b symmetric antisymmetric) q l)) ≡ sum (ring m) (suc c) (λ w. doubled (ring m) (between c w) (normed m c q w))
+mirrored_norms m c q true pos e = symmetric_norms m c q pos
+mirrored_norms m c q false pos e = antisymmetric_norms m c q pos (e refl).0 (e refl).1
 
 -- ---- a line of a volume
 
-norm-over : (m : ℕ) (b : Bool) (x : Value m) → norm (ring m) (overI m b x) ≡ norm (ring m) x
-norm-over m false x = refl
-norm-over m true x = norm-over-i (res-ring m) x
+norm_over : (m : ℕ) (b : Bool) (x : Value m) → norm (ring m) (over_i m b x) ≡ norm (ring m) x
+norm_over m false x = refl
+norm_over m true x = norm_over_i (res_ring m) x
 
-whole-norms : (g : Group) (a : J) (m : ℕ) (v : List ℕ) (h k : ℕ) → 0 < a.2 → EmptyEnds g a m v h k
-    → sum (ring m) (2 * a.2) (λ l. norm (ring m) (wholeLine g a m v h k l)) ≡ sum (ring m) (layers g a) (λ w. doubled (ring m) (layerTwice false g a.2 w) (norm (ring m) (pairsIn g a m v w h k)))
-unfolding planes wholeLine
-whole-norms P1 a m v h k pos e = plain-norms m a.2 (λ w. pairsIn P1 a m v w h k)
-whole-norms P2₁ a m v h k pos e = alternating-norms m a.2 (λ w. pairsIn P2₁ a m v w h k) pos
-whole-norms Pm a m v h k pos e = symmetric-norms m a.2 (λ w. pairsIn Pm a m v w h k) pos
-whole-norms Pa a m v h k pos e = mirrored-norms m a.2 (λ w. pairsIn Pa a m v w h k) (even h) pos e
-whole-norms P2₁2₁2₁ a m v h k pos e = alternating-norms m a.2 (λ w. pairsIn P2₁2₁2₁ a m v w h k) pos
+whole_norms : (g : Group) (a : J) (m : ℕ) (v : List ℕ) (h k : ℕ) → 0 < a.2 → EmptyEnds g a m v h k
+    → sum (ring m) (2 * a.2) (λ l. norm (ring m) (whole_line g a m v h k l)) ≡ sum (ring m) (layers g a) (λ w. doubled (ring m) (layer_twice false g a.2 w) (norm (ring m) (pairs_in g a m v w h k)))
+unfolding planes whole_line
+whole_norms P1 a m v h k pos e = plain_norms m a.2 (λ w. pairs_in P1 a m v w h k)
+whole_norms P2₁ a m v h k pos e = alternating_norms m a.2 (λ w. pairs_in P2₁ a m v w h k) pos
+whole_norms Pm a m v h k pos e = symmetric_norms m a.2 (λ w. pairs_in Pm a m v w h k) pos
+whole_norms Pa a m v h k pos e = mirrored_norms m a.2 (λ w. pairs_in Pa a m v w h k) (even h) pos e
+whole_norms P2₁2₁2₁ a m v h k pos e = alternating_norms m a.2 (λ w. pairs_in P2₁2₁2₁ a m v w h k) pos
 
-line-norms : (g : Group) (a : J) (m : ℕ) (v : List ℕ) (h k : ℕ) → 0 < a.2 → EmptyEnds g a m v h k
-    → sum (ring m) (2 * a.2) (λ l. norm (ring m) (lineIn g a m v h k l)) ≡ sum (ring m) (layers g a) (λ w. doubled (ring m) (layerTwice false g a.2 w) (norm (ring m) (pairsIn g a m v w h k)))
-unfolding lineIn
-line-norms g a m v h k pos e = sum-cong (res-ring m) (2 * a.2) _ _ (λ l b. norm-over m (rotated g h) _) ∙ whole-norms g a m v h k pos e
+line_norms : (g : Group) (a : J) (m : ℕ) (v : List ℕ) (h k : ℕ) → 0 < a.2 → EmptyEnds g a m v h k
+    → sum (ring m) (2 * a.2) (λ l. norm (ring m) (line_in g a m v h k l)) ≡ sum (ring m) (layers g a) (λ w. doubled (ring m) (layer_twice false g a.2 w) (norm (ring m) (pairs_in g a m v w h k)))
+unfolding line_in
+line_norms g a m v h k pos e = sum_cong (res_ring m) (2 * a.2) _ _ (λ l b. norm_over m (rotated g h) _) ∙ whole_norms g a m v h k pos e
 
 -- ---- the pairs of a row
 
 -- once or twice in one way and in another
-doubled-swap : (m : ℕ) (b c : Bool) (x : Residue m) → doubled (ring m) b (doubled (ring m) c x) ≡ doubled (ring m) c (doubled (ring m) b x)
-doubled-swap m true true x = refl
-doubled-swap m true false x = refl
-doubled-swap m false c x = refl
+doubled_swap : (m : ℕ) (b c : Bool) (x : Residue m) → doubled (ring m) b (doubled (ring m) c x) ≡ doubled (ring m) c (doubled (ring m) b x)
+doubled_swap m true true x = refl
+doubled_swap m true false x = refl
+doubled_swap m false c x = refl
 
 module _ (m : ℕ) (v : List ℕ) where
-  pair-squares : (j n : ℕ) → sum (ring m) n (λ i. norm (ring m) (values_of m v (j + i))) ≡ squares m v (2 * j) (2 * n)
+  pair_squares : (j n : ℕ) → sum (ring m) n (λ i. norm (ring m) (values_of m v (j + i))) ≡ squares m v (2 * j) (2 * n)
   unfolding squares value_of at sum
-  pair-squares j n =
-      sum-cong (res-ring m) n _ _ (λ i l. ap₂ (ring m).add (along (squareAt m v) (2 * (j + i)) (2 * j + (i * 2 + 0)) (omega arith) ∙ sym ((res-ring m).zero-add _)) (along (squareAt m v) (2 * (j + i) + 1) (2 * j + (i * 2 + 1)) (omega arith)))
-      ∙ sym (sum-blocks (res-ring m) n 2 (λ t. squareAt m v (2 * j + t)))
-      ∙ along (λ k. sum (ring m) k (λ t. squareAt m v (2 * j + t))) (n * 2) (2 * n) (omega arith)
+  pair_squares j n =
+      sum_cong (res_ring m) n _ _ (λ i l. ap₂ (ring m).add (along (square_at m v) (2 * (j + i)) (2 * j + (i * 2 + 0)) (omega arith) ∙ sym ((res_ring m).zero_add _)) (along (square_at m v) (2 * (j + i) + 1) (2 * j + (i * 2 + 1)) (omega arith)))
+      ∙ sym (sum_blocks (res_ring m) n 2 (λ t. square_at m v (2 * j + t)))
+      ∙ along (λ k. sum (ring m) k (λ t. square_at m v (2 * j + t))) (n * 2) (2 * n) (omega arith)
 
-  one-pair : (j : ℕ) → norm (ring m) (values_of m v j) ≡ squares m v (2 * j) 2
+  one_pair : (j : ℕ) → norm (ring m) (values_of m v j) ≡ squares m v (2 * j) 2
   unfolding sum
-  one-pair j = along (λ j. norm (ring m) (values_of m v j)) j (j + 0) (omega arith) ∙ sym ((res-ring m).zero-add _) ∙ pair-squares j 1
+  one_pair j = along (λ j. norm (ring m) (values_of m v j)) j (j + 0) (omega arith) ∙ sym ((res_ring m).zero_add _) ∙ pair_squares j 1
 
-row-norms : (g : Group) (a : J) (m : ℕ) (v : List ℕ) (w h : ℕ) → 0 < a.1 → sum (ring m) (columns g a) (λ k. doubled (ring m) (between a.1 k) (norm (ring m) (pairsIn g a m v w h k))) ≡ rowPower g a m v false w h
-unfolding rowPower
-row-norms g a m v w h pos =
-    ends-and-between (res-ring m) a.1 (λ k. norm (ring m) (pairsIn g a m v w h k)) pos
+row_norms : (g : Group) (a : J) (m : ℕ) (v : List ℕ) (w h : ℕ) → 0 < a.1 → sum (ring m) (columns g a) (λ k. doubled (ring m) (between a.1 k) (norm (ring m) (pairs_in g a m v w h k))) ≡ row_power g a m v false w h
+unfolding row_power
+row_norms g a m v w h pos =
+    ends_and_between (res_ring m) a.1 (λ k. norm (ring m) (pairs_in g a m v w h k)) pos
     ∙ ap₂ (λ x y. (ring m).add x (doubled (ring m) true y))
-    (ap₂ (ring m).add (one-pair m v (pairPlace g a w h 0)) (one-pair m v (pairPlace g a w h a.1)))
-    (sum-cong (res-ring m) (a.1 - 1) _ _ (λ i l. along (λ j. norm (ring m) (values_of m v j)) (pairPlace g a w h (suc i)) (pairPlace g a w h 1 + i) (omega arith)) ∙ pair-squares m v (pairPlace g a w h 1) (a.1 - 1))
+    (ap₂ (ring m).add (one_pair m v (pair_place g a w h 0)) (one_pair m v (pair_place g a w h a.1)))
+    (sum_cong (res_ring m) (a.1 - 1) _ _ (λ i l. along (λ j. norm (ring m) (values_of m v j)) (pair_place g a w h (suc i)) (pair_place g a w h 1 + i) (omega arith)) ∙ pair_squares m v (pair_place g a w h 1) (a.1 - 1))
 
 -- ---- the whole cell
 
 module _ (g : Group) (a : J) (m : ℕ) (v : List ℕ) where
   -- the column k: over all h and l, of the cell and of its stored lines
   abbrev column : ℕ → Residue m
-  column k = sum (ring m) (2 * a.0) (λ h. sum (ring m) (2 * a.2) (λ l. norm (ring m) (factorsIn g a m v h k l)))
+  column k = sum (ring m) (2 * a.0) (λ h. sum (ring m) (2 * a.2) (λ l. norm (ring m) (factors_in g a m v h k l)))
 
-  abbrev storedColumn : ℕ → Residue m
-  storedColumn k = sum (ring m) (2 * a.0) (λ h. sum (ring m) (2 * a.2) (λ l. norm (ring m) (lineIn g a m v h k l)))
+  abbrev stored_column : ℕ → Residue m
+  stored_column k = sum (ring m) (2 * a.0) (λ h. sum (ring m) (2 * a.2) (λ l. norm (ring m) (line_in g a m v h k l)))
 
-  low_column : (k : ℕ) → k ≤ a.1 → column k ≡ storedColumn k
-  unfolding factorsIn
+  low_column : (k : ℕ) → k ≤ a.1 → column k ≡ stored_column k
+  unfolding factors_in
   low_column k l = rw (le-leb k a.1 l)
 
-  high-column : (t u : ℕ) → 0 < t → a.1 < u → u + t ≡ 2 * a.1 → column u ≡ storedColumn t
-  unfolding factorsIn flip
-  high-column t u p h e =
+  high_column : (t u : ℕ) → 0 < t → a.1 < u → u + t ≡ 2 * a.1 → column u ≡ stored_column t
+  unfolding factors_in flip
+  high_column t u p h e =
       rw (lt-leb u a.1 h)
-      (sum-cong (res-ring m) (2 * a.0) _ _ (λ x lx. sum-cong (res-ring m) (2 * a.2) _ _ (λ l ll. norm-conj (res-ring m) _ ∙ ap (λ k. norm (ring m) (lineIn g a m v (negI a.0 x) k (negI a.2 l))) (neg-pos a.1 u (omega arith) (omega arith) ∙ back)) ∙ sum-flip (res-ring m) true a.2 (λ l. norm (ring m) (lineIn g a m v (negI a.0 x) t l)))
-      ∙ sum-flip (res-ring m) true a.0 (λ x. sum (ring m) (2 * a.2) (λ l. norm (ring m) (lineIn g a m v x t l))))
+      (sum_cong (res_ring m) (2 * a.0) _ _ (λ x lx. sum_cong (res_ring m) (2 * a.2) _ _ (λ l ll. norm_conj (res_ring m) _ ∙ ap (λ k. norm (ring m) (line_in g a m v (neg_i a.0 x) k (neg_i a.2 l))) (neg_pos a.1 u (omega arith) (omega arith) ∙ back)) ∙ sum_flip (res_ring m) true a.2 (λ l. norm (ring m) (line_in g a m v (neg_i a.0 x) t l)))
+      ∙ sum_flip (res_ring m) true a.0 (λ x. sum (ring m) (2 * a.2) (λ l. norm (ring m) (line_in g a m v x t l))))
     where
       back : 2 * a.1 - u ≡ t
       back = omega arith
 
   -- what a pair of the row w, h counts: its column, then its layer, once or twice
   abbrev counted : ℕ → ℕ → ℕ → Residue m
-  counted k h w = doubled (ring m) (between a.1 k) (doubled (ring m) (layerTwice false g a.2 w) (norm (ring m) (pairsIn g a m v w h k)))
+  counted k h w = doubled (ring m) (between a.1 k) (doubled (ring m) (layer_twice false g a.2 w) (norm (ring m) (pairs_in g a m v w h k)))
 
-  column-pairs : (k : ℕ) → 0 < a.2 → ((h : ℕ) → h < 2 * a.0 → EmptyEnds g a m v h k) → doubled (ring m) (between a.1 k) (storedColumn k) ≡ sum (ring m) (2 * a.0) (λ h. sum (ring m) (layers g a) (counted k h))
-  column-pairs k pos ends =
-      sym (doubled-sum (res-ring m) (between a.1 k) (2 * a.0) _)
-      ∙ sum-cong (res-ring m) (2 * a.0) _ _ (λ h l. ap (doubled (ring m) (between a.1 k)) (line-norms g a m v h k pos (ends h l)) ∙ sym (doubled-sum (res-ring m) (between a.1 k) (layers g a) _))
+  column_pairs : (k : ℕ) → 0 < a.2 → ((h : ℕ) → h < 2 * a.0 → EmptyEnds g a m v h k) → doubled (ring m) (between a.1 k) (stored_column k) ≡ sum (ring m) (2 * a.0) (λ h. sum (ring m) (layers g a) (counted k h))
+  column_pairs k pos ends =
+      sym (doubled_sum (res_ring m) (between a.1 k) (2 * a.0) _)
+      ∙ sum_cong (res_ring m) (2 * a.0) _ _ (λ h l. ap (doubled (ring m) (between a.1 k)) (line_norms g a m v h k pos (ends h l)) ∙ sym (doubled_sum (res_ring m) (between a.1 k) (layers g a) _))
 
-  layer-pairs : (w : ℕ) → 0 < a.1 → sum (ring m) (columns g a) (λ k. sum (ring m) (2 * a.0) (λ h. counted k h w)) ≡ layerPower g a m v false w
-  unfolding layerPower
-  layer-pairs w pos =
-      sum-swap (res-ring m) (columns g a) (2 * a.0) (λ k h. counted k h w)
-      ∙ sum-cong (res-ring m) (2 * a.0) _ _ (λ h l.
-      sum-cong (res-ring m) (columns g a) _ _ (λ k lk. doubled-swap m (between a.1 k) (layerTwice false g a.2 w) _)
-      ∙ doubled-sum (res-ring m) (layerTwice false g a.2 w) (columns g a) _
-      ∙ ap (doubled (ring m) (layerTwice false g a.2 w)) (row-norms g a m v w h pos))
-      ∙ doubled-sum (res-ring m) (layerTwice false g a.2 w) (2 * a.0) _
+  layer_pairs : (w : ℕ) → 0 < a.1 → sum (ring m) (columns g a) (λ k. sum (ring m) (2 * a.0) (λ h. counted k h w)) ≡ layer_power g a m v false w
+  unfolding layer_power
+  layer_pairs w pos =
+      sum_swap (res_ring m) (columns g a) (2 * a.0) (λ k h. counted k h w)
+      ∙ sum_cong (res_ring m) (2 * a.0) _ _ (λ h l.
+      sum_cong (res_ring m) (columns g a) _ _ (λ k lk. doubled_swap m (between a.1 k) (layer_twice false g a.2 w) _)
+      ∙ doubled_sum (res_ring m) (layer_twice false g a.2 w) (columns g a) _
+      ∙ ap (doubled (ring m) (layer_twice false g a.2 w)) (row_norms g a m v w h pos))
+      ∙ doubled_sum (res_ring m) (layer_twice false g a.2 w) (2 * a.0) _
 
-  stored-norms : Positive a → ((h k : ℕ) → h < rows g a → k < columns g a → EmptyEnds g a m v h k) → sum (ring m) (2 * a.1) column ≡ storedPower g a m v false
-  unfolding storedPower
-  stored-norms pos ends =
-      sum-mirror (res-ring m) a.1 column pos.1 (λ t u p h e. high-column t u p h e ∙ sym (low_column t (omega arith)))
-      ∙ sum-cong (res-ring m) (columns g a) _ _ (λ k l. ap (doubled (ring m) (between a.1 k)) (low_column k (omega arith)) ∙ column-pairs k pos.2 (λ h lh. ends h k lh l))
-      ∙ sum-rotate m (columns g a) (2 * a.0) (layers g a) counted
-      ∙ sum-cong (res-ring m) (layers g a) _ _ (λ w l. layer-pairs w pos.1)
+  stored_norms : Positive a → ((h k : ℕ) → h < rows g a → k < columns g a → EmptyEnds g a m v h k) → sum (ring m) (2 * a.1) column ≡ stored_power g a m v false
+  unfolding stored_power
+  stored_norms pos ends =
+      sum_mirror (res_ring m) a.1 column pos.1 (λ t u p h e. high_column t u p h e ∙ sym (low_column t (omega arith)))
+      ∙ sum_cong (res_ring m) (columns g a) _ _ (λ k l. ap (doubled (ring m) (between a.1 k)) (low_column k (omega arith)) ∙ column_pairs k pos.2 (λ h lh. ends h k lh l))
+      ∙ sum_rotate m (columns g a) (2 * a.0) (layers g a) counted
+      ∙ sum_cong (res_ring m) (layers g a) _ _ (λ w l. layer_pairs w pos.1)
 
 -- the power of consistent factors
-pub factor-stored : (g : Group) (a : J) (m : ℕ) (v : List ℕ) → Positive a → length v ≡ volumeLength g a → Below (prime m) v → consistentFactors g a m v ≡ true → factorPower g a m v ≡ (storedPower g a m v false).val
-unfolding factorPower
-factor-stored g a m v pos len small c =
+pub factor_stored : (g : Group) (a : J) (m : ℕ) (v : List ℕ) → Positive a → length v ≡ volume_length g a → Below (prime m) v → consistent_factors g a m v ≡ true → factor_power g a m v ≡ (stored_power g a m v false).val
+unfolding factor_power
+factor_stored g a m v pos len small c =
     ap (λ x. x.val)
-    (real-cell m a _
-    ∙ sum-cong (res-ring m) (2 * a.0) _ _ (λ h lh. sum-cong (res-ring m) (2 * a.1) _ _ (λ k lk. sum-cong (res-ring m) (2 * a.2) _ _ (λ l ll. norm-conj-product (res-ring m) _)))
-    ∙ sum-swap (res-ring m) (2 * a.0) (2 * a.1) (λ h k. sum (ring m) (2 * a.2) (λ l. norm (ring m) (factorsIn g a m v h k l)))
-    ∙ stored-norms g a m v pos (λ h k lh lk. subst (λ u. EmptyEnds g a m u h k) (consistent-read g a pos m v len small c).1 (empty-ends g a pos.2 m (factorsIn g a m v) h k lh lk)))
+    (real_cell m a _
+    ∙ sum_cong (res_ring m) (2 * a.0) _ _ (λ h lh. sum_cong (res_ring m) (2 * a.1) _ _ (λ k lk. sum_cong (res_ring m) (2 * a.2) _ _ (λ l ll. norm_conj_product (res_ring m) _)))
+    ∙ sum_swap (res_ring m) (2 * a.0) (2 * a.1) (λ h k. sum (ring m) (2 * a.2) (λ l. norm (ring m) (factors_in g a m v h k l)))
+    ∙ stored_norms g a m v pos (λ h k lh lk. subst (λ u. EmptyEnds g a m u h k) (consistent_read g a pos m v len small c).1 (empty_ends_lem g a pos.2 m (factors_in g a m v) h k lh lk)))

@@ -7,11 +7,11 @@ ghost use Rattle.numbers.specs.Value.{prime, IsModulus};
 ghost use Rattle.numbers.specs.Bounds.{res};
 ghost use Rattle.slices.specs.Pairs.{Below};
 ghost use Rattle.cell.specs.Volume.{layers};
-ghost use Rattle.cell.specs.Consistency.{consistentFactors};
-ghost use Rattle.cell.specs.Operations.{cellGroup, cellHalves, Sizes};
+ghost use Rattle.cell.specs.Consistency.{consistent_factors};
+ghost use Rattle.cell.specs.Operations.{cell_group, cell_halves, Sizes};
 ghost use Rattle.cell.specs.TestSteps.{IsVolume};
-ghost use Rattle.power.specs.Power.{mapPower, factorPower};
-ghost use Rattle.power.specs.PowerSteps.{layerTwice, squares, rowPower, layerPower, storedPower};
+ghost use Rattle.power.specs.Power.{map_power, factor_power};
+ghost use Rattle.power.specs.PowerSteps.{layer_twice, squares, row_power, layer_power, stored_power};
 
 use cell::operations::UnitCell;
 use cell::places;
@@ -19,7 +19,7 @@ use cell::places;
 // The sum of the squares of a map of residues.
 pub fn map_power(m: u32, cell: UnitCell, volume: &[u32]) -> u32
     requires { IsVolume cell volume.now × IsModulus m × Below (prime m) volume.now }
-    ensures { result ≡ mapPower (cellGroup cell) (cellHalves cell) m volume.now }
+    ensures { result ≡ map_power (cell_group cell) (cell_halves cell) m volume.now }
 {
     stored_power(m, cell, true, volume)
 }
@@ -27,8 +27,8 @@ pub fn map_power(m: u32, cell: UnitCell, volume: &[u32]) -> u32
 // The sum of F × conj F of consistent factors: the pairs that are no part of a line are zero, and count for nothing.
 pub fn factor_power(m: u32, cell: UnitCell, volume: &[u32]) -> u32
     requires volume { IsVolume cell volume.now × IsModulus m × Below (prime m) volume.now }
-    requires volume_value { consistentFactors (cellGroup cell) (cellHalves cell) m volume.now ≡ true }
-    ensures { result ≡ factorPower (cellGroup cell) (cellHalves cell) m volume.now }
+    requires volume_value { consistent_factors (cell_group cell) (cell_halves cell) m volume.now ≡ true }
+    ensures { result ≡ factor_power (cell_group cell) (cell_halves cell) m volume.now }
 {
     stored_power(m, cell, false, volume)
 }
@@ -52,8 +52,8 @@ fn square_sum(volume: &[u32], start: usize, count: usize) -> u64
 // A row of a map: its N2 numbers, without the two zeros.
 fn map_row(m: u32, cell: UnitCell, volume: &[u32], w: u32, h: u32) -> u32
     requires volume { IsVolume cell volume.now × IsModulus m × Below (prime m) volume.now }
-    requires w_bound { (w < layers (cellGroup cell) (cellHalves cell)) × (h < cell.n1) }
-    ensures { result ≡ (rowPower (cellGroup cell) (cellHalves cell) m volume.now true w h).val }
+    requires w_bound { (w < layers (cell_group cell) (cell_halves cell)) × (h < cell.n1) }
+    ensures { result ≡ (row_power (cell_group cell) (cell_halves cell) m volume.now true w h).val }
 {
     let start = 2 * places::pair_place(cell, w, h, 0);
     numbers::reduce_below(m, square_sum(volume, start, cell.n2 as usize))
@@ -62,8 +62,8 @@ fn map_row(m: u32, cell: UnitCell, volume: &[u32], w: u32, h: u32) -> u32
 // A row of factors: the pairs 0 and B once, those between, which stand for k and -k, twice.
 fn factor_row(m: u32, cell: UnitCell, volume: &[u32], w: u32, h: u32) -> u32
     requires volume { IsVolume cell volume.now × IsModulus m × Below (prime m) volume.now }
-    requires w_bound { (w < layers (cellGroup cell) (cellHalves cell)) × (h < cell.n1) }
-    ensures { result ≡ (rowPower (cellGroup cell) (cellHalves cell) m volume.now false w h).val }
+    requires w_bound { (w < layers (cell_group cell) (cell_halves cell)) × (h < cell.n1) }
+    ensures { result ≡ (row_power (cell_group cell) (cell_halves cell) m volume.now false w h).val }
 {
     let first = square_sum(volume, 2 * places::pair_place(cell, w, h, 0), 2);
     let last = square_sum(volume, 2 * places::pair_place(cell, w, h, cell.n2 / 2), 2);
@@ -78,7 +78,7 @@ fn factor_row(m: u32, cell: UnitCell, volume: &[u32], w: u32, h: u32) -> u32
 // Layer w stands twice in the cell.
 fn layer_twice(cell: UnitCell, density: bool, w: u32) -> bool
     requires { Sizes cell }
-    ensures { result ≡ layerTwice density (cellGroup cell) (cell.n3 / 2) w }
+    ensures { result ≡ layer_twice density (cell_group cell) (cell.n3 / 2) w }
 {
     let kind = places::line_kind(cell.group, 0);
     let inner = !places::is_end(cell.n3, w);
@@ -94,8 +94,8 @@ fn layer_twice(cell: UnitCell, density: bool, w: u32) -> bool
 // Layer w: its rows, as often as they stand in the cell.
 fn layer_power(m: u32, cell: UnitCell, density: bool, volume: &[u32], w: u32) -> u32
     requires volume { IsVolume cell volume.now × IsModulus m × Below (prime m) volume.now }
-    requires w_bound { w < layers (cellGroup cell) (cellHalves cell) }
-    ensures { result ≡ (layerPower (cellGroup cell) (cellHalves cell) m volume.now density w).val }
+    requires w_bound { w < layers (cell_group cell) (cell_halves cell) }
+    ensures { result ≡ (layer_power (cell_group cell) (cell_halves cell) m volume.now density w).val }
 {
     let mut total = 0;
     let mut h = 0;
@@ -114,8 +114,8 @@ fn layer_power(m: u32, cell: UnitCell, density: bool, volume: &[u32], w: u32) ->
 // A row of the one or the other.
 fn row_power(m: u32, cell: UnitCell, density: bool, volume: &[u32], w: u32, h: u32) -> u32
     requires volume { IsVolume cell volume.now × IsModulus m × Below (prime m) volume.now }
-    requires w_bound { (w < layers (cellGroup cell) (cellHalves cell)) × (h < cell.n1) }
-    ensures { result ≡ (rowPower (cellGroup cell) (cellHalves cell) m volume.now density w h).val }
+    requires w_bound { (w < layers (cell_group cell) (cell_halves cell)) × (h < cell.n1) }
+    ensures { result ≡ (row_power (cell_group cell) (cell_halves cell) m volume.now density w h).val }
 {
     if density {
         map_row(m, cell, volume, w, h)
@@ -127,7 +127,7 @@ fn row_power(m: u32, cell: UnitCell, density: bool, volume: &[u32], w: u32, h: u
 // All layers.
 fn stored_power(m: u32, cell: UnitCell, density: bool, volume: &[u32]) -> u32
     requires { IsVolume cell volume.now × IsModulus m × Below (prime m) volume.now }
-    ensures { result ≡ (storedPower (cellGroup cell) (cellHalves cell) m volume.now density).val }
+    ensures { result ≡ (stored_power (cell_group cell) (cell_halves cell) m volume.now density).val }
 {
     let count = places::layer_count(cell);
     let mut total = 0;

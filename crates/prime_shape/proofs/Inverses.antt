@@ -9,7 +9,7 @@ use Rattle.algebra.specs.ring.Ring.{Res, residue, residues}
 use Rattle.algebra.specs.ring.RingLaws.{CRing}
 use Rattle.algebra.proofs.ring.Laws.{along}
 use Rattle.algebra.proofs.ring.Solver.{ring, quote, linear}
-use Rattle.algebra.proofs.ring.ResidueRing.{val_path, val-below, residue-val, residue-add, residue-mul, residue-ring}
+use Rattle.algebra.proofs.ring.ResidueRing.{val_path, val_below, residue_val, residue_add, residue_mul, residue_ring}
 use Rattle.prime_shape.specs.Prime.{Prime}
 
 module _ {p : ℕ} (prime : Prime p) where
@@ -19,7 +19,7 @@ module _ {p : ℕ} (prime : Prime p) where
   infixl 70 ◌⊠◌
   infix 75 ⊟◌
   pub ring_of : CRing (residues p)
-  ring_of = residue-ring p (N.le_of_lt prime.above)
+  ring_of = residue_ring p (N.le_of_lt prime.above)
 
   abbrev Inverse : Res p → Type 0
   Inverse x = (u : Res p) × (u ⊠ x ≡ 𝟏)
@@ -29,13 +29,13 @@ module _ {p : ℕ} (prime : Prime p) where
 
   whole : (t : ℕ) → residue p t ⊠ residue p (p / t) ⊞ residue p (p % t) ≡ 𝟎
   unfolding residues residue
-  whole t = sym (residue-add p (t * (p / t)) (p % t) ∙ ap (λ y. y ⊞ residue p (p % t)) (residue-mul p t (p / t)))
+  whole t = sym (residue_add p (t * (p / t)) (p % t) ∙ ap (λ y. y ⊞ residue p (p % t)) (residue_mul p t (p / t)))
       ∙ along (residue p) (t * (p / t) + p % t) p (N.div-add-mod p t) ∙ val_path (N.mod_self p ∙ sym (N.zero-mod p))
 
   -- from the inverses of all smaller numbers
   descend : (t : ℕ) → 0 < t → t < p → ((s : ℕ) → s < t → 0 < s → s < p → Inverse (residue p s)) → Dec (t ≡ 1) → Dec (p % t ≡ 0) → Inverse (residue p t)
   unfolding residues
-  descend t o l smaller (yes e) d = (residue p 1, ring_of.one-mul (residue p t) ∙ ap (residue p) e)
+  descend t o l smaller (yes e) d = (residue p 1, ring_of.one_mul (residue p t) ∙ ap (residue p) e)
   descend t o l smaller (no e) (yes z) = absurd (prime.only t (omega arith) l z)
   descend t o l smaller (no e) (no z) = next (smaller (p % t) (N.mod-lt p o) (omega arith) (omega (arith, N.mod-lt p o)))
     where
@@ -46,8 +46,8 @@ module _ {p : ℕ} (prime : Prime p) where
   go zero t h o l = absurd (omega arith)
   go (suc n) t h o l = descend t o l (λ s lt. go n s (N.le_of_suc-le-suc (N.lt_of_lt_of_le lt h))) (ℕ_discrete t 1) (ℕ_discrete (p % t) 0)
 
-  pub inverse-of : (x : Res p) → (x.val ≡ 0 → ⊥) → Inverse x
-  inverse-of x n = move (go x.val x.val (N.le_refl x.val) (omega arith) (val-below p (N.le_of_lt prime.above) x))
+  pub inverse_of_lem : (x : Res p) → (x.val ≡ 0 → ⊥) → Inverse x
+  inverse_of_lem x n = move (go x.val x.val (N.le_refl x.val) (omega arith) (val_below p (N.le_of_lt prime.above) x))
     where
       move : Inverse (residue p x.val) → Inverse x
-      move (u, e) = (u, ap (λ y. u ⊠ y) (sym (residue-val p x)) ∙ e)
+      move (u, e) = (u, ap (λ y. u ⊠ y) (sym (residue_val p x)) ∙ e)

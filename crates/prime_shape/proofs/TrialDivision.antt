@@ -32,8 +32,8 @@ module _ (p s : ℕ) (high : p < s * s) (above : 1 < p) (test : T (undivided p s
       go (yes h) = omega (arith, e, high, N.mul-le-mul (N.le_of_lt g) (N.le_of_lt h))
       go (no h) = small (suc (suc q)) (omega arith) (omega arith) (ap (λ y. y % suc (suc q)) e ∙ N.mul-mod_left d (suc (suc q)))
 
-  pub prime-by : Prime p
-  prime-by = record { above = above; only = only }
+  pub prime_by : Prime p
+  prime_by = record { above = above; only = only }
     where
       only : (d : ℕ) → 1 < d → d < p → p % d ≡ 0 → ⊥
       only d h l e = go (dec_lt s d)
@@ -45,16 +45,16 @@ module _ (p s : ℕ) (high : p < s * s) (above : 1 < p) (test : T (undivided p s
           go (yes g) = large d (p / d) g l whole
           go (no g) = small d h (omega arith) e
 
-tested-86399 : T (undivided 86399 294)
+tested_86399 : T (undivided 86399 294)
 unfolding undivided below
-tested-86399 = tt
+tested_86399 = tt
 
-tested-302399 : T (undivided 302399 550)
+tested_302399 : T (undivided 302399 550)
 unfolding undivided below
-tested-302399 = tt
+tested_302399 = tt
 
-pub prime-86399 : Prime 86399
-prime-86399 = prime-by 86399 294 (omega arith) (omega arith) tested-86399
+pub prime_86399 : Prime 86399
+prime_86399 = prime_by 86399 294 (omega arith) (omega arith) tested_86399
 
-pub prime-302399 : Prime 302399
-prime-302399 = prime-by 302399 550 (omega arith) (omega arith) tested-302399
+pub prime_302399 : Prime 302399
+prime_302399 = prime_by 302399 550 (omega arith) (omega arith) tested_302399

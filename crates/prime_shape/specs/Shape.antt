@@ -59,7 +59,7 @@ module _ (p : ℕ) where
 
 -- The shape. That a is the least is no part of it: the transform facts hold for every a that suits.
 pub record Shape (p c a : ℕ) (r : Value p) : Type 0 where
-  pub is-prime : Prime p
+  pub is_prime : Prime p
   pub next : p + 1 ≡ 2880 * c
   pub candidate : Candidate p c a r
   pub suits : Suits p r

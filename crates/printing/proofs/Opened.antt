@@ -8,74 +8,74 @@ use lib.Dec.{eqb}
 use borrow.Author.Tests.{le-ltb}
 use Rattle.refusals.specs.Refusals.{first}
 use Rattle.refusals.proofs.Tests.{pass, none}
-use Rattle.lengths.specs.Lengths.{scratchLength}
+use Rattle.lengths.specs.Lengths.{scratch_length}
 use Rattle.job.specs.declared.Job.{Job}
-use Rattle.job.specs.Job.{needed, collecting, mapHeld, withState, Opening, opened, done, Outcome, synthesised, synthesisStep}
-use Rattle.job.specs.TestSteps.{synthesisTests}
-use Rattle.factor_file.specs.File.{modulusIn, headerIn, fileStep}
-use Rattle.model.specs.Model.{Model, synthesis, inState, mapVolume, modelVolume, modelJob, begun, notBegun, modelFile}
-use Rattle.model.proofs.Sound.{LawfulModel, holds-map}
-use Rattle.model.proofs.OneCall.{result, accepted-call}
+use Rattle.job.specs.Job.{needed, collecting, map_held, with_state, Opening, opened, done, Outcome, synthesised, synthesis_step}
+use Rattle.job.specs.TestSteps.{synthesis_tests}
+use Rattle.factor_file.specs.File.{modulus_in, header_in, file_step}
+use Rattle.model.specs.Model.{Model, synthesis, in_state, map_volume, model_volume, model_job, begun, not_begun, model_file}
+use Rattle.model.proofs.Sound.{LawfulModel, holds_map}
+use Rattle.model.proofs.OneCall.{result, accepted_call}
 use Rattle.demands.specs.Demands.{reading, Started, Faultless}
-use Rattle.job.proofs.Outcomes.{synthesis-accepted}
-use Rattle.demands.proofs.Starts.{accepted-start, started-sound, faultless-starts}
-use Rattle.demands.proofs.AcceptedRecords.{start-fed}
-use Rattle.printing.specs.Text.{mapText, refusalText, fileLimit, lentLimit, openedText, printed}
+use Rattle.job.proofs.Outcomes.{synthesis_accepted}
+use Rattle.demands.proofs.Starts.{accepted_start, started_sound, faultless_starts}
+use Rattle.demands.proofs.AcceptedRecords.{start_fed}
+use Rattle.printing.specs.Text.{map_text, refusal_text, file_limit, lent_limit, opened_text, printed}
 use Rattle.printing.specs.PrintedModel.{WithinLimits, PrintsModel}
-use Rattle.printing.proofs.Synthesised.{scratch, scratch-length, synthesis-makes}
+use Rattle.printing.proofs.Synthesised.{scratch, scratch_length_lem, synthesis_makes}
 
 -- ---- of a sound model that collects
 
 module _ {μ : ℕ} (m : Model μ) (sound : LawfulModel m) (state : m.state ≡ collecting) where
-  synthesis-done : (synthesisStep (modelJob m) (modelVolume m) scratch).outcome ≡ result done (inState m mapHeld)
-  synthesis-done =
-      let long : scratchLength ≤ length scratch = omega (arith, scratch-length) in
-      accepted-call m sound (synthesis scratch) (pass 23 _ (ap (λ s. eqb s mapHeld) state) (pass 13 _ (le-ltb (length scratch) scratchLength long) none))
+  synthesis_done : (synthesis_step (model_job m) (model_volume m) scratch).outcome ≡ result done (in_state m map_held)
+  synthesis_done =
+      let long : scratch_length ≤ length scratch = omega (arith, scratch_length_lem) in
+      accepted_call m sound (synthesis scratch) (pass 23 _ (ap (λ s. eqb s map_held) state) (pass 13 _ (le-ltb (length scratch) scratch_length long) none))
 
-  pub model-synthesis : 0 ≡ first (synthesisTests (modelJob m) (modelVolume m) scratchLength)
-  model-synthesis = subst (λ n. 0 ≡ first (synthesisTests (modelJob m) (modelVolume m) n)) scratch-length (synthesis-accepted (modelJob m) (modelVolume m) scratch (ap (λ (o : Outcome). o.answer) synthesis-done))
+  pub model_synthesis : 0 ≡ first (synthesis_tests (model_job m) (model_volume m) scratch_length)
+  model_synthesis = subst (λ n. 0 ≡ first (synthesis_tests (model_job m) (model_volume m) n)) scratch_length_lem (synthesis_accepted (model_job m) (model_volume m) scratch (ap (λ (o : Outcome). o.answer) synthesis_done))
 
-  pub model-map : synthesised (modelJob m) (modelVolume m) ≡ mapVolume m
-  model-map = ap (λ (o : Outcome). o.volume) (sym (synthesis-makes (modelJob m) (modelVolume m) model-synthesis) ∙ synthesis-done) ∙ holds-map (inState m mapHeld) refl
+  pub model_map : synthesised (model_job m) (model_volume m) ≡ map_volume m
+  model_map = ap (λ (o : Outcome). o.volume) (sym (synthesis_makes (model_job m) (model_volume m) model_synthesis) ∙ synthesis_done) ∙ holds_map (in_state m map_held) refl
 
 -- ---- of a file
 
-module _ (file v : List ℕ) (j : Job) (w : List ℕ) (m : Model (modulusIn file)) (started : Started (reading file v refl) j w m) where
-  pub file-lawful : LawfulModel m
-  file-lawful = (started-sound (reading file v refl) j w m started).0
+module _ (file v : List ℕ) (j : Job) (w : List ℕ) (m : Model (modulus_in file)) (started : Started (reading file v refl) j w m) where
+  pub file_lawful : LawfulModel m
+  file_lawful = (started_sound (reading file v refl) j w m started).0
 
-  pub file-collects : m.state ≡ collecting
-  file-collects = (start-fed (reading file v refl) j w m started).same-state
+  pub file_collects : m.state ≡ collecting
+  file_collects = (start_fed (reading file v refl) j w m started).same_state
 
-pub opened-synthesis : (file v : List ℕ) (j : Job) (w : List ℕ) → fileStep file v ≡ record { answer = opened j; volume = w } → 0 ≡ first (synthesisTests j w scratchLength)
-opened-synthesis file v j w e =
-    let (m, b, sound, ej, ew) = accepted-start {μ = modulusIn file} (reading file v refl) j w e in
-    subst₂ (λ (j : Job) (w : List ℕ). 0 ≡ first (synthesisTests j w scratchLength)) (sym ej) (sym ew) (model-synthesis m sound (file-collects file v j w m (record { gives = e; begins = b })))
+pub opened_synthesis : (file v : List ℕ) (j : Job) (w : List ℕ) → file_step file v ≡ record { answer = opened j; volume = w } → 0 ≡ first (synthesis_tests j w scratch_length)
+opened_synthesis file v j w e =
+    let (m, b, sound, ej, ew) = accepted_start {μ = modulus_in file} (reading file v refl) j w e in
+    subst₂ (λ (j : Job) (w : List ℕ). 0 ≡ first (synthesis_tests j w scratch_length)) (sym ej) (sym ew) (model_synthesis m sound (file_collects file v j w m (record { gives = e; begins = b })))
 
 -- ---- the printer's text
 
 module _ (file : List ℕ) (limits : WithinLimits file) where
   abbrev lent : List ℕ
-  lent = replicate (needed (headerIn file)) 0
+  lent = replicate (needed (header_in file)) 0
 
-  without-fault : Faultless {μ = modulusIn file} (reading file lent refl)
-  without-fault = record { long = length-replicate (needed (headerIn file)) 0; map = λ e. absurd (omega (arith, e)) }
+  without_fault : Faultless {μ = modulus_in file} (reading file lent refl)
+  without_fault = record { long = length-replicate (needed (header_in file)) 0; map = λ e. absurd (omega (arith, e)) }
 
-  is-printed : printed file ≡ openedText (fileStep file lent)
+  is_printed : printed file ≡ opened_text (file_step file lent)
   unfolding printed
-  is-printed = let e : min (needed (headerIn file)) lentLimit ≡ needed (headerIn file) = omega (arith, limits.small) in
-      rw (le-ltb fileLimit (length file) limits.short) (ap (λ n. openedText (fileStep file (replicate n 0))) e)
+  is_printed = let e : min (needed (header_in file)) lent_limit ≡ needed (header_in file) = omega (arith, limits.small) in
+      rw (le-ltb file_limit (length file) limits.short) (ap (λ n. opened_text (file_step file (replicate n 0))) e)
 
-  prints : (m : Model (modulusIn file)) → modelFile (modulusIn file) file ≡ begun m → printed file ≡ mapText (modelJob (inState m mapHeld)) (mapVolume m)
+  prints : (m : Model (modulus_in file)) → model_file (modulus_in file) file ≡ begun m → printed file ≡ map_text (model_job (in_state m map_held)) (map_volume m)
   prints m b =
-      let e = faultless-starts.accepts (modulusIn file) (reading file lent refl) m without-fault b in
-      let started : Started (reading file lent refl) (modelJob m) (modelVolume m) m = record { gives = e; begins = b } in
-      is-printed ∙ ap openedText e
-      ∙ ap (mapText (withState (modelJob m) mapHeld)) (model-map m (file-lawful file lent (modelJob m) (modelVolume m) m started) (file-collects file lent (modelJob m) (modelVolume m) m started))
+      let e = faultless_starts.accepts (modulus_in file) (reading file lent refl) m without_fault b in
+      let started : Started (reading file lent refl) (model_job m) (model_volume m) m = record { gives = e; begins = b } in
+      is_printed ∙ ap opened_text e
+      ∙ ap (map_text (with_state (model_job m) map_held)) (model_map m (file_lawful file lent (model_job m) (model_volume m) m started) (file_collects file lent (model_job m) (model_volume m) m started))
 
-  refused-alike : (n place : ℕ) → modelFile (modulusIn file) file ≡ notBegun n place → printed file ≡ refusalText n place
-  refused-alike n place b =
-      is-printed ∙ ap (λ (a : Opening). openedText (record { answer = a; volume = (fileStep file lent).volume })) (faultless-starts.refuses (modulusIn file) (reading file lent refl) n place without-fault b)
+  refused_alike : (n place : ℕ) → model_file (modulus_in file) file ≡ not_begun n place → printed file ≡ refusal_text n place
+  refused_alike n place b =
+      is_printed ∙ ap (λ (a : Opening). opened_text (record { answer = a; volume = (file_step file lent).volume })) (faultless_starts.refuses (modulus_in file) (reading file lent refl) n place without_fault b)
 
-pub prints-model : PrintsModel
-prints-model = record { prints = λ file m limits. prints file limits m; refuses = λ file n place limits. refused-alike file limits n place }
+pub prints_model : PrintsModel
+prints_model = record { prints = λ file m limits. prints file limits m; refuses = λ file n place limits. refused_alike file limits n place }

@@ -2,5 +2,5 @@
 use mathlib.Core.Path.{refl}
 use Rattle.printing.specs.Orders.{TextRefusals}
 
-pub text-refusals : TextRefusals
-text-refusals = record { ordered = λ j v room. refl }
+pub text_refusals : TextRefusals
+text_refusals = record { ordered = λ j v room. refl }

@@ -7,43 +7,43 @@ use native.Mathlib.Omega.{arith}
 use lib.ListN.{length, replicate, length-replicate}
 use borrow.Author.Tests.{not-false, lt-ltb}
 use Rattle.refusals.specs.Refusals.{first, accepted}
-use Rattle.lengths.specs.Lengths.{scratchLength, cleared}
+use Rattle.lengths.specs.Lengths.{scratch_length, cleared}
 use Rattle.refusals.proofs.Tests.{passed}
-use Rattle.cell.proofs.VolumeLayout.{length-map, below-map}
+use Rattle.cell.proofs.VolumeLayout.{length_map, below_map}
 use Rattle.algebra.proofs.cells.Passing.{below_all}
 use Rattle.job.specs.declared.Job.{Job}
 use Rattle.job.specs.declared.Answered.{Answered}
-use Rattle.job.specs.Job.{validJob, withState, mapHeld, groupIn, halves, done, Outcome, Worked, unchanged, synthesised, synthesisStep}
-use Rattle.job.specs.TestSteps.{synthesisTests}
+use Rattle.job.specs.Job.{valid_job, with_state, map_held, group_in, halves, done, Outcome, Worked, unchanged, synthesised, synthesis_step}
+use Rattle.job.specs.TestSteps.{synthesis_tests}
 use Rattle.job.specs.Answers.{worked}
-use Rattle.job.proofs.Jobs.{valid-with}
-use Rattle.printing.specs.Text.{mapText, putText, textStep, printsResidues}
+use Rattle.job.proofs.Jobs.{valid_with}
+use Rattle.printing.specs.Text.{map_text, put_text, text_step, prints_residues}
 use Rattle.printing.specs.Printable.{Printable}
-use Rattle.printing.proofs.map_text.Outcomes.{text-held}
+use Rattle.printing.proofs.map_text.Outcomes.{text_held}
 
-pub synthesised-printable : (j : Job) (v : List ℕ) → validJob j ≡ true → Printable (withState j mapHeld) (synthesised j v)
-unfolding printsResidues
-synthesised-printable j v e = record {
-  fitting = record { valid = valid-with j mapHeld e (omega arith); long = length-map (groupIn j) (halves j) j.modulus _ };
-  residues = below_all _ _ (λ z. below_all _ _ (λ x. below_all _ _ (λ y. lt-ltb _ _ ((below-map (groupIn j) (halves j) j.modulus _).each _))));
+pub synthesised_printable : (j : Job) (v : List ℕ) → valid_job j ≡ true → Printable (with_state j map_held) (synthesised j v)
+unfolding prints_residues
+synthesised_printable j v e = record {
+  fitting = record { valid = valid_with j map_held e (omega arith); long = length_map (group_in j) (halves j) j.modulus _ };
+  residues = below_all _ _ (λ z. below_all _ _ (λ x. below_all _ _ (λ y. lt-ltb _ _ ((below_map (group_in j) (halves j) j.modulus _).each _))));
 }
 
 -- the scratch that the printer lends
 abbrev pub scratch : List ℕ
-scratch = replicate scratchLength 0
+scratch = replicate scratch_length 0
 
-pub scratch-length : length scratch ≡ scratchLength
-scratch-length = length-replicate {A = ℕ} scratchLength 0
+pub scratch_length_lem : length scratch ≡ scratch_length
+scratch_length_lem = length-replicate {A = ℕ} scratch_length 0
 
-module _ (j : Job) (v : List ℕ) (none : 0 ≡ first (synthesisTests j v scratchLength)) where
-  pub synthesis-makes : (synthesisStep j v scratch).outcome ≡ record { answer = done; job = withState j mapHeld; volume = synthesised j v }
-  unfolding synthesisStep
-  synthesis-makes =
-      let e : first (synthesisTests j v (length scratch)) ≡ 0 = ap (λ n. first (synthesisTests j v n)) scratch-length ∙ sym none in
-      λ i. (accepted {O = Worked} (e i) (record { outcome = record { answer = done; job = withState j mapHeld; volume = synthesised j v }; scratch = cleared scratch }) (λ n. record { outcome = unchanged j v n; scratch = scratch })).outcome
+module _ (j : Job) (v : List ℕ) (none : 0 ≡ first (synthesis_tests j v scratch_length)) where
+  pub synthesis_makes : (synthesis_step j v scratch).outcome ≡ record { answer = done; job = with_state j map_held; volume = synthesised j v }
+  unfolding synthesis_step
+  synthesis_makes =
+      let e : first (synthesis_tests j v (length scratch)) ≡ 0 = ap (λ n. first (synthesis_tests j v n)) scratch_length_lem ∙ sym none in
+      λ i. (accepted {O = Worked} (e i) (record { outcome = record { answer = done; job = with_state j map_held; volume = synthesised j v }; scratch = cleared scratch }) (λ n. record { outcome = unchanged j v n; scratch = scratch })).outcome
 
   -- what is printed of the job and the volume that it leaves
-  pub synthesised-text : (out : List ℕ) (r : Answered) {v' s' : List ℕ} → worked r v' s' ≡ synthesisStep j v scratch → textStep r.job v' out ≡ putText (mapText (withState j mapHeld) (synthesised j v)) out
-  synthesised-text out r e =
-      ap (λ (o : Outcome). textStep o.job o.volume out) (ap (λ (w : Worked). w.outcome) e ∙ synthesis-makes)
-      ∙ text-held (withState j mapHeld) (synthesised j v) out (synthesised-printable j v (not-false _ (passed (synthesisTests j v scratchLength) tt none).0)) refl
+  pub synthesised_text : (out : List ℕ) (r : Answered) {v' s' : List ℕ} → worked r v' s' ≡ synthesis_step j v scratch → text_step r.job v' out ≡ put_text (map_text (with_state j map_held) (synthesised j v)) out
+  synthesised_text out r e =
+      ap (λ (o : Outcome). text_step o.job o.volume out) (ap (λ (w : Worked). w.outcome) e ∙ synthesis_makes)
+      ∙ text_held (with_state j map_held) (synthesised j v) out (synthesised_printable j v (not-false _ (passed (synthesis_tests j v scratch_length) tt none).0)) refl

@@ -5,8 +5,8 @@ use Rattle.numbers.specs.Value.{prime}
 use Rattle.output.specs.Numerals.{Numeral, SignedNumeral}
 use Rattle.cell.specs.Volume.{layers, map_place}
 use Rattle.job.specs.declared.Job.{Job}
-use Rattle.job.specs.Job.{groupIn, halves}
-use Rattle.printing.specs.Text.{headLine, row_line, refusalText}
+use Rattle.job.specs.Job.{group_in, halves}
+use Rattle.printing.specs.Text.{head_line, row_line, refusal_text}
 use Rattle.printing.specs.Printable.{Fitting}
 
 -- what follows in a line: for each of some whole numbers a blank and its numeral, then the line feed
@@ -30,28 +30,28 @@ listed zero f = []
 listed (suc n) f = listed n f ++ f n ∷ []
 
 -- the density at z, x, y
-abbrev pub densityAt : Job → List ℕ → (z x y : ℕ) → ℤ
-densityAt j v z x y = centred (prime j.modulus) (get_or v (map_place (groupIn j) (halves j) (x, y, z)) 0)
+abbrev pub density_at : Job → List ℕ → (z x y : ℕ) → ℤ
+density_at j v z x y = centred (prime j.modulus) (get_or v (map_place (group_in j) (halves j) (x, y, z)) 0)
 
 -- the lines of a map: "map", the group and the lengths; and for each z and x, these and the densities by y
 pub record MapRead (j : Job) (v : List ℕ) : Type 0 where
   pub numbers : List ℕ
-  pub named : headLine j ≡ 109 ∷ 97 ∷ 112 ∷ numbers
+  pub named : head_line j ≡ 109 ∷ 97 ∷ 112 ∷ numbers
   pub head : Behind numbers (pos j.group ∷ pos j.a.length ∷ pos j.b.length ∷ pos j.c.length ∷ [])
   pub row :
-      (z x : ℕ) → z < layers (groupIn j) (halves j) → x < j.a.length →
-      Line (row_line j v z x) (pos z ∷ pos x ∷ listed j.b.length (densityAt j v z x))
+      (z x : ℕ) → z < layers (group_in j) (halves j) → x < j.a.length →
+      Line (row_line j v z x) (pos z ∷ pos x ∷ listed j.b.length (density_at j v z x))
 
 -- "refused", the number, "at", the place
 pub record RefusalRead (number place : ℕ) : Type 0 where
   pub first : List ℕ
   pub second : List ℕ
   pub named :
-      refusalText number place
+      refusal_text number place
       ≡ 114 ∷ 101 ∷ 102 ∷ 117 ∷ 115 ∷ 101 ∷ 100 ∷ 32 ∷
       (first ++ 32 ∷ 97 ∷ 116 ∷ 32 ∷ (second ++ 10 ∷ []))
   pub is_number : Numeral first number
-  pub is-place : Numeral second place
+  pub is_place : Numeral second place
 
 pub record TextReads : Type 0 where
   pub map : (j : Job) (v : List ℕ) → Fitting j v → MapRead j v

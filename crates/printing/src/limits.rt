@@ -2,19 +2,19 @@
 // where that asks for more. The file is any list of bytes, so the header's lengths are any numbers of two bytes here.
 ghost use Rattle.std.specs.Prelude.{◌≡◌, ◌<◌, min, length, ltb};
 ghost use Rattle.header.specs.Header.{needed};
-ghost use Rattle.file_format.specs.Format.{headerIn};
-ghost use Rattle.printing.specs.Text.{fileLimit, lentLimit};
+ghost use Rattle.file_format.specs.Format.{header_in};
+ghost use Rattle.printing.specs.Text.{file_limit, lent_limit};
 
 // Whether a file is longer than the printer reads.
 pub fn too_long(file: &[u8]) -> bool
-    ensures { result ≡ ltb fileLimit (length file.now) }
+    ensures { result ≡ ltb file_limit (length file.now) }
 {
     8192 < file.len()
 }
 
 // How many numbers the printer lends to a file.
 pub fn lent_to(file: &[u8]) -> usize
-    ensures { result ≡ min (needed (headerIn file.now)) lentLimit }
+    ensures { result ≡ min (needed (header_in file.now)) lent_limit }
 {
     let length = header::bytes::volume_length(file_format::places::header_numbers(file).cell);
     if 2048 < length {

@@ -3,7 +3,7 @@ ghost use Rattle.std.specs.Prelude.{◌≡◌, true, ◌+◌, ◌<◌, ◌≤◌
 ghost use Rattle.algebra.specs.cells.Cell.{below};
 ghost use Rattle.output.specs.Output.{each};
 ghost use Rattle.output.specs.Written.{Wrote, Ends};
-ghost use Rattle.printing.specs.Text.{valueText};
+ghost use Rattle.printing.specs.Text.{value_text};
 
 // The n numbers of a volume from `start` on are residues.
 pub fn are_residues(p: u32, volume: &[u32], start: usize, n: usize) -> bool
@@ -33,8 +33,8 @@ pub fn put_values(
     requires n_in_bounds { (start + n ≤ length volume.now)
         × (below n (λ y. ltb (get_or volume.now (start + y) 0) p) ≡ true)
         × (p ≤ 302399) }
-    requires ends { Ends at (each n (λ y. valueText p (get_or volume.now (start + y) 0))) }
-    ensures { Wrote at (each n (λ y. valueText p (get_or volume.now (start + y) 0)))
+    requires ends { Ends at (each n (λ y. value_text p (get_or volume.now (start + y) 0))) }
+    ensures { Wrote at (each n (λ y. value_text p (get_or volume.now (start + y) 0)))
         out.old result out.new }
 {
     let mut place = at;
@@ -50,8 +50,8 @@ pub fn put_values(
 // The density of one residue, a blank before it.
 fn put_value(out: &mut [u8], at: usize, p: u32, value: u32) -> usize
     requires value_lt_p { (value < p) × (p ≤ 302399) }
-    requires ends { Ends at (valueText p value) }
-    ensures { Wrote at (valueText p value) out.old result out.new }
+    requires ends { Ends at (value_text p value) }
+    ensures { Wrote at (value_text p value) out.old result out.new }
 {
     output::put_signed_field(out, at, signed::centre(p, value) as i64)
 }

@@ -2,8 +2,8 @@
 // damaged, and their records at fault, the files of jobs; and those that set a job or numbers of the volume. Each prints what its call answers and leaves.
 // tools/test_records.py says what a record holds and what is printed.
 ghost use Rattle.std.specs.Prelude.{◌≡◌, ◌<◌, length, replicate};
-ghost use Rattle.test_io.specs.Checksum.{checksumOf};
-ghost use Rattle.recorder_test.specs.Records.{numbersOf, axisIn, jobIn, JobAfter};
+ghost use Rattle.test_io.specs.Checksum.{checksum_of};
+ghost use Rattle.recorder_test.specs.Records.{numbers_of, axis_in, job_in, JobAfter};
 
 use factor_file::{FileAnswer, open_file};
 use faults::Faults;
@@ -26,7 +26,7 @@ pub fn asked(job: Job, r: &[u32], volume: &mut [u32]) -> Job
 }
 
 pub fn no_job() -> Job
-    ensures { numbersOf result ≡ replicate 9 0 }
+    ensures { numbers_of result ≡ replicate 9 0 }
 {
     let none = Axis {
         length: 0,
@@ -43,7 +43,7 @@ pub fn no_job() -> Job
 }
 
 pub fn job_checksum(j: Job) -> u32
-    ensures { result ≡ checksumOf (numbersOf j) }
+    ensures { result ≡ checksum_of (numbers_of j) }
 {
     let numbers = [
         j.group,
@@ -61,7 +61,7 @@ pub fn job_checksum(j: Job) -> u32
 
 // The job itself, whether or not any opening could have made it.
 fn job_said(r: &[u32]) -> Job
-    ensures { result ≡ jobIn r.now }
+    ensures { result ≡ job_in r.now }
 {
     Job {
         group: test_io::at(r, 2),
@@ -75,7 +75,7 @@ fn job_said(r: &[u32]) -> Job
 
 fn axis_said(r: &[u32], i: usize) -> Axis
     requires { i < 10 }
-    ensures { result ≡ axisIn r.now i }
+    ensures { result ≡ axis_in r.now i }
 {
     Axis {
         length: test_io::at(r, i),

@@ -9,19 +9,19 @@ use lib.Dec.{T, eqb}
 use borrow.Author.Tests.{eq-eqb}
 use Rattle.refusals.specs.Refusals.{Test, ◌⇒◌, first, accepted}
 use Rattle.refusals.specs.Orders.{NoneOf}
-use Rattle.refusals.proofs.Tests.{and_left, and_right, positive, first-append}
+use Rattle.refusals.proofs.Tests.{and_left, and_right, positive, first_append}
 
 -- ---- what an answer says of the first test that holds: the number of a refusal, 0 of any other answer
 
 -- the outcome is o where no test holds, else f of the number, and its answer tells which
-says-number : {O A : Type 0} (number : A → ℕ) (answer : O → A) (o : O) (f : ℕ → O) (r : ℕ → A) → ((n : ℕ) → answer (f n) ≡ r n) → ((n : ℕ) → number (r n) ≡ n) → number (answer o) ≡ 0 → (n : ℕ) → number (answer (accepted n o f)) ≡ n
-says-number number answer o f r e g z zero = z
-says-number number answer o f r e g z (suc n) = ap number (e (suc n)) ∙ g (suc n)
+says_number : {O A : Type 0} (number : A → ℕ) (answer : O → A) (o : O) (f : ℕ → O) (r : ℕ → A) → ((n : ℕ) → answer (f n) ≡ r n) → ((n : ℕ) → number (r n) ≡ n) → number (answer o) ≡ 0 → (n : ℕ) → number (answer (accepted n o f)) ≡ n
+says_number number answer o f r e g z zero = z
+says_number number answer o f r e g z (suc n) = ap number (e (suc n)) ∙ g (suc n)
 
 pub says : {O A : Type 0} (number : A → ℕ) (answer : O → A) (o : O) (f : ℕ → O) (r : ℕ → A) → ((n : ℕ) → answer (f n) ≡ r n) → ((n : ℕ) → number (r n) ≡ n) → number (answer o) ≡ 0 → (n k : ℕ) → (n ≡ suc k) ↔ (answer (accepted n o f) ≡ r (suc k))
 says number answer o f r e g z n k = (
   λ q. ap (λ n. answer (accepted n o f)) q ∙ e (suc k),
-  λ q. sym (says-number number answer o f r e g z n) ∙ ap number q ∙ g (suc k),
+  λ q. sym (says_number number answer o f r e g z n) ∙ ap number q ∙ g (suc k),
 )
 
 -- ---- tests of other numbers
@@ -31,22 +31,22 @@ abbrev pub others : ℕ → List Test → Bool
 others n [] = true
 others n (t ∷ ts) = not (eqb t.number n) && others n ts
 
-pub other-first : (n : ℕ) (ts : List Test) → T (others (suc n) ts) → first ts ≡ suc n → ⊥
+pub other_first : (n : ℕ) (ts : List Test) → T (others (suc n) ts) → first ts ≡ suc n → ⊥
 unfolding first
-other-first n [] o e = omega arith
-other-first n (t ∷ ts) o e = one t.fails t.number (and_left (not (eqb t.number (suc n))) (others (suc n) ts) o) (other-first n ts (and_right (not (eqb t.number (suc n))) (others (suc n) ts) o)) e
+other_first n [] o e = omega arith
+other_first n (t ∷ ts) o e = one t.fails t.number (and_left (not (eqb t.number (suc n))) (others (suc n) ts) o) (other_first n ts (and_right (not (eqb t.number (suc n))) (others (suc n) ts) o)) e
   where
     one : (b : Bool) (k : ℕ) → T (not (eqb k (suc n))) → (first ts ≡ suc n → ⊥) → cond b k (first ts) ≡ suc n → ⊥
     one true k o f e = subst T (ap not (eq-eqb k (suc n) e)) o
     one false k o f e = f e
 
 -- the numbers of tests, each as often as it stands there
-abbrev pub plainNumbers : List Test → List ℕ
-plainNumbers [] = []
-plainNumbers (t ∷ ts) = t.number ∷ plainNumbers ts
+abbrev pub plain_numbers : List Test → List ℕ
+plain_numbers [] = []
+plain_numbers (t ∷ ts) = t.number ∷ plain_numbers ts
 
 -- an answer that is no refusal by these tests
-pub avoided : {A : Type 0} (refused : ℕ → A) (a : A) (ts : List Test) → NoneOf refused (plainNumbers ts) a → (k : ℕ) → a ≡ refused (suc k) → first ts ≡ suc k → ⊥
+pub avoided : {A : Type 0} (refused : ℕ → A) (a : A) (ts : List Test) → NoneOf refused (plain_numbers ts) a → (k : ℕ) → a ≡ refused (suc k) → first ts ≡ suc k → ⊥
 unfolding first
 avoided refused a [] o k e f = omega (arith, f)
 avoided refused a (t ∷ ts) o k e f = one t.fails t.number o.0 (avoided refused a ts o.1 k e) f
@@ -64,37 +64,37 @@ module _ (before after : List Test) (b : Bool) (n : ℕ) (unlike : T (others (su
 
   module _ {A : Type 0} (a : A) (refusal : ℕ → A) (says : (k : ℕ) → (first tests ≡ suc k) ↔ (a ≡ refusal (suc k))) where
     -- the tests before it have passed
-    before-passed : T (positive before) → ((k : ℕ) → a ≡ refusal (suc k) → first before ≡ suc k → ⊥) → 0 ≡ first before
-    before-passed t only = by (first before) refl
+    before_passed : T (positive before) → ((k : ℕ) → a ≡ refusal (suc k) → first before ≡ suc k → ⊥) → 0 ≡ first before
+    before_passed t only = by (first before) refl
       where
         by : (k : ℕ) → first before ≡ k → 0 ≡ k
         by zero e = refl
-        by (suc k) e = absurd (only k ((says k).0 (first-append before (b ⇒ suc n ∷ after) t ∙ ap (λ k. accepted k (first (b ⇒ suc n ∷ after)) (λ n. n)) e)) e)
+        by (suc k) e = absurd (only k ((says k).0 (first_append before (b ⇒ suc n ∷ after) t ∙ ap (λ k. accepted k (first (b ⇒ suc n ∷ after)) (λ n. n)) e)) e)
 
     -- it is then the first that holds, or those after it are asked
     then : T (positive before) → 0 ≡ first before → (b ≡ true) ↔ (first tests ≡ suc n)
     unfolding first
-    then t e = let whole = first-append before (b ⇒ suc n ∷ after) t ∙ ap (λ k. accepted k (first (b ⇒ suc n ∷ after)) (λ n. n)) (sym e) in
+    then t e = let whole = first_append before (b ⇒ suc n ∷ after) t ∙ ap (λ k. accepted k (first (b ⇒ suc n ∷ after)) (λ n. n)) (sym e) in
         let d = by b in (λ f. whole ∙ d.0 f, λ f. d.1 (sym whole ∙ f))
       where
         by : (b : Bool) → (b ≡ true) ↔ (first (b ⇒ suc n ∷ after) ≡ suc n)
         by true = (λ f. refl, λ f. refl)
-        by false = (λ f. absurd (subst T (sym f) tt), λ f. absurd (other-first n after unlike f))
+        by false = (λ f. absurd (subst T (sym f) tt), λ f. absurd (other_first n after unlike f))
 
     -- b is false exactly if C
-    pub refused-unless : T (positive before) → ((k : ℕ) → a ≡ refusal (suc k) → first before ≡ suc k → ⊥) → (C : Type 0) → (0 ≡ first before → (b ≡ false) ↔ C) → (a ≡ refusal (suc n)) ↔ (C → ⊥)
-    refused-unless t only C d =
-        let e = before-passed t only in
+    pub refused_unless : T (positive before) → ((k : ℕ) → a ≡ refusal (suc k) → first before ≡ suc k → ⊥) → (C : Type 0) → (0 ≡ first before → (b ≡ false) ↔ C) → (a ≡ refusal (suc n)) ↔ (C → ⊥)
+    refused_unless t only C d =
+        let e = before_passed t only in
         let f = then t e in
-        (λ r x. apart b (f.1 ((says n).1 r)) ((d e).1 x), λ g. (says n).0 (f.0 (not-false b (λ h. g ((d e).0 h)))))
+        (λ r x. apart b (f.1 ((says n).1 r)) ((d e).1 x), λ g. (says n).0 (f.0 (not_false b (λ h. g ((d e).0 h)))))
       where
         apart : (b : Bool) → b ≡ true → b ≡ false → ⊥
         apart true e f = subst T f tt
         apart false e f = subst T (sym e) tt
 
-        not-false : (b : Bool) → (b ≡ false → ⊥) → b ≡ true
-        not-false true g = refl
-        not-false false g = absurd (g refl)
+        not_false : (b : Bool) → (b ≡ false → ⊥) → b ≡ true
+        not_false true g = refl
+        not_false false g = absurd (g refl)
 
 -- a test that fails where c is not
 pub negated : {C : Type 0} (c : Bool) → (c ≡ true) ↔ C → (not c ≡ false) ↔ C

@@ -47,20 +47,20 @@ not_t b e = rw e
 pub not_f : (b : Bool) → b ≡ false → not b ≡ true
 not_f b e = rw e
 
-pub by-false : (r b : Bool) → r ≡ b → not r ≡ true → b ≡ false
-by-false r b e h = sym e ∙ not-true r h
+pub by_false : (r b : Bool) → r ≡ b → not r ≡ true → b ≡ false
+by_false r b e h = sym e ∙ not-true r h
 
-pub by-true : (r b : Bool) → r ≡ b → not r ≡ false → b ≡ true
-by-true r b e h = sym e ∙ not-false r h
+pub by_true : (r b : Bool) → r ≡ b → not r ≡ false → b ≡ true
+by_true r b e h = sym e ∙ not-false r h
 
-pub by-eq : (l m n : ℕ) → m ≡ n → l ≡ m → eqb l n ≡ true
-by-eq l m n e h = eq-eqb l n (h ∙ e)
+pub by_eq : (l m n : ℕ) → m ≡ n → l ≡ m → eqb l n ≡ true
+by_eq l m n e h = eq-eqb l n (h ∙ e)
 
-pub by-ne : (l m n : ℕ) → m ≡ n → (l ≡ m → ⊥) → eqb l n ≡ false
-by-ne l m n e h = ne_eqb l n (λ q. h (q ∙ sym e))
+pub by_ne : (l m n : ℕ) → m ≡ n → (l ≡ m → ⊥) → eqb l n ≡ false
+by_ne l m n e h = ne_eqb l n (λ q. h (q ∙ sym e))
 
 -- what `search` is handed at each return of a check
-pub ruleset refusals = (stop, pass, none, not_t, not_f, lt-ltb, le-ltb, le-leb, lt-leb, eq-eqb, ne_eqb, by-false, by-true, by-eq, by-ne)
+pub ruleset refusals = (stop, pass, none, not_t, not_f, lt-ltb, le-ltb, le-leb, lt-leb, eq-eqb, ne_eqb, by_false, by_true, by_eq, by_ne)
 
 -- ---- where no test holds, each is false
 
@@ -73,34 +73,34 @@ abbrev pub positive : List Test → Bool
 positive [] = true
 positive (t ∷ ts) = leb 1 t.number && positive ts
 
-passed-one : (t : Test) (ts : List Test) (b : Bool) (n : ℕ) → t.fails ≡ b → T (leb 1 n && positive ts) → (T (positive ts) → 0 ≡ first ts → Passed ts) → 0 ≡ cond b n (first ts) → (t.fails ≡ false) × Passed ts
-passed-one t ts true n q h f e = absurd (not-suc-le-zero (subst (λ (m : ℕ). 1 ≤ m) (sym e) (leb→le 1 n (and_left (leb 1 n) (positive ts) h))))
-passed-one t ts false n q h f e = (q, f (and_right (leb 1 n) (positive ts) h) e)
+passed_one : (t : Test) (ts : List Test) (b : Bool) (n : ℕ) → t.fails ≡ b → T (leb 1 n && positive ts) → (T (positive ts) → 0 ≡ first ts → Passed ts) → 0 ≡ cond b n (first ts) → (t.fails ≡ false) × Passed ts
+passed_one t ts true n q h f e = absurd (not-suc-le-zero (subst (λ (m : ℕ). 1 ≤ m) (sym e) (leb→le 1 n (and_left (leb 1 n) (positive ts) h))))
+passed_one t ts false n q h f e = (q, f (and_right (leb 1 n) (positive ts) h) e)
 
 pub passed : (ts : List Test) → T (positive ts) → 0 ≡ first ts → Passed ts
 unfolding first
 passed [] h e = tt
-passed (t ∷ ts) h e = passed-one t ts t.fails t.number refl h (passed ts) e
+passed (t ∷ ts) h e = passed_one t ts t.fails t.number refl h (passed ts) e
 
 -- ---- tests after tests: the number of the first list, or, where that has none, of the second
 
-pub append-stop : (ts us : List Test) {n : ℕ} → (n ≡ 0 → ⊥) → n ≡ first ts → n ≡ first (ts ++ us)
+pub append_stop : (ts us : List Test) {n : ℕ} → (n ≡ 0 → ⊥) → n ≡ first ts → n ≡ first (ts ++ us)
 unfolding first
-append-stop [] us z e = absurd (z e)
-append-stop (t ∷ ts) us {n} z e = one t.fails (append-stop ts us z) e
+append_stop [] us z e = absurd (z e)
+append_stop (t ∷ ts) us {n} z e = one t.fails (append_stop ts us z) e
   where
     one : (b : Bool) → (n ≡ first ts → n ≡ first (ts ++ us)) → n ≡ cond b t.number (first ts) → n ≡ cond b t.number (first (ts ++ us))
     one true h e = e
     one false h e = h e
 
-pub append-pass : (ts us : List Test) {n : ℕ} → Passed ts → n ≡ first us → n ≡ first (ts ++ us)
-append-pass [] us p e = e
-append-pass (t ∷ ts) us p e = pass t.number (ts ++ us) p.0 (append-pass ts us p.1 e)
+pub append_pass : (ts us : List Test) {n : ℕ} → Passed ts → n ≡ first us → n ≡ first (ts ++ us)
+append_pass [] us p e = e
+append_pass (t ∷ ts) us p e = pass t.number (ts ++ us) p.0 (append_pass ts us p.1 e)
 
-pub first-append : (ts us : List Test) → T (positive ts) → first (ts ++ us) ≡ accepted (first ts) (first us) (λ n. n)
+pub first_append : (ts us : List Test) → T (positive ts) → first (ts ++ us) ≡ accepted (first ts) (first us) (λ n. n)
 unfolding first
-first-append [] us h = refl
-first-append (t ∷ ts) us h = one t.fails t.number (and_left (leb 1 t.number) (positive ts) h) (first-append ts us (and_right (leb 1 t.number) (positive ts) h))
+first_append [] us h = refl
+first_append (t ∷ ts) us h = one t.fails t.number (and_left (leb 1 t.number) (positive ts) h) (first_append ts us (and_right (leb 1 t.number) (positive ts) h))
   where
     one : (b : Bool) (n : ℕ) → T (leb 1 n) → first (ts ++ us) ≡ accepted (first ts) (first us) (λ n. n) → cond b n (first (ts ++ us)) ≡ accepted (cond b n (first ts)) (first us) (λ n. n)
     one true zero h e = absurd h
@@ -145,8 +145,8 @@ fails r n o f e = rw (← e) (go r)
     go Window = refl
 
 -- no refusal has the number 0
-pub not-zero : (r : Refusal) → number_of r ≡ 0 → ⊥
-not-zero r e = let z : ◌≡◌ {A = ℕ} 0 1 = fails r 0 1 (λ n. 0) e in omega arith
+pub not_zero : (r : Refusal) → number_of r ≡ 0 → ⊥
+not_zero r e = let z : ◌≡◌ {A = ℕ} 0 1 = fails r 0 1 (λ n. 0) e in omega arith
 
 pub passes : {O : Type 0} (n : ℕ) (o : O) (f : ℕ → O) → 0 ≡ n → o ≡ accepted n o f
 passes n o f e = rw (← e)

@@ -11,54 +11,54 @@ use Rattle.refusals.specs.Refusals.{Test}
 -- ---- the table
 
 pub data Row : Type 0 where
-  ofLine : Row
-  ofOpening : Row
-  ofRecord : Row
-  ofSynthesis : Row
-  ofAnalysis : Row
-  ofPoint : Row
-  ofFactor : Row
-  ofFileShape : Row
-  ofFileRecord : Row
-  ofWriter : Row
-  ofText : Row
-  ofCombining : Row
-  ofCorrelation : Row
-  ofMapPower : Row
-  ofFactorPower : Row
-  ofSection : Row
-  ofViewerFile : Row
-  ofEntering : Row
-  ofTurn : Row
-  ofWithdrawing : Row
-  ofWindow : Row
+  of_line : Row
+  of_opening : Row
+  of_record : Row
+  of_synthesis : Row
+  of_analysis : Row
+  of_point : Row
+  of_factor : Row
+  of_file_shape : Row
+  of_file_record : Row
+  of_writer : Row
+  of_text : Row
+  of_combining : Row
+  of_correlation : Row
+  of_map_power : Row
+  of_factor_power : Row
+  of_section : Row
+  of_viewer_file : Row
+  of_entering : Row
+  of_turn : Row
+  of_withdrawing : Row
+  of_window : Row
 
 abbrev pub order : Row → List ℕ
-order ofLine = 26 ∷ 1 ∷ 2 ∷ 3 ∷ 4 ∷ 5 ∷ 6 ∷ 13 ∷ 7 ∷ []
-order ofOpening = 8 ∷ 26 ∷ 2 ∷ 3 ∷ 4 ∷ 5 ∷ 9 ∷ 6 ∷ 7 ∷ 14 ∷ []
-order ofRecord = 25 ∷ 21 ∷ 10 ∷ 7 ∷ 12 ∷ 6 ∷ 24 ∷ []
-order ofSynthesis = 25 ∷ 23 ∷ 6 ∷ 13 ∷ 7 ∷ 14 ∷ []
-order ofAnalysis = 25 ∷ 22 ∷ 6 ∷ 13 ∷ 7 ∷ 14 ∷ []
-order ofPoint = 25 ∷ 22 ∷ 10 ∷ 6 ∷ 7 ∷ []
-order ofFactor = 25 ∷ 23 ∷ 10 ∷ 6 ∷ 7 ∷ []
+order of_line = 26 ∷ 1 ∷ 2 ∷ 3 ∷ 4 ∷ 5 ∷ 6 ∷ 13 ∷ 7 ∷ []
+order of_opening = 8 ∷ 26 ∷ 2 ∷ 3 ∷ 4 ∷ 5 ∷ 9 ∷ 6 ∷ 7 ∷ 14 ∷ []
+order of_record = 25 ∷ 21 ∷ 10 ∷ 7 ∷ 12 ∷ 6 ∷ 24 ∷ []
+order of_synthesis = 25 ∷ 23 ∷ 6 ∷ 13 ∷ 7 ∷ 14 ∷ []
+order of_analysis = 25 ∷ 22 ∷ 6 ∷ 13 ∷ 7 ∷ 14 ∷ []
+order of_point = 25 ∷ 22 ∷ 10 ∷ 6 ∷ 7 ∷ []
+order of_factor = 25 ∷ 23 ∷ 10 ∷ 6 ∷ 7 ∷ []
 -- a file: its shape, then as an opening of kind 0, then each record; 25, 21 and 6 of a record do not arise there
-order ofFileShape = 15 ∷ 16 ∷ 15 ∷ []
-order ofFileRecord = 10 ∷ 7 ∷ 12 ∷ 24 ∷ []
-order ofWriter = 25 ∷ 23 ∷ 6 ∷ 7 ∷ 14 ∷ 18 ∷ []
-order ofText = 25 ∷ 22 ∷ 6 ∷ 7 ∷ 18 ∷ []
+order of_file_shape = 15 ∷ 16 ∷ 15 ∷ []
+order of_file_record = 10 ∷ 7 ∷ 12 ∷ 24 ∷ []
+order of_writer = 25 ∷ 23 ∷ 6 ∷ 7 ∷ 14 ∷ 18 ∷ []
+order of_text = 25 ∷ 22 ∷ 6 ∷ 7 ∷ 18 ∷ []
 -- M-105 to M-109
-order ofCombining = 25 ∷ 22 ∷ 27 ∷ 6 ∷ 7 ∷ 14 ∷ []
-order ofCorrelation = 3 ∷ 4 ∷ 5 ∷ 9 ∷ 6 ∷ 13 ∷ 28 ∷ []
-order ofMapPower = 25 ∷ 22 ∷ 6 ∷ 7 ∷ 14 ∷ []
-order ofFactorPower = 25 ∷ 23 ∷ 6 ∷ 7 ∷ 14 ∷ []
-order ofSection = 8 ∷ 3 ∷ 9 ∷ 6 ∷ 10 ∷ 28 ∷ 18 ∷ []
-order ofViewerFile = 8 ∷ 3 ∷ 9 ∷ 6 ∷ 29 ∷ 30 ∷ 18 ∷ []
+order of_combining = 25 ∷ 22 ∷ 27 ∷ 6 ∷ 7 ∷ 14 ∷ []
+order of_correlation = 3 ∷ 4 ∷ 5 ∷ 9 ∷ 6 ∷ 13 ∷ 28 ∷ []
+order of_map_power = 25 ∷ 22 ∷ 6 ∷ 7 ∷ 14 ∷ []
+order of_factor_power = 25 ∷ 23 ∷ 6 ∷ 7 ∷ 14 ∷ []
+order of_section = 8 ∷ 3 ∷ 9 ∷ 6 ∷ 10 ∷ 28 ∷ 18 ∷ []
+order of_viewer_file = 8 ∷ 3 ∷ 9 ∷ 6 ∷ 29 ∷ 30 ∷ 18 ∷ []
 -- M-111: 25 of the scheduler is before all else; entering goes on as a synthesis does
-order ofEntering = 25 ∷ 31 ∷ 25 ∷ 32 ∷ 25 ∷ 23 ∷ 6 ∷ 13 ∷ 7 ∷ 14 ∷ []
-order ofTurn = 6 ∷ 13 ∷ 7 ∷ []
-order ofWithdrawing = 25 ∷ 31 ∷ 33 ∷ []
+order of_entering = 25 ∷ 31 ∷ 25 ∷ 32 ∷ 25 ∷ 23 ∷ 6 ∷ 13 ∷ 7 ∷ 14 ∷ []
+order of_turn = 6 ∷ 13 ∷ 7 ∷ []
+order of_withdrawing = 25 ∷ 31 ∷ 33 ∷ []
 -- M-113
-order ofWindow = 34 ∷ 18 ∷ []
+order of_window = 34 ∷ 18 ∷ []
 
 -- ---- tests in a row's order
 
@@ -68,12 +68,12 @@ ahead n [] = n ∷ []
 ahead n (k ∷ ks) = cond (eqb n k) (k ∷ ks) (n ∷ k ∷ ks)
 
 -- the numbers of tests, in order
-abbrev pub numbersOf : List Test → List ℕ
-numbersOf [] = []
-numbersOf (t ∷ ts) = ahead t.number (numbersOf ts)
+abbrev pub numbers_of : List Test → List ℕ
+numbers_of [] = []
+numbers_of (t ∷ ts) = ahead t.number (numbers_of ts)
 
 abbrev pub Ordered : List Test → Row → Type 0
-Ordered ts r = numbersOf ts ≡ order r
+Ordered ts r = numbers_of ts ≡ order r
 
 -- ---- what a number says
 

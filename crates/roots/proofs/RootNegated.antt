@@ -18,14 +18,14 @@ pub record Negating (m : ℕ) (t u : List ℕ) (k : ℕ) : Type 0 where
   pub left : (j : ℕ) → k ≤ j → get_or u j 0 ≡ get_or t j 0
 
 module _ {m : ℕ} {t : List ℕ} where
-  pub negating-start : Negating m t t 0
-  negating-start = record { size = refl; upto = omega arith; done = λ j h. absurd (omega arith); left = λ j h. refl }
+  pub negating_start : Negating m t t 0
+  negating_start = record { size = refl; upto = omega arith; done = λ j h. absurd (omega arith); left = λ j h. refl }
 
-  pub negating-below : {p : ℕ} {u : List ℕ} {k : ℕ} → Negating m t u k → AllBelow p t → k < length u → get_or u k 0 < p
-  negating-below {k = k} n b h = rw (n.left k (omega arith)) (b.below k (omega arith))
+  pub negating_below : {p : ℕ} {u : List ℕ} {k : ℕ} → Negating m t u k → AllBelow p t → k < length u → get_or u k 0 < p
+  negating_below {k = k} n b h = rw (n.left k (omega arith)) (b.below k (omega arith))
 
-  pub negating-next : {u : List ℕ} {k x : ℕ} → Negating m t u k → k < length u → x ≡ ((ring m).neg (res m (get_or u k 0))).val → Negating m t (set u k x) (k + 1)
-  negating-next {u} {k} {x} n h e = record {
+  pub negating_next : {u : List ℕ} {k x : ℕ} → Negating m t u k → k < length u → x ≡ ((ring m).neg (res m (get_or u k 0))).val → Negating m t (set u k x) (k + 1)
+  negating_next {u} {k} {x} n h e = record {
     size = length-set u k x ∙ n.size;
     upto = omega arith;
     done = λ j l. go j l (ℕ_discrete j k);
@@ -36,9 +36,9 @@ module _ {m : ℕ} {t : List ℕ} where
       go j l (yes q) = rw q (get_or-set_same u k x 0 h ∙ e ∙ ap (λ y. ((ring m).neg (res m y)).val) (n.left k (omega arith)))
       go j l (no q) = get_or-set_other u k j x 0 q ∙ n.done j (omega arith)
 
-  pub negating-done : {u : List ℕ} {k : ℕ} → Negating m t u k → length u ≤ k → NegatedTable m (length t) t u
-  negating-done n h = record { entry = λ k l. n.done k (omega arith) }
+  pub negating_done : {u : List ℕ} {k : ℕ} → Negating m t u k → length u ≤ k → NegatedTable m (length t) t u
+  negating_done n h = record { entry = λ k l. n.done k (omega arith) }
 
 -- of a whole table, its first numbers; callers know the length of their array
-pub negated-first : {m n k : ℕ} {t u : List ℕ} → k ≤ n → NegatedTable m n t u → NegatedTable m k t u
-negated-first h n = record { entry = λ j l. n.entry j (omega arith) }
+pub negated_first : {m n k : ℕ} {t u : List ℕ} → k ≤ n → NegatedTable m n t u → NegatedTable m k t u
+negated_first h n = record { entry = λ j l. n.entry j (omega arith) }

@@ -11,51 +11,51 @@ use Rattle.algebra.specs.fourier.Axis.{Root}
 use Rattle.algebra.proofs.ring.ResidueRing.{val_path}
 use Rattle.numbers.specs.Value.{prime, exponent, IsModulus, Value, field, conj, i, value, real, part}
 use Rattle.prime_shape.specs.Shape.{Candidate, Suits, OrderIs, Shape}
-use Rattle.prime_shape.proofs.TrialDivision.{prime-86399, prime-302399}
-use Rattle.prime_shape.proofs.Orders.{suits-by}
+use Rattle.prime_shape.proofs.TrialDivision.{prime_86399, prime_302399}
+use Rattle.prime_shape.proofs.Orders.{suits_by}
 use Rattle.prime_shape.proofs.Shapes as Shapes
 use Rattle.roots.specs.Root.{choice, root}
-use Rattle.numbers.proofs.Primes.{prime-next, by-choice}
-use Rattle.numbers.proofs.Values.{value-path}
+use Rattle.numbers.proofs.Primes.{prime_next, by_choice}
+use Rattle.numbers.proofs.Values.{value_path}
 
 -- values are equal by their numbers
-by-numbers : {p : ℕ} {x y : Res p × Res p} → x.0.val ≡ y.0.val → x.1.val ≡ y.1.val → x ≡ y
-by-numbers h k = value-path (val_path h) (val_path k)
+by_numbers : {p : ℕ} {x y : Res p × Res p} → x.0.val ≡ y.0.val → x.1.val ≡ y.1.val → x ≡ y
+by_numbers h k = value_path (val_path h) (val_path k)
 
 -- numbers that are not the same
 differ : (n k : ℕ) → T (not (eqb n k)) → n ≡ k → ⊥
 differ n k t e = T_not (eqb n k) t (subst T (sym (eq-eqb n k e)) tt)
 
-first-candidate : Candidate (prime 1) (exponent 1) (choice 1) (root 1)
+first_candidate : Candidate (prime 1) (exponent 1) (choice 1) (root 1)
 unfolding prime exponent choice root residue residues gauss Gauss.imag pow
-first-candidate = record { inverse = value 1 14473 56576; inverts = by-numbers refl refl; power = by-numbers refl refl }
+first_candidate = record { inverse = value 1 14473 56576; inverts = by_numbers refl refl; power = by_numbers refl refl }
 
-first-suits : Suits (prime 1) (root 1)
+first_suits : Suits (prime 1) (root 1)
 unfolding prime root residue residues gauss Gauss.imag pow
-first-suits = suits-by 86399 prime-86399.above (root 1) (by-numbers refl refl) (λ e. differ _ _ tt (ap (λ z. z.0.val) e)) (λ e. differ _ _ tt (ap (λ z. z.1.val) e)) (λ e. differ _ _ tt (ap (λ z. z.1.val) e))
+first_suits = suits_by 86399 prime_86399.above (root 1) (by_numbers refl refl) (λ e. differ _ _ tt (ap (λ z. z.0.val) e)) (λ e. differ _ _ tt (ap (λ z. z.1.val) e)) (λ e. differ _ _ tt (ap (λ z. z.1.val) e))
 
-first-shape : Shape (prime 1) (exponent 1) (choice 1) (root 1)
+first_shape : Shape (prime 1) (exponent 1) (choice 1) (root 1)
 unfolding prime
-first-shape = record { is-prime = prime-86399; next = prime-next 1; candidate = first-candidate; suits = first-suits }
+first_shape = record { is_prime = prime_86399; next = prime_next 1; candidate = first_candidate; suits = first_suits }
 
-second-candidate : Candidate (prime 2) (exponent 2) (choice 2) (root 2)
+second_candidate : Candidate (prime 2) (exponent 2) (choice 2) (root 2)
 unfolding prime exponent choice root residue residues gauss Gauss.imag pow
-second-candidate = record { inverse = value 2 177882 195670; inverts = by-numbers refl refl; power = by-numbers refl refl }
+second_candidate = record { inverse = value 2 177882 195670; inverts = by_numbers refl refl; power = by_numbers refl refl }
 
-second-suits : Suits (prime 2) (root 2)
+second_suits : Suits (prime 2) (root 2)
 unfolding prime root residue residues gauss Gauss.imag pow
-second-suits = suits-by 302399 prime-302399.above (root 2) (by-numbers refl refl) (λ e. differ _ _ tt (ap (λ z. z.0.val) e)) (λ e. differ _ _ tt (ap (λ z. z.1.val) e)) (λ e. differ _ _ tt (ap (λ z. z.1.val) e))
+second_suits = suits_by 302399 prime_302399.above (root 2) (by_numbers refl refl) (λ e. differ _ _ tt (ap (λ z. z.0.val) e)) (λ e. differ _ _ tt (ap (λ z. z.1.val) e)) (λ e. differ _ _ tt (ap (λ z. z.1.val) e))
 
-second-shape : Shape (prime 2) (exponent 2) (choice 2) (root 2)
+second_shape : Shape (prime 2) (exponent 2) (choice 2) (root 2)
 unfolding prime
-second-shape = record { is-prime = prime-302399; next = prime-next 2; candidate = second-candidate; suits = second-suits }
+second_shape = record { is_prime = prime_302399; next = prime_next 2; candidate = second_candidate; suits = second_suits }
 
 -- the shape of the prime that m chooses
 pub shape : (m : ℕ) → Shape (prime m) (exponent m) (choice m) (root m)
 unfolding prime exponent choice root
-shape m = by-choice
+shape m = by_choice
     (λ b. Shape (cond b 86399 302399) (cond b 30 105) (cond b 14 4) (residue (cond b 86399 302399) (cond b 125 296865), residue (cond b 86399 302399) (cond b 48584 64524)))
-    first-shape second-shape (eqb m 1)
+    first_shape second_shape (eqb m 1)
 
 -- its laws
 module _ (m : ℕ) (is : IsModulus m) where
@@ -63,24 +63,24 @@ module _ (m : ℕ) (is : IsModulus m) where
 
   infixl 70 ◌⊗◌
   infix 75 ⊖◌
-  pub root-inverse : root m ⊗ conj m (root m) ≡ 𝟙
-  root-inverse = Shapes.circle (shape m)
+  pub root_inverse : root m ⊗ conj m (root m) ≡ 𝟙
+  root_inverse = Shapes.circle (shape m)
 
-  pub quarter-turn : pow (field m) (root m) 720 ≡ ⊖ i m
-  quarter-turn = Shapes.quarter-turn (shape m)
+  pub quarter_turn : pow (field m) (root m) 720 ≡ ⊖ i m
+  quarter_turn = Shapes.quarter_turn (shape m)
 
-  pub half-turn : pow (field m) (root m) 1440 ≡ ⊖ 𝟙
-  half-turn = Shapes.half-turn (shape m)
+  pub half_turn : pow (field m) (root m) 1440 ≡ ⊖ 𝟙
+  half_turn = Shapes.half_turn (shape m)
 
-  pub full-turn : pow (field m) (root m) 2880 ≡ 𝟙
-  full-turn = Shapes.full-turn (shape m)
+  pub full_turn : pow (field m) (root m) 2880 ≡ 𝟙
+  full_turn = Shapes.full_turn (shape m)
 
-  pub root-of-unity : Root (field m) 2880 (root m) (conj m (root m)) (real m (part m 2880))
+  pub root_of_unity : Root (field m) 2880 (root m) (conj m (root m)) (real m (part m 2880))
   unfolding part
-  root-of-unity = Shapes.root-of-unity (shape m)
+  root_of_unity = Shapes.root_of_unity (shape m)
 
-  pub root-order : OrderIs (prime m) 2880 (root m)
-  root-order = (shape m).suits.order
+  pub root_order : OrderIs (prime m) 2880 (root m)
+  root_order = (shape m).suits.order
 
-  pub conj-power : (k : ℕ) → k ≤ 2880 → conj m (pow (field m) (root m) k) ≡ pow (field m) (root m) (2880 - k)
-  conj-power = Shapes.conj-power (shape m)
+  pub conj_power : (k : ℕ) → k ≤ 2880 → conj m (pow (field m) (root m) k) ≡ pow (field m) (root m) (2880 - k)
+  conj_power = Shapes.conj_power (shape m)

@@ -17,9 +17,9 @@ abbrev pub RootRule : ℕ → Type 0
 RootRule m = LeastChoice (prime m) (exponent m) (choice m) (root m)
 
 -- e(1/N), so that e(k/N) is its k-th power
-abbrev pub rootOf : (m N : ℕ) → Value m
-rootOf m N = pow (field m) (root m) (2880 / N)
+abbrev pub root_of : (m N : ℕ) → Value m
+root_of m N = pow (field m) (root m) (2880 / N)
 
 -- the axis of N = 2 A points: e(1/N) and 1/N
 abbrev pub axis : (m A : ℕ) → Axis (Value m)
-axis m A = record { half = A; w = rootOf m (2 * A); part = real m (part m (2 * A)) }
+axis m A = record { half = A; w = root_of m (2 * A); part = real m (part m (2 * A)) }

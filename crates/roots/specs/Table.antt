@@ -16,13 +16,13 @@ pub record ImaginaryTable (m : ℕ) (im : List ℕ) : Type 0 where
 unfoldable pub entry_at : (re im : List ℕ) → ℕ → Pair
 entry_at re im k = record { re = get_or re k 0; im = get_or im k 0 }
 
-unfoldable pub tableRoot : (m : ℕ) (re im : List ℕ) → Value m
-tableRoot m re im = value m (get_or re 1 0) (get_or im 1 0)
+unfoldable pub table_root : (m : ℕ) (re im : List ℕ) → Value m
+table_root m re im = value m (get_or re 1 0) (get_or im 1 0)
 
 -- Two arrays that hold the powers of the value at place 1. It is on the unit circle, and its quarter turn is i or -i.
 pub record RootTable (m : ℕ) (re im : List ℕ) : Type 0 where
-  pub cycle : pow (field m) (tableRoot m re im) 2880 ≡ (field m).one
-  pub entry : (k : ℕ) → k < 2880 → entry_at re im k ≡ pair_of (pow (field m) (tableRoot m re im) k)
-  pub circle : (field m).mul (tableRoot m re im) (conj m (tableRoot m re im)) ≡ (field m).one
-  pub quarter : (pow (field m) (tableRoot m re im) 720 ≡ i m)
-      ⊎ (pow (field m) (tableRoot m re im) 720 ≡ (field m).neg (i m))
+  pub cycle : pow (field m) (table_root m re im) 2880 ≡ (field m).one
+  pub entry : (k : ℕ) → k < 2880 → entry_at re im k ≡ pair_of (pow (field m) (table_root m re im) k)
+  pub circle : (field m).mul (table_root m re im) (conj m (table_root m re im)) ≡ (field m).one
+  pub quarter : (pow (field m) (table_root m re im) 720 ≡ i m)
+      ⊎ (pow (field m) (table_root m re im) 720 ≡ (field m).neg (i m))

@@ -7,7 +7,7 @@ use Rattle.prime_shape.specs.Shape.{OrderIs, Shape}
 use Rattle.numbers.specs.Value.{prime, exponent, Value, Residue, ring, field, conj, i, real, half, part}
 use Rattle.numbers.specs.Bounds.{res}
 use Rattle.roots.specs.Root.{choice, root, RootRule}
-use Rattle.roots.specs.Table.{RealTable, ImaginaryTable, tableRoot, RootTable}
+use Rattle.roots.specs.Table.{RealTable, ImaginaryTable, table_root, RootTable}
 
 -- every number of a table is a residue
 pub record AllBelow (p : ℕ) (t : List ℕ) : Type 0 where
@@ -59,17 +59,17 @@ module _ (m : ℕ) where
   pub record RootLaws : Type 0 where
     -- r by the paper's rule, and what follows
     pub shape : Shape (prime m) (exponent m) (choice m) (root m)
-    pub choice-is : RootRule m
+    pub choice_is : RootRule m
     pub unity : Root (field m) 2880 (root m) (conj m (root m)) (real m (part m 2880))
-    pub half-turn : root m ^ 1440 ≡ ⊖ 𝟙
-    pub quarter-turn : root m ^ 720 ≡ ⊖ i m
+    pub half_turn : root m ^ 1440 ≡ ⊖ 𝟙
+    pub quarter_turn : root m ^ 720 ≡ ⊖ i m
     pub order : OrderIs (prime m) 2880 (root m)
     pub conjugate : (k : ℕ) → k ≤ 2880 → conj m (root m ^ k) ≡ root m ^ (2880 - k)
     -- the tables are those of r, and with the imaginary parts and half tangents negated those of its conjugate
     pub table : (re im : List ℕ) →
         RealTable m re → ImaginaryTable m im →
-        RootTable m re im × (tableRoot m re im ≡ root m)
+        RootTable m re im × (table_root m re im ≡ root m)
     pub backward : (re im u : List ℕ) → RealTable m re → ImaginaryTable m im → NegatedTable m 2880 im u →
-        RootTable m re u × (tableRoot m re u ≡ conj m (root m))
+        RootTable m re u × (table_root m re u ≡ conj m (root m))
     pub tangents : (t : List ℕ) → TangentTable t → TangentLaws t
-    pub backward-tangents : (t u : List ℕ) → TangentTable t → NegatedTable m 1440 t u → BackwardTangents u
+    pub backward_tangents : (t u : List ℕ) → TangentTable t → NegatedTable m 1440 t u → BackwardTangents u

@@ -14,8 +14,8 @@ some h = omega arith
 pub none : {n : ℕ} → 1 ≤ n → n ≡ 0 → ⊥
 none h z = omega arith
 
-pub not-zero : {n : ℕ} → 0 ≡ suc n → ⊥
-not-zero e = omega arith
+pub not_zero : {n : ℕ} → 0 ≡ suc n → ⊥
+not_zero e = omega arith
 
 -- one less of a number that is not 1
 pub two : {n : ℕ} → 1 ≤ n → (n ≡ 1 → ⊥) → 1 ≤ n - 1
@@ -50,8 +50,8 @@ by_number {X} i n f g = go (eqb i n) refl
 
 -- ---- truth values
 
-pub and-true : {a b : Bool} → a ≡ true → b ≡ true → (a && b) ≡ true
-and-true e f = λ i. e i && f i
+pub and_true : {a b : Bool} → a ≡ true → b ≡ true → (a && b) ≡ true
+and_true e f = λ i. e i && f i
 
 pub never : false ≡ true → ⊥
 never z = let n : ◌≡◌ {A = ℕ} 0 1 = ap (λ (b : Bool). cond b 1 0) z in omega arith

@@ -2,5 +2,5 @@
 use mathlib.Core.Path.{refl}
 use Rattle.scheduler.specs.Orders.{SchedulerRefusals}
 
-pub scheduler-refusals : SchedulerRefusals
-scheduler-refusals = record { entering = λ s d j v scratch. refl; withdrawing = λ s d. refl }
+pub scheduler_refusals : SchedulerRefusals
+scheduler_refusals = record { entering = λ s d j v scratch. refl; withdrawing = λ s d. refl }

@@ -1,6 +1,6 @@
 // The numbers of a script: where the six numbers of a call are read, and where the three numbers of its answer are written.
 ghost use Rattle.std.specs.Prelude.{◌≡◌, ◌++◌, ◌+◌, ◌*◌, ◌≤◌, length, take, drop};
-ghost use Rattle.scripts.specs.Script.{numbersAt, replyNumbers};
+ghost use Rattle.scripts.specs.Script.{numbers_at, reply_numbers};
 
 use job::reply::Reply;
 
@@ -18,7 +18,7 @@ pub struct CallNumbers {
 // The numbers of call i.
 pub fn numbers_at(script: &[u32], i: usize) -> CallNumbers
     requires { 6 * i + 6 ≤ length script.now }
-    ensures { result ≡ numbersAt script.now i }
+    ensures { result ≡ numbers_at script.now i }
 {
     let at = 6 * i;
     CallNumbers {
@@ -34,7 +34,7 @@ pub fn numbers_at(script: &[u32], i: usize) -> CallNumbers
 // The answer number i goes to its three places.
 pub fn write_reply(answers: &mut [i64], i: usize, reply: Reply)
     requires { 3 * i + 3 ≤ length answers.old }
-    ensures { answers.new ≡ take (3 * i) answers.old ++ replyNumbers reply
+    ensures { answers.new ≡ take (3 * i) answers.old ++ reply_numbers reply
         ++ drop (3 * i + 3) answers.old }
 {
     let at = 3 * i;

@@ -4,7 +4,7 @@ mod call; // call.rt: one call of a script
 ghost use Rattle.std.specs.Prelude.{◌≡◌, ℕ, ◌/◌, min};
 ghost use Rattle.model.specs.Model.{Model};
 ghost use Rattle.demands.specs.Demands.{Start, Started};
-ghost use Rattle.scripts.specs.Script.{replayOutcome, replayStep, modelReplay};
+ghost use Rattle.scripts.specs.Script.{replay_outcome, replay_step, model_replay};
 
 use job::Job;
 
@@ -35,14 +35,14 @@ pub fn replay(
     scratch: &mut [u32],
     answers: &mut [i64],
 ) -> Replayed
-    ensures answers_after { replayOutcome result volume.new scratch.new answers.new
-        ≡ replayStep job script.now volume.old scratch.old
+    ensures answers_after { replay_outcome result volume.new scratch.new answers.new
+        ≡ replay_step job script.now volume.old scratch.old
         answers.old }
     ensures by_index { (μ : ℕ) (s : Start μ) (m : Model μ) →
         Started s job volume.old m →
-        replayOutcome result volume.new
+        replay_outcome result volume.new
         scratch.new answers.new
-        ≡ modelReplay m script.now scratch.old answers.old }
+        ≡ model_replay m script.now scratch.old answers.old }
 {
     let count = call_count(script.len(), answers.len());
     let mut held = job;

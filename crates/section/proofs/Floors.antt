@@ -23,22 +23,22 @@ one_below (suc q) = along (λ k. negsuc (suc k)) (0 + q) q (omega arith)
 pub record Below (z : ℤ) (size n : ℕ) : Type 0 where
   pub low : 1 ≤ size
   pub high : size - 1 < 9223372036854775808
-  pub mean-is : mean z n ≡ negsuc ((size - 1) / n)
-  pub rest-is : remainder z n ≡ n - suc ((size - 1) % n)
+  pub mean_is : mean z n ≡ negsuc ((size - 1) / n)
+  pub rest_is : remainder z n ≡ n - suc ((size - 1) % n)
 
 pub record Above (z : ℤ) (size n : ℕ) : Type 0 where
   pub high : size < 9223372036854775808
-  pub mean-is : mean z n ≡ pos (size / n)
-  pub rest-is : remainder z n ≡ size % n
+  pub mean_is : mean z n ≡ pos (size / n)
+  pub rest_is : remainder z n ≡ size % n
 
 of_negative : (n : ℕ) (z : ℤ) {size : ℕ} → SFits w64 z → lt_z z (pos 0) ≡ true → size ≡ nat_abs z → Below z size n
 of_negative n (pos t) f e q = absurd (not-suc-le-zero (ltb-true t 0 e))
 of_negative n (negsuc t) {size} f e q =
     let less : t ≡ size - 1 = omega (arith, q) in
-    record { low = omega (arith, q); high = omega (arith, q, f.sfits); mean-is = ap (λ k. negsuc (k / n)) less; rest-is = ap (λ k. n - suc (k % n)) less }
+    record { low = omega (arith, q); high = omega (arith, q, f.sfits); mean_is = ap (λ k. negsuc (k / n)) less; rest_is = ap (λ k. n - suc (k % n)) less }
 
 of_positive : (n : ℕ) (z : ℤ) {size : ℕ} → SFits w64 z → lt_z z (pos 0) ≡ false → size ≡ nat_abs z → Above z size n
-of_positive n (pos t) f e q = record { high = omega (arith, q, f.sfits); mean-is = ap (λ k. pos (k / n)) (sym q); rest-is = ap (λ k. k % n) (sym q) }
+of_positive n (pos t) f e q = record { high = omega (arith, q, f.sfits); mean_is = ap (λ k. pos (k / n)) (sym q); rest_is = ap (λ k. k % n) (sym q) }
 of_positive n (negsuc t) f e q = absurd (subst T e tt)
 
 -- z as the machine keeps it is z: what is found of the one holds of the other

@@ -11,28 +11,28 @@ use mir.Syntax.{w64}
 use mir.Val.{SFits}
 use Rattle.algebra.specs.ring.Ring.{sum}
 use Rattle.signed.specs.IntegerRing.{integers}
-use Rattle.slices.proofs.Rows.{row-end}
+use Rattle.slices.proofs.Rows.{row_end}
 
 -- the magnitude of a difference
-abs-difference : (a b : ℕ) (t : Bool) → nat_abs (cond t (negsuc (suc b - suc a)) (pos (a - suc b))) ≤ a + suc b
-abs-difference a b true = omega arith
-abs-difference a b false = omega arith
+abs_difference : (a b : ℕ) (t : Bool) → nat_abs (cond t (negsuc (suc b - suc a)) (pos (a - suc b))) ≤ a + suc b
+abs_difference a b true = omega arith
+abs_difference a b false = omega arith
 
-pub abs-add : (x y : ℤ) → nat_abs (x +ℤ y) ≤ nat_abs x + nat_abs y
-abs-add (pos a) (pos b) = omega arith
-abs-add (pos a) (negsuc b) = abs-difference a b (ltb a (suc b))
-abs-add (negsuc a) (pos b) = omega (arith, abs-difference b a (ltb b (suc a)))
-abs-add (negsuc a) (negsuc b) = omega arith
+pub abs_add : (x y : ℤ) → nat_abs (x +ℤ y) ≤ nat_abs x + nat_abs y
+abs_add (pos a) (pos b) = omega arith
+abs_add (pos a) (negsuc b) = abs_difference a b (ltb a (suc b))
+abs_add (negsuc a) (pos b) = omega (arith, abs_difference b a (ltb b (suc a)))
+abs_add (negsuc a) (negsuc b) = omega arith
 
 -- a sum of n numbers, each of a magnitude of at most b
-pub abs-sum : (f : ℕ → ℤ) (b n : ℕ) → ((k : ℕ) → k < n → nat_abs (f k) ≤ b) → nat_abs (sum integers n f) ≤ n * b
+pub abs_sum : (f : ℕ → ℤ) (b n : ℕ) → ((k : ℕ) → k < n → nat_abs (f k) ≤ b) → nat_abs (sum integers n f) ≤ n * b
 unfolding sum integers
-abs-sum f b zero h = omega arith
-abs-sum f b (suc n) h = omega (arith, abs-add (sum integers n f) (f n), abs-sum f b n (λ k l. h k (omega arith)), h n (omega arith))
+abs_sum f b zero h = omega arith
+abs_sum f b (suc n) h = omega (arith, abs_add (sum integers n f) (f n), abs_sum f b n (λ k l. h k (omega arith)), h n (omega arith))
 
-pub small-fits : (z : ℤ) → nat_abs z < 9223372036854775808 → SFits w64 z
-small-fits (pos n) l = record { sfits = omega (arith, l) }
-small-fits (negsuc n) l = record { sfits = omega (arith, l) }
+pub small_fits : (z : ℤ) → nat_abs z < 9223372036854775808 → SFits w64 z
+small_fits (pos n) l = record { sfits = omega (arith, l) }
+small_fits (negsuc n) l = record { sfits = omega (arith, l) }
 
 -- The invariant of a loop that adds f 0, f 1, .., up to f (n - 1).
 pub record Summing (f : ℕ → ℤ) (n k : ℕ) (s : ℤ) : Type 0 where
@@ -44,16 +44,16 @@ unfolding sum integers
 summing_start f n = record { le = omega arith; is = refl }
 
 module _ {f : ℕ → ℤ} {n k : ℕ} {s : ℤ} (w : Summing f n k s) where
-  pub summing-next : {t r : ℤ} → k < n → t ≡ f k → r ≡ s +ℤ t → Summing f n (k + 1) r
+  pub summing_next : {t r : ℤ} → k < n → t ≡ f k → r ≡ s +ℤ t → Summing f n (k + 1) r
   unfolding sum integers
-  summing-next l e q = record { le = omega arith; is = q ∙ (λ i. w.is i +ℤ e i) ∙ ap (λ j. sum integers j f) (sym (add-one k)) }
+  summing_next l e q = record { le = omega arith; is = q ∙ (λ i. w.is i +ℤ e i) ∙ ap (λ j. sum integers j f) (sym (add-one k)) }
 
-  pub summing-done : n ≤ k → s ≡ sum integers n f
-  summing-done l = w.is ∙ ap (λ j. sum integers j f) (le_antisymm w.le l)
+  pub summing_done : n ≤ k → s ≡ sum integers n f
+  summing_done l = w.is ∙ ap (λ j. sum integers j f) (le_antisymm w.le l)
 
   -- the next sum is in range, if all are
-  pub summing-fits : (b : ℕ) {t : ℤ} → ((j : ℕ) → j < n → nat_abs (f j) ≤ b) → n * b < 9223372036854775808 → k < n → t ≡ f k → SFits w64 (s +ℤ t)
-  summing-fits b {t} h m l e = small-fits (s +ℤ t) (omega (arith, abs-add s t, so_far, h k l, ap nat_abs e, row-end b l, m))
+  pub summing_fits : (b : ℕ) {t : ℤ} → ((j : ℕ) → j < n → nat_abs (f j) ≤ b) → n * b < 9223372036854775808 → k < n → t ≡ f k → SFits w64 (s +ℤ t)
+  summing_fits b {t} h m l e = small_fits (s +ℤ t) (omega (arith, abs_add s t, so_far, h k l, ap nat_abs e, row_end b l, m))
     where
       so_far : nat_abs s ≤ k * b
-      so_far = subst (λ z. nat_abs z ≤ k * b) (sym w.is) (abs-sum f b k (λ j i. h j (omega arith)))
+      so_far = subst (λ z. nat_abs z ≤ k * b) (sym w.is) (abs_sum f b k (λ j i. h j (omega arith)))

@@ -3,17 +3,17 @@
 use Rattle.algebra.specs.Prelude.{◌≡◌, ℕ, ◌+◌, ◌*◌, ◌<◌, List, [], ◌∷◌, ◌++◌, length, get_or}
 use Rattle.algebra.specs.cells.Cell.{J, Inside, Cell}
 use Rattle.signed.specs.Integers.{ℤ, pos, ◌+ℤ◌, ◌*ℤ◌}
-use Rattle.output.specs.Output.{lineFeed}
+use Rattle.output.specs.Output.{line_feed}
 use Rattle.refusals.specs.Refusals.{first}
 use Rattle.cell.specs.Volume.{group_of}
-use Rattle.header.specs.Header.{halfLengths}
-use Rattle.combined.specs.CombinedMap.{packSigned, Symmetric}
-use Rattle.section.specs.Section.{sectionAt, total, points, mean, remainder, sectionLine, row_lines, sectionText}
-use Rattle.section.specs.Section.{closingLine, totalLetter, meanLetter, remainderLetter, sectionTests}
+use Rattle.header.specs.Header.{half_lengths}
+use Rattle.combined.specs.CombinedMap.{pack_signed, Symmetric}
+use Rattle.section.specs.Section.{section_at, total, points, mean, remainder, section_line, row_lines, section_text}
+use Rattle.section.specs.Section.{closing_line, total_letter, mean_letter, remainder_letter, section_tests}
 
 -- a call of these arguments is accepted
 abbrev pub Accepted : (group : ℕ) (lengths : J) (map : List ℤ) (z room : ℕ) → Type 0
-Accepted group n v z room = 0 ≡ first (sectionTests group n v z room)
+Accepted group n v z room = 0 ≡ first (section_tests group n v z room)
 
 -- the total is the mean times the points and the remainder, which is from 0 to the points less one
 pub record Divides (t : ℤ) (n : ℕ) : Type 0 where
@@ -29,17 +29,17 @@ SectionLaws =
 -- 69 characters, none of them a line feed, and a line feed
 pub record IsLine (line : List ℕ) : Type 0 where
   pub characters : List ℕ
-  pub ends : line ≡ characters ++ lineFeed ∷ []
+  pub ends : line ≡ characters ++ line_feed ∷ []
   pub wide : length characters ≡ 69
-  pub plain : (k : ℕ) → k < 69 → get_or characters k 0 ≡ lineFeed → ⊥
+  pub plain : (k : ℕ) → k < 69 → get_or characters k 0 ≡ line_feed → ⊥
 
 -- every line is one, and there are as many as the rows take, and three
 pub record Lined (group : ℕ) (n : J) (v : List ℤ) (z : ℕ) : Type 0 where
-  pub rows : (x i : ℕ) → x < n.0 → i < row_lines n → IsLine (sectionLine group n v z x i)
+  pub rows : (x i : ℕ) → x < n.0 → i < row_lines n → IsLine (section_line group n v z x i)
   pub last :
       (t : ℤ) →
-      IsLine (closingLine totalLetter t) × IsLine (closingLine meanLetter t) × IsLine (closingLine remainderLetter t)
-  pub count : length (sectionText group n v z) ≡ 70 * (n.0 * row_lines n + 3)
+      IsLine (closing_line total_letter t) × IsLine (closing_line mean_letter t) × IsLine (closing_line remainder_letter t)
+  pub count : length (section_text group n v z) ≡ 70 * (n.0 * row_lines n + 3)
 
 abbrev pub SectionWidth : Type 0
 SectionWidth =
@@ -51,6 +51,6 @@ SectionWidth =
 abbrev pub SectionPoints : Type 0
 SectionPoints =
     (group : ℕ) (n : J) (M : Cell ℤ) →
-    Symmetric (group_of group) (halfLengths n) M →
-    (x y z : ℕ) → Inside (halfLengths n) (x, y, z) →
-    sectionAt group n (packSigned (group_of group) (halfLengths n) M) z x y ≡ M x y z
+    Symmetric (group_of group) (half_lengths n) M →
+    (x y z : ℕ) → Inside (half_lengths n) (x, y, z) →
+    section_at group n (pack_signed (group_of group) (half_lengths n) M) z x y ≡ M x y z

@@ -1,9 +1,9 @@
 // The refusals of the section's call: the number is that of the first test of the paper's order that holds.
 ghost use Rattle.std.specs.Prelude.{◌≡◌, ◌+◌, ◌*◌, ◌/◌, ◌<◌};
 ghost use Rattle.refusals.specs.Refusals.{first};
-ghost use Rattle.refusals.specs.Checks.{checkedNumber};
-ghost use Rattle.cell.specs.Operations.{cellLengths, Sizes};
-ghost use Rattle.section.specs.Section.{rowWithin, planeWithin, row_lines, sectionTests};
+ghost use Rattle.refusals.specs.Checks.{checked_number};
+ghost use Rattle.cell.specs.Operations.{cell_lengths, Sizes};
+ghost use Rattle.section.specs.Section.{row_within, plane_within, row_lines, section_tests};
 ghost use Rattle.section.specs.Sound.{Plane};
 ghost use Rattle.section.specs.Orders.{SectionRefusals};
 
@@ -12,8 +12,8 @@ use refusals::{Checked, Refusal};
 
 // 8, 3, 9, 6, 10, 28, 18. The plane is looked at once, and nothing is written to know how long the page is.
 pub fn check_section(cell: UnitCell, map: &[i64], z: u32, room: usize) -> Checked
-    ensures { checkedNumber result
-        ≡ first (sectionTests cell.group (cellLengths cell) map.now z room) }
+    ensures { checked_number result
+        ≡ first (section_tests cell.group (cell_lengths cell) map.now z room) }
 {
     let checked = combined::check_combined_map(cell, map.len());
     match checked {
@@ -36,7 +36,7 @@ pub fn check_section(cell: UnitCell, map: &[i64], z: u32, room: usize) -> Checke
 // How many bytes a page has: 70 for each line.
 fn text_length(cell: UnitCell) -> usize
     requires { Sizes cell }
-    ensures { result ≡ 70 * (cell.n1 * row_lines (cellLengths cell) + 3) }
+    ensures { result ≡ 70 * (cell.n1 * row_lines (cell_lengths cell) + 3) }
 {
     let lines = ((cell.n2 + 4) / 5) as usize;
     70 * ((cell.n1 as usize) * lines + 3)
@@ -45,7 +45,7 @@ fn text_length(cell: UnitCell) -> usize
 // The numbers of the plane are within the range of a combined map.
 fn plane_within(cell: UnitCell, map: &[i64], z: u32) -> bool
     requires { Plane cell map.now z }
-    ensures { result ≡ planeWithin cell.group (cellLengths cell) map.now z }
+    ensures { result ≡ plane_within cell.group (cell_lengths cell) map.now z }
 {
     let mut x: u32 = 0;
     while x < cell.n1 {
@@ -61,7 +61,7 @@ fn plane_within(cell: UnitCell, map: &[i64], z: u32) -> bool
 // Those of row x.
 fn row_within(cell: UnitCell, map: &[i64], z: u32, x: u32) -> bool
     requires { Plane cell map.now z × (x < cell.n1) }
-    ensures { result ≡ rowWithin cell.group (cellLengths cell) map.now z x }
+    ensures { result ≡ row_within cell.group (cell_lengths cell) map.now z x }
 {
     let mut y: u32 = 0;
     while y < cell.n2 {

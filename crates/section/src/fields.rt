@@ -1,8 +1,8 @@
 // Numbers that end at a place of the line: blanks, then the number. And the closing lines, which have one each.
 ghost use Rattle.std.specs.Prelude.{[], ◌∷◌, ◌-◌, ◌≤◌, replicate};
-ghost use Rattle.output.specs.Output.{signedDecimal, blank};
+ghost use Rattle.output.specs.Output.{signed_decimal, blank};
 ghost use Rattle.output.specs.Written.{Wrote, Ends};
-ghost use Rattle.section.specs.Section.{aligned, closingLine, closingText};
+ghost use Rattle.section.specs.Section.{aligned, closing_line, closing_text};
 
 // The blanks of a field of `width` places that has `used` others; none where it has no room.
 pub fn put_blanks(out: &mut [u8], at: usize, used: usize, width: usize) -> usize
@@ -20,8 +20,8 @@ pub fn put_blanks(out: &mut [u8], at: usize, used: usize, width: usize) -> usize
 
 // A whole number, right-aligned. Its text is measured on an output of no bytes.
 pub fn put_aligned(out: &mut [u8], at: usize, width: usize, n: i64) -> usize
-    requires { Ends at (aligned width (signedDecimal n)) }
-    ensures { Wrote at (aligned width (signedDecimal n)) out.old result out.new }
+    requires { Ends at (aligned width (signed_decimal n)) }
+    ensures { Wrote at (aligned width (signed_decimal n)) out.old result out.new }
 {
     let mut nothing = [0u8; 0];
     let used = output::put_signed(&mut nothing, 0, n);
@@ -30,8 +30,8 @@ pub fn put_aligned(out: &mut [u8], at: usize, width: usize, n: i64) -> usize
 }
 
 fn put_closing_line(out: &mut [u8], at: usize, letter: u8, n: i64) -> usize
-    requires { Ends at (closingLine letter n) }
-    ensures { Wrote at (closingLine letter n) out.old result out.new }
+    requires { Ends at (closing_line letter n) }
+    ensures { Wrote at (closing_line letter n) out.old result out.new }
 {
     let field = output::put_byte(out, at, letter);
     let end = put_aligned(out, field, 68, n);
@@ -41,8 +41,8 @@ fn put_closing_line(out: &mut [u8], at: usize, letter: u8, n: i64) -> usize
 // The total, the mean and the remainder.
 pub fn put_closing(out: &mut [u8], at: usize, total: i64, points: u64) -> usize
     requires le_points { (1 ≤ points) × (points ≤ 8294400) }
-    requires ends { Ends at (closingText total points) }
-    ensures { Wrote at (closingText total points) out.old result out.new }
+    requires ends { Ends at (closing_text total points) }
+    ensures { Wrote at (closing_text total points) out.old result out.new }
 {
     let mean = crate::floor::floor_quotient(total, points);
     let rest = crate::floor::floor_remainder(total, points);

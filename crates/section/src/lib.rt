@@ -9,10 +9,10 @@ mod lines; // lines.rt: the rows of the page
 mod sums; // sums.rt: the total of the plane
 
 ghost use Rattle.std.specs.Prelude.{◌≡◌};
-ghost use Rattle.cell.specs.Operations.{cellLengths};
+ghost use Rattle.cell.specs.Operations.{cell_lengths};
 ghost use Rattle.output.specs.Written.{Wrote, Ends};
-ghost use Rattle.output.specs.Answers.{fillOutcome};
-ghost use Rattle.section.specs.Section.{sectionText, sectionStep};
+ghost use Rattle.output.specs.Answers.{fill_outcome};
+ghost use Rattle.section.specs.Section.{section_text, section_step};
 ghost use Rattle.section.specs.PointsRead.{ReadsPlaneAlone};
 ghost use Rattle.section.specs.SectionLaws.{SectionLaws, SectionWidth, SectionPoints};
 ghost use Rattle.section.specs.SectionPlaces.{SectionPlaces};
@@ -32,8 +32,8 @@ pub fn section_text(
     z: u32,
     out: &mut [u8],
 ) -> FillAnswer
-    ensures { fillOutcome result out.new
-        ≡ sectionStep group (n1, n2, n3) map.now z out.old }
+    ensures { fill_outcome result out.new
+        ≡ section_step group (n1, n2, n3) map.now z out.old }
 {
     let cell = UnitCell {
         group: group,
@@ -51,7 +51,7 @@ pub fn section_text(
 // The rows, then the three closing lines.
 fn put_section(out: &mut [u8], cell: UnitCell, map: &[i64], z: u32) -> usize
     requires { Sound cell map.now z }
-    ensures { Wrote 0 (sectionText cell.group (cellLengths cell) map.now z)
+    ensures { Wrote 0 (section_text cell.group (cell_lengths cell) map.now z)
         out.old result out.new }
 {
     let total = crate::sums::plane_total(cell, map, z);

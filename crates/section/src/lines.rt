@@ -1,9 +1,9 @@
 // The rows of a page: each takes as many lines of five values as it needs.
 ghost use Rattle.std.specs.Prelude.{◌≡◌, ◌+◌, ◌*◌, ◌<◌};
-ghost use Rattle.cell.specs.Operations.{cellLengths};
+ghost use Rattle.cell.specs.Operations.{cell_lengths};
 ghost use Rattle.output.specs.Output.{each};
 ghost use Rattle.output.specs.Written.{Wrote, Ends};
-ghost use Rattle.section.specs.Section.{valueField, sectionLine, row_lines, rowText, rowsText};
+ghost use Rattle.section.specs.Section.{value_field, section_line, row_lines, row_text, rows_text};
 ghost use Rattle.section.specs.Sound.{Plane};
 
 use cell::operations::{Point, UnitCell};
@@ -11,8 +11,8 @@ use cell::operations::{Point, UnitCell};
 // All rows, by rising x.
 pub fn put_rows(out: &mut [u8], at: usize, cell: UnitCell, map: &[i64], z: u32) -> usize
     requires plane { Plane cell map.now z }
-    requires ends { Ends at (rowsText cell.group (cellLengths cell) map.now z) }
-    ensures { Wrote at (rowsText cell.group (cellLengths cell) map.now z)
+    requires ends { Ends at (rows_text cell.group (cell_lengths cell) map.now z) }
+    ensures { Wrote at (rows_text cell.group (cell_lengths cell) map.now z)
         out.old result out.new }
 {
     let mut place = at;
@@ -27,8 +27,8 @@ pub fn put_rows(out: &mut [u8], at: usize, cell: UnitCell, map: &[i64], z: u32) 
 // The lines of row x.
 fn put_row(out: &mut [u8], at: usize, cell: UnitCell, map: &[i64], z: u32, x: u32) -> usize
     requires plane { Plane cell map.now z × (x < cell.n1) }
-    requires ends { Ends at (rowText cell.group (cellLengths cell) map.now z x) }
-    ensures { Wrote at (rowText cell.group (cellLengths cell) map.now z x)
+    requires ends { Ends at (row_text cell.group (cell_lengths cell) map.now z x) }
+    ensures { Wrote at (row_text cell.group (cell_lengths cell) map.now z x)
         out.old result out.new }
 {
     let lines = (cell.n2 + 4) / 5;
@@ -43,9 +43,9 @@ fn put_row(out: &mut [u8], at: usize, cell: UnitCell, map: &[i64], z: u32, x: u3
 
 // Line i of row x: x, and five values.
 fn put_line(out: &mut [u8], at: usize, cell: UnitCell, map: &[i64], z: u32, x: u32, i: u32) -> usize
-    requires plane { Plane cell map.now z × (x < cell.n1) × (i < row_lines (cellLengths cell)) }
-    requires ends { Ends at (sectionLine cell.group (cellLengths cell) map.now z x i) }
-    ensures { Wrote at (sectionLine cell.group (cellLengths cell) map.now z x i)
+    requires plane { Plane cell map.now z × (x < cell.n1) × (i < row_lines (cell_lengths cell)) }
+    requires ends { Ends at (section_line cell.group (cell_lengths cell) map.now z x i) }
+    ensures { Wrote at (section_line cell.group (cell_lengths cell) map.now z x i)
         out.old result out.new }
 {
     let first = crate::fields::put_aligned(out, at, 4, x as i64);
@@ -64,9 +64,9 @@ fn put_values(
     y: u32,
 ) -> usize
     requires plane { Plane cell map.now z × (x < cell.n1) × (y < 4000) }
-    requires ends { Ends at (each 5 (λ t. valueField cell.group (cellLengths cell) map.now z x (y + t))) }
+    requires ends { Ends at (each 5 (λ t. value_field cell.group (cell_lengths cell) map.now z x (y + t))) }
     ensures { Wrote at
-        (each 5 (λ t. valueField cell.group (cellLengths cell) map.now z x (y + t)))
+        (each 5 (λ t. value_field cell.group (cell_lengths cell) map.now z x (y + t)))
         out.old result out.new }
 {
     let mut place = at;
@@ -89,8 +89,8 @@ fn put_value(
     y: u32,
 ) -> usize
     requires plane { Plane cell map.now z × (x < cell.n1) }
-    requires ends { Ends at (valueField cell.group (cellLengths cell) map.now z x y) }
-    ensures { Wrote at (valueField cell.group (cellLengths cell) map.now z x y)
+    requires ends { Ends at (value_field cell.group (cell_lengths cell) map.now z x y) }
+    ensures { Wrote at (value_field cell.group (cell_lengths cell) map.now z x y)
         out.old result out.new }
 {
     if y < cell.n2 {

@@ -7,24 +7,24 @@ use native.Mathlib.Omega.{arith}
 use lib.Dec.{leb}
 use borrow.Author.Tests.{leb-true, leb-false, le-leb, lt-leb}
 use Rattle.algebra.proofs.ring.Laws.{along}
-use Rattle.signed.specs.Integers.{ℤ, pos, negsuc, nat_abs, residueZ, centred, Centre, CentredOnly}
+use Rattle.signed.specs.Integers.{ℤ, pos, negsuc, nat_abs, residue_z, centred, Centre, CentredOnly}
 
 -- ---- the two halves
 
-pub centred-low : (p x : ℕ) → x ≤ p / 2 → pos x ≡ centred p x
+pub centred_low : (p x : ℕ) → x ≤ p / 2 → pos x ≡ centred p x
 unfolding centred
-centred-low p x l = sym (ap (λ b. cond b (pos x) (negsuc (p - suc x))) (le-leb x _ (omega arith)))
+centred_low p x l = sym (ap (λ b. cond b (pos x) (negsuc (p - suc x))) (le-leb x _ (omega arith)))
 
-pub centred-high : (p x : ℕ) → p / 2 < x → negsuc (p - suc x) ≡ centred p x
+pub centred_high : (p x : ℕ) → p / 2 < x → negsuc (p - suc x) ≡ centred p x
 unfolding centred
-centred-high p x l = sym (ap (λ b. cond b (pos x) (negsuc (p - suc x))) (lt-leb x _ (omega arith)))
+centred_high p x l = sym (ap (λ b. cond b (pos x) (negsuc (p - suc x))) (lt-leb x _ (omega arith)))
 
 -- ---- congruent and near
 
-centred-by : (p x : ℕ) → p % 2 ≡ 1 → x < p → (b : Bool) → leb x (p / 2) ≡ b → Centre p x (cond b (pos x) (negsuc (p - suc x)))
-unfolding residueZ
-centred-by p x o l true e = record { congruent = mod-eq_of_lt l; near = leb-true x (p / 2) e }
-centred-by p x o l false e =
+centred_by : (p x : ℕ) → p % 2 ≡ 1 → x < p → (b : Bool) → leb x (p / 2) ≡ b → Centre p x (cond b (pos x) (negsuc (p - suc x)))
+unfolding residue_z
+centred_by p x o l true e = record { congruent = mod-eq_of_lt l; near = leb-true x (p / 2) e }
+centred_by p x o l false e =
     let small : p - suc x < p = omega arith in
     record {
       congruent = along (λ n. p - suc n) ((p - suc x) % p) (p - suc x) (mod-eq_of_lt small) ∙ back;
@@ -34,23 +34,23 @@ centred-by p x o l false e =
     back : p - suc (p - suc x) ≡ x
     back = omega arith
 
-centred-is : (p x : ℕ) → p % 2 ≡ 1 → x < p → Centre p x (centred p x)
+centred_is : (p x : ℕ) → p % 2 ≡ 1 → x < p → Centre p x (centred p x)
 unfolding centred
-centred-is p x o l = centred-by p x o l (leb x (p / 2)) refl
+centred_is p x o l = centred_by p x o l (leb x (p / 2)) refl
 
 -- ---- the only one
 
 only_one : (p x : ℕ) → p % 2 ≡ 1 → x < p → (z : ℤ) → Centre p x z → z ≡ centred p x
-unfolding residueZ
+unfolding residue_z
 only_one p x o l (pos n) c =
     let small : n < p = omega (arith, c.near) in
     let e : n ≡ x = sym (mod-eq_of_lt small) ∙ c.congruent in
-    centred-low p n c.near ∙ along (centred p) n x e
+    centred_low p n c.near ∙ along (centred p) n x e
 only_one p x o l (negsuc n) c =
     let small : n < p = omega (arith, c.near) in
     let e : p - suc n ≡ x = sym (along (λ k. p - suc k) (n % p) n (mod-eq_of_lt small)) ∙ c.congruent in
     let back : n ≡ p - suc x = omega (arith, e) in
-    along negsuc n (p - suc x) back ∙ centred-high p x (omega (arith, e, c.near))
+    along negsuc n (p - suc x) back ∙ centred_high p x (omega (arith, e, c.near))
 
-pub centred-only : CentredOnly
-centred-only = record { is = centred-is; only = only_one; zero = λ p. sym (centred-low p 0 (omega arith)) }
+pub centred_only : CentredOnly
+centred_only = record { is = centred_is; only = only_one; zero = λ p. sym (centred_low p 0 (omega arith)) }

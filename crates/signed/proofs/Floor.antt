@@ -21,8 +21,8 @@ negative t n q r e l =
     lifted t (n - suc r)
     ∙ along (λ k. neg_ℤ (pos k) +ℤ pos (n - suc r)) (suc (t + (n - suc r))) (suc q * n) (omega (arith, e))
 
-pub floor-division : FloorDivision
-floor-division (pos t) n l = record { whole = ap pos (sym (div-add-mod' t n)); below = mod-lt t (omega arith) }
-floor-division (negsuc t) n l =
+pub floor_division : FloorDivision
+floor_division (pos t) n l = record { whole = ap pos (sym (div-add-mod' t n)); below = mod-lt t (omega arith) }
+floor_division (negsuc t) n l =
     let small : t % n < n = mod-lt t (omega arith) in
     record { whole = negative t n (t / n) (t % n) (div-add-mod' t n) small; below = omega (arith, small) }

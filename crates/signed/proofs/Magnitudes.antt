@@ -8,26 +8,26 @@ use lib.Dec.{ltb}
 use lib.IntN.{ℤ, pos, negsuc, nat_abs, neg_ℤ, sub_ℕ, ◌+ℤ◌, ◌*ℤ◌}
 use borrow.Author.Tests.{ltb-true}
 
-abs-difference : (a b : ℕ) → nat_abs (sub_ℕ a b) ≤ a + b
-abs-difference a b = by (ltb a b) refl
+abs_difference : (a b : ℕ) → nat_abs (sub_ℕ a b) ≤ a + b
+abs_difference a b = by (ltb a b) refl
   where
     by : (t : Bool) → ltb a b ≡ t → nat_abs (cond t (negsuc (b - suc a)) (pos (a - b))) ≤ a + b
     by true e = omega (arith, ltb-true a b e)
     by false e = omega arith
 
-pub abs-add : (x y : ℤ) → nat_abs (x +ℤ y) ≤ nat_abs x + nat_abs y
-abs-add (pos a) (pos b) = le_refl (a + b)
-abs-add (pos a) (negsuc b) = abs-difference a (suc b)
-abs-add (negsuc a) (pos b) = omega (arith, abs-difference b (suc a))
-abs-add (negsuc a) (negsuc b) = omega arith
+pub abs_add : (x y : ℤ) → nat_abs (x +ℤ y) ≤ nat_abs x + nat_abs y
+abs_add (pos a) (pos b) = le_refl (a + b)
+abs_add (pos a) (negsuc b) = abs_difference a (suc b)
+abs_add (negsuc a) (pos b) = omega (arith, abs_difference b (suc a))
+abs_add (negsuc a) (negsuc b) = omega arith
 
 pub abs_neg : (x : ℤ) → nat_abs (neg_ℤ x) ≡ nat_abs x
 abs_neg (pos zero) = refl
 abs_neg (pos (suc n)) = refl
 abs_neg (negsuc n) = refl
 
-pub abs-mul : (x y : ℤ) → nat_abs (x *ℤ y) ≡ nat_abs x * nat_abs y
-abs-mul (pos a) (pos b) = refl
-abs-mul (pos a) (negsuc b) = abs_neg (pos (a * suc b))
-abs-mul (negsuc a) (pos b) = abs_neg (pos (suc a * b))
-abs-mul (negsuc a) (negsuc b) = refl
+pub abs_mul : (x y : ℤ) → nat_abs (x *ℤ y) ≡ nat_abs x * nat_abs y
+abs_mul (pos a) (pos b) = refl
+abs_mul (pos a) (negsuc b) = abs_neg (pos (a * suc b))
+abs_mul (negsuc a) (pos b) = abs_neg (pos (suc a * b))
+abs_mul (negsuc a) (negsuc b) = refl

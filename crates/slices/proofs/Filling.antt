@@ -10,7 +10,7 @@ use borrow.Author.Fill.{fill_none, fill_more}
 use Rattle.numbers.specs.declared.Pair.{Pair}
 use Rattle.slices.specs.Pairs.{at, put, puts, tab}
 use Rattle.slices.specs.Filling.{Filling, stores, FillingPairs}
-use Rattle.slices.proofs.Pairs.{length-put, puts-next, at-puts-other, fills-tab}
+use Rattle.slices.proofs.Pairs.{length_put, puts_next, at_puts_other, fills_tab}
 
 -- ---- a list of any elements
 
@@ -22,54 +22,54 @@ module _ {E S : Type 0} {run : (ℕ → ℕ) → (ℕ → S) → ℕ → List E 
   pub filled_more : {j : ℕ} {d : List E} (store : List E → List E) → Filling run p f n j d₀ d → j < n → length (store d) ≡ length d → store (run p f j d₀) ≡ run p f (j + 1) d₀ → Filling run p f n (j + 1) d₀ (store d)
   filled_more store h l e t = record { le = omega arith; len = e ∙ h.len; is = ap store h.is ∙ t }
 
-  pub filled-all : {j : ℕ} {d : List E} → Filling run p f n j d₀ d → n ≤ j → d ≡ run p f n d₀
-  filled-all {j} {d} h l = subst (λ (k : ℕ). d ≡ run p f k d₀) (omega (arith, h.le)) h.is
+  pub filled_all : {j : ℕ} {d : List E} → Filling run p f n j d₀ d → n ≤ j → d ≡ run p f n d₀
+  filled_all {j} {d} h l = subst (λ (k : ℕ). d ≡ run p f k d₀) (omega (arith, h.le)) h.is
 
 -- ---- elements, one at a time
 
-pub stores-next : {E : Type 0} (p : ℕ → ℕ) (f : ℕ → E) (n : ℕ) (d : List E) → set (stores p f n d) (p n) (f n) ≡ stores p f (n + 1) d
+pub stores_next : {E : Type 0} (p : ℕ → ℕ) (f : ℕ → E) (n : ℕ) (d : List E) → set (stores p f n d) (p n) (f n) ≡ stores p f (n + 1) d
 unfolding stores
-stores-next p f n d = rw (add-one) refl
+stores_next p f n d = rw (add-one) refl
 
-pub stores-replicate : (x n : ℕ) (d : List ℕ) → n ≤ length d → stores (λ j. j) (λ j. x) n d ≡ replicate n x ++ drop n d
+pub stores_replicate : (x n : ℕ) (d : List ℕ) → n ≤ length d → stores (λ j. j) (λ j. x) n d ≡ replicate n x ++ drop n d
 unfolding stores
-stores-replicate x zero d l = fill_none d x
-stores-replicate x (suc n) d l = ap (λ s. set s n x) (stores-replicate x n d (omega arith)) ∙ fill_more n x d l ∙ ap (λ k. replicate k x ++ drop k d) (add-one n)
+stores_replicate x zero d l = fill_none d x
+stores_replicate x (suc n) d l = ap (λ s. set s n x) (stores_replicate x n d (omega arith)) ∙ fill_more n x d l ∙ ap (λ k. replicate k x ++ drop k d) (add-one n)
 
 module _ {E : Type 0} {p : ℕ → ℕ} {f : ℕ → E} {n : ℕ} {d₀ : List E} where
-  pub storing-start : Filling stores p f n 0 d₀ d₀
+  pub storing_start : Filling stores p f n 0 d₀ d₀
   unfolding stores
-  storing-start = filled_none refl
+  storing_start = filled_none refl
 
-  pub storing-next : {j : ℕ} {d : List E} → Filling stores p f n j d₀ d → j < n → Filling stores p f n (j + 1) d₀ (set d (p j) (f j))
-  storing-next {j} {d} h l = filled_more (λ x. set x (p j) (f j)) h l (length-set d (p j) (f j)) (stores-next p f j d₀)
+  pub storing_next : {j : ℕ} {d : List E} → Filling stores p f n j d₀ d → j < n → Filling stores p f n (j + 1) d₀ (set d (p j) (f j))
+  storing_next {j} {d} h l = filled_more (λ x. set x (p j) (f j)) h l (length-set d (p j) (f j)) (stores_next p f j d₀)
 
 -- ---- pairs: turn j stores f j at place p j
 
 module _ {p : ℕ → ℕ} {f : ℕ → Pair} {n : ℕ} {d₀ : List ℕ} where
-  pub filling-start : FillingPairs p f n 0 d₀ d₀
+  pub filling_start : FillingPairs p f n 0 d₀ d₀
   unfolding puts
-  filling-start = filled_none refl
+  filling_start = filled_none refl
 
-  pub filling-next : {j : ℕ} {d e : List ℕ} {v : Pair} → FillingPairs p f n j d₀ d → j < n → e ≡ put d (p j) v → v ≡ f j → FillingPairs p f n (j + 1) d₀ e
-  filling-next {j} {d} {e} {v} h l s w =
+  pub filling_next : {j : ℕ} {d e : List ℕ} {v : Pair} → FillingPairs p f n j d₀ d → j < n → e ≡ put d (p j) v → v ≡ f j → FillingPairs p f n (j + 1) d₀ e
+  filling_next {j} {d} {e} {v} h l s w =
       subst (FillingPairs p f n (j + 1) d₀) (sym s)
-      (filled_more (λ x. put x (p j) v) h l (length-put d (p j) v) (ap (put (puts p f j d₀) (p j)) w ∙ sym (puts-next p f j d₀)))
+      (filled_more (λ x. put x (p j) v) h l (length_put d (p j) v) (ap (put (puts p f j d₀) (p j)) w ∙ sym (puts_next p f j d₀)))
 
-  pub filling-done : {j : ℕ} {d : List ℕ} → FillingPairs p f n j d₀ d → n ≤ j → d ≡ puts p f n d₀
-  filling-done h l = filled-all h l
+  pub filling_done : {j : ℕ} {d : List ℕ} → FillingPairs p f n j d₀ d → n ≤ j → d ≡ puts p f n d₀
+  filling_done h l = filled_all h l
 
   -- what stands at a place that no turn has stored to yet
-  pub filling-kept : {j : ℕ} {d : List ℕ} (k : ℕ) → FillingPairs p f n j d₀ d → ((i : ℕ) → i < j → p i ≢ k) → at d k ≡ at d₀ k
-  filling-kept {j} {d} k h o = ap (λ (x : List ℕ). at x k) h.is ∙ at-puts-other p f j k d₀ o
+  pub filling_kept : {j : ℕ} {d : List ℕ} (k : ℕ) → FillingPairs p f n j d₀ d → ((i : ℕ) → i < j → p i ≢ k) → at d k ≡ at d₀ k
+  filling_kept {j} {d} k h o = ap (λ (x : List ℕ). at x k) h.is ∙ at_puts_other p f j k d₀ o
 
 -- ---- a loop that goes up from place 0
 
 module _ {f : ℕ → Pair} {n j : ℕ} {d₀ d : List ℕ} where
   -- place j and all above are as they were
-  pub filling-ahead : (k : ℕ) → FillingPairs (λ i. i) f n j d₀ d → j ≤ k → at d k ≡ at d₀ k
-  filling-ahead k h l = filling-kept k h (λ i li e. omega arith)
+  pub filling_ahead : (k : ℕ) → FillingPairs (λ i. i) f n j d₀ d → j ≤ k → at d k ≡ at d₀ k
+  filling_ahead k h l = filling_kept k h (λ i li e. omega arith)
 
   -- the loop went over all of the list
-  pub filling-whole : FillingPairs (λ i. i) f n j d₀ d → n ≤ j → length d₀ ≡ 2 * n → d ≡ tab n f
-  filling-whole h l e = filling-done h l ∙ fills-tab f n d₀ e
+  pub filling_whole : FillingPairs (λ i. i) f n j d₀ d → n ≤ j → length d₀ ≡ 2 * n → d ≡ tab n f
+  filling_whole h l e = filling_done h l ∙ fills_tab f n d₀ e

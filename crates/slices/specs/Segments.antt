@@ -7,8 +7,8 @@ abbrev pub segment : ℕ → ℕ → List ℕ → List ℕ
 segment a e l = take (e - a) (drop a l)
 
 -- l with ys in their place
-abbrev pub setSegment : ℕ → ℕ → List ℕ → List ℕ → List ℕ
-setSegment a e l ys = take a l ++ (ys ++ drop (e - a) (drop a l))
+abbrev pub set_segment : ℕ → ℕ → List ℕ → List ℕ → List ℕ
+set_segment a e l ys = take a l ++ (ys ++ drop (e - a) (drop a l))
 
 -- the numbers from a to e are the n pairs of l from place k on
 pub record WholePairs (k n a e : ℕ) (l : List ℕ) : Type 0 where

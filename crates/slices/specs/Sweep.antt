@@ -14,13 +14,13 @@ pub record Layout : Type 0 where
 abbrev pub line_of : Layout → ℕ → List ℕ → ℕ → Pair
 line_of L y d i = at d (L.place y i)
 
-abbrev pub setLine : Layout → ℕ → (ℕ → Pair) → List ℕ → List ℕ
-setLine L y v d = puts (L.place y) v (L.size y) d
+abbrev pub set_line : Layout → ℕ → (ℕ → Pair) → List ℕ → List ℕ
+set_line L y v d = puts (L.place y) v (L.size y) d
 
 -- d after the turns of the lines below y: each line, as it then is, goes through g
 unfoldable pub sweep : Layout → (ℕ → (ℕ → Pair) → ℕ → Pair) → ℕ → List ℕ → List ℕ
 sweep L g zero d = d
-sweep L g (suc y) d = setLine L y (g y (line_of L y (sweep L g y d))) (sweep L g y d)
+sweep L g (suc y) d = set_line L y (g y (line_of L y (sweep L g y d))) (sweep L g y d)
 
 -- the lines lie inside a list of len numbers, and no two have a place in common
 pub record Disjoint (L : Layout) (len : ℕ) : Type 0 where
@@ -39,15 +39,15 @@ pub record Local (L : Layout) (g : ℕ → (ℕ → Pair) → ℕ → Pair) : Ty
       g y v i ≡ g y w i
 
 -- a function of lists, as a function of lines
-abbrev pub onLists : Layout → (ℕ → List ℕ → List ℕ) → ℕ → (ℕ → Pair) → ℕ → Pair
-onLists L G y v = at (G y (tab (L.size y) v))
+abbrev pub on_lists : Layout → (ℕ → List ℕ → List ℕ) → ℕ → (ℕ → Pair) → ℕ → Pair
+on_lists L G y v = at (G y (tab (L.size y) v))
 
 -- ---- the lines of a box of pairs: `blocks` blocks of n rows of k, block a, row b, column c at place (a n + b) k + c
 
 -- along the second index: line y is that of block y / k and column y % k
-abbrev pub alongSecond : (blocks n k : ℕ) → Layout
-alongSecond blocks n k = record { count = blocks * k; size = λ y. n; place = λ y j. (y / k * n + j) * k + y % k }
+abbrev pub along_second : (blocks n k : ℕ) → Layout
+along_second blocks n k = record { count = blocks * k; size = λ y. n; place = λ y j. (y / k * n + j) * k + y % k }
 
 -- count lines of n places along the last index: neighbouring places
-abbrev pub alongLast : (n count : ℕ) → Layout
-alongLast n count = record { count = count; size = λ y. n; place = λ y j. y * n + j }
+abbrev pub along_last : (n count : ℕ) → Layout
+along_last n count = record { count = count; size = λ y. n; place = λ y j. y * n + j }

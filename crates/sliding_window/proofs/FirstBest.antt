@@ -8,17 +8,17 @@ use native.Mathlib.Omega.{arith}
 use lib.Dec.{ltb}
 use lib.IntN.{ℤ}
 use borrow.Author.Tests.{ltb-true, ltb-false}
-use Rattle.sliding_window.specs.Window.{beats, score, betterOf, bestOf}
+use Rattle.sliding_window.specs.Window.{beats, score, better_of, best_of}
 use Rattle.sliding_window.specs.FirstBest.{BestAmong, FirstBest}
-use Rattle.sliding_window.proofs.Scores.{never, beats-past, beats-itself, beaten-not, beaten-less}
+use Rattle.sliding_window.proofs.Scores.{never, beats_past, beats_itself, beaten_not, beaten_less}
 
 module _ {g : Bool} {run : List ℤ} where
   -- of a single entry
-  pub best-one : (s : ℕ) {e : ℕ} → e ≡ s + 1 → BestAmong g run s e s
-  best-one s {e} q = record {
+  pub best_one : (s : ℕ) {e : ℕ} → e ≡ s + 1 → BestAmong g run s e s
+  best_one s {e} q = record {
     from = omega arith;
     before = omega arith;
-    unbeaten = λ k a b. subst (λ (i : ℕ). beats g (score run i) (score run s) ≡ false) (only k a b) (beats-itself g (score run s));
+    unbeaten = λ k a b. subst (λ (i : ℕ). beats g (score run i) (score run s) ≡ false) (only k a b) (beats_itself g (score run s));
     earlier = λ k a b. absurd (none k a b);
   }
     where
@@ -39,11 +39,11 @@ module _ {g : Bool} {run : List ℤ} where
     }
       where
         at : (i : ℕ) → s ≤ i → i < f → (q : Bool) → ltb i e ≡ q → beats g (score run i) (score run b) ≡ false
-        at i l u true q = beaten-less g (score run i) (score run b) (score run a) (h.unbeaten i l (ltb-true i e q)) t
+        at i l u true q = beaten_less g (score run i) (score run b) (score run a) (h.unbeaten i l (ltb-true i e q)) t
         at i l u false q = k.unbeaten i (omega (arith, ltb-false i e q)) u
 
         under : (i : ℕ) → s ≤ i → i < b → (q : Bool) → ltb i e ≡ q → beats g (score run b) (score run i) ≡ true
-        under i l u true q = beats-past g (score run b) (score run a) (score run i) t (h.unbeaten i l (ltb-true i e q))
+        under i l u true q = beats_past g (score run b) (score run a) (score run i) t (h.unbeaten i l (ltb-true i e q))
         under i l u false q = k.earlier i (omega (arith, ltb-false i e q)) u
     by false t = record {
       from = h.from;
@@ -54,31 +54,31 @@ module _ {g : Bool} {run : List ℤ} where
       where
         at : (i : ℕ) → s ≤ i → i < f → (q : Bool) → ltb i e ≡ q → beats g (score run i) (score run a) ≡ false
         at i l u true q = h.unbeaten i l (ltb-true i e q)
-        at i l u false q = beaten-not g (score run i) (score run b) (score run a) (k.unbeaten i (omega (arith, ltb-false i e q)) u) t
+        at i l u false q = beaten_not g (score run i) (score run b) (score run a) (k.unbeaten i (omega (arith, ltb-false i e q)) u) t
 
-    pub best-joined : BestAmong g run s f (betterOf g run a b)
-    best-joined = by (beats g (score run b) (score run a)) refl
+    pub best_joined : BestAmong g run s f (better_of g run a b)
+    best_joined = by (beats g (score run b) (score run a)) refl
 
   -- a later place beats an earlier one, which nothing beats
-  not-later : {s e a b : ℕ} → BestAmong g run s e a → BestAmong g run s e b → a < b → ⊥
-  not-later {a = a} {b} h k l = never (sym (h.unbeaten b k.from k.before) ∙ k.earlier a h.from l)
+  not_later : {s e a b : ℕ} → BestAmong g run s e a → BestAmong g run s e b → a < b → ⊥
+  not_later {a = a} {b} h k l = never (sym (h.unbeaten b k.from k.before) ∙ k.earlier a h.from l)
 
-  pub best-only : {s e a b : ℕ} → BestAmong g run s e a → BestAmong g run s e b → a ≡ b
-  best-only {a = a} {b} h k = by_order a b (not-later h k) (not-later k h)
+  pub best_only : {s e a b : ℕ} → BestAmong g run s e a → BestAmong g run s e b → a ≡ b
+  best_only {a = a} {b} h k = by_order a b (not_later h k) (not_later k h)
     where
       by_order : (a b : ℕ) → (a < b → ⊥) → (b < a → ⊥) → a ≡ b
       by_order a b p q = omega (arith, p, q)
 
 -- the definition joins one entry more at each step; the first is joined with itself
-best-from : (g : Bool) (run : List ℤ) (s w : ℕ) → BestAmong g run s (s + suc w) (bestOf g run s (suc w))
-unfolding bestOf
-best-from g run s zero = best-joined (best-one s {e = s + 1} refl) (best-one _ {e = s + 1} (omega arith)) (omega arith) (omega arith) (omega arith)
-best-from g run s (suc w) = best-joined (best-from g run s w) (best-one _ {e = s + suc (suc w)} (omega arith)) (omega arith) (omega arith) (omega arith)
+best_from : (g : Bool) (run : List ℤ) (s w : ℕ) → BestAmong g run s (s + suc w) (best_of g run s (suc w))
+unfolding best_of
+best_from g run s zero = best_joined (best_one s {e = s + 1} refl) (best_one _ {e = s + 1} (omega arith)) (omega arith) (omega arith) (omega arith)
+best_from g run s (suc w) = best_joined (best_from g run s w) (best_one _ {e = s + suc (suc w)} (omega arith)) (omega arith) (omega arith) (omega arith)
 
-pub first-best : FirstBest
-first-best g run s zero l = absurd (omega arith)
-first-best g run s (suc w) l = best-from g run s w
+pub first_best : FirstBest
+first_best g run s zero l = absurd (omega arith)
+first_best g run s (suc w) l = best_from g run s w
 
 -- whatever is the first best of w entries is what the definition says
-pub best-is : {g : Bool} {run : List ℤ} {s e b : ℕ} (w : ℕ) → 1 ≤ w → e ≡ s + w → BestAmong g run s e b → b ≡ bestOf g run s w
-best-is {g} {run} {s} {e} {b} w l q h = best-only (subst (λ (x : ℕ). BestAmong g run s x b) q h) (first-best g run s w l)
+pub best_is : {g : Bool} {run : List ℤ} {s e b : ℕ} (w : ℕ) → 1 ≤ w → e ≡ s + w → BestAmong g run s e b → b ≡ best_of g run s w
+best_is {g} {run} {s} {e} {b} w l q h = best_only (subst (λ (x : ℕ). BestAmong g run s x b) q h) (first_best g run s w l)

@@ -2,12 +2,12 @@
 use Rattle.algebra.specs.Prelude.{ℕ, List}
 use Rattle.std.specs.Prelude.{ℤ}
 use Rattle.output.specs.declared.FillAnswer.{FillAnswer}
-use Rattle.output.specs.Answers.{saidFill}
+use Rattle.output.specs.Answers.{said_fill}
 use Rattle.sliding_window.specs.Window.{WindowOutcome}
 
-abbrev pub windowOutcome : FillAnswer → (least greatest : List ℤ) (leastAt greatestAt : List ℕ) → WindowOutcome
-windowOutcome r least greatest leastAt greatestAt =
+abbrev pub window_outcome : FillAnswer → (least greatest : List ℤ) (place_of_least place_of_greatest : List ℕ) → WindowOutcome
+window_outcome r least greatest place_of_least place_of_greatest =
     record {
-      answer = saidFill r;
-      outputs = record { least = least; greatest = greatest; leastAt = leastAt; greatestAt = greatestAt };
+      answer = said_fill r;
+      outputs = record { least = least; greatest = greatest; place_of_least = place_of_least; place_of_greatest = place_of_greatest };
     }

@@ -2,7 +2,7 @@
 use Rattle.algebra.specs.Prelude.{◌≡◌, Bool, true, false, ℕ, ◌+◌, ◌<◌, ◌≤◌, List, length, get_or}
 use Rattle.std.specs.Prelude.{ℤ, pos}
 use Rattle.output.specs.Output.{Filled.written}
-use Rattle.sliding_window.specs.Window.{beats, score, bestOf, Extremes, windowStep}
+use Rattle.sliding_window.specs.Window.{beats, score, best_of, Extremes, window_step}
 
 -- b is the first place of the best score among the places from s on and before e: no score there beats it, and it beats
 -- every earlier one
@@ -15,7 +15,7 @@ pub record BestAmong (greatest : Bool) (run : List ℤ) (s e b : ℕ) : Type 0 w
 abbrev pub FirstBest : Type 0
 FirstBest = (greatest : Bool) (run : List ℤ) (s w : ℕ) →
     1 ≤ w →
-    BestAmong greatest run s (s + w) (bestOf greatest run s w)
+    BestAmong greatest run s (s + w) (best_of greatest run s w)
 
 -- ---- the same of what a call leaves that has answered that it wrote n windows
 
@@ -24,16 +24,16 @@ pub record WindowAt (greatest : Bool) (run : List ℤ) (w j : ℕ) (scores : Lis
     (places : List ℕ) : Type 0 where
   pub inside : j + w ≤ length run
   pub place : BestAmong greatest run j (j + w) (get_or places j 0)
-  pub its-score : get_or scores j (pos 0) ≡ score run (get_or places j 0)
+  pub its_score : get_or scores j (pos 0) ≡ score run (get_or places j 0)
 
 -- every w neighbouring entries are one of the n windows, and each window has its places
 pub record Windows (run : List ℤ) (w n : ℕ) (left : Extremes) : Type 0 where
   pub every : (j : ℕ) → j + w ≤ length run → j < n
-  pub of-least : (j : ℕ) → j < n → WindowAt false run w j left.least left.leastAt
-  pub of-greatest : (j : ℕ) → j < n → WindowAt true run w j left.greatest left.greatestAt
+  pub of_least : (j : ℕ) → j < n → WindowAt false run w j left.least left.place_of_least
+  pub of_greatest : (j : ℕ) → j < n → WindowAt true run w j left.greatest left.place_of_greatest
 
 abbrev pub EachWindow : Type 0
 EachWindow = (run : List ℤ) (w : ℕ) (outputs : Extremes) (n : ℕ) →
-    let done = windowStep run w outputs in
+    let done = window_step run w outputs in
     done.answer ≡ written n →
     Windows run w n done.outputs

@@ -1,8 +1,8 @@
 // The refusals of the window's call: the number is that of the first test of the paper's order that holds.
 ghost use Rattle.std.specs.Prelude.{◌≡◌, ◌+◌, ◌-◌, ◌<◌};
 ghost use Rattle.refusals.specs.Refusals.{first};
-ghost use Rattle.refusals.specs.Checks.{checkedNumber};
-ghost use Rattle.sliding_window.specs.Window.{windowTests};
+ghost use Rattle.refusals.specs.Checks.{checked_number};
+ghost use Rattle.sliding_window.specs.Window.{window_tests};
 ghost use Rattle.sliding_window.specs.Orders.{WindowRefusals};
 
 use refusals::{Checked, Refusal};
@@ -25,8 +25,8 @@ pub fn check_window(
     least_at: usize,
     greatest_at: usize,
 ) -> Checked
-    ensures { checkedNumber result
-        ≡ first (windowTests w count least greatest least_at greatest_at) }
+    ensures { checked_number result
+        ≡ first (window_tests w count least greatest least_at greatest_at) }
 {
     if w == 0 {
         return Checked::Failed(Refusal::Window);

@@ -1,7 +1,7 @@
 // The best of every window of a run, by van Herk's method of blocks: three comparisons an entry, whatever the window's length.
 ghost use Rattle.std.specs.Prelude.{◌≡◌, ◌+◌, ◌-◌, ◌≤◌, ◌<◌, length};
 ghost use Rattle.slices.specs.Filling.{stores};
-ghost use Rattle.sliding_window.specs.Window.{bestOf, bestScore, filledBy, windowCount};
+ghost use Rattle.sliding_window.specs.Window.{best_of, best_score, filled_by, window_count};
 ghost use Rattle.sliding_window.specs.Blocks.{Suffixes, Block};
 
 use crate::order::better;
@@ -17,13 +17,13 @@ pub fn extremes(
 )
     requires { (1 ≤ w)
         × (w ≤ 64)
-        × (count ≤ windowCount run.now w)
+        × (count ≤ window_count run.now w)
         × (count ≤ length scores.old)
         × (count ≤ length places.old) }
     ensures scores_after { scores.new
-        ≡ filledBy (λ j. bestScore greatest run.now j w) count scores.old }
+        ≡ filled_by (λ j. best_score greatest run.now j w) count scores.old }
     ensures places_after { places.new
-        ≡ filledBy (λ j. bestOf greatest run.now j w) count places.old }
+        ≡ filled_by (λ j. best_of greatest run.now j w) count places.old }
 {
     let mut best = [0usize; 64];
     let mut start = 0;
@@ -51,10 +51,10 @@ fn windows(
         × (start + size ≤ length scores.old)
         × (start + size ≤ length places.old) }
     ensures scores_after { scores.new
-        ≡ stores (λ r. start + r) (λ r. bestScore greatest run.now (start + r) w) size
+        ≡ stores (λ r. start + r) (λ r. best_score greatest run.now (start + r) w) size
         scores.old }
     ensures places_after { places.new
-        ≡ stores (λ r. start + r) (λ r. bestOf greatest run.now (start + r) w) size
+        ≡ stores (λ r. start + r) (λ r. best_of greatest run.now (start + r) w) size
         places.old }
 {
     let end = start + (w - 1);

@@ -6,8 +6,8 @@ pub mod extremes; // extremes.rt
 pub mod order; // order.rt
 
 ghost use Rattle.std.specs.Prelude.{◌≡◌};
-ghost use Rattle.sliding_window.specs.Window.{windowStep};
-ghost use Rattle.sliding_window.specs.Answers.{windowOutcome};
+ghost use Rattle.sliding_window.specs.Window.{window_step};
+ghost use Rattle.sliding_window.specs.Answers.{window_outcome};
 ghost use Rattle.sliding_window.specs.FirstBest.{FirstBest, EachWindow};
 
 use output::FillAnswer;
@@ -23,13 +23,13 @@ pub fn window_extremes(
     least_at: &mut [u64],
     greatest_at: &mut [u64],
 ) -> FillAnswer
-    ensures { windowOutcome result least.exit.now greatest.new least_at.new
+    ensures { window_outcome result least.exit.now greatest.new least_at.new
         greatest_at.new
-        ≡ windowStep run.now w (record {
+        ≡ window_step run.now w (record {
           least = least.entry.now;
           greatest = greatest.old;
-          leastAt = least_at.old;
-          greatestAt = greatest_at.old;
+          place_of_least = least_at.old;
+          place_of_greatest = greatest_at.old;
         }) }
 {
     let count = crate::check::window_count(run.len(), w);

@@ -1,6 +1,6 @@
 // What the test programs share: numbers of the input, buffers filled, checksums, lines of numbers printed.
 ghost use Rattle.std.specs.Prelude.{◌≡◌, ℕ, ◌+◌, ◌*◌, ◌%◌, ◌<◌, ◌≤◌, min, length, get_or, set, replicate, take, drop};
-ghost use Rattle.test_io.specs.Checksum.{checksumOf};
+ghost use Rattle.test_io.specs.Checksum.{checksum_of};
 
 use libc::{STDIN_FILENO, STDOUT_FILENO};
 use output::FillAnswer;
@@ -179,7 +179,7 @@ fn more(h: u64, x: u32) -> u64
 
 // Of every number and its place.
 pub fn checksum(v: &[u32]) -> u32
-    ensures { result ≡ checksumOf v.now }
+    ensures { result ≡ checksum_of v.now }
 {
     let mut h: u64 = 7;
     let mut j: usize = 0;

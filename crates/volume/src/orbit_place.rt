@@ -2,9 +2,9 @@
 // one orbit, so a mark at it tells whether a record of the orbit has come before.
 ghost use Rattle.std.specs.Prelude.{◌≡◌, ◌/◌, ◌<◌, ◌≤◌};
 ghost use Rattle.algebra.specs.cells.Cell.{span};
-ghost use Rattle.cell.specs.Volume.{volumeLength};
-ghost use Rattle.cell.specs.OrbitPlace.{numberPlace, lower, orbitPlace};
-ghost use Rattle.cell.specs.Operations.{cellGroup, cellHalves, triple_of, Sizes, Within};
+ghost use Rattle.cell.specs.Volume.{volume_length};
+ghost use Rattle.cell.specs.OrbitPlace.{number_place, lower, orbit_place};
+ghost use Rattle.cell.specs.Operations.{cell_group, cell_halves, triple_of, Sizes, Within};
 
 use cell::operations::{Index, UnitCell};
 use cell::{operations, places};
@@ -12,8 +12,8 @@ use cell::{operations, places};
 // The place of the orbit of j.
 pub fn orbit_place(cell: UnitCell, j: Index) -> usize
     requires { Sizes cell × Within cell j }
-    ensures { (result ≡ orbitPlace (cellGroup cell) (cellHalves cell) (triple_of j))
-        × (result < volumeLength (cellGroup cell) (cellHalves cell)) }
+    ensures { (result ≡ orbit_place (cell_group cell) (cell_halves cell) (triple_of j))
+        × (result < volume_length (cell_group cell) (cell_halves cell)) }
 {
     let count = operations::operation_count(cell.group);
     // the length of the volume: every place is lower
@@ -30,7 +30,7 @@ pub fn orbit_place(cell: UnitCell, j: Index) -> usize
 // The lower of the place of i, where i is stored, and of another place.
 fn lower_place(cell: UnitCell, i: Index, place: usize) -> usize
     requires { Sizes cell × Within cell i }
-    ensures { result ≡ lower (cellGroup cell) (cellHalves cell) (triple_of i) place }
+    ensures { result ≡ lower (cell_group cell) (cell_halves cell) (triple_of i) place }
 {
     if !places::is_stored(cell, i) {
         return place;
@@ -42,7 +42,7 @@ fn lower_place(cell: UnitCell, i: Index, place: usize) -> usize
 // The place of a stored index: the first number of its pair, but at l = A of an alternating line the second of pair 0.
 fn number_place(cell: UnitCell, j: Index) -> usize
     requires { Sizes cell × Within cell j }
-    ensures { result ≡ numberPlace (cellGroup cell) (cellHalves cell) (triple_of j) }
+    ensures { result ≡ number_place (cell_group cell) (cell_halves cell) (triple_of j) }
 {
     let kind = places::line_kind(cell.group, j.h as usize);
     if (kind == 3) & (j.l == cell.n3 / 2) {

@@ -2,11 +2,11 @@
 // one at the stored index of its orbit implies; and whether the numbers it is read from are residues.
 ghost use Rattle.std.specs.Prelude.{◌≡◌, true, ◌+◌, ◌/◌, ◌<◌, ◌≤◌, length};
 ghost use Rattle.algebra.specs.cells.Cell.{span, image_of};
-ghost use Rattle.algebra.specs.cells.CellPlaces.{lineSym};
+ghost use Rattle.algebra.specs.cells.CellPlaces.{line_sym};
 ghost use Rattle.numbers.specs.Value.{prime, IsModulus, pair_of};
-ghost use Rattle.cell.specs.Volume.{volumeLength, numbersRead, factorsIn};
-ghost use Rattle.cell.specs.Operations.{cellGroup, cellHalves, triple_of, Sizes, Within};
-ghost use Rattle.cell.specs.Places.{consecutive, allBelowAt, lineNumbersAt, lineFactor};
+ghost use Rattle.cell.specs.Volume.{volume_length, numbers_read, factors_in};
+ghost use Rattle.cell.specs.Operations.{cell_group, cell_halves, triple_of, Sizes, Within};
+ghost use Rattle.cell.specs.Places.{consecutive, all_below_at, line_numbers_at, line_factor};
 ghost use Rattle.cell.specs.TestSteps.{IsStored};
 
 use cell::operations::{Index, UnitCell};
@@ -17,7 +17,7 @@ use numbers::Pair;
 // The numbers of a consecutive are below p.
 pub fn run_below(r: Run, p: u32, volume: &[u32]) -> bool
     requires { r.first + r.count ≤ length volume.now }
-    ensures { result ≡ allBelowAt p volume.now (consecutive r.first r.count) }
+    ensures { result ≡ all_below_at p volume.now (consecutive r.first r.count) }
 {
     let first = r.first;
     let count = r.count;
@@ -34,9 +34,9 @@ pub fn run_below(r: Run, p: u32, volume: &[u32]) -> bool
 // The numbers that the factor at j is read from are below p.
 pub fn factor_numbers_below(cell: UnitCell, j: Index, p: u32, volume: &[u32]) -> bool
     requires sizes { Sizes cell × Within cell j }
-    requires volume_len { length volume.now ≡ volumeLength (cellGroup cell) (cellHalves cell) }
+    requires volume_len { length volume.now ≡ volume_length (cell_group cell) (cell_halves cell) }
     ensures { result
-        ≡ allBelowAt p volume.now (numbersRead (cellGroup cell) (cellHalves cell) (triple_of j)) }
+        ≡ all_below_at p volume.now (numbers_read (cell_group cell) (cell_halves cell) (triple_of j)) }
 {
     run_below(places::factor_numbers(cell, j), p, volume)
 }
@@ -45,11 +45,11 @@ pub fn factor_numbers_below(cell: UnitCell, j: Index, p: u32, volume: &[u32]) ->
 fn stored_index(cell: UnitCell, j: Index) -> Index
     requires { Sizes cell × Within cell j × (j.k ≤ cell.n2 / 2) }
     ensures stored { IsStored cell result }
-    ensures result_value { lineNumbersAt (cellGroup cell) (cellHalves cell) (triple_of result)
-        ≡ lineNumbersAt (cellGroup cell) (cellHalves cell) (triple_of j) }
-    ensures result_value_2 { j.l < span (cellGroup cell) (cell.n3 / 2) → triple_of result ≡ triple_of j }
-    ensures result_value_3 { span (cellGroup cell) (cell.n3 / 2) ≤ j.l →
-        triple_of result ≡ image_of (cellHalves cell) (lineSym (cellGroup cell)) (triple_of j) }
+    ensures result_value { line_numbers_at (cell_group cell) (cell_halves cell) (triple_of result)
+        ≡ line_numbers_at (cell_group cell) (cell_halves cell) (triple_of j) }
+    ensures result_value_2 { j.l < span (cell_group cell) (cell.n3 / 2) → triple_of result ≡ triple_of j }
+    ensures result_value_3 { span (cell_group cell) (cell.n3 / 2) ≤ j.l →
+        triple_of result ≡ image_of (cell_halves cell) (line_sym (cell_group cell)) (triple_of j) }
 {
     if j.l < places::stored_count(cell) {
         j
@@ -65,11 +65,11 @@ fn stored_index(cell: UnitCell, j: Index) -> Index
 // The factor at (h, k, l), k from 0 to B: stored, or implied by the one at (h, k, -l).
 fn line_value(m: u32, cell: UnitCell, j: Index, volume: &[u32]) -> Pair
     requires modulus { IsModulus m × Sizes cell × Within cell j × (j.k ≤ cell.n2 / 2) }
-    requires volume_len { length volume.now ≡ volumeLength (cellGroup cell) (cellHalves cell) }
-    requires j_value { allBelowAt (prime m) volume.now (lineNumbersAt (cellGroup cell) (cellHalves cell) (triple_of j))
+    requires volume_len { length volume.now ≡ volume_length (cell_group cell) (cell_halves cell) }
+    requires j_value { all_below_at (prime m) volume.now (line_numbers_at (cell_group cell) (cell_halves cell) (triple_of j))
         ≡ true }
     ensures { result
-        ≡ pair_of (lineFactor (cellGroup cell) (cellHalves cell) m volume.now (triple_of j)) }
+        ≡ pair_of (line_factor (cell_group cell) (cell_halves cell) m volume.now (triple_of j)) }
 {
     let i = stored_index(cell, j);
     let x = crate::stored::value_at(m, cell, volume, i);
@@ -83,11 +83,11 @@ fn line_value(m: u32, cell: UnitCell, j: Index, volume: &[u32]) -> Pair
 // The factor at j, whose numbers are below the prime.
 pub fn factor_at(m: u32, cell: UnitCell, j: Index, volume: &[u32]) -> Pair
     requires modulus { IsModulus m × Sizes cell × Within cell j }
-    requires volume_len { length volume.now ≡ volumeLength (cellGroup cell) (cellHalves cell) }
-    requires j_value { allBelowAt (prime m) volume.now (numbersRead (cellGroup cell) (cellHalves cell) (triple_of j))
+    requires volume_len { length volume.now ≡ volume_length (cell_group cell) (cell_halves cell) }
+    requires j_value { all_below_at (prime m) volume.now (numbers_read (cell_group cell) (cell_halves cell) (triple_of j))
         ≡ true }
     ensures { result
-        ≡ pair_of (factorsIn (cellGroup cell) (cellHalves cell) m volume.now j.h j.k j.l) }
+        ≡ pair_of (factors_in (cell_group cell) (cell_halves cell) m volume.now j.h j.k j.l) }
 {
     let x = line_value(m, cell, places::stored_column(cell, j), volume);
     if j.k <= cell.n2 / 2 {
@@ -101,11 +101,11 @@ pub fn factor_at(m: u32, cell: UnitCell, j: Index, volume: &[u32]) -> Pair
 // place, and no call is left there.
 pub fn walked_factor(m: u32, cell: UnitCell, j: Index, volume: &[u32]) -> Pair
     requires modulus { IsModulus m × Sizes cell × Within cell j }
-    requires volume_len { length volume.now ≡ volumeLength (cellGroup cell) (cellHalves cell) }
-    requires j_value { allBelowAt (prime m) volume.now (numbersRead (cellGroup cell) (cellHalves cell) (triple_of j))
+    requires volume_len { length volume.now ≡ volume_length (cell_group cell) (cell_halves cell) }
+    requires j_value { all_below_at (prime m) volume.now (numbers_read (cell_group cell) (cell_halves cell) (triple_of j))
         ≡ true }
     ensures { result
-        ≡ pair_of (factorsIn (cellGroup cell) (cellHalves cell) m volume.now j.h j.k j.l) }
+        ≡ pair_of (factors_in (cell_group cell) (cell_halves cell) m volume.now j.h j.k j.l) }
 {
     let i = places::stored_column(cell, j);
     if places::is_end(cell.n3, i.l) {

@@ -3,9 +3,9 @@
 ghost use Rattle.std.specs.Prelude.{◌≡◌, [], ◌∷◌, length};
 ghost use Rattle.numbers.specs.Value.{prime, IsModulus, value_of};
 ghost use Rattle.numbers.specs.Bounds.{Small};
-ghost use Rattle.cell.specs.Volume.{volumeLength};
-ghost use Rattle.cell.specs.Consistency.{writeImages, recordOn};
-ghost use Rattle.cell.specs.Operations.{cellGroup, cellHalves, triple_of, symOf, Sizes, Within};
+ghost use Rattle.cell.specs.Volume.{volume_length};
+ghost use Rattle.cell.specs.Consistency.{write_images, record_on};
+ghost use Rattle.cell.specs.Operations.{cell_group, cell_halves, triple_of, sym_of, Sizes, Within};
 
 use cell::operations::{Index, Operation, UnitCell};
 use cell::{operations, places};
@@ -15,9 +15,9 @@ use numbers::Pair;
 // k = B among them.
 pub fn write_images(m: u32, cell: UnitCell, j: Index, x: Pair, volume: &mut [u32])
     requires modulus { IsModulus m × Small (prime m) x × Sizes cell × Within cell j }
-    requires volume_len { length volume.old ≡ volumeLength (cellGroup cell) (cellHalves cell) }
+    requires volume_len { length volume.old ≡ volume_length (cell_group cell) (cell_halves cell) }
     ensures { volume.new
-        ≡ recordOn (cellGroup cell) (cellHalves cell) m (triple_of j) (value_of m x) volume.old }
+        ≡ record_on (cell_group cell) (cell_halves cell) m (triple_of j) (value_of m x) volume.old }
 {
     let count = operations::operation_count(cell.group);
     let mut number = 0;
@@ -37,9 +37,9 @@ pub fn write_images(m: u32, cell: UnitCell, j: Index, x: Pair, volume: &mut [u32
 // The value that x at j implies goes to the image of j, if that is stored, as its line stores it.
 fn write_image(m: u32, o: Operation, cell: UnitCell, j: Index, x: Pair, volume: &mut [u32])
     requires modulus { IsModulus m × Small (prime m) x × Sizes cell × Within cell j }
-    requires volume_len { length volume.old ≡ volumeLength (cellGroup cell) (cellHalves cell) }
+    requires volume_len { length volume.old ≡ volume_length (cell_group cell) (cell_halves cell) }
     ensures { volume.new
-        ≡ writeImages (cellGroup cell) (cellHalves cell) m (symOf o ∷ []) (triple_of j) (value_of m x)
+        ≡ write_images (cell_group cell) (cell_halves cell) m (sym_of o ∷ []) (triple_of j) (value_of m x)
         volume.old }
 {
     let to = operations::image(o, cell, j);

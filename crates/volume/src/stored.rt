@@ -3,10 +3,10 @@ ghost use Rattle.std.specs.Prelude.{◌≡◌, true, ℕ, ◌/◌, get_or};
 ghost use Rattle.algebra.specs.lines.Kinds.{Kind.alternating};
 ghost use Rattle.numbers.specs.Value.{prime, IsModulus, pair_of};
 ghost use Rattle.slices.specs.Pairs.{at};
-ghost use Rattle.cell.specs.Volume.{lineKind, pairPlace, map_place};
-ghost use Rattle.cell.specs.Operations.{cellGroup, cellHalves, triple_of, point_of};
-ghost use Rattle.cell.specs.TestSteps.{IsVolume, IsStored, PairInside, same_pair, isZero};
-ghost use Rattle.cell.specs.Places.{IsStoredFactor, allBelowAt, lineNumbersAt, lineFactor};
+ghost use Rattle.cell.specs.Volume.{line_kind, pair_place, map_place};
+ghost use Rattle.cell.specs.Operations.{cell_group, cell_halves, triple_of, point_of};
+ghost use Rattle.cell.specs.TestSteps.{IsVolume, IsStored, PairInside, same_pair, is_zero};
+ghost use Rattle.cell.specs.Places.{IsStoredFactor, all_below_at, line_numbers_at, line_factor};
 
 use cell::operations::{Index, Point, UnitCell};
 use cell::places;
@@ -15,7 +15,7 @@ use numbers::Pair;
 // The pair w of (h, k).
 pub fn pair_at(cell: UnitCell, volume: &[u32], w: u32, h: u32, k: u32) -> Pair
     requires { PairInside cell volume.now w h k }
-    ensures { result ≡ at volume.now (pairPlace (cellGroup cell) (cellHalves cell) w h k) }
+    ensures { result ≡ at volume.now (pair_place (cell_group cell) (cell_halves cell) w h k) }
 {
     slices::get(volume, places::pair_place(cell, w, h, k))
 }
@@ -29,7 +29,7 @@ pub fn same(x: Pair, y: Pair) -> bool
 
 // Both numbers are zero.
 pub fn is_zero(x: Pair) -> bool
-    ensures { result ≡ isZero x }
+    ensures { result ≡ is_zero x }
 {
     (x.re == 0) & (x.im == 0)
 }
@@ -46,9 +46,9 @@ fn alternating_pair(half: u32, l: u32) -> u32
 fn alternating_factor(cell: UnitCell, volume: &[u32], j: Index) -> Pair
     requires { IsVolume cell volume.now
         × IsStored cell j
-        × (lineKind (cellGroup cell) j.h ≡ alternating) }
+        × (line_kind (cell_group cell) j.h ≡ alternating) }
     ensures { (m : ℕ) →
-        IsStoredFactor (cellGroup cell) (cellHalves cell) m volume.now (triple_of j) result }
+        IsStoredFactor (cell_group cell) (cell_halves cell) m volume.now (triple_of j) result }
 {
     let half = cell.n3 / 2;
     let x = pair_at(cell, volume, alternating_pair(half, j.l), j.h, j.k);
@@ -70,7 +70,7 @@ fn alternating_factor(cell: UnitCell, volume: &[u32], j: Index) -> Pair
 pub fn stored_factor(cell: UnitCell, volume: &[u32], j: Index) -> Pair
     requires { IsVolume cell volume.now × IsStored cell j }
     ensures { (m : ℕ) →
-        IsStoredFactor (cellGroup cell) (cellHalves cell) m volume.now (triple_of j) result }
+        IsStoredFactor (cell_group cell) (cell_halves cell) m volume.now (triple_of j) result }
 {
     let kind = places::line_kind(cell.group, j.h as usize);
     if kind == 3 {
@@ -85,10 +85,10 @@ pub fn stored_factor(cell: UnitCell, volume: &[u32], j: Index) -> Pair
 // The factor at a stored index: a rotated line loses its i.
 pub fn stored_value(m: u32, cell: UnitCell, volume: &[u32], j: Index) -> Pair
     requires modulus { IsModulus m × IsVolume cell volume.now × IsStored cell j }
-    requires j_value { allBelowAt (prime m) volume.now (lineNumbersAt (cellGroup cell) (cellHalves cell) (triple_of j))
+    requires j_value { all_below_at (prime m) volume.now (line_numbers_at (cell_group cell) (cell_halves cell) (triple_of j))
         ≡ true }
     ensures { result
-        ≡ pair_of (lineFactor (cellGroup cell) (cellHalves cell) m volume.now (triple_of j)) }
+        ≡ pair_of (line_factor (cell_group cell) (cell_halves cell) m volume.now (triple_of j)) }
 {
     places::without_i(m, cell.group, j.h, stored_factor(cell, volume, j))
 }
@@ -101,10 +101,10 @@ pub fn between_value(m: u32, cell: UnitCell, volume: &[u32], j: Index) -> Pair
         × IsStored cell j
         × (j.l ≡ 0 → ⊥)
         × (j.l ≡ cell.n3 / 2 → ⊥) }
-    requires j_value { allBelowAt (prime m) volume.now (lineNumbersAt (cellGroup cell) (cellHalves cell) (triple_of j))
+    requires j_value { all_below_at (prime m) volume.now (line_numbers_at (cell_group cell) (cell_halves cell) (triple_of j))
         ≡ true }
     ensures { result
-        ≡ pair_of (lineFactor (cellGroup cell) (cellHalves cell) m volume.now (triple_of j)) }
+        ≡ pair_of (line_factor (cell_group cell) (cell_halves cell) m volume.now (triple_of j)) }
 {
     places::without_i(m, cell.group, j.h, pair_at(cell, volume, j.l, j.h, j.k))
 }
@@ -112,10 +112,10 @@ pub fn between_value(m: u32, cell: UnitCell, volume: &[u32], j: Index) -> Pair
 // Either, by where l is.
 pub fn value_at(m: u32, cell: UnitCell, volume: &[u32], j: Index) -> Pair
     requires modulus { IsModulus m × IsVolume cell volume.now × IsStored cell j }
-    requires j_value { allBelowAt (prime m) volume.now (lineNumbersAt (cellGroup cell) (cellHalves cell) (triple_of j))
+    requires j_value { all_below_at (prime m) volume.now (line_numbers_at (cell_group cell) (cell_halves cell) (triple_of j))
         ≡ true }
     ensures { result
-        ≡ pair_of (lineFactor (cellGroup cell) (cellHalves cell) m volume.now (triple_of j)) }
+        ≡ pair_of (line_factor (cell_group cell) (cell_halves cell) m volume.now (triple_of j)) }
 {
     if places::is_end(cell.n3, j.l) {
         stored_value(m, cell, volume, j)
@@ -128,7 +128,7 @@ pub fn value_at(m: u32, cell: UnitCell, volume: &[u32], j: Index) -> Pair
 pub fn stored_number(cell: UnitCell, volume: &[u32], p: Point) -> u32
     requires { PairInside cell volume.now p.z p.x (p.y / 2) }
     ensures { result
-        ≡ get_or volume.now (map_place (cellGroup cell) (cellHalves cell) (point_of p)) 0 }
+        ≡ get_or volume.now (map_place (cell_group cell) (cell_halves cell) (point_of p)) 0 }
 {
     let place = 2 * places::pair_place(cell, p.z, p.x, 0) + (p.y as usize);
     volume[place]

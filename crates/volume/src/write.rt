@@ -4,9 +4,9 @@ ghost use Rattle.std.specs.Prelude.{◌≡◌, cond, ◌/◌, ◌<◌, ◌≤◌
 ghost use Rattle.algebra.specs.lines.Kinds.{Kind.alternating};
 ghost use Rattle.algebra.specs.cells.Cell.{span};
 ghost use Rattle.algebra.specs.cells.CellPack.{even};
-ghost use Rattle.cell.specs.Volume.{lineKind, volumeLength};
-ghost use Rattle.cell.specs.Consistency.{writeAlternating, write};
-ghost use Rattle.cell.specs.Operations.{cellGroup, cellHalves, triple_of, Sizes, Within};
+ghost use Rattle.cell.specs.Volume.{line_kind, volume_length};
+ghost use Rattle.cell.specs.Consistency.{write_alternating, write};
+ghost use Rattle.cell.specs.Operations.{cell_group, cell_halves, triple_of, Sizes, Within};
 
 use cell::operations::{Index, UnitCell};
 use cell::places;
@@ -17,10 +17,10 @@ pub fn write_factor(cell: UnitCell, j: Index, x: Pair, volume: &mut [u32])
     requires sizes { Sizes cell
         × Within cell j
         × (j.k ≤ cell.n2 / 2)
-        × (j.l < span (cellGroup cell) (cell.n3 / 2)) }
-    requires volume_len { length volume.old ≡ volumeLength (cellGroup cell) (cellHalves cell) }
+        × (j.l < span (cell_group cell) (cell.n3 / 2)) }
+    requires volume_len { length volume.old ≡ volume_length (cell_group cell) (cell_halves cell) }
     ensures { volume.new
-        ≡ write (cellGroup cell) (cellHalves cell) volume.old (triple_of j) x }
+        ≡ write (cell_group cell) (cell_halves cell) volume.old (triple_of j) x }
 {
     let kind = places::line_kind(cell.group, j.h as usize);
     if kind == 3 {
@@ -33,13 +33,13 @@ pub fn write_factor(cell: UnitCell, j: Index, x: Pair, volume: &mut [u32])
 // x goes to j in an alternating line: one number of pair 0 at either end, else a pair.
 fn write_alternating(cell: UnitCell, j: Index, x: Pair, volume: &mut [u32])
     requires sizes { Sizes cell
-        × (lineKind (cellGroup cell) j.h ≡ alternating)
+        × (line_kind (cell_group cell) j.h ≡ alternating)
         × Within cell j
         × (j.k ≤ cell.n2 / 2)
         × (j.l ≤ cell.n3 / 2) }
-    requires volume_len { length volume.old ≡ volumeLength (cellGroup cell) (cellHalves cell) }
+    requires volume_len { length volume.old ≡ volume_length (cell_group cell) (cell_halves cell) }
     ensures { volume.new
-        ≡ writeAlternating (cellGroup cell) (cellHalves cell) volume.old j.h j.k j.l x }
+        ≡ write_alternating (cell_group cell) (cell_halves cell) volume.old j.h j.k j.l x }
 {
     let half = cell.n3 / 2;
     let first = 2 * places::pair_place(cell, 0, j.h, j.k);

@@ -4,7 +4,7 @@ use Rattle.algebra.specs.ring.Ring.{Ops}
 use Rattle.algebra.specs.lines.Kinds.{slots}
 use Rattle.numbers.specs.Value.{prime, Residue, ring, part}
 use Rattle.slices.specs.Pairs.{Below}
-use Rattle.slices.specs.Sweep.{Layout, sweep, onLists, alongLast}
+use Rattle.slices.specs.Sweep.{Layout, sweep, on_lists, along_last}
 use Rattle.lengths.specs.Lengths.{kind_of}
 use Rattle.cell.specs.Volume.{columns}
 use Rattle.batches.specs.Reduction.{ShiftedTable}
@@ -12,14 +12,14 @@ use Rattle.batches.specs.Groups.{neighbours}
 use Rattle.volume_transform.specs.declared.plan.Line.{Line}
 use Rattle.volume_transform.specs.declared.plan.LineGroup.{LineGroup}
 use Rattle.volume_transform.specs.declared.plan.Plan.{Plan}
-use Rattle.volume_transform.specs.Axes.{turnedRow, alongL, alongH, lineCount, lineOfTurn}
-use Rattle.volume_transform.specs.Lines.{SoundLine, storedTurn, shifted}
-use Rattle.volume_transform.specs.Plans.{planGroup, planHalves, planTurn, planNumbers, Gathered, Row, LineAt}
+use Rattle.volume_transform.specs.Axes.{turned_row, along_l, along_h, line_count, line_of_turn}
+use Rattle.volume_transform.specs.Lines.{SoundLine, stored_turn, shifted}
+use Rattle.volume_transform.specs.Plans.{plan_group, plan_halves, plan_turn, plan_numbers, Gathered, Row, LineAt}
 
 -- The lines along l and h come in rows of B + 1: as far as the row goes, line y + v is line y, v places further on.
 pub record Neighbours (p : Plan) (step own : ℕ → List ℕ → List ℕ) (y : ℕ) (x : Line) : Type 0 where
-  pub wide : columns (planGroup p) (planHalves p) ≤ x.stride
-  pub each : (v : ℕ) → y % columns (planGroup p) (planHalves p) + v < columns (planGroup p) (planHalves p)
+  pub wide : columns (plan_group p) (plan_halves p) ≤ x.stride
+  pub each : (v : ℕ) → y % columns (plan_group p) (plan_halves p) + v < columns (plan_group p) (plan_halves p)
       → Gathered p (step (y + v)) (own (y + v)) (shifted x v)
 
 -- The rows along k follow each other through the whole volume: row y + v begins v rows after row y, up to number `end`.
@@ -37,32 +37,32 @@ pub record InBatch (x : Line) : Type 0 where
 
 -- so many lines from number j on stand side by side: those along l and h up to the end of a row, those along k all
 pub record SideBySide (p : Plan) (j lanes : ℕ) : Type 0 where
-  pub row : j < (alongL (planGroup p) (planHalves p)).count + (alongH (planGroup p) (planHalves p)).count
-      → j % columns (planGroup p) (planHalves p) + lanes ≤ columns (planGroup p) (planHalves p)
-  pub rest : (alongL (planGroup p) (planHalves p)).count + (alongH (planGroup p) (planHalves p)).count ≤ j
-      → j + lanes ≤ lineCount (planGroup p) (planHalves p)
+  pub row : j < (along_l (plan_group p) (plan_halves p)).count + (along_h (plan_group p) (plan_halves p)).count
+      → j % columns (plan_group p) (plan_halves p) + lanes ≤ columns (plan_group p) (plan_halves p)
+  pub rest : (along_l (plan_group p) (plan_halves p)).count + (along_h (plan_group p) (plan_halves p)).count ≤ j
+      → j + lanes ≤ line_count (plan_group p) (plan_halves p)
 
 -- the lines of the turns from n on: that of turn n + v is x, v places further on
 pub record GatheredGroup (p : Plan) (n : ℕ) (x : Line) (lanes : ℕ) : Type 0 where
   pub room : InBatch x
   pub wide : lanes ≤ x.stride
   pub each : (v : ℕ) → v < lanes
-      → Gathered p (planTurn p (n + v))
-      (planNumbers p (lineOfTurn (planGroup p) (planHalves p) p.direction (n + v))) (shifted x v)
+      → Gathered p (plan_turn p (n + v))
+      (plan_numbers p (line_of_turn (plan_group p) (plan_halves p) p.direction (n + v))) (shifted x v)
 
 -- or v rows further on
 pub record RowGroup (p : Plan) (n : ℕ) (x : Line) (lanes : ℕ) : Type 0 where
   pub room : InBatch x
   pub each : (v : ℕ) → v < lanes
-      → Row p (planTurn p (n + v))
-      (planNumbers p (lineOfTurn (planGroup p) (planHalves p) p.direction (n + v))) (shifted x (v * x.count))
+      → Row p (plan_turn p (n + v))
+      (plan_numbers p (line_of_turn (plan_group p) (plan_halves p) p.direction (n + v))) (shifted x (v * x.count))
 
 -- the line of turn n, with those that are turned together with it
 pub record GroupAt (p : Plan) (n most : ℕ) (g : LineGroup) : Type 0 where
-  pub first : LineAt p (lineOfTurn (planGroup p) (planHalves p) p.direction n) g.line
+  pub first : LineAt p (line_of_turn (plan_group p) (plan_halves p) p.direction n) g.line
   pub some : 0 < g.lanes
   pub few : g.lanes ≤ most
-  pub inside : n + g.lanes ≤ lineCount (planGroup p) (planHalves p)
+  pub inside : n + g.lanes ≤ line_count (plan_group p) (plan_halves p)
   pub together : 1 < g.lanes → GatheredGroup p n g.line g.lanes ⊎ RowGroup p n g.line g.lanes
 
 -- ---- the turn of a group
@@ -100,29 +100,29 @@ pub record RoomForGroups (m : ℕ) (re im sre sim work : List ℕ) : Type 0 wher
   pub room : 11520 ≤ length work
 
 -- one after the other
-abbrev pub linesTurn : (x : Line) (lanes : ℕ) → List ℕ → List ℕ
-linesTurn x lanes v =
+abbrev pub lines_turn : (x : Line) (lanes : ℕ) → List ℕ → List ℕ
+lines_turn x lanes v =
     sweep (neighbours x.start x.stride x.count lanes)
-    (onLists (neighbours x.start x.stride x.count lanes) (λ y. storedTurn x)) lanes v
+    (on_lists (neighbours x.start x.stride x.count lanes) (λ y. stored_turn x)) lanes v
 
 -- rows of n pairs, one after the other from pair `start` on
 abbrev pub rows_from : (start n lanes : ℕ) → Layout
 rows_from start n lanes = record { count = lanes; size = λ y. n; place = λ y j. start + y * n + j }
 
 -- the rows of a layout, one after the other
-abbrev pub rowsOn : (L : Layout) (x : Line) → List ℕ → List ℕ
-rowsOn L x d = sweep L (onLists L (λ y. turnedRow x.m x.half x.direction)) L.count d
+abbrev pub rows_on : (L : Layout) (x : Line) → List ℕ → List ℕ
+rows_on L x d = sweep L (on_lists L (λ y. turned_row x.m x.half x.direction)) L.count d
 
 -- in a list that holds them alone, and in the volume
-abbrev pub rowsTurned : (x : Line) (lanes : ℕ) → List ℕ → List ℕ
-rowsTurned x lanes rows = rowsOn (alongLast x.count lanes) x rows
+abbrev pub rows_turned : (x : Line) (lanes : ℕ) → List ℕ → List ℕ
+rows_turned x lanes rows = rows_on (along_last x.count lanes) x rows
 
-abbrev pub rowsTurn : (x : Line) (lanes : ℕ) → List ℕ → List ℕ
-rowsTurn x lanes v = rowsOn (rows_from x.start x.count lanes) x v
+abbrev pub rows_turn : (x : Line) (lanes : ℕ) → List ℕ → List ℕ
+rows_turn x lanes v = rows_on (rows_from x.start x.count lanes) x v
 
 -- rows are known by their kind
-abbrev pub groupTurned : (x : Line) (lanes : ℕ) → List ℕ → List ℕ
-groupTurned x lanes v = cond (eqb x.kind 1) (rowsTurn x lanes v) (linesTurn x lanes v)
+abbrev pub group_turned : (x : Line) (lanes : ℕ) → List ℕ → List ℕ
+group_turned x lanes v = cond (eqb x.kind 1) (rows_turn x lanes v) (lines_turn x lanes v)
 
 -- what the transform of n points is multiplied by: 1 in synthesis, 1/n in analysis
 abbrev pub scale_for : (m direction n : ℕ) → Residue m

@@ -6,7 +6,7 @@ use Rattle.numbers.specs.Bounds.{Small}
 use Rattle.slices.specs.Pairs.{at, tab, puts, all_below}
 use Rattle.lengths.specs.Lengths.{kind_of, cleared}
 use Rattle.lengths.specs.Admitted.{AdmittedLength, FactorList}
-use Rattle.volume_transform.specs.Axes.{turnedLine, turnedStored, turnedRow}
+use Rattle.volume_transform.specs.Axes.{turned_line, turned_stored, turned_row}
 use Rattle.volume_transform.specs.declared.plan.Line.{Line}
 use Rattle.line.specs.Tables.{LineTables}
 
@@ -19,25 +19,25 @@ pub record SoundLine (x : Line) : Type 0 where
   pub list : FactorList (2 * x.half) x.factors
 
 -- the packed line transformed, and the same as it is stored
-abbrev pub turnedPacked : Line → List ℕ → List ℕ
-turnedPacked x l = turnedLine x.m x.half x.direction (kind_of x.kind) l
+abbrev pub turned_packed : Line → List ℕ → List ℕ
+turned_packed x l = turned_line x.m x.half x.direction (kind_of x.kind) l
 
-abbrev pub storedTurn : Line → List ℕ → List ℕ
-storedTurn x l = turnedStored x.m x.half x.direction x.rotated (kind_of x.kind) l
+abbrev pub stored_turn : Line → List ℕ → List ℕ
+stored_turn x l = turned_stored x.m x.half x.direction x.rotated (kind_of x.kind) l
 
 -- the n pairs of v at the places p 0, p 1, .. go through F
-abbrev pub turnedAt : (p : ℕ → ℕ) (n : ℕ) (F : List ℕ → List ℕ) → List ℕ → List ℕ
-turnedAt p n F v = puts p (at (F (tab n (λ j. at v (p j))))) n v
+abbrev pub turned_at : (p : ℕ → ℕ) (n : ℕ) (F : List ℕ → List ℕ) → List ℕ → List ℕ
+turned_at p n F v = puts p (at (F (tab n (λ j. at v (p j))))) n v
 
 -- its numbers, pair after pair
-abbrev pub numbersIn : Line → List ℕ → List ℕ
-numbersIn x v = tab x.count (λ j. at v (x.start + j * x.stride))
+abbrev pub numbers_in : Line → List ℕ → List ℕ
+numbers_in x v = tab x.count (λ j. at v (x.start + j * x.stride))
 
-abbrev pub gatheredTurn : Line → List ℕ → List ℕ
-gatheredTurn x v = turnedAt (λ j. x.start + j * x.stride) x.count (storedTurn x) v
+abbrev pub gathered_turn : Line → List ℕ → List ℕ
+gathered_turn x v = turned_at (λ j. x.start + j * x.stride) x.count (stored_turn x) v
 
-abbrev pub rowTurn : Line → List ℕ → List ℕ
-rowTurn x v = turnedAt (λ j. x.start + j) x.count (turnedRow x.m x.half x.direction) v
+abbrev pub row_turn : Line → List ℕ → List ℕ
+row_turn x v = turned_at (λ j. x.start + j) x.count (turned_row x.m x.half x.direction) v
 
 -- the pairs of a line that is gathered: the last of them lies in a volume of len numbers
 pub record Spaced (len : ℕ) (x : Line) : Type 0 where
@@ -79,14 +79,14 @@ pub record LineBelow (x : Line) (v : List ℕ) : Type 0 where
   pub each : (j : ℕ) → j < x.count → Small (prime x.m) (at v (x.start + j * x.stride))
 
 -- and its turn: a row is known by its kind
-abbrev pub lineTurned : Line → List ℕ → List ℕ
-lineTurned x v = cond (eqb x.kind 1) (rowTurn x v) (gatheredTurn x v)
+abbrev pub line_turned : Line → List ℕ → List ℕ
+line_turned x v = cond (eqb x.kind 1) (row_turn x v) (gathered_turn x v)
 
 -- A line that is transformed if its own numbers are residues, the scratch then cleared; if they are not, nothing
 -- changes.
 pub record OwnTurn (turned : List ℕ → List ℕ) (x : Line) (done : Bool)
     (v v' scratch scratch' : List ℕ) : Type 0 where
-  pub tested : done ≡ all_below (prime x.m) (numbersIn x v)
+  pub tested : done ≡ all_below (prime x.m) (numbers_in x v)
   pub volume : v' ≡ cond done (turned v) v
   pub lent : scratch' ≡ cond done (cleared scratch) scratch
 
@@ -94,9 +94,9 @@ pub record OwnTurn (turned : List ℕ → List ℕ) (x : Line) (done : Bool)
 
 -- the lent buffers are long enough
 pub record Lent (scratch fold work : List ℕ) : Type 0 where
-  pub scratch-fits : 11520 ≤ length scratch
-  pub fold-fits : 5760 ≤ length fold
-  pub work-fits : 5760 ≤ length work
+  pub scratch_fits : 11520 ≤ length scratch
+  pub fold_fits : 5760 ≤ length fold
+  pub work_fits : 5760 ≤ length work
 
 -- beyond its first 11,520 numbers the scratch is as it was
 abbrev pub Kept : List ℕ → List ℕ → Type 0

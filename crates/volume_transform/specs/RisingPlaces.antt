@@ -3,20 +3,20 @@
 use Rattle.algebra.specs.Prelude.{◌≡◌, ℕ, ◌+◌, ◌<◌, ◌/◌, ◌%◌}
 use Rattle.algebra.specs.cells.Cell.{J, Group}
 use Rattle.slices.specs.Sweep.{Layout}
-use Rattle.cell.specs.Volume.{firstPair, rows, columns, pairPlace}
-use Rattle.volume_transform.specs.Axes.{kind_at, alongL, alongH, alongK}
+use Rattle.cell.specs.Volume.{first_pair, rows, columns, pair_place}
+use Rattle.volume_transform.specs.Axes.{kind_at, along_l, along_h, along_k}
 
 -- The place of the pair at an index of line y. Along l the line is that of h and k, along h of w and k, along k of w
 -- and h, each y = h (B + 1) + k, w (B + 1) + k, w N1 + h.
 module _ (g : Group) (a : J) where
-  abbrev pub pairOnL : (y l : ℕ) → ℕ
-  pairOnL y l = pairPlace g a l (y / columns g a) (y % columns g a)
+  abbrev pub pair_on_l : (y l : ℕ) → ℕ
+  pair_on_l y l = pair_place g a l (y / columns g a) (y % columns g a)
 
-  abbrev pub pairOnH : (y h : ℕ) → ℕ
-  pairOnH y h = pairPlace g a (y / columns g a) h (y % columns g a)
+  abbrev pub pair_on_h : (y h : ℕ) → ℕ
+  pair_on_h y h = pair_place g a (y / columns g a) h (y % columns g a)
 
-  abbrev pub pairOnK : (y k : ℕ) → ℕ
-  pairOnK y k = pairPlace g a (y / rows g a) (y % rows g a) k
+  abbrev pub pair_on_k : (y k : ℕ) → ℕ
+  pair_on_k y k = pair_place g a (y / rows g a) (y % rows g a) k
 
 -- The lines of an axis: the pairs of line y are those from index `begin y` on, and the places of the pairs at index 0
 -- rise.
@@ -32,6 +32,6 @@ pub record Rising (L : Layout) (begin : ℕ → ℕ) (pair : (y index : ℕ) →
       → pair y 0 < pair z 0
 
 pub record RisingPlaces : Type 0 where
-  pub along-l : (g : Group) (a : J) → Rising (alongL g a) (λ y. firstPair (kind_at g a y)) (pairOnL g a)
-  pub along-h : (g : Group) (a : J) → 0 < rows g a → Rising (alongH g a) (λ y. 0) (pairOnH g a)
-  pub along-k : (g : Group) (a : J) → Rising (alongK g a) (λ y. 0) (pairOnK g a)
+  pub along_l_lem : (g : Group) (a : J) → Rising (along_l g a) (λ y. first_pair (kind_at g a y)) (pair_on_l g a)
+  pub along_h_lem : (g : Group) (a : J) → 0 < rows g a → Rising (along_h g a) (λ y. 0) (pair_on_h g a)
+  pub along_k_lem : (g : Group) (a : J) → Rising (along_k g a) (λ y. 0) (pair_on_k g a)

@@ -6,8 +6,8 @@ ghost use Rattle.std.specs.Prelude.{◌≡◌, ◌+◌, ◌*◌, ◌<◌, ◌≤
 ghost use Rattle.numbers.specs.Value.{prime, IsModulus};
 ghost use Rattle.batches.specs.Reduction.{ShiftedTable, Holds};
 ghost use Rattle.volume_transform.specs.Lines.{TablesFor, Kept};
-ghost use Rattle.volume_transform.specs.Groups.{PlacedGroup, SpacedLines, RowLines, linesTurn, rowsTurn};
-ghost use Rattle.volume_transform.specs.Groups.{groupTurned, scale_for};
+ghost use Rattle.volume_transform.specs.Groups.{PlacedGroup, SpacedLines, RowLines, lines_turn, rows_turn};
+ghost use Rattle.volume_transform.specs.Groups.{group_turned, scale_for};
 
 use crate::plan::Line;
 use folded_batches::{alternating, hermitian, mirror};
@@ -31,7 +31,7 @@ pub fn turn_group<'a>(
         × (m ≡ line.m) }
     requires shifted_table { ShiftedTable m re.now im.now sre.now sim.now }
     requires in_bounds { (11520 ≤ length scratch.old) × (11520 ≤ length work.old) }
-    ensures { (volume.new ≡ groupTurned line lanes volume.old)
+    ensures { (volume.new ≡ group_turned line lanes volume.old)
         × Kept scratch.old scratch.new }
 {
     if line.kind == 1 {
@@ -62,7 +62,7 @@ fn turn_rows<'a>(
         × (m ≡ line.m) }
     requires shifted_table { ShiftedTable m re.now im.now sre.now sim.now }
     requires in_bounds { (11520 ≤ length scratch.old) × (11520 ≤ length work.old) }
-    ensures { (volume.new ≡ rowsTurn line lanes volume.old)
+    ensures { (volume.new ≡ rows_turn line lanes volume.old)
         × Kept scratch.old scratch.new }
 {
     let start = 2 * line.start;
@@ -104,7 +104,7 @@ fn turn_plain<'a>(
         × (m ≡ line.m) }
     requires shifted_table { ShiftedTable m re.now im.now sre.now sim.now }
     requires in_bounds { (11520 ≤ length scratch.old) × (11520 ≤ length work.old) }
-    ensures { (volume.new ≡ linesTurn line lanes volume.old)
+    ensures { (volume.new ≡ lines_turn line lanes volume.old)
         × Kept scratch.old scratch.new }
 {
     let n = line.count;
@@ -149,7 +149,7 @@ fn turn_folded<'a>(
         × (m ≡ line.m) }
     requires shifted_table { ShiftedTable m re.now im.now sre.now sim.now }
     requires in_bounds { (11520 ≤ length scratch.old) × (11520 ≤ length work.old) }
-    ensures { (volume.new ≡ linesTurn line lanes volume.old)
+    ensures { (volume.new ≡ lines_turn line lanes volume.old)
         × Kept scratch.old scratch.new }
 {
     let size = 32 * line.half;
@@ -189,7 +189,7 @@ fn turn_short<'a>(
         × (m ≡ line.m) }
     requires shifted_table { ShiftedTable m re.now im.now sre.now sim.now }
     requires batch_len { (length batch.old ≡ 32 * (line.half + 1)) × (length short.old ≡ 32 * line.half) }
-    ensures { volume.new ≡ linesTurn line lanes volume.old }
+    ensures { volume.new ≡ lines_turn line lanes volume.old }
 {
     if line.kind == 3 {
         alternating::turn_lines(

@@ -15,11 +15,11 @@ mod lines; // lines.rt: one line along l or h
 mod rows; // rows.rt: one row along k
 
 ghost use Rattle.std.specs.Prelude.{◌≡◌, ◌<◌, ◌≤◌, length};
-ghost use Rattle.lengths.specs.Lengths.{scratchLength, cleared};
+ghost use Rattle.lengths.specs.Lengths.{scratch_length, cleared};
 ghost use Rattle.line.specs.Tables.{TablesOf};
-ghost use Rattle.volume_transform.specs.Lines.{TablesFor, Lent, Kept, Placed, LineBelow, lineTurned};
-ghost use Rattle.volume_transform.specs.Axes.{lineCount};
-ghost use Rattle.volume_transform.specs.Plans.{planGroup, planHalves, Planned, Fitting, planTurn};
+ghost use Rattle.volume_transform.specs.Lines.{TablesFor, Lent, Kept, Placed, LineBelow, line_turned};
+ghost use Rattle.volume_transform.specs.Axes.{line_count};
+ghost use Rattle.volume_transform.specs.Plans.{plan_group, plan_halves, Planned, Fitting, plan_turn};
 ghost use Rattle.volume_transform.specs.Groups.{RoomForGroups};
 ghost use Rattle.volume_transform.specs.Turns.{turns};
 ghost use Rattle.volume_transform.specs.RisingPlaces.{RisingPlaces};
@@ -31,9 +31,9 @@ use crate::plan::{Line, Plan};
 // they save.
 pub fn transform_volume(plan: Plan, volume: &mut [u32], scratch: &mut [u32])
     requires planned { Planned plan }
-    requires fitting { Fitting plan volume.old × (scratchLength ≤ length scratch.old) }
+    requires fitting { Fitting plan volume.old × (scratch_length ≤ length scratch.old) }
     ensures { (volume.new
-        ≡ turns (planTurn plan) 0 (lineCount (planGroup plan) (planHalves plan)) volume.old)
+        ≡ turns (plan_turn plan) 0 (line_count (plan_group plan) (plan_halves plan)) volume.old)
         × (scratch.new ≡ cleared scratch.old) }
 {
     let re = roots::powers::real_parts(plan.m);
@@ -68,9 +68,9 @@ fn turn_groups<'a>(
     requires planned { Planned plan
         × TablesOf plan.m plan.direction re.now im.now tan.now
         × (m ≡ plan.m) }
-    requires fitting { Fitting plan volume.old × (scratchLength ≤ length scratch.old) }
+    requires fitting { Fitting plan volume.old × (scratch_length ≤ length scratch.old) }
     ensures { (volume.new
-        ≡ turns (planTurn plan) 0 (lineCount (planGroup plan) (planHalves plan)) volume.old)
+        ≡ turns (plan_turn plan) 0 (line_count (plan_group plan) (plan_halves plan)) volume.old)
         × (scratch.new ≡ cleared scratch.old) }
 {
     let mut sre = [0u32; 2880];
@@ -109,7 +109,7 @@ fn turn_volume<'a>(
     requires fitting { Fitting plan volume.old }
     requires lent { Lent scratch.old fold.old work.old }
     ensures { (volume.new
-        ≡ turns (planTurn plan) 0 (lineCount (planGroup plan) (planHalves plan)) volume.old)
+        ≡ turns (plan_turn plan) 0 (line_count (plan_group plan) (plan_halves plan)) volume.old)
         × (scratch.new ≡ cleared scratch.old) }
 {
     let counts = crate::axis_lines::line_counts(plan);
@@ -157,7 +157,7 @@ fn turn<'a>(
         × (m ≡ line.m) }
     requires line_below { LineBelow line volume.old }
     requires lent { Lent scratch.old fold.old work.old }
-    ensures { (volume.new ≡ lineTurned line volume.old)
+    ensures { (volume.new ≡ line_turned line volume.old)
         × Kept scratch.old scratch.new }
 {
     if line.kind == 1 {

@@ -6,7 +6,7 @@ ghost use Rattle.numbers.specs.Value.{prime};
 ghost use Rattle.slices.specs.Pairs.{Below};
 ghost use Rattle.lengths.specs.Lengths.{kind_of};
 ghost use Rattle.volume_transform.specs.Lines.{Lent, Kept, TablesFor, Room, SoundLine, Spaced, LineBelow};
-ghost use Rattle.volume_transform.specs.Lines.{turnedPacked, storedTurn, gatheredTurn};
+ghost use Rattle.volume_transform.specs.Lines.{turned_packed, stored_turn, gathered_turn};
 
 use crate::plan::Line;
 
@@ -27,7 +27,7 @@ pub fn turn_gathered<'a>(
         × (m ≡ line.m) }
     requires line_below { LineBelow line volume.old }
     requires lent { Lent scratch.old fold.old work.old }
-    ensures { (volume.new ≡ gatheredTurn line volume.old)
+    ensures { (volume.new ≡ gathered_turn line volume.old)
         × Kept scratch.old scratch.new }
 {
     slices::gathering::gather(volume, line.start, line.stride, scratch, line.count);
@@ -54,7 +54,7 @@ pub fn turn_stored<'a>(
     requires packed_len { (length packed.old ≡ 2 * slots (kind_of line.kind) line.half)
         × Below (prime line.m) packed.old }
     requires room { Room line fold.old work.old }
-    ensures { packed.new ≡ storedTurn line packed.old }
+    ensures { packed.new ≡ stored_turn line packed.old }
 {
     if line.rotated {
         if line.direction == 0 {
@@ -84,7 +84,7 @@ pub fn turn_packed<'a>(
     requires packed_len { (length packed.old ≡ 2 * slots (kind_of line.kind) line.half)
         × Below (prime line.m) packed.old }
     requires room { Room line fold.old work.old }
-    ensures { packed.new ≡ turnedPacked line packed.old }
+    ensures { packed.new ≡ turned_packed line packed.old }
 {
     line::transform::transform(
         m,

@@ -1,11 +1,11 @@
 // The lines of a job, by their numbers: first those along l, then h, then k, each by rising place of its first pair. The kind of a line
 // along l is that of its group at its h.
 ghost use Rattle.std.specs.Prelude.{◌≡◌, true, ◌+◌, ◌<◌, ◌≤◌};
-ghost use Rattle.cell.specs.Volume.{firstPair};
+ghost use Rattle.cell.specs.Volume.{first_pair};
 ghost use Rattle.lengths.specs.Lengths.{kind_of};
-ghost use Rattle.volume_transform.specs.Axes.{lineCount, lineOfTurn, turn_of, numbersOf, alongL, alongH};
-ghost use Rattle.volume_transform.specs.Axes.{turnedL};
-ghost use Rattle.volume_transform.specs.Plans.{planGroup, planHalves, Planned, Counted, lineTurn, planNumbers};
+ghost use Rattle.volume_transform.specs.Axes.{line_count, line_of_turn, turn_of, numbers_of, along_l, along_h};
+ghost use Rattle.volume_transform.specs.Axes.{turned_l};
+ghost use Rattle.volume_transform.specs.Plans.{plan_group, plan_halves, Planned, Counted, line_turn, plan_numbers};
 ghost use Rattle.volume_transform.specs.Plans.{Gathered, LineAt};
 ghost use Rattle.volume_transform.specs.Groups.{Neighbours, RowsAfter, InBatch, SideBySide, GroupAt};
 
@@ -13,8 +13,8 @@ use crate::plan::{Counts, Line, LineGroup, Plan};
 
 // The line that turn n transforms.
 pub fn line_in_turn(plan: Plan, counts: Counts, n: usize) -> Line
-    requires { Planned plan × Counted plan counts × (n < lineCount (planGroup plan) (planHalves plan)) }
-    ensures { LineAt plan (lineOfTurn (planGroup plan) (planHalves plan) plan.direction n) result }
+    requires { Planned plan × Counted plan counts × (n < line_count (plan_group plan) (plan_halves plan)) }
+    ensures { LineAt plan (line_of_turn (plan_group plan) (plan_halves plan) plan.direction n) result }
 {
     line_at(plan, counts, line_of_turn(plan, counts, n))
 }
@@ -23,7 +23,7 @@ pub fn line_in_turn(plan: Plan, counts: Counts, n: usize) -> Line
 pub fn group_in_turn(plan: Plan, counts: Counts, n: usize, most: usize) -> LineGroup
     requires { Planned plan
         × Counted plan counts
-        × (n < lineCount (planGroup plan) (planHalves plan))
+        × (n < line_count (plan_group plan) (plan_halves plan))
         × (0 < most) }
     ensures { GroupAt plan n most result }
 {
@@ -39,7 +39,7 @@ pub fn group_in_turn(plan: Plan, counts: Counts, n: usize, most: usize) -> LineG
 fn lanes_from(plan: Plan, counts: Counts, j: usize, line: Line, most: usize) -> usize
     requires { Planned plan
         × Counted plan counts
-        × (j < lineCount (planGroup plan) (planHalves plan))
+        × (j < line_count (plan_group plan) (plan_halves plan))
         × (0 < most) }
     ensures { (0 < result) × (result ≤ most) × (1 < result → InBatch line × SideBySide plan j result) }
 {
@@ -77,7 +77,7 @@ fn has_room(line: Line) -> bool
 
 // How many lines stand side by side from line number j on: along l and h those to the end of its row, along k all that are left.
 fn lines_left(plan: Plan, counts: Counts, j: usize) -> usize
-    requires { Planned plan × Counted plan counts × (j < lineCount (planGroup plan) (planHalves plan)) }
+    requires { Planned plan × Counted plan counts × (j < line_count (plan_group plan) (plan_halves plan)) }
     ensures { (0 < result) × SideBySide plan j result }
 {
     let lines = counts.l + counts.h;
@@ -90,9 +90,9 @@ fn lines_left(plan: Plan, counts: Counts, j: usize) -> usize
 
 // Its number: analysis takes the axes in the other order.
 fn line_of_turn(plan: Plan, counts: Counts, n: usize) -> usize
-    requires { Planned plan × Counted plan counts × (n < lineCount (planGroup plan) (planHalves plan)) }
-    ensures { (result ≡ lineOfTurn (planGroup plan) (planHalves plan) plan.direction n)
-        × (result < lineCount (planGroup plan) (planHalves plan)) }
+    requires { Planned plan × Counted plan counts × (n < line_count (plan_group plan) (plan_halves plan)) }
+    ensures { (result ≡ line_of_turn (plan_group plan) (plan_halves plan) plan.direction n)
+        × (result < line_count (plan_group plan) (plan_halves plan)) }
 {
     if plan.direction == 0 {
         n
@@ -107,14 +107,14 @@ fn line_of_turn(plan: Plan, counts: Counts, n: usize) -> usize
 
 // Line number j.
 fn line_at(plan: Plan, counts: Counts, j: usize) -> Line
-    requires { Planned plan × Counted plan counts × (j < lineCount (planGroup plan) (planHalves plan)) }
+    requires { Planned plan × Counted plan counts × (j < line_count (plan_group plan) (plan_halves plan)) }
     ensures line_at { LineAt plan j result }
     ensures neighbours { j
-        < (alongL (planGroup plan) (planHalves plan)).count + (alongH (planGroup plan) (planHalves plan)).count
-        → Neighbours plan (lineTurn plan) (planNumbers plan) j result }
-    ensures rows_after { (alongL (planGroup plan) (planHalves plan)).count + (alongH (planGroup plan) (planHalves plan)).count
+        < (along_l (plan_group plan) (plan_halves plan)).count + (along_h (plan_group plan) (plan_halves plan)).count
+        → Neighbours plan (line_turn plan) (plan_numbers plan) j result }
+    ensures rows_after { (along_l (plan_group plan) (plan_halves plan)).count + (along_h (plan_group plan) (plan_halves plan)).count
         ≤ j
-        → RowsAfter plan (lineTurn plan) (planNumbers plan) j (lineCount (planGroup plan) (planHalves plan)) result }
+        → RowsAfter plan (line_turn plan) (plan_numbers plan) j (line_count (plan_group plan) (plan_halves plan)) result }
 {
     if j < counts.l {
         along_l(plan, j)
@@ -127,14 +127,14 @@ fn line_at(plan: Plan, counts: Counts, j: usize) -> Line
 
 // Line y = h (B + 1) + k along l, by its kind.
 fn along_l(plan: Plan, y: usize) -> Line
-    requires { Planned plan × (y < (alongL (planGroup plan) (planHalves plan)).count) }
+    requires { Planned plan × (y < (along_l (plan_group plan) (plan_halves plan)).count) }
     ensures gathered { Gathered plan
-        (turn_of (alongL (planGroup plan) (planHalves plan))
-        (turnedL (planGroup plan) (planHalves plan) plan.m plan.direction) y)
-        (numbersOf (alongL (planGroup plan) (planHalves plan)) y) result }
-    ensures neighbours { Neighbours plan (turn_of (alongL (planGroup plan) (planHalves plan))
-        (turnedL (planGroup plan) (planHalves plan) plan.m plan.direction))
-        (numbersOf (alongL (planGroup plan) (planHalves plan))) y result }
+        (turn_of (along_l (plan_group plan) (plan_halves plan))
+        (turned_l (plan_group plan) (plan_halves plan) plan.m plan.direction) y)
+        (numbers_of (along_l (plan_group plan) (plan_halves plan)) y) result }
+    ensures neighbours { Neighbours plan (turn_of (along_l (plan_group plan) (plan_halves plan))
+        (turned_l (plan_group plan) (plan_halves plan) plan.m plan.direction))
+        (numbers_of (along_l (plan_group plan) (plan_halves plan))) y result }
 {
     let width = (plan.cell.n2 / 2 + 1) as usize;
     let stride = (plan.cell.n1 as usize) * width;
@@ -155,7 +155,7 @@ fn along_l(plan: Plan, y: usize) -> Line
 // The first of the W pairs that belongs to a line of the kind.
 fn first_pair(kind: u32) -> usize
     requires { kind < 6 }
-    ensures { (result ≡ firstPair (kind_of kind)) × (result ≤ 1) }
+    ensures { (result ≡ first_pair (kind_of kind)) × (result ≤ 1) }
 {
     if kind == 5 { 1 } else { 0 }
 }

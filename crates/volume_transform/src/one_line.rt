@@ -5,9 +5,9 @@
 // taken as they are, by a branch on the prime before all else: a choice between two arrays would take longer than a
 // short line.
 ghost use Rattle.std.specs.Prelude.{◌≡◌, ◌*◌, ◌≤◌, length};
-ghost use Rattle.lengths.specs.Lengths.{scratchLength};
-ghost use Rattle.volume_transform.specs.Lines.{Placed, Spaced, Beside, TablesFor, OwnTurn, lineTurned};
-ghost use Rattle.volume_transform.specs.Lines.{gatheredTurn, rowTurn};
+ghost use Rattle.lengths.specs.Lengths.{scratch_length};
+ghost use Rattle.volume_transform.specs.Lines.{Placed, Spaced, Beside, TablesFor, OwnTurn, line_turned};
+ghost use Rattle.volume_transform.specs.Lines.{gathered_turn, row_turn};
 
 use crate::plan::Line;
 use crate::{lines, rows};
@@ -16,8 +16,8 @@ use crate::{lines, rows};
 pub fn turn_alone(line: Line, volume: &mut [u32], scratch: &mut [u32]) -> bool
     requires { Placed (length volume.old) line
         × (line.direction ≡ 0)
-        × (scratchLength ≤ length scratch.old) }
-    ensures { OwnTurn (lineTurned line) line result
+        × (scratch_length ≤ length scratch.old) }
+    ensures { OwnTurn (line_turned line) line result
         volume.old volume.new scratch.old scratch.new }
 {
     if line.m == 1 {
@@ -30,8 +30,8 @@ pub fn turn_alone(line: Line, volume: &mut [u32], scratch: &mut [u32]) -> bool
 // With the tables of the first prime. A plain line needs no half tangents, and is lent zeros for them.
 fn first_alone(line: Line, volume: &mut [u32], scratch: &mut [u32]) -> bool
     requires { Placed (length volume.old) line × (line.m ≡ 1) × (line.direction ≡ 0)
-        × (scratchLength ≤ length scratch.old) }
-    ensures { OwnTurn (lineTurned line) line result
+        × (scratch_length ≤ length scratch.old) }
+    ensures { OwnTurn (line_turned line) line result
         volume.old volume.new scratch.old scratch.new }
 {
     let powers = roots::powers::first_powers();
@@ -49,8 +49,8 @@ fn first_alone(line: Line, volume: &mut [u32], scratch: &mut [u32]) -> bool
 // With those of the second.
 fn second_alone(line: Line, volume: &mut [u32], scratch: &mut [u32]) -> bool
     requires { Placed (length volume.old) line × (line.m ≡ 2) × (line.direction ≡ 0)
-        × (scratchLength ≤ length scratch.old) }
-    ensures { OwnTurn (lineTurned line) line result
+        × (scratch_length ≤ length scratch.old) }
+    ensures { OwnTurn (line_turned line) line result
         volume.old volume.new scratch.old scratch.new }
 {
     let powers = roots::powers::second_powers();
@@ -79,8 +79,8 @@ fn alone<'a>(
     requires placed { Placed (length volume.old) line
         × TablesFor line re.now im.now tan.now
         × (m ≡ line.m) }
-    requires scratch_length_in_bounds { scratchLength ≤ length scratch.old }
-    ensures { OwnTurn (lineTurned line) line result
+    requires scratch_length_in_bounds { scratch_length ≤ length scratch.old }
+    ensures { OwnTurn (line_turned line) line result
         volume.old volume.new scratch.old scratch.new }
 {
     if line.half <= 60 {
@@ -143,9 +143,9 @@ fn alone_in<'a>(
     requires placed { Placed (length volume.old) line
         × TablesFor line re.now im.now tan.now
         × (m ≡ line.m) }
-    requires scratch_length_in_bounds { (scratchLength ≤ length scratch.old)
+    requires scratch_length_in_bounds { (scratch_length ≤ length scratch.old)
         × (4 * line.half ≤ length packed.old) × (4 * line.half ≤ length work.old) }
-    ensures { OwnTurn (lineTurned line) line result
+    ensures { OwnTurn (line_turned line) line result
         volume.old volume.new scratch.old scratch.new }
 {
     if line.kind == 1 {
@@ -169,8 +169,8 @@ fn row_alone<'a>(
     requires beside { Beside (length volume.old) line
         × TablesFor line re.now im.now tan.now
         × (m ≡ line.m) }
-    requires scratch_length_in_bounds { (scratchLength ≤ length scratch.old) × (4 * line.half ≤ length work.old) }
-    ensures { OwnTurn (rowTurn line) line result
+    requires scratch_length_in_bounds { (scratch_length ≤ length scratch.old) × (4 * line.half ≤ length work.old) }
+    ensures { OwnTurn (row_turn line) line result
         volume.old volume.new scratch.old scratch.new }
 {
     let start = 2 * line.start;
@@ -207,9 +207,9 @@ fn gathered_alone<'a>(
     requires spaced { Spaced (length volume.old) line
         × TablesFor line re.now im.now tan.now
         × (m ≡ line.m) }
-    requires scratch_length_in_bounds { (scratchLength ≤ length scratch.old)
+    requires scratch_length_in_bounds { (scratch_length ≤ length scratch.old)
         × (2 * line.count ≤ length packed.old) × (4 * line.half ≤ length work.old) }
-    ensures { OwnTurn (gatheredTurn line) line result
+    ensures { OwnTurn (gathered_turn line) line result
         volume.old volume.new scratch.old scratch.new }
 {
     slices::gathering::gather(volume, line.start, line.stride, packed, line.count);

@@ -2,7 +2,7 @@
 ghost use Rattle.std.specs.Prelude.{◌≡◌, ◌+◌, ◌*◌, length};
 ghost use Rattle.numbers.specs.Value.{prime};
 ghost use Rattle.slices.specs.Pairs.{Below};
-ghost use Rattle.volume_transform.specs.Axes.{turnedRow};
+ghost use Rattle.volume_transform.specs.Axes.{turned_row};
 ghost use Rattle.volume_transform.specs.Lines.{SoundLine, TablesFor, Room};
 
 use crate::lines;
@@ -25,7 +25,7 @@ pub fn turn_row<'a>(
         × (m ≡ line.m) }
     requires row_len { (length row.old ≡ 2 * (line.half + 1)) × Below (prime line.m) row.old }
     requires room { Room line fold.old work.old }
-    ensures { row.new ≡ turnedRow line.m line.half line.direction row.old }
+    ensures { row.new ≡ turned_row line.m line.half line.direction row.old }
 {
     let size = 2 * line.half;
     crate::row::open_row(line.direction, size, row);

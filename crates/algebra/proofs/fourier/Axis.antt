@@ -5,13 +5,13 @@ use native.Mathlib.Nat as N
 use Rattle.algebra.specs.ring.Ring.{Ops, pow}
 use Rattle.algebra.specs.ring.RingLaws.{CRing, Star}
 use Rattle.algebra.specs.fourier.Axis.{AxisLaws, Axis}
-use Rattle.algebra.proofs.fourier.Transform.{pow-unit, inverse-cycle}
-use Rattle.algebra.proofs.ring.Conj.{conj-pow, conj-of-inverse, conj-cast}
+use Rattle.algebra.proofs.fourier.Transform.{pow_unit, inverse_cycle}
+use Rattle.algebra.proofs.ring.Conj.{conj_pow, conj_of_inverse, conj_cast}
 
 module _ {R : Type 0} {𝓞 : Ops R} {conj : R → R} {i : R} (𝓡 : CRing 𝓞) (𝓢 : Star 𝓞 conj i) where
   open 𝓞 use {add as ◌⊕◌, mul as ◌⊗◌, neg as ⊖◌, zer as 𝟘, one as 𝟙}
   open 𝓡 use {mul_comm}
-  open 𝓢 use {conj-neg, conj-one}
+  open 𝓢 use {conj_neg, conj_one}
 
   infixl 65 ◌⊕◌
   infixl 70 ◌⊗◌
@@ -22,17 +22,17 @@ module _ {R : Type 0} {𝓞 : Ops R} {conj : R → R} {i : R} (𝓡 : CRing 𝓞
     open 𝓐 use {positive, root, turn, halves, tan}
     open root use {inverse, part_of}
 
-    pub conj-turn : pow 𝓞 (conj w) A ≡ ⊖ 𝟙
-    conj-turn = sym (conj-pow 𝓡 𝓢 w A) ∙ ap conj turn ∙ conj-neg 𝟙 ∙ ap ⊖◌ conj-one
+    pub conj_turn : pow 𝓞 (conj w) A ≡ ⊖ 𝟙
+    conj_turn = sym (conj_pow 𝓡 𝓢 w A) ∙ ap conj turn ∙ conj_neg 𝟙 ∙ ap ⊖◌ conj_one
 
-    pub conj-inverse : conj w ⊗ w ≡ 𝟙
-    conj-inverse = mul_comm _ _ ∙ inverse
+    pub conj_inverse : conj w ⊗ w ≡ 𝟙
+    conj_inverse = mul_comm _ _ ∙ inverse
 
-    pub pow-inverse : (k : ℕ) → pow 𝓞 w k ⊗ pow 𝓞 (conj w) k ≡ 𝟙
-    pow-inverse k = pow-unit 𝓡 w (conj w) inverse k
+    pub pow_inverse : (k : ℕ) → pow 𝓞 w k ⊗ pow 𝓞 (conj w) k ≡ 𝟙
+    pow_inverse k = pow_unit 𝓡 w (conj w) inverse k
 
-    pub conj-cycle : pow 𝓞 (conj w) (2 * A) ≡ 𝟙
-    conj-cycle = inverse-cycle 𝓡 (2 * A) w (conj w) part root
+    pub conj_cycle : pow 𝓞 (conj w) (2 * A) ≡ 𝟙
+    conj_cycle = inverse_cycle 𝓡 (2 * A) w (conj w) part root
 
     pub conj_part : conj part ≡ part
-    conj_part = conj-of-inverse 𝓡 𝓢 part _ (conj-cast 𝓡 𝓢 (2 * A)) part_of
+    conj_part = conj_of_inverse 𝓡 𝓢 part _ (conj_cast 𝓡 𝓢 (2 * A)) part_of

@@ -5,9 +5,9 @@ use native.Mathlib.Omega.{arith}
 use Rattle.algebra.specs.ring.Ring.{Ops, pow}
 use Rattle.algebra.specs.ring.RingLaws.{CRing, Star}
 use Rattle.algebra.specs.fourier.Axis.{Root}
-use Rattle.algebra.proofs.fourier.Transform.{pow-across}
-use Rattle.algebra.proofs.ring.Conj.{conj-pow}
+use Rattle.algebra.proofs.fourier.Transform.{pow_across}
+use Rattle.algebra.proofs.ring.Conj.{conj_pow}
 
 module _ {R : Type 0} {𝓞 : Ops R} {conj : R → R} {i : R} (𝓡 : CRing 𝓞) (𝓢 : Star 𝓞 conj i) where
-  pub conj-power : (n : ℕ) (w part : R) → Root 𝓞 n w (conj w) part → (k : ℕ) → k ≤ n → conj (pow 𝓞 w k) ≡ pow 𝓞 w (n - k)
-  conj-power n w part 𝓦 k h = conj-pow 𝓡 𝓢 w k ∙ sym (pow-across 𝓡 w (conj w) n 𝓦.inverse 𝓦.cycle (n - k) k 1 (omega arith))
+  pub conj_power : (n : ℕ) (w part : R) → Root 𝓞 n w (conj w) part → (k : ℕ) → k ≤ n → conj (pow 𝓞 w k) ≡ pow 𝓞 w (n - k)
+  conj_power n w part 𝓦 k h = conj_pow 𝓡 𝓢 w k ∙ sym (pow_across 𝓡 w (conj w) n 𝓦.inverse 𝓦.cycle (n - k) k 1 (omega arith))

@@ -30,13 +30,13 @@ pub or_r : (a b : Bool) → T b → T (a || b)
 or_r true b t = tt
 or_r false b t = t
 
-pub or-e : (a b : Bool) (C : Type 0) → T (a || b) → (T a → C) → (T b → C) → C
-or-e true b C t f g = f t
-or-e false b C t f g = g t
+pub or_e : (a b : Bool) (C : Type 0) → T (a || b) → (T a → C) → (T b → C) → C
+or_e true b C t f g = f t
+or_e false b C t f g = g t
 
-pub imply-iff : (a b : Bool) → T (imply a b) ↔ (T a → T b)
-imply-iff true b = (λ t s. t, λ f. f tt)
-imply-iff false b = (λ t s. absurd s, λ f. tt)
+pub imply_iff : (a b : Bool) → T (imply a b) ↔ (T a → T b)
+imply_iff true b = (λ t s. t, λ f. f tt)
+imply_iff false b = (λ t s. absurd s, λ f. tt)
 
 -- two tests that say the same
 pub same_test : (b c : Bool) → (T b → T c) → (T c → T b) → b ≡ c
@@ -51,31 +51,31 @@ split true C f g = f tt
 split false C f g = g tt
 
 -- the same test on both sides
-pub split-both : {A B : Type 0} (P : A → B → Type 0) (b : Bool) {x y : A} {u v : B} → (T b → P x u) → (T (not b) → P y v) → P (cond b x y) (cond b u v)
-split-both P true f g = f tt
-split-both P false f g = g tt
+pub split_both : {A B : Type 0} (P : A → B → Type 0) (b : Bool) {x y : A} {u v : B} → (T b → P x u) → (T (not b) → P y v) → P (cond b x y) (cond b u v)
+split_both P true f g = f tt
+split_both P false f g = g tt
 
 -- a test at every member of a list, and at every number below n
-pub every-at : {S : Type 0} (l : List S) (P : S → Bool) (s : S) → T (every l P) → Mem s l → T (P s)
+pub every_at : {S : Type 0} (l : List S) (P : S → Bool) (s : S) → T (every l P) → Mem s l → T (P s)
 unfolding every
-every-at (u ∷ l) P s t first = and_l (P s) _ t
-every-at (u ∷ l) P s t (later m) = every-at l P s (and_r (P u) _ t) m
+every_at (u ∷ l) P s t first = and_l (P s) _ t
+every_at (u ∷ l) P s t (later m) = every_at l P s (and_r (P u) _ t) m
 
-pub every-by : {S : Type 0} (l : List S) (P : S → Bool) → ((s : S) → Mem s l → T (P s)) → T (every l P)
+pub every_by : {S : Type 0} (l : List S) (P : S → Bool) → ((s : S) → Mem s l → T (P s)) → T (every l P)
 unfolding every
-every-by [] P f = tt
-every-by (u ∷ l) P f = and_i (P u) _ (f u first) (every-by l P (λ s m. f s (later m)))
+every_by [] P f = tt
+every_by (u ∷ l) P f = and_i (P u) _ (f u first) (every_by l P (λ s m. f s (later m)))
 
 -- and at some member
 pub some_at : {S : Type 0} (l : List S) (P : S → Bool) → T (some l P) → (s : S) × Mem s l × T (P s)
 unfolding some
 some_at [] P t = absurd t
-some_at (u ∷ l) P t = or-e (P u) (some l P) _ t (λ h. (u, first, h)) (λ h. let r = some_at l P h in (r.0, later r.1, r.2))
+some_at (u ∷ l) P t = or_e (P u) (some l P) _ t (λ h. (u, first, h)) (λ h. let r = some_at l P h in (r.0, later r.1, r.2))
 
-pub some-by : {S : Type 0} (l : List S) (P : S → Bool) (s : S) → Mem s l → T (P s) → T (some l P)
+pub some_by : {S : Type 0} (l : List S) (P : S → Bool) (s : S) → Mem s l → T (P s) → T (some l P)
 unfolding some
-some-by (u ∷ l) P s first t = or_l (P s) _ t
-some-by (u ∷ l) P s (later m) t = or_r (P u) _ (some-by l P s m t)
+some_by (u ∷ l) P s first t = or_l (P s) _ t
+some_by (u ∷ l) P s (later m) t = or_r (P u) _ (some_by l P s m t)
 
 pub below_at : (n : ℕ) (P : ℕ → Bool) (k : ℕ) → T (below n P) → k < n → T (P k)
 unfolding below

@@ -8,15 +8,15 @@ use Rattle.algebra.specs.ring.RingLaws.{CRing}
 use Rattle.algebra.specs.ring.Ring.{Res, residue, residues}
 
 -- a remainder may stand for its number in a product
-pub mul-mod-mod : (a b p : ℕ) → (a * (b % p)) % p ≡ (a * b) % p
-mul-mod-mod zero b p = rw (N.zero-mul, N.zero-mul)
-mul-mod-mod (suc a) b p = rw (N.suc-mul, N.suc-mul) (N.add-mod-mod _ b p ∙ N.add-mod _ _ p ∙ ap (λ y. (y + b % p) % p) (mul-mod-mod a b p) ∙ sym (N.add-mod (a * b) b p))
+pub mul_mod_mod : (a b p : ℕ) → (a * (b % p)) % p ≡ (a * b) % p
+mul_mod_mod zero b p = rw (N.zero-mul, N.zero-mul)
+mul_mod_mod (suc a) b p = rw (N.suc-mul, N.suc-mul) (N.add-mod-mod _ b p ∙ N.add-mod _ _ p ∙ ap (λ y. (y + b % p) % p) (mul_mod_mod a b p) ∙ sym (N.add-mod (a * b) b p))
 
-pub mod-mul-mod : (a b p : ℕ) → ((a % p) * b) % p ≡ (a * b) % p
-mod-mul-mod a b p = rw (N.mul_comm (a % p) b, N.mul_comm a b) (mul-mod-mod b a p)
+pub mod_mul_mod : (a b p : ℕ) → ((a % p) * b) % p ≡ (a * b) % p
+mod_mul_mod a b p = rw (N.mul_comm (a % p) b, N.mul_comm a b) (mul_mod_mod b a p)
 
-pub mul-mod : (a b p : ℕ) → (a * b) % p ≡ ((a % p) * (b % p)) % p
-mul-mod a b p = sym (mod-mul-mod a b p) ∙ sym (mul-mod-mod (a % p) b p)
+pub mul_mod : (a b p : ℕ) → (a * b) % p ≡ ((a % p) * (b % p)) % p
+mul_mod a b p = sym (mod_mul_mod a b p) ∙ sym (mul_mod_mod (a % p) b p)
 
 -- residues are equal by their numbers
 pub val_path : {p : ℕ} {a b : Res p} → a.val ≡ b.val → a ≡ b
@@ -26,46 +26,46 @@ val_path {p} {a} {b} h = λ i. record {
 }
 
 module _ (p : ℕ) where
-  pub residue-val : (a : Res p) → residue p a.val ≡ a
+  pub residue_val : (a : Res p) → residue p a.val ≡ a
   unfolding residue
-  residue-val a = val_path a.norm
+  residue_val a = val_path a.norm
 
-  pub val-residue : (x : ℕ) → x < p → (residue p x).val ≡ x
+  pub val_residue : (x : ℕ) → x < p → (residue p x).val ≡ x
   unfolding residue
-  val-residue x h = N.mod-eq_of_lt h
+  val_residue x h = N.mod-eq_of_lt h
 
-  pub val-below : 0 < p → (a : Res p) → a.val < p
-  val-below h a = rw (← a.norm) (N.mod-lt a.val h)
+  pub val_below : 0 < p → (a : Res p) → a.val < p
+  val_below h a = rw (← a.norm) (N.mod-lt a.val h)
 
-  pub residue-mod : (x : ℕ) → residue p (x % p) ≡ residue p x
+  pub residue_mod : (x : ℕ) → residue p (x % p) ≡ residue p x
   unfolding residue
-  residue-mod x = val_path (N.mod-mod x p)
+  residue_mod x = val_path (N.mod-mod x p)
 
-  pub residue-add : (x y : ℕ) → residue p (x + y) ≡ (residues p).add (residue p x) (residue p y)
+  pub residue_add : (x y : ℕ) → residue p (x + y) ≡ (residues p).add (residue p x) (residue p y)
   unfolding residues residue
-  residue-add x y = val_path (N.add-mod x y p)
+  residue_add x y = val_path (N.add-mod x y p)
 
-  pub residue-mul : (x y : ℕ) → residue p (x * y) ≡ (residues p).mul (residue p x) (residue p y)
+  pub residue_mul : (x y : ℕ) → residue p (x * y) ≡ (residues p).mul (residue p x) (residue p y)
   unfolding residues residue
-  residue-mul x y = val_path (mul-mod x y p)
+  residue_mul x y = val_path (mul_mod x y p)
 
-  pub residue-neg : (x : ℕ) → x < p → residue p (p - x) ≡ (residues p).neg (residue p x)
+  pub residue_neg : (x : ℕ) → x < p → residue p (p - x) ≡ (residues p).neg (residue p x)
   unfolding residues residue
-  residue-neg x h = ap (λ n. residue p (p - n)) (sym (N.mod-eq_of_lt h))
+  residue_neg x h = ap (λ n. residue p (p - n)) (sym (N.mod-eq_of_lt h))
 
-  pub residue-less : (x : ℕ) → p ≤ x → residue p (x - p) ≡ residue p x
+  pub residue_less : (x : ℕ) → p ≤ x → residue p (x - p) ≡ residue p x
   unfolding residue
-  residue-less x h = val_path (sym (N.mod-eq-sub-mod h))
+  residue_less x h = val_path (sym (N.mod-eq-sub-mod h))
 
-  pub residue-ring : 0 < p → CRing (residues p)
+  pub residue_ring : 0 < p → CRing (residues p)
   unfolding residues residue
-  residue-ring pos = record {
+  residue_ring pos = record {
     add_assoc = λ x y z. val_path (N.mod-add-mod _ p _ ∙ ap (λ n. n % p) (N.add_assoc _ _ _) ∙ sym (N.add-mod-mod _ _ p));
     add_comm = λ x y. val_path (ap (λ n. n % p) (N.add_comm _ _));
-    zero-add = λ x. val_path (N.mod-add-mod 0 p _ ∙ ap (λ n. n % p) (N.zero-add _) ∙ x.norm);
-    neg-add = λ x. val_path (N.mod-add-mod _ p _ ∙ ap (λ n. n % p) (N.sub-add_cancel (N.le_of_lt (val-below pos x))) ∙ N.mod_self p ∙ sym (N.zero-mod p));
-    mul_assoc = λ x y z. val_path (mod-mul-mod _ _ p ∙ ap (λ n. n % p) (N.mul_assoc _ _ _) ∙ sym (mul-mod-mod _ _ p));
+    zero_add = λ x. val_path (N.mod-add-mod 0 p _ ∙ ap (λ n. n % p) (N.zero-add _) ∙ x.norm);
+    neg_add = λ x. val_path (N.mod-add-mod _ p _ ∙ ap (λ n. n % p) (N.sub-add_cancel (N.le_of_lt (val_below pos x))) ∙ N.mod_self p ∙ sym (N.zero-mod p));
+    mul_assoc = λ x y z. val_path (mod_mul_mod _ _ p ∙ ap (λ n. n % p) (N.mul_assoc _ _ _) ∙ sym (mul_mod_mod _ _ p));
     mul_comm = λ x y. val_path (ap (λ n. n % p) (N.mul_comm _ _));
-    one-mul = λ x. val_path (mod-mul-mod 1 _ p ∙ ap (λ n. n % p) (N.one-mul _) ∙ x.norm);
-    left_distrib = λ x y z. val_path (mul-mod-mod _ _ p ∙ ap (λ n. n % p) (N.mul-add _ _ _) ∙ N.add-mod _ _ p);
+    one_mul = λ x. val_path (mod_mul_mod 1 _ p ∙ ap (λ n. n % p) (N.one-mul _) ∙ x.norm);
+    left_distrib = λ x y z. val_path (mul_mod_mod _ _ p ∙ ap (λ n. n % p) (N.mul-add _ _ _) ∙ N.add-mod _ _ p);
   }

@@ -15,20 +15,20 @@ abbrev pub Inside : J → J → Type 0
 Inside a j = (j.0 < 2 * a.0) × (j.1 < 2 * a.1) × (j.2 < 2 * a.2)
 
 -- -h, and x + N/2, going round
-unfoldable pub negI : ℕ → ℕ → ℕ
-negI a h = (2 * a - h) % (2 * a)
+unfoldable pub neg_i : ℕ → ℕ → ℕ
+neg_i a h = (2 * a - h) % (2 * a)
 
-unfoldable pub halfI : ℕ → ℕ → ℕ
-halfI a x = (x + a) % (2 * a)
+unfoldable pub half_i : ℕ → ℕ → ℕ
+half_i a x = (x + a) % (2 * a)
 
 -- a change of sign, and a shifted by half the length, or none
 unfoldable pub flip : Bool → ℕ → ℕ → ℕ
 flip false a h = h
-flip true a h = negI a h
+flip true a h = neg_i a h
 
 unfoldable pub shifted : Bool → ℕ → ℕ → ℕ
 shifted false a x = x
-shifted true a x = halfI a x
+shifted true a x = half_i a x
 
 abbrev pub xor : Bool → Bool → Bool
 xor false b = b
@@ -56,8 +56,8 @@ unfoldable pub image_of : J → Sym → J → J
 image_of a (sym c f g h p q r) j = (flip f a.0 j.0, flip g a.1 j.1, flip h a.2 j.2)
 
 -- the image of a point
-unfoldable pub pointImage : J → Sym → J → J
-pointImage a (sym c f g h p q r) x = (
+unfoldable pub point_image : J → Sym → J → J
+point_image a (sym c f g h p q r) x = (
   shifted p a.0 (flip (xor c f) a.0 x.0),
   shifted q a.1 (flip (xor c g) a.1 x.1),
   shifted r a.2
@@ -85,8 +85,8 @@ abbrev pub full : Group → List Sym
 full g = twice (ops g)
 
 -- the same index
-abbrev pub sameJ : J → J → Bool
-sameJ i j = eqb i.0 j.0 && (eqb i.1 j.1 && eqb i.2 j.2)
+abbrev pub same_j : J → J → Bool
+same_j i j = eqb i.0 j.0 && (eqb i.1 j.1 && eqb i.2 j.2)
 
 -- the count of l that the packed factors (the paper's box) store
 unfoldable pub span : Group → ℕ → ℕ
@@ -105,11 +105,11 @@ planes Pm c = suc c
 planes Pa c = suc c
 planes P2₁2₁2₁ c = c
 
-abbrev pub planeSym : Group → Sym
-planeSym g = get_or (ops g) 1 one
+abbrev pub plane_sym : Group → Sym
+plane_sym g = get_or (ops g) 1 one
 
-unfoldable pub pointOperation : Group → J → J → Sym
-pointOperation g a x = cond (ltb x.2 (planes g a.2)) one (planeSym g)
+unfoldable pub point_operation : Group → J → J → Sym
+point_operation g a x = cond (ltb x.2 (planes g a.2)) one (plane_sym g)
 
 -- factors, or a map: a value at each of three indices
 abbrev pub Cell : Type 0 → Type 0
@@ -126,8 +126,8 @@ module _ {R : Type 0} (𝓞 : Ops R) where
   infixl 70 ◌⊗◌
   infix 75 ⊖◌
   -- the map: the triple sum over the axes X, Y, Z
-  unfoldable pub mapOf : (X Y Z : Axis R) → Cell R → Cell R
-  mapOf X Y Z F x y z =
+  unfoldable pub map_of : (X Y Z : Axis R) → Cell R → Cell R
+  map_of X Y Z F x y z =
       sum 𝓞 (2 * X.half)
       (λ h. sum 𝓞 (2 * Y.half)
       (λ k. sum 𝓞 (2 * Z.half)
@@ -135,8 +135,8 @@ module _ {R : Type 0} (𝓞 : Ops R) where
       ⊗ pow 𝓞 Z.w (l * z))))
 
   -- and the factors of a map: its inverse
-  unfoldable pub factorsOf : (conj : R → R) (X Y Z : Axis R) → Cell R → Cell R
-  factorsOf conj X Y Z M h k l =
+  unfoldable pub factors_of : (conj : R → R) (X Y Z : Axis R) → Cell R → Cell R
+  factors_of conj X Y Z M h k l =
       X.part ⊗ Y.part ⊗ Z.part
       ⊗ sum 𝓞 (2 * X.half)
       (λ x. sum 𝓞 (2 * Y.half)
@@ -156,25 +156,25 @@ module _ {R : Type 0} (conj : R → R) where
   star true v = conj v
 
   -- of a map, the value at the image of a point
-  unfoldable pub impliedDensity : Sym → R → R
-  impliedDensity (sym c f g h p q r) v = star c v
+  unfoldable pub implied_density : Sym → R → R
+  implied_density (sym c f g h p q r) v = star c v
 
   -- a map obeys an operation at every point
   abbrev pub MapObeys : J → Sym → Cell R → Type 0
-  MapObeys a s M = (x : J) → Inside a x → at M (pointImage a s x) ≡ impliedDensity s (at M x)
+  MapObeys a s M = (x : J) → Inside a x → at M (point_image a s x) ≡ implied_density s (at M x)
 
 module _ {R : Type 0} (𝓞 : Ops R) (conj : R → R) where
   open 𝓞 use {mul as ◌⊗◌, zer as 𝟘}
 
   infixl 70 ◌⊗◌
   -- the value at the image of j that v at j implies
-  unfoldable pub impliedValue : Sym → J → R → R
-  impliedValue (sym c f g h p q r) j v =
+  unfoldable pub implied_value : Sym → J → R → R
+  implied_value (sym c f g h p q r) j v =
       star conj c (sgn 𝓞 p j.0 ⊗ (sgn 𝓞 q j.1 ⊗ (sgn 𝓞 r j.2 ⊗ v)))
 
   -- the action on factors
-  unfoldable pub factorActs : J → Acts Sym J R
-  factorActs a = record { mul = ◌·◌; one = one; same = sameJ; image = image_of a; implied = impliedValue; zer = 𝟘 }
+  unfoldable pub factor_acts : J → Acts Sym J R
+  factor_acts a = record { mul = ◌·◌; one = one; same = same_j; image = image_of a; implied = implied_value; zer = 𝟘 }
 
 -- ---- Tests over places and operations: refusal 12 over any values with an equality test; the places of a cell in
 -- their order, and the records of its orbits.
@@ -198,44 +198,44 @@ some [] P = false
 some (s ∷ l) P = P s || some l P
 
 -- two indices are of one orbit: the second is an image of the first
-unfoldable pub sameOrbit : Group → (a i j : J) → Bool
-sameOrbit g a i j = some (full g) (λ s. sameJ (image_of a s i) j)
+unfoldable pub same_orbit : Group → (a i j : J) → Bool
+same_orbit g a i j = some (full g) (λ s. same_j (image_of a s i) j)
 
 -- every place h < n, k < m, l < q
-unfoldable pub everyPlace : ℕ → ℕ → ℕ → (J → Bool) → Bool
-everyPlace n m q P = below n (λ h. below m (λ k. below q (λ l. P (h, k, l))))
+unfoldable pub every_place : ℕ → ℕ → ℕ → (J → Bool) → Bool
+every_place n m q P = below n (λ h. below m (λ k. below q (λ l. P (h, k, l))))
 
 -- a factor is stored, and a point
-abbrev pub storedT : Group → J → J → Bool
-storedT g a j = leb j.1 a.1 && ltb j.2 (span g a.2)
+abbrev pub stored_t : Group → J → J → Bool
+stored_t g a j = leb j.1 a.1 && ltb j.2 (span g a.2)
 
-abbrev pub storedPointT : Group → J → J → Bool
-storedPointT g a x = ltb x.2 (planes g a.2)
+abbrev pub stored_point_t : Group → J → J → Bool
+stored_point_t g a x = ltb x.2 (planes g a.2)
 
 module _ {R : Type 0} (𝓞 : Ops R) (conj : R → R) (eq : R → R → Bool) (g : Group) (a : J) where
   -- 12: no image of the record falls on its own place with another value
-  unfoldable pub agreesT : J → R → Bool
-  agreesT j v = every (full g) (λ s. imply (sameJ (image_of a s j) j) (eq (impliedValue 𝓞 conj s j v) v))
+  unfoldable pub agrees_t : J → R → Bool
+  agrees_t j v = every (full g) (λ s. imply (same_j (image_of a s j) j) (eq (implied_value 𝓞 conj s j v) v))
 
 -- the places of the cell, rising in h, then k, then l
-unfoldable pub lineFrom : ℕ → ℕ → ℕ → ℕ → List J
-lineFrom h k l zero = []
-lineFrom h k l (suc n) = (h, k, l) ∷ lineFrom h k (suc l) n
+unfoldable pub line_from : ℕ → ℕ → ℕ → ℕ → List J
+line_from h k l zero = []
+line_from h k l (suc n) = (h, k, l) ∷ line_from h k (suc l) n
 
-unfoldable pub planeFrom : ℕ → ℕ → ℕ → ℕ → List J
-planeFrom q h k zero = []
-planeFrom q h k (suc n) = lineFrom h k 0 q ++ planeFrom q h (suc k) n
+unfoldable pub plane_from : ℕ → ℕ → ℕ → ℕ → List J
+plane_from q h k zero = []
+plane_from q h k (suc n) = line_from h k 0 q ++ plane_from q h (suc k) n
 
-unfoldable pub cellFrom : ℕ → ℕ → ℕ → ℕ → List J
-cellFrom q m h zero = []
-cellFrom q m h (suc n) = planeFrom q h 0 m ++ cellFrom q m (suc h) n
+unfoldable pub cell_from : ℕ → ℕ → ℕ → ℕ → List J
+cell_from q m h zero = []
+cell_from q m h (suc n) = plane_from q h 0 m ++ cell_from q m (suc h) n
 
 abbrev pub places_of : J → List J
-places_of a = cellFrom (2 * a.2) (2 * a.1) 0 (2 * a.0)
+places_of a = cell_from (2 * a.2) (2 * a.1) 0 (2 * a.0)
 
 -- the order of the places
-abbrev pub lexLe : J → J → Bool
-lexLe i j = ltb i.0 j.0 || (eqb i.0 j.0 && (ltb i.1 j.1 || (eqb i.1 j.1 && leb i.2 j.2)))
+abbrev pub lex_le : J → J → Bool
+lex_le i j = ltb i.0 j.0 || (eqb i.0 j.0 && (ltb i.1 j.1 || (eqb i.1 j.1 && leb i.2 j.2)))
 
 module _ {S J R : Type 0} (𝓐 : Acts S J R) (le : J → J → Bool) (eq : R → R → Bool) (G : List S) where
   open 𝓐 use {image, zer}
@@ -245,6 +245,6 @@ module _ {S J R : Type 0} (𝓐 : Acts S J R) (le : J → J → Bool) (eq : R �
   lowest j = every G (λ s. le j (image s j))
 
   -- a record for each orbit whose value is not zero, at its lowest place
-  unfoldable pub recordsOf : (J → R) → List J → List (J × R)
-  recordsOf F [] = []
-  recordsOf F (j ∷ l) = cond (lowest j && not (eq (F j) zer)) ((j, F j) ∷ recordsOf F l) (recordsOf F l)
+  unfoldable pub records_of : (J → R) → List J → List (J × R)
+  records_of F [] = []
+  records_of F (j ∷ l) = cond (lowest j && not (eq (F j) zer)) ((j, F j) ∷ records_of F l) (records_of F l)

@@ -1,8 +1,8 @@
 -- The six kinds of line, as the paper's table has them: what a packed line holds before the transform and after it, and
 -- what the transform is.
 --
--- A line X has N = 2 A values, indices modulo N. `unfoldBefore` and `unfoldAfter` are the whole line that a packed one
--- stands for, `packBefore` and `packAfter` the pairs that are packed of a whole line. The transform, `forward`, and its
+-- A line X has N = 2 A values, indices modulo N. `unfold_before` and `unfold_after` are the whole line that a packed one
+-- stands for, `pack_before` and `pack_after` the pairs that are packed of a whole line. The transform, `forward`, and its
 -- inverse are sums over the whole line: no fold stands here.
 use Rattle.algebra.specs.Prelude.{◌≡◌, ℕ, zero, suc, ◌*◌, ◌-◌, ◌/◌, ◌%◌, ◌<◌, ◌+◌}
 use Prim.Native.Nat.{Ordering}
@@ -37,14 +37,14 @@ module _ {R : Type 0} (𝓞 : Ops R) where
 -- Packed lines, as functions of the place of a pair.
 module _ {R : Type 0} where
   -- the whole line from the pairs 1 .. A - 1, the values at 0 and A, and the rule for X(-t)
-  unfoldable pub unfold-by : (A : ℕ) (first middle : R) (f : ℕ → R → R) (p : ℕ → R) → ℕ → R
-  unfold-by A first middle f p zero = first
-  unfold-by A first middle f p (suc t) = three (suc t) A (p (suc t)) middle (f (2 * A - suc t) (p (2 * A - suc t)))
+  unfoldable pub unfold_by : (A : ℕ) (first middle : R) (f : ℕ → R → R) (p : ℕ → R) → ℕ → R
+  unfold_by A first middle f p zero = first
+  unfold_by A first middle f p (suc t) = three (suc t) A (p (suc t)) middle (f (2 * A - suc t) (p (2 * A - suc t)))
 
   -- the pairs of a line, with pair 0 given
-  unfoldable pub pack-by : R → (ℕ → R) → ℕ → R
-  pack-by first X zero = first
-  pack-by first X (suc t) = X (suc t)
+  unfoldable pub pack_by : R → (ℕ → R) → ℕ → R
+  pack_by first X zero = first
+  pack_by first X (suc t) = X (suc t)
 
   -- f at the even places and g at the odd ones
   unfoldable pub interleave : (f g : ℕ → R) → ℕ → R
@@ -89,41 +89,41 @@ module _ {R : Type 0} (𝓞 : Ops R) (conj : R → R) (i half : R) (A : ℕ) whe
   -- X(-t). Hermitian: pair 0 holds X(0) and X(A), both real; antihermitian: their imaginary parts. Alternating: X(0),
   -- real, and the part of X(A) that can differ from 0, the real one for even A, the imaginary one for odd A. Symmetric:
   -- the pairs 0 .. A are X(0) .. X(A); antisymmetric: X(0) and X(A) are zero, pair 0 is X(1).
-  unfoldable pub unfoldBefore : Kind → (ℕ → R) → ℕ → R
-  unfoldBefore plain p = p
-  unfoldBefore hermitian p = unfold-by A (ℜ (p 0)) (ℑ (p 0)) (λ t x. conj x) p
-  unfoldBefore antihermitian p = unfold-by A (i ⊗ ℜ (p 0)) (i ⊗ ℑ (p 0)) (λ t x. ⊖ conj x) p
-  unfoldBefore alternating p =
-      unfold-by A (ℜ (p 0)) (unit 𝓞 conj i half A A ⊗ ℑ (p 0)) (λ t x. sign 𝓞 t ⊗ conj x) p
-  unfoldBefore symmetric p = unfold-by A (p 0) (p A) (λ t x. x) p
-  unfoldBefore antisymmetric p = unfold-by A 𝟘 𝟘 (λ t x. ⊖ x) (λ t. p (t - 1))
+  unfoldable pub unfold_before : Kind → (ℕ → R) → ℕ → R
+  unfold_before plain p = p
+  unfold_before hermitian p = unfold_by A (ℜ (p 0)) (ℑ (p 0)) (λ t x. conj x) p
+  unfold_before antihermitian p = unfold_by A (i ⊗ ℜ (p 0)) (i ⊗ ℑ (p 0)) (λ t x. ⊖ conj x) p
+  unfold_before alternating p =
+      unfold_by A (ℜ (p 0)) (unit 𝓞 conj i half A A ⊗ ℑ (p 0)) (λ t x. sign 𝓞 t ⊗ conj x) p
+  unfold_before symmetric p = unfold_by A (p 0) (p A) (λ t x. x) p
+  unfold_before antisymmetric p = unfold_by A 𝟘 𝟘 (λ t x. ⊖ x) (λ t. p (t - 1))
 
   -- The whole line from what is packed after it. Hermitian: N real parts, two in a pair; antihermitian: N imaginary
   -- parts. Alternating: X^(0) .. X^(A - 1), the other half is their conjugates.
-  unfoldable pub unfoldAfter : Kind → (ℕ → R) → ℕ → R
-  unfoldAfter plain q = q
-  unfoldAfter hermitian q = interleave (λ s. ℜ (q s)) (λ s. ℑ (q s))
-  unfoldAfter antihermitian q = interleave (λ s. i ⊗ ℜ (q s)) (λ s. i ⊗ ℑ (q s))
-  unfoldAfter alternating q = λ s. three s A (q s) (conj (q (s - A))) (conj (q (s - A)))
-  unfoldAfter symmetric q = unfold-by A (q 0) (q A) (λ t x. x) q
-  unfoldAfter antisymmetric q = unfold-by A 𝟘 𝟘 (λ t x. ⊖ x) (λ t. q (t - 1))
+  unfoldable pub unfold_after : Kind → (ℕ → R) → ℕ → R
+  unfold_after plain q = q
+  unfold_after hermitian q = interleave (λ s. ℜ (q s)) (λ s. ℑ (q s))
+  unfold_after antihermitian q = interleave (λ s. i ⊗ ℜ (q s)) (λ s. i ⊗ ℑ (q s))
+  unfold_after alternating q = λ s. three s A (q s) (conj (q (s - A))) (conj (q (s - A)))
+  unfold_after symmetric q = unfold_by A (q 0) (q A) (λ t x. x) q
+  unfold_after antisymmetric q = unfold_by A 𝟘 𝟘 (λ t x. ⊖ x) (λ t. q (t - 1))
 
   -- What is packed of a whole line, before the transform and after it.
-  unfoldable pub packBefore : Kind → (ℕ → R) → ℕ → R
-  packBefore plain X = X
-  packBefore hermitian X = pack-by (X 0 ⊕ i ⊗ X A) X
-  packBefore antihermitian X = pack-by (ℑ (X 0) ⊕ i ⊗ ℑ (X A)) X
-  packBefore alternating X = pack-by (X 0 ⊕ i ⊗ (conj (unit 𝓞 conj i half A A) ⊗ X A)) X
-  packBefore symmetric X = X
-  packBefore antisymmetric X = λ t. X (suc t)
+  unfoldable pub pack_before : Kind → (ℕ → R) → ℕ → R
+  pack_before plain X = X
+  pack_before hermitian X = pack_by (X 0 ⊕ i ⊗ X A) X
+  pack_before antihermitian X = pack_by (ℑ (X 0) ⊕ i ⊗ ℑ (X A)) X
+  pack_before alternating X = pack_by (X 0 ⊕ i ⊗ (conj (unit 𝓞 conj i half A A) ⊗ X A)) X
+  pack_before symmetric X = X
+  pack_before antisymmetric X = λ t. X (suc t)
 
-  unfoldable pub packAfter : Kind → (ℕ → R) → ℕ → R
-  packAfter plain Z = Z
-  packAfter hermitian Z = λ s. Z (2 * s) ⊕ i ⊗ Z (2 * s + 1)
-  packAfter antihermitian Z = λ s. ℑ (Z (2 * s)) ⊕ i ⊗ ℑ (Z (2 * s + 1))
-  packAfter alternating Z = Z
-  packAfter symmetric Z = Z
-  packAfter antisymmetric Z = λ s. Z (suc s)
+  unfoldable pub pack_after : Kind → (ℕ → R) → ℕ → R
+  pack_after plain Z = Z
+  pack_after hermitian Z = λ s. Z (2 * s) ⊕ i ⊗ Z (2 * s + 1)
+  pack_after antihermitian Z = λ s. ℑ (Z (2 * s)) ⊕ i ⊗ ℑ (Z (2 * s + 1))
+  pack_after alternating Z = Z
+  pack_after symmetric Z = Z
+  pack_after antisymmetric Z = λ s. Z (suc s)
 
   -- the rule that a line of each kind keeps, and the rule of its result
   abbrev pub RuleBefore : Kind → (ℕ → R) → Type 0
@@ -145,7 +145,7 @@ module _ {R : Type 0} (𝓞 : Ops R) (conj : R → R) (i half : R) (A : ℕ) whe
   -- Direction 0: pack the sums X^(s) of X(t) e(ts/N) over all t, w = e(1/N). Direction 1: the same with e(-ts/N), times
   -- part = 1/N.
   abbrev pub forward : (w : R) → Kind → (ℕ → R) → ℕ → R
-  forward w k p = packAfter k (λ s. dft 𝓞 (2 * A) w (unfoldBefore k p) s)
+  forward w k p = pack_after k (λ s. dft 𝓞 (2 * A) w (unfold_before k p) s)
 
   abbrev pub inverse : (w part : R) → Kind → (ℕ → R) → ℕ → R
-  inverse w part k q = packBefore k (λ t. 𝓞.mul part (dft 𝓞 (2 * A) (conj w) (unfoldAfter k q) t))
+  inverse w part k q = pack_before k (λ t. 𝓞.mul part (dft 𝓞 (2 * A) (conj w) (unfold_after k q) t))

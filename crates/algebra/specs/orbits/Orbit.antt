@@ -9,10 +9,10 @@ pub data Mem {S : Type 0} (s : S) : List S → Type 0 where
 
 -- two lists of the same things in some order
 pub data Perm {A : Type 0} : List A → List A → Type 0 where
-  p-nil : Perm [] []
-  p-skip : {x : A} {l m : List A} → Perm l m → Perm (x ∷ l) (x ∷ m)
-  p-swap : {x y : A} {l : List A} → Perm (x ∷ y ∷ l) (y ∷ x ∷ l)
-  p-trans : {l m n : List A} → Perm l m → Perm m n → Perm l n
+  p_nil : Perm [] []
+  p_skip : {x : A} {l m : List A} → Perm l m → Perm (x ∷ l) (x ∷ m)
+  p_swap : {x y : A} {l : List A} → Perm (x ∷ y ∷ l) (y ∷ x ∷ l)
+  p_trans : {l m n : List A} → Perm l m → Perm m n → Perm l n
 
 -- S operations, J places, R values: the image of a place, the value at the image of j that v at j implies
 pub record Acts (S J R : Type 0) : Type 0 where
@@ -35,6 +35,6 @@ module _ {S J R : Type 0} (𝓐 : Acts S J R) where
   recorded G j v F j' = written G j v j' (F j')
 
   -- one record after another
-  unfoldable pub recordAll : List S → List (J × R) → (J → R) → J → R
-  recordAll G [] F = F
-  recordAll G (r ∷ rs) F = recordAll G rs (recorded G r.0 r.1 F)
+  unfoldable pub record_all : List S → List (J × R) → (J → R) → J → R
+  record_all G [] F = F
+  record_all G (r ∷ rs) F = record_all G rs (recorded G r.0 r.1 F)

@@ -9,20 +9,20 @@ module _ {S J R : Type 0} (𝓐 : Acts S J R) where
   -- the laws of an action: every operation is its own inverse
   pub record Action (In : J → Type 0) : Type 0 where
     pub square : (s : S) → mul s s ≡ one
-    pub same-eq : (i j : J) → T (same i j) → i ≡ j
+    pub same_eq : (i j : J) → T (same i j) → i ≡ j
     pub same_refl : (i : J) → T (same i i)
-    pub image-inside : (s : S) (j : J) → In j → In (image s j)
-    pub image-one : (j : J) → image one j ≡ j
-    pub image-image : (s t : S) (j : J) → In j → image s (image t j) ≡ image (mul s t) j
-    pub implied-one : (j : J) (v : R) → implied one j v ≡ v
-    pub implied-implied : (s t : S) (j : J) (v : R) → implied s j (implied t j v) ≡ implied (mul s t) j v
-    pub implied-image : (s t : S) (j : J) (v : R) → In j → implied s (image t j) v ≡ implied s j v
-    pub implied-zero : (s : S) (j : J) → implied s j zer ≡ zer
+    pub image_inside : (s : S) (j : J) → In j → In (image s j)
+    pub image_one : (j : J) → image one j ≡ j
+    pub image_image : (s t : S) (j : J) → In j → image s (image t j) ≡ image (mul s t) j
+    pub implied_one : (j : J) (v : R) → implied one j v ≡ v
+    pub implied_implied : (s t : S) (j : J) (v : R) → implied s j (implied t j v) ≡ implied (mul s t) j v
+    pub implied_image : (s t : S) (j : J) (v : R) → In j → implied s (image t j) v ≡ implied s j v
+    pub implied_zero : (s : S) (j : J) → implied s j zer ≡ zer
 
   -- a list of operations that is a group
   pub record Closed (G : List S) : Type 0 where
     pub has_one : Mem one G
-    pub has-mul : (s t : S) → Mem s G → Mem t G → Mem (mul s t) G
+    pub has_mul : (s t : S) → Mem s G → Mem t G → Mem (mul s t) G
 
   -- refusal 12 is not this: no image falls on the own place with another value
   abbrev pub AgreesWithItself : List S → J → R → Type 0

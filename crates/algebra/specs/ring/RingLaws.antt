@@ -12,19 +12,19 @@ module _ {R : Type 0} (𝓞 : Ops R) where
   pub record CRing : Type 0 where
     pub add_assoc : (a b c : R) → (a ⊕ b) ⊕ c ≡ a ⊕ (b ⊕ c)
     pub add_comm : (a b : R) → a ⊕ b ≡ b ⊕ a
-    pub zero-add : (a : R) → 𝟘 ⊕ a ≡ a
-    pub neg-add : (a : R) → ⊖ a ⊕ a ≡ 𝟘
+    pub zero_add : (a : R) → 𝟘 ⊕ a ≡ a
+    pub neg_add : (a : R) → ⊖ a ⊕ a ≡ 𝟘
     pub mul_assoc : (a b c : R) → (a ⊗ b) ⊗ c ≡ a ⊗ (b ⊗ c)
     pub mul_comm : (a b : R) → a ⊗ b ≡ b ⊗ a
-    pub one-mul : (a : R) → 𝟙 ⊗ a ≡ a
+    pub one_mul : (a : R) → 𝟙 ⊗ a ≡ a
     pub left_distrib : (a b c : R) → a ⊗ (b ⊕ c) ≡ a ⊗ b ⊕ a ⊗ c
 
   -- a conjugation, and an imaginary unit
   pub record Star (conj : R → R) (i : R) : Type 0 where
-    pub conj-add : (a b : R) → conj (a ⊕ b) ≡ conj a ⊕ conj b
-    pub conj-mul : (a b : R) → conj (a ⊗ b) ≡ conj a ⊗ conj b
-    pub conj-neg : (a : R) → conj (⊖ a) ≡ ⊖ conj a
-    pub conj-one : conj 𝟙 ≡ 𝟙
-    pub conj-conj : (a : R) → conj (conj a) ≡ a
-    pub i-square : i ⊗ i ≡ ⊖ 𝟙
-    pub conj-i : conj i ≡ ⊖ i
+    pub conj_add : (a b : R) → conj (a ⊕ b) ≡ conj a ⊕ conj b
+    pub conj_mul : (a b : R) → conj (a ⊗ b) ≡ conj a ⊗ conj b
+    pub conj_neg : (a : R) → conj (⊖ a) ≡ ⊖ conj a
+    pub conj_one : conj 𝟙 ≡ 𝟙
+    pub conj_conj : (a : R) → conj (conj a) ≡ a
+    pub i_square : i ⊗ i ≡ ⊖ 𝟙
+    pub conj_i : conj i ≡ ⊖ i

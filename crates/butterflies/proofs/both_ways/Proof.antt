@@ -11,5 +11,5 @@ rest-requires c κs = c.before.requires
 returns : tie.Need-returns
 returns c = λ n k a b hx hy. (c.before.total.ensures n k a b hx hy, c.rest.ensures n k a b hx hy)
 
-pub both-ways-spec : {M : Type 1} → statement M
-both-ways-spec = tie.close (tie.spec total-requires rest-requires returns)
+pub both_ways_spec : {M : Type 1} → statement M
+both_ways_spec = tie.close (tie.spec total-requires rest-requires returns)

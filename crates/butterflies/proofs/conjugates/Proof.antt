@@ -1,8 +1,8 @@
 -- The sums at w and at its conjugate differ in the sign of the odd part.
 use borrow.Author.Rules.{rules}
 use native.Mathlib.Omega.{arith}
-use Rattle.butterflies.specs.Butterflies.{evenPart, oddPart}
-use Rattle.numbers.proofs.unreduced.Unreduced.{counted-one, room, rooms}
+use Rattle.butterflies.specs.Butterflies.{even_part, odd_part}
+use Rattle.numbers.proofs.unreduced.Unreduced.{counted_one, room, rooms}
 use Rattle.butterflies.proofs.conjugates.Statement.{statement}
 use Rattle.butterflies.proofs.conjugates.Tie as tie
 
@@ -16,17 +16,17 @@ weighed-requires : tie.Need-weighed-requires
 weighed-requires c κs =
     let s = c.before.before in
     let m = s.args.m in
-    let t = c.before.sum.ensures m 1 1 _ _ (counted-one m s.requires.1.1) (counted-one m s.requires.1.4) in
-    let u = c.sum2.ensures m 1 1 _ _ (counted-one m s.requires.1.2) (counted-one m s.requires.1.3) in
+    let t = c.before.sum.ensures m 1 1 _ _ (counted_one m s.requires.1.1) (counted_one m s.requires.1.4) in
+    let u = c.sum2.ensures m 1 1 _ _ (counted_one m s.requires.1.2) (counted_one m s.requires.1.3) in
     (s.requires.0.1, s.requires.0.3, room 731561241608 (omega arith) t, room 731561241608 (omega arith) u)
 
 sum-requires-3 : tie.Need-sum-requires-3
 sum-requires-3 c κs =
     let s = c.before.before.before in
     let m = s.args.m in
-    let t = c.before.before.sum.ensures m 1 1 _ _ (counted-one m s.requires.1.1) (counted-one m s.requires.1.4) in
-    let u = c.before.sum2.ensures m 1 1 _ _ (counted-one m s.requires.1.2) (counted-one m s.requires.1.3) in
-    rooms (omega arith) (omega arith) (counted-one m s.requires.1.0) (c.weighed.ensures m 2 2 _ _ t u)
+    let t = c.before.before.sum.ensures m 1 1 _ _ (counted_one m s.requires.1.1) (counted_one m s.requires.1.4) in
+    let u = c.before.sum2.ensures m 1 1 _ _ (counted_one m s.requires.1.2) (counted_one m s.requires.1.3) in
+    rooms (omega arith) (omega arith) (counted_one m s.requires.1.0) (c.weighed.ensures m 2 2 _ _ t u)
 
 difference-times-i-requires : tie.Need-difference-times-i-requires
 difference-times-i-requires c κs = search rules
@@ -49,14 +49,14 @@ both-ways-requires c κs =
     let at-sum2 = at-weighed.before in
     let s = at-sum2.before.before in
     let m = s.args.m in
-    let t = at-sum2.before.sum.ensures m 1 1 _ _ (counted-one m s.requires.1.1) (counted-one m s.requires.1.4) in
-    let u = at-sum2.sum2.ensures m 1 1 _ _ (counted-one m s.requires.1.2) (counted-one m s.requires.1.3) in
-    let even = at-sum3.sum3.ensures m 1 1209596 _ _ (counted-one m s.requires.1.0) (at-weighed.weighed.ensures m 2 2 _ _ t u) in
+    let t = at-sum2.before.sum.ensures m 1 1 _ _ (counted_one m s.requires.1.1) (counted_one m s.requires.1.4) in
+    let u = at-sum2.sum2.ensures m 1 1 _ _ (counted_one m s.requires.1.2) (counted_one m s.requires.1.3) in
+    let even = at-sum3.sum3.ensures m 1 1209596 _ _ (counted_one m s.requires.1.0) (at-weighed.weighed.ensures m 2 2 _ _ t u) in
     let odd = c.weighed2.ensures m 4 4 _ _ (at-times-i.difference-times-i.ensures m s.requires.0.0) (at-times-i2.difference-times-i2.ensures m s.requires.0.0) in
     (s.requires.0.0, rooms (omega arith) (omega arith) even odd)
 
 returns : tie.Need-returns
-unfolding evenPart oddPart
+unfolding even_part odd_part
 returns c =
     let at-weighed2 = c.before in
     let at-times-i2 = at-weighed2.before in
@@ -66,14 +66,14 @@ returns c =
     let at-sum2 = at-weighed.before in
     let s = at-sum2.before.before in
     let m = s.args.m in
-    let t = at-sum2.before.sum.ensures m 1 1 _ _ (counted-one m s.requires.1.1) (counted-one m s.requires.1.4) in
-    let u = at-sum2.sum2.ensures m 1 1 _ _ (counted-one m s.requires.1.2) (counted-one m s.requires.1.3) in
-    let even = at-sum3.sum3.ensures m 1 1209596 _ _ (counted-one m s.requires.1.0) (at-weighed.weighed.ensures m 2 2 _ _ t u) in
+    let t = at-sum2.before.sum.ensures m 1 1 _ _ (counted_one m s.requires.1.1) (counted_one m s.requires.1.4) in
+    let u = at-sum2.sum2.ensures m 1 1 _ _ (counted_one m s.requires.1.2) (counted_one m s.requires.1.3) in
+    let even = at-sum3.sum3.ensures m 1 1209596 _ _ (counted_one m s.requires.1.0) (at-weighed.weighed.ensures m 2 2 _ _ t u) in
     let odd = at-weighed2.weighed2.ensures m 4 4 _ _ (at-times-i.difference-times-i.ensures m s.requires.0.0) (at-times-i2.difference-times-i2.ensures m s.requires.0.0) in
     c.both_ways.ensures 1209597 2419192 _ _ even odd
 
-pub conjugates-spec : {M : Type 1} → statement M
-conjugates-spec =
+pub conjugates_spec : {M : Type 1} → statement M
+conjugates_spec =
     tie.close
     (tie.spec
     sum-requires

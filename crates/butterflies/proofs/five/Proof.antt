@@ -4,8 +4,8 @@ use native.Mathlib.Omega.{arith}
 use lib.Dec.{lit<}
 use Rattle.numbers.proofs.unreduced.Unreduced.{rooms}
 use Rattle.butterflies.proofs.Given.{given, given_both}
-use Rattle.butterflies.proofs.quarter_turn.Powers.{root-most}
-use Rattle.butterflies.proofs.Butterflies.{five-butterfly}
+use Rattle.butterflies.proofs.quarter_turn.Powers.{root_most}
+use Rattle.butterflies.proofs.Butterflies.{five_butterfly}
 use Rattle.butterflies.proofs.five.Statement.{statement}
 use Rattle.butterflies.proofs.five.Tie as tie
 
@@ -46,8 +46,8 @@ conjugates-requires c κs =
     let at-root-at2 = c.before.before.before.before in
     let at-root-at = at-root-at2.before in
     let s = at-root-at.before in
-    let w = root-most s.requires.0.1 (lit< tt) at-root-at.root-at.ensures s.requires.0.0 in
-    let z = root-most s.requires.0.1 (lit< tt) at-root-at2.root-at2.ensures s.requires.0.0 in
+    let w = root_most s.requires.0.1 (lit< tt) at-root-at.root-at.ensures s.requires.0.0 in
+    let z = root_most s.requires.0.1 (lit< tt) at-root-at2.root-at2.ensures s.requires.0.0 in
     let given = s.requires.1.each in
     ((s.requires.0.0, w.0, w.1, z.0, z.1), (given 0 (lit< tt), given 1 (lit< tt), given 2 (lit< tt), given 3 (lit< tt), given 4 (lit< tt)))
 
@@ -56,8 +56,8 @@ conjugates-requires-2 c κs =
     let at-root-at2 = c.before.before.before.before.before in
     let at-root-at = at-root-at2.before in
     let s = at-root-at.before in
-    let w = root-most s.requires.0.1 (lit< tt) at-root-at.root-at.ensures s.requires.0.0 in
-    let z = root-most s.requires.0.1 (lit< tt) at-root-at2.root-at2.ensures s.requires.0.0 in
+    let w = root_most s.requires.0.1 (lit< tt) at-root-at.root-at.ensures s.requires.0.0 in
+    let z = root_most s.requires.0.1 (lit< tt) at-root-at2.root-at2.ensures s.requires.0.0 in
     let given = s.requires.1.each in
     ((s.requires.0.0, z.0, z.1, w.0, w.1), (given 0 (lit< tt), given 1 (lit< tt), given 3 (lit< tt), given 2 (lit< tt), given 4 (lit< tt)))
 
@@ -77,10 +77,10 @@ returns c =
     let u = at-sum3.sum3.ensures m 1 1 _ _ (given s.requires.1 2 (lit< tt) m) (given s.requires.1 3 (lit< tt) m) in
     let near = at-conjugates.conjugates.ensures in
     let far = c.conjugates2.ensures in
-    five-butterfly m s.requires.0.1 _ _ at-root-at.root-at.ensures at-root-at2.root-at2.ensures (at-total.total.ensures 3 2 _ _ all u) near.0 far.0 far.1 near.1
+    five_butterfly m s.requires.0.1 _ _ at-root-at.root-at.ensures at-root-at2.root-at2.ensures (at-total.total.ensures 3 2 _ _ all u) near.0 far.0 far.1 near.1
 
-pub five-spec : {M : Type 1} → statement M
-five-spec =
+pub five_spec : {M : Type 1} → statement M
+five_spec =
     tie.close
     (tie.spec
     root-at-requires

@@ -4,18 +4,18 @@ use native.Mathlib.Omega.{arith}
 use lib.Dec.{lit<}
 use Rattle.algebra.specs.ring.Ring.{Ops, pow}
 use Rattle.numbers.specs.Value.{Value, field}
-use Rattle.roots.specs.Table.{tableRoot}
+use Rattle.roots.specs.Table.{table_root}
 use Rattle.butterflies.specs.declared.FourSums.{FourSums}
 use Rattle.numbers.specs.Unreduced.{meant}
 use Rattle.numbers.proofs.unreduced.Unreduced.{rooms}
 use Rattle.butterflies.proofs.Given.{given, given_both}
-use Rattle.butterflies.proofs.Butterflies.{four-butterfly}
+use Rattle.butterflies.proofs.Butterflies.{four_butterfly}
 use Rattle.butterflies.proofs.four.Statement.{statement}
 use Rattle.butterflies.proofs.four.Tie as tie
 
 -- what the quarter turn gives
-abbrev quarter-4 : (m : ℕ) → Value m → FourSums → Value m
-quarter-4 m W v = (field m).mul (pow (field m) W 720) ((field m).add (meant m v.x1) ((field m).neg (meant m v.x3)))
+abbrev quarter_4 : (m : ℕ) → Value m → FourSums → Value m
+quarter_4 m W v = (field m).mul (pow (field m) W 720) ((field m).add (meant m v.x1) ((field m).neg (meant m v.x3)))
 
 sum-requires : tie.Need-sum-requires
 sum-requires c κs =
@@ -50,9 +50,9 @@ both-ways-requires-2 c κs =
     let at-apart = c.before in
     let s = at-apart.before.before.before.before in
     let m = s.args.m in
-    let W = tableRoot m s.args.re.now s.args.im.now in
+    let W = table_root m s.args.re.now s.args.im.now in
     let away = at-apart.apart.ensures m 1 1 _ _ s.requires.0.0 (given s.requires.1 0 (lit< tt) m) (given s.requires.1 2 (lit< tt) m) in
-    (s.requires.0.0, rooms {b = quarter-4 m W s.args.v} (omega arith) (omega arith) away c.difference-times-quarter.ensures)
+    (s.requires.0.0, rooms {b = quarter_4 m W s.args.v} (omega arith) (omega arith) away c.difference-times-quarter.ensures)
 
 returns : tie.Need-returns
 returns c =
@@ -67,12 +67,12 @@ returns c =
     let b = given s.requires.1 2 (lit< tt) m in
     let odd = at-sum2.sum2.ensures m 1 1 _ _ (given s.requires.1 1 (lit< tt) m) (given s.requires.1 3 (lit< tt) m) in
     let near = at-both-ways.both_ways.ensures 2 2 _ _ (at_sum.sum.ensures m 1 1 _ _ a b) odd in
-    let W = tableRoot m s.args.re.now s.args.im.now in
-    let far = c.both-ways2.ensures 2428553 4 _ (quarter-4 m W s.args.v) (at-apart.apart.ensures m 1 1 _ _ s.requires.0.0 a b) at-difference-times-quarter.difference-times-quarter.ensures in
-    four-butterfly m s.requires.0.1 _ _ near.0 far.0 near.1 far.1
+    let W = table_root m s.args.re.now s.args.im.now in
+    let far = c.both-ways2.ensures 2428553 4 _ (quarter_4 m W s.args.v) (at-apart.apart.ensures m 1 1 _ _ s.requires.0.0 a b) at-difference-times-quarter.difference-times-quarter.ensures in
+    four_butterfly m s.requires.0.1 _ _ near.0 far.0 near.1 far.1
 
-pub four-spec : {M : Type 1} → statement M
-four-spec =
+pub four_spec : {M : Type 1} → statement M
+four_spec =
     tie.close
     (tie.spec
     sum-requires

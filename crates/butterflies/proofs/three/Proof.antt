@@ -4,8 +4,8 @@ use native.Mathlib.Omega.{arith}
 use lib.Dec.{lit<}
 use Rattle.numbers.proofs.unreduced.Unreduced.{room, rooms}
 use Rattle.butterflies.proofs.Given.{given, given_both}
-use Rattle.butterflies.proofs.quarter_turn.Powers.{root-most}
-use Rattle.butterflies.proofs.Butterflies.{three-butterfly}
+use Rattle.butterflies.proofs.quarter_turn.Powers.{root_most}
+use Rattle.butterflies.proofs.Butterflies.{three_butterfly}
 use Rattle.butterflies.proofs.three.Statement.{statement}
 use Rattle.butterflies.proofs.three.Tie as tie
 
@@ -23,7 +23,7 @@ scaled-requires c κs =
     let s = at-root-at.before in
     let m = s.args.m in
     let t = c.sum.ensures m 1 1 _ _ (given s.requires.1 1 (lit< tt) m) (given s.requires.1 2 (lit< tt) m) in
-    ((root-most s.requires.0.1 (lit< tt) at-root-at.root-at.ensures s.requires.0.0).0, room 731561241608 (omega arith) t)
+    ((root_most s.requires.0.1 (lit< tt) at-root-at.root-at.ensures s.requires.0.0).0, room 731561241608 (omega arith) t)
 
 sum-requires-2 : tie.Need-sum-requires-2
 sum-requires-2 c κs =
@@ -42,7 +42,7 @@ scaled-requires-2 : tie.Need-scaled-requires-2
 scaled-requires-2 c κs =
     let at-root-at = c.before.before.before.before in
     let s = at-root-at.before in
-    ((root-most s.requires.0.1 (lit< tt) at-root-at.root-at.ensures s.requires.0.0).1, room 731561241608 (omega arith) (c.difference-times-i.ensures s.args.m s.requires.0.0))
+    ((root_most s.requires.0.1 (lit< tt) at-root-at.root-at.ensures s.requires.0.0).1, room 731561241608 (omega arith) (c.difference-times-i.ensures s.args.m s.requires.0.0))
 
 total-requires : tie.Need-total-requires
 total-requires c κs =
@@ -82,10 +82,10 @@ returns c =
     let even = at-sum2.sum2.ensures m 1 604798 _ _ a (at_Scaled.scaled.ensures m 2 _ t) in
     let odd = at-scaled2.scaled2.ensures m 4 _ (at-times-i.difference-times-i.ensures m s.requires.0.0) in
     let mates = c.both_ways.ensures 604799 1209596 _ _ even odd in
-    three-butterfly m s.requires.0.1 _ _ at-root-at.root-at.ensures (at-total.total.ensures 1 2 _ _ a t) mates.0 mates.1
+    three_butterfly m s.requires.0.1 _ _ at-root-at.root-at.ensures (at-total.total.ensures 1 2 _ _ a t) mates.0 mates.1
 
-pub three-spec : {M : Type 1} → statement M
-three-spec =
+pub three_spec : {M : Type 1} → statement M
+three_spec =
     tie.close
     (tie.spec
     root-at-requires

@@ -19,5 +19,5 @@ sum-requires c κs =
 returns : tie.Need-returns
 returns c = λ m n k x y ht hs. c.sum.ensures m _ _ _ _ (c.before.before.scaled.ensures m n x ht) (c.before.scaled2.ensures m k y hs)
 
-pub weighed-spec : {M : Type 1} → statement M
-weighed-spec = tie.close (tie.spec scaled-requires scaled-requires-2 sum-requires returns)
+pub weighed_spec : {M : Type 1} → statement M
+weighed_spec = tie.close (tie.spec scaled-requires scaled-requires-2 sum-requires returns)

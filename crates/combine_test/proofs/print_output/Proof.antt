@@ -82,8 +82,8 @@ print-answer-requires c κs = search rules
 returns : tie.Need-returns invariant-loop decreases-loop
 returns c = search rules
 
-pub print-output-spec : {M : Type 1} → statement M
-print-output-spec =
+pub print_output_spec : {M : Type 1} → statement M
+print_output_spec =
     tie.close
     (tie.spec
     invariant-loop

@@ -22,6 +22,6 @@ returns c =
     to_z-of_z w64 _ (record { sfits = c.result.given })
     ∙ ap (λ q. get_or c.before.before.args.map.now q (pos 0)) c.before.density-place.ensures.0
 
-pub count-at-spec : {M : Type 1} → statement M
-count-at-spec =
+pub count_at_spec : {M : Type 1} → statement M
+count_at_spec =
     tie.close (tie.spec density-place-requires mul-result shared-slice-copy-out-result returns)

@@ -6,5 +6,5 @@ use Rattle.correlation.proofs.sensitive.Tie as tie
 returns : tie.Need-returns
 returns c = sensitive
 
-pub sensitive-spec : {M : Type 1} → statement M
-sensitive-spec = tie.close (tie.spec returns)
+pub sensitive_spec : {M : Type 1} → statement M
+sensitive_spec = tie.close (tie.spec returns)

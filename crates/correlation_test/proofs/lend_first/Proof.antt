@@ -29,8 +29,8 @@ same_length c = search rules
 returns : tie.Need-returns
 returns c = search rules
 
-pub lend-first-spec : {M : Type 1} → statement M
-lend-first-spec =
+pub lend_first_spec : {M : Type 1} → statement M
+lend_first_spec =
     tie.close
     (tie.spec
     slice-aggregate-read-named

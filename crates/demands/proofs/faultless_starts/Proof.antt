@@ -1,9 +1,9 @@
-use Rattle.demands.proofs.Starts.{faultless-starts}
+use Rattle.demands.proofs.Starts.{faultless_starts}
 use Rattle.demands.proofs.faultless_starts.Statement.{statement}
 use Rattle.demands.proofs.faultless_starts.Tie as tie
 
 returns : tie.Need-returns
-returns c = faultless-starts
+returns c = faultless_starts
 
-pub faultless-starts-spec : {M : Type 1} → statement M
-faultless-starts-spec = tie.close (tie.spec returns)
+pub faultless_starts_spec : {M : Type 1} → statement M
+faultless_starts_spec = tie.close (tie.spec returns)

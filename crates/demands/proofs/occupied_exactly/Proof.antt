@@ -1,9 +1,9 @@
-use Rattle.demands.proofs.Starts.{occupied-exactly}
+use Rattle.demands.proofs.Starts.{occupied_exactly}
 use Rattle.demands.proofs.occupied_exactly.Statement.{statement}
 use Rattle.demands.proofs.occupied_exactly.Tie as tie
 
 returns : tie.Need-returns
-returns c = occupied-exactly
+returns c = occupied_exactly
 
-pub occupied-exactly-spec : {M : Type 1} → statement M
-occupied-exactly-spec = tie.close (tie.spec returns)
+pub occupied_exactly_spec : {M : Type 1} → statement M
+occupied_exactly_spec = tie.close (tie.spec returns)

@@ -1,6 +1,6 @@
 -- What the public call answers and leaves, coded.
 use borrow.Author.Rules.{rules}
-use Rattle.exported.proofs.Coding.{work-coded}
+use Rattle.exported.proofs.Coding.{work_coded_lem}
 use Rattle.exported.proofs.recorder_analysis.Statement.{statement}
 use Rattle.exported.proofs.recorder_analysis.Tie as tie
 
@@ -17,7 +17,7 @@ same-length-2 : tie.Need-same-length-2
 same-length-2 c = search rules
 
 returns : tie.Need-returns
-returns c = let w = c.before.before.before.before.before.analysis in work-coded w.result _ c.answered-coded.ensures _ _ _ w.ensures
+returns c = let w = c.before.before.before.before.before.analysis in work_coded_lem w.result _ c.answered-coded.ensures _ _ _ w.ensures
 
-pub recorder-analysis-spec : {M : Type 1} → statement M
-recorder-analysis-spec = tie.close (tie.spec analysis-requires answered-coded-requires same_length same-length-2 returns)
+pub recorder_analysis_spec : {M : Type 1} → statement M
+recorder_analysis_spec = tie.close (tie.spec analysis-requires answered-coded-requires same_length same-length-2 returns)

@@ -1,6 +1,6 @@
 -- What the public call answers and leaves, coded.
 use borrow.Author.Rules.{rules}
-use Rattle.exported.proofs.Coding.{correlation-coded}
+use Rattle.exported.proofs.Coding.{correlation_coded_lem}
 use Rattle.exported.proofs.recorder_correlate.Statement.{statement}
 use Rattle.exported.proofs.recorder_correlate.Tie as tie
 
@@ -26,10 +26,10 @@ same-length-5 : tie.Need-same-length-5
 same-length-5 c = search rules
 
 returns : tie.Need-returns
-returns c = let w = c.before.before.before.before.before.before.before.before.before.before.correlate in correlation-coded w.result _ _ _ c.filled-coded.ensures w.ensures
+returns c = let w = c.before.before.before.before.before.before.before.before.before.before.correlate in correlation_coded_lem w.result _ _ _ c.filled-coded.ensures w.ensures
 
-pub recorder-correlate-spec : {M : Type 1} → statement M
-recorder-correlate-spec =
+pub recorder_correlate_spec : {M : Type 1} → statement M
+recorder_correlate_spec =
     tie.close
     (tie.spec
     correlate-requires

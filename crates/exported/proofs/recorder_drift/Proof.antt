@@ -1,6 +1,6 @@
 -- What the public call answers and leaves, coded.
 use borrow.Author.Rules.{rules}
-use Rattle.exported.proofs.Coding.{window-coded}
+use Rattle.exported.proofs.Coding.{window_coded_lem}
 use Rattle.exported.proofs.recorder_drift.Statement.{statement}
 use Rattle.exported.proofs.recorder_drift.Tie as tie
 
@@ -23,10 +23,10 @@ same-length-4 : tie.Need-same-length-4
 same-length-4 c = search rules
 
 returns : tie.Need-returns
-returns c = let w = c.before.before.before.before.before.before.before.window-extremes in window-coded w.result _ _ _ c.filled-coded.ensures w.ensures
+returns c = let w = c.before.before.before.before.before.before.before.window-extremes in window_coded_lem w.result _ _ _ c.filled-coded.ensures w.ensures
 
-pub recorder-drift-spec : {M : Type 1} → statement M
-recorder-drift-spec =
+pub recorder_drift_spec : {M : Type 1} → statement M
+recorder_drift_spec =
     tie.close
     (tie.spec
     window-extremes-requires

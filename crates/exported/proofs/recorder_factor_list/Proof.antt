@@ -1,6 +1,6 @@
 -- What the public call answers and leaves, coded.
 use borrow.Author.Rules.{rules}
-use Rattle.exported.proofs.Coding.{write-coded}
+use Rattle.exported.proofs.Coding.{write_coded_lem}
 use Rattle.exported.proofs.recorder_factor_list.Statement.{statement}
 use Rattle.exported.proofs.recorder_factor_list.Tie as tie
 
@@ -14,8 +14,8 @@ same_length : tie.Need-same-length
 same_length c = search rules
 
 returns : tie.Need-returns
-returns c = let w = c.before.before.before.factor-list in write-coded w.result _ _ _ c.filled-coded.ensures w.ensures
+returns c = let w = c.before.before.before.factor_list in write_coded_lem w.result _ _ _ c.filled-coded.ensures w.ensures
 
-pub recorder-factor-list-spec : {M : Type 1} → statement M
-recorder-factor-list-spec =
+pub recorder_factor_list_spec : {M : Type 1} → statement M
+recorder_factor_list_spec =
     tie.close (tie.spec factor-list-requires filled-coded-requires same_length returns)

@@ -1,6 +1,6 @@
 -- What the public call answers, coded.
 use borrow.Author.Rules.{rules}
-use Rattle.exported.proofs.Coding.{faults-coded}
+use Rattle.exported.proofs.Coding.{faults_coded_lem}
 use Rattle.exported.proofs.recorder_file_faults.Statement.{statement}
 use Rattle.exported.proofs.recorder_file_faults.Tie as tie
 
@@ -11,7 +11,7 @@ faults-coded-requires : tie.Need-faults-coded-requires
 faults-coded-requires c κs = search rules
 
 returns : tie.Need-returns
-returns c = let w = c.before.file-faults in faults-coded w.result _ _ c.faults-coded.ensures w.ensures
+returns c = let w = c.before.file-faults in faults_coded_lem w.result _ _ c.faults_coded_lem.ensures w.ensures
 
-pub recorder-file-faults-spec : {M : Type 1} → statement M
-recorder-file-faults-spec = tie.close (tie.spec file-faults-requires faults-coded-requires returns)
+pub recorder_file_faults_spec : {M : Type 1} → statement M
+recorder_file_faults_spec = tie.close (tie.spec file-faults-requires faults-coded-requires returns)

@@ -1,6 +1,6 @@
 -- What the public call answers and leaves, coded.
 use borrow.Author.Rules.{rules}
-use Rattle.exported.proofs.Coding.{power-coded}
+use Rattle.exported.proofs.Coding.{power_coded_lem}
 use Rattle.exported.proofs.recorder_map_power.Statement.{statement}
 use Rattle.exported.proofs.recorder_map_power.Tie as tie
 
@@ -11,7 +11,7 @@ power-coded-requires : tie.Need-power-coded-requires
 power-coded-requires c κs = search rules
 
 returns : tie.Need-returns
-returns c = let w = c.before.map-power in power-coded w.result _ _ c.power-coded.ensures w.ensures
+returns c = let w = c.before.map_power_lem in power_coded_lem w.result _ _ c.power_coded_lem.ensures w.ensures
 
-pub recorder-map-power-spec : {M : Type 1} → statement M
-recorder-map-power-spec = tie.close (tie.spec map-power-requires power-coded-requires returns)
+pub recorder_map_power_spec : {M : Type 1} → statement M
+recorder_map_power_spec = tie.close (tie.spec map-power-requires power-coded-requires returns)

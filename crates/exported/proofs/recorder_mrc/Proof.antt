@@ -1,6 +1,6 @@
 -- What the public call answers and leaves, coded; the unit cell is that of the struct.
 use borrow.Author.Rules.{rules}
-use Rattle.exported.proofs.Coding.{mrc-coded}
+use Rattle.exported.proofs.Coding.{mrc_coded}
 use Rattle.exported.proofs.recorder_mrc.Statement.{statement}
 use Rattle.exported.proofs.recorder_mrc.Tie as tie
 
@@ -20,9 +20,9 @@ returns : tie.Need-returns
 returns c =
     let w = c.before.before.before.mrc-map in
     let q = c.before.before.before.before.before.parameters-of in
-    mrc-coded w.result _ _ _ _ _ _ _ c.filled-coded.ensures q.ensures w.ensures
+    mrc_coded w.result _ _ _ _ _ _ _ c.filled-coded.ensures q.ensures w.ensures
 
-pub recorder-mrc-spec : {M : Type 1} → statement M
-recorder-mrc-spec =
+pub recorder_mrc_spec : {M : Type 1} → statement M
+recorder_mrc_spec =
     tie.close
     (tie.spec parameters-of-requires mrc-map-requires filled-coded-requires same_length returns)

@@ -1,6 +1,6 @@
 -- What the public call answers and leaves, coded.
 use borrow.Author.Rules.{rules}
-use Rattle.exported.proofs.Coding.{file-coded}
+use Rattle.exported.proofs.Coding.{file_coded_lem}
 use Rattle.exported.proofs.recorder_open_file.Statement.{statement}
 use Rattle.exported.proofs.recorder_open_file.Tie as tie
 
@@ -14,7 +14,7 @@ same_length : tie.Need-same-length
 same_length c = search rules
 
 returns : tie.Need-returns
-returns c = let w = c.before.before.before.open-file in file-coded w.result _ _ _ c.file-coded.ensures w.ensures
+returns c = let w = c.before.before.before.open-file in file_coded_lem w.result _ _ _ c.file_coded_lem.ensures w.ensures
 
-pub recorder-open-file-spec : {M : Type 1} → statement M
-recorder-open-file-spec = tie.close (tie.spec open-file-requires file-coded-requires same_length returns)
+pub recorder_open_file_spec : {M : Type 1} → statement M
+recorder_open_file_spec = tie.close (tie.spec open-file-requires file-coded-requires same_length returns)

@@ -1,6 +1,6 @@
 -- What the public call answers and leaves, coded.
 use borrow.Author.Rules.{rules}
-use Rattle.exported.proofs.Coding.{record-coded}
+use Rattle.exported.proofs.Coding.{record_coded_lem}
 use Rattle.exported.proofs.recorder_record.Statement.{statement}
 use Rattle.exported.proofs.recorder_record.Tie as tie
 
@@ -14,7 +14,7 @@ same_length : tie.Need-same-length
 same_length c = search rules
 
 returns : tie.Need-returns
-returns c = let w = c.before.before.before.«record» in record-coded w.result _ c.answered-coded.ensures _ _ w.ensures
+returns c = let w = c.before.before.before.«record» in record_coded_lem w.result _ c.answered-coded.ensures _ _ w.ensures
 
-pub recorder-record-spec : {M : Type 1} → statement M
-recorder-record-spec = tie.close (tie.spec record-requires answered-coded-requires same_length returns)
+pub recorder_record_spec : {M : Type 1} → statement M
+recorder_record_spec = tie.close (tie.spec record-requires answered-coded-requires same_length returns)

@@ -1,6 +1,6 @@
 -- What the public call answers, coded.
 use borrow.Author.Rules.{rules}
-use Rattle.exported.proofs.Coding.{next-coded}
+use Rattle.exported.proofs.Coding.{next_coded_lem}
 use Rattle.exported.proofs.recorder_scheduler_next.Statement.{statement}
 use Rattle.exported.proofs.recorder_scheduler_next.Tie as tie
 
@@ -11,7 +11,7 @@ next-coded-requires : tie.Need-next-coded-requires
 next-coded-requires c κs = search rules
 
 returns : tie.Need-returns
-returns c = let w = c.before.next in next-coded w.result _ _ c.next-coded.ensures w.ensures
+returns c = let w = c.before.next in next_coded_lem w.result _ _ c.next_coded_lem.ensures w.ensures
 
-pub recorder-scheduler-next-spec : {M : Type 1} → statement M
-recorder-scheduler-next-spec = tie.close (tie.spec next-requires next-coded-requires returns)
+pub recorder_scheduler_next_spec : {M : Type 1} → statement M
+recorder_scheduler_next_spec = tie.close (tie.spec next-requires next-coded-requires returns)

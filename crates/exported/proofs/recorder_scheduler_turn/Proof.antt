@@ -1,6 +1,6 @@
 -- What the public call answers and leaves, coded.
 use borrow.Author.Rules.{rules}
-use Rattle.exported.proofs.Coding.{turn-coded}
+use Rattle.exported.proofs.Coding.{turn_coded_lem}
 use Rattle.exported.proofs.recorder_scheduler_turn.Statement.{statement}
 use Rattle.exported.proofs.recorder_scheduler_turn.Tie as tie
 
@@ -17,7 +17,7 @@ same-length-2 : tie.Need-same-length-2
 same-length-2 c = search rules
 
 returns : tie.Need-returns
-returns c = let w = c.before.before.before.before.before.turn in turn-coded w.result _ _ _ _ c.turn-coded.ensures w.ensures
+returns c = let w = c.before.before.before.before.before.turn in turn_coded_lem w.result _ _ _ _ c.turn_coded_lem.ensures w.ensures
 
-pub recorder-scheduler-turn-spec : {M : Type 1} → statement M
-recorder-scheduler-turn-spec = tie.close (tie.spec turn-requires turn-coded-requires same_length same-length-2 returns)
+pub recorder_scheduler_turn_spec : {M : Type 1} → statement M
+recorder_scheduler_turn_spec = tie.close (tie.spec turn-requires turn-coded-requires same_length same-length-2 returns)

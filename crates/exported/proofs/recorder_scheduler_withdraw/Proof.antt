@@ -1,6 +1,6 @@
 -- What the public call answers and leaves, coded.
 use borrow.Author.Rules.{rules}
-use Rattle.exported.proofs.Coding.{lane-coded}
+use Rattle.exported.proofs.Coding.{lane_coded_lem}
 use Rattle.exported.proofs.recorder_scheduler_withdraw.Statement.{statement}
 use Rattle.exported.proofs.recorder_scheduler_withdraw.Tie as tie
 
@@ -11,7 +11,7 @@ lane-coded-requires : tie.Need-lane-coded-requires
 lane-coded-requires c κs = search rules
 
 returns : tie.Need-returns
-returns c = let w = c.before.withdraw in lane-coded w.result _ c.lane-coded.ensures _ _ _ w.ensures
+returns c = let w = c.before.withdraw in lane_coded_lem w.result _ c.lane_coded_lem.ensures _ _ _ w.ensures
 
-pub recorder-scheduler-withdraw-spec : {M : Type 1} → statement M
-recorder-scheduler-withdraw-spec = tie.close (tie.spec withdraw-requires lane-coded-requires returns)
+pub recorder_scheduler_withdraw_spec : {M : Type 1} → statement M
+recorder_scheduler_withdraw_spec = tie.close (tie.spec withdraw-requires lane-coded-requires returns)

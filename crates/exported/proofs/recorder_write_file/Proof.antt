@@ -1,6 +1,6 @@
 -- What the public call answers and leaves, coded.
 use borrow.Author.Rules.{rules}
-use Rattle.exported.proofs.Coding.{write-coded}
+use Rattle.exported.proofs.Coding.{write_coded_lem}
 use Rattle.exported.proofs.recorder_write_file.Statement.{statement}
 use Rattle.exported.proofs.recorder_write_file.Tie as tie
 
@@ -14,7 +14,7 @@ same_length : tie.Need-same-length
 same_length c = search rules
 
 returns : tie.Need-returns
-returns c = let w = c.before.before.before.write-file in write-coded w.result _ _ _ c.filled-coded.ensures w.ensures
+returns c = let w = c.before.before.before.write-file in write_coded_lem w.result _ _ _ c.filled-coded.ensures w.ensures
 
-pub recorder-write-file-spec : {M : Type 1} → statement M
-recorder-write-file-spec = tie.close (tie.spec write-file-requires filled-coded-requires same_length returns)
+pub recorder_write_file_spec : {M : Type 1} → statement M
+recorder_write_file_spec = tie.close (tie.spec write-file-requires filled-coded-requires same_length returns)

@@ -1,17 +1,17 @@
 // The header of a file: version, group, in version 2 the modulus, lengths and factor lists. A job holds its lists as octal digits, the first factor lowest.
 ghost use Rattle.std.specs.Prelude.{◌∷◌, ◌<◌};
-ghost use Rattle.lengths.specs.Lengths.{octalDigits};
+ghost use Rattle.lengths.specs.Lengths.{octal_digits};
 ghost use Rattle.output.specs.Written.{Wrote, Ends};
-ghost use Rattle.factor_file.specs.Steps.{headerFor};
-ghost use Rattle.file_format.specs.Format.{versionOf, modulusBytes, listBytes, headerBytes};
+ghost use Rattle.factor_file.specs.Steps.{header_for};
+ghost use Rattle.file_format.specs.Format.{version_of, modulus_bytes, list_bytes, header_bytes};
 
 use cell::operations::UnitCell;
 use output::big_endian;
 
 // The octal digits, the lowest first.
 fn put_digits(factors: u32, out: &mut [u8], start: usize) -> usize
-    requires { Ends start (octalDigits factors) }
-    ensures { Wrote start (octalDigits factors) out.old result out.new }
+    requires { Ends start (octal_digits factors) }
+    ensures { Wrote start (octal_digits factors) out.old result out.new }
 {
     let mut at = start;
     let mut rest = factors;
@@ -24,8 +24,8 @@ fn put_digits(factors: u32, out: &mut [u8], start: usize) -> usize
 
 // A factor list: a count byte, then a byte each.
 fn put_list(factors: u32, out: &mut [u8], at: usize) -> usize
-    requires { Ends at (listBytes (octalDigits factors)) }
-    ensures { Wrote at (listBytes (octalDigits factors)) out.old result out.new }
+    requires { Ends at (list_bytes (octal_digits factors)) }
+    ensures { Wrote at (list_bytes (octal_digits factors)) out.old result out.new }
 {
     let first = output::put_byte(out, at, file_format::layout::digit_count(factors) as u8);
     put_digits(factors, out, first)
@@ -35,8 +35,8 @@ fn put_list(factors: u32, out: &mut [u8], at: usize) -> usize
 fn put_numbers(modulus: u32, group: u32, out: &mut [u8], at: usize) -> usize
     requires { (modulus < 256)
         × (group < 256)
-        × Ends at (versionOf modulus ∷ group ∷ modulusBytes (versionOf modulus) modulus) }
-    ensures { Wrote at (versionOf modulus ∷ group ∷ modulusBytes (versionOf modulus) modulus)
+        × Ends at (version_of modulus ∷ group ∷ modulus_bytes (version_of modulus) modulus) }
+    ensures { Wrote at (version_of modulus ∷ group ∷ modulus_bytes (version_of modulus) modulus)
         out.old result out.new }
 {
     if modulus == 1 {
@@ -62,8 +62,8 @@ pub fn put_header(
         × (cell.n1 < 65536)
         × (cell.n2 < 65536)
         × (cell.n3 < 65536) }
-    requires ends { Ends at (headerBytes (versionOf modulus) modulus (headerFor cell f1 f2 f3)) }
-    ensures { Wrote at (headerBytes (versionOf modulus) modulus (headerFor cell f1 f2 f3))
+    requires ends { Ends at (header_bytes (version_of modulus) modulus (header_for cell f1 f2 f3)) }
+    ensures { Wrote at (header_bytes (version_of modulus) modulus (header_for cell f1 f2 f3))
         out.old result out.new }
 {
     let first_axis = put_numbers(modulus, cell.group, out, at);

@@ -4,7 +4,7 @@ ghost use Rattle.std.specs.Prelude.{◌≡◌, ◌<◌, length};
 ghost use Rattle.cell.specs.Operations.{triple_of, Sizes, Within};
 ghost use Rattle.output.specs.Written.{Wrote, Ends};
 ghost use Rattle.file_format.specs.Format.{all_bytes};
-ghost use Rattle.factor_file.specs.Steps.{IsFactors, pairBytes, Next, placeRecords, recordsWith};
+ghost use Rattle.factor_file.specs.Steps.{IsFactors, pair_bytes, Next, place_records, records_with};
 
 use cell::operations::{Index, UnitCell};
 use file_format::FileRecord;
@@ -14,8 +14,8 @@ use numbers::Pair;
 
 // A record: an index and the two numbers of its value.
 fn put_record(j: Index, x: Pair, out: &mut [u8], at: usize) -> usize
-    requires { (j.h < 65536) × (j.k < 65536) × (j.l < 65536) × Ends at (pairBytes (triple_of j) x) }
-    ensures { Wrote at (pairBytes (triple_of j) x) out.old result out.new }
+    requires { (j.h < 65536) × (j.k < 65536) × (j.l < 65536) × Ends at (pair_bytes (triple_of j) x) }
+    ensures { Wrote at (pair_bytes (triple_of j) x) out.old result out.new }
 {
     let c = FileRecord {
         h: j.h,
@@ -37,8 +37,8 @@ fn put_place(
     at: usize,
 ) -> usize
     requires factors { IsFactors modulus cell volume.now × Within cell j }
-    requires ends { Ends at (all_bytes (placeRecords cell modulus volume.now (triple_of j))) }
-    ensures { Wrote at (all_bytes (placeRecords cell modulus volume.now (triple_of j)))
+    requires ends { Ends at (all_bytes (place_records cell modulus volume.now (triple_of j))) }
+    ensures { Wrote at (all_bytes (place_records cell modulus volume.now (triple_of j)))
         out.old result out.new }
 {
     if crate::orbits::lowest(cell, j) {
@@ -89,8 +89,8 @@ pub fn put_records(
     start: usize,
 ) -> usize
     requires factors { IsFactors modulus cell volume.now }
-    requires ends { Ends start (all_bytes (recordsWith cell modulus volume.now)) }
-    ensures { Wrote start (all_bytes (recordsWith cell modulus volume.now)) out.old result
+    requires ends { Ends start (all_bytes (records_with cell modulus volume.now)) }
+    ensures { Wrote start (all_bytes (records_with cell modulus volume.now)) out.old result
         out.new }
 {
     let mut at = start;
@@ -105,7 +105,7 @@ pub fn put_records(
 // How many there are: an output of one byte has no room for them, and their bytes are counted all the same.
 pub fn count_records(modulus: u32, cell: UnitCell, volume: &[u32]) -> usize
     requires { IsFactors modulus cell volume.now }
-    ensures { result ≡ length (recordsWith cell modulus volume.now) }
+    ensures { result ≡ length (records_with cell modulus volume.now) }
 {
     let mut small: [u8; 1] = [0];
     put_records(modulus, cell, volume, &mut small, 0) / 14

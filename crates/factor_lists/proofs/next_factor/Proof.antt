@@ -3,25 +3,25 @@ use native.Mathlib.Omega.{arith}
 use mathlib.Core.Path.{◌≡◌, refl}
 use Prim.Native.Nat.{ℕ, ◌%◌}
 use borrow.Author.Tests.{eq-eqb, ne_eqb}
-use Rattle.factor_lists.specs.Chosen.{nextFactor}
+use Rattle.factor_lists.specs.Chosen.{next_factor}
 use Rattle.factor_lists.proofs.next_factor.Statement.{statement}
 use Rattle.factor_lists.proofs.next_factor.Tie as tie
 
 module _ (n : ℕ) where
-  four : n % 4 ≡ 0 → 4 ≡ nextFactor n
-  unfolding nextFactor
+  four : n % 4 ≡ 0 → 4 ≡ next_factor n
+  unfolding next_factor
   four e = rw (eq-eqb (n % 4) 0 e)
 
-  five : (n % 4 ≡ 0 → ⊥) → n % 5 ≡ 0 → 5 ≡ nextFactor n
-  unfolding nextFactor
+  five : (n % 4 ≡ 0 → ⊥) → n % 5 ≡ 0 → 5 ≡ next_factor n
+  unfolding next_factor
   five u e = rw (ne_eqb (n % 4) 0 u, eq-eqb (n % 5) 0 e)
 
-  three : (n % 4 ≡ 0 → ⊥) → (n % 5 ≡ 0 → ⊥) → n % 3 ≡ 0 → 3 ≡ nextFactor n
-  unfolding nextFactor
+  three : (n % 4 ≡ 0 → ⊥) → (n % 5 ≡ 0 → ⊥) → n % 3 ≡ 0 → 3 ≡ next_factor n
+  unfolding next_factor
   three u v e = rw (ne_eqb (n % 4) 0 u, ne_eqb (n % 5) 0 v, eq-eqb (n % 3) 0 e)
 
-  two : (n % 4 ≡ 0 → ⊥) → (n % 5 ≡ 0 → ⊥) → (n % 3 ≡ 0 → ⊥) → 2 ≡ nextFactor n
-  unfolding nextFactor
+  two : (n % 4 ≡ 0 → ⊥) → (n % 5 ≡ 0 → ⊥) → (n % 3 ≡ 0 → ⊥) → 2 ≡ next_factor n
+  unfolding next_factor
   two u v w = rw (ne_eqb (n % 4) 0 u, ne_eqb (n % 5) 0 v, ne_eqb (n % 3) 0 w)
 
 returns : tie.Need-returns
@@ -36,5 +36,5 @@ returns-3 c = (three _ c.before.before.if1.false c.before.if2.false c.if3.true, 
 returns-4 : tie.Need-returns-4
 returns-4 c = (two _ c.before.before.if1.false c.before.if2.false c.if3.false, omega arith, omega arith)
 
-pub next-factor-spec : {M : Type 1} → statement M
-next-factor-spec = tie.close (tie.spec returns returns-2 returns-3 returns-4)
+pub next_factor_spec : {M : Type 1} → statement M
+next_factor_spec = tie.close (tie.spec returns returns-2 returns-3 returns-4)

@@ -8,10 +8,10 @@ use native.Mathlib.Omega.{arith}
 use lib.Dec.{leb}
 use Rattle.refusals.specs.Refusals.{first}
 use Rattle.refusals.proofs.Tests.{stop, pass, not_t, not_f}
-use Rattle.numbers.specs.Value.{isModulus}
-use Rattle.header.specs.Header.{axisTests}
-use Rattle.file_format.specs.Format.{modulusIn, headerIn}
-use Rattle.file_format.proofs.shape.Shapes.{Ordered, ordered, header-parts}
+use Rattle.numbers.specs.Value.{is_modulus}
+use Rattle.header.specs.Header.{axis_tests}
+use Rattle.file_format.specs.Format.{modulus_in, header_in}
+use Rattle.file_format.proofs.shape.Shapes.{Ordered, ordered, header_parts}
 use Rattle.faults.proofs.check_header.Statement.{statement}
 use Rattle.faults.proofs.check_header.Tie as tie
 
@@ -22,16 +22,16 @@ header-numbers-requires : tie.Need-header-numbers-requires
 header-numbers-requires c κs = search rules
 
 returns : tie.Need-returns
-returns c = stop _ (le-leb _ _ (subst (λ g. 5 ≤ g) c.before.before.before.header-numbers.ensures.group c.if1.true))
+returns c = stop _ (le-leb _ _ (subst (λ g. 5 ≤ g) c.before.before.before.header_numbers.ensures.group c.if1.true))
 
 is-modulus-requires : tie.Need-is-modulus-requires
 is-modulus-requires c κs = search rules
 
 -- the group is known, and what was found of the modulus
-known : (c : tie.After-is-modulus) → let file = c.before.before.before.before.before.before.args.file.now in (leb 5 (headerIn file).group ≡ false) × (isModulus (modulusIn file) ≡ c.is-modulus.result)
+known : (c : tie.After-is-modulus) → let file = c.before.before.before.before.before.before.args.file.now in (leb 5 (header_in file).group ≡ false) × (is_modulus (modulus_in file) ≡ c.is-modulus.result)
 known c =
-    let n = c.before.before.before.before.header-numbers.ensures in
-    (lt-leb _ _ (subst (λ g. g < 5) n.group c.before.if1.false), sym (c.is-modulus.ensures ∙ ap isModulus n.modulus))
+    let n = c.before.before.before.before.header_numbers.ensures in
+    (lt-leb _ _ (subst (λ g. g < 5) n.group c.before.if1.false), sym (c.is-modulus.ensures ∙ ap is_modulus n.modulus))
 
 returns-2 : tie.Need-returns-2
 returns-2 c = let k = known c.before in pass 8 _ k.0 (stop _ (not_f _ (k.1 ∙ not-true _ c.if2.true)))
@@ -81,10 +81,10 @@ returns-3 c =
     let k = known t.before in
     let p = t.before.before.before.before.before in
     let start = p.before.before in
-    pass 8 _ k.0 (pass 26 _ (not_t _ (k.1 ∙ not-false _ t.if2.false)) (c.check-header.ensures ∙ ap (λ h. first (axisTests h)) (header-parts start.args.file.now start.requires.0 p.header-numbers.ensures)))
+    pass 8 _ k.0 (pass 26 _ (not_t _ (k.1 ∙ not-false _ t.if2.false)) (c.check-header.ensures ∙ ap (λ h. first (axis_tests h)) (header_parts start.args.file.now start.requires.0 p.header_numbers.ensures)))
 
-pub check-header-spec : {M : Type 1} → statement M
-check-header-spec =
+pub check_header_spec : {M : Type 1} → statement M
+check_header_spec =
     tie.close
     (tie.spec
     header-numbers-requires

@@ -1,9 +1,9 @@
-use Rattle.faults.proofs.FewestFaults.{fewest-exactly}
+use Rattle.faults.proofs.FewestFaults.{fewest_exactly}
 use Rattle.faults.proofs.fewest_exactly.Statement.{statement}
 use Rattle.faults.proofs.fewest_exactly.Tie as tie
 
 returns : tie.Need-returns
-returns c = fewest-exactly
+returns c = fewest_exactly
 
-pub fewest-exactly-spec : {M : Type 1} → statement M
-fewest-exactly-spec = tie.close (tie.spec returns)
+pub fewest_exactly_spec : {M : Type 1} → statement M
+fewest_exactly_spec = tie.close (tie.spec returns)

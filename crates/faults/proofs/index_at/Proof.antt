@@ -2,7 +2,7 @@
 use borrow.Author.Rules.{rules}
 use mathlib.Core.Path.{ap}
 use Rattle.file_format.specs.declared.FileRecord.{FileRecord}
-use Rattle.factor_file.specs.File.{indexIn}
+use Rattle.factor_file.specs.File.{index_in}
 use Rattle.faults.proofs.index_at.Statement.{statement}
 use Rattle.faults.proofs.index_at.Tie as tie
 use Rattle.faults.proofs.index_at.Reads as reads
@@ -13,7 +13,7 @@ standing-record-requires : tie.Need-standing-record-requires
 standing-record-requires c κs = search rules
 
 returns : tie.Need-returns
-returns c = ap (λ (r : FileRecord). indexIn r) c.standing-record.ensures
+returns c = ap (λ (r : FileRecord). index_in r) c.standing-record.ensures
 
-pub index-at-spec : {M : Type 1} → statement M
-index-at-spec = tie.close (tie.spec standing-record-requires returns)
+pub index_at_spec : {M : Type 1} → statement M
+index_at_spec = tie.close (tie.spec standing-record-requires returns)

@@ -1,11 +1,11 @@
 -- The record is within the cell, so its orbit has a place.
 use borrow.Author.Rules.{rules}
 use mathlib.Core.Path.{◌∙◌, ap}
-use Rattle.cell.specs.Operations.{cellGroup, cellHalves}
-use Rattle.cell.specs.OrbitPlace.{orbitPlace}
-use Rattle.file_format.specs.Format.{recordAt}
+use Rattle.cell.specs.Operations.{cell_group, cell_halves}
+use Rattle.cell.specs.OrbitPlace.{orbit_place}
+use Rattle.file_format.specs.Format.{record_at}
 use Rattle.faults.specs.FaultSteps.{place_of}
-use Rattle.faults.proofs.FaultLaws.{record-within}
+use Rattle.faults.proofs.FaultLaws.{record_within}
 use Rattle.faults.proofs.place_at.Statement.{statement}
 use Rattle.faults.proofs.place_at.Tie as tie
 use Rattle.faults.proofs.place_at.Reads as reads
@@ -17,13 +17,13 @@ index-at-requires : tie.Need-index-at-requires
 index-at-requires c κs = search rules
 
 orbit-place-requires : tie.Need-orbit-place-requires
-orbit-place-requires c κs = let s = c.before.before in (s.requires.0, record-within s.args.cell (recordAt s.args.file.now s.args.at) c.index_at.result c.index_at.ensures s.requires.2)
+orbit-place-requires c κs = let s = c.before.before in (s.requires.0, record_within s.args.cell (record_at s.args.file.now s.args.at) c.index_at.result c.index_at.ensures s.requires.2)
 
 returns : tie.Need-returns
 unfolding place_of
 returns c =
     let a = c.before.before.before.args in
-    (c.orbit-place.ensures.0 ∙ ap (orbitPlace (cellGroup a.cell) (cellHalves a.cell)) c.before.index_at.ensures, c.orbit-place.ensures.1)
+    (c.orbit-place.ensures.0 ∙ ap (orbit_place (cell_group a.cell) (cell_halves a.cell)) c.before.index_at.ensures, c.orbit-place.ensures.1)
 
-pub place-at-spec : {M : Type 1} → statement M
-place-at-spec = tie.close (tie.spec index-at-requires orbit-place-requires returns)
+pub place_at_spec : {M : Type 1} → statement M
+place_at_spec = tie.close (tie.spec index-at-requires orbit-place-requires returns)

@@ -3,22 +3,22 @@ use mathlib.Core.Path.{◌≡◌, ◌∙◌, sym, ap, subst}
 use Prim.Native.Nat.{◌+◌, ◌≤◌}
 use native.Mathlib.Omega.{arith}
 use Rattle.refusals.specs.Refusals.{first}
-use Rattle.refusals.specs.Checks.{checkedNumber}
+use Rattle.refusals.specs.Checks.{checked_number}
 use Rattle.numbers.specs.Value.{IsModulus}
 use Rattle.cell.specs.declared.operations.UnitCell.{UnitCell}
-use Rattle.cell.specs.Volume.{volumeLength}
-use Rattle.cell.specs.Operations.{cellGroup, cellHalves, Sizes}
-use Rattle.file_format.specs.Format.{fourBytes, modulusIn, headerIn}
-use Rattle.file_format.proofs.shape.Shapes.{ordered, filled-by}
-use Rattle.faults.specs.Faults.{headerTests}
-use Rattle.faults.proofs.FaultLaws.{header-sound, cell-of, header-faults, records-fault}
+use Rattle.cell.specs.Volume.{volume_length}
+use Rattle.cell.specs.Operations.{cell_group, cell_halves, Sizes}
+use Rattle.file_format.specs.Format.{four_bytes, modulus_in, header_in}
+use Rattle.file_format.proofs.shape.Shapes.{ordered, filled_by_lem}
+use Rattle.faults.specs.Faults.{header_tests}
+use Rattle.faults.proofs.FaultLaws.{header_sound, cell_of_lem, header_faults, records_fault}
 use borrow.Author.Rules.{rules}
 use Rattle.faults.proofs.sound_faults.Statement.{statement}
 use Rattle.faults.proofs.sound_faults.Tie as tie
 
 -- no test of the header holds
-passes : (c : tie.After-enum-told2) → 0 ≡ (let file = c.before.before.before.before.args.file.now in first (headerTests (modulusIn file) (headerIn file)))
-passes c = ap checkedNumber (sym c.enum-told2.given.1) ∙ c.before.before.check-header.ensures
+passes : (c : tie.After-enum-told2) → 0 ≡ (let file = c.before.before.before.before.args.file.now in first (header_tests (modulus_in file) (header_in file)))
+passes c = ap checked_number (sym c.enum-told2.given.1) ∙ c.before.before.check-header.ensures
 
 check-header-requires : tie.Need-check-header-requires
 check-header-requires c κs = search rules
@@ -29,7 +29,7 @@ enum_told c = search rules
 returns : tie.Need-returns
 returns c =
     let k = c.before.before in
-    header-faults k.before.before.args.file.now k.before.before.requires.1 c.enum_told.given.0.0 (ap checkedNumber (sym c.enum_told.given.1) ∙ k.check-header.ensures)
+    header_faults k.before.before.args.file.now k.before.before.requires.1 c.enum_told.given.0.0 (ap checked_number (sym c.enum_told.given.1) ∙ k.check-header.ensures)
 
 enum-told-2 : tie.Need-enum-told-2
 enum-told-2 c = search rules
@@ -49,12 +49,12 @@ record-faults-requires c κs =
     let t = n.before.before in
     let s = t.before.before.before.before in
     let file = s.args.file.now in
-    let h = n.header-numbers.ensures in
-    let head = header-sound (modulusIn file) (headerIn file) (passes t) in
-    let sound = subst (λ (c : UnitCell). Sizes c × (volumeLength (cellGroup c) (cellHalves c) ≤ 16777216)) (cell-of h) (head.sizes, head.near) in (
+    let h = n.header_numbers.ensures in
+    let head = header_sound (modulus_in file) (header_in file) (passes t) in
+    let sound = subst (λ (c : UnitCell). Sizes c × (volume_length (cell_group c) (cell_halves c) ≤ 16777216)) (cell_of_lem h) (head.sizes, head.near) in (
       subst IsModulus (sym h.modulus) head.modulus,
-      record { sizes = sound.0; begins = n.before.first-record.ensures ∙ ap (λ q. q + 4) s.requires.0.count; filled = filled-by file s.requires.1 },
-      c.four_bytes.ensures ∙ ap (fourBytes file) s.requires.0.count,
+      record { sizes = sound.0; begins = n.before.first-record.ensures ∙ ap (λ q. q + 4) s.requires.0.count; filled = filled_by_lem file s.requires.1 },
+      c.four_bytes.ensures ∙ ap (four_bytes file) s.requires.0.count,
       sound.1,
     )
 
@@ -63,10 +63,10 @@ returns-2 c =
     let n = c.before.before in
     let t = n.before.before in
     let s = t.before.before.before.before in
-    records-fault s.args.file.now s.requires.1 (passes t) n.header-numbers.ensures c.record-faults.ensures
+    records_fault s.args.file.now s.requires.1 (passes t) n.header_numbers.ensures c.record-faults.ensures
 
-pub sound-faults-spec : {M : Type 1} → statement M
-sound-faults-spec =
+pub sound_faults_spec : {M : Type 1} → statement M
+sound_faults_spec =
     tie.close
     (tie.spec
     check-header-requires

@@ -4,18 +4,18 @@ use mathlib.Core.List.{List, [], ◌∷◌, ◌++◌, append_assoc}
 use Prim.Native.Nat.{ℕ, suc, ◌*◌}
 use native.Mathlib.Omega.{arith}
 use lib.ListN.{length, length-append}
-use Rattle.output.specs.Output.{bigEndian}
+use Rattle.output.specs.Output.{big_endian}
 use Rattle.file_format.specs.declared.FileRecord.{FileRecord}
-use Rattle.file_format.specs.Format.{rawBytes, all_bytes}
+use Rattle.file_format.specs.Format.{raw_bytes, all_bytes}
 
-pub length-record : (c : FileRecord) → length (rawBytes c) ≡ 14
-unfolding bigEndian
-length-record c = refl
+pub length_record : (c : FileRecord) → length (raw_bytes c) ≡ 14
+unfolding big_endian
+length_record c = refl
 
-pub length-all : (cs : List FileRecord) → length (all_bytes cs) ≡ 14 * length cs
+pub length_all : (cs : List FileRecord) → length (all_bytes cs) ≡ 14 * length cs
 unfolding all_bytes
-length-all [] = refl
-length-all (c ∷ cs) = one_more (rawBytes c) (all_bytes cs) (length cs) (length-record c) (length-all cs)
+length_all [] = refl
+length_all (c ∷ cs) = one_more (raw_bytes c) (all_bytes cs) (length cs) (length_record c) (length_all cs)
   where
     one_more : (l m : List ℕ) (n : ℕ) → length l ≡ 14 → length m ≡ 14 * n → length (l ++ m) ≡ 14 * suc n
     one_more l m n e f = omega (arith, length-append l m, e, f)
@@ -23,4 +23,4 @@ length-all (c ∷ cs) = one_more (rawBytes c) (all_bytes cs) (length cs) (length
 pub all_append : (cs ds : List FileRecord) → all_bytes (cs ++ ds) ≡ all_bytes cs ++ all_bytes ds
 unfolding all_bytes
 all_append [] ds = refl
-all_append (c ∷ cs) ds = ap (λ (l : List ℕ). rawBytes c ++ l) (all_append cs ds) ∙ sym (append_assoc (rawBytes c) (all_bytes cs) (all_bytes ds))
+all_append (c ∷ cs) ds = ap (λ (l : List ℕ). raw_bytes c ++ l) (all_append cs ds) ∙ sym (append_assoc (raw_bytes c) (all_bytes cs) (all_bytes ds))

@@ -57,10 +57,10 @@ module _ {M : Type 1} {𝓤 : Ura M} (𝓛 : Logic 𝓤) (κ : Lft) where
     Own = Held κ d mach
 
     -- what the struct owns gives what the callee asks, and is kept
-    pub taken-apart : {asked : SProp 𝓤}
+    pub taken_apart : {asked : SProp 𝓤}
         → ent 𝓤 (⋆ 𝓛 ((‵ (flft κ q) ⊛ ‵ ftrue) ∷ ‵ (owns (ShrSlice (named 0) κ u8 ∷ usize ∷ []) (d.file, (d.at, tt)) (slice_val d.file.ref_ptr (length d.file.now) ∷ [], (vint w64 d.at ∷ [], tt))) ∷ [])) asked
         → d.at < 2 ^ 64 → ent 𝓤 (⋆ 𝓛 ((‵ (flft κ q) ⊛ ‵ ftrue) ∷ ‵ (owns (B (κ, tt) ∷ []) (d, tt) (mach ∷ [], tt)) ∷ [])) (sep 𝓤 asked (sem 𝓛 Own))
-    taken-apart {asked} gives fits =
+    taken_apart {asked} gives fits =
         qed 𝓛 ((‵ (flft κ q) ⊛ ‵ ftrue) ∷ ‵ (owns (B (κ, tt) ∷ []) (d, tt) (mach ∷ [], tt)) ∷ []) ∵
         move ! (1 ∷ []) $ fsplit ! $ move ! (1 ∷ []) $ drop ! $ use1 𝓛 (‵ Own ⊛ ‵ Own) (twice d mach) $ split ! $
         use1 𝓛 (given (mach ∷ [] ≡ mach ∷ []) (‵ (all_own (D κ).parts (L κ) (fields κ d)))) (own_open 𝓛 (D κ) (L κ) (fields κ d) mach) $ learn ! (λ _.

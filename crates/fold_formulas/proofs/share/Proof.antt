@@ -15,6 +15,6 @@ reciprocal-requires c κs = (c.requires.0, omega (arith, c.requires.1))
 returns : tie.Need-returns
 returns c = c.reciprocal.ensures
 
-pub share-spec : {M : Type 1} → statement M
-share-spec =
+pub share_spec : {M : Type 1} → statement M
+share_spec =
     tie.close (tie.spec mul-reciprocal cast-reciprocal reciprocal-requires returns)

@@ -6,7 +6,7 @@ ghost use Rattle.std.specs.Prelude.{◌≡◌, ℕ, ◌+◌, ◌*◌, ◌<◌, �
 ghost use Rattle.numbers.specs.Value.{IsModulus};
 ghost use Rattle.fold_formulas.specs.FoldFormulas.{stride, Tangents};
 ghost use Rattle.batches.specs.Lanes.{UpTo};
-ghost use Rattle.folded_batches.specs.AlternatingLanes.{BlockOf, firstPair, FirstPut, FinishedLanes};
+ghost use Rattle.folded_batches.specs.AlternatingLanes.{BlockOf, first_pair, FirstPut, FinishedLanes};
 
 // The pass after the forward transform, in place, `odd` being the sums of the imaginary parts at the odd places.
 pub fn finish(m: u32, rotated: bool, tan: &[u32; 1440], a: usize, odd: &[u32; 32], fold: &mut [u32])
@@ -34,7 +34,7 @@ fn put_first(odd: &[u32; 32], fold: &mut [u32])
 fn first_block(odd: &[u32; 32], fold: &[u32], y: &mut [u32; 32])
     requires { (32 ≤ length fold.now) × UpTo 500000000 fold.now
         × ((v : ℕ) → v < 16 → get_or odd.now v 0 ≤ 500000000) × (length y.old ≡ 32) }
-    ensures { BlockOf (firstPair odd.now fold.now) 16 y.new }
+    ensures { BlockOf (first_pair odd.now fold.now) 16 y.new }
 {
     let mut v = 0;
     while v < 16 {

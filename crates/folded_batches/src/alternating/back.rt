@@ -9,9 +9,9 @@
 ghost use Rattle.std.specs.Prelude.{◌≡◌, ℕ, ◌+◌, ◌*◌, ◌/◌, ◌<◌, ◌≤◌, get_or, length};
 ghost use Rattle.algebra.specs.lines.Folds.{mate};
 ghost use Rattle.numbers.specs.Value.{prime, IsModulus};
-ghost use Rattle.batches.specs.Lanes.{laneAt, UpTo};
-ghost use Rattle.folded_batches.specs.AlternatingLanes.{BlockOf, Filled, twicePair, FirstTaken, evenPair};
-ghost use Rattle.folded_batches.specs.AlternatingLanes.{oddPair, wholePair, endPlace, EndPacked};
+ghost use Rattle.batches.specs.Lanes.{lane_at, UpTo};
+ghost use Rattle.folded_batches.specs.AlternatingLanes.{BlockOf, Filled, twice_pair, FirstTaken, even_pair};
+ghost use Rattle.folded_batches.specs.AlternatingLanes.{odd_pair, whole_pair, end_place, EndPacked};
 
 // 2 M of each lane, and E(0) left at place 0.
 pub fn take_first(m: u32, fold: &mut [u32], twice: &mut [u32; 32])
@@ -28,7 +28,7 @@ pub fn take_first(m: u32, fold: &mut [u32], twice: &mut [u32; 32])
 
 fn twice_block(o: u32, fold: &[u32], y: &mut [u32; 32])
     requires { (o ≤ 604798) × (32 ≤ length fold.now) × UpTo o fold.now × (length y.old ≡ 32) }
-    ensures { BlockOf (twicePair o fold.now) 16 y.new }
+    ensures { BlockOf (twice_pair o fold.now) 16 y.new }
 {
     let mut v = 0;
     while v < 16 {
@@ -44,7 +44,7 @@ pub fn whole_line(m: u32, a: usize, twice: &[u32; 32], fold: &[u32], line: &mut 
         × ((v : ℕ) → v < 16 → get_or twice.now v 0 ≤ 500000000) }
     requires fold_len { (length fold.now ≡ 32 * a) × (length line.old ≡ 32 * (a + 1)) }
     ensures { Filled (λ j v x. x
-        ≡ wholePair (512 * prime m) a twice.now fold.now j v) (a + 1) line.new }
+        ≡ whole_pair (512 * prime m) a twice.now fold.now j v) (a + 1) line.new }
 {
     let o = 512 * numbers::modulus(m);
     let mut y = [0u32; 32];
@@ -61,7 +61,7 @@ fn whole_block(o: u32, a: usize, twice: &[u32; 32], fold: &[u32], j: usize, y: &
     requires o_bound { (o ≤ 154828288) × (0 < a) × (a ≤ 1440) × (j ≤ a) × UpTo o fold.now
         × ((v : ℕ) → v < 16 → get_or twice.now v 0 ≤ 500000000) }
     requires fold_len { (length fold.now ≡ 32 * a) × (length y.old ≡ 32) }
-    ensures { BlockOf (wholePair o a twice.now fold.now j) 16 y.new }
+    ensures { BlockOf (whole_pair o a twice.now fold.now j) 16 y.new }
 {
     let t = j / 2;
     let k = mate_of(a, (j + 1) / 2);
@@ -84,7 +84,7 @@ fn mate_of(a: usize, t: usize) -> usize
 fn even_block(o: u32, from: &[u32], i: usize, j: usize, y: &mut [u32; 32])
     requires o_bound { (o ≤ 154828288) × UpTo o from.now × (length y.old ≡ 32) }
     requires i_in_bounds { (32 * i + 32 ≤ length from.now) × (32 * j + 32 ≤ length from.now) }
-    ensures { BlockOf (λ v. evenPair o (laneAt from.now i v) (laneAt from.now j v)) 16
+    ensures { BlockOf (λ v. even_pair o (lane_at from.now i v) (lane_at from.now j v)) 16
         y.new }
 {
     let mut v = 0;
@@ -101,8 +101,8 @@ fn odd_block(o: u32, twice: &[u32; 32], from: &[u32], i: usize, j: usize, y: &mu
     requires o_bound { (o ≤ 154828288) × UpTo o from.now × (length y.old ≡ 32)
         × ((v : ℕ) → v < 16 → get_or twice.now v 0 ≤ 500000000) }
     requires i_in_bounds { (32 * i + 32 ≤ length from.now) × (32 * j + 32 ≤ length from.now) }
-    ensures { BlockOf (λ v. oddPair o (get_or twice.now v 0) (laneAt from.now i v)
-        (laneAt from.now j v)) 16 y.new }
+    ensures { BlockOf (λ v. odd_pair o (get_or twice.now v 0) (lane_at from.now i v)
+        (lane_at from.now j v)) 16 y.new }
 {
     let mut v = 0;
     while v < 16 {
@@ -127,7 +127,7 @@ pub fn pack(a: usize, line: &mut [u32])
 fn pack_block(first: usize, line: &[u32], y: &mut [u32; 32])
     requires { (32 ≤ length line.now) × (first + 16 ≤ length line.now) × (length y.old ≡ 32) }
     ensures { BlockOf (λ v. record {
-      re = (laneAt line.now 0 v).re;
+      re = (lane_at line.now 0 v).re;
       im = get_or line.now (first + v) 0;
     }) 16 y.new }
 {
@@ -141,7 +141,7 @@ fn pack_block(first: usize, line: &[u32], y: &mut [u32; 32])
 // Where the one part of X(A) begins.
 fn end_place(a: usize) -> usize
     requires { a ≤ 1440 }
-    ensures { result ≡ endPlace a }
+    ensures { result ≡ end_place a }
 {
     if a % 2 == 0 { 32 * a } else { 32 * a + 16 }
 }

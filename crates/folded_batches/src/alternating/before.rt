@@ -5,9 +5,9 @@
 // X(2A - j) = (-1)^j conj X(j). Then the short line is made by additions alone.
 ghost use Rattle.std.specs.Prelude.{◌≡◌, ℕ, ◌+◌, ◌*◌, ◌-◌, ◌<◌, ◌≤◌, get_or, length};
 ghost use Rattle.numbers.specs.Value.{prime, IsModulus};
-ghost use Rattle.batches.specs.Lanes.{laneAt, UpTo};
-ghost use Rattle.folded_batches.specs.AlternatingLanes.{BlockOf, MiddleBlock, Filled, Unpacked, lowPair};
-ghost use Rattle.folded_batches.specs.AlternatingLanes.{highPair, oddPlace, shortPair, OddSums};
+ghost use Rattle.batches.specs.Lanes.{lane_at, UpTo};
+ghost use Rattle.folded_batches.specs.AlternatingLanes.{BlockOf, MiddleBlock, Filled, Unpacked, low_pair};
+ghost use Rattle.folded_batches.specs.AlternatingLanes.{high_pair, odd_place, short_pair, OddSums};
 
 // Place 0 becomes X(0), and the place past the pairs X(A).
 pub fn unpack(a: usize, line: &mut [u32])
@@ -37,7 +37,7 @@ fn middle_block(a: usize, line: &[u32], y: &mut [u32; 32])
 // X(0), from the first.
 pub fn first_block(line: &[u32], y: &mut [u32; 32])
     requires { (32 ≤ length line.now) × (length y.old ≡ 32) }
-    ensures { BlockOf (λ v. record { re = (laneAt line.now 0 v).re; im = 0 }) 16 y.new }
+    ensures { BlockOf (λ v. record { re = (lane_at line.now 0 v).re; im = 0 }) 16 y.new }
 {
     let mut v = 0;
     while v < 16 {
@@ -50,7 +50,7 @@ pub fn first_block(line: &[u32], y: &mut [u32; 32])
 pub fn short_line(m: u32, a: usize, line: &[u32], fold: &mut [u32])
     requires modulus { IsModulus m × (a ≤ 1440) × UpTo (prime m) line.now }
     requires line_len { (length line.now ≡ 32 * (a + 1)) × (length fold.old ≡ 32 * a) }
-    ensures { Filled (λ t v x. x ≡ shortPair (prime m) a line.now t v) a fold.new }
+    ensures { Filled (λ t v x. x ≡ short_pair (prime m) a line.now t v) a fold.new }
 {
     let o = numbers::modulus(m);
     let mut y = [0u32; 32];
@@ -66,7 +66,7 @@ pub fn short_line(m: u32, a: usize, line: &[u32], fold: &mut [u32])
 fn short_block(o: u32, a: usize, line: &[u32], t: usize, y: &mut [u32; 32])
     requires o_bound { (o ≤ 302399) × (a ≤ 1440) × (t < a) × UpTo o line.now }
     requires line_len { (length line.now ≡ 32 * (a + 1)) × (length y.old ≡ 32) }
-    ensures { BlockOf (shortPair o a line.now t) 16 y.new }
+    ensures { BlockOf (short_pair o a line.now t) 16 y.new }
 {
     if 2 * t + 1 <= a {
         low_block(o, line, 2 * t, 2 * t + 1, y);
@@ -80,7 +80,7 @@ fn short_block(o: u32, a: usize, line: &[u32], t: usize, y: &mut [u32; 32])
 fn low_block(o: u32, from: &[u32], i: usize, j: usize, y: &mut [u32; 32])
     requires o_bound { (o ≤ 302399) × UpTo o from.now × (length y.old ≡ 32) }
     requires i_in_bounds { (32 * i + 32 ≤ length from.now) × (32 * j + 32 ≤ length from.now) }
-    ensures { BlockOf (λ v. lowPair o (laneAt from.now i v) (laneAt from.now j v)) 16
+    ensures { BlockOf (λ v. low_pair o (lane_at from.now i v) (lane_at from.now j v)) 16
         y.new }
 {
     let mut v = 0;
@@ -96,7 +96,7 @@ fn low_block(o: u32, from: &[u32], i: usize, j: usize, y: &mut [u32; 32])
 fn high_block(o: u32, from: &[u32], i: usize, j: usize, y: &mut [u32; 32])
     requires o_bound { (o ≤ 302399) × UpTo o from.now × (length y.old ≡ 32) }
     requires i_in_bounds { (32 * i + 32 ≤ length from.now) × (32 * j + 32 ≤ length from.now) }
-    ensures { BlockOf (λ v. highPair o (laneAt from.now i v) (laneAt from.now j v)) 16
+    ensures { BlockOf (λ v. high_pair o (lane_at from.now i v) (lane_at from.now j v)) 16
         y.new }
 {
     let mut v = 0;
@@ -164,7 +164,7 @@ fn clear(y: &mut [u32; 32])
 
 fn odd_place(a: usize, t: usize) -> usize
     requires { (a ≤ 1440) × (t < a) }
-    ensures { (result ≡ oddPlace a t) × (result ≤ a) }
+    ensures { (result ≡ odd_place a t) × (result ≤ a) }
 {
     if 2 * t + 1 <= a {
         2 * t + 1
@@ -179,7 +179,7 @@ fn add_imaginary(from: &[u32], j: usize, y: &mut [u32; 32])
         × ((v : ℕ) → v < 16 → get_or y.old v 0 ≤ 1073741823) }
     ensures { (length y.new ≡ 32)
         × ((v : ℕ) → v < 16 → get_or y.new v 0
-        ≡ get_or y.old v 0 + (laneAt from.now j v).im) }
+        ≡ get_or y.old v 0 + (lane_at from.now j v).im) }
 {
     let first = 32 * j + 16;
     let mut v = 0;

@@ -7,7 +7,7 @@ ghost use Rattle.std.specs.Prelude.{◌≡◌, ◌*◌, ◌<◌, length};
 ghost use Rattle.numbers.specs.Value.{IsModulus};
 ghost use Rattle.fold_formulas.specs.FoldFormulas.{stride, Tangents};
 ghost use Rattle.batches.specs.Lanes.{UpTo};
-ghost use Rattle.folded_batches.specs.AlternatingLanes.{Filled, ofOne, Angled, Angle, Coefficients};
+ghost use Rattle.folded_batches.specs.AlternatingLanes.{Filled, of_one, Angled, Angle, Coefficients};
 
 use crate::mixing::Mix;
 use numbers::Pair;
@@ -71,7 +71,7 @@ fn coefficients(
 
 // The coefficients of one place alone.
 fn of_one(a1: u32, a2: u32, a3: u32, a4: u32) -> Mix
-    ensures { result ≡ ofOne a1 a2 a3 a4 }
+    ensures { result ≡ of_one a1 a2 a3 a4 }
 {
     Mix {
         a1: a1,

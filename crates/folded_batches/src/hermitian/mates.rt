@@ -6,11 +6,11 @@
 ghost use Rattle.std.specs.Prelude.{◌≡◌, length, ◌+◌, ◌*◌, ◌<◌};
 ghost use Rattle.algebra.specs.ring.Ring.{pow};
 ghost use Rattle.numbers.specs.Value.{prime, IsModulus, Value, Residue, field};
-ghost use Rattle.roots.specs.Table.{tableRoot, RootTable};
-ghost use Rattle.fold_formulas.specs.FoldFormulas.{stride, lineRoot, Frame};
+ghost use Rattle.roots.specs.Table.{table_root, RootTable};
+ghost use Rattle.fold_formulas.specs.FoldFormulas.{stride, line_root, Frame};
 ghost use Rattle.batches.specs.Reduction.{ShiftedTable, Holds};
 ghost use Rattle.batches.specs.Lanes.{UpTo};
-ghost use Rattle.folded_batches.specs.HermitianLanes.{endFor, ownFactor, mateFactor, ComplexMix, EndMix};
+ghost use Rattle.folded_batches.specs.HermitianLanes.{end_for, own_factor, mate_factor, ComplexMix, EndMix};
 ghost use Rattle.folded_batches.specs.HermitianLanes.{MatedPlace, MatedLanes};
 
 use crate::mixing::Mix;
@@ -29,7 +29,7 @@ pub fn mate_places<'a>(
     requires frame { Frame m b re.now im.now × ShiftedTable m re.now im.now sre.now sim.now
         × (direction < 2) }
     requires from_len { (length from.now ≡ 32 * b) × (length to.old ≡ 32 * b) × UpTo 1073741823 from.now }
-    ensures { MatedLanes m direction b (lineRoot m b re.now im.now) from.now b
+    ensures { MatedLanes m direction b (line_root m b re.now im.now) from.now b
         to.new }
 {
     let step = 1440 / b;
@@ -60,7 +60,7 @@ fn mate_place<'a>(
         × (direction < 2) }
     requires step_value { (step ≡ stride b) × (t < b) × (length from.now ≡ 32 * b) × UpTo 1073741823 from.now
         × (length y.old ≡ 32) }
-    ensures { MatedPlace m direction b (lineRoot m b re.now im.now) from.now t
+    ensures { MatedPlace m direction b (line_root m b re.now im.now) from.now t
         y.new }
 {
     if t == 0 {
@@ -85,8 +85,8 @@ fn mates_mix<'a>(
     requires { IsModulus m × RootTable m re.now im.now
         × ShiftedTable m re.now im.now sre.now sim.now × (direction < 2) × (k < 2880) }
     ensures { ComplexMix m
-        (ownFactor m direction (pow (field m) (tableRoot m re.now im.now) k))
-        (mateFactor m direction (pow (field m) (tableRoot m re.now im.now) k)) result }
+        (own_factor m direction (pow (field m) (table_root m re.now im.now) k))
+        (mate_factor m direction (pow (field m) (table_root m re.now im.now) k)) result }
 {
     let one = batches::residues::shift(m);
     let x = sre[k];
@@ -122,7 +122,7 @@ fn complex_mix(m: u32, c: u32, d: u32, u: u32, v: u32) -> Mix
 // The coefficients of place 0: once or twice the sum and the difference of its two reals.
 fn end_mix(m: u32, direction: u32) -> Mix
     requires { IsModulus m × (direction < 2) }
-    ensures { EndMix m (endFor m direction) result }
+    ensures { EndMix m (end_for m direction) result }
 {
     let one = batches::residues::shift(m);
     if direction == 0 {

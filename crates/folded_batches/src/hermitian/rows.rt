@@ -4,9 +4,9 @@
 // the second one: 2 B in a row of factors, which has them apart, and 1 in a row of map values, where they share a pair.
 ghost use Rattle.std.specs.Prelude.{◌≡◌, ◌≢◌, get_or, length, ◌+◌, ◌*◌, ◌<◌, ◌≤◌};
 ghost use Rattle.numbers.specs.Value.{prime, IsModulus};
-ghost use Rattle.batches.specs.Lanes.{laneAt, UpTo};
+ghost use Rattle.batches.specs.Lanes.{lane_at, UpTo};
 ghost use Rattle.batches.specs.Groups.{PutLanes};
-ghost use Rattle.folded_batches.specs.RowLanes.{second_of, SecondIn, rowPair, usedPair, GatheredRows};
+ghost use Rattle.folded_batches.specs.RowLanes.{second_of, SecondIn, row_pair, used_pair, GatheredRows};
 ghost use Rattle.folded_batches.specs.RowLanes.{PutRows, ClosedRows};
 
 // Lane v of the batch becomes row v. The lanes that are not used become zero.
@@ -63,7 +63,7 @@ fn gather_place(
 )
     requires { (lanes ≤ 16) × (first < width) × (second < width) × (width ≤ 2882)
         × (lanes * width ≤ length rows.now) × (32 * j + 32 ≤ length d.old) }
-    ensures { PutLanes (usedPair lanes (rowPair rows.now width first second)) j 16
+    ensures { PutLanes (used_pair lanes (row_pair rows.now width first second)) j 16
         d.old d.new }
 {
     let mut v = 0;
@@ -102,7 +102,7 @@ fn put_rows(
 )
     requires { (lanes ≤ 16) × (first < width) × (second < width) × (first ≢ second) × (width ≤ 2882)
         × (lanes * width ≤ length rows.old) }
-    ensures { PutRows (λ v. laneAt y.now 0 v) width first second lanes rows.old
+    ensures { PutRows (λ v. lane_at y.now 0 v) width first second lanes rows.old
         rows.new }
 {
     let mut v = 0;

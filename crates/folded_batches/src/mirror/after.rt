@@ -3,9 +3,9 @@
 // folds, mirror/after.rt) 2 X^(s) = (1 + i tau) y(s) + sigma (1 - i tau) y(A - s).
 ghost use Rattle.std.specs.Prelude.{◌≡◌, length, get_or, ℕ, ◌+◌, ◌*◌, ◌-◌, ◌<◌, ◌≤◌};
 ghost use Rattle.numbers.specs.Value.{prime, IsModulus, Value, value_of};
-ghost use Rattle.batches.specs.Lanes.{laneAt, UpTo};
+ghost use Rattle.batches.specs.Lanes.{lane_at, UpTo};
 ghost use Rattle.fold_formulas.specs.FoldFormulas.{stride, Tangents};
-ghost use Rattle.folded_batches.specs.MirrorLanes.{Numbers, BlockOf, Places, twiceFinished, MirrorMix};
+ghost use Rattle.folded_batches.specs.MirrorLanes.{Numbers, BlockOf, Places, twice_finished, MirrorMix};
 
 use crate::mixing::Mix;
 
@@ -23,8 +23,8 @@ pub fn finish<'a>(
     requires up_to { UpTo (1440 * prime m) odds.now × UpTo (360 * prime m) fold.now × (length fold.now ≡ 32 * a)
         × (length line.old ≡ 32 * (a + 1)) }
     ensures { (o : ℕ → Value m)
-        → (first ≡ 0 → (v : ℕ) → v < 16 → value_of m (laneAt odds.now 0 v) ≡ o v)
-        → Places m 2147483647 (twiceFinished m a first tan.now fold.now o)
+        → (first ≡ 0 → (v : ℕ) → v < 16 → value_of m (lane_at odds.now 0 v) ≡ o v)
+        → Places m 2147483647 (twice_finished m a first tan.now fold.now o)
         first (a + 1 - first) line.new }
 {
     let mut y = [0u32; 32];
@@ -53,9 +53,9 @@ fn finish_place<'a>(
     requires first_le_s { (first ≤ s) × (s < a + 1 - first) }
     ensures { (length y.new ≡ 32)
         × ((o : ℕ → Value m)
-        → (first ≡ 0 → (v : ℕ) → v < 16 → value_of m (laneAt odds.now 0 v) ≡ o v)
+        → (first ≡ 0 → (v : ℕ) → v < 16 → value_of m (lane_at odds.now 0 v) ≡ o v)
         → BlockOf m 2147483647
-        (λ v. twiceFinished m a first tan.now fold.now o v s) y.new) }
+        (λ v. twice_finished m a first tan.now fold.now o v s) y.new) }
 {
     // e = 1: the sum of the line, which is that of the short line.
     if s == 0 {

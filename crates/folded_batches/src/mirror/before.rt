@@ -5,7 +5,7 @@
 // sigma X(j). So the two places of Y(t) are either both as they are or both mirror images: where one of them is A, it is
 // its own mirror image.
 ghost use Rattle.std.specs.Prelude.{◌≡◌, ◌⊎◌, length, ℕ, ◌+◌, ◌*◌, ◌<◌, ◌≤◌};
-ghost use Rattle.algebra.specs.lines.Folds.{mirrorPoint};
+ghost use Rattle.algebra.specs.lines.Folds.{mirror_point};
 ghost use Rattle.numbers.specs.Value.{prime, IsModulus, Value, field};
 ghost use Rattle.batches.specs.Lanes.{UpTo};
 ghost use Rattle.folded_batches.specs.MirrorLanes.{BlockOf, Places, WholeLines, OddSums};
@@ -15,7 +15,7 @@ pub fn short_lines(m: u32, first: usize, a: usize, line: &[u32], fold: &mut [u32
     requires { IsModulus m × (first ≤ 1) × (length line.now ≡ 32 * (a + 1)) × UpTo (prime m) line.now
         × (length fold.old ≡ 32 * a) }
     ensures { (X : ℕ → ℕ → Value m) → WholeLines m a first line.now X
-        → Places m (8 * prime m) (λ v. mirrorPoint (field m) (X v)) 0 a fold.new }
+        → Places m (8 * prime m) (λ v. mirror_point (field m) (X v)) 0 a fold.new }
 {
     let mut y = [0u32; 32];
     let mut t = 0;
@@ -32,7 +32,7 @@ fn short_place(m: u32, first: usize, a: usize, line: &[u32], t: usize, y: &mut [
         × UpTo (prime m) line.now × (length y.old ≡ 32) }
     ensures { (length y.new ≡ 32)
         × ((X : ℕ → ℕ → Value m) → WholeLines m a first line.now X
-        → BlockOf m (8 * prime m) (λ v. mirrorPoint (field m) (X v) t) y.new) }
+        → BlockOf m (8 * prime m) (λ v. mirror_point (field m) (X v) t) y.new) }
 {
     if 2 * t + 1 <= a {
         crate::mirror::places::add_places(line, 2 * t, 2 * t + 1, y);

@@ -1,7 +1,7 @@
 // Places of a batch added and subtracted, all 32 numbers alike. The result is a block of its own, as in `mixing`.
 ghost use Rattle.std.specs.Prelude.{◌≡◌, get_or, length, ◌+◌, ◌*◌, ◌-◌, ◌≤◌};
 ghost use Rattle.numbers.specs.Value.{prime, IsModulus};
-ghost use Rattle.numbers.specs.Bounds.{zeroPair};
+ghost use Rattle.numbers.specs.Bounds.{zero_pair};
 ghost use Rattle.batches.specs.Lanes.{UpTo};
 ghost use Rattle.batches.specs.Groups.{PutLanes};
 ghost use Rattle.folded_batches.specs.MirrorLanes.{Numbers, Raised};
@@ -52,7 +52,7 @@ pub fn add_to(from: &[u32], j: usize, y: &mut [u32; 32])
 // Place j becomes zero.
 pub fn clear_place(to: &mut [u32], j: usize)
     requires { 32 * j + 32 ≤ length to.old }
-    ensures { PutLanes (λ v. zeroPair) j 16 to.old to.new }
+    ensures { PutLanes (λ v. zero_pair) j 16 to.old to.new }
 {
     let place = 32 * j;
     let mut u = 0;

@@ -5,9 +5,9 @@
 // whole line from that, and packs it.
 ghost use Rattle.std.specs.Prelude.{◌≡◌, ℕ, ◌*◌, ◌<◌, ◌≤◌, length};
 ghost use Rattle.algebra.specs.ring.Ring.{Ops};
-ghost use Rattle.algebra.specs.lines.Packings.{packB3};
-ghost use Rattle.algebra.specs.lines.Folds.{mate, csc, cot, finish3, alternatingSpectrum, twice-M, line3};
-ghost use Rattle.numbers.specs.Value.{prime, IsModulus, field, conj, i, real, half, pair_of, onValues};
+ghost use Rattle.algebra.specs.lines.Packings.{pack_b3};
+ghost use Rattle.algebra.specs.lines.Folds.{mate, csc, cot, finish3, alternating_spectrum, twice_M, line3};
+ghost use Rattle.numbers.specs.Value.{prime, IsModulus, field, conj, i, real, half, pair_of, on_values};
 ghost use Rattle.numbers.specs.Bounds.{res, Small};
 ghost use Rattle.slices.specs.Pairs.{Below, values_of, list_of};
 ghost use Rattle.fold_formulas.specs.FoldFormulas.{stride, tangent, Tangents};
@@ -21,7 +21,7 @@ pub fn finish(m: u32, tan: &[u32; 1440], a: usize, odd: u32, fold: &[u32], line:
     requires fold_len { (length fold.now ≡ 2 * a) × Below (prime m) fold.now }
     requires line_len { length line.old ≡ 2 * a }
     ensures { line.new ≡ list_of a
-        (onValues m finish3 a (tangent m a tan.now)
+        (on_values m finish3 a (tangent m a tan.now)
         (values_of m fold.now) (real m (res m odd))) }
 {
     let step = 1440 / a;
@@ -42,7 +42,7 @@ pub fn inverse_short_line(m: u32, tan: &[u32; 1440], a: usize, line: &[u32], fol
     requires line_len { (length line.now ≡ 2 * a) × Below (prime m) line.now }
     requires fold_len { length fold.old ≡ 2 * a }
     ensures { fold.new ≡ list_of a
-        (onValues m alternatingSpectrum a (λ s. (field m).neg (tangent m a tan.now s))
+        (on_values m alternating_spectrum a (λ s. (field m).neg (tangent m a tan.now s))
         (values_of m line.now)) }
 {
     let step = 1440 / a;
@@ -59,7 +59,7 @@ pub fn twice_sum(m: u32, line: &[u32]) -> u32
     requires modulus { IsModulus m }
     requires in_bounds { (1 < length line.now) × Below (prime m) line.now }
     ensures { (result < prime m)
-        × ((A : ℕ) → real m (res m result) ≡ onValues m twice-M A (values_of m line.now)) }
+        × ((A : ℕ) → real m (res m result) ≡ on_values m twice_M A (values_of m line.now)) }
 {
     let z = slices::get(line, 0);
     let s = numbers::add(m, z.re, z.im);
@@ -72,8 +72,8 @@ pub fn pack(m: u32, part: u32, twice: u32, a: usize, fold: &[u32], line: &mut [u
     requires fold_len { (length fold.now ≡ 2 * a) × Below (prime m) fold.now }
     requires line_len { length line.old ≡ 2 * a }
     ensures { line.new ≡ list_of a
-        (onValues m packB3 a
-        (onValues m line3 a (real m (res m part)) (values_of m fold.now) (real m (res m twice)))) }
+        (on_values m pack_b3 a
+        (on_values m line3 a (real m (res m part)) (values_of m fold.now) (real m (res m twice)))) }
 {
     let mut t = 0;
     while t < a {
@@ -98,7 +98,7 @@ fn finish_at(
     requires fold_len { (length fold.now ≡ 2 * a) × Below (prime m) fold.now }
     ensures { result
         ≡ pair_of
-        (onValues m finish3 a (tangent m a tan.now) (values_of m fold.now)
+        (on_values m finish3 a (tangent m a tan.now) (values_of m fold.now)
         (real m (res m odd)) s) }
 {
     let v = slices::get(fold, s);
@@ -132,7 +132,7 @@ fn inverse_short_at(
     requires line_len { (length line.now ≡ 2 * a) × Below (prime m) line.now }
     ensures { result
         ≡ pair_of
-        (onValues m alternatingSpectrum a (λ s. (field m).neg (tangent m a tan.now s))
+        (on_values m alternating_spectrum a (λ s. (field m).neg (tangent m a tan.now s))
         (values_of m line.now) s) }
 {
     let z = slices::get(line, s);
@@ -172,8 +172,8 @@ fn pack_at(m: u32, part: u32, twice: u32, a: usize, fold: &[u32], t: usize) -> P
     requires fold_len { (length fold.now ≡ 2 * a) × Below (prime m) fold.now }
     ensures { result
         ≡ pair_of
-        (onValues m packB3 a
-        (onValues m line3 a (real m (res m part)) (values_of m fold.now) (real m (res m twice))) t) }
+        (on_values m pack_b3 a
+        (on_values m line3 a (real m (res m part)) (values_of m fold.now) (real m (res m twice))) t) }
 {
     let x = line_at(m, part, twice, a, fold, t);
     if t == 0 {
@@ -196,7 +196,7 @@ fn line_at(m: u32, part: u32, twice: u32, a: usize, fold: &[u32], j: usize) -> P
     requires fold_len { (length fold.now ≡ 2 * a) × Below (prime m) fold.now }
     ensures { result
         ≡ pair_of
-        (onValues m line3 a (real m (res m part)) (values_of m fold.now) (real m (res m twice)) j) }
+        (on_values m line3 a (real m (res m part)) (values_of m fold.now) (real m (res m twice)) j) }
 {
     let y = slices::get(fold, j / 2);
     let c = numbers::conjugate(m, slices::get(fold, mate_of(a, (j + 1) / 2)));

@@ -5,9 +5,9 @@
 ghost use Rattle.std.specs.Prelude.{◌≡◌, ◌+◌, ◌*◌, ◌<◌, ◌≤◌, length};
 ghost use Rattle.algebra.specs.ring.Ring.{sum};
 ghost use Rattle.algebra.specs.lines.Kinds.{im};
-ghost use Rattle.algebra.specs.lines.Packings.{unfoldB3};
-ghost use Rattle.algebra.specs.lines.Folds.{alternatingPoint};
-ghost use Rattle.numbers.specs.Value.{prime, IsModulus, field, conj, i, real, pair_of, onValues};
+ghost use Rattle.algebra.specs.lines.Packings.{unfold_b3};
+ghost use Rattle.algebra.specs.lines.Folds.{alternating_point};
+ghost use Rattle.numbers.specs.Value.{prime, IsModulus, field, conj, i, real, pair_of, on_values};
 ghost use Rattle.numbers.specs.Bounds.{res};
 ghost use Rattle.slices.specs.Pairs.{Below, values_of, list_of};
 
@@ -19,7 +19,7 @@ pub fn short_line(m: u32, a: usize, line: &[u32], fold: &mut [u32])
     requires line_len { (length line.now ≡ 2 * a) × Below (prime m) line.now }
     requires fold_len { length fold.old ≡ 2 * a }
     ensures { fold.new
-        ≡ list_of a (alternatingPoint (field m) (i m) (onValues m unfoldB3 a (values_of m line.now))) }
+        ≡ list_of a (alternating_point (field m) (i m) (on_values m unfold_b3 a (values_of m line.now))) }
 {
     let mut t = 0;
     while t < a {
@@ -36,7 +36,7 @@ pub fn odd_imaginary_sum(m: u32, a: usize, line: &[u32]) -> u32
     requires line_len { (length line.now ≡ 2 * a) × Below (prime m) line.now }
     ensures { (result < prime m) × (real m (res m result)
         ≡ sum (field m) a
-        (λ t. onValues m im (onValues m unfoldB3 a (values_of m line.now) (2 * t + 1)))) }
+        (λ t. on_values m im (on_values m unfold_b3 a (values_of m line.now) (2 * t + 1)))) }
 {
     let mut s: u64 = 0;
     let mut t = 0;
@@ -53,7 +53,7 @@ fn short_at(m: u32, a: usize, line: &[u32], t: usize) -> Pair
     requires modulus { IsModulus m × (t < a) }
     requires line_len { (length line.now ≡ 2 * a) × Below (prime m) line.now }
     ensures { result
-        ≡ pair_of (alternatingPoint (field m) (i m) (onValues m unfoldB3 a (values_of m line.now)) t) }
+        ≡ pair_of (alternating_point (field m) (i m) (on_values m unfold_b3 a (values_of m line.now)) t) }
 {
     let even = value_at(m, a, line, 2 * t);
     let odd = value_at(m, a, line, 2 * t + 1);
@@ -64,7 +64,7 @@ fn short_at(m: u32, a: usize, line: &[u32], t: usize) -> Pair
 fn value_at(m: u32, a: usize, line: &[u32], j: usize) -> Pair
     requires modulus { IsModulus m × (j < 2 * a) }
     requires line_len { (length line.now ≡ 2 * a) × Below (prime m) line.now }
-    ensures { result ≡ pair_of (onValues m unfoldB3 a (values_of m line.now) j) }
+    ensures { result ≡ pair_of (on_values m unfold_b3 a (values_of m line.now) j) }
 {
     if j == 0 {
         // X(0) = conj X(0): the first number of pair 0 is all of it

@@ -1,11 +1,11 @@
 // Kinds 1 and 2, the Hermitian and the antihermitian lines, after the transform of the way back: R and S apart, and the line from them.
 ghost use Rattle.std.specs.Prelude.{◌≡◌, ◌+◌, ◌*◌, ◌<◌, length};
 ghost use Rattle.algebra.specs.lines.Folds.{back1};
-ghost use Rattle.numbers.specs.Value.{prime, conj, real, pair_of, onValues};
+ghost use Rattle.numbers.specs.Value.{prime, conj, real, pair_of, on_values};
 ghost use Rattle.numbers.specs.Bounds.{res};
 ghost use Rattle.slices.specs.Pairs.{Below, values_of, list_of};
-ghost use Rattle.fold_formulas.specs.FoldFormulas.{stride, lineRoot, Frame};
-ghost use Rattle.folds.specs.FoldedLines.{fromHermitian};
+ghost use Rattle.fold_formulas.specs.FoldFormulas.{stride, line_root, Frame};
+ghost use Rattle.folds.specs.FoldedLines.{from_hermitian};
 
 use numbers::Pair;
 
@@ -24,8 +24,8 @@ pub fn unfold<'a>(
     requires fold_len { (length fold.now ≡ 2 * a) × (length out.old ≡ 2 * a) }
     requires below { Below (prime m) fold.now }
     ensures { out.new ≡ list_of a
-        (fromHermitian m anti
-        (onValues m back1 a (real m (res m c)) (conj m (lineRoot m a re.now im.now))
+        (from_hermitian m anti
+        (on_values m back1 a (real m (res m c)) (conj m (line_root m a re.now im.now))
         (values_of m fold.now))) }
 {
     let step = 1440 / a;
@@ -51,8 +51,8 @@ fn unfold_at<'a>(
     requires frame { Frame m a re.now im.now × (c < prime m) × (step ≡ stride a) × (t < a) }
     requires fold_len { length fold.now ≡ 2 * a }
     requires below { Below (prime m) fold.now }
-    ensures { result ≡ pair_of (fromHermitian m anti
-        (onValues m back1 a (real m (res m c)) (conj m (lineRoot m a re.now im.now))
+    ensures { result ≡ pair_of (from_hermitian m anti
+        (on_values m back1 a (real m (res m c)) (conj m (line_root m a re.now im.now))
         (values_of m fold.now)) t) }
 {
     let x = slices::get(fold, t);

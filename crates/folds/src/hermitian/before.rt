@@ -5,10 +5,10 @@
 // has the N = 2 A real results in order, two in a pair: those of R at even places, of S at odd.
 ghost use Rattle.std.specs.Prelude.{◌≡◌, ◌+◌, ◌*◌, ◌<◌, length};
 ghost use Rattle.algebra.specs.lines.Folds.{fold1};
-ghost use Rattle.numbers.specs.Value.{prime, IsModulus, pair_of, onValues};
+ghost use Rattle.numbers.specs.Value.{prime, IsModulus, pair_of, on_values};
 ghost use Rattle.slices.specs.Pairs.{Below, values_of, list_of};
-ghost use Rattle.fold_formulas.specs.FoldFormulas.{stride, lineRoot, Frame};
-ghost use Rattle.folds.specs.FoldedLines.{toHermitian};
+ghost use Rattle.fold_formulas.specs.FoldFormulas.{stride, line_root, Frame};
+ghost use Rattle.folds.specs.FoldedLines.{to_hermitian};
 
 use numbers::Pair;
 
@@ -26,8 +26,8 @@ pub fn short_line<'a>(
     requires line_len { (length line.now ≡ 2 * a) × (length out.old ≡ 2 * a) }
     requires below { Below (prime m) line.now }
     ensures { out.new ≡ list_of a
-        (onValues m fold1 a (lineRoot m a re.now im.now)
-        (toHermitian m anti (values_of m line.now))) }
+        (on_values m fold1 a (line_root m a re.now im.now)
+        (to_hermitian m anti (values_of m line.now))) }
 {
     let step = 1440 / a;
     let mut t = 0;
@@ -51,8 +51,8 @@ fn short_at<'a>(
     requires frame { Frame m a re.now im.now × (step ≡ stride a) × (t < a) }
     requires line_len { length line.now ≡ 2 * a }
     requires below { Below (prime m) line.now }
-    ensures { result ≡ pair_of (onValues m fold1 a (lineRoot m a re.now im.now)
-        (toHermitian m anti (values_of m line.now)) t) }
+    ensures { result ≡ pair_of (on_values m fold1 a (line_root m a re.now im.now)
+        (to_hermitian m anti (values_of m line.now)) t) }
 {
     let x = hermitian_at(m, anti, t, line);
     if t == 0 {
@@ -68,7 +68,7 @@ fn short_at<'a>(
 fn hermitian_at(m: u32, anti: bool, t: usize, line: &[u32]) -> Pair
     requires modulus { IsModulus m × (2 * t + 1 < length line.now) }
     requires below { Below (prime m) line.now }
-    ensures { result ≡ pair_of (toHermitian m anti (values_of m line.now) t) }
+    ensures { result ≡ pair_of (to_hermitian m anti (values_of m line.now) t) }
 {
     let v = slices::get(line, t);
     if t == 0 {

@@ -10,7 +10,7 @@ ghost use Rattle.numbers.specs.Value.{prime, IsModulus, value_of, pair_of};
 ghost use Rattle.numbers.specs.Bounds.{Small};
 ghost use Rattle.slices.specs.Pairs.{Below, list_of};
 ghost use Rattle.fold_formulas.specs.FoldFormulas.{stride, Tangents};
-ghost use Rattle.folds.specs.FoldedLines.{storedCount, finished};
+ghost use Rattle.folds.specs.FoldedLines.{stored_count, finished};
 
 use numbers::Pair;
 
@@ -26,9 +26,9 @@ pub fn finish(
 )
     requires modulus { IsModulus m × Tangents m tan.now × (first ≤ 1) × Small (prime m) o }
     requires a_nonzero { (0 < a) × (a * stride a ≡ 1440) }
-    requires fold_len { (length fold.now ≡ 2 * a) × (length line.old ≡ 2 * storedCount a first) }
+    requires fold_len { (length fold.now ≡ 2 * a) × (length line.old ≡ 2 * stored_count a first) }
     requires below { Below (prime m) fold.now }
-    ensures { line.new ≡ list_of (storedCount a first)
+    ensures { line.new ≡ list_of (stored_count a first)
         (λ p. finished m a first tan.now fold.now (value_of m o) (first + p)) }
 {
     let step = 1440 / a;

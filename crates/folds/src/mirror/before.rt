@@ -6,21 +6,21 @@
 ghost use Rattle.std.specs.Prelude.{◌≡◌, ℕ, ◌+◌, ◌-◌, ◌*◌, ◌<◌, ◌≤◌, length};
 ghost use Rattle.algebra.specs.ring.Ring.{Ops, sum};
 ghost use Rattle.algebra.specs.lines.Packings.{unfold5};
-ghost use Rattle.algebra.specs.lines.Folds.{mirrorPoint};
-ghost use Rattle.numbers.specs.Value.{prime, IsModulus, Value, field, half, value_of, pair_of, onValues};
+ghost use Rattle.algebra.specs.lines.Folds.{mirror_point};
+ghost use Rattle.numbers.specs.Value.{prime, IsModulus, Value, field, half, value_of, pair_of, on_values};
 ghost use Rattle.numbers.specs.Unreduced.{Accumulated};
 ghost use Rattle.slices.specs.Pairs.{Below, values_of, list_of};
-ghost use Rattle.folds.specs.FoldedLines.{storedCount, wholeLine};
+ghost use Rattle.folds.specs.FoldedLines.{stored_count, whole_line};
 
 use numbers::{Accumulator, Pair};
 
 // The short line.
 pub fn short_line(m: u32, first: usize, a: usize, line: &[u32], fold: &mut [u32])
     requires modulus { IsModulus m × (first ≤ 1) }
-    requires line_len { (length line.now ≡ 2 * storedCount a first) × (length fold.old ≡ 2 * a) }
+    requires line_len { (length line.now ≡ 2 * stored_count a first) × (length fold.old ≡ 2 * a) }
     requires below { Below (prime m) line.now }
     ensures { fold.new
-        ≡ list_of a (mirrorPoint (field m) (wholeLine m a first line.now)) }
+        ≡ list_of a (mirror_point (field m) (whole_line m a first line.now)) }
 {
     let mut t = 0;
     while t < a {
@@ -32,9 +32,9 @@ pub fn short_line(m: u32, first: usize, a: usize, line: &[u32], fold: &mut [u32]
 // The sum of the line's odd places. In an antisymmetric line they cancel in pairs, as the mirror image of an odd place is odd.
 pub fn odd_sum(m: u32, first: usize, a: usize, line: &[u32]) -> Pair
     requires modulus { IsModulus m × (first ≤ 1) × (0 < a) × (a ≤ 1440) }
-    requires line_len { length line.now ≡ 2 * storedCount a first }
+    requires line_len { length line.now ≡ 2 * stored_count a first }
     requires below { Below (prime m) line.now }
-    ensures { result ≡ pair_of (sum (field m) a (λ t. wholeLine m a first line.now (2 * t + 1))) }
+    ensures { result ≡ pair_of (sum (field m) a (λ t. whole_line m a first line.now (2 * t + 1))) }
 {
     if first == 1 {
         return Pair { re: 0, im: 0 };
@@ -51,9 +51,9 @@ pub fn odd_sum(m: u32, first: usize, a: usize, line: &[u32]) -> Pair
 // The short line at place t: X(2 t) + X(2 t + 1).
 fn short_at(m: u32, first: usize, a: usize, line: &[u32], t: usize) -> Pair
     requires modulus { IsModulus m × (first ≤ 1) × (t < a) }
-    requires line_len { length line.now ≡ 2 * storedCount a first }
+    requires line_len { length line.now ≡ 2 * stored_count a first }
     requires below { Below (prime m) line.now }
-    ensures { result ≡ pair_of (mirrorPoint (field m) (wholeLine m a first line.now) t) }
+    ensures { result ≡ pair_of (mirror_point (field m) (whole_line m a first line.now) t) }
 {
     let even = value_at(m, first, a, line, 2 * t);
     let odd = value_at(m, first, a, line, 2 * t + 1);
@@ -63,9 +63,9 @@ fn short_at(m: u32, first: usize, a: usize, line: &[u32], t: usize) -> Pair
 // The value at place j of the whole line.
 fn value_at(m: u32, first: usize, a: usize, line: &[u32], j: usize) -> Pair
     requires modulus { IsModulus m × (first ≤ 1) × (0 < a) × (j < 2 * a) }
-    requires line_len { length line.now ≡ 2 * storedCount a first }
+    requires line_len { length line.now ≡ 2 * stored_count a first }
     requires below { Below (prime m) line.now }
-    ensures { result ≡ pair_of (wholeLine m a first line.now j) }
+    ensures { result ≡ pair_of (whole_line m a first line.now j) }
 {
     if first == 0 {
         // the second half of a symmetric line is the first read backwards
@@ -84,7 +84,7 @@ fn antisymmetric_at(m: u32, a: usize, line: &[u32], j: usize) -> Pair
     requires modulus { IsModulus m }
     requires a_nonzero { (0 < a) × (j < 2 * a) × (length line.now ≡ 2 * (a - 1)) }
     requires below { Below (prime m) line.now }
-    ensures { result ≡ pair_of (onValues m unfold5 a (λ t. values_of m line.now (t - 1)) j) }
+    ensures { result ≡ pair_of (on_values m unfold5 a (λ t. values_of m line.now (t - 1)) j) }
 {
     if j == 0 {
         return Pair { re: 0, im: 0 };

@@ -2,9 +2,9 @@
 ghost use Rattle.std.specs.Prelude.{◌≡◌, true};
 ghost use Rattle.numbers.specs.Value.{IsModulus};
 ghost use Rattle.refusals.specs.Refusals.{first};
-ghost use Rattle.refusals.specs.Checks.{checkedNumber};
-ghost use Rattle.cell.specs.Operations.{cellLengths, Sizes};
-ghost use Rattle.job.specs.Job.{analysisTestsOf};
+ghost use Rattle.refusals.specs.Checks.{checked_number};
+ghost use Rattle.cell.specs.Operations.{cell_lengths, Sizes};
+ghost use Rattle.job.specs.Job.{analysis_tests_of};
 
 use crate::check::{map, tests};
 use cell::operations::UnitCell;
@@ -20,9 +20,9 @@ pub fn check_analysis(
     scratch: usize,
 ) -> Checked
     requires { valid ≡ true → Sizes cell × IsModulus modulus }
-    ensures { checkedNumber result
+    ensures { checked_number result
         ≡ first
-        (analysisTestsOf valid state modulus cell.group (cellLengths cell) volume.now scratch) }
+        (analysis_tests_of valid state modulus cell.group (cell_lengths cell) volume.now scratch) }
 {
     if !valid {
         return Checked::Failed(Refusal::ImpossibleJob);

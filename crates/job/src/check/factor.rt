@@ -2,9 +2,9 @@
 ghost use Rattle.std.specs.Prelude.{◌≡◌, true};
 ghost use Rattle.numbers.specs.Value.{IsModulus};
 ghost use Rattle.refusals.specs.Refusals.{first};
-ghost use Rattle.refusals.specs.Checks.{checkedNumber};
-ghost use Rattle.cell.specs.Operations.{cellLengths, triple_of, Sizes};
-ghost use Rattle.job.specs.Job.{factorTestsOf};
+ghost use Rattle.refusals.specs.Checks.{checked_number};
+ghost use Rattle.cell.specs.Operations.{cell_lengths, triple_of, Sizes};
+ghost use Rattle.job.specs.Job.{factor_tests_of};
 
 use crate::check::tests;
 use cell::operations::{Index, UnitCell};
@@ -20,9 +20,9 @@ pub fn check_factor(
     volume: &[u32],
 ) -> Checked
     requires { valid ≡ true → Sizes cell × IsModulus modulus }
-    ensures { checkedNumber result
+    ensures { checked_number result
         ≡ first
-        (factorTestsOf valid state modulus cell.group (cellLengths cell) (triple_of at) volume.now) }
+        (factor_tests_of valid state modulus cell.group (cell_lengths cell) (triple_of at) volume.now) }
 {
     if !valid {
         return Checked::Failed(Refusal::ImpossibleJob);

@@ -2,10 +2,10 @@
 ghost use Rattle.std.specs.Prelude.{◌≡◌};
 ghost use Rattle.numbers.specs.Value.{IsModulus};
 ghost use Rattle.refusals.specs.Refusals.{first};
-ghost use Rattle.refusals.specs.Checks.{checkedNumber};
-ghost use Rattle.cell.specs.Operations.{cellLengths, Sizes};
-ghost use Rattle.header.specs.Cells.{cellHeader};
-ghost use Rattle.job.specs.Job.{volumeTests, openTests};
+ghost use Rattle.refusals.specs.Checks.{checked_number};
+ghost use Rattle.cell.specs.Operations.{cell_lengths, Sizes};
+ghost use Rattle.header.specs.Cells.{cell_header};
+ghost use Rattle.job.specs.Job.{volume_tests, open_tests};
 
 use crate::check::{map, tests};
 use cell::operations::UnitCell;
@@ -15,8 +15,8 @@ use refusals::{Checked, Refusal};
 // 6, and for a map 7, 14.
 fn check_volume(modulus: u32, cell: UnitCell, kind: u32, volume: &[u32]) -> Checked
     requires { Sizes cell × IsModulus modulus }
-    ensures { checkedNumber result
-        ≡ first (volumeTests modulus cell.group (cellLengths cell) kind volume.now) }
+    ensures { checked_number result
+        ≡ first (volume_tests modulus cell.group (cell_lengths cell) kind volume.now) }
 {
     if !tests::fits(cell, volume) {
         return Checked::Failed(Refusal::BufferLength);
@@ -37,9 +37,9 @@ pub fn check_open(
     f3: &[u8],
     volume: &[u32],
 ) -> Checked
-    ensures { checkedNumber result
+    ensures { checked_number result
         ≡ first
-        (openTests modulus (cellHeader cell f1.now f2.now f3.now) kind
+        (open_tests modulus (cell_header cell f1.now f2.now f3.now) kind
         volume.now) }
 {
     if 5 <= cell.group {

@@ -2,16 +2,16 @@
 //
 // Each test is one loop over the operations of the orbit, with a function for what one operation asks. They write nothing.
 ghost use Rattle.std.specs.Prelude.{◌≡◌, length};
-ghost use Rattle.algebra.specs.cells.Cell.{sameJ};
+ghost use Rattle.algebra.specs.cells.Cell.{same_j};
 ghost use Rattle.numbers.specs.Value.{prime, IsModulus, value_of};
 ghost use Rattle.numbers.specs.Bounds.{Small};
 ghost use Rattle.refusals.specs.Refusals.{first};
-ghost use Rattle.refusals.specs.Checks.{checkedNumber};
-ghost use Rattle.cell.specs.Volume.{volumeLength};
-ghost use Rattle.cell.specs.Consistency.{agreesWithItself, orbitFree};
-ghost use Rattle.cell.specs.Operations.{cellGroup, cellLengths, cellHalves, triple_of, symOf, Sizes, Within};
-ghost use Rattle.job.specs.Job.{orbitTests};
-ghost use Rattle.job.specs.TestSteps.{agreesUnder};
+ghost use Rattle.refusals.specs.Checks.{checked_number};
+ghost use Rattle.cell.specs.Volume.{volume_length};
+ghost use Rattle.cell.specs.Consistency.{agrees_with_itself, orbit_free};
+ghost use Rattle.cell.specs.Operations.{cell_group, cell_lengths, cell_halves, triple_of, sym_of, Sizes, Within};
+ghost use Rattle.job.specs.Job.{orbit_tests};
+ghost use Rattle.job.specs.TestSteps.{agrees_under};
 
 use crate::check::tests;
 use cell::operations;
@@ -22,8 +22,8 @@ use refusals::{Checked, Refusal};
 // 6, 24: what the volume holds of the orbit of an index inside the cell.
 pub fn check_orbit(cell: UnitCell, at: Index, volume: &[u32]) -> Checked
     requires { Sizes cell × Within cell at }
-    ensures { checkedNumber result
-        ≡ first (orbitTests cell.group (cellLengths cell) (triple_of at) volume.now) }
+    ensures { checked_number result
+        ≡ first (orbit_tests cell.group (cell_lengths cell) (triple_of at) volume.now) }
 {
     if !tests::fits(cell, volume) {
         return Checked::Failed(Refusal::BufferLength);
@@ -37,7 +37,7 @@ pub fn check_orbit(cell: UnitCell, at: Index, volume: &[u32]) -> Checked
 // No image of the record falls on its own index with another value.
 pub fn agrees(m: u32, cell: UnitCell, j: Index, x: Pair) -> bool
     requires { IsModulus m × Small (prime m) x × Sizes cell × Within cell j }
-    ensures { result ≡ agreesWithItself (cellGroup cell) (cellHalves cell) m (triple_of j) (value_of m x) }
+    ensures { result ≡ agrees_with_itself (cell_group cell) (cell_halves cell) m (triple_of j) (value_of m x) }
 {
     let count = operations::operation_count(cell.group);
     let mut i = 0;
@@ -55,7 +55,7 @@ pub fn agrees(m: u32, cell: UnitCell, j: Index, x: Pair) -> bool
 fn agrees_under(m: u32, o: Operation, cell: UnitCell, j: Index, x: Pair) -> bool
     requires modulus { IsModulus m × Small (prime m) x }
     requires sizes { Sizes cell × Within cell j }
-    ensures { result ≡ agreesUnder (cellHalves cell) m (triple_of j) (value_of m x) (symOf o) }
+    ensures { result ≡ agrees_under (cell_halves cell) m (triple_of j) (value_of m x) (sym_of o) }
 {
     if same_index(operations::image(o, cell, j), j) {
         volume::stored::same(operations::implied(m, o, j, x), x)
@@ -65,7 +65,7 @@ fn agrees_under(m: u32, o: Operation, cell: UnitCell, j: Index, x: Pair) -> bool
 }
 
 fn same_index(i: Index, j: Index) -> bool
-    ensures { result ≡ sameJ (triple_of i) (triple_of j) }
+    ensures { result ≡ same_j (triple_of i) (triple_of j) }
 {
     (i.h == j.h) & ((i.k == j.k) & (i.l == j.l))
 }
@@ -73,8 +73,8 @@ fn same_index(i: Index, j: Index) -> bool
 // The numbers that hold part of the record's orbit are zero: those of each image are below 1.
 fn orbit_free(cell: UnitCell, j: Index, volume: &[u32]) -> bool
     requires sizes { Sizes cell × Within cell j }
-    requires volume_len { length volume.now ≡ volumeLength (cellGroup cell) (cellHalves cell) }
-    ensures { result ≡ orbitFree (cellGroup cell) (cellHalves cell) volume.now (triple_of j) }
+    requires volume_len { length volume.now ≡ volume_length (cell_group cell) (cell_halves cell) }
+    ensures { result ≡ orbit_free (cell_group cell) (cell_halves cell) volume.now (triple_of j) }
 {
     let count = operations::operation_count(cell.group);
     let mut i = 0;

@@ -2,9 +2,9 @@
 ghost use Rattle.std.specs.Prelude.{◌≡◌, true};
 ghost use Rattle.numbers.specs.Value.{IsModulus};
 ghost use Rattle.refusals.specs.Refusals.{first};
-ghost use Rattle.refusals.specs.Checks.{checkedNumber};
-ghost use Rattle.cell.specs.Operations.{cellLengths, point_of, Sizes};
-ghost use Rattle.job.specs.Job.{pointTestsOf};
+ghost use Rattle.refusals.specs.Checks.{checked_number};
+ghost use Rattle.cell.specs.Operations.{cell_lengths, point_of, Sizes};
+ghost use Rattle.job.specs.Job.{point_tests_of};
 
 use crate::check::tests;
 use cell::operations::{Point, UnitCell};
@@ -21,9 +21,9 @@ pub fn check_point(
     volume: &[u32],
 ) -> Checked
     requires { valid ≡ true → Sizes cell × IsModulus modulus }
-    ensures { checkedNumber result
+    ensures { checked_number result
         ≡ first
-        (pointTestsOf valid state modulus cell.group (cellLengths cell) (point_of at) volume.now) }
+        (point_tests_of valid state modulus cell.group (cell_lengths cell) (point_of at) volume.now) }
 {
     if !valid {
         return Checked::Failed(Refusal::ImpossibleJob);

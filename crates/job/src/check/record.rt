@@ -4,9 +4,9 @@
 ghost use Rattle.std.specs.Prelude.{◌≡◌, true, ◌&&◌, ltb};
 ghost use Rattle.numbers.specs.Value.{prime, IsModulus};
 ghost use Rattle.refusals.specs.Refusals.{first};
-ghost use Rattle.refusals.specs.Checks.{checkedNumber};
-ghost use Rattle.cell.specs.Operations.{cellLengths, triple_of, Sizes};
-ghost use Rattle.job.specs.Job.{ownTests, recordTestsOf};
+ghost use Rattle.refusals.specs.Checks.{checked_number};
+ghost use Rattle.cell.specs.Operations.{cell_lengths, triple_of, Sizes};
+ghost use Rattle.job.specs.Job.{own_tests, record_tests_of};
 
 use crate::check::{orbit, tests};
 use cell::operations::{Index, UnitCell};
@@ -25,8 +25,8 @@ fn residues(modulus: u32, a: u32, b: u32) -> bool
 // 10, 7, 12: what the record's own numbers settle.
 pub fn check_own(modulus: u32, cell: UnitCell, at: Index, x: Pair) -> Checked
     requires { Sizes cell × IsModulus modulus }
-    ensures { checkedNumber result
-        ≡ first (ownTests modulus cell.group (cellLengths cell) (triple_of at) x.re x.im) }
+    ensures { checked_number result
+        ≡ first (own_tests modulus cell.group (cell_lengths cell) (triple_of at) x.re x.im) }
 {
     if !tests::inside(cell, at.h, at.k, at.l) {
         return Checked::Failed(Refusal::Index);
@@ -51,9 +51,9 @@ pub fn check_record(
     volume: &[u32],
 ) -> Checked
     requires { valid ≡ true → Sizes cell × IsModulus modulus }
-    ensures { checkedNumber result
+    ensures { checked_number result
         ≡ first
-        (recordTestsOf valid state modulus cell.group (cellLengths cell) (triple_of at) x.re x.im
+        (record_tests_of valid state modulus cell.group (cell_lengths cell) (triple_of at) x.re x.im
         volume.now) }
 {
     if !valid {

@@ -2,10 +2,10 @@
 ghost use Rattle.std.specs.Prelude.{◌≡◌, true};
 ghost use Rattle.numbers.specs.Value.{IsModulus};
 ghost use Rattle.refusals.specs.Refusals.{first};
-ghost use Rattle.refusals.specs.Checks.{checkedNumber};
-ghost use Rattle.cell.specs.Operations.{cellLengths, Sizes};
+ghost use Rattle.refusals.specs.Checks.{checked_number};
+ghost use Rattle.cell.specs.Operations.{cell_lengths, Sizes};
 ghost use Rattle.cell.specs.TestSteps.{IsVolume};
-ghost use Rattle.job.specs.Job.{factorsTests, synthesisTestsOf};
+ghost use Rattle.job.specs.Job.{factors_tests, synthesis_tests_of};
 
 use crate::check::tests;
 use cell::operations::UnitCell;
@@ -15,8 +15,8 @@ use volume::consistent::factor_test;
 // 7, 14: a volume of the right length is held as factors.
 fn check_factors(modulus: u32, cell: UnitCell, volume: &[u32]) -> Checked
     requires { IsVolume cell volume.now × IsModulus modulus }
-    ensures { checkedNumber result
-        ≡ first (factorsTests modulus cell.group (cellLengths cell) volume.now) }
+    ensures { checked_number result
+        ≡ first (factors_tests modulus cell.group (cell_lengths cell) volume.now) }
 {
     if !tests::all_residues(modulus, volume) {
         return Checked::Failed(Refusal::NotResidue);
@@ -37,9 +37,9 @@ pub fn check_synthesis(
     scratch: usize,
 ) -> Checked
     requires { valid ≡ true → Sizes cell × IsModulus modulus }
-    ensures { checkedNumber result
+    ensures { checked_number result
         ≡ first
-        (synthesisTestsOf valid state modulus cell.group (cellLengths cell) volume.now scratch) }
+        (synthesis_tests_of valid state modulus cell.group (cell_lengths cell) volume.now scratch) }
 {
     if !valid {
         return Checked::Failed(Refusal::ImpossibleJob);

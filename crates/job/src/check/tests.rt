@@ -2,8 +2,8 @@
 ghost use Rattle.std.specs.Prelude.{◌≡◌, eqb, length};
 ghost use Rattle.numbers.specs.Value.{prime, IsModulus};
 ghost use Rattle.slices.specs.Pairs.{all_below};
-ghost use Rattle.cell.specs.Operations.{cellGroup, cellLengths, cellHalves, Sizes};
-ghost use Rattle.cell.specs.Volume.{volumeLength};
+ghost use Rattle.cell.specs.Operations.{cell_group, cell_lengths, cell_halves, Sizes};
+ghost use Rattle.cell.specs.Volume.{volume_length};
 ghost use Rattle.job.specs.Job.{within};
 
 use cell::operations::UnitCell;
@@ -11,7 +11,7 @@ use header::bytes;
 
 // The numbers of an index, or of a point, are each below the axis length.
 pub fn inside(cell: UnitCell, x: u32, y: u32, z: u32) -> bool
-    ensures { result ≡ within (cellLengths cell) (x, y, z) }
+    ensures { result ≡ within (cell_lengths cell) (x, y, z) }
 {
     (x < cell.n1) & ((y < cell.n2) & (z < cell.n3))
 }
@@ -19,7 +19,7 @@ pub fn inside(cell: UnitCell, x: u32, y: u32, z: u32) -> bool
 // The volume is exactly as long as group and lengths ask for.
 pub fn fits(cell: UnitCell, volume: &[u32]) -> bool
     requires { Sizes cell }
-    ensures { result ≡ eqb (length volume.now) (volumeLength (cellGroup cell) (cellHalves cell)) }
+    ensures { result ≡ eqb (length volume.now) (volume_length (cell_group cell) (cell_halves cell)) }
 {
     (volume.len() as u64) == bytes::volume_length(cell)
 }

@@ -17,5 +17,5 @@ returns-2 : tie.Need-returns-2
 unfolding admitted
 returns-2 c = simp (lt-ltb 0 c.before.args.length (omega arith))
 
-pub admitted-spec : {M : Type 1} → statement M
-admitted-spec = tie.close (tie.spec returns rem-result returns-2)
+pub admitted_spec : {M : Type 1} → statement M
+admitted_spec = tie.close (tie.spec returns rem-result returns-2)

@@ -8,7 +8,7 @@ use lib.ListN.{length, drop}
 use lib.Dec.{eqb}
 use borrow.Author.Tests.{ne_eqb}
 use Rattle.lengths.specs.Lengths.{product}
-use Rattle.lengths.proofs.Factors.{factor-at, product-next, product-least, product-done}
+use Rattle.lengths.proofs.Factors.{factor_at_lem, product_next, product_least, product_done}
 use Rattle.lengths.proofs.has_product.Statement.{statement}
 use Rattle.lengths.proofs.has_product.Tie as tie
 
@@ -23,12 +23,12 @@ byte : (c : tie.After-wide invariant-loop decreases-loop) → c.wide.result ≤ 
 byte c =
     let l = c.before.before.before in
     let s = l.before.before in
-    omega (arith, c.wide.ensures, factor-at s.args.factors.now l.loop.i s.requires.0 c.before.before.loop-test.true)
+    omega (arith, c.wide.ensures, factor_at_lem s.args.factors.now l.loop.i s.requires.0 c.before.before.loop-test.true)
 
 next : (c : tie.After-wide invariant-loop decreases-loop) → let l = c.before.before.before in let f = l.before.before.args.factors.now in product f ≡ l.loop.done * c.wide.result * product (drop (l.loop.i + 1) f)
 next c =
     let l = c.before.before.before in
-    product-next l.before.before.args.factors.now l.loop.i l.loop.done c.wide.result c.before.before.loop-test.true c.wide.ensures l.loop.invariant.2
+    product_next l.before.before.args.factors.now l.loop.i l.loop.done c.wide.result c.before.before.loop-test.true c.wide.ensures l.loop.invariant.2
 
 loop-holds : tie.Need-loop-init invariant-loop decreases-loop
 loop-holds c = omega arith
@@ -47,7 +47,7 @@ returns c =
     let l = c.before.before.before.before in
     let s = l.before.before in
     let f = s.args.factors.now in
-    sym (ne_eqb (product f) s.args.n (λ e. omega (arith, product-least f (l.loop.i + 1) (l.loop.done * c.before.wide.result) s.requires.0 (next c.before), c.if1.true)))
+    sym (ne_eqb (product f) s.args.n (λ e. omega (arith, product_least f (l.loop.i + 1) (l.loop.done * c.before.wide.result) s.requires.0 (next c.before), c.if1.true)))
 
 add-i : tie.Need-overflow-add-i invariant-loop decreases-loop
 add-i c = omega arith
@@ -62,10 +62,10 @@ returns-2 : tie.Need-returns-2 invariant-loop decreases-loop
 returns-2 c =
     let l = c.before in
     let s = l.before.before in
-    ap (λ (x : ℕ). eqb x s.args.n) (sym (product-done s.args.factors.now l.loop.i l.loop.done c.loop-test.false l.loop.invariant.2))
+    ap (λ (x : ℕ). eqb x s.args.n) (sym (product_done s.args.factors.now l.loop.i l.loop.done c.loop-test.false l.loop.invariant.2))
 
-pub has-product-spec : {M : Type 1} → statement M
-has-product-spec =
+pub has_product_spec : {M : Type 1} → statement M
+has_product_spec =
     tie.close
     (tie.spec
     invariant-loop

@@ -5,7 +5,7 @@ use mathlib.Core.Path.{◌≡◌, ◌∙◌, sym, ap}
 use Prim.Native.Nat.{ℕ, ◌+◌, ◌*◌, ◌-◌, ◌≤◌, ◌<◌}
 use lib.ListN.{length, drop}
 use Rattle.lengths.specs.Lengths.{octal}
-use Rattle.lengths.proofs.Factors.{octal-past, octal-back, octal-small}
+use Rattle.lengths.proofs.Factors.{octal_past, octal_back, octal_small}
 use Rattle.lengths.proofs.packed.Statement.{statement}
 use Rattle.lengths.proofs.packed.Tie as tie
 
@@ -22,10 +22,10 @@ next c =
     let l = c.before.before.before in
     let s = l.before.before in
     let f = s.args.factors.now in
-    (omega (arith, c.wide.ensures, l.loop.invariant.1, octal-back f l.loop.i c.before.before.loop-test.true l.loop.invariant.0), octal-small f (l.loop.i - 1) s.requires.0 s.requires.1)
+    (omega (arith, c.wide.ensures, l.loop.invariant.1, octal_back f l.loop.i c.before.before.loop-test.true l.loop.invariant.0), octal_small f (l.loop.i - 1) s.requires.0 s.requires.1)
 
 loop-holds : tie.Need-loop-init invariant-loop decreases-loop
-loop-holds c = (omega arith, sym (octal-past c.before.args.factors.now (length c.before.args.factors.now) (omega arith)))
+loop-holds c = (omega arith, sym (octal_past c.before.args.factors.now (length c.before.args.factors.now) (omega arith)))
 
 sub-i : tie.Need-overflow-sub-i invariant-loop decreases-loop
 sub-i c = omega arith
@@ -54,8 +54,8 @@ returns c =
     let e : l.loop.i ≡ 0 = omega arith in
     l.loop.invariant.1 ∙ ap (λ (k : ℕ). octal (drop k l.before.before.args.factors.now)) e
 
-pub packed-spec : {M : Type 1} → statement M
-packed-spec =
+pub packed_spec : {M : Type 1} → statement M
+packed_spec =
     tie.close
     (tie.spec
     invariant-loop

@@ -29,8 +29,8 @@ unpacked (more {f} low high h) =
     record { list = f ∷ u.list; each = one low high u.each; packs = ap (λ x. f + 8 * x) u.packs; product_is = ap (λ x. f * x) u.product_is }
 
 -- the empty list
-pub factored-none : {k : ℕ} → Factored 0 k → k ≡ 1
-factored-none {k} h = at h refl
+pub factored_none : {k : ℕ} → Factored 0 k → k ≡ 1
+factored_none {k} h = at h refl
   where
     at : {left k : ℕ} → Factored left k → left ≡ 0 → k ≡ 1
     at done z = refl
@@ -43,9 +43,9 @@ pub record Next (left k : ℕ) : Type 0 where
   pub whole : left % 8 * (k / (left % 8)) ≡ k
   pub rest : Factored (left / 8) (k / (left % 8))
 
-pub next-factor : {left k : ℕ} → Factored left k → left ≢ 0 → Next left k
-next-factor done z = absurd (z refl)
-next-factor (more {f} {rest} {k} low high h) z =
+pub next_factor_lem : {left k : ℕ} → Factored left k → left ≢ 0 → Next left k
+next_factor_lem done z = absurd (z refl)
+next_factor_lem (more {f} {rest} {k} low high h) z =
     let digit : (f + 8 * rest) % 8 ≡ f = omega arith in
     let left : (f + 8 * rest) / 8 ≡ rest = omega arith in
     let shared : f * k / f ≡ k = N.mul-div_right k (omega arith) in
@@ -56,11 +56,11 @@ next-factor (more {f} {rest} {k} low high h) z =
       rest = rw (digit, left, shared) h;
     }
 
-pub factored-pos : {left k : ℕ} → Factored left k → 0 < k
-factored-pos done = omega arith
-factored-pos (more {f} {rest} {k} low high h) = N.mul-pos (omega arith) (factored-pos h)
+pub factored_pos : {left k : ℕ} → Factored left k → 0 < k
+factored_pos done = omega arith
+factored_pos (more {f} {rest} {k} low high h) = N.mul-pos (omega arith) (factored_pos h)
 
 -- the length, after factors whose product is A
 module _ {left k : ℕ} (A : ℕ) (h : Factored left k) (z : left ≢ 0) where
-  pub next-length : A * (left % 8) * (k / (left % 8)) ≡ A * k
-  next-length = N.mul_assoc A (left % 8) (k / (left % 8)) ∙ ap (λ x. A * x) (next-factor h z).whole
+  pub next_length : A * (left % 8) * (k / (left % 8)) ≡ A * k
+  next_length = N.mul_assoc A (left % 8) (k / (left % 8)) ∙ ap (λ x. A * x) (next_factor_lem h z).whole

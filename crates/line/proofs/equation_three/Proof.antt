@@ -1,10 +1,10 @@
 -- `equation_three`: the theorem of proofs/EverySplit.
-use Rattle.line.proofs.EverySplit.{every-split}
+use Rattle.line.proofs.EverySplit.{every_split}
 use Rattle.line.proofs.equation_three.Statement.{statement}
 use Rattle.line.proofs.equation_three.Tie as tie
 
 returns : tie.Need-returns
-returns c = every-split
+returns c = every_split
 
-pub equation-three-spec : {M : Type 1} → statement M
-equation-three-spec = tie.close (tie.spec returns)
+pub equation_three_spec : {M : Type 1} → statement M
+equation_three_spec = tie.close (tie.spec returns)

@@ -7,24 +7,24 @@ use Prim.Native.Nat.{ℕ}
 use lib.ListN.{length, replicate}
 use Rattle.lengths.specs.Lengths.{octal, cleared}
 use Rattle.refusals.specs.Refusals.{first}
-use Rattle.refusals.specs.Checks.{checkedNumber}
-use Rattle.line.specs.Line.{lineTests}
+use Rattle.refusals.specs.Checks.{checked_number}
+use Rattle.line.specs.Line.{line_tests}
 use Rattle.line.specs.Answers.{Accepted}
-use Rattle.line.proofs.Accepted.{accepted-factors, accepted-line}
-use Rattle.line.proofs.Outcome.{refused-outcome, transformed-outcome}
+use Rattle.line.proofs.Accepted.{accepted_factors, accepted_line}
+use Rattle.line.proofs.Outcome.{refused_outcome, transformed_outcome}
 use Rattle.line.proofs.line.Statement.{statement}
 use Rattle.line.proofs.line.Tie as tie
 
 -- every test was passed
 none : (c : tie.After-enum-told) → let a = c.before.before.before.before.before.before.before.args in
-    0 ≡ first (lineTests a.modulus a.kind a.direction a.length a.factors.now a.line.now (length a.scratch.now))
-none c = ap checkedNumber (sym c.enum_told.given.1) ∙ c.before.before.check-line.ensures
+    0 ≡ first (line_tests a.modulus a.kind a.direction a.length a.factors.now a.line.now (length a.scratch.now))
+none c = ap checked_number (sym c.enum_told.given.1) ∙ c.before.before.check-line.ensures
 
 sound : (c : tie.After-enum-told) → let a = c.before.before.before.before.before.before.before.args in
     Accepted a.modulus a.kind a.direction a.length (octal a.factors.now) a.line.now (length a.scratch.now)
 sound c =
     let a = c.before.before.before.before.before.before.before.args in
-    accepted-line a.modulus a.kind a.direction a.length a.factors.now a.line.now (length a.scratch.now) (none c)
+    accepted_line a.modulus a.kind a.direction a.length a.factors.now a.line.now (length a.scratch.now) (none c)
 
 check-line-requires : tie.Need-check-line-requires
 check-line-requires c κs = search rules
@@ -38,7 +38,7 @@ enum_told c = search rules
 packed-requires : tie.Need-packed-requires
 packed-requires c κs =
     let a = c.before.before.before.before.before.before.before.args in
-    let f = accepted-factors a.modulus a.kind a.direction a.length a.factors.now a.line.now (length a.scratch.now) (none c) in
+    let f = accepted_factors a.modulus a.kind a.direction a.length a.factors.now a.line.now (length a.scratch.now) (none c) in
     (f.0, f.2)
 
 transform-line-requires : tie.Need-transform-line-requires
@@ -47,7 +47,7 @@ transform-line-requires c κs = rw c.before.before.packed.ensures (sound c.befor
 clear-requires : tie.Need-clear-requires
 clear-requires c κs =
     let e = c.before.before.before.before.before.before.before.before.before in
-    omega (arith, c.before.before.scratch.given, (sound e).scratch-fits)
+    omega (arith, c.before.before.scratch.given, (sound e).scratch_fits)
 
 same_length : tie.Need-same-length
 same_length c = search rules
@@ -55,8 +55,8 @@ same_length c = search rules
 returns : tie.Need-returns
 returns c =
     let a = c.before.before.before.before.before.before.before.before.args in
-    refused-outcome a.modulus a.kind a.direction a.length a.factors.now a.line.now a.scratch.now c.before.checked.given.0.0
-    (ap checkedNumber (sym c.before.checked.given.1) ∙ c.before.before.before.check-line.ensures)
+    refused_outcome a.modulus a.kind a.direction a.length a.factors.now a.line.now a.scratch.now c.before.checked.given.0.0
+    (ap checked_number (sym c.before.checked.given.1) ∙ c.before.before.before.check-line.ensures)
 
 same-length-2 : tie.Need-same-length-2
 same-length-2 c = search rules
@@ -70,11 +70,11 @@ returns-2 c =
     let t = c.before.before.before.before.before.before.before.before in
     let e = t.before.before.before.before in
     let a = e.before.before.before.before.before.before.before.args in
-    transformed-outcome a.modulus a.kind a.direction a.length a.factors.now a.line.now a.scratch.now _ _ (none e) t.transform-line.ensures.0
+    transformed_outcome a.modulus a.kind a.direction a.length a.factors.now a.line.now a.scratch.now _ _ (none e) t.transform-line.ensures.0
     (c.before.before.clear.ensures ∙ ap (λ (s : List ℕ). replicate 11520 0 ++ s) t.transform-line.ensures.1)
 
-pub line-spec : {M : Type 1} → statement M
-line-spec =
+pub line_spec : {M : Type 1} → statement M
+line_spec =
     tie.close
     (tie.spec
     check-line-requires

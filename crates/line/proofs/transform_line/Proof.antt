@@ -2,10 +2,10 @@
 use borrow.Author.Rules.{rules}
 use native.Mathlib.Omega.{arith}
 use mathlib.Core.Path.{sym}
-use Rattle.line.proofs.kinds.Dispatch.{prefix-length}
-use Rattle.line.proofs.table.Directions.{tables-of}
-use Rattle.line.proofs.kinds.Tables.{line-tables}
-use Rattle.line.proofs.Whole.{rest_of, whole-size, whole-list, whole-count, whole-result}
+use Rattle.line.proofs.kinds.Dispatch.{prefix_length}
+use Rattle.line.proofs.table.Directions.{tables_of_lem}
+use Rattle.line.proofs.kinds.Tables.{line_tables}
+use Rattle.line.proofs.Whole.{rest_of, whole_size, whole_list, whole_count, whole_result}
 use Rattle.line.proofs.transform_line.Statement.{statement}
 use Rattle.line.proofs.transform_line.Tie as tie
 
@@ -13,19 +13,19 @@ cast-a : tie.Need-overflow-cast-a
 cast-a c = search rules
 
 real-parts-requires : tie.Need-real-parts-requires
-real-parts-requires c κs = c.before.before.requires.modulus-is
+real-parts-requires c κs = c.before.before.requires.modulus_is
 
 imaginary-parts-requires : tie.Need-imaginary-parts-requires
-imaginary-parts-requires c κs = c.before.before.before.requires.modulus-is
+imaginary-parts-requires c κs = c.before.before.before.requires.modulus_is
 
 half-tangents-requires : tie.Need-half-tangents-requires
-half-tangents-requires c κs = c.before.before.before.before.requires.modulus-is
+half-tangents-requires c κs = c.before.before.before.before.requires.modulus_is
 
 slice-relend-prefix-fold : tie.Need-slice-relend-prefix-fold
 slice-relend-prefix-fold c = search rules
 
 slice-aggregate-fold : tie.Need-slice-aggregate-fold
-slice-aggregate-fold c = let s = c.before.before.before.before.before.before in sym (prefix-length 5760 s.args.scratch.now (omega (arith, s.requires.scratch-fits)))
+slice-aggregate-fold c = let s = c.before.before.before.before.before.before in sym (prefix_length 5760 s.args.scratch.now (omega (arith, s.requires.scratch_fits)))
 
 slice-aggregate-transform : tie.Need-slice-aggregate-transform
 slice-aggregate-transform c = search rules
@@ -35,12 +35,12 @@ transform-requires c κs =
     let h = c.before.before.before.before.before.before in
     let s = h.before.before.before.before.before in
     let a = s.requires in (
-      (a.modulus-is, a.kind-is, a.direction-is, line-tables s.args.kind (tables-of a.modulus-is h.before.before.real-parts.ensures s.args.direction h.before.imaginary-parts.ensures h.half-tangents.ensures)),
+      (a.modulus_is, a.kind_is, a.direction_is, line_tables s.args.kind (tables_of_lem a.modulus_is h.before.before.real-parts.ensures s.args.direction h.before.imaginary-parts.ensures h.half-tangents.ensures)),
       (
-        (whole-size a.size, whole-list a.size a.list),
+        (whole_size a.size, whole_list a.size a.list),
         (
-          (whole-count a.size s.args.kind a.line-length, a.below),
-          (omega (arith, prefix-length 5760 s.args.scratch.now (omega (arith, a.scratch-fits)), a.size.short, a.size.whole), omega (arith, a.size.short, a.size.whole)),
+          (whole_count a.size s.args.kind a.line_length, a.below),
+          (omega (arith, prefix_length 5760 s.args.scratch.now (omega (arith, a.scratch_fits)), a.size.short, a.size.whole), omega (arith, a.size.short, a.size.whole)),
         ),
       ),
     )
@@ -55,10 +55,10 @@ returns : tie.Need-returns
 returns c =
     let r = c.before.before.before.before.before in
     let s = r.before.before.before.before.before.before.before.before.before.before.before.before in
-    (whole-result s.requires.size s.args.modulus s.args.kind s.args.direction s.args.line.now r.transform.ensures.0, rest_of r.transform.new.1.1.1.1.1.1.1.1.1.0 s.args.scratch.now s.requires.scratch-fits c.before.before.before.before.scratch.given.0)
+    (whole_result s.requires.size s.args.modulus s.args.kind s.args.direction s.args.line.now r.transform.ensures.0, rest_of r.transform.new.1.1.1.1.1.1.1.1.1.0 s.args.scratch.now s.requires.scratch_fits c.before.before.before.before.scratch.given.0)
 
-pub transform-line-spec : {M : Type 1} → statement M
-transform-line-spec =
+pub transform_line_spec : {M : Type 1} → statement M
+transform_line_spec =
     tie.close
     (tie.spec
     cast-a

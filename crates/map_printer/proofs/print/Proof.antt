@@ -16,5 +16,5 @@ returns c = search rules
 returns-2 : tie.Need-returns-2
 returns-2 c = search rules
 
-pub print-spec : {M : Type 1} → statement M
-print-spec = tie.close (tie.spec slice-aggregate-write-all write-all-requires returns returns-2)
+pub print_spec : {M : Type 1} → statement M
+print_spec = tie.close (tie.spec slice-aggregate-write-all write-all-requires returns returns-2)

@@ -14,5 +14,5 @@ returns c = pass 29 _ (not_t _ (sym c.before.of-group.ensures ∙ c.if1.true)) n
 returns-2 : tie.Need-returns-2
 returns-2 c = stop _ (not_f _ (sym c.before.of-group.ensures ∙ c.if1.false))
 
-pub check-parameters-spec : {M : Type 1} → statement M
-check-parameters-spec = tie.close (tie.spec of-group-requires returns returns-2)
+pub check_parameters_spec : {M : Type 1} → statement M
+check_parameters_spec = tie.close (tie.spec of-group-requires returns returns-2)

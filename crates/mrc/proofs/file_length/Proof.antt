@@ -1,7 +1,7 @@
 -- Products of three lengths.
 use borrow.Author.Rules.{rules}
 use native.Mathlib.Omega.{arith}
-use Rattle.mrc.proofs.Bytes.{row_small, cell-small}
+use Rattle.mrc.proofs.Bytes.{row_small, cell_small}
 use Rattle.mrc.proofs.file_length.Statement.{statement}
 use Rattle.mrc.proofs.file_length.Tie as tie
 
@@ -21,15 +21,15 @@ mul-result-2 : tie.Need-overflow-mul-result-2
 mul-result-2 c = let s = c.before.before.before in record { fits = omega (arith, row_small s.args.cell s.requires) }
 
 mul-result-3 : tie.Need-overflow-mul-result-3
-mul-result-3 c = let s = c.before.before.before in record { fits = omega (arith, cell-small s.args.cell s.requires) }
+mul-result-3 c = let s = c.before.before.before in record { fits = omega (arith, cell_small s.args.cell s.requires) }
 
 add-result : tie.Need-overflow-add-result
-add-result c = let s = c.before.before.before in record { fits = omega (arith, cell-small s.args.cell s.requires) }
+add-result c = let s = c.before.before.before in record { fits = omega (arith, cell_small s.args.cell s.requires) }
 
 returns : tie.Need-returns
 returns c = search rules
 
-pub file-length-spec : {M : Type 1} → statement M
-file-length-spec =
+pub file_length_spec : {M : Type 1} → statement M
+file_length_spec =
     tie.close
     (tie.spec cast-n1 cast-n2 cast-n3 mul-result mul-result-2 mul-result-3 add-result returns)

@@ -6,15 +6,15 @@ use mathlib.Core.Bool.{true, false}
 use Prim.Native.Nat.{ℕ, ◌<◌, ◌≤◌}
 use lib.ListN.{length}
 use Rattle.refusals.specs.declared.Refusal.TheVariants.{FloatRange, OutputTooShort}
-use Rattle.refusals.proofs.Tests.{stop, pass, not_t, not_f, by-false, by-true}
-use Rattle.mrc.specs.Mrc.{allExact}
-use Rattle.mrc.proofs.Bytes.{length-file}
-use Rattle.mrc.proofs.Outcome.{Shaped, shape-passed, range-exact, fill-refused, fill-written}
+use Rattle.refusals.proofs.Tests.{stop, pass, not_t, not_f, by_false, by_true}
+use Rattle.mrc.specs.Mrc.{all_exact}
+use Rattle.mrc.proofs.Bytes.{length_file}
+use Rattle.mrc.proofs.Outcome.{Shaped, shape_passed, range_exact, fill_refused, fill_written}
 use Rattle.mrc.proofs.fill.Statement.{statement}
 use Rattle.mrc.proofs.fill.Tie as tie
 
 shaped : (c : tie.Start) → Shaped c.args.cell c.args.map.now c.args.parameters
-shaped c = shape-passed c.args.cell c.args.map.now c.args.parameters c.requires
+shaped c = shape_passed c.args.cell c.args.map.now c.args.parameters c.requires
 
 map-range-requires : tie.Need-map-range-requires
 map-range-requires c κs = let p = shaped c.before in (p.sizes, p.long)
@@ -23,19 +23,19 @@ is-exact-requires : tie.Need-is-exact-requires
 is-exact-requires c κs = search rules
 
 -- the range says whether floats hold every density
-told : (c : tie.After-is-exact) → let s = c.before.before.before in c.is-exact.result ≡ allExact s.args.cell s.args.map.now
+told : (c : tie.After-is-exact) → let s = c.before.before.before in c.is-exact.result ≡ all_exact s.args.cell s.args.map.now
 told c =
     let m = c.before in
     let s = m.before.before in
-    c.is-exact.ensures ∙ range-exact s.args.cell s.args.map.now s.args.parameters (shaped s).sizes m.map_range.result m.map_range.ensures
+    c.is-exact.ensures ∙ range_exact s.args.cell s.args.map.now s.args.parameters (shaped s).sizes m.map_range.result m.map_range.ensures
 
 returns : tie.Need-returns
 returns c =
     let s = c.before.before.before.before in
-    fill-refused s.args.cell s.args.map.now s.args.parameters FloatRange s.args.out.now (stop _ (not_f _ (by-false _ _ (told c.before) c.if1.true)))
+    fill_refused s.args.cell s.args.map.now s.args.parameters FloatRange s.args.out.now (stop _ (not_f _ (by_false _ _ (told c.before) c.if1.true)))
 
-exact : (c : tie.Else1) → let s = c.before.before.before.before in allExact s.args.cell s.args.map.now ≡ true
-exact c = by-true _ _ (told c.before) c.if1.false
+exact : (c : tie.Else1) → let s = c.before.before.before.before in all_exact s.args.cell s.args.map.now ≡ true
+exact c = by_true _ _ (told c.before) c.if1.false
 
 file-length-requires : tie.Need-file-length-requires
 file-length-requires c κs = (shaped c.before.before.before.before).sizes
@@ -46,8 +46,8 @@ returns-2 c =
     let e = f.before in
     let s = e.before.before.before.before in
     let a = s.args in
-    let short = subst (λ (n : ℕ). length a.out.now < n) (f.file-length.ensures ∙ sym (length-file a.cell a.map.now a.parameters)) c.if2.true in
-    fill-refused a.cell a.map.now a.parameters OutputTooShort a.out.now (pass 30 _ (not_t _ (exact e)) (stop _ (lt-ltb _ _ short)))
+    let short = subst (λ (n : ℕ). length a.out.now < n) (f.file_length_lem.ensures ∙ sym (length_file a.cell a.map.now a.parameters)) c.if2.true in
+    fill_refused a.cell a.map.now a.parameters OutputTooShort a.out.now (pass 30 _ (not_t _ (exact e)) (stop _ (lt-ltb _ _ short)))
 
 put-file-requires : tie.Need-put-file-requires
 put-file-requires c κs =
@@ -67,7 +67,7 @@ returns-3 c =
     let e = f.before in
     let s = e.before.before.before.before in
     let a = s.args in
-    fill-written a.cell a.map.now a.parameters (exact e) (subst (λ (n : ℕ). n ≤ length a.out.now) f.file-length.ensures i.if2.false) d.put-file.ensures
+    fill_written a.cell a.map.now a.parameters (exact e) (subst (λ (n : ℕ). n ≤ length a.out.now) f.file_length_lem.ensures i.if2.false) d.put-file.ensures
 
 pub fill_spec : {M : Type 1} → statement M
 fill_spec =

@@ -1,10 +1,10 @@
 -- The theorem, as a promise.
-use Rattle.mrc.proofs.WholeFloats.{floats-exact}
+use Rattle.mrc.proofs.WholeFloats.{floats_exact}
 use Rattle.mrc.proofs.floats_exact.Statement.{statement}
 use Rattle.mrc.proofs.floats_exact.Tie as tie
 
 returns : tie.Need-returns
-returns c = floats-exact
+returns c = floats_exact
 
-pub floats-exact-spec : {M : Type 1} → statement M
-floats-exact-spec = tie.close (tie.spec returns)
+pub floats_exact_spec : {M : Type 1} → statement M
+floats_exact_spec = tie.close (tie.spec returns)

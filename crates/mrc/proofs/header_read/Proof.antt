@@ -6,5 +6,5 @@ use Rattle.mrc.proofs.header_read.Tie as tie
 returns : tie.Need-returns
 returns c = header_read
 
-pub header-read-spec : {M : Type 1} → statement M
-header-read-spec = tie.close (tie.spec returns)
+pub header_read_spec : {M : Type 1} → statement M
+header_read_spec = tie.close (tie.spec returns)

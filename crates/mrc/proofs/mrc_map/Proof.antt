@@ -3,9 +3,9 @@ use borrow.Author.Rules.{rules}
 use mathlib.Core.Path.{◌≡◌, sym, ap, ◌∙◌}
 use lib.ListN.{length}
 use Rattle.refusals.specs.Refusals.{first}
-use Rattle.refusals.specs.Checks.{checkedNumber}
-use Rattle.mrc.specs.Mrc.{shapeTests}
-use Rattle.mrc.proofs.Outcome.{call-refused, call-filled}
+use Rattle.refusals.specs.Checks.{checked_number}
+use Rattle.mrc.specs.Mrc.{shape_tests}
+use Rattle.mrc.proofs.Outcome.{call_refused, call_filled}
 use Rattle.mrc.proofs.mrc_map.Statement.{statement}
 use Rattle.mrc.proofs.mrc_map.Tie as tie
 
@@ -19,8 +19,8 @@ enum_told : tie.Need-enum-told
 enum_told c = search rules
 
 -- no test of the shape holds
-none : (c : tie.After-enum-told) → let s = c.before.before.before.before in 0 ≡ first (shapeTests s.args.cell (length s.args.map.now) s.args.parameters)
-none c = ap checkedNumber (sym c.enum_told.given.1) ∙ c.before.before.check-shape.ensures
+none : (c : tie.After-enum-told) → let s = c.before.before.before.before in 0 ≡ first (shape_tests s.args.cell (length s.args.map.now) s.args.parameters)
+none c = ap checked_number (sym c.enum_told.given.1) ∙ c.before.before.check-shape.ensures
 
 fill-requires : tie.Need-fill-requires
 fill-requires c κs = none c.before
@@ -29,7 +29,7 @@ returns : tie.Need-returns
 returns c =
     let k = c.before.before.before in
     let a = k.before.before.args in
-    call-refused a.cell a.map.now a.parameters c.before.checked.given.0.0 a.out.now (ap checkedNumber (sym c.before.checked.given.1) ∙ k.check-shape.ensures)
+    call_refused a.cell a.map.now a.parameters c.before.checked.given.0.0 a.out.now (ap checked_number (sym c.before.checked.given.1) ∙ k.check-shape.ensures)
 
 same_length : tie.Need-same-length
 same_length c = search rules
@@ -39,10 +39,10 @@ returns-2 c =
     let d = c.before.before in
     let t = d.before.before in
     let a = t.before.before.before.before.args in
-    d.fill.ensures ∙ call-filled a.cell a.map.now a.parameters a.out.now (none t)
+    d.fill.ensures ∙ call_filled a.cell a.map.now a.parameters a.out.now (none t)
 
-pub mrc-map-spec : {M : Type 1} → statement M
-mrc-map-spec =
+pub mrc_map_spec : {M : Type 1} → statement M
+mrc_map_spec =
     tie.close
     (tie.spec
     check-shape-requires

@@ -6,5 +6,5 @@ use Rattle.mrc.proofs.undetermined.Tie as tie
 returns : tie.Need-returns
 returns c = undetermined
 
-pub undetermined-spec : {M : Type 1} → statement M
-undetermined-spec = tie.close (tie.spec returns)
+pub undetermined_spec : {M : Type 1} → statement M
+undetermined_spec = tie.close (tie.spec returns)

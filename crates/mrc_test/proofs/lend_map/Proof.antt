@@ -29,8 +29,8 @@ same_length c = search rules
 returns : tie.Need-returns
 returns c = search rules
 
-pub lend-map-spec : {M : Type 1} → statement M
-lend-map-spec =
+pub lend_map_spec : {M : Type 1} → statement M
+lend_map_spec =
     tie.close
     (tie.spec
     slice-aggregate-read-named

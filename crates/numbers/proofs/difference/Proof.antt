@@ -16,5 +16,5 @@ returns : tie.Need-returns
 unfolding gauss value_of pair_of
 returns c = pair_path c.before.sub.ensures c.sub2.ensures
 
-pub difference-spec : {M : Type 1} → statement M
-difference-spec = tie.close (tie.spec sub-requires sub-requires-2 returns)
+pub difference_spec : {M : Type 1} → statement M
+difference_spec = tie.close (tie.spec sub-requires sub-requires-2 returns)

@@ -2,7 +2,7 @@
 use borrow.Author.Rules.{rules}
 use mathlib.Core.Path.{sym, ◌∙◌, ap}
 use Rattle.numbers.specs.Value.{value_of, pair_of}
-use Rattle.numbers.proofs.Values.{pair_path, real-times}
+use Rattle.numbers.proofs.Values.{pair_path, real_times}
 use Rattle.numbers.proofs.halved.Statement.{statement}
 use Rattle.numbers.proofs.halved.Tie as tie
 
@@ -14,7 +14,7 @@ halve-requires-2 c κs = search rules
 
 returns : tie.Need-returns
 unfolding value_of pair_of
-returns c = pair_path c.before.halve.ensures c.halve2.ensures ∙ ap pair_of (sym (real-times _ _ _))
+returns c = pair_path c.before.halve.ensures c.halve2.ensures ∙ ap pair_of (sym (real_times _ _ _))
 
-pub halved-spec : {M : Type 1} → statement M
-halved-spec = tie.close (tie.spec halve-requires halve-requires-2 returns)
+pub halved_spec : {M : Type 1} → statement M
+halved_spec = tie.close (tie.spec halve-requires halve-requires-2 returns)

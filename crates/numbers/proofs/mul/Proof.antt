@@ -1,19 +1,19 @@
 -- The whole product, reduced once.
 use borrow.Author.Rules.{rules}
 use native.Mathlib.Omega.{arith}
-use Rattle.numbers.proofs.Primes.{prime-most}
-use Rattle.numbers.proofs.Residues.{product-mod}
+use Rattle.numbers.proofs.Primes.{prime_most}
+use Rattle.numbers.proofs.Residues.{product_mod}
 use Rattle.numbers.proofs.mul.Statement.{statement}
 use Rattle.numbers.proofs.mul.Tie as tie
 
 whole-requires : tie.Need-whole-requires
-whole-requires c κs = omega (arith, prime-most c.requires.0)
+whole-requires c κs = omega (arith, prime_most c.requires.0)
 
 reduce-below-requires : tie.Need-reduce-below-requires
 reduce-below-requires c κs = search rules
 
 returns : tie.Need-returns
-returns c = product-mod _ _ _ c.before.whole.ensures.0 c.reduce-below.ensures
+returns c = product_mod _ _ _ c.before.whole.ensures.0 c.reduce-below.ensures
 
-pub mul-spec : {M : Type 1} → statement M
-mul-spec = tie.close (tie.spec whole-requires reduce-below-requires returns)
+pub mul_spec : {M : Type 1} → statement M
+mul_spec = tie.close (tie.spec whole-requires reduce-below-requires returns)

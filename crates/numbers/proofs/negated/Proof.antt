@@ -16,5 +16,5 @@ returns : tie.Need-returns
 unfolding gauss value_of pair_of
 returns c = pair_path c.before.neg.ensures c.neg2.ensures
 
-pub negated-spec : {M : Type 1} → statement M
-negated-spec = tie.close (tie.spec neg-requires neg-requires-2 returns)
+pub negated_spec : {M : Type 1} → statement M
+negated_spec = tie.close (tie.spec neg-requires neg-requires-2 returns)

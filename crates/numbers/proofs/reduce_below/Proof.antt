@@ -6,8 +6,8 @@ use mathlib.Core.Path.{◌≡◌, ◌∙◌, ap, sym}
 use Prim.Native.Nat.{ℕ, ◌+◌, ◌*◌, ◌-◌, ◌/◌, ◌%◌, ◌<◌, ◌≤◌}
 use Rattle.algebra.specs.ring.Ring.{residue}
 use Rattle.numbers.specs.Value.{prime}
-use Rattle.numbers.proofs.Primes.{prime-pos}
-use Rattle.numbers.proofs.Quotients.{rest-is}
+use Rattle.numbers.proofs.Primes.{prime_pos}
+use Rattle.numbers.proofs.Quotients.{rest_is}
 use Rattle.numbers.proofs.reduce_below.Statement.{statement}
 use Rattle.numbers.proofs.reduce_below.Tie as tie
 
@@ -34,15 +34,15 @@ sub-result : tie.Need-overflow-sub-result
 sub-result c = omega (arith, left c)
 
 cast-result-2 : tie.Need-overflow-cast-result-2
-cast-result-2 c = let a = c.before.before.args in omega (arith, left c, mod-lt a.x (prime-pos a.m), c.modulus.ensures)
+cast-result-2 c = let a = c.before.before.args in omega (arith, left c, mod-lt a.x (prime_pos a.m), c.modulus.ensures)
 
 returns : tie.Need-returns
 unfolding residue
 returns c =
     let a = c.before.before.args in
-    ap (λ (n : ℕ). a.x - n) (multiple c) ∙ rest-is (prime a.m) a.x
+    ap (λ (n : ℕ). a.x - n) (multiple c) ∙ rest_is (prime a.m) a.x
 
-pub reduce-below-spec : {M : Type 1} → statement M
-reduce-below-spec =
+pub reduce_below_spec : {M : Type 1} → statement M
+reduce_below_spec =
     tie.close
     (tie.spec quotient-requires modulus-requires cast-result mul-result sub-result cast-result-2 returns)

@@ -15,5 +15,5 @@ returns : tie.Need-returns
 unfolding pair_of
 returns c = pair_path c.before.reduce.ensures c.reduce2.ensures
 
-pub reduced-spec : {M : Type 1} → statement M
-reduced-spec = tie.close (tie.spec reduce-requires reduce-requires-2 returns)
+pub reduced_spec : {M : Type 1} → statement M
+reduced_spec = tie.close (tie.spec reduce-requires reduce-requires-2 returns)

@@ -15,5 +15,5 @@ returns : tie.Need-returns
 unfolding pair_of
 returns c = pair_path c.before.reduce-below.ensures c.reduce-below2.ensures
 
-pub reduced-below-spec : {M : Type 1} → statement M
-reduced-below-spec = tie.close (tie.spec reduce-below-requires reduce-below-requires-2 returns)
+pub reduced_below_spec : {M : Type 1} → statement M
+reduced_below_spec = tie.close (tie.spec reduce-below-requires reduce-below-requires-2 returns)

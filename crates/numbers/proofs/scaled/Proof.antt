@@ -2,7 +2,7 @@
 use borrow.Author.Rules.{rules}
 use mathlib.Core.Path.{sym, ◌∙◌, ap}
 use Rattle.numbers.specs.Value.{value_of, pair_of}
-use Rattle.numbers.proofs.Values.{pair_path, real-times}
+use Rattle.numbers.proofs.Values.{pair_path, real_times}
 use Rattle.numbers.proofs.scaled.Statement.{statement}
 use Rattle.numbers.proofs.scaled.Tie as tie
 
@@ -14,7 +14,7 @@ mul-requires-2 c κs = search rules
 
 returns : tie.Need-returns
 unfolding value_of pair_of
-returns c = pair_path c.before.mul.ensures c.mul2.ensures ∙ ap pair_of (sym (real-times _ _ _))
+returns c = pair_path c.before.mul.ensures c.mul2.ensures ∙ ap pair_of (sym (real_times _ _ _))
 
-pub scaled-spec : {M : Type 1} → statement M
-scaled-spec = tie.close (tie.spec mul-requires mul-requires-2 returns)
+pub scaled_spec : {M : Type 1} → statement M
+scaled_spec = tie.close (tie.spec mul-requires mul-requires-2 returns)

@@ -1,7 +1,7 @@
 -- A difference is taken as it is, or p is added first.
 use borrow.Author.Rules.{rules}
 use native.Mathlib.Omega.{arith}
-use Rattle.numbers.proofs.Residues.{difference-above, difference_below}
+use Rattle.numbers.proofs.Residues.{difference_above, difference_below}
 use Rattle.numbers.proofs.sub.Statement.{statement}
 use Rattle.numbers.proofs.sub.Tie as tie
 
@@ -15,7 +15,7 @@ add-result : tie.Need-overflow-add-result
 add-result c = search rules
 
 returns : tie.Need-returns
-returns c = difference-above _ _ _ (omega arith) (omega arith)
+returns c = difference_above _ _ _ (omega arith) (omega arith)
 
 returns-2 : tie.Need-returns-2
 returns-2 c = rw c.before.modulus.ensures.0 (difference_below _ _ _ (omega arith) (omega arith))

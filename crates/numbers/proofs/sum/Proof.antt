@@ -16,5 +16,5 @@ returns : tie.Need-returns
 unfolding gauss value_of pair_of
 returns c = pair_path c.before.add.ensures c.add2.ensures
 
-pub sum-spec : {M : Type 1} → statement M
-sum-spec = tie.close (tie.spec add-requires add-requires-2 returns)
+pub sum_spec : {M : Type 1} → statement M
+sum_spec = tie.close (tie.spec add-requires add-requires-2 returns)

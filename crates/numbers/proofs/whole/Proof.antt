@@ -10,5 +10,5 @@ mul-result c = omega (arith, mul-le-mul c.requires.0 c.requires.1)
 returns : tie.Need-returns
 returns c = omega (arith, mul-le-mul c.requires.0 c.requires.1)
 
-pub whole-spec : {M : Type 1} → statement M
-whole-spec = tie.close (tie.spec mul-result returns)
+pub whole_spec : {M : Type 1} → statement M
+whole_spec = tie.close (tie.spec mul-result returns)

@@ -1,6 +1,6 @@
 -- A byte inside the output is stored; one beyond it is not, and a store there would change nothing.
 use borrow.Author.Rules.{rules}
-use Rattle.output.proofs.Writing.{wrote-beyond}
+use Rattle.output.proofs.Writing.{wrote_beyond}
 use Rattle.output.proofs.put_byte.Statement.{statement}
 use Rattle.output.proofs.put_byte.Tie as tie
 
@@ -20,8 +20,8 @@ returns : tie.Need-returns
 returns c = search rules
 
 returns-2 : tie.Need-returns-2
-returns-2 c = let a = c.before.args in wrote-beyond a.at a.byte a.out.now c.if1.false
+returns-2 c = let a = c.before.args in wrote_beyond a.at a.byte a.out.now c.if1.false
 
-pub put-byte-spec : {M : Type 1} → statement M
-put-byte-spec =
+pub put_byte_spec : {M : Type 1} → statement M
+put_byte_spec =
     tie.close (tie.spec slice-write-out add-result add-result-2 same_length returns returns-2)

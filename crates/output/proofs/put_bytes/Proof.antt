@@ -6,7 +6,7 @@ use native.Mathlib.Omega.{arith}
 use lib.ListN.{length, take}
 use lib.Seq.{take_all}
 use Rattle.output.specs.Written.{Wrote}
-use Rattle.output.proofs.Writing.{wrote_none, wrote-length, bytes-ends, bytes_next}
+use Rattle.output.proofs.Writing.{wrote_none, wrote_length, bytes_ends, bytes_next}
 use Rattle.output.proofs.put_bytes.Statement.{statement}
 use Rattle.output.proofs.put_bytes.Tie as tie
 
@@ -26,7 +26,7 @@ put-byte-requires : tie.Need-put-byte-requires invariant-loop decreases-loop
 put-byte-requires c κs =
     let t = c.before.before in
     let l = t.before in
-    bytes-ends l.before.before.before.args.text.now l.before.before.before.requires t.loop-test.true l.loop.invariant.1
+    bytes_ends l.before.before.before.args.text.now l.before.before.before.requires t.loop-test.true l.loop.invariant.1
 
 add-i : tie.Need-overflow-add-i invariant-loop decreases-loop
 add-i c = omega arith
@@ -42,7 +42,7 @@ loop-again c =
     (omega arith, bytes_next l.before.before.before.args.text.now t.loop-test.true l.loop.invariant.1 p.put_byte.ensures)
 
 same_length : tie.Need-same-length invariant-loop decreases-loop
-same_length c = wrote-length c.before.loop.invariant.1
+same_length c = wrote_length c.before.loop.invariant.1
 
 returns : tie.Need-returns invariant-loop decreases-loop
 returns c =
@@ -50,8 +50,8 @@ returns c =
     let a = l.before.before.before.args in
     subst (λ (s : List ℕ). Wrote a.at s a.out.now l.loop.place l.loop.out) (take_all l.loop.i a.text.now c.loop-test.false) l.loop.invariant.1
 
-pub put-bytes-spec : {M : Type 1} → statement M
-put-bytes-spec =
+pub put_bytes_spec : {M : Type 1} → statement M
+put_bytes_spec =
     tie.close
     (tie.spec
     invariant-loop

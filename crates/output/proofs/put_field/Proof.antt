@@ -6,14 +6,14 @@ use native.Mathlib.Omega.{arith}
 use mir.Syntax.{w64}
 use mir.Val.{to_z}
 use mir.ValLaws.{to_z_pos}
-use Rattle.output.specs.Output.{blank, decimal, signedDecimal}
+use Rattle.output.specs.Output.{blank, decimal, signed_decimal}
 use Rattle.output.proofs.Writing.{wrote_as, ends_as}
 use Rattle.output.proofs.put_field.Statement.{statement}
 use Rattle.output.proofs.put_field.Tie as tie
 
-text : (c : tie.Start) → blank ∷ signedDecimal (to_z w64 c.args.n) ≡ blank ∷ decimal c.args.n
-unfolding signedDecimal
-text c = ap (λ z. blank ∷ signedDecimal z) (to_z_pos w64 c.args.n (omega (arith, c.ranges.n)))
+text : (c : tie.Start) → blank ∷ signed_decimal (to_z w64 c.args.n) ≡ blank ∷ decimal c.args.n
+unfolding signed_decimal
+text c = ap (λ z. blank ∷ signed_decimal z) (to_z_pos w64 c.args.n (omega (arith, c.ranges.n)))
 
 cast-put-signed-field : tie.Need-overflow-cast-put-signed-field
 cast-put-signed-field c = search rules
@@ -27,5 +27,5 @@ same_length c = search rules
 returns : tie.Need-returns
 returns c = let d = c.before.before in wrote_as d.put-signed-field.ensures (text d.before.before.before)
 
-pub put-field-spec : {M : Type 1} → statement M
-put-field-spec = tie.close (tie.spec cast-put-signed-field put-signed-field-requires same_length returns)
+pub put_field_spec : {M : Type 1} → statement M
+put_field_spec = tie.close (tie.spec cast-put-signed-field put-signed-field-requires same_length returns)

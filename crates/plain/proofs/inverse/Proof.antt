@@ -1,9 +1,9 @@
 -- What `transform` leaves, divided by n.
 use borrow.Author.Rules.{rules}
 use Prim.Native.Nat.{◌/◌}
-use Rattle.lengths.proofs.stage.Divisors.{divisor-pos, divisor-le}
-use Rattle.slices.proofs.Values.{length-of, below_of}
-use Rattle.plain.proofs.scale.Dividing.{divided-values}
+use Rattle.lengths.proofs.stage.Divisors.{divisor_pos, divisor_le}
+use Rattle.slices.proofs.Values.{length_of_lem, below_of}
+use Rattle.plain.proofs.scale.Dividing.{divided_values}
 use Rattle.plain.proofs.inverse.Statement.{statement}
 use Rattle.plain.proofs.inverse.Tie as tie
 
@@ -16,7 +16,7 @@ divide-requires c κs =
     let s = t.before.before.before.before.before in
     let long = s.requires.1.0.1 in
     let came = t.transform.ensures.0 in
-    ((s.requires.0.0, divisor-pos s.args.n (2880 / s.args.n) long, divisor-le s.args.n (2880 / s.args.n) long), (length-of s.args.m s.args.n _ came, below_of s.args.m s.args.n _ came))
+    ((s.requires.0.0, divisor_pos s.args.n (2880 / s.args.n) long, divisor_le s.args.n (2880 / s.args.n) long), (length_of_lem s.args.m s.args.n _ came, below_of s.args.m s.args.n _ came))
 
 same_length : tie.Need-same-length
 same_length c = search rules
@@ -29,7 +29,7 @@ returns c =
     let d = c.before.before in
     let t = d.before.before.before.before.before.before in
     let s = t.before.before.before.before.before in
-    (divided-values s.args.m s.args.n _ t.transform.ensures.0 d.divide.ensures, t.transform.ensures.1.1)
+    (divided_values s.args.m s.args.n _ t.transform.ensures.0 d.divide.ensures, t.transform.ensures.1.1)
 
-pub inverse-spec : {M : Type 1} → statement M
-inverse-spec = tie.close (tie.spec transform-requires divide-requires same_length same-length-2 returns)
+pub inverse_spec : {M : Type 1} → statement M
+inverse_spec = tie.close (tie.spec transform-requires divide-requires same_length same-length-2 returns)

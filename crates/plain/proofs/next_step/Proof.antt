@@ -1,6 +1,6 @@
 -- The step of the next factor.
 use borrow.Author.Rules.{rules}
-use Rattle.plain.proofs.Stepping.{step-splits, step-long, step_left}
+use Rattle.plain.proofs.Stepping.{step_splits, step_long, step_left}
 use Rattle.plain.proofs.next_step.Statement.{statement}
 use Rattle.plain.proofs.next_step.Tie as tie
 
@@ -16,7 +16,7 @@ step-requires c κs =
     let s = n.before.before.before in
     let a = s.requires.1.0 in
     let e = n.next.ensures in
-    (s.requires.0, (step-splits a e, ((step-long a e s.requires.1.1.0.0, step-long a e s.requires.1.1.0.1), s.requires.1.1.1)))
+    (s.requires.0, (step_splits a e, ((step_long a e s.requires.1.1.0.0, step_long a e s.requires.1.1.0.1), s.requires.1.1.1)))
 
 same_length : tie.Need-same-length
 same_length c = search rules
@@ -28,5 +28,5 @@ returns c =
     let s = n.before.before.before in
     (n.next.ensures, step_left s.requires.1.0 n.next.ensures s.args.m _ s.args.from.now p.step.ensures.0)
 
-pub next-step-spec : {M : Type 1} → statement M
-next-step-spec = tie.close (tie.spec next-requires cast-step step-requires same_length returns)
+pub next_step_spec : {M : Type 1} → statement M
+next_step_spec = tie.close (tie.spec next-requires cast-step step-requires same_length returns)

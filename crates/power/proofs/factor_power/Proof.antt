@@ -2,8 +2,8 @@
 use borrow.Author.Rules.{rules}
 use mathlib.Core.Path.{sym, ◌∙◌}
 use native.Mathlib.Omega.{arith}
-use Rattle.cell.specs.Operations.{cellGroup, cellHalves}
-use Rattle.power.proofs.FactorPower.{factor-stored}
+use Rattle.cell.specs.Operations.{cell_group, cell_halves}
+use Rattle.power.proofs.FactorPower.{factor_stored}
 use Rattle.power.proofs.factor_power.Statement.{statement}
 use Rattle.power.proofs.factor_power.Tie as tie
 
@@ -15,10 +15,10 @@ returns c =
     let s = c.before.before in
     let v = s.requires.0.0 in
     let n = v.sizes in
-    c.stored-power.ensures ∙ sym (factor-stored (cellGroup s.args.cell) (cellHalves s.args.cell) s.args.m s.args.volume.now (omega (arith, n.first.low), omega (arith, n.second.low), omega (arith, n.third.low)) v.long s.requires.0.2 s.requires.1)
+    c.stored-power.ensures ∙ sym (factor_stored (cell_group s.args.cell) (cell_halves s.args.cell) s.args.m s.args.volume.now (omega (arith, n.first.low), omega (arith, n.second.low), omega (arith, n.third.low)) v.long s.requires.0.2 s.requires.1)
 
-pub factor-power-spec : {M : Type 1} → statement M
-factor-power-spec =
+pub factor_power_spec : {M : Type 1} → statement M
+factor_power_spec =
     tie.close
     (tie.spec
     stored-power-requires

@@ -2,9 +2,9 @@
 use borrow.Author.Rules.{rules}
 use native.Mathlib.Omega.{arith}
 use Prim.Native.Nat.{◌/◌}
-use Rattle.cell.specs.Operations.{cellGroup, cellHalves}
+use Rattle.cell.specs.Operations.{cell_group, cell_halves}
 use Rattle.cell.proofs.StoredFactors.{pair_inside}
-use Rattle.power.proofs.PowerLaws.{below-most, row_inside, factor-row-sum}
+use Rattle.power.proofs.PowerLaws.{below_most, row_inside, factor_row_sum}
 use Rattle.power.proofs.factor_row.Statement.{statement}
 use Rattle.power.proofs.factor_row.Tie as tie
 
@@ -20,7 +20,7 @@ mul-square-sum c = omega (arith, c.pair_place.ensures)
 square-sum-requires : tie.Need-square-sum-requires
 square-sum-requires c κs =
     let s = c.before.before in
-    (omega (arith, c.pair_place.ensures, row_inside s.requires.0.0 s.args.w s.args.h s.requires.1.0 s.requires.1.1), omega arith, below-most s.requires.0.1 s.requires.0.2)
+    (omega (arith, c.pair_place.ensures, row_inside s.requires.0.0 s.args.w s.args.h s.requires.1.0 s.requires.1.1), omega arith, below_most s.requires.0.1 s.requires.0.2)
 
 pair-place-requires-2 : tie.Need-pair-place-requires-2
 pair-place-requires-2 c κs =
@@ -34,7 +34,7 @@ mul-square-sum-2 c = omega (arith, c.pair-place2.ensures)
 square-sum-requires-2 : tie.Need-square-sum-requires-2
 square-sum-requires-2 c κs =
     let s = c.before.before.before.before.before in
-    (omega (arith, c.pair-place2.ensures, row_inside s.requires.0.0 s.args.w s.args.h s.requires.1.0 s.requires.1.1), omega arith, below-most s.requires.0.1 s.requires.0.2)
+    (omega (arith, c.pair-place2.ensures, row_inside s.requires.0.0 s.args.w s.args.h s.requires.1.0 s.requires.1.1), omega arith, below_most s.requires.0.1 s.requires.0.2)
 
 pair-place-requires-3 : tie.Need-pair-place-requires-3
 pair-place-requires-3 c κs =
@@ -56,7 +56,7 @@ square-sum-requires-3 c κs =
     let p = c.before in
     let s = p.before.before.before.before.before.before.before in
     let n = s.requires.0.0.sizes.second in
-    (omega (arith, p.pair-place3.ensures, n.even, n.low, row_inside s.requires.0.0 s.args.w s.args.h s.requires.1.0 s.requires.1.1), omega (arith, n.high), below-most s.requires.0.1 s.requires.0.2)
+    (omega (arith, p.pair-place3.ensures, n.even, n.low, row_inside s.requires.0.0 s.args.w s.args.h s.requires.1.0 s.requires.1.1), omega (arith, n.high), below_most s.requires.0.1 s.requires.0.2)
 
 add-reduce-below : tie.Need-overflow-add-reduce-below
 add-reduce-below c =
@@ -84,11 +84,11 @@ returns c =
     let f = b.before.before.before in
     let s = f.before.before.before in
     let n = s.requires.0.0.sizes.second in
-    factor-row-sum (cellGroup s.args.cell) (cellHalves s.args.cell) s.args.m _ s.args.w s.args.h _ _ _ f.before.pair_place.ensures.0 b.before.pair-place2.ensures.0 i.before.before.pair-place3.ensures.0 (omega (arith, n.even, n.low))
+    factor_row_sum (cell_group s.args.cell) (cell_halves s.args.cell) s.args.m _ s.args.w s.args.h _ _ _ f.before.pair_place.ensures.0 b.before.pair-place2.ensures.0 i.before.before.pair-place3.ensures.0 (omega (arith, n.even, n.low))
     (f.square-sum.ensures.1 s.args.m) (b.square-sum2.ensures.1 s.args.m) (i.square-sum3.ensures.1 s.args.m) c.reduce-below.ensures
 
-pub factor-row-spec : {M : Type 1} → statement M
-factor-row-spec =
+pub factor_row_spec : {M : Type 1} → statement M
+factor_row_spec =
     tie.close
     (tie.spec
     pair-place-requires

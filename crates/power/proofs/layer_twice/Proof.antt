@@ -1,9 +1,9 @@
 -- By the kind of the lines along l.
 use borrow.Author.Rules.{rules}
 use Prim.Native.Nat.{◌/◌}
-use Rattle.cell.specs.Operations.{cellGroup}
-use Rattle.cell.proofs.LineKinds.{is-kind, other-kind}
-use Rattle.power.proofs.PowerLaws.{twice-plain, twice-alternating, twice-mirrored}
+use Rattle.cell.specs.Operations.{cell_group}
+use Rattle.cell.proofs.LineKinds.{is_kind, other_kind}
+use Rattle.power.proofs.PowerLaws.{twice_plain, twice_alternating, twice_mirrored}
 use Rattle.power.proofs.layer_twice.Statement.{statement}
 use Rattle.power.proofs.layer_twice.Tie as tie
 
@@ -18,14 +18,14 @@ returns c =
     let e = c.before in
     let k = e.before in
     let a = k.before.args in
-    twice-plain a.density (cellGroup a.cell) (a.cell.n3 / 2) a.w (is-kind k.line-kind.ensures.1 c.if1.true)
+    twice_plain a.density (cell_group a.cell) (a.cell.n3 / 2) a.w (is_kind k.line-kind.ensures.1 c.if1.true)
 
 returns-2 : tie.Need-returns-2
 returns-2 c =
     let e = c.before.before in
     let k = e.before in
     let a = k.before.args in
-    twice-alternating a.density (cellGroup a.cell) (a.cell.n3 / 2) a.w (is-kind k.line-kind.ensures.1 c.if2.true) e.is-end.ensures
+    twice_alternating a.density (cell_group a.cell) (a.cell.n3 / 2) a.w (is_kind k.line-kind.ensures.1 c.if2.true) e.is-end.ensures
 
 returns-3 : tie.Need-returns-3
 returns-3 c =
@@ -33,10 +33,10 @@ returns-3 c =
     let k = e.before in
     let a = k.before.args in
     let n = k.line-kind.ensures in
-    twice-mirrored a.density (cellGroup a.cell) (a.cell.n3 / 2) a.w (other-kind n.1 n.0 c.before.if1.false) (other-kind n.1 n.0 c.if2.false) e.is-end.ensures
+    twice_mirrored a.density (cell_group a.cell) (a.cell.n3 / 2) a.w (other_kind n.1 n.0 c.before.if1.false) (other_kind n.1 n.0 c.if2.false) e.is-end.ensures
 
-pub layer-twice-spec : {M : Type 1} → statement M
-layer-twice-spec =
+pub layer_twice_spec : {M : Type 1} → statement M
+layer_twice_spec =
     tie.close
     (tie.spec
     line-kind-requires

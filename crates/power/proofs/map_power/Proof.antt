@@ -2,8 +2,8 @@
 use borrow.Author.Rules.{rules}
 use mathlib.Core.Path.{sym, ◌∙◌}
 use native.Mathlib.Omega.{arith}
-use Rattle.cell.specs.Operations.{cellGroup, cellHalves}
-use Rattle.power.proofs.MapPower.{map-stored}
+use Rattle.cell.specs.Operations.{cell_group, cell_halves}
+use Rattle.power.proofs.MapPower.{map_stored}
 use Rattle.power.proofs.map_power.Statement.{statement}
 use Rattle.power.proofs.map_power.Tie as tie
 
@@ -13,10 +13,10 @@ stored-power-requires c κs = search rules
 returns : tie.Need-returns
 returns c =
     let s = c.before.before in
-    c.stored-power.ensures ∙ sym (map-stored (cellGroup s.args.cell) (cellHalves s.args.cell) s.args.m s.args.volume.now (omega (arith, s.requires.0.sizes.third.low)))
+    c.stored-power.ensures ∙ sym (map_stored (cell_group s.args.cell) (cell_halves s.args.cell) s.args.m s.args.volume.now (omega (arith, s.requires.0.sizes.third.low)))
 
-pub map-power-spec : {M : Type 1} → statement M
-map-power-spec =
+pub map_power_spec : {M : Type 1} → statement M
+map_power_spec =
     tie.close
     (tie.spec
     stored-power-requires

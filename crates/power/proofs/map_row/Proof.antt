@@ -3,9 +3,9 @@ use borrow.Author.Rules.{rules}
 use native.Mathlib.Omega.{arith}
 use mathlib.Core.Path.{ap}
 use Prim.Native.Nat.{◌*◌}
-use Rattle.cell.specs.Operations.{cellGroup, cellHalves}
+use Rattle.cell.specs.Operations.{cell_group, cell_halves}
 use Rattle.cell.proofs.StoredFactors.{pair_inside}
-use Rattle.power.proofs.PowerLaws.{below-most, row_inside, map-row-sum}
+use Rattle.power.proofs.PowerLaws.{below_most, row_inside, map_row_sum}
 use Rattle.power.proofs.map_row.Statement.{statement}
 use Rattle.power.proofs.map_row.Tie as tie
 
@@ -26,7 +26,7 @@ square-sum-requires c κs =
     let p = c.before in
     let s = p.before.before in
     let n = s.requires.0.0.sizes.second in
-    (omega (arith, p.pair_place.ensures, n.even, row_inside s.requires.0.0 s.args.w s.args.h s.requires.1.0 s.requires.1.1), n.high, below-most s.requires.0.1 s.requires.0.2)
+    (omega (arith, p.pair_place.ensures, n.even, row_inside s.requires.0.0 s.args.w s.args.h s.requires.1.0 s.requires.1.1), n.high, below_most s.requires.0.1 s.requires.0.2)
 
 reduce-below-requires : tie.Need-reduce-below-requires
 reduce-below-requires c κs = (c.before.before.before.before.requires.0.1, omega (arith, c.square-sum.ensures))
@@ -36,10 +36,10 @@ returns c =
     let q = c.before in
     let p = q.before.before in
     let s = p.before.before in
-    map-row-sum (cellGroup s.args.cell) (cellHalves s.args.cell) s.args.m _ s.args.w s.args.h _ (ap (λ x. 2 * x) p.pair_place.ensures.0) (omega (arith, s.requires.0.0.sizes.second.even)) (q.square-sum.ensures.1 s.args.m) c.reduce-below.ensures
+    map_row_sum (cell_group s.args.cell) (cell_halves s.args.cell) s.args.m _ s.args.w s.args.h _ (ap (λ x. 2 * x) p.pair_place.ensures.0) (omega (arith, s.requires.0.0.sizes.second.even)) (q.square-sum.ensures.1 s.args.m) c.reduce-below.ensures
 
-pub map-row-spec : {M : Type 1} → statement M
-map-row-spec =
+pub map_row_spec : {M : Type 1} → statement M
+map_row_spec =
     tie.close
     (tie.spec
     pair-place-requires

@@ -15,8 +15,8 @@ returns c = rw c.before.if1.true c.map_row.ensures
 returns-2 : tie.Need-returns-2
 returns-2 c = rw c.before.if1.false c.factor-row.ensures
 
-pub row-power-spec : {M : Type 1} → statement M
-row-power-spec =
+pub row_power_spec : {M : Type 1} → statement M
+row_power_spec =
     tie.close
     (tie.spec
     map-row-requires

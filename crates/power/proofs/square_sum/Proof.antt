@@ -5,7 +5,7 @@ use native.Mathlib.Omega.{arith}
 use Rattle.algebra.proofs.ring.Laws.{along}
 use Rattle.numbers.specs.Bounds.{res}
 use Rattle.power.specs.PowerSteps.{squares}
-use Rattle.power.proofs.PowerLaws.{squares-none, squares-next}
+use Rattle.power.proofs.PowerLaws.{squares_none, squares_next}
 use Rattle.power.proofs.square_sum.Statement.{statement}
 use Rattle.power.proofs.square_sum.Tie as tie
 
@@ -16,7 +16,7 @@ abbrev decreases-loop : tie.decreases-loop
 decreases-loop volume start count total₀ i₀ total i = count - i
 
 loop-holds : tie.Need-loop-init invariant-loop decreases-loop
-loop-holds c = (omega arith, omega arith, λ m. squares-none m _ _)
+loop-holds c = (omega arith, omega arith, λ m. squares_none m _ _)
 
 add-x : tie.Need-overflow-add-x invariant-loop decreases-loop
 add-x c = omega arith
@@ -43,15 +43,15 @@ loop-less : tie.Need-loop-smaller invariant-loop decreases-loop
 loop-less c = omega arith
 
 loop-again : tie.Need-loop-preserved invariant-loop decreases-loop
-loop-again c = (omega arith, omega (arith, c.whole.ensures), λ m. squares-next m _ _ _ _ _ (c.before.before.before.loop.invariant.2 m) c.whole.ensures.0)
+loop-again c = (omega arith, omega (arith, c.whole.ensures), λ m. squares_next m _ _ _ _ _ (c.before.before.before.loop.invariant.2 m) c.whole.ensures.0)
 
 returns : tie.Need-returns invariant-loop decreases-loop
 returns c =
     let l = c.before.loop in
     (omega arith, λ m. l.invariant.2 m ∙ along (squares m _ _) _ _ (omega arith))
 
-pub square-sum-spec : {M : Type 1} → statement M
-square-sum-spec =
+pub square_sum_spec : {M : Type 1} → statement M
+square_sum_spec =
     tie.close
     (tie.spec
     invariant-loop

@@ -1,9 +1,9 @@
-use Rattle.printing.proofs.Opened.{prints-model}
+use Rattle.printing.proofs.Opened.{prints_model}
 use Rattle.printing.proofs.prints_model.Statement.{statement}
 use Rattle.printing.proofs.prints_model.Tie as tie
 
 returns : tie.Need-returns
-returns c = prints-model
+returns c = prints_model
 
-pub prints-model-spec : {M : Type 1} → statement M
-prints-model-spec = tie.close (tie.spec returns)
+pub prints_model_spec : {M : Type 1} → statement M
+prints_model_spec = tie.close (tie.spec returns)

@@ -2,15 +2,15 @@
 ghost use Rattle.std.specs.Prelude.{◌≡◌, length};
 ghost use Rattle.output.specs.Written.{Wrote};
 ghost use Rattle.refusals.specs.Refusals.{number_of};
-ghost use Rattle.printing.specs.Text.{refusalText, putText};
-ghost use Rattle.output.specs.Answers.{fillOutcome};
+ghost use Rattle.printing.specs.Text.{refusal_text, put_text};
+ghost use Rattle.output.specs.Answers.{fill_outcome};
 
 use output::FillAnswer;
 use refusals::Refusal;
 
 // "refused 12 at 0", from the output's first byte on.
 fn put_refusal(out: &mut [u8], number: u32, place: u32) -> usize
-    ensures { Wrote 0 (refusalText number place) out.old result out.new }
+    ensures { Wrote 0 (refusal_text number place) out.old result out.new }
 {
     let word = output::put_bytes(out, 0, b"refused");
     let refusal = output::put_field(out, word, number);
@@ -21,7 +21,7 @@ fn put_refusal(out: &mut [u8], number: u32, place: u32) -> usize
 
 // How many bytes that text has.
 fn refusal_length(number: u32, place: u32) -> usize
-    ensures { result ≡ length (refusalText number place) }
+    ensures { result ≡ length (refusal_text number place) }
 {
     let mut nothing = [0u8; 0];
     put_refusal(&mut nothing, number, place)
@@ -29,8 +29,8 @@ fn refusal_length(number: u32, place: u32) -> usize
 
 // The text of a refusal goes to the output's first bytes, if they are enough for it.
 pub fn refusal_text(refusal: Refusal, place: u32, out: &mut [u8]) -> FillAnswer
-    ensures { fillOutcome result out.new
-        ≡ putText (refusalText (number_of refusal) place) out.old }
+    ensures { fill_outcome result out.new
+        ≡ put_text (refusal_text (number_of refusal) place) out.old }
 {
     let number = refusals::number_of(refusal);
     if out.len() < refusal_length(number, place) {

@@ -2,8 +2,8 @@
 ghost use Rattle.std.specs.Prelude.{◌≡◌, ◌<◌};
 ghost use Rattle.algebra.specs.cells.Cell.{below};
 ghost use Rattle.cell.specs.Volume.{layers};
-ghost use Rattle.job.specs.Job.{groupIn, halves};
-ghost use Rattle.printing.specs.Text.{rowResidues, printsResidues};
+ghost use Rattle.job.specs.Job.{group_in, halves};
+ghost use Rattle.printing.specs.Text.{row_residues, prints_residues};
 ghost use Rattle.printing.specs.Printable.{Fitting};
 
 use cell::places;
@@ -12,7 +12,7 @@ use job::Job;
 // All stored planes.
 pub fn prints_residues(job: Job, volume: &[u32]) -> bool
     requires { Fitting job volume.now }
-    ensures { result ≡ printsResidues job volume.now }
+    ensures { result ≡ prints_residues job volume.now }
 {
     let planes = places::layer_count(job.unit_cell());
     let mut z: u32 = 0;
@@ -28,8 +28,8 @@ pub fn prints_residues(job: Job, volume: &[u32]) -> bool
 
 // The rows of the plane z.
 fn plane_residues(job: Job, volume: &[u32], z: u32) -> bool
-    requires { Fitting job volume.now × (z < layers (groupIn job) (halves job)) }
-    ensures { result ≡ below job.a.length (λ x. rowResidues job volume.now z x) }
+    requires { Fitting job volume.now × (z < layers (group_in job) (halves job)) }
+    ensures { result ≡ below job.a.length (λ x. row_residues job volume.now z x) }
 {
     let n1 = job.a.length;
     let mut x: u32 = 0;
@@ -45,8 +45,8 @@ fn plane_residues(job: Job, volume: &[u32], z: u32) -> bool
 
 // The row at z, x.
 fn row_residues(job: Job, volume: &[u32], z: u32, x: u32) -> bool
-    requires { Fitting job volume.now × (z < layers (groupIn job) (halves job)) × (x < job.a.length) }
-    ensures { result ≡ rowResidues job volume.now z x }
+    requires { Fitting job volume.now × (z < layers (group_in job) (halves job)) × (x < job.a.length) }
+    ensures { result ≡ row_residues job volume.now z x }
 {
     let n2 = job.b.length;
     let p = numbers::modulus(job.modulus);

@@ -1,13 +1,13 @@
 // The text of a map: a head line, then a line for each row of the volume.
 ghost use Rattle.std.specs.Prelude.{◌≡◌, ◌<◌, length};
 ghost use Rattle.refusals.specs.Refusals.{first};
-ghost use Rattle.refusals.specs.Checks.{checkedNumber};
+ghost use Rattle.refusals.specs.Checks.{checked_number};
 ghost use Rattle.cell.specs.Volume.{layers};
-ghost use Rattle.job.specs.Job.{groupIn, halves};
+ghost use Rattle.job.specs.Job.{group_in, halves};
 ghost use Rattle.output.specs.Output.{each};
 ghost use Rattle.output.specs.Written.{Wrote, Ends};
-ghost use Rattle.printing.specs.Text.{headLine, row_line, mapText, textTests, textStep};
-ghost use Rattle.output.specs.Answers.{fillOutcome};
+ghost use Rattle.printing.specs.Text.{head_line, row_line, map_text, text_tests, text_step};
+ghost use Rattle.output.specs.Answers.{fill_outcome};
 ghost use Rattle.printing.specs.Printable.{Printable};
 
 use crate::map_text::residues;
@@ -19,8 +19,8 @@ use refusals::{Checked, Refusal};
 
 // "map", the group and the lengths.
 fn put_head(out: &mut [u8], at: usize, job: Job) -> usize
-    requires { Ends at (headLine job) }
-    ensures { Wrote at (headLine job) out.old result out.new }
+    requires { Ends at (head_line job) }
+    ensures { Wrote at (head_line job) out.old result out.new }
 {
     let word = output::put_bytes(out, at, b"map");
     let group = output::put_field(out, word, job.group);
@@ -32,7 +32,7 @@ fn put_head(out: &mut [u8], at: usize, job: Job) -> usize
 
 // The row at z, x: both, and the values by y.
 fn put_row(out: &mut [u8], at: usize, job: Job, volume: &[u32], z: u32, x: u32) -> usize
-    requires printable { Printable job volume.now × (z < layers (groupIn job) (halves job)) × (x < job.a.length) }
+    requires printable { Printable job volume.now × (z < layers (group_in job) (halves job)) × (x < job.a.length) }
     requires ends { Ends at (row_line job volume.now z x) }
     ensures { Wrote at (row_line job volume.now z x) out.old result out.new }
 {
@@ -47,7 +47,7 @@ fn put_row(out: &mut [u8], at: usize, job: Job, volume: &[u32], z: u32, x: u32) 
 
 // The rows of the plane z, by rising x.
 fn put_plane(out: &mut [u8], at: usize, job: Job, volume: &[u32], z: u32) -> usize
-    requires printable { Printable job volume.now × (z < layers (groupIn job) (halves job)) }
+    requires printable { Printable job volume.now × (z < layers (group_in job) (halves job)) }
     requires ends { Ends at (each job.a.length (λ x. row_line job volume.now z x)) }
     ensures { Wrote at (each job.a.length (λ x. row_line job volume.now z x))
         out.old result out.new }
@@ -66,10 +66,10 @@ fn put_plane(out: &mut [u8], at: usize, job: Job, volume: &[u32], z: u32) -> usi
 fn put_planes(out: &mut [u8], at: usize, job: Job, volume: &[u32]) -> usize
     requires printable { Printable job volume.now }
     requires ends { Ends at
-        (each (layers (groupIn job) (halves job))
+        (each (layers (group_in job) (halves job))
         (λ z. each job.a.length (λ x. row_line job volume.now z x))) }
     ensures { Wrote at
-        (each (layers (groupIn job) (halves job))
+        (each (layers (group_in job) (halves job))
         (λ z. each job.a.length (λ x. row_line job volume.now z x)))
         out.old result out.new }
 {
@@ -86,7 +86,7 @@ fn put_planes(out: &mut [u8], at: usize, job: Job, volume: &[u32]) -> usize
 // The whole text, from the output's first byte on.
 fn put_map(out: &mut [u8], job: Job, volume: &[u32]) -> usize
     requires { Printable job volume.now }
-    ensures { Wrote 0 (mapText job volume.now) out.old result out.new }
+    ensures { Wrote 0 (map_text job volume.now) out.old result out.new }
 {
     let rows = put_head(out, 0, job);
     put_planes(out, rows, job, volume)
@@ -95,7 +95,7 @@ fn put_map(out: &mut [u8], job: Job, volume: &[u32]) -> usize
 // How many bytes the text has.
 fn map_length(job: Job, volume: &[u32]) -> usize
     requires { Printable job volume.now }
-    ensures { result ≡ length (mapText job volume.now) }
+    ensures { result ≡ length (map_text job volume.now) }
 {
     let mut nothing = [0u8; 0];
     put_map(&mut nothing, job, volume)
@@ -103,7 +103,7 @@ fn map_length(job: Job, volume: &[u32]) -> usize
 
 // 25, 22, 6, 7, 18.
 fn check_text(job: Job, volume: &[u32], room: usize) -> Checked
-    ensures { checkedNumber result ≡ first (textTests job volume.now room) }
+    ensures { checked_number result ≡ first (text_tests job volume.now room) }
 {
     if !valid::valid_job(job) {
         return Checked::Failed(Refusal::ImpossibleJob);
@@ -125,7 +125,7 @@ fn check_text(job: Job, volume: &[u32], room: usize) -> Checked
 
 // The text of the map that a job holds goes to the output's first bytes, or the call is refused and changes nothing.
 pub fn map_text(job: Job, volume: &[u32], out: &mut [u8]) -> FillAnswer
-    ensures { fillOutcome result out.new ≡ textStep job volume.now out.old }
+    ensures { fill_outcome result out.new ≡ text_step job volume.now out.old }
 {
     let checked = check_text(job, volume, out.len());
     match checked {

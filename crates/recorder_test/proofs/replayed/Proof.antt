@@ -43,8 +43,8 @@ same_length c = search rules
 returns : tie.Need-returns
 returns c = search rules
 
-pub replayed-spec : {M : Type 1} → statement M
-replayed-spec =
+pub replayed_spec : {M : Type 1} → statement M
+replayed_spec =
     tie.close
     (tie.spec
     length-at-requires

@@ -185,8 +185,8 @@ returns-29 c = ap number_of (sym c.enum-told29.given.1)
 returns-30 : tie.Need-returns-30
 returns-30 c = ap number_of (sym c.enum-told30.given.1)
 
-pub number-of-spec : {M : Type 1} → statement M
-number-of-spec =
+pub number_of_spec : {M : Type 1} → statement M
+number_of_spec =
     tie.close
     (tie.spec
     enum_told

@@ -20,5 +20,5 @@ returns : tie.Need-returns
 unfolding entry_at
 returns c = search rules
 
-pub root-at-spec : {M : Type 1} → statement M
-root-at-spec = tie.close (tie.spec mul-t4 element-copy-out-t7 mul-t8 element-copy-out-t11 returns)
+pub root_at_spec : {M : Type 1} → statement M
+root_at_spec = tie.close (tie.spec mul-t4 element-copy-out-t7 mul-t8 element-copy-out-t11 returns)

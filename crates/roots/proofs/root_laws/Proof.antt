@@ -6,5 +6,5 @@ use Rattle.roots.proofs.root_laws.Tie as tie
 returns : tie.Need-returns
 returns c = root_laws
 
-pub root-laws-spec : {M : Type 1} → statement M
-root-laws-spec = tie.close (tie.spec returns)
+pub root_laws_spec : {M : Type 1} → statement M
+root_laws_spec = tie.close (tie.spec returns)

@@ -1,9 +1,9 @@
-use Rattle.scheduler.proofs.Refused.{refused-in-order}
+use Rattle.scheduler.proofs.Refused.{refused_in_order}
 use Rattle.scheduler.proofs.refused_in_order.Statement.{statement}
 use Rattle.scheduler.proofs.refused_in_order.Tie as tie
 
 returns : tie.Need-returns
-returns c = refused-in-order
+returns c = refused_in_order
 
-pub refused-in-order-spec : {M : Type 1} → statement M
-refused-in-order-spec = tie.close (tie.spec returns)
+pub refused_in_order_spec : {M : Type 1} → statement M
+refused_in_order_spec = tie.close (tie.spec returns)

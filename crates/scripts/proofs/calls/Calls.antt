@@ -10,174 +10,174 @@ use Rattle.job.specs.declared.Answered.{Answered}
 use Rattle.job.specs.declared.Job.{Job}
 use Rattle.job.specs.declared.Reflection.{Reflection}
 use Rattle.job.specs.declared.GridPoint.{GridPoint}
-use Rattle.job.specs.Job.{withState, factorsHeld, mapHeld, Said, done, Outcome, Worked, unchanged, position, index, recordStep, synthesised, synthesisStep, analysed, analysisStep, pointStep, factorStep, mapPowerStep, factorPowerStep}
-use Rattle.job.specs.TestSteps.{synthesisTests, analysisTests, pointTests, factorTests, mapPowerTests, factorPowerTests}
-use Rattle.job.specs.Answers.{said, outcome, worked, replyOf}
+use Rattle.job.specs.Job.{with_state, factors_held, map_held, Said, done, Outcome, Worked, unchanged, position, index, record_step, synthesised, synthesis_step, analysed, analysis_step, point_step, factor_step, map_power_step, factor_power_step}
+use Rattle.job.specs.TestSteps.{synthesis_tests, analysis_tests, point_tests, factor_tests, map_power_tests, factor_power_tests}
+use Rattle.job.specs.Answers.{said, outcome, worked, reply_of}
 use Rattle.scripts.specs.declared.layout.CallNumbers.{CallNumbers}
-use Rattle.scripts.specs.Script.{Call, recording, synthesis, analysis, readPoint, readFactor, readMapPower, readFactorPower, step, call_of, call_at, numbersAt, callSaid, clearedIfDone, scratchLeft, callStep, callOutcome}
+use Rattle.scripts.specs.Script.{Call, recording, synthesis, analysis, read_point, read_factor, read_map_power, read_factor_power, step, call_of, call_at, numbers_at, call_said, cleared_if_done, scratch_left, call_step, call_outcome}
 use Rattle.scripts.specs.declared.calls.Called.{Called}
 
 -- ---- what an operation's number stands for
 
-call-other : (s : List ℕ) (o h k l x y : ℕ) → 4 ≤ o → (o ≡ 5 → ⊥) → (o ≡ 6 → ⊥) → readFactor (record { 0 = h; 1 = k; 2 = l }) ≡ call_of s o h k l x y
+call_other : (s : List ℕ) (o h k l x y : ℕ) → 4 ≤ o → (o ≡ 5 → ⊥) → (o ≡ 6 → ⊥) → read_factor (record { 0 = h; 1 = k; 2 = l }) ≡ call_of s o h k l x y
 unfolding call_of
-call-other s zero h k l x y p q r = absurd (omega arith)
-call-other s (suc zero) h k l x y p q r = absurd (omega arith)
-call-other s (suc (suc zero)) h k l x y p q r = absurd (omega arith)
-call-other s (suc (suc (suc zero))) h k l x y p q r = absurd (omega arith)
-call-other s (suc (suc (suc (suc zero)))) h k l x y p q r = refl
-call-other s (suc (suc (suc (suc (suc zero))))) h k l x y p q r = absurd (q refl)
-call-other s (suc (suc (suc (suc (suc (suc zero)))))) h k l x y p q r = absurd (r refl)
-call-other s (suc (suc (suc (suc (suc (suc (suc o))))))) h k l x y p q r = refl
+call_other s zero h k l x y p q r = absurd (omega arith)
+call_other s (suc zero) h k l x y p q r = absurd (omega arith)
+call_other s (suc (suc zero)) h k l x y p q r = absurd (omega arith)
+call_other s (suc (suc (suc zero))) h k l x y p q r = absurd (omega arith)
+call_other s (suc (suc (suc (suc zero)))) h k l x y p q r = refl
+call_other s (suc (suc (suc (suc (suc zero))))) h k l x y p q r = absurd (q refl)
+call_other s (suc (suc (suc (suc (suc (suc zero)))))) h k l x y p q r = absurd (r refl)
+call_other s (suc (suc (suc (suc (suc (suc (suc o))))))) h k l x y p q r = refl
 
 -- no number but the first four
-pub four-on : (o : ℕ) → (o ≡ 0 → ⊥) → (o ≡ 1 → ⊥) → (o ≡ 2 → ⊥) → (o ≡ 3 → ⊥) → 4 ≤ o
-four-on zero p q r t = absurd (p refl)
-four-on (suc zero) p q r t = absurd (q refl)
-four-on (suc (suc zero)) p q r t = absurd (r refl)
-four-on (suc (suc (suc zero))) p q r t = absurd (t refl)
-four-on (suc (suc (suc (suc o)))) p q r t = omega arith
+pub four_on : (o : ℕ) → (o ≡ 0 → ⊥) → (o ≡ 1 → ⊥) → (o ≡ 2 → ⊥) → (o ≡ 3 → ⊥) → 4 ≤ o
+four_on zero p q r t = absurd (p refl)
+four_on (suc zero) p q r t = absurd (q refl)
+four_on (suc (suc zero)) p q r t = absurd (r refl)
+four_on (suc (suc (suc zero))) p q r t = absurd (t refl)
+four_on (suc (suc (suc (suc o)))) p q r t = omega arith
 
 module _ (s : List ℕ) (n : CallNumbers) where
-  pub is-synthesis : n.operation ≡ 1 → synthesis s ≡ callSaid s n
+  pub is_synthesis : n.operation ≡ 1 → synthesis s ≡ call_said s n
   unfolding call_of
-  is-synthesis z = rw z refl
+  is_synthesis z = rw z refl
 
-  pub is-analysis : n.operation ≡ 2 → analysis s ≡ callSaid s n
+  pub is_analysis : n.operation ≡ 2 → analysis s ≡ call_said s n
   unfolding call_of
-  is-analysis z = rw z refl
+  is_analysis z = rw z refl
 
-  is-point : n.operation ≡ 3 → readPoint (record { 0 = n.h; 1 = n.k; 2 = n.l }) ≡ callSaid s n
+  is_point : n.operation ≡ 3 → read_point (record { 0 = n.h; 1 = n.k; 2 = n.l }) ≡ call_said s n
   unfolding call_of
-  is-point z = rw z refl
+  is_point z = rw z refl
 
-  is-map-power : n.operation ≡ 5 → readMapPower ≡ callSaid s n
+  is_map_power : n.operation ≡ 5 → read_map_power ≡ call_said s n
   unfolding call_of
-  is-map-power z = rw z refl
+  is_map_power z = rw z refl
 
-  is-factor-power : n.operation ≡ 6 → readFactorPower ≡ callSaid s n
+  is_factor_power : n.operation ≡ 6 → read_factor_power ≡ call_said s n
   unfolding call_of
-  is-factor-power z = rw z refl
+  is_factor_power z = rw z refl
 
 -- a call by its numbers is the script's
-pub call-in-script : (j : Job) (v s script : List ℕ) (i : ℕ) (n : CallNumbers) → n ≡ numbersAt script i → callStep j v s (callSaid s n) ≡ callStep j v s (call_at s script i)
-call-in-script j v s script i n e = ap (λ (m : CallNumbers). callStep j v s (callSaid s m)) e
+pub call_in_script : (j : Job) (v s script : List ℕ) (i : ℕ) (n : CallNumbers) → n ≡ numbers_at script i → call_step j v s (call_said s n) ≡ call_step j v s (call_at s script i)
+call_in_script j v s script i n e = ap (λ (m : CallNumbers). call_step j v s (call_said s m)) e
 
 -- ---- a reading or a power leaves job and volume
 
 abbrev reading : Said → Job → List ℕ → Outcome
 reading a j v = record { answer = a; job = j; volume = v }
 
-reading-keeps : (n : ℕ) (a : Said) (j : Job) (v : List ℕ) → reading (accepted n (reading a j v) (unchanged j v)).answer j v ≡ accepted n (reading a j v) (unchanged j v)
-reading-keeps zero a j v = refl
-reading-keeps (suc n) a j v = refl
+reading_keeps : (n : ℕ) (a : Said) (j : Job) (v : List ℕ) → reading (accepted n (reading a j v) (unchanged j v)).answer j v ≡ accepted n (reading a j v) (unchanged j v)
+reading_keeps zero a j v = refl
+reading_keeps (suc n) a j v = refl
 
 module _ (j : Job) (v : List ℕ) where
-  point-keeps : (x : GridPoint) → reading (pointStep j x v).answer j v ≡ pointStep j x v
-  unfolding pointStep
-  point-keeps x = reading-keeps (first (pointTests j (position x) v)) _ j v
+  point_keeps : (x : GridPoint) → reading (point_step j x v).answer j v ≡ point_step j x v
+  unfolding point_step
+  point_keeps x = reading_keeps (first (point_tests j (position x) v)) _ j v
 
-  factor-keeps : (k : Reflection) → reading (factorStep j k v).answer j v ≡ factorStep j k v
-  unfolding factorStep
-  factor-keeps k = reading-keeps (first (factorTests j (index k) v)) _ j v
+  factor_keeps : (k : Reflection) → reading (factor_step j k v).answer j v ≡ factor_step j k v
+  unfolding factor_step
+  factor_keeps k = reading_keeps (first (factor_tests j (index k) v)) _ j v
 
-  map-power-keeps : reading (mapPowerStep j v).answer j v ≡ mapPowerStep j v
-  unfolding mapPowerStep
-  map-power-keeps = reading-keeps (first (mapPowerTests j v)) _ j v
+  map_power_keeps : reading (map_power_step j v).answer j v ≡ map_power_step j v
+  unfolding map_power_step
+  map_power_keeps = reading_keeps (first (map_power_tests j v)) _ j v
 
-  factor-power-keeps : reading (factorPowerStep j v).answer j v ≡ factorPowerStep j v
-  unfolding factorPowerStep
-  factor-power-keeps = reading-keeps (first (factorPowerTests j v)) _ j v
+  factor_power_keeps : reading (factor_power_step j v).answer j v ≡ factor_power_step j v
+  unfolding factor_power_step
+  factor_power_keeps = reading_keeps (first (factor_power_tests j v)) _ j v
 
 -- ---- synthesis and analysis: an outcome that counts the scratch's length alone, and the scratch
 
 work : ℕ → (after : Outcome) → Job → (v scratch : List ℕ) → Worked
 work n after j v s = accepted n (record { outcome = after; scratch = cleared s }) (λ m. record { outcome = unchanged j v m; scratch = s })
 
-work-outcome : (n : ℕ) (after : Outcome) (j : Job) (v s : List ℕ) → (work n after j v s).outcome ≡ accepted n after (unchanged j v)
+work_outcome : (n : ℕ) (after : Outcome) (j : Job) (v s : List ℕ) → (work n after j v s).outcome ≡ accepted n after (unchanged j v)
 unfolding work
-work-outcome zero after j v s = refl
-work-outcome (suc n) after j v s = refl
+work_outcome zero after j v s = refl
+work_outcome (suc n) after j v s = refl
 
-work-scratch : (n : ℕ) (j' : Job) (v' : List ℕ) (j : Job) (v s : List ℕ) →
-    let w = work n (record { answer = done; job = j'; volume = v' }) j v s in w.scratch ≡ clearedIfDone w.outcome.answer s
+work_scratch : (n : ℕ) (j' : Job) (v' : List ℕ) (j : Job) (v s : List ℕ) →
+    let w = work n (record { answer = done; job = j'; volume = v' }) j v s in w.scratch ≡ cleared_if_done w.outcome.answer s
 unfolding work
-work-scratch zero j' v' j v s = refl
-work-scratch (suc n) j' v' j v s = refl
+work_scratch zero j' v' j v s = refl
+work_scratch (suc n) j' v' j v s = refl
 
 module _ (j : Job) (v : List ℕ) where
-  synthesis-outcome : (s : List ℕ) → (synthesisStep j v s).outcome ≡ accepted (first (synthesisTests j v (length s))) (record { answer = done; job = withState j mapHeld; volume = synthesised j v }) (unchanged j v)
-  unfolding synthesisStep work
-  synthesis-outcome s = work-outcome (first (synthesisTests j v (length s))) (record { answer = done; job = withState j mapHeld; volume = synthesised j v }) j v s
+  synthesis_outcome : (s : List ℕ) → (synthesis_step j v s).outcome ≡ accepted (first (synthesis_tests j v (length s))) (record { answer = done; job = with_state j map_held; volume = synthesised j v }) (unchanged j v)
+  unfolding synthesis_step work
+  synthesis_outcome s = work_outcome (first (synthesis_tests j v (length s))) (record { answer = done; job = with_state j map_held; volume = synthesised j v }) j v s
 
-  synthesis-scratch : (s : List ℕ) → (synthesisStep j v s).scratch ≡ clearedIfDone (synthesisStep j v s).outcome.answer s
-  unfolding synthesisStep work
-  synthesis-scratch s = work-scratch (first (synthesisTests j v (length s))) (withState j mapHeld) (synthesised j v) j v s
+  synthesis_scratch : (s : List ℕ) → (synthesis_step j v s).scratch ≡ cleared_if_done (synthesis_step j v s).outcome.answer s
+  unfolding synthesis_step work
+  synthesis_scratch s = work_scratch (first (synthesis_tests j v (length s))) (with_state j map_held) (synthesised j v) j v s
 
-  analysis-outcome : (s : List ℕ) → (analysisStep j v s).outcome ≡ accepted (first (analysisTests j v (length s))) (record { answer = done; job = withState j factorsHeld; volume = analysed j v }) (unchanged j v)
-  unfolding analysisStep work
-  analysis-outcome s = work-outcome (first (analysisTests j v (length s))) (record { answer = done; job = withState j factorsHeld; volume = analysed j v }) j v s
+  analysis_outcome : (s : List ℕ) → (analysis_step j v s).outcome ≡ accepted (first (analysis_tests j v (length s))) (record { answer = done; job = with_state j factors_held; volume = analysed j v }) (unchanged j v)
+  unfolding analysis_step work
+  analysis_outcome s = work_outcome (first (analysis_tests j v (length s))) (record { answer = done; job = with_state j factors_held; volume = analysed j v }) j v s
 
-  analysis-scratch : (s : List ℕ) → (analysisStep j v s).scratch ≡ clearedIfDone (analysisStep j v s).outcome.answer s
-  unfolding analysisStep work
-  analysis-scratch s = work-scratch (first (analysisTests j v (length s))) (withState j factorsHeld) (analysed j v) j v s
+  analysis_scratch : (s : List ℕ) → (analysis_step j v s).scratch ≡ cleared_if_done (analysis_step j v s).outcome.answer s
+  unfolding analysis_step work
+  analysis_scratch s = work_scratch (first (analysis_tests j v (length s))) (with_state j factors_held) (analysed j v) j v s
 
   -- scratches of one length give one outcome
-  pub synthesis-by-length : (s s' : List ℕ) → length s ≡ length s' → (synthesisStep j v s).outcome ≡ (synthesisStep j v s').outcome
-  synthesis-by-length s s' e = synthesis-outcome s ∙ rw e (sym (synthesis-outcome s'))
+  pub synthesis_by_length : (s s' : List ℕ) → length s ≡ length s' → (synthesis_step j v s).outcome ≡ (synthesis_step j v s').outcome
+  synthesis_by_length s s' e = synthesis_outcome s ∙ rw e (sym (synthesis_outcome s'))
 
-  pub analysis-by-length : (s s' : List ℕ) → length s ≡ length s' → (analysisStep j v s).outcome ≡ (analysisStep j v s').outcome
-  analysis-by-length s s' e = analysis-outcome s ∙ rw e (sym (analysis-outcome s'))
+  pub analysis_by_length : (s s' : List ℕ) → length s ≡ length s' → (analysis_step j v s).outcome ≡ (analysis_step j v s').outcome
+  analysis_by_length s s' e = analysis_outcome s ∙ rw e (sym (analysis_outcome s'))
 
   -- so every call may be said with another scratch of the same length
-  pub call-by-length : (t s s' : List ℕ) (o h k l x y : ℕ) → length s ≡ length s' → callStep j v t (call_of s o h k l x y) ≡ callStep j v t (call_of s' o h k l x y)
-  unfolding call_of callStep
-  call-by-length t s s' zero h k l x y e = refl
-  call-by-length t s s' (suc zero) h k l x y e = rw (synthesis-by-length s s' e)
-  call-by-length t s s' (suc (suc zero)) h k l x y e = rw (analysis-by-length s s' e)
-  call-by-length t s s' (suc (suc (suc zero))) h k l x y e = refl
-  call-by-length t s s' (suc (suc (suc (suc zero)))) h k l x y e = refl
-  call-by-length t s s' (suc (suc (suc (suc (suc zero))))) h k l x y e = refl
-  call-by-length t s s' (suc (suc (suc (suc (suc (suc zero)))))) h k l x y e = refl
-  call-by-length t s s' (suc (suc (suc (suc (suc (suc (suc o))))))) h k l x y e = refl
+  pub call_by_length : (t s s' : List ℕ) (o h k l x y : ℕ) → length s ≡ length s' → call_step j v t (call_of s o h k l x y) ≡ call_step j v t (call_of s' o h k l x y)
+  unfolding call_of call_step
+  call_by_length t s s' zero h k l x y e = refl
+  call_by_length t s s' (suc zero) h k l x y e = rw (synthesis_by_length s s' e)
+  call_by_length t s s' (suc (suc zero)) h k l x y e = rw (analysis_by_length s s' e)
+  call_by_length t s s' (suc (suc (suc zero))) h k l x y e = refl
+  call_by_length t s s' (suc (suc (suc (suc zero)))) h k l x y e = refl
+  call_by_length t s s' (suc (suc (suc (suc (suc zero))))) h k l x y e = refl
+  call_by_length t s s' (suc (suc (suc (suc (suc (suc zero)))))) h k l x y e = refl
+  call_by_length t s s' (suc (suc (suc (suc (suc (suc (suc o))))))) h k l x y e = refl
 
 -- ---- each of the seven calls
 
 module _ (j : Job) (v : List ℕ) (r : Called) where
   -- a call whose job and volume are an outcome's, said as numbers
-  of-outcome : (o : Outcome) (c : Call) (s s' : List ℕ) → o ≡ step j v c → r.reply ≡ replyOf o.answer → r.job ≡ o.job → s' ≡ scratchLeft c (step j v c).answer s →
-      callOutcome r o.volume s' ≡ callStep j v s c
-  unfolding callStep
-  of-outcome o c s s' e a b t =
-      let p = a ∙ ap (λ (q : Outcome). replyOf q.answer) e in
+  of_outcome : (o : Outcome) (c : Call) (s s' : List ℕ) → o ≡ step j v c → r.reply ≡ reply_of o.answer → r.job ≡ o.job → s' ≡ scratch_left c (step j v c).answer s →
+      call_outcome r o.volume s' ≡ call_step j v s c
+  unfolding call_step
+  of_outcome o c s s' e a b t =
+      let p = a ∙ ap (λ (q : Outcome). reply_of q.answer) e in
       let d = b ∙ ap (λ (q : Outcome). q.job) e in
       λ i. record { reply = p i; job = d i; volume = (e i).volume; scratch = t i }
 
-  module _ (a : Answered) (v' : List ℕ) (says : r.reply ≡ replyOf (said a.answer)) (goes : r.job ≡ a.job) where
-    pub call-record : (s : List ℕ) (n : CallNumbers) → n.operation ≡ 0 → outcome a v' ≡ recordStep j (record { 0 = n.h; 1 = n.k; 2 = n.l }) n.x n.y v → callOutcome r v' s ≡ callStep j v s (callSaid s n)
+  module _ (a : Answered) (v' : List ℕ) (says : r.reply ≡ reply_of (said a.answer)) (goes : r.job ≡ a.job) where
+    pub call_record : (s : List ℕ) (n : CallNumbers) → n.operation ≡ 0 → outcome a v' ≡ record_step j (record { 0 = n.h; 1 = n.k; 2 = n.l }) n.x n.y v → call_outcome r v' s ≡ call_step j v s (call_said s n)
     unfolding call_of
-    call-record s n z e =
-        of-outcome (outcome a v') (recording (record { 0 = n.h; 1 = n.k; 2 = n.l }) n.x n.y) s s e says goes refl
+    call_record s n z e =
+        of_outcome (outcome a v') (recording (record { 0 = n.h; 1 = n.k; 2 = n.l }) n.x n.y) s s e says goes refl
         ∙ rw z refl
 
-    pub call-synthesis : (s s' : List ℕ) → worked a v' s' ≡ synthesisStep j v s → callOutcome r v' s' ≡ callStep j v s (synthesis s)
-    call-synthesis s s' e = of-outcome (outcome a v') (synthesis s) s s' (ap (λ (w : Worked). w.outcome) e) says goes (ap (λ (w : Worked). w.scratch) e ∙ synthesis-scratch j v s)
+    pub call_synthesis : (s s' : List ℕ) → worked a v' s' ≡ synthesis_step j v s → call_outcome r v' s' ≡ call_step j v s (synthesis s)
+    call_synthesis s s' e = of_outcome (outcome a v') (synthesis s) s s' (ap (λ (w : Worked). w.outcome) e) says goes (ap (λ (w : Worked). w.scratch) e ∙ synthesis_scratch j v s)
 
-    pub call-analysis : (s s' : List ℕ) → worked a v' s' ≡ analysisStep j v s → callOutcome r v' s' ≡ callStep j v s (analysis s)
-    call-analysis s s' e = of-outcome (outcome a v') (analysis s) s s' (ap (λ (w : Worked). w.outcome) e) says goes (ap (λ (w : Worked). w.scratch) e ∙ analysis-scratch j v s)
+    pub call_analysis : (s s' : List ℕ) → worked a v' s' ≡ analysis_step j v s → call_outcome r v' s' ≡ call_step j v s (analysis s)
+    call_analysis s s' e = of_outcome (outcome a v') (analysis s) s s' (ap (λ (w : Worked). w.outcome) e) says goes (ap (λ (w : Worked). w.scratch) e ∙ analysis_scratch j v s)
 
-  module _ (a : Said) (says : r.reply ≡ replyOf a) (goes : r.job ≡ j) (s : List ℕ) (n : CallNumbers) where
-    read : (c : Call) → c ≡ callSaid s n → reading (step j v c).answer j v ≡ step j v c → s ≡ scratchLeft c (step j v c).answer s → a ≡ (step j v c).answer → callOutcome r v s ≡ callStep j v s (callSaid s n)
-    read c is keeps same e = of-outcome (reading a j v) c s s (ap (λ (b : Said). reading b j v) e ∙ keeps) says goes same ∙ ap (callStep j v s) is
+  module _ (a : Said) (says : r.reply ≡ reply_of a) (goes : r.job ≡ j) (s : List ℕ) (n : CallNumbers) where
+    read : (c : Call) → c ≡ call_said s n → reading (step j v c).answer j v ≡ step j v c → s ≡ scratch_left c (step j v c).answer s → a ≡ (step j v c).answer → call_outcome r v s ≡ call_step j v s (call_said s n)
+    read c is keeps same e = of_outcome (reading a j v) c s s (ap (λ (b : Said). reading b j v) e ∙ keeps) says goes same ∙ ap (call_step j v s) is
 
-    pub call-point : n.operation ≡ 3 → a ≡ (pointStep j (record { 0 = n.h; 1 = n.k; 2 = n.l }) v).answer → callOutcome r v s ≡ callStep j v s (callSaid s n)
-    call-point z e = read _ (is-point s n z) (point-keeps j v _) refl e
+    pub call_point : n.operation ≡ 3 → a ≡ (point_step j (record { 0 = n.h; 1 = n.k; 2 = n.l }) v).answer → call_outcome r v s ≡ call_step j v s (call_said s n)
+    call_point z e = read _ (is_point s n z) (point_keeps j v _) refl e
 
-    pub call-factor : (4 ≤ n.operation) × (n.operation ≡ 5 → ⊥) × (n.operation ≡ 6 → ⊥) → a ≡ (factorStep j (record { 0 = n.h; 1 = n.k; 2 = n.l }) v).answer → callOutcome r v s ≡ callStep j v s (callSaid s n)
-    call-factor z e = read _ (call-other s _ _ _ _ _ _ z.0 z.1 z.2) (factor-keeps j v _) refl e
+    pub call_factor : (4 ≤ n.operation) × (n.operation ≡ 5 → ⊥) × (n.operation ≡ 6 → ⊥) → a ≡ (factor_step j (record { 0 = n.h; 1 = n.k; 2 = n.l }) v).answer → call_outcome r v s ≡ call_step j v s (call_said s n)
+    call_factor z e = read _ (call_other s _ _ _ _ _ _ z.0 z.1 z.2) (factor_keeps j v _) refl e
 
-    pub call-map-power : n.operation ≡ 5 → a ≡ (mapPowerStep j v).answer → callOutcome r v s ≡ callStep j v s (callSaid s n)
-    call-map-power z e = read readMapPower (is-map-power s n z) (map-power-keeps j v) refl e
+    pub call_map_power : n.operation ≡ 5 → a ≡ (map_power_step j v).answer → call_outcome r v s ≡ call_step j v s (call_said s n)
+    call_map_power z e = read read_map_power (is_map_power s n z) (map_power_keeps j v) refl e
 
-    pub call-factor-power : n.operation ≡ 6 → a ≡ (factorPowerStep j v).answer → callOutcome r v s ≡ callStep j v s (callSaid s n)
-    call-factor-power z e = read readFactorPower (is-factor-power s n z) (factor-power-keeps j v) refl e
+    pub call_factor_power : n.operation ≡ 6 → a ≡ (factor_power_step j v).answer → call_outcome r v s ≡ call_step j v s (call_said s n)
+    call_factor_power z e = read read_factor_power (is_factor_power s n z) (factor_power_keeps j v) refl e

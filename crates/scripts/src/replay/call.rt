@@ -1,6 +1,6 @@
 // One call of a script: its six numbers told apart by the first, the job's call that they stand for, and the answer as three numbers.
 ghost use Rattle.std.specs.Prelude.{◌≡◌, ◌+◌, ◌*◌, ◌≤◌, length};
-ghost use Rattle.scripts.specs.Script.{synthesis, analysis, call_at, callStep, callOutcome};
+ghost use Rattle.scripts.specs.Script.{synthesis, analysis, call_at, call_step, call_outcome};
 
 use crate::calls::Called;
 use job::Job;
@@ -14,8 +14,8 @@ pub fn call_at(
     scratch: &mut [u32],
 ) -> Called
     requires { 6 * i + 6 ≤ length script.now }
-    ensures { callOutcome result volume.new scratch.new
-        ≡ callStep job volume.old scratch.old
+    ensures { call_outcome result volume.new scratch.new
+        ≡ call_step job volume.old scratch.old
         (call_at scratch.old script.now i) }
 {
     let numbers = crate::layout::numbers_at(script, i);
@@ -32,15 +32,15 @@ pub fn call_at(
 }
 
 fn synthesis_call(job: Job, volume: &mut [u32], scratch: &mut [u32]) -> Called
-    ensures { callOutcome result volume.new scratch.new
-        ≡ callStep job volume.old scratch.old (synthesis scratch.old) }
+    ensures { call_outcome result volume.new scratch.new
+        ≡ call_step job volume.old scratch.old (synthesis scratch.old) }
 {
     crate::calls::of_answered(job.synthesis(volume, scratch))
 }
 
 fn analysis_call(job: Job, volume: &mut [u32], scratch: &mut [u32]) -> Called
-    ensures { callOutcome result volume.new scratch.new
-        ≡ callStep job volume.old scratch.old (analysis scratch.old) }
+    ensures { call_outcome result volume.new scratch.new
+        ≡ call_step job volume.old scratch.old (analysis scratch.old) }
 {
     crate::calls::of_answered(job.analysis(volume, scratch))
 }

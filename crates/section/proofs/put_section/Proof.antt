@@ -7,30 +7,30 @@ use native.Mathlib.Omega.{arith}
 use mir.Syntax.{w64}
 use mir.Val.{to_z, of_z}
 use mir.ValLaws.{to_z-of_z}
-use Rattle.cell.specs.Operations.{cellLengths}
+use Rattle.cell.specs.Operations.{cell_lengths}
 use Rattle.output.specs.Output.{each}
 use Rattle.output.specs.Written.{Ends}
-use Rattle.output.proofs.Writing.{wrote-append, wrote_as, ends_as, ends-left, ends-right}
-use Rattle.section.specs.Section.{sectionLine, row_lines, closingText, sectionText}
-use Rattle.section.proofs.Outcomes.{page-ends, points-few}
+use Rattle.output.proofs.Writing.{wrote_append, wrote_as, ends_as, ends_left, ends_right}
+use Rattle.section.specs.Section.{section_line, row_lines, closing_text, section_text}
+use Rattle.section.proofs.Outcomes.{page_ends, points_few}
 use Rattle.section.proofs.put_section.Statement.{statement}
 use Rattle.section.proofs.put_section.Tie as tie
 
 abbrev rows : tie.Start → List ℕ
-rows s = each s.args.cell.n1 (λ x. each (row_lines (cellLengths s.args.cell)) (λ i. sectionLine s.args.cell.group (cellLengths s.args.cell) s.args.map.now s.args.z x i))
+rows s = each s.args.cell.n1 (λ x. each (row_lines (cell_lengths s.args.cell)) (λ i. section_line s.args.cell.group (cell_lengths s.args.cell) s.args.map.now s.args.z x i))
 
 -- the closing lines with the total as the machine keeps it
 abbrev closing : tie.After-plane-total → List ℕ
-closing c = let s = c.before.before in closingText (to_z w64 (of_z w64 c.plane-total.result)) (s.args.cell.n1 * s.args.cell.n2)
+closing c = let s = c.before.before in closing_text (to_z w64 (of_z w64 c.plane-total.result)) (s.args.cell.n1 * s.args.cell.n2)
 
-text : (c : tie.After-plane-total) → let s = c.before.before in rows s ++ closing c ≡ sectionText s.args.cell.group (cellLengths s.args.cell) s.args.map.now s.args.z
-unfolding sectionText
+text : (c : tie.After-plane-total) → let s = c.before.before in rows s ++ closing c ≡ section_text s.args.cell.group (cell_lengths s.args.cell) s.args.map.now s.args.z
+unfolding section_text
 text c =
     let s = c.before.before in
-    ap (λ t. rows s ++ closingText t (s.args.cell.n1 * s.args.cell.n2)) (to_z-of_z w64 _ (record { sfits = c.plane-total.type-inv }) ∙ c.plane-total.ensures)
+    ap (λ t. rows s ++ closing_text t (s.args.cell.n1 * s.args.cell.n2)) (to_z-of_z w64 _ (record { sfits = c.plane-total.type-inv }) ∙ c.plane-total.ensures)
 
 ends : (c : tie.After-plane-total) → Ends 0 (rows c.before.before ++ closing c)
-ends c = let s = c.before.before in ends_as (page-ends s.args.cell s.args.map.now s.args.z s.requires) (sym (text c))
+ends c = let s = c.before.before in ends_as (page_ends s.args.cell s.args.map.now s.args.z s.requires) (sym (text c))
 
 plane-total-requires : tie.Need-plane-total-requires
 plane-total-requires c κs = search rules
@@ -42,20 +42,20 @@ cast-points-2 : tie.Need-overflow-cast-points-2
 cast-points-2 c = search rules
 
 mul-points : tie.Need-overflow-mul-points
-mul-points c = let s = c.before.before.before.before in omega (arith, (points-few s.args.cell s.args.map.now s.args.z s.requires).1)
+mul-points c = let s = c.before.before.before.before in omega (arith, (points_few s.args.cell s.args.map.now s.args.z s.requires).1)
 
 put-rows-requires : tie.Need-put-rows-requires
 put-rows-requires c κs =
     let t = c.before.before.before in
     let s = t.before.before in
-    (s.requires.plane, ends-left (rows s) (closing t) (ends t))
+    (s.requires.plane, ends_left (rows s) (closing t) (ends t))
 
 put-closing-requires : tie.Need-put-closing-requires
 put-closing-requires c κs =
     let w = c.before.before.before in
     let t = w.before.before.before.before in
     let s = t.before.before in
-    (points-few s.args.cell s.args.map.now s.args.z s.requires, ends-right (closing t) w.put-rows.ensures (ends t))
+    (points_few s.args.cell s.args.map.now s.args.z s.requires, ends_right (closing t) w.put-rows.ensures (ends t))
 
 same_length : tie.Need-same-length
 same_length c = search rules
@@ -64,10 +64,10 @@ returns : tie.Need-returns
 returns c =
     let k = c.before.before in
     let w = k.before.before.before.before in
-    wrote_as (wrote-append w.put-rows.ensures k.put-closing.ensures) (text w.before.before.before.before)
+    wrote_as (wrote_append w.put-rows.ensures k.put-closing.ensures) (text w.before.before.before.before)
 
-pub put-section-spec : {M : Type 1} → statement M
-put-section-spec =
+pub put_section_spec : {M : Type 1} → statement M
+put_section_spec =
     tie.close
     (tie.spec
     plane-total-requires

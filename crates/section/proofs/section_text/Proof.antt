@@ -3,10 +3,10 @@ use borrow.Author.Rules.{rules}
 use mathlib.Core.Path.{sym, ap, ◌∙◌}
 use lib.ListN.{length}
 use Rattle.cell.specs.declared.operations.UnitCell.{UnitCell}
-use Rattle.cell.specs.Operations.{cellLengths}
-use Rattle.refusals.specs.Checks.{checkedNumber}
+use Rattle.cell.specs.Operations.{cell_lengths}
+use Rattle.refusals.specs.Checks.{checked_number}
 use Rattle.section.specs.SectionLaws.{Accepted}
-use Rattle.section.proofs.Outcomes.{sound-of, section-refused, section-written}
+use Rattle.section.proofs.Outcomes.{sound_of, section_refused, section_written}
 use Rattle.section.proofs.section_text.Statement.{statement}
 use Rattle.section.proofs.section_text.Tie as tie
 
@@ -14,8 +14,8 @@ abbrev cell : tie.Start → UnitCell
 cell s = record { group = s.args.group; n1 = s.args.n1; n2 = s.args.n2; n3 = s.args.n3 }
 
 -- no test holds
-none : (c : tie.After-enum-told) → let s = c.before.before.before.before in Accepted s.args.group (cellLengths (cell s)) s.args.map.now s.args.z (length s.args.out.now)
-none c = ap checkedNumber (sym c.enum_told.given.1) ∙ c.before.before.check-section.ensures
+none : (c : tie.After-enum-told) → let s = c.before.before.before.before in Accepted s.args.group (cell_lengths (cell s)) s.args.map.now s.args.z (length s.args.out.now)
+none c = ap checked_number (sym c.enum_told.given.1) ∙ c.before.before.check-section.ensures
 
 check-section-requires : tie.Need-check-section-requires
 check-section-requires c κs = search rules
@@ -27,13 +27,13 @@ enum_told : tie.Need-enum-told
 enum_told c = search rules
 
 put-section-requires : tie.Need-put-section-requires
-put-section-requires c κs = let t = c.before in let s = t.before.before.before.before in sound-of (cell s) s.args.map.now s.args.z (length s.args.out.now) (none t)
+put-section-requires c κs = let t = c.before in let s = t.before.before.before.before in sound_of (cell s) s.args.map.now s.args.z (length s.args.out.now) (none t)
 
 returns : tie.Need-returns
 returns c =
     let k = c.before.before.before in
     let s = k.before.before in
-    section-refused (cell s) s.args.map.now s.args.z s.args.out.now c.before.checked.given.0.0 (ap checkedNumber (sym c.before.checked.given.1) ∙ k.check-section.ensures)
+    section_refused (cell s) s.args.map.now s.args.z s.args.out.now c.before.checked.given.0.0 (ap checked_number (sym c.before.checked.given.1) ∙ k.check-section.ensures)
 
 same_length : tie.Need-same-length
 same_length c = search rules
@@ -43,10 +43,10 @@ returns-2 c =
     let w = c.before.before in
     let t = w.before.before in
     let s = t.before.before.before.before in
-    section-written (cell s) s.args.map.now s.args.z s.args.out.now (none t) w.put-section.ensures
+    section_written (cell s) s.args.map.now s.args.z s.args.out.now (none t) w.put-section.ensures
 
-pub section-text-spec : {M : Type 1} → statement M
-section-text-spec =
+pub section_text_spec : {M : Type 1} → statement M
+section_text_spec =
     tie.close
     (tie.spec
     check-section-requires

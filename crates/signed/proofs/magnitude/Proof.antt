@@ -10,7 +10,7 @@ use lib.Signed.{lt_z, non_neg}
 use mir.Syntax.{w64}
 use mir.Val.{Fits, SFits, to_z, of_z}
 use mir.ValLaws.{to_z-of_z}
-use Rattle.signed.proofs.Machine.{Flip, flip, abs-plain}
+use Rattle.signed.proofs.Machine.{Flip, flip, abs_plain}
 use Rattle.signed.proofs.magnitude.Statement.{statement}
 use Rattle.signed.proofs.magnitude.Tie as tie
 
@@ -37,7 +37,7 @@ cast-result-2 : tie.Need-overflow-cast-result-2
 cast-result-2 c =
     let x = c.before.args.x in
     let e = to_z-of_z w64 x c.before.ranges.x in
-    subst (λ z. T (non_neg z) × Fits w64 (nat_abs z)) (sym e) (abs-plain x c.before.ranges.x (subst (λ z. lt_z z (pos 0) ≡ false) e c.if1.false))
+    subst (λ z. T (non_neg z) × Fits w64 (nat_abs z)) (sym e) (abs_plain x c.before.ranges.x (subst (λ z. lt_z z (pos 0) ≡ false) e c.if1.false))
 
 returns : tie.Need-returns
 returns c = ap (λ z. nat_abs z + 1) (kept c) ∙ (known c).abs
@@ -45,6 +45,6 @@ returns c = ap (λ z. nat_abs z + 1) (kept c) ∙ (known c).abs
 returns-2 : tie.Need-returns-2
 returns-2 c = search rules
 
-pub magnitude-spec : {M : Type 1} → statement M
-magnitude-spec =
+pub magnitude_spec : {M : Type 1} → statement M
+magnitude_spec =
     tie.close (tie.spec sub-y cast-result add-result cast-result-2 returns returns-2)

@@ -2,7 +2,7 @@
 use Prim.Native.Nat.{◌-◌}
 use Rattle.slices.specs.Pairs.{at}
 use Rattle.slices.specs.Filling.{FillingPairs}
-use Rattle.slices.proofs.Filling.{filling-next}
+use Rattle.slices.proofs.Filling.{filling_next}
 use Rattle.slices.proofs.Sets.{fill}
 use Rattle.slices.proofs.copy.Statement.{statement}
 use Rattle.slices.proofs.copy.Tie as tie
@@ -32,7 +32,7 @@ loop-again : tie.Need-loop-preserved invariant-loop decreases-loop
 loop-again c =
     let s = c.before.before in
     let t = s.before.before.before in
-    filling-next t.before.loop.invariant t.loop-test.true s.store.ensures s.before.get.ensures
+    filling_next t.before.loop.invariant t.loop-test.true s.store.ensures s.before.get.ensures
 
 same_length : tie.Need-same-length invariant-loop decreases-loop
 same_length c = search fill

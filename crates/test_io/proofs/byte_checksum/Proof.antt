@@ -39,8 +39,8 @@ cast-result c = omega arith
 returns : tie.Need-returns invariant-loop decreases-loop
 returns c = omega arith
 
-pub byte-checksum-spec : {M : Type 1} → statement M
-byte-checksum-spec =
+pub byte_checksum_spec : {M : Type 1} → statement M
+byte_checksum_spec =
     tie.close
     (tie.spec
     invariant-loop

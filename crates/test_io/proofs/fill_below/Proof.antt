@@ -51,8 +51,8 @@ same_length c = omega arith
 returns : tie.Need-returns invariant-loop decreases-loop
 returns c = λ k h. c.before.loop.invariant.3 k (omega arith)
 
-pub fill-below-spec : {M : Type 1} → statement M
-fill-below-spec =
+pub fill_below_spec : {M : Type 1} → statement M
+fill_below_spec =
     tie.close
     (tie.spec
     invariant-loop

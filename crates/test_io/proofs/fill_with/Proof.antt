@@ -5,7 +5,7 @@ use mathlib.Core.List.{List, ◌++◌}
 use Prim.Native.Nat.{ℕ, ◌≤◌, ◌-◌}
 use lib.ListN.{length, replicate, drop, set, length-set}
 use borrow.Author.Fill.{fill_none, fill_more}
-use Rattle.test_io.proofs.Stored.{filled-whole}
+use Rattle.test_io.proofs.Stored.{filled_whole}
 use Rattle.test_io.proofs.fill_with.Statement.{statement}
 use Rattle.test_io.proofs.fill_with.Tie as tie
 
@@ -47,10 +47,10 @@ returns c =
     let l = c.before in
     let a = l.before.args in
     let e : l.loop.j ≡ length a.v.now = omega arith in
-    l.loop.invariant.2 ∙ ap (λ (k : ℕ). replicate k a.x ++ drop k a.v.now) e ∙ filled-whole a.x a.v.now
+    l.loop.invariant.2 ∙ ap (λ (k : ℕ). replicate k a.x ++ drop k a.v.now) e ∙ filled_whole a.x a.v.now
 
-pub fill-with-spec : {M : Type 1} → statement M
-fill-with-spec =
+pub fill_with_spec : {M : Type 1} → statement M
+fill_with_spec =
     tie.close
     (tie.spec
     invariant-loop

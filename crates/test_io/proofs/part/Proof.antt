@@ -29,5 +29,5 @@ returns c =
     let e : (a.start + m.at_most.result) - a.start ≡ min a.count a.most = omega (arith, m.at_most.ensures.0) in
     ap (λ (n : ℕ). take n (drop a.start a.c.now)) e
 
-pub part-spec : {M : Type 1} → statement M
-part-spec = tie.close (tie.spec at-most-requires add-end sub-result part-result-start part-result-end returns)
+pub part_spec : {M : Type 1} → statement M
+part_spec = tie.close (tie.spec at-most-requires add-end sub-result part-result-start part-result-end returns)

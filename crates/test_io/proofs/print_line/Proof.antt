@@ -42,8 +42,8 @@ write-all-requires c κs = search rules
 returns : tie.Need-returns invariant-loop decreases-loop
 returns c = omega arith
 
-pub print-line-spec : {M : Type 1} → statement M
-print-line-spec =
+pub print_line_spec : {M : Type 1} → statement M
+print_line_spec =
     tie.close
     (tie.spec
     invariant-loop

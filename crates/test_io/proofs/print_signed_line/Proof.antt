@@ -18,9 +18,9 @@ loop-holds c = omega arith
 mul-print-next-signed : tie.Need-overflow-mul-print-next-signed invariant-loop decreases-loop
 mul-print-next-signed c = omega arith
 
-shared-slice-copy-out-print-next-signed :
+shared_slice_copy_out_print_next_signed :
     tie.Need-shared-slice-copy-out-print-next-signed invariant-loop decreases-loop
-shared-slice-copy-out-print-next-signed c = omega arith
+shared_slice_copy_out_print_next_signed c = omega arith
 
 print-next-signed-requires : tie.Need-print-next-signed-requires invariant-loop decreases-loop
 print-next-signed-requires c κs = search rules
@@ -43,15 +43,15 @@ write-all-requires c κs = search rules
 returns : tie.Need-returns invariant-loop decreases-loop
 returns c = omega arith
 
-pub print-signed-line-spec : {M : Type 1} → statement M
-print-signed-line-spec =
+pub print_signed_line_spec : {M : Type 1} → statement M
+print_signed_line_spec =
     tie.close
     (tie.spec
     invariant-loop
     decreases-loop
     loop-holds
     mul-print-next-signed
-    shared-slice-copy-out-print-next-signed
+    shared_slice_copy_out_print_next_signed
     print-next-signed-requires
     add-j
     loop-less

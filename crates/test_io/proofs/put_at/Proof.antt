@@ -20,5 +20,5 @@ returns c = search rules
 returns-2 : tie.Need-returns-2
 returns-2 c = let a = c.before.args in sym (set_out a.v.now a.place a.x c.if1.false)
 
-pub put-at-spec : {M : Type 1} → statement M
-put-at-spec = tie.close (tie.spec mul-v slice-write-v same_length returns returns-2)
+pub put_at_spec : {M : Type 1} → statement M
+put_at_spec = tie.close (tie.spec mul-v slice-write-v same_length returns returns-2)

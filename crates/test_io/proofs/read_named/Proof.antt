@@ -49,8 +49,8 @@ same_length c = omega arith
 returns : tie.Need-returns invariant-loop decreases-loop
 returns c = search rules
 
-pub read-named-spec : {M : Type 1} → statement M
-read-named-spec =
+pub read_named_spec : {M : Type 1} → statement M
+read_named_spec =
     tie.close
     (tie.spec
     invariant-loop

@@ -11,40 +11,40 @@ use Rattle.algebra.specs.cells.Cell.{J, Group}
 use Rattle.algebra.specs.cells.CellPack.{even}
 use Rattle.numbers.specs.declared.Pair.{Pair}
 use Rattle.slices.specs.Pairs.{put}
-use Rattle.cell.specs.Volume.{lineKind, pairPlace}
-use Rattle.cell.specs.Consistency.{writeAlternating, writeLine, write}
+use Rattle.cell.specs.Volume.{line_kind, pair_place}
+use Rattle.cell.specs.Consistency.{write_alternating, write_line, write}
 
 module _ (g : Group) (a : J) (v : List ℕ) (h k l : ℕ) (x : Pair) where
-  pub first-written : l ≡ 0 → {q : ℕ} → q ≡ pairPlace g a 0 h k → set v (2 * q) x.re ≡ writeAlternating g a v h k l x
-  unfolding writeAlternating
-  first-written z e = rw (eq-eqb l 0 z) (ap (λ q. set v (2 * q) x.re) e)
+  pub first_written : l ≡ 0 → {q : ℕ} → q ≡ pair_place g a 0 h k → set v (2 * q) x.re ≡ write_alternating g a v h k l x
+  unfolding write_alternating
+  first_written z e = rw (eq-eqb l 0 z) (ap (λ q. set v (2 * q) x.re) e)
 
-  pub second-written : (l ≡ 0 → ⊥) → l ≡ a.2 → {q y : ℕ} → q ≡ pairPlace g a 0 h k → y ≡ cond (even a.2) x.re x.im → set v (2 * q + 1) y ≡ writeAlternating g a v h k l x
-  unfolding writeAlternating
-  second-written y z e f = rw (ne_eqb l 0 y, eq-eqb l a.2 z) (ap₂ (λ q y. set v (2 * q + 1) y) e (f ∙ ap (λ l. cond (even l) x.re x.im) (sym z)))
+  pub second_written : (l ≡ 0 → ⊥) → l ≡ a.2 → {q y : ℕ} → q ≡ pair_place g a 0 h k → y ≡ cond (even a.2) x.re x.im → set v (2 * q + 1) y ≡ write_alternating g a v h k l x
+  unfolding write_alternating
+  second_written y z e f = rw (ne_eqb l 0 y, eq-eqb l a.2 z) (ap₂ (λ q y. set v (2 * q + 1) y) e (f ∙ ap (λ l. cond (even l) x.re x.im) (sym z)))
 
-  pub pair-written : (l ≡ 0 → ⊥) → (l ≡ a.2 → ⊥) → {q : ℕ} {w : List ℕ} → q ≡ pairPlace g a l h k → w ≡ put v q x → w ≡ writeAlternating g a v h k l x
-  unfolding writeAlternating
-  pair-written y z e f = rw (ne_eqb l 0 y, ne_eqb l a.2 z) (f ∙ ap (λ q. put v q x) e)
+  pub pair_written : (l ≡ 0 → ⊥) → (l ≡ a.2 → ⊥) → {q : ℕ} {w : List ℕ} → q ≡ pair_place g a l h k → w ≡ put v q x → w ≡ write_alternating g a v h k l x
+  unfolding write_alternating
+  pair_written y z e f = rw (ne_eqb l 0 y, ne_eqb l a.2 z) (f ∙ ap (λ q. put v q x) e)
 
 -- a line that is not alternating gets a pair, but not at the ends of an antisymmetric one
-other-line : (g : Group) (a : J) (v : List ℕ) (j : J) (x : Pair) (K : Kind) → (K ≡ alternating → ⊥) → (K ≡ antisymmetric → (eqb j.2 0 || eqb j.2 a.2) ≡ false) → put v (pairPlace g a j.2 j.0 j.1) x ≡ writeLine g a K v j x
-other-line g a v j x plain z y = refl
-other-line g a v j x hermitian z y = refl
-other-line g a v j x antihermitian z y = refl
-other-line g a v j x alternating z y = absurd (z refl)
-other-line g a v j x symmetric z y = refl
-other-line g a v j x antisymmetric z y = rw (y refl) refl
+other_line : (g : Group) (a : J) (v : List ℕ) (j : J) (x : Pair) (K : Kind) → (K ≡ alternating → ⊥) → (K ≡ antisymmetric → (eqb j.2 0 || eqb j.2 a.2) ≡ false) → put v (pair_place g a j.2 j.0 j.1) x ≡ write_line g a K v j x
+other_line g a v j x plain z y = refl
+other_line g a v j x hermitian z y = refl
+other_line g a v j x antihermitian z y = refl
+other_line g a v j x alternating z y = absurd (z refl)
+other_line g a v j x symmetric z y = refl
+other_line g a v j x antisymmetric z y = rw (y refl) refl
 
 module _ (g : Group) (a : J) (v : List ℕ) (j : J) (x : Pair) {w : List ℕ} where
-  pub alternating-written : lineKind g j.0 ≡ alternating → w ≡ writeAlternating g a v j.0 j.1 j.2 x → w ≡ write g a v j x
+  pub alternating_written : line_kind g j.0 ≡ alternating → w ≡ write_alternating g a v j.0 j.1 j.2 x → w ≡ write g a v j x
   unfolding write
-  alternating-written e f = rw e f
+  alternating_written e f = rw e f
 
-  pub factor-written : (lineKind g j.0 ≡ alternating → ⊥) → (lineKind g j.0 ≡ antisymmetric → (eqb j.2 0 || eqb j.2 a.2) ≡ false) → {q : ℕ} → q ≡ pairPlace g a j.2 j.0 j.1 → w ≡ put v q x → w ≡ write g a v j x
+  pub factor_written : (line_kind g j.0 ≡ alternating → ⊥) → (line_kind g j.0 ≡ antisymmetric → (eqb j.2 0 || eqb j.2 a.2) ≡ false) → {q : ℕ} → q ≡ pair_place g a j.2 j.0 j.1 → w ≡ put v q x → w ≡ write g a v j x
   unfolding write
-  factor-written z y e f = f ∙ ap (λ q. put v q x) e ∙ other-line g a v j x (lineKind g j.0) z y
+  factor_written z y e f = f ∙ ap (λ q. put v q x) e ∙ other_line g a v j x (line_kind g j.0) z y
 
-pub absent-written : (g : Group) (a : J) (v : List ℕ) (j : J) (x : Pair) → lineKind g j.0 ≡ antisymmetric → (eqb j.2 0 || eqb j.2 a.2) ≡ true → v ≡ write g a v j x
+pub absent_written : (g : Group) (a : J) (v : List ℕ) (j : J) (x : Pair) → line_kind g j.0 ≡ antisymmetric → (eqb j.2 0 || eqb j.2 a.2) ≡ true → v ≡ write g a v j x
 unfolding write
-absent-written g a v j x e f = rw (e, f) refl
+absent_written g a v j x e f = rw (e, f) refl

@@ -4,14 +4,14 @@
 // The places are tested in the order in which they lie in the volume.
 ghost use Rattle.std.specs.Prelude.{◌≡◌, true, suc, ◌*◌, ◌/◌, ◌<◌, ◌≤◌};
 ghost use Rattle.algebra.specs.lines.Kinds.{Kind.antisymmetric};
-ghost use Rattle.algebra.specs.cells.Cell.{span, negI, below};
+ghost use Rattle.algebra.specs.cells.Cell.{span, neg_i, below};
 ghost use Rattle.numbers.specs.Value.{prime, IsModulus};
 ghost use Rattle.slices.specs.Pairs.{Below};
-ghost use Rattle.cell.specs.Volume.{lineKind};
-ghost use Rattle.cell.specs.Consistency.{lineAgrees, consistentFactors};
-ghost use Rattle.cell.specs.Operations.{cellGroup, cellHalves, triple_of, symOf};
-ghost use Rattle.cell.specs.TestSteps.{IsVolume, IsStored, mirrored, imageAgrees, lineRowAgrees, rowEndsAgree};
-ghost use Rattle.cell.specs.TestSteps.{InnerAgree, linesAgree, emptyEnds, leftOutEmpty};
+ghost use Rattle.cell.specs.Volume.{line_kind};
+ghost use Rattle.cell.specs.Consistency.{line_agrees, consistent_factors};
+ghost use Rattle.cell.specs.Operations.{cell_group, cell_halves, triple_of, sym_of};
+ghost use Rattle.cell.specs.TestSteps.{IsVolume, IsStored, mirrored, image_agrees, line_row_agrees, row_ends_agree};
+ghost use Rattle.cell.specs.TestSteps.{InnerAgree, lines_agree, empty_ends, left_out_empty};
 
 use cell::operations::{Index, Operation, UnitCell};
 use cell::{operations, places};
@@ -19,7 +19,7 @@ use cell::{operations, places};
 // The volume is the packed factors of some cell that obeys group and Friedel.
 pub fn consistent_factors(m: u32, cell: UnitCell, volume: &[u32]) -> bool
     requires { IsVolume cell volume.now × IsModulus m × Below (prime m) volume.now }
-    ensures { result ≡ consistentFactors (cellGroup cell) (cellHalves cell) m volume.now }
+    ensures { result ≡ consistent_factors (cell_group cell) (cell_halves cell) m volume.now }
 {
     if factors_agree(m, cell, volume) {
         // a group has antisymmetric lines at h = 1 or nowhere
@@ -37,7 +37,7 @@ pub fn consistent_factors(m: u32, cell: UnitCell, volume: &[u32]) -> bool
 fn image_agrees(m: u32, cell: UnitCell, volume: &[u32], o: Operation, j: Index) -> bool
     requires { IsVolume cell volume.now × IsModulus m × Below (prime m) volume.now × IsStored cell j }
     ensures { result
-        ≡ imageAgrees (cellGroup cell) (cellHalves cell) m volume.now (triple_of j) (symOf o) }
+        ≡ image_agrees (cell_group cell) (cell_halves cell) m volume.now (triple_of j) (sym_of o) }
 {
     let i = operations::image(o, cell, j);
     if places::is_stored(cell, i) {
@@ -54,9 +54,9 @@ fn image_agrees(m: u32, cell: UnitCell, volume: &[u32], o: Operation, j: Index) 
 fn factor_agrees(m: u32, cell: UnitCell, volume: &[u32], j: Index) -> bool
     requires volume { IsVolume cell volume.now × IsModulus m × Below (prime m) volume.now × IsStored cell j }
     requires l_value { cell.n1 / 2 < j.h →
-        lineAgrees (cellGroup cell) (cellHalves cell) m volume.now (negI (cell.n1 / 2) j.h, j.k, j.l)
+        line_agrees (cell_group cell) (cell_halves cell) m volume.now (neg_i (cell.n1 / 2) j.h, j.k, j.l)
         ≡ true }
-    ensures { result ≡ lineAgrees (cellGroup cell) (cellHalves cell) m volume.now (triple_of j) }
+    ensures { result ≡ line_agrees (cell_group cell) (cell_halves cell) m volume.now (triple_of j) }
 {
     if (cell.group == 4) & (between(j.k, cell.n2 / 2) & between(j.l, cell.n3 / 2)) {
         if j.h <= cell.n1 / 2 {
@@ -78,7 +78,7 @@ fn mirrored_agrees(m: u32, cell: UnitCell, volume: &[u32], j: Index) -> bool
         × (cell.group ≡ 4) }
     requires l_nonzero { (0 < j.l) × (j.l < cell.n3 / 2) }
     ensures { result
-        ≡ imageAgrees (cellGroup cell) (cellHalves cell) m volume.now (triple_of j) mirrored }
+        ≡ image_agrees (cell_group cell) (cell_halves cell) m volume.now (triple_of j) mirrored }
 {
     let o = operations::operation_at(cell.group, 7);
     let i = operations::image(o, cell, j);
@@ -96,7 +96,7 @@ fn between(x: u32, end: u32) -> bool
 // The first operation leaves j where it is, and need not be tried.
 fn images_agree(m: u32, cell: UnitCell, volume: &[u32], j: Index) -> bool
     requires { IsVolume cell volume.now × IsModulus m × Below (prime m) volume.now × IsStored cell j }
-    ensures { result ≡ lineAgrees (cellGroup cell) (cellHalves cell) m volume.now (triple_of j) }
+    ensures { result ≡ line_agrees (cell_group cell) (cell_halves cell) m volume.now (triple_of j) }
 {
     let count = operations::operation_count(cell.group);
     let mut number = 1;
@@ -125,9 +125,9 @@ fn ends_agree(m: u32, cell: UnitCell, volume: &[u32], l: u32, h: u32) -> bool
     requires { IsVolume cell volume.now
         × IsModulus m
         × Below (prime m) volume.now
-        × (l < span (cellGroup cell) (cell.n3 / 2))
+        × (l < span (cell_group cell) (cell.n3 / 2))
         × (h < cell.n1) }
-    ensures { result ≡ rowEndsAgree (cellGroup cell) (cellHalves cell) m volume.now l h }
+    ensures { result ≡ row_ends_agree (cell_group cell) (cell_halves cell) m volume.now l h }
 {
     if images_agree(m, cell, volume, Index { h, k: 0, l }) {
         let k = cell.n2 / 2;
@@ -142,11 +142,11 @@ fn row_agrees(m: u32, cell: UnitCell, volume: &[u32], l: u32, h: u32) -> bool
     requires volume { IsVolume cell volume.now
         × IsModulus m
         × Below (prime m) volume.now
-        × (l < span (cellGroup cell) (cell.n3 / 2))
+        × (l < span (cell_group cell) (cell.n3 / 2))
         × (h < cell.n1) }
     requires h_value { cell.n1 / 2 < h →
-        lineRowAgrees (cellGroup cell) (cellHalves cell) m volume.now l (negI (cell.n1 / 2) h) ≡ true }
-    ensures { result ≡ lineRowAgrees (cellGroup cell) (cellHalves cell) m volume.now l h }
+        line_row_agrees (cell_group cell) (cell_halves cell) m volume.now l (neg_i (cell.n1 / 2) h) ≡ true }
+    ensures { result ≡ line_row_agrees (cell_group cell) (cell_halves cell) m volume.now l h }
 {
     if ends_alone(cell, l) {
         return ends_agree(m, cell, volume, l, h);
@@ -167,10 +167,10 @@ fn layer_agrees(m: u32, cell: UnitCell, volume: &[u32], l: u32) -> bool
     requires { IsVolume cell volume.now
         × IsModulus m
         × Below (prime m) volume.now
-        × (l < span (cellGroup cell) (cell.n3 / 2)) }
+        × (l < span (cell_group cell) (cell.n3 / 2)) }
     ensures { result
         ≡ below (2 * (cell.n1 / 2))
-        (λ h. lineRowAgrees (cellGroup cell) (cellHalves cell) m volume.now l h) }
+        (λ h. line_row_agrees (cell_group cell) (cell_halves cell) m volume.now l h) }
 {
     let mut h = 0;
     while h < cell.n1 {
@@ -186,7 +186,7 @@ fn layer_agrees(m: u32, cell: UnitCell, volume: &[u32], l: u32) -> bool
 // All stored l.
 fn factors_agree(m: u32, cell: UnitCell, volume: &[u32]) -> bool
     requires { IsVolume cell volume.now × IsModulus m × Below (prime m) volume.now }
-    ensures { result ≡ linesAgree (cellGroup cell) (cellHalves cell) m volume.now }
+    ensures { result ≡ lines_agree (cell_group cell) (cell_halves cell) m volume.now }
 {
     let count = places::stored_count(cell);
     let mut l = 0;
@@ -203,10 +203,10 @@ fn factors_agree(m: u32, cell: UnitCell, volume: &[u32]) -> bool
 // The pairs 0 and A of the line (h, k) are zero.
 fn empty_line(cell: UnitCell, volume: &[u32], h: u32, k: u32) -> bool
     requires { IsVolume cell volume.now
-        × (lineKind (cellGroup cell) h ≡ antisymmetric)
+        × (line_kind (cell_group cell) h ≡ antisymmetric)
         × (h < cell.n1)
         × (k ≤ cell.n2 / 2) }
-    ensures { result ≡ emptyEnds (cellGroup cell) (cellHalves cell) volume.now h k }
+    ensures { result ≡ empty_ends (cell_group cell) (cell_halves cell) volume.now h k }
 {
     let first = crate::stored::pair_at(cell, volume, 0, h, k);
     let last = crate::stored::pair_at(cell, volume, cell.n3 / 2, h, k);
@@ -215,10 +215,10 @@ fn empty_line(cell: UnitCell, volume: &[u32], h: u32, k: u32) -> bool
 
 // The same for all k.
 fn empty_row(cell: UnitCell, volume: &[u32], h: u32) -> bool
-    requires { IsVolume cell volume.now × (lineKind (cellGroup cell) h ≡ antisymmetric) × (h < cell.n1) }
+    requires { IsVolume cell volume.now × (line_kind (cell_group cell) h ≡ antisymmetric) × (h < cell.n1) }
     ensures { result
         ≡ below (suc (cell.n2 / 2))
-        (λ k. emptyEnds (cellGroup cell) (cellHalves cell) volume.now h k) }
+        (λ k. empty_ends (cell_group cell) (cell_halves cell) volume.now h k) }
 {
     let mut k = 0;
     while k <= cell.n2 / 2 {
@@ -233,8 +233,8 @@ fn empty_row(cell: UnitCell, volume: &[u32], h: u32) -> bool
 
 // The same for every line that leaves the pairs 0 and A out: the group with such lines, Pa, has them at every odd h and at no even one.
 fn odd_rows_empty(cell: UnitCell, volume: &[u32]) -> bool
-    requires { IsVolume cell volume.now × (lineKind (cellGroup cell) 1 ≡ antisymmetric) }
-    ensures { result ≡ leftOutEmpty (cellGroup cell) (cellHalves cell) volume.now }
+    requires { IsVolume cell volume.now × (line_kind (cell_group cell) 1 ≡ antisymmetric) }
+    ensures { result ≡ left_out_empty (cell_group cell) (cell_halves cell) volume.now }
 {
     let mut h = 1;
     while h < cell.n1 {

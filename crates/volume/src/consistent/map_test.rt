@@ -5,9 +5,9 @@
 ghost use Rattle.std.specs.Prelude.{◌≡◌, false, ◌*◌, ◌/◌, ◌<◌};
 ghost use Rattle.algebra.specs.cells.Cell.{below};
 ghost use Rattle.cell.specs.Volume.{layers};
-ghost use Rattle.cell.specs.Consistency.{pointAgrees, consistentMap};
-ghost use Rattle.cell.specs.Operations.{cellGroup, cellHalves, point_of, symOf, Sizes, PointWithin};
-ghost use Rattle.cell.specs.TestSteps.{IsVolume, pointImageAgrees, PlaneAgrees, pointsAgree, rowAgrees};
+ghost use Rattle.cell.specs.Consistency.{point_agrees, consistent_map};
+ghost use Rattle.cell.specs.Operations.{cell_group, cell_halves, point_of, sym_of, Sizes, PointWithin};
+ghost use Rattle.cell.specs.TestSteps.{IsVolume, point_image_agrees, PlaneAgrees, points_agree, row_agrees};
 
 use cell::operations::{Operation, Point, UnitCell};
 use cell::{operations, places};
@@ -15,7 +15,7 @@ use cell::{operations, places};
 // The volume is the map, with its zeros, of some real cell that obeys the group.
 pub fn consistent_map(cell: UnitCell, volume: &[u32]) -> bool
     requires { IsVolume cell volume.now }
-    ensures { result ≡ consistentMap (cellGroup cell) (cellHalves cell) volume.now }
+    ensures { result ≡ consistent_map (cell_group cell) (cell_halves cell) volume.now }
 {
     let planes = places::layer_count(cell);
     let mut z = 0;
@@ -33,9 +33,9 @@ pub fn consistent_map(cell: UnitCell, volume: &[u32]) -> bool
 fn image_agrees(cell: UnitCell, volume: &[u32], o: Operation, p: Point) -> bool
     requires { IsVolume cell volume.now
         × PointWithin cell p
-        × (p.z < layers (cellGroup cell) (cellHalves cell)) }
+        × (p.z < layers (cell_group cell) (cell_halves cell)) }
     ensures { result
-        ≡ pointImageAgrees (cellGroup cell) (cellHalves cell) volume.now (point_of p) (symOf o) }
+        ≡ point_image_agrees (cell_group cell) (cell_halves cell) volume.now (point_of p) (sym_of o) }
 {
     let q = operations::point_image(o, cell, p);
     if q.z < places::layer_count(cell) {
@@ -50,8 +50,8 @@ fn image_agrees(cell: UnitCell, volume: &[u32], o: Operation, p: Point) -> bool
 fn point_agrees(cell: UnitCell, volume: &[u32], p: Point) -> bool
     requires { IsVolume cell volume.now
         × PointWithin cell p
-        × (p.z < layers (cellGroup cell) (cellHalves cell)) }
-    ensures { result ≡ pointAgrees (cellGroup cell) (cellHalves cell) volume.now (point_of p) }
+        × (p.z < layers (cell_group cell) (cell_halves cell)) }
+    ensures { result ≡ point_agrees (cell_group cell) (cell_halves cell) volume.now (point_of p) }
 {
     let count = operations::group_order(cell.group);
     let mut number = 1;
@@ -88,10 +88,10 @@ fn meets_stored(cell: UnitCell, z: u32) -> bool
 // The points of the row at z and x, where they are to be tried.
 fn points_agree(cell: UnitCell, volume: &[u32], tried: bool, z: u32, x: u32) -> bool
     requires { IsVolume cell volume.now
-        × (z < layers (cellGroup cell) (cellHalves cell))
+        × (z < layers (cell_group cell) (cell_halves cell))
         × (x < cell.n1)
         × (tried ≡ false → PlaneAgrees cell z) }
-    ensures { result ≡ pointsAgree (cellGroup cell) (cellHalves cell) volume.now z x }
+    ensures { result ≡ points_agree (cell_group cell) (cell_halves cell) volume.now z x }
 {
     if !tried {
         return true;
@@ -110,10 +110,10 @@ fn points_agree(cell: UnitCell, volume: &[u32], tried: bool, z: u32, x: u32) -> 
 // The row at z and x: its points, then its two zeros.
 fn row_agrees(cell: UnitCell, volume: &[u32], tried: bool, z: u32, x: u32) -> bool
     requires { IsVolume cell volume.now
-        × (z < layers (cellGroup cell) (cellHalves cell))
+        × (z < layers (cell_group cell) (cell_halves cell))
         × (x < cell.n1)
         × (tried ≡ false → PlaneAgrees cell z) }
-    ensures { result ≡ rowAgrees (cellGroup cell) (cellHalves cell) volume.now z x }
+    ensures { result ≡ row_agrees (cell_group cell) (cell_halves cell) volume.now z x }
 {
     if points_agree(cell, volume, tried, z, x) {
         crate::stored::is_zero(crate::stored::pair_at(cell, volume, z, x, cell.n2 / 2))
@@ -124,10 +124,10 @@ fn row_agrees(cell: UnitCell, volume: &[u32], tried: bool, z: u32, x: u32) -> bo
 
 // All x of the plane z.
 fn plane_agrees(cell: UnitCell, volume: &[u32], z: u32) -> bool
-    requires { IsVolume cell volume.now × (z < layers (cellGroup cell) (cellHalves cell)) }
+    requires { IsVolume cell volume.now × (z < layers (cell_group cell) (cell_halves cell)) }
     ensures { result
         ≡ below (2 * (cell.n1 / 2))
-        (λ x. rowAgrees (cellGroup cell) (cellHalves cell) volume.now z x) }
+        (λ x. row_agrees (cell_group cell) (cell_halves cell) volume.now z x) }
 {
     let tried = meets_stored(cell, z);
     let mut x = 0;

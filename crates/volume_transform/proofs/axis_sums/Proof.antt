@@ -1,10 +1,10 @@
 -- `axis_sums`: the theorem of proofs/sums/AxisSums.
-use Rattle.volume_transform.proofs.sums.AxisSums.{axis-sums}
+use Rattle.volume_transform.proofs.sums.AxisSums.{axis_sums}
 use Rattle.volume_transform.proofs.axis_sums.Statement.{statement}
 use Rattle.volume_transform.proofs.axis_sums.Tie as tie
 
 returns : tie.Need-returns
-returns c = axis-sums
+returns c = axis_sums
 
-pub axis-sums-spec : {M : Type 1} → statement M
-axis-sums-spec = tie.close (tie.spec returns)
+pub axis_sums_spec : {M : Type 1} → statement M
+axis_sums_spec = tie.close (tie.spec returns)

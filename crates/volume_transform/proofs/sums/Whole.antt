@@ -11,60 +11,60 @@ use Rattle.algebra.proofs.ring.Laws.{along}
 use Rattle.algebra.proofs.cells.CellTests.{Positive}
 use Rattle.numbers.specs.Value.{prime, IsModulus, Value, field, conj}
 use Rattle.slices.specs.Pairs.{Below}
-use Rattle.slices.specs.Sweep.{Layout, sweep, onLists}
+use Rattle.slices.specs.Sweep.{Layout, sweep, on_lists}
 use Rattle.lengths.specs.Admitted.{AdmittedLength}
-use Rattle.line.proofs.kinds.Axes.{axis-laws}
-use Rattle.cell.specs.Volume.{volumeLength, factorsIn, packFactors, mapIn, packMap, mapOf, factorsOf}
-use Rattle.cell.specs.Consistency.{consistentFactors, consistentMap}
+use Rattle.line.proofs.kinds.Axes.{axis_laws}
+use Rattle.cell.specs.Volume.{volume_length, factors_in, pack_factors, map_in, pack_map, map_of, factors_of}
+use Rattle.cell.specs.Consistency.{consistent_factors, consistent_map}
 use Rattle.cell.specs.Exactly.{RealMap, ObeysGroup}
 use Rattle.cell.specs.declared.operations.UnitCell.{UnitCell}
-use Rattle.cell.specs.Operations.{cellGroup, cellHalves}
+use Rattle.cell.specs.Operations.{cell_group, cell_halves}
 use Rattle.volume_transform.specs.Turns.{turns}
-use Rattle.volume_transform.specs.Axes.{alongL, alongH, alongK, lineCount, lineOfTurn, turnedL, turnedH, turnedK, jobTurn, JobSizes}
-use Rattle.cell.proofs.Consistency.{consistent-read}
-use Rattle.cell.proofs.Maps.{consistent-map-read}
-use Rattle.volume_transform.proofs.sums.PassLaws.{synthesis-passes, analysis-passes}
-use Rattle.volume_transform.proofs.sums.Turns.{turns-add, turns-sweep, turned-along, turned-back}
-use Rattle.volume_transform.proofs.plan.Numbered.{turn-l, turn-h, turn-k}
+use Rattle.volume_transform.specs.Axes.{along_l, along_h, along_k, line_count, line_of_turn, turned_l, turned_h, turned_k, job_turn, JobSizes}
+use Rattle.cell.proofs.Consistency.{consistent_read}
+use Rattle.cell.proofs.Maps.{consistent_map_read}
+use Rattle.volume_transform.proofs.sums.PassLaws.{synthesis_passes, analysis_passes}
+use Rattle.volume_transform.proofs.sums.Turns.{turns_add, turns_sweep, turned_along, turned_back}
+use Rattle.volume_transform.proofs.plan.Numbered.{turn_l, turn_h, turn_k}
 
 module _ (g : Group) (a : J) (m direction : ℕ) where
   abbrev pass : Layout → (ℕ → List ℕ → List ℕ) → List ℕ → List ℕ
-  pass L G d = sweep L (onLists L G) L.count d
+  pass L G d = sweep L (on_lists L G) L.count d
 
   abbrev run : (j n : ℕ) → List ℕ → List ℕ
-  run j n d = turns (jobTurn g a m direction) j n d
+  run j n d = turns (job_turn g a m direction) j n d
 
   abbrev first : ℕ
-  first = (alongL g a).count
+  first = (along_l g a).count
 
   abbrev second : ℕ
-  second = (alongH g a).count
+  second = (along_h g a).count
 
   abbrev third : ℕ
-  third = (alongK g a).count
+  third = (along_k g a).count
 
-  pub run-l : (d : List ℕ) → run 0 first d ≡ pass (alongL g a) (turnedL g a m direction) d
-  run-l d = turns-sweep (jobTurn g a m direction) (alongL g a) (turnedL g a m direction) 0 first d (turn-l g a m direction)
+  pub run_l : (d : List ℕ) → run 0 first d ≡ pass (along_l g a) (turned_l g a m direction) d
+  run_l d = turns_sweep (job_turn g a m direction) (along_l g a) (turned_l g a m direction) 0 first d (turn_l g a m direction)
 
-  pub run-h : (d : List ℕ) → run first second d ≡ pass (alongH g a) (turnedH g a m direction) d
-  run-h d = turns-sweep (jobTurn g a m direction) (alongH g a) (turnedH g a m direction) first second d (turn-h g a m direction)
+  pub run_h : (d : List ℕ) → run first second d ≡ pass (along_h g a) (turned_h g a m direction) d
+  run_h d = turns_sweep (job_turn g a m direction) (along_h g a) (turned_h g a m direction) first second d (turn_h g a m direction)
 
-  run-k : (d : List ℕ) → run (first + second) third d ≡ pass (alongK g a) (turnedK g a m direction) d
-  run-k d = turns-sweep (jobTurn g a m direction) (alongK g a) (turnedK g a m direction) (first + second) third d (λ y l. turn-k g a m direction y)
+  run_k : (d : List ℕ) → run (first + second) third d ≡ pass (along_k g a) (turned_k g a m direction) d
+  run_k d = turns_sweep (job_turn g a m direction) (along_k g a) (turned_k g a m direction) (first + second) third d (λ y l. turn_k g a m direction y)
 
-  run-all : (d : List ℕ) → run 0 (lineCount g a) d ≡ run (first + second) third (run first second (run 0 first d))
-  run-all d =
-      turns-add (jobTurn g a m direction) 0 (first + second) third d
-      ∙ ap₂ (λ j v. run j third v) zero-plus (turns-add (jobTurn g a m direction) 0 first second d ∙ along (λ j. run j second (run 0 first d)) (0 + first) first (omega arith))
+  run_all : (d : List ℕ) → run 0 (line_count g a) d ≡ run (first + second) third (run first second (run 0 first d))
+  run_all d =
+      turns_add (job_turn g a m direction) 0 (first + second) third d
+      ∙ ap₂ (λ j v. run j third v) zero_plus (turns_add (job_turn g a m direction) 0 first second d ∙ along (λ j. run j second (run 0 first d)) (0 + first) first (omega arith))
     where
-      zero-plus : 0 + (first + second) ≡ first + second
-      zero-plus = omega arith
+      zero_plus : 0 + (first + second) ≡ first + second
+      zero_plus = omega arith
 
-  pub run-forward : (d : List ℕ) → run 0 (lineCount g a) d ≡ pass (alongK g a) (turnedK g a m direction) (pass (alongH g a) (turnedH g a m direction) (pass (alongL g a) (turnedL g a m direction) d))
-  run-forward d = run-all d ∙ run-k _ ∙ ap (pass (alongK g a) (turnedK g a m direction)) (run-h _ ∙ ap (pass (alongH g a) (turnedH g a m direction)) (run-l d))
+  pub run_forward : (d : List ℕ) → run 0 (line_count g a) d ≡ pass (along_k g a) (turned_k g a m direction) (pass (along_h g a) (turned_h g a m direction) (pass (along_l g a) (turned_l g a m direction) d))
+  run_forward d = run_all d ∙ run_k _ ∙ ap (pass (along_k g a) (turned_k g a m direction)) (run_h _ ∙ ap (pass (along_h g a) (turned_h g a m direction)) (run_l d))
 
-  pub run-backward : (d : List ℕ) → run 0 first (run first second (run (first + second) third d)) ≡ pass (alongL g a) (turnedL g a m direction) (pass (alongH g a) (turnedH g a m direction) (pass (alongK g a) (turnedK g a m direction) d))
-  run-backward d = run-l _ ∙ ap (pass (alongL g a) (turnedL g a m direction)) (run-h _ ∙ ap (pass (alongH g a) (turnedH g a m direction)) (run-k d))
+  pub run_backward : (d : List ℕ) → run 0 first (run first second (run (first + second) third d)) ≡ pass (along_l g a) (turned_l g a m direction) (pass (along_h g a) (turned_h g a m direction) (pass (along_k g a) (turned_k g a m direction) d))
+  run_backward d = run_l _ ∙ ap (pass (along_l g a) (turned_l g a m direction)) (run_h _ ∙ ap (pass (along_h g a) (turned_h g a m direction)) (run_k d))
 
 -- ---- all lines of a packed cell
 
@@ -73,32 +73,32 @@ module _ (g : Group) (m : ℕ) (is : IsModulus m) {n1 n2 n3 : ℕ} (s1 : Admitte
   a = (n1 / 2, n2 / 2, n3 / 2)
 
   -- in the order of their numbers
-  pub synthesised-cell : (F : Cell (Value m)) → Lawful (field m) (conj m) a g F → turns (λ n u. jobTurn g a m 0 (lineOfTurn g a 0 n) u) 0 (lineCount g a) (packFactors g a m F) ≡ packMap g a m (mapOf m a F)
-  synthesised-cell F o = turned-along g a m 0 (lineCount g a) (packFactors g a m F) ∙ run-forward g a m 0 _ ∙ synthesis-passes g a m (axis-laws m is s1) (axis-laws m is s2) (axis-laws m is s3) F o
+  pub synthesised_cell : (F : Cell (Value m)) → Lawful (field m) (conj m) a g F → turns (λ n u. job_turn g a m 0 (line_of_turn g a 0 n) u) 0 (line_count g a) (pack_factors g a m F) ≡ pack_map g a m (map_of m a F)
+  synthesised_cell F o = turned_along g a m 0 (line_count g a) (pack_factors g a m F) ∙ run_forward g a m 0 _ ∙ synthesis_passes g a m (axis_laws m is s1) (axis_laws m is s2) (axis_laws m is s3) F o
 
   -- the lines along k, then those along h, then those along l
-  pub analysed-cell : (M : Cell (Value m)) → RealMap g a m M → ObeysGroup g a m M → turns (λ n u. jobTurn g a m 1 (lineOfTurn g a 1 n) u) 0 (lineCount g a) (packMap g a m M) ≡ packFactors g a m (factorsOf m a M)
-  analysed-cell M r o = turned-back g a m 1 (packMap g a m M) ∙ run-backward g a m 1 (packMap g a m M) ∙ analysis-passes g a m (axis-laws m is s1) (axis-laws m is s2) (axis-laws m is s3) M r o
+  pub analysed_cell : (M : Cell (Value m)) → RealMap g a m M → ObeysGroup g a m M → turns (λ n u. job_turn g a m 1 (line_of_turn g a 1 n) u) 0 (line_count g a) (pack_map g a m M) ≡ pack_factors g a m (factors_of m a M)
+  analysed_cell M r o = turned_back g a m 1 (pack_map g a m M) ∙ run_backward g a m 1 (pack_map g a m M) ∙ analysis_passes g a m (axis_laws m is s1) (axis_laws m is s2) (axis_laws m is s3) M r o
 
 -- ---- a checked job
 
-module _ (m : ℕ) (is : IsModulus m) {cell : UnitCell} {f1 f2 f3 : ℕ} (job : JobSizes cell f1 f2 f3) (v : List ℕ) (len : length v ≡ volumeLength (cellGroup cell) (cellHalves cell)) (small : Below (prime m) v) where
+module _ (m : ℕ) (is : IsModulus m) {cell : UnitCell} {f1 f2 f3 : ℕ} (job : JobSizes cell f1 f2 f3) (v : List ℕ) (len : length v ≡ volume_length (cell_group cell) (cell_halves cell)) (small : Below (prime m) v) where
   abbrev group : Group
-  group = cellGroup cell
+  group = cell_group cell
 
   abbrev halves : J
-  halves = cellHalves cell
+  halves = cell_halves cell
 
   abbrev all : ℕ → List ℕ → List ℕ
-  all direction v = turns (λ n u. jobTurn group halves m direction (lineOfTurn group halves direction n) u) 0 (lineCount group halves) v
+  all direction v = turns (λ n u. job_turn group halves m direction (line_of_turn group halves direction n) u) 0 (line_count group halves) v
 
   long : Positive halves
   long = (job.first.positive, job.second.positive, job.third.positive)
 
-  pub synthesised : consistentFactors group halves m v ≡ true → all 0 v ≡ packMap group halves m (mapOf m halves (factorsIn group halves m v))
-  synthesised e = let r = consistent-read group halves long m v len small e in
-      ap (all 0) (sym r.1) ∙ synthesised-cell group m is job.first job.second job.third (factorsIn group halves m v) r.0
+  pub synthesised : consistent_factors group halves m v ≡ true → all 0 v ≡ pack_map group halves m (map_of m halves (factors_in group halves m v))
+  synthesised e = let r = consistent_read group halves long m v len small e in
+      ap (all 0) (sym r.1) ∙ synthesised_cell group m is job.first job.second job.third (factors_in group halves m v) r.0
 
-  pub analysed : consistentMap group halves v ≡ true → all 1 v ≡ packFactors group halves m (factorsOf m halves (mapIn group halves m v))
-  analysed e = let r = consistent-map-read group halves long m v len small e in
-      ap (all 1) (sym r.2) ∙ analysed-cell group m is job.first job.second job.third (mapIn group halves m v) r.0 r.1
+  pub analysed : consistent_map group halves v ≡ true → all 1 v ≡ pack_factors group halves m (factors_of m halves (map_in group halves m v))
+  analysed e = let r = consistent_map_read group halves long m v len small e in
+      ap (all 1) (sym r.2) ∙ analysed_cell group m is job.first job.second job.third (map_in group halves m v) r.0 r.1

@@ -2,7 +2,7 @@
 use borrow.Author.Rules.{rules}
 use native.Mathlib.Omega.{arith}
 use mathlib.Core.Path.{refl}
-use Rattle.line.proofs.table.Directions.{tables-of}
+use Rattle.line.proofs.table.Directions.{tables_of_lem}
 use Rattle.volume_transform.proofs.transform_volume.Statement.{statement}
 use Rattle.volume_transform.proofs.transform_volume.Tie as tie
 
@@ -28,15 +28,15 @@ turn-volume-requires : tie.Need-turn-volume-requires
 turn-volume-requires c κs =
     let h = c.before.before.before.before.before.before.before.before.before.before.before in
     let s = h.before.before.before.before.before in (
-      (s.requires.0, tables-of s.requires.0.modulus h.before.before.real-parts.ensures s.args.plan.direction h.before.imaginary-parts.ensures h.half-tangents.ensures, refl),
-      ((omega arith, omega arith, λ more. absurd (omega (arith, more))), (s.requires.1.0, record { scratch-fits = s.requires.1.1; fold-fits = omega arith; work-fits = omega arith })),
+      (s.requires.0, tables_of_lem s.requires.0.modulus h.before.before.real-parts.ensures s.args.plan.direction h.before.imaginary-parts.ensures h.half-tangents.ensures, refl),
+      ((omega arith, omega arith, λ more. absurd (omega (arith, more))), (s.requires.1.0, record { scratch_fits = s.requires.1.1; fold_fits = omega arith; work_fits = omega arith })),
     )
 
 turn-groups-requires : tie.Need-turn-groups-requires
 turn-groups-requires c κs =
     let h = c.before.before.before.before.before.before.before in
     let s = h.before.before.before.before.before in
-    ((s.requires.0, tables-of s.requires.0.modulus h.before.before.real-parts.ensures s.args.plan.direction h.before.imaginary-parts.ensures h.half-tangents.ensures, refl), s.requires.1)
+    ((s.requires.0, tables_of_lem s.requires.0.modulus h.before.before.real-parts.ensures s.args.plan.direction h.before.imaginary-parts.ensures h.half-tangents.ensures, refl), s.requires.1)
 
 same_length : tie.Need-same-length
 same_length c = search rules
@@ -56,8 +56,8 @@ same-length-4 c = search rules
 returns-2 : tie.Need-returns-2
 returns-2 c = c.before.before.before.before.turn-groups.ensures
 
-pub transform-volume-spec : {M : Type 1} → statement M
-transform-volume-spec =
+pub transform_volume_spec : {M : Type 1} → statement M
+transform_volume_spec =
     tie.close
     (tie.spec
     real-parts-requires

@@ -4,8 +4,8 @@ use mathlib.Core.Path.{refl, ◌∙◌}
 use lib.ListN.{length}
 use Rattle.volume_transform.specs.Lines.{Beside}
 use Rattle.volume_transform.proofs.row.TurnLaws.{room}
-use Rattle.volume_transform.proofs.row.RowLaws.{row-long, row_below, row-placed, part_same, beside, spaced}
-use Rattle.volume_transform.proofs.plan.AxisLines.{row_is, gathered-is}
+use Rattle.volume_transform.proofs.row.RowLaws.{row_long, row_below, row_placed, part_same, beside, spaced}
+use Rattle.volume_transform.proofs.plan.AxisLines.{row_is, gathered_is}
 use Rattle.volume_transform.proofs.turn.Statement.{statement}
 use Rattle.volume_transform.proofs.turn.Tie as tie
 
@@ -44,7 +44,7 @@ turn-row-requires c κs =
     let s = start i in
     let x = s.args.line in
     let b = row i in
-    ((b.sound, b.hermitian, s.pre.0.1, s.pre.0.2), ((row-long x s.args.volume.now b, row_below x s.args.volume.now b s.pre.1.0), room x b.sound s.pre.1.1))
+    ((b.sound, b.hermitian, s.pre.0.1, s.pre.0.2), ((row_long x s.args.volume.now b, row_below x s.args.volume.now b s.pre.1.0), room x b.sound s.pre.1.1))
 
 turn-gathered-requires : tie.Need-turn-gathered-requires
 turn-gathered-requires c κs =
@@ -70,7 +70,7 @@ returns c =
     let i = r.before.before.before.before.before.before in
     let x = (start i).args.line in
     let v = (start i).args.volume.now in
-    (row-placed x v (row i) _ r.turn-row.ensures ∙ row_is x v i.if1.true, refl)
+    (row_placed x v (row i) _ r.turn-row.ensures ∙ row_is x v i.if1.true, refl)
 
 same-length-4 : tie.Need-same-length-4
 same-length-4 c = c.before.before.before.before.before.before.before.volume2.given
@@ -89,7 +89,7 @@ returns-2 c =
     let r = c.before.before.before.before.before.before.before.before in
     let i = r.before.before.before.before.before in
     let s = i.before.before.before.before.before.before in
-    (r.turn-gathered.ensures.0 ∙ gathered-is s.args.line s.args.volume.now i.if1.false, r.turn-gathered.ensures.1)
+    (r.turn-gathered.ensures.0 ∙ gathered_is s.args.line s.args.volume.now i.if1.false, r.turn-gathered.ensures.1)
 
 pub turn_spec : {M : Type 1} → statement M
 turn_spec =

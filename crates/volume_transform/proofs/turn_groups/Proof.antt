@@ -23,7 +23,7 @@ turn-volume-requires : tie.Need-turn-volume-requires
 turn-volume-requires c κs =
     let t = c.before.before.before.before.before.before in
     let s = t.before.before.before.before.before in
-    (s.requires.0, ((omega arith, omega arith, λ more. record { tables = t.shift-tables.ensures; room = omega arith }), (s.requires.1.0, record { scratch-fits = s.requires.1.1; fold-fits = omega arith; work-fits = omega arith })))
+    (s.requires.0, ((omega arith, omega arith, λ more. record { tables = t.shift-tables.ensures; room = omega arith }), (s.requires.1.0, record { scratch_fits = s.requires.1.1; fold_fits = omega arith; work_fits = omega arith })))
 
 same_length : tie.Need-same-length
 same_length c = search rules
@@ -34,8 +34,8 @@ same-length-2 c = search rules
 returns : tie.Need-returns
 returns c = c.before.before.before.before.before.before.turn-volume.ensures
 
-pub turn-groups-spec : {M : Type 1} → statement M
-turn-groups-spec =
+pub turn_groups_spec : {M : Type 1} → statement M
+turn_groups_spec =
     tie.close
     (tie.spec
     shift-tables-requires

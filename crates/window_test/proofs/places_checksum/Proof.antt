@@ -52,8 +52,8 @@ checksum-requires c κs = search rules
 returns : tie.Need-returns invariant-loop decreases-loop
 returns c = search rules
 
-pub places-checksum-spec : {M : Type 1} → statement M
-places-checksum-spec =
+pub places_checksum_spec : {M : Type 1} → statement M
+places_checksum_spec =
     tie.close
     (tie.spec
     invariant-loop

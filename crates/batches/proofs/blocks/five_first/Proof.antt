@@ -7,18 +7,18 @@ use lib.Dec.{eqb, lit<}
 use lib.ListN.{get_or}
 use borrow.Author.Tests.{eqb-true, eqb-false}
 use Rattle.numbers.specs.Value.{prime}
-use Rattle.numbers.proofs.Primes.{prime-most}
-use Rattle.roots.specs.Table.{tableRoot, entry_at}
+use Rattle.numbers.proofs.Primes.{prime_most}
+use Rattle.roots.specs.Table.{table_root, entry_at}
 use Rattle.batches.specs.Reduction.{Shifted}
-use Rattle.batches.specs.Lanes.{UpTo, Summed, turnedValue, fivePairs}
+use Rattle.batches.specs.Lanes.{UpTo, Summed, turned_value, five_pairs}
 use Rattle.batches.proofs.Meaning.{shifted_at}
-use Rattle.batches.proofs.Sums.{quarter-value, five-good}
-use Rattle.batches.proofs.LaneLists.{plain_lane, turned-lane, held_by, shifted_by, low_by, summed-start, summed-next, summed-all, spread-5, five-as}
+use Rattle.batches.proofs.Sums.{quarter_value, five_good}
+use Rattle.batches.proofs.LaneLists.{plain_lane, turned_lane, held_by, shifted_by, low_by, summed_start, summed_next, summed_all, spread_5, five_as}
 use Rattle.batches.proofs.blocks.five_first.Statement.{statement}
 use Rattle.batches.proofs.blocks.five_first.Tie as tie
 
 abbrev invariant-loop : tie.invariant-loop
-invariant-loop m re im sre sim at from y₀ w z o v₀ y v = Summed m (tableRoot m re im) 5 at from v y
+invariant-loop m re im sre sim at from y₀ w z o v₀ y v = Summed m (table_root m re im) 5 at from v y
 
 abbrev decreases-loop : tie.decreases-loop
 decreases-loop m re im sre sim at from y₀ w z o v₀ y v = 16 - v
@@ -26,12 +26,12 @@ decreases-loop m re im sre sim at from y₀ w z o v₀ y v = 16 - v
 factor-at-requires : tie.Need-factor-at-requires invariant-loop decreases-loop
 factor-at-requires c κs =
     let s = c.before in
-    (s.requires.0.0, lit< tt, omega (arith, s.requires.0.2.low-im 576))
+    (s.requires.0.0, lit< tt, omega (arith, s.requires.0.2.low_im 576))
 
 factor-at-requires-2 : tie.Need-factor-at-requires-2 invariant-loop decreases-loop
 factor-at-requires-2 c κs =
     let s = c.before.before in
-    (s.requires.0.0, lit< tt, omega (arith, s.requires.0.2.low-im 1152))
+    (s.requires.0.0, lit< tt, omega (arith, s.requires.0.2.low_im 1152))
 
 modulus-requires : tie.Need-modulus-requires invariant-loop decreases-loop
 modulus-requires c κs =
@@ -46,7 +46,7 @@ mul-o c =
 loop-holds : tie.Need-loop-init invariant-loop decreases-loop
 loop-holds c =
     let s = c.before.before.before.before in
-    summed-start s.requires.1.2
+    summed_start s.requires.1.2
 
 part-requires : tie.Need-part-requires invariant-loop decreases-loop
 part-requires c κs =
@@ -146,12 +146,12 @@ apart-requires-4 c κs =
 of-five-requires : tie.Need-of-five-requires invariant-loop decreases-loop
 of-five-requires c κs =
     let s = c.before.before.before.before.before.before.before.before.before.before.before.before.before.before.before.before.before.before.before.before in
-    ((s.requires.0.0, held_by s.requires.0.2 576 c.before.before.before.before.before.before.before.before.before.before.before.before.before.before.before.before.before.before.factor-at.ensures, held_by s.requires.0.2 1152 c.before.before.before.before.before.before.before.before.before.before.before.before.before.before.before.before.before.factor-at2.ensures, ap (λ (n : ℕ). 8 * n) c.before.before.before.before.before.before.before.before.before.before.before.before.before.before.before.before.modulus.ensures.0, c.before.before.before.before.before.before.before.before.before.before.before.before.before.part.ensures.1), (omega (arith, c.before.before.before.before.before.before.before.before.before.before.before.before.before.before.before.before.modulus.ensures.0, c.before.before.before.before.before.before.before.before.before.before.before.before.before.before.before.before.modulus.ensures.2, low_by s.requires.1.3.low _ c.before.before.before.before.before.before.before.before.before.before.before.part3.ensures.0), omega (arith, c.before.before.before.before.before.before.before.before.before.before.before.before.before.before.before.before.modulus.ensures.0, c.before.before.before.before.before.before.before.before.before.before.before.before.before.before.before.before.modulus.ensures.2, low_by s.requires.1.3.low _ c.before.before.before.before.before.before.before.before.before.part5.ensures.0), omega (arith, c.before.before.before.before.before.before.before.before.before.before.before.before.before.before.before.before.modulus.ensures.0, c.before.before.before.before.before.before.before.before.before.before.before.before.before.before.before.before.modulus.ensures.2, low_by s.requires.1.3.low _ c.before.before.before.before.before.before.before.part7.ensures.0), omega (arith, c.before.before.before.before.before.before.before.before.before.before.before.before.before.before.before.before.modulus.ensures.0, c.before.before.before.before.before.before.before.before.before.before.before.before.before.before.before.before.modulus.ensures.2, low_by s.requires.1.3.low _ c.before.before.before.before.before.part9.ensures.0), omega (arith, c.before.before.before.apart.ensures, low_by s.requires.1.3.low _ c.before.before.before.before.part10.ensures.0, c.before.before.before.before.before.before.before.before.before.before.before.before.before.before.before.before.modulus.ensures.0, c.before.before.before.before.before.before.before.before.before.before.before.before.before.before.before.before.modulus.ensures.2), omega (arith, c.before.apart3.ensures, low_by s.requires.1.3.low _ c.before.before.before.before.before.before.part8.ensures.0, c.before.before.before.before.before.before.before.before.before.before.before.before.before.before.before.before.modulus.ensures.0, c.before.before.before.before.before.before.before.before.before.before.before.before.before.before.before.before.modulus.ensures.2)))
+    ((s.requires.0.0, held_by s.requires.0.2 576 c.before.before.before.before.before.before.before.before.before.before.before.before.before.before.before.before.before.before.factor_at_lem.ensures, held_by s.requires.0.2 1152 c.before.before.before.before.before.before.before.before.before.before.before.before.before.before.before.before.before.factor-at2.ensures, ap (λ (n : ℕ). 8 * n) c.before.before.before.before.before.before.before.before.before.before.before.before.before.before.before.before.modulus.ensures.0, c.before.before.before.before.before.before.before.before.before.before.before.before.before.part.ensures.1), (omega (arith, c.before.before.before.before.before.before.before.before.before.before.before.before.before.before.before.before.modulus.ensures.0, c.before.before.before.before.before.before.before.before.before.before.before.before.before.before.before.before.modulus.ensures.2, low_by s.requires.1.3.low _ c.before.before.before.before.before.before.before.before.before.before.before.part3.ensures.0), omega (arith, c.before.before.before.before.before.before.before.before.before.before.before.before.before.before.before.before.modulus.ensures.0, c.before.before.before.before.before.before.before.before.before.before.before.before.before.before.before.before.modulus.ensures.2, low_by s.requires.1.3.low _ c.before.before.before.before.before.before.before.before.before.part5.ensures.0), omega (arith, c.before.before.before.before.before.before.before.before.before.before.before.before.before.before.before.before.modulus.ensures.0, c.before.before.before.before.before.before.before.before.before.before.before.before.before.before.before.before.modulus.ensures.2, low_by s.requires.1.3.low _ c.before.before.before.before.before.before.before.part7.ensures.0), omega (arith, c.before.before.before.before.before.before.before.before.before.before.before.before.before.before.before.before.modulus.ensures.0, c.before.before.before.before.before.before.before.before.before.before.before.before.before.before.before.before.modulus.ensures.2, low_by s.requires.1.3.low _ c.before.before.before.before.before.part9.ensures.0), omega (arith, c.before.before.before.apart.ensures, low_by s.requires.1.3.low _ c.before.before.before.before.part10.ensures.0, c.before.before.before.before.before.before.before.before.before.before.before.before.before.before.before.before.modulus.ensures.0, c.before.before.before.before.before.before.before.before.before.before.before.before.before.before.before.before.modulus.ensures.2), omega (arith, c.before.apart3.ensures, low_by s.requires.1.3.low _ c.before.before.before.before.before.before.part8.ensures.0, c.before.before.before.before.before.before.before.before.before.before.before.before.before.before.before.before.modulus.ensures.0, c.before.before.before.before.before.before.before.before.before.before.before.before.before.before.before.before.modulus.ensures.2)))
 
 of-five-requires-2 : tie.Need-of-five-requires-2 invariant-loop decreases-loop
 of-five-requires-2 c κs =
     let s = c.before.before.before.before.before.before.before.before.before.before.before.before.before.before.before.before.before.before.before.before.before in
-    ((s.requires.0.0, held_by s.requires.0.2 576 c.before.before.before.before.before.before.before.before.before.before.before.before.before.before.before.before.before.before.before.factor-at.ensures, held_by s.requires.0.2 1152 c.before.before.before.before.before.before.before.before.before.before.before.before.before.before.before.before.before.before.factor-at2.ensures, ap (λ (n : ℕ). 8 * n) c.before.before.before.before.before.before.before.before.before.before.before.before.before.before.before.before.before.modulus.ensures.0, c.before.before.before.before.before.before.before.before.before.before.before.before.before.part2.ensures.1), (omega (arith, c.before.before.before.before.before.before.before.before.before.before.before.before.before.before.before.before.before.modulus.ensures.0, c.before.before.before.before.before.before.before.before.before.before.before.before.before.before.before.before.before.modulus.ensures.2, low_by s.requires.1.3.low _ c.before.before.before.before.before.before.before.before.before.before.before.part4.ensures.0), omega (arith, c.before.before.before.before.before.before.before.before.before.before.before.before.before.before.before.before.before.modulus.ensures.0, c.before.before.before.before.before.before.before.before.before.before.before.before.before.before.before.before.before.modulus.ensures.2, low_by s.requires.1.3.low _ c.before.before.before.before.before.before.before.before.before.part6.ensures.0), omega (arith, c.before.before.before.before.before.before.before.before.before.before.before.before.before.before.before.before.before.modulus.ensures.0, c.before.before.before.before.before.before.before.before.before.before.before.before.before.before.before.before.before.modulus.ensures.2, low_by s.requires.1.3.low _ c.before.before.before.before.before.before.before.part8.ensures.0), omega (arith, c.before.before.before.before.before.before.before.before.before.before.before.before.before.before.before.before.before.modulus.ensures.0, c.before.before.before.before.before.before.before.before.before.before.before.before.before.before.before.before.before.modulus.ensures.2, low_by s.requires.1.3.low _ c.before.before.before.before.before.part10.ensures.0), omega (arith, c.before.before.before.apart2.ensures, low_by s.requires.1.3.low _ c.before.before.before.before.before.before.before.before.before.before.before.before.part3.ensures.0, c.before.before.before.before.before.before.before.before.before.before.before.before.before.before.before.before.before.modulus.ensures.0, c.before.before.before.before.before.before.before.before.before.before.before.before.before.before.before.before.before.modulus.ensures.2), omega (arith, c.before.apart4.ensures, low_by s.requires.1.3.low _ c.before.before.before.before.before.before.before.before.before.before.part5.ensures.0, c.before.before.before.before.before.before.before.before.before.before.before.before.before.before.before.before.before.modulus.ensures.0, c.before.before.before.before.before.before.before.before.before.before.before.before.before.before.before.before.before.modulus.ensures.2)))
+    ((s.requires.0.0, held_by s.requires.0.2 576 c.before.before.before.before.before.before.before.before.before.before.before.before.before.before.before.before.before.before.before.factor_at_lem.ensures, held_by s.requires.0.2 1152 c.before.before.before.before.before.before.before.before.before.before.before.before.before.before.before.before.before.before.factor-at2.ensures, ap (λ (n : ℕ). 8 * n) c.before.before.before.before.before.before.before.before.before.before.before.before.before.before.before.before.before.modulus.ensures.0, c.before.before.before.before.before.before.before.before.before.before.before.before.before.part2.ensures.1), (omega (arith, c.before.before.before.before.before.before.before.before.before.before.before.before.before.before.before.before.before.modulus.ensures.0, c.before.before.before.before.before.before.before.before.before.before.before.before.before.before.before.before.before.modulus.ensures.2, low_by s.requires.1.3.low _ c.before.before.before.before.before.before.before.before.before.before.before.part4.ensures.0), omega (arith, c.before.before.before.before.before.before.before.before.before.before.before.before.before.before.before.before.before.modulus.ensures.0, c.before.before.before.before.before.before.before.before.before.before.before.before.before.before.before.before.before.modulus.ensures.2, low_by s.requires.1.3.low _ c.before.before.before.before.before.before.before.before.before.part6.ensures.0), omega (arith, c.before.before.before.before.before.before.before.before.before.before.before.before.before.before.before.before.before.modulus.ensures.0, c.before.before.before.before.before.before.before.before.before.before.before.before.before.before.before.before.before.modulus.ensures.2, low_by s.requires.1.3.low _ c.before.before.before.before.before.before.before.part8.ensures.0), omega (arith, c.before.before.before.before.before.before.before.before.before.before.before.before.before.before.before.before.before.modulus.ensures.0, c.before.before.before.before.before.before.before.before.before.before.before.before.before.before.before.before.before.modulus.ensures.2, low_by s.requires.1.3.low _ c.before.before.before.before.before.part10.ensures.0), omega (arith, c.before.before.before.apart2.ensures, low_by s.requires.1.3.low _ c.before.before.before.before.before.before.before.before.before.before.before.before.part3.ensures.0, c.before.before.before.before.before.before.before.before.before.before.before.before.before.before.before.before.before.modulus.ensures.0, c.before.before.before.before.before.before.before.before.before.before.before.before.before.before.before.before.before.modulus.ensures.2), omega (arith, c.before.apart4.ensures, low_by s.requires.1.3.low _ c.before.before.before.before.before.before.before.before.before.before.part5.ensures.0, c.before.before.before.before.before.before.before.before.before.before.before.before.before.before.before.before.before.modulus.ensures.0, c.before.before.before.before.before.before.before.before.before.before.before.before.before.before.before.before.before.modulus.ensures.2)))
 
 store-lane-requires : tie.Need-store-lane-requires invariant-loop decreases-loop
 store-lane-requires c κs =
@@ -197,13 +197,13 @@ loop-again c =
     let v = c.before.before.before.before.before.before.before.before.before.before.before.before.before.before.before.before.before.before.before.before.before.before.before.before.before.before.before.loop.v in
     let h = s.requires.0.1 in
     let t = s.requires.0.2 in
-    summed-next (fivePairs c.before.before.before.before.before.before.before.before.before.before.before.of-five.result c.before.before.before.before.before.before.before.before.before.before.of-five2.result) c.before.before.before.before.before.before.before.before.before.before.before.before.before.before.before.before.before.before.before.before.before.before.before.before.before.before.before.loop.invariant c.before.before.before.before.before.before.before.before.before.before.before.before.before.before.before.before.before.before.before.before.before.before.before.before.before.before.loop-test.true (omega arith) (spread-5 (fivePairs c.before.before.before.before.before.before.before.before.before.before.before.of-five.result c.before.before.before.before.before.before.before.before.before.before.of-five2.result) v _ c.before.before.before.before.before.before.before.before.store-lane.ensures c.before.before.before.before.before.before.store-lane2.ensures c.before.before.before.before.store-lane3.ensures c.before.before.store-lane4.ensures c.store-lane5.ensures)
-    (λ X up. five-good h (turnedValue m (tableRoot m s.args.re.now s.args.im.now) at from v) (ap (λ (n : ℕ). 8 * n) c.before.before.before.before.before.before.before.before.before.before.before.before.before.before.before.before.before.before.before.before.before.before.before.before.before.before.before.before.modulus.ensures.0) (five-as c.before.before.before.before.before.before.before.before.before.before.before.before.before.before.before.apart.ensures c.before.before.before.before.before.before.before.before.before.before.before.before.before.apart3.ensures c.before.before.before.before.before.before.before.before.before.before.before.of-five.ensures) (five-as c.before.before.before.before.before.before.before.before.before.before.before.before.before.before.apart2.ensures c.before.before.before.before.before.before.before.before.before.before.before.before.apart4.ensures c.before.before.before.before.before.before.before.before.before.before.of-five2.ensures) (shifted_by t 576 (lit< tt) c.before.before.before.before.before.before.before.before.before.before.before.before.before.before.before.before.before.before.before.before.before.before.before.before.before.before.before.before.before.before.factor-at.ensures) (shifted_by t 1152 (lit< tt) c.before.before.before.before.before.before.before.before.before.before.before.before.before.before.before.before.before.before.before.before.before.before.before.before.before.before.before.before.before.factor-at2.ensures) (plain_lane m _ at from v 0 (omega arith) c.before.before.before.before.before.before.before.before.before.before.before.before.before.before.before.before.before.before.before.before.before.before.before.before.before.part.ensures.0 c.before.before.before.before.before.before.before.before.before.before.before.before.before.before.before.before.before.before.before.before.before.before.before.before.part2.ensures.0) (plain_lane m _ at from v 1 (ap (λ (n : ℕ). 1 * n) s.requires.1.3.none) c.before.before.before.before.before.before.before.before.before.before.before.before.before.before.before.before.before.before.before.before.before.before.before.part3.ensures.0 c.before.before.before.before.before.before.before.before.before.before.before.before.before.before.before.before.before.before.before.before.before.before.part4.ensures.0) (plain_lane m _ at from v 2 (ap (λ (n : ℕ). 2 * n) s.requires.1.3.none) c.before.before.before.before.before.before.before.before.before.before.before.before.before.before.before.before.before.before.before.before.before.part5.ensures.0 c.before.before.before.before.before.before.before.before.before.before.before.before.before.before.before.before.before.before.before.before.part6.ensures.0) (plain_lane m _ at from v 3 (ap (λ (n : ℕ). 3 * n) s.requires.1.3.none) c.before.before.before.before.before.before.before.before.before.before.before.before.before.before.before.before.before.before.before.part7.ensures.0 c.before.before.before.before.before.before.before.before.before.before.before.before.before.before.before.before.before.before.part8.ensures.0) (plain_lane m _ at from v 4 (ap (λ (n : ℕ). 4 * n) s.requires.1.3.none) c.before.before.before.before.before.before.before.before.before.before.before.before.before.before.before.before.before.part9.ensures.0 c.before.before.before.before.before.before.before.before.before.before.before.before.before.before.before.before.part10.ensures.0) (omega (arith, c.before.before.before.before.before.before.before.before.before.before.before.before.before.before.before.before.before.before.before.before.before.before.before.before.before.before.before.before.modulus.ensures.0, c.before.before.before.before.before.before.before.before.before.before.before.before.before.before.before.before.before.before.before.before.before.before.before.before.before.before.before.before.modulus.ensures.2, low_by s.requires.1.3.low _ c.before.before.before.before.before.before.before.before.before.before.before.before.before.before.before.before.before.before.before.before.before.before.before.part3.ensures.0)) (omega (arith, c.before.before.before.before.before.before.before.before.before.before.before.before.before.before.before.before.before.before.before.before.before.before.before.before.before.before.before.before.modulus.ensures.0, c.before.before.before.before.before.before.before.before.before.before.before.before.before.before.before.before.before.before.before.before.before.before.before.before.before.before.before.before.modulus.ensures.2, low_by s.requires.1.3.low _ c.before.before.before.before.before.before.before.before.before.before.before.before.before.before.before.before.before.before.before.before.before.before.part4.ensures.0)) (omega (arith, c.before.before.before.before.before.before.before.before.before.before.before.before.before.before.before.before.before.before.before.before.before.before.before.before.before.before.before.before.modulus.ensures.0, c.before.before.before.before.before.before.before.before.before.before.before.before.before.before.before.before.before.before.before.before.before.before.before.before.before.before.before.before.modulus.ensures.2, low_by s.requires.1.3.low _ c.before.before.before.before.before.before.before.before.before.before.before.before.before.before.before.before.before.before.before.before.before.part5.ensures.0)) (omega (arith, c.before.before.before.before.before.before.before.before.before.before.before.before.before.before.before.before.before.before.before.before.before.before.before.before.before.before.before.before.modulus.ensures.0, c.before.before.before.before.before.before.before.before.before.before.before.before.before.before.before.before.before.before.before.before.before.before.before.before.before.before.before.before.modulus.ensures.2, low_by s.requires.1.3.low _ c.before.before.before.before.before.before.before.before.before.before.before.before.before.before.before.before.before.before.before.before.part6.ensures.0)) (omega (arith, c.before.before.before.before.before.before.before.before.before.before.before.before.before.before.before.before.before.before.before.before.before.before.before.before.before.before.before.before.modulus.ensures.0, c.before.before.before.before.before.before.before.before.before.before.before.before.before.before.before.before.before.before.before.before.before.before.before.before.before.before.before.before.modulus.ensures.2, low_by s.requires.1.3.low _ c.before.before.before.before.before.before.before.before.before.before.before.before.before.before.before.before.before.before.before.part7.ensures.0)) (omega (arith, c.before.before.before.before.before.before.before.before.before.before.before.before.before.before.before.before.before.before.before.before.before.before.before.before.before.before.before.before.modulus.ensures.0, c.before.before.before.before.before.before.before.before.before.before.before.before.before.before.before.before.before.before.before.before.before.before.before.before.before.before.before.before.modulus.ensures.2, low_by s.requires.1.3.low _ c.before.before.before.before.before.before.before.before.before.before.before.before.before.before.before.before.before.before.part8.ensures.0)) (omega (arith, c.before.before.before.before.before.before.before.before.before.before.before.before.before.before.before.before.before.before.before.before.before.before.before.before.before.before.before.before.modulus.ensures.0, c.before.before.before.before.before.before.before.before.before.before.before.before.before.before.before.before.before.before.before.before.before.before.before.before.before.before.before.before.modulus.ensures.2, low_by s.requires.1.3.low _ c.before.before.before.before.before.before.before.before.before.before.before.before.before.before.before.before.before.part9.ensures.0)) (omega (arith, c.before.before.before.before.before.before.before.before.before.before.before.before.before.before.before.before.before.before.before.before.before.before.before.before.before.before.before.before.modulus.ensures.0, c.before.before.before.before.before.before.before.before.before.before.before.before.before.before.before.before.before.before.before.before.before.before.before.before.before.before.before.before.modulus.ensures.2, low_by s.requires.1.3.low _ c.before.before.before.before.before.before.before.before.before.before.before.before.before.before.before.before.part10.ensures.0)) (low_by up _ c.before.before.before.before.before.before.before.before.before.before.before.before.before.before.before.before.before.before.before.before.before.before.before.before.before.part.ensures.0) (low_by up _ c.before.before.before.before.before.before.before.before.before.before.before.before.before.before.before.before.before.before.before.before.before.before.before.before.part2.ensures.0))
+    summed_next (five_pairs c.before.before.before.before.before.before.before.before.before.before.before.of-five.result c.before.before.before.before.before.before.before.before.before.before.of-five2.result) c.before.before.before.before.before.before.before.before.before.before.before.before.before.before.before.before.before.before.before.before.before.before.before.before.before.before.before.loop.invariant c.before.before.before.before.before.before.before.before.before.before.before.before.before.before.before.before.before.before.before.before.before.before.before.before.before.before.loop-test.true (omega arith) (spread_5 (five_pairs c.before.before.before.before.before.before.before.before.before.before.before.of-five.result c.before.before.before.before.before.before.before.before.before.before.of-five2.result) v _ c.before.before.before.before.before.before.before.before.store-lane.ensures c.before.before.before.before.before.before.store-lane2.ensures c.before.before.before.before.store-lane3.ensures c.before.before.store-lane4.ensures c.store-lane5.ensures)
+    (λ X up. five_good h (turned_value m (table_root m s.args.re.now s.args.im.now) at from v) (ap (λ (n : ℕ). 8 * n) c.before.before.before.before.before.before.before.before.before.before.before.before.before.before.before.before.before.before.before.before.before.before.before.before.before.before.before.before.modulus.ensures.0) (five_as c.before.before.before.before.before.before.before.before.before.before.before.before.before.before.before.apart.ensures c.before.before.before.before.before.before.before.before.before.before.before.before.before.apart3.ensures c.before.before.before.before.before.before.before.before.before.before.before.of-five.ensures) (five_as c.before.before.before.before.before.before.before.before.before.before.before.before.before.before.apart2.ensures c.before.before.before.before.before.before.before.before.before.before.before.before.apart4.ensures c.before.before.before.before.before.before.before.before.before.before.of-five2.ensures) (shifted_by t 576 (lit< tt) c.before.before.before.before.before.before.before.before.before.before.before.before.before.before.before.before.before.before.before.before.before.before.before.before.before.before.before.before.before.before.factor_at_lem.ensures) (shifted_by t 1152 (lit< tt) c.before.before.before.before.before.before.before.before.before.before.before.before.before.before.before.before.before.before.before.before.before.before.before.before.before.before.before.before.before.factor-at2.ensures) (plain_lane m _ at from v 0 (omega arith) c.before.before.before.before.before.before.before.before.before.before.before.before.before.before.before.before.before.before.before.before.before.before.before.before.before.part.ensures.0 c.before.before.before.before.before.before.before.before.before.before.before.before.before.before.before.before.before.before.before.before.before.before.before.before.part2.ensures.0) (plain_lane m _ at from v 1 (ap (λ (n : ℕ). 1 * n) s.requires.1.3.none) c.before.before.before.before.before.before.before.before.before.before.before.before.before.before.before.before.before.before.before.before.before.before.before.part3.ensures.0 c.before.before.before.before.before.before.before.before.before.before.before.before.before.before.before.before.before.before.before.before.before.before.part4.ensures.0) (plain_lane m _ at from v 2 (ap (λ (n : ℕ). 2 * n) s.requires.1.3.none) c.before.before.before.before.before.before.before.before.before.before.before.before.before.before.before.before.before.before.before.before.before.part5.ensures.0 c.before.before.before.before.before.before.before.before.before.before.before.before.before.before.before.before.before.before.before.before.part6.ensures.0) (plain_lane m _ at from v 3 (ap (λ (n : ℕ). 3 * n) s.requires.1.3.none) c.before.before.before.before.before.before.before.before.before.before.before.before.before.before.before.before.before.before.before.part7.ensures.0 c.before.before.before.before.before.before.before.before.before.before.before.before.before.before.before.before.before.before.part8.ensures.0) (plain_lane m _ at from v 4 (ap (λ (n : ℕ). 4 * n) s.requires.1.3.none) c.before.before.before.before.before.before.before.before.before.before.before.before.before.before.before.before.before.part9.ensures.0 c.before.before.before.before.before.before.before.before.before.before.before.before.before.before.before.before.part10.ensures.0) (omega (arith, c.before.before.before.before.before.before.before.before.before.before.before.before.before.before.before.before.before.before.before.before.before.before.before.before.before.before.before.before.modulus.ensures.0, c.before.before.before.before.before.before.before.before.before.before.before.before.before.before.before.before.before.before.before.before.before.before.before.before.before.before.before.before.modulus.ensures.2, low_by s.requires.1.3.low _ c.before.before.before.before.before.before.before.before.before.before.before.before.before.before.before.before.before.before.before.before.before.before.before.part3.ensures.0)) (omega (arith, c.before.before.before.before.before.before.before.before.before.before.before.before.before.before.before.before.before.before.before.before.before.before.before.before.before.before.before.before.modulus.ensures.0, c.before.before.before.before.before.before.before.before.before.before.before.before.before.before.before.before.before.before.before.before.before.before.before.before.before.before.before.before.modulus.ensures.2, low_by s.requires.1.3.low _ c.before.before.before.before.before.before.before.before.before.before.before.before.before.before.before.before.before.before.before.before.before.before.part4.ensures.0)) (omega (arith, c.before.before.before.before.before.before.before.before.before.before.before.before.before.before.before.before.before.before.before.before.before.before.before.before.before.before.before.before.modulus.ensures.0, c.before.before.before.before.before.before.before.before.before.before.before.before.before.before.before.before.before.before.before.before.before.before.before.before.before.before.before.before.modulus.ensures.2, low_by s.requires.1.3.low _ c.before.before.before.before.before.before.before.before.before.before.before.before.before.before.before.before.before.before.before.before.before.part5.ensures.0)) (omega (arith, c.before.before.before.before.before.before.before.before.before.before.before.before.before.before.before.before.before.before.before.before.before.before.before.before.before.before.before.before.modulus.ensures.0, c.before.before.before.before.before.before.before.before.before.before.before.before.before.before.before.before.before.before.before.before.before.before.before.before.before.before.before.before.modulus.ensures.2, low_by s.requires.1.3.low _ c.before.before.before.before.before.before.before.before.before.before.before.before.before.before.before.before.before.before.before.before.part6.ensures.0)) (omega (arith, c.before.before.before.before.before.before.before.before.before.before.before.before.before.before.before.before.before.before.before.before.before.before.before.before.before.before.before.before.modulus.ensures.0, c.before.before.before.before.before.before.before.before.before.before.before.before.before.before.before.before.before.before.before.before.before.before.before.before.before.before.before.before.modulus.ensures.2, low_by s.requires.1.3.low _ c.before.before.before.before.before.before.before.before.before.before.before.before.before.before.before.before.before.before.before.part7.ensures.0)) (omega (arith, c.before.before.before.before.before.before.before.before.before.before.before.before.before.before.before.before.before.before.before.before.before.before.before.before.before.before.before.before.modulus.ensures.0, c.before.before.before.before.before.before.before.before.before.before.before.before.before.before.before.before.before.before.before.before.before.before.before.before.before.before.before.before.modulus.ensures.2, low_by s.requires.1.3.low _ c.before.before.before.before.before.before.before.before.before.before.before.before.before.before.before.before.before.before.part8.ensures.0)) (omega (arith, c.before.before.before.before.before.before.before.before.before.before.before.before.before.before.before.before.before.before.before.before.before.before.before.before.before.before.before.before.modulus.ensures.0, c.before.before.before.before.before.before.before.before.before.before.before.before.before.before.before.before.before.before.before.before.before.before.before.before.before.before.before.before.modulus.ensures.2, low_by s.requires.1.3.low _ c.before.before.before.before.before.before.before.before.before.before.before.before.before.before.before.before.before.part9.ensures.0)) (omega (arith, c.before.before.before.before.before.before.before.before.before.before.before.before.before.before.before.before.before.before.before.before.before.before.before.before.before.before.before.before.modulus.ensures.0, c.before.before.before.before.before.before.before.before.before.before.before.before.before.before.before.before.before.before.before.before.before.before.before.before.before.before.before.before.modulus.ensures.2, low_by s.requires.1.3.low _ c.before.before.before.before.before.before.before.before.before.before.before.before.before.before.before.before.part10.ensures.0)) (low_by up _ c.before.before.before.before.before.before.before.before.before.before.before.before.before.before.before.before.before.before.before.before.before.before.before.before.before.part.ensures.0) (low_by up _ c.before.before.before.before.before.before.before.before.before.before.before.before.before.before.before.before.before.before.before.before.before.before.before.before.part2.ensures.0))
 
 returns : tie.Need-returns invariant-loop decreases-loop
 returns c =
     let s = c.before.before.before.before.before.before in
-    summed-all c.before.loop.invariant (omega (arith, c.loop-test.false))
+    summed_all c.before.loop.invariant (omega (arith, c.loop-test.false))
 
-pub five-first-spec : {M : Type 1} → statement M
-five-first-spec = tie.close (tie.spec invariant-loop decreases-loop factor-at-requires factor-at-requires-2 modulus-requires mul-o loop-holds part-requires add-part part-requires-2 part-requires-3 add-part-2 part-requires-4 part-requires-5 add-part-3 part-requires-6 part-requires-7 add-part-4 part-requires-8 part-requires-9 add-part-5 part-requires-10 apart-requires apart-requires-2 apart-requires-3 apart-requires-4 of-five-requires of-five-requires-2 store-lane-requires store-lane-requires-2 store-lane-requires-3 store-lane-requires-4 store-lane-requires-5 add-v loop-less loop-again returns)
+pub five_first_spec : {M : Type 1} → statement M
+five_first_spec = tie.close (tie.spec invariant-loop decreases-loop factor-at-requires factor-at-requires-2 modulus-requires mul-o loop-holds part-requires add-part part-requires-2 part-requires-3 add-part-2 part-requires-4 part-requires-5 add-part-3 part-requires-6 part-requires-7 add-part-4 part-requires-8 part-requires-9 add-part-5 part-requires-10 apart-requires apart-requires-2 apart-requires-3 apart-requires-4 of-five-requires of-five-requires-2 store-lane-requires store-lane-requires-2 store-lane-requires-3 store-lane-requires-4 store-lane-requires-5 add-v loop-less loop-again returns)

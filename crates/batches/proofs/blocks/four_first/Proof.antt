@@ -7,18 +7,18 @@ use lib.Dec.{eqb, lit<}
 use lib.ListN.{get_or}
 use borrow.Author.Tests.{eqb-true, eqb-false}
 use Rattle.numbers.specs.Value.{prime}
-use Rattle.numbers.proofs.Primes.{prime-most}
-use Rattle.roots.specs.Table.{tableRoot, entry_at}
+use Rattle.numbers.proofs.Primes.{prime_most}
+use Rattle.roots.specs.Table.{table_root, entry_at}
 use Rattle.batches.specs.Reduction.{Shifted}
-use Rattle.batches.specs.Lanes.{UpTo, Summed, turnedValue, fourPairs}
+use Rattle.batches.specs.Lanes.{UpTo, Summed, turned_value, four_pairs}
 use Rattle.batches.proofs.Meaning.{shifted_at}
-use Rattle.batches.proofs.Sums.{quarter-value, four-good}
-use Rattle.batches.proofs.LaneLists.{plain_lane, turned-lane, held_by, shifted_by, low_by, summed-start, summed-next, summed-all, spread-4}
+use Rattle.batches.proofs.Sums.{quarter_value, four_good}
+use Rattle.batches.proofs.LaneLists.{plain_lane, turned_lane, held_by, shifted_by, low_by, summed_start, summed_next, summed_all, spread_4}
 use Rattle.batches.proofs.blocks.four_first.Statement.{statement}
 use Rattle.batches.proofs.blocks.four_first.Tie as tie
 
 abbrev invariant-loop : tie.invariant-loop
-invariant-loop m re im sre sim at from y₀ o up v₀ y v = Summed m (tableRoot m re im) 4 at from v y
+invariant-loop m re im sre sim at from y₀ o up v₀ y v = Summed m (table_root m re im) 4 at from v y
 
 abbrev decreases-loop : tie.decreases-loop
 decreases-loop m re im sre sim at from y₀ o up v₀ y v = 16 - v
@@ -41,7 +41,7 @@ root-at-requires c κs =
 loop-holds : tie.Need-loop-init invariant-loop decreases-loop
 loop-holds c =
     let s = c.before.before.before.before in
-    summed-start s.requires.1.2
+    summed_start s.requires.1.2
 
 part-requires : tie.Need-part-requires invariant-loop decreases-loop
 part-requires c κs =
@@ -162,13 +162,13 @@ loop-again c =
     let v = c.before.before.before.before.before.before.before.before.before.before.before.before.before.before.before.before.before.before.before.before.before.loop.v in
     let h = s.requires.0.1 in
     let t = s.requires.0.2 in
-    summed-next (fourPairs c.before.before.before.before.before.before.before.before.before.before.of_four.result c.before.before.before.before.before.before.before.before.of-four2.result) c.before.before.before.before.before.before.before.before.before.before.before.before.before.before.before.before.before.before.before.before.before.loop.invariant c.before.before.before.before.before.before.before.before.before.before.before.before.before.before.before.before.before.before.before.before.loop-test.true (omega arith) (spread-4 (fourPairs c.before.before.before.before.before.before.before.before.before.before.of_four.result c.before.before.before.before.before.before.before.before.of-four2.result) v _ c.before.before.before.before.before.before.store-lane.ensures c.before.before.before.before.store-lane2.ensures c.before.before.store-lane3.ensures c.store-lane4.ensures)
-    (λ X up. four-good h (turnedValue m (tableRoot m s.args.re.now s.args.im.now) at from v) (ap (λ (n : ℕ). 8 * n) c.before.before.before.before.before.before.before.before.before.before.before.before.before.before.before.before.before.before.before.before.before.before.before.before.modulus.ensures.0) c.before.before.before.before.before.before.before.before.before.before.of_four.ensures c.before.before.before.before.before.before.before.before.of-four2.ensures (plain_lane m _ at from v 0 (omega arith) c.before.before.before.before.before.before.before.before.before.before.before.before.before.before.before.before.before.before.before.part.ensures.0 c.before.before.before.before.before.before.before.before.before.before.before.before.before.before.before.before.before.before.part2.ensures.0) (plain_lane m _ at from v 1 (ap (λ (n : ℕ). 1 * n) s.requires.1.3.none) c.before.before.before.before.before.before.before.before.before.before.before.before.before.before.before.before.before.part3.ensures.0 c.before.before.before.before.before.before.before.before.before.before.before.before.before.before.before.before.part4.ensures.0) (plain_lane m _ at from v 2 (ap (λ (n : ℕ). 2 * n) s.requires.1.3.none) c.before.before.before.before.before.before.before.before.before.before.before.before.before.before.before.part5.ensures.0 c.before.before.before.before.before.before.before.before.before.before.before.before.before.before.part6.ensures.0) (plain_lane m _ at from v 3 (ap (λ (n : ℕ). 3 * n) s.requires.1.3.none) c.before.before.before.before.before.before.before.before.before.before.before.before.before.part7.ensures.0 c.before.before.before.before.before.before.before.before.before.before.before.before.part8.ensures.0) (quarter-value h (turnedValue m (tableRoot m s.args.re.now s.args.im.now) at from v) (ap (λ (n : ℕ). 8 * n) c.before.before.before.before.before.before.before.before.before.before.before.before.before.before.before.before.before.before.before.before.before.before.before.before.modulus.ensures.0) (eqb c.before.before.before.before.before.before.before.before.before.before.before.before.before.before.before.before.before.before.before.before.before.before.before.root-at.result.im 1) _ _ _ _ c.before.before.before.before.before.before.before.before.before.before.before.before.before.before.before.before.before.before.before.before.before.before.before.root-at.ensures (λ e. eqb-true c.before.before.before.before.before.before.before.before.before.before.before.before.before.before.before.before.before.before.before.before.before.before.before.root-at.result.im 1 e) (λ e. eqb-false c.before.before.before.before.before.before.before.before.before.before.before.before.before.before.before.before.before.before.before.before.before.before.before.root-at.result.im 1 e) (omega (arith, c.before.before.before.before.before.before.before.before.before.before.before.before.before.before.before.before.before.before.before.before.before.before.before.before.modulus.ensures.0, c.before.before.before.before.before.before.before.before.before.before.before.before.before.before.before.before.before.before.before.before.before.before.before.before.modulus.ensures.2, low_by s.requires.1.3.low _ c.before.before.before.before.before.before.before.before.before.before.before.before.before.before.before.before.before.part3.ensures.0)) (omega (arith, c.before.before.before.before.before.before.before.before.before.before.before.before.before.before.before.before.before.before.before.before.before.before.before.before.modulus.ensures.0, c.before.before.before.before.before.before.before.before.before.before.before.before.before.before.before.before.before.before.before.before.before.before.before.before.modulus.ensures.2, low_by s.requires.1.3.low _ c.before.before.before.before.before.before.before.before.before.before.before.before.before.before.before.before.part4.ensures.0)) (omega (arith, c.before.before.before.before.before.before.before.before.before.before.before.before.before.before.before.before.before.before.before.before.before.before.before.before.modulus.ensures.0, c.before.before.before.before.before.before.before.before.before.before.before.before.before.before.before.before.before.before.before.before.before.before.before.before.modulus.ensures.2, low_by s.requires.1.3.low _ c.before.before.before.before.before.before.before.before.before.before.before.before.before.part7.ensures.0)) (omega (arith, c.before.before.before.before.before.before.before.before.before.before.before.before.before.before.before.before.before.before.before.before.before.before.before.before.modulus.ensures.0, c.before.before.before.before.before.before.before.before.before.before.before.before.before.before.before.before.before.before.before.before.before.before.before.before.modulus.ensures.2, low_by s.requires.1.3.low _ c.before.before.before.before.before.before.before.before.before.before.before.before.part8.ensures.0)) c.before.before.before.before.before.before.before.before.before.before.before.quarter.ensures.0 c.before.before.before.before.before.before.before.before.before.quarter2.ensures.0) (omega (arith, c.before.before.before.before.before.before.before.before.before.before.before.before.before.before.before.before.before.before.before.before.before.before.before.before.modulus.ensures.0, c.before.before.before.before.before.before.before.before.before.before.before.before.before.before.before.before.before.before.before.before.before.before.before.before.modulus.ensures.2, low_by s.requires.1.3.low _ c.before.before.before.before.before.before.before.before.before.before.before.before.before.before.before.before.before.part3.ensures.0)) (omega (arith, c.before.before.before.before.before.before.before.before.before.before.before.before.before.before.before.before.before.before.before.before.before.before.before.before.modulus.ensures.0, c.before.before.before.before.before.before.before.before.before.before.before.before.before.before.before.before.before.before.before.before.before.before.before.before.modulus.ensures.2, low_by s.requires.1.3.low _ c.before.before.before.before.before.before.before.before.before.before.before.before.before.before.before.before.part4.ensures.0)) (omega (arith, c.before.before.before.before.before.before.before.before.before.before.before.before.before.before.before.before.before.before.before.before.before.before.before.before.modulus.ensures.0, c.before.before.before.before.before.before.before.before.before.before.before.before.before.before.before.before.before.before.before.before.before.before.before.before.modulus.ensures.2, low_by s.requires.1.3.low _ c.before.before.before.before.before.before.before.before.before.before.before.before.before.before.before.part5.ensures.0)) (omega (arith, c.before.before.before.before.before.before.before.before.before.before.before.before.before.before.before.before.before.before.before.before.before.before.before.before.modulus.ensures.0, c.before.before.before.before.before.before.before.before.before.before.before.before.before.before.before.before.before.before.before.before.before.before.before.before.modulus.ensures.2, low_by s.requires.1.3.low _ c.before.before.before.before.before.before.before.before.before.before.before.before.before.before.part6.ensures.0)) (omega (arith, c.before.before.before.before.before.before.before.before.before.before.before.before.before.before.before.before.before.before.before.before.before.before.before.before.modulus.ensures.0, c.before.before.before.before.before.before.before.before.before.before.before.before.before.before.before.before.before.before.before.before.before.before.before.before.modulus.ensures.2, low_by s.requires.1.3.low _ c.before.before.before.before.before.before.before.before.before.before.before.before.before.part7.ensures.0)) (omega (arith, c.before.before.before.before.before.before.before.before.before.before.before.before.before.before.before.before.before.before.before.before.before.before.before.before.modulus.ensures.0, c.before.before.before.before.before.before.before.before.before.before.before.before.before.before.before.before.before.before.before.before.before.before.before.before.modulus.ensures.2, low_by s.requires.1.3.low _ c.before.before.before.before.before.before.before.before.before.before.before.before.part8.ensures.0)) c.before.before.before.before.before.before.before.before.before.before.before.quarter.ensures.1 c.before.before.before.before.before.before.before.before.before.quarter2.ensures.1 (low_by up _ c.before.before.before.before.before.before.before.before.before.before.before.before.before.before.before.before.before.before.before.part.ensures.0) (low_by up _ c.before.before.before.before.before.before.before.before.before.before.before.before.before.before.before.before.before.before.part2.ensures.0))
+    summed_next (four_pairs c.before.before.before.before.before.before.before.before.before.before.of_four.result c.before.before.before.before.before.before.before.before.of-four2.result) c.before.before.before.before.before.before.before.before.before.before.before.before.before.before.before.before.before.before.before.before.before.loop.invariant c.before.before.before.before.before.before.before.before.before.before.before.before.before.before.before.before.before.before.before.before.loop-test.true (omega arith) (spread_4 (four_pairs c.before.before.before.before.before.before.before.before.before.before.of_four.result c.before.before.before.before.before.before.before.before.of-four2.result) v _ c.before.before.before.before.before.before.store-lane.ensures c.before.before.before.before.store-lane2.ensures c.before.before.store-lane3.ensures c.store-lane4.ensures)
+    (λ X up. four_good h (turned_value m (table_root m s.args.re.now s.args.im.now) at from v) (ap (λ (n : ℕ). 8 * n) c.before.before.before.before.before.before.before.before.before.before.before.before.before.before.before.before.before.before.before.before.before.before.before.before.modulus.ensures.0) c.before.before.before.before.before.before.before.before.before.before.of_four.ensures c.before.before.before.before.before.before.before.before.of-four2.ensures (plain_lane m _ at from v 0 (omega arith) c.before.before.before.before.before.before.before.before.before.before.before.before.before.before.before.before.before.before.before.part.ensures.0 c.before.before.before.before.before.before.before.before.before.before.before.before.before.before.before.before.before.before.part2.ensures.0) (plain_lane m _ at from v 1 (ap (λ (n : ℕ). 1 * n) s.requires.1.3.none) c.before.before.before.before.before.before.before.before.before.before.before.before.before.before.before.before.before.part3.ensures.0 c.before.before.before.before.before.before.before.before.before.before.before.before.before.before.before.before.part4.ensures.0) (plain_lane m _ at from v 2 (ap (λ (n : ℕ). 2 * n) s.requires.1.3.none) c.before.before.before.before.before.before.before.before.before.before.before.before.before.before.before.part5.ensures.0 c.before.before.before.before.before.before.before.before.before.before.before.before.before.before.part6.ensures.0) (plain_lane m _ at from v 3 (ap (λ (n : ℕ). 3 * n) s.requires.1.3.none) c.before.before.before.before.before.before.before.before.before.before.before.before.before.part7.ensures.0 c.before.before.before.before.before.before.before.before.before.before.before.before.part8.ensures.0) (quarter_value h (turned_value m (table_root m s.args.re.now s.args.im.now) at from v) (ap (λ (n : ℕ). 8 * n) c.before.before.before.before.before.before.before.before.before.before.before.before.before.before.before.before.before.before.before.before.before.before.before.before.modulus.ensures.0) (eqb c.before.before.before.before.before.before.before.before.before.before.before.before.before.before.before.before.before.before.before.before.before.before.before.root-at.result.im 1) _ _ _ _ c.before.before.before.before.before.before.before.before.before.before.before.before.before.before.before.before.before.before.before.before.before.before.before.root-at.ensures (λ e. eqb-true c.before.before.before.before.before.before.before.before.before.before.before.before.before.before.before.before.before.before.before.before.before.before.before.root-at.result.im 1 e) (λ e. eqb-false c.before.before.before.before.before.before.before.before.before.before.before.before.before.before.before.before.before.before.before.before.before.before.before.root-at.result.im 1 e) (omega (arith, c.before.before.before.before.before.before.before.before.before.before.before.before.before.before.before.before.before.before.before.before.before.before.before.before.modulus.ensures.0, c.before.before.before.before.before.before.before.before.before.before.before.before.before.before.before.before.before.before.before.before.before.before.before.before.modulus.ensures.2, low_by s.requires.1.3.low _ c.before.before.before.before.before.before.before.before.before.before.before.before.before.before.before.before.before.part3.ensures.0)) (omega (arith, c.before.before.before.before.before.before.before.before.before.before.before.before.before.before.before.before.before.before.before.before.before.before.before.before.modulus.ensures.0, c.before.before.before.before.before.before.before.before.before.before.before.before.before.before.before.before.before.before.before.before.before.before.before.before.modulus.ensures.2, low_by s.requires.1.3.low _ c.before.before.before.before.before.before.before.before.before.before.before.before.before.before.before.before.part4.ensures.0)) (omega (arith, c.before.before.before.before.before.before.before.before.before.before.before.before.before.before.before.before.before.before.before.before.before.before.before.before.modulus.ensures.0, c.before.before.before.before.before.before.before.before.before.before.before.before.before.before.before.before.before.before.before.before.before.before.before.before.modulus.ensures.2, low_by s.requires.1.3.low _ c.before.before.before.before.before.before.before.before.before.before.before.before.before.part7.ensures.0)) (omega (arith, c.before.before.before.before.before.before.before.before.before.before.before.before.before.before.before.before.before.before.before.before.before.before.before.before.modulus.ensures.0, c.before.before.before.before.before.before.before.before.before.before.before.before.before.before.before.before.before.before.before.before.before.before.before.before.modulus.ensures.2, low_by s.requires.1.3.low _ c.before.before.before.before.before.before.before.before.before.before.before.before.part8.ensures.0)) c.before.before.before.before.before.before.before.before.before.before.before.quarter.ensures.0 c.before.before.before.before.before.before.before.before.before.quarter2.ensures.0) (omega (arith, c.before.before.before.before.before.before.before.before.before.before.before.before.before.before.before.before.before.before.before.before.before.before.before.before.modulus.ensures.0, c.before.before.before.before.before.before.before.before.before.before.before.before.before.before.before.before.before.before.before.before.before.before.before.before.modulus.ensures.2, low_by s.requires.1.3.low _ c.before.before.before.before.before.before.before.before.before.before.before.before.before.before.before.before.before.part3.ensures.0)) (omega (arith, c.before.before.before.before.before.before.before.before.before.before.before.before.before.before.before.before.before.before.before.before.before.before.before.before.modulus.ensures.0, c.before.before.before.before.before.before.before.before.before.before.before.before.before.before.before.before.before.before.before.before.before.before.before.before.modulus.ensures.2, low_by s.requires.1.3.low _ c.before.before.before.before.before.before.before.before.before.before.before.before.before.before.before.before.part4.ensures.0)) (omega (arith, c.before.before.before.before.before.before.before.before.before.before.before.before.before.before.before.before.before.before.before.before.before.before.before.before.modulus.ensures.0, c.before.before.before.before.before.before.before.before.before.before.before.before.before.before.before.before.before.before.before.before.before.before.before.before.modulus.ensures.2, low_by s.requires.1.3.low _ c.before.before.before.before.before.before.before.before.before.before.before.before.before.before.before.part5.ensures.0)) (omega (arith, c.before.before.before.before.before.before.before.before.before.before.before.before.before.before.before.before.before.before.before.before.before.before.before.before.modulus.ensures.0, c.before.before.before.before.before.before.before.before.before.before.before.before.before.before.before.before.before.before.before.before.before.before.before.before.modulus.ensures.2, low_by s.requires.1.3.low _ c.before.before.before.before.before.before.before.before.before.before.before.before.before.before.part6.ensures.0)) (omega (arith, c.before.before.before.before.before.before.before.before.before.before.before.before.before.before.before.before.before.before.before.before.before.before.before.before.modulus.ensures.0, c.before.before.before.before.before.before.before.before.before.before.before.before.before.before.before.before.before.before.before.before.before.before.before.before.modulus.ensures.2, low_by s.requires.1.3.low _ c.before.before.before.before.before.before.before.before.before.before.before.before.before.part7.ensures.0)) (omega (arith, c.before.before.before.before.before.before.before.before.before.before.before.before.before.before.before.before.before.before.before.before.before.before.before.before.modulus.ensures.0, c.before.before.before.before.before.before.before.before.before.before.before.before.before.before.before.before.before.before.before.before.before.before.before.before.modulus.ensures.2, low_by s.requires.1.3.low _ c.before.before.before.before.before.before.before.before.before.before.before.before.part8.ensures.0)) c.before.before.before.before.before.before.before.before.before.before.before.quarter.ensures.1 c.before.before.before.before.before.before.before.before.before.quarter2.ensures.1 (low_by up _ c.before.before.before.before.before.before.before.before.before.before.before.before.before.before.before.before.before.before.before.part.ensures.0) (low_by up _ c.before.before.before.before.before.before.before.before.before.before.before.before.before.before.before.before.before.before.part2.ensures.0))
 
 returns : tie.Need-returns invariant-loop decreases-loop
 returns c =
     let s = c.before.before.before.before.before.before in
-    summed-all c.before.loop.invariant (omega (arith, c.loop-test.false))
+    summed_all c.before.loop.invariant (omega (arith, c.loop-test.false))
 
-pub four-first-spec : {M : Type 1} → statement M
-four-first-spec = tie.close (tie.spec invariant-loop decreases-loop modulus-requires mul-o root-at-requires loop-holds part-requires add-part part-requires-2 part-requires-3 add-part-2 part-requires-4 part-requires-5 add-part-3 part-requires-6 part-requires-7 add-part-4 part-requires-8 quarter-requires of-four-requires quarter-requires-2 of-four-requires-2 store-lane-requires store-lane-requires-2 store-lane-requires-3 store-lane-requires-4 add-v loop-less loop-again returns)
+pub four_first_spec : {M : Type 1} → statement M
+four_first_spec = tie.close (tie.spec invariant-loop decreases-loop modulus-requires mul-o root-at-requires loop-holds part-requires add-part part-requires-2 part-requires-3 add-part-2 part-requires-4 part-requires-5 add-part-3 part-requires-6 part-requires-7 add-part-4 part-requires-8 quarter-requires of-four-requires quarter-requires-2 of-four-requires-2 store-lane-requires store-lane-requires-2 store-lane-requires-3 store-lane-requires-4 add-v loop-less loop-again returns)

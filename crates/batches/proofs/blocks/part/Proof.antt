@@ -25,5 +25,5 @@ shared-slice-read-result c = let s = c.before.before.before in omega (arith, s.r
 returns : tie.Need-returns
 returns c = let s = c.before.before.before in (refl, s.requires.3.each _)
 
-pub part-spec : {M : Type 1} → statement M
-part-spec = tie.close (tie.spec mul-k add-k mul-k-2 add-k-2 mul-result shared-slice-read-result returns)
+pub part_spec : {M : Type 1} → statement M
+part_spec = tie.close (tie.spec mul-k add-k mul-k-2 add-k-2 mul-result shared-slice-read-result returns)

@@ -1,7 +1,7 @@
 -- Two stores.
 use native.Mathlib.Omega.{arith}
 use mathlib.Core.Path.{refl}
-use Rattle.batches.specs.Lanes.{putLane}
+use Rattle.batches.specs.Lanes.{put_lane}
 use Rattle.batches.proofs.blocks.store_lane.Statement.{statement}
 use Rattle.batches.proofs.blocks.store_lane.Tie as tie
 
@@ -27,8 +27,8 @@ element-write-y-2 : tie.Need-element-write-y-2
 element-write-y-2 c = omega (arith, c.requires)
 
 returns : tie.Need-returns
-unfolding putLane
+unfolding put_lane
 returns c = refl
 
-pub store-lane-spec : {M : Type 1} → statement M
-store-lane-spec = tie.close (tie.spec mul-k add-k mul-y element-write-y add-y mul-y-2 element-write-y-2 returns)
+pub store_lane_spec : {M : Type 1} → statement M
+store_lane_spec = tie.close (tie.spec mul-k add-k mul-y element-write-y add-y mul-y-2 element-write-y-2 returns)

@@ -7,18 +7,18 @@ use lib.Dec.{eqb, lit<}
 use lib.ListN.{get_or}
 use borrow.Author.Tests.{eqb-true, eqb-false}
 use Rattle.numbers.specs.Value.{prime}
-use Rattle.numbers.proofs.Primes.{prime-most}
-use Rattle.roots.specs.Table.{tableRoot, entry_at}
+use Rattle.numbers.proofs.Primes.{prime_most}
+use Rattle.roots.specs.Table.{table_root, entry_at}
 use Rattle.batches.specs.Reduction.{Shifted}
-use Rattle.batches.specs.Lanes.{UpTo, Summed, turnedValue, threePairs}
+use Rattle.batches.specs.Lanes.{UpTo, Summed, turned_value, three_pairs}
 use Rattle.batches.proofs.Meaning.{shifted_at}
-use Rattle.batches.proofs.Sums.{quarter-value, three-good}
-use Rattle.batches.proofs.LaneLists.{plain_lane, turned-lane, held_by, shifted_by, low_by, summed-start, summed-next, summed-all, spread-3, three-as}
+use Rattle.batches.proofs.Sums.{quarter_value, three_good}
+use Rattle.batches.proofs.LaneLists.{plain_lane, turned_lane, held_by, shifted_by, low_by, summed_start, summed_next, summed_all, spread_3, three_as}
 use Rattle.batches.proofs.blocks.three_first.Statement.{statement}
 use Rattle.batches.proofs.blocks.three_first.Tie as tie
 
 abbrev invariant-loop : tie.invariant-loop
-invariant-loop m re im sre sim at from y₀ z o v₀ y v = Summed m (tableRoot m re im) 3 at from v y
+invariant-loop m re im sre sim at from y₀ z o v₀ y v = Summed m (table_root m re im) 3 at from v y
 
 abbrev decreases-loop : tie.decreases-loop
 decreases-loop m re im sre sim at from y₀ z o v₀ y v = 16 - v
@@ -26,7 +26,7 @@ decreases-loop m re im sre sim at from y₀ z o v₀ y v = 16 - v
 factor-at-requires : tie.Need-factor-at-requires invariant-loop decreases-loop
 factor-at-requires c κs =
     let s = c.before in
-    (s.requires.0.0, lit< tt, omega (arith, s.requires.0.2.low-im 960))
+    (s.requires.0.0, lit< tt, omega (arith, s.requires.0.2.low_im 960))
 
 modulus-requires : tie.Need-modulus-requires invariant-loop decreases-loop
 modulus-requires c κs =
@@ -41,7 +41,7 @@ mul-o c =
 loop-holds : tie.Need-loop-init invariant-loop decreases-loop
 loop-holds c =
     let s = c.before.before.before in
-    summed-start s.requires.1.2
+    summed_start s.requires.1.2
 
 part-requires : tie.Need-part-requires invariant-loop decreases-loop
 part-requires c κs =
@@ -101,12 +101,12 @@ apart-requires-2 c κs =
 of-three-requires : tie.Need-of-three-requires invariant-loop decreases-loop
 of-three-requires c κs =
     let s = c.before.before.before.before.before.before.before.before.before.before.before.before.before in
-    (s.requires.0.0, held_by s.requires.0.2 960 c.before.before.before.before.before.before.before.before.before.before.before.factor-at.ensures, ap (λ (n : ℕ). 8 * n) c.before.before.before.before.before.before.before.before.before.before.modulus.ensures.0, c.before.before.before.before.before.before.before.part.ensures.1, omega (arith, c.before.before.before.before.before.before.before.before.before.before.modulus.ensures.0, c.before.before.before.before.before.before.before.before.before.before.modulus.ensures.2, low_by s.requires.1.3.low _ c.before.before.before.before.before.part3.ensures.0), omega (arith, c.before.before.before.before.before.before.before.before.before.before.modulus.ensures.0, c.before.before.before.before.before.before.before.before.before.before.modulus.ensures.2, low_by s.requires.1.3.low _ c.before.before.before.part5.ensures.0), omega (arith, c.before.apart.ensures, low_by s.requires.1.3.low _ c.before.before.part6.ensures.0, c.before.before.before.before.before.before.before.before.before.before.modulus.ensures.0, c.before.before.before.before.before.before.before.before.before.before.modulus.ensures.2))
+    (s.requires.0.0, held_by s.requires.0.2 960 c.before.before.before.before.before.before.before.before.before.before.before.factor_at_lem.ensures, ap (λ (n : ℕ). 8 * n) c.before.before.before.before.before.before.before.before.before.before.modulus.ensures.0, c.before.before.before.before.before.before.before.part.ensures.1, omega (arith, c.before.before.before.before.before.before.before.before.before.before.modulus.ensures.0, c.before.before.before.before.before.before.before.before.before.before.modulus.ensures.2, low_by s.requires.1.3.low _ c.before.before.before.before.before.part3.ensures.0), omega (arith, c.before.before.before.before.before.before.before.before.before.before.modulus.ensures.0, c.before.before.before.before.before.before.before.before.before.before.modulus.ensures.2, low_by s.requires.1.3.low _ c.before.before.before.part5.ensures.0), omega (arith, c.before.apart.ensures, low_by s.requires.1.3.low _ c.before.before.part6.ensures.0, c.before.before.before.before.before.before.before.before.before.before.modulus.ensures.0, c.before.before.before.before.before.before.before.before.before.before.modulus.ensures.2))
 
 of-three-requires-2 : tie.Need-of-three-requires-2 invariant-loop decreases-loop
 of-three-requires-2 c κs =
     let s = c.before.before.before.before.before.before.before.before.before.before.before.before.before.before in
-    (s.requires.0.0, held_by s.requires.0.2 960 c.before.before.before.before.before.before.before.before.before.before.before.before.factor-at.ensures, ap (λ (n : ℕ). 8 * n) c.before.before.before.before.before.before.before.before.before.before.before.modulus.ensures.0, c.before.before.before.before.before.before.before.part2.ensures.1, omega (arith, c.before.before.before.before.before.before.before.before.before.before.before.modulus.ensures.0, c.before.before.before.before.before.before.before.before.before.before.before.modulus.ensures.2, low_by s.requires.1.3.low _ c.before.before.before.before.before.part4.ensures.0), omega (arith, c.before.before.before.before.before.before.before.before.before.before.before.modulus.ensures.0, c.before.before.before.before.before.before.before.before.before.before.before.modulus.ensures.2, low_by s.requires.1.3.low _ c.before.before.before.part6.ensures.0), omega (arith, c.before.apart2.ensures, low_by s.requires.1.3.low _ c.before.before.before.before.before.before.part3.ensures.0, c.before.before.before.before.before.before.before.before.before.before.before.modulus.ensures.0, c.before.before.before.before.before.before.before.before.before.before.before.modulus.ensures.2))
+    (s.requires.0.0, held_by s.requires.0.2 960 c.before.before.before.before.before.before.before.before.before.before.before.before.factor_at_lem.ensures, ap (λ (n : ℕ). 8 * n) c.before.before.before.before.before.before.before.before.before.before.before.modulus.ensures.0, c.before.before.before.before.before.before.before.part2.ensures.1, omega (arith, c.before.before.before.before.before.before.before.before.before.before.before.modulus.ensures.0, c.before.before.before.before.before.before.before.before.before.before.before.modulus.ensures.2, low_by s.requires.1.3.low _ c.before.before.before.before.before.part4.ensures.0), omega (arith, c.before.before.before.before.before.before.before.before.before.before.before.modulus.ensures.0, c.before.before.before.before.before.before.before.before.before.before.before.modulus.ensures.2, low_by s.requires.1.3.low _ c.before.before.before.part6.ensures.0), omega (arith, c.before.apart2.ensures, low_by s.requires.1.3.low _ c.before.before.before.before.before.before.part3.ensures.0, c.before.before.before.before.before.before.before.before.before.before.before.modulus.ensures.0, c.before.before.before.before.before.before.before.before.before.before.before.modulus.ensures.2))
 
 store-lane-requires : tie.Need-store-lane-requires invariant-loop decreases-loop
 store-lane-requires c κs =
@@ -142,13 +142,13 @@ loop-again c =
     let v = c.before.before.before.before.before.before.before.before.before.before.before.before.before.before.before.before.before.loop.v in
     let h = s.requires.0.1 in
     let t = s.requires.0.2 in
-    summed-next (threePairs c.before.before.before.before.before.before.before.of_three.result c.before.before.before.before.before.before.of-three2.result) c.before.before.before.before.before.before.before.before.before.before.before.before.before.before.before.before.before.loop.invariant c.before.before.before.before.before.before.before.before.before.before.before.before.before.before.before.before.loop-test.true (omega arith) (spread-3 (threePairs c.before.before.before.before.before.before.before.of_three.result c.before.before.before.before.before.before.of-three2.result) v _ c.before.before.before.before.store-lane.ensures c.before.before.store-lane2.ensures c.store-lane3.ensures)
-    (λ X up. three-good h (turnedValue m (tableRoot m s.args.re.now s.args.im.now) at from v) (ap (λ (n : ℕ). 8 * n) c.before.before.before.before.before.before.before.before.before.before.before.before.before.before.before.before.before.before.modulus.ensures.0) (three-as c.before.before.before.before.before.before.before.before.before.apart.ensures c.before.before.before.before.before.before.before.of_three.ensures) (three-as c.before.before.before.before.before.before.before.before.apart2.ensures c.before.before.before.before.before.before.of-three2.ensures) (shifted_by t 960 (lit< tt) c.before.before.before.before.before.before.before.before.before.before.before.before.before.before.before.before.before.before.before.factor-at.ensures) (plain_lane m _ at from v 0 (omega arith) c.before.before.before.before.before.before.before.before.before.before.before.before.before.before.before.part.ensures.0 c.before.before.before.before.before.before.before.before.before.before.before.before.before.before.part2.ensures.0) (plain_lane m _ at from v 1 (ap (λ (n : ℕ). 1 * n) s.requires.1.3.none) c.before.before.before.before.before.before.before.before.before.before.before.before.before.part3.ensures.0 c.before.before.before.before.before.before.before.before.before.before.before.before.part4.ensures.0) (plain_lane m _ at from v 2 (ap (λ (n : ℕ). 2 * n) s.requires.1.3.none) c.before.before.before.before.before.before.before.before.before.before.before.part5.ensures.0 c.before.before.before.before.before.before.before.before.before.before.part6.ensures.0) (omega (arith, c.before.before.before.before.before.before.before.before.before.before.before.before.before.before.before.before.before.before.modulus.ensures.0, c.before.before.before.before.before.before.before.before.before.before.before.before.before.before.before.before.before.before.modulus.ensures.2, low_by s.requires.1.3.low _ c.before.before.before.before.before.before.before.before.before.before.before.before.before.part3.ensures.0)) (omega (arith, c.before.before.before.before.before.before.before.before.before.before.before.before.before.before.before.before.before.before.modulus.ensures.0, c.before.before.before.before.before.before.before.before.before.before.before.before.before.before.before.before.before.before.modulus.ensures.2, low_by s.requires.1.3.low _ c.before.before.before.before.before.before.before.before.before.before.before.before.part4.ensures.0)) (omega (arith, c.before.before.before.before.before.before.before.before.before.before.before.before.before.before.before.before.before.before.modulus.ensures.0, c.before.before.before.before.before.before.before.before.before.before.before.before.before.before.before.before.before.before.modulus.ensures.2, low_by s.requires.1.3.low _ c.before.before.before.before.before.before.before.before.before.before.before.part5.ensures.0)) (omega (arith, c.before.before.before.before.before.before.before.before.before.before.before.before.before.before.before.before.before.before.modulus.ensures.0, c.before.before.before.before.before.before.before.before.before.before.before.before.before.before.before.before.before.before.modulus.ensures.2, low_by s.requires.1.3.low _ c.before.before.before.before.before.before.before.before.before.before.part6.ensures.0)) (low_by up _ c.before.before.before.before.before.before.before.before.before.before.before.before.before.before.before.part.ensures.0) (low_by up _ c.before.before.before.before.before.before.before.before.before.before.before.before.before.before.part2.ensures.0))
+    summed_next (three_pairs c.before.before.before.before.before.before.before.of_three.result c.before.before.before.before.before.before.of-three2.result) c.before.before.before.before.before.before.before.before.before.before.before.before.before.before.before.before.before.loop.invariant c.before.before.before.before.before.before.before.before.before.before.before.before.before.before.before.before.loop-test.true (omega arith) (spread_3 (three_pairs c.before.before.before.before.before.before.before.of_three.result c.before.before.before.before.before.before.of-three2.result) v _ c.before.before.before.before.store-lane.ensures c.before.before.store-lane2.ensures c.store-lane3.ensures)
+    (λ X up. three_good h (turned_value m (table_root m s.args.re.now s.args.im.now) at from v) (ap (λ (n : ℕ). 8 * n) c.before.before.before.before.before.before.before.before.before.before.before.before.before.before.before.before.before.before.modulus.ensures.0) (three_as c.before.before.before.before.before.before.before.before.before.apart.ensures c.before.before.before.before.before.before.before.of_three.ensures) (three_as c.before.before.before.before.before.before.before.before.apart2.ensures c.before.before.before.before.before.before.of-three2.ensures) (shifted_by t 960 (lit< tt) c.before.before.before.before.before.before.before.before.before.before.before.before.before.before.before.before.before.before.before.factor_at_lem.ensures) (plain_lane m _ at from v 0 (omega arith) c.before.before.before.before.before.before.before.before.before.before.before.before.before.before.before.part.ensures.0 c.before.before.before.before.before.before.before.before.before.before.before.before.before.before.part2.ensures.0) (plain_lane m _ at from v 1 (ap (λ (n : ℕ). 1 * n) s.requires.1.3.none) c.before.before.before.before.before.before.before.before.before.before.before.before.before.part3.ensures.0 c.before.before.before.before.before.before.before.before.before.before.before.before.part4.ensures.0) (plain_lane m _ at from v 2 (ap (λ (n : ℕ). 2 * n) s.requires.1.3.none) c.before.before.before.before.before.before.before.before.before.before.before.part5.ensures.0 c.before.before.before.before.before.before.before.before.before.before.part6.ensures.0) (omega (arith, c.before.before.before.before.before.before.before.before.before.before.before.before.before.before.before.before.before.before.modulus.ensures.0, c.before.before.before.before.before.before.before.before.before.before.before.before.before.before.before.before.before.before.modulus.ensures.2, low_by s.requires.1.3.low _ c.before.before.before.before.before.before.before.before.before.before.before.before.before.part3.ensures.0)) (omega (arith, c.before.before.before.before.before.before.before.before.before.before.before.before.before.before.before.before.before.before.modulus.ensures.0, c.before.before.before.before.before.before.before.before.before.before.before.before.before.before.before.before.before.before.modulus.ensures.2, low_by s.requires.1.3.low _ c.before.before.before.before.before.before.before.before.before.before.before.before.part4.ensures.0)) (omega (arith, c.before.before.before.before.before.before.before.before.before.before.before.before.before.before.before.before.before.before.modulus.ensures.0, c.before.before.before.before.before.before.before.before.before.before.before.before.before.before.before.before.before.before.modulus.ensures.2, low_by s.requires.1.3.low _ c.before.before.before.before.before.before.before.before.before.before.before.part5.ensures.0)) (omega (arith, c.before.before.before.before.before.before.before.before.before.before.before.before.before.before.before.before.before.before.modulus.ensures.0, c.before.before.before.before.before.before.before.before.before.before.before.before.before.before.before.before.before.before.modulus.ensures.2, low_by s.requires.1.3.low _ c.before.before.before.before.before.before.before.before.before.before.part6.ensures.0)) (low_by up _ c.before.before.before.before.before.before.before.before.before.before.before.before.before.before.before.part.ensures.0) (low_by up _ c.before.before.before.before.before.before.before.before.before.before.before.before.before.before.part2.ensures.0))
 
 returns : tie.Need-returns invariant-loop decreases-loop
 returns c =
     let s = c.before.before.before.before.before in
-    summed-all c.before.loop.invariant (omega (arith, c.loop-test.false))
+    summed_all c.before.loop.invariant (omega (arith, c.loop-test.false))
 
-pub three-first-spec : {M : Type 1} → statement M
-three-first-spec = tie.close (tie.spec invariant-loop decreases-loop factor-at-requires modulus-requires mul-o loop-holds part-requires add-part part-requires-2 part-requires-3 add-part-2 part-requires-4 part-requires-5 add-part-3 part-requires-6 apart-requires apart-requires-2 of-three-requires of-three-requires-2 store-lane-requires store-lane-requires-2 store-lane-requires-3 add-v loop-less loop-again returns)
+pub three_first_spec : {M : Type 1} → statement M
+three_first_spec = tie.close (tie.spec invariant-loop decreases-loop factor-at-requires modulus-requires mul-o loop-holds part-requires add-part part-requires-2 part-requires-3 add-part-2 part-requires-4 part-requires-5 add-part-3 part-requires-6 apart-requires apart-requires-2 of-three-requires of-three-requires-2 store-lane-requires store-lane-requires-2 store-lane-requires-3 add-v loop-less loop-again returns)

@@ -7,14 +7,14 @@ use lib.ListN.{get_or}
 use Rattle.algebra.proofs.ring.Laws.{along}
 use Rattle.batches.specs.declared.lane.Factor.{Factor}
 use Rattle.batches.specs.Reduction.{Divided}
-use Rattle.batches.specs.Lanes.{laneAt}
+use Rattle.batches.specs.Lanes.{lane_at}
 use Rattle.batches.proofs.blocks.turned_re.Statement.{statement}
 use Rattle.batches.proofs.blocks.turned_re.Tie as tie
 
-of-lane : (m : ℕ) (w : Factor) (l : List ℕ) (j v : ℕ) {a b r : ℕ} → a ≡ get_or l (32 * j + v) 0 → b ≡ get_or l (32 * j + (v + 16)) 0 → Divided m (w.re * a + w.minus * b) r
-    → Divided m (w.re * (laneAt l j v).re + w.minus * (laneAt l j v).im) r
-unfolding laneAt
-of-lane m w l j v {a} {b} {r} ea eb h =
+of_lane : (m : ℕ) (w : Factor) (l : List ℕ) (j v : ℕ) {a b r : ℕ} → a ≡ get_or l (32 * j + v) 0 → b ≡ get_or l (32 * j + (v + 16)) 0 → Divided m (w.re * a + w.minus * b) r
+    → Divided m (w.re * (lane_at l j v).re + w.minus * (lane_at l j v).im) r
+unfolding lane_at
+of_lane m w l j v {a} {b} {r} ea eb h =
     subst (λ x. Divided m x r) (ap₂ (λ a b. w.re * a + w.minus * b) ea (eb ∙ along (λ k. get_or l k 0) (32 * j + (v + 16)) (32 * j + v + 16) (omega arith))) h
 
 part-requires : tie.Need-part-requires
@@ -34,7 +34,7 @@ turned-re-requires c κs =
 returns : tie.Need-returns
 returns c =
     let s = c.before.before.before.before in
-    of-lane s.args.m s.args.w s.args.from.now _ s.args.v c.before.before.part.ensures.0 c.before.part2.ensures.0 c.turned-re.ensures
+    of_lane s.args.m s.args.w s.args.from.now _ s.args.v c.before.before.part.ensures.0 c.before.part2.ensures.0 c.turned-re.ensures
 
-pub turned-re-spec : {M : Type 1} → statement M
-turned-re-spec = tie.close (tie.spec part-requires add-part part-requires-2 turned-re-requires returns)
+pub turned_re_spec : {M : Type 1} → statement M
+turned_re_spec = tie.close (tie.spec part-requires add-part part-requires-2 turned-re-requires returns)

@@ -7,18 +7,18 @@ use lib.Dec.{eqb, lit<}
 use lib.ListN.{get_or}
 use borrow.Author.Tests.{eqb-true, eqb-false}
 use Rattle.numbers.specs.Value.{prime}
-use Rattle.numbers.proofs.Primes.{prime-most}
-use Rattle.roots.specs.Table.{tableRoot, entry_at}
+use Rattle.numbers.proofs.Primes.{prime_most}
+use Rattle.roots.specs.Table.{table_root, entry_at}
 use Rattle.batches.specs.Reduction.{Shifted}
-use Rattle.batches.specs.Lanes.{UpTo, Summed, turnedValue, twoPairs}
+use Rattle.batches.specs.Lanes.{UpTo, Summed, turned_value, two_pairs}
 use Rattle.batches.proofs.Meaning.{shifted_at}
-use Rattle.batches.proofs.Sums.{quarter-value, two_good}
-use Rattle.batches.proofs.LaneLists.{plain_lane, turned-lane, held_by, shifted_by, low_by, summed-start, summed-next, summed-all, spread-2, store-as}
+use Rattle.batches.proofs.Sums.{quarter_value, two_good}
+use Rattle.batches.proofs.LaneLists.{plain_lane, turned_lane, held_by, shifted_by, low_by, summed_start, summed_next, summed_all, spread_2, store_as}
 use Rattle.batches.proofs.blocks.two_first.Statement.{statement}
 use Rattle.batches.proofs.blocks.two_first.Tie as tie
 
 abbrev invariant-loop : tie.invariant-loop
-invariant-loop m re im sre sim at from y₀ o v₀ y v = Summed m (tableRoot m re im) 2 at from v y
+invariant-loop m re im sre sim at from y₀ o v₀ y v = Summed m (table_root m re im) 2 at from v y
 
 abbrev decreases-loop : tie.decreases-loop
 decreases-loop m re im sre sim at from y₀ o v₀ y v = 16 - v
@@ -36,7 +36,7 @@ mul-o c =
 loop-holds : tie.Need-loop-init invariant-loop decreases-loop
 loop-holds c =
     let s = c.before.before in
-    summed-start s.requires.1.2
+    summed_start s.requires.1.2
 
 part-requires : tie.Need-part-requires invariant-loop decreases-loop
 part-requires c κs =
@@ -71,12 +71,12 @@ part-requires-4 c κs =
 sum-requires : tie.Need-sum-requires invariant-loop decreases-loop
 sum-requires c κs =
     let s = c.before.before.before.before.before.before.before.before in
-    (c.before.before.before.part.ensures.1, omega (arith, prime-most s.requires.0.0, low_by s.requires.1.3.low _ c.before.part3.ensures.0))
+    (c.before.before.before.part.ensures.1, omega (arith, prime_most s.requires.0.0, low_by s.requires.1.3.low _ c.before.part3.ensures.0))
 
 sum-requires-2 : tie.Need-sum-requires-2 invariant-loop decreases-loop
 sum-requires-2 c κs =
     let s = c.before.before.before.before.before.before.before.before.before in
-    (c.before.before.before.part2.ensures.1, omega (arith, prime-most s.requires.0.0, low_by s.requires.1.3.low _ c.before.part4.ensures.0))
+    (c.before.before.before.part2.ensures.1, omega (arith, prime_most s.requires.0.0, low_by s.requires.1.3.low _ c.before.part4.ensures.0))
 
 apart-requires : tie.Need-apart-requires invariant-loop decreases-loop
 apart-requires c κs =
@@ -117,13 +117,13 @@ loop-again c =
     let v = c.before.before.before.before.before.before.before.before.before.before.before.before.before.loop.v in
     let h = s.requires.0.1 in
     let t = s.requires.0.2 in
-    summed-next (twoPairs (8 * c.before.before.before.before.before.before.before.before.before.before.before.before.before.before.modulus.result) c.before.before.before.before.before.before.before.before.before.before.before.part.result c.before.before.before.before.before.before.before.before.before.before.part2.result c.before.before.before.before.before.before.before.before.before.part3.result c.before.before.before.before.before.before.before.before.part4.result) c.before.before.before.before.before.before.before.before.before.before.before.before.before.loop.invariant c.before.before.before.before.before.before.before.before.before.before.before.before.loop-test.true (omega arith) (spread-2 (twoPairs (8 * c.before.before.before.before.before.before.before.before.before.before.before.before.before.before.modulus.result) c.before.before.before.before.before.before.before.before.before.before.before.part.result c.before.before.before.before.before.before.before.before.before.before.part2.result c.before.before.before.before.before.before.before.before.before.part3.result c.before.before.before.before.before.before.before.before.part4.result) v _ (store-as _ 0 v c.before.before.store-lane.ensures c.before.before.before.before.before.before.before.sum.ensures c.before.before.before.before.before.before.sum2.ensures) (store-as _ 1 v c.store-lane2.ensures c.before.before.before.before.before.apart.ensures c.before.before.before.before.apart2.ensures))
-    (λ X up. two_good h (turnedValue m (tableRoot m s.args.re.now s.args.im.now) at from v) (ap (λ (n : ℕ). 8 * n) c.before.before.before.before.before.before.before.before.before.before.before.before.before.before.modulus.ensures.0) _ _ _ _ (plain_lane m _ at from v 0 (omega arith) c.before.before.before.before.before.before.before.before.before.before.before.part.ensures.0 c.before.before.before.before.before.before.before.before.before.before.part2.ensures.0) (plain_lane m _ at from v 1 (ap (λ (n : ℕ). 1 * n) s.requires.1.3.none) c.before.before.before.before.before.before.before.before.before.part3.ensures.0 c.before.before.before.before.before.before.before.before.part4.ensures.0) (omega (arith, c.before.before.before.before.before.before.before.before.before.before.before.before.before.before.modulus.ensures.0, c.before.before.before.before.before.before.before.before.before.before.before.before.before.before.modulus.ensures.2, low_by s.requires.1.3.low _ c.before.before.before.before.before.before.before.before.before.part3.ensures.0)) (omega (arith, c.before.before.before.before.before.before.before.before.before.before.before.before.before.before.modulus.ensures.0, c.before.before.before.before.before.before.before.before.before.before.before.before.before.before.modulus.ensures.2, low_by s.requires.1.3.low _ c.before.before.before.before.before.before.before.before.part4.ensures.0)) (low_by up _ c.before.before.before.before.before.before.before.before.before.before.before.part.ensures.0) (low_by up _ c.before.before.before.before.before.before.before.before.before.before.part2.ensures.0))
+    summed_next (two_pairs (8 * c.before.before.before.before.before.before.before.before.before.before.before.before.before.before.modulus.result) c.before.before.before.before.before.before.before.before.before.before.before.part.result c.before.before.before.before.before.before.before.before.before.before.part2.result c.before.before.before.before.before.before.before.before.before.part3.result c.before.before.before.before.before.before.before.before.part4.result) c.before.before.before.before.before.before.before.before.before.before.before.before.before.loop.invariant c.before.before.before.before.before.before.before.before.before.before.before.before.loop-test.true (omega arith) (spread_2 (two_pairs (8 * c.before.before.before.before.before.before.before.before.before.before.before.before.before.before.modulus.result) c.before.before.before.before.before.before.before.before.before.before.before.part.result c.before.before.before.before.before.before.before.before.before.before.part2.result c.before.before.before.before.before.before.before.before.before.part3.result c.before.before.before.before.before.before.before.before.part4.result) v _ (store_as _ 0 v c.before.before.store-lane.ensures c.before.before.before.before.before.before.before.sum.ensures c.before.before.before.before.before.before.sum2.ensures) (store_as _ 1 v c.store-lane2.ensures c.before.before.before.before.before.apart.ensures c.before.before.before.before.apart2.ensures))
+    (λ X up. two_good h (turned_value m (table_root m s.args.re.now s.args.im.now) at from v) (ap (λ (n : ℕ). 8 * n) c.before.before.before.before.before.before.before.before.before.before.before.before.before.before.modulus.ensures.0) _ _ _ _ (plain_lane m _ at from v 0 (omega arith) c.before.before.before.before.before.before.before.before.before.before.before.part.ensures.0 c.before.before.before.before.before.before.before.before.before.before.part2.ensures.0) (plain_lane m _ at from v 1 (ap (λ (n : ℕ). 1 * n) s.requires.1.3.none) c.before.before.before.before.before.before.before.before.before.part3.ensures.0 c.before.before.before.before.before.before.before.before.part4.ensures.0) (omega (arith, c.before.before.before.before.before.before.before.before.before.before.before.before.before.before.modulus.ensures.0, c.before.before.before.before.before.before.before.before.before.before.before.before.before.before.modulus.ensures.2, low_by s.requires.1.3.low _ c.before.before.before.before.before.before.before.before.before.part3.ensures.0)) (omega (arith, c.before.before.before.before.before.before.before.before.before.before.before.before.before.before.modulus.ensures.0, c.before.before.before.before.before.before.before.before.before.before.before.before.before.before.modulus.ensures.2, low_by s.requires.1.3.low _ c.before.before.before.before.before.before.before.before.part4.ensures.0)) (low_by up _ c.before.before.before.before.before.before.before.before.before.before.before.part.ensures.0) (low_by up _ c.before.before.before.before.before.before.before.before.before.before.part2.ensures.0))
 
 returns : tie.Need-returns invariant-loop decreases-loop
 returns c =
     let s = c.before.before.before.before in
-    summed-all c.before.loop.invariant (omega (arith, c.loop-test.false))
+    summed_all c.before.loop.invariant (omega (arith, c.loop-test.false))
 
-pub two-first-spec : {M : Type 1} → statement M
-two-first-spec = tie.close (tie.spec invariant-loop decreases-loop modulus-requires mul-o loop-holds part-requires add-part part-requires-2 part-requires-3 add-part-2 part-requires-4 sum-requires sum-requires-2 apart-requires apart-requires-2 store-lane-requires store-lane-requires-2 add-v loop-less loop-again returns)
+pub two_first_spec : {M : Type 1} → statement M
+two_first_spec = tie.close (tie.spec invariant-loop decreases-loop modulus-requires mul-o loop-holds part-requires add-part part-requires-2 part-requires-3 add-part-2 part-requires-4 sum-requires sum-requires-2 apart-requires apart-requires-2 store-lane-requires store-lane-requires-2 add-v loop-less loop-again returns)

@@ -1,7 +1,7 @@
 -- Number by number (`Copying`).
 use Prim.Native.Nat.{◌-◌}
 use native.Mathlib.Omega.{arith}
-use Rattle.batches.proofs.Copies.{Copying, copying-start, copying-next, copying-done}
+use Rattle.batches.proofs.Copies.{Copying, copying_start, copying_next, copying_done}
 use Rattle.batches.proofs.copying.put_block.Statement.{statement}
 use Rattle.batches.proofs.copying.put_block.Tie as tie
 
@@ -18,7 +18,7 @@ mul-place : tie.Need-overflow-mul-place invariant-loop decreases-loop
 mul-place c = omega (arith, c.requires)
 
 loop-holds : tie.Need-loop-init invariant-loop decreases-loop
-loop-holds c = copying-start
+loop-holds c = copying_start
 
 add-to : tie.Need-overflow-add-to invariant-loop decreases-loop
 add-to c = omega (arith, c.loop-test.true, c.before.before.requires)
@@ -45,13 +45,13 @@ loop-less : tie.Need-loop-smaller invariant-loop decreases-loop
 loop-less c = omega (arith, c.before.loop-test.true)
 
 loop-again : tie.Need-loop-preserved invariant-loop decreases-loop
-loop-again c = copying-next c.before.before.loop.invariant c.before.loop-test.true c.before.before.before.requires.1
+loop-again c = copying_next c.before.before.loop.invariant c.before.loop-test.true c.before.before.before.requires.1
 
 same_length : tie.Need-same-length invariant-loop decreases-loop
 same_length c = omega (arith, c.before.loop.invariant.long)
 
 returns : tie.Need-returns invariant-loop decreases-loop
-returns c = copying-done c.before.loop.invariant c.loop-test.false
+returns c = copying_done c.before.loop.invariant c.loop-test.false
 
-pub put-block-spec : {M : Type 1} → statement M
-put-block-spec = tie.close (tie.spec invariant-loop decreases-loop mul-first mul-place loop-holds add-to mul-to element-copy-out-to add-to-2 mul-to-2 slice-write-to add-v loop-less loop-again same_length returns)
+pub put_block_spec : {M : Type 1} → statement M
+put_block_spec = tie.close (tie.spec invariant-loop decreases-loop mul-first mul-place loop-holds add-to mul-to element-copy-out-to add-to-2 mul-to-2 slice-write-to add-v loop-less loop-again same_length returns)

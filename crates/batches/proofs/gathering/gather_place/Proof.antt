@@ -6,11 +6,11 @@ use lib.ListN.{length}
 use native.Mathlib.Omega.{arith}
 use Rattle.batches.proofs.gathering.gather_place.Statement.{statement}
 use Rattle.batches.proofs.gathering.gather_place.Tie as tie
-use Rattle.batches.specs.Groups.{lanePair, PutLanes}
-use Rattle.batches.proofs.VolumeLanes.{pair-used, pair-unused, putting-start, putting-next, putting-as}
+use Rattle.batches.specs.Groups.{lane_pair, PutLanes}
+use Rattle.batches.proofs.VolumeLanes.{pair_used, pair_unused, putting_start, putting_next, putting_as}
 
 abbrev invariant-loop : tie.invariant-loop
-invariant-loop volume first lanes d₀ j v₀ d v = PutLanes (lanePair volume first lanes) j v d₀ d × (v ≤ lanes)
+invariant-loop volume first lanes d₀ j v₀ d v = PutLanes (lane_pair volume first lanes) j v d₀ d × (v ≤ lanes)
 
 abbrev decreases-loop : tie.decreases-loop
 decreases-loop volume first lanes d₀ j v₀ d v = lanes - v
@@ -18,13 +18,13 @@ decreases-loop volume first lanes d₀ j v₀ d v = lanes - v
 -- d₁ is what the first loop has left
 abbrev invariant-loop2 : tie.invariant-loop2
 invariant-loop2 volume first lanes d₁ j v₁ d v =
-    ((before : List ℕ) → 32 * j + 32 ≤ length before → PutLanes (lanePair volume first lanes) j v₁ before d₁ → PutLanes (lanePair volume first lanes) j v before d) × (length d ≡ length d₁) × (lanes ≤ v) × (v ≤ 16)
+    ((before : List ℕ) → 32 * j + 32 ≤ length before → PutLanes (lane_pair volume first lanes) j v₁ before d₁ → PutLanes (lane_pair volume first lanes) j v before d) × (length d ≡ length d₁) × (lanes ≤ v) × (v ≤ 16)
 
 abbrev decreases-loop2 : tie.decreases-loop2
 decreases-loop2 volume first lanes d₀ j v₀ d v = 16 - v
 
 loop-holds : tie.Need-loop-init invariant-loop decreases-loop invariant-loop2 decreases-loop2
-loop-holds c = (putting-start, omega arith)
+loop-holds c = (putting_start, omega arith)
 
 add-get : tie.Need-overflow-add-get invariant-loop decreases-loop invariant-loop2 decreases-loop2
 add-get c = omega (arith, c.loop-test.true, c.before.before.before.before.requires.1)
@@ -54,7 +54,7 @@ loop-again c =
     let t = g.before in
     let l = t.before in
     let s = l.before.before.before in (
-      putting-next l.loop.invariant.0 (omega (arith, t.loop-test.true, s.requires.0)) s.requires.2 e.store-lane.ensures (g.get.ensures ∙ pair-used s.args.volume.now s.args.first t.loop-test.true),
+      putting_next l.loop.invariant.0 (omega (arith, t.loop-test.true, s.requires.0)) s.requires.2 e.store-lane.ensures (g.get.ensures ∙ pair_used s.args.volume.now s.args.first t.loop-test.true),
       omega (arith, t.loop-test.true),
     )
 
@@ -84,7 +84,7 @@ loop2-again c =
     let l = t.before in
     let s = l.before.before.before.before.before in
     let i = l.loop2.invariant in (
-      λ before fits h. putting-next (i.0 before fits h) t.loop2-test.true fits e.store-lane2.ensures (pair-unused s.args.volume.now s.args.first i.2),
+      λ before fits h. putting_next (i.0 before fits h) t.loop2-test.true fits e.store-lane2.ensures (pair_unused s.args.volume.now s.args.first i.2),
       omega (arith, e.before.before.before.loop2.invariant.1, c.before.d2.given),
       omega (arith, i.2),
       omega (arith, t.loop2-test.true),
@@ -98,10 +98,10 @@ returns c =
     let l = c.before in
     let f = l.before.before in
     let s = f.before.before.before in
-    putting-as (l.loop2.invariant.0 s.args.d.now s.requires.2 f.loop.invariant.0) (omega (arith, c.loop2-test.false, l.loop2.invariant.3))
+    putting_as (l.loop2.invariant.0 s.args.d.now s.requires.2 f.loop.invariant.0) (omega (arith, c.loop2-test.false, l.loop2.invariant.3))
 
-pub gather-place-spec : {M : Type 1} → statement M
-gather-place-spec =
+pub gather_place_spec : {M : Type 1} → statement M
+gather_place_spec =
     tie.close
     (tie.spec
     invariant-loop

@@ -4,18 +4,18 @@ use native.Mathlib.Omega.{arith}
 use Rattle.batches.proofs.gathering.put_place.Statement.{statement}
 use Rattle.batches.proofs.gathering.put_place.Tie as tie
 use Rattle.slices.specs.Filling.{FillingPairs}
-use Rattle.slices.proofs.Filling.{filling-start, filling-next, filling-done}
-use Rattle.batches.specs.Lanes.{laneAt}
-use Rattle.batches.proofs.VolumeLanes.{numbers-lane}
+use Rattle.slices.proofs.Filling.{filling_start, filling_next, filling_done}
+use Rattle.batches.specs.Lanes.{lane_at}
+use Rattle.batches.proofs.VolumeLanes.{numbers_lane}
 
 abbrev invariant-loop : tie.invariant-loop
-invariant-loop y lanes volume₀ first v₀ volume v = FillingPairs (λ v. first + v) (λ v. laneAt y 0 v) lanes v volume₀ volume
+invariant-loop y lanes volume₀ first v₀ volume v = FillingPairs (λ v. first + v) (λ v. lane_at y 0 v) lanes v volume₀ volume
 
 abbrev decreases-loop : tie.decreases-loop
 decreases-loop y lanes volume₀ first v₀ volume v = lanes - v
 
 loop-holds : tie.Need-loop-init invariant-loop decreases-loop
-loop-holds c = filling-start
+loop-holds c = filling_start
 
 mul-t8 : tie.Need-overflow-mul-t8 invariant-loop decreases-loop
 mul-t8 c = omega (arith, c.loop-test.true, c.before.before.before.requires.0)
@@ -54,13 +54,13 @@ loop-again : tie.Need-loop-preserved invariant-loop decreases-loop
 loop-again c =
     let e = c.before.before in
     let t = e.before.before.before.before in
-    filling-next t.before.loop.invariant t.loop-test.true e.store.ensures (numbers-lane t.before.before.before.args.y.now t.before.loop.v)
+    filling_next t.before.loop.invariant t.loop-test.true e.store.ensures (numbers_lane t.before.before.before.args.y.now t.before.loop.v)
 
 same_length : tie.Need-same-length invariant-loop decreases-loop
 same_length c = omega (arith, c.before.loop.invariant.len)
 
 returns : tie.Need-returns invariant-loop decreases-loop
-returns c = filling-done c.before.loop.invariant c.loop-test.false
+returns c = filling_done c.before.loop.invariant c.loop-test.false
 
-pub put-place-spec : {M : Type 1} → statement M
-put-place-spec = tie.close (tie.spec invariant-loop decreases-loop loop-holds mul-t8 element-copy-out-t11 add-t12 mul-t13 element-copy-out-t16 add-store store-requires add-v loop-less loop-again same_length returns)
+pub put_place_spec : {M : Type 1} → statement M
+put_place_spec = tie.close (tie.spec invariant-loop decreases-loop loop-holds mul-t8 element-copy-out-t11 add-t12 mul-t13 element-copy-out-t16 add-store store-requires add-v loop-less loop-again same_length returns)

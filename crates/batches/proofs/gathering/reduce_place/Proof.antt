@@ -4,7 +4,7 @@ use native.Mathlib.Omega.{arith}
 use Rattle.batches.proofs.gathering.reduce_place.Statement.{statement}
 use Rattle.batches.proofs.gathering.reduce_place.Tie as tie
 use Rattle.batches.specs.Groups.{ReducedPlace}
-use Rattle.batches.proofs.VolumeLanes.{reducing-start, reducing-next, reducing-done}
+use Rattle.batches.proofs.VolumeLanes.{reducing_start, reducing_next, reducing_done}
 
 abbrev invariant-loop : tie.invariant-loop
 invariant-loop m c s j y₀ first u₀ y u = ReducedPlace m c s j u y
@@ -16,7 +16,7 @@ mul-first : tie.Need-overflow-mul-first invariant-loop decreases-loop
 mul-first c = omega (arith, c.before.requires.2)
 
 loop-holds : tie.Need-loop-init invariant-loop decreases-loop
-loop-holds c = reducing-start c.before.requires.4
+loop-holds c = reducing_start c.before.requires.4
 
 add-residue : tie.Need-overflow-add-residue invariant-loop decreases-loop
 add-residue c = omega (arith, c.loop-test.true, c.before.before.before.requires.2)
@@ -47,10 +47,10 @@ loop-less c = omega (arith, c.before.before.loop-test.true)
 loop-again : tie.Need-loop-preserved invariant-loop decreases-loop
 loop-again c =
     let t = c.before.before in
-    reducing-next t.before.loop.invariant t.loop-test.true c.residue.ensures
+    reducing_next t.before.loop.invariant t.loop-test.true c.residue.ensures
 
 returns : tie.Need-returns invariant-loop decreases-loop
-returns c = reducing-done c.before.loop.invariant c.loop-test.false
+returns c = reducing_done c.before.loop.invariant c.loop-test.false
 
-pub reduce-place-spec : {M : Type 1} → statement M
-reduce-place-spec = tie.close (tie.spec invariant-loop decreases-loop mul-first loop-holds add-residue mul-residue shared-slice-read-residue residue-requires mul-y element-write-y add-u loop-less loop-again returns)
+pub reduce_place_spec : {M : Type 1} → statement M
+reduce_place_spec = tie.close (tie.spec invariant-loop decreases-loop mul-first loop-holds add-residue mul-residue shared-slice-read-residue residue-requires mul-y element-write-y add-u loop-less loop-again returns)

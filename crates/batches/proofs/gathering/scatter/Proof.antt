@@ -5,9 +5,9 @@ use lib.ListN.{length, length-replicate}
 use native.Mathlib.Omega.{arith}
 use Rattle.batches.proofs.gathering.scatter.Statement.{statement}
 use Rattle.batches.proofs.gathering.scatter.Tie as tie
-use Rattle.slices.proofs.Rows.{row-end}
+use Rattle.slices.proofs.Rows.{row_end}
 use Rattle.batches.specs.Groups.{Scattered}
-use Rattle.batches.proofs.VolumeLanes.{scattering-start, scattering-next, scattering-done}
+use Rattle.batches.proofs.VolumeLanes.{scattering_start, scattering_next, scattering_done}
 
 abbrev invariant-loop : tie.invariant-loop
 invariant-loop m c s n lanes start stride volume₀ y₀ j₀ volume y j = Scattered m c s start stride lanes j volume₀ volume × ((length y ≡ 32) × (j ≤ n))
@@ -17,10 +17,10 @@ decreases-loop m c s n lanes start stride volume₀ y₀ j₀ volume y j = n - j
 
 -- the place of a turn lies inside
 inside : (c : tie.In-loop invariant-loop decreases-loop) → let l = c.before in let a = l.before.before.before.args in 2 * (a.start + l.loop.j * a.stride + a.lanes) ≤ length a.volume.now
-inside c = omega (arith, row-end c.before.before.before.before.args.stride c.loop-test.true, c.before.before.before.before.requires.1)
+inside c = omega (arith, row_end c.before.before.before.before.args.stride c.loop-test.true, c.before.before.before.before.requires.1)
 
 loop-holds : tie.Need-loop-init invariant-loop decreases-loop
-loop-holds c = (scattering-start, (length-replicate {A = ℕ} 32 0, omega arith))
+loop-holds c = (scattering_start, (length-replicate {A = ℕ} 32 0, omega arith))
 
 reduce-place-requires : tie.Need-reduce-place-requires invariant-loop decreases-loop
 reduce-place-requires c κs =
@@ -57,13 +57,13 @@ loop-again c =
     let t = r.before.before in
     let l = t.before in
     let p = l.before.before.before.requires.0 in
-    (scattering-next l.loop.volume l.loop.invariant.0 r.reduce-place.ensures g.put-place.ensures p.2 p.3 (inside t), (r.reduce-place.ensures.long, omega (arith, t.loop-test.true)))
+    (scattering_next l.loop.volume l.loop.invariant.0 r.reduce-place.ensures g.put-place.ensures p.2 p.3 (inside t), (r.reduce-place.ensures.long, omega (arith, t.loop-test.true)))
 
 same_length : tie.Need-same-length invariant-loop decreases-loop
 same_length c = omega (arith, c.before.loop.invariant.0.long)
 
 returns : tie.Need-returns invariant-loop decreases-loop
-returns c = scattering-done c.before.loop.invariant.0 (omega (arith, c.before.loop.invariant.1.1, c.loop-test.false))
+returns c = scattering_done c.before.loop.invariant.0 (omega (arith, c.before.loop.invariant.1.1, c.loop-test.false))
 
-pub scatter-spec : {M : Type 1} → statement M
-scatter-spec = tie.close (tie.spec invariant-loop decreases-loop loop-holds reduce-place-requires mul-put-place add-put-place put-place-requires add-j loop-less loop-again same_length returns)
+pub scatter_spec : {M : Type 1} → statement M
+scatter_spec = tie.close (tie.spec invariant-loop decreases-loop loop-holds reduce-place-requires mul-put-place add-put-place put-place-requires add-j loop-less loop-again same_length returns)

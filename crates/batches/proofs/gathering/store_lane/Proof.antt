@@ -3,7 +3,7 @@ use mathlib.Core.Path.{refl}
 use borrow.Author.Rules.{rules}
 use Prim.Native.Nat.{◌+◌, ◌*◌}
 use lib.ListN.{length-set}
-use Rattle.batches.specs.Lanes.{putLane}
+use Rattle.batches.specs.Lanes.{put_lane}
 use native.Mathlib.Omega.{arith}
 use Rattle.batches.proofs.gathering.store_lane.Statement.{statement}
 use Rattle.batches.proofs.gathering.store_lane.Tie as tie
@@ -33,8 +33,8 @@ same_length : tie.Need-same-length
 same_length c = search rules
 
 returns : tie.Need-returns
-unfolding putLane
+unfolding put_lane
 returns c = refl
 
-pub store-lane-spec : {M : Type 1} → statement M
-store-lane-spec = tie.close (tie.spec mul-k add-k mul-d slice-write-d add-d mul-d-2 slice-write-d-2 same_length returns)
+pub store_lane_spec : {M : Type 1} → statement M
+store_lane_spec = tie.close (tie.spec mul-k add-k mul-d slice-write-d add-d mul-d-2 slice-write-d-2 same_length returns)

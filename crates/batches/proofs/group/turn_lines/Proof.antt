@@ -1,7 +1,7 @@
 -- The sweep law for a group (`GroupLaw`).
 use native.Mathlib.Omega.{arith}
-use Rattle.batches.proofs.VolumeLanes.{gathered-low}
-use Rattle.batches.proofs.GroupLaw.{group-turned, transformed-low}
+use Rattle.batches.proofs.VolumeLanes.{gathered_low}
+use Rattle.batches.proofs.GroupLaw.{group_turned_lem, transformed_low}
 use Rattle.batches.proofs.group.turn_lines.Statement.{statement}
 use Rattle.batches.proofs.group.turn_lines.Tie as tie
 
@@ -17,7 +17,7 @@ transform-requires c κs =
     let g = l.before in
     let s = g.before.before.before.before.before.before in
     let p = s.requires.1.1 in
-    (s.requires.0, (s.requires.1.0, (omega (arith, l.line.given, p.0.0), p.0.1, gathered-low g.gather.ensures s.args.m p.1.1 (omega (arith, l.line.given, p.0.0)))))
+    (s.requires.0, (s.requires.1.0, (omega (arith, l.line.given, p.0.0), p.0.1, gathered_low g.gather.ensures s.args.m p.1.1 (omega (arith, l.line.given, p.0.0)))))
 
 scatter-requires : tie.Need-scatter-requires
 scatter-requires c κs =
@@ -32,7 +32,7 @@ scatter-requires c κs =
         p.0.3,
         p.0.4,
         t.transform.ensures.long,
-        transformed-low s.requires.0.0 t.transform.ensures (gathered-low g.gather.ensures s.args.m p.1.1 (omega (arith, l.line.given, p.0.0))),
+        transformed_low s.requires.0.0 t.transform.ensures (gathered_low g.gather.ensures s.args.m p.1.1 (omega (arith, l.line.given, p.0.0))),
       ),
       p.1.0,
     )
@@ -56,7 +56,7 @@ returns c =
     let g = t.before.before.before.before.before in
     let s = g.before.before.before.before.before.before in
     let p = s.requires.1.1 in
-    λ z e. group-turned s.args.volume.now p.0.3 p.0.4 p.1.0 p.1.1 g.gather.ensures t.transform.ensures k.scatter.ensures z e
+    λ z e. group_turned_lem s.args.volume.now p.0.3 p.0.4 p.1.0 p.1.1 g.gather.ensures t.transform.ensures k.scatter.ensures z e
 
-pub turn-lines-spec : {M : Type 1} → statement M
-turn-lines-spec = tie.close (tie.spec gather-requires transform-requires scatter-requires same_length same-length-2 same-length-3 returns)
+pub turn_lines_spec : {M : Type 1} → statement M
+turn_lines_spec = tie.close (tie.spec gather-requires transform-requires scatter-requires same_length same-length-2 same-length-3 returns)

@@ -29,8 +29,8 @@ returns c =
     let s = c.before.before.before in
     ap (λ (p : ℕ). record { re = get_or s.args.re.now s.args.k 0; im = get_or s.args.im.now s.args.k 0; minus = p - get_or s.args.im.now s.args.k 0 }) c.before.modulus.ensures.0
 
-pub factor-at-spec : {M : Type 1} → statement M
-factor-at-spec =
+pub factor_at_spec : {M : Type 1} → statement M
+factor_at_spec =
     tie.close
     (tie.spec
     mul-s

@@ -30,5 +30,5 @@ returns c = (up_is _ _ c.if1.true, omega (arith, c.before.requires))
 returns-2 : tie.Need-returns-2
 returns-2 c = (down_is _ _ c.if1.false, omega (arith, c.before.requires))
 
-pub quarter-spec : {M : Type 1} → statement M
-quarter-spec = tie.close (tie.spec sub-result add-result sub-result-2 add-result-2 returns returns-2)
+pub quarter_spec : {M : Type 1} → statement M
+quarter_spec = tie.close (tie.spec sub-result add-result sub-result-2 add-result-2 returns returns-2)

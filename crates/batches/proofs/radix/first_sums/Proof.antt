@@ -3,7 +3,7 @@ use native.Mathlib.Omega.{arith}
 use mathlib.Core.Path.{◌≡◌, sym, subst}
 use mathlib.Core.List.{List}
 use Prim.Native.Nat.{ℕ}
-use Rattle.roots.specs.Table.{tableRoot}
+use Rattle.roots.specs.Table.{table_root}
 use Rattle.batches.specs.Lanes.{Apart, Summed}
 use Rattle.batches.proofs.radix.first_sums.Statement.{statement}
 use Rattle.batches.proofs.radix.first_sums.Tie as tie
@@ -12,7 +12,7 @@ places : (s : tie.Start) {B : ℕ} → s.args.outer ≡ B → Apart B s.args.at 
 places s e = subst (λ B. Apart B s.args.at s.args.from.now) e s.requires.1.2
 
 abbrev Sums : (s : tie.Start) (B : ℕ) (y : List ℕ) → Type 0
-Sums s B y = Summed s.args.m (tableRoot s.args.m s.args.re.now s.args.im.now) B s.args.at s.args.from.now 16 y
+Sums s B y = Summed s.args.m (table_root s.args.m s.args.re.now s.args.im.now) B s.args.at s.args.from.now 16 y
 
 done : (s : tie.Start) {B : ℕ} {y : List ℕ} → s.args.outer ≡ B → Sums s B y → Sums s s.args.outer y
 done s {y = y} e h = subst (λ B. Sums s B y) (sym e) h
@@ -61,5 +61,5 @@ returns-4 c =
     let s = c.before.before.before.before.before.before in
     done s (last s c.before.before.before.before.if1.false c.before.before.before.if2.false c.before.before.if3.false) c.five-first.ensures
 
-pub first-sums-spec : {M : Type 1} → statement M
-first-sums-spec = tie.close (tie.spec four-first-requires two-first-requires three-first-requires five-first-requires returns returns-2 returns-3 returns-4)
+pub first_sums_spec : {M : Type 1} → statement M
+first_sums_spec = tie.close (tie.spec four-first-requires two-first-requires three-first-requires five-first-requires returns returns-2 returns-3 returns-4)

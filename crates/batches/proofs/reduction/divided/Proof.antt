@@ -4,8 +4,8 @@ use mathlib.Core.Path.{refl}
 use Prim.Native.Nat.{ℕ, ◌*◌, ◌%◌, ◌≤◌}
 use native.Mathlib.Omega.{arith}
 use native.Mathlib.Nat.{mod-lt, mul-le-mul}
-use Rattle.numbers.proofs.Primes.{prime-most}
-use Rattle.batches.proofs.Division.{divided-as}
+use Rattle.numbers.proofs.Primes.{prime_most}
+use Rattle.batches.proofs.Division.{divided_as}
 use Rattle.batches.proofs.reduction.divided.Statement.{statement}
 use Rattle.batches.proofs.reduction.divided.Tie as tie
 
@@ -35,20 +35,20 @@ mul-result c =
 add-result : tie.Need-overflow-add-result
 add-result c =
     let s = c.before.before in
-    omega (arith, added (s.args.x % 4294967296 * c.before.inverse.result) c.modulus.result c.modulus.ensures.2, s.requires.1, prime-most s.requires.0)
+    omega (arith, added (s.args.x % 4294967296 * c.before.inverse.result) c.modulus.result c.modulus.ensures.2, s.requires.1, prime_most s.requires.0)
 
 cast-result-2 : tie.Need-overflow-cast-result-2
 cast-result-2 c =
     let s = c.before.before in
-    omega (arith, added (s.args.x % 4294967296 * c.before.inverse.result) c.modulus.result c.modulus.ensures.2, s.requires.1, prime-most s.requires.0)
+    omega (arith, added (s.args.x % 4294967296 * c.before.inverse.result) c.modulus.result c.modulus.ensures.2, s.requires.1, prime_most s.requires.0)
 
 returns : tie.Need-returns
 returns c =
     let s = c.before.before in
-    divided-as c.modulus.ensures.0 c.before.inverse.ensures.0 s.requires.1 refl
+    divided_as c.modulus.ensures.0 c.before.inverse.ensures.0 s.requires.1 refl
 
-pub divided-spec : {M : Type 1} → statement M
-divided-spec =
+pub divided_spec : {M : Type 1} → statement M
+divided_spec =
     tie.close
     (tie.spec
     inverse-requires

@@ -1,19 +1,19 @@
 -- The product is small enough.
 use borrow.Author.Rules.{rules}
 use native.Mathlib.Omega.{arith}
-use Rattle.numbers.proofs.Primes.{prime-most, prime-pos}
-use Rattle.batches.proofs.Division.{product-most}
+use Rattle.numbers.proofs.Primes.{prime_most, prime_pos}
+use Rattle.batches.proofs.Division.{product_most}
 use Rattle.batches.proofs.reduction.scaled.Statement.{statement}
 use Rattle.batches.proofs.reduction.scaled.Tie as tie
 
 mul-divided : tie.Need-overflow-mul-divided
-mul-divided c = omega (arith, product-most c.requires.1 c.requires.2, prime-most c.requires.0)
+mul-divided c = omega (arith, product_most c.requires.1 c.requires.2, prime_most c.requires.0)
 
 divided-requires : tie.Need-divided-requires
-divided-requires c κs = (c.requires.0, omega (arith, product-most c.requires.1 c.requires.2, prime-pos c.args.m))
+divided-requires c κs = (c.requires.0, omega (arith, product_most c.requires.1 c.requires.2, prime_pos c.args.m))
 
 returns : tie.Need-returns
 returns c = search rules
 
-pub scaled-spec : {M : Type 1} → statement M
-scaled-spec = tie.close (tie.spec mul-divided divided-requires returns)
+pub scaled_spec : {M : Type 1} → statement M
+scaled_spec = tie.close (tie.spec mul-divided divided-requires returns)

@@ -1,6 +1,6 @@
 -- What is left after the division is below 2 p.
 use native.Mathlib.Omega.{arith}
-use Rattle.batches.proofs.LastReduction.{reduced-below, reduced-above}
+use Rattle.batches.proofs.LastReduction.{reduced_below, reduced_above}
 use Rattle.batches.proofs.residues.residue.Statement.{statement}
 use Rattle.batches.proofs.residues.residue.Tie as tie
 
@@ -13,12 +13,12 @@ scaled-requires c κs = let s = c.before in (s.requires.0, omega (arith, s.requi
 returns : tie.Need-returns
 returns c =
     let s = c.before.before.before in
-    λ c₀ is. reduced-below s.args.c s.args.x c.before.before.modulus.ensures.0 c.before.scaled.ensures is c.if1.true
+    λ c₀ is. reduced_below s.args.c s.args.x c.before.before.modulus.ensures.0 c.before.scaled.ensures is c.if1.true
 
 returns-2 : tie.Need-returns-2
 returns-2 c =
     let s = c.before.before.before in
-    λ c₀ is. reduced-above s.args.c s.args.x c.before.before.modulus.ensures.0 c.before.scaled.ensures is c.if1.false
+    λ c₀ is. reduced_above s.args.c s.args.x c.before.before.modulus.ensures.0 c.before.scaled.ensures is c.if1.false
 
-pub residue-spec : {M : Type 1} → statement M
-residue-spec = tie.close (tie.spec modulus-requires scaled-requires returns returns-2)
+pub residue_spec : {M : Type 1} → statement M
+residue_spec = tie.close (tie.spec modulus-requires scaled-requires returns returns-2)

@@ -9,5 +9,5 @@ returns c = shift_one c.if1.true
 returns-2 : tie.Need-returns-2
 returns-2 c = shift_two c.before.requires c.if1.false
 
-pub shift-spec : {M : Type 1} → statement M
-shift-spec = tie.close (tie.spec returns returns-2)
+pub shift_spec : {M : Type 1} → statement M
+shift_spec = tie.close (tie.spec returns returns-2)

@@ -42,5 +42,5 @@ returns-2 c =
     let f = c.before.before.before.before.before in
     (placed_by f.turned-sums.ensures c.before.before.put-blocks2.ensures, f.turned-sums.ensures.long)
 
-pub outer-sums-spec : {M : Type 1} → statement M
-outer-sums-spec = tie.close (tie.spec first-sums-requires put-blocks-requires turned-sums-requires put-blocks-requires-2 same_length returns same-length-2 returns-2)
+pub outer_sums_spec : {M : Type 1} → statement M
+outer_sums_spec = tie.close (tie.spec first-sums-requires put-blocks-requires turned-sums-requires put-blocks-requires-2 same_length returns same-length-2 returns-2)

@@ -3,22 +3,22 @@ use Prim.Native.Nat.{ℕ, ◌-◌, ◌*◌}
 use mathlib.Core.Path.{◌≡◌}
 use native.Mathlib.Omega.{arith}
 use lib.ListN.{length, length-replicate}
-use Rattle.roots.specs.Table.{tableRoot}
-use Rattle.slices.proofs.Rows.{rows-wide}
-use Rattle.plain.proofs.step.Sizes.{outer-pos, product_le, product-pos, stride-le}
-use Rattle.batches.proofs.PassingLanes.{PassingLanes, passing-start, passing-apart, passing-stores, passing-first, passing-column, passing-base, passing-exponent, passing-next, passing-again, passing-all, passing-done, up_of}
-use Rattle.batches.proofs.LaneLaw.{lane-parts}
+use Rattle.roots.specs.Table.{table_root}
+use Rattle.slices.proofs.Rows.{rows_wide}
+use Rattle.plain.proofs.step.Sizes.{outer_pos, product_le, product_pos, stride_le}
+use Rattle.batches.proofs.PassingLanes.{PassingLanes, passing_start, passing_apart, passing_stores, passing_first, passing_column, passing_base, passing_exponent, passing_next, passing_again, passing_all, passing_done, up_of}
+use Rattle.batches.proofs.LaneLaw.{lane_parts}
 use Rattle.batches.proofs.step.step.Statement.{statement}
 use Rattle.batches.proofs.step.step.Tie as tie
 
 abbrev invariant-loop : tie.invariant-loop
-invariant-loop m re im sre sim inner outer lines from to₀ stride skip exponent y₀ first₀ a₀ base₀ k₀ to y first a base k = PassingLanes m (tableRoot m re im) from inner outer lines first a base k to × (length y ≡ 160)
+invariant-loop m re im sre sim inner outer lines from to₀ stride skip exponent y₀ first₀ a₀ base₀ k₀ to y first a base k = PassingLanes m (table_root m re im) from inner outer lines first a base k to × (length y ≡ 160)
 
 abbrev decreases-loop : tie.decreases-loop
 decreases-loop m re im sre sim inner outer lines from to₀ stride skip exponent y₀ first₀ a₀ base₀ k₀ to y first a base k = lines * inner - first
 
 mul-stride : tie.Need-overflow-mul-stride invariant-loop decreases-loop
-mul-stride c = omega (arith, stride-le c.before.before.requires.1.0.0)
+mul-stride c = omega (arith, stride_le c.before.before.requires.1.0.0)
 
 mul-skip : tie.Need-overflow-mul-skip invariant-loop decreases-loop
 mul-skip c = omega (arith, product_le c.before.before.requires.1.0.0)
@@ -26,18 +26,18 @@ mul-skip c = omega (arith, product_le c.before.before.requires.1.0.0)
 sub-skip : tie.Need-overflow-sub-skip invariant-loop decreases-loop
 sub-skip c =
     let s = c.before.before in
-    omega (arith, rows-wide s.args.inner (outer-pos s.requires.1.0.0))
+    omega (arith, rows_wide s.args.inner (outer_pos s.requires.1.0.0))
 
 mul-exponent : tie.Need-overflow-mul-exponent invariant-loop decreases-loop
 mul-exponent c = omega (arith, product_le c.before.before.requires.1.0.0)
 
 div-exponent : tie.Need-nonzero-div-exponent invariant-loop decreases-loop
-div-exponent c = omega (arith, product-pos c.before.before.requires.1.0.0)
+div-exponent c = omega (arith, product_pos c.before.before.requires.1.0.0)
 
 loop-holds : tie.Need-loop-init invariant-loop decreases-loop
 loop-holds c =
     let s = c.before.before in
-    (passing-start s.requires.1.0.0.inner s.requires.1.0.2, length-replicate {A = ℕ} 160 0)
+    (passing_start s.requires.1.0.0.inner s.requires.1.0.2, length-replicate {A = ℕ} 160 0)
 
 outer-sums-requires : tie.Need-outer-sums-requires invariant-loop decreases-loop
 outer-sums-requires c κs =
@@ -47,41 +47,41 @@ outer-sums-requires c κs =
     let h = s.requires.1.0.0 in
     let v = at-loop.loop.invariant.0 in
     let l = at-loop-test.loop-test.true in
-    (s.requires.0, ((h.low, h.high, passing-apart v l h s.requires.1.0.1, s.requires.1.1.0, at-loop.loop.invariant.1), (h.inner, passing-stores v l, λ one. passing-first v l (s.requires.1.1.1 one) one)))
+    (s.requires.0, ((h.low, h.high, passing_apart v l h s.requires.1.0.1, s.requires.1.1.0, at-loop.loop.invariant.1), (h.inner, passing_stores v l, λ one. passing_first v l (s.requires.1.1.1 one) one)))
 
 add-first : tie.Need-overflow-add-first invariant-loop decreases-loop
 add-first c =
     let at-loop-test = c.before.before.before.before.before in
     let s = at-loop-test.before.before.before.before in
-    omega (arith, at-loop-test.loop-test.true, stride-le s.requires.1.0.0)
+    omega (arith, at-loop-test.loop-test.true, stride_le s.requires.1.0.0)
 
 add_a : tie.Need-overflow-add-a invariant-loop decreases-loop
 add_a c =
     let at-loop-test = c.before.before.before.before.before in
     let at-loop = at-loop-test.before in
     let s = at-loop.before.before.before in
-    omega (arith, passing-column at-loop.loop.invariant.0 at-loop-test.loop-test.true s.requires.1.0.0)
+    omega (arith, passing_column at-loop.loop.invariant.0 at-loop-test.loop-test.true s.requires.1.0.0)
 
 add-base : tie.Need-overflow-add-base invariant-loop decreases-loop
 add-base c =
     let at-loop-test = c.before.before.before.before.before in
     let at-loop = at-loop-test.before in
     let s = at-loop.before.before.before in
-    omega (arith, passing-base at-loop.loop.invariant.0 at-loop-test.loop-test.true s.requires.1.0.0)
+    omega (arith, passing_base at-loop.loop.invariant.0 at-loop-test.loop-test.true s.requires.1.0.0)
 
 add-k : tie.Need-overflow-add-k invariant-loop decreases-loop
 add-k c =
     let at-loop-test = c.before.before.before.before.before in
     let at-loop = at-loop-test.before in
     let s = at-loop.before.before.before in
-    omega (arith, passing-exponent at-loop.loop.invariant.0 at-loop-test.loop-test.true s.requires.1.0.0)
+    omega (arith, passing_exponent at-loop.loop.invariant.0 at-loop-test.loop-test.true s.requires.1.0.0)
 
 add-base-2 : tie.Need-overflow-add-base-2 invariant-loop decreases-loop
 add-base-2 c =
     let at-loop-test = c.before.before.before.before.before.before in
     let at-loop = at-loop-test.before in
     let s = at-loop.before.before.before in
-    omega (arith, passing-base at-loop.loop.invariant.0 at-loop-test.loop-test.true s.requires.1.0.0)
+    omega (arith, passing_base at-loop.loop.invariant.0 at-loop-test.loop-test.true s.requires.1.0.0)
 
 loop-less : tie.Need-loop-smaller invariant-loop decreases-loop
 loop-less c =
@@ -94,7 +94,7 @@ loop-again c =
     let at-loop-test = at-sums.before.before.before in
     let at-loop = at-loop-test.before in
     let s = at-loop.before.before.before in
-    (passing-again at-loop.loop.invariant.0 at-loop-test.loop-test.true at-sums.outer-sums.ensures.0 (outer-pos s.requires.1.0.0) c.if1.true, at-sums.outer-sums.ensures.1)
+    (passing_again at-loop.loop.invariant.0 at-loop-test.loop-test.true at-sums.outer-sums.ensures.0 (outer_pos s.requires.1.0.0) c.if1.true, at-sums.outer-sums.ensures.1)
 
 loop-less-2 : tie.Need-loop-smaller-2 invariant-loop decreases-loop
 loop-less-2 c =
@@ -106,7 +106,7 @@ loop-again-2 c =
     let at-sums = c.before.before.before in
     let at-loop-test = at-sums.before.before.before in
     let at-loop = at-loop-test.before in
-    (passing-next at-loop.loop.invariant.0 at-loop-test.loop-test.true at-sums.outer-sums.ensures.0 c.if1.false, at-sums.outer-sums.ensures.1)
+    (passing_next at-loop.loop.invariant.0 at-loop-test.loop-test.true at-sums.outer-sums.ensures.0 c.if1.false, at-sums.outer-sums.ensures.1)
 
 same_length : tie.Need-same-length invariant-loop decreases-loop
 same_length c =
@@ -119,11 +119,11 @@ returns c =
     let at-loop = c.before in
     let s = at-loop.before.before.before in
     let h = at-loop.loop.invariant.0 in
-    let left = passing-done h c.loop-test.false s.requires.1.1.0 in (
+    let left = passing_done h c.loop-test.false s.requires.1.1.0 in (
       left,
       (
-        λ X up. up_of h.long (λ v j hv lj. let g = passing-all h c.loop-test.false X up v j hv lj in (g.re, g.im)),
-        record { each = λ v lv X came. lane-parts s.args.m _ left lv s.requires.1.0.0 s.requires.0.1.cycle X came },
+        λ X up. up_of h.long (λ v j hv lj. let g = passing_all h c.loop-test.false X up v j hv lj in (g.re, g.im)),
+        record { each = λ v lv X came. lane_parts s.args.m _ left lv s.requires.1.0.0 s.requires.0.1.cycle X came },
       ),
     )
 

@@ -4,7 +4,7 @@ use native.Mathlib.Omega.{arith}
 use Rattle.numbers.specs.Bounds.{res}
 use Rattle.numbers.proofs.Residues.{below_by}
 use Rattle.batches.specs.Reduction.{ShiftedList}
-use Rattle.batches.proofs.LastReduction.{shifting-start, shifting-next, shifting-done}
+use Rattle.batches.proofs.LastReduction.{shifting_start, shifting_next, shifting_done}
 use Rattle.batches.proofs.tables.shift_list.Statement.{statement}
 use Rattle.batches.proofs.tables.shift_list.Tie as tie
 
@@ -18,7 +18,7 @@ shift-requires : tie.Need-shift-requires invariant-loop decreases-loop
 shift-requires c κs = c.requires.0
 
 loop-holds : tie.Need-loop-init invariant-loop decreases-loop
-loop-holds c = shifting-start c.before.requires.2
+loop-holds c = shifting_start c.before.requires.2
 
 mul-mul : tie.Need-overflow-mul-mul invariant-loop decreases-loop
 mul-mul c = omega (arith, c.loop-test.true)
@@ -48,10 +48,10 @@ loop-less c = omega (arith, c.before.before.loop-test.true)
 loop-again : tie.Need-loop-preserved invariant-loop decreases-loop
 loop-again c =
     let t = c.before.before in
-    shifting-next t.before.loop.invariant t.loop-test.true t.before.before.shift.ensures c.mul.ensures
+    shifting_next t.before.loop.invariant t.loop-test.true t.before.before.shift.ensures c.mul.ensures
 
 returns : tie.Need-returns invariant-loop decreases-loop
-returns c = shifting-done c.before.loop.invariant c.loop-test.false
+returns c = shifting_done c.before.loop.invariant c.loop-test.false
 
-pub shift-list-spec : {M : Type 1} → statement M
-shift-list-spec = tie.close (tie.spec invariant-loop decreases-loop shift-requires loop-holds mul-mul element-copy-out-mul mul-requires mul-to element-write-to add-k loop-less loop-again returns)
+pub shift_list_spec : {M : Type 1} → statement M
+shift_list_spec = tie.close (tie.spec invariant-loop decreases-loop shift-requires loop-holds mul-mul element-copy-out-mul mul-requires mul-to element-write-to add-k loop-less loop-again returns)

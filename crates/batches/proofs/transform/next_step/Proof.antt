@@ -1,8 +1,8 @@
 -- The step of the next factor.
 use borrow.Author.Rules.{rules}
 use native.Mathlib.Omega.{arith}
-use Rattle.plain.proofs.Stepping.{step-splits}
-use Rattle.batches.proofs.DrivingLanes.{batch-long, batch-left}
+use Rattle.plain.proofs.Stepping.{step_splits}
+use Rattle.batches.proofs.DrivingLanes.{batch_long, batch_left}
 use Rattle.batches.proofs.transform.next_step.Statement.{statement}
 use Rattle.batches.proofs.transform.next_step.Tie as tie
 
@@ -18,7 +18,7 @@ step-requires c κs =
     let s = n.before.before.before in
     let a = s.requires.1.0.0 in
     let e = n.next.ensures in
-    (s.requires.0, ((step-splits a e, batch-long a e s.requires.1.0.1, batch-long a e s.requires.1.0.2), s.requires.1.1))
+    (s.requires.0, ((step_splits a e, batch_long a e s.requires.1.0.1, batch_long a e s.requires.1.0.2), s.requires.1.1))
 
 same_length : tie.Need-same-length
 same_length c = search rules
@@ -28,7 +28,7 @@ returns c =
     let p = c.before.before in
     let n = p.before.before.before in
     let s = n.before.before.before in
-    (n.next.ensures, (batch-left s.requires.1.0.0 n.next.ensures p.step.ensures.0, p.step.ensures.1.0))
+    (n.next.ensures, (batch_left s.requires.1.0.0 n.next.ensures p.step.ensures.0, p.step.ensures.1.0))
 
-pub next-step-spec : {M : Type 1} → statement M
-next-step-spec = tie.close (tie.spec next-requires cast-step step-requires same_length returns)
+pub next_step_spec : {M : Type 1} → statement M
+next_step_spec = tie.close (tie.spec next-requires cast-step step-requires same_length returns)

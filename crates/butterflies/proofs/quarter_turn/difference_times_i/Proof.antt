@@ -1,6 +1,6 @@
 -- Both are taken from a number that stands for 0, and i (a + b i) is -b + a i.
 use borrow.Author.Rules.{rules}
-use Rattle.numbers.proofs.unreduced.Unreduced.{accumulated-times-i}
+use Rattle.numbers.proofs.unreduced.Unreduced.{accumulated_times_i}
 use Rattle.butterflies.proofs.quarter_turn.difference_times_i.Statement.{statement}
 use Rattle.butterflies.proofs.quarter_turn.difference_times_i.Tie as tie
 
@@ -17,7 +17,7 @@ add-t6 : tie.Need-overflow-add-t6
 add-t6 c = search rules
 
 returns : tie.Need-returns
-returns c = λ m is. let s = c.before.before.before.before in accumulated-times-i m is s.requires.0 s.requires.1
+returns c = λ m is. let s = c.before.before.before.before in accumulated_times_i m is s.requires.0 s.requires.1
 
-pub difference-times-i-spec : {M : Type 1} → statement M
-difference-times-i-spec = tie.close (tie.spec sub-t3 add-t4 sub-t5 add-t6 returns)
+pub difference_times_i_spec : {M : Type 1} → statement M
+difference_times_i_spec = tie.close (tie.spec sub-t3 add-t4 sub-t5 add-t6 returns)

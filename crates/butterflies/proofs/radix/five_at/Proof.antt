@@ -2,8 +2,8 @@
 use borrow.Author.Rules.{rules}
 use native.Mathlib.Omega.{arith}
 use lib.Dec.{lit<}
-use Rattle.butterflies.specs.Butterflies.{ofFive}
-use Rattle.butterflies.proofs.radix.Spreading.{asked, all_room, spread_none, spread-more, spread-next, five-loaded, butterfly-stored}
+use Rattle.butterflies.specs.Butterflies.{of_five}
+use Rattle.butterflies.proofs.radix.Spreading.{asked, all_room, spread_none, spread_more, spread_next, five_loaded, butterfly_stored}
 use Rattle.butterflies.proofs.radix.five_at.Statement.{statement}
 use Rattle.butterflies.proofs.radix.five_at.Tie as tie
 
@@ -25,7 +25,7 @@ times-factor-requires-5 c κs = asked c.before.before.before.before.before.befor
 five-requires : tie.Need-five-requires
 five-requires c κs =
     let s = c.before.before.before.before.before.before.before in
-    (s.requires.0, all_room (five-loaded c.before.before.before.before.times-factor.ensures c.before.before.before.times-factor2.ensures c.before.before.times-factor3.ensures c.before.times-factor4.ensures c.times-factor5.ensures))
+    (s.requires.0, all_room (five_loaded c.before.before.before.before.times-factor.ensures c.before.before.before.times-factor2.ensures c.before.before.times-factor3.ensures c.before.times-factor4.ensures c.times-factor5.ensures))
 
 store-at-requires : tie.Need-store-at-requires
 store-at-requires c κs = let s = c.before.before.before.before.before.before.before.before.before in omega (arith, s.requires.1.1.inside)
@@ -51,11 +51,11 @@ returns c =
     let at-factor2 = at-factor3.before in
     let at-factor = at-factor2.before in
     let s = at-factor.before.before.before in
-    let f = ofFive at_five.five.result in
+    let f = of_five at_five.five.result in
     let d = s.args.to.now in
-    butterfly-stored s.args.m s.args.at d (five-loaded at-factor.times-factor.ensures at-factor2.times-factor2.ensures at-factor3.times-factor3.ensures at-factor4.times-factor4.ensures at-factor5.times-factor5.ensures)
+    butterfly_stored s.args.m s.args.at d (five_loaded at-factor.times-factor.ensures at-factor2.times-factor2.ensures at-factor3.times-factor3.ensures at-factor4.times-factor4.ensures at-factor5.times-factor5.ensures)
     at_five.five.ensures
-    (spread-next s.args.at f d 3 (spread-next s.args.at f d 1 (spread-more s.args.at f d 0 (spread_none s.args.at f d) at_store.store_at.ensures) at_next.store-next.ensures) at-next2.store-next2.ensures)
+    (spread_next s.args.at f d 3 (spread_next s.args.at f d 1 (spread_more s.args.at f d 0 (spread_none s.args.at f d) at_store.store_at.ensures) at_next.store-next.ensures) at-next2.store-next2.ensures)
 
-pub five-at-spec : {M : Type 1} → statement M
-five-at-spec = tie.close (tie.spec times-factor-requires times-factor-requires-2 times-factor-requires-3 times-factor-requires-4 times-factor-requires-5 five-requires store-at-requires store-next-requires store-next-requires-2 same_length returns)
+pub five_at_spec : {M : Type 1} → statement M
+five_at_spec = tie.close (tie.spec times-factor-requires times-factor-requires-2 times-factor-requires-3 times-factor-requires-4 times-factor-requires-5 five-requires store-at-requires store-next-requires store-next-requires-2 same_length returns)

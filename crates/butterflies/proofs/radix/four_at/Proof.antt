@@ -3,7 +3,7 @@ use borrow.Author.Rules.{rules}
 use native.Mathlib.Omega.{arith}
 use lib.Dec.{lit<}
 use Rattle.butterflies.specs.Butterflies.{of_four}
-use Rattle.butterflies.proofs.radix.Spreading.{asked, all_room, spread_none, spread-next, four-loaded, butterfly-stored}
+use Rattle.butterflies.proofs.radix.Spreading.{asked, all_room, spread_none, spread_next, four_loaded, butterfly_stored}
 use Rattle.butterflies.proofs.radix.four_at.Statement.{statement}
 use Rattle.butterflies.proofs.radix.four_at.Tie as tie
 
@@ -22,7 +22,7 @@ times-factor-requires-4 c κs = asked c.before.before.before.before.before.requi
 four-requires : tie.Need-four-requires
 four-requires c κs =
     let s = c.before.before.before.before.before.before in
-    (s.requires.0, all_room (four-loaded c.before.before.before.times-factor.ensures c.before.before.times-factor2.ensures c.before.times-factor3.ensures c.times-factor4.ensures))
+    (s.requires.0, all_room (four_loaded c.before.before.before.times-factor.ensures c.before.before.times-factor2.ensures c.before.times-factor3.ensures c.times-factor4.ensures))
 
 store-next-requires : tie.Need-store-next-requires
 store-next-requires c κs = let s = c.before.before.before.before.before.before.before.before in (omega arith, omega (arith, s.requires.1.1.inside), omega (arith, s.requires.1.1.inside))
@@ -45,9 +45,9 @@ returns c =
     let s = at-factor.before.before.before in
     let f = of_four at-four.four.result in
     let d = s.args.to.now in
-    butterfly-stored s.args.m s.args.at d (four-loaded at-factor.times-factor.ensures at-factor2.times-factor2.ensures at-factor3.times-factor3.ensures at-factor4.times-factor4.ensures)
+    butterfly_stored s.args.m s.args.at d (four_loaded at-factor.times-factor.ensures at-factor2.times-factor2.ensures at-factor3.times-factor3.ensures at-factor4.times-factor4.ensures)
     at-four.four.ensures
-    (spread-next s.args.at f d 2 (spread-next s.args.at f d 0 (spread_none s.args.at f d) at_next.store-next.ensures) at-next2.store-next2.ensures)
+    (spread_next s.args.at f d 2 (spread_next s.args.at f d 0 (spread_none s.args.at f d) at_next.store-next.ensures) at-next2.store-next2.ensures)
 
-pub four-at-spec : {M : Type 1} → statement M
-four-at-spec = tie.close (tie.spec times-factor-requires times-factor-requires-2 times-factor-requires-3 times-factor-requires-4 four-requires store-next-requires store-next-requires-2 same_length returns)
+pub four_at_spec : {M : Type 1} → statement M
+four_at_spec = tie.close (tie.spec times-factor-requires times-factor-requires-2 times-factor-requires-3 times-factor-requires-4 four-requires store-next-requires store-next-requires-2 same_length returns)

@@ -5,9 +5,9 @@ use mathlib.Core.List.{List}
 use Prim.Native.Nat.{ℕ, ◌≤◌}
 use native.Mathlib.Omega.{arith}
 use Rattle.numbers.specs.Value.{prime}
-use Rattle.roots.specs.Table.{tableRoot}
+use Rattle.roots.specs.Table.{table_root}
 use Rattle.slices.specs.Pairs.{Below}
-use Rattle.butterflies.specs.Butterflies.{FactorsOf, Reads, Stores, outerSums}
+use Rattle.butterflies.specs.Butterflies.{FactorsOf, Reads, Stores, outer_sums}
 use Rattle.butterflies.proofs.radix.outer_sums.Statement.{statement}
 use Rattle.butterflies.proofs.radix.outer_sums.Tie as tie
 
@@ -16,7 +16,7 @@ asked : (s : tie.Start) {B : ℕ} → s.args.outer ≡ B → Reads B s.args.at s
 asked s e = (subst (λ B. Reads B s.args.at s.args.from.now) e s.requires.1.0.2, subst (λ B. Stores B s.args.at s.args.to.now) e s.requires.1.0.3, s.requires.1.1)
 
 abbrev Sums : (s : tie.Start) (B : ℕ) (d : List ℕ) → Type 0
-Sums s B d = (A 𝐚 : ℕ) → FactorsOf A B 𝐚 s.args.at → d ≡ outerSums s.args.m (tableRoot s.args.m s.args.re.now s.args.im.now) A B 𝐚 s.args.at s.args.from.now s.args.to.now
+Sums s B d = (A 𝐚 : ℕ) → FactorsOf A B 𝐚 s.args.at → d ≡ outer_sums s.args.m (table_root s.args.m s.args.re.now s.args.im.now) A B 𝐚 s.args.at s.args.from.now s.args.to.now
 
 done : (s : tie.Start) {B : ℕ} {d : List ℕ} → s.args.outer ≡ B → Sums s B d → Sums s s.args.outer d
 done s {d = d} e h = subst (λ B. Sums s B d) (sym e) h
@@ -58,7 +58,7 @@ returns : tie.Need-returns
 returns c =
     let at-four-at = c.before.before in
     let at-if1 = at-four-at.before.before in
-    done at-if1.before.before.before at-if1.if1.true at-four-at.four-at.ensures
+    done at-if1.before.before.before at-if1.if1.true at-four-at.four_at.ensures
 
 same-length-2 : tie.Need-same-length-2
 same-length-2 c = search rules
@@ -90,8 +90,8 @@ returns-4 c =
     let s = at-if1.before.before.before in
     done s (last s at-if1.if1.false at-if2.if2.false at-if3.if3.false) at-five-at.five-at.ensures
 
-pub outer-sums-spec : {M : Type 1} → statement M
-outer-sums-spec =
+pub outer_sums_spec : {M : Type 1} → statement M
+outer_sums_spec =
     tie.close
     (tie.spec
     four-at-requires

@@ -2,8 +2,8 @@
 use borrow.Author.Rules.{rules}
 use native.Mathlib.Omega.{arith}
 use lib.Dec.{lit<}
-use Rattle.butterflies.specs.Butterflies.{ofThree}
-use Rattle.butterflies.proofs.radix.Spreading.{asked, all_room, spread_none, spread-more, spread-next, three-loaded, butterfly-stored}
+use Rattle.butterflies.specs.Butterflies.{of_three}
+use Rattle.butterflies.proofs.radix.Spreading.{asked, all_room, spread_none, spread_more, spread_next, three_loaded, butterfly_stored}
 use Rattle.butterflies.proofs.radix.three_at.Statement.{statement}
 use Rattle.butterflies.proofs.radix.three_at.Tie as tie
 
@@ -19,7 +19,7 @@ times-factor-requires-3 c κs = asked c.before.before.before.before.requires 2 (
 three-requires : tie.Need-three-requires
 three-requires c κs =
     let s = c.before.before.before.before.before in
-    (s.requires.0, all_room (three-loaded c.before.before.times-factor.ensures c.before.times-factor2.ensures c.times-factor3.ensures))
+    (s.requires.0, all_room (three_loaded c.before.before.times-factor.ensures c.before.times-factor2.ensures c.times-factor3.ensures))
 
 store-at-requires : tie.Need-store-at-requires
 store-at-requires c κs = let s = c.before.before.before.before.before.before.before in omega (arith, s.requires.1.1.inside)
@@ -39,11 +39,11 @@ returns c =
     let at-factor2 = at-factor3.before in
     let at-factor = at-factor2.before in
     let s = at-factor.before.before.before in
-    let f = ofThree at-three.three.result in
+    let f = of_three at-three.three.result in
     let d = s.args.to.now in
-    butterfly-stored s.args.m s.args.at d (three-loaded at-factor.times-factor.ensures at-factor2.times-factor2.ensures at-factor3.times-factor3.ensures)
+    butterfly_stored s.args.m s.args.at d (three_loaded at-factor.times-factor.ensures at-factor2.times-factor2.ensures at-factor3.times-factor3.ensures)
     at-three.three.ensures
-    (spread-next s.args.at f d 1 (spread-more s.args.at f d 0 (spread_none s.args.at f d) at_store.store_at.ensures) at_next.store-next.ensures)
+    (spread_next s.args.at f d 1 (spread_more s.args.at f d 0 (spread_none s.args.at f d) at_store.store_at.ensures) at_next.store-next.ensures)
 
-pub three-at-spec : {M : Type 1} → statement M
-three-at-spec = tie.close (tie.spec times-factor-requires times-factor-requires-2 times-factor-requires-3 three-requires store-at-requires store-next-requires same_length returns)
+pub three_at_spec : {M : Type 1} → statement M
+three_at_spec = tie.close (tie.spec times-factor-requires times-factor-requires-2 times-factor-requires-3 three-requires store-at-requires store-next-requires same_length returns)

@@ -2,9 +2,9 @@
 use borrow.Author.Rules.{rules}
 use native.Mathlib.Omega.{arith}
 use lib.Dec.{lit<}
-use Rattle.butterflies.specs.Butterflies.{ofTwo}
-use Rattle.butterflies.proofs.quarter_turn.Powers.{half-turn}
-use Rattle.butterflies.proofs.radix.Spreading.{asked, all_room, spread_none, spread-next, two-loaded, butterfly-stored}
+use Rattle.butterflies.specs.Butterflies.{of_two}
+use Rattle.butterflies.proofs.quarter_turn.Powers.{half_turn}
+use Rattle.butterflies.proofs.radix.Spreading.{asked, all_room, spread_none, spread_next, two_loaded, butterfly_stored}
 use Rattle.butterflies.proofs.radix.two_at.Statement.{statement}
 use Rattle.butterflies.proofs.radix.two_at.Tie as tie
 
@@ -17,7 +17,7 @@ times-factor-requires-2 c κs = asked c.before.before.before.requires 1 (lit< tt
 two-requires : tie.Need-two-requires
 two-requires c κs =
     let s = c.before.before.before.before in
-    (s.requires.0.0, all_room (two-loaded c.before.times-factor.ensures c.times-factor2.ensures))
+    (s.requires.0.0, all_room (two_loaded c.before.times-factor.ensures c.times-factor2.ensures))
 
 store-next-requires : tie.Need-store-next-requires
 store-next-requires c κs = let s = c.before.before.before.before.before.before in (omega arith, omega (arith, s.requires.1.1.inside), omega (arith, s.requires.1.1.inside))
@@ -32,11 +32,11 @@ returns c =
     let at-factor2 = at-two.before in
     let at-factor = at-factor2.before in
     let s = at-factor.before.before.before in
-    let f = ofTwo at-two.two.result in
+    let f = of_two at-two.two.result in
     let d = s.args.to.now in
-    butterfly-stored s.args.m s.args.at d (two-loaded at-factor.times-factor.ensures at-factor2.times-factor2.ensures)
-    (at-two.two.ensures _ (half-turn s.requires.0.1))
-    (spread-next s.args.at f d 0 (spread_none s.args.at f d) at_next.store-next.ensures)
+    butterfly_stored s.args.m s.args.at d (two_loaded at-factor.times-factor.ensures at-factor2.times-factor2.ensures)
+    (at-two.two.ensures _ (half_turn s.requires.0.1))
+    (spread_next s.args.at f d 0 (spread_none s.args.at f d) at_next.store-next.ensures)
 
-pub two-at-spec : {M : Type 1} → statement M
-two-at-spec = tie.close (tie.spec times-factor-requires times-factor-requires-2 two-requires store-next-requires same_length returns)
+pub two_at_spec : {M : Type 1} → statement M
+two_at_spec = tie.close (tie.spec times-factor-requires times-factor-requires-2 two-requires store-next-requires same_length returns)

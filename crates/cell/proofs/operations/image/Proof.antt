@@ -21,5 +21,5 @@ returns c =
     let h = c.flipped3.ensures in
     (λ i. (f.0 i, g.0 i, h.0 i), record { h = f.1; k = g.1; l = h.1 })
 
-pub image-spec : {M : Type 1} → statement M
-image-spec = tie.close (tie.spec flipped-requires flipped-requires-2 flipped-requires-3 returns)
+pub image_spec : {M : Type 1} → statement M
+image_spec = tie.close (tie.spec flipped-requires flipped-requires-2 flipped-requires-3 returns)

@@ -1,10 +1,10 @@
 -- One sign after the other, then the conjugate.
 use borrow.Author.Rules.{rules}
 use mathlib.Core.Path.{◌∙◌, ap}
-use Rattle.algebra.specs.cells.Cell.{star, impliedValue}
+use Rattle.algebra.specs.cells.Cell.{star, implied_value}
 use Rattle.numbers.specs.Value.{conj, pair_of}
-use Rattle.numbers.proofs.Values.{small_by, value-by}
-use Rattle.cell.proofs.OperationLaws.{signed-thrice}
+use Rattle.numbers.proofs.Values.{small_by, value_by}
+use Rattle.cell.proofs.OperationLaws.{signed_thrice}
 use Rattle.cell.proofs.operations.implied.Statement.{statement}
 use Rattle.cell.proofs.operations.implied.Tie as tie
 
@@ -21,20 +21,20 @@ conjugate-requires : tie.Need-conjugate-requires
 conjugate-requires c κs = (c.before.before.before.before.requires.0, small_by _ _ c.before.signed3.ensures)
 
 returns : tie.Need-returns
-unfolding impliedValue star
+unfolding implied_value star
 returns c =
     let s = c.before.before in
-    let e = signed-thrice _ _ _ _ _ s.before.before.signed.ensures s.before.signed2.ensures s.signed3.ensures in
-    rw c.before.if1.true (c.conjugate.ensures ∙ ap (λ z. pair_of (conj s.before.before.before.args.m z)) (value-by _ _ e))
+    let e = signed_thrice _ _ _ _ _ s.before.before.signed.ensures s.before.signed2.ensures s.signed3.ensures in
+    rw c.before.if1.true (c.conjugate.ensures ∙ ap (λ z. pair_of (conj s.before.before.before.args.m z)) (value_by _ _ e))
 
 returns-2 : tie.Need-returns-2
-unfolding impliedValue star
+unfolding implied_value star
 returns-2 c =
     let s = c.before in
-    rw c.if1.false (signed-thrice _ _ _ _ _ s.before.before.signed.ensures s.before.signed2.ensures s.signed3.ensures)
+    rw c.if1.false (signed_thrice _ _ _ _ _ s.before.before.signed.ensures s.before.signed2.ensures s.signed3.ensures)
 
-pub implied-spec : {M : Type 1} → statement M
-implied-spec =
+pub implied_spec : {M : Type 1} → statement M
+implied_spec =
     tie.close
     (tie.spec
     signed-requires

@@ -18,5 +18,5 @@ returns c =
     let a = c.before.before.args in
     (c.half-shifted.ensures.0 ∙ ap (shifted a.odd (a.n / 2)) (c.before.flipped.ensures.0 ∙ ap (λ b. flip b (a.n / 2) a.x) (differ a.conjugate a.minus)), c.half-shifted.ensures.1)
 
-pub moved-spec : {M : Type 1} → statement M
-moved-spec = tie.close (tie.spec flipped-requires half-shifted-requires returns)
+pub moved_spec : {M : Type 1} → statement M
+moved_spec = tie.close (tie.spec flipped-requires half-shifted-requires returns)

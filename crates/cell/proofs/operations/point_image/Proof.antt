@@ -1,6 +1,6 @@
 -- The three axes of a point go each by itself.
 use borrow.Author.Rules.{rules}
-use Rattle.algebra.specs.cells.Cell.{pointImage}
+use Rattle.algebra.specs.cells.Cell.{point_image}
 use Rattle.cell.proofs.operations.point_image.Statement.{statement}
 use Rattle.cell.proofs.operations.point_image.Tie as tie
 
@@ -14,12 +14,12 @@ moved-requires-3 : tie.Need-moved-requires-3
 moved-requires-3 c κs = search rules
 
 returns : tie.Need-returns
-unfolding pointImage
+unfolding point_image
 returns c =
     let f = c.before.before.moved.ensures in
     let g = c.before.moved2.ensures in
     let h = c.moved3.ensures in
     (λ i. (f.0 i, g.0 i, h.0 i), record { x = f.1; y = g.1; z = h.1 })
 
-pub point-image-spec : {M : Type 1} → statement M
-point-image-spec = tie.close (tie.spec moved-requires moved-requires-2 moved-requires-3 returns)
+pub point_image_spec : {M : Type 1} → statement M
+point_image_spec = tie.close (tie.spec moved-requires moved-requires-2 moved-requires-3 returns)

@@ -23,5 +23,5 @@ row-requires c κs = search rules
 returns : tie.Need-returns
 returns c = c.row.ensures ∙ axes _ c.before.requires.0 c.before.requires.1
 
-pub screw-axis-spec : {M : Type 1} → statement M
-screw-axis-spec = tie.close (tie.spec row-requires returns)
+pub screw_axis_spec : {M : Type 1} → statement M
+screw_axis_spec = tie.close (tie.spec row-requires returns)

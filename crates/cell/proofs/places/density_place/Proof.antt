@@ -1,7 +1,7 @@
 -- A point's number is that of its pair in the row.
 use borrow.Author.Rules.{rules}
 use native.Mathlib.Omega.{arith}
-use Rattle.cell.proofs.PlaceLaws.{point-place}
+use Rattle.cell.proofs.PlaceLaws.{point_place_lem}
 use Rattle.cell.proofs.places.density_place.Statement.{statement}
 use Rattle.cell.proofs.places.density_place.Tie as tie
 
@@ -24,9 +24,9 @@ returns : tie.Need-returns
 returns c =
     let s = c.before.before in
     let p = s.before.requires in
-    point-place p.0 _ _ _ p.1 s.stored-point.ensures.1 s.stored-point.ensures.0 c.before.pair_place.ensures.0
+    point_place_lem p.0 _ _ _ p.1 s.stored-point.ensures.1 s.stored-point.ensures.0 c.before.pair_place.ensures.0
 
-pub density-place-spec : {M : Type 1} → statement M
-density-place-spec =
+pub density_place_spec : {M : Type 1} → statement M
+density_place_spec =
     tie.close
     (tie.spec stored-point-requires pair-place-requires mul-result cast-result add-result returns)

@@ -13,5 +13,5 @@ returns c =
     let e = c.is-end.ensures in
     λ i. eqb c.before.args.kind 5 && e i
 
-pub is-absent-spec : {M : Type 1} → statement M
-is-absent-spec = tie.close (tie.spec is-end-requires returns)
+pub is_absent_spec : {M : Type 1} → statement M
+is_absent_spec = tie.close (tie.spec is-end-requires returns)

@@ -15,5 +15,5 @@ returns c =
     let e = c.before.stored-count.ensures in
     λ i. leb a.j.k (a.cell.n2 / 2) && ltb a.j.l (e i)
 
-pub is-stored-spec : {M : Type 1} → statement M
-is-stored-spec = tie.close (tie.spec stored-count-requires returns)
+pub is_stored_spec : {M : Type 1} → statement M
+is_stored_spec = tie.close (tie.spec stored-count-requires returns)

@@ -3,25 +3,25 @@ use mathlib.Core.Path.{◌≡◌, refl, ap}
 use Prim.Native.Nat.{ℕ, zero, suc, ◌%◌}
 use native.Mathlib.Omega.{arith}
 use Rattle.algebra.specs.lines.Kinds.{Kind.plain, Kind.symmetric, Kind.antisymmetric}
-use Rattle.cell.specs.Volume.{group_of, lineKind}
+use Rattle.cell.specs.Volume.{group_of, line_kind}
 use Rattle.cell.proofs.PlaceLaws.{even_is, odd_is}
 use Rattle.cell.proofs.places.line_kind.Statement.{statement}
 use Rattle.cell.proofs.places.line_kind.Tie as tie
 
-even-line : (group h : ℕ) → group ≡ 3 → h % 2 ≡ 0 → symmetric ≡ lineKind (group_of group) h
-even-line group h e q = rw (ap group_of e, even_is h q) refl
+even_line : (group h : ℕ) → group ≡ 3 → h % 2 ≡ 0 → symmetric ≡ line_kind (group_of group) h
+even_line group h e q = rw (ap group_of e, even_is h q) refl
 
-odd-line : (group h : ℕ) → group ≡ 3 → (h % 2 ≡ 0 → ⊥) → antisymmetric ≡ lineKind (group_of group) h
-odd-line group h e q = rw (ap group_of e, odd_is h q) refl
+odd_line : (group h : ℕ) → group ≡ 3 → (h % 2 ≡ 0 → ⊥) → antisymmetric ≡ line_kind (group_of group) h
+odd_line group h e q = rw (ap group_of e, odd_is h q) refl
 
 -- any other number reads as P1
-other-line : (group h : ℕ) → (group ≡ 1 → ⊥) → (group ≡ 2 → ⊥) → (group ≡ 3 → ⊥) → (group ≡ 4 → ⊥) → plain ≡ lineKind (group_of group) h
-other-line zero h a b c d = refl
-other-line (suc zero) h a b c d = absurd (a refl)
-other-line (suc (suc zero)) h a b c d = absurd (b refl)
-other-line (suc (suc (suc zero))) h a b c d = absurd (c refl)
-other-line (suc (suc (suc (suc zero)))) h a b c d = absurd (d refl)
-other-line (suc (suc (suc (suc (suc n))))) h a b c d = refl
+other_line : (group h : ℕ) → (group ≡ 1 → ⊥) → (group ≡ 2 → ⊥) → (group ≡ 3 → ⊥) → (group ≡ 4 → ⊥) → plain ≡ line_kind (group_of group) h
+other_line zero h a b c d = refl
+other_line (suc zero) h a b c d = absurd (a refl)
+other_line (suc (suc zero)) h a b c d = absurd (b refl)
+other_line (suc (suc (suc zero))) h a b c d = absurd (c refl)
+other_line (suc (suc (suc (suc zero)))) h a b c d = absurd (d refl)
+other_line (suc (suc (suc (suc (suc n))))) h a b c d = refl
 
 returns : tie.Need-returns
 returns c = (omega arith, rw (ap group_of c.if1.true) refl, λ e. omega arith)
@@ -30,16 +30,16 @@ returns-2 : tie.Need-returns-2
 returns-2 c = (omega arith, rw (ap group_of c.if2.true) refl, λ e. omega arith)
 
 returns-3 : tie.Need-returns-3
-returns-3 c = (omega arith, even-line _ _ c.before.if3.true c.if4.true, λ e. omega arith)
+returns-3 c = (omega arith, even_line _ _ c.before.if3.true c.if4.true, λ e. omega arith)
 
 returns-4 : tie.Need-returns-4
-returns-4 c = (omega arith, odd-line _ _ c.before.if3.true c.if4.false, λ e. omega arith)
+returns-4 c = (omega arith, odd_line _ _ c.before.if3.true c.if4.false, λ e. omega arith)
 
 returns-5 : tie.Need-returns-5
 returns-5 c = (omega arith, rw (ap group_of c.if5.true) refl, λ e. omega arith)
 
 returns-6 : tie.Need-returns-6
-returns-6 c = let b = c.before in (omega arith, other-line _ _ b.before.before.if1.false b.before.if2.false b.if3.false c.if5.false, λ e. omega arith)
+returns-6 c = let b = c.before in (omega arith, other_line _ _ b.before.before.if1.false b.before.if2.false b.if3.false c.if5.false, λ e. omega arith)
 
-pub line-kind-spec : {M : Type 1} → statement M
-line-kind-spec = tie.close (tie.spec returns returns-2 returns-3 returns-4 returns-5 returns-6)
+pub line_kind_spec : {M : Type 1} → statement M
+line_kind_spec = tie.close (tie.spec returns returns-2 returns-3 returns-4 returns-5 returns-6)

@@ -1,8 +1,8 @@
 -- The whole line, the ends of the half line, or its middle.
 use borrow.Author.Rules.{rules}
 use mathlib.Core.Path.{sym, ◌∙◌}
-use Rattle.cell.proofs.LineKinds.{is-kind, other-kind}
-use Rattle.cell.proofs.PlaceLaws.{plain-found, middle-found}
+use Rattle.cell.proofs.LineKinds.{is_kind, other_kind}
+use Rattle.cell.proofs.PlaceLaws.{plain_found, middle_found}
 use Rattle.cell.proofs.places.line_numbers.Statement.{statement}
 use Rattle.cell.proofs.places.line_numbers.Tie as tie
 
@@ -35,8 +35,8 @@ returns : tie.Need-returns
 returns c =
     let k = c.before.before in
     let p = k.before.before.requires in
-    let e = c.pair-numbers.ensures in
-    plain-found p.0 _ p.1 p.2 _ (is-kind k.line-kind.ensures.1 c.before.if1.true) e.0 e.1
+    let e = c.pair_numbers_lem.ensures in
+    plain_found p.0 _ p.1 p.2 _ (is_kind k.line-kind.ensures.1 c.before.if1.true) e.0 e.1
 
 returns-2 : tie.Need-returns-2
 returns-2 c = search rules
@@ -48,10 +48,10 @@ returns-3 c =
     let p = k.before.before.requires in
     let e = c.pair-numbers2.ensures in
     let kind = k.line-kind.ensures in
-    middle-found p.0 _ p.1 p.2 _ (other-kind kind.1 kind.0 t.before.if1.false) (sym t.is-end.ensures ∙ c.before.before.if2.false) c.before.folded.ensures e.0 e.1
+    middle_found p.0 _ p.1 p.2 _ (other_kind kind.1 kind.0 t.before.if1.false) (sym t.is-end.ensures ∙ c.before.before.if2.false) c.before.folded.ensures e.0 e.1
 
-pub line-numbers-spec : {M : Type 1} → statement M
-line-numbers-spec =
+pub line_numbers_spec : {M : Type 1} → statement M
+line_numbers_spec =
     tie.close
     (tie.spec
     cast-line-kind

@@ -13,5 +13,5 @@ mul-t6 c = omega arith
 returns : tie.Need-returns
 returns c = search rules
 
-pub pair-numbers-spec : {M : Type 1} → statement M
-pair-numbers-spec = tie.close (tie.spec pair-place-requires mul-t6 returns)
+pub pair_numbers_spec : {M : Type 1} → statement M
+pair_numbers_spec = tie.close (tie.spec pair-place-requires mul-t6 returns)

@@ -2,12 +2,12 @@
 use borrow.Author.Rules.{rules}
 use Prim.Native.Nat.{◌+◌, ◌*◌, ◌/◌, ◌≤◌}
 use native.Mathlib.Omega.{arith}
-use Rattle.cell.proofs.PlaceLaws.{place-small, even_place}
+use Rattle.cell.proofs.PlaceLaws.{place_small, even_place}
 use Rattle.cell.proofs.places.pair_place.Statement.{statement}
 use Rattle.cell.proofs.places.pair_place.Tie as tie
 
 small : (s : tie.Start) → let a = s.args in (a.w * a.cell.n1 + a.h ≤ 8297280) × ((a.w * a.cell.n1 + a.h) * (a.cell.n2 / 2 + 1) + a.k ≤ 12000000000)
-small s = place-small s.requires.0.first s.requires.0.second s.requires.1 s.requires.2 s.requires.3
+small s = place_small s.requires.0.first s.requires.0.second s.requires.1 s.requires.2 s.requires.3
 
 cast-row : tie.Need-overflow-cast-row
 cast-row c = search rules
@@ -33,6 +33,6 @@ add-result-2 c = omega (arith, (small c.before.before).1)
 returns : tie.Need-returns
 returns c = (even_place _ _ _ _ _ c.before.before.requires.0.first, (small c.before.before).1)
 
-pub pair-place-spec : {M : Type 1} → statement M
-pair-place-spec =
+pub pair_place_spec : {M : Type 1} → statement M
+pair_place_spec =
     tie.close (tie.spec cast-row mul-row add_row add-result cast-result mul-result add-result-2 returns)

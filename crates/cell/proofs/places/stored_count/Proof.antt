@@ -4,7 +4,7 @@ use mathlib.Core.Path.{ap}
 use native.Mathlib.Omega.{arith}
 use Rattle.algebra.specs.cells.Cell.{span}
 use Rattle.cell.specs.Volume.{group_of}
-use Rattle.cell.proofs.PlaceLaws.{half-span}
+use Rattle.cell.proofs.PlaceLaws.{half_span}
 use Rattle.cell.proofs.places.stored_count.Statement.{statement}
 use Rattle.cell.proofs.places.stored_count.Tie as tie
 
@@ -16,7 +16,7 @@ unfolding span
 returns c = rw (ap group_of c.if1.true) (omega arith)
 
 returns-2 : tie.Need-returns-2
-returns-2 c = half-span _ _ c.before.before.before.requires.known c.before.if1.false
+returns-2 c = half_span _ _ c.before.before.before.requires.known c.before.if1.false
 
-pub stored-count-spec : {M : Type 1} → statement M
-stored-count-spec = tie.close (tie.spec add-result returns returns-2)
+pub stored_count_spec : {M : Type 1} → statement M
+stored_count_spec = tie.close (tie.spec add-result returns returns-2)

@@ -1,7 +1,7 @@
 -- Times i, or not.
 use borrow.Author.Rules.{rules}
 use mathlib.Core.Path.{sym, ◌∙◌}
-use Rattle.cell.proofs.RotatedLines.{times-not, times-pair}
+use Rattle.cell.proofs.RotatedLines.{times_not, times_pair}
 use Rattle.cell.proofs.places.with_i.Statement.{statement}
 use Rattle.cell.proofs.places.with_i.Tie as tie
 
@@ -14,10 +14,10 @@ times-i-requires c κs = search rules
 returns : tie.Need-returns
 returns c =
     let t = c.before in
-    times-pair _ t.before.before.requires.1 (sym t.before.is-rotated.ensures ∙ t.if1.true) c.times-i.ensures
+    times_pair _ t.before.before.requires.1 (sym t.before.is-rotated.ensures ∙ t.if1.true) c.times_i_lem.ensures
 
 returns-2 : tie.Need-returns-2
-returns-2 c = times-not _ c.before.before.requires.1 (sym c.before.is-rotated.ensures ∙ c.if1.false)
+returns-2 c = times_not _ c.before.before.requires.1 (sym c.before.is-rotated.ensures ∙ c.if1.false)
 
-pub with-i-spec : {M : Type 1} → statement M
-with-i-spec = tie.close (tie.spec is-rotated-requires times-i-requires returns returns-2)
+pub with_i_spec : {M : Type 1} → statement M
+with_i_spec = tie.close (tie.spec is-rotated-requires times-i-requires returns returns-2)

@@ -29,8 +29,8 @@ returns : tie.Need-returns
 unfolding common combined
 returns c = to_z-of_z w64 c.nearest.result (record { sfits = c.nearest.type-inv }) ∙ c.nearest.ensures
 
-pub combine-spec : {M : Type 1} → statement M
-combine-spec =
+pub combine_spec : {M : Type 1} → statement M
+combine_spec =
     tie.close
     (tie.spec
     add-nearest

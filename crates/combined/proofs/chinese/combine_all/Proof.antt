@@ -6,10 +6,10 @@ use lib.ListN.{length, get_or}
 use mir.Syntax.{w64}
 use mir.ValLaws.{to_z-of_z}
 use Rattle.slices.specs.Filling.{Filling, stores}
-use Rattle.slices.proofs.Filling.{filled-all, storing-start}
-use Rattle.slices.proofs.Stores.{storing-value}
+use Rattle.slices.proofs.Filling.{filled_all, storing_start}
+use Rattle.slices.proofs.Stores.{storing_value}
 use Rattle.combined.specs.Chinese.{combined}
-use Rattle.combined.proofs.Tables.{stores-whole}
+use Rattle.combined.proofs.Tables.{stores_whole}
 use Rattle.combined.proofs.chinese.combine_all.Statement.{statement}
 use Rattle.combined.proofs.chinese.combine_all.Tie as tie
 
@@ -20,7 +20,7 @@ abbrev decreases-loop : tie.decreases-loop
 decreases-loop first second output₀ n₀ output n = length first - n
 
 loop-holds : tie.Need-loop-init invariant-loop decreases-loop
-loop-holds c = storing-start
+loop-holds c = storing_start
 
 mul-combine : tie.Need-overflow-mul-combine invariant-loop decreases-loop
 mul-combine c = omega arith
@@ -53,7 +53,7 @@ loop-less : tie.Need-loop-smaller invariant-loop decreases-loop
 loop-less c = omega arith
 
 loop-again : tie.Need-loop-preserved invariant-loop decreases-loop
-loop-again c = storing-value c.before.before.before.before.loop.invariant (omega arith) (to_z-of_z w64 _ (record { sfits = c.combine.type-inv }) ∙ c.combine.ensures)
+loop-again c = storing_value c.before.before.before.before.loop.invariant (omega arith) (to_z-of_z w64 _ (record { sfits = c.combine.type-inv }) ∙ c.combine.ensures)
 
 same_length : tie.Need-same-length invariant-loop decreases-loop
 same_length c = c.before.loop.invariant.len
@@ -61,10 +61,10 @@ same_length c = c.before.loop.invariant.len
 returns : tie.Need-returns invariant-loop decreases-loop
 returns c =
     let s = c.before.before.before.before in
-    filled-all c.before.loop.invariant c.loop-test.false ∙ stores-whole (length s.args.first.now) _ s.args.output.now s.requires.1.1
+    filled_all c.before.loop.invariant c.loop-test.false ∙ stores_whole (length s.args.first.now) _ s.args.output.now s.requires.1.1
 
-pub combine-all-spec : {M : Type 1} → statement M
-combine-all-spec =
+pub combine_all_spec : {M : Type 1} → statement M
+combine_all_spec =
     tie.close
     (tie.spec
     invariant-loop

@@ -1,10 +1,10 @@
 -- The theorem, as a promise.
-use Rattle.combined.proofs.Remainders.{combined-only}
+use Rattle.combined.proofs.Remainders.{combined_only}
 use Rattle.combined.proofs.chinese.combined_only.Statement.{statement}
 use Rattle.combined.proofs.chinese.combined_only.Tie as tie
 
 returns : tie.Need-returns
-returns c = combined-only
+returns c = combined_only
 
-pub combined-only-spec : {M : Type 1} → statement M
-combined-only-spec = tie.close (tie.spec returns)
+pub combined_only_spec : {M : Type 1} → statement M
+combined_only_spec = tie.close (tie.spec returns)

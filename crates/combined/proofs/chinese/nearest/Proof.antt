@@ -7,14 +7,14 @@ use lib.IntN.{pos, negsuc, ◌-ℤ◌}
 use mir.Syntax.{w64}
 use mir.Val.{SFits, to_z}
 use mir.ValLaws.{to_z-of_z, to_z_pos}
-use Rattle.signed.proofs.Machine.{below-zero}
-use Rattle.signed.proofs.Centred.{centred-low, centred-high}
+use Rattle.signed.proofs.Machine.{below_zero}
+use Rattle.signed.proofs.Centred.{centred_low, centred_high}
 use Rattle.combined.proofs.chinese.nearest.Statement.{statement}
 use Rattle.combined.proofs.chinese.nearest.Tie as tie
 
 -- n less the product, as the machine computes it
 less : (n : ℕ) → n < 26126971201 → to_z w64 n -ℤ pos 26126971201 ≡ negsuc (26126971201 - suc n)
-less n l = ap (λ z. z -ℤ pos 26126971201) (to_z_pos w64 n (omega arith)) ∙ below-zero n 26126971201 l
+less n l = ap (λ z. z -ℤ pos 26126971201) (to_z_pos w64 n (omega arith)) ∙ below_zero n 26126971201 l
 
 cast-result : tie.Need-overflow-cast-result
 cast-result c = search rules
@@ -26,10 +26,10 @@ sub-result : tie.Need-overflow-sub-result
 sub-result c = subst (SFits w64) (sym (less c.before.args.n c.before.requires)) (record { sfits = omega arith })
 
 returns : tie.Need-returns
-returns c = to_z_pos w64 c.before.args.n (omega arith) ∙ centred-low 26126971201 c.before.args.n c.if1.true
+returns c = to_z_pos w64 c.before.args.n (omega arith) ∙ centred_low 26126971201 c.before.args.n c.if1.true
 
 returns-2 : tie.Need-returns-2
-returns-2 c = to_z-of_z w64 _ (sub-result c) ∙ less c.before.args.n c.before.requires ∙ centred-high 26126971201 c.before.args.n c.if1.false
+returns-2 c = to_z-of_z w64 _ (sub-result c) ∙ less c.before.args.n c.before.requires ∙ centred_high 26126971201 c.before.args.n c.if1.false
 
-pub nearest-spec : {M : Type 1} → statement M
-nearest-spec = tie.close (tie.spec cast-result cast-result-2 sub-result returns returns-2)
+pub nearest_spec : {M : Type 1} → statement M
+nearest_spec = tie.close (tie.spec cast-result cast-result-2 sub-result returns returns-2)

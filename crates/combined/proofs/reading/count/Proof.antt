@@ -5,16 +5,16 @@ use lib.ListN.{length}
 use mir.Syntax.{w64}
 use mir.ValLaws.{to_z-of_z}
 use Rattle.refusals.specs.Refusals.{first}
-use Rattle.refusals.specs.Checks.{checkedNumber}
-use Rattle.cell.specs.Operations.{cellLengths, point_of}
-use Rattle.combined.specs.Reading.{countTests, counted}
-use Rattle.combined.proofs.Readings.{sound-reading, count-refused, count-read}
+use Rattle.refusals.specs.Checks.{checked_number}
+use Rattle.cell.specs.Operations.{cell_lengths, point_of}
+use Rattle.combined.specs.Reading.{count_tests, counted}
+use Rattle.combined.proofs.Readings.{sound_reading, count_refused, count_read}
 use Rattle.combined.proofs.reading.count.Statement.{statement}
 use Rattle.combined.proofs.reading.count.Tie as tie
 
 -- no test holds
-clear : (c : tie.After-enum-told) → let a = c.before.before.before.args in 0 ≡ first (countTests a.cell.group (cellLengths a.cell) (length a.map.now) (point_of a.at))
-clear c = ap checkedNumber (sym c.enum_told.given.1) ∙ c.before.before.check-count.ensures
+clear : (c : tie.After-enum-told) → let a = c.before.before.before.args in 0 ≡ first (count_tests a.cell.group (cell_lengths a.cell) (length a.map.now) (point_of a.at))
+clear c = ap checked_number (sym c.enum_told.given.1) ∙ c.before.before.check-count.ensures
 
 check-count-requires : tie.Need-check-count-requires
 check-count-requires c κs = search rules
@@ -26,16 +26,16 @@ enum_told : tie.Need-enum-told
 enum_told c = search rules
 
 count-at-requires : tie.Need-count-at-requires
-count-at-requires c κs = let a = c.before.before.before.args in sound-reading a.cell (length a.map.now) a.at (clear c)
+count-at-requires c κs = let a = c.before.before.before.args in sound_reading a.cell (length a.map.now) a.at (clear c)
 
 returns : tie.Need-returns
 returns c =
     let k = c.before.before.before in
     let r = c.before.checked.given in
-    count-refused _ _ _ _ r.0.0 (ap checkedNumber (sym r.1) ∙ k.check-count.ensures)
+    count_refused _ _ _ _ r.0.0 (ap checked_number (sym r.1) ∙ k.check-count.ensures)
 
 returns-2 : tie.Need-returns-2
-returns-2 c = ap counted (to_z-of_z w64 c.count_at.result (record { sfits = c.count_at.type-inv }) ∙ c.count_at.ensures) ∙ count-read _ _ _ _ (clear c.before)
+returns-2 c = ap counted (to_z-of_z w64 c.count_at.result (record { sfits = c.count_at.type-inv }) ∙ c.count_at.ensures) ∙ count_read _ _ _ _ (clear c.before)
 
 pub count_spec : {M : Type 1} → statement M
 count_spec =

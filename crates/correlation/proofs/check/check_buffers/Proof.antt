@@ -7,39 +7,39 @@ use native.Mathlib.Omega.{arith}
 use lib.ListN.{length}
 use borrow.Author.Tests.{lt-ltb, le-ltb}
 use Rattle.algebra.specs.cells.Cell.{P1}
-use Rattle.refusals.proofs.Tests.{stop, pass, none, not_t, not_f, by-true, by-false}
-use Rattle.cell.specs.Volume.{group_of, volumeLength}
-use Rattle.cell.specs.Operations.{cellHalves}
-use Rattle.correlation.specs.Correlation.{allLong, exceeds}
-use Rattle.correlation.proofs.Tests.{Long, long_of, exceeds-places}
+use Rattle.refusals.proofs.Tests.{stop, pass, none, not_t, not_f, by_true, by_false}
+use Rattle.cell.specs.Volume.{group_of, volume_length}
+use Rattle.cell.specs.Operations.{cell_halves}
+use Rattle.correlation.specs.Correlation.{all_long, exceeds}
+use Rattle.correlation.proofs.Tests.{Long, long_of, exceeds_places}
 use Rattle.correlation.proofs.check.check_buffers.Statement.{statement}
 use Rattle.correlation.proofs.check.check_buffers.Tie as tie
 
 -- src/check.rt:61:9
 -- the length that is asked for
-needed : (c : tie.After-volume-length) → let k = c.before.args.cell in c.volume-length.result ≡ volumeLength P1 (cellHalves k)
-needed c = c.volume-length.ensures ∙ ap (λ (g : ℕ). volumeLength (group_of g) (cellHalves c.before.args.cell)) c.before.requires.1
+needed : (c : tie.After-volume-length) → let k = c.before.args.cell in c.volume_length_lem.result ≡ volume_length P1 (cell_halves k)
+needed c = c.volume_length_lem.ensures ∙ ap (λ (g : ℕ). volume_length (group_of g) (cell_halves c.before.args.cell)) c.before.requires.1
 
 long : (c : tie.After-all-long) → let a = c.before.before.args in
-    c.all-long.result ≡ allLong (volumeLength P1 (cellHalves a.cell)) (length a.a.now) (length a.b.now) a.output a.work1 a.work2 a.work3
+    c.all-long.result ≡ all_long (volume_length P1 (cell_halves a.cell)) (length a.a.now) (length a.b.now) a.output a.work1 a.work2 a.work3
 long c =
     let a = c.before.before.args in
-    c.all-long.ensures ∙ ap (λ (n : ℕ). allLong n (length a.a.now) (length a.b.now) a.output a.work1 a.work2 a.work3) (needed c.before)
+    c.all-long.ensures ∙ ap (λ (n : ℕ). all_long n (length a.a.now) (length a.b.now) a.output a.work1 a.work2 a.work3) (needed c.before)
 
 fit : (c : tie.Else1) → let a = c.before.before.before.args in
-    allLong (volumeLength P1 (cellHalves a.cell)) (length a.a.now) (length a.b.now) a.output a.work1 a.work2 a.work3 ≡ true
-fit c = by-true _ _ (long c.before) c.if1.false
+    all_long (volume_length P1 (cell_halves a.cell)) (length a.a.now) (length a.b.now) a.output a.work1 a.work2 a.work3 ≡ true
+fit c = by_true _ _ (long c.before) c.if1.false
 
 lengths : (c : tie.Else1) → let a = c.before.before.before.args in
-    Long (volumeLength P1 (cellHalves a.cell)) (length a.a.now) (length a.b.now) a.output a.work1 a.work2 a.work3
+    Long (volume_length P1 (cell_halves a.cell)) (length a.a.now) (length a.b.now) a.output a.work1 a.work2 a.work3
 lengths c = long_of _ _ _ _ _ _ _ (fit c)
 
 -- refusal 28
-tested : (c : tie.After-exceeds-limit) → let a = c.before.before.before.before.before.before.args in c.exceeds-limit.result ≡ exceeds (cellHalves a.cell) a.a.now a.b.now
+tested : (c : tie.After-exceeds-limit) → let a = c.before.before.before.before.before.before.args in c.exceeds-limit.result ≡ exceeds (cell_halves a.cell) a.a.now a.b.now
 tested c =
     let e = c.before.before.before in
     let a = e.before.before.before.args in
-    c.exceeds-limit.ensures ∙ exceeds-places (cellHalves a.cell) a.a.now a.b.now (lengths e).a-long (lengths e).b-long
+    c.exceeds-limit.ensures ∙ exceeds_places (cell_halves a.cell) a.a.now a.b.now (lengths e).a_long (lengths e).b_long
 
 volume-length-requires : tie.Need-volume-length-requires
 volume-length-requires c κs = search rules
@@ -50,7 +50,7 @@ all-long-requires c κs = search rules
 
 -- src/check.rt:63:9
 returns : tie.Need-returns
-returns c = stop _ (not_f _ (by-false _ _ (long c.before) c.if1.true))
+returns c = stop _ (not_f _ (by_false _ _ (long c.before) c.if1.true))
 
 -- src/check.rt:66:9
 returns-2 : tie.Need-returns-2
@@ -65,7 +65,7 @@ exceeds-limit-requires : tie.Need-exceeds-limit-requires
 exceeds-limit-requires c κs =
     let e = c.before.before in
     let s = e.before.before.before in
-    (omega (arith, s.requires.0.second.high), omega (arith, (lengths e).a-long, s.requires.2))
+    (omega (arith, s.requires.0.second.high), omega (arith, (lengths e).a_long, s.requires.2))
 
 -- src/check.rt:69:9
 returns-3 : tie.Need-returns-3
@@ -75,8 +75,8 @@ returns-3 c = let e = c.before.before.before.before in pass 6 _ (not_t _ (fit e)
 returns-4 : tie.Need-returns-4
 returns-4 c = let e = c.before.before.before.before in pass 6 _ (not_t _ (fit e)) (pass 13 _ (le-ltb _ _ c.before.before.before.if2.false) (pass 28 _ (sym (tested c.before) ∙ c.if3.false) none))
 
-pub check-buffers-spec : {M : Type 1} → statement M
-check-buffers-spec =
+pub check_buffers_spec : {M : Type 1} → statement M
+check_buffers_spec =
     tie.close
     (tie.spec
     volume-length-requires

@@ -1,10 +1,10 @@
 -- The theorem of proofs/Orders, promised.
-use Rattle.correlation.proofs.Orders.{correlation-refusals}
+use Rattle.correlation.proofs.Orders.{correlation_refusals}
 use Rattle.correlation.proofs.check.refusal_order.Statement.{statement}
 use Rattle.correlation.proofs.check.refusal_order.Tie as tie
 
 returns : tie.Need-returns
-returns c = correlation-refusals
+returns c = correlation_refusals
 
-pub refusal-order-spec : {M : Type 1} → statement M
-refusal-order-spec = tie.close (tie.spec returns)
+pub refusal_order_spec : {M : Type 1} → statement M
+refusal_order_spec = tie.close (tie.spec returns)

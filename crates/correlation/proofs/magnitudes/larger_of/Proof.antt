@@ -11,5 +11,5 @@ returns c = sym (ap (λ t. cond t c.before.args.y c.before.args.x) (lt-ltb _ _ c
 returns-2 : tie.Need-returns-2
 returns-2 c = sym (ap (λ t. cond t c.before.args.y c.before.args.x) (le-ltb _ _ c.if1.false))
 
-pub larger-of-spec : {M : Type 1} → statement M
-larger-of-spec = tie.close (tie.spec returns returns-2)
+pub larger_of_spec : {M : Type 1} → statement M
+larger_of_spec = tie.close (tie.spec returns returns-2)

@@ -39,8 +39,8 @@ returns-2 c =
     let past : ltb (a.n % (2 * suc a.b)) (2 * a.b) ≡ false = le-ltb _ _ (subst (λ (k : ℕ). 2 * a.b ≤ k) s.requires.1 c.if1.false) in
     sym (ap (λ t. cond t (nat_abs (get_or a.v.now a.n (pos 0))) 0) past)
 
-pub magnitude-at-spec : {M : Type 1} → statement M
-magnitude-at-spec =
+pub magnitude_at_spec : {M : Type 1} → statement M
+magnitude_at_spec =
     tie.close
     (tie.spec
     mul-if1

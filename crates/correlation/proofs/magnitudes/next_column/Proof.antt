@@ -19,5 +19,5 @@ returns-2 c =
     let whole : a.column + 1 ≡ a.width = omega (arith, c.if1.false, c.before.requires.0) in
     sym (ap (λ (k : ℕ). k % a.width) whole ∙ mod_self a.width)
 
-pub next-column-spec : {M : Type 1} → statement M
-next-column-spec = tie.close (tie.spec add-next returns returns-2)
+pub next_column_spec : {M : Type 1} → statement M
+next_column_spec = tie.close (tie.spec add-next returns returns-2)

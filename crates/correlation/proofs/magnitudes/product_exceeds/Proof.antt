@@ -25,5 +25,5 @@ returns-2 c =
     let h = div-lt_iff_lt-mul {k = a.y} {x = limit} {y = a.x} positive in
     same_test (h.0, h.1)
 
-pub product-exceeds-spec : {M : Type 1} → statement M
-product-exceeds-spec = tie.close (tie.spec returns div-result returns-2)
+pub product_exceeds_spec : {M : Type 1} → statement M
+product_exceeds_spec = tie.close (tie.spec returns div-result returns-2)

@@ -7,22 +7,22 @@ use lib.ListN.{length}
 use Rattle.algebra.specs.cells.Cell.{P1}
 use Rattle.numbers.specs.Value.{prime}
 use Rattle.slices.specs.Pairs.{Below}
-use Rattle.cell.specs.Volume.{volumePairs, packMap}
-use Rattle.cell.proofs.VolumeLayout.{length-map, below-map}
-use Rattle.correlation.specs.Steps.{residueCell, countCell, axesHalves}
-use Rattle.correlation.proofs.Turned.{lent, filled-map, all-analysed}
+use Rattle.cell.specs.Volume.{volume_pairs, pack_map}
+use Rattle.cell.proofs.VolumeLayout.{length_map, below_map}
+use Rattle.correlation.specs.Steps.{residue_cell, count_cell, axes_halves}
+use Rattle.correlation.proofs.Turned.{lent, filled_map, all_analysed}
 use Rattle.correlation.proofs.modulo.analyse.Statement.{statement}
 use Rattle.correlation.proofs.modulo.analyse.Tie as tie
 
 -- src/modulo.rt:64:16
 -- the map's residues
 residues : (c : tie.After-fill-residues) → let a = c.before.before.before.before.before.args in
-    c.fill-residues.new.1.1.1.1.0 ≡ packMap P1 (axesHalves a.axes) a.m (residueCell a.m (countCell (axesHalves a.axes) a.map.now))
+    c.fill-residues.new.1.1.1.1.0 ≡ pack_map P1 (axes_halves a.axes) a.m (residue_cell a.m (count_cell (axes_halves a.axes) a.map.now))
 residues c =
     let s = c.before.before.before.before.before in
     let a = s.args in
-    let pairs : length a.volume.now / 2 ≡ volumePairs P1 (axesHalves a.axes) = omega (arith, s.requires.1.0.1) in
-    filled-map a.m s.requires.0.0 a.axes s.requires.0.1 a.map.now pairs c.fill-residues.ensures
+    let pairs : length a.volume.now / 2 ≡ volume_pairs P1 (axes_halves a.axes) = omega (arith, s.requires.1.0.1) in
+    filled_map a.m s.requires.0.0 a.axes s.requires.0.1 a.map.now pairs c.fill-residues.ensures
 
 cast-half : tie.Need-overflow-cast-half
 cast-half c = search rules
@@ -42,7 +42,7 @@ transform-volume-requires c κs =
     let s = f.before.before.before.before.before in
     let a = s.args in
     lent a.m s.requires.0.0 a.axes s.requires.0.1 1 (omega arith) c.before.before.plan-of.result c.before.before.plan-of.ensures
-    (ap length (residues f) ∙ length-map P1 (axesHalves a.axes) a.m _) (subst (Below (prime a.m)) (sym (residues f)) (below-map P1 (axesHalves a.axes) a.m _)) s.requires.1.1
+    (ap length (residues f) ∙ length_map P1 (axes_halves a.axes) a.m _) (subst (Below (prime a.m)) (sym (residues f)) (below_map P1 (axes_halves a.axes) a.m _)) s.requires.1.1
 
 -- src/modulo.rt:56:1
 same_length : tie.Need-same-length
@@ -60,10 +60,10 @@ returns c =
     let f = p.before.before.before in
     let s = f.before.before.before.before.before in
     let a = s.args in
-    (t.transform-volume.ensures.0 ∙ all-analysed a.m s.requires.0.0 a.axes s.requires.0.1 a.map.now p.plan-of.result p.plan-of.ensures (residues f), t.transform-volume.ensures.1)
+    (t.transform-volume.ensures.0 ∙ all_analysed a.m s.requires.0.0 a.axes s.requires.0.1 a.map.now p.plan-of.result p.plan-of.ensures (residues f), t.transform-volume.ensures.1)
 
-pub analyse-spec : {M : Type 1} → statement M
-analyse-spec =
+pub analyse_spec : {M : Type 1} → statement M
+analyse_spec =
     tie.close
     (tie.spec
     cast-half

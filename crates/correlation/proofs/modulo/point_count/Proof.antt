@@ -6,7 +6,7 @@ use native.Mathlib.Nat.{mul-le-mul}
 use native.Mathlib.Omega.{arith}
 use Rattle.numbers.specs.Bounds.{res}
 use Rattle.numbers.proofs.Residues.{below_by}
-use Rattle.correlation.specs.Steps.{pointCount, axesHalves}
+use Rattle.correlation.specs.Steps.{point_count, axes_halves}
 use Rattle.correlation.proofs.modulo.point_count.Statement.{statement}
 use Rattle.correlation.proofs.modulo.point_count.Tie as tie
 
@@ -45,8 +45,8 @@ returns c =
     let m = s.args.m in
     let j = s.requires.1 in
     let e = c.reduce.ensures ∙ sym (λ i. (res m (j.first.whole i * j.second.whole i * j.third.whole i)).val) in
-    (e, below_by m (res m (pointCount (axesHalves s.args.axes))) e)
+    (e, below_by m (res m (point_count (axes_halves s.args.axes))) e)
 
-pub point-count-spec : {M : Type 1} → statement M
-point-count-spec =
+pub point_count_spec : {M : Type 1} → statement M
+point_count_spec =
     tie.close (tie.spec cast-n1 cast-n2 cast-n3 mul-reduce mul-reduce-2 reduce-requires returns)

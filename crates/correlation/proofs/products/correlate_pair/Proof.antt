@@ -5,7 +5,7 @@ use Rattle.algebra.specs.ring.Ring.{Ops}
 use Rattle.numbers.specs.Value.{Value, field, real, value_of, pair_of}
 use Rattle.numbers.specs.Bounds.{res}
 use Rattle.numbers.specs.Unreduced.{meant}
-use Rattle.numbers.proofs.Values.{small_by, value-by}
+use Rattle.numbers.proofs.Values.{small_by, value_by}
 use Rattle.correlation.proofs.products.correlate_pair.Statement.{statement}
 use Rattle.correlation.proofs.products.correlate_pair.Tie as tie
 
@@ -19,7 +19,7 @@ reduced-below-requires : tie.Need-reduced-below-requires
 reduced-below-requires c κs = search rules
 
 scaled-requires : tie.Need-scaled-requires
-scaled-requires c κs = let s = c.before.before.before in (s.requires.0, s.requires.1, small_by s.args.m _ c.reduced-below.ensures)
+scaled-requires c κs = let s = c.before.before.before in (s.requires.0, s.requires.1, small_by s.args.m _ c.reduced_below.ensures)
 
 returns : tie.Need-returns
 unfolding meant
@@ -30,9 +30,9 @@ returns c =
     let a = k.before.args in
     c.scaled.ensures
     ∙ ap (λ (z : Value a.m). pair_of ((field a.m).mul (real a.m (res a.m a.c)) z))
-    (value-by a.m _ r.reduced-below.ensures ∙ p.product.ensures.1 ∙ ap (λ (z : Value a.m). (field a.m).mul z (value_of a.m a.y)) (value-by a.m _ k.conjugate.ensures))
+    (value_by a.m _ r.reduced_below.ensures ∙ p.product.ensures.1 ∙ ap (λ (z : Value a.m). (field a.m).mul z (value_of a.m a.y)) (value_by a.m _ k.conjugate.ensures))
 
-pub correlate-pair-spec : {M : Type 1} → statement M
-correlate-pair-spec =
+pub correlate_pair_spec : {M : Type 1} → statement M
+correlate_pair_spec =
     tie.close
     (tie.spec conjugate-requires product-requires reduced-below-requires scaled-requires returns)

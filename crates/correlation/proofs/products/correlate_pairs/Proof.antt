@@ -10,7 +10,7 @@ use Rattle.numbers.specs.Bounds.{res}
 use Rattle.slices.specs.Pairs.{at}
 use Rattle.slices.specs.Filling.{FillingPairs}
 use Rattle.slices.proofs.Bounds.{small_of}
-use Rattle.slices.proofs.Filling.{filling-start, filling-next, filling-ahead, filling-whole}
+use Rattle.slices.proofs.Filling.{filling_start, filling_next, filling_ahead, filling_whole}
 use Rattle.correlation.specs.Steps.{correlated}
 use Rattle.correlation.proofs.products.correlate_pairs.Statement.{statement}
 use Rattle.correlation.proofs.products.correlate_pairs.Tie as tie
@@ -25,10 +25,10 @@ abbrev St : tie.In-loop invariant-loop decreases-loop → tie.Start invariant-lo
 St i = i.before.before.before.before
 
 as-came : (i : tie.In-loop invariant-loop decreases-loop) {v : Pair} → v ≡ at i.before.loop.first i.before.loop.j → v ≡ at (St i).args.first.now i.before.loop.j
-as-came i e = e ∙ filling-ahead i.before.loop.j i.before.loop.invariant (le_refl _)
+as-came i e = e ∙ filling_ahead i.before.loop.j i.before.loop.invariant (le_refl _)
 
 loop-holds : tie.Need-loop-init invariant-loop decreases-loop
-loop-holds c = filling-start
+loop-holds c = filling_start
 
 get-requires : tie.Need-get-requires invariant-loop decreases-loop
 get-requires c κs = let i = c.before in omega (arith, i.loop-test.true, (St i).requires.1.0.0, i.before.loop.invariant.len)
@@ -65,7 +65,7 @@ loop-again c =
     let x = y.before in
     let i = x.before.before in
     let z = (St i).args in
-    filling-next i.before.loop.invariant i.loop-test.true t.store.ensures
+    filling_next i.before.loop.invariant i.loop-test.true t.store.ensures
     (r.correlate-pair.ensures
     ∙ ap₂ (λ v w. pair_of ((field z.m).mul (real z.m (res z.m z.c)) ((field z.m).mul (conj z.m (value_of z.m v)) (value_of z.m w)))) (as-came i x.get.ensures) y.get2.ensures)
 
@@ -73,10 +73,10 @@ same_length : tie.Need-same-length invariant-loop decreases-loop
 same_length c = c.before.loop.invariant.len
 
 returns : tie.Need-returns invariant-loop decreases-loop
-returns c = filling-whole c.before.loop.invariant c.loop-test.false c.before.before.before.before.requires.1.0.0
+returns c = filling_whole c.before.loop.invariant c.loop-test.false c.before.before.before.before.requires.1.0.0
 
-pub correlate-pairs-spec : {M : Type 1} → statement M
-correlate-pairs-spec =
+pub correlate_pairs_spec : {M : Type 1} → statement M
+correlate_pairs_spec =
     tie.close
     (tie.spec
     invariant-loop

@@ -5,14 +5,14 @@ use native.Mathlib.Nat.{mod-lt, mod-eq_of_lt}
 use native.Mathlib.Omega.{arith}
 use Rattle.numbers.specs.Value.{prime}
 use Rattle.slices.specs.Filling.{FillingPairs}
-use Rattle.slices.proofs.Filling.{filling-start, filling-next, filling-whole}
-use Rattle.correlation.specs.Steps.{residuePair}
-use Rattle.correlation.proofs.Scans.{column-next}
+use Rattle.slices.proofs.Filling.{filling_start, filling_next, filling_whole}
+use Rattle.correlation.specs.Steps.{residue_pair}
+use Rattle.correlation.proofs.Scans.{column_next}
 use Rattle.correlation.proofs.residues.fill_residues.Statement.{statement}
 use Rattle.correlation.proofs.residues.fill_residues.Tie as tie
 
 abbrev invariant-loop : tie.invariant-loop
-invariant-loop m n b v d₀ width column₀ j₀ d column j = FillingPairs (λ k. k) (residuePair (prime m) b v) n j d₀ d × (column ≡ j % suc b)
+invariant-loop m n b v d₀ width column₀ j₀ d column j = FillingPairs (λ k. k) (residue_pair (prime m) b v) n j d₀ d × (column ≡ j % suc b)
 
 abbrev decreases-loop : tie.decreases-loop
 decreases-loop m n b v d₀ width column₀ j₀ d column j = n - j
@@ -21,7 +21,7 @@ add-width : tie.Need-overflow-add-width invariant-loop decreases-loop
 add-width c = omega (arith, c.before.requires.0.1)
 
 loop-holds : tie.Need-loop-init invariant-loop decreases-loop
-loop-holds c = (filling-start, sym (mod-eq_of_lt (omega arith)))
+loop-holds c = (filling_start, sym (mod-eq_of_lt (omega arith)))
 
 residue-pair-requires : tie.Need-residue-pair-requires invariant-loop decreases-loop
 residue-pair-requires c κs =
@@ -55,18 +55,18 @@ loop-again c =
     let t = u.before.before.before in
     let b = t.before.before.before.args.b in
     let width : b + 1 ≡ suc b = omega arith in (
-      filling-next t.before.loop.invariant.0 t.loop-test.true u.store.ensures u.before.residue-pair.ensures,
-      c.next-column.ensures ∙ ap (λ (k : ℕ). (t.before.loop.column + 1) % k) width ∙ column-next t.before.loop.j (suc b) t.before.loop.invariant.1,
+      filling_next t.before.loop.invariant.0 t.loop-test.true u.store.ensures u.before.residue-pair.ensures,
+      c.next_column.ensures ∙ ap (λ (k : ℕ). (t.before.loop.column + 1) % k) width ∙ column_next t.before.loop.j (suc b) t.before.loop.invariant.1,
     )
 
 same_length : tie.Need-same-length invariant-loop decreases-loop
 same_length c = c.before.loop.invariant.0.len
 
 returns : tie.Need-returns invariant-loop decreases-loop
-returns c = filling-whole c.before.loop.invariant.0 c.loop-test.false c.before.before.before.requires.1.1
+returns c = filling_whole c.before.loop.invariant.0 c.loop-test.false c.before.before.before.requires.1.1
 
-pub fill-residues-spec : {M : Type 1} → statement M
-fill-residues-spec =
+pub fill_residues_spec : {M : Type 1} → statement M
+fill_residues_spec =
     tie.close
     (tie.spec
     invariant-loop

@@ -11,8 +11,8 @@ use mir.Syntax.{w64}
 use mir.Val.{to_z, of_z}
 use mir.ValLaws.{to_z-of_z}
 use Rattle.numbers.specs.Value.{prime}
-use Rattle.numbers.proofs.Primes.{prime-pos}
-use Rattle.correlation.proofs.Signs.{rest-is, below-zero, residue-negative, residue-plain}
+use Rattle.numbers.proofs.Primes.{prime_pos}
+use Rattle.correlation.proofs.Signs.{rest_is, below_zero, residue_negative, residue_plain}
 use Rattle.correlation.proofs.residues.residue.Statement.{statement}
 use Rattle.correlation.proofs.residues.residue.Tie as tie
 
@@ -30,7 +30,7 @@ below c = subst (λ (z : ℤ). lt_z z (pos 0) ≡ true) (is c.before.before) c.i
 left : (c : tie.After-reduce) → let k = c.before.before.before in c.reduce.result ≡ (nat_abs k.before.args.x - 1) % prime k.before.args.m
 left c =
     let k = c.before.before.before in
-    c.reduce.ensures ∙ rest-is k.before.args.m _ ∙ ap (λ (n : ℕ). (n - 1) % prime k.before.args.m) (size k)
+    c.reduce.ensures ∙ rest_is k.before.args.m _ ∙ ap (λ (n : ℕ). (n - 1) % prime k.before.args.m) (size k)
 
 magnitude-requires : tie.Need-magnitude-requires
 magnitude-requires c κs = search rules
@@ -42,7 +42,7 @@ sub-result : tie.Need-overflow-sub-result
 sub-result c = search rules
 
 sub-reduce : tie.Need-overflow-sub-reduce
-sub-reduce c = omega (arith, below-zero c.before.before.before.args.x (below c.before), size c.before.before)
+sub-reduce c = omega (arith, below_zero c.before.before.before.args.x (below c.before), size c.before.before)
 
 reduce-requires : tie.Need-reduce-requires
 reduce-requires c κs = search rules
@@ -50,7 +50,7 @@ reduce-requires c κs = search rules
 sub-result-2 : tie.Need-overflow-sub-result-2
 sub-result-2 c =
     let a = c.before.before.before.before.args in
-    let low : (nat_abs a.x - 1) % prime a.m < prime a.m = mod-lt (nat_abs a.x - 1) (prime-pos a.m) in
+    let low : (nat_abs a.x - 1) % prime a.m < prime a.m = mod-lt (nat_abs a.x - 1) (prime_pos a.m) in
     omega (arith, left c, low, c.before.modulus.ensures.0)
 
 reduce-requires-2 : tie.Need-reduce-requires-2
@@ -59,17 +59,17 @@ reduce-requires-2 c κs = search rules
 returns : tie.Need-returns
 returns c =
     let a = c.before.before.before.before.args in
-    ap (λ (p : ℕ). p - 1 - c.reduce.result) c.before.modulus.ensures.0 ∙ residue-negative (prime a.m) c.reduce.result a.x (below c.before.before) (left c)
+    ap (λ (p : ℕ). p - 1 - c.reduce.result) c.before.modulus.ensures.0 ∙ residue_negative (prime a.m) c.reduce.result a.x (below c.before.before) (left c)
 
 returns-2 : tie.Need-returns-2
 returns-2 c =
     let k = c.before.before in
     let a = k.before.args in
-    residue-plain (prime a.m) c.reduce2.result a.x (subst (λ (z : ℤ). lt_z z (pos 0) ≡ false) (is k.before) c.before.if1.false)
-    (c.reduce2.ensures ∙ rest-is a.m _ ∙ ap (λ (n : ℕ). n % prime a.m) (size k))
+    residue_plain (prime a.m) c.reduce2.result a.x (subst (λ (z : ℤ). lt_z z (pos 0) ≡ false) (is k.before) c.before.if1.false)
+    (c.reduce2.ensures ∙ rest_is a.m _ ∙ ap (λ (n : ℕ). n % prime a.m) (size k))
 
-pub residue-spec : {M : Type 1} → statement M
-residue-spec =
+pub residue_spec : {M : Type 1} → statement M
+residue_spec =
     tie.close
     (tie.spec
     magnitude-requires

@@ -11,9 +11,9 @@ use mir.ValLaws.{to_z-of_z}
 use borrow.Author.Tests.{lt-ltb, le-ltb}
 use Rattle.numbers.specs.declared.Pair.{Pair}
 use Rattle.numbers.specs.Value.{prime}
-use Rattle.numbers.specs.Bounds.{zeroPair}
+use Rattle.numbers.specs.Bounds.{zero_pair}
 use Rattle.numbers.proofs.Values.{pair_path}
-use Rattle.signed.specs.Integers.{residueZ}
+use Rattle.signed.specs.Integers.{residue_z}
 use Rattle.correlation.proofs.residues.residue_pair.Statement.{statement}
 use Rattle.correlation.proofs.residues.residue_pair.Tie as tie
 
@@ -45,7 +45,7 @@ residue-requires-2 c κs = search rules
 abbrev read : tie.Start → Pair
 read s =
     let a = s.args in
-    record { re = residueZ (prime a.m) (get_or a.v.now (2 * a.j) (pos 0)); im = residueZ (prime a.m) (get_or a.v.now (2 * a.j + 1) (pos 0)) }
+    record { re = residue_z (prime a.m) (get_or a.v.now (2 * a.j) (pos 0)); im = residue_z (prime a.m) (get_or a.v.now (2 * a.j + 1) (pos 0)) }
 
 returns : tie.Need-returns
 returns c =
@@ -54,19 +54,19 @@ returns c =
     let a = s.args in
     let here : ltb (a.j % suc a.b) a.b ≡ true = lt-ltb _ _ (subst (λ (k : ℕ). k < a.b) s.requires.2 f.before.before.if1.true) in
     pair_path
-    (f.residue.ensures ∙ ap (residueZ (prime a.m)) (to_z-of_z w64 (get_or a.v.now (2 * a.j) (pos 0)) (record { sfits = f.before.residue-arg.given })))
-    (c.residue2.ensures ∙ ap (residueZ (prime a.m)) (to_z-of_z w64 (get_or a.v.now (2 * a.j + 1) (pos 0)) (record { sfits = c.before.residue-arg2.given })))
-    ∙ sym (ap (λ t. cond t (read s) zeroPair) here)
+    (f.residue.ensures ∙ ap (residue_z (prime a.m)) (to_z-of_z w64 (get_or a.v.now (2 * a.j) (pos 0)) (record { sfits = f.before.residue-arg.given })))
+    (c.residue2.ensures ∙ ap (residue_z (prime a.m)) (to_z-of_z w64 (get_or a.v.now (2 * a.j + 1) (pos 0)) (record { sfits = c.before.residue-arg2.given })))
+    ∙ sym (ap (λ t. cond t (read s) zero_pair) here)
 
 returns-2 : tie.Need-returns-2
 returns-2 c =
     let s = c.before in
     let a = s.args in
     let past : ltb (a.j % suc a.b) a.b ≡ false = le-ltb _ _ (subst (λ (k : ℕ). a.b ≤ k) s.requires.2 c.if1.false) in
-    sym (ap (λ t. cond t (read s) zeroPair) past)
+    sym (ap (λ t. cond t (read s) zero_pair) past)
 
-pub residue-pair-spec : {M : Type 1} → statement M
-residue-pair-spec =
+pub residue_pair_spec : {M : Type 1} → statement M
+residue_pair_spec =
     tie.close
     (tie.spec
     mul-a

@@ -6,5 +6,5 @@ use Rattle.demands.proofs.read_back.written_twice.Tie as tie
 returns : tie.Need-returns
 returns c = written_twice
 
-pub written-twice-spec : {M : Type 1} → statement M
-written-twice-spec = tie.close (tie.spec returns)
+pub written_twice_spec : {M : Type 1} → statement M
+written_twice_spec = tie.close (tie.spec returns)

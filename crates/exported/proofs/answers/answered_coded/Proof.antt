@@ -12,5 +12,5 @@ of-answer-requires c κs = search rules
 returns : tie.Need-returns
 returns c = ap {B = JobCoded} (λ (r : Reply). record { number = r.number; job = c.before.before.args.answered.job }) c.of-answer.ensures
 
-pub answered-coded-spec : {M : Type 1} → statement M
-answered-coded-spec = tie.close (tie.spec of-answer-requires returns)
+pub answered_coded_spec : {M : Type 1} → statement M
+answered_coded_spec = tie.close (tie.spec of-answer-requires returns)

@@ -1,6 +1,6 @@
 -- What the answer says, coded.
 use borrow.Author.Rules.{rules}
-use Rattle.exported.proofs.answers.Coding.{file-opened-coded, file-refused-coded}
+use Rattle.exported.proofs.answers.Coding.{file_opened_coded, file_refused_coded}
 use Rattle.exported.proofs.answers.file_coded.Statement.{statement}
 use Rattle.exported.proofs.answers.file_coded.Tie as tie
 
@@ -17,13 +17,13 @@ no-job-requires : tie.Need-no-job-requires
 no-job-requires c κs = search rules
 
 returns : tie.Need-returns
-returns c = file-opened-coded _ _ c.before.answer.given.1
+returns c = file_opened_coded _ _ c.before.answer.given.1
 
 returns-2 : tie.Need-returns-2
-returns-2 c = file-refused-coded _ _ _ _ _ c.before.before.before.answer2.given.1 c.before.number_of_lem.ensures c.no-job.ensures
+returns-2 c = file_refused_coded _ _ _ _ _ c.before.before.before.answer2.given.1 c.before.number_of_lem.ensures c.no-job.ensures
 
-pub file-coded-spec : {M : Type 1} → statement M
-file-coded-spec =
+pub file_coded_spec : {M : Type 1} → statement M
+file_coded_spec =
     tie.close
     (tie.spec
     enum-known-answer

@@ -3,9 +3,9 @@ use borrow.Author.Rules.{rules}
 use mathlib.Core.Path.{sym, ap, ◌∙◌}
 use Prim.Native.Nat.{ℕ}
 use Rattle.factor_file.specs.declared.file_header.HeaderAnswer.{HeaderAnswer}
-use Rattle.factor_file.specs.HeaderRead.{notNamed}
-use Rattle.factor_file.specs.Answers.{saidHeader}
-use Rattle.exported.specs.Answers.{headerCoded}
+use Rattle.factor_file.specs.HeaderRead.{not_named}
+use Rattle.factor_file.specs.Answers.{said_header}
+use Rattle.exported.specs.Answers.{header_coded}
 use Rattle.exported.proofs.answers.header_coded.Statement.{statement}
 use Rattle.exported.proofs.answers.header_coded.Tie as tie
 
@@ -25,16 +25,16 @@ header-refused-requires : tie.Need-header-refused-requires
 header-refused-requires c κs = search rules
 
 returns : tie.Need-returns
-returns c = c.header-named.ensures ∙ ap (λ (a : HeaderAnswer). headerCoded (saidHeader a)) (sym c.before.before.answer.given.1)
+returns c = c.header_named_lem.ensures ∙ ap (λ (a : HeaderAnswer). header_coded (said_header a)) (sym c.before.before.answer.given.1)
 
 returns-2 : tie.Need-returns-2
 returns-2 c =
     c.header_refused.ensures
-    ∙ ap (λ (n : ℕ). headerCoded (notNamed n)) c.before.number_of_lem.ensures
-    ∙ ap (λ (a : HeaderAnswer). headerCoded (saidHeader a)) (sym c.before.before.before.answer2.given.1)
+    ∙ ap (λ (n : ℕ). header_coded (not_named n)) c.before.number_of_lem.ensures
+    ∙ ap (λ (a : HeaderAnswer). header_coded (said_header a)) (sym c.before.before.before.answer2.given.1)
 
-pub header-coded-spec : {M : Type 1} → statement M
-header-coded-spec =
+pub header_coded_spec : {M : Type 1} → statement M
+header_coded_spec =
     tie.close
     (tie.spec
     enum-known-answer

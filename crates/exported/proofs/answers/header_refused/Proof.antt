@@ -15,6 +15,6 @@ no-axis-requires-3 c κs = search rules
 returns : tie.Need-returns
 returns c = rw (c.before.before.no-axis.ensures, c.before.no-axis2.ensures, c.no-axis3.ensures)
 
-pub header-refused-spec : {M : Type 1} → statement M
-header-refused-spec =
+pub header_refused_spec : {M : Type 1} → statement M
+header_refused_spec =
     tie.close (tie.spec no-axis-requires no-axis-requires-2 no-axis-requires-3 returns)

@@ -2,9 +2,9 @@
 use borrow.Author.Rules.{rules}
 use mathlib.Core.Path.{sym, ap, ◌∙◌}
 use Rattle.factor_file.specs.declared.writer.SizeAnswer.{SizeAnswer}
-use Rattle.factor_file.specs.Answers.{saidSize}
+use Rattle.factor_file.specs.Answers.{said_size}
 use Rattle.exported.specs.declared.answers.LengthCoded.{LengthCoded}
-use Rattle.exported.specs.Answers.{lengthCoded}
+use Rattle.exported.specs.Answers.{length_coded}
 use Rattle.exported.proofs.answers.length_coded.Statement.{statement}
 use Rattle.exported.proofs.answers.length_coded.Tie as tie
 
@@ -18,13 +18,13 @@ number-of-requires : tie.Need-number-of-requires
 number-of-requires c κs = search rules
 
 returns : tie.Need-returns
-returns c = ap (λ (a : SizeAnswer). lengthCoded (saidSize a)) (sym c.before.answer.given.1)
+returns c = ap (λ (a : SizeAnswer). length_coded (said_size a)) (sym c.before.answer.given.1)
 
 returns-2 : tie.Need-returns-2
 returns-2 c =
     ap {B = LengthCoded} (λ n. record { number = n; length = 0 }) c.number_of_lem.ensures
-    ∙ ap (λ (a : SizeAnswer). lengthCoded (saidSize a)) (sym c.before.before.answer2.given.1)
+    ∙ ap (λ (a : SizeAnswer). length_coded (said_size a)) (sym c.before.before.answer2.given.1)
 
-pub length-coded-spec : {M : Type 1} → statement M
-length-coded-spec =
+pub length_coded_spec : {M : Type 1} → statement M
+length_coded_spec =
     tie.close (tie.spec enum-known-answer enum-known-answer-2 number-of-requires returns returns-2)

@@ -1,6 +1,6 @@
 -- What the answer says, coded.
 use borrow.Author.Rules.{rules}
-use Rattle.exported.proofs.answers.Coding.{opened-coded, unopened-coded}
+use Rattle.exported.proofs.answers.Coding.{opened_coded, unopened_coded}
 use Rattle.exported.proofs.answers.opening_coded.Statement.{statement}
 use Rattle.exported.proofs.answers.opening_coded.Tie as tie
 
@@ -17,13 +17,13 @@ no-job-requires : tie.Need-no-job-requires
 no-job-requires c κs = search rules
 
 returns : tie.Need-returns
-returns c = opened-coded _ _ c.before.answer.given.1
+returns c = opened_coded _ _ c.before.answer.given.1
 
 returns-2 : tie.Need-returns-2
-returns-2 c = unopened-coded _ _ _ _ c.before.before.before.answer2.given.1 c.before.number_of_lem.ensures c.no-job.ensures
+returns-2 c = unopened_coded _ _ _ _ c.before.before.before.answer2.given.1 c.before.number_of_lem.ensures c.no-job.ensures
 
-pub opening-coded-spec : {M : Type 1} → statement M
-opening-coded-spec =
+pub opening_coded_spec : {M : Type 1} → statement M
+opening_coded_spec =
     tie.close
     (tie.spec
     enum-known-answer

@@ -5,9 +5,9 @@ use mir.Syntax.{w32}
 use mir.ValLaws.{to_z-of_z}
 use Rattle.signed.specs.Integers.{ℤ, pos}
 use Rattle.job.specs.declared.PointAnswer.{PointAnswer}
-use Rattle.job.specs.Answers.{saidPoint}
+use Rattle.job.specs.Answers.{said_point}
 use Rattle.exported.specs.declared.answers.PointCoded.{PointCoded}
-use Rattle.exported.specs.Answers.{pointCoded}
+use Rattle.exported.specs.Answers.{point_coded}
 use Rattle.exported.proofs.answers.point_coded.Statement.{statement}
 use Rattle.exported.proofs.answers.point_coded.Tie as tie
 
@@ -23,14 +23,14 @@ number-of-requires c κs = search rules
 returns : tie.Need-returns
 returns c =
     ap {B = PointCoded} (λ (z : ℤ). record { number = 0; density = z }) (to_z-of_z w32 c.before.answer.given.0.0 (record { sfits = c.known-told.given.0.1 }))
-    ∙ ap (λ (a : PointAnswer). pointCoded (saidPoint a)) (sym c.before.answer.given.1)
+    ∙ ap (λ (a : PointAnswer). point_coded (said_point a)) (sym c.before.answer.given.1)
 
 returns-2 : tie.Need-returns-2
 returns-2 c =
     ap {B = PointCoded} (λ n. record { number = n; density = pos 0 }) c.number_of_lem.ensures
-    ∙ ap (λ (a : PointAnswer). pointCoded (saidPoint a)) (sym c.before.before.answer2.given.1)
+    ∙ ap (λ (a : PointAnswer). point_coded (said_point a)) (sym c.before.before.answer2.given.1)
 
-pub point-coded-spec : {M : Type 1} → statement M
-point-coded-spec =
+pub point_coded_spec : {M : Type 1} → statement M
+point_coded_spec =
     tie.close
     (tie.spec enum-known-answer enum-known-answer-2 number-of-requires returns returns-2)

@@ -16,5 +16,5 @@ returns c =
     ap {B = LaneCoded} (λ (r : Reply). record { number = r.number; scheduler = a.scheduler }) c.of-answer.ensures
     ∙ ap {B = LaneCoded} (λ n. record { number = n; scheduler = a.scheduler }) (same_number a.answer)
 
-pub lane-coded-spec : {M : Type 1} → statement M
-lane-coded-spec = tie.close (tie.spec of-answer-requires returns)
+pub lane_coded_spec : {M : Type 1} → statement M
+lane_coded_spec = tie.close (tie.spec of-answer-requires returns)

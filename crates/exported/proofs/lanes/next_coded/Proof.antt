@@ -1,6 +1,6 @@
 -- What the answer says, coded.
 use borrow.Author.Rules.{rules}
-use Rattle.exported.proofs.lanes.Coding.{known-next-coded, refused-next-coded}
+use Rattle.exported.proofs.lanes.Coding.{known_next_coded, refused_next_coded}
 use Rattle.exported.proofs.lanes.next_coded.Statement.{statement}
 use Rattle.exported.proofs.lanes.next_coded.Tie as tie
 
@@ -17,16 +17,16 @@ number-of-requires : tie.Need-number-of-requires
 number-of-requires c κs = search rules
 
 returns : tie.Need-returns
-returns c = known-next-coded _ _ c.before.answer.given.1
+returns c = known_next_coded _ _ c.before.answer.given.1
 
 returns-2 : tie.Need-returns-2
-returns-2 c = known-next-coded _ _ c.enum_told.given.1
+returns-2 c = known_next_coded _ _ c.enum_told.given.1
 
 returns-3 : tie.Need-returns-3
-returns-3 c = refused-next-coded _ _ _ c.before.before.answer2.given.1 c.number_of_lem.ensures
+returns-3 c = refused_next_coded _ _ _ c.before.before.answer2.given.1 c.number_of_lem.ensures
 
-pub next-coded-spec : {M : Type 1} → statement M
-next-coded-spec =
+pub next_coded_spec : {M : Type 1} → statement M
+next_coded_spec =
     tie.close
     (tie.spec
     enum-known-answer

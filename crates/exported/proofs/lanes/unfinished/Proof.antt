@@ -14,5 +14,5 @@ returns c =
     let a = c.before.args in
     ap {B = TurnCoded} (λ (j : Job). record { number = a.number; lane = a.lane; finished = 0; job = j; scheduler = a.scheduler }) c.no-job.ensures
 
-pub unfinished-spec : {M : Type 1} → statement M
-unfinished-spec = tie.close (tie.spec no-job-requires returns)
+pub unfinished_spec : {M : Type 1} → statement M
+unfinished_spec = tie.close (tie.spec no-job-requires returns)

@@ -6,61 +6,61 @@ use mathlib.Core.List.{List}
 use Prim.Native.Nat.{ℕ, ◌+◌, ◌*◌, ◌-◌, ◌≤◌}
 use lib.ListN.{length}
 use Rattle.header.specs.Header.{Header}
-use Rattle.output.specs.Output.{bigEndian}
-use Rattle.output.proofs.Writing.{wrote-append, wrote_as}
+use Rattle.output.specs.Output.{big_endian}
+use Rattle.output.proofs.Writing.{wrote_append, wrote_as}
 use Rattle.file_format.specs.declared.FileRecord.{FileRecord}
-use Rattle.file_format.specs.Format.{versionOf, headerBytes, body, fileOf}
-use Rattle.factor_file.specs.Steps.{headerFor, recordsWith}
-use Rattle.file_format.proofs.layout.ByteLaws.{length-all}
-use Rattle.factor_file.proofs.file.RecordLaws.{admitted-few}
-use Rattle.file_format.proofs.layout.FileParts.{length-body, length-file, file-parts}
+use Rattle.file_format.specs.Format.{version_of, header_bytes, body, file_of}
+use Rattle.factor_file.specs.Steps.{header_for, records_with}
+use Rattle.file_format.proofs.layout.ByteLaws.{length_all}
+use Rattle.factor_file.proofs.file.RecordLaws.{admitted_few}
+use Rattle.file_format.proofs.layout.FileParts.{length_body, length_file, file_parts}
 use Rattle.factor_file.proofs.file.put_file.Statement.{statement}
 use Rattle.factor_file.proofs.file.put_file.Tie as tie
 
 -- the file's parts, and the counts in it
 module _ (s : tie.Start) where
   abbrev head : Header
-  head = let a = s.args in headerFor a.cell a.f1 a.f2 a.f3
+  head = let a = s.args in header_for a.cell a.f1 a.f2 a.f3
 
   abbrev version : ℕ
-  version = versionOf s.args.modulus
+  version = version_of s.args.modulus
 
   abbrev records : List FileRecord
-  records = let a = s.args in recordsWith a.cell a.modulus a.volume.now
+  records = let a = s.args in records_with a.cell a.modulus a.volume.now
 
   few : s.args.count ≤ 33554432
-  few = let f = s.pre.0.0 in omega (arith, s.pre.1, admitted-few f.volume.sizes s.args.modulus s.args.volume.now f.volume.long s.pre.0.1)
+  few = let f = s.pre.0.0 in omega (arith, s.pre.1, admitted_few f.volume.sizes s.args.modulus s.args.volume.now f.volume.long s.pre.0.1)
 
 -- how long the file is
-long : (c : tie.After-file-length) → let s = c.before.before.before in (c.file-length.result ≡ length (fileOf (version s) s.args.modulus (head s) (records s))) × (c.file-length.result ≤ 53 + 14 * s.args.count)
+long : (c : tie.After-file-length) → let s = c.before.before.before in (c.file_length_lem.result ≡ length (file_of (version s) s.args.modulus (head s) (records s))) × (c.file_length_lem.result ≤ 53 + 14 * s.args.count)
 long c =
     let s = c.before.before.before in
     let a = s.args in
-    (c.file-length.ensures.0 a.cell.group a.cell.n1 a.cell.n2 a.cell.n3 (records s) s.requires.1, c.file-length.ensures.1)
+    (c.file_length_lem.ensures.0 a.cell.group a.cell.n1 a.cell.n2 a.cell.n3 (records s) s.requires.1, c.file_length_lem.ensures.1)
 
 -- what follows the first count
-follows : (c : tie.After-file-length) → let s = c.before.before.before in c.file-length.result - 4 ≡ length (body (version s) s.args.modulus (head s) (records s))
-follows c = let s = c.before.before.before in omega (arith, long c, length-file (version s) s.args.modulus (head s) (records s), length-body (version s) s.args.modulus (head s) (records s))
+follows : (c : tie.After-file-length) → let s = c.before.before.before in c.file_length_lem.result - 4 ≡ length (body (version s) s.args.modulus (head s) (records s))
+follows c = let s = c.before.before.before in omega (arith, long c, length_file (version s) s.args.modulus (head s) (records s), length_body (version s) s.args.modulus (head s) (records s))
 
 file-length-requires : tie.Need-file-length-requires
 file-length-requires c κs = omega (arith, few c.before.before)
 
 sub-follow : tie.Need-overflow-sub-follow
-sub-follow c = let s = c.before.before.before in omega (arith, long c, length-file (version s) s.args.modulus (head s) (records s))
+sub-follow c = let s = c.before.before.before in omega (arith, long c, length_file (version s) s.args.modulus (head s) (records s))
 
 cast-put-four : tie.Need-overflow-cast-put-four
 cast-put-four c = omega (arith, long c.before, few c.before.before.before.before)
 
 -- how long its header is at most
-short : (c : tie.After-file-length) → let s = c.before.before.before in length (headerBytes (version s) s.args.modulus (head s)) ≤ 45
-short c = let s = c.before.before.before in omega (arith, long c, s.requires.1, length-file (version s) s.args.modulus (head s) (records s))
+short : (c : tie.After-file-length) → let s = c.before.before.before in length (header_bytes (version s) s.args.modulus (head s)) ≤ 45
+short c = let s = c.before.before.before in omega (arith, long c, s.requires.1, length_file (version s) s.args.modulus (head s) (records s))
 
 put-four-requires : tie.Need-put-four-requires
-unfolding bigEndian
+unfolding big_endian
 put-four-requires c κs = record { low = omega arith }
 
 put-header-requires : tie.Need-put-header-requires
-unfolding bigEndian
+unfolding big_endian
 put-header-requires c κs =
     let l = c.before.before.before.before.before in
     let f = l.before.before.before.requires.0.0 in
@@ -71,18 +71,18 @@ cast-put-four-2 : tie.Need-overflow-cast-put-four-2
 cast-put-four-2 c = omega (arith, few c.before.before.before.before.before.before.before.before.before.before.before.before)
 
 put-four-requires-2 : tie.Need-put-four-requires-2
-unfolding bigEndian
+unfolding big_endian
 put-four-requires-2 c κs = record { low = omega (arith, short c.before.before.before.before.before.before.before.before.before) }
 
 put-records-requires : tie.Need-put-records-requires
-unfolding bigEndian
+unfolding big_endian
 put-records-requires c κs =
     let n = c.before.before.before in
     let h = n.before.before.before.before in
     let m = h.before.before.before.before in
     let l = m.before.before in
     let s = l.before.before.before in
-    (s.requires.0.0, record { low = omega (arith, short l, few s, s.requires.1, length-all (records s), m.put_four.ensures.place, h.put-header.ensures.place, n.put-four2.ensures.place) })
+    (s.requires.0.0, record { low = omega (arith, short l, few s, s.requires.1, length_all (records s), m.put_four.ensures.place, h.put-header.ensures.place, n.put-four2.ensures.place) })
 
 same_length : tie.Need-same-length
 same_length c = search rules
@@ -95,10 +95,10 @@ returns c =
     let m = h.before.before.before.before in
     let l = m.before.before in
     let s = l.before.before.before in
-    wrote_as (wrote-append (wrote-append (wrote-append m.put_four.ensures h.put-header.ensures) n.put-four2.ensures) d.put-records.ensures) (file-parts (version s) s.args.modulus (head s) (records s) _ _ (follows l) s.requires.1)
+    wrote_as (wrote_append (wrote_append (wrote_append m.put_four.ensures h.put-header.ensures) n.put-four2.ensures) d.put-records.ensures) (file_parts (version s) s.args.modulus (head s) (records s) _ _ (follows l) s.requires.1)
 
-pub put-file-spec : {M : Type 1} → statement M
-put-file-spec =
+pub put_file_spec : {M : Type 1} → statement M
+put_file_spec =
     tie.close
     (tie.spec
     file-length-requires

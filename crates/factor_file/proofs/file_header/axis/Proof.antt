@@ -9,5 +9,5 @@ packed-requires c κs = search rules
 returns : tie.Need-returns
 returns c = rw c.packed.ensures
 
-pub axis-spec : {M : Type 1} → statement M
-axis-spec = tie.close (tie.spec packed-requires returns)
+pub axis_spec : {M : Type 1} → statement M
+axis_spec = tie.close (tie.spec packed-requires returns)

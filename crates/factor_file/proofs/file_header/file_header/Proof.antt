@@ -1,8 +1,8 @@
 -- Refused by the shape, or what the header leads to.
 use borrow.Author.Rules.{rules}
 use mathlib.Core.Path.{◌∙◌, sym, ap}
-use Rattle.refusals.specs.Checks.{checkedNumber}
-use Rattle.factor_file.proofs.HeadersRead.{shape-unsound}
+use Rattle.refusals.specs.Checks.{checked_number}
+use Rattle.factor_file.proofs.HeadersRead.{shape_unsound}
 use Rattle.factor_file.proofs.file_header.file_header.Statement.{statement}
 use Rattle.factor_file.proofs.file_header.file_header.Tie as tie
 
@@ -19,7 +19,7 @@ returns : tie.Need-returns
 returns c =
     let k = c.before.before.before in
     let r = c.before.checked.given in
-    shape-unsound k.before.before.before.args.file.now r.0.0 (ap checkedNumber (sym r.1) ∙ k.check-shape.ensures)
+    shape_unsound k.before.before.before.args.file.now r.0.0 (ap checked_number (sym r.1) ∙ k.check-shape.ensures)
 
 enum_told : tie.Need-enum-told
 enum_told c = search rules
@@ -27,13 +27,13 @@ enum_told c = search rules
 sound-header-requires : tie.Need-sound-header-requires
 sound-header-requires c κs =
     let k = c.before.before in
-    (k.before.places_of.ensures, ap checkedNumber (sym c.enum_told.given.1) ∙ k.check-shape.ensures)
+    (k.before.places_of.ensures, ap checked_number (sym c.enum_told.given.1) ∙ k.check-shape.ensures)
 
 returns-2 : tie.Need-returns-2
 returns-2 c = c.sound-header.ensures
 
-pub file-header-spec : {M : Type 1} → statement M
-file-header-spec =
+pub file_header_spec : {M : Type 1} → statement M
+file_header_spec =
     tie.close
     (tie.spec
     places-of-requires

@@ -2,19 +2,19 @@
 use borrow.Author.Rules.{rules}
 use mathlib.Core.Path.{◌≡◌, sym, ◌∙◌, ap}
 use Rattle.refusals.specs.Refusals.{first}
-use Rattle.refusals.specs.Checks.{checkedNumber}
-use Rattle.job.specs.Job.{Header, cellHeader}
-use Rattle.factor_file.specs.HeaderRead.{openingTests, named}
-use Rattle.factor_file.proofs.HeadersRead.{header-unsound, header-named, axes-sound}
+use Rattle.refusals.specs.Checks.{checked_number}
+use Rattle.job.specs.Job.{Header, cell_header}
+use Rattle.factor_file.specs.HeaderRead.{opening_tests, named}
+use Rattle.factor_file.proofs.HeadersRead.{header_unsound, header_named_lem, axes_sound}
 use Rattle.factor_file.proofs.file_header.judged_header.Statement.{statement}
 use Rattle.factor_file.proofs.file_header.judged_header.Tie as tie
 
 abbrev header : tie.Start → Header
-header s = let a = s.args in cellHeader a.cell a.f1.now a.f2.now a.f3.now
+header s = let a = s.args in cell_header a.cell a.f1.now a.f2.now a.f3.now
 
 -- no test holds
-clear : (c : tie.After-enum-told) → let s = c.before.before.before.before.before.before in 0 ≡ first (openingTests s.args.modulus (header s))
-clear c = ap checkedNumber (sym c.enum_told.given.1) ∙ c.before.before.check-opening.ensures
+clear : (c : tie.After-enum-told) → let s = c.before.before.before.before.before.before in 0 ≡ first (opening_tests s.args.modulus (header s))
+clear c = ap checked_number (sym c.enum_told.given.1) ∙ c.before.before.check-opening.ensures
 
 check-opening-requires : tie.Need-check-opening-requires
 check-opening-requires c κs = search rules
@@ -26,22 +26,22 @@ enum_told : tie.Need-enum-told
 enum_told c = search rules
 
 named-requires : tie.Need-named-requires
-named-requires c κs = let s = c.before.before.before.before.before.before in axes-sound s.args.modulus (header s) s.args.records (clear c)
+named-requires c κs = let s = c.before.before.before.before.before.before in axes_sound s.args.modulus (header s) s.args.records (clear c)
 
 returns : tie.Need-returns
 returns c =
     let k = c.before.before.before in
     let s = k.before.before.before.before in
     let r = c.before.checked.given in
-    header-unsound s.args.modulus (header s) s.args.records r.0.0 (ap checkedNumber (sym r.1) ∙ k.check-opening.ensures)
+    header_unsound s.args.modulus (header s) s.args.records r.0.0 (ap checked_number (sym r.1) ∙ k.check-opening.ensures)
 
 returns-2 : tie.Need-returns-2
 returns-2 c =
     let s = c.before.before.before.before.before.before.before in
-    ap named c.named.ensures ∙ header-named s.args.modulus (header s) s.args.records (clear c.before)
+    ap named c.named.ensures ∙ header_named_lem s.args.modulus (header s) s.args.records (clear c.before)
 
-pub judged-header-spec : {M : Type 1} → statement M
-judged-header-spec =
+pub judged_header_spec : {M : Type 1} → statement M
+judged_header_spec =
     tie.close
     (tie.spec
     check-opening-requires

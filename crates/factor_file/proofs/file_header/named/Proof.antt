@@ -4,38 +4,38 @@ use mathlib.Core.Path.{◌≡◌}
 use Prim.Native.Nat.{ℕ, ◌≤◌}
 use borrow.Author.Tests.{ltb-false}
 use Rattle.refusals.proofs.Tests.{passed}
-use Rattle.job.specs.Job.{Header, cellHeader, needed, axisTests}
-use Rattle.header.proofs.Headers.{sound-lists, short_lengths}
+use Rattle.job.specs.Job.{Header, cell_header, needed, axis_tests}
+use Rattle.header.proofs.Headers.{sound_lists, short_lengths}
 use Rattle.factor_file.proofs.file_header.named.Statement.{statement}
 use Rattle.factor_file.proofs.file_header.named.Tie as tie
 
 abbrev header : tie.Start → Header
-header s = let a = s.args in cellHeader a.cell a.f1.now a.f2.now a.f3.now
+header s = let a = s.args in cell_header a.cell a.f1.now a.f2.now a.f3.now
 
 -- the volume is not too large
 small : (s : tie.Start) → needed (header s) ≤ 16777216
-small s = ltb-false 16777216 (needed (header s)) (passed (axisTests (header s)) tt s.requires.1).1.1.1.0
+small s = ltb-false 16777216 (needed (header s)) (passed (axis_tests (header s)) tt s.requires.1).1.1.1.0
 
 volume-length-requires : tie.Need-volume-length-requires
 volume-length-requires c κs = short_lengths c.before.before.before.requires.0
 
 cast-numbers : tie.Need-overflow-cast-numbers
-cast-numbers c = omega (arith, c.volume-length.ensures, small c.before.before.before.before)
+cast-numbers c = omega (arith, c.volume_length_lem.ensures, small c.before.before.before.before)
 
 axis-requires : tie.Need-axis-requires
-axis-requires c κs = let s = c.before.before.before.before in (sound-lists (header s) s.requires.1).0
+axis-requires c κs = let s = c.before.before.before.before in (sound_lists (header s) s.requires.1).0
 
 axis-requires-2 : tie.Need-axis-requires-2
-axis-requires-2 c κs = let s = c.before.before.before.before.before in (sound-lists (header s) s.requires.1).1
+axis-requires-2 c κs = let s = c.before.before.before.before.before in (sound_lists (header s) s.requires.1).1
 
 axis-requires-3 : tie.Need-axis-requires-3
-axis-requires-3 c κs = let s = c.before.before.before.before.before.before in (sound-lists (header s) s.requires.1).2
+axis-requires-3 c κs = let s = c.before.before.before.before.before.before in (sound_lists (header s) s.requires.1).2
 
 returns : tie.Need-returns
-returns c = rw (c.before.before.axis.ensures, c.before.axis2.ensures, c.axis3.ensures, c.before.before.before.volume-length.ensures)
+returns c = rw (c.before.before.axis.ensures, c.before.axis2.ensures, c.axis3.ensures, c.before.before.before.volume_length_lem.ensures)
 
-pub named-spec : {M : Type 1} → statement M
-named-spec =
+pub named_spec : {M : Type 1} → statement M
+named_spec =
     tie.close
     (tie.spec
     volume-length-requires

@@ -4,12 +4,12 @@ use native.Mathlib.Omega.{arith}
 use mathlib.Core.Path.{◌≡◌, ◌∙◌, ap}
 use mathlib.Core.List.{List}
 use Prim.Native.Nat.{ℕ}
-use Rattle.file_format.specs.Format.{fourBytes, recordCount}
-use Rattle.file_format.proofs.shape.Shapes.{Ordered, ordered, filled-by, header-parts}
+use Rattle.file_format.specs.Format.{four_bytes, record_count}
+use Rattle.file_format.proofs.shape.Shapes.{Ordered, ordered, filled_by_lem, header_parts}
 use Rattle.job.specs.Job.{Header}
-use Rattle.factor_file.specs.File.{modulusIn, headerIn}
-use Rattle.factor_file.specs.HeaderRead.{HeaderSaid, judgedHeader, headerStep}
-use Rattle.factor_file.proofs.HeadersRead.{shape-sound}
+use Rattle.factor_file.specs.File.{modulus_in, header_in}
+use Rattle.factor_file.specs.HeaderRead.{HeaderSaid, judged_header, header_step}
+use Rattle.factor_file.proofs.HeadersRead.{shape_sound}
 use Rattle.factor_file.proofs.file_header.sound_header.Statement.{statement}
 use Rattle.factor_file.proofs.file_header.sound_header.Tie as tie
 
@@ -17,14 +17,14 @@ standing : (c : tie.After-struct-known) → Ordered c.before.before.before.befor
 standing c = let s = c.before.before.before.before in ordered s.args.file.now s.args.places s.requires.0 s.requires.1
 
 -- the modulus, the header and the record count that were read are those of the file
-judged-by : (file : List ℕ) {μ n : ℕ} {h : Header} {o : HeaderSaid} → o ≡ judgedHeader μ h n → μ ≡ modulusIn file → h ≡ headerIn file → n ≡ recordCount file → o ≡ judgedHeader (modulusIn file) (headerIn file) (recordCount file)
-judged-by file e m p q = e ∙ (λ i. judgedHeader (m i) (p i) (q i))
+judged_by : (file : List ℕ) {μ n : ℕ} {h : Header} {o : HeaderSaid} → o ≡ judged_header μ h n → μ ≡ modulus_in file → h ≡ header_in file → n ≡ record_count file → o ≡ judged_header (modulus_in file) (header_in file) (record_count file)
+judged_by file e m p q = e ∙ (λ i. judged_header (m i) (p i) (q i))
 
 header-numbers-requires : tie.Need-header-numbers-requires
 header-numbers-requires c κs = search rules
 
 four-bytes-requires : tie.Need-four-bytes-requires
-four-bytes-requires c κs = let s = c.before.before in omega (arith, s.requires.0.count, filled-by s.args.file.now s.requires.1)
+four-bytes-requires c κs = let s = c.before.before in omega (arith, s.requires.0.count, filled_by_lem s.args.file.now s.requires.1)
 
 add-start1 : tie.Need-overflow-add-start1
 add-start1 c = let o = standing c in omega arith
@@ -69,14 +69,14 @@ returns : tie.Need-returns
 returns c =
     let f = c.before.before.before.before.before in
     let p = f.before in
-    let n = p.header-numbers.ensures in
+    let n = p.header_numbers.ensures in
     let s = p.before.before in
     let file = s.args.file.now in
-    judged-by file c.judged-header.ensures n.modulus (header-parts file s.requires.0 n) (f.four_bytes.ensures ∙ ap (fourBytes file) s.requires.0.count)
-    ∙ shape-sound file s.requires.1
+    judged_by file c.judged-header.ensures n.modulus (header_parts file s.requires.0 n) (f.four_bytes.ensures ∙ ap (four_bytes file) s.requires.0.count)
+    ∙ shape_sound file s.requires.1
 
-pub sound-header-spec : {M : Type 1} → statement M
-sound-header-spec =
+pub sound_header_spec : {M : Type 1} → statement M
+sound_header_spec =
     tie.close
     (tie.spec
     header-numbers-requires

@@ -1,7 +1,7 @@
 -- Refused by the shape, or what header and records lead to.
 use mathlib.Core.Path.{◌∙◌, sym, ap}
-use Rattle.refusals.specs.Checks.{checkedNumber}
-use Rattle.factor_file.proofs.Openings.{shape-refused}
+use Rattle.refusals.specs.Checks.{checked_number}
+use Rattle.factor_file.proofs.Openings.{shape_refused}
 use borrow.Author.Rules.{rules}
 use Rattle.factor_file.proofs.open_file.open_file.Statement.{statement}
 use Rattle.factor_file.proofs.open_file.open_file.Tie as tie
@@ -19,7 +19,7 @@ returns : tie.Need-returns
 returns c =
     let k = c.before.before.before in
     let a = k.before.before.before.before.args in
-    shape-refused a.file.now a.volume.now c.before.checked.given.0.0 (ap checkedNumber (sym c.before.checked.given.1) ∙ k.check-shape.ensures)
+    shape_refused a.file.now a.volume.now c.before.checked.given.0.0 (ap checked_number (sym c.before.checked.given.1) ∙ k.check-shape.ensures)
 
 enum_told : tie.Need-enum-told
 enum_told c = search rules
@@ -27,7 +27,7 @@ enum_told c = search rules
 open-sound-requires : tie.Need-open-sound-requires
 open-sound-requires c κs =
     let k = c.before.before.before in
-    (k.before.places_of.ensures, ap checkedNumber (sym c.before.enum_told.given.1) ∙ k.check-shape.ensures)
+    (k.before.places_of.ensures, ap checked_number (sym c.before.enum_told.given.1) ∙ k.check-shape.ensures)
 
 same_length : tie.Need-same-length
 same_length c = search rules
@@ -35,8 +35,8 @@ same_length c = search rules
 returns-2 : tie.Need-returns-2
 returns-2 c = search rules
 
-pub open-file-spec : {M : Type 1} → statement M
-open-file-spec =
+pub open_file_spec : {M : Type 1} → statement M
+open_file_spec =
     tie.close
     (tie.spec
     places-of-requires

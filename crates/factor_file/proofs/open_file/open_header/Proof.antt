@@ -1,8 +1,8 @@
 -- The numbers of the header and the parts that are its lists are those of the file.
 use borrow.Author.Rules.{rules}
 use native.Mathlib.Omega.{arith}
-use Rattle.file_format.proofs.shape.Shapes.{Ordered, ordered, header-parts}
-use Rattle.factor_file.proofs.Openings.{opened-by}
+use Rattle.file_format.proofs.shape.Shapes.{Ordered, ordered, header_parts}
+use Rattle.factor_file.proofs.Openings.{opened_by}
 use Rattle.factor_file.proofs.open_file.open_header.Statement.{statement}
 use Rattle.factor_file.proofs.open_file.open_header.Tie as tie
 
@@ -58,13 +58,13 @@ returns : tie.Need-returns
 returns c =
     let o = c.before.before in
     let p = o.before.before.before.before.before.before.before in
-    let n = p.header-numbers.ensures in
+    let n = p.header_numbers.ensures in
     let start = p.before.before.before in
     let file = start.args.file.now in
-    opened-by file start.args.volume.now o.«open».ensures n.modulus (header-parts file start.requires.0 n)
+    opened_by file start.args.volume.now o.«open».ensures n.modulus (header_parts file start.requires.0 n)
 
-pub open-header-spec : {M : Type 1} → statement M
-open-header-spec =
+pub open_header_spec : {M : Type 1} → statement M
+open_header_spec =
     tie.close
     (tie.spec
     header-numbers-requires

@@ -5,26 +5,26 @@ use mathlib.Core.List.{List, []}
 use Prim.Native.Nat.{ℕ, ◌+◌}
 use lib.ListN.{replicate}
 use Rattle.cell.specs.declared.operations.UnitCell.{UnitCell}
-use Rattle.cell.specs.Operations.{cellGroup, cellHalves, cellLengths}
+use Rattle.cell.specs.Operations.{cell_group, cell_halves, cell_lengths}
 use Rattle.cell.specs.TestSteps.{IsVolume}
-use Rattle.job.specs.Job.{jobCell}
-use Rattle.file_format.specs.Format.{recordsIn}
-use Rattle.factor_file.specs.File.{judged, recordAllOn}
+use Rattle.job.specs.Job.{job_cell}
+use Rattle.file_format.specs.Format.{records_in}
+use Rattle.factor_file.specs.File.{judged, record_all_on}
 use Rattle.factor_file.specs.Marks.{IsEmpty}
-use Rattle.factor_file.specs.Answers.{saidVerdict}
-use Rattle.factor_file.proofs.Openings.{feed-refused, feed-taken}
+use Rattle.factor_file.specs.Answers.{said_verdict}
+use Rattle.factor_file.proofs.Openings.{feed_refused, feed_taken}
 use Rattle.factor_file.proofs.records.feed_records.Statement.{statement}
 use Rattle.factor_file.proofs.records.feed_records.Tie as tie
 
 -- what the first walk says of the job's cell
-says : (c : tie.After-judge-records) → let s = c.before.before.before.before.before.before in let j = jobCell s.args.job in
-    saidVerdict c.judge-records.result ≡ judged s.args.job.modulus j.group (cellLengths j) [] (recordsIn s.args.file.now)
+says : (c : tie.After-judge-records) → let s = c.before.before.before.before.before.before in let j = job_cell s.args.job in
+    said_verdict c.judge-records.result ≡ judged s.args.job.modulus j.group (cell_lengths j) [] (records_in s.args.file.now)
 says c =
     let s = c.before.before.before.before.before.before in
-    c.judge-records.ensures ∙ ap (λ (k : UnitCell). judged s.args.job.modulus k.group (cellLengths k) [] (recordsIn s.args.file.now)) c.before.before.before.unit-cell.ensures
+    c.judge-records.ensures ∙ ap (λ (k : UnitCell). judged s.args.job.modulus k.group (cell_lengths k) [] (records_in s.args.file.now)) c.before.before.before.unit-cell.ensures
 
-same-volume : {k l : UnitCell} {v w : List ℕ} → k ≡ l → v ≡ w → IsVolume l w → IsVolume k v
-same-volume {k} {l} {v} e f x = subst (λ (k : UnitCell). IsVolume k v) (sym e) (subst (IsVolume l) (sym f) x)
+same_volume : {k l : UnitCell} {v w : List ℕ} → k ≡ l → v ≡ w → IsVolume l w → IsVolume k v
+same_volume {k} {l} {v} e f x = subst (λ (k : UnitCell). IsVolume k v) (sym e) (subst (IsVolume l) (sym f) x)
 
 unit-cell-requires : tie.Need-unit-cell-requires
 unit-cell-requires c κs = search rules
@@ -53,7 +53,7 @@ returns c =
     let z = v.before.before.before.before in
     let r = z.before.before.before.before in
     let s = r.before.before.before.before.before.before in
-    feed-refused (recordsIn s.args.file.now) s.args.job s.args.volume.now s.requires.2.zeros (z.zero.ensures ∙ ap (λ (n : ℕ). replicate n 0) r.judge-records.auto.1.1.1.1.0 ∙ sym s.requires.2.zeros) v.verdict.given.0.0 v.verdict.given.0.1.0 (ap saidVerdict (sym v.verdict.given.1) ∙ says r)
+    feed_refused (records_in s.args.file.now) s.args.job s.args.volume.now s.requires.2.zeros (z.zero.ensures ∙ ap (λ (n : ℕ). replicate n 0) r.judge-records.auto.1.1.1.1.0 ∙ sym s.requires.2.zeros) v.verdict.given.0.0 v.verdict.given.0.1.0 (ap said_verdict (sym v.verdict.given.1) ∙ says r)
 
 enum_told : tie.Need-enum-told
 enum_told c = search rules
@@ -67,7 +67,7 @@ record-all-requires c κs =
     let u = f.before in
     let s = u.before.before.before in
     let w = z.zero.ensures ∙ ap (λ (n : ℕ). replicate n 0) r.judge-records.auto.1.1.1.1.0 ∙ sym s.requires.2.zeros in
-    ((f.first-record.ensures ∙ ap (λ (n : ℕ). n + 4) s.requires.0.count, s.requires.1, same-volume u.unit-cell.ensures w s.requires.2.volume, s.requires.3), sym (ap saidVerdict (sym t.enum_told.given.1) ∙ r.judge-records.ensures))
+    ((f.first-record.ensures ∙ ap (λ (n : ℕ). n + 4) s.requires.0.count, s.requires.1, same_volume u.unit-cell.ensures w s.requires.2.volume, s.requires.3), sym (ap said_verdict (sym t.enum_told.given.1) ∙ r.judge-records.ensures))
 
 same-length-2 : tie.Need-same-length-2
 same-length-2 c = search rules
@@ -81,11 +81,11 @@ returns-2 c =
     let s = r.before.before.before.before.before.before in
     let w = z.zero.ensures ∙ ap (λ (n : ℕ). replicate n 0) r.judge-records.auto.1.1.1.1.0 ∙ sym s.requires.2.zeros in
     let k = r.before.before.before.unit-cell.ensures in
-    feed-taken (recordsIn s.args.file.now) s.args.job s.args.volume.now (ap saidVerdict (sym t.enum_told.given.1) ∙ says r)
-    (a.record-all.ensures ∙ λ i. recordAllOn (cellGroup (k i)) (cellHalves (k i)) s.args.job.modulus (recordsIn s.args.file.now) (w i))
+    feed_taken (records_in s.args.file.now) s.args.job s.args.volume.now (ap said_verdict (sym t.enum_told.given.1) ∙ says r)
+    (a.record-all.ensures ∙ λ i. record_all_on (cell_group (k i)) (cell_halves (k i)) s.args.job.modulus (records_in s.args.file.now) (w i))
 
-pub feed-records-spec : {M : Type 1} → statement M
-feed-records-spec =
+pub feed_records_spec : {M : Type 1} → statement M
+feed_records_spec =
     tie.close
     (tie.spec
     unit-cell-requires

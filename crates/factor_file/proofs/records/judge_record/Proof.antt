@@ -2,20 +2,20 @@
 use borrow.Author.Rules.{rules}
 use mathlib.Core.Path.{◌∙◌, sym, ap}
 use borrow.Author.Tests.{not-false}
-use Rattle.refusals.specs.Checks.{checkedNumber}
-use Rattle.refusals.proofs.Tests.{pass, Passed, passed, append-stop, not-zero}
-use Rattle.cell.specs.Operations.{cellLengths, triple_of}
-use Rattle.job.specs.Job.{ownTests}
+use Rattle.refusals.specs.Checks.{checked_number}
+use Rattle.refusals.proofs.Tests.{pass, Passed, passed, append_stop, not_zero}
+use Rattle.cell.specs.Operations.{cell_lengths, triple_of}
+use Rattle.job.specs.Job.{own_tests}
 use Rattle.job.proofs.check.Points.{within_of}
-use Rattle.factor_file.specs.File.{orbitSeen}
+use Rattle.factor_file.specs.File.{orbit_seen}
 use Rattle.factor_file.proofs.records.judge_record.Statement.{statement}
 use Rattle.factor_file.proofs.records.judge_record.Tie as tie
 
 -- no test of the record's own holds
-passes : (c : tie.After-enum-told) → let a = c.before.before.before.before.args in Passed (ownTests a.modulus a.cell.group (cellLengths a.cell) (triple_of a.j) a.x.re a.x.im)
+passes : (c : tie.After-enum-told) → let a = c.before.before.before.before.args in Passed (own_tests a.modulus a.cell.group (cell_lengths a.cell) (triple_of a.j) a.x.re a.x.im)
 passes c =
     let a = c.before.before.before.before.args in
-    passed (ownTests a.modulus a.cell.group (cellLengths a.cell) (triple_of a.j) a.x.re a.x.im) tt (ap checkedNumber (sym c.enum_told.given.1) ∙ c.before.before.check-own.ensures)
+    passed (own_tests a.modulus a.cell.group (cell_lengths a.cell) (triple_of a.j) a.x.re a.x.im) tt (ap checked_number (sym c.enum_told.given.1) ∙ c.before.before.check-own.ensures)
 
 check-own-requires : tie.Need-check-own-requires
 check-own-requires c κs = search rules
@@ -37,8 +37,8 @@ returns c =
     let a = k.before.before.args in
     let r = c.before.own.given.0.0 in
     λ before m. (
-      append-stop (ownTests a.modulus a.cell.group (cellLengths a.cell) (triple_of a.j) a.x.re a.x.im) (orbitSeen a.cell.group (cellLengths a.cell) before (triple_of a.j)) (not-zero r) (ap checkedNumber (sym c.before.own.given.1) ∙ k.check-own.ensures),
-      λ z. absurd (not-zero r z),
+      append_stop (own_tests a.modulus a.cell.group (cell_lengths a.cell) (triple_of a.j) a.x.re a.x.im) (orbit_seen a.cell.group (cell_lengths a.cell) before (triple_of a.j)) (not_zero r) (ap checked_number (sym c.before.own.given.1) ∙ k.check-own.ensures),
+      λ z. absurd (not_zero r z),
     )
 
 same_length : tie.Need-same-length
@@ -52,8 +52,8 @@ returns-2 c =
     let r = o.mark-orbit.ensures before m in
     (pass 10 _ p.0 (pass 7 _ p.1.0 (pass 12 _ p.1.1.0 r.0)), r.1)
 
-pub judge-record-spec : {M : Type 1} → statement M
-judge-record-spec =
+pub judge_record_spec : {M : Type 1} → statement M
+judge_record_spec =
     tie.close
     (tie.spec
     check-own-requires

@@ -4,7 +4,7 @@ use mathlib.Core.Path.{sym, ◌∙◌, ap}
 use native.Mathlib.Omega.{arith}
 use lib.ListN.{get_or}
 use Rattle.refusals.proofs.Tests.{stop, pass, none}
-use Rattle.factor_file.proofs.Judging.{cell-positive, cell-inside, mark-seen, mark-unseen, mark_set}
+use Rattle.factor_file.proofs.Judging.{cell_positive, cell_inside, mark_seen, mark_unseen, mark_set}
 use Rattle.factor_file.proofs.records.mark_orbit.Statement.{statement}
 use Rattle.factor_file.proofs.records.mark_orbit.Tie as tie
 
@@ -22,7 +22,7 @@ returns c =
     let o = c.before.before in
     let s = o.before.before in
     λ before m. (
-      stop _ (mark-seen _ _ (cell-positive s.requires.0.sizes) _ before m _ (cell-inside s.requires.0.sizes s.requires.1) (λ z. c.if1.true (ap (λ q. get_or s.args.marks.now q 0) o.orbit-place.ensures.0 ∙ z))),
+      stop _ (mark_seen _ _ (cell_positive s.requires.0.sizes) _ before m _ (cell_inside s.requires.0.sizes s.requires.1) (λ z. c.if1.true (ap (λ q. get_or s.args.marks.now q 0) o.orbit-place.ensures.0 ∙ z))),
       λ e. absurd (omega (arith, e)),
     )
 
@@ -39,15 +39,15 @@ returns-2 : tie.Need-returns-2
 returns-2 c =
     let o = c.before.before in
     let s = o.before.before in
-    let long = cell-positive s.requires.0.sizes in
-    let inside = cell-inside s.requires.0.sizes s.requires.1 in
+    let long = cell_positive s.requires.0.sizes in
+    let inside = cell_inside s.requires.0.sizes s.requires.1 in
     λ before m. (
-      pass 24 _ (mark-unseen _ _ long _ before m _ inside (ap (λ q. get_or s.args.marks.now q 0) (sym o.orbit-place.ensures.0) ∙ c.if1.false)) none,
+      pass 24 _ (mark_unseen _ _ long _ before m _ inside (ap (λ q. get_or s.args.marks.now q 0) (sym o.orbit-place.ensures.0) ∙ c.if1.false)) none,
       λ e. mark_set _ _ long _ before m _ inside s.requires.0.long o.orbit-place.ensures.0,
     )
 
-pub mark-orbit-spec : {M : Type 1} → statement M
-mark-orbit-spec =
+pub mark_orbit_spec : {M : Type 1} → statement M
+mark_orbit_spec =
     tie.close
     (tie.spec
     orbit-place-requires

@@ -5,5 +5,5 @@ use Rattle.factor_file.proofs.writer.measured.Tie as tie
 returns : tie.Need-returns
 returns c = measured
 
-pub measured-spec : {M : Type 1} → statement M
-measured-spec = tie.close (tie.spec returns)
+pub measured_spec : {M : Type 1} → statement M
+measured_spec = tie.close (tie.spec returns)

@@ -7,33 +7,33 @@ use Prim.Native.Nat.{ℕ, ◌≤◌}
 use lib.ListN.{length}
 use Rattle.job.specs.Job.{Header}
 use Rattle.file_format.specs.declared.FileRecord.{FileRecord}
-use Rattle.file_format.specs.Format.{versionOf, fileOf}
-use Rattle.factor_file.specs.Steps.{headerFor, recordsWith}
-use Rattle.factor_file.proofs.file.RecordLaws.{admitted-few}
-use Rattle.factor_file.proofs.writer.Files.{filed-short, filed-whole}
+use Rattle.file_format.specs.Format.{version_of, file_of}
+use Rattle.factor_file.specs.Steps.{header_for, records_with}
+use Rattle.factor_file.proofs.file.RecordLaws.{admitted_few}
+use Rattle.factor_file.proofs.writer.Files.{filed_short, filed_whole}
 use Rattle.factor_file.proofs.writer.write_factors.Statement.{statement}
 use Rattle.factor_file.proofs.writer.write_factors.Tie as tie
 
 module _ (s : tie.Start) where
   abbrev records : List FileRecord
-  records = let a = s.args in recordsWith a.cell a.modulus a.volume.now
+  records = let a = s.args in records_with a.cell a.modulus a.volume.now
 
   abbrev head : Header
-  head = let a = s.args in headerFor a.cell a.f1 a.f2 a.f3
+  head = let a = s.args in header_for a.cell a.f1 a.f2 a.f3
 
   abbrev file : List ℕ
-  file = fileOf (versionOf s.args.modulus) s.args.modulus head records
+  file = file_of (version_of s.args.modulus) s.args.modulus head records
 
   few : length records ≤ 33554432
-  few = let f = s.pre.0 in admitted-few f.volume.sizes s.args.modulus s.args.volume.now f.volume.long s.pre.1
+  few = let f = s.pre.0 in admitted_few f.volume.sizes s.args.modulus s.args.volume.now f.volume.long s.pre.1
 
 -- how long the file is
-measured : (c : tie.After-file-length) → let s = c.before.before.before.before in c.file-length.result ≡ length (file s)
+measured : (c : tie.After-file-length) → let s = c.before.before.before.before in c.file_length_lem.result ≡ length (file s)
 measured c =
     let n = c.before in
     let s = n.before.before.before in
     let a = s.args in
-    c.file-length.ensures.0 a.cell.group a.cell.n1 a.cell.n2 a.cell.n3 (records s) n.count-records.ensures
+    c.file_length_lem.ensures.0 a.cell.group a.cell.n1 a.cell.n2 a.cell.n3 (records s) n.count-records.ensures
 
 count-records-requires : tie.Need-count-records-requires
 count-records-requires c κs = c.before.before.requires.0
@@ -45,7 +45,7 @@ returns : tie.Need-returns
 returns c =
     let h = c.before in
     let s = h.before.before.before.before in
-    filed-short (file s) s.args.out.now (omega (arith, measured h, c.if1.true))
+    filed_short (file s) s.args.out.now (omega (arith, measured h, c.if1.true))
 
 put-file-requires : tie.Need-put-file-requires
 put-file-requires c κs =
@@ -63,10 +63,10 @@ returns-2 c =
     let t = p.before.before in
     let h = t.before in
     let s = h.before.before.before.before in
-    filed-whole (file s) s.args.out.now (omega (arith, measured h, t.if1.false)) p.put-file.ensures
+    filed_whole (file s) s.args.out.now (omega (arith, measured h, t.if1.false)) p.put-file.ensures
 
-pub write-factors-spec : {M : Type 1} → statement M
-write-factors-spec =
+pub write_factors_spec : {M : Type 1} → statement M
+write_factors_spec =
     tie.close
     (tie.spec
     count-records-requires

@@ -1,6 +1,6 @@
 -- Two numbers of two bytes.
 use borrow.Author.Rules.{rules}
-use Rattle.file_format.specs.Format.{fourBytes}
+use Rattle.file_format.specs.Format.{four_bytes}
 use Rattle.file_format.proofs.integers.four_bytes.Statement.{statement}
 use Rattle.file_format.proofs.integers.four_bytes.Tie as tie
 
@@ -20,10 +20,10 @@ add-result : tie.Need-overflow-add-result
 add-result c = search rules
 
 returns : tie.Need-returns
-unfolding fourBytes
+unfolding four_bytes
 returns c = rw (c.before.two_bytes.ensures.0, c.two-bytes2.ensures.0)
 
-pub four-bytes-spec : {M : Type 1} → statement M
-four-bytes-spec =
+pub four_bytes_spec : {M : Type 1} → statement M
+four_bytes_spec =
     tie.close
     (tie.spec two-bytes-requires mul-result add-two-bytes two-bytes-requires-2 add-result returns)

@@ -2,7 +2,7 @@
 use borrow.Author.Rules.{rules}
 use native.Mathlib.Omega.{arith}
 use Prim.Native.Nat.{◌+◌, ◌*◌}
-use Rattle.file_format.specs.Format.{twoBytes}
+use Rattle.file_format.specs.Format.{two_bytes}
 use Rattle.file_format.proofs.integers.two_at.Statement.{statement}
 use Rattle.file_format.proofs.integers.two_at.Tie as tie
 
@@ -22,13 +22,13 @@ add-result : tie.Need-overflow-add-result
 add-result c = search rules
 
 returns : tie.Need-returns
-unfolding twoBytes
+unfolding two_bytes
 returns c =
-    let high = c.before.byte-at.ensures.0 in
+    let high = c.before.byte_at_lem.ensures.0 in
     let low = c.byte-at2.ensures.0 in
     (λ i. high i * 256 + low i, omega arith)
 
-pub two-at-spec : {M : Type 1} → statement M
-two-at-spec =
+pub two_at_spec : {M : Type 1} → statement M
+two_at_spec =
     tie.close
     (tie.spec byte-at-requires mul-result add-byte-at byte-at-requires-2 add-result returns)

@@ -1,7 +1,7 @@
 -- Two bytes, each below 256.
 use borrow.Author.Rules.{rules}
 use native.Mathlib.Omega.{arith}
-use Rattle.file_format.specs.Format.{twoBytes}
+use Rattle.file_format.specs.Format.{two_bytes}
 use Rattle.file_format.proofs.integers.two_bytes.Statement.{statement}
 use Rattle.file_format.proofs.integers.two_bytes.Tie as tie
 
@@ -27,11 +27,11 @@ add-result : tie.Need-overflow-add-result
 add-result c = search rules
 
 returns : tie.Need-returns
-unfolding twoBytes
+unfolding two_bytes
 returns c = omega arith
 
-pub two-bytes-spec : {M : Type 1} → statement M
-two-bytes-spec =
+pub two_bytes_spec : {M : Type 1} → statement M
+two_bytes_spec =
     tie.close
     (tie.spec
     shared-slice-read-wide

@@ -1,9 +1,9 @@
 -- Two counts, the header and the records.
 use borrow.Author.Rules.{rules}
 use native.Mathlib.Omega.{arith}
-use Rattle.file_format.specs.Format.{versionOf}
-use Rattle.file_format.specs.Layout.{headerWith}
-use Rattle.file_format.proofs.layout.FileParts.{length-file}
+use Rattle.file_format.specs.Format.{version_of}
+use Rattle.file_format.specs.Layout.{header_with}
+use Rattle.file_format.proofs.layout.FileParts.{length_file}
 use Rattle.file_format.proofs.layout.file_length.Statement.{statement}
 use Rattle.file_format.proofs.layout.file_length.Tie as tie
 
@@ -23,9 +23,9 @@ returns : tie.Need-returns
 returns c =
     let a = c.before.args in
     let h = c.header-length.ensures in (
-      λ group n1 n2 n3 cs e. omega (arith, h.0 group n1 n2 n3, e, length-file (versionOf a.modulus) a.modulus (headerWith group n1 n2 n3 a.f1 a.f2 a.f3) cs),
+      λ group n1 n2 n3 cs e. omega (arith, h.0 group n1 n2 n3, e, length_file (version_of a.modulus) a.modulus (header_with group n1 n2 n3 a.f1 a.f2 a.f3) cs),
       omega (arith, h.1),
     )
 
-pub file-length-spec : {M : Type 1} → statement M
-file-length-spec = tie.close (tie.spec header-length-requires add-result mul-result add-result-2 returns)
+pub file_length_spec : {M : Type 1} → statement M
+file_length_spec = tie.close (tie.spec header-length-requires add-result mul-result add-result-2 returns)

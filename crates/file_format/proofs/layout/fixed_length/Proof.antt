@@ -5,19 +5,19 @@ use Prim.Native.Nat.{◌+◌}
 use native.Mathlib.Omega.{arith}
 use lib.ListN.{length}
 use borrow.Author.Tests.{eq-eqb, ne_eqb}
-use Rattle.file_format.specs.Format.{modulusBytes}
+use Rattle.file_format.specs.Format.{modulus_bytes}
 use Rattle.file_format.proofs.layout.fixed_length.Statement.{statement}
 use Rattle.file_format.proofs.layout.fixed_length.Tie as tie
 
 returns : tie.Need-returns
 returns c =
     let m = c.before.args.modulus in
-    (sym (ap (λ b. 11 + length (modulusBytes (cond b 1 2) m)) (eq-eqb m 1 c.if1.true)), omega arith)
+    (sym (ap (λ b. 11 + length (modulus_bytes (cond b 1 2) m)) (eq-eqb m 1 c.if1.true)), omega arith)
 
 returns-2 : tie.Need-returns-2
 returns-2 c =
     let m = c.before.args.modulus in
-    (sym (ap (λ b. 11 + length (modulusBytes (cond b 1 2) m)) (ne_eqb m 1 c.if1.false)), omega arith)
+    (sym (ap (λ b. 11 + length (modulus_bytes (cond b 1 2) m)) (ne_eqb m 1 c.if1.false)), omega arith)
 
-pub fixed-length-spec : {M : Type 1} → statement M
-fixed-length-spec = tie.close (tie.spec returns returns-2)
+pub fixed_length_spec : {M : Type 1} → statement M
+fixed_length_spec = tie.close (tie.spec returns returns-2)

@@ -1,10 +1,10 @@
 -- The bytes that are in no list, and those of the three lists.
 use borrow.Author.Rules.{rules}
 use native.Mathlib.Omega.{arith}
-use Rattle.file_format.specs.Format.{versionOf}
-use Rattle.file_format.specs.Layout.{headerWith}
-use Rattle.file_format.proofs.layout.Digits.{word-digits}
-use Rattle.file_format.proofs.layout.FileParts.{length-header}
+use Rattle.file_format.specs.Format.{version_of}
+use Rattle.file_format.specs.Layout.{header_with}
+use Rattle.file_format.proofs.layout.Digits.{word_digits}
+use Rattle.file_format.proofs.layout.FileParts.{length_header}
 use Rattle.file_format.proofs.layout.header_length.Statement.{statement}
 use Rattle.file_format.proofs.layout.header_length.Tie as tie
 
@@ -15,7 +15,7 @@ digit-count-requires : tie.Need-digit-count-requires
 digit-count-requires c κs = search rules
 
 add-result : tie.Need-overflow-add-result
-add-result c = omega (arith, c.before.fixed-length.ensures.1, c.digit-count.ensures, word-digits c.before.before.args.f1 (omega arith))
+add-result c = omega (arith, c.before.fixed-length.ensures.1, c.digit-count.ensures, word_digits c.before.before.args.f1 (omega arith))
 
 digit-count-requires-2 : tie.Need-digit-count-requires-2
 digit-count-requires-2 c κs = search rules
@@ -24,7 +24,7 @@ add-result-2 : tie.Need-overflow-add-result-2
 add-result-2 c =
     let fixed = c.before.before in
     let s = fixed.before in
-    omega (arith, fixed.fixed-length.ensures.1, c.before.digit-count.ensures, c.digit-count2.ensures, word-digits s.args.f1 (omega arith), word-digits s.args.f2 (omega arith))
+    omega (arith, fixed.fixed-length.ensures.1, c.before.digit-count.ensures, c.digit-count2.ensures, word_digits s.args.f1 (omega arith), word_digits s.args.f2 (omega arith))
 
 digit-count-requires-3 : tie.Need-digit-count-requires-3
 digit-count-requires-3 c κs = search rules
@@ -33,7 +33,7 @@ add-result-3 : tie.Need-overflow-add-result-3
 add-result-3 c =
     let fixed = c.before.before.before in
     let s = fixed.before in
-    omega (arith, fixed.fixed-length.ensures.1, c.before.before.digit-count.ensures, c.before.digit-count2.ensures, c.digit-count3.ensures, word-digits s.args.f1 (omega arith), word-digits s.args.f2 (omega arith), word-digits s.args.f3 (omega arith))
+    omega (arith, fixed.fixed-length.ensures.1, c.before.before.digit-count.ensures, c.before.digit-count2.ensures, c.digit-count3.ensures, word_digits s.args.f1 (omega arith), word_digits s.args.f2 (omega arith), word_digits s.args.f3 (omega arith))
 
 returns : tie.Need-returns
 returns c =
@@ -42,12 +42,12 @@ returns c =
     let x = c.before.before.digit-count.ensures in
     let y = c.before.digit-count2.ensures in
     let z = c.digit-count3.ensures in (
-      λ group n1 n2 n3. omega (arith, fixed.fixed-length.ensures.0, x, y, z, length-header (versionOf a.modulus) a.modulus (headerWith group n1 n2 n3 a.f1 a.f2 a.f3)),
-      omega (arith, fixed.fixed-length.ensures.1, x, y, z, word-digits a.f1 (omega arith), word-digits a.f2 (omega arith), word-digits a.f3 (omega arith)),
+      λ group n1 n2 n3. omega (arith, fixed.fixed-length.ensures.0, x, y, z, length_header (version_of a.modulus) a.modulus (header_with group n1 n2 n3 a.f1 a.f2 a.f3)),
+      omega (arith, fixed.fixed-length.ensures.1, x, y, z, word_digits a.f1 (omega arith), word_digits a.f2 (omega arith), word_digits a.f3 (omega arith)),
     )
 
-pub header-length-spec : {M : Type 1} → statement M
-header-length-spec =
+pub header_length_spec : {M : Type 1} → statement M
+header_length_spec =
     tie.close
     (tie.spec
     fixed-length-requires

@@ -9,5 +9,5 @@ add-result c = search rules
 returns : tie.Need-returns
 returns c = search rules
 
-pub first-record-spec : {M : Type 1} → statement M
-first-record-spec = tie.close (tie.spec add-result returns)
+pub first_record_spec : {M : Type 1} → statement M
+first_record_spec = tie.close (tie.spec add-result returns)

@@ -3,7 +3,7 @@ use borrow.Author.Rules.{rules}
 use mathlib.Core.Path.{◌∙◌, ap}
 use Prim.Native.Nat.{ℕ, ◌+◌}
 use native.Mathlib.Omega.{arith}
-use Rattle.file_format.specs.Format.{twoBytes}
+use Rattle.file_format.specs.Format.{two_bytes}
 use Rattle.file_format.proofs.places.header_numbers.Statement.{statement}
 use Rattle.file_format.proofs.places.header_numbers.Tie as tie
 
@@ -40,15 +40,15 @@ returns c =
     let file = modulus.before.before.before.args.file.now in
     record {
       modulus = modulus.modulus-in.ensures;
-      group = group.byte-at.ensures.0;
-      first = first.two_at.ensures.0 ∙ ap (twoBytes file) at;
-      second = c.before.two-at2.ensures.0 ∙ ap (λ (q : ℕ). twoBytes file (q + 2)) at;
-      third = c.two-at3.ensures.0 ∙ ap (λ (q : ℕ). twoBytes file (q + 4)) at;
+      group = group.byte_at_lem.ensures.0;
+      first = first.two_at.ensures.0 ∙ ap (two_bytes file) at;
+      second = c.before.two-at2.ensures.0 ∙ ap (λ (q : ℕ). two_bytes file (q + 2)) at;
+      third = c.two-at3.ensures.0 ∙ ap (λ (q : ℕ). two_bytes file (q + 4)) at;
       short = (first.two_at.ensures.1, c.before.two-at2.ensures.1, c.two-at3.ensures.1);
     }
 
-pub header-numbers-spec : {M : Type 1} → statement M
-header-numbers-spec =
+pub header_numbers_spec : {M : Type 1} → statement M
+header_numbers_spec =
     tie.close
     (tie.spec
     lengths-at-requires

@@ -1,7 +1,7 @@
 -- By the version.
 use borrow.Author.Rules.{rules}
 use mathlib.Core.Path.{sym, ◌∙◌}
-use Rattle.file_format.proofs.places.Versions.{with-modulus, without-modulus}
+use Rattle.file_format.proofs.places.Versions.{with_modulus, without_modulus}
 use Rattle.file_format.proofs.places.modulus_in.Statement.{statement}
 use Rattle.file_format.proofs.places.modulus_in.Tie as tie
 
@@ -14,10 +14,10 @@ byte-at-requires-2 c κs = search rules
 returns : tie.Need-returns
 returns c =
     let tested = c.before in
-    c.byte-at2.ensures.0 ∙ sym (with-modulus _ (sym tested.before.byte-at.ensures.0 ∙ tested.if1.true)).0
+    c.byte-at2.ensures.0 ∙ sym (with_modulus _ (sym tested.before.byte_at_lem.ensures.0 ∙ tested.if1.true)).0
 
 returns-2 : tie.Need-returns-2
-returns-2 c = sym (without-modulus _ (λ e. c.if1.false (c.before.byte-at.ensures.0 ∙ e))).0
+returns-2 c = sym (without_modulus _ (λ e. c.if1.false (c.before.byte_at_lem.ensures.0 ∙ e))).0
 
-pub modulus-in-spec : {M : Type 1} → statement M
-modulus-in-spec = tie.close (tie.spec byte-at-requires byte-at-requires-2 returns returns-2)
+pub modulus_in_spec : {M : Type 1} → statement M
+modulus_in_spec = tie.close (tie.spec byte-at-requires byte-at-requires-2 returns returns-2)

@@ -38,9 +38,9 @@ use denote.Triple.Table.{entered, cited}
 use denote.Triple.Walked.{says, Stays, stay_none, walk_of, Goes-none, Walks, ends_at, walked, walk_Meets}
 use denote.Exit.{yes}
 use denote.Triple.Clauses.{ensured, lasts}
-use Rattle.file_format.specs.Walk.{placeAfter}
+use Rattle.file_format.specs.Walk.{place_after}
 use Rattle.file_format.specs.declared.reader.RecordReader.{RecordReader}
-use Rattle.file_format.proofs.reader.Parts.{B, D, L, Held, fields, twice, taken-apart}
+use Rattle.file_format.proofs.reader.Parts.{B, D, L, Held, fields, twice, taken_apart}
 use Rattle.file_format.proofs.reader.RecordReader.TheLaws as T'
 use Rattle.file_format.specs.contracts.reader.place_after as place
 use Rattle.file_format.proofs.reader.place_after.Symbol as place-def
@@ -70,7 +70,7 @@ module _ {M : Type 1} {𝓤 : Ura M} (𝓛 : Logic 𝓤) (mem : Memory → SProp
   v = slice_val d.file.ref_ptr (length d.file.now)
 
   abbrev on : ℕ
-  on = placeAfter d.file.now d.at
+  on = place_after d.file.now d.at
 
   abbrev Post : Val → SProp 𝓤
   Post = (walk_of 𝓛 after.ended stayed (after.clauses 𝓛 mem run)).post (((κ, tt), (q, tt), tt, (d, tt), (mach ∷ [], tt)), tt)
@@ -90,7 +90,7 @@ module _ {M : Type 1} {𝓤 : Ura M} (𝓛 : Logic 𝓤) (mem : Memory → SProp
 
   -- what the struct owns gives what the callee asks, and is kept
   apart : d.at < 2 ^ 64 → ent 𝓤 (on_entry 𝓛 after.signature (κ, tt) (q, tt) (d, tt) (mach ∷ [], tt)) (sep 𝓤 ((PlaceAfter 𝓛 mem run).pre to) (sem 𝓛 Own))
-  apart = taken-apart 𝓛 κ q d asked
+  apart = taken_apart 𝓛 κ q d asked
 
   -- of the callee's `ensured`, the clause alone: it has no `&mut`, so what is said of last values is dropped
   said : (n : ℕ) → ent 𝓤 (ensured 𝓛 place.ended (place.clauses 𝓛 mem run) (κ, tt) (d.file, (d.at, tt)) tt n) (fact 𝓤 (n ≡ on))
@@ -131,21 +131,21 @@ module _ {M : Type 1} {𝓤 : Ura M} (𝓛 : Logic 𝓤) (mem : Memory → SProp
 module _ {M : Type 1} {𝓤 : Ura M} (𝓛 : Logic 𝓤) (mem : Memory → SProp 𝓤) (run : Routine → Fun 𝓤) where
   open 𝓛 use {H}
 
-  after-walks : (C : Calls 𝓤 H) (Λ : Loops 𝓤 H) → FmC 𝓤 H 𝓛.laws C → Triple 𝓤 (C #file-format·reader·place-after) (PlaceAfter 𝓛 mem run)
+  after_walks : (C : Calls 𝓤 H) (Λ : Loops 𝓤 H) → FmC 𝓤 H 𝓛.laws C → Triple 𝓤 (C #file-format·reader·place-after) (PlaceAfter 𝓛 mem run)
       → Walks 𝓛 after.ended stayed (WpFn 𝓤 H C Λ code.function) (after.clauses 𝓛 mem run)
-  after-walks C Λ fm known = walked 𝓛 after.ended stayed (after.clauses 𝓛 mem run) (WpFn 𝓤 H C Λ code.function) (λ κs. (LL.vals (D κs.0) (L κs.0), tt)) (λ κs. (LL.tells (D κs.0) (L κs.0), tt))
+  after_walks C Λ fm known = walked 𝓛 after.ended stayed (after.clauses 𝓛 mem run) (WpFn 𝓤 H C Λ code.function) (λ κs. (LL.vals (D κs.0) (L κs.0), tt)) (λ κs. (LL.tells (D κs.0) (L κs.0), tt))
       (λ κs qs bounds a g are. via 𝓤 _ (fst∗ 𝓤 _ (emp 𝓤)) (walk 𝓛 mem run κs.0 qs.0 a.0 C Λ fm known ((LL.lawful (D κs.0) (L κs.0) 𝓛).typed a.0 _ are.0).0))
 
-after-meets : {M : Type 1} {𝓤 : Ura M} (𝓛 : Logic 𝓤) (mem : Memory → SProp 𝓤) (run : Routine → Fun 𝓤) (𝓣 : Tables 𝓤 𝓛.H)
+after_meets : {M : Type 1} {𝓤 : Ura M} (𝓛 : Logic 𝓤) (mem : Memory → SProp 𝓤) (run : Routine → Fun 𝓤) (𝓣 : Tables 𝓤 𝓛.H)
     → Triple 𝓤 (𝓣.C #file-format·reader·place-after) (PlaceAfter 𝓛 mem run)
     → Meets 𝓛 after.signature (WpFn 𝓤 𝓛.H 𝓣.C 𝓣.Λ code.function) (after.spec 𝓛 mem run)
-after-meets {𝓤 = 𝓤} 𝓛 mem run 𝓣 known = walk_Meets 𝓛 after.ended stayed (Goes-none 𝓛 1 B yes (λ κs x f. refl), tt) (after.clauses 𝓛 mem run) (WpFn 𝓤 𝓛.H 𝓣.C 𝓣.Λ code.function) (WpFn-mono 𝓤 𝓛.H 𝓛.laws 𝓣 code.function)
-    (after-walks 𝓛 mem run 𝓣.C 𝓣.Λ (fm_of 𝓤 𝓛.H 𝓛.laws 𝓣) known)
+after_meets {𝓤 = 𝓤} 𝓛 mem run 𝓣 known = walk_Meets 𝓛 after.ended stayed (Goes-none 𝓛 1 B yes (λ κs x f. refl), tt) (after.clauses 𝓛 mem run) (WpFn 𝓤 𝓛.H 𝓣.C 𝓣.Λ code.function) (WpFn-mono 𝓤 𝓛.H 𝓛.laws 𝓣 code.function)
+    (after_walks 𝓛 mem run 𝓣.C 𝓣.Λ (fm_of 𝓤 𝓛.H 𝓛.laws 𝓣) known)
 
-pub after-spec : {M : Type 1} → stated.statement M
+pub after_spec : {M : Type 1} → stated.statement M
 unfolding code.routine tables_of
-after-spec 𝓤 𝓛 𝓜 𝓡 =
+after_spec 𝓤 𝓛 𝓜 𝓡 =
     entered 𝓤 𝓛.H (triple_of 𝓛 after.signature (after.spec 𝓛 𝓜.mem 𝓡.run))
     (tables 𝓤 𝓛.H 𝓜 𝓡 code.env).C (tables 𝓤 𝓛.H 𝓜 𝓡 code.env).Λ #file-format·reader·after code.function (code.unfolded 𝓤 𝓛.H 𝓜 𝓡)
-    (after-meets 𝓛 𝓜.mem 𝓡.run (tables_of 𝓤 𝓛.H 𝓜 (tables 𝓤 𝓛.H 𝓜 𝓡 code.env))
+    (after_meets 𝓛 𝓜.mem 𝓡.run (tables_of 𝓤 𝓛.H 𝓜 (tables 𝓤 𝓛.H 𝓜 𝓡 code.env))
     (cited 𝓤 𝓛.H (PlaceAfter 𝓛 𝓜.mem 𝓡.run) 𝓜 𝓡 code.env #file-format·reader·place-after place-def.routine code.calls-file-format::reader::place-after (place-thm.met 𝓤 𝓛 𝓜 𝓡)))

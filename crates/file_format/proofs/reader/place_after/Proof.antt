@@ -4,7 +4,7 @@ use mathlib.Core.Path.{◌∙◌, sym}
 use Prim.Native.Nat.{◌+◌, ◌≤◌}
 use native.Mathlib.Omega.{arith}
 use lib.ListN.{length}
-use Rattle.file_format.proofs.Reading.{inside, outside, after-record, after-end}
+use Rattle.file_format.proofs.Reading.{inside, outside, after_record, after_end}
 use Rattle.file_format.proofs.reader.place_after.Statement.{statement}
 use Rattle.file_format.proofs.reader.place_after.Tie as tie
 
@@ -18,10 +18,10 @@ add-result : tie.Need-overflow-add-result
 add-result c = omega (arith, here c, c.before.before.before.well-formed.0)
 
 returns : tie.Need-returns
-returns c = after-record _ _ (here c)
+returns c = after_record _ _ (here c)
 
 returns-2 : tie.Need-returns-2
-returns-2 c = after-end _ _ (outside _ _ (sym c.before.record-stands.ensures ∙ c.if1.false))
+returns-2 c = after_end _ _ (outside _ _ (sym c.before.record-stands.ensures ∙ c.if1.false))
 
-pub place-after-spec : {M : Type 1} → statement M
-place-after-spec = tie.close (tie.spec record-stands-requires add-result returns returns-2)
+pub place_after_spec : {M : Type 1} → statement M
+place_after_spec = tie.close (tie.spec record-stands-requires add-result returns returns-2)

@@ -1,7 +1,7 @@
 -- Five numbers, each at a place that is a number of the machine.
 use native.Mathlib.Omega.{arith}
 use Prim.Native.Nat.{◌+◌, ◌<◌, ◌^◌}
-use Rattle.file_format.specs.Format.{recordAt}
+use Rattle.file_format.specs.Format.{record_at}
 use Rattle.file_format.proofs.reader.standing_record.Statement.{statement}
 use Rattle.file_format.proofs.reader.standing_record.Tie as tie
 
@@ -36,7 +36,7 @@ four-bytes-requires-2 : tie.Need-four-bytes-requires-2
 four-bytes-requires-2 c κs = omega (arith, c.before.before.before.before.before.requires)
 
 returns : tie.Need-returns
-unfolding recordAt
+unfolding record_at
 returns c =
     let h = c.before.before.before.before.two_bytes.ensures.0 in
     let k = c.before.before.before.two-bytes2.ensures.0 in
@@ -45,8 +45,8 @@ returns c =
     let y = c.four-bytes2.ensures in
     λ i. record { h = h i; k = k i; l = l i; a = x i; b = y i }
 
-pub standing-record-spec : {M : Type 1} → statement M
-standing-record-spec =
+pub standing_record_spec : {M : Type 1} → statement M
+standing_record_spec =
     tie.close
     (tie.spec
     two-bytes-requires

@@ -10,5 +10,5 @@ wide-requires c κs = search rules
 returns : tie.Need-returns
 returns c = record { each = λ i. omega (arith, c.before.shared-slice-known.given i) }
 
-pub are-bytes-spec : {M : Type 1} → statement M
-are-bytes-spec = tie.close (tie.spec wide-requires returns)
+pub are_bytes_spec : {M : Type 1} → statement M
+are_bytes_spec = tie.close (tie.spec wide-requires returns)

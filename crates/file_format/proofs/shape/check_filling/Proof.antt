@@ -3,26 +3,26 @@ use borrow.Author.Rules.{rules}
 use mathlib.Core.Path.{◌≡◌, ◌∙◌, ap}
 use Prim.Native.Nat.{ℕ, ◌+◌}
 use native.Mathlib.Omega.{arith}
-use Rattle.file_format.specs.Format.{fourBytes, countAt, recordCount}
-use Rattle.file_format.proofs.shape.Shapes.{not-filled, sound-filling}
+use Rattle.file_format.specs.Format.{four_bytes, count_at, record_count}
+use Rattle.file_format.proofs.shape.Shapes.{not_filled_lem, sound_filling}
 use Rattle.file_format.proofs.shape.check_filling.Statement.{statement}
 use Rattle.file_format.proofs.shape.check_filling.Tie as tie
 
 -- the first record's place
-placed : (c : tie.After-first-record) → c.first-record.result ≡ countAt c.before.before.args.file.now + 4
+placed : (c : tie.After-first-record) → c.first-record.result ≡ count_at c.before.before.args.file.now + 4
 placed c = c.first-record.ensures ∙ ap (λ (n : ℕ). n + 4) c.before.before.requires.count
 
 -- the record count that was read
-records : (c : tie.After-four-bytes) → c.four_bytes.result ≡ recordCount c.before.before.before.before.args.file.now
+records : (c : tie.After-four-bytes) → c.four_bytes.result ≡ record_count c.before.before.before.before.args.file.now
 records c =
     let s = c.before.before.before.before in
-    c.four_bytes.ensures ∙ ap (fourBytes s.args.file.now) s.requires.count
+    c.four_bytes.ensures ∙ ap (four_bytes s.args.file.now) s.requires.count
 
 first-record-requires : tie.Need-first-record-requires
 first-record-requires c κs = c.before.requires.near
 
 returns : tie.Need-returns
-returns c = not-filled _ (λ q. omega (arith, placed c.before))
+returns c = not_filled_lem _ (λ q. omega (arith, placed c.before))
 
 four-bytes-requires : tie.Need-four-bytes-requires
 four-bytes-requires c κs = search rules
@@ -37,15 +37,15 @@ add-if2 : tie.Need-overflow-add-if2
 add-if2 c = search rules
 
 returns-2 : tie.Need-returns-2
-returns-2 c = not-filled _ (λ q. c.if2.true (omega (arith, records c.before, placed c.before.before.before)))
+returns-2 c = not_filled_lem _ (λ q. c.if2.true (omega (arith, records c.before, placed c.before.before.before)))
 
 returns-3 : tie.Need-returns-3
 returns-3 c =
     let r = c.before in
-    sound-filling _ (omega (arith, c.if2.false, records r, placed r.before.before))
+    sound_filling _ (omega (arith, c.if2.false, records r, placed r.before.before))
 
-pub check-filling-spec : {M : Type 1} → statement M
-check-filling-spec =
+pub check_filling_spec : {M : Type 1} → statement M
+check_filling_spec =
     tie.close
     (tie.spec
     first-record-requires

@@ -37,8 +37,8 @@ returns-3 c =
     let known = c.before.before in
     pass 15 _ (counted known.before.before) (pass 16 _ (not_t _ (sym known.is-version.ensures ∙ not-false _ c.before.if2.false)) c.check-filling.ensures)
 
-pub check-shape-spec : {M : Type 1} → statement M
-check-shape-spec =
+pub check_shape_spec : {M : Type 1} → statement M
+check_shape_spec =
     tie.close
     (tie.spec
     is-miscounted-requires

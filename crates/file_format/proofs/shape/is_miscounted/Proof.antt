@@ -26,6 +26,6 @@ returns-2 c =
     let file = c.before.before.before.args.file.now in
     ap (λ (n : ℕ). not (eqb n (length file - 4))) c.four_bytes.ensures ∙ counted file c.before.if1.false
 
-pub is-miscounted-spec : {M : Type 1} → statement M
-is-miscounted-spec =
+pub is_miscounted_spec : {M : Type 1} → statement M
+is_miscounted_spec =
     tie.close (tie.spec returns four-bytes-requires cast-result sub-result returns-2)

@@ -8,14 +8,14 @@ use Rattle.file_format.proofs.shape.is_version.Tie as tie
 first_holds : (b d : Bool) → b ≡ true → b ≡ (b || d)
 first_holds b d e = e ∙ sym (ap (λ x. x || d) e)
 
-second-counts : (b d : Bool) → b ≡ false → d ≡ (b || d)
-second-counts b d e = sym (ap (λ x. x || d) e)
+second_counts : (b d : Bool) → b ≡ false → d ≡ (b || d)
+second_counts b d e = sym (ap (λ x. x || d) e)
 
 returns : tie.Need-returns
 returns c = first_holds _ _ (eq-eqb _ 1 c.if1.true)
 
 returns-2 : tie.Need-returns-2
-returns-2 c = second-counts _ _ (ne_eqb _ 1 c.if1.false)
+returns-2 c = second_counts _ _ (ne_eqb _ 1 c.if1.false)
 
-pub is-version-spec : {M : Type 1} → statement M
-is-version-spec = tie.close (tie.spec returns returns-2)
+pub is_version_spec : {M : Type 1} → statement M
+is_version_spec = tie.close (tie.spec returns returns-2)

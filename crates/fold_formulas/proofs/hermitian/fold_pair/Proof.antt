@@ -1,6 +1,6 @@
 -- Two values of the line folded to one, operation by operation.
 use Rattle.numbers.proofs.Values.{small_by}
-use Rattle.fold_formulas.proofs.hermitian.Forms.{fold-pair-by}
+use Rattle.fold_formulas.proofs.hermitian.Forms.{fold_pair_by}
 use Rattle.fold_formulas.proofs.hermitian.fold_pair.Statement.{statement}
 use Rattle.fold_formulas.proofs.hermitian.fold_pair.Tie as tie
 
@@ -11,13 +11,13 @@ times-i-requires : tie.Need-times-i-requires
 times-i-requires c κs = (c.before.requires.0, small_by _ _ c.difference.ensures)
 
 plus-product-requires : tie.Need-plus-product-requires
-plus-product-requires c κs = let p = c.before.before.requires in (p.0, p.2, p.3, p.1, small_by _ _ c.times-i.ensures)
+plus-product-requires c κs = let p = c.before.before.requires in (p.0, p.2, p.3, p.1, small_by _ _ c.times_i_lem.ensures)
 
 returns : tie.Need-returns
 returns c =
     let t = c.before in
-    λ A. fold-pair-by _ A _ _ _ t.before.difference.ensures t.times-i.ensures c.plus-product.ensures
+    λ A. fold_pair_by _ A _ _ _ t.before.difference.ensures t.times_i_lem.ensures c.plus-product.ensures
 
-pub fold-pair-spec : {M : Type 1} → statement M
-fold-pair-spec =
+pub fold_pair_spec : {M : Type 1} → statement M
+fold_pair_spec =
     tie.close (tie.spec difference-requires times-i-requires plus-product-requires returns)

@@ -2,7 +2,7 @@
 use borrow.Author.Rules.{rules}
 use Rattle.numbers.specs.Value.{value_of}
 use Rattle.numbers.proofs.Values.{small_by}
-use Rattle.fold_formulas.proofs.mirror.Forms.{between-symmetric, between-antisymmetric}
+use Rattle.fold_formulas.proofs.mirror.Forms.{between_symmetric, between_antisymmetric}
 use Rattle.fold_formulas.proofs.mirror.finish_between.Statement.{statement}
 use Rattle.fold_formulas.proofs.mirror.finish_between.Tie as tie
 
@@ -30,7 +30,7 @@ returns : tie.Need-returns
 returns c =
     let d = c.before in
     let s = d.before.before.args in
-    between-symmetric s.m s.tau s.first (value_of s.m s.y) (value_of s.m s.z) d.difference.ensures d.before.if1.true c.half-sum.ensures
+    between_symmetric s.m s.tau s.first (value_of s.m s.y) (value_of s.m s.z) d.difference.ensures d.before.if1.true c.half-sum.ensures
 
 returns-2 : tie.Need-returns-2
 returns-2 c =
@@ -38,10 +38,10 @@ returns-2 c =
     let b = n.before in
     let s = b.before.before in
     let a = s.args in
-    between-antisymmetric a.m a.tau a.first (value_of a.m a.y) (value_of a.m a.z) b.sum.ensures n.negated.ensures s.requires.1 b.before.if1.false c.half-sum2.ensures
+    between_antisymmetric a.m a.tau a.first (value_of a.m a.y) (value_of a.m a.z) b.sum.ensures n.negated.ensures s.requires.1 b.before.if1.false c.half-sum2.ensures
 
-pub finish-between-spec : {M : Type 1} → statement M
-finish-between-spec =
+pub finish_between_spec : {M : Type 1} → statement M
+finish_between_spec =
     tie.close
     (tie.spec
     difference-requires

@@ -5,8 +5,8 @@ use Rattle.algebra.specs.ring.Ring.{Ops}
 use Rattle.numbers.specs.Value.{part}
 use Rattle.numbers.specs.Bounds.{res}
 use Rattle.numbers.proofs.Residues.{below_by}
-use Rattle.numbers.proofs.RealValues.{half-small, product_small}
-use Rattle.folded_batches.proofs.HeldNumbers.{half-held}
+use Rattle.numbers.proofs.RealValues.{half_small, product_small}
+use Rattle.folded_batches.proofs.HeldNumbers.{half_held}
 use Rattle.folded_batches.proofs.hermitian.last_factor.Statement.{statement}
 use Rattle.folded_batches.proofs.hermitian.last_factor.Tie as tie
 
@@ -25,7 +25,7 @@ mul-requires c κs =
     let f = h.before in
     let s = f.before in
     let m = s.args.m in
-    (s.requires.0, below_by m (res m 4294967296) f.shift.ensures, half-small m h.share.result c.halve.ensures)
+    (s.requires.0, below_by m (res m 4294967296) f.shift.ensures, half_small m h.share.result c.halve.ensures)
 
 returns : tie.Need-returns
 returns c =
@@ -34,7 +34,7 @@ returns c =
     let f = h.before in
     let s = f.before in
     let m = s.args.m in
-    (product_small m f.shift.result v.halve.result c.mul.ensures, half-held m (part m (2 * s.args.b)) f.shift.ensures h.share.ensures.0 v.halve.ensures c.mul.ensures)
+    (product_small m f.shift.result v.halve.result c.mul.ensures, half_held m (part m (2 * s.args.b)) f.shift.ensures h.share.ensures.0 v.halve.ensures c.mul.ensures)
 
-pub last-factor-spec : {M : Type 1} → statement M
-last-factor-spec = tie.close (tie.spec shift-requires share-requires halve-requires mul-requires returns)
+pub last_factor_spec : {M : Type 1} → statement M
+last_factor_spec = tie.close (tie.spec shift-requires share-requires halve-requires mul-requires returns)

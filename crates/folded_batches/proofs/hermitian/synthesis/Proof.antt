@@ -5,10 +5,10 @@ use mathlib.Core.Logic.{inl, inr}
 use native.Mathlib.Omega.{arith}
 use Rattle.numbers.specs.Bounds.{res}
 use Rattle.numbers.proofs.Residues.{below_by}
-use Rattle.fold_formulas.proofs.Frames.{half-most, half-divides}
-use Rattle.batches.proofs.LastReduction.{shift-holds}
-use Rattle.batches.proofs.GroupLaw.{transformed-low}
-use Rattle.folded_batches.proofs.HermitianRows.{rows-low, mates-low, rows_fit, mates-start-low, synthesis-law}
+use Rattle.fold_formulas.proofs.Frames.{half_most, half_divides}
+use Rattle.batches.proofs.LastReduction.{shift_holds}
+use Rattle.batches.proofs.GroupLaw.{transformed_low}
+use Rattle.folded_batches.proofs.HermitianRows.{rows_low, mates_low, rows_fit, mates_start_low, synthesis_law}
 use Rattle.folded_batches.proofs.hermitian.synthesis.Statement.{statement}
 use Rattle.folded_batches.proofs.hermitian.synthesis.Tie as tie
 
@@ -16,13 +16,13 @@ shift-requires : tie.Need-shift-requires
 shift-requires c κs = c.before.before.before.requires.0.0.modulus
 
 mul-gather : tie.Need-overflow-mul-gather
-mul-gather c = let s = c.before.before.before.before.before in omega (arith, half-most s.requires.0.0)
+mul-gather c = let s = c.before.before.before.before.before in omega (arith, half_most s.requires.0.0)
 
 gather-requires : tie.Need-gather-requires
 gather-requires c κs =
     let s = c.before.before.before.before.before.before in
     let p = s.requires.1 in
-    ((half-most s.requires.0.0, record { is = inr refl }, p.0.0, p.1.0), omega (arith, p.0.1))
+    ((half_most s.requires.0.0, record { is = inr refl }, p.0.0, p.1.0), omega (arith, p.0.1))
 
 mate-places-requires : tie.Need-mate-places-requires
 mate-places-requires c κs =
@@ -30,7 +30,7 @@ mate-places-requires c κs =
     let s = g.before.before.before.before.before.before.before in
     let f = s.requires.0.0 in
     let p = s.requires.1 in
-    ((f, s.requires.0.1, omega arith), (g.gather.ensures.long, p.1.1, rows_fit f.modulus (rows-low s.args.m p.0.2 g.gather.ensures)))
+    ((f, s.requires.0.1, omega arith), (g.gather.ensures.long, p.1.1, rows_fit f.modulus (rows_low s.args.m p.0.2 g.gather.ensures)))
 
 transform-requires : tie.Need-transform-requires
 transform-requires c κs =
@@ -39,7 +39,7 @@ transform-requires c κs =
     let s = g.before.before.before.before.before.before.before in
     let f = s.requires.0.0 in
     let h = t.mate-places.ensures in
-    ((f.modulus, f.table, s.requires.0.1), ((s.requires.0.2, half-divides f), (h.long, g.gather.ensures.long, mates-start-low f.modulus (mates-low h))))
+    ((f.modulus, f.table, s.requires.0.1), ((s.requires.0.2, half_divides f), (h.long, g.gather.ensures.long, mates_start_low f.modulus (mates_low h))))
 
 scatter-requires : tie.Need-scatter-requires
 scatter-requires c κs =
@@ -55,9 +55,9 @@ scatter-requires c κs =
         f.modulus,
         below_by m (res m 4294967296) o.shift.ensures,
         r.transform.ensures.long,
-        transformed-low f.modulus r.transform.ensures (mates-start-low f.modulus (mates-low t.mate-places.ensures)),
+        transformed_low f.modulus r.transform.ensures (mates_start_low f.modulus (mates_low t.mate-places.ensures)),
       ),
-      (f.positive, half-most f, record { is = inl refl }, p.0, omega (arith, p.1)),
+      (f.positive, half_most f, record { is = inl refl }, p.0, omega (arith, p.1)),
     )
 
 same_length : tie.Need-same-length
@@ -78,7 +78,7 @@ returns c =
     let o = g.before.before.before in
     let s = o.before.before.before.before in
     let p = s.requires.1.0 in
-    synthesis-law s.requires.0.0 s.args.lanes p.0 s.args.rows.now p.1 g.gather.ensures t.mate-places.ensures r.transform.ensures e.scatter.ensures (shift-holds s.args.m o.shift.ensures)
+    synthesis_law s.requires.0.0 s.args.lanes p.0 s.args.rows.now p.1 g.gather.ensures t.mate-places.ensures r.transform.ensures e.scatter.ensures (shift_holds s.args.m o.shift.ensures)
 
-pub synthesis-spec : {M : Type 1} → statement M
-synthesis-spec = tie.close (tie.spec shift-requires mul-gather gather-requires mate-places-requires transform-requires scatter-requires same_length same-length-2 same-length-3 returns)
+pub synthesis_spec : {M : Type 1} → statement M
+synthesis_spec = tie.close (tie.spec shift-requires mul-gather gather-requires mate-places-requires transform-requires scatter-requires same_length same-length-2 same-length-3 returns)

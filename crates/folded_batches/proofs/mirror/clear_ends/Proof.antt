@@ -1,7 +1,7 @@
 -- Both ends, or neither.
 use mathlib.Core.Path.{◌∙◌}
 use native.Mathlib.Omega.{arith}
-use Rattle.folded_batches.proofs.MirrorGroups.{ends-cleared, ends-stored}
+use Rattle.folded_batches.proofs.MirrorGroups.{ends_cleared, ends_stored}
 use Rattle.folded_batches.proofs.mirror.clear_ends.Statement.{statement}
 use Rattle.folded_batches.proofs.mirror.clear_ends.Tie as tie
 
@@ -21,10 +21,10 @@ same_length c =
 returns : tie.Need-returns
 returns c =
     let z = c.before.before in
-    ends-cleared z.before.before.before.before.clear-place.ensures z.clear-place2.ensures
+    ends_cleared z.before.before.before.before.clear-place.ensures z.clear-place2.ensures
 
 returns-2 : tie.Need-returns-2
-returns-2 c = ends-stored c.if1.false
+returns-2 c = ends_stored c.if1.false
 
-pub clear-ends-spec : {M : Type 1} → statement M
-clear-ends-spec = tie.close (tie.spec clear-place-requires clear-place-requires-2 same_length returns returns-2)
+pub clear_ends_spec : {M : Type 1} → statement M
+clear_ends_spec = tie.close (tie.spec clear-place-requires clear-place-requires-2 same_length returns returns-2)

@@ -6,7 +6,7 @@ use Rattle.numbers.specs.Value.{ring, half}
 use Rattle.numbers.specs.Bounds.{res}
 use Prim.Native.Nat.{◌*◌}
 use Rattle.numbers.proofs.Residues.{below_by}
-use Rattle.folded_batches.proofs.MirrorGroups.{half-holds, share_holds, mirror-scale-as}
+use Rattle.folded_batches.proofs.MirrorGroups.{half_holds, share_holds, mirror_scale_as}
 use Rattle.folded_batches.proofs.mirror.last_factor.Statement.{statement}
 use Rattle.folded_batches.proofs.mirror.last_factor.Tie as tie
 
@@ -32,7 +32,7 @@ returns c =
     let f = h.before in
     let s = f.before in
     let m = s.args.m in
-    (below_by m ((ring m).mul (half m) (res m f.shift.result)) h.halve.ensures, mirror-scale-as m s.args.a c.if1.true (half-holds m f.shift.ensures h.halve.ensures))
+    (below_by m ((ring m).mul (half m) (res m f.shift.result)) h.halve.ensures, mirror_scale_as m s.args.a c.if1.true (half_holds m f.shift.ensures h.halve.ensures))
 
 returns-2 : tie.Need-returns-2
 returns-2 c =
@@ -44,8 +44,8 @@ returns-2 c =
     let m = s.args.m in
     let other : s.args.direction ≡ 1 = omega (arith, s.requires.1, i.if1.false) in (
       below_by m ((ring m).mul (res m h.halve.result) (res m q.share.result)) c.mul.ensures,
-      mirror-scale-as m s.args.a other (share_holds m (2 * s.args.a) (half-holds m f.shift.ensures h.halve.ensures) q.share.ensures.0 c.mul.ensures),
+      mirror_scale_as m s.args.a other (share_holds m (2 * s.args.a) (half_holds m f.shift.ensures h.halve.ensures) q.share.ensures.0 c.mul.ensures),
     )
 
-pub last-factor-spec : {M : Type 1} → statement M
-last-factor-spec = tie.close (tie.spec shift-requires halve-requires share-requires mul-requires returns returns-2)
+pub last_factor_spec : {M : Type 1} → statement M
+last_factor_spec = tie.close (tie.spec shift-requires halve-requires share-requires mul-requires returns returns-2)

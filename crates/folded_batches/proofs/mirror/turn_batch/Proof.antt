@@ -1,4 +1,4 @@
--- The four passes (`batch-turned`).
+-- The four passes (`batch_turned`).
 use mathlib.Core.Path.{◌≡◌, sym, ◌∙◌}
 use Prim.Native.Nat.{◌+◌, ◌*◌, ◌≤◌}
 use native.Mathlib.Omega.{arith}
@@ -7,10 +7,10 @@ use lib.ListN.{length, drop}
 use Rattle.numbers.specs.Value.{prime}
 use Rattle.batches.specs.Lanes.{UpTo}
 use lib.Seq.{length-take-le}
-use Rattle.roots.specs.Table.{tableRoot}
-use Rattle.fold_formulas.proofs.Frames.{half-most, half-divides}
-use Rattle.folds.specs.FoldedLines.{wholeLine}
-use Rattle.folded_batches.proofs.MirrorGroups.{lent_back, short-low, turned-low, batch-turned}
+use Rattle.roots.specs.Table.{table_root}
+use Rattle.fold_formulas.proofs.Frames.{half_most, half_divides}
+use Rattle.folds.specs.FoldedLines.{whole_line}
+use Rattle.folded_batches.proofs.MirrorGroups.{lent_back, short_low, turned_low, batch_turned}
 use Rattle.folded_batches.proofs.mirror.turn_batch.Statement.{statement}
 use Rattle.folded_batches.proofs.mirror.turn_batch.Tie as tie
 
@@ -22,11 +22,11 @@ room s = omega (arith, s.requires.1.1)
 short-long : (c : tie.After-short-lines) → length c.short-lines.new.1.1.1.1.0 ≡ 32 * c.before.before.before.before.before.before.before.args.a
 short-long c = c.short-lines.auto.1.1.1.1.0 ∙ c.before.before.before.before.before.before.before.requires.1.2
 
-short-up : (c : tie.After-short-lines) → UpTo (8 * prime c.before.before.before.before.before.before.before.args.m) c.short-lines.new.1.1.1.1.0
-short-up c =
+short_up : (c : tie.After-short-lines) → UpTo (8 * prime c.before.before.before.before.before.before.before.args.m) c.short-lines.new.1.1.1.1.0
+short_up c =
     let s = c.before.before.before.before.before.before.before in
     let l = s.requires.1.4 in
-    short-low (short-long c) (c.short-lines.ensures (λ v. wholeLine s.args.m s.args.a s.args.first (l.lines v)) l.whole)
+    short_low (short-long c) (c.short-lines.ensures (λ v. whole_line s.args.m s.args.a s.args.first (l.lines v)) l.whole)
 
 -- the batch comes back as long as it was
 line-long : (c : tie.After-transform) → let s = c.before.before.before.before.before.before.before.before.before.before.before.before in
@@ -36,13 +36,13 @@ line-long c =
     lent_back s.args.a s.args.line.now c.transform.new.1.1.1.1.1.1.1.1.0 s.requires.1.1 (c.transform.auto.1.1.1.1.1.1.1.1.0 ∙ length-take-le (32 * s.args.a) s.args.line.now (room s))
 
 mul-size : tie.Need-overflow-mul-size
-mul-size c = omega (arith, half-most c.before.before.requires.0.0)
+mul-size c = omega (arith, half_most c.before.before.requires.0.0)
 
 odd-sums-requires : tie.Need-odd-sums-requires
 odd-sums-requires c κs =
     let p = c.before.before.before.requires in
     let f = p.0.0 in
-    (f.modulus, f.positive, half-most f, p.1.1, p.1.3)
+    (f.modulus, f.positive, half_most f, p.1.1, p.1.3)
 
 short-lines-requires : tie.Need-short-lines-requires
 short-lines-requires c κs =
@@ -62,7 +62,7 @@ transform-requires c κs =
     let k = c.before.before.before.before in
     let s = k.before.before.before.before.before.before.before in
     let f = s.requires.0.0 in
-    ((f.modulus, f.table, s.requires.0.2), ((s.requires.0.3, half-divides f), (short-long k, length-take-le (32 * s.args.a) s.args.line.now (room s), short-up k)))
+    ((f.modulus, f.table, s.requires.0.2), ((s.requires.0.3, half_divides f), (short-long k, length-take-le (32 * s.args.a) s.args.line.now (room s), short_up k)))
 
 finish-requires : tie.Need-finish-requires
 finish-requires c κs =
@@ -71,7 +71,7 @@ finish-requires c κs =
     let o = k.before.before.before in
     let s = o.before.before.before.before in
     let f = s.requires.0.0 in
-    ((f.modulus, s.requires.0.1, s.requires.1.0, f.positive, f.divides), (o.odd-sums.ensures.low, turned-low {W = tableRoot s.args.m s.args.re.now s.args.im.now} (short-up k) t.transform.ensures, t.transform.ensures.long, line-long t))
+    ((f.modulus, s.requires.0.1, s.requires.1.0, f.positive, f.divides), (o.odd-sums.ensures.low, turned_low {W = table_root s.args.m s.args.re.now s.args.im.now} (short_up k) t.transform.ensures, t.transform.ensures.long, line-long t))
 
 same_length : tie.Need-same-length
 same_length c =
@@ -92,10 +92,10 @@ returns c =
     let o = k.before.before.before in
     let s = o.before.before.before.before in
     let a = s.args in
-    λ L h. batch-turned a.m a.a a.first a.re.now a.im.now a.tan.now s.requires.0.0 s.requires.1.0 L
-    (k.short-lines.ensures (λ v. wholeLine a.m a.a a.first (L v)) h) t.transform.ensures
-    (z.finish.ensures _ (λ even v lv. o.odd-sums.ensures.is even (λ v. wholeLine a.m a.a a.first (L v)) h v lv))
+    λ L h. batch_turned a.m a.a a.first a.re.now a.im.now a.tan.now s.requires.0.0 s.requires.1.0 L
+    (k.short-lines.ensures (λ v. whole_line a.m a.a a.first (L v)) h) t.transform.ensures
+    (z.finish.ensures _ (λ even v lv. o.odd-sums.ensures.is even (λ v. whole_line a.m a.a a.first (L v)) h v lv))
     (z.finish.auto.1.1.1.1.1.1.0 ∙ line-long t)
 
-pub turn-batch-spec : {M : Type 1} → statement M
-turn-batch-spec = tie.close (tie.spec mul-size odd-sums-requires short-lines-requires slice-relend-prefix-transform slice-aggregate-transform transform-requires finish-requires same_length same-length-2 returns)
+pub turn_batch_spec : {M : Type 1} → statement M
+turn_batch_spec = tie.close (tie.spec mul-size odd-sums-requires short-lines-requires slice-relend-prefix-transform slice-aggregate-transform transform-requires finish-requires same_length same-length-2 returns)

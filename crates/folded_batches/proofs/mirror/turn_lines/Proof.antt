@@ -1,13 +1,13 @@
--- The law of the group (`group-folded`).
+-- The law of the group (`group_folded`).
 use mathlib.Core.Path.{sym, ◌∙◌, subst}
 use Prim.Native.Nat.{ℕ, ◌+◌, ◌*◌, ◌≤◌}
 use native.Mathlib.Omega.{arith}
 use lib.ListN.{length}
 use Rattle.batches.specs.Groups.{LinesBelow}
-use Rattle.fold_formulas.proofs.Frames.{half-most}
-use Rattle.folds.specs.FoldedLines.{storedCount, wholeLine}
+use Rattle.fold_formulas.proofs.Frames.{half_most}
+use Rattle.folds.specs.FoldedLines.{stored_count, whole_line}
 use Rattle.folded_batches.specs.MirrorLanes.{WholeLines, TurnedBatch}
-use Rattle.folded_batches.proofs.MirrorGroups.{slots-stored, packedLane, part-long, unpacked-whole, unpacked-low, stored_low, group-folded}
+use Rattle.folded_batches.proofs.MirrorGroups.{slots_stored, packed_lane, part_long, unpacked_whole, unpacked_low, stored_low, group_folded}
 use Rattle.folded_batches.proofs.mirror.turn_lines.Statement.{statement}
 use Rattle.folded_batches.proofs.mirror.turn_lines.Tie as tie
 
@@ -36,11 +36,11 @@ last-factor-requires : tie.Need-last-factor-requires
 last-factor-requires c κs =
     let p = c.before.before.before.requires in
     let f = p.0.0 in
-    (f.modulus, p.1.0.0, f.positive, half-most f)
+    (f.modulus, p.1.0.0, f.positive, half_most f)
 
 -- the stored pairs lie inside, by their count
-fits : (s : tie.Start) → 2 * (s.args.start + storedCount s.args.a s.args.first * s.args.stride + s.args.lanes) ≤ length s.args.volume.now + 2 * s.args.stride
-fits s = subst (λ (n : ℕ). 2 * (s.args.start + n * s.args.stride + s.args.lanes) ≤ length s.args.volume.now + 2 * s.args.stride) (slots-stored s.args.a s.args.first s.requires.0.4) s.requires.1.1.0
+fits : (s : tie.Start) → 2 * (s.args.start + stored_count s.args.a s.args.first * s.args.stride + s.args.lanes) ≤ length s.args.volume.now + 2 * s.args.stride
+fits s = subst (λ (n : ℕ). 2 * (s.args.start + n * s.args.stride + s.args.lanes) ≤ length s.args.volume.now + 2 * s.args.stride) (slots_stored s.args.a s.args.first s.requires.0.4) s.requires.1.1.0
 
 unpack-requires : tie.Need-unpack-requires
 unpack-requires c κs =
@@ -50,11 +50,11 @@ unpack-requires c κs =
 
 -- the lines of the batch
 lines : (c : tie.After-unpack) → let a = c.before.before.before.before.before.before.before.args in
-    WholeLines a.m a.a a.first c.unpack.new.1.1.1.1.1.1.0 (λ v. wholeLine a.m a.a a.first (packedLane a.volume.now a.a a.first a.start a.stride a.lanes v))
+    WholeLines a.m a.a a.first c.unpack.new.1.1.1.1.1.1.0 (λ v. whole_line a.m a.a a.first (packed_lane a.volume.now a.a a.first a.start a.stride a.lanes v))
 lines c =
     let s = c.before.before.before.before.before.before.before in
     let a = s.args in
-    unpacked-whole a.m a.volume.now a.a a.start a.stride a.lanes _ s.requires.0.0.positive a.first s.requires.0.4 c.unpack.ensures
+    unpacked_whole a.m a.volume.now a.a a.start a.stride a.lanes _ s.requires.0.0.positive a.first s.requires.0.4 c.unpack.ensures
 
 turn-batch-requires : tie.Need-turn-batch-requires
 turn-batch-requires c κs =
@@ -67,19 +67,19 @@ turn-batch-requires c κs =
         p.0.4,
         u.unpack.ensures.long,
         p.1.0.3,
-        unpacked-low a.m a.volume.now a.a a.start a.stride a.lanes _ p.0.0.positive a.first p.0.4 u.unpack.ensures
-            (subst (λ (n : ℕ). LinesBelow a.m a.start a.stride n a.lanes a.volume.now) (slots-stored a.a a.first p.0.4) p.1.1.1),
-        record { lines = packedLane a.volume.now a.a a.first a.start a.stride a.lanes; whole = lines u },
+        unpacked_low a.m a.volume.now a.a a.start a.stride a.lanes _ p.0.0.positive a.first p.0.4 u.unpack.ensures
+            (subst (λ (n : ℕ). LinesBelow a.m a.start a.stride n a.lanes a.volume.now) (slots_stored a.a a.first p.0.4) p.1.1.1),
+        record { lines = packed_lane a.volume.now a.a a.first a.start a.stride a.lanes; whole = lines u },
       ),
     )
 
 -- the batch after its passes
 turned : (b : tie.After-turn-batch) → let a = b.before.before.before.before.before.before.before.before.before.before.before.before.args in
-    TurnedBatch a.m a.a a.first a.re.now a.im.now a.tan.now (packedLane a.volume.now a.a a.first a.start a.stride a.lanes) b.turn-batch.new.1.1.1.1.1.1.1.1.1.0
+    TurnedBatch a.m a.a a.first a.re.now a.im.now a.tan.now (packed_lane a.volume.now a.a a.first a.start a.stride a.lanes) b.turn-batch.new.1.1.1.1.1.1.1.1.1.0
 turned b =
     let u = b.before.before.before.before.before in
     let a = u.before.before.before.before.before.before.before.args in
-    b.turn-batch.ensures (packedLane a.volume.now a.a a.first a.start a.stride a.lanes) (lines u)
+    b.turn-batch.ensures (packed_lane a.volume.now a.a a.first a.start a.stride a.lanes) (lines u)
 
 mul-scatter : tie.Need-overflow-mul-scatter
 mul-scatter c = omega (arith, c.before.before.before.before.before.before.before.before.before.before.before.before.before.before.before.before.requires.0.4)
@@ -108,7 +108,7 @@ scatter-requires c κs =
         f.last-factor.ensures.0,
         p.1.0.4,
         p.1.0.5,
-        part-long a.a a.first _ p.0.4 p.0.0.positive (turned b).long,
+        part_long a.a a.first _ p.0.4 p.0.0.positive (turned b).long,
         stored_low a.m a.a a.first a.re.now a.im.now a.tan.now p.0.0 p.0.4 (turned b),
       ),
       fits s,
@@ -133,10 +133,10 @@ returns c =
     let s = f.before.before.before.before in
     let a = s.args in
     let p = s.requires in
-    group-folded a.m a.a a.first a.re.now a.im.now a.tan.now p.0.0 p.0.4 a.direction a.start a.stride a.lanes a.volume.now p.1.0.4 p.1.0.5 (turned b) p.1.1.0 f.last-factor.ensures.1 k.scatter.ensures
+    group_folded a.m a.a a.first a.re.now a.im.now a.tan.now p.0.0 p.0.4 a.direction a.start a.stride a.lanes a.volume.now p.1.0.4 p.1.0.5 (turned b) p.1.1.0 f.last-factor.ensures.1 k.scatter.ensures
 
-pub turn-lines-spec : {M : Type 1} → statement M
-turn-lines-spec =
+pub turn_lines_spec : {M : Type 1} → statement M
+turn_lines_spec =
     tie.close
     (tie.spec
     add-n

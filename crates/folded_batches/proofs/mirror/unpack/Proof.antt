@@ -3,8 +3,8 @@ use mathlib.Core.Path.{◌≡◌, sym, ◌∙◌}
 use Prim.Native.Nat.{◌*◌}
 use native.Mathlib.Omega.{arith}
 use lib.ListN.{length}
-use Rattle.folds.specs.FoldedLines.{storedCount}
-use Rattle.folded_batches.proofs.MirrorGroups.{part-long, unpacked-by}
+use Rattle.folds.specs.FoldedLines.{stored_count}
+use Rattle.folded_batches.proofs.MirrorGroups.{part_long, unpacked_by}
 use Rattle.folded_batches.proofs.mirror.unpack.Statement.{statement}
 use Rattle.folded_batches.proofs.mirror.unpack.Tie as tie
 
@@ -52,16 +52,16 @@ gather-requires c κs =
     let k = c.before.before.before in
     let s = k.before.before.before.before in
     let p = s.requires in
-    (p.3, p.5, part-long s.args.a s.args.first _ p.0 p.1 (k.clear-ends.ensures.long ∙ p.4))
+    (p.3, p.5, part_long s.args.a s.args.first _ p.0 p.1 (k.clear-ends.ensures.long ∙ p.4))
 
 -- the part comes back as long as it was
-lent-long : (c : tie.After-slice-known3) → let g = c.before.before in let s = g.before.before.before.before.before.before.before.before in length g.gather.new.1.1.1.1.1.0 ≡ 32 * storedCount s.args.a s.args.first
+lent-long : (c : tie.After-slice-known3) → let g = c.before.before in let s = g.before.before.before.before.before.before.before.before in length g.gather.new.1.1.1.1.1.0 ≡ 32 * stored_count s.args.a s.args.first
 lent-long c =
     let g = c.before.before in
     let k = g.before.before.before.before in
     let s = k.before.before.before.before in
     let p = s.requires in
-    g.gather.auto.1.1.1.1.1.0 ∙ part-long s.args.a s.args.first _ p.0 p.1 (k.clear-ends.ensures.long ∙ p.4)
+    g.gather.auto.1.1.1.1.1.0 ∙ part_long s.args.a s.args.first _ p.0 p.1 (k.clear-ends.ensures.long ∙ p.4)
 
 same_length : tie.Need-same-length
 same_length c =
@@ -69,7 +69,7 @@ same_length c =
     let k = g.before.before.before.before in
     let s = k.before.before.before.before in
     let p = s.requires in
-    (unpacked-by s.args.a s.args.first _ p.0 p.1 (k.clear-ends.ensures.long ∙ p.4) _ (lent-long c) k.clear-ends.ensures g.gather.ensures).long ∙ sym p.4
+    (unpacked_by s.args.a s.args.first _ p.0 p.1 (k.clear-ends.ensures.long ∙ p.4) _ (lent-long c) k.clear-ends.ensures g.gather.ensures).long ∙ sym p.4
 
 returns : tie.Need-returns
 returns c =
@@ -77,7 +77,7 @@ returns c =
     let k = g.before.before.before.before in
     let s = k.before.before.before.before in
     let p = s.requires in
-    unpacked-by s.args.a s.args.first _ p.0 p.1 (k.clear-ends.ensures.long ∙ p.4) _ (lent-long c) k.clear-ends.ensures g.gather.ensures
+    unpacked_by s.args.a s.args.first _ p.0 p.1 (k.clear-ends.ensures.long ∙ p.4) _ (lent-long c) k.clear-ends.ensures g.gather.ensures
 
-pub unpack-spec : {M : Type 1} → statement M
-unpack-spec = tie.close (tie.spec add-n mul-n sub-n mul-b add-e sub-e mul-e clear-ends-requires mul-gather sub-gather part-gather-start part-gather-end gather-requires same_length returns)
+pub unpack_spec : {M : Type 1} → statement M
+unpack_spec = tie.close (tie.spec add-n mul-n sub-n mul-b add-e sub-e mul-e clear-ends-requires mul-gather sub-gather part-gather-start part-gather-end gather-requires same_length returns)

@@ -1,50 +1,50 @@
 -- The sum is small enough.
 use native.Mathlib.Omega.{arith}
-use Rattle.numbers.proofs.Primes.{prime-most, prime-pos}
-use Rattle.batches.proofs.Division.{product-most}
-use Rattle.folded_batches.proofs.MixedLanes.{four-numbers}
+use Rattle.numbers.proofs.Primes.{prime_most, prime_pos}
+use Rattle.batches.proofs.Division.{product_most}
+use Rattle.folded_batches.proofs.MixedLanes.{four_numbers}
 use Rattle.folded_batches.proofs.mixing.four.Statement.{statement}
 use Rattle.folded_batches.proofs.mixing.four.Tie as tie
 
 product-requires : tie.Need-product-requires
 product-requires c κs =
     let p = c.requires in
-    (omega (arith, p.0.1, prime-most p.0.0), p.1.0)
+    (omega (arith, p.0.1, prime_most p.0.0), p.1.0)
 
 product-requires-2 : tie.Need-product-requires-2
 product-requires-2 c κs =
     let p = c.before.requires in
-    (omega (arith, p.0.2, prime-most p.0.0), p.1.1)
+    (omega (arith, p.0.2, prime_most p.0.0), p.1.1)
 
 add-divided : tie.Need-overflow-add-divided
 add-divided c =
     let s = c.before.before in
-    omega (arith, c.before.product.ensures, c.product2.ensures, product-most s.requires.0.1 s.requires.1.0, product-most s.requires.0.2 s.requires.1.1, prime-most s.requires.0.0)
+    omega (arith, c.before.product.ensures, c.product2.ensures, product_most s.requires.0.1 s.requires.1.0, product_most s.requires.0.2 s.requires.1.1, prime_most s.requires.0.0)
 
 product-requires-3 : tie.Need-product-requires-3
 product-requires-3 c κs =
     let p = c.before.before.requires in
-    (omega (arith, p.0.3, prime-most p.0.0), p.1.2)
+    (omega (arith, p.0.3, prime_most p.0.0), p.1.2)
 
 add-divided-2 : tie.Need-overflow-add-divided-2
 add-divided-2 c =
     let s = c.before.before.before in
-    omega (arith, c.before.before.product.ensures, c.before.product2.ensures, c.product3.ensures, product-most s.requires.0.1 s.requires.1.0, product-most s.requires.0.2 s.requires.1.1, product-most s.requires.0.3 s.requires.1.2, prime-most s.requires.0.0)
+    omega (arith, c.before.before.product.ensures, c.before.product2.ensures, c.product3.ensures, product_most s.requires.0.1 s.requires.1.0, product_most s.requires.0.2 s.requires.1.1, product_most s.requires.0.3 s.requires.1.2, prime_most s.requires.0.0)
 
 product-requires-4 : tie.Need-product-requires-4
 product-requires-4 c κs =
     let p = c.before.before.before.requires in
-    (omega (arith, p.0.4, prime-most p.0.0), p.1.3)
+    (omega (arith, p.0.4, prime_most p.0.0), p.1.3)
 
 add-divided-3 : tie.Need-overflow-add-divided-3
 add-divided-3 c =
     let s = c.before.before.before.before in
-    omega (arith, c.before.before.before.product.ensures, c.before.before.product2.ensures, c.before.product3.ensures, c.product4.ensures, product-most s.requires.0.1 s.requires.1.0, product-most s.requires.0.2 s.requires.1.1, product-most s.requires.0.3 s.requires.1.2, product-most s.requires.0.4 s.requires.1.3, prime-most s.requires.0.0)
+    omega (arith, c.before.before.before.product.ensures, c.before.before.product2.ensures, c.before.product3.ensures, c.product4.ensures, product_most s.requires.0.1 s.requires.1.0, product_most s.requires.0.2 s.requires.1.1, product_most s.requires.0.3 s.requires.1.2, product_most s.requires.0.4 s.requires.1.3, prime_most s.requires.0.0)
 
 divided-requires : tie.Need-divided-requires
 divided-requires c κs =
     let s = c.before.before.before.before in
-    (s.requires.0.0, omega (arith, c.before.before.before.product.ensures, c.before.before.product2.ensures, c.before.product3.ensures, c.product4.ensures, product-most s.requires.0.1 s.requires.1.0, product-most s.requires.0.2 s.requires.1.1, product-most s.requires.0.3 s.requires.1.2, product-most s.requires.0.4 s.requires.1.3, prime-pos s.args.m))
+    (s.requires.0.0, omega (arith, c.before.before.before.product.ensures, c.before.before.product2.ensures, c.before.product3.ensures, c.product4.ensures, product_most s.requires.0.1 s.requires.1.0, product_most s.requires.0.2 s.requires.1.1, product_most s.requires.0.3 s.requires.1.2, product_most s.requires.0.4 s.requires.1.3, prime_pos s.args.m))
 
 returns : tie.Need-returns
 returns c =
@@ -53,7 +53,7 @@ returns c =
     let x2 = x3.before in
     let x1 = x2.before in
     let a = x1.before.args in
-    four-numbers a.c1 a.x1 a.c2 a.x2 a.c3 a.x3 a.c4 a.x4 x1.product.ensures x2.product2.ensures x3.product3.ensures x4.product4.ensures c.divided.ensures
+    four_numbers a.c1 a.x1 a.c2 a.x2 a.c3 a.x3 a.c4 a.x4 x1.product.ensures x2.product2.ensures x3.product3.ensures x4.product4.ensures c.divided.ensures
 
-pub four-spec : {M : Type 1} → statement M
-four-spec = tie.close (tie.spec product-requires product-requires-2 add-divided product-requires-3 add-divided-2 product-requires-4 add-divided-3 divided-requires returns)
+pub four_spec : {M : Type 1} → statement M
+four_spec = tie.close (tie.spec product-requires product-requires-2 add-divided product-requires-3 add-divided-2 product-requires-4 add-divided-3 divided-requires returns)

@@ -2,7 +2,7 @@
 use Prim.Native.Nat.{◌-◌}
 use native.Mathlib.Omega.{arith}
 use Rattle.folded_batches.specs.Mixing.{Mixed}
-use Rattle.folded_batches.proofs.MixedLanes.{mixing-start, mixing-next, mixing-done}
+use Rattle.folded_batches.proofs.MixedLanes.{mixing_start, mixing_next, mixing_done}
 use Rattle.folded_batches.proofs.mixing.mixed.Statement.{statement}
 use Rattle.folded_batches.proofs.mixing.mixed.Tie as tie
 
@@ -13,7 +13,7 @@ abbrev decreases-loop : tie.decreases-loop
 decreases-loop m k from i j y₀ v₀ y v = 16 - v
 
 loop-holds : tie.Need-loop-init invariant-loop decreases-loop
-loop-holds c = mixing-start c.before.requires.0.3
+loop-holds c = mixing_start c.before.requires.0.3
 
 of-two-requires : tie.Need-of-two-requires invariant-loop decreases-loop
 of-two-requires c κs =
@@ -41,10 +41,10 @@ loop-again c =
     let b = c.before.before in
     let a = b.before in
     let t = a.before in
-    mixing-next a.of_two.result b.of-two2.result t.before.loop.y t.before.loop.invariant t.loop-test.true c.store-lane.ensures a.of_two.ensures b.of-two2.ensures
+    mixing_next a.of_two.result b.of-two2.result t.before.loop.y t.before.loop.invariant t.loop-test.true c.store-lane.ensures a.of_two.ensures b.of-two2.ensures
 
 returns : tie.Need-returns invariant-loop decreases-loop
-returns c = mixing-done c.before.loop.invariant c.loop-test.false
+returns c = mixing_done c.before.loop.invariant c.loop-test.false
 
-pub mixed-spec : {M : Type 1} → statement M
-mixed-spec = tie.close (tie.spec invariant-loop decreases-loop loop-holds of-two-requires of-two-requires-2 store-lane-requires add-v loop-less loop-again returns)
+pub mixed_spec : {M : Type 1} → statement M
+mixed_spec = tie.close (tie.spec invariant-loop decreases-loop loop-holds of-two-requires of-two-requires-2 store-lane-requires add-v loop-less loop-again returns)

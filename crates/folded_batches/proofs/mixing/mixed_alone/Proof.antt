@@ -2,7 +2,7 @@
 use Prim.Native.Nat.{◌-◌}
 use native.Mathlib.Omega.{arith}
 use Rattle.folded_batches.specs.Mixing.{MixedAlone}
-use Rattle.folded_batches.proofs.MixedLanes.{alone-start, alone-next, alone-done}
+use Rattle.folded_batches.proofs.MixedLanes.{alone_start, alone_next, alone_done}
 use Rattle.folded_batches.proofs.mixing.mixed_alone.Statement.{statement}
 use Rattle.folded_batches.proofs.mixing.mixed_alone.Tie as tie
 
@@ -13,7 +13,7 @@ abbrev decreases-loop : tie.decreases-loop
 decreases-loop m k from i y₀ v₀ y v = 16 - v
 
 loop-holds : tie.Need-loop-init invariant-loop decreases-loop
-loop-holds c = alone-start c.before.requires.0.3
+loop-holds c = alone_start c.before.requires.0.3
 
 of-one-requires : tie.Need-of-one-requires invariant-loop decreases-loop
 of-one-requires c κs =
@@ -41,10 +41,10 @@ loop-again c =
     let b = c.before.before in
     let a = b.before in
     let t = a.before in
-    alone-next a.of_one.result b.of-one2.result t.before.loop.y t.before.loop.invariant t.loop-test.true c.store-lane.ensures a.of_one.ensures b.of-one2.ensures
+    alone_next a.of_one.result b.of-one2.result t.before.loop.y t.before.loop.invariant t.loop-test.true c.store-lane.ensures a.of_one.ensures b.of-one2.ensures
 
 returns : tie.Need-returns invariant-loop decreases-loop
-returns c = alone-done c.before.loop.invariant c.loop-test.false
+returns c = alone_done c.before.loop.invariant c.loop-test.false
 
-pub mixed-alone-spec : {M : Type 1} → statement M
-mixed-alone-spec = tie.close (tie.spec invariant-loop decreases-loop loop-holds of-one-requires of-one-requires-2 store-lane-requires add-v loop-less loop-again returns)
+pub mixed_alone_spec : {M : Type 1} → statement M
+mixed_alone_spec = tie.close (tie.spec invariant-loop decreases-loop loop-holds of-one-requires of-one-requires-2 store-lane-requires add-v loop-less loop-again returns)

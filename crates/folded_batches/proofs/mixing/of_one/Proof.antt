@@ -1,6 +1,6 @@
 -- The two parts that are read.
 use native.Mathlib.Omega.{arith}
-use Rattle.folded_batches.proofs.MixedLanes.{read-re, read-im, two-as}
+use Rattle.folded_batches.proofs.MixedLanes.{read_re, read_im, two_as}
 use Rattle.folded_batches.proofs.mixing.of_one.Statement.{statement}
 use Rattle.folded_batches.proofs.mixing.of_one.Tie as tie
 
@@ -28,7 +28,7 @@ returns c =
     let x2 = c.before in
     let x1 = x2.before in
     let a = x1.before.before.args in
-    two-as a.c1 a.c2 (read-re a.from.now a.i a.v x1.part.ensures.0) (read-im a.from.now a.i a.v x2.part2.ensures.0) c.weighed.ensures
+    two_as a.c1 a.c2 (read_re a.from.now a.i a.v x1.part.ensures.0) (read_im a.from.now a.i a.v x2.part2.ensures.0) c.weighed.ensures
 
-pub of-one-spec : {M : Type 1} → statement M
-of-one-spec = tie.close (tie.spec part-requires add-part part-requires-2 weighed-requires returns)
+pub of_one_spec : {M : Type 1} → statement M
+of_one_spec = tie.close (tie.spec part-requires add-part part-requires-2 weighed-requires returns)

@@ -1,6 +1,6 @@
 -- The four parts that are read.
 use native.Mathlib.Omega.{arith}
-use Rattle.folded_batches.proofs.MixedLanes.{read-re, read-im, four-as}
+use Rattle.folded_batches.proofs.MixedLanes.{read_re, read_im, four_as}
 use Rattle.folded_batches.proofs.mixing.of_two.Statement.{statement}
 use Rattle.folded_batches.proofs.mixing.of_two.Tie as tie
 
@@ -44,12 +44,12 @@ returns c =
     let x2 = x3.before in
     let x1 = x2.before in
     let a = x1.before.before.args in
-    four-as a.c1 a.c2 a.c3 a.c4
-    (read-re a.from.now a.i a.v x1.part.ensures.0)
-    (read-im a.from.now a.i a.v x2.part2.ensures.0)
-    (read-re a.from.now a.j a.v x3.part3.ensures.0)
-    (read-im a.from.now a.j a.v x4.part4.ensures.0)
+    four_as a.c1 a.c2 a.c3 a.c4
+    (read_re a.from.now a.i a.v x1.part.ensures.0)
+    (read_im a.from.now a.i a.v x2.part2.ensures.0)
+    (read_re a.from.now a.j a.v x3.part3.ensures.0)
+    (read_im a.from.now a.j a.v x4.part4.ensures.0)
     c.four.ensures
 
-pub of-two-spec : {M : Type 1} → statement M
-of-two-spec = tie.close (tie.spec part-requires add-part part-requires-2 part-requires-3 add-part-2 part-requires-4 four-requires returns)
+pub of_two_spec : {M : Type 1} → statement M
+of_two_spec = tie.close (tie.spec part-requires add-part part-requires-2 part-requires-3 add-part-2 part-requires-4 four-requires returns)

@@ -19,5 +19,5 @@ shared-slice-read-result c = omega (arith, c.before.requires.0, c.before.require
 returns : tie.Need-returns
 returns c = (refl, c.before.requires.2.each _)
 
-pub part-spec : {M : Type 1} → statement M
-part-spec = tie.close (tie.spec mul-result add-result mul-result-2 shared-slice-read-result returns)
+pub part_spec : {M : Type 1} → statement M
+part_spec = tie.close (tie.spec mul-result add-result mul-result-2 shared-slice-read-result returns)

@@ -1,15 +1,15 @@
 -- The product is small enough.
 use mathlib.Core.Path.{refl}
 use native.Mathlib.Omega.{arith}
-use Rattle.batches.proofs.Division.{product-most}
+use Rattle.batches.proofs.Division.{product_most}
 use Rattle.folded_batches.proofs.mixing.product.Statement.{statement}
 use Rattle.folded_batches.proofs.mixing.product.Tie as tie
 
 mul-result : tie.Need-overflow-mul-result
-mul-result c = omega (arith, product-most c.requires.0 c.requires.1)
+mul-result c = omega (arith, product_most c.requires.0 c.requires.1)
 
 returns : tie.Need-returns
 returns c = refl
 
-pub product-spec : {M : Type 1} → statement M
-product-spec = tie.close (tie.spec mul-result returns)
+pub product_spec : {M : Type 1} → statement M
+product_spec = tie.close (tie.spec mul-result returns)

@@ -1,8 +1,8 @@
 -- Number by number (`Copying`).
 use Prim.Native.Nat.{◌-◌}
 use native.Mathlib.Omega.{arith}
-use Rattle.batches.proofs.Copies.{Copying, copying-start, copying-done}
-use Rattle.folded_batches.proofs.MixedLanes.{copying-first}
+use Rattle.batches.proofs.Copies.{Copying, copying_start, copying_done}
+use Rattle.folded_batches.proofs.MixedLanes.{copying_first}
 use Rattle.folded_batches.proofs.mixing.put_place.Statement.{statement}
 use Rattle.folded_batches.proofs.mixing.put_place.Tie as tie
 
@@ -16,7 +16,7 @@ mul-place : tie.Need-overflow-mul-place invariant-loop decreases-loop
 mul-place c = omega (arith, c.requires)
 
 loop-holds : tie.Need-loop-init invariant-loop decreases-loop
-loop-holds c = copying-start
+loop-holds c = copying_start
 
 mul-to : tie.Need-overflow-mul-to invariant-loop decreases-loop
 mul-to c = omega (arith, c.loop-test.true)
@@ -40,13 +40,13 @@ loop-less : tie.Need-loop-smaller invariant-loop decreases-loop
 loop-less c = omega (arith, c.before.loop-test.true)
 
 loop-again : tie.Need-loop-preserved invariant-loop decreases-loop
-loop-again c = copying-first c.before.before.loop.invariant c.before.loop-test.true c.before.before.before.requires
+loop-again c = copying_first c.before.before.loop.invariant c.before.loop-test.true c.before.before.before.requires
 
 same_length : tie.Need-same-length invariant-loop decreases-loop
 same_length c = omega (arith, c.before.loop.invariant.long)
 
 returns : tie.Need-returns invariant-loop decreases-loop
-returns c = copying-done c.before.loop.invariant c.loop-test.false
+returns c = copying_done c.before.loop.invariant c.loop-test.false
 
-pub put-place-spec : {M : Type 1} → statement M
-put-place-spec = tie.close (tie.spec invariant-loop decreases-loop mul-place loop-holds mul-to element-copy-out-to add-to mul-to-2 slice-write-to add-v loop-less loop-again same_length returns)
+pub put_place_spec : {M : Type 1} → statement M
+put_place_spec = tie.close (tie.spec invariant-loop decreases-loop mul-place loop-holds mul-to element-copy-out-to add-to mul-to-2 slice-write-to add-v loop-less loop-again same_length returns)

@@ -22,5 +22,5 @@ element-write-y-2 c = omega (arith, c.requires)
 returns : tie.Need-returns
 returns c = stores_as c.args.y.now c.args.v c.args.a c.args.b
 
-pub store-lane-spec : {M : Type 1} → statement M
-store-lane-spec = tie.close (tie.spec mul-y element-write-y add-y mul-y-2 element-write-y-2 returns)
+pub store_lane_spec : {M : Type 1} → statement M
+store_lane_spec = tie.close (tie.spec mul-y element-write-y add-y mul-y-2 element-write-y-2 returns)

@@ -3,23 +3,23 @@ use borrow.Author.Rules.{rules}
 use mathlib.Core.Path.{◌∙◌}
 use Prim.Native.Nat.{◌/◌}
 use Rattle.algebra.specs.ring.Ring.{pow, dft}
-use Rattle.algebra.specs.lines.Packings.{unfoldB3}
-use Rattle.algebra.specs.lines.Folds.{alternatingPoint}
-use Rattle.numbers.specs.Value.{field, i, real, onValues}
+use Rattle.algebra.specs.lines.Packings.{unfold_b3}
+use Rattle.algebra.specs.lines.Folds.{alternating_point}
+use Rattle.numbers.specs.Value.{field, i, real, on_values}
 use Rattle.numbers.specs.Bounds.{res}
-use Rattle.roots.specs.Table.{tableRoot}
+use Rattle.roots.specs.Table.{table_root}
 use Rattle.slices.specs.Pairs.{values_of}
 use Rattle.fold_formulas.specs.FoldFormulas.{tangent}
-use Rattle.slices.proofs.Values.{length-of, below_of}
-use Rattle.fold_formulas.proofs.Frames.{half-most, half-divides}
-use Rattle.folds.proofs.AlternatingLine.{forward-by}
+use Rattle.slices.proofs.Values.{length_of_lem, below_of}
+use Rattle.fold_formulas.proofs.Frames.{half_most, half_divides}
+use Rattle.folds.proofs.AlternatingLine.{forward_by}
 use Rattle.folds.proofs.alternating.forward.Statement.{statement}
 use Rattle.folds.proofs.alternating.forward.Tie as tie
 
 odd-imaginary-sum-requires : tie.Need-odd-imaginary-sum-requires
 odd-imaginary-sum-requires c κs =
     let s = c.before.before.before.before in
-    ((s.requires.0.0.modulus, half-most s.requires.0.0), s.requires.1.0)
+    ((s.requires.0.0.modulus, half_most s.requires.0.0), s.requires.1.0)
 
 short-line-requires : tie.Need-short-line-requires
 short-line-requires c κs = search rules
@@ -31,8 +31,8 @@ transform-requires c κs =
     let f = s.requires.0.0 in
     let m = s.args.m in
     let a = s.args.a in
-    let g = alternatingPoint (field m) (i m) (onValues m unfoldB3 a (values_of m s.args.line.now)) in
-    ((f.modulus, f.table), ((s.requires.0.2, half-divides f), ((length-of m a g w.short-line.ensures, s.requires.1.1.1), below_of m a g w.short-line.ensures)))
+    let g = alternating_point (field m) (i m) (on_values m unfold_b3 a (values_of m s.args.line.now)) in
+    ((f.modulus, f.table), ((s.requires.0.2, half_divides f), ((length_of_lem m a g w.short-line.ensures, s.requires.1.1.1), below_of m a g w.short-line.ensures)))
 
 finish-requires : tie.Need-finish-requires
 finish-requires c κs =
@@ -43,8 +43,8 @@ finish-requires c κs =
     let f = s.requires.0.0 in
     let m = s.args.m in
     let a = s.args.a in
-    let g = dft (field m) a (pow (field m) (tableRoot m s.args.re.now s.args.im.now) (2880 / a)) (values_of m w.short-line.new.1.1.1.0) in
-    ((f.modulus, s.requires.0.1, o.odd-imaginary-sum.ensures.0), ((f.positive, f.divides), ((length-of m a g t.transform.ensures.0, below_of m a g t.transform.ensures.0), s.requires.1.0.0)))
+    let g = dft (field m) a (pow (field m) (table_root m s.args.re.now s.args.im.now) (2880 / a)) (values_of m w.short-line.new.1.1.1.0) in
+    ((f.modulus, s.requires.0.1, o.odd-imaginary-sum.ensures.0), ((f.positive, f.divides), ((length_of_lem m a g t.transform.ensures.0, below_of m a g t.transform.ensures.0), s.requires.1.0.0)))
 
 same_length : tie.Need-same-length
 same_length c = c.before.before.finish.auto.1.1.1.1.1.0
@@ -65,12 +65,12 @@ returns c =
     let o = w.before.before.before in
     let s = o.before.before.before.before.before in
     let f = s.requires.0.0 in
-    forward-by s.args.m s.args.a f (tangent s.args.m s.args.a s.args.tan.now) (values_of s.args.m s.args.line.now)
+    forward_by s.args.m s.args.a f (tangent s.args.m s.args.a s.args.tan.now) (values_of s.args.m s.args.line.now)
     (real s.args.m (res s.args.m o.odd-imaginary-sum.result)) _
     o.odd-imaginary-sum.ensures.1 w.short-line.ensures t.transform.ensures.0 e.finish.ensures
 
-pub forward-spec : {M : Type 1} → statement M
-forward-spec =
+pub forward_spec : {M : Type 1} → statement M
+forward_spec =
     tie.close
     (tie.spec
     odd-imaginary-sum-requires

@@ -4,19 +4,19 @@ use mathlib.Core.Path.{◌∙◌}
 use Prim.Native.Nat.{◌*◌, ◌/◌}
 use native.Mathlib.Omega.{arith}
 use Rattle.algebra.specs.ring.Ring.{Ops, pow, dft}
-use Rattle.algebra.specs.lines.Folds.{alternatingSpectrum}
-use Rattle.numbers.specs.Value.{field, part, onValues}
-use Rattle.roots.specs.Table.{tableRoot}
+use Rattle.algebra.specs.lines.Folds.{alternating_spectrum}
+use Rattle.numbers.specs.Value.{field, part, on_values}
+use Rattle.roots.specs.Table.{table_root}
 use Rattle.slices.specs.Pairs.{values_of}
 use Rattle.fold_formulas.specs.FoldFormulas.{tangent}
-use Rattle.slices.proofs.Values.{length-of, below_of}
-use Rattle.fold_formulas.proofs.Frames.{half-most, half-divides}
+use Rattle.slices.proofs.Values.{length_of_lem, below_of}
+use Rattle.fold_formulas.proofs.Frames.{half_most, half_divides}
 use Rattle.folds.proofs.AlternatingLine.{back_by}
 use Rattle.folds.proofs.alternating.inverse.Statement.{statement}
 use Rattle.folds.proofs.alternating.inverse.Tie as tie
 
 share-requires : tie.Need-share-requires
-share-requires c κs = let f = c.before.before.before.requires.0.0 in (f.modulus, f.positive, half-most f)
+share-requires c κs = let f = c.before.before.before.requires.0.0 in (f.modulus, f.positive, half_most f)
 
 twice-sum-requires : tie.Need-twice-sum-requires
 twice-sum-requires c κs =
@@ -33,8 +33,8 @@ transform-requires c κs =
     let f = s.requires.0.0 in
     let m = s.args.m in
     let a = s.args.a in
-    let g = onValues m alternatingSpectrum a (λ k. (field m).neg (tangent m a s.args.tan.now k)) (values_of m s.args.line.now) in
-    ((f.modulus, f.table), ((s.requires.0.2, half-divides f), ((length-of m a g w.inverse-short-line.ensures, s.requires.1.1.1), below_of m a g w.inverse-short-line.ensures)))
+    let g = on_values m alternating_spectrum a (λ k. (field m).neg (tangent m a s.args.tan.now k)) (values_of m s.args.line.now) in
+    ((f.modulus, f.table), ((s.requires.0.2, half_divides f), ((length_of_lem m a g w.inverse-short-line.ensures, s.requires.1.1.1), below_of m a g w.inverse-short-line.ensures)))
 
 pack-requires : tie.Need-pack-requires
 pack-requires c κs =
@@ -46,8 +46,8 @@ pack-requires c κs =
     let f = s.requires.0.0 in
     let m = s.args.m in
     let a = s.args.a in
-    let g = dft (field m) a (pow (field m) (tableRoot m s.args.re.now s.args.im.now) (2880 / a)) (values_of m w.inverse-short-line.new.1.1.1.1.0) in
-    ((f.modulus, r.share.ensures.1, o.twice-sum.ensures.0), ((length-of m a g t.transform.ensures.0, below_of m a g t.transform.ensures.0), s.requires.1.0.0))
+    let g = dft (field m) a (pow (field m) (table_root m s.args.re.now s.args.im.now) (2880 / a)) (values_of m w.inverse-short-line.new.1.1.1.1.0) in
+    ((f.modulus, r.share.ensures.1, o.twice-sum.ensures.0), ((length_of_lem m a g t.transform.ensures.0, below_of m a g t.transform.ensures.0), s.requires.1.0.0))
 
 same_length : tie.Need-same-length
 same_length c = c.before.before.pack.auto.1.1.1.1.1.0
@@ -72,8 +72,8 @@ returns c =
     back_by s.args.m s.args.a f (λ k. (field s.args.m).neg (tangent s.args.m s.args.a s.args.tan.now k)) (values_of s.args.m s.args.line.now)
     (part s.args.m (2 * s.args.a)) e.pack.ensures r.share.ensures.0 (o.twice-sum.ensures.1 s.args.a) w.inverse-short-line.ensures t.transform.ensures.0
 
-pub inverse-spec : {M : Type 1} → statement M
-inverse-spec =
+pub inverse_spec : {M : Type 1} → statement M
+inverse_spec =
     tie.close
     (tie.spec
     share-requires

@@ -4,15 +4,15 @@ use Prim.Native.Nat.{◌*◌, ◌/◌}
 use native.Mathlib.Nat.{le_of_eq}
 use Rattle.algebra.specs.ring.Ring.{pow, dft}
 use Rattle.numbers.specs.Value.{field, real, part}
-use Rattle.roots.specs.Table.{tableRoot}
+use Rattle.roots.specs.Table.{table_root}
 use Rattle.slices.specs.Pairs.{values_of}
-use Rattle.slices.proofs.Pairs.{fills-whole}
-use Rattle.slices.proofs.Values.{length-of, below_of}
-use Rattle.fold_formulas.specs.FoldFormulas.{lineRoot, tangent}
-use Rattle.fold_formulas.proofs.Frames.{half-divides}
-use Rattle.folds.specs.FoldedLines.{toHermitian}
+use Rattle.slices.proofs.Pairs.{fills_whole}
+use Rattle.slices.proofs.Values.{length_of_lem, below_of}
+use Rattle.fold_formulas.specs.FoldFormulas.{line_root, tangent}
+use Rattle.fold_formulas.proofs.Frames.{half_divides}
+use Rattle.folds.specs.FoldedLines.{to_hermitian}
 use Rattle.folds.proofs.hermitian.Forms.{fold_of}
-use Rattle.folds.proofs.HermitianLine.{forward-list}
+use Rattle.folds.proofs.HermitianLine.{forward_list}
 use Rattle.folds.proofs.hermitian.forward.Statement.{statement}
 use Rattle.folds.proofs.hermitian.forward.Tie as tie
 
@@ -24,10 +24,10 @@ returns c =
     let s = f.before.before.before.before.before.before in
     let m = s.args.m in
     let a = s.args.a in
-    let g = dft (field m) a (pow (field m) (tableRoot m s.args.re.now s.args.im.now) (2880 / a)) (values_of m f.short-line.new.1.1.1.1.1.1.0) in
+    let g = dft (field m) a (pow (field m) (table_root m s.args.re.now s.args.im.now) (2880 / a)) (values_of m f.short-line.new.1.1.1.1.1.1.0) in
     λ tan. k.copy.ensures
-    ∙ fills-whole a t.transform.new.1.1.1.1.1.0 s.args.line.now (length-of m a g t.transform.ensures.0) s.requires.1.0.0
-    ∙ forward-list m a s.requires.0.0 s.args.anti (values_of m s.args.line.now) f.short-line.ensures t.transform.ensures.0 (real m (part m (2 * a))) (tangent m a tan)
+    ∙ fills_whole a t.transform.new.1.1.1.1.1.0 s.args.line.now (length_of_lem m a g t.transform.ensures.0) s.requires.1.0.0
+    ∙ forward_list m a s.requires.0.0 s.args.anti (values_of m s.args.line.now) f.short-line.ensures t.transform.ensures.0 (real m (part m (2 * a))) (tangent m a tan)
 
 short-line-requires : tie.Need-short-line-requires
 short-line-requires c κs =
@@ -40,9 +40,9 @@ transform-requires c κs =
     let s = f.before.before.before.before.before.before in
     let m = s.args.m in
     let a = s.args.a in
-    let g = fold_of m a (lineRoot m a s.args.re.now s.args.im.now) (toHermitian m s.args.anti (values_of m s.args.line.now)) in (
+    let g = fold_of m a (line_root m a s.args.re.now s.args.im.now) (to_hermitian m s.args.anti (values_of m s.args.line.now)) in (
       (s.requires.0.0.modulus, s.requires.0.0.table),
-      ((s.requires.0.1, half-divides s.requires.0.0), ((length-of m a g f.short-line.ensures, s.requires.1.0.2), below_of m a g f.short-line.ensures)),
+      ((s.requires.0.1, half_divides s.requires.0.0), ((length_of_lem m a g f.short-line.ensures, s.requires.1.0.2), below_of m a g f.short-line.ensures)),
     )
 
 copy-requires : tie.Need-copy-requires
@@ -63,8 +63,8 @@ same-length-2 c =
 same-length-3 : tie.Need-same-length-3
 same-length-3 c = c.before.before.before.before.before.before.before.before.before.transform.auto.1.1.1.1.1.1.0
 
-pub forward-spec : {M : Type 1} → statement M
-forward-spec =
+pub forward_spec : {M : Type 1} → statement M
+forward_spec =
     tie.close
     (tie.spec
     short-line-requires

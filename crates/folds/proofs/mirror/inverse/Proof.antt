@@ -3,14 +3,14 @@ use mathlib.Core.Path.{◌∙◌}
 use borrow.Author.Rules.{rules}
 use Rattle.algebra.specs.lines.Kinds.{slots}
 use Rattle.slices.proofs.Values.{below_of}
-use Rattle.fold_formulas.proofs.Frames.{half-most}
-use Rattle.folds.specs.FoldedLines.{mirrorKind}
-use Rattle.folds.proofs.MirrorLine.{forwardOf, stored-length, back-list}
+use Rattle.fold_formulas.proofs.Frames.{half_most}
+use Rattle.folds.specs.FoldedLines.{mirror_kind}
+use Rattle.folds.proofs.MirrorLine.{forward_of, stored_length, back_list}
 use Rattle.folds.proofs.mirror.inverse.Statement.{statement}
 use Rattle.folds.proofs.mirror.inverse.Tie as tie
 
 share-requires : tie.Need-share-requires
-share-requires c κs = let f = c.before.before.before.requires.0.0 in (f.modulus, f.positive, half-most f)
+share-requires c κs = let f = c.before.before.before.requires.0.0 in (f.modulus, f.positive, half_most f)
 
 add-n : tie.Need-overflow-add-n
 add-n c = search rules
@@ -34,8 +34,8 @@ scale-requires c κs =
     let m = s.args.m in
     let a = s.args.a in
     let first = s.args.first in
-    let g = forwardOf m a first s.args.re.now s.args.im.now s.args.tan.now s.args.line.now s.requires.0.0 s.requires.0.3 in
-    ((s.requires.0.0.modulus, h.share.ensures.1), (stored-length a first s.requires.0.3 (f.forward.auto.1.1.1.1.1.1.1.0 ∙ s.requires.1.0.0), below_of m (slots (mirrorKind first) a) g f.forward.ensures))
+    let g = forward_of m a first s.args.re.now s.args.im.now s.args.tan.now s.args.line.now s.requires.0.0 s.requires.0.3 in
+    ((s.requires.0.0.modulus, h.share.ensures.1), (stored_length a first s.requires.0.3 (f.forward.auto.1.1.1.1.1.1.1.0 ∙ s.requires.1.0.0), below_of m (slots (mirror_kind first) a) g f.forward.ensures))
 
 same_length : tie.Need-same-length
 same_length c =
@@ -54,10 +54,10 @@ returns c =
     let f = z.before.before.before.before.before.before.before.before in
     let h = f.before.before.before.before in
     let s = h.before.before.before.before in
-    back-list s.args.m s.args.a s.args.first s.args.re.now s.args.im.now s.args.tan.now s.args.line.now s.requires.0.0 s.requires.0.3 f.forward.ensures h.share.ensures.0 z.scale.ensures
+    back_list s.args.m s.args.a s.args.first s.args.re.now s.args.im.now s.args.tan.now s.args.line.now s.requires.0.0 s.requires.0.3 f.forward.ensures h.share.ensures.0 z.scale.ensures
 
-pub inverse-spec : {M : Type 1} → statement M
-inverse-spec =
+pub inverse_spec : {M : Type 1} → statement M
+inverse_spec =
     tie.close
     (tie.spec
     share-requires

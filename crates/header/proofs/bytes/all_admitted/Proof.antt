@@ -16,6 +16,6 @@ admitted-requires-3 c κs = search rules
 returns : tie.Need-returns
 returns c = three c.before.before.admitted.ensures c.before.admitted2.ensures c.admitted3.ensures
 
-pub all-admitted-spec : {M : Type 1} → statement M
-all-admitted-spec =
+pub all_admitted_spec : {M : Type 1} → statement M
+all_admitted_spec =
     tie.close (tie.spec admitted-requires admitted-requires-2 admitted-requires-3 returns)

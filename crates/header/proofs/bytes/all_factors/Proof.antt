@@ -14,8 +14,8 @@ factors-ok-requires-3 : tie.Need-factors-ok-requires-3
 factors-ok-requires-3 c κs = search rules
 
 returns : tie.Need-returns
-returns c = three c.before.before.factors-ok.ensures c.before.factors-ok2.ensures c.factors-ok3.ensures
+returns c = three c.before.before.factors_ok_lem.ensures c.before.factors-ok2.ensures c.factors-ok3.ensures
 
-pub all-factors-spec : {M : Type 1} → statement M
-all-factors-spec =
+pub all_factors_spec : {M : Type 1} → statement M
+all_factors_spec =
     tie.close (tie.spec factors-ok-requires factors-ok-requires-2 factors-ok-requires-3 returns)

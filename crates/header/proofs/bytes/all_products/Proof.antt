@@ -2,14 +2,14 @@
 use Prim.Native.Nat.{◌/◌, ◌≤◌}
 use mathlib.Core.Path.{◌≡◌}
 use mathlib.Core.Bool.{true}
-use Rattle.lengths.specs.Lengths.{factorsOk}
-use Rattle.header.proofs.Headers.{three, products-may}
+use Rattle.lengths.specs.Lengths.{factors_ok}
+use Rattle.header.proofs.Headers.{three, products_may}
 use Rattle.header.proofs.bytes.all_products.Statement.{statement}
 use Rattle.header.proofs.bytes.all_products.Tie as tie
 
 -- what each call asks for
-may : (s : tie.Start) → let a = s.args in ((factorsOk a.f1.now ≡ true) × (a.cell.n1 / 2 ≤ 1440)) × ((factorsOk a.f2.now ≡ true) × (a.cell.n2 / 2 ≤ 1440)) × ((factorsOk a.f3.now ≡ true) × (a.cell.n3 / 2 ≤ 1440))
-may s = let a = s.args in products-may a.cell.n1 a.cell.n2 a.cell.n3 a.f1.now a.f2.now a.f3.now s.requires.0 s.requires.1
+may : (s : tie.Start) → let a = s.args in ((factors_ok a.f1.now ≡ true) × (a.cell.n1 / 2 ≤ 1440)) × ((factors_ok a.f2.now ≡ true) × (a.cell.n2 / 2 ≤ 1440)) × ((factors_ok a.f3.now ≡ true) × (a.cell.n3 / 2 ≤ 1440))
+may s = let a = s.args in products_may a.cell.n1 a.cell.n2 a.cell.n3 a.f1.now a.f2.now a.f3.now s.requires.0 s.requires.1
 
 has-product-requires : tie.Need-has-product-requires
 has-product-requires c κs = (may c.before.before.before.before).0
@@ -23,6 +23,6 @@ has-product-requires-3 c κs = (may c.before.before.before.before.before.before.
 returns : tie.Need-returns
 returns c = three c.before.before.before.before.has-product.ensures c.before.before.has-product2.ensures c.has-product3.ensures
 
-pub all-products-spec : {M : Type 1} → statement M
-all-products-spec =
+pub all_products_spec : {M : Type 1} → statement M
+all_products_spec =
     tie.close (tie.spec has-product-requires has-product-requires-2 has-product-requires-3 returns)

@@ -8,41 +8,41 @@ use lib.Dec.{ltb}
 use borrow.Author.Tests.{lt-ltb, le-ltb}
 use Rattle.refusals.specs.Refusals.{first, ◌⇒◌}
 use Rattle.lengths.specs.Lengths as lengths
-use Rattle.lengths.specs.Lengths.{factorsOk}
-use Rattle.cell.specs.Operations.{cellGroup, cellHalves}
-use Rattle.cell.specs.Volume.{volumeLength}
-use Rattle.header.specs.Header.{volumeLimit, axisTests}
-use Rattle.header.specs.Cells.{cellHeader}
-use Rattle.refusals.proofs.Tests.{stop, pass, none, not_t, not_f, by-true, by-false}
-use Rattle.header.proofs.Headers.{sizes-of, short_lengths}
+use Rattle.lengths.specs.Lengths.{factors_ok}
+use Rattle.cell.specs.Operations.{cell_group, cell_halves}
+use Rattle.cell.specs.Volume.{volume_length}
+use Rattle.header.specs.Header.{volume_limit, axis_tests}
+use Rattle.header.specs.Cells.{cell_header}
+use Rattle.refusals.proofs.Tests.{stop, pass, none, not_t, not_f, by_true, by_false}
+use Rattle.header.proofs.Headers.{sizes_of, short_lengths}
 use Rattle.header.proofs.bytes.check_header.Statement.{statement}
 use Rattle.header.proofs.bytes.check_header.Tie as tie
 
 -- ---- what each test that is passed leaves
 
 admitted : (c : tie.Else1) → let a = c.before.before.before.before.before.args in (lengths.admitted a.cell.n1 && (lengths.admitted a.cell.n2 && lengths.admitted a.cell.n3)) ≡ true
-admitted c = by-true _ _ c.before.all-admitted.ensures c.if1.false
+admitted c = by_true _ _ c.before.all-admitted.ensures c.if1.false
 
-factors : (c : tie.Else2) → let a = c.before.before.before.before.before.before.before.args in (factorsOk a.f1.now && (factorsOk a.f2.now && factorsOk a.f3.now)) ≡ true
-factors c = by-true _ _ c.before.all-factors.ensures c.if2.false
+factors : (c : tie.Else2) → let a = c.before.before.before.before.before.before.before.args in (factors_ok a.f1.now && (factors_ok a.f2.now && factors_ok a.f3.now)) ≡ true
+factors c = by_true _ _ c.before.all-factors.ensures c.if2.false
 
 -- the lists have their products: the volume decides
-listed : (q : tie.Else3) {m : ℕ} → let a = q.before.before.before.before.before.before.before.before.before.args in m ≡ first (ltb volumeLimit (volumeLength (cellGroup a.cell) (cellHalves a.cell)) ⇒ 9 ∷ []) → m ≡ first (axisTests (cellHeader a.cell a.f1.now a.f2.now a.f3.now))
+listed : (q : tie.Else3) {m : ℕ} → let a = q.before.before.before.before.before.before.before.before.before.args in m ≡ first (ltb volume_limit (volume_length (cell_group a.cell) (cell_halves a.cell)) ⇒ 9 ∷ []) → m ≡ first (axis_tests (cell_header a.cell a.f1.now a.f2.now a.f3.now))
 listed q e =
     let f = q.before.before in
-    pass 3 _ (not_t _ (admitted f.before.before)) (pass 4 _ (not_t _ (factors f)) (pass 5 _ (not_t _ (by-true _ _ q.before.all_products.ensures q.if3.false)) e))
+    pass 3 _ (not_t _ (admitted f.before.before)) (pass 4 _ (not_t _ (factors f)) (pass 5 _ (not_t _ (by_true _ _ q.before.all_products.ensures q.if3.false)) e))
 
 all-admitted-requires : tie.Need-all-admitted-requires
 all-admitted-requires c κs = search rules
 
 returns : tie.Need-returns
-returns c = stop _ (not_f _ (by-false _ _ c.before.all-admitted.ensures c.if1.true))
+returns c = stop _ (not_f _ (by_false _ _ c.before.all-admitted.ensures c.if1.true))
 
 all-factors-requires : tie.Need-all-factors-requires
 all-factors-requires c κs = search rules
 
 returns-2 : tie.Need-returns-2
-returns-2 c = let a = c.before.before in pass 3 _ (not_t _ (admitted a)) (stop _ (not_f _ (by-false _ _ c.before.all-factors.ensures c.if2.true)))
+returns-2 c = let a = c.before.before in pass 3 _ (not_t _ (admitted a)) (stop _ (not_f _ (by_false _ _ c.before.all-factors.ensures c.if2.true)))
 
 all-products-requires : tie.Need-all-products-requires
 all-products-requires c κs = (admitted c.before.before, factors c)
@@ -50,19 +50,19 @@ all-products-requires c κs = (admitted c.before.before, factors c)
 returns-3 : tie.Need-returns-3
 returns-3 c =
     let f = c.before.before in
-    pass 3 _ (not_t _ (admitted f.before.before)) (pass 4 _ (not_t _ (factors f)) (stop _ (not_f _ (by-false _ _ c.before.all_products.ensures c.if3.true))))
+    pass 3 _ (not_t _ (admitted f.before.before)) (pass 4 _ (not_t _ (factors f)) (stop _ (not_f _ (by_false _ _ c.before.all_products.ensures c.if3.true))))
 
 volume-length-requires : tie.Need-volume-length-requires
-volume-length-requires c κs = let t = c.before.before.before.before in short_lengths (sizes-of t.before.before.before.before.before.requires (admitted t))
+volume-length-requires c κs = let t = c.before.before.before.before in short_lengths (sizes_of t.before.before.before.before.before.requires (admitted t))
 
 returns-4 : tie.Need-returns-4
-returns-4 c = listed c.before.before (stop _ (lt-ltb _ _ (subst (λ (n : ℕ). 16777216 < n) c.before.volume-length.ensures c.if4.true)))
+returns-4 c = listed c.before.before (stop _ (lt-ltb _ _ (subst (λ (n : ℕ). 16777216 < n) c.before.volume_length_lem.ensures c.if4.true)))
 
 returns-5 : tie.Need-returns-5
-returns-5 c = listed c.before.before (pass 9 _ (le-ltb _ _ (subst (λ (n : ℕ). n ≤ 16777216) c.before.volume-length.ensures c.if4.false)) none)
+returns-5 c = listed c.before.before (pass 9 _ (le-ltb _ _ (subst (λ (n : ℕ). n ≤ 16777216) c.before.volume_length_lem.ensures c.if4.false)) none)
 
-pub check-header-spec : {M : Type 1} → statement M
-check-header-spec =
+pub check_header_spec : {M : Type 1} → statement M
+check_header_spec =
     tie.close
     (tie.spec
     all-admitted-requires

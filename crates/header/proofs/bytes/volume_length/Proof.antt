@@ -1,7 +1,7 @@
 -- The pairs of all layers, twice; the products of lengths fit.
 use borrow.Author.Rules.{rules}
 use native.Mathlib.Omega.{arith}
-use Rattle.header.proofs.Headers.{volume-is, rows_few, numbers-few}
+use Rattle.header.proofs.Headers.{volume_is, rows_few, numbers_few}
 use Rattle.header.proofs.bytes.volume_length.Statement.{statement}
 use Rattle.header.proofs.bytes.volume_length.Tie as tie
 
@@ -27,16 +27,16 @@ mul-result : tie.Need-overflow-mul-result
 mul-result c = let s = c.before.before.before in omega (arith, rows_few s.args.cell c.before.before.layer-count.ensures s.requires)
 
 mul-result-2 : tie.Need-overflow-mul-result-2
-mul-result-2 c = let s = c.before.before.before in omega (arith, numbers-few s.args.cell c.before.before.layer-count.ensures s.requires)
+mul-result-2 c = let s = c.before.before.before in omega (arith, numbers_few s.args.cell c.before.before.layer-count.ensures s.requires)
 
 mul-result-3 : tie.Need-overflow-mul-result-3
-mul-result-3 c = let s = c.before.before.before in omega (arith, numbers-few s.args.cell c.before.before.layer-count.ensures s.requires)
+mul-result-3 c = let s = c.before.before.before in omega (arith, numbers_few s.args.cell c.before.before.layer-count.ensures s.requires)
 
 returns : tie.Need-returns
-returns c = volume-is c.before.before.before.args.cell c.before.before.layer-count.ensures
+returns c = volume_is c.before.before.before.args.cell c.before.before.layer-count.ensures
 
-pub volume-length-spec : {M : Type 1} → statement M
-volume-length-spec =
+pub volume_length_spec : {M : Type 1} → statement M
+volume_length_spec =
     tie.close
     (tie.spec
     layer-count-requires

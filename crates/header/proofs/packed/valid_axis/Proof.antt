@@ -16,5 +16,5 @@ returns c =
     let y = c.digits-product-is.ensures in
     λ i. x i && y i
 
-pub valid-axis-spec : {M : Type 1} → statement M
-valid-axis-spec = tie.close (tie.spec admitted-requires digits-product-is-requires returns)
+pub valid_axis_spec : {M : Type 1} → statement M
+valid_axis_spec = tie.close (tie.spec admitted-requires digits-product-is-requires returns)

@@ -5,26 +5,26 @@ use mathlib.Core.Path.{◌≡◌, ◌∙◌, sym, ap, ap₂}
 use mathlib.Core.Bool.{Bool}
 use lib.ListN.{length}
 use Rattle.refusals.specs.Refusals.{first}
-use Rattle.refusals.specs.Checks.{checkedNumber}
+use Rattle.refusals.specs.Checks.{checked_number}
 use Rattle.cell.specs.declared.operations.UnitCell.{UnitCell}
-use Rattle.cell.specs.Operations.{cellLengths}
-use Rattle.job.specs.Job.{analysisTestsOf}
-use Rattle.job.specs.TestSteps.{analysisTests}
-use Rattle.job.proofs.Jobs.{cell-sizes}
-use Rattle.job.proofs.Volumes.{analysis-ready, lent, all-analysed}
-use Rattle.job.proofs.Outcomes.{analysis-refused, analysis-done}
+use Rattle.cell.specs.Operations.{cell_lengths}
+use Rattle.job.specs.Job.{analysis_tests_of}
+use Rattle.job.specs.TestSteps.{analysis_tests}
+use Rattle.job.proofs.Jobs.{cell_sizes}
+use Rattle.job.proofs.Volumes.{analysis_ready, lent, all_analysed}
+use Rattle.job.proofs.Outcomes.{analysis_refused, analysis_done}
 use Rattle.job.proofs.Job.analysis.Statement.{statement}
 use Rattle.job.proofs.Job.analysis.Tie as tie
 
 -- the check's number
-told : (c : tie.After-check-analysis) → let a = c.before.before.before.before.before.before.args in checkedNumber c.check-analysis.result ≡ first (analysisTests a.self a.volume.now (length a.scratch.now))
+told : (c : tie.After-check-analysis) → let a = c.before.before.before.before.before.before.args in checked_number c.check-analysis.result ≡ first (analysis_tests a.self a.volume.now (length a.scratch.now))
 told c =
     let a = c.before.before.before.before.before.before.args in
-    c.check-analysis.ensures ∙ ap₂ (λ (b : Bool) (k : UnitCell). first (analysisTestsOf b a.self.state a.self.modulus k.group (cellLengths k) a.volume.now (length a.scratch.now))) c.before.before.valid-job.ensures c.before.before.before.unit-cell.ensures
+    c.check-analysis.ensures ∙ ap₂ (λ (b : Bool) (k : UnitCell). first (analysis_tests_of b a.self.state a.self.modulus k.group (cell_lengths k) a.volume.now (length a.scratch.now))) c.before.before.valid-job.ensures c.before.before.before.unit-cell.ensures
 
 -- no test holds
-none : (c : tie.After-enum-told) → let a = c.before.before.before.before.before.before.before.before.args in 0 ≡ first (analysisTests a.self a.volume.now (length a.scratch.now))
-none c = ap checkedNumber (sym c.enum_told.given.1) ∙ told c.before.before
+none : (c : tie.After-enum-told) → let a = c.before.before.before.before.before.before.before.before.args in 0 ≡ first (analysis_tests a.self a.volume.now (length a.scratch.now))
+none c = ap checked_number (sym c.enum_told.given.1) ∙ told c.before.before
 
 unit-cell-requires : tie.Need-unit-cell-requires
 unit-cell-requires c κs = search rules
@@ -33,7 +33,7 @@ valid-job-requires : tie.Need-valid-job-requires
 valid-job-requires c κs = search rules
 
 check-analysis-requires : tie.Need-check-analysis-requires
-check-analysis-requires c κs e = cell-sizes c.before.before.before.before.before.args.self c.before.before.unit-cell.ensures (sym c.before.valid-job.ensures ∙ e)
+check-analysis-requires c κs e = cell_sizes c.before.before.before.before.before.args.self c.before.before.unit-cell.ensures (sym c.before.valid-job.ensures ∙ e)
 
 enum-known-checked : tie.Need-enum-known-checked
 enum-known-checked c = search rules
@@ -48,7 +48,7 @@ transform-volume-requires : tie.Need-transform-volume-requires
 transform-volume-requires c κs =
     let k = c.before.before.before in
     let a = k.before.before.before.before.before.before.before.before.args in
-    lent (analysis-ready a.self a.volume.now (length a.scratch.now) (none k)).0 1 c.before.before.plan-of.result c.before.before.plan-of.ensures (omega arith)
+    lent (analysis_ready a.self a.volume.now (length a.scratch.now) (none k)).0 1 c.before.before.plan-of.result c.before.before.plan-of.ensures (omega arith)
 
 same_length : tie.Need-same-length
 same_length c = search rules
@@ -57,7 +57,7 @@ returns : tie.Need-returns
 returns c =
     let k = c.before.before.before in
     let a = k.before.before.before.before.before.before.args in
-    analysis-refused a.self a.volume.now a.scratch.now c.before.checked.given.0.0 (ap checkedNumber (sym c.before.checked.given.1) ∙ told k)
+    analysis_refused a.self a.volume.now a.scratch.now c.before.checked.given.0.0 (ap checked_number (sym c.before.checked.given.1) ∙ told k)
 
 same-length-2 : tie.Need-same-length-2
 same-length-2 c = search rules
@@ -71,12 +71,12 @@ returns-2 c =
     let k = w.before.before.before in
     let t = k.before in
     let a = t.before.before.before.before.before.before.before.before.args in
-    analysis-done a.self a.volume.now a.scratch.now _ _ (none t)
-    (w.transform-volume.ensures.0 ∙ all-analysed a.self a.volume.now (length a.scratch.now) (none t) k.plan-of.result k.plan-of.ensures)
+    analysis_done a.self a.volume.now a.scratch.now _ _ (none t)
+    (w.transform-volume.ensures.0 ∙ all_analysed a.self a.volume.now (length a.scratch.now) (none t) k.plan-of.result k.plan-of.ensures)
     w.transform-volume.ensures.1
 
-pub analysis-spec : {M : Type 1} → statement M
-analysis-spec =
+pub analysis_spec : {M : Type 1} → statement M
+analysis_spec =
     tie.close
     (tie.spec
     unit-cell-requires

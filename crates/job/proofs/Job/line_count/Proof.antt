@@ -2,8 +2,8 @@
 use borrow.Author.Rules.{rules}
 use native.Mathlib.Omega.{arith}
 use mathlib.Core.Path.{◌∙◌}
-use Rattle.volume_transform.proofs.plan.AxisLines.{counted-lines}
-use Rattle.job.proofs.Turns.{planned, lines-of}
+use Rattle.volume_transform.proofs.plan.AxisLines.{counted_lines}
+use Rattle.job.proofs.Turns.{planned, lines_of_lem}
 use Rattle.job.proofs.Job.line_count.Statement.{statement}
 use Rattle.job.proofs.Job.line_count.Tie as tie
 
@@ -23,10 +23,10 @@ returns : tie.Need-returns
 returns c =
     let l = c.before.before in
     let s = l.before.before in
-    (counted-lines l.line-counts.ensures ∙ lines-of s.args.self s.requires l.before.plan-of.ensures, omega (arith, l.line-counts.ensures.low))
+    (counted_lines l.line-counts.ensures ∙ lines_of_lem s.args.self s.requires l.before.plan-of.ensures, omega (arith, l.line-counts.ensures.low))
 
-pub line-count-spec : {M : Type 1} → statement M
-line-count-spec =
+pub line_count_spec : {M : Type 1} → statement M
+line_count_spec =
     tie.close
     (tie.spec
     plan-of-requires

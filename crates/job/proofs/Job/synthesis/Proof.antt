@@ -5,26 +5,26 @@ use mathlib.Core.Path.{◌≡◌, ◌∙◌, sym, ap, ap₂}
 use mathlib.Core.Bool.{Bool}
 use lib.ListN.{length}
 use Rattle.refusals.specs.Refusals.{first}
-use Rattle.refusals.specs.Checks.{checkedNumber}
+use Rattle.refusals.specs.Checks.{checked_number}
 use Rattle.cell.specs.declared.operations.UnitCell.{UnitCell}
-use Rattle.cell.specs.Operations.{cellLengths}
-use Rattle.job.specs.Job.{synthesisTestsOf}
-use Rattle.job.specs.TestSteps.{synthesisTests}
-use Rattle.job.proofs.Jobs.{cell-sizes}
-use Rattle.job.proofs.Volumes.{synthesis-ready, lent, all-synthesised}
-use Rattle.job.proofs.Outcomes.{synthesis-refused, synthesis-done}
+use Rattle.cell.specs.Operations.{cell_lengths}
+use Rattle.job.specs.Job.{synthesis_tests_of}
+use Rattle.job.specs.TestSteps.{synthesis_tests}
+use Rattle.job.proofs.Jobs.{cell_sizes}
+use Rattle.job.proofs.Volumes.{synthesis_ready, lent, all_synthesised}
+use Rattle.job.proofs.Outcomes.{synthesis_refused, synthesis_done}
 use Rattle.job.proofs.Job.synthesis.Statement.{statement}
 use Rattle.job.proofs.Job.synthesis.Tie as tie
 
 -- the check's number
-told : (c : tie.After-check-synthesis) → let a = c.before.before.before.before.before.before.args in checkedNumber c.check-synthesis.result ≡ first (synthesisTests a.self a.volume.now (length a.scratch.now))
+told : (c : tie.After-check-synthesis) → let a = c.before.before.before.before.before.before.args in checked_number c.check-synthesis.result ≡ first (synthesis_tests a.self a.volume.now (length a.scratch.now))
 told c =
     let a = c.before.before.before.before.before.before.args in
-    c.check-synthesis.ensures ∙ ap₂ (λ (b : Bool) (k : UnitCell). first (synthesisTestsOf b a.self.state a.self.modulus k.group (cellLengths k) a.volume.now (length a.scratch.now))) c.before.before.valid-job.ensures c.before.before.before.unit-cell.ensures
+    c.check-synthesis.ensures ∙ ap₂ (λ (b : Bool) (k : UnitCell). first (synthesis_tests_of b a.self.state a.self.modulus k.group (cell_lengths k) a.volume.now (length a.scratch.now))) c.before.before.valid-job.ensures c.before.before.before.unit-cell.ensures
 
 -- no test holds
-none : (c : tie.After-enum-told) → let a = c.before.before.before.before.before.before.before.before.args in 0 ≡ first (synthesisTests a.self a.volume.now (length a.scratch.now))
-none c = ap checkedNumber (sym c.enum_told.given.1) ∙ told c.before.before
+none : (c : tie.After-enum-told) → let a = c.before.before.before.before.before.before.before.before.args in 0 ≡ first (synthesis_tests a.self a.volume.now (length a.scratch.now))
+none c = ap checked_number (sym c.enum_told.given.1) ∙ told c.before.before
 
 unit-cell-requires : tie.Need-unit-cell-requires
 unit-cell-requires c κs = search rules
@@ -33,7 +33,7 @@ valid-job-requires : tie.Need-valid-job-requires
 valid-job-requires c κs = search rules
 
 check-synthesis-requires : tie.Need-check-synthesis-requires
-check-synthesis-requires c κs e = cell-sizes c.before.before.before.before.before.args.self c.before.before.unit-cell.ensures (sym c.before.valid-job.ensures ∙ e)
+check-synthesis-requires c κs e = cell_sizes c.before.before.before.before.before.args.self c.before.before.unit-cell.ensures (sym c.before.valid-job.ensures ∙ e)
 
 enum-known-checked : tie.Need-enum-known-checked
 enum-known-checked c = search rules
@@ -48,7 +48,7 @@ transform-volume-requires : tie.Need-transform-volume-requires
 transform-volume-requires c κs =
     let k = c.before.before.before in
     let a = k.before.before.before.before.before.before.before.before.args in
-    lent (synthesis-ready a.self a.volume.now (length a.scratch.now) (none k)).0 0 c.before.before.plan-of.result c.before.before.plan-of.ensures (omega arith)
+    lent (synthesis_ready a.self a.volume.now (length a.scratch.now) (none k)).0 0 c.before.before.plan-of.result c.before.before.plan-of.ensures (omega arith)
 
 same_length : tie.Need-same-length
 same_length c = search rules
@@ -57,7 +57,7 @@ returns : tie.Need-returns
 returns c =
     let k = c.before.before.before in
     let a = k.before.before.before.before.before.before.args in
-    synthesis-refused a.self a.volume.now a.scratch.now c.before.checked.given.0.0 (ap checkedNumber (sym c.before.checked.given.1) ∙ told k)
+    synthesis_refused a.self a.volume.now a.scratch.now c.before.checked.given.0.0 (ap checked_number (sym c.before.checked.given.1) ∙ told k)
 
 same-length-2 : tie.Need-same-length-2
 same-length-2 c = search rules
@@ -71,12 +71,12 @@ returns-2 c =
     let k = w.before.before.before in
     let t = k.before in
     let a = t.before.before.before.before.before.before.before.before.args in
-    synthesis-done a.self a.volume.now a.scratch.now _ _ (none t)
-    (w.transform-volume.ensures.0 ∙ all-synthesised a.self a.volume.now (length a.scratch.now) (none t) k.plan-of.result k.plan-of.ensures)
+    synthesis_done a.self a.volume.now a.scratch.now _ _ (none t)
+    (w.transform-volume.ensures.0 ∙ all_synthesised a.self a.volume.now (length a.scratch.now) (none t) k.plan-of.result k.plan-of.ensures)
     w.transform-volume.ensures.1
 
-pub synthesis-spec : {M : Type 1} → statement M
-synthesis-spec =
+pub synthesis_spec : {M : Type 1} → statement M
+synthesis_spec =
     tie.close
     (tie.spec
     unit-cell-requires

@@ -7,15 +7,15 @@ use lib.ListN.{length}
 use lib.Dec.{eqb}
 use borrow.Author.Tests.{lt-ltb, le-ltb, eqb-true}
 use Rattle.refusals.specs.declared.Refusal.TheVariants.{BufferLength, ScratchTooShort, NotResidue}
-use Rattle.refusals.proofs.Tests.{stop, pass, none, not_t, not_f, by-true, by-false}
+use Rattle.refusals.proofs.Tests.{stop, pass, none, not_t, not_f, by_true, by_false}
 use Rattle.lengths.specs.Lengths.{cleared}
-use Rattle.cell.specs.Volume.{volumeLength}
-use Rattle.cell.specs.Operations.{cellGroup, cellHalves}
+use Rattle.cell.specs.Volume.{volume_length}
+use Rattle.cell.specs.Operations.{cell_group, cell_halves}
 use Rattle.cell.specs.declared.operations.UnitCell.{UnitCell}
 use Rattle.job.specs.Job.{fits}
-use Rattle.job.specs.Turns.{lineSynthesised}
-use Rattle.job.proofs.Jobs.{cell-sizes}
-use Rattle.job.proofs.Turns.{planned, lines-of, placed-in, directed_of, own-numbers, own-volume, left_as, made_as, turn-refused, turn-done}
+use Rattle.job.specs.Turns.{line_synthesised}
+use Rattle.job.proofs.Jobs.{cell_sizes}
+use Rattle.job.proofs.Turns.{planned, lines_of_lem, placed_in, directed_of, own_numbers, own_volume, left_as, made_as, turn_refused, turn_done}
 use Rattle.job.proofs.Job.turn.Statement.{statement}
 use Rattle.job.proofs.Job.turn.Tie as tie
 
@@ -23,16 +23,16 @@ use Rattle.job.proofs.Job.turn.Tie as tie
 told : (c : tie.After-fits2) → let a = c.before.before.before.before.before.args in c.fits2.result ≡ fits a.self a.volume.now
 told c =
     let a = c.before.before.before.before.before.args in
-    c.fits2.ensures ∙ ap (λ (k : UnitCell). eqb (length a.volume.now) (volumeLength (cellGroup k) (cellHalves k))) c.before.before.unit-cell.ensures
+    c.fits2.ensures ∙ ap (λ (k : UnitCell). eqb (length a.volume.now) (volume_length (cell_group k) (cell_halves k))) c.before.before.unit-cell.ensures
 
 fit : (c : tie.Else1) → let a = c.before.before.before.before.before.before.args in fits a.self a.volume.now ≡ true
-fit c = by-true _ _ (told c.before) c.if1.false
+fit c = by_true _ _ (told c.before) c.if1.false
 
 unit-cell-requires : tie.Need-unit-cell-requires
 unit-cell-requires c κs = search rules
 
 fits-requires : tie.Need-fits-requires
-fits-requires c κs = let s = c.before.before.before.before in (cell-sizes s.args.self c.before.unit-cell.ensures s.requires.0).0
+fits-requires c κs = let s = c.before.before.before.before in (cell_sizes s.args.self c.before.unit-cell.ensures s.requires.0).0
 
 same_length : tie.Need-same-length
 same_length c = search rules
@@ -40,7 +40,7 @@ same_length c = search rules
 returns : tie.Need-returns
 returns c =
     let s = c.before.before.before.before.before.before in
-    turn-refused s.args.self s.args.n s.args.volume.now s.args.scratch.now BufferLength (stop _ (not_f _ (by-false _ _ (told c.before) c.if1.true))) refl refl
+    turn_refused s.args.self s.args.n s.args.volume.now s.args.scratch.now BufferLength (stop _ (not_f _ (by_false _ _ (told c.before) c.if1.true))) refl refl
 
 same-length-2 : tie.Need-same-length-2
 same-length-2 c = search rules
@@ -48,7 +48,7 @@ same-length-2 c = search rules
 returns-2 : tie.Need-returns-2
 returns-2 c =
     let s = c.before.before.before.before.before.before.before in
-    turn-refused s.args.self s.args.n s.args.volume.now s.args.scratch.now ScratchTooShort (pass 6 _ (not_t _ (fit c.before)) (stop _ (lt-ltb _ _ c.if2.true))) refl refl
+    turn_refused s.args.self s.args.n s.args.volume.now s.args.scratch.now ScratchTooShort (pass 6 _ (not_t _ (fit c.before)) (stop _ (lt-ltb _ _ c.if2.true))) refl refl
 
 plan-of-requires : tie.Need-plan-of-requires
 plan-of-requires c κs = search rules
@@ -60,14 +60,14 @@ line-in-turn-requires : tie.Need-line-in-turn-requires
 line-in-turn-requires c κs =
     let s = c.before.before.before.before.before.before.before.before.before in
     let e = c.before.plan-of.ensures in
-    (planned s.args.self s.requires.0 e, c.line-counts.ensures, omega (arith, s.requires.1, lines-of s.args.self s.requires.0 e))
+    (planned s.args.self s.requires.0 e, c.line-counts.ensures, omega (arith, s.requires.1, lines_of_lem s.args.self s.requires.0 e))
 
 turn-alone-requires : tie.Need-turn-alone-requires
 turn-alone-requires c κs =
     let t = c.before.before in
     let d = t.before.before.before in
     let s = d.before.before.before.before.before.before.before in
-    (placed-in s.args.self s.requires.0 t.before.before.plan-of.ensures s.args.n t.line-in-turn.ensures s.args.volume.now (eqb-true _ _ (fit d.before)), directed_of s.args.self s.requires.0 t.before.before.plan-of.ensures s.args.n t.line-in-turn.ensures, d.if2.false)
+    (placed_in s.args.self s.requires.0 t.before.before.plan-of.ensures s.args.n t.line-in-turn.ensures s.args.volume.now (eqb-true _ _ (fit d.before)), directed_of s.args.self s.requires.0 t.before.before.plan-of.ensures s.args.n t.line-in-turn.ensures, d.if2.false)
 
 same-length-3 : tie.Need-same-length-3
 same-length-3 c = c.before.before.before.before.volume.given
@@ -87,9 +87,9 @@ returns-3 c =
     let z = s.args.scratch.now in
     let e = t.before.before.plan-of.ensures in
     let o = a.turn_alone.ensures in
-    turn-refused j n v z NotResidue
-    (pass 6 _ (not_t _ (fit d.before)) (pass 13 _ (le-ltb _ _ d.if2.false) (stop _ (not_f _ (by-false _ _ (own-numbers j s.requires.0 e n t.line-in-turn.ensures o) c.if3.true)))))
-    (left_as a.turn_alone.result (lineSynthesised j n v) v c.if3.true (own-volume j s.requires.0 e n t.line-in-turn.ensures o))
+    turn_refused j n v z NotResidue
+    (pass 6 _ (not_t _ (fit d.before)) (pass 13 _ (le-ltb _ _ d.if2.false) (stop _ (not_f _ (by_false _ _ (own_numbers j s.requires.0 e n t.line-in-turn.ensures o) c.if3.true)))))
+    (left_as a.turn_alone.result (line_synthesised j n v) v c.if3.true (own_volume j s.requires.0 e n t.line-in-turn.ensures o))
     (left_as a.turn_alone.result (cleared z) z c.if3.true o.lent)
 
 same-length-5 : tie.Need-same-length-5
@@ -110,9 +110,9 @@ returns-4 c =
     let z = s.args.scratch.now in
     let e = t.before.before.plan-of.ensures in
     let o = a.turn_alone.ensures in
-    turn-done j n v z
-    (pass 6 _ (not_t _ (fit d.before)) (pass 13 _ (le-ltb _ _ d.if2.false) (pass 7 _ (not_t _ (by-true _ _ (own-numbers j s.requires.0 e n t.line-in-turn.ensures o) c.if3.false)) none)))
-    (made_as a.turn_alone.result (lineSynthesised j n v) v c.if3.false (own-volume j s.requires.0 e n t.line-in-turn.ensures o))
+    turn_done j n v z
+    (pass 6 _ (not_t _ (fit d.before)) (pass 13 _ (le-ltb _ _ d.if2.false) (pass 7 _ (not_t _ (by_true _ _ (own_numbers j s.requires.0 e n t.line-in-turn.ensures o) c.if3.false)) none)))
+    (made_as a.turn_alone.result (line_synthesised j n v) v c.if3.false (own_volume j s.requires.0 e n t.line-in-turn.ensures o))
     (made_as a.turn_alone.result (cleared z) z c.if3.false o.lent)
 
 pub turn_spec : {M : Type 1} → statement M

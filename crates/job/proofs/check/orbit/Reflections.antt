@@ -3,6 +3,6 @@ use mathlib.Core.Path.{◌≡◌, refl}
 use Prim.Native.Nat.{ℕ}
 use Rattle.numbers.specs.Value.{value, value_of}
 
-pub pair-of-numbers : (m x y : ℕ) → value_of m (record { re = x; im = y }) ≡ value m x y
+pub pair_of_numbers : (m x y : ℕ) → value_of m (record { re = x; im = y }) ≡ value m x y
 unfolding value_of
-pair-of-numbers m x y = refl
+pair_of_numbers m x y = refl

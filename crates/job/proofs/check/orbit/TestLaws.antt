@@ -7,51 +7,51 @@ use native.Mathlib.Omega.{arith}
 use lib.Dec.{eqb, ltb}
 use lib.ListN.{get_or, drop}
 use borrow.Author.Tests.{eq-eqb, ne_eqb, lt-ltb, le-ltb}
-use Rattle.algebra.specs.cells.Cell.{J, Sym, Group, full, sameJ, image_of, impliedValue, every, agreesT}
+use Rattle.algebra.specs.cells.Cell.{J, Sym, Group, full, same_j, image_of, implied_value, every, agrees_t}
 use Rattle.numbers.specs.declared.Pair.{Pair}
 use Rattle.numbers.specs.Value.{prime, Value, field, conj, value_of, pair_of}
 use Rattle.numbers.specs.Bounds.{Small}
-use Rattle.numbers.proofs.Values.{pair-value}
-use Rattle.cell.specs.Volume.{numbersRead}
-use Rattle.cell.specs.Consistency.{sameValue, agreesWithItself, orbitNumbers, orbitFree}
-use Rattle.cell.specs.Places.{allBelowAt}
-pub use Rattle.job.specs.TestSteps.{agreesUnder}
+use Rattle.numbers.proofs.Values.{pair_value}
+use Rattle.cell.specs.Volume.{numbers_read}
+use Rattle.cell.specs.Consistency.{same_value, agrees_with_itself, orbit_numbers, orbit_free}
+use Rattle.cell.specs.Places.{all_below_at}
+pub use Rattle.job.specs.TestSteps.{agrees_under}
 
 -- ---- a record that agrees with itself
 
-pub agrees_start : (g : Group) (a : J) (m : ℕ) (j : J) (x : Value m) → agreesWithItself g a m j x ≡ every (drop 0 (full g)) (agreesUnder a m j x)
-unfolding agreesWithItself agreesT
+pub agrees_start : (g : Group) (a : J) (m : ℕ) (j : J) (x : Value m) → agrees_with_itself g a m j x ≡ every (drop 0 (full g)) (agrees_under a m j x)
+unfolding agrees_with_itself agrees_t
 agrees_start g a m j x = refl
 
 -- two pairs that the code holds have the same numbers
-pub same-pair : (m : ℕ) (z : Value m) {x y : Pair} → Small (prime m) x → y ≡ pair_of z → (eqb y.re x.re && eqb y.im x.im) ≡ sameValue z (value_of m x)
+pub same_pair_lem : (m : ℕ) (z : Value m) {x y : Pair} → Small (prime m) x → y ≡ pair_of z → (eqb y.re x.re && eqb y.im x.im) ≡ same_value z (value_of m x)
 unfolding pair_of
-same-pair m z {x} {y} s e = ap₂ (λ (y x : Pair). eqb y.re x.re && eqb y.im x.im) e (sym (pair-value m s))
+same_pair_lem m z {x} {y} s e = ap₂ (λ (y x : Pair). eqb y.re x.re && eqb y.im x.im) e (sym (pair_value m s))
 
-module _ (a : J) (m : ℕ) (j : J) (s : Sym) {i : J} (e : i ≡ image_of a s j) {t : Bool} (f : t ≡ sameJ i j) where
-  own-index : (b : Bool) → t ≡ b → sameJ (image_of a s j) j ≡ b
-  own-index b q = sym (f ∙ ap (λ i. sameJ i j) e) ∙ q
+module _ (a : J) (m : ℕ) (j : J) (s : Sym) {i : J} (e : i ≡ image_of a s j) {t : Bool} (f : t ≡ same_j i j) where
+  own_index : (b : Bool) → t ≡ b → same_j (image_of a s j) j ≡ b
+  own_index b q = sym (f ∙ ap (λ i. same_j i j) e) ∙ q
 
-  pub same-agrees : (x : Pair) → Small (prime m) x → t ≡ true → {y : Pair} → y ≡ pair_of (impliedValue (field m) (conj m) s j (value_of m x)) → {r : Bool} → r ≡ (eqb y.re x.re && eqb y.im x.im) → r ≡ agreesUnder a m j (value_of m x) s
-  same-agrees x l q p r = rw (own-index true q) (r ∙ same-pair m (impliedValue (field m) (conj m) s j (value_of m x)) l p)
+  pub same_agrees : (x : Pair) → Small (prime m) x → t ≡ true → {y : Pair} → y ≡ pair_of (implied_value (field m) (conj m) s j (value_of m x)) → {r : Bool} → r ≡ (eqb y.re x.re && eqb y.im x.im) → r ≡ agrees_under a m j (value_of m x) s
+  same_agrees x l q p r = rw (own_index true q) (r ∙ same_pair_lem m (implied_value (field m) (conj m) s j (value_of m x)) l p)
 
-  pub other-agrees : (x : Value m) → t ≡ false → true ≡ agreesUnder a m j x s
-  other-agrees x q = rw (own-index false q) refl
+  pub other_agrees : (x : Value m) → t ≡ false → true ≡ agrees_under a m j x s
+  other_agrees x q = rw (own_index false q) refl
 
 -- ---- an orbit that is free
 
 -- the test of one operation: the numbers of the image are below 1
-abbrev pub freeUnder : (g : Group) (a : J) (v : List ℕ) (j : J) → Sym → Bool
-freeUnder g a v j s = allBelowAt 1 v (numbersRead g a (image_of a s j))
+abbrev pub free_under : (g : Group) (a : J) (v : List ℕ) (j : J) → Sym → Bool
+free_under g a v j s = all_below_at 1 v (numbers_read g a (image_of a s j))
 
-zero-below : (x : ℕ) → eqb x 0 ≡ ltb x 1
-zero-below zero = eq-eqb 0 0 refl ∙ sym (lt-ltb 0 1 (omega arith))
-zero-below (suc x) = ne_eqb (suc x) 0 (λ e. omega arith) ∙ sym (le-ltb (suc x) 1 (omega arith))
+zero_below : (x : ℕ) → eqb x 0 ≡ ltb x 1
+zero_below zero = eq-eqb 0 0 refl ∙ sym (lt-ltb 0 1 (omega arith))
+zero_below (suc x) = ne_eqb (suc x) 0 (λ e. omega arith) ∙ sym (le-ltb (suc x) 1 (omega arith))
 
-zeros-below : (v l : List ℕ) → every l (λ q. eqb (get_or v q 0) 0) ≡ allBelowAt 1 v l
+zeros_below : (v l : List ℕ) → every l (λ q. eqb (get_or v q 0) 0) ≡ all_below_at 1 v l
 unfolding every
-zeros-below v [] = refl
-zeros-below v (q ∷ l) = ap₂ ◌&&◌ (zero-below (get_or v q 0)) (zeros-below v l)
+zeros_below v [] = refl
+zeros_below v (q ∷ l) = ap₂ ◌&&◌ (zero_below (get_or v q 0)) (zeros_below v l)
 
 all_append : (P : ℕ → Bool) (l k : List ℕ) → every (l ++ k) P ≡ (every l P && every k P)
 unfolding every
@@ -63,15 +63,15 @@ all_append P (q ∷ l) k = ap (λ b. P q && b) (all_append P l k) ∙ sym (and_a
     and_assoc false b c = refl
 
 module _ (g : Group) (a : J) (v : List ℕ) (j : J) where
-  orbit-every : (l : List Sym) → allBelowAt 1 v (orbitNumbers g a l j) ≡ every l (freeUnder g a v j)
-  unfolding orbitNumbers every
-  orbit-every [] = refl
-  orbit-every (s ∷ l) = all_append (λ q. ltb (get_or v q 0) 1) (numbersRead g a (image_of a s j)) (orbitNumbers g a l j) ∙ ap (λ b. freeUnder g a v j s && b) (orbit-every l)
+  orbit_every : (l : List Sym) → all_below_at 1 v (orbit_numbers g a l j) ≡ every l (free_under g a v j)
+  unfolding orbit_numbers every
+  orbit_every [] = refl
+  orbit_every (s ∷ l) = all_append (λ q. ltb (get_or v q 0) 1) (numbers_read g a (image_of a s j)) (orbit_numbers g a l j) ∙ ap (λ b. free_under g a v j s && b) (orbit_every l)
 
-  pub orbit-start : orbitFree g a v j ≡ every (drop 0 (full g)) (freeUnder g a v j)
-  unfolding orbitFree
-  orbit-start = zeros-below v (orbitNumbers g a (full g) j) ∙ orbit-every (full g)
+  pub orbit_start : orbit_free g a v j ≡ every (drop 0 (full g)) (free_under g a v j)
+  unfolding orbit_free
+  orbit_start = zeros_below v (orbit_numbers g a (full g) j) ∙ orbit_every (full g)
 
   -- the code's test, made of the image
-  pub image-free : (s : Sym) {i : J} {t : Bool} → i ≡ image_of a s j → t ≡ allBelowAt 1 v (numbersRead g a i) → t ≡ freeUnder g a v j s
-  image-free s e f = f ∙ ap (λ i. allBelowAt 1 v (numbersRead g a i)) e
+  pub image_free : (s : Sym) {i : J} {t : Bool} → i ≡ image_of a s j → t ≡ all_below_at 1 v (numbers_read g a i) → t ≡ free_under g a v j s
+  image_free s e f = f ∙ ap (λ i. all_below_at 1 v (numbers_read g a i)) e

@@ -2,10 +2,10 @@
 use borrow.Author.Rules.{rules}
 use mathlib.Core.Path.{◌≡◌, ◌∙◌, sym, ap}
 use Rattle.refusals.specs.Refusals.{first}
-use Rattle.refusals.specs.Checks.{checkedNumber}
-use Rattle.job.specs.Job.{Header, openTests}
-use Rattle.job.proofs.check.Openings.{header-passed}
-use Rattle.job.proofs.Openings.{open-refused, open-collects, open-map}
+use Rattle.refusals.specs.Checks.{checked_number}
+use Rattle.job.specs.Job.{Header, open_tests}
+use Rattle.job.proofs.check.Openings.{header_passed}
+use Rattle.job.proofs.Openings.{open_refused, open_collects, open_map}
 use Rattle.job.proofs.open.open.Statement.{statement}
 use Rattle.job.proofs.open.open.Tie as tie
 
@@ -13,12 +13,12 @@ abbrev header : tie.Start → Header
 header s = let a = s.args in record { group = a.group; lengths = (a.n1, a.n2, a.n3); list1 = a.f1.now; list2 = a.f2.now; list3 = a.f3.now }
 
 -- the check's number
-told : (c : tie.After-check-open) → let s = c.before.before.before.before.before.before in checkedNumber c.check-open.result ≡ first (openTests s.args.modulus (header s) s.args.kind s.args.volume.now)
+told : (c : tie.After-check-open) → let s = c.before.before.before.before.before.before in checked_number c.check-open.result ≡ first (open_tests s.args.modulus (header s) s.args.kind s.args.volume.now)
 told c = c.check-open.ensures
 
 -- no test holds
-none : (c : tie.After-enum-told) → let s = c.before.before.before.before.before.before.before.before in 0 ≡ first (openTests s.args.modulus (header s) s.args.kind s.args.volume.now)
-none c = ap checkedNumber (sym c.enum_told.given.1) ∙ told c.before.before
+none : (c : tie.After-enum-told) → let s = c.before.before.before.before.before.before.before.before in 0 ≡ first (open_tests s.args.modulus (header s) s.args.kind s.args.volume.now)
+none c = ap checked_number (sym c.enum_told.given.1) ∙ told c.before.before
 
 check-open-requires : tie.Need-check-open-requires
 check-open-requires c κs = search rules
@@ -36,13 +36,13 @@ opened-requires : tie.Need-opened-requires
 opened-requires c κs =
     let t = c.before.before.before.before.before in
     let s = t.before.before.before.before.before.before.before.before in
-    header-passed s.args.modulus (header s) s.args.kind s.args.volume.now (none t)
+    header_passed s.args.modulus (header s) s.args.kind s.args.volume.now (none t)
 
 opened-requires-2 : tie.Need-opened-requires-2
 opened-requires-2 c κs =
     let t = c.before in
     let s = t.before.before.before.before.before.before.before.before in
-    header-passed s.args.modulus (header s) s.args.kind s.args.volume.now (none t)
+    header_passed s.args.modulus (header s) s.args.kind s.args.volume.now (none t)
 
 same_length : tie.Need-same-length
 same_length c = search rules
@@ -51,7 +51,7 @@ returns : tie.Need-returns
 returns c =
     let k = c.before.before.before in
     let s = k.before.before.before.before.before.before in
-    open-refused s.args.modulus (header s) s.args.kind s.args.volume.now c.before.checked.given.0.0 (ap checkedNumber (sym c.before.checked.given.1) ∙ told k)
+    open_refused s.args.modulus (header s) s.args.kind s.args.volume.now c.before.checked.given.0.0 (ap checked_number (sym c.before.checked.given.1) ∙ told k)
 
 same-length-2 : tie.Need-same-length-2
 same-length-2 c = search rules
@@ -62,7 +62,7 @@ returns-2 c =
     let i = l.before.before in
     let t = i.before in
     let s = t.before.before.before.before.before.before.before.before in
-    open-collects s.args.modulus (header s) s.args.kind s.args.volume.now _ _ (none t) i.if1.true c.opened.ensures l.zero.ensures
+    open_collects s.args.modulus (header s) s.args.kind s.args.volume.now _ _ (none t) i.if1.true c.opened.ensures l.zero.ensures
 
 same-length-3 : tie.Need-same-length-3
 same-length-3 c = search rules
@@ -72,7 +72,7 @@ returns-3 c =
     let i = c.before in
     let t = i.before in
     let s = t.before.before.before.before.before.before.before.before in
-    open-map s.args.modulus (header s) s.args.kind s.args.volume.now _ (none t) i.if1.false c.opened2.ensures
+    open_map s.args.modulus (header s) s.args.kind s.args.volume.now _ (none t) i.if1.false c.opened2.ensures
 
 pub open_spec : {M : Type 1} → statement M
 open_spec =

@@ -9,5 +9,5 @@ unit-cell-requires c κs = search rules
 returns : tie.Need-returns
 returns c = rw c.unit-cell.ensures
 
-pub plan-of-spec : {M : Type 1} → statement M
-plan-of-spec = tie.close (tie.spec unit-cell-requires returns)
+pub plan_of_spec : {M : Type 1} → statement M
+plan_of_spec = tie.close (tie.spec unit-cell-requires returns)

@@ -6,7 +6,7 @@ use mir.Syntax.{w64}
 use mir.ValLaws.{to_z_pos}
 use Rattle.job.specs.declared.FactorAnswer.{FactorAnswer}
 use Rattle.job.specs.declared.reply.Reply.{Reply}
-use Rattle.job.specs.Answers.{saidFactor, replyOf}
+use Rattle.job.specs.Answers.{said_factor, reply_of}
 use Rattle.job.proofs.reply.of_factor.Statement.{statement}
 use Rattle.job.proofs.reply.of_factor.Tie as tie
 
@@ -29,13 +29,13 @@ returns : tie.Need-returns
 returns c =
     let x = c.before.answer.given.0.0 in
     let y = c.before.answer.given.0.1.0 in
-    ap₂ {C = Reply} (λ x y. record { number = 0; x = x; y = y }) (to_z_pos w64 x (omega arith)) (to_z_pos w64 y (omega arith)) ∙ ap (λ (a : FactorAnswer). replyOf (saidFactor a)) (sym c.before.answer.given.1)
+    ap₂ {C = Reply} (λ x y. record { number = 0; x = x; y = y }) (to_z_pos w64 x (omega arith)) (to_z_pos w64 y (omega arith)) ∙ ap (λ (a : FactorAnswer). reply_of (said_factor a)) (sym c.before.answer.given.1)
 
 returns-2 : tie.Need-returns-2
-returns-2 c = c.of-refusal.ensures ∙ ap (λ (a : FactorAnswer). replyOf (saidFactor a)) (sym c.before.before.answer2.given.1)
+returns-2 c = c.of-refusal.ensures ∙ ap (λ (a : FactorAnswer). reply_of (said_factor a)) (sym c.before.before.answer2.given.1)
 
-pub of-factor-spec : {M : Type 1} → statement M
-of-factor-spec =
+pub of_factor_spec : {M : Type 1} → statement M
+of_factor_spec =
     tie.close
     (tie.spec
     enum-known-answer

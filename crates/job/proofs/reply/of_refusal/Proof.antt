@@ -13,5 +13,5 @@ number-of-requires c κs = search rules
 returns : tie.Need-returns
 returns c = ap {B = Reply} (λ (n : ℕ). record { number = n; x = pos 0; y = pos 0 }) c.number_of_lem.ensures
 
-pub of-refusal-spec : {M : Type 1} → statement M
-of-refusal-spec = tie.close (tie.spec number-of-requires returns)
+pub of_refusal_spec : {M : Type 1} → statement M
+of_refusal_spec = tie.close (tie.spec number-of-requires returns)

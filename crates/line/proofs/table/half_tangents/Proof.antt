@@ -3,8 +3,8 @@ use borrow.Author.Rules.{rules}
 use native.Mathlib.Omega.{arith}
 use mathlib.Core.Path.{◌≡◌}
 use lib.ListN.{length}
-use Rattle.roots.proofs.RootPowers.{tangent-below}
-use Rattle.line.proofs.table.Directions.{as-it-is, negated-table}
+use Rattle.roots.proofs.RootPowers.{tangent_below}
+use Rattle.line.proofs.table.Directions.{as_it_is, negated_table}
 use Rattle.line.proofs.table.half_tangents.Statement.{statement}
 use Rattle.line.proofs.table.half_tangents.Tie as tie
 
@@ -16,21 +16,21 @@ half-tangents-requires : tie.Need-half-tangents-requires
 half-tangents-requires c κs = search rules
 
 returns : tie.Need-returns
-returns c = let t = c.before in as-it-is (count t) t.half-tangents.ensures c.if1.true
+returns c = let t = c.before in as_it_is (count t) t.half-tangents.ensures c.if1.true
 
 slice-aggregate-negate : tie.Need-slice-aggregate-negate
 slice-aggregate-negate c = search rules
 
 negate-requires : tie.Need-negate-requires
-negate-requires c κs = let t = c.before.before in (t.before.requires, tangent-below t.before.args.m t.half-tangents.ensures (count t))
+negate-requires c κs = let t = c.before.before in (t.before.requires, tangent_below t.before.args.m t.half-tangents.ensures (count t))
 
 returns-2 : tie.Need-returns-2
 returns-2 c =
     let i = c.before.before.before in
     let t = i.before in
-    negated-table (count t) t.half-tangents.ensures t.before.args.direction i.if1.false c.before.negate.ensures
+    negated_table (count t) t.half-tangents.ensures t.before.args.direction i.if1.false c.before.negate.ensures
 
-pub half-tangents-spec : {M : Type 1} → statement M
-half-tangents-spec =
+pub half_tangents_spec : {M : Type 1} → statement M
+half_tangents_spec =
     tie.close
     (tie.spec half-tangents-requires returns slice-aggregate-negate negate-requires returns-2)

@@ -9,15 +9,15 @@ use Rattle.lengths.specs.Lengths.{kind_of}
 use Rattle.lengths.specs.Admitted.{Factored}
 use Rattle.fold_formulas.specs.FoldFormulas.{Frame, folded}
 use Rattle.line.specs.Line.{transformed}
-use Rattle.line.proofs.kinds.Dispatch.{hermitian-kind, mirror-kind, frame-of, half-list, half_count, count_of, folded-by}
+use Rattle.line.proofs.kinds.Dispatch.{hermitian_kind_lem, mirror_kind_lem, frame_of, half_list, half_count, count_of, folded_by}
 use Rattle.line.proofs.transform.folded.Statement.{statement}
 use Rattle.line.proofs.transform.folded.Tie as tie
 
 frame : (s : tie.Start) → Frame s.args.m s.args.a s.args.re.now s.args.im.now
-frame s = frame-of s.args.a s.requires.1.0.0 s.requires.0.0 s.requires.0.4.powers
+frame s = frame_of s.args.a s.requires.1.0.0 s.requires.0.0 s.requires.0.4.powers
 
 list : (s : tie.Start) → Factored s.args.factors s.args.a
-list s = half-list s.args.a s.requires.1.0.0 s.requires.1.0.1
+list s = half_list s.args.a s.requires.1.0.0 s.requires.1.0.1
 
 -- a direction that is not 0 is 1
 other : (s : tie.Start) → (s.args.direction ≡ 0 → ⊥) → s.args.direction ≡ 1
@@ -27,7 +27,7 @@ other s n = omega (arith, s.requires.0.3, n)
 left : (s : tie.Start) {k : Kind} → kind_of s.args.kind ≡ k → {d : ℕ} → s.args.direction ≡ d → {l : List ℕ}
     → l ≡ list_of (slots k s.args.a) (folded s.args.m d s.args.a s.args.re.now s.args.im.now s.args.tan.now k (values_of s.args.m s.args.line.now))
     → l ≡ transformed s.args.m s.args.kind s.args.direction (2 * s.args.a) s.args.line.now
-left s e o h = folded-by s.args.a s.requires.1.0.0 s.args.m s.requires.0.0 s.args.kind s.args.line.now s.requires.0.4 e o h
+left s e o h = folded_by s.args.a s.requires.1.0.0 s.args.m s.requires.0.0 s.args.kind s.args.line.now s.requires.0.4 e o h
 
 forward-requires : tie.Need-forward-requires
 forward-requires c κs =
@@ -58,12 +58,12 @@ cast-first c = omega arith
 forward-requires-3 : tie.Need-forward-requires-3
 forward-requires-3 c κs =
     let s = c.before.before.before.before.before.before.before.before.before in
-    ((frame s, s.requires.0.4.small, list s, omega arith), ((count_of s.args.a s.requires.1.0.0 s.args.kind (mirror-kind s.args.kind (omega arith) s.requires.0.2) s.requires.1.1.0.0, s.requires.1.1.1.0, s.requires.1.1.1.1), s.requires.1.1.0.1))
+    ((frame s, s.requires.0.4.small, list s, omega arith), ((count_of s.args.a s.requires.1.0.0 s.args.kind (mirror_kind_lem s.args.kind (omega arith) s.requires.0.2) s.requires.1.1.0.0, s.requires.1.1.1.0, s.requires.1.1.1.1), s.requires.1.1.0.1))
 
 inverse-requires-3 : tie.Need-inverse-requires-3
 inverse-requires-3 c κs =
     let s = c.before.before.before.before.before.before.before.before.before in
-    ((frame s, s.requires.0.4.small, list s, omega arith), ((count_of s.args.a s.requires.1.0.0 s.args.kind (mirror-kind s.args.kind (omega arith) s.requires.0.2) s.requires.1.1.0.0, s.requires.1.1.1.0, s.requires.1.1.1.1), s.requires.1.1.0.1))
+    ((frame s, s.requires.0.4.small, list s, omega arith), ((count_of s.args.a s.requires.1.0.0 s.args.kind (mirror_kind_lem s.args.kind (omega arith) s.requires.0.2) s.requires.1.1.0.0, s.requires.1.1.1.0, s.requires.1.1.1.1), s.requires.1.1.0.1))
 
 same_length : tie.Need-same-length
 same_length c = c.before.before.before.before.before.line.given
@@ -78,7 +78,7 @@ returns : tie.Need-returns
 returns c =
     let r = c.before.before.before.before.before.before in
     let s = r.before.before.before.before.before.before.before.before.before in
-    left s (hermitian-kind s.args.kind s.requires.0.1 (omega arith)) r.before.before.before.before.if2.true (r.forward.ensures s.args.tan.now)
+    left s (hermitian_kind_lem s.args.kind s.requires.0.1 (omega arith)) r.before.before.before.before.if2.true (r.forward.ensures s.args.tan.now)
 
 same-length-4 : tie.Need-same-length-4
 same-length-4 c = c.before.before.before.before.before.line2.given
@@ -93,7 +93,7 @@ returns-2 : tie.Need-returns-2
 returns-2 c =
     let r = c.before.before.before.before.before.before in
     let s = r.before.before.before.before.before.before.before.before.before in
-    left s (hermitian-kind s.args.kind s.requires.0.1 (omega arith)) (other s r.before.before.before.before.if2.false) (r.inverse.ensures s.args.tan.now)
+    left s (hermitian_kind_lem s.args.kind s.requires.0.1 (omega arith)) (other s r.before.before.before.before.if2.false) (r.inverse.ensures s.args.tan.now)
 
 same-length-7 : tie.Need-same-length-7
 same-length-7 c = c.before.before.before.before.before.line3.given
@@ -140,7 +140,7 @@ returns-5 : tie.Need-returns-5
 returns-5 c =
     let r = c.before.before.before.before.before.before in
     let s = r.before.before.before.before.before.before.before.before.before.before in
-    left s (mirror-kind s.args.kind (omega arith) s.requires.0.2) r.before.before.before.before.if5.true r.forward3.ensures
+    left s (mirror_kind_lem s.args.kind (omega arith) s.requires.0.2) r.before.before.before.before.if5.true r.forward3.ensures
 
 same-length-16 : tie.Need-same-length-16
 same-length-16 c = c.before.before.before.before.before.line6.given
@@ -155,10 +155,10 @@ returns-6 : tie.Need-returns-6
 returns-6 c =
     let r = c.before.before.before.before.before.before in
     let s = r.before.before.before.before.before.before.before.before.before.before in
-    left s (mirror-kind s.args.kind (omega arith) s.requires.0.2) (other s r.before.before.before.before.if5.false) r.inverse3.ensures
+    left s (mirror_kind_lem s.args.kind (omega arith) s.requires.0.2) (other s r.before.before.before.before.if5.false) r.inverse3.ensures
 
-pub folded-spec : {M : Type 1} → statement M
-folded-spec =
+pub folded_spec : {M : Type 1} → statement M
+folded_spec =
     tie.close
     (tie.spec
     forward-requires

@@ -6,14 +6,14 @@ use mathlib.Core.List.{List, ◌++◌}
 use Prim.Native.Nat.{ℕ, ◌*◌}
 use lib.ListN.{length, take, drop}
 use Rattle.algebra.specs.lines.Kinds.{slots}
-use Rattle.lengths.specs.Lengths.{kind_of, octal, octalDigits, doubledList}
+use Rattle.lengths.specs.Lengths.{kind_of, octal, octal_digits, doubled_list}
 use Rattle.lengths.specs.Admitted.{Factored}
-use Rattle.roots.specs.Table.{tableRoot}
-use Rattle.plain.specs.Plain.{workAfter}
-use Rattle.lengths.proofs.stage.Doubling.{doubled-factored}
-use Rattle.line.specs.EverySplit.{plainWork}
-use Rattle.line.proofs.kinds.Dispatch.{prefix-length, half-list, count_of, plain_by, plain-back-by}
-use Rattle.line.proofs.kinds.Work.{plain-work}
+use Rattle.roots.specs.Table.{table_root}
+use Rattle.plain.specs.Plain.{work_after}
+use Rattle.lengths.proofs.stage.Doubling.{doubled_factored}
+use Rattle.line.specs.EverySplit.{plain_work}
+use Rattle.line.proofs.kinds.Dispatch.{prefix_length, half_list, count_of, plain_by, plain_back_by}
+use Rattle.line.proofs.kinds.Work.{plain_work_lem}
 use Rattle.line.proofs.transform.transform.Statement.{statement}
 use Rattle.line.proofs.transform.transform.Tie as tie
 
@@ -22,14 +22,14 @@ other : (s : tie.Start) → (s.args.direction ≡ 0 → ⊥) → s.args.directio
 other s n = omega (arith, s.requires.0.2, n)
 
 -- the list of twice the length
-doubled-list : (s : tie.Start) {r : ℕ} → r ≡ octal (doubledList (octalDigits s.args.factors)) → Factored r (2 * s.args.a)
-doubled-list s e = subst (λ r. Factored r (2 * s.args.a)) (sym e) (doubled-factored (half-list s.args.a s.requires.1.0.0 s.requires.1.0.1))
+doubled-list : (s : tie.Start) {r : ℕ} → r ≡ octal (doubled_list (octal_digits s.args.factors)) → Factored r (2 * s.args.a)
+doubled-list s e = subst (λ r. Factored r (2 * s.args.a)) (sym e) (doubled_factored (half_list s.args.a s.requires.1.0.0 s.requires.1.0.1))
 
 -- what its steps leave of the work slice
-work-left : (s : tie.Start) {r : ℕ} → r ≡ octal (doubledList (octalDigits s.args.factors)) → {left : List ℕ}
-    → left ≡ workAfter s.args.m (tableRoot s.args.m s.args.re.now s.args.im.now) (octalDigits r) (length (octalDigits r)) s.args.line.now (take (2 * (2 * s.args.a)) s.args.work.now)
-    → left ++ drop (2 * (2 * s.args.a)) s.args.work.now ≡ plainWork s.args.m s.args.direction s.args.a (octalDigits s.args.factors) s.args.line.now s.args.work.now
-work-left s e h = plain-work (half-list s.args.a s.requires.1.0.0 s.requires.1.0.1) s.args.a s.args.m s.requires.0.3 s.args.line.now s.args.work.now e h
+work-left : (s : tie.Start) {r : ℕ} → r ≡ octal (doubled_list (octal_digits s.args.factors)) → {left : List ℕ}
+    → left ≡ work_after s.args.m (table_root s.args.m s.args.re.now s.args.im.now) (octal_digits r) (length (octal_digits r)) s.args.line.now (take (2 * (2 * s.args.a)) s.args.work.now)
+    → left ++ drop (2 * (2 * s.args.a)) s.args.work.now ≡ plain_work s.args.m s.args.direction s.args.a (octal_digits s.args.factors) s.args.line.now s.args.work.now
+work-left s e h = plain_work_lem (half_list s.args.a s.requires.1.0.0 s.requires.1.0.1) s.args.a s.args.m s.requires.0.3 s.args.line.now s.args.work.now e h
 
 mul-n : tie.Need-overflow-mul-n
 mul-n c = let s = c.before.before.before.before in omega (arith, s.requires.1.0.0.short)
@@ -44,7 +44,7 @@ slice-relend-prefix-points : tie.Need-slice-relend-prefix-points
 slice-relend-prefix-points c = let s = c.before.before.before.before.before in omega (arith, s.requires.1.0.0.short, s.requires.1.1.1)
 
 slice-aggregate-points : tie.Need-slice-aggregate-points
-slice-aggregate-points c = let s = c.before.before.before.before.before.before in sym (prefix-length _ s.args.work.now (omega (arith, s.requires.1.0.0.short, s.requires.1.1.1)))
+slice-aggregate-points c = let s = c.before.before.before.before.before.before in sym (prefix_length _ s.args.work.now (omega (arith, s.requires.1.0.0.short, s.requires.1.1.1)))
 
 transform-requires : tie.Need-transform-requires
 unfolding slots
@@ -55,7 +55,7 @@ transform-requires c κs =
       (s.requires.0.0, s.requires.0.3.powers),
       (
         (doubled-list s d.doubled.ensures, s.requires.1.0.0.turns),
-        ((count_of s.args.a s.requires.1.0.0 s.args.kind (ap kind_of e) s.requires.1.1.0.0, prefix-length _ s.args.work.now (omega (arith, s.requires.1.0.0.short, s.requires.1.1.1))), s.requires.1.1.0.1),
+        ((count_of s.args.a s.requires.1.0.0 s.args.kind (ap kind_of e) s.requires.1.1.0.0, prefix_length _ s.args.work.now (omega (arith, s.requires.1.0.0.short, s.requires.1.1.1))), s.requires.1.1.0.1),
       ),
     )
 
@@ -68,7 +68,7 @@ inverse-requires c κs =
       (s.requires.0.0, s.requires.0.3.powers),
       (
         (doubled-list s d.doubled.ensures, s.requires.1.0.0.turns),
-        ((count_of s.args.a s.requires.1.0.0 s.args.kind (ap kind_of e) s.requires.1.1.0.0, prefix-length _ s.args.work.now (omega (arith, s.requires.1.0.0.short, s.requires.1.1.1))), s.requires.1.1.0.1),
+        ((count_of s.args.a s.requires.1.0.0 s.args.kind (ap kind_of e) s.requires.1.1.0.0, prefix_length _ s.args.work.now (omega (arith, s.requires.1.0.0.short, s.requires.1.1.1))), s.requires.1.1.0.1),
       ),
     )
 
@@ -79,19 +79,19 @@ slice-relend-prefix-folded : tie.Need-slice-relend-prefix-folded
 slice-relend-prefix-folded c = let s = c.before.before.before.before.before in omega (arith, s.requires.1.0.0.short, s.requires.1.1.1)
 
 slice-aggregate-folded : tie.Need-slice-aggregate-folded
-slice-aggregate-folded c = let s = c.before.before.before.before.before.before in sym (prefix-length _ s.args.fold.now (omega (arith, s.requires.1.0.0.short, s.requires.1.1.1)))
+slice-aggregate-folded c = let s = c.before.before.before.before.before.before in sym (prefix_length _ s.args.fold.now (omega (arith, s.requires.1.0.0.short, s.requires.1.1.1)))
 
 slice-relend-prefix-folded-2 : tie.Need-slice-relend-prefix-folded-2
 slice-relend-prefix-folded-2 c = let s = c.before.before.before.before.before.before in omega (arith, s.requires.1.0.0.short, s.requires.1.1.1)
 
 slice-aggregate-folded-2 : tie.Need-slice-aggregate-folded-2
-slice-aggregate-folded-2 c = let s = c.before.before.before.before.before.before.before in sym (prefix-length _ s.args.work.now (omega (arith, s.requires.1.0.0.short, s.requires.1.1.1)))
+slice-aggregate-folded-2 c = let s = c.before.before.before.before.before.before.before in sym (prefix_length _ s.args.work.now (omega (arith, s.requires.1.0.0.short, s.requires.1.1.1)))
 
 folded-requires : tie.Need-folded-requires
 folded-requires c κs =
     let s = c.before.before.before.before.before.before.before in (
       (s.requires.0.0, omega arith, s.requires.0.1, s.requires.0.2, s.requires.0.3.folding (λ (e : s.args.kind ≡ 0). omega arith)),
-      (s.requires.1.0, (s.requires.1.1.0, (prefix-length _ s.args.fold.now (omega (arith, s.requires.1.0.0.short, s.requires.1.1.1)), prefix-length _ s.args.work.now (omega (arith, s.requires.1.0.0.short, s.requires.1.1.1))))),
+      (s.requires.1.0, (s.requires.1.1.0, (prefix_length _ s.args.fold.now (omega (arith, s.requires.1.0.0.short, s.requires.1.1.1)), prefix_length _ s.args.work.now (omega (arith, s.requires.1.0.0.short, s.requires.1.1.1))))),
     )
 
 same_length : tie.Need-same-length
@@ -122,7 +122,7 @@ returns-2 c =
     let i = r.before.before in
     let s = i.before.before.before.before.before.before.before in
     let e : s.args.kind ≡ 0 = omega arith in (
-      plain-back-by s.args.a s.requires.1.0.0 s.args.m s.requires.0.0 s.args.kind s.args.line.now s.requires.0.3 e (other s i.if2.false) r.inverse.ensures.0,
+      plain_back_by s.args.a s.requires.1.0.0 s.args.m s.requires.0.0 s.args.kind s.args.line.now s.requires.0.3 e (other s i.if2.false) r.inverse.ensures.0,
       λ _. work-left s i.before.before.doubled.ensures r.inverse.ensures.1,
     )
 
@@ -140,8 +140,8 @@ returns-3 c =
     let r = c.before.before.before.before.before.before in
     (r.folded.ensures, λ e. absurd (omega (arith, e)))
 
-pub transform-spec : {M : Type 1} → statement M
-transform-spec =
+pub transform_spec : {M : Type 1} → statement M
+transform_spec =
     tie.close
     (tie.spec
     mul-n

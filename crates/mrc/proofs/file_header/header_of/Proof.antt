@@ -6,17 +6,17 @@ use lib.IntN.{ℤ, nat_abs}
 use mir.Syntax.{w64}
 use mir.Val.{to_z, of_z}
 use mir.ValLaws.{to_z-of_z}
-use Rattle.cell.specs.Operations.{cellLengths}
-use Rattle.mrc.specs.Floats.{Float, exactLimit}
-use Rattle.mrc.specs.Header.{headed, headerOf}
-use Rattle.mrc.proofs.EdgesAngles.{right-angle-is}
+use Rattle.cell.specs.Operations.{cell_lengths}
+use Rattle.mrc.specs.Floats.{Float, exact_limit}
+use Rattle.mrc.specs.Header.{headed, header_of}
+use Rattle.mrc.proofs.EdgesAngles.{right_angle_is}
 use Rattle.mrc.proofs.file_header.header_of.Statement.{statement}
 use Rattle.mrc.proofs.file_header.header_of.Tie as tie
 
-within : (c : tie.Start) → (nat_abs (to_z w64 (of_z w64 c.args.least)) ≤ exactLimit) × (nat_abs (to_z w64 (of_z w64 c.args.greatest)) ≤ exactLimit)
+within : (c : tie.Start) → (nat_abs (to_z w64 (of_z w64 c.args.least)) ≤ exact_limit) × (nat_abs (to_z w64 (of_z w64 c.args.greatest)) ≤ exact_limit)
 within c = (
-  subst (λ (z : ℤ). nat_abs z ≤ exactLimit) (sym (to_z-of_z w64 c.args.least c.ranges.least)) c.requires.0,
-  subst (λ (z : ℤ). nat_abs z ≤ exactLimit) (sym (to_z-of_z w64 c.args.greatest c.ranges.greatest)) c.requires.1,
+  subst (λ (z : ℤ). nat_abs z ≤ exact_limit) (sym (to_z-of_z w64 c.args.least c.ranges.least)) c.requires.0,
+  subst (λ (z : ℤ). nat_abs z ≤ exact_limit) (sym (to_z-of_z w64 c.args.greatest c.ranges.greatest)) c.requires.1,
 )
 
 enum-known-parameters : tie.Need-enum-known-parameters
@@ -33,15 +33,15 @@ headed-requires-2 c κs = within c.before.before.before
 
 -- the least and the greatest as the machine hands them on
 held : (c : tie.Start) → let a = c.args in
-    headerOf (cellLengths a.cell) a.parameters (to_z w64 (of_z w64 a.least)) (to_z w64 (of_z w64 a.greatest)) ≡ headerOf (cellLengths a.cell) a.parameters a.least a.greatest
-held c = let a = c.args in ap₂ (headerOf (cellLengths a.cell) a.parameters) (to_z-of_z w64 a.least c.ranges.least) (to_z-of_z w64 a.greatest c.ranges.greatest)
+    header_of (cell_lengths a.cell) a.parameters (to_z w64 (of_z w64 a.least)) (to_z w64 (of_z w64 a.greatest)) ≡ header_of (cell_lengths a.cell) a.parameters a.least a.greatest
+held c = let a = c.args in ap₂ (header_of (cell_lengths a.cell) a.parameters) (to_z-of_z w64 a.least c.ranges.least) (to_z-of_z w64 a.greatest c.ranges.greatest)
 
 returns : tie.Need-returns
 returns c =
     let p = c.before.before in
     let s = p.before.before in
     let a = s.args in
-    c.headed.ensures ∙ ap (λ q. headerOf (cellLengths a.cell) q (to_z w64 (of_z w64 a.least)) (to_z w64 (of_z w64 a.greatest))) (sym p.parameters.given.1) ∙ held s
+    c.headed.ensures ∙ ap (λ q. header_of (cell_lengths a.cell) q (to_z w64 (of_z w64 a.least)) (to_z w64 (of_z w64 a.greatest))) (sym p.parameters.given.1) ∙ held s
 
 returns-2 : tie.Need-returns-2
 returns-2 c =
@@ -50,12 +50,12 @@ returns-2 c =
     let a = s.args in
     let f = p.parameters2.given.0 in
     c.headed2.ensures
-    ∙ ap (λ (x : Float). headed (cellLengths a.cell) f.0 f.1.0 f.1.1.0 x x f.1.1.1.0 (to_z w64 (of_z w64 a.least)) (to_z w64 (of_z w64 a.greatest))) (sym right-angle-is)
-    ∙ ap (λ q. headerOf (cellLengths a.cell) q (to_z w64 (of_z w64 a.least)) (to_z w64 (of_z w64 a.greatest))) (sym p.parameters2.given.1)
+    ∙ ap (λ (x : Float). headed (cell_lengths a.cell) f.0 f.1.0 f.1.1.0 x x f.1.1.1.0 (to_z w64 (of_z w64 a.least)) (to_z w64 (of_z w64 a.greatest))) (sym right_angle_is)
+    ∙ ap (λ q. header_of (cell_lengths a.cell) q (to_z w64 (of_z w64 a.least)) (to_z w64 (of_z w64 a.greatest))) (sym p.parameters2.given.1)
     ∙ held s
 
-pub header-of-spec : {M : Type 1} → statement M
-header-of-spec =
+pub header_of_spec : {M : Type 1} → statement M
+header_of_spec =
     tie.close
     (tie.spec
     enum-known-parameters

@@ -1,7 +1,7 @@
 -- Ten floats by their bits, none of them a NaN.
 use mathlib.Core.List.{[], ◌∷◌, ◌++◌}
 use lib.ListN.{replicate}
-use Rattle.mrc.specs.Header.{headerWords}
+use Rattle.mrc.specs.Header.{header_words}
 use Rattle.mrc.proofs.file_header.header_words.Statement.{statement}
 use Rattle.mrc.proofs.file_header.header_words.Tie as tie
 
@@ -36,7 +36,7 @@ bits-of-requires-10 : tie.Need-bits-of-requires-10
 bits-of-requires-10 c κs = c.before.before.before.before.before.before.before.before.before.requires.rms
 
 returns : tie.Need-returns
-unfolding headerWords
+unfolding header_words
 returns c =
     let h = c.before.before.before.before.before.before.before.before.before.before.args.h in
     let e1 = c.before.before.before.before.before.before.before.before.before.bits_of.ensures in
@@ -51,8 +51,8 @@ returns c =
     let e10 = c.bits-of10.ensures in
     λ i. h.n1 ∷ h.n2 ∷ h.n3 ∷ 2 ∷ 0 ∷ 0 ∷ 0 ∷ h.n1 ∷ h.n2 ∷ h.n3 ∷ e1 i ∷ e2 i ∷ e3 i ∷ e4 i ∷ e5 i ∷ e6 i ∷ 1 ∷ 2 ∷ 3 ∷ e7 i ∷ e8 i ∷ e9 i ∷ 1 ∷ 0 ∷ 0 ∷ 0 ∷ 0 ∷ 20140 ∷ (replicate 24 0 ++ 542130509 ∷ 17476 ∷ e10 i ∷ [])
 
-pub header-words-spec : {M : Type 1} → statement M
-header-words-spec =
+pub header_words_spec : {M : Type 1} → statement M
+header_words_spec =
     tie.close
     (tie.spec
     bits-of-requires

@@ -17,5 +17,5 @@ returns c = search rules
 returns-2 : tie.Need-returns-2
 returns-2 c = sym (get_or-eq_default c.before.args.words.now 0 c.if1.false)
 
-pub word-at-spec : {M : Type 1} → statement M
-word-at-spec = tie.close (tie.spec mul-result shared-slice-read-result returns returns-2)
+pub word_at_spec : {M : Type 1} → statement M
+word_at_spec = tie.close (tie.spec mul-result shared-slice-read-result returns returns-2)

@@ -1,7 +1,7 @@
 -- Three answers, and the conjunction of three.
 use borrow.Author.Rules.{rules}
 use Rattle.header.proofs.Headers.{three}
-use Rattle.mrc.specs.Parameters.{areAngles}
+use Rattle.mrc.specs.Parameters.{are_angles}
 use Rattle.mrc.proofs.parameters.are_angles.Statement.{statement}
 use Rattle.mrc.proofs.parameters.are_angles.Tie as tie
 
@@ -15,9 +15,9 @@ is-angle-requires-3 : tie.Need-is-angle-requires-3
 is-angle-requires-3 c κs = search rules
 
 returns : tie.Need-returns
-unfolding areAngles
+unfolding are_angles
 returns c = three c.before.before.is-angle.ensures c.before.is-angle2.ensures c.is-angle3.ensures
 
-pub are-angles-spec : {M : Type 1} → statement M
-are-angles-spec =
+pub are_angles_spec : {M : Type 1} → statement M
+are_angles_spec =
     tie.close (tie.spec is-angle-requires is-angle-requires-2 is-angle-requires-3 returns)

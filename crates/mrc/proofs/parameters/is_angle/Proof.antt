@@ -9,5 +9,5 @@ returns c = between_ends c.before.args.x _ c.if1.true
 returns-2 : tie.Need-returns-2
 returns-2 c = between_ends c.before.args.x _ c.if1.false
 
-pub is-angle-spec : {M : Type 1} → statement M
-is-angle-spec = tie.close (tie.spec returns returns-2)
+pub is_angle_spec : {M : Type 1} → statement M
+is_angle_spec = tie.close (tie.spec returns returns-2)

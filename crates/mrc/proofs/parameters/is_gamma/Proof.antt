@@ -5,9 +5,9 @@ use mathlib.Core.Path.{sym, ◌∙◌, ap}
 use mathlib.Core.Bool.{Bool, cond}
 use lib.Ieee.{eq}
 use lib.IntN.{pos}
-use Rattle.mrc.specs.Floats.{floatOf}
-use Rattle.mrc.specs.Parameters.{isAngle, isGamma}
-use Rattle.mrc.proofs.EdgesAngles.{right-angle-is}
+use Rattle.mrc.specs.Floats.{float_of}
+use Rattle.mrc.specs.Parameters.{is_angle, is_gamma}
+use Rattle.mrc.proofs.EdgesAngles.{right_angle_is}
 use Rattle.mrc.proofs.parameters.is_gamma.Statement.{statement}
 use Rattle.mrc.proofs.parameters.is_gamma.Tie as tie
 
@@ -15,16 +15,16 @@ is-angle-requires : tie.Need-is-angle-requires
 is-angle-requires c κs = search rules
 
 returns : tie.Need-returns
-unfolding isGamma
+unfolding is_gamma
 returns c =
     let x = c.before.args.x in
-    ap (eq x) (sym right-angle-is) ∙ ap (λ (b : Bool). cond b (eq x (floatOf (pos 90))) (isAngle x)) (sym (eq-eqb c.before.args.group 4 c.if1.true))
+    ap (eq x) (sym right_angle_is) ∙ ap (λ (b : Bool). cond b (eq x (float_of (pos 90))) (is_angle x)) (sym (eq-eqb c.before.args.group 4 c.if1.true))
 
 returns-2 : tie.Need-returns-2
-unfolding isGamma
+unfolding is_gamma
 returns-2 c =
     let s = c.before.before in
-    c.is-angle.ensures ∙ ap (λ (b : Bool). cond b (eq s.args.x (floatOf (pos 90))) (isAngle s.args.x)) (sym (ne_eqb s.args.group 4 c.before.if1.false))
+    c.is-angle.ensures ∙ ap (λ (b : Bool). cond b (eq s.args.x (float_of (pos 90))) (is_angle s.args.x)) (sym (ne_eqb s.args.group 4 c.before.if1.false))
 
-pub is-gamma-spec : {M : Type 1} → statement M
-is-gamma-spec = tie.close (tie.spec is-angle-requires returns returns-2)
+pub is_gamma_spec : {M : Type 1} → statement M
+is_gamma_spec = tie.close (tie.spec is-angle-requires returns returns-2)

@@ -4,7 +4,7 @@ use mathlib.Core.Path.{refl, sym, ◌∙◌, ap}
 use mathlib.Core.Bool.{not}
 use lib.Dec.{eqb}
 use Rattle.header.proofs.Headers.{three}
-use Rattle.mrc.specs.Parameters.{ofGroup}
+use Rattle.mrc.specs.Parameters.{of_group}
 use Rattle.mrc.proofs.parameters.of_group.Statement.{statement}
 use Rattle.mrc.proofs.parameters.of_group.Tie as tie
 
@@ -27,21 +27,21 @@ is-gamma-requires : tie.Need-is-gamma-requires
 is-gamma-requires c κs = search rules
 
 returns : tie.Need-returns
-unfolding ofGroup
+unfolding of_group
 returns c =
     let p = c.before.before.before in
     let s = p.before.before in
-    three {r = eqb s.args.group 0} refl c.before.are-edges.ensures c.are-angles.ensures ∙ ap (ofGroup s.args.group) (sym p.parameters.given.1)
+    three {r = eqb s.args.group 0} refl c.before.are-edges.ensures c.are-angles.ensures ∙ ap (of_group s.args.group) (sym p.parameters.given.1)
 
 returns-2 : tie.Need-returns-2
-unfolding ofGroup
+unfolding of_group
 returns-2 c =
     let p = c.before.before.before in
     let s = p.before.before in
-    three {r = not (eqb s.args.group 0)} refl c.before.are-edges2.ensures c.is-gamma.ensures ∙ ap (ofGroup s.args.group) (sym p.parameters2.given.1)
+    three {r = not (eqb s.args.group 0)} refl c.before.are-edges2.ensures c.is-gamma.ensures ∙ ap (of_group s.args.group) (sym p.parameters2.given.1)
 
-pub of-group-spec : {M : Type 1} → statement M
-of-group-spec =
+pub of_group_spec : {M : Type 1} → statement M
+of_group_spec =
     tie.close
     (tie.spec
     enum-known-parameters

@@ -19,5 +19,5 @@ returns c = to_z-of_z w64 c.before.args.y c.before.fits.y ∙ compared c.before 
 returns-2 : tie.Need-returns-2
 returns-2 c = to_z-of_z w64 c.before.args.x c.before.fits.x ∙ compared c.before _ c.if1.left
 
-pub greater-of-spec : {M : Type 1} → statement M
-greater-of-spec = tie.close (tie.spec returns returns-2)
+pub greater_of_spec : {M : Type 1} → statement M
+greater_of_spec = tie.close (tie.spec returns returns-2)

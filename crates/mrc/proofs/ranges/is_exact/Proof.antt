@@ -7,7 +7,7 @@ use lib.Dec.{leb}
 use lib.IntN.{nat_abs}
 use mir.Syntax.{w64}
 use mir.ValLaws.{to_z-of_z}
-use Rattle.mrc.specs.Floats.{exactLimit}
+use Rattle.mrc.specs.Floats.{exact_limit}
 use Rattle.mrc.proofs.ranges.is_exact.Statement.{statement}
 use Rattle.mrc.proofs.ranges.is_exact.Tie as tie
 
@@ -21,9 +21,9 @@ returns : tie.Need-returns
 returns c =
     let m = c.before.before in
     let a = m.before.before.args in
-    ap₂ (λ (x y : ℕ). leb x exactLimit && leb y exactLimit)
+    ap₂ (λ (x y : ℕ). leb x exact_limit && leb y exact_limit)
     (m.magnitude.ensures ∙ ap nat_abs (to_z-of_z w64 a.range.least (record { sfits = m.before.struct_told.given.0.1 })))
     (c.magnitude2.ensures ∙ ap nat_abs (to_z-of_z w64 a.range.greatest (record { sfits = c.before.struct-told2.given.1.0.1 })))
 
-pub is-exact-spec : {M : Type 1} → statement M
-is-exact-spec = tie.close (tie.spec magnitude-requires magnitude-requires-2 returns)
+pub is_exact_spec : {M : Type 1} → statement M
+is_exact_spec = tie.close (tie.spec magnitude-requires magnitude-requires-2 returns)

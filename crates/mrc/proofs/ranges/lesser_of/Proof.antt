@@ -19,5 +19,5 @@ returns c = to_z-of_z w64 c.before.args.y c.before.fits.y ∙ compared c.before 
 returns-2 : tie.Need-returns-2
 returns-2 c = to_z-of_z w64 c.before.args.x c.before.fits.x ∙ compared c.before _ c.if1.left
 
-pub lesser-of-spec : {M : Type 1} → statement M
-lesser-of-spec = tie.close (tie.spec returns returns-2)
+pub lesser_of_spec : {M : Type 1} → statement M
+lesser_of_spec = tie.close (tie.spec returns returns-2)

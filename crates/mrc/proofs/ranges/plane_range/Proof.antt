@@ -4,13 +4,13 @@ use native.Mathlib.Omega.{arith}
 use mathlib.Core.List.{List}
 use lib.IntN.{ℤ}
 use Rattle.cell.specs.declared.operations.UnitCell.{UnitCell}
-use Rattle.mrc.specs.Ranges.{among, Spans, ofRow}
-use Rattle.mrc.proofs.Densities.{spans-first, spans-next, spans_all}
+use Rattle.mrc.specs.Ranges.{among, Spans, of_row}
+use Rattle.mrc.proofs.Densities.{spans_first, spans_next, spans_all}
 use Rattle.mrc.proofs.ranges.plane_range.Statement.{statement}
 use Rattle.mrc.proofs.ranges.plane_range.Tie as tie
 
 abbrev row : UnitCell → List ℤ → (z : ℕ) → (ℤ → ℤ → ℤ) → (x : ℕ) → ℤ
-row cell map z pick x = ofRow cell map z x pick
+row cell map z pick x = of_row cell map z x pick
 
 abbrev invariant-loop : tie.invariant-loop
 invariant-loop cell map z n1 range₀ x₀ range x = (1 ≤ x) × (x ≤ n1) × Spans range (λ pick. among pick x (row cell map z pick))
@@ -25,7 +25,7 @@ loop-holds : tie.Need-loop-init invariant-loop decreases-loop
 loop-holds c =
     let s = c.before in
     let a = s.args in
-    (omega arith, omega (arith, s.requires.0.first.low), spans-first (row a.cell a.map.now a.z) c.Stored-row.ensures)
+    (omega arith, omega (arith, s.requires.0.first.low), spans_first (row a.cell a.map.now a.z) c.Stored-row.ensures)
 
 stored-row-requires-2 : tie.Need-stored-row-requires-2 invariant-loop decreases-loop
 stored-row-requires-2 c κs = let p = c.before.before.before.requires in (p.0, p.1, p.2, c.loop-test.true)
@@ -43,7 +43,7 @@ loop-again : tie.Need-loop-preserved invariant-loop decreases-loop
 loop-again c =
     let l = c.before.before.before in
     let a = l.before.before.args in
-    (omega arith, omega arith, spans-next l.loop.x (row a.cell a.map.now a.z) l.loop.invariant.2 c.before.stored-row2.ensures c.range-of-both.ensures)
+    (omega arith, omega arith, spans_next l.loop.x (row a.cell a.map.now a.z) l.loop.invariant.2 c.before.stored-row2.ensures c.range-of-both.ensures)
 
 returns : tie.Need-returns invariant-loop decreases-loop
 returns c =
@@ -51,8 +51,8 @@ returns c =
     let a = l.before.before.args in
     spans_all (row a.cell a.map.now a.z) l.loop.invariant.1 c.loop-test.false l.loop.invariant.2
 
-pub plane-range-spec : {M : Type 1} → statement M
-plane-range-spec =
+pub plane_range_spec : {M : Type 1} → statement M
+plane_range_spec =
     tie.close
     (tie.spec
     invariant-loop

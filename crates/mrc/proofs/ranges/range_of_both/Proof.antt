@@ -25,5 +25,5 @@ returns c =
           ∙ ap₂ greater (to_z-of_z w64 a.r.greatest (record { sfits = c.before.before.struct-told3.given.1.0.1 })) (to_z-of_z w64 a.s.greatest (record { sfits = c.before.struct-told4.given.1.0.1 })),
     )
 
-pub range-of-both-spec : {M : Type 1} → statement M
-range-of-both-spec = tie.close (tie.spec lesser-of-requires greater-of-requires returns)
+pub range_of_both_spec : {M : Type 1} → statement M
+range_of_both_spec = tie.close (tie.spec lesser-of-requires greater-of-requires returns)

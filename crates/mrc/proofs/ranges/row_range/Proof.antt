@@ -5,7 +5,7 @@ use mathlib.Core.List.{List}
 use lib.ListN.{get_or}
 use lib.IntN.{ℤ, pos}
 use Rattle.mrc.specs.Ranges.{among, Spans}
-use Rattle.mrc.proofs.Densities.{spans-first, spans-next, spans-single, spans_all}
+use Rattle.mrc.proofs.Densities.{spans_first, spans_next, spans_single, spans_all}
 use Rattle.mrc.proofs.ranges.row_range.Statement.{statement}
 use Rattle.mrc.proofs.ranges.row_range.Tie as tie
 
@@ -31,7 +31,7 @@ loop-holds : tie.Need-loop-init invariant-loop decreases-loop
 loop-holds c =
     let s = c.before.before in
     let a = s.args in
-    (omega arith, omega arith, spans-first (number a.map.now a.start) (spans-single a.map.now a.start (a.start + 0) (omega arith) c.before.single-arg.given c.single.ensures))
+    (omega arith, omega arith, spans_first (number a.map.now a.start) (spans_single a.map.now a.start (a.start + 0) (omega arith) c.before.single-arg.given c.single.ensures))
 
 add-single : tie.Need-overflow-add-single invariant-loop decreases-loop
 add-single c = omega arith
@@ -61,8 +61,8 @@ loop-again c =
     let y = l.loop.y in (
       omega arith,
       omega arith,
-      spans-next y (number a.map.now a.start) l.loop.invariant.2
-          (spans-single a.map.now (a.start + y) (a.start + y) (omega arith) c.before.before.single-arg2.given c.before.single2.ensures) c.range-of-both.ensures,
+      spans_next y (number a.map.now a.start) l.loop.invariant.2
+          (spans_single a.map.now (a.start + y) (a.start + y) (omega arith) c.before.before.single-arg2.given c.before.single2.ensures) c.range-of-both.ensures,
     )
 
 returns : tie.Need-returns invariant-loop decreases-loop
@@ -71,8 +71,8 @@ returns c =
     let a = l.before.before.before.args in
     spans_all (number a.map.now a.start) l.loop.invariant.1 c.loop-test.false l.loop.invariant.2
 
-pub row-range-spec : {M : Type 1} → statement M
-row-range-spec =
+pub row_range_spec : {M : Type 1} → statement M
+row_range_spec =
     tie.close
     (tie.spec
     invariant-loop

@@ -3,13 +3,13 @@ use Prim.Native.Nat.{◌-◌, ◌≤◌}
 use native.Mathlib.Omega.{arith}
 use Rattle.output.specs.Output.{each}
 use Rattle.output.specs.Written.{Wrote}
-use Rattle.output.proofs.Writing.{each_none, each-ends, each_next, each-done, wrote-length}
-use Rattle.mrc.specs.Mrc.{rowBytes}
+use Rattle.output.proofs.Writing.{each_none, each_ends, each_next, each_done, wrote_length}
+use Rattle.mrc.specs.Mrc.{row_bytes}
 use Rattle.mrc.proofs.writing.put_plane.Statement.{statement}
 use Rattle.mrc.proofs.writing.put_plane.Tie as tie
 
 abbrev invariant-loop : tie.invariant-loop
-invariant-loop out₀ at cell map z n2 place₀ y₀ out place y = (y ≤ n2) × Wrote at (each y (rowBytes cell map z)) out₀ place out
+invariant-loop out₀ at cell map z n2 place₀ y₀ out place y = (y ≤ n2) × Wrote at (each y (row_bytes cell map z)) out₀ place out
 
 abbrev decreases-loop : tie.decreases-loop
 decreases-loop out₀ at cell map z n2 place₀ y₀ out place y = n2 - y
@@ -23,7 +23,7 @@ put-row-requires c κs =
     let s = l.before.before in
     let p = s.requires in
     let a = s.args in
-    (p.0, p.1, c.before.loop-test.true, each-ends (rowBytes a.cell a.map.now a.z) p.2 c.before.loop-test.true l.loop.invariant.1)
+    (p.0, p.1, c.before.loop-test.true, each_ends (row_bytes a.cell a.map.now a.z) p.2 c.before.loop-test.true l.loop.invariant.1)
 
 add-y : tie.Need-overflow-add-y invariant-loop decreases-loop
 add-y c = omega arith
@@ -36,19 +36,19 @@ loop-again c =
     let d = c.before.before in
     let l = d.before.before.before in
     let a = l.before.before.args in
-    (omega arith, each_next (rowBytes a.cell a.map.now a.z) l.loop.invariant.1 d.put-row.ensures)
+    (omega arith, each_next (row_bytes a.cell a.map.now a.z) l.loop.invariant.1 d.put-row.ensures)
 
 same_length : tie.Need-same-length invariant-loop decreases-loop
-same_length c = wrote-length c.before.loop.invariant.1
+same_length c = wrote_length c.before.loop.invariant.1
 
 returns : tie.Need-returns invariant-loop decreases-loop
 returns c =
     let l = c.before in
     let a = l.before.before.args in
-    each-done (rowBytes a.cell a.map.now a.z) l.loop.invariant.0 c.loop-test.false l.loop.invariant.1
+    each_done (row_bytes a.cell a.map.now a.z) l.loop.invariant.0 c.loop-test.false l.loop.invariant.1
 
-pub put-plane-spec : {M : Type 1} → statement M
-put-plane-spec =
+pub put_plane_spec : {M : Type 1} → statement M
+put_plane_spec =
     tie.close
     (tie.spec
     invariant-loop

@@ -11,16 +11,16 @@ use mir.ValLaws.{to_z-of_z}
 use Rattle.cell.specs.declared.operations.UnitCell.{UnitCell}
 use Rattle.output.specs.Output.{each}
 use Rattle.output.specs.Written.{Wrote}
-use Rattle.output.proofs.Writing.{each_none, each-ends, each_next, each-done, ends_as, wrote_as, wrote-length}
-use Rattle.mrc.specs.Floats.{exactLimit}
+use Rattle.output.proofs.Writing.{each_none, each_ends, each_next, each_done, ends_as, wrote_as, wrote_length}
+use Rattle.mrc.specs.Floats.{exact_limit}
 use Rattle.mrc.specs.Ranges.{density}
-use Rattle.mrc.specs.Mrc.{densityBytes}
-use Rattle.mrc.proofs.Densities.{exact-density}
+use Rattle.mrc.specs.Mrc.{density_bytes}
+use Rattle.mrc.proofs.Densities.{exact_density}
 use Rattle.mrc.proofs.writing.put_row.Statement.{statement}
 use Rattle.mrc.proofs.writing.put_row.Tie as tie
 
 abbrev point : UnitCell → List ℤ → (z y x : ℕ) → List ℕ
-point cell map z y x = densityBytes (density cell map (x, y, z))
+point cell map z y x = density_bytes (density cell map (x, y, z))
 
 abbrev invariant-loop : tie.invariant-loop
 invariant-loop out₀ at cell map z y n1 place₀ x₀ out place x = (x ≤ n1) × Wrote at (each x (point cell map z y)) out₀ place out
@@ -48,8 +48,8 @@ put-density-requires c κs =
     let s = l.before.before in
     let p = s.requires in
     let a = s.args in (
-      subst (λ (n : ℤ). nat_abs n ≤ exactLimit) (sym (is-density c)) (exact-density a.cell a.map.now p.0.sizes (subst T (sym p.0.exact) tt) l.loop.x a.y a.z t.loop-test.true p.2 p.1),
-      ends_as (each-ends (point a.cell a.map.now a.z a.y) p.3 t.loop-test.true l.loop.invariant.1) (ap densityBytes (sym (is-density c))),
+      subst (λ (n : ℤ). nat_abs n ≤ exact_limit) (sym (is-density c)) (exact_density a.cell a.map.now p.0.sizes (subst T (sym p.0.exact) tt) l.loop.x a.y a.z t.loop-test.true p.2 p.1),
+      ends_as (each_ends (point a.cell a.map.now a.z a.y) p.3 t.loop-test.true l.loop.invariant.1) (ap density_bytes (sym (is-density c))),
     )
 
 add-x : tie.Need-overflow-add-x invariant-loop decreases-loop
@@ -63,19 +63,19 @@ loop-again c =
     let d = c.before.before in
     let l = d.before.before.before.before in
     let a = l.before.before.args in
-    (omega arith, each_next (point a.cell a.map.now a.z a.y) l.loop.invariant.1 (wrote_as d.put-density.ensures (ap densityBytes (is-density d.before))))
+    (omega arith, each_next (point a.cell a.map.now a.z a.y) l.loop.invariant.1 (wrote_as d.put-density.ensures (ap density_bytes (is-density d.before))))
 
 same_length : tie.Need-same-length invariant-loop decreases-loop
-same_length c = wrote-length c.before.loop.invariant.1
+same_length c = wrote_length c.before.loop.invariant.1
 
 returns : tie.Need-returns invariant-loop decreases-loop
 returns c =
     let l = c.before in
     let a = l.before.before.args in
-    each-done (point a.cell a.map.now a.z a.y) l.loop.invariant.0 c.loop-test.false l.loop.invariant.1
+    each_done (point a.cell a.map.now a.z a.y) l.loop.invariant.0 c.loop-test.false l.loop.invariant.1
 
-pub put-row-spec : {M : Type 1} → statement M
-put-row-spec =
+pub put_row_spec : {M : Type 1} → statement M
+put_row_spec =
     tie.close
     (tie.spec
     invariant-loop

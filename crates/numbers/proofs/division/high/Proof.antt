@@ -37,8 +37,8 @@ returns c =
     let f = g.before in
     rw (f.of-halves.ensures.0, g.of-halves2.ensures.0, h.of-halves3.ensures.0, c.of-halves4.ensures.0) (high_part f.before.args.x f.before.args.y)
 
-pub high-spec : {M : Type 1} → statement M
-high-spec =
+pub high_spec : {M : Type 1} → statement M
+high_spec =
     tie.close
     (tie.spec
     of-halves-requires

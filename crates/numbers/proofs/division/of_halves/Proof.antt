@@ -10,5 +10,5 @@ mul-result c = omega (arith, mul-le-mul c.requires.0 c.requires.1)
 returns : tie.Need-returns
 returns c = omega (arith, mul-le-mul c.requires.0 c.requires.1)
 
-pub of-halves-spec : {M : Type 1} → statement M
-of-halves-spec = tie.close (tie.spec mul-result returns)
+pub of_halves_spec : {M : Type 1} → statement M
+of_halves_spec = tie.close (tie.spec mul-result returns)

@@ -18,5 +18,5 @@ returns c =
     ap (λ (n : ℕ). n / 16384) (c.high.ensures ∙ ap (λ (n : ℕ). s.args.x * n / 18446744073709551616) c.before.scale_of.ensures.0)
     ∙ quotient_is s.args.m s.args.x s.requires.0 s.requires.1
 
-pub quotient-spec : {M : Type 1} → statement M
-quotient-spec = tie.close (tie.spec scale-of-requires high-requires returns)
+pub quotient_spec : {M : Type 1} → statement M
+quotient_spec = tie.close (tie.spec scale-of-requires high-requires returns)

@@ -1,7 +1,7 @@
 -- One value is small enough to stand for a product.
 use borrow.Author.Rules.{rules}
 use native.Mathlib.Omega.{arith}
-use Rattle.numbers.proofs.unreduced.Unreduced.{of-pair-means}
+use Rattle.numbers.proofs.unreduced.Unreduced.{of_pair_means}
 use Rattle.numbers.proofs.unreduced.of_pair.Statement.{statement}
 use Rattle.numbers.proofs.unreduced.of_pair.Tie as tie
 
@@ -14,7 +14,7 @@ cast-t3 c = search rules
 returns : tie.Need-returns
 returns c =
     let s = c.before.before in
-    (record { re = omega (arith, s.requires.re); im = omega (arith, s.requires.im) }, λ m. of-pair-means m s.args.v)
+    (record { re = omega (arith, s.requires.re); im = omega (arith, s.requires.im) }, λ m. of_pair_means m s.args.v)
 
-pub of-pair-spec : {M : Type 1} → statement M
-of-pair-spec = tie.close (tie.spec cast-t2 cast-t3 returns)
+pub of_pair_spec : {M : Type 1} → statement M
+of_pair_spec = tie.close (tie.spec cast-t2 cast-t3 returns)

@@ -1,7 +1,7 @@
 -- Either part is the sum of two whole products.
 use borrow.Author.Rules.{rules}
 use native.Mathlib.Omega.{arith}
-use Rattle.numbers.proofs.unreduced.Unreduced.{product-means}
+use Rattle.numbers.proofs.unreduced.Unreduced.{product_means}
 use Rattle.numbers.proofs.unreduced.product.Statement.{statement}
 use Rattle.numbers.proofs.unreduced.product.Tie as tie
 
@@ -37,8 +37,8 @@ returns c =
     let p = w1.before in
     let is = p.before.requires in (
       record { re = omega (arith, w1.whole.ensures.1, w2.whole2.ensures.1); im = omega (arith, w3.whole3.ensures.1, c.whole4.ensures.1) },
-      product-means _ _ _ _ _ _ _ _ p.modulus.ensures.0 is.2.im w1.whole.ensures.0 w2.whole2.ensures.0 w3.whole3.ensures.0 c.whole4.ensures.0,
+      product_means _ _ _ _ _ _ _ _ p.modulus.ensures.0 is.2.im w1.whole.ensures.0 w2.whole2.ensures.0 w3.whole3.ensures.0 c.whole4.ensures.0,
     )
 
-pub product-spec : {M : Type 1} → statement M
-product-spec = tie.close (tie.spec modulus-requires whole-requires sub-whole whole-requires-2 add-t8 whole-requires-3 whole-requires-4 add-t11 returns)
+pub product_spec : {M : Type 1} → statement M
+product_spec = tie.close (tie.spec modulus-requires whole-requires sub-whole whole-requires-2 add-t8 whole-requires-3 whole-requires-4 add-t11 returns)

@@ -2,7 +2,7 @@
 use borrow.Author.Rules.{rules}
 use mathlib.Core.Path.{◌∙◌}
 use native.Mathlib.Omega.{arith}
-use Rattle.numbers.proofs.Accumulators.{accumulated-pair}
+use Rattle.numbers.proofs.Accumulators.{accumulated_pair}
 use Rattle.numbers.proofs.unreduced.Unreduced.{counted}
 use Rattle.numbers.proofs.unreduced.rest.Statement.{statement}
 use Rattle.numbers.proofs.unreduced.rest.Tie as tie
@@ -18,7 +18,7 @@ reduced-below-requires c κs =
     (s.requires.0, omega (arith, most.re), omega (arith, most.im))
 
 returns : tie.Need-returns
-returns c = λ n k a b hx hy. let s = c.before.before in c.reduced-below.ensures ∙ accumulated-pair (c.before.apart.ensures _ n k a b s.requires.0 hx hy)
+returns c = λ n k a b hx hy. let s = c.before.before in c.reduced_below.ensures ∙ accumulated_pair (c.before.apart.ensures _ n k a b s.requires.0 hx hy)
 
-pub rest-spec : {M : Type 1} → statement M
-rest-spec = tie.close (tie.spec apart-requires reduced-below-requires returns)
+pub rest_spec : {M : Type 1} → statement M
+rest_spec = tie.close (tie.spec apart-requires reduced-below-requires returns)

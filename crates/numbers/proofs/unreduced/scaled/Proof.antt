@@ -1,7 +1,7 @@
 -- Both products fit 64 bits.
 use native.Mathlib.Nat.{mul-le-mul}
 use native.Mathlib.Omega.{arith}
-use Rattle.numbers.proofs.unreduced.Unreduced.{accumulated-scaled}
+use Rattle.numbers.proofs.unreduced.Unreduced.{accumulated_scaled}
 use Rattle.numbers.proofs.unreduced.scaled.Statement.{statement}
 use Rattle.numbers.proofs.unreduced.scaled.Tie as tie
 
@@ -12,7 +12,7 @@ mul-t6 : tie.Need-overflow-mul-t6
 mul-t6 c = let s = c.before.before in omega (arith, mul-le-mul s.requires.0 s.requires.1.im)
 
 returns : tie.Need-returns
-returns c = λ m n a h. let s = c.before.before in accumulated-scaled m n a s.requires.0 h
+returns c = λ m n a h. let s = c.before.before in accumulated_scaled m n a s.requires.0 h
 
-pub scaled-spec : {M : Type 1} → statement M
-scaled-spec = tie.close (tie.spec mul-t4 mul-t6 returns)
+pub scaled_spec : {M : Type 1} → statement M
+scaled_spec = tie.close (tie.spec mul-t4 mul-t6 returns)

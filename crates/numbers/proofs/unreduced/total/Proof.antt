@@ -2,7 +2,7 @@
 use borrow.Author.Rules.{rules}
 use mathlib.Core.Path.{◌∙◌}
 use native.Mathlib.Omega.{arith}
-use Rattle.numbers.proofs.Accumulators.{accumulated-pair}
+use Rattle.numbers.proofs.Accumulators.{accumulated_pair}
 use Rattle.numbers.proofs.unreduced.Unreduced.{counted}
 use Rattle.numbers.proofs.unreduced.total.Statement.{statement}
 use Rattle.numbers.proofs.unreduced.total.Tie as tie
@@ -18,7 +18,7 @@ reduced-below-requires c κs =
     (s.requires.0, omega (arith, most.re), omega (arith, most.im))
 
 returns : tie.Need-returns
-returns c = λ n k a b hx hy. let s = c.before.before in c.reduced-below.ensures ∙ accumulated-pair (c.before.sum.ensures _ n k a b hx hy)
+returns c = λ n k a b hx hy. let s = c.before.before in c.reduced_below.ensures ∙ accumulated_pair (c.before.sum.ensures _ n k a b hx hy)
 
-pub total-spec : {M : Type 1} → statement M
-total-spec = tie.close (tie.spec sum-requires reduced-below-requires returns)
+pub total_spec : {M : Type 1} → statement M
+total_spec = tie.close (tie.spec sum-requires reduced-below-requires returns)

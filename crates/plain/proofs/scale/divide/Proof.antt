@@ -1,7 +1,7 @@
 -- What `scale` leaves by the residue 1/n, or the line as it came where n is 1.
 use borrow.Author.Rules.{rules}
 use native.Mathlib.Omega.{arith}
-use Rattle.plain.proofs.scale.Dividing.{divided-by-part, divided-by-one}
+use Rattle.plain.proofs.scale.Dividing.{divided_by_part, divided_by_one}
 use Rattle.plain.proofs.scale.divide.Statement.{statement}
 use Rattle.plain.proofs.scale.divide.Tie as tie
 
@@ -22,12 +22,12 @@ returns c =
     let at-scale = c.before.before in
     let at-reciprocal = at-scale.before.before in
     let s = at-reciprocal.before.before.before in
-    divided-by-part s.args.m s.args.n s.args.line.now at-reciprocal.reciprocal.ensures.0 at-scale.scale.ensures
+    divided_by_part s.args.m s.args.n s.args.line.now at-reciprocal.reciprocal.ensures.0 at-scale.scale.ensures
 
 returns-2 : tie.Need-returns-2
 returns-2 c =
     let s = c.before.before in
-    divided-by-one s.args.m s.args.n s.args.line.now (omega (arith, s.requires.0.1, c.if1.false)) s.requires.1.0 s.requires.1.1
+    divided_by_one s.args.m s.args.n s.args.line.now (omega (arith, s.requires.0.1, c.if1.false)) s.requires.1.0 s.requires.1.1
 
-pub divide-spec : {M : Type 1} → statement M
-divide-spec = tie.close (tie.spec cast-reciprocal reciprocal-requires scale-requires same_length returns returns-2)
+pub divide_spec : {M : Type 1} → statement M
+divide_spec = tie.close (tie.spec cast-reciprocal reciprocal-requires scale-requires same_length returns returns-2)

@@ -9,7 +9,7 @@ use Rattle.numbers.specs.Value.{field, value_of, pair_of}
 use Rattle.slices.specs.Pairs.{at, values_of}
 use Rattle.slices.specs.Filling.{FillingPairs}
 use Rattle.slices.proofs.Bounds.{small_of}
-use Rattle.slices.proofs.Filling.{filling-start, filling-next, filling-ahead, filling-whole}
+use Rattle.slices.proofs.Filling.{filling_start, filling_next, filling_ahead, filling_whole}
 use Rattle.plain.specs.Plain.{rotation}
 use Rattle.plain.proofs.scale.rotate.Statement.{statement}
 use Rattle.plain.proofs.scale.rotate.Tie as tie
@@ -25,10 +25,10 @@ St q = q.before.before.before
 
 -- the pair that is read is still the one that came in
 as-came : (q : tie.In-loop invariant-loop decreases-loop) {v : Pair} → v ≡ at q.before.loop.line q.before.loop.j → v ≡ at (St q).args.line.now q.before.loop.j
-as-came q e = e ∙ filling-ahead q.before.loop.j q.before.loop.invariant (le_refl _)
+as-came q e = e ∙ filling_ahead q.before.loop.j q.before.loop.invariant (le_refl _)
 
 loop-holds : tie.Need-loop-init invariant-loop decreases-loop
-loop-holds c = filling-start
+loop-holds c = filling_start
 
 get-requires : tie.Need-get-requires invariant-loop decreases-loop
 get-requires c κs = omega arith
@@ -56,17 +56,17 @@ loop-again c =
     let g = r.before.before in
     let q = g.before.before in
     let z = (St q).args in
-    filling-next q.before.loop.invariant q.loop-test.true t.store.ensures
+    filling_next q.before.loop.invariant q.loop-test.true t.store.ensures
     (r.rotated.ensures ∙ ap (λ v. pair_of ((field z.m).mul (rotation z.m z.over) (value_of z.m v))) (as-came q g.get.ensures))
 
 same_length : tie.Need-same-length invariant-loop decreases-loop
 same_length c = omega arith
 
 returns : tie.Need-returns invariant-loop decreases-loop
-returns c = filling-whole c.before.loop.invariant c.loop-test.false c.before.before.before.requires.1.0
+returns c = filling_whole c.before.loop.invariant c.loop-test.false c.before.before.before.requires.1.0
 
-pub rotate-spec : {M : Type 1} → statement M
-rotate-spec =
+pub rotate_spec : {M : Type 1} → statement M
+rotate_spec =
     tie.close
     (tie.spec
     invariant-loop

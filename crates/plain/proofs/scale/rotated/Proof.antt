@@ -17,13 +17,13 @@ returns : tie.Need-returns
 returns c =
     let t = c.before in
     let z = t.before.args in
-    c.over-i.ensures ∙ ap (λ over. pair_of ((field z.m).mul (rotation z.m over) (value_of z.m z.v))) (sym t.if1.true)
+    c.over_i_lem.ensures ∙ ap (λ over. pair_of ((field z.m).mul (rotation z.m over) (value_of z.m z.v))) (sym t.if1.true)
 
 returns-2 : tie.Need-returns-2
 returns-2 c =
     let t = c.before in
     let z = t.before.args in
-    c.times-i.ensures ∙ ap (λ over. pair_of ((field z.m).mul (rotation z.m over) (value_of z.m z.v))) (sym t.if1.false)
+    c.times_i_lem.ensures ∙ ap (λ over. pair_of ((field z.m).mul (rotation z.m over) (value_of z.m z.v))) (sym t.if1.false)
 
-pub rotated-spec : {M : Type 1} → statement M
-rotated-spec = tie.close (tie.spec over-i-requires times-i-requires returns returns-2)
+pub rotated_spec : {M : Type 1} → statement M
+rotated_spec = tie.close (tie.spec over-i-requires times-i-requires returns returns-2)

@@ -10,7 +10,7 @@ use Rattle.numbers.specs.Bounds.{res}
 use Rattle.slices.specs.Pairs.{at, values_of}
 use Rattle.slices.specs.Filling.{FillingPairs}
 use Rattle.slices.proofs.Bounds.{small_of}
-use Rattle.slices.proofs.Filling.{filling-start, filling-next, filling-ahead, filling-whole}
+use Rattle.slices.proofs.Filling.{filling_start, filling_next, filling_ahead, filling_whole}
 use Rattle.plain.proofs.scale.scale.Statement.{statement}
 use Rattle.plain.proofs.scale.scale.Tie as tie
 
@@ -25,10 +25,10 @@ St i = i.before.before.before
 
 -- the pair that is read is still the one that came in
 as-came : (i : tie.In-loop invariant-loop decreases-loop) {v : Pair} → v ≡ at i.before.loop.line i.before.loop.j → v ≡ at (St i).args.line.now i.before.loop.j
-as-came i e = e ∙ filling-ahead i.before.loop.j i.before.loop.invariant (le_refl _)
+as-came i e = e ∙ filling_ahead i.before.loop.j i.before.loop.invariant (le_refl _)
 
 loop-holds : tie.Need-loop-init invariant-loop decreases-loop
-loop-holds c = filling-start
+loop-holds c = filling_start
 
 get-requires : tie.Need-get-requires invariant-loop decreases-loop
 get-requires c κs = omega arith
@@ -56,17 +56,17 @@ loop-again c =
     let g = r.before.before in
     let i = g.before.before in
     let z = (St i).args in
-    filling-next i.before.loop.invariant i.loop-test.true t.store.ensures
+    filling_next i.before.loop.invariant i.loop-test.true t.store.ensures
     (r.scaled.ensures ∙ ap (λ v. pair_of ((field z.m).mul (real z.m (res z.m z.c)) (value_of z.m v))) (as-came i g.get.ensures))
 
 same_length : tie.Need-same-length invariant-loop decreases-loop
 same_length c = omega arith
 
 returns : tie.Need-returns invariant-loop decreases-loop
-returns c = filling-whole c.before.loop.invariant c.loop-test.false c.before.before.before.requires.1.0
+returns c = filling_whole c.before.loop.invariant c.loop-test.false c.before.before.before.requires.1.0
 
-pub scale-spec : {M : Type 1} → statement M
-scale-spec =
+pub scale_spec : {M : Type 1} → statement M
+scale_spec =
     tie.close
     (tie.spec
     invariant-loop

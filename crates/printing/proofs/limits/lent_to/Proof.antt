@@ -3,22 +3,22 @@ use borrow.Author.Rules.{rules}
 use mathlib.Core.Path.{◌≡◌}
 use native.Mathlib.Omega.{arith}
 use Rattle.header.specs.Header.{needed}
-use Rattle.file_format.specs.Format.{headerIn}
-use Rattle.printing.proofs.limits.Needs.{header-needs}
+use Rattle.file_format.specs.Format.{header_in}
+use Rattle.printing.proofs.limits.Needs.{header_needs}
 use Rattle.printing.proofs.limits.lent_to.Statement.{statement}
 use Rattle.printing.proofs.limits.lent_to.Tie as tie
 
-asked : (c : tie.After-volume-length) → c.volume-length.result ≡ needed (headerIn c.before.before.before.args.file.now)
+asked : (c : tie.After-volume-length) → c.volume_length_lem.result ≡ needed (header_in c.before.before.before.args.file.now)
 asked c =
     let h = c.before in
-    let n = h.header-numbers.ensures in
-    header-needs h.before.before.args.file.now c.volume-length.ensures n.group n.first n.second n.third
+    let n = h.header_numbers.ensures in
+    header_needs h.before.before.args.file.now c.volume_length_lem.ensures n.group n.first n.second n.third
 
 header-numbers-requires : tie.Need-header-numbers-requires
 header-numbers-requires c κs = search rules
 
 volume-length-requires : tie.Need-volume-length-requires
-volume-length-requires c κs = c.header-numbers.ensures.short
+volume-length-requires c κs = c.header_numbers.ensures.short
 
 returns : tie.Need-returns
 returns c = omega (arith, asked c.before)
@@ -26,5 +26,5 @@ returns c = omega (arith, asked c.before)
 returns-2 : tie.Need-returns-2
 returns-2 c = omega (arith, asked c.before)
 
-pub lent-to-spec : {M : Type 1} → statement M
-lent-to-spec = tie.close (tie.spec header-numbers-requires volume-length-requires returns returns-2)
+pub lent_to_spec : {M : Type 1} → statement M
+lent_to_spec = tie.close (tie.spec header-numbers-requires volume-length-requires returns returns-2)

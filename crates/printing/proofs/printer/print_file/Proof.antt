@@ -2,9 +2,9 @@
 use borrow.Author.Rules.{rules}
 use mathlib.Core.Path.{sym, ◌∙◌}
 use Rattle.job.specs.Job.{needed}
-use Rattle.factor_file.specs.File.{headerIn}
-use Rattle.printing.specs.Text.{lentLimit}
-use Rattle.printing.proofs.Files.{lent_length, lent-zeros, printed-long, printed-lent}
+use Rattle.factor_file.specs.File.{header_in}
+use Rattle.printing.specs.Text.{lent_limit}
+use Rattle.printing.proofs.Files.{lent_length, lent_zeros, printed_long, printed_lent}
 use Rattle.printing.proofs.printer.print_file.Statement.{statement}
 use Rattle.printing.proofs.printer.print_file.Tie as tie
 
@@ -23,7 +23,7 @@ returns c =
     let i = t.before.before in
     let l = i.before in
     let s = l.before.before.before in
-    t.refusal-text.ensures ∙ printed-long s.args.file.now s.args.out.now (sym l.too_long.ensures ∙ i.if1.true)
+    t.refusal-text.ensures ∙ printed_long s.args.file.now s.args.out.now (sym l.too_long.ensures ∙ i.if1.true)
 
 lent-to-requires : tie.Need-lent-to-requires
 lent-to-requires c κs = search rules
@@ -32,7 +32,7 @@ array-borrow-prefix-numbers : tie.Need-array-borrow-prefix-numbers
 array-borrow-prefix-numbers c = search rules
 
 slice-aggregate-print-opened : tie.Need-slice-aggregate-print-opened
-slice-aggregate-print-opened c = let n = c.before in lent_length n.lent-to.result (needed (headerIn n.before.before.before.before.before.args.file.now)) lentLimit n.lent-to.ensures
+slice-aggregate-print-opened c = let n = c.before in lent_length n.lent-to.result (needed (header_in n.before.before.before.before.before.args.file.now)) lent_limit n.lent-to.ensures
 
 print-opened-requires : tie.Need-print-opened-requires
 print-opened-requires c κs = search rules
@@ -47,10 +47,10 @@ returns-2 c =
     let i = n.before in
     let l = i.before in
     let s = l.before.before.before in
-    t.print-opened.ensures ∙ printed-lent s.args.file.now s.args.out.now (sym l.too_long.ensures ∙ i.if1.false) (lent-zeros n.lent-to.result (needed (headerIn s.args.file.now)) lentLimit n.lent-to.ensures)
+    t.print-opened.ensures ∙ printed_lent s.args.file.now s.args.out.now (sym l.too_long.ensures ∙ i.if1.false) (lent_zeros n.lent-to.result (needed (header_in s.args.file.now)) lent_limit n.lent-to.ensures)
 
-pub print-file-spec : {M : Type 1} → statement M
-print-file-spec =
+pub print_file_spec : {M : Type 1} → statement M
+print_file_spec =
     tie.close
     (tie.spec
     too-long-requires

@@ -1,7 +1,7 @@
 -- The text of the map that the synthesis makes.
 use borrow.Author.Rules.{rules}
 use mathlib.Core.Path.{◌∙◌}
-use Rattle.printing.proofs.Synthesised.{synthesised-text}
+use Rattle.printing.proofs.Synthesised.{synthesised_text}
 use Rattle.printing.proofs.printer.print_job.Statement.{statement}
 use Rattle.printing.proofs.printer.print_job.Tie as tie
 
@@ -25,10 +25,10 @@ returns c =
     let t = c.before.before in
     let y = t.before.before.before.before.before.before in
     let s = y.before.before.before.before.before in
-    t.map-text.ensures ∙ synthesised-text s.args.job s.args.volume.now s.requires s.args.out.now y.synthesis.result y.synthesis.ensures
+    t.map-text.ensures ∙ synthesised_text s.args.job s.args.volume.now s.requires s.args.out.now y.synthesis.result y.synthesis.ensures
 
-pub print-job-spec : {M : Type 1} → statement M
-print-job-spec =
+pub print_job_spec : {M : Type 1} → statement M
+print_job_spec =
     tie.close
     (tie.spec
     slice-aggregate-synthesis

@@ -7,20 +7,20 @@ use Rattle.job.specs.declared.Job.{Job}
 use Rattle.job.specs.Job.{OpenOutcome, opened}
 use Rattle.factor_file.specs.declared.FileAnswer.{FileAnswer}
 use Rattle.factor_file.specs.declared.FileAnswer.TheVariants.{Opened}
-use Rattle.factor_file.specs.Answers.{fileOutcome}
-use Rattle.printing.specs.Text.{putText, openedText}
+use Rattle.factor_file.specs.Answers.{file_outcome}
+use Rattle.printing.specs.Text.{put_text, opened_text}
 use Rattle.output.specs.Output.{FillOutcome}
-use Rattle.printing.proofs.Opened.{opened-synthesis}
+use Rattle.printing.proofs.Opened.{opened_synthesis}
 use Rattle.printing.proofs.printer.print_opened.Statement.{statement}
 use Rattle.printing.proofs.printer.print_opened.Tie as tie
 
 -- the text of an outcome, by its answer
-told : {r a : FileAnswer} {v : List ℕ} {o : OpenOutcome} (out : List ℕ) → fileOutcome r v ≡ o → r ≡ a → putText (openedText (fileOutcome a v)) out ≡ putText (openedText o) out
-told {v = v} out e q = ap (λ (a : FileAnswer). putText (openedText (fileOutcome a v)) out) (sym q) ∙ ap (λ (o : OpenOutcome). putText (openedText o) out) e
+told : {r a : FileAnswer} {v : List ℕ} {o : OpenOutcome} (out : List ℕ) → file_outcome r v ≡ o → r ≡ a → put_text (opened_text (file_outcome a v)) out ≡ put_text (opened_text o) out
+told {v = v} out e q = ap (λ (a : FileAnswer). put_text (opened_text (file_outcome a v)) out) (sym q) ∙ ap (λ (o : OpenOutcome). put_text (opened_text o) out) e
 
 -- an answer that is a job
-opened-by : {r : FileAnswer} {j : Job} {v : List ℕ} {o : OpenOutcome} → fileOutcome r v ≡ o → r ≡ Opened j → o ≡ record { answer = opened j; volume = v }
-opened-by {v = v} e q = sym e ∙ ap (λ (a : FileAnswer). fileOutcome a v) q
+opened_by : {r : FileAnswer} {j : Job} {v : List ℕ} {o : OpenOutcome} → file_outcome r v ≡ o → r ≡ Opened j → o ≡ record { answer = opened j; volume = v }
+opened_by {v = v} e q = sym e ∙ ap (λ (a : FileAnswer). file_outcome a v) q
 
 open-file-requires : tie.Need-open-file-requires
 open-file-requires c κs = search rules
@@ -53,7 +53,7 @@ print-job-requires c κs =
     let a = c.before.before.before in
     let y = a.before.before.before.before in
     let s = y.before.before.before.before.before in
-    opened-synthesis s.args.file.now s.args.volume.now _ _ (opened-by y.open-file.ensures a.answer2.given.1)
+    opened_synthesis s.args.file.now s.args.volume.now _ _ (opened_by y.open-file.ensures a.answer2.given.1)
 
 same-length-3 : tie.Need-same-length-3
 same-length-3 c = search rules
@@ -69,8 +69,8 @@ returns-2 c =
     let s = y.before.before.before.before.before in
     t.print-job.ensures ∙ told s.args.out.now y.open-file.ensures a.answer2.given.1
 
-pub print-opened-spec : {M : Type 1} → statement M
-print-opened-spec =
+pub print_opened_spec : {M : Type 1} → statement M
+print_opened_spec =
     tie.close
     (tie.spec
     open-file-requires

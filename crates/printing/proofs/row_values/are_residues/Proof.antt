@@ -6,8 +6,8 @@ use Prim.Native.Nat.{ℕ, ◌+◌, ◌-◌}
 use native.Mathlib.Omega.{arith}
 use lib.Dec.{ltb}
 use lib.ListN.{get_or}
-use Rattle.algebra.proofs.cells.Passing.{Passing, passing-start, passing-next, passing-stop, passing-done}
-use Rattle.job.proofs.check.Numbers.{number-above, number-below}
+use Rattle.algebra.proofs.cells.Passing.{Passing, passing_start, passing_next, passing_stop, passing_done}
+use Rattle.job.proofs.check.Numbers.{number_above, number_below}
 use Rattle.printing.proofs.row_values.are_residues.Statement.{statement}
 use Rattle.printing.proofs.row_values.are_residues.Tie as tie
 
@@ -18,7 +18,7 @@ abbrev decreases-loop : tie.decreases-loop
 decreases-loop p volume start n y₀ y = n - y
 
 loop-holds : tie.Need-loop-init invariant-loop decreases-loop
-loop-holds c = passing-start _ _
+loop-holds c = passing_start _ _
 
 add-if1 : tie.Need-overflow-add-if1 invariant-loop decreases-loop
 add-if1 c = omega arith
@@ -39,19 +39,19 @@ loop-again : tie.Need-loop-preserved invariant-loop decreases-loop
 loop-again c =
     let l = c.before.before.before in
     let a = l.before.args in
-    passing-next l.loop.invariant c.before.before.loop-test.true (sym (number-below a.volume.now {q = a.start + l.loop.y} refl refl c.if1.true)) refl
+    passing_next l.loop.invariant c.before.before.loop-test.true (sym (number_below a.volume.now {q = a.start + l.loop.y} refl refl c.if1.true)) refl
 
 returns : tie.Need-returns invariant-loop decreases-loop
 returns c =
     let l = c.before.before.before in
     let a = l.before.args in
-    passing-stop l.loop.invariant c.before.before.loop-test.true (sym (number-above a.volume.now {q = a.start + l.loop.y} refl refl c.if1.false)) refl
+    passing_stop l.loop.invariant c.before.before.loop-test.true (sym (number_above a.volume.now {q = a.start + l.loop.y} refl refl c.if1.false)) refl
 
 returns-2 : tie.Need-returns-2 invariant-loop decreases-loop
-returns-2 c = passing-done c.before.loop.invariant c.loop-test.false
+returns-2 c = passing_done c.before.loop.invariant c.loop-test.false
 
-pub are-residues-spec : {M : Type 1} → statement M
-are-residues-spec =
+pub are_residues_spec : {M : Type 1} → statement M
+are_residues_spec =
     tie.close
     (tie.spec
     invariant-loop

@@ -6,9 +6,9 @@ use native.Mathlib.Omega.{arith}
 use mir.Syntax.{w32, w64}
 use mir.Val.{SFits, to_z, of_z}
 use Rattle.signed.proofs.Machine.{wide_fits, wide_is}
-use Rattle.output.specs.Output.{blank, signedDecimal}
+use Rattle.output.specs.Output.{blank, signed_decimal}
 use Rattle.output.proofs.Writing.{wrote_as, ends_as}
-use Rattle.printing.specs.Text.{valueText}
+use Rattle.printing.specs.Text.{value_text}
 use Rattle.printing.proofs.row_values.put_value.Statement.{statement}
 use Rattle.printing.proofs.row_values.put_value.Tie as tie
 
@@ -16,8 +16,8 @@ small : (c : tie.After-centre) → SFits w32 c.centre.result
 small c = record { sfits = c.centre.type-inv }
 
 -- the text as it is written is the value's
-text : (c : tie.After-centre) → blank ∷ signedDecimal (to_z w64 (of_z w64 (to_z w32 (of_z w32 c.centre.result)))) ≡ valueText c.before.before.before.args.p c.before.before.before.args.value
-text c = ap (λ z. blank ∷ signedDecimal z) (wide_is c.centre.result (small c) ∙ c.centre.ensures)
+text : (c : tie.After-centre) → blank ∷ signed_decimal (to_z w64 (of_z w64 (to_z w32 (of_z w32 c.centre.result)))) ≡ value_text c.before.before.before.args.p c.before.before.before.args.value
+text c = ap (λ z. blank ∷ signed_decimal z) (wide_is c.centre.result (small c) ∙ c.centre.ensures)
 
 centre-requires : tie.Need-centre-requires
 centre-requires c κs = let s = c.before.before in (omega (arith, s.requires.0.0), omega (arith, s.requires.0.1))
@@ -34,7 +34,7 @@ same_length c = search rules
 returns : tie.Need-returns
 returns c = let d = c.before.before in wrote_as d.put-signed-field.ensures (text d.before)
 
-pub put-value-spec : {M : Type 1} → statement M
-put-value-spec =
+pub put_value_spec : {M : Type 1} → statement M
+put_value_spec =
     tie.close
     (tie.spec centre-requires cast-put-signed-field put-signed-field-requires same_length returns)

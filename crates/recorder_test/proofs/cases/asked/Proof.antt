@@ -68,8 +68,8 @@ same-length-5 c = search rules
 returns-6 : tie.Need-returns-6
 returns-6 c = record { said = λ e. absurd (omega arith); kept = λ l n. refl }
 
-pub asked-spec : {M : Type 1} → statement M
-asked-spec =
+pub asked_spec : {M : Type 1} → statement M
+asked_spec =
     tie.close
     (tie.spec
     at-requires

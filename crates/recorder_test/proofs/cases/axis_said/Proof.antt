@@ -15,5 +15,5 @@ at-requires-2 c κs = search rules
 returns : tie.Need-returns
 returns c = λ i. record { length = c.before.at.ensures i; factors = c.at2.ensures i }
 
-pub axis-said-spec : {M : Type 1} → statement M
-axis-said-spec = tie.close (tie.spec at-requires add_at at-requires-2 returns)
+pub axis_said_spec : {M : Type 1} → statement M
+axis_said_spec = tie.close (tie.spec at-requires add_at at-requires-2 returns)

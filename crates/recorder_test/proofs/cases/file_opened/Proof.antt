@@ -40,8 +40,8 @@ same_length c = search rules
 returns : tie.Need-returns
 returns c = search rules
 
-pub file-opened-spec : {M : Type 1} → statement M
-file-opened-spec =
+pub file_opened_spec : {M : Type 1} → statement M
+file_opened_spec =
     tie.close
     (tie.spec
     length-at-requires

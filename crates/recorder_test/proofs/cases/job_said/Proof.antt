@@ -29,8 +29,8 @@ returns c =
     let w = x.before in
     λ i. record { group = w.before.at.ensures i; modulus = w.at2.ensures i; a = x.axis-said.ensures i; b = y.axis-said2.ensures i; c = z.axis-said3.ensures i; state = c.at3.ensures i }
 
-pub job-said-spec : {M : Type 1} → statement M
-job-said-spec =
+pub job_said_spec : {M : Type 1} → statement M
+job_said_spec =
     tie.close
     (tie.spec
     at-requires

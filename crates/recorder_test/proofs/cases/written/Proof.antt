@@ -19,8 +19,8 @@ write-bytes-requires c κs = search rules
 returns : tie.Need-returns
 returns c = search rules
 
-pub written-spec : {M : Type 1} → statement M
-written-spec =
+pub written_spec : {M : Type 1} → statement M
+written_spec =
     tie.close
     (tie.spec
     length-at-requires

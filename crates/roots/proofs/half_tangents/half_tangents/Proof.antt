@@ -18,5 +18,5 @@ returns-2 : tie.Need-returns-2
 returns-2 c =
     subst (λ m. TangentTable m c.second-half-tangents.result) (sym (second c.before.before.requires c.before.if1.false)) c.second-half-tangents.ensures
 
-pub half-tangents-spec : {M : Type 1} → statement M
-half-tangents-spec = tie.close (tie.spec first-half-tangents-requires second-half-tangents-requires returns returns-2)
+pub half_tangents_spec : {M : Type 1} → statement M
+half_tangents_spec = tie.close (tie.spec first-half-tangents-requires second-half-tangents-requires returns returns-2)

@@ -19,5 +19,5 @@ returns-2 c =
     let r = c.second-powers.result in
     subst (λ m. RealTable m r.re × ImaginaryTable m r.im) (sym (second c.before.before.requires c.before.if1.false)) c.second-powers.ensures
 
-pub table-spec : {M : Type 1} → statement M
-table-spec = tie.close (tie.spec first-powers-requires second-powers-requires returns returns-2)
+pub table_spec : {M : Type 1} → statement M
+table_spec = tie.close (tie.spec first-powers-requires second-powers-requires returns returns-2)

@@ -2,7 +2,7 @@
 use borrow.Author.Rules.{rules}
 use mathlib.Core.Path.{◌≡◌, sym, ◌∙◌}
 use lib.ListN.{length, length-map}
-use Rattle.scheduler.proofs.Contracts.{refuted, invalid-lanes, all_lanes, over-capacity, within-capacity}
+use Rattle.scheduler.proofs.Contracts.{refuted, invalid_lanes, all_lanes, over_capacity, within_capacity}
 use Rattle.scheduler.proofs.valid.judge_scheduler.Statement.{statement}
 use Rattle.scheduler.proofs.valid.judge_scheduler.Tie as tie
 
@@ -15,7 +15,7 @@ judge-lanes-requires c κs = search rules
 returns : tie.Need-returns
 returns c =
     let t = c.before.before.judge-lanes.ensures in
-    let e = invalid-lanes c.before.before.before.args.s t.0 c.if1.true in
+    let e = invalid_lanes c.before.before.before.args.s t.0 c.if1.true in
     (e, refuted e, t.2)
 
 returns-2 : tie.Need-returns-2
@@ -23,7 +23,7 @@ returns-2 c =
     let s = c.before.before.before.before.args.s in
     let t = c.before.before.before.judge-lanes.ensures in
     let a = all_lanes s t.0 c.before.if1.false in
-    let e = over-capacity s a (t.1 a).0 c.if2.true in
+    let e = over_capacity s a (t.1 a).0 c.if2.true in
     (e, refuted e, t.2)
 
 valid-last-requires : tie.Need-valid-last-requires
@@ -37,10 +37,10 @@ returns-3 c =
     let s = c.before.before.before.before.before in
     let t = c.before.before.before.before.judge-lanes.ensures in
     let a = all_lanes s.args.s t.0 c.before.before.if1.false in
-    (within-capacity s.args.s a (eight s) (t.1 a).0 c.before.if2.false c.valid-last.ensures, λ v. (t.1 a).0, t.2)
+    (within_capacity s.args.s a (eight s) (t.1 a).0 c.before.if2.false c.valid-last.ensures, λ v. (t.1 a).0, t.2)
 
-pub judge-scheduler-spec : {M : Type 1} → statement M
-judge-scheduler-spec =
+pub judge_scheduler_spec : {M : Type 1} → statement M
+judge_scheduler_spec =
     tie.close
     (tie.spec
     judge-lanes-requires

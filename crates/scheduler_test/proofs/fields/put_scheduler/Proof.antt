@@ -58,8 +58,8 @@ same_length c = search rules
 returns : tie.Need-returns invariant-loop decreases-loop
 returns c = search rules
 
-pub put-scheduler-spec : {M : Type 1} → statement M
-put-scheduler-spec =
+pub put_scheduler_spec : {M : Type 1} → statement M
+put_scheduler_spec =
     tie.close
     (tie.spec
     invariant-loop

@@ -53,8 +53,8 @@ at-requires-2 c κs = search rules
 returns : tie.Need-returns invariant-loop decreases-loop
 returns c = search rules
 
-pub scheduler-in-spec : {M : Type 1} → statement M
-scheduler-in-spec =
+pub scheduler_in_spec : {M : Type 1} → statement M
+scheduler_in_spec =
     tie.close
     (tie.spec
     invariant-loop

@@ -1,7 +1,7 @@
 -- The job's own reading at the numbers, its answer said as numbers.
 use mathlib.Core.Path.{refl}
-use Rattle.job.specs.Answers.{saidFactor}
-use Rattle.scripts.proofs.calls.Calls.{call-factor}
+use Rattle.job.specs.Answers.{said_factor}
+use Rattle.scripts.proofs.calls.Calls.{call_factor}
 use borrow.Author.Rules.{rules}
 use Rattle.scripts.proofs.calls.factor_call.Statement.{statement}
 use Rattle.scripts.proofs.calls.factor_call.Tie as tie
@@ -17,7 +17,7 @@ returns c =
     let w = c.before.factor in
     let b = c.before.before.before in
     let a = b.args in
-    λ s. call-factor a.job a.volume.now (record { reply = c.of-factor.result; job = a.job }) (saidFactor w.result) c.of-factor.ensures refl s a.n b.requires w.ensures
+    λ s. call_factor a.job a.volume.now (record { reply = c.of-factor.result; job = a.job }) (said_factor w.result) c.of-factor.ensures refl s a.n b.requires w.ensures
 
-pub factor-call-spec : {M : Type 1} → statement M
-factor-call-spec = tie.close (tie.spec factor-requires of-factor-requires returns)
+pub factor_call_spec : {M : Type 1} → statement M
+factor_call_spec = tie.close (tie.spec factor-requires of-factor-requires returns)

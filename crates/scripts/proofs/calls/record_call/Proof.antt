@@ -1,5 +1,5 @@
 -- The job's own call on the numbers, its answer said as numbers.
-use Rattle.scripts.proofs.calls.Calls.{call-record}
+use Rattle.scripts.proofs.calls.Calls.{call_record}
 use borrow.Author.Rules.{rules}
 use Rattle.scripts.proofs.calls.record_call.Statement.{statement}
 use Rattle.scripts.proofs.calls.record_call.Tie as tie
@@ -18,7 +18,7 @@ returns c =
     let w = c.before.before.before.«record» in
     let b = c.before.before.before.before.before.before in
     let a = b.args in
-    λ s. call-record a.job a.volume.now c.of-answered.result w.result _ c.of-answered.ensures.0 c.of-answered.ensures.1 s a.n b.requires w.ensures
+    λ s. call_record a.job a.volume.now c.of-answered.result w.result _ c.of-answered.ensures.0 c.of-answered.ensures.1 s a.n b.requires w.ensures
 
-pub record-call-spec : {M : Type 1} → statement M
-record-call-spec = tie.close (tie.spec record-requires of-answered-requires same_length returns)
+pub record_call_spec : {M : Type 1} → statement M
+record_call_spec = tie.close (tie.spec record-requires of-answered-requires same_length returns)

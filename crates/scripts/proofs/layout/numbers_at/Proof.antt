@@ -61,8 +61,8 @@ shared-slice-read-t26 c = search rules
 returns : tie.Need-returns
 returns c = refl
 
-pub numbers-at-spec : {M : Type 1} → statement M
-numbers-at-spec =
+pub numbers_at_spec : {M : Type 1} → statement M
+numbers_at_spec =
     tie.close
     (tie.spec
     mul_at

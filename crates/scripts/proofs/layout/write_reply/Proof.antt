@@ -8,15 +8,15 @@ use mir.Syntax.{w64}
 use mir.Val.{to_z, of_z}
 use mir.ValLaws.{to_z-of_z, to_z_pos}
 use Rattle.signed.specs.Integers.{pos}
-use Rattle.scripts.proofs.layout.Placed.{placed-three}
+use Rattle.scripts.proofs.layout.Placed.{placed_three}
 use Rattle.scripts.proofs.layout.write_reply.Statement.{statement}
 use Rattle.scripts.proofs.layout.write_reply.Tie as tie
 
 mul_at : tie.Need-overflow-mul-at
 mul_at c = search rules
 
-cast-number : tie.Need-overflow-cast-number
-cast-number c = search rules
+cast_number : tie.Need-overflow-cast-number
+cast_number c = search rules
 
 mul-number : tie.Need-overflow-mul-number
 mul-number c = search rules
@@ -53,14 +53,14 @@ returns c =
     let n : to_z w64 a.reply.number ≡ pos a.reply.number = to_z_pos w64 a.reply.number (omega (arith, c.before.before.struct_known.given.0)) in
     let x = to_z-of_z w64 a.reply.x (record { sfits = c.struct-told2.given.1.0.1 }) in
     let y = to_z-of_z w64 a.reply.y (record { sfits = c.struct-told2.given.1.1.0.1 }) in
-    (λ i. set (set (set l k (n i)) (k + 1) (x i)) (k + 2) (y i)) ∙ placed-three l k (pos a.reply.number) a.reply.x a.reply.y (omega arith)
+    (λ i. set (set (set l k (n i)) (k + 1) (x i)) (k + 2) (y i)) ∙ placed_three l k (pos a.reply.number) a.reply.x a.reply.y (omega arith)
 
-pub write-reply-spec : {M : Type 1} → statement M
-write-reply-spec =
+pub write_reply_spec : {M : Type 1} → statement M
+write_reply_spec =
     tie.close
     (tie.spec
     mul_at
-    cast-number
+    cast_number
     mul-number
     slice-set-from-number
     add-x

@@ -34,7 +34,7 @@ mul-result-2 c = omega (arith, few c)
 returns : tie.Need-returns
 returns c = search rules
 
-pub text-length-spec : {M : Type 1} → statement M
-text-length-spec =
+pub text_length_spec : {M : Type 1} → statement M
+text_length_spec =
     tie.close
     (tie.spec add-lines cast-lines cast-result mul-result add-result mul-result-2 returns)

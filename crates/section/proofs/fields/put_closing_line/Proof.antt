@@ -7,9 +7,9 @@ use lib.IntN.{ℤ}
 use mir.Syntax.{w64}
 use mir.Val.{to_z, of_z}
 use mir.ValLaws.{to_z-of_z}
-use Rattle.output.specs.Output.{signedDecimal, lineFeed}
-use Rattle.output.proofs.Writing.{wrote-append, wrote_as, ends_as, ends-left, ends-right}
-use Rattle.section.specs.Section.{aligned, closingLine}
+use Rattle.output.specs.Output.{signed_decimal, line_feed}
+use Rattle.output.proofs.Writing.{wrote_append, wrote_as, ends_as, ends_left, ends_right}
+use Rattle.section.specs.Section.{aligned, closing_line}
 use Rattle.section.proofs.fields.put_closing_line.Statement.{statement}
 use Rattle.section.proofs.fields.put_closing_line.Tie as tie
 
@@ -19,27 +19,27 @@ kept c = to_z w64 (of_z w64 c.args.n)
 
 -- what follows the letter
 abbrev rest : tie.Start → List ℕ
-rest c = aligned 68 (signedDecimal (kept c)) ++ lineFeed ∷ []
+rest c = aligned 68 (signed_decimal (kept c)) ++ line_feed ∷ []
 
-line : (c : tie.Start) → c.args.letter ∷ rest c ≡ closingLine c.args.letter c.args.n
-unfolding closingLine
-line c = ap (λ z. c.args.letter ∷ (aligned 68 (signedDecimal z) ++ lineFeed ∷ [])) (to_z-of_z w64 c.args.n c.ranges.n)
+line : (c : tie.Start) → c.args.letter ∷ rest c ≡ closing_line c.args.letter c.args.n
+unfolding closing_line
+line c = ap (λ z. c.args.letter ∷ (aligned 68 (signed_decimal z) ++ line_feed ∷ [])) (to_z-of_z w64 c.args.n c.ranges.n)
 
 put-byte-requires : tie.Need-put-byte-requires
-put-byte-requires c κs = let s = c.before.before in ends-left (s.args.letter ∷ []) (rest s) (ends_as s.requires (sym (line s)))
+put-byte-requires c κs = let s = c.before.before in ends_left (s.args.letter ∷ []) (rest s) (ends_as s.requires (sym (line s)))
 
 put-aligned-requires : tie.Need-put-aligned-requires
 put-aligned-requires c κs =
     let w1 = c.before.before.before in
     let s = w1.before.before.before in
-    ends-left (aligned 68 (signedDecimal (kept s))) (lineFeed ∷ []) (ends-right (rest s) w1.put_byte.ensures (ends_as s.requires (sym (line s))))
+    ends_left (aligned 68 (signed_decimal (kept s))) (line_feed ∷ []) (ends_right (rest s) w1.put_byte.ensures (ends_as s.requires (sym (line s))))
 
 put-byte-requires-2 : tie.Need-put-byte-requires-2
 put-byte-requires-2 c κs =
     let w2 = c.before.before.before in
     let w1 = w2.before.before.before.before in
     let s = w1.before.before.before in
-    ends-right (lineFeed ∷ []) w2.put-aligned.ensures (ends-right (rest s) w1.put_byte.ensures (ends_as s.requires (sym (line s))))
+    ends_right (line_feed ∷ []) w2.put-aligned.ensures (ends_right (rest s) w1.put_byte.ensures (ends_as s.requires (sym (line s))))
 
 same_length : tie.Need-same-length
 same_length c = search rules
@@ -49,9 +49,9 @@ returns c =
     let w3 = c.before.before in
     let w2 = w3.before.before.before.before in
     let w1 = w2.before.before.before.before in
-    wrote_as (wrote-append w1.put_byte.ensures (wrote-append w2.put-aligned.ensures w3.put-byte2.ensures)) (line w1.before.before.before)
+    wrote_as (wrote_append w1.put_byte.ensures (wrote_append w2.put-aligned.ensures w3.put-byte2.ensures)) (line w1.before.before.before)
 
-pub put-closing-line-spec : {M : Type 1} → statement M
-put-closing-line-spec =
+pub put_closing_line_spec : {M : Type 1} → statement M
+put_closing_line_spec =
     tie.close
     (tie.spec put-byte-requires put-aligned-requires put-byte-requires-2 same_length returns)

@@ -56,13 +56,13 @@ cast-result-2 : tie.Need-overflow-cast-result-2
 cast-result-2 c = record { sfits = small-2 c }
 
 returns : tie.Need-returns
-returns c = to_z-of_z w64 _ (sub-result-2 c) ∙ flipped c ∙ sym (negative c).mean-is
+returns c = to_z-of_z w64 _ (sub-result-2 c) ∙ flipped c ∙ sym (negative c).mean_is
 
 returns-2 : tie.Need-returns-2
-returns-2 c = to_z_pos w64 _ (small-2 c) ∙ sym (positive c).mean-is
+returns-2 c = to_z_pos w64 _ (small-2 c) ∙ sym (positive c).mean_is
 
-pub floor-quotient-spec : {M : Type 1} → statement M
-floor-quotient-spec =
+pub floor_quotient_spec : {M : Type 1} → statement M
+floor_quotient_spec =
     tie.close
     (tie.spec
     magnitude-requires

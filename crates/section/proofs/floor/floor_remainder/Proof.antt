@@ -46,13 +46,13 @@ returns c =
     let n = c.before.before.args.n in
     let r = (c.before.magnitude.result - 1) % n in
     let e : n - 1 - r ≡ n - suc r = omega arith in
-    (e ∙ sym (negative c).rest-is, omega (arith, rest c))
+    (e ∙ sym (negative c).rest_is, omega (arith, rest c))
 
 returns-2 : tie.Need-returns-2
-returns-2 c = (sym (positive c).rest-is, mod-lt c.before.magnitude.result c.before.before.requires)
+returns-2 c = (sym (positive c).rest_is, mod-lt c.before.magnitude.result c.before.before.requires)
 
-pub floor-remainder-spec : {M : Type 1} → statement M
-floor-remainder-spec =
+pub floor_remainder_spec : {M : Type 1} → statement M
+floor_remainder_spec =
     tie.close
     (tie.spec
     magnitude-requires

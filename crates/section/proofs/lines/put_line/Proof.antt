@@ -7,29 +7,29 @@ use native.Mathlib.Omega.{arith}
 use mir.Syntax.{w64}
 use mir.Val.{to_z}
 use mir.ValLaws.{to_z_pos}
-use Rattle.cell.specs.Operations.{cellLengths}
-use Rattle.output.specs.Output.{signedDecimal, lineFeed, each}
-use Rattle.output.proofs.Writing.{wrote-append, wrote_as, ends_as, ends-left, ends-right}
-use Rattle.section.specs.Section.{aligned, valueField, sectionLine}
+use Rattle.cell.specs.Operations.{cell_lengths}
+use Rattle.output.specs.Output.{signed_decimal, line_feed, each}
+use Rattle.output.proofs.Writing.{wrote_append, wrote_as, ends_as, ends_left, ends_right}
+use Rattle.section.specs.Section.{aligned, value_field, section_line}
 use Rattle.section.proofs.lines.put_line.Statement.{statement}
 use Rattle.section.proofs.lines.put_line.Tie as tie
 
 -- x as the machine keeps it, and the values
 abbrev index : tie.Start → List ℕ
-index s = aligned 4 (signedDecimal (to_z w64 s.args.x))
+index s = aligned 4 (signed_decimal (to_z w64 s.args.x))
 
 abbrev values : tie.Start → List ℕ
-values s = each 5 (λ t. valueField s.args.cell.group (cellLengths s.args.cell) s.args.map.now s.args.z s.args.x (5 * s.args.i + t))
+values s = each 5 (λ t. value_field s.args.cell.group (cell_lengths s.args.cell) s.args.map.now s.args.z s.args.x (5 * s.args.i + t))
 
-line : (s : tie.Start) → index s ++ (values s ++ lineFeed ∷ []) ≡ sectionLine s.args.cell.group (cellLengths s.args.cell) s.args.map.now s.args.z s.args.x s.args.i
-unfolding sectionLine signedDecimal
-line s = ap (λ k. aligned 4 (signedDecimal k) ++ (values s ++ lineFeed ∷ [])) (to_z_pos w64 s.args.x (omega (arith, s.requires.0.1, s.requires.0.0.sizes.first.high)))
+line : (s : tie.Start) → index s ++ (values s ++ line_feed ∷ []) ≡ section_line s.args.cell.group (cell_lengths s.args.cell) s.args.map.now s.args.z s.args.x s.args.i
+unfolding section_line signed_decimal
+line s = ap (λ k. aligned 4 (signed_decimal k) ++ (values s ++ line_feed ∷ [])) (to_z_pos w64 s.args.x (omega (arith, s.requires.0.1, s.requires.0.0.sizes.first.high)))
 
 cast-put-aligned : tie.Need-overflow-cast-put-aligned
 cast-put-aligned c = search rules
 
 put-aligned-requires : tie.Need-put-aligned-requires
-put-aligned-requires c κs = let s = c.before.before in ends-left (index s) (values s ++ lineFeed ∷ []) (ends_as s.requires.1 (sym (line s)))
+put-aligned-requires c κs = let s = c.before.before in ends_left (index s) (values s ++ line_feed ∷ []) (ends_as s.requires.1 (sym (line s)))
 
 mul-put-values : tie.Need-overflow-mul-put-values
 mul-put-values c = search rules
@@ -38,14 +38,14 @@ put-values-requires : tie.Need-put-values-requires
 put-values-requires c κs =
     let w1 = c.before.before.before in
     let s = w1.before.before.before in
-    ((s.requires.0.0, s.requires.0.1, omega (arith, s.requires.0.2, s.requires.0.0.sizes.second.high)), ends-left (values s) (lineFeed ∷ []) (ends-right (values s ++ lineFeed ∷ []) w1.put-aligned.ensures (ends_as s.requires.1 (sym (line s)))))
+    ((s.requires.0.0, s.requires.0.1, omega (arith, s.requires.0.2, s.requires.0.0.sizes.second.high)), ends_left (values s) (line_feed ∷ []) (ends_right (values s ++ line_feed ∷ []) w1.put-aligned.ensures (ends_as s.requires.1 (sym (line s)))))
 
 put-byte-requires : tie.Need-put-byte-requires
 put-byte-requires c κs =
     let w2 = c.before.before.before in
     let w1 = w2.before.before.before.before in
     let s = w1.before.before.before in
-    ends-right (lineFeed ∷ []) w2.put-values.ensures (ends-right (values s ++ lineFeed ∷ []) w1.put-aligned.ensures (ends_as s.requires.1 (sym (line s))))
+    ends_right (line_feed ∷ []) w2.put-values.ensures (ends_right (values s ++ line_feed ∷ []) w1.put-aligned.ensures (ends_as s.requires.1 (sym (line s))))
 
 same_length : tie.Need-same-length
 same_length c = search rules
@@ -55,10 +55,10 @@ returns c =
     let w3 = c.before.before in
     let w2 = w3.before.before.before.before in
     let w1 = w2.before.before.before.before in
-    wrote_as (wrote-append w1.put-aligned.ensures (wrote-append w2.put-values.ensures w3.put_byte.ensures)) (line w1.before.before.before)
+    wrote_as (wrote_append w1.put-aligned.ensures (wrote_append w2.put-values.ensures w3.put_byte.ensures)) (line w1.before.before.before)
 
-pub put-line-spec : {M : Type 1} → statement M
-put-line-spec =
+pub put_line_spec : {M : Type 1} → statement M
+put_line_spec =
     tie.close
     (tie.spec
     cast-put-aligned

@@ -4,19 +4,19 @@ use Prim.Native.Nat.{ℕ, ◌-◌, ◌≤◌}
 use native.Mathlib.Omega.{arith}
 use lib.IntN.{ℤ}
 use Rattle.cell.specs.declared.operations.UnitCell.{UnitCell}
-use Rattle.cell.specs.Operations.{cellLengths}
+use Rattle.cell.specs.Operations.{cell_lengths}
 use Rattle.output.specs.Output.{each}
 use Rattle.output.specs.Written.{Wrote}
-use Rattle.output.proofs.Writing.{each_none, each-ends, each_next, each-done, wrote-length}
-use Rattle.section.specs.Section.{sectionLine, row_lines}
+use Rattle.output.proofs.Writing.{each_none, each_ends, each_next, each_done, wrote_length}
+use Rattle.section.specs.Section.{section_line, row_lines}
 use Rattle.section.proofs.lines.put_row.Statement.{statement}
 use Rattle.section.proofs.lines.put_row.Tie as tie
 
 abbrev line : UnitCell → List ℤ → (z x i : ℕ) → List ℕ
-line cell map z x i = sectionLine cell.group (cellLengths cell) map z x i
+line cell map z x i = section_line cell.group (cell_lengths cell) map z x i
 
 abbrev invariant-loop : tie.invariant-loop
-invariant-loop out₀ at cell map z x lines place₀ i₀ out place i = (i ≤ row_lines (cellLengths cell)) × Wrote at (each i (line cell map z x)) out₀ place out
+invariant-loop out₀ at cell map z x lines place₀ i₀ out place i = (i ≤ row_lines (cell_lengths cell)) × Wrote at (each i (line cell map z x)) out₀ place out
 
 abbrev decreases-loop : tie.decreases-loop
 decreases-loop out₀ at cell map z x lines place₀ i₀ out place i = lines - i
@@ -32,7 +32,7 @@ put-line-requires c κs =
     let t = c.before in
     let l = t.before in
     let s = l.before.before.before in
-    ((s.requires.0.0, s.requires.0.1, t.loop-test.true), each-ends (line s.args.cell s.args.map.now s.args.z s.args.x) s.requires.1 t.loop-test.true l.loop.invariant.1)
+    ((s.requires.0.0, s.requires.0.1, t.loop-test.true), each_ends (line s.args.cell s.args.map.now s.args.z s.args.x) s.requires.1 t.loop-test.true l.loop.invariant.1)
 
 add-i : tie.Need-overflow-add-i invariant-loop decreases-loop
 add-i c = omega arith
@@ -48,16 +48,16 @@ loop-again c =
     (omega arith, each_next (line s.args.cell s.args.map.now s.args.z s.args.x) l.loop.invariant.1 p.put-line.ensures)
 
 same_length : tie.Need-same-length invariant-loop decreases-loop
-same_length c = wrote-length c.before.loop.invariant.1
+same_length c = wrote_length c.before.loop.invariant.1
 
 returns : tie.Need-returns invariant-loop decreases-loop
 returns c =
     let l = c.before in
     let s = l.before.before.before in
-    each-done (line s.args.cell s.args.map.now s.args.z s.args.x) l.loop.invariant.0 c.loop-test.false l.loop.invariant.1
+    each_done (line s.args.cell s.args.map.now s.args.z s.args.x) l.loop.invariant.0 c.loop-test.false l.loop.invariant.1
 
-pub put-row-spec : {M : Type 1} → statement M
-put-row-spec =
+pub put_row_spec : {M : Type 1} → statement M
+put_row_spec =
     tie.close
     (tie.spec
     invariant-loop

@@ -4,16 +4,16 @@ use Prim.Native.Nat.{ℕ, ◌-◌, ◌≤◌}
 use native.Mathlib.Omega.{arith}
 use lib.IntN.{ℤ}
 use Rattle.cell.specs.declared.operations.UnitCell.{UnitCell}
-use Rattle.cell.specs.Operations.{cellLengths}
+use Rattle.cell.specs.Operations.{cell_lengths}
 use Rattle.output.specs.Output.{each}
 use Rattle.output.specs.Written.{Wrote}
-use Rattle.output.proofs.Writing.{each_none, each-ends, each_next, each-done, wrote-length}
-use Rattle.section.specs.Section.{sectionLine, row_lines}
+use Rattle.output.proofs.Writing.{each_none, each_ends, each_next, each_done, wrote_length}
+use Rattle.section.specs.Section.{section_line, row_lines}
 use Rattle.section.proofs.lines.put_rows.Statement.{statement}
 use Rattle.section.proofs.lines.put_rows.Tie as tie
 
 abbrev row : UnitCell → List ℤ → (z x : ℕ) → List ℕ
-row cell map z x = each (row_lines (cellLengths cell)) (λ i. sectionLine cell.group (cellLengths cell) map z x i)
+row cell map z x = each (row_lines (cell_lengths cell)) (λ i. section_line cell.group (cell_lengths cell) map z x i)
 
 abbrev invariant-loop : tie.invariant-loop
 invariant-loop out₀ at cell map z place₀ x₀ out place x = (x ≤ cell.n1) × Wrote at (each x (row cell map z)) out₀ place out
@@ -29,7 +29,7 @@ put-row-requires c κs =
     let t = c.before in
     let l = t.before.before in
     let s = l.before.before in
-    ((s.requires.0, t.if1.true), each-ends (row s.args.cell s.args.map.now s.args.z) s.requires.1 t.if1.true l.loop.invariant.1)
+    ((s.requires.0, t.if1.true), each_ends (row s.args.cell s.args.map.now s.args.z) s.requires.1 t.if1.true l.loop.invariant.1)
 
 add-x : tie.Need-overflow-add-x invariant-loop decreases-loop
 add-x c = omega arith
@@ -45,16 +45,16 @@ loop-again c =
     (omega arith, each_next (row s.args.cell s.args.map.now s.args.z) l.loop.invariant.1 p.put-row.ensures)
 
 same_length : tie.Need-same-length invariant-loop decreases-loop
-same_length c = wrote-length c.before.before.loop.invariant.1
+same_length c = wrote_length c.before.before.loop.invariant.1
 
 returns : tie.Need-returns invariant-loop decreases-loop
 returns c =
     let l = c.before.before in
     let s = l.before.before in
-    each-done (row s.args.cell s.args.map.now s.args.z) l.loop.invariant.0 c.if1.false l.loop.invariant.1
+    each_done (row s.args.cell s.args.map.now s.args.z) l.loop.invariant.0 c.if1.false l.loop.invariant.1
 
-pub put-rows-spec : {M : Type 1} → statement M
-put-rows-spec =
+pub put_rows_spec : {M : Type 1} → statement M
+put_rows_spec =
     tie.close
     (tie.spec
     invariant-loop

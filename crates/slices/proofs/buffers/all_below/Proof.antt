@@ -5,7 +5,7 @@ use Prim.Native.Nat.{◌≤◌, ◌-◌}
 use native.Mathlib.Omega.{arith}
 use lib.ListN.{length, drop}
 use Rattle.slices.specs.Pairs.{all_below}
-use Rattle.slices.proofs.Bounds.{allBelow-next, allBelow-end}
+use Rattle.slices.proofs.Bounds.{all_below_next, all_below_end}
 use Rattle.slices.proofs.buffers.all_below.Statement.{statement}
 use Rattle.slices.proofs.buffers.all_below.Tie as tie
 
@@ -34,16 +34,16 @@ loop-again : tie.Need-loop-preserved invariant-loop decreases-loop
 loop-again c =
     let l = c.before.before in
     let a = l.before.args in
-    (omega arith, l.loop.invariant.1 ∙ allBelow-next a.p a.s.now l.loop.below l.loop.i c.before.loop-test.true)
+    (omega arith, l.loop.invariant.1 ∙ all_below_next a.p a.s.now l.loop.below l.loop.i c.before.loop-test.true)
 
 returns : tie.Need-returns invariant-loop decreases-loop
 returns c =
     let l = c.before in
     let a = l.before.args in
-    sym (l.loop.invariant.1 ∙ allBelow-end a.p a.s.now l.loop.below l.loop.i c.loop-test.false)
+    sym (l.loop.invariant.1 ∙ all_below_end a.p a.s.now l.loop.below l.loop.i c.loop-test.false)
 
-pub all-below-spec : {M : Type 1} → statement M
-all-below-spec =
+pub all_below_spec : {M : Type 1} → statement M
+all_below_spec =
     tie.close
     (tie.spec
     invariant-loop

@@ -3,7 +3,7 @@ use mathlib.Core.Path.{◌∙◌}
 use Prim.Native.Nat.{◌-◌}
 use native.Mathlib.Omega.{arith}
 use Rattle.slices.specs.Filling.{Filling, stores}
-use Rattle.slices.proofs.Filling.{filled-all, storing-start, storing-next, stores-replicate}
+use Rattle.slices.proofs.Filling.{filled_all, storing_start, storing_next, stores_replicate}
 use Rattle.slices.proofs.buffers.clear.Statement.{statement}
 use Rattle.slices.proofs.buffers.clear.Tie as tie
 
@@ -14,7 +14,7 @@ abbrev decreases-loop : tie.decreases-loop
 decreases-loop d₀ n i₀ d i = n - i
 
 loop-holds : tie.Need-loop-init invariant-loop decreases-loop
-loop-holds c = storing-start
+loop-holds c = storing_start
 
 mul-d : tie.Need-overflow-mul-d invariant-loop decreases-loop
 mul-d c = omega arith
@@ -29,7 +29,7 @@ loop-less : tie.Need-loop-smaller invariant-loop decreases-loop
 loop-less c = omega arith
 
 loop-again : tie.Need-loop-preserved invariant-loop decreases-loop
-loop-again c = storing-next c.before.loop.invariant c.loop-test.true
+loop-again c = storing_next c.before.loop.invariant c.loop-test.true
 
 same_length : tie.Need-same-length invariant-loop decreases-loop
 same_length c = c.before.loop.invariant.len
@@ -37,7 +37,7 @@ same_length c = c.before.loop.invariant.len
 returns : tie.Need-returns invariant-loop decreases-loop
 returns c =
     let l = c.before in
-    filled-all l.loop.invariant c.loop-test.false ∙ stores-replicate 0 l.before.args.n l.before.args.d.now l.before.requires
+    filled_all l.loop.invariant c.loop-test.false ∙ stores_replicate 0 l.before.args.n l.before.args.d.now l.before.requires
 
 pub clear_spec : {M : Type 1} → statement M
 clear_spec =

@@ -3,7 +3,7 @@ use borrow.Author.Rules.{rules}
 use mathlib.Core.Path.{◌∙◌}
 use native.Mathlib.Omega.{arith}
 use lib.ListN.{length}
-use Rattle.slices.proofs.Segments.{cleared-all}
+use Rattle.slices.proofs.Segments.{cleared_all}
 use Rattle.slices.proofs.buffers.zero.Statement.{statement}
 use Rattle.slices.proofs.buffers.zero.Tie as tie
 
@@ -14,7 +14,7 @@ same_length : tie.Need-same-length
 same_length c = search rules
 
 returns : tie.Need-returns
-returns c = let v = c.before.before.before.before.before.args.volume.now in c.before.before.clear.ensures ∙ cleared-all (length v) v (omega arith)
+returns c = let v = c.before.before.before.before.before.args.volume.now in c.before.before.clear.ensures ∙ cleared_all (length v) v (omega arith)
 
-pub zero-spec : {M : Type 1} → statement M
-zero-spec = tie.close (tie.spec clear-requires same_length returns)
+pub zero_spec : {M : Type 1} → statement M
+zero_spec = tie.close (tie.spec clear-requires same_length returns)

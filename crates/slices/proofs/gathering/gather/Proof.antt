@@ -4,8 +4,8 @@ use native.Mathlib.Omega.{arith}
 use lib.ListN.{length}
 use Rattle.slices.specs.Pairs.{at}
 use Rattle.slices.specs.Filling.{FillingPairs}
-use Rattle.slices.proofs.Filling.{filling-next}
-use Rattle.slices.proofs.Rows.{row-end}
+use Rattle.slices.proofs.Filling.{filling_next}
+use Rattle.slices.proofs.Rows.{row_end}
 use Rattle.slices.proofs.Sets.{fill}
 use Rattle.slices.proofs.gathering.gather.Statement.{statement}
 use Rattle.slices.proofs.gathering.gather.Tie as tie
@@ -18,7 +18,7 @@ decreases-loop s start stride d₀ n j₀ d j = n - j
 
 -- the place of a turn lies inside
 inside : (c : tie.In-loop invariant-loop decreases-loop) → let l = c.before in let a = l.before.before.before.args in 2 * (a.start + l.loop.j * a.stride) + 1 < length a.s.now
-inside c = omega (arith, row-end c.before.before.before.before.args.stride c.loop-test.true)
+inside c = omega (arith, row_end c.before.before.before.before.args.stride c.loop-test.true)
 
 loop-holds : tie.Need-loop-init invariant-loop decreases-loop
 loop-holds c = search fill
@@ -45,7 +45,7 @@ loop-again : tie.Need-loop-preserved invariant-loop decreases-loop
 loop-again c =
     let s = c.before.before in
     let t = s.before.before.before in
-    filling-next t.before.loop.invariant t.loop-test.true s.store.ensures s.before.get.ensures
+    filling_next t.before.loop.invariant t.loop-test.true s.store.ensures s.before.get.ensures
 
 same_length : tie.Need-same-length invariant-loop decreases-loop
 same_length c = search fill
@@ -53,8 +53,8 @@ same_length c = search fill
 returns : tie.Need-returns invariant-loop decreases-loop
 returns c = search fill
 
-pub gather-spec : {M : Type 1} → statement M
-gather-spec =
+pub gather_spec : {M : Type 1} → statement M
+gather_spec =
     tie.close
     (tie.spec
     invariant-loop

@@ -24,6 +24,6 @@ returns-6 c = search refusals depth 20
 returns-7 : tie.Need-returns-7
 returns-7 c = search refusals depth 20
 
-pub check-window-spec : {M : Type 1} → statement M
-check-window-spec =
+pub check_window_spec : {M : Type 1} → statement M
+check_window_spec =
     tie.close (tie.spec returns returns-2 returns-3 returns-4 returns-5 returns-6 returns-7)

@@ -5,21 +5,21 @@ use Prim.Native.Nat.{◌+◌, ◌-◌, ◌≤◌}
 use native.Mathlib.Omega.{arith}
 use lib.ListN.{length}
 use Rattle.slices.specs.Filling.{Filling, stores}
-use Rattle.slices.proofs.Filling.{filled-all, storing-start}
-use Rattle.sliding_window.specs.Window.{bestOf, bestScore}
-use Rattle.slices.proofs.Stores.{storing-more}
+use Rattle.slices.proofs.Filling.{filled_all, storing_start}
+use Rattle.sliding_window.specs.Window.{best_of, best_score}
+use Rattle.slices.proofs.Stores.{storing_more}
 use Rattle.sliding_window.proofs.extremes.extremes.Statement.{statement}
 use Rattle.sliding_window.proofs.extremes.extremes.Tie as tie
 
 abbrev invariant-loop : tie.invariant-loop
 invariant-loop greatest run w count scores₀ places₀ best₀ start₀ scores places best start =
-    Filling stores (λ j. j) (λ j. bestScore greatest run j w) count start scores₀ scores × Filling stores (λ j. j) (λ j. bestOf greatest run j w) count start places₀ places × (length best ≡ 64)
+    Filling stores (λ j. j) (λ j. best_score greatest run j w) count start scores₀ scores × Filling stores (λ j. j) (λ j. best_of greatest run j w) count start places₀ places × (length best ≡ 64)
 
 abbrev decreases-loop : tie.decreases-loop
 decreases-loop greatest run w count scores₀ places₀ best₀ start₀ scores places best start = count - start
 
 loop-holds : tie.Need-loop-init invariant-loop decreases-loop
-loop-holds c = (storing-start, storing-start, refl)
+loop-holds c = (storing_start, storing_start, refl)
 
 sub-lesser : tie.Need-overflow-sub-lesser invariant-loop decreases-loop
 sub-lesser c = omega arith
@@ -57,7 +57,7 @@ loop-again c =
     let n = c.before.before.before.before.before.before.before.before.before.before.lesser in
     let w = c.before.before.before.windows.ensures in
     let fits : l.start + n.result ≤ c.before.before.before.before.before.before.before.before.before.before.before.before.before.before.args.count = omega (arith, n.ensures.1) in
-    (storing-more n.result l.invariant.0 fits w.0, storing-more n.result l.invariant.1 fits w.1, c.before.before.before.before.before.before.before.before.suffixes.ensures.long)
+    (storing_more n.result l.invariant.0 fits w.0, storing_more n.result l.invariant.1 fits w.1, c.before.before.before.before.before.before.before.before.suffixes.ensures.long)
 
 same_length : tie.Need-same-length invariant-loop decreases-loop
 same_length c = c.before.loop.invariant.0.len
@@ -66,10 +66,10 @@ same-length-2 : tie.Need-same-length-2 invariant-loop decreases-loop
 same-length-2 c = c.before.loop.invariant.1.len
 
 returns : tie.Need-returns invariant-loop decreases-loop
-returns c = (filled-all c.before.loop.invariant.0 c.loop-test.false, filled-all c.before.loop.invariant.1 c.loop-test.false)
+returns c = (filled_all c.before.loop.invariant.0 c.loop-test.false, filled_all c.before.loop.invariant.1 c.loop-test.false)
 
-pub extremes-spec : {M : Type 1} → statement M
-extremes-spec =
+pub extremes_spec : {M : Type 1} → statement M
+extremes_spec =
     tie.close
     (tie.spec
     invariant-loop

@@ -3,7 +3,7 @@ use mathlib.Core.Path.{sym, ◌∙◌}
 use Prim.Native.Nat.{◌-◌}
 use native.Mathlib.Omega.{arith}
 use Rattle.sliding_window.specs.Blocks.{Suffixes}
-use Rattle.sliding_window.proofs.Blocks.{suffixes-start, suffixes-next, suffixes-inside, suffixes-done}
+use Rattle.sliding_window.proofs.Blocks.{suffixes_start, suffixes_next, suffixes_inside, suffixes_done}
 use Rattle.sliding_window.proofs.extremes.suffixes.Statement.{statement}
 use Rattle.sliding_window.proofs.extremes.suffixes.Tie as tie
 
@@ -26,7 +26,7 @@ slice-write-best : tie.Need-slice-write-best invariant-loop decreases-loop
 slice-write-best c = omega arith
 
 loop-holds : tie.Need-loop-init invariant-loop decreases-loop
-loop-holds c = let s = c.before in suffixes-start s.args.best.now s.requires.0 s.requires.1 s.requires.3
+loop-holds c = let s = c.before in suffixes_start s.args.best.now s.requires.0 s.requires.1 s.requires.3
 
 mul-ahead : tie.Need-overflow-mul-ahead invariant-loop decreases-loop
 mul-ahead c = omega (arith, c.before.loop.invariant.low)
@@ -43,7 +43,7 @@ add-better c = omega arith
 better-requires : tie.Need-better-requires invariant-loop decreases-loop
 better-requires c κs =
     let l = c.before.before.loop in
-    (omega (arith, l.invariant.low), omega (arith, suffixes-inside l.best l.t l.t l.invariant (omega arith) l.invariant.low))
+    (omega (arith, l.invariant.low), omega (arith, suffixes_inside l.best l.t l.t l.invariant (omega arith) l.invariant.low))
 
 mul-best-2 : tie.Need-overflow-mul-best-2 invariant-loop decreases-loop
 mul-best-2 c = omega (arith, c.before.before.before.loop.invariant.low)
@@ -58,16 +58,16 @@ loop-again : tie.Need-loop-preserved invariant-loop decreases-loop
 loop-again c =
     let s = c.before.before.before.before.before in
     let l = c.before.before.before.loop in
-    rw c.better.ensures (suffixes-next l.best l.t l.invariant c.before.before.loop-test.true s.requires.1)
+    rw c.better.ensures (suffixes_next l.best l.t l.invariant c.before.before.loop-test.true s.requires.1)
 
 same_length : tie.Need-same-length invariant-loop decreases-loop
 same_length c = c.before.loop.invariant.long ∙ sym c.before.before.before.requires.3
 
 returns : tie.Need-returns invariant-loop decreases-loop
-returns c = suffixes-done _ c.loop-test.false c.before.loop.invariant
+returns c = suffixes_done _ c.loop-test.false c.before.loop.invariant
 
-pub suffixes-spec : {M : Type 1} → statement M
-suffixes-spec =
+pub suffixes_spec : {M : Type 1} → statement M
+suffixes_spec =
     tie.close
     (tie.spec
     invariant-loop

@@ -6,18 +6,18 @@ use lib.ListN.{length}
 use mir.Syntax.{w64}
 use mir.ValLaws.{to_z-of_z}
 use Rattle.slices.specs.Filling.{Filling, stores}
-use Rattle.slices.proofs.Filling.{filled-all, storing-start}
-use Rattle.sliding_window.specs.Window.{score, bestOf, bestScore}
+use Rattle.slices.proofs.Filling.{filled_all, storing_start}
+use Rattle.sliding_window.specs.Window.{score, best_of, best_score}
 use Rattle.sliding_window.specs.FirstBest.{BestAmong}
-use Rattle.sliding_window.proofs.FirstBest.{best-one, first-best}
-use Rattle.slices.proofs.Stores.{storing-value}
-use Rattle.sliding_window.proofs.Blocks.{suffixes-inside, ahead-next, window-is}
+use Rattle.sliding_window.proofs.FirstBest.{best_one, first_best}
+use Rattle.slices.proofs.Stores.{storing_value}
+use Rattle.sliding_window.proofs.Blocks.{suffixes_inside, ahead_next, window_is}
 use Rattle.sliding_window.proofs.extremes.windows.Statement.{statement}
 use Rattle.sliding_window.proofs.extremes.windows.Tie as tie
 
 abbrev invariant-loop : tie.invariant-loop
 invariant-loop greatest run start w size best scores₀ places₀ end ahead₀ r₀ scores places ahead r =
-    Filling stores (λ k. start + k) (λ k. bestScore greatest run (start + k) w) size r scores₀ scores × Filling stores (λ k. start + k) (λ k. bestOf greatest run (start + k) w) size r places₀ places × BestAmong greatest run end (end + (r - 1) + 1) ahead
+    Filling stores (λ k. start + k) (λ k. best_score greatest run (start + k) w) size r scores₀ scores × Filling stores (λ k. start + k) (λ k. best_of greatest run (start + k) w) size r places₀ places × BestAmong greatest run end (end + (r - 1) + 1) ahead
 
 abbrev decreases-loop : tie.decreases-loop
 decreases-loop greatest run start w size best scores₀ places₀ end ahead₀ r₀ scores places ahead r = size - r
@@ -25,20 +25,20 @@ decreases-loop greatest run start w size best scores₀ places₀ end ahead₀ r
 -- the best from the block's last entry on, one entry further
 looked : (c : tie.After-better invariant-loop decreases-loop) → let a = c.before.before.before.before.before.args in
     BestAmong a.greatest a.run.now (a.start + (a.w - 1)) (a.start + (a.w - 1) + (c.before.before.loop.r + 1 - 1) + 1) c.better.result
-looked c = rw c.better.ensures (ahead-next _ _ c.before.before.loop.invariant.2)
+looked c = rw c.better.ensures (ahead_next _ _ c.before.before.loop.invariant.2)
 
 -- the window's best place, which is one of the run
 found : (c : tie.After-better2 invariant-loop decreases-loop) → let a = c.before.before.before.before.before.before.before.args in
-    c.better2.result ≡ bestOf a.greatest a.run.now (a.start + c.before.before.before.before.loop.r) a.w
+    c.better2.result ≡ best_of a.greatest a.run.now (a.start + c.before.before.before.before.loop.r) a.w
 found c =
     let s = c.before.before.before.before.before.before.before in
-    c.better2.ensures ∙ window-is c.before.before.before.before.loop.r s.requires.1 (omega (arith, s.requires.0.some)) (looked c.before.before)
+    c.better2.ensures ∙ window_is c.before.before.before.before.loop.r s.requires.1 (omega (arith, s.requires.0.some)) (looked c.before.before)
 
 inside : (c : tie.After-better2 invariant-loop decreases-loop) → c.better2.result < length c.before.before.before.before.before.before.before.args.run.now
 inside c =
     let s = c.before.before.before.before.before.before.before in
     let a = s.args in
-    omega (arith, found c, s.requires.0.inside, (first-best a.greatest a.run.now (a.start + c.before.before.before.before.loop.r) a.w s.requires.0.positive).before)
+    omega (arith, found c, s.requires.0.inside, (first_best a.greatest a.run.now (a.start + c.before.before.before.before.loop.r) a.w s.requires.0.positive).before)
 
 sub-end : tie.Need-overflow-sub-end invariant-loop decreases-loop
 sub-end c = omega arith
@@ -47,7 +47,7 @@ add-end : tie.Need-overflow-add-end invariant-loop decreases-loop
 add-end c = omega arith
 
 loop-holds : tie.Need-loop-init invariant-loop decreases-loop
-loop-holds c = (storing-start, storing-start, best-one _ (omega arith))
+loop-holds c = (storing_start, storing_start, best_one _ (omega arith))
 
 add-better : tie.Need-overflow-add-better invariant-loop decreases-loop
 add-better c = omega arith
@@ -67,7 +67,7 @@ better-requires-2 : tie.Need-better-requires-2 invariant-loop decreases-loop
 better-requires-2 c κs =
     let s = c.before.before.before.before.before.before in
     let p = s.requires.0 in
-    (omega (arith, p.inside, suffixes-inside s.args.best.now 0 c.before.before.before.loop.r s.requires.1 (omega arith) (omega (arith, p.some))), omega (arith, p.inside, p.positive, (looked c.before).before))
+    (omega (arith, p.inside, suffixes_inside s.args.best.now 0 c.before.before.before.loop.r s.requires.1 (omega arith) (omega (arith, p.some))), omega (arith, p.inside, p.positive, (looked c.before).before))
 
 add_at : tie.Need-overflow-add-at invariant-loop decreases-loop
 add_at c = omega arith
@@ -102,7 +102,7 @@ loop-again c =
     let b = c.before in
     let a = l.before.before.before.args in
     let f = found b in
-    (storing-value l.loop.invariant.0 (omega arith) (to_z-of_z w64 _ (record { sfits = c.scores.given }) ∙ ap (score a.run.now) f), storing-value l.loop.invariant.1 (omega arith) f, looked b.before.before)
+    (storing_value l.loop.invariant.0 (omega arith) (to_z-of_z w64 _ (record { sfits = c.scores.given }) ∙ ap (score a.run.now) f), storing_value l.loop.invariant.1 (omega arith) f, looked b.before.before)
 
 same_length : tie.Need-same-length invariant-loop decreases-loop
 same_length c = c.before.loop.invariant.0.len
@@ -111,10 +111,10 @@ same-length-2 : tie.Need-same-length-2 invariant-loop decreases-loop
 same-length-2 c = c.before.loop.invariant.1.len
 
 returns : tie.Need-returns invariant-loop decreases-loop
-returns c = (filled-all c.before.loop.invariant.0 c.loop-test.false, filled-all c.before.loop.invariant.1 c.loop-test.false)
+returns c = (filled_all c.before.loop.invariant.0 c.loop-test.false, filled_all c.before.loop.invariant.1 c.loop-test.false)
 
-pub windows-spec : {M : Type 1} → statement M
-windows-spec =
+pub windows_spec : {M : Type 1} → statement M
+windows_spec =
     tie.close
     (tie.spec
     invariant-loop

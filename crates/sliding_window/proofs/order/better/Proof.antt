@@ -8,7 +8,7 @@ use lib.Signed.{mag}
 use mir.Syntax.{w64}
 use mir.Val.{to_z, of_z}
 use mir.ValLaws.{to_z-of_z}
-use Rattle.sliding_window.specs.Window.{beats, score, betterOf}
+use Rattle.sliding_window.specs.Window.{beats, score, better_of}
 use Rattle.sliding_window.proofs.order.better.Statement.{statement}
 use Rattle.sliding_window.proofs.order.better.Tie as tie
 
@@ -32,7 +32,7 @@ told : (g : Bool) (y x : ℤ) (r : Bool) → mag y < 2 ^ 63 → mag x < 2 ^ 63 �
 told g y x r f h e = sym (e ∙ (λ i. beats g (to_z-of_z w64 y (record { sfits = f }) i) (to_z-of_z w64 x (record { sfits = h }) i)))
 
 chosen : (c : tie.After-is-better) (t : Bool) → c.is-better.result ≡ t → let a = c.before.before.before.args in
-    cond t a.b a.a ≡ betterOf a.greatest a.run.now a.a a.b
+    cond t a.b a.a ≡ better_of a.greatest a.run.now a.a a.b
 chosen c t e =
     let a = c.before.before.before.args in
     sym (ap (λ (t : Bool). cond t a.b a.a) (told a.greatest (score a.run.now a.b) (score a.run.now a.a) _ c.before.before.is-better-arg.given c.before.is-better-arg2.given c.is-better.ensures ∙ e))
@@ -43,8 +43,8 @@ returns c = chosen c.before _ c.if1.true
 returns-2 : tie.Need-returns-2
 returns-2 c = chosen c.before _ c.if1.false
 
-pub better-spec : {M : Type 1} → statement M
-better-spec =
+pub better_spec : {M : Type 1} → statement M
+better_spec =
     tie.close
     (tie.spec
     mul-is-better

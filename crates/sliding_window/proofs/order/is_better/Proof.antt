@@ -23,5 +23,5 @@ returns-2 c =
     let s = c.before in
     plain s.args.y s.args.x s.ranges.y s.ranges.x ∙ sym (ap (λ (t : Bool). beats t s.args.y s.args.x) c.if1.false)
 
-pub is-better-spec : {M : Type 1} → statement M
-is-better-spec = tie.close (tie.spec returns returns-2)
+pub is_better_spec : {M : Type 1} → statement M
+is_better_spec = tie.close (tie.spec returns returns-2)

@@ -5,8 +5,8 @@ use mathlib.Core.Bool.{Bool, true, false, ◌&&◌}
 use Prim.Native.Nat.{◌/◌}
 use lib.Dec.{T, eqb}
 use borrow.Author.Tests.{eqb-true, eqb-false}
-use Rattle.cell.proofs.LineKinds.{is-kind, other-kind}
-use Rattle.volume.proofs.orbit_place.OrbitPlaceLaws.{last-place, own-place}
+use Rattle.cell.proofs.LineKinds.{is_kind, other_kind}
+use Rattle.volume.proofs.orbit_place.OrbitPlaceLaws.{last_place, own_place}
 use Rattle.volume.proofs.orbit_place.number_place.Statement.{statement}
 use Rattle.volume.proofs.orbit_place.number_place.Tie as tie
 
@@ -40,7 +40,7 @@ returns c =
     let k = t.before.before.before in
     let a = k.before.before.args in
     let e = both (eqb k.line-kind.result 3) (eqb a.j.l (a.cell.n3 / 2)) t.if1.true in
-    last-place _ _ _ (is-kind k.line-kind.ensures.1 (eqb-true k.line-kind.result 3 e.0)) e.1 c.pair_place.ensures.0
+    last_place _ _ _ (is_kind k.line-kind.ensures.1 (eqb-true k.line-kind.result 3 e.0)) e.1 c.pair_place.ensures.0
 
 pair-place-requires-2 : tie.Need-pair-place-requires-2
 pair-place-requires-2 c κs = search rules
@@ -53,10 +53,10 @@ returns-2 c =
     let t = c.before in
     let k = t.before.before.before in
     let a = k.before.before.args in
-    own-place _ _ _ (other (eqb k.line-kind.result 3) (eqb a.j.l (a.cell.n3 / 2)) t.if1.false (λ n. other-kind k.line-kind.ensures.1 k.line-kind.ensures.0 (eqb-false k.line-kind.result 3 n))) c.pair-place2.ensures.0
+    own_place _ _ _ (other (eqb k.line-kind.result 3) (eqb a.j.l (a.cell.n3 / 2)) t.if1.false (λ n. other_kind k.line-kind.ensures.1 k.line-kind.ensures.0 (eqb-false k.line-kind.result 3 n))) c.pair-place2.ensures.0
 
-pub number-place-spec : {M : Type 1} → statement M
-number-place-spec =
+pub number_place_spec : {M : Type 1} → statement M
+number_place_spec =
     tie.close
     (tie.spec
     cast-line-kind

@@ -4,16 +4,16 @@ use Prim.Native.Nat.{ℕ, ◌*◌, ◌-◌, ◌/◌, ◌<◌, ◌≤◌}
 use native.Mathlib.Omega.{arith}
 use lib.ListN.{drop}
 use Rattle.algebra.specs.cells.Cell.{full}
-use Rattle.cell.specs.Volume.{volumeLength}
-use Rattle.cell.specs.OrbitPlace.{leastPlace, orbitPlace}
-use Rattle.cell.specs.Operations.{cellGroup, cellHalves, triple_of}
-use Rattle.cell.proofs.OrbitPlaces.{orbit-place-low}
-use Rattle.volume.proofs.orbit_place.OrbitPlaceLaws.{layers-few, place-behind, least-next, least-end}
+use Rattle.cell.specs.Volume.{volume_length}
+use Rattle.cell.specs.OrbitPlace.{least_place, orbit_place}
+use Rattle.cell.specs.Operations.{cell_group, cell_halves, triple_of}
+use Rattle.cell.proofs.OrbitPlaces.{orbit_place_low}
+use Rattle.volume.proofs.orbit_place.OrbitPlaceLaws.{layers_few, place_behind, least_next, least_end}
 use Rattle.volume.proofs.orbit_place.orbit_place.Statement.{statement}
 use Rattle.volume.proofs.orbit_place.orbit_place.Tie as tie
 
 abbrev invariant-loop : tie.invariant-loop
-invariant-loop cell j count place₀ number₀ place number = orbitPlace (cellGroup cell) (cellHalves cell) (triple_of j) ≡ leastPlace (cellGroup cell) (cellHalves cell) (drop number (full (cellGroup cell))) (triple_of j) place
+invariant-loop cell j count place₀ number₀ place number = orbit_place (cell_group cell) (cell_halves cell) (triple_of j) ≡ least_place (cell_group cell) (cell_halves cell) (drop number (full (cell_group cell))) (triple_of j) place
 
 abbrev decreases-loop : tie.decreases-loop
 decreases-loop cell j count place₀ number₀ place number = count - number
@@ -28,7 +28,7 @@ pair-place-requires : tie.Need-pair-place-requires invariant-loop decreases-loop
 pair-place-requires c κs =
     let s = c.before.before in
     let n = s.requires.0.third in
-    (s.requires.0, subst (λ n. n ≤ 2880) (sym c.layer-count.ensures) (layers-few (cellGroup s.args.cell) (s.args.cell.n3 / 2) (omega (arith, n.low)) (omega (arith, n.high))), omega arith, omega arith)
+    (s.requires.0, subst (λ n. n ≤ 2880) (sym c.layer-count.ensures) (layers_few (cell_group s.args.cell) (s.args.cell.n3 / 2) (omega (arith, n.low)) (omega (arith, n.high))), omega arith, omega arith)
 
 mul-place : tie.Need-overflow-mul-place invariant-loop decreases-loop
 mul-place c = omega (arith, c.pair_place.ensures.1)
@@ -36,9 +36,9 @@ mul-place c = omega (arith, c.pair_place.ensures.1)
 loop-holds : tie.Need-loop-init invariant-loop decreases-loop
 loop-holds c =
     let s = c.before.before.before in
-    let g = cellGroup s.args.cell in
-    let a = cellHalves s.args.cell in
-    ap (leastPlace g a (full g) (triple_of s.args.j)) (sym (place-behind g a c.before.layer-count.ensures c.pair_place.ensures.0))
+    let g = cell_group s.args.cell in
+    let a = cell_halves s.args.cell in
+    ap (least_place g a (full g) (triple_of s.args.j)) (sym (place_behind g a c.before.layer-count.ensures c.pair_place.ensures.0))
 
 operation-at-requires : tie.Need-operation-at-requires invariant-loop decreases-loop
 operation-at-requires c κs =
@@ -63,21 +63,21 @@ loop-again c =
     let i = c.before in
     let o = i.before in
     let l = o.before.before in
-    least-next _ _ _ _ l.before.before.before.operation-count.ensures.0 _ _ l.loop.invariant o.before.loop-test.true o.operation-at.ensures i.image.ensures.0 c.lower-place.ensures
+    least_next _ _ _ _ l.before.before.before.operation-count.ensures.0 _ _ l.loop.invariant o.before.loop-test.true o.operation-at.ensures i.image.ensures.0 c.lower-place.ensures
 
 returns : tie.Need-returns invariant-loop decreases-loop
 returns c =
     let l = c.before in
     let s = l.before.before.before.before in
-    let g = cellGroup s.args.cell in
-    let a = cellHalves s.args.cell in
+    let g = cell_group s.args.cell in
+    let a = cell_halves s.args.cell in
     let z = s.requires.0 in
     let w = s.requires.1 in
-    let e = least-end g a (triple_of s.args.j) (full g) l.before.before.before.operation-count.ensures.0 l.loop.number l.loop.place l.loop.invariant c.loop-test.false in
-    (e, subst (λ n. n < volumeLength g a) (sym e) (orbit-place-low g a (omega (arith, z.first.low), omega (arith, z.second.low), omega (arith, z.third.low)) (triple_of s.args.j) (omega (arith, z.first.even, w.h), omega (arith, z.second.even, w.k), omega (arith, z.third.even, w.l))))
+    let e = least_end g a (triple_of s.args.j) (full g) l.before.before.before.operation-count.ensures.0 l.loop.number l.loop.place l.loop.invariant c.loop-test.false in
+    (e, subst (λ n. n < volume_length g a) (sym e) (orbit_place_low g a (omega (arith, z.first.low), omega (arith, z.second.low), omega (arith, z.third.low)) (triple_of s.args.j) (omega (arith, z.first.even, w.h), omega (arith, z.second.even, w.k), omega (arith, z.third.even, w.l))))
 
-pub orbit-place-spec : {M : Type 1} → statement M
-orbit-place-spec =
+pub orbit_place_spec : {M : Type 1} → statement M
+orbit_place_spec =
     tie.close
     (tie.spec
     invariant-loop

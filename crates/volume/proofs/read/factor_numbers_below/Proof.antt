@@ -1,7 +1,7 @@
 -- The numbers of the factor are a run.
 use borrow.Author.Rules.{rules}
 use mathlib.Core.Path.{◌∙◌, ap}
-use Rattle.cell.specs.Places.{allBelowAt}
+use Rattle.cell.specs.Places.{all_below_at}
 use Rattle.volume.proofs.read.factor_numbers_below.Statement.{statement}
 use Rattle.volume.proofs.read.factor_numbers_below.Tie as tie
 
@@ -14,7 +14,7 @@ run-below-requires c κs = search rules
 returns : tie.Need-returns
 returns c =
     let a = c.before.before.before.args in
-    c.run-below.ensures ∙ ap (allBelowAt a.p a.volume.now) c.before.factor-numbers.ensures.are
+    c.run-below.ensures ∙ ap (all_below_at a.p a.volume.now) c.before.factor-numbers.ensures.are
 
-pub factor-numbers-below-spec : {M : Type 1} → statement M
-factor-numbers-below-spec = tie.close (tie.spec factor-numbers-requires run-below-requires returns)
+pub factor_numbers_below_spec : {M : Type 1} → statement M
+factor_numbers_below_spec = tie.close (tie.spec factor-numbers-requires run-below-requires returns)

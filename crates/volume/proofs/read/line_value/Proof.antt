@@ -6,10 +6,10 @@ use native.Mathlib.Omega.{arith}
 use Rattle.algebra.specs.cells.Cell.{span}
 use Rattle.numbers.specs.Value.{prime, pair_of}
 use Rattle.numbers.proofs.Values.{small_by}
-use Rattle.cell.specs.Operations.{cellGroup, cellHalves, triple_of}
-use Rattle.cell.specs.Places.{allBelowAt, lineFactor}
+use Rattle.cell.specs.Operations.{cell_group, cell_halves, triple_of}
+use Rattle.cell.specs.Places.{all_below_at, line_factor}
 use Rattle.cell.proofs.PlaceLaws.{inside_of}
-use Rattle.volume.proofs.read.ReadingLaws.{beyond-value}
+use Rattle.volume.proofs.read.ReadingLaws.{beyond_value}
 use Rattle.volume.proofs.read.line_value.Statement.{statement}
 use Rattle.volume.proofs.read.line_value.Tie as tie
 
@@ -21,7 +21,7 @@ value-at-requires c κs =
     let s = c.before.before in
     let p = s.requires in
     let i = c.stored-index.ensures in
-    ((p.0.0, record { sizes = p.0.1; long = p.1.0 }, i.0), ap (allBelowAt (prime s.args.m) s.args.volume.now) i.1.0 ∙ p.1.1)
+    ((p.0.0, record { sizes = p.0.1; long = p.1.0 }, i.0), ap (all_below_at (prime s.args.m) s.args.volume.now) i.1.0 ∙ p.1.1)
 
 stored-count-requires : tie.Need-stored-count-requires
 stored-count-requires c κs = search rules
@@ -39,7 +39,7 @@ returns c =
     let t = c.before.before in
     let x = t.before in
     let a = x.before.before.before.args in
-    x.value-at.ensures ∙ ap (λ i. pair_of (lineFactor (cellGroup a.cell) (cellHalves a.cell) a.m a.volume.now i)) (x.before.stored-index.ensures.1.1.0 (omega (arith, t.stored-count.ensures, c.if1.true)))
+    x.value-at.ensures ∙ ap (λ i. pair_of (line_factor (cell_group a.cell) (cell_halves a.cell) a.m a.volume.now i)) (x.before.stored-index.ensures.1.1.0 (omega (arith, t.stored-count.ensures, c.if1.true)))
 
 returns-2 : tie.Need-returns-2
 returns-2 c =
@@ -49,12 +49,12 @@ returns-2 c =
     let i = x.before in
     let s = i.before.before in
     let a = s.args in
-    let beyond : span (cellGroup a.cell) (a.cell.n3 / 2) ≤ a.j.l = omega (arith, t.stored-count.ensures, o.before.if1.false) in
-    beyond-value (cellHalves a.cell) a.m a.volume.now (triple_of a.j) (triple_of i.stored-index.result) (inside_of s.requires.0.1 s.requires.0.2) a.cell.group
+    let beyond : span (cell_group a.cell) (a.cell.n3 / 2) ≤ a.j.l = omega (arith, t.stored-count.ensures, o.before.if1.false) in
+    beyond_value (cell_halves a.cell) a.m a.volume.now (triple_of a.j) (triple_of i.stored-index.result) (inside_of s.requires.0.1 s.requires.0.2) a.cell.group
     o.line-operation.ensures (i.stored-index.ensures.1.1.1 beyond) beyond x.value-at.ensures c.implied.ensures
 
-pub line-value-spec : {M : Type 1} → statement M
-line-value-spec =
+pub line_value_spec : {M : Type 1} → statement M
+line_value_spec =
     tie.close
     (tie.spec
     stored-index-requires

@@ -4,9 +4,9 @@ use mathlib.Core.Path.{refl, ◌∙◌, ap}
 use Prim.Native.Nat.{◌/◌, ◌≤◌}
 use native.Mathlib.Omega.{arith}
 use Rattle.algebra.specs.cells.Cell.{span}
-use Rattle.cell.specs.Operations.{cellGroup, cellHalves, triple_of}
+use Rattle.cell.specs.Operations.{cell_group, cell_halves, triple_of}
 use Rattle.cell.proofs.PlaceLaws.{inside_of}
-use Rattle.volume.proofs.read.ReadingLaws.{line-image, beyond-image}
+use Rattle.volume.proofs.read.ReadingLaws.{line_image, beyond_image}
 use Rattle.volume.proofs.read.stored_index.Statement.{statement}
 use Rattle.volume.proofs.read.stored_index.Tie as tie
 
@@ -31,10 +31,10 @@ returns-2 c =
     let p = s.requires in
     let e = t.stored-count.ensures in
     let inside = inside_of p.0 p.1 in
-    let beyond : span (cellGroup a.cell) (a.cell.n3 / 2) ≤ a.j.l = omega (arith, e, c.before.if1.false) in
-    let i = ap (λ l. (a.j.h, a.j.k, l)) c.flipped.ensures.0 ∙ line-image (cellHalves a.cell) (triple_of a.j) inside a.cell.group p.0.known beyond in
-    let b = beyond-image (cellHalves a.cell) (triple_of a.j) _ inside a.cell.group p.0.known i beyond in
+    let beyond : span (cell_group a.cell) (a.cell.n3 / 2) ≤ a.j.l = omega (arith, e, c.before.if1.false) in
+    let i = ap (λ l. (a.j.h, a.j.k, l)) c.flipped.ensures.0 ∙ line_image (cell_halves a.cell) (triple_of a.j) inside a.cell.group p.0.known beyond in
+    let b = beyond_image (cell_halves a.cell) (triple_of a.j) _ inside a.cell.group p.0.known i beyond in
     (record { h = p.1.h; k = p.2; l = b.2 }, (b.0, ((λ l. absurd (omega (arith, beyond, l))), λ l. i)))
 
-pub stored-index-spec : {M : Type 1} → statement M
-stored-index-spec = tie.close (tie.spec stored-count-requires flipped-requires returns returns-2)
+pub stored_index_spec : {M : Type 1} → statement M
+stored_index_spec = tie.close (tie.spec stored-count-requires flipped-requires returns returns-2)

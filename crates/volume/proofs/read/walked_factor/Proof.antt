@@ -5,10 +5,10 @@ use Prim.Native.Nat.{◌/◌}
 use native.Mathlib.Omega.{arith}
 use Rattle.numbers.specs.Value.{prime}
 use Rattle.numbers.proofs.Values.{small_by}
-use Rattle.cell.specs.Operations.{cellGroup, cellHalves, triple_of}
-use Rattle.cell.specs.Places.{allBelowAt}
-use Rattle.cell.proofs.PlaceLaws.{column-numbers, not_end}
-use Rattle.volume.proofs.read.ReadingLaws.{own-column, mate-column}
+use Rattle.cell.specs.Operations.{cell_group, cell_halves, triple_of}
+use Rattle.cell.specs.Places.{all_below_at}
+use Rattle.cell.proofs.PlaceLaws.{column_numbers, not_end}
+use Rattle.volume.proofs.read.ReadingLaws.{own_column, mate_column}
 use Rattle.volume.proofs.read.walked_factor.Statement.{statement}
 use Rattle.volume.proofs.read.walked_factor.Tie as tie
 
@@ -22,7 +22,7 @@ factor-at-requires : tie.Need-factor-at-requires
 factor-at-requires c κs = c.before.before.before.before.requires
 
 returns : tie.Need-returns
-returns c = c.factor-at.ensures
+returns c = c.factor_at_lem.ensures
 
 stored-count-requires : tie.Need-stored-count-requires
 stored-count-requires c κs = search rules
@@ -45,30 +45,30 @@ between-value-requires c κs =
     let r = q.stored-column.result in
     let inner = not_end r.l (a.cell.n3 / 2) (sym e.before.is-end.ensures ∙ e.if1.false) in (
       (p.0.0, record { sizes = p.0.1; long = p.1.0 }, record { h = i.1.h; k = i.2; l = omega (arith, n.stored-count.ensures, c.if2.false) }, inner.0, inner.1),
-      ap (allBelowAt (prime a.m) a.volume.now) (sym (column-numbers (cellGroup a.cell) (cellHalves a.cell) (triple_of a.j) (triple_of r) i.0)) ∙ p.1.1,
+      ap (all_below_at (prime a.m) a.volume.now) (sym (column_numbers (cell_group a.cell) (cell_halves a.cell) (triple_of a.j) (triple_of r) i.0)) ∙ p.1.1,
     )
 
 conjugate-requires : tie.Need-conjugate-requires
 conjugate-requires c κs =
     let b = c.before.before.before in
-    (b.before.before.before.before.before.before.before.before.requires.0.0, small_by _ _ b.between-value.ensures)
+    (b.before.before.before.before.before.before.before.before.requires.0.0, small_by _ _ b.between_value.ensures)
 
 returns-3 : tie.Need-returns-3
 returns-3 c =
     let b = c.before.before.before in
     let q = b.before.before.before.before.before.before in
     let a = q.before.before.args in
-    own-column (cellGroup a.cell) (cellHalves a.cell) a.m a.volume.now (triple_of a.j) (triple_of q.stored-column.result) q.stored-column.ensures.0 b.between-value.ensures c.if3.true
+    own_column (cell_group a.cell) (cell_halves a.cell) a.m a.volume.now (triple_of a.j) (triple_of q.stored-column.result) q.stored-column.ensures.0 b.between_value.ensures c.if3.true
 
 returns-4 : tie.Need-returns-4
 returns-4 c =
     let b = c.before.before.before.before in
     let q = b.before.before.before.before.before.before in
     let a = q.before.before.args in
-    mate-column (cellGroup a.cell) (cellHalves a.cell) a.m a.volume.now (triple_of a.j) (triple_of q.stored-column.result) q.stored-column.ensures.0 b.between-value.ensures c.before.if3.false c.conjugate.ensures
+    mate_column (cell_group a.cell) (cell_halves a.cell) a.m a.volume.now (triple_of a.j) (triple_of q.stored-column.result) q.stored-column.ensures.0 b.between_value.ensures c.before.if3.false c.conjugate.ensures
 
-pub walked-factor-spec : {M : Type 1} → statement M
-walked-factor-spec =
+pub walked_factor_spec : {M : Type 1} → statement M
+walked_factor_spec =
     tie.close
     (tie.spec
     stored-column-requires

@@ -5,15 +5,15 @@ use native.Mathlib.Omega.{arith}
 use lib.ListN.{length, drop}
 use Rattle.algebra.specs.cells.Cell.{full}
 use Rattle.numbers.specs.Value.{value_of}
-use Rattle.cell.specs.Consistency.{writeImages, recordOn}
-use Rattle.cell.specs.Operations.{cellGroup, cellHalves, triple_of}
-use Rattle.volume.proofs.record.RecordLaws.{images-next, images-end}
+use Rattle.cell.specs.Consistency.{write_images, record_on}
+use Rattle.cell.specs.Operations.{cell_group, cell_halves, triple_of}
+use Rattle.volume.proofs.record.RecordLaws.{images_next, images_end}
 use Rattle.volume.proofs.record.write_images.Statement.{statement}
 use Rattle.volume.proofs.record.write_images.Tie as tie
 
 abbrev invariant-loop : tie.invariant-loop
 invariant-loop m cell j x volume₀ count number₀ volume number =
-    (recordOn (cellGroup cell) (cellHalves cell) m (triple_of j) (value_of m x) volume₀ ≡ writeImages (cellGroup cell) (cellHalves cell) m (drop number (full (cellGroup cell))) (triple_of j) (value_of m x) volume)
+    (record_on (cell_group cell) (cell_halves cell) m (triple_of j) (value_of m x) volume₀ ≡ write_images (cell_group cell) (cell_halves cell) m (drop number (full (cell_group cell))) (triple_of j) (value_of m x) volume)
     × (length volume ≡ length volume₀)
 
 abbrev decreases-loop : tie.decreases-loop
@@ -45,7 +45,7 @@ loop-again c =
     let w = c.before.before in
     let o = w.before.before in
     let l = o.before.before in
-    (images-next _ _ _ _ _ _ l.before.operation-count.ensures.0 _ _ l.loop.invariant.0 o.before.loop-test.true o.operation-at.ensures w.write-image.ensures, omega arith)
+    (images_next _ _ _ _ _ _ l.before.operation-count.ensures.0 _ _ l.loop.invariant.0 o.before.loop-test.true o.operation-at.ensures w.write-image.ensures, omega arith)
 
 same_length : tie.Need-same-length invariant-loop decreases-loop
 same_length c = omega arith
@@ -53,10 +53,10 @@ same_length c = omega arith
 returns : tie.Need-returns invariant-loop decreases-loop
 returns c =
     let l = c.before in
-    images-end _ _ _ _ _ _ l.before.operation-count.ensures.0 _ _ l.loop.invariant.0 c.loop-test.false
+    images_end _ _ _ _ _ _ l.before.operation-count.ensures.0 _ _ l.loop.invariant.0 c.loop-test.false
 
-pub write-images-spec : {M : Type 1} → statement M
-write-images-spec =
+pub write_images_spec : {M : Type 1} → statement M
+write_images_spec =
     tie.close
     (tie.spec
     invariant-loop

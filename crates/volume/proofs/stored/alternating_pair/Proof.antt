@@ -9,5 +9,5 @@ returns c = ((λ e. refl), λ z. absurd (z c.if1.true))
 returns-2 : tie.Need-returns-2
 returns-2 c = ((λ e. absurd (c.if1.false e)), λ z. refl)
 
-pub alternating-pair-spec : {M : Type 1} → statement M
-alternating-pair-spec = tie.close (tie.spec returns returns-2)
+pub alternating_pair_spec : {M : Type 1} → statement M
+alternating_pair_spec = tie.close (tie.spec returns returns-2)

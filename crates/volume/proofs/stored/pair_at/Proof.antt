@@ -14,5 +14,5 @@ get-requires c κs = search rules
 returns : tie.Need-returns
 returns c = c.get.ensures ∙ ap (at c.before.before.before.args.volume.now) c.before.pair_place.ensures.0
 
-pub pair-at-spec : {M : Type 1} → statement M
-pair-at-spec = tie.close (tie.spec pair-place-requires get-requires returns)
+pub pair_at_spec : {M : Type 1} → statement M
+pair_at_spec = tie.close (tie.spec pair-place-requires get-requires returns)

@@ -2,9 +2,9 @@
 use borrow.Author.Rules.{rules}
 use mathlib.Core.Path.{sym, ◌∙◌}
 use native.Mathlib.Omega.{arith}
-use Rattle.cell.specs.Operations.{cellGroup, cellHalves, triple_of}
-use Rattle.cell.proofs.LineKinds.{is-kind, other-kind}
-use Rattle.cell.proofs.StoredFactors.{stored-inside, pair_reads, stored-pair, absent-value, absent-true, absent-false}
+use Rattle.cell.specs.Operations.{cell_group, cell_halves, triple_of}
+use Rattle.cell.proofs.LineKinds.{is_kind, other_kind}
+use Rattle.cell.proofs.StoredFactors.{stored_inside, pair_reads, stored_pair, absent_value, absent_true, absent_false}
 use Rattle.volume.proofs.stored.stored_factor.Statement.{statement}
 use Rattle.volume.proofs.stored.stored_factor.Tie as tie
 
@@ -17,7 +17,7 @@ line-kind-requires c κs = search rules
 alternating-factor-requires : tie.Need-alternating-factor-requires
 alternating-factor-requires c κs =
     let s = c.before.before.before.before in
-    (s.requires.0, s.requires.1, is-kind c.before.line-kind.ensures.1 c.if1.true)
+    (s.requires.0, s.requires.1, is_kind c.before.line-kind.ensures.1 c.if1.true)
 
 is-absent-requires : tie.Need-is-absent-requires
 is-absent-requires c κs = search rules
@@ -27,7 +27,7 @@ pair-at-requires c κs =
     let t = c.before.before in
     let p = t.before.before.before.before.requires in
     let k = t.before.line-kind.ensures in
-    stored-inside p.0 p.1 (other-kind k.1 k.0 t.if1.false)
+    stored_inside p.0 p.1 (other_kind k.1 k.0 t.if1.false)
 
 returns : tie.Need-returns
 returns c m = c.alternating-factor.ensures m
@@ -38,8 +38,8 @@ returns-2 c m =
     let s = l.before.before.before in
     let a = s.args in
     let k = l.line-kind.ensures in
-    let e = absent-true k.1 k.0 (sym c.before.is-absent.ensures ∙ c.if2.true) in
-    absent-value (cellHalves a.cell) (omega (arith, s.requires.0.sizes.third.low)) m a.volume.now (triple_of a.j) (cellGroup a.cell) e.0 e.1
+    let e = absent_true k.1 k.0 (sym c.before.is-absent.ensures ∙ c.if2.true) in
+    absent_value (cell_halves a.cell) (omega (arith, s.requires.0.sizes.third.low)) m a.volume.now (triple_of a.j) (cell_group a.cell) e.0 e.1
 
 returns-3 : tie.Need-returns-3
 returns-3 c m =
@@ -48,12 +48,12 @@ returns-3 c m =
     let s = g.before.before.before.before in
     let k = g.before.line-kind.ensures in
     let a = s.args in
-    pair_reads (cellGroup a.cell) (cellHalves a.cell) m a.volume.now (triple_of a.j)
-    (stored-pair (cellHalves a.cell) (omega (arith, s.requires.0.sizes.third.low)) m a.volume.now (triple_of a.j) (cellGroup a.cell) (other-kind k.1 k.0 g.if1.false) (absent-false k.1 k.0 (sym t.before.is-absent.ensures ∙ t.if2.false)) s.requires.1.l)
-    c.pair-at.ensures
+    pair_reads (cell_group a.cell) (cell_halves a.cell) m a.volume.now (triple_of a.j)
+    (stored_pair (cell_halves a.cell) (omega (arith, s.requires.0.sizes.third.low)) m a.volume.now (triple_of a.j) (cell_group a.cell) (other_kind k.1 k.0 g.if1.false) (absent_false k.1 k.0 (sym t.before.is-absent.ensures ∙ t.if2.false)) s.requires.1.l)
+    c.pair_at_lem.ensures
 
-pub stored-factor-spec : {M : Type 1} → statement M
-stored-factor-spec =
+pub stored_factor_spec : {M : Type 1} → statement M
+stored_factor_spec =
     tie.close
     (tie.spec
     cast-line-kind

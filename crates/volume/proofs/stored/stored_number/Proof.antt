@@ -2,7 +2,7 @@
 use borrow.Author.Rules.{rules}
 use mathlib.Core.Path.{ap}
 use lib.ListN.{get_or}
-use Rattle.cell.proofs.StoredFactors.{number-place}
+use Rattle.cell.proofs.StoredFactors.{number_place_lem}
 use Rattle.volume.proofs.stored.stored_number.Statement.{statement}
 use Rattle.volume.proofs.stored.stored_number.Tie as tie
 
@@ -28,10 +28,10 @@ returns : tie.Need-returns
 returns c =
     let p = c.before.before in
     let a = p.before.before.args in
-    ap (λ q. get_or a.volume.now q 0) (number-place a.cell.n2 _ p.pair_place.result a.p.y p.pair_place.ensures.0)
+    ap (λ q. get_or a.volume.now q 0) (number_place_lem a.cell.n2 _ p.pair_place.result a.p.y p.pair_place.ensures.0)
 
-pub stored-number-spec : {M : Type 1} → statement M
-stored-number-spec =
+pub stored_number_spec : {M : Type 1} → statement M
+stored_number_spec =
     tie.close
     (tie.spec
     pair-place-requires

@@ -2,9 +2,9 @@
 use borrow.Author.Rules.{rules}
 use mathlib.Core.Path.{◌∙◌, ap}
 use Rattle.numbers.specs.Value.{pair_of}
-use Rattle.numbers.proofs.Values.{small_by, value-by}
-use Rattle.cell.specs.Operations.{cellGroup}
-use Rattle.cell.specs.Volume.{rotated, overI, lineIn}
+use Rattle.numbers.proofs.Values.{small_by, value_by}
+use Rattle.cell.specs.Operations.{cell_group}
+use Rattle.cell.specs.Volume.{rotated, over_i, line_in}
 use Rattle.volume.proofs.stored.stored_value.Statement.{statement}
 use Rattle.volume.proofs.stored.stored_value.Tie as tie
 
@@ -17,11 +17,11 @@ without-i-requires c κs =
     (s.requires.0.0, small_by _ _ (c.stored-factor.ensures s.args.m s.requires.1), s.requires.0.1.sizes.known)
 
 returns : tie.Need-returns
-unfolding lineIn
+unfolding line_in
 returns c =
     let s = c.before.before.before in
     let a = s.args in
-    c.without-i.ensures ∙ ap (λ z. pair_of (overI a.m (rotated (cellGroup a.cell) a.j.h) z)) (value-by a.m _ (c.before.stored-factor.ensures a.m s.requires.1))
+    c.without-i.ensures ∙ ap (λ z. pair_of (over_i a.m (rotated (cell_group a.cell) a.j.h) z)) (value_by a.m _ (c.before.stored-factor.ensures a.m s.requires.1))
 
-pub stored-value-spec : {M : Type 1} → statement M
-stored-value-spec = tie.close (tie.spec stored-factor-requires without-i-requires returns)
+pub stored_value_spec : {M : Type 1} → statement M
+stored_value_spec = tie.close (tie.spec stored-factor-requires without-i-requires returns)

@@ -21,10 +21,10 @@ between-value-requires c κs =
     ((p.0.0, p.0.1, p.0.2, n.0, n.1), p.1)
 
 returns : tie.Need-returns
-returns c = c.stored-value.ensures
+returns c = c.stored_value.ensures
 
 returns-2 : tie.Need-returns-2
-returns-2 c = c.between-value.ensures
+returns-2 c = c.between_value.ensures
 
-pub value-at-spec : {M : Type 1} → statement M
-value-at-spec = tie.close (tie.spec is-end-requires stored-value-requires between-value-requires returns returns-2)
+pub value_at_spec : {M : Type 1} → statement M
+value_at_spec = tie.close (tie.spec is-end-requires stored-value-requires between-value-requires returns returns-2)

@@ -9,5 +9,5 @@ returns c = rw (even_is _ c.if1.true)
 returns-2 : tie.Need-returns-2
 returns-2 c = rw (odd_is _ c.if1.false)
 
-pub alternating-part-spec : {M : Type 1} → statement M
-alternating-part-spec = tie.close (tie.spec returns returns-2)
+pub alternating_part_spec : {M : Type 1} → statement M
+alternating_part_spec = tie.close (tie.spec returns returns-2)

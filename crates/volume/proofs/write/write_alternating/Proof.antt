@@ -1,8 +1,8 @@
 -- The ends are one number each of pair 0.
 use borrow.Author.Rules.{rules}
 use native.Mathlib.Omega.{arith}
-use Rattle.cell.proofs.PlaceLaws.{first-inside, middle-inside}
-use Rattle.volume.proofs.write.WrittenFactors.{first-written, second-written, pair-written}
+use Rattle.cell.proofs.PlaceLaws.{first_inside, middle_inside}
+use Rattle.volume.proofs.write.WrittenFactors.{first_written, second_written, pair_written}
 use Rattle.volume.proofs.write.write_alternating.Statement.{statement}
 use Rattle.volume.proofs.write.write_alternating.Tie as tie
 
@@ -18,7 +18,7 @@ mul-volume c = search rules
 slice-write-volume : tie.Need-slice-write-volume
 slice-write-volume c =
     let s = c.before.before.before.before.before in
-    omega (arith, s.requires.1, first-inside s.requires.0.0 _ s.requires.0.1 s.requires.0.2 s.requires.0.3)
+    omega (arith, s.requires.1, first_inside s.requires.0.0 _ s.requires.0.1 s.requires.0.2 s.requires.0.3)
 
 alternating-part-requires : tie.Need-alternating-part-requires
 alternating-part-requires c κs = search rules
@@ -32,7 +32,7 @@ mul-volume-2 c = search rules
 slice-write-volume-2 : tie.Need-slice-write-volume-2
 slice-write-volume-2 c =
     let s = c.before.before.before.before.before.before.before.before in
-    omega (arith, s.requires.1, first-inside s.requires.0.0 _ s.requires.0.1 s.requires.0.2 s.requires.0.3)
+    omega (arith, s.requires.1, first_inside s.requires.0.0 _ s.requires.0.1 s.requires.0.2 s.requires.0.3)
 
 pair-place-requires-2 : tie.Need-pair-place-requires-2
 pair-place-requires-2 c κs = search rules
@@ -41,13 +41,13 @@ store-requires : tie.Need-store-requires
 store-requires c κs =
     let t = c.before.before in
     let s = t.before.before.before.before.before.before.before in
-    omega (arith, s.requires.1, middle-inside s.requires.0.0 _ s.requires.0.1 s.requires.0.2 s.requires.0.3 s.requires.0.4 t.if2.false)
+    omega (arith, s.requires.1, middle_inside s.requires.0.0 _ s.requires.0.1 s.requires.0.2 s.requires.0.3 s.requires.0.4 t.if2.false)
 
 same_length : tie.Need-same-length
 same_length c = search rules
 
 returns : tie.Need-returns
-returns c = first-written _ _ _ _ _ _ _ c.if1.true c.before.before.pair_place.ensures.0
+returns c = first_written _ _ _ _ _ _ _ c.if1.true c.before.before.pair_place.ensures.0
 
 same-length-2 : tie.Need-same-length-2
 same-length-2 c = search rules
@@ -55,7 +55,7 @@ same-length-2 c = search rules
 returns-2 : tie.Need-returns-2
 returns-2 c =
     let t = c.before in
-    second-written _ _ _ _ _ _ _ t.before.before.if1.false t.if2.true t.before.before.before.before.pair_place.ensures.0 c.alternating-part.ensures
+    second_written _ _ _ _ _ _ _ t.before.before.if1.false t.if2.true t.before.before.before.before.pair_place.ensures.0 c.alternating-part.ensures
 
 same-length-3 : tie.Need-same-length-3
 same-length-3 c = search rules
@@ -64,10 +64,10 @@ returns-3 : tie.Need-returns-3
 returns-3 c =
     let u = c.before.before in
     let t = u.before.before.before in
-    pair-written _ _ _ _ _ _ _ t.before.before.if1.false t.if2.false u.before.pair-place2.ensures.0 u.store.ensures
+    pair_written _ _ _ _ _ _ _ t.before.before.if1.false t.if2.false u.before.pair-place2.ensures.0 u.store.ensures
 
-pub write-alternating-spec : {M : Type 1} → statement M
-write-alternating-spec =
+pub write_alternating_spec : {M : Type 1} → statement M
+write_alternating_spec =
     tie.close
     (tie.spec
     pair-place-requires

@@ -1,9 +1,9 @@
 -- A line along h has the places of its layout.
 use borrow.Author.Rules.{rules}
 use native.Mathlib.Omega.{arith}
-use Rattle.volume_transform.proofs.plan.JobTurns.{width_low, plane-low, start-h}
-use Rattle.volume_transform.proofs.plan.AxisLines.{gathered-h}
-use Rattle.volume_transform.proofs.plan.Neighbours.{neighbours-h}
+use Rattle.volume_transform.proofs.plan.JobTurns.{width_low, plane_low, start_h}
+use Rattle.volume_transform.proofs.plan.AxisLines.{gathered_h}
+use Rattle.volume_transform.proofs.plan.Neighbours.{neighbours_h}
 use Rattle.volume_transform.proofs.axis_lines.along_h.Statement.{statement}
 use Rattle.volume_transform.proofs.axis_lines.along_h.Tie as tie
 
@@ -23,22 +23,22 @@ div-t8 : tie.Need-nonzero-div-t8
 div-t8 c = omega arith
 
 mul-t9 : tie.Need-overflow-mul-t9
-mul-t9 c = let s = c.before.before.before in omega (arith, plane-low s.requires.0.sizes.sizes)
+mul-t9 c = let s = c.before.before.before in omega (arith, plane_low s.requires.0.sizes.sizes)
 
 mul-t10 : tie.Need-overflow-mul-t10
-mul-t10 c = let s = c.before.before.before in omega (arith, start-h s.requires.0.sizes.sizes s.args.y s.requires.1)
+mul-t10 c = let s = c.before.before.before in omega (arith, start_h s.requires.0.sizes.sizes s.args.y s.requires.1)
 
 rem-t11 : tie.Need-nonzero-rem-t11
 rem-t11 c = omega arith
 
 add-t12 : tie.Need-overflow-add-t12
-add-t12 c = let s = c.before.before.before in omega (arith, start-h s.requires.0.sizes.sizes s.args.y s.requires.1)
+add-t12 c = let s = c.before.before.before in omega (arith, start_h s.requires.0.sizes.sizes s.args.y s.requires.1)
 
 returns : tie.Need-returns
-returns c = let s = c.before.before.before in (gathered-h s.args.plan s.requires.0 s.args.y s.requires.1, neighbours-h s.args.plan s.requires.0 s.args.y s.requires.1)
+returns c = let s = c.before.before.before in (gathered_h s.args.plan s.requires.0 s.args.y s.requires.1, neighbours_h s.args.plan s.requires.0 s.args.y s.requires.1)
 
-pub along-h-spec : {M : Type 1} → statement M
-along-h-spec =
+pub along_h_spec : {M : Type 1} → statement M
+along_h_spec =
     tie.close
     (tie.spec
     add-width

@@ -2,8 +2,8 @@
 use borrow.Author.Rules.{rules}
 use native.Mathlib.Omega.{arith}
 use Rattle.volume_transform.proofs.plan.JobTurns.{row_low}
-use Rattle.volume_transform.proofs.plan.AxisLines.{row-k}
-use Rattle.volume_transform.proofs.plan.Neighbours.{rows-after}
+use Rattle.volume_transform.proofs.plan.AxisLines.{row_k}
+use Rattle.volume_transform.proofs.plan.Neighbours.{rows_after}
 use Rattle.volume_transform.proofs.axis_lines.row_at.Statement.{statement}
 use Rattle.volume_transform.proofs.axis_lines.row_at.Tie as tie
 
@@ -17,10 +17,10 @@ mul-t6 : tie.Need-overflow-mul-t6
 mul-t6 c = let s = c.before in omega (arith, row_low s.requires.0.sizes.sizes s.args.y s.requires.1)
 
 returns : tie.Need-returns
-returns c = let s = c.before in (row-k s.args.plan s.requires.0 s.args.y s.requires.1, rows-after s.args.plan s.requires.0 s.args.y)
+returns c = let s = c.before in (row_k s.args.plan s.requires.0 s.args.y s.requires.1, rows_after s.args.plan s.requires.0 s.args.y)
 
-pub row-at-spec : {M : Type 1} → statement M
-row-at-spec =
+pub row_at_spec : {M : Type 1} → statement M
+row_at_spec =
     tie.close
     (tie.spec
     cast-half

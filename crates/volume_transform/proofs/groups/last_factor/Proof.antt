@@ -5,9 +5,9 @@ use Rattle.algebra.specs.ring.Ring.{Ops}
 use Rattle.numbers.specs.Value.{ring}
 use Rattle.numbers.specs.Bounds.{res}
 use Rattle.numbers.proofs.Residues.{below_by}
-use Rattle.batches.proofs.LastReduction.{shift-holds}
-use Rattle.volume_transform.proofs.plan.Numbered.{other-direction}
-use Rattle.volume_transform.proofs.GroupTurns.{shift-over, scale-as}
+use Rattle.batches.proofs.LastReduction.{shift_holds}
+use Rattle.volume_transform.proofs.plan.Numbered.{other_direction}
+use Rattle.volume_transform.proofs.GroupTurns.{shift_over, scale_as}
 use Rattle.volume_transform.proofs.groups.last_factor.Statement.{statement}
 use Rattle.volume_transform.proofs.groups.last_factor.Tie as tie
 
@@ -30,7 +30,7 @@ returns : tie.Need-returns
 returns c =
     let f = c.before in
     let s = f.before in
-    (below_by s.args.m (res s.args.m 4294967296) f.shift.ensures, scale-as s.args.n c.if1.true (shift-holds s.args.m f.shift.ensures))
+    (below_by s.args.m (res s.args.m 4294967296) f.shift.ensures, scale_as s.args.n c.if1.true (shift_holds s.args.m f.shift.ensures))
 
 returns-2 : tie.Need-returns-2
 returns-2 c =
@@ -39,8 +39,8 @@ returns-2 c =
     let f = i.before in
     let s = f.before in (
       below_by s.args.m ((ring s.args.m).mul (res s.args.m f.shift.result) (res s.args.m r.reciprocal.result)) c.mul.ensures,
-      scale-as s.args.n (other-direction s.args.direction s.requires.1 i.if1.false) (shift-over s.args.n f.shift.ensures r.reciprocal.ensures.0 c.mul.ensures),
+      scale_as s.args.n (other_direction s.args.direction s.requires.1 i.if1.false) (shift_over s.args.n f.shift.ensures r.reciprocal.ensures.0 c.mul.ensures),
     )
 
-pub last-factor-spec : {M : Type 1} → statement M
-last-factor-spec = tie.close (tie.spec shift-requires cast-reciprocal reciprocal-requires mul-requires returns returns-2)
+pub last_factor_spec : {M : Type 1} → statement M
+last_factor_spec = tie.close (tie.spec shift-requires cast-reciprocal reciprocal-requires mul-requires returns returns-2)

@@ -4,8 +4,8 @@ use native.Mathlib.Omega.{arith}
 use mathlib.Core.Path.{sym, ◌∙◌}
 use Prim.Native.Nat.{◌+◌, ◌*◌, ◌≤◌}
 use lib.ListN.{length}
-use Rattle.line.proofs.kinds.Dispatch.{prefix-length}
-use Rattle.volume_transform.proofs.GroupTurns.{lent-kept}
+use Rattle.line.proofs.kinds.Dispatch.{prefix_length}
+use Rattle.volume_transform.proofs.GroupTurns.{lent_kept}
 use Rattle.volume_transform.proofs.groups.turn_folded.Statement.{statement}
 use Rattle.volume_transform.proofs.groups.turn_folded.Tie as tie
 
@@ -25,18 +25,18 @@ slice-relend-prefix-turn-short : tie.Need-slice-relend-prefix-turn-short
 slice-relend-prefix-turn-short c = (room c.before.before.before.before.before).0
 
 slice-aggregate-turn-short : tie.Need-slice-aggregate-turn-short
-slice-aggregate-turn-short c = let s = c.before.before.before.before.before.before in sym (prefix-length _ s.args.scratch.now (room s).0)
+slice-aggregate-turn-short c = let s = c.before.before.before.before.before.before in sym (prefix_length _ s.args.scratch.now (room s).0)
 
 slice-relend-prefix-turn-short-2 : tie.Need-slice-relend-prefix-turn-short-2
 slice-relend-prefix-turn-short-2 c = (room c.before.before.before.before.before.before).1
 
 slice-aggregate-turn-short-2 : tie.Need-slice-aggregate-turn-short-2
-slice-aggregate-turn-short-2 c = let s = c.before.before.before.before.before.before.before in sym (prefix-length _ s.args.work.now (room s).1)
+slice-aggregate-turn-short-2 c = let s = c.before.before.before.before.before.before.before in sym (prefix_length _ s.args.work.now (room s).1)
 
 turn-short-requires : tie.Need-turn-short-requires
 turn-short-requires c κs =
     let s = c.before.before.before.before.before.before.before in
-    (s.requires.0, (s.requires.1.0, (prefix-length _ s.args.scratch.now (room s).0 ∙ omega arith, prefix-length _ s.args.work.now (room s).1)))
+    (s.requires.0, (s.requires.1.0, (prefix_length _ s.args.scratch.now (room s).0 ∙ omega arith, prefix_length _ s.args.work.now (room s).1)))
 
 same_length : tie.Need-same-length
 same_length c = search rules
@@ -52,10 +52,10 @@ returns c =
     let k = c.before.before.before in
     let t = c.before.before.before.before.before.before in
     let s = c.before.before.before.before.before.before.before.before.before.before.before.before.before.before in
-    (t.turn-short.ensures, lent-kept s.args.scratch.now t.turn-short.new.1.1.1.1.1.1.1.1.1.0 (omega (arith, short s)) (k.scratch.given.0 ∙ prefix-length _ s.args.scratch.now (room s).0))
+    (t.turn-short.ensures, lent_kept s.args.scratch.now t.turn-short.new.1.1.1.1.1.1.1.1.1.0 (omega (arith, short s)) (k.scratch.given.0 ∙ prefix_length _ s.args.scratch.now (room s).0))
 
-pub turn-folded-spec : {M : Type 1} → statement M
-turn-folded-spec =
+pub turn_folded_spec : {M : Type 1} → statement M
+turn_folded_spec =
     tie.close
     (tie.spec
     mul-size

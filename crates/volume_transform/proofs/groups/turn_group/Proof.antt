@@ -1,6 +1,6 @@
 -- The kind of the lines tells whether they are rows, and whether they are folded.
 use mathlib.Core.Path.{◌∙◌}
-use Rattle.volume_transform.proofs.GroupTurns.{rows_are, lines_are, rows_of, lines-of, beyond-two}
+use Rattle.volume_transform.proofs.GroupTurns.{rows_are, lines_are, rows_of, lines_of_lem, beyond_two}
 use Rattle.volume_transform.proofs.groups.turn_group.Statement.{statement}
 use Rattle.volume_transform.proofs.groups.turn_group.Tie as tie
 
@@ -15,15 +15,15 @@ turn-plain-requires c κs =
     let i2 = c.before.before.before in
     let i = c.before.before.before.before.before in
     let s = c.before.before.before.before.before.before.before.before.before.before in
-    ((lines-of s.args.line s.requires.0.0 i.if1.false, i2.if2.true, s.requires.0.1, s.requires.0.2), s.requires.1)
+    ((lines_of_lem s.args.line s.requires.0.0 i.if1.false, i2.if2.true, s.requires.0.1, s.requires.0.2), s.requires.1)
 
 turn-folded-requires : tie.Need-turn-folded-requires
 turn-folded-requires c κs =
     let i2 = c.before.before.before in
     let i = c.before.before.before.before.before in
     let s = c.before.before.before.before.before.before.before.before.before.before in
-    let h = lines-of s.args.line s.requires.0.0 i.if1.false in
-    ((h, beyond-two s.args.line.kind i2.if2.false i.if1.false h.room.known, s.requires.0.1, s.requires.0.2), s.requires.1)
+    let h = lines_of_lem s.args.line s.requires.0.0 i.if1.false in
+    ((h, beyond_two s.args.line.kind i2.if2.false i.if1.false h.room.known, s.requires.0.1, s.requires.0.2), s.requires.1)
 
 same_length : tie.Need-same-length
 same_length c = c.before.before.before.before.before.volume.given
@@ -73,8 +73,8 @@ returns-3 c =
     let s = c.before.before.before.before.before.before.before.before.before.before.before.before.before.before.before.before.before in
     (r.turn-folded.ensures.0 ∙ lines_are s.args.line s.args.lanes s.args.volume.now i.if1.false, r.turn-folded.ensures.1)
 
-pub turn-group-spec : {M : Type 1} → statement M
-turn-group-spec =
+pub turn_group_spec : {M : Type 1} → statement M
+turn_group_spec =
     tie.close
     (tie.spec
     turn-rows-requires

@@ -4,10 +4,10 @@ use native.Mathlib.Omega.{arith}
 use mathlib.Core.Path.{◌≡◌, sym, ◌∙◌, ap}
 use Prim.Native.Nat.{ℕ, ◌+◌, ◌*◌, ◌≤◌}
 use lib.ListN.{length}
-use Rattle.line.proofs.kinds.Dispatch.{prefix-length}
-use Rattle.volume_transform.proofs.GroupTurns.{lent-kept}
-use Rattle.volume_transform.proofs.RowParts.{rows_long, rows-below, rows-placed, rows_same}
-use Rattle.volume_transform.proofs.FoldedTurns.{folds-ready, rows-turned}
+use Rattle.line.proofs.kinds.Dispatch.{prefix_length}
+use Rattle.volume_transform.proofs.GroupTurns.{lent_kept}
+use Rattle.volume_transform.proofs.RowParts.{rows_long, rows_below, rows_placed, rows_same}
+use Rattle.volume_transform.proofs.FoldedTurns.{folds_ready, rows_turned_lem}
 use Rattle.volume_transform.proofs.groups.turn_rows.Statement.{statement}
 use Rattle.volume_transform.proofs.groups.turn_rows.Tie as tie
 
@@ -53,13 +53,13 @@ slice-relend-prefix-turn-rows : tie.Need-slice-relend-prefix-turn-rows
 slice-relend-prefix-turn-rows c = (room c.before.before.before.before.before.before.before).0
 
 slice-aggregate-turn-rows : tie.Need-slice-aggregate-turn-rows
-slice-aggregate-turn-rows c = let s = c.before.before.before.before.before.before.before.before in sym (prefix-length _ s.args.scratch.now (room s).0)
+slice-aggregate-turn-rows c = let s = c.before.before.before.before.before.before.before.before in sym (prefix_length _ s.args.scratch.now (room s).0)
 
 slice-relend-prefix-turn-rows-2 : tie.Need-slice-relend-prefix-turn-rows-2
 slice-relend-prefix-turn-rows-2 c = (room c.before.before.before.before.before.before.before.before).1
 
 slice-aggregate-turn-rows-2 : tie.Need-slice-aggregate-turn-rows-2
-slice-aggregate-turn-rows-2 c = let s = c.before.before.before.before.before.before.before.before.before in sym (prefix-length _ s.args.work.now (room s).1)
+slice-aggregate-turn-rows-2 c = let s = c.before.before.before.before.before.before.before.before.before in sym (prefix_length _ s.args.work.now (room s).1)
 
 turn-rows-requires : tie.Need-turn-rows-requires
 turn-rows-requires c κs =
@@ -67,11 +67,11 @@ turn-rows-requires c κs =
     let x = s.args.line in
     let h = s.requires.0.0 in
     let e = s.requires.0.2 in
-    let ready = folds-ready x s.requires.0.1 (not_plain s) h.sound s.args.m e s.requires.1.0 in (
+    let ready = folds_ready x s.requires.0.1 (not_plain s) h.sound s.args.m e s.requires.1.0 in (
       (ready.0, ready.2, ready.3, h.sound.directed),
       (
-        (h.few, rows_long x h ∙ counted s.args.lanes x.count x.half h.counted, rows-below x h s.args.m e),
-        (omega (arith, prefix-length _ s.args.scratch.now (room s).0), prefix-length _ s.args.work.now (room s).1),
+        (h.few, rows_long x h ∙ counted s.args.lanes x.count x.half h.counted, rows_below x h s.args.m e),
+        (omega (arith, prefix_length _ s.args.scratch.now (room s).0), prefix_length _ s.args.work.now (room s).1),
       ),
     )
   where
@@ -83,7 +83,7 @@ same_length c =
     let t = c.before.before.before.before.before.before in
     let s = c.before.before.before.before.before.before.before.before.before.before.before.before.before.before.before.before in
     let h = s.requires.0.0 in
-    rows_same s.args.line h _ (rows-turned s.args.line s.requires.0.1 (not_plain s) h.sound s.args.m s.args.lanes _ s.requires.0.2 h.counted (t.turn-rows.ensures s.args.tan.now))
+    rows_same s.args.line h _ (rows_turned_lem s.args.line s.requires.0.1 (not_plain s) h.sound s.args.m s.args.lanes _ s.requires.0.2 h.counted (t.turn-rows.ensures s.args.tan.now))
 
 same-length-2 : tie.Need-same-length-2
 same-length-2 c = search rules
@@ -97,12 +97,12 @@ returns c =
     let t = c.before.before.before.before.before.before in
     let s = c.before.before.before.before.before.before.before.before.before.before.before.before.before.before.before.before in
     let h = s.requires.0.0 in (
-      rows-placed s.args.line h _ (rows-turned s.args.line s.requires.0.1 (not_plain s) h.sound s.args.m s.args.lanes _ s.requires.0.2 h.counted (t.turn-rows.ensures s.args.tan.now)),
-      lent-kept s.args.scratch.now t.turn-rows.new.1.1.1.1.1.1.1.1.1.1.0 (omega (arith, short s)) (k.scratch.given.0 ∙ prefix-length _ s.args.scratch.now (room s).0),
+      rows_placed s.args.line h _ (rows_turned_lem s.args.line s.requires.0.1 (not_plain s) h.sound s.args.m s.args.lanes _ s.requires.0.2 h.counted (t.turn-rows.ensures s.args.tan.now)),
+      lent_kept s.args.scratch.now t.turn-rows.new.1.1.1.1.1.1.1.1.1.1.0 (omega (arith, short s)) (k.scratch.given.0 ∙ prefix_length _ s.args.scratch.now (room s).0),
     )
 
-pub turn-rows-spec : {M : Type 1} → statement M
-turn-rows-spec =
+pub turn_rows_spec : {M : Type 1} → statement M
+turn_rows_spec =
     tie.close
     (tie.spec
     mul-start

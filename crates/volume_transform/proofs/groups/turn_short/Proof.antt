@@ -4,9 +4,9 @@ use mathlib.Core.Path.{◌≡◌, refl, ◌∙◌, ap}
 use Prim.Native.Nat.{◌-◌, ◌≤◌}
 use Rattle.algebra.specs.lines.Kinds.{slots}
 use Rattle.lengths.specs.Lengths.{kind_of}
-use Rattle.folds.specs.FoldedLines.{mirrorKind}
-use Rattle.line.proofs.kinds.Dispatch.{mirror-kind}
-use Rattle.volume_transform.proofs.FoldedTurns.{folds-ready, lines-ready, lines-turned, alternating-count}
+use Rattle.folds.specs.FoldedLines.{mirror_kind}
+use Rattle.line.proofs.kinds.Dispatch.{mirror_kind_lem}
+use Rattle.volume_transform.proofs.FoldedTurns.{folds_ready, lines_ready, lines_turned, alternating_count}
 use Rattle.volume_transform.proofs.groups.turn_short.Statement.{statement}
 use Rattle.volume_transform.proofs.groups.turn_short.Tie as tie
 
@@ -17,8 +17,8 @@ short : (s : tie.Start) → s.args.line.half ≤ 359
 short s = s.requires.0.0.room.folded (not_plain s)
 
 -- the other two kinds
-mirror : (s : tie.Start) → (s.args.line.kind ≡ 3 → ⊥) → kind_of s.args.line.kind ≡ mirrorKind (s.args.line.kind - 4)
-mirror s n = mirror-kind s.args.line.kind (omega (arith, n, s.requires.0.1)) s.requires.0.0.sound.known
+mirror : (s : tie.Start) → (s.args.line.kind ≡ 3 → ⊥) → kind_of s.args.line.kind ≡ mirror_kind (s.args.line.kind - 4)
+mirror s n = mirror_kind_lem s.args.line.kind (omega (arith, n, s.requires.0.1)) s.requires.0.0.sound.known
 
 turn-lines-requires : tie.Need-turn-lines-requires
 turn-lines-requires c κs =
@@ -26,10 +26,10 @@ turn-lines-requires c κs =
     let s = c.before.before.before.before.before.before.before.before in
     let x = s.args.line in
     let h = s.requires.0.0 in (
-      folds-ready x s.requires.0.2 (not_plain s) h.sound s.args.m s.requires.0.3 s.requires.1.0,
+      folds_ready x s.requires.0.2 (not_plain s) h.sound s.args.m s.requires.0.3 s.requires.1.0,
       (
         (h.sound.directed, short s, s.requires.1.1.0, s.requires.1.1.1, h.few, h.wide),
-        lines-ready x s.requires.0.2 (not_plain s) h.sound s.args.m x.half s.args.lanes s.args.volume.now s.requires.0.3 (alternating-count x h i.if1.true) h,
+        lines_ready x s.requires.0.2 (not_plain s) h.sound s.args.m x.half s.args.lanes s.args.volume.now s.requires.0.3 (alternating_count x h i.if1.true) h,
       ),
     )
 
@@ -45,11 +45,11 @@ turn-lines-requires-2 c κs =
     let s = c.before.before.before.before.before.before.before.before.before in
     let x = s.args.line in
     let h = s.requires.0.0 in
-    let ready = folds-ready x s.requires.0.2 (not_plain s) h.sound s.args.m s.requires.0.3 s.requires.1.0 in (
+    let ready = folds_ready x s.requires.0.2 (not_plain s) h.sound s.args.m s.requires.0.3 s.requires.1.0 in (
       (ready.0, ready.1, ready.2, ready.3, omega (arith, h.sound.known)),
       (
         (h.sound.directed, short s, s.requires.1.1.0, s.requires.1.1.1, h.few, h.wide),
-        lines-ready x s.requires.0.2 (not_plain s) h.sound s.args.m _ s.args.lanes s.args.volume.now s.requires.0.3 (h.counted ∙ ap (λ k. slots k x.half) (mirror s i.if1.false)) h,
+        lines_ready x s.requires.0.2 (not_plain s) h.sound s.args.m _ s.args.lanes s.args.volume.now s.requires.0.3 (h.counted ∙ ap (λ k. slots k x.half) (mirror s i.if1.false)) h,
       ),
     )
 
@@ -69,7 +69,7 @@ returns c =
     let s = c.before.before.before.before.before.before.before.before.before.before.before.before.before.before.before in
     let x = s.args.line in
     let h = s.requires.0.0 in
-    lines-turned x s.requires.0.2 (not_plain s) h.sound s.args.m s.args.lanes s.args.volume.now s.requires.0.3 (ap kind_of i.if1.true) refl h.counted t.turn_lines.ensures
+    lines_turned x s.requires.0.2 (not_plain s) h.sound s.args.m s.args.lanes s.args.volume.now s.requires.0.3 (ap kind_of i.if1.true) refl h.counted t.turn_lines.ensures
 
 same-length-4 : tie.Need-same-length-4
 same-length-4 c = c.before.before.before.before.before.volume2.given
@@ -87,10 +87,10 @@ returns-2 c =
     let s = c.before.before.before.before.before.before.before.before.before.before.before.before.before.before.before.before in
     let x = s.args.line in
     let h = s.requires.0.0 in
-    lines-turned x s.requires.0.2 (not_plain s) h.sound s.args.m s.args.lanes s.args.volume.now s.requires.0.3 (mirror s i.if1.false) (h.room.unrotated i.if1.false) h.counted t.turn-lines2.ensures
+    lines_turned x s.requires.0.2 (not_plain s) h.sound s.args.m s.args.lanes s.args.volume.now s.requires.0.3 (mirror s i.if1.false) (h.room.unrotated i.if1.false) h.counted t.turn-lines2.ensures
 
-pub turn-short-spec : {M : Type 1} → statement M
-turn-short-spec =
+pub turn_short_spec : {M : Type 1} → statement M
+turn_short_spec =
     tie.close
     (tie.spec
     turn-lines-requires

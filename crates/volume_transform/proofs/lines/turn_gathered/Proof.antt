@@ -5,15 +5,15 @@ use mathlib.Core.Path.{refl, sym, ◌∙◌, ap}
 use Prim.Native.Nat.{◌+◌, ◌*◌}
 use lib.ListN.{length}
 use Rattle.slices.specs.Pairs.{at}
-use Rattle.slices.proofs.Pairs.{length-fills}
+use Rattle.slices.proofs.Pairs.{length_fills}
 use Rattle.lengths.specs.Lengths.{kind_of}
-use Rattle.line.proofs.kinds.Dispatch.{prefix-length}
-use Rattle.volume_transform.proofs.row.TurnLaws.{room, turned-line, kept, below-lent, returned-fits}
+use Rattle.line.proofs.kinds.Dispatch.{prefix_length}
+use Rattle.volume_transform.proofs.row.TurnLaws.{room, turned_line_lem, kept, below_lent, returned_fits}
 use Rattle.volume_transform.proofs.lines.turn_gathered.Statement.{statement}
 use Rattle.volume_transform.proofs.lines.turn_gathered.Tie as tie
 
 gather-requires : tie.Need-gather-requires
-gather-requires c κs = let s = c.before.before.before.before.before.before in (s.requires.0.0.fits, omega (arith, s.requires.0.0.low, s.requires.1.1.scratch-fits))
+gather-requires c κs = let s = c.before.before.before.before.before.before in (s.requires.0.0.fits, omega (arith, s.requires.0.0.low, s.requires.1.1.scratch_fits))
 
 mul-size : tie.Need-overflow-mul-size
 mul-size c = let s = c.before.before.before.before.before.before.before.before.before.before in omega (arith, s.requires.0.0.low)
@@ -23,21 +23,21 @@ slice-relend-prefix-turn-stored c =
     let g = c.before.before.before in
     let s = g.before.before.before.before.before.before.before in
     let x = s.args.line in
-    omega (arith, ap length g.gather.ensures, length-fills (λ j. at s.args.volume.now (x.start + j * x.stride)) x.count s.args.scratch.now, s.requires.0.0.low, s.requires.1.1.scratch-fits)
+    omega (arith, ap length g.gather.ensures, length_fills (λ j. at s.args.volume.now (x.start + j * x.stride)) x.count s.args.scratch.now, s.requires.0.0.low, s.requires.1.1.scratch_fits)
 
 slice-aggregate-turn-stored : tie.Need-slice-aggregate-turn-stored
 slice-aggregate-turn-stored c =
     let g = c.before.before.before.before in
     let s = g.before.before.before.before.before.before.before in
     let x = s.args.line in
-    sym (prefix-length _ _ (omega (arith, ap length g.gather.ensures, length-fills (λ j. at s.args.volume.now (x.start + j * x.stride)) x.count s.args.scratch.now, s.requires.0.0.low, s.requires.1.1.scratch-fits)))
+    sym (prefix_length _ _ (omega (arith, ap length g.gather.ensures, length_fills (λ j. at s.args.volume.now (x.start + j * x.stride)) x.count s.args.scratch.now, s.requires.0.0.low, s.requires.1.1.scratch_fits)))
 
 turn-stored-requires : tie.Need-turn-stored-requires
 turn-stored-requires c κs =
     let g = c.before.before.before.before.before.before in
     let s = g.before.before.before.before.before.before.before in
     let x = s.args.line in
-    ((s.requires.0.0.sound, s.requires.0.1, s.requires.0.2, s.requires.0.0.counted), ((prefix-length _ _ (omega (arith, ap length g.gather.ensures, length-fills (λ j. at s.args.volume.now (x.start + j * x.stride)) x.count s.args.scratch.now, s.requires.0.0.low, s.requires.1.1.scratch-fits)) ∙ ap (λ n. 2 * n) s.requires.0.0.counted, below-lent x.m x.half x.direction x.rotated (kind_of x.kind) x.count (λ j. x.start + j * x.stride) s.args.volume.now s.args.scratch.now _ s.requires.0.0.counted s.requires.0.0.low (omega (arith, s.requires.0.0.low, s.requires.1.1.scratch-fits)) g.gather.ensures s.requires.1.0.each), room x s.requires.0.0.sound s.requires.1.1))
+    ((s.requires.0.0.sound, s.requires.0.1, s.requires.0.2, s.requires.0.0.counted), ((prefix_length _ _ (omega (arith, ap length g.gather.ensures, length_fills (λ j. at s.args.volume.now (x.start + j * x.stride)) x.count s.args.scratch.now, s.requires.0.0.low, s.requires.1.1.scratch_fits)) ∙ ap (λ n. 2 * n) s.requires.0.0.counted, below_lent x.m x.half x.direction x.rotated (kind_of x.kind) x.count (λ j. x.start + j * x.stride) s.args.volume.now s.args.scratch.now _ s.requires.0.0.counted s.requires.0.0.low (omega (arith, s.requires.0.0.low, s.requires.1.1.scratch_fits)) g.gather.ensures s.requires.1.0.each), room x s.requires.0.0.sound s.requires.1.1))
 
 scatter-requires : tie.Need-scatter-requires
 scatter-requires c κs =
@@ -45,7 +45,7 @@ scatter-requires c κs =
     let g = t.before.before.before.before.before.before.before in
     let s = g.before.before.before.before.before.before.before in
     let x = s.args.line in
-    (returned-fits x.m x.half x.direction x.rotated (kind_of x.kind) x.count (λ j. x.start + j * x.stride) s.args.volume.now s.args.scratch.now _ s.requires.0.0.counted s.requires.0.0.low (omega (arith, s.requires.0.0.low, s.requires.1.1.scratch-fits)) g.gather.ensures _ _ t.turn-stored.ensures, s.requires.0.0.fits)
+    (returned_fits x.m x.half x.direction x.rotated (kind_of x.kind) x.count (λ j. x.start + j * x.stride) s.args.volume.now s.args.scratch.now _ s.requires.0.0.counted s.requires.0.0.low (omega (arith, s.requires.0.0.low, s.requires.1.1.scratch_fits)) g.gather.ensures _ _ t.turn-stored.ensures, s.requires.0.0.fits)
 
 same_length : tie.Need-same-length
 same_length c = c.before.volume.given
@@ -66,10 +66,10 @@ returns c =
     let g = t.before.before.before.before.before.before.before in
     let s = g.before.before.before.before.before.before.before in
     let x = s.args.line in
-    (turned-line x.m x.half x.direction x.rotated (kind_of x.kind) x.count (λ j. x.start + j * x.stride) s.args.volume.now s.args.scratch.now _ s.requires.0.0.counted s.requires.0.0.low (omega (arith, s.requires.0.0.low, s.requires.1.1.scratch-fits)) g.gather.ensures _ _ _ t.turn-stored.ensures refl d.scatter.ensures, kept x.m x.half x.direction x.rotated (kind_of x.kind) x.count (λ j. x.start + j * x.stride) s.args.volume.now s.args.scratch.now _ s.requires.0.0.counted s.requires.0.0.low (omega (arith, s.requires.0.0.low, s.requires.1.1.scratch-fits)) g.gather.ensures _ _ _ t.turn-stored.ensures refl d.scatter.ensures)
+    (turned_line_lem x.m x.half x.direction x.rotated (kind_of x.kind) x.count (λ j. x.start + j * x.stride) s.args.volume.now s.args.scratch.now _ s.requires.0.0.counted s.requires.0.0.low (omega (arith, s.requires.0.0.low, s.requires.1.1.scratch_fits)) g.gather.ensures _ _ _ t.turn-stored.ensures refl d.scatter.ensures, kept x.m x.half x.direction x.rotated (kind_of x.kind) x.count (λ j. x.start + j * x.stride) s.args.volume.now s.args.scratch.now _ s.requires.0.0.counted s.requires.0.0.low (omega (arith, s.requires.0.0.low, s.requires.1.1.scratch_fits)) g.gather.ensures _ _ _ t.turn-stored.ensures refl d.scatter.ensures)
 
-pub turn-gathered-spec : {M : Type 1} → statement M
-turn-gathered-spec =
+pub turn_gathered_spec : {M : Type 1} → statement M
+turn_gathered_spec =
     tie.close
     (tie.spec
     gather-requires

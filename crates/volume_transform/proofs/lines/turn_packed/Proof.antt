@@ -3,9 +3,9 @@ use mathlib.Core.Path.{sym, ◌∙◌, ap, subst}
 use Rattle.numbers.specs.Value.{prime, IsModulus}
 use Rattle.slices.specs.Pairs.{Below}
 use Rattle.line.specs.Tables.{LineTables}
-use Rattle.volume_transform.proofs.row.TurnLaws.{turned_packed, line-length}
+use Rattle.volume_transform.proofs.row.TurnLaws.{turned_packed, line_length}
 use Rattle.lengths.specs.Lengths.{kind_of}
-use Rattle.volume_transform.specs.Axes.{turnedLine}
+use Rattle.volume_transform.specs.Axes.{turned_line}
 use Rattle.volume_transform.proofs.lines.turn_packed.Statement.{statement}
 use Rattle.volume_transform.proofs.lines.turn_packed.Tie as tie
 
@@ -15,7 +15,7 @@ transform-requires c κs =
     let x = s.args.line in
     let sound = s.requires.0.0 in
     let same = sym s.requires.0.2 in
-    ((subst IsModulus same sound.modulus, sound.known, sound.directed, subst (λ n. LineTables n x.kind x.direction s.args.re.now s.args.im.now s.args.tan.now) same s.requires.0.1), ((sound.size, sound.list), ((line-length x.half x.kind s.requires.1.0.0, subst (λ n. Below (prime n) s.args.packed.now) same s.requires.1.0.1), s.requires.1.1)))
+    ((subst IsModulus same sound.modulus, sound.known, sound.directed, subst (λ n. LineTables n x.kind x.direction s.args.re.now s.args.im.now s.args.tan.now) same s.requires.0.1), ((sound.size, sound.list), ((line_length x.half x.kind s.requires.1.0.0, subst (λ n. Below (prime n) s.args.packed.now) same s.requires.1.0.1), s.requires.1.1)))
 
 same_length : tie.Need-same-length
 same_length c = c.before.before.before.before.before.packed.given
@@ -31,10 +31,10 @@ returns c =
     let r = c.before.before.before.before.before.before in
     let s = r.before.before.before.before.before.before.before in
     let x = s.args.line in
-    r.transform.ensures.0 ∙ turned_packed s.args.m x.half x.kind x.direction s.args.packed.now ∙ ap (λ n. turnedLine n x.half x.direction (kind_of x.kind) s.args.packed.now) s.requires.0.2
+    r.transform.ensures.0 ∙ turned_packed s.args.m x.half x.kind x.direction s.args.packed.now ∙ ap (λ n. turned_line n x.half x.direction (kind_of x.kind) s.args.packed.now) s.requires.0.2
 
-pub turn-packed-spec : {M : Type 1} → statement M
-turn-packed-spec =
+pub turn_packed_spec : {M : Type 1} → statement M
+turn_packed_spec =
     tie.close
     (tie.spec
     transform-requires

@@ -4,7 +4,7 @@ use mathlib.Core.Path.{sym, ◌∙◌, ap, subst}
 use Prim.Native.Nat.{◌*◌}
 use Rattle.numbers.specs.Value.{IsModulus, prime}
 use Rattle.slices.specs.Pairs.{Below}
-use Rattle.volume_transform.proofs.row.StoredLaws.{turned-ready, times-ready, plain-turned, over-turned, times-turned}
+use Rattle.volume_transform.proofs.row.StoredLaws.{turned_ready, times_ready, plain_turned, over_turned, times_turned}
 use Rattle.volume_transform.proofs.lines.turn_stored.Statement.{statement}
 use Rattle.volume_transform.proofs.lines.turn_stored.Tie as tie
 
@@ -17,7 +17,7 @@ rotate-requires c κs =
     let s = t.before.before.before.before.before.before.before.before.before.before in
     let x = s.args.line in
     let p = s.requires.0 in
-    (subst IsModulus (sym p.2) p.0.modulus, turned-ready x p.2 p.3 s.args.packed.now t.turn-packed.ensures)
+    (subst IsModulus (sym p.2) p.0.modulus, turned_ready x p.2 p.3 s.args.packed.now t.turn-packed.ensures)
 
 rotate-requires-2 : tie.Need-rotate-requires-2
 rotate-requires-2 c κs =
@@ -32,7 +32,7 @@ turn-packed-requires-2 c κs =
     let t = c.before.before.before.before.before in
     let s = t.before.before.before.before.before.before.before.before in
     let p = s.requires.0 in
-    ((p.0, p.1, p.2), (times-ready s.args.line p.2 p.3 s.args.packed.now t.rotate2.ensures, s.requires.1.1))
+    ((p.0, p.1, p.2), (times_ready s.args.line p.2 p.3 s.args.packed.now t.rotate2.ensures, s.requires.1.1))
 
 turn-packed-requires-3 : tie.Need-turn-packed-requires-3
 turn-packed-requires-3 c κs = search rules
@@ -53,7 +53,7 @@ returns c =
     let d = t.before.before.before.before in
     let s = t.before.before.before.before.before.before.before.before.before.before in
     let p = s.requires.0 in
-    over-turned s.args.line p.2 p.3 s.args.packed.now d.before.before.if1.true d.if2.true t.turn-packed.ensures o.rotate.ensures
+    over_turned s.args.line p.2 p.3 s.args.packed.now d.before.before.if1.true d.if2.true t.turn-packed.ensures o.rotate.ensures
 
 same-length-4 : tie.Need-same-length-4
 same-length-4 c = search rules
@@ -71,7 +71,7 @@ returns-2 c =
     let d = o.before.before in
     let s = o.before.before.before.before.before.before.before.before in
     let p = s.requires.0 in
-    times-turned s.args.line p.2 p.3 s.args.packed.now p.0 d.before.before.if1.true d.if2.false o.rotate2.ensures t.turn-packed2.ensures
+    times_turned s.args.line p.2 p.3 s.args.packed.now p.0 d.before.before.if1.true d.if2.false o.rotate2.ensures t.turn-packed2.ensures
 
 same-length-7 : tie.Need-same-length-7
 same-length-7 c = search rules
@@ -88,10 +88,10 @@ returns-3 c =
     let d = t.before.before.before.before in
     let s = d.before.before.before.before in
     let p = s.requires.0 in
-    plain-turned s.args.line p.2 p.3 s.args.packed.now d.if1.false t.turn-packed3.ensures
+    plain_turned s.args.line p.2 p.3 s.args.packed.now d.if1.false t.turn-packed3.ensures
 
-pub turn-stored-spec : {M : Type 1} → statement M
-turn-stored-spec =
+pub turn_stored_spec : {M : Type 1} → statement M
+turn_stored_spec =
     tie.close
     (tie.spec
     turn-packed-requires

@@ -1,5 +1,5 @@
 -- The line of the turn, and the lines beside it.
-use Rattle.volume_transform.proofs.plan.Neighbours.{group-by}
+use Rattle.volume_transform.proofs.plan.Neighbours.{group_by}
 use Rattle.volume_transform.proofs.numbering.group_in_turn.Statement.{statement}
 use Rattle.volume_transform.proofs.numbering.group_in_turn.Tie as tie
 
@@ -21,8 +21,8 @@ returns c =
     let t = l.before in
     let s = t.before in
     let lanes = c.lanes-from.ensures in
-    group-by s.args.plan s.requires.0 s.args.n s.requires.2 l.line_at.result c.lanes-from.result lanes.0 t.line-of-turn.result t.line-of-turn.ensures.0
+    group_by s.args.plan s.requires.0 s.args.n s.requires.2 l.line_at.result c.lanes-from.result lanes.0 t.line-of-turn.result t.line-of-turn.ensures.0
     l.line_at.ensures.0 lanes.1 lanes.2 l.line_at.ensures.1.0 l.line_at.ensures.1.1
 
-pub group-in-turn-spec : {M : Type 1} → statement M
-group-in-turn-spec = tie.close (tie.spec line-of-turn-requires line-at-requires lanes-from-requires returns)
+pub group_in_turn_spec : {M : Type 1} → statement M
+group_in_turn_spec = tie.close (tie.spec line-of-turn-requires line-at-requires lanes-from-requires returns)

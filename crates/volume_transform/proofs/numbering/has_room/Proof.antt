@@ -55,5 +55,5 @@ returns-6 c e =
       some = omega (arith, i1.if1.false);
     }
 
-pub has-room-spec : {M : Type 1} → statement M
-has-room-spec = tie.close (tie.spec returns returns-2 returns-3 returns-4 returns-5 returns-6)
+pub has_room_spec : {M : Type 1} → statement M
+has_room_spec = tie.close (tie.spec returns returns-2 returns-3 returns-4 returns-5 returns-6)

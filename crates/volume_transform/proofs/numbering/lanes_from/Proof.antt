@@ -33,5 +33,5 @@ returns-4 c =
     let s = c.before.before.before.before.before in
     (s.requires.3, omega arith, λ more. (r.has_room.ensures (not-false _ i.if2.false), fewer s.args.plan s.requires.0 s.args.j k.lines_left.result (omega (arith, c.if3.false)) k.lines_left.ensures.1))
 
-pub lanes-from-spec : {M : Type 1} → statement M
-lanes-from-spec = tie.close (tie.spec returns has-room-requires returns-2 lines-left-requires returns-3 returns-4)
+pub lanes_from_spec : {M : Type 1} → statement M
+lanes_from_spec = tie.close (tie.spec returns has-room-requires returns-2 lines-left-requires returns-3 returns-4)

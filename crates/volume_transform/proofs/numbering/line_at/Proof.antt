@@ -1,7 +1,7 @@
 -- The number of a line tells its axis.
 use native.Mathlib.Omega.{arith}
-use Rattle.volume_transform.proofs.plan.AxisLines.{at-l, at-h, at-k}
-use Rattle.volume_transform.proofs.plan.Neighbours.{neighbours-at-l, neighbours-at-h, rows-after-at}
+use Rattle.volume_transform.proofs.plan.AxisLines.{at_l, at_h, at_k}
+use Rattle.volume_transform.proofs.plan.Neighbours.{neighbours_at_l, neighbours_at_h, rows_after_at}
 use Rattle.volume_transform.proofs.numbering.line_at.Statement.{statement}
 use Rattle.volume_transform.proofs.numbering.line_at.Tie as tie
 
@@ -36,9 +36,9 @@ returns : tie.Need-returns
 returns c =
     let i = c.before in
     let s = i.before.before in (
-      at-l s.args.plan _ s.requires.1 s.args.j i.if1.true c.along-l.ensures.0,
+      at_l s.args.plan _ s.requires.1 s.args.j i.if1.true c.along_l_lem.ensures.0,
       (
-        λ low. neighbours-at-l s.args.plan s.requires.0 _ s.requires.1 s.args.j i.if1.true c.along-l.ensures.1,
+        λ low. neighbours_at_l s.args.plan s.requires.0 _ s.requires.1 s.args.j i.if1.true c.along_l_lem.ensures.1,
         λ high. absurd (omega (arith, high, s.requires.1.l, i.if1.true)),
       ),
     )
@@ -48,9 +48,9 @@ returns-2 c =
     let i2 = c.before.before in
     let i = i2.before.before in
     let s = i.before.before in (
-      at-h s.args.plan _ s.requires.1 s.args.j (omega (arith, i.if1.false)) i2.if2.true c.along-h.ensures.0,
+      at_h s.args.plan _ s.requires.1 s.args.j (omega (arith, i.if1.false)) i2.if2.true c.along_h_lem.ensures.0,
       (
-        λ low. neighbours-at-h s.args.plan s.requires.0 _ s.requires.1 s.args.j (omega (arith, i.if1.false)) i2.if2.true c.along-h.ensures.1,
+        λ low. neighbours_at_h s.args.plan s.requires.0 _ s.requires.1 s.args.j (omega (arith, i.if1.false)) i2.if2.true c.along_h_lem.ensures.1,
         λ high. absurd (omega (arith, high, s.requires.1.l, s.requires.1.h, i2.if2.true)),
       ),
     )
@@ -59,15 +59,15 @@ returns-3 : tie.Need-returns-3
 returns-3 c =
     let i2 = c.before.before in
     let s = i2.before.before.before.before in (
-      at-k s.args.plan _ s.requires.1 s.args.j (omega (arith, i2.if2.false)) c.row_at.ensures.0,
+      at_k s.args.plan _ s.requires.1 s.args.j (omega (arith, i2.if2.false)) c.row_at.ensures.0,
       (
         λ low. absurd (omega (arith, low, s.requires.1.l, s.requires.1.h, i2.if2.false)),
-        λ high. rows-after-at s.args.plan s.requires.0 _ s.requires.1 s.args.j (omega (arith, i2.if2.false)) c.row_at.ensures.1,
+        λ high. rows_after_at s.args.plan s.requires.0 _ s.requires.1 s.args.j (omega (arith, i2.if2.false)) c.row_at.ensures.1,
       ),
     )
 
-pub line-at-spec : {M : Type 1} → statement M
-line-at-spec =
+pub line_at_spec : {M : Type 1} → statement M
+line_at_spec =
     tie.close
     (tie.spec
     along-l-requires

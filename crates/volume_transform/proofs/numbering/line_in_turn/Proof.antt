@@ -13,5 +13,5 @@ line-at-requires c κs = (c.before.requires.0, c.before.requires.1, c.line-of-tu
 returns : tie.Need-returns
 returns c = subst (λ j. LineAt c.before.before.args.plan j c.line_at.result) c.before.line-of-turn.ensures.0 c.line_at.ensures.0
 
-pub line-in-turn-spec : {M : Type 1} → statement M
-line-in-turn-spec = tie.close (tie.spec line-of-turn-requires line-at-requires returns)
+pub line_in_turn_spec : {M : Type 1} → statement M
+line_in_turn_spec = tie.close (tie.spec line-of-turn-requires line-at-requires returns)

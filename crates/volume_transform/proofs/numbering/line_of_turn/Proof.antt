@@ -1,7 +1,7 @@
 -- The axes in their order, or in the other one.
 use native.Mathlib.Omega.{arith}
-use Rattle.volume_transform.proofs.plan.Numbered.{other-direction}
-use Rattle.volume_transform.proofs.plan.AxisLines.{turn-same, turn-back-k, turn-back-h, turn-back-l}
+use Rattle.volume_transform.proofs.plan.Numbered.{other_direction}
+use Rattle.volume_transform.proofs.plan.AxisLines.{turn_same, turn_back_k, turn_back_h, turn_back_l}
 use Rattle.volume_transform.proofs.numbering.line_of_turn.Statement.{statement}
 use Rattle.volume_transform.proofs.numbering.line_of_turn.Tie as tie
 
@@ -34,14 +34,14 @@ sub-result c = omega (arith, c.before.if3.false)
 returns : tie.Need-returns
 returns c =
     let s = c.before.before in
-    turn-same s.args.plan _ s.requires.1 s.args.n s.requires.2 c.if1.true
+    turn_same s.args.plan _ s.requires.1 s.args.n s.requires.2 c.if1.true
 
 returns-2 : tie.Need-returns-2
 returns-2 c =
     let i2 = c.before in
     let i = i2.before.before in
     let s = i.before.before in
-    turn-back-k s.args.plan _ s.requires.1 s.args.n s.requires.2 (other-direction s.args.plan.direction s.requires.0.directed i.if1.false) i2.if2.true
+    turn_back_k s.args.plan _ s.requires.1 s.args.n s.requires.2 (other_direction s.args.plan.direction s.requires.0.directed i.if1.false) i2.if2.true
 
 returns-3 : tie.Need-returns-3
 returns-3 c =
@@ -49,17 +49,17 @@ returns-3 c =
     let i2 = i3.before.before in
     let i = i2.before.before in
     let s = i.before.before in
-    turn-back-h s.args.plan _ s.requires.1 s.args.n s.requires.2 (other-direction s.args.plan.direction s.requires.0.directed i.if1.false) (omega (arith, i2.if2.false)) i3.if3.true
+    turn_back_h s.args.plan _ s.requires.1 s.args.n s.requires.2 (other_direction s.args.plan.direction s.requires.0.directed i.if1.false) (omega (arith, i2.if2.false)) i3.if3.true
 
 returns-4 : tie.Need-returns-4
 returns-4 c =
     let i3 = c.before in
     let i = i3.before.before.before.before in
     let s = i.before.before in
-    turn-back-l s.args.plan _ s.requires.1 s.args.n s.requires.2 (other-direction s.args.plan.direction s.requires.0.directed i.if1.false) (omega (arith, i3.if3.false))
+    turn_back_l s.args.plan _ s.requires.1 s.args.n s.requires.2 (other_direction s.args.plan.direction s.requires.0.directed i.if1.false) (omega (arith, i3.if3.false))
 
-pub line-of-turn-spec : {M : Type 1} → statement M
-line-of-turn-spec =
+pub line_of_turn_spec : {M : Type 1} → statement M
+line_of_turn_spec =
     tie.close
     (tie.spec
     add-result

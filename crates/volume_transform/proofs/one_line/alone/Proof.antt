@@ -1,7 +1,7 @@
 -- The arrays are as long as the line needs.
 use borrow.Author.Rules.{rules}
 use native.Mathlib.Omega.{arith}
-use Rattle.volume_transform.proofs.OwnTurns.{placed-sound}
+use Rattle.volume_transform.proofs.OwnTurns.{placed_sound}
 use Rattle.volume_transform.proofs.one_line.alone.Statement.{statement}
 use Rattle.volume_transform.proofs.one_line.alone.Tie as tie
 
@@ -30,7 +30,7 @@ slice-aggregate-alone-in-6 : tie.Need-slice-aggregate-alone-in-6
 slice-aggregate-alone-in-6 c = search rules
 
 alone-in-requires-3 : tie.Need-alone-in-requires-3
-alone-in-requires-3 c κs = let s = c.before.before.before.before.before.before.before.before.before.before in let h = (placed-sound s.args.line s.requires.0.0).size.short in (s.requires.0, (s.requires.1, omega (arith, h), omega (arith, h)))
+alone-in-requires-3 c κs = let s = c.before.before.before.before.before.before.before.before.before.before in let h = (placed_sound s.args.line s.requires.0.0).size.short in (s.requires.0, (s.requires.1, omega (arith, h), omega (arith, h)))
 
 same_length : tie.Need-same-length
 same_length c = c.before.before.before.before.before.volume.given
@@ -59,8 +59,8 @@ same-length-6 c = c.before.before.before.scratch3.given
 returns-3 : tie.Need-returns-3
 returns-3 c = c.before.before.before.before.before.before.alone-in3.ensures
 
-pub alone-spec : {M : Type 1} → statement M
-alone-spec =
+pub alone_spec : {M : Type 1} → statement M
+alone_spec =
     tie.close
     (tie.spec
     slice-aggregate-alone-in

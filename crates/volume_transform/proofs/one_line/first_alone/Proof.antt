@@ -1,7 +1,7 @@
 -- The tables of the first prime are those that the line asks for.
 use mathlib.Core.Path.{sym}
-use Rattle.line.proofs.kinds.Tables.{forward-tables, line-tables, plain-tables}
-use Rattle.volume_transform.proofs.OwnTurns.{placed-sound, modulus-of, tables-for}
+use Rattle.line.proofs.kinds.Tables.{forward_tables, line_tables, plain_tables}
+use Rattle.volume_transform.proofs.OwnTurns.{placed_sound, modulus_of, tables_for}
 use Rattle.volume_transform.proofs.one_line.first_alone.Statement.{statement}
 use Rattle.volume_transform.proofs.one_line.first_alone.Tie as tie
 
@@ -15,7 +15,7 @@ alone-requires c κs =
     let x = s.args.line in
     let v = s.args.volume.now in
     let em = sym s.requires.1 in
-    ((s.requires.0, tables-for x v em s.requires.2 (plain-tables (modulus-of x v em (placed-sound x s.requires.0).modulus) p.0 p.1 _ c.before.before.before.before.before.if1.true), em), s.requires.3)
+    ((s.requires.0, tables_for x v em s.requires.2 (plain_tables (modulus_of x v em (placed_sound x s.requires.0).modulus) p.0 p.1 _ c.before.before.before.before.before.if1.true), em), s.requires.3)
 
 first-half-tangents-requires : tie.Need-first-half-tangents-requires
 first-half-tangents-requires c κs = tt
@@ -27,8 +27,8 @@ alone-requires-2 c κs =
     let x = s.args.line in
     let v = s.args.volume.now in
     let em = sym s.requires.1 in
-    let is = modulus-of x v em (placed-sound x s.requires.0).modulus in
-    ((s.requires.0, tables-for x v em s.requires.2 (line-tables x.kind (forward-tables is p.0 p.1 c.before.before.before.before.before.first-half-tangents.ensures)), em), s.requires.3)
+    let is = modulus_of x v em (placed_sound x s.requires.0).modulus in
+    ((s.requires.0, tables_for x v em s.requires.2 (line_tables x.kind (forward_tables is p.0 p.1 c.before.before.before.before.before.first-half-tangents.ensures)), em), s.requires.3)
 
 same_length : tie.Need-same-length
 same_length c = c.before.before.before.volume.given
@@ -48,8 +48,8 @@ same-length-4 c = c.before.scratch2.given
 returns-2 : tie.Need-returns-2
 returns-2 c = c.before.before.before.before.alone2.ensures
 
-pub first-alone-spec : {M : Type 1} → statement M
-first-alone-spec =
+pub first_alone_spec : {M : Type 1} → statement M
+first_alone_spec =
     tie.close
     (tie.spec
     first-powers-requires

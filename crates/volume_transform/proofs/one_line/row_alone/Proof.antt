@@ -2,9 +2,9 @@
 use borrow.Author.Rules.{rules}
 use native.Mathlib.Omega.{arith}
 use mathlib.Core.Path.{sym}
-use Rattle.line.proofs.kinds.Dispatch.{prefix-length}
-use Rattle.volume_transform.proofs.row.RowLaws.{row-long, row-placed, part_same}
-use Rattle.volume_transform.proofs.OwnTurns.{row-numbers, modulus-of, fold-room, own_below, own-refused, own-done, returned-long}
+use Rattle.line.proofs.kinds.Dispatch.{prefix_length}
+use Rattle.volume_transform.proofs.row.RowLaws.{row_long, row_placed, part_same}
+use Rattle.volume_transform.proofs.OwnTurns.{row_numbers, modulus_of, fold_room, own_below, own_refused, own_done, returned_long}
 use Rattle.volume_transform.proofs.one_line.row_alone.Statement.{statement}
 use Rattle.volume_transform.proofs.one_line.row_alone.Tie as tie
 
@@ -30,7 +30,7 @@ part-all-below-end : tie.Need-slice-bounds-all-below-end
 part-all-below-end c = let b = c.before.before.before.before.before.before.requires.0.0 in omega (arith, b.fits, b.low)
 
 modulus-requires : tie.Need-modulus-requires
-modulus-requires c κs = let s = c.before.before.before.before.before.before.before in modulus-of s.args.line s.args.volume.now s.requires.0.2 s.requires.0.0.sound.modulus
+modulus-requires c κs = let s = c.before.before.before.before.before.before.before in modulus_of s.args.line s.args.volume.now s.requires.0.2 s.requires.0.0.sound.modulus
 
 all-below-requires : tie.Need-all-below-requires
 all-below-requires c κs = search rules
@@ -43,7 +43,7 @@ returns c =
     let s = c.before.before.before.before.before.before.before.before.before.before in
     let x = s.args.line in
     let v = s.args.volume.now in
-    own-refused x v s.requires.0.2 (row-numbers x v s.requires.0.0) c.before.before.modulus.ensures.0 c.before.all-below.ensures c.if1.true
+    own_refused x v s.requires.0.2 (row_numbers x v s.requires.0.0) c.before.before.modulus.ensures.0 c.before.all-below.ensures c.if1.true
 
 mul-turn-row : tie.Need-overflow-mul-turn-row
 mul-turn-row c = let b = c.before.before.before.before.before.before.before.before.before.before.requires.0.0 in omega (arith, b.fits, b.low)
@@ -61,7 +61,7 @@ slice-relend-prefix-turn-row : tie.Need-slice-relend-prefix-turn-row
 slice-relend-prefix-turn-row c = let s = c.before.before.before.before.before.before.before.before.before.before.before in omega (arith, s.requires.1.0)
 
 slice-aggregate-turn-row : tie.Need-slice-aggregate-turn-row
-slice-aggregate-turn-row c = let s = c.before.before.before.before.before.before.before.before.before.before.before.before in sym (prefix-length 5760 s.args.scratch.now (omega (arith, s.requires.1.0)))
+slice-aggregate-turn-row c = let s = c.before.before.before.before.before.before.before.before.before.before.before.before in sym (prefix_length 5760 s.args.scratch.now (omega (arith, s.requires.1.0)))
 
 turn-row-requires : tie.Need-turn-row-requires
 turn-row-requires c κs =
@@ -72,13 +72,13 @@ turn-row-requires c κs =
     let b = s.requires.0.0 in (
       (b.sound, b.hermitian, s.requires.0.1, s.requires.0.2),
       (
-        (row-long x v b, own_below x v s.requires.0.2 (row-numbers x v b) c.before.before.before.before.before.modulus.ensures.0 c.before.before.before.before.all-below.ensures i.if1.false),
-        (fold-room x b.sound s.args.scratch.now s.requires.1.0, s.requires.1.1),
+        (row_long x v b, own_below x v s.requires.0.2 (row_numbers x v b) c.before.before.before.before.before.modulus.ensures.0 c.before.before.before.before.all-below.ensures i.if1.false),
+        (fold_room x b.sound s.args.scratch.now s.requires.1.0, s.requires.1.1),
       ),
     )
 
 clear-requires : tie.Need-clear-requires
-clear-requires c κs = let s = c.before.before.before.before.before.before.before.before.before.before.before.before.before.before.before.before.before.before.before.before.before in returned-long s.args.scratch.now c.before.before.before.before.before.before.before.turn-row.new.1.1.1.1.1.1.0 s.requires.1.0 c.before.before.before.before.scratch.given.0
+clear-requires c κs = let s = c.before.before.before.before.before.before.before.before.before.before.before.before.before.before.before.before.before.before.before.before.before in returned_long s.args.scratch.now c.before.before.before.before.before.before.before.turn-row.new.1.1.1.1.1.1.0 s.requires.1.0 c.before.before.before.before.scratch.given.0
 
 same-length-2 : tie.Need-same-length-2
 same-length-2 c = let s = c.before.before.before.before.before.before.before.before.before.before.before.before.before.before.before.before.before.before.before.before.before.before.before.before in part_same s.args.line s.args.volume.now s.requires.0.0 _ c.before.before.before.before.before.before.before.before.before.before.turn-row.ensures
@@ -96,10 +96,10 @@ returns-2 c =
     let x = s.args.line in
     let v = s.args.volume.now in
     let b = s.requires.0.0 in
-    own-done x v s.requires.0.2 (row-numbers x v b) c.before.before.before.before.before.before.before.before.before.before.before.before.before.before.before.before.modulus.ensures.0 c.before.before.before.before.before.before.before.before.before.before.before.before.before.before.before.all-below.ensures s.args.scratch.now r.turn-row.new.1.1.1.1.1.1.0 c.before.before.before.before.before.before.before.before.before.before.before.before.before.before.if1.false (row-placed x v b _ r.turn-row.ensures) s.requires.1.0 c.before.before.before.before.before.before.before.scratch.given.0 c.before.before.clear.ensures
+    own_done x v s.requires.0.2 (row_numbers x v b) c.before.before.before.before.before.before.before.before.before.before.before.before.before.before.before.before.modulus.ensures.0 c.before.before.before.before.before.before.before.before.before.before.before.before.before.before.before.all-below.ensures s.args.scratch.now r.turn-row.new.1.1.1.1.1.1.0 c.before.before.before.before.before.before.before.before.before.before.before.before.before.before.if1.false (row_placed x v b _ r.turn-row.ensures) s.requires.1.0 c.before.before.before.before.before.before.before.scratch.given.0 c.before.before.clear.ensures
 
-pub row-alone-spec : {M : Type 1} → statement M
-row-alone-spec =
+pub row_alone_spec : {M : Type 1} → statement M
+row_alone_spec =
     tie.close
     (tie.spec
     mul-start

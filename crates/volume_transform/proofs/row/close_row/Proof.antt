@@ -4,7 +4,7 @@ use native.Mathlib.Omega.{arith}
 use mathlib.Core.Path.{sym, ap}
 use lib.ListN.{length-set}
 use Rattle.volume_transform.specs.Lines.{closed}
-use Rattle.volume_transform.proofs.row.RowLaws.{otherwise-closed}
+use Rattle.volume_transform.proofs.row.RowLaws.{otherwise_closed}
 use Rattle.volume_transform.proofs.row.close_row.Statement.{statement}
 use Rattle.volume_transform.proofs.row.close_row.Tie as tie
 
@@ -57,10 +57,10 @@ returns-2 : tie.Need-returns-2
 returns-2 c =
     let i = c.before in
     let s = i.before in
-    otherwise-closed s.args.direction s.args.size s.args.row.now i.if1.false
+    otherwise_closed s.args.direction s.args.size s.args.row.now i.if1.false
 
-pub close-row-spec : {M : Type 1} → statement M
-close-row-spec =
+pub close_row_spec : {M : Type 1} → statement M
+close_row_spec =
     tie.close
     (tie.spec
     mul-row

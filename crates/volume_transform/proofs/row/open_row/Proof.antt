@@ -28,8 +28,8 @@ returns c =
 returns-2 : tie.Need-returns-2
 returns-2 c = let s = c.before in not_opened s.args.direction s.args.size s.args.row.now c.if1.false
 
-pub open-row-spec : {M : Type 1} → statement M
-open-row-spec =
+pub open_row_spec : {M : Type 1} → statement M
+open_row_spec =
     tie.close
     (tie.spec
     mul-row

@@ -29,5 +29,5 @@ returns c =
     let at-store2 = c.before.before in
     twice _ _ _ _ _ at-store2.before.before.before.before.store_at.ensures at-store2.store-at2.ensures
 
-pub store-next-spec : {M : Type 1} → statement M
-store-next-spec = tie.close (tie.spec store-at-requires add-store-at store-at-requires-2 same_length returns)
+pub store_next_spec : {M : Type 1} → statement M
+store_next_spec = tie.close (tie.spec store-at-requires add-store-at store-at-requires-2 same_length returns)

@@ -3,51 +3,51 @@ use borrow.Author.Rules.{rules}
 use native.Mathlib.Omega.{arith}
 use Prim.Native.Nat.{◌+◌, ◌≤◌}
 use lib.ListN.{length}
-use Rattle.lengths.specs.Lengths.{octalDigits}
-use Rattle.output.specs.Output.{bigEndian}
-use Rattle.output.proofs.Writing.{wrote-append}
-use Rattle.factor_file.specs.Steps.{headerFor}
-use Rattle.file_format.specs.Format.{versionOf, modulusBytes, headerBytes}
-use Rattle.file_format.proofs.layout.FileParts.{length-header}
+use Rattle.lengths.specs.Lengths.{octal_digits}
+use Rattle.output.specs.Output.{big_endian}
+use Rattle.output.proofs.Writing.{wrote_append}
+use Rattle.factor_file.specs.Steps.{header_for}
+use Rattle.file_format.specs.Format.{version_of, modulus_bytes, header_bytes}
+use Rattle.file_format.proofs.layout.FileParts.{length_header}
 use Rattle.factor_file.proofs.file.head.put_header.Statement.{statement}
 use Rattle.factor_file.proofs.file.head.put_header.Tie as tie
 
 -- where the whole ends
-ends : (s : tie.Start) → let a = s.args in a.at + 11 + length (modulusBytes (versionOf a.modulus) a.modulus) + length (octalDigits a.f1) + length (octalDigits a.f2) + length (octalDigits a.f3) ≤ 1152921504606846976
-ends s = let a = s.args in omega (arith, s.requires.1.low, length-header (versionOf a.modulus) a.modulus (headerFor a.cell a.f1 a.f2 a.f3))
+ends : (s : tie.Start) → let a = s.args in a.at + 11 + length (modulus_bytes (version_of a.modulus) a.modulus) + length (octal_digits a.f1) + length (octal_digits a.f2) + length (octal_digits a.f3) ≤ 1152921504606846976
+ends s = let a = s.args in omega (arith, s.requires.1.low, length_header (version_of a.modulus) a.modulus (header_for a.cell a.f1 a.f2 a.f3))
 
 put-numbers-requires : tie.Need-put-numbers-requires
 put-numbers-requires c κs = let s = c.before.before in (s.requires.0.0, s.requires.0.1, record { low = omega (arith, ends s) })
 
 put-two-requires : tie.Need-put-two-requires
-unfolding bigEndian
+unfolding big_endian
 put-two-requires c κs = (omega arith, record { low = omega (arith, ends c.before.before.before.before.before.before) })
 
 put-two-requires-2 : tie.Need-put-two-requires-2
-unfolding bigEndian
+unfolding big_endian
 put-two-requires-2 c κs = (omega arith, record { low = omega (arith, ends c.before.before.before.before.before.before.before.before.before.before) })
 
 put-two-requires-3 : tie.Need-put-two-requires-3
-unfolding bigEndian
+unfolding big_endian
 put-two-requires-3 c κs = (omega arith, record { low = omega (arith, ends c.before.before.before.before.before.before.before.before.before.before.before.before.before.before) })
 
 put-list-requires : tie.Need-put-list-requires
-unfolding bigEndian
+unfolding big_endian
 put-list-requires c κs = record { low = omega (arith, ends c.before.before.before.before.before.before.before.before.before.before.before.before.before.before.before.before.before.before) }
 
 put-list-requires-2 : tie.Need-put-list-requires-2
-unfolding bigEndian
+unfolding big_endian
 put-list-requires-2 c κs = record { low = omega (arith, ends c.before.before.before.before.before.before.before.before.before.before.before.before.before.before.before.before.before.before.before.before.before.before) }
 
 put-list-requires-3 : tie.Need-put-list-requires-3
-unfolding bigEndian
+unfolding big_endian
 put-list-requires-3 c κs = record { low = omega (arith, ends c.before.before.before.before.before.before.before.before.before.before.before.before.before.before.before.before.before.before.before.before.before.before.before.before.before.before) }
 
 same_length : tie.Need-same-length
 same_length c = search rules
 
 returns : tie.Need-returns
-unfolding headerBytes
+unfolding header_bytes
 returns c =
     let p8 = c.before.before in
     let p7 = p8.before.before.before.before in
@@ -56,11 +56,11 @@ returns c =
     let p4 = p5.before.before.before.before in
     let p3 = p4.before.before.before.before in
     let p2 = p3.before.before.before.before in
-    let lengths = wrote-append (wrote-append (wrote-append p2.put-numbers.ensures p3.put_two.ensures) p4.put-two2.ensures) p5.put-two3.ensures in
-    wrote-append (wrote-append (wrote-append lengths p6.put-list.ensures) p7.put-list2.ensures) p8.put-list3.ensures
+    let lengths = wrote_append (wrote_append (wrote_append p2.put-numbers.ensures p3.put_two.ensures) p4.put-two2.ensures) p5.put-two3.ensures in
+    wrote_append (wrote_append (wrote_append lengths p6.put-list.ensures) p7.put-list2.ensures) p8.put-list3.ensures
 
-pub put-header-spec : {M : Type 1} → statement M
-put-header-spec =
+pub put_header_spec : {M : Type 1} → statement M
+put_header_spec =
     tie.close
     (tie.spec
     put-numbers-requires

@@ -4,9 +4,9 @@ use native.Mathlib.Omega.{arith}
 use mathlib.Core.Path.{ap}
 use mathlib.Core.List.{◌∷◌}
 use Prim.Native.Nat.{ℕ}
-use Rattle.lengths.specs.Lengths.{octalDigits}
-use Rattle.output.proofs.Writing.{wrote-append, wrote_as}
-use Rattle.file_format.proofs.layout.Digits.{word-digits}
+use Rattle.lengths.specs.Lengths.{octal_digits}
+use Rattle.output.proofs.Writing.{wrote_append, wrote_as}
+use Rattle.file_format.proofs.layout.Digits.{word_digits}
 use Rattle.factor_file.proofs.file.head.put_list.Statement.{statement}
 use Rattle.factor_file.proofs.file.head.put_list.Tie as tie
 
@@ -14,7 +14,7 @@ digit-count-requires : tie.Need-digit-count-requires
 digit-count-requires c κs = search rules
 
 cast-put-byte : tie.Need-overflow-cast-put-byte
-cast-put-byte c = omega (arith, c.digit-count.ensures, word-digits c.before.before.before.args.factors (omega arith))
+cast-put-byte c = omega (arith, c.digit-count.ensures, word_digits c.before.before.before.args.factors (omega arith))
 
 put-byte-requires : tie.Need-put-byte-requires
 put-byte-requires c κs = record { low = omega (arith, c.before.before.before.requires.low) }
@@ -33,10 +33,10 @@ returns c =
     let d = c.before.before in
     let p = d.before.before.before.before in
     let f = p.before.before.before.before.args.factors in
-    wrote_as (wrote-append p.put_byte.ensures d.put-digits.ensures) (ap (λ (n : ℕ). n ∷ octalDigits f) p.before.digit-count.ensures)
+    wrote_as (wrote_append p.put_byte.ensures d.put-digits.ensures) (ap (λ (n : ℕ). n ∷ octal_digits f) p.before.digit-count.ensures)
 
-pub put-list-spec : {M : Type 1} → statement M
-put-list-spec =
+pub put_list_spec : {M : Type 1} → statement M
+put_list_spec =
     tie.close
     (tie.spec
     digit-count-requires

@@ -7,21 +7,21 @@ use Prim.Native.Nat.{ℕ}
 use native.Mathlib.Omega.{arith}
 use lib.ListN.{length}
 use borrow.Author.Tests.{eq-eqb, ne_eqb}
-use Rattle.output.proofs.Writing.{wrote-append, wrote_as}
-use Rattle.file_format.specs.Format.{versionOf, modulusBytes}
+use Rattle.output.proofs.Writing.{wrote_append, wrote_as}
+use Rattle.file_format.specs.Format.{version_of, modulus_bytes}
 use Rattle.factor_file.proofs.file.head.put_numbers.Statement.{statement}
 use Rattle.factor_file.proofs.file.head.put_numbers.Tie as tie
 
 module _ (m group : ℕ) where
   -- the bytes, by whether the modulus is the first
   abbrev numbers : Bool → List ℕ
-  numbers b = cond b 1 2 ∷ group ∷ modulusBytes (cond b 1 2) m
+  numbers b = cond b 1 2 ∷ group ∷ modulus_bytes (cond b 1 2) m
 
-  first-bytes : m ≡ 1 → 1 ∷ group ∷ [] ≡ versionOf m ∷ group ∷ modulusBytes (versionOf m) m
-  first-bytes e = sym (ap numbers (eq-eqb m 1 e))
+  first_bytes : m ≡ 1 → 1 ∷ group ∷ [] ≡ version_of m ∷ group ∷ modulus_bytes (version_of m) m
+  first_bytes e = sym (ap numbers (eq-eqb m 1 e))
 
-  second-bytes : (m ≡ 1 → ⊥) → 2 ∷ group ∷ m ∷ [] ≡ versionOf m ∷ group ∷ modulusBytes (versionOf m) m
-  second-bytes e = sym (ap numbers (ne_eqb m 1 e))
+  second_bytes : (m ≡ 1 → ⊥) → 2 ∷ group ∷ m ∷ [] ≡ version_of m ∷ group ∷ modulus_bytes (version_of m) m
+  second_bytes e = sym (ap numbers (ne_eqb m 1 e))
 
 put-byte-requires : tie.Need-put-byte-requires
 put-byte-requires c κs = record { low = omega (arith, c.before.before.before.requires.2.low) }
@@ -41,7 +41,7 @@ returns c =
     let version = group.before.before.before.before in
     let t = version.before.before in
     let a = t.before.before.args in
-    wrote_as (wrote-append version.put_byte.ensures group.put-byte2.ensures) (first-bytes a.modulus a.group t.if1.true)
+    wrote_as (wrote_append version.put_byte.ensures group.put-byte2.ensures) (first_bytes a.modulus a.group t.if1.true)
 
 put-byte-requires-3 : tie.Need-put-byte-requires-3
 put-byte-requires-3 c κs = record { low = omega (arith, c.before.before.before.requires.2.low) }
@@ -61,7 +61,7 @@ put-byte-requires-5 c κs =
     let version = group.before.before.before.before in
     let t = version.before.before in
     let s = t.before.before in
-    record { low = omega (arith, s.requires.2.low, version.put-byte3.ensures.place, group.put-byte4.ensures.place, ap length (second-bytes s.args.modulus s.args.group t.if1.false)) }
+    record { low = omega (arith, s.requires.2.low, version.put-byte3.ensures.place, group.put-byte4.ensures.place, ap length (second_bytes s.args.modulus s.args.group t.if1.false)) }
 
 same-length-2 : tie.Need-same-length-2
 same-length-2 c = search rules
@@ -73,10 +73,10 @@ returns-2 c =
     let version = group.before.before.before.before in
     let t = version.before.before in
     let a = t.before.before.args in
-    wrote_as (wrote-append (wrote-append version.put-byte3.ensures group.put-byte4.ensures) modulus.put-byte5.ensures) (second-bytes a.modulus a.group t.if1.false)
+    wrote_as (wrote_append (wrote_append version.put-byte3.ensures group.put-byte4.ensures) modulus.put-byte5.ensures) (second_bytes a.modulus a.group t.if1.false)
 
-pub put-numbers-spec : {M : Type 1} → statement M
-put-numbers-spec =
+pub put_numbers_spec : {M : Type 1} → statement M
+put_numbers_spec =
     tie.close
     (tie.spec
     put-byte-requires

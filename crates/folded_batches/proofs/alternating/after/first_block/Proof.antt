@@ -1,14 +1,14 @@
 -- Lane by lane (`BlockOf`).
 use native.Mathlib.Omega.{arith}
 use Prim.Native.Nat.{◌-◌}
-use Rattle.folded_batches.specs.AlternatingLanes.{BlockOf, firstPair}
-use Rattle.folded_batches.proofs.AlternatingBlocks.{block_start, block-next, block-done}
+use Rattle.folded_batches.specs.AlternatingLanes.{BlockOf, first_pair}
+use Rattle.folded_batches.proofs.AlternatingBlocks.{block_start, block_next, block_done}
 use Rattle.folded_batches.proofs.AlternatingAfter.{first_read}
 use Rattle.folded_batches.proofs.alternating.after.first_block.Statement.{statement}
 use Rattle.folded_batches.proofs.alternating.after.first_block.Tie as tie
 
 abbrev invariant-loop : tie.invariant-loop
-invariant-loop odd fold y₀ v₀ y v = BlockOf (firstPair odd fold) v y
+invariant-loop odd fold y₀ v₀ y v = BlockOf (first_pair odd fold) v y
 
 abbrev decreases-loop : tie.decreases-loop
 decreases-loop odd fold y₀ v₀ y v = 16 - v
@@ -41,10 +41,10 @@ loop-less : tie.Need-loop-smaller invariant-loop decreases-loop
 loop-less c = omega (arith, c.before.before.before.before.loop-test.true)
 
 loop-again : tie.Need-loop-preserved invariant-loop decreases-loop
-loop-again c = block-next c.before.before.before.before.before.loop.invariant c.before.before.before.before.loop-test.true c.store-lane.ensures (first_read c.before.before.before.before.before.before.before.args.odd.now c.before.before.before.before.before.before.before.args.fold.now c.before.before.before.before.before.loop.v)
+loop-again c = block_next c.before.before.before.before.before.loop.invariant c.before.before.before.before.loop-test.true c.store-lane.ensures (first_read c.before.before.before.before.before.before.before.args.odd.now c.before.before.before.before.before.before.before.args.fold.now c.before.before.before.before.before.loop.v)
 
 returns : tie.Need-returns invariant-loop decreases-loop
-returns c = block-done c.before.loop.invariant c.loop-test.false
+returns c = block_done c.before.loop.invariant c.loop-test.false
 
-pub first-block-spec : {M : Type 1} → statement M
-first-block-spec = tie.close (tie.spec invariant-loop decreases-loop loop-holds mul-b element-copy-out-b mul-store-lane shared-slice-read-store-lane add-store-lane store-lane-requires add-v loop-less loop-again returns)
+pub first_block_spec : {M : Type 1} → statement M
+first_block_spec = tie.close (tie.spec invariant-loop decreases-loop loop-holds mul-b element-copy-out-b mul-store-lane shared-slice-read-store-lane add-store-lane store-lane-requires add-v loop-less loop-again returns)

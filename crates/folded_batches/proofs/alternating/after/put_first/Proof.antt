@@ -18,5 +18,5 @@ same_length c = omega (arith, c.before.before.put-place.ensures.long)
 returns : tie.Need-returns
 returns c = record { long = c.before.before.put-place.ensures.long; new = λ v lv. c.before.before.put-place.ensures.new v lv ∙ c.before.before.before.before.before.first_block.ensures.each v lv; kept = c.before.before.put-place.ensures.kept }
 
-pub put-first-spec : {M : Type 1} → statement M
-put-first-spec = tie.close (tie.spec first-block-requires put-place-requires same_length returns)
+pub put_first_spec : {M : Type 1} → statement M
+put_first_spec = tie.close (tie.spec first-block-requires put-place-requires same_length returns)

@@ -1,6 +1,6 @@
 -- The imaginary part of a place stands sixteen numbers behind the real one.
 use native.Mathlib.Omega.{arith}
-use Rattle.folded_batches.proofs.AlternatingBack.{end-even, end-odd}
+use Rattle.folded_batches.proofs.AlternatingBack.{end_even, end_odd}
 use Rattle.folded_batches.proofs.alternating.back.end_place.Statement.{statement}
 use Rattle.folded_batches.proofs.alternating.back.end_place.Tie as tie
 
@@ -14,10 +14,10 @@ add-result : tie.Need-overflow-add-result
 add-result c = omega (arith, c.before.requires)
 
 returns : tie.Need-returns
-returns c = end-even c.before.args.a c.if1.true
+returns c = end_even c.before.args.a c.if1.true
 
 returns-2 : tie.Need-returns-2
-returns-2 c = end-odd c.before.args.a c.if1.false
+returns-2 c = end_odd c.before.args.a c.if1.false
 
-pub end-place-spec : {M : Type 1} → statement M
-end-place-spec = tie.close (tie.spec mul-result mul-result-2 add-result returns returns-2)
+pub end_place_spec : {M : Type 1} → statement M
+end_place_spec = tie.close (tie.spec mul-result mul-result-2 add-result returns returns-2)

@@ -1,16 +1,16 @@
 -- Lane by lane (`BlockOf`).
 use native.Mathlib.Omega.{arith}
 use Prim.Native.Nat.{◌-◌}
-use Rattle.batches.specs.Lanes.{laneAt}
-use Rattle.batches.proofs.DrivingLanes.{up-as}
-use Rattle.folded_batches.specs.AlternatingLanes.{BlockOf, evenPair}
-use Rattle.folded_batches.proofs.AlternatingBlocks.{block_start, block-next, block-done}
-use Rattle.folded_batches.proofs.AlternatingBack.{even-read}
+use Rattle.batches.specs.Lanes.{lane_at}
+use Rattle.batches.proofs.DrivingLanes.{up_as}
+use Rattle.folded_batches.specs.AlternatingLanes.{BlockOf, even_pair}
+use Rattle.folded_batches.proofs.AlternatingBlocks.{block_start, block_next, block_done}
+use Rattle.folded_batches.proofs.AlternatingBack.{even_read}
 use Rattle.folded_batches.proofs.alternating.back.even_block.Statement.{statement}
 use Rattle.folded_batches.proofs.alternating.back.even_block.Tie as tie
 
 abbrev invariant-loop : tie.invariant-loop
-invariant-loop o from i j y₀ v₀ y v = BlockOf (λ v. evenPair o (laneAt from i v) (laneAt from j v)) v y
+invariant-loop o from i j y₀ v₀ y v = BlockOf (λ v. even_pair o (lane_at from i v) (lane_at from j v)) v y
 
 abbrev decreases-loop : tie.decreases-loop
 decreases-loop o from i j y₀ v₀ y v = 16 - v
@@ -19,7 +19,7 @@ loop-holds : tie.Need-loop-init invariant-loop decreases-loop
 loop-holds c = block_start c.before.requires.0.2
 
 added-requires : tie.Need-added-requires invariant-loop decreases-loop
-added-requires c κs = ((omega (arith, c.loop-test.true), omega (arith, c.loop-test.true), up-as c.before.before.before.requires.0.1 (omega (arith, c.before.before.before.requires.0.0))), c.before.before.before.requires.1)
+added-requires c κs = ((omega (arith, c.loop-test.true), omega (arith, c.loop-test.true), up_as c.before.before.before.requires.0.1 (omega (arith, c.before.before.before.requires.0.0))), c.before.before.before.requires.1)
 
 add_apart : tie.Need-overflow-add-apart invariant-loop decreases-loop
 add_apart c = omega (arith, c.before.loop-test.true)
@@ -40,10 +40,10 @@ loop-less : tie.Need-loop-smaller invariant-loop decreases-loop
 loop-less c = omega (arith, c.before.before.before.before.loop-test.true)
 
 loop-again : tie.Need-loop-preserved invariant-loop decreases-loop
-loop-again c = block-next c.before.before.before.before.before.loop.invariant c.before.before.before.before.loop-test.true c.store-lane.ensures (even-read c.before.before.before.before.before.before.before.args.o c.before.before.before.before.before.before.before.args.from.now c.before.before.before.before.before.before.before.args.i c.before.before.before.before.before.before.before.args.j c.before.before.before.before.before.loop.v c.before.before.before.added.ensures c.before.before.apart.ensures)
+loop-again c = block_next c.before.before.before.before.before.loop.invariant c.before.before.before.before.loop-test.true c.store-lane.ensures (even_read c.before.before.before.before.before.before.before.args.o c.before.before.before.before.before.before.before.args.from.now c.before.before.before.before.before.before.before.args.i c.before.before.before.before.before.before.before.args.j c.before.before.before.before.before.loop.v c.before.before.before.added.ensures c.before.before.apart.ensures)
 
 returns : tie.Need-returns invariant-loop decreases-loop
-returns c = block-done c.before.loop.invariant c.loop-test.false
+returns c = block_done c.before.loop.invariant c.loop-test.false
 
-pub even-block-spec : {M : Type 1} → statement M
-even-block-spec = tie.close (tie.spec invariant-loop decreases-loop loop-holds added-requires add_apart add-apart-2 apart-requires store-lane-requires add-v loop-less loop-again returns)
+pub even_block_spec : {M : Type 1} → statement M
+even_block_spec = tie.close (tie.spec invariant-loop decreases-loop loop-holds added-requires add_apart add-apart-2 apart-requires store-lane-requires add-v loop-less loop-again returns)

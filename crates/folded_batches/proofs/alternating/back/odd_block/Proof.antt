@@ -2,15 +2,15 @@
 use native.Mathlib.Omega.{arith}
 use Prim.Native.Nat.{◌-◌}
 use lib.ListN.{get_or}
-use Rattle.batches.specs.Lanes.{laneAt}
-use Rattle.folded_batches.specs.AlternatingLanes.{BlockOf, oddPair}
-use Rattle.folded_batches.proofs.AlternatingBlocks.{block_start, block-next, block-done}
-use Rattle.folded_batches.proofs.AlternatingBack.{odd-read}
+use Rattle.batches.specs.Lanes.{lane_at}
+use Rattle.folded_batches.specs.AlternatingLanes.{BlockOf, odd_pair}
+use Rattle.folded_batches.proofs.AlternatingBlocks.{block_start, block_next, block_done}
+use Rattle.folded_batches.proofs.AlternatingBack.{odd_read}
 use Rattle.folded_batches.proofs.alternating.back.odd_block.Statement.{statement}
 use Rattle.folded_batches.proofs.alternating.back.odd_block.Tie as tie
 
 abbrev invariant-loop : tie.invariant-loop
-invariant-loop o twice from i j y₀ v₀ y v = BlockOf (λ v. oddPair o (get_or twice v 0) (laneAt from i v) (laneAt from j v)) v y
+invariant-loop o twice from i j y₀ v₀ y v = BlockOf (λ v. odd_pair o (get_or twice v 0) (lane_at from i v) (lane_at from j v)) v y
 
 abbrev decreases-loop : tie.decreases-loop
 decreases-loop o twice from i j y₀ v₀ y v = 16 - v
@@ -49,10 +49,10 @@ loop-less : tie.Need-loop-smaller invariant-loop decreases-loop
 loop-less c = omega (arith, c.before.before.before.before.before.loop-test.true)
 
 loop-again : tie.Need-loop-preserved invariant-loop decreases-loop
-loop-again c = block-next c.before.before.before.before.before.before.loop.invariant c.before.before.before.before.before.loop-test.true c.store-lane.ensures (odd-read c.before.before.before.before.before.before.before.before.args.o c.before.before.before.before.before.before.before.before.args.from.now c.before.before.before.before.before.before.before.before.args.i c.before.before.before.before.before.before.before.before.args.j c.before.before.before.before.before.before.loop.v (get_or c.before.before.before.before.before.before.before.before.args.twice.now c.before.before.before.before.before.before.loop.v 0) c.before.before.before.before.apart.ensures c.before.before.before.opposite.ensures)
+loop-again c = block_next c.before.before.before.before.before.before.loop.invariant c.before.before.before.before.before.loop-test.true c.store-lane.ensures (odd_read c.before.before.before.before.before.before.before.before.args.o c.before.before.before.before.before.before.before.before.args.from.now c.before.before.before.before.before.before.before.before.args.i c.before.before.before.before.before.before.before.before.args.j c.before.before.before.before.before.before.loop.v (get_or c.before.before.before.before.before.before.before.before.args.twice.now c.before.before.before.before.before.before.loop.v 0) c.before.before.before.before.apart.ensures c.before.before.before.opposite.ensures)
 
 returns : tie.Need-returns invariant-loop decreases-loop
-returns c = block-done c.before.loop.invariant c.loop-test.false
+returns c = block_done c.before.loop.invariant c.loop-test.false
 
-pub odd-block-spec : {M : Type 1} → statement M
-odd-block-spec = tie.close (tie.spec invariant-loop decreases-loop loop-holds add_apart add-apart-2 apart-requires opposite-requires mul-store-lane element-copy-out-store-lane add-store-lane store-lane-requires add-v loop-less loop-again returns)
+pub odd_block_spec : {M : Type 1} → statement M
+odd_block_spec = tie.close (tie.spec invariant-loop decreases-loop loop-holds add_apart add-apart-2 apart-requires opposite-requires mul-store-lane element-copy-out-store-lane add-store-lane store-lane-requires add-v loop-less loop-again returns)

@@ -4,14 +4,14 @@ use mathlib.Core.Path.{refl}
 use Prim.Native.Nat.{◌+◌, ◌-◌}
 use lib.ListN.{get_or}
 use Rattle.numbers.proofs.Values.{pair_path}
-use Rattle.batches.specs.Lanes.{laneAt}
+use Rattle.batches.specs.Lanes.{lane_at}
 use Rattle.folded_batches.specs.AlternatingLanes.{BlockOf}
-use Rattle.folded_batches.proofs.AlternatingBlocks.{block_start, block-next, block-done, first-re}
+use Rattle.folded_batches.proofs.AlternatingBlocks.{block_start, block_next, block_done, first_re}
 use Rattle.folded_batches.proofs.alternating.back.pack_block.Statement.{statement}
 use Rattle.folded_batches.proofs.alternating.back.pack_block.Tie as tie
 
 abbrev invariant-loop : tie.invariant-loop
-invariant-loop first line y₀ v₀ y v = BlockOf (λ v. record { re = (laneAt line 0 v).re; im = get_or line (first + v) 0 }) v y
+invariant-loop first line y₀ v₀ y v = BlockOf (λ v. record { re = (lane_at line 0 v).re; im = get_or line (first + v) 0 }) v y
 
 abbrev decreases-loop : tie.decreases-loop
 decreases-loop first line y₀ v₀ y v = 16 - v
@@ -44,10 +44,10 @@ loop-less : tie.Need-loop-smaller invariant-loop decreases-loop
 loop-less c = omega (arith, c.before.before.before.before.loop-test.true)
 
 loop-again : tie.Need-loop-preserved invariant-loop decreases-loop
-loop-again c = block-next c.before.before.before.before.before.loop.invariant c.before.before.before.before.loop-test.true c.store-lane.ensures (pair_path (first-re c.before.before.before.before.before.before.before.args.line.now c.before.before.before.before.before.loop.v) refl)
+loop-again c = block_next c.before.before.before.before.before.loop.invariant c.before.before.before.before.loop-test.true c.store-lane.ensures (pair_path (first_re c.before.before.before.before.before.before.before.args.line.now c.before.before.before.before.before.loop.v) refl)
 
 returns : tie.Need-returns invariant-loop decreases-loop
-returns c = block-done c.before.loop.invariant c.loop-test.false
+returns c = block_done c.before.loop.invariant c.loop-test.false
 
-pub pack-block-spec : {M : Type 1} → statement M
-pack-block-spec = tie.close (tie.spec invariant-loop decreases-loop loop-holds mul-store-lane shared-slice-read-store-lane add-store-lane mul-store-lane-2 shared-slice-read-store-lane-2 store-lane-requires add-v loop-less loop-again returns)
+pub pack_block_spec : {M : Type 1} → statement M
+pack_block_spec = tie.close (tie.spec invariant-loop decreases-loop loop-holds mul-store-lane shared-slice-read-store-lane add-store-lane mul-store-lane-2 shared-slice-read-store-lane-2 store-lane-requires add-v loop-less loop-again returns)

@@ -4,7 +4,7 @@ use mathlib.Core.Path.{◌∙◌, ap}
 use Prim.Native.Nat.{ℕ, ◌*◌}
 use lib.ListN.{length-replicate}
 use Rattle.folded_batches.proofs.AlternatingBlocks.{up_at}
-use Rattle.folded_batches.proofs.AlternatingBack.{twice-at}
+use Rattle.folded_batches.proofs.AlternatingBack.{twice_at}
 use Rattle.folded_batches.proofs.alternating.back.take_first.Statement.{statement}
 use Rattle.folded_batches.proofs.alternating.back.take_first.Tie as tie
 
@@ -27,7 +27,7 @@ same_length : tie.Need-same-length
 same_length c = omega (arith, c.before.before.put-place.ensures.long)
 
 returns : tie.Need-returns
-returns c = record { long = c.before.before.put-place.ensures.long; kept-twice = twice-at c.before.before.before.before.before.before.before.before.before.before.before.before.before.args.fold.now (ap (λ r. 2 * r) c.before.before.before.before.before.before.before.before.before.before.before.modulus.ensures.0) c.before.before.before.before.before.before.before.before.twice-block.ensures; new = λ v lv. c.before.before.put-place.ensures.new v lv ∙ c.before.before.before.before.before.first_block.ensures.each v lv; kept = c.before.before.put-place.ensures.kept }
+returns c = record { long = c.before.before.put-place.ensures.long; kept_twice = twice_at c.before.before.before.before.before.before.before.before.before.before.before.before.before.args.fold.now (ap (λ r. 2 * r) c.before.before.before.before.before.before.before.before.before.before.before.modulus.ensures.0) c.before.before.before.before.before.before.before.before.twice-block.ensures; new = λ v lv. c.before.before.put-place.ensures.new v lv ∙ c.before.before.before.before.before.first_block.ensures.each v lv; kept = c.before.before.put-place.ensures.kept }
 
 pub take_first_spec : {M : Type 1} → statement M
 take_first_spec = tie.close (tie.spec modulus-requires mul-o twice-block-requires first-block-requires put-place-requires same_length returns)

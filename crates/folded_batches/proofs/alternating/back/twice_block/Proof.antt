@@ -1,14 +1,14 @@
 -- Lane by lane (`BlockOf`).
 use native.Mathlib.Omega.{arith}
 use Prim.Native.Nat.{◌+◌, ◌*◌, ◌-◌}
-use Rattle.folded_batches.specs.AlternatingLanes.{BlockOf, twicePair}
-use Rattle.folded_batches.proofs.AlternatingBlocks.{block_start, block-next, block-done}
-use Rattle.folded_batches.proofs.AlternatingBack.{twice-read}
+use Rattle.folded_batches.specs.AlternatingLanes.{BlockOf, twice_pair}
+use Rattle.folded_batches.proofs.AlternatingBlocks.{block_start, block_next, block_done}
+use Rattle.folded_batches.proofs.AlternatingBack.{twice_read}
 use Rattle.folded_batches.proofs.alternating.back.twice_block.Statement.{statement}
 use Rattle.folded_batches.proofs.alternating.back.twice_block.Tie as tie
 
 abbrev invariant-loop : tie.invariant-loop
-invariant-loop o fold y₀ v₀ y v = BlockOf (twicePair o fold) v y
+invariant-loop o fold y₀ v₀ y v = BlockOf (twice_pair o fold) v y
 
 abbrev decreases-loop : tie.decreases-loop
 decreases-loop o fold y₀ v₀ y v = 16 - v
@@ -35,10 +35,10 @@ loop-less : tie.Need-loop-smaller invariant-loop decreases-loop
 loop-less c = omega (arith, c.before.before.before.loop-test.true)
 
 loop-again : tie.Need-loop-preserved invariant-loop decreases-loop
-loop-again c = block-next c.before.before.before.before.loop.invariant c.before.before.before.loop-test.true c.store-lane.ensures (twice-read c.before.before.before.before.before.before.args.o c.before.before.before.before.before.before.args.fold.now c.before.before.before.before.loop.v c.before.before.apart.ensures)
+loop-again c = block_next c.before.before.before.before.loop.invariant c.before.before.before.loop-test.true c.store-lane.ensures (twice_read c.before.before.before.before.before.before.args.o c.before.before.before.before.before.before.args.fold.now c.before.before.before.before.loop.v c.before.before.apart.ensures)
 
 returns : tie.Need-returns invariant-loop decreases-loop
-returns c = block-done c.before.loop.invariant c.loop-test.false
+returns c = block_done c.before.loop.invariant c.loop-test.false
 
-pub twice-block-spec : {M : Type 1} → statement M
-twice-block-spec = tie.close (tie.spec invariant-loop decreases-loop loop-holds add_apart apart-requires add-store-lane store-lane-requires add-v loop-less loop-again returns)
+pub twice_block_spec : {M : Type 1} → statement M
+twice_block_spec = tie.close (tie.spec invariant-loop decreases-loop loop-holds add_apart apart-requires add-store-lane store-lane-requires add-v loop-less loop-again returns)

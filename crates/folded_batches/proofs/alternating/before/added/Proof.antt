@@ -35,5 +35,5 @@ add-result-3 c = omega (arith, c.before.before.requires.0.2.each (32 * c.before.
 returns : tie.Need-returns
 returns c = refl
 
-pub added-spec : {M : Type 1} → statement M
-added-spec = tie.close (tie.spec mul-result add-result mul-result-2 shared-slice-read-result mul-result-3 add-result-2 mul-result-4 shared-slice-read-result-2 add-result-3 returns)
+pub added_spec : {M : Type 1} → statement M
+added_spec = tie.close (tie.spec mul-result add-result mul-result-2 shared-slice-read-result mul-result-3 add-result-2 mul-result-4 shared-slice-read-result-2 add-result-3 returns)

@@ -3,14 +3,14 @@ use native.Mathlib.Omega.{arith}
 use mathlib.Core.Path.{refl}
 use Prim.Native.Nat.{◌-◌}
 use Rattle.numbers.proofs.Values.{pair_path}
-use Rattle.batches.specs.Lanes.{laneAt}
+use Rattle.batches.specs.Lanes.{lane_at}
 use Rattle.folded_batches.specs.AlternatingLanes.{BlockOf}
-use Rattle.folded_batches.proofs.AlternatingBlocks.{block_start, block-next, block-done, first-re}
+use Rattle.folded_batches.proofs.AlternatingBlocks.{block_start, block_next, block_done, first_re}
 use Rattle.folded_batches.proofs.alternating.before.first_block.Statement.{statement}
 use Rattle.folded_batches.proofs.alternating.before.first_block.Tie as tie
 
 abbrev invariant-loop : tie.invariant-loop
-invariant-loop line y₀ v₀ y v = BlockOf (λ v. record { re = (laneAt line 0 v).re; im = 0 }) v y
+invariant-loop line y₀ v₀ y v = BlockOf (λ v. record { re = (lane_at line 0 v).re; im = 0 }) v y
 
 abbrev decreases-loop : tie.decreases-loop
 decreases-loop line y₀ v₀ y v = 16 - v
@@ -34,10 +34,10 @@ loop-less : tie.Need-loop-smaller invariant-loop decreases-loop
 loop-less c = omega (arith, c.before.before.before.loop-test.true)
 
 loop-again : tie.Need-loop-preserved invariant-loop decreases-loop
-loop-again c = block-next c.before.before.before.before.loop.invariant c.before.before.before.loop-test.true c.store-lane.ensures (pair_path (first-re c.before.before.before.before.before.before.args.line.now c.before.before.before.before.loop.v) refl)
+loop-again c = block_next c.before.before.before.before.loop.invariant c.before.before.before.loop-test.true c.store-lane.ensures (pair_path (first_re c.before.before.before.before.before.before.args.line.now c.before.before.before.before.loop.v) refl)
 
 returns : tie.Need-returns invariant-loop decreases-loop
-returns c = block-done c.before.loop.invariant c.loop-test.false
+returns c = block_done c.before.loop.invariant c.loop-test.false
 
-pub first-block-spec : {M : Type 1} → statement M
-first-block-spec = tie.close (tie.spec invariant-loop decreases-loop loop-holds mul-store-lane shared-slice-read-store-lane store-lane-requires add-v loop-less loop-again returns)
+pub first_block_spec : {M : Type 1} → statement M
+first_block_spec = tie.close (tie.spec invariant-loop decreases-loop loop-holds mul-store-lane shared-slice-read-store-lane store-lane-requires add-v loop-less loop-again returns)

@@ -1,14 +1,14 @@
 -- Lane by lane (`BlockOf`).
 use native.Mathlib.Omega.{arith}
 use Prim.Native.Nat.{◌-◌}
-use Rattle.batches.specs.Lanes.{laneAt}
-use Rattle.folded_batches.specs.AlternatingLanes.{BlockOf, highPair}
-use Rattle.folded_batches.proofs.AlternatingBlocks.{block_start, block-next, block-done, high_read}
+use Rattle.batches.specs.Lanes.{lane_at}
+use Rattle.folded_batches.specs.AlternatingLanes.{BlockOf, high_pair}
+use Rattle.folded_batches.proofs.AlternatingBlocks.{block_start, block_next, block_done, high_read}
 use Rattle.folded_batches.proofs.alternating.before.high_block.Statement.{statement}
 use Rattle.folded_batches.proofs.alternating.before.high_block.Tie as tie
 
 abbrev invariant-loop : tie.invariant-loop
-invariant-loop o from i j y₀ v₀ y v = BlockOf (λ v. highPair o (laneAt from i v) (laneAt from j v)) v y
+invariant-loop o from i j y₀ v₀ y v = BlockOf (λ v. high_pair o (lane_at from i v) (lane_at from j v)) v y
 
 abbrev decreases-loop : tie.decreases-loop
 decreases-loop o from i j y₀ v₀ y v = 16 - v
@@ -38,10 +38,10 @@ loop-less : tie.Need-loop-smaller invariant-loop decreases-loop
 loop-less c = omega (arith, c.before.before.before.before.loop-test.true)
 
 loop-again : tie.Need-loop-preserved invariant-loop decreases-loop
-loop-again c = block-next c.before.before.before.before.before.loop.invariant c.before.before.before.before.loop-test.true c.store-lane.ensures (high_read c.before.before.before.before.before.before.before.args.o c.before.before.before.before.before.before.before.args.from.now c.before.before.before.before.before.before.before.args.i c.before.before.before.before.before.before.before.args.j c.before.before.before.before.before.loop.v c.before.before.before.apart.ensures c.before.before.opposite.ensures)
+loop-again c = block_next c.before.before.before.before.before.loop.invariant c.before.before.before.before.loop-test.true c.store-lane.ensures (high_read c.before.before.before.before.before.before.before.args.o c.before.before.before.before.before.before.before.args.from.now c.before.before.before.before.before.before.before.args.i c.before.before.before.before.before.before.before.args.j c.before.before.before.before.before.loop.v c.before.before.before.apart.ensures c.before.before.opposite.ensures)
 
 returns : tie.Need-returns invariant-loop decreases-loop
-returns c = block-done c.before.loop.invariant c.loop-test.false
+returns c = block_done c.before.loop.invariant c.loop-test.false
 
-pub high-block-spec : {M : Type 1} → statement M
-high-block-spec = tie.close (tie.spec invariant-loop decreases-loop loop-holds add_apart apart-requires add-opposite opposite-requires store-lane-requires add-v loop-less loop-again returns)
+pub high_block_spec : {M : Type 1} → statement M
+high_block_spec = tie.close (tie.spec invariant-loop decreases-loop loop-holds add_apart apart-requires add-opposite opposite-requires store-lane-requires add-v loop-less loop-again returns)

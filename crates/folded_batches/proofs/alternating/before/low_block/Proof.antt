@@ -1,15 +1,15 @@
 -- Lane by lane (`BlockOf`).
 use native.Mathlib.Omega.{arith}
 use Prim.Native.Nat.{◌-◌}
-use Rattle.batches.specs.Lanes.{laneAt}
-use Rattle.batches.proofs.DrivingLanes.{up-as}
-use Rattle.folded_batches.specs.AlternatingLanes.{BlockOf, lowPair}
-use Rattle.folded_batches.proofs.AlternatingBlocks.{block_start, block-next, block-done, low_read}
+use Rattle.batches.specs.Lanes.{lane_at}
+use Rattle.batches.proofs.DrivingLanes.{up_as}
+use Rattle.folded_batches.specs.AlternatingLanes.{BlockOf, low_pair}
+use Rattle.folded_batches.proofs.AlternatingBlocks.{block_start, block_next, block_done, low_read}
 use Rattle.folded_batches.proofs.alternating.before.low_block.Statement.{statement}
 use Rattle.folded_batches.proofs.alternating.before.low_block.Tie as tie
 
 abbrev invariant-loop : tie.invariant-loop
-invariant-loop o from i j y₀ v₀ y v = BlockOf (λ v. lowPair o (laneAt from i v) (laneAt from j v)) v y
+invariant-loop o from i j y₀ v₀ y v = BlockOf (λ v. low_pair o (lane_at from i v) (lane_at from j v)) v y
 
 abbrev decreases-loop : tie.decreases-loop
 decreases-loop o from i j y₀ v₀ y v = 16 - v
@@ -27,7 +27,7 @@ add-added : tie.Need-overflow-add-added invariant-loop decreases-loop
 add-added c = omega (arith, c.before.loop-test.true)
 
 added-requires : tie.Need-added-requires invariant-loop decreases-loop
-added-requires c κs = ((omega (arith, c.before.loop-test.true), omega (arith, c.before.loop-test.true), up-as c.before.before.before.before.requires.0.1 (omega (arith, c.before.before.before.before.requires.0.0))), c.before.before.before.before.requires.1)
+added-requires c κs = ((omega (arith, c.before.loop-test.true), omega (arith, c.before.loop-test.true), up_as c.before.before.before.before.requires.0.1 (omega (arith, c.before.before.before.before.requires.0.0))), c.before.before.before.before.requires.1)
 
 store-lane-requires : tie.Need-store-lane-requires invariant-loop decreases-loop
 store-lane-requires c κs = c.before.before.before.loop-test.true
@@ -39,10 +39,10 @@ loop-less : tie.Need-loop-smaller invariant-loop decreases-loop
 loop-less c = omega (arith, c.before.before.before.before.loop-test.true)
 
 loop-again : tie.Need-loop-preserved invariant-loop decreases-loop
-loop-again c = block-next c.before.before.before.before.before.loop.invariant c.before.before.before.before.loop-test.true c.store-lane.ensures (low_read c.before.before.before.before.before.before.before.args.o c.before.before.before.before.before.before.before.args.from.now c.before.before.before.before.before.before.before.args.i c.before.before.before.before.before.before.before.args.j c.before.before.before.before.before.loop.v c.before.before.before.apart.ensures c.before.before.added.ensures)
+loop-again c = block_next c.before.before.before.before.before.loop.invariant c.before.before.before.before.loop-test.true c.store-lane.ensures (low_read c.before.before.before.before.before.before.before.args.o c.before.before.before.before.before.before.before.args.from.now c.before.before.before.before.before.before.before.args.i c.before.before.before.before.before.before.before.args.j c.before.before.before.before.before.loop.v c.before.before.before.apart.ensures c.before.before.added.ensures)
 
 returns : tie.Need-returns invariant-loop decreases-loop
-returns c = block-done c.before.loop.invariant c.loop-test.false
+returns c = block_done c.before.loop.invariant c.loop-test.false
 
-pub low-block-spec : {M : Type 1} → statement M
-low-block-spec = tie.close (tie.spec invariant-loop decreases-loop loop-holds add_apart apart-requires add-added added-requires store-lane-requires add-v loop-less loop-again returns)
+pub low_block_spec : {M : Type 1} → statement M
+low_block_spec = tie.close (tie.spec invariant-loop decreases-loop loop-holds add_apart apart-requires add-added added-requires store-lane-requires add-v loop-less loop-again returns)

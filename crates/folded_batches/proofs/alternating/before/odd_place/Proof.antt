@@ -1,6 +1,6 @@
 -- One of the two is at most A.
 use native.Mathlib.Omega.{arith}
-use Rattle.folded_batches.proofs.AlternatingBlocks.{odd_low, odd-high}
+use Rattle.folded_batches.proofs.AlternatingBlocks.{odd_low, odd_high}
 use Rattle.folded_batches.proofs.alternating.before.odd_place.Statement.{statement}
 use Rattle.folded_batches.proofs.alternating.before.odd_place.Tie as tie
 
@@ -29,7 +29,7 @@ returns : tie.Need-returns
 returns c = (odd_low c.before.args.a c.before.args.t c.if1.true, omega (arith, c.if1.true))
 
 returns-2 : tie.Need-returns-2
-returns-2 c = (odd-high c.before.args.a c.before.args.t c.if1.false, omega (arith, c.if1.false))
+returns-2 c = (odd_high c.before.args.a c.before.args.t c.if1.false, omega (arith, c.if1.false))
 
-pub odd-place-spec : {M : Type 1} → statement M
-odd-place-spec = tie.close (tie.spec mul-if1 add-if1 mul-result add-result sub-result mul-result-2 sub-result-2 returns returns-2)
+pub odd_place_spec : {M : Type 1} → statement M
+odd_place_spec = tie.close (tie.spec mul-if1 add-if1 mul-result add-result sub-result mul-result-2 sub-result-2 returns returns-2)

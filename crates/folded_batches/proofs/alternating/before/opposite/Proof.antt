@@ -41,5 +41,5 @@ add-result-3 c = omega (arith, c.before.before.requires.0.2, c.before.before.req
 returns : tie.Need-returns
 returns c = refl
 
-pub opposite-spec : {M : Type 1} → statement M
-opposite-spec = tie.close (tie.spec mul-result add-result mul-result-2 shared-slice-read-result sub-result mul-result-3 add-result-2 mul-result-4 shared-slice-read-result-2 sub-result-2 add-result-3 returns)
+pub opposite_spec : {M : Type 1} → statement M
+opposite_spec = tie.close (tie.spec mul-result add-result mul-result-2 shared-slice-read-result sub-result mul-result-3 add-result-2 mul-result-4 shared-slice-read-result-2 sub-result-2 add-result-3 returns)

@@ -1,6 +1,6 @@
 -- The places lie inside.
 use native.Mathlib.Omega.{arith}
-use Rattle.folded_batches.proofs.AlternatingBlocks.{block-as, short-low, short-high}
+use Rattle.folded_batches.proofs.AlternatingBlocks.{block_as, short_low, short_high}
 use Rattle.folded_batches.proofs.alternating.before.short_block.Statement.{statement}
 use Rattle.folded_batches.proofs.alternating.before.short_block.Tie as tie
 
@@ -41,10 +41,10 @@ high-block-requires : tie.Need-high-block-requires
 high-block-requires c κs = ((c.before.before.before.requires.0.0, c.before.before.before.requires.0.3, c.before.before.before.requires.1.1), (omega (arith, c.before.if1.false, c.before.before.before.requires.1.0), omega (arith, c.before.if1.false, c.before.before.before.requires.1.0)))
 
 returns : tie.Need-returns
-returns c = block-as c.low-block.ensures (λ v. short-low c.before.before.before.before.args.o c.before.before.before.before.args.a c.before.before.before.before.args.line.now c.before.before.before.before.args.t v c.before.before.if1.true)
+returns c = block_as c.low-block.ensures (λ v. short_low c.before.before.before.before.args.o c.before.before.before.before.args.a c.before.before.before.before.args.line.now c.before.before.before.before.args.t v c.before.before.if1.true)
 
 returns-2 : tie.Need-returns-2
-returns-2 c = block-as c.high-block.ensures (λ v. short-high c.before.before.before.before.args.o c.before.before.before.before.args.a c.before.before.before.before.args.line.now c.before.before.before.before.args.t v c.before.before.if1.false)
+returns-2 c = block_as c.high-block.ensures (λ v. short_high c.before.before.before.before.args.o c.before.before.before.before.args.a c.before.before.before.before.args.line.now c.before.before.before.before.args.t v c.before.before.if1.false)
 
-pub short-block-spec : {M : Type 1} → statement M
-short-block-spec = tie.close (tie.spec mul-if1 add-if1 mul-low-block mul-low-block-2 add-low-block low-block-requires sub-high-block mul-high-block sub-high-block-2 mul-high-block-2 sub-high-block-3 high-block-requires returns returns-2)
+pub short_block_spec : {M : Type 1} → statement M
+short_block_spec = tie.close (tie.spec mul-if1 add-if1 mul-low-block mul-low-block-2 add-low-block low-block-requires sub-high-block mul-high-block sub-high-block-2 mul-high-block-2 sub-high-block-3 high-block-requires returns returns-2)

@@ -2,7 +2,7 @@
 use borrow.Author.Rules.{rules}
 use Rattle.numbers.specs.Bounds.{res}
 use Rattle.numbers.proofs.Residues.{below_by}
-use Rattle.folded_batches.proofs.AlternatingTurning.{coefficients-plain, coefficients-over, coefficients-back, coefficients-times, coefficients-at, coefficients-of}
+use Rattle.folded_batches.proofs.AlternatingTurning.{coefficients_plain, coefficients_over, coefficients_back, coefficients_times, coefficients_at, coefficients_of}
 use Rattle.folded_batches.proofs.alternating.turning.coefficients.Statement.{statement}
 use Rattle.folded_batches.proofs.alternating.turning.coefficients.Tie as tie
 
@@ -43,16 +43,16 @@ of-one-requires-4 : tie.Need-of-one-requires-4
 of-one-requires-4 c κs = search rules
 
 returns : tie.Need-returns
-returns c = coefficients-at c.before.before.before.before.if1.true c.before.before.before.if2.true c.of_one.ensures (coefficients-over c.before.before.before.before.before.before.before.args.m c.before.before.before.before.before.before.before.args.a c.before.before.before.before.before.before.before.args.tan.now c.before.before.before.before.before.before.angle.ensures c.before.before.before.before.before.shift.ensures c.before.before.neg.ensures c.before.neg2.ensures)
+returns c = coefficients_at c.before.before.before.before.if1.true c.before.before.before.if2.true c.of_one.ensures (coefficients_over c.before.before.before.before.before.before.before.args.m c.before.before.before.before.before.before.before.args.a c.before.before.before.before.before.before.before.args.tan.now c.before.before.before.before.before.before.angle.ensures c.before.before.before.before.before.shift.ensures c.before.before.neg.ensures c.before.neg2.ensures)
 
 returns-2 : tie.Need-returns-2
-returns-2 c = coefficients-at c.before.before.if1.true c.before.if2.false c.of-one2.ensures (coefficients-plain c.before.before.before.before.before.args.m c.before.before.before.before.before.args.a c.before.before.before.before.before.args.tan.now c.before.before.before.before.angle.ensures c.before.before.before.shift.ensures)
+returns-2 c = coefficients_at c.before.before.if1.true c.before.if2.false c.of-one2.ensures (coefficients_plain c.before.before.before.before.before.args.m c.before.before.before.before.before.args.a c.before.before.before.before.before.args.tan.now c.before.before.before.before.angle.ensures c.before.before.before.shift.ensures)
 
 returns-3 : tie.Need-returns-3
-returns-3 c = coefficients-of c.before.before.before.before.if1.false c.before.before.before.if3.true c.of-one3.ensures (coefficients-times c.before.before.before.before.before.before.before.args.m c.before.before.before.before.before.before.before.args.a c.before.before.before.before.before.before.before.args.tan.now c.before.before.before.before.before.before.angle.ensures c.before.before.before.before.before.shift.ensures c.before.before.neg3.ensures c.before.neg4.ensures)
+returns-3 c = coefficients_of c.before.before.before.before.if1.false c.before.before.before.if3.true c.of-one3.ensures (coefficients_times c.before.before.before.before.before.before.before.args.m c.before.before.before.before.before.before.before.args.a c.before.before.before.before.before.before.before.args.tan.now c.before.before.before.before.before.before.angle.ensures c.before.before.before.before.before.shift.ensures c.before.before.neg3.ensures c.before.neg4.ensures)
 
 returns-4 : tie.Need-returns-4
-returns-4 c = coefficients-of c.before.before.before.before.if1.false c.before.before.before.if3.false c.of-one4.ensures (coefficients-back c.before.before.before.before.before.before.before.args.m c.before.before.before.before.before.before.before.args.a c.before.before.before.before.before.before.before.args.tan.now c.before.before.before.before.before.before.angle.ensures c.before.before.before.before.before.shift.ensures c.before.before.neg5.ensures c.before.neg6.ensures)
+returns-4 c = coefficients_of c.before.before.before.before.if1.false c.before.before.before.if3.false c.of-one4.ensures (coefficients_back c.before.before.before.before.before.before.before.args.m c.before.before.before.before.before.before.before.args.a c.before.before.before.before.before.before.before.args.tan.now c.before.before.before.before.before.before.angle.ensures c.before.before.before.before.before.shift.ensures c.before.before.neg5.ensures c.before.neg6.ensures)
 
-pub coefficients-spec : {M : Type 1} → statement M
-coefficients-spec = tie.close (tie.spec angle-requires shift-requires neg-requires neg-requires-2 of-one-requires of-one-requires-2 neg-requires-3 neg-requires-4 of-one-requires-3 neg-requires-5 neg-requires-6 of-one-requires-4 returns returns-2 returns-3 returns-4)
+pub coefficients_spec : {M : Type 1} → statement M
+coefficients_spec = tie.close (tie.spec angle-requires shift-requires neg-requires neg-requires-2 of-one-requires of-one-requires-2 neg-requires-3 neg-requires-4 of-one-requires-3 neg-requires-5 neg-requires-6 of-one-requires-4 returns returns-2 returns-3 returns-4)

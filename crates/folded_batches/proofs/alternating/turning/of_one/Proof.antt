@@ -6,5 +6,5 @@ use Rattle.folded_batches.proofs.alternating.turning.of_one.Tie as tie
 returns : tie.Need-returns
 returns c = refl
 
-pub of-one-spec : {M : Type 1} → statement M
-of-one-spec = tie.close (tie.spec returns)
+pub of_one_spec : {M : Type 1} → statement M
+of_one_spec = tie.close (tie.spec returns)

@@ -3,8 +3,8 @@ use native.Mathlib.Omega.{arith}
 use mathlib.Core.Path.{refl}
 use Prim.Native.Nat.{ℕ, ◌-◌}
 use lib.ListN.{length-replicate}
-use Rattle.folded_batches.proofs.AlternatingTurning.{Turning, turning-start, turning-next}
-use Rattle.folded_batches.proofs.AlternatingBlocks.{filled-done}
+use Rattle.folded_batches.proofs.AlternatingTurning.{Turning, turning_start, turning_next}
+use Rattle.folded_batches.proofs.AlternatingBlocks.{filled_done}
 use Rattle.folded_batches.proofs.alternating.turning.turn_places.Statement.{statement}
 use Rattle.folded_batches.proofs.alternating.turning.turn_places.Tie as tie
 
@@ -18,7 +18,7 @@ div-step : tie.Need-nonzero-div-step invariant-loop decreases-loop
 div-step c = omega (arith, c.before.requires.0.2)
 
 loop-holds : tie.Need-loop-init invariant-loop decreases-loop
-loop-holds c = turning-start c.before.requires.1.0 c.before.requires.1.1 (length-replicate {A = ℕ} 32 0)
+loop-holds c = turning_start c.before.requires.1.0 c.before.requires.1.1 (length-replicate {A = ℕ} 32 0)
 
 coefficients-requires : tie.Need-coefficients-requires invariant-loop decreases-loop
 coefficients-requires c κs = ((c.before.before.before.requires.0.0, c.before.before.before.requires.0.1), (refl, c.before.before.before.requires.0.3, c.loop-test.true))
@@ -36,13 +36,13 @@ loop-less : tie.Need-loop-smaller invariant-loop decreases-loop
 loop-less c = omega (arith, c.before.before.before.before.before.before.before.before.before.loop-test.true)
 
 loop-again : tie.Need-loop-preserved invariant-loop decreases-loop
-loop-again c = turning-next c.before.before.before.before.before.before.before.before.before.before.before.before.requires.0.0 c.before.before.before.before.before.before.before.before.before.before.loop.invariant c.before.before.before.before.before.before.before.before.coefficients.ensures c.before.before.before.before.before.mixed-alone.ensures c.before.before.put-place.ensures
+loop-again c = turning_next c.before.before.before.before.before.before.before.before.before.before.before.before.requires.0.0 c.before.before.before.before.before.before.before.before.before.before.loop.invariant c.before.before.before.before.before.before.before.before.coefficients.ensures c.before.before.before.before.before.mixed-alone.ensures c.before.before.put-place.ensures
 
 same_length : tie.Need-same-length invariant-loop decreases-loop
 same_length c = omega (arith, c.before.loop.invariant.long, c.before.before.before.requires.1.0)
 
 returns : tie.Need-returns invariant-loop decreases-loop
-returns c = filled-done c.before.loop.invariant.filled c.loop-test.false
+returns c = filled_done c.before.loop.invariant.filled c.loop-test.false
 
-pub turn-places-spec : {M : Type 1} → statement M
-turn-places-spec = tie.close (tie.spec invariant-loop decreases-loop div-step loop-holds coefficients-requires mixed-alone-requires put-place-requires add-s loop-less loop-again same_length returns)
+pub turn_places_spec : {M : Type 1} → statement M
+turn_places_spec = tie.close (tie.spec invariant-loop decreases-loop div-step loop-holds coefficients-requires mixed-alone-requires put-place-requires add-s loop-less loop-again same_length returns)

@@ -3,7 +3,7 @@ use mathlib.Core.Path.{refl, sym, subst}
 use Prim.Native.Nat.{◌-◌, ◌+◌, ◌*◌, ◌<◌}
 use native.Mathlib.Omega.{arith}
 use Rattle.folded_batches.specs.RowLanes.{GatheredRows}
-use Rattle.folded_batches.proofs.RowPlaces.{second-low, rows_start, rows_next, rows-done}
+use Rattle.folded_batches.proofs.RowPlaces.{second_low, rows_start, rows_next, rows_done}
 use Rattle.folded_batches.proofs.hermitian.rows.gather.Statement.{statement}
 use Rattle.folded_batches.proofs.hermitian.rows.gather.Tie as tie
 
@@ -35,7 +35,7 @@ gather-place-requires c κs =
     let l = t.before in
     let s = l.before.before.before in
     let p = s.requires.0 in
-    (p.2, omega (arith, t.loop-test.true), subst (λ n. n < 2 * s.args.b + 2) (sym o.second-of.ensures) (second-low p.1 l.loop.j t.loop-test.true), omega (arith, p.0), omega (arith, s.requires.1), omega (arith, t.loop-test.true, l.loop.invariant.long))
+    (p.2, omega (arith, t.loop-test.true), subst (λ n. n < 2 * s.args.b + 2) (sym o.second-of.ensures) (second_low p.1 l.loop.j t.loop-test.true), omega (arith, p.0), omega (arith, s.requires.1), omega (arith, t.loop-test.true, l.loop.invariant.long))
 
 add-j : tie.Need-overflow-add-j invariant-loop decreases-loop
 add-j c =
@@ -56,7 +56,7 @@ same_length : tie.Need-same-length invariant-loop decreases-loop
 same_length c = omega (arith, c.before.loop.invariant.long, c.before.before.before.before.requires.0.3)
 
 returns : tie.Need-returns invariant-loop decreases-loop
-returns c = rows-done c.before.loop.invariant c.loop-test.false
+returns c = rows_done c.before.loop.invariant c.loop-test.false
 
-pub gather-spec : {M : Type 1} → statement M
-gather-spec = tie.close (tie.spec invariant-loop decreases-loop mul-width add-width loop-holds mul-gather-place second-of-requires gather-place-requires add-j loop-less loop-again same_length returns)
+pub gather_spec : {M : Type 1} → statement M
+gather_spec = tie.close (tie.spec invariant-loop decreases-loop mul-width add-width loop-holds mul-gather-place second-of-requires gather-place-requires add-j loop-less loop-again same_length returns)

@@ -4,16 +4,16 @@ use mathlib.Core.List.{List}
 use Prim.Native.Nat.{ℕ, ◌+◌, ◌*◌, ◌-◌, ◌≤◌}
 use lib.ListN.{length}
 use native.Mathlib.Omega.{arith}
-use Rattle.slices.proofs.Rows.{row-end}
+use Rattle.slices.proofs.Rows.{row_end}
 use Rattle.batches.specs.Groups.{PutLanes}
-use Rattle.batches.proofs.VolumeLanes.{putting-start, putting-next, putting-as}
-use Rattle.folded_batches.specs.RowLanes.{rowPair, usedPair}
-use Rattle.folded_batches.proofs.RowPlaces.{row_read, lane-used, lane-unused}
+use Rattle.batches.proofs.VolumeLanes.{putting_start, putting_next, putting_as}
+use Rattle.folded_batches.specs.RowLanes.{row_pair, used_pair}
+use Rattle.folded_batches.proofs.RowPlaces.{row_read, lane_used, lane_unused}
 use Rattle.folded_batches.proofs.hermitian.rows.gather_place.Statement.{statement}
 use Rattle.folded_batches.proofs.hermitian.rows.gather_place.Tie as tie
 
 abbrev invariant-loop : tie.invariant-loop
-invariant-loop rows width first second lanes d₀ j v₀ d v = PutLanes (usedPair lanes (rowPair rows width first second)) j v d₀ d × (v ≤ lanes)
+invariant-loop rows width first second lanes d₀ j v₀ d v = PutLanes (used_pair lanes (row_pair rows width first second)) j v d₀ d × (v ≤ lanes)
 
 abbrev decreases-loop : tie.decreases-loop
 decreases-loop rows width first second lanes d₀ j v₀ d v = lanes - v
@@ -21,26 +21,26 @@ decreases-loop rows width first second lanes d₀ j v₀ d v = lanes - v
 -- d₁ is what the first loop has left
 abbrev invariant-loop2 : tie.invariant-loop2
 invariant-loop2 rows width first second lanes d₁ j v₁ d v =
-    ((before : List ℕ) → 32 * j + 32 ≤ length before → PutLanes (usedPair lanes (rowPair rows width first second)) j v₁ before d₁ → PutLanes (usedPair lanes (rowPair rows width first second)) j v before d) × (length d ≡ length d₁)
+    ((before : List ℕ) → 32 * j + 32 ≤ length before → PutLanes (used_pair lanes (row_pair rows width first second)) j v₁ before d₁ → PutLanes (used_pair lanes (row_pair rows width first second)) j v before d) × (length d ≡ length d₁)
     × (lanes ≤ v) × (v ≤ 16)
 
 abbrev decreases-loop2 : tie.decreases-loop2
 decreases-loop2 rows width first second lanes d₀ j v₀ d v = 16 - v
 
 loop-holds : tie.Need-loop-init invariant-loop decreases-loop invariant-loop2 decreases-loop2
-loop-holds c = (putting-start, omega arith)
+loop-holds c = (putting_start, omega arith)
 
 number-requires : tie.Need-number-requires invariant-loop decreases-loop invariant-loop2 decreases-loop2
 number-requires c κs =
     let t = c.before in
     let s = t.before.before.before.before in
-    (omega (arith, t.loop-test.true, s.requires.0), s.requires.3, s.requires.1, omega (arith, row-end s.args.width t.loop-test.true, s.requires.4))
+    (omega (arith, t.loop-test.true, s.requires.0), s.requires.3, s.requires.1, omega (arith, row_end s.args.width t.loop-test.true, s.requires.4))
 
 number-requires-2 : tie.Need-number-requires-2 invariant-loop decreases-loop invariant-loop2 decreases-loop2
 number-requires-2 c κs =
     let t = c.before.before in
     let s = t.before.before.before.before in
-    (omega (arith, t.loop-test.true, s.requires.0), s.requires.3, s.requires.2, omega (arith, row-end s.args.width t.loop-test.true, s.requires.4))
+    (omega (arith, t.loop-test.true, s.requires.0), s.requires.3, s.requires.2, omega (arith, row_end s.args.width t.loop-test.true, s.requires.4))
 
 store-lane-requires : tie.Need-store-lane-requires invariant-loop decreases-loop invariant-loop2 decreases-loop2
 store-lane-requires c κs =
@@ -66,8 +66,8 @@ loop-again c =
     let l = t.before in
     let s = l.before.before.before in
     let a = s.args in (
-      putting-next l.loop.invariant.0 (omega (arith, t.loop-test.true, s.requires.0)) s.requires.5 e.store-lane.ensures
-          (lane-used (rowPair a.rows.now a.width a.first a.second) t.loop-test.true (row_read a.rows.now a.width a.first a.second l.loop.v g.number.ensures h.number2.ensures)),
+      putting_next l.loop.invariant.0 (omega (arith, t.loop-test.true, s.requires.0)) s.requires.5 e.store-lane.ensures
+          (lane_used (row_pair a.rows.now a.width a.first a.second) t.loop-test.true (row_read a.rows.now a.width a.first a.second l.loop.v g.number.ensures h.number2.ensures)),
       omega (arith, t.loop-test.true),
     )
 
@@ -98,7 +98,7 @@ loop2-again c =
     let s = l.before.before.before.before.before in
     let a = s.args in
     let i = l.loop2.invariant in (
-      λ before fits h. putting-next (i.0 before fits h) t.loop2-test.true fits e.store-lane2.ensures (lane-unused (rowPair a.rows.now a.width a.first a.second) i.2),
+      λ before fits h. putting_next (i.0 before fits h) t.loop2-test.true fits e.store-lane2.ensures (lane_unused (row_pair a.rows.now a.width a.first a.second) i.2),
       omega (arith, e.before.before.before.loop2.invariant.1, c.before.d2.given),
       omega (arith, i.2),
       omega (arith, t.loop2-test.true),
@@ -112,10 +112,10 @@ returns c =
     let l = c.before in
     let f = l.before.before in
     let s = f.before.before.before in
-    putting-as (l.loop2.invariant.0 s.args.d.now s.requires.5 f.loop.invariant.0) (omega (arith, c.loop2-test.false, l.loop2.invariant.3))
+    putting_as (l.loop2.invariant.0 s.args.d.now s.requires.5 f.loop.invariant.0) (omega (arith, c.loop2-test.false, l.loop2.invariant.3))
 
-pub gather-place-spec : {M : Type 1} → statement M
-gather-place-spec =
+pub gather_place_spec : {M : Type 1} → statement M
+gather_place_spec =
     tie.close
     (tie.spec
     invariant-loop

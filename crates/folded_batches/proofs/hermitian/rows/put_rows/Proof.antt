@@ -3,15 +3,15 @@ use Prim.Native.Nat.{◌-◌, ◌+◌, ◌*◌, ◌≤◌}
 use lib.ListN.{length}
 use native.Mathlib.Omega.{arith}
 use native.Mathlib.Nat.{mul-le-mul}
-use Rattle.slices.proofs.Rows.{row-end}
-use Rattle.batches.specs.Lanes.{laneAt}
+use Rattle.slices.proofs.Rows.{row_end}
+use Rattle.batches.specs.Lanes.{lane_at}
 use Rattle.folded_batches.specs.RowLanes.{PutRows}
-use Rattle.folded_batches.proofs.RowPlaces.{put-start, put_next, put_second, put-done}
+use Rattle.folded_batches.proofs.RowPlaces.{put_start, put_next, put_second, put_done}
 use Rattle.folded_batches.proofs.hermitian.rows.put_rows.Statement.{statement}
 use Rattle.folded_batches.proofs.hermitian.rows.put_rows.Tie as tie
 
 abbrev invariant-loop : tie.invariant-loop
-invariant-loop y lanes rows₀ width first second v₀ rows v = PutRows (λ v. laneAt y 0 v) width first second v rows₀ rows × (v ≤ lanes)
+invariant-loop y lanes rows₀ width first second v₀ rows v = PutRows (λ v. lane_at y 0 v) width first second v rows₀ rows × (v ≤ lanes)
 
 abbrev decreases-loop : tie.decreases-loop
 decreases-loop y lanes rows₀ width first second v₀ rows v = lanes - v
@@ -21,10 +21,10 @@ inside : (c : tie.In-loop invariant-loop decreases-loop) → let l = c.before in
 inside c =
     let l = c.before in
     let s = l.before in
-    (omega (arith, row-end s.args.width c.loop-test.true, s.requires.5), mul-le-mul {n₂ = 16} (omega (arith, c.loop-test.true, s.requires.0)) s.requires.4)
+    (omega (arith, row_end s.args.width c.loop-test.true, s.requires.5), mul-le-mul {n₂ = 16} (omega (arith, c.loop-test.true, s.requires.0)) s.requires.4)
 
 loop-holds : tie.Need-loop-init invariant-loop decreases-loop
-loop-holds c = (put-start c.args.y.now, omega arith)
+loop-holds c = (put_start c.args.y.now, omega arith)
 
 mul-row : tie.Need-overflow-mul-row invariant-loop decreases-loop
 mul-row c = omega (arith, (inside c).1)
@@ -83,10 +83,10 @@ same_length : tie.Need-same-length invariant-loop decreases-loop
 same_length c = omega (arith, c.before.loop.invariant.0.long)
 
 returns : tie.Need-returns invariant-loop decreases-loop
-returns c = put-done c.before.before.args.y.now c.before.loop.invariant.0 (omega (arith, c.before.loop.invariant.1, c.loop-test.false))
+returns c = put_done c.before.before.args.y.now c.before.loop.invariant.0 (omega (arith, c.before.loop.invariant.1, c.loop-test.false))
 
-pub put-rows-spec : {M : Type 1} → statement M
-put-rows-spec =
+pub put_rows_spec : {M : Type 1} → statement M
+put_rows_spec =
     tie.close
     (tie.spec
     invariant-loop

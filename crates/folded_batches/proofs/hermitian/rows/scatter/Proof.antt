@@ -5,7 +5,7 @@ use Prim.Native.Nat.{ℕ, ◌-◌, ◌+◌, ◌*◌, ◌<◌}
 use lib.ListN.{length, length-replicate}
 use native.Mathlib.Omega.{arith}
 use Rattle.folded_batches.specs.RowLanes.{ScatteredRows}
-use Rattle.folded_batches.proofs.RowPlaces.{second-low, second-even, second-most, third-low, spread-start, spread-next, spread-closed, spread-done, put_as}
+use Rattle.folded_batches.proofs.RowPlaces.{second_low, second_even, second_most, third_low, spread_start, spread_next, spread_closed, spread_done, put_as}
 use Rattle.folded_batches.proofs.hermitian.rows.scatter.Statement.{statement}
 use Rattle.folded_batches.proofs.hermitian.rows.scatter.Tie as tie
 
@@ -22,7 +22,7 @@ add-width : tie.Need-overflow-add-width invariant-loop decreases-loop
 add-width c = omega (arith, c.before.before.requires.1.1)
 
 loop-holds : tie.Need-loop-init invariant-loop decreases-loop
-loop-holds c = (spread-start refl, length-replicate {A = ℕ} 32 0)
+loop-holds c = (spread_start refl, length-replicate {A = ℕ} 32 0)
 
 reduce-place-requires : tie.Need-reduce-place-requires invariant-loop decreases-loop
 reduce-place-requires c κs =
@@ -49,7 +49,7 @@ put-rows-requires c κs =
     let p = s.requires.1 in
     let j = l.loop.j in
     let e = sym c.second-of.ensures in
-    (p.3, omega (arith, t.loop-test.true), subst (λ n. n < 2 * s.args.b + 2) e (second-low p.2 j t.loop-test.true), subst (λ n. 2 * j ≢ n) e (λ q. second-even p.2 j j t.loop-test.true t.loop-test.true (sym q)), omega (arith, p.1), omega (arith, p.4, l.loop.invariant.0.long))
+    (p.3, omega (arith, t.loop-test.true), subst (λ n. n < 2 * s.args.b + 2) e (second_low p.2 j t.loop-test.true), subst (λ n. 2 * j ≢ n) e (λ q. second_even p.2 j j t.loop-test.true t.loop-test.true (sym q)), omega (arith, p.1), omega (arith, p.4, l.loop.invariant.0.long))
 
 add-j : tie.Need-overflow-add-j invariant-loop decreases-loop
 add-j c =
@@ -67,7 +67,7 @@ loop-again c =
     let t = r.before.before in
     let l = t.before in
     let q = l.before.before.before.requires.1 in
-    (spread-next q.2 l.loop.invariant.0 t.loop-test.true q.3 r.reduce-place.ensures (put_as l.before.before.before.args.second l.loop.j o.second-of.ensures p.put-rows.ensures), r.reduce-place.ensures.long)
+    (spread_next q.2 l.loop.invariant.0 t.loop-test.true q.3 r.reduce-place.ensures (put_as l.before.before.before.args.second l.loop.j o.second-of.ensures p.put-rows.ensures), r.reduce-place.ensures.long)
 
 mul-put-rows-2 : tie.Need-overflow-mul-put-rows-2 invariant-loop decreases-loop
 mul-put-rows-2 c =
@@ -82,7 +82,7 @@ add-put-rows c =
 sub-put-rows : tie.Need-overflow-sub-put-rows invariant-loop decreases-loop
 sub-put-rows c =
     let s = c.before.before.before.before.before.before in
-    omega (arith, second-most s.requires.1.2)
+    omega (arith, second_most s.requires.1.2)
 
 mul-put-rows-3 : tie.Need-overflow-mul-put-rows-3 invariant-loop decreases-loop
 mul-put-rows-3 c =
@@ -99,7 +99,7 @@ put-rows-requires-2 c κs =
     let l = c.before.before.before in
     let s = l.before.before.before in
     let p = s.requires.1 in
-    (p.3, omega (arith, third-low p.2 p.0), omega arith, λ q. omega (arith, third-low p.2 p.0, q), omega (arith, p.1), omega (arith, p.4, l.loop.invariant.0.long))
+    (p.3, omega (arith, third_low p.2 p.0), omega arith, λ q. omega (arith, third_low p.2 p.0, q), omega (arith, p.1), omega (arith, p.4, l.loop.invariant.0.long))
 
 same_length : tie.Need-same-length invariant-loop decreases-loop
 same_length c =
@@ -112,10 +112,10 @@ returns c =
     let t = q.before.before.before in
     let l = t.before in
     let p = l.before.before.before.requires.1 in
-    spread-closed p.2 p.0 (spread-done l.loop.invariant.0 t.loop-test.false) q.put-rows2.ensures p.3
+    spread_closed p.2 p.0 (spread_done l.loop.invariant.0 t.loop-test.false) q.put-rows2.ensures p.3
 
-pub scatter-spec : {M : Type 1} → statement M
-scatter-spec =
+pub scatter_spec : {M : Type 1} → statement M
+scatter_spec =
     tie.close
     (tie.spec
     invariant-loop

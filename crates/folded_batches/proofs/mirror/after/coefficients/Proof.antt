@@ -5,7 +5,7 @@ use Rattle.numbers.specs.Value.{prime, ring}
 use Rattle.numbers.specs.Bounds.{res}
 use Rattle.numbers.proofs.Residues.{below_by}
 use Prim.Native.Nat.{◌<◌}
-use Rattle.folded_batches.proofs.MirrorFinish.{even-mix, odd-mix}
+use Rattle.folded_batches.proofs.MirrorFinish.{even_mix, odd_mix}
 use Rattle.folded_batches.proofs.mirror.after.coefficients.Statement.{statement}
 use Rattle.folded_batches.proofs.mirror.after.coefficients.Tie as tie
 
@@ -45,7 +45,7 @@ returns c =
     let n = t.before in
     let f = n.before in
     let s = f.before in
-    even-mix s.args.m s.args.tau f.shift.ensures t.mul.ensures n.modulus.ensures.0 q.modulus2.ensures.0 c.if1.true
+    even_mix s.args.m s.args.tau f.shift.ensures t.mul.ensures n.modulus.ensures.0 q.modulus2.ensures.0 c.if1.true
 
 returns-2 : tie.Need-returns-2
 returns-2 c =
@@ -54,7 +54,7 @@ returns-2 c =
     let n = t.before in
     let f = n.before in
     let s = f.before in
-    odd-mix s.args.m s.args.tau f.shift.ensures t.mul.ensures n.modulus.ensures.0 q.modulus2.ensures.0 (omega (arith, s.requires.1, c.if1.false))
+    odd_mix s.args.m s.args.tau f.shift.ensures t.mul.ensures n.modulus.ensures.0 q.modulus2.ensures.0 (omega (arith, s.requires.1, c.if1.false))
 
-pub coefficients-spec : {M : Type 1} → statement M
-coefficients-spec = tie.close (tie.spec shift-requires modulus-requires sub-minus-one mul-requires modulus-requires-2 sub-minus-turn returns returns-2)
+pub coefficients_spec : {M : Type 1} → statement M
+coefficients_spec = tie.close (tie.spec shift-requires modulus-requires sub-minus-one mul-requires modulus-requires-2 sub-minus-turn returns returns-2)

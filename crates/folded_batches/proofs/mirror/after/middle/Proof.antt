@@ -5,7 +5,7 @@ use native.Mathlib.Omega.{arith}
 use lib.ListN.{get_or}
 use Rattle.numbers.specs.Value.{prime}
 use Rattle.folded_batches.specs.MirrorLanes.{Numbers}
-use Rattle.folded_batches.proofs.MirrorBlocks.{numbers-start, numbers-next, numbers-done}
+use Rattle.folded_batches.proofs.MirrorBlocks.{numbers_start, numbers_next, numbers_done}
 use Rattle.folded_batches.proofs.mirror.after.middle.Statement.{statement}
 use Rattle.folded_batches.proofs.mirror.after.middle.Tie as tie
 
@@ -22,7 +22,7 @@ mul-o : tie.Need-overflow-mul-o invariant-loop decreases-loop
 mul-o c = omega (arith, c.modulus.ensures.2)
 
 loop-holds : tie.Need-loop-init invariant-loop decreases-loop
-loop-holds c = numbers-start c.before.before.requires.4
+loop-holds c = numbers_start c.before.before.requires.4
 
 mul-y : tie.Need-overflow-mul-y invariant-loop decreases-loop
 mul-y c = omega (arith, c.loop-test.true)
@@ -78,10 +78,10 @@ loop-again c =
     let l = t.before in
     let o = l.before in
     let a = o.before.before.args in
-    numbers-next l.loop.invariant t.loop-test.true (ap (λ (n : ℕ). 2 * (get_or a.fold.now l.loop.u 0 + (2880 * n - 2 * get_or a.odds.now l.loop.u 0))) o.modulus.ensures.0)
+    numbers_next l.loop.invariant t.loop-test.true (ap (λ (n : ℕ). 2 * (get_or a.fold.now l.loop.u 0 + (2880 * n - 2 * get_or a.odds.now l.loop.u 0))) o.modulus.ensures.0)
 
 returns : tie.Need-returns invariant-loop decreases-loop
-returns c = numbers-done c.before.loop.invariant c.loop-test.false
+returns c = numbers_done c.before.loop.invariant c.loop-test.false
 
-pub middle-spec : {M : Type 1} → statement M
-middle-spec = tie.close (tie.spec invariant-loop decreases-loop modulus-requires mul-o loop-holds mul-y shared-slice-read-y mul-y-2 element-copy-out-y mul-y-3 sub-y add-y mul-y-4 mul-y-5 element-write-y add-u loop-less loop-again returns)
+pub middle_spec : {M : Type 1} → statement M
+middle_spec = tie.close (tie.spec invariant-loop decreases-loop modulus-requires mul-o loop-holds mul-y shared-slice-read-y mul-y-2 element-copy-out-y mul-y-3 sub-y add-y mul-y-4 mul-y-5 element-write-y add-u loop-less loop-again returns)

@@ -32,5 +32,5 @@ returns c = (c.if1.true, inl refl)
 returns-2 : tie.Need-returns-2
 returns-2 c = (omega (arith, c.before.requires, c.if1.false), inr (omega (arith, c.before.requires), omega (arith, c.before.requires)))
 
-pub odd-place-spec : {M : Type 1} → statement M
-odd-place-spec = tie.close (tie.spec mul-if1 add-if1 mul-result add-result sub-result mul-result-2 sub-result-2 returns returns-2)
+pub odd_place_spec : {M : Type 1} → statement M
+odd_place_spec = tie.close (tie.spec mul-if1 add-if1 mul-result add-result sub-result mul-result-2 sub-result-2 returns returns-2)

@@ -1,9 +1,9 @@
 -- Place by place (`Summing`).
 use Prim.Native.Nat.{◌-◌, ◌≤◌}
 use native.Mathlib.Omega.{arith}
-use Rattle.numbers.proofs.Primes.{prime-most}
-use Rattle.batches.proofs.DrivingLanes.{up-as}
-use Rattle.folded_batches.proofs.MirrorShort.{Summing, summing_start, summing-next, summing-done, no-sums, summing-low}
+use Rattle.numbers.proofs.Primes.{prime_most}
+use Rattle.batches.proofs.DrivingLanes.{up_as}
+use Rattle.folded_batches.proofs.MirrorShort.{Summing, summing_start, summing_next, summing_done, no_sums, summing_low}
 use Rattle.folded_batches.proofs.mirror.before.odd_sums.Statement.{statement}
 use Rattle.folded_batches.proofs.mirror.before.odd_sums.Tie as tie
 
@@ -25,7 +25,7 @@ add-to-requires c κs =
     let t = o.before in
     let l = t.before in
     let p = l.before.before.before.requires in
-    (omega (arith, o.odd_place.ensures.0, p.3), up-as p.4 (omega (arith, prime-most p.0)), l.loop.invariant.0.long, summing-low p.0 l.loop.invariant.0 (omega (arith, l.loop.invariant.1, p.2)))
+    (omega (arith, o.odd_place.ensures.0, p.3), up_as p.4 (omega (arith, prime_most p.0)), l.loop.invariant.0.long, summing_low p.0 l.loop.invariant.0 (omega (arith, l.loop.invariant.1, p.2)))
 
 add-t : tie.Need-overflow-add-t invariant-loop decreases-loop
 add-t c =
@@ -41,15 +41,15 @@ loop-again c =
     let t = o.before in
     let l = t.before in
     let f = l.before in
-    (summing-next l.loop.invariant.0 f.before.before.requires.4 f.if1.true o.odd_place.ensures.0 o.odd_place.ensures.1 c.add-to.ensures, omega (arith, t.loop-test.true))
+    (summing_next l.loop.invariant.0 f.before.before.requires.4 f.if1.true o.odd_place.ensures.0 o.odd_place.ensures.1 c.add-to.ensures, omega (arith, t.loop-test.true))
 
 returns : tie.Need-returns invariant-loop decreases-loop
 returns c =
     let l = c.before in
-    summing-done l.loop.invariant.0 (omega (arith, l.loop.invariant.1, c.loop-test.false)) l.before.before.before.requires.2
+    summing_done l.loop.invariant.0 (omega (arith, l.loop.invariant.1, c.loop-test.false)) l.before.before.before.requires.2
 
 returns-2 : tie.Need-returns-2 invariant-loop decreases-loop
-returns-2 c = no-sums c.if1.false
+returns-2 c = no_sums c.if1.false
 
-pub odd-sums-spec : {M : Type 1} → statement M
-odd-sums-spec = tie.close (tie.spec invariant-loop decreases-loop loop-holds odd-place-requires add-to-requires add-t loop-less loop-again returns returns-2)
+pub odd_sums_spec : {M : Type 1} → statement M
+odd_sums_spec = tie.close (tie.spec invariant-loop decreases-loop loop-holds odd-place-requires add-to-requires add-t loop-less loop-again returns returns-2)

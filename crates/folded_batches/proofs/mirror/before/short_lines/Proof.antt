@@ -3,23 +3,23 @@ use mathlib.Core.Path.{◌≡◌, ◌∙◌}
 use Prim.Native.Nat.{ℕ, ◌*◌, ◌-◌, ◌≤◌}
 use native.Mathlib.Omega.{arith}
 use lib.ListN.{length, length-replicate}
-use Rattle.algebra.specs.lines.Folds.{mirrorPoint}
+use Rattle.algebra.specs.lines.Folds.{mirror_point}
 use Rattle.numbers.specs.Value.{prime, Value, field}
 use Rattle.folded_batches.specs.MirrorLanes.{Places, WholeLines}
-use Rattle.folded_batches.proofs.MirrorBlocks.{places-start, places-next, places-as}
+use Rattle.folded_batches.proofs.MirrorBlocks.{places_start, places_next, places_as}
 use Rattle.folded_batches.proofs.mirror.before.short_lines.Statement.{statement}
 use Rattle.folded_batches.proofs.mirror.before.short_lines.Tie as tie
 
 abbrev invariant-loop : tie.invariant-loop
 invariant-loop m first a line fold₀ y₀ t₀ fold y t =
-    ((X : ℕ → ℕ → Value m) → WholeLines m a first line X → Places m (8 * prime m) (λ v. mirrorPoint (field m) (X v)) 0 t fold)
+    ((X : ℕ → ℕ → Value m) → WholeLines m a first line X → Places m (8 * prime m) (λ v. mirror_point (field m) (X v)) 0 t fold)
     × ((length fold ≡ length fold₀) × (length y ≡ 32) × (t ≤ a))
 
 abbrev decreases-loop : tie.decreases-loop
 decreases-loop m first a line fold₀ y₀ t₀ fold y t = a - t
 
 loop-holds : tie.Need-loop-init invariant-loop decreases-loop
-loop-holds c = ((λ X h. places-start), (omega arith, length-replicate {A = ℕ} 32 0, omega arith))
+loop-holds c = ((λ X h. places_start), (omega arith, length-replicate {A = ℕ} 32 0, omega arith))
 
 short-place-requires : tie.Need-short-place-requires invariant-loop decreases-loop
 short-place-requires c κs =
@@ -48,7 +48,7 @@ loop-again c =
     let k = g.before.before.before in
     let t = k.before.before in
     let i = t.before.loop.invariant in
-    ((λ X h. places-next (i.0 X h) (k.short-place.ensures.1 X h) g.put-place.ensures), (g.put-place.ensures.long ∙ i.1.0, k.short-place.ensures.0, omega (arith, t.loop-test.true)))
+    ((λ X h. places_next (i.0 X h) (k.short-place.ensures.1 X h) g.put-place.ensures), (g.put-place.ensures.long ∙ i.1.0, k.short-place.ensures.0, omega (arith, t.loop-test.true)))
 
 same_length : tie.Need-same-length invariant-loop decreases-loop
 same_length c = c.before.loop.invariant.1.0
@@ -56,7 +56,7 @@ same_length c = c.before.loop.invariant.1.0
 returns : tie.Need-returns invariant-loop decreases-loop
 returns c =
     let i = c.before.loop.invariant in
-    λ X h. places-as (i.0 X h) (omega (arith, i.1.2, c.loop-test.false))
+    λ X h. places_as (i.0 X h) (omega (arith, i.1.2, c.loop-test.false))
 
-pub short-lines-spec : {M : Type 1} → statement M
-short-lines-spec = tie.close (tie.spec invariant-loop decreases-loop loop-holds short-place-requires put-place-requires add-t loop-less loop-again same_length returns)
+pub short_lines_spec : {M : Type 1} → statement M
+short_lines_spec = tie.close (tie.spec invariant-loop decreases-loop loop-holds short-place-requires put-place-requires add-t loop-less loop-again same_length returns)

@@ -4,7 +4,7 @@ use Prim.Native.Nat.{◌+◌, ◌*◌, ◌-◌}
 use native.Mathlib.Omega.{arith}
 use lib.ListN.{get_or}
 use Rattle.folded_batches.specs.MirrorLanes.{Numbers}
-use Rattle.folded_batches.proofs.MirrorBlocks.{numbers-start, numbers-next, numbers-done}
+use Rattle.folded_batches.proofs.MirrorBlocks.{numbers_start, numbers_next, numbers_done}
 use Rattle.folded_batches.proofs.mirror.places.add_places.Statement.{statement}
 use Rattle.folded_batches.proofs.mirror.places.add_places.Tie as tie
 
@@ -15,7 +15,7 @@ abbrev decreases-loop : tie.decreases-loop
 decreases-loop from i j y₀ u₀ y u = 32 - u
 
 loop-holds : tie.Need-loop-init invariant-loop decreases-loop
-loop-holds c = numbers-start c.before.requires.3
+loop-holds c = numbers_start c.before.requires.3
 
 part-requires : tie.Need-part-requires invariant-loop decreases-loop
 part-requires c κs = let p = c.before.before.before.requires in (c.loop-test.true, p.0, p.2)
@@ -41,10 +41,10 @@ loop-less c = omega (arith, c.before.before.loop-test.true)
 loop-again : tie.Need-loop-preserved invariant-loop decreases-loop
 loop-again c =
     let t = c.before.before in
-    numbers-next t.before.loop.invariant t.loop-test.true (ap₂ ◌+◌ c.before.part.ensures.0 c.part2.ensures.0)
+    numbers_next t.before.loop.invariant t.loop-test.true (ap₂ ◌+◌ c.before.part.ensures.0 c.part2.ensures.0)
 
 returns : tie.Need-returns invariant-loop decreases-loop
-returns c = numbers-done c.before.loop.invariant c.loop-test.false
+returns c = numbers_done c.before.loop.invariant c.loop-test.false
 
-pub add-places-spec : {M : Type 1} → statement M
-add-places-spec = tie.close (tie.spec invariant-loop decreases-loop loop-holds part-requires part-requires-2 add-y mul-y element-write-y add-u loop-less loop-again returns)
+pub add_places_spec : {M : Type 1} → statement M
+add_places_spec = tie.close (tie.spec invariant-loop decreases-loop loop-holds part-requires part-requires-2 add-y mul-y element-write-y add-u loop-less loop-again returns)

@@ -4,7 +4,7 @@ use Prim.Native.Nat.{ℕ, ◌+◌, ◌*◌, ◌-◌, ◌≤◌}
 use native.Mathlib.Omega.{arith}
 use lib.ListN.{get_or}
 use Rattle.folded_batches.specs.MirrorLanes.{Raised}
-use Rattle.folded_batches.proofs.MirrorBlocks.{raised-start, raised-next, raised-done}
+use Rattle.folded_batches.proofs.MirrorBlocks.{raised_start, raised_next, raised_done}
 use Rattle.folded_batches.proofs.mirror.places.add_to.Statement.{statement}
 use Rattle.folded_batches.proofs.mirror.places.add_to.Tie as tie
 
@@ -15,7 +15,7 @@ abbrev decreases-loop : tie.decreases-loop
 decreases-loop from j y₀ u₀ y u = 32 - u
 
 loop-holds : tie.Need-loop-init invariant-loop decreases-loop
-loop-holds c = (raised-start, omega arith)
+loop-holds c = (raised_start, omega arith)
 
 mul-y : tie.Need-overflow-mul-y invariant-loop decreases-loop
 mul-y c = omega (arith, c.loop-test.true)
@@ -47,10 +47,10 @@ loop-again : tie.Need-loop-preserved invariant-loop decreases-loop
 loop-again c =
     let t = c.before.before in
     let l = t.before in
-    (raised-next l.loop.invariant.0 (omega (arith, t.loop-test.true, l.before.before.requires.2)) (ap (λ (n : ℕ). get_or l.loop.y l.loop.u 0 + n) c.part.ensures.0), omega (arith, t.loop-test.true))
+    (raised_next l.loop.invariant.0 (omega (arith, t.loop-test.true, l.before.before.requires.2)) (ap (λ (n : ℕ). get_or l.loop.y l.loop.u 0 + n) c.part.ensures.0), omega (arith, t.loop-test.true))
 
 returns : tie.Need-returns invariant-loop decreases-loop
-returns c = raised-done c.before.loop.invariant.0 c.loop-test.false c.before.loop.invariant.1
+returns c = raised_done c.before.loop.invariant.0 c.loop-test.false c.before.loop.invariant.1
 
 pub add_to_spec : {M : Type 1} → statement M
 add_to_spec = tie.close (tie.spec invariant-loop decreases-loop loop-holds mul-y element-copy-out-y part-requires add-y mul-y-2 element-write-y add-u loop-less loop-again returns)

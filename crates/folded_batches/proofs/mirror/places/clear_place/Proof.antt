@@ -2,9 +2,9 @@
 use mathlib.Core.List.{[]}
 use Prim.Native.Nat.{◌-◌}
 use native.Mathlib.Omega.{arith}
-use Rattle.batches.proofs.Copies.{Copying, copying-start, copying-done}
-use Rattle.folded_batches.proofs.MixedLanes.{copying-first}
-use Rattle.folded_batches.proofs.MirrorBlocks.{cleared-place}
+use Rattle.batches.proofs.Copies.{Copying, copying_start, copying_done}
+use Rattle.folded_batches.proofs.MixedLanes.{copying_first}
+use Rattle.folded_batches.proofs.MirrorBlocks.{cleared_place}
 use Rattle.folded_batches.proofs.mirror.places.clear_place.Statement.{statement}
 use Rattle.folded_batches.proofs.mirror.places.clear_place.Tie as tie
 
@@ -18,7 +18,7 @@ mul-place : tie.Need-overflow-mul-place invariant-loop decreases-loop
 mul-place c = omega (arith, c.requires)
 
 loop-holds : tie.Need-loop-init invariant-loop decreases-loop
-loop-holds c = copying-start
+loop-holds c = copying_start
 
 add-to : tie.Need-overflow-add-to invariant-loop decreases-loop
 add-to c = omega (arith, c.loop-test.true, c.before.before.requires)
@@ -36,13 +36,13 @@ loop-less : tie.Need-loop-smaller invariant-loop decreases-loop
 loop-less c = omega (arith, c.loop-test.true)
 
 loop-again : tie.Need-loop-preserved invariant-loop decreases-loop
-loop-again c = copying-first c.before.loop.invariant c.loop-test.true c.before.before.requires
+loop-again c = copying_first c.before.loop.invariant c.loop-test.true c.before.before.requires
 
 same_length : tie.Need-same-length invariant-loop decreases-loop
 same_length c = omega (arith, c.before.loop.invariant.long)
 
 returns : tie.Need-returns invariant-loop decreases-loop
-returns c = cleared-place (copying-done c.before.loop.invariant c.loop-test.false)
+returns c = cleared_place (copying_done c.before.loop.invariant c.loop-test.false)
 
-pub clear-place-spec : {M : Type 1} → statement M
-clear-place-spec = tie.close (tie.spec invariant-loop decreases-loop mul-place loop-holds add-to mul-to slice-write-to add-u loop-less loop-again same_length returns)
+pub clear_place_spec : {M : Type 1} → statement M
+clear_place_spec = tie.close (tie.spec invariant-loop decreases-loop mul-place loop-holds add-to mul-to slice-write-to add-u loop-less loop-again same_length returns)

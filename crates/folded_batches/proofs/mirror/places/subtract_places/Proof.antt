@@ -5,7 +5,7 @@ use native.Mathlib.Omega.{arith}
 use lib.ListN.{get_or}
 use Rattle.numbers.specs.Value.{prime}
 use Rattle.folded_batches.specs.MirrorLanes.{Numbers}
-use Rattle.folded_batches.proofs.MirrorBlocks.{numbers-start, numbers-next, numbers-done}
+use Rattle.folded_batches.proofs.MirrorBlocks.{numbers_start, numbers_next, numbers_done}
 use Rattle.folded_batches.proofs.mirror.places.subtract_places.Statement.{statement}
 use Rattle.folded_batches.proofs.mirror.places.subtract_places.Tie as tie
 
@@ -22,7 +22,7 @@ mul-o : tie.Need-overflow-mul-o invariant-loop decreases-loop
 mul-o c = omega (arith, c.modulus.ensures.2)
 
 loop-holds : tie.Need-loop-init invariant-loop decreases-loop
-loop-holds c = numbers-start c.before.before.requires.4
+loop-holds c = numbers_start c.before.before.requires.4
 
 mul-y : tie.Need-overflow-mul-y invariant-loop decreases-loop
 mul-y c = omega (arith, c.before.before.before.before.requires.1)
@@ -80,10 +80,10 @@ loop-again c =
     let l = t.before in
     let o = l.before in
     let a = o.before.before.args in
-    numbers-next l.loop.invariant t.loop-test.true (ap (λ (n : ℕ). 2 * n - (get_or a.from.now (32 * a.i + l.loop.u) 0 + get_or a.from.now (32 * a.j + l.loop.u) 0)) o.modulus.ensures.0)
+    numbers_next l.loop.invariant t.loop-test.true (ap (λ (n : ℕ). 2 * n - (get_or a.from.now (32 * a.i + l.loop.u) 0 + get_or a.from.now (32 * a.j + l.loop.u) 0)) o.modulus.ensures.0)
 
 returns : tie.Need-returns invariant-loop decreases-loop
-returns c = numbers-done c.before.loop.invariant c.loop-test.false
+returns c = numbers_done c.before.loop.invariant c.loop-test.false
 
-pub subtract-places-spec : {M : Type 1} → statement M
-subtract-places-spec = tie.close (tie.spec invariant-loop decreases-loop modulus-requires mul-o loop-holds mul-y add-y mul-y-2 shared-slice-read-y mul-y-3 add-y-2 mul-y-4 shared-slice-read-y-2 add-y-3 sub-y mul-y-5 element-write-y add-u loop-less loop-again returns)
+pub subtract_places_spec : {M : Type 1} → statement M
+subtract_places_spec = tie.close (tie.spec invariant-loop decreases-loop modulus-requires mul-o loop-holds mul-y add-y mul-y-2 shared-slice-read-y mul-y-3 add-y-2 mul-y-4 shared-slice-read-y-2 add-y-3 sub-y mul-y-5 element-write-y add-u loop-less loop-again returns)

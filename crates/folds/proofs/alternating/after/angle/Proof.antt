@@ -3,17 +3,17 @@ use mathlib.Core.Path.{ap, refl}
 use Prim.Native.Nat.{◌*◌, ◌-◌, ◌<◌}
 use native.Mathlib.Omega.{arith}
 use lib.ListN.{get_or}
-use Rattle.numbers.proofs.RealValues.{sum-small, difference-small, half-small}
-use Rattle.fold_formulas.proofs.Frames.{step-inside}
-use Rattle.folds.proofs.alternating.after.Passes.{cot-by, csc-by}
+use Rattle.numbers.proofs.RealValues.{sum_small, difference_small, half_small}
+use Rattle.fold_formulas.proofs.Frames.{step_inside}
+use Rattle.folds.proofs.alternating.after.Passes.{cot_by, csc_by}
 use Rattle.folds.proofs.alternating.after.angle.Statement.{statement}
 use Rattle.folds.proofs.alternating.after.angle.Tie as tie
 
 near-inside : (s : tie.Start) → s.args.step * s.args.s < 1440
-near-inside s = step-inside s.args.a s.args.step s.requires.1.1 s.requires.1.3
+near-inside s = step_inside s.args.a s.args.step s.requires.1.1 s.requires.1.3
 
 far-inside : (s : tie.Start) → s.args.step * (s.args.a - s.args.s) < 1440
-far-inside s = step-inside s.args.a s.args.step s.requires.1.1 (omega (arith, s.requires.1.2, s.requires.1.3))
+far-inside s = step_inside s.args.a s.args.step s.requires.1.1 (omega (arith, s.requires.1.2, s.requires.1.3))
 
 mul-near : tie.Need-overflow-mul-near
 mul-near c = omega (arith, near-inside c)
@@ -42,7 +42,7 @@ sub-requires c κs =
     (s.requires.0.0, s.requires.0.1.below _ (far-inside s), s.requires.0.1.below _ (near-inside s))
 
 halve-requires : tie.Need-halve-requires
-halve-requires c κs = let s = c.before.before.before in (s.requires.0.0, difference-small s.args.m _ _ c.sub.ensures)
+halve-requires c κs = let s = c.before.before.before in (s.requires.0.0, difference_small s.args.m _ _ c.sub.ensures)
 
 add-requires : tie.Need-add-requires
 add-requires c κs =
@@ -50,7 +50,7 @@ add-requires c κs =
     (s.requires.0.0, s.requires.0.1.below _ (near-inside s), s.requires.0.1.below _ (far-inside s))
 
 halve-requires-2 : tie.Need-halve-requires-2
-halve-requires-2 c κs = let s = c.before.before.before.before.before in (s.requires.0.0, sum-small s.args.m _ _ c.add.ensures)
+halve-requires-2 c κs = let s = c.before.before.before.before.before in (s.requires.0.0, sum_small s.args.m _ _ c.add.ensures)
 
 returns : tie.Need-returns
 returns c =
@@ -61,13 +61,13 @@ returns c =
     let m = s.args.m in
     let near = ap (λ k. get_or s.args.tan.now (k * s.args.s) 0) s.requires.1.0 in
     let far = ap (λ k. get_or s.args.tan.now (k * (s.args.a - s.args.s)) 0) s.requires.1.0 in (
-      record { re = half-small m _ h.halve.ensures; im = half-small m _ c.halve2.ensures },
-      cot-by m s.args.a s.args.tan.now s.args.s near far d.sub.ensures h.halve.ensures,
-      csc-by m s.args.a s.args.tan.now s.args.s near far p.add.ensures c.halve2.ensures,
+      record { re = half_small m _ h.halve.ensures; im = half_small m _ c.halve2.ensures },
+      cot_by m s.args.a s.args.tan.now s.args.s near far d.sub.ensures h.halve.ensures,
+      csc_by m s.args.a s.args.tan.now s.args.s near far p.add.ensures c.halve2.ensures,
     )
 
-pub angle-spec : {M : Type 1} → statement M
-angle-spec =
+pub angle_spec : {M : Type 1} → statement M
+angle_spec =
     tie.close
     (tie.spec
     mul-near

@@ -2,18 +2,18 @@
 use borrow.Author.Rules.{rules}
 use Prim.Native.Nat.{◌-◌}
 use Rattle.algebra.specs.lines.Folds.{finish3}
-use Rattle.numbers.specs.Value.{real, pair_of, onValues}
+use Rattle.numbers.specs.Value.{real, pair_of, on_values}
 use Rattle.numbers.specs.Bounds.{res}
 use Rattle.slices.specs.Pairs.{values_of}
 use Rattle.slices.specs.Filling.{FillingPairs}
-use Rattle.slices.proofs.Filling.{filling-next}
+use Rattle.slices.proofs.Filling.{filling_next}
 use Rattle.slices.proofs.Sets.{fill}
 use Rattle.fold_formulas.specs.FoldFormulas.{tangent}
 use Rattle.folds.proofs.alternating.after.finish.Statement.{statement}
 use Rattle.folds.proofs.alternating.after.finish.Tie as tie
 
 abbrev invariant-loop : tie.invariant-loop
-invariant-loop m tan a odd fold line₀ step s₀ line s = FillingPairs (λ k. k) (λ s. pair_of (onValues m finish3 a (tangent m a tan) (values_of m fold) (real m (res m odd)) s)) a s line₀ line
+invariant-loop m tan a odd fold line₀ step s₀ line s = FillingPairs (λ k. k) (λ s. pair_of (on_values m finish3 a (tangent m a tan) (values_of m fold) (real m (res m odd)) s)) a s line₀ line
 
 abbrev decreases-loop : tie.decreases-loop
 decreases-loop m tan a odd fold line₀ step s₀ line s = a - s
@@ -41,7 +41,7 @@ loop-again c =
     let s = c.before.before in
     let f = s.before.before in
     let t = f.before in
-    filling-next t.before.loop.invariant t.loop-test.true s.store.ensures f.finish-at.ensures
+    filling_next t.before.loop.invariant t.loop-test.true s.store.ensures f.finish_at.ensures
 
 same_length : tie.Need-same-length invariant-loop decreases-loop
 same_length c = search fill

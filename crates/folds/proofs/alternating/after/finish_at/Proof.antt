@@ -2,7 +2,7 @@
 use native.Mathlib.Omega.{arith}
 use Rattle.numbers.proofs.Values.{small_by}
 use Rattle.slices.proofs.Bounds.{small_of}
-use Rattle.folds.proofs.alternating.after.Passes.{finish-first, finish-rest}
+use Rattle.folds.proofs.alternating.after.Passes.{finish_first, finish_rest}
 use Rattle.folds.proofs.alternating.after.finish_at.Statement.{statement}
 use Rattle.folds.proofs.alternating.after.finish_at.Tie as tie
 
@@ -36,7 +36,7 @@ returns : tie.Need-returns
 returns c =
     let g = c.before.before in
     let s = g.before.before in
-    finish-first s.args.m s.args.a s.args.tan.now s.args.fold.now s.args.odd s.args.s c.before.if1.true g.get.ensures s.requires.0.2 c.add.ensures
+    finish_first s.args.m s.args.a s.args.tan.now s.args.fold.now s.args.odd s.args.s c.before.if1.true g.get.ensures s.requires.0.2 c.add.ensures
 
 returns-2 : tie.Need-returns-2
 returns-2 c =
@@ -44,9 +44,9 @@ returns-2 c =
     let w = b.before in
     let g = w.before.before in
     let s = g.before.before in
-    finish-rest s.args.m s.args.a s.args.tan.now s.args.fold.now s.args.odd s.args.s _ w.before.if1.false g.get.ensures
+    finish_rest s.args.m s.args.a s.args.tan.now s.args.fold.now s.args.odd s.args.s _ w.before.if1.false g.get.ensures
     w.angle.ensures.1 w.angle.ensures.2 b.scaled.ensures c.add2.ensures
 
-pub finish-at-spec : {M : Type 1} → statement M
-finish-at-spec =
+pub finish_at_spec : {M : Type 1} → statement M
+finish_at_spec =
     tie.close (tie.spec get-requires add-requires angle-requires scaled-requires add-requires-2 returns returns-2)

@@ -1,8 +1,8 @@
 -- The place 0 has its own formula.
 use native.Mathlib.Omega.{arith}
 use Rattle.slices.proofs.Bounds.{small_of}
-use Rattle.numbers.proofs.RealValues.{sum-small, product_small}
-use Rattle.folds.proofs.alternating.after.Back.{inverse-short-first, inverse-short-rest}
+use Rattle.numbers.proofs.RealValues.{sum_small, product_small}
+use Rattle.folds.proofs.alternating.after.Back.{inverse_short_first, inverse_short_rest}
 use Rattle.folds.proofs.alternating.after.inverse_short_at.Statement.{statement}
 use Rattle.folds.proofs.alternating.after.inverse_short_at.Tie as tie
 
@@ -34,13 +34,13 @@ add-requires c κs =
     (s.requires.0.0, product_small s.args.m _ _ x.mul.ensures, product_small s.args.m _ _ c.mul2.ensures)
 
 neg-requires : tie.Need-neg-requires
-neg-requires c κs = let s = c.before.before.before.before.before.before.before in (s.requires.0.0, sum-small s.args.m _ _ c.add.ensures)
+neg-requires c κs = let s = c.before.before.before.before.before.before.before in (s.requires.0.0, sum_small s.args.m _ _ c.add.ensures)
 
 returns : tie.Need-returns
 returns c =
     let g = c.before in
     let s = g.before.before in
-    inverse-short-first s.args.m s.args.a s.args.tan.now s.args.line.now s.args.s c.if1.true g.get.ensures s.requires.1.1.1
+    inverse_short_first s.args.m s.args.a s.args.tan.now s.args.line.now s.args.s c.if1.true g.get.ensures s.requires.1.1.1
 
 returns-2 : tie.Need-returns-2
 returns-2 c =
@@ -50,8 +50,8 @@ returns-2 c =
     let w = x.before in
     let g = w.before.before in
     let s = g.before.before in
-    inverse-short-rest s.args.m s.args.a s.args.tan.now s.args.line.now s.args.s _ _ w.before.if1.false g.get.ensures s.requires.1.1.1
+    inverse_short_rest s.args.m s.args.a s.args.tan.now s.args.line.now s.args.s _ _ w.before.if1.false g.get.ensures s.requires.1.1.1
     w.angle.ensures.1 w.angle.ensures.2 x.mul.ensures y.mul2.ensures n.add.ensures c.neg.ensures
 
-pub inverse-short-at-spec : {M : Type 1} → statement M
-inverse-short-at-spec = tie.close (tie.spec get-requires angle-requires mul-requires mul-requires-2 add-requires neg-requires returns returns-2)
+pub inverse_short_at_spec : {M : Type 1} → statement M
+inverse_short_at_spec = tie.close (tie.spec get-requires angle-requires mul-requires mul-requires-2 add-requires neg-requires returns returns-2)

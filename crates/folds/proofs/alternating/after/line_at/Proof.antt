@@ -2,11 +2,11 @@
 use mathlib.Core.Path.{◌∙◌, ap}
 use native.Mathlib.Omega.{arith}
 use Rattle.numbers.specs.Value.{pair_of}
-use Rattle.numbers.proofs.Primes.{prime-pos}
+use Rattle.numbers.proofs.Primes.{prime_pos}
 use Rattle.numbers.proofs.Values.{small_by}
 use Rattle.slices.specs.Pairs.{at}
 use Rattle.slices.proofs.Bounds.{small_of}
-use Rattle.folds.proofs.alternating.after.Back.{mate-even, mate-odd, folded-by, i-times-by, scaled-by, line-even, line-odd}
+use Rattle.folds.proofs.alternating.after.Back.{mate_even, mate_odd, folded_by, i_times_by, scaled_by, line_even, line_odd}
 use Rattle.folds.proofs.alternating.after.line_at.Statement.{statement}
 use Rattle.folds.proofs.alternating.after.line_at.Tie as tie
 
@@ -43,7 +43,7 @@ difference-requires : tie.Need-difference-requires
 difference-requires c κs =
     let u = c.before in
     let s = u.before.before.before.before.before.before in
-    (s.requires.0.0, record { re = s.requires.0.2; im = prime-pos s.args.m }, small_by s.args.m _ u.sum.ensures)
+    (s.requires.0.0, record { re = s.requires.0.2; im = prime_pos s.args.m }, small_by s.args.m _ u.sum.ensures)
 
 times-i-requires : tie.Need-times-i-requires
 times-i-requires c κs =
@@ -53,7 +53,7 @@ times-i-requires c κs =
 scaled-requires-2 : tie.Need-scaled-requires-2
 scaled-requires-2 c κs =
     let s = c.before.before.before.before.before.before.before.before.before in
-    (s.requires.0.0, s.requires.0.1, small_by s.args.m _ c.times-i.ensures)
+    (s.requires.0.0, s.requires.0.1, small_by s.args.m _ c.times_i_lem.ensures)
 
 returns : tie.Need-returns
 returns c =
@@ -65,10 +65,10 @@ returns c =
     let g = h.before in
     let s = g.before.before in
     let l = s.args.fold.now in
-    scaled-by s.args.m s.args.part _
-    (folded-by s.args.m l _ _ g.get.ensures (z.get2.ensures ∙ ap (at l) (h.mate-of.ensures.0 ∙ mate-even s.args.a s.args.j b.if1.true)) k.conjugate.ensures u.sum.ensures)
+    scaled_by s.args.m s.args.part _
+    (folded_by s.args.m l _ _ g.get.ensures (z.get2.ensures ∙ ap (at l) (h.mate-of.ensures.0 ∙ mate_even s.args.a s.args.j b.if1.true)) k.conjugate.ensures u.sum.ensures)
     c.scaled.ensures
-    ∙ ap pair_of (line-even s.args.m s.args.a _ _ _ s.args.j b.if1.true)
+    ∙ ap pair_of (line_even s.args.m s.args.a _ _ _ s.args.j b.if1.true)
 
 returns-2 : tie.Need-returns-2
 returns-2 c =
@@ -82,15 +82,15 @@ returns-2 c =
     let g = h.before in
     let s = g.before.before in
     let l = s.args.fold.now in
-    scaled-by s.args.m s.args.part _
-    (i-times-by s.args.m s.args.twice _
-    (folded-by s.args.m l _ _ g.get.ensures (z.get2.ensures ∙ ap (at l) (h.mate-of.ensures.0 ∙ mate-odd s.args.a s.args.j b.if1.false)) k.conjugate.ensures u.sum.ensures)
-    d.difference.ensures v.times-i.ensures)
+    scaled_by s.args.m s.args.part _
+    (i_times_by s.args.m s.args.twice _
+    (folded_by s.args.m l _ _ g.get.ensures (z.get2.ensures ∙ ap (at l) (h.mate-of.ensures.0 ∙ mate_odd s.args.a s.args.j b.if1.false)) k.conjugate.ensures u.sum.ensures)
+    d.difference.ensures v.times_i_lem.ensures)
     c.scaled2.ensures
-    ∙ ap pair_of (line-odd s.args.m s.args.a _ _ _ s.args.j b.if1.false)
+    ∙ ap pair_of (line_odd s.args.m s.args.a _ _ _ s.args.j b.if1.false)
 
-pub line-at-spec : {M : Type 1} → statement M
-line-at-spec =
+pub line_at_spec : {M : Type 1} → statement M
+line_at_spec =
     tie.close
     (tie.spec
     get-requires

@@ -6,7 +6,7 @@ use Rattle.numbers.specs.Value.{Value, field, conj, i, real, half}
 use Rattle.numbers.specs.Bounds.{res}
 use Rattle.numbers.proofs.Values.{small_by}
 use Rattle.slices.specs.Pairs.{values_of}
-use Rattle.folds.proofs.alternating.after.Back.{pack-even, pack-odd, pack-rest}
+use Rattle.folds.proofs.alternating.after.Back.{pack_even, pack_odd, pack_rest}
 use Rattle.folds.proofs.alternating.after.pack_at.Statement.{statement}
 use Rattle.folds.proofs.alternating.after.pack_at.Tie as tie
 
@@ -30,7 +30,7 @@ sum-requires : tie.Need-sum-requires
 sum-requires c κs =
     let x = c.before.before.before.before in
     let s = x.before.before in
-    (s.requires.0.0, small_by s.args.m (X s s.args.t) x.line_at.ensures, small_by s.args.m _ c.times-i.ensures)
+    (s.requires.0.0, small_by s.args.m (X s s.args.t) x.line_at.ensures, small_by s.args.m _ c.times_i_lem.ensures)
 
 sum-requires-2 : tie.Need-sum-requires-2
 sum-requires-2 c κs =
@@ -45,20 +45,20 @@ returns c =
     let y = u.before.before in
     let x = y.before.before in
     let s = x.before.before in
-    pack-even s.args.m s.args.a (X s) s.args.t y.before.if1.true u.before.if2.true x.line_at.ensures y.line-at2.ensures u.times-i.ensures c.sum.ensures
+    pack_even s.args.m s.args.a (X s) s.args.t y.before.if1.true u.before.if2.true x.line_at.ensures y.line-at2.ensures u.times_i_lem.ensures c.sum.ensures
 
 returns-2 : tie.Need-returns-2
 returns-2 c =
     let y = c.before.before in
     let x = y.before.before in
     let s = x.before.before in
-    pack-odd s.args.m s.args.a (X s) s.args.t y.before.if1.true c.before.if2.false x.line_at.ensures y.line-at2.ensures c.sum2.ensures
+    pack_odd s.args.m s.args.a (X s) s.args.t y.before.if1.true c.before.if2.false x.line_at.ensures y.line-at2.ensures c.sum2.ensures
 
 returns-3 : tie.Need-returns-3
 returns-3 c =
     let x = c.before in
     let s = x.before.before in
-    pack-rest s.args.m s.args.a (X s) s.args.t c.if1.false x.line_at.ensures
+    pack_rest s.args.m s.args.a (X s) s.args.t c.if1.false x.line_at.ensures
 
-pub pack-at-spec : {M : Type 1} → statement M
-pack-at-spec = tie.close (tie.spec line-at-requires line-at-requires-2 times-i-requires sum-requires sum-requires-2 returns returns-2 returns-3)
+pub pack_at_spec : {M : Type 1} → statement M
+pack_at_spec = tie.close (tie.spec line-at-requires line-at-requires-2 times-i-requires sum-requires sum-requires-2 returns returns-2 returns-3)

@@ -1,8 +1,8 @@
 -- Two sums.
 use borrow.Author.Rules.{rules}
 use Rattle.slices.proofs.Bounds.{small_of}
-use Rattle.numbers.proofs.RealValues.{sum-small}
-use Rattle.folds.proofs.alternating.after.Back.{twice-by}
+use Rattle.numbers.proofs.RealValues.{sum_small}
+use Rattle.folds.proofs.alternating.after.Back.{twice_by}
 use Rattle.folds.proofs.alternating.after.twice_sum.Statement.{statement}
 use Rattle.folds.proofs.alternating.after.twice_sum.Tie as tie
 
@@ -18,13 +18,13 @@ add-requires c κs =
 add-requires-2 : tie.Need-add-requires-2
 add-requires-2 c κs =
     let s = c.before.before.before in
-    (s.requires.0, sum-small s.args.m _ _ c.add.ensures, sum-small s.args.m _ _ c.add.ensures)
+    (s.requires.0, sum_small s.args.m _ _ c.add.ensures, sum_small s.args.m _ _ c.add.ensures)
 
 returns : tie.Need-returns
 returns c =
     let x = c.before in
     let s = x.before.before.before in
-    (sum-small s.args.m _ _ c.add2.ensures, twice-by s.args.m s.args.line.now x.before.get.ensures x.add.ensures c.add2.ensures)
+    (sum_small s.args.m _ _ c.add2.ensures, twice_by s.args.m s.args.line.now x.before.get.ensures x.add.ensures c.add2.ensures)
 
-pub twice-sum-spec : {M : Type 1} → statement M
-twice-sum-spec = tie.close (tie.spec get-requires add-requires add-requires-2 returns)
+pub twice_sum_spec : {M : Type 1} → statement M
+twice_sum_spec = tie.close (tie.spec get-requires add-requires add-requires-2 returns)

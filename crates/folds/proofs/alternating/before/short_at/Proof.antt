@@ -1,7 +1,7 @@
 -- Two values of the whole line.
 use borrow.Author.Rules.{rules}
 use Rattle.numbers.proofs.Values.{small_by}
-use Rattle.folds.proofs.alternating.before.Sums.{short-by}
+use Rattle.folds.proofs.alternating.before.Sums.{short_by}
 use Rattle.folds.proofs.alternating.before.short_at.Statement.{statement}
 use Rattle.folds.proofs.alternating.before.short_at.Tie as tie
 
@@ -26,7 +26,7 @@ times-i-requires c κs = let s = c.before.before.before in (s.requires.0.0, smal
 sum-requires : tie.Need-sum-requires
 sum-requires c κs =
     let s = c.before.before.before.before in
-    (s.requires.0.0, small_by s.args.m _ c.before.before.value-at.ensures, small_by s.args.m _ c.times-i.ensures)
+    (s.requires.0.0, small_by s.args.m _ c.before.before.value-at.ensures, small_by s.args.m _ c.times_i_lem.ensures)
 
 returns : tie.Need-returns
 returns c =
@@ -34,10 +34,10 @@ returns c =
     let y = z.before in
     let x = y.before in
     let s = x.before.before in
-    short-by s.args.m _ s.args.t x.value-at.ensures y.value-at2.ensures z.times-i.ensures c.sum.ensures
+    short_by s.args.m _ s.args.t x.value-at.ensures y.value-at2.ensures z.times_i_lem.ensures c.sum.ensures
 
-pub short-at-spec : {M : Type 1} → statement M
-short-at-spec =
+pub short_at_spec : {M : Type 1} → statement M
+short_at_spec =
     tie.close
     (tie.spec
     mul-value-at

@@ -1,17 +1,17 @@
 -- t pairs of the short line are there.
 use Prim.Native.Nat.{◌-◌}
-use Rattle.algebra.specs.lines.Folds.{alternatingPoint}
-use Rattle.algebra.specs.lines.Packings.{unfoldB3}
-use Rattle.numbers.specs.Value.{field, i, pair_of, onValues}
+use Rattle.algebra.specs.lines.Folds.{alternating_point}
+use Rattle.algebra.specs.lines.Packings.{unfold_b3}
+use Rattle.numbers.specs.Value.{field, i, pair_of, on_values}
 use Rattle.slices.specs.Pairs.{values_of}
 use Rattle.slices.specs.Filling.{FillingPairs}
-use Rattle.slices.proofs.Filling.{filling-next}
+use Rattle.slices.proofs.Filling.{filling_next}
 use Rattle.slices.proofs.Sets.{fill}
 use Rattle.folds.proofs.alternating.before.short_line.Statement.{statement}
 use Rattle.folds.proofs.alternating.before.short_line.Tie as tie
 
 abbrev invariant-loop : tie.invariant-loop
-invariant-loop m a line fold₀ t₀ fold t = FillingPairs (λ k. k) (λ t. pair_of (alternatingPoint (field m) (i m) (onValues m unfoldB3 a (values_of m line)) t)) a t fold₀ fold
+invariant-loop m a line fold₀ t₀ fold t = FillingPairs (λ k. k) (λ t. pair_of (alternating_point (field m) (i m) (on_values m unfold_b3 a (values_of m line)) t)) a t fold₀ fold
 
 abbrev decreases-loop : tie.decreases-loop
 decreases-loop m a line fold₀ t₀ fold t = a - t
@@ -36,7 +36,7 @@ loop-again c =
     let s = c.before.before in
     let f = s.before.before in
     let t = f.before in
-    filling-next t.before.loop.invariant t.loop-test.true s.store.ensures f.short-at.ensures
+    filling_next t.before.loop.invariant t.loop-test.true s.store.ensures f.short-at.ensures
 
 same_length : tie.Need-same-length invariant-loop decreases-loop
 same_length c = search fill
@@ -44,8 +44,8 @@ same_length c = search fill
 returns : tie.Need-returns invariant-loop decreases-loop
 returns c = search fill
 
-pub short-line-spec : {M : Type 1} → statement M
-short-line-spec =
+pub short_line_spec : {M : Type 1} → statement M
+short_line_spec =
     tie.close
     (tie.spec
     invariant-loop

@@ -2,19 +2,19 @@
 use mathlib.Core.Path.{refl}
 use Prim.Native.Nat.{◌-◌}
 use Rattle.algebra.specs.lines.Folds.{back1}
-use Rattle.numbers.specs.Value.{conj, real, pair_of, onValues}
+use Rattle.numbers.specs.Value.{conj, real, pair_of, on_values}
 use Rattle.numbers.specs.Bounds.{res}
 use Rattle.slices.specs.Pairs.{values_of}
 use Rattle.slices.specs.Filling.{FillingPairs}
-use Rattle.slices.proofs.Filling.{filling-next}
+use Rattle.slices.proofs.Filling.{filling_next}
 use Rattle.slices.proofs.Sets.{fill}
-use Rattle.fold_formulas.specs.FoldFormulas.{lineRoot}
-use Rattle.folds.specs.FoldedLines.{fromHermitian}
+use Rattle.fold_formulas.specs.FoldFormulas.{line_root}
+use Rattle.folds.specs.FoldedLines.{from_hermitian}
 use Rattle.folds.proofs.hermitian.after.unfold.Statement.{statement}
 use Rattle.folds.proofs.hermitian.after.unfold.Tie as tie
 
 abbrev invariant-loop : tie.invariant-loop
-invariant-loop m re im anti c a fold out₀ step t₀ out t = FillingPairs (λ k. k) (λ k. pair_of (fromHermitian m anti (onValues m back1 a (real m (res m c)) (conj m (lineRoot m a re im)) (values_of m fold)) k)) a t out₀ out
+invariant-loop m re im anti c a fold out₀ step t₀ out t = FillingPairs (λ k. k) (λ k. pair_of (from_hermitian m anti (on_values m back1 a (real m (res m c)) (conj m (line_root m a re im)) (values_of m fold)) k)) a t out₀ out
 
 abbrev decreases-loop : tie.decreases-loop
 decreases-loop m re im anti c a fold out₀ step t₀ out t = a - t
@@ -43,7 +43,7 @@ loop-again : tie.Need-loop-preserved invariant-loop decreases-loop
 loop-again c =
     let s = c.before.before in
     let t = s.before.before.before in
-    filling-next t.before.loop.invariant t.loop-test.true s.store.ensures s.before.unfold-at.ensures
+    filling_next t.before.loop.invariant t.loop-test.true s.store.ensures s.before.unfold-at.ensures
 
 same_length : tie.Need-same-length invariant-loop decreases-loop
 same_length c = search fill
@@ -51,8 +51,8 @@ same_length c = search fill
 returns : tie.Need-returns invariant-loop decreases-loop
 returns c = search fill
 
-pub unfold-spec : {M : Type 1} → statement M
-unfold-spec =
+pub unfold_spec : {M : Type 1} → statement M
+unfold_spec =
     tie.close
     (tie.spec
     invariant-loop

@@ -4,14 +4,14 @@ use Prim.Native.Nat.{◌*◌, ◌<◌}
 use native.Mathlib.Nat.{le_of_lt}
 use Rattle.numbers.specs.Value.{field, i, real, value_of, pair_of}
 use Rattle.numbers.specs.Bounds.{res}
-use Rattle.numbers.proofs.Values.{small_by, value-by}
+use Rattle.numbers.proofs.Values.{small_by, value_by}
 use Rattle.slices.specs.Pairs.{values_of}
 use Rattle.slices.proofs.Bounds.{small_of}
-use Rattle.fold_formulas.specs.FoldFormulas.{lineRoot}
-use Rattle.fold_formulas.proofs.Frames.{stride-inside}
-use Rattle.slices.proofs.Values.{read-value}
-use Rattle.fold_formulas.proofs.hermitian.Forms.{unfoldPair}
-use Rattle.folds.proofs.hermitian.Forms.{backOf, back-first, back-kept, back-rotated, unfold-by-zero, unfold-by, line-root, pair_inside, mate-inside, place-fits, place_inside}
+use Rattle.fold_formulas.specs.FoldFormulas.{line_root}
+use Rattle.fold_formulas.proofs.Frames.{stride_inside}
+use Rattle.slices.proofs.Values.{read_value}
+use Rattle.fold_formulas.proofs.hermitian.Forms.{unfold_pair}
+use Rattle.folds.proofs.hermitian.Forms.{back_of, back_first, back_kept, back_rotated, unfold_by_zero, unfold_by, line_root_lem, pair_inside, mate_inside, place_fits, place_inside}
 use Rattle.folds.proofs.hermitian.after.unfold_at.Statement.{statement}
 use Rattle.folds.proofs.hermitian.after.unfold_at.Tie as tie
 
@@ -33,7 +33,7 @@ sub-get : tie.Need-overflow-sub-get
 sub-get c = le_of_lt c.before.before.before.requires.0.3
 
 get-requires-2 : tie.Need-get-requires-2
-get-requires-2 c κs = let p = c.before.before.before.requires in mate-inside c.if1.false p.0.3 p.1.0
+get-requires-2 c κs = let p = c.before.before.before.requires in mate_inside c.if1.false p.0.3 p.1.0
 
 conjugate-requires : tie.Need-conjugate-requires
 conjugate-requires c κs =
@@ -44,10 +44,10 @@ conjugate-requires c κs =
 inside : (c : tie.After-conjugate) → let s = c.before.before.before.before.before.args in s.step * s.t < 1440
 inside c =
     let s = c.before.before.before.before.before in
-    stride-inside s.requires.0.2 s.requires.0.0.divides s.requires.0.3
+    stride_inside s.requires.0.2 s.requires.0.0.divides s.requires.0.3
 
 mul-root-at : tie.Need-overflow-mul-root-at
-mul-root-at c = place-fits (inside c)
+mul-root-at c = place_fits (inside c)
 
 root-at-requires : tie.Need-root-at-requires
 root-at-requires c κs = place_inside (inside c)
@@ -58,7 +58,7 @@ unfold-pair-requires c κs =
     let s = x.before.before in
     let m = s.args.m in (
       s.requires.0.0.modulus,
-      small_by m _ (c.root-at.ensures ∙ line-root m _ _ _ s.requires.0.0 s.requires.0.2 s.requires.0.3),
+      small_by m _ (c.root-at.ensures ∙ line_root_lem m _ _ _ s.requires.0.0 s.requires.0.2 s.requires.0.3),
       small_of _ _ x.get.ensures s.requires.1.1,
       small_by m _ c.before.conjugate.ensures,
     )
@@ -70,7 +70,7 @@ scaled-requires-2 c κs =
     let x = z.before.before.before in
     let s = x.before.before in
     let m = s.args.m in
-    (s.requires.0.0.modulus, s.requires.0.1, small_by m (unfoldPair m 0 (value_of m e.root-at.result) (value_of m x.get.result) (value_of m z.conjugate.result)) (c.unfold-pair.ensures 0))
+    (s.requires.0.0.modulus, s.requires.0.1, small_by m (unfold_pair m 0 (value_of m e.root-at.result) (value_of m x.get.result) (value_of m z.conjugate.result)) (c.unfold-pair.ensures 0))
 
 times-i-requires : tie.Need-times-i-requires
 times-i-requires c κs =
@@ -83,21 +83,21 @@ returns : tie.Need-returns
 returns c =
     let b = c.before.before in
     let s = b.before.before.before in
-    unfold-by-zero _ s.args.a _ _ _ b.if1.true (read-value _ _ _ b.before.get.ensures s.requires.1.1) c.before.sum-and-difference.ensures c.scaled.ensures
-    ∙ ap pair_of (sym (back-first _ _ s.args.anti b.if1.true))
+    unfold_by_zero _ s.args.a _ _ _ b.if1.true (read_value _ _ _ b.before.get.ensures s.requires.1.1) c.before.sum-and-difference.ensures c.scaled.ensures
+    ∙ ap pair_of (sym (back_first _ _ s.args.anti b.if1.true))
 
 -- before the product with i
 apart : (c : tie.After-scaled2) → let s = c.before.before.before.before.before.before.before.before.args in let m = s.m in
-    c.scaled2.result ≡ pair_of (backOf m s.a (real m (res m s.c)) (lineRoot m s.a s.re.now s.im.now) (values_of m s.fold.now) s.t)
+    c.scaled2.result ≡ pair_of (back_of m s.a (real m (res m s.c)) (line_root m s.a s.re.now s.im.now) (values_of m s.fold.now) s.t)
 apart c =
     let y = c.before.before.before in
     let b = y.before.before in
     let s = b.before.before.before in
-    unfold-by _ s.args.a _ _ _
+    unfold_by _ s.args.a _ _ _
     b.if1.false
-    (c.before.before.root-at.ensures ∙ line-root _ _ _ _ s.requires.0.0 s.requires.0.2 s.requires.0.3)
-    (read-value _ _ _ b.before.get.ensures s.requires.1.1)
-    (read-value _ _ _ y.before.get2.ensures s.requires.1.1)
+    (c.before.before.root-at.ensures ∙ line_root_lem _ _ _ _ s.requires.0.0 s.requires.0.2 s.requires.0.3)
+    (read_value _ _ _ b.before.get.ensures s.requires.1.1)
+    (read_value _ _ _ y.before.get2.ensures s.requires.1.1)
     y.conjugate.ensures
     (c.before.unfold-pair.ensures s.args.a)
     c.scaled2.ensures
@@ -107,13 +107,13 @@ returns-2 c =
     let u = c.before.before in
     let b = u.before.before.before.before.before in
     let m = b.before.before.before.args.m in
-    c.times-i.ensures ∙ ap pair_of (ap ((field m).mul (i m)) (value-by m _ (apart u)) ∙ sym (back-rotated m _ _ c.before.if2.true b.if1.false))
+    c.times_i_lem.ensures ∙ ap pair_of (ap ((field m).mul (i m)) (value_by m _ (apart u)) ∙ sym (back_rotated m _ _ c.before.if2.true b.if1.false))
 
 returns-3 : tie.Need-returns-3
-returns-3 c = apart c.before ∙ ap pair_of (sym (back-kept _ _ _ c.if2.false))
+returns-3 c = apart c.before ∙ ap pair_of (sym (back_kept _ _ _ c.if2.false))
 
-pub unfold-at-spec : {M : Type 1} → statement M
-unfold-at-spec =
+pub unfold_at_spec : {M : Type 1} → statement M
+unfold_at_spec =
     tie.close
     (tie.spec
     get-requires

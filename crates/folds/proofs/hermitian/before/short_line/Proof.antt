@@ -2,18 +2,18 @@
 use mathlib.Core.Path.{refl}
 use Prim.Native.Nat.{◌-◌}
 use Rattle.algebra.specs.lines.Folds.{fold1}
-use Rattle.numbers.specs.Value.{pair_of, onValues}
+use Rattle.numbers.specs.Value.{pair_of, on_values}
 use Rattle.slices.specs.Pairs.{values_of}
 use Rattle.slices.specs.Filling.{FillingPairs}
-use Rattle.slices.proofs.Filling.{filling-next}
+use Rattle.slices.proofs.Filling.{filling_next}
 use Rattle.slices.proofs.Sets.{fill}
-use Rattle.fold_formulas.specs.FoldFormulas.{lineRoot}
-use Rattle.folds.specs.FoldedLines.{toHermitian}
+use Rattle.fold_formulas.specs.FoldFormulas.{line_root}
+use Rattle.folds.specs.FoldedLines.{to_hermitian}
 use Rattle.folds.proofs.hermitian.before.short_line.Statement.{statement}
 use Rattle.folds.proofs.hermitian.before.short_line.Tie as tie
 
 abbrev invariant-loop : tie.invariant-loop
-invariant-loop m re im anti a line out₀ step t₀ out t = FillingPairs (λ k. k) (λ k. pair_of (onValues m fold1 a (lineRoot m a re im) (toHermitian m anti (values_of m line)) k)) a t out₀ out
+invariant-loop m re im anti a line out₀ step t₀ out t = FillingPairs (λ k. k) (λ k. pair_of (on_values m fold1 a (line_root m a re im) (to_hermitian m anti (values_of m line)) k)) a t out₀ out
 
 abbrev decreases-loop : tie.decreases-loop
 decreases-loop m re im anti a line out₀ step t₀ out t = a - t
@@ -42,7 +42,7 @@ loop-again : tie.Need-loop-preserved invariant-loop decreases-loop
 loop-again c =
     let s = c.before.before in
     let t = s.before.before.before in
-    filling-next t.before.loop.invariant t.loop-test.true s.store.ensures s.before.short-at.ensures
+    filling_next t.before.loop.invariant t.loop-test.true s.store.ensures s.before.short-at.ensures
 
 same_length : tie.Need-same-length invariant-loop decreases-loop
 same_length c = search fill
@@ -50,8 +50,8 @@ same_length c = search fill
 returns : tie.Need-returns invariant-loop decreases-loop
 returns c = search fill
 
-pub short-line-spec : {M : Type 1} → statement M
-short-line-spec =
+pub short_line_spec : {M : Type 1} → statement M
+short_line_spec =
     tie.close
     (tie.spec
     invariant-loop

@@ -4,13 +4,13 @@ use Prim.Native.Nat.{◌+◌, ◌-◌}
 use native.Mathlib.Omega.{arith}
 use Rattle.numbers.specs.Value.{value_of, pair_of}
 use Rattle.slices.specs.Filling.{FillingPairs}
-use Rattle.slices.proofs.Filling.{filling-start, filling-next, filling-whole}
-use Rattle.folds.specs.FoldedLines.{storedCount, finished}
+use Rattle.slices.proofs.Filling.{filling_start, filling_next, filling_whole}
+use Rattle.folds.specs.FoldedLines.{stored_count, finished}
 use Rattle.folds.proofs.mirror.after.finish.Statement.{statement}
 use Rattle.folds.proofs.mirror.after.finish.Tie as tie
 
 abbrev invariant-loop : tie.invariant-loop
-invariant-loop m tan first a o fold line₀ step n p₀ line p = FillingPairs (λ k. k) (λ k. pair_of (finished m a first tan fold (value_of m o) (first + k))) (storedCount a first) p line₀ line
+invariant-loop m tan first a o fold line₀ step n p₀ line p = FillingPairs (λ k. k) (λ k. pair_of (finished m a first tan fold (value_of m o) (first + k))) (stored_count a first) p line₀ line
 
 abbrev decreases-loop : tie.decreases-loop
 decreases-loop m tan first a o fold line₀ step n p₀ line p = n - p
@@ -28,7 +28,7 @@ sub-n : tie.Need-overflow-sub-n invariant-loop decreases-loop
 sub-n c = omega arith
 
 loop-holds : tie.Need-loop-init invariant-loop decreases-loop
-loop-holds c = filling-start
+loop-holds c = filling_start
 
 add-finish-at : tie.Need-overflow-add-finish-at invariant-loop decreases-loop
 add-finish-at c = omega arith
@@ -52,13 +52,13 @@ loop-again : tie.Need-loop-preserved invariant-loop decreases-loop
 loop-again c =
     let s = c.before.before in
     let t = s.before.before.before in
-    filling-next t.before.loop.invariant t.loop-test.true s.store.ensures s.before.finish-at.ensures
+    filling_next t.before.loop.invariant t.loop-test.true s.store.ensures s.before.finish_at.ensures
 
 same_length : tie.Need-same-length invariant-loop decreases-loop
 same_length c = c.before.loop.invariant.len
 
 returns : tie.Need-returns invariant-loop decreases-loop
-returns c = filling-whole c.before.loop.invariant c.loop-test.false c.before.before.before.before.requires.1.1.0.1
+returns c = filling_whole c.before.loop.invariant c.loop-test.false c.before.before.before.before.requires.1.1.0.1
 
 pub finish_spec : {M : Type 1} → statement M
 finish_spec =

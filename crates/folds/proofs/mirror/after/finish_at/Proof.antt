@@ -6,8 +6,8 @@ use native.Mathlib.Omega.{arith}
 use lib.ListN.{get_or}
 use Rattle.numbers.proofs.Values.{small_by}
 use Rattle.slices.proofs.Bounds.{small_of}
-use Rattle.fold_formulas.proofs.Frames.{stride-inside}
-use Rattle.folds.proofs.mirror.after.Forms.{finished-zero, finished-middle, finished-between}
+use Rattle.fold_formulas.proofs.Frames.{stride_inside}
+use Rattle.folds.proofs.mirror.after.Forms.{finished_zero, finished_middle, finished_between}
 use Rattle.folds.proofs.mirror.after.finish_at.Statement.{statement}
 use Rattle.folds.proofs.mirror.after.finish_at.Tie as tie
 
@@ -17,7 +17,7 @@ get-requires c κs = omega arith
 returns : tie.Need-returns
 returns c =
     let s = c.before.before.before in
-    finished-zero _ _ s.args.first s.args.tan.now _ _ _ s.requires.1.1.1 c.before.if1.true c.get.ensures
+    finished_zero _ _ s.args.first s.args.tan.now _ _ _ s.requires.1.1.1 c.before.if1.true c.get.ensures
 
 sum-requires : tie.Need-sum-requires
 sum-requires c κs = search rules
@@ -35,10 +35,10 @@ returns-2 c =
     let g = c.before in
     let t = g.before.before in
     let s = t.before.before.before in
-    finished-middle _ _ s.args.first s.args.tan.now _ _ _ s.requires.1.0.0 t.if2.true g.before.sum.ensures g.get2.ensures c.difference.ensures
+    finished_middle _ _ s.args.first s.args.tan.now _ _ _ s.requires.1.0.0 t.if2.true g.before.sum.ensures g.get2.ensures c.difference.ensures
 
 inside : (c : tie.Else2) → let s = c.before.before.before in s.args.step * s.args.s < 1440
-inside c = let s = c.before.before.before in stride-inside s.requires.1.0.1 s.requires.1.0.2 (omega arith)
+inside c = let s = c.before.before.before in stride_inside s.requires.1.0.1 s.requires.1.0.2 (omega arith)
 
 mul-tau : tie.Need-overflow-mul-tau
 mul-tau c = omega (arith, inside c)
@@ -73,12 +73,12 @@ returns-3 : tie.Need-returns-3
 returns-3 c =
     let g = c.before in
     let s = g.before.before.before.before.before.before in
-    finished-between _ _ s.args.first s.args.tan.now _ _ _ _ (omega arith) (omega arith)
+    finished_between _ _ s.args.first s.args.tan.now _ _ _ _ (omega arith) (omega arith)
     (ap (λ (k : ℕ). get_or s.args.tan.now (k * s.args.s) 0) s.requires.1.0.1)
-    g.before.get3.ensures g.get4.ensures c.finish-between.ensures
+    g.before.get3.ensures g.get4.ensures c.finish_between_lem.ensures
 
-pub finish-at-spec : {M : Type 1} → statement M
-finish-at-spec =
+pub finish_at_spec : {M : Type 1} → statement M
+finish_at_spec =
     tie.close
     (tie.spec
     get-requires

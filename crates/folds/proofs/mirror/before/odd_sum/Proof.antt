@@ -2,8 +2,8 @@
 use borrow.Author.Rules.{rules}
 use Prim.Native.Nat.{◌-◌}
 use native.Mathlib.Omega.{arith}
-use Rattle.numbers.proofs.Accumulators.{accumulated-room}
-use Rattle.folds.proofs.mirror.before.Forms.{OddSum, odd-sum-none, odd-sum-start, odd-sum-next, odd-sum-done, residue-most}
+use Rattle.numbers.proofs.Accumulators.{accumulated_room}
+use Rattle.folds.proofs.mirror.before.Forms.{OddSum, odd_sum_none, odd_sum_start, odd_sum_next, odd_sum_done, residue_most}
 use Rattle.folds.proofs.mirror.before.odd_sum.Statement.{statement}
 use Rattle.folds.proofs.mirror.before.odd_sum.Tie as tie
 
@@ -14,13 +14,13 @@ abbrev decreases-loop : tie.decreases-loop
 decreases-loop m first a line s₀ t₀ s t = a - t
 
 returns : tie.Need-returns invariant-loop decreases-loop
-returns c = odd-sum-none _ _ _ _ c.if1.true (omega arith)
+returns c = odd_sum_none _ _ _ _ c.if1.true (omega arith)
 
 zero-accumulator-requires : tie.Need-zero-accumulator-requires invariant-loop decreases-loop
 zero-accumulator-requires c κs = search rules
 
 loop-holds : tie.Need-loop-init invariant-loop decreases-loop
-loop-holds c = odd-sum-start _ _ _ _ (c.zero-accumulator.ensures _)
+loop-holds c = odd_sum_start _ _ _ _ (c.zero-accumulator.ensures _)
 
 mul-value-at : tie.Need-overflow-mul-value-at invariant-loop decreases-loop
 mul-value-at c = omega arith
@@ -36,7 +36,7 @@ value-at-requires c κs =
 plus-requires : tie.Need-plus-requires invariant-loop decreases-loop
 plus-requires c κs =
     let l = c.before.before in
-    (residue-most l.before.before.before.before.requires.0.0 _ c.value-at.ensures, accumulated-room (omega arith) l.loop.invariant.is)
+    (residue_most l.before.before.before.before.requires.0.0 _ c.value-at.ensures, accumulated_room (omega arith) l.loop.invariant.is)
 
 add-t : tie.Need-overflow-add-t invariant-loop decreases-loop
 add-t c = omega arith
@@ -47,16 +47,16 @@ loop-less c = omega arith
 loop-again : tie.Need-loop-preserved invariant-loop decreases-loop
 loop-again c =
     let l = c.before.before in
-    odd-sum-next _ _ _ _ l.before.loop.invariant l.loop-test.true c.before.value-at.ensures (c.plus.ensures _)
+    odd_sum_next _ _ _ _ l.before.loop.invariant l.loop-test.true c.before.value-at.ensures (c.plus.ensures _)
 
 reduced-requires : tie.Need-reduced-requires invariant-loop decreases-loop
 reduced-requires c κs = c.before.before.before.before.before.requires.0.0
 
 returns-2 : tie.Need-returns-2 invariant-loop decreases-loop
-returns-2 c = odd-sum-done _ _ _ _ c.before.before.loop.invariant c.before.loop-test.false c.reduced.ensures
+returns-2 c = odd_sum_done _ _ _ _ c.before.before.loop.invariant c.before.loop-test.false c.reduced.ensures
 
-pub odd-sum-spec : {M : Type 1} → statement M
-odd-sum-spec =
+pub odd_sum_spec : {M : Type 1} → statement M
+odd_sum_spec =
     tie.close
     (tie.spec
     invariant-loop

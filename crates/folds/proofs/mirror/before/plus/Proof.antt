@@ -1,6 +1,6 @@
 -- Each number grows by less than the prime.
 use borrow.Author.Rules.{rules}
-use Rattle.folds.proofs.mirror.before.Forms.{accumulated-plus}
+use Rattle.folds.proofs.mirror.before.Forms.{accumulated_plus}
 use Rattle.folds.proofs.mirror.before.plus.Statement.{statement}
 use Rattle.folds.proofs.mirror.before.plus.Tie as tie
 
@@ -19,7 +19,7 @@ add-t6 c = search rules
 returns : tie.Need-returns
 returns c =
     let s = c.before.before.before.before in
-    λ m n z h. accumulated-plus m n _ _ z s.requires.0.0 s.requires.0.1 h
+    λ m n z h. accumulated_plus m n _ _ z s.requires.0.0 s.requires.0.1 h
 
-pub plus-spec : {M : Type 1} → statement M
-plus-spec = tie.close (tie.spec cast-t3 add-t4 cast-t5 add-t6 returns)
+pub plus_spec : {M : Type 1} → statement M
+plus_spec = tie.close (tie.spec cast-t3 add-t4 cast-t5 add-t6 returns)

@@ -1,16 +1,16 @@
 -- t places of the short line are stored.
 use Prim.Native.Nat.{◌-◌}
-use Rattle.algebra.specs.lines.Folds.{mirrorPoint}
+use Rattle.algebra.specs.lines.Folds.{mirror_point}
 use Rattle.numbers.specs.Value.{field, pair_of}
 use Rattle.slices.specs.Filling.{FillingPairs}
-use Rattle.slices.proofs.Filling.{filling-next}
+use Rattle.slices.proofs.Filling.{filling_next}
 use Rattle.slices.proofs.Sets.{fill}
-use Rattle.folds.specs.FoldedLines.{wholeLine}
+use Rattle.folds.specs.FoldedLines.{whole_line}
 use Rattle.folds.proofs.mirror.before.short_line.Statement.{statement}
 use Rattle.folds.proofs.mirror.before.short_line.Tie as tie
 
 abbrev invariant-loop : tie.invariant-loop
-invariant-loop m first a line fold₀ t₀ fold t = FillingPairs (λ k. k) (λ k. pair_of (mirrorPoint (field m) (wholeLine m a first line) k)) a t fold₀ fold
+invariant-loop m first a line fold₀ t₀ fold t = FillingPairs (λ k. k) (λ k. pair_of (mirror_point (field m) (whole_line m a first line) k)) a t fold₀ fold
 
 abbrev decreases-loop : tie.decreases-loop
 decreases-loop m first a line fold₀ t₀ fold t = a - t
@@ -37,7 +37,7 @@ loop-again : tie.Need-loop-preserved invariant-loop decreases-loop
 loop-again c =
     let s = c.before.before in
     let t = s.before.before.before in
-    filling-next t.before.loop.invariant t.loop-test.true s.store.ensures s.before.short-at.ensures
+    filling_next t.before.loop.invariant t.loop-test.true s.store.ensures s.before.short-at.ensures
 
 same_length : tie.Need-same-length invariant-loop decreases-loop
 same_length c = search fill
@@ -45,8 +45,8 @@ same_length c = search fill
 returns : tie.Need-returns invariant-loop decreases-loop
 returns c = search fill
 
-pub short-line-spec : {M : Type 1} → statement M
-short-line-spec =
+pub short_line_spec : {M : Type 1} → statement M
+short_line_spec =
     tie.close
     (tie.spec
     invariant-loop

@@ -1,6 +1,6 @@
 -- A place up to A of a symmetric line is stored, one above is the mirror image of a stored one.
 use native.Mathlib.Omega.{arith}
-use Rattle.folds.proofs.mirror.before.Forms.{symmetric-low, symmetric-high, line-symmetric, line-antisymmetric}
+use Rattle.folds.proofs.mirror.before.Forms.{symmetric_low, symmetric_high, line_symmetric, line_antisymmetric}
 use Rattle.folds.proofs.mirror.before.value_at.Statement.{statement}
 use Rattle.folds.proofs.mirror.before.value_at.Tie as tie
 
@@ -23,19 +23,19 @@ returns : tie.Need-returns
 returns c =
     let i = c.before.before in
     let s = i.before.before in
-    line-symmetric _ _ _ _ i.if1.true (symmetric-low _ _ _ _ s.requires.1.1 (omega arith) (omega arith) c.get.ensures)
+    line_symmetric _ _ _ _ i.if1.true (symmetric_low _ _ _ _ s.requires.1.1 (omega arith) (omega arith) c.get.ensures)
 
 returns-2 : tie.Need-returns-2
 returns-2 c =
     let i = c.before.before in
     let s = i.before.before in
-    line-symmetric _ _ _ _ i.if1.true (symmetric-high _ _ _ _ s.requires.1.1 (omega arith) (omega arith) c.get2.ensures)
+    line_symmetric _ _ _ _ i.if1.true (symmetric_high _ _ _ _ s.requires.1.1 (omega arith) (omega arith) c.get2.ensures)
 
 returns-3 : tie.Need-returns-3
-returns-3 c = line-antisymmetric _ _ _ _ (omega arith) c.before.if1.false c.antisymmetric-at.ensures
+returns-3 c = line_antisymmetric _ _ _ _ (omega arith) c.before.if1.false c.antisymmetric-at.ensures
 
-pub value-at-spec : {M : Type 1} → statement M
-value-at-spec =
+pub value_at_spec : {M : Type 1} → statement M
+value_at_spec =
     tie.close
     (tie.spec
     get-requires

@@ -3,28 +3,28 @@ use borrow.Author.Rules.{rules}
 use mathlib.Core.Path.{◌≡◌, ◌∙◌, sym, ap}
 use mathlib.Core.Bool.{true}
 use Rattle.refusals.specs.Refusals.{first}
-use Rattle.refusals.specs.Checks.{checkedNumber}
+use Rattle.refusals.specs.Checks.{checked_number}
 use borrow.Author.Tests.{le-leb, lt-leb}
-use Rattle.numbers.specs.Value.{isModulus}
-use Rattle.numbers.proofs.ModulusCases.{tested-modulus}
-use Rattle.refusals.proofs.Tests.{stop, pass, not_t, not_f, by-true, by-false}
-use Rattle.header.specs.Header.{Header, axisTests}
-use Rattle.header.specs.Cells.{cellHeader}
-use Rattle.header.proofs.Headers.{sound-sizes}
-use Rattle.job.proofs.check.Openings.{header_refused, volume-decides}
+use Rattle.numbers.specs.Value.{is_modulus}
+use Rattle.numbers.proofs.ModulusCases.{tested_modulus}
+use Rattle.refusals.proofs.Tests.{stop, pass, not_t, not_f, by_true, by_false}
+use Rattle.header.specs.Header.{Header, axis_tests}
+use Rattle.header.specs.Cells.{cell_header}
+use Rattle.header.proofs.Headers.{sound_sizes}
+use Rattle.job.proofs.check.Openings.{header_refused, volume_decides}
 use Rattle.job.proofs.check.open.check_open.Statement.{statement}
 use Rattle.job.proofs.check.open.check_open.Tie as tie
 
 abbrev header : tie.Start → Header
-header s = let a = s.args in cellHeader a.cell a.f1.now a.f2.now a.f3.now
+header s = let a = s.args in cell_header a.cell a.f1.now a.f2.now a.f3.now
 
 -- the modulus is 1 or 2
-known : (c : tie.Else2) → isModulus c.before.before.before.before.before.before.before.before.args.modulus ≡ true
-known c = by-true _ _ c.before.is-modulus.ensures c.if2.false
+known : (c : tie.Else2) → is_modulus c.before.before.before.before.before.before.before.before.args.modulus ≡ true
+known c = by_true _ _ c.before.is-modulus.ensures c.if2.false
 
 -- no test of the header holds
-none : (c : tie.After-enum-told) → 0 ≡ first (axisTests (header c.before.before.before.before.before.before.before.before.before.before.before.before))
-none c = ap checkedNumber (sym c.enum_told.given.1) ∙ c.before.before.check-header.ensures
+none : (c : tie.After-enum-told) → 0 ≡ first (axis_tests (header c.before.before.before.before.before.before.before.before.before.before.before.before))
+none c = ap checked_number (sym c.enum_told.given.1) ∙ c.before.before.check-header.ensures
 
 returns : tie.Need-returns
 returns c = stop _ (le-leb _ _ c.if1.true)
@@ -33,7 +33,7 @@ is-modulus-requires : tie.Need-is-modulus-requires
 is-modulus-requires c κs = search rules
 
 returns-2 : tie.Need-returns-2
-returns-2 c = pass 8 _ (lt-leb _ _ c.before.before.if1.false) (stop _ (not_f _ (by-false _ _ c.before.is-modulus.ensures c.if2.true)))
+returns-2 c = pass 8 _ (lt-leb _ _ c.before.before.if1.false) (stop _ (not_f _ (by_false _ _ c.before.is-modulus.ensures c.if2.true)))
 
 returns-3 : tie.Need-returns-3
 returns-3 c =
@@ -54,7 +54,7 @@ check-volume-requires c κs =
     let k = c.before.before.before.before in
     let g = k.before.before in
     let s = g.before.before.before.before.before.before in
-    (sound-sizes (header s) (none c) g.if1.false, tested-modulus s.args.modulus (known k))
+    (sound_sizes (header s) (none c) g.if1.false, tested_modulus s.args.modulus (known k))
 
 returns-4 : tie.Need-returns-4
 returns-4 c =
@@ -62,7 +62,7 @@ returns-4 c =
     let k = u.before in
     let g = k.before.before in
     let s = g.before.before.before.before.before.before in
-    header_refused s.args.modulus (header s) s.args.kind s.args.volume.now c.before.checked.given.0.0 g.if1.false (known k) u.if3.false (ap checkedNumber (sym c.before.checked.given.1) ∙ c.before.before.before.check-header.ensures)
+    header_refused s.args.modulus (header s) s.args.kind s.args.volume.now c.before.checked.given.0.0 g.if1.false (known k) u.if3.false (ap checked_number (sym c.before.checked.given.1) ∙ c.before.before.before.check-header.ensures)
 
 returns-5 : tie.Need-returns-5
 returns-5 c =
@@ -70,10 +70,10 @@ returns-5 c =
     let k = u.before in
     let g = k.before.before in
     let s = g.before.before.before.before.before.before in
-    volume-decides s.args.modulus (header s) s.args.kind s.args.volume.now g.if1.false (known k) u.if3.false (none c.before) c.check-volume.ensures
+    volume_decides s.args.modulus (header s) s.args.kind s.args.volume.now g.if1.false (known k) u.if3.false (none c.before) c.check-volume.ensures
 
-pub check-open-spec : {M : Type 1} → statement M
-check-open-spec =
+pub check_open_spec : {M : Type 1} → statement M
+check_open_spec =
     tie.close
     (tie.spec
     returns

@@ -4,28 +4,28 @@ use mathlib.Core.Bool.{true}
 use lib.ListN.{length}
 use lib.Dec.{eqb}
 use borrow.Author.Tests.{eqb-true}
-use Rattle.refusals.proofs.Tests.{stop, not_f, by-true, by-false}
-use Rattle.cell.specs.Operations.{cellGroup, cellLengths, cellHalves}
-use Rattle.cell.specs.Volume.{volumeLength}
-use Rattle.job.proofs.check.Openings.{volume-collects, volume-held}
+use Rattle.refusals.proofs.Tests.{stop, not_f, by_true, by_false}
+use Rattle.cell.specs.Operations.{cell_group, cell_lengths, cell_halves}
+use Rattle.cell.specs.Volume.{volume_length}
+use Rattle.job.proofs.check.Openings.{volume_collects, volume_held}
 use Rattle.job.proofs.check.open.check_volume.Statement.{statement}
 use Rattle.job.proofs.check.open.check_volume.Tie as tie
 
 -- the volume is as long as it must be
-fit : (c : tie.Else1) → let a = c.before.before.before.args in eqb (length a.volume.now) (volumeLength (cellGroup a.cell) (cellHalves a.cell)) ≡ true
-fit c = by-true _ _ c.before.fits2.ensures c.if1.false
+fit : (c : tie.Else1) → let a = c.before.before.before.args in eqb (length a.volume.now) (volume_length (cell_group a.cell) (cell_halves a.cell)) ≡ true
+fit c = by_true _ _ c.before.fits2.ensures c.if1.false
 
 fits-requires : tie.Need-fits-requires
 fits-requires c κs = c.before.requires.0
 
 returns : tie.Need-returns
-returns c = stop _ (not_f _ (by-false _ _ c.before.fits2.ensures c.if1.true))
+returns c = stop _ (not_f _ (by_false _ _ c.before.fits2.ensures c.if1.true))
 
 returns-2 : tie.Need-returns-2
 returns-2 c =
     let t = c.before in
     let a = t.before.before.before.args in
-    volume-collects a.modulus a.cell.group (cellLengths a.cell) a.kind a.volume.now (fit t) c.if2.true
+    volume_collects a.modulus a.cell.group (cell_lengths a.cell) a.kind a.volume.now (fit t) c.if2.true
 
 check-map-requires : tie.Need-check-map-requires
 check-map-requires c κs =
@@ -38,10 +38,10 @@ returns-3 c =
     let u = c.before in
     let t = u.before in
     let a = t.before.before.before.args in
-    volume-held a.modulus a.cell.group (cellLengths a.cell) a.kind a.volume.now (fit t) u.if2.false c.check-map.ensures
+    volume_held a.modulus a.cell.group (cell_lengths a.cell) a.kind a.volume.now (fit t) u.if2.false c.check-map.ensures
 
-pub check-volume-spec : {M : Type 1} → statement M
-check-volume-spec =
+pub check_volume_spec : {M : Type 1} → statement M
+check_volume_spec =
     tie.close
     (tie.spec
     fits-requires

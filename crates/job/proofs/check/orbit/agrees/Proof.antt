@@ -5,15 +5,15 @@ use native.Mathlib.Omega.{arith}
 use lib.ListN.{drop}
 use Rattle.algebra.specs.cells.Cell.{one, full, every}
 use Rattle.numbers.specs.Value.{value_of}
-use Rattle.cell.specs.Consistency.{agreesWithItself}
-use Rattle.cell.specs.Operations.{cellGroup, cellHalves, triple_of}
-use Rattle.cell.proofs.Scans.{every-next, every-stop, every-end}
-use Rattle.job.proofs.check.orbit.TestLaws.{agreesUnder, agrees_start}
+use Rattle.cell.specs.Consistency.{agrees_with_itself}
+use Rattle.cell.specs.Operations.{cell_group, cell_halves, triple_of}
+use Rattle.cell.proofs.Scans.{every_next, every_stop, every_end}
+use Rattle.job.proofs.check.orbit.TestLaws.{agrees_under, agrees_start}
 use Rattle.job.proofs.check.orbit.agrees.Statement.{statement}
 use Rattle.job.proofs.check.orbit.agrees.Tie as tie
 
 abbrev invariant-loop : tie.invariant-loop
-invariant-loop m cell j x count i₀ i = agreesWithItself (cellGroup cell) (cellHalves cell) m (triple_of j) (value_of m x) ≡ every (drop i (full (cellGroup cell))) (agreesUnder (cellHalves cell) m (triple_of j) (value_of m x))
+invariant-loop m cell j x count i₀ i = agrees_with_itself (cell_group cell) (cell_halves cell) m (triple_of j) (value_of m x) ≡ every (drop i (full (cell_group cell))) (agrees_under (cell_halves cell) m (triple_of j) (value_of m x))
 
 abbrev decreases-loop : tie.decreases-loop
 decreases-loop m cell j x count i₀ i = count - i
@@ -43,20 +43,20 @@ loop-again c =
     let u = c.before in
     let t = u.before.before in
     let l = t.before in
-    every-next _ l.before.operation-count.ensures.0 _ _ l.loop.invariant one t.loop-test.true u.before.operation-at.ensures u.agrees-under.ensures c.if1.true
+    every_next _ l.before.operation-count.ensures.0 _ _ l.loop.invariant one t.loop-test.true u.before.operation-at.ensures u.agrees-under.ensures c.if1.true
 
 returns : tie.Need-returns invariant-loop decreases-loop
 returns c =
     let u = c.before in
     let t = u.before.before in
     let l = t.before in
-    every-stop _ l.before.operation-count.ensures.0 _ _ l.loop.invariant one t.loop-test.true u.before.operation-at.ensures u.agrees-under.ensures c.if1.false
+    every_stop _ l.before.operation-count.ensures.0 _ _ l.loop.invariant one t.loop-test.true u.before.operation-at.ensures u.agrees-under.ensures c.if1.false
 
 returns-2 : tie.Need-returns-2 invariant-loop decreases-loop
-returns-2 c = every-end _ c.before.before.operation-count.ensures.0 _ _ c.before.loop.invariant c.loop-test.false
+returns-2 c = every_end _ c.before.before.operation-count.ensures.0 _ _ c.before.loop.invariant c.loop-test.false
 
-pub agrees-spec : {M : Type 1} → statement M
-agrees-spec =
+pub agrees_spec : {M : Type 1} → statement M
+agrees_spec =
     tie.close
     (tie.spec
     invariant-loop

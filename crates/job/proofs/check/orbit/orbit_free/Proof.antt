@@ -4,32 +4,32 @@ use Prim.Native.Nat.{◌-◌, ◌<◌}
 use native.Mathlib.Omega.{arith}
 use lib.ListN.{drop}
 use Rattle.algebra.specs.cells.Cell.{one, full, every}
-use Rattle.cell.specs.Consistency.{orbitFree}
-use Rattle.cell.specs.Operations.{cellGroup, cellHalves, triple_of, symOf}
-use Rattle.cell.proofs.Scans.{every-next, every-stop, every-end}
-use Rattle.job.proofs.check.orbit.TestLaws.{freeUnder, orbit-start, image-free}
+use Rattle.cell.specs.Consistency.{orbit_free}
+use Rattle.cell.specs.Operations.{cell_group, cell_halves, triple_of, sym_of}
+use Rattle.cell.proofs.Scans.{every_next, every_stop, every_end}
+use Rattle.job.proofs.check.orbit.TestLaws.{free_under, orbit_start, image_free}
 use Rattle.job.proofs.check.orbit.orbit_free.Statement.{statement}
 use Rattle.job.proofs.check.orbit.orbit_free.Tie as tie
 
 abbrev invariant-loop : tie.invariant-loop
-invariant-loop cell j volume count i₀ i = orbitFree (cellGroup cell) (cellHalves cell) volume (triple_of j) ≡ every (drop i (full (cellGroup cell))) (freeUnder (cellGroup cell) (cellHalves cell) volume (triple_of j))
+invariant-loop cell j volume count i₀ i = orbit_free (cell_group cell) (cell_halves cell) volume (triple_of j) ≡ every (drop i (full (cell_group cell))) (free_under (cell_group cell) (cell_halves cell) volume (triple_of j))
 
 abbrev decreases-loop : tie.decreases-loop
 decreases-loop cell j volume count i₀ i = count - i
 
 -- what the test of a turn says of its operation
 told : (c : tie.After-factor-numbers-below invariant-loop decreases-loop) → let o = c.before.before in let a = o.before.before.before.before.before.args in
-    c.factor-numbers-below.result ≡ freeUnder (cellGroup a.cell) (cellHalves a.cell) a.volume.now (triple_of a.j) (symOf o.operation-at.result)
+    c.factor-numbers-below.result ≡ free_under (cell_group a.cell) (cell_halves a.cell) a.volume.now (triple_of a.j) (sym_of o.operation-at.result)
 told c =
     let o = c.before.before in
     let a = o.before.before.before.before.before.args in
-    image-free (cellGroup a.cell) (cellHalves a.cell) a.volume.now (triple_of a.j) (symOf o.operation-at.result) c.before.image.ensures.0 c.factor-numbers-below.ensures
+    image_free (cell_group a.cell) (cell_halves a.cell) a.volume.now (triple_of a.j) (sym_of o.operation-at.result) c.before.image.ensures.0 c.factor-numbers-below.ensures
 
 operation-count-requires : tie.Need-operation-count-requires invariant-loop decreases-loop
 operation-count-requires c κs = c.before.requires.0.0.known
 
 loop-holds : tie.Need-loop-init invariant-loop decreases-loop
-loop-holds c = orbit-start _ _ _ _
+loop-holds c = orbit_start _ _ _ _
 
 operation-at-requires : tie.Need-operation-at-requires invariant-loop decreases-loop
 operation-at-requires c κs = (c.before.before.before.before.requires.0.0.known, subst (λ n. c.before.loop.i < n) c.before.before.operation-count.ensures.0 c.loop-test.true)
@@ -53,19 +53,19 @@ loop-again : tie.Need-loop-preserved invariant-loop decreases-loop
 loop-again c =
     let o = c.before.before.before in
     let l = o.before.before in
-    every-next _ l.before.operation-count.ensures.0 _ _ l.loop.invariant one o.before.loop-test.true o.operation-at.ensures (told c.before) c.if1.true
+    every_next _ l.before.operation-count.ensures.0 _ _ l.loop.invariant one o.before.loop-test.true o.operation-at.ensures (told c.before) c.if1.true
 
 returns : tie.Need-returns invariant-loop decreases-loop
 returns c =
     let o = c.before.before.before in
     let l = o.before.before in
-    every-stop _ l.before.operation-count.ensures.0 _ _ l.loop.invariant one o.before.loop-test.true o.operation-at.ensures (told c.before) c.if1.false
+    every_stop _ l.before.operation-count.ensures.0 _ _ l.loop.invariant one o.before.loop-test.true o.operation-at.ensures (told c.before) c.if1.false
 
 returns-2 : tie.Need-returns-2 invariant-loop decreases-loop
-returns-2 c = every-end _ c.before.before.operation-count.ensures.0 _ _ c.before.loop.invariant c.loop-test.false
+returns-2 c = every_end _ c.before.before.operation-count.ensures.0 _ _ c.before.loop.invariant c.loop-test.false
 
-pub orbit-free-spec : {M : Type 1} → statement M
-orbit-free-spec =
+pub orbit_free_spec : {M : Type 1} → statement M
+orbit_free_spec =
     tie.close
     (tie.spec
     invariant-loop

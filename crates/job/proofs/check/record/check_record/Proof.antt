@@ -5,10 +5,10 @@ use mathlib.Core.Bool.{false, not}
 use lib.Dec.{eqb}
 use borrow.Author.Tests.{not-false, eq-eqb, ne_eqb}
 use Rattle.numbers.specs.Value.{IsModulus}
-use Rattle.refusals.specs.Checks.{checkedNumber}
-use Rattle.refusals.proofs.Tests.{stop, pass, not_t, not_f, Passed, passed, append-stop, not-zero}
-use Rattle.cell.specs.Operations.{cellLengths, triple_of, Sizes}
-use Rattle.job.specs.Job.{ownTests, orbitTests}
+use Rattle.refusals.specs.Checks.{checked_number}
+use Rattle.refusals.proofs.Tests.{stop, pass, not_t, not_f, Passed, passed, append_stop, not_zero}
+use Rattle.cell.specs.Operations.{cell_lengths, triple_of, Sizes}
+use Rattle.job.specs.Job.{own_tests, orbit_tests}
 use Rattle.job.proofs.check.Points.{within_of}
 use Rattle.job.proofs.check.record.check_record.Statement.{statement}
 use Rattle.job.proofs.check.record.check_record.Tie as tie
@@ -21,10 +21,10 @@ collects : (c : tie.Else2) → not (eqb c.before.before.before.args.state 0) ≡
 collects c = not_t _ (eq-eqb _ _ c.if2.false)
 
 -- no test of the record's own holds
-passes : (c : tie.After-enum-told) → let a = c.before.before.before.before.before.before.args in Passed (ownTests a.modulus a.cell.group (cellLengths a.cell) (triple_of a.at) a.x.re a.x.im)
+passes : (c : tie.After-enum-told) → let a = c.before.before.before.before.before.before.args in Passed (own_tests a.modulus a.cell.group (cell_lengths a.cell) (triple_of a.at) a.x.re a.x.im)
 passes c =
     let a = c.before.before.before.before.before.before.args in
-    passed (ownTests a.modulus a.cell.group (cellLengths a.cell) (triple_of a.at) a.x.re a.x.im) tt (ap checkedNumber (sym c.enum_told.given.1) ∙ c.before.before.check-own.ensures)
+    passed (own_tests a.modulus a.cell.group (cell_lengths a.cell) (triple_of a.at) a.x.re a.x.im) tt (ap checked_number (sym c.enum_told.given.1) ∙ c.before.before.check-own.ensures)
 
 returns : tie.Need-returns
 returns c = stop _ c.if1.true
@@ -53,7 +53,7 @@ returns-3 c =
     let e = k.before in
     let a = e.before.before.before.args in
     let r = c.before.own.given.0.0 in
-    pass 25 _ e.before.if1.false (pass 21 _ (collects e) (append-stop (ownTests a.modulus a.cell.group (cellLengths a.cell) (triple_of a.at) a.x.re a.x.im) (orbitTests a.cell.group (cellLengths a.cell) (triple_of a.at) a.volume.now) (not-zero r) (ap checkedNumber (sym c.before.own.given.1) ∙ k.check-own.ensures)))
+    pass 25 _ e.before.if1.false (pass 21 _ (collects e) (append_stop (own_tests a.modulus a.cell.group (cell_lengths a.cell) (triple_of a.at) a.x.re a.x.im) (orbit_tests a.cell.group (cell_lengths a.cell) (triple_of a.at) a.volume.now) (not_zero r) (ap checked_number (sym c.before.own.given.1) ∙ k.check-own.ensures)))
 
 returns-4 : tie.Need-returns-4
 returns-4 c =
@@ -62,8 +62,8 @@ returns-4 c =
     let p = passes t in
     pass 25 _ e.before.if1.false (pass 21 _ (collects e) (pass 10 _ p.0 (pass 7 _ p.1.0 (pass 12 _ p.1.1.0 c.check-orbit.ensures))))
 
-pub check-record-spec : {M : Type 1} → statement M
-check-record-spec =
+pub check_record_spec : {M : Type 1} → statement M
+check_record_spec =
     tie.close
     (tie.spec
     returns

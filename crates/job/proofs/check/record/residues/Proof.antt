@@ -14,5 +14,5 @@ returns c =
     let e = c.modulus.ensures.0 in
     λ i. ltb a.a (e i) && ltb a.b (e i)
 
-pub residues-spec : {M : Type 1} → statement M
-residues-spec = tie.close (tie.spec modulus-requires returns)
+pub residues_spec : {M : Type 1} → statement M
+residues_spec = tie.close (tie.spec modulus-requires returns)

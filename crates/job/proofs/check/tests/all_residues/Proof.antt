@@ -15,5 +15,5 @@ all-below-requires c κs = search rules
 returns : tie.Need-returns
 returns c = c.all-below.ensures ∙ ap (λ (q : ℕ). all_below q c.before.before.before.args.volume.now) c.before.modulus.ensures.0
 
-pub all-residues-spec : {M : Type 1} → statement M
-all-residues-spec = tie.close (tie.spec modulus-requires all-below-requires returns)
+pub all_residues_spec : {M : Type 1} → statement M
+all_residues_spec = tie.close (tie.spec modulus-requires all-below-requires returns)

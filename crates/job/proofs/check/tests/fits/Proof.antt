@@ -11,7 +11,7 @@ volume-length-requires : tie.Need-volume-length-requires
 volume-length-requires c κs = short_lengths c.before.requires
 
 returns : tie.Need-returns
-returns c = ap (λ (n : ℕ). eqb (length c.before.before.args.volume.now) n) c.volume-length.ensures
+returns c = ap (λ (n : ℕ). eqb (length c.before.before.args.volume.now) n) c.volume_length_lem.ensures
 
-pub fits-spec : {M : Type 1} → statement M
-fits-spec = tie.close (tie.spec volume-length-requires returns)
+pub fits_spec : {M : Type 1} → statement M
+fits_spec = tie.close (tie.spec volume-length-requires returns)

@@ -13,5 +13,5 @@ put-map-requires c κs = search rules
 returns : tie.Need-returns
 returns c = omega (arith, c.before.put_map.ensures.place)
 
-pub map-length-spec : {M : Type 1} → statement M
-map-length-spec = tie.close (tie.spec slice-aggregate-put-map put-map-requires returns)
+pub map_length_spec : {M : Type 1} → statement M
+map_length_spec = tie.close (tie.spec slice-aggregate-put-map put-map-requires returns)

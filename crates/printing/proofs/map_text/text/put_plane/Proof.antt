@@ -6,7 +6,7 @@ use Rattle.job.specs.declared.Job.{Job}
 use Rattle.output.specs.Output.{each}
 use Rattle.output.specs.Written.{Wrote}
 use Rattle.printing.specs.Text.{row_line}
-use Rattle.output.proofs.Writing.{each_none, each-ends, each_next, each-done, wrote-length}
+use Rattle.output.proofs.Writing.{each_none, each_ends, each_next, each_done, wrote_length}
 use Rattle.printing.proofs.map_text.text.put_plane.Statement.{statement}
 use Rattle.printing.proofs.map_text.text.put_plane.Tie as tie
 
@@ -27,7 +27,7 @@ put-row-requires c κs =
     let t = c.before in
     let l = t.before in
     let s = l.before.before.before in
-    ((s.requires.0.0, s.requires.0.1, t.loop-test.true), each-ends (row s.args.job s.args.volume.now s.args.z) s.requires.1 t.loop-test.true l.loop.invariant.1)
+    ((s.requires.0.0, s.requires.0.1, t.loop-test.true), each_ends (row s.args.job s.args.volume.now s.args.z) s.requires.1 t.loop-test.true l.loop.invariant.1)
 
 add-x : tie.Need-overflow-add-x invariant-loop decreases-loop
 add-x c = omega arith
@@ -43,16 +43,16 @@ loop-again c =
     (omega arith, each_next (row s.args.job s.args.volume.now s.args.z) l.loop.invariant.1 p.put-row.ensures)
 
 same_length : tie.Need-same-length invariant-loop decreases-loop
-same_length c = wrote-length c.before.loop.invariant.1
+same_length c = wrote_length c.before.loop.invariant.1
 
 returns : tie.Need-returns invariant-loop decreases-loop
 returns c =
     let l = c.before in
     let s = l.before.before.before in
-    each-done (row s.args.job s.args.volume.now s.args.z) l.loop.invariant.0 c.loop-test.false l.loop.invariant.1
+    each_done (row s.args.job s.args.volume.now s.args.z) l.loop.invariant.0 c.loop-test.false l.loop.invariant.1
 
-pub put-plane-spec : {M : Type 1} → statement M
-put-plane-spec =
+pub put_plane_spec : {M : Type 1} → statement M
+put_plane_spec =
     tie.close
     (tie.spec
     invariant-loop

@@ -1,5 +1,5 @@
 -- The job's own call, its answer said as numbers.
-use Rattle.scripts.proofs.calls.Calls.{call-analysis}
+use Rattle.scripts.proofs.calls.Calls.{call_analysis}
 use borrow.Author.Rules.{rules}
 use Rattle.scripts.proofs.replay.call.analysis_call.Statement.{statement}
 use Rattle.scripts.proofs.replay.call.analysis_call.Tie as tie
@@ -20,8 +20,8 @@ returns : tie.Need-returns
 returns c =
     let w = c.before.before.before.before.before.analysis in
     let a = c.before.before.before.before.before.before.before.before.before.before.args in
-    call-analysis a.job a.volume.now c.of-answered.result w.result _ c.of-answered.ensures.0 c.of-answered.ensures.1 a.scratch.now _ w.ensures
+    call_analysis a.job a.volume.now c.of-answered.result w.result _ c.of-answered.ensures.0 c.of-answered.ensures.1 a.scratch.now _ w.ensures
 
-pub analysis-call-spec : {M : Type 1} → statement M
-analysis-call-spec =
+pub analysis_call_spec : {M : Type 1} → statement M
+analysis_call_spec =
     tie.close (tie.spec analysis-requires of-answered-requires same_length same-length-2 returns)

@@ -1,5 +1,5 @@
 -- The job's own call, its answer said as numbers.
-use Rattle.scripts.proofs.calls.Calls.{call-synthesis}
+use Rattle.scripts.proofs.calls.Calls.{call_synthesis}
 use borrow.Author.Rules.{rules}
 use Rattle.scripts.proofs.replay.call.synthesis_call.Statement.{statement}
 use Rattle.scripts.proofs.replay.call.synthesis_call.Tie as tie
@@ -20,8 +20,8 @@ returns : tie.Need-returns
 returns c =
     let w = c.before.before.before.before.before.synthesis in
     let a = c.before.before.before.before.before.before.before.before.before.before.args in
-    call-synthesis a.job a.volume.now c.of-answered.result w.result _ c.of-answered.ensures.0 c.of-answered.ensures.1 a.scratch.now _ w.ensures
+    call_synthesis a.job a.volume.now c.of-answered.result w.result _ c.of-answered.ensures.0 c.of-answered.ensures.1 a.scratch.now _ w.ensures
 
-pub synthesis-call-spec : {M : Type 1} → statement M
-synthesis-call-spec =
+pub synthesis_call_spec : {M : Type 1} → statement M
+synthesis_call_spec =
     tie.close (tie.spec synthesis-requires of-answered-requires same_length same-length-2 returns)

@@ -10,5 +10,5 @@ returns c =
     let a = c.args in
     λ e. let t = subst T (sym e) tt in (ltb→lt _ _ (and_l (ltb 0 a.x) (ltb a.x a.end) t), ltb→lt _ _ (and_r (ltb 0 a.x) (ltb a.x a.end) t))
 
-pub between-spec : {M : Type 1} → statement M
-between-spec = tie.close (tie.spec returns)
+pub between_spec : {M : Type 1} → statement M
+between_spec = tie.close (tie.spec returns)

@@ -6,16 +6,16 @@ use Prim.Native.Nat.{ℕ, ◌<◌}
 use native.Mathlib.Omega.{arith}
 use Rattle.algebra.specs.lines.Kinds.{Kind.antisymmetric}
 use Rattle.algebra.specs.cells.Cell.{Group, planes}
-use Rattle.cell.specs.Volume.{lineKind}
-use Rattle.cell.specs.TestSteps.{isZero}
-use Rattle.cell.proofs.LineKinds.{antisymmetric-layers}
+use Rattle.cell.specs.Volume.{line_kind}
+use Rattle.cell.specs.TestSteps.{is_zero}
+use Rattle.cell.proofs.LineKinds.{antisymmetric_layers}
 use Rattle.cell.proofs.StoredFactors.{pair_inside}
 use Rattle.volume.proofs.consistent.factor_test.empty_line.Statement.{statement}
 use Rattle.volume.proofs.consistent.factor_test.empty_line.Tie as tie
 
 -- a group with antisymmetric lines stores the planes 0 to A
-ends : (g : Group) (h c : ℕ) → lineKind g h ≡ antisymmetric → (0 < planes g c) × (c < planes g c)
-ends g h c e = let p = antisymmetric-layers g h c e in (omega (arith, p), omega (arith, p))
+ends : (g : Group) (h c : ℕ) → line_kind g h ≡ antisymmetric → (0 < planes g c) × (c < planes g c)
+ends g h c e = let p = antisymmetric_layers g h c e in (omega (arith, p), omega (arith, p))
 
 pair-at-requires : tie.Need-pair-at-requires
 pair-at-requires c κs = let p = c.before.requires in pair_inside p.0 0 _ _ (ends _ _ _ p.1).0 p.2 p.3
@@ -33,12 +33,12 @@ returns : tie.Need-returns
 returns c =
     let f = c.before in
     let l = f.before in
-    let x = f.is_zero.ensures ∙ ap isZero l.before.before.pair-at.ensures in
-    let y = c.is-zero2.ensures ∙ ap isZero l.pair-at2.ensures in
+    let x = f.is_zero.ensures ∙ ap is_zero l.before.before.pair_at_lem.ensures in
+    let y = c.is-zero2.ensures ∙ ap is_zero l.pair-at2.ensures in
     λ i. x i && y i
 
-pub empty-line-spec : {M : Type 1} → statement M
-empty-line-spec =
+pub empty_line_spec : {M : Type 1} → statement M
+empty_line_spec =
     tie.close
     (tie.spec
     pair-at-requires

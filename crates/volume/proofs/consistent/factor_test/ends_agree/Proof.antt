@@ -2,7 +2,7 @@
 use borrow.Author.Rules.{rules}
 use Prim.Native.Nat.{◌/◌}
 use native.Mathlib.Omega.{arith}
-use Rattle.algebra.proofs.cells.Passing.{both-passed, first-failed}
+use Rattle.algebra.proofs.cells.Passing.{both_passed, first_failed}
 use Rattle.volume.proofs.consistent.factor_test.ends_agree.Statement.{statement}
 use Rattle.volume.proofs.consistent.factor_test.ends_agree.Tie as tie
 
@@ -13,10 +13,10 @@ images-agree-requires-2 : tie.Need-images-agree-requires-2
 images-agree-requires-2 c κs = let p = c.before.before.before.before.requires in (p.0, p.1, p.2, record { h = p.4; k = omega arith; l = p.3 })
 
 returns : tie.Need-returns
-returns c = let f = c.before.before in both-passed f.before.images-agree.ensures f.if1.true c.images-agree2.ensures
+returns c = let f = c.before.before in both_passed f.before.images-agree.ensures f.if1.true c.images-agree2.ensures
 
 returns-2 : tie.Need-returns-2
-returns-2 c = first-failed _ c.before.images-agree.ensures c.if1.false
+returns-2 c = first_failed _ c.before.images-agree.ensures c.if1.false
 
-pub ends-agree-spec : {M : Type 1} → statement M
-ends-agree-spec = tie.close (tie.spec images-agree-requires images-agree-requires-2 returns returns-2)
+pub ends_agree_spec : {M : Type 1} → statement M
+ends_agree_spec = tie.close (tie.spec images-agree-requires images-agree-requires-2 returns returns-2)

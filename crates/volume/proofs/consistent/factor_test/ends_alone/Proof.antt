@@ -2,7 +2,7 @@
 use borrow.Author.Rules.{rules}
 use mathlib.Core.Bool.{not}
 use lib.Dec.{eqb}
-use Rattle.volume.proofs.consistent.Interior.{inner-rows}
+use Rattle.volume.proofs.consistent.Interior.{inner_rows}
 use Rattle.volume.proofs.consistent.factor_test.ends_alone.Statement.{statement}
 use Rattle.volume.proofs.consistent.factor_test.ends_alone.Tie as tie
 
@@ -10,7 +10,7 @@ between-requires : tie.Need-between-requires
 between-requires c κs = search rules
 
 returns : tie.Need-returns
-returns c = let s = c.before.before.before.before in inner-rows s.args.cell s.args.l s.requires c.between.ensures
+returns c = let s = c.before.before.before.before in inner_rows s.args.cell s.args.l s.requires c.between.ensures
 
-pub ends-alone-spec : {M : Type 1} → statement M
-ends-alone-spec = tie.close (tie.spec between-requires returns)
+pub ends_alone_spec : {M : Type 1} → statement M
+ends_alone_spec = tie.close (tie.spec between-requires returns)

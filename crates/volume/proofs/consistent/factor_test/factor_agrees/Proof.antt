@@ -6,12 +6,12 @@ use Prim.Native.Nat.{ℕ, ◌/◌}
 use native.Mathlib.Omega.{arith}
 use lib.Dec.{T, eqb}
 use borrow.Author.Tests.{eqb-true}
-use Rattle.algebra.specs.cells.Cell.{negI}
+use Rattle.algebra.specs.cells.Cell.{neg_i}
 use Rattle.cell.specs.Volume.{group_of}
-use Rattle.cell.specs.Consistency.{lineAgrees}
-use Rattle.cell.specs.Operations.{cellGroup, cellHalves, triple_of}
-use Rattle.cell.specs.TestSteps.{imageAgrees, mirrored}
-use Rattle.volume.proofs.consistent.Interior.{inner-4, mirror-4}
+use Rattle.cell.specs.Consistency.{line_agrees}
+use Rattle.cell.specs.Operations.{cell_group, cell_halves, triple_of}
+use Rattle.cell.specs.TestSteps.{image_agrees, mirrored}
+use Rattle.volume.proofs.consistent.Interior.{inner_4, mirror_4}
 use Rattle.volume.proofs.consistent.factor_test.factor_agrees.Statement.{statement}
 use Rattle.volume.proofs.consistent.factor_test.factor_agrees.Tie as tie
 
@@ -50,13 +50,13 @@ returns c =
     let p = q.before in
     let b = p.before.before in
     let s = b.before.before.before.before in
-    let a = cellHalves s.args.cell in
+    let a = cell_halves s.args.cell in
     settled s.args.cell.group b.between.result p.between2.result q.if1.true
     (λ e u z. let r = b.between.ensures u in let w = p.between2.ensures z in
     c.mirrored-agrees.ensures
-    ∙ ap (λ n. imageAgrees (group_of n) a s.args.m s.args.volume.now (triple_of s.args.j) mirrored) e
-    ∙ sym (inner-4 a s.args.m s.args.volume.now (triple_of s.args.j) r.0 r.1 w.0 w.1)
-    ∙ ap (λ n. lineAgrees (group_of n) a s.args.m s.args.volume.now (triple_of s.args.j)) (sym e))
+    ∙ ap (λ n. image_agrees (group_of n) a s.args.m s.args.volume.now (triple_of s.args.j) mirrored) e
+    ∙ sym (inner_4 a s.args.m s.args.volume.now (triple_of s.args.j) r.0 r.1 w.0 w.1)
+    ∙ ap (λ n. line_agrees (group_of n) a s.args.m s.args.volume.now (triple_of s.args.j)) (sym e))
 
 -- beyond N1/2 that image was tried at -h
 returns-2 : tie.Need-returns-2
@@ -65,19 +65,19 @@ returns-2 c =
     let p = q.before in
     let b = p.before.before in
     let s = b.before.before.before.before in
-    let a = cellHalves s.args.cell in
+    let a = cell_halves s.args.cell in
     let j = triple_of s.args.j in
     settled s.args.cell.group b.between.result p.between2.result q.if1.true
     (λ e u z. let r = b.between.ensures u in let w = p.between2.ensures z in
-    sym (ap (λ n. lineAgrees (group_of n) a s.args.m s.args.volume.now j) e
-    ∙ mirror-4 a s.args.m s.args.volume.now j (omega (arith, s.requires.0.3.h, s.requires.0.0.sizes.first.even)) r.0 r.1 w.0 w.1
-    (ap (λ n. lineAgrees (group_of n) a s.args.m s.args.volume.now (negI (s.args.cell.n1 / 2) j.0, j.1, j.2)) (sym e) ∙ s.requires.1 (omega (arith, c.if2.false)))))
+    sym (ap (λ n. line_agrees (group_of n) a s.args.m s.args.volume.now j) e
+    ∙ mirror_4 a s.args.m s.args.volume.now j (omega (arith, s.requires.0.3.h, s.requires.0.0.sizes.first.even)) r.0 r.1 w.0 w.1
+    (ap (λ n. line_agrees (group_of n) a s.args.m s.args.volume.now (neg_i (s.args.cell.n1 / 2) j.0, j.1, j.2)) (sym e) ∙ s.requires.1 (omega (arith, c.if2.false)))))
 
 returns-3 : tie.Need-returns-3
 returns-3 c = search rules
 
-pub factor-agrees-spec : {M : Type 1} → statement M
-factor-agrees-spec =
+pub factor_agrees_spec : {M : Type 1} → statement M
+factor_agrees_spec =
     tie.close
     (tie.spec
     between-requires

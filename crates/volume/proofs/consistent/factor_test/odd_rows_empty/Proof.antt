@@ -5,52 +5,52 @@ use Prim.Native.Nat.{ℕ, suc, ◌+◌, ◌*◌, ◌-◌, ◌/◌, ◌%◌, ◌<
 use native.Mathlib.Omega.{arith}
 use Rattle.algebra.specs.lines.Kinds.{Kind.antisymmetric}
 use Rattle.algebra.specs.cells.Cell.{below}
-use Rattle.cell.specs.Volume.{lineKind}
-use Rattle.cell.specs.Operations.{cellGroup, cellHalves}
-use Rattle.cell.specs.TestSteps.{emptyIfLeftOut}
-use Rattle.cell.proofs.LineKinds.{odd-antisymmetric, even-other}
+use Rattle.cell.specs.Volume.{line_kind}
+use Rattle.cell.specs.Operations.{cell_group, cell_halves}
+use Rattle.cell.specs.TestSteps.{empty_if_left_out}
+use Rattle.cell.proofs.LineKinds.{odd_antisymmetric, even_other}
 use Rattle.cell.proofs.PlaceLaws.{even_is, odd_is}
-use Rattle.algebra.proofs.cells.Passing.{Passing, passing-start, passing-next, passing-stop, passing-done}
-use Rattle.volume.proofs.consistent.TestLaws.{has-ends, ends-left}
+use Rattle.algebra.proofs.cells.Passing.{Passing, passing_start, passing_next, passing_stop, passing_done}
+use Rattle.volume.proofs.consistent.TestLaws.{has_ends, ends_left}
 use Rattle.volume.proofs.consistent.factor_test.odd_rows_empty.Statement.{statement}
 use Rattle.volume.proofs.consistent.factor_test.odd_rows_empty.Tie as tie
 
 abbrev invariant-loop : tie.invariant-loop
-invariant-loop cell volume h₀ h = (h % 2 ≡ 1) × Passing (λ h. below (suc (cell.n2 / 2)) (λ k. emptyIfLeftOut (cellGroup cell) (cellHalves cell) volume h k)) (2 * (cell.n1 / 2)) (h - 1)
+invariant-loop cell volume h₀ h = (h % 2 ≡ 1) × Passing (λ h. below (suc (cell.n2 / 2)) (λ k. empty_if_left_out (cell_group cell) (cell_halves cell) volume h k)) (2 * (cell.n1 / 2)) (h - 1)
 
 abbrev decreases-loop : tie.decreases-loop
 decreases-loop cell volume h₀ h = 2 * (cell.n1 / 2) - h
 
 -- the test of a row
 abbrev row : tie.Start invariant-loop decreases-loop → ℕ → Bool
-row s h = let a = s.args in below (suc (a.cell.n2 / 2)) (λ k. emptyIfLeftOut (cellGroup a.cell) (cellHalves a.cell) a.volume.now h k)
+row s h = let a = s.args in below (suc (a.cell.n2 / 2)) (λ k. empty_if_left_out (cell_group a.cell) (cell_halves a.cell) a.volume.now h k)
 
 -- the even row before h has passed too
 before-odd : (s : tie.Start invariant-loop decreases-loop) (n h : ℕ) → h % 2 ≡ 1 → h < n → Passing (row s) n (h - 1) → Passing (row s) n h
 before-odd s n h o l p =
     let a = s.args in
     let e : h - 1 + 1 ≡ h = omega arith in
-    subst (λ (q : ℕ). Passing (row s) n q) e (passing-next p (omega arith) (has-ends (cellGroup a.cell) (cellHalves a.cell) a.volume.now (h - 1) (suc (a.cell.n2 / 2)) (even-other (cellGroup a.cell) (h - 1) (even_is (h - 1) (omega arith)))) refl)
+    subst (λ (q : ℕ). Passing (row s) n q) e (passing_next p (omega arith) (has_ends (cell_group a.cell) (cell_halves a.cell) a.volume.now (h - 1) (suc (a.cell.n2 / 2)) (even_other (cell_group a.cell) (h - 1) (even_is (h - 1) (omega arith)))) refl)
 
 -- the lines at an odd h leave their ends out
-odd-line : (s : tie.Start invariant-loop decreases-loop) (h : ℕ) → h % 2 ≡ 1 → lineKind (cellGroup s.args.cell) h ≡ antisymmetric
-odd-line s h o = odd-antisymmetric (cellGroup s.args.cell) 1 h s.requires.1 (odd_is h (omega arith))
+odd_line : (s : tie.Start invariant-loop decreases-loop) (h : ℕ) → h % 2 ≡ 1 → line_kind (cell_group s.args.cell) h ≡ antisymmetric
+odd_line s h o = odd_antisymmetric (cell_group s.args.cell) 1 h s.requires.1 (odd_is h (omega arith))
 
 -- what the code found of the row h
 found : (c : tie.After-empty-row invariant-loop decreases-loop) → let l = c.before.before.before in c.empty-row.result ≡ row l.before.before l.loop.h
 found c =
     let l = c.before.before.before in
     let a = l.before.before.args in
-    ends-left (cellGroup a.cell) (cellHalves a.cell) a.volume.now l.loop.h (suc (a.cell.n2 / 2)) (odd-line l.before.before l.loop.h l.loop.invariant.0) c.empty-row.ensures
+    ends_left (cell_group a.cell) (cell_halves a.cell) a.volume.now l.loop.h (suc (a.cell.n2 / 2)) (odd_line l.before.before l.loop.h l.loop.invariant.0) c.empty-row.ensures
 
 loop-holds : tie.Need-loop-init invariant-loop decreases-loop
-loop-holds c = (refl, passing-start _ _)
+loop-holds c = (refl, passing_start _ _)
 
 empty-row-requires : tie.Need-empty-row-requires invariant-loop decreases-loop
 empty-row-requires c κs =
     let l = c.before.before in
     let s = l.before.before in
-    (s.requires.0, odd-line s l.loop.h l.loop.invariant.0, c.if1.true)
+    (s.requires.0, odd_line s l.loop.h l.loop.invariant.0, c.if1.true)
 
 add-h : tie.Need-overflow-add-h invariant-loop decreases-loop
 add-h c = omega arith
@@ -67,7 +67,7 @@ loop-again c =
     let o = l.loop.invariant.0 in
     let less : h < n = omega (arith, s.requires.0.sizes.first.even, c.before.before.if1.true) in
     let e : h + 1 ≡ h + 2 - 1 = omega arith in
-    (omega (arith, o), subst (λ (q : ℕ). Passing (row s) n q) e (passing-next (before-odd s n h o less l.loop.invariant.1) less (found c.before) c.if2.true))
+    (omega (arith, o), subst (λ (q : ℕ). Passing (row s) n q) e (passing_next (before-odd s n h o less l.loop.invariant.1) less (found c.before) c.if2.true))
 
 returns : tie.Need-returns invariant-loop decreases-loop
 returns c =
@@ -76,15 +76,15 @@ returns c =
     let h = l.loop.h in
     let n = 2 * (s.args.cell.n1 / 2) in
     let less : h < n = omega (arith, s.requires.0.sizes.first.even, c.before.before.if1.true) in
-    passing-stop (before-odd s n h l.loop.invariant.0 less l.loop.invariant.1) less (found c.before) c.if2.false
+    passing_stop (before-odd s n h l.loop.invariant.0 less l.loop.invariant.1) less (found c.before) c.if2.false
 
 returns-2 : tie.Need-returns-2 invariant-loop decreases-loop
 returns-2 c =
     let l = c.before.before in
-    passing-done l.loop.invariant.1 (omega (arith, l.loop.invariant.0, l.before.before.requires.0.sizes.first.even, c.if1.false))
+    passing_done l.loop.invariant.1 (omega (arith, l.loop.invariant.0, l.before.before.requires.0.sizes.first.even, c.if1.false))
 
-pub odd-rows-empty-spec : {M : Type 1} → statement M
-odd-rows-empty-spec =
+pub odd_rows_empty_spec : {M : Type 1} → statement M
+odd_rows_empty_spec =
     tie.close
     (tie.spec
     invariant-loop

@@ -1,9 +1,9 @@
 -- The image's number is read only where its plane is stored.
 use borrow.Author.Rules.{rules}
 use native.Mathlib.Omega.{arith}
-use Rattle.cell.specs.Operations.{symOf}
+use Rattle.cell.specs.Operations.{sym_of}
 use Rattle.cell.proofs.StoredFactors.{pair_inside}
-use Rattle.volume.proofs.consistent.TestLaws.{point-tested, point-skipped}
+use Rattle.volume.proofs.consistent.TestLaws.{point_tested, point_skipped}
 use Rattle.volume.proofs.consistent.map_test.image_agrees.Statement.{statement}
 use Rattle.volume.proofs.consistent.map_test.image_agrees.Tie as tie
 
@@ -31,17 +31,17 @@ returns c =
     let t = c.before.before.before.before in
     let i = t.before in
     let s = i.before.before in
-    point-tested _ _ s.args.volume.now _ (symOf s.args.o) i.point-image.ensures.0 (omega (arith, t.layer-count.ensures)) c.before.stored-number.ensures c.stored-number2.ensures
+    point_tested _ _ s.args.volume.now _ (sym_of s.args.o) i.point-image.ensures.0 (omega (arith, t.layer-count.ensures)) c.before.stored-number.ensures c.stored-number2.ensures
 
 returns-2 : tie.Need-returns-2
 returns-2 c =
     let t = c.before.before in
     let i = t.before in
     let s = i.before.before in
-    point-skipped _ _ s.args.volume.now _ (symOf s.args.o) i.point-image.ensures.0 (omega (arith, t.layer-count.ensures))
+    point_skipped _ _ s.args.volume.now _ (sym_of s.args.o) i.point-image.ensures.0 (omega (arith, t.layer-count.ensures))
 
-pub image-agrees-spec : {M : Type 1} → statement M
-image-agrees-spec =
+pub image_agrees_spec : {M : Type 1} → statement M
+image_agrees_spec =
     tie.close
     (tie.spec
     point-image-requires

@@ -6,17 +6,17 @@ use mathlib.Core.List.{List}
 use Prim.Native.Nat.{ℕ, ◌-◌}
 use native.Mathlib.Omega.{arith}
 use Rattle.algebra.specs.cells.Cell.{one, ops}
-use Rattle.cell.specs.Operations.{cellGroup, cellHalves}
-use Rattle.cell.specs.TestSteps.{pointImageAgrees}
-use Rattle.cell.proofs.OperationLaws.{first-own, order_least}
-use Rattle.algebra.proofs.cells.Passing.{PassingMembers, members-second, members-next, members-done}
-use Rattle.volume.proofs.consistent.TestLaws.{identity-point, plane-skipped}
+use Rattle.cell.specs.Operations.{cell_group, cell_halves}
+use Rattle.cell.specs.TestSteps.{point_image_agrees}
+use Rattle.cell.proofs.OperationLaws.{first_own, order_least}
+use Rattle.algebra.proofs.cells.Passing.{PassingMembers, members_second, members_next, members_done}
+use Rattle.volume.proofs.consistent.TestLaws.{identity_point, plane_skipped}
 use Rattle.volume.proofs.consistent.map_test.meets_stored.Statement.{statement}
 use Rattle.volume.proofs.consistent.map_test.meets_stored.Tie as tie
 
 abbrev invariant-loop : tie.invariant-loop
 invariant-loop cell z planes count number₀ number =
-    (v : List ℕ) (x y : ℕ) → PassingMembers (ops (cellGroup cell)) one (pointImageAgrees (cellGroup cell) (cellHalves cell) v (x, y, z)) number
+    (v : List ℕ) (x y : ℕ) → PassingMembers (ops (cell_group cell)) one (point_image_agrees (cell_group cell) (cell_halves cell) v (x, y, z)) number
 
 abbrev decreases-loop : tie.decreases-loop
 decreases-loop cell z planes count number₀ number = count - number
@@ -31,7 +31,7 @@ loop-holds : tie.Need-loop-init invariant-loop decreases-loop
 loop-holds c v x y =
     let s = c.before.before in
     let known = s.requires.0.known in
-    members-second (order_least s.args.cell.group known) (first-own s.args.cell.group known) (identity-point (cellGroup s.args.cell) (cellHalves s.args.cell) v (x, y, s.args.z))
+    members_second (order_least s.args.cell.group known) (first_own s.args.cell.group known) (identity_point (cell_group s.args.cell) (cell_halves s.args.cell) v (x, y, s.args.z))
 
 group-operation-requires : tie.Need-group-operation-requires invariant-loop decreases-loop
 group-operation-requires c κs =
@@ -59,16 +59,16 @@ loop-again c v x y =
     let l = o.before.before in
     let t = l.before in
     let s = t.before.before in
-    members-next (l.loop.invariant v x y) (omega (arith, t.group-order.ensures)) o.group-operation.ensures
-    (plane-skipped (cellGroup s.args.cell) (cellHalves s.args.cell) v x y s.args.z _ i.point-image.ensures.0 (omega (arith, t.before.layer-count.ensures, c.if1.false))) refl
+    members_next (l.loop.invariant v x y) (omega (arith, t.group-order.ensures)) o.group-operation.ensures
+    (plane_skipped (cell_group s.args.cell) (cell_halves s.args.cell) v x y s.args.z _ i.point-image.ensures.0 (omega (arith, t.before.layer-count.ensures, c.if1.false))) refl
 
 returns-2 : tie.Need-returns-2 invariant-loop decreases-loop
 returns-2 c e v x y =
     let l = c.before in
-    sym (members-done (l.loop.invariant v x y) (omega (arith, l.before.group-order.ensures)))
+    sym (members_done (l.loop.invariant v x y) (omega (arith, l.before.group-order.ensures)))
 
-pub meets-stored-spec : {M : Type 1} → statement M
-meets-stored-spec =
+pub meets_stored_spec : {M : Type 1} → statement M
+meets_stored_spec =
     tie.close
     (tie.spec
     invariant-loop

@@ -1,15 +1,15 @@
 -- The rows before x agree.
 use Prim.Native.Nat.{◌*◌, ◌-◌, ◌/◌}
 use native.Mathlib.Omega.{arith}
-use Rattle.cell.specs.Operations.{cellGroup, cellHalves}
-use Rattle.cell.specs.TestSteps.{rowAgrees}
-use Rattle.cell.proofs.StoredFactors.{layers-most}
-use Rattle.algebra.proofs.cells.Passing.{Passing, passing-start, passing-next, passing-stop, passing-done}
+use Rattle.cell.specs.Operations.{cell_group, cell_halves}
+use Rattle.cell.specs.TestSteps.{row_agrees}
+use Rattle.cell.proofs.StoredFactors.{layers_most}
+use Rattle.algebra.proofs.cells.Passing.{Passing, passing_start, passing_next, passing_stop, passing_done}
 use Rattle.volume.proofs.consistent.map_test.plane_agrees.Statement.{statement}
 use Rattle.volume.proofs.consistent.map_test.plane_agrees.Tie as tie
 
 abbrev invariant-loop : tie.invariant-loop
-invariant-loop cell volume z tried x₀ x = Passing (λ x. rowAgrees (cellGroup cell) (cellHalves cell) volume z x) (2 * (cell.n1 / 2)) x
+invariant-loop cell volume z tried x₀ x = Passing (λ x. row_agrees (cell_group cell) (cell_halves cell) volume z x) (2 * (cell.n1 / 2)) x
 
 abbrev decreases-loop : tie.decreases-loop
 decreases-loop cell volume z tried x₀ x = 2 * (cell.n1 / 2) - x
@@ -18,10 +18,10 @@ meets-stored-requires : tie.Need-meets-stored-requires invariant-loop decreases-
 meets-stored-requires c κs =
     let p = c.before.requires in
     let s = p.0.sizes in
-    (s, omega (arith, p.1, layers-most s.third _ s.known))
+    (s, omega (arith, p.1, layers_most s.third _ s.known))
 
 loop-holds : tie.Need-loop-init invariant-loop decreases-loop
-loop-holds c = passing-start _ _
+loop-holds c = passing_start _ _
 
 row-agrees-requires : tie.Need-row-agrees-requires invariant-loop decreases-loop
 row-agrees-requires c κs =
@@ -36,16 +36,16 @@ loop-less : tie.Need-loop-smaller invariant-loop decreases-loop
 loop-less c = omega arith
 
 loop-again : tie.Need-loop-preserved invariant-loop decreases-loop
-loop-again c = passing-next c.before.before.before.before.loop.invariant (omega arith) c.before.row-agrees.ensures c.if2.true
+loop-again c = passing_next c.before.before.before.before.loop.invariant (omega arith) c.before.row-agrees.ensures c.if2.true
 
 returns : tie.Need-returns invariant-loop decreases-loop
-returns c = passing-stop c.before.before.before.before.loop.invariant (omega arith) c.before.row-agrees.ensures c.if2.false
+returns c = passing_stop c.before.before.before.before.loop.invariant (omega arith) c.before.row-agrees.ensures c.if2.false
 
 returns-2 : tie.Need-returns-2 invariant-loop decreases-loop
-returns-2 c = passing-done c.before.before.loop.invariant (omega arith)
+returns-2 c = passing_done c.before.before.loop.invariant (omega arith)
 
-pub plane-agrees-spec : {M : Type 1} → statement M
-plane-agrees-spec =
+pub plane_agrees_spec : {M : Type 1} → statement M
+plane_agrees_spec =
     tie.close
     (tie.spec
     invariant-loop

@@ -3,17 +3,17 @@ use borrow.Author.Rules.{rules}
 use Prim.Native.Nat.{◌-◌}
 use native.Mathlib.Omega.{arith}
 use Rattle.algebra.specs.cells.Cell.{one, ops}
-use Rattle.cell.specs.Operations.{cellGroup, cellHalves, point_of}
-use Rattle.cell.specs.TestSteps.{pointImageAgrees}
-use Rattle.cell.proofs.OperationLaws.{first-own, order_least}
-use Rattle.algebra.proofs.cells.Passing.{PassingMembers, members-second, members-next, members-stop, members-done}
-use Rattle.volume.proofs.consistent.TestLaws.{identity-point}
+use Rattle.cell.specs.Operations.{cell_group, cell_halves, point_of}
+use Rattle.cell.specs.TestSteps.{point_image_agrees}
+use Rattle.cell.proofs.OperationLaws.{first_own, order_least}
+use Rattle.algebra.proofs.cells.Passing.{PassingMembers, members_second, members_next, members_stop, members_done}
+use Rattle.volume.proofs.consistent.TestLaws.{identity_point}
 use Rattle.volume.proofs.consistent.map_test.point_agrees.Statement.{statement}
 use Rattle.volume.proofs.consistent.map_test.point_agrees.Tie as tie
 
 abbrev invariant-loop : tie.invariant-loop
 invariant-loop cell volume p count number₀ number =
-    PassingMembers (ops (cellGroup cell)) one (pointImageAgrees (cellGroup cell) (cellHalves cell) volume (point_of p)) number
+    PassingMembers (ops (cell_group cell)) one (point_image_agrees (cell_group cell) (cell_halves cell) volume (point_of p)) number
 
 abbrev decreases-loop : tie.decreases-loop
 decreases-loop cell volume p count number₀ number = count - number
@@ -25,7 +25,7 @@ loop-holds : tie.Need-loop-init invariant-loop decreases-loop
 loop-holds c =
     let s = c.before.before in
     let known = s.requires.0.sizes.known in
-    members-second (order_least s.args.cell.group known) (first-own s.args.cell.group known) (identity-point (cellGroup s.args.cell) (cellHalves s.args.cell) s.args.volume.now (point_of s.args.p))
+    members_second (order_least s.args.cell.group known) (first_own s.args.cell.group known) (identity_point (cell_group s.args.cell) (cell_halves s.args.cell) s.args.volume.now (point_of s.args.p))
 
 group-operation-requires : tie.Need-group-operation-requires invariant-loop decreases-loop
 group-operation-requires c κs =
@@ -45,21 +45,21 @@ loop-again : tie.Need-loop-preserved invariant-loop decreases-loop
 loop-again c =
     let t = c.before.before in
     let l = t.before.before in
-    members-next l.loop.invariant (omega (arith, l.before.group-order.ensures)) t.group-operation.ensures c.before.image-agrees.ensures c.if1.true
+    members_next l.loop.invariant (omega (arith, l.before.group-order.ensures)) t.group-operation.ensures c.before.image_agrees_lem.ensures c.if1.true
 
 returns : tie.Need-returns invariant-loop decreases-loop
 returns c =
     let t = c.before.before in
     let l = t.before.before in
-    members-stop l.loop.invariant (omega (arith, l.before.group-order.ensures)) t.group-operation.ensures c.before.image-agrees.ensures c.if1.false
+    members_stop l.loop.invariant (omega (arith, l.before.group-order.ensures)) t.group-operation.ensures c.before.image_agrees_lem.ensures c.if1.false
 
 returns-2 : tie.Need-returns-2 invariant-loop decreases-loop
 returns-2 c =
     let l = c.before in
-    members-done l.loop.invariant (omega (arith, l.before.group-order.ensures))
+    members_done l.loop.invariant (omega (arith, l.before.group-order.ensures))
 
-pub point-agrees-spec : {M : Type 1} → statement M
-point-agrees-spec =
+pub point_agrees_spec : {M : Type 1} → statement M
+point_agrees_spec =
     tie.close
     (tie.spec
     invariant-loop

@@ -1,8 +1,8 @@
 -- The points agree, and the row ends with two zeros: the pair after its last point.
 use borrow.Author.Rules.{rules}
 use native.Mathlib.Omega.{arith}
-use Rattle.cell.specs.Operations.{cellGroup, cellHalves}
-use Rattle.algebra.proofs.cells.Passing.{both-passed, first-failed}
+use Rattle.cell.specs.Operations.{cell_group, cell_halves}
+use Rattle.algebra.proofs.cells.Passing.{both_passed, first_failed}
 use Rattle.cell.proofs.StoredFactors.{pair_inside}
 use Rattle.volume.proofs.consistent.TestLaws.{row_ends}
 use Rattle.volume.proofs.consistent.map_test.row_agrees.Statement.{statement}
@@ -21,11 +21,11 @@ returns : tie.Need-returns
 returns c =
     let i = c.before.before.before in
     let a = i.before.before.before.args in
-    both-passed i.before.points-agree.ensures i.if1.true
-    (row_ends (cellGroup a.cell) (cellHalves a.cell) a.volume.now a.z a.x c.before.pair-at.ensures c.is_zero.ensures)
+    both_passed i.before.points-agree.ensures i.if1.true
+    (row_ends (cell_group a.cell) (cell_halves a.cell) a.volume.now a.z a.x c.before.pair_at_lem.ensures c.is_zero.ensures)
 
 returns-2 : tie.Need-returns-2
-returns-2 c = first-failed _ c.before.points-agree.ensures c.if1.false
+returns-2 c = first_failed _ c.before.points-agree.ensures c.if1.false
 
-pub row-agrees-spec : {M : Type 1} → statement M
-row-agrees-spec = tie.close (tie.spec points-agree-requires pair-at-requires is-zero-requires returns returns-2)
+pub row_agrees_spec : {M : Type 1} → statement M
+row_agrees_spec = tie.close (tie.spec points-agree-requires pair-at-requires is-zero-requires returns returns-2)

@@ -1,4 +1,6 @@
 // A set of small numbers in a lent slice of words: number q is in the set if bit q % 64 of word q / 64 is 1.
+#![tactic(auto)]
+
 ghost use Rattle.std.specs.Prelude.{◌≡◌, ◌*◌, ◌<◌, length};
 ghost use Rattle.bits.specs.Set.{in_set, Inserted};
 

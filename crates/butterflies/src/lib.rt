@@ -6,6 +6,8 @@
 // e(1/2) is -1 and e(1/4) is i or -i, so that radix 2 and 4 need no product. At radix 3 and 5 the powers of w = e(1/B) come in conjugate
 // pairs, w^(B - k) = c - i s where w^k = c + i s: the values a and b that they multiply enter every sum as c (a + b) and s i (a - b), and
 // the sums 1 and B - 1, or 2 and 3, differ in the sign of the second.
+#![tactic(auto)]
+
 pub mod quarter_turn; // quarter_turn.rt
 pub mod twiddle; // twiddle.rt
 pub mod radix; // radix.rt

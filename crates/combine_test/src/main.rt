@@ -1,6 +1,8 @@
 // Combines the maps of standard input and prints what each call answers and leaves: the refusal's number or 0, how many numbers were
 // written, and two checksums of the whole output. tools/combine_cases.py writes the calls and says what a record holds, and computes by
 // brute force what this program must print.
+#![tactic(auto)]
+
 ghost use Rattle.std.specs.Prelude.{◌≤◌, length};
 
 use job::{Axis, Job};

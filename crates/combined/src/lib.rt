@@ -1,4 +1,6 @@
 // Combined maps: signed whole numbers in the layout of a map, made of two maps of one cell, one for each prime.
+#![tactic(auto)]
+
 pub mod chinese; // chinese.rt: the whole number next to zero with two given residues
 pub mod reading; // reading.rt: the number of a point, as a call
 

@@ -1,4 +1,6 @@
 // The combined map of two jobs: two maps of one cell, one for each prime, become one of signed whole numbers.
+#![tactic(auto)]
+
 pub mod check; // check.rt: the refusals
 
 ghost use Rattle.std.specs.Prelude.{◌≡◌};

@@ -1,5 +1,7 @@
 // The correlation of two combined maps, which is the paper's overlay: at each shift the sum over all points of the products of their
 // numbers, exactly. It is computed modulo each of the two primes by transforms, and refusal 28 keeps it within what both together tell.
+#![tactic(auto)]
+
 pub mod check; // check.rt: the refusals
 pub mod magnitudes; // magnitudes.rt: the largest magnitude of a map and the sum of all
 pub mod modulo; // modulo.rt: the correlation modulo one prime

@@ -3,6 +3,8 @@
 // tools/correlation_cases.py writes the calls and says what a record holds, and computes by brute force what this program must print.
 //
 // A count is one of sixteen, the limit, its neighbours and the ends of 64 bits among them.
+#![tactic(auto)]
+
 ghost use Rattle.std.specs.Prelude.{◌≡◌, length};
 
 const COUNTS: [i64; 16] = [

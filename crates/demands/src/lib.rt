@@ -1,6 +1,8 @@
 // The third demand: over every list of calls from an accepted opening or file on, every answer, the job and the volume are the
 // reference model's. Each function here does nothing; its promise is one statement of specs/Demands.antt, so that none of
 // them can vanish unnoticed.
+#![tactic(auto)]
+
 pub mod read_back; // read_back.rt: what was written reads back
 pub mod specimens; // specimens.rt: the paper's specimens
 

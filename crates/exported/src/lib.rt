@@ -3,6 +3,8 @@
 //
 // A job, a scheduler, an index and a point go in and come back by value; a buffer is a pointer and a length. Every answer has a number: 0, or
 // the paper's number of the refusal. What only an accepted call gives is zero in a refused one.
+#![tactic(auto)]
+
 pub mod answers; // answers.rt: what the calls answer, as numbers
 pub mod cells; // cells.rt: the unit cell of a viewer's file
 pub mod lanes; // lanes.rt: what the calls of a scheduler answer, as numbers

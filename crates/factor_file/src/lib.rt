@@ -1,4 +1,6 @@
 // The factor file: the opening of a job by its bytes, a header and records of structure factors; and the file of a job, written.
+#![tactic(auto)]
+
 pub mod writer; // writer.rt: the file of a job
 pub mod orbits; // orbits.rt: the lowest place of an orbit, which has its record
 pub mod record_order; // record_order.rt: the order of the records

@@ -1,6 +1,8 @@
 // The factor list of a length, chosen: for a caller who has no list of his own.
 //
 // No transform depends on the list, so any will do. This one has as few factors as can be, 4 before the others.
+#![tactic(auto)]
+
 ghost use Rattle.std.specs.Prelude.{◌≡◌, ◌≤◌, length};
 ghost use Rattle.lengths.specs.Lengths.{product};
 ghost use Rattle.output.specs.Written.{Wrote};

@@ -5,6 +5,8 @@
 // record of the orbit. No volume is lent, so the orbits that have come before are kept as a set of bits of 256 KB,
 // which covers a range of orbit places; the file is walked once for each range that its volume has, at most eight
 // times, and each walk ends at the least place that was refused so far.
+#![tactic(auto)]
+
 ghost use Rattle.std.specs.Prelude.{◌≡◌, true, false, List, ℕ, ◌+◌, ◌<◌, ◌≤◌, length, replicate};
 ghost use Rattle.refusals.specs.Refusals.{first};
 ghost use Rattle.refusals.specs.Checks.{checked_number};

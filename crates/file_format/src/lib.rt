@@ -1,5 +1,7 @@
 // The factor file as bytes: where its parts stand, what is refused of its shape, how long it is, and the reader that walks it and hands out
 // one record after another.
+#![tactic(auto)]
+
 pub mod integers; // integers.rt: its numbers
 pub mod places; // places.rt: where its parts stand
 pub mod shape; // shape.rt: what is refused of it

@@ -3,6 +3,8 @@
 //
 // A line of N = 2 A values is lent packed, as its kind says. The ends of a line (the pair 0, the middle) have formulas of their own.
 // The forms are those of document 001, proved equal to the direct sums in crate `line`.
+#![tactic(auto)]
+
 pub mod alternating; // alternating.rt
 pub mod hermitian; // hermitian.rt
 pub mod mirror; // mirror.rt

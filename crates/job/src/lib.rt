@@ -3,6 +3,8 @@
 // The job is handed in and handed back by value at each call, beside the volume that the caller lends. Each call is a check, which
 // answers the first refusal of the paper's order, and then the work. What a caller holds or hands in by value has the layout of C, so that
 // crate exported can pass it on.
+#![tactic(auto)]
+
 pub mod check; // check.rt: the refusals of every call
 pub mod unit_cell; // unit_cell.rt: the unit cell of a job
 pub mod valid; // valid.rt: which jobs an opening or a later call could have made

@@ -1,6 +1,8 @@
 // The lengths of a line: which are admitted, their factor lists, and how many pairs a packed line of each kind has.
 //
 // A factor list is a slice of bytes. An accepted one goes on as a number whose octal digits are the factors, the first lowest.
+#![tactic(auto)]
+
 pub mod stage; // stage.rt
 
 ghost use Rattle.std.specs.Prelude.{◌≡◌, true, ◌<◌, ◌≤◌, eqb};

@@ -1,4 +1,6 @@
 // One line of structure factors: the six kinds, both directions.
+#![tactic(auto)]
+
 pub mod check; // check.rt
 pub mod transform; // transform.rt
 pub mod table; // table.rt

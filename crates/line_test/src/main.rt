@@ -1,6 +1,8 @@
 // Runs the line transform on the calls of standard input and prints what each answers and leaves: the refusal's number
 // or 0, a checksum of the line, a checksum of the scratch. tools/line_cases.py writes the calls and says what a record
 // of 52 bytes holds; tools/line_expected.c computes by direct sums what this program must print.
+#![tactic(auto)]
+
 ghost use Rattle.std.specs.Prelude.{◌≡◌, ◌<◌, ◌≤◌, length};
 
 use line::LineAnswer;

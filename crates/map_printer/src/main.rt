@@ -2,6 +2,8 @@
 //
 // One byte more than the longest file is read, so that a longer one is seen. The text of every file fits into the output: `AlwaysFits` of
 // crate printing. So the printer's refusal, for an output that is too short, never comes.
+#![tactic(auto)]
+
 use libc::{STDIN_FILENO, STDOUT_FILENO};
 use output::FillAnswer;
 use printing::printer;

@@ -3,6 +3,8 @@
 // The map's shape and the cell's parameters are checked first, then its densities are read once for their range, which
 // decides whether floats can hold them and stands in the header; then the header and the densities are written, x
 // fastest.
+#![tactic(auto)]
+
 pub mod floats; // floats.rt: whole numbers as floats, and their bits
 pub mod parameters; // parameters.rt: the unit cell's edges and angles
 pub mod file_header; // file_header.rt: the header as a struct, and its words

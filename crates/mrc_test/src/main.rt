@@ -3,6 +3,8 @@
 // brute force what this program must print.
 //
 // A number of the map is one of eighteen, the ends of what a float holds and of 64 bits among them.
+#![tactic(auto)]
+
 use cell::operations::UnitCell;
 use mrc::parameters::CellParameters;
 

@@ -2,6 +2,8 @@
 //
 // Every function takes the modulus number m: 1 for 86,399 and 2 for 302,399. Contracts speak of the residues and
 // values that the numbers stand for. Products are formed in 64 bits and reduced once.
+#![tactic(auto)]
+
 pub mod reciprocals; // reciprocals.rt
 pub mod unreduced; // unreduced.rt
 pub mod division; // division.rt

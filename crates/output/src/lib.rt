@@ -1,5 +1,7 @@
 // Bytes, words and numbers that go to an output. Each function starts at a place and returns the place after its text;
 // a byte beyond the output is counted and not stored, so that a text is measured by the functions that write it.
+#![tactic(auto)]
+
 pub mod big_endian; // big_endian.rt: numbers in two and in four bytes
 pub mod little_endian; // little_endian.rt: numbers in four bytes
 

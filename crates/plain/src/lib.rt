@@ -7,6 +7,8 @@
 // and after an odd number of them the result is copied into the line. It is in its natural order after any number of steps.
 //
 // The roots are lent as tables of the powers of W: those of r, or those of its conjugate for the other direction.
+#![tactic(auto)]
+
 pub mod step; // step.rt
 pub mod scale; // scale.rt
 

@@ -1,6 +1,8 @@
 // Runs the plain transform and its inverse for both primes and many lists, on lines of the test programs' generator. A line is printed
 // for each call: the modulus number, the direction (0 forward, 1 the inverse), the packed list and a checksum of the line that is left.
 // The first factor of a list is its lowest octal digit. What it must print was computed by direct sums (tools/plain_expected.py).
+#![tactic(auto)]
+
 ghost use Rattle.std.specs.Prelude.{◌≡◌, ◌*◌, ◌/◌, ◌<◌, length};
 ghost use Rattle.numbers.specs.Value.{IsModulus};
 ghost use Rattle.roots.specs.Table.{RealTable, ImaginaryTable, RootTable};

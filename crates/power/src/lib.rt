@@ -1,6 +1,8 @@
 // The power of a map and of its factors: two sums over the whole cell, each from the stored numbers, by how often they stand in it.
 //
 // A row is reduced once, at its end: 64 bits hold the squares of its numbers, twice over.
+#![tactic(auto)]
+
 ghost use Rattle.std.specs.Prelude.{◌≡◌, true, false, ℕ, ◌+◌, ◌*◌, ◌/◌, ◌<◌, ◌≤◌, length};
 ghost use Rattle.algebra.specs.ring.Ring.{Res};
 ghost use Rattle.numbers.specs.Value.{prime, IsModulus};

@@ -1,4 +1,6 @@
 // The transform facts of a prime of the papers' shape and its root, whatever the prime. There is no code.
+#![tactic(auto)]
+
 ghost use Rattle.prime_shape.specs.Transform.{EveryPrime};
 
 // The transform facts of every prime of the shape, as a contract, so that none of them can be missed.

@@ -1,5 +1,7 @@
 // The map printer's work: from the bytes of a factor file to the text of its map, or of its refusal. The file is opened in a
 // volume of the printer's own, of the length that `limits` says; the map is synthesised there, and `map_text` writes it.
+#![tactic(auto)]
+
 pub mod limits; // limits.rt: how long a file and a volume may be
 pub mod map_text; // map_text.rt: the text of a map, and of a refusal
 pub mod row_values; // row_values.rt: the values of a row

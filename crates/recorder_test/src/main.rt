@@ -2,6 +2,8 @@
 // openings of factor files, sound and damaged, scripts of calls, and the files of jobs. tools/test_records.py says what the input holds
 // and what is printed; tools/job_cases.py and tools/file_cases.py write the input and compute by brute force what must be printed.
 // Scripts are replayed here; `cases` does what every other record asks.
+#![tactic(auto)]
+
 mod cases; // cases.rt: the records that ask for one call
 
 ghost use Rattle.std.specs.Prelude.{◌≡◌, ◌+◌, ◌<◌, ◌≤◌, length};

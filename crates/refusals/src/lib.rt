@@ -1,6 +1,8 @@
 // The refusals: each has the paper's number, and a call answers the first that holds of its tests in the paper's order.
 //
 // Every call is refused in this way; what each tests is said where its check is.
+#![tactic(auto)]
+
 ghost use Rattle.std.specs.Prelude.{◌≡◌};
 ghost use Rattle.refusals.specs.Refusals.{number_of};
 

@@ -1,6 +1,8 @@
 // The root r of order 2,880: the constant tables of its powers and of its half tangents, how a table is read and negated, and its laws.
 //
 // The negated imaginary parts and half tangents are those of 1/r, so that one and the same code serves both directions.
+#![tactic(auto)]
+
 pub mod powers; // powers.rt: the real and the imaginary parts of the powers
 pub mod half_tangents; // half_tangents.rt
 

@@ -4,6 +4,8 @@
 //
 // The scheduler is kept from call to call, as the last one left it, and so is every lane's volume: records set their numbers, to what no
 // call could have left too.
+#![tactic(auto)]
+
 mod fields; // fields.rt: a scheduler and a job by their numbers
 
 use job::{Answer, Job};

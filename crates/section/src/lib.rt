@@ -2,6 +2,8 @@
 // remainder at its end.
 //
 // Every line has one width, so the length of the page is known before anything is written.
+#![tactic(auto)]
+
 mod check; // check.rt: the refusals
 mod fields; // fields.rt: right-aligned numbers, closing lines
 mod floor; // floor.rt: division rounded down

@@ -3,6 +3,8 @@
 // calls and says what a record holds, and computes by brute force what this program must print.
 //
 // A number of a map is one of twenty-eight, the ends of the range and those of 64 bits among them.
+#![tactic(auto)]
+
 use libc::STDOUT_FILENO;
 
 const COUNTS: [i64; 28] = [

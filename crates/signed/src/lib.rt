@@ -1,4 +1,6 @@
 // Whole numbers with a sign: the one next to zero that is congruent to a residue, the magnitude of any, division rounded down.
+#![tactic(auto)]
+
 ghost use Rattle.std.specs.Prelude.{◌≡◌, ◌<◌};
 ghost use Rattle.signed.specs.Integers.{nat_abs, centred, CentredOnly, FloorDivision};
 

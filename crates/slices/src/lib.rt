@@ -1,5 +1,7 @@
 // Pairs in a slice of u32: read, stored and copied. The pair at place j is the numbers 2 j and 2 j + 1.
 // Nothing here computes with the values.
+#![tactic(auto)]
+
 pub mod buffers; // buffers.rt
 pub mod gathering; // gathering.rt
 

@@ -1,6 +1,8 @@
 // The drift of a crystal: over a run of scores, the least and the greatest of every w neighbouring entries, and the first place of each.
 //
 // A window moves over the run one entry at a time. The work is the same for every w: `extremes` takes w windows at a time.
+#![tactic(auto)]
+
 pub mod check; // check.rt
 pub mod extremes; // extremes.rt
 pub mod order; // order.rt

@@ -1,4 +1,6 @@
 // What the test programs share: numbers of the input, buffers filled, checksums, lines of numbers printed.
+#![tactic(auto)]
+
 ghost use Rattle.std.specs.Prelude.{◌≡◌, ℕ, ◌+◌, ◌*◌, ◌%◌, ◌<◌, ◌≤◌, min, length, get_or, set, replicate, take, drop};
 ghost use Rattle.test_io.specs.Checksum.{checksum_of};
 

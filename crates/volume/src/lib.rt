@@ -1,4 +1,6 @@
 // A lent volume of a cell: what is read from it, what a record writes, and whether it can be a cell's at all.
+#![tactic(auto)]
+
 pub mod stored; // stored.rt: what stands at the stored places
 pub mod read; // read.rt: the factor at any index of the cell
 pub mod write; // write.rt: a factor at its stored place

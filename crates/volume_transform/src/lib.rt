@@ -4,6 +4,8 @@
 // go up to sixteen at a time (`groups`).
 //
 // Direction 0 is synthesis, with the tables of the root, direction 1 analysis, with those of its conjugate.
+#![tactic(auto)]
+
 pub mod plan; // plan.rt: what is to be done, and a line of it
 pub mod axis_lines; // axis_lines.rt: the lines along h and k, and how many there are
 pub mod numbering; // numbering.rt: all lines by their numbers

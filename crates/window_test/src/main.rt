@@ -3,6 +3,8 @@
 // record holds, and computes by brute force what this program must print.
 //
 // A score is one of eight, the ends of 64 bits among them, so that most windows have ties.
+#![tactic(auto)]
+
 ghost use Rattle.std.specs.Prelude.{◌≤◌, length};
 
 const SCORES: [i64; 8] = [

@@ -13,11 +13,13 @@ module _ {S J R : Type 0} {𝓐 : Acts S J R} {In : J → Type 0} (𝓛 : Action
   unfolding OffAll
   off_all_at i r (q ∷ rs) o first = o.0
   off_all_at i r (q ∷ rs) o (later m) = off_all_at i r rs o.1 m
+  off_all_at i r [] o x'' = elim x'' [ ]
 
   pub sound_inside : (r : J × R) (rs : List (J × R)) → Sound 𝓐 In G rs → Mem r rs → In r.0
   unfolding Sound
   sound_inside r (q ∷ rs) o first = o.0.0
   sound_inside r (q ∷ rs) o (later m) = sound_inside r rs o.2 m
+  sound_inside r [] o x'' = elim x'' [ ]
 
   -- a place that no record's orbit holds
   pub all_off : (rs : List (J × R)) (F : J → R) (j : J) → ((r : J × R) → Mem r rs → Off 𝓐 G r.0 j) → record_all 𝓐 G rs F j ≡ F j
@@ -32,6 +34,7 @@ module _ {S J R : Type 0} {𝓐 : Acts S J R} {In : J → Type 0} (𝓛 : Action
       all_off rs _ (image s r.0) (λ t mt. O.off_image 𝓛 G 𝓖 s t.0 r.0 (sound_inside t rs o.2 mt) o.0.0 m (O.off_sym 𝓛 G 𝓖 r.0 t.0 o.0.0 (sound_inside t rs o.2 mt) (off_all_at r.0 t rs o.1 mt)))
       ∙ O.record_at_lem 𝓛 G 𝓖 s r.0 r.1 F o.0.0 m o.0.1
   all_at (q ∷ rs) F r s o (later h) m = all_at rs _ r s o.2 h m
+  all_at [] F r s o x3 m = elim x3 [ ]
 
   -- the order is free
   off_perm : (i : J) {rs qs : List (J × R)} → Perm rs qs → OffAll 𝓐 G i rs → OffAll 𝓐 G i qs

@@ -43,6 +43,7 @@ module _ {S J R : Type 0} {𝓐 : Acts S J R} {In : J → Type 0} (𝓛 : Action
         (λ t. ap (get (put b (image s j) (implied s j v))) (inv e) ∙ get_same b (image s j) (implied s j v) (image_inside s j n) t (image_agrees_lem s j v n (sub s first) c))
         (λ t. absurd (T_not (stored (image s j)) t (subst (λ y. T (stored y)) (inv e) st))))
     loop_hit (r ∷ l) sub b j v n c i' n' st s (later m) e = loop_hit l (λ t m. sub t (later m)) _ j v n c i' n' st s m e
+    loop_hit [] sub b j v n c i' n' st s x7 e = elim x7 [ ]
 
     loop_miss : (b : B) (j : J) (v : R) → In j → AgreesWithItself 𝓐 G j v → (i' : J) → In i' → T (stored i') → ((s : S) → Mem s G → image s j ≡ i' → ⊥) → get (put_all 𝓐 put stored G b j v) i' ≡ get b i'
     loop_miss b j v n c i' n' st f = loop_at G (λ s m. m) b j v n c i' n' st (get b i') (λ s m e. absurd (f s m e)) refl

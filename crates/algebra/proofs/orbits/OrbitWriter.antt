@@ -62,10 +62,11 @@ module _ {S J R : Type 0} {𝓐 : Acts S J R} {In : J → Type 0} (𝓛 : Action
   best_in : (j : J) (l : List S) {s : S} → Mem s l → Best j l
   best_in j (x ∷ l) first = best j x l
   best_in j (x ∷ l) (later m) = best j x l
+  best_in j [] {s = s} x' = elim x' [ ]
 
   -- every orbit has a lowest place, and one only
   pub lowest_of : (j : J) → In j → (s : S) × Mem s G × T (lowest 𝓐 le eq G (image s j))
-  lowest_of j n = go (best_in j G 𝓖.Has-one)
+  lowest_of j n = go (best_in j G 𝓖.has_one)
     where
       go : Best j G → (s : S) × Mem s G × T (lowest 𝓐 le eq G (image s j))
       go (b, m, f) = (b, m, every_by G _ (λ t mt. subst (λ y. T (le (image b j) y)) (inv (𝓛.image_image t b j n)) (f (mul t b) (𝓖.has_mul t b mt m))))
@@ -102,6 +103,7 @@ module _ {S J R : Type 0} {𝓐 : Acts S J R} {In : J → Type 0} (𝓛 : Action
     unfolding records_of
     found (i ∷ l) j first t = split (Taken j) (λ b. Mem (j, F j) (cond b ((j, F j) ∷ Rec l) (Rec l))) (λ u. first) (λ u. absurd (T_not (Taken j) u t))
     found (i ∷ l) j (later m) t = split (Taken i) (λ b. Mem (j, F j) (cond b ((i, F i) ∷ Rec l) (Rec l))) (λ u. later (found l j m t)) (λ u. found l j m t)
+    found [] j x'' t = elim x'' [ ]
 
     off_by : (i : J) (rs : List (J × R)) → ((r : J × R) → Mem r rs → Off 𝓐 G i r.0) → OffAll 𝓐 G i rs
     unfolding OffAll

@@ -60,6 +60,7 @@ pub every_at : {S : Type 0} (l : List S) (P : S → Bool) (s : S) → T (every l
 unfolding every
 every_at (u ∷ l) P s t first = and_l (P s) _ t
 every_at (u ∷ l) P s t (later m) = every_at l P s (and_r (P u) _ t) m
+every_at {S = S} [] P s t x'' = elim x'' [ ]
 
 pub every_by : {S : Type 0} (l : List S) (P : S → Bool) → ((s : S) → Mem s l → T (P s)) → T (every l P)
 unfolding every
@@ -76,6 +77,7 @@ pub some_by : {S : Type 0} (l : List S) (P : S → Bool) (s : S) → Mem s l →
 unfolding some
 some_by (u ∷ l) P s first t = or_l (P s) _ t
 some_by (u ∷ l) P s (later m) t = or_r (P u) _ (some_by l P s m t)
+some_by {S = S} [] P s x'' t = elim x'' [ ]
 
 pub below_at : (n : ℕ) (P : ℕ → Bool) (k : ℕ) → T (below n P) → k < n → T (P k)
 unfolding below

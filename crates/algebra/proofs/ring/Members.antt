@@ -14,6 +14,7 @@ module _ {S : Type 0} where
   pub mem_left : (l m : List S) {s : S} → Mem s l → Mem s (l ++ m)
   mem_left (x ∷ l) m first = first
   mem_left (x ∷ l) m (later h) = later (mem_left l m h)
+  mem_left [] m {s = s} x' = elim x' [ ]
 
   pub mem_right : (l m : List S) {s : S} → Mem s m → Mem s (l ++ m)
   mem_right [] m h = h

@@ -13,48 +13,48 @@ use Rattle.bits.proofs.insert.Statement.{statement}
 use Rattle.bits.proofs.insert.Tie as tie
 
 -- the bit is 0 where the test fails
-clear : (c : tie.Else1) → let a = c.before.before.args in bit_of (get_or a.set.now (a.q / 64) 0) (a.q % 64) ≡ 0
+clear : (c : tie.Else-old-bit-eq1) → let a = c.before.before.args in bit_of (get_or a.set.now (a.q / 64) 0) (a.q % 64) ≡ 0
 unfolding bit_of
-clear c = let a = c.before.before.args in bit_clear (get_or a.set.now (a.q / 64) 0) (a.q % 64) c.if1.false
+clear c = let a = c.before.before.args in bit_clear (get_or a.set.now (a.q / 64) 0) (a.q % 64) c.if-old-bit-eq1.false
 
-mul-old : tie.Need-overflow-mul-old
-mul-old c = search rules
+offset_bounds-set-word : tie.Need-offset_bounds-set-word
+offset_bounds-set-word c = search rules
 
-slice-read-old : tie.Need-slice-read-old
-slice-read-old c = search rules
+bounds-set-word : tie.Need-bounds-set-word
+bounds-set-word c = search rules
 
-shr-if1 : tie.Need-overflow-shr-if1
-shr-if1 c = search rules
+overflow_shr-old : tie.Need-overflow_shr-old
+overflow_shr-old c = search rules
 
-returns : tie.Need-returns
+returns-then-old-bit-eq1 : tie.Need-returns-then-old-bit-eq1
 unfolding in_set bit_of
-returns c =
+returns-then-old-bit-eq1 c =
     let a = c.before.before.args in
-    let e : true ≡ in_set a.set.now a.q = sym (eq-eqb _ 1 c.if1.true) in
+    let e : true ≡ in_set a.set.now a.q = sym (eq-eqb _ 1 c.if-old-bit-eq1.true) in
     (e, inserted_again a.set.now a.q (sym e))
 
-shl-set : tie.Need-overflow-shl-set
-shl-set c = search rules
+overflow_shl-set : tie.Need-overflow_shl-set
+overflow_shl-set c = search rules
 
-add-set : tie.Need-overflow-add-set
-add-set c =
+overflow_add-set : tie.Need-overflow_add-set
+overflow_add-set c =
     let a = c.before.before.args in
     let u = unit (a.q % 64) (omega arith) in
     let w = get_or a.set.now (a.q / 64) 0 in
-    record { fits = subst (λ n. w + n < 18446744073709551616) (sym u) (added_fits 64 (a.q % 64) w (omega arith) (omega (arith, c.before.slice-known.given (a.q / 64))) (clear c)) }
+    record { fits = subst (λ n. w + n < 18446744073709551616) (sym u) (added_fits 64 (a.q % 64) w (omega arith) (omega (arith, c.before.slice_known-1.given (a.q / 64))) (clear c)) }
 
-mul-set : tie.Need-overflow-mul-set
-mul-set c = search rules
+offset_bounds-set-word-2 : tie.Need-offset_bounds-set-word-2
+offset_bounds-set-word-2 c = search rules
 
-slice-write-set : tie.Need-slice-write-set
-slice-write-set c = search rules
+bounds-set-word-2 : tie.Need-bounds-set-word-2
+bounds-set-word-2 c = search rules
 
-same_length : tie.Need-same-length
-same_length c = search rules
+shape_of-set : tie.Need-shape_of-set
+shape_of-set c = search rules
 
-returns-2 : tie.Need-returns-2
+returns : tie.Need-returns
 unfolding in_set
-returns-2 c =
+returns c =
     let a = c.before.before.args in
     let s = a.set.now in
     let w = get_or s (a.q / 64) 0 in
@@ -64,14 +64,4 @@ returns-2 c =
 pub insert_spec : {M : Type 1} → statement M
 insert_spec =
     tie.close
-    (tie.spec
-    mul-old
-    slice-read-old
-    shr-if1
-    returns
-    shl-set
-    add-set
-    mul-set
-    slice-write-set
-    same_length
-    returns-2)
+    (tie.spec offset_bounds-set-word bounds-set-word overflow_shr-old returns-then-old-bit-eq1 overflow_shl-set overflow_add-set offset_bounds-set-word-2 bounds-set-word-2 shape_of-set returns)

@@ -14,7 +14,7 @@ sub-requires-2 c κs = search rules
 
 returns : tie.Need-returns
 unfolding gauss value_of pair_of
-returns c = pair_path c.before.sub.ensures c.sub2.ensures
+returns c = pair_path c.before.sub.ensures c.sub-2.ensures
 
 pub difference_spec : {M : Type 1} → statement M
 difference_spec = tie.close (tie.spec sub-requires sub-requires-2 returns)

@@ -5,17 +5,17 @@ use Rattle.numbers.proofs.Parts.{halve_even, halve_odd}
 use Rattle.numbers.proofs.halve.Statement.{statement}
 use Rattle.numbers.proofs.halve.Tie as tie
 
-modulus-requires : tie.Need-modulus-requires
-modulus-requires c κs = search rules
+modulus-p-requires : tie.Need-modulus-p-requires
+modulus-p-requires c κs = search rules
 
-add-result : tie.Need-overflow-add-result
-add-result c = search rules
+overflow_add-result : tie.Need-overflow_add-result
+overflow_add-result c = search rules
 
-returns : tie.Need-returns
-returns c = halve_even _ _ (omega arith) c.if1.true
+returns-then-a-eq0 : tie.Need-returns-then-a-eq0
+returns-then-a-eq0 c = halve_even _ _ (omega arith) c.if-a-eq0.true
 
-returns-2 : tie.Need-returns-2
-returns-2 c = rw c.before.modulus.ensures.0 (halve_odd _ _ (omega arith) c.if1.false)
+returns-else-a-eq0 : tie.Need-returns-else-a-eq0
+returns-else-a-eq0 c = rw c.before.modulus-p.ensures.0 (halve_odd _ _ (omega arith) c.if-a-eq0.false)
 
 pub halve_spec : {M : Type 1} → statement M
-halve_spec = tie.close (tie.spec modulus-requires add-result returns returns-2)
+halve_spec = tie.close (tie.spec modulus-p-requires overflow_add-result returns-then-a-eq0 returns-else-a-eq0)

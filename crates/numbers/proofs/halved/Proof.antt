@@ -14,7 +14,7 @@ halve-requires-2 c κs = search rules
 
 returns : tie.Need-returns
 unfolding value_of pair_of
-returns c = pair_path c.before.halve.ensures c.halve2.ensures ∙ ap pair_of (sym (real_times _ _ _))
+returns c = pair_path c.before.halve.ensures c.halve-2.ensures ∙ ap pair_of (sym (real_times _ _ _))
 
 pub halved_spec : {M : Type 1} → statement M
 halved_spec = tie.close (tie.spec halve-requires halve-requires-2 returns)

@@ -6,17 +6,17 @@ use Rattle.numbers.proofs.Residues.{negation_zero, negation_below}
 use Rattle.numbers.proofs.neg.Statement.{statement}
 use Rattle.numbers.proofs.neg.Tie as tie
 
-modulus-requires : tie.Need-modulus-requires
-modulus-requires c κs = search rules
+modulus-p-requires : tie.Need-modulus-p-requires
+modulus-p-requires c κs = search rules
 
-sub-result : tie.Need-overflow-sub-result
-sub-result c = search rules
+overflow_sub-result : tie.Need-overflow_sub-result
+overflow_sub-result c = search rules
 
-returns : tie.Need-returns
-returns c = negation_zero _ _ (prime_pos _) c.if1.true
+returns-then-a-eq0 : tie.Need-returns-then-a-eq0
+returns-then-a-eq0 c = negation_zero _ _ (prime_pos _) c.if-a-eq0.true
 
-returns-2 : tie.Need-returns-2
-returns-2 c = rw c.before.modulus.ensures.0 (negation_below _ _ (omega arith) c.if1.false)
+returns-else-a-eq0 : tie.Need-returns-else-a-eq0
+returns-else-a-eq0 c = rw c.before.modulus-p.ensures.0 (negation_below _ _ (omega arith) c.if-a-eq0.false)
 
 pub neg_spec : {M : Type 1} → statement M
-neg_spec = tie.close (tie.spec modulus-requires sub-result returns returns-2)
+neg_spec = tie.close (tie.spec modulus-p-requires overflow_sub-result returns-then-a-eq0 returns-else-a-eq0)

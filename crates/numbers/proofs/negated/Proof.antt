@@ -14,7 +14,7 @@ neg-requires-2 c κs = search rules
 
 returns : tie.Need-returns
 unfolding gauss value_of pair_of
-returns c = pair_path c.before.neg.ensures c.neg2.ensures
+returns c = pair_path c.before.neg.ensures c.neg-2.ensures
 
 pub negated_spec : {M : Type 1} → statement M
 negated_spec = tie.close (tie.spec neg-requires neg-requires-2 returns)

@@ -5,19 +5,19 @@ use Rattle.numbers.proofs.Primes.{prime_one, prime_two}
 use Rattle.numbers.proofs.reduce.Statement.{statement}
 use Rattle.numbers.proofs.reduce.Tie as tie
 
-cast-result : tie.Need-overflow-cast-result
-cast-result c = search rules
+overflow_cast-result : tie.Need-overflow_cast-result
+overflow_cast-result c = search rules
 
-cast-result-2 : tie.Need-overflow-cast-result-2
-cast-result-2 c = search rules
+overflow_cast-result-else-m-eq1 : tie.Need-overflow_cast-result-else-m-eq1
+overflow_cast-result-else-m-eq1 c = search rules
 
-returns : tie.Need-returns
+returns-then-m-eq1 : tie.Need-returns-then-m-eq1
 unfolding residue
-returns c = rw (prime_one c.if1.true)
+returns-then-m-eq1 c = rw (prime_one c.if-m-eq1.true)
 
-returns-2 : tie.Need-returns-2
+returns-else-m-eq1 : tie.Need-returns-else-m-eq1
 unfolding residue
-returns-2 c = rw (prime_two c.before.requires c.if1.false)
+returns-else-m-eq1 c = rw (prime_two c.before.requires c.if-m-eq1.false)
 
 pub reduce_spec : {M : Type 1} → statement M
-reduce_spec = tie.close (tie.spec cast-result cast-result-2 returns returns-2)
+reduce_spec = tie.close (tie.spec overflow_cast-result overflow_cast-result-else-m-eq1 returns-then-m-eq1 returns-else-m-eq1)

@@ -24,17 +24,17 @@ quotient-requires c κs = search rules
 modulus-requires : tie.Need-modulus-requires
 modulus-requires c κs = search rules
 
-cast-result : tie.Need-overflow-cast-result
-cast-result c = search rules
+overflow_cast-result : tie.Need-overflow_cast-result
+overflow_cast-result c = search rules
 
-mul-result : tie.Need-overflow-mul-result
-mul-result c = omega (arith, left c, c.before.before.requires.1)
+overflow_mul-result : tie.Need-overflow_mul-result
+overflow_mul-result c = omega (arith, left c, c.before.before.requires.1)
 
-sub-result : tie.Need-overflow-sub-result
-sub-result c = omega (arith, left c)
+overflow_sub-result : tie.Need-overflow_sub-result
+overflow_sub-result c = omega (arith, left c)
 
-cast-result-2 : tie.Need-overflow-cast-result-2
-cast-result-2 c = let a = c.before.before.args in omega (arith, left c, mod-lt a.x (prime_pos a.m), c.modulus.ensures)
+overflow_cast-result-2 : tie.Need-overflow_cast-result-2
+overflow_cast-result-2 c = let a = c.before.before.args in omega (arith, left c, mod-lt a.x (prime_pos a.m), c.modulus.ensures)
 
 returns : tie.Need-returns
 unfolding residue
@@ -45,4 +45,4 @@ returns c =
 pub reduce_below_spec : {M : Type 1} → statement M
 reduce_below_spec =
     tie.close
-    (tie.spec quotient-requires modulus-requires cast-result mul-result sub-result cast-result-2 returns)
+    (tie.spec quotient-requires modulus-requires overflow_cast-result overflow_mul-result overflow_sub-result overflow_cast-result-2 returns)

@@ -13,7 +13,7 @@ reduce-requires-2 c κs = search rules
 
 returns : tie.Need-returns
 unfolding pair_of
-returns c = pair_path c.before.reduce.ensures c.reduce2.ensures
+returns c = pair_path c.before.reduce.ensures c.reduce-2.ensures
 
 pub reduced_spec : {M : Type 1} → statement M
 reduced_spec = tie.close (tie.spec reduce-requires reduce-requires-2 returns)

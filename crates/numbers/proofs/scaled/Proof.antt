@@ -14,7 +14,7 @@ mul-requires-2 c κs = search rules
 
 returns : tie.Need-returns
 unfolding value_of pair_of
-returns c = pair_path c.before.mul.ensures c.mul2.ensures ∙ ap pair_of (sym (real_times _ _ _))
+returns c = pair_path c.before.mul.ensures c.mul-2.ensures ∙ ap pair_of (sym (real_times _ _ _))
 
 pub scaled_spec : {M : Type 1} → statement M
 scaled_spec = tie.close (tie.spec mul-requires mul-requires-2 returns)

@@ -5,20 +5,20 @@ use Rattle.numbers.proofs.Residues.{difference_above, difference_below}
 use Rattle.numbers.proofs.sub.Statement.{statement}
 use Rattle.numbers.proofs.sub.Tie as tie
 
-modulus-requires : tie.Need-modulus-requires
-modulus-requires c κs = search rules
+modulus-p-requires : tie.Need-modulus-p-requires
+modulus-p-requires c κs = search rules
 
-sub-result : tie.Need-overflow-sub-result
-sub-result c = search rules
+overflow_sub-result-else-b-a : tie.Need-overflow_sub-result-else-b-a
+overflow_sub-result-else-b-a c = search rules
 
-add-result : tie.Need-overflow-add-result
-add-result c = search rules
+overflow_add-result : tie.Need-overflow_add-result
+overflow_add-result c = search rules
 
-returns : tie.Need-returns
-returns c = difference_above _ _ _ (omega arith) (omega arith)
+returns-then-b-a : tie.Need-returns-then-b-a
+returns-then-b-a c = difference_above _ _ _ (omega arith) (omega arith)
 
-returns-2 : tie.Need-returns-2
-returns-2 c = rw c.before.modulus.ensures.0 (difference_below _ _ _ (omega arith) (omega arith))
+returns-else-b-a : tie.Need-returns-else-b-a
+returns-else-b-a c = rw c.before.modulus-p.ensures.0 (difference_below _ _ _ (omega arith) (omega arith))
 
 pub sub_spec : {M : Type 1} → statement M
-sub_spec = tie.close (tie.spec modulus-requires sub-result add-result returns returns-2)
+sub_spec = tie.close (tie.spec modulus-p-requires overflow_sub-result-else-b-a overflow_add-result returns-then-b-a returns-else-b-a)

@@ -14,7 +14,7 @@ add-requires-2 c κs = search rules
 
 returns : tie.Need-returns
 unfolding gauss value_of pair_of
-returns c = pair_path c.before.add.ensures c.add2.ensures
+returns c = pair_path c.before.add.ensures c.add-2.ensures
 
 pub sum_spec : {M : Type 1} → statement M
 sum_spec = tie.close (tie.spec add-requires add-requires-2 returns)

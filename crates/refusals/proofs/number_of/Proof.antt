@@ -5,247 +5,187 @@ use Rattle.refusals.specs.Refusals.{number_of}
 use Rattle.refusals.proofs.number_of.Statement.{statement}
 use Rattle.refusals.proofs.number_of.Tie as tie
 
-enum_told : tie.Need-enum-told
-enum_told c = search rules
+enum_told-1 : tie.Need-enum_told-1
+enum_told-1 c = search rules
 
-enum-told-2 : tie.Need-enum-told-2
-enum-told-2 c = search rules
+enum_told-in-Direction : tie.Need-enum_told-in-Direction
+enum_told-in-Direction c = search rules
 
-enum-told-3 : tie.Need-enum-told-3
-enum-told-3 c = search rules
+enum_told-in-Length : tie.Need-enum_told-in-Length
+enum_told-in-Length c = search rules
 
-enum-told-4 : tie.Need-enum-told-4
-enum-told-4 c = search rules
+enum_told-in-Factor : tie.Need-enum_told-in-Factor
+enum_told-in-Factor c = search rules
 
-enum-told-5 : tie.Need-enum-told-5
-enum-told-5 c = search rules
+enum_told-in-Product : tie.Need-enum_told-in-Product
+enum_told-in-Product c = search rules
 
-enum-told-6 : tie.Need-enum-told-6
-enum-told-6 c = search rules
+enum_told-in-BufferLength : tie.Need-enum_told-in-BufferLength
+enum_told-in-BufferLength c = search rules
 
-enum-told-7 : tie.Need-enum-told-7
-enum-told-7 c = search rules
+enum_told-in-NotResidue : tie.Need-enum_told-in-NotResidue
+enum_told-in-NotResidue c = search rules
 
-enum-told-8 : tie.Need-enum-told-8
-enum-told-8 c = search rules
+enum_told-in-Group : tie.Need-enum_told-in-Group
+enum_told-in-Group c = search rules
 
-enum-told-9 : tie.Need-enum-told-9
-enum-told-9 c = search rules
+enum_told-in-VolumeTooLarge : tie.Need-enum_told-in-VolumeTooLarge
+enum_told-in-VolumeTooLarge c = search rules
 
-enum-told-10 : tie.Need-enum-told-10
-enum-told-10 c = search rules
+enum_told-in-Index : tie.Need-enum_told-in-Index
+enum_told-in-Index c = search rules
 
-enum-told-11 : tie.Need-enum-told-11
-enum-told-11 c = search rules
+enum_told-in-Contradiction : tie.Need-enum_told-in-Contradiction
+enum_told-in-Contradiction c = search rules
 
-enum-told-12 : tie.Need-enum-told-12
-enum-told-12 c = search rules
+enum_told-in-ScratchTooShort : tie.Need-enum_told-in-ScratchTooShort
+enum_told-in-ScratchTooShort c = search rules
 
-enum-told-13 : tie.Need-enum-told-13
-enum-told-13 c = search rules
+enum_told-in-Inconsistent : tie.Need-enum_told-in-Inconsistent
+enum_told-in-Inconsistent c = search rules
 
-enum-told-14 : tie.Need-enum-told-14
-enum-told-14 c = search rules
+enum_told-in-FileShape : tie.Need-enum_told-in-FileShape
+enum_told-in-FileShape c = search rules
 
-enum-told-15 : tie.Need-enum-told-15
-enum-told-15 c = search rules
+enum_told-in-FileVersion : tie.Need-enum_told-in-FileVersion
+enum_told-in-FileVersion c = search rules
 
-enum-told-16 : tie.Need-enum-told-16
-enum-told-16 c = search rules
+enum_told-in-OutputTooShort : tie.Need-enum_told-in-OutputTooShort
+enum_told-in-OutputTooShort c = search rules
 
-enum-told-17 : tie.Need-enum-told-17
-enum-told-17 c = search rules
+enum_told-in-NotCollecting : tie.Need-enum_told-in-NotCollecting
+enum_told-in-NotCollecting c = search rules
 
-enum-told-18 : tie.Need-enum-told-18
-enum-told-18 c = search rules
+enum_told-in-NoMap : tie.Need-enum_told-in-NoMap
+enum_told-in-NoMap c = search rules
 
-enum-told-19 : tie.Need-enum-told-19
-enum-told-19 c = search rules
+enum_told-in-NoFactors : tie.Need-enum_told-in-NoFactors
+enum_told-in-NoFactors c = search rules
 
-enum-told-20 : tie.Need-enum-told-20
-enum-told-20 c = search rules
+enum_told-in-Occupied : tie.Need-enum_told-in-Occupied
+enum_told-in-Occupied c = search rules
 
-enum-told-21 : tie.Need-enum-told-21
-enum-told-21 c = search rules
+enum_told-in-ImpossibleJob : tie.Need-enum_told-in-ImpossibleJob
+enum_told-in-ImpossibleJob c = search rules
 
-enum-told-22 : tie.Need-enum-told-22
-enum-told-22 c = search rules
+enum_told-in-Modulus : tie.Need-enum_told-in-Modulus
+enum_told-in-Modulus c = search rules
 
-enum-told-23 : tie.Need-enum-told-23
-enum-told-23 c = search rules
+enum_told-in-DifferentCells : tie.Need-enum_told-in-DifferentCells
+enum_told-in-DifferentCells c = search rules
 
-enum-told-24 : tie.Need-enum-told-24
-enum-told-24 c = search rules
+enum_told-in-Magnitude : tie.Need-enum_told-in-Magnitude
+enum_told-in-Magnitude c = search rules
 
-enum-told-25 : tie.Need-enum-told-25
-enum-told-25 c = search rules
+enum_told-in-UnitCell : tie.Need-enum_told-in-UnitCell
+enum_told-in-UnitCell c = search rules
 
-enum-told-26 : tie.Need-enum-told-26
-enum-told-26 c = search rules
+enum_told-in-FloatRange : tie.Need-enum_told-in-FloatRange
+enum_told-in-FloatRange c = search rules
 
-enum-told-27 : tie.Need-enum-told-27
-enum-told-27 c = search rules
+enum_told-in-Lane : tie.Need-enum_told-in-Lane
+enum_told-in-Lane c = search rules
 
-enum-told-28 : tie.Need-enum-told-28
-enum-told-28 c = search rules
+enum_told-in-Capacity : tie.Need-enum_told-in-Capacity
+enum_told-in-Capacity c = search rules
 
-enum-told-29 : tie.Need-enum-told-29
-enum-told-29 c = search rules
+enum_told-in-NothingRuns : tie.Need-enum_told-in-NothingRuns
+enum_told-in-NothingRuns c = search rules
 
-enum-told-30 : tie.Need-enum-told-30
-enum-told-30 c = search rules
+enum_told-in-Window : tie.Need-enum_told-in-Window
+enum_told-in-Window c = search rules
 
-returns : tie.Need-returns
-returns c = ap number_of (sym c.enum_told.given.1)
+returns-in-LineKind : tie.Need-returns-in-LineKind
+returns-in-LineKind c = ap number_of (sym c.enum_told-1.given.1)
 
-returns-2 : tie.Need-returns-2
-returns-2 c = ap number_of (sym c.enum-told2.given.1)
+returns-in-Direction : tie.Need-returns-in-Direction
+returns-in-Direction c = ap number_of (sym c.enum_told-in-Direction-1.given.1)
 
-returns-3 : tie.Need-returns-3
-returns-3 c = ap number_of (sym c.enum-told3.given.1)
+returns-in-Length : tie.Need-returns-in-Length
+returns-in-Length c = ap number_of (sym c.enum_told-in-Length-1.given.1)
 
-returns-4 : tie.Need-returns-4
-returns-4 c = ap number_of (sym c.enum-told4.given.1)
+returns-in-Factor : tie.Need-returns-in-Factor
+returns-in-Factor c = ap number_of (sym c.enum_told-in-Factor-1.given.1)
 
-returns-5 : tie.Need-returns-5
-returns-5 c = ap number_of (sym c.enum-told5.given.1)
+returns-in-Product : tie.Need-returns-in-Product
+returns-in-Product c = ap number_of (sym c.enum_told-in-Product-1.given.1)
 
-returns-6 : tie.Need-returns-6
-returns-6 c = ap number_of (sym c.enum-told6.given.1)
+returns-in-BufferLength : tie.Need-returns-in-BufferLength
+returns-in-BufferLength c = ap number_of (sym c.enum_told-in-BufferLength-1.given.1)
 
-returns-7 : tie.Need-returns-7
-returns-7 c = ap number_of (sym c.enum-told7.given.1)
+returns-in-NotResidue : tie.Need-returns-in-NotResidue
+returns-in-NotResidue c = ap number_of (sym c.enum_told-in-NotResidue-1.given.1)
 
-returns-8 : tie.Need-returns-8
-returns-8 c = ap number_of (sym c.enum-told8.given.1)
+returns-in-Group : tie.Need-returns-in-Group
+returns-in-Group c = ap number_of (sym c.enum_told-in-Group-1.given.1)
 
-returns-9 : tie.Need-returns-9
-returns-9 c = ap number_of (sym c.enum-told9.given.1)
+returns-in-VolumeTooLarge : tie.Need-returns-in-VolumeTooLarge
+returns-in-VolumeTooLarge c = ap number_of (sym c.enum_told-in-VolumeTooLarge-1.given.1)
 
-returns-10 : tie.Need-returns-10
-returns-10 c = ap number_of (sym c.enum-told10.given.1)
+returns-in-Index : tie.Need-returns-in-Index
+returns-in-Index c = ap number_of (sym c.enum_told-in-Index-1.given.1)
 
-returns-11 : tie.Need-returns-11
-returns-11 c = ap number_of (sym c.enum-told11.given.1)
+returns-in-Contradiction : tie.Need-returns-in-Contradiction
+returns-in-Contradiction c = ap number_of (sym c.enum_told-in-Contradiction-1.given.1)
 
-returns-12 : tie.Need-returns-12
-returns-12 c = ap number_of (sym c.enum-told12.given.1)
+returns-in-ScratchTooShort : tie.Need-returns-in-ScratchTooShort
+returns-in-ScratchTooShort c = ap number_of (sym c.enum_told-in-ScratchTooShort-1.given.1)
 
-returns-13 : tie.Need-returns-13
-returns-13 c = ap number_of (sym c.enum-told13.given.1)
+returns-in-Inconsistent : tie.Need-returns-in-Inconsistent
+returns-in-Inconsistent c = ap number_of (sym c.enum_told-in-Inconsistent-1.given.1)
 
-returns-14 : tie.Need-returns-14
-returns-14 c = ap number_of (sym c.enum-told14.given.1)
+returns-in-FileShape : tie.Need-returns-in-FileShape
+returns-in-FileShape c = ap number_of (sym c.enum_told-in-FileShape-1.given.1)
 
-returns-15 : tie.Need-returns-15
-returns-15 c = ap number_of (sym c.enum-told15.given.1)
+returns-in-FileVersion : tie.Need-returns-in-FileVersion
+returns-in-FileVersion c = ap number_of (sym c.enum_told-in-FileVersion-1.given.1)
 
-returns-16 : tie.Need-returns-16
-returns-16 c = ap number_of (sym c.enum-told16.given.1)
+returns-in-OutputTooShort : tie.Need-returns-in-OutputTooShort
+returns-in-OutputTooShort c = ap number_of (sym c.enum_told-in-OutputTooShort-1.given.1)
 
-returns-17 : tie.Need-returns-17
-returns-17 c = ap number_of (sym c.enum-told17.given.1)
+returns-in-NotCollecting : tie.Need-returns-in-NotCollecting
+returns-in-NotCollecting c = ap number_of (sym c.enum_told-in-NotCollecting-1.given.1)
 
-returns-18 : tie.Need-returns-18
-returns-18 c = ap number_of (sym c.enum-told18.given.1)
+returns-in-NoMap : tie.Need-returns-in-NoMap
+returns-in-NoMap c = ap number_of (sym c.enum_told-in-NoMap-1.given.1)
 
-returns-19 : tie.Need-returns-19
-returns-19 c = ap number_of (sym c.enum-told19.given.1)
+returns-in-NoFactors : tie.Need-returns-in-NoFactors
+returns-in-NoFactors c = ap number_of (sym c.enum_told-in-NoFactors-1.given.1)
 
-returns-20 : tie.Need-returns-20
-returns-20 c = ap number_of (sym c.enum-told20.given.1)
+returns-in-Occupied : tie.Need-returns-in-Occupied
+returns-in-Occupied c = ap number_of (sym c.enum_told-in-Occupied-1.given.1)
 
-returns-21 : tie.Need-returns-21
-returns-21 c = ap number_of (sym c.enum-told21.given.1)
+returns-in-ImpossibleJob : tie.Need-returns-in-ImpossibleJob
+returns-in-ImpossibleJob c = ap number_of (sym c.enum_told-in-ImpossibleJob-1.given.1)
 
-returns-22 : tie.Need-returns-22
-returns-22 c = ap number_of (sym c.enum-told22.given.1)
+returns-in-Modulus : tie.Need-returns-in-Modulus
+returns-in-Modulus c = ap number_of (sym c.enum_told-in-Modulus-1.given.1)
 
-returns-23 : tie.Need-returns-23
-returns-23 c = ap number_of (sym c.enum-told23.given.1)
+returns-in-DifferentCells : tie.Need-returns-in-DifferentCells
+returns-in-DifferentCells c = ap number_of (sym c.enum_told-in-DifferentCells-1.given.1)
 
-returns-24 : tie.Need-returns-24
-returns-24 c = ap number_of (sym c.enum-told24.given.1)
+returns-in-Magnitude : tie.Need-returns-in-Magnitude
+returns-in-Magnitude c = ap number_of (sym c.enum_told-in-Magnitude-1.given.1)
 
-returns-25 : tie.Need-returns-25
-returns-25 c = ap number_of (sym c.enum-told25.given.1)
+returns-in-UnitCell : tie.Need-returns-in-UnitCell
+returns-in-UnitCell c = ap number_of (sym c.enum_told-in-UnitCell-1.given.1)
 
-returns-26 : tie.Need-returns-26
-returns-26 c = ap number_of (sym c.enum-told26.given.1)
+returns-in-FloatRange : tie.Need-returns-in-FloatRange
+returns-in-FloatRange c = ap number_of (sym c.enum_told-in-FloatRange-1.given.1)
 
-returns-27 : tie.Need-returns-27
-returns-27 c = ap number_of (sym c.enum-told27.given.1)
+returns-in-Lane : tie.Need-returns-in-Lane
+returns-in-Lane c = ap number_of (sym c.enum_told-in-Lane-1.given.1)
 
-returns-28 : tie.Need-returns-28
-returns-28 c = ap number_of (sym c.enum-told28.given.1)
+returns-in-Capacity : tie.Need-returns-in-Capacity
+returns-in-Capacity c = ap number_of (sym c.enum_told-in-Capacity-1.given.1)
 
-returns-29 : tie.Need-returns-29
-returns-29 c = ap number_of (sym c.enum-told29.given.1)
+returns-in-NothingRuns : tie.Need-returns-in-NothingRuns
+returns-in-NothingRuns c = ap number_of (sym c.enum_told-in-NothingRuns-1.given.1)
 
-returns-30 : tie.Need-returns-30
-returns-30 c = ap number_of (sym c.enum-told30.given.1)
+returns-in-Window : tie.Need-returns-in-Window
+returns-in-Window c = ap number_of (sym c.enum_told-in-Window-1.given.1)
 
 pub number_of_spec : {M : Type 1} → statement M
 number_of_spec =
     tie.close
-    (tie.spec
-    enum_told
-    enum-told-2
-    enum-told-3
-    enum-told-4
-    enum-told-5
-    enum-told-6
-    enum-told-7
-    enum-told-8
-    enum-told-9
-    enum-told-10
-    enum-told-11
-    enum-told-12
-    enum-told-13
-    enum-told-14
-    enum-told-15
-    enum-told-16
-    enum-told-17
-    enum-told-18
-    enum-told-19
-    enum-told-20
-    enum-told-21
-    enum-told-22
-    enum-told-23
-    enum-told-24
-    enum-told-25
-    enum-told-26
-    enum-told-27
-    enum-told-28
-    enum-told-29
-    enum-told-30
-    returns
-    returns-2
-    returns-3
-    returns-4
-    returns-5
-    returns-6
-    returns-7
-    returns-8
-    returns-9
-    returns-10
-    returns-11
-    returns-12
-    returns-13
-    returns-14
-    returns-15
-    returns-16
-    returns-17
-    returns-18
-    returns-19
-    returns-20
-    returns-21
-    returns-22
-    returns-23
-    returns-24
-    returns-25
-    returns-26
-    returns-27
-    returns-28
-    returns-29
-    returns-30)
+    (tie.spec enum_told-1 enum_told-in-Direction enum_told-in-Length enum_told-in-Factor enum_told-in-Product enum_told-in-BufferLength enum_told-in-NotResidue enum_told-in-Group enum_told-in-VolumeTooLarge enum_told-in-Index enum_told-in-Contradiction enum_told-in-ScratchTooShort enum_told-in-Inconsistent enum_told-in-FileShape enum_told-in-FileVersion enum_told-in-OutputTooShort enum_told-in-NotCollecting enum_told-in-NoMap enum_told-in-NoFactors enum_told-in-Occupied enum_told-in-ImpossibleJob enum_told-in-Modulus enum_told-in-DifferentCells enum_told-in-Magnitude enum_told-in-UnitCell enum_told-in-FloatRange enum_told-in-Lane enum_told-in-Capacity enum_told-in-NothingRuns enum_told-in-Window returns-in-LineKind returns-in-Direction returns-in-Length returns-in-Factor returns-in-Product returns-in-BufferLength returns-in-NotResidue returns-in-Group returns-in-VolumeTooLarge returns-in-Index returns-in-Contradiction returns-in-ScratchTooShort returns-in-Inconsistent returns-in-FileShape returns-in-FileVersion returns-in-OutputTooShort returns-in-NotCollecting returns-in-NoMap returns-in-NoFactors returns-in-Occupied returns-in-ImpossibleJob returns-in-Modulus returns-in-DifferentCells returns-in-Magnitude returns-in-UnitCell returns-in-FloatRange returns-in-Lane returns-in-Capacity returns-in-NothingRuns returns-in-Window)

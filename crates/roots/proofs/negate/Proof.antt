@@ -12,53 +12,40 @@ invariant-loop m t₀ k₀ t k = Negating m t₀ t k
 abbrev decreases-loop : tie.decreases-loop
 decreases-loop m t₀ k₀ t k = length t - k
 
-loop-holds : tie.Need-loop-init invariant-loop decreases-loop
-loop-holds c = negating_start
+loop-k-init : tie.Need-loop-k-init invariant-loop decreases-loop
+loop-k-init c = negating_start
 
-mul_neg : tie.Need-overflow-mul-neg invariant-loop decreases-loop
-mul_neg c = omega arith
+offset_bounds-t-k : tie.Need-offset_bounds-t-k invariant-loop decreases-loop
+offset_bounds-t-k c = omega arith
 
-slice-read-neg : tie.Need-slice-read-neg invariant-loop decreases-loop
-slice-read-neg c = omega arith
+bounds-t-k : tie.Need-bounds-t-k invariant-loop decreases-loop
+bounds-t-k c = omega arith
 
 neg-requires : tie.Need-neg-requires invariant-loop decreases-loop
-neg-requires c κs = (c.before.before.before.before.requires.0, negating_below c.before.before.loop.invariant c.before.before.before.before.requires.1 (omega arith))
+neg-requires c κs = (c.before.before.before.before.requires.0, negating_below c.before.before.loop-k.invariant c.before.before.before.before.requires.1 (omega arith))
 
-mul-t : tie.Need-overflow-mul-t invariant-loop decreases-loop
-mul-t c = omega arith
+offset_bounds-t-k-in-loop-k : tie.Need-offset_bounds-t-k-in-loop-k invariant-loop decreases-loop
+offset_bounds-t-k-in-loop-k c = omega arith
 
-slice-write-t : tie.Need-slice-write-t invariant-loop decreases-loop
-slice-write-t c = omega arith
+bounds-t-k-in-loop-k : tie.Need-bounds-t-k-in-loop-k invariant-loop decreases-loop
+bounds-t-k-in-loop-k c = omega arith
 
-add-k : tie.Need-overflow-add-k invariant-loop decreases-loop
-add-k c = omega arith
+overflow_add-k : tie.Need-overflow_add-k invariant-loop decreases-loop
+overflow_add-k c = omega arith
 
-loop-less : tie.Need-loop-smaller invariant-loop decreases-loop
-loop-less c = simp length-set (omega arith)
+loop-k-smaller : tie.Need-loop-k-smaller invariant-loop decreases-loop
+loop-k-smaller c = simp length-set (omega arith)
 
-loop-again : tie.Need-loop-preserved invariant-loop decreases-loop
-loop-again c = negating_next c.before.before.before.loop.invariant (omega arith) c.neg.ensures
+loop-k-preserved : tie.Need-loop-k-preserved invariant-loop decreases-loop
+loop-k-preserved c = negating_next c.before.before.before.loop-k.invariant (omega arith) c.neg.ensures
 
-same_length : tie.Need-same-length invariant-loop decreases-loop
-same_length c = c.before.loop.invariant.size
+shape_of-t : tie.Need-shape_of-t invariant-loop decreases-loop
+shape_of-t c = c.before.loop-k.invariant.size
 
 returns : tie.Need-returns invariant-loop decreases-loop
-returns c = negating_done c.before.loop.invariant (omega arith)
+returns c = negating_done c.before.loop-k.invariant (omega arith)
 
 pub negate_spec : {M : Type 1} → statement M
 negate_spec =
     tie.close
-    (tie.spec
-    invariant-loop
-    decreases-loop
-    loop-holds
-    mul_neg
-    slice-read-neg
-    neg-requires
-    mul-t
-    slice-write-t
-    add-k
-    loop-less
-    loop-again
-    same_length
-    returns)
+    (tie.spec loop-k-init offset_bounds-t-k bounds-t-k neg-requires offset_bounds-t-k-in-loop-k bounds-t-k-in-loop-k overflow_add-k loop-k-smaller loop-k-preserved shape_of-t returns)

@@ -4,21 +4,21 @@ use Rattle.roots.specs.Table.{entry_at}
 use Rattle.roots.proofs.root_at.Statement.{statement}
 use Rattle.roots.proofs.root_at.Tie as tie
 
-mul-t4 : tie.Need-overflow-mul-t4
-mul-t4 c = search rules
+offset_bounds-re-k : tie.Need-offset_bounds-re-k
+offset_bounds-re-k c = search rules
 
-element-copy-out-t7 : tie.Need-element-copy-out-t7
-element-copy-out-t7 c = search rules
+bounds-re-k : tie.Need-bounds-re-k
+bounds-re-k c = search rules
 
-mul-t8 : tie.Need-overflow-mul-t8
-mul-t8 c = search rules
+offset_bounds-im-k : tie.Need-offset_bounds-im-k
+offset_bounds-im-k c = search rules
 
-element-copy-out-t11 : tie.Need-element-copy-out-t11
-element-copy-out-t11 c = search rules
+bounds-im-k : tie.Need-bounds-im-k
+bounds-im-k c = search rules
 
 returns : tie.Need-returns
 unfolding entry_at
 returns c = search rules
 
 pub root_at_spec : {M : Type 1} → statement M
-root_at_spec = tie.close (tie.spec mul-t4 element-copy-out-t7 mul-t8 element-copy-out-t11 returns)
+root_at_spec = tie.close (tie.spec offset_bounds-re-k bounds-re-k offset_bounds-im-k bounds-im-k returns)

@@ -10,26 +10,26 @@ use Rattle.signed.proofs.Centred.{centred_low, centred_high}
 use Rattle.signed.proofs.centre.Statement.{statement}
 use Rattle.signed.proofs.centre.Tie as tie
 
-cast-result : tie.Need-overflow-cast-result
-cast-result c = search rules
+overflow_cast-result : tie.Need-overflow_cast-result
+overflow_cast-result c = search rules
 
-cast-result-2 : tie.Need-overflow-cast-result-2
-cast-result-2 c = search rules
+overflow_cast-result-else-x-p : tie.Need-overflow_cast-result-else-x-p
+overflow_cast-result-else-x-p c = search rules
 
-cast-result-3 : tie.Need-overflow-cast-result-3
-cast-result-3 c = search rules
+overflow_cast-result-else-x-p-2 : tie.Need-overflow_cast-result-else-x-p-2
+overflow_cast-result-else-x-p-2 c = search rules
 
-sub-result : tie.Need-overflow-sub-result
-sub-result c = let s = c.before in subst (SFits w32) (sym (difference s.args.x s.args.p s.requires.0 s.requires.1)) (record { sfits = omega arith })
+overflow_sub-result : tie.Need-overflow_sub-result
+overflow_sub-result c = let s = c.before in subst (SFits w32) (sym (difference s.args.x s.args.p s.requires.0 s.requires.1)) (record { sfits = omega arith })
 
-returns : tie.Need-returns
-returns c = let s = c.before in to_z_pos w32 s.args.x (omega arith) ∙ centred_low s.args.p s.args.x c.if1.true
+returns-then-x-p : tie.Need-returns-then-x-p
+returns-then-x-p c = let s = c.before in to_z_pos w32 s.args.x (omega arith) ∙ centred_low s.args.p s.args.x c.if-x-p.true
 
-returns-2 : tie.Need-returns-2
-returns-2 c =
+returns-else-x-p : tie.Need-returns-else-x-p
+returns-else-x-p c =
     let s = c.before in
-    to_z-of_z w32 _ (sub-result c) ∙ difference s.args.x s.args.p s.requires.0 s.requires.1 ∙ centred_high s.args.p s.args.x c.if1.false
+    to_z-of_z w32 _ (overflow_sub-result c) ∙ difference s.args.x s.args.p s.requires.0 s.requires.1 ∙ centred_high s.args.p s.args.x c.if-x-p.false
 
 pub centre_spec : {M : Type 1} → statement M
 centre_spec =
-    tie.close (tie.spec cast-result cast-result-2 cast-result-3 sub-result returns returns-2)
+    tie.close (tie.spec overflow_cast-result overflow_cast-result-else-x-p overflow_cast-result-else-x-p-2 overflow_sub-result returns-then-x-p returns-else-x-p)

@@ -14,37 +14,37 @@ use Rattle.signed.proofs.Machine.{Flip, flip, abs_plain}
 use Rattle.signed.proofs.magnitude.Statement.{statement}
 use Rattle.signed.proofs.magnitude.Tie as tie
 
-is : (c : tie.Then1) → to_z w64 (of_z w64 c.before.args.x) ≡ c.before.args.x
+is : (c : tie.Then-x-lt0) → to_z w64 (of_z w64 c.before.args.x) ≡ c.before.args.x
 is c = to_z-of_z w64 c.before.args.x c.before.ranges.x
 
-known : (c : tie.Then1) → Flip c.before.args.x
-known c = flip c.before.args.x c.before.ranges.x (subst (λ z. lt_z z (pos 0) ≡ true) (is c) c.if1.true)
+known : (c : tie.Then-x-lt0) → Flip c.before.args.x
+known c = flip c.before.args.x c.before.ranges.x (subst (λ z. lt_z z (pos 0) ≡ true) (is c) c.if-x-lt0.true)
 
 -- what the machine keeps of -1 - x
-kept : (c : tie.Then1) → to_z w64 (of_z w64 (negsuc 0 -ℤ to_z w64 (of_z w64 c.before.args.x))) ≡ negsuc 0 -ℤ c.before.args.x
+kept : (c : tie.Then-x-lt0) → to_z w64 (of_z w64 (negsuc 0 -ℤ to_z w64 (of_z w64 c.before.args.x))) ≡ negsuc 0 -ℤ c.before.args.x
 kept c = ap (λ z. to_z w64 (of_z w64 (negsuc 0 -ℤ z))) (is c) ∙ to_z-of_z w64 (negsuc 0 -ℤ c.before.args.x) (known c).ranges
 
-sub-y : tie.Need-overflow-sub-y
-sub-y c = subst (λ z. SFits w64 (negsuc 0 -ℤ z)) (sym (is c)) (known c).ranges
+overflow_sub-y : tie.Need-overflow_sub-y
+overflow_sub-y c = subst (λ z. SFits w64 (negsuc 0 -ℤ z)) (sym (is c)) (known c).ranges
 
-cast-result : tie.Need-overflow-cast-result
-cast-result c = subst (λ z. T (non_neg z) × Fits w64 (nat_abs z)) (sym (kept c)) ((known c).plain, record { fits = omega (arith, (known c).low) })
+overflow_cast-result : tie.Need-overflow_cast-result
+overflow_cast-result c = subst (λ z. T (non_neg z) × Fits w64 (nat_abs z)) (sym (kept c)) ((known c).plain, record { fits = omega (arith, (known c).low) })
 
-add-result : tie.Need-overflow-add-result
-add-result c = subst (λ z. Fits w64 (nat_abs z + 1)) (sym (kept c)) (record { fits = (known c).low })
+overflow_add-result : tie.Need-overflow_add-result
+overflow_add-result c = subst (λ z. Fits w64 (nat_abs z + 1)) (sym (kept c)) (record { fits = (known c).low })
 
-cast-result-2 : tie.Need-overflow-cast-result-2
-cast-result-2 c =
+overflow_cast-result-else-x-lt0 : tie.Need-overflow_cast-result-else-x-lt0
+overflow_cast-result-else-x-lt0 c =
     let x = c.before.args.x in
     let e = to_z-of_z w64 x c.before.ranges.x in
-    subst (λ z. T (non_neg z) × Fits w64 (nat_abs z)) (sym e) (abs_plain x c.before.ranges.x (subst (λ z. lt_z z (pos 0) ≡ false) e c.if1.false))
+    subst (λ z. T (non_neg z) × Fits w64 (nat_abs z)) (sym e) (abs_plain x c.before.ranges.x (subst (λ z. lt_z z (pos 0) ≡ false) e c.if-x-lt0.false))
 
-returns : tie.Need-returns
-returns c = ap (λ z. nat_abs z + 1) (kept c) ∙ (known c).abs
+returns-then-x-lt0 : tie.Need-returns-then-x-lt0
+returns-then-x-lt0 c = ap (λ z. nat_abs z + 1) (kept c) ∙ (known c).abs
 
-returns-2 : tie.Need-returns-2
-returns-2 c = search rules
+returns-else-x-lt0 : tie.Need-returns-else-x-lt0
+returns-else-x-lt0 c = search rules
 
 pub magnitude_spec : {M : Type 1} → statement M
 magnitude_spec =
-    tie.close (tie.spec sub-y cast-result add-result cast-result-2 returns returns-2)
+    tie.close (tie.spec overflow_sub-y overflow_cast-result overflow_add-result overflow_cast-result-else-x-lt0 returns-then-x-lt0 returns-else-x-lt0)

@@ -6,8 +6,8 @@ use Rattle.numbers.proofs.Quotients.{quotient_is}
 use Rattle.numbers.proofs.division.quotient.Statement.{statement}
 use Rattle.numbers.proofs.division.quotient.Tie as tie
 
-scale-of-requires : tie.Need-scale-of-requires
-scale-of-requires c κs = search rules
+scale_of-requires : tie.Need-scale_of-requires
+scale_of-requires c κs = search rules
 
 high-requires : tie.Need-high-requires
 high-requires c κs = search rules
@@ -19,4 +19,4 @@ returns c =
     ∙ quotient_is s.args.m s.args.x s.requires.0 s.requires.1
 
 pub quotient_spec : {M : Type 1} → statement M
-quotient_spec = tie.close (tie.spec scale-of-requires high-requires returns)
+quotient_spec = tie.close (tie.spec scale_of-requires high-requires returns)

@@ -5,11 +5,11 @@ use Rattle.numbers.proofs.unreduced.Unreduced.{of_pair_means}
 use Rattle.numbers.proofs.unreduced.of_pair.Statement.{statement}
 use Rattle.numbers.proofs.unreduced.of_pair.Tie as tie
 
-cast-t2 : tie.Need-overflow-cast-t2
-cast-t2 c = search rules
+overflow_cast-result : tie.Need-overflow_cast-result
+overflow_cast-result c = search rules
 
-cast-t3 : tie.Need-overflow-cast-t3
-cast-t3 c = search rules
+overflow_cast-result-2 : tie.Need-overflow_cast-result-2
+overflow_cast-result-2 c = search rules
 
 returns : tie.Need-returns
 returns c =
@@ -17,4 +17,4 @@ returns c =
     (record { re = omega (arith, s.requires.re); im = omega (arith, s.requires.im) }, λ m. of_pair_means m s.args.v)
 
 pub of_pair_spec : {M : Type 1} → statement M
-of_pair_spec = tie.close (tie.spec cast-t2 cast-t3 returns)
+of_pair_spec = tie.close (tie.spec overflow_cast-result overflow_cast-result-2 returns)

@@ -5,14 +5,14 @@ use Rattle.numbers.proofs.unreduced.Unreduced.{accumulated_scaled}
 use Rattle.numbers.proofs.unreduced.scaled.Statement.{statement}
 use Rattle.numbers.proofs.unreduced.scaled.Tie as tie
 
-mul-t4 : tie.Need-overflow-mul-t4
-mul-t4 c = let s = c.before in omega (arith, mul-le-mul s.requires.0 s.requires.1.re)
+overflow_mul-result : tie.Need-overflow_mul-result
+overflow_mul-result c = let s = c.before in omega (arith, mul-le-mul s.requires.0 s.requires.1.re)
 
-mul-t6 : tie.Need-overflow-mul-t6
-mul-t6 c = let s = c.before.before in omega (arith, mul-le-mul s.requires.0 s.requires.1.im)
+overflow_mul-result-2 : tie.Need-overflow_mul-result-2
+overflow_mul-result-2 c = let s = c.before.before in omega (arith, mul-le-mul s.requires.0 s.requires.1.im)
 
 returns : tie.Need-returns
 returns c = λ m n a h. let s = c.before.before in accumulated_scaled m n a s.requires.0 h
 
 pub scaled_spec : {M : Type 1} → statement M
-scaled_spec = tie.close (tie.spec mul-t4 mul-t6 returns)
+scaled_spec = tie.close (tie.spec overflow_mul-result overflow_mul-result-2 returns)

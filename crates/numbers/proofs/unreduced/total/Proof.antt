@@ -10,8 +10,8 @@ use Rattle.numbers.proofs.unreduced.total.Tie as tie
 sum-requires : tie.Need-sum-requires
 sum-requires c κs = search rules
 
-reduced-below-requires : tie.Need-reduced-below-requires
-reduced-below-requires c κs =
+reduced_below-requires : tie.Need-reduced_below-requires
+reduced_below-requires c κs =
     let s = c.before in
     let m = s.args.m in
     let most = c.sum.ensures m 2733880 2428552 _ _ (counted m 2733880 (omega arith) s.requires.1.0) (counted m 2428552 (omega arith) s.requires.1.1) in
@@ -21,4 +21,4 @@ returns : tie.Need-returns
 returns c = λ n k a b hx hy. let s = c.before.before in c.reduced_below.ensures ∙ accumulated_pair (c.before.sum.ensures _ n k a b hx hy)
 
 pub total_spec : {M : Type 1} → statement M
-total_spec = tie.close (tie.spec sum-requires reduced-below-requires returns)
+total_spec = tie.close (tie.spec sum-requires reduced_below-requires returns)

@@ -22,10 +22,10 @@ known c = flip c.before.args.x c.before.ranges.x (subst (λ z. lt_z z (pos 0) �
 
 -- what the machine keeps of -1 - x
 kept : (c : tie.Then-x-lt0) → to_z w64 (of_z w64 (negsuc 0 -ℤ to_z w64 (of_z w64 c.before.args.x))) ≡ negsuc 0 -ℤ c.before.args.x
-kept c = ap (λ z. to_z w64 (of_z w64 (negsuc 0 -ℤ z))) (is c) ∙ to_z-of_z w64 (negsuc 0 -ℤ c.before.args.x) (known c).ranges
+kept c = ap (λ z. to_z w64 (of_z w64 (negsuc 0 -ℤ z))) (is c) ∙ to_z-of_z w64 (negsuc 0 -ℤ c.before.args.x) (known c).fits
 
 overflow_sub-y : tie.Need-overflow_sub-y
-overflow_sub-y c = subst (λ z. SFits w64 (negsuc 0 -ℤ z)) (sym (is c)) (known c).ranges
+overflow_sub-y c = subst (λ z. SFits w64 (negsuc 0 -ℤ z)) (sym (is c)) (known c).fits
 
 overflow_cast-result : tie.Need-overflow_cast-result
 overflow_cast-result c = subst (λ z. T (non_neg z) × Fits w64 (nat_abs z)) (sym (kept c)) ((known c).plain, record { fits = omega (arith, (known c).low) })

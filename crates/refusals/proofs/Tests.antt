@@ -47,11 +47,11 @@ not_t b e = rw e
 pub not_f : (b : Bool) → b ≡ false → not b ≡ true
 not_f b e = rw e
 
-pub by_false : (r b : Bool) → r ≡ b → not r ≡ true → b ≡ false
-by_false r b e h = sym e ∙ not-true r h
+pub by_false : (r b : Bool) → r ≡ b → r ≡ false → b ≡ false
+by_false r b e h = sym e ∙ h
 
-pub by_true : (r b : Bool) → r ≡ b → not r ≡ false → b ≡ true
-by_true r b e h = sym e ∙ not-false r h
+pub by_true : (r b : Bool) → r ≡ b → r ≡ true → b ≡ true
+by_true r b e h = sym e ∙ h
 
 pub by_eq : (l m n : ℕ) → m ≡ n → l ≡ m → eqb l n ≡ true
 by_eq l m n e h = eq-eqb l n (h ∙ e)

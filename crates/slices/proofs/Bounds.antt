@@ -99,7 +99,11 @@ below_tail : {m x : ℕ} {l : List ℕ} → Below m (x ∷ l) → Below m l
 below_tail h = record { each = λ k. h.each (suc k) }
 
 below_cons : {m x : ℕ} {l : List ℕ} → x < m → Below m l → Below m (x ∷ l)
-below_cons h t = record { each = λ k. elim k [ zero ↦ h | suc j ↦ t.each j ] }
+below_cons {m = m} {x = x} {l = l} h t = record { each = go }
+  where
+    go : (k : ℕ) → get_or (x ∷ l) k 0 < m
+    go zero = h
+    go (suc k) = t.each k
 
 pub all_below_below : (m : ℕ) (l : List ℕ) → Below m l → all_below m l ≡ true
 unfolding all_below

@@ -10,51 +10,41 @@ use Rattle.refusals.proofs.Tests.{by_false, by_true}
 use Rattle.lengths.proofs.factors_ok.Statement.{statement}
 use Rattle.lengths.proofs.factors_ok.Tie as tie
 
-abbrev invariant-loop : tie.invariant-loop
-invariant-loop factors i₀ i = (i ≤ length factors) × (factors_ok (drop i factors) ≡ factors_ok factors)
+abbrev invariant-loop-i : tie.invariant-loop-i
+invariant-loop-i factors i₀ i = (i ≤ length factors) × (factors_ok (drop i factors) ≡ factors_ok factors)
 
-abbrev decreases-loop : tie.decreases-loop
-decreases-loop factors i₀ i = length factors - i
+abbrev decreases-loop-i : tie.decreases-loop-i
+decreases-loop-i factors i₀ i = length factors - i
 
-loop-holds : tie.Need-loop-init invariant-loop decreases-loop
-loop-holds c = (omega arith, refl)
+loop-i-init : tie.Need-loop-i-init invariant-loop-i decreases-loop-i
+loop-i-init c = (omega arith, refl)
 
-shared-slice-read-is-factor : tie.Need-shared-slice-read-is-factor invariant-loop decreases-loop
-shared-slice-read-is-factor c = omega arith
+bounds-factors-i : tie.Need-bounds-factors-i invariant-loop-i decreases-loop-i
+bounds-factors-i c = omega arith
 
-is-factor-requires : tie.Need-is-factor-requires invariant-loop decreases-loop
-is-factor-requires c κs = search rules
+is_factor-requires : tie.Need-is_factor-requires invariant-loop-i decreases-loop-i
+is_factor-requires c κs = search rules
 
-returns : tie.Need-returns invariant-loop decreases-loop
-returns c =
+returns-then-not-is_factor : tie.Need-returns-then-not-is_factor invariant-loop-i decreases-loop-i
+returns-then-not-is_factor c =
     let l = c.before.before.before.before in
-    factors_stop l.before.before.args.factors.now l.loop.i c.before.before.before.loop-test.true (by_false _ _ c.before.is-factor.ensures c.if1.true) l.loop.invariant.1
+    factors_stop l.before.before.args.factors.now l.loop-i.i c.before.before.before.loop-i-test.true (by_false _ _ c.before.is_factor.ensures c.if-not-is_factor.true) l.loop-i.invariant.1
 
-add-i : tie.Need-overflow-add-i invariant-loop decreases-loop
-add-i c = omega arith
+overflow_add-i : tie.Need-overflow_add-i invariant-loop-i decreases-loop-i
+overflow_add-i c = omega arith
 
-loop-less : tie.Need-loop-smaller invariant-loop decreases-loop
-loop-less c = omega arith
+loop-i-smaller : tie.Need-loop-i-smaller invariant-loop-i decreases-loop-i
+loop-i-smaller c = omega arith
 
-loop-again : tie.Need-loop-preserved invariant-loop decreases-loop
-loop-again c =
+loop-i-preserved : tie.Need-loop-i-preserved invariant-loop-i decreases-loop-i
+loop-i-preserved c =
     let l = c.before.before.before.before in
-    (omega arith, factors_next l.before.before.args.factors.now l.loop.i c.before.before.before.loop-test.true (by_true _ _ c.before.is-factor.ensures c.if1.false) l.loop.invariant.1)
+    (omega arith, factors_next l.before.before.args.factors.now l.loop-i.i c.before.before.before.loop-i-test.true (by_true _ _ c.before.is_factor.ensures c.if-not-is_factor.false) l.loop-i.invariant.1)
 
-returns-2 : tie.Need-returns-2 invariant-loop decreases-loop
-returns-2 c = let l = c.before in sym (factors_past l.before.before.args.factors.now l.loop.i c.loop-test.false) ∙ l.loop.invariant.1
+returns : tie.Need-returns invariant-loop-i decreases-loop-i
+returns c = let l = c.before in sym (factors_past l.before.before.args.factors.now l.loop-i.i c.loop-i-test.false) ∙ l.loop-i.invariant.1
 
 pub factors_ok_spec : {M : Type 1} → statement M
 factors_ok_spec =
     tie.close
-    (tie.spec
-    invariant-loop
-    decreases-loop
-    loop-holds
-    shared-slice-read-is-factor
-    is-factor-requires
-    returns
-    add-i
-    loop-less
-    loop-again
-    returns-2)
+    (tie.spec invariant-loop-i decreases-loop-i loop-i-init bounds-factors-i is_factor-requires returns-then-not-is_factor overflow_add-i loop-i-smaller loop-i-preserved returns)

@@ -7,50 +7,40 @@ use Rattle.slices.proofs.Sets.{fill}
 use Rattle.slices.proofs.copy.Statement.{statement}
 use Rattle.slices.proofs.copy.Tie as tie
 
-abbrev invariant-loop : tie.invariant-loop
-invariant-loop src dst₀ n j₀ dst j = FillingPairs (λ k. k) (at src) n j dst₀ dst
+abbrev invariant-loop-j : tie.invariant-loop-j
+invariant-loop-j src dst₀ n j₀ dst j = FillingPairs (λ k. k) (at src) n j dst₀ dst
 
-abbrev decreases-loop : tie.decreases-loop
-decreases-loop src dst₀ n j₀ dst j = n - j
+abbrev decreases-loop-j : tie.decreases-loop-j
+decreases-loop-j src dst₀ n j₀ dst j = n - j
 
-loop-holds : tie.Need-loop-init invariant-loop decreases-loop
-loop-holds c = search fill
+loop-j-init : tie.Need-loop-j-init invariant-loop-j decreases-loop-j
+loop-j-init c = search fill
 
-get-requires : tie.Need-get-requires invariant-loop decreases-loop
+get-requires : tie.Need-get-requires invariant-loop-j decreases-loop-j
 get-requires c κs = search fill
 
-store-requires : tie.Need-store-requires invariant-loop decreases-loop
+store-requires : tie.Need-store-requires invariant-loop-j decreases-loop-j
 store-requires c κs = search fill
 
-add-j : tie.Need-overflow-add-j invariant-loop decreases-loop
-add-j c = search fill
+overflow_add-j : tie.Need-overflow_add-j invariant-loop-j decreases-loop-j
+overflow_add-j c = search fill
 
-loop-less : tie.Need-loop-smaller invariant-loop decreases-loop
-loop-less c = search fill
+loop-j-smaller : tie.Need-loop-j-smaller invariant-loop-j decreases-loop-j
+loop-j-smaller c = search fill
 
-loop-again : tie.Need-loop-preserved invariant-loop decreases-loop
-loop-again c =
+loop-j-preserved : tie.Need-loop-j-preserved invariant-loop-j decreases-loop-j
+loop-j-preserved c =
     let s = c.before.before in
     let t = s.before.before.before in
-    filling_next t.before.loop.invariant t.loop-test.true s.store.ensures s.before.get.ensures
+    filling_next t.before.loop-j.invariant t.loop-j-test.true s.store.ensures s.before.get.ensures
 
-same_length : tie.Need-same-length invariant-loop decreases-loop
-same_length c = search fill
+shape_of-dst : tie.Need-shape_of-dst invariant-loop-j decreases-loop-j
+shape_of-dst c = search fill
 
-returns : tie.Need-returns invariant-loop decreases-loop
+returns : tie.Need-returns invariant-loop-j decreases-loop-j
 returns c = search fill
 
 pub copy_spec : {M : Type 1} → statement M
 copy_spec =
     tie.close
-    (tie.spec
-    invariant-loop
-    decreases-loop
-    loop-holds
-    get-requires
-    store-requires
-    add-j
-    loop-less
-    loop-again
-    same_length
-    returns)
+    (tie.spec invariant-loop-j decreases-loop-j loop-j-init get-requires store-requires overflow_add-j loop-j-smaller loop-j-preserved shape_of-dst returns)

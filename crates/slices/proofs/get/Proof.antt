@@ -5,23 +5,23 @@ use Rattle.slices.specs.Pairs.{at}
 use Rattle.slices.proofs.get.Statement.{statement}
 use Rattle.slices.proofs.get.Tie as tie
 
-mul-a : tie.Need-overflow-mul-a
-mul-a c = search rules
+overflow_mul-a : tie.Need-overflow_mul-a
+overflow_mul-a c = search rules
 
-mul-t4 : tie.Need-overflow-mul-t4
-mul-t4 c = search rules
+offset_bounds-s-a : tie.Need-offset_bounds-s-a
+offset_bounds-s-a c = search rules
 
-shared-slice-read-t6 : tie.Need-shared-slice-read-t6
-shared-slice-read-t6 c = search rules
+bounds-s-a : tie.Need-bounds-s-a
+bounds-s-a c = search rules
 
-add-t7 : tie.Need-overflow-add-t7
-add-t7 c = search rules
+overflow_add-result : tie.Need-overflow_add-result
+overflow_add-result c = search rules
 
-mul-t8 : tie.Need-overflow-mul-t8
-mul-t8 c = search rules
+offset_bounds-s-a-2 : tie.Need-offset_bounds-s-a-2
+offset_bounds-s-a-2 c = search rules
 
-shared-slice-read-t10 : tie.Need-shared-slice-read-t10
-shared-slice-read-t10 c = search rules
+bounds-s-a-2 : tie.Need-bounds-s-a-2
+bounds-s-a-2 c = search rules
 
 returns : tie.Need-returns
 unfolding at
@@ -30,4 +30,4 @@ returns c = refl
 pub get_spec : {M : Type 1} → statement M
 get_spec =
     tie.close
-    (tie.spec mul-a mul-t4 shared-slice-read-t6 add-t7 mul-t8 shared-slice-read-t10 returns)
+    (tie.spec overflow_mul-a offset_bounds-s-a bounds-s-a overflow_add-result offset_bounds-s-a-2 bounds-s-a-2 returns)

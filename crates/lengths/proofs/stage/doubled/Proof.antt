@@ -4,55 +4,43 @@ use Rattle.lengths.proofs.stage.Doubling.{Doubling, doubling_start, doubled_end,
 use Rattle.lengths.proofs.stage.doubled.Statement.{statement}
 use Rattle.lengths.proofs.stage.doubled.Tie as tie
 
-abbrev invariant-loop : tie.invariant-loop
-invariant-loop factors left₀ place₀ left place = Doubling factors left place
+abbrev invariant-loop-left : tie.invariant-loop-left
+invariant-loop-left factors left₀ place₀ left place = Doubling factors left place
 
-abbrev decreases-loop : tie.decreases-loop
-decreases-loop factors left₀ place₀ left place = left
+abbrev decreases-loop-left : tie.decreases-loop-left
+decreases-loop-left factors left₀ place₀ left place = left
 
-loop-holds : tie.Need-loop-init invariant-loop decreases-loop
-loop-holds c = doubling_start c.args.factors
+loop-left-init : tie.Need-loop-left-init invariant-loop-left decreases-loop-left
+loop-left-init c = doubling_start c.args.factors
 
-mul-result : tie.Need-overflow-mul-result invariant-loop decreases-loop
-mul-result c = let i = c.before in omega (arith, place_low i.before.loop.invariant i.loop-test.true)
+overflow_mul-result : tie.Need-overflow_mul-result invariant-loop-left decreases-loop-left
+overflow_mul-result c = let i = c.before in omega (arith, place_low i.before.loop-left.invariant i.loop-left-test.true)
 
-add-result : tie.Need-overflow-add-result invariant-loop decreases-loop
-add-result c = let i = c.before in omega (arith, place_low i.before.loop.invariant i.loop-test.true)
+overflow_add-result : tie.Need-overflow_add-result invariant-loop-left decreases-loop-left
+overflow_add-result c = let i = c.before in omega (arith, place_low i.before.loop-left.invariant i.loop-left-test.true)
 
-returns : tie.Need-returns invariant-loop decreases-loop
-returns c = let i = c.before in doubled_here i.before.loop.invariant i.loop-test.true (omega arith)
+returns-then-left-eq2 : tie.Need-returns-then-left-eq2 invariant-loop-left decreases-loop-left
+returns-then-left-eq2 c = let i = c.before in doubled_here i.before.loop-left.invariant i.loop-left-test.true (omega arith)
 
-mul-place : tie.Need-overflow-mul-place invariant-loop decreases-loop
-mul-place c = let i = c.before in omega (arith, place_low i.before.loop.invariant i.loop-test.true)
+overflow_mul-place : tie.Need-overflow_mul-place invariant-loop-left decreases-loop-left
+overflow_mul-place c = let i = c.before in omega (arith, place_low i.before.loop-left.invariant i.loop-left-test.true)
 
-loop-less : tie.Need-loop-smaller invariant-loop decreases-loop
-loop-less c = omega arith
+loop-left-smaller : tie.Need-loop-left-smaller invariant-loop-left decreases-loop-left
+loop-left-smaller c = omega arith
 
-loop-again : tie.Need-loop-preserved invariant-loop decreases-loop
-loop-again c = let i = c.before in doubling_next i.before.loop.invariant i.loop-test.true (omega arith)
+loop-left-preserved : tie.Need-loop-left-preserved invariant-loop-left decreases-loop-left
+loop-left-preserved c = let i = c.before in doubling_next i.before.loop-left.invariant i.loop-left-test.true (omega arith)
 
-mul-result-2 : tie.Need-overflow-mul-result-2 invariant-loop decreases-loop
-mul-result-2 c = omega (arith, c.before.loop.invariant.low)
+overflow_mul-result-2 : tie.Need-overflow_mul-result-2 invariant-loop-left decreases-loop-left
+overflow_mul-result-2 c = omega (arith, c.before.loop-left.invariant.low)
 
-add-result-2 : tie.Need-overflow-add-result-2 invariant-loop decreases-loop
-add-result-2 c = omega (arith, c.before.loop.invariant.low)
+overflow_add-result-2 : tie.Need-overflow_add-result-2 invariant-loop-left decreases-loop-left
+overflow_add-result-2 c = omega (arith, c.before.loop-left.invariant.low)
 
-returns-2 : tie.Need-returns-2 invariant-loop decreases-loop
-returns-2 c = doubled_end c.before.loop.invariant (omega arith)
+returns : tie.Need-returns invariant-loop-left decreases-loop-left
+returns c = doubled_end c.before.loop-left.invariant (omega arith)
 
 pub doubled_spec : {M : Type 1} → statement M
 doubled_spec =
     tie.close
-    (tie.spec
-    invariant-loop
-    decreases-loop
-    loop-holds
-    mul-result
-    add-result
-    returns
-    mul-place
-    loop-less
-    loop-again
-    mul-result-2
-    add-result-2
-    returns-2)
+    (tie.spec invariant-loop-left decreases-loop-left loop-left-init overflow_mul-result overflow_add-result returns-then-left-eq2 overflow_mul-place loop-left-smaller loop-left-preserved overflow_mul-result-2 overflow_add-result-2 returns)

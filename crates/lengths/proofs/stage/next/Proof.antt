@@ -7,18 +7,18 @@ use Rattle.lengths.proofs.stage.Staging.{next_low, next_inner}
 use Rattle.lengths.proofs.stage.next.Statement.{statement}
 use Rattle.lengths.proofs.stage.next.Tie as tie
 
-cast-outer : tie.Need-overflow-cast-outer
-cast-outer c = search rules
+overflow_cast-outer : tie.Need-overflow_cast-outer
+overflow_cast-outer c = search rules
 
-mul-longer : tie.Need-overflow-mul-longer
-mul-longer c = omega (arith, next_inner c.before.before.requires)
+overflow_mul-longer : tie.Need-overflow_mul-longer
+overflow_mul-longer c = omega (arith, next_inner c.before.before.requires)
 
-div-t5 : tie.Need-nonzero-div-t5
-div-t5 c = omega (arith, next_low c.before.before.before.before.requires)
+nonzero_div-result-2 : tie.Need-nonzero_div-result-2
+nonzero_div-result-2 c = omega (arith, next_low c.before.before.before.before.requires)
 
 returns : tie.Need-returns
 unfolding after
 returns c = refl
 
 pub next_spec : {M : Type 1} → statement M
-next_spec = tie.close (tie.spec cast-outer mul-longer div-t5 returns)
+next_spec = tie.close (tie.spec overflow_cast-outer overflow_mul-longer nonzero_div-result-2 returns)

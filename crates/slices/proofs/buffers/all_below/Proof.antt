@@ -9,49 +9,40 @@ use Rattle.slices.proofs.Bounds.{all_below_next, all_below_end}
 use Rattle.slices.proofs.buffers.all_below.Statement.{statement}
 use Rattle.slices.proofs.buffers.all_below.Tie as tie
 
-abbrev invariant-loop : tie.invariant-loop
-invariant-loop s p below₀ i₀ below i = (i ≤ length s) × (all_below p s ≡ (below && all_below p (drop i s)))
+abbrev invariant-loop-i : tie.invariant-loop-i
+invariant-loop-i s p below₀ i₀ below i = (i ≤ length s) × (all_below p s ≡ (below && all_below p (drop i s)))
 
-abbrev decreases-loop : tie.decreases-loop
-decreases-loop s p below₀ i₀ below i = length s - i
+abbrev decreases-loop-i : tie.decreases-loop-i
+decreases-loop-i s p below₀ i₀ below i = length s - i
 
-loop-holds : tie.Need-loop-init invariant-loop decreases-loop
-loop-holds c = (omega arith, refl)
+loop-i-init : tie.Need-loop-i-init invariant-loop-i decreases-loop-i
+loop-i-init c = (omega arith, refl)
 
-mul-below : tie.Need-overflow-mul-below invariant-loop decreases-loop
-mul-below c = omega arith
+offset_bounds-s-i : tie.Need-offset_bounds-s-i invariant-loop-i decreases-loop-i
+offset_bounds-s-i c = omega arith
 
-shared-slice-read-below : tie.Need-shared-slice-read-below invariant-loop decreases-loop
-shared-slice-read-below c = omega arith
+bounds-s-i : tie.Need-bounds-s-i invariant-loop-i decreases-loop-i
+bounds-s-i c = omega arith
 
-add-i : tie.Need-overflow-add-i invariant-loop decreases-loop
-add-i c = omega arith
+overflow_add-i : tie.Need-overflow_add-i invariant-loop-i decreases-loop-i
+overflow_add-i c = omega arith
 
-loop-less : tie.Need-loop-smaller invariant-loop decreases-loop
-loop-less c = omega arith
+loop-i-smaller : tie.Need-loop-i-smaller invariant-loop-i decreases-loop-i
+loop-i-smaller c = omega arith
 
-loop-again : tie.Need-loop-preserved invariant-loop decreases-loop
-loop-again c =
+loop-i-preserved : tie.Need-loop-i-preserved invariant-loop-i decreases-loop-i
+loop-i-preserved c =
     let l = c.before.before in
     let a = l.before.args in
-    (omega arith, l.loop.invariant.1 ∙ all_below_next a.p a.s.now l.loop.below l.loop.i c.before.loop-test.true)
+    (omega arith, l.loop-i.invariant.1 ∙ all_below_next a.p a.s.now l.loop-i.below l.loop-i.i c.before.loop-i-test.true)
 
-returns : tie.Need-returns invariant-loop decreases-loop
+returns : tie.Need-returns invariant-loop-i decreases-loop-i
 returns c =
     let l = c.before in
     let a = l.before.args in
-    sym (l.loop.invariant.1 ∙ all_below_end a.p a.s.now l.loop.below l.loop.i c.loop-test.false)
+    sym (l.loop-i.invariant.1 ∙ all_below_end a.p a.s.now l.loop-i.below l.loop-i.i c.loop-i-test.false)
 
 pub all_below_spec : {M : Type 1} → statement M
 all_below_spec =
     tie.close
-    (tie.spec
-    invariant-loop
-    decreases-loop
-    loop-holds
-    mul-below
-    shared-slice-read-below
-    add-i
-    loop-less
-    loop-again
-    returns)
+    (tie.spec invariant-loop-i decreases-loop-i loop-i-init offset_bounds-s-i bounds-s-i overflow_add-i loop-i-smaller loop-i-preserved returns)

@@ -7,49 +7,39 @@ use Rattle.slices.proofs.Filling.{filled_all, storing_start, storing_next, store
 use Rattle.slices.proofs.buffers.clear.Statement.{statement}
 use Rattle.slices.proofs.buffers.clear.Tie as tie
 
-abbrev invariant-loop : tie.invariant-loop
-invariant-loop d₀ n i₀ d i = Filling stores (λ k. k) (λ k. 0) n i d₀ d
+abbrev invariant-loop-i : tie.invariant-loop-i
+invariant-loop-i d₀ n i₀ d i = Filling stores (λ k. k) (λ k. 0) n i d₀ d
 
-abbrev decreases-loop : tie.decreases-loop
-decreases-loop d₀ n i₀ d i = n - i
+abbrev decreases-loop-i : tie.decreases-loop-i
+decreases-loop-i d₀ n i₀ d i = n - i
 
-loop-holds : tie.Need-loop-init invariant-loop decreases-loop
-loop-holds c = storing_start
+loop-i-init : tie.Need-loop-i-init invariant-loop-i decreases-loop-i
+loop-i-init c = storing_start
 
-mul-d : tie.Need-overflow-mul-d invariant-loop decreases-loop
-mul-d c = omega arith
+offset_bounds-d-i : tie.Need-offset_bounds-d-i invariant-loop-i decreases-loop-i
+offset_bounds-d-i c = omega arith
 
-slice-write-d : tie.Need-slice-write-d invariant-loop decreases-loop
-slice-write-d c = omega arith
+bounds-d-i : tie.Need-bounds-d-i invariant-loop-i decreases-loop-i
+bounds-d-i c = omega arith
 
-add-i : tie.Need-overflow-add-i invariant-loop decreases-loop
-add-i c = omega arith
+overflow_add-i : tie.Need-overflow_add-i invariant-loop-i decreases-loop-i
+overflow_add-i c = omega arith
 
-loop-less : tie.Need-loop-smaller invariant-loop decreases-loop
-loop-less c = omega arith
+loop-i-smaller : tie.Need-loop-i-smaller invariant-loop-i decreases-loop-i
+loop-i-smaller c = omega arith
 
-loop-again : tie.Need-loop-preserved invariant-loop decreases-loop
-loop-again c = storing_next c.before.loop.invariant c.loop-test.true
+loop-i-preserved : tie.Need-loop-i-preserved invariant-loop-i decreases-loop-i
+loop-i-preserved c = storing_next c.before.loop-i.invariant c.loop-i-test.true
 
-same_length : tie.Need-same-length invariant-loop decreases-loop
-same_length c = c.before.loop.invariant.len
+shape_of-d : tie.Need-shape_of-d invariant-loop-i decreases-loop-i
+shape_of-d c = c.before.loop-i.invariant.len
 
-returns : tie.Need-returns invariant-loop decreases-loop
+returns : tie.Need-returns invariant-loop-i decreases-loop-i
 returns c =
     let l = c.before in
-    filled_all l.loop.invariant c.loop-test.false ∙ stores_replicate 0 l.before.args.n l.before.args.d.now l.before.requires
+    filled_all l.loop-i.invariant c.loop-i-test.false ∙ stores_replicate 0 l.before.args.n l.before.args.d.now l.before.requires
 
 pub clear_spec : {M : Type 1} → statement M
 clear_spec =
     tie.close
-    (tie.spec
-    invariant-loop
-    decreases-loop
-    loop-holds
-    mul-d
-    slice-write-d
-    add-i
-    loop-less
-    loop-again
-    same_length
-    returns)
+    (tie.spec invariant-loop-i decreases-loop-i loop-i-init offset_bounds-d-i bounds-d-i overflow_add-i loop-i-smaller loop-i-preserved shape_of-d returns)

@@ -10,62 +10,50 @@ use Rattle.slices.proofs.Sets.{fill}
 use Rattle.slices.proofs.gathering.scatter.Statement.{statement}
 use Rattle.slices.proofs.gathering.scatter.Tie as tie
 
-abbrev invariant-loop : tie.invariant-loop
-invariant-loop s start stride d₀ n j₀ d j = FillingPairs (λ k. start + k * stride) (at s) n j d₀ d
+abbrev invariant-loop-j : tie.invariant-loop-j
+invariant-loop-j s start stride d₀ n j₀ d j = FillingPairs (λ k. start + k * stride) (at s) n j d₀ d
 
-abbrev decreases-loop : tie.decreases-loop
-decreases-loop s start stride d₀ n j₀ d j = n - j
+abbrev decreases-loop-j : tie.decreases-loop-j
+decreases-loop-j s start stride d₀ n j₀ d j = n - j
 
 -- the place of a turn lies inside
-inside : (c : tie.In-loop invariant-loop decreases-loop) → let l = c.before in let a = l.before.before.before.args in 2 * (a.start + l.loop.j * a.stride) + 1 < length a.d.now
-inside c = omega (arith, row_end c.before.before.before.before.args.stride c.loop-test.true)
+inside : (c : tie.In-loop-j invariant-loop-j decreases-loop-j) → let l = c.before in let a = l.before.before.before.args in 2 * (a.start + l.loop-j.j * a.stride) + 1 < length a.d.now
+inside c = omega (arith, row_end c.before.before.before.before.args.stride c.loop-j-test.true)
 
-loop-holds : tie.Need-loop-init invariant-loop decreases-loop
-loop-holds c = search fill
+loop-j-init : tie.Need-loop-j-init invariant-loop-j decreases-loop-j
+loop-j-init c = search fill
 
-mul-store : tie.Need-overflow-mul-store invariant-loop decreases-loop
-mul-store c = omega (arith, inside c.before)
+overflow_mul-j : tie.Need-overflow_mul-j invariant-loop-j decreases-loop-j
+overflow_mul-j c = omega (arith, inside c.before)
 
-add-store : tie.Need-overflow-add-store invariant-loop decreases-loop
-add-store c = omega (arith, inside c.before)
+overflow_add-start : tie.Need-overflow_add-start invariant-loop-j decreases-loop-j
+overflow_add-start c = omega (arith, inside c.before)
 
-get-requires : tie.Need-get-requires invariant-loop decreases-loop
+get-requires : tie.Need-get-requires invariant-loop-j decreases-loop-j
 get-requires c κs = search fill
 
-store-requires : tie.Need-store-requires invariant-loop decreases-loop
+store-requires : tie.Need-store-requires invariant-loop-j decreases-loop-j
 store-requires c κs = omega (arith, inside c.before.before)
 
-add-j : tie.Need-overflow-add-j invariant-loop decreases-loop
-add-j c = search fill
+overflow_add-j : tie.Need-overflow_add-j invariant-loop-j decreases-loop-j
+overflow_add-j c = search fill
 
-loop-less : tie.Need-loop-smaller invariant-loop decreases-loop
-loop-less c = search fill
+loop-j-smaller : tie.Need-loop-j-smaller invariant-loop-j decreases-loop-j
+loop-j-smaller c = search fill
 
-loop-again : tie.Need-loop-preserved invariant-loop decreases-loop
-loop-again c =
+loop-j-preserved : tie.Need-loop-j-preserved invariant-loop-j decreases-loop-j
+loop-j-preserved c =
     let s = c.before.before in
     let t = s.before.before.before in
-    filling_next t.before.loop.invariant t.loop-test.true s.store.ensures s.before.get.ensures
+    filling_next t.before.loop-j.invariant t.loop-j-test.true s.store.ensures s.before.get.ensures
 
-same_length : tie.Need-same-length invariant-loop decreases-loop
-same_length c = search fill
+shape_of-d : tie.Need-shape_of-d invariant-loop-j decreases-loop-j
+shape_of-d c = search fill
 
-returns : tie.Need-returns invariant-loop decreases-loop
+returns : tie.Need-returns invariant-loop-j decreases-loop-j
 returns c = search fill
 
 pub scatter_spec : {M : Type 1} → statement M
 scatter_spec =
     tie.close
-    (tie.spec
-    invariant-loop
-    decreases-loop
-    loop-holds
-    mul-store
-    add-store
-    get-requires
-    store-requires
-    add-j
-    loop-less
-    loop-again
-    same_length
-    returns)
+    (tie.spec invariant-loop-j decreases-loop-j loop-j-init overflow_mul-j overflow_add-start get-requires store-requires overflow_add-j loop-j-smaller loop-j-preserved shape_of-d returns)

@@ -13,21 +13,21 @@ ghost use Rattle.batches.specs.Reduction.{Divided, Held, factor_at};
 ghost use Rattle.batches.specs.Formulas.{ThreeOf, FourOf, FiveOf};
 
 // A power of the root times 2^32: its parts, and minus the imaginary one.
-#[derive(Drop)]
+#[derive(Clone, Copy)]
 pub struct Factor {
     pub re: u32,
     pub im: u32,
     pub minus: u32,
 }
 
-#[derive(Drop)]
+#[derive(Clone, Copy)]
 pub struct Three {
     pub x0: u32,
     pub x1: u32,
     pub x2: u32,
 }
 
-#[derive(Drop)]
+#[derive(Clone, Copy)]
 pub struct Four {
     pub x0: u32,
     pub x1: u32,
@@ -35,7 +35,7 @@ pub struct Four {
     pub x3: u32,
 }
 
-#[derive(Drop)]
+#[derive(Clone, Copy)]
 pub struct Five {
     pub x0: u32,
     pub x1: u32,

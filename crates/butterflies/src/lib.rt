@@ -25,20 +25,20 @@ ghost use Rattle.butterflies.specs.Butterflies.{of_four_sums, of_five_sums, AllR
 use numbers::{Accumulator, Pair};
 
 // What a butterfly takes: values that are not reduced.
-#[derive(Drop)]
+#[derive(Clone, Copy)]
 pub struct TwoSums {
     pub x0: Accumulator,
     pub x1: Accumulator,
 }
 
-#[derive(Drop)]
+#[derive(Clone, Copy)]
 pub struct ThreeSums {
     pub x0: Accumulator,
     pub x1: Accumulator,
     pub x2: Accumulator,
 }
 
-#[derive(Drop)]
+#[derive(Clone, Copy)]
 pub struct FourSums {
     pub x0: Accumulator,
     pub x1: Accumulator,
@@ -46,7 +46,7 @@ pub struct FourSums {
     pub x3: Accumulator,
 }
 
-#[derive(Drop)]
+#[derive(Clone, Copy)]
 pub struct FiveSums {
     pub x0: Accumulator,
     pub x1: Accumulator,
@@ -56,28 +56,28 @@ pub struct FiveSums {
 }
 
 // What it gives. Radix 3 to 5 give pairs of sums that differ in one sign: those of 3 and 5 belong to conjugate powers.
-#[derive(Drop)]
+#[derive(Clone, Copy)]
 pub struct TwoPairs {
     pub x0: Pair,
     pub x1: Pair,
 }
 
 // The sum 0, and the sums 1 and 2.
-#[derive(Drop)]
+#[derive(Clone, Copy)]
 pub struct ThreePairs {
     pub x0: Pair,
     pub mates: TwoPairs,
 }
 
 // The sums 0 and 2, and the sums 1 and 3.
-#[derive(Drop)]
+#[derive(Clone, Copy)]
 pub struct FourPairs {
     pub near: TwoPairs,
     pub far: TwoPairs,
 }
 
 // The sum 0, the sums 1 and 4, and the sums 2 and 3.
-#[derive(Drop)]
+#[derive(Clone, Copy)]
 pub struct FivePairs {
     pub x0: Pair,
     pub near: TwoPairs,

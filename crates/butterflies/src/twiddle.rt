@@ -10,7 +10,7 @@ ghost use Rattle.butterflies.specs.Butterflies.{Loaded};
 use numbers::Accumulator;
 
 // The value for b is read at first + b stride. W^k is e(𝐚/AB), so that W^(b k) is its factor. The sum for 𝐛 goes to base + 𝐛 gap.
-#[derive(Drop)]
+#[derive(Clone, Copy)]
 pub struct Places {
     pub first: usize,
     pub stride: usize,

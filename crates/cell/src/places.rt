@@ -16,7 +16,7 @@ use crate::operations::{Index, Point, UnitCell};
 use numbers::Pair;
 
 // Neighbouring numbers of a volume.
-#[derive(Drop)]
+#[derive(Clone, Copy)]
 pub struct Run {
     pub first: usize,
     pub count: usize,

@@ -10,7 +10,7 @@ use cell::operations::{Point, UnitCell};
 use refusals::{Checked, Refusal};
 
 // The answer: the point's number, or why it is not read.
-#[derive(Drop)]
+#[derive(Clone, Copy)]
 pub enum CountAnswer {
     Count(i64),
     Refused(Refusal),

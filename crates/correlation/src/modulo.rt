@@ -14,7 +14,7 @@ use cell::operations::UnitCell;
 use volume_transform::plan::Plan;
 
 // Three lengths and the factor lists of their halves in octal digits.
-#[derive(Drop)]
+#[derive(Clone, Copy)]
 pub struct Axes {
     pub n1: u32,
     pub n2: u32,

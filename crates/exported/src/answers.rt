@@ -22,7 +22,7 @@ use output::FillAnswer;
 
 // The answer of an opening, a record, a synthesis and an analysis.
 #[repr(C)]
-#[derive(Drop)]
+#[derive(Clone, Copy)]
 pub struct JobCoded {
     pub number: u32,
     pub job: Job,
@@ -30,14 +30,14 @@ pub struct JobCoded {
 
 // The answers of the two readings: a density has a sign, a factor is two residues.
 #[repr(C)]
-#[derive(Drop)]
+#[derive(Clone, Copy)]
 pub struct PointCoded {
     pub number: u32,
     pub density: i32,
 }
 
 #[repr(C)]
-#[derive(Drop)]
+#[derive(Clone, Copy)]
 pub struct FactorCoded {
     pub number: u32,
     pub a: u32,
@@ -46,7 +46,7 @@ pub struct FactorCoded {
 
 // The answer of both powers: a residue.
 #[repr(C)]
-#[derive(Drop)]
+#[derive(Clone, Copy)]
 pub struct PowerCoded {
     pub number: u32,
     pub power: u32,
@@ -54,7 +54,7 @@ pub struct PowerCoded {
 
 // The answer of the opening of a file: the place is that of the refused record.
 #[repr(C)]
-#[derive(Drop)]
+#[derive(Clone, Copy)]
 pub struct FileCoded {
     pub number: u32,
     pub place: u32,
@@ -63,7 +63,7 @@ pub struct FileCoded {
 
 // The answer of a call that fills outputs: the writer's, and that of the windows of a run.
 #[repr(C)]
-#[derive(Drop)]
+#[derive(Clone, Copy)]
 pub struct WriteCoded {
     pub number: u32,
     pub written: usize,
@@ -71,7 +71,7 @@ pub struct WriteCoded {
 
 // The fewest records at fault of a file: how many, none, one or two, and their places.
 #[repr(C)]
-#[derive(Drop)]
+#[derive(Clone, Copy)]
 pub struct FaultsCoded {
     pub count: u32,
     pub first: u32,
@@ -80,7 +80,7 @@ pub struct FaultsCoded {
 
 // What a file's header names.
 #[repr(C)]
-#[derive(Drop)]
+#[derive(Clone, Copy)]
 pub struct HeaderCoded {
     pub number: u32,
     pub group: u32,
@@ -94,7 +94,7 @@ pub struct HeaderCoded {
 
 // How long the file is that the writer would write.
 #[repr(C)]
-#[derive(Drop)]
+#[derive(Clone, Copy)]
 pub struct LengthCoded {
     pub number: u32,
     pub length: usize,
@@ -102,7 +102,7 @@ pub struct LengthCoded {
 
 // The answer of the reading of a combined map.
 #[repr(C)]
-#[derive(Drop)]
+#[derive(Clone, Copy)]
 pub struct CountCoded {
     pub number: u32,
     pub density: i64,

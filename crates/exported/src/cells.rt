@@ -7,7 +7,7 @@ use mrc::parameters::CellParameters;
 // Three edges in ångström, and how many angles in degrees are given: 3, or 1, which is gamma, where alpha and beta are
 // not read. Another count is refused.
 #[repr(C)]
-#[derive(Drop)]
+#[derive(Clone, Copy)]
 pub struct CellCoded {
     pub angles: u32,
     pub a: f32,

@@ -11,7 +11,7 @@ use scheduler::{LaneAnswered, NextAnswer, Scheduler, TurnAnswer, TurnAnswered};
 
 // The lane that the next turn serves.
 #[repr(C)]
-#[derive(Drop)]
+#[derive(Clone, Copy)]
 pub struct NextCoded {
     pub number: u32,
     pub lane: u32,
@@ -19,7 +19,7 @@ pub struct NextCoded {
 
 // The answer of entering and of withdrawing.
 #[repr(C)]
-#[derive(Drop)]
+#[derive(Clone, Copy)]
 pub struct LaneCoded {
     pub number: u32,
     pub scheduler: Scheduler,
@@ -27,7 +27,7 @@ pub struct LaneCoded {
 
 // The answer of a turn: the lane that it served, whether it was its last, 1 or 0, and then the job, map held.
 #[repr(C)]
-#[derive(Drop)]
+#[derive(Clone, Copy)]
 pub struct TurnCoded {
     pub number: u32,
     pub lane: u32,

@@ -18,7 +18,7 @@ use job::Axis;
 use refusals::{Checked, Refusal};
 
 // What a header names: group, modulus, the three axes, how many records follow, and how many numbers the volume has.
-#[derive(Drop)]
+#[derive(Clone, Copy)]
 pub struct FileHeader {
     pub group: u32,
     pub modulus: u32,
@@ -29,7 +29,7 @@ pub struct FileHeader {
     pub numbers: u32,
 }
 
-#[derive(Drop)]
+#[derive(Clone, Copy)]
 pub enum HeaderAnswer {
     Header(FileHeader),
     Refused(Refusal),

@@ -15,7 +15,7 @@ use job::Job;
 use refusals::Refusal;
 
 // The answer of the opening of a file: a job, or the refusal and the place, from 0, of the record at fault (0 where it is no record).
-#[derive(Drop)]
+#[derive(Clone, Copy)]
 pub enum FileAnswer {
     Opened(Job),
     Refused(Refusal, u32),

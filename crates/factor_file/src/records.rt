@@ -27,7 +27,7 @@ use numbers::Pair;
 use refusals::{Checked, Refusal};
 
 // What is made of the records of a file: all are taken, or the refusal of one, with its place from 0.
-#[derive(Drop)]
+#[derive(Clone, Copy)]
 enum Verdict {
     Taken,
     Refused(Refusal, u32),

@@ -68,7 +68,7 @@ pub fn write_file(job: Job, volume: &[u32], out: &mut [u8]) -> FillAnswer
 }
 
 // How many bytes a file has, or why it has none.
-#[derive(Drop)]
+#[derive(Clone, Copy)]
 pub enum SizeAnswer {
     Bytes(usize),
     Refused(Refusal),

@@ -31,7 +31,7 @@ use numbers::Pair;
 use refusals::{Checked, Refusal};
 
 // No record at fault, one, or two: the places, from 0, rise.
-#[derive(Drop)]
+#[derive(Clone, Copy)]
 pub enum Faults {
     NoFault,
     One(u32),

@@ -9,7 +9,7 @@ pub mod layout; // layout.rt: a record as bytes, and how long the file is
 pub mod reader; // reader.rt: the reader
 
 // A record of a file: an index and the two numbers of its value.
-#[derive(Drop)]
+#[derive(Clone, Copy)]
 pub struct FileRecord {
     pub h: u32,
     pub k: u32,

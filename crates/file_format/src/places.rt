@@ -14,7 +14,7 @@ const GROUP: usize = 5;
 const MODULUS: usize = 6;
 
 // The numbers of a header: the modulus and the unit cell.
-#[derive(Drop)]
+#[derive(Clone, Copy)]
 pub struct HeaderNumbers {
     pub modulus: u32,
     pub cell: UnitCell,
@@ -57,7 +57,7 @@ fn lengths_at(file: &[u8]) -> usize
 }
 
 // Where the three lists begin, with their count bytes, and where the record count stands.
-#[derive(Drop)]
+#[derive(Clone, Copy)]
 pub struct Places {
     pub list1: usize,
     pub list2: usize,

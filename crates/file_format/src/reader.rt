@@ -10,21 +10,21 @@ ghost use Rattle.file_format.specs.Walk.{record_stands, found_at, place_after, W
 
 use crate::FileRecord;
 
-#[derive(Drop)]
+#[derive(Clone, Copy)]
 pub struct RecordReader<'a> {
     pub file: &'a [u8],
     pub at: usize,
 }
 
 // What a reader finds: a record, or no fourteen bytes any more.
-#[derive(Drop)]
+#[derive(Clone, Copy)]
 pub enum Found {
     Record(FileRecord),
     End,
 }
 
 // A step of a walk: what the reader found at its place, and the place one record on.
-#[derive(Drop)]
+#[derive(Clone, Copy)]
 pub struct Step {
     pub found: Found,
     pub after: usize,

@@ -14,7 +14,7 @@ ghost use Rattle.folded_batches.specs.Mixing.{HeldMix, Mixed, MixedAlone};
 
 // The real part of the result is a1 x.re + a2 x.im + b1 y.re + b2 y.im, its imaginary part a3 x.re + a4 x.im + b3 y.re
 // + b4 y.im.
-#[derive(Drop)]
+#[derive(Clone, Copy)]
 pub struct Mix {
     pub a1: u32,
     pub a2: u32,

@@ -27,17 +27,17 @@ use refusals::Refusal;
 
 // The index of a structure factor, in reciprocal space: h, k, l.
 #[repr(C)]
-#[derive(Drop)]
+#[derive(Clone, Copy)]
 pub struct Reflection(pub u32, pub u32, pub u32);
 
 // The index of a point of the map, in real space: x, y, z.
 #[repr(C)]
-#[derive(Drop)]
+#[derive(Clone, Copy)]
 pub struct GridPoint(pub u32, pub u32, pub u32);
 
 // An axis: its length, and its factor list as octal digits, the first factor lowest.
 #[repr(C)]
-#[derive(Drop)]
+#[derive(Clone, Copy)]
 pub struct Axis {
     pub length: u32,
     pub factors: u32,
@@ -45,7 +45,7 @@ pub struct Axis {
 
 // The modulus is 1 for the prime 86,399 and 2 for 302,399. The state is 0 collecting, 1 factors held, 2 map held.
 #[repr(C)]
-#[derive(Drop)]
+#[derive(Clone, Copy)]
 pub struct Job {
     pub group: u32,
     pub modulus: u32,
@@ -56,40 +56,40 @@ pub struct Job {
 }
 
 // The answer of record, synthesis and analysis, beside the job.
-#[derive(Drop)]
+#[derive(Clone, Copy)]
 pub enum Answer {
     Done,
     Refused(Refusal),
 }
 
-#[derive(Drop)]
+#[derive(Clone, Copy)]
 pub struct Answered {
     pub answer: Answer,
     pub job: Job,
 }
 
 // The answer of an opening.
-#[derive(Drop)]
+#[derive(Clone, Copy)]
 pub enum OpenAnswer {
     Opened(Job),
     Refused(Refusal),
 }
 
 // The answers of the two readings: a density is the signed whole number next to zero, a factor two residues.
-#[derive(Drop)]
+#[derive(Clone, Copy)]
 pub enum PointAnswer {
     Density(i32),
     Refused(Refusal),
 }
 
-#[derive(Drop)]
+#[derive(Clone, Copy)]
 pub enum FactorAnswer {
     Factor(u32, u32),
     Refused(Refusal),
 }
 
 // The answer of both powers: a residue.
-#[derive(Drop)]
+#[derive(Clone, Copy)]
 pub enum PowerAnswer {
     Power(u32),
     Refused(Refusal),

@@ -8,7 +8,7 @@ ghost use Rattle.job.specs.Answers.{said, said_point, said_factor, said_power, r
 use crate::{Answer, FactorAnswer, PointAnswer, PowerAnswer};
 use refusals::Refusal;
 
-#[derive(Drop)]
+#[derive(Clone, Copy)]
 pub struct Reply {
     pub number: u32,
     pub x: i64,

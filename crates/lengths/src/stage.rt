@@ -7,7 +7,7 @@ ghost use Rattle.lengths.specs.Stages.{after, Ahead};
 
 // A stage of a transform: the factors that are left, the product of those that are done, and the number of lines, which is the product of those
 // that are left.
-#[derive(Drop)]
+#[derive(Clone, Copy)]
 pub struct Stage {
     pub left: u32,
     pub inner: usize,

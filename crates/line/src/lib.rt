@@ -18,7 +18,7 @@ ghost use Rattle.line.specs.Demands.{RestoredAfter, TakenBack};
 use refusals::{Checked, Refusal};
 
 // The answer of a line.
-#[derive(Drop)]
+#[derive(Clone, Copy)]
 pub enum LineAnswer {
     Transformed,
     Refused(Refusal),

@@ -9,7 +9,7 @@ use crate::parameters::CellParameters;
 use cell::operations::UnitCell;
 
 // What the header says: the lengths, the edges and angles of the unit cell, and the densities.
-#[derive(Drop)]
+#[derive(Clone, Copy)]
 pub struct MrcHeader {
     pub n1: u32,
     pub n2: u32,

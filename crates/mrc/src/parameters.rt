@@ -5,7 +5,7 @@ ghost use Rattle.mrc.specs.Parameters.{is_edge, is_angle, is_gamma, are_edges, a
 // Three edges, and three angles or the one that is free, the others being 90. The names are those of the crystal
 // systems: group 0 is triclinic, groups 1 to 3 are monoclinic with c unique. Group 4 is orthorhombic, and its gamma is
 // 90 too.
-#[derive(Drop)]
+#[derive(Clone, Copy)]
 pub enum CellParameters {
     Triclinic {
         a: f32,

@@ -9,7 +9,7 @@ ghost use Rattle.mrc.specs.Ranges.{lesser, greater, among, Spans, of_row, of_pla
 use cell::operations::UnitCell;
 use cell::places;
 
-#[derive(Drop)]
+#[derive(Clone, Copy)]
 pub struct DensityRange {
     pub least: i64,
     pub greatest: i64,

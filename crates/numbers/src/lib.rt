@@ -16,14 +16,14 @@ ghost use Rattle.numbers.specs.Bounds.{res, Small};
 ghost use Rattle.numbers.specs.Unreduced.{Accumulated};
 
 // A value of the paper: re + im i.
-#[derive(Drop)]
+#[derive(Clone, Copy)]
 pub struct Pair {
     pub re: u32,
     pub im: u32,
 }
 
 // Sums that are not reduced yet.
-#[derive(Drop)]
+#[derive(Clone, Copy)]
 pub struct Accumulator {
     pub re: u64,
     pub im: u64,

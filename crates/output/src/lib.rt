@@ -13,7 +13,7 @@ ghost use Rattle.output.specs.Numerals.{DecimalsReadBack};
 use refusals::Refusal;
 
 // The answer of a call that fills an output, or several alike: how many places it wrote, or why none.
-#[derive(Drop)]
+#[derive(Clone, Copy)]
 pub enum FillAnswer {
     Written(usize),
     Refused(Refusal),

@@ -84,7 +84,7 @@ fn axis_said(r: &[u32], i: usize) -> Axis
 }
 
 // What an opening said: the refusal's number or 0, the record's place or 0, the job that is printed and the job that goes on.
-#[derive(Drop)]
+#[derive(Clone, Copy)]
 struct Opening {
     number: u32,
     place: u32,

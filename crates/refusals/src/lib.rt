@@ -8,7 +8,7 @@ ghost use Rattle.refusals.specs.Refusals.{number_of};
 
 // Why a call is refused: one case for each number of the paper but 11 and 17, which no call gives any more (a zero is a value like others,
 // and a file may have no records).
-#[derive(Drop)]
+#[derive(Clone, Copy)]
 pub enum Refusal {
     LineKind,
     Direction,
@@ -43,7 +43,7 @@ pub enum Refusal {
 }
 
 // What a check says.
-#[derive(Drop)]
+#[derive(Clone, Copy)]
 pub enum Checked {
     Sound,
     Failed(Refusal),

@@ -7,7 +7,7 @@ ghost use Rattle.numbers.specs.Value.{IsModulus};
 ghost use Rattle.roots.specs.Table.{RealTable, ImaginaryTable};
 
 // Place k holds the real and the imaginary part of r^k.
-#[derive(Drop)]
+#[derive(Clone, Copy)]
 pub struct PowerTable {
     pub re: [u32; 2880],
     pub im: [u32; 2880],

@@ -12,7 +12,7 @@ use job::{Answer, Job};
 use scheduler::{NextAnswer, Scheduler, TurnAnswer};
 
 // What a call said: a refusal's number, 0 done, 100 idle, 101 served, 102 finished, 103 next; the lane or 0; the job or none.
-#[derive(Drop)]
+#[derive(Clone, Copy)]
 struct Said {
     number: u32,
     lane: u32,

@@ -7,7 +7,7 @@ use crate::layout::CallNumbers;
 use job::reply::Reply;
 use job::{Answered, GridPoint, Job, Reflection, reply};
 
-#[derive(Drop)]
+#[derive(Clone, Copy)]
 pub struct Called {
     pub reply: Reply,
     pub job: Job,

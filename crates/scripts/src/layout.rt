@@ -5,7 +5,7 @@ ghost use Rattle.scripts.specs.Script.{numbers_at, reply_numbers};
 use job::reply::Reply;
 
 // A call as numbers: its operation, three of an index or a point, two of a value.
-#[derive(Drop)]
+#[derive(Clone, Copy)]
 pub struct CallNumbers {
     pub operation: u32,
     pub h: u32,

@@ -9,7 +9,7 @@ ghost use Rattle.scripts.specs.Script.{replay_outcome, replay_step, model_replay
 use job::Job;
 
 // The job after the calls, and how many numbers of answers were written.
-#[derive(Drop)]
+#[derive(Clone, Copy)]
 pub struct Replayed {
     pub job: Job,
     pub written: usize,

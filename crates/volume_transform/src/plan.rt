@@ -3,7 +3,7 @@
 use cell::operations::UnitCell;
 
 // What is to be done with a whole volume: modulus and direction, the cell, and the factor lists of its three lengths.
-#[derive(Drop)]
+#[derive(Clone, Copy)]
 pub struct Plan {
     pub m: u32,
     pub direction: u32,
@@ -14,7 +14,7 @@ pub struct Plan {
 }
 
 // How many lines a job has along each axis.
-#[derive(Drop)]
+#[derive(Clone, Copy)]
 pub struct Counts {
     pub l: usize,
     pub h: usize,
@@ -22,7 +22,7 @@ pub struct Counts {
 }
 
 // A packed line of 2 half values, stored times i or not, and its pairs in the volume: count of them, at start, start + stride, ..
-#[derive(Drop)]
+#[derive(Clone, Copy)]
 pub struct Line {
     pub m: u32,
     pub direction: u32,
@@ -36,7 +36,7 @@ pub struct Line {
 }
 
 // A line and those that are turned together with it: as many lines as there are lanes, each a place further on than the one before.
-#[derive(Drop)]
+#[derive(Clone, Copy)]
 pub struct LineGroup {
     pub line: Line,
     pub lanes: usize,

@@ -52,6 +52,7 @@ ops_plain star' g s ms x = plain s (every_at (ops g) plain_t s (tables g) ms)
 -- P1 has one operation, which every map obeys
 pub obeys_one : (a : J) (m : ℕ) (M : Cell (Value m)) → ObeysGroup P1 a m M
 obeys_one a m M s first x n = ap (Cell.at M) (point_one a x) ∙ sym (density_one (field_ring m) (field_star m) (Cell.at M x))
+obeys_one a m M s (Rattle.algebra.specs.orbits.Orbit.later x9) x n = elim x9 [ ]
 
 -- a point of a stored plane is read where it is
 pub own_plane : (g : Group) (a x : J) → StoredPoint g a x → point_image a (point_operation g a x) x ≡ x

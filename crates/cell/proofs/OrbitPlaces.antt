@@ -121,6 +121,7 @@ module _ (g : Group) (a : J) where
       go (this t h q) r = omega arith
       go (other f q) r = let h = f t in omega arith
   least_le (u ∷ l) j place s (later m) t = least_le l j _ s m t
+  least_le [] j place s x'' t = elim x'' [ ]
 
   -- it is one of them, or the place to begin with
   data Least (l : List Sym) (j : J) (place : ℕ) : Type 0 where

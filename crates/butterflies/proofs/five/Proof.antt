@@ -9,25 +9,25 @@ use Rattle.butterflies.proofs.Butterflies.{five_butterfly}
 use Rattle.butterflies.proofs.five.Statement.{statement}
 use Rattle.butterflies.proofs.five.Tie as tie
 
-root-at-requires : tie.Need-root-at-requires
-root-at-requires c κs = search rules
+root_at-w-requires : tie.Need-root_at-w-requires
+root_at-w-requires c κs = search rules
 
-root-at-requires-2 : tie.Need-root-at-requires-2
-root-at-requires-2 c κs = search rules
+root_at-z-requires : tie.Need-root_at-z-requires
+root_at-z-requires c κs = search rules
 
 sum-requires : tie.Need-sum-requires
 sum-requires c κs =
     let s = c.before.before in
     given_both s.requires.1 1 (lit< tt) 4 (lit< tt)
 
-sum-requires-2 : tie.Need-sum-requires-2
-sum-requires-2 c κs =
+sum-all-requires : tie.Need-sum-all-requires
+sum-all-requires c κs =
     let s = c.before.before.before in
     let m = s.args.m in
     rooms (omega arith) (omega arith) (given s.requires.1 0 (lit< tt) m) (c.sum.ensures m 1 1 _ _ (given s.requires.1 1 (lit< tt) m) (given s.requires.1 4 (lit< tt) m))
 
-sum-requires-3 : tie.Need-sum-requires-3
-sum-requires-3 c κs =
+sum-requires-2 : tie.Need-sum-requires-2
+sum-requires-2 c κs =
     let s = c.before.before.before.before in
     given_both s.requires.1 2 (lit< tt) 3 (lit< tt)
 
@@ -38,16 +38,16 @@ total-requires c κs =
     let s = at_sum.before.before.before in
     let m = s.args.m in
     let t = at_sum.sum.ensures m 1 1 _ _ (given s.requires.1 1 (lit< tt) m) (given s.requires.1 4 (lit< tt) m) in
-    let all = at-sum2.sum2.ensures m 1 2 _ _ (given s.requires.1 0 (lit< tt) m) t in
-    (s.requires.0.0, rooms (omega arith) (omega arith) all (c.sum3.ensures m 1 1 _ _ (given s.requires.1 2 (lit< tt) m) (given s.requires.1 3 (lit< tt) m)))
+    let all = at-sum2.sum-all.ensures m 1 2 _ _ (given s.requires.1 0 (lit< tt) m) t in
+    (s.requires.0.0, rooms (omega arith) (omega arith) all (c.sum-2.ensures m 1 1 _ _ (given s.requires.1 2 (lit< tt) m) (given s.requires.1 3 (lit< tt) m)))
 
 conjugates-requires : tie.Need-conjugates-requires
 conjugates-requires c κs =
     let at-root-at2 = c.before.before.before.before in
     let at-root-at = at-root-at2.before in
     let s = at-root-at.before in
-    let w = root_most s.requires.0.1 (lit< tt) at-root-at.root-at.ensures s.requires.0.0 in
-    let z = root_most s.requires.0.1 (lit< tt) at-root-at2.root-at2.ensures s.requires.0.0 in
+    let w = root_most s.requires.0.1 (lit< tt) at-root-at.root_at-w.ensures s.requires.0.0 in
+    let z = root_most s.requires.0.1 (lit< tt) at-root-at2.root_at-z.ensures s.requires.0.0 in
     let given = s.requires.1.each in
     ((s.requires.0.0, w.0, w.1, z.0, z.1), (given 0 (lit< tt), given 1 (lit< tt), given 2 (lit< tt), given 3 (lit< tt), given 4 (lit< tt)))
 
@@ -56,8 +56,8 @@ conjugates-requires-2 c κs =
     let at-root-at2 = c.before.before.before.before.before in
     let at-root-at = at-root-at2.before in
     let s = at-root-at.before in
-    let w = root_most s.requires.0.1 (lit< tt) at-root-at.root-at.ensures s.requires.0.0 in
-    let z = root_most s.requires.0.1 (lit< tt) at-root-at2.root-at2.ensures s.requires.0.0 in
+    let w = root_most s.requires.0.1 (lit< tt) at-root-at.root_at-w.ensures s.requires.0.0 in
+    let z = root_most s.requires.0.1 (lit< tt) at-root-at2.root_at-z.ensures s.requires.0.0 in
     let given = s.requires.1.each in
     ((s.requires.0.0, z.0, z.1, w.0, w.1), (given 0 (lit< tt), given 1 (lit< tt), given 3 (lit< tt), given 2 (lit< tt), given 4 (lit< tt)))
 
@@ -73,22 +73,13 @@ returns c =
     let s = at-root-at.before in
     let m = s.args.m in
     let t = at_sum.sum.ensures m 1 1 _ _ (given s.requires.1 1 (lit< tt) m) (given s.requires.1 4 (lit< tt) m) in
-    let all = at-sum2.sum2.ensures m 1 2 _ _ (given s.requires.1 0 (lit< tt) m) t in
-    let u = at-sum3.sum3.ensures m 1 1 _ _ (given s.requires.1 2 (lit< tt) m) (given s.requires.1 3 (lit< tt) m) in
+    let all = at-sum2.sum-all.ensures m 1 2 _ _ (given s.requires.1 0 (lit< tt) m) t in
+    let u = at-sum3.sum-2.ensures m 1 1 _ _ (given s.requires.1 2 (lit< tt) m) (given s.requires.1 3 (lit< tt) m) in
     let near = at-conjugates.conjugates.ensures in
-    let far = c.conjugates2.ensures in
-    five_butterfly m s.requires.0.1 _ _ at-root-at.root-at.ensures at-root-at2.root-at2.ensures (at-total.total.ensures 3 2 _ _ all u) near.0 far.0 far.1 near.1
+    let far = c.conjugates-2.ensures in
+    five_butterfly m s.requires.0.1 _ _ at-root-at.root_at-w.ensures at-root-at2.root_at-z.ensures (at-total.total.ensures 3 2 _ _ all u) near.0 far.0 far.1 near.1
 
 pub five_spec : {M : Type 1} → statement M
 five_spec =
     tie.close
-    (tie.spec
-    root-at-requires
-    root-at-requires-2
-    sum-requires
-    sum-requires-2
-    sum-requires-3
-    total-requires
-    conjugates-requires
-    conjugates-requires-2
-    returns)
+    (tie.spec root_at-w-requires root_at-z-requires sum-requires sum-all-requires sum-requires-2 total-requires conjugates-requires conjugates-requires-2 returns)

@@ -5,8 +5,8 @@ use Rattle.butterflies.proofs.Butterflies.{two_butterfly}
 use Rattle.butterflies.proofs.two.Statement.{statement}
 use Rattle.butterflies.proofs.two.Tie as tie
 
-both-ways-requires : tie.Need-both-ways-requires
-both-ways-requires c κs =
+both_ways-requires : tie.Need-both_ways-requires
+both_ways-requires c κs =
     (c.requires.0, given_both c.requires.1 0 (lit< tt) 1 (lit< tt))
 
 returns : tie.Need-returns
@@ -17,4 +17,4 @@ returns c =
     λ W half. two_butterfly m W half _ _ sums.0 sums.1
 
 pub two_spec : {M : Type 1} → statement M
-two_spec = tie.close (tie.spec both-ways-requires returns)
+two_spec = tie.close (tie.spec both_ways-requires returns)

@@ -3,11 +3,11 @@ use native.Mathlib.Omega.{arith}
 use Rattle.fold_formulas.proofs.share.Statement.{statement}
 use Rattle.fold_formulas.proofs.share.Tie as tie
 
-mul-reciprocal : tie.Need-overflow-mul-reciprocal
-mul-reciprocal c = omega arith
+overflow_mul-a : tie.Need-overflow_mul-a
+overflow_mul-a c = omega arith
 
-cast-reciprocal : tie.Need-overflow-cast-reciprocal
-cast-reciprocal c = omega (arith, c.requires.2)
+overflow_cast-a : tie.Need-overflow_cast-a
+overflow_cast-a c = omega (arith, c.requires.2)
 
 reciprocal-requires : tie.Need-reciprocal-requires
 reciprocal-requires c κs = (c.requires.0, omega (arith, c.requires.1))
@@ -17,4 +17,4 @@ returns c = c.reciprocal.ensures
 
 pub share_spec : {M : Type 1} → statement M
 share_spec =
-    tie.close (tie.spec mul-reciprocal cast-reciprocal reciprocal-requires returns)
+    tie.close (tie.spec overflow_mul-a overflow_cast-a reciprocal-requires returns)

@@ -7,37 +7,37 @@ use Rattle.butterflies.proofs.radix.Spreading.{asked, all_room, spread_none, spr
 use Rattle.butterflies.proofs.radix.five_at.Statement.{statement}
 use Rattle.butterflies.proofs.radix.five_at.Tie as tie
 
-times-factor-requires : tie.Need-times-factor-requires
-times-factor-requires c κs = asked c.before.before.requires 0 (lit< tt)
+times_factor-requires : tie.Need-times_factor-requires
+times_factor-requires c κs = asked c.before.before.requires 0 (lit< tt)
 
-times-factor-requires-2 : tie.Need-times-factor-requires-2
-times-factor-requires-2 c κs = asked c.before.before.before.requires 1 (lit< tt)
+times_factor-requires-2 : tie.Need-times_factor-requires-2
+times_factor-requires-2 c κs = asked c.before.before.before.requires 1 (lit< tt)
 
-times-factor-requires-3 : tie.Need-times-factor-requires-3
-times-factor-requires-3 c κs = asked c.before.before.before.before.requires 2 (lit< tt)
+times_factor-requires-3 : tie.Need-times_factor-requires-3
+times_factor-requires-3 c κs = asked c.before.before.before.before.requires 2 (lit< tt)
 
-times-factor-requires-4 : tie.Need-times-factor-requires-4
-times-factor-requires-4 c κs = asked c.before.before.before.before.before.requires 3 (lit< tt)
+times_factor-requires-4 : tie.Need-times_factor-requires-4
+times_factor-requires-4 c κs = asked c.before.before.before.before.before.requires 3 (lit< tt)
 
-times-factor-requires-5 : tie.Need-times-factor-requires-5
-times-factor-requires-5 c κs = asked c.before.before.before.before.before.before.requires 4 (lit< tt)
+times_factor-requires-5 : tie.Need-times_factor-requires-5
+times_factor-requires-5 c κs = asked c.before.before.before.before.before.before.requires 4 (lit< tt)
 
-five-requires : tie.Need-five-requires
-five-requires c κs =
+five-y-requires : tie.Need-five-y-requires
+five-y-requires c κs =
     let s = c.before.before.before.before.before.before.before in
-    (s.requires.0, all_room (five_loaded c.before.before.before.before.times-factor.ensures c.before.before.before.times-factor2.ensures c.before.before.times-factor3.ensures c.before.times-factor4.ensures c.times-factor5.ensures))
+    (s.requires.0, all_room (five_loaded c.before.before.before.before.times_factor.ensures c.before.before.before.times_factor-2.ensures c.before.before.times_factor-3.ensures c.before.times_factor-4.ensures c.times_factor-5.ensures))
 
-store-at-requires : tie.Need-store-at-requires
-store-at-requires c κs = let s = c.before.before.before.before.before.before.before.before.before in omega (arith, s.requires.1.1.inside)
+store_at-requires : tie.Need-store_at-requires
+store_at-requires c κs = let s = c.before.before.before.before.before.before.before.before.before in omega (arith, s.requires.1.1.inside)
 
-store-next-requires : tie.Need-store-next-requires
-store-next-requires c κs = let s = c.before.before.before.before.before.before.before.before.before.before.before.before.before in (omega arith, omega (arith, s.requires.1.1.inside), omega (arith, s.requires.1.1.inside))
+store_next-requires : tie.Need-store_next-requires
+store_next-requires c κs = let s = c.before.before.before.before.before.before.before.before.before.before.before.before.before in (omega arith, omega (arith, s.requires.1.1.inside), omega (arith, s.requires.1.1.inside))
 
-store-next-requires-2 : tie.Need-store-next-requires-2
-store-next-requires-2 c κs = let s = c.before.before.before.before.before.before.before.before.before.before.before.before.before.before.before.before.before in (omega arith, omega (arith, s.requires.1.1.inside), omega (arith, s.requires.1.1.inside))
+store_next-requires-2 : tie.Need-store_next-requires-2
+store_next-requires-2 c κs = let s = c.before.before.before.before.before.before.before.before.before.before.before.before.before.before.before.before.before in (omega arith, omega (arith, s.requires.1.1.inside), omega (arith, s.requires.1.1.inside))
 
-same_length : tie.Need-same-length
-same_length c = search rules
+shape_of-to : tie.Need-shape_of-to
+shape_of-to c = search rules
 
 returns : tie.Need-returns
 returns c =
@@ -51,11 +51,11 @@ returns c =
     let at-factor2 = at-factor3.before in
     let at-factor = at-factor2.before in
     let s = at-factor.before.before.before in
-    let f = of_five at_five.five.result in
+    let f = of_five at_five.five-y.result in
     let d = s.args.to.now in
-    butterfly_stored s.args.m s.args.at d (five_loaded at-factor.times-factor.ensures at-factor2.times-factor2.ensures at-factor3.times-factor3.ensures at-factor4.times-factor4.ensures at-factor5.times-factor5.ensures)
-    at_five.five.ensures
-    (spread_next s.args.at f d 3 (spread_next s.args.at f d 1 (spread_more s.args.at f d 0 (spread_none s.args.at f d) at_store.store_at.ensures) at_next.store-next.ensures) at-next2.store-next2.ensures)
+    butterfly_stored s.args.m s.args.at d (five_loaded at-factor.times_factor.ensures at-factor2.times_factor-2.ensures at-factor3.times_factor-3.ensures at-factor4.times_factor-4.ensures at-factor5.times_factor-5.ensures)
+    at_five.five-y.ensures
+    (spread_next s.args.at f d 3 (spread_next s.args.at f d 1 (spread_more s.args.at f d 0 (spread_none s.args.at f d) at_store.store_at.ensures) at_next.store_next.ensures) at-next2.store_next-2.ensures)
 
 pub five_at_spec : {M : Type 1} → statement M
-five_at_spec = tie.close (tie.spec times-factor-requires times-factor-requires-2 times-factor-requires-3 times-factor-requires-4 times-factor-requires-5 five-requires store-at-requires store-next-requires store-next-requires-2 same_length returns)
+five_at_spec = tie.close (tie.spec times_factor-requires times_factor-requires-2 times_factor-requires-3 times_factor-requires-4 times_factor-requires-5 five-y-requires store_at-requires store_next-requires store_next-requires-2 shape_of-to returns)

@@ -25,84 +25,72 @@ done s {d = d} e h = subst (λ B. Sums s B d) (sym e) h
 last : (s : tie.Start) → (s.args.outer ≡ 4 → ⊥) → (s.args.outer ≡ 2 → ⊥) → (s.args.outer ≡ 3 → ⊥) → s.args.outer ≡ 5
 last s a b c = omega (arith, s.requires.1.0.0, s.requires.1.0.1, a, b, c)
 
-four-at-requires : tie.Need-four-at-requires
-four-at-requires c κs =
+four_at-requires : tie.Need-four_at-requires
+four_at-requires c κs =
     let at-if1 = c.before in
     let s = at-if1.before.before.before in
-    (s.requires.0, asked s at-if1.if1.true)
+    (s.requires.0, asked s at-if1.if-outer-eq4.true)
 
-two-at-requires : tie.Need-two-at-requires
-two-at-requires c κs =
+two_at-requires : tie.Need-two_at-requires
+two_at-requires c κs =
     let at-if2 = c.before in
     let s = at-if2.before.before.before.before in
-    (s.requires.0, asked s at-if2.if2.true)
+    (s.requires.0, asked s at-if2.if-outer-eq2.true)
 
-three-at-requires : tie.Need-three-at-requires
-three-at-requires c κs =
+three_at-requires : tie.Need-three_at-requires
+three_at-requires c κs =
     let at-if3 = c.before in
     let s = at-if3.before.before.before.before.before in
-    (s.requires.0, asked s at-if3.if3.true)
+    (s.requires.0, asked s at-if3.if-outer-eq3.true)
 
-five-at-requires : tie.Need-five-at-requires
-five-at-requires c κs =
+five_at-requires : tie.Need-five_at-requires
+five_at-requires c κs =
     let at-if3 = c.before in
     let at-if2 = at-if3.before in
     let at-if1 = at-if2.before in
     let s = at-if1.before.before.before in
-    (s.requires.0, asked s (last s at-if1.if1.false at-if2.if2.false at-if3.if3.false))
+    (s.requires.0, asked s (last s at-if1.if-outer-eq4.false at-if2.if-outer-eq2.false at-if3.if-outer-eq3.false))
 
-same_length : tie.Need-same-length
-same_length c = search rules
+shape_of-to-then-outer-eq4 : tie.Need-shape_of-to-then-outer-eq4
+shape_of-to-then-outer-eq4 c = search rules
 
-returns : tie.Need-returns
-returns c =
+returns-then-outer-eq4 : tie.Need-returns-then-outer-eq4
+returns-then-outer-eq4 c =
     let at-four-at = c.before.before in
     let at-if1 = at-four-at.before.before in
-    done at-if1.before.before.before at-if1.if1.true at-four-at.four_at.ensures
+    done at-if1.before.before.before at-if1.if-outer-eq4.true at-four-at.four_at.ensures
 
-same-length-2 : tie.Need-same-length-2
-same-length-2 c = search rules
+shape_of-to-then-outer-eq2 : tie.Need-shape_of-to-then-outer-eq2
+shape_of-to-then-outer-eq2 c = search rules
 
-returns-2 : tie.Need-returns-2
-returns-2 c =
+returns-then-outer-eq2 : tie.Need-returns-then-outer-eq2
+returns-then-outer-eq2 c =
     let at-two-at = c.before.before in
     let at-if2 = at-two-at.before.before in
-    done at-if2.before.before.before.before at-if2.if2.true at-two-at.two_at.ensures
+    done at-if2.before.before.before.before at-if2.if-outer-eq2.true at-two-at.two_at.ensures
 
-same-length-3 : tie.Need-same-length-3
-same-length-3 c = search rules
+shape_of-to-then-outer-eq3 : tie.Need-shape_of-to-then-outer-eq3
+shape_of-to-then-outer-eq3 c = search rules
 
-returns-3 : tie.Need-returns-3
-returns-3 c =
+returns-then-outer-eq3 : tie.Need-returns-then-outer-eq3
+returns-then-outer-eq3 c =
     let at-three-at = c.before.before in
     let at-if3 = at-three-at.before.before in
-    done at-if3.before.before.before.before.before at-if3.if3.true at-three-at.three-at.ensures
+    done at-if3.before.before.before.before.before at-if3.if-outer-eq3.true at-three-at.three_at.ensures
 
-same-length-4 : tie.Need-same-length-4
-same-length-4 c = search rules
+shape_of-to-else-outer-eq3 : tie.Need-shape_of-to-else-outer-eq3
+shape_of-to-else-outer-eq3 c = search rules
 
-returns-4 : tie.Need-returns-4
-returns-4 c =
+returns-else-outer-eq3 : tie.Need-returns-else-outer-eq3
+returns-else-outer-eq3 c =
     let at-five-at = c.before.before in
     let at-if3 = at-five-at.before.before in
     let at-if2 = at-if3.before in
     let at-if1 = at-if2.before in
     let s = at-if1.before.before.before in
-    done s (last s at-if1.if1.false at-if2.if2.false at-if3.if3.false) at-five-at.five-at.ensures
+    done s (last s at-if1.if-outer-eq4.false at-if2.if-outer-eq2.false at-if3.if-outer-eq3.false) at-five-at.five_at.ensures
 
 pub outer_sums_spec : {M : Type 1} → statement M
 outer_sums_spec =
     tie.close
-    (tie.spec
-    four-at-requires
-    two-at-requires
-    three-at-requires
-    five-at-requires
-    same_length
-    returns
-    same-length-2
-    returns-2
-    same-length-3
-    returns-3
-    same-length-4
-    returns-4)
+    (tie.spec four_at-requires two_at-requires three_at-requires five_at-requires shape_of-to-then-outer-eq4 returns-then-outer-eq4 shape_of-to-then-outer-eq2 returns-then-outer-eq2 shape_of-to-then-outer-eq3 returns-then-outer-eq3 shape_of-to-else-outer-eq3 returns-else-outer-eq3)

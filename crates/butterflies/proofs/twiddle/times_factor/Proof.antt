@@ -8,47 +8,47 @@ use Rattle.butterflies.proofs.twiddle.Loading.{loaded_one, loaded_product}
 use Rattle.butterflies.proofs.twiddle.times_factor.Statement.{statement}
 use Rattle.butterflies.proofs.twiddle.times_factor.Tie as tie
 
-mul-k : tie.Need-overflow-mul-k
-mul-k c = search rules
+overflow_mul-k : tie.Need-overflow_mul-k
+overflow_mul-k c = search rules
 
-mul-get : tie.Need-overflow-mul-get
-mul-get c = search rules
+overflow_mul-b : tie.Need-overflow_mul-b
+overflow_mul-b c = search rules
 
-add-get : tie.Need-overflow-add-get
-add-get c = search rules
+overflow_add-b : tie.Need-overflow_add-b
+overflow_add-b c = search rules
 
-get-requires : tie.Need-get-requires
-get-requires c κs = search rules
+get-v-requires : tie.Need-get-v-requires
+get-v-requires c κs = search rules
 
-of-pair-requires : tie.Need-of-pair-requires
-of-pair-requires c κs =
+of_pair-requires : tie.Need-of_pair-requires
+of_pair-requires c κs =
     let at-get = c.before in
     let s = at-get.before.before.before.before.before in
-    let small = small_of s.args.from.now _ at-get.get.ensures s.requires.1.2 in
+    let small = small_of s.args.from.now _ at-get.get-v.ensures s.requires.1.2 in
     record { re = omega (arith, small.re, prime_most s.requires.0.0); im = omega (arith, small.im, prime_most s.requires.0.0) }
 
-root-at-requires : tie.Need-root-at-requires
-root-at-requires c κs = search rules
+root_at-requires : tie.Need-root_at-requires
+root_at-requires c κs = search rules
 
 product-requires : tie.Need-product-requires
 product-requires c κs =
     let at-get = c.before.before in
     let s = at-get.before.before.before.before.before in
-    (s.requires.0.0, root_small s.requires.0.1 s.requires.1.1 c.root-at.ensures, small_of s.args.from.now _ at-get.get.ensures s.requires.1.2)
+    (s.requires.0.0, root_small s.requires.0.1 s.requires.1.1 c.root_at.ensures, small_of s.args.from.now _ at-get.get-v.ensures s.requires.1.2)
 
-returns : tie.Need-returns
-returns c =
+returns-then-k-eq0 : tie.Need-returns-then-k-eq0
+returns-then-k-eq0 c =
     let at-if1 = c.before in
     let at-get = at-if1.before in
     let s = at-get.before.before.before.before.before in
-    loaded_one s.args.m s.args.at s.args.from.now s.args.b at-get.get.ensures _ at-if1.if1.true c.of_pair.ensures.0 (c.of_pair.ensures.1 s.args.m)
+    loaded_one s.args.m s.args.at s.args.from.now s.args.b at-get.get-v.ensures _ at-if1.if-k-eq0.true c.of_pair.ensures.0 (c.of_pair.ensures.1 s.args.m)
 
-returns-2 : tie.Need-returns-2
-returns-2 c =
+returns-else-k-eq0 : tie.Need-returns-else-k-eq0
+returns-else-k-eq0 c =
     let at-root-at = c.before in
     let at-get = at-root-at.before.before in
     let s = at-get.before.before.before.before.before in
-    loaded_product s.args.m s.args.at s.args.from.now s.args.b at-get.get.ensures s.requires.0.1 s.requires.1.1 at-root-at.root-at.ensures c.product.ensures.0 c.product.ensures.1
+    loaded_product s.args.m s.args.at s.args.from.now s.args.b at-get.get-v.ensures s.requires.0.1 s.requires.1.1 at-root-at.root_at.ensures c.product.ensures.0 c.product.ensures.1
 
 pub times_factor_spec : {M : Type 1} → statement M
-times_factor_spec = tie.close (tie.spec mul-k mul-get add-get get-requires of-pair-requires root-at-requires product-requires returns returns-2)
+times_factor_spec = tie.close (tie.spec overflow_mul-k overflow_mul-b overflow_add-b get-v-requires of_pair-requires root_at-requires product-requires returns-then-k-eq0 returns-else-k-eq0)

@@ -4,14 +4,14 @@ use Rattle.cell.proofs.OperationLaws.{order_two, order_four}
 use Rattle.cell.proofs.operations.group_order.Statement.{statement}
 use Rattle.cell.proofs.operations.group_order.Tie as tie
 
-returns : tie.Need-returns
-returns c = search rules
+returns-then-group-eq0 : tie.Need-returns-then-group-eq0
+returns-then-group-eq0 c = search rules
 
-returns-2 : tie.Need-returns-2
-returns-2 c = order_four c.if2.true
+returns-then-group-eq4 : tie.Need-returns-then-group-eq4
+returns-then-group-eq4 c = order_four c.if-group-eq4.true
 
-returns-3 : tie.Need-returns-3
-returns-3 c = order_two _ c.before.before.requires c.before.if1.false c.if2.false
+returns-else-group-eq4 : tie.Need-returns-else-group-eq4
+returns-else-group-eq4 c = order_two _ c.before.before.requires c.before.if-group-eq0.false c.if-group-eq4.false
 
 pub group_order_spec : {M : Type 1} → statement M
-group_order_spec = tie.close (tie.spec returns returns-2 returns-3)
+group_order_spec = tie.close (tie.spec returns-then-group-eq0 returns-then-group-eq4 returns-else-group-eq4)

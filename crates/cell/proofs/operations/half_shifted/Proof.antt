@@ -5,17 +5,17 @@ use Rattle.cell.proofs.OperationLaws.{shifted_none, shifted_low, shifted_high}
 use Rattle.cell.proofs.operations.half_shifted.Statement.{statement}
 use Rattle.cell.proofs.operations.half_shifted.Tie as tie
 
-add-result : tie.Need-overflow-add-result
-add-result c = search rules
+overflow_add-result : tie.Need-overflow_add-result
+overflow_add-result c = search rules
 
-returns : tie.Need-returns
-returns c = (shifted_low _ _ _ c.before.if1.true c.if2.true, omega arith)
+returns-then-x-half : tie.Need-returns-then-x-half
+returns-then-x-half c = (shifted_low _ _ _ c.before.if-odd.true c.if-x-half.true, omega arith)
 
-returns-2 : tie.Need-returns-2
-returns-2 c = (shifted_high _ _ _ c.before.before.requires.0 c.before.before.requires.1 c.before.if1.true c.if2.false, omega arith)
+returns-else-x-half : tie.Need-returns-else-x-half
+returns-else-x-half c = (shifted_high _ _ _ c.before.before.requires.0 c.before.before.requires.1 c.before.if-odd.true c.if-x-half.false, omega arith)
 
-returns-3 : tie.Need-returns-3
-returns-3 c = (shifted_none _ _ _ c.if1.false, c.before.requires.1)
+returns-else-odd : tie.Need-returns-else-odd
+returns-else-odd c = (shifted_none _ _ _ c.if-odd.false, c.before.requires.1)
 
 pub half_shifted_spec : {M : Type 1} → statement M
-half_shifted_spec = tie.close (tie.spec add-result returns returns-2 returns-3)
+half_shifted_spec = tie.close (tie.spec overflow_add-result returns-then-x-half returns-else-x-half returns-else-odd)

@@ -17,8 +17,8 @@ returns : tie.Need-returns
 unfolding image_of
 returns c =
     let f = c.before.before.flipped.ensures in
-    let g = c.before.flipped2.ensures in
-    let h = c.flipped3.ensures in
+    let g = c.before.flipped-2.ensures in
+    let h = c.flipped-3.ensures in
     (λ i. (f.0 i, g.0 i, h.0 i), record { h = f.1; k = g.1; l = h.1 })
 
 pub image_spec : {M : Type 1} → statement M

@@ -14,32 +14,26 @@ signed-requires c κs = search rules
 signed-requires-2 : tie.Need-signed-requires-2
 signed-requires-2 c κs = (c.before.requires.0, small_by _ _ c.signed.ensures)
 
-signed-requires-3 : tie.Need-signed-requires-3
-signed-requires-3 c κs = (c.before.before.requires.0, small_by _ _ c.signed2.ensures)
+signed-y-requires : tie.Need-signed-y-requires
+signed-y-requires c κs = (c.before.before.requires.0, small_by _ _ c.signed-2.ensures)
 
 conjugate-requires : tie.Need-conjugate-requires
-conjugate-requires c κs = (c.before.before.before.before.requires.0, small_by _ _ c.before.signed3.ensures)
+conjugate-requires c κs = (c.before.before.before.before.requires.0, small_by _ _ c.before.signed-y.ensures)
 
-returns : tie.Need-returns
+returns-then-o : tie.Need-returns-then-o
 unfolding implied_value star
-returns c =
+returns-then-o c =
     let s = c.before.before in
-    let e = signed_thrice _ _ _ _ _ s.before.before.signed.ensures s.before.signed2.ensures s.signed3.ensures in
-    rw c.before.if1.true (c.conjugate.ensures ∙ ap (λ z. pair_of (conj s.before.before.before.args.m z)) (value_by _ _ e))
+    let e = signed_thrice _ _ _ _ _ s.before.before.signed.ensures s.before.signed-2.ensures s.signed-y.ensures in
+    rw c.before.if-o.true (c.conjugate.ensures ∙ ap (λ z. pair_of (conj s.before.before.before.args.m z)) (value_by _ _ e))
 
-returns-2 : tie.Need-returns-2
+returns-else-o : tie.Need-returns-else-o
 unfolding implied_value star
-returns-2 c =
+returns-else-o c =
     let s = c.before in
-    rw c.if1.false (signed_thrice _ _ _ _ _ s.before.before.signed.ensures s.before.signed2.ensures s.signed3.ensures)
+    rw c.if-o.false (signed_thrice _ _ _ _ _ s.before.before.signed.ensures s.before.signed-2.ensures s.signed-y.ensures)
 
 pub implied_spec : {M : Type 1} → statement M
 implied_spec =
     tie.close
-    (tie.spec
-    signed-requires
-    signed-requires-2
-    signed-requires-3
-    conjugate-requires
-    returns
-    returns-2)
+    (tie.spec signed-requires signed-requires-2 signed-y-requires conjugate-requires returns-then-o returns-else-o)

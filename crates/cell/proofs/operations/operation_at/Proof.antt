@@ -10,38 +10,32 @@ use Rattle.cell.proofs.OperationLaws.{full_length, twofold_own, twofold_mate}
 use Rattle.cell.proofs.operations.operation_at.Statement.{statement}
 use Rattle.cell.proofs.operations.operation_at.Tie as tie
 
-group-order-requires : tie.Need-group-order-requires
-group-order-requires c κs = search rules
+group_order-own-requires : tie.Need-group_order-own-requires
+group_order-own-requires c κs = search rules
 
-group-operation-requires : tie.Need-group-operation-requires
-group-operation-requires c κs = search rules
+group_operation-requires : tie.Need-group_operation-requires
+group_operation-requires c κs = search rules
 
-group-operation-requires-2 : tie.Need-group-operation-requires-2
-group-operation-requires-2 c κs = omega (arith, c.before.group-order.ensures, full_length c.before.before.args.group)
+group_operation-requires-else-number-own : tie.Need-group_operation-requires-else-number-own
+group_operation-requires-else-number-own c κs = omega (arith, c.before.group_order-own.ensures, full_length c.before.before.args.group)
 
-with-friedel-requires : tie.Need-with-friedel-requires
-with-friedel-requires c κs = search rules
+with_friedel-requires : tie.Need-with_friedel-requires
+with_friedel-requires c κs = search rules
 
-returns : tie.Need-returns
-returns c =
+returns-then-number-own : tie.Need-returns-then-number-own
+returns-then-number-own c =
     let t = c.before.before in
-    c.group-operation.ensures ∙ twofold_own (ops (group_of t.before.args.group)) t.before.args.number (omega (arith, t.group-order.ensures))
+    c.group_operation.ensures ∙ twofold_own (ops (group_of t.before.args.group)) t.before.args.number (omega (arith, t.group_order-own.ensures))
 
-returns-2 : tie.Need-returns-2
-returns-2 c =
+returns-else-number-own : tie.Need-returns-else-number-own
+returns-else-number-own c =
     let t = c.before.before.before in
-    let e = t.group-order.ensures in
-    c.with-friedel.ensures
-    ∙ ap (λ s. friedel · s) (c.before.group-operation2.ensures ∙ ap (λ n. get_or (ops (group_of t.before.args.group)) (t.before.args.number - n) one) e)
+    let e = t.group_order-own.ensures in
+    c.with_friedel.ensures
+    ∙ ap (λ s. friedel · s) (c.before.group_operation-else-number-own.ensures ∙ ap (λ n. get_or (ops (group_of t.before.args.group)) (t.before.args.number - n) one) e)
     ∙ twofold_mate (ops (group_of t.before.args.group)) t.before.args.number (omega (arith, e)) (omega (arith, full_length t.before.args.group))
 
 pub operation_at_spec : {M : Type 1} → statement M
 operation_at_spec =
     tie.close
-    (tie.spec
-    group-order-requires
-    group-operation-requires
-    group-operation-requires-2
-    with-friedel-requires
-    returns
-    returns-2)
+    (tie.spec group_order-own-requires group_operation-requires group_operation-requires-else-number-own with_friedel-requires returns-then-number-own returns-else-number-own)

@@ -17,8 +17,8 @@ returns : tie.Need-returns
 unfolding point_image
 returns c =
     let f = c.before.before.moved.ensures in
-    let g = c.before.moved2.ensures in
-    let h = c.moved3.ensures in
+    let g = c.before.moved-2.ensures in
+    let h = c.moved-3.ensures in
     (λ i. (f.0 i, g.0 i, h.0 i), record { x = f.1; y = g.1; z = h.1 })
 
 pub point_image_spec : {M : Type 1} → statement M

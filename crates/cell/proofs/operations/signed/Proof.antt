@@ -7,14 +7,14 @@ use Rattle.cell.proofs.operations.signed.Tie as tie
 negated-requires : tie.Need-negated-requires
 negated-requires c κs = search rules
 
-returns : tie.Need-returns
-returns c = signed_even _ c.before.before.requires.1 _ _ c.before.if1.true c.if2.true
+returns-then-h-eq0 : tie.Need-returns-then-h-eq0
+returns-then-h-eq0 c = signed_even _ c.before.before.requires.1 _ _ c.before.if-odd.true c.if-h-eq0.true
 
-returns-2 : tie.Need-returns-2
-returns-2 c = signed_odd _ c.before.before.before.requires.1 _ _ c.before.before.if1.true c.before.if2.false c.negated.ensures
+returns-else-h-eq0 : tie.Need-returns-else-h-eq0
+returns-else-h-eq0 c = signed_odd _ c.before.before.before.requires.1 _ _ c.before.before.if-odd.true c.before.if-h-eq0.false c.negated.ensures
 
-returns-3 : tie.Need-returns-3
-returns-3 c = signed_none _ c.before.requires.1 _ _ c.if1.false
+returns-else-odd : tie.Need-returns-else-odd
+returns-else-odd c = signed_none _ c.before.requires.1 _ _ c.if-odd.false
 
 pub signed_spec : {M : Type 1} → statement M
-signed_spec = tie.close (tie.spec negated-requires returns returns-2 returns-3)
+signed_spec = tie.close (tie.spec negated-requires returns-then-h-eq0 returns-else-h-eq0 returns-else-odd)

@@ -5,28 +5,28 @@ use Rattle.cell.proofs.PlaceLaws.{point_place_lem}
 use Rattle.cell.proofs.places.density_place.Statement.{statement}
 use Rattle.cell.proofs.places.density_place.Tie as tie
 
-stored-point-requires : tie.Need-stored-point-requires
-stored-point-requires c κs = search rules
+stored_point-q-requires : tie.Need-stored_point-q-requires
+stored_point-q-requires c κs = search rules
 
-pair-place-requires : tie.Need-pair-place-requires
-pair-place-requires c κs = search rules
+pair_place-requires : tie.Need-pair_place-requires
+pair_place-requires c κs = search rules
 
-mul-result : tie.Need-overflow-mul-result
-mul-result c = omega arith
+overflow_mul-result : tie.Need-overflow_mul-result
+overflow_mul-result c = omega arith
 
-cast-result : tie.Need-overflow-cast-result
-cast-result c = search rules
+overflow_cast-result : tie.Need-overflow_cast-result
+overflow_cast-result c = search rules
 
-add-result : tie.Need-overflow-add-result
-add-result c = omega arith
+overflow_add-result : tie.Need-overflow_add-result
+overflow_add-result c = omega arith
 
 returns : tie.Need-returns
 returns c =
     let s = c.before.before in
     let p = s.before.requires in
-    point_place_lem p.0 _ _ _ p.1 s.stored-point.ensures.1 s.stored-point.ensures.0 c.before.pair_place.ensures.0
+    point_place_lem p.0 _ _ _ p.1 s.stored_point-q.ensures.1 s.stored_point-q.ensures.0 c.before.pair_place.ensures.0
 
 pub density_place_spec : {M : Type 1} → statement M
 density_place_spec =
     tie.close
-    (tie.spec stored-point-requires pair-place-requires mul-result cast-result add-result returns)
+    (tie.spec stored_point-q-requires pair_place-requires overflow_mul-result overflow_cast-result overflow_add-result returns)

@@ -7,52 +7,44 @@ use Rattle.cell.proofs.PlaceLaws.{first_found, second_found, zero_found, mirror_
 use Rattle.cell.proofs.places.end_numbers.Statement.{statement}
 use Rattle.cell.proofs.places.end_numbers.Tie as tie
 
-pair-place-requires : tie.Need-pair-place-requires
-pair-place-requires c κs = search rules
+pair_place-place-requires : tie.Need-pair_place-place-requires
+pair_place-place-requires c κs = search rules
 
-mul-place : tie.Need-overflow-mul-place
-mul-place c = omega arith
+overflow_mul-place : tie.Need-overflow_mul-place
+overflow_mul-place c = omega arith
 
-add-t10 : tie.Need-overflow-add-t10
-add-t10 c = omega arith
+overflow_add-result : tie.Need-overflow_add-result
+overflow_add-result c = omega arith
 
-pair-numbers-requires : tie.Need-pair-numbers-requires
-pair-numbers-requires c κs = search rules
+pair_numbers-requires : tie.Need-pair_numbers-requires
+pair_numbers-requires c κs = search rules
 
-returns : tie.Need-returns
-returns c =
+returns-then-j-eq0 : tie.Need-returns-then-j-eq0
+returns-then-j-eq0 c =
     let t = c.before.before.before in
     let p = t.before.requires in
-    first_found p.0.0 _ p.0.1 p.0.2 _ (is_kind p.1.1 t.if1.true) c.if2.true c.before.before.pair_place.ensures.0 refl refl
+    first_found p.0.0 _ p.0.1 p.0.2 _ (is_kind p.1.1 t.if-kind-eq3.true) c.if-j-eq0.true c.before.before.pair_place-place.ensures.0 refl refl
 
-returns-2 : tie.Need-returns-2
-returns-2 c =
+returns-else-j-eq0 : tie.Need-returns-else-j-eq0
+returns-else-j-eq0 c =
     let t = c.before.before.before in
     let p = t.before.requires in
-    second_found p.0.0 _ p.0.1 p.0.2 _ p.0.3 (is_kind p.1.1 t.if1.true) c.if2.false c.before.before.pair_place.ensures.0 refl refl
+    second_found p.0.0 _ p.0.1 p.0.2 _ p.0.3 (is_kind p.1.1 t.if-kind-eq3.true) c.if-j-eq0.false c.before.before.pair_place-place.ensures.0 refl refl
 
-returns-3 : tie.Need-returns-3
-returns-3 c =
+returns-then-kind-eq5 : tie.Need-returns-then-kind-eq5
+returns-then-kind-eq5 c =
     let p = c.before.before.requires in
-    zero_found p.0.0 _ p.0.1 p.0.2 _ p.0.3 (is_kind p.1.1 c.if3.true) refl refl
+    zero_found p.0.0 _ p.0.1 p.0.2 _ p.0.3 (is_kind p.1.1 c.if-kind-eq5.true) refl refl
 
-returns-4 : tie.Need-returns-4
-returns-4 c =
+returns-else-kind-eq5 : tie.Need-returns-else-kind-eq5
+returns-else-kind-eq5 c =
     let t = c.before.before in
     let p = t.before.requires in
     let k = p.1 in
-    let e = c.pair_numbers_lem.ensures in
-    mirror_found p.0.0 _ p.0.1 p.0.2 _ p.0.3 (other_kind k.1 k.0 k.2) (other_kind k.1 k.0 t.if1.false) (other_kind k.1 k.0 c.before.if3.false) e.0 e.1
+    let e = c.pair_numbers.ensures in
+    mirror_found p.0.0 _ p.0.1 p.0.2 _ p.0.3 (other_kind k.1 k.0 k.2) (other_kind k.1 k.0 t.if-kind-eq3.false) (other_kind k.1 k.0 c.before.if-kind-eq5.false) e.0 e.1
 
 pub end_numbers_spec : {M : Type 1} → statement M
 end_numbers_spec =
     tie.close
-    (tie.spec
-    pair-place-requires
-    mul-place
-    add-t10
-    pair-numbers-requires
-    returns
-    returns-2
-    returns-3
-    returns-4)
+    (tie.spec pair_place-place-requires overflow_mul-place overflow_add-result pair_numbers-requires returns-then-j-eq0 returns-else-j-eq0 returns-then-kind-eq5 returns-else-kind-eq5)

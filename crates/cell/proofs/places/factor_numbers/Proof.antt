@@ -8,17 +8,17 @@ use Rattle.cell.proofs.PlaceLaws.{column_numbers}
 use Rattle.cell.proofs.places.factor_numbers.Statement.{statement}
 use Rattle.cell.proofs.places.factor_numbers.Tie as tie
 
-stored-column-requires : tie.Need-stored-column-requires
-stored-column-requires c κs = search rules
+stored_column-requires : tie.Need-stored_column-requires
+stored_column-requires c κs = search rules
 
-line-numbers-requires : tie.Need-line-numbers-requires
-line-numbers-requires c κs = search rules
+line_numbers-requires : tie.Need-line_numbers-requires
+line_numbers-requires c κs = search rules
 
 returns : tie.Need-returns
 returns c =
     let a = c.before.before.args in
     let g = cell_group a.cell in
-    subst (λ p. IsRun (volume_length g (cell_halves a.cell)) p c.line-numbers.result) (sym (column_numbers g _ _ _ c.before.stored-column.ensures.0)) c.line-numbers.ensures
+    subst (λ p. IsRun (volume_length g (cell_halves a.cell)) p c.line_numbers.result) (sym (column_numbers g _ _ _ c.before.stored_column.ensures.0)) c.line_numbers.ensures
 
 pub factor_numbers_spec : {M : Type 1} → statement M
-factor_numbers_spec = tie.close (tie.spec stored-column-requires line-numbers-requires returns)
+factor_numbers_spec = tie.close (tie.spec stored_column-requires line_numbers-requires returns)

@@ -9,11 +9,11 @@ use Rattle.cell.proofs.RotatedLines.{unrotated}
 use Rattle.cell.proofs.places.is_rotated.Statement.{statement}
 use Rattle.cell.proofs.places.is_rotated.Tie as tie
 
-returns : tie.Need-returns
-returns c = ap not (even_tested c.before.args.h) ∙ sym (ap (λ n. rotated (group_of n) c.before.args.h) c.if1.true)
+returns-then-group-eq4 : tie.Need-returns-then-group-eq4
+returns-then-group-eq4 c = ap not (even_tested c.before.args.h) ∙ sym (ap (λ n. rotated (group_of n) c.before.args.h) c.if-group-eq4.true)
 
-returns-2 : tie.Need-returns-2
-returns-2 c = sym (unrotated _ _ c.before.requires c.if1.false)
+returns-else-group-eq4 : tie.Need-returns-else-group-eq4
+returns-else-group-eq4 c = sym (unrotated _ _ c.before.requires c.if-group-eq4.false)
 
 pub is_rotated_spec : {M : Type 1} → statement M
-is_rotated_spec = tie.close (tie.spec returns returns-2)
+is_rotated_spec = tie.close (tie.spec returns-then-group-eq4 returns-else-group-eq4)

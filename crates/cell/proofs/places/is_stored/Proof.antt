@@ -6,14 +6,14 @@ use lib.Dec.{leb, ltb}
 use Rattle.cell.proofs.places.is_stored.Statement.{statement}
 use Rattle.cell.proofs.places.is_stored.Tie as tie
 
-stored-count-requires : tie.Need-stored-count-requires
-stored-count-requires c κs = search rules
+stored_count-requires : tie.Need-stored_count-requires
+stored_count-requires c κs = search rules
 
 returns : tie.Need-returns
 returns c =
     let a = c.before.before.before.before.args in
-    let e = c.before.stored-count.ensures in
+    let e = c.before.stored_count.ensures in
     λ i. leb a.j.k (a.cell.n2 / 2) && ltb a.j.l (e i)
 
 pub is_stored_spec : {M : Type 1} → statement M
-is_stored_spec = tie.close (tie.spec stored-count-requires returns)
+is_stored_spec = tie.close (tie.spec stored_count-requires returns)

@@ -6,30 +6,30 @@ use Rattle.cell.proofs.LineKinds.{is_kind, other_kind, plain_layers, alternating
 use Rattle.cell.proofs.places.layer_count.Statement.{statement}
 use Rattle.cell.proofs.places.layer_count.Tie as tie
 
-line-kind-requires : tie.Need-line-kind-requires
-line-kind-requires c κs = search rules
+line_kind-kind-requires : tie.Need-line_kind-kind-requires
+line_kind-kind-requires c κs = search rules
 
-mul-result : tie.Need-overflow-mul-result
-mul-result c = omega arith
+overflow_mul-result : tie.Need-overflow_mul-result
+overflow_mul-result c = omega arith
 
-add-result : tie.Need-overflow-add-result
-add-result c = omega arith
+overflow_add-result : tie.Need-overflow_add-result
+overflow_add-result c = omega arith
 
-returns : tie.Need-returns
-returns c =
+returns-then-kind-eq0 : tie.Need-returns-then-kind-eq0
+returns-then-kind-eq0 c =
     let k = c.before.before in
-    plain_layers (cell_group k.before.args.cell) 0 _ (is_kind k.line-kind.ensures.1 c.before.if1.true)
+    plain_layers (cell_group k.before.args.cell) 0 _ (is_kind k.line_kind-kind.ensures.1 c.before.if-kind-eq0.true)
 
-returns-2 : tie.Need-returns-2
-returns-2 c =
+returns-then-kind-eq3 : tie.Need-returns-then-kind-eq3
+returns-then-kind-eq3 c =
     let k = c.before.before.before in
-    alternating_layers (cell_group k.before.args.cell) 0 _ (is_kind k.line-kind.ensures.1 c.before.if2.true)
+    alternating_layers (cell_group k.before.args.cell) 0 _ (is_kind k.line_kind-kind.ensures.1 c.before.if-kind-eq3.true)
 
-returns-3 : tie.Need-returns-3
-returns-3 c =
+returns-else-kind-eq3 : tie.Need-returns-else-kind-eq3
+returns-else-kind-eq3 c =
     let k = c.before.before.before in
-    let e = k.line-kind.ensures in
-    mirrored_layers (cell_group k.before.args.cell) 0 _ (other_kind e.1 e.0 c.before.before.if1.false) (other_kind e.1 e.0 c.before.if2.false)
+    let e = k.line_kind-kind.ensures in
+    mirrored_layers (cell_group k.before.args.cell) 0 _ (other_kind e.1 e.0 c.before.before.if-kind-eq0.false) (other_kind e.1 e.0 c.before.if-kind-eq3.false)
 
 pub layer_count_spec : {M : Type 1} → statement M
-layer_count_spec = tie.close (tie.spec line-kind-requires mul-result add-result returns returns-2 returns-3)
+layer_count_spec = tie.close (tie.spec line_kind-kind-requires overflow_mul-result overflow_add-result returns-then-kind-eq0 returns-then-kind-eq3 returns-else-kind-eq3)

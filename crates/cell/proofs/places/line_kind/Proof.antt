@@ -23,23 +23,23 @@ other_line (suc (suc (suc zero))) h a b c d = absurd (c refl)
 other_line (suc (suc (suc (suc zero)))) h a b c d = absurd (d refl)
 other_line (suc (suc (suc (suc (suc n))))) h a b c d = refl
 
-returns : tie.Need-returns
-returns c = (omega arith, rw (ap group_of c.if1.true) refl, λ e. omega arith)
+returns-then-group-eq1 : tie.Need-returns-then-group-eq1
+returns-then-group-eq1 c = (omega arith, rw (ap group_of c.if-group-eq1.true) refl, λ e. omega arith)
 
-returns-2 : tie.Need-returns-2
-returns-2 c = (omega arith, rw (ap group_of c.if2.true) refl, λ e. omega arith)
+returns-then-group-eq2 : tie.Need-returns-then-group-eq2
+returns-then-group-eq2 c = (omega arith, rw (ap group_of c.if-group-eq2.true) refl, λ e. omega arith)
 
-returns-3 : tie.Need-returns-3
-returns-3 c = (omega arith, even_line _ _ c.before.if3.true c.if4.true, λ e. omega arith)
+returns-then-h-eq0 : tie.Need-returns-then-h-eq0
+returns-then-h-eq0 c = (omega arith, even_line _ _ c.before.if-group-eq3.true c.if-h-eq0.true, λ e. omega arith)
 
-returns-4 : tie.Need-returns-4
-returns-4 c = (omega arith, odd_line _ _ c.before.if3.true c.if4.false, λ e. omega arith)
+returns-else-h-eq0 : tie.Need-returns-else-h-eq0
+returns-else-h-eq0 c = (omega arith, odd_line _ _ c.before.if-group-eq3.true c.if-h-eq0.false, λ e. omega arith)
 
-returns-5 : tie.Need-returns-5
-returns-5 c = (omega arith, rw (ap group_of c.if5.true) refl, λ e. omega arith)
+returns-then-group-eq4 : tie.Need-returns-then-group-eq4
+returns-then-group-eq4 c = (omega arith, rw (ap group_of c.if-group-eq4.true) refl, λ e. omega arith)
 
-returns-6 : tie.Need-returns-6
-returns-6 c = let b = c.before in (omega arith, other_line _ _ b.before.before.if1.false b.before.if2.false b.if3.false c.if5.false, λ e. omega arith)
+returns-else-group-eq4 : tie.Need-returns-else-group-eq4
+returns-else-group-eq4 c = let b = c.before in (omega arith, other_line _ _ b.before.before.if-group-eq1.false b.before.if-group-eq2.false b.if-group-eq3.false c.if-group-eq4.false, λ e. omega arith)
 
 pub line_kind_spec : {M : Type 1} → statement M
-line_kind_spec = tie.close (tie.spec returns returns-2 returns-3 returns-4 returns-5 returns-6)
+line_kind_spec = tie.close (tie.spec returns-then-group-eq1 returns-then-group-eq2 returns-then-h-eq0 returns-else-h-eq0 returns-then-group-eq4 returns-else-group-eq4)

@@ -6,61 +6,51 @@ use Rattle.cell.proofs.PlaceLaws.{plain_found, middle_found}
 use Rattle.cell.proofs.places.line_numbers.Statement.{statement}
 use Rattle.cell.proofs.places.line_numbers.Tie as tie
 
-cast-line-kind : tie.Need-overflow-cast-line-kind
-cast-line-kind c = search rules
+overflow_cast-j : tie.Need-overflow_cast-j
+overflow_cast-j c = search rules
 
-line-kind-requires : tie.Need-line-kind-requires
-line-kind-requires c κs = search rules
+line_kind-kind-requires : tie.Need-line_kind-kind-requires
+line_kind-kind-requires c κs = search rules
 
-pair-numbers-requires : tie.Need-pair-numbers-requires
-pair-numbers-requires c κs = search rules
+pair_numbers-requires : tie.Need-pair_numbers-requires
+pair_numbers-requires c κs = search rules
 
-is-end-requires : tie.Need-is-end-requires
-is-end-requires c κs = search rules
+is_end-requires : tie.Need-is_end-requires
+is_end-requires c κs = search rules
 
-end-numbers-requires : tie.Need-end-numbers-requires
-end-numbers-requires c κs =
+end_numbers-requires : tie.Need-end_numbers-requires
+end_numbers-requires c κs =
     let t = c.before.before in
     let k = t.before in
     let p = k.before.before.requires in
-    ((p.0, p.1, p.2, sym c.before.is-end.ensures ∙ c.if2.true), (k.line-kind.ensures.0, k.line-kind.ensures.1, t.if1.false))
+    ((p.0, p.1, p.2, sym c.before.is_end.ensures ∙ c.if-is_end.true), (k.line_kind-kind.ensures.0, k.line_kind-kind.ensures.1, t.if-kind-eq0.false))
 
 folded-requires : tie.Need-folded-requires
 folded-requires c κs = search rules
 
-pair-numbers-requires-2 : tie.Need-pair-numbers-requires-2
-pair-numbers-requires-2 c κs = search rules
+pair_numbers-requires-else-is_end : tie.Need-pair_numbers-requires-else-is_end
+pair_numbers-requires-else-is_end c κs = search rules
 
-returns : tie.Need-returns
-returns c =
+returns-then-kind-eq0 : tie.Need-returns-then-kind-eq0
+returns-then-kind-eq0 c =
     let k = c.before.before in
     let p = k.before.before.requires in
-    let e = c.pair_numbers_lem.ensures in
-    plain_found p.0 _ p.1 p.2 _ (is_kind k.line-kind.ensures.1 c.before.if1.true) e.0 e.1
+    let e = c.pair_numbers.ensures in
+    plain_found p.0 _ p.1 p.2 _ (is_kind k.line_kind-kind.ensures.1 c.before.if-kind-eq0.true) e.0 e.1
 
-returns-2 : tie.Need-returns-2
-returns-2 c = search rules
+returns-then-is_end : tie.Need-returns-then-is_end
+returns-then-is_end c = search rules
 
-returns-3 : tie.Need-returns-3
-returns-3 c =
+returns-else-is_end : tie.Need-returns-else-is_end
+returns-else-is_end c =
     let t = c.before.before.before in
     let k = t.before.before in
     let p = k.before.before.requires in
-    let e = c.pair-numbers2.ensures in
-    let kind = k.line-kind.ensures in
-    middle_found p.0 _ p.1 p.2 _ (other_kind kind.1 kind.0 t.before.if1.false) (sym t.is-end.ensures ∙ c.before.before.if2.false) c.before.folded.ensures e.0 e.1
+    let e = c.pair_numbers-else-is_end.ensures in
+    let kind = k.line_kind-kind.ensures in
+    middle_found p.0 _ p.1 p.2 _ (other_kind kind.1 kind.0 t.before.if-kind-eq0.false) (sym t.is_end.ensures ∙ c.before.before.if-is_end.false) c.before.folded.ensures e.0 e.1
 
 pub line_numbers_spec : {M : Type 1} → statement M
 line_numbers_spec =
     tie.close
-    (tie.spec
-    cast-line-kind
-    line-kind-requires
-    pair-numbers-requires
-    is-end-requires
-    end-numbers-requires
-    folded-requires
-    pair-numbers-requires-2
-    returns
-    returns-2
-    returns-3)
+    (tie.spec overflow_cast-j line_kind-kind-requires pair_numbers-requires is_end-requires end_numbers-requires folded-requires pair_numbers-requires-else-is_end returns-then-kind-eq0 returns-then-is_end returns-else-is_end)

@@ -4,14 +4,14 @@ use native.Mathlib.Omega.{arith}
 use Rattle.cell.proofs.places.pair_numbers.Statement.{statement}
 use Rattle.cell.proofs.places.pair_numbers.Tie as tie
 
-pair-place-requires : tie.Need-pair-place-requires
-pair-place-requires c κs = search rules
+pair_place-requires : tie.Need-pair_place-requires
+pair_place-requires c κs = search rules
 
-mul-t6 : tie.Need-overflow-mul-t6
-mul-t6 c = omega arith
+overflow_mul-result : tie.Need-overflow_mul-result
+overflow_mul-result c = omega arith
 
 returns : tie.Need-returns
 returns c = search rules
 
 pub pair_numbers_spec : {M : Type 1} → statement M
-pair_numbers_spec = tie.close (tie.spec pair-place-requires mul-t6 returns)
+pair_numbers_spec = tie.close (tie.spec pair_place-requires overflow_mul-result returns)

@@ -8,15 +8,15 @@ use Rattle.cell.proofs.PlaceLaws.{half_span}
 use Rattle.cell.proofs.places.stored_count.Statement.{statement}
 use Rattle.cell.proofs.places.stored_count.Tie as tie
 
-add-result : tie.Need-overflow-add-result
-add-result c = search rules
+overflow_add-result : tie.Need-overflow_add-result
+overflow_add-result c = search rules
 
-returns : tie.Need-returns
+returns-then-cell-eq0 : tie.Need-returns-then-cell-eq0
 unfolding span
-returns c = rw (ap group_of c.if1.true) (omega arith)
+returns-then-cell-eq0 c = rw (ap group_of c.if-cell-eq0.true) (omega arith)
 
-returns-2 : tie.Need-returns-2
-returns-2 c = half_span _ _ c.before.before.before.requires.known c.before.if1.false
+returns-else-cell-eq0 : tie.Need-returns-else-cell-eq0
+returns-else-cell-eq0 c = half_span _ _ c.before.before.before.requires.known c.before.if-cell-eq0.false
 
 pub stored_count_spec : {M : Type 1} → statement M
-stored_count_spec = tie.close (tie.spec add-result returns returns-2)
+stored_count_spec = tie.close (tie.spec overflow_add-result returns-then-cell-eq0 returns-else-cell-eq0)

@@ -18,11 +18,11 @@ divide-requires c κs =
     let came = t.transform.ensures.0 in
     ((s.requires.0.0, divisor_pos s.args.n (2880 / s.args.n) long, divisor_le s.args.n (2880 / s.args.n) long), (length_of_lem s.args.m s.args.n _ came, below_of s.args.m s.args.n _ came))
 
-same_length : tie.Need-same-length
-same_length c = search rules
+shape_of-line : tie.Need-shape_of-line
+shape_of-line c = search rules
 
-same-length-2 : tie.Need-same-length-2
-same-length-2 c = search rules
+shape_of-work : tie.Need-shape_of-work
+shape_of-work c = search rules
 
 returns : tie.Need-returns
 returns c =
@@ -32,4 +32,4 @@ returns c =
     (divided_values s.args.m s.args.n _ t.transform.ensures.0 d.divide.ensures, t.transform.ensures.1.1)
 
 pub inverse_spec : {M : Type 1} → statement M
-inverse_spec = tie.close (tie.spec transform-requires divide-requires same_length same-length-2 returns)
+inverse_spec = tie.close (tie.spec transform-requires divide-requires shape_of-line shape_of-work returns)

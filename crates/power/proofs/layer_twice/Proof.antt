@@ -7,40 +7,35 @@ use Rattle.power.proofs.PowerLaws.{twice_plain, twice_alternating, twice_mirrore
 use Rattle.power.proofs.layer_twice.Statement.{statement}
 use Rattle.power.proofs.layer_twice.Tie as tie
 
-line-kind-requires : tie.Need-line-kind-requires
-line-kind-requires c κs = search rules
+line_kind-kind-requires : tie.Need-line_kind-kind-requires
+line_kind-kind-requires c κs = search rules
 
-is-end-requires : tie.Need-is-end-requires
-is-end-requires c κs = search rules
+is_end-inner-requires : tie.Need-is_end-inner-requires
+is_end-inner-requires c κs = search rules
 
-returns : tie.Need-returns
-returns c =
+returns-then-kind-eq0 : tie.Need-returns-then-kind-eq0
+returns-then-kind-eq0 c =
     let e = c.before in
     let k = e.before in
     let a = k.before.args in
-    twice_plain a.density (cell_group a.cell) (a.cell.n3 / 2) a.w (is_kind k.line-kind.ensures.1 c.if1.true)
+    twice_plain a.density (cell_group a.cell) (a.cell.n3 / 2) a.w (is_kind k.line_kind-kind.ensures.1 c.if-kind-eq0.true)
 
-returns-2 : tie.Need-returns-2
-returns-2 c =
+returns-then-kind-eq3 : tie.Need-returns-then-kind-eq3
+returns-then-kind-eq3 c =
     let e = c.before.before in
     let k = e.before in
     let a = k.before.args in
-    twice_alternating a.density (cell_group a.cell) (a.cell.n3 / 2) a.w (is_kind k.line-kind.ensures.1 c.if2.true) e.is-end.ensures
+    twice_alternating a.density (cell_group a.cell) (a.cell.n3 / 2) a.w (is_kind k.line_kind-kind.ensures.1 c.if-kind-eq3.true) e.is_end-inner.ensures
 
-returns-3 : tie.Need-returns-3
-returns-3 c =
+returns-else-kind-eq3 : tie.Need-returns-else-kind-eq3
+returns-else-kind-eq3 c =
     let e = c.before.before in
     let k = e.before in
     let a = k.before.args in
-    let n = k.line-kind.ensures in
-    twice_mirrored a.density (cell_group a.cell) (a.cell.n3 / 2) a.w (other_kind n.1 n.0 c.before.if1.false) (other_kind n.1 n.0 c.if2.false) e.is-end.ensures
+    let n = k.line_kind-kind.ensures in
+    twice_mirrored a.density (cell_group a.cell) (a.cell.n3 / 2) a.w (other_kind n.1 n.0 c.before.if-kind-eq0.false) (other_kind n.1 n.0 c.if-kind-eq3.false) e.is_end-inner.ensures
 
 pub layer_twice_spec : {M : Type 1} → statement M
 layer_twice_spec =
     tie.close
-    (tie.spec
-    line-kind-requires
-    is-end-requires
-    returns
-    returns-2
-    returns-3)
+    (tie.spec line_kind-kind-requires is_end-inner-requires returns-then-kind-eq0 returns-then-kind-eq3 returns-else-kind-eq3)

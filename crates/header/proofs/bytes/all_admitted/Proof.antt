@@ -14,7 +14,7 @@ admitted-requires-3 : tie.Need-admitted-requires-3
 admitted-requires-3 c κs = search rules
 
 returns : tie.Need-returns
-returns c = three c.before.before.admitted.ensures c.before.admitted2.ensures c.admitted3.ensures
+returns c = three c.before.before.admitted.ensures c.before.admitted-2.ensures c.admitted-3.ensures
 
 pub all_admitted_spec : {M : Type 1} → statement M
 all_admitted_spec =

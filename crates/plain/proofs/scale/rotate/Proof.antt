@@ -14,69 +14,58 @@ use Rattle.plain.specs.Plain.{rotation}
 use Rattle.plain.proofs.scale.rotate.Statement.{statement}
 use Rattle.plain.proofs.scale.rotate.Tie as tie
 
-abbrev invariant-loop : tie.invariant-loop
-invariant-loop m over n line₀ j₀ line j = FillingPairs (λ k. k) (λ t. pair_of ((field m).mul (rotation m over) (values_of m line₀ t))) n j line₀ line
+abbrev invariant-loop-j : tie.invariant-loop-j
+invariant-loop-j m over n line₀ j₀ line j = FillingPairs (λ k. k) (λ t. pair_of ((field m).mul (rotation m over) (values_of m line₀ t))) n j line₀ line
 
-abbrev decreases-loop : tie.decreases-loop
-decreases-loop m over n line₀ j₀ line j = n - j
+abbrev decreases-loop-j : tie.decreases-loop-j
+decreases-loop-j m over n line₀ j₀ line j = n - j
 
-abbrev St : tie.In-loop invariant-loop decreases-loop → tie.Start invariant-loop decreases-loop
+abbrev St : tie.In-loop-j invariant-loop-j decreases-loop-j → tie.Start invariant-loop-j decreases-loop-j
 St q = q.before.before.before
 
 -- the pair that is read is still the one that came in
-as-came : (q : tie.In-loop invariant-loop decreases-loop) {v : Pair} → v ≡ at q.before.loop.line q.before.loop.j → v ≡ at (St q).args.line.now q.before.loop.j
-as-came q e = e ∙ filling_ahead q.before.loop.j q.before.loop.invariant (le_refl _)
+as-came : (q : tie.In-loop-j invariant-loop-j decreases-loop-j) {v : Pair} → v ≡ at q.before.loop-j.line q.before.loop-j.j → v ≡ at (St q).args.line.now q.before.loop-j.j
+as-came q e = e ∙ filling_ahead q.before.loop-j.j q.before.loop-j.invariant (le_refl _)
 
-loop-holds : tie.Need-loop-init invariant-loop decreases-loop
-loop-holds c = filling_start
+loop-j-init : tie.Need-loop-j-init invariant-loop-j decreases-loop-j
+loop-j-init c = filling_start
 
-get-requires : tie.Need-get-requires invariant-loop decreases-loop
-get-requires c κs = omega arith
+get-v-requires : tie.Need-get-v-requires invariant-loop-j decreases-loop-j
+get-v-requires c κs = omega arith
 
-rotated-requires : tie.Need-rotated-requires invariant-loop decreases-loop
+rotated-requires : tie.Need-rotated-requires invariant-loop-j decreases-loop-j
 rotated-requires c κs =
     let g = c.before in
     let q = g.before.before in
     let s = St q in
-    (s.pre.0, small_of s.args.line.now q.before.loop.j (as-came q g.get.ensures) s.pre.1.1)
+    (s.pre.0, small_of s.args.line.now q.before.loop-j.j (as-came q g.get-v.ensures) s.pre.1.1)
 
-store-requires : tie.Need-store-requires invariant-loop decreases-loop
+store-requires : tie.Need-store-requires invariant-loop-j decreases-loop-j
 store-requires c κs = omega arith
 
-add-j : tie.Need-overflow-add-j invariant-loop decreases-loop
-add-j c = omega arith
+overflow_add-j : tie.Need-overflow_add-j invariant-loop-j decreases-loop-j
+overflow_add-j c = omega arith
 
-loop-less : tie.Need-loop-smaller invariant-loop decreases-loop
-loop-less c = omega arith
+loop-j-smaller : tie.Need-loop-j-smaller invariant-loop-j decreases-loop-j
+loop-j-smaller c = omega arith
 
-loop-again : tie.Need-loop-preserved invariant-loop decreases-loop
-loop-again c =
+loop-j-preserved : tie.Need-loop-j-preserved invariant-loop-j decreases-loop-j
+loop-j-preserved c =
     let t = c.before.before in
     let r = t.before in
     let g = r.before.before in
     let q = g.before.before in
     let z = (St q).args in
-    filling_next q.before.loop.invariant q.loop-test.true t.store.ensures
-    (r.rotated.ensures ∙ ap (λ v. pair_of ((field z.m).mul (rotation z.m z.over) (value_of z.m v))) (as-came q g.get.ensures))
+    filling_next q.before.loop-j.invariant q.loop-j-test.true t.store.ensures
+    (r.rotated.ensures ∙ ap (λ v. pair_of ((field z.m).mul (rotation z.m z.over) (value_of z.m v))) (as-came q g.get-v.ensures))
 
-same_length : tie.Need-same-length invariant-loop decreases-loop
-same_length c = omega arith
+shape_of-line : tie.Need-shape_of-line invariant-loop-j decreases-loop-j
+shape_of-line c = omega arith
 
-returns : tie.Need-returns invariant-loop decreases-loop
-returns c = filling_whole c.before.loop.invariant c.loop-test.false c.before.before.before.requires.1.0
+returns : tie.Need-returns invariant-loop-j decreases-loop-j
+returns c = filling_whole c.before.loop-j.invariant c.loop-j-test.false c.before.before.before.requires.1.0
 
 pub rotate_spec : {M : Type 1} → statement M
 rotate_spec =
     tie.close
-    (tie.spec
-    invariant-loop
-    decreases-loop
-    loop-holds
-    get-requires
-    rotated-requires
-    store-requires
-    add-j
-    loop-less
-    loop-again
-    same_length
-    returns)
+    (tie.spec invariant-loop-j decreases-loop-j loop-j-init get-v-requires rotated-requires store-requires overflow_add-j loop-j-smaller loop-j-preserved shape_of-line returns)

@@ -7,23 +7,23 @@ use Rattle.plain.specs.Plain.{rotation}
 use Rattle.plain.proofs.scale.rotated.Statement.{statement}
 use Rattle.plain.proofs.scale.rotated.Tie as tie
 
-over-i-requires : tie.Need-over-i-requires
-over-i-requires c κs = search rules
+over_i-requires : tie.Need-over_i-requires
+over_i-requires c κs = search rules
 
-times-i-requires : tie.Need-times-i-requires
-times-i-requires c κs = search rules
+times_i-requires : tie.Need-times_i-requires
+times_i-requires c κs = search rules
 
-returns : tie.Need-returns
-returns c =
+returns-then-over : tie.Need-returns-then-over
+returns-then-over c =
     let t = c.before in
     let z = t.before.args in
-    c.over_i_lem.ensures ∙ ap (λ over. pair_of ((field z.m).mul (rotation z.m over) (value_of z.m z.v))) (sym t.if1.true)
+    c.over_i.ensures ∙ ap (λ over. pair_of ((field z.m).mul (rotation z.m over) (value_of z.m z.v))) (sym t.if-over.true)
 
-returns-2 : tie.Need-returns-2
-returns-2 c =
+returns-else-over : tie.Need-returns-else-over
+returns-else-over c =
     let t = c.before in
     let z = t.before.args in
-    c.times_i_lem.ensures ∙ ap (λ over. pair_of ((field z.m).mul (rotation z.m over) (value_of z.m z.v))) (sym t.if1.false)
+    c.times_i.ensures ∙ ap (λ over. pair_of ((field z.m).mul (rotation z.m over) (value_of z.m z.v))) (sym t.if-over.false)
 
 pub rotated_spec : {M : Type 1} → statement M
-rotated_spec = tie.close (tie.spec over-i-requires times-i-requires returns returns-2)
+rotated_spec = tie.close (tie.spec over_i-requires times_i-requires returns-then-over returns-else-over)

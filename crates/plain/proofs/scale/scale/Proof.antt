@@ -14,69 +14,58 @@ use Rattle.slices.proofs.Filling.{filling_start, filling_next, filling_ahead, fi
 use Rattle.plain.proofs.scale.scale.Statement.{statement}
 use Rattle.plain.proofs.scale.scale.Tie as tie
 
-abbrev invariant-loop : tie.invariant-loop
-invariant-loop m c n line₀ j₀ line j = FillingPairs (λ k. k) (λ t. pair_of ((field m).mul (real m (res m c)) (values_of m line₀ t))) n j line₀ line
+abbrev invariant-loop-j : tie.invariant-loop-j
+invariant-loop-j m c n line₀ j₀ line j = FillingPairs (λ k. k) (λ t. pair_of ((field m).mul (real m (res m c)) (values_of m line₀ t))) n j line₀ line
 
-abbrev decreases-loop : tie.decreases-loop
-decreases-loop m c n line₀ j₀ line j = n - j
+abbrev decreases-loop-j : tie.decreases-loop-j
+decreases-loop-j m c n line₀ j₀ line j = n - j
 
-abbrev St : tie.In-loop invariant-loop decreases-loop → tie.Start invariant-loop decreases-loop
+abbrev St : tie.In-loop-j invariant-loop-j decreases-loop-j → tie.Start invariant-loop-j decreases-loop-j
 St i = i.before.before.before
 
 -- the pair that is read is still the one that came in
-as-came : (i : tie.In-loop invariant-loop decreases-loop) {v : Pair} → v ≡ at i.before.loop.line i.before.loop.j → v ≡ at (St i).args.line.now i.before.loop.j
-as-came i e = e ∙ filling_ahead i.before.loop.j i.before.loop.invariant (le_refl _)
+as-came : (i : tie.In-loop-j invariant-loop-j decreases-loop-j) {v : Pair} → v ≡ at i.before.loop-j.line i.before.loop-j.j → v ≡ at (St i).args.line.now i.before.loop-j.j
+as-came i e = e ∙ filling_ahead i.before.loop-j.j i.before.loop-j.invariant (le_refl _)
 
-loop-holds : tie.Need-loop-init invariant-loop decreases-loop
-loop-holds c = filling_start
+loop-j-init : tie.Need-loop-j-init invariant-loop-j decreases-loop-j
+loop-j-init c = filling_start
 
-get-requires : tie.Need-get-requires invariant-loop decreases-loop
-get-requires c κs = omega arith
+get-v-requires : tie.Need-get-v-requires invariant-loop-j decreases-loop-j
+get-v-requires c κs = omega arith
 
-scaled-requires : tie.Need-scaled-requires invariant-loop decreases-loop
+scaled-requires : tie.Need-scaled-requires invariant-loop-j decreases-loop-j
 scaled-requires c κs =
     let g = c.before in
     let i = g.before.before in
     let s = St i in
-    (s.pre.0.0, s.pre.0.1, small_of s.args.line.now i.before.loop.j (as-came i g.get.ensures) s.pre.1.1)
+    (s.pre.0.0, s.pre.0.1, small_of s.args.line.now i.before.loop-j.j (as-came i g.get-v.ensures) s.pre.1.1)
 
-store-requires : tie.Need-store-requires invariant-loop decreases-loop
+store-requires : tie.Need-store-requires invariant-loop-j decreases-loop-j
 store-requires c κs = omega arith
 
-add-j : tie.Need-overflow-add-j invariant-loop decreases-loop
-add-j c = omega arith
+overflow_add-j : tie.Need-overflow_add-j invariant-loop-j decreases-loop-j
+overflow_add-j c = omega arith
 
-loop-less : tie.Need-loop-smaller invariant-loop decreases-loop
-loop-less c = omega arith
+loop-j-smaller : tie.Need-loop-j-smaller invariant-loop-j decreases-loop-j
+loop-j-smaller c = omega arith
 
-loop-again : tie.Need-loop-preserved invariant-loop decreases-loop
-loop-again c =
+loop-j-preserved : tie.Need-loop-j-preserved invariant-loop-j decreases-loop-j
+loop-j-preserved c =
     let t = c.before.before in
     let r = t.before in
     let g = r.before.before in
     let i = g.before.before in
     let z = (St i).args in
-    filling_next i.before.loop.invariant i.loop-test.true t.store.ensures
-    (r.scaled.ensures ∙ ap (λ v. pair_of ((field z.m).mul (real z.m (res z.m z.c)) (value_of z.m v))) (as-came i g.get.ensures))
+    filling_next i.before.loop-j.invariant i.loop-j-test.true t.store.ensures
+    (r.scaled.ensures ∙ ap (λ v. pair_of ((field z.m).mul (real z.m (res z.m z.c)) (value_of z.m v))) (as-came i g.get-v.ensures))
 
-same_length : tie.Need-same-length invariant-loop decreases-loop
-same_length c = omega arith
+shape_of-line : tie.Need-shape_of-line invariant-loop-j decreases-loop-j
+shape_of-line c = omega arith
 
-returns : tie.Need-returns invariant-loop decreases-loop
-returns c = filling_whole c.before.loop.invariant c.loop-test.false c.before.before.before.requires.1.0
+returns : tie.Need-returns invariant-loop-j decreases-loop-j
+returns c = filling_whole c.before.loop-j.invariant c.loop-j-test.false c.before.before.before.requires.1.0
 
 pub scale_spec : {M : Type 1} → statement M
 scale_spec =
     tie.close
-    (tie.spec
-    invariant-loop
-    decreases-loop
-    loop-holds
-    get-requires
-    scaled-requires
-    store-requires
-    add-j
-    loop-less
-    loop-again
-    same_length
-    returns)
+    (tie.spec invariant-loop-j decreases-loop-j loop-j-init get-v-requires scaled-requires store-requires overflow_add-j loop-j-smaller loop-j-preserved shape_of-line returns)

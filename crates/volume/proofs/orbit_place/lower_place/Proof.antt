@@ -5,24 +5,24 @@ use Rattle.volume.proofs.orbit_place.OrbitPlaceLaws.{not_stored, own_lower, othe
 use Rattle.volume.proofs.orbit_place.lower_place.Statement.{statement}
 use Rattle.volume.proofs.orbit_place.lower_place.Tie as tie
 
-is-stored-requires : tie.Need-is-stored-requires
-is-stored-requires c κs = search rules
+is_stored-requires : tie.Need-is_stored-requires
+is_stored-requires c κs = search rules
 
-returns : tie.Need-returns
-returns c = not_stored _ _ _ _ c.before.is-stored.ensures (not-true _ c.if1.true)
+returns-then-not-is_stored : tie.Need-returns-then-not-is_stored
+returns-then-not-is_stored c = not_stored _ _ _ _ c.before.is_stored.ensures (not-true _ c.if-not-is_stored.true)
 
-number-place-requires : tie.Need-number-place-requires
-number-place-requires c κs = search rules
+number_place-own-requires : tie.Need-number_place-own-requires
+number_place-own-requires c κs = search rules
 
-returns-2 : tie.Need-returns-2
-returns-2 c =
+returns-then-own-place : tie.Need-returns-then-own-place
+returns-then-own-place c =
     let n = c.before in
-    own_lower _ _ _ _ n.before.before.is-stored.ensures (not-false _ n.before.if1.false) n.number_place_lem.ensures c.if2.true
+    own_lower _ _ _ _ n.before.before.is_stored.ensures (not-false _ n.before.if-not-is_stored.false) n.number_place-own.ensures c.if-own-place.true
 
-returns-3 : tie.Need-returns-3
-returns-3 c =
+returns-else-own-place : tie.Need-returns-else-own-place
+returns-else-own-place c =
     let n = c.before in
-    other_lower _ _ _ _ n.before.before.is-stored.ensures (not-false _ n.before.if1.false) n.number_place_lem.ensures c.if2.false
+    other_lower _ _ _ _ n.before.before.is_stored.ensures (not-false _ n.before.if-not-is_stored.false) n.number_place-own.ensures c.if-own-place.false
 
 pub lower_place_spec : {M : Type 1} → statement M
-lower_place_spec = tie.close (tie.spec is-stored-requires returns number-place-requires returns-2 returns-3)
+lower_place_spec = tie.close (tie.spec is_stored-requires returns-then-not-is_stored number_place-own-requires returns-then-own-place returns-else-own-place)

@@ -19,52 +19,43 @@ other : {A : Type 0} (b e : Bool) → (b && e) ≡ false → (b ≡ false → A 
 other true e t f x = t
 other false e t f x = absurd (f refl x)
 
-cast-line-kind : tie.Need-overflow-cast-line-kind
-cast-line-kind c = search rules
+overflow_cast-j : tie.Need-overflow_cast-j
+overflow_cast-j c = search rules
 
-line-kind-requires : tie.Need-line-kind-requires
-line-kind-requires c κs = search rules
+line_kind-kind-requires : tie.Need-line_kind-kind-requires
+line_kind-kind-requires c κs = search rules
 
-pair-place-requires : tie.Need-pair-place-requires
-pair-place-requires c κs = search rules
+pair_place-requires : tie.Need-pair_place-requires
+pair_place-requires c κs = search rules
 
-mul-result : tie.Need-overflow-mul-result
-mul-result c = search rules
+overflow_mul-result : tie.Need-overflow_mul-result
+overflow_mul-result c = search rules
 
-add-result : tie.Need-overflow-add-result
-add-result c = search rules
+overflow_add-result : tie.Need-overflow_add-result
+overflow_add-result c = search rules
 
-returns : tie.Need-returns
-returns c =
+returns-then-kind-j : tie.Need-returns-then-kind-j
+returns-then-kind-j c =
     let t = c.before in
     let k = t.before.before.before in
     let a = k.before.before.args in
-    let e = both (eqb k.line-kind.result 3) (eqb a.j.l (a.cell.n3 / 2)) t.if1.true in
-    last_place _ _ _ (is_kind k.line-kind.ensures.1 (eqb-true k.line-kind.result 3 e.0)) e.1 c.pair_place.ensures.0
+    let e = both (eqb k.line_kind-kind.result 3) (eqb a.j.l (a.cell.n3 / 2)) t.if-kind-j.true in
+    last_place _ _ _ (is_kind k.line_kind-kind.ensures.1 (eqb-true k.line_kind-kind.result 3 e.0)) e.1 c.pair_place.ensures.0
 
-pair-place-requires-2 : tie.Need-pair-place-requires-2
-pair-place-requires-2 c κs = search rules
+pair_place-requires-else-kind-j : tie.Need-pair_place-requires-else-kind-j
+pair_place-requires-else-kind-j c κs = search rules
 
-mul-result-2 : tie.Need-overflow-mul-result-2
-mul-result-2 c = search rules
+overflow_mul-result-else-kind-j : tie.Need-overflow_mul-result-else-kind-j
+overflow_mul-result-else-kind-j c = search rules
 
-returns-2 : tie.Need-returns-2
-returns-2 c =
+returns-else-kind-j : tie.Need-returns-else-kind-j
+returns-else-kind-j c =
     let t = c.before in
     let k = t.before.before.before in
     let a = k.before.before.args in
-    own_place _ _ _ (other (eqb k.line-kind.result 3) (eqb a.j.l (a.cell.n3 / 2)) t.if1.false (λ n. other_kind k.line-kind.ensures.1 k.line-kind.ensures.0 (eqb-false k.line-kind.result 3 n))) c.pair-place2.ensures.0
+    own_place _ _ _ (other (eqb k.line_kind-kind.result 3) (eqb a.j.l (a.cell.n3 / 2)) t.if-kind-j.false (λ n. other_kind k.line_kind-kind.ensures.1 k.line_kind-kind.ensures.0 (eqb-false k.line_kind-kind.result 3 n))) c.pair_place-else-kind-j.ensures.0
 
 pub number_place_spec : {M : Type 1} → statement M
 number_place_spec =
     tie.close
-    (tie.spec
-    cast-line-kind
-    line-kind-requires
-    pair-place-requires
-    mul-result
-    add-result
-    pair-place-requires-2
-    mul-result-2
-    returns
-    returns-2)
+    (tie.spec overflow_cast-j line_kind-kind-requires pair_place-requires overflow_mul-result overflow_add-result pair_place-requires-else-kind-j overflow_mul-result-else-kind-j returns-then-kind-j returns-else-kind-j)

@@ -10,32 +10,32 @@ use Rattle.volume.proofs.read.ReadingLaws.{own_column, mate_column}
 use Rattle.volume.proofs.read.factor_at.Statement.{statement}
 use Rattle.volume.proofs.read.factor_at.Tie as tie
 
-stored-column-requires : tie.Need-stored-column-requires
-stored-column-requires c κs = search rules
+stored_column-requires : tie.Need-stored_column-requires
+stored_column-requires c κs = search rules
 
-line-value-requires : tie.Need-line-value-requires
-line-value-requires c κs =
+line_value-x-requires : tie.Need-line_value-x-requires
+line_value-x-requires c κs =
     let s = c.before.before in
     let p = s.requires in
     let a = s.args in
-    let i = c.stored-column.ensures in
-    ((p.0.0, p.0.1, i.1, i.2), (p.1.0, ap (all_below_at (prime a.m) a.volume.now) (sym (column_numbers (cell_group a.cell) (cell_halves a.cell) (triple_of a.j) (triple_of c.stored-column.result) i.0)) ∙ p.1.1))
+    let i = c.stored_column.ensures in
+    ((p.0.0, p.0.1, i.1, i.2), (p.1.0, ap (all_below_at (prime a.m) a.volume.now) (sym (column_numbers (cell_group a.cell) (cell_halves a.cell) (triple_of a.j) (triple_of c.stored_column.result) i.0)) ∙ p.1.1))
 
 conjugate-requires : tie.Need-conjugate-requires
-conjugate-requires c κs = (c.before.before.before.before.before.before.requires.0.0, small_by _ _ c.before.before.before.line-value.ensures)
+conjugate-requires c κs = (c.before.before.before.before.before.before.requires.0.0, small_by _ _ c.before.before.before.line_value-x.ensures)
 
-returns : tie.Need-returns
-returns c =
+returns-then-j-cell : tie.Need-returns-then-j-cell
+returns-then-j-cell c =
     let a = c.before.before.before.before.before.before.args in
-    own_column (cell_group a.cell) (cell_halves a.cell) a.m a.volume.now (triple_of a.j) (triple_of c.before.before.before.before.stored-column.result) c.before.before.before.before.stored-column.ensures.0 c.before.before.before.line-value.ensures c.if1.true
+    own_column (cell_group a.cell) (cell_halves a.cell) a.m a.volume.now (triple_of a.j) (triple_of c.before.before.before.before.stored_column.result) c.before.before.before.before.stored_column.ensures.0 c.before.before.before.line_value-x.ensures c.if-j-cell.true
 
-returns-2 : tie.Need-returns-2
-returns-2 c =
+returns-else-j-cell : tie.Need-returns-else-j-cell
+returns-else-j-cell c =
     let l = c.before.before.before.before in
     let a = l.before.before.before.args in
-    mate_column (cell_group a.cell) (cell_halves a.cell) a.m a.volume.now (triple_of a.j) (triple_of l.before.stored-column.result) l.before.stored-column.ensures.0 l.line-value.ensures c.before.if1.false c.conjugate.ensures
+    mate_column (cell_group a.cell) (cell_halves a.cell) a.m a.volume.now (triple_of a.j) (triple_of l.before.stored_column.result) l.before.stored_column.ensures.0 l.line_value-x.ensures c.before.if-j-cell.false c.conjugate.ensures
 
 pub factor_at_spec : {M : Type 1} → statement M
 factor_at_spec =
     tie.close
-    (tie.spec stored-column-requires line-value-requires conjugate-requires returns returns-2)
+    (tie.spec stored_column-requires line_value-x-requires conjugate-requires returns-then-j-cell returns-else-j-cell)

@@ -8,55 +8,44 @@ use Rattle.cell.proofs.Scans.{run_start, run_next, run_stop, run_end}
 use Rattle.volume.proofs.read.run_below.Statement.{statement}
 use Rattle.volume.proofs.read.run_below.Tie as tie
 
-abbrev invariant-loop : tie.invariant-loop
-invariant-loop p volume first count i₀ i = (i ≤ count) × (all_below_at p volume (consecutive first count) ≡ all_below_at p volume (consecutive (first + i) (count - i)))
+abbrev invariant-loop-i : tie.invariant-loop-i
+invariant-loop-i p volume first count i₀ i = (i ≤ count) × (all_below_at p volume (consecutive first count) ≡ all_below_at p volume (consecutive (first + i) (count - i)))
 
-abbrev decreases-loop : tie.decreases-loop
-decreases-loop p volume first count i₀ i = count - i
+abbrev decreases-loop-i : tie.decreases-loop-i
+decreases-loop-i p volume first count i₀ i = count - i
 
-loop-holds : tie.Need-loop-init invariant-loop decreases-loop
-loop-holds c = (omega arith, run_start _ _ _)
+loop-i-init : tie.Need-loop-i-init invariant-loop-i decreases-loop-i
+loop-i-init c = (omega arith, run_start _ _ _)
 
-add-if1 : tie.Need-overflow-add-if1 invariant-loop decreases-loop
-add-if1 c = omega arith
+overflow_add-first : tie.Need-overflow_add-first invariant-loop-i decreases-loop-i
+overflow_add-first c = omega arith
 
-mul-if1 : tie.Need-overflow-mul-if1 invariant-loop decreases-loop
-mul-if1 c = omega arith
+offset_bounds-volume-first : tie.Need-offset_bounds-volume-first invariant-loop-i decreases-loop-i
+offset_bounds-volume-first c = omega arith
 
-shared-slice-read-if1 : tie.Need-shared-slice-read-if1 invariant-loop decreases-loop
-shared-slice-read-if1 c = omega arith
+bounds-volume-first : tie.Need-bounds-volume-first invariant-loop-i decreases-loop-i
+bounds-volume-first c = omega arith
 
-returns : tie.Need-returns invariant-loop decreases-loop
-returns c =
+returns-then-p-volume : tie.Need-returns-then-p-volume invariant-loop-i decreases-loop-i
+returns-then-p-volume c =
     let l = c.before.before.before in
-    run_stop _ _ _ _ l.loop.invariant.1 c.before.before.loop-test.true (le-ltb _ _ c.if1.true)
+    run_stop _ _ _ _ l.loop-i.invariant.1 c.before.before.loop-i-test.true (le-ltb _ _ c.if-p-volume.true)
 
-add-i : tie.Need-overflow-add-i invariant-loop decreases-loop
-add-i c = omega arith
+overflow_add-i : tie.Need-overflow_add-i invariant-loop-i decreases-loop-i
+overflow_add-i c = omega arith
 
-loop-less : tie.Need-loop-smaller invariant-loop decreases-loop
-loop-less c = omega arith
+loop-i-smaller : tie.Need-loop-i-smaller invariant-loop-i decreases-loop-i
+loop-i-smaller c = omega arith
 
-loop-again : tie.Need-loop-preserved invariant-loop decreases-loop
-loop-again c =
+loop-i-preserved : tie.Need-loop-i-preserved invariant-loop-i decreases-loop-i
+loop-i-preserved c =
     let l = c.before.before.before in
-    (omega arith, run_next _ _ _ _ l.loop.invariant.1 c.before.before.loop-test.true (lt-ltb _ _ c.if1.false))
+    (omega arith, run_next _ _ _ _ l.loop-i.invariant.1 c.before.before.loop-i-test.true (lt-ltb _ _ c.if-p-volume.false))
 
-returns-2 : tie.Need-returns-2 invariant-loop decreases-loop
-returns-2 c = run_end _ _ _ _ c.before.loop.invariant.1 c.loop-test.false
+returns : tie.Need-returns invariant-loop-i decreases-loop-i
+returns c = run_end _ _ _ _ c.before.loop-i.invariant.1 c.loop-i-test.false
 
 pub run_below_spec : {M : Type 1} → statement M
 run_below_spec =
     tie.close
-    (tie.spec
-    invariant-loop
-    decreases-loop
-    loop-holds
-    add-if1
-    mul-if1
-    shared-slice-read-if1
-    returns
-    add-i
-    loop-less
-    loop-again
-    returns-2)
+    (tie.spec invariant-loop-i decreases-loop-i loop-i-init overflow_add-first offset_bounds-volume-first bounds-volume-first returns-then-p-volume overflow_add-i loop-i-smaller loop-i-preserved returns)

@@ -12,73 +12,62 @@ use Rattle.volume.proofs.read.ReadingLaws.{own_column, mate_column}
 use Rattle.volume.proofs.read.walked_factor.Statement.{statement}
 use Rattle.volume.proofs.read.walked_factor.Tie as tie
 
-stored-column-requires : tie.Need-stored-column-requires
-stored-column-requires c κs = search rules
+stored_column-i-requires : tie.Need-stored_column-i-requires
+stored_column-i-requires c κs = search rules
 
-is-end-requires : tie.Need-is-end-requires
-is-end-requires c κs = search rules
+is_end-requires : tie.Need-is_end-requires
+is_end-requires c κs = search rules
 
-factor-at-requires : tie.Need-factor-at-requires
-factor-at-requires c κs = c.before.before.before.before.requires
+factor_at-requires : tie.Need-factor_at-requires
+factor_at-requires c κs = c.before.before.before.before.requires
 
-returns : tie.Need-returns
-returns c = c.factor_at_lem.ensures
+returns-then-is_end : tie.Need-returns-then-is_end
+returns-then-is_end c = c.factor_at.ensures
 
-stored-count-requires : tie.Need-stored-count-requires
-stored-count-requires c κs = search rules
+stored_count-requires : tie.Need-stored_count-requires
+stored_count-requires c κs = search rules
 
-factor-at-requires-2 : tie.Need-factor-at-requires-2
-factor-at-requires-2 c κs = c.before.before.before.before.before.before.before.requires
+factor_at-requires-then-stored_count-i : tie.Need-factor_at-requires-then-stored_count-i
+factor_at-requires-then-stored_count-i c κs = c.before.before.before.before.before.before.before.requires
 
-returns-2 : tie.Need-returns-2
-returns-2 c = c.factor-at2.ensures
+returns-then-stored_count-i : tie.Need-returns-then-stored_count-i
+returns-then-stored_count-i c = c.factor_at-then-stored_count-i.ensures
 
-between-value-requires : tie.Need-between-value-requires
-between-value-requires c κs =
+between_value-x-requires : tie.Need-between_value-x-requires
+between_value-x-requires c κs =
     let n = c.before.before in
     let e = n.before in
     let q = e.before.before in
     let s = q.before.before in
     let p = s.requires in
     let a = s.args in
-    let i = q.stored-column.ensures in
-    let r = q.stored-column.result in
-    let inner = not_end r.l (a.cell.n3 / 2) (sym e.before.is-end.ensures ∙ e.if1.false) in (
-      (p.0.0, record { sizes = p.0.1; long = p.1.0 }, record { h = i.1.h; k = i.2; l = omega (arith, n.stored-count.ensures, c.if2.false) }, inner.0, inner.1),
+    let i = q.stored_column-i.ensures in
+    let r = q.stored_column-i.result in
+    let inner = not_end r.l (a.cell.n3 / 2) (sym e.before.is_end.ensures ∙ e.if-is_end.false) in (
+      (p.0.0, record { sizes = p.0.1; long = p.1.0 }, record { h = i.1.h; k = i.2; l = omega (arith, n.stored_count.ensures, c.if-stored_count-i.false) }, inner.0, inner.1),
       ap (all_below_at (prime a.m) a.volume.now) (sym (column_numbers (cell_group a.cell) (cell_halves a.cell) (triple_of a.j) (triple_of r) i.0)) ∙ p.1.1,
     )
 
 conjugate-requires : tie.Need-conjugate-requires
 conjugate-requires c κs =
     let b = c.before.before.before in
-    (b.before.before.before.before.before.before.before.before.requires.0.0, small_by _ _ b.between_value.ensures)
+    (b.before.before.before.before.before.before.before.before.requires.0.0, small_by _ _ b.between_value-x.ensures)
 
-returns-3 : tie.Need-returns-3
-returns-3 c =
+returns-then-j-cell : tie.Need-returns-then-j-cell
+returns-then-j-cell c =
     let b = c.before.before.before in
     let q = b.before.before.before.before.before.before in
     let a = q.before.before.args in
-    own_column (cell_group a.cell) (cell_halves a.cell) a.m a.volume.now (triple_of a.j) (triple_of q.stored-column.result) q.stored-column.ensures.0 b.between_value.ensures c.if3.true
+    own_column (cell_group a.cell) (cell_halves a.cell) a.m a.volume.now (triple_of a.j) (triple_of q.stored_column-i.result) q.stored_column-i.ensures.0 b.between_value-x.ensures c.if-j-cell.true
 
-returns-4 : tie.Need-returns-4
-returns-4 c =
+returns-else-j-cell : tie.Need-returns-else-j-cell
+returns-else-j-cell c =
     let b = c.before.before.before.before in
     let q = b.before.before.before.before.before.before in
     let a = q.before.before.args in
-    mate_column (cell_group a.cell) (cell_halves a.cell) a.m a.volume.now (triple_of a.j) (triple_of q.stored-column.result) q.stored-column.ensures.0 b.between_value.ensures c.before.if3.false c.conjugate.ensures
+    mate_column (cell_group a.cell) (cell_halves a.cell) a.m a.volume.now (triple_of a.j) (triple_of q.stored_column-i.result) q.stored_column-i.ensures.0 b.between_value-x.ensures c.before.if-j-cell.false c.conjugate.ensures
 
 pub walked_factor_spec : {M : Type 1} → statement M
 walked_factor_spec =
     tie.close
-    (tie.spec
-    stored-column-requires
-    is-end-requires
-    factor-at-requires
-    returns
-    stored-count-requires
-    factor-at-requires-2
-    returns-2
-    between-value-requires
-    conjugate-requires
-    returns-3
-    returns-4)
+    (tie.spec stored_column-i-requires is_end-requires factor_at-requires returns-then-is_end stored_count-requires factor_at-requires-then-stored_count-i returns-then-stored_count-i between_value-x-requires conjugate-requires returns-then-j-cell returns-else-j-cell)

@@ -11,62 +11,51 @@ use Rattle.volume.proofs.record.RecordLaws.{images_next, images_end}
 use Rattle.volume.proofs.record.write_images.Statement.{statement}
 use Rattle.volume.proofs.record.write_images.Tie as tie
 
-abbrev invariant-loop : tie.invariant-loop
-invariant-loop m cell j x volume₀ count number₀ volume number =
+abbrev invariant-loop-number : tie.invariant-loop-number
+invariant-loop-number m cell j x volume₀ count number₀ volume number =
     (record_on (cell_group cell) (cell_halves cell) m (triple_of j) (value_of m x) volume₀ ≡ write_images (cell_group cell) (cell_halves cell) m (drop number (full (cell_group cell))) (triple_of j) (value_of m x) volume)
     × (length volume ≡ length volume₀)
 
-abbrev decreases-loop : tie.decreases-loop
-decreases-loop m cell j x volume₀ count number₀ volume number = count - number
+abbrev decreases-loop-number : tie.decreases-loop-number
+decreases-loop-number m cell j x volume₀ count number₀ volume number = count - number
 
-operation-count-requires : tie.Need-operation-count-requires invariant-loop decreases-loop
-operation-count-requires c κs = c.before.requires.0.2.known
+operation_count-count-requires : tie.Need-operation_count-count-requires invariant-loop-number decreases-loop-number
+operation_count-count-requires c κs = c.before.requires.0.2.known
 
-loop-holds : tie.Need-loop-init invariant-loop decreases-loop
-loop-holds c = (refl, refl)
+loop-number-init : tie.Need-loop-number-init invariant-loop-number decreases-loop-number
+loop-number-init c = (refl, refl)
 
-operation-at-requires : tie.Need-operation-at-requires invariant-loop decreases-loop
-operation-at-requires c κs = (c.before.before.before.before.requires.0.2.known, subst (λ n. c.before.loop.number < n) c.before.before.operation-count.ensures.0 c.loop-test.true)
+operation_at-requires : tie.Need-operation_at-requires invariant-loop-number decreases-loop-number
+operation_at-requires c κs = (c.before.before.before.before.requires.0.2.known, subst (λ n. c.before.loop-number.number < n) c.before.before.operation_count-count.ensures.0 c.loop-number-test.true)
 
-write-image-requires : tie.Need-write-image-requires invariant-loop decreases-loop
-write-image-requires c κs =
+write_image-requires : tie.Need-write_image-requires invariant-loop-number decreases-loop-number
+write_image-requires c κs =
     let l = c.before.before.before in
     let p = l.before.before.before.requires in
-    (p.0, l.loop.invariant.1 ∙ p.1)
+    (p.0, l.loop-number.invariant.1 ∙ p.1)
 
-add-number : tie.Need-overflow-add-number invariant-loop decreases-loop
-add-number c = omega arith
+overflow_add-number : tie.Need-overflow_add-number invariant-loop-number decreases-loop-number
+overflow_add-number c = omega arith
 
-loop-less : tie.Need-loop-smaller invariant-loop decreases-loop
-loop-less c = omega arith
+loop-number-smaller : tie.Need-loop-number-smaller invariant-loop-number decreases-loop-number
+loop-number-smaller c = omega arith
 
-loop-again : tie.Need-loop-preserved invariant-loop decreases-loop
-loop-again c =
+loop-number-preserved : tie.Need-loop-number-preserved invariant-loop-number decreases-loop-number
+loop-number-preserved c =
     let w = c.before.before in
     let o = w.before.before in
     let l = o.before.before in
-    (images_next _ _ _ _ _ _ l.before.operation-count.ensures.0 _ _ l.loop.invariant.0 o.before.loop-test.true o.operation-at.ensures w.write-image.ensures, omega arith)
+    (images_next _ _ _ _ _ _ l.before.operation_count-count.ensures.0 _ _ l.loop-number.invariant.0 o.before.loop-number-test.true o.operation_at.ensures w.write_image.ensures, omega arith)
 
-same_length : tie.Need-same-length invariant-loop decreases-loop
-same_length c = omega arith
+shape_of-volume : tie.Need-shape_of-volume invariant-loop-number decreases-loop-number
+shape_of-volume c = omega arith
 
-returns : tie.Need-returns invariant-loop decreases-loop
+returns : tie.Need-returns invariant-loop-number decreases-loop-number
 returns c =
     let l = c.before in
-    images_end _ _ _ _ _ _ l.before.operation-count.ensures.0 _ _ l.loop.invariant.0 c.loop-test.false
+    images_end _ _ _ _ _ _ l.before.operation_count-count.ensures.0 _ _ l.loop-number.invariant.0 c.loop-number-test.false
 
 pub write_images_spec : {M : Type 1} → statement M
 write_images_spec =
     tie.close
-    (tie.spec
-    invariant-loop
-    decreases-loop
-    operation-count-requires
-    loop-holds
-    operation-at-requires
-    write-image-requires
-    add-number
-    loop-less
-    loop-again
-    same_length
-    returns)
+    (tie.spec invariant-loop-number decreases-loop-number operation_count-count-requires loop-number-init operation_at-requires write_image-requires overflow_add-number loop-number-smaller loop-number-preserved shape_of-volume returns)

@@ -8,59 +8,51 @@ use Rattle.cell.proofs.StoredFactors.{stored_inside, pair_reads, stored_pair, ab
 use Rattle.volume.proofs.stored.stored_factor.Statement.{statement}
 use Rattle.volume.proofs.stored.stored_factor.Tie as tie
 
-cast-line-kind : tie.Need-overflow-cast-line-kind
-cast-line-kind c = search rules
+overflow_cast-j : tie.Need-overflow_cast-j
+overflow_cast-j c = search rules
 
-line-kind-requires : tie.Need-line-kind-requires
-line-kind-requires c κs = search rules
+line_kind-kind-requires : tie.Need-line_kind-kind-requires
+line_kind-kind-requires c κs = search rules
 
-alternating-factor-requires : tie.Need-alternating-factor-requires
-alternating-factor-requires c κs =
+alternating_factor-requires : tie.Need-alternating_factor-requires
+alternating_factor-requires c κs =
     let s = c.before.before.before.before in
-    (s.requires.0, s.requires.1, is_kind c.before.line-kind.ensures.1 c.if1.true)
+    (s.requires.0, s.requires.1, is_kind c.before.line_kind-kind.ensures.1 c.if-kind-eq3.true)
 
-is-absent-requires : tie.Need-is-absent-requires
-is-absent-requires c κs = search rules
+is_absent-requires : tie.Need-is_absent-requires
+is_absent-requires c κs = search rules
 
-pair-at-requires : tie.Need-pair-at-requires
-pair-at-requires c κs =
+pair_at-requires : tie.Need-pair_at-requires
+pair_at-requires c κs =
     let t = c.before.before in
     let p = t.before.before.before.before.requires in
-    let k = t.before.line-kind.ensures in
-    stored_inside p.0 p.1 (other_kind k.1 k.0 t.if1.false)
+    let k = t.before.line_kind-kind.ensures in
+    stored_inside p.0 p.1 (other_kind k.1 k.0 t.if-kind-eq3.false)
 
-returns : tie.Need-returns
-returns c m = c.alternating-factor.ensures m
+returns-then-kind-eq3 : tie.Need-returns-then-kind-eq3
+returns-then-kind-eq3 c m = c.alternating_factor.ensures m
 
-returns-2 : tie.Need-returns-2
-returns-2 c m =
+returns-then-is_absent : tie.Need-returns-then-is_absent
+returns-then-is_absent c m =
     let l = c.before.before.before in
     let s = l.before.before.before in
     let a = s.args in
-    let k = l.line-kind.ensures in
-    let e = absent_true k.1 k.0 (sym c.before.is-absent.ensures ∙ c.if2.true) in
+    let k = l.line_kind-kind.ensures in
+    let e = absent_true k.1 k.0 (sym c.before.is_absent.ensures ∙ c.if-is_absent.true) in
     absent_value (cell_halves a.cell) (omega (arith, s.requires.0.sizes.third.low)) m a.volume.now (triple_of a.j) (cell_group a.cell) e.0 e.1
 
-returns-3 : tie.Need-returns-3
-returns-3 c m =
+returns-else-is_absent : tie.Need-returns-else-is_absent
+returns-else-is_absent c m =
     let t = c.before in
     let g = t.before.before in
     let s = g.before.before.before.before in
-    let k = g.before.line-kind.ensures in
+    let k = g.before.line_kind-kind.ensures in
     let a = s.args in
     pair_reads (cell_group a.cell) (cell_halves a.cell) m a.volume.now (triple_of a.j)
-    (stored_pair (cell_halves a.cell) (omega (arith, s.requires.0.sizes.third.low)) m a.volume.now (triple_of a.j) (cell_group a.cell) (other_kind k.1 k.0 g.if1.false) (absent_false k.1 k.0 (sym t.before.is-absent.ensures ∙ t.if2.false)) s.requires.1.l)
-    c.pair_at_lem.ensures
+    (stored_pair (cell_halves a.cell) (omega (arith, s.requires.0.sizes.third.low)) m a.volume.now (triple_of a.j) (cell_group a.cell) (other_kind k.1 k.0 g.if-kind-eq3.false) (absent_false k.1 k.0 (sym t.before.is_absent.ensures ∙ t.if-is_absent.false)) s.requires.1.l)
+    c.pair_at.ensures
 
 pub stored_factor_spec : {M : Type 1} → statement M
 stored_factor_spec =
     tie.close
-    (tie.spec
-    cast-line-kind
-    line-kind-requires
-    alternating-factor-requires
-    is-absent-requires
-    pair-at-requires
-    returns
-    returns-2
-    returns-3)
+    (tie.spec overflow_cast-j line_kind-kind-requires alternating_factor-requires is_absent-requires pair_at-requires returns-then-kind-eq3 returns-then-is_absent returns-else-is_absent)

@@ -6,23 +6,23 @@ use Rattle.cell.proofs.StoredFactors.{number_place_lem}
 use Rattle.volume.proofs.stored.stored_number.Statement.{statement}
 use Rattle.volume.proofs.stored.stored_number.Tie as tie
 
-pair-place-requires : tie.Need-pair-place-requires
-pair-place-requires c κs = search rules
+pair_place-requires : tie.Need-pair_place-requires
+pair_place-requires c κs = search rules
 
-mul-place : tie.Need-overflow-mul-place
-mul-place c = search rules
+overflow_mul-place : tie.Need-overflow_mul-place
+overflow_mul-place c = search rules
 
-cast-place : tie.Need-overflow-cast-place
-cast-place c = search rules
+overflow_cast-place : tie.Need-overflow_cast-place
+overflow_cast-place c = search rules
 
-add-place : tie.Need-overflow-add-place
-add-place c = search rules
+overflow_add-place : tie.Need-overflow_add-place
+overflow_add-place c = search rules
 
-mul-result : tie.Need-overflow-mul-result
-mul-result c = search rules
+offset_bounds-volume-place : tie.Need-offset_bounds-volume-place
+offset_bounds-volume-place c = search rules
 
-shared-slice-read-result : tie.Need-shared-slice-read-result
-shared-slice-read-result c = search rules
+bounds-volume-place : tie.Need-bounds-volume-place
+bounds-volume-place c = search rules
 
 returns : tie.Need-returns
 returns c =
@@ -33,11 +33,4 @@ returns c =
 pub stored_number_spec : {M : Type 1} → statement M
 stored_number_spec =
     tie.close
-    (tie.spec
-    pair-place-requires
-    mul-place
-    cast-place
-    add-place
-    mul-result
-    shared-slice-read-result
-    returns)
+    (tie.spec pair_place-requires overflow_mul-place overflow_cast-place overflow_add-place offset_bounds-volume-place bounds-volume-place returns)

@@ -6,83 +6,67 @@ use Rattle.volume.proofs.write.WrittenFactors.{first_written, second_written, pa
 use Rattle.volume.proofs.write.write_alternating.Statement.{statement}
 use Rattle.volume.proofs.write.write_alternating.Tie as tie
 
-pair-place-requires : tie.Need-pair-place-requires
-pair-place-requires c κs = search rules
+pair_place-first-requires : tie.Need-pair_place-first-requires
+pair_place-first-requires c κs = search rules
 
-mul-first : tie.Need-overflow-mul-first
-mul-first c = search rules
+overflow_mul-first : tie.Need-overflow_mul-first
+overflow_mul-first c = search rules
 
-mul-volume : tie.Need-overflow-mul-volume
-mul-volume c = search rules
+offset_bounds-volume-first : tie.Need-offset_bounds-volume-first
+offset_bounds-volume-first c = search rules
 
-slice-write-volume : tie.Need-slice-write-volume
-slice-write-volume c =
+bounds-volume-first : tie.Need-bounds-volume-first
+bounds-volume-first c =
     let s = c.before.before.before.before.before in
     omega (arith, s.requires.1, first_inside s.requires.0.0 _ s.requires.0.1 s.requires.0.2 s.requires.0.3)
 
-alternating-part-requires : tie.Need-alternating-part-requires
-alternating-part-requires c κs = search rules
+alternating_part-requires : tie.Need-alternating_part-requires
+alternating_part-requires c κs = search rules
 
-add-volume : tie.Need-overflow-add-volume
-add-volume c = search rules
+overflow_add-volume : tie.Need-overflow_add-volume
+overflow_add-volume c = search rules
 
-mul-volume-2 : tie.Need-overflow-mul-volume-2
-mul-volume-2 c = search rules
+offset_bounds-volume-first-then-j-half : tie.Need-offset_bounds-volume-first-then-j-half
+offset_bounds-volume-first-then-j-half c = search rules
 
-slice-write-volume-2 : tie.Need-slice-write-volume-2
-slice-write-volume-2 c =
+bounds-volume-first-then-j-half : tie.Need-bounds-volume-first-then-j-half
+bounds-volume-first-then-j-half c =
     let s = c.before.before.before.before.before.before.before.before in
     omega (arith, s.requires.1, first_inside s.requires.0.0 _ s.requires.0.1 s.requires.0.2 s.requires.0.3)
 
-pair-place-requires-2 : tie.Need-pair-place-requires-2
-pair-place-requires-2 c κs = search rules
+pair_place-requires : tie.Need-pair_place-requires
+pair_place-requires c κs = search rules
 
 store-requires : tie.Need-store-requires
 store-requires c κs =
     let t = c.before.before in
     let s = t.before.before.before.before.before.before.before in
-    omega (arith, s.requires.1, middle_inside s.requires.0.0 _ s.requires.0.1 s.requires.0.2 s.requires.0.3 s.requires.0.4 t.if2.false)
+    omega (arith, s.requires.1, middle_inside s.requires.0.0 _ s.requires.0.1 s.requires.0.2 s.requires.0.3 s.requires.0.4 t.if-j-half.false)
 
-same_length : tie.Need-same-length
-same_length c = search rules
+shape_of-volume-then-j-eq0 : tie.Need-shape_of-volume-then-j-eq0
+shape_of-volume-then-j-eq0 c = search rules
 
-returns : tie.Need-returns
-returns c = first_written _ _ _ _ _ _ _ c.if1.true c.before.before.pair_place.ensures.0
+returns-then-j-eq0 : tie.Need-returns-then-j-eq0
+returns-then-j-eq0 c = first_written _ _ _ _ _ _ _ c.if-j-eq0.true c.before.before.pair_place-first.ensures.0
 
-same-length-2 : tie.Need-same-length-2
-same-length-2 c = search rules
+shape_of-volume-then-j-half : tie.Need-shape_of-volume-then-j-half
+shape_of-volume-then-j-half c = search rules
 
-returns-2 : tie.Need-returns-2
-returns-2 c =
+returns-then-j-half : tie.Need-returns-then-j-half
+returns-then-j-half c =
     let t = c.before in
-    second_written _ _ _ _ _ _ _ t.before.before.if1.false t.if2.true t.before.before.before.before.pair_place.ensures.0 c.alternating-part.ensures
+    second_written _ _ _ _ _ _ _ t.before.before.if-j-eq0.false t.if-j-half.true t.before.before.before.before.pair_place-first.ensures.0 c.alternating_part.ensures
 
-same-length-3 : tie.Need-same-length-3
-same-length-3 c = search rules
+shape_of-volume-else-j-half : tie.Need-shape_of-volume-else-j-half
+shape_of-volume-else-j-half c = search rules
 
-returns-3 : tie.Need-returns-3
-returns-3 c =
+returns-else-j-half : tie.Need-returns-else-j-half
+returns-else-j-half c =
     let u = c.before.before in
     let t = u.before.before.before in
-    pair_written _ _ _ _ _ _ _ t.before.before.if1.false t.if2.false u.before.pair-place2.ensures.0 u.store.ensures
+    pair_written _ _ _ _ _ _ _ t.before.before.if-j-eq0.false t.if-j-half.false u.before.pair_place.ensures.0 u.store.ensures
 
 pub write_alternating_spec : {M : Type 1} → statement M
 write_alternating_spec =
     tie.close
-    (tie.spec
-    pair-place-requires
-    mul-first
-    mul-volume
-    slice-write-volume
-    alternating-part-requires
-    add-volume
-    mul-volume-2
-    slice-write-volume-2
-    pair-place-requires-2
-    store-requires
-    same_length
-    returns
-    same-length-2
-    returns-2
-    same-length-3
-    returns-3)
+    (tie.spec pair_place-first-requires overflow_mul-first offset_bounds-volume-first bounds-volume-first alternating_part-requires overflow_add-volume offset_bounds-volume-first-then-j-half bounds-volume-first-then-j-half pair_place-requires store-requires shape_of-volume-then-j-eq0 returns-then-j-eq0 shape_of-volume-then-j-half returns-then-j-half shape_of-volume-else-j-half returns-else-j-half)

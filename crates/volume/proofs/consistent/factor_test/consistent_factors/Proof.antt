@@ -8,34 +8,34 @@ use Rattle.volume.proofs.consistent.TestLaws.{ends_tested, ends_none}
 use Rattle.volume.proofs.consistent.factor_test.consistent_factors.Statement.{statement}
 use Rattle.volume.proofs.consistent.factor_test.consistent_factors.Tie as tie
 
-factors-agree-requires : tie.Need-factors-agree-requires
-factors-agree-requires c κs = c.before.requires
+factors_agree-requires : tie.Need-factors_agree-requires
+factors_agree-requires c κs = c.before.requires
 
-line-kind-requires : tie.Need-line-kind-requires
-line-kind-requires c κs = search rules
+line_kind-requires : tie.Need-line_kind-requires
+line_kind-requires c κs = search rules
 
-odd-rows-empty-requires : tie.Need-odd-rows-empty-requires
-odd-rows-empty-requires c κs = (c.before.before.before.before.before.requires.0, is_kind c.before.line-kind.ensures.1 c.if2.true)
+odd_rows_empty-requires : tie.Need-odd_rows_empty-requires
+odd_rows_empty-requires c κs = (c.before.before.before.before.before.requires.0, is_kind c.before.line_kind.ensures.1 c.if-line_kind-eq5.true)
 
-returns : tie.Need-returns
+returns-then-line_kind-eq5 : tie.Need-returns-then-line_kind-eq5
 unfolding consistent_factors
-returns c =
+returns-then-line_kind-eq5 c =
     let t = c.before.before.before.before in
     let a = t.before.before.args in
-    both_passed t.factors-agree.ensures c.before.before.before.if1.true (ends_tested (cell_group a.cell) (cell_halves a.cell) a.m a.volume.now c.odd-rows-empty.ensures)
+    both_passed t.factors_agree.ensures c.before.before.before.if-factors_agree.true (ends_tested (cell_group a.cell) (cell_halves a.cell) a.m a.volume.now c.odd_rows_empty.ensures)
 
-returns-2 : tie.Need-returns-2
+returns-else-line_kind-eq5 : tie.Need-returns-else-line_kind-eq5
 unfolding consistent_factors
-returns-2 c =
+returns-else-line_kind-eq5 c =
     let t = c.before.before.before in
     let a = t.before.before.args in
-    let k = c.before.line-kind.ensures in
-    both_passed t.factors-agree.ensures c.before.before.if1.true (ends_none (cell_group a.cell) (cell_halves a.cell) a.m a.volume.now (other_kind k.1 k.0 c.if2.false))
+    let k = c.before.line_kind.ensures in
+    both_passed t.factors_agree.ensures c.before.before.if-factors_agree.true (ends_none (cell_group a.cell) (cell_halves a.cell) a.m a.volume.now (other_kind k.1 k.0 c.if-line_kind-eq5.false))
 
-returns-3 : tie.Need-returns-3
+returns-else-factors_agree : tie.Need-returns-else-factors_agree
 unfolding consistent_factors
-returns-3 c = first_failed _ c.before.factors-agree.ensures c.if1.false
+returns-else-factors_agree c = first_failed _ c.before.factors_agree.ensures c.if-factors_agree.false
 
 pub consistent_factors_spec : {M : Type 1} → statement M
 consistent_factors_spec =
-    tie.close (tie.spec factors-agree-requires line-kind-requires odd-rows-empty-requires returns returns-2 returns-3)
+    tie.close (tie.spec factors_agree-requires line_kind-requires odd_rows_empty-requires returns-then-line_kind-eq5 returns-else-line_kind-eq5 returns-else-factors_agree)

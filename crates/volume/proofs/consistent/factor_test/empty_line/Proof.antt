@@ -17,32 +17,27 @@ use Rattle.volume.proofs.consistent.factor_test.empty_line.Tie as tie
 ends : (g : Group) (h c : ℕ) → line_kind g h ≡ antisymmetric → (0 < planes g c) × (c < planes g c)
 ends g h c e = let p = antisymmetric_layers g h c e in (omega (arith, p), omega (arith, p))
 
-pair-at-requires : tie.Need-pair-at-requires
-pair-at-requires c κs = let p = c.before.requires in pair_inside p.0 0 _ _ (ends _ _ _ p.1).0 p.2 p.3
+pair_at-first-requires : tie.Need-pair_at-first-requires
+pair_at-first-requires c κs = let p = c.before.requires in pair_inside p.0 0 _ _ (ends _ _ _ p.1).0 p.2 p.3
 
-pair-at-requires-2 : tie.Need-pair-at-requires-2
-pair-at-requires-2 c κs = let p = c.before.before.before.requires in pair_inside p.0 _ _ _ (ends _ _ _ p.1).1 p.2 p.3
+pair_at-last-requires : tie.Need-pair_at-last-requires
+pair_at-last-requires c κs = let p = c.before.before.before.requires in pair_inside p.0 _ _ _ (ends _ _ _ p.1).1 p.2 p.3
 
-is-zero-requires : tie.Need-is-zero-requires
-is-zero-requires c κs = search rules
+is_zero-requires : tie.Need-is_zero-requires
+is_zero-requires c κs = search rules
 
-is-zero-requires-2 : tie.Need-is-zero-requires-2
-is-zero-requires-2 c κs = search rules
+is_zero-requires-2 : tie.Need-is_zero-requires-2
+is_zero-requires-2 c κs = search rules
 
 returns : tie.Need-returns
 returns c =
     let f = c.before in
     let l = f.before in
-    let x = f.is_zero.ensures ∙ ap is_zero l.before.before.pair_at_lem.ensures in
-    let y = c.is-zero2.ensures ∙ ap is_zero l.pair-at2.ensures in
+    let x = f.is_zero.ensures ∙ ap is_zero l.before.before.pair_at-first.ensures in
+    let y = c.is_zero-2.ensures ∙ ap is_zero l.pair_at-last.ensures in
     λ i. x i && y i
 
 pub empty_line_spec : {M : Type 1} → statement M
 empty_line_spec =
     tie.close
-    (tie.spec
-    pair-at-requires
-    pair-at-requires-2
-    is-zero-requires
-    is-zero-requires-2
-    returns)
+    (tie.spec pair_at-first-requires pair_at-last-requires is_zero-requires is_zero-requires-2 returns)

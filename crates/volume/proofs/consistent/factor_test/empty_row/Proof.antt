@@ -8,43 +8,34 @@ use Rattle.algebra.proofs.cells.Passing.{Passing, passing_start, passing_next, p
 use Rattle.volume.proofs.consistent.factor_test.empty_row.Statement.{statement}
 use Rattle.volume.proofs.consistent.factor_test.empty_row.Tie as tie
 
-abbrev invariant-loop : tie.invariant-loop
-invariant-loop cell volume h k₀ k = Passing (λ k. empty_ends (cell_group cell) (cell_halves cell) volume h k) (suc (cell.n2 / 2)) k
+abbrev invariant-loop-k : tie.invariant-loop-k
+invariant-loop-k cell volume h k₀ k = Passing (λ k. empty_ends (cell_group cell) (cell_halves cell) volume h k) (suc (cell.n2 / 2)) k
 
-abbrev decreases-loop : tie.decreases-loop
-decreases-loop cell volume h k₀ k = suc (cell.n2 / 2) - k
+abbrev decreases-loop-k : tie.decreases-loop-k
+decreases-loop-k cell volume h k₀ k = suc (cell.n2 / 2) - k
 
-loop-holds : tie.Need-loop-init invariant-loop decreases-loop
-loop-holds c = passing_start _ _
+loop-k-init : tie.Need-loop-k-init invariant-loop-k decreases-loop-k
+loop-k-init c = passing_start _ _
 
-empty-line-requires : tie.Need-empty-line-requires invariant-loop decreases-loop
-empty-line-requires c κs = search rules
+empty_line-requires : tie.Need-empty_line-requires invariant-loop-k decreases-loop-k
+empty_line-requires c κs = search rules
 
-add-k : tie.Need-overflow-add-k invariant-loop decreases-loop
-add-k c = omega arith
+overflow_add-k : tie.Need-overflow_add-k invariant-loop-k decreases-loop-k
+overflow_add-k c = omega arith
 
-loop-less : tie.Need-loop-smaller invariant-loop decreases-loop
-loop-less c = omega arith
+loop-k-smaller : tie.Need-loop-k-smaller invariant-loop-k decreases-loop-k
+loop-k-smaller c = omega arith
 
-loop-again : tie.Need-loop-preserved invariant-loop decreases-loop
-loop-again c = passing_next c.before.before.before.before.loop.invariant (omega arith) c.before.empty-line.ensures c.if2.true
+loop-k-preserved : tie.Need-loop-k-preserved invariant-loop-k decreases-loop-k
+loop-k-preserved c = passing_next c.before.before.before.before.loop-k.invariant (omega arith) c.before.empty_line.ensures c.if-empty_line.true
 
-returns : tie.Need-returns invariant-loop decreases-loop
-returns c = passing_stop c.before.before.before.before.loop.invariant (omega arith) c.before.empty-line.ensures c.if2.false
+returns-else-empty_line : tie.Need-returns-else-empty_line invariant-loop-k decreases-loop-k
+returns-else-empty_line c = passing_stop c.before.before.before.before.loop-k.invariant (omega arith) c.before.empty_line.ensures c.if-empty_line.false
 
-returns-2 : tie.Need-returns-2 invariant-loop decreases-loop
-returns-2 c = passing_done c.before.before.loop.invariant (omega arith)
+returns : tie.Need-returns invariant-loop-k decreases-loop-k
+returns c = passing_done c.before.before.loop-k.invariant (omega arith)
 
 pub empty_row_spec : {M : Type 1} → statement M
 empty_row_spec =
     tie.close
-    (tie.spec
-    invariant-loop
-    decreases-loop
-    loop-holds
-    empty-line-requires
-    add-k
-    loop-less
-    loop-again
-    returns
-    returns-2)
+    (tie.spec invariant-loop-k decreases-loop-k loop-k-init empty_line-requires overflow_add-k loop-k-smaller loop-k-preserved returns-else-empty_line returns)

@@ -31,59 +31,52 @@ between-requires c κs = search rules
 between-requires-2 : tie.Need-between-requires-2
 between-requires-2 c κs = search rules
 
-mirrored-agrees-requires : tie.Need-mirrored-agrees-requires
-mirrored-agrees-requires c κs =
+mirrored_agrees-requires : tie.Need-mirrored_agrees-requires
+mirrored_agrees-requires c κs =
     let q = c.before.before.before in
     let p = q.before in
     let b = p.before.before in
     let s = b.before.before.before.before in
-    settled s.args.cell.group b.between.result p.between2.result q.if1.true
-    (λ e u z. ((s.requires.0.0, s.requires.0.1, s.requires.0.2, s.requires.0.3, e), p.between2.ensures z))
+    settled s.args.cell.group b.between.result p.between-2.result q.if-cell-between.true
+    (λ e u z. ((s.requires.0.0, s.requires.0.1, s.requires.0.2, s.requires.0.3, e), p.between-2.ensures z))
 
-images-agree-requires : tie.Need-images-agree-requires
-images-agree-requires c κs = search rules
+images_agree-requires : tie.Need-images_agree-requires
+images_agree-requires c κs = search rules
 
 -- one image is tried
-returns : tie.Need-returns
-returns c =
+returns-then-j-cell : tie.Need-returns-then-j-cell
+returns-then-j-cell c =
     let q = c.before.before.before.before in
     let p = q.before in
     let b = p.before.before in
     let s = b.before.before.before.before in
     let a = cell_halves s.args.cell in
-    settled s.args.cell.group b.between.result p.between2.result q.if1.true
-    (λ e u z. let r = b.between.ensures u in let w = p.between2.ensures z in
-    c.mirrored-agrees.ensures
+    settled s.args.cell.group b.between.result p.between-2.result q.if-cell-between.true
+    (λ e u z. let r = b.between.ensures u in let w = p.between-2.ensures z in
+    c.mirrored_agrees.ensures
     ∙ ap (λ n. image_agrees (group_of n) a s.args.m s.args.volume.now (triple_of s.args.j) mirrored) e
     ∙ sym (inner_4 a s.args.m s.args.volume.now (triple_of s.args.j) r.0 r.1 w.0 w.1)
     ∙ ap (λ n. line_agrees (group_of n) a s.args.m s.args.volume.now (triple_of s.args.j)) (sym e))
 
 -- beyond N1/2 that image was tried at -h
-returns-2 : tie.Need-returns-2
-returns-2 c =
+returns-else-j-cell : tie.Need-returns-else-j-cell
+returns-else-j-cell c =
     let q = c.before.before.before in
     let p = q.before in
     let b = p.before.before in
     let s = b.before.before.before.before in
     let a = cell_halves s.args.cell in
     let j = triple_of s.args.j in
-    settled s.args.cell.group b.between.result p.between2.result q.if1.true
-    (λ e u z. let r = b.between.ensures u in let w = p.between2.ensures z in
+    settled s.args.cell.group b.between.result p.between-2.result q.if-cell-between.true
+    (λ e u z. let r = b.between.ensures u in let w = p.between-2.ensures z in
     sym (ap (λ n. line_agrees (group_of n) a s.args.m s.args.volume.now j) e
     ∙ mirror_4 a s.args.m s.args.volume.now j (omega (arith, s.requires.0.3.h, s.requires.0.0.sizes.first.even)) r.0 r.1 w.0 w.1
-    (ap (λ n. line_agrees (group_of n) a s.args.m s.args.volume.now (neg_i (s.args.cell.n1 / 2) j.0, j.1, j.2)) (sym e) ∙ s.requires.1 (omega (arith, c.if2.false)))))
+    (ap (λ n. line_agrees (group_of n) a s.args.m s.args.volume.now (neg_i (s.args.cell.n1 / 2) j.0, j.1, j.2)) (sym e) ∙ s.requires.1 (omega (arith, c.if-j-cell.false)))))
 
-returns-3 : tie.Need-returns-3
-returns-3 c = search rules
+returns-else-cell-between : tie.Need-returns-else-cell-between
+returns-else-cell-between c = search rules
 
 pub factor_agrees_spec : {M : Type 1} → statement M
 factor_agrees_spec =
     tie.close
-    (tie.spec
-    between-requires
-    between-requires-2
-    mirrored-agrees-requires
-    images-agree-requires
-    returns
-    returns-2
-    returns-3)
+    (tie.spec between-requires between-requires-2 mirrored_agrees-requires images_agree-requires returns-then-j-cell returns-else-j-cell returns-else-cell-between)

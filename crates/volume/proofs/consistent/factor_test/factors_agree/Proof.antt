@@ -10,50 +10,40 @@ use Rattle.algebra.proofs.cells.Passing.{Passing, passing_start, passing_next, p
 use Rattle.volume.proofs.consistent.factor_test.factors_agree.Statement.{statement}
 use Rattle.volume.proofs.consistent.factor_test.factors_agree.Tie as tie
 
-abbrev invariant-loop : tie.invariant-loop
-invariant-loop m cell volume count l₀ l = Passing (λ l. below (2 * (cell.n1 / 2)) (λ h. below (suc (cell.n2 / 2)) (λ k. line_agrees (cell_group cell) (cell_halves cell) m volume (h, k, l)))) (span (cell_group cell) (cell.n3 / 2)) l
+abbrev invariant-loop-l : tie.invariant-loop-l
+invariant-loop-l m cell volume count l₀ l = Passing (λ l. below (2 * (cell.n1 / 2)) (λ h. below (suc (cell.n2 / 2)) (λ k. line_agrees (cell_group cell) (cell_halves cell) m volume (h, k, l)))) (span (cell_group cell) (cell.n3 / 2)) l
 
-abbrev decreases-loop : tie.decreases-loop
-decreases-loop m cell volume count l₀ l = count - l
+abbrev decreases-loop-l : tie.decreases-loop-l
+decreases-loop-l m cell volume count l₀ l = count - l
 
-stored-count-requires : tie.Need-stored-count-requires invariant-loop decreases-loop
-stored-count-requires c κs = search rules
+stored_count-count-requires : tie.Need-stored_count-count-requires invariant-loop-l decreases-loop-l
+stored_count-count-requires c κs = search rules
 
-loop-holds : tie.Need-loop-init invariant-loop decreases-loop
-loop-holds c = passing_start _ _
+loop-l-init : tie.Need-loop-l-init invariant-loop-l decreases-loop-l
+loop-l-init c = passing_start _ _
 
-layer-agrees-requires : tie.Need-layer-agrees-requires invariant-loop decreases-loop
-layer-agrees-requires c κs =
+layer_agrees-requires : tie.Need-layer_agrees-requires invariant-loop-l decreases-loop-l
+layer_agrees-requires c κs =
     let t = c.before.before in
     let p = t.before.before.requires in
-    (p.0, p.1, p.2, omega (arith, t.stored-count.ensures))
+    (p.0, p.1, p.2, omega (arith, t.stored_count-count.ensures))
 
-add-l : tie.Need-overflow-add-l invariant-loop decreases-loop
-add-l c = omega arith
+overflow_add-l : tie.Need-overflow_add-l invariant-loop-l decreases-loop-l
+overflow_add-l c = omega arith
 
-loop-less : tie.Need-loop-smaller invariant-loop decreases-loop
-loop-less c = omega arith
+loop-l-smaller : tie.Need-loop-l-smaller invariant-loop-l decreases-loop-l
+loop-l-smaller c = omega arith
 
-loop-again : tie.Need-loop-preserved invariant-loop decreases-loop
-loop-again c = passing_next c.before.before.before.loop.invariant (omega (arith, c.before.before.before.before.stored-count.ensures)) c.before.layer-agrees.ensures c.if1.true
+loop-l-preserved : tie.Need-loop-l-preserved invariant-loop-l decreases-loop-l
+loop-l-preserved c = passing_next c.before.before.before.loop-l.invariant (omega (arith, c.before.before.before.before.stored_count-count.ensures)) c.before.layer_agrees.ensures c.if-layer_agrees.true
 
-returns : tie.Need-returns invariant-loop decreases-loop
-returns c = passing_stop c.before.before.before.loop.invariant (omega (arith, c.before.before.before.before.stored-count.ensures)) c.before.layer-agrees.ensures c.if1.false ∙ by_layers _ _ _ _
+returns-else-layer_agrees : tie.Need-returns-else-layer_agrees invariant-loop-l decreases-loop-l
+returns-else-layer_agrees c = passing_stop c.before.before.before.loop-l.invariant (omega (arith, c.before.before.before.before.stored_count-count.ensures)) c.before.layer_agrees.ensures c.if-layer_agrees.false ∙ by_layers _ _ _ _
 
-returns-2 : tie.Need-returns-2 invariant-loop decreases-loop
-returns-2 c = passing_done c.before.loop.invariant (omega (arith, c.before.before.stored-count.ensures)) ∙ by_layers _ _ _ _
+returns : tie.Need-returns invariant-loop-l decreases-loop-l
+returns c = passing_done c.before.loop-l.invariant (omega (arith, c.before.before.stored_count-count.ensures)) ∙ by_layers _ _ _ _
 
 pub factors_agree_spec : {M : Type 1} → statement M
 factors_agree_spec =
     tie.close
-    (tie.spec
-    invariant-loop
-    decreases-loop
-    stored-count-requires
-    loop-holds
-    layer-agrees-requires
-    add-l
-    loop-less
-    loop-again
-    returns
-    returns-2)
+    (tie.spec invariant-loop-l decreases-loop-l stored_count-count-requires loop-l-init layer_agrees-requires overflow_add-l loop-l-smaller loop-l-preserved returns-else-layer_agrees returns)

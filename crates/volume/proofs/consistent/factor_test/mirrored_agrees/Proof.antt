@@ -18,25 +18,25 @@ use Rattle.volume.proofs.consistent.Interior.{mirrored_k, mirrored_l}
 use Rattle.volume.proofs.consistent.factor_test.mirrored_agrees.Statement.{statement}
 use Rattle.volume.proofs.consistent.factor_test.mirrored_agrees.Tie as tie
 
-operation-at-requires : tie.Need-operation-at-requires
-operation-at-requires c κs =
+operation_at-o-requires : tie.Need-operation_at-o-requires
+operation_at-o-requires c κs =
     let s = c.before in
     (s.requires.0.0.sizes.known, omega (arith, order_four s.requires.0.4, full_length s.args.cell.group))
 
-image-requires : tie.Need-image-requires
-image-requires c κs =
+image-i-requires : tie.Need-image-i-requires
+image-i-requires c κs =
     let p = c.before.before.requires.0 in
     let s = p.0.sizes in
     (s, stored_within s p.3)
 
 -- the operation, and the image by it
-is-mirrored : (c : tie.After-image) → sym_of c.before.operation-at.result ≡ mirrored
-is-mirrored c = c.before.operation-at.ensures ∙ ap (λ n. get_or (full (group_of n)) 7 one) c.before.before.before.requires.0.4
+is-mirrored : (c : tie.After-image-i) → sym_of c.before.operation_at-o.result ≡ mirrored
+is-mirrored c = c.before.operation_at-o.ensures ∙ ap (λ n. get_or (full (group_of n)) 7 one) c.before.before.before.requires.0.4
 
-is-image : (c : tie.After-image) → let a = c.before.before.before.args in triple_of c.image.result ≡ image_of (cell_halves a.cell) mirrored (triple_of a.j)
-is-image c = let a = c.before.before.before.args in c.image.ensures.0 ∙ ap (λ s. image_of (cell_halves a.cell) s (triple_of a.j)) (is-mirrored c)
+is-image : (c : tie.After-image-i) → let a = c.before.before.before.args in triple_of c.image-i.result ≡ image_of (cell_halves a.cell) mirrored (triple_of a.j)
+is-image c = let a = c.before.before.before.args in c.image-i.ensures.0 ∙ ap (λ s. image_of (cell_halves a.cell) s (triple_of a.j)) (is-mirrored c)
 
-image-stored : (c : tie.After-image) → IsStored c.before.before.before.args.cell c.image.result
+image-stored : (c : tie.After-image-i) → IsStored c.before.before.before.args.cell c.image-i.result
 image-stored c =
     let s = c.before.before.before in
     let a = cell_halves s.args.cell in
@@ -44,15 +44,15 @@ image-stored c =
     let i = is-image c in
     let p = s.requires.0.3 in
     let k = mirrored_k a j i in
-    record { h = c.image.ensures.1.h; k = omega (arith, k, p.k); l = subst (λ l. l < span (cell_group s.args.cell) (s.args.cell.n3 / 2)) (sym (mirrored_l a j i)) p.l }
+    record { h = c.image-i.ensures.1.h; k = omega (arith, k, p.k); l = subst (λ l. l < span (cell_group s.args.cell) (s.args.cell.n3 / 2)) (sym (mirrored_l a j i)) p.l }
 
-between-value-requires : tie.Need-between-value-requires
-between-value-requires c κs =
+between_value-x-requires : tie.Need-between_value-x-requires
+between_value-x-requires c κs =
     let p = c.before.before.before.requires in
     ((p.0.1, p.0.0, p.0.3, λ e. omega (arith, p.1.0, e), λ e. omega (arith, p.1.1, e)), all_below_at_lem p.0.2 _)
 
-between-value-requires-2 : tie.Need-between-value-requires-2
-between-value-requires-2 c κs =
+between_value-y-requires : tie.Need-between_value-y-requires
+between_value-y-requires c κs =
     let i = c.before in
     let s = i.before.before.before in
     let p = s.requires in
@@ -60,7 +60,7 @@ between-value-requires-2 c κs =
     ((p.0.1, p.0.0, image-stored i, λ e. omega (arith, l, p.1.0, e), λ e. omega (arith, l, p.1.1, e)), all_below_at_lem p.0.2 _)
 
 implied-requires : tie.Need-implied-requires
-implied-requires c κs = (c.before.before.before.before.before.requires.0.1, small_by _ _ c.before.between_value.ensures)
+implied-requires c κs = (c.before.before.before.before.before.requires.0.1, small_by _ _ c.before.between_value-x.ensures)
 
 same-requires : tie.Need-same-requires
 same-requires c κs = search rules
@@ -74,19 +74,12 @@ returns c =
     let s = i.before.before.before in
     let a = s.args in
     let w = image-stored i in
-    image_tested (cell_group a.cell) (cell_halves a.cell) a.m a.volume.now (triple_of a.j) (sym_of i.before.operation-at.result) i.image.ensures.0 refl
-    ((true_iff _).1 ((stored_iff (cell_group a.cell) (cell_halves a.cell) (triple_of i.image.result)).1 (w.k, w.l)))
-    x.between_value.ensures y.between-value2.ensures z.implied.ensures c.same.ensures
+    image_tested (cell_group a.cell) (cell_halves a.cell) a.m a.volume.now (triple_of a.j) (sym_of i.before.operation_at-o.result) i.image-i.ensures.0 refl
+    ((true_iff _).1 ((stored_iff (cell_group a.cell) (cell_halves a.cell) (triple_of i.image-i.result)).1 (w.k, w.l)))
+    x.between_value-x.ensures y.between_value-y.ensures z.implied.ensures c.same.ensures
     ∙ ap (λ q. image_agrees (cell_group a.cell) (cell_halves a.cell) a.m a.volume.now (triple_of a.j) q) (is-mirrored i)
 
 pub mirrored_agrees_spec : {M : Type 1} → statement M
 mirrored_agrees_spec =
     tie.close
-    (tie.spec
-    operation-at-requires
-    image-requires
-    between-value-requires
-    between-value-requires-2
-    implied-requires
-    same-requires
-    returns)
+    (tie.spec operation_at-o-requires image-i-requires between_value-x-requires between_value-y-requires implied-requires same-requires returns)

@@ -15,84 +15,75 @@ use Rattle.volume.proofs.consistent.TestLaws.{has_ends, ends_left}
 use Rattle.volume.proofs.consistent.factor_test.odd_rows_empty.Statement.{statement}
 use Rattle.volume.proofs.consistent.factor_test.odd_rows_empty.Tie as tie
 
-abbrev invariant-loop : tie.invariant-loop
-invariant-loop cell volume h₀ h = (h % 2 ≡ 1) × Passing (λ h. below (suc (cell.n2 / 2)) (λ k. empty_if_left_out (cell_group cell) (cell_halves cell) volume h k)) (2 * (cell.n1 / 2)) (h - 1)
+abbrev invariant-loop-h : tie.invariant-loop-h
+invariant-loop-h cell volume h₀ h = (h % 2 ≡ 1) × Passing (λ h. below (suc (cell.n2 / 2)) (λ k. empty_if_left_out (cell_group cell) (cell_halves cell) volume h k)) (2 * (cell.n1 / 2)) (h - 1)
 
-abbrev decreases-loop : tie.decreases-loop
-decreases-loop cell volume h₀ h = 2 * (cell.n1 / 2) - h
+abbrev decreases-loop-h : tie.decreases-loop-h
+decreases-loop-h cell volume h₀ h = 2 * (cell.n1 / 2) - h
 
 -- the test of a row
-abbrev row : tie.Start invariant-loop decreases-loop → ℕ → Bool
+abbrev row : tie.Start invariant-loop-h decreases-loop-h → ℕ → Bool
 row s h = let a = s.args in below (suc (a.cell.n2 / 2)) (λ k. empty_if_left_out (cell_group a.cell) (cell_halves a.cell) a.volume.now h k)
 
 -- the even row before h has passed too
-before-odd : (s : tie.Start invariant-loop decreases-loop) (n h : ℕ) → h % 2 ≡ 1 → h < n → Passing (row s) n (h - 1) → Passing (row s) n h
+before-odd : (s : tie.Start invariant-loop-h decreases-loop-h) (n h : ℕ) → h % 2 ≡ 1 → h < n → Passing (row s) n (h - 1) → Passing (row s) n h
 before-odd s n h o l p =
     let a = s.args in
     let e : h - 1 + 1 ≡ h = omega arith in
     subst (λ (q : ℕ). Passing (row s) n q) e (passing_next p (omega arith) (has_ends (cell_group a.cell) (cell_halves a.cell) a.volume.now (h - 1) (suc (a.cell.n2 / 2)) (even_other (cell_group a.cell) (h - 1) (even_is (h - 1) (omega arith)))) refl)
 
 -- the lines at an odd h leave their ends out
-odd_line : (s : tie.Start invariant-loop decreases-loop) (h : ℕ) → h % 2 ≡ 1 → line_kind (cell_group s.args.cell) h ≡ antisymmetric
+odd_line : (s : tie.Start invariant-loop-h decreases-loop-h) (h : ℕ) → h % 2 ≡ 1 → line_kind (cell_group s.args.cell) h ≡ antisymmetric
 odd_line s h o = odd_antisymmetric (cell_group s.args.cell) 1 h s.requires.1 (odd_is h (omega arith))
 
 -- what the code found of the row h
-found : (c : tie.After-empty-row invariant-loop decreases-loop) → let l = c.before.before.before in c.empty-row.result ≡ row l.before.before l.loop.h
+found : (c : tie.After-empty_row invariant-loop-h decreases-loop-h) → let l = c.before.before.before in c.empty_row.result ≡ row l.before.before l.loop-h.h
 found c =
     let l = c.before.before.before in
     let a = l.before.before.args in
-    ends_left (cell_group a.cell) (cell_halves a.cell) a.volume.now l.loop.h (suc (a.cell.n2 / 2)) (odd_line l.before.before l.loop.h l.loop.invariant.0) c.empty-row.ensures
+    ends_left (cell_group a.cell) (cell_halves a.cell) a.volume.now l.loop-h.h (suc (a.cell.n2 / 2)) (odd_line l.before.before l.loop-h.h l.loop-h.invariant.0) c.empty_row.ensures
 
-loop-holds : tie.Need-loop-init invariant-loop decreases-loop
-loop-holds c = (refl, passing_start _ _)
+loop-h-init : tie.Need-loop-h-init invariant-loop-h decreases-loop-h
+loop-h-init c = (refl, passing_start _ _)
 
-empty-row-requires : tie.Need-empty-row-requires invariant-loop decreases-loop
-empty-row-requires c κs =
+empty_row-requires : tie.Need-empty_row-requires invariant-loop-h decreases-loop-h
+empty_row-requires c κs =
     let l = c.before.before in
     let s = l.before.before in
-    (s.requires.0, odd_line s l.loop.h l.loop.invariant.0, c.if1.true)
+    (s.requires.0, odd_line s l.loop-h.h l.loop-h.invariant.0, c.loop-h-test.true)
 
-add-h : tie.Need-overflow-add-h invariant-loop decreases-loop
-add-h c = omega arith
+overflow_add-h : tie.Need-overflow_add-h invariant-loop-h decreases-loop-h
+overflow_add-h c = omega arith
 
-loop-less : tie.Need-loop-smaller invariant-loop decreases-loop
-loop-less c = omega arith
+loop-h-smaller : tie.Need-loop-h-smaller invariant-loop-h decreases-loop-h
+loop-h-smaller c = omega arith
 
-loop-again : tie.Need-loop-preserved invariant-loop decreases-loop
-loop-again c =
+loop-h-preserved : tie.Need-loop-h-preserved invariant-loop-h decreases-loop-h
+loop-h-preserved c =
     let l = c.before.before.before.before in
     let s = l.before.before in
-    let h = l.loop.h in
+    let h = l.loop-h.h in
     let n = 2 * (s.args.cell.n1 / 2) in
-    let o = l.loop.invariant.0 in
-    let less : h < n = omega (arith, s.requires.0.sizes.first.even, c.before.before.if1.true) in
+    let o = l.loop-h.invariant.0 in
+    let less : h < n = omega (arith, s.requires.0.sizes.first.even, c.before.before.loop-h-test.true) in
     let e : h + 1 ≡ h + 2 - 1 = omega arith in
-    (omega (arith, o), subst (λ (q : ℕ). Passing (row s) n q) e (passing_next (before-odd s n h o less l.loop.invariant.1) less (found c.before) c.if2.true))
+    (omega (arith, o), subst (λ (q : ℕ). Passing (row s) n q) e (passing_next (before-odd s n h o less l.loop-h.invariant.1) less (found c.before) c.if-empty_row.true))
 
-returns : tie.Need-returns invariant-loop decreases-loop
-returns c =
+returns-else-empty_row : tie.Need-returns-else-empty_row invariant-loop-h decreases-loop-h
+returns-else-empty_row c =
     let l = c.before.before.before.before in
     let s = l.before.before in
-    let h = l.loop.h in
+    let h = l.loop-h.h in
     let n = 2 * (s.args.cell.n1 / 2) in
-    let less : h < n = omega (arith, s.requires.0.sizes.first.even, c.before.before.if1.true) in
-    passing_stop (before-odd s n h l.loop.invariant.0 less l.loop.invariant.1) less (found c.before) c.if2.false
+    let less : h < n = omega (arith, s.requires.0.sizes.first.even, c.before.before.loop-h-test.true) in
+    passing_stop (before-odd s n h l.loop-h.invariant.0 less l.loop-h.invariant.1) less (found c.before) c.if-empty_row.false
 
-returns-2 : tie.Need-returns-2 invariant-loop decreases-loop
-returns-2 c =
+returns : tie.Need-returns invariant-loop-h decreases-loop-h
+returns c =
     let l = c.before.before in
-    passing_done l.loop.invariant.1 (omega (arith, l.loop.invariant.0, l.before.before.requires.0.sizes.first.even, c.if1.false))
+    passing_done l.loop-h.invariant.1 (omega (arith, l.loop-h.invariant.0, l.before.before.requires.0.sizes.first.even, c.loop-h-test.false))
 
 pub odd_rows_empty_spec : {M : Type 1} → statement M
 odd_rows_empty_spec =
     tie.close
-    (tie.spec
-    invariant-loop
-    decreases-loop
-    loop-holds
-    empty-row-requires
-    add-h
-    loop-less
-    loop-again
-    returns
-    returns-2)
+    (tie.spec invariant-loop-h decreases-loop-h loop-h-init empty_row-requires overflow_add-h loop-h-smaller loop-h-preserved returns-else-empty_row returns)

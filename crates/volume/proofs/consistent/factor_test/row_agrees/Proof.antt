@@ -7,61 +7,49 @@ use Rattle.algebra.proofs.cells.Passing.{passed_at, below_ends, Passing, passing
 use Rattle.volume.proofs.consistent.factor_test.row_agrees.Statement.{statement}
 use Rattle.volume.proofs.consistent.factor_test.row_agrees.Tie as tie
 
-abbrev invariant-loop : tie.invariant-loop
-invariant-loop m cell volume l h k₀ k = Passing (λ k. line_agrees (cell_group cell) (cell_halves cell) m volume (h, k, l)) (suc (cell.n2 / 2)) k
+abbrev invariant-loop-k : tie.invariant-loop-k
+invariant-loop-k m cell volume l h k₀ k = Passing (λ k. line_agrees (cell_group cell) (cell_halves cell) m volume (h, k, l)) (suc (cell.n2 / 2)) k
 
-abbrev decreases-loop : tie.decreases-loop
-decreases-loop m cell volume l h k₀ k = suc (cell.n2 / 2) - k
+abbrev decreases-loop-k : tie.decreases-loop-k
+decreases-loop-k m cell volume l h k₀ k = suc (cell.n2 / 2) - k
 
-ends-alone-requires : tie.Need-ends-alone-requires invariant-loop decreases-loop
-ends-alone-requires c κs = c.before.requires.0.0.sizes.known
+ends_alone-requires : tie.Need-ends_alone-requires invariant-loop-k decreases-loop-k
+ends_alone-requires c κs = c.before.requires.0.0.sizes.known
 
-ends-agree-requires : tie.Need-ends-agree-requires invariant-loop decreases-loop
-ends-agree-requires c κs = c.before.before.before.requires.0
+ends_agree-requires : tie.Need-ends_agree-requires invariant-loop-k decreases-loop-k
+ends_agree-requires c κs = c.before.before.before.requires.0
 
-returns : tie.Need-returns invariant-loop decreases-loop
-returns c =
+returns-then-ends_alone : tie.Need-returns-then-ends_alone invariant-loop-k decreases-loop-k
+returns-then-ends_alone c =
     let e = c.before.before in
     let a = e.before.before.args in
     below_ends (λ k. line_agrees (cell_group a.cell) (cell_halves a.cell) a.m a.volume.now (a.h, k, a.l)) (a.cell.n2 / 2)
-    (e.ends-alone.ensures c.before.if1.true a.m a.volume.now a.h) c.ends-agree.ensures
+    (e.ends_alone.ensures c.before.if-ends_alone.true a.m a.volume.now a.h) c.ends_agree.ensures
 
-loop-holds : tie.Need-loop-init invariant-loop decreases-loop
-loop-holds c = passing_start _ _
+loop-k-init : tie.Need-loop-k-init invariant-loop-k decreases-loop-k
+loop-k-init c = passing_start _ _
 
-factor-agrees-requires : tie.Need-factor-agrees-requires invariant-loop decreases-loop
-factor-agrees-requires c κs =
+factor_agrees-requires : tie.Need-factor_agrees-requires invariant-loop-k decreases-loop-k
+factor_agrees-requires c κs =
     let p = c.before.before.before.before.before.before.requires in
-    ((p.0.0, p.0.1, p.0.2, record { h = p.0.4; k = c.if2.true; l = p.0.3 }), λ beyond. passed_at _ _ _ (p.1 beyond) (omega arith))
+    ((p.0.0, p.0.1, p.0.2, record { h = p.0.4; k = c.loop-k-test.true; l = p.0.3 }), λ beyond. passed_at _ _ _ (p.1 beyond) (omega arith))
 
-add-k : tie.Need-overflow-add-k invariant-loop decreases-loop
-add-k c = omega arith
+overflow_add-k : tie.Need-overflow_add-k invariant-loop-k decreases-loop-k
+overflow_add-k c = omega arith
 
-loop-less : tie.Need-loop-smaller invariant-loop decreases-loop
-loop-less c = omega arith
+loop-k-smaller : tie.Need-loop-k-smaller invariant-loop-k decreases-loop-k
+loop-k-smaller c = omega arith
 
-loop-again : tie.Need-loop-preserved invariant-loop decreases-loop
-loop-again c = passing_next c.before.before.before.before.loop.invariant (omega arith) c.before.factor-agrees.ensures c.if3.true
+loop-k-preserved : tie.Need-loop-k-preserved invariant-loop-k decreases-loop-k
+loop-k-preserved c = passing_next c.before.before.before.before.loop-k.invariant (omega arith) c.before.factor_agrees.ensures c.if-factor_agrees.true
 
-returns-2 : tie.Need-returns-2 invariant-loop decreases-loop
-returns-2 c = passing_stop c.before.before.before.before.loop.invariant (omega arith) c.before.factor-agrees.ensures c.if3.false
+returns-else-factor_agrees : tie.Need-returns-else-factor_agrees invariant-loop-k decreases-loop-k
+returns-else-factor_agrees c = passing_stop c.before.before.before.before.loop-k.invariant (omega arith) c.before.factor_agrees.ensures c.if-factor_agrees.false
 
-returns-3 : tie.Need-returns-3 invariant-loop decreases-loop
-returns-3 c = passing_done c.before.before.loop.invariant (omega arith)
+returns : tie.Need-returns invariant-loop-k decreases-loop-k
+returns c = passing_done c.before.before.loop-k.invariant (omega arith)
 
 pub row_agrees_spec : {M : Type 1} → statement M
 row_agrees_spec =
     tie.close
-    (tie.spec
-    invariant-loop
-    decreases-loop
-    ends-alone-requires
-    ends-agree-requires
-    returns
-    loop-holds
-    factor-agrees-requires
-    add-k
-    loop-less
-    loop-again
-    returns-2
-    returns-3)
+    (tie.spec invariant-loop-k decreases-loop-k ends_alone-requires ends_agree-requires returns-then-ends_alone loop-k-init factor_agrees-requires overflow_add-k loop-k-smaller loop-k-preserved returns-else-factor_agrees returns)

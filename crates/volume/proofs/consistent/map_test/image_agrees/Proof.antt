@@ -7,46 +7,40 @@ use Rattle.volume.proofs.consistent.TestLaws.{point_tested, point_skipped}
 use Rattle.volume.proofs.consistent.map_test.image_agrees.Statement.{statement}
 use Rattle.volume.proofs.consistent.map_test.image_agrees.Tie as tie
 
-point-image-requires : tie.Need-point-image-requires
-point-image-requires c κs = search rules
+point_image-q-requires : tie.Need-point_image-q-requires
+point_image-q-requires c κs = search rules
 
-layer-count-requires : tie.Need-layer-count-requires
-layer-count-requires c κs = search rules
+layer_count-requires : tie.Need-layer_count-requires
+layer_count-requires c κs = search rules
 
-stored-number-requires : tie.Need-stored-number-requires
-stored-number-requires c κs =
+stored_number-requires : tie.Need-stored_number-requires
+stored_number-requires c κs =
     let t = c.before.before in
     let i = t.before in
     let p = i.before.before.requires in
-    let w = i.point-image.ensures.1 in
-    pair_inside p.0 _ _ _ (omega (arith, t.layer-count.ensures)) w.x (omega (arith, w.y))
+    let w = i.point_image-q.ensures.1 in
+    pair_inside p.0 _ _ _ (omega (arith, t.layer_count.ensures)) w.x (omega (arith, w.y))
 
-stored-number-requires-2 : tie.Need-stored-number-requires-2
-stored-number-requires-2 c κs =
+stored_number-requires-then-q-layer_count : tie.Need-stored_number-requires-then-q-layer_count
+stored_number-requires-then-q-layer_count c κs =
     let p = c.before.before.before.before.before.before.requires in
     pair_inside p.0 _ _ _ p.2 p.1.x (omega (arith, p.1.y))
 
-returns : tie.Need-returns
-returns c =
+returns-then-q-layer_count : tie.Need-returns-then-q-layer_count
+returns-then-q-layer_count c =
     let t = c.before.before.before.before in
     let i = t.before in
     let s = i.before.before in
-    point_tested _ _ s.args.volume.now _ (sym_of s.args.o) i.point-image.ensures.0 (omega (arith, t.layer-count.ensures)) c.before.stored-number.ensures c.stored-number2.ensures
+    point_tested _ _ s.args.volume.now _ (sym_of s.args.o) i.point_image-q.ensures.0 (omega (arith, t.layer_count.ensures)) c.before.stored_number.ensures c.stored_number-then-q-layer_count.ensures
 
-returns-2 : tie.Need-returns-2
-returns-2 c =
+returns-else-q-layer_count : tie.Need-returns-else-q-layer_count
+returns-else-q-layer_count c =
     let t = c.before.before in
     let i = t.before in
     let s = i.before.before in
-    point_skipped _ _ s.args.volume.now _ (sym_of s.args.o) i.point-image.ensures.0 (omega (arith, t.layer-count.ensures))
+    point_skipped _ _ s.args.volume.now _ (sym_of s.args.o) i.point_image-q.ensures.0 (omega (arith, t.layer_count.ensures))
 
 pub image_agrees_spec : {M : Type 1} → statement M
 image_agrees_spec =
     tie.close
-    (tie.spec
-    point-image-requires
-    layer-count-requires
-    stored-number-requires
-    stored-number-requires-2
-    returns
-    returns-2)
+    (tie.spec point_image-q-requires layer_count-requires stored_number-requires stored_number-requires-then-q-layer_count returns-then-q-layer_count returns-else-q-layer_count)

@@ -11,65 +11,54 @@ use Rattle.volume.proofs.consistent.TestLaws.{identity_point}
 use Rattle.volume.proofs.consistent.map_test.point_agrees.Statement.{statement}
 use Rattle.volume.proofs.consistent.map_test.point_agrees.Tie as tie
 
-abbrev invariant-loop : tie.invariant-loop
-invariant-loop cell volume p count number₀ number =
+abbrev invariant-loop-number : tie.invariant-loop-number
+invariant-loop-number cell volume p count number₀ number =
     PassingMembers (ops (cell_group cell)) one (point_image_agrees (cell_group cell) (cell_halves cell) volume (point_of p)) number
 
-abbrev decreases-loop : tie.decreases-loop
-decreases-loop cell volume p count number₀ number = count - number
+abbrev decreases-loop-number : tie.decreases-loop-number
+decreases-loop-number cell volume p count number₀ number = count - number
 
-group-order-requires : tie.Need-group-order-requires invariant-loop decreases-loop
-group-order-requires c κs = search rules
+group_order-count-requires : tie.Need-group_order-count-requires invariant-loop-number decreases-loop-number
+group_order-count-requires c κs = search rules
 
-loop-holds : tie.Need-loop-init invariant-loop decreases-loop
-loop-holds c =
+loop-number-init : tie.Need-loop-number-init invariant-loop-number decreases-loop-number
+loop-number-init c =
     let s = c.before.before in
     let known = s.requires.0.sizes.known in
     members_second (order_least s.args.cell.group known) (first_own s.args.cell.group known) (identity_point (cell_group s.args.cell) (cell_halves s.args.cell) s.args.volume.now (point_of s.args.p))
 
-group-operation-requires : tie.Need-group-operation-requires invariant-loop decreases-loop
-group-operation-requires c κs =
+group_operation-o-requires : tie.Need-group_operation-o-requires invariant-loop-number decreases-loop-number
+group_operation-o-requires c κs =
     let t = c.before.before in
-    (t.before.before.requires.0.sizes.known, omega (arith, t.group-order.ensures))
+    (t.before.before.requires.0.sizes.known, omega (arith, t.group_order-count.ensures))
 
-image-agrees-requires : tie.Need-image-agrees-requires invariant-loop decreases-loop
-image-agrees-requires c κs = search rules
+image_agrees-requires : tie.Need-image_agrees-requires invariant-loop-number decreases-loop-number
+image_agrees-requires c κs = search rules
 
-add-number : tie.Need-overflow-add-number invariant-loop decreases-loop
-add-number c = omega arith
+overflow_add-number : tie.Need-overflow_add-number invariant-loop-number decreases-loop-number
+overflow_add-number c = omega arith
 
-loop-less : tie.Need-loop-smaller invariant-loop decreases-loop
-loop-less c = omega arith
+loop-number-smaller : tie.Need-loop-number-smaller invariant-loop-number decreases-loop-number
+loop-number-smaller c = omega arith
 
-loop-again : tie.Need-loop-preserved invariant-loop decreases-loop
-loop-again c =
+loop-number-preserved : tie.Need-loop-number-preserved invariant-loop-number decreases-loop-number
+loop-number-preserved c =
     let t = c.before.before in
     let l = t.before.before in
-    members_next l.loop.invariant (omega (arith, l.before.group-order.ensures)) t.group-operation.ensures c.before.image_agrees_lem.ensures c.if1.true
+    members_next l.loop-number.invariant (omega (arith, l.before.group_order-count.ensures)) t.group_operation-o.ensures c.before.image_agrees.ensures c.if-image_agrees.true
 
-returns : tie.Need-returns invariant-loop decreases-loop
+returns-else-image_agrees : tie.Need-returns-else-image_agrees invariant-loop-number decreases-loop-number
+returns-else-image_agrees c =
+    let t = c.before.before in
+    let l = t.before.before in
+    members_stop l.loop-number.invariant (omega (arith, l.before.group_order-count.ensures)) t.group_operation-o.ensures c.before.image_agrees.ensures c.if-image_agrees.false
+
+returns : tie.Need-returns invariant-loop-number decreases-loop-number
 returns c =
-    let t = c.before.before in
-    let l = t.before.before in
-    members_stop l.loop.invariant (omega (arith, l.before.group-order.ensures)) t.group-operation.ensures c.before.image_agrees_lem.ensures c.if1.false
-
-returns-2 : tie.Need-returns-2 invariant-loop decreases-loop
-returns-2 c =
     let l = c.before in
-    members_done l.loop.invariant (omega (arith, l.before.group-order.ensures))
+    members_done l.loop-number.invariant (omega (arith, l.before.group_order-count.ensures))
 
 pub point_agrees_spec : {M : Type 1} → statement M
 point_agrees_spec =
     tie.close
-    (tie.spec
-    invariant-loop
-    decreases-loop
-    group-order-requires
-    loop-holds
-    group-operation-requires
-    image-agrees-requires
-    add-number
-    loop-less
-    loop-again
-    returns
-    returns-2)
+    (tie.spec invariant-loop-number decreases-loop-number group_order-count-requires loop-number-init group_operation-o-requires image_agrees-requires overflow_add-number loop-number-smaller loop-number-preserved returns-else-image_agrees returns)

@@ -10,52 +10,42 @@ use Rattle.algebra.proofs.cells.Passing.{Passing, passing_start, passing_next, p
 use Rattle.volume.proofs.consistent.map_test.points_agree.Statement.{statement}
 use Rattle.volume.proofs.consistent.map_test.points_agree.Tie as tie
 
-abbrev invariant-loop : tie.invariant-loop
-invariant-loop cell volume tried z x y₀ y = Passing (λ y. point_agrees (cell_group cell) (cell_halves cell) volume (x, y, z)) (2 * (cell.n2 / 2)) y
+abbrev invariant-loop-y : tie.invariant-loop-y
+invariant-loop-y cell volume tried z x y₀ y = Passing (λ y. point_agrees (cell_group cell) (cell_halves cell) volume (x, y, z)) (2 * (cell.n2 / 2)) y
 
-abbrev decreases-loop : tie.decreases-loop
-decreases-loop cell volume tried z x y₀ y = cell.n2 - y
+abbrev decreases-loop-y : tie.decreases-loop-y
+decreases-loop-y cell volume tried z x y₀ y = cell.n2 - y
 
-returns : tie.Need-returns invariant-loop decreases-loop
-returns c =
+returns-then-not-tried : tie.Need-returns-then-not-tried invariant-loop-y decreases-loop-y
+returns-then-not-tried c =
     let s = c.before.before in
-    sym (below_all _ _ (λ y. s.requires.3 (not-true s.args.tried c.if1.true) s.args.volume.now s.args.x y))
+    sym (below_all _ _ (λ y. s.requires.3 (not-true s.args.tried c.if-not-tried.true) s.args.volume.now s.args.x y))
 
-loop-holds : tie.Need-loop-init invariant-loop decreases-loop
-loop-holds c = passing_start _ _
+loop-y-init : tie.Need-loop-y-init invariant-loop-y decreases-loop-y
+loop-y-init c = passing_start _ _
 
-point-agrees-requires : tie.Need-point-agrees-requires invariant-loop decreases-loop
-point-agrees-requires c κs =
+point_agrees-requires : tie.Need-point_agrees-requires invariant-loop-y decreases-loop-y
+point_agrees-requires c κs =
     let p = c.before.before.before.before.before.requires in
     let s = p.0.sizes in
-    (p.0, record { x = p.2; y = c.if2.true; z = omega (arith, p.1, layers_most s.third _ s.known) }, p.1)
+    (p.0, record { x = p.2; y = c.loop-y-test.true; z = omega (arith, p.1, layers_most s.third _ s.known) }, p.1)
 
-add-y : tie.Need-overflow-add-y invariant-loop decreases-loop
-add-y c = omega arith
+overflow_add-y : tie.Need-overflow_add-y invariant-loop-y decreases-loop-y
+overflow_add-y c = omega arith
 
-loop-less : tie.Need-loop-smaller invariant-loop decreases-loop
-loop-less c = omega arith
+loop-y-smaller : tie.Need-loop-y-smaller invariant-loop-y decreases-loop-y
+loop-y-smaller c = omega arith
 
-loop-again : tie.Need-loop-preserved invariant-loop decreases-loop
-loop-again c = passing_next c.before.before.before.before.loop.invariant (omega arith) c.before.point_agrees.ensures c.if3.true
+loop-y-preserved : tie.Need-loop-y-preserved invariant-loop-y decreases-loop-y
+loop-y-preserved c = passing_next c.before.before.before.before.loop-y.invariant (omega arith) c.before.point_agrees.ensures c.if-point_agrees.true
 
-returns-2 : tie.Need-returns-2 invariant-loop decreases-loop
-returns-2 c = passing_stop c.before.before.before.before.loop.invariant (omega arith) c.before.point_agrees.ensures c.if3.false
+returns-else-point_agrees : tie.Need-returns-else-point_agrees invariant-loop-y decreases-loop-y
+returns-else-point_agrees c = passing_stop c.before.before.before.before.loop-y.invariant (omega arith) c.before.point_agrees.ensures c.if-point_agrees.false
 
-returns-3 : tie.Need-returns-3 invariant-loop decreases-loop
-returns-3 c = passing_done c.before.before.loop.invariant (omega arith)
+returns : tie.Need-returns invariant-loop-y decreases-loop-y
+returns c = passing_done c.before.before.loop-y.invariant (omega arith)
 
 pub points_agree_spec : {M : Type 1} → statement M
 points_agree_spec =
     tie.close
-    (tie.spec
-    invariant-loop
-    decreases-loop
-    returns
-    loop-holds
-    point-agrees-requires
-    add-y
-    loop-less
-    loop-again
-    returns-2
-    returns-3)
+    (tie.spec invariant-loop-y decreases-loop-y returns-then-not-tried loop-y-init point_agrees-requires overflow_add-y loop-y-smaller loop-y-preserved returns-else-point_agrees returns)

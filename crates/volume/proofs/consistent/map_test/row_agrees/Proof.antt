@@ -8,24 +8,24 @@ use Rattle.volume.proofs.consistent.TestLaws.{row_ends}
 use Rattle.volume.proofs.consistent.map_test.row_agrees.Statement.{statement}
 use Rattle.volume.proofs.consistent.map_test.row_agrees.Tie as tie
 
-points-agree-requires : tie.Need-points-agree-requires
-points-agree-requires c κs = c.before.requires
+points_agree-requires : tie.Need-points_agree-requires
+points_agree-requires c κs = c.before.requires
 
-pair-at-requires : tie.Need-pair-at-requires
-pair-at-requires c κs = let p = c.before.before.before.before.requires in pair_inside p.0 _ _ _ p.1 p.2 (omega arith)
+pair_at-requires : tie.Need-pair_at-requires
+pair_at-requires c κs = let p = c.before.before.before.before.requires in pair_inside p.0 _ _ _ p.1 p.2 (omega arith)
 
-is-zero-requires : tie.Need-is-zero-requires
-is-zero-requires c κs = search rules
+is_zero-requires : tie.Need-is_zero-requires
+is_zero-requires c κs = search rules
 
-returns : tie.Need-returns
-returns c =
+returns-then-points_agree : tie.Need-returns-then-points_agree
+returns-then-points_agree c =
     let i = c.before.before.before in
     let a = i.before.before.before.args in
-    both_passed i.before.points-agree.ensures i.if1.true
-    (row_ends (cell_group a.cell) (cell_halves a.cell) a.volume.now a.z a.x c.before.pair_at_lem.ensures c.is_zero.ensures)
+    both_passed i.before.points_agree.ensures i.if-points_agree.true
+    (row_ends (cell_group a.cell) (cell_halves a.cell) a.volume.now a.z a.x c.before.pair_at.ensures c.is_zero.ensures)
 
-returns-2 : tie.Need-returns-2
-returns-2 c = first_failed _ c.before.points-agree.ensures c.if1.false
+returns-else-points_agree : tie.Need-returns-else-points_agree
+returns-else-points_agree c = first_failed _ c.before.points_agree.ensures c.if-points_agree.false
 
 pub row_agrees_spec : {M : Type 1} → statement M
-row_agrees_spec = tie.close (tie.spec points-agree-requires pair-at-requires is-zero-requires returns returns-2)
+row_agrees_spec = tie.close (tie.spec points_agree-requires pair_at-requires is_zero-requires returns-then-points_agree returns-else-points_agree)

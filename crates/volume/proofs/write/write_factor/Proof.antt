@@ -1,7 +1,6 @@
 -- By the kind of the line: an alternating line, the end of an antisymmetric one, or a pair.
 use borrow.Author.Rules.{rules}
 use native.Mathlib.Omega.{arith}
-use borrow.Author.Tests.{not-true, not-false}
 use Rattle.cell.proofs.LineKinds.{is_kind, other_kind, stored_layer, alternating_half}
 use Rattle.cell.proofs.PlaceLaws.{pair_inside}
 use Rattle.cell.proofs.StoredFactors.{absent_true, absent_false}
@@ -55,13 +54,13 @@ returns-then-not-is_absent c =
     let s = u.before.before.before in
     let t = s.before.before in
     let k = t.before.line_kind-kind.ensures in
-    factor_written _ _ _ _ _ (other_kind k.1 k.0 t.if-kind-eq3.false) (absent_false k.1 k.0 (sym s.before.is_absent.ensures ∙ not-true _ s.if-not-is_absent.true)) u.before.pair_place.ensures.0 u.store.ensures
+    factor_written _ _ _ _ _ (other_kind k.1 k.0 t.if-kind-eq3.false) (absent_false k.1 k.0 (sym s.before.is_absent.ensures ∙ s.if-not-is_absent.true)) u.before.pair_place.ensures.0 u.store.ensures
 
 returns-else-not-is_absent : tie.Need-returns-else-not-is_absent
 returns-else-not-is_absent c =
     let t = c.before.before in
     let k = t.before.line_kind-kind.ensures in
-    let e = absent_true k.1 k.0 (sym c.before.is_absent.ensures ∙ not-false _ c.if-not-is_absent.false) in
+    let e = absent_true k.1 k.0 (sym c.before.is_absent.ensures ∙ c.if-not-is_absent.false) in
     absent_written _ _ _ _ _ e.0 e.1
 
 pub write_factor_spec : {M : Type 1} → statement M

@@ -2,7 +2,6 @@
 use mathlib.Core.Path.{sym}
 use Prim.Native.Nat.{◌*◌, ◌-◌, ◌/◌}
 use native.Mathlib.Omega.{arith}
-use borrow.Author.Tests.{not-true}
 use Rattle.cell.specs.Consistency.{point_agrees}
 use Rattle.cell.specs.Operations.{cell_group, cell_halves}
 use Rattle.cell.proofs.StoredFactors.{layers_most}
@@ -19,7 +18,7 @@ decreases-loop-y cell volume tried z x y₀ y = cell.n2 - y
 returns-then-not-tried : tie.Need-returns-then-not-tried invariant-loop-y decreases-loop-y
 returns-then-not-tried c =
     let s = c.before.before in
-    sym (below_all _ _ (λ y. s.requires.3 (not-true s.args.tried c.if-not-tried.true) s.args.volume.now s.args.x y))
+    sym (below_all _ _ (λ y. s.requires.3 c.if-not-tried.true s.args.volume.now s.args.x y))
 
 loop-y-init : tie.Need-loop-y-init invariant-loop-y decreases-loop-y
 loop-y-init c = passing_start _ _

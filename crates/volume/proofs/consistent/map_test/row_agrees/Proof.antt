@@ -4,7 +4,7 @@ use native.Mathlib.Omega.{arith}
 use Rattle.cell.specs.Operations.{cell_group, cell_halves}
 use Rattle.algebra.proofs.cells.Passing.{both_passed, first_failed}
 use Rattle.cell.proofs.StoredFactors.{pair_inside}
-use Rattle.volume.proofs.consistent.TestLaws.{row_ends}
+use Rattle.volume.proofs.consistent.TestLaws.{row_ends_lem}
 use Rattle.volume.proofs.consistent.map_test.row_agrees.Statement.{statement}
 use Rattle.volume.proofs.consistent.map_test.row_agrees.Tie as tie
 
@@ -22,7 +22,7 @@ returns-then-points_agree c =
     let i = c.before.before.before in
     let a = i.before.before.before.args in
     both_passed i.before.points_agree.ensures i.if-points_agree.true
-    (row_ends (cell_group a.cell) (cell_halves a.cell) a.volume.now a.z a.x c.before.pair_at.ensures c.is_zero.ensures)
+    (row_ends_lem (cell_group a.cell) (cell_halves a.cell) a.volume.now a.z a.x c.before.pair_at.ensures c.is_zero.ensures)
 
 returns-else-points_agree : tie.Need-returns-else-points_agree
 returns-else-points_agree c = first_failed _ c.before.points_agree.ensures c.if-points_agree.false

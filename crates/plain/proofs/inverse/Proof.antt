@@ -13,7 +13,7 @@ transform-requires c κs = search rules
 divide-requires : tie.Need-divide-requires
 divide-requires c κs =
     let t = c.before.before.before.before.before in
-    let s = t.before.before.before.before.before in
+    let s = t in
     let long = s.requires.1.0.1 in
     let came = t.transform.ensures.0 in
     ((s.requires.0.0, divisor_pos s.args.n (2880 / s.args.n) long, divisor_le s.args.n (2880 / s.args.n) long), (length_of_lem s.args.m s.args.n _ came, below_of s.args.m s.args.n _ came))
@@ -28,7 +28,7 @@ returns : tie.Need-returns
 returns c =
     let d = c.before.before in
     let t = d.before.before.before.before.before.before in
-    let s = t.before.before.before.before.before in
+    let s = t in
     (divided_values s.args.m s.args.n _ t.transform.ensures.0 d.divide.ensures, t.transform.ensures.1.1)
 
 pub inverse_spec : {M : Type 1} → statement M

@@ -23,77 +23,77 @@ loop-at-init c = let s = c.before.before in driving_start (lent s) s.requires.1.
 
 next_step-at-requires : tie.Need-next_step-at-requires invariant-loop-at decreases-loop-at
 next_step-at-requires c κs =
-    let l = c.before.before.before.before in
+    let l = c.before.before.before in
     let s = St l in
-    (s.pre.0, step_asks (lent s) l.loop-at.invariant.stands (omega arith) l.loop-at.invariant.work_long)
+    (s.requires.0, step_asks (lent s) l.loop-at.invariant.stands (omega arith) l.loop-at.invariant.work_long)
 
 -- where the round of a first step began
 abbrev Round : tie.After-next_step-at invariant-loop-at decreases-loop-at → tie.At-loop-at invariant-loop-at decreases-loop-at
-Round t = t.before.before.before.before.before
+Round t = t.before.before.before.before
 
 next_step-at-requires-in-loop-at : tie.Need-next_step-at-requires-in-loop-at invariant-loop-at decreases-loop-at
 next_step-at-requires-in-loop-at c κs =
-    let t = c.before.before.before.before in
+    let t = c.before.before.before in
     let l = Round t in
     let s = St l in
     let e = t.next_step-at.ensures.0 in
-    let h = standing_next (lent s) l.loop-at.inv.stands (omega arith) e t.next_step-at.ensures.1 in
-    (s.pre.0, step_asks (lent s) h (omega (arith, after_left l.loop-at.at e)) (standing_long (lent s) l.loop-at.inv.stands))
+    let h = standing_next (lent s) l.loop-at.invariant.stands (omega arith) e t.next_step-at.ensures.1 in
+    (s.requires.0, step_asks (lent s) h (omega (arith, after_left l.loop-at.at e)) (standing_long (lent s) l.loop-at.invariant.stands))
 
 loop-at-smaller : tie.Need-loop-at-smaller invariant-loop-at decreases-loop-at
 loop-at-smaller c =
     let u = c.before.before in
-    let t = u.before.before.before.before.before in
+    let t = u.before.before.before.before in
     omega (arith, after_left (Round t).loop-at.at t.next_step-at.ensures.0, after_left t.next_step-at.result u.next_step-at-in-loop-at.ensures.0)
 
 loop-at-preserved : tie.Need-loop-at-preserved invariant-loop-at decreases-loop-at
 loop-at-preserved c =
     let u = c.before.before in
-    let t = u.before.before.before.before.before in
+    let t = u.before.before.before.before in
     let l = Round t in
     let s = St l in
     let e = t.next_step-at.ensures.0 in
-    let h = standing_next (lent s) l.loop-at.inv.stands (omega arith) e t.next_step-at.ensures.1 in
-    driving_next (lent s) l.loop-at.inv h (standing_next (lent s) h (omega (arith, after_left l.loop-at.at e)) u.next_step-at-in-loop-at.ensures.0 u.next_step-at-in-loop-at.ensures.1)
+    let h = standing_next (lent s) l.loop-at.invariant.stands (omega arith) e t.next_step-at.ensures.1 in
+    driving_next (lent s) l.loop-at.invariant h (standing_next (lent s) h (omega (arith, after_left l.loop-at.at e)) u.next_step-at-in-loop-at.ensures.0 u.next_step-at-in-loop-at.ensures.1)
 
 next_step-requires : tie.Need-next_step-requires invariant-loop-at decreases-loop-at
 next_step-requires c κs =
-    let l = c.before.before.before.before.before.before in
+    let l = c.before.before.before.before.before in
     let s = St l in
-    (s.pre.0, step_asks (lent s) l.loop-at.invariant.stands (omega arith) l.loop-at.invariant.work_long)
+    (s.requires.0, step_asks (lent s) l.loop-at.invariant.stands (omega arith) l.loop-at.invariant.work_long)
 
 copy-requires : tie.Need-copy-requires invariant-loop-at decreases-loop-at
 copy-requires c κs =
-    let w = c.before.before.before in
-    let l = w.before.before.before.before.before.before.before.before in
+    let w = c.before.before in
+    let l = w.before.before.before.before.before.before.before in
     (omega (arith, w.work-then-at-ne0-1.given, l.loop-at.invariant.work_long), omega (arith, standing_long (lent (St l)) l.loop-at.invariant.stands))
 
 shape_of-line-then-at-ne0 : tie.Need-shape_of-line-then-at-ne0 invariant-loop-at decreases-loop-at
 shape_of-line-then-at-ne0 c =
-    let l = c.before.before.before.before.before.before.before.before.before.before.before.before.before.before in
-    omega (arith, c.before.line-then-at-ne0-1.given, standing_long (lent (St l)) l.loop-at.invariant.stands)
+    let l = c.before.before.before.before.before.before.before.before.before.before.before.before in
+    omega (arith, c.line-then-at-ne0-1.given, standing_long (lent (St l)) l.loop-at.invariant.stands)
 
 shape_of-work-then-at-ne0 : tie.Need-shape_of-work-then-at-ne0 invariant-loop-at decreases-loop-at
 shape_of-work-then-at-ne0 c =
-    let w = c.before.before.before.before.before.before in
-    let l = w.before.before.before.before.before.before.before.before in
+    let w = c.before.before.before.before.before in
+    let l = w.before.before.before.before.before.before.before in
     omega (arith, w.work-then-at-ne0-1.given, l.loop-at.invariant.work_long, (St l).requires.1.1.0.1)
 
 returns-then-at-ne0 : tie.Need-returns-then-at-ne0 invariant-loop-at decreases-loop-at
 returns-then-at-ne0 c =
     let k = c.before.before in
-    let t = k.before.before.before.before.before in
-    let l = t.before.before.before.before.before.before.before in
+    let t = k.before.before.before.before in
+    let l = t.before.before.before.before.before.before in
     let s = St l in
     let e = t.next_step.ensures.0 in
     let h = standing_next (lent s) l.loop-at.invariant.stands (omega arith) e t.next_step.ensures.1 in
-    driving_last (lent s) l.loop-at.invariant h (omega (arith, after_left l.loop-at.at e, t.before.before.before.before.before.loop-at-test.false)) k.copy.ensures
+    driving_last (lent s) l.loop-at.invariant h (omega (arith, after_left l.loop-at.at e, t.loop-at-test.false)) k.copy.ensures
 
 shape_of-line-else-at-ne0 : tie.Need-shape_of-line-else-at-ne0 invariant-loop-at decreases-loop-at
 shape_of-line-else-at-ne0 c = let l = c.before.before.before.before in omega (arith, standing_long (lent (St l)) l.loop-at.invariant.stands)
 
 shape_of-work-else-at-ne0 : tie.Need-shape_of-work-else-at-ne0 invariant-loop-at decreases-loop-at
-shape_of-work-else-at-ne0 c = omega (arith, c.before.before.before.before.loop-at.invariant.work_long)
+shape_of-work-else-at-ne0 c = omega (arith, c.loop-at.invariant.work_long)
 
 returns-else-at-ne0 : tie.Need-returns-else-at-ne0 invariant-loop-at decreases-loop-at
 returns-else-at-ne0 c =

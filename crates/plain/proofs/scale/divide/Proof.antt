@@ -21,12 +21,12 @@ returns-then-n-gt1 : tie.Need-returns-then-n-gt1
 returns-then-n-gt1 c =
     let at-scale = c.before.before in
     let at-reciprocal = at-scale.before.before in
-    let s = at-reciprocal.before.before.before in
+    let s = at-reciprocal in
     divided_by_part s.args.m s.args.n s.args.line.now at-reciprocal.reciprocal.ensures.0 at-scale.scale.ensures
 
 returns-else-n-gt1 : tie.Need-returns-else-n-gt1
 returns-else-n-gt1 c =
-    let s = c.before.before in
+    let s = c in
     divided_by_one s.args.m s.args.n s.args.line.now (omega (arith, s.requires.0.1, c.if-n-gt1.false)) s.requires.1.0 s.requires.1.1
 
 pub divide_spec : {M : Type 1} → statement M

@@ -24,8 +24,8 @@ abbrev St : tie.In-loop-j invariant-loop-j decreases-loop-j → tie.Start invari
 St q = q.before.before.before
 
 -- the pair that is read is still the one that came in
-as-came : (q : tie.In-loop-j invariant-loop-j decreases-loop-j) {v : Pair} → v ≡ at q.before.loop-j.line q.before.loop-j.j → v ≡ at (St q).args.line.now q.before.loop-j.j
-as-came q e = e ∙ filling_ahead q.before.loop-j.j q.before.loop-j.invariant (le_refl _)
+as-came : (q : tie.In-loop-j invariant-loop-j decreases-loop-j) {v : Pair} → v ≡ at q.loop-j.line q.loop-j.j → v ≡ at (St q).args.line.now q.loop-j.j
+as-came q e = e ∙ filling_ahead q.loop-j.j q.loop-j.invariant (le_refl _)
 
 loop-j-init : tie.Need-loop-j-init invariant-loop-j decreases-loop-j
 loop-j-init c = filling_start
@@ -36,9 +36,9 @@ get-v-requires c κs = omega arith
 rotated-requires : tie.Need-rotated-requires invariant-loop-j decreases-loop-j
 rotated-requires c κs =
     let g = c.before in
-    let q = g.before.before in
+    let q = g.before in
     let s = St q in
-    (s.pre.0, small_of s.args.line.now q.before.loop-j.j (as-came q g.get-v.ensures) s.pre.1.1)
+    (s.requires.0, small_of s.args.line.now q.loop-j.j (as-came q g.get-v.ensures) s.requires.1.1)
 
 store-requires : tie.Need-store-requires invariant-loop-j decreases-loop-j
 store-requires c κs = omega arith
@@ -54,16 +54,16 @@ loop-j-preserved c =
     let t = c.before.before in
     let r = t.before in
     let g = r.before.before in
-    let q = g.before.before in
+    let q = g.before in
     let z = (St q).args in
-    filling_next q.before.loop-j.invariant q.loop-j-test.true t.store.ensures
+    filling_next q.loop-j.invariant q.loop-j-test.true t.store.ensures
     (r.rotated.ensures ∙ ap (λ v. pair_of ((field z.m).mul (rotation z.m z.over) (value_of z.m v))) (as-came q g.get-v.ensures))
 
 shape_of-line : tie.Need-shape_of-line invariant-loop-j decreases-loop-j
 shape_of-line c = omega arith
 
 returns : tie.Need-returns invariant-loop-j decreases-loop-j
-returns c = filling_whole c.before.loop-j.invariant c.loop-j-test.false c.before.before.before.requires.1.0
+returns c = filling_whole c.loop-j.invariant c.loop-j-test.false c.requires.1.0
 
 pub rotate_spec : {M : Type 1} → statement M
 rotate_spec =

@@ -24,8 +24,8 @@ abbrev St : tie.In-loop-j invariant-loop-j decreases-loop-j → tie.Start invari
 St i = i.before.before.before
 
 -- the pair that is read is still the one that came in
-as-came : (i : tie.In-loop-j invariant-loop-j decreases-loop-j) {v : Pair} → v ≡ at i.before.loop-j.line i.before.loop-j.j → v ≡ at (St i).args.line.now i.before.loop-j.j
-as-came i e = e ∙ filling_ahead i.before.loop-j.j i.before.loop-j.invariant (le_refl _)
+as-came : (i : tie.In-loop-j invariant-loop-j decreases-loop-j) {v : Pair} → v ≡ at i.loop-j.line i.loop-j.j → v ≡ at (St i).args.line.now i.loop-j.j
+as-came i e = e ∙ filling_ahead i.loop-j.j i.loop-j.invariant (le_refl _)
 
 loop-j-init : tie.Need-loop-j-init invariant-loop-j decreases-loop-j
 loop-j-init c = filling_start
@@ -36,9 +36,9 @@ get-v-requires c κs = omega arith
 scaled-requires : tie.Need-scaled-requires invariant-loop-j decreases-loop-j
 scaled-requires c κs =
     let g = c.before in
-    let i = g.before.before in
+    let i = g.before in
     let s = St i in
-    (s.pre.0.0, s.pre.0.1, small_of s.args.line.now i.before.loop-j.j (as-came i g.get-v.ensures) s.pre.1.1)
+    (s.requires.0.0, s.requires.0.1, small_of s.args.line.now i.loop-j.j (as-came i g.get-v.ensures) s.requires.1.1)
 
 store-requires : tie.Need-store-requires invariant-loop-j decreases-loop-j
 store-requires c κs = omega arith
@@ -54,16 +54,16 @@ loop-j-preserved c =
     let t = c.before.before in
     let r = t.before in
     let g = r.before.before in
-    let i = g.before.before in
+    let i = g.before in
     let z = (St i).args in
-    filling_next i.before.loop-j.invariant i.loop-j-test.true t.store.ensures
+    filling_next i.loop-j.invariant i.loop-j-test.true t.store.ensures
     (r.scaled.ensures ∙ ap (λ v. pair_of ((field z.m).mul (real z.m (res z.m z.c)) (value_of z.m v))) (as-came i g.get-v.ensures))
 
 shape_of-line : tie.Need-shape_of-line invariant-loop-j decreases-loop-j
 shape_of-line c = omega arith
 
 returns : tie.Need-returns invariant-loop-j decreases-loop-j
-returns c = filling_whole c.before.loop-j.invariant c.loop-j-test.false c.before.before.before.requires.1.0
+returns c = filling_whole c.loop-j.invariant c.loop-j-test.false c.requires.1.0
 
 pub scale_spec : {M : Type 1} → statement M
 scale_spec =

@@ -16,48 +16,41 @@ use Rattle.combined.specs.CombinedMap.{combined_map_tests}
 use Rattle.combined.proofs.check_combined_map.Statement.{statement}
 use Rattle.combined.proofs.check_combined_map.Tie as tie
 
-admitted : (c : tie.Else2) → all_admitted (cell_lengths c.before.before.before.before.args.cell) ≡ true
-admitted c = by_true _ _ c.before.all-admitted.ensures c.if2.false
+admitted : (c : tie.Else-not-all_admitted) → all_admitted (cell_lengths c.before.before.before.before.args.cell) ≡ true
+admitted c = by_true _ _ c.before.all_admitted.ensures c.if-not-all_admitted.false
 
 -- group and lengths pass: the volume and the length decide
-sized : (c : tie.Else2) (length : ℕ) {m : ℕ} → let cell = c.before.before.before.before.args.cell in
+sized : (c : tie.Else-not-all_admitted) (length : ℕ) {m : ℕ} → let cell = c.before.before.before.before.args.cell in
     let needed = volume_length (cell_group cell) (cell_halves cell) in
     m ≡ first (ltb volume_limit needed ⇒ 9 ∷ not (eqb length needed) ⇒ 6 ∷ []) → m ≡ first (combined_map_tests cell.group (cell_lengths cell) length)
-sized c length e = pass 8 _ (lt-leb 5 _ c.before.before.if1.false) (pass 3 _ (not_t _ (admitted c)) e)
+sized c length e = pass 8 _ (lt-leb 5 _ c.before.before.if-cell-ge5.false) (pass 3 _ (not_t _ (admitted c)) e)
 
-returns : tie.Need-returns
-returns c = stop _ (le-leb 5 _ c.if1.true)
+returns-then-cell-ge5 : tie.Need-returns-then-cell-ge5
+returns-then-cell-ge5 c = stop _ (le-leb 5 _ c.if-cell-ge5.true)
 
-all-admitted-requires : tie.Need-all-admitted-requires
-all-admitted-requires c κs = search rules
+all_admitted-requires : tie.Need-all_admitted-requires
+all_admitted-requires c κs = search rules
 
-returns-2 : tie.Need-returns-2
-returns-2 c = pass 8 _ (lt-leb 5 _ c.before.before.if1.false) (stop _ (not_f _ (by_false _ _ c.before.all-admitted.ensures c.if2.true)))
+returns-then-not-all_admitted : tie.Need-returns-then-not-all_admitted
+returns-then-not-all_admitted c = pass 8 _ (lt-leb 5 _ c.before.before.if-cell-ge5.false) (stop _ (not_f _ (by_false _ _ c.before.all_admitted.ensures c.if-not-all_admitted.true)))
 
-volume-length-requires : tie.Need-volume-length-requires
-volume-length-requires c κs = short_lengths (sizes_of c.before.before.if1.false (admitted c))
+volume_length-needed-requires : tie.Need-volume_length-needed-requires
+volume_length-needed-requires c κs = short_lengths (sizes_of c.before.before.if-cell-ge5.false (admitted c))
 
-returns-3 : tie.Need-returns-3
-returns-3 c = sized c.before.before _ (stop _ (lt-ltb _ _ (subst (λ (n : ℕ). 16777216 < n) c.before.volume_length_lem.ensures c.if3.true)))
+returns-then-needed-gt16777216 : tie.Need-returns-then-needed-gt16777216
+returns-then-needed-gt16777216 c = sized c.before.before _ (stop _ (lt-ltb _ _ (subst (λ (n : ℕ). 16777216 < n) c.before.volume_length-needed.ensures c.if-needed-gt16777216.true)))
 
 -- the volume is not too large
-small : (c : tie.Else3) → let cell = c.before.before.before.before.before.before.args.cell in ltb volume_limit (volume_length (cell_group cell) (cell_halves cell)) ≡ false
-small c = le-ltb _ _ (subst (λ (n : ℕ). n ≤ 16777216) c.before.volume_length_lem.ensures c.if3.false)
+small : (c : tie.Else-needed-gt16777216) → let cell = c.before.before.before.before.before.before.args.cell in ltb volume_limit (volume_length (cell_group cell) (cell_halves cell)) ≡ false
+small c = le-ltb _ _ (subst (λ (n : ℕ). n ≤ 16777216) c.before.volume_length-needed.ensures c.if-needed-gt16777216.false)
 
-returns-4 : tie.Need-returns-4
-returns-4 c = sized c.before.before.before _ (pass 9 _ (small c.before) (stop _ (not_f _ (by_ne _ _ _ c.before.before.volume_length_lem.ensures c.if4.true))))
+returns-then-length-needed : tie.Need-returns-then-length-needed
+returns-then-length-needed c = sized c.before.before.before _ (pass 9 _ (small c.before) (stop _ (not_f _ (by_ne _ _ _ c.before.before.volume_length-needed.ensures c.if-length-needed.true))))
 
-returns-5 : tie.Need-returns-5
-returns-5 c = sized c.before.before.before _ (pass 9 _ (small c.before) (pass 6 _ (not_t _ (by_eq _ _ _ c.before.before.volume_length_lem.ensures c.if4.false)) none))
+returns : tie.Need-returns
+returns c = sized c.before.before.before _ (pass 9 _ (small c.before) (pass 6 _ (not_t _ (by_eq _ _ _ c.before.before.volume_length-needed.ensures c.if-length-needed.false)) none))
 
 pub check_combined_map_spec : {M : Type 1} → statement M
 check_combined_map_spec =
     tie.close
-    (tie.spec
-    returns
-    all-admitted-requires
-    returns-2
-    volume-length-requires
-    returns-3
-    returns-4
-    returns-5)
+    (tie.spec returns-then-cell-ge5 all_admitted-requires returns-then-not-all_admitted volume_length-needed-requires returns-then-needed-gt16777216 returns-then-length-needed returns)

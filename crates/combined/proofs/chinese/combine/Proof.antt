@@ -7,36 +7,29 @@ use Rattle.combined.specs.Chinese.{common, combined}
 use Rattle.combined.proofs.chinese.combine.Statement.{statement}
 use Rattle.combined.proofs.chinese.combine.Tie as tie
 
-add-nearest : tie.Need-overflow-add-nearest
-add-nearest c = search rules
+overflow_add-b : tie.Need-overflow_add-b
+overflow_add-b c = search rules
 
-sub-nearest : tie.Need-overflow-sub-nearest
-sub-nearest c = search rules
+overflow_sub-b : tie.Need-overflow_sub-b
+overflow_sub-b c = search rules
 
-mul-nearest : tie.Need-overflow-mul-nearest
-mul-nearest c = search rules
+overflow_mul-b : tie.Need-overflow_mul-b
+overflow_mul-b c = search rules
 
-mul-nearest-2 : tie.Need-overflow-mul-nearest-2
-mul-nearest-2 c = search rules
+overflow_mul-b-2 : tie.Need-overflow_mul-b-2
+overflow_mul-b-2 c = search rules
 
-add-nearest-2 : tie.Need-overflow-add-nearest-2
-add-nearest-2 c = search rules
+overflow_add-a : tie.Need-overflow_add-a
+overflow_add-a c = search rules
 
 nearest-requires : tie.Need-nearest-requires
 nearest-requires c κs = search rules
 
 returns : tie.Need-returns
 unfolding common combined
-returns c = to_z-of_z w64 c.nearest.result (record { sfits = c.nearest.type-inv }) ∙ c.nearest.ensures
+returns c = to_z-of_z w64 c.nearest.result (record { sfits = c.nearest.type_inv }) ∙ c.nearest.ensures
 
 pub combine_spec : {M : Type 1} → statement M
 combine_spec =
     tie.close
-    (tie.spec
-    add-nearest
-    sub-nearest
-    mul-nearest
-    mul-nearest-2
-    add-nearest-2
-    nearest-requires
-    returns)
+    (tie.spec overflow_add-b overflow_sub-b overflow_mul-b overflow_mul-b-2 overflow_add-a nearest-requires returns)

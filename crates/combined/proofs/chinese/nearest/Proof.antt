@@ -16,20 +16,20 @@ use Rattle.combined.proofs.chinese.nearest.Tie as tie
 less : (n : ℕ) → n < 26126971201 → to_z w64 n -ℤ pos 26126971201 ≡ negsuc (26126971201 - suc n)
 less n l = ap (λ z. z -ℤ pos 26126971201) (to_z_pos w64 n (omega arith)) ∙ below_zero n 26126971201 l
 
-cast-result : tie.Need-overflow-cast-result
-cast-result c = search rules
+overflow_cast-result : tie.Need-overflow_cast-result
+overflow_cast-result c = search rules
 
-cast-result-2 : tie.Need-overflow-cast-result-2
-cast-result-2 c = search rules
+overflow_cast-result-else-n-le13063485600 : tie.Need-overflow_cast-result-else-n-le13063485600
+overflow_cast-result-else-n-le13063485600 c = search rules
 
-sub-result : tie.Need-overflow-sub-result
-sub-result c = subst (SFits w64) (sym (less c.before.args.n c.before.requires)) (record { sfits = omega arith })
+overflow_sub-result : tie.Need-overflow_sub-result
+overflow_sub-result c = subst (SFits w64) (sym (less c.before.args.n c.before.requires)) (record { sfits = omega arith })
 
-returns : tie.Need-returns
-returns c = to_z_pos w64 c.before.args.n (omega arith) ∙ centred_low 26126971201 c.before.args.n c.if1.true
+returns-then-n-le13063485600 : tie.Need-returns-then-n-le13063485600
+returns-then-n-le13063485600 c = to_z_pos w64 c.before.args.n (omega arith) ∙ centred_low 26126971201 c.before.args.n c.if-n-le13063485600.true
 
-returns-2 : tie.Need-returns-2
-returns-2 c = to_z-of_z w64 _ (sub-result c) ∙ less c.before.args.n c.before.requires ∙ centred_high 26126971201 c.before.args.n c.if1.false
+returns-else-n-le13063485600 : tie.Need-returns-else-n-le13063485600
+returns-else-n-le13063485600 c = to_z-of_z w64 _ (overflow_sub-result c) ∙ less c.before.args.n c.before.requires ∙ centred_high 26126971201 c.before.args.n c.if-n-le13063485600.false
 
 pub nearest_spec : {M : Type 1} → statement M
-nearest_spec = tie.close (tie.spec cast-result cast-result-2 sub-result returns returns-2)
+nearest_spec = tie.close (tie.spec overflow_cast-result overflow_cast-result-else-n-le13063485600 overflow_sub-result returns-then-n-le13063485600 returns-else-n-le13063485600)

@@ -20,43 +20,35 @@ abbrev point-test : tie.Start → List Test
 point-test s = not (within (cell_lengths s.args.cell) (point_of s.args.at)) ⇒ 10 ∷ []
 
 -- no test of the map holds: the point's decides
-on-map : (c : tie.After-enum-told) {m : ℕ} → m ≡ first (point-test c.before.before.before) → m ≡ first (map-tests c.before.before.before ++ point-test c.before.before.before)
+on-map : (c : tie.In-Sound) {m : ℕ} → m ≡ first (point-test c.before.before) → m ≡ first (map-tests c.before.before ++ point-test c.before.before)
 on-map c e =
-    let s = c.before.before.before in
-    append_pass (map-tests s) (point-test s) (passed (map-tests s) tt (ap checked_number (sym c.enum_told.given.1) ∙ c.before.before.check-combined-map.ensures)) e
+    let s = c.before.before in
+    append_pass (map-tests s) (point-test s) (passed (map-tests s) tt (ap checked_number (sym c.in-Sound.is) ∙ c.check_combined_map-checked.ensures)) e
 
-check-combined-map-requires : tie.Need-check-combined-map-requires
-check-combined-map-requires c κs = search rules
+check_combined_map-checked-requires : tie.Need-check_combined_map-checked-requires
+check_combined_map-checked-requires c κs = search rules
 
-enum-known-checked : tie.Need-enum-known-checked
-enum-known-checked c = search rules
+enum_known-checked : tie.Need-enum_known-checked
+enum_known-checked c = search rules
 
-enum_told : tie.Need-enum-told
-enum_told c = search rules
+enum_told-1 : tie.Need-enum_told-1
+enum_told-1 c = search rules
 
 inside-requires : tie.Need-inside-requires
 inside-requires c κs = search rules
 
-returns : tie.Need-returns
-returns c = on-map c.before.before (stop _ (not_f _ (by_false _ _ c.before.inside.ensures c.if1.true)))
+returns-then-not-inside : tie.Need-returns-then-not-inside
+returns-then-not-inside c = on-map c.before.before (stop _ (not_f _ (by_false _ _ c.before.inside.ensures c.if-not-inside.true)))
 
-returns-2 : tie.Need-returns-2
-returns-2 c =
-    let k = c.before.before.before in
-    let r = c.before.checked.given in
-    append_stop (map-tests k.before) (point-test k.before) (not_zero r.0.0) (ap checked_number (sym r.1) ∙ k.check-combined-map.ensures)
+returns-in-Failed : tie.Need-returns-in-Failed
+returns-in-Failed c =
+    let s = c.before.before in
+    append_stop (map-tests s) (point-test s) (not_zero c.in-Failed.refusal) (ap checked_number (sym c.in-Failed.is) ∙ c.check_combined_map-checked.ensures)
 
-returns-3 : tie.Need-returns-3
-returns-3 c = on-map c.before.before (pass 10 _ (not_t _ (by_true _ _ c.before.inside.ensures c.if1.false)) none)
+returns-else-not-inside : tie.Need-returns-else-not-inside
+returns-else-not-inside c = on-map c.before.before (pass 10 _ (not_t _ (by_true _ _ c.before.inside.ensures c.if-not-inside.false)) none)
 
 pub check_count_spec : {M : Type 1} → statement M
 check_count_spec =
     tie.close
-    (tie.spec
-    check-combined-map-requires
-    enum-known-checked
-    enum_told
-    inside-requires
-    returns
-    returns-2
-    returns-3)
+    (tie.spec check_combined_map-checked-requires enum_known-checked enum_told-1 inside-requires returns-then-not-inside returns-in-Failed returns-else-not-inside)

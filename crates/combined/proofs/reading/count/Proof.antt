@@ -13,37 +13,29 @@ use Rattle.combined.proofs.reading.count.Statement.{statement}
 use Rattle.combined.proofs.reading.count.Tie as tie
 
 -- no test holds
-clear : (c : tie.After-enum-told) → let a = c.before.before.before.args in 0 ≡ first (count_tests a.cell.group (cell_lengths a.cell) (length a.map.now) (point_of a.at))
-clear c = ap checked_number (sym c.enum_told.given.1) ∙ c.before.before.check-count.ensures
+clear : (c : tie.In-Sound) → let a = c.args in 0 ≡ first (count_tests a.cell.group (cell_lengths a.cell) (length a.map.now) (point_of a.at))
+clear c = ap checked_number (sym c.in-Sound.is) ∙ c.check_count-checked.ensures
 
-check-count-requires : tie.Need-check-count-requires
-check-count-requires c κs = search rules
+check_count-checked-requires : tie.Need-check_count-checked-requires
+check_count-checked-requires c κs = search rules
 
-enum-known-checked : tie.Need-enum-known-checked
-enum-known-checked c = search rules
+enum_known-checked : tie.Need-enum_known-checked
+enum_known-checked c = search rules
 
-enum_told : tie.Need-enum-told
-enum_told c = search rules
+enum_told-1 : tie.Need-enum_told-1
+enum_told-1 c = search rules
 
-count-at-requires : tie.Need-count-at-requires
-count-at-requires c κs = let a = c.before.before.before.args in sound_reading a.cell (length a.map.now) a.at (clear c)
+count_at-requires : tie.Need-count_at-requires
+count_at-requires c κs = let a = c.args in sound_reading a.cell (length a.map.now) a.at (clear c)
 
-returns : tie.Need-returns
-returns c =
-    let k = c.before.before.before in
-    let r = c.before.checked.given in
-    count_refused _ _ _ _ r.0.0 (ap checked_number (sym r.1) ∙ k.check-count.ensures)
+returns-in-Failed : tie.Need-returns-in-Failed
+returns-in-Failed c =
+    count_refused _ _ _ _ c.in-Failed.refusal (ap checked_number (sym c.in-Failed.is) ∙ c.check_count-checked.ensures)
 
-returns-2 : tie.Need-returns-2
-returns-2 c = ap counted (to_z-of_z w64 c.count_at.result (record { sfits = c.count_at.type-inv }) ∙ c.count_at.ensures) ∙ count_read _ _ _ _ (clear c.before)
+returns-in-Sound : tie.Need-returns-in-Sound
+returns-in-Sound c = ap counted (to_z-of_z w64 c.count_at.result (record { sfits = c.count_at.type_inv }) ∙ c.count_at.ensures) ∙ count_read _ _ _ _ (clear c.before)
 
 pub count_spec : {M : Type 1} → statement M
 count_spec =
     tie.close
-    (tie.spec
-    check-count-requires
-    enum-known-checked
-    enum_told
-    count-at-requires
-    returns
-    returns-2)
+    (tie.spec check_count-checked-requires enum_known-checked enum_told-1 count_at-requires returns-in-Failed returns-in-Sound)

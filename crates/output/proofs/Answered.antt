@@ -1,5 +1,5 @@
 -- What the answer of a call that fills an output says of its tests: the number of a refusal is that of the first that holds.
-use mathlib.Core.Path.{◌≡◌, refl, ap, ◌∙◌}
+use mathlib.Core.Path.{◌≡◌, refl, ap}
 use mathlib.Core.Logic.{◌↔◌}
 use Prim.Native.Nat.{ℕ, suc}
 use Rattle.refusals.specs.Refusals.{accepted}

@@ -4,24 +4,24 @@ use Rattle.output.proofs.Writing.{wrote_beyond}
 use Rattle.output.proofs.put_byte.Statement.{statement}
 use Rattle.output.proofs.put_byte.Tie as tie
 
-slice-write-out : tie.Need-slice-write-out
-slice-write-out c = search rules
+bounds-out-at : tie.Need-bounds-out-at
+bounds-out-at c = search rules
 
-add-result : tie.Need-overflow-add-result
-add-result c = search rules
+overflow_add-result : tie.Need-overflow_add-result
+overflow_add-result c = search rules
 
-add-result-2 : tie.Need-overflow-add-result-2
-add-result-2 c = search rules
+overflow_add-result-else-at-out : tie.Need-overflow_add-result-else-at-out
+overflow_add-result-else-at-out c = search rules
 
-same_length : tie.Need-same-length
-same_length c = search rules
+shape_of-out : tie.Need-shape_of-out
+shape_of-out c = search rules
 
-returns : tie.Need-returns
-returns c = search rules
+returns-then-at-out : tie.Need-returns-then-at-out
+returns-then-at-out c = search rules
 
-returns-2 : tie.Need-returns-2
-returns-2 c = let a = c.before.args in wrote_beyond a.at a.byte a.out.now c.if1.false
+returns-else-at-out : tie.Need-returns-else-at-out
+returns-else-at-out c = let a = c.before.args in wrote_beyond a.at a.byte a.out.now c.if-at-out.false
 
 pub put_byte_spec : {M : Type 1} → statement M
 put_byte_spec =
-    tie.close (tie.spec slice-write-out add-result add-result-2 same_length returns returns-2)
+    tie.close (tie.spec bounds-out-at overflow_add-result overflow_add-result-else-at-out shape_of-out returns-then-at-out returns-else-at-out)

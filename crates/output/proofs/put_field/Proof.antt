@@ -15,17 +15,17 @@ text : (c : tie.Start) → blank ∷ signed_decimal (to_z w64 c.args.n) ≡ blan
 unfolding signed_decimal
 text c = ap (λ z. blank ∷ signed_decimal z) (to_z_pos w64 c.args.n (omega (arith, c.ranges.n)))
 
-cast-put-signed-field : tie.Need-overflow-cast-put-signed-field
-cast-put-signed-field c = search rules
+overflow_cast-n : tie.Need-overflow_cast-n
+overflow_cast-n c = search rules
 
-put-signed-field-requires : tie.Need-put-signed-field-requires
-put-signed-field-requires c κs = let s = c.before.before in ends_as s.requires (sym (text s))
+put_signed_field-requires : tie.Need-put_signed_field-requires
+put_signed_field-requires c κs = let s = c.before.before in ends_as s.requires (sym (text s))
 
-same_length : tie.Need-same-length
-same_length c = search rules
+shape_of-out : tie.Need-shape_of-out
+shape_of-out c = search rules
 
 returns : tie.Need-returns
-returns c = let d = c.before.before in wrote_as d.put-signed-field.ensures (text d.before.before.before)
+returns c = let d = c.before.before in wrote_as d.put_signed_field.ensures (text d.before.before.before)
 
 pub put_field_spec : {M : Type 1} → statement M
-put_field_spec = tie.close (tie.spec cast-put-signed-field put-signed-field-requires same_length returns)
+put_field_spec = tie.close (tie.spec overflow_cast-n put_signed_field-requires shape_of-out returns)

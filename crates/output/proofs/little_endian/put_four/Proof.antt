@@ -7,36 +7,36 @@ use Rattle.output.proofs.Writing.{wrote_append, wrote_as}
 use Rattle.output.proofs.little_endian.put_four.Statement.{statement}
 use Rattle.output.proofs.little_endian.put_four.Tie as tie
 
-cast-put-byte : tie.Need-overflow-cast-put-byte
-cast-put-byte c = search rules
+overflow_cast-x : tie.Need-overflow_cast-x
+overflow_cast-x c = search rules
 
-put-byte-requires : tie.Need-put-byte-requires
+put_byte-second-requires : tie.Need-put_byte-second-requires
 unfolding little_endian
-put-byte-requires c κs = record { low = omega arith }
+put_byte-second-requires c κs = record { low = omega arith }
 
-cast-put-byte-2 : tie.Need-overflow-cast-put-byte-2
-cast-put-byte-2 c = search rules
+overflow_cast-x-2 : tie.Need-overflow_cast-x-2
+overflow_cast-x-2 c = search rules
 
-put-byte-requires-2 : tie.Need-put-byte-requires-2
+put_byte-third-requires : tie.Need-put_byte-third-requires
 unfolding little_endian
-put-byte-requires-2 c κs = record { low = omega arith }
+put_byte-third-requires c κs = record { low = omega arith }
 
-cast-put-byte-3 : tie.Need-overflow-cast-put-byte-3
-cast-put-byte-3 c = search rules
+overflow_cast-x-3 : tie.Need-overflow_cast-x-3
+overflow_cast-x-3 c = search rules
 
-put-byte-requires-3 : tie.Need-put-byte-requires-3
+put_byte-fourth-requires : tie.Need-put_byte-fourth-requires
 unfolding little_endian
-put-byte-requires-3 c κs = record { low = omega arith }
+put_byte-fourth-requires c κs = record { low = omega arith }
 
-cast-put-byte-4 : tie.Need-overflow-cast-put-byte-4
-cast-put-byte-4 c = search rules
+overflow_cast-x-4 : tie.Need-overflow_cast-x-4
+overflow_cast-x-4 c = search rules
 
-put-byte-requires-4 : tie.Need-put-byte-requires-4
+put_byte-requires : tie.Need-put_byte-requires
 unfolding little_endian
-put-byte-requires-4 c κs = record { low = omega arith }
+put_byte-requires c κs = record { low = omega arith }
 
-same_length : tie.Need-same-length
-same_length c = search rules
+shape_of-out : tie.Need-shape_of-out
+shape_of-out c = search rules
 
 returns : tie.Need-returns
 returns c =
@@ -45,19 +45,9 @@ returns c =
     let w2 = w3.before.before.before.before in
     let w1 = w2.before.before.before.before in
     let s = w1.before.before.before in
-    wrote_as (wrote_append w1.put_byte.ensures (wrote_append w2.put-byte2.ensures (wrote_append w3.put-byte3.ensures w4.put-byte4.ensures))) (little_four s.args.x (omega (arith, s.ranges.x)))
+    wrote_as (wrote_append w1.put_byte-second.ensures (wrote_append w2.put_byte-third.ensures (wrote_append w3.put_byte-fourth.ensures w4.put_byte.ensures))) (little_four s.args.x (omega (arith, s.ranges.x)))
 
 pub put_four_spec : {M : Type 1} → statement M
 put_four_spec =
     tie.close
-    (tie.spec
-    cast-put-byte
-    put-byte-requires
-    cast-put-byte-2
-    put-byte-requires-2
-    cast-put-byte-3
-    put-byte-requires-3
-    cast-put-byte-4
-    put-byte-requires-4
-    same_length
-    returns)
+    (tie.spec overflow_cast-x put_byte-second-requires overflow_cast-x-2 put_byte-third-requires overflow_cast-x-3 put_byte-fourth-requires overflow_cast-x-4 put_byte-requires shape_of-out returns)

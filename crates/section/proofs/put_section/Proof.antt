@@ -20,61 +20,53 @@ abbrev rows : tie.Start → List ℕ
 rows s = each s.args.cell.n1 (λ x. each (row_lines (cell_lengths s.args.cell)) (λ i. section_line s.args.cell.group (cell_lengths s.args.cell) s.args.map.now s.args.z x i))
 
 -- the closing lines with the total as the machine keeps it
-abbrev closing : tie.After-plane-total → List ℕ
-closing c = let s = c.before.before in closing_text (to_z w64 (of_z w64 c.plane-total.result)) (s.args.cell.n1 * s.args.cell.n2)
+abbrev closing : tie.After-plane_total-total → List ℕ
+closing c = let s = c in closing_text (to_z w64 (of_z w64 c.plane_total-total.result)) (s.args.cell.n1 * s.args.cell.n2)
 
-text : (c : tie.After-plane-total) → let s = c.before.before in rows s ++ closing c ≡ section_text s.args.cell.group (cell_lengths s.args.cell) s.args.map.now s.args.z
+text : (c : tie.After-plane_total-total) → let s = c.before.before in rows s ++ closing c ≡ section_text s.args.cell.group (cell_lengths s.args.cell) s.args.map.now s.args.z
 unfolding section_text
 text c =
     let s = c.before.before in
-    ap (λ t. rows s ++ closing_text t (s.args.cell.n1 * s.args.cell.n2)) (to_z-of_z w64 _ (record { sfits = c.plane-total.type-inv }) ∙ c.plane-total.ensures)
+    ap (λ t. rows s ++ closing_text t (s.args.cell.n1 * s.args.cell.n2)) (to_z-of_z w64 _ (record { sfits = c.plane_total-total.type_inv }) ∙ c.plane_total-total.ensures)
 
-ends : (c : tie.After-plane-total) → Ends 0 (rows c.before.before ++ closing c)
-ends c = let s = c.before.before in ends_as (page_ends s.args.cell s.args.map.now s.args.z s.requires) (sym (text c))
+ends : (c : tie.After-plane_total-total) → Ends 0 (rows c.before.before ++ closing c)
+ends c = let s = c in ends_as (page_ends s.args.cell s.args.map.now s.args.z s.requires) (sym (text c))
 
-plane-total-requires : tie.Need-plane-total-requires
-plane-total-requires c κs = search rules
+plane_total-total-requires : tie.Need-plane_total-total-requires
+plane_total-total-requires c κs = search rules
 
-cast-points : tie.Need-overflow-cast-points
-cast-points c = search rules
+overflow_cast-points : tie.Need-overflow_cast-points
+overflow_cast-points c = search rules
 
-cast-points-2 : tie.Need-overflow-cast-points-2
-cast-points-2 c = search rules
+overflow_cast-points-2 : tie.Need-overflow_cast-points-2
+overflow_cast-points-2 c = search rules
 
-mul-points : tie.Need-overflow-mul-points
-mul-points c = let s = c.before.before.before.before in omega (arith, (points_few s.args.cell s.args.map.now s.args.z s.requires).1)
+overflow_mul-points : tie.Need-overflow_mul-points
+overflow_mul-points c = let s = c in omega (arith, (points_few s.args.cell s.args.map.now s.args.z s.requires).1)
 
-put-rows-requires : tie.Need-put-rows-requires
-put-rows-requires c κs =
+put_rows-rows-requires : tie.Need-put_rows-rows-requires
+put_rows-rows-requires c κs =
     let t = c.before.before.before in
     let s = t.before.before in
     (s.requires.plane, ends_left (rows s) (closing t) (ends t))
 
-put-closing-requires : tie.Need-put-closing-requires
-put-closing-requires c κs =
+put_closing-requires : tie.Need-put_closing-requires
+put_closing-requires c κs =
     let w = c.before.before.before in
     let t = w.before.before.before.before in
-    let s = t.before.before in
-    (points_few s.args.cell s.args.map.now s.args.z s.requires, ends_right (closing t) w.put-rows.ensures (ends t))
+    let s = t in
+    (points_few s.args.cell s.args.map.now s.args.z s.requires, ends_right (closing t) w.put_rows-rows.ensures (ends t))
 
-same_length : tie.Need-same-length
-same_length c = search rules
+shape_of-out : tie.Need-shape_of-out
+shape_of-out c = search rules
 
 returns : tie.Need-returns
 returns c =
     let k = c.before.before in
     let w = k.before.before.before.before in
-    wrote_as (wrote_append w.put-rows.ensures k.put-closing.ensures) (text w.before.before.before.before)
+    wrote_as (wrote_append w.put_rows-rows.ensures k.put_closing.ensures) (text w.before.before.before.before)
 
 pub put_section_spec : {M : Type 1} → statement M
 put_section_spec =
     tie.close
-    (tie.spec
-    plane-total-requires
-    cast-points
-    cast-points-2
-    mul-points
-    put-rows-requires
-    put-closing-requires
-    same_length
-    returns)
+    (tie.spec plane_total-total-requires overflow_cast-points overflow_cast-points-2 overflow_mul-points put_rows-rows-requires put_closing-requires shape_of-out returns)

@@ -14,45 +14,37 @@ abbrev cell : tie.Start → UnitCell
 cell s = record { group = s.args.group; n1 = s.args.n1; n2 = s.args.n2; n3 = s.args.n3 }
 
 -- no test holds
-none : (c : tie.After-enum-told) → let s = c.before.before.before.before in Accepted s.args.group (cell_lengths (cell s)) s.args.map.now s.args.z (length s.args.out.now)
-none c = ap checked_number (sym c.enum_told.given.1) ∙ c.before.before.check-section.ensures
+none : (c : tie.In-Sound) → let s = c.before.before.before in Accepted s.args.group (cell_lengths (cell s)) s.args.map.now s.args.z (length s.args.out.now)
+none c = ap checked_number (sym c.in-Sound.is) ∙ c.check_section-checked.ensures
 
-check-section-requires : tie.Need-check-section-requires
-check-section-requires c κs = search rules
+check_section-checked-requires : tie.Need-check_section-checked-requires
+check_section-checked-requires c κs = search rules
 
-enum-known-checked : tie.Need-enum-known-checked
-enum-known-checked c = search rules
+enum_known-checked : tie.Need-enum_known-checked
+enum_known-checked c = search rules
 
-enum_told : tie.Need-enum-told
-enum_told c = search rules
+enum_told-1 : tie.Need-enum_told-1
+enum_told-1 c = search rules
 
-put-section-requires : tie.Need-put-section-requires
-put-section-requires c κs = let t = c.before in let s = t.before.before.before.before in sound_of (cell s) s.args.map.now s.args.z (length s.args.out.now) (none t)
+put_section-requires : tie.Need-put_section-requires
+put_section-requires c κs = let t = c.before in let s = t.before.before.before in sound_of (cell s) s.args.map.now s.args.z (length s.args.out.now) (none t)
 
-returns : tie.Need-returns
-returns c =
-    let k = c.before.before.before in
-    let s = k.before.before in
-    section_refused (cell s) s.args.map.now s.args.z s.args.out.now c.before.checked.given.0.0 (ap checked_number (sym c.before.checked.given.1) ∙ k.check-section.ensures)
+returns-in-Failed : tie.Need-returns-in-Failed
+returns-in-Failed c =
+    let s = c.before.before.before in
+    section_refused (cell s) s.args.map.now s.args.z s.args.out.now c.in-Failed.refusal (ap checked_number (sym c.in-Failed.is) ∙ c.check_section-checked.ensures)
 
-same_length : tie.Need-same-length
-same_length c = search rules
+shape_of-out : tie.Need-shape_of-out
+shape_of-out c = search rules
 
-returns-2 : tie.Need-returns-2
-returns-2 c =
+returns-in-Sound : tie.Need-returns-in-Sound
+returns-in-Sound c =
     let w = c.before.before in
     let t = w.before.before in
-    let s = t.before.before.before.before in
-    section_written (cell s) s.args.map.now s.args.z s.args.out.now (none t) w.put-section.ensures
+    let s = t.before.before.before in
+    section_written (cell s) s.args.map.now s.args.z s.args.out.now (none t) w.put_section.ensures
 
 pub section_text_spec : {M : Type 1} → statement M
 section_text_spec =
     tie.close
-    (tie.spec
-    check-section-requires
-    enum-known-checked
-    enum_told
-    put-section-requires
-    returns
-    same_length
-    returns-2)
+    (tie.spec check_section-checked-requires enum_known-checked enum_told-1 put_section-requires returns-in-Failed shape_of-out returns-in-Sound)

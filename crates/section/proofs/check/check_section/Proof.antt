@@ -30,80 +30,70 @@ plane-tests s =
     []
 
 -- no test of the map holds
-mapped : (c : tie.After-enum-told) → 0 ≡ first (map-tests c.before.before.before)
-mapped c = ap checked_number (sym c.enum_told.given.1) ∙ c.before.before.check-combined-map.ensures
+mapped : (c : tie.In-Sound) → 0 ≡ first (map-tests c.before.before)
+mapped c = ap checked_number (sym c.in-Sound.is) ∙ c.check_combined_map-checked.ensures
 
 -- so that those that follow decide
-on-map : (c : tie.After-enum-told) {m : ℕ} → m ≡ first (plane-tests c.before.before.before) → m ≡ first (map-tests c.before.before.before ++ plane-tests c.before.before.before)
-on-map c e = let s = c.before.before.before in append_pass (map-tests s) (plane-tests s) (passed (map-tests s) tt (mapped c)) e
+on-map : (c : tie.In-Sound) {m : ℕ} → m ≡ first (plane-tests c.before.before) → m ≡ first (map-tests c.before.before ++ plane-tests c.before.before)
+on-map c e = let s = c.before.before in append_pass (map-tests s) (plane-tests s) (passed (map-tests s) tt (mapped c)) e
 
-abbrev start : tie.Else1 → tie.Start
-start c = c.before.before.before.before.before
+abbrev start : tie.Else-cell-z → tie.Start
+start c = c.before.before.before.before
 
-plane : (c : tie.Else1) → Plane (start c).args.cell (start c).args.map.now (start c).args.z
-plane c = plane_of (start c).args.cell (start c).args.map.now (start c).args.z (mapped c.before.before) c.if1.false
+plane : (c : tie.Else-cell-z) → Plane (start c).args.cell (start c).args.map.now (start c).args.z
+plane c = plane_of (start c).args.cell (start c).args.map.now (start c).args.z (mapped c.before.before) c.if-cell-z.false
 
-sound : (c : tie.Else2) → let s = start c.before.before in Sound s.args.cell s.args.map.now s.args.z
-sound c = record { plane = plane c.before.before; within = by_true _ _ c.before.plane-within.ensures c.if2.false }
+sound : (c : tie.Else-not-plane_within) → let s = start c.before.before in Sound s.args.cell s.args.map.now s.args.z
+sound c = record { plane = plane c.before.before; within = by_true _ _ c.plane_within.ensures c.if-not-plane_within.false }
 
 -- the length of the page
-measured : (c : tie.After-text-length) → let s = start c.before.before.before in
-    c.text-length.result ≡ length (section_text s.args.cell.group (cell_lengths s.args.cell) s.args.map.now s.args.z)
+measured : (c : tie.After-text_length) → let s = start c.before.before.before in
+    c.text_length.result ≡ length (section_text s.args.cell.group (cell_lengths s.args.cell) s.args.map.now s.args.z)
 measured c =
     let s = start c.before.before.before in
-    c.text-length.ensures ∙ sym (page_long s.args.cell s.args.map.now s.args.z (sound c.before))
+    c.text_length.ensures ∙ sym (page_long s.args.cell s.args.map.now s.args.z (sound c.before))
 
-check-combined-map-requires : tie.Need-check-combined-map-requires
-check-combined-map-requires c κs = search rules
+check_combined_map-checked-requires : tie.Need-check_combined_map-checked-requires
+check_combined_map-checked-requires c κs = search rules
 
-enum-known-checked : tie.Need-enum-known-checked
-enum-known-checked c = search rules
+enum_known-checked : tie.Need-enum_known-checked
+enum_known-checked c = search rules
 
-enum_told : tie.Need-enum-told
-enum_told c = search rules
+enum_told-1 : tie.Need-enum_told-1
+enum_told-1 c = search rules
 
-returns : tie.Need-returns
-returns c = on-map c.before.before (stop _ (le-leb _ _ c.if1.true))
+returns-then-cell-z : tie.Need-returns-then-cell-z
+returns-then-cell-z c = on-map c.before.before (stop _ (le-leb _ _ c.if-cell-z.true))
 
-plane-within-requires : tie.Need-plane-within-requires
-plane-within-requires c κs = plane c
+plane_within-requires : tie.Need-plane_within-requires
+plane_within-requires c κs = plane c
 
-returns-2 : tie.Need-returns-2
-returns-2 c =
+returns-then-not-plane_within : tie.Need-returns-then-not-plane_within
+returns-then-not-plane_within c =
     let o = c.before.before in
-    on-map o.before.before (pass 10 _ (lt-leb _ _ o.if1.false) (stop _ (not_f _ (by_false _ _ c.before.plane-within.ensures c.if2.true))))
+    on-map o.before.before (pass 10 _ (lt-leb _ _ o.if-cell-z.false) (stop _ (not_f _ (by_false _ _ c.plane_within.ensures c.if-not-plane_within.true))))
 
-text-length-requires : tie.Need-text-length-requires
-text-length-requires c κs = (plane c.before.before).sizes
+text_length-requires : tie.Need-text_length-requires
+text_length-requires c κs = (plane c.before.before).sizes
 
-returns-3 : tie.Need-returns-3
-returns-3 c =
+returns-then-room-text_length : tie.Need-returns-then-room-text_length
+returns-then-room-text_length c =
     let w = c.before.before in
     let o = w.before.before in
-    on-map o.before.before (pass 10 _ (lt-leb _ _ o.if1.false) (pass 28 _ (not_t _ (sound w).within) (stop _ (lt-ltb _ _ (subst (λ (n : ℕ). (start o).args.room < n) (measured c.before) c.if3.true)))))
+    on-map o.before.before (pass 10 _ (lt-leb _ _ o.if-cell-z.false) (pass 28 _ (not_t _ (sound w).within) (stop _ (lt-ltb _ _ (subst (λ (n : ℕ). (start o).args.room < n) (measured c.before) c.if-room-text_length.true)))))
 
-returns-4 : tie.Need-returns-4
-returns-4 c =
-    let k = c.before.before.before in
-    append_stop (map-tests k.before) (plane-tests k.before) (not_zero c.before.checked.given.0.0) (ap checked_number (sym c.before.checked.given.1) ∙ k.check-combined-map.ensures)
+returns-in-Failed : tie.Need-returns-in-Failed
+returns-in-Failed c =
+    let s = c.before.before in
+    append_stop (map-tests s) (plane-tests s) (not_zero c.in-Failed.refusal) (ap checked_number (sym c.in-Failed.is) ∙ c.check_combined_map-checked.ensures)
 
-returns-5 : tie.Need-returns-5
-returns-5 c =
+returns-else-room-text_length : tie.Need-returns-else-room-text_length
+returns-else-room-text_length c =
     let w = c.before.before in
     let o = w.before.before in
-    on-map o.before.before (pass 10 _ (lt-leb _ _ o.if1.false) (pass 28 _ (not_t _ (sound w).within) (pass 18 _ (le-ltb _ _ (subst (λ (n : ℕ). n ≤ (start o).args.room) (measured c.before) c.if3.false)) none)))
+    on-map o.before.before (pass 10 _ (lt-leb _ _ o.if-cell-z.false) (pass 28 _ (not_t _ (sound w).within) (pass 18 _ (le-ltb _ _ (subst (λ (n : ℕ). n ≤ (start o).args.room) (measured c.before) c.if-room-text_length.false)) none)))
 
 pub check_section_spec : {M : Type 1} → statement M
 check_section_spec =
     tie.close
-    (tie.spec
-    check-combined-map-requires
-    enum-known-checked
-    enum_told
-    returns
-    plane-within-requires
-    returns-2
-    text-length-requires
-    returns-3
-    returns-4
-    returns-5)
+    (tie.spec check_combined_map-checked-requires enum_known-checked enum_told-1 returns-then-cell-z plane_within-requires returns-then-not-plane_within text_length-requires returns-then-room-text_length returns-in-Failed returns-else-room-text_length)

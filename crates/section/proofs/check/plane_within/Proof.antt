@@ -7,45 +7,36 @@ use Rattle.section.specs.Section.{row_within, plane_within}
 use Rattle.section.proofs.check.plane_within.Statement.{statement}
 use Rattle.section.proofs.check.plane_within.Tie as tie
 
-abbrev invariant-loop : tie.invariant-loop
-invariant-loop cell map z x₀ x = Passing (λ x. row_within cell.group (cell_lengths cell) map z x) cell.n1 x
+abbrev invariant-loop-x : tie.invariant-loop-x
+invariant-loop-x cell map z x₀ x = Passing (λ x. row_within cell.group (cell_lengths cell) map z x) cell.n1 x
 
-abbrev decreases-loop : tie.decreases-loop
-decreases-loop cell map z x₀ x = cell.n1 - x
+abbrev decreases-loop-x : tie.decreases-loop-x
+decreases-loop-x cell map z x₀ x = cell.n1 - x
 
-loop-holds : tie.Need-loop-init invariant-loop decreases-loop
-loop-holds c = passing_start _ _
+loop-x-init : tie.Need-loop-x-init invariant-loop-x decreases-loop-x
+loop-x-init c = passing_start _ _
 
-row-within-requires : tie.Need-row-within-requires invariant-loop decreases-loop
-row-within-requires c κs = (c.before.before.before.requires, c.if1.true)
+row_within-requires : tie.Need-row_within-requires invariant-loop-x decreases-loop-x
+row_within-requires c κs = (c.requires, c.loop-x-test.true)
 
-add-x : tie.Need-overflow-add-x invariant-loop decreases-loop
-add-x c = omega arith
+overflow_add-x : tie.Need-overflow_add-x invariant-loop-x decreases-loop-x
+overflow_add-x c = omega arith
 
-loop-less : tie.Need-loop-smaller invariant-loop decreases-loop
-loop-less c = omega arith
+loop-x-smaller : tie.Need-loop-x-smaller invariant-loop-x decreases-loop-x
+loop-x-smaller c = omega arith
 
-loop-again : tie.Need-loop-preserved invariant-loop decreases-loop
-loop-again c = let r = c.before in passing_next r.before.before.before.loop.invariant r.before.if1.true r.row_within.ensures c.if2.true
+loop-x-preserved : tie.Need-loop-x-preserved invariant-loop-x decreases-loop-x
+loop-x-preserved c = let r = c in passing_next r.loop-x.invariant r.loop-x-test.true r.row_within.ensures c.if-row_within.true
 
-returns : tie.Need-returns invariant-loop decreases-loop
+returns-else-row_within : tie.Need-returns-else-row_within invariant-loop-x decreases-loop-x
 unfolding plane_within
-returns c = let r = c.before in passing_stop r.before.before.before.loop.invariant r.before.if1.true r.row_within.ensures c.if2.false
+returns-else-row_within c = let r = c in passing_stop r.loop-x.invariant r.loop-x-test.true r.row_within.ensures c.if-row_within.false
 
-returns-2 : tie.Need-returns-2 invariant-loop decreases-loop
+returns : tie.Need-returns invariant-loop-x decreases-loop-x
 unfolding plane_within
-returns-2 c = passing_done c.before.before.loop.invariant c.if1.false
+returns c = passing_done c.loop-x.invariant c.loop-x-test.false
 
 pub plane_within_spec : {M : Type 1} → statement M
 plane_within_spec =
     tie.close
-    (tie.spec
-    invariant-loop
-    decreases-loop
-    loop-holds
-    row-within-requires
-    add-x
-    loop-less
-    loop-again
-    returns
-    returns-2)
+    (tie.spec invariant-loop-x decreases-loop-x loop-x-init row_within-requires overflow_add-x loop-x-smaller loop-x-preserved returns-else-row_within returns)

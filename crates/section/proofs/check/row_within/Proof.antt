@@ -16,52 +16,42 @@ use Rattle.section.proofs.Planes.{asked}
 use Rattle.section.proofs.check.row_within.Statement.{statement}
 use Rattle.section.proofs.check.row_within.Tie as tie
 
-abbrev invariant-loop : tie.invariant-loop
-invariant-loop cell map z x y₀ y = Passing (λ y. leb (nat_abs (section_at cell.group (cell_lengths cell) map z x y)) limit) cell.n2 y
+abbrev invariant-loop-y : tie.invariant-loop-y
+invariant-loop-y cell map z x y₀ y = Passing (λ y. leb (nat_abs (section_at cell.group (cell_lengths cell) map z x y)) limit) cell.n2 y
 
-abbrev decreases-loop : tie.decreases-loop
-decreases-loop cell map z x y₀ y = cell.n2 - y
+abbrev decreases-loop-y : tie.decreases-loop-y
+decreases-loop-y cell map z x y₀ y = cell.n2 - y
 
-loop-holds : tie.Need-loop-init invariant-loop decreases-loop
-loop-holds c = passing_start _ _
+loop-y-init : tie.Need-loop-y-init invariant-loop-y decreases-loop-y
+loop-y-init c = passing_start _ _
 
-count-at-requires : tie.Need-count-at-requires invariant-loop decreases-loop
-count-at-requires c κs = let s = c.before.before.before in asked s.requires.0 s.requires.1 c.if1.true refl
+count_at-requires : tie.Need-count_at-requires invariant-loop-y decreases-loop-y
+count_at-requires c κs = let s = c in asked s.requires.0 s.requires.1 c.loop-y-test.true refl
 
-magnitude-requires : tie.Need-magnitude-requires invariant-loop decreases-loop
+magnitude-requires : tie.Need-magnitude-requires invariant-loop-y decreases-loop-y
 magnitude-requires c κs = search rules
 
 -- the magnitude is that of the point's number
-size : (c : tie.After-magnitude invariant-loop decreases-loop) → let w = c.before.before.before.before in let a = w.before.args in
-    c.magnitude.result ≡ nat_abs (section_at a.cell.group (cell_lengths a.cell) a.map.now a.z a.x w.loop.y)
-size c = c.magnitude.ensures ∙ ap nat_abs (to_z-of_z w64 _ (record { sfits = c.before.count_at.type-inv }) ∙ c.before.count_at.ensures)
+size : (c : tie.After-magnitude invariant-loop-y decreases-loop-y) → let w = c in let a = w.args in
+    c.magnitude.result ≡ nat_abs (section_at a.cell.group (cell_lengths a.cell) a.map.now a.z a.x w.loop-y.y)
+size c = c.magnitude.ensures ∙ ap nat_abs (to_z-of_z w64 _ (record { sfits = c.count_at.type_inv }) ∙ c.count_at.ensures)
 
-add-y : tie.Need-overflow-add-y invariant-loop decreases-loop
-add-y c = omega arith
+overflow_add-y : tie.Need-overflow_add-y invariant-loop-y decreases-loop-y
+overflow_add-y c = omega arith
 
-loop-less : tie.Need-loop-smaller invariant-loop decreases-loop
-loop-less c = omega arith
+loop-y-smaller : tie.Need-loop-y-smaller invariant-loop-y decreases-loop-y
+loop-y-smaller c = omega arith
 
-loop-again : tie.Need-loop-preserved invariant-loop decreases-loop
-loop-again c = let w = c.before.before.before.before.before in passing_next w.loop.invariant c.before.before.before.if1.true (sym (le-leb _ _ (subst (λ (k : ℕ). k ≤ limit) (size c.before) c.if2.true))) refl
+loop-y-preserved : tie.Need-loop-y-preserved invariant-loop-y decreases-loop-y
+loop-y-preserved c = let w = c in passing_next w.loop-y.invariant c.loop-y-test.true (sym (le-leb _ _ (subst (λ (k : ℕ). k ≤ limit) (size c.before) c.if-magnitude-le13063485600.true))) refl
 
-returns : tie.Need-returns invariant-loop decreases-loop
-returns c = let w = c.before.before.before.before.before in passing_stop w.loop.invariant c.before.before.before.if1.true (sym (lt-leb _ _ (subst (λ (k : ℕ). limit < k) (size c.before) c.if2.false))) refl
+returns-else-magnitude-le13063485600 : tie.Need-returns-else-magnitude-le13063485600 invariant-loop-y decreases-loop-y
+returns-else-magnitude-le13063485600 c = let w = c in passing_stop w.loop-y.invariant c.loop-y-test.true (sym (lt-leb _ _ (subst (λ (k : ℕ). limit < k) (size c.before) c.if-magnitude-le13063485600.false))) refl
 
-returns-2 : tie.Need-returns-2 invariant-loop decreases-loop
-returns-2 c = passing_done c.before.before.loop.invariant c.if1.false
+returns : tie.Need-returns invariant-loop-y decreases-loop-y
+returns c = passing_done c.loop-y.invariant c.loop-y-test.false
 
 pub row_within_spec : {M : Type 1} → statement M
 row_within_spec =
     tie.close
-    (tie.spec
-    invariant-loop
-    decreases-loop
-    loop-holds
-    count-at-requires
-    magnitude-requires
-    add-y
-    loop-less
-    loop-again
-    returns
-    returns-2)
+    (tie.spec invariant-loop-y decreases-loop-y loop-y-init count_at-requires magnitude-requires overflow_add-y loop-y-smaller loop-y-preserved returns-else-magnitude-le13063485600 returns)

@@ -25,33 +25,33 @@ line : (c : tie.Start) → c.args.letter ∷ rest c ≡ closing_line c.args.lett
 unfolding closing_line
 line c = ap (λ z. c.args.letter ∷ (aligned 68 (signed_decimal z) ++ line_feed ∷ [])) (to_z-of_z w64 c.args.n c.ranges.n)
 
-put-byte-requires : tie.Need-put-byte-requires
-put-byte-requires c κs = let s = c.before.before in ends_left (s.args.letter ∷ []) (rest s) (ends_as s.requires (sym (line s)))
+put_byte-field-requires : tie.Need-put_byte-field-requires
+put_byte-field-requires c κs = let s = c.before.before in ends_left (s.args.letter ∷ []) (rest s) (ends_as s.requires (sym (line s)))
 
-put-aligned-requires : tie.Need-put-aligned-requires
-put-aligned-requires c κs =
+put_aligned-end-requires : tie.Need-put_aligned-end-requires
+put_aligned-end-requires c κs =
     let w1 = c.before.before.before in
     let s = w1.before.before.before in
-    ends_left (aligned 68 (signed_decimal (kept s))) (line_feed ∷ []) (ends_right (rest s) w1.put_byte.ensures (ends_as s.requires (sym (line s))))
+    ends_left (aligned 68 (signed_decimal (kept s))) (line_feed ∷ []) (ends_right (rest s) w1.put_byte-field.ensures (ends_as s.requires (sym (line s))))
 
-put-byte-requires-2 : tie.Need-put-byte-requires-2
-put-byte-requires-2 c κs =
+put_byte-requires : tie.Need-put_byte-requires
+put_byte-requires c κs =
     let w2 = c.before.before.before in
     let w1 = w2.before.before.before.before in
     let s = w1.before.before.before in
-    ends_right (line_feed ∷ []) w2.put-aligned.ensures (ends_right (rest s) w1.put_byte.ensures (ends_as s.requires (sym (line s))))
+    ends_right (line_feed ∷ []) w2.put_aligned-end.ensures (ends_right (rest s) w1.put_byte-field.ensures (ends_as s.requires (sym (line s))))
 
-same_length : tie.Need-same-length
-same_length c = search rules
+shape_of-out : tie.Need-shape_of-out
+shape_of-out c = search rules
 
 returns : tie.Need-returns
 returns c =
     let w3 = c.before.before in
     let w2 = w3.before.before.before.before in
     let w1 = w2.before.before.before.before in
-    wrote_as (wrote_append w1.put_byte.ensures (wrote_append w2.put-aligned.ensures w3.put-byte2.ensures)) (line w1.before.before.before)
+    wrote_as (wrote_append w1.put_byte-field.ensures (wrote_append w2.put_aligned-end.ensures w3.put_byte.ensures)) (line w1.before.before.before)
 
 pub put_closing_line_spec : {M : Type 1} → statement M
 put_closing_line_spec =
     tie.close
-    (tie.spec put-byte-requires put-aligned-requires put-byte-requires-2 same_length returns)
+    (tie.spec put_byte-field-requires put_aligned-end-requires put_byte-requires shape_of-out returns)

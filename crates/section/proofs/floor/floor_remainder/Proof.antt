@@ -8,58 +8,50 @@ use Rattle.section.proofs.Floors.{Below, Above, below, above}
 use Rattle.section.proofs.floor.floor_remainder.Statement.{statement}
 use Rattle.section.proofs.floor.floor_remainder.Tie as tie
 
-negative : (c : tie.Then1) → let m = c.before in Below m.before.args.total m.magnitude.result m.before.args.n
+negative : (c : tie.Then-total-lt0) → let m = c.before in Below m.before.args.total m.magnitude-size.result m.before.args.n
 negative c =
     let m = c.before in
     let s = m.before in
-    below s.args.n s.args.total s.ranges.total m.magnitude.ensures c.if1.true
+    below s.args.n s.args.total s.ranges.total m.magnitude-size.ensures c.if-total-lt0.true
 
-positive : (c : tie.Else1) → let m = c.before in Above m.before.args.total m.magnitude.result m.before.args.n
+positive : (c : tie.Else-total-lt0) → let m = c.before in Above m.before.args.total m.magnitude-size.result m.before.args.n
 positive c =
     let m = c.before in
     let s = m.before in
-    above s.args.n s.args.total s.ranges.total m.magnitude.ensures c.if1.false
+    above s.args.n s.args.total s.ranges.total m.magnitude-size.ensures c.if-total-lt0.false
 
-rest : (c : tie.Then1) → (c.before.magnitude.result - 1) % c.before.before.args.n < c.before.before.args.n
-rest c = mod-lt (c.before.magnitude.result - 1) c.before.before.requires
+rest : (c : tie.Then-total-lt0) → (c.before.magnitude-size.result - 1) % c.before.before.args.n < c.before.before.args.n
+rest c = mod-lt (c.before.magnitude-size.result - 1) c.before.before.requires
 
-magnitude-requires : tie.Need-magnitude-requires
-magnitude-requires c κs = search rules
+magnitude-size-requires : tie.Need-magnitude-size-requires
+magnitude-size-requires c κs = search rules
 
-sub-result : tie.Need-overflow-sub-result
-sub-result c = search rules
+overflow_sub-result : tie.Need-overflow_sub-result
+overflow_sub-result c = search rules
 
-sub-result-2 : tie.Need-overflow-sub-result-2
-sub-result-2 c = (negative c).low
+overflow_sub-result-then-total-lt0 : tie.Need-overflow_sub-result-then-total-lt0
+overflow_sub-result-then-total-lt0 c = (negative c).low
 
-rem-result : tie.Need-nonzero-rem-result
-rem-result c = search rules
+nonzero_rem-result : tie.Need-nonzero_rem-result
+nonzero_rem-result c = search rules
 
-sub-result-3 : tie.Need-overflow-sub-result-3
-sub-result-3 c = omega (arith, rest c)
+overflow_sub-result-then-total-lt0-2 : tie.Need-overflow_sub-result-then-total-lt0-2
+overflow_sub-result-then-total-lt0-2 c = omega (arith, rest c)
 
-rem-result-2 : tie.Need-nonzero-rem-result-2
-rem-result-2 c = search rules
+nonzero_rem-result-else-total-lt0 : tie.Need-nonzero_rem-result-else-total-lt0
+nonzero_rem-result-else-total-lt0 c = search rules
 
-returns : tie.Need-returns
-returns c =
+returns-then-total-lt0 : tie.Need-returns-then-total-lt0
+returns-then-total-lt0 c =
     let n = c.before.before.args.n in
-    let r = (c.before.magnitude.result - 1) % n in
+    let r = (c.before.magnitude-size.result - 1) % n in
     let e : n - 1 - r ≡ n - suc r = omega arith in
     (e ∙ sym (negative c).rest_is, omega (arith, rest c))
 
-returns-2 : tie.Need-returns-2
-returns-2 c = (sym (positive c).rest_is, mod-lt c.before.magnitude.result c.before.before.requires)
+returns-else-total-lt0 : tie.Need-returns-else-total-lt0
+returns-else-total-lt0 c = (sym (positive c).rest_is, mod-lt c.before.magnitude-size.result c.before.before.requires)
 
 pub floor_remainder_spec : {M : Type 1} → statement M
 floor_remainder_spec =
     tie.close
-    (tie.spec
-    magnitude-requires
-    sub-result
-    sub-result-2
-    rem-result
-    sub-result-3
-    rem-result-2
-    returns
-    returns-2)
+    (tie.spec magnitude-size-requires overflow_sub-result overflow_sub-result-then-total-lt0 nonzero_rem-result overflow_sub-result-then-total-lt0-2 nonzero_rem-result-else-total-lt0 returns-then-total-lt0 returns-else-total-lt0)

@@ -25,46 +25,39 @@ line : (s : tie.Start) → index s ++ (values s ++ line_feed ∷ []) ≡ section
 unfolding section_line signed_decimal
 line s = ap (λ k. aligned 4 (signed_decimal k) ++ (values s ++ line_feed ∷ [])) (to_z_pos w64 s.args.x (omega (arith, s.requires.0.1, s.requires.0.0.sizes.first.high)))
 
-cast-put-aligned : tie.Need-overflow-cast-put-aligned
-cast-put-aligned c = search rules
+overflow_cast-x : tie.Need-overflow_cast-x
+overflow_cast-x c = search rules
 
-put-aligned-requires : tie.Need-put-aligned-requires
-put-aligned-requires c κs = let s = c.before.before in ends_left (index s) (values s ++ line_feed ∷ []) (ends_as s.requires.1 (sym (line s)))
+put_aligned-first-requires : tie.Need-put_aligned-first-requires
+put_aligned-first-requires c κs = let s = c.before.before in ends_left (index s) (values s ++ line_feed ∷ []) (ends_as s.requires.1 (sym (line s)))
 
-mul-put-values : tie.Need-overflow-mul-put-values
-mul-put-values c = search rules
+overflow_mul-i : tie.Need-overflow_mul-i
+overflow_mul-i c = search rules
 
-put-values-requires : tie.Need-put-values-requires
-put-values-requires c κs =
+put_values-end-requires : tie.Need-put_values-end-requires
+put_values-end-requires c κs =
     let w1 = c.before.before.before in
     let s = w1.before.before.before in
-    ((s.requires.0.0, s.requires.0.1, omega (arith, s.requires.0.2, s.requires.0.0.sizes.second.high)), ends_left (values s) (line_feed ∷ []) (ends_right (values s ++ line_feed ∷ []) w1.put-aligned.ensures (ends_as s.requires.1 (sym (line s)))))
+    ((s.requires.0.0, s.requires.0.1, omega (arith, s.requires.0.2, s.requires.0.0.sizes.second.high)), ends_left (values s) (line_feed ∷ []) (ends_right (values s ++ line_feed ∷ []) w1.put_aligned-first.ensures (ends_as s.requires.1 (sym (line s)))))
 
-put-byte-requires : tie.Need-put-byte-requires
-put-byte-requires c κs =
+put_byte-requires : tie.Need-put_byte-requires
+put_byte-requires c κs =
     let w2 = c.before.before.before in
     let w1 = w2.before.before.before.before in
     let s = w1.before.before.before in
-    ends_right (line_feed ∷ []) w2.put-values.ensures (ends_right (values s ++ line_feed ∷ []) w1.put-aligned.ensures (ends_as s.requires.1 (sym (line s))))
+    ends_right (line_feed ∷ []) w2.put_values-end.ensures (ends_right (values s ++ line_feed ∷ []) w1.put_aligned-first.ensures (ends_as s.requires.1 (sym (line s))))
 
-same_length : tie.Need-same-length
-same_length c = search rules
+shape_of-out : tie.Need-shape_of-out
+shape_of-out c = search rules
 
 returns : tie.Need-returns
 returns c =
     let w3 = c.before.before in
     let w2 = w3.before.before.before.before in
     let w1 = w2.before.before.before.before in
-    wrote_as (wrote_append w1.put-aligned.ensures (wrote_append w2.put-values.ensures w3.put_byte.ensures)) (line w1.before.before.before)
+    wrote_as (wrote_append w1.put_aligned-first.ensures (wrote_append w2.put_values-end.ensures w3.put_byte.ensures)) (line w1.before.before.before)
 
 pub put_line_spec : {M : Type 1} → statement M
 put_line_spec =
     tie.close
-    (tie.spec
-    cast-put-aligned
-    put-aligned-requires
-    mul-put-values
-    put-values-requires
-    put-byte-requires
-    same_length
-    returns)
+    (tie.spec overflow_cast-x put_aligned-first-requires overflow_mul-i put_values-end-requires put_byte-requires shape_of-out returns)

@@ -15,58 +15,48 @@ use Rattle.section.proofs.lines.put_values.Tie as tie
 abbrev value : UnitCell → List ℤ → (z x y t : ℕ) → List ℕ
 value cell map z x y t = value_field cell.group (cell_lengths cell) map z x (y + t)
 
-abbrev invariant-loop : tie.invariant-loop
-invariant-loop out₀ at cell map z x y place₀ t₀ out place t = (t ≤ 5) × Wrote at (each t (value cell map z x y)) out₀ place out
+abbrev invariant-loop-t : tie.invariant-loop-t
+invariant-loop-t out₀ at cell map z x y place₀ t₀ out place t = (t ≤ 5) × Wrote at (each t (value cell map z x y)) out₀ place out
 
-abbrev decreases-loop : tie.decreases-loop
-decreases-loop out₀ at cell map z x y place₀ t₀ out place t = 5 - t
+abbrev decreases-loop-t : tie.decreases-loop-t
+decreases-loop-t out₀ at cell map z x y place₀ t₀ out place t = 5 - t
 
-loop-holds : tie.Need-loop-init invariant-loop decreases-loop
-loop-holds c = (omega arith, each_none _ _ _)
+loop-t-init : tie.Need-loop-t-init invariant-loop-t decreases-loop-t
+loop-t-init c = (omega arith, each_none _ _ _)
 
-add-put-value : tie.Need-overflow-add-put-value invariant-loop decreases-loop
-add-put-value c = omega (arith, c.before.before.before.before.requires.0.2)
+overflow_add-y : tie.Need-overflow_add-y invariant-loop-t decreases-loop-t
+overflow_add-y c = omega (arith, c.requires.0.2)
 
-put-value-requires : tie.Need-put-value-requires invariant-loop decreases-loop
-put-value-requires c κs =
+put_value-place-requires : tie.Need-put_value-place-requires invariant-loop-t decreases-loop-t
+put_value-place-requires c κs =
     let t = c.before in
     let l = t.before in
-    let s = l.before.before in
-    ((s.requires.0.0, s.requires.0.1), each_ends (value s.args.cell s.args.map.now s.args.z s.args.x s.args.y) s.requires.1 t.loop-test.true l.loop.invariant.1)
+    let s = l in
+    ((s.requires.0.0, s.requires.0.1), each_ends (value s.args.cell s.args.map.now s.args.z s.args.x s.args.y) s.requires.1 t.loop-t-test.true l.loop-t.invariant.1)
 
-add-t : tie.Need-overflow-add-t invariant-loop decreases-loop
-add-t c = omega arith
+overflow_add-t : tie.Need-overflow_add-t invariant-loop-t decreases-loop-t
+overflow_add-t c = omega arith
 
-loop-less : tie.Need-loop-smaller invariant-loop decreases-loop
-loop-less c = omega arith
+loop-t-smaller : tie.Need-loop-t-smaller invariant-loop-t decreases-loop-t
+loop-t-smaller c = omega arith
 
-loop-again : tie.Need-loop-preserved invariant-loop decreases-loop
-loop-again c =
+loop-t-preserved : tie.Need-loop-t-preserved invariant-loop-t decreases-loop-t
+loop-t-preserved c =
     let p = c.before.before in
     let l = p.before.before.before in
-    let s = l.before.before in
-    (omega arith, each_next (value s.args.cell s.args.map.now s.args.z s.args.x s.args.y) l.loop.invariant.1 p.put-value.ensures)
+    let s = l in
+    (omega arith, each_next (value s.args.cell s.args.map.now s.args.z s.args.x s.args.y) l.loop-t.invariant.1 p.put_value-place.ensures)
 
-same_length : tie.Need-same-length invariant-loop decreases-loop
-same_length c = wrote_length c.before.loop.invariant.1
+shape_of-out : tie.Need-shape_of-out invariant-loop-t decreases-loop-t
+shape_of-out c = wrote_length c.loop-t.invariant.1
 
-returns : tie.Need-returns invariant-loop decreases-loop
+returns : tie.Need-returns invariant-loop-t decreases-loop-t
 returns c =
     let l = c.before in
-    let s = l.before.before in
-    each_done (value s.args.cell s.args.map.now s.args.z s.args.x s.args.y) l.loop.invariant.0 c.loop-test.false l.loop.invariant.1
+    let s = l in
+    each_done (value s.args.cell s.args.map.now s.args.z s.args.x s.args.y) l.loop-t.invariant.0 c.loop-t-test.false l.loop-t.invariant.1
 
 pub put_values_spec : {M : Type 1} → statement M
 put_values_spec =
     tie.close
-    (tie.spec
-    invariant-loop
-    decreases-loop
-    loop-holds
-    add-put-value
-    put-value-requires
-    add-t
-    loop-less
-    loop-again
-    same_length
-    returns)
+    (tie.spec invariant-loop-t decreases-loop-t loop-t-init overflow_add-y put_value-place-requires overflow_add-t loop-t-smaller loop-t-preserved shape_of-out returns)

@@ -13,51 +13,42 @@ use Rattle.section.proofs.Planes.{asked, within, row_range}
 use Rattle.section.proofs.sums.row_total.Statement.{statement}
 use Rattle.section.proofs.sums.row_total.Tie as tie
 
-abbrev invariant-loop : tie.invariant-loop
-invariant-loop cell map z x sum₀ y₀ sum y = Summing (λ y. section_at cell.group (cell_lengths cell) map z x y) cell.n2 y (to_z w64 sum)
+abbrev invariant-loop-y : tie.invariant-loop-y
+invariant-loop-y cell map z x sum₀ y₀ sum y = Summing (λ y. section_at cell.group (cell_lengths cell) map z x y) cell.n2 y (to_z w64 sum)
 
-abbrev decreases-loop : tie.decreases-loop
-decreases-loop cell map z x sum₀ y₀ sum y = cell.n2 - y
+abbrev decreases-loop-y : tie.decreases-loop-y
+decreases-loop-y cell map z x sum₀ y₀ sum y = cell.n2 - y
 
-loop-holds : tie.Need-loop-init invariant-loop decreases-loop
-loop-holds c = summing_start _ _
+loop-y-init : tie.Need-loop-y-init invariant-loop-y decreases-loop-y
+loop-y-init c = summing_start _ _
 
-count-at-requires : tie.Need-count-at-requires invariant-loop decreases-loop
-count-at-requires c κs = let s = c.before.before.before in asked s.requires.0.plane s.requires.1 c.if1.true refl
+count_at-sum-requires : tie.Need-count_at-sum-requires invariant-loop-y decreases-loop-y
+count_at-sum-requires c κs = let s = c in asked s.requires.0.plane s.requires.1 c.loop-y-test.true refl
 
 -- the number that is added
-added : (c : tie.After-count-at invariant-loop decreases-loop) → let w = c.before.before.before in let a = w.before.args in
-    to_z w64 (of_z w64 c.count_at.result) ≡ section_at a.cell.group (cell_lengths a.cell) a.map.now a.z a.x w.loop.y
-added c = to_z-of_z w64 _ (record { sfits = c.count_at.type-inv }) ∙ c.count_at.ensures
+added : (c : tie.After-count_at-sum invariant-loop-y decreases-loop-y) → let w = c in let a = w.args in
+    to_z w64 (of_z w64 c.count_at-sum.result) ≡ section_at a.cell.group (cell_lengths a.cell) a.map.now a.z a.x w.loop-y.y
+added c = to_z-of_z w64 _ (record { sfits = c.count_at-sum.type_inv }) ∙ c.count_at-sum.ensures
 
-add-sum : tie.Need-overflow-add-sum invariant-loop decreases-loop
-add-sum c =
-    let w = c.before.before.before in
-    let h = w.before.requires in
-    summing_fits w.loop.invariant limit (λ y l. within h.0 _ y h.1 l) (row_range h.0) c.before.if1.true (added c)
+overflow_add-sum : tie.Need-overflow_add-sum invariant-loop-y decreases-loop-y
+overflow_add-sum c =
+    let w = c in
+    let h = w.requires in
+    summing_fits w.loop-y.invariant limit (λ y l. within h.0 _ y h.1 l) (row_range h.0) c.loop-y-test.true (added c)
 
-add-y : tie.Need-overflow-add-y invariant-loop decreases-loop
-add-y c = omega arith
+overflow_add-y : tie.Need-overflow_add-y invariant-loop-y decreases-loop-y
+overflow_add-y c = omega arith
 
-loop-less : tie.Need-loop-smaller invariant-loop decreases-loop
-loop-less c = omega arith
+loop-y-smaller : tie.Need-loop-y-smaller invariant-loop-y decreases-loop-y
+loop-y-smaller c = omega arith
 
-loop-again : tie.Need-loop-preserved invariant-loop decreases-loop
-loop-again c = summing_next c.before.before.before.loop.invariant c.before.if1.true (added c) (to_z-of_z w64 _ (add-sum c))
+loop-y-preserved : tie.Need-loop-y-preserved invariant-loop-y decreases-loop-y
+loop-y-preserved c = summing_next c.loop-y.invariant c.loop-y-test.true (added c) (to_z-of_z w64 _ (overflow_add-sum c))
 
-returns : tie.Need-returns invariant-loop decreases-loop
-returns c = summing_done c.before.before.loop.invariant c.if1.false
+returns : tie.Need-returns invariant-loop-y decreases-loop-y
+returns c = summing_done c.loop-y.invariant c.loop-y-test.false
 
 pub row_total_spec : {M : Type 1} → statement M
 row_total_spec =
     tie.close
-    (tie.spec
-    invariant-loop
-    decreases-loop
-    loop-holds
-    count-at-requires
-    add-sum
-    add-y
-    loop-less
-    loop-again
-    returns)
+    (tie.spec invariant-loop-y decreases-loop-y loop-y-init count_at-sum-requires overflow_add-sum overflow_add-y loop-y-smaller loop-y-preserved returns)

@@ -17,193 +17,193 @@ use Rattle.batches.proofs.LaneLists.{plain_lane, turned_lane, held_by, shifted_b
 use Rattle.batches.proofs.blocks.five_first.Statement.{statement}
 use Rattle.batches.proofs.blocks.five_first.Tie as tie
 
-abbrev invariant-loop : tie.invariant-loop
-invariant-loop m re im sre sim at from y₀ w z o v₀ y v = Summed m (table_root m re im) 5 at from v y
+abbrev invariant-loop-v : tie.invariant-loop-v
+invariant-loop-v m re im sre sim at from y₀ w z o v₀ y v = Summed m (table_root m re im) 5 at from v y
 
-abbrev decreases-loop : tie.decreases-loop
-decreases-loop m re im sre sim at from y₀ w z o v₀ y v = 16 - v
+abbrev decreases-loop-v : tie.decreases-loop-v
+decreases-loop-v m re im sre sim at from y₀ w z o v₀ y v = 16 - v
 
-factor-at-requires : tie.Need-factor-at-requires invariant-loop decreases-loop
-factor-at-requires c κs =
+factor_at-w-requires : tie.Need-factor_at-w-requires invariant-loop-v decreases-loop-v
+factor_at-w-requires c κs =
     let s = c.before in
     (s.requires.0.0, lit< tt, omega (arith, s.requires.0.2.low_im 576))
 
-factor-at-requires-2 : tie.Need-factor-at-requires-2 invariant-loop decreases-loop
-factor-at-requires-2 c κs =
+factor_at-z-requires : tie.Need-factor_at-z-requires invariant-loop-v decreases-loop-v
+factor_at-z-requires c κs =
     let s = c.before.before in
     (s.requires.0.0, lit< tt, omega (arith, s.requires.0.2.low_im 1152))
 
-modulus-requires : tie.Need-modulus-requires invariant-loop decreases-loop
-modulus-requires c κs =
+modulus-o-requires : tie.Need-modulus-o-requires invariant-loop-v decreases-loop-v
+modulus-o-requires c κs =
     let s = c.before.before.before in
     s.requires.0.0
 
-mul-o : tie.Need-overflow-mul-o invariant-loop decreases-loop
-mul-o c =
+overflow_mul-o : tie.Need-overflow_mul-o invariant-loop-v decreases-loop-v
+overflow_mul-o c =
     let s = c.before.before.before.before in
-    omega (arith, c.modulus.ensures.2)
+    omega (arith, c.modulus-o.ensures.2)
 
-loop-holds : tie.Need-loop-init invariant-loop decreases-loop
-loop-holds c =
+loop-v-init : tie.Need-loop-v-init invariant-loop-v decreases-loop-v
+loop-v-init c =
     let s = c.before.before.before.before in
     summed_start s.requires.1.2
 
-part-requires : tie.Need-part-requires invariant-loop decreases-loop
-part-requires c κs =
+part-r0-requires : tie.Need-part-r0-requires invariant-loop-v decreases-loop-v
+part-r0-requires c κs =
     let s = c.before.before.before.before.before.before in
-    (lit< tt, omega (arith, c.loop-test.true), s.requires.1.0.inside 0 (lit< tt), s.requires.1.1)
+    (lit< tt, omega (arith, c.loop-v-test.true), s.requires.1.0.inside 0 (lit< tt), s.requires.1.1)
 
-add-part : tie.Need-overflow-add-part invariant-loop decreases-loop
-add-part c =
+overflow_add-v : tie.Need-overflow_add-v invariant-loop-v decreases-loop-v
+overflow_add-v c =
     let s = c.before.before.before.before.before.before.before in
-    omega (arith, c.before.loop-test.true)
+    omega (arith, c.before.loop-v-test.true)
 
-part-requires-2 : tie.Need-part-requires-2 invariant-loop decreases-loop
-part-requires-2 c κs =
+part-s0-requires : tie.Need-part-s0-requires invariant-loop-v decreases-loop-v
+part-s0-requires c κs =
     let s = c.before.before.before.before.before.before.before in
-    (lit< tt, omega (arith, c.before.loop-test.true), s.requires.1.0.inside 0 (lit< tt), s.requires.1.1)
+    (lit< tt, omega (arith, c.before.loop-v-test.true), s.requires.1.0.inside 0 (lit< tt), s.requires.1.1)
 
-part-requires-3 : tie.Need-part-requires-3 invariant-loop decreases-loop
-part-requires-3 c κs =
+part-r1-requires : tie.Need-part-r1-requires invariant-loop-v decreases-loop-v
+part-r1-requires c κs =
     let s = c.before.before.before.before.before.before.before.before in
-    (lit< tt, omega (arith, c.before.before.loop-test.true), s.requires.1.0.inside 1 (lit< tt), s.requires.1.1)
+    (lit< tt, omega (arith, c.before.before.loop-v-test.true), s.requires.1.0.inside 1 (lit< tt), s.requires.1.1)
 
-add-part-2 : tie.Need-overflow-add-part-2 invariant-loop decreases-loop
-add-part-2 c =
+overflow_add-v-in-loop-v : tie.Need-overflow_add-v-in-loop-v invariant-loop-v decreases-loop-v
+overflow_add-v-in-loop-v c =
     let s = c.before.before.before.before.before.before.before.before.before in
-    omega (arith, c.before.before.before.loop-test.true)
+    omega (arith, c.before.before.before.loop-v-test.true)
 
-part-requires-4 : tie.Need-part-requires-4 invariant-loop decreases-loop
-part-requires-4 c κs =
+part-s1-requires : tie.Need-part-s1-requires invariant-loop-v decreases-loop-v
+part-s1-requires c κs =
     let s = c.before.before.before.before.before.before.before.before.before in
-    (lit< tt, omega (arith, c.before.before.before.loop-test.true), s.requires.1.0.inside 1 (lit< tt), s.requires.1.1)
+    (lit< tt, omega (arith, c.before.before.before.loop-v-test.true), s.requires.1.0.inside 1 (lit< tt), s.requires.1.1)
 
-part-requires-5 : tie.Need-part-requires-5 invariant-loop decreases-loop
-part-requires-5 c κs =
+part-r2-requires : tie.Need-part-r2-requires invariant-loop-v decreases-loop-v
+part-r2-requires c κs =
     let s = c.before.before.before.before.before.before.before.before.before.before in
-    (lit< tt, omega (arith, c.before.before.before.before.loop-test.true), s.requires.1.0.inside 2 (lit< tt), s.requires.1.1)
+    (lit< tt, omega (arith, c.before.before.before.before.loop-v-test.true), s.requires.1.0.inside 2 (lit< tt), s.requires.1.1)
 
-add-part-3 : tie.Need-overflow-add-part-3 invariant-loop decreases-loop
-add-part-3 c =
+overflow_add-v-in-loop-v-2 : tie.Need-overflow_add-v-in-loop-v-2 invariant-loop-v decreases-loop-v
+overflow_add-v-in-loop-v-2 c =
     let s = c.before.before.before.before.before.before.before.before.before.before.before in
-    omega (arith, c.before.before.before.before.before.loop-test.true)
+    omega (arith, c.before.before.before.before.before.loop-v-test.true)
 
-part-requires-6 : tie.Need-part-requires-6 invariant-loop decreases-loop
-part-requires-6 c κs =
+part-s2-requires : tie.Need-part-s2-requires invariant-loop-v decreases-loop-v
+part-s2-requires c κs =
     let s = c.before.before.before.before.before.before.before.before.before.before.before in
-    (lit< tt, omega (arith, c.before.before.before.before.before.loop-test.true), s.requires.1.0.inside 2 (lit< tt), s.requires.1.1)
+    (lit< tt, omega (arith, c.before.before.before.before.before.loop-v-test.true), s.requires.1.0.inside 2 (lit< tt), s.requires.1.1)
 
-part-requires-7 : tie.Need-part-requires-7 invariant-loop decreases-loop
-part-requires-7 c κs =
+part-r3-requires : tie.Need-part-r3-requires invariant-loop-v decreases-loop-v
+part-r3-requires c κs =
     let s = c.before.before.before.before.before.before.before.before.before.before.before.before in
-    (lit< tt, omega (arith, c.before.before.before.before.before.before.loop-test.true), s.requires.1.0.inside 3 (lit< tt), s.requires.1.1)
+    (lit< tt, omega (arith, c.before.before.before.before.before.before.loop-v-test.true), s.requires.1.0.inside 3 (lit< tt), s.requires.1.1)
 
-add-part-4 : tie.Need-overflow-add-part-4 invariant-loop decreases-loop
-add-part-4 c =
+overflow_add-v-in-loop-v-3 : tie.Need-overflow_add-v-in-loop-v-3 invariant-loop-v decreases-loop-v
+overflow_add-v-in-loop-v-3 c =
     let s = c.before.before.before.before.before.before.before.before.before.before.before.before.before in
-    omega (arith, c.before.before.before.before.before.before.before.loop-test.true)
+    omega (arith, c.before.before.before.before.before.before.before.loop-v-test.true)
 
-part-requires-8 : tie.Need-part-requires-8 invariant-loop decreases-loop
-part-requires-8 c κs =
+part-s3-requires : tie.Need-part-s3-requires invariant-loop-v decreases-loop-v
+part-s3-requires c κs =
     let s = c.before.before.before.before.before.before.before.before.before.before.before.before.before in
-    (lit< tt, omega (arith, c.before.before.before.before.before.before.before.loop-test.true), s.requires.1.0.inside 3 (lit< tt), s.requires.1.1)
+    (lit< tt, omega (arith, c.before.before.before.before.before.before.before.loop-v-test.true), s.requires.1.0.inside 3 (lit< tt), s.requires.1.1)
 
-part-requires-9 : tie.Need-part-requires-9 invariant-loop decreases-loop
-part-requires-9 c κs =
+part-r4-requires : tie.Need-part-r4-requires invariant-loop-v decreases-loop-v
+part-r4-requires c κs =
     let s = c.before.before.before.before.before.before.before.before.before.before.before.before.before.before in
-    (lit< tt, omega (arith, c.before.before.before.before.before.before.before.before.loop-test.true), s.requires.1.0.inside 4 (lit< tt), s.requires.1.1)
+    (lit< tt, omega (arith, c.before.before.before.before.before.before.before.before.loop-v-test.true), s.requires.1.0.inside 4 (lit< tt), s.requires.1.1)
 
-add-part-5 : tie.Need-overflow-add-part-5 invariant-loop decreases-loop
-add-part-5 c =
+overflow_add-v-in-loop-v-4 : tie.Need-overflow_add-v-in-loop-v-4 invariant-loop-v decreases-loop-v
+overflow_add-v-in-loop-v-4 c =
     let s = c.before.before.before.before.before.before.before.before.before.before.before.before.before.before.before in
-    omega (arith, c.before.before.before.before.before.before.before.before.before.loop-test.true)
+    omega (arith, c.before.before.before.before.before.before.before.before.before.loop-v-test.true)
 
-part-requires-10 : tie.Need-part-requires-10 invariant-loop decreases-loop
-part-requires-10 c κs =
+part-s4-requires : tie.Need-part-s4-requires invariant-loop-v decreases-loop-v
+part-s4-requires c κs =
     let s = c.before.before.before.before.before.before.before.before.before.before.before.before.before.before.before in
-    (lit< tt, omega (arith, c.before.before.before.before.before.before.before.before.before.loop-test.true), s.requires.1.0.inside 4 (lit< tt), s.requires.1.1)
+    (lit< tt, omega (arith, c.before.before.before.before.before.before.before.before.before.loop-v-test.true), s.requires.1.0.inside 4 (lit< tt), s.requires.1.1)
 
-apart-requires : tie.Need-apart-requires invariant-loop decreases-loop
-apart-requires c κs =
+apart-g-requires : tie.Need-apart-g-requires invariant-loop-v decreases-loop-v
+apart-g-requires c κs =
     let s = c.before.before.before.before.before.before.before.before.before.before.before.before.before.before.before.before in
-    (omega (arith, c.before.before.before.before.before.before.before.before.before.before.before.before.modulus.ensures.0, c.before.before.before.before.before.before.before.before.before.before.before.before.modulus.ensures.2), c.part10.ensures.1, omega (arith, c.before.before.before.before.before.before.before.before.before.before.before.before.modulus.ensures.0, c.before.before.before.before.before.before.before.before.before.before.before.before.modulus.ensures.2, low_by s.requires.1.3.low _ c.before.before.before.before.before.before.part4.ensures.0))
+    (omega (arith, c.before.before.before.before.before.before.before.before.before.before.before.before.modulus-o.ensures.0, c.before.before.before.before.before.before.before.before.before.before.before.before.modulus-o.ensures.2), c.part-s4.ensures.1, omega (arith, c.before.before.before.before.before.before.before.before.before.before.before.before.modulus-o.ensures.0, c.before.before.before.before.before.before.before.before.before.before.before.before.modulus-o.ensures.2, low_by s.requires.1.3.low _ c.before.before.before.before.before.before.part-s1.ensures.0))
 
-apart-requires-2 : tie.Need-apart-requires-2 invariant-loop decreases-loop
-apart-requires-2 c κs =
+apart-h-requires : tie.Need-apart-h-requires invariant-loop-v decreases-loop-v
+apart-h-requires c κs =
     let s = c.before.before.before.before.before.before.before.before.before.before.before.before.before.before.before.before.before in
-    (omega (arith, c.before.before.before.before.before.before.before.before.before.before.before.before.before.modulus.ensures.0, c.before.before.before.before.before.before.before.before.before.before.before.before.before.modulus.ensures.2), c.before.before.before.before.before.before.before.before.part3.ensures.1, omega (arith, c.before.before.before.before.before.before.before.before.before.before.before.before.before.modulus.ensures.0, c.before.before.before.before.before.before.before.before.before.before.before.before.before.modulus.ensures.2, low_by s.requires.1.3.low _ c.before.before.part9.ensures.0))
+    (omega (arith, c.before.before.before.before.before.before.before.before.before.before.before.before.before.modulus-o.ensures.0, c.before.before.before.before.before.before.before.before.before.before.before.before.before.modulus-o.ensures.2), c.before.before.before.before.before.before.before.before.part-r1.ensures.1, omega (arith, c.before.before.before.before.before.before.before.before.before.before.before.before.before.modulus-o.ensures.0, c.before.before.before.before.before.before.before.before.before.before.before.before.before.modulus-o.ensures.2, low_by s.requires.1.3.low _ c.before.before.part-r4.ensures.0))
 
-apart-requires-3 : tie.Need-apart-requires-3 invariant-loop decreases-loop
-apart-requires-3 c κs =
+apart-i-requires : tie.Need-apart-i-requires invariant-loop-v decreases-loop-v
+apart-i-requires c κs =
     let s = c.before.before.before.before.before.before.before.before.before.before.before.before.before.before.before.before.before.before in
-    (omega (arith, c.before.before.before.before.before.before.before.before.before.before.before.before.before.before.modulus.ensures.0, c.before.before.before.before.before.before.before.before.before.before.before.before.before.before.modulus.ensures.2), c.before.before.before.before.part8.ensures.1, omega (arith, c.before.before.before.before.before.before.before.before.before.before.before.before.before.before.modulus.ensures.0, c.before.before.before.before.before.before.before.before.before.before.before.before.before.before.modulus.ensures.2, low_by s.requires.1.3.low _ c.before.before.before.before.before.before.part6.ensures.0))
+    (omega (arith, c.before.before.before.before.before.before.before.before.before.before.before.before.before.before.modulus-o.ensures.0, c.before.before.before.before.before.before.before.before.before.before.before.before.before.before.modulus-o.ensures.2), c.before.before.before.before.part-s3.ensures.1, omega (arith, c.before.before.before.before.before.before.before.before.before.before.before.before.before.before.modulus-o.ensures.0, c.before.before.before.before.before.before.before.before.before.before.before.before.before.before.modulus-o.ensures.2, low_by s.requires.1.3.low _ c.before.before.before.before.before.before.part-s2.ensures.0))
 
-apart-requires-4 : tie.Need-apart-requires-4 invariant-loop decreases-loop
-apart-requires-4 c κs =
+apart-j-requires : tie.Need-apart-j-requires invariant-loop-v decreases-loop-v
+apart-j-requires c κs =
     let s = c.before.before.before.before.before.before.before.before.before.before.before.before.before.before.before.before.before.before.before in
-    (omega (arith, c.before.before.before.before.before.before.before.before.before.before.before.before.before.before.before.modulus.ensures.0, c.before.before.before.before.before.before.before.before.before.before.before.before.before.before.before.modulus.ensures.2), c.before.before.before.before.before.before.before.before.part5.ensures.1, omega (arith, c.before.before.before.before.before.before.before.before.before.before.before.before.before.before.before.modulus.ensures.0, c.before.before.before.before.before.before.before.before.before.before.before.before.before.before.before.modulus.ensures.2, low_by s.requires.1.3.low _ c.before.before.before.before.before.before.part7.ensures.0))
+    (omega (arith, c.before.before.before.before.before.before.before.before.before.before.before.before.before.before.before.modulus-o.ensures.0, c.before.before.before.before.before.before.before.before.before.before.before.before.before.before.before.modulus-o.ensures.2), c.before.before.before.before.before.before.before.before.part-r2.ensures.1, omega (arith, c.before.before.before.before.before.before.before.before.before.before.before.before.before.before.before.modulus-o.ensures.0, c.before.before.before.before.before.before.before.before.before.before.before.before.before.before.before.modulus-o.ensures.2, low_by s.requires.1.3.low _ c.before.before.before.before.before.before.part-r3.ensures.0))
 
-of-five-requires : tie.Need-of-five-requires invariant-loop decreases-loop
-of-five-requires c κs =
+of_five-p-requires : tie.Need-of_five-p-requires invariant-loop-v decreases-loop-v
+of_five-p-requires c κs =
     let s = c.before.before.before.before.before.before.before.before.before.before.before.before.before.before.before.before.before.before.before.before in
-    ((s.requires.0.0, held_by s.requires.0.2 576 c.before.before.before.before.before.before.before.before.before.before.before.before.before.before.before.before.before.before.factor_at_lem.ensures, held_by s.requires.0.2 1152 c.before.before.before.before.before.before.before.before.before.before.before.before.before.before.before.before.before.factor-at2.ensures, ap (λ (n : ℕ). 8 * n) c.before.before.before.before.before.before.before.before.before.before.before.before.before.before.before.before.modulus.ensures.0, c.before.before.before.before.before.before.before.before.before.before.before.before.before.part.ensures.1), (omega (arith, c.before.before.before.before.before.before.before.before.before.before.before.before.before.before.before.before.modulus.ensures.0, c.before.before.before.before.before.before.before.before.before.before.before.before.before.before.before.before.modulus.ensures.2, low_by s.requires.1.3.low _ c.before.before.before.before.before.before.before.before.before.before.before.part3.ensures.0), omega (arith, c.before.before.before.before.before.before.before.before.before.before.before.before.before.before.before.before.modulus.ensures.0, c.before.before.before.before.before.before.before.before.before.before.before.before.before.before.before.before.modulus.ensures.2, low_by s.requires.1.3.low _ c.before.before.before.before.before.before.before.before.before.part5.ensures.0), omega (arith, c.before.before.before.before.before.before.before.before.before.before.before.before.before.before.before.before.modulus.ensures.0, c.before.before.before.before.before.before.before.before.before.before.before.before.before.before.before.before.modulus.ensures.2, low_by s.requires.1.3.low _ c.before.before.before.before.before.before.before.part7.ensures.0), omega (arith, c.before.before.before.before.before.before.before.before.before.before.before.before.before.before.before.before.modulus.ensures.0, c.before.before.before.before.before.before.before.before.before.before.before.before.before.before.before.before.modulus.ensures.2, low_by s.requires.1.3.low _ c.before.before.before.before.before.part9.ensures.0), omega (arith, c.before.before.before.apart.ensures, low_by s.requires.1.3.low _ c.before.before.before.before.part10.ensures.0, c.before.before.before.before.before.before.before.before.before.before.before.before.before.before.before.before.modulus.ensures.0, c.before.before.before.before.before.before.before.before.before.before.before.before.before.before.before.before.modulus.ensures.2), omega (arith, c.before.apart3.ensures, low_by s.requires.1.3.low _ c.before.before.before.before.before.before.part8.ensures.0, c.before.before.before.before.before.before.before.before.before.before.before.before.before.before.before.before.modulus.ensures.0, c.before.before.before.before.before.before.before.before.before.before.before.before.before.before.before.before.modulus.ensures.2)))
+    ((s.requires.0.0, held_by s.requires.0.2 576 c.before.before.before.before.before.before.before.before.before.before.before.before.before.before.before.before.before.before.factor_at-w.ensures, held_by s.requires.0.2 1152 c.before.before.before.before.before.before.before.before.before.before.before.before.before.before.before.before.before.factor_at-z.ensures, ap (λ (n : ℕ). 8 * n) c.before.before.before.before.before.before.before.before.before.before.before.before.before.before.before.before.modulus-o.ensures.0, c.before.before.before.before.before.before.before.before.before.before.before.before.before.part-r0.ensures.1), (omega (arith, c.before.before.before.before.before.before.before.before.before.before.before.before.before.before.before.before.modulus-o.ensures.0, c.before.before.before.before.before.before.before.before.before.before.before.before.before.before.before.before.modulus-o.ensures.2, low_by s.requires.1.3.low _ c.before.before.before.before.before.before.before.before.before.before.before.part-r1.ensures.0), omega (arith, c.before.before.before.before.before.before.before.before.before.before.before.before.before.before.before.before.modulus-o.ensures.0, c.before.before.before.before.before.before.before.before.before.before.before.before.before.before.before.before.modulus-o.ensures.2, low_by s.requires.1.3.low _ c.before.before.before.before.before.before.before.before.before.part-r2.ensures.0), omega (arith, c.before.before.before.before.before.before.before.before.before.before.before.before.before.before.before.before.modulus-o.ensures.0, c.before.before.before.before.before.before.before.before.before.before.before.before.before.before.before.before.modulus-o.ensures.2, low_by s.requires.1.3.low _ c.before.before.before.before.before.before.before.part-r3.ensures.0), omega (arith, c.before.before.before.before.before.before.before.before.before.before.before.before.before.before.before.before.modulus-o.ensures.0, c.before.before.before.before.before.before.before.before.before.before.before.before.before.before.before.before.modulus-o.ensures.2, low_by s.requires.1.3.low _ c.before.before.before.before.before.part-r4.ensures.0), omega (arith, c.before.before.before.apart-g.ensures, low_by s.requires.1.3.low _ c.before.before.before.before.part-s4.ensures.0, c.before.before.before.before.before.before.before.before.before.before.before.before.before.before.before.before.modulus-o.ensures.0, c.before.before.before.before.before.before.before.before.before.before.before.before.before.before.before.before.modulus-o.ensures.2), omega (arith, c.before.apart-i.ensures, low_by s.requires.1.3.low _ c.before.before.before.before.before.before.part-s3.ensures.0, c.before.before.before.before.before.before.before.before.before.before.before.before.before.before.before.before.modulus-o.ensures.0, c.before.before.before.before.before.before.before.before.before.before.before.before.before.before.before.before.modulus-o.ensures.2)))
 
-of-five-requires-2 : tie.Need-of-five-requires-2 invariant-loop decreases-loop
-of-five-requires-2 c κs =
+of_five-q-requires : tie.Need-of_five-q-requires invariant-loop-v decreases-loop-v
+of_five-q-requires c κs =
     let s = c.before.before.before.before.before.before.before.before.before.before.before.before.before.before.before.before.before.before.before.before.before in
-    ((s.requires.0.0, held_by s.requires.0.2 576 c.before.before.before.before.before.before.before.before.before.before.before.before.before.before.before.before.before.before.before.factor_at_lem.ensures, held_by s.requires.0.2 1152 c.before.before.before.before.before.before.before.before.before.before.before.before.before.before.before.before.before.before.factor-at2.ensures, ap (λ (n : ℕ). 8 * n) c.before.before.before.before.before.before.before.before.before.before.before.before.before.before.before.before.before.modulus.ensures.0, c.before.before.before.before.before.before.before.before.before.before.before.before.before.part2.ensures.1), (omega (arith, c.before.before.before.before.before.before.before.before.before.before.before.before.before.before.before.before.before.modulus.ensures.0, c.before.before.before.before.before.before.before.before.before.before.before.before.before.before.before.before.before.modulus.ensures.2, low_by s.requires.1.3.low _ c.before.before.before.before.before.before.before.before.before.before.before.part4.ensures.0), omega (arith, c.before.before.before.before.before.before.before.before.before.before.before.before.before.before.before.before.before.modulus.ensures.0, c.before.before.before.before.before.before.before.before.before.before.before.before.before.before.before.before.before.modulus.ensures.2, low_by s.requires.1.3.low _ c.before.before.before.before.before.before.before.before.before.part6.ensures.0), omega (arith, c.before.before.before.before.before.before.before.before.before.before.before.before.before.before.before.before.before.modulus.ensures.0, c.before.before.before.before.before.before.before.before.before.before.before.before.before.before.before.before.before.modulus.ensures.2, low_by s.requires.1.3.low _ c.before.before.before.before.before.before.before.part8.ensures.0), omega (arith, c.before.before.before.before.before.before.before.before.before.before.before.before.before.before.before.before.before.modulus.ensures.0, c.before.before.before.before.before.before.before.before.before.before.before.before.before.before.before.before.before.modulus.ensures.2, low_by s.requires.1.3.low _ c.before.before.before.before.before.part10.ensures.0), omega (arith, c.before.before.before.apart2.ensures, low_by s.requires.1.3.low _ c.before.before.before.before.before.before.before.before.before.before.before.before.part3.ensures.0, c.before.before.before.before.before.before.before.before.before.before.before.before.before.before.before.before.before.modulus.ensures.0, c.before.before.before.before.before.before.before.before.before.before.before.before.before.before.before.before.before.modulus.ensures.2), omega (arith, c.before.apart4.ensures, low_by s.requires.1.3.low _ c.before.before.before.before.before.before.before.before.before.before.part5.ensures.0, c.before.before.before.before.before.before.before.before.before.before.before.before.before.before.before.before.before.modulus.ensures.0, c.before.before.before.before.before.before.before.before.before.before.before.before.before.before.before.before.before.modulus.ensures.2)))
+    ((s.requires.0.0, held_by s.requires.0.2 576 c.before.before.before.before.before.before.before.before.before.before.before.before.before.before.before.before.before.before.before.factor_at-w.ensures, held_by s.requires.0.2 1152 c.before.before.before.before.before.before.before.before.before.before.before.before.before.before.before.before.before.before.factor_at-z.ensures, ap (λ (n : ℕ). 8 * n) c.before.before.before.before.before.before.before.before.before.before.before.before.before.before.before.before.before.modulus-o.ensures.0, c.before.before.before.before.before.before.before.before.before.before.before.before.before.part-s0.ensures.1), (omega (arith, c.before.before.before.before.before.before.before.before.before.before.before.before.before.before.before.before.before.modulus-o.ensures.0, c.before.before.before.before.before.before.before.before.before.before.before.before.before.before.before.before.before.modulus-o.ensures.2, low_by s.requires.1.3.low _ c.before.before.before.before.before.before.before.before.before.before.before.part-s1.ensures.0), omega (arith, c.before.before.before.before.before.before.before.before.before.before.before.before.before.before.before.before.before.modulus-o.ensures.0, c.before.before.before.before.before.before.before.before.before.before.before.before.before.before.before.before.before.modulus-o.ensures.2, low_by s.requires.1.3.low _ c.before.before.before.before.before.before.before.before.before.part-s2.ensures.0), omega (arith, c.before.before.before.before.before.before.before.before.before.before.before.before.before.before.before.before.before.modulus-o.ensures.0, c.before.before.before.before.before.before.before.before.before.before.before.before.before.before.before.before.before.modulus-o.ensures.2, low_by s.requires.1.3.low _ c.before.before.before.before.before.before.before.part-s3.ensures.0), omega (arith, c.before.before.before.before.before.before.before.before.before.before.before.before.before.before.before.before.before.modulus-o.ensures.0, c.before.before.before.before.before.before.before.before.before.before.before.before.before.before.before.before.before.modulus-o.ensures.2, low_by s.requires.1.3.low _ c.before.before.before.before.before.part-s4.ensures.0), omega (arith, c.before.before.before.apart-h.ensures, low_by s.requires.1.3.low _ c.before.before.before.before.before.before.before.before.before.before.before.before.part-r1.ensures.0, c.before.before.before.before.before.before.before.before.before.before.before.before.before.before.before.before.before.modulus-o.ensures.0, c.before.before.before.before.before.before.before.before.before.before.before.before.before.before.before.before.before.modulus-o.ensures.2), omega (arith, c.before.apart-j.ensures, low_by s.requires.1.3.low _ c.before.before.before.before.before.before.before.before.before.before.part-r2.ensures.0, c.before.before.before.before.before.before.before.before.before.before.before.before.before.before.before.before.before.modulus-o.ensures.0, c.before.before.before.before.before.before.before.before.before.before.before.before.before.before.before.before.before.modulus-o.ensures.2)))
 
-store-lane-requires : tie.Need-store-lane-requires invariant-loop decreases-loop
-store-lane-requires c κs =
+store_lane-requires : tie.Need-store_lane-requires invariant-loop-v decreases-loop-v
+store_lane-requires c κs =
     let s = c.before.before.before.before.before.before.before.before.before.before.before.before.before.before.before.before.before.before.before.before.before.before.before in
-    (lit< tt, c.before.before.before.before.before.before.before.before.before.before.before.before.before.before.before.before.before.loop-test.true)
+    (lit< tt, c.before.before.before.before.before.before.before.before.before.before.before.before.before.before.before.before.before.loop-v-test.true)
 
-store-lane-requires-2 : tie.Need-store-lane-requires-2 invariant-loop decreases-loop
-store-lane-requires-2 c κs =
+store_lane-requires-in-loop-v : tie.Need-store_lane-requires-in-loop-v invariant-loop-v decreases-loop-v
+store_lane-requires-in-loop-v c κs =
     let s = c.before.before.before.before.before.before.before.before.before.before.before.before.before.before.before.before.before.before.before.before.before.before.before.before.before in
-    (lit< tt, c.before.before.before.before.before.before.before.before.before.before.before.before.before.before.before.before.before.before.before.loop-test.true)
+    (lit< tt, c.before.before.before.before.before.before.before.before.before.before.before.before.before.before.before.before.before.before.before.loop-v-test.true)
 
-store-lane-requires-3 : tie.Need-store-lane-requires-3 invariant-loop decreases-loop
-store-lane-requires-3 c κs =
+store_lane-requires-in-loop-v-2 : tie.Need-store_lane-requires-in-loop-v-2 invariant-loop-v decreases-loop-v
+store_lane-requires-in-loop-v-2 c κs =
     let s = c.before.before.before.before.before.before.before.before.before.before.before.before.before.before.before.before.before.before.before.before.before.before.before.before.before.before.before in
-    (lit< tt, c.before.before.before.before.before.before.before.before.before.before.before.before.before.before.before.before.before.before.before.before.before.loop-test.true)
+    (lit< tt, c.before.before.before.before.before.before.before.before.before.before.before.before.before.before.before.before.before.before.before.before.before.loop-v-test.true)
 
-store-lane-requires-4 : tie.Need-store-lane-requires-4 invariant-loop decreases-loop
-store-lane-requires-4 c κs =
+store_lane-requires-in-loop-v-3 : tie.Need-store_lane-requires-in-loop-v-3 invariant-loop-v decreases-loop-v
+store_lane-requires-in-loop-v-3 c κs =
     let s = c.before.before.before.before.before.before.before.before.before.before.before.before.before.before.before.before.before.before.before.before.before.before.before.before.before.before.before.before.before in
-    (lit< tt, c.before.before.before.before.before.before.before.before.before.before.before.before.before.before.before.before.before.before.before.before.before.before.before.loop-test.true)
+    (lit< tt, c.before.before.before.before.before.before.before.before.before.before.before.before.before.before.before.before.before.before.before.before.before.before.before.loop-v-test.true)
 
-store-lane-requires-5 : tie.Need-store-lane-requires-5 invariant-loop decreases-loop
-store-lane-requires-5 c κs =
+store_lane-requires-in-loop-v-4 : tie.Need-store_lane-requires-in-loop-v-4 invariant-loop-v decreases-loop-v
+store_lane-requires-in-loop-v-4 c κs =
     let s = c.before.before.before.before.before.before.before.before.before.before.before.before.before.before.before.before.before.before.before.before.before.before.before.before.before.before.before.before.before.before.before in
-    (lit< tt, c.before.before.before.before.before.before.before.before.before.before.before.before.before.before.before.before.before.before.before.before.before.before.before.before.before.loop-test.true)
+    (lit< tt, c.before.before.before.before.before.before.before.before.before.before.before.before.before.before.before.before.before.before.before.before.before.before.before.before.before.loop-v-test.true)
 
-add-v : tie.Need-overflow-add-v invariant-loop decreases-loop
-add-v c =
+overflow_add-v-in-loop-v-5 : tie.Need-overflow_add-v-in-loop-v-5 invariant-loop-v decreases-loop-v
+overflow_add-v-in-loop-v-5 c =
     let s = c.before.before.before.before.before.before.before.before.before.before.before.before.before.before.before.before.before.before.before.before.before.before.before.before.before.before.before.before.before.before.before.before in
-    omega (arith, c.before.before.before.before.before.before.before.before.before.before.before.before.before.before.before.before.before.before.before.before.before.before.before.before.before.before.loop-test.true)
+    omega (arith, c.before.before.before.before.before.before.before.before.before.before.before.before.before.before.before.before.before.before.before.before.before.before.before.before.before.before.loop-v-test.true)
 
-loop-less : tie.Need-loop-smaller invariant-loop decreases-loop
-loop-less c =
+loop-v-smaller : tie.Need-loop-v-smaller invariant-loop-v decreases-loop-v
+loop-v-smaller c =
     let s = c.before.before.before.before.before.before.before.before.before.before.before.before.before.before.before.before.before.before.before.before.before.before.before.before.before.before.before.before.before.before.before.before in
-    omega (arith, c.before.before.before.before.before.before.before.before.before.before.before.before.before.before.before.before.before.before.before.before.before.before.before.before.before.before.loop-test.true)
+    omega (arith, c.before.before.before.before.before.before.before.before.before.before.before.before.before.before.before.before.before.before.before.before.before.before.before.before.before.before.loop-v-test.true)
 
-loop-again : tie.Need-loop-preserved invariant-loop decreases-loop
-loop-again c =
+loop-v-preserved : tie.Need-loop-v-preserved invariant-loop-v decreases-loop-v
+loop-v-preserved c =
     let s = c.before.before.before.before.before.before.before.before.before.before.before.before.before.before.before.before.before.before.before.before.before.before.before.before.before.before.before.before.before.before.before.before in
     let m = s.args.m in
     let at = s.args.at in
     let from = s.args.from.now in
-    let v = c.before.before.before.before.before.before.before.before.before.before.before.before.before.before.before.before.before.before.before.before.before.before.before.before.before.before.before.loop.v in
+    let v = c.before.before.before.before.before.before.before.before.before.before.before.before.before.before.before.before.before.before.before.before.before.before.before.before.before.before.before.loop-v.v in
     let h = s.requires.0.1 in
     let t = s.requires.0.2 in
-    summed_next (five_pairs c.before.before.before.before.before.before.before.before.before.before.before.of-five.result c.before.before.before.before.before.before.before.before.before.before.of-five2.result) c.before.before.before.before.before.before.before.before.before.before.before.before.before.before.before.before.before.before.before.before.before.before.before.before.before.before.before.loop.invariant c.before.before.before.before.before.before.before.before.before.before.before.before.before.before.before.before.before.before.before.before.before.before.before.before.before.before.loop-test.true (omega arith) (spread_5 (five_pairs c.before.before.before.before.before.before.before.before.before.before.before.of-five.result c.before.before.before.before.before.before.before.before.before.before.of-five2.result) v _ c.before.before.before.before.before.before.before.before.store-lane.ensures c.before.before.before.before.before.before.store-lane2.ensures c.before.before.before.before.store-lane3.ensures c.before.before.store-lane4.ensures c.store-lane5.ensures)
-    (λ X up. five_good h (turned_value m (table_root m s.args.re.now s.args.im.now) at from v) (ap (λ (n : ℕ). 8 * n) c.before.before.before.before.before.before.before.before.before.before.before.before.before.before.before.before.before.before.before.before.before.before.before.before.before.before.before.before.modulus.ensures.0) (five_as c.before.before.before.before.before.before.before.before.before.before.before.before.before.before.before.apart.ensures c.before.before.before.before.before.before.before.before.before.before.before.before.before.apart3.ensures c.before.before.before.before.before.before.before.before.before.before.before.of-five.ensures) (five_as c.before.before.before.before.before.before.before.before.before.before.before.before.before.before.apart2.ensures c.before.before.before.before.before.before.before.before.before.before.before.before.apart4.ensures c.before.before.before.before.before.before.before.before.before.before.of-five2.ensures) (shifted_by t 576 (lit< tt) c.before.before.before.before.before.before.before.before.before.before.before.before.before.before.before.before.before.before.before.before.before.before.before.before.before.before.before.before.before.before.factor_at_lem.ensures) (shifted_by t 1152 (lit< tt) c.before.before.before.before.before.before.before.before.before.before.before.before.before.before.before.before.before.before.before.before.before.before.before.before.before.before.before.before.before.factor-at2.ensures) (plain_lane m _ at from v 0 (omega arith) c.before.before.before.before.before.before.before.before.before.before.before.before.before.before.before.before.before.before.before.before.before.before.before.before.before.part.ensures.0 c.before.before.before.before.before.before.before.before.before.before.before.before.before.before.before.before.before.before.before.before.before.before.before.before.part2.ensures.0) (plain_lane m _ at from v 1 (ap (λ (n : ℕ). 1 * n) s.requires.1.3.none) c.before.before.before.before.before.before.before.before.before.before.before.before.before.before.before.before.before.before.before.before.before.before.before.part3.ensures.0 c.before.before.before.before.before.before.before.before.before.before.before.before.before.before.before.before.before.before.before.before.before.before.part4.ensures.0) (plain_lane m _ at from v 2 (ap (λ (n : ℕ). 2 * n) s.requires.1.3.none) c.before.before.before.before.before.before.before.before.before.before.before.before.before.before.before.before.before.before.before.before.before.part5.ensures.0 c.before.before.before.before.before.before.before.before.before.before.before.before.before.before.before.before.before.before.before.before.part6.ensures.0) (plain_lane m _ at from v 3 (ap (λ (n : ℕ). 3 * n) s.requires.1.3.none) c.before.before.before.before.before.before.before.before.before.before.before.before.before.before.before.before.before.before.before.part7.ensures.0 c.before.before.before.before.before.before.before.before.before.before.before.before.before.before.before.before.before.before.part8.ensures.0) (plain_lane m _ at from v 4 (ap (λ (n : ℕ). 4 * n) s.requires.1.3.none) c.before.before.before.before.before.before.before.before.before.before.before.before.before.before.before.before.before.part9.ensures.0 c.before.before.before.before.before.before.before.before.before.before.before.before.before.before.before.before.part10.ensures.0) (omega (arith, c.before.before.before.before.before.before.before.before.before.before.before.before.before.before.before.before.before.before.before.before.before.before.before.before.before.before.before.before.modulus.ensures.0, c.before.before.before.before.before.before.before.before.before.before.before.before.before.before.before.before.before.before.before.before.before.before.before.before.before.before.before.before.modulus.ensures.2, low_by s.requires.1.3.low _ c.before.before.before.before.before.before.before.before.before.before.before.before.before.before.before.before.before.before.before.before.before.before.before.part3.ensures.0)) (omega (arith, c.before.before.before.before.before.before.before.before.before.before.before.before.before.before.before.before.before.before.before.before.before.before.before.before.before.before.before.before.modulus.ensures.0, c.before.before.before.before.before.before.before.before.before.before.before.before.before.before.before.before.before.before.before.before.before.before.before.before.before.before.before.before.modulus.ensures.2, low_by s.requires.1.3.low _ c.before.before.before.before.before.before.before.before.before.before.before.before.before.before.before.before.before.before.before.before.before.before.part4.ensures.0)) (omega (arith, c.before.before.before.before.before.before.before.before.before.before.before.before.before.before.before.before.before.before.before.before.before.before.before.before.before.before.before.before.modulus.ensures.0, c.before.before.before.before.before.before.before.before.before.before.before.before.before.before.before.before.before.before.before.before.before.before.before.before.before.before.before.before.modulus.ensures.2, low_by s.requires.1.3.low _ c.before.before.before.before.before.before.before.before.before.before.before.before.before.before.before.before.before.before.before.before.before.part5.ensures.0)) (omega (arith, c.before.before.before.before.before.before.before.before.before.before.before.before.before.before.before.before.before.before.before.before.before.before.before.before.before.before.before.before.modulus.ensures.0, c.before.before.before.before.before.before.before.before.before.before.before.before.before.before.before.before.before.before.before.before.before.before.before.before.before.before.before.before.modulus.ensures.2, low_by s.requires.1.3.low _ c.before.before.before.before.before.before.before.before.before.before.before.before.before.before.before.before.before.before.before.before.part6.ensures.0)) (omega (arith, c.before.before.before.before.before.before.before.before.before.before.before.before.before.before.before.before.before.before.before.before.before.before.before.before.before.before.before.before.modulus.ensures.0, c.before.before.before.before.before.before.before.before.before.before.before.before.before.before.before.before.before.before.before.before.before.before.before.before.before.before.before.before.modulus.ensures.2, low_by s.requires.1.3.low _ c.before.before.before.before.before.before.before.before.before.before.before.before.before.before.before.before.before.before.before.part7.ensures.0)) (omega (arith, c.before.before.before.before.before.before.before.before.before.before.before.before.before.before.before.before.before.before.before.before.before.before.before.before.before.before.before.before.modulus.ensures.0, c.before.before.before.before.before.before.before.before.before.before.before.before.before.before.before.before.before.before.before.before.before.before.before.before.before.before.before.before.modulus.ensures.2, low_by s.requires.1.3.low _ c.before.before.before.before.before.before.before.before.before.before.before.before.before.before.before.before.before.before.part8.ensures.0)) (omega (arith, c.before.before.before.before.before.before.before.before.before.before.before.before.before.before.before.before.before.before.before.before.before.before.before.before.before.before.before.before.modulus.ensures.0, c.before.before.before.before.before.before.before.before.before.before.before.before.before.before.before.before.before.before.before.before.before.before.before.before.before.before.before.before.modulus.ensures.2, low_by s.requires.1.3.low _ c.before.before.before.before.before.before.before.before.before.before.before.before.before.before.before.before.before.part9.ensures.0)) (omega (arith, c.before.before.before.before.before.before.before.before.before.before.before.before.before.before.before.before.before.before.before.before.before.before.before.before.before.before.before.before.modulus.ensures.0, c.before.before.before.before.before.before.before.before.before.before.before.before.before.before.before.before.before.before.before.before.before.before.before.before.before.before.before.before.modulus.ensures.2, low_by s.requires.1.3.low _ c.before.before.before.before.before.before.before.before.before.before.before.before.before.before.before.before.part10.ensures.0)) (low_by up _ c.before.before.before.before.before.before.before.before.before.before.before.before.before.before.before.before.before.before.before.before.before.before.before.before.before.part.ensures.0) (low_by up _ c.before.before.before.before.before.before.before.before.before.before.before.before.before.before.before.before.before.before.before.before.before.before.before.before.part2.ensures.0))
+    summed_next (five_pairs c.before.before.before.before.before.before.before.before.before.before.before.of_five-p.result c.before.before.before.before.before.before.before.before.before.before.of_five-q.result) c.before.before.before.before.before.before.before.before.before.before.before.before.before.before.before.before.before.before.before.before.before.before.before.before.before.before.before.loop-v.invariant c.before.before.before.before.before.before.before.before.before.before.before.before.before.before.before.before.before.before.before.before.before.before.before.before.before.before.loop-v-test.true (omega arith) (spread_5 (five_pairs c.before.before.before.before.before.before.before.before.before.before.before.of_five-p.result c.before.before.before.before.before.before.before.before.before.before.of_five-q.result) v _ c.before.before.before.before.before.before.before.before.store_lane.ensures c.before.before.before.before.before.before.store_lane-in-loop-v.ensures c.before.before.before.before.store_lane-in-loop-v-2.ensures c.before.before.store_lane-in-loop-v-3.ensures c.store_lane-in-loop-v-4.ensures)
+    (λ X up. five_good h (turned_value m (table_root m s.args.re.now s.args.im.now) at from v) (ap (λ (n : ℕ). 8 * n) c.before.before.before.before.before.before.before.before.before.before.before.before.before.before.before.before.before.before.before.before.before.before.before.before.before.before.before.before.modulus-o.ensures.0) (five_as c.before.before.before.before.before.before.before.before.before.before.before.before.before.before.before.apart-g.ensures c.before.before.before.before.before.before.before.before.before.before.before.before.before.apart-i.ensures c.before.before.before.before.before.before.before.before.before.before.before.of_five-p.ensures) (five_as c.before.before.before.before.before.before.before.before.before.before.before.before.before.before.apart-h.ensures c.before.before.before.before.before.before.before.before.before.before.before.before.apart-j.ensures c.before.before.before.before.before.before.before.before.before.before.of_five-q.ensures) (shifted_by t 576 (lit< tt) c.before.before.before.before.before.before.before.before.before.before.before.before.before.before.before.before.before.before.before.before.before.before.before.before.before.before.before.before.before.before.factor_at-w.ensures) (shifted_by t 1152 (lit< tt) c.before.before.before.before.before.before.before.before.before.before.before.before.before.before.before.before.before.before.before.before.before.before.before.before.before.before.before.before.before.factor_at-z.ensures) (plain_lane m _ at from v 0 (omega arith) c.before.before.before.before.before.before.before.before.before.before.before.before.before.before.before.before.before.before.before.before.before.before.before.before.before.part-r0.ensures.0 c.before.before.before.before.before.before.before.before.before.before.before.before.before.before.before.before.before.before.before.before.before.before.before.before.part-s0.ensures.0) (plain_lane m _ at from v 1 (ap (λ (n : ℕ). 1 * n) s.requires.1.3.none) c.before.before.before.before.before.before.before.before.before.before.before.before.before.before.before.before.before.before.before.before.before.before.before.part-r1.ensures.0 c.before.before.before.before.before.before.before.before.before.before.before.before.before.before.before.before.before.before.before.before.before.before.part-s1.ensures.0) (plain_lane m _ at from v 2 (ap (λ (n : ℕ). 2 * n) s.requires.1.3.none) c.before.before.before.before.before.before.before.before.before.before.before.before.before.before.before.before.before.before.before.before.before.part-r2.ensures.0 c.before.before.before.before.before.before.before.before.before.before.before.before.before.before.before.before.before.before.before.before.part-s2.ensures.0) (plain_lane m _ at from v 3 (ap (λ (n : ℕ). 3 * n) s.requires.1.3.none) c.before.before.before.before.before.before.before.before.before.before.before.before.before.before.before.before.before.before.before.part-r3.ensures.0 c.before.before.before.before.before.before.before.before.before.before.before.before.before.before.before.before.before.before.part-s3.ensures.0) (plain_lane m _ at from v 4 (ap (λ (n : ℕ). 4 * n) s.requires.1.3.none) c.before.before.before.before.before.before.before.before.before.before.before.before.before.before.before.before.before.part-r4.ensures.0 c.before.before.before.before.before.before.before.before.before.before.before.before.before.before.before.before.part-s4.ensures.0) (omega (arith, c.before.before.before.before.before.before.before.before.before.before.before.before.before.before.before.before.before.before.before.before.before.before.before.before.before.before.before.before.modulus-o.ensures.0, c.before.before.before.before.before.before.before.before.before.before.before.before.before.before.before.before.before.before.before.before.before.before.before.before.before.before.before.before.modulus-o.ensures.2, low_by s.requires.1.3.low _ c.before.before.before.before.before.before.before.before.before.before.before.before.before.before.before.before.before.before.before.before.before.before.before.part-r1.ensures.0)) (omega (arith, c.before.before.before.before.before.before.before.before.before.before.before.before.before.before.before.before.before.before.before.before.before.before.before.before.before.before.before.before.modulus-o.ensures.0, c.before.before.before.before.before.before.before.before.before.before.before.before.before.before.before.before.before.before.before.before.before.before.before.before.before.before.before.before.modulus-o.ensures.2, low_by s.requires.1.3.low _ c.before.before.before.before.before.before.before.before.before.before.before.before.before.before.before.before.before.before.before.before.before.before.part-s1.ensures.0)) (omega (arith, c.before.before.before.before.before.before.before.before.before.before.before.before.before.before.before.before.before.before.before.before.before.before.before.before.before.before.before.before.modulus-o.ensures.0, c.before.before.before.before.before.before.before.before.before.before.before.before.before.before.before.before.before.before.before.before.before.before.before.before.before.before.before.before.modulus-o.ensures.2, low_by s.requires.1.3.low _ c.before.before.before.before.before.before.before.before.before.before.before.before.before.before.before.before.before.before.before.before.before.part-r2.ensures.0)) (omega (arith, c.before.before.before.before.before.before.before.before.before.before.before.before.before.before.before.before.before.before.before.before.before.before.before.before.before.before.before.before.modulus-o.ensures.0, c.before.before.before.before.before.before.before.before.before.before.before.before.before.before.before.before.before.before.before.before.before.before.before.before.before.before.before.before.modulus-o.ensures.2, low_by s.requires.1.3.low _ c.before.before.before.before.before.before.before.before.before.before.before.before.before.before.before.before.before.before.before.before.part-s2.ensures.0)) (omega (arith, c.before.before.before.before.before.before.before.before.before.before.before.before.before.before.before.before.before.before.before.before.before.before.before.before.before.before.before.before.modulus-o.ensures.0, c.before.before.before.before.before.before.before.before.before.before.before.before.before.before.before.before.before.before.before.before.before.before.before.before.before.before.before.before.modulus-o.ensures.2, low_by s.requires.1.3.low _ c.before.before.before.before.before.before.before.before.before.before.before.before.before.before.before.before.before.before.before.part-r3.ensures.0)) (omega (arith, c.before.before.before.before.before.before.before.before.before.before.before.before.before.before.before.before.before.before.before.before.before.before.before.before.before.before.before.before.modulus-o.ensures.0, c.before.before.before.before.before.before.before.before.before.before.before.before.before.before.before.before.before.before.before.before.before.before.before.before.before.before.before.before.modulus-o.ensures.2, low_by s.requires.1.3.low _ c.before.before.before.before.before.before.before.before.before.before.before.before.before.before.before.before.before.before.part-s3.ensures.0)) (omega (arith, c.before.before.before.before.before.before.before.before.before.before.before.before.before.before.before.before.before.before.before.before.before.before.before.before.before.before.before.before.modulus-o.ensures.0, c.before.before.before.before.before.before.before.before.before.before.before.before.before.before.before.before.before.before.before.before.before.before.before.before.before.before.before.before.modulus-o.ensures.2, low_by s.requires.1.3.low _ c.before.before.before.before.before.before.before.before.before.before.before.before.before.before.before.before.before.part-r4.ensures.0)) (omega (arith, c.before.before.before.before.before.before.before.before.before.before.before.before.before.before.before.before.before.before.before.before.before.before.before.before.before.before.before.before.modulus-o.ensures.0, c.before.before.before.before.before.before.before.before.before.before.before.before.before.before.before.before.before.before.before.before.before.before.before.before.before.before.before.before.modulus-o.ensures.2, low_by s.requires.1.3.low _ c.before.before.before.before.before.before.before.before.before.before.before.before.before.before.before.before.part-s4.ensures.0)) (low_by up _ c.before.before.before.before.before.before.before.before.before.before.before.before.before.before.before.before.before.before.before.before.before.before.before.before.before.part-r0.ensures.0) (low_by up _ c.before.before.before.before.before.before.before.before.before.before.before.before.before.before.before.before.before.before.before.before.before.before.before.before.part-s0.ensures.0))
 
-returns : tie.Need-returns invariant-loop decreases-loop
+returns : tie.Need-returns invariant-loop-v decreases-loop-v
 returns c =
     let s = c.before.before.before.before.before.before in
-    summed_all c.before.loop.invariant (omega (arith, c.loop-test.false))
+    summed_all c.before.loop-v.invariant (omega (arith, c.loop-v-test.false))
 
 pub five_first_spec : {M : Type 1} → statement M
-five_first_spec = tie.close (tie.spec invariant-loop decreases-loop factor-at-requires factor-at-requires-2 modulus-requires mul-o loop-holds part-requires add-part part-requires-2 part-requires-3 add-part-2 part-requires-4 part-requires-5 add-part-3 part-requires-6 part-requires-7 add-part-4 part-requires-8 part-requires-9 add-part-5 part-requires-10 apart-requires apart-requires-2 apart-requires-3 apart-requires-4 of-five-requires of-five-requires-2 store-lane-requires store-lane-requires-2 store-lane-requires-3 store-lane-requires-4 store-lane-requires-5 add-v loop-less loop-again returns)
+five_first_spec = tie.close (tie.spec invariant-loop-v decreases-loop-v factor_at-w-requires factor_at-z-requires modulus-o-requires overflow_mul-o loop-v-init part-r0-requires overflow_add-v part-s0-requires part-r1-requires overflow_add-v-in-loop-v part-s1-requires part-r2-requires overflow_add-v-in-loop-v-2 part-s2-requires part-r3-requires overflow_add-v-in-loop-v-3 part-s3-requires part-r4-requires overflow_add-v-in-loop-v-4 part-s4-requires apart-g-requires apart-h-requires apart-i-requires apart-j-requires of_five-p-requires of_five-q-requires store_lane-requires store_lane-requires-in-loop-v store_lane-requires-in-loop-v-2 store_lane-requires-in-loop-v-3 store_lane-requires-in-loop-v-4 overflow_add-v-in-loop-v-5 loop-v-smaller loop-v-preserved returns)

@@ -17,143 +17,143 @@ use Rattle.batches.proofs.LaneLists.{plain_lane, turned_lane, held_by, shifted_b
 use Rattle.batches.proofs.blocks.three_turned.Statement.{statement}
 use Rattle.batches.proofs.blocks.three_turned.Tie as tie
 
-abbrev invariant-loop : tie.invariant-loop
-invariant-loop m re im sre sim at from y₀ k w1 w2 z o v₀ y v = Summed m (table_root m re im) 3 at from v y
+abbrev invariant-loop-v : tie.invariant-loop-v
+invariant-loop-v m re im sre sim at from y₀ k w1 w2 z o v₀ y v = Summed m (table_root m re im) 3 at from v y
 
-abbrev decreases-loop : tie.decreases-loop
-decreases-loop m re im sre sim at from y₀ k w1 w2 z o v₀ y v = 16 - v
+abbrev decreases-loop-v : tie.decreases-loop-v
+decreases-loop-v m re im sre sim at from y₀ k w1 w2 z o v₀ y v = 16 - v
 
-factor-at-requires : tie.Need-factor-at-requires invariant-loop decreases-loop
-factor-at-requires c κs =
+factor_at-w1-requires : tie.Need-factor_at-w1-requires invariant-loop-v decreases-loop-v
+factor_at-w1-requires c κs =
     let s = c.before in
     (s.requires.0.0, omega (arith, s.requires.1.0.exponents 1 (lit< tt)), omega (arith, s.requires.0.2.low_im s.args.at.k))
 
-mul-factor-at : tie.Need-overflow-mul-factor-at invariant-loop decreases-loop
-mul-factor-at c =
+overflow_mul-k : tie.Need-overflow_mul-k invariant-loop-v decreases-loop-v
+overflow_mul-k c =
     let s = c.before.before in
     omega (arith, s.requires.1.0.exponents 2 (lit< tt))
 
-factor-at-requires-2 : tie.Need-factor-at-requires-2 invariant-loop decreases-loop
-factor-at-requires-2 c κs =
+factor_at-w2-requires : tie.Need-factor_at-w2-requires invariant-loop-v decreases-loop-v
+factor_at-w2-requires c κs =
     let s = c.before.before in
     (s.requires.0.0, omega (arith, s.requires.1.0.exponents 2 (lit< tt)), omega (arith, s.requires.0.2.low_im (2 * s.args.at.k)))
 
-factor-at-requires-3 : tie.Need-factor-at-requires-3 invariant-loop decreases-loop
-factor-at-requires-3 c κs =
+factor_at-z-requires : tie.Need-factor_at-z-requires invariant-loop-v decreases-loop-v
+factor_at-z-requires c κs =
     let s = c.before.before.before in
     (s.requires.0.0, lit< tt, omega (arith, s.requires.0.2.low_im 960))
 
-modulus-requires : tie.Need-modulus-requires invariant-loop decreases-loop
-modulus-requires c κs =
+modulus-o-requires : tie.Need-modulus-o-requires invariant-loop-v decreases-loop-v
+modulus-o-requires c κs =
     let s = c.before.before.before.before in
     s.requires.0.0
 
-mul-o : tie.Need-overflow-mul-o invariant-loop decreases-loop
-mul-o c =
+overflow_mul-o : tie.Need-overflow_mul-o invariant-loop-v decreases-loop-v
+overflow_mul-o c =
     let s = c.before.before.before.before.before in
-    omega (arith, c.modulus.ensures.2)
+    omega (arith, c.modulus-o.ensures.2)
 
-loop-holds : tie.Need-loop-init invariant-loop decreases-loop
-loop-holds c =
+loop-v-init : tie.Need-loop-v-init invariant-loop-v decreases-loop-v
+loop-v-init c =
     let s = c.before.before.before.before.before in
     summed_start s.requires.1.2
 
-part-requires : tie.Need-part-requires invariant-loop decreases-loop
-part-requires c κs =
+part-r0-requires : tie.Need-part-r0-requires invariant-loop-v decreases-loop-v
+part-r0-requires c κs =
     let s = c.before.before.before.before.before.before.before in
-    (lit< tt, omega (arith, c.loop-test.true), s.requires.1.0.inside 0 (lit< tt), s.requires.1.1)
+    (lit< tt, omega (arith, c.loop-v-test.true), s.requires.1.0.inside 0 (lit< tt), s.requires.1.1)
 
-add-part : tie.Need-overflow-add-part invariant-loop decreases-loop
-add-part c =
+overflow_add-v : tie.Need-overflow_add-v invariant-loop-v decreases-loop-v
+overflow_add-v c =
     let s = c.before.before.before.before.before.before.before.before in
-    omega (arith, c.before.loop-test.true)
+    omega (arith, c.before.loop-v-test.true)
 
-part-requires-2 : tie.Need-part-requires-2 invariant-loop decreases-loop
-part-requires-2 c κs =
+part-s0-requires : tie.Need-part-s0-requires invariant-loop-v decreases-loop-v
+part-s0-requires c κs =
     let s = c.before.before.before.before.before.before.before.before in
-    (lit< tt, omega (arith, c.before.loop-test.true), s.requires.1.0.inside 0 (lit< tt), s.requires.1.1)
+    (lit< tt, omega (arith, c.before.loop-v-test.true), s.requires.1.0.inside 0 (lit< tt), s.requires.1.1)
 
-turned-re-requires : tie.Need-turned-re-requires invariant-loop decreases-loop
-turned-re-requires c κs =
+turned_re-r1-requires : tie.Need-turned_re-r1-requires invariant-loop-v decreases-loop-v
+turned_re-r1-requires c κs =
     let s = c.before.before.before.before.before.before.before.before.before in
-    (s.requires.0.0, held_by s.requires.0.2 s.args.at.k c.before.before.before.before.before.before.before.factor_at_lem.ensures, lit< tt, c.before.before.loop-test.true, s.requires.1.0.inside 1 (lit< tt), s.requires.1.1)
+    (s.requires.0.0, held_by s.requires.0.2 s.args.at.k c.before.before.before.before.before.before.before.factor_at-w1.ensures, lit< tt, c.before.before.loop-v-test.true, s.requires.1.0.inside 1 (lit< tt), s.requires.1.1)
 
-turned-im-requires : tie.Need-turned-im-requires invariant-loop decreases-loop
-turned-im-requires c κs =
+turned_im-s1-requires : tie.Need-turned_im-s1-requires invariant-loop-v decreases-loop-v
+turned_im-s1-requires c κs =
     let s = c.before.before.before.before.before.before.before.before.before.before in
-    (s.requires.0.0, held_by s.requires.0.2 s.args.at.k c.before.before.before.before.before.before.before.before.factor_at_lem.ensures, lit< tt, c.before.before.before.loop-test.true, s.requires.1.0.inside 1 (lit< tt), s.requires.1.1)
+    (s.requires.0.0, held_by s.requires.0.2 s.args.at.k c.before.before.before.before.before.before.before.before.factor_at-w1.ensures, lit< tt, c.before.before.before.loop-v-test.true, s.requires.1.0.inside 1 (lit< tt), s.requires.1.1)
 
-turned-re-requires-2 : tie.Need-turned-re-requires-2 invariant-loop decreases-loop
-turned-re-requires-2 c κs =
+turned_re-r2-requires : tie.Need-turned_re-r2-requires invariant-loop-v decreases-loop-v
+turned_re-r2-requires c κs =
     let s = c.before.before.before.before.before.before.before.before.before.before.before in
-    (s.requires.0.0, held_by s.requires.0.2 (2 * s.args.at.k) c.before.before.before.before.before.before.before.before.factor-at2.ensures, lit< tt, c.before.before.before.before.loop-test.true, s.requires.1.0.inside 2 (lit< tt), s.requires.1.1)
+    (s.requires.0.0, held_by s.requires.0.2 (2 * s.args.at.k) c.before.before.before.before.before.before.before.before.factor_at-w2.ensures, lit< tt, c.before.before.before.before.loop-v-test.true, s.requires.1.0.inside 2 (lit< tt), s.requires.1.1)
 
-turned-im-requires-2 : tie.Need-turned-im-requires-2 invariant-loop decreases-loop
-turned-im-requires-2 c κs =
+turned_im-s2-requires : tie.Need-turned_im-s2-requires invariant-loop-v decreases-loop-v
+turned_im-s2-requires c κs =
     let s = c.before.before.before.before.before.before.before.before.before.before.before.before in
-    (s.requires.0.0, held_by s.requires.0.2 (2 * s.args.at.k) c.before.before.before.before.before.before.before.before.before.factor-at2.ensures, lit< tt, c.before.before.before.before.before.loop-test.true, s.requires.1.0.inside 2 (lit< tt), s.requires.1.1)
+    (s.requires.0.0, held_by s.requires.0.2 (2 * s.args.at.k) c.before.before.before.before.before.before.before.before.before.factor_at-w2.ensures, lit< tt, c.before.before.before.before.before.loop-v-test.true, s.requires.1.0.inside 2 (lit< tt), s.requires.1.1)
 
-apart-requires : tie.Need-apart-requires invariant-loop decreases-loop
-apart-requires c κs =
+apart-g-requires : tie.Need-apart-g-requires invariant-loop-v decreases-loop-v
+apart-g-requires c κs =
     let s = c.before.before.before.before.before.before.before.before.before.before.before.before.before in
-    (omega (arith, c.before.before.before.before.before.before.before.before.modulus.ensures.0, c.before.before.before.before.before.before.before.before.modulus.ensures.2), omega (arith, prime_most s.requires.0.0, c.turned-im2.ensures.low), omega (arith, c.before.before.before.before.before.before.before.before.modulus.ensures.0, c.before.before.before.before.before.before.before.before.modulus.ensures.2, c.before.before.turned-im.ensures.low))
+    (omega (arith, c.before.before.before.before.before.before.before.before.modulus-o.ensures.0, c.before.before.before.before.before.before.before.before.modulus-o.ensures.2), omega (arith, prime_most s.requires.0.0, c.turned_im-s2.ensures.low), omega (arith, c.before.before.before.before.before.before.before.before.modulus-o.ensures.0, c.before.before.before.before.before.before.before.before.modulus-o.ensures.2, c.before.before.turned_im-s1.ensures.low))
 
-apart-requires-2 : tie.Need-apart-requires-2 invariant-loop decreases-loop
-apart-requires-2 c κs =
+apart-h-requires : tie.Need-apart-h-requires invariant-loop-v decreases-loop-v
+apart-h-requires c κs =
     let s = c.before.before.before.before.before.before.before.before.before.before.before.before.before.before in
-    (omega (arith, c.before.before.before.before.before.before.before.before.before.modulus.ensures.0, c.before.before.before.before.before.before.before.before.before.modulus.ensures.2), omega (arith, prime_most s.requires.0.0, c.before.before.before.before.turned-re.ensures.low), omega (arith, c.before.before.before.before.before.before.before.before.before.modulus.ensures.0, c.before.before.before.before.before.before.before.before.before.modulus.ensures.2, c.before.before.turned-re2.ensures.low))
+    (omega (arith, c.before.before.before.before.before.before.before.before.before.modulus-o.ensures.0, c.before.before.before.before.before.before.before.before.before.modulus-o.ensures.2), omega (arith, prime_most s.requires.0.0, c.before.before.before.before.turned_re-r1.ensures.low), omega (arith, c.before.before.before.before.before.before.before.before.before.modulus-o.ensures.0, c.before.before.before.before.before.before.before.before.before.modulus-o.ensures.2, c.before.before.turned_re-r2.ensures.low))
 
-of-three-requires : tie.Need-of-three-requires invariant-loop decreases-loop
-of-three-requires c κs =
+of_three-p-requires : tie.Need-of_three-p-requires invariant-loop-v decreases-loop-v
+of_three-p-requires c κs =
     let s = c.before.before.before.before.before.before.before.before.before.before.before.before.before.before.before in
-    (s.requires.0.0, held_by s.requires.0.2 960 c.before.before.before.before.before.before.before.before.before.before.before.factor-at3.ensures, ap (λ (n : ℕ). 8 * n) c.before.before.before.before.before.before.before.before.before.before.modulus.ensures.0, c.before.before.before.before.before.before.before.part.ensures.1, omega (arith, c.before.before.before.before.before.before.before.before.before.before.modulus.ensures.0, c.before.before.before.before.before.before.before.before.before.before.modulus.ensures.2, c.before.before.before.before.before.turned-re.ensures.low), omega (arith, c.before.before.before.before.before.before.before.before.before.before.modulus.ensures.0, c.before.before.before.before.before.before.before.before.before.before.modulus.ensures.2, c.before.before.before.turned-re2.ensures.low), omega (arith, c.before.apart.ensures, c.before.before.turned-im2.ensures.low, c.before.before.before.before.before.before.before.before.before.before.modulus.ensures.0, c.before.before.before.before.before.before.before.before.before.before.modulus.ensures.2))
+    (s.requires.0.0, held_by s.requires.0.2 960 c.before.before.before.before.before.before.before.before.before.before.before.factor_at-z.ensures, ap (λ (n : ℕ). 8 * n) c.before.before.before.before.before.before.before.before.before.before.modulus-o.ensures.0, c.before.before.before.before.before.before.before.part-r0.ensures.1, omega (arith, c.before.before.before.before.before.before.before.before.before.before.modulus-o.ensures.0, c.before.before.before.before.before.before.before.before.before.before.modulus-o.ensures.2, c.before.before.before.before.before.turned_re-r1.ensures.low), omega (arith, c.before.before.before.before.before.before.before.before.before.before.modulus-o.ensures.0, c.before.before.before.before.before.before.before.before.before.before.modulus-o.ensures.2, c.before.before.before.turned_re-r2.ensures.low), omega (arith, c.before.apart-g.ensures, c.before.before.turned_im-s2.ensures.low, c.before.before.before.before.before.before.before.before.before.before.modulus-o.ensures.0, c.before.before.before.before.before.before.before.before.before.before.modulus-o.ensures.2))
 
-of-three-requires-2 : tie.Need-of-three-requires-2 invariant-loop decreases-loop
-of-three-requires-2 c κs =
+of_three-q-requires : tie.Need-of_three-q-requires invariant-loop-v decreases-loop-v
+of_three-q-requires c κs =
     let s = c.before.before.before.before.before.before.before.before.before.before.before.before.before.before.before.before in
-    (s.requires.0.0, held_by s.requires.0.2 960 c.before.before.before.before.before.before.before.before.before.before.before.before.factor-at3.ensures, ap (λ (n : ℕ). 8 * n) c.before.before.before.before.before.before.before.before.before.before.before.modulus.ensures.0, c.before.before.before.before.before.before.before.part2.ensures.1, omega (arith, c.before.before.before.before.before.before.before.before.before.before.before.modulus.ensures.0, c.before.before.before.before.before.before.before.before.before.before.before.modulus.ensures.2, c.before.before.before.before.before.turned-im.ensures.low), omega (arith, c.before.before.before.before.before.before.before.before.before.before.before.modulus.ensures.0, c.before.before.before.before.before.before.before.before.before.before.before.modulus.ensures.2, c.before.before.before.turned-im2.ensures.low), omega (arith, c.before.apart2.ensures, c.before.before.before.before.before.before.turned-re.ensures.low, c.before.before.before.before.before.before.before.before.before.before.before.modulus.ensures.0, c.before.before.before.before.before.before.before.before.before.before.before.modulus.ensures.2))
+    (s.requires.0.0, held_by s.requires.0.2 960 c.before.before.before.before.before.before.before.before.before.before.before.before.factor_at-z.ensures, ap (λ (n : ℕ). 8 * n) c.before.before.before.before.before.before.before.before.before.before.before.modulus-o.ensures.0, c.before.before.before.before.before.before.before.part-s0.ensures.1, omega (arith, c.before.before.before.before.before.before.before.before.before.before.before.modulus-o.ensures.0, c.before.before.before.before.before.before.before.before.before.before.before.modulus-o.ensures.2, c.before.before.before.before.before.turned_im-s1.ensures.low), omega (arith, c.before.before.before.before.before.before.before.before.before.before.before.modulus-o.ensures.0, c.before.before.before.before.before.before.before.before.before.before.before.modulus-o.ensures.2, c.before.before.before.turned_im-s2.ensures.low), omega (arith, c.before.apart-h.ensures, c.before.before.before.before.before.before.turned_re-r1.ensures.low, c.before.before.before.before.before.before.before.before.before.before.before.modulus-o.ensures.0, c.before.before.before.before.before.before.before.before.before.before.before.modulus-o.ensures.2))
 
-store-lane-requires : tie.Need-store-lane-requires invariant-loop decreases-loop
-store-lane-requires c κs =
+store_lane-requires : tie.Need-store_lane-requires invariant-loop-v decreases-loop-v
+store_lane-requires c κs =
     let s = c.before.before.before.before.before.before.before.before.before.before.before.before.before.before.before.before.before.before in
-    (lit< tt, c.before.before.before.before.before.before.before.before.before.before.before.loop-test.true)
+    (lit< tt, c.before.before.before.before.before.before.before.before.before.before.before.loop-v-test.true)
 
-store-lane-requires-2 : tie.Need-store-lane-requires-2 invariant-loop decreases-loop
-store-lane-requires-2 c κs =
+store_lane-requires-in-loop-v : tie.Need-store_lane-requires-in-loop-v invariant-loop-v decreases-loop-v
+store_lane-requires-in-loop-v c κs =
     let s = c.before.before.before.before.before.before.before.before.before.before.before.before.before.before.before.before.before.before.before.before in
-    (lit< tt, c.before.before.before.before.before.before.before.before.before.before.before.before.before.loop-test.true)
+    (lit< tt, c.before.before.before.before.before.before.before.before.before.before.before.before.before.loop-v-test.true)
 
-store-lane-requires-3 : tie.Need-store-lane-requires-3 invariant-loop decreases-loop
-store-lane-requires-3 c κs =
+store_lane-requires-in-loop-v-2 : tie.Need-store_lane-requires-in-loop-v-2 invariant-loop-v decreases-loop-v
+store_lane-requires-in-loop-v-2 c κs =
     let s = c.before.before.before.before.before.before.before.before.before.before.before.before.before.before.before.before.before.before.before.before.before.before in
-    (lit< tt, c.before.before.before.before.before.before.before.before.before.before.before.before.before.before.before.loop-test.true)
+    (lit< tt, c.before.before.before.before.before.before.before.before.before.before.before.before.before.before.before.loop-v-test.true)
 
-add-v : tie.Need-overflow-add-v invariant-loop decreases-loop
-add-v c =
+overflow_add-v-in-loop-v : tie.Need-overflow_add-v-in-loop-v invariant-loop-v decreases-loop-v
+overflow_add-v-in-loop-v c =
     let s = c.before.before.before.before.before.before.before.before.before.before.before.before.before.before.before.before.before.before.before.before.before.before.before in
-    omega (arith, c.before.before.before.before.before.before.before.before.before.before.before.before.before.before.before.before.loop-test.true)
+    omega (arith, c.before.before.before.before.before.before.before.before.before.before.before.before.before.before.before.before.loop-v-test.true)
 
-loop-less : tie.Need-loop-smaller invariant-loop decreases-loop
-loop-less c =
+loop-v-smaller : tie.Need-loop-v-smaller invariant-loop-v decreases-loop-v
+loop-v-smaller c =
     let s = c.before.before.before.before.before.before.before.before.before.before.before.before.before.before.before.before.before.before.before.before.before.before.before in
-    omega (arith, c.before.before.before.before.before.before.before.before.before.before.before.before.before.before.before.before.loop-test.true)
+    omega (arith, c.before.before.before.before.before.before.before.before.before.before.before.before.before.before.before.before.loop-v-test.true)
 
-loop-again : tie.Need-loop-preserved invariant-loop decreases-loop
-loop-again c =
+loop-v-preserved : tie.Need-loop-v-preserved invariant-loop-v decreases-loop-v
+loop-v-preserved c =
     let s = c.before.before.before.before.before.before.before.before.before.before.before.before.before.before.before.before.before.before.before.before.before.before.before in
     let m = s.args.m in
     let at = s.args.at in
     let from = s.args.from.now in
-    let v = c.before.before.before.before.before.before.before.before.before.before.before.before.before.before.before.before.before.loop.v in
+    let v = c.before.before.before.before.before.before.before.before.before.before.before.before.before.before.before.before.before.loop-v.v in
     let h = s.requires.0.1 in
     let t = s.requires.0.2 in
-    summed_next (three_pairs c.before.before.before.before.before.before.before.of_three.result c.before.before.before.before.before.before.of-three2.result) c.before.before.before.before.before.before.before.before.before.before.before.before.before.before.before.before.before.loop.invariant c.before.before.before.before.before.before.before.before.before.before.before.before.before.before.before.before.loop-test.true (omega arith) (spread_3 (three_pairs c.before.before.before.before.before.before.before.of_three.result c.before.before.before.before.before.before.of-three2.result) v _ c.before.before.before.before.store-lane.ensures c.before.before.store-lane2.ensures c.store-lane3.ensures)
-    (λ X up. three_good h (turned_value m (table_root m s.args.re.now s.args.im.now) at from v) (ap (λ (n : ℕ). 8 * n) c.before.before.before.before.before.before.before.before.before.before.before.before.before.before.before.before.before.before.modulus.ensures.0) (three_as c.before.before.before.before.before.before.before.before.before.apart.ensures c.before.before.before.before.before.before.before.of_three.ensures) (three_as c.before.before.before.before.before.before.before.before.apart2.ensures c.before.before.before.before.before.before.of-three2.ensures) (shifted_by t 960 (lit< tt) c.before.before.before.before.before.before.before.before.before.before.before.before.before.before.before.before.before.before.before.factor-at3.ensures) (plain_lane m _ at from v 0 (omega arith) c.before.before.before.before.before.before.before.before.before.before.before.before.before.before.before.part.ensures.0 c.before.before.before.before.before.before.before.before.before.before.before.before.before.before.part2.ensures.0) (turned_lane h t at from v 1 at.k (omega arith) (omega (arith, s.requires.1.0.exponents 1 (lit< tt))) c.before.before.before.before.before.before.before.before.before.before.before.before.before.before.before.before.before.before.before.before.before.factor_at_lem.ensures c.before.before.before.before.before.before.before.before.before.before.before.before.before.turned-re.ensures c.before.before.before.before.before.before.before.before.before.before.before.before.turned-im.ensures) (turned_lane h t at from v 2 (2 * at.k) refl (omega (arith, s.requires.1.0.exponents 2 (lit< tt))) c.before.before.before.before.before.before.before.before.before.before.before.before.before.before.before.before.before.before.before.before.factor-at2.ensures c.before.before.before.before.before.before.before.before.before.before.before.turned-re2.ensures c.before.before.before.before.before.before.before.before.before.before.turned-im2.ensures) (omega (arith, c.before.before.before.before.before.before.before.before.before.before.before.before.before.before.before.before.before.before.modulus.ensures.0, c.before.before.before.before.before.before.before.before.before.before.before.before.before.before.before.before.before.before.modulus.ensures.2, c.before.before.before.before.before.before.before.before.before.before.before.before.before.turned-re.ensures.low)) (omega (arith, c.before.before.before.before.before.before.before.before.before.before.before.before.before.before.before.before.before.before.modulus.ensures.0, c.before.before.before.before.before.before.before.before.before.before.before.before.before.before.before.before.before.before.modulus.ensures.2, c.before.before.before.before.before.before.before.before.before.before.before.before.turned-im.ensures.low)) (omega (arith, c.before.before.before.before.before.before.before.before.before.before.before.before.before.before.before.before.before.before.modulus.ensures.0, c.before.before.before.before.before.before.before.before.before.before.before.before.before.before.before.before.before.before.modulus.ensures.2, c.before.before.before.before.before.before.before.before.before.before.before.turned-re2.ensures.low)) (omega (arith, c.before.before.before.before.before.before.before.before.before.before.before.before.before.before.before.before.before.before.modulus.ensures.0, c.before.before.before.before.before.before.before.before.before.before.before.before.before.before.before.before.before.before.modulus.ensures.2, c.before.before.before.before.before.before.before.before.before.before.turned-im2.ensures.low)) (low_by up _ c.before.before.before.before.before.before.before.before.before.before.before.before.before.before.before.part.ensures.0) (low_by up _ c.before.before.before.before.before.before.before.before.before.before.before.before.before.before.part2.ensures.0))
+    summed_next (three_pairs c.before.before.before.before.before.before.before.of_three-p.result c.before.before.before.before.before.before.of_three-q.result) c.before.before.before.before.before.before.before.before.before.before.before.before.before.before.before.before.before.loop-v.invariant c.before.before.before.before.before.before.before.before.before.before.before.before.before.before.before.before.loop-v-test.true (omega arith) (spread_3 (three_pairs c.before.before.before.before.before.before.before.of_three-p.result c.before.before.before.before.before.before.of_three-q.result) v _ c.before.before.before.before.store_lane.ensures c.before.before.store_lane-in-loop-v.ensures c.store_lane-in-loop-v-2.ensures)
+    (λ X up. three_good h (turned_value m (table_root m s.args.re.now s.args.im.now) at from v) (ap (λ (n : ℕ). 8 * n) c.before.before.before.before.before.before.before.before.before.before.before.before.before.before.before.before.before.before.modulus-o.ensures.0) (three_as c.before.before.before.before.before.before.before.before.before.apart-g.ensures c.before.before.before.before.before.before.before.of_three-p.ensures) (three_as c.before.before.before.before.before.before.before.before.apart-h.ensures c.before.before.before.before.before.before.of_three-q.ensures) (shifted_by t 960 (lit< tt) c.before.before.before.before.before.before.before.before.before.before.before.before.before.before.before.before.before.before.before.factor_at-z.ensures) (plain_lane m _ at from v 0 (omega arith) c.before.before.before.before.before.before.before.before.before.before.before.before.before.before.before.part-r0.ensures.0 c.before.before.before.before.before.before.before.before.before.before.before.before.before.before.part-s0.ensures.0) (turned_lane h t at from v 1 at.k (omega arith) (omega (arith, s.requires.1.0.exponents 1 (lit< tt))) c.before.before.before.before.before.before.before.before.before.before.before.before.before.before.before.before.before.before.before.before.before.factor_at-w1.ensures c.before.before.before.before.before.before.before.before.before.before.before.before.before.turned_re-r1.ensures c.before.before.before.before.before.before.before.before.before.before.before.before.turned_im-s1.ensures) (turned_lane h t at from v 2 (2 * at.k) refl (omega (arith, s.requires.1.0.exponents 2 (lit< tt))) c.before.before.before.before.before.before.before.before.before.before.before.before.before.before.before.before.before.before.before.before.factor_at-w2.ensures c.before.before.before.before.before.before.before.before.before.before.before.turned_re-r2.ensures c.before.before.before.before.before.before.before.before.before.before.turned_im-s2.ensures) (omega (arith, c.before.before.before.before.before.before.before.before.before.before.before.before.before.before.before.before.before.before.modulus-o.ensures.0, c.before.before.before.before.before.before.before.before.before.before.before.before.before.before.before.before.before.before.modulus-o.ensures.2, c.before.before.before.before.before.before.before.before.before.before.before.before.before.turned_re-r1.ensures.low)) (omega (arith, c.before.before.before.before.before.before.before.before.before.before.before.before.before.before.before.before.before.before.modulus-o.ensures.0, c.before.before.before.before.before.before.before.before.before.before.before.before.before.before.before.before.before.before.modulus-o.ensures.2, c.before.before.before.before.before.before.before.before.before.before.before.before.turned_im-s1.ensures.low)) (omega (arith, c.before.before.before.before.before.before.before.before.before.before.before.before.before.before.before.before.before.before.modulus-o.ensures.0, c.before.before.before.before.before.before.before.before.before.before.before.before.before.before.before.before.before.before.modulus-o.ensures.2, c.before.before.before.before.before.before.before.before.before.before.before.turned_re-r2.ensures.low)) (omega (arith, c.before.before.before.before.before.before.before.before.before.before.before.before.before.before.before.before.before.before.modulus-o.ensures.0, c.before.before.before.before.before.before.before.before.before.before.before.before.before.before.before.before.before.before.modulus-o.ensures.2, c.before.before.before.before.before.before.before.before.before.before.turned_im-s2.ensures.low)) (low_by up _ c.before.before.before.before.before.before.before.before.before.before.before.before.before.before.before.part-r0.ensures.0) (low_by up _ c.before.before.before.before.before.before.before.before.before.before.before.before.before.before.part-s0.ensures.0))
 
-returns : tie.Need-returns invariant-loop decreases-loop
+returns : tie.Need-returns invariant-loop-v decreases-loop-v
 returns c =
     let s = c.before.before.before.before.before.before.before in
-    summed_all c.before.loop.invariant (omega (arith, c.loop-test.false))
+    summed_all c.before.loop-v.invariant (omega (arith, c.loop-v-test.false))
 
 pub three_turned_spec : {M : Type 1} → statement M
-three_turned_spec = tie.close (tie.spec invariant-loop decreases-loop factor-at-requires mul-factor-at factor-at-requires-2 factor-at-requires-3 modulus-requires mul-o loop-holds part-requires add-part part-requires-2 turned-re-requires turned-im-requires turned-re-requires-2 turned-im-requires-2 apart-requires apart-requires-2 of-three-requires of-three-requires-2 store-lane-requires store-lane-requires-2 store-lane-requires-3 add-v loop-less loop-again returns)
+three_turned_spec = tie.close (tie.spec invariant-loop-v decreases-loop-v factor_at-w1-requires overflow_mul-k factor_at-w2-requires factor_at-z-requires modulus-o-requires overflow_mul-o loop-v-init part-r0-requires overflow_add-v part-s0-requires turned_re-r1-requires turned_im-s1-requires turned_re-r2-requires turned_im-s2-requires apart-g-requires apart-h-requires of_three-p-requires of_three-q-requires store_lane-requires store_lane-requires-in-loop-v store_lane-requires-in-loop-v-2 overflow_add-v-in-loop-v loop-v-smaller loop-v-preserved returns)

@@ -20,21 +20,21 @@ of_lane m w l j v {a} {b} {r} ea eb h =
 part-requires : tie.Need-part-requires
 part-requires c κs = let s = c.before in (s.requires.2, omega (arith, s.requires.3), s.requires.4, s.requires.5)
 
-add-part : tie.Need-overflow-add-part
-add-part c = let s = c.before.before in omega (arith, s.requires.3)
+overflow_add-v : tie.Need-overflow_add-v
+overflow_add-v c = let s = c.before.before in omega (arith, s.requires.3)
 
 part-requires-2 : tie.Need-part-requires-2
 part-requires-2 c κs = let s = c.before.before in (s.requires.2, omega (arith, s.requires.3), s.requires.4, s.requires.5)
 
-turned-re-requires : tie.Need-turned-re-requires
-turned-re-requires c κs =
+turned_re-requires : tie.Need-turned_re-requires
+turned_re-requires c κs =
     let s = c.before.before.before in
-    (s.requires.0, s.requires.1, omega (arith, c.before.part.ensures.1), omega (arith, c.part2.ensures.1))
+    (s.requires.0, s.requires.1, omega (arith, c.before.part.ensures.1), omega (arith, c.part-2.ensures.1))
 
 returns : tie.Need-returns
 returns c =
     let s = c.before.before.before.before in
-    of_lane s.args.m s.args.w s.args.from.now _ s.args.v c.before.before.part.ensures.0 c.before.part2.ensures.0 c.turned-re.ensures
+    of_lane s.args.m s.args.w s.args.from.now _ s.args.v c.before.before.part.ensures.0 c.before.part-2.ensures.0 c.turned_re.ensures
 
 pub turned_re_spec : {M : Type 1} → statement M
-turned_re_spec = tie.close (tie.spec part-requires add-part part-requires-2 turned-re-requires returns)
+turned_re_spec = tie.close (tie.spec part-requires overflow_add-v part-requires-2 turned_re-requires returns)

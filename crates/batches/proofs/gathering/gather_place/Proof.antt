@@ -9,116 +9,98 @@ use Rattle.batches.proofs.gathering.gather_place.Tie as tie
 use Rattle.batches.specs.Groups.{lane_pair, PutLanes}
 use Rattle.batches.proofs.VolumeLanes.{pair_used, pair_unused, putting_start, putting_next, putting_as}
 
-abbrev invariant-loop : tie.invariant-loop
-invariant-loop volume first lanes d₀ j v₀ d v = PutLanes (lane_pair volume first lanes) j v d₀ d × (v ≤ lanes)
+abbrev invariant-loop-v : tie.invariant-loop-v
+invariant-loop-v volume first lanes d₀ j v₀ d v = PutLanes (lane_pair volume first lanes) j v d₀ d × (v ≤ lanes)
 
-abbrev decreases-loop : tie.decreases-loop
-decreases-loop volume first lanes d₀ j v₀ d v = lanes - v
+abbrev decreases-loop-v : tie.decreases-loop-v
+decreases-loop-v volume first lanes d₀ j v₀ d v = lanes - v
 
 -- d₁ is what the first loop has left
-abbrev invariant-loop2 : tie.invariant-loop2
-invariant-loop2 volume first lanes d₁ j v₁ d v =
+abbrev invariant-loop-v-2 : tie.invariant-loop-v-2
+invariant-loop-v-2 volume first lanes d₁ j v₁ d v =
     ((before : List ℕ) → 32 * j + 32 ≤ length before → PutLanes (lane_pair volume first lanes) j v₁ before d₁ → PutLanes (lane_pair volume first lanes) j v before d) × (length d ≡ length d₁) × (lanes ≤ v) × (v ≤ 16)
 
-abbrev decreases-loop2 : tie.decreases-loop2
-decreases-loop2 volume first lanes d₀ j v₀ d v = 16 - v
+abbrev decreases-loop-v-2 : tie.decreases-loop-v-2
+decreases-loop-v-2 volume first lanes d₀ j v₀ d v = 16 - v
 
-loop-holds : tie.Need-loop-init invariant-loop decreases-loop invariant-loop2 decreases-loop2
-loop-holds c = (putting_start, omega arith)
+loop-v-init : tie.Need-loop-v-init invariant-loop-v decreases-loop-v invariant-loop-v-2 decreases-loop-v-2
+loop-v-init c = (putting_start, omega arith)
 
-add-get : tie.Need-overflow-add-get invariant-loop decreases-loop invariant-loop2 decreases-loop2
-add-get c = omega (arith, c.loop-test.true, c.before.before.before.before.requires.1)
+overflow_add-first : tie.Need-overflow_add-first invariant-loop-v decreases-loop-v invariant-loop-v-2 decreases-loop-v-2
+overflow_add-first c = omega (arith, c.loop-v-test.true, c.before.before.before.before.requires.1)
 
-get-requires : tie.Need-get-requires invariant-loop decreases-loop invariant-loop2 decreases-loop2
-get-requires c κs = omega (arith, c.loop-test.true, c.before.before.before.before.requires.1)
+get-x-requires : tie.Need-get-x-requires invariant-loop-v decreases-loop-v invariant-loop-v-2 decreases-loop-v-2
+get-x-requires c κs = omega (arith, c.loop-v-test.true, c.before.before.before.before.requires.1)
 
-store-lane-requires : tie.Need-store-lane-requires invariant-loop decreases-loop invariant-loop2 decreases-loop2
-store-lane-requires c κs =
+store_lane-requires : tie.Need-store_lane-requires invariant-loop-v decreases-loop-v invariant-loop-v-2 decreases-loop-v-2
+store_lane-requires c κs =
     let t = c.before.before in
     let l = t.before in
     let s = l.before.before.before in
-    (omega (arith, t.loop-test.true, s.requires.0), omega (arith, s.requires.2, l.loop.invariant.0.long))
+    (omega (arith, t.loop-v-test.true, s.requires.0), omega (arith, s.requires.2, l.loop-v.invariant.0.long))
 
-add-v : tie.Need-overflow-add-v invariant-loop decreases-loop invariant-loop2 decreases-loop2
-add-v c =
+overflow_add-v : tie.Need-overflow_add-v invariant-loop-v decreases-loop-v invariant-loop-v-2 decreases-loop-v-2
+overflow_add-v c =
     let t = c.before.before.before.before.before in
-    omega (arith, t.loop-test.true, t.before.before.before.before.requires.0)
+    omega (arith, t.loop-v-test.true, t.before.before.before.before.requires.0)
 
-loop-less : tie.Need-loop-smaller invariant-loop decreases-loop invariant-loop2 decreases-loop2
-loop-less c = omega (arith, c.before.before.before.before.before.loop-test.true)
+loop-v-smaller : tie.Need-loop-v-smaller invariant-loop-v decreases-loop-v invariant-loop-v-2 decreases-loop-v-2
+loop-v-smaller c = omega (arith, c.before.before.before.before.before.loop-v-test.true)
 
-loop-again : tie.Need-loop-preserved invariant-loop decreases-loop invariant-loop2 decreases-loop2
-loop-again c =
+loop-v-preserved : tie.Need-loop-v-preserved invariant-loop-v decreases-loop-v invariant-loop-v-2 decreases-loop-v-2
+loop-v-preserved c =
     let e = c.before.before in
     let g = e.before.before in
     let t = g.before in
     let l = t.before in
     let s = l.before.before.before in (
-      putting_next l.loop.invariant.0 (omega (arith, t.loop-test.true, s.requires.0)) s.requires.2 e.store-lane.ensures (g.get.ensures ∙ pair_used s.args.volume.now s.args.first t.loop-test.true),
-      omega (arith, t.loop-test.true),
+      putting_next l.loop-v.invariant.0 (omega (arith, t.loop-v-test.true, s.requires.0)) s.requires.2 e.store_lane.ensures (g.get-x.ensures ∙ pair_used s.args.volume.now s.args.first t.loop-v-test.true),
+      omega (arith, t.loop-v-test.true),
     )
 
-loop2-holds : tie.Need-loop2-init invariant-loop decreases-loop invariant-loop2 decreases-loop2
-loop2-holds c =
+loop-v-2-init : tie.Need-loop-v-2-init invariant-loop-v decreases-loop-v invariant-loop-v-2 decreases-loop-v-2
+loop-v-2-init c =
     let l = c.before in
     let s = l.before.before.before in
-    (λ before fits h. h, omega arith, c.loop-test.false, omega (arith, l.loop.invariant.1, s.requires.0))
+    (λ before fits h. h, omega arith, c.loop-v-test.false, omega (arith, l.loop-v.invariant.1, s.requires.0))
 
-store-lane-requires-2 : tie.Need-store-lane-requires-2 invariant-loop decreases-loop invariant-loop2 decreases-loop2
-store-lane-requires-2 c κs =
+store_lane-requires-in-loop-v-2 : tie.Need-store_lane-requires-in-loop-v-2 invariant-loop-v decreases-loop-v invariant-loop-v-2 decreases-loop-v-2
+store_lane-requires-in-loop-v-2 c κs =
     let t = c.before in
     let l = t.before in
     let s = l.before.before.before.before.before in
-    (t.loop2-test.true, omega (arith, s.requires.2, l.loop2.invariant.1, l.before.before.loop.invariant.0.long))
+    (t.loop-v-2-test.true, omega (arith, s.requires.2, l.loop-v-2.invariant.1, l.before.before.loop-v.invariant.0.long))
 
-add-v-2 : tie.Need-overflow-add-v-2 invariant-loop decreases-loop invariant-loop2 decreases-loop2
-add-v-2 c = omega (arith, c.before.before.before.before.loop2-test.true)
+overflow_add-v-in-loop-v-2 : tie.Need-overflow_add-v-in-loop-v-2 invariant-loop-v decreases-loop-v invariant-loop-v-2 decreases-loop-v-2
+overflow_add-v-in-loop-v-2 c = omega (arith, c.before.before.before.before.loop-v-2-test.true)
 
-loop2-less : tie.Need-loop2-smaller invariant-loop decreases-loop invariant-loop2 decreases-loop2
-loop2-less c = omega (arith, c.before.before.before.before.loop2-test.true)
+loop-v-2-smaller : tie.Need-loop-v-2-smaller invariant-loop-v decreases-loop-v invariant-loop-v-2 decreases-loop-v-2
+loop-v-2-smaller c = omega (arith, c.before.before.before.before.loop-v-2-test.true)
 
-loop2-again : tie.Need-loop2-preserved invariant-loop decreases-loop invariant-loop2 decreases-loop2
-loop2-again c =
+loop-v-2-preserved : tie.Need-loop-v-2-preserved invariant-loop-v decreases-loop-v invariant-loop-v-2 decreases-loop-v-2
+loop-v-2-preserved c =
     let e = c.before.before in
     let t = e.before.before in
     let l = t.before in
     let s = l.before.before.before.before.before in
-    let i = l.loop2.invariant in (
-      λ before fits h. putting_next (i.0 before fits h) t.loop2-test.true fits e.store-lane2.ensures (pair_unused s.args.volume.now s.args.first i.2),
-      omega (arith, e.before.before.before.loop2.invariant.1, c.before.d2.given),
+    let i = l.loop-v-2.invariant in (
+      λ before fits h. putting_next (i.0 before fits h) t.loop-v-2-test.true fits e.store_lane-in-loop-v-2.ensures (pair_unused s.args.volume.now s.args.first i.2),
+      omega (arith, e.before.before.before.loop-v-2.invariant.1, c.before.d-in-loop-v-2-1.given),
       omega (arith, i.2),
-      omega (arith, t.loop2-test.true),
+      omega (arith, t.loop-v-2-test.true),
     )
 
-same_length : tie.Need-same-length invariant-loop decreases-loop invariant-loop2 decreases-loop2
-same_length c = omega (arith, c.before.loop2.invariant.1, c.before.before.before.loop.invariant.0.long)
+shape_of-d : tie.Need-shape_of-d invariant-loop-v decreases-loop-v invariant-loop-v-2 decreases-loop-v-2
+shape_of-d c = omega (arith, c.before.loop-v-2.invariant.1, c.before.before.before.loop-v.invariant.0.long)
 
-returns : tie.Need-returns invariant-loop decreases-loop invariant-loop2 decreases-loop2
+returns : tie.Need-returns invariant-loop-v decreases-loop-v invariant-loop-v-2 decreases-loop-v-2
 returns c =
     let l = c.before in
     let f = l.before.before in
     let s = f.before.before.before in
-    putting_as (l.loop2.invariant.0 s.args.d.now s.requires.2 f.loop.invariant.0) (omega (arith, c.loop2-test.false, l.loop2.invariant.3))
+    putting_as (l.loop-v-2.invariant.0 s.args.d.now s.requires.2 f.loop-v.invariant.0) (omega (arith, c.loop-v-2-test.false, l.loop-v-2.invariant.3))
 
 pub gather_place_spec : {M : Type 1} → statement M
 gather_place_spec =
     tie.close
-    (tie.spec
-    invariant-loop
-    decreases-loop
-    invariant-loop2
-    decreases-loop2
-    loop-holds
-    add-get
-    get-requires
-    store-lane-requires
-    add-v
-    loop-less
-    loop-again
-    loop2-holds
-    store-lane-requires-2
-    add-v-2
-    loop2-less
-    loop2-again
-    same_length
-    returns)
+    (tie.spec invariant-loop-v decreases-loop-v invariant-loop-v-2 decreases-loop-v-2 loop-v-init overflow_add-first get-x-requires store_lane-requires overflow_add-v loop-v-smaller loop-v-preserved loop-v-2-init store_lane-requires-in-loop-v-2 overflow_add-v-in-loop-v-2 loop-v-2-smaller loop-v-2-preserved shape_of-d returns)

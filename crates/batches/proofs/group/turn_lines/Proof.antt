@@ -7,7 +7,7 @@ use Rattle.batches.proofs.group.turn_lines.Tie as tie
 
 gather-requires : tie.Need-gather-requires
 gather-requires c κs =
-    let s = c.before.before.before.before.before in
+    let s = c in
     let p = s.requires.1.1 in
     (p.0.3, p.1.0, p.0.0)
 
@@ -15,16 +15,16 @@ transform-requires : tie.Need-transform-requires
 transform-requires c κs =
     let l = c.before.before.before in
     let g = l.before in
-    let s = g.before.before.before.before.before.before in
+    let s = g in
     let p = s.requires.1.1 in
-    (s.requires.0, (s.requires.1.0, (omega (arith, l.line.given, p.0.0), p.0.1, gathered_low g.gather.ensures s.args.m p.1.1 (omega (arith, l.line.given, p.0.0)))))
+    (s.requires.0, (s.requires.1.0, (omega (arith, l.line-1.given, p.0.0), p.0.1, gathered_low g.gather.ensures s.args.m p.1.1 (omega (arith, l.line-1.given, p.0.0)))))
 
 scatter-requires : tie.Need-scatter-requires
 scatter-requires c κs =
-    let t = c.before.before.before.before.before.before in
+    let t = c.before.before.before.before.before in
     let l = t.before.before.before.before in
     let g = l.before in
-    let s = g.before.before.before.before.before.before in
+    let s = g in
     let p = s.requires.1.1 in (
       (
         s.requires.0.0,
@@ -32,31 +32,31 @@ scatter-requires c κs =
         p.0.3,
         p.0.4,
         t.transform.ensures.long,
-        transformed_low s.requires.0.0 t.transform.ensures (gathered_low g.gather.ensures s.args.m p.1.1 (omega (arith, l.line.given, p.0.0))),
+        transformed_low s.requires.0.0 t.transform.ensures (gathered_low g.gather.ensures s.args.m p.1.1 (omega (arith, l.line-1.given, p.0.0))),
       ),
       p.1.0,
     )
 
-same_length : tie.Need-same-length
-same_length c = omega (arith, c.before.before.scatter.ensures.long)
+shape_of-volume : tie.Need-shape_of-volume
+shape_of-volume c = omega (arith, c.scatter.ensures.long)
 
-same-length-2 : tie.Need-same-length-2
-same-length-2 c =
-    let t = c.before.before.before.before.before.before.before.before.before in
-    let s = t.before.before.before.before.before.before.before.before.before.before.before in
+shape_of-line : tie.Need-shape_of-line
+shape_of-line c =
+    let t = c.before.before.before.before.before.before.before.before in
+    let s = t in
     omega (arith, t.transform.ensures.long, s.requires.1.1.0.0)
 
-same-length-3 : tie.Need-same-length-3
-same-length-3 c = omega (arith, c.before.before.before.before.before.before.work.given)
+shape_of-work : tie.Need-shape_of-work
+shape_of-work c = omega (arith, c.work-1.given)
 
 returns : tie.Need-returns
 returns c =
     let k = c.before.before in
-    let t = k.before.before.before.before.before.before.before in
-    let g = t.before.before.before.before.before in
-    let s = g.before.before.before.before.before.before in
+    let t = k.before.before.before.before.before.before in
+    let g = t.before.before.before.before in
+    let s = g in
     let p = s.requires.1.1 in
     λ z e. group_turned_lem s.args.volume.now p.0.3 p.0.4 p.1.0 p.1.1 g.gather.ensures t.transform.ensures k.scatter.ensures z e
 
 pub turn_lines_spec : {M : Type 1} → statement M
-turn_lines_spec = tie.close (tie.spec gather-requires transform-requires scatter-requires same_length same-length-2 same-length-3 returns)
+turn_lines_spec = tie.close (tie.spec gather-requires transform-requires scatter-requires shape_of-volume shape_of-line shape_of-work returns)

@@ -12,23 +12,23 @@ up_is x y e = sym (ap (λ (b : Bool). cond b x y) e)
 down_is : {b : Bool} (x y : ℕ) → b ≡ false → y ≡ cond b x y
 down_is x y e = sym (ap (λ (b : Bool). cond b x y) e)
 
-sub-result : tie.Need-overflow-sub-result
-sub-result c = omega (arith, c.before.requires)
+overflow_sub-result : tie.Need-overflow_sub-result
+overflow_sub-result c = omega (arith, c.before.requires)
 
-add-result : tie.Need-overflow-add-result
-add-result c = omega (arith, c.before.requires)
+overflow_add-result : tie.Need-overflow_add-result
+overflow_add-result c = omega (arith, c.before.requires)
 
-sub-result-2 : tie.Need-overflow-sub-result-2
-sub-result-2 c = omega (arith, c.before.requires)
+overflow_sub-result-else-up : tie.Need-overflow_sub-result-else-up
+overflow_sub-result-else-up c = omega (arith, c.before.requires)
 
-add-result-2 : tie.Need-overflow-add-result-2
-add-result-2 c = omega (arith, c.before.requires)
+overflow_add-result-else-up : tie.Need-overflow_add-result-else-up
+overflow_add-result-else-up c = omega (arith, c.before.requires)
 
-returns : tie.Need-returns
-returns c = (up_is _ _ c.if1.true, omega (arith, c.before.requires))
+returns-then-up : tie.Need-returns-then-up
+returns-then-up c = (up_is _ _ c.if-up.true, omega (arith, c.before.requires))
 
-returns-2 : tie.Need-returns-2
-returns-2 c = (down_is _ _ c.if1.false, omega (arith, c.before.requires))
+returns-else-up : tie.Need-returns-else-up
+returns-else-up c = (down_is _ _ c.if-up.false, omega (arith, c.before.requires))
 
 pub quarter_spec : {M : Type 1} → statement M
-quarter_spec = tie.close (tie.spec sub-result add-result sub-result-2 add-result-2 returns returns-2)
+quarter_spec = tie.close (tie.spec overflow_sub-result overflow_add-result overflow_sub-result-else-up overflow_add-result-else-up returns-then-up returns-else-up)

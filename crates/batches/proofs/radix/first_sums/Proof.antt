@@ -21,45 +21,45 @@ done s {y = y} e h = subst (λ B. Sums s B y) (sym e) h
 last : (s : tie.Start) → (s.args.outer ≡ 4 → ⊥) → (s.args.outer ≡ 2 → ⊥) → (s.args.outer ≡ 3 → ⊥) → s.args.outer ≡ 5
 last s a b c = omega (arith, s.requires.1.0, s.requires.1.1, a, b, c)
 
-four-first-requires : tie.Need-four-first-requires
-four-first-requires c κs =
+four_first-requires : tie.Need-four_first-requires
+four_first-requires c κs =
     let s = c.before.before.before in
-    (s.requires.0, (places s c.before.if1.true, s.requires.1.3, s.requires.1.4, s.requires.1.5))
+    (s.requires.0, (places s c.before.if-outer-eq4.true, s.requires.1.3, s.requires.1.4, s.requires.1.5))
 
-two-first-requires : tie.Need-two-first-requires
-two-first-requires c κs =
+two_first-requires : tie.Need-two_first-requires
+two_first-requires c κs =
     let s = c.before.before.before.before in
-    (s.requires.0, (places s c.before.if2.true, s.requires.1.3, s.requires.1.4, s.requires.1.5))
+    (s.requires.0, (places s c.before.if-outer-eq2.true, s.requires.1.3, s.requires.1.4, s.requires.1.5))
 
-three-first-requires : tie.Need-three-first-requires
-three-first-requires c κs =
+three_first-requires : tie.Need-three_first-requires
+three_first-requires c κs =
     let s = c.before.before.before.before.before in
-    (s.requires.0, (places s c.before.if3.true, s.requires.1.3, s.requires.1.4, s.requires.1.5))
+    (s.requires.0, (places s c.before.if-outer-eq3.true, s.requires.1.3, s.requires.1.4, s.requires.1.5))
 
-five-first-requires : tie.Need-five-first-requires
-five-first-requires c κs =
+five_first-requires : tie.Need-five_first-requires
+five_first-requires c κs =
     let s = c.before.before.before.before.before in
-    (s.requires.0, (places s (last s c.before.before.before.if1.false c.before.before.if2.false c.before.if3.false), s.requires.1.3, s.requires.1.4, s.requires.1.5))
+    (s.requires.0, (places s (last s c.before.before.before.if-outer-eq4.false c.before.before.if-outer-eq2.false c.before.if-outer-eq3.false), s.requires.1.3, s.requires.1.4, s.requires.1.5))
 
-returns : tie.Need-returns
-returns c =
+returns-then-outer-eq4 : tie.Need-returns-then-outer-eq4
+returns-then-outer-eq4 c =
     let s = c.before.before.before.before in
-    done s c.before.before.if1.true c.four-first.ensures
+    done s c.before.before.if-outer-eq4.true c.four_first.ensures
 
-returns-2 : tie.Need-returns-2
-returns-2 c =
+returns-then-outer-eq2 : tie.Need-returns-then-outer-eq2
+returns-then-outer-eq2 c =
     let s = c.before.before.before.before.before in
-    done s c.before.before.if2.true c.two-first.ensures
+    done s c.before.before.if-outer-eq2.true c.two_first.ensures
 
-returns-3 : tie.Need-returns-3
-returns-3 c =
+returns-then-outer-eq3 : tie.Need-returns-then-outer-eq3
+returns-then-outer-eq3 c =
     let s = c.before.before.before.before.before.before in
-    done s c.before.before.if3.true c.three-first.ensures
+    done s c.before.before.if-outer-eq3.true c.three_first.ensures
 
-returns-4 : tie.Need-returns-4
-returns-4 c =
+returns-else-outer-eq3 : tie.Need-returns-else-outer-eq3
+returns-else-outer-eq3 c =
     let s = c.before.before.before.before.before.before in
-    done s (last s c.before.before.before.before.if1.false c.before.before.before.if2.false c.before.before.if3.false) c.five-first.ensures
+    done s (last s c.before.before.before.before.if-outer-eq4.false c.before.before.before.if-outer-eq2.false c.before.before.if-outer-eq3.false) c.five_first.ensures
 
 pub first_sums_spec : {M : Type 1} → statement M
-first_sums_spec = tie.close (tie.spec four-first-requires two-first-requires three-first-requires five-first-requires returns returns-2 returns-3 returns-4)
+first_sums_spec = tie.close (tie.spec four_first-requires two_first-requires three_first-requires five_first-requires returns-then-outer-eq4 returns-then-outer-eq2 returns-then-outer-eq3 returns-else-outer-eq3)

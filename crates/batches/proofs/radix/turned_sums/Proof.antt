@@ -21,45 +21,45 @@ done s {y = y} e h = subst (λ B. Sums s B y) (sym e) h
 last : (s : tie.Start) → (s.args.outer ≡ 4 → ⊥) → (s.args.outer ≡ 2 → ⊥) → (s.args.outer ≡ 3 → ⊥) → s.args.outer ≡ 5
 last s a b c = omega (arith, s.requires.1.0, s.requires.1.1, a, b, c)
 
-four-turned-requires : tie.Need-four-turned-requires
-four-turned-requires c κs =
+four_turned-requires : tie.Need-four_turned-requires
+four_turned-requires c κs =
     let s = c.before.before.before in
-    (s.requires.0, (places s c.before.if1.true, s.requires.1.3, s.requires.1.4))
+    (s.requires.0, (places s c.before.if-outer-eq4.true, s.requires.1.3, s.requires.1.4))
 
-two-turned-requires : tie.Need-two-turned-requires
-two-turned-requires c κs =
+two_turned-requires : tie.Need-two_turned-requires
+two_turned-requires c κs =
     let s = c.before.before.before.before in
-    (s.requires.0, (places s c.before.if2.true, s.requires.1.3, s.requires.1.4))
+    (s.requires.0, (places s c.before.if-outer-eq2.true, s.requires.1.3, s.requires.1.4))
 
-three-turned-requires : tie.Need-three-turned-requires
-three-turned-requires c κs =
+three_turned-requires : tie.Need-three_turned-requires
+three_turned-requires c κs =
     let s = c.before.before.before.before.before in
-    (s.requires.0, (places s c.before.if3.true, s.requires.1.3, s.requires.1.4))
+    (s.requires.0, (places s c.before.if-outer-eq3.true, s.requires.1.3, s.requires.1.4))
 
-five-turned-requires : tie.Need-five-turned-requires
-five-turned-requires c κs =
+five_turned-requires : tie.Need-five_turned-requires
+five_turned-requires c κs =
     let s = c.before.before.before.before.before in
-    (s.requires.0, (places s (last s c.before.before.before.if1.false c.before.before.if2.false c.before.if3.false), s.requires.1.3, s.requires.1.4))
+    (s.requires.0, (places s (last s c.before.before.before.if-outer-eq4.false c.before.before.if-outer-eq2.false c.before.if-outer-eq3.false), s.requires.1.3, s.requires.1.4))
 
-returns : tie.Need-returns
-returns c =
+returns-then-outer-eq4 : tie.Need-returns-then-outer-eq4
+returns-then-outer-eq4 c =
     let s = c.before.before.before.before in
-    done s c.before.before.if1.true c.four-turned.ensures
+    done s c.before.before.if-outer-eq4.true c.four_turned.ensures
 
-returns-2 : tie.Need-returns-2
-returns-2 c =
+returns-then-outer-eq2 : tie.Need-returns-then-outer-eq2
+returns-then-outer-eq2 c =
     let s = c.before.before.before.before.before in
-    done s c.before.before.if2.true c.two-turned.ensures
+    done s c.before.before.if-outer-eq2.true c.two_turned.ensures
 
-returns-3 : tie.Need-returns-3
-returns-3 c =
+returns-then-outer-eq3 : tie.Need-returns-then-outer-eq3
+returns-then-outer-eq3 c =
     let s = c.before.before.before.before.before.before in
-    done s c.before.before.if3.true c.three-turned.ensures
+    done s c.before.before.if-outer-eq3.true c.three_turned.ensures
 
-returns-4 : tie.Need-returns-4
-returns-4 c =
+returns-else-outer-eq3 : tie.Need-returns-else-outer-eq3
+returns-else-outer-eq3 c =
     let s = c.before.before.before.before.before.before in
-    done s (last s c.before.before.before.before.if1.false c.before.before.before.if2.false c.before.before.if3.false) c.five-turned.ensures
+    done s (last s c.before.before.before.before.if-outer-eq4.false c.before.before.before.if-outer-eq2.false c.before.before.if-outer-eq3.false) c.five_turned.ensures
 
 pub turned_sums_spec : {M : Type 1} → statement M
-turned_sums_spec = tie.close (tie.spec four-turned-requires two-turned-requires three-turned-requires five-turned-requires returns returns-2 returns-3 returns-4)
+turned_sums_spec = tie.close (tie.spec four_turned-requires two_turned-requires three_turned-requires five_turned-requires returns-then-outer-eq4 returns-then-outer-eq2 returns-then-outer-eq3 returns-else-outer-eq3)

@@ -15,30 +15,30 @@ inverse-requires c κs = search rules
 low : (x n : ℕ) → n ≤ 4294967295 → x % 4294967296 * n ≤ 4294967295 * 4294967295
 low x n h = mul-le-mul {n₂ = 4294967295} (omega arith) h
 
-mul-k : tie.Need-overflow-mul-k
-mul-k c = omega (arith, low c.before.args.x c.inverse.result (omega (arith, c.inverse.ensures.1)))
+overflow_mul-k : tie.Need-overflow_mul-k
+overflow_mul-k c = omega (arith, low c.before.args.x c.inverse.result (omega (arith, c.inverse.ensures.1)))
 
 modulus-requires : tie.Need-modulus-requires
 modulus-requires c κs = search rules
 
-cast-result : tie.Need-overflow-cast-result
-cast-result c = search rules
+overflow_cast-result : tie.Need-overflow_cast-result
+overflow_cast-result c = search rules
 
 added : (k p : ℕ) → p ≤ 302399 → k % 4294967296 * p ≤ 4294967295 * 302399
 added k p h = mul-le-mul {n₂ = 4294967295} (omega arith) h
 
-mul-result : tie.Need-overflow-mul-result
-mul-result c =
+overflow_mul-result : tie.Need-overflow_mul-result
+overflow_mul-result c =
     let s = c.before.before in
     omega (arith, added (s.args.x % 4294967296 * c.before.inverse.result) c.modulus.result c.modulus.ensures.2)
 
-add-result : tie.Need-overflow-add-result
-add-result c =
+overflow_add-result : tie.Need-overflow_add-result
+overflow_add-result c =
     let s = c.before.before in
     omega (arith, added (s.args.x % 4294967296 * c.before.inverse.result) c.modulus.result c.modulus.ensures.2, s.requires.1, prime_most s.requires.0)
 
-cast-result-2 : tie.Need-overflow-cast-result-2
-cast-result-2 c =
+overflow_cast-result-2 : tie.Need-overflow_cast-result-2
+overflow_cast-result-2 c =
     let s = c.before.before in
     omega (arith, added (s.args.x % 4294967296 * c.before.inverse.result) c.modulus.result c.modulus.ensures.2, s.requires.1, prime_most s.requires.0)
 
@@ -50,12 +50,4 @@ returns c =
 pub divided_spec : {M : Type 1} → statement M
 divided_spec =
     tie.close
-    (tie.spec
-    inverse-requires
-    mul-k
-    modulus-requires
-    cast-result
-    mul-result
-    add-result
-    cast-result-2
-    returns)
+    (tie.spec inverse-requires overflow_mul-k modulus-requires overflow_cast-result overflow_mul-result overflow_add-result overflow_cast-result-2 returns)

@@ -6,8 +6,8 @@ use Rattle.batches.proofs.Division.{product_most}
 use Rattle.batches.proofs.reduction.scaled.Statement.{statement}
 use Rattle.batches.proofs.reduction.scaled.Tie as tie
 
-mul-divided : tie.Need-overflow-mul-divided
-mul-divided c = omega (arith, product_most c.requires.1 c.requires.2, prime_most c.requires.0)
+overflow_mul-c : tie.Need-overflow_mul-c
+overflow_mul-c c = omega (arith, product_most c.requires.1 c.requires.2, prime_most c.requires.0)
 
 divided-requires : tie.Need-divided-requires
 divided-requires c κs = (c.requires.0, omega (arith, product_most c.requires.1 c.requires.2, prime_pos c.args.m))
@@ -16,4 +16,4 @@ returns : tie.Need-returns
 returns c = search rules
 
 pub scaled_spec : {M : Type 1} → statement M
-scaled_spec = tie.close (tie.spec mul-divided divided-requires returns)
+scaled_spec = tie.close (tie.spec overflow_mul-c divided-requires returns)

@@ -6,14 +6,14 @@ use Rattle.batches.proofs.Division.{product_most}
 use Rattle.batches.proofs.reduction.weighed.Statement.{statement}
 use Rattle.batches.proofs.reduction.weighed.Tie as tie
 
-mul-divided : tie.Need-overflow-mul-divided
-mul-divided c = omega (arith, product_most c.requires.1 c.requires.3, prime_most c.requires.0)
+overflow_mul-c : tie.Need-overflow_mul-c
+overflow_mul-c c = omega (arith, product_most c.requires.1 c.requires.3, prime_most c.requires.0)
 
-mul-divided-2 : tie.Need-overflow-mul-divided-2
-mul-divided-2 c = omega (arith, product_most c.requires.2 c.requires.4, prime_most c.requires.0)
+overflow_mul-d : tie.Need-overflow_mul-d
+overflow_mul-d c = omega (arith, product_most c.requires.2 c.requires.4, prime_most c.requires.0)
 
-add-divided : tie.Need-overflow-add-divided
-add-divided c = omega (arith, product_most c.requires.1 c.requires.3, product_most c.requires.2 c.requires.4, prime_most c.requires.0)
+overflow_add-c : tie.Need-overflow_add-c
+overflow_add-c c = omega (arith, product_most c.requires.1 c.requires.3, product_most c.requires.2 c.requires.4, prime_most c.requires.0)
 
 divided-requires : tie.Need-divided-requires
 divided-requires c κs = (c.requires.0, omega (arith, product_most c.requires.1 c.requires.3, product_most c.requires.2 c.requires.4, prime_pos c.args.m))
@@ -22,4 +22,4 @@ returns : tie.Need-returns
 returns c = search rules
 
 pub weighed_spec : {M : Type 1} → statement M
-weighed_spec = tie.close (tie.spec mul-divided mul-divided-2 add-divided divided-requires returns)
+weighed_spec = tie.close (tie.spec overflow_mul-c overflow_mul-d overflow_add-c divided-requires returns)

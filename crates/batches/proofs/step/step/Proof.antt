@@ -11,121 +11,121 @@ use Rattle.batches.proofs.LaneLaw.{lane_parts}
 use Rattle.batches.proofs.step.step.Statement.{statement}
 use Rattle.batches.proofs.step.step.Tie as tie
 
-abbrev invariant-loop : tie.invariant-loop
-invariant-loop m re im sre sim inner outer lines from to₀ stride skip exponent y₀ first₀ a₀ base₀ k₀ to y first a base k = PassingLanes m (table_root m re im) from inner outer lines first a base k to × (length y ≡ 160)
+abbrev invariant-loop-first : tie.invariant-loop-first
+invariant-loop-first m re im sre sim inner outer lines from to₀ stride skip exponent y₀ first₀ a₀ base₀ k₀ to y first a base k = PassingLanes m (table_root m re im) from inner outer lines first a base k to × (length y ≡ 160)
 
-abbrev decreases-loop : tie.decreases-loop
-decreases-loop m re im sre sim inner outer lines from to₀ stride skip exponent y₀ first₀ a₀ base₀ k₀ to y first a base k = lines * inner - first
+abbrev decreases-loop-first : tie.decreases-loop-first
+decreases-loop-first m re im sre sim inner outer lines from to₀ stride skip exponent y₀ first₀ a₀ base₀ k₀ to y first a base k = lines * inner - first
 
-mul-stride : tie.Need-overflow-mul-stride invariant-loop decreases-loop
-mul-stride c = omega (arith, stride_le c.before.before.requires.1.0.0)
+overflow_mul-stride : tie.Need-overflow_mul-stride invariant-loop-first decreases-loop-first
+overflow_mul-stride c = omega (arith, stride_le c.requires.1.0.0)
 
-mul-skip : tie.Need-overflow-mul-skip invariant-loop decreases-loop
-mul-skip c = omega (arith, product_le c.before.before.requires.1.0.0)
+overflow_mul-skip : tie.Need-overflow_mul-skip invariant-loop-first decreases-loop-first
+overflow_mul-skip c = omega (arith, product_le c.requires.1.0.0)
 
-sub-skip : tie.Need-overflow-sub-skip invariant-loop decreases-loop
-sub-skip c =
-    let s = c.before.before in
+overflow_sub-skip : tie.Need-overflow_sub-skip invariant-loop-first decreases-loop-first
+overflow_sub-skip c =
+    let s = c in
     omega (arith, rows_wide s.args.inner (outer_pos s.requires.1.0.0))
 
-mul-exponent : tie.Need-overflow-mul-exponent invariant-loop decreases-loop
-mul-exponent c = omega (arith, product_le c.before.before.requires.1.0.0)
+overflow_mul-exponent : tie.Need-overflow_mul-exponent invariant-loop-first decreases-loop-first
+overflow_mul-exponent c = omega (arith, product_le c.requires.1.0.0)
 
-div-exponent : tie.Need-nonzero-div-exponent invariant-loop decreases-loop
-div-exponent c = omega (arith, product_pos c.before.before.requires.1.0.0)
+nonzero_div-exponent : tie.Need-nonzero_div-exponent invariant-loop-first decreases-loop-first
+nonzero_div-exponent c = omega (arith, product_pos c.requires.1.0.0)
 
-loop-holds : tie.Need-loop-init invariant-loop decreases-loop
-loop-holds c =
-    let s = c.before.before in
+loop-first-init : tie.Need-loop-first-init invariant-loop-first decreases-loop-first
+loop-first-init c =
+    let s = c in
     (passing_start s.requires.1.0.0.inner s.requires.1.0.2, length-replicate {A = ℕ} 160 0)
 
-outer-sums-requires : tie.Need-outer-sums-requires invariant-loop decreases-loop
-outer-sums-requires c κs =
+outer_sums-requires : tie.Need-outer_sums-requires invariant-loop-first decreases-loop-first
+outer_sums-requires c κs =
     let at-loop-test = c.before.before in
     let at-loop = at-loop-test.before in
-    let s = at-loop.before.before.before in
+    let s = at-loop in
     let h = s.requires.1.0.0 in
-    let v = at-loop.loop.invariant.0 in
-    let l = at-loop-test.loop-test.true in
-    (s.requires.0, ((h.low, h.high, passing_apart v l h s.requires.1.0.1, s.requires.1.1.0, at-loop.loop.invariant.1), (h.inner, passing_stores v l, λ one. passing_first v l (s.requires.1.1.1 one) one)))
+    let v = at-loop.loop-first.invariant.0 in
+    let l = at-loop-test.loop-first-test.true in
+    (s.requires.0, ((h.low, h.high, passing_apart v l h s.requires.1.0.1, s.requires.1.1.0, at-loop.loop-first.invariant.1), (h.inner, passing_stores v l, λ one. passing_first v l (s.requires.1.1.1 one) one)))
 
-add-first : tie.Need-overflow-add-first invariant-loop decreases-loop
-add-first c =
+overflow_add-first : tie.Need-overflow_add-first invariant-loop-first decreases-loop-first
+overflow_add-first c =
     let at-loop-test = c.before.before.before.before.before in
-    let s = at-loop-test.before.before.before.before in
-    omega (arith, at-loop-test.loop-test.true, stride_le s.requires.1.0.0)
+    let s = at-loop-test in
+    omega (arith, at-loop-test.loop-first-test.true, stride_le s.requires.1.0.0)
 
-add_a : tie.Need-overflow-add-a invariant-loop decreases-loop
-add_a c =
-    let at-loop-test = c.before.before.before.before.before in
-    let at-loop = at-loop-test.before in
-    let s = at-loop.before.before.before in
-    omega (arith, passing_column at-loop.loop.invariant.0 at-loop-test.loop-test.true s.requires.1.0.0)
-
-add-base : tie.Need-overflow-add-base invariant-loop decreases-loop
-add-base c =
+overflow_add-a : tie.Need-overflow_add-a invariant-loop-first decreases-loop-first
+overflow_add-a c =
     let at-loop-test = c.before.before.before.before.before in
     let at-loop = at-loop-test.before in
-    let s = at-loop.before.before.before in
-    omega (arith, passing_base at-loop.loop.invariant.0 at-loop-test.loop-test.true s.requires.1.0.0)
+    let s = at-loop in
+    omega (arith, passing_column at-loop.loop-first.invariant.0 at-loop-test.loop-first-test.true s.requires.1.0.0)
 
-add-k : tie.Need-overflow-add-k invariant-loop decreases-loop
-add-k c =
+overflow_add-base : tie.Need-overflow_add-base invariant-loop-first decreases-loop-first
+overflow_add-base c =
     let at-loop-test = c.before.before.before.before.before in
     let at-loop = at-loop-test.before in
-    let s = at-loop.before.before.before in
-    omega (arith, passing_exponent at-loop.loop.invariant.0 at-loop-test.loop-test.true s.requires.1.0.0)
+    let s = at-loop in
+    omega (arith, passing_base at-loop.loop-first.invariant.0 at-loop-test.loop-first-test.true s.requires.1.0.0)
 
-add-base-2 : tie.Need-overflow-add-base-2 invariant-loop decreases-loop
-add-base-2 c =
+overflow_add-k : tie.Need-overflow_add-k invariant-loop-first decreases-loop-first
+overflow_add-k c =
+    let at-loop-test = c.before.before.before.before.before in
+    let at-loop = at-loop-test.before in
+    let s = at-loop in
+    omega (arith, passing_exponent at-loop.loop-first.invariant.0 at-loop-test.loop-first-test.true s.requires.1.0.0)
+
+overflow_add-base-then-a-inner : tie.Need-overflow_add-base-then-a-inner invariant-loop-first decreases-loop-first
+overflow_add-base-then-a-inner c =
     let at-loop-test = c.before.before.before.before.before.before in
     let at-loop = at-loop-test.before in
-    let s = at-loop.before.before.before in
-    omega (arith, passing_base at-loop.loop.invariant.0 at-loop-test.loop-test.true s.requires.1.0.0)
+    let s = at-loop in
+    omega (arith, passing_base at-loop.loop-first.invariant.0 at-loop-test.loop-first-test.true s.requires.1.0.0)
 
-loop-less : tie.Need-loop-smaller invariant-loop decreases-loop
-loop-less c =
-    let at-loop-test = c.before.before.before.before.before.before in
-    omega (arith, at-loop-test.loop-test.true)
+loop-first-smaller-then-a-inner : tie.Need-loop-first-smaller-then-a-inner invariant-loop-first decreases-loop-first
+loop-first-smaller-then-a-inner c =
+    let at-loop-test = c in
+    omega (arith, at-loop-test.loop-first-test.true)
 
-loop-again : tie.Need-loop-preserved invariant-loop decreases-loop
-loop-again c =
+loop-first-preserved-then-a-inner : tie.Need-loop-first-preserved-then-a-inner invariant-loop-first decreases-loop-first
+loop-first-preserved-then-a-inner c =
     let at-sums = c.before.before.before in
     let at-loop-test = at-sums.before.before.before in
     let at-loop = at-loop-test.before in
-    let s = at-loop.before.before.before in
-    (passing_again at-loop.loop.invariant.0 at-loop-test.loop-test.true at-sums.outer-sums.ensures.0 (outer_pos s.requires.1.0.0) c.if1.true, at-sums.outer-sums.ensures.1)
+    let s = at-loop in
+    (passing_again at-loop.loop-first.invariant.0 at-loop-test.loop-first-test.true at-sums.outer_sums.ensures.0 (outer_pos s.requires.1.0.0) c.if-a-inner.true, at-sums.outer_sums.ensures.1)
 
-loop-less-2 : tie.Need-loop-smaller-2 invariant-loop decreases-loop
-loop-less-2 c =
-    let at-loop-test = c.before.before.before.before.before.before in
-    omega (arith, at-loop-test.loop-test.true)
+loop-first-smaller : tie.Need-loop-first-smaller invariant-loop-first decreases-loop-first
+loop-first-smaller c =
+    let at-loop-test = c in
+    omega (arith, at-loop-test.loop-first-test.true)
 
-loop-again-2 : tie.Need-loop-preserved-2 invariant-loop decreases-loop
-loop-again-2 c =
+loop-first-preserved : tie.Need-loop-first-preserved invariant-loop-first decreases-loop-first
+loop-first-preserved c =
     let at-sums = c.before.before.before in
     let at-loop-test = at-sums.before.before.before in
-    let at-loop = at-loop-test.before in
-    (passing_next at-loop.loop.invariant.0 at-loop-test.loop-test.true at-sums.outer-sums.ensures.0 c.if1.false, at-sums.outer-sums.ensures.1)
+    let at-loop = at-loop-test in
+    (passing_next at-loop.loop-first.invariant.0 at-loop-test.loop-first-test.true at-sums.outer_sums.ensures.0 c.if-a-inner.false, at-sums.outer_sums.ensures.1)
 
-same_length : tie.Need-same-length invariant-loop decreases-loop
-same_length c =
+shape_of-to : tie.Need-shape_of-to invariant-loop-first decreases-loop-first
+shape_of-to c =
     let at-loop = c.before in
-    let s = at-loop.before.before.before in
-    omega (arith, at-loop.loop.invariant.0.long, s.requires.1.0.2)
+    let s = at-loop in
+    omega (arith, at-loop.loop-first.invariant.0.long, s.requires.1.0.2)
 
-returns : tie.Need-returns invariant-loop decreases-loop
+returns : tie.Need-returns invariant-loop-first decreases-loop-first
 returns c =
     let at-loop = c.before in
-    let s = at-loop.before.before.before in
-    let h = at-loop.loop.invariant.0 in
-    let left = passing_done h c.loop-test.false s.requires.1.1.0 in (
+    let s = at-loop in
+    let h = at-loop.loop-first.invariant.0 in
+    let left = passing_done h c.loop-first-test.false s.requires.1.1.0 in (
       left,
       (
-        λ X up. up_of h.long (λ v j hv lj. let g = passing_all h c.loop-test.false X up v j hv lj in (g.re, g.im)),
+        λ X up. up_of h.long (λ v j hv lj. let g = passing_all h c.loop-first-test.false X up v j hv lj in (g.re, g.im)),
         record { each = λ v lv X came. lane_parts s.args.m _ left lv s.requires.1.0.0 s.requires.0.1.cycle X came },
       ),
     )
 
 pub step_spec : {M : Type 1} → statement M
-step_spec = tie.close (tie.spec invariant-loop decreases-loop mul-stride mul-skip sub-skip mul-exponent div-exponent loop-holds outer-sums-requires add-first add_a add-base add-k add-base-2 loop-less loop-again loop-less-2 loop-again-2 same_length returns)
+step_spec = tie.close (tie.spec invariant-loop-first decreases-loop-first overflow_mul-stride overflow_mul-skip overflow_sub-skip overflow_mul-exponent nonzero_div-exponent loop-first-init outer_sums-requires overflow_add-first overflow_add-a overflow_add-base overflow_add-k overflow_add-base-then-a-inner loop-first-smaller-then-a-inner loop-first-preserved-then-a-inner loop-first-smaller loop-first-preserved shape_of-to returns)

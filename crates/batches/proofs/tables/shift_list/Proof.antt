@@ -8,50 +8,50 @@ use Rattle.batches.proofs.LastReduction.{shifting_start, shifting_next, shifting
 use Rattle.batches.proofs.tables.shift_list.Statement.{statement}
 use Rattle.batches.proofs.tables.shift_list.Tie as tie
 
-abbrev invariant-loop : tie.invariant-loop
-invariant-loop m from to₀ c k₀ to k = ShiftedList m from k to
+abbrev invariant-loop-k : tie.invariant-loop-k
+invariant-loop-k m from to₀ c k₀ to k = ShiftedList m from k to
 
-abbrev decreases-loop : tie.decreases-loop
-decreases-loop m from to₀ c k₀ to k = 2880 - k
+abbrev decreases-loop-k : tie.decreases-loop-k
+decreases-loop-k m from to₀ c k₀ to k = 2880 - k
 
-shift-requires : tie.Need-shift-requires invariant-loop decreases-loop
-shift-requires c κs = c.requires.0
+shift-c-requires : tie.Need-shift-c-requires invariant-loop-k decreases-loop-k
+shift-c-requires c κs = c.requires.0
 
-loop-holds : tie.Need-loop-init invariant-loop decreases-loop
-loop-holds c = shifting_start c.before.requires.2
+loop-k-init : tie.Need-loop-k-init invariant-loop-k decreases-loop-k
+loop-k-init c = shifting_start c.before.requires.2
 
-mul-mul : tie.Need-overflow-mul-mul invariant-loop decreases-loop
-mul-mul c = omega (arith, c.loop-test.true)
+offset_bounds-from-k : tie.Need-offset_bounds-from-k invariant-loop-k decreases-loop-k
+offset_bounds-from-k c = omega (arith, c.loop-k-test.true)
 
-element-copy-out-mul : tie.Need-element-copy-out-mul invariant-loop decreases-loop
-element-copy-out-mul c = omega (arith, c.loop-test.true)
+bounds-from-k : tie.Need-bounds-from-k invariant-loop-k decreases-loop-k
+bounds-from-k c = omega (arith, c.loop-k-test.true)
 
-mul-requires : tie.Need-mul-requires invariant-loop decreases-loop
+mul-requires : tie.Need-mul-requires invariant-loop-k decreases-loop-k
 mul-requires c κs =
     let t = c.before in
     let f = t.before.before in
     let s = f.before in
-    (s.requires.0, below_by s.args.m (res s.args.m 4294967296) f.shift.ensures, s.requires.1 _ t.loop-test.true)
+    (s.requires.0, below_by s.args.m (res s.args.m 4294967296) f.shift-c.ensures, s.requires.1 _ t.loop-k-test.true)
 
-mul-to : tie.Need-overflow-mul-to invariant-loop decreases-loop
-mul-to c = omega (arith, c.before.before.loop-test.true)
+offset_bounds-to-k : tie.Need-offset_bounds-to-k invariant-loop-k decreases-loop-k
+offset_bounds-to-k c = omega (arith, c.before.before.loop-k-test.true)
 
-element-write-to : tie.Need-element-write-to invariant-loop decreases-loop
-element-write-to c = omega (arith, c.before.before.loop-test.true)
+bounds-to-k : tie.Need-bounds-to-k invariant-loop-k decreases-loop-k
+bounds-to-k c = omega (arith, c.before.before.loop-k-test.true)
 
-add-k : tie.Need-overflow-add-k invariant-loop decreases-loop
-add-k c = omega (arith, c.before.before.loop-test.true)
+overflow_add-k : tie.Need-overflow_add-k invariant-loop-k decreases-loop-k
+overflow_add-k c = omega (arith, c.before.before.loop-k-test.true)
 
-loop-less : tie.Need-loop-smaller invariant-loop decreases-loop
-loop-less c = omega (arith, c.before.before.loop-test.true)
+loop-k-smaller : tie.Need-loop-k-smaller invariant-loop-k decreases-loop-k
+loop-k-smaller c = omega (arith, c.before.before.loop-k-test.true)
 
-loop-again : tie.Need-loop-preserved invariant-loop decreases-loop
-loop-again c =
+loop-k-preserved : tie.Need-loop-k-preserved invariant-loop-k decreases-loop-k
+loop-k-preserved c =
     let t = c.before.before in
-    shifting_next t.before.loop.invariant t.loop-test.true t.before.before.shift.ensures c.mul.ensures
+    shifting_next t.before.loop-k.invariant t.loop-k-test.true t.before.before.shift-c.ensures c.mul.ensures
 
-returns : tie.Need-returns invariant-loop decreases-loop
-returns c = shifting_done c.before.loop.invariant c.loop-test.false
+returns : tie.Need-returns invariant-loop-k decreases-loop-k
+returns c = shifting_done c.before.loop-k.invariant c.loop-k-test.false
 
 pub shift_list_spec : {M : Type 1} → statement M
-shift_list_spec = tie.close (tie.spec invariant-loop decreases-loop shift-requires loop-holds mul-mul element-copy-out-mul mul-requires mul-to element-write-to add-k loop-less loop-again returns)
+shift_list_spec = tie.close (tie.spec invariant-loop-k decreases-loop-k shift-c-requires loop-k-init offset_bounds-from-k bounds-from-k mul-requires offset_bounds-to-k bounds-to-k overflow_add-k loop-k-smaller loop-k-preserved returns)

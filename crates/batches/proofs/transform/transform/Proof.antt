@@ -7,127 +7,111 @@ use Rattle.batches.proofs.DrivingLanes.{LentLanes, StandingLanes, lanes_start, l
 use Rattle.batches.proofs.transform.transform.Statement.{statement}
 use Rattle.batches.proofs.transform.transform.Tie as tie
 
-abbrev invariant-loop : tie.invariant-loop
-invariant-loop m re im sre sim factors n line₀ work₀ at₀ line work at = DrivingLanes m (table_root m re im) factors n at line₀ line work
+abbrev invariant-loop-at : tie.invariant-loop-at
+invariant-loop-at m re im sre sim factors n line₀ work₀ at₀ line work at = DrivingLanes m (table_root m re im) factors n at line₀ line work
 
-abbrev decreases-loop : tie.decreases-loop
-decreases-loop m re im sre sim factors n line₀ work₀ at₀ line work at = at.left
+abbrev decreases-loop-at : tie.decreases-loop-at
+decreases-loop-at m re im sre sim factors n line₀ work₀ at₀ line work at = at.left
 
-abbrev St : tie.At-loop invariant-loop decreases-loop → tie.Start invariant-loop decreases-loop
+abbrev St : tie.At-loop-at invariant-loop-at decreases-loop-at → tie.Start invariant-loop-at decreases-loop-at
 St l = l.before.before.before
 
-lent : (s : tie.Start invariant-loop decreases-loop) → LentLanes s.args.m (table_root s.args.m s.args.re.now s.args.im.now) s.args.factors s.args.n s.args.line.now
+lent : (s : tie.Start invariant-loop-at decreases-loop-at) → LentLanes s.args.m (table_root s.args.m s.args.re.now s.args.im.now) s.args.factors s.args.n s.args.line.now
 lent s = record { modulus = s.requires.0.0; list = s.requires.1.0.0; divides = s.requires.1.0.1; cycle = s.requires.0.1.cycle; long = s.requires.1.1.0; low = s.requires.1.1.2 }
 
-loop-holds : tie.Need-loop-init invariant-loop decreases-loop
-loop-holds c = let s = c.before.before in record { place = 0; stands = lanes_start (lent s); work_long = s.requires.1.1.1 }
+loop-at-init : tie.Need-loop-at-init invariant-loop-at decreases-loop-at
+loop-at-init c = let s = c.before.before in record { place = 0; stands = lanes_start (lent s); work_long = s.requires.1.1.1 }
 
-next-step-requires : tie.Need-next-step-requires invariant-loop decreases-loop
-next-step-requires c κs =
-    let l = c.before.before.before.before in
+next_step-at-requires : tie.Need-next_step-at-requires invariant-loop-at decreases-loop-at
+next_step-at-requires c κs =
+    let l = c.before.before.before in
     let s = St l in
-    (s.pre.0, lanes_asks (lent s) l.loop.invariant.stands (omega arith) l.loop.invariant.work_long)
+    (s.requires.0, lanes_asks (lent s) l.loop-at.invariant.stands (omega arith) l.loop-at.invariant.work_long)
 
 -- where the round of a first step began
-abbrev Round : tie.After-next-step invariant-loop decreases-loop → tie.At-loop invariant-loop decreases-loop
-Round t = t.before.before.before.before.before
+abbrev Round : tie.After-next_step-at invariant-loop-at decreases-loop-at → tie.At-loop-at invariant-loop-at decreases-loop-at
+Round t = t.before.before.before.before
 
-next-step-requires-2 : tie.Need-next-step-requires-2 invariant-loop decreases-loop
-next-step-requires-2 c κs =
-    let w = c.before.before.before in
+next_step-at-requires-in-loop-at : tie.Need-next_step-at-requires-in-loop-at invariant-loop-at decreases-loop-at
+next_step-at-requires-in-loop-at c κs =
+    let w = c.before.before in
     let t = w.before in
     let l = Round t in
     let s = St l in
-    let e = t.next-step.ensures.0 in
-    let h = lanes_next (lent s) l.loop.inv.stands (omega arith) e t.next-step.ensures.1.0 t.next-step.ensures.1.1 (omega (arith, w.work.given, l.loop.inv.work_long)) in
-    (s.pre.0, lanes_asks (lent s) h (omega (arith, after_left l.loop.at e)) l.loop.inv.stands.long)
+    let e = t.next_step-at.ensures.0 in
+    let h = lanes_next (lent s) l.loop-at.invariant.stands (omega arith) e t.next_step-at.ensures.1.0 t.next_step-at.ensures.1.1 (omega (arith, w.work-1.given, l.loop-at.invariant.work_long)) in
+    (s.requires.0, lanes_asks (lent s) h (omega (arith, after_left l.loop-at.at e)) l.loop-at.invariant.stands.long)
 
-loop-less : tie.Need-loop-smaller invariant-loop decreases-loop
-loop-less c =
+loop-at-smaller : tie.Need-loop-at-smaller invariant-loop-at decreases-loop-at
+loop-at-smaller c =
     let u = c.before.before in
-    let t = u.before.before.before.before.before in
-    omega (arith, after_left (Round t).loop.at t.next-step.ensures.0, after_left t.next-step.result u.next-step2.ensures.0)
+    let t = u.before.before.before.before in
+    omega (arith, after_left (Round t).loop-at.at t.next_step-at.ensures.0, after_left t.next_step-at.result u.next_step-at-in-loop-at.ensures.0)
 
-loop-again : tie.Need-loop-preserved invariant-loop decreases-loop
-loop-again c =
+loop-at-preserved : tie.Need-loop-at-preserved invariant-loop-at decreases-loop-at
+loop-at-preserved c =
     let d = c.before in
     let u = d.before in
-    let w = u.before.before.before.before in
+    let w = u.before.before.before in
     let t = w.before in
     let l = Round t in
     let s = St l in
-    let e = t.next-step.ensures.0 in
-    let h = lanes_next (lent s) l.loop.inv.stands (omega arith) e t.next-step.ensures.1.0 t.next-step.ensures.1.1 (omega (arith, w.work.given, l.loop.inv.work_long)) in
-    let h' = lanes_next (lent s) h (omega (arith, after_left l.loop.at e)) u.next-step2.ensures.0 u.next-step2.ensures.1.0 u.next-step2.ensures.1.1 (omega (arith, d.line.given, l.loop.inv.stands.long)) in
+    let e = t.next_step-at.ensures.0 in
+    let h = lanes_next (lent s) l.loop-at.invariant.stands (omega arith) e t.next_step-at.ensures.1.0 t.next_step-at.ensures.1.1 (omega (arith, w.work-1.given, l.loop-at.invariant.work_long)) in
+    let h' = lanes_next (lent s) h (omega (arith, after_left l.loop-at.at e)) u.next_step-at-in-loop-at.ensures.0 u.next_step-at-in-loop-at.ensures.1.0 u.next_step-at-in-loop-at.ensures.1.1 (omega (arith, d.line-1.given, l.loop-at.invariant.stands.long)) in
     record { place = _; stands = h'; work_long = h.long }
 
-next-step-requires-3 : tie.Need-next-step-requires-3 invariant-loop decreases-loop
-next-step-requires-3 c κs =
-    let l = c.before.before.before.before.before.before in
+next_step-requires : tie.Need-next_step-requires invariant-loop-at decreases-loop-at
+next_step-requires c κs =
+    let l = c.before.before.before.before.before in
     let s = St l in
-    (s.pre.0, lanes_asks (lent s) l.loop.invariant.stands (omega arith) l.loop.invariant.work_long)
+    (s.requires.0, lanes_asks (lent s) l.loop-at.invariant.stands (omega arith) l.loop-at.invariant.work_long)
 
-mul-copy : tie.Need-overflow-mul-copy invariant-loop decreases-loop
-mul-copy c =
-    let l = c.before.before.before.before.before.before.before.before.before.before.before in
-    omega (arith, l.loop.invariant.stands.long)
+overflow_mul-n : tie.Need-overflow_mul-n invariant-loop-at decreases-loop-at
+overflow_mul-n c =
+    let l = c in
+    omega (arith, l.loop-at.invariant.stands.long)
 
-copy-requires : tie.Need-copy-requires invariant-loop decreases-loop
+copy-requires : tie.Need-copy-requires invariant-loop-at decreases-loop-at
 copy-requires c κs =
-    let w = c.before.before.before in
-    let l = w.before.before.before.before.before.before.before.before in
-    (omega (arith, w.work2.given, l.loop.invariant.work_long), omega (arith, l.loop.invariant.stands.long))
+    let w = c.before.before in
+    let l = w in
+    (omega (arith, w.work-then-at-ne0-1.given, l.loop-at.invariant.work_long), omega (arith, l.loop-at.invariant.stands.long))
 
-same_length : tie.Need-same-length invariant-loop decreases-loop
-same_length c =
-    let l = c.before.before.before.before.before.before.before.before.before.before.before.before.before.before in
-    omega (arith, c.before.line2.given, l.loop.invariant.stands.long, (St l).requires.1.1.0)
+shape_of-line-then-at-ne0 : tie.Need-shape_of-line-then-at-ne0 invariant-loop-at decreases-loop-at
+shape_of-line-then-at-ne0 c =
+    let l = c.before.before.before.before.before.before.before.before.before.before.before.before in
+    omega (arith, c.line-then-at-ne0-1.given, l.loop-at.invariant.stands.long, (St l).requires.1.1.0)
 
-same-length-2 : tie.Need-same-length-2 invariant-loop decreases-loop
-same-length-2 c =
-    let w = c.before.before.before.before.before.before in
-    let l = w.before.before.before.before.before.before.before.before in
-    omega (arith, w.work2.given, l.loop.invariant.work_long, (St l).requires.1.1.1)
+shape_of-work-then-at-ne0 : tie.Need-shape_of-work-then-at-ne0 invariant-loop-at decreases-loop-at
+shape_of-work-then-at-ne0 c =
+    let w = c.before.before.before.before.before in
+    let l = w.before.before.before.before.before.before.before in
+    omega (arith, w.work-then-at-ne0-1.given, l.loop-at.invariant.work_long, (St l).requires.1.1.1)
 
-returns : tie.Need-returns invariant-loop decreases-loop
-returns c =
+returns-then-at-ne0 : tie.Need-returns-then-at-ne0 invariant-loop-at decreases-loop-at
+returns-then-at-ne0 c =
     let k = c.before.before in
-    let w = k.before.before.before.before in
-    let t = w.before in
+    let w = k.before.before.before in
+    let t = w in
     let l = t.before.before.before.before.before.before.before in
     let s = St l in
-    let e = t.next-step3.ensures.0 in
-    let h = lanes_next (lent s) l.loop.invariant.stands (omega arith) e t.next-step3.ensures.1.0 t.next-step3.ensures.1.1 (omega (arith, w.work2.given, l.loop.invariant.work_long)) in
-    lanes_copied l.loop.line (lanes_end (lent s) h (omega (arith, after_left l.loop.at e, t.before.before.before.before.before.if1.false))) l.loop.invariant.stands.long k.copy.ensures
+    let e = t.next_step.ensures.0 in
+    let h = lanes_next (lent s) l.loop-at.invariant.stands (omega arith) e t.next_step.ensures.1.0 t.next_step.ensures.1.1 (omega (arith, w.work-then-at-ne0-1.given, l.loop-at.invariant.work_long)) in
+    lanes_copied l.loop-at.line (lanes_end (lent s) h (omega (arith, after_left l.loop-at.at e, t.loop-at-test.false))) l.loop-at.invariant.stands.long k.copy.ensures
 
-same-length-3 : tie.Need-same-length-3 invariant-loop decreases-loop
-same-length-3 c = let l = c.before.before.before.before in omega (arith, l.loop.invariant.stands.long, (St l).requires.1.1.0)
+shape_of-line-else-at-ne0 : tie.Need-shape_of-line-else-at-ne0 invariant-loop-at decreases-loop-at
+shape_of-line-else-at-ne0 c = let l = c.before.before.before.before in omega (arith, l.loop-at.invariant.stands.long, (St l).requires.1.1.0)
 
-same-length-4 : tie.Need-same-length-4 invariant-loop decreases-loop
-same-length-4 c = let l = c.before.before.before.before in omega (arith, l.loop.invariant.work_long, (St l).requires.1.1.1)
+shape_of-work-else-at-ne0 : tie.Need-shape_of-work-else-at-ne0 invariant-loop-at decreases-loop-at
+shape_of-work-else-at-ne0 c = let l = c.before.before.before.before in omega (arith, l.loop-at.invariant.work_long, (St l).requires.1.1.1)
 
-returns-2 : tie.Need-returns-2 invariant-loop decreases-loop
-returns-2 c =
+returns-else-at-ne0 : tie.Need-returns-else-at-ne0 invariant-loop-at decreases-loop-at
+returns-else-at-ne0 c =
     let l = c.before.before.before.before in
-    lanes_end (lent (St l)) l.loop.invariant.stands (omega arith)
+    lanes_end (lent (St l)) l.loop-at.invariant.stands (omega arith)
 
 pub transform_spec : {M : Type 1} → statement M
 transform_spec =
     tie.close
-    (tie.spec
-    invariant-loop
-    decreases-loop
-    loop-holds
-    next-step-requires
-    next-step-requires-2
-    loop-less
-    loop-again
-    next-step-requires-3
-    mul-copy
-    copy-requires
-    same_length
-    same-length-2
-    returns
-    same-length-3
-    same-length-4
-    returns-2)
+    (tie.spec invariant-loop-at decreases-loop-at loop-at-init next_step-at-requires next_step-at-requires-in-loop-at loop-at-smaller loop-at-preserved next_step-requires overflow_mul-n copy-requires shape_of-line-then-at-ne0 shape_of-work-then-at-ne0 returns-then-at-ne0 shape_of-line-else-at-ne0 shape_of-work-else-at-ne0 returns-else-at-ne0)

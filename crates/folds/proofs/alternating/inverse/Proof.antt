@@ -15,50 +15,50 @@ use Rattle.folds.proofs.AlternatingLine.{back_by}
 use Rattle.folds.proofs.alternating.inverse.Statement.{statement}
 use Rattle.folds.proofs.alternating.inverse.Tie as tie
 
-share-requires : tie.Need-share-requires
-share-requires c κs = let f = c.before.before.before.requires.0.0 in (f.modulus, f.positive, half_most f)
+share-share-requires : tie.Need-share-share-requires
+share-share-requires c κs = let f = c.requires.0.0 in (f.modulus, f.positive, half_most f)
 
-twice-sum-requires : tie.Need-twice-sum-requires
-twice-sum-requires c κs =
-    let s = c.before.before.before.before.before in
+twice_sum-twice-requires : tie.Need-twice_sum-twice-requires
+twice_sum-twice-requires c κs =
+    let s = c in
     (s.requires.0.0.modulus, (omega (arith, s.requires.0.0.positive, s.requires.1.0.0), s.requires.1.0.1))
 
-inverse-short-line-requires : tie.Need-inverse-short-line-requires
-inverse-short-line-requires c κs = search rules
+inverse_short_line-requires : tie.Need-inverse_short_line-requires
+inverse_short_line-requires c κs = search rules
 
 transform-requires : tie.Need-transform-requires
 transform-requires c κs =
     let w = c.before.before.before.before in
-    let s = w.before.before.before.before.before.before.before.before.before in
+    let s = w in
     let f = s.requires.0.0 in
     let m = s.args.m in
     let a = s.args.a in
     let g = on_values m alternating_spectrum a (λ k. (field m).neg (tangent m a s.args.tan.now k)) (values_of m s.args.line.now) in
-    ((f.modulus, f.table), ((s.requires.0.2, half_divides f), ((length_of_lem m a g w.inverse-short-line.ensures, s.requires.1.1.1), below_of m a g w.inverse-short-line.ensures)))
+    ((f.modulus, f.table), ((s.requires.0.2, half_divides f), ((length_of_lem m a g w.inverse_short_line.ensures, s.requires.1.1.1), below_of m a g w.inverse_short_line.ensures)))
 
 pack-requires : tie.Need-pack-requires
 pack-requires c κs =
-    let t = c.before.before.before.before.before.before in
-    let w = t.before.before.before.before.before in
-    let o = w.before.before.before in
-    let r = o.before.before in
-    let s = r.before.before.before.before in
+    let t = c.before.before.before.before.before in
+    let w = t.before.before.before.before in
+    let o = w.before.before in
+    let r = o in
+    let s = r in
     let f = s.requires.0.0 in
     let m = s.args.m in
     let a = s.args.a in
-    let g = dft (field m) a (pow (field m) (table_root m s.args.re.now s.args.im.now) (2880 / a)) (values_of m w.inverse-short-line.new.1.1.1.1.0) in
-    ((f.modulus, r.share.ensures.1, o.twice-sum.ensures.0), ((length_of_lem m a g t.transform.ensures.0, below_of m a g t.transform.ensures.0), s.requires.1.0.0))
+    let g = dft (field m) a (pow (field m) (table_root m s.args.re.now s.args.im.now) (2880 / a)) (values_of m w.inverse_short_line.new.fold) in
+    ((f.modulus, r.share-share.ensures.1, o.twice_sum-twice.ensures.0), ((length_of_lem m a g t.transform.ensures.0, below_of m a g t.transform.ensures.0), s.requires.1.0.0))
 
-same_length : tie.Need-same-length
-same_length c = c.before.before.pack.auto.1.1.1.1.1.0
+shape_of-line : tie.Need-shape_of-line
+shape_of-line c = c.pack.auto.line
 
-same-length-2 : tie.Need-same-length-2
-same-length-2 c =
-    let t = c.before.before.before.before.before.before.before.before.before in
-    t.transform.auto.1.1.1.1.1.0 ∙ t.before.before.before.before.before.inverse-short-line.auto.1.1.1.1.0
+shape_of-fold : tie.Need-shape_of-fold
+shape_of-fold c =
+    let t = c in
+    t.transform.auto.line ∙ t.inverse_short_line.auto.fold
 
-same-length-3 : tie.Need-same-length-3
-same-length-3 c = c.before.before.before.before.before.before.before.before.before.transform.auto.1.1.1.1.1.1.0
+shape_of-work : tie.Need-shape_of-work
+shape_of-work c = c.transform.auto.work
 
 returns : tie.Need-returns
 returns c =
@@ -66,22 +66,13 @@ returns c =
     let t = e.before.before.before.before.before.before.before in
     let w = t.before.before.before.before.before in
     let o = w.before.before.before in
-    let r = o.before.before in
-    let s = r.before.before.before.before in
+    let r = o.before in
+    let s = r in
     let f = s.requires.0.0 in
     back_by s.args.m s.args.a f (λ k. (field s.args.m).neg (tangent s.args.m s.args.a s.args.tan.now k)) (values_of s.args.m s.args.line.now)
-    (part s.args.m (2 * s.args.a)) e.pack.ensures r.share.ensures.0 (o.twice-sum.ensures.1 s.args.a) w.inverse-short-line.ensures t.transform.ensures.0
+    (part s.args.m (2 * s.args.a)) e.pack.ensures r.share-share.ensures.0 (o.twice_sum-twice.ensures.1 s.args.a) w.inverse_short_line.ensures t.transform.ensures.0
 
 pub inverse_spec : {M : Type 1} → statement M
 inverse_spec =
     tie.close
-    (tie.spec
-    share-requires
-    twice-sum-requires
-    inverse-short-line-requires
-    transform-requires
-    pack-requires
-    same_length
-    same-length-2
-    same-length-3
-    returns)
+    (tie.spec share-share-requires twice_sum-twice-requires inverse_short_line-requires transform-requires pack-requires shape_of-line shape_of-fold shape_of-work returns)

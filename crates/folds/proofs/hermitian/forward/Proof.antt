@@ -19,58 +19,51 @@ use Rattle.folds.proofs.hermitian.forward.Tie as tie
 returns : tie.Need-returns
 returns c =
     let k = c.before.before in
-    let t = k.before.before.before.before.before.before.before in
-    let f = t.before.before.before.before.before in
-    let s = f.before.before.before.before.before.before in
+    let t = k.before.before.before.before.before.before in
+    let f = t.before.before.before.before in
+    let s = f in
     let m = s.args.m in
     let a = s.args.a in
-    let g = dft (field m) a (pow (field m) (table_root m s.args.re.now s.args.im.now) (2880 / a)) (values_of m f.short-line.new.1.1.1.1.1.1.0) in
+    let g = dft (field m) a (pow (field m) (table_root m s.args.re.now s.args.im.now) (2880 / a)) (values_of m f.short_line.new.out) in
     λ tan. k.copy.ensures
-    ∙ fills_whole a t.transform.new.1.1.1.1.1.0 s.args.line.now (length_of_lem m a g t.transform.ensures.0) s.requires.1.0.0
-    ∙ forward_list m a s.requires.0.0 s.args.anti (values_of m s.args.line.now) f.short-line.ensures t.transform.ensures.0 (real m (part m (2 * a))) (tangent m a tan)
+    ∙ fills_whole a t.transform.new.line s.args.line.now (length_of_lem m a g t.transform.ensures.0) s.requires.1.0.0
+    ∙ forward_list m a s.requires.0.0 s.args.anti (values_of m s.args.line.now) f.short_line.ensures t.transform.ensures.0 (real m (part m (2 * a))) (tangent m a tan)
 
-short-line-requires : tie.Need-short-line-requires
-short-line-requires c κs =
-    let s = c.before.before.before.before.before in
+short_line-requires : tie.Need-short_line-requires
+short_line-requires c κs =
+    let s = c in
     (s.requires.0.0, ((s.requires.1.0.0, s.requires.1.0.1), s.requires.1.1))
 
 transform-requires : tie.Need-transform-requires
 transform-requires c κs =
     let f = c.before.before.before.before in
-    let s = f.before.before.before.before.before.before in
+    let s = f in
     let m = s.args.m in
     let a = s.args.a in
     let g = fold_of m a (line_root m a s.args.re.now s.args.im.now) (to_hermitian m s.args.anti (values_of m s.args.line.now)) in (
       (s.requires.0.0.modulus, s.requires.0.0.table),
-      ((s.requires.0.1, half_divides s.requires.0.0), ((length_of_lem m a g f.short-line.ensures, s.requires.1.0.2), below_of m a g f.short-line.ensures)),
+      ((s.requires.0.1, half_divides s.requires.0.0), ((length_of_lem m a g f.short_line.ensures, s.requires.1.0.2), below_of m a g f.short_line.ensures)),
     )
 
 copy-requires : tie.Need-copy-requires
 copy-requires c κs =
-    let t = c.before.before.before.before.before.before in
+    let t = c.before.before.before.before.before in
     let f = t.before.before.before.before.before in
-    let s = f.before.before.before.before.before.before in
-    (le_of_eq (sym (t.transform.auto.1.1.1.1.1.0 ∙ f.short-line.auto.1.1.1.1.1.1.0 ∙ s.requires.1.0.1)), le_of_eq (sym s.requires.1.0.0))
+    let s = f in
+    (le_of_eq (sym (t.transform.auto.line ∙ f.short_line.auto.out ∙ s.requires.1.0.1)), le_of_eq (sym s.requires.1.0.0))
 
-same_length : tie.Need-same-length
-same_length c = c.before.before.copy.auto.1.0
+shape_of-line : tie.Need-shape_of-line
+shape_of-line c = c.copy.auto.dst
 
-same-length-2 : tie.Need-same-length-2
-same-length-2 c =
-    let t = c.before.before.before.before.before.before.before.before.before in
-    t.transform.auto.1.1.1.1.1.0 ∙ t.before.before.before.before.before.short-line.auto.1.1.1.1.1.1.0
+shape_of-fold : tie.Need-shape_of-fold
+shape_of-fold c =
+    let t = c in
+    t.transform.auto.line ∙ t.short_line.auto.out
 
-same-length-3 : tie.Need-same-length-3
-same-length-3 c = c.before.before.before.before.before.before.before.before.before.transform.auto.1.1.1.1.1.1.0
+shape_of-work : tie.Need-shape_of-work
+shape_of-work c = c.transform.auto.work
 
 pub forward_spec : {M : Type 1} → statement M
 forward_spec =
     tie.close
-    (tie.spec
-    short-line-requires
-    transform-requires
-    copy-requires
-    same_length
-    same-length-2
-    same-length-3
-    returns)
+    (tie.spec short_line-requires transform-requires copy-requires shape_of-line shape_of-fold shape_of-work returns)

@@ -15,70 +15,58 @@ near-inside s = step_inside s.args.a s.args.step s.requires.1.1 s.requires.1.3
 far-inside : (s : tie.Start) → s.args.step * (s.args.a - s.args.s) < 1440
 far-inside s = step_inside s.args.a s.args.step s.requires.1.1 (omega (arith, s.requires.1.2, s.requires.1.3))
 
-mul-near : tie.Need-overflow-mul-near
-mul-near c = omega (arith, near-inside c)
+overflow_mul-near : tie.Need-overflow_mul-near
+overflow_mul-near c = omega (arith, near-inside c)
 
-mul-near-2 : tie.Need-overflow-mul-near-2
-mul-near-2 c = omega (arith, near-inside c)
+offset_bounds-tan-step : tie.Need-offset_bounds-tan-step
+offset_bounds-tan-step c = omega (arith, near-inside c)
 
-element-copy-out-near : tie.Need-element-copy-out-near
-element-copy-out-near c = near-inside c
+bounds-tan-step : tie.Need-bounds-tan-step
+bounds-tan-step c = near-inside c.before
 
-sub-far : tie.Need-overflow-sub-far
-sub-far c = omega (arith, c.before.requires.1.3)
+overflow_sub-far : tie.Need-overflow_sub-far
+overflow_sub-far c = omega (arith, c.requires.1.3)
 
-mul-far : tie.Need-overflow-mul-far
-mul-far c = omega (arith, far-inside c.before)
+overflow_mul-far : tie.Need-overflow_mul-far
+overflow_mul-far c = omega (arith, far-inside c.before.before)
 
-mul-far-2 : tie.Need-overflow-mul-far-2
-mul-far-2 c = omega (arith, far-inside c.before)
+offset_bounds-tan-step-2 : tie.Need-offset_bounds-tan-step-2
+offset_bounds-tan-step-2 c = omega (arith, far-inside c.before.before)
 
-element-copy-out-far : tie.Need-element-copy-out-far
-element-copy-out-far c = far-inside c.before
+bounds-tan-step-2 : tie.Need-bounds-tan-step-2
+bounds-tan-step-2 c = far-inside c.before.before
 
 sub-requires : tie.Need-sub-requires
 sub-requires c κs =
-    let s = c.before.before in
+    let s = c.before.before.before in
     (s.requires.0.0, s.requires.0.1.below _ (far-inside s), s.requires.0.1.below _ (near-inside s))
 
 halve-requires : tie.Need-halve-requires
-halve-requires c κs = let s = c.before.before.before in (s.requires.0.0, difference_small s.args.m _ _ c.sub.ensures)
+halve-requires c κs = let s = c in (s.requires.0.0, difference_small s.args.m _ _ c.sub.ensures)
 
 add-requires : tie.Need-add-requires
 add-requires c κs =
-    let s = c.before.before.before.before in
+    let s = c.before.before.before.before.before in
     (s.requires.0.0, s.requires.0.1.below _ (near-inside s), s.requires.0.1.below _ (far-inside s))
 
 halve-requires-2 : tie.Need-halve-requires-2
-halve-requires-2 c κs = let s = c.before.before.before.before.before in (s.requires.0.0, sum_small s.args.m _ _ c.add.ensures)
+halve-requires-2 c κs = let s = c in (s.requires.0.0, sum_small s.args.m _ _ c.add.ensures)
 
 returns : tie.Need-returns
 returns c =
     let p = c.before in
     let h = p.before in
     let d = h.before in
-    let s = d.before.before.before in
+    let s = d in
     let m = s.args.m in
     let near = ap (λ k. get_or s.args.tan.now (k * s.args.s) 0) s.requires.1.0 in
     let far = ap (λ k. get_or s.args.tan.now (k * (s.args.a - s.args.s)) 0) s.requires.1.0 in (
-      record { re = half_small m _ h.halve.ensures; im = half_small m _ c.halve2.ensures },
+      record { re = half_small m _ h.halve.ensures; im = half_small m _ c.halve-2.ensures },
       cot_by m s.args.a s.args.tan.now s.args.s near far d.sub.ensures h.halve.ensures,
-      csc_by m s.args.a s.args.tan.now s.args.s near far p.add.ensures c.halve2.ensures,
+      csc_by m s.args.a s.args.tan.now s.args.s near far p.add.ensures c.halve-2.ensures,
     )
 
 pub angle_spec : {M : Type 1} → statement M
 angle_spec =
     tie.close
-    (tie.spec
-    mul-near
-    mul-near-2
-    element-copy-out-near
-    sub-far
-    mul-far
-    mul-far-2
-    element-copy-out-far
-    sub-requires
-    halve-requires
-    add-requires
-    halve-requires-2
-    returns)
+    (tie.spec overflow_mul-near offset_bounds-tan-step bounds-tan-step overflow_sub-far overflow_mul-far offset_bounds-tan-step-2 bounds-tan-step-2 sub-requires halve-requires add-requires halve-requires-2 returns)

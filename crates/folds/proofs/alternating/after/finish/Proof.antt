@@ -12,55 +12,44 @@ use Rattle.fold_formulas.specs.FoldFormulas.{tangent}
 use Rattle.folds.proofs.alternating.after.finish.Statement.{statement}
 use Rattle.folds.proofs.alternating.after.finish.Tie as tie
 
-abbrev invariant-loop : tie.invariant-loop
-invariant-loop m tan a odd fold line₀ step s₀ line s = FillingPairs (λ k. k) (λ s. pair_of (on_values m finish3 a (tangent m a tan) (values_of m fold) (real m (res m odd)) s)) a s line₀ line
+abbrev invariant-loop-s : tie.invariant-loop-s
+invariant-loop-s m tan a odd fold line₀ step s₀ line s = FillingPairs (λ k. k) (λ s. pair_of (on_values m finish3 a (tangent m a tan) (values_of m fold) (real m (res m odd)) s)) a s line₀ line
 
-abbrev decreases-loop : tie.decreases-loop
-decreases-loop m tan a odd fold line₀ step s₀ line s = a - s
+abbrev decreases-loop-s : tie.decreases-loop-s
+decreases-loop-s m tan a odd fold line₀ step s₀ line s = a - s
 
-div-step : tie.Need-nonzero-div-step invariant-loop decreases-loop
-div-step c = search rules
+nonzero_div-step : tie.Need-nonzero_div-step invariant-loop-s decreases-loop-s
+nonzero_div-step c = search rules
 
-loop-holds : tie.Need-loop-init invariant-loop decreases-loop
-loop-holds c = search fill
+loop-s-init : tie.Need-loop-s-init invariant-loop-s decreases-loop-s
+loop-s-init c = search fill
 
-finish-at-requires : tie.Need-finish-at-requires invariant-loop decreases-loop
-finish-at-requires c κs = search fill
+finish_at-v-requires : tie.Need-finish_at-v-requires invariant-loop-s decreases-loop-s
+finish_at-v-requires c κs = search fill
 
-store-requires : tie.Need-store-requires invariant-loop decreases-loop
+store-requires : tie.Need-store-requires invariant-loop-s decreases-loop-s
 store-requires c κs = search fill
 
-add-s : tie.Need-overflow-add-s invariant-loop decreases-loop
-add-s c = search fill
+overflow_add-s : tie.Need-overflow_add-s invariant-loop-s decreases-loop-s
+overflow_add-s c = search fill
 
-loop-less : tie.Need-loop-smaller invariant-loop decreases-loop
-loop-less c = search fill
+loop-s-smaller : tie.Need-loop-s-smaller invariant-loop-s decreases-loop-s
+loop-s-smaller c = search fill
 
-loop-again : tie.Need-loop-preserved invariant-loop decreases-loop
-loop-again c =
+loop-s-preserved : tie.Need-loop-s-preserved invariant-loop-s decreases-loop-s
+loop-s-preserved c =
     let s = c.before.before in
     let f = s.before.before in
-    let t = f.before in
-    filling_next t.before.loop.invariant t.loop-test.true s.store.ensures f.finish_at.ensures
+    let t = f in
+    filling_next t.loop-s.invariant t.loop-s-test.true s.store.ensures f.finish_at-v.ensures
 
-same_length : tie.Need-same-length invariant-loop decreases-loop
-same_length c = search fill
+shape_of-line : tie.Need-shape_of-line invariant-loop-s decreases-loop-s
+shape_of-line c = search fill
 
-returns : tie.Need-returns invariant-loop decreases-loop
+returns : tie.Need-returns invariant-loop-s decreases-loop-s
 returns c = search fill
 
 pub finish_spec : {M : Type 1} → statement M
 finish_spec =
     tie.close
-    (tie.spec
-    invariant-loop
-    decreases-loop
-    div-step
-    loop-holds
-    finish-at-requires
-    store-requires
-    add-s
-    loop-less
-    loop-again
-    same_length
-    returns)
+    (tie.spec invariant-loop-s decreases-loop-s nonzero_div-step loop-s-init finish_at-v-requires store-requires overflow_add-s loop-s-smaller loop-s-preserved shape_of-line returns)

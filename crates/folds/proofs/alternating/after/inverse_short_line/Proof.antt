@@ -12,42 +12,42 @@ use Rattle.fold_formulas.specs.FoldFormulas.{tangent}
 use Rattle.folds.proofs.alternating.after.inverse_short_line.Statement.{statement}
 use Rattle.folds.proofs.alternating.after.inverse_short_line.Tie as tie
 
-abbrev invariant-loop : tie.invariant-loop
-invariant-loop m tan a line fold₀ step s₀ fold s = FillingPairs (λ k. k) (λ s. pair_of (on_values m alternating_spectrum a (λ s. (field m).neg (tangent m a tan s)) (values_of m line) s)) a s fold₀ fold
+abbrev invariant-loop-s : tie.invariant-loop-s
+invariant-loop-s m tan a line fold₀ step s₀ fold s = FillingPairs (λ k. k) (λ s. pair_of (on_values m alternating_spectrum a (λ s. (field m).neg (tangent m a tan s)) (values_of m line) s)) a s fold₀ fold
 
-abbrev decreases-loop : tie.decreases-loop
-decreases-loop m tan a line fold₀ step s₀ fold s = a - s
+abbrev decreases-loop-s : tie.decreases-loop-s
+decreases-loop-s m tan a line fold₀ step s₀ fold s = a - s
 
-div-step : tie.Need-nonzero-div-step invariant-loop decreases-loop
-div-step c = search rules
+nonzero_div-step : tie.Need-nonzero_div-step invariant-loop-s decreases-loop-s
+nonzero_div-step c = search rules
 
-loop-holds : tie.Need-loop-init invariant-loop decreases-loop
-loop-holds c = search fill
+loop-s-init : tie.Need-loop-s-init invariant-loop-s decreases-loop-s
+loop-s-init c = search fill
 
-inverse-short-at-requires : tie.Need-inverse-short-at-requires invariant-loop decreases-loop
-inverse-short-at-requires c κs = search fill
+inverse_short_at-v-requires : tie.Need-inverse_short_at-v-requires invariant-loop-s decreases-loop-s
+inverse_short_at-v-requires c κs = search fill
 
-store-requires : tie.Need-store-requires invariant-loop decreases-loop
+store-requires : tie.Need-store-requires invariant-loop-s decreases-loop-s
 store-requires c κs = search fill
 
-add-s : tie.Need-overflow-add-s invariant-loop decreases-loop
-add-s c = search fill
+overflow_add-s : tie.Need-overflow_add-s invariant-loop-s decreases-loop-s
+overflow_add-s c = search fill
 
-loop-less : tie.Need-loop-smaller invariant-loop decreases-loop
-loop-less c = search fill
+loop-s-smaller : tie.Need-loop-s-smaller invariant-loop-s decreases-loop-s
+loop-s-smaller c = search fill
 
-loop-again : tie.Need-loop-preserved invariant-loop decreases-loop
-loop-again c =
+loop-s-preserved : tie.Need-loop-s-preserved invariant-loop-s decreases-loop-s
+loop-s-preserved c =
     let s = c.before.before in
     let f = s.before.before in
-    let t = f.before in
-    filling_next t.before.loop.invariant t.loop-test.true s.store.ensures f.inverse-short-at.ensures
+    let t = f in
+    filling_next t.loop-s.invariant t.loop-s-test.true s.store.ensures f.inverse_short_at-v.ensures
 
-same_length : tie.Need-same-length invariant-loop decreases-loop
-same_length c = search fill
+shape_of-fold : tie.Need-shape_of-fold invariant-loop-s decreases-loop-s
+shape_of-fold c = search fill
 
-returns : tie.Need-returns invariant-loop decreases-loop
+returns : tie.Need-returns invariant-loop-s decreases-loop-s
 returns c = search fill
 
 pub inverse_short_line_spec : {M : Type 1} → statement M
-inverse_short_line_spec = tie.close (tie.spec invariant-loop decreases-loop div-step loop-holds inverse-short-at-requires store-requires add-s loop-less loop-again same_length returns)
+inverse_short_line_spec = tie.close (tie.spec invariant-loop-s decreases-loop-s nonzero_div-step loop-s-init inverse_short_at-v-requires store-requires overflow_add-s loop-s-smaller loop-s-preserved shape_of-fold returns)

@@ -14,51 +14,51 @@ use Rattle.folds.proofs.alternating.after.pack_at.Tie as tie
 abbrev X : (s : tie.Start) → ℕ → Value s.args.m
 X s = line3 (field s.args.m) (conj s.args.m) (i s.args.m) (real s.args.m (half s.args.m)) s.args.a (real s.args.m (res s.args.m s.args.part)) (values_of s.args.m s.args.fold.now) (real s.args.m (res s.args.m s.args.twice))
 
-line-at-requires : tie.Need-line-at-requires
-line-at-requires c κs = search rules
+line_at-x-requires : tie.Need-line_at-x-requires
+line_at-x-requires c κs = search rules
 
-line-at-requires-2 : tie.Need-line-at-requires-2
-line-at-requires-2 c κs = search rules
+line_at-y-requires : tie.Need-line_at-y-requires
+line_at-y-requires c κs = search rules
 
-times-i-requires : tie.Need-times-i-requires
-times-i-requires c κs =
+times_i-requires : tie.Need-times_i-requires
+times_i-requires c κs =
     let y = c.before in
     let s = y.before.before.before.before in
-    (s.requires.0.0, small_by s.args.m (X s s.args.a) y.line-at2.ensures)
+    (s.requires.0.0, small_by s.args.m (X s s.args.a) y.line_at-y.ensures)
 
 sum-requires : tie.Need-sum-requires
 sum-requires c κs =
     let x = c.before.before.before.before in
     let s = x.before.before in
-    (s.requires.0.0, small_by s.args.m (X s s.args.t) x.line_at.ensures, small_by s.args.m _ c.times_i_lem.ensures)
+    (s.requires.0.0, small_by s.args.m (X s s.args.t) x.line_at-x.ensures, small_by s.args.m _ c.times_i.ensures)
 
-sum-requires-2 : tie.Need-sum-requires-2
-sum-requires-2 c κs =
+sum-requires-else-a-eq0 : tie.Need-sum-requires-else-a-eq0
+sum-requires-else-a-eq0 c κs =
     let y = c.before in
     let x = y.before.before in
     let s = x.before.before in
-    (s.requires.0.0, small_by s.args.m (X s s.args.t) x.line_at.ensures, small_by s.args.m (X s s.args.a) y.line-at2.ensures)
+    (s.requires.0.0, small_by s.args.m (X s s.args.t) x.line_at-x.ensures, small_by s.args.m (X s s.args.a) y.line_at-y.ensures)
 
-returns : tie.Need-returns
-returns c =
+returns-then-a-eq0 : tie.Need-returns-then-a-eq0
+returns-then-a-eq0 c =
     let u = c.before in
     let y = u.before.before in
     let x = y.before.before in
     let s = x.before.before in
-    pack_even s.args.m s.args.a (X s) s.args.t y.before.if1.true u.before.if2.true x.line_at.ensures y.line-at2.ensures u.times_i_lem.ensures c.sum.ensures
+    pack_even s.args.m s.args.a (X s) s.args.t y.before.if-t-eq0.true u.before.if-a-eq0.true x.line_at-x.ensures y.line_at-y.ensures u.times_i.ensures c.sum.ensures
 
-returns-2 : tie.Need-returns-2
-returns-2 c =
+returns-else-a-eq0 : tie.Need-returns-else-a-eq0
+returns-else-a-eq0 c =
     let y = c.before.before in
     let x = y.before.before in
     let s = x.before.before in
-    pack_odd s.args.m s.args.a (X s) s.args.t y.before.if1.true c.before.if2.false x.line_at.ensures y.line-at2.ensures c.sum2.ensures
+    pack_odd s.args.m s.args.a (X s) s.args.t y.before.if-t-eq0.true c.before.if-a-eq0.false x.line_at-x.ensures y.line_at-y.ensures c.sum-else-a-eq0.ensures
 
-returns-3 : tie.Need-returns-3
-returns-3 c =
+returns-else-t-eq0 : tie.Need-returns-else-t-eq0
+returns-else-t-eq0 c =
     let x = c.before in
     let s = x.before.before in
-    pack_rest s.args.m s.args.a (X s) s.args.t c.if1.false x.line_at.ensures
+    pack_rest s.args.m s.args.a (X s) s.args.t c.if-t-eq0.false x.line_at-x.ensures
 
 pub pack_at_spec : {M : Type 1} → statement M
-pack_at_spec = tie.close (tie.spec line-at-requires line-at-requires-2 times-i-requires sum-requires sum-requires-2 returns returns-2 returns-3)
+pack_at_spec = tie.close (tie.spec line_at-x-requires line_at-y-requires times_i-requires sum-requires sum-requires-else-a-eq0 returns-then-a-eq0 returns-else-a-eq0 returns-else-t-eq0)

@@ -10,71 +10,58 @@ use Rattle.folds.proofs.alternating.before.Sums.{OddSum, odd_sum_start, odd_sum_
 use Rattle.folds.proofs.alternating.before.odd_imaginary_sum.Statement.{statement}
 use Rattle.folds.proofs.alternating.before.odd_imaginary_sum.Tie as tie
 
-abbrev invariant-loop : tie.invariant-loop
-invariant-loop m a line s₀ t₀ s t = OddSum m a line s t
+abbrev invariant-loop-t : tie.invariant-loop-t
+invariant-loop-t m a line s₀ t₀ s t = OddSum m a line s t
 
-abbrev decreases-loop : tie.decreases-loop
-decreases-loop m a line s₀ t₀ s t = a - t
+abbrev decreases-loop-t : tie.decreases-loop-t
+decreases-loop-t m a line s₀ t₀ s t = a - t
 
-loop-holds : tie.Need-loop-init invariant-loop decreases-loop
-loop-holds c = odd_sum_start
+loop-t-init : tie.Need-loop-t-init invariant-loop-t decreases-loop-t
+loop-t-init c = odd_sum_start
 
-mul-value-at : tie.Need-overflow-mul-value-at invariant-loop decreases-loop
-mul-value-at c = search rules
+overflow_mul-t : tie.Need-overflow_mul-t invariant-loop-t decreases-loop-t
+overflow_mul-t c = search rules
 
-add-value-at : tie.Need-overflow-add-value-at invariant-loop decreases-loop
-add-value-at c = search rules
+overflow_add-t : tie.Need-overflow_add-t invariant-loop-t decreases-loop-t
+overflow_add-t c = search rules
 
-value-at-requires : tie.Need-value-at-requires invariant-loop decreases-loop
-value-at-requires c κs = search rules
+value_at-v-requires : tie.Need-value_at-v-requires invariant-loop-t decreases-loop-t
+value_at-v-requires c κs = search rules
 
-cast-s : tie.Need-overflow-cast-s invariant-loop decreases-loop
-cast-s c = search rules
+overflow_cast-s : tie.Need-overflow_cast-s invariant-loop-t decreases-loop-t
+overflow_cast-s c = search rules
 
-add-s : tie.Need-overflow-add-s invariant-loop decreases-loop
-add-s c =
+overflow_add-s : tie.Need-overflow_add-s invariant-loop-t decreases-loop-t
+overflow_add-s c =
     let v = c.before in
     let l = v.before.before in
     let s = l.before.before in
-    omega (arith, l.loop.invariant.bound, prime_most s.requires.0.0, (small_by s.args.m _ v.value-at.ensures).im)
+    omega (arith, l.loop-t.invariant.bound, prime_most s.requires.0.0, (small_by s.args.m _ v.value_at-v.ensures).im)
 
-add-t : tie.Need-overflow-add-t invariant-loop decreases-loop
-add-t c = search rules
+overflow_add-t-in-loop-t : tie.Need-overflow_add-t-in-loop-t invariant-loop-t decreases-loop-t
+overflow_add-t-in-loop-t c = search rules
 
-loop-less : tie.Need-loop-smaller invariant-loop decreases-loop
-loop-less c = search rules
+loop-t-smaller : tie.Need-loop-t-smaller invariant-loop-t decreases-loop-t
+loop-t-smaller c = search rules
 
-loop-again : tie.Need-loop-preserved invariant-loop decreases-loop
-loop-again c =
+loop-t-preserved : tie.Need-loop-t-preserved invariant-loop-t decreases-loop-t
+loop-t-preserved c =
     let v = c.before in
     let t = v.before in
     let l = t.before in
-    odd_sum_next l.before.before.requires.0.0 l.loop.invariant t.loop-test.true v.value-at.ensures
+    odd_sum_next l.before.before.requires.0.0 l.loop-t.invariant t.loop-t-test.true v.value_at-v.ensures
 
-reduce-requires : tie.Need-reduce-requires invariant-loop decreases-loop
+reduce-requires : tie.Need-reduce-requires invariant-loop-t decreases-loop-t
 reduce-requires c κs = search rules
 
-returns : tie.Need-returns invariant-loop decreases-loop
+returns : tie.Need-returns invariant-loop-t decreases-loop-t
 returns c =
     let t = c.before in
     let l = t.before in
     let s = l.before.before in
-    (below_by s.args.m (res s.args.m l.loop.s) c.reduce.ensures, odd_sum_done l.loop.invariant t.loop-test.false c.reduce.ensures)
+    (below_by s.args.m (res s.args.m l.loop-t.s) c.reduce.ensures, odd_sum_done l.loop-t.invariant t.loop-t-test.false c.reduce.ensures)
 
 pub odd_imaginary_sum_spec : {M : Type 1} → statement M
 odd_imaginary_sum_spec =
     tie.close
-    (tie.spec
-    invariant-loop
-    decreases-loop
-    loop-holds
-    mul-value-at
-    add-value-at
-    value-at-requires
-    cast-s
-    add-s
-    add-t
-    loop-less
-    loop-again
-    reduce-requires
-    returns)
+    (tie.spec invariant-loop-t decreases-loop-t loop-t-init overflow_mul-t overflow_add-t value_at-v-requires overflow_cast-s overflow_add-s overflow_add-t-in-loop-t loop-t-smaller loop-t-preserved reduce-requires returns)

@@ -5,28 +5,28 @@ use Rattle.folds.proofs.alternating.before.Sums.{short_by}
 use Rattle.folds.proofs.alternating.before.short_at.Statement.{statement}
 use Rattle.folds.proofs.alternating.before.short_at.Tie as tie
 
-mul-value-at : tie.Need-overflow-mul-value-at
-mul-value-at c = search rules
+overflow_mul-t : tie.Need-overflow_mul-t
+overflow_mul-t c = search rules
 
-value-at-requires : tie.Need-value-at-requires
-value-at-requires c κs = search rules
+value_at-even-requires : tie.Need-value_at-even-requires
+value_at-even-requires c κs = search rules
 
-mul-value-at-2 : tie.Need-overflow-mul-value-at-2
-mul-value-at-2 c = search rules
+overflow_mul-t-2 : tie.Need-overflow_mul-t-2
+overflow_mul-t-2 c = search rules
 
-add-value-at : tie.Need-overflow-add-value-at
-add-value-at c = search rules
+overflow_add-t : tie.Need-overflow_add-t
+overflow_add-t c = search rules
 
-value-at-requires-2 : tie.Need-value-at-requires-2
-value-at-requires-2 c κs = search rules
+value_at-odd-requires : tie.Need-value_at-odd-requires
+value_at-odd-requires c κs = search rules
 
-times-i-requires : tie.Need-times-i-requires
-times-i-requires c κs = let s = c.before.before.before in (s.requires.0.0, small_by s.args.m _ c.value-at2.ensures)
+times_i-requires : tie.Need-times_i-requires
+times_i-requires c κs = let s = c.before.before.before in (s.requires.0.0, small_by s.args.m _ c.value_at-odd.ensures)
 
 sum-requires : tie.Need-sum-requires
 sum-requires c κs =
     let s = c.before.before.before.before in
-    (s.requires.0.0, small_by s.args.m _ c.before.before.value-at.ensures, small_by s.args.m _ c.times_i_lem.ensures)
+    (s.requires.0.0, small_by s.args.m _ c.before.before.value_at-even.ensures, small_by s.args.m _ c.times_i.ensures)
 
 returns : tie.Need-returns
 returns c =
@@ -34,17 +34,9 @@ returns c =
     let y = z.before in
     let x = y.before in
     let s = x.before.before in
-    short_by s.args.m _ s.args.t x.value-at.ensures y.value-at2.ensures z.times_i_lem.ensures c.sum.ensures
+    short_by s.args.m _ s.args.t x.value_at-even.ensures y.value_at-odd.ensures z.times_i.ensures c.sum.ensures
 
 pub short_at_spec : {M : Type 1} → statement M
 short_at_spec =
     tie.close
-    (tie.spec
-    mul-value-at
-    value-at-requires
-    mul-value-at-2
-    add-value-at
-    value-at-requires-2
-    times-i-requires
-    sum-requires
-    returns)
+    (tie.spec overflow_mul-t value_at-even-requires overflow_mul-t-2 overflow_add-t value_at-odd-requires times_i-requires sum-requires returns)

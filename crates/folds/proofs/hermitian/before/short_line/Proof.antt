@@ -12,56 +12,45 @@ use Rattle.folds.specs.FoldedLines.{to_hermitian}
 use Rattle.folds.proofs.hermitian.before.short_line.Statement.{statement}
 use Rattle.folds.proofs.hermitian.before.short_line.Tie as tie
 
-abbrev invariant-loop : tie.invariant-loop
-invariant-loop m re im anti a line out₀ step t₀ out t = FillingPairs (λ k. k) (λ k. pair_of (on_values m fold1 a (line_root m a re im) (to_hermitian m anti (values_of m line)) k)) a t out₀ out
+abbrev invariant-loop-t : tie.invariant-loop-t
+invariant-loop-t m re im anti a line out₀ step t₀ out t = FillingPairs (λ k. k) (λ k. pair_of (on_values m fold1 a (line_root m a re im) (to_hermitian m anti (values_of m line)) k)) a t out₀ out
 
-abbrev decreases-loop : tie.decreases-loop
-decreases-loop m re im anti a line out₀ step t₀ out t = a - t
+abbrev decreases-loop-t : tie.decreases-loop-t
+decreases-loop-t m re im anti a line out₀ step t₀ out t = a - t
 
-div-step : tie.Need-nonzero-div-step invariant-loop decreases-loop
-div-step c = search fill
+nonzero_div-step : tie.Need-nonzero_div-step invariant-loop-t decreases-loop-t
+nonzero_div-step c = search fill
 
-loop-holds : tie.Need-loop-init invariant-loop decreases-loop
-loop-holds c = search fill
+loop-t-init : tie.Need-loop-t-init invariant-loop-t decreases-loop-t
+loop-t-init c = search fill
 
-short-at-requires : tie.Need-short-at-requires invariant-loop decreases-loop
-short-at-requires c κs =
+short_at-requires : tie.Need-short_at-requires invariant-loop-t decreases-loop-t
+short_at-requires c κs =
     let s = c.before.before.before.before.before in
-    ((s.requires.0, refl, c.before.loop-test.true), (s.requires.1.0.0, s.requires.1.1))
+    ((s.requires.0, refl, c.before.loop-t-test.true), (s.requires.1.0.0, s.requires.1.1))
 
-store-requires : tie.Need-store-requires invariant-loop decreases-loop
+store-requires : tie.Need-store-requires invariant-loop-t decreases-loop-t
 store-requires c κs = search fill
 
-add-t : tie.Need-overflow-add-t invariant-loop decreases-loop
-add-t c = search fill
+overflow_add-t : tie.Need-overflow_add-t invariant-loop-t decreases-loop-t
+overflow_add-t c = search fill
 
-loop-less : tie.Need-loop-smaller invariant-loop decreases-loop
-loop-less c = search fill
+loop-t-smaller : tie.Need-loop-t-smaller invariant-loop-t decreases-loop-t
+loop-t-smaller c = search fill
 
-loop-again : tie.Need-loop-preserved invariant-loop decreases-loop
-loop-again c =
+loop-t-preserved : tie.Need-loop-t-preserved invariant-loop-t decreases-loop-t
+loop-t-preserved c =
     let s = c.before.before in
     let t = s.before.before.before in
-    filling_next t.before.loop.invariant t.loop-test.true s.store.ensures s.before.short-at.ensures
+    filling_next t.before.loop-t.invariant t.loop-t-test.true s.store.ensures s.before.short_at.ensures
 
-same_length : tie.Need-same-length invariant-loop decreases-loop
-same_length c = search fill
+shape_of-out : tie.Need-shape_of-out invariant-loop-t decreases-loop-t
+shape_of-out c = search fill
 
-returns : tie.Need-returns invariant-loop decreases-loop
+returns : tie.Need-returns invariant-loop-t decreases-loop-t
 returns c = search fill
 
 pub short_line_spec : {M : Type 1} → statement M
 short_line_spec =
     tie.close
-    (tie.spec
-    invariant-loop
-    decreases-loop
-    div-step
-    loop-holds
-    short-at-requires
-    store-requires
-    add-t
-    loop-less
-    loop-again
-    same_length
-    returns)
+    (tie.spec invariant-loop-t decreases-loop-t nonzero_div-step loop-t-init short_at-requires store-requires overflow_add-t loop-t-smaller loop-t-preserved shape_of-out returns)

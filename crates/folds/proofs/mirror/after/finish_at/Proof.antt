@@ -14,84 +14,70 @@ use Rattle.folds.proofs.mirror.after.finish_at.Tie as tie
 get-requires : tie.Need-get-requires
 get-requires c κs = omega arith
 
-returns : tie.Need-returns
-returns c =
-    let s = c.before.before.before in
-    finished_zero _ _ s.args.first s.args.tan.now _ _ _ s.requires.1.1.1 c.before.if1.true c.get.ensures
+returns-then-s-eq0 : tie.Need-returns-then-s-eq0
+returns-then-s-eq0 c =
+    let s = c in
+    finished_zero _ _ s.args.first s.args.tan.now _ _ _ s.requires.1.1.1 c.if-s-eq0.true c.get.ensures
 
-sum-requires : tie.Need-sum-requires
-sum-requires c κs = search rules
+sum-odds-requires : tie.Need-sum-odds-requires
+sum-odds-requires c κs = search rules
 
-get-requires-2 : tie.Need-get-requires-2
-get-requires-2 c κs = omega arith
+get-requires-then-s-a : tie.Need-get-requires-then-s-a
+get-requires-then-s-a c κs = omega arith
 
 difference-requires : tie.Need-difference-requires
 difference-requires c κs =
-    let s = c.before.before.before.before.before in
-    (s.requires.0.0, small_of _ _ c.get2.ensures s.requires.1.1.1, small_by _ _ c.before.sum.ensures)
+    let s = c in
+    (s.requires.0.0, small_of _ _ c.get-then-s-a.ensures s.requires.1.1.1, small_by _ _ c.sum-odds.ensures)
 
-returns-2 : tie.Need-returns-2
-returns-2 c =
+returns-then-s-a : tie.Need-returns-then-s-a
+returns-then-s-a c =
     let g = c.before in
     let t = g.before.before in
-    let s = t.before.before.before in
-    finished_middle _ _ s.args.first s.args.tan.now _ _ _ s.requires.1.0.0 t.if2.true g.before.sum.ensures g.get2.ensures c.difference.ensures
+    let s = t in
+    finished_middle _ _ s.args.first s.args.tan.now _ _ _ s.requires.1.0.0 t.if-s-a.true g.sum-odds.ensures g.get-then-s-a.ensures c.difference.ensures
 
-inside : (c : tie.Else2) → let s = c.before.before.before in s.args.step * s.args.s < 1440
-inside c = let s = c.before.before.before in stride_inside s.requires.1.0.1 s.requires.1.0.2 (omega arith)
+inside : (c : tie.Else-s-a) → let s = c.before.before.before in s.args.step * s.args.s < 1440
+inside c = let s = c in stride_inside s.requires.1.0.1 s.requires.1.0.2 (omega arith)
 
-mul-tau : tie.Need-overflow-mul-tau
-mul-tau c = omega (arith, inside c)
+overflow_mul-tau : tie.Need-overflow_mul-tau
+overflow_mul-tau c = omega (arith, inside c)
 
-mul-tau-2 : tie.Need-overflow-mul-tau-2
-mul-tau-2 c = omega (arith, inside c)
+offset_bounds-tan-step : tie.Need-offset_bounds-tan-step
+offset_bounds-tan-step c = omega (arith, inside c)
 
-element-copy-out-tau : tie.Need-element-copy-out-tau
-element-copy-out-tau c = inside c
+bounds-tan-step : tie.Need-bounds-tan-step
+bounds-tan-step c = inside c.before
 
-get-requires-3 : tie.Need-get-requires-3
-get-requires-3 c κs = omega arith
+get-y-requires : tie.Need-get-y-requires
+get-y-requires c κs = omega arith
 
-sub-get : tie.Need-overflow-sub-get
-sub-get c = omega arith
+overflow_sub-a : tie.Need-overflow_sub-a
+overflow_sub-a c = omega arith
 
-get-requires-4 : tie.Need-get-requires-4
-get-requires-4 c κs = omega arith
+get-z-requires : tie.Need-get-z-requires
+get-z-requires c κs = omega arith
 
-finish-between-requires : tie.Need-finish-between-requires
-finish-between-requires c κs =
-    let t = c.before.before.before in
-    let s = t.before.before.before in (
+finish_between-requires : tie.Need-finish_between-requires
+finish_between-requires c κs =
+    let t = c.before.before.before.before in
+    let s = t in (
       s.requires.0.0,
       s.requires.0.2,
       s.requires.0.1.below _ (inside t),
-      small_of _ _ c.before.get3.ensures s.requires.1.1.1,
-      small_of _ _ c.get4.ensures s.requires.1.1.1,
+      small_of _ _ c.get-y.ensures s.requires.1.1.1,
+      small_of _ _ c.get-z.ensures s.requires.1.1.1,
     )
 
-returns-3 : tie.Need-returns-3
-returns-3 c =
+returns : tie.Need-returns
+returns c =
     let g = c.before in
-    let s = g.before.before.before.before.before.before in
+    let s = g in
     finished_between _ _ s.args.first s.args.tan.now _ _ _ _ (omega arith) (omega arith)
     (ap (λ (k : ℕ). get_or s.args.tan.now (k * s.args.s) 0) s.requires.1.0.1)
-    g.before.get3.ensures g.get4.ensures c.finish_between_lem.ensures
+    g.get-y.ensures g.get-z.ensures c.finish_between.ensures
 
 pub finish_at_spec : {M : Type 1} → statement M
 finish_at_spec =
     tie.close
-    (tie.spec
-    get-requires
-    returns
-    sum-requires
-    get-requires-2
-    difference-requires
-    returns-2
-    mul-tau
-    mul-tau-2
-    element-copy-out-tau
-    get-requires-3
-    sub-get
-    get-requires-4
-    finish-between-requires
-    returns-3)
+    (tie.spec get-requires returns-then-s-eq0 sum-odds-requires get-requires-then-s-a difference-requires returns-then-s-a overflow_mul-tau offset_bounds-tan-step bounds-tan-step get-y-requires overflow_sub-a get-z-requires finish_between-requires returns)

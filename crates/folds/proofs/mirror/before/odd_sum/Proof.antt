@@ -7,69 +7,55 @@ use Rattle.folds.proofs.mirror.before.Forms.{OddSum, odd_sum_none, odd_sum_start
 use Rattle.folds.proofs.mirror.before.odd_sum.Statement.{statement}
 use Rattle.folds.proofs.mirror.before.odd_sum.Tie as tie
 
-abbrev invariant-loop : tie.invariant-loop
-invariant-loop m first a line s₀ t₀ s t = OddSum m a first line s t
+abbrev invariant-loop-t : tie.invariant-loop-t
+invariant-loop-t m first a line s₀ t₀ s t = OddSum m a first line s t
 
-abbrev decreases-loop : tie.decreases-loop
-decreases-loop m first a line s₀ t₀ s t = a - t
+abbrev decreases-loop-t : tie.decreases-loop-t
+decreases-loop-t m first a line s₀ t₀ s t = a - t
 
-returns : tie.Need-returns invariant-loop decreases-loop
-returns c = odd_sum_none _ _ _ _ c.if1.true (omega arith)
+returns-then-first-eq1 : tie.Need-returns-then-first-eq1 invariant-loop-t decreases-loop-t
+returns-then-first-eq1 c = odd_sum_none _ _ _ _ c.if-first-eq1.true (omega arith)
 
-zero-accumulator-requires : tie.Need-zero-accumulator-requires invariant-loop decreases-loop
-zero-accumulator-requires c κs = search rules
+zero_accumulator-s-requires : tie.Need-zero_accumulator-s-requires invariant-loop-t decreases-loop-t
+zero_accumulator-s-requires c κs = search rules
 
-loop-holds : tie.Need-loop-init invariant-loop decreases-loop
-loop-holds c = odd_sum_start _ _ _ _ (c.zero-accumulator.ensures _)
+loop-t-init : tie.Need-loop-t-init invariant-loop-t decreases-loop-t
+loop-t-init c = odd_sum_start _ _ _ _ (c.zero_accumulator-s.ensures _)
 
-mul-value-at : tie.Need-overflow-mul-value-at invariant-loop decreases-loop
-mul-value-at c = omega arith
+overflow_mul-t : tie.Need-overflow_mul-t invariant-loop-t decreases-loop-t
+overflow_mul-t c = omega arith
 
-add-value-at : tie.Need-overflow-add-value-at invariant-loop decreases-loop
-add-value-at c = omega arith
+overflow_add-t : tie.Need-overflow_add-t invariant-loop-t decreases-loop-t
+overflow_add-t c = omega arith
 
-value-at-requires : tie.Need-value-at-requires invariant-loop decreases-loop
-value-at-requires c κs =
+value_at-requires : tie.Need-value_at-requires invariant-loop-t decreases-loop-t
+value_at-requires c κs =
     let s = c.before.before.before.before.before in
     ((s.requires.0.0, s.requires.0.1, omega arith, omega arith), (s.requires.1.0, s.requires.1.1))
 
-plus-requires : tie.Need-plus-requires invariant-loop decreases-loop
-plus-requires c κs =
+plus-s-requires : tie.Need-plus-s-requires invariant-loop-t decreases-loop-t
+plus-s-requires c κs =
     let l = c.before.before in
-    (residue_most l.before.before.before.before.requires.0.0 _ c.value-at.ensures, accumulated_room (omega arith) l.loop.invariant.is)
+    (residue_most l.before.before.before.before.requires.0.0 _ c.value_at.ensures, accumulated_room (omega arith) l.loop-t.invariant.is)
 
-add-t : tie.Need-overflow-add-t invariant-loop decreases-loop
-add-t c = omega arith
+overflow_add-t-in-loop-t : tie.Need-overflow_add-t-in-loop-t invariant-loop-t decreases-loop-t
+overflow_add-t-in-loop-t c = omega arith
 
-loop-less : tie.Need-loop-smaller invariant-loop decreases-loop
-loop-less c = omega arith
+loop-t-smaller : tie.Need-loop-t-smaller invariant-loop-t decreases-loop-t
+loop-t-smaller c = omega arith
 
-loop-again : tie.Need-loop-preserved invariant-loop decreases-loop
-loop-again c =
+loop-t-preserved : tie.Need-loop-t-preserved invariant-loop-t decreases-loop-t
+loop-t-preserved c =
     let l = c.before.before in
-    odd_sum_next _ _ _ _ l.before.loop.invariant l.loop-test.true c.before.value-at.ensures (c.plus.ensures _)
+    odd_sum_next _ _ _ _ l.before.loop-t.invariant l.loop-t-test.true c.before.value_at.ensures (c.plus-s.ensures _)
 
-reduced-requires : tie.Need-reduced-requires invariant-loop decreases-loop
+reduced-requires : tie.Need-reduced-requires invariant-loop-t decreases-loop-t
 reduced-requires c κs = c.before.before.before.before.before.requires.0.0
 
-returns-2 : tie.Need-returns-2 invariant-loop decreases-loop
-returns-2 c = odd_sum_done _ _ _ _ c.before.before.loop.invariant c.before.loop-test.false c.reduced.ensures
+returns : tie.Need-returns invariant-loop-t decreases-loop-t
+returns c = odd_sum_done _ _ _ _ c.before.before.loop-t.invariant c.before.loop-t-test.false c.reduced.ensures
 
 pub odd_sum_spec : {M : Type 1} → statement M
 odd_sum_spec =
     tie.close
-    (tie.spec
-    invariant-loop
-    decreases-loop
-    returns
-    zero-accumulator-requires
-    loop-holds
-    mul-value-at
-    add-value-at
-    value-at-requires
-    plus-requires
-    add-t
-    loop-less
-    loop-again
-    reduced-requires
-    returns-2)
+    (tie.spec invariant-loop-t decreases-loop-t returns-then-first-eq1 zero_accumulator-s-requires loop-t-init overflow_mul-t overflow_add-t value_at-requires plus-s-requires overflow_add-t-in-loop-t loop-t-smaller loop-t-preserved reduced-requires returns)

@@ -4,17 +4,17 @@ use Rattle.folds.proofs.mirror.before.Forms.{accumulated_plus}
 use Rattle.folds.proofs.mirror.before.plus.Statement.{statement}
 use Rattle.folds.proofs.mirror.before.plus.Tie as tie
 
-cast-t3 : tie.Need-overflow-cast-t3
-cast-t3 c = search rules
+overflow_cast-result : tie.Need-overflow_cast-result
+overflow_cast-result c = search rules
 
-add-t4 : tie.Need-overflow-add-t4
-add-t4 c = search rules
+overflow_add-result : tie.Need-overflow_add-result
+overflow_add-result c = search rules
 
-cast-t5 : tie.Need-overflow-cast-t5
-cast-t5 c = search rules
+overflow_cast-result-2 : tie.Need-overflow_cast-result-2
+overflow_cast-result-2 c = search rules
 
-add-t6 : tie.Need-overflow-add-t6
-add-t6 c = search rules
+overflow_add-result-2 : tie.Need-overflow_add-result-2
+overflow_add-result-2 c = search rules
 
 returns : tie.Need-returns
 returns c =
@@ -22,4 +22,4 @@ returns c =
     λ m n z h. accumulated_plus m n _ _ z s.requires.0.0 s.requires.0.1 h
 
 pub plus_spec : {M : Type 1} → statement M
-plus_spec = tie.close (tie.spec cast-t3 add-t4 cast-t5 add-t6 returns)
+plus_spec = tie.close (tie.spec overflow_cast-result overflow_add-result overflow_cast-result-2 overflow_add-result-2 returns)

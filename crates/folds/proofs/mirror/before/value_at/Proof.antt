@@ -7,42 +7,34 @@ use Rattle.folds.proofs.mirror.before.value_at.Tie as tie
 get-requires : tie.Need-get-requires
 get-requires c κs = omega arith
 
-mul-get : tie.Need-overflow-mul-get
-mul-get c = omega arith
+overflow_mul-a : tie.Need-overflow_mul-a
+overflow_mul-a c = omega arith
 
-sub-get : tie.Need-overflow-sub-get
-sub-get c = omega arith
+overflow_sub-a : tie.Need-overflow_sub-a
+overflow_sub-a c = omega arith
 
-get-requires-2 : tie.Need-get-requires-2
-get-requires-2 c κs = omega arith
+get-requires-else-j-a : tie.Need-get-requires-else-j-a
+get-requires-else-j-a c κs = omega arith
 
-antisymmetric-at-requires : tie.Need-antisymmetric-at-requires
-antisymmetric-at-requires c κs = let s = c.before.before in (s.requires.0.0, ((omega arith, omega arith, omega arith), s.requires.1.1))
+antisymmetric_at-requires : tie.Need-antisymmetric_at-requires
+antisymmetric_at-requires c κs = let s = c.before.before in (s.requires.0.0, ((omega arith, omega arith, omega arith), s.requires.1.1))
 
-returns : tie.Need-returns
-returns c =
+returns-then-j-a : tie.Need-returns-then-j-a
+returns-then-j-a c =
     let i = c.before.before in
     let s = i.before.before in
-    line_symmetric _ _ _ _ i.if1.true (symmetric_low _ _ _ _ s.requires.1.1 (omega arith) (omega arith) c.get.ensures)
+    line_symmetric _ _ _ _ i.if-first-eq0.true (symmetric_low _ _ _ _ s.requires.1.1 (omega arith) (omega arith) c.get.ensures)
 
-returns-2 : tie.Need-returns-2
-returns-2 c =
+returns-else-j-a : tie.Need-returns-else-j-a
+returns-else-j-a c =
     let i = c.before.before in
     let s = i.before.before in
-    line_symmetric _ _ _ _ i.if1.true (symmetric_high _ _ _ _ s.requires.1.1 (omega arith) (omega arith) c.get2.ensures)
+    line_symmetric _ _ _ _ i.if-first-eq0.true (symmetric_high _ _ _ _ s.requires.1.1 (omega arith) (omega arith) c.get-else-j-a.ensures)
 
-returns-3 : tie.Need-returns-3
-returns-3 c = line_antisymmetric _ _ _ _ (omega arith) c.before.if1.false c.antisymmetric-at.ensures
+returns-else-first-eq0 : tie.Need-returns-else-first-eq0
+returns-else-first-eq0 c = line_antisymmetric _ _ _ _ (omega arith) c.before.if-first-eq0.false c.antisymmetric_at.ensures
 
 pub value_at_spec : {M : Type 1} → statement M
 value_at_spec =
     tie.close
-    (tie.spec
-    get-requires
-    mul-get
-    sub-get
-    get-requires-2
-    antisymmetric-at-requires
-    returns
-    returns-2
-    returns-3)
+    (tie.spec get-requires overflow_mul-a overflow_sub-a get-requires-else-j-a antisymmetric_at-requires returns-then-j-a returns-else-j-a returns-else-first-eq0)

@@ -18,7 +18,7 @@ use Rattle.file_format.specs.Parsed.{Writable, ParsesBack}
 use Rattle.file_format.proofs.layout.ByteLaws.{length_all}
 use Rattle.file_format.proofs.layout.FileParts.{length_body, length_file, parts_apart}
 use Rattle.file_format.proofs.places.Versions.{with_modulus, without_modulus}
-use Rattle.file_format.proofs.Parsing.{Stands, byte_at_lem, two_at, four_at, list_at, records_at_lem}
+use Rattle.file_format.proofs.Parsing.{Stands, byte_at_lem, two_at, four_at, list_at_lem, records_at_lem}
 use Rattle.file_format.proofs.Rewriting.{file_again}
 
 module _ (version m : ℕ) (h : Header) (cs : List FileRecord) (w : Writable version m h cs) where
@@ -83,15 +83,15 @@ module _ (version m : ℕ) (h : Header) (cs : List FileRecord) (w : Writable ver
 
   list2_stands : Stands file (list2_at file) (list_bytes h.list2 ++ (list_bytes h.list3 ++ records))
   unfolding list2_at
-  list2_stands = (list_at file (list1_at file) h.list1 (list_bytes h.list2 ++ (list_bytes h.list3 ++ records)) length3_read.1).1
+  list2_stands = (list_at_lem file (list1_at file) h.list1 (list_bytes h.list2 ++ (list_bytes h.list3 ++ records)) length3_read.1).1
 
   list3_stands : Stands file (list3_at file) (list_bytes h.list3 ++ records)
   unfolding list3_at
-  list3_stands = (list_at file (list2_at file) h.list2 (list_bytes h.list3 ++ records) list2_stands).1
+  list3_stands = (list_at_lem file (list2_at file) h.list2 (list_bytes h.list3 ++ records) list2_stands).1
 
   count_stands : Stands file (count_at file) records
   unfolding count_at
-  count_stands = (list_at file (list3_at file) h.list3 records list3_stands).1
+  count_stands = (list_at_lem file (list3_at file) h.list3 records list3_stands).1
 
   -- ---- the header
 
@@ -100,9 +100,9 @@ module _ (version m : ℕ) (h : Header) (cs : List FileRecord) (w : Writable ver
       let x = length1_read.0 in
       let y = length2_read.0 in
       let z = length3_read.0 in
-      let l = (list_at file (list1_at file) h.list1 _ length3_read.1).0 in
-      let m = (list_at file (list2_at file) h.list2 _ list2_stands).0 in
-      let n = (list_at file (list3_at file) h.list3 _ list3_stands).0 in
+      let l = (list_at_lem file (list1_at file) h.list1 _ length3_read.1).0 in
+      let m = (list_at_lem file (list2_at file) h.list2 _ list2_stands).0 in
+      let n = (list_at_lem file (list3_at file) h.list3 _ list3_stands).0 in
       λ i. record { group = group_read.0 i; lengths = (x i, y i, z i); list1 = l i; list2 = m i; list3 = n i }
 
   -- ---- the records

@@ -6,18 +6,18 @@ use lib.ListN.{get_or-eq_default}
 use Rattle.file_format.proofs.integers.byte_at.Statement.{statement}
 use Rattle.file_format.proofs.integers.byte_at.Tie as tie
 
-returns : tie.Need-returns
-returns c = (sym (get_or-eq_default c.before.before.args.file.now 0 c.if1.true), omega arith)
+returns-then-file-q : tie.Need-returns-then-file-q
+returns-then-file-q c = (sym (get_or-eq_default c.before.before.args.file.now 0 c.if-file-q.true), omega arith)
 
-shared-slice-read-wide : tie.Need-shared-slice-read-wide
-shared-slice-read-wide c = search rules
+bounds-file-q : tie.Need-bounds-file-q
+bounds-file-q c = search rules
 
 wide-requires : tie.Need-wide-requires
 wide-requires c κs = search rules
 
-returns-2 : tie.Need-returns-2
-returns-2 c = search rules
+returns : tie.Need-returns
+returns c = search rules
 
 pub byte_at_spec : {M : Type 1} → statement M
 byte_at_spec =
-    tie.close (tie.spec returns shared-slice-read-wide wide-requires returns-2)
+    tie.close (tie.spec returns-then-file-q bounds-file-q wide-requires returns)

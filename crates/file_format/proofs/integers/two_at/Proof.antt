@@ -6,29 +6,29 @@ use Rattle.file_format.specs.Format.{two_bytes}
 use Rattle.file_format.proofs.integers.two_at.Statement.{statement}
 use Rattle.file_format.proofs.integers.two_at.Tie as tie
 
-byte-at-requires : tie.Need-byte-at-requires
-byte-at-requires c κs = search rules
+byte_at-requires : tie.Need-byte_at-requires
+byte_at-requires c κs = search rules
 
-mul-result : tie.Need-overflow-mul-result
-mul-result c = search rules
+overflow_mul-result : tie.Need-overflow_mul-result
+overflow_mul-result c = search rules
 
-add-byte-at : tie.Need-overflow-add-byte-at
-add-byte-at c = search rules
+overflow_add-q : tie.Need-overflow_add-q
+overflow_add-q c = search rules
 
-byte-at-requires-2 : tie.Need-byte-at-requires-2
-byte-at-requires-2 c κs = search rules
+byte_at-requires-2 : tie.Need-byte_at-requires-2
+byte_at-requires-2 c κs = search rules
 
-add-result : tie.Need-overflow-add-result
-add-result c = search rules
+overflow_add-result : tie.Need-overflow_add-result
+overflow_add-result c = search rules
 
 returns : tie.Need-returns
 unfolding two_bytes
 returns c =
-    let high = c.before.byte_at_lem.ensures.0 in
-    let low = c.byte-at2.ensures.0 in
+    let high = c.before.byte_at.ensures.0 in
+    let low = c.byte_at-2.ensures.0 in
     (λ i. high i * 256 + low i, omega arith)
 
 pub two_at_spec : {M : Type 1} → statement M
 two_at_spec =
     tie.close
-    (tie.spec byte-at-requires mul-result add-byte-at byte-at-requires-2 add-result returns)
+    (tie.spec byte_at-requires overflow_mul-result overflow_add-q byte_at-requires-2 overflow_add-result returns)

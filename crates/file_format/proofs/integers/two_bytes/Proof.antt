@@ -5,26 +5,26 @@ use Rattle.file_format.specs.Format.{two_bytes}
 use Rattle.file_format.proofs.integers.two_bytes.Statement.{statement}
 use Rattle.file_format.proofs.integers.two_bytes.Tie as tie
 
-shared-slice-read-wide : tie.Need-shared-slice-read-wide
-shared-slice-read-wide c = search rules
+bounds-file-q : tie.Need-bounds-file-q
+bounds-file-q c = search rules
 
 wide-requires : tie.Need-wide-requires
 wide-requires c κs = search rules
 
-mul-result : tie.Need-overflow-mul-result
-mul-result c = search rules
+overflow_mul-result : tie.Need-overflow_mul-result
+overflow_mul-result c = search rules
 
-add_wide : tie.Need-overflow-add-wide
-add_wide c = search rules
+overflow_add-q : tie.Need-overflow_add-q
+overflow_add-q c = search rules
 
-shared-slice-read-wide-2 : tie.Need-shared-slice-read-wide-2
-shared-slice-read-wide-2 c = search rules
+bounds-file-q-2 : tie.Need-bounds-file-q-2
+bounds-file-q-2 c = search rules
 
 wide-requires-2 : tie.Need-wide-requires-2
 wide-requires-2 c κs = search rules
 
-add-result : tie.Need-overflow-add-result
-add-result c = search rules
+overflow_add-result : tie.Need-overflow_add-result
+overflow_add-result c = search rules
 
 returns : tie.Need-returns
 unfolding two_bytes
@@ -33,12 +33,4 @@ returns c = omega arith
 pub two_bytes_spec : {M : Type 1} → statement M
 two_bytes_spec =
     tie.close
-    (tie.spec
-    shared-slice-read-wide
-    wide-requires
-    mul-result
-    add_wide
-    shared-slice-read-wide-2
-    wide-requires-2
-    add-result
-    returns)
+    (tie.spec bounds-file-q wide-requires overflow_mul-result overflow_add-q bounds-file-q-2 wide-requires-2 overflow_add-result returns)

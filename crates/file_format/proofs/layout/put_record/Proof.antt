@@ -6,28 +6,28 @@ use Rattle.output.proofs.Writing.{wrote_append}
 use Rattle.file_format.proofs.layout.put_record.Statement.{statement}
 use Rattle.file_format.proofs.layout.put_record.Tie as tie
 
-put-two-requires : tie.Need-put-two-requires
+put_two-k-requires : tie.Need-put_two-k-requires
 unfolding big_endian
-put-two-requires c κs = (omega arith, record { low = omega arith })
+put_two-k-requires c κs = (omega arith, record { low = omega arith })
 
-put-two-requires-2 : tie.Need-put-two-requires-2
+put_two-l-requires : tie.Need-put_two-l-requires
 unfolding big_endian
-put-two-requires-2 c κs = (omega arith, record { low = omega arith })
+put_two-l-requires c κs = (omega arith, record { low = omega arith })
 
-put-two-requires-3 : tie.Need-put-two-requires-3
+put_two-a-requires : tie.Need-put_two-a-requires
 unfolding big_endian
-put-two-requires-3 c κs = (omega arith, record { low = omega arith })
+put_two-a-requires c κs = (omega arith, record { low = omega arith })
 
-put-four-requires : tie.Need-put-four-requires
+put_four-b-requires : tie.Need-put_four-b-requires
 unfolding big_endian
-put-four-requires c κs = record { low = omega arith }
+put_four-b-requires c κs = record { low = omega arith }
 
-put-four-requires-2 : tie.Need-put-four-requires-2
+put_four-requires : tie.Need-put_four-requires
 unfolding big_endian
-put-four-requires-2 c κs = record { low = omega arith }
+put_four-requires c κs = record { low = omega arith }
 
-same_length : tie.Need-same-length
-same_length c = search rules
+shape_of-out : tie.Need-shape_of-out
+shape_of-out c = search rules
 
 returns : tie.Need-returns
 returns c =
@@ -36,16 +36,9 @@ returns c =
     let l = a.before.before.before.before in
     let k = l.before.before.before.before in
     let h = k.before.before.before.before in
-    wrote_append (wrote_append (wrote_append (wrote_append h.put_two.ensures k.put-two2.ensures) l.put-two3.ensures) a.put_four.ensures) b.put-four2.ensures
+    wrote_append (wrote_append (wrote_append (wrote_append h.put_two-k.ensures k.put_two-l.ensures) l.put_two-a.ensures) a.put_four-b.ensures) b.put_four.ensures
 
 pub put_record_spec : {M : Type 1} → statement M
 put_record_spec =
     tie.close
-    (tie.spec
-    put-two-requires
-    put-two-requires-2
-    put-two-requires-3
-    put-four-requires
-    put-four-requires-2
-    same_length
-    returns)
+    (tie.spec put_two-k-requires put_two-l-requires put_two-a-requires put_four-b-requires put_four-requires shape_of-out returns)

@@ -3,11 +3,11 @@ use borrow.Author.Rules.{rules}
 use Rattle.file_format.proofs.places.first_record.Statement.{statement}
 use Rattle.file_format.proofs.places.first_record.Tie as tie
 
-add-result : tie.Need-overflow-add-result
-add-result c = search rules
+overflow_add-result : tie.Need-overflow_add-result
+overflow_add-result c = search rules
 
 returns : tie.Need-returns
 returns c = search rules
 
 pub first_record_spec : {M : Type 1} → statement M
-first_record_spec = tie.close (tie.spec add-result returns)
+first_record_spec = tie.close (tie.spec overflow_add-result returns)

@@ -8,20 +8,20 @@ use Rattle.file_format.proofs.Reading.{inside, outside, after_record, after_end}
 use Rattle.file_format.proofs.reader.place_after.Statement.{statement}
 use Rattle.file_format.proofs.reader.place_after.Tie as tie
 
-record-stands-requires : tie.Need-record-stands-requires
-record-stands-requires c κs = search rules
+record_stands-requires : tie.Need-record_stands-requires
+record_stands-requires c κs = search rules
 
-here : (c : tie.Then1) → c.before.before.before.args.at + 14 ≤ length c.before.before.before.args.file.now
-here c = inside _ _ (sym c.before.record-stands.ensures ∙ c.if1.true)
+here : (c : tie.Then-record_stands) → c.args.at + 14 ≤ length c.args.file.now
+here c = inside _ _ (sym c.record_stands.ensures ∙ c.if-record_stands.true)
 
-add-result : tie.Need-overflow-add-result
-add-result c = omega (arith, here c, c.before.before.before.well-formed.0)
+overflow_add-result : tie.Need-overflow_add-result
+overflow_add-result c = omega (arith, here c)
 
-returns : tie.Need-returns
-returns c = after_record _ _ (here c)
+returns-then-record_stands : tie.Need-returns-then-record_stands
+returns-then-record_stands c = after_record _ _ (here c)
 
-returns-2 : tie.Need-returns-2
-returns-2 c = after_end _ _ (outside _ _ (sym c.before.record-stands.ensures ∙ c.if1.false))
+returns-else-record_stands : tie.Need-returns-else-record_stands
+returns-else-record_stands c = after_end _ _ (outside _ _ (sym c.record_stands.ensures ∙ c.if-record_stands.false))
 
 pub place_after_spec : {M : Type 1} → statement M
-place_after_spec = tie.close (tie.spec record-stands-requires add-result returns returns-2)
+place_after_spec = tie.close (tie.spec record_stands-requires overflow_add-result returns-then-record_stands returns-else-record_stands)

@@ -3,26 +3,25 @@ use borrow.Author.Rules.{rules}
 use mathlib.Core.Path.{◌∙◌, sym}
 use Prim.Native.Nat.{◌+◌, ◌≤◌}
 use lib.ListN.{length}
-use borrow.Author.Tests.{not-true, not-false}
 use Rattle.file_format.proofs.Reading.{inside, outside, at_end, at_record}
 use Rattle.file_format.proofs.reader.record_at.Statement.{statement}
 use Rattle.file_format.proofs.reader.record_at.Tie as tie
 
-record-stands-requires : tie.Need-record-stands-requires
-record-stands-requires c κs = search rules
+record_stands-requires : tie.Need-record_stands-requires
+record_stands-requires c κs = search rules
 
-returns : tie.Need-returns
-returns c = at_end _ _ (outside _ _ (sym c.before.record-stands.ensures ∙ not-true _ c.if1.true))
+returns-then-not-record_stands : tie.Need-returns-then-not-record_stands
+returns-then-not-record_stands c = at_end _ _ (outside _ _ (sym c.record_stands.ensures ∙ c.if-not-record_stands.true))
 
 -- the fourteen bytes are in the file
-here : (c : tie.Else1) → c.before.before.before.args.at + 14 ≤ length c.before.before.before.args.file.now
-here c = inside _ _ (sym c.before.record-stands.ensures ∙ not-false _ c.if1.false)
+here : (c : tie.Else-not-record_stands) → c.args.at + 14 ≤ length c.args.file.now
+here c = inside _ _ (sym c.record_stands.ensures ∙ c.if-not-record_stands.false)
 
-standing-record-requires : tie.Need-standing-record-requires
-standing-record-requires c κs = here c
+standing_record-requires : tie.Need-standing_record-requires
+standing_record-requires c κs = here c
 
-returns-2 : tie.Need-returns-2
-returns-2 c = at_record _ _ _ c.standing-record.ensures (here c.before)
+returns : tie.Need-returns
+returns c = at_record _ _ _ c.standing_record.ensures (here c.before)
 
 pub record_at_spec : {M : Type 1} → statement M
-record_at_spec = tie.close (tie.spec record-stands-requires returns standing-record-requires returns-2)
+record_at_spec = tie.close (tie.spec record_stands-requires returns-then-not-record_stands standing_record-requires returns)

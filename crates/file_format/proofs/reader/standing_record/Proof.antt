@@ -6,56 +6,46 @@ use Rattle.file_format.proofs.reader.standing_record.Statement.{statement}
 use Rattle.file_format.proofs.reader.standing_record.Tie as tie
 
 fits : (s : tie.Start) → s.args.at + 14 < 2 ^ 64
-fits s = omega (arith, s.requires, s.well-formed.0)
+fits s = omega arith
 
-two-bytes-requires : tie.Need-two-bytes-requires
-two-bytes-requires c κs = omega (arith, c.before.requires)
+two_bytes-requires : tie.Need-two_bytes-requires
+two_bytes-requires c κs = omega (arith, c.requires)
 
-add-two-bytes : tie.Need-overflow-add-two-bytes
-add-two-bytes c = omega (arith, fits c.before.before)
+overflow_add-at : tie.Need-overflow_add-at
+overflow_add-at c = omega (arith, fits c.before.before)
 
-two-bytes-requires-2 : tie.Need-two-bytes-requires-2
-two-bytes-requires-2 c κs = omega (arith, c.before.before.requires)
+two_bytes-requires-2 : tie.Need-two_bytes-requires-2
+two_bytes-requires-2 c κs = omega (arith, c.requires)
 
-add-two-bytes-2 : tie.Need-overflow-add-two-bytes-2
-add-two-bytes-2 c = omega (arith, fits c.before.before.before)
+overflow_add-at-2 : tie.Need-overflow_add-at-2
+overflow_add-at-2 c = omega (arith, fits c.before.before.before)
 
-two-bytes-requires-3 : tie.Need-two-bytes-requires-3
-two-bytes-requires-3 c κs = omega (arith, c.before.before.before.requires)
+two_bytes-requires-3 : tie.Need-two_bytes-requires-3
+two_bytes-requires-3 c κs = omega (arith, c.requires)
 
-add-four-bytes : tie.Need-overflow-add-four-bytes
-add-four-bytes c = omega (arith, fits c.before.before.before.before)
+overflow_add-at-3 : tie.Need-overflow_add-at-3
+overflow_add-at-3 c = omega (arith, fits c.before.before.before.before)
 
-four-bytes-requires : tie.Need-four-bytes-requires
-four-bytes-requires c κs = omega (arith, c.before.before.before.before.requires)
+four_bytes-requires : tie.Need-four_bytes-requires
+four_bytes-requires c κs = omega (arith, c.requires)
 
-add-four-bytes-2 : tie.Need-overflow-add-four-bytes-2
-add-four-bytes-2 c = omega (arith, fits c.before.before.before.before.before)
+overflow_add-at-4 : tie.Need-overflow_add-at-4
+overflow_add-at-4 c = omega (arith, fits c.before.before.before.before.before)
 
-four-bytes-requires-2 : tie.Need-four-bytes-requires-2
-four-bytes-requires-2 c κs = omega (arith, c.before.before.before.before.before.requires)
+four_bytes-requires-2 : tie.Need-four_bytes-requires-2
+four_bytes-requires-2 c κs = omega (arith, c.requires)
 
 returns : tie.Need-returns
 unfolding record_at
 returns c =
-    let h = c.before.before.before.before.two_bytes.ensures.0 in
-    let k = c.before.before.before.two-bytes2.ensures.0 in
-    let l = c.before.before.two-bytes3.ensures.0 in
-    let x = c.before.four_bytes.ensures in
-    let y = c.four-bytes2.ensures in
+    let h = c.two_bytes.ensures.0 in
+    let k = c.two_bytes-2.ensures.0 in
+    let l = c.two_bytes-3.ensures.0 in
+    let x = c.four_bytes.ensures in
+    let y = c.four_bytes-2.ensures in
     λ i. record { h = h i; k = k i; l = l i; a = x i; b = y i }
 
 pub standing_record_spec : {M : Type 1} → statement M
 standing_record_spec =
     tie.close
-    (tie.spec
-    two-bytes-requires
-    add-two-bytes
-    two-bytes-requires-2
-    add-two-bytes-2
-    two-bytes-requires-3
-    add-four-bytes
-    four-bytes-requires
-    add-four-bytes-2
-    four-bytes-requires-2
-    returns)
+    (tie.spec two_bytes-requires overflow_add-at two_bytes-requires-2 overflow_add-at-2 two_bytes-requires-3 overflow_add-at-3 four_bytes-requires overflow_add-at-4 four_bytes-requires-2 returns)

@@ -8,7 +8,7 @@ wide-requires : tie.Need-wide-requires
 wide-requires c κs = search rules
 
 returns : tie.Need-returns
-returns c = record { each = λ i. omega (arith, c.before.shared-slice-known.given i) }
+returns c = record { each = λ i. omega (arith, c.before.shared_slice_known-1.given i) }
 
 pub are_bytes_spec : {M : Type 1} → statement M
 are_bytes_spec = tie.close (tie.spec wide-requires returns)

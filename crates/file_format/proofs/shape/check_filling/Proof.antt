@@ -9,50 +9,42 @@ use Rattle.file_format.proofs.shape.check_filling.Statement.{statement}
 use Rattle.file_format.proofs.shape.check_filling.Tie as tie
 
 -- the first record's place
-placed : (c : tie.After-first-record) → c.first-record.result ≡ count_at c.before.before.args.file.now + 4
-placed c = c.first-record.ensures ∙ ap (λ (n : ℕ). n + 4) c.before.before.requires.count
+placed : (c : tie.After-first_record-at) → c.first_record-at.result ≡ count_at c.before.before.args.file.now + 4
+placed c = c.first_record-at.ensures ∙ ap (λ (n : ℕ). n + 4) c.before.before.requires.count
 
 -- the record count that was read
-records : (c : tie.After-four-bytes) → c.four_bytes.result ≡ record_count c.before.before.before.before.args.file.now
+records : (c : tie.After-four_bytes-records) → c.four_bytes-records.result ≡ record_count c.before.before.before.before.args.file.now
 records c =
     let s = c.before.before.before.before in
-    c.four_bytes.ensures ∙ ap (four_bytes s.args.file.now) s.requires.count
+    c.four_bytes-records.ensures ∙ ap (four_bytes s.args.file.now) s.requires.count
 
-first-record-requires : tie.Need-first-record-requires
-first-record-requires c κs = c.before.requires.near
+first_record-at-requires : tie.Need-first_record-at-requires
+first_record-at-requires c κs = c.before.requires.near
+
+returns-then-file-at : tie.Need-returns-then-file-at
+returns-then-file-at c = not_filled_lem _ (λ q. omega (arith, placed c.before))
+
+four_bytes-records-requires : tie.Need-four_bytes-records-requires
+four_bytes-records-requires c κs = search rules
+
+overflow_cast-records : tie.Need-overflow_cast-records
+overflow_cast-records c = search rules
+
+overflow_mul-records : tie.Need-overflow_mul-records
+overflow_mul-records c = search rules
+
+overflow_add-at : tie.Need-overflow_add-at
+overflow_add-at c = search rules
+
+returns-then-at-records : tie.Need-returns-then-at-records
+returns-then-at-records c = not_filled_lem _ (λ q. c.if-at-records.true (omega (arith, records c.before, placed c.before.before.before)))
 
 returns : tie.Need-returns
-returns c = not_filled_lem _ (λ q. omega (arith, placed c.before))
-
-four-bytes-requires : tie.Need-four-bytes-requires
-four-bytes-requires c κs = search rules
-
-cast-records : tie.Need-overflow-cast-records
-cast-records c = search rules
-
-mul-if2 : tie.Need-overflow-mul-if2
-mul-if2 c = search rules
-
-add-if2 : tie.Need-overflow-add-if2
-add-if2 c = search rules
-
-returns-2 : tie.Need-returns-2
-returns-2 c = not_filled_lem _ (λ q. c.if2.true (omega (arith, records c.before, placed c.before.before.before)))
-
-returns-3 : tie.Need-returns-3
-returns-3 c =
+returns c =
     let r = c.before in
-    sound_filling _ (omega (arith, c.if2.false, records r, placed r.before.before))
+    sound_filling _ (omega (arith, c.if-at-records.false, records r, placed r.before.before))
 
 pub check_filling_spec : {M : Type 1} → statement M
 check_filling_spec =
     tie.close
-    (tie.spec
-    first-record-requires
-    returns
-    four-bytes-requires
-    cast-records
-    mul-if2
-    add-if2
-    returns-2
-    returns-3)
+    (tie.spec first_record-at-requires returns-then-file-at four_bytes-records-requires overflow_cast-records overflow_mul-records overflow_add-at returns-then-at-records returns)

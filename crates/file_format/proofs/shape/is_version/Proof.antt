@@ -11,11 +11,11 @@ first_holds b d e = e ∙ sym (ap (λ x. x || d) e)
 second_counts : (b d : Bool) → b ≡ false → d ≡ (b || d)
 second_counts b d e = sym (ap (λ x. x || d) e)
 
-returns : tie.Need-returns
-returns c = first_holds _ _ (eq-eqb _ 1 c.if1.true)
+returns-then-version-eq1 : tie.Need-returns-then-version-eq1
+returns-then-version-eq1 c = first_holds _ _ (eq-eqb _ 1 c.if-version-eq1.true)
 
-returns-2 : tie.Need-returns-2
-returns-2 c = second_counts _ _ (ne_eqb _ 1 c.if1.false)
+returns-else-version-eq1 : tie.Need-returns-else-version-eq1
+returns-else-version-eq1 c = second_counts _ _ (ne_eqb _ 1 c.if-version-eq1.false)
 
 pub is_version_spec : {M : Type 1} → statement M
-is_version_spec = tie.close (tie.spec returns returns-2)
+is_version_spec = tie.close (tie.spec returns-then-version-eq1 returns-else-version-eq1)

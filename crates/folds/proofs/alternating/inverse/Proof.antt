@@ -62,15 +62,9 @@ shape_of-work c = c.transform.auto.work
 
 returns : tie.Need-returns
 returns c =
-    let e = c.before.before in
-    let t = e.before.before.before.before.before.before.before in
-    let w = t.before.before.before.before.before in
-    let o = w.before.before.before in
-    let r = o.before in
-    let s = r in
-    let f = s.requires.0.0 in
-    back_by s.args.m s.args.a f (λ k. (field s.args.m).neg (tangent s.args.m s.args.a s.args.tan.now k)) (values_of s.args.m s.args.line.now)
-    (part s.args.m (2 * s.args.a)) e.pack.ensures r.share-share.ensures.0 (o.twice_sum-twice.ensures.1 s.args.a) w.inverse_short_line.ensures t.transform.ensures.0
+    let f = c.requires.0.0 in
+    back_by c.args.m c.args.a f (λ k. (field c.args.m).neg (tangent c.args.m c.args.a c.args.tan.now k)) (values_of c.args.m c.args.line.now)
+    (part c.args.m (2 * c.args.a)) c.pack.ensures c.share-share.ensures.0 (c.twice_sum-twice.ensures.1 c.args.a) c.inverse_short_line.ensures c.transform.ensures.0
 
 pub inverse_spec : {M : Type 1} → statement M
 inverse_spec =

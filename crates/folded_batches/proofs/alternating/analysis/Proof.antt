@@ -11,38 +11,38 @@ use Rattle.folded_batches.proofs.AlternatingAnalysis.{angled_up, taken_up, twice
 use Rattle.folded_batches.proofs.alternating.analysis.Statement.{statement}
 use Rattle.folded_batches.proofs.alternating.analysis.Tie as tie
 
-mul-size : tie.Need-overflow-mul-size
-mul-size c = omega (arith, c.before.before.requires.1.0)
+overflow_mul-size : tie.Need-overflow_mul-size
+overflow_mul-size c = omega (arith, c.requires.1.0)
 
-turn-places-requires : tie.Need-turn-places-requires
-turn-places-requires c κs = ((c.before.before.before.requires.0.0.modulus, c.before.before.before.requires.0.1, c.before.before.before.requires.0.0.positive, c.before.before.before.requires.0.0.divides), (c.before.before.before.requires.1.2, up_as c.before.before.before.requires.1.3 (omega (arith, prime_most c.before.before.before.requires.0.0.modulus))))
+turn_places-requires : tie.Need-turn_places-requires
+turn_places-requires c κs = ((c.requires.0.0.modulus, c.requires.0.1, c.requires.0.0.positive, c.requires.0.0.divides), (c.requires.1.2, up_as c.requires.1.3 (omega (arith, prime_most c.requires.0.0.modulus))))
 
-take-first-requires : tie.Need-take-first-requires
-take-first-requires c κs = (c.before.before.before.before.before.before.before.before.requires.0.0.modulus, omega (arith, c.before.before.before.fold.given, c.before.before.before.before.before.before.before.before.requires.1.2, c.before.before.before.before.before.before.before.before.requires.0.0.positive), angled_up c.before.before.before.before.before.before.before.before.args.m c.before.before.before.before.before.before.before.before.args.a c.before.before.before.before.before.before.before.before.args.rotated c.before.before.before.before.before.before.before.before.args.tan.now c.before.before.before.before.before.before.before.before.args.fold.now c.before.before.before.before.turn-places.ensures (omega (arith, c.before.before.before.fold.given, c.before.before.before.before.before.before.before.before.requires.1.2)), length-replicate {A = ℕ} 32 0)
+take_first-requires : tie.Need-take_first-requires
+take_first-requires c κs = (c.requires.0.0.modulus, omega (arith, c.fold-1.given, c.requires.1.2, c.requires.0.0.positive), angled_up c.args.m c.args.a c.args.rotated c.args.tan.now c.args.fold.now c.turn_places.ensures (omega (arith, c.fold-1.given, c.requires.1.2)), length-replicate {A = ℕ} 32 0)
 
-slice-relend-prefix-transform : tie.Need-slice-relend-prefix-transform
-slice-relend-prefix-transform c = omega (arith, c.before.before.before.before.before.before.before.before.before.before.before.before.requires.1.1)
+slice_bounds-transform-end : tie.Need-slice_bounds-transform-end
+slice_bounds-transform-end c = omega (arith, c.requires.1.1)
 
-slice-aggregate-transform : tie.Need-slice-aggregate-transform
-slice-aggregate-transform c = sym (length-take-le _ _ (omega (arith, c.before.before.before.before.before.before.before.before.before.before.before.before.before.requires.1.1)))
+slice_bounds-transform-end-2 : tie.Need-slice_bounds-transform-end-2
+slice_bounds-transform-end-2 c = sym (length-take-le _ _ (omega (arith, c.requires.1.1)))
 
 transform-requires : tie.Need-transform-requires
-transform-requires c κs = ((c.before.before.before.before.before.before.before.before.before.before.before.before.before.requires.0.0.modulus, c.before.before.before.before.before.before.before.before.before.before.before.before.before.requires.0.0.table, c.before.before.before.before.before.before.before.before.before.before.before.before.before.requires.0.2), ((c.before.before.before.before.before.before.before.before.before.before.before.before.before.requires.0.3, half_divides c.before.before.before.before.before.before.before.before.before.before.before.before.before.requires.0.0), (omega (arith, c.before.before.before.fold2.given, c.before.before.before.before.before.before.before.before.fold.given, c.before.before.before.before.before.before.before.before.before.before.before.before.before.requires.1.2), length-take-le _ _ (omega (arith, c.before.before.before.before.before.before.before.before.before.before.before.before.before.requires.1.1)), taken_up c.before.before.before.before.before.before.before.before.before.before.before.before.before.args.m c.before.before.before.before.before.before.before.before.before.before.before.before.before.args.a (omega (arith, c.before.before.before.before.before.before.before.before.fold.given, c.before.before.before.before.before.before.before.before.before.before.before.before.before.requires.1.2)) (angled_up c.before.before.before.before.before.before.before.before.before.before.before.before.before.args.m c.before.before.before.before.before.before.before.before.before.before.before.before.before.args.a c.before.before.before.before.before.before.before.before.before.before.before.before.before.args.rotated c.before.before.before.before.before.before.before.before.before.before.before.before.before.args.tan.now c.before.before.before.before.before.before.before.before.before.before.before.before.before.args.fold.now c.before.before.before.before.before.before.before.before.before.turn-places.ensures (omega (arith, c.before.before.before.before.before.before.before.before.fold.given, c.before.before.before.before.before.before.before.before.before.before.before.before.before.requires.1.2))) c.before.before.before.before.take-first.ensures)))
+transform-requires c κs = ((c.requires.0.0.modulus, c.requires.0.0.table, c.requires.0.2), ((c.requires.0.3, half_divides c.requires.0.0), (omega (arith, c.fold-2-1.given, c.fold-1.given, c.requires.1.2), length-take-le _ _ (omega (arith, c.requires.1.1)), taken_up c.args.m c.args.a (omega (arith, c.fold-1.given, c.requires.1.2)) (angled_up c.args.m c.args.a c.args.rotated c.args.tan.now c.args.fold.now c.turn_places.ensures (omega (arith, c.fold-1.given, c.requires.1.2))) c.take_first.ensures)))
 
-whole-line-requires : tie.Need-whole-line-requires
-whole-line-requires c κs = ((c.before.before.before.before.before.before.before.before.before.before.before.before.before.before.before.before.before.before.before.before.before.requires.0.0.modulus, c.before.before.before.before.before.before.before.before.before.before.before.before.before.before.before.before.before.before.before.before.before.requires.0.0.positive, omega (arith, c.before.before.before.before.before.before.before.before.before.before.before.before.before.before.before.before.before.before.before.before.before.requires.1.0), transformed_up c.before.before.before.before.before.before.before.transform.ensures (taken_up c.before.before.before.before.before.before.before.before.before.before.before.before.before.before.before.before.before.before.before.before.before.args.m c.before.before.before.before.before.before.before.before.before.before.before.before.before.before.before.before.before.before.before.before.before.args.a (omega (arith, c.before.before.before.before.before.before.before.before.before.before.before.before.before.before.before.before.fold.given, c.before.before.before.before.before.before.before.before.before.before.before.before.before.before.before.before.before.before.before.before.before.requires.1.2)) (angled_up c.before.before.before.before.before.before.before.before.before.before.before.before.before.before.before.before.before.before.before.before.before.args.m c.before.before.before.before.before.before.before.before.before.before.before.before.before.before.before.before.before.before.before.before.before.args.a c.before.before.before.before.before.before.before.before.before.before.before.before.before.before.before.before.before.before.before.before.before.args.rotated c.before.before.before.before.before.before.before.before.before.before.before.before.before.before.before.before.before.before.before.before.before.args.tan.now c.before.before.before.before.before.before.before.before.before.before.before.before.before.before.before.before.before.before.before.before.before.args.fold.now c.before.before.before.before.before.before.before.before.before.before.before.before.before.before.before.before.before.turn-places.ensures (omega (arith, c.before.before.before.before.before.before.before.before.before.before.before.before.before.before.before.before.fold.given, c.before.before.before.before.before.before.before.before.before.before.before.before.before.before.before.before.before.before.before.before.before.requires.1.2))) c.before.before.before.before.before.before.before.before.before.before.before.before.take-first.ensures), twice_most c.before.before.before.before.before.before.before.before.before.before.before.before.before.before.before.before.before.before.before.before.before.args.m c.before.before.before.before.before.before.before.before.before.before.before.before.before.before.before.before.before.before.before.before.before.requires.0.0.modulus (angled_up c.before.before.before.before.before.before.before.before.before.before.before.before.before.before.before.before.before.before.before.before.before.args.m c.before.before.before.before.before.before.before.before.before.before.before.before.before.before.before.before.before.before.before.before.before.args.a c.before.before.before.before.before.before.before.before.before.before.before.before.before.before.before.before.before.before.before.before.before.args.rotated c.before.before.before.before.before.before.before.before.before.before.before.before.before.before.before.before.before.before.before.before.before.args.tan.now c.before.before.before.before.before.before.before.before.before.before.before.before.before.before.before.before.before.before.before.before.before.args.fold.now c.before.before.before.before.before.before.before.before.before.before.before.before.before.before.before.before.before.turn-places.ensures (omega (arith, c.before.before.before.before.before.before.before.before.before.before.before.before.before.before.before.before.fold.given, c.before.before.before.before.before.before.before.before.before.before.before.before.before.before.before.before.before.before.before.before.before.requires.1.2))) c.before.before.before.before.before.before.before.before.before.before.before.before.take-first.ensures), (c.before.before.before.before.before.before.before.transform.ensures.long, omega (arith, c.before.before.before.before.line.given, c.before.before.before.before.before.before.before.before.before.before.before.before.before.before.before.before.before.before.before.before.before.requires.1.1)))
+whole_line-requires : tie.Need-whole_line-requires
+whole_line-requires c κs = ((c.requires.0.0.modulus, c.requires.0.0.positive, omega (arith, c.requires.1.0), transformed_up c.transform.ensures (taken_up c.args.m c.args.a (omega (arith, c.fold-1.given, c.requires.1.2)) (angled_up c.args.m c.args.a c.args.rotated c.args.tan.now c.args.fold.now c.turn_places.ensures (omega (arith, c.fold-1.given, c.requires.1.2))) c.take_first.ensures), twice_most c.args.m c.requires.0.0.modulus (angled_up c.args.m c.args.a c.args.rotated c.args.tan.now c.args.fold.now c.turn_places.ensures (omega (arith, c.fold-1.given, c.requires.1.2))) c.take_first.ensures), (c.transform.ensures.long, omega (arith, c.line-1.given, c.requires.1.1)))
 
 pack-requires : tie.Need-pack-requires
-pack-requires c κs = (c.before.before.before.before.before.before.before.before.before.before.before.before.before.before.before.before.before.before.before.before.before.before.before.before.before.requires.0.0.positive, omega (arith, c.before.before.before.before.before.before.before.before.before.before.before.before.before.before.before.before.before.before.before.before.before.before.before.before.before.requires.1.0), omega (arith, c.before.before.line2.given, c.before.before.before.before.before.before.before.before.line.given, c.before.before.before.before.before.before.before.before.before.before.before.before.before.before.before.before.before.before.before.before.before.before.before.before.before.requires.1.1))
+pack-requires c κs = (c.requires.0.0.positive, omega (arith, c.requires.1.0), omega (arith, c.line-2-1.given, c.line-1.given, c.requires.1.1))
 
-same_length : tie.Need-same-length
-same_length c = omega (arith, c.before.before.before.before.before.before.before.before.before.before.before.before.before.fold3.given, c.before.before.before.before.before.before.before.before.before.before.before.before.before.before.before.before.before.before.fold2.given, c.before.before.before.before.before.before.before.before.before.before.before.before.before.before.before.before.before.before.before.before.before.before.before.fold.given)
+shape_of-fold : tie.Need-shape_of-fold
+shape_of-fold c = omega (arith, c.fold-3-1.given, c.fold-2-1.given, c.fold-1.given)
 
-same-length-2 : tie.Need-same-length-2
-same-length-2 c = omega (arith, c.before.line3.given, c.before.before.before.before.before.line2.given, c.before.before.before.before.before.before.before.before.before.before.before.line.given)
+shape_of-line : tie.Need-shape_of-line
+shape_of-line c = omega (arith, c.line-3-1.given, c.line-2-1.given, c.line-1.given)
 
 returns : tie.Need-returns
-returns c = analysis_by c.before.before.before.before.before.before.before.before.before.before.before.before.before.before.before.before.before.before.before.before.before.before.before.before.before.before.before.before.args.tan.now c.before.before.before.before.before.before.before.before.before.before.before.before.before.before.before.before.before.before.before.before.before.before.before.before.before.before.before.before.requires.0.0 c.before.before.before.before.before.before.before.before.before.before.before.before.before.before.before.before.before.before.before.before.before.before.before.before.before.before.before.before.args.rotated c.before.before.before.before.before.before.before.before.before.before.before.before.before.before.before.before.before.before.before.before.before.before.before.before.before.before.before.before.args.fold.now (omega (arith, c.before.before.before.before.before.before.before.before.before.before.before.before.before.before.before.before.before.before.before.before.before.before.before.fold.given, c.before.before.before.before.before.before.before.before.before.before.before.before.before.before.before.before.before.before.before.before.before.before.before.before.before.before.before.before.requires.1.2)) c.before.before.before.before.before.before.before.before.before.before.before.before.before.before.before.before.before.before.before.before.before.before.before.before.turn-places.ensures c.before.before.before.before.before.before.before.before.before.before.before.before.before.before.before.before.before.before.before.take-first.ensures c.before.before.before.before.before.before.before.before.before.before.before.before.before.before.transform.ensures c.before.before.before.before.before.before.whole-line.ensures (omega (arith, c.before.before.before.before.before.line2.given, c.before.before.before.before.before.before.before.before.before.before.before.line.given, c.before.before.before.before.before.before.before.before.before.before.before.before.before.before.before.before.before.before.before.before.before.before.before.before.before.before.before.before.requires.1.1)) c.before.before.pack.ensures
+returns c = analysis_by c.args.tan.now c.requires.0.0 c.args.rotated c.args.fold.now (omega (arith, c.fold-1.given, c.requires.1.2)) c.turn_places.ensures c.take_first.ensures c.transform.ensures c.whole_line.ensures (omega (arith, c.line-2-1.given, c.line-1.given, c.requires.1.1)) c.pack.ensures
 
 pub analysis_spec : {M : Type 1} → statement M
-analysis_spec = tie.close (tie.spec mul-size turn-places-requires take-first-requires slice-relend-prefix-transform slice-aggregate-transform transform-requires whole-line-requires pack-requires same_length same-length-2 returns)
+analysis_spec = tie.close (tie.spec overflow_mul-size turn_places-requires take_first-requires slice_bounds-transform-end slice_bounds-transform-end-2 transform-requires whole_line-requires pack-requires shape_of-fold shape_of-line returns)

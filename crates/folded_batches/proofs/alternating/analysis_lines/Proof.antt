@@ -11,44 +11,44 @@ use Rattle.folded_batches.proofs.AlternatingGroups.{taken_reducible, share_holds
 use Rattle.folded_batches.proofs.alternating.analysis_lines.Statement.{statement}
 use Rattle.folded_batches.proofs.alternating.analysis_lines.Tie as tie
 
-mul-size : tie.Need-overflow-mul-size
-mul-size c = omega (arith, c.before.before.before.requires.1.0.0)
+overflow_mul-size : tie.Need-overflow_mul-size
+overflow_mul-size c = omega (arith, c.requires.1.0.0)
 
 gather-requires : tie.Need-gather-requires
-gather-requires c κs = (c.before.before.before.before.before.requires.1.0.3, c.before.before.before.before.before.requires.1.1.0, c.before.before.before.before.before.requires.1.0.2)
+gather-requires c κs = (c.requires.1.0.3, c.requires.1.1.0, c.requires.1.0.2)
 
 analysis-requires : tie.Need-analysis-requires
-analysis-requires c κs = (c.before.before.before.before.before.before.before.before.before.before.requires.0, (c.before.before.before.before.before.before.before.before.before.before.requires.1.0.0, c.before.before.before.before.before.before.before.before.before.before.requires.1.0.1, omega (arith, c.before.before.before.fold.given, c.before.before.before.before.before.before.before.before.before.before.requires.1.0.2), gathered_low c.before.before.before.before.gather.ensures c.before.before.before.before.before.before.before.before.before.before.args.m c.before.before.before.before.before.before.before.before.before.before.requires.1.1.1 (omega (arith, c.before.before.before.fold.given, c.before.before.before.before.before.before.before.before.before.before.requires.1.0.2))))
+analysis-requires c κs = (c.requires.0, (c.requires.1.0.0, c.requires.1.0.1, omega (arith, c.fold-1.given, c.requires.1.0.2), gathered_low c.gather.ensures c.args.m c.requires.1.1.1 (omega (arith, c.fold-1.given, c.requires.1.0.2))))
 
 shift-requires : tie.Need-shift-requires
-shift-requires c κs = c.before.before.before.before.before.before.before.before.before.before.before.before.before.before.before.requires.0.0.modulus
+shift-requires c κs = c.requires.0.0.modulus
 
 share-requires : tie.Need-share-requires
-share-requires c κs = (c.before.before.before.before.before.before.before.before.before.before.before.before.before.before.before.before.requires.0.0.modulus, c.before.before.before.before.before.before.before.before.before.before.before.before.before.before.before.before.requires.0.0.positive, omega (arith, c.before.before.before.before.before.before.before.before.before.before.before.before.before.before.before.before.requires.1.0.0))
+share-requires c κs = (c.requires.0.0.modulus, c.requires.0.0.positive, omega (arith, c.requires.1.0.0))
 
-mul-requires : tie.Need-mul-requires
-mul-requires c κs = (c.before.before.before.before.before.before.before.before.before.before.before.before.before.before.before.before.before.requires.0.0.modulus, below_by c.before.before.before.before.before.before.before.before.before.before.before.before.before.before.before.before.before.args.m (res c.before.before.before.before.before.before.before.before.before.before.before.before.before.before.before.before.before.args.m 4294967296) c.before.shift.ensures, c.share.ensures.1)
+mul-c-requires : tie.Need-mul-c-requires
+mul-c-requires c κs = (c.requires.0.0.modulus, below_by c.args.m (res c.args.m 4294967296) c.shift.ensures, c.share.ensures.1)
 
-slice-reshare-prefix-scatter : tie.Need-slice-reshare-prefix-scatter
-slice-reshare-prefix-scatter c = omega (arith, c.before.before.before.before.before.before.before.analysis.ensures.long)
+slice_bounds-scatter-end : tie.Need-slice_bounds-scatter-end
+slice_bounds-scatter-end c = omega (arith, c.analysis.ensures.long)
 
-slice-aggregate-scatter : tie.Need-slice-aggregate-scatter
-slice-aggregate-scatter c = sym (length-take-le _ _ (omega (arith, c.before.before.before.before.before.before.before.before.analysis.ensures.long)))
+slice_bounds-scatter-end-2 : tie.Need-slice_bounds-scatter-end-2
+slice_bounds-scatter-end-2 c = sym (length-take-le _ _ (omega (arith, c.analysis.ensures.long)))
 
 scatter-requires : tie.Need-scatter-requires
-scatter-requires c κs = ((c.before.before.before.before.before.before.before.before.before.before.before.before.before.before.before.before.before.before.before.before.requires.0.0.modulus, below_by c.before.before.before.before.before.before.before.before.before.before.before.before.before.before.before.before.before.before.before.before.args.m ((ring c.before.before.before.before.before.before.before.before.before.before.before.before.before.before.before.before.before.before.before.before.args.m).mul (res c.before.before.before.before.before.before.before.before.before.before.before.before.before.before.before.before.before.before.before.before.args.m c.before.before.before.before.shift.result) (res c.before.before.before.before.before.before.before.before.before.before.before.before.before.before.before.before.before.before.before.before.args.m c.before.before.before.share.result)) c.before.before.mul.ensures, c.before.before.before.before.before.before.before.before.before.before.before.before.before.before.before.before.before.before.before.before.requires.1.0.3, c.before.before.before.before.before.before.before.before.before.before.before.before.before.before.before.before.before.before.before.before.requires.1.0.4, length-take-le _ _ (omega (arith, c.before.before.before.before.before.before.before.before.before.analysis.ensures.long)), taken_reducible _ c.before.before.before.before.before.before.before.before.before.before.before.before.before.before.before.before.before.before.before.before.args.a c.before.before.before.before.before.before.before.before.before.analysis.ensures.low (omega (arith, c.before.before.before.before.before.before.before.before.before.analysis.ensures.long))), c.before.before.before.before.before.before.before.before.before.before.before.before.before.before.before.before.before.before.before.before.requires.1.1.0)
+scatter-requires c κs = ((c.requires.0.0.modulus, below_by c.args.m ((ring c.args.m).mul (res c.args.m c.shift.result) (res c.args.m c.share.result)) c.mul-c.ensures, c.requires.1.0.3, c.requires.1.0.4, length-take-le _ _ (omega (arith, c.analysis.ensures.long)), taken_reducible _ c.args.a c.analysis.ensures.low (omega (arith, c.analysis.ensures.long))), c.requires.1.1.0)
 
-same_length : tie.Need-same-length
-same_length c = omega (arith, c.before.volume.given)
+shape_of-volume : tie.Need-shape_of-volume
+shape_of-volume c = omega (arith, c.volume-1.given)
 
-same-length-2 : tie.Need-same-length-2
-same-length-2 c = omega (arith, c.before.before.before.before.before.before.before.before.before.line.given)
+shape_of-line : tie.Need-shape_of-line
+shape_of-line c = omega (arith, c.line-1.given)
 
-same-length-3 : tie.Need-same-length-3
-same-length-3 c = omega (arith, c.before.before.before.before.before.before.before.before.before.before.before.fold2.given, c.before.before.before.before.before.before.before.before.before.before.before.before.before.before.before.before.fold.given)
+shape_of-fold : tie.Need-shape_of-fold
+shape_of-fold c = omega (arith, c.fold-2-1.given, c.fold-1.given)
 
 returns : tie.Need-returns
-returns c = analysis_group c.before.before.before.before.before.before.before.before.before.before.before.before.before.before.before.before.before.gather.ensures c.before.before.before.before.before.before.before.before.before.before.before.before.before.before.before.before.before.before.before.before.before.before.before.requires.1.1.1 c.before.before.before.before.before.before.before.before.before.before.before.before.before.before.before.before.before.before.before.before.before.before.before.requires.1.0.3 c.before.before.before.before.before.before.before.before.before.before.before.before.before.before.before.before.before.before.before.before.before.before.before.requires.1.0.4 c.before.before.before.before.before.before.before.before.before.before.before.before.before.before.before.before.before.before.before.before.before.before.before.requires.1.1.0 c.before.before.before.before.before.before.before.before.before.before.before.before.analysis.ensures c.before.before.scatter.ensures (share_holds c.before.before.before.before.before.before.before.before.before.before.before.before.before.before.before.before.before.before.before.before.before.before.before.args.m (2 * c.before.before.before.before.before.before.before.before.before.before.before.before.before.before.before.before.before.before.before.before.before.before.before.args.a) c.before.before.before.before.before.before.before.shift.ensures c.before.before.before.before.before.before.share.ensures.0 c.before.before.before.before.before.mul.ensures)
+returns c = analysis_group c.gather.ensures c.requires.1.1.1 c.requires.1.0.3 c.requires.1.0.4 c.requires.1.1.0 c.analysis.ensures c.scatter.ensures (share_holds c.args.m (2 * c.args.a) c.shift.ensures c.share.ensures.0 c.mul-c.ensures)
 
 pub analysis_lines_spec : {M : Type 1} → statement M
-analysis_lines_spec = tie.close (tie.spec mul-size gather-requires analysis-requires shift-requires share-requires mul-requires slice-reshare-prefix-scatter slice-aggregate-scatter scatter-requires same_length same-length-2 same-length-3 returns)
+analysis_lines_spec = tie.close (tie.spec overflow_mul-size gather-requires analysis-requires shift-requires share-requires mul-c-requires slice_bounds-scatter-end slice_bounds-scatter-end-2 scatter-requires shape_of-volume shape_of-line shape_of-fold returns)

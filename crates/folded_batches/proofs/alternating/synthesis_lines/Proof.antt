@@ -9,38 +9,38 @@ use Rattle.folded_batches.proofs.AlternatingGroups.{gathered_front, gathered_pac
 use Rattle.folded_batches.proofs.alternating.synthesis_lines.Statement.{statement}
 use Rattle.folded_batches.proofs.alternating.synthesis_lines.Tie as tie
 
-mul-size : tie.Need-overflow-mul-size
-mul-size c = omega (arith, c.before.before.before.requires.1.0.0)
+overflow_mul-size : tie.Need-overflow_mul-size
+overflow_mul-size c = omega (arith, c.requires.1.0.0)
 
-slice-relend-prefix-gather : tie.Need-slice-relend-prefix-gather
-slice-relend-prefix-gather c = omega (arith, c.before.before.before.before.requires.1.0.1)
+slice_bounds-gather-end : tie.Need-slice_bounds-gather-end
+slice_bounds-gather-end c = omega (arith, c.requires.1.0.1)
 
-slice-aggregate-gather : tie.Need-slice-aggregate-gather
-slice-aggregate-gather c = sym (length-take-le _ _ (omega (arith, c.before.before.before.before.before.requires.1.0.1)))
+slice_bounds-gather-end-2 : tie.Need-slice_bounds-gather-end-2
+slice_bounds-gather-end-2 c = sym (length-take-le _ _ (omega (arith, c.requires.1.0.1)))
 
 gather-requires : tie.Need-gather-requires
-gather-requires c κs = (c.before.before.before.before.before.requires.1.0.3, c.before.before.before.before.before.requires.1.1.0, length-take-le _ _ (omega (arith, c.before.before.before.before.before.requires.1.0.1)))
+gather-requires c κs = (c.requires.1.0.3, c.requires.1.1.0, length-take-le _ _ (omega (arith, c.requires.1.0.1)))
 
 synthesis-requires : tie.Need-synthesis-requires
-synthesis-requires c κs = (c.before.before.before.before.before.before.before.before.before.before.requires.0, (c.before.before.before.before.before.before.before.before.before.before.requires.1.0.0, omega (arith, c.before.before.before.line.given, c.before.before.before.before.before.before.before.before.before.before.requires.1.0.1), c.before.before.before.before.before.before.before.before.before.before.requires.1.0.2, gathered_packed (gathered_front c.before.before.before.before.gather.ensures (c.before.before.before.line.given.0 ∙ length-take-le _ _ (omega (arith, c.before.before.before.before.before.before.before.before.before.before.requires.1.0.1))) _) c.before.before.before.before.before.before.before.before.before.before.requires.1.1.1))
+synthesis-requires c κs = (c.requires.0, (c.requires.1.0.0, omega (arith, c.line-1.given, c.requires.1.0.1), c.requires.1.0.2, gathered_packed (gathered_front c.gather.ensures (c.line-1.given.0 ∙ length-take-le _ _ (omega (arith, c.requires.1.0.1))) _) c.requires.1.1.1))
 
-shift-requires : tie.Need-shift-requires
-shift-requires c κs = c.before.before.before.before.before.before.before.before.before.before.before.before.before.before.before.requires.0.0.modulus
+shift-c-requires : tie.Need-shift-c-requires
+shift-c-requires c κs = c.requires.0.0.modulus
 
 scatter-requires : tie.Need-scatter-requires
-scatter-requires c κs = ((c.before.before.before.before.before.before.before.before.before.before.before.before.before.before.before.before.before.before.requires.0.0.modulus, below_by c.before.before.before.before.before.before.before.before.before.before.before.before.before.before.before.before.before.before.args.m (res c.before.before.before.before.before.before.before.before.before.before.before.before.before.before.before.before.before.before.args.m 4294967296) c.before.before.shift.ensures, c.before.before.before.before.before.before.before.before.before.before.before.before.before.before.before.before.before.before.requires.1.0.3, c.before.before.before.before.before.before.before.before.before.before.before.before.before.before.before.before.before.before.requires.1.0.4, c.before.before.before.before.before.before.before.synthesis.ensures.long, reducible c.before.before.before.before.before.before.before.before.before.before.before.before.before.before.before.before.before.before.requires.0.0.modulus c.before.before.before.before.before.before.before.synthesis.ensures.low), c.before.before.before.before.before.before.before.before.before.before.before.before.before.before.before.before.before.before.requires.1.1.0)
+scatter-requires c κs = ((c.requires.0.0.modulus, below_by c.args.m (res c.args.m 4294967296) c.shift-c.ensures, c.requires.1.0.3, c.requires.1.0.4, c.synthesis.ensures.long, reducible c.requires.0.0.modulus c.synthesis.ensures.low), c.requires.1.1.0)
 
-same_length : tie.Need-same-length
-same_length c = omega (arith, c.before.volume.given)
+shape_of-volume : tie.Need-shape_of-volume
+shape_of-volume c = omega (arith, c.volume-1.given)
 
-same-length-2 : tie.Need-same-length-2
-same-length-2 c = omega (arith, c.before.before.before.before.before.before.before.before.before.line2.given, c.before.before.before.before.before.before.before.before.before.before.before.before.before.before.line.given)
+shape_of-line : tie.Need-shape_of-line
+shape_of-line c = omega (arith, c.line-2-1.given, c.line-1.given)
 
-same-length-3 : tie.Need-same-length-3
-same-length-3 c = omega (arith, c.before.before.before.before.before.before.before.fold.given)
+shape_of-fold : tie.Need-shape_of-fold
+shape_of-fold c = omega (arith, c.fold-1.given)
 
 returns : tie.Need-returns
-returns c = synthesis_group (gathered_front c.before.before.before.before.before.before.before.before.before.before.before.before.before.before.before.gather.ensures (c.before.before.before.before.before.before.before.before.before.before.before.before.before.before.line.given.0 ∙ length-take-le _ _ (omega (arith, c.before.before.before.before.before.before.before.before.before.before.before.before.before.before.before.before.before.before.before.before.before.requires.1.0.1))) _) c.before.before.before.before.before.before.before.before.before.before.before.before.before.before.before.before.before.before.before.before.before.requires.1.1.1 c.before.before.before.before.before.before.before.before.before.before.before.before.before.before.before.before.before.before.before.before.before.requires.1.0.3 c.before.before.before.before.before.before.before.before.before.before.before.before.before.before.before.before.before.before.before.before.before.requires.1.0.4 c.before.before.before.before.before.before.before.before.before.before.before.before.before.before.before.before.before.before.before.before.before.requires.1.1.0 c.before.before.before.before.before.before.before.before.before.before.synthesis.ensures c.before.before.scatter.ensures (shift_holds c.before.before.before.before.before.before.before.before.before.before.before.before.before.before.before.before.before.before.before.before.before.args.m c.before.before.before.before.before.shift.ensures)
+returns c = synthesis_group (gathered_front c.gather.ensures (c.line-1.given.0 ∙ length-take-le _ _ (omega (arith, c.requires.1.0.1))) _) c.requires.1.1.1 c.requires.1.0.3 c.requires.1.0.4 c.requires.1.1.0 c.synthesis.ensures c.scatter.ensures (shift_holds c.args.m c.shift-c.ensures)
 
 pub synthesis_lines_spec : {M : Type 1} → statement M
-synthesis_lines_spec = tie.close (tie.spec mul-size slice-relend-prefix-gather slice-aggregate-gather gather-requires synthesis-requires shift-requires scatter-requires same_length same-length-2 same-length-3 returns)
+synthesis_lines_spec = tie.close (tie.spec overflow_mul-size slice_bounds-gather-end slice_bounds-gather-end-2 gather-requires synthesis-requires shift-c-requires scatter-requires shape_of-volume shape_of-line shape_of-fold returns)

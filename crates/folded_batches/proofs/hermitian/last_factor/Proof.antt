@@ -10,8 +10,8 @@ use Rattle.folded_batches.proofs.HeldNumbers.{half_held}
 use Rattle.folded_batches.proofs.hermitian.last_factor.Statement.{statement}
 use Rattle.folded_batches.proofs.hermitian.last_factor.Tie as tie
 
-shift-requires : tie.Need-shift-requires
-shift-requires c κs = search rules
+shift-shift-requires : tie.Need-shift-shift-requires
+shift-shift-requires c κs = search rules
 
 share-requires : tie.Need-share-requires
 share-requires c κs = search rules
@@ -25,7 +25,7 @@ mul-requires c κs =
     let f = h.before in
     let s = f.before in
     let m = s.args.m in
-    (s.requires.0, below_by m (res m 4294967296) f.shift.ensures, half_small m h.share.result c.halve.ensures)
+    (s.requires.0, below_by m (res m 4294967296) f.shift-shift.ensures, half_small m h.share.result c.halve.ensures)
 
 returns : tie.Need-returns
 returns c =
@@ -34,7 +34,7 @@ returns c =
     let f = h.before in
     let s = f.before in
     let m = s.args.m in
-    (product_small m f.shift.result v.halve.result c.mul.ensures, half_held m (part m (2 * s.args.b)) f.shift.ensures h.share.ensures.0 v.halve.ensures c.mul.ensures)
+    (product_small m f.shift-shift.result v.halve.result c.mul.ensures, half_held m (part m (2 * s.args.b)) f.shift-shift.ensures h.share.ensures.0 v.halve.ensures c.mul.ensures)
 
 pub last_factor_spec : {M : Type 1} → statement M
-last_factor_spec = tie.close (tie.spec shift-requires share-requires halve-requires mul-requires returns)
+last_factor_spec = tie.close (tie.spec shift-shift-requires share-requires halve-requires mul-requires returns)

@@ -12,73 +12,56 @@ use Rattle.folded_batches.proofs.HermitianRows.{rows_low, mates_low, rows_fit, m
 use Rattle.folded_batches.proofs.hermitian.synthesis.Statement.{statement}
 use Rattle.folded_batches.proofs.hermitian.synthesis.Tie as tie
 
-shift-requires : tie.Need-shift-requires
-shift-requires c κs = c.before.before.before.requires.0.0.modulus
+shift-c-requires : tie.Need-shift-c-requires
+shift-c-requires c κs = c.requires.0.0.modulus
 
-mul-gather : tie.Need-overflow-mul-gather
-mul-gather c = let s = c.before.before.before.before.before in omega (arith, half_most s.requires.0.0)
+overflow_mul-b : tie.Need-overflow_mul-b
+overflow_mul-b c = omega (arith, half_most c.requires.0.0)
 
 gather-requires : tie.Need-gather-requires
 gather-requires c κs =
-    let s = c.before.before.before.before.before.before in
-    let p = s.requires.1 in
-    ((half_most s.requires.0.0, record { is = inr refl }, p.0.0, p.1.0), omega (arith, p.0.1))
+    let p = c.requires.1 in
+    ((half_most c.requires.0.0, record { is = inr refl }, p.0.0, p.1.0), omega (arith, p.0.1))
 
-mate-places-requires : tie.Need-mate-places-requires
-mate-places-requires c κs =
-    let g = c.before.before.before.before in
-    let s = g.before.before.before.before.before.before.before in
-    let f = s.requires.0.0 in
-    let p = s.requires.1 in
-    ((f, s.requires.0.1, omega arith), (g.gather.ensures.long, p.1.1, rows_fit f.modulus (rows_low s.args.m p.0.2 g.gather.ensures)))
+mate_places-requires : tie.Need-mate_places-requires
+mate_places-requires c κs =
+    let f = c.requires.0.0 in
+    let p = c.requires.1 in
+    ((f, c.requires.0.1, omega arith), (c.gather.ensures.long, p.1.1, rows_fit f.modulus (rows_low c.args.m p.0.2 c.gather.ensures)))
 
 transform-requires : tie.Need-transform-requires
 transform-requires c κs =
-    let t = c.before.before.before.before in
-    let g = t.before.before.before.before.before in
-    let s = g.before.before.before.before.before.before.before in
-    let f = s.requires.0.0 in
-    let h = t.mate-places.ensures in
-    ((f.modulus, f.table, s.requires.0.1), ((s.requires.0.2, half_divides f), (h.long, g.gather.ensures.long, mates_start_low f.modulus (mates_low h))))
+    let f = c.requires.0.0 in
+    let h = c.mate_places.ensures in
+    ((f.modulus, f.table, c.requires.0.1), ((c.requires.0.2, half_divides f), (h.long, c.gather.ensures.long, mates_start_low f.modulus (mates_low h))))
 
 scatter-requires : tie.Need-scatter-requires
 scatter-requires c κs =
-    let r = c.before.before.before.before.before.before in
-    let t = r.before.before.before.before.before in
-    let g = t.before.before.before.before.before in
-    let o = g.before.before.before in
-    let s = o.before.before.before.before in
-    let f = s.requires.0.0 in
-    let p = s.requires.1.0 in
-    let m = s.args.m in (
+    let f = c.requires.0.0 in
+    let p = c.requires.1.0 in
+    let m = c.args.m in (
       (
         f.modulus,
-        below_by m (res m 4294967296) o.shift.ensures,
-        r.transform.ensures.long,
-        transformed_low f.modulus r.transform.ensures (mates_start_low f.modulus (mates_low t.mate-places.ensures)),
+        below_by m (res m 4294967296) c.shift-c.ensures,
+        c.transform.ensures.long,
+        transformed_low f.modulus c.transform.ensures (mates_start_low f.modulus (mates_low c.mate_places.ensures)),
       ),
       (f.positive, half_most f, record { is = inl refl }, p.0, omega (arith, p.1)),
     )
 
-same_length : tie.Need-same-length
-same_length c = search rules
+shape_of-rows : tie.Need-shape_of-rows
+shape_of-rows c = search rules
 
-same-length-2 : tie.Need-same-length-2
-same-length-2 c = search rules
+shape_of-line : tie.Need-shape_of-line
+shape_of-line c = search rules
 
-same-length-3 : tie.Need-same-length-3
-same-length-3 c = search rules
+shape_of-fold : tie.Need-shape_of-fold
+shape_of-fold c = search rules
 
 returns : tie.Need-returns
 returns c =
-    let e = c.before.before in
-    let r = e.before.before.before.before.before.before.before in
-    let t = r.before.before.before.before.before in
-    let g = t.before.before.before.before.before in
-    let o = g.before.before.before in
-    let s = o.before.before.before.before in
-    let p = s.requires.1.0 in
-    synthesis_law s.requires.0.0 s.args.lanes p.0 s.args.rows.now p.1 g.gather.ensures t.mate-places.ensures r.transform.ensures e.scatter.ensures (shift_holds s.args.m o.shift.ensures)
+    let p = c.requires.1.0 in
+    synthesis_law c.requires.0.0 c.args.lanes p.0 c.args.rows.now p.1 c.gather.ensures c.mate_places.ensures c.transform.ensures c.scatter.ensures (shift_holds c.args.m c.shift-c.ensures)
 
 pub synthesis_spec : {M : Type 1} → statement M
-synthesis_spec = tie.close (tie.spec shift-requires mul-gather gather-requires mate-places-requires transform-requires scatter-requires same_length same-length-2 same-length-3 returns)
+synthesis_spec = tie.close (tie.spec shift-c-requires overflow_mul-b gather-requires mate_places-requires transform-requires scatter-requires shape_of-rows shape_of-line shape_of-fold returns)

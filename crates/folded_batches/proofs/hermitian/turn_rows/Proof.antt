@@ -6,65 +6,58 @@ use Rattle.folded_batches.proofs.HermitianRows.{prefix_long, directed_rows}
 use Rattle.folded_batches.proofs.hermitian.turn_rows.Statement.{statement}
 use Rattle.folded_batches.proofs.hermitian.turn_rows.Tie as tie
 
-mul-size : tie.Need-overflow-mul-size
-mul-size c = search rules
+overflow_mul-size : tie.Need-overflow_mul-size
+overflow_mul-size c = search rules
 
-slice-relend-prefix-synthesis : tie.Need-slice-relend-prefix-synthesis
-slice-relend-prefix-synthesis c = search rules
+slice_bounds-synthesis-end : tie.Need-slice_bounds-synthesis-end
+slice_bounds-synthesis-end c = search rules
 
-slice-aggregate-synthesis : tie.Need-slice-aggregate-synthesis
-slice-aggregate-synthesis c = let s = c.before.before.before.before.before.before in sym (prefix_long _ s.args.line.now s.requires.1.1.0)
+slice_bounds-synthesis-end-then-direction-eq0 : tie.Need-slice_bounds-synthesis-end-then-direction-eq0
+slice_bounds-synthesis-end-then-direction-eq0 c = sym (prefix_long _ c.args.line.now c.requires.1.1.0)
 
 synthesis-requires : tie.Need-synthesis-requires
 synthesis-requires c κs =
-    let s = c.before.before.before.before.before.before.before in
-    let h = s.requires.0 in
-    ((h.0, h.1, h.2), (s.requires.1.0, (prefix_long _ s.args.line.now s.requires.1.1.0, s.requires.1.1.1)))
+    let h = c.requires.0 in
+    ((h.0, h.1, h.2), (c.requires.1.0, (prefix_long _ c.args.line.now c.requires.1.1.0, c.requires.1.1.1)))
 
-slice-relend-prefix-analysis : tie.Need-slice-relend-prefix-analysis
-slice-relend-prefix-analysis c = search rules
+slice_bounds-analysis-end : tie.Need-slice_bounds-analysis-end
+slice_bounds-analysis-end c = search rules
 
-slice-aggregate-analysis : tie.Need-slice-aggregate-analysis
-slice-aggregate-analysis c = let s = c.before.before.before.before.before.before in sym (prefix_long _ s.args.line.now s.requires.1.1.0)
+slice_bounds-analysis-end-else-direction-eq0 : tie.Need-slice_bounds-analysis-end-else-direction-eq0
+slice_bounds-analysis-end-else-direction-eq0 c = sym (prefix_long _ c.args.line.now c.requires.1.1.0)
 
 analysis-requires : tie.Need-analysis-requires
 analysis-requires c κs =
-    let s = c.before.before.before.before.before.before.before in
-    let h = s.requires.0 in
-    ((h.0, h.1, h.2), (s.requires.1.0, (prefix_long _ s.args.line.now s.requires.1.1.0, s.requires.1.1.1)))
+    let h = c.requires.0 in
+    ((h.0, h.1, h.2), (c.requires.1.0, (prefix_long _ c.args.line.now c.requires.1.1.0, c.requires.1.1.1)))
 
-same_length : tie.Need-same-length
-same_length c = search rules
+shape_of-rows-then-direction-eq0 : tie.Need-shape_of-rows-then-direction-eq0
+shape_of-rows-then-direction-eq0 c = search rules
 
-same-length-2 : tie.Need-same-length-2
-same-length-2 c = search rules
+shape_of-line-then-direction-eq0 : tie.Need-shape_of-line-then-direction-eq0
+shape_of-line-then-direction-eq0 c = search rules
 
-same-length-3 : tie.Need-same-length-3
-same-length-3 c = search rules
+shape_of-fold-then-direction-eq0 : tie.Need-shape_of-fold-then-direction-eq0
+shape_of-fold-then-direction-eq0 c = search rules
 
-returns : tie.Need-returns
-returns c =
-    let t = c.before.before.before.before.before.before in
-    let i = t.before.before.before.before in
-    let a = i.before.before.before.before.args in
-    directed_rows a.m a.b a.re.now a.im.now a.lanes a.rows.now i.if1.true t.synthesis.ensures
+returns-then-direction-eq0 : tie.Need-returns-then-direction-eq0
+returns-then-direction-eq0 c =
+    let a = c.args in
+    directed_rows a.m a.b a.re.now a.im.now a.lanes a.rows.now c.if-direction-eq0.true c.synthesis.ensures
 
-same-length-4 : tie.Need-same-length-4
-same-length-4 c = search rules
+shape_of-rows-else-direction-eq0 : tie.Need-shape_of-rows-else-direction-eq0
+shape_of-rows-else-direction-eq0 c = search rules
 
-same-length-5 : tie.Need-same-length-5
-same-length-5 c = search rules
+shape_of-line-else-direction-eq0 : tie.Need-shape_of-line-else-direction-eq0
+shape_of-line-else-direction-eq0 c = search rules
 
-same-length-6 : tie.Need-same-length-6
-same-length-6 c = search rules
+shape_of-fold-else-direction-eq0 : tie.Need-shape_of-fold-else-direction-eq0
+shape_of-fold-else-direction-eq0 c = search rules
 
-returns-2 : tie.Need-returns-2
-returns-2 c =
-    let t = c.before.before.before.before.before.before in
-    let i = t.before.before.before.before in
-    let s = i.before.before.before.before in
-    let a = s.args in
-    directed_rows a.m a.b a.re.now a.im.now a.lanes a.rows.now (other_direction a.direction s.requires.0.3 i.if1.false) t.analysis.ensures
+returns-else-direction-eq0 : tie.Need-returns-else-direction-eq0
+returns-else-direction-eq0 c =
+    let a = c.args in
+    directed_rows a.m a.b a.re.now a.im.now a.lanes a.rows.now (other_direction a.direction c.requires.0.3 c.if-direction-eq0.false) c.analysis.ensures
 
 pub turn_rows_spec : {M : Type 1} → statement M
-turn_rows_spec = tie.close (tie.spec mul-size slice-relend-prefix-synthesis slice-aggregate-synthesis synthesis-requires slice-relend-prefix-analysis slice-aggregate-analysis analysis-requires same_length same-length-2 same-length-3 returns same-length-4 same-length-5 same-length-6 returns-2)
+turn_rows_spec = tie.close (tie.spec overflow_mul-size slice_bounds-synthesis-end slice_bounds-synthesis-end-then-direction-eq0 synthesis-requires slice_bounds-analysis-end slice_bounds-analysis-end-else-direction-eq0 analysis-requires shape_of-rows-then-direction-eq0 shape_of-line-then-direction-eq0 shape_of-fold-then-direction-eq0 returns-then-direction-eq0 shape_of-rows-else-direction-eq0 shape_of-line-else-direction-eq0 shape_of-fold-else-direction-eq0 returns-else-direction-eq0)

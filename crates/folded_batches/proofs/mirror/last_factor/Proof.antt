@@ -13,8 +13,8 @@ use Rattle.folded_batches.proofs.mirror.last_factor.Tie as tie
 shift-requires : tie.Need-shift-requires
 shift-requires c κs = c.requires.0
 
-halve-requires : tie.Need-halve-requires
-halve-requires c κs = let s = c.before in (s.requires.0, below_by s.args.m (res s.args.m 4294967296) c.shift.ensures)
+halve-half-requires : tie.Need-halve-half-requires
+halve-half-requires c κs = let s = c.before in (s.requires.0, below_by s.args.m (res s.args.m 4294967296) c.shift.ensures)
 
 share-requires : tie.Need-share-requires
 share-requires c κs = let s = c.before.before.before in (s.requires.0, s.requires.2, s.requires.3)
@@ -24,28 +24,28 @@ mul-requires c κs =
     let h = c.before.before in
     let f = h.before in
     let s = f.before in
-    (s.requires.0, below_by s.args.m ((ring s.args.m).mul (half s.args.m) (res s.args.m f.shift.result)) h.halve.ensures, c.share.ensures.1)
+    (s.requires.0, below_by s.args.m ((ring s.args.m).mul (half s.args.m) (res s.args.m f.shift.result)) h.halve-half.ensures, c.share.ensures.1)
 
-returns : tie.Need-returns
-returns c =
+returns-then-direction-eq0 : tie.Need-returns-then-direction-eq0
+returns-then-direction-eq0 c =
     let h = c.before in
     let f = h.before in
     let s = f.before in
     let m = s.args.m in
-    (below_by m ((ring m).mul (half m) (res m f.shift.result)) h.halve.ensures, mirror_scale_as m s.args.a c.if1.true (half_holds m f.shift.ensures h.halve.ensures))
+    (below_by m ((ring m).mul (half m) (res m f.shift.result)) h.halve-half.ensures, mirror_scale_as m s.args.a c.if-direction-eq0.true (half_holds m f.shift.ensures h.halve-half.ensures))
 
-returns-2 : tie.Need-returns-2
-returns-2 c =
+returns-else-direction-eq0 : tie.Need-returns-else-direction-eq0
+returns-else-direction-eq0 c =
     let q = c.before in
     let i = q.before in
     let h = i.before in
     let f = h.before in
     let s = f.before in
     let m = s.args.m in
-    let other : s.args.direction ≡ 1 = omega (arith, s.requires.1, i.if1.false) in (
-      below_by m ((ring m).mul (res m h.halve.result) (res m q.share.result)) c.mul.ensures,
-      mirror_scale_as m s.args.a other (share_holds m (2 * s.args.a) (half_holds m f.shift.ensures h.halve.ensures) q.share.ensures.0 c.mul.ensures),
+    let other : s.args.direction ≡ 1 = omega (arith, s.requires.1, i.if-direction-eq0.false) in (
+      below_by m ((ring m).mul (res m h.halve-half.result) (res m q.share.result)) c.mul.ensures,
+      mirror_scale_as m s.args.a other (share_holds m (2 * s.args.a) (half_holds m f.shift.ensures h.halve-half.ensures) q.share.ensures.0 c.mul.ensures),
     )
 
 pub last_factor_spec : {M : Type 1} → statement M
-last_factor_spec = tie.close (tie.spec shift-requires halve-requires share-requires mul-requires returns returns-2)
+last_factor_spec = tie.close (tie.spec shift-requires halve-half-requires share-requires mul-requires returns-then-direction-eq0 returns-else-direction-eq0)

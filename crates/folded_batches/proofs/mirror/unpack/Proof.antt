@@ -8,76 +8,64 @@ use Rattle.folded_batches.proofs.MirrorGroups.{part_long, unpacked_by}
 use Rattle.folded_batches.proofs.mirror.unpack.Statement.{statement}
 use Rattle.folded_batches.proofs.mirror.unpack.Tie as tie
 
-add-n : tie.Need-overflow-add-n
-add-n c = omega (arith, c.before.before.requires.2)
+overflow_add-n : tie.Need-overflow_add-n
+overflow_add-n c = omega (arith, c.requires.2)
 
-mul-n : tie.Need-overflow-mul-n
-mul-n c = omega (arith, c.before.before.requires.0)
+overflow_mul-n : tie.Need-overflow_mul-n
+overflow_mul-n c = omega (arith, c.requires.0)
 
-sub-n : tie.Need-overflow-sub-n
-sub-n c = omega (arith, c.before.before.requires.0, c.before.before.requires.1)
+overflow_sub-n : tie.Need-overflow_sub-n
+overflow_sub-n c = omega (arith, c.requires.0, c.requires.1)
 
-mul-b : tie.Need-overflow-mul-b
-mul-b c = omega (arith, c.before.before.requires.0)
+overflow_mul-b : tie.Need-overflow_mul-b
+overflow_mul-b c = omega (arith, c.requires.0)
 
-add-e : tie.Need-overflow-add-e
-add-e c = omega (arith, c.before.before.requires.2)
+overflow_add-e : tie.Need-overflow_add-e
+overflow_add-e c = omega (arith, c.requires.2)
 
-sub-e : tie.Need-overflow-sub-e
-sub-e c = omega (arith, c.before.before.requires.0)
+overflow_sub-e : tie.Need-overflow_sub-e
+overflow_sub-e c = omega (arith, c.requires.0)
 
-mul-e : tie.Need-overflow-mul-e
-mul-e c = omega (arith, c.before.before.requires.2)
+overflow_mul-e : tie.Need-overflow_mul-e
+overflow_mul-e c = omega (arith, c.requires.2)
 
-clear-ends-requires : tie.Need-clear-ends-requires
-clear-ends-requires c κs = let p = c.before.before.before.requires in (p.2, p.4)
+clear_ends-requires : tie.Need-clear_ends-requires
+clear_ends-requires c κs = let p = c.requires in (p.2, p.4)
 
-mul-gather : tie.Need-overflow-mul-gather
-mul-gather c = omega (arith, c.before.before.before.before.before.before.requires.0)
+offset_bounds-line-b : tie.Need-offset_bounds-line-b
+offset_bounds-line-b c = omega (arith, c.requires.0)
 
-sub-gather : tie.Need-overflow-sub-gather
-sub-gather c = let p = c.before.before.before.before.before.before.requires in omega (arith, p.0, p.1)
+slice_bounds-gather-count : tie.Need-slice_bounds-gather-count
+slice_bounds-gather-count c = let p = c.requires in omega (arith, p.0, p.1)
 
-part-gather-start : tie.Need-slice-bounds-gather-start
-part-gather-start c = let p = c.before.before.before.before.before.before.requires in omega (arith, p.0, p.1)
+slice_bounds-gather-start : tie.Need-slice_bounds-gather-start
+slice_bounds-gather-start c = let p = c.requires in omega (arith, p.0, p.1)
 
-part-gather-end : tie.Need-slice-bounds-gather-end
-part-gather-end c =
-    let k = c.before.before in
-    let p = k.before.before.before.before.requires in
-    omega (arith, k.clear-ends.ensures.long, p.4)
+slice_bounds-gather-end : tie.Need-slice_bounds-gather-end
+slice_bounds-gather-end c =
+    let p = c.requires in
+    omega (arith, c.clear_ends.ensures.long, p.4)
 
 gather-requires : tie.Need-gather-requires
 gather-requires c κs =
-    let k = c.before.before.before in
-    let s = k.before.before.before.before in
-    let p = s.requires in
-    (p.3, p.5, part_long s.args.a s.args.first _ p.0 p.1 (k.clear-ends.ensures.long ∙ p.4))
+    let p = c.requires in
+    (p.3, p.5, part_long c.args.a c.args.first _ p.0 p.1 (c.clear_ends.ensures.long ∙ p.4))
 
 -- the part comes back as long as it was
-lent-long : (c : tie.After-slice-known3) → let g = c.before.before in let s = g.before.before.before.before.before.before.before.before in length g.gather.new.1.1.1.1.1.0 ≡ 32 * stored_count s.args.a s.args.first
+lent-long : (c : tie.After-slice_known-3-1) → length c.gather.new.d ≡ 32 * stored_count c.args.a c.args.first
 lent-long c =
-    let g = c.before.before in
-    let k = g.before.before.before.before in
-    let s = k.before.before.before.before in
-    let p = s.requires in
-    g.gather.auto.1.1.1.1.1.0 ∙ part_long s.args.a s.args.first _ p.0 p.1 (k.clear-ends.ensures.long ∙ p.4)
+    let p = c.requires in
+    c.gather.auto.d ∙ part_long c.args.a c.args.first _ p.0 p.1 (c.clear_ends.ensures.long ∙ p.4)
 
-same_length : tie.Need-same-length
-same_length c =
-    let g = c.before.before in
-    let k = g.before.before.before.before in
-    let s = k.before.before.before.before in
-    let p = s.requires in
-    (unpacked_by s.args.a s.args.first _ p.0 p.1 (k.clear-ends.ensures.long ∙ p.4) _ (lent-long c) k.clear-ends.ensures g.gather.ensures).long ∙ sym p.4
+shape_of-line : tie.Need-shape_of-line
+shape_of-line c =
+    let p = c.requires in
+    (unpacked_by c.args.a c.args.first _ p.0 p.1 (c.clear_ends.ensures.long ∙ p.4) _ (lent-long c) c.clear_ends.ensures c.gather.ensures).long ∙ sym p.4
 
 returns : tie.Need-returns
 returns c =
-    let g = c.before.before in
-    let k = g.before.before.before.before in
-    let s = k.before.before.before.before in
-    let p = s.requires in
-    unpacked_by s.args.a s.args.first _ p.0 p.1 (k.clear-ends.ensures.long ∙ p.4) _ (lent-long c) k.clear-ends.ensures g.gather.ensures
+    let p = c.requires in
+    unpacked_by c.args.a c.args.first _ p.0 p.1 (c.clear_ends.ensures.long ∙ p.4) _ (lent-long c) c.clear_ends.ensures c.gather.ensures
 
 pub unpack_spec : {M : Type 1} → statement M
-unpack_spec = tie.close (tie.spec add-n mul-n sub-n mul-b add-e sub-e mul-e clear-ends-requires mul-gather sub-gather part-gather-start part-gather-end gather-requires same_length returns)
+unpack_spec = tie.close (tie.spec overflow_add-n overflow_mul-n overflow_sub-n overflow_mul-b overflow_add-e overflow_sub-e overflow_mul-e clear_ends-requires offset_bounds-line-b slice_bounds-gather-count slice_bounds-gather-start slice_bounds-gather-end gather-requires shape_of-line returns)

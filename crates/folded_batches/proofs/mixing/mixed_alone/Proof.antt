@@ -6,45 +6,45 @@ use Rattle.folded_batches.proofs.MixedLanes.{alone_start, alone_next, alone_done
 use Rattle.folded_batches.proofs.mixing.mixed_alone.Statement.{statement}
 use Rattle.folded_batches.proofs.mixing.mixed_alone.Tie as tie
 
-abbrev invariant-loop : tie.invariant-loop
-invariant-loop m k from i y₀ v₀ y v = MixedAlone m k from i v y
+abbrev invariant-loop-v : tie.invariant-loop-v
+invariant-loop-v m k from i y₀ v₀ y v = MixedAlone m k from i v y
 
-abbrev decreases-loop : tie.decreases-loop
-decreases-loop m k from i y₀ v₀ y v = 16 - v
+abbrev decreases-loop-v : tie.decreases-loop-v
+decreases-loop-v m k from i y₀ v₀ y v = 16 - v
 
-loop-holds : tie.Need-loop-init invariant-loop decreases-loop
-loop-holds c = alone_start c.before.requires.0.3
+loop-v-init : tie.Need-loop-v-init invariant-loop-v decreases-loop-v
+loop-v-init c = alone_start c.before.requires.0.3
 
-of-one-requires : tie.Need-of-one-requires invariant-loop decreases-loop
-of-one-requires c κs =
+of_one-a-requires : tie.Need-of_one-a-requires invariant-loop-v decreases-loop-v
+of_one-a-requires c κs =
     let p = c.before.before.before.requires in
     let h = p.0.1 in
-    ((p.0.0, h.a1, h.a2), (c.loop-test.true, p.1, p.0.2))
+    ((p.0.0, h.a1, h.a2), (c.loop-v-test.true, p.1, p.0.2))
 
-of-one-requires-2 : tie.Need-of-one-requires-2 invariant-loop decreases-loop
-of-one-requires-2 c κs =
+of_one-b-requires : tie.Need-of_one-b-requires invariant-loop-v decreases-loop-v
+of_one-b-requires c κs =
     let p = c.before.before.before.before.requires in
     let h = p.0.1 in
-    ((p.0.0, h.a3, h.a4), (c.before.loop-test.true, p.1, p.0.2))
+    ((p.0.0, h.a3, h.a4), (c.before.loop-v-test.true, p.1, p.0.2))
 
-store-lane-requires : tie.Need-store-lane-requires invariant-loop decreases-loop
-store-lane-requires c κs = c.before.before.before.loop-test.true
+store_lane-requires : tie.Need-store_lane-requires invariant-loop-v decreases-loop-v
+store_lane-requires c κs = c.before.before.before.loop-v-test.true
 
-add-v : tie.Need-overflow-add-v invariant-loop decreases-loop
-add-v c = omega (arith, c.before.before.before.before.loop-test.true)
+overflow_add-v : tie.Need-overflow_add-v invariant-loop-v decreases-loop-v
+overflow_add-v c = omega (arith, c.before.before.before.before.loop-v-test.true)
 
-loop-less : tie.Need-loop-smaller invariant-loop decreases-loop
-loop-less c = omega (arith, c.before.before.before.before.loop-test.true)
+loop-v-smaller : tie.Need-loop-v-smaller invariant-loop-v decreases-loop-v
+loop-v-smaller c = omega (arith, c.before.before.before.before.loop-v-test.true)
 
-loop-again : tie.Need-loop-preserved invariant-loop decreases-loop
-loop-again c =
+loop-v-preserved : tie.Need-loop-v-preserved invariant-loop-v decreases-loop-v
+loop-v-preserved c =
     let b = c.before.before in
     let a = b.before in
     let t = a.before in
-    alone_next a.of_one.result b.of-one2.result t.before.loop.y t.before.loop.invariant t.loop-test.true c.store-lane.ensures a.of_one.ensures b.of-one2.ensures
+    alone_next a.of_one-a.result b.of_one-b.result t.before.loop-v.y t.before.loop-v.invariant t.loop-v-test.true c.store_lane.ensures a.of_one-a.ensures b.of_one-b.ensures
 
-returns : tie.Need-returns invariant-loop decreases-loop
-returns c = alone_done c.before.loop.invariant c.loop-test.false
+returns : tie.Need-returns invariant-loop-v decreases-loop-v
+returns c = alone_done c.before.loop-v.invariant c.loop-v-test.false
 
 pub mixed_alone_spec : {M : Type 1} → statement M
-mixed_alone_spec = tie.close (tie.spec invariant-loop decreases-loop loop-holds of-one-requires of-one-requires-2 store-lane-requires add-v loop-less loop-again returns)
+mixed_alone_spec = tie.close (tie.spec invariant-loop-v decreases-loop-v loop-v-init of_one-a-requires of_one-b-requires store_lane-requires overflow_add-v loop-v-smaller loop-v-preserved returns)

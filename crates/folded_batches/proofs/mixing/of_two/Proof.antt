@@ -9,8 +9,8 @@ part-requires c κs =
     let p = c.before.requires.1 in
     (omega (arith, p.0), p.1, p.3)
 
-add-part : tie.Need-overflow-add-part
-add-part c = omega (arith, c.before.before.requires.1.0)
+overflow_add-v : tie.Need-overflow_add-v
+overflow_add-v c = omega (arith, c.before.before.requires.1.0)
 
 part-requires-2 : tie.Need-part-requires-2
 part-requires-2 c κs =
@@ -22,8 +22,8 @@ part-requires-3 c κs =
     let p = c.before.before.before.requires.1 in
     (omega (arith, p.0), p.2, p.3)
 
-add-part-2 : tie.Need-overflow-add-part-2
-add-part-2 c = omega (arith, c.before.before.before.before.requires.1.0)
+overflow_add-v-2 : tie.Need-overflow_add-v-2
+overflow_add-v-2 c = omega (arith, c.before.before.before.before.requires.1.0)
 
 part-requires-4 : tie.Need-part-requires-4
 part-requires-4 c κs =
@@ -35,7 +35,7 @@ four-requires c κs =
     let x3 = c.before in
     let x2 = x3.before in
     let x1 = x2.before in
-    (x1.before.before.requires.0, (x1.part.ensures.1, x2.part2.ensures.1, x3.part3.ensures.1, c.part4.ensures.1))
+    (x1.before.before.requires.0, (x1.part.ensures.1, x2.part-2.ensures.1, x3.part-3.ensures.1, c.part-4.ensures.1))
 
 returns : tie.Need-returns
 returns c =
@@ -46,10 +46,10 @@ returns c =
     let a = x1.before.before.args in
     four_as a.c1 a.c2 a.c3 a.c4
     (read_re a.from.now a.i a.v x1.part.ensures.0)
-    (read_im a.from.now a.i a.v x2.part2.ensures.0)
-    (read_re a.from.now a.j a.v x3.part3.ensures.0)
-    (read_im a.from.now a.j a.v x4.part4.ensures.0)
+    (read_im a.from.now a.i a.v x2.part-2.ensures.0)
+    (read_re a.from.now a.j a.v x3.part-3.ensures.0)
+    (read_im a.from.now a.j a.v x4.part-4.ensures.0)
     c.four.ensures
 
 pub of_two_spec : {M : Type 1} → statement M
-of_two_spec = tie.close (tie.spec part-requires add-part part-requires-2 part-requires-3 add-part-2 part-requires-4 four-requires returns)
+of_two_spec = tie.close (tie.spec part-requires overflow_add-v part-requires-2 part-requires-3 overflow_add-v-2 part-requires-4 four-requires returns)

@@ -5,11 +5,11 @@ use Rattle.batches.proofs.Division.{product_most}
 use Rattle.folded_batches.proofs.mixing.product.Statement.{statement}
 use Rattle.folded_batches.proofs.mixing.product.Tie as tie
 
-mul-result : tie.Need-overflow-mul-result
-mul-result c = omega (arith, product_most c.requires.0 c.requires.1)
+overflow_mul-result : tie.Need-overflow_mul-result
+overflow_mul-result c = omega (arith, product_most c.requires.0 c.requires.1)
 
 returns : tie.Need-returns
 returns c = refl
 
 pub product_spec : {M : Type 1} → statement M
-product_spec = tie.close (tie.spec mul-result returns)
+product_spec = tie.close (tie.spec overflow_mul-result returns)

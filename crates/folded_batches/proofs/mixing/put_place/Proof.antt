@@ -6,47 +6,47 @@ use Rattle.folded_batches.proofs.MixedLanes.{copying_first}
 use Rattle.folded_batches.proofs.mixing.put_place.Statement.{statement}
 use Rattle.folded_batches.proofs.mixing.put_place.Tie as tie
 
-abbrev invariant-loop : tie.invariant-loop
-invariant-loop y to₀ j place v₀ to v = Copying y 0 j v to₀ to
+abbrev invariant-loop-v : tie.invariant-loop-v
+invariant-loop-v y to₀ j place v₀ to v = Copying y 0 j v to₀ to
 
-abbrev decreases-loop : tie.decreases-loop
-decreases-loop y to₀ j place v₀ to v = 32 - v
+abbrev decreases-loop-v : tie.decreases-loop-v
+decreases-loop-v y to₀ j place v₀ to v = 32 - v
 
-mul-place : tie.Need-overflow-mul-place invariant-loop decreases-loop
-mul-place c = omega (arith, c.requires)
+overflow_mul-place : tie.Need-overflow_mul-place invariant-loop-v decreases-loop-v
+overflow_mul-place c = omega (arith, c.requires)
 
-loop-holds : tie.Need-loop-init invariant-loop decreases-loop
-loop-holds c = copying_start
+loop-v-init : tie.Need-loop-v-init invariant-loop-v decreases-loop-v
+loop-v-init c = copying_start
 
-mul-to : tie.Need-overflow-mul-to invariant-loop decreases-loop
-mul-to c = omega (arith, c.loop-test.true)
+offset_bounds-y-v : tie.Need-offset_bounds-y-v invariant-loop-v decreases-loop-v
+offset_bounds-y-v c = omega (arith, c.loop-v-test.true)
 
-element-copy-out-to : tie.Need-element-copy-out-to invariant-loop decreases-loop
-element-copy-out-to c = omega (arith, c.loop-test.true)
+bounds-y-v : tie.Need-bounds-y-v invariant-loop-v decreases-loop-v
+bounds-y-v c = omega (arith, c.loop-v-test.true)
 
-add-to : tie.Need-overflow-add-to invariant-loop decreases-loop
-add-to c = omega (arith, c.before.loop-test.true, c.before.before.before.requires)
+overflow_add-to : tie.Need-overflow_add-to invariant-loop-v decreases-loop-v
+overflow_add-to c = omega (arith, c.before.loop-v-test.true, c.before.before.before.requires)
 
-mul-to-2 : tie.Need-overflow-mul-to-2 invariant-loop decreases-loop
-mul-to-2 c = omega (arith, c.before.loop-test.true, c.before.before.before.requires)
+offset_bounds-to-place : tie.Need-offset_bounds-to-place invariant-loop-v decreases-loop-v
+offset_bounds-to-place c = omega (arith, c.before.loop-v-test.true, c.before.before.before.requires)
 
-slice-write-to : tie.Need-slice-write-to invariant-loop decreases-loop
-slice-write-to c = omega (arith, c.before.loop-test.true, c.before.before.before.requires, c.before.before.loop.invariant.long)
+bounds-to-place : tie.Need-bounds-to-place invariant-loop-v decreases-loop-v
+bounds-to-place c = omega (arith, c.before.loop-v-test.true, c.before.before.before.requires, c.before.before.loop-v.invariant.long)
 
-add-v : tie.Need-overflow-add-v invariant-loop decreases-loop
-add-v c = omega (arith, c.before.loop-test.true)
+overflow_add-v : tie.Need-overflow_add-v invariant-loop-v decreases-loop-v
+overflow_add-v c = omega (arith, c.before.loop-v-test.true)
 
-loop-less : tie.Need-loop-smaller invariant-loop decreases-loop
-loop-less c = omega (arith, c.before.loop-test.true)
+loop-v-smaller : tie.Need-loop-v-smaller invariant-loop-v decreases-loop-v
+loop-v-smaller c = omega (arith, c.before.loop-v-test.true)
 
-loop-again : tie.Need-loop-preserved invariant-loop decreases-loop
-loop-again c = copying_first c.before.before.loop.invariant c.before.loop-test.true c.before.before.before.requires
+loop-v-preserved : tie.Need-loop-v-preserved invariant-loop-v decreases-loop-v
+loop-v-preserved c = copying_first c.before.before.loop-v.invariant c.before.loop-v-test.true c.before.before.before.requires
 
-same_length : tie.Need-same-length invariant-loop decreases-loop
-same_length c = omega (arith, c.before.loop.invariant.long)
+shape_of-to : tie.Need-shape_of-to invariant-loop-v decreases-loop-v
+shape_of-to c = omega (arith, c.before.loop-v.invariant.long)
 
-returns : tie.Need-returns invariant-loop decreases-loop
-returns c = copying_done c.before.loop.invariant c.loop-test.false
+returns : tie.Need-returns invariant-loop-v decreases-loop-v
+returns c = copying_done c.before.loop-v.invariant c.loop-v-test.false
 
 pub put_place_spec : {M : Type 1} → statement M
-put_place_spec = tie.close (tie.spec invariant-loop decreases-loop mul-place loop-holds mul-to element-copy-out-to add-to mul-to-2 slice-write-to add-v loop-less loop-again same_length returns)
+put_place_spec = tie.close (tie.spec invariant-loop-v decreases-loop-v overflow_mul-place loop-v-init offset_bounds-y-v bounds-y-v overflow_add-to offset_bounds-to-place bounds-to-place overflow_add-v loop-v-smaller loop-v-preserved shape_of-to returns)

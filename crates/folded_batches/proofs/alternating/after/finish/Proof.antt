@@ -4,17 +4,17 @@ use Rattle.folded_batches.proofs.AlternatingAfter.{first_up, finished_by}
 use Rattle.folded_batches.proofs.alternating.after.finish.Statement.{statement}
 use Rattle.folded_batches.proofs.alternating.after.finish.Tie as tie
 
-put-first-requires : tie.Need-put-first-requires
-put-first-requires c κs = (omega (arith, c.before.before.requires.1.0, c.before.before.requires.0.2), c.before.before.requires.1.1, c.before.before.requires.1.2)
+put_first-requires : tie.Need-put_first-requires
+put_first-requires c κs = (omega (arith, c.requires.1.0, c.requires.0.2), c.requires.1.1, c.requires.1.2)
 
-turn-places-requires : tie.Need-turn-places-requires
-turn-places-requires c κs = (c.before.before.before.before.before.before.requires.0, (omega (arith, c.before.before.before.put_first.ensures.long, c.before.before.before.before.before.before.requires.1.0), first_up c.before.before.before.before.before.before.args.a c.before.before.before.before.before.before.requires.1.0 c.before.before.before.before.before.before.requires.1.1 c.before.before.before.before.before.before.requires.1.2 c.before.before.before.put_first.ensures))
+turn_places-requires : tie.Need-turn_places-requires
+turn_places-requires c κs = (c.requires.0, (omega (arith, c.put_first.ensures.long, c.requires.1.0), first_up c.args.a c.requires.1.0 c.requires.1.1 c.requires.1.2 c.put_first.ensures))
 
-same_length : tie.Need-same-length
-same_length c = omega (arith, c.before.fold2.given, c.before.before.before.before.before.fold.given)
+shape_of-fold : tie.Need-shape_of-fold
+shape_of-fold c = omega (arith, c.fold-2-1.given, c.fold-1.given)
 
 returns : tie.Need-returns
-returns c = finished_by c.before.before.before.before.before.before.before.before.before.args.m c.before.before.before.before.before.before.before.before.before.args.a c.before.before.before.before.before.before.before.before.before.args.tan.now c.before.before.before.before.before.before.put_first.ensures c.before.before.turn-places.ensures (omega (arith, c.before.fold2.given))
+returns c = finished_by c.args.m c.args.a c.args.tan.now c.put_first.ensures c.turn_places.ensures (omega (arith, c.fold-2-1.given))
 
 pub finish_spec : {M : Type 1} → statement M
-finish_spec = tie.close (tie.spec put-first-requires turn-places-requires same_length returns)
+finish_spec = tie.close (tie.spec put_first-requires turn_places-requires shape_of-fold returns)

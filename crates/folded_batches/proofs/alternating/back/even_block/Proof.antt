@@ -9,41 +9,41 @@ use Rattle.folded_batches.proofs.AlternatingBack.{even_read}
 use Rattle.folded_batches.proofs.alternating.back.even_block.Statement.{statement}
 use Rattle.folded_batches.proofs.alternating.back.even_block.Tie as tie
 
-abbrev invariant-loop : tie.invariant-loop
-invariant-loop o from i j y₀ v₀ y v = BlockOf (λ v. even_pair o (lane_at from i v) (lane_at from j v)) v y
+abbrev invariant-loop-v : tie.invariant-loop-v
+invariant-loop-v o from i j y₀ v₀ y v = BlockOf (λ v. even_pair o (lane_at from i v) (lane_at from j v)) v y
 
-abbrev decreases-loop : tie.decreases-loop
-decreases-loop o from i j y₀ v₀ y v = 16 - v
+abbrev decreases-loop-v : tie.decreases-loop-v
+decreases-loop-v o from i j y₀ v₀ y v = 16 - v
 
-loop-holds : tie.Need-loop-init invariant-loop decreases-loop
-loop-holds c = block_start c.before.requires.0.2
+loop-v-init : tie.Need-loop-v-init invariant-loop-v decreases-loop-v
+loop-v-init c = block_start c.before.requires.0.2
 
-added-requires : tie.Need-added-requires invariant-loop decreases-loop
-added-requires c κs = ((omega (arith, c.loop-test.true), omega (arith, c.loop-test.true), up_as c.before.before.before.requires.0.1 (omega (arith, c.before.before.before.requires.0.0))), c.before.before.before.requires.1)
+added-a-requires : tie.Need-added-a-requires invariant-loop-v decreases-loop-v
+added-a-requires c κs = ((omega (arith, c.loop-v-test.true), omega (arith, c.loop-v-test.true), up_as c.before.before.before.requires.0.1 (omega (arith, c.before.before.before.requires.0.0))), c.before.before.before.requires.1)
 
-add_apart : tie.Need-overflow-add-apart invariant-loop decreases-loop
-add_apart c = omega (arith, c.before.loop-test.true)
+overflow_add-v : tie.Need-overflow_add-v invariant-loop-v decreases-loop-v
+overflow_add-v c = omega (arith, c.before.loop-v-test.true)
 
-add-apart-2 : tie.Need-overflow-add-apart-2 invariant-loop decreases-loop
-add-apart-2 c = omega (arith, c.before.loop-test.true)
+overflow_add-v-in-loop-v : tie.Need-overflow_add-v-in-loop-v invariant-loop-v decreases-loop-v
+overflow_add-v-in-loop-v c = omega (arith, c.before.loop-v-test.true)
 
-apart-requires : tie.Need-apart-requires invariant-loop decreases-loop
-apart-requires c κs = ((omega (arith, c.before.loop-test.true), omega (arith, c.before.loop-test.true), omega (arith, c.before.before.before.before.requires.0.0), c.before.before.before.before.requires.0.1), c.before.before.before.before.requires.1)
+apart-b-requires : tie.Need-apart-b-requires invariant-loop-v decreases-loop-v
+apart-b-requires c κs = ((omega (arith, c.before.loop-v-test.true), omega (arith, c.before.loop-v-test.true), omega (arith, c.before.before.before.before.requires.0.0), c.before.before.before.before.requires.0.1), c.before.before.before.before.requires.1)
 
-store-lane-requires : tie.Need-store-lane-requires invariant-loop decreases-loop
-store-lane-requires c κs = c.before.before.before.loop-test.true
+store_lane-requires : tie.Need-store_lane-requires invariant-loop-v decreases-loop-v
+store_lane-requires c κs = c.before.before.before.loop-v-test.true
 
-add-v : tie.Need-overflow-add-v invariant-loop decreases-loop
-add-v c = omega (arith, c.before.before.before.before.loop-test.true)
+overflow_add-v-in-loop-v-2 : tie.Need-overflow_add-v-in-loop-v-2 invariant-loop-v decreases-loop-v
+overflow_add-v-in-loop-v-2 c = omega (arith, c.before.before.before.before.loop-v-test.true)
 
-loop-less : tie.Need-loop-smaller invariant-loop decreases-loop
-loop-less c = omega (arith, c.before.before.before.before.loop-test.true)
+loop-v-smaller : tie.Need-loop-v-smaller invariant-loop-v decreases-loop-v
+loop-v-smaller c = omega (arith, c.before.before.before.before.loop-v-test.true)
 
-loop-again : tie.Need-loop-preserved invariant-loop decreases-loop
-loop-again c = block_next c.before.before.before.before.before.loop.invariant c.before.before.before.before.loop-test.true c.store-lane.ensures (even_read c.before.before.before.before.before.before.before.args.o c.before.before.before.before.before.before.before.args.from.now c.before.before.before.before.before.before.before.args.i c.before.before.before.before.before.before.before.args.j c.before.before.before.before.before.loop.v c.before.before.before.added.ensures c.before.before.apart.ensures)
+loop-v-preserved : tie.Need-loop-v-preserved invariant-loop-v decreases-loop-v
+loop-v-preserved c = block_next c.before.before.before.before.before.loop-v.invariant c.before.before.before.before.loop-v-test.true c.store_lane.ensures (even_read c.before.before.before.before.before.before.before.args.o c.before.before.before.before.before.before.before.args.from.now c.before.before.before.before.before.before.before.args.i c.before.before.before.before.before.before.before.args.j c.before.before.before.before.before.loop-v.v c.before.before.before.added-a.ensures c.before.before.apart-b.ensures)
 
-returns : tie.Need-returns invariant-loop decreases-loop
-returns c = block_done c.before.loop.invariant c.loop-test.false
+returns : tie.Need-returns invariant-loop-v decreases-loop-v
+returns c = block_done c.before.loop-v.invariant c.loop-v-test.false
 
 pub even_block_spec : {M : Type 1} → statement M
-even_block_spec = tie.close (tie.spec invariant-loop decreases-loop loop-holds added-requires add_apart add-apart-2 apart-requires store-lane-requires add-v loop-less loop-again returns)
+even_block_spec = tie.close (tie.spec invariant-loop-v decreases-loop-v loop-v-init added-a-requires overflow_add-v overflow_add-v-in-loop-v apart-b-requires store_lane-requires overflow_add-v-in-loop-v-2 loop-v-smaller loop-v-preserved returns)

@@ -6,20 +6,20 @@ use Rattle.folded_batches.proofs.AlternatingBack.{end_inside, packed_by}
 use Rattle.folded_batches.proofs.alternating.back.pack.Statement.{statement}
 use Rattle.folded_batches.proofs.alternating.back.pack.Tie as tie
 
-end-place-requires : tie.Need-end-place-requires
-end-place-requires c κs = c.before.requires.1
+end_place-requires : tie.Need-end_place-requires
+end_place-requires c κs = c.requires.1
 
-pack-block-requires : tie.Need-pack-block-requires
-pack-block-requires c κs = (omega (arith, c.before.before.before.before.requires.2), omega (arith, c.before.before.end_place_lem.ensures, end_inside c.before.before.before.before.args.a, c.before.before.before.before.requires.2), length-replicate {A = ℕ} 32 0)
+pack_block-requires : tie.Need-pack_block-requires
+pack_block-requires c κs = (omega (arith, c.requires.2), omega (arith, c.end_place.ensures, end_inside c.args.a, c.requires.2), length-replicate {A = ℕ} 32 0)
 
-put-place-requires : tie.Need-put-place-requires
-put-place-requires c κs = omega (arith, c.before.before.before.before.before.before.before.requires.2)
+put_place-requires : tie.Need-put_place-requires
+put_place-requires c κs = omega (arith, c.requires.2)
 
-same_length : tie.Need-same-length
-same_length c = omega (arith, c.before.before.put-place.ensures.long)
+shape_of-line : tie.Need-shape_of-line
+shape_of-line c = omega (arith, c.put_place.ensures.long)
 
 returns : tie.Need-returns
-returns c = packed_by c.before.before.before.before.before.before.before.before.end_place_lem.ensures c.before.before.before.before.before.pack-block.ensures c.before.before.put-place.ensures
+returns c = packed_by c.end_place.ensures c.pack_block.ensures c.put_place.ensures
 
 pub pack_spec : {M : Type 1} → statement M
-pack_spec = tie.close (tie.spec end-place-requires pack-block-requires put-place-requires same_length returns)
+pack_spec = tie.close (tie.spec end_place-requires pack_block-requires put_place-requires shape_of-line returns)

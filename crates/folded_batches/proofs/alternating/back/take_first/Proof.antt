@@ -8,26 +8,26 @@ use Rattle.folded_batches.proofs.AlternatingBack.{twice_at}
 use Rattle.folded_batches.proofs.alternating.back.take_first.Statement.{statement}
 use Rattle.folded_batches.proofs.alternating.back.take_first.Tie as tie
 
-modulus-requires : tie.Need-modulus-requires
-modulus-requires c κs = c.before.requires.0
+modulus-o-requires : tie.Need-modulus-o-requires
+modulus-o-requires c κs = c.requires.0
 
-mul-o : tie.Need-overflow-mul-o
-mul-o c = omega (arith, c.modulus.ensures)
+overflow_mul-o : tie.Need-overflow_mul-o
+overflow_mul-o c = omega (arith, c.modulus-o.ensures)
 
-twice-block-requires : tie.Need-twice-block-requires
-twice-block-requires c κs = (omega (arith, c.before.before.modulus.ensures), c.before.before.before.before.requires.1, up_at (ap (λ r. 2 * r) c.before.before.modulus.ensures.0) c.before.before.before.before.requires.2, c.before.before.before.before.requires.3)
+twice_block-requires : tie.Need-twice_block-requires
+twice_block-requires c κs = (omega (arith, c.modulus-o.ensures), c.requires.1, up_at (ap (λ r. 2 * r) c.modulus-o.ensures.0) c.requires.2, c.requires.3)
 
-first-block-requires : tie.Need-first-block-requires
-first-block-requires c κs = (c.before.before.before.before.before.before.before.requires.1, length-replicate {A = ℕ} 32 0)
+first_block-requires : tie.Need-first_block-requires
+first_block-requires c κs = (c.requires.1, length-replicate {A = ℕ} 32 0)
 
-put-place-requires : tie.Need-put-place-requires
-put-place-requires c κs = omega (arith, c.before.before.before.before.before.before.before.before.before.before.requires.1)
+put_place-requires : tie.Need-put_place-requires
+put_place-requires c κs = omega (arith, c.requires.1)
 
-same_length : tie.Need-same-length
-same_length c = omega (arith, c.before.before.put-place.ensures.long)
+shape_of-fold : tie.Need-shape_of-fold
+shape_of-fold c = omega (arith, c.put_place.ensures.long)
 
 returns : tie.Need-returns
-returns c = record { long = c.before.before.put-place.ensures.long; kept_twice = twice_at c.before.before.before.before.before.before.before.before.before.before.before.before.before.args.fold.now (ap (λ r. 2 * r) c.before.before.before.before.before.before.before.before.before.before.before.modulus.ensures.0) c.before.before.before.before.before.before.before.before.twice-block.ensures; new = λ v lv. c.before.before.put-place.ensures.new v lv ∙ c.before.before.before.before.before.first_block.ensures.each v lv; kept = c.before.before.put-place.ensures.kept }
+returns c = record { long = c.put_place.ensures.long; kept_twice = twice_at c.args.fold.now (ap (λ r. 2 * r) c.modulus-o.ensures.0) c.twice_block.ensures; new = λ v lv. c.put_place.ensures.new v lv ∙ c.first_block.ensures.each v lv; kept = c.put_place.ensures.kept }
 
 pub take_first_spec : {M : Type 1} → statement M
-take_first_spec = tie.close (tie.spec modulus-requires mul-o twice-block-requires first-block-requires put-place-requires same_length returns)
+take_first_spec = tie.close (tie.spec modulus-o-requires overflow_mul-o twice_block-requires first_block-requires put_place-requires shape_of-fold returns)

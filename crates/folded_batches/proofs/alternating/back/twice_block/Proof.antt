@@ -7,38 +7,38 @@ use Rattle.folded_batches.proofs.AlternatingBack.{twice_read}
 use Rattle.folded_batches.proofs.alternating.back.twice_block.Statement.{statement}
 use Rattle.folded_batches.proofs.alternating.back.twice_block.Tie as tie
 
-abbrev invariant-loop : tie.invariant-loop
-invariant-loop o fold y₀ v₀ y v = BlockOf (twice_pair o fold) v y
+abbrev invariant-loop-v : tie.invariant-loop-v
+invariant-loop-v o fold y₀ v₀ y v = BlockOf (twice_pair o fold) v y
 
-abbrev decreases-loop : tie.decreases-loop
-decreases-loop o fold y₀ v₀ y v = 16 - v
+abbrev decreases-loop-v : tie.decreases-loop-v
+decreases-loop-v o fold y₀ v₀ y v = 16 - v
 
-loop-holds : tie.Need-loop-init invariant-loop decreases-loop
-loop-holds c = block_start c.before.requires.3
+loop-v-init : tie.Need-loop-v-init invariant-loop-v decreases-loop-v
+loop-v-init c = block_start c.before.requires.3
 
-add_apart : tie.Need-overflow-add-apart invariant-loop decreases-loop
-add_apart c = omega (arith, c.loop-test.true)
+overflow_add-v : tie.Need-overflow_add-v invariant-loop-v decreases-loop-v
+overflow_add-v c = omega (arith, c.loop-v-test.true)
 
-apart-requires : tie.Need-apart-requires invariant-loop decreases-loop
-apart-requires c κs = ((omega (arith, c.loop-test.true), omega (arith, c.loop-test.true), omega (arith, c.before.before.before.requires.0), c.before.before.before.requires.2), (omega (arith, c.before.before.before.requires.1), omega (arith, c.before.before.before.requires.1)))
+apart-t-requires : tie.Need-apart-t-requires invariant-loop-v decreases-loop-v
+apart-t-requires c κs = ((omega (arith, c.loop-v-test.true), omega (arith, c.loop-v-test.true), omega (arith, c.before.before.before.requires.0), c.before.before.before.requires.2), (omega (arith, c.before.before.before.requires.1), omega (arith, c.before.before.before.requires.1)))
 
-add-store-lane : tie.Need-overflow-add-store-lane invariant-loop decreases-loop
-add-store-lane c = omega (arith, c.before.apart.ensures, c.before.before.before.before.before.requires.0, c.before.before.before.before.before.requires.2.each (32 * 0 + c.before.before.before.loop.v))
+overflow_add-t : tie.Need-overflow_add-t invariant-loop-v decreases-loop-v
+overflow_add-t c = omega (arith, c.before.apart-t.ensures, c.before.before.before.before.before.requires.0, c.before.before.before.before.before.requires.2.each (32 * 0 + c.before.before.before.loop-v.v))
 
-store-lane-requires : tie.Need-store-lane-requires invariant-loop decreases-loop
-store-lane-requires c κs = c.before.before.loop-test.true
+store_lane-requires : tie.Need-store_lane-requires invariant-loop-v decreases-loop-v
+store_lane-requires c κs = c.before.before.loop-v-test.true
 
-add-v : tie.Need-overflow-add-v invariant-loop decreases-loop
-add-v c = omega (arith, c.before.before.before.loop-test.true)
+overflow_add-v-in-loop-v : tie.Need-overflow_add-v-in-loop-v invariant-loop-v decreases-loop-v
+overflow_add-v-in-loop-v c = omega (arith, c.before.before.before.loop-v-test.true)
 
-loop-less : tie.Need-loop-smaller invariant-loop decreases-loop
-loop-less c = omega (arith, c.before.before.before.loop-test.true)
+loop-v-smaller : tie.Need-loop-v-smaller invariant-loop-v decreases-loop-v
+loop-v-smaller c = omega (arith, c.before.before.before.loop-v-test.true)
 
-loop-again : tie.Need-loop-preserved invariant-loop decreases-loop
-loop-again c = block_next c.before.before.before.before.loop.invariant c.before.before.before.loop-test.true c.store-lane.ensures (twice_read c.before.before.before.before.before.before.args.o c.before.before.before.before.before.before.args.fold.now c.before.before.before.before.loop.v c.before.before.apart.ensures)
+loop-v-preserved : tie.Need-loop-v-preserved invariant-loop-v decreases-loop-v
+loop-v-preserved c = block_next c.before.before.before.before.loop-v.invariant c.before.before.before.loop-v-test.true c.store_lane.ensures (twice_read c.before.before.before.before.before.before.args.o c.before.before.before.before.before.before.args.fold.now c.before.before.before.before.loop-v.v c.before.before.apart-t.ensures)
 
-returns : tie.Need-returns invariant-loop decreases-loop
-returns c = block_done c.before.loop.invariant c.loop-test.false
+returns : tie.Need-returns invariant-loop-v decreases-loop-v
+returns c = block_done c.before.loop-v.invariant c.loop-v-test.false
 
 pub twice_block_spec : {M : Type 1} → statement M
-twice_block_spec = tie.close (tie.spec invariant-loop decreases-loop loop-holds add_apart apart-requires add-store-lane store-lane-requires add-v loop-less loop-again returns)
+twice_block_spec = tie.close (tie.spec invariant-loop-v decreases-loop-v loop-v-init overflow_add-v apart-t-requires overflow_add-t store_lane-requires overflow_add-v-in-loop-v loop-v-smaller loop-v-preserved returns)

@@ -5,35 +5,35 @@ use Prim.Native.Nat.{◌+◌, ◌*◌}
 use Rattle.folded_batches.proofs.alternating.before.added.Statement.{statement}
 use Rattle.folded_batches.proofs.alternating.before.added.Tie as tie
 
-mul-result : tie.Need-overflow-mul-result
-mul-result c = omega (arith, c.requires)
+overflow_mul-result : tie.Need-overflow_mul-result
+overflow_mul-result c = omega (arith, c.requires)
 
-add-result : tie.Need-overflow-add-result
-add-result c = omega (arith, c.requires)
+overflow_add-result : tie.Need-overflow_add-result
+overflow_add-result c = omega (arith, c.requires)
 
-mul-result-2 : tie.Need-overflow-mul-result-2
-mul-result-2 c = omega (arith, c.requires)
+offset_bounds-from-i : tie.Need-offset_bounds-from-i
+offset_bounds-from-i c = omega (arith, c.requires)
 
-shared-slice-read-result : tie.Need-shared-slice-read-result
-shared-slice-read-result c = omega (arith, c.before.requires)
+bounds-from-i : tie.Need-bounds-from-i
+bounds-from-i c = omega (arith, c.before.requires)
 
-mul-result-3 : tie.Need-overflow-mul-result-3
-mul-result-3 c = omega (arith, c.before.requires)
+overflow_mul-result-2 : tie.Need-overflow_mul-result-2
+overflow_mul-result-2 c = omega (arith, c.before.requires)
 
-add-result-2 : tie.Need-overflow-add-result-2
-add-result-2 c = omega (arith, c.before.requires)
+overflow_add-result-2 : tie.Need-overflow_add-result-2
+overflow_add-result-2 c = omega (arith, c.before.requires)
 
-mul-result-4 : tie.Need-overflow-mul-result-4
-mul-result-4 c = omega (arith, c.before.requires)
+offset_bounds-from-j : tie.Need-offset_bounds-from-j
+offset_bounds-from-j c = omega (arith, c.before.requires)
 
-shared-slice-read-result-2 : tie.Need-shared-slice-read-result-2
-shared-slice-read-result-2 c = omega (arith, c.before.before.requires)
+bounds-from-j : tie.Need-bounds-from-j
+bounds-from-j c = omega (arith, c.before.before.requires)
 
-add-result-3 : tie.Need-overflow-add-result-3
-add-result-3 c = omega (arith, c.before.before.requires.0.2.each (32 * c.before.before.args.i + c.before.before.args.u), c.before.before.requires.0.2.each (32 * c.before.before.args.j + c.before.before.args.w))
+overflow_add-result-3 : tie.Need-overflow_add-result-3
+overflow_add-result-3 c = omega (arith, c.before.before.requires.0.2.each (32 * c.before.before.args.i + c.before.before.args.u), c.before.before.requires.0.2.each (32 * c.before.before.args.j + c.before.before.args.w))
 
 returns : tie.Need-returns
 returns c = refl
 
 pub added_spec : {M : Type 1} → statement M
-added_spec = tie.close (tie.spec mul-result add-result mul-result-2 shared-slice-read-result mul-result-3 add-result-2 mul-result-4 shared-slice-read-result-2 add-result-3 returns)
+added_spec = tie.close (tie.spec overflow_mul-result overflow_add-result offset_bounds-from-i bounds-from-i overflow_mul-result-2 overflow_add-result-2 offset_bounds-from-j bounds-from-j overflow_add-result-3 returns)

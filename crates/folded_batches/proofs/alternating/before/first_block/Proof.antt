@@ -9,35 +9,35 @@ use Rattle.folded_batches.proofs.AlternatingBlocks.{block_start, block_next, blo
 use Rattle.folded_batches.proofs.alternating.before.first_block.Statement.{statement}
 use Rattle.folded_batches.proofs.alternating.before.first_block.Tie as tie
 
-abbrev invariant-loop : tie.invariant-loop
-invariant-loop line y₀ v₀ y v = BlockOf (λ v. record { re = (lane_at line 0 v).re; im = 0 }) v y
+abbrev invariant-loop-v : tie.invariant-loop-v
+invariant-loop-v line y₀ v₀ y v = BlockOf (λ v. record { re = (lane_at line 0 v).re; im = 0 }) v y
 
-abbrev decreases-loop : tie.decreases-loop
-decreases-loop line y₀ v₀ y v = 16 - v
+abbrev decreases-loop-v : tie.decreases-loop-v
+decreases-loop-v line y₀ v₀ y v = 16 - v
 
-loop-holds : tie.Need-loop-init invariant-loop decreases-loop
-loop-holds c = block_start c.before.requires.1
+loop-v-init : tie.Need-loop-v-init invariant-loop-v decreases-loop-v
+loop-v-init c = block_start c.before.requires.1
 
-mul-store-lane : tie.Need-overflow-mul-store-lane invariant-loop decreases-loop
-mul-store-lane c = omega (arith, c.before.loop-test.true)
+offset_bounds-line-v : tie.Need-offset_bounds-line-v invariant-loop-v decreases-loop-v
+offset_bounds-line-v c = omega (arith, c.before.loop-v-test.true)
 
-shared-slice-read-store-lane : tie.Need-shared-slice-read-store-lane invariant-loop decreases-loop
-shared-slice-read-store-lane c = omega (arith, c.before.before.loop-test.true, c.before.before.before.before.before.requires.0)
+bounds-line-v : tie.Need-bounds-line-v invariant-loop-v decreases-loop-v
+bounds-line-v c = omega (arith, c.before.before.loop-v-test.true, c.before.before.before.before.before.requires.0)
 
-store-lane-requires : tie.Need-store-lane-requires invariant-loop decreases-loop
-store-lane-requires c κs = c.before.before.loop-test.true
+store_lane-requires : tie.Need-store_lane-requires invariant-loop-v decreases-loop-v
+store_lane-requires c κs = c.before.before.loop-v-test.true
 
-add-v : tie.Need-overflow-add-v invariant-loop decreases-loop
-add-v c = omega (arith, c.before.before.before.loop-test.true)
+overflow_add-v : tie.Need-overflow_add-v invariant-loop-v decreases-loop-v
+overflow_add-v c = omega (arith, c.before.before.before.loop-v-test.true)
 
-loop-less : tie.Need-loop-smaller invariant-loop decreases-loop
-loop-less c = omega (arith, c.before.before.before.loop-test.true)
+loop-v-smaller : tie.Need-loop-v-smaller invariant-loop-v decreases-loop-v
+loop-v-smaller c = omega (arith, c.before.before.before.loop-v-test.true)
 
-loop-again : tie.Need-loop-preserved invariant-loop decreases-loop
-loop-again c = block_next c.before.before.before.before.loop.invariant c.before.before.before.loop-test.true c.store-lane.ensures (pair_path (first_re c.before.before.before.before.before.before.args.line.now c.before.before.before.before.loop.v) refl)
+loop-v-preserved : tie.Need-loop-v-preserved invariant-loop-v decreases-loop-v
+loop-v-preserved c = block_next c.before.before.before.before.loop-v.invariant c.before.before.before.loop-v-test.true c.store_lane.ensures (pair_path (first_re c.before.before.before.before.before.before.args.line.now c.before.before.before.before.loop-v.v) refl)
 
-returns : tie.Need-returns invariant-loop decreases-loop
-returns c = block_done c.before.loop.invariant c.loop-test.false
+returns : tie.Need-returns invariant-loop-v decreases-loop-v
+returns c = block_done c.before.loop-v.invariant c.loop-v-test.false
 
 pub first_block_spec : {M : Type 1} → statement M
-first_block_spec = tie.close (tie.spec invariant-loop decreases-loop loop-holds mul-store-lane shared-slice-read-store-lane store-lane-requires add-v loop-less loop-again returns)
+first_block_spec = tie.close (tie.spec invariant-loop-v decreases-loop-v loop-v-init offset_bounds-line-v bounds-line-v store_lane-requires overflow_add-v loop-v-smaller loop-v-preserved returns)

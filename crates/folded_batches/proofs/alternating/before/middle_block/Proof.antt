@@ -7,41 +7,41 @@ use Rattle.folded_batches.proofs.AlternatingBlocks.{middles_start, middles_next,
 use Rattle.folded_batches.proofs.alternating.before.middle_block.Statement.{statement}
 use Rattle.folded_batches.proofs.alternating.before.middle_block.Tie as tie
 
-abbrev invariant-loop : tie.invariant-loop
-invariant-loop a line y₀ v₀ y v = MiddleBlock a line v y
+abbrev invariant-loop-v : tie.invariant-loop-v
+invariant-loop-v a line y₀ v₀ y v = MiddleBlock a line v y
 
-abbrev decreases-loop : tie.decreases-loop
-decreases-loop a line y₀ v₀ y v = 16 - v
+abbrev decreases-loop-v : tie.decreases-loop-v
+decreases-loop-v a line y₀ v₀ y v = 16 - v
 
-loop-holds : tie.Need-loop-init invariant-loop decreases-loop
-loop-holds c = middles_start c.before.requires.1
+loop-v-init : tie.Need-loop-v-init invariant-loop-v decreases-loop-v
+loop-v-init c = middles_start c.before.requires.1
 
-add-middle : tie.Need-overflow-add-middle invariant-loop decreases-loop
-add-middle c = omega (arith, c.loop-test.true)
+overflow_add-v : tie.Need-overflow_add-v invariant-loop-v decreases-loop-v
+overflow_add-v c = omega (arith, c.loop-v-test.true)
 
-mul-middle : tie.Need-overflow-mul-middle invariant-loop decreases-loop
-mul-middle c = omega (arith, c.loop-test.true)
+offset_bounds-line-v : tie.Need-offset_bounds-line-v invariant-loop-v decreases-loop-v
+offset_bounds-line-v c = omega (arith, c.loop-v-test.true)
 
-shared-slice-read-middle : tie.Need-shared-slice-read-middle invariant-loop decreases-loop
-shared-slice-read-middle c = omega (arith, c.before.loop-test.true, c.before.before.before.before.requires.0)
+bounds-line-v : tie.Need-bounds-line-v invariant-loop-v decreases-loop-v
+bounds-line-v c = omega (arith, c.before.loop-v-test.true, c.before.before.before.before.requires.0)
 
-middle-requires : tie.Need-middle-requires invariant-loop decreases-loop
-middle-requires c κs = search rules
+middle-z-requires : tie.Need-middle-z-requires invariant-loop-v decreases-loop-v
+middle-z-requires c κs = search rules
 
-store-lane-requires : tie.Need-store-lane-requires invariant-loop decreases-loop
-store-lane-requires c κs = c.before.before.before.loop-test.true
+store_lane-requires : tie.Need-store_lane-requires invariant-loop-v decreases-loop-v
+store_lane-requires c κs = c.before.before.before.loop-v-test.true
 
-add-v : tie.Need-overflow-add-v invariant-loop decreases-loop
-add-v c = omega (arith, c.before.before.before.before.loop-test.true)
+overflow_add-v-in-loop-v : tie.Need-overflow_add-v-in-loop-v invariant-loop-v decreases-loop-v
+overflow_add-v-in-loop-v c = omega (arith, c.before.before.before.before.loop-v-test.true)
 
-loop-less : tie.Need-loop-smaller invariant-loop decreases-loop
-loop-less c = omega (arith, c.before.before.before.before.loop-test.true)
+loop-v-smaller : tie.Need-loop-v-smaller invariant-loop-v decreases-loop-v
+loop-v-smaller c = omega (arith, c.before.before.before.before.loop-v-test.true)
 
-loop-again : tie.Need-loop-preserved invariant-loop decreases-loop
-loop-again c = middles_next c.before.before.middle.result c.before.before.before.before.before.loop.invariant c.before.before.before.before.loop-test.true c.store-lane.ensures c.before.before.middle.ensures
+loop-v-preserved : tie.Need-loop-v-preserved invariant-loop-v decreases-loop-v
+loop-v-preserved c = middles_next c.before.before.middle-z.result c.before.before.before.before.before.loop-v.invariant c.before.before.before.before.loop-v-test.true c.store_lane.ensures c.before.before.middle-z.ensures
 
-returns : tie.Need-returns invariant-loop decreases-loop
-returns c = middles_done c.before.loop.invariant c.loop-test.false
+returns : tie.Need-returns invariant-loop-v decreases-loop-v
+returns c = middles_done c.before.loop-v.invariant c.loop-v-test.false
 
 pub middle_block_spec : {M : Type 1} → statement M
-middle_block_spec = tie.close (tie.spec invariant-loop decreases-loop loop-holds add-middle mul-middle shared-slice-read-middle middle-requires store-lane-requires add-v loop-less loop-again returns)
+middle_block_spec = tie.close (tie.spec invariant-loop-v decreases-loop-v loop-v-init overflow_add-v offset_bounds-line-v bounds-line-v middle-z-requires store_lane-requires overflow_add-v-in-loop-v loop-v-smaller loop-v-preserved returns)

@@ -4,47 +4,47 @@ use Rattle.folded_batches.proofs.AlternatingBlocks.{block_as, short_low, short_h
 use Rattle.folded_batches.proofs.alternating.before.short_block.Statement.{statement}
 use Rattle.folded_batches.proofs.alternating.before.short_block.Tie as tie
 
-mul-if1 : tie.Need-overflow-mul-if1
-mul-if1 c = omega (arith, c.before.requires.0.1, c.before.requires.0.2)
+overflow_mul-t : tie.Need-overflow_mul-t
+overflow_mul-t c = omega (arith, c.before.requires.0.1, c.before.requires.0.2)
 
-add-if1 : tie.Need-overflow-add-if1
-add-if1 c = omega (arith, c.before.requires.0.1, c.before.requires.0.2)
+overflow_add-t : tie.Need-overflow_add-t
+overflow_add-t c = omega (arith, c.before.requires.0.1, c.before.requires.0.2)
 
-mul-low-block : tie.Need-overflow-mul-low-block
-mul-low-block c = omega (arith, c.before.before.requires.0.1, c.before.before.requires.0.2)
+overflow_mul-t-then-t-a : tie.Need-overflow_mul-t-then-t-a
+overflow_mul-t-then-t-a c = omega (arith, c.before.before.requires.0.1, c.before.before.requires.0.2)
 
-mul-low-block-2 : tie.Need-overflow-mul-low-block-2
-mul-low-block-2 c = omega (arith, c.before.before.requires.0.1, c.before.before.requires.0.2)
+overflow_mul-t-then-t-a-2 : tie.Need-overflow_mul-t-then-t-a-2
+overflow_mul-t-then-t-a-2 c = omega (arith, c.before.before.requires.0.1, c.before.before.requires.0.2)
 
-add-low-block : tie.Need-overflow-add-low-block
-add-low-block c = omega (arith, c.before.before.requires.0.1, c.before.before.requires.0.2)
+overflow_add-t-then-t-a : tie.Need-overflow_add-t-then-t-a
+overflow_add-t-then-t-a c = omega (arith, c.before.before.requires.0.1, c.before.before.requires.0.2)
 
-low-block-requires : tie.Need-low-block-requires
-low-block-requires c κs = ((c.before.before.before.requires.0.0, c.before.before.before.requires.0.3, c.before.before.before.requires.1.1), (omega (arith, c.before.if1.true, c.before.before.before.requires.1.0), omega (arith, c.before.if1.true, c.before.before.before.requires.1.0)))
+low_block-requires : tie.Need-low_block-requires
+low_block-requires c κs = ((c.before.before.before.requires.0.0, c.before.before.before.requires.0.3, c.before.before.before.requires.1.1), (omega (arith, c.before.if-t-a.true, c.before.before.before.requires.1.0), omega (arith, c.before.if-t-a.true, c.before.before.before.requires.1.0)))
 
-sub-high-block : tie.Need-overflow-sub-high-block
-sub-high-block c = omega (arith, c.before.before.requires.0.1, c.before.before.requires.0.2)
+overflow_sub-a : tie.Need-overflow_sub-a
+overflow_sub-a c = omega (arith, c.before.before.requires.0.1, c.before.before.requires.0.2)
 
-mul-high-block : tie.Need-overflow-mul-high-block
-mul-high-block c = omega (arith, c.before.before.requires.0.1, c.before.before.requires.0.2)
+overflow_mul-a : tie.Need-overflow_mul-a
+overflow_mul-a c = omega (arith, c.before.before.requires.0.1, c.before.before.requires.0.2)
 
-sub-high-block-2 : tie.Need-overflow-sub-high-block-2
-sub-high-block-2 c = omega (arith, c.before.before.requires.0.1, c.before.before.requires.0.2)
+overflow_sub-a-else-t-a : tie.Need-overflow_sub-a-else-t-a
+overflow_sub-a-else-t-a c = omega (arith, c.before.before.requires.0.1, c.before.before.requires.0.2)
 
-mul-high-block-2 : tie.Need-overflow-mul-high-block-2
-mul-high-block-2 c = omega (arith, c.before.before.requires.0.1, c.before.before.requires.0.2)
+overflow_mul-a-else-t-a : tie.Need-overflow_mul-a-else-t-a
+overflow_mul-a-else-t-a c = omega (arith, c.before.before.requires.0.1, c.before.before.requires.0.2)
 
-sub-high-block-3 : tie.Need-overflow-sub-high-block-3
-sub-high-block-3 c = omega (arith, c.before.before.requires.0.2)
+overflow_sub-a-else-t-a-2 : tie.Need-overflow_sub-a-else-t-a-2
+overflow_sub-a-else-t-a-2 c = omega (arith, c.before.before.requires.0.2)
 
-high-block-requires : tie.Need-high-block-requires
-high-block-requires c κs = ((c.before.before.before.requires.0.0, c.before.before.before.requires.0.3, c.before.before.before.requires.1.1), (omega (arith, c.before.if1.false, c.before.before.before.requires.1.0), omega (arith, c.before.if1.false, c.before.before.before.requires.1.0)))
+high_block-requires : tie.Need-high_block-requires
+high_block-requires c κs = ((c.before.before.before.requires.0.0, c.before.before.before.requires.0.3, c.before.before.before.requires.1.1), (omega (arith, c.before.if-t-a.false, c.before.before.before.requires.1.0), omega (arith, c.before.if-t-a.false, c.before.before.before.requires.1.0)))
 
-returns : tie.Need-returns
-returns c = block_as c.low-block.ensures (λ v. short_low c.before.before.before.before.args.o c.before.before.before.before.args.a c.before.before.before.before.args.line.now c.before.before.before.before.args.t v c.before.before.if1.true)
+returns-then-t-a : tie.Need-returns-then-t-a
+returns-then-t-a c = block_as c.low_block.ensures (λ v. short_low c.before.before.before.before.args.o c.before.before.before.before.args.a c.before.before.before.before.args.line.now c.before.before.before.before.args.t v c.before.before.if-t-a.true)
 
-returns-2 : tie.Need-returns-2
-returns-2 c = block_as c.high-block.ensures (λ v. short_high c.before.before.before.before.args.o c.before.before.before.before.args.a c.before.before.before.before.args.line.now c.before.before.before.before.args.t v c.before.before.if1.false)
+returns-else-t-a : tie.Need-returns-else-t-a
+returns-else-t-a c = block_as c.high_block.ensures (λ v. short_high c.before.before.before.before.args.o c.before.before.before.before.args.a c.before.before.before.before.args.line.now c.before.before.before.before.args.t v c.before.before.if-t-a.false)
 
 pub short_block_spec : {M : Type 1} → statement M
-short_block_spec = tie.close (tie.spec mul-if1 add-if1 mul-low-block mul-low-block-2 add-low-block low-block-requires sub-high-block mul-high-block sub-high-block-2 mul-high-block-2 sub-high-block-3 high-block-requires returns returns-2)
+short_block_spec = tie.close (tie.spec overflow_mul-t overflow_add-t overflow_mul-t-then-t-a overflow_mul-t-then-t-a-2 overflow_add-t-then-t-a low_block-requires overflow_sub-a overflow_mul-a overflow_sub-a-else-t-a overflow_mul-a-else-t-a overflow_sub-a-else-t-a-2 high_block-requires returns-then-t-a returns-else-t-a)

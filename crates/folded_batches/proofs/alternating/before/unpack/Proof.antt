@@ -6,23 +6,23 @@ use Rattle.folded_batches.proofs.AlternatingBefore.{unpacked_by}
 use Rattle.folded_batches.proofs.alternating.before.unpack.Statement.{statement}
 use Rattle.folded_batches.proofs.alternating.before.unpack.Tie as tie
 
-middle-block-requires : tie.Need-middle-block-requires
-middle-block-requires c κs = (omega (arith, c.before.before.before.requires.1), length-replicate {A = ℕ} 32 0)
+middle_block-requires : tie.Need-middle_block-requires
+middle_block-requires c κs = (omega (arith, c.requires.1), length-replicate {A = ℕ} 32 0)
 
-put-place-requires : tie.Need-put-place-requires
-put-place-requires c κs = omega (arith, c.before.before.before.before.before.before.requires.1)
+put_place-requires : tie.Need-put_place-requires
+put_place-requires c κs = omega (arith, c.requires.1)
 
-first-block-requires : tie.Need-first-block-requires
-first-block-requires c κs = (omega (arith, c.before.before.before.before.put-place.ensures.long, c.before.before.before.before.before.before.before.before.before.before.before.requires.1), c.before.before.before.before.before.before.before.middle_block.ensures.long)
+first_block-requires : tie.Need-first_block-requires
+first_block-requires c κs = (omega (arith, c.put_place.ensures.long, c.requires.1), c.middle_block.ensures.long)
 
-put-place-requires-2 : tie.Need-put-place-requires-2
-put-place-requires-2 c κs = omega (arith, c.before.before.before.before.before.before.before.put-place.ensures.long, c.before.before.before.before.before.before.before.before.before.before.before.before.before.before.requires.1)
+put_place-requires-2 : tie.Need-put_place-requires-2
+put_place-requires-2 c κs = omega (arith, c.put_place.ensures.long, c.requires.1)
 
-same_length : tie.Need-same-length
-same_length c = omega (arith, c.before.before.put-place2.ensures.long, c.before.before.before.before.before.before.before.before.before.before.put-place.ensures.long)
+shape_of-line : tie.Need-shape_of-line
+shape_of-line c = omega (arith, c.put_place-2.ensures.long, c.put_place.ensures.long)
 
 returns : tie.Need-returns
-returns c = unpacked_by c.before.before.before.before.before.before.before.before.before.before.before.before.before.before.before.before.before.requires.0 c.before.before.before.before.before.before.before.before.before.before.before.before.before.middle_block.ensures c.before.before.before.before.before.before.before.before.before.before.put-place.ensures c.before.before.before.before.before.first_block.ensures c.before.before.put-place2.ensures
+returns c = unpacked_by c.requires.0 c.middle_block.ensures c.put_place.ensures c.first_block.ensures c.put_place-2.ensures
 
 pub unpack_spec : {M : Type 1} → statement M
-unpack_spec = tie.close (tie.spec middle-block-requires put-place-requires first-block-requires put-place-requires-2 same_length returns)
+unpack_spec = tie.close (tie.spec middle_block-requires put_place-requires first_block-requires put_place-requires-2 shape_of-line returns)

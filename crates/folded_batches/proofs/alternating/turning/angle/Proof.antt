@@ -20,50 +20,50 @@ far-inside s other = step_inside s.args.a s.args.step s.requires.1.1 (below s.ar
     below : (a s : ℕ) → (s ≡ 0 → ⊥) → s < a → a - s < a
     below a s other l = omega (arith, other)
 
-shift-requires : tie.Need-shift-requires
-shift-requires c κs = c.requires.0.0
+shift-one-requires : tie.Need-shift-one-requires
+shift-one-requires c κs = c.requires.0.0
 
-mul-near : tie.Need-overflow-mul-near
-mul-near c = omega (arith, near-inside c.before.before)
+overflow_mul-near : tie.Need-overflow_mul-near
+overflow_mul-near c = omega (arith, near-inside c.before.before)
 
-mul-near-2 : tie.Need-overflow-mul-near-2
-mul-near-2 c = omega (arith, near-inside c.before.before)
+offset_bounds-tan-step : tie.Need-offset_bounds-tan-step
+offset_bounds-tan-step c = omega (arith, near-inside c.before.before)
 
-element-copy-out-near : tie.Need-element-copy-out-near
-element-copy-out-near c = near-inside c.before.before
+bounds-tan-step : tie.Need-bounds-tan-step
+bounds-tan-step c = near-inside c.before.before.before
 
-sub-far : tie.Need-overflow-sub-far
-sub-far c = omega (arith, c.before.before.before.requires.1.2)
+overflow_sub-far : tie.Need-overflow_sub-far
+overflow_sub-far c = omega (arith, c.requires.1.2)
 
-mul-far : tie.Need-overflow-mul-far
-mul-far c = omega (arith, far-inside c.before.before.before c.before.if1.false)
+overflow_mul-far : tie.Need-overflow_mul-far
+overflow_mul-far c = omega (arith, far-inside c.before.before.before.before c.if-s-eq0.false)
 
-mul-far-2 : tie.Need-overflow-mul-far-2
-mul-far-2 c = omega (arith, far-inside c.before.before.before c.before.if1.false)
+offset_bounds-tan-step-else-s-eq0 : tie.Need-offset_bounds-tan-step-else-s-eq0
+offset_bounds-tan-step-else-s-eq0 c = omega (arith, far-inside c.before.before.before.before c.if-s-eq0.false)
 
-element-copy-out-far : tie.Need-element-copy-out-far
-element-copy-out-far c = far-inside c.before.before.before c.before.if1.false
+bounds-tan-step-else-s-eq0 : tie.Need-bounds-tan-step-else-s-eq0
+bounds-tan-step-else-s-eq0 c = far-inside c.before.before.before.before c.if-s-eq0.false
 
-halve-requires : tie.Need-halve-requires
-halve-requires c κs = (c.before.before.before.before.requires.0.0, below_by c.before.before.before.before.args.m (res c.before.before.before.before.args.m 4294967296) c.before.before.before.shift.ensures)
+halve-half-requires : tie.Need-halve-half-requires
+halve-half-requires c κs = (c.requires.0.0, below_by c.args.m (res c.args.m 4294967296) c.shift-one.ensures)
 
 sub-requires : tie.Need-sub-requires
-sub-requires c κs = (c.before.before.before.before.before.requires.0.0, c.before.before.before.before.before.requires.0.1.below _ (far-inside c.before.before.before.before.before c.before.before.before.if1.false), c.before.before.before.before.before.requires.0.1.below _ (near-inside c.before.before.before.before.before))
+sub-requires c κs = (c.requires.0.0, c.requires.0.1.below _ (far-inside c.before.before.before.before.before.before c.if-s-eq0.false), c.requires.0.1.below _ (near-inside c.before.before.before.before.before.before))
 
 mul-requires : tie.Need-mul-requires
-mul-requires c κs = (c.before.before.before.before.before.before.requires.0.0, half_small c.before.before.before.before.before.before.args.m _ c.before.halve.ensures, difference_small c.before.before.before.before.before.before.args.m _ _ c.sub.ensures)
+mul-requires c κs = (c.requires.0.0, half_small c.args.m _ c.halve-half.ensures, difference_small c.args.m _ _ c.sub.ensures)
 
 add-requires : tie.Need-add-requires
-add-requires c κs = (c.before.before.before.before.before.before.before.requires.0.0, c.before.before.before.before.before.before.before.requires.0.1.below _ (near-inside c.before.before.before.before.before.before.before), c.before.before.before.before.before.before.before.requires.0.1.below _ (far-inside c.before.before.before.before.before.before.before c.before.before.before.before.before.if1.false))
+add-requires c κs = (c.requires.0.0, c.requires.0.1.below _ (near-inside c.before.before.before.before.before.before.before.before), c.requires.0.1.below _ (far-inside c.before.before.before.before.before.before.before.before c.if-s-eq0.false))
 
-mul-requires-2 : tie.Need-mul-requires-2
-mul-requires-2 c κs = (c.before.before.before.before.before.before.before.before.requires.0.0, half_small c.before.before.before.before.before.before.before.before.args.m _ c.before.before.before.halve.ensures, sum_small c.before.before.before.before.before.before.before.before.args.m _ _ c.add.ensures)
+mul-requires-else-s-eq0 : tie.Need-mul-requires-else-s-eq0
+mul-requires-else-s-eq0 c κs = (c.requires.0.0, half_small c.args.m _ c.halve-half.ensures, sum_small c.args.m _ _ c.add.ensures)
 
-returns : tie.Need-returns
-returns c = angle_zero c.before.before.args.m c.before.before.args.a c.before.before.args.tan.now c.before.before.args.s c.if1.true c.before.shift.ensures
+returns-then-s-eq0 : tie.Need-returns-then-s-eq0
+returns-then-s-eq0 c = angle_zero c.args.m c.args.a c.args.tan.now c.args.s c.if-s-eq0.true c.shift-one.ensures
 
-returns-2 : tie.Need-returns-2
-returns-2 c = angle_rest c.before.before.before.before.before.before.before.before.before.args.m c.before.before.before.before.before.before.before.before.before.args.a c.before.before.before.before.before.before.before.before.before.args.tan.now c.before.before.before.before.before.before.before.before.before.args.s c.before.before.before.before.before.before.before.if1.false c.before.before.before.before.before.before.before.before.shift.ensures c.before.before.before.before.halve.ensures (ap (λ k. get_or c.before.before.before.before.before.before.before.before.before.args.tan.now (k * c.before.before.before.before.before.before.before.before.before.args.s) 0) c.before.before.before.before.before.before.before.before.before.requires.1.0) (ap (λ k. get_or c.before.before.before.before.before.before.before.before.before.args.tan.now (k * (c.before.before.before.before.before.before.before.before.before.args.a - c.before.before.before.before.before.before.before.before.before.args.s)) 0) c.before.before.before.before.before.before.before.before.before.requires.1.0) c.before.before.before.sub.ensures c.before.before.mul.ensures c.before.add.ensures c.mul2.ensures
+returns-else-s-eq0 : tie.Need-returns-else-s-eq0
+returns-else-s-eq0 c = angle_rest c.args.m c.args.a c.args.tan.now c.args.s c.if-s-eq0.false c.shift-one.ensures c.halve-half.ensures (ap (λ k. get_or c.args.tan.now (k * c.args.s) 0) c.requires.1.0) (ap (λ k. get_or c.args.tan.now (k * (c.args.a - c.args.s)) 0) c.requires.1.0) c.sub.ensures c.mul.ensures c.add.ensures c.mul-else-s-eq0.ensures
 
 pub angle_spec : {M : Type 1} → statement M
-angle_spec = tie.close (tie.spec shift-requires mul-near mul-near-2 element-copy-out-near sub-far mul-far mul-far-2 element-copy-out-far halve-requires sub-requires mul-requires add-requires mul-requires-2 returns returns-2)
+angle_spec = tie.close (tie.spec shift-one-requires overflow_mul-near offset_bounds-tan-step bounds-tan-step overflow_sub-far overflow_mul-far offset_bounds-tan-step-else-s-eq0 bounds-tan-step-else-s-eq0 halve-half-requires sub-requires mul-requires add-requires mul-requires-else-s-eq0 returns-then-s-eq0 returns-else-s-eq0)

@@ -8,41 +8,41 @@ use Rattle.folded_batches.proofs.AlternatingBlocks.{filled_done}
 use Rattle.folded_batches.proofs.alternating.turning.turn_places.Statement.{statement}
 use Rattle.folded_batches.proofs.alternating.turning.turn_places.Tie as tie
 
-abbrev invariant-loop : tie.invariant-loop
-invariant-loop m direction rotated tan a fold₀ step y₀ s₀ fold y s = Turning m direction rotated a tan fold₀ s fold y
+abbrev invariant-loop-s : tie.invariant-loop-s
+invariant-loop-s m direction rotated tan a fold₀ step y₀ s₀ fold y s = Turning m direction rotated a tan fold₀ s fold y
 
-abbrev decreases-loop : tie.decreases-loop
-decreases-loop m direction rotated tan a fold₀ step y₀ s₀ fold y s = a - s
+abbrev decreases-loop-s : tie.decreases-loop-s
+decreases-loop-s m direction rotated tan a fold₀ step y₀ s₀ fold y s = a - s
 
-div-step : tie.Need-nonzero-div-step invariant-loop decreases-loop
-div-step c = omega (arith, c.before.requires.0.2)
+nonzero_div-step : tie.Need-nonzero_div-step invariant-loop-s decreases-loop-s
+nonzero_div-step c = omega (arith, c.requires.0.2)
 
-loop-holds : tie.Need-loop-init invariant-loop decreases-loop
-loop-holds c = turning_start c.before.requires.1.0 c.before.requires.1.1 (length-replicate {A = ℕ} 32 0)
+loop-s-init : tie.Need-loop-s-init invariant-loop-s decreases-loop-s
+loop-s-init c = turning_start c.requires.1.0 c.requires.1.1 (length-replicate {A = ℕ} 32 0)
 
-coefficients-requires : tie.Need-coefficients-requires invariant-loop decreases-loop
-coefficients-requires c κs = ((c.before.before.before.requires.0.0, c.before.before.before.requires.0.1), (refl, c.before.before.before.requires.0.3, c.loop-test.true))
+coefficients-k-requires : tie.Need-coefficients-k-requires invariant-loop-s decreases-loop-s
+coefficients-k-requires c κs = ((c.requires.0.0, c.requires.0.1), (refl, c.requires.0.3, c.loop-s-test.true))
 
-mixed-alone-requires : tie.Need-mixed-alone-requires invariant-loop decreases-loop
-mixed-alone-requires c κs = ((c.before.before.before.before.before.before.requires.0.0, c.before.before.coefficients.ensures.held, c.before.before.before.before.loop.invariant.low, c.before.before.before.before.loop.invariant.block), omega (arith, c.before.before.before.loop-test.true, c.before.before.before.before.loop.invariant.long))
+mixed_alone-requires : tie.Need-mixed_alone-requires invariant-loop-s decreases-loop-s
+mixed_alone-requires c κs = ((c.requires.0.0, c.coefficients-k.ensures.held, c.loop-s.invariant.low, c.loop-s.invariant.block), omega (arith, c.loop-s-test.true, c.loop-s.invariant.long))
 
-put-place-requires : tie.Need-put-place-requires invariant-loop decreases-loop
-put-place-requires c κs = omega (arith, c.before.before.before.before.before.before.loop-test.true, c.before.before.before.before.before.before.before.loop.invariant.long)
+put_place-requires : tie.Need-put_place-requires invariant-loop-s decreases-loop-s
+put_place-requires c κs = omega (arith, c.loop-s-test.true, c.loop-s.invariant.long)
 
-add-s : tie.Need-overflow-add-s invariant-loop decreases-loop
-add-s c = omega (arith, c.before.before.before.before.before.before.before.before.before.loop-test.true, c.before.before.before.before.before.before.before.before.before.before.loop.invariant.long)
+overflow_add-s : tie.Need-overflow_add-s invariant-loop-s decreases-loop-s
+overflow_add-s c = omega (arith, c.loop-s-test.true, c.loop-s.invariant.long)
 
-loop-less : tie.Need-loop-smaller invariant-loop decreases-loop
-loop-less c = omega (arith, c.before.before.before.before.before.before.before.before.before.loop-test.true)
+loop-s-smaller : tie.Need-loop-s-smaller invariant-loop-s decreases-loop-s
+loop-s-smaller c = omega (arith, c.loop-s-test.true)
 
-loop-again : tie.Need-loop-preserved invariant-loop decreases-loop
-loop-again c = turning_next c.before.before.before.before.before.before.before.before.before.before.before.before.requires.0.0 c.before.before.before.before.before.before.before.before.before.before.loop.invariant c.before.before.before.before.before.before.before.before.coefficients.ensures c.before.before.before.before.before.mixed-alone.ensures c.before.before.put-place.ensures
+loop-s-preserved : tie.Need-loop-s-preserved invariant-loop-s decreases-loop-s
+loop-s-preserved c = turning_next c.requires.0.0 c.loop-s.invariant c.coefficients-k.ensures c.mixed_alone.ensures c.put_place.ensures
 
-same_length : tie.Need-same-length invariant-loop decreases-loop
-same_length c = omega (arith, c.before.loop.invariant.long, c.before.before.before.requires.1.0)
+shape_of-fold : tie.Need-shape_of-fold invariant-loop-s decreases-loop-s
+shape_of-fold c = omega (arith, c.loop-s.invariant.long, c.requires.1.0)
 
-returns : tie.Need-returns invariant-loop decreases-loop
-returns c = filled_done c.before.loop.invariant.filled c.loop-test.false
+returns : tie.Need-returns invariant-loop-s decreases-loop-s
+returns c = filled_done c.loop-s.invariant.filled c.loop-s-test.false
 
 pub turn_places_spec : {M : Type 1} → statement M
-turn_places_spec = tie.close (tie.spec invariant-loop decreases-loop div-step loop-holds coefficients-requires mixed-alone-requires put-place-requires add-s loop-less loop-again same_length returns)
+turn_places_spec = tie.close (tie.spec invariant-loop-s decreases-loop-s nonzero_div-step loop-s-init coefficients-k-requires mixed_alone-requires put_place-requires overflow_add-s loop-s-smaller loop-s-preserved shape_of-fold returns)

@@ -14,7 +14,7 @@ returns c =
     let s = c.before.before in
     let a = s.args in
     let p = s.requires in
-    complex_held a.m a.c a.d a.u a.v c.before.neg.result c.neg2.result p.1 p.2 p.3 p.4 c.before.neg.ensures c.neg2.ensures
+    complex_held a.m a.c a.d a.u a.v c.before.neg.result c.neg-2.result p.1 p.2 p.3 p.4 c.before.neg.ensures c.neg-2.ensures
 
 pub complex_mix_spec : {M : Type 1} → statement M
 complex_mix_spec = tie.close (tie.spec neg-requires neg-requires-2 returns)

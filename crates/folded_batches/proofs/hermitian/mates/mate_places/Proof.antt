@@ -10,54 +10,43 @@ use Rattle.folded_batches.proofs.Mates.{mating_start, mating_next, mating_done}
 use Rattle.folded_batches.proofs.hermitian.mates.mate_places.Statement.{statement}
 use Rattle.folded_batches.proofs.hermitian.mates.mate_places.Tie as tie
 
-abbrev invariant-loop : tie.invariant-loop
-invariant-loop m direction re im sre sim b from to₀ step y₀ t₀ to y t = MatedLanes m direction b (line_root m b re im) from t to × (length y ≡ 32)
+abbrev invariant-loop-t : tie.invariant-loop-t
+invariant-loop-t m direction re im sre sim b from to₀ step y₀ t₀ to y t = MatedLanes m direction b (line_root m b re im) from t to × (length y ≡ 32)
 
-abbrev decreases-loop : tie.decreases-loop
-decreases-loop m direction re im sre sim b from to₀ step y₀ t₀ to y t = b - t
+abbrev decreases-loop-t : tie.decreases-loop-t
+decreases-loop-t m direction re im sre sim b from to₀ step y₀ t₀ to y t = b - t
 
-div-step : tie.Need-nonzero-div-step invariant-loop decreases-loop
-div-step c = omega (arith, c.before.before.requires.0.0.positive)
+nonzero_div-step : tie.Need-nonzero_div-step invariant-loop-t decreases-loop-t
+nonzero_div-step c = omega (arith, c.requires.0.0.positive)
 
-loop-holds : tie.Need-loop-init invariant-loop decreases-loop
-loop-holds c = (mating_start c.before.before.requires.1.1, length-replicate {A = ℕ} 32 0)
+loop-t-init : tie.Need-loop-t-init invariant-loop-t decreases-loop-t
+loop-t-init c = (mating_start c.requires.1.1, length-replicate {A = ℕ} 32 0)
 
-mate-place-requires : tie.Need-mate-place-requires invariant-loop decreases-loop
-mate-place-requires c κs =
-    let t = c.before in
-    let l = t.before in
-    let s = l.before.before.before in
-    (s.requires.0, (refl {a = stride s.args.b}, t.loop-test.true, s.requires.1.0, s.requires.1.2, l.loop.invariant.1))
+mate_place-requires : tie.Need-mate_place-requires invariant-loop-t decreases-loop-t
+mate_place-requires c κs =
+    (c.requires.0, (refl {a = stride c.args.b}, c.loop-t-test.true, c.requires.1.0, c.requires.1.2, c.loop-t.invariant.1))
 
-put-place-requires : tie.Need-put-place-requires invariant-loop decreases-loop
-put-place-requires c κs =
-    let t = c.before.before.before.before in
-    let l = t.before in
-    omega (arith, t.loop-test.true, l.loop.invariant.0.long)
+put_place-requires : tie.Need-put_place-requires invariant-loop-t decreases-loop-t
+put_place-requires c κs =
+    omega (arith, c.loop-t-test.true, c.loop-t.invariant.0.long)
 
-add-t : tie.Need-overflow-add-t invariant-loop decreases-loop
-add-t c =
-    let t = c.before.before.before.before.before.before.before in
-    let s = t.before.before.before.before in
-    omega (arith, t.loop-test.true, half_most s.requires.0.0)
+overflow_add-t : tie.Need-overflow_add-t invariant-loop-t decreases-loop-t
+overflow_add-t c =
+    omega (arith, c.loop-t-test.true, half_most c.requires.0.0)
 
-loop-less : tie.Need-loop-smaller invariant-loop decreases-loop
-loop-less c = omega (arith, c.before.before.before.before.before.before.before.loop-test.true)
+loop-t-smaller : tie.Need-loop-t-smaller invariant-loop-t decreases-loop-t
+loop-t-smaller c = omega (arith, c.loop-t-test.true)
 
-loop-again : tie.Need-loop-preserved invariant-loop decreases-loop
-loop-again c =
-    let p = c.before.before in
-    let g = p.before.before.before in
-    let l = g.before.before.before in
-    (mating_next l.loop.invariant.0 g.mate-place.ensures p.put-place.ensures, g.mate-place.ensures.long)
+loop-t-preserved : tie.Need-loop-t-preserved invariant-loop-t decreases-loop-t
+loop-t-preserved c =
+    (mating_next c.loop-t.invariant.0 c.mate_place.ensures c.put_place.ensures, c.mate_place.ensures.long)
 
-same_length : tie.Need-same-length invariant-loop decreases-loop
-same_length c =
-    let l = c.before in
-    omega (arith, l.loop.invariant.0.long, l.before.before.before.requires.1.1)
+shape_of-to : tie.Need-shape_of-to invariant-loop-t decreases-loop-t
+shape_of-to c =
+    omega (arith, c.loop-t.invariant.0.long, c.requires.1.1)
 
-returns : tie.Need-returns invariant-loop decreases-loop
-returns c = mating_done c.before.loop.invariant.0 c.loop-test.false
+returns : tie.Need-returns invariant-loop-t decreases-loop-t
+returns c = mating_done c.loop-t.invariant.0 c.loop-t-test.false
 
 pub mate_places_spec : {M : Type 1} → statement M
-mate_places_spec = tie.close (tie.spec invariant-loop decreases-loop div-step loop-holds mate-place-requires put-place-requires add-t loop-less loop-again same_length returns)
+mate_places_spec = tie.close (tie.spec invariant-loop-t decreases-loop-t nonzero_div-step loop-t-init mate_place-requires put_place-requires overflow_add-t loop-t-smaller loop-t-preserved shape_of-to returns)

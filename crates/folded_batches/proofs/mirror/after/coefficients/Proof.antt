@@ -9,52 +9,37 @@ use Rattle.folded_batches.proofs.MirrorFinish.{even_mix, odd_mix}
 use Rattle.folded_batches.proofs.mirror.after.coefficients.Statement.{statement}
 use Rattle.folded_batches.proofs.mirror.after.coefficients.Tie as tie
 
-shift-requires : tie.Need-shift-requires
-shift-requires c κs = c.requires.0
+shift-one-requires : tie.Need-shift-one-requires
+shift-one-requires c κs = c.requires.0
 
 modulus-requires : tie.Need-modulus-requires
-modulus-requires c κs = c.before.requires.0
+modulus-requires c κs = c.requires.0
 
-sub-minus-one : tie.Need-overflow-sub-minus-one
-sub-minus-one c =
-    let f = c.before in
-    omega (arith, c.modulus.ensures.0, below_by f.before.args.m (res f.before.args.m 4294967296) f.shift.ensures)
+overflow_sub-minus_one : tie.Need-overflow_sub-minus_one
+overflow_sub-minus_one c =
+    omega (arith, c.modulus.ensures.0, below_by c.args.m (res c.args.m 4294967296) c.shift-one.ensures)
 
-mul-requires : tie.Need-mul-requires
-mul-requires c κs =
-    let f = c.before in
-    let s = f.before in
-    (s.requires.0, below_by s.args.m (res s.args.m 4294967296) f.shift.ensures, s.requires.2)
+mul-turn-requires : tie.Need-mul-turn-requires
+mul-turn-requires c κs =
+    (c.requires.0, below_by c.args.m (res c.args.m 4294967296) c.shift-one.ensures, c.requires.2)
 
 modulus-requires-2 : tie.Need-modulus-requires-2
-modulus-requires-2 c κs = c.before.before.before.requires.0
+modulus-requires-2 c κs = c.requires.0
 
-turn_low : (c : tie.After-mul) → let s = c.before.before.before in c.mul.result < prime s.args.m
+turn_low : (c : tie.After-mul-turn) → c.mul-turn.result < prime c.args.m
 turn_low c =
-    let f = c.before.before in
-    let s = f.before in
-    below_by s.args.m ((ring s.args.m).mul (res s.args.m f.shift.result) (res s.args.m s.args.tau)) c.mul.ensures
+    below_by c.args.m ((ring c.args.m).mul (res c.args.m c.shift-one.result) (res c.args.m c.args.tau)) c.mul-turn.ensures
 
-sub-minus-turn : tie.Need-overflow-sub-minus-turn
-sub-minus-turn c = omega (arith, c.modulus2.ensures.0, turn_low c.before)
+overflow_sub-minus_turn : tie.Need-overflow_sub-minus_turn
+overflow_sub-minus_turn c = omega (arith, c.modulus-2.ensures.0, turn_low c.before)
 
-returns : tie.Need-returns
-returns c =
-    let q = c.before in
-    let t = q.before in
-    let n = t.before in
-    let f = n.before in
-    let s = f.before in
-    even_mix s.args.m s.args.tau f.shift.ensures t.mul.ensures n.modulus.ensures.0 q.modulus2.ensures.0 c.if1.true
+returns-then-first-eq0 : tie.Need-returns-then-first-eq0
+returns-then-first-eq0 c =
+    even_mix c.args.m c.args.tau c.shift-one.ensures c.mul-turn.ensures c.modulus.ensures.0 c.modulus-2.ensures.0 c.if-first-eq0.true
 
-returns-2 : tie.Need-returns-2
-returns-2 c =
-    let q = c.before in
-    let t = q.before in
-    let n = t.before in
-    let f = n.before in
-    let s = f.before in
-    odd_mix s.args.m s.args.tau f.shift.ensures t.mul.ensures n.modulus.ensures.0 q.modulus2.ensures.0 (omega (arith, s.requires.1, c.if1.false))
+returns-else-first-eq0 : tie.Need-returns-else-first-eq0
+returns-else-first-eq0 c =
+    odd_mix c.args.m c.args.tau c.shift-one.ensures c.mul-turn.ensures c.modulus.ensures.0 c.modulus-2.ensures.0 (omega (arith, c.requires.1, c.if-first-eq0.false))
 
 pub coefficients_spec : {M : Type 1} → statement M
-coefficients_spec = tie.close (tie.spec shift-requires modulus-requires sub-minus-one mul-requires modulus-requires-2 sub-minus-turn returns returns-2)
+coefficients_spec = tie.close (tie.spec shift-one-requires modulus-requires overflow_sub-minus_one mul-turn-requires modulus-requires-2 overflow_sub-minus_turn returns-then-first-eq0 returns-else-first-eq0)

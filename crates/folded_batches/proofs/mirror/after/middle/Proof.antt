@@ -9,79 +9,79 @@ use Rattle.folded_batches.proofs.MirrorBlocks.{numbers_start, numbers_next, numb
 use Rattle.folded_batches.proofs.mirror.after.middle.Statement.{statement}
 use Rattle.folded_batches.proofs.mirror.after.middle.Tie as tie
 
-abbrev invariant-loop : tie.invariant-loop
-invariant-loop m odds fold y₀ o u₀ y u = Numbers (λ u. 2 * (get_or fold u 0 + (2880 * prime m - 2 * get_or odds u 0))) u y
+abbrev invariant-loop-u : tie.invariant-loop-u
+invariant-loop-u m odds fold y₀ o u₀ y u = Numbers (λ u. 2 * (get_or fold u 0 + (2880 * prime m - 2 * get_or odds u 0))) u y
 
-abbrev decreases-loop : tie.decreases-loop
-decreases-loop m odds fold y₀ o u₀ y u = 32 - u
+abbrev decreases-loop-u : tie.decreases-loop-u
+decreases-loop-u m odds fold y₀ o u₀ y u = 32 - u
 
-modulus-requires : tie.Need-modulus-requires invariant-loop decreases-loop
-modulus-requires c κs = c.before.requires.0
+modulus-o-requires : tie.Need-modulus-o-requires invariant-loop-u decreases-loop-u
+modulus-o-requires c κs = c.before.requires.0
 
-mul-o : tie.Need-overflow-mul-o invariant-loop decreases-loop
-mul-o c = omega (arith, c.modulus.ensures.2)
+overflow_mul-o : tie.Need-overflow_mul-o invariant-loop-u decreases-loop-u
+overflow_mul-o c = omega (arith, c.modulus-o.ensures.2)
 
-loop-holds : tie.Need-loop-init invariant-loop decreases-loop
-loop-holds c = numbers_start c.before.before.requires.4
+loop-u-init : tie.Need-loop-u-init invariant-loop-u decreases-loop-u
+loop-u-init c = numbers_start c.before.before.requires.4
 
-mul-y : tie.Need-overflow-mul-y invariant-loop decreases-loop
-mul-y c = omega (arith, c.loop-test.true)
+offset_bounds-fold-u : tie.Need-offset_bounds-fold-u invariant-loop-u decreases-loop-u
+offset_bounds-fold-u c = omega (arith, c.loop-u-test.true)
 
-shared-slice-read-y : tie.Need-shared-slice-read-y invariant-loop decreases-loop
-shared-slice-read-y c = omega (arith, c.before.loop-test.true, c.before.before.before.before.before.requires.3)
+bounds-fold-u : tie.Need-bounds-fold-u invariant-loop-u decreases-loop-u
+bounds-fold-u c = omega (arith, c.before.loop-u-test.true, c.before.before.before.before.before.requires.3)
 
-mul-y-2 : tie.Need-overflow-mul-y-2 invariant-loop decreases-loop
-mul-y-2 c = omega (arith, c.before.loop-test.true)
+offset_bounds-odds-u : tie.Need-offset_bounds-odds-u invariant-loop-u decreases-loop-u
+offset_bounds-odds-u c = omega (arith, c.before.loop-u-test.true)
 
-element-copy-out-y : tie.Need-element-copy-out-y invariant-loop decreases-loop
-element-copy-out-y c = omega (arith, c.before.loop-test.true)
+bounds-odds-u : tie.Need-bounds-odds-u invariant-loop-u decreases-loop-u
+bounds-odds-u c = omega (arith, c.before.loop-u-test.true)
 
-mul-y-3 : tie.Need-overflow-mul-y-3 invariant-loop decreases-loop
-mul-y-3 c =
+overflow_mul-y : tie.Need-overflow_mul-y invariant-loop-u decreases-loop-u
+overflow_mul-y c =
     let l = c.before.before.before in
     let o = l.before in
-    omega (arith, o.before.before.requires.1.each l.loop.u, o.modulus.ensures)
+    omega (arith, o.before.before.requires.1.each l.loop-u.u, o.modulus-o.ensures)
 
-sub-y : tie.Need-overflow-sub-y invariant-loop decreases-loop
-sub-y c =
+overflow_sub-y : tie.Need-overflow_sub-y invariant-loop-u decreases-loop-u
+overflow_sub-y c =
     let l = c.before.before.before in
     let o = l.before in
-    omega (arith, o.before.before.requires.1.each l.loop.u, o.modulus.ensures)
+    omega (arith, o.before.before.requires.1.each l.loop-u.u, o.modulus-o.ensures)
 
-add-y : tie.Need-overflow-add-y invariant-loop decreases-loop
-add-y c =
+overflow_add-y : tie.Need-overflow_add-y invariant-loop-u decreases-loop-u
+overflow_add-y c =
     let l = c.before.before.before in
     let o = l.before in
-    omega (arith, o.before.before.requires.2.each l.loop.u, o.modulus.ensures)
+    omega (arith, o.before.before.requires.2.each l.loop-u.u, o.modulus-o.ensures)
 
-mul-y-4 : tie.Need-overflow-mul-y-4 invariant-loop decreases-loop
-mul-y-4 c =
+overflow_mul-y-in-loop-u : tie.Need-overflow_mul-y-in-loop-u invariant-loop-u decreases-loop-u
+overflow_mul-y-in-loop-u c =
     let l = c.before.before.before in
     let o = l.before in
-    omega (arith, o.before.before.requires.2.each l.loop.u, o.modulus.ensures)
+    omega (arith, o.before.before.requires.2.each l.loop-u.u, o.modulus-o.ensures)
 
-mul-y-5 : tie.Need-overflow-mul-y-5 invariant-loop decreases-loop
-mul-y-5 c = omega (arith, c.before.before.loop-test.true)
+offset_bounds-y-u : tie.Need-offset_bounds-y-u invariant-loop-u decreases-loop-u
+offset_bounds-y-u c = omega (arith, c.before.before.loop-u-test.true)
 
-element-write-y : tie.Need-element-write-y invariant-loop decreases-loop
-element-write-y c = omega (arith, c.before.before.loop-test.true)
+bounds-y-u : tie.Need-bounds-y-u invariant-loop-u decreases-loop-u
+bounds-y-u c = omega (arith, c.before.before.loop-u-test.true)
 
-add-u : tie.Need-overflow-add-u invariant-loop decreases-loop
-add-u c = omega (arith, c.before.before.loop-test.true)
+overflow_add-u : tie.Need-overflow_add-u invariant-loop-u decreases-loop-u
+overflow_add-u c = omega (arith, c.before.before.loop-u-test.true)
 
-loop-less : tie.Need-loop-smaller invariant-loop decreases-loop
-loop-less c = omega (arith, c.before.before.loop-test.true)
+loop-u-smaller : tie.Need-loop-u-smaller invariant-loop-u decreases-loop-u
+loop-u-smaller c = omega (arith, c.before.before.loop-u-test.true)
 
-loop-again : tie.Need-loop-preserved invariant-loop decreases-loop
-loop-again c =
+loop-u-preserved : tie.Need-loop-u-preserved invariant-loop-u decreases-loop-u
+loop-u-preserved c =
     let t = c.before.before in
     let l = t.before in
     let o = l.before in
     let a = o.before.before.args in
-    numbers_next l.loop.invariant t.loop-test.true (ap (λ (n : ℕ). 2 * (get_or a.fold.now l.loop.u 0 + (2880 * n - 2 * get_or a.odds.now l.loop.u 0))) o.modulus.ensures.0)
+    numbers_next l.loop-u.invariant t.loop-u-test.true (ap (λ (n : ℕ). 2 * (get_or a.fold.now l.loop-u.u 0 + (2880 * n - 2 * get_or a.odds.now l.loop-u.u 0))) o.modulus-o.ensures.0)
 
-returns : tie.Need-returns invariant-loop decreases-loop
-returns c = numbers_done c.before.loop.invariant c.loop-test.false
+returns : tie.Need-returns invariant-loop-u decreases-loop-u
+returns c = numbers_done c.before.loop-u.invariant c.loop-u-test.false
 
 pub middle_spec : {M : Type 1} → statement M
-middle_spec = tie.close (tie.spec invariant-loop decreases-loop modulus-requires mul-o loop-holds mul-y shared-slice-read-y mul-y-2 element-copy-out-y mul-y-3 sub-y add-y mul-y-4 mul-y-5 element-write-y add-u loop-less loop-again returns)
+middle_spec = tie.close (tie.spec invariant-loop-u decreases-loop-u modulus-o-requires overflow_mul-o loop-u-init offset_bounds-fold-u bounds-fold-u offset_bounds-odds-u bounds-odds-u overflow_mul-y overflow_sub-y overflow_add-y overflow_mul-y-in-loop-u offset_bounds-y-u bounds-y-u overflow_add-u loop-u-smaller loop-u-preserved returns)

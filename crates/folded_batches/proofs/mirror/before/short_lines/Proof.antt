@@ -10,53 +10,53 @@ use Rattle.folded_batches.proofs.MirrorBlocks.{places_start, places_next, places
 use Rattle.folded_batches.proofs.mirror.before.short_lines.Statement.{statement}
 use Rattle.folded_batches.proofs.mirror.before.short_lines.Tie as tie
 
-abbrev invariant-loop : tie.invariant-loop
-invariant-loop m first a line fold₀ y₀ t₀ fold y t =
+abbrev invariant-loop-t : tie.invariant-loop-t
+invariant-loop-t m first a line fold₀ y₀ t₀ fold y t =
     ((X : ℕ → ℕ → Value m) → WholeLines m a first line X → Places m (8 * prime m) (λ v. mirror_point (field m) (X v)) 0 t fold)
     × ((length fold ≡ length fold₀) × (length y ≡ 32) × (t ≤ a))
 
-abbrev decreases-loop : tie.decreases-loop
-decreases-loop m first a line fold₀ y₀ t₀ fold y t = a - t
+abbrev decreases-loop-t : tie.decreases-loop-t
+decreases-loop-t m first a line fold₀ y₀ t₀ fold y t = a - t
 
-loop-holds : tie.Need-loop-init invariant-loop decreases-loop
-loop-holds c = ((λ X h. places_start), (omega arith, length-replicate {A = ℕ} 32 0, omega arith))
+loop-t-init : tie.Need-loop-t-init invariant-loop-t decreases-loop-t
+loop-t-init c = ((λ X h. places_start), (omega arith, length-replicate {A = ℕ} 32 0, omega arith))
 
-short-place-requires : tie.Need-short-place-requires invariant-loop decreases-loop
-short-place-requires c κs =
+short_place-requires : tie.Need-short_place-requires invariant-loop-t decreases-loop-t
+short_place-requires c κs =
     let t = c.before in
     let l = t.before in
     let p = l.before.before.before.requires in
-    (p.0, p.1, t.loop-test.true, p.2, p.3, l.loop.invariant.1.1)
+    (p.0, p.1, t.loop-t-test.true, p.2, p.3, l.loop-t.invariant.1.1)
 
-put-place-requires : tie.Need-put-place-requires invariant-loop decreases-loop
-put-place-requires c κs =
+put_place-requires : tie.Need-put_place-requires invariant-loop-t decreases-loop-t
+put_place-requires c κs =
     let t = c.before.before.before.before in
     let l = t.before in
-    omega (arith, t.loop-test.true, l.loop.invariant.1.0, l.before.before.before.requires.4)
+    omega (arith, t.loop-t-test.true, l.loop-t.invariant.1.0, l.before.before.before.requires.4)
 
-add-t : tie.Need-overflow-add-t invariant-loop decreases-loop
-add-t c =
+overflow_add-t : tie.Need-overflow_add-t invariant-loop-t decreases-loop-t
+overflow_add-t c =
     let t = c.before.before.before.before.before.before.before in
-    omega (arith, t.loop-test.true, t.before.before.before.before.requires.2)
+    omega (arith, t.loop-t-test.true, t.before.before.before.before.requires.2)
 
-loop-less : tie.Need-loop-smaller invariant-loop decreases-loop
-loop-less c = omega (arith, c.before.before.before.before.before.before.before.loop-test.true)
+loop-t-smaller : tie.Need-loop-t-smaller invariant-loop-t decreases-loop-t
+loop-t-smaller c = omega (arith, c.before.before.before.before.before.before.before.loop-t-test.true)
 
-loop-again : tie.Need-loop-preserved invariant-loop decreases-loop
-loop-again c =
+loop-t-preserved : tie.Need-loop-t-preserved invariant-loop-t decreases-loop-t
+loop-t-preserved c =
     let g = c.before.before in
     let k = g.before.before.before in
     let t = k.before.before in
-    let i = t.before.loop.invariant in
-    ((λ X h. places_next (i.0 X h) (k.short-place.ensures.1 X h) g.put-place.ensures), (g.put-place.ensures.long ∙ i.1.0, k.short-place.ensures.0, omega (arith, t.loop-test.true)))
+    let i = t.before.loop-t.invariant in
+    ((λ X h. places_next (i.0 X h) (k.short_place.ensures.1 X h) g.put_place.ensures), (g.put_place.ensures.long ∙ i.1.0, k.short_place.ensures.0, omega (arith, t.loop-t-test.true)))
 
-same_length : tie.Need-same-length invariant-loop decreases-loop
-same_length c = c.before.loop.invariant.1.0
+shape_of-fold : tie.Need-shape_of-fold invariant-loop-t decreases-loop-t
+shape_of-fold c = c.before.loop-t.invariant.1.0
 
-returns : tie.Need-returns invariant-loop decreases-loop
+returns : tie.Need-returns invariant-loop-t decreases-loop-t
 returns c =
-    let i = c.before.loop.invariant in
-    λ X h. places_as (i.0 X h) (omega (arith, i.1.2, c.loop-test.false))
+    let i = c.before.loop-t.invariant in
+    λ X h. places_as (i.0 X h) (omega (arith, i.1.2, c.loop-t-test.false))
 
 pub short_lines_spec : {M : Type 1} → statement M
-short_lines_spec = tie.close (tie.spec invariant-loop decreases-loop loop-holds short-place-requires put-place-requires add-t loop-less loop-again same_length returns)
+short_lines_spec = tie.close (tie.spec invariant-loop-t decreases-loop-t loop-t-init short_place-requires put_place-requires overflow_add-t loop-t-smaller loop-t-preserved shape_of-fold returns)

@@ -8,49 +8,49 @@ use Rattle.folded_batches.proofs.MirrorBlocks.{raised_start, raised_next, raised
 use Rattle.folded_batches.proofs.mirror.places.add_to.Statement.{statement}
 use Rattle.folded_batches.proofs.mirror.places.add_to.Tie as tie
 
-abbrev invariant-loop : tie.invariant-loop
-invariant-loop from j y₀ u₀ y u = Raised (λ u. get_or from (32 * j + u) 0) u y₀ y × (u ≤ 32)
+abbrev invariant-loop-u : tie.invariant-loop-u
+invariant-loop-u from j y₀ u₀ y u = Raised (λ u. get_or from (32 * j + u) 0) u y₀ y × (u ≤ 32)
 
-abbrev decreases-loop : tie.decreases-loop
-decreases-loop from j y₀ u₀ y u = 32 - u
+abbrev decreases-loop-u : tie.decreases-loop-u
+decreases-loop-u from j y₀ u₀ y u = 32 - u
 
-loop-holds : tie.Need-loop-init invariant-loop decreases-loop
-loop-holds c = (raised_start, omega arith)
+loop-u-init : tie.Need-loop-u-init invariant-loop-u decreases-loop-u
+loop-u-init c = (raised_start, omega arith)
 
-mul-y : tie.Need-overflow-mul-y invariant-loop decreases-loop
-mul-y c = omega (arith, c.loop-test.true)
+offset_bounds-y-u : tie.Need-offset_bounds-y-u invariant-loop-u decreases-loop-u
+offset_bounds-y-u c = omega (arith, c.loop-u-test.true)
 
-element-copy-out-y : tie.Need-element-copy-out-y invariant-loop decreases-loop
-element-copy-out-y c = omega (arith, c.loop-test.true)
+bounds-y-u : tie.Need-bounds-y-u invariant-loop-u decreases-loop-u
+bounds-y-u c = omega (arith, c.loop-u-test.true)
 
-part-requires : tie.Need-part-requires invariant-loop decreases-loop
-part-requires c κs = let p = c.before.before.before.before.requires in (c.before.loop-test.true, p.0, p.1)
+part-requires : tie.Need-part-requires invariant-loop-u decreases-loop-u
+part-requires c κs = let p = c.before.before.before.before.requires in (c.before.loop-u-test.true, p.0, p.1)
 
-add-y : tie.Need-overflow-add-y invariant-loop decreases-loop
-add-y c =
+overflow_add-y : tie.Need-overflow_add-y invariant-loop-u decreases-loop-u
+overflow_add-y c =
     let l = c.before.before.before in
-    omega (arith, c.part.ensures.1, l.loop.invariant.0.kept l.loop.u (omega arith), l.before.before.requires.3.each l.loop.u)
+    omega (arith, c.part.ensures.1, l.loop-u.invariant.0.kept l.loop-u.u (omega arith), l.before.before.requires.3.each l.loop-u.u)
 
-mul-y-2 : tie.Need-overflow-mul-y-2 invariant-loop decreases-loop
-mul-y-2 c = omega (arith, c.before.before.loop-test.true)
+offset_bounds-y-u-in-loop-u : tie.Need-offset_bounds-y-u-in-loop-u invariant-loop-u decreases-loop-u
+offset_bounds-y-u-in-loop-u c = omega (arith, c.before.before.loop-u-test.true)
 
-element-write-y : tie.Need-element-write-y invariant-loop decreases-loop
-element-write-y c = omega (arith, c.before.before.loop-test.true)
+bounds-y-u-in-loop-u : tie.Need-bounds-y-u-in-loop-u invariant-loop-u decreases-loop-u
+bounds-y-u-in-loop-u c = omega (arith, c.before.before.loop-u-test.true)
 
-add-u : tie.Need-overflow-add-u invariant-loop decreases-loop
-add-u c = omega (arith, c.before.before.loop-test.true)
+overflow_add-u : tie.Need-overflow_add-u invariant-loop-u decreases-loop-u
+overflow_add-u c = omega (arith, c.before.before.loop-u-test.true)
 
-loop-less : tie.Need-loop-smaller invariant-loop decreases-loop
-loop-less c = omega (arith, c.before.before.loop-test.true)
+loop-u-smaller : tie.Need-loop-u-smaller invariant-loop-u decreases-loop-u
+loop-u-smaller c = omega (arith, c.before.before.loop-u-test.true)
 
-loop-again : tie.Need-loop-preserved invariant-loop decreases-loop
-loop-again c =
+loop-u-preserved : tie.Need-loop-u-preserved invariant-loop-u decreases-loop-u
+loop-u-preserved c =
     let t = c.before.before in
     let l = t.before in
-    (raised_next l.loop.invariant.0 (omega (arith, t.loop-test.true, l.before.before.requires.2)) (ap (λ (n : ℕ). get_or l.loop.y l.loop.u 0 + n) c.part.ensures.0), omega (arith, t.loop-test.true))
+    (raised_next l.loop-u.invariant.0 (omega (arith, t.loop-u-test.true, l.before.before.requires.2)) (ap (λ (n : ℕ). get_or l.loop-u.y l.loop-u.u 0 + n) c.part.ensures.0), omega (arith, t.loop-u-test.true))
 
-returns : tie.Need-returns invariant-loop decreases-loop
-returns c = raised_done c.before.loop.invariant.0 c.loop-test.false c.before.loop.invariant.1
+returns : tie.Need-returns invariant-loop-u decreases-loop-u
+returns c = raised_done c.before.loop-u.invariant.0 c.loop-u-test.false c.before.loop-u.invariant.1
 
 pub add_to_spec : {M : Type 1} → statement M
-add_to_spec = tie.close (tie.spec invariant-loop decreases-loop loop-holds mul-y element-copy-out-y part-requires add-y mul-y-2 element-write-y add-u loop-less loop-again returns)
+add_to_spec = tie.close (tie.spec invariant-loop-u decreases-loop-u loop-u-init offset_bounds-y-u bounds-y-u part-requires overflow_add-y offset_bounds-y-u-in-loop-u bounds-y-u-in-loop-u overflow_add-u loop-u-smaller loop-u-preserved returns)

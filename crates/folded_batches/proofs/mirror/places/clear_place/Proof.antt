@@ -8,41 +8,41 @@ use Rattle.folded_batches.proofs.MirrorBlocks.{cleared_place}
 use Rattle.folded_batches.proofs.mirror.places.clear_place.Statement.{statement}
 use Rattle.folded_batches.proofs.mirror.places.clear_place.Tie as tie
 
-abbrev invariant-loop : tie.invariant-loop
-invariant-loop to₀ j place u₀ to u = Copying [] 0 j u to₀ to
+abbrev invariant-loop-u : tie.invariant-loop-u
+invariant-loop-u to₀ j place u₀ to u = Copying [] 0 j u to₀ to
 
-abbrev decreases-loop : tie.decreases-loop
-decreases-loop to₀ j place u₀ to u = 32 - u
+abbrev decreases-loop-u : tie.decreases-loop-u
+decreases-loop-u to₀ j place u₀ to u = 32 - u
 
-mul-place : tie.Need-overflow-mul-place invariant-loop decreases-loop
-mul-place c = omega (arith, c.requires)
+overflow_mul-place : tie.Need-overflow_mul-place invariant-loop-u decreases-loop-u
+overflow_mul-place c = omega (arith, c.requires)
 
-loop-holds : tie.Need-loop-init invariant-loop decreases-loop
-loop-holds c = copying_start
+loop-u-init : tie.Need-loop-u-init invariant-loop-u decreases-loop-u
+loop-u-init c = copying_start
 
-add-to : tie.Need-overflow-add-to invariant-loop decreases-loop
-add-to c = omega (arith, c.loop-test.true, c.before.before.requires)
+overflow_add-to : tie.Need-overflow_add-to invariant-loop-u decreases-loop-u
+overflow_add-to c = omega (arith, c.loop-u-test.true, c.before.before.requires)
 
-mul-to : tie.Need-overflow-mul-to invariant-loop decreases-loop
-mul-to c = omega (arith, c.loop-test.true, c.before.before.requires)
+offset_bounds-to-place : tie.Need-offset_bounds-to-place invariant-loop-u decreases-loop-u
+offset_bounds-to-place c = omega (arith, c.loop-u-test.true, c.before.before.requires)
 
-slice-write-to : tie.Need-slice-write-to invariant-loop decreases-loop
-slice-write-to c = omega (arith, c.loop-test.true, c.before.before.requires, c.before.loop.invariant.long)
+bounds-to-place : tie.Need-bounds-to-place invariant-loop-u decreases-loop-u
+bounds-to-place c = omega (arith, c.loop-u-test.true, c.before.before.requires, c.before.loop-u.invariant.long)
 
-add-u : tie.Need-overflow-add-u invariant-loop decreases-loop
-add-u c = omega (arith, c.loop-test.true)
+overflow_add-u : tie.Need-overflow_add-u invariant-loop-u decreases-loop-u
+overflow_add-u c = omega (arith, c.loop-u-test.true)
 
-loop-less : tie.Need-loop-smaller invariant-loop decreases-loop
-loop-less c = omega (arith, c.loop-test.true)
+loop-u-smaller : tie.Need-loop-u-smaller invariant-loop-u decreases-loop-u
+loop-u-smaller c = omega (arith, c.loop-u-test.true)
 
-loop-again : tie.Need-loop-preserved invariant-loop decreases-loop
-loop-again c = copying_first c.before.loop.invariant c.loop-test.true c.before.before.requires
+loop-u-preserved : tie.Need-loop-u-preserved invariant-loop-u decreases-loop-u
+loop-u-preserved c = copying_first c.before.loop-u.invariant c.loop-u-test.true c.before.before.requires
 
-same_length : tie.Need-same-length invariant-loop decreases-loop
-same_length c = omega (arith, c.before.loop.invariant.long)
+shape_of-to : tie.Need-shape_of-to invariant-loop-u decreases-loop-u
+shape_of-to c = omega (arith, c.before.loop-u.invariant.long)
 
-returns : tie.Need-returns invariant-loop decreases-loop
-returns c = cleared_place (copying_done c.before.loop.invariant c.loop-test.false)
+returns : tie.Need-returns invariant-loop-u decreases-loop-u
+returns c = cleared_place (copying_done c.before.loop-u.invariant c.loop-u-test.false)
 
 pub clear_place_spec : {M : Type 1} → statement M
-clear_place_spec = tie.close (tie.spec invariant-loop decreases-loop mul-place loop-holds add-to mul-to slice-write-to add-u loop-less loop-again same_length returns)
+clear_place_spec = tie.close (tie.spec invariant-loop-u decreases-loop-u overflow_mul-place loop-u-init overflow_add-to offset_bounds-to-place bounds-to-place overflow_add-u loop-u-smaller loop-u-preserved shape_of-to returns)

@@ -9,81 +9,81 @@ use Rattle.folded_batches.proofs.MirrorBlocks.{numbers_start, numbers_next, numb
 use Rattle.folded_batches.proofs.mirror.places.subtract_places.Statement.{statement}
 use Rattle.folded_batches.proofs.mirror.places.subtract_places.Tie as tie
 
-abbrev invariant-loop : tie.invariant-loop
-invariant-loop m from i j y₀ o u₀ y u = Numbers (λ u. 2 * prime m - (get_or from (32 * i + u) 0 + get_or from (32 * j + u) 0)) u y
+abbrev invariant-loop-u : tie.invariant-loop-u
+invariant-loop-u m from i j y₀ o u₀ y u = Numbers (λ u. 2 * prime m - (get_or from (32 * i + u) 0 + get_or from (32 * j + u) 0)) u y
 
-abbrev decreases-loop : tie.decreases-loop
-decreases-loop m from i j y₀ o u₀ y u = 32 - u
+abbrev decreases-loop-u : tie.decreases-loop-u
+decreases-loop-u m from i j y₀ o u₀ y u = 32 - u
 
-modulus-requires : tie.Need-modulus-requires invariant-loop decreases-loop
-modulus-requires c κs = c.before.requires.0
+modulus-o-requires : tie.Need-modulus-o-requires invariant-loop-u decreases-loop-u
+modulus-o-requires c κs = c.before.requires.0
 
-mul-o : tie.Need-overflow-mul-o invariant-loop decreases-loop
-mul-o c = omega (arith, c.modulus.ensures.2)
+overflow_mul-o : tie.Need-overflow_mul-o invariant-loop-u decreases-loop-u
+overflow_mul-o c = omega (arith, c.modulus-o.ensures.2)
 
-loop-holds : tie.Need-loop-init invariant-loop decreases-loop
-loop-holds c = numbers_start c.before.before.requires.4
+loop-u-init : tie.Need-loop-u-init invariant-loop-u decreases-loop-u
+loop-u-init c = numbers_start c.before.before.requires.4
 
-mul-y : tie.Need-overflow-mul-y invariant-loop decreases-loop
-mul-y c = omega (arith, c.before.before.before.before.requires.1)
+overflow_mul-y : tie.Need-overflow_mul-y invariant-loop-u decreases-loop-u
+overflow_mul-y c = omega (arith, c.before.before.before.before.requires.1)
 
-add-y : tie.Need-overflow-add-y invariant-loop decreases-loop
-add-y c = omega (arith, c.loop-test.true, c.before.before.before.before.requires.1)
+overflow_add-y : tie.Need-overflow_add-y invariant-loop-u decreases-loop-u
+overflow_add-y c = omega (arith, c.loop-u-test.true, c.before.before.before.before.requires.1)
 
-mul-y-2 : tie.Need-overflow-mul-y-2 invariant-loop decreases-loop
-mul-y-2 c = omega (arith, c.loop-test.true, c.before.before.before.before.requires.1)
+offset_bounds-from-i : tie.Need-offset_bounds-from-i invariant-loop-u decreases-loop-u
+offset_bounds-from-i c = omega (arith, c.loop-u-test.true, c.before.before.before.before.requires.1)
 
-shared-slice-read-y : tie.Need-shared-slice-read-y invariant-loop decreases-loop
-shared-slice-read-y c = omega (arith, c.before.loop-test.true, c.before.before.before.before.before.requires.1)
+bounds-from-i : tie.Need-bounds-from-i invariant-loop-u decreases-loop-u
+bounds-from-i c = omega (arith, c.before.loop-u-test.true, c.before.before.before.before.before.requires.1)
 
-mul-y-3 : tie.Need-overflow-mul-y-3 invariant-loop decreases-loop
-mul-y-3 c = omega (arith, c.before.before.before.before.before.requires.2)
+overflow_mul-y-in-loop-u : tie.Need-overflow_mul-y-in-loop-u invariant-loop-u decreases-loop-u
+overflow_mul-y-in-loop-u c = omega (arith, c.before.before.before.before.before.requires.2)
 
-add-y-2 : tie.Need-overflow-add-y-2 invariant-loop decreases-loop
-add-y-2 c = omega (arith, c.before.loop-test.true, c.before.before.before.before.before.requires.2)
+overflow_add-y-in-loop-u : tie.Need-overflow_add-y-in-loop-u invariant-loop-u decreases-loop-u
+overflow_add-y-in-loop-u c = omega (arith, c.before.loop-u-test.true, c.before.before.before.before.before.requires.2)
 
-mul-y-4 : tie.Need-overflow-mul-y-4 invariant-loop decreases-loop
-mul-y-4 c = omega (arith, c.before.loop-test.true, c.before.before.before.before.before.requires.2)
+offset_bounds-from-j : tie.Need-offset_bounds-from-j invariant-loop-u decreases-loop-u
+offset_bounds-from-j c = omega (arith, c.before.loop-u-test.true, c.before.before.before.before.before.requires.2)
 
-shared-slice-read-y-2 : tie.Need-shared-slice-read-y-2 invariant-loop decreases-loop
-shared-slice-read-y-2 c = omega (arith, c.before.before.loop-test.true, c.before.before.before.before.before.before.requires.2)
+bounds-from-j : tie.Need-bounds-from-j invariant-loop-u decreases-loop-u
+bounds-from-j c = omega (arith, c.before.before.loop-u-test.true, c.before.before.before.before.before.before.requires.2)
 
-add-y-3 : tie.Need-overflow-add-y-3 invariant-loop decreases-loop
-add-y-3 c =
+overflow_add-y-in-loop-u-2 : tie.Need-overflow_add-y-in-loop-u-2 invariant-loop-u decreases-loop-u
+overflow_add-y-in-loop-u-2 c =
     let l = c.before.before.before in
     let o = l.before in
     let p = o.before.before.requires in
-    omega (arith, p.3.each (32 * o.before.before.args.i + l.loop.u), p.3.each (32 * o.before.before.args.j + l.loop.u), o.modulus.ensures)
+    omega (arith, p.3.each (32 * o.before.before.args.i + l.loop-u.u), p.3.each (32 * o.before.before.args.j + l.loop-u.u), o.modulus-o.ensures)
 
-sub-y : tie.Need-overflow-sub-y invariant-loop decreases-loop
-sub-y c =
+overflow_sub-y : tie.Need-overflow_sub-y invariant-loop-u decreases-loop-u
+overflow_sub-y c =
     let l = c.before.before.before in
     let o = l.before in
     let p = o.before.before.requires in
-    omega (arith, p.3.each (32 * o.before.before.args.i + l.loop.u), p.3.each (32 * o.before.before.args.j + l.loop.u), o.modulus.ensures)
+    omega (arith, p.3.each (32 * o.before.before.args.i + l.loop-u.u), p.3.each (32 * o.before.before.args.j + l.loop-u.u), o.modulus-o.ensures)
 
-mul-y-5 : tie.Need-overflow-mul-y-5 invariant-loop decreases-loop
-mul-y-5 c = omega (arith, c.before.before.loop-test.true)
+offset_bounds-y-u : tie.Need-offset_bounds-y-u invariant-loop-u decreases-loop-u
+offset_bounds-y-u c = omega (arith, c.before.before.loop-u-test.true)
 
-element-write-y : tie.Need-element-write-y invariant-loop decreases-loop
-element-write-y c = omega (arith, c.before.before.loop-test.true)
+bounds-y-u : tie.Need-bounds-y-u invariant-loop-u decreases-loop-u
+bounds-y-u c = omega (arith, c.before.before.loop-u-test.true)
 
-add-u : tie.Need-overflow-add-u invariant-loop decreases-loop
-add-u c = omega (arith, c.before.before.loop-test.true)
+overflow_add-u : tie.Need-overflow_add-u invariant-loop-u decreases-loop-u
+overflow_add-u c = omega (arith, c.before.before.loop-u-test.true)
 
-loop-less : tie.Need-loop-smaller invariant-loop decreases-loop
-loop-less c = omega (arith, c.before.before.loop-test.true)
+loop-u-smaller : tie.Need-loop-u-smaller invariant-loop-u decreases-loop-u
+loop-u-smaller c = omega (arith, c.before.before.loop-u-test.true)
 
-loop-again : tie.Need-loop-preserved invariant-loop decreases-loop
-loop-again c =
+loop-u-preserved : tie.Need-loop-u-preserved invariant-loop-u decreases-loop-u
+loop-u-preserved c =
     let t = c.before.before in
     let l = t.before in
     let o = l.before in
     let a = o.before.before.args in
-    numbers_next l.loop.invariant t.loop-test.true (ap (λ (n : ℕ). 2 * n - (get_or a.from.now (32 * a.i + l.loop.u) 0 + get_or a.from.now (32 * a.j + l.loop.u) 0)) o.modulus.ensures.0)
+    numbers_next l.loop-u.invariant t.loop-u-test.true (ap (λ (n : ℕ). 2 * n - (get_or a.from.now (32 * a.i + l.loop-u.u) 0 + get_or a.from.now (32 * a.j + l.loop-u.u) 0)) o.modulus-o.ensures.0)
 
-returns : tie.Need-returns invariant-loop decreases-loop
-returns c = numbers_done c.before.loop.invariant c.loop-test.false
+returns : tie.Need-returns invariant-loop-u decreases-loop-u
+returns c = numbers_done c.before.loop-u.invariant c.loop-u-test.false
 
 pub subtract_places_spec : {M : Type 1} → statement M
-subtract_places_spec = tie.close (tie.spec invariant-loop decreases-loop modulus-requires mul-o loop-holds mul-y add-y mul-y-2 shared-slice-read-y mul-y-3 add-y-2 mul-y-4 shared-slice-read-y-2 add-y-3 sub-y mul-y-5 element-write-y add-u loop-less loop-again returns)
+subtract_places_spec = tie.close (tie.spec invariant-loop-u decreases-loop-u modulus-o-requires overflow_mul-o loop-u-init overflow_mul-y overflow_add-y offset_bounds-from-i bounds-from-i overflow_mul-y-in-loop-u overflow_add-y-in-loop-u offset_bounds-from-j bounds-from-j overflow_add-y-in-loop-u-2 overflow_sub-y offset_bounds-y-u bounds-y-u overflow_add-u loop-u-smaller loop-u-preserved returns)

@@ -16,75 +16,64 @@ use Rattle.line.proofs.line.Statement.{statement}
 use Rattle.line.proofs.line.Tie as tie
 
 -- every test was passed
-none : (c : tie.After-enum-told) → let a = c.before.before.before.before.before.before.before.args in
+none : (c : tie.In-Sound) → let a = c.args in
     0 ≡ first (line_tests a.modulus a.kind a.direction a.length a.factors.now a.line.now (length a.scratch.now))
-none c = ap checked_number (sym c.enum_told.given.1) ∙ c.before.before.check-line.ensures
+none c = ap checked_number (sym c.in-Sound.is) ∙ c.check_line-checked.ensures
 
-sound : (c : tie.After-enum-told) → let a = c.before.before.before.before.before.before.before.args in
+sound : (c : tie.In-Sound) → let a = c.args in
     Accepted a.modulus a.kind a.direction a.length (octal a.factors.now) a.line.now (length a.scratch.now)
 sound c =
-    let a = c.before.before.before.before.before.before.before.args in
+    let a = c.args in
     accepted_line a.modulus a.kind a.direction a.length a.factors.now a.line.now (length a.scratch.now) (none c)
 
-check-line-requires : tie.Need-check-line-requires
-check-line-requires c κs = search rules
+check_line-checked-requires : tie.Need-check_line-checked-requires
+check_line-checked-requires c κs = search rules
 
-enum-known-checked : tie.Need-enum-known-checked
-enum-known-checked c = search rules
+enum_known-checked : tie.Need-enum_known-checked
+enum_known-checked c = search rules
 
-enum_told : tie.Need-enum-told
-enum_told c = search rules
+enum_told-1 : tie.Need-enum_told-1
+enum_told-1 c = search rules
 
 packed-requires : tie.Need-packed-requires
 packed-requires c κs =
-    let a = c.before.before.before.before.before.before.before.args in
+    let a = c.args in
     let f = accepted_factors a.modulus a.kind a.direction a.length a.factors.now a.line.now (length a.scratch.now) (none c) in
     (f.0, f.2)
 
-transform-line-requires : tie.Need-transform-line-requires
-transform-line-requires c κs = rw c.before.before.packed.ensures (sound c.before.before.before)
+transform_line-requires : tie.Need-transform_line-requires
+transform_line-requires c κs = rw c.packed.ensures (sound c.before.before.before)
 
 clear-requires : tie.Need-clear-requires
 clear-requires c κs =
     let e = c.before.before.before.before.before.before.before.before.before in
-    omega (arith, c.before.before.scratch.given, (sound e).scratch_fits)
+    omega (arith, c.scratch-1.given, (sound e).scratch_fits)
 
-same_length : tie.Need-same-length
-same_length c = search rules
+shape_of-line-in-Failed : tie.Need-shape_of-line-in-Failed
+shape_of-line-in-Failed c = search rules
 
-returns : tie.Need-returns
-returns c =
-    let a = c.before.before.before.before.before.before.before.before.args in
-    refused_outcome a.modulus a.kind a.direction a.length a.factors.now a.line.now a.scratch.now c.before.checked.given.0.0
-    (ap checked_number (sym c.before.checked.given.1) ∙ c.before.before.before.check-line.ensures)
+returns-in-Failed : tie.Need-returns-in-Failed
+returns-in-Failed c =
+    let a = c.args in
+    refused_outcome a.modulus a.kind a.direction a.length a.factors.now a.line.now a.scratch.now c.in-Failed.refusal
+    (ap checked_number (sym c.in-Failed.is) ∙ c.check_line-checked.ensures)
 
-same-length-2 : tie.Need-same-length-2
-same-length-2 c = search rules
+shape_of-line-in-Sound : tie.Need-shape_of-line-in-Sound
+shape_of-line-in-Sound c = search rules
 
-same-length-3 : tie.Need-same-length-3
-same-length-3 c = search rules
+shape_of-scratch : tie.Need-shape_of-scratch
+shape_of-scratch c = search rules
 
-returns-2 : tie.Need-returns-2
+returns-in-Sound : tie.Need-returns-in-Sound
 unfolding cleared
-returns-2 c =
+returns-in-Sound c =
     let t = c.before.before.before.before.before.before.before.before in
     let e = t.before.before.before.before in
-    let a = e.before.before.before.before.before.before.before.args in
-    transformed_outcome a.modulus a.kind a.direction a.length a.factors.now a.line.now a.scratch.now _ _ (none e) t.transform-line.ensures.0
-    (c.before.before.clear.ensures ∙ ap (λ (s : List ℕ). replicate 11520 0 ++ s) t.transform-line.ensures.1)
+    let a = e.args in
+    transformed_outcome a.modulus a.kind a.direction a.length a.factors.now a.line.now a.scratch.now _ _ (none e) t.transform_line.ensures.0
+    (c.clear.ensures ∙ ap (λ (s : List ℕ). replicate 11520 0 ++ s) t.transform_line.ensures.1)
 
 pub line_spec : {M : Type 1} → statement M
 line_spec =
     tie.close
-    (tie.spec
-    check-line-requires
-    enum-known-checked
-    enum_told
-    packed-requires
-    transform-line-requires
-    clear-requires
-    same_length
-    returns
-    same-length-2
-    same-length-3
-    returns-2)
+    (tie.spec check_line-checked-requires enum_known-checked enum_told-1 packed-requires transform_line-requires clear-requires shape_of-line-in-Failed returns-in-Failed shape_of-line-in-Sound shape_of-scratch returns-in-Sound)

@@ -9,66 +9,51 @@ use Rattle.line.proofs.Whole.{rest_of, whole_size, whole_list, whole_count, whol
 use Rattle.line.proofs.transform_line.Statement.{statement}
 use Rattle.line.proofs.transform_line.Tie as tie
 
-cast-a : tie.Need-overflow-cast-a
-cast-a c = search rules
+overflow_cast-a : tie.Need-overflow_cast-a
+overflow_cast-a c = search rules
 
-real-parts-requires : tie.Need-real-parts-requires
-real-parts-requires c κs = c.before.before.requires.modulus_is
+real_parts-re-requires : tie.Need-real_parts-re-requires
+real_parts-re-requires c κs = c.requires.modulus_is
 
-imaginary-parts-requires : tie.Need-imaginary-parts-requires
-imaginary-parts-requires c κs = c.before.before.before.requires.modulus_is
+imaginary_parts-im-requires : tie.Need-imaginary_parts-im-requires
+imaginary_parts-im-requires c κs = c.requires.modulus_is
 
-half-tangents-requires : tie.Need-half-tangents-requires
-half-tangents-requires c κs = c.before.before.before.before.requires.modulus_is
+half_tangents-tan-requires : tie.Need-half_tangents-tan-requires
+half_tangents-tan-requires c κs = c.requires.modulus_is
 
-slice-relend-prefix-fold : tie.Need-slice-relend-prefix-fold
-slice-relend-prefix-fold c = search rules
+slice_bounds-fold-end : tie.Need-slice_bounds-fold-end
+slice_bounds-fold-end c = search rules
 
-slice-aggregate-fold : tie.Need-slice-aggregate-fold
-slice-aggregate-fold c = let s = c.before.before.before.before.before.before in sym (prefix_length 5760 s.args.scratch.now (omega (arith, s.requires.scratch_fits)))
+slice_bounds-fold-end-2 : tie.Need-slice_bounds-fold-end-2
+slice_bounds-fold-end-2 c = sym (prefix_length 5760 c.args.scratch.now (omega (arith, c.requires.scratch_fits)))
 
-slice-aggregate-transform : tie.Need-slice-aggregate-transform
-slice-aggregate-transform c = search rules
+slice_bounds-transform-end : tie.Need-slice_bounds-transform-end
+slice_bounds-transform-end c = search rules
 
 transform-requires : tie.Need-transform-requires
 transform-requires c κs =
-    let h = c.before.before.before.before.before.before in
-    let s = h.before.before.before.before.before in
-    let a = s.requires in (
-      (a.modulus_is, a.kind_is, a.direction_is, line_tables s.args.kind (tables_of_lem a.modulus_is h.before.before.real-parts.ensures s.args.direction h.before.imaginary-parts.ensures h.half-tangents.ensures)),
+    let a = c.requires in (
+      (a.modulus_is, a.kind_is, a.direction_is, line_tables c.args.kind (tables_of_lem a.modulus_is c.real_parts-re.ensures c.args.direction c.imaginary_parts-im.ensures c.half_tangents-tan.ensures)),
       (
         (whole_size a.size, whole_list a.size a.list),
         (
-          (whole_count a.size s.args.kind a.line_length, a.below),
-          (omega (arith, prefix_length 5760 s.args.scratch.now (omega (arith, a.scratch_fits)), a.size.short, a.size.whole), omega (arith, a.size.short, a.size.whole)),
+          (whole_count a.size c.args.kind a.line_length, a.below),
+          (omega (arith, prefix_length 5760 c.args.scratch.now (omega (arith, a.scratch_fits)), a.size.short, a.size.whole), omega (arith, a.size.short, a.size.whole)),
         ),
       ),
     )
 
-same_length : tie.Need-same-length
-same_length c = search rules
+shape_of-line : tie.Need-shape_of-line
+shape_of-line c = search rules
 
-same-length-2 : tie.Need-same-length-2
-same-length-2 c = search rules
+shape_of-scratch : tie.Need-shape_of-scratch
+shape_of-scratch c = search rules
 
 returns : tie.Need-returns
 returns c =
-    let r = c.before.before.before.before.before in
-    let s = r.before.before.before.before.before.before.before.before.before.before.before.before in
-    (whole_result s.requires.size s.args.modulus s.args.kind s.args.direction s.args.line.now r.transform.ensures.0, rest_of r.transform.new.1.1.1.1.1.1.1.1.1.0 s.args.scratch.now s.requires.scratch_fits c.before.before.before.before.scratch.given.0)
+    (whole_result c.requires.size c.args.modulus c.args.kind c.args.direction c.args.line.now c.transform.ensures.0, rest_of c.transform.new.fold c.args.scratch.now c.requires.scratch_fits c.scratch-1.given.0)
 
 pub transform_line_spec : {M : Type 1} → statement M
 transform_line_spec =
     tie.close
-    (tie.spec
-    cast-a
-    real-parts-requires
-    imaginary-parts-requires
-    half-tangents-requires
-    slice-relend-prefix-fold
-    slice-aggregate-fold
-    slice-aggregate-transform
-    transform-requires
-    same_length
-    same-length-2
-    returns)
+    (tie.spec overflow_cast-a real_parts-re-requires imaginary_parts-im-requires half_tangents-tan-requires slice_bounds-fold-end slice_bounds-fold-end-2 slice_bounds-transform-end transform-requires shape_of-line shape_of-scratch returns)

@@ -9,28 +9,28 @@ use Rattle.line.proofs.table.imaginary_parts.Statement.{statement}
 use Rattle.line.proofs.table.imaginary_parts.Tie as tie
 
 -- an array lent as a slice has its own length
-count : (c : tie.After-imaginary-parts) → length c.imaginary-parts.result ≡ 2880
+count : (c : tie.After-imaginary_parts-im) → length c.imaginary_parts-im.result ≡ 2880
 count c = omega arith
 
-imaginary-parts-requires : tie.Need-imaginary-parts-requires
-imaginary-parts-requires c κs = search rules
+imaginary_parts-im-requires : tie.Need-imaginary_parts-im-requires
+imaginary_parts-im-requires c κs = search rules
 
-returns : tie.Need-returns
-returns c = let t = c.before in as_it_is (count t) t.imaginary-parts.ensures c.if1.true
+returns-then-direction-eq0 : tie.Need-returns-then-direction-eq0
+returns-then-direction-eq0 c = let t = c.before in as_it_is (count t) t.imaginary_parts-im.ensures c.if-direction-eq0.true
 
-slice-aggregate-negate : tie.Need-slice-aggregate-negate
-slice-aggregate-negate c = search rules
+slice_bounds-negate-end : tie.Need-slice_bounds-negate-end
+slice_bounds-negate-end c = search rules
 
 negate-requires : tie.Need-negate-requires
-negate-requires c κs = let t = c.before.before in (t.before.requires, imaginary_below t.before.args.m t.imaginary-parts.ensures (count t))
+negate-requires c κs = let t = c.before.before in (t.requires, imaginary_below t.args.m t.imaginary_parts-im.ensures (count t))
 
-returns-2 : tie.Need-returns-2
-returns-2 c =
+returns : tie.Need-returns
+returns c =
     let i = c.before.before.before in
     let t = i.before in
-    negated_table (count t) t.imaginary-parts.ensures t.before.args.direction i.if1.false c.before.negate.ensures
+    negated_table (count t) t.imaginary_parts-im.ensures t.args.direction i.if-direction-eq0.false c.negate.ensures
 
 pub imaginary_parts_spec : {M : Type 1} → statement M
 imaginary_parts_spec =
     tie.close
-    (tie.spec imaginary-parts-requires returns slice-aggregate-negate negate-requires returns-2)
+    (tie.spec imaginary_parts-im-requires returns-then-direction-eq0 slice_bounds-negate-end negate-requires returns)

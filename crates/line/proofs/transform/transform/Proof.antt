@@ -31,20 +31,20 @@ work-left : (s : tie.Start) {r : ℕ} → r ≡ octal (doubled_list (octal_digit
     → left ++ drop (2 * (2 * s.args.a)) s.args.work.now ≡ plain_work s.args.m s.args.direction s.args.a (octal_digits s.args.factors) s.args.line.now s.args.work.now
 work-left s e h = plain_work_lem (half_list s.args.a s.requires.1.0.0 s.requires.1.0.1) s.args.a s.args.m s.requires.0.3 s.args.line.now s.args.work.now e h
 
-mul-n : tie.Need-overflow-mul-n
-mul-n c = let s = c.before.before.before.before in omega (arith, s.requires.1.0.0.short)
+overflow_mul-n : tie.Need-overflow_mul-n
+overflow_mul-n c = let s = c.before.before.before.before in omega (arith, s.requires.1.0.0.short)
 
-mul-size : tie.Need-overflow-mul-size
-mul-size c = let s = c.before.before.before.before in omega (arith, s.requires.1.0.0.short)
+overflow_mul-size : tie.Need-overflow_mul-size
+overflow_mul-size c = let s = c.before.before.before.before in omega (arith, s.requires.1.0.0.short)
 
-doubled-requires : tie.Need-doubled-requires
-doubled-requires c κs = c.before.before.before.before.requires.1.0.1.small
+doubled-list-requires : tie.Need-doubled-list-requires
+doubled-list-requires c κs = c.before.before.before.before.requires.1.0.1.small
 
-slice-relend-prefix-points : tie.Need-slice-relend-prefix-points
-slice-relend-prefix-points c = let s = c.before.before.before.before.before in omega (arith, s.requires.1.0.0.short, s.requires.1.1.1)
+slice_bounds-points-end : tie.Need-slice_bounds-points-end
+slice_bounds-points-end c = let s = c.before.before.before.before.before in omega (arith, s.requires.1.0.0.short, s.requires.1.1.1)
 
-slice-aggregate-points : tie.Need-slice-aggregate-points
-slice-aggregate-points c = let s = c.before.before.before.before.before.before in sym (prefix_length _ s.args.work.now (omega (arith, s.requires.1.0.0.short, s.requires.1.1.1)))
+slice_bounds-points-end-then-kind-eq0 : tie.Need-slice_bounds-points-end-then-kind-eq0
+slice_bounds-points-end-then-kind-eq0 c = let s = c.before.before.before.before.before.before in sym (prefix_length _ s.args.work.now (omega (arith, s.requires.1.0.0.short, s.requires.1.1.1)))
 
 transform-requires : tie.Need-transform-requires
 unfolding slots
@@ -54,7 +54,7 @@ transform-requires c κs =
     let e : s.args.kind ≡ 0 = omega arith in (
       (s.requires.0.0, s.requires.0.3.powers),
       (
-        (doubled-list s d.doubled.ensures, s.requires.1.0.0.turns),
+        (doubled-list s d.doubled-list.ensures, s.requires.1.0.0.turns),
         ((count_of s.args.a s.requires.1.0.0 s.args.kind (ap kind_of e) s.requires.1.1.0.0, prefix_length _ s.args.work.now (omega (arith, s.requires.1.0.0.short, s.requires.1.1.1))), s.requires.1.1.0.1),
       ),
     )
@@ -67,25 +67,25 @@ inverse-requires c κs =
     let e : s.args.kind ≡ 0 = omega arith in (
       (s.requires.0.0, s.requires.0.3.powers),
       (
-        (doubled-list s d.doubled.ensures, s.requires.1.0.0.turns),
+        (doubled-list s d.doubled-list.ensures, s.requires.1.0.0.turns),
         ((count_of s.args.a s.requires.1.0.0 s.args.kind (ap kind_of e) s.requires.1.1.0.0, prefix_length _ s.args.work.now (omega (arith, s.requires.1.0.0.short, s.requires.1.1.1))), s.requires.1.1.0.1),
       ),
     )
 
-mul-size-2 : tie.Need-overflow-mul-size-2
-mul-size-2 c = let s = c.before.before.before.before in omega (arith, s.requires.1.0.0.short)
+overflow_mul-size-else-kind-eq0 : tie.Need-overflow_mul-size-else-kind-eq0
+overflow_mul-size-else-kind-eq0 c = let s = c.before.before.before.before in omega (arith, s.requires.1.0.0.short)
 
-slice-relend-prefix-folded : tie.Need-slice-relend-prefix-folded
-slice-relend-prefix-folded c = let s = c.before.before.before.before.before in omega (arith, s.requires.1.0.0.short, s.requires.1.1.1)
+slice_bounds-folded-end : tie.Need-slice_bounds-folded-end
+slice_bounds-folded-end c = let s = c.before.before.before.before.before in omega (arith, s.requires.1.0.0.short, s.requires.1.1.1)
 
-slice-aggregate-folded : tie.Need-slice-aggregate-folded
-slice-aggregate-folded c = let s = c.before.before.before.before.before.before in sym (prefix_length _ s.args.fold.now (omega (arith, s.requires.1.0.0.short, s.requires.1.1.1)))
+slice_bounds-folded-end-else-kind-eq0 : tie.Need-slice_bounds-folded-end-else-kind-eq0
+slice_bounds-folded-end-else-kind-eq0 c = let s = c.before.before.before.before.before.before in sym (prefix_length _ s.args.fold.now (omega (arith, s.requires.1.0.0.short, s.requires.1.1.1)))
 
-slice-relend-prefix-folded-2 : tie.Need-slice-relend-prefix-folded-2
-slice-relend-prefix-folded-2 c = let s = c.before.before.before.before.before.before in omega (arith, s.requires.1.0.0.short, s.requires.1.1.1)
+slice_bounds-folded-end-else-kind-eq0-2 : tie.Need-slice_bounds-folded-end-else-kind-eq0-2
+slice_bounds-folded-end-else-kind-eq0-2 c = let s = c.before.before.before.before.before.before in omega (arith, s.requires.1.0.0.short, s.requires.1.1.1)
 
-slice-aggregate-folded-2 : tie.Need-slice-aggregate-folded-2
-slice-aggregate-folded-2 c = let s = c.before.before.before.before.before.before.before in sym (prefix_length _ s.args.work.now (omega (arith, s.requires.1.0.0.short, s.requires.1.1.1)))
+slice_bounds-folded-end-else-kind-eq0-3 : tie.Need-slice_bounds-folded-end-else-kind-eq0-3
+slice_bounds-folded-end-else-kind-eq0-3 c = let s = c.before.before.before.before.before.before.before in sym (prefix_length _ s.args.work.now (omega (arith, s.requires.1.0.0.short, s.requires.1.1.1)))
 
 folded-requires : tie.Need-folded-requires
 folded-requires c κs =
@@ -94,76 +94,53 @@ folded-requires c κs =
       (s.requires.1.0, (s.requires.1.1.0, (prefix_length _ s.args.fold.now (omega (arith, s.requires.1.0.0.short, s.requires.1.1.1)), prefix_length _ s.args.work.now (omega (arith, s.requires.1.0.0.short, s.requires.1.1.1))))),
     )
 
-same_length : tie.Need-same-length
-same_length c = search rules
+shape_of-line-then-direction-eq0 : tie.Need-shape_of-line-then-direction-eq0
+shape_of-line-then-direction-eq0 c = search rules
 
-same-length-2 : tie.Need-same-length-2
-same-length-2 c = search rules
+shape_of-work-then-direction-eq0 : tie.Need-shape_of-work-then-direction-eq0
+shape_of-work-then-direction-eq0 c = search rules
 
-returns : tie.Need-returns
-returns c =
+returns-then-direction-eq0 : tie.Need-returns-then-direction-eq0
+returns-then-direction-eq0 c =
     let r = c.before.before.before.before in
     let i = r.before.before in
     let s = i.before.before.before.before.before.before.before in
     let e : s.args.kind ≡ 0 = omega arith in (
-      plain_by s.args.a s.requires.1.0.0 s.args.m s.requires.0.0 s.args.kind s.args.line.now s.requires.0.3 e i.if2.true r.transform.ensures.0,
-      λ _. work-left s i.before.before.doubled.ensures r.transform.ensures.1.1,
+      plain_by s.args.a s.requires.1.0.0 s.args.m s.requires.0.0 s.args.kind s.args.line.now s.requires.0.3 e i.if-direction-eq0.true r.transform.ensures.0,
+      λ _. work-left s i.before.before.doubled-list.ensures r.transform.ensures.1.1,
     )
 
-same-length-3 : tie.Need-same-length-3
-same-length-3 c = search rules
+shape_of-line-else-direction-eq0 : tie.Need-shape_of-line-else-direction-eq0
+shape_of-line-else-direction-eq0 c = search rules
 
-same-length-4 : tie.Need-same-length-4
-same-length-4 c = search rules
+shape_of-work-else-direction-eq0 : tie.Need-shape_of-work-else-direction-eq0
+shape_of-work-else-direction-eq0 c = search rules
 
-returns-2 : tie.Need-returns-2
-returns-2 c =
+returns-else-direction-eq0 : tie.Need-returns-else-direction-eq0
+returns-else-direction-eq0 c =
     let r = c.before.before.before.before in
     let i = r.before.before in
     let s = i.before.before.before.before.before.before.before in
     let e : s.args.kind ≡ 0 = omega arith in (
-      plain_back_by s.args.a s.requires.1.0.0 s.args.m s.requires.0.0 s.args.kind s.args.line.now s.requires.0.3 e (other s i.if2.false) r.inverse.ensures.0,
-      λ _. work-left s i.before.before.doubled.ensures r.inverse.ensures.1,
+      plain_back_by s.args.a s.requires.1.0.0 s.args.m s.requires.0.0 s.args.kind s.args.line.now s.requires.0.3 e (other s i.if-direction-eq0.false) r.inverse.ensures.0,
+      λ _. work-left s i.before.before.doubled-list.ensures r.inverse.ensures.1,
     )
 
-same-length-5 : tie.Need-same-length-5
-same-length-5 c = search rules
+shape_of-line-else-kind-eq0 : tie.Need-shape_of-line-else-kind-eq0
+shape_of-line-else-kind-eq0 c = search rules
 
-same-length-6 : tie.Need-same-length-6
-same-length-6 c = search rules
+shape_of-fold : tie.Need-shape_of-fold
+shape_of-fold c = search rules
 
-same-length-7 : tie.Need-same-length-7
-same-length-7 c = search rules
+shape_of-work-else-kind-eq0 : tie.Need-shape_of-work-else-kind-eq0
+shape_of-work-else-kind-eq0 c = search rules
 
-returns-3 : tie.Need-returns-3
-returns-3 c =
+returns-else-kind-eq0 : tie.Need-returns-else-kind-eq0
+returns-else-kind-eq0 c =
     let r = c.before.before.before.before.before.before in
     (r.folded.ensures, λ e. absurd (omega (arith, e)))
 
 pub transform_spec : {M : Type 1} → statement M
 transform_spec =
     tie.close
-    (tie.spec
-    mul-n
-    mul-size
-    doubled-requires
-    slice-relend-prefix-points
-    slice-aggregate-points
-    transform-requires
-    inverse-requires
-    mul-size-2
-    slice-relend-prefix-folded
-    slice-aggregate-folded
-    slice-relend-prefix-folded-2
-    slice-aggregate-folded-2
-    folded-requires
-    same_length
-    same-length-2
-    returns
-    same-length-3
-    same-length-4
-    returns-2
-    same-length-5
-    same-length-6
-    same-length-7
-    returns-3)
+    (tie.spec overflow_mul-n overflow_mul-size doubled-list-requires slice_bounds-points-end slice_bounds-points-end-then-kind-eq0 transform-requires inverse-requires overflow_mul-size-else-kind-eq0 slice_bounds-folded-end slice_bounds-folded-end-else-kind-eq0 slice_bounds-folded-end-else-kind-eq0-2 slice_bounds-folded-end-else-kind-eq0-3 folded-requires shape_of-line-then-direction-eq0 shape_of-work-then-direction-eq0 returns-then-direction-eq0 shape_of-line-else-direction-eq0 shape_of-work-else-direction-eq0 returns-else-direction-eq0 shape_of-line-else-kind-eq0 shape_of-fold shape_of-work-else-kind-eq0 returns-else-kind-eq0)

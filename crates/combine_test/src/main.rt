@@ -7,6 +7,8 @@ ghost use Rattle.std.specs.Prelude.{◌≤◌, length};
 
 use job::{Axis, Job};
 use output::FillAnswer;
+use std::io;
+use std::io::{Read, Write};
 
 // The job of nine numbers, whether or not any opening could have made it.
 fn job_said(r: &[u32]) -> Job {
@@ -44,7 +46,7 @@ fn high(x: i64) -> u32 {
 }
 
 // What a call answered, and the checksums of the low parts of an output and of the high ones.
-fn print_output(answer: FillAnswer, v: &[i64])
+fn print_output<W: Write>(to: &mut W, answer: FillAnswer, v: &[i64]) -> io::Result<()>
     requires { length v.now ≤ 256 }
 {
     let mut lows = [0u32; 256];
@@ -59,46 +61,64 @@ fn print_output(answer: FillAnswer, v: &[i64])
         test_io::checksum(&lows[..j]),
         test_io::checksum(&highs[..j]),
     ];
-    test_io::print_answer(answer, &left);
+    test_io::print_answer(to, answer, &left)?;
+    Ok(())
 }
 
-fn run_call(first: Job, first_map: &[u32], second: Job, second_map: &[u32], output: &mut [i64])
+fn run_call<W: Write>(
+    to: &mut W,
+    first: Job,
+    first_map: &[u32],
+    second: Job,
+    second_map: &[u32],
+    output: &mut [i64],
+) -> io::Result<()>
     requires { length output.old ≤ 256 }
 {
     let answer = combining::combine_maps(first, first_map, second, second_map, output);
-    print_output(answer, &output[..])
+    print_output(to, answer, &output[..])
 }
 
 // Reads the maps of a call, of the lengths that it names, and lends an output of nines.
-fn lend(first: Job, second: Job, lengths: &[u32]) {
+fn lend<R: Read, W: Write>(
+    from: &mut R,
+    to: &mut W,
+    first: Job,
+    second: Job,
+    lengths: &[u32],
+) -> io::Result<()> {
     let mut first_numbers = [0u32; 256];
     let mut second_numbers = [0u32; 256];
     let mut output = [9i64; 256];
     let a = test_io::length_at(lengths, 0, 256);
     let b = test_io::length_at(lengths, 1, 256);
     let c = test_io::length_at(lengths, 2, 256);
-    let first_map = test_io::numbers_read(&mut first_numbers[..a]);
-    let second_map = test_io::numbers_read(&mut second_numbers[..b]);
-    run_call(first, first_map, second, second_map, &mut output[..c])
+    let first_map = test_io::numbers_read(from, &mut first_numbers[..a])?;
+    let second_map = test_io::numbers_read(from, &mut second_numbers[..b])?;
+    run_call(to, first, first_map, second, second_map, &mut output[..c])
 }
 
 // Reads a call and runs it; answers whether to go on. Two jobs, three lengths, then the numbers of both maps.
-fn next() -> bool {
+fn next<R: Read, W: Write>(from: &mut R, to: &mut W) -> io::Result<bool> {
     let mut first = [0u32; 9];
     let mut second = [0u32; 9];
     let mut lengths = [0u32; 3];
-    let whole = test_io::read_numbers(&mut first);
+    let whole = test_io::read_numbers(from, &mut first)?;
     if whole {
-        test_io::read_numbers(&mut second);
-        test_io::read_numbers(&mut lengths);
-        lend(job_said(&first), job_said(&second), &lengths);
+        test_io::read_numbers(from, &mut second)?;
+        test_io::read_numbers(from, &mut lengths)?;
+        lend(from, to, job_said(&first), job_said(&second), &lengths)?;
     }
-    whole
+    Ok(whole)
 }
 
-fn main() {
-    let mut turns = u32::MAX;
-    while turns > 0 && next() {
-        turns -= 1;
+fn main(rt: HostRuntime) -> io::Result<()> {
+    let mut from = rt.stdin();
+    let mut to = rt.stdout();
+    for _ in 0..u32::MAX {
+        if !next(&mut from, &mut to)? {
+            break;
+        }
     }
+    Ok(())
 }

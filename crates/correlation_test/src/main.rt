@@ -7,6 +7,9 @@
 
 ghost use Rattle.std.specs.Prelude.{◌≡◌, length};
 
+use std::io;
+use std::io::{Read, Write};
+
 const COUNTS: [i64; 16] = [
     -9223372036854775808,
     -13063485601,
@@ -27,7 +30,8 @@ const COUNTS: [i64; 16] = [
 ];
 
 // One call on the buffers, and all that they hold then.
-fn run_call(
+fn run_call<W: Write>(
+    to: &mut W,
     head: &[u32],
     lists: &[u8],
     a: &[i64],
@@ -37,7 +41,7 @@ fn run_call(
     work2: &mut [u32],
     work3: &mut [u32],
     scratch: &mut [u32],
-)
+) -> io::Result<()>
     requires { length lists.now ≡ 24 }
 {
     let answer = correlation::correlate(
@@ -61,12 +65,13 @@ fn run_call(
         test_io::checksum(work3),
         test_io::checksum(scratch),
     ];
-    test_io::print_answer(answer, &left);
-    test_io::print_signed_line(output);
+    test_io::print_answer(to, answer, &left)?;
+    test_io::print_signed_line(to, output)?;
+    Ok(())
 }
 
 // Makes the buffers of a call, of the lengths that it names: the output has nines, the work volumes sevens and the scratch fives.
-fn lend(head: &[u32], lists: &[u8], a: &[i64], b: &[i64])
+fn lend<W: Write>(to: &mut W, head: &[u32], lists: &[u8], a: &[i64], b: &[i64]) -> io::Result<()>
     requires { length lists.now ≡ 24 }
 {
     let mut output = [9i64; 256];
@@ -80,6 +85,7 @@ fn lend(head: &[u32], lists: &[u8], a: &[i64], b: &[i64])
     let n3 = test_io::length_at(head, 11, 256);
     let s = test_io::length_at(head, 12, 11600);
     run_call(
+        to,
         head,
         lists,
         a,
@@ -93,41 +99,58 @@ fn lend(head: &[u32], lists: &[u8], a: &[i64], b: &[i64])
 }
 
 // The second map of a call by its codes.
-fn lend_second(head: &[u32], lists: &[u8], a: &[i64], b: &mut [i64])
+fn lend_second<R: Read, W: Write>(
+    from: &mut R,
+    to: &mut W,
+    head: &[u32],
+    lists: &[u8],
+    a: &[i64],
+    b: &mut [i64],
+) -> io::Result<()>
     requires { length lists.now ≡ 24 }
 {
-    test_io::read_named(&COUNTS, b);
-    lend(head, lists, a, b)
+    test_io::read_named(from, &COUNTS, b)?;
+    lend(to, head, lists, a, b)
 }
 
 // The first map of a call by its codes, then the second.
-fn lend_first(head: &[u32], lists: &[u8], a: &mut [i64])
+fn lend_first<R: Read, W: Write>(
+    from: &mut R,
+    to: &mut W,
+    head: &[u32],
+    lists: &[u8],
+    a: &mut [i64],
+) -> io::Result<()>
     requires { length lists.now ≡ 24 }
 {
-    test_io::read_named(&COUNTS, a);
+    test_io::read_named(from, &COUNTS, a)?;
     let mut b = [0i64; 256];
     let n = test_io::length_at(head, 7, 256);
-    lend_second(head, lists, a, &mut b[..n])
+    lend_second(from, to, head, lists, a, &mut b[..n])
 }
 
 // Reads a call and runs it; answers whether to go on. Three lengths, those of the three lists, of the two maps, the output, the three
 // work volumes and the scratch; then the lists in eight bytes each, and the codes of both maps.
-fn next() -> bool {
+fn next<R: Read, W: Write>(from: &mut R, to: &mut W) -> io::Result<bool> {
     let mut head = [0u32; 13];
-    let whole = test_io::read_numbers(&mut head);
+    let whole = test_io::read_numbers(from, &mut head)?;
     if whole {
         let mut lists = [0u8; 24];
-        test_io::read_bytes(&mut lists);
+        test_io::read_bytes(from, &mut lists)?;
         let mut a = [0i64; 256];
         let n = test_io::length_at(&head, 6, 256);
-        lend_first(&head, &lists, &mut a[..n]);
+        lend_first(from, to, &head, &lists, &mut a[..n])?;
     }
-    whole
+    Ok(whole)
 }
 
-fn main() {
-    let mut turns = u32::MAX;
-    while turns > 0 && next() {
-        turns -= 1;
+fn main(rt: HostRuntime) -> io::Result<()> {
+    let mut from = rt.stdin();
+    let mut to = rt.stdout();
+    for _ in 0..u32::MAX {
+        if !next(&mut from, &mut to)? {
+            break;
+        }
     }
+    Ok(())
 }

@@ -6,6 +6,8 @@
 ghost use Rattle.std.specs.Prelude.{◌≡◌, ◌<◌, ◌≤◌, length};
 
 use line::LineAnswer;
+use std::io;
+use std::io::{Read, Write};
 
 fn number(answer: LineAnswer) -> u32 {
     match answer {
@@ -22,7 +24,14 @@ fn prime_of(modulus: u32) -> u32
 }
 
 // One call on a line and a scratch of exactly the lengths that it names, the line by its seed and one number of it changed.
-fn run(head: &[u32], list: &[u8], tail: &[u32], line: &mut [u32], scratch: &mut [u32]) {
+fn run<W: Write>(
+    to: &mut W,
+    head: &[u32],
+    list: &[u8],
+    tail: &[u32],
+    line: &mut [u32],
+    scratch: &mut [u32],
+) -> io::Result<()> {
     test_io::fill_below(line, test_io::at(tail, 1), prime_of(test_io::at(head, 0)));
     test_io::put_at(line, test_io::at(tail, 2), test_io::at(tail, 3));
     let answer = line::line(
@@ -39,7 +48,8 @@ fn run(head: &[u32], list: &[u8], tail: &[u32], line: &mut [u32], scratch: &mut 
         test_io::checksum(line),
         test_io::checksum(scratch),
     ];
-    test_io::print_line(&said);
+    test_io::print_line(to, &said)?;
+    Ok(())
 }
 
 fn factors(list: &[u8; 16]) -> &[u8] {
@@ -47,12 +57,13 @@ fn factors(list: &[u8; 16]) -> &[u8] {
 }
 
 // Makes the buffers of a call: the scratch has sevens.
-fn lend(head: &[u32], list: &[u8; 16], tail: &[u32]) {
+fn lend<W: Write>(to: &mut W, head: &[u32], list: &[u8; 16], tail: &[u32]) -> io::Result<()> {
     let mut line = [0u32; 6016];
     let mut scratch = [7u32; 12032];
     let n = test_io::length_at(tail, 0, 6016);
     let room = test_io::length_at(tail, 4, 12032);
     run(
+        to,
         head,
         factors(list),
         tail,
@@ -62,22 +73,26 @@ fn lend(head: &[u32], list: &[u8; 16], tail: &[u32]) {
 }
 
 // Reads a call and runs it; answers whether to go on. The numbers before the list, the list with its length, the numbers behind it.
-fn next() -> bool {
+fn next<R: Read, W: Write>(from: &mut R, to: &mut W) -> io::Result<bool> {
     let mut before = [0u32; 4];
     let mut list = [0u8; 16];
     let mut tail = [0u32; 5];
-    let head = test_io::numbers_read(&mut before);
-    test_io::read_bytes(&mut list);
-    let whole = test_io::read_numbers(&mut tail);
+    let head = test_io::numbers_read(from, &mut before)?;
+    test_io::read_bytes(from, &mut list)?;
+    let whole = test_io::read_numbers(from, &mut tail)?;
     if whole {
-        lend(head, &list, &tail);
+        lend(to, head, &list, &tail)?;
     }
-    whole
+    Ok(whole)
 }
 
-fn main() {
-    let mut turns = u32::MAX;
-    while turns > 0 && next() {
-        turns -= 1;
+fn main(rt: HostRuntime) -> io::Result<()> {
+    let mut from = rt.stdin();
+    let mut to = rt.stdout();
+    for _ in 0..u32::MAX {
+        if !next(&mut from, &mut to)? {
+            break;
+        }
     }
+    Ok(())
 }

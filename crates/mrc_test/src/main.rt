@@ -7,6 +7,8 @@
 
 use cell::operations::UnitCell;
 use mrc::parameters::CellParameters;
+use std::io;
+use std::io::{Read, Write};
 
 const NUMBERS: [i64; 18] = [
     0,
@@ -70,34 +72,44 @@ fn cell_of(head: &[u32]) -> UnitCell {
 }
 
 // One call on an output, and all that it holds then.
-fn run_call(head: &[u32], map: &[i64], out: &mut [u8]) {
+fn run_call<W: Write>(to: &mut W, head: &[u32], map: &[i64], out: &mut [u8]) -> io::Result<()> {
     let answer = mrc::mrc_map(cell_of(head), map, parameters_of(head), out);
-    test_io::print_writing(answer, out);
+    test_io::print_writing(to, answer, out)?;
+    Ok(())
 }
 
 // The map of a call by its codes, and an output of nines.
-fn lend_map(head: &[u32], map: &mut [i64]) {
-    test_io::read_named(&NUMBERS, map);
+fn lend_map<R: Read, W: Write>(
+    from: &mut R,
+    to: &mut W,
+    head: &[u32],
+    map: &mut [i64],
+) -> io::Result<()> {
+    test_io::read_named(from, &NUMBERS, map)?;
     let mut out = [9u8; 2048];
     let room = test_io::length_at(head, 12, 2048);
-    run_call(head, map, &mut out[..room]);
+    run_call(to, head, map, &mut out[..room])
 }
 
 // Reads a call and runs it; answers whether to go on.
-fn next() -> bool {
+fn next<R: Read, W: Write>(from: &mut R, to: &mut W) -> io::Result<bool> {
     let mut head = [0u32; 13];
-    let whole = test_io::read_numbers(&mut head);
+    let whole = test_io::read_numbers(from, &mut head)?;
     if whole {
         let mut map = [0i64; 1024];
         let n = test_io::length_at(&head, 4, 1024);
-        lend_map(&head, &mut map[..n]);
+        lend_map(from, to, &head, &mut map[..n])?;
     }
-    whole
+    Ok(whole)
 }
 
-fn main() {
-    let mut turns = u32::MAX;
-    while turns > 0 && next() {
-        turns -= 1;
+fn main(rt: HostRuntime) -> io::Result<()> {
+    let mut from = rt.stdin();
+    let mut to = rt.stdout();
+    for _ in 0..u32::MAX {
+        if !next(&mut from, &mut to)? {
+            break;
+        }
     }
+    Ok(())
 }

@@ -1,28 +1,36 @@
 // The records of the recorder test that ask for one call: openings by group, modulus, lengths and lists, openings of factor files, sound and
 // damaged, and their records at fault, the files of jobs; and those that set a job or numbers of the volume. Each prints what its call answers and leaves.
 // tools/test_records.py says what a record holds and what is printed.
-ghost use Rattle.std.specs.Prelude.{◌≡◌, ◌<◌, length, replicate};
+ghost use Rattle.std.specs.Prelude.{◌≡◌, ◌<◌, length, replicate, IfOk};
 ghost use Rattle.test_io.specs.Checksum.{checksum_of};
 ghost use Rattle.recorder_test.specs.Records.{numbers_of, axis_in, job_in, JobAfter};
 
 use factor_file::{FileAnswer, open_file};
 use faults::Faults;
 use job::{Axis, Job, OpenAnswer};
+use std::io;
+use std::io::{Read, Write};
 
 // What a record asks of the part of the volume that it lends; the job that goes on.
-pub fn asked(job: Job, r: &[u32], volume: &mut [u32]) -> Job
-    ensures { JobAfter r.now job result }
+pub fn asked<R: Read, W: Write>(
+    from: &mut R,
+    to: &mut W,
+    job: Job,
+    r: &[u32],
+    volume: &mut [u32],
+) -> io::Result<Job>
+    ensures { IfOk result (λ after. JobAfter r.now job after) }
 {
     let operation = test_io::at(r, 0);
     match operation {
-        0 => return opened(job, r, volume),
-        1 => return file_opened(job, r, volume),
-        3 => written(job, r, &volume[..]),
-        4 => return job_said(r),
+        0 => return opened(from, to, job, r, volume),
+        1 => return file_opened(from, to, job, r, volume),
+        3 => written(to, job, r, &volume[..])?,
+        4 => return Ok(job_said(r)),
         5 => test_io::fill(volume, test_io::at(r, 2)),
         _ => test_io::put_at(volume, test_io::at(r, 2), test_io::at(r, 3)),
     }
-    job
+    Ok(job)
 }
 
 pub fn no_job() -> Job
@@ -93,15 +101,15 @@ struct Opening {
 }
 
 // Prints what an opening said and left; the job that goes on.
-fn print_opening(o: Opening, volume: &[u32]) -> Job {
+fn print_opening<W: Write>(to: &mut W, o: Opening, volume: &[u32]) -> io::Result<Job> {
     let said = [
         o.number,
         o.place,
         job_checksum(o.printed),
         test_io::checksum(volume),
     ];
-    test_io::print_line(&said);
-    o.kept
+    test_io::print_line(to, &said)?;
+    Ok(o.kept)
 }
 
 fn of_file(answer: FileAnswer, before: Job) -> Opening {
@@ -138,37 +146,50 @@ fn of_open(answer: OpenAnswer, before: Job) -> Opening {
     }
 }
 
-fn print_faults(answer: Faults) {
+fn print_faults<W: Write>(to: &mut W, answer: Faults) -> io::Result<()> {
     match answer {
-        Faults::NoFault => print_places(0, 0, 0),
-        Faults::One(place) => print_places(1, place, 0),
-        Faults::Two(first, second) => print_places(2, first, second),
+        Faults::NoFault => print_places(to, 0, 0, 0),
+        Faults::One(place) => print_places(to, 1, place, 0),
+        Faults::Two(first, second) => print_places(to, 2, first, second),
     }
 }
 
 // How many records of a file are at fault, and their places.
-fn print_places(count: u32, first: u32, second: u32) {
+fn print_places<W: Write>(to: &mut W, count: u32, first: u32, second: u32) -> io::Result<()> {
     let said = [count, first, second];
-    test_io::print_line(&said);
+    test_io::print_line(to, &said)?;
+    Ok(())
 }
 
 // The records at fault of the file that follows, and its opening on a volume of sevens.
-fn file_opened(before: Job, r: &[u32], volume: &mut [u32]) -> Job {
+fn file_opened<R: Read, W: Write>(
+    from: &mut R,
+    to: &mut W,
+    before: Job,
+    r: &[u32],
+    volume: &mut [u32],
+) -> io::Result<Job> {
     let mut bytes = [0u8; 1024];
     let n = test_io::length_at(r, 2, 1024);
-    let file = test_io::bytes_read(&mut bytes[..n]);
-    print_faults(faults::file_faults(file));
+    let file = test_io::bytes_read(from, &mut bytes[..n])?;
+    print_faults(to, faults::file_faults(file))?;
     test_io::fill_with(volume, 7);
     let answer = open_file::open_file(file, volume);
-    print_opening(of_file(answer, before), &volume[..])
+    print_opening(to, of_file(answer, before), &volume[..])
 }
 
 // The opening by group, modulus, kind, lengths and the lists that follow.
-fn opened(before: Job, r: &[u32], volume: &mut [u32]) -> Job {
+fn opened<R: Read, W: Write>(
+    from: &mut R,
+    to: &mut W,
+    before: Job,
+    r: &[u32],
+    volume: &mut [u32],
+) -> io::Result<Job> {
     let mut lists = [0u8; 48];
-    test_io::read_bytes(&mut lists);
+    test_io::read_bytes(from, &mut lists)?;
     let answer = open_listed(r, &lists, volume);
-    print_opening(of_open(answer, before), &volume[..])
+    print_opening(to, of_open(answer, before), &volume[..])
 }
 
 // The three factor lists have 16 bytes each.
@@ -190,13 +211,14 @@ fn open_listed(r: &[u32], lists: &[u8], volume: &mut [u32]) -> OpenAnswer
 }
 
 // The job's file, into an output of sevens.
-fn written(job: Job, r: &[u32], volume: &[u32]) {
+fn written<W: Write>(to: &mut W, job: Job, r: &[u32], volume: &[u32]) -> io::Result<()> {
     let mut out = [7u8; 4096];
     let n = test_io::length_at(r, 2, 4096);
-    write_bytes(job, volume, &mut out[..n])
+    write_bytes(to, job, volume, &mut out[..n])
 }
 
-fn write_bytes(job: Job, volume: &[u32], out: &mut [u8]) {
+fn write_bytes<W: Write>(to: &mut W, job: Job, volume: &[u32], out: &mut [u8]) -> io::Result<()> {
     let answer = factor_file::writer::write_file(job, volume, out);
-    test_io::print_writing(answer, &out[..]);
+    test_io::print_writing(to, answer, &out[..])?;
+    Ok(())
 }

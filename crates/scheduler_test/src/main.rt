@@ -10,6 +10,8 @@ mod fields; // fields.rt: a scheduler and a job by their numbers
 
 use job::{Answer, Job};
 use scheduler::{NextAnswer, Scheduler, TurnAnswer};
+use std::io;
+use std::io::{Read, Write};
 
 // What a call said: a refusal's number, 0 done, 100 idle, 101 served, 102 finished, 103 next; the lane or 0; the job or none.
 #[derive(Clone, Copy)]
@@ -56,7 +58,14 @@ fn of_next(answer: NextAnswer) -> Said {
 }
 
 // Keeps the scheduler that a call left, and prints what it said and all that stands then.
-fn print_said(said: Said, s: Scheduler, lanes: &mut [u32], volume: &[u32], scratch: &[u32]) {
+fn print_said<W: Write>(
+    to: &mut W,
+    said: Said,
+    s: Scheduler,
+    lanes: &mut [u32],
+    volume: &[u32],
+    scratch: &[u32],
+) -> io::Result<()> {
     fields::put_scheduler(s, lanes);
     let line = [
         said.number,
@@ -66,15 +75,23 @@ fn print_said(said: Said, s: Scheduler, lanes: &mut [u32], volume: &[u32], scrat
         test_io::checksum(volume),
         test_io::checksum(scratch),
     ];
-    test_io::print_line(&line);
+    test_io::print_line(to, &line)?;
+    Ok(())
 }
 
-fn entered(r: &[u32], lanes: &mut [u32], volume: &[u32], scratch: &mut [u32]) {
+fn entered<W: Write>(
+    to: &mut W,
+    r: &[u32],
+    lanes: &mut [u32],
+    volume: &[u32],
+    scratch: &mut [u32],
+) -> io::Result<()> {
     let s = fields::scheduler_in(&lanes[..]);
     let job = fields::job_at(&lanes[..], 81);
     let answered = s.enter(test_io::at(r, 1), job, volume, scratch);
     let answer = answered.answer;
     print_said(
+        to,
         of_lane(answer),
         answered.scheduler,
         lanes,
@@ -83,11 +100,17 @@ fn entered(r: &[u32], lanes: &mut [u32], volume: &[u32], scratch: &mut [u32]) {
     )
 }
 
-fn turned(lanes: &mut [u32], volume: &mut [u32], scratch: &mut [u32]) {
+fn turned<W: Write>(
+    to: &mut W,
+    lanes: &mut [u32],
+    volume: &mut [u32],
+    scratch: &mut [u32],
+) -> io::Result<()> {
     let s = fields::scheduler_in(&lanes[..]);
     let answered = s.turn(volume, scratch);
     let answer = answered.answer;
     print_said(
+        to,
         of_turn(answer),
         answered.scheduler,
         lanes,
@@ -96,69 +119,110 @@ fn turned(lanes: &mut [u32], volume: &mut [u32], scratch: &mut [u32]) {
     )
 }
 
-fn withdrawn(r: &[u32], lanes: &mut [u32], volume: &[u32], scratch: &[u32]) {
+fn withdrawn<W: Write>(
+    to: &mut W,
+    r: &[u32],
+    lanes: &mut [u32],
+    volume: &[u32],
+    scratch: &[u32],
+) -> io::Result<()> {
     let s = fields::scheduler_in(&lanes[..]);
     let answered = s.withdraw(test_io::at(r, 1));
     let answer = answered.answer;
-    print_said(of_lane(answer), answered.scheduler, lanes, volume, scratch)
+    print_said(
+        to,
+        of_lane(answer),
+        answered.scheduler,
+        lanes,
+        volume,
+        scratch,
+    )
 }
 
-fn asked(lanes: &mut [u32], volume: &[u32], scratch: &[u32]) {
+fn asked<W: Write>(
+    to: &mut W,
+    lanes: &mut [u32],
+    volume: &[u32],
+    scratch: &[u32],
+) -> io::Result<()> {
     let s = fields::scheduler_in(&lanes[..]);
-    print_said(of_next(s.next()), s, lanes, volume, scratch)
+    print_said(to, of_next(s.next()), s, lanes, volume, scratch)
 }
 
 // The call that a record asks for.
-fn called(r: &[u32], lanes: &mut [u32], volume: &mut [u32], scratch: &mut [u32]) {
+fn called<W: Write>(
+    to: &mut W,
+    r: &[u32],
+    lanes: &mut [u32],
+    volume: &mut [u32],
+    scratch: &mut [u32],
+) -> io::Result<()> {
     let operation = test_io::at(r, 0);
     match operation {
-        0 => entered(r, lanes, &volume[..], scratch),
-        1 => turned(lanes, volume, scratch),
-        2 => withdrawn(r, lanes, &volume[..], &scratch[..]),
-        _ => asked(lanes, &volume[..], &scratch[..]),
+        0 => entered(to, r, lanes, &volume[..], scratch),
+        1 => turned(to, lanes, volume, scratch),
+        2 => withdrawn(to, r, lanes, &volume[..], &scratch[..]),
+        _ => asked(to, lanes, &volume[..], &scratch[..]),
     }
 }
 
 // The same with a scratch of sevens, of the length that the record names.
-fn lend(r: &[u32], lanes: &mut [u32], volume: &mut [u32]) {
+fn lend<W: Write>(to: &mut W, r: &[u32], lanes: &mut [u32], volume: &mut [u32]) -> io::Result<()> {
     let mut scratch = [7u32; 11600];
     let n = test_io::length_at(r, 4, 11600);
-    called(r, lanes, volume, &mut scratch[..n])
+    called(to, r, lanes, volume, &mut scratch[..n])
 }
 
 // The numbers that follow, into the part that a record names.
-fn read_part(r: &[u32], v: &mut [u32]) {
+fn read_part<R: Read>(from: &mut R, r: &[u32], v: &mut [u32]) -> io::Result<()> {
     let start = test_io::length_at(r, 2, v.len());
     let end = start + test_io::length_at(r, 3, v.len() - start);
-    test_io::read_numbers(&mut v[start..end]);
+    test_io::read_numbers(from, &mut v[start..end])?;
+    Ok(())
 }
 
 // A call on the part of the volumes that a record names.
-fn lend_part(r: &[u32], lanes: &mut [u32], volumes: &mut [u32]) {
+fn lend_part<W: Write>(
+    to: &mut W,
+    r: &[u32],
+    lanes: &mut [u32],
+    volumes: &mut [u32],
+) -> io::Result<()> {
     let start = test_io::length_at(r, 2, volumes.len());
     let end = start + test_io::length_at(r, 3, volumes.len() - start);
-    lend(r, lanes, &mut volumes[start..end])
+    lend(to, r, lanes, &mut volumes[start..end])
 }
 
-fn next(r: &[u32], lanes: &mut [u32], volumes: &mut [u32]) {
+fn next<R: Read, W: Write>(
+    from: &mut R,
+    to: &mut W,
+    r: &[u32],
+    lanes: &mut [u32],
+    volumes: &mut [u32],
+) -> io::Result<()> {
     let operation = test_io::at(r, 0);
     match operation {
         4 => fields::put_scheduler(Scheduler::new(), lanes),
-        5 => read_part(r, lanes),
-        6 => read_part(r, volumes),
-        _ => lend_part(r, lanes, volumes),
+        5 => return read_part(from, r, lanes),
+        6 => return read_part(from, r, volumes),
+        _ => return lend_part(to, r, lanes, volumes),
     }
+    Ok(())
 }
 
 // The lanes are the 81 numbers of a scheduler and nine of a job. A record is five numbers: the operation, a lane, a place and a length, the
 // length of the scratch.
-fn main() {
+fn main(rt: HostRuntime) -> io::Result<()> {
+    let mut from = rt.stdin();
+    let mut to = rt.stdout();
     let mut lanes = [0u32; 90];
     let mut volumes = [0u32; 4096];
     let mut r = [0u32; 5];
-    let mut turns = u32::MAX;
-    while turns > 0 && test_io::read_numbers(&mut r) {
-        next(&r, &mut lanes, &mut volumes);
-        turns -= 1;
+    for _ in 0..u32::MAX {
+        if !test_io::read_numbers(&mut from, &mut r)? {
+            break;
+        }
+        next(&mut from, &mut to, &r, &mut lanes, &mut volumes)?;
     }
+    Ok(())
 }

@@ -5,7 +5,8 @@
 // A number of a map is one of twenty-eight, the ends of the range and those of 64 bits among them.
 #![tactic(auto)]
 
-use libc::STDOUT_FILENO;
+use std::io;
+use std::io::{Read, Write};
 
 const COUNTS: [i64; 28] = [
     0,
@@ -39,7 +40,7 @@ const COUNTS: [i64; 28] = [
 ];
 
 // One call, and what its output holds then.
-fn run_call(head: &[u32], map: &[i64], out: &mut [u8]) {
+fn run_call<W: Write>(to: &mut W, head: &[u32], map: &[i64], out: &mut [u8]) -> io::Result<()> {
     let answer = section::section_text(
         test_io::at(head, 0),
         test_io::at(head, 1),
@@ -49,42 +50,52 @@ fn run_call(head: &[u32], map: &[i64], out: &mut [u8]) {
         test_io::at(head, 4),
         out,
     );
-    test_io::print_writing(answer, out);
+    test_io::print_writing(to, answer, out)?;
     if test_io::at(head, 7) == 1 {
-        io::write_all(STDOUT_FILENO, out);
-        io::write_all(STDOUT_FILENO, b"\n");
+        to.write_all(out)?;
+        to.write_all(b"\n")?;
     }
+    Ok(())
 }
 
 // Makes the output of a call, of the length that it names: dots.
-fn lend(head: &[u32], map: &[i64]) {
+fn lend<W: Write>(to: &mut W, head: &[u32], map: &[i64]) -> io::Result<()> {
     let mut out = [46u8; 262144];
     let room = test_io::length_at(head, 6, 262144);
-    run_call(head, map, &mut out[..room])
+    run_call(to, head, map, &mut out[..room])
 }
 
 // The map of a call by its codes.
-fn lend_map(head: &[u32], map: &mut [i64]) {
-    test_io::read_named(&COUNTS, map);
-    lend(head, map)
+fn lend_map<R: Read, W: Write>(
+    from: &mut R,
+    to: &mut W,
+    head: &[u32],
+    map: &mut [i64],
+) -> io::Result<()> {
+    test_io::read_named(from, &COUNTS, map)?;
+    lend(to, head, map)
 }
 
 // Reads a call and runs it; answers whether to go on. Group, the three lengths, z, the lengths of map and output, whether to print it;
 // then the map's codes.
-fn next() -> bool {
+fn next<R: Read, W: Write>(from: &mut R, to: &mut W) -> io::Result<bool> {
     let mut head = [0u32; 8];
-    let whole = test_io::read_numbers(&mut head);
+    let whole = test_io::read_numbers(from, &mut head)?;
     if whole {
         let mut map = [0i64; 16384];
         let n = test_io::length_at(&head, 5, 16384);
-        lend_map(&head, &mut map[..n]);
+        lend_map(from, to, &head, &mut map[..n])?;
     }
-    whole
+    Ok(whole)
 }
 
-fn main() {
-    let mut turns = u32::MAX;
-    while turns > 0 && next() {
-        turns -= 1;
+fn main(rt: HostRuntime) -> io::Result<()> {
+    let mut from = rt.stdin();
+    let mut to = rt.stdout();
+    for _ in 0..u32::MAX {
+        if !next(&mut from, &mut to)? {
+            break;
+        }
     }
+    Ok(())
 }

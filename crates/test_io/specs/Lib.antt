@@ -1,1 +1,3 @@
 pub mod Checksum
+pub mod Printed
+pub mod Taken

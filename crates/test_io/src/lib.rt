@@ -1,11 +1,19 @@
 // What the test programs share: numbers of the input, buffers filled, checksums, lines of numbers printed.
+//
+// What reads takes a reader and what prints a writer, and each answers the first error that it meets. No reader is read beyond what is asked.
 #![tactic(auto)]
 
-ghost use Rattle.std.specs.Prelude.{◌≡◌, ℕ, ◌+◌, ◌*◌, ◌%◌, ◌<◌, ◌≤◌, min, length, get_or, set, replicate, take, drop};
+ghost use Rattle.std.specs.Prelude.{◌≡◌, ℕ, ◌+◌, ◌*◌, ◌%◌, ◌<◌, ◌≤◌, min, length, get_or, set, replicate, take, drop, [], ◌∷◌, ◌^◌, IfOk, OnOk, slice_index_or, pos, Bool};
+ghost use Rattle.std.specs.Fmt.{decimal, signed_decimal};
+ghost use Rattle.std.specs.Io.KnownBytes.{Appends};
 ghost use Rattle.test_io.specs.Checksum.{checksum_of};
+ghost use Rattle.test_io.specs.Taken.{TakesBytes, TakesNumbers, TakesNamed};
+ghost use Rattle.output.specs.Output.{big_endian};
+ghost use Rattle.test_io.specs.Printed.{field_of, line_of, signed_line_of, longer_line_of, answer_line_of, replay_lines_of};
 
-use libc::{STDIN_FILENO, STDOUT_FILENO};
 use output::FillAnswer;
+use std::io;
+use std::io::{Read, Write};
 
 pub fn wide(b: u8) -> u32
     ensures { result < 256 }
@@ -20,56 +28,72 @@ fn wide64(x: u32) -> u64
 }
 
 // A big-endian number.
-fn number(c: &[u8; 4]) -> u32 {
-    let high = wide(c[0]) * 256 + wide(c[1]);
-    let low = wide(c[2]) * 256 + wide(c[3]);
+fn number(c: &[u8; 4]) -> u32
+    ensures { big_endian 4 result ≡ c.now }
+{
+    let high = u32::from(c[0]) * 256 + u32::from(c[1]);
+    let low = u32::from(c[2]) * 256 + u32::from(c[3]);
     high * 65536 + low
 }
 
-// The next bytes of the input; whether it has as many. What they are, no contract can say.
-pub fn read_bytes(v: &mut [u8]) -> bool
-    ensures { length v.new ≡ length v.old }
+// The next bytes of the input; whether it has as many.
+pub fn read_bytes<R: Read>(from: &mut R, v: &mut [u8]) -> io::Result<bool>
+    ensures len { length v.new ≡ length v.old }
+    ensures bytes { IfOk result (λ whole. TakesBytes (R.remaining from.old) (R.remaining from.new) whole v.new) }
 {
-    let wanted = v.len();
-    let got = io::read_full(STDIN_FILENO, v);
-    got == wanted
+    let mut done: usize = 0;
+    while done < v.len() {
+        let n = from.read(&mut v[done..])?;
+        if n == 0 {
+            return Ok(false);
+        }
+        done += n;
+    }
+    Ok(true)
 }
 
 // What the next bytes of the input are.
-pub fn bytes_read(v: &mut [u8]) -> &[u8]
-    ensures { length result.now ≡ length v.old }
+pub fn bytes_read<'a, R: Read>(from: &mut R, v: &'a mut [u8]) -> io::Result<&'a [u8]>
+    ensures len { IfOk result (λ s. length s.now ≡ length v.old) }
+    ensures bytes { IfOk result (λ s. (whole : Bool)
+        × TakesBytes (R.remaining from.old) (R.remaining from.new) whole s.now) }
 {
-    read_bytes(v);
-    v
+    read_bytes(from, v)?;
+    Ok(v)
 }
 
 // The next big-endian numbers of the input; whether it has as many.
-pub fn read_numbers(v: &mut [u32]) -> bool
-    ensures { length v.new ≡ length v.old }
+pub fn read_numbers<R: Read>(from: &mut R, v: &mut [u32]) -> io::Result<bool>
+    ensures len { length v.new ≡ length v.old }
+    ensures numbers { IfOk result (λ whole. TakesNumbers (R.remaining from.old) (R.remaining from.new) whole v.new) }
 {
     let mut j: usize = 0;
     while j < v.len() {
         let mut c = [0u8; 4];
-        let whole = read_bytes(&mut c);
+        let whole = read_bytes(from, &mut c)?;
         if !whole {
-            return false;
+            return Ok(false);
         }
         v[j] = number(&c);
         j += 1;
     }
-    true
+    Ok(true)
 }
 
 // What the next numbers of the input are.
-pub fn numbers_read(v: &mut [u32]) -> &[u32]
-    ensures { length result.now ≡ length v.old }
+pub fn numbers_read<'a, R: Read>(from: &mut R, v: &'a mut [u32]) -> io::Result<&'a [u32]>
+    ensures len { IfOk result (λ s. length s.now ≡ length v.old) }
+    ensures numbers { IfOk result (λ s. (whole : Bool)
+        × TakesNumbers (R.remaining from.old) (R.remaining from.new) whole s.now) }
 {
-    read_numbers(v);
-    v
+    read_numbers(from, v)?;
+    Ok(v)
 }
 
 // The number that a byte names: its place in a table. 0 beyond it.
-fn named(table: &[i64], code: u8) -> i64 {
+fn named(table: &[i64], code: u8) -> i64
+    ensures { result ≡ slice_index_or table.now code (pos 0) }
+{
     let i = code as usize;
     if i < table.len() {
         return table[i];
@@ -78,16 +102,18 @@ fn named(table: &[i64], code: u8) -> i64 {
 }
 
 // The next numbers of the input, a byte each, which names a number of a table.
-pub fn read_named(table: &[i64], v: &mut [i64])
-    ensures { length v.new ≡ length v.old }
+pub fn read_named<R: Read>(from: &mut R, table: &[i64], v: &mut [i64]) -> io::Result<()>
+    ensures len { length v.new ≡ length v.old }
+    ensures named { OnOk result (TakesNamed (R.remaining from.old) (R.remaining from.new) table.now v.new) }
 {
     let mut j: usize = 0;
     while j < v.len() {
         let mut c = [0u8; 1];
-        read_bytes(&mut c);
+        read_bytes(from, &mut c)?;
         v[j] = named(table, c[0]);
         j += 1;
     }
+    Ok(())
 }
 
 // The number at a place of a record, 0 beyond it.
@@ -127,7 +153,9 @@ pub fn part(c: &[u8], start: usize, count: u32, most: usize) -> &[u8]
 }
 
 // A count that is printed: what a test writes has fewer than 2^32 of anything.
-fn count(n: usize) -> u32 {
+fn count(n: usize) -> u32
+    ensures { result ≡ n % 2 ^ 32 }
+{
     (n % 4294967296) as u32
 }
 
@@ -192,101 +220,114 @@ pub fn checksum(v: &[u32]) -> u32
     h as u32
 }
 
-fn byte_checksum(v: &[u8]) -> u32 {
+fn byte_checksum(v: &[u8]) -> u32
+    ensures { result ≡ checksum_of v.now }
+{
     let mut h: u64 = 7;
     let mut j: usize = 0;
     while j < v.len() {
-        h = more(h, wide(v[j]));
+        h = more(h, u32::from(v[j]));
         j += 1;
     }
     h as u32
 }
 
 // The number j of a line: a blank stands before all but the first.
-fn print_next(j: usize, x: u32) {
+fn print_next<W: Write>(to: &mut W, j: usize, x: u32) -> io::Result<()>
+    ensures { OnOk result (Appends (W.contents to.old) (W.contents to.new) (field_of j (decimal x))) }
+{
     if 0 < j {
-        io::write_all(STDOUT_FILENO, b" ");
+        write!(to, " {x}")
+    } else {
+        write!(to, "{x}")
     }
-    io::print_decimal(STDOUT_FILENO, wide64(x));
 }
 
 // A line of numbers; how many were printed.
-pub fn print_line(v: &[u32]) -> usize
-    ensures { result ≡ length v.now }
+pub fn print_line<W: Write>(to: &mut W, v: &[u32]) -> io::Result<usize>
+    ensures count { IfOk result (λ n. n ≡ length v.now) }
+    ensures text { OnOk result (Appends (W.contents to.old) (W.contents to.new) (line_of v.now)) }
 {
-    let mut j: usize = 0;
-    while j < v.len() {
-        print_next(j, v[j]);
-        j += 1;
+    for (j, x) in v.iter().enumerate() {
+        print_next(to, j, *x)?;
     }
-    io::write_all(STDOUT_FILENO, b"\n");
-    j
+    to.write_all(b"\n")?;
+    Ok(v.len())
 }
 
 // A number j of a line, with its sign.
-fn print_next_signed(j: usize, x: i64) {
+fn print_next_signed<W: Write>(to: &mut W, j: usize, x: i64) -> io::Result<()>
+    ensures { OnOk result (Appends (W.contents to.old) (W.contents to.new)
+        (field_of j (signed_decimal x))) }
+{
     if 0 < j {
-        io::write_all(STDOUT_FILENO, b" ");
+        write!(to, " {x}")
+    } else {
+        write!(to, "{x}")
     }
-    if x < 0 {
-        io::write_all(STDOUT_FILENO, b"-");
-    }
-    io::print_decimal(STDOUT_FILENO, signed::magnitude(x));
 }
 
 // A line of numbers with their signs; how many were printed.
-pub fn print_signed_line(v: &[i64]) -> usize
-    ensures { result ≡ length v.now }
+pub fn print_signed_line<W: Write>(to: &mut W, v: &[i64]) -> io::Result<usize>
+    ensures count { IfOk result (λ n. n ≡ length v.now) }
+    ensures text { OnOk result (Appends (W.contents to.old) (W.contents to.new)
+        (signed_line_of v.now)) }
 {
-    let mut j: usize = 0;
-    while j < v.len() {
-        print_next_signed(j, v[j]);
-        j += 1;
+    for (j, x) in v.iter().enumerate() {
+        print_next_signed(to, j, *x)?;
     }
-    io::write_all(STDOUT_FILENO, b"\n");
-    j
+    to.write_all(b"\n")?;
+    Ok(v.len())
 }
 
 // What a script of calls answered and left: how many numbers it wrote, the job's checksum and those of two buffers, then every answer;
 // how many answers were printed.
-pub fn print_replay(
+pub fn print_replay<W: Write>(
+    to: &mut W,
     written: usize,
     job: u32,
     volume: &[u32],
     scratch: &[u32],
     answers: &[i64],
-) -> usize
-    ensures { result ≡ length answers.now }
+) -> io::Result<usize>
+    ensures count { IfOk result (λ n. n ≡ length answers.now) }
+    ensures text { OnOk result (Appends (W.contents to.old) (W.contents to.new)
+        (replay_lines_of written job volume.now scratch.now answers.now)) }
 {
     let said = [count(written), job, checksum(volume), checksum(scratch)];
-    print_line(&said);
-    print_signed_line(answers)
+    print_line(to, &said)?;
+    print_signed_line(to, answers)
 }
 
 // What a call that fills an output answered, the refusal's number or 0 and how many places it wrote; then numbers that tell what it left.
 // How many were printed.
-pub fn print_answer(answer: FillAnswer, left: &[u32]) -> usize
-    ensures { result ≡ 2 + length left.now }
+pub fn print_answer<W: Write>(to: &mut W, answer: FillAnswer, left: &[u32]) -> io::Result<usize>
+    ensures count { IfOk result (λ n. n ≡ 2 + length left.now) }
+    ensures text { OnOk result (Appends (W.contents to.old) (W.contents to.new)
+        (answer_line_of answer left.now)) }
 {
     match answer {
-        FillAnswer::Written(n) => print_before(0, count(n), left),
-        FillAnswer::Refused(refusal) => print_before(refusals::number_of(refusal), 0, left),
+        FillAnswer::Written(n) => print_before(to, 0, count(n), left),
+        FillAnswer::Refused(refusal) => print_before(to, refusals::number_of(refusal), 0, left),
     }
 }
 
-fn print_before(number: u32, written: u32, left: &[u32]) -> usize
-    ensures { result ≡ 2 + length left.now }
+fn print_before<W: Write>(to: &mut W, number: u32, written: u32, left: &[u32]) -> io::Result<usize>
+    ensures count { IfOk result (λ n. n ≡ 2 + length left.now) }
+    ensures text { OnOk result (Appends (W.contents to.old) (W.contents to.new)
+        (longer_line_of number written left.now)) }
 {
-    print_next(0, number);
-    print_next(1, written);
-    io::write_all(STDOUT_FILENO, b" ");
-    2 + print_line(left)
+    write!(to, "{number} {written} ")?;
+    let printed = print_line(to, left)?;
+    Ok(2 + printed)
 }
 
 // The same of a writing, which leaves bytes.
-pub fn print_writing(answer: FillAnswer, out: &[u8]) -> usize
-    ensures { result ≡ 3 }
+pub fn print_writing<W: Write>(to: &mut W, answer: FillAnswer, out: &[u8]) -> io::Result<usize>
+    ensures count { IfOk result (λ n. n ≡ 3) }
+    ensures text { OnOk result (Appends (W.contents to.old) (W.contents to.new)
+        (answer_line_of answer (checksum_of out.now ∷ []))) }
 {
     let left = [byte_checksum(out)];
-    print_answer(answer, &left)
+    print_answer(to, answer, &left)
 }

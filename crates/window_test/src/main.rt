@@ -7,6 +7,9 @@
 
 ghost use Rattle.std.specs.Prelude.{◌≤◌, length};
 
+use std::io;
+use std::io::{Read, Write};
+
 const SCORES: [i64; 8] = [
     -9223372036854775808,
     -9223372036854775807,
@@ -56,14 +59,15 @@ fn places_checksum(v: &[u64]) -> u32
 }
 
 // One call on the four outputs, and all that they hold then.
-fn run_call(
+fn run_call<W: Write>(
+    to: &mut W,
     w: u32,
     run: &[i64],
     least: &mut [i64],
     greatest: &mut [i64],
     least_at: &mut [u64],
     greatest_at: &mut [u64],
-)
+) -> io::Result<()>
     requires { (length least.old ≤ 256)
         × (length greatest.old ≤ 256)
         × (length least_at.old ≤ 256)
@@ -76,11 +80,12 @@ fn run_call(
         places_checksum(least_at),
         places_checksum(greatest_at),
     ];
-    test_io::print_answer(answer, &left);
+    test_io::print_answer(to, answer, &left)?;
+    Ok(())
 }
 
 // Makes the outputs of a call, of the lengths that it names: those of scores have nines, which is no score, those of places sevens.
-fn lend(head: &[u32], run: &[i64]) {
+fn lend<W: Write>(to: &mut W, head: &[u32], run: &[i64]) -> io::Result<()> {
     let mut least = [9i64; 256];
     let mut greatest = [9i64; 256];
     let mut least_at = [7u64; 256];
@@ -90,6 +95,7 @@ fn lend(head: &[u32], run: &[i64]) {
     let c = test_io::length_at(head, 4, 256);
     let d = test_io::length_at(head, 5, 256);
     run_call(
+        to,
         test_io::at(head, 0),
         run,
         &mut least[..a],
@@ -100,26 +106,35 @@ fn lend(head: &[u32], run: &[i64]) {
 }
 
 // The run of a call by its codes.
-fn lend_run(head: &[u32], run: &mut [i64]) {
-    test_io::read_named(&SCORES, run);
-    lend(head, run)
+fn lend_run<R: Read, W: Write>(
+    from: &mut R,
+    to: &mut W,
+    head: &[u32],
+    run: &mut [i64],
+) -> io::Result<()> {
+    test_io::read_named(from, &SCORES, run)?;
+    lend(to, head, run)
 }
 
 // Reads a call and runs it; answers whether to go on. The window's length, the run's, those of the four outputs, then the run's codes.
-fn next() -> bool {
+fn next<R: Read, W: Write>(from: &mut R, to: &mut W) -> io::Result<bool> {
     let mut head = [0u32; 6];
-    let whole = test_io::read_numbers(&mut head);
+    let whole = test_io::read_numbers(from, &mut head)?;
     if whole {
         let mut run = [0i64; 256];
         let n = test_io::length_at(&head, 1, 256);
-        lend_run(&head, &mut run[..n]);
+        lend_run(from, to, &head, &mut run[..n])?;
     }
-    whole
+    Ok(whole)
 }
 
-fn main() {
-    let mut turns = u32::MAX;
-    while turns > 0 && next() {
-        turns -= 1;
+fn main(rt: HostRuntime) -> io::Result<()> {
+    let mut from = rt.stdin();
+    let mut to = rt.stdout();
+    for _ in 0..u32::MAX {
+        if !next(&mut from, &mut to)? {
+            break;
+        }
     }
+    Ok(())
 }

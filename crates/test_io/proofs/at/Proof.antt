@@ -5,17 +5,17 @@ use lib.ListN.{get_or-eq_default}
 use Rattle.test_io.proofs.at.Statement.{statement}
 use Rattle.test_io.proofs.at.Tie as tie
 
-mul-result : tie.Need-overflow-mul-result
-mul-result c = search rules
+offset_bounds-r-i : tie.Need-offset_bounds-r-i
+offset_bounds-r-i c = search rules
 
-shared-slice-read-result : tie.Need-shared-slice-read-result
-shared-slice-read-result c = search rules
+bounds-r-i : tie.Need-bounds-r-i
+bounds-r-i c = search rules
+
+returns-then-i-r : tie.Need-returns-then-i-r
+returns-then-i-r c = search rules
 
 returns : tie.Need-returns
-returns c = search rules
-
-returns-2 : tie.Need-returns-2
-returns-2 c = sym (get_or-eq_default c.before.args.r.now 0 c.if1.false)
+returns c = sym (get_or-eq_default c.before.args.r.now 0 c.if-i-r.false)
 
 pub at_spec : {M : Type 1} → statement M
-at_spec = tie.close (tie.spec mul-result shared-slice-read-result returns returns-2)
+at_spec = tie.close (tie.spec offset_bounds-r-i bounds-r-i returns-then-i-r returns)

@@ -9,54 +9,43 @@ use Rattle.test_io.proofs.Stored.{checksum_next, checksum_end}
 use Rattle.test_io.proofs.checksum.Statement.{statement}
 use Rattle.test_io.proofs.checksum.Tie as tie
 
-abbrev invariant-loop : tie.invariant-loop
-invariant-loop v h₀ j₀ h j = (j ≤ length v) × (h < 2147483647) × (checksum_of v ≡ checksum_from h (drop j v))
+abbrev invariant-loop-j : tie.invariant-loop-j
+invariant-loop-j v h₀ j₀ h j = (j ≤ length v) × (h < 2147483647) × (checksum_of v ≡ checksum_from h (drop j v))
 
-abbrev decreases-loop : tie.decreases-loop
-decreases-loop v h₀ j₀ h j = length v - j
+abbrev decreases-loop-j : tie.decreases-loop-j
+decreases-loop-j v h₀ j₀ h j = length v - j
 
-loop-holds : tie.Need-loop-init invariant-loop decreases-loop
-loop-holds c = (omega arith, omega arith, refl)
+loop-j-init : tie.Need-loop-j-init invariant-loop-j decreases-loop-j
+loop-j-init c = (omega arith, omega arith, refl)
 
-mul-more : tie.Need-overflow-mul-more invariant-loop decreases-loop
-mul-more c = omega arith
+offset_bounds-v-j : tie.Need-offset_bounds-v-j invariant-loop-j decreases-loop-j
+offset_bounds-v-j c = omega arith
 
-shared-slice-read-more : tie.Need-shared-slice-read-more invariant-loop decreases-loop
-shared-slice-read-more c = omega arith
+bounds-v-j : tie.Need-bounds-v-j invariant-loop-j decreases-loop-j
+bounds-v-j c = omega arith
 
-more-requires : tie.Need-more-requires invariant-loop decreases-loop
-more-requires c κs = search rules
+more-h-requires : tie.Need-more-h-requires invariant-loop-j decreases-loop-j
+more-h-requires c κs = search rules
 
-add-j : tie.Need-overflow-add-j invariant-loop decreases-loop
-add-j c = omega arith
+overflow_add-j : tie.Need-overflow_add-j invariant-loop-j decreases-loop-j
+overflow_add-j c = omega arith
 
-loop-less : tie.Need-loop-smaller invariant-loop decreases-loop
-loop-less c = omega arith
+loop-j-smaller : tie.Need-loop-j-smaller invariant-loop-j decreases-loop-j
+loop-j-smaller c = omega arith
 
-loop-again : tie.Need-loop-preserved invariant-loop decreases-loop
-loop-again c =
+loop-j-preserved : tie.Need-loop-j-preserved invariant-loop-j decreases-loop-j
+loop-j-preserved c =
     let l = c.before.before.before in
     let v = l.before.before.args.v.now in
-    (omega arith, c.more.ensures.1, l.loop.invariant.2 ∙ checksum_next v l.loop.h l.loop.j c.before.before.loop-test.true ∙ ap (λ h. checksum_from h (drop (l.loop.j + 1) v)) (sym c.more.ensures.0))
+    (omega arith, c.more-h.ensures.1, l.loop-j.invariant.2 ∙ checksum_next v l.loop-j.h l.loop-j.j c.before.before.loop-j-test.true ∙ ap (λ h. checksum_from h (drop (l.loop-j.j + 1) v)) (sym c.more-h.ensures.0))
 
-cast-result : tie.Need-overflow-cast-result invariant-loop decreases-loop
-cast-result c = omega arith
+overflow_cast-result : tie.Need-overflow_cast-result invariant-loop-j decreases-loop-j
+overflow_cast-result c = omega arith
 
-returns : tie.Need-returns invariant-loop decreases-loop
-returns c = let l = c.before in sym (l.loop.invariant.2 ∙ checksum_end l.before.before.args.v.now l.loop.h l.loop.j c.loop-test.false)
+returns : tie.Need-returns invariant-loop-j decreases-loop-j
+returns c = let l = c.before in sym (l.loop-j.invariant.2 ∙ checksum_end l.before.before.args.v.now l.loop-j.h l.loop-j.j c.loop-j-test.false)
 
 pub checksum_spec : {M : Type 1} → statement M
 checksum_spec =
     tie.close
-    (tie.spec
-    invariant-loop
-    decreases-loop
-    loop-holds
-    mul-more
-    shared-slice-read-more
-    more-requires
-    add-j
-    loop-less
-    loop-again
-    cast-result
-    returns)
+    (tie.spec invariant-loop-j decreases-loop-j loop-j-init offset_bounds-v-j bounds-v-j more-h-requires overflow_add-j loop-j-smaller loop-j-preserved overflow_cast-result returns)

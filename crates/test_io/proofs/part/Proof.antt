@@ -7,20 +7,20 @@ use lib.ListN.{take, drop}
 use Rattle.test_io.proofs.part.Statement.{statement}
 use Rattle.test_io.proofs.part.Tie as tie
 
-at-most-requires : tie.Need-at-most-requires
-at-most-requires c κs = search rules
+at_most-requires : tie.Need-at_most-requires
+at_most-requires c κs = search rules
 
-add-end : tie.Need-overflow-add-end
-add-end c = search rules
+overflow_add-end : tie.Need-overflow_add-end
+overflow_add-end c = search rules
 
-sub-result : tie.Need-overflow-sub-result
-sub-result c = search rules
+slice_bounds-result-count : tie.Need-slice_bounds-result-count
+slice_bounds-result-count c = search rules
 
-part-result-start : tie.Need-slice-bounds-result-start
-part-result-start c = search rules
+slice_bounds-result-start : tie.Need-slice_bounds-result-start
+slice_bounds-result-start c = search rules
 
-part-result-end : tie.Need-slice-bounds-result-end
-part-result-end c = search rules
+slice_bounds-result-end : tie.Need-slice_bounds-result-end
+slice_bounds-result-end c = search rules
 
 returns : tie.Need-returns
 returns c =
@@ -30,4 +30,4 @@ returns c =
     ap (λ (n : ℕ). take n (drop a.start a.c.now)) e
 
 pub part_spec : {M : Type 1} → statement M
-part_spec = tie.close (tie.spec at-most-requires add-end sub-result part-result-start part-result-end returns)
+part_spec = tie.close (tie.spec at_most-requires overflow_add-end slice_bounds-result-count slice_bounds-result-start slice_bounds-result-end returns)

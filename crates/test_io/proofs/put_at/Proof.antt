@@ -5,20 +5,20 @@ use lib.Seq.{set_out}
 use Rattle.test_io.proofs.put_at.Statement.{statement}
 use Rattle.test_io.proofs.put_at.Tie as tie
 
-mul-v : tie.Need-overflow-mul-v
-mul-v c = search rules
+offset_bounds-v-i : tie.Need-offset_bounds-v-i
+offset_bounds-v-i c = search rules
 
-slice-write-v : tie.Need-slice-write-v
-slice-write-v c = search rules
+bounds-v-i : tie.Need-bounds-v-i
+bounds-v-i c = search rules
 
-same_length : tie.Need-same-length
-same_length c = search rules
+shape_of-v : tie.Need-shape_of-v
+shape_of-v c = search rules
 
-returns : tie.Need-returns
-returns c = search rules
+returns-then-i-v : tie.Need-returns-then-i-v
+returns-then-i-v c = search rules
 
-returns-2 : tie.Need-returns-2
-returns-2 c = let a = c.before.args in sym (set_out a.v.now a.place a.x c.if1.false)
+returns-else-i-v : tie.Need-returns-else-i-v
+returns-else-i-v c = let a = c.before.args in sym (set_out a.v.now a.place a.x c.if-i-v.false)
 
 pub put_at_spec : {M : Type 1} → statement M
-put_at_spec = tie.close (tie.spec mul-v slice-write-v same_length returns returns-2)
+put_at_spec = tie.close (tie.spec offset_bounds-v-i bounds-v-i shape_of-v returns-then-i-v returns-else-i-v)

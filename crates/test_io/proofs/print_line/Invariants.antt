@@ -1,0 +1,9 @@
+-- The numbers before j are printed.
+use Rattle.std.proofs.Common.{[], ◌∷◌, take}
+use Rattle.std.specs.Fmt.{decimal}
+use Rattle.std.specs.List.{join_by}
+use Rattle.std.specs.Io.KnownBytes.{Appends}
+use Rattle.test_io.proofs.print_line.Given as goal
+
+abbrev pub invariant-loop-j : goal.invariant-loop-j
+invariant-loop-j g l = Appends (g.W.Write.contents l.initial.to) (g.W.Write.contents l.to) (join_by decimal (32 ∷ []) (take l.j l.v))

@@ -11,43 +11,32 @@ use Rattle.mrc.specs.Mrc.{parameter_tests}
 use Rattle.mrc.proofs.check_shape.Statement.{statement}
 use Rattle.mrc.proofs.check_shape.Tie as tie
 
-check-combined-map-requires : tie.Need-check-combined-map-requires
-check-combined-map-requires c κs = search rules
+check_combined_map-checked-requires : tie.Need-check_combined_map-checked-requires
+check_combined_map-checked-requires c κs = search rules
 
-enum-known-checked : tie.Need-enum-known-checked
-enum-known-checked c = search rules
+enum_known-checked : tie.Need-enum_known-checked
+enum_known-checked c = search rules
 
-enum_told : tie.Need-enum-told
-enum_told c = search rules
+enum_told-1 : tie.Need-enum_told-1
+enum_told-1 c = search rules
 
-check-parameters-requires : tie.Need-check-parameters-requires
-check-parameters-requires c κs = search rules
+check_parameters-requires : tie.Need-check_parameters-requires
+check_parameters-requires c κs = search rules
 
-returns : tie.Need-returns
-returns c =
-    let k = c.before.before.before in
-    let s = k.before in
-    let ts = combined_map_tests s.args.cell.group (cell_lengths s.args.cell) s.args.length in
-    let us = parameter_tests s.args.cell.group s.args.parameters in
-    fails c.before.checked.given.0.0 (first ts) (first us) (λ n. n) (ap checked_number (sym c.before.checked.given.1) ∙ k.check-combined-map.ensures) ∙ sym (first_append ts us tt)
+returns-in-Failed : tie.Need-returns-in-Failed
+returns-in-Failed c =
+    let ts = combined_map_tests c.args.cell.group (cell_lengths c.args.cell) c.args.length in
+    let us = parameter_tests c.args.cell.group c.args.parameters in
+    fails c.in-Failed.refusal (first ts) (first us) (λ n. n) (ap checked_number (sym c.in-Failed.is) ∙ c.check_combined_map-checked.ensures) ∙ sym (first_append ts us tt)
 
-returns-2 : tie.Need-returns-2
-returns-2 c =
-    let t = c.before in
-    let k = t.before.before in
-    let s = k.before in
-    let ts = combined_map_tests s.args.cell.group (cell_lengths s.args.cell) s.args.length in
-    let us = parameter_tests s.args.cell.group s.args.parameters in
-    let z : 0 ≡ first ts = ap checked_number (sym t.enum_told.given.1) ∙ k.check-combined-map.ensures in
-    c.check-parameters.ensures ∙ ap (λ (n : ℕ). accepted n (first us) (λ n. n)) z ∙ sym (first_append ts us tt)
+returns-in-Sound : tie.Need-returns-in-Sound
+returns-in-Sound c =
+    let ts = combined_map_tests c.args.cell.group (cell_lengths c.args.cell) c.args.length in
+    let us = parameter_tests c.args.cell.group c.args.parameters in
+    let z : 0 ≡ first ts = ap checked_number (sym c.in-Sound.is) ∙ c.check_combined_map-checked.ensures in
+    c.check_parameters.ensures ∙ ap (λ (n : ℕ). accepted n (first us) (λ n. n)) z ∙ sym (first_append ts us tt)
 
 pub check_shape_spec : {M : Type 1} → statement M
 check_shape_spec =
     tie.close
-    (tie.spec
-    check-combined-map-requires
-    enum-known-checked
-    enum_told
-    check-parameters-requires
-    returns
-    returns-2)
+    (tie.spec check_combined_map-checked-requires enum_known-checked enum_told-1 check_parameters-requires returns-in-Failed returns-in-Sound)

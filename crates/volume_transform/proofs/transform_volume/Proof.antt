@@ -6,71 +6,53 @@ use Rattle.line.proofs.table.Directions.{tables_of_lem}
 use Rattle.volume_transform.proofs.transform_volume.Statement.{statement}
 use Rattle.volume_transform.proofs.transform_volume.Tie as tie
 
-real-parts-requires : tie.Need-real-parts-requires
-real-parts-requires c κs = c.before.before.requires.0.modulus
+real_parts-re-requires : tie.Need-real_parts-re-requires
+real_parts-re-requires c κs = c.requires.0.modulus
 
-imaginary-parts-requires : tie.Need-imaginary-parts-requires
-imaginary-parts-requires c κs = c.before.before.before.requires.0.modulus
+imaginary_parts-im-requires : tie.Need-imaginary_parts-im-requires
+imaginary_parts-im-requires c κs = c.requires.0.modulus
 
-half-tangents-requires : tie.Need-half-tangents-requires
-half-tangents-requires c κs = c.before.before.before.before.requires.0.modulus
+half_tangents-tan-requires : tie.Need-half_tangents-tan-requires
+half_tangents-tan-requires c κs = c.requires.0.modulus
 
-is-small-requires : tie.Need-is-small-requires
-is-small-requires c κs = search rules
+is_small-requires : tie.Need-is_small-requires
+is_small-requires c κs = search rules
 
-slice-aggregate-turn-volume : tie.Need-slice-aggregate-turn-volume
-slice-aggregate-turn-volume c = search rules
+slice_bounds-turn_volume-end : tie.Need-slice_bounds-turn_volume-end
+slice_bounds-turn_volume-end c = search rules
 
-slice-aggregate-turn-volume-2 : tie.Need-slice-aggregate-turn-volume-2
-slice-aggregate-turn-volume-2 c = search rules
+slice_bounds-turn_volume-end-then-is_small : tie.Need-slice_bounds-turn_volume-end-then-is_small
+slice_bounds-turn_volume-end-then-is_small c = search rules
 
-turn-volume-requires : tie.Need-turn-volume-requires
-turn-volume-requires c κs =
-    let h = c.before.before.before.before.before.before.before.before.before.before.before in
-    let s = h.before.before.before.before.before in (
-      (s.requires.0, tables_of_lem s.requires.0.modulus h.before.before.real-parts.ensures s.args.plan.direction h.before.imaginary-parts.ensures h.half-tangents.ensures, refl),
-      ((omega arith, omega arith, λ more. absurd (omega (arith, more))), (s.requires.1.0, record { scratch_fits = s.requires.1.1; fold_fits = omega arith; work_fits = omega arith })),
-    )
+turn_volume-requires : tie.Need-turn_volume-requires
+turn_volume-requires c κs = (
+  (c.requires.0, tables_of_lem c.requires.0.modulus c.real_parts-re.ensures c.args.plan.direction c.imaginary_parts-im.ensures c.half_tangents-tan.ensures, refl),
+  ((omega arith, omega arith, λ more. absurd (omega (arith, more))), (c.requires.1.0, record { scratch_fits = c.requires.1.1; fold_fits = omega arith; work_fits = omega arith })),
+)
 
-turn-groups-requires : tie.Need-turn-groups-requires
-turn-groups-requires c κs =
-    let h = c.before.before.before.before.before.before.before in
-    let s = h.before.before.before.before.before in
-    ((s.requires.0, tables_of_lem s.requires.0.modulus h.before.before.real-parts.ensures s.args.plan.direction h.before.imaginary-parts.ensures h.half-tangents.ensures, refl), s.requires.1)
+turn_groups-requires : tie.Need-turn_groups-requires
+turn_groups-requires c κs =
+    ((c.requires.0, tables_of_lem c.requires.0.modulus c.real_parts-re.ensures c.args.plan.direction c.imaginary_parts-im.ensures c.half_tangents-tan.ensures, refl), c.requires.1)
 
-same_length : tie.Need-same-length
-same_length c = search rules
+shape_of-volume-then-is_small : tie.Need-shape_of-volume-then-is_small
+shape_of-volume-then-is_small c = search rules
 
-same-length-2 : tie.Need-same-length-2
-same-length-2 c = search rules
+shape_of-scratch-then-is_small : tie.Need-shape_of-scratch-then-is_small
+shape_of-scratch-then-is_small c = search rules
 
-returns : tie.Need-returns
-returns c = c.before.before.before.before.before.before.turn-volume.ensures
+returns-then-is_small : tie.Need-returns-then-is_small
+returns-then-is_small c = c.turn_volume.ensures
 
-same-length-3 : tie.Need-same-length-3
-same-length-3 c = search rules
+shape_of-volume-else-is_small : tie.Need-shape_of-volume-else-is_small
+shape_of-volume-else-is_small c = search rules
 
-same-length-4 : tie.Need-same-length-4
-same-length-4 c = search rules
+shape_of-scratch-else-is_small : tie.Need-shape_of-scratch-else-is_small
+shape_of-scratch-else-is_small c = search rules
 
-returns-2 : tie.Need-returns-2
-returns-2 c = c.before.before.before.before.turn-groups.ensures
+returns-else-is_small : tie.Need-returns-else-is_small
+returns-else-is_small c = c.turn_groups.ensures
 
 pub transform_volume_spec : {M : Type 1} → statement M
 transform_volume_spec =
     tie.close
-    (tie.spec
-    real-parts-requires
-    imaginary-parts-requires
-    half-tangents-requires
-    is-small-requires
-    slice-aggregate-turn-volume
-    slice-aggregate-turn-volume-2
-    turn-volume-requires
-    turn-groups-requires
-    same_length
-    same-length-2
-    returns
-    same-length-3
-    same-length-4
-    returns-2)
+    (tie.spec real_parts-re-requires imaginary_parts-im-requires half_tangents-tan-requires is_small-requires slice_bounds-turn_volume-end slice_bounds-turn_volume-end-then-is_small turn_volume-requires turn_groups-requires shape_of-volume-then-is_small shape_of-scratch-then-is_small returns-then-is_small shape_of-volume-else-is_small shape_of-scratch-else-is_small returns-else-is_small)

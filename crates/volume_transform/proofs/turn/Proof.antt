@@ -10,106 +10,83 @@ use Rattle.volume_transform.proofs.turn.Statement.{statement}
 use Rattle.volume_transform.proofs.turn.Tie as tie
 
 -- the row, and the volume that it is a part of
-module _ (i : tie.Then1) where
+module _ (i : tie.Then-line-eq1) where
   abbrev start : tie.Start
   start = i.before.before.before.before.before.before
 
   row : Beside (length start.args.volume.now) start.args.line
-  row = beside start.args.line start.pre.0.0 i.if1.taken
+  row = beside start.args.line start.requires.0.0 i.if-line-eq1.taken
 
-mul-start : tie.Need-overflow-mul-start
-mul-start c = let b = row c.before in omega (arith, b.fits, b.low)
+overflow_mul-start : tie.Need-overflow_mul-start
+overflow_mul-start c = let b = row c.before in omega (arith, b.fits, b.low)
 
-mul-end : tie.Need-overflow-mul-end
-mul-end c = let b = row c.before.before in omega (arith, b.fits, b.low)
+overflow_mul-end : tie.Need-overflow_mul-end
+overflow_mul-end c = let b = row c.before.before in omega (arith, b.fits, b.low)
 
-add-end : tie.Need-overflow-add-end
-add-end c = let b = row c.before.before in omega (arith, b.fits, b.low)
+overflow_add-end : tie.Need-overflow_add-end
+overflow_add-end c = let b = row c.before.before in omega (arith, b.fits, b.low)
 
-mul-turn-row : tie.Need-overflow-mul-turn-row
-mul-turn-row c = let b = row c.before.before in omega (arith, b.fits, b.low)
+offset_bounds-volume-start : tie.Need-offset_bounds-volume-start
+offset_bounds-volume-start c = let b = row c.before.before in omega (arith, b.fits, b.low)
 
-sub-turn-row : tie.Need-overflow-sub-turn-row
-sub-turn-row c = let b = row c.before.before in omega (arith, b.fits, b.low)
+slice_bounds-turn_row-count : tie.Need-slice_bounds-turn_row-count
+slice_bounds-turn_row-count c = let b = row c.before.before in omega (arith, b.fits, b.low)
 
-part-turn-row-start : tie.Need-slice-bounds-turn-row-start
-part-turn-row-start c = let b = row c.before.before in omega (arith, b.fits, b.low)
+slice_bounds-turn_row-start : tie.Need-slice_bounds-turn_row-start
+slice_bounds-turn_row-start c = let b = row c.before.before in omega (arith, b.fits, b.low)
 
-part-turn-row-end : tie.Need-slice-bounds-turn-row-end
-part-turn-row-end c = let b = row c.before.before in omega (arith, b.fits, b.low)
+slice_bounds-turn_row-end : tie.Need-slice_bounds-turn_row-end
+slice_bounds-turn_row-end c = let b = row c.before.before in omega (arith, b.fits, b.low)
 
-turn-row-requires : tie.Need-turn-row-requires
-turn-row-requires c κs =
+turn_row-requires : tie.Need-turn_row-requires
+turn_row-requires c κs =
     let i = c.before.before.before.before.before in
     let s = start i in
     let x = s.args.line in
     let b = row i in
-    ((b.sound, b.hermitian, s.pre.0.1, s.pre.0.2), ((row_long x s.args.volume.now b, row_below x s.args.volume.now b s.pre.1.0), room x b.sound s.pre.1.1))
+    ((b.sound, b.hermitian, s.requires.0.1, s.requires.0.2), ((row_long x s.args.volume.now b, row_below x s.args.volume.now b s.requires.1.0), room x b.sound s.requires.1.1))
 
-turn-gathered-requires : tie.Need-turn-gathered-requires
-turn-gathered-requires c κs =
-    let i = c.before.before.before.before in
-    let s = i.before.before.before.before.before.before in
-    ((spaced s.args.line s.requires.0.0 i.if1.false, s.requires.0.1, s.requires.0.2), (s.requires.1.0, s.requires.1.1))
+turn_gathered-requires : tie.Need-turn_gathered-requires
+turn_gathered-requires c κs =
+    ((spaced c.args.line c.requires.0.0 c.if-line-eq1.false, c.requires.0.1, c.requires.0.2), (c.requires.1.0, c.requires.1.1))
 
-same_length : tie.Need-same-length
-same_length c =
+shape_of-volume-then-line-eq1 : tie.Need-shape_of-volume-then-line-eq1
+shape_of-volume-then-line-eq1 c =
     let r = c.before.before.before.before.before.before in
     let i = r.before.before.before.before.before.before in
-    part_same (start i).args.line (start i).args.volume.now (row i) _ r.turn-row.ensures
+    part_same (start i).args.line (start i).args.volume.now (row i) _ r.turn_row.ensures
 
-same-length-2 : tie.Need-same-length-2
-same-length-2 c = c.before.before.before.fold.given
+shape_of-fold-then-line-eq1 : tie.Need-shape_of-fold-then-line-eq1
+shape_of-fold-then-line-eq1 c = c.fold-1.given
 
-same-length-3 : tie.Need-same-length-3
-same-length-3 c = c.before.work.given
+shape_of-work-then-line-eq1 : tie.Need-shape_of-work-then-line-eq1
+shape_of-work-then-line-eq1 c = c.work-1.given
 
-returns : tie.Need-returns
-returns c =
+returns-then-line-eq1 : tie.Need-returns-then-line-eq1
+returns-then-line-eq1 c =
     let r = c.before.before.before.before.before.before in
     let i = r.before.before.before.before.before.before in
     let x = (start i).args.line in
     let v = (start i).args.volume.now in
-    (row_placed x v (row i) _ r.turn-row.ensures ∙ row_is x v i.if1.true, refl)
+    (row_placed x v (row i) _ r.turn_row.ensures ∙ row_is x v i.if-line-eq1.true, refl)
 
-same-length-4 : tie.Need-same-length-4
-same-length-4 c = c.before.before.before.before.before.before.before.volume2.given
+shape_of-volume-else-line-eq1 : tie.Need-shape_of-volume-else-line-eq1
+shape_of-volume-else-line-eq1 c = c.volume-else-line-eq1-1.given
 
-same-length-5 : tie.Need-same-length-5
-same-length-5 c = c.before.before.before.before.before.scratch.given
+shape_of-scratch : tie.Need-shape_of-scratch
+shape_of-scratch c = c.scratch-1.given
 
-same-length-6 : tie.Need-same-length-6
-same-length-6 c = c.before.before.before.fold2.given
+shape_of-fold-else-line-eq1 : tie.Need-shape_of-fold-else-line-eq1
+shape_of-fold-else-line-eq1 c = c.fold-else-line-eq1-1.given
 
-same-length-7 : tie.Need-same-length-7
-same-length-7 c = c.before.work2.given
+shape_of-work-else-line-eq1 : tie.Need-shape_of-work-else-line-eq1
+shape_of-work-else-line-eq1 c = c.work-else-line-eq1-1.given
 
-returns-2 : tie.Need-returns-2
-returns-2 c =
-    let r = c.before.before.before.before.before.before.before.before in
-    let i = r.before.before.before.before.before in
-    let s = i.before.before.before.before.before.before in
-    (r.turn-gathered.ensures.0 ∙ gathered_is s.args.line s.args.volume.now i.if1.false, r.turn-gathered.ensures.1)
+returns-else-line-eq1 : tie.Need-returns-else-line-eq1
+returns-else-line-eq1 c =
+    (c.turn_gathered.ensures.0 ∙ gathered_is c.args.line c.args.volume.now c.if-line-eq1.false, c.turn_gathered.ensures.1)
 
 pub turn_spec : {M : Type 1} → statement M
 turn_spec =
     tie.close
-    (tie.spec
-    mul-start
-    mul-end
-    add-end
-    mul-turn-row
-    sub-turn-row
-    part-turn-row-start
-    part-turn-row-end
-    turn-row-requires
-    turn-gathered-requires
-    same_length
-    same-length-2
-    same-length-3
-    returns
-    same-length-4
-    same-length-5
-    same-length-6
-    same-length-7
-    returns-2)
+    (tie.spec overflow_mul-start overflow_mul-end overflow_add-end offset_bounds-volume-start slice_bounds-turn_row-count slice_bounds-turn_row-start slice_bounds-turn_row-end turn_row-requires turn_gathered-requires shape_of-volume-then-line-eq1 shape_of-fold-then-line-eq1 shape_of-work-then-line-eq1 returns-then-line-eq1 shape_of-volume-else-line-eq1 shape_of-scratch shape_of-fold-else-line-eq1 shape_of-work-else-line-eq1 returns-else-line-eq1)

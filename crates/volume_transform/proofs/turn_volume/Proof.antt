@@ -15,123 +15,100 @@ use Rattle.volume_transform.proofs.Turning.{Turning, turning_start, turning_more
 use Rattle.volume_transform.proofs.turn_volume.Statement.{statement}
 use Rattle.volume_transform.proofs.turn_volume.Tie as tie
 
-abbrev invariant-loop : tie.invariant-loop
-invariant-loop m plan most re im tan sre sim volume₀ scratch₀ fold₀ work₀ counts count n₀ volume scratch fold work n = Turning (plan_turn plan) count n volume₀ volume scratch₀ scratch fold₀ fold work₀ work
+abbrev invariant-loop-n : tie.invariant-loop-n
+invariant-loop-n m plan most re im tan sre sim volume₀ scratch₀ fold₀ work₀ counts count n₀ volume scratch fold work n = Turning (plan_turn plan) count n volume₀ volume scratch₀ scratch fold₀ fold work₀ work
 
-abbrev decreases-loop : tie.decreases-loop
-decreases-loop m plan most re im tan sre sim volume₀ scratch₀ fold₀ work₀ counts count n₀ volume scratch fold work n = count - n
+abbrev decreases-loop-n : tie.decreases-loop-n
+decreases-loop-n m plan most re im tan sre sim volume₀ scratch₀ fold₀ work₀ counts count n₀ volume scratch fold work n = count - n
 
-line-counts-requires : tie.Need-line-counts-requires invariant-loop decreases-loop
-line-counts-requires c κs = c.before.before.before.before.requires.0.0.sizes
+line_counts-counts-requires : tie.Need-line_counts-counts-requires invariant-loop-n decreases-loop-n
+line_counts-counts-requires c κs = c.requires.0.0.sizes
 
-add-count : tie.Need-overflow-add-count invariant-loop decreases-loop
-add-count c = omega (arith, c.before.line-counts.ensures.low)
+overflow_add-count : tie.Need-overflow_add-count invariant-loop-n decreases-loop-n
+overflow_add-count c = omega (arith, c.line_counts-counts.ensures.low)
 
-add-count-2 : tie.Need-overflow-add-count-2 invariant-loop decreases-loop
-add-count-2 c = omega (arith, c.before.before.line-counts.ensures.low)
+overflow_add-count-2 : tie.Need-overflow_add-count-2 invariant-loop-n decreases-loop-n
+overflow_add-count-2 c = omega (arith, c.line_counts-counts.ensures.low)
 
-loop-holds : tie.Need-loop-init invariant-loop decreases-loop
-loop-holds c = turning_start
+loop-n-init : tie.Need-loop-n-init invariant-loop-n decreases-loop-n
+loop-n-init c = turning_start
 
-group-in-turn-requires : tie.Need-group-in-turn-requires invariant-loop decreases-loop
-group-in-turn-requires c κs =
-    let n = c.before.before.before.before in
-    let s = n.before.before.before.before.before in
-    (s.requires.0.0, n.line-counts.ensures, omega (arith, c.loop-test.true, counted_lines n.line-counts.ensures), s.requires.1.0.0)
+group_in_turn-group-requires : tie.Need-group_in_turn-group-requires invariant-loop-n decreases-loop-n
+group_in_turn-group-requires c κs =
+    (c.requires.0.0, c.line_counts-counts.ensures, omega (arith, c.loop-n-test.true, counted_lines c.line_counts-counts.ensures), c.requires.1.0.0)
 
-turn-group-requires : tie.Need-turn-group-requires invariant-loop decreases-loop
-turn-group-requires c κs =
-    let b = c.before.before.before in
-    let l = c.before.before.before.before.before in
-    let i = c.before.before.before.before.before.before.before in
-    let s = c.before.before.before.before.before.before.before.before.before.before.before.before.before.before.before in
-    let a = s.args in
-    let x = l.group-in-turn.result.line in
-    let found = l.group-in-turn.ensures in
-    let fits = turning_fits a.plan i.loop.invariant s.requires.1.1.0 in
-    let j = line_of_turn (plan_group a.plan) (plan_halves a.plan) a.plan.direction i.loop.n in
-    let room = s.requires.1.0.2 (omega (arith, b.if1.true, found.few)) in (
+turn_group-requires : tie.Need-turn_group-requires invariant-loop-n decreases-loop-n
+turn_group-requires c κs =
+    let a = c.args in
+    let x = c.group_in_turn-group.result.line in
+    let found = c.group_in_turn-group.ensures in
+    let fits = turning_fits a.plan c.loop-n.invariant c.requires.1.1.0 in
+    let j = line_of_turn (plan_group a.plan) (plan_halves a.plan) a.plan.direction c.loop-n.n in
+    let room = c.requires.1.0.2 (omega (arith, c.if-group-gt3.true, found.few)) in (
       (
-        group_ready a.plan x found.some fits (omega (arith, found.few, s.requires.1.0.1)) (found.together (omega (arith, b.if1.true))),
-        (line_ready a.plan j x _ a.re.now a.im.now a.tan.now fits s.requires.0.1 found.first).0.1,
-        s.requires.0.2 ∙ sym (modulus_is a.plan j x found.first),
+        group_ready a.plan x found.some fits (omega (arith, found.few, c.requires.1.0.1)) (found.together (omega (arith, c.if-group-gt3.true))),
+        (line_ready a.plan j x _ a.re.now a.im.now a.tan.now fits c.requires.0.1 found.first).0.1,
+        c.requires.0.2 ∙ sym (modulus_is a.plan j x found.first),
       ),
-      (room.tables, ((turning_lent i.loop.invariant s.requires.1.1.1).scratch_fits, omega (arith, i.loop.invariant.work_long, room.room))),
+      (room.tables, ((turning_lent c.loop-n.invariant c.requires.1.1.1).scratch_fits, omega (arith, c.loop-n.invariant.work_long, room.room))),
     )
 
-add-n : tie.Need-overflow-add-n invariant-loop decreases-loop
-add-n c =
-    let l = c.before.before.before.before.before.before.before.before.before.before.before.before.before in
-    let n = c.before.before.before.before.before.before.before.before.before.before.before.before.before.before.before.before.before.before in
-    omega (arith, l.group-in-turn.ensures.inside, counted_lines n.line-counts.ensures, n.line-counts.ensures.low)
+overflow_add-n : tie.Need-overflow_add-n invariant-loop-n decreases-loop-n
+overflow_add-n c =
+    omega (arith, c.group_in_turn-group.ensures.inside, counted_lines c.line_counts-counts.ensures, c.line_counts-counts.ensures.low)
 
-loop-less : tie.Need-loop-smaller invariant-loop decreases-loop
-loop-less c =
-    let l = c.before.before.before.before.before.before.before.before.before.before.before.before.before in
-    let n = c.before.before.before.before.before.before.before.before.before.before.before.before.before.before.before.before.before.before in
-    omega (arith, l.group-in-turn.ensures.inside, l.group-in-turn.ensures.some, counted_lines n.line-counts.ensures)
+loop-n-smaller-then-group-gt3 : tie.Need-loop-n-smaller-then-group-gt3 invariant-loop-n decreases-loop-n
+loop-n-smaller-then-group-gt3 c =
+    omega (arith, c.group_in_turn-group.ensures.inside, c.group_in_turn-group.ensures.some, counted_lines c.line_counts-counts.ensures)
 
-loop-again : tie.Need-loop-preserved invariant-loop decreases-loop
-loop-again c =
-    let t = c.before.before.before.before.before.before.before in
-    let b = c.before.before.before.before.before.before.before.before.before.before.before in
-    let l = c.before.before.before.before.before.before.before.before.before.before.before.before.before in
-    let i = c.before.before.before.before.before.before.before.before.before.before.before.before.before.before.before in
-    let n = c.before.before.before.before.before.before.before.before.before.before.before.before.before.before.before.before.before.before in
-    let s = c.before.before.before.before.before.before.before.before.before.before.before.before.before.before.before.before.before.before.before.before.before.before.before in
-    let p = s.args.plan in
-    let g = l.group-in-turn.result in
-    let found = l.group-in-turn.ensures in
-    turning_more i.loop.invariant g.lanes (omega (arith, found.inside, counted_lines n.line-counts.ensures))
-    (t.turn-group.ensures.0
-    ∙ group_turns p g.line found.some (turning_fits p i.loop.invariant s.requires.1.1.0) (omega (arith, found.few, s.requires.1.0.1)) (found.together (omega (arith, b.if1.true))))
-    t.turn-group.ensures.1 c.before.before.before.before.scratch.given refl c.before.before.work.given
+loop-n-preserved-then-group-gt3 : tie.Need-loop-n-preserved-then-group-gt3 invariant-loop-n decreases-loop-n
+loop-n-preserved-then-group-gt3 c =
+    let p = c.args.plan in
+    let g = c.group_in_turn-group.result in
+    let found = c.group_in_turn-group.ensures in
+    turning_more c.loop-n.invariant g.lanes (omega (arith, found.inside, counted_lines c.line_counts-counts.ensures))
+    (c.turn_group.ensures.0
+    ∙ group_turns p g.line found.some (turning_fits p c.loop-n.invariant c.requires.1.1.0) (omega (arith, found.few, c.requires.1.0.1)) (found.together (omega (arith, c.if-group-gt3.true))))
+    c.turn_group.ensures.1 c.scratch-1.given refl c.work-1.given
 
-turn-requires : tie.Need-turn-requires invariant-loop decreases-loop
+turn-requires : tie.Need-turn-requires invariant-loop-n decreases-loop-n
 turn-requires c κs =
-    let l = c.before.before.before.before.before.before in
-    let i = l.before.before in
-    let s = i.before.before.before.before.before.before.before.before in
-    let a = s.args in
-    let x = l.group-in-turn.result.line in
-    let found = l.group-in-turn.ensures.first in
-    let j = line_of_turn (plan_group a.plan) (plan_halves a.plan) a.plan.direction i.loop.n in
-    let ready = line_ready a.plan j x _ a.re.now a.im.now a.tan.now (turning_fits a.plan i.loop.invariant s.requires.1.1.0) s.requires.0.1 found in
-    ((ready.0.0, ready.0.1, s.requires.0.2 ∙ sym (modulus_is a.plan j x found)), (ready.1, turning_lent i.loop.invariant s.requires.1.1.1))
+    let a = c.args in
+    let x = c.group_in_turn-group.result.line in
+    let found = c.group_in_turn-group.ensures.first in
+    let j = line_of_turn (plan_group a.plan) (plan_halves a.plan) a.plan.direction c.loop-n.n in
+    let ready = line_ready a.plan j x _ a.re.now a.im.now a.tan.now (turning_fits a.plan c.loop-n.invariant c.requires.1.1.0) c.requires.0.1 found in
+    ((ready.0.0, ready.0.1, c.requires.0.2 ∙ sym (modulus_is a.plan j x found)), (ready.1, turning_lent c.loop-n.invariant c.requires.1.1.1))
 
-add-n-2 : tie.Need-overflow-add-n-2 invariant-loop decreases-loop
-add-n-2 c = omega (arith, c.before.before.before.before.before.before.before.before.before.before.before.before.before.before.before.before.loop-test.true)
+overflow_add-n-else-group-gt3 : tie.Need-overflow_add-n-else-group-gt3 invariant-loop-n decreases-loop-n
+overflow_add-n-else-group-gt3 c = omega (arith, c.loop-n-test.true)
 
-loop-less-2 : tie.Need-loop-smaller-2 invariant-loop decreases-loop
-loop-less-2 c = omega (arith, c.before.before.before.before.before.before.before.before.before.before.before.before.before.before.before.before.loop-test.true)
+loop-n-smaller : tie.Need-loop-n-smaller invariant-loop-n decreases-loop-n
+loop-n-smaller c = omega (arith, c.loop-n-test.true)
 
-loop-again-2 : tie.Need-loop-preserved-2 invariant-loop decreases-loop
-loop-again-2 c =
-    let t = c.before.before.before.before.before.before.before.before in
-    let l = t.before.before.before.before.before.before.before in
-    let b = l.before in
-    let i = b.before in
-    let p = i.before.before.before.before.before.before.before.before.args.plan in
-    turning_next i.loop.invariant b.loop-test.true
-    (t.turn.ensures.0 ∙ turned_as p (line_of_turn (plan_group p) (plan_halves p) p.direction i.loop.n) l.group-in-turn.result.line l.group-in-turn.ensures.first _)
-    t.turn.ensures.1 c.before.before.before.before.before.scratch2.given c.before.before.before.fold.given c.before.work2.given
+loop-n-preserved : tie.Need-loop-n-preserved invariant-loop-n decreases-loop-n
+loop-n-preserved c =
+    let p = c.args.plan in
+    turning_next c.loop-n.invariant c.loop-n-test.true
+    (c.turn.ensures.0 ∙ turned_as p (line_of_turn (plan_group p) (plan_halves p) p.direction c.loop-n.n) c.group_in_turn-group.result.line c.group_in_turn-group.ensures.first _)
+    c.turn.ensures.1 c.scratch-else-group-gt3-1.given c.fold-1.given c.work-else-group-gt3-1.given
 
-clear-requires : tie.Need-clear-requires invariant-loop decreases-loop
-clear-requires c κs = let i = c.before.before in (turning_lent i.loop.invariant i.before.before.before.before.before.before.before.before.requires.1.1.1).scratch_fits
+clear-requires : tie.Need-clear-requires invariant-loop-n decreases-loop-n
+clear-requires c κs = (turning_lent c.loop-n.invariant c.requires.1.1.1).scratch_fits
 
-same_length : tie.Need-same-length invariant-loop decreases-loop
-same_length c = let i = c.before.before.before.before.before in turning_length i.before.before.before.before.before.before.before.before.args.plan i.loop.invariant
+shape_of-volume : tie.Need-shape_of-volume invariant-loop-n decreases-loop-n
+shape_of-volume c = turning_length c.args.plan c.loop-n.invariant
 
-same-length-2 : tie.Need-same-length-2 invariant-loop decreases-loop
-same-length-2 c = c.before.scratch3.given ∙ c.before.before.before.before.before.loop.invariant.scratch_long
+shape_of-scratch : tie.Need-shape_of-scratch invariant-loop-n decreases-loop-n
+shape_of-scratch c = c.scratch-2-1.given ∙ c.loop-n.invariant.scratch_long
 
-same-length-3 : tie.Need-same-length-3 invariant-loop decreases-loop
-same-length-3 c = c.before.before.before.before.before.loop.invariant.fold_long
+shape_of-fold : tie.Need-shape_of-fold invariant-loop-n decreases-loop-n
+shape_of-fold c = c.loop-n.invariant.fold_long
 
-same-length-4 : tie.Need-same-length-4 invariant-loop decreases-loop
-same-length-4 c = c.before.before.before.before.before.loop.invariant.work_long
+shape_of-work : tie.Need-shape_of-work invariant-loop-n decreases-loop-n
+shape_of-work c = c.loop-n.invariant.work_long
 
-returns : tie.Need-returns invariant-loop decreases-loop
+returns : tie.Need-returns invariant-loop-n decreases-loop-n
 unfolding cleared
 returns c =
     let k = c.before.before in
@@ -139,32 +116,11 @@ returns c =
     let i = b.before in
     let n = i.before.before.before in
     let s = n.before.before.before.before.before in (
-      turning_done i.loop.invariant (omega (arith, b.loop-test.false)) ∙ ap (λ n. turns (plan_turn s.args.plan) 0 n s.args.volume.now) (counted_lines n.line-counts.ensures),
-      k.clear.ensures ∙ ap (λ (s : List ℕ). replicate 11520 0 ++ s) i.loop.invariant.same,
+      turning_done i.loop-n.invariant (omega (arith, b.loop-n-test.false)) ∙ ap (λ n. turns (plan_turn s.args.plan) 0 n s.args.volume.now) (counted_lines n.line_counts-counts.ensures),
+      k.clear.ensures ∙ ap (λ (s : List ℕ). replicate 11520 0 ++ s) i.loop-n.invariant.same,
     )
 
 pub turn_volume_spec : {M : Type 1} → statement M
 turn_volume_spec =
     tie.close
-    (tie.spec
-    invariant-loop
-    decreases-loop
-    line-counts-requires
-    add-count
-    add-count-2
-    loop-holds
-    group-in-turn-requires
-    turn-group-requires
-    add-n
-    loop-less
-    loop-again
-    turn-requires
-    add-n-2
-    loop-less-2
-    loop-again-2
-    clear-requires
-    same_length
-    same-length-2
-    same-length-3
-    same-length-4
-    returns)
+    (tie.spec invariant-loop-n decreases-loop-n line_counts-counts-requires overflow_add-count overflow_add-count-2 loop-n-init group_in_turn-group-requires turn_group-requires overflow_add-n loop-n-smaller-then-group-gt3 loop-n-preserved-then-group-gt3 turn-requires overflow_add-n-else-group-gt3 loop-n-smaller loop-n-preserved clear-requires shape_of-volume shape_of-scratch shape_of-fold shape_of-work returns)

@@ -8,28 +8,28 @@ use Rattle.mrc.proofs.WholeFloats.{held_within, one_less_fits, one_less_held, me
 use Rattle.mrc.proofs.file_header.headed.Statement.{statement}
 use Rattle.mrc.proofs.file_header.headed.Tie as tie
 
-float-of-requires : tie.Need-float-of-requires
-float-of-requires c κs = held_within c.args.least c.ranges.least c.requires.0
+float_of-requires : tie.Need-float_of-requires
+float_of-requires c κs = held_within c.args.least c.ranges.least c.requires.0
 
-float-of-requires-2 : tie.Need-float-of-requires-2
-float-of-requires-2 c κs = let s = c.before in held_within s.args.greatest s.ranges.greatest s.requires.1
+float_of-requires-2 : tie.Need-float_of-requires-2
+float_of-requires-2 c κs = let s = c.before in held_within s.args.greatest s.ranges.greatest s.requires.1
 
-sub-float-of : tie.Need-overflow-sub-float-of
-sub-float-of c = let s = c.before.before in one_less_fits s.args.least s.ranges.least s.requires.0
+overflow_sub-least : tie.Need-overflow_sub-least
+overflow_sub-least c = let s = c.before.before in one_less_fits s.args.least s.ranges.least s.requires.0
 
-float-of-requires-3 : tie.Need-float-of-requires-3
-float-of-requires-3 c κs = let s = c.before.before in mean_within s.args.least s.ranges.least s.requires.0
+float_of-requires-3 : tie.Need-float_of-requires-3
+float_of-requires-3 c κs = let s = c.before.before in mean_within s.args.least s.ranges.least s.requires.0
 
-float-of-requires-4 : tie.Need-float-of-requires-4
-float-of-requires-4 c κs = search rules
+float_of-requires-4 : tie.Need-float_of-requires-4
+float_of-requires-4 c κs = search rules
 
 returns : tie.Need-returns
 returns c =
     let s = c.before.before.before.before in
     let a = s.args in
     let low = c.before.before.before.float_of.ensures ∙ ap float_of (to_z-of_z w64 a.least s.ranges.least) in
-    let high = c.before.before.float-of2.ensures ∙ ap float_of (to_z-of_z w64 a.greatest s.ranges.greatest) in
-    let less = c.before.float-of3.ensures ∙ ap float_of (one_less_held a.least s.ranges.least s.requires.0) in
+    let high = c.before.before.float_of-2.ensures ∙ ap float_of (to_z-of_z w64 a.greatest s.ranges.greatest) in
+    let less = c.before.float_of-3.ensures ∙ ap float_of (one_less_held a.least s.ranges.least s.requires.0) in
     λ i. record {
       n1 = a.cell.n1;
       n2 = a.cell.n2;
@@ -43,16 +43,10 @@ returns c =
       least = low i;
       greatest = high i;
       mean = less i;
-      rms = c.float-of4.ensures i;
+      rms = c.float_of-4.ensures i;
     }
 
 pub headed_spec : {M : Type 1} → statement M
 headed_spec =
     tie.close
-    (tie.spec
-    float-of-requires
-    float-of-requires-2
-    sub-float-of
-    float-of-requires-3
-    float-of-requires-4
-    returns)
+    (tie.spec float_of-requires float_of-requires-2 overflow_sub-least float_of-requires-3 float_of-requires-4 returns)

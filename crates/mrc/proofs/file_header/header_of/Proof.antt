@@ -19,48 +19,42 @@ within c = (
   subst (λ (z : ℤ). nat_abs z ≤ exact_limit) (sym (to_z-of_z w64 c.args.greatest c.ranges.greatest)) c.requires.1,
 )
 
-enum-known-parameters : tie.Need-enum-known-parameters
-enum-known-parameters c = search rules
+enum_known-parameters : tie.Need-enum_known-parameters
+enum_known-parameters c = search rules
 
 headed-requires : tie.Need-headed-requires
-headed-requires c κs = within c.before.before.before
+headed-requires c κs = within c.before
 
-enum-known-parameters-2 : tie.Need-enum-known-parameters-2
-enum-known-parameters-2 c = search rules
+enum_known-parameters-in-Monoclinic-1 : tie.Need-enum_known-parameters-in-Monoclinic-1
+enum_known-parameters-in-Monoclinic-1 c = search rules
 
-headed-requires-2 : tie.Need-headed-requires-2
-headed-requires-2 c κs = within c.before.before.before
+headed-requires-in-Monoclinic : tie.Need-headed-requires-in-Monoclinic
+headed-requires-in-Monoclinic c κs = within c.before
 
 -- the least and the greatest as the machine hands them on
 held : (c : tie.Start) → let a = c.args in
     header_of (cell_lengths a.cell) a.parameters (to_z w64 (of_z w64 a.least)) (to_z w64 (of_z w64 a.greatest)) ≡ header_of (cell_lengths a.cell) a.parameters a.least a.greatest
 held c = let a = c.args in ap₂ (header_of (cell_lengths a.cell) a.parameters) (to_z-of_z w64 a.least c.ranges.least) (to_z-of_z w64 a.greatest c.ranges.greatest)
 
-returns : tie.Need-returns
-returns c =
+returns-in-Triclinic : tie.Need-returns-in-Triclinic
+returns-in-Triclinic c =
     let p = c.before.before in
     let s = p.before.before in
     let a = s.args in
-    c.headed.ensures ∙ ap (λ q. header_of (cell_lengths a.cell) q (to_z w64 (of_z w64 a.least)) (to_z w64 (of_z w64 a.greatest))) (sym p.parameters.given.1) ∙ held s
+    c.headed.ensures ∙ ap (λ q. header_of (cell_lengths a.cell) q (to_z w64 (of_z w64 a.least)) (to_z w64 (of_z w64 a.greatest))) (sym p.in-Triclinic.is) ∙ held s
 
-returns-2 : tie.Need-returns-2
-returns-2 c =
+returns-in-Monoclinic : tie.Need-returns-in-Monoclinic
+returns-in-Monoclinic c =
     let p = c.before.before in
     let s = p.before.before in
     let a = s.args in
-    let f = p.parameters2.given.0 in
-    c.headed2.ensures
+    let f = p.parameters-in-Monoclinic-1.given.0 in
+    c.headed-in-Monoclinic.ensures
     ∙ ap (λ (x : Float). headed (cell_lengths a.cell) f.0 f.1.0 f.1.1.0 x x f.1.1.1.0 (to_z w64 (of_z w64 a.least)) (to_z w64 (of_z w64 a.greatest))) (sym right_angle_is)
-    ∙ ap (λ q. header_of (cell_lengths a.cell) q (to_z w64 (of_z w64 a.least)) (to_z w64 (of_z w64 a.greatest))) (sym p.parameters2.given.1)
+    ∙ ap (λ q. header_of (cell_lengths a.cell) q (to_z w64 (of_z w64 a.least)) (to_z w64 (of_z w64 a.greatest))) (sym p.in-Monoclinic.is)
     ∙ held s
 
 pub header_of_spec : {M : Type 1} → statement M
 header_of_spec =
     tie.close
-    (tie.spec
-    enum-known-parameters
-    headed-requires
-    enum-known-parameters-2
-    headed-requires-2
-    returns
-    returns-2)
+    (tie.spec enum_known-parameters headed-requires enum_known-parameters-in-Monoclinic-1 headed-requires-in-Monoclinic returns-in-Triclinic returns-in-Monoclinic)

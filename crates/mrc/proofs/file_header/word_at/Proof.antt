@@ -5,17 +5,17 @@ use lib.ListN.{get_or-eq_default}
 use Rattle.mrc.proofs.file_header.word_at.Statement.{statement}
 use Rattle.mrc.proofs.file_header.word_at.Tie as tie
 
-mul-result : tie.Need-overflow-mul-result
-mul-result c = search rules
+offset_bounds-words-k : tie.Need-offset_bounds-words-k
+offset_bounds-words-k c = search rules
 
-shared-slice-read-result : tie.Need-shared-slice-read-result
-shared-slice-read-result c = search rules
+bounds-words-k : tie.Need-bounds-words-k
+bounds-words-k c = search rules
 
-returns : tie.Need-returns
-returns c = search rules
+returns-then-k-words : tie.Need-returns-then-k-words
+returns-then-k-words c = search rules
 
-returns-2 : tie.Need-returns-2
-returns-2 c = sym (get_or-eq_default c.before.args.words.now 0 c.if1.false)
+returns-else-k-words : tie.Need-returns-else-k-words
+returns-else-k-words c = sym (get_or-eq_default c.before.args.words.now 0 c.if-k-words.false)
 
 pub word_at_spec : {M : Type 1} → statement M
-word_at_spec = tie.close (tie.spec mul-result shared-slice-read-result returns returns-2)
+word_at_spec = tie.close (tie.spec offset_bounds-words-k bounds-words-k returns-then-k-words returns-else-k-words)

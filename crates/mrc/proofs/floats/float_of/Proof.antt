@@ -10,11 +10,11 @@ use Rattle.mrc.proofs.WholeFloats.{in_float_lem}
 use Rattle.mrc.proofs.floats.float_of.Statement.{statement}
 use Rattle.mrc.proofs.floats.float_of.Tie as tie
 
-int-to-float-result : tie.Need-int-to-float-result
-int-to-float-result c = subst (λ (z : ℤ). T (in_float binary32 z)) (sym (to_z-of_z w64 c.before.args.n c.before.ranges.n)) (in_float_lem c.before.args.n c.before.requires)
+int_to_float-result : tie.Need-int_to_float-result
+int_to_float-result c = subst (λ (z : ℤ). T (in_float binary32 z)) (sym (to_z-of_z w64 c.before.args.n c.before.ranges.n)) (in_float_lem c.before.args.n c.before.requires)
 
 returns : tie.Need-returns
 returns c = search rules
 
 pub float_of_spec : {M : Type 1} → statement M
-float_of_spec = tie.close (tie.spec int-to-float-result returns)
+float_of_spec = tie.close (tie.spec int_to_float-result returns)

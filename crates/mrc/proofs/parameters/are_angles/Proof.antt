@@ -5,19 +5,19 @@ use Rattle.mrc.specs.Parameters.{are_angles}
 use Rattle.mrc.proofs.parameters.are_angles.Statement.{statement}
 use Rattle.mrc.proofs.parameters.are_angles.Tie as tie
 
-is-angle-requires : tie.Need-is-angle-requires
-is-angle-requires c κs = search rules
+is_angle-requires : tie.Need-is_angle-requires
+is_angle-requires c κs = search rules
 
-is-angle-requires-2 : tie.Need-is-angle-requires-2
-is-angle-requires-2 c κs = search rules
+is_angle-requires-2 : tie.Need-is_angle-requires-2
+is_angle-requires-2 c κs = search rules
 
-is-angle-requires-3 : tie.Need-is-angle-requires-3
-is-angle-requires-3 c κs = search rules
+is_angle-requires-3 : tie.Need-is_angle-requires-3
+is_angle-requires-3 c κs = search rules
 
 returns : tie.Need-returns
 unfolding are_angles
-returns c = three c.before.before.is-angle.ensures c.before.is-angle2.ensures c.is-angle3.ensures
+returns c = three c.before.before.is_angle.ensures c.before.is_angle-2.ensures c.is_angle-3.ensures
 
 pub are_angles_spec : {M : Type 1} → statement M
 are_angles_spec =
-    tie.close (tie.spec is-angle-requires is-angle-requires-2 is-angle-requires-3 returns)
+    tie.close (tie.spec is_angle-requires is_angle-requires-2 is_angle-requires-3 returns)

@@ -3,11 +3,11 @@ use Rattle.mrc.proofs.EdgesAngles.{between_ends}
 use Rattle.mrc.proofs.parameters.is_angle.Statement.{statement}
 use Rattle.mrc.proofs.parameters.is_angle.Tie as tie
 
-returns : tie.Need-returns
-returns c = between_ends c.before.args.x _ c.if1.true
+returns-then-x : tie.Need-returns-then-x
+returns-then-x c = between_ends c.before.args.x _ c.if-x.true
 
-returns-2 : tie.Need-returns-2
-returns-2 c = between_ends c.before.args.x _ c.if1.false
+returns-else-x : tie.Need-returns-else-x
+returns-else-x c = between_ends c.before.args.x _ c.if-x.false
 
 pub is_angle_spec : {M : Type 1} → statement M
-is_angle_spec = tie.close (tie.spec returns returns-2)
+is_angle_spec = tie.close (tie.spec returns-then-x returns-else-x)

@@ -4,15 +4,15 @@ use Rattle.mrc.proofs.EdgesAngles.{below_infinity, not_above}
 use Rattle.mrc.proofs.parameters.is_edge.Statement.{statement}
 use Rattle.mrc.proofs.parameters.is_edge.Tie as tie
 
-float-from-bits-result : tie.Need-float-from-bits-result
+float_from_bits-result : tie.Need-float_from_bits-result
 unfolding nan_bits
-float-from-bits-result c = tt
+float_from_bits-result c = tt
 
-returns : tie.Need-returns
-returns c = below_infinity c.before.args.x c.if1.true
+returns-then-x : tie.Need-returns-then-x
+returns-then-x c = below_infinity c.before.args.x c.if-x.true
 
-returns-2 : tie.Need-returns-2
-returns-2 c = not_above c.before.args.x c.if1.false
+returns-else-x : tie.Need-returns-else-x
+returns-else-x c = not_above c.before.args.x c.if-x.false
 
 pub is_edge_spec : {M : Type 1} → statement M
-is_edge_spec = tie.close (tie.spec float-from-bits-result returns returns-2)
+is_edge_spec = tie.close (tie.spec float_from_bits-result returns-then-x returns-else-x)

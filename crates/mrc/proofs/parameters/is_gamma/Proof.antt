@@ -11,20 +11,20 @@ use Rattle.mrc.proofs.EdgesAngles.{right_angle_is}
 use Rattle.mrc.proofs.parameters.is_gamma.Statement.{statement}
 use Rattle.mrc.proofs.parameters.is_gamma.Tie as tie
 
-is-angle-requires : tie.Need-is-angle-requires
-is-angle-requires c κs = search rules
+is_angle-requires : tie.Need-is_angle-requires
+is_angle-requires c κs = search rules
 
-returns : tie.Need-returns
+returns-then-group-eq4 : tie.Need-returns-then-group-eq4
 unfolding is_gamma
-returns c =
+returns-then-group-eq4 c =
     let x = c.before.args.x in
-    ap (eq x) (sym right_angle_is) ∙ ap (λ (b : Bool). cond b (eq x (float_of (pos 90))) (is_angle x)) (sym (eq-eqb c.before.args.group 4 c.if1.true))
+    ap (eq x) (sym right_angle_is) ∙ ap (λ (b : Bool). cond b (eq x (float_of (pos 90))) (is_angle x)) (sym (eq-eqb c.before.args.group 4 c.if-group-eq4.true))
 
-returns-2 : tie.Need-returns-2
+returns-else-group-eq4 : tie.Need-returns-else-group-eq4
 unfolding is_gamma
-returns-2 c =
+returns-else-group-eq4 c =
     let s = c.before.before in
-    c.is-angle.ensures ∙ ap (λ (b : Bool). cond b (eq s.args.x (float_of (pos 90))) (is_angle s.args.x)) (sym (ne_eqb s.args.group 4 c.before.if1.false))
+    c.is_angle.ensures ∙ ap (λ (b : Bool). cond b (eq s.args.x (float_of (pos 90))) (is_angle s.args.x)) (sym (ne_eqb s.args.group 4 c.before.if-group-eq4.false))
 
 pub is_gamma_spec : {M : Type 1} → statement M
-is_gamma_spec = tie.close (tie.spec is-angle-requires returns returns-2)
+is_gamma_spec = tie.close (tie.spec is_angle-requires returns-then-group-eq4 returns-else-group-eq4)

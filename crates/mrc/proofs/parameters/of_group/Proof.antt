@@ -8,47 +8,35 @@ use Rattle.mrc.specs.Parameters.{of_group}
 use Rattle.mrc.proofs.parameters.of_group.Statement.{statement}
 use Rattle.mrc.proofs.parameters.of_group.Tie as tie
 
-enum-known-parameters : tie.Need-enum-known-parameters
-enum-known-parameters c = search rules
+enum_known-parameters : tie.Need-enum_known-parameters
+enum_known-parameters c = search rules
 
-are-edges-requires : tie.Need-are-edges-requires
-are-edges-requires c κs = search rules
+are_edges-requires : tie.Need-are_edges-requires
+are_edges-requires c κs = search rules
 
-are-angles-requires : tie.Need-are-angles-requires
-are-angles-requires c κs = search rules
+are_angles-requires : tie.Need-are_angles-requires
+are_angles-requires c κs = search rules
 
-enum-known-parameters-2 : tie.Need-enum-known-parameters-2
-enum-known-parameters-2 c = search rules
+enum_known-parameters-in-Monoclinic-1 : tie.Need-enum_known-parameters-in-Monoclinic-1
+enum_known-parameters-in-Monoclinic-1 c = search rules
 
-are-edges-requires-2 : tie.Need-are-edges-requires-2
-are-edges-requires-2 c κs = search rules
+are_edges-requires-in-Monoclinic : tie.Need-are_edges-requires-in-Monoclinic
+are_edges-requires-in-Monoclinic c κs = search rules
 
-is-gamma-requires : tie.Need-is-gamma-requires
-is-gamma-requires c κs = search rules
+is_gamma-requires : tie.Need-is_gamma-requires
+is_gamma-requires c κs = search rules
 
-returns : tie.Need-returns
+returns-in-Triclinic : tie.Need-returns-in-Triclinic
 unfolding of_group
-returns c =
-    let p = c.before.before.before in
-    let s = p.before.before in
-    three {r = eqb s.args.group 0} refl c.before.are-edges.ensures c.are-angles.ensures ∙ ap (of_group s.args.group) (sym p.parameters.given.1)
+returns-in-Triclinic c =
+    three {r = eqb c.args.group 0} refl c.are_edges.ensures c.are_angles.ensures ∙ ap (of_group c.args.group) (sym c.in-Triclinic.is)
 
-returns-2 : tie.Need-returns-2
+returns-in-Monoclinic : tie.Need-returns-in-Monoclinic
 unfolding of_group
-returns-2 c =
-    let p = c.before.before.before in
-    let s = p.before.before in
-    three {r = not (eqb s.args.group 0)} refl c.before.are-edges2.ensures c.is-gamma.ensures ∙ ap (of_group s.args.group) (sym p.parameters2.given.1)
+returns-in-Monoclinic c =
+    three {r = not (eqb c.args.group 0)} refl c.are_edges-in-Monoclinic.ensures c.is_gamma.ensures ∙ ap (of_group c.args.group) (sym c.in-Monoclinic.is)
 
 pub of_group_spec : {M : Type 1} → statement M
 of_group_spec =
     tie.close
-    (tie.spec
-    enum-known-parameters
-    are-edges-requires
-    are-angles-requires
-    enum-known-parameters-2
-    are-edges-requires-2
-    is-gamma-requires
-    returns
-    returns-2)
+    (tie.spec enum_known-parameters are_edges-requires are_angles-requires enum_known-parameters-in-Monoclinic-1 are_edges-requires-in-Monoclinic is_gamma-requires returns-in-Triclinic returns-in-Monoclinic)

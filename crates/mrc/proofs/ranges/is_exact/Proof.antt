@@ -22,8 +22,8 @@ returns c =
     let m = c.before.before in
     let a = m.before.before.args in
     ap₂ (λ (x y : ℕ). leb x exact_limit && leb y exact_limit)
-    (m.magnitude.ensures ∙ ap nat_abs (to_z-of_z w64 a.range.least (record { sfits = m.before.struct_told.given.0.1 })))
-    (c.magnitude2.ensures ∙ ap nat_abs (to_z-of_z w64 a.range.greatest (record { sfits = c.before.struct-told2.given.1.0.1 })))
+    (m.magnitude.ensures ∙ ap nat_abs (to_z-of_z w64 a.range.least (record { sfits = m.before.struct_told-1.given.0.1 })))
+    (c.magnitude-2.ensures ∙ ap nat_abs (to_z-of_z w64 a.range.greatest (record { sfits = c.before.struct_told-2-1.given.1.0.1 })))
 
 pub is_exact_spec : {M : Type 1} → statement M
 is_exact_spec = tie.close (tie.spec magnitude-requires magnitude-requires-2 returns)

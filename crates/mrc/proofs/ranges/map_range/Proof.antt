@@ -13,71 +13,54 @@ use Rattle.mrc.proofs.ranges.map_range.Tie as tie
 abbrev plane : UnitCell → List ℤ → (ℤ → ℤ → ℤ) → (z : ℕ) → ℤ
 plane cell map pick z = of_plane cell map z pick
 
-abbrev invariant-loop : tie.invariant-loop
-invariant-loop cell map planes range₀ z₀ range z = (1 ≤ z) × (z ≤ planes) × Spans range (λ pick. among pick z (plane cell map pick))
+abbrev invariant-loop-z : tie.invariant-loop-z
+invariant-loop-z cell map planes range₀ z₀ range z = (1 ≤ z) × (z ≤ planes) × Spans range (λ pick. among pick z (plane cell map pick))
 
-abbrev decreases-loop : tie.decreases-loop
-decreases-loop cell map planes range₀ z₀ range z = planes - z
+abbrev decreases-loop-z : tie.decreases-loop-z
+decreases-loop-z cell map planes range₀ z₀ range z = planes - z
 
-layer-count-requires : tie.Need-layer-count-requires invariant-loop decreases-loop
-layer-count-requires c κs = tt
+layer_count-planes-requires : tie.Need-layer_count-planes-requires invariant-loop-z decreases-loop-z
+layer_count-planes-requires c κs = tt
 
-plane-range-requires : tie.Need-plane-range-requires invariant-loop decreases-loop
-plane-range-requires c κs = let s = c.before in let p = s.requires in (p.0, p.1, some_plane s.args.cell s.args.map.now p.0)
+plane_range-range-requires : tie.Need-plane_range-range-requires invariant-loop-z decreases-loop-z
+plane_range-range-requires c κs = let p = c.requires in (p.0, p.1, some_plane c.args.cell c.args.map.now p.0)
 
-loop-holds : tie.Need-loop-init invariant-loop decreases-loop
-loop-holds c =
-    let s = c.before.before in
-    let a = s.args in (
+loop-z-init : tie.Need-loop-z-init invariant-loop-z decreases-loop-z
+loop-z-init c =
+    let a = c.args in (
       omega arith,
-      subst (λ (n : ℕ). 1 ≤ n) (sym c.before.layer-count.ensures) (some_plane a.cell a.map.now s.requires.0),
-      spans_first (plane a.cell a.map.now) c.plane_range.ensures,
+      subst (λ (n : ℕ). 1 ≤ n) (sym c.layer_count-planes.ensures) (some_plane a.cell a.map.now c.requires.0),
+      spans_first (plane a.cell a.map.now) c.plane_range-range.ensures,
     )
 
-plane-range-requires-2 : tie.Need-plane-range-requires-2 invariant-loop decreases-loop
-plane-range-requires-2 c κs =
-    let l = c.before in
-    let k = l.before.before in
-    let p = k.before.requires in
-    (p.0, p.1, subst (λ (n : ℕ). l.loop.z < n) k.layer-count.ensures c.loop-test.true)
+plane_range-requires : tie.Need-plane_range-requires invariant-loop-z decreases-loop-z
+plane_range-requires c κs =
+    let p = c.requires in
+    (p.0, p.1, subst (λ (n : ℕ). c.loop-z.z < n) c.layer_count-planes.ensures c.loop-z-test.true)
 
-range-of-both-requires : tie.Need-range-of-both-requires invariant-loop decreases-loop
-range-of-both-requires c κs = tt
+range_of_both-range-requires : tie.Need-range_of_both-range-requires invariant-loop-z decreases-loop-z
+range_of_both-range-requires c κs = tt
 
-add-z : tie.Need-overflow-add-z invariant-loop decreases-loop
-add-z c = omega arith
+overflow_add-z : tie.Need-overflow_add-z invariant-loop-z decreases-loop-z
+overflow_add-z c = omega arith
 
-loop-less : tie.Need-loop-smaller invariant-loop decreases-loop
-loop-less c = omega arith
+loop-z-smaller : tie.Need-loop-z-smaller invariant-loop-z decreases-loop-z
+loop-z-smaller c = omega arith
 
-loop-again : tie.Need-loop-preserved invariant-loop decreases-loop
-loop-again c =
-    let l = c.before.before.before in
-    let a = l.before.before.before.args in
-    (omega arith, omega arith, spans_next l.loop.z (plane a.cell a.map.now) l.loop.invariant.2 c.before.plane-range2.ensures c.range-of-both.ensures)
+loop-z-preserved : tie.Need-loop-z-preserved invariant-loop-z decreases-loop-z
+loop-z-preserved c =
+    let a = c.args in
+    (omega arith, omega arith, spans_next c.loop-z.z (plane a.cell a.map.now) c.loop-z.invariant.2 c.plane_range.ensures c.range_of_both-range.ensures)
 
-returns : tie.Need-returns invariant-loop decreases-loop
+returns : tie.Need-returns invariant-loop-z decreases-loop-z
 unfolding of_stored
 returns c =
-    let l = c.before in
-    let k = l.before.before in
-    let a = k.before.args in
-    let few = subst (λ (n : ℕ). l.loop.z ≤ n) k.layer-count.ensures l.loop.invariant.1 in
-    let all = subst (λ (n : ℕ). n ≤ l.loop.z) k.layer-count.ensures c.loop-test.false in
-    spans_all (plane a.cell a.map.now) few all l.loop.invariant.2
+    let a = c.args in
+    let few = subst (λ (n : ℕ). c.loop-z.z ≤ n) c.layer_count-planes.ensures c.loop-z.invariant.1 in
+    let all = subst (λ (n : ℕ). n ≤ c.loop-z.z) c.layer_count-planes.ensures c.loop-z-test.false in
+    spans_all (plane a.cell a.map.now) few all c.loop-z.invariant.2
 
 pub map_range_spec : {M : Type 1} → statement M
 map_range_spec =
     tie.close
-    (tie.spec
-    invariant-loop
-    decreases-loop
-    layer-count-requires
-    plane-range-requires
-    loop-holds
-    plane-range-requires-2
-    range-of-both-requires
-    add-z
-    loop-less
-    loop-again
-    returns)
+    (tie.spec invariant-loop-z decreases-loop-z layer_count-planes-requires plane_range-range-requires loop-z-init plane_range-requires range_of_both-range-requires overflow_add-z loop-z-smaller loop-z-preserved returns)

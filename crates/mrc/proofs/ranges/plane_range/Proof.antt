@@ -12,56 +12,43 @@ use Rattle.mrc.proofs.ranges.plane_range.Tie as tie
 abbrev row : UnitCell → List ℤ → (z : ℕ) → (ℤ → ℤ → ℤ) → (x : ℕ) → ℤ
 row cell map z pick x = of_row cell map z x pick
 
-abbrev invariant-loop : tie.invariant-loop
-invariant-loop cell map z n1 range₀ x₀ range x = (1 ≤ x) × (x ≤ n1) × Spans range (λ pick. among pick x (row cell map z pick))
+abbrev invariant-loop-x : tie.invariant-loop-x
+invariant-loop-x cell map z n1 range₀ x₀ range x = (1 ≤ x) × (x ≤ n1) × Spans range (λ pick. among pick x (row cell map z pick))
 
-abbrev decreases-loop : tie.decreases-loop
-decreases-loop cell map z n1 range₀ x₀ range x = n1 - x
+abbrev decreases-loop-x : tie.decreases-loop-x
+decreases-loop-x cell map z n1 range₀ x₀ range x = n1 - x
 
-stored-row-requires : tie.Need-stored-row-requires invariant-loop decreases-loop
-stored-row-requires c κs = let p = c.requires in (p.0, p.1, p.2, omega (arith, p.0.first.low))
+stored_row-range-requires : tie.Need-stored_row-range-requires invariant-loop-x decreases-loop-x
+stored_row-range-requires c κs = let p = c.requires in (p.0, p.1, p.2, omega (arith, p.0.first.low))
 
-loop-holds : tie.Need-loop-init invariant-loop decreases-loop
-loop-holds c =
-    let s = c.before in
-    let a = s.args in
-    (omega arith, omega (arith, s.requires.0.first.low), spans_first (row a.cell a.map.now a.z) c.Stored-row.ensures)
+loop-x-init : tie.Need-loop-x-init invariant-loop-x decreases-loop-x
+loop-x-init c =
+    let a = c.args in
+    (omega arith, omega (arith, c.requires.0.first.low), spans_first (row a.cell a.map.now a.z) c.Stored-row.ensures)
 
-stored-row-requires-2 : tie.Need-stored-row-requires-2 invariant-loop decreases-loop
-stored-row-requires-2 c κs = let p = c.before.before.before.requires in (p.0, p.1, p.2, c.loop-test.true)
+stored_row-requires : tie.Need-stored_row-requires invariant-loop-x decreases-loop-x
+stored_row-requires c κs = let p = c.requires in (p.0, p.1, p.2, c.loop-x-test.true)
 
-range-of-both-requires : tie.Need-range-of-both-requires invariant-loop decreases-loop
-range-of-both-requires c κs = tt
+range_of_both-range-requires : tie.Need-range_of_both-range-requires invariant-loop-x decreases-loop-x
+range_of_both-range-requires c κs = tt
 
-add-x : tie.Need-overflow-add-x invariant-loop decreases-loop
-add-x c = omega arith
+overflow_add-x : tie.Need-overflow_add-x invariant-loop-x decreases-loop-x
+overflow_add-x c = omega arith
 
-loop-less : tie.Need-loop-smaller invariant-loop decreases-loop
-loop-less c = omega arith
+loop-x-smaller : tie.Need-loop-x-smaller invariant-loop-x decreases-loop-x
+loop-x-smaller c = omega arith
 
-loop-again : tie.Need-loop-preserved invariant-loop decreases-loop
-loop-again c =
-    let l = c.before.before.before in
-    let a = l.before.before.args in
-    (omega arith, omega arith, spans_next l.loop.x (row a.cell a.map.now a.z) l.loop.invariant.2 c.before.stored-row2.ensures c.range-of-both.ensures)
+loop-x-preserved : tie.Need-loop-x-preserved invariant-loop-x decreases-loop-x
+loop-x-preserved c =
+    let a = c.args in
+    (omega arith, omega arith, spans_next c.loop-x.x (row a.cell a.map.now a.z) c.loop-x.invariant.2 c.stored_row.ensures c.range_of_both-range.ensures)
 
-returns : tie.Need-returns invariant-loop decreases-loop
+returns : tie.Need-returns invariant-loop-x decreases-loop-x
 returns c =
-    let l = c.before in
-    let a = l.before.before.args in
-    spans_all (row a.cell a.map.now a.z) l.loop.invariant.1 c.loop-test.false l.loop.invariant.2
+    let a = c.args in
+    spans_all (row a.cell a.map.now a.z) c.loop-x.invariant.1 c.loop-x-test.false c.loop-x.invariant.2
 
 pub plane_range_spec : {M : Type 1} → statement M
 plane_range_spec =
     tie.close
-    (tie.spec
-    invariant-loop
-    decreases-loop
-    stored-row-requires
-    loop-holds
-    stored-row-requires-2
-    range-of-both-requires
-    add-x
-    loop-less
-    loop-again
-    returns)
+    (tie.spec invariant-loop-x decreases-loop-x stored_row-range-requires loop-x-init stored_row-requires range_of_both-range-requires overflow_add-x loop-x-smaller loop-x-preserved returns)

@@ -12,81 +12,63 @@ use Rattle.mrc.proofs.ranges.row_range.Tie as tie
 abbrev number : List ℤ → ℕ → (ℤ → ℤ → ℤ) → ℕ → ℤ
 number map start pick y = get_or map (start + y) (pos 0)
 
-abbrev invariant-loop : tie.invariant-loop
-invariant-loop map start n range₀ y₀ range y = (1 ≤ y) × (y ≤ n) × Spans range (λ pick. among pick y (number map start pick))
+abbrev invariant-loop-y : tie.invariant-loop-y
+invariant-loop-y map start n range₀ y₀ range y = (1 ≤ y) × (y ≤ n) × Spans range (λ pick. among pick y (number map start pick))
 
-abbrev decreases-loop : tie.decreases-loop
-decreases-loop map start n range₀ y₀ range y = n - y
+abbrev decreases-loop-y : tie.decreases-loop-y
+decreases-loop-y map start n range₀ y₀ range y = n - y
 
-mul-single : tie.Need-overflow-mul-single invariant-loop decreases-loop
-mul-single c = omega arith
+offset_bounds-map-start : tie.Need-offset_bounds-map-start invariant-loop-y decreases-loop-y
+offset_bounds-map-start c = omega arith
 
-shared-slice-copy-out-single : tie.Need-shared-slice-copy-out-single invariant-loop decreases-loop
-shared-slice-copy-out-single c = omega arith
+bounds-map-start : tie.Need-bounds-map-start invariant-loop-y decreases-loop-y
+bounds-map-start c = omega arith
 
-single-requires : tie.Need-single-requires invariant-loop decreases-loop
+single-range-requires : tie.Need-single-range-requires invariant-loop-y decreases-loop-y
+single-range-requires c κs = tt
+
+loop-y-init : tie.Need-loop-y-init invariant-loop-y decreases-loop-y
+loop-y-init c =
+    let a = c.args in
+    (omega arith, omega arith, spans_first (number a.map.now a.start) (spans_single a.map.now a.start (a.start + 0) (omega arith) c.single-arg-1.given c.single-range.ensures))
+
+overflow_add-start : tie.Need-overflow_add-start invariant-loop-y decreases-loop-y
+overflow_add-start c = omega arith
+
+offset_bounds-map-start-in-loop-y : tie.Need-offset_bounds-map-start-in-loop-y invariant-loop-y decreases-loop-y
+offset_bounds-map-start-in-loop-y c = omega arith
+
+bounds-map-start-in-loop-y : tie.Need-bounds-map-start-in-loop-y invariant-loop-y decreases-loop-y
+bounds-map-start-in-loop-y c = omega arith
+
+single-requires : tie.Need-single-requires invariant-loop-y decreases-loop-y
 single-requires c κs = tt
 
-loop-holds : tie.Need-loop-init invariant-loop decreases-loop
-loop-holds c =
-    let s = c.before.before in
-    let a = s.args in
-    (omega arith, omega arith, spans_first (number a.map.now a.start) (spans_single a.map.now a.start (a.start + 0) (omega arith) c.before.single-arg.given c.single.ensures))
+range_of_both-range-requires : tie.Need-range_of_both-range-requires invariant-loop-y decreases-loop-y
+range_of_both-range-requires c κs = tt
 
-add-single : tie.Need-overflow-add-single invariant-loop decreases-loop
-add-single c = omega arith
+overflow_add-y : tie.Need-overflow_add-y invariant-loop-y decreases-loop-y
+overflow_add-y c = omega arith
 
-mul-single-2 : tie.Need-overflow-mul-single-2 invariant-loop decreases-loop
-mul-single-2 c = omega arith
+loop-y-smaller : tie.Need-loop-y-smaller invariant-loop-y decreases-loop-y
+loop-y-smaller c = omega arith
 
-shared-slice-copy-out-single-2 : tie.Need-shared-slice-copy-out-single-2 invariant-loop decreases-loop
-shared-slice-copy-out-single-2 c = omega arith
-
-single-requires-2 : tie.Need-single-requires-2 invariant-loop decreases-loop
-single-requires-2 c κs = tt
-
-range-of-both-requires : tie.Need-range-of-both-requires invariant-loop decreases-loop
-range-of-both-requires c κs = tt
-
-add-y : tie.Need-overflow-add-y invariant-loop decreases-loop
-add-y c = omega arith
-
-loop-less : tie.Need-loop-smaller invariant-loop decreases-loop
-loop-less c = omega arith
-
-loop-again : tie.Need-loop-preserved invariant-loop decreases-loop
-loop-again c =
-    let l = c.before.before.before.before in
-    let a = l.before.before.before.args in
-    let y = l.loop.y in (
+loop-y-preserved : tie.Need-loop-y-preserved invariant-loop-y decreases-loop-y
+loop-y-preserved c =
+    let a = c.args in
+    let y = c.loop-y.y in (
       omega arith,
       omega arith,
-      spans_next y (number a.map.now a.start) l.loop.invariant.2
-          (spans_single a.map.now (a.start + y) (a.start + y) (omega arith) c.before.before.single-arg2.given c.before.single2.ensures) c.range-of-both.ensures,
+      spans_next y (number a.map.now a.start) c.loop-y.invariant.2
+          (spans_single a.map.now (a.start + y) (a.start + y) (omega arith) c.single-arg-in-loop-y-1.given c.single.ensures) c.range_of_both-range.ensures,
     )
 
-returns : tie.Need-returns invariant-loop decreases-loop
+returns : tie.Need-returns invariant-loop-y decreases-loop-y
 returns c =
-    let l = c.before in
-    let a = l.before.before.before.args in
-    spans_all (number a.map.now a.start) l.loop.invariant.1 c.loop-test.false l.loop.invariant.2
+    let a = c.args in
+    spans_all (number a.map.now a.start) c.loop-y.invariant.1 c.loop-y-test.false c.loop-y.invariant.2
 
 pub row_range_spec : {M : Type 1} → statement M
 row_range_spec =
     tie.close
-    (tie.spec
-    invariant-loop
-    decreases-loop
-    mul-single
-    shared-slice-copy-out-single
-    single-requires
-    loop-holds
-    add-single
-    mul-single-2
-    shared-slice-copy-out-single-2
-    single-requires-2
-    range-of-both-requires
-    add-y
-    loop-less
-    loop-again
-    returns)
+    (tie.spec invariant-loop-y decreases-loop-y offset_bounds-map-start bounds-map-start single-range-requires loop-y-init overflow_add-start offset_bounds-map-start-in-loop-y bounds-map-start-in-loop-y single-requires range_of_both-range-requires overflow_add-y loop-y-smaller loop-y-preserved returns)

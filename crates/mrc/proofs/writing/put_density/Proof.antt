@@ -11,22 +11,22 @@ use Rattle.mrc.proofs.writing.put_density.Statement.{statement}
 use Rattle.mrc.proofs.writing.put_density.Tie as tie
 
 -- the bytes as they are written
-bytes : (c : tie.After-float-bits) → little_endian 4 c.float-bits.result ≡ density_bytes c.before.before.before.args.n
+bytes : (c : tie.After-float_bits) → little_endian 4 c.float_bits.result ≡ density_bytes c.before.before.before.args.n
 bytes c =
     let s = c.before.before.before in
-    ap (little_endian 4) (c.float-bits.ensures ∙ ap (λ z. bits (float_of z)) (to_z-of_z w64 s.args.n s.ranges.n))
+    ap (little_endian 4) (c.float_bits.ensures ∙ ap (λ z. bits (float_of z)) (to_z-of_z w64 s.args.n s.ranges.n))
 
-float-bits-requires : tie.Need-float-bits-requires
-float-bits-requires c κs = search rules
+float_bits-requires : tie.Need-float_bits-requires
+float_bits-requires c κs = search rules
 
-put-four-requires : tie.Need-put-four-requires
-put-four-requires c κs = ends_as c.before.before.before.requires.1 (sym (bytes c))
+put_four-requires : tie.Need-put_four-requires
+put_four-requires c κs = ends_as c.before.before.before.requires.1 (sym (bytes c))
 
-same_length : tie.Need-same-length
-same_length c = search rules
+shape_of-out : tie.Need-shape_of-out
+shape_of-out c = search rules
 
 returns : tie.Need-returns
 returns c = let w = c.before.before in wrote_as w.put_four.ensures (bytes w.before)
 
 pub put_density_spec : {M : Type 1} → statement M
-put_density_spec = tie.close (tie.spec float-bits-requires put-four-requires same_length returns)
+put_density_spec = tie.close (tie.spec float_bits-requires put_four-requires shape_of-out returns)

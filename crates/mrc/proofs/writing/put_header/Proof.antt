@@ -15,69 +15,57 @@ use Rattle.mrc.proofs.writing.put_header.Tie as tie
 abbrev word : List ℕ → ℕ → List ℕ
 word words k = little_endian 4 (get_or words k 0)
 
-abbrev invariant-loop : tie.invariant-loop
-invariant-loop out₀ at words place₀ k₀ out place k = (k ≤ 256) × Wrote at (each k (word words)) out₀ place out
+abbrev invariant-loop-k : tie.invariant-loop-k
+invariant-loop-k out₀ at words place₀ k₀ out place k = (k ≤ 256) × Wrote at (each k (word words)) out₀ place out
 
-abbrev decreases-loop : tie.decreases-loop
-decreases-loop out₀ at words place₀ k₀ out place k = 256 - k
+abbrev decreases-loop-k : tie.decreases-loop-k
+decreases-loop-k out₀ at words place₀ k₀ out place k = 256 - k
 
-header-words-requires : tie.Need-header-words-requires invariant-loop decreases-loop
-header-words-requires c κs = c.before.requires.0
+header_words-words-requires : tie.Need-header_words-words-requires invariant-loop-k decreases-loop-k
+header_words-words-requires c κs = c.before.requires.0
 
 -- the bytes of the header's words
-are-bytes : (c : tie.After-header-words invariant-loop decreases-loop) → each 256 (word c.header-words.result) ≡ header_bytes c.before.before.args.header
+are-bytes : (c : tie.After-header_words-words invariant-loop-k decreases-loop-k) → each 256 (word c.header_words-words.result) ≡ header_bytes c.before.before.args.header
 unfolding header_bytes
-are-bytes c = ap (λ (w : List ℕ). each 256 (word w)) c.header-words.ensures
+are-bytes c = ap (λ (w : List ℕ). each 256 (word w)) c.header_words-words.ensures
 
-loop-holds : tie.Need-loop-init invariant-loop decreases-loop
-loop-holds c = (omega arith, each_none _ _ _)
+loop-k-init : tie.Need-loop-k-init invariant-loop-k decreases-loop-k
+loop-k-init c = (omega arith, each_none _ _ _)
 
-slice-aggregate-word-at : tie.Need-slice-aggregate-word-at invariant-loop decreases-loop
-slice-aggregate-word-at c = search rules
+slice_bounds-word_at-end : tie.Need-slice_bounds-word_at-end invariant-loop-k decreases-loop-k
+slice_bounds-word_at-end c = search rules
 
-word-at-requires : tie.Need-word-at-requires invariant-loop decreases-loop
-word-at-requires c κs = tt
+word_at-requires : tie.Need-word_at-requires invariant-loop-k decreases-loop-k
+word_at-requires c κs = tt
 
-put-four-requires : tie.Need-put-four-requires invariant-loop decreases-loop
-put-four-requires c κs =
+put_four-place-requires : tie.Need-put_four-place-requires invariant-loop-k decreases-loop-k
+put_four-place-requires c κs =
     let l = c.before.before.before.before in
     let h = l.before in
-    ends_as (each_ends (word h.header-words.result) (ends_as h.before.before.requires.1 (sym (are-bytes h))) c.before.before.before.loop-test.true l.loop.invariant.1) (ap (little_endian 4) (sym c.word_at.ensures))
+    ends_as (each_ends (word h.header_words-words.result) (ends_as h.before.before.requires.1 (sym (are-bytes h))) c.before.before.before.loop-k-test.true l.loop-k.invariant.1) (ap (little_endian 4) (sym c.word_at.ensures))
 
-add-k : tie.Need-overflow-add-k invariant-loop decreases-loop
-add-k c = omega arith
+overflow_add-k : tie.Need-overflow_add-k invariant-loop-k decreases-loop-k
+overflow_add-k c = omega arith
 
-loop-less : tie.Need-loop-smaller invariant-loop decreases-loop
-loop-less c = omega arith
+loop-k-smaller : tie.Need-loop-k-smaller invariant-loop-k decreases-loop-k
+loop-k-smaller c = omega arith
 
-loop-again : tie.Need-loop-preserved invariant-loop decreases-loop
-loop-again c =
+loop-k-preserved : tie.Need-loop-k-preserved invariant-loop-k decreases-loop-k
+loop-k-preserved c =
     let d = c.before.before in
     let l = d.before.before.before.before.before in
-    (omega arith, each_next (word l.before.header-words.result) l.loop.invariant.1 (wrote_as d.put_four.ensures (ap (little_endian 4) d.before.word_at.ensures)))
+    (omega arith, each_next (word l.before.header_words-words.result) l.loop-k.invariant.1 (wrote_as d.put_four-place.ensures (ap (little_endian 4) d.before.word_at.ensures)))
 
-same_length : tie.Need-same-length invariant-loop decreases-loop
-same_length c = wrote_length c.before.loop.invariant.1
+shape_of-out : tie.Need-shape_of-out invariant-loop-k decreases-loop-k
+shape_of-out c = wrote_length c.before.loop-k.invariant.1
 
-returns : tie.Need-returns invariant-loop decreases-loop
+returns : tie.Need-returns invariant-loop-k decreases-loop-k
 returns c =
     let l = c.before in
     let h = l.before in
-    wrote_as (each_done (word h.header-words.result) l.loop.invariant.0 c.loop-test.false l.loop.invariant.1) (are-bytes h)
+    wrote_as (each_done (word h.header_words-words.result) l.loop-k.invariant.0 c.loop-k-test.false l.loop-k.invariant.1) (are-bytes h)
 
 pub put_header_spec : {M : Type 1} → statement M
 put_header_spec =
     tie.close
-    (tie.spec
-    invariant-loop
-    decreases-loop
-    header-words-requires
-    loop-holds
-    slice-aggregate-word-at
-    word-at-requires
-    put-four-requires
-    add-k
-    loop-less
-    loop-again
-    same_length
-    returns)
+    (tie.spec invariant-loop-k decreases-loop-k header_words-words-requires loop-k-init slice_bounds-word_at-end word_at-requires put_four-place-requires overflow_add-k loop-k-smaller loop-k-preserved shape_of-out returns)

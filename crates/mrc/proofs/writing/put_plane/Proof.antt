@@ -8,55 +8,41 @@ use Rattle.mrc.specs.Mrc.{row_bytes}
 use Rattle.mrc.proofs.writing.put_plane.Statement.{statement}
 use Rattle.mrc.proofs.writing.put_plane.Tie as tie
 
-abbrev invariant-loop : tie.invariant-loop
-invariant-loop out₀ at cell map z n2 place₀ y₀ out place y = (y ≤ n2) × Wrote at (each y (row_bytes cell map z)) out₀ place out
+abbrev invariant-loop-y : tie.invariant-loop-y
+invariant-loop-y out₀ at cell map z n2 place₀ y₀ out place y = (y ≤ n2) × Wrote at (each y (row_bytes cell map z)) out₀ place out
 
-abbrev decreases-loop : tie.decreases-loop
-decreases-loop out₀ at cell map z n2 place₀ y₀ out place y = n2 - y
+abbrev decreases-loop-y : tie.decreases-loop-y
+decreases-loop-y out₀ at cell map z n2 place₀ y₀ out place y = n2 - y
 
-loop-holds : tie.Need-loop-init invariant-loop decreases-loop
-loop-holds c = (omega arith, each_none _ _ _)
+loop-y-init : tie.Need-loop-y-init invariant-loop-y decreases-loop-y
+loop-y-init c = (omega arith, each_none _ _ _)
 
-put-row-requires : tie.Need-put-row-requires invariant-loop decreases-loop
-put-row-requires c κs =
-    let l = c.before.before in
-    let s = l.before.before in
-    let p = s.requires in
-    let a = s.args in
-    (p.0, p.1, c.before.loop-test.true, each_ends (row_bytes a.cell a.map.now a.z) p.2 c.before.loop-test.true l.loop.invariant.1)
+put_row-place-requires : tie.Need-put_row-place-requires invariant-loop-y decreases-loop-y
+put_row-place-requires c κs =
+    let p = c.requires in
+    let a = c.args in
+    (p.0, p.1, c.loop-y-test.true, each_ends (row_bytes a.cell a.map.now a.z) p.2 c.loop-y-test.true c.loop-y.invariant.1)
 
-add-y : tie.Need-overflow-add-y invariant-loop decreases-loop
-add-y c = omega arith
+overflow_add-y : tie.Need-overflow_add-y invariant-loop-y decreases-loop-y
+overflow_add-y c = omega arith
 
-loop-less : tie.Need-loop-smaller invariant-loop decreases-loop
-loop-less c = omega arith
+loop-y-smaller : tie.Need-loop-y-smaller invariant-loop-y decreases-loop-y
+loop-y-smaller c = omega arith
 
-loop-again : tie.Need-loop-preserved invariant-loop decreases-loop
-loop-again c =
-    let d = c.before.before in
-    let l = d.before.before.before in
-    let a = l.before.before.args in
-    (omega arith, each_next (row_bytes a.cell a.map.now a.z) l.loop.invariant.1 d.put-row.ensures)
+loop-y-preserved : tie.Need-loop-y-preserved invariant-loop-y decreases-loop-y
+loop-y-preserved c =
+    let a = c.args in
+    (omega arith, each_next (row_bytes a.cell a.map.now a.z) c.loop-y.invariant.1 c.put_row-place.ensures)
 
-same_length : tie.Need-same-length invariant-loop decreases-loop
-same_length c = wrote_length c.before.loop.invariant.1
+shape_of-out : tie.Need-shape_of-out invariant-loop-y decreases-loop-y
+shape_of-out c = wrote_length c.loop-y.invariant.1
 
-returns : tie.Need-returns invariant-loop decreases-loop
+returns : tie.Need-returns invariant-loop-y decreases-loop-y
 returns c =
-    let l = c.before in
-    let a = l.before.before.args in
-    each_done (row_bytes a.cell a.map.now a.z) l.loop.invariant.0 c.loop-test.false l.loop.invariant.1
+    let a = c.args in
+    each_done (row_bytes a.cell a.map.now a.z) c.loop-y.invariant.0 c.loop-y-test.false c.loop-y.invariant.1
 
 pub put_plane_spec : {M : Type 1} → statement M
 put_plane_spec =
     tie.close
-    (tie.spec
-    invariant-loop
-    decreases-loop
-    loop-holds
-    put-row-requires
-    add-y
-    loop-less
-    loop-again
-    same_length
-    returns)
+    (tie.spec invariant-loop-y decreases-loop-y loop-y-init put_row-place-requires overflow_add-y loop-y-smaller loop-y-preserved shape_of-out returns)

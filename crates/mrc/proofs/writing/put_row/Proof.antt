@@ -22,69 +22,54 @@ use Rattle.mrc.proofs.writing.put_row.Tie as tie
 abbrev point : UnitCell → List ℤ → (z y x : ℕ) → List ℕ
 point cell map z y x = density_bytes (density cell map (x, y, z))
 
-abbrev invariant-loop : tie.invariant-loop
-invariant-loop out₀ at cell map z y n1 place₀ x₀ out place x = (x ≤ n1) × Wrote at (each x (point cell map z y)) out₀ place out
+abbrev invariant-loop-x : tie.invariant-loop-x
+invariant-loop-x out₀ at cell map z y n1 place₀ x₀ out place x = (x ≤ n1) × Wrote at (each x (point cell map z y)) out₀ place out
 
-abbrev decreases-loop : tie.decreases-loop
-decreases-loop out₀ at cell map z y n1 place₀ x₀ out place x = n1 - x
+abbrev decreases-loop-x : tie.decreases-loop-x
+decreases-loop-x out₀ at cell map z y n1 place₀ x₀ out place x = n1 - x
 
-loop-holds : tie.Need-loop-init invariant-loop decreases-loop
-loop-holds c = (omega arith, each_none _ _ _)
+loop-x-init : tie.Need-loop-x-init invariant-loop-x decreases-loop-x
+loop-x-init c = (omega arith, each_none _ _ _)
 
-count-at-requires : tie.Need-count-at-requires invariant-loop decreases-loop
-count-at-requires c κs =
-    let p = c.before.before.before.requires in
-    (p.0.sizes, record { x = c.loop-test.true; y = p.2; z = p.1 }, p.0.long)
+count_at-n-requires : tie.Need-count_at-n-requires invariant-loop-x decreases-loop-x
+count_at-n-requires c κs =
+    let p = c.requires in
+    (p.0.sizes, record { x = c.loop-x-test.true; y = p.2; z = p.1 }, p.0.long)
 
 -- the number that is handed on is the density
-is-density : (c : tie.After-put-density-arg invariant-loop decreases-loop) → let l = c.before.before.before in let a = l.before.before.args in
-    to_z w64 (of_z w64 c.before.count_at.result) ≡ density a.cell a.map.now (l.loop.x, a.y, a.z)
-is-density c = to_z-of_z w64 _ (record { sfits = c.before.count_at.type-inv }) ∙ c.before.count_at.ensures
+is-density : (c : tie.After-put_density-arg-1 invariant-loop-x decreases-loop-x) → let a = c.args in
+    to_z w64 (of_z w64 c.count_at-n.result) ≡ density a.cell a.map.now (c.loop-x.x, a.y, a.z)
+is-density c = to_z-of_z w64 _ (record { sfits = c.count_at-n.type-inv }) ∙ c.count_at-n.ensures
 
-put-density-requires : tie.Need-put-density-requires invariant-loop decreases-loop
-put-density-requires c κs =
-    let t = c.before.before in
-    let l = t.before in
-    let s = l.before.before in
-    let p = s.requires in
-    let a = s.args in (
-      subst (λ (n : ℤ). nat_abs n ≤ exact_limit) (sym (is-density c)) (exact_density a.cell a.map.now p.0.sizes (subst T (sym p.0.exact) tt) l.loop.x a.y a.z t.loop-test.true p.2 p.1),
-      ends_as (each_ends (point a.cell a.map.now a.z a.y) p.3 t.loop-test.true l.loop.invariant.1) (ap density_bytes (sym (is-density c))),
+put_density-place-requires : tie.Need-put_density-place-requires invariant-loop-x decreases-loop-x
+put_density-place-requires c κs =
+    let p = c.requires in
+    let a = c.args in (
+      subst (λ (n : ℤ). nat_abs n ≤ exact_limit) (sym (is-density c)) (exact_density a.cell a.map.now p.0.sizes (subst T (sym p.0.exact) tt) c.loop-x.x a.y a.z c.loop-x-test.true p.2 p.1),
+      ends_as (each_ends (point a.cell a.map.now a.z a.y) p.3 c.loop-x-test.true c.loop-x.invariant.1) (ap density_bytes (sym (is-density c))),
     )
 
-add-x : tie.Need-overflow-add-x invariant-loop decreases-loop
-add-x c = omega arith
+overflow_add-x : tie.Need-overflow_add-x invariant-loop-x decreases-loop-x
+overflow_add-x c = omega arith
 
-loop-less : tie.Need-loop-smaller invariant-loop decreases-loop
-loop-less c = omega arith
+loop-x-smaller : tie.Need-loop-x-smaller invariant-loop-x decreases-loop-x
+loop-x-smaller c = omega arith
 
-loop-again : tie.Need-loop-preserved invariant-loop decreases-loop
-loop-again c =
+loop-x-preserved : tie.Need-loop-x-preserved invariant-loop-x decreases-loop-x
+loop-x-preserved c =
     let d = c.before.before in
-    let l = d.before.before.before.before in
-    let a = l.before.before.args in
-    (omega arith, each_next (point a.cell a.map.now a.z a.y) l.loop.invariant.1 (wrote_as d.put-density.ensures (ap density_bytes (is-density d.before))))
+    let a = d.args in
+    (omega arith, each_next (point a.cell a.map.now a.z a.y) d.loop-x.invariant.1 (wrote_as d.put_density-place.ensures (ap density_bytes (is-density d.before))))
 
-same_length : tie.Need-same-length invariant-loop decreases-loop
-same_length c = wrote_length c.before.loop.invariant.1
+shape_of-out : tie.Need-shape_of-out invariant-loop-x decreases-loop-x
+shape_of-out c = wrote_length c.loop-x.invariant.1
 
-returns : tie.Need-returns invariant-loop decreases-loop
+returns : tie.Need-returns invariant-loop-x decreases-loop-x
 returns c =
-    let l = c.before in
-    let a = l.before.before.args in
-    each_done (point a.cell a.map.now a.z a.y) l.loop.invariant.0 c.loop-test.false l.loop.invariant.1
+    let a = c.args in
+    each_done (point a.cell a.map.now a.z a.y) c.loop-x.invariant.0 c.loop-x-test.false c.loop-x.invariant.1
 
 pub put_row_spec : {M : Type 1} → statement M
 put_row_spec =
     tie.close
-    (tie.spec
-    invariant-loop
-    decreases-loop
-    loop-holds
-    count-at-requires
-    put-density-requires
-    add-x
-    loop-less
-    loop-again
-    same_length
-    returns)
+    (tie.spec invariant-loop-x decreases-loop-x loop-x-init count_at-n-requires put_density-place-requires overflow_add-x loop-x-smaller loop-x-preserved shape_of-out returns)

@@ -5,34 +5,34 @@ use Rattle.volume_transform.proofs.plan.JobTurns.{plane_low, layers_width, layer
 use Rattle.volume_transform.proofs.axis_lines.line_counts.Statement.{statement}
 use Rattle.volume_transform.proofs.axis_lines.line_counts.Tie as tie
 
-add-width : tie.Need-overflow-add-width
-add-width c = search rules
+overflow_add-width : tie.Need-overflow_add-width
+overflow_add-width c = search rules
 
-cast-width : tie.Need-overflow-cast-width
-cast-width c = search rules
+overflow_cast-width : tie.Need-overflow_cast-width
+overflow_cast-width c = search rules
 
-cast-rows : tie.Need-overflow-cast-rows
-cast-rows c = search rules
+overflow_cast-rows : tie.Need-overflow_cast-rows
+overflow_cast-rows c = search rules
 
-layer-count-requires : tie.Need-layer-count-requires
-layer-count-requires c κs = search rules
+layer_count-layers-requires : tie.Need-layer_count-layers-requires
+layer_count-layers-requires c κs = search rules
 
-cast-layers : tie.Need-overflow-cast-layers
-cast-layers c = search rules
+overflow_cast-layers : tie.Need-overflow_cast-layers
+overflow_cast-layers c = search rules
 
-mul-t7 : tie.Need-overflow-mul-t7
-mul-t7 c = let s = c.before.before.before in omega (arith, plane_low s.requires.sizes, layers_width s.requires.sizes _ c.layer-count.ensures, layers_rows s.requires.sizes _ c.layer-count.ensures)
+overflow_mul-result-3 : tie.Need-overflow_mul-result-3
+overflow_mul-result-3 c = let s = c.before.before.before in omega (arith, plane_low s.requires.sizes, layers_width s.requires.sizes _ c.layer_count-layers.ensures, layers_rows s.requires.sizes _ c.layer_count-layers.ensures)
 
-mul-t8 : tie.Need-overflow-mul-t8
-mul-t8 c = let s = c.before.before.before in omega (arith, plane_low s.requires.sizes, layers_width s.requires.sizes _ c.layer-count.ensures, layers_rows s.requires.sizes _ c.layer-count.ensures)
+overflow_mul-result : tie.Need-overflow_mul-result
+overflow_mul-result c = let s = c.before.before.before in omega (arith, plane_low s.requires.sizes, layers_width s.requires.sizes _ c.layer_count-layers.ensures, layers_rows s.requires.sizes _ c.layer_count-layers.ensures)
 
-mul-t9 : tie.Need-overflow-mul-t9
-mul-t9 c = let s = c.before.before.before in omega (arith, plane_low s.requires.sizes, layers_width s.requires.sizes _ c.layer-count.ensures, layers_rows s.requires.sizes _ c.layer-count.ensures)
+overflow_mul-result-2 : tie.Need-overflow_mul-result-2
+overflow_mul-result-2 c = let s = c.before.before.before in omega (arith, plane_low s.requires.sizes, layers_width s.requires.sizes _ c.layer_count-layers.ensures, layers_rows s.requires.sizes _ c.layer_count-layers.ensures)
 
 returns : tie.Need-returns
 returns c =
     let s = c.before.before.before in
-    let e = c.layer-count.ensures in
+    let e = c.layer_count-layers.ensures in
     record {
       l = first_is s.requires.sizes;
       h = second_is s.requires.sizes _ e;
@@ -43,13 +43,4 @@ returns c =
 pub line_counts_spec : {M : Type 1} → statement M
 line_counts_spec =
     tie.close
-    (tie.spec
-    add-width
-    cast-width
-    cast-rows
-    layer-count-requires
-    cast-layers
-    mul-t7
-    mul-t8
-    mul-t9
-    returns)
+    (tie.spec overflow_add-width overflow_cast-width overflow_cast-rows layer_count-layers-requires overflow_cast-layers overflow_mul-result overflow_mul-result-2 overflow_mul-result-3 returns)

@@ -4,91 +4,59 @@ use Rattle.volume_transform.proofs.GroupTurns.{rows_are, lines_are, rows_of, lin
 use Rattle.volume_transform.proofs.groups.turn_group.Statement.{statement}
 use Rattle.volume_transform.proofs.groups.turn_group.Tie as tie
 
-turn-rows-requires : tie.Need-turn-rows-requires
-turn-rows-requires c κs =
-    let i = c.before.before.before in
-    let s = c.before.before.before.before.before.before.before.before in
-    ((rows_of s.args.line s.requires.0.0 i.if1.true, s.requires.0.1, s.requires.0.2), s.requires.1)
+turn_rows-requires : tie.Need-turn_rows-requires
+turn_rows-requires c κs =
+    ((rows_of c.args.line c.requires.0.0 c.if-line-eq1.true, c.requires.0.1, c.requires.0.2), c.requires.1)
 
-turn-plain-requires : tie.Need-turn-plain-requires
-turn-plain-requires c κs =
-    let i2 = c.before.before.before in
-    let i = c.before.before.before.before.before in
-    let s = c.before.before.before.before.before.before.before.before.before.before in
-    ((lines_of_lem s.args.line s.requires.0.0 i.if1.false, i2.if2.true, s.requires.0.1, s.requires.0.2), s.requires.1)
+turn_plain-requires : tie.Need-turn_plain-requires
+turn_plain-requires c κs =
+    ((lines_of_lem c.args.line c.requires.0.0 c.if-line-eq1.false, c.if-line-eq0.true, c.requires.0.1, c.requires.0.2), c.requires.1)
 
-turn-folded-requires : tie.Need-turn-folded-requires
-turn-folded-requires c κs =
-    let i2 = c.before.before.before in
-    let i = c.before.before.before.before.before in
-    let s = c.before.before.before.before.before.before.before.before.before.before in
-    let h = lines_of_lem s.args.line s.requires.0.0 i.if1.false in
-    ((h, beyond_two s.args.line.kind i2.if2.false i.if1.false h.room.known, s.requires.0.1, s.requires.0.2), s.requires.1)
+turn_folded-requires : tie.Need-turn_folded-requires
+turn_folded-requires c κs =
+    let h = lines_of_lem c.args.line c.requires.0.0 c.if-line-eq1.false in
+    ((h, beyond_two c.args.line.kind c.if-line-eq0.false c.if-line-eq1.false h.room.known, c.requires.0.1, c.requires.0.2), c.requires.1)
 
-same_length : tie.Need-same-length
-same_length c = c.before.before.before.before.before.volume.given
+shape_of-volume-then-line-eq1 : tie.Need-shape_of-volume-then-line-eq1
+shape_of-volume-then-line-eq1 c = c.volume-1.given
 
-same-length-2 : tie.Need-same-length-2
-same-length-2 c = c.before.before.before.scratch.given
+shape_of-scratch-then-line-eq1 : tie.Need-shape_of-scratch-then-line-eq1
+shape_of-scratch-then-line-eq1 c = c.scratch-1.given
 
-same-length-3 : tie.Need-same-length-3
-same-length-3 c = c.before.work.given
+shape_of-work-then-line-eq1 : tie.Need-shape_of-work-then-line-eq1
+shape_of-work-then-line-eq1 c = c.work-1.given
 
-returns : tie.Need-returns
-returns c =
-    let r = c.before.before.before.before.before.before in
-    let i = c.before.before.before.before.before.before.before.before.before.before in
-    let s = c.before.before.before.before.before.before.before.before.before.before.before.before.before.before.before in
-    (r.turn-rows.ensures.0 ∙ rows_are s.args.line s.args.lanes s.args.volume.now i.if1.true, r.turn-rows.ensures.1)
+returns-then-line-eq1 : tie.Need-returns-then-line-eq1
+returns-then-line-eq1 c =
+    (c.turn_rows.ensures.0 ∙ rows_are c.args.line c.args.lanes c.args.volume.now c.if-line-eq1.true, c.turn_rows.ensures.1)
 
-same-length-4 : tie.Need-same-length-4
-same-length-4 c = c.before.before.before.before.before.volume2.given
+shape_of-volume-then-line-eq0 : tie.Need-shape_of-volume-then-line-eq0
+shape_of-volume-then-line-eq0 c = c.volume-then-line-eq0-1.given
 
-same-length-5 : tie.Need-same-length-5
-same-length-5 c = c.before.before.before.scratch2.given
+shape_of-scratch-then-line-eq0 : tie.Need-shape_of-scratch-then-line-eq0
+shape_of-scratch-then-line-eq0 c = c.scratch-then-line-eq0-1.given
 
-same-length-6 : tie.Need-same-length-6
-same-length-6 c = c.before.work2.given
+shape_of-work-then-line-eq0 : tie.Need-shape_of-work-then-line-eq0
+shape_of-work-then-line-eq0 c = c.work-then-line-eq0-1.given
 
-returns-2 : tie.Need-returns-2
-returns-2 c =
-    let r = c.before.before.before.before.before.before in
-    let i = c.before.before.before.before.before.before.before.before.before.before.before.before in
-    let s = c.before.before.before.before.before.before.before.before.before.before.before.before.before.before.before.before.before in
-    (r.turn-plain.ensures.0 ∙ lines_are s.args.line s.args.lanes s.args.volume.now i.if1.false, r.turn-plain.ensures.1)
+returns-then-line-eq0 : tie.Need-returns-then-line-eq0
+returns-then-line-eq0 c =
+    (c.turn_plain.ensures.0 ∙ lines_are c.args.line c.args.lanes c.args.volume.now c.if-line-eq1.false, c.turn_plain.ensures.1)
 
-same-length-7 : tie.Need-same-length-7
-same-length-7 c = c.before.before.before.before.before.volume3.given
+shape_of-volume-else-line-eq0 : tie.Need-shape_of-volume-else-line-eq0
+shape_of-volume-else-line-eq0 c = c.volume-else-line-eq0-1.given
 
-same-length-8 : tie.Need-same-length-8
-same-length-8 c = c.before.before.before.scratch3.given
+shape_of-scratch-else-line-eq0 : tie.Need-shape_of-scratch-else-line-eq0
+shape_of-scratch-else-line-eq0 c = c.scratch-else-line-eq0-1.given
 
-same-length-9 : tie.Need-same-length-9
-same-length-9 c = c.before.work3.given
+shape_of-work-else-line-eq0 : tie.Need-shape_of-work-else-line-eq0
+shape_of-work-else-line-eq0 c = c.work-else-line-eq0-1.given
 
-returns-3 : tie.Need-returns-3
-returns-3 c =
-    let r = c.before.before.before.before.before.before in
-    let i = c.before.before.before.before.before.before.before.before.before.before.before.before in
-    let s = c.before.before.before.before.before.before.before.before.before.before.before.before.before.before.before.before.before in
-    (r.turn-folded.ensures.0 ∙ lines_are s.args.line s.args.lanes s.args.volume.now i.if1.false, r.turn-folded.ensures.1)
+returns-else-line-eq0 : tie.Need-returns-else-line-eq0
+returns-else-line-eq0 c =
+    (c.turn_folded.ensures.0 ∙ lines_are c.args.line c.args.lanes c.args.volume.now c.if-line-eq1.false, c.turn_folded.ensures.1)
 
 pub turn_group_spec : {M : Type 1} → statement M
 turn_group_spec =
     tie.close
-    (tie.spec
-    turn-rows-requires
-    turn-plain-requires
-    turn-folded-requires
-    same_length
-    same-length-2
-    same-length-3
-    returns
-    same-length-4
-    same-length-5
-    same-length-6
-    returns-2
-    same-length-7
-    same-length-8
-    same-length-9
-    returns-3)
+    (tie.spec turn_rows-requires turn_plain-requires turn_folded-requires shape_of-volume-then-line-eq1 shape_of-scratch-then-line-eq1 shape_of-work-then-line-eq1 returns-then-line-eq1 shape_of-volume-then-line-eq0 shape_of-scratch-then-line-eq0 shape_of-work-then-line-eq0 returns-then-line-eq0 shape_of-volume-else-line-eq0 shape_of-scratch-else-line-eq0 shape_of-work-else-line-eq0 returns-else-line-eq0)

@@ -26,32 +26,32 @@ whole s = plain_count s.args.line s.requires.0.0 s.requires.0.1
 room : (s : tie.Start) → (32 * s.args.line.count ≤ length s.args.scratch.now) × (32 * s.args.line.count ≤ length s.args.work.now)
 room s = (omega (arith, short s, s.requires.1.1.0), omega (arith, short s, s.requires.1.1.1))
 
-mul-size : tie.Need-overflow-mul-size
-mul-size c = omega (arith, short c.before.before.before)
+overflow_mul-size : tie.Need-overflow_mul-size
+overflow_mul-size c = omega (arith, short c.before.before.before)
 
-doubled-requires : tie.Need-doubled-requires
-doubled-requires c κs = c.before.before.before.requires.0.0.sound.list.small
+doubled-list-requires : tie.Need-doubled-list-requires
+doubled-list-requires c κs = c.requires.0.0.sound.list.small
 
-last-factor-requires : tie.Need-last-factor-requires
-last-factor-requires c κs =
+last_factor-c-requires : tie.Need-last_factor-c-requires
+last_factor-c-requires c κs =
     let s = c.before.before.before.before in
     let h = s.requires.0.0 in
     (subst IsModulus (sym s.requires.0.3) h.sound.modulus, h.sound.directed, omega (arith, whole s, h.sound.size.positive), omega (arith, short s))
 
-slice-relend-prefix-turn-lines : tie.Need-slice-relend-prefix-turn-lines
-slice-relend-prefix-turn-lines c = (room c.before.before.before.before.before.before).0
+slice_bounds-turn_lines-end : tie.Need-slice_bounds-turn_lines-end
+slice_bounds-turn_lines-end c = (room c.before.before.before.before.before.before).0
 
-slice-aggregate-turn-lines : tie.Need-slice-aggregate-turn-lines
-slice-aggregate-turn-lines c = let s = c.before.before.before.before.before.before.before in sym (prefix_length _ s.args.scratch.now (room s).0)
+slice_bounds-turn_lines-end-2 : tie.Need-slice_bounds-turn_lines-end-2
+slice_bounds-turn_lines-end-2 c = let s = c.before.before.before.before.before.before.before in sym (prefix_length _ s.args.scratch.now (room s).0)
 
-slice-relend-prefix-turn-lines-2 : tie.Need-slice-relend-prefix-turn-lines-2
-slice-relend-prefix-turn-lines-2 c = (room c.before.before.before.before.before.before.before).1
+slice_bounds-turn_lines-end-3 : tie.Need-slice_bounds-turn_lines-end-3
+slice_bounds-turn_lines-end-3 c = (room c.before.before.before.before.before.before.before).1
 
-slice-aggregate-turn-lines-2 : tie.Need-slice-aggregate-turn-lines-2
-slice-aggregate-turn-lines-2 c = let s = c.before.before.before.before.before.before.before.before in sym (prefix_length _ s.args.work.now (room s).1)
+slice_bounds-turn_lines-end-4 : tie.Need-slice_bounds-turn_lines-end-4
+slice_bounds-turn_lines-end-4 c = let s = c.before.before.before.before.before.before.before.before in sym (prefix_length _ s.args.work.now (room s).1)
 
-turn-lines-requires : tie.Need-turn-lines-requires
-turn-lines-requires c κs =
+turn_lines-requires : tie.Need-turn_lines-requires
+turn_lines-requires c κs =
     let f = c.before.before.before in
     let d = f.before in
     let s = d.before.before.before.before in
@@ -60,22 +60,22 @@ turn-lines-requires c κs =
     let e = s.requires.0.3 in (
       (subst IsModulus (sym e) h.sound.modulus, subst (λ m. RootTable m s.args.re.now s.args.im.now) (sym e) s.requires.0.2.powers, s.requires.1.0),
       (
-        (subst (λ r. Factored r x.count) (sym d.doubled.ensures) (subst (Factored _) (sym (whole s)) (doubled_factored (half_list x.half h.sound.size h.sound.list))), subst (λ n. n * (2880 / n) ≡ 2880) (sym (whole s)) h.sound.size.turns),
+        (subst (λ r. Factored r x.count) (sym d.doubled-list.ensures) (subst (Factored _) (sym (whole s)) (doubled_factored (half_list x.half h.sound.size h.sound.list))), subst (λ n. n * (2880 / n) ≡ 2880) (sym (whole s)) h.sound.size.turns),
         (
-          (prefix_length _ s.args.scratch.now (room s).0, prefix_length _ s.args.work.now (room s).1, f.last-factor.ensures.0, h.few, h.wide),
+          (prefix_length _ s.args.scratch.now (room s).0, prefix_length _ s.args.work.now (room s).1, f.last_factor-c.ensures.0, h.few, h.wide),
           (h.fits, subst (λ m. LinesBelow m x.start x.stride x.count s.args.lanes s.args.volume.now) (sym e) (record { each = λ u j lu lj. small_at _ s.args.volume.now _ h.below })),
         ),
       ),
     )
 
-same_length : tie.Need-same-length
-same_length c = search rules
+shape_of-volume : tie.Need-shape_of-volume
+shape_of-volume c = search rules
 
-same-length-2 : tie.Need-same-length-2
-same-length-2 c = search rules
+shape_of-scratch : tie.Need-shape_of-scratch
+shape_of-scratch c = search rules
 
-same-length-3 : tie.Need-same-length-3
-same-length-3 c = search rules
+shape_of-work : tie.Need-shape_of-work
+shape_of-work c = search rules
 
 returns : tie.Need-returns
 returns c =
@@ -84,9 +84,9 @@ returns c =
     let f = t.before.before.before.before in
     let s = f.before.before.before.before.before in
     let h = s.requires.0.0 in (
-      group_turned_lem s.args.line s.requires.0.2 h.sound s.requires.0.1 (h.room.unrotated (λ k. omega (arith, k, s.requires.0.1))) (whole s) s.args.lanes s.args.volume.now s.args.m s.requires.0.3 t.turn_lines.ensures f.last-factor.ensures.1,
-      lent_kept s.args.scratch.now t.turn_lines.new.1.1.1.1.1.1.1.1.1.1.1.1.0 (omega (arith, short s)) (k.scratch.given.0 ∙ prefix_length _ s.args.scratch.now (room s).0),
+      group_turned_lem s.args.line s.requires.0.2 h.sound s.requires.0.1 (h.room.unrotated (λ k. omega (arith, k, s.requires.0.1))) (whole s) s.args.lanes s.args.volume.now s.args.m s.requires.0.3 t.turn_lines.ensures f.last_factor-c.ensures.1,
+      lent_kept s.args.scratch.now t.turn_lines.new.line (omega (arith, short s)) (k.scratch-1.given.0 ∙ prefix_length _ s.args.scratch.now (room s).0),
     )
 
 pub turn_plain_spec : {M : Type 1} → statement M
-turn_plain_spec = tie.close (tie.spec mul-size doubled-requires last-factor-requires slice-relend-prefix-turn-lines slice-aggregate-turn-lines slice-relend-prefix-turn-lines-2 slice-aggregate-turn-lines-2 turn-lines-requires same_length same-length-2 same-length-3 returns)
+turn_plain_spec = tie.close (tie.spec overflow_mul-size doubled-list-requires last_factor-c-requires slice_bounds-turn_lines-end slice_bounds-turn_lines-end-2 slice_bounds-turn_lines-end-3 slice_bounds-turn_lines-end-4 turn_lines-requires shape_of-volume shape_of-scratch shape_of-work returns)

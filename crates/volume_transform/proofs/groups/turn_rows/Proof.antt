@@ -22,47 +22,47 @@ short s = s.requires.0.0.room.folded (not_plain s)
 room : (s : tie.Start) → (32 * s.args.line.half ≤ length s.args.scratch.now) × (32 * s.args.line.half ≤ length s.args.work.now)
 room s = (omega (arith, short s, s.requires.1.1.0), omega (arith, short s, s.requires.1.1.1))
 
-mul-start : tie.Need-overflow-mul-start
-mul-start c = let h = c.before.before.before.before.requires.0.0 in omega (arith, h.fits, h.low)
+overflow_mul-start : tie.Need-overflow_mul-start
+overflow_mul-start c = let h = c.requires.0.0 in omega (arith, h.fits, h.low)
 
-mul-end : tie.Need-overflow-mul-end
-mul-end c = let h = c.before.before.before.before.before.requires.0.0 in omega (arith, h.fits, h.low)
+overflow_mul-end : tie.Need-overflow_mul-end
+overflow_mul-end c = let h = c.requires.0.0 in omega (arith, h.fits, h.low)
 
-mul-end-2 : tie.Need-overflow-mul-end-2
-mul-end-2 c = let h = c.before.before.before.before.before.requires.0.0 in omega (arith, h.fits, h.low)
+overflow_mul-end-2 : tie.Need-overflow_mul-end-2
+overflow_mul-end-2 c = let h = c.requires.0.0 in omega (arith, h.fits, h.low)
 
-add-end : tie.Need-overflow-add-end
-add-end c = let h = c.before.before.before.before.before.requires.0.0 in omega (arith, h.fits, h.low)
+overflow_add-end : tie.Need-overflow_add-end
+overflow_add-end c = let h = c.requires.0.0 in omega (arith, h.fits, h.low)
 
-mul-size : tie.Need-overflow-mul-size
-mul-size c = omega (arith, short c.before.before.before.before.before.before)
+overflow_mul-size : tie.Need-overflow_mul-size
+overflow_mul-size c = omega (arith, short c.before.before.before.before.before.before)
 
-mul-turn-rows : tie.Need-overflow-mul-turn-rows
-mul-turn-rows c = let h = c.before.before.before.before.before.before.requires.0.0 in omega (arith, h.fits, h.low)
+offset_bounds-volume-start : tie.Need-offset_bounds-volume-start
+offset_bounds-volume-start c = let h = c.requires.0.0 in omega (arith, h.fits, h.low)
 
-sub-turn-rows : tie.Need-overflow-sub-turn-rows
-sub-turn-rows c = let h = c.before.before.before.before.before.before.requires.0.0 in omega (arith, h.fits, h.low)
+slice_bounds-turn_rows-count : tie.Need-slice_bounds-turn_rows-count
+slice_bounds-turn_rows-count c = let h = c.requires.0.0 in omega (arith, h.fits, h.low)
 
-part-turn-rows-start : tie.Need-slice-bounds-turn-rows-start
-part-turn-rows-start c = let h = c.before.before.before.before.before.before.requires.0.0 in omega (arith, h.fits, h.low)
+slice_bounds-turn_rows-start : tie.Need-slice_bounds-turn_rows-start
+slice_bounds-turn_rows-start c = let h = c.requires.0.0 in omega (arith, h.fits, h.low)
 
-part-turn-rows-end : tie.Need-slice-bounds-turn-rows-end
-part-turn-rows-end c = let h = c.before.before.before.before.before.before.requires.0.0 in omega (arith, h.fits, h.low)
+slice_bounds-turn_rows-end : tie.Need-slice_bounds-turn_rows-end
+slice_bounds-turn_rows-end c = let h = c.requires.0.0 in omega (arith, h.fits, h.low)
 
-slice-relend-prefix-turn-rows : tie.Need-slice-relend-prefix-turn-rows
-slice-relend-prefix-turn-rows c = (room c.before.before.before.before.before.before.before).0
+slice_bounds-turn_rows-end-2 : tie.Need-slice_bounds-turn_rows-end-2
+slice_bounds-turn_rows-end-2 c = (room c.before.before.before.before.before.before.before).0
 
-slice-aggregate-turn-rows : tie.Need-slice-aggregate-turn-rows
-slice-aggregate-turn-rows c = let s = c.before.before.before.before.before.before.before.before in sym (prefix_length _ s.args.scratch.now (room s).0)
+slice_bounds-turn_rows-end-3 : tie.Need-slice_bounds-turn_rows-end-3
+slice_bounds-turn_rows-end-3 c = let s = c.before.before.before.before.before.before.before.before in sym (prefix_length _ s.args.scratch.now (room s).0)
 
-slice-relend-prefix-turn-rows-2 : tie.Need-slice-relend-prefix-turn-rows-2
-slice-relend-prefix-turn-rows-2 c = (room c.before.before.before.before.before.before.before.before).1
+slice_bounds-turn_rows-end-4 : tie.Need-slice_bounds-turn_rows-end-4
+slice_bounds-turn_rows-end-4 c = (room c.before.before.before.before.before.before.before.before).1
 
-slice-aggregate-turn-rows-2 : tie.Need-slice-aggregate-turn-rows-2
-slice-aggregate-turn-rows-2 c = let s = c.before.before.before.before.before.before.before.before.before in sym (prefix_length _ s.args.work.now (room s).1)
+slice_bounds-turn_rows-end-5 : tie.Need-slice_bounds-turn_rows-end-5
+slice_bounds-turn_rows-end-5 c = let s = c.before.before.before.before.before.before.before.before.before in sym (prefix_length _ s.args.work.now (room s).1)
 
-turn-rows-requires : tie.Need-turn-rows-requires
-turn-rows-requires c κs =
+turn_rows-requires : tie.Need-turn_rows-requires
+turn_rows-requires c κs =
     let s = c.before.before.before.before.before.before.before.before.before in
     let x = s.args.line in
     let h = s.requires.0.0 in
@@ -78,48 +78,27 @@ turn-rows-requires c κs =
     counted : (lanes n b : ℕ) → n ≡ b + 1 → 2 * (lanes * n) ≡ 2 * ((b + 1) * lanes)
     counted lanes n b e = ap (λ n. 2 * (lanes * n)) e ∙ omega arith
 
-same_length : tie.Need-same-length
-same_length c =
-    let t = c.before.before.before.before.before.before in
+shape_of-volume : tie.Need-shape_of-volume
+shape_of-volume c =
     let s = c.before.before.before.before.before.before.before.before.before.before.before.before.before.before.before.before in
     let h = s.requires.0.0 in
-    rows_same s.args.line h _ (rows_turned_lem s.args.line s.requires.0.1 (not_plain s) h.sound s.args.m s.args.lanes _ s.requires.0.2 h.counted (t.turn-rows.ensures s.args.tan.now))
+    rows_same s.args.line h _ (rows_turned_lem s.args.line s.requires.0.1 (not_plain s) h.sound s.args.m s.args.lanes _ s.requires.0.2 h.counted (c.turn_rows.ensures s.args.tan.now))
 
-same-length-2 : tie.Need-same-length-2
-same-length-2 c = search rules
+shape_of-scratch : tie.Need-shape_of-scratch
+shape_of-scratch c = search rules
 
-same-length-3 : tie.Need-same-length-3
-same-length-3 c = search rules
+shape_of-work : tie.Need-shape_of-work
+shape_of-work c = search rules
 
 returns : tie.Need-returns
 returns c =
-    let k = c.before.before.before in
-    let t = c.before.before.before.before.before.before in
     let s = c.before.before.before.before.before.before.before.before.before.before.before.before.before.before.before.before in
     let h = s.requires.0.0 in (
-      rows_placed s.args.line h _ (rows_turned_lem s.args.line s.requires.0.1 (not_plain s) h.sound s.args.m s.args.lanes _ s.requires.0.2 h.counted (t.turn-rows.ensures s.args.tan.now)),
-      lent_kept s.args.scratch.now t.turn-rows.new.1.1.1.1.1.1.1.1.1.1.0 (omega (arith, short s)) (k.scratch.given.0 ∙ prefix_length _ s.args.scratch.now (room s).0),
+      rows_placed s.args.line h _ (rows_turned_lem s.args.line s.requires.0.1 (not_plain s) h.sound s.args.m s.args.lanes _ s.requires.0.2 h.counted (c.turn_rows.ensures s.args.tan.now)),
+      lent_kept s.args.scratch.now c.turn_rows.new.line (omega (arith, short s)) (c.scratch-1.given.0 ∙ prefix_length _ s.args.scratch.now (room s).0),
     )
 
 pub turn_rows_spec : {M : Type 1} → statement M
 turn_rows_spec =
     tie.close
-    (tie.spec
-    mul-start
-    mul-end
-    mul-end-2
-    add-end
-    mul-size
-    mul-turn-rows
-    sub-turn-rows
-    part-turn-rows-start
-    part-turn-rows-end
-    slice-relend-prefix-turn-rows
-    slice-aggregate-turn-rows
-    slice-relend-prefix-turn-rows-2
-    slice-aggregate-turn-rows-2
-    turn-rows-requires
-    same_length
-    same-length-2
-    same-length-3
-    returns)
+    (tie.spec overflow_mul-start overflow_mul-end overflow_mul-end-2 overflow_add-end overflow_mul-size offset_bounds-volume-start slice_bounds-turn_rows-count slice_bounds-turn_rows-start slice_bounds-turn_rows-end slice_bounds-turn_rows-end-2 slice_bounds-turn_rows-end-3 slice_bounds-turn_rows-end-4 slice_bounds-turn_rows-end-5 turn_rows-requires shape_of-volume shape_of-scratch shape_of-work returns)

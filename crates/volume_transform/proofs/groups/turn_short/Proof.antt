@@ -20,8 +20,8 @@ short s = s.requires.0.0.room.folded (not_plain s)
 mirror : (s : tie.Start) → (s.args.line.kind ≡ 3 → ⊥) → kind_of s.args.line.kind ≡ mirror_kind (s.args.line.kind - 4)
 mirror s n = mirror_kind_lem s.args.line.kind (omega (arith, n, s.requires.0.1)) s.requires.0.0.sound.known
 
-turn-lines-requires : tie.Need-turn-lines-requires
-turn-lines-requires c κs =
+turn_lines-requires : tie.Need-turn_lines-requires
+turn_lines-requires c κs =
     let i = c.before.before.before in
     let s = c.before.before.before.before.before.before.before.before in
     let x = s.args.line in
@@ -29,18 +29,18 @@ turn-lines-requires c κs =
       folds_ready x s.requires.0.2 (not_plain s) h.sound s.args.m s.requires.0.3 s.requires.1.0,
       (
         (h.sound.directed, short s, s.requires.1.1.0, s.requires.1.1.1, h.few, h.wide),
-        lines_ready x s.requires.0.2 (not_plain s) h.sound s.args.m x.half s.args.lanes s.args.volume.now s.requires.0.3 (alternating_count x h i.if1.true) h,
+        lines_ready x s.requires.0.2 (not_plain s) h.sound s.args.m x.half s.args.lanes s.args.volume.now s.requires.0.3 (alternating_count x h i.if-line-eq3.true) h,
       ),
     )
 
-sub-first : tie.Need-overflow-sub-first
-sub-first c = let i = c.before in omega (arith, i.if1.false, c.before.before.before.before.before.before.requires.0.1)
+overflow_sub-first : tie.Need-overflow_sub-first
+overflow_sub-first c = let i = c.before in omega (arith, i.if-line-eq3.false, c.before.before.before.before.before.before.requires.0.1)
 
-cast-first : tie.Need-overflow-cast-first
-cast-first c = let s = c.before.before.before.before.before.before in omega (arith, s.requires.0.0.sound.known)
+overflow_cast-first : tie.Need-overflow_cast-first
+overflow_cast-first c = let s = c.before.before.before.before.before.before in omega (arith, s.requires.0.0.sound.known)
 
-turn-lines-requires-2 : tie.Need-turn-lines-requires-2
-turn-lines-requires-2 c κs =
+turn_lines-requires-else-line-eq3 : tie.Need-turn_lines-requires-else-line-eq3
+turn_lines-requires-else-line-eq3 c κs =
     let i = c.before.before.before.before in
     let s = c.before.before.before.before.before.before.before.before.before in
     let x = s.args.line in
@@ -49,59 +49,47 @@ turn-lines-requires-2 c κs =
       (ready.0, ready.1, ready.2, ready.3, omega (arith, h.sound.known)),
       (
         (h.sound.directed, short s, s.requires.1.1.0, s.requires.1.1.1, h.few, h.wide),
-        lines_ready x s.requires.0.2 (not_plain s) h.sound s.args.m _ s.args.lanes s.args.volume.now s.requires.0.3 (h.counted ∙ ap (λ k. slots k x.half) (mirror s i.if1.false)) h,
+        lines_ready x s.requires.0.2 (not_plain s) h.sound s.args.m _ s.args.lanes s.args.volume.now s.requires.0.3 (h.counted ∙ ap (λ k. slots k x.half) (mirror s i.if-line-eq3.false)) h,
       ),
     )
 
-same_length : tie.Need-same-length
-same_length c = c.before.before.before.before.before.volume.given
+shape_of-volume-then-line-eq3 : tie.Need-shape_of-volume-then-line-eq3
+shape_of-volume-then-line-eq3 c = c.before.before.before.before.before.volume-1.given
 
-same-length-2 : tie.Need-same-length-2
-same-length-2 c = c.before.before.before.batch.given
+shape_of-batch-then-line-eq3 : tie.Need-shape_of-batch-then-line-eq3
+shape_of-batch-then-line-eq3 c = c.before.before.before.batch-1.given
 
-same-length-3 : tie.Need-same-length-3
-same-length-3 c = c.before.short.given
+shape_of-short-then-line-eq3 : tie.Need-shape_of-short-then-line-eq3
+shape_of-short-then-line-eq3 c = c.before.short-1.given
 
-returns : tie.Need-returns
-returns c =
+returns-then-line-eq3 : tie.Need-returns-then-line-eq3
+returns-then-line-eq3 c =
     let t = c.before.before.before.before.before.before in
     let i = c.before.before.before.before.before.before.before.before.before.before in
     let s = c.before.before.before.before.before.before.before.before.before.before.before.before.before.before.before in
     let x = s.args.line in
     let h = s.requires.0.0 in
-    lines_turned x s.requires.0.2 (not_plain s) h.sound s.args.m s.args.lanes s.args.volume.now s.requires.0.3 (ap kind_of i.if1.true) refl h.counted t.turn_lines.ensures
+    lines_turned x s.requires.0.2 (not_plain s) h.sound s.args.m s.args.lanes s.args.volume.now s.requires.0.3 (ap kind_of i.if-line-eq3.true) refl h.counted t.turn_lines.ensures
 
-same-length-4 : tie.Need-same-length-4
-same-length-4 c = c.before.before.before.before.before.volume2.given
+shape_of-volume-else-line-eq3 : tie.Need-shape_of-volume-else-line-eq3
+shape_of-volume-else-line-eq3 c = c.before.before.before.before.before.volume-else-line-eq3-1.given
 
-same-length-5 : tie.Need-same-length-5
-same-length-5 c = c.before.before.before.batch2.given
+shape_of-batch-else-line-eq3 : tie.Need-shape_of-batch-else-line-eq3
+shape_of-batch-else-line-eq3 c = c.before.before.before.batch-else-line-eq3-1.given
 
-same-length-6 : tie.Need-same-length-6
-same-length-6 c = c.before.short2.given
+shape_of-short-else-line-eq3 : tie.Need-shape_of-short-else-line-eq3
+shape_of-short-else-line-eq3 c = c.before.short-else-line-eq3-1.given
 
-returns-2 : tie.Need-returns-2
-returns-2 c =
+returns-else-line-eq3 : tie.Need-returns-else-line-eq3
+returns-else-line-eq3 c =
     let t = c.before.before.before.before.before.before in
     let i = c.before.before.before.before.before.before.before.before.before.before.before in
     let s = c.before.before.before.before.before.before.before.before.before.before.before.before.before.before.before.before in
     let x = s.args.line in
     let h = s.requires.0.0 in
-    lines_turned x s.requires.0.2 (not_plain s) h.sound s.args.m s.args.lanes s.args.volume.now s.requires.0.3 (mirror s i.if1.false) (h.room.unrotated i.if1.false) h.counted t.turn-lines2.ensures
+    lines_turned x s.requires.0.2 (not_plain s) h.sound s.args.m s.args.lanes s.args.volume.now s.requires.0.3 (mirror s i.if-line-eq3.false) (h.room.unrotated i.if-line-eq3.false) h.counted t.turn_lines-else-line-eq3.ensures
 
 pub turn_short_spec : {M : Type 1} → statement M
 turn_short_spec =
     tie.close
-    (tie.spec
-    turn-lines-requires
-    sub-first
-    cast-first
-    turn-lines-requires-2
-    same_length
-    same-length-2
-    same-length-3
-    returns
-    same-length-4
-    same-length-5
-    same-length-6
-    returns-2)
+    (tie.spec turn_lines-requires overflow_sub-first overflow_cast-first turn_lines-requires-else-line-eq3 shape_of-volume-then-line-eq3 shape_of-batch-then-line-eq3 shape_of-short-then-line-eq3 returns-then-line-eq3 shape_of-volume-else-line-eq3 shape_of-batch-else-line-eq3 shape_of-short-else-line-eq3 returns-else-line-eq3)

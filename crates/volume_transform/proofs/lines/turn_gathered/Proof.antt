@@ -13,73 +13,49 @@ use Rattle.volume_transform.proofs.lines.turn_gathered.Statement.{statement}
 use Rattle.volume_transform.proofs.lines.turn_gathered.Tie as tie
 
 gather-requires : tie.Need-gather-requires
-gather-requires c κs = let s = c.before.before.before.before.before.before in (s.requires.0.0.fits, omega (arith, s.requires.0.0.low, s.requires.1.1.scratch_fits))
+gather-requires c κs = (c.requires.0.0.fits, omega (arith, c.requires.0.0.low, c.requires.1.1.scratch_fits))
 
-mul-size : tie.Need-overflow-mul-size
-mul-size c = let s = c.before.before.before.before.before.before.before.before.before.before in omega (arith, s.requires.0.0.low)
+overflow_mul-size : tie.Need-overflow_mul-size
+overflow_mul-size c = omega (arith, c.requires.0.0.low)
 
-slice-relend-prefix-turn-stored : tie.Need-slice-relend-prefix-turn-stored
-slice-relend-prefix-turn-stored c =
-    let g = c.before.before.before in
-    let s = g.before.before.before.before.before.before.before in
-    let x = s.args.line in
-    omega (arith, ap length g.gather.ensures, length_fills (λ j. at s.args.volume.now (x.start + j * x.stride)) x.count s.args.scratch.now, s.requires.0.0.low, s.requires.1.1.scratch_fits)
+slice_bounds-turn_stored-end : tie.Need-slice_bounds-turn_stored-end
+slice_bounds-turn_stored-end c =
+    let x = c.args.line in
+    omega (arith, ap length c.gather.ensures, length_fills (λ j. at c.args.volume.now (x.start + j * x.stride)) x.count c.args.scratch.now, c.requires.0.0.low, c.requires.1.1.scratch_fits)
 
-slice-aggregate-turn-stored : tie.Need-slice-aggregate-turn-stored
-slice-aggregate-turn-stored c =
-    let g = c.before.before.before.before in
-    let s = g.before.before.before.before.before.before.before in
-    let x = s.args.line in
-    sym (prefix_length _ _ (omega (arith, ap length g.gather.ensures, length_fills (λ j. at s.args.volume.now (x.start + j * x.stride)) x.count s.args.scratch.now, s.requires.0.0.low, s.requires.1.1.scratch_fits)))
+slice_bounds-turn_stored-end-2 : tie.Need-slice_bounds-turn_stored-end-2
+slice_bounds-turn_stored-end-2 c =
+    let x = c.args.line in
+    sym (prefix_length _ _ (omega (arith, ap length c.gather.ensures, length_fills (λ j. at c.args.volume.now (x.start + j * x.stride)) x.count c.args.scratch.now, c.requires.0.0.low, c.requires.1.1.scratch_fits)))
 
-turn-stored-requires : tie.Need-turn-stored-requires
-turn-stored-requires c κs =
-    let g = c.before.before.before.before.before.before in
-    let s = g.before.before.before.before.before.before.before in
-    let x = s.args.line in
-    ((s.requires.0.0.sound, s.requires.0.1, s.requires.0.2, s.requires.0.0.counted), ((prefix_length _ _ (omega (arith, ap length g.gather.ensures, length_fills (λ j. at s.args.volume.now (x.start + j * x.stride)) x.count s.args.scratch.now, s.requires.0.0.low, s.requires.1.1.scratch_fits)) ∙ ap (λ n. 2 * n) s.requires.0.0.counted, below_lent x.m x.half x.direction x.rotated (kind_of x.kind) x.count (λ j. x.start + j * x.stride) s.args.volume.now s.args.scratch.now _ s.requires.0.0.counted s.requires.0.0.low (omega (arith, s.requires.0.0.low, s.requires.1.1.scratch_fits)) g.gather.ensures s.requires.1.0.each), room x s.requires.0.0.sound s.requires.1.1))
+turn_stored-requires : tie.Need-turn_stored-requires
+turn_stored-requires c κs =
+    let x = c.args.line in
+    ((c.requires.0.0.sound, c.requires.0.1, c.requires.0.2, c.requires.0.0.counted), ((prefix_length _ _ (omega (arith, ap length c.gather.ensures, length_fills (λ j. at c.args.volume.now (x.start + j * x.stride)) x.count c.args.scratch.now, c.requires.0.0.low, c.requires.1.1.scratch_fits)) ∙ ap (λ n. 2 * n) c.requires.0.0.counted, below_lent x.m x.half x.direction x.rotated (kind_of x.kind) x.count (λ j. x.start + j * x.stride) c.args.volume.now c.args.scratch.now _ c.requires.0.0.counted c.requires.0.0.low (omega (arith, c.requires.0.0.low, c.requires.1.1.scratch_fits)) c.gather.ensures c.requires.1.0.each), room x c.requires.0.0.sound c.requires.1.1))
 
 scatter-requires : tie.Need-scatter-requires
 scatter-requires c κs =
-    let t = c.before.before.before.before.before.before.before.before in
-    let g = t.before.before.before.before.before.before.before in
-    let s = g.before.before.before.before.before.before.before in
-    let x = s.args.line in
-    (returned_fits x.m x.half x.direction x.rotated (kind_of x.kind) x.count (λ j. x.start + j * x.stride) s.args.volume.now s.args.scratch.now _ s.requires.0.0.counted s.requires.0.0.low (omega (arith, s.requires.0.0.low, s.requires.1.1.scratch_fits)) g.gather.ensures _ _ t.turn-stored.ensures, s.requires.0.0.fits)
+    let x = c.args.line in
+    (returned_fits x.m x.half x.direction x.rotated (kind_of x.kind) x.count (λ j. x.start + j * x.stride) c.args.volume.now c.args.scratch.now _ c.requires.0.0.counted c.requires.0.0.low (omega (arith, c.requires.0.0.low, c.requires.1.1.scratch_fits)) c.gather.ensures _ _ c.turn_stored.ensures, c.requires.0.0.fits)
 
-same_length : tie.Need-same-length
-same_length c = c.before.volume.given
+shape_of-volume : tie.Need-shape_of-volume
+shape_of-volume c = c.volume-1.given
 
-same-length-2 : tie.Need-same-length-2
-same-length-2 c = search rules
+shape_of-scratch : tie.Need-shape_of-scratch
+shape_of-scratch c = search rules
 
-same-length-3 : tie.Need-same-length-3
-same-length-3 c = c.before.before.before.before.before.before.before.before.fold.given
+shape_of-fold : tie.Need-shape_of-fold
+shape_of-fold c = c.fold-1.given
 
-same-length-4 : tie.Need-same-length-4
-same-length-4 c = c.before.before.before.before.before.before.work.given
+shape_of-work : tie.Need-shape_of-work
+shape_of-work c = c.work-1.given
 
 returns : tie.Need-returns
 returns c =
-    let d = c.before.before in
-    let t = d.before.before.before.before.before.before.before.before.before in
-    let g = t.before.before.before.before.before.before.before in
-    let s = g.before.before.before.before.before.before.before in
-    let x = s.args.line in
-    (turned_line_lem x.m x.half x.direction x.rotated (kind_of x.kind) x.count (λ j. x.start + j * x.stride) s.args.volume.now s.args.scratch.now _ s.requires.0.0.counted s.requires.0.0.low (omega (arith, s.requires.0.0.low, s.requires.1.1.scratch_fits)) g.gather.ensures _ _ _ t.turn-stored.ensures refl d.scatter.ensures, kept x.m x.half x.direction x.rotated (kind_of x.kind) x.count (λ j. x.start + j * x.stride) s.args.volume.now s.args.scratch.now _ s.requires.0.0.counted s.requires.0.0.low (omega (arith, s.requires.0.0.low, s.requires.1.1.scratch_fits)) g.gather.ensures _ _ _ t.turn-stored.ensures refl d.scatter.ensures)
+    let x = c.args.line in
+    (turned_line_lem x.m x.half x.direction x.rotated (kind_of x.kind) x.count (λ j. x.start + j * x.stride) c.args.volume.now c.args.scratch.now _ c.requires.0.0.counted c.requires.0.0.low (omega (arith, c.requires.0.0.low, c.requires.1.1.scratch_fits)) c.gather.ensures _ _ _ c.turn_stored.ensures refl c.scatter.ensures, kept x.m x.half x.direction x.rotated (kind_of x.kind) x.count (λ j. x.start + j * x.stride) c.args.volume.now c.args.scratch.now _ c.requires.0.0.counted c.requires.0.0.low (omega (arith, c.requires.0.0.low, c.requires.1.1.scratch_fits)) c.gather.ensures _ _ _ c.turn_stored.ensures refl c.scatter.ensures)
 
 pub turn_gathered_spec : {M : Type 1} → statement M
 turn_gathered_spec =
     tie.close
-    (tie.spec
-    gather-requires
-    mul-size
-    slice-relend-prefix-turn-stored
-    slice-aggregate-turn-stored
-    turn-stored-requires
-    scatter-requires
-    same_length
-    same-length-2
-    same-length-3
-    same-length-4
-    returns)
+    (tie.spec gather-requires overflow_mul-size slice_bounds-turn_stored-end slice_bounds-turn_stored-end-2 turn_stored-requires scatter-requires shape_of-volume shape_of-scratch shape_of-fold shape_of-work returns)

@@ -17,14 +17,14 @@ transform-requires c κs =
     let same = sym s.requires.0.2 in
     ((subst IsModulus same sound.modulus, sound.known, sound.directed, subst (λ n. LineTables n x.kind x.direction s.args.re.now s.args.im.now s.args.tan.now) same s.requires.0.1), ((sound.size, sound.list), ((line_length x.half x.kind s.requires.1.0.0, subst (λ n. Below (prime n) s.args.packed.now) same s.requires.1.0.1), s.requires.1.1)))
 
-same_length : tie.Need-same-length
-same_length c = c.before.before.before.before.before.packed.given
+shape_of-packed : tie.Need-shape_of-packed
+shape_of-packed c = c.before.before.before.before.before.packed-1.given
 
-same-length-2 : tie.Need-same-length-2
-same-length-2 c = c.before.before.before.fold.given
+shape_of-fold : tie.Need-shape_of-fold
+shape_of-fold c = c.before.before.before.fold-1.given
 
-same-length-3 : tie.Need-same-length-3
-same-length-3 c = c.before.work.given
+shape_of-work : tie.Need-shape_of-work
+shape_of-work c = c.before.work-1.given
 
 returns : tie.Need-returns
 returns c =
@@ -36,9 +36,4 @@ returns c =
 pub turn_packed_spec : {M : Type 1} → statement M
 turn_packed_spec =
     tie.close
-    (tie.spec
-    transform-requires
-    same_length
-    same-length-2
-    same-length-3
-    returns)
+    (tie.spec transform-requires shape_of-packed shape_of-fold shape_of-work returns)

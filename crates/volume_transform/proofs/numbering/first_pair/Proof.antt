@@ -4,15 +4,13 @@ use Rattle.volume_transform.proofs.plan.Numbered.{first_of, first_other}
 use Rattle.volume_transform.proofs.numbering.first_pair.Statement.{statement}
 use Rattle.volume_transform.proofs.numbering.first_pair.Tie as tie
 
-returns : tie.Need-returns
-returns c = (first_of _ c.if1.true, omega arith)
+returns-then-kind-eq5 : tie.Need-returns-then-kind-eq5
+returns-then-kind-eq5 c = (first_of _ c.if-kind-eq5.true, omega arith)
 
-returns-2 : tie.Need-returns-2
-returns-2 c = (first_other _ c.before.requires c.if1.false, omega arith)
+returns-else-kind-eq5 : tie.Need-returns-else-kind-eq5
+returns-else-kind-eq5 c = (first_other _ c.before.requires c.if-kind-eq5.false, omega arith)
 
 pub first_pair_spec : {M : Type 1} → statement M
 first_pair_spec =
     tie.close
-    (tie.spec
-    returns
-    returns-2)
+    (tie.spec returns-then-kind-eq5 returns-else-kind-eq5)

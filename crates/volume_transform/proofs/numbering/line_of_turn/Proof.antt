@@ -5,70 +5,60 @@ use Rattle.volume_transform.proofs.plan.AxisLines.{turn_same, turn_back_k, turn_
 use Rattle.volume_transform.proofs.numbering.line_of_turn.Statement.{statement}
 use Rattle.volume_transform.proofs.numbering.line_of_turn.Tie as tie
 
-add-result : tie.Need-overflow-add-result
-add-result c =
+overflow_add-result : tie.Need-overflow_add-result
+overflow_add-result c =
     let s = c.before.before.before.before.before in
     omega (arith, s.requires.2, s.requires.1.l, s.requires.1.h, s.requires.1.k, s.requires.1.low)
 
-add-result-2 : tie.Need-overflow-add-result-2
-add-result-2 c =
+overflow_add-result-then-n-counts : tie.Need-overflow_add-result-then-n-counts
+overflow_add-result-then-n-counts c =
     let s = c.before.before.before.before.before in
     omega (arith, s.requires.2, s.requires.1.l, s.requires.1.h, s.requires.1.k, s.requires.1.low)
 
-add-if3 : tie.Need-overflow-add-if3
-add-if3 c = omega (arith, c.before.before.before.before.before.requires.1.low)
+overflow_add-counts : tie.Need-overflow_add-counts
+overflow_add-counts c = omega (arith, c.before.before.before.before.before.requires.1.low)
 
-add-result-3 : tie.Need-overflow-add-result-3
-add-result-3 c =
+overflow_add-result-then-n-counts-2 : tie.Need-overflow_add-result-then-n-counts-2
+overflow_add-result-then-n-counts-2 c =
     let i3 = c.before.before in
     let i2 = i3.before.before in
     let s = i2.before.before.before.before in
-    omega (arith, s.requires.2, s.requires.1.l, s.requires.1.h, s.requires.1.k, s.requires.1.low, i3.if3.true, i2.if2.false)
+    omega (arith, s.requires.2, s.requires.1.l, s.requires.1.h, s.requires.1.k, s.requires.1.low, i3.if-n-counts-2.true, i2.if-n-counts.false)
 
-add-result-4 : tie.Need-overflow-add-result-4
-add-result-4 c = omega (arith, c.before.before.before.before.before.before.before.requires.1.low)
+overflow_add-result-else-n-counts-2 : tie.Need-overflow_add-result-else-n-counts-2
+overflow_add-result-else-n-counts-2 c = omega (arith, c.before.before.before.before.before.before.before.requires.1.low)
 
-sub-result : tie.Need-overflow-sub-result
-sub-result c = omega (arith, c.before.if3.false)
+overflow_sub-result-else-n-counts-2 : tie.Need-overflow_sub-result-else-n-counts-2
+overflow_sub-result-else-n-counts-2 c = omega (arith, c.before.if-n-counts-2.false)
 
-returns : tie.Need-returns
-returns c =
+returns-then-plan-eq0 : tie.Need-returns-then-plan-eq0
+returns-then-plan-eq0 c =
     let s = c.before.before in
-    turn_same s.args.plan _ s.requires.1 s.args.n s.requires.2 c.if1.true
+    turn_same s.args.plan _ s.requires.1 s.args.n s.requires.2 c.if-plan-eq0.true
 
-returns-2 : tie.Need-returns-2
-returns-2 c =
+returns-then-n-counts : tie.Need-returns-then-n-counts
+returns-then-n-counts c =
     let i2 = c.before in
     let i = i2.before.before in
     let s = i.before.before in
-    turn_back_k s.args.plan _ s.requires.1 s.args.n s.requires.2 (other_direction s.args.plan.direction s.requires.0.directed i.if1.false) i2.if2.true
+    turn_back_k s.args.plan _ s.requires.1 s.args.n s.requires.2 (other_direction s.args.plan.direction s.requires.0.directed i.if-plan-eq0.false) i2.if-n-counts.true
 
-returns-3 : tie.Need-returns-3
-returns-3 c =
+returns-then-n-counts-2 : tie.Need-returns-then-n-counts-2
+returns-then-n-counts-2 c =
     let i3 = c.before.before in
     let i2 = i3.before.before in
     let i = i2.before.before in
     let s = i.before.before in
-    turn_back_h s.args.plan _ s.requires.1 s.args.n s.requires.2 (other_direction s.args.plan.direction s.requires.0.directed i.if1.false) (omega (arith, i2.if2.false)) i3.if3.true
+    turn_back_h s.args.plan _ s.requires.1 s.args.n s.requires.2 (other_direction s.args.plan.direction s.requires.0.directed i.if-plan-eq0.false) (omega (arith, i2.if-n-counts.false)) i3.if-n-counts-2.true
 
-returns-4 : tie.Need-returns-4
-returns-4 c =
+returns-else-n-counts-2 : tie.Need-returns-else-n-counts-2
+returns-else-n-counts-2 c =
     let i3 = c.before in
     let i = i3.before.before.before.before in
     let s = i.before.before in
-    turn_back_l s.args.plan _ s.requires.1 s.args.n s.requires.2 (other_direction s.args.plan.direction s.requires.0.directed i.if1.false) (omega (arith, i3.if3.false))
+    turn_back_l s.args.plan _ s.requires.1 s.args.n s.requires.2 (other_direction s.args.plan.direction s.requires.0.directed i.if-plan-eq0.false) (omega (arith, i3.if-n-counts-2.false))
 
 pub line_of_turn_spec : {M : Type 1} → statement M
 line_of_turn_spec =
     tie.close
-    (tie.spec
-    add-result
-    add-result-2
-    add-if3
-    add-result-3
-    add-result-4
-    sub-result
-    returns
-    returns-2
-    returns-3
-    returns-4)
+    (tie.spec overflow_add-result overflow_add-result-then-n-counts overflow_add-counts overflow_add-result-then-n-counts-2 overflow_add-result-else-n-counts-2 overflow_sub-result-else-n-counts-2 returns-then-plan-eq0 returns-then-n-counts returns-then-n-counts-2 returns-else-n-counts-2)

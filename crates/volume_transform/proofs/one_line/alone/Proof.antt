@@ -5,79 +5,61 @@ use Rattle.volume_transform.proofs.OwnTurns.{placed_sound}
 use Rattle.volume_transform.proofs.one_line.alone.Statement.{statement}
 use Rattle.volume_transform.proofs.one_line.alone.Tie as tie
 
-slice-aggregate-alone-in : tie.Need-slice-aggregate-alone-in
-slice-aggregate-alone-in c = search rules
+slice_bounds-alone_in-end : tie.Need-slice_bounds-alone_in-end
+slice_bounds-alone_in-end c = search rules
 
-slice-aggregate-alone-in-2 : tie.Need-slice-aggregate-alone-in-2
-slice-aggregate-alone-in-2 c = search rules
+slice_bounds-alone_in-end-then-line-le60 : tie.Need-slice_bounds-alone_in-end-then-line-le60
+slice_bounds-alone_in-end-then-line-le60 c = search rules
 
-alone-in-requires : tie.Need-alone-in-requires
-alone-in-requires c κs = let s = c.before.before.before.before.before.before.before.before in let h = c.before.before.before.before.if1.true in (s.requires.0, (s.requires.1, omega (arith, h), omega (arith, h)))
+alone_in-requires : tie.Need-alone_in-requires
+alone_in-requires c κs = let h = c.if-line-le60.true in (c.requires.0, (c.requires.1, omega (arith, h), omega (arith, h)))
 
-slice-aggregate-alone-in-3 : tie.Need-slice-aggregate-alone-in-3
-slice-aggregate-alone-in-3 c = search rules
+slice_bounds-alone_in-end-then-line-le240 : tie.Need-slice_bounds-alone_in-end-then-line-le240
+slice_bounds-alone_in-end-then-line-le240 c = search rules
 
-slice-aggregate-alone-in-4 : tie.Need-slice-aggregate-alone-in-4
-slice-aggregate-alone-in-4 c = search rules
+slice_bounds-alone_in-end-then-line-le240-2 : tie.Need-slice_bounds-alone_in-end-then-line-le240-2
+slice_bounds-alone_in-end-then-line-le240-2 c = search rules
 
-alone-in-requires-2 : tie.Need-alone-in-requires-2
-alone-in-requires-2 c κs = let s = c.before.before.before.before.before.before.before.before.before.before in let h = c.before.before.before.before.if2.true in (s.requires.0, (s.requires.1, omega (arith, h), omega (arith, h)))
+alone_in-requires-then-line-le240 : tie.Need-alone_in-requires-then-line-le240
+alone_in-requires-then-line-le240 c κs = let h = c.if-line-le240.true in (c.requires.0, (c.requires.1, omega (arith, h), omega (arith, h)))
 
-slice-aggregate-alone-in-5 : tie.Need-slice-aggregate-alone-in-5
-slice-aggregate-alone-in-5 c = search rules
+slice_bounds-alone_in-end-else-line-le240 : tie.Need-slice_bounds-alone_in-end-else-line-le240
+slice_bounds-alone_in-end-else-line-le240 c = search rules
 
-slice-aggregate-alone-in-6 : tie.Need-slice-aggregate-alone-in-6
-slice-aggregate-alone-in-6 c = search rules
+slice_bounds-alone_in-end-else-line-le240-2 : tie.Need-slice_bounds-alone_in-end-else-line-le240-2
+slice_bounds-alone_in-end-else-line-le240-2 c = search rules
 
-alone-in-requires-3 : tie.Need-alone-in-requires-3
-alone-in-requires-3 c κs = let s = c.before.before.before.before.before.before.before.before.before.before in let h = (placed_sound s.args.line s.requires.0.0).size.short in (s.requires.0, (s.requires.1, omega (arith, h), omega (arith, h)))
+alone_in-requires-else-line-le240 : tie.Need-alone_in-requires-else-line-le240
+alone_in-requires-else-line-le240 c κs = let h = (placed_sound c.args.line c.requires.0.0).size.short in (c.requires.0, (c.requires.1, omega (arith, h), omega (arith, h)))
 
-same_length : tie.Need-same-length
-same_length c = c.before.before.before.before.before.volume.given
+shape_of-volume-then-line-le60 : tie.Need-shape_of-volume-then-line-le60
+shape_of-volume-then-line-le60 c = c.volume-1.given
 
-same-length-2 : tie.Need-same-length-2
-same-length-2 c = c.before.before.before.scratch.given
+shape_of-scratch-then-line-le60 : tie.Need-shape_of-scratch-then-line-le60
+shape_of-scratch-then-line-le60 c = c.scratch-1.given
 
-returns : tie.Need-returns
-returns c = c.before.before.before.before.before.before.alone-in.ensures
+returns-then-line-le60 : tie.Need-returns-then-line-le60
+returns-then-line-le60 c = c.alone_in.ensures
 
-same-length-3 : tie.Need-same-length-3
-same-length-3 c = c.before.before.before.before.before.volume2.given
+shape_of-volume-then-line-le240 : tie.Need-shape_of-volume-then-line-le240
+shape_of-volume-then-line-le240 c = c.volume-then-line-le240-1.given
 
-same-length-4 : tie.Need-same-length-4
-same-length-4 c = c.before.before.before.scratch2.given
+shape_of-scratch-then-line-le240 : tie.Need-shape_of-scratch-then-line-le240
+shape_of-scratch-then-line-le240 c = c.scratch-then-line-le240-1.given
 
-returns-2 : tie.Need-returns-2
-returns-2 c = c.before.before.before.before.before.before.alone-in2.ensures
+returns-then-line-le240 : tie.Need-returns-then-line-le240
+returns-then-line-le240 c = c.alone_in-then-line-le240.ensures
 
-same-length-5 : tie.Need-same-length-5
-same-length-5 c = c.before.before.before.before.before.volume3.given
+shape_of-volume-else-line-le240 : tie.Need-shape_of-volume-else-line-le240
+shape_of-volume-else-line-le240 c = c.volume-else-line-le240-1.given
 
-same-length-6 : tie.Need-same-length-6
-same-length-6 c = c.before.before.before.scratch3.given
+shape_of-scratch-else-line-le240 : tie.Need-shape_of-scratch-else-line-le240
+shape_of-scratch-else-line-le240 c = c.scratch-else-line-le240-1.given
 
-returns-3 : tie.Need-returns-3
-returns-3 c = c.before.before.before.before.before.before.alone-in3.ensures
+returns-else-line-le240 : tie.Need-returns-else-line-le240
+returns-else-line-le240 c = c.alone_in-else-line-le240.ensures
 
 pub alone_spec : {M : Type 1} → statement M
 alone_spec =
     tie.close
-    (tie.spec
-    slice-aggregate-alone-in
-    slice-aggregate-alone-in-2
-    alone-in-requires
-    slice-aggregate-alone-in-3
-    slice-aggregate-alone-in-4
-    alone-in-requires-2
-    slice-aggregate-alone-in-5
-    slice-aggregate-alone-in-6
-    alone-in-requires-3
-    same_length
-    same-length-2
-    returns
-    same-length-3
-    same-length-4
-    returns-2
-    same-length-5
-    same-length-6
-    returns-3)
+    (tie.spec slice_bounds-alone_in-end slice_bounds-alone_in-end-then-line-le60 alone_in-requires slice_bounds-alone_in-end-then-line-le240 slice_bounds-alone_in-end-then-line-le240-2 alone_in-requires-then-line-le240 slice_bounds-alone_in-end-else-line-le240 slice_bounds-alone_in-end-else-line-le240-2 alone_in-requires-else-line-le240 shape_of-volume-then-line-le60 shape_of-scratch-then-line-le60 returns-then-line-le60 shape_of-volume-then-line-le240 shape_of-scratch-then-line-le240 returns-then-line-le240 shape_of-volume-else-line-le240 shape_of-scratch-else-line-le240 returns-else-line-le240)

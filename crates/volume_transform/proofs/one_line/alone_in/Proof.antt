@@ -5,54 +5,42 @@ use Rattle.volume_transform.proofs.OwnTurns.{own_as, packed_fits}
 use Rattle.volume_transform.proofs.one_line.alone_in.Statement.{statement}
 use Rattle.volume_transform.proofs.one_line.alone_in.Tie as tie
 
-row-alone-requires : tie.Need-row-alone-requires
-row-alone-requires c κs = let s = c.before.before.before.before.before.before.before.before.before in ((beside s.args.line s.requires.0.0 c.before.before.before.if1.true, s.requires.0.1, s.requires.0.2), (s.requires.1.0, s.requires.1.2))
+row_alone-requires : tie.Need-row_alone-requires
+row_alone-requires c κs = ((beside c.args.line c.requires.0.0 c.if-line-eq1.true, c.requires.0.1, c.requires.0.2), (c.requires.1.0, c.requires.1.2))
 
-gathered-alone-requires : tie.Need-gathered-alone-requires
-gathered-alone-requires c κs =
-    let s = c.before.before.before.before.before.before.before.before.before.before in
-    let b = spaced s.args.line s.requires.0.0 c.before.before.before.before.if1.false in
-    ((b, s.requires.0.1, s.requires.0.2), (s.requires.1.0, packed_fits s.args.line b s.requires.1.1, s.requires.1.2))
+gathered_alone-requires : tie.Need-gathered_alone-requires
+gathered_alone-requires c κs =
+    let b = spaced c.args.line c.requires.0.0 c.if-line-eq1.false in
+    ((b, c.requires.0.1, c.requires.0.2), (c.requires.1.0, packed_fits c.args.line b c.requires.1.1, c.requires.1.2))
 
-same_length : tie.Need-same-length
-same_length c = c.before.before.before.before.before.volume.given
+shape_of-volume-then-line-eq1 : tie.Need-shape_of-volume-then-line-eq1
+shape_of-volume-then-line-eq1 c = c.volume-1.given
 
-same-length-2 : tie.Need-same-length-2
-same-length-2 c = c.before.before.before.scratch.given
+shape_of-scratch-then-line-eq1 : tie.Need-shape_of-scratch-then-line-eq1
+shape_of-scratch-then-line-eq1 c = c.scratch-1.given
 
-same-length-3 : tie.Need-same-length-3
-same-length-3 c = c.before.work.given
+shape_of-work-then-line-eq1 : tie.Need-shape_of-work-then-line-eq1
+shape_of-work-then-line-eq1 c = c.work-1.given
 
-returns : tie.Need-returns
-returns c = let s = c.before.before.before.before.before.before.before.before.before.before.before.before.before.before.before.before in own_as (row_is s.args.line s.args.volume.now c.before.before.before.before.before.before.before.before.before.before.if1.true) c.before.before.before.before.before.before.row-alone.ensures
+returns-then-line-eq1 : tie.Need-returns-then-line-eq1
+returns-then-line-eq1 c = own_as (row_is c.args.line c.args.volume.now c.if-line-eq1.true) c.row_alone.ensures
 
-same-length-4 : tie.Need-same-length-4
-same-length-4 c = c.before.before.before.before.before.before.before.volume2.given
+shape_of-volume-else-line-eq1 : tie.Need-shape_of-volume-else-line-eq1
+shape_of-volume-else-line-eq1 c = c.volume-else-line-eq1-1.given
 
-same-length-5 : tie.Need-same-length-5
-same-length-5 c = c.before.before.before.before.before.scratch2.given
+shape_of-scratch-else-line-eq1 : tie.Need-shape_of-scratch-else-line-eq1
+shape_of-scratch-else-line-eq1 c = c.scratch-else-line-eq1-1.given
 
-same-length-6 : tie.Need-same-length-6
-same-length-6 c = c.before.before.before.packed.given
+shape_of-packed : tie.Need-shape_of-packed
+shape_of-packed c = c.packed-1.given
 
-same-length-7 : tie.Need-same-length-7
-same-length-7 c = c.before.work2.given
+shape_of-work-else-line-eq1 : tie.Need-shape_of-work-else-line-eq1
+shape_of-work-else-line-eq1 c = c.work-else-line-eq1-1.given
 
-returns-2 : tie.Need-returns-2
-returns-2 c = let s = c.before.before.before.before.before.before.before.before.before.before.before.before.before.before.before.before.before.before.before in own_as (gathered_is s.args.line s.args.volume.now c.before.before.before.before.before.before.before.before.before.before.before.before.before.if1.false) c.before.before.before.before.before.before.before.before.gathered-alone.ensures
+returns-else-line-eq1 : tie.Need-returns-else-line-eq1
+returns-else-line-eq1 c = own_as (gathered_is c.args.line c.args.volume.now c.if-line-eq1.false) c.gathered_alone.ensures
 
 pub alone_in_spec : {M : Type 1} → statement M
 alone_in_spec =
     tie.close
-    (tie.spec
-    row-alone-requires
-    gathered-alone-requires
-    same_length
-    same-length-2
-    same-length-3
-    returns
-    same-length-4
-    same-length-5
-    same-length-6
-    same-length-7
-    returns-2)
+    (tie.spec row_alone-requires gathered_alone-requires shape_of-volume-then-line-eq1 shape_of-scratch-then-line-eq1 shape_of-work-then-line-eq1 returns-then-line-eq1 shape_of-volume-else-line-eq1 shape_of-scratch-else-line-eq1 shape_of-packed shape_of-work-else-line-eq1 returns-else-line-eq1)

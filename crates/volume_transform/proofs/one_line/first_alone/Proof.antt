@@ -5,60 +5,48 @@ use Rattle.volume_transform.proofs.OwnTurns.{placed_sound, modulus_of, tables_fo
 use Rattle.volume_transform.proofs.one_line.first_alone.Statement.{statement}
 use Rattle.volume_transform.proofs.one_line.first_alone.Tie as tie
 
-first-powers-requires : tie.Need-first-powers-requires
-first-powers-requires c κs = tt
+first_powers-powers-requires : tie.Need-first_powers-powers-requires
+first_powers-powers-requires c κs = tt
 
 alone-requires : tie.Need-alone-requires
 alone-requires c κs =
-    let p = c.before.before.before.before.before.before.before.before.before.first-powers.ensures in
-    let s = c.before.before.before.before.before.before.before.before.before.before.before.before in
-    let x = s.args.line in
-    let v = s.args.volume.now in
-    let em = sym s.requires.1 in
-    ((s.requires.0, tables_for x v em s.requires.2 (plain_tables (modulus_of x v em (placed_sound x s.requires.0).modulus) p.0 p.1 _ c.before.before.before.before.before.if1.true), em), s.requires.3)
+    let p = c.first_powers-powers.ensures in
+    let x = c.args.line in
+    let v = c.args.volume.now in
+    let em = sym c.requires.1 in
+    ((c.requires.0, tables_for x v em c.requires.2 (plain_tables (modulus_of x v em (placed_sound x c.requires.0).modulus) p.0 p.1 _ c.if-line-eq0.true), em), c.requires.3)
 
-first-half-tangents-requires : tie.Need-first-half-tangents-requires
-first-half-tangents-requires c κs = tt
+first_half_tangents-tan-requires : tie.Need-first_half_tangents-tan-requires
+first_half_tangents-tan-requires c κs = tt
 
-alone-requires-2 : tie.Need-alone-requires-2
-alone-requires-2 c κs =
-    let p = c.before.before.before.before.before.before.before.before.before.before.first-powers.ensures in
-    let s = c.before.before.before.before.before.before.before.before.before.before.before.before.before in
-    let x = s.args.line in
-    let v = s.args.volume.now in
-    let em = sym s.requires.1 in
-    let is = modulus_of x v em (placed_sound x s.requires.0).modulus in
-    ((s.requires.0, tables_for x v em s.requires.2 (line_tables x.kind (forward_tables is p.0 p.1 c.before.before.before.before.before.first-half-tangents.ensures)), em), s.requires.3)
+alone-requires-else-line-eq0 : tie.Need-alone-requires-else-line-eq0
+alone-requires-else-line-eq0 c κs =
+    let p = c.first_powers-powers.ensures in
+    let x = c.args.line in
+    let v = c.args.volume.now in
+    let em = sym c.requires.1 in
+    let is = modulus_of x v em (placed_sound x c.requires.0).modulus in
+    ((c.requires.0, tables_for x v em c.requires.2 (line_tables x.kind (forward_tables is p.0 p.1 c.first_half_tangents-tan.ensures)), em), c.requires.3)
 
-same_length : tie.Need-same-length
-same_length c = c.before.before.before.volume.given
+shape_of-volume-then-line-eq0 : tie.Need-shape_of-volume-then-line-eq0
+shape_of-volume-then-line-eq0 c = c.volume-1.given
 
-same-length-2 : tie.Need-same-length-2
-same-length-2 c = c.before.scratch.given
+shape_of-scratch-then-line-eq0 : tie.Need-shape_of-scratch-then-line-eq0
+shape_of-scratch-then-line-eq0 c = c.scratch-1.given
 
-returns : tie.Need-returns
-returns c = c.before.before.before.before.alone.ensures
+returns-then-line-eq0 : tie.Need-returns-then-line-eq0
+returns-then-line-eq0 c = c.alone.ensures
 
-same-length-3 : tie.Need-same-length-3
-same-length-3 c = c.before.before.before.volume2.given
+shape_of-volume-else-line-eq0 : tie.Need-shape_of-volume-else-line-eq0
+shape_of-volume-else-line-eq0 c = c.volume-else-line-eq0-1.given
 
-same-length-4 : tie.Need-same-length-4
-same-length-4 c = c.before.scratch2.given
+shape_of-scratch-else-line-eq0 : tie.Need-shape_of-scratch-else-line-eq0
+shape_of-scratch-else-line-eq0 c = c.scratch-else-line-eq0-1.given
 
-returns-2 : tie.Need-returns-2
-returns-2 c = c.before.before.before.before.alone2.ensures
+returns-else-line-eq0 : tie.Need-returns-else-line-eq0
+returns-else-line-eq0 c = c.alone-else-line-eq0.ensures
 
 pub first_alone_spec : {M : Type 1} → statement M
 first_alone_spec =
     tie.close
-    (tie.spec
-    first-powers-requires
-    alone-requires
-    first-half-tangents-requires
-    alone-requires-2
-    same_length
-    same-length-2
-    returns
-    same-length-3
-    same-length-4
-    returns-2)
+    (tie.spec first_powers-powers-requires alone-requires first_half_tangents-tan-requires alone-requires-else-line-eq0 shape_of-volume-then-line-eq0 shape_of-scratch-then-line-eq0 returns-then-line-eq0 shape_of-volume-else-line-eq0 shape_of-scratch-else-line-eq0 returns-else-line-eq0)

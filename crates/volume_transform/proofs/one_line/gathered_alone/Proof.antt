@@ -14,138 +14,102 @@ use Rattle.volume_transform.proofs.one_line.gathered_alone.Statement.{statement}
 use Rattle.volume_transform.proofs.one_line.gathered_alone.Tie as tie
 
 -- the gathered line is as long as its pairs ask for
-lent-long : (g : tie.After-gather) → let x = g.before.before.before.before.before.before.before.args.line in length (take (2 * x.count) g.gather.new.1.1.1.0) ≡ 2 * x.count
+lent-long : (g : tie.After-gather) → let x = g.args.line in length (take (2 * x.count) g.gather.new.d) ≡ 2 * x.count
 lent-long g =
-    let s = g.before.before.before.before.before.before.before in
-    let x = s.args.line in
-    prefix_length _ _ (omega (arith, ap length g.gather.ensures, length_fills (λ j. at s.args.volume.now (x.start + j * x.stride)) x.count s.args.packed.now, s.requires.1.1))
+    let x = g.args.line in
+    prefix_length _ _ (omega (arith, ap length g.gather.ensures, length_fills (λ j. at g.args.volume.now (x.start + j * x.stride)) x.count g.args.packed.now, g.requires.1.1))
 
 gather-requires : tie.Need-gather-requires
-gather-requires c κs = let s = c.before.before.before.before.before.before in (s.requires.0.0.fits, s.requires.1.1)
+gather-requires c κs = (c.requires.0.0.fits, c.requires.1.1)
 
-mul-size : tie.Need-overflow-mul-size
-mul-size c = let s = c.before.before.before.before.before.before.before.before.before.before in omega (arith, s.requires.0.0.low)
+overflow_mul-size : tie.Need-overflow_mul-size
+overflow_mul-size c = omega (arith, c.requires.0.0.low)
 
-slice-reshare-prefix-all-below : tie.Need-slice-reshare-prefix-all-below
-slice-reshare-prefix-all-below c =
-    let g = c.before.before.before in
-    let s = c.before.before.before.before.before.before.before.before.before.before in
-    let x = s.args.line in
-    omega (arith, ap length g.gather.ensures, length_fills (λ j. at s.args.volume.now (x.start + j * x.stride)) x.count s.args.packed.now, s.requires.1.1)
+slice_bounds-all_below-end : tie.Need-slice_bounds-all_below-end
+slice_bounds-all_below-end c =
+    let x = c.args.line in
+    omega (arith, ap length c.gather.ensures, length_fills (λ j. at c.args.volume.now (x.start + j * x.stride)) x.count c.args.packed.now, c.requires.1.1)
 
-slice-aggregate-all-below : tie.Need-slice-aggregate-all-below
-slice-aggregate-all-below c = sym (lent-long c.before.before.before.before)
+slice_bounds-all_below-end-2 : tie.Need-slice_bounds-all_below-end-2
+slice_bounds-all_below-end-2 c = sym (lent-long c.before.before.before)
 
 modulus-requires : tie.Need-modulus-requires
-modulus-requires c κs = let s = c.before.before.before.before.before.before.before.before.before.before.before in modulus_of s.args.line s.args.volume.now s.requires.0.2 s.requires.0.0.sound.modulus
+modulus-requires c κs = modulus_of c.args.line c.args.volume.now c.requires.0.2 c.requires.0.0.sound.modulus
 
-all-below-requires : tie.Need-all-below-requires
-all-below-requires c κs = search rules
+all_below-requires : tie.Need-all_below-requires
+all_below-requires c κs = search rules
 
-same_length : tie.Need-same-length
-same_length c = search rules
+shape_of-volume-then-not-all_below : tie.Need-shape_of-volume-then-not-all_below
+shape_of-volume-then-not-all_below c = search rules
 
-same-length-2 : tie.Need-same-length-2
-same-length-2 c = search rules
+shape_of-packed-then-not-all_below : tie.Need-shape_of-packed-then-not-all_below
+shape_of-packed-then-not-all_below c = search rules
 
-returns : tie.Need-returns
-returns c =
-    let g = c.before.before.before.before.before.before.before in
-    let s = c.before.before.before.before.before.before.before.before.before.before.before.before.before.before in
-    let x = s.args.line in
-    let v = s.args.volume.now in
-    own_refused x v s.requires.0.2 (gathered_numbers x v _ s.args.packed.now s.requires.0.0 s.requires.1.1 g.gather.ensures) c.before.before.modulus.ensures.0 c.before.all-below.ensures c.if1.true
+returns-then-not-all_below : tie.Need-returns-then-not-all_below
+returns-then-not-all_below c =
+    let x = c.args.line in
+    let v = c.args.volume.now in
+    own_refused x v c.requires.0.2 (gathered_numbers x v _ c.args.packed.now c.requires.0.0 c.requires.1.1 c.gather.ensures) c.modulus.ensures.0 c.all_below.ensures c.if-not-all_below.true
 
-slice-relend-prefix-turn-stored : tie.Need-slice-relend-prefix-turn-stored
-slice-relend-prefix-turn-stored c =
-    let g = c.before.before.before.before.before.before.before in
-    let s = c.before.before.before.before.before.before.before.before.before.before.before.before.before.before in
-    let x = s.args.line in
-    omega (arith, ap length g.gather.ensures, length_fills (λ j. at s.args.volume.now (x.start + j * x.stride)) x.count s.args.packed.now, s.requires.1.1)
+slice_bounds-turn_stored-end : tie.Need-slice_bounds-turn_stored-end
+slice_bounds-turn_stored-end c =
+    let x = c.args.line in
+    omega (arith, ap length c.gather.ensures, length_fills (λ j. at c.args.volume.now (x.start + j * x.stride)) x.count c.args.packed.now, c.requires.1.1)
 
-slice-aggregate-turn-stored : tie.Need-slice-aggregate-turn-stored
-slice-aggregate-turn-stored c = sym (lent-long c.before.before.before.before.before.before.before.before)
+slice_bounds-turn_stored-end-2 : tie.Need-slice_bounds-turn_stored-end-2
+slice_bounds-turn_stored-end-2 c = sym (lent-long c.before.before.before.before.before.before.before)
 
-slice-relend-prefix-turn-stored-2 : tie.Need-slice-relend-prefix-turn-stored-2
-slice-relend-prefix-turn-stored-2 c = let s = c.before.before.before.before.before.before.before.before.before.before.before.before.before.before.before in omega (arith, s.requires.1.0)
+slice_bounds-turn_stored-end-3 : tie.Need-slice_bounds-turn_stored-end-3
+slice_bounds-turn_stored-end-3 c = omega (arith, c.requires.1.0)
 
-slice-aggregate-turn-stored-2 : tie.Need-slice-aggregate-turn-stored-2
-slice-aggregate-turn-stored-2 c = let s = c.before.before.before.before.before.before.before.before.before.before.before.before.before.before.before.before in sym (prefix_length 5760 s.args.scratch.now (omega (arith, s.requires.1.0)))
+slice_bounds-turn_stored-end-4 : tie.Need-slice_bounds-turn_stored-end-4
+slice_bounds-turn_stored-end-4 c = sym (prefix_length 5760 c.args.scratch.now (omega (arith, c.requires.1.0)))
 
-turn-stored-requires : tie.Need-turn-stored-requires
-turn-stored-requires c κs =
-    let g = c.before.before.before.before.before.before.before.before.before.before in
-    let s = c.before.before.before.before.before.before.before.before.before.before.before.before.before.before.before.before.before in
-    let x = s.args.line in
-    let v = s.args.volume.now in
-    let b = s.requires.0.0 in (
-      (b.sound, s.requires.0.1, s.requires.0.2, b.counted),
+turn_stored-requires : tie.Need-turn_stored-requires
+turn_stored-requires c κs =
+    let g = c.before.before.before.before.before.before.before.before.before in
+    let x = c.args.line in
+    let v = c.args.volume.now in
+    let b = c.requires.0.0 in (
+      (b.sound, c.requires.0.1, c.requires.0.2, b.counted),
       (
-        (lent-long g ∙ ap (λ n. 2 * n) b.counted, own_below x v s.requires.0.2 (gathered_numbers x v _ s.args.packed.now b s.requires.1.1 g.gather.ensures) c.before.before.before.before.before.modulus.ensures.0 c.before.before.before.before.all-below.ensures c.before.before.before.if1.false),
-        (fold_room x b.sound s.args.scratch.now s.requires.1.0, s.requires.1.2),
+        (lent-long g ∙ ap (λ n. 2 * n) b.counted, own_below x v c.requires.0.2 (gathered_numbers x v _ c.args.packed.now b c.requires.1.1 g.gather.ensures) c.modulus.ensures.0 c.all_below.ensures c.if-not-all_below.false),
+        (fold_room x b.sound c.args.scratch.now c.requires.1.0, c.requires.1.2),
       ),
     )
 
 scatter-requires : tie.Need-scatter-requires
 scatter-requires c κs =
-    let g = c.before.before.before.before.before.before.before.before.before.before.before.before.before.before.before.before.before.before.before in
-    let s = c.before.before.before.before.before.before.before.before.before.before.before.before.before.before.before.before.before.before.before.before.before.before.before.before.before.before in
-    let x = s.args.line in
-    (returned_fits x.m x.half x.direction x.rotated (kind_of x.kind) x.count (λ j. x.start + j * x.stride) s.args.volume.now s.args.packed.now _ s.requires.0.0.counted s.requires.0.0.low s.requires.1.1 g.gather.ensures _ _ c.before.before.before.before.before.before.before.before.turn-stored.ensures, s.requires.0.0.fits)
+    let x = c.args.line in
+    (returned_fits x.m x.half x.direction x.rotated (kind_of x.kind) x.count (λ j. x.start + j * x.stride) c.args.volume.now c.args.packed.now _ c.requires.0.0.counted c.requires.0.0.low c.requires.1.1 c.gather.ensures _ _ c.turn_stored.ensures, c.requires.0.0.fits)
 
 clear-requires : tie.Need-clear-requires
-clear-requires c κs = let s = c.before.before.before.before.before.before.before.before.before.before.before.before.before.before.before.before.before.before.before.before.before.before.before.before.before.before.before.before.before.before in returned_long s.args.scratch.now c.before.before.before.before.before.before.before.before.before.before.before.before.turn-stored.new.1.1.1.1.1.1.0 s.requires.1.0 c.before.before.before.before.before.before.before.before.before.scratch.given.0
+clear-requires c κs = returned_long c.args.scratch.now c.turn_stored.new.fold c.requires.1.0 c.scratch-1.given.0
 
-same-length-3 : tie.Need-same-length-3
-same-length-3 c = c.before.before.before.before.before.volume.given
+shape_of-volume : tie.Need-shape_of-volume
+shape_of-volume c = c.volume-1.given
 
-same-length-4 : tie.Need-same-length-4
-same-length-4 c = search rules
+shape_of-scratch : tie.Need-shape_of-scratch
+shape_of-scratch c = search rules
 
-same-length-5 : tie.Need-same-length-5
-same-length-5 c =
-    let g = c.before.before.before.before.before.before.before.before.before.before.before.before.before.before.before.before.before.before.before.before.before.before.before.before.before.before in
-    let s = c.before.before.before.before.before.before.before.before.before.before.before.before.before.before.before.before.before.before.before.before.before.before.before.before.before.before.before.before.before.before.before.before.before in
-    let x = s.args.line in
-    part_back c.before.before.before.before.before.before.before.before.before.before.before.before.before.before.before.turn-stored.new.1.1.1.1.1.0 g.gather.new.1.1.1.0 (2 * x.count) (omega (arith, ap length g.gather.ensures, length_fills (λ j. at s.args.volume.now (x.start + j * x.stride)) x.count s.args.packed.now, s.requires.1.1)) c.before.before.before.before.before.before.before.before.before.before.before.before.before.before.packed2.given.0
-    ∙ ap length g.gather.ensures ∙ length_fills (λ j. at s.args.volume.now (x.start + j * x.stride)) x.count s.args.packed.now
+shape_of-packed : tie.Need-shape_of-packed
+shape_of-packed c =
+    let x = c.args.line in
+    part_back c.turn_stored.new.packed c.gather.new.d (2 * x.count) (omega (arith, ap length c.gather.ensures, length_fills (λ j. at c.args.volume.now (x.start + j * x.stride)) x.count c.args.packed.now, c.requires.1.1)) c.packed-2-1.given.0
+    ∙ ap length c.gather.ensures ∙ length_fills (λ j. at c.args.volume.now (x.start + j * x.stride)) x.count c.args.packed.now
 
-same-length-6 : tie.Need-same-length-6
-same-length-6 c = c.before.before.before.before.before.before.before.before.before.before.work.given
+shape_of-work : tie.Need-shape_of-work
+shape_of-work c = c.work-1.given
 
-returns-2 : tie.Need-returns-2
-returns-2 c =
-    let t = c.before.before.before.before.before.before.before.before.before.before.before.before.before.before.before in
-    let g = c.before.before.before.before.before.before.before.before.before.before.before.before.before.before.before.before.before.before.before.before.before.before.before.before.before.before in
-    let s = c.before.before.before.before.before.before.before.before.before.before.before.before.before.before.before.before.before.before.before.before.before.before.before.before.before.before.before.before.before.before.before.before.before in
-    let x = s.args.line in
-    let v = s.args.volume.now in
-    own_done x v s.requires.0.2 (gathered_numbers x v _ s.args.packed.now s.requires.0.0 s.requires.1.1 g.gather.ensures) c.before.before.before.before.before.before.before.before.before.before.before.before.before.before.before.before.before.before.before.before.before.modulus.ensures.0 c.before.before.before.before.before.before.before.before.before.before.before.before.before.before.before.before.before.before.before.before.all-below.ensures s.args.scratch.now t.turn-stored.new.1.1.1.1.1.1.0 c.before.before.before.before.before.before.before.before.before.before.before.before.before.before.before.before.before.before.before.if1.false
-    (turned_line_lem x.m x.half x.direction x.rotated (kind_of x.kind) x.count (λ j. x.start + j * x.stride) s.args.volume.now s.args.packed.now _ s.requires.0.0.counted s.requires.0.0.low s.requires.1.1 g.gather.ensures _ _ _ t.turn-stored.ensures refl c.before.before.before.before.before.before.scatter.ensures)
-    s.requires.1.0 c.before.before.before.before.before.before.before.before.before.before.before.before.scratch.given.0 c.before.before.clear.ensures
+returns : tie.Need-returns
+returns c =
+    let x = c.args.line in
+    let v = c.args.volume.now in
+    own_done x v c.requires.0.2 (gathered_numbers x v _ c.args.packed.now c.requires.0.0 c.requires.1.1 c.gather.ensures) c.modulus.ensures.0 c.all_below.ensures c.args.scratch.now c.turn_stored.new.fold c.if-not-all_below.false
+    (turned_line_lem x.m x.half x.direction x.rotated (kind_of x.kind) x.count (λ j. x.start + j * x.stride) c.args.volume.now c.args.packed.now _ c.requires.0.0.counted c.requires.0.0.low c.requires.1.1 c.gather.ensures _ _ _ c.turn_stored.ensures refl c.scatter.ensures)
+    c.requires.1.0 c.scratch-1.given.0 c.clear.ensures
 
 pub gathered_alone_spec : {M : Type 1} → statement M
 gathered_alone_spec =
     tie.close
-    (tie.spec
-    gather-requires
-    mul-size
-    slice-reshare-prefix-all-below
-    slice-aggregate-all-below
-    modulus-requires
-    all-below-requires
-    same_length
-    same-length-2
-    returns
-    slice-relend-prefix-turn-stored
-    slice-aggregate-turn-stored
-    slice-relend-prefix-turn-stored-2
-    slice-aggregate-turn-stored-2
-    turn-stored-requires
-    scatter-requires
-    clear-requires
-    same-length-3
-    same-length-4
-    same-length-5
-    same-length-6
-    returns-2)
+    (tie.spec gather-requires overflow_mul-size slice_bounds-all_below-end slice_bounds-all_below-end-2 modulus-requires all_below-requires shape_of-volume-then-not-all_below shape_of-packed-then-not-all_below returns-then-not-all_below slice_bounds-turn_stored-end slice_bounds-turn_stored-end-2 slice_bounds-turn_stored-end-3 slice_bounds-turn_stored-end-4 turn_stored-requires scatter-requires clear-requires shape_of-volume shape_of-scratch shape_of-packed shape_of-work returns)

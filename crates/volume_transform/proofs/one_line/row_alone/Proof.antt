@@ -8,120 +8,92 @@ use Rattle.volume_transform.proofs.OwnTurns.{row_numbers, modulus_of, fold_room,
 use Rattle.volume_transform.proofs.one_line.row_alone.Statement.{statement}
 use Rattle.volume_transform.proofs.one_line.row_alone.Tie as tie
 
-mul-start : tie.Need-overflow-mul-start
-mul-start c = let b = c.before.before.before.before.requires.0.0 in omega (arith, b.fits, b.low)
+overflow_mul-start : tie.Need-overflow_mul-start
+overflow_mul-start c = let b = c.requires.0.0 in omega (arith, b.fits, b.low)
 
-mul-end : tie.Need-overflow-mul-end
-mul-end c = let b = c.before.before.before.before.before.requires.0.0 in omega (arith, b.fits, b.low)
+overflow_mul-end : tie.Need-overflow_mul-end
+overflow_mul-end c = let b = c.requires.0.0 in omega (arith, b.fits, b.low)
 
-add-end : tie.Need-overflow-add-end
-add-end c = let b = c.before.before.before.before.before.requires.0.0 in omega (arith, b.fits, b.low)
+overflow_add-end : tie.Need-overflow_add-end
+overflow_add-end c = let b = c.requires.0.0 in omega (arith, b.fits, b.low)
 
-mul-all-below : tie.Need-overflow-mul-all-below
-mul-all-below c = let b = c.before.before.before.before.before.requires.0.0 in omega (arith, b.fits, b.low)
+offset_bounds-volume-start : tie.Need-offset_bounds-volume-start
+offset_bounds-volume-start c = let b = c.requires.0.0 in omega (arith, b.fits, b.low)
 
-sub-all-below : tie.Need-overflow-sub-all-below
-sub-all-below c = let b = c.before.before.before.before.before.requires.0.0 in omega (arith, b.fits, b.low)
+slice_bounds-all_below-count : tie.Need-slice_bounds-all_below-count
+slice_bounds-all_below-count c = let b = c.requires.0.0 in omega (arith, b.fits, b.low)
 
-part-all-below-start : tie.Need-slice-bounds-all-below-start
-part-all-below-start c = let b = c.before.before.before.before.before.before.requires.0.0 in omega (arith, b.fits, b.low)
+slice_bounds-all_below-start : tie.Need-slice_bounds-all_below-start
+slice_bounds-all_below-start c = let b = c.requires.0.0 in omega (arith, b.fits, b.low)
 
-part-all-below-end : tie.Need-slice-bounds-all-below-end
-part-all-below-end c = let b = c.before.before.before.before.before.before.requires.0.0 in omega (arith, b.fits, b.low)
+slice_bounds-all_below-end : tie.Need-slice_bounds-all_below-end
+slice_bounds-all_below-end c = let b = c.requires.0.0 in omega (arith, b.fits, b.low)
 
 modulus-requires : tie.Need-modulus-requires
-modulus-requires c κs = let s = c.before.before.before.before.before.before.before in modulus_of s.args.line s.args.volume.now s.requires.0.2 s.requires.0.0.sound.modulus
+modulus-requires c κs = modulus_of c.args.line c.args.volume.now c.requires.0.2 c.requires.0.0.sound.modulus
 
-all-below-requires : tie.Need-all-below-requires
-all-below-requires c κs = search rules
+all_below-requires : tie.Need-all_below-requires
+all_below-requires c κs = search rules
 
-same_length : tie.Need-same-length
-same_length c = search rules
+shape_of-volume-then-not-all_below : tie.Need-shape_of-volume-then-not-all_below
+shape_of-volume-then-not-all_below c = search rules
 
-returns : tie.Need-returns
-returns c =
-    let s = c.before.before.before.before.before.before.before.before.before.before in
-    let x = s.args.line in
-    let v = s.args.volume.now in
-    own_refused x v s.requires.0.2 (row_numbers x v s.requires.0.0) c.before.before.modulus.ensures.0 c.before.all-below.ensures c.if1.true
+returns-then-not-all_below : tie.Need-returns-then-not-all_below
+returns-then-not-all_below c =
+    let x = c.args.line in
+    let v = c.args.volume.now in
+    own_refused x v c.requires.0.2 (row_numbers x v c.requires.0.0) c.modulus.ensures.0 c.all_below.ensures c.if-not-all_below.true
 
-mul-turn-row : tie.Need-overflow-mul-turn-row
-mul-turn-row c = let b = c.before.before.before.before.before.before.before.before.before.before.requires.0.0 in omega (arith, b.fits, b.low)
+offset_bounds-volume-start-2 : tie.Need-offset_bounds-volume-start-2
+offset_bounds-volume-start-2 c = let b = c.requires.0.0 in omega (arith, b.fits, b.low)
 
-sub-turn-row : tie.Need-overflow-sub-turn-row
-sub-turn-row c = let b = c.before.before.before.before.before.before.before.before.before.before.requires.0.0 in omega (arith, b.fits, b.low)
+slice_bounds-turn_row-count : tie.Need-slice_bounds-turn_row-count
+slice_bounds-turn_row-count c = let b = c.requires.0.0 in omega (arith, b.fits, b.low)
 
-part-turn-row-start : tie.Need-slice-bounds-turn-row-start
-part-turn-row-start c = let b = c.before.before.before.before.before.before.before.before.before.before.requires.0.0 in omega (arith, b.fits, b.low)
+slice_bounds-turn_row-start : tie.Need-slice_bounds-turn_row-start
+slice_bounds-turn_row-start c = let b = c.requires.0.0 in omega (arith, b.fits, b.low)
 
-part-turn-row-end : tie.Need-slice-bounds-turn-row-end
-part-turn-row-end c = let b = c.before.before.before.before.before.before.before.before.before.before.requires.0.0 in omega (arith, b.fits, b.low)
+slice_bounds-turn_row-end : tie.Need-slice_bounds-turn_row-end
+slice_bounds-turn_row-end c = let b = c.requires.0.0 in omega (arith, b.fits, b.low)
 
-slice-relend-prefix-turn-row : tie.Need-slice-relend-prefix-turn-row
-slice-relend-prefix-turn-row c = let s = c.before.before.before.before.before.before.before.before.before.before.before in omega (arith, s.requires.1.0)
+slice_bounds-turn_row-end-2 : tie.Need-slice_bounds-turn_row-end-2
+slice_bounds-turn_row-end-2 c = omega (arith, c.requires.1.0)
 
-slice-aggregate-turn-row : tie.Need-slice-aggregate-turn-row
-slice-aggregate-turn-row c = let s = c.before.before.before.before.before.before.before.before.before.before.before.before in sym (prefix_length 5760 s.args.scratch.now (omega (arith, s.requires.1.0)))
+slice_bounds-turn_row-end-3 : tie.Need-slice_bounds-turn_row-end-3
+slice_bounds-turn_row-end-3 c = sym (prefix_length 5760 c.args.scratch.now (omega (arith, c.requires.1.0)))
 
-turn-row-requires : tie.Need-turn-row-requires
-turn-row-requires c κs =
-    let i = c.before.before.before in
-    let s = c.before.before.before.before.before.before.before.before.before.before.before.before.before in
-    let x = s.args.line in
-    let v = s.args.volume.now in
-    let b = s.requires.0.0 in (
-      (b.sound, b.hermitian, s.requires.0.1, s.requires.0.2),
+turn_row-requires : tie.Need-turn_row-requires
+turn_row-requires c κs =
+    let x = c.args.line in
+    let v = c.args.volume.now in
+    let b = c.requires.0.0 in (
+      (b.sound, b.hermitian, c.requires.0.1, c.requires.0.2),
       (
-        (row_long x v b, own_below x v s.requires.0.2 (row_numbers x v b) c.before.before.before.before.before.modulus.ensures.0 c.before.before.before.before.all-below.ensures i.if1.false),
-        (fold_room x b.sound s.args.scratch.now s.requires.1.0, s.requires.1.1),
+        (row_long x v b, own_below x v c.requires.0.2 (row_numbers x v b) c.modulus.ensures.0 c.all_below.ensures c.if-not-all_below.false),
+        (fold_room x b.sound c.args.scratch.now c.requires.1.0, c.requires.1.1),
       ),
     )
 
 clear-requires : tie.Need-clear-requires
-clear-requires c κs = let s = c.before.before.before.before.before.before.before.before.before.before.before.before.before.before.before.before.before.before.before.before.before in returned_long s.args.scratch.now c.before.before.before.before.before.before.before.turn-row.new.1.1.1.1.1.1.0 s.requires.1.0 c.before.before.before.before.scratch.given.0
+clear-requires c κs = returned_long c.args.scratch.now c.turn_row.new.fold c.requires.1.0 c.scratch-1.given.0
 
-same-length-2 : tie.Need-same-length-2
-same-length-2 c = let s = c.before.before.before.before.before.before.before.before.before.before.before.before.before.before.before.before.before.before.before.before.before.before.before.before in part_same s.args.line s.args.volume.now s.requires.0.0 _ c.before.before.before.before.before.before.before.before.before.before.turn-row.ensures
+shape_of-volume : tie.Need-shape_of-volume
+shape_of-volume c = part_same c.args.line c.args.volume.now c.requires.0.0 _ c.turn_row.ensures
 
-same-length-3 : tie.Need-same-length-3
-same-length-3 c = search rules
+shape_of-scratch : tie.Need-shape_of-scratch
+shape_of-scratch c = search rules
 
-same-length-4 : tie.Need-same-length-4
-same-length-4 c = c.before.before.before.before.before.work.given
+shape_of-work : tie.Need-shape_of-work
+shape_of-work c = c.work-1.given
 
-returns-2 : tie.Need-returns-2
-returns-2 c =
-    let r = c.before.before.before.before.before.before.before.before.before.before in
-    let s = c.before.before.before.before.before.before.before.before.before.before.before.before.before.before.before.before.before.before.before.before.before.before.before.before in
-    let x = s.args.line in
-    let v = s.args.volume.now in
-    let b = s.requires.0.0 in
-    own_done x v s.requires.0.2 (row_numbers x v b) c.before.before.before.before.before.before.before.before.before.before.before.before.before.before.before.before.modulus.ensures.0 c.before.before.before.before.before.before.before.before.before.before.before.before.before.before.before.all-below.ensures s.args.scratch.now r.turn-row.new.1.1.1.1.1.1.0 c.before.before.before.before.before.before.before.before.before.before.before.before.before.before.if1.false (row_placed x v b _ r.turn-row.ensures) s.requires.1.0 c.before.before.before.before.before.before.before.scratch.given.0 c.before.before.clear.ensures
+returns : tie.Need-returns
+returns c =
+    let x = c.args.line in
+    let v = c.args.volume.now in
+    let b = c.requires.0.0 in
+    own_done x v c.requires.0.2 (row_numbers x v b) c.modulus.ensures.0 c.all_below.ensures c.args.scratch.now c.turn_row.new.fold c.if-not-all_below.false (row_placed x v b _ c.turn_row.ensures) c.requires.1.0 c.scratch-1.given.0 c.clear.ensures
 
 pub row_alone_spec : {M : Type 1} → statement M
 row_alone_spec =
     tie.close
-    (tie.spec
-    mul-start
-    mul-end
-    add-end
-    mul-all-below
-    sub-all-below
-    part-all-below-start
-    part-all-below-end
-    modulus-requires
-    all-below-requires
-    same_length
-    returns
-    mul-turn-row
-    sub-turn-row
-    part-turn-row-start
-    part-turn-row-end
-    slice-relend-prefix-turn-row
-    slice-aggregate-turn-row
-    turn-row-requires
-    clear-requires
-    same-length-2
-    same-length-3
-    same-length-4
-    returns-2)
+    (tie.spec overflow_mul-start overflow_mul-end overflow_add-end offset_bounds-volume-start slice_bounds-all_below-count slice_bounds-all_below-start slice_bounds-all_below-end modulus-requires all_below-requires shape_of-volume-then-not-all_below returns-then-not-all_below offset_bounds-volume-start-2 slice_bounds-turn_row-count slice_bounds-turn_row-start slice_bounds-turn_row-end slice_bounds-turn_row-end-2 slice_bounds-turn_row-end-3 turn_row-requires clear-requires shape_of-volume shape_of-scratch shape_of-work returns)

@@ -65,17 +65,17 @@ module _ (x : Line) (v : List ℕ) {m : ℕ} (em : m ≡ x.m) where
     told : r ≡ all_below (prime x.m) (numbers_in x v)
     told = e ∙ ap₂ all_below (eq ∙ ap prime em) n
 
-    pub own_below : not r ≡ false → Below (prime x.m) l
-    own_below f = subst (Below (prime x.m)) (sym n) (below_all_below (prime x.m) (numbers_in x v) (prime_pos x.m) (sym told ∙ not-false _ f))
+    pub own_below : r ≡ true → Below (prime x.m) l
+    own_below f = subst (Below (prime x.m)) (sym n) (below_all_below (prime x.m) (numbers_in x v) (prime_pos x.m) (sym told ∙ f))
 
-    pub own_refused : {turned : List ℕ → List ℕ} {s : List ℕ} → not r ≡ true → OwnTurn turned x false v v s s
-    own_refused t = record { tested = sym (not-true _ t) ∙ told; volume = refl; lent = refl }
+    pub own_refused : {turned : List ℕ → List ℕ} {s : List ℕ} → r ≡ false → OwnTurn turned x false v v s s
+    own_refused t = record { tested = sym t ∙ told; volume = refl; lent = refl }
 
     -- the fold was the scratch's first part, and the scratch was cleared
-    pub own_done : {turned : List ℕ → List ℕ} {v' s' : List ℕ} (s fold : List ℕ) → not r ≡ false → v' ≡ turned v → scratch_length ≤ length s → length fold ≡ length (take 5760 s) → s' ≡ replicate scratch_length 0 ++ drop scratch_length (fold ++ drop 5760 s) → OwnTurn turned x true v v' s s'
+    pub own_done : {turned : List ℕ → List ℕ} {v' s' : List ℕ} (s fold : List ℕ) → r ≡ true → v' ≡ turned v → scratch_length ≤ length s → length fold ≡ length (take 5760 s) → s' ≡ replicate scratch_length 0 ++ drop scratch_length (fold ++ drop 5760 s) → OwnTurn turned x true v v' s s'
     unfolding cleared
     own_done s fold f ev long ef es = record {
-      tested = sym (not-false _ f) ∙ told;
+      tested = sym f ∙ told;
       volume = ev;
       lent = es ∙ ap (λ (t : List ℕ). replicate scratch_length 0 ++ t) (rest_of fold s long ef);
     }

@@ -15,7 +15,7 @@ module _ (i : tie.Then-line-eq1) where
   start = i.before.before.before.before.before.before
 
   row : Beside (length start.args.volume.now) start.args.line
-  row = beside start.args.line start.requires.0.0 i.if-line-eq1.taken
+  row = beside start.args.line start.requires.0.0 i.if-line-eq1.true
 
 overflow_mul-start : tie.Need-overflow_mul-start
 overflow_mul-start c = let b = row c.before in omega (arith, b.fits, b.low)

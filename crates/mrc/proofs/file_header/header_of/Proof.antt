@@ -38,21 +38,17 @@ held c = let a = c.args in ap₂ (header_of (cell_lengths a.cell) a.parameters) 
 
 returns-in-Triclinic : tie.Need-returns-in-Triclinic
 returns-in-Triclinic c =
-    let p = c.before.before in
-    let s = p.before.before in
-    let a = s.args in
-    c.headed.ensures ∙ ap (λ q. header_of (cell_lengths a.cell) q (to_z w64 (of_z w64 a.least)) (to_z w64 (of_z w64 a.greatest))) (sym p.in-Triclinic.is) ∙ held s
+    let a = c.args in
+    c.headed.ensures ∙ ap (λ q. header_of (cell_lengths a.cell) q (to_z w64 (of_z w64 a.least)) (to_z w64 (of_z w64 a.greatest))) (sym c.in-Triclinic.is) ∙ held c.before.before
 
 returns-in-Monoclinic : tie.Need-returns-in-Monoclinic
 returns-in-Monoclinic c =
-    let p = c.before.before in
-    let s = p.before.before in
-    let a = s.args in
-    let f = p.parameters-in-Monoclinic-1.given.0 in
+    let a = c.args in
+    let f = c.in-Monoclinic in
     c.headed-in-Monoclinic.ensures
-    ∙ ap (λ (x : Float). headed (cell_lengths a.cell) f.0 f.1.0 f.1.1.0 x x f.1.1.1.0 (to_z w64 (of_z w64 a.least)) (to_z w64 (of_z w64 a.greatest))) (sym right_angle_is)
-    ∙ ap (λ q. header_of (cell_lengths a.cell) q (to_z w64 (of_z w64 a.least)) (to_z w64 (of_z w64 a.greatest))) (sym p.in-Monoclinic.is)
-    ∙ held s
+    ∙ ap (λ (x : Float). headed (cell_lengths a.cell) f.a f.b f.c x x f.gamma (to_z w64 (of_z w64 a.least)) (to_z w64 (of_z w64 a.greatest))) (sym right_angle_is)
+    ∙ ap (λ q. header_of (cell_lengths a.cell) q (to_z w64 (of_z w64 a.least)) (to_z w64 (of_z w64 a.greatest))) (sym c.in-Monoclinic.is)
+    ∙ held c.before.before
 
 pub header_of_spec : {M : Type 1} → statement M
 header_of_spec =

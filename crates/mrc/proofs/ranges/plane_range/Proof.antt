@@ -24,7 +24,7 @@ stored_row-range-requires c κs = let p = c.requires in (p.0, p.1, p.2, omega (a
 loop-x-init : tie.Need-loop-x-init invariant-loop-x decreases-loop-x
 loop-x-init c =
     let a = c.args in
-    (omega arith, omega (arith, c.requires.0.first.low), spans_first (row a.cell a.map.now a.z) c.Stored-row.ensures)
+    (omega arith, omega (arith, c.requires.0.first.low), spans_first (row a.cell a.map.now a.z) c.stored_row-range.ensures)
 
 stored_row-requires : tie.Need-stored_row-requires invariant-loop-x decreases-loop-x
 stored_row-requires c κs = let p = c.requires in (p.0, p.1, p.2, c.loop-x-test.true)

@@ -39,7 +39,7 @@ count_at-n-requires c κs =
 -- the number that is handed on is the density
 is-density : (c : tie.After-put_density-arg-1 invariant-loop-x decreases-loop-x) → let a = c.args in
     to_z w64 (of_z w64 c.count_at-n.result) ≡ density a.cell a.map.now (c.loop-x.x, a.y, a.z)
-is-density c = to_z-of_z w64 _ (record { sfits = c.count_at-n.type-inv }) ∙ c.count_at-n.ensures
+is-density c = to_z-of_z w64 _ (record { sfits = c.count_at-n.type_inv }) ∙ c.count_at-n.ensures
 
 put_density-place-requires : tie.Need-put_density-place-requires invariant-loop-x decreases-loop-x
 put_density-place-requires c κs =

@@ -24,41 +24,35 @@ second_modulus : IsModulus 2
 second_modulus = record { low = omega arith; high = omega arith }
 
 -- the second work volume is as long as it was, after each of the two calls
-second-once : (c : tie.After-slice-known6) → length c.before.before.before.before.correlate-modulo.new.1.1.1.1.1.0 ≡ volume_length P1 (axes_halves c.before.before.before.before.before.before.before.before.before.before.before.before.args.axes)
-second-once c = omega (arith, c.before.before.before.before.before.before.before.before.before.before.before.before.requires.1.1.1)
+second-once : (c : tie.After-slice_known-6-1) → length c.correlate_modulo.new.second ≡ volume_length P1 (axes_halves c.args.axes)
+second-once c = omega (arith, c.requires.1.1.1)
 
-second-twice : (c : tie.After-slice-known9) → length c.before.before.before.before.correlate-modulo2.new.1.1.1.1.1.0 ≡ volume_length P1 (axes_halves c.before.before.before.before.before.before.before.before.before.before.before.before.before.before.before.before.before.before.before.before.before.before.args.axes)
+second-twice : (c : tie.After-slice_known-9-1) → length c.correlate_modulo-2.new.second ≡ volume_length P1 (axes_halves c.args.axes)
 second-twice c = omega (arith, second-once c.before.before.before.before.before.before.before.before.before.before)
 
-correlate-modulo-requires : tie.Need-correlate-modulo-requires
-correlate-modulo-requires c κs =
-    let s = c.before.before.before.before.before.before.before in
-    ((first_modulus, s.requires.0.0), ((s.requires.1.0.0, s.requires.1.0.1), ((s.requires.1.1.0, s.requires.1.1.1), s.requires.0.2)))
+correlate_modulo-requires : tie.Need-correlate_modulo-requires
+correlate_modulo-requires c κs =
+    ((first_modulus, c.requires.0.0), ((c.requires.1.0.0, c.requires.1.0.1), ((c.requires.1.1.0, c.requires.1.1.1), c.requires.0.2)))
 
 -- src/lib.rt:96:5
-correlate-modulo-requires-2 : tie.Need-correlate-modulo-requires-2
-correlate-modulo-requires-2 c κs =
-    let m1 = c.before.before.before.before.before.before.before.before.before in
-    let s = m1.before.before.before.before.before.before.before.before in (
-      (second_modulus, s.requires.0.0),
-      (
-        (s.requires.1.0.0, s.requires.1.0.1),
-        ((s.requires.1.1.2, omega (arith, s.requires.1.1.1)), subst (λ (v : List ℕ). scratch_length ≤ length v) (sym m1.correlate-modulo.ensures.1) (cleared_long s.args.scratch.now)),
-      ),
-    )
+correlate_modulo-requires-2 : tie.Need-correlate_modulo-requires-2
+correlate_modulo-requires-2 c κs = (
+  (second_modulus, c.requires.0.0),
+  (
+    (c.requires.1.0.0, c.requires.1.0.1),
+    ((c.requires.1.1.2, omega (arith, c.requires.1.1.1)), subst (λ (v : List ℕ). scratch_length ≤ length v) (sym c.correlate_modulo.ensures.1) (cleared_long c.args.scratch.now)),
+  ),
+)
 
 -- src/lib.rt:97:5
-combine-all-requires : tie.Need-combine-all-requires
+combine_all-requires : tie.Need-combine_all-requires
 unfolding prime
-combine-all-requires c κs =
-    let m2 = c.before.before.before.before.before.before.before.before.before in
-    let m1 = m2.before.before.before.before.before.before.before.before.before.before in
-    let s = m1.before.before.before.before.before.before.before.before in
-    let h = axes_halves s.args.axes in
-    let l1 = ap length m1.correlate-modulo.ensures.0 ∙ length_map P1 h 1 _ in
-    let l2 = ap length m2.correlate-modulo2.ensures.0 ∙ length_map P1 h 2 _ in (
-      (subst (Below 86399) (sym m1.correlate-modulo.ensures.0) (below_map P1 h 1 _), subst (Below 302399) (sym m2.correlate-modulo2.ensures.0) (below_map P1 h 2 _)),
-      (l2 ∙ sym l1, s.requires.1.0.2 ∙ sym l1),
+combine_all-requires c κs =
+    let h = axes_halves c.args.axes in
+    let l1 = ap length c.correlate_modulo.ensures.0 ∙ length_map P1 h 1 _ in
+    let l2 = ap length c.correlate_modulo-2.ensures.0 ∙ length_map P1 h 2 _ in (
+      (subst (Below 86399) (sym c.correlate_modulo.ensures.0) (below_map P1 h 1 _), subst (Below 302399) (sym c.correlate_modulo-2.ensures.0) (below_map P1 h 2 _)),
+      (l2 ∙ sym l1, c.requires.1.0.2 ∙ sym l1),
     )
 
 -- src/lib.rt:98:5
@@ -74,24 +68,24 @@ zero-requires-3 : tie.Need-zero-requires-3
 zero-requires-3 c κs = search rules
 
 -- src/lib.rt:78:1
-same_length : tie.Need-same-length
-same_length c = search rules
+shape_of-output : tie.Need-shape_of-output
+shape_of-output c = search rules
 
 -- src/lib.rt:78:1
-same-length-2 : tie.Need-same-length-2
-same-length-2 c = search rules
+shape_of-work1 : tie.Need-shape_of-work1
+shape_of-work1 c = search rules
 
 -- src/lib.rt:78:1
-same-length-3 : tie.Need-same-length-3
-same-length-3 c = search rules
+shape_of-work2 : tie.Need-shape_of-work2
+shape_of-work2 c = search rules
 
 -- src/lib.rt:78:1
-same-length-4 : tie.Need-same-length-4
-same-length-4 c = search rules
+shape_of-work3 : tie.Need-shape_of-work3
+shape_of-work3 c = search rules
 
 -- src/lib.rt:78:1
-same-length-5 : tie.Need-same-length-5
-same-length-5 c = search rules
+shape_of-scratch : tie.Need-shape_of-scratch
+shape_of-scratch c = search rules
 
 -- src/lib.rt:78:1
 returns : tie.Need-returns
@@ -99,35 +93,20 @@ returns c =
     let z3 = c.before.before in
     let z2 = z3.before.before.before.before in
     let z1 = z2.before.before.before.before in
-    let co = z1.before.before.before in
-    let m2 = co.before.before.before.before.before.before.before.before.before.before in
-    let m1 = m2.before.before.before.before.before.before.before.before.before.before in
-    let s = m1.before.before.before.before.before.before.before.before in
-    let a = s.args in
-    let j = s.requires.0.0 in
+    let co = z1.before in
+    let a = co.args in
+    let j = co.requires.0.0 in
     let h = axes_halves a.axes in
-    let l1 = ap length m1.correlate-modulo.ensures.0 ∙ length_map P1 h 1 _ in
-    let l2 = ap length m2.correlate-modulo2.ensures.0 ∙ length_map P1 h 2 _ in (
-      co.combine-all.ensures ∙ combined_correlation h (j.first.positive, j.second.positive, j.third.positive) a.a.now a.b.now s.requires.0.1 m1.correlate-modulo.ensures.0 m2.correlate-modulo2.ensures.0,
+    let l1 = ap length co.correlate_modulo.ensures.0 ∙ length_map P1 h 1 _ in
+    let l2 = ap length co.correlate_modulo-2.ensures.0 ∙ length_map P1 h 2 _ in (
+      co.combine_all.ensures ∙ combined_correlation h (j.first.positive, j.second.positive, j.third.positive) a.a.now a.b.now co.requires.0.1 co.correlate_modulo.ensures.0 co.correlate_modulo-2.ensures.0,
       zeros_as _ (volume_length P1 h) z1.zero.ensures l1,
-      zeros_as (length m2.correlate-modulo2.new.1.1.1.1.1.0) (volume_length P1 h) z2.zero2.ensures (second-twice co.before.before.before.before.before.before),
-      zeros_as _ (volume_length P1 h) z3.zero3.ensures l2,
-      cleared_again a.scratch.now m1.correlate-modulo.ensures.1 m2.correlate-modulo2.ensures.1,
+      zeros_as (length co.correlate_modulo-2.new.second) (volume_length P1 h) z2.zero-2.ensures (second-twice co.before.before.before.before.before.before),
+      zeros_as _ (volume_length P1 h) z3.zero-3.ensures l2,
+      cleared_again a.scratch.now co.correlate_modulo.ensures.1 co.correlate_modulo-2.ensures.1,
     )
 
 pub correlate_sound_spec : {M : Type 1} → statement M
 correlate_sound_spec =
     tie.close
-    (tie.spec
-    correlate-modulo-requires
-    correlate-modulo-requires-2
-    combine-all-requires
-    zero-requires
-    zero-requires-2
-    zero-requires-3
-    same_length
-    same-length-2
-    same-length-3
-    same-length-4
-    same-length-5
-    returns)
+    (tie.spec correlate_modulo-requires correlate_modulo-requires-2 combine_all-requires zero-requires zero-requires-2 zero-requires-3 shape_of-output shape_of-work1 shape_of-work2 shape_of-work3 shape_of-scratch returns)

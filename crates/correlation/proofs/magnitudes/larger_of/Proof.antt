@@ -5,11 +5,11 @@ use borrow.Author.Tests.{lt-ltb, le-ltb}
 use Rattle.correlation.proofs.magnitudes.larger_of.Statement.{statement}
 use Rattle.correlation.proofs.magnitudes.larger_of.Tie as tie
 
-returns : tie.Need-returns
-returns c = sym (ap (λ t. cond t c.before.args.y c.before.args.x) (lt-ltb _ _ c.if1.true))
+returns-then-x-y : tie.Need-returns-then-x-y
+returns-then-x-y c = sym (ap (λ t. cond t c.before.args.y c.before.args.x) (lt-ltb _ _ c.if-x-y.true))
 
-returns-2 : tie.Need-returns-2
-returns-2 c = sym (ap (λ t. cond t c.before.args.y c.before.args.x) (le-ltb _ _ c.if1.false))
+returns-else-x-y : tie.Need-returns-else-x-y
+returns-else-x-y c = sym (ap (λ t. cond t c.before.args.y c.before.args.x) (le-ltb _ _ c.if-x-y.false))
 
 pub larger_of_spec : {M : Type 1} → statement M
-larger_of_spec = tie.close (tie.spec returns returns-2)
+larger_of_spec = tie.close (tie.spec returns-then-x-y returns-else-x-y)

@@ -7,17 +7,17 @@ use native.Mathlib.Omega.{arith}
 use Rattle.correlation.proofs.magnitudes.next_column.Statement.{statement}
 use Rattle.correlation.proofs.magnitudes.next_column.Tie as tie
 
-add-next : tie.Need-overflow-add-next
-add-next c = search rules
+overflow_add-next : tie.Need-overflow_add-next
+overflow_add-next c = search rules
 
-returns : tie.Need-returns
-returns c = sym (mod-eq_of_lt c.if1.true)
+returns-then-next-width : tie.Need-returns-then-next-width
+returns-then-next-width c = sym (mod-eq_of_lt c.if-next-width.true)
 
-returns-2 : tie.Need-returns-2
-returns-2 c =
+returns-else-next-width : tie.Need-returns-else-next-width
+returns-else-next-width c =
     let a = c.before.args in
-    let whole : a.column + 1 ≡ a.width = omega (arith, c.if1.false, c.before.requires.0) in
+    let whole : a.column + 1 ≡ a.width = omega (arith, c.if-next-width.false, c.before.requires.0) in
     sym (ap (λ (k : ℕ). k % a.width) whole ∙ mod_self a.width)
 
 pub next_column_spec : {M : Type 1} → statement M
-next_column_spec = tie.close (tie.spec add-next returns returns-2)
+next_column_spec = tie.close (tie.spec overflow_add-next returns-then-next-width returns-else-next-width)

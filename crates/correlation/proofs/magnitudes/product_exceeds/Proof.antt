@@ -10,20 +10,20 @@ use Rattle.correlation.proofs.Scans.{same_test}
 use Rattle.correlation.proofs.magnitudes.product_exceeds.Statement.{statement}
 use Rattle.correlation.proofs.magnitudes.product_exceeds.Tie as tie
 
+returns-then-y-eq0 : tie.Need-returns-then-y-eq0
+returns-then-y-eq0 c =
+    let a = c.before.args in
+    sym (le-ltb limit (a.x * a.y) (subst (λ (k : ℕ). a.x * k ≤ limit) (sym c.if-y-eq0.true) (omega (arith, mul-zero a.x))))
+
+nonzero_div-result : tie.Need-nonzero_div-result
+nonzero_div-result c = search rules
+
 returns : tie.Need-returns
 returns c =
     let a = c.before.args in
-    sym (le-ltb limit (a.x * a.y) (subst (λ (k : ℕ). a.x * k ≤ limit) (sym c.if1.true) (omega (arith, mul-zero a.x))))
-
-div-result : tie.Need-nonzero-div-result
-div-result c = search rules
-
-returns-2 : tie.Need-returns-2
-returns-2 c =
-    let a = c.before.args in
-    let positive : 0 < a.y = omega (arith, c.if1.false) in
+    let positive : 0 < a.y = omega (arith, c.if-y-eq0.false) in
     let h = div-lt_iff_lt-mul {k = a.y} {x = limit} {y = a.x} positive in
     same_test (h.0, h.1)
 
 pub product_exceeds_spec : {M : Type 1} → statement M
-product_exceeds_spec = tie.close (tie.spec returns div-result returns-2)
+product_exceeds_spec = tie.close (tie.spec returns-then-y-eq0 nonzero_div-result returns)

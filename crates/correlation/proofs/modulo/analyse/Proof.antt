@@ -16,41 +16,39 @@ use Rattle.correlation.proofs.modulo.analyse.Tie as tie
 
 -- src/modulo.rt:64:16
 -- the map's residues
-residues : (c : tie.After-fill-residues) → let a = c.before.before.before.before.before.args in
-    c.fill-residues.new.1.1.1.1.0 ≡ pack_map P1 (axes_halves a.axes) a.m (residue_cell a.m (count_cell (axes_halves a.axes) a.map.now))
+residues : (c : tie.After-fill_residues) → let a = c.args in
+    c.fill_residues.new.d ≡ pack_map P1 (axes_halves a.axes) a.m (residue_cell a.m (count_cell (axes_halves a.axes) a.map.now))
 residues c =
-    let s = c.before.before.before.before.before in
-    let a = s.args in
-    let pairs : length a.volume.now / 2 ≡ volume_pairs P1 (axes_halves a.axes) = omega (arith, s.requires.1.0.1) in
-    filled_map a.m s.requires.0.0 a.axes s.requires.0.1 a.map.now pairs c.fill-residues.ensures
+    let a = c.args in
+    let pairs : length a.volume.now / 2 ≡ volume_pairs P1 (axes_halves a.axes) = omega (arith, c.requires.1.0.1) in
+    filled_map a.m c.requires.0.0 a.axes c.requires.0.1 a.map.now pairs c.fill_residues.ensures
 
-cast-half : tie.Need-overflow-cast-half
-cast-half c = search rules
+overflow_cast-half : tie.Need-overflow_cast-half
+overflow_cast-half c = search rules
 
 -- src/modulo.rt:65:5
-fill-residues-requires : tie.Need-fill-residues-requires
-fill-residues-requires c κs = search rules
+fill_residues-requires : tie.Need-fill_residues-requires
+fill_residues-requires c κs = search rules
 
 -- src/modulo.rt:66:40
-plan-of-requires : tie.Need-plan-of-requires
-plan-of-requires c κs = search rules
+plan_of-requires : tie.Need-plan_of-requires
+plan_of-requires c κs = search rules
 
 -- src/modulo.rt:66:5
-transform-volume-requires : tie.Need-transform-volume-requires
-transform-volume-requires c κs =
+transform_volume-requires : tie.Need-transform_volume-requires
+transform_volume-requires c κs =
     let f = c.before.before.before.before.before in
-    let s = f.before.before.before.before.before in
-    let a = s.args in
-    lent a.m s.requires.0.0 a.axes s.requires.0.1 1 (omega arith) c.before.before.plan-of.result c.before.before.plan-of.ensures
-    (ap length (residues f) ∙ length_map P1 (axes_halves a.axes) a.m _) (subst (Below (prime a.m)) (sym (residues f)) (below_map P1 (axes_halves a.axes) a.m _)) s.requires.1.1
+    let a = f.args in
+    lent a.m f.requires.0.0 a.axes f.requires.0.1 1 (omega arith) c.plan_of.result c.plan_of.ensures
+    (ap length (residues f) ∙ length_map P1 (axes_halves a.axes) a.m _) (subst (Below (prime a.m)) (sym (residues f)) (below_map P1 (axes_halves a.axes) a.m _)) f.requires.1.1
 
 -- src/modulo.rt:56:1
-same_length : tie.Need-same-length
-same_length c = search rules
+shape_of-volume : tie.Need-shape_of-volume
+shape_of-volume c = search rules
 
 -- src/modulo.rt:56:1
-same-length-2 : tie.Need-same-length-2
-same-length-2 c = search rules
+shape_of-scratch : tie.Need-shape_of-scratch
+shape_of-scratch c = search rules
 
 -- src/modulo.rt:56:1
 returns : tie.Need-returns
@@ -58,18 +56,10 @@ returns c =
     let t = c.before.before.before.before in
     let p = t.before.before.before in
     let f = p.before.before.before in
-    let s = f.before.before.before.before.before in
-    let a = s.args in
-    (t.transform-volume.ensures.0 ∙ all_analysed a.m s.requires.0.0 a.axes s.requires.0.1 a.map.now p.plan-of.result p.plan-of.ensures (residues f), t.transform-volume.ensures.1)
+    let a = f.args in
+    (t.transform_volume.ensures.0 ∙ all_analysed a.m f.requires.0.0 a.axes f.requires.0.1 a.map.now p.plan_of.result p.plan_of.ensures (residues f), t.transform_volume.ensures.1)
 
 pub analyse_spec : {M : Type 1} → statement M
 analyse_spec =
     tie.close
-    (tie.spec
-    cast-half
-    fill-residues-requires
-    plan-of-requires
-    transform-volume-requires
-    same_length
-    same-length-2
-    returns)
+    (tie.spec overflow_cast-half fill_residues-requires plan_of-requires transform_volume-requires shape_of-volume shape_of-scratch returns)

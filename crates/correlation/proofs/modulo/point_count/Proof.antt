@@ -15,24 +15,24 @@ use Rattle.correlation.proofs.modulo.point_count.Tie as tie
 few : (s : tie.Start) → s.args.axes.n1 * s.args.axes.n2 ≤ 2880 * 2880
 few s = mul-le-mul s.requires.1.first.short s.requires.1.second.short
 
-cast-n1 : tie.Need-overflow-cast-n1
-cast-n1 c = search rules
+overflow_cast-n1 : tie.Need-overflow_cast-n1
+overflow_cast-n1 c = search rules
 
 -- src/modulo.rt:50:14
-cast-n2 : tie.Need-overflow-cast-n2
-cast-n2 c = search rules
+overflow_cast-n2 : tie.Need-overflow_cast-n2
+overflow_cast-n2 c = search rules
 
 -- src/modulo.rt:51:14
-cast-n3 : tie.Need-overflow-cast-n3
-cast-n3 c = search rules
+overflow_cast-n3 : tie.Need-overflow_cast-n3
+overflow_cast-n3 c = search rules
 
 -- src/modulo.rt:52:24
-mul-reduce : tie.Need-overflow-mul-reduce
-mul-reduce c = let s = c.before.before.before in record { fits = omega (arith, few s) }
+overflow_mul-n1 : tie.Need-overflow_mul-n1
+overflow_mul-n1 c = let s = c.before.before.before in record { fits = omega (arith, few s) }
 
 -- src/modulo.rt:52:24
-mul-reduce-2 : tie.Need-overflow-mul-reduce-2
-mul-reduce-2 c = let s = c.before.before.before in record { fits = omega (arith, mul-le-mul (few s) s.requires.1.third.short) }
+overflow_mul-n1-2 : tie.Need-overflow_mul-n1-2
+overflow_mul-n1-2 c = let s = c.before.before.before in record { fits = omega (arith, mul-le-mul (few s) s.requires.1.third.short) }
 
 -- src/modulo.rt:52:5
 reduce-requires : tie.Need-reduce-requires
@@ -49,4 +49,4 @@ returns c =
 
 pub point_count_spec : {M : Type 1} → statement M
 point_count_spec =
-    tie.close (tie.spec cast-n1 cast-n2 cast-n3 mul-reduce mul-reduce-2 reduce-requires returns)
+    tie.close (tie.spec overflow_cast-n1 overflow_cast-n2 overflow_cast-n3 overflow_mul-n1 overflow_mul-n1-2 reduce-requires returns)

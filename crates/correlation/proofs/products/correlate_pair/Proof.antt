@@ -12,11 +12,11 @@ use Rattle.correlation.proofs.products.correlate_pair.Tie as tie
 conjugate-requires : tie.Need-conjugate-requires
 conjugate-requires c κs = search rules
 
-product-requires : tie.Need-product-requires
-product-requires c κs = let s = c.before in (s.requires.0, small_by s.args.m _ c.conjugate.ensures, s.requires.3)
+product-product-requires : tie.Need-product-product-requires
+product-product-requires c κs = let s = c.before in (s.requires.0, small_by s.args.m _ c.conjugate.ensures, s.requires.3)
 
-reduced-below-requires : tie.Need-reduced-below-requires
-reduced-below-requires c κs = search rules
+reduced_below-requires : tie.Need-reduced_below-requires
+reduced_below-requires c κs = search rules
 
 scaled-requires : tie.Need-scaled-requires
 scaled-requires c κs = let s = c.before.before.before in (s.requires.0, s.requires.1, small_by s.args.m _ c.reduced_below.ensures)
@@ -30,9 +30,9 @@ returns c =
     let a = k.before.args in
     c.scaled.ensures
     ∙ ap (λ (z : Value a.m). pair_of ((field a.m).mul (real a.m (res a.m a.c)) z))
-    (value_by a.m _ r.reduced_below.ensures ∙ p.product.ensures.1 ∙ ap (λ (z : Value a.m). (field a.m).mul z (value_of a.m a.y)) (value_by a.m _ k.conjugate.ensures))
+    (value_by a.m _ r.reduced_below.ensures ∙ p.product-product.ensures.1 ∙ ap (λ (z : Value a.m). (field a.m).mul z (value_of a.m a.y)) (value_by a.m _ k.conjugate.ensures))
 
 pub correlate_pair_spec : {M : Type 1} → statement M
 correlate_pair_spec =
     tie.close
-    (tie.spec conjugate-requires product-requires reduced-below-requires scaled-requires returns)
+    (tie.spec conjugate-requires product-product-requires reduced_below-requires scaled-requires returns)

@@ -50,7 +50,7 @@ module _ (j : Job) where
       let z = sym q in
       λ i. x i && (z i && (header_ok && ltb j.state 3))
 
-  pub invalid_header : {r : Bool} → j.group < 5 → is_modulus j.modulus ≡ true → r ≡ header_ok → not r ≡ true → false ≡ valid_job j
+  pub invalid_header : {r : Bool} → j.group < 5 → is_modulus j.modulus ≡ true → r ≡ header_ok → r ≡ false → false ≡ valid_job j
   unfolding valid_job
   invalid_header h q e f =
       let x = sym (lt-ltb _ _ h) in
@@ -100,7 +100,7 @@ module _ (j : Job) where
       listed : (n f : ℕ) → FactorList n (octal (octal_digits f)) → FactorList n f
       listed n f l = subst (FactorList n) (octal_of_digits f) l
 
-  pub valid_state : {r : Bool} → j.group < 5 → is_modulus j.modulus ≡ true → r ≡ header_ok → not r ≡ false → ltb j.state 3 ≡ valid_job j
+  pub valid_state : {r : Bool} → j.group < 5 → is_modulus j.modulus ≡ true → r ≡ header_ok → r ≡ true → ltb j.state 3 ≡ valid_job j
   unfolding valid_job
   valid_state h q e f =
       let x = sym (lt-ltb _ _ h) in

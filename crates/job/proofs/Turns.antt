@@ -65,11 +65,11 @@ module _ (j : Job) (valid : valid_job j ≡ true) {p : Plan} (e : p ≡ plan_of 
       own_volume = o.volume ∙ ap (λ w. cond r w v) (turned_as (plan_of j 0) n x line_of v)
 
 -- what is left where the test failed, and where it held
-pub left_as : (r : Bool) (a b : List ℕ) {w : List ℕ} → not r ≡ true → w ≡ cond r a b → w ≡ b
-left_as r a b t e = e ∙ ap (λ r. cond r a b) (not-true r t)
+pub left_as : (r : Bool) (a b : List ℕ) {w : List ℕ} → r ≡ false → w ≡ cond r a b → w ≡ b
+left_as r a b t e = e ∙ ap (λ r. cond r a b) t
 
-pub made_as : (r : Bool) (a b : List ℕ) {w : List ℕ} → not r ≡ false → w ≡ cond r a b → w ≡ a
-made_as r a b t e = e ∙ ap (λ r. cond r a b) (not-false r t)
+pub made_as : (r : Bool) (a b : List ℕ) {w : List ℕ} → r ≡ true → w ≡ cond r a b → w ≡ a
+made_as r a b t e = e ∙ ap (λ r. cond r a b) t
 
 -- ---- what it answers and leaves
 

@@ -19,63 +19,55 @@ use Rattle.job.proofs.Job.factor.Statement.{statement}
 use Rattle.job.proofs.Job.factor.Tie as tie
 
 -- the check's number
-told : (c : tie.After-check-factor) → let a = c.before.before.before.before.args in checked_number c.check-factor.result ≡ first (factor_tests a.self (index a.at) a.volume.now)
+told : (c : tie.After-check_factor-checked) → let a = c.args in checked_number c.check_factor-checked.result ≡ first (factor_tests a.self (index a.at) a.volume.now)
 told c =
-    let a = c.before.before.before.before.args in
-    c.check-factor.ensures ∙ ap₂ (λ (b : Bool) (k : UnitCell). first (factor_tests_of b a.self.state a.self.modulus k.group (cell_lengths k) (index a.at) a.volume.now)) c.before.valid-job.ensures c.before.before.unit-cell.ensures
+    let a = c.args in
+    c.check_factor-checked.ensures ∙ ap₂ (λ (b : Bool) (k : UnitCell). first (factor_tests_of b a.self.state a.self.modulus k.group (cell_lengths k) (index a.at) a.volume.now)) c.valid_job.ensures c.unit_cell-cell.ensures
 
 -- no test holds
-none : (c : tie.After-enum-told) → let a = c.before.before.before.before.before.before.args in 0 ≡ first (factor_tests a.self (index a.at) a.volume.now)
-none c = ap checked_number (sym c.enum_told.given.1) ∙ told c.before.before
+none : (c : tie.In-Sound) → let a = c.args in 0 ≡ first (factor_tests a.self (index a.at) a.volume.now)
+none c = ap checked_number (sym c.in-Sound.is) ∙ told c.before
 
-clear : (c : tie.After-enum-told) → let a = c.before.before.before.before.before.before.args in Passed (factor_tests a.self (index a.at) a.volume.now)
-clear c = let a = c.before.before.before.before.before.before.args in passed (factor_tests a.self (index a.at) a.volume.now) tt (none c)
+clear : (c : tie.In-Sound) → let a = c.args in Passed (factor_tests a.self (index a.at) a.volume.now)
+clear c = let a = c.args in passed (factor_tests a.self (index a.at) a.volume.now) tt (none c)
 
-sizes : (c : tie.After-enum-told) → let j = c.before.before.before.before.before.before.args.self in Sizes (job_cell j)
-sizes c = valid_sizes c.before.before.before.before.before.before.args.self (not-false _ (clear c).0)
+sizes : (c : tie.In-Sound) → let j = c.args.self in Sizes (job_cell j)
+sizes c = valid_sizes c.args.self (not-false _ (clear c).0)
 
-unit-cell-requires : tie.Need-unit-cell-requires
-unit-cell-requires c κs = search rules
+unit_cell-cell-requires : tie.Need-unit_cell-cell-requires
+unit_cell-cell-requires c κs = search rules
 
-valid-job-requires : tie.Need-valid-job-requires
-valid-job-requires c κs = search rules
+valid_job-requires : tie.Need-valid_job-requires
+valid_job-requires c κs = search rules
 
-check-factor-requires : tie.Need-check-factor-requires
-check-factor-requires c κs e = cell_sizes c.before.before.before.args.self c.before.unit-cell.ensures (sym c.valid-job.ensures ∙ e)
+check_factor-checked-requires : tie.Need-check_factor-checked-requires
+check_factor-checked-requires c κs e = cell_sizes c.args.self c.unit_cell-cell.ensures (sym c.valid_job.ensures ∙ e)
 
-enum-known-checked : tie.Need-enum-known-checked
-enum-known-checked c = search rules
+enum_known-checked : tie.Need-enum_known-checked
+enum_known-checked c = search rules
 
-enum_told : tie.Need-enum-told
-enum_told c = search rules
+enum_told-1 : tie.Need-enum_told-1
+enum_told-1 c = search rules
 
-factor-at-requires : tie.Need-factor-at-requires
-factor-at-requires c κs =
-    let a = c.before.before.before.before.before.before.args in
+factor_at-x-requires : tie.Need-factor_at-x-requires
+factor_at-x-requires c κs =
+    let a = c.args in
     let j = a.self in
     let t = (clear c).1.1 in
-    rw c.before.before.before.before.unit-cell.ensures ((valid_modulus j (not-false _ (clear c).0), sizes c, within_of (job_cell j) (record { h = a.at.0; k = a.at.1; l = a.at.2 }) (not-false _ t.0)), (eqb-true _ _ (not-false _ t.1.0), not-false _ t.1.1.0))
+    rw c.unit_cell-cell.ensures ((valid_modulus j (not-false _ (clear c).0), sizes c, within_of (job_cell j) (record { h = a.at.0; k = a.at.1; l = a.at.2 }) (not-false _ t.0)), (eqb-true _ _ (not-false _ t.1.0), not-false _ t.1.1.0))
 
-returns : tie.Need-returns
-returns c =
-    let k = c.before.before.before in
-    let a = k.before.before.before.before.args in
-    factor_refused a.self a.at a.volume.now c.before.checked.given.0.0 (ap checked_number (sym c.before.checked.given.1) ∙ told k)
+returns-in-Failed : tie.Need-returns-in-Failed
+returns-in-Failed c =
+    let k = c.before in
+    let a = k.args in
+    factor_refused a.self a.at a.volume.now c.in-Failed.refusal (ap checked_number (sym c.in-Failed.is) ∙ told k)
 
-returns-2 : tie.Need-returns-2
-returns-2 c =
-    let a = c.before.before.before.before.before.before.before.args in
-    factor_read a.self a.at a.volume.now c.factor_at_lem.result (none c.before) (c.factor_at_lem.ensures ∙ ap (λ (k : UnitCell). pair_of (factors_in (cell_group k) (cell_halves k) a.self.modulus a.volume.now a.at.0 a.at.1 a.at.2)) c.before.before.before.before.before.unit-cell.ensures)
+returns-in-Sound : tie.Need-returns-in-Sound
+returns-in-Sound c =
+    let a = c.args in
+    factor_read a.self a.at a.volume.now c.factor_at-x.result (none c.before) (c.factor_at-x.ensures ∙ ap (λ (k : UnitCell). pair_of (factors_in (cell_group k) (cell_halves k) a.self.modulus a.volume.now a.at.0 a.at.1 a.at.2)) c.unit_cell-cell.ensures)
 
 pub factor_spec : {M : Type 1} → statement M
 factor_spec =
     tie.close
-    (tie.spec
-    unit-cell-requires
-    valid-job-requires
-    check-factor-requires
-    enum-known-checked
-    enum_told
-    factor-at-requires
-    returns
-    returns-2)
+    (tie.spec unit_cell-cell-requires valid_job-requires check_factor-checked-requires enum_known-checked enum_told-1 factor_at-x-requires returns-in-Failed returns-in-Sound)

@@ -17,58 +17,50 @@ use Rattle.job.proofs.Job.map_power.Statement.{statement}
 use Rattle.job.proofs.Job.map_power.Tie as tie
 
 -- the check's number
-told : (c : tie.After-check-analysis) → let a = c.before.before.before.before.args in checked_number c.check-analysis.result ≡ first (analysis_tests a.self a.volume.now scratch_length)
+told : (c : tie.After-check_analysis-checked) → let a = c.args in checked_number c.check_analysis-checked.result ≡ first (analysis_tests a.self a.volume.now scratch_length)
 told c =
-    let a = c.before.before.before.before.args in
-    c.check-analysis.ensures ∙ ap₂ (λ (b : Bool) (k : UnitCell). first (analysis_tests_of b a.self.state a.self.modulus k.group (cell_lengths k) a.volume.now scratch_length)) c.before.valid-job.ensures c.before.before.unit-cell.ensures
+    let a = c.args in
+    c.check_analysis-checked.ensures ∙ ap₂ (λ (b : Bool) (k : UnitCell). first (analysis_tests_of b a.self.state a.self.modulus k.group (cell_lengths k) a.volume.now scratch_length)) c.valid_job.ensures c.unit_cell-cell.ensures
 
 -- no test holds
-none : (c : tie.After-enum-told) → let a = c.before.before.before.before.before.before.args in 0 ≡ first (analysis_tests a.self a.volume.now scratch_length)
-none c = ap checked_number (sym c.enum_told.given.1) ∙ told c.before.before
+none : (c : tie.In-Sound) → let a = c.args in 0 ≡ first (analysis_tests a.self a.volume.now scratch_length)
+none c = ap checked_number (sym c.in-Sound.is) ∙ told c.before
 
-unit-cell-requires : tie.Need-unit-cell-requires
-unit-cell-requires c κs = search rules
+unit_cell-cell-requires : tie.Need-unit_cell-cell-requires
+unit_cell-cell-requires c κs = search rules
 
-valid-job-requires : tie.Need-valid-job-requires
-valid-job-requires c κs = search rules
+valid_job-requires : tie.Need-valid_job-requires
+valid_job-requires c κs = search rules
 
-check-analysis-requires : tie.Need-check-analysis-requires
-check-analysis-requires c κs e = cell_sizes c.before.before.before.args.self c.before.unit-cell.ensures (sym c.valid-job.ensures ∙ e)
+check_analysis-checked-requires : tie.Need-check_analysis-checked-requires
+check_analysis-checked-requires c κs e = cell_sizes c.args.self c.unit_cell-cell.ensures (sym c.valid_job.ensures ∙ e)
 
-enum-known-checked : tie.Need-enum-known-checked
-enum-known-checked c = search rules
+enum_known-checked : tie.Need-enum_known-checked
+enum_known-checked c = search rules
 
-enum_told : tie.Need-enum-told
-enum_told c = search rules
+enum_told-1 : tie.Need-enum_told-1
+enum_told-1 c = search rules
 
-map-power-requires : tie.Need-map-power-requires
-map-power-requires c κs =
-    let a = c.before.before.before.before.before.before.args in
+map_power-requires : tie.Need-map_power-requires
+map_power-requires c κs =
+    let a = c.args in
     let j = a.self in
     let r = analysis_ready j a.volume.now scratch_length (none c) in
     let v = r.0.valid in
-    rw c.before.before.before.before.unit-cell.ensures (record { sizes = valid_sizes j v; long = r.0.long }, valid_modulus j v, r.0.small)
+    rw c.unit_cell-cell.ensures (record { sizes = valid_sizes j v; long = r.0.long }, valid_modulus j v, r.0.small)
 
-returns : tie.Need-returns
-returns c =
-    let k = c.before.before.before in
-    let a = k.before.before.before.before.args in
-    map_power_refused a.self a.volume.now c.before.checked.given.0.0 (ap checked_number (sym c.before.checked.given.1) ∙ told k ∙ as_analysis a.self a.volume.now)
+returns-in-Failed : tie.Need-returns-in-Failed
+returns-in-Failed c =
+    let k = c.before in
+    let a = k.args in
+    map_power_refused a.self a.volume.now c.in-Failed.refusal (ap checked_number (sym c.in-Failed.is) ∙ told k ∙ as_analysis a.self a.volume.now)
 
-returns-2 : tie.Need-returns-2
-returns-2 c =
-    let a = c.before.before.before.before.before.before.before.args in
-    map_power_said a.self a.volume.now c.map_power_lem.result (none c.before ∙ as_analysis a.self a.volume.now) (c.map_power_lem.ensures ∙ ap (λ (k : UnitCell). map_power (cell_group k) (cell_halves k) a.self.modulus a.volume.now) c.before.before.before.before.before.unit-cell.ensures)
+returns-in-Sound : tie.Need-returns-in-Sound
+returns-in-Sound c =
+    let a = c.args in
+    map_power_said a.self a.volume.now c.map_power.result (none c.before ∙ as_analysis a.self a.volume.now) (c.map_power.ensures ∙ ap (λ (k : UnitCell). map_power (cell_group k) (cell_halves k) a.self.modulus a.volume.now) c.unit_cell-cell.ensures)
 
 pub map_power_spec : {M : Type 1} → statement M
 map_power_spec =
     tie.close
-    (tie.spec
-    unit-cell-requires
-    valid-job-requires
-    check-analysis-requires
-    enum-known-checked
-    enum_told
-    map-power-requires
-    returns
-    returns-2)
+    (tie.spec unit_cell-cell-requires valid_job-requires check_analysis-checked-requires enum_known-checked enum_told-1 map_power-requires returns-in-Failed returns-in-Sound)

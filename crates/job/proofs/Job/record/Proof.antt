@@ -18,72 +18,62 @@ use Rattle.job.proofs.Job.record.Statement.{statement}
 use Rattle.job.proofs.Job.record.Tie as tie
 
 -- the check's number
-told : (c : tie.After-check-record) → let a = c.before.before.before.before.before.args in checked_number c.check-record.result ≡ first (record_tests a.self (index a.at) a.a a.b a.volume.now)
+told : (c : tie.After-check_record-checked) → let a = c.args in checked_number c.check_record-checked.result ≡ first (record_tests a.self (index a.at) a.a a.b a.volume.now)
 told c =
-    let a = c.before.before.before.before.before.args in
-    c.check-record.ensures ∙ ap₂ (λ (b : Bool) (k : UnitCell). first (record_tests_of b a.self.state a.self.modulus k.group (cell_lengths k) (index a.at) a.a a.b a.volume.now)) c.before.before.valid-job.ensures c.before.before.before.unit-cell.ensures
+    let a = c.args in
+    c.check_record-checked.ensures ∙ ap₂ (λ (b : Bool) (k : UnitCell). first (record_tests_of b a.self.state a.self.modulus k.group (cell_lengths k) (index a.at) a.a a.b a.volume.now)) c.valid_job.ensures c.unit_cell-cell.ensures
 
 -- no test holds
-none : (c : tie.After-enum-told) → let a = c.before.before.before.before.before.before.before.args in 0 ≡ first (record_tests a.self (index a.at) a.a a.b a.volume.now)
-none c = ap checked_number (sym c.enum_told.given.1) ∙ told c.before.before
+none : (c : tie.In-Sound) → let a = c.args in 0 ≡ first (record_tests a.self (index a.at) a.a a.b a.volume.now)
+none c = ap checked_number (sym c.in-Sound.is) ∙ told c.before
 
-clear : (c : tie.After-enum-told) → let a = c.before.before.before.before.before.before.before.args in Passed (record_tests a.self (index a.at) a.a a.b a.volume.now)
-clear c = let a = c.before.before.before.before.before.before.before.args in passed (record_tests a.self (index a.at) a.a a.b a.volume.now) tt (none c)
+clear : (c : tie.In-Sound) → let a = c.args in Passed (record_tests a.self (index a.at) a.a a.b a.volume.now)
+clear c = let a = c.args in passed (record_tests a.self (index a.at) a.a a.b a.volume.now) tt (none c)
 
-unit-cell-requires : tie.Need-unit-cell-requires
-unit-cell-requires c κs = search rules
+unit_cell-cell-requires : tie.Need-unit_cell-cell-requires
+unit_cell-cell-requires c κs = search rules
 
-valid-job-requires : tie.Need-valid-job-requires
-valid-job-requires c κs = search rules
+valid_job-requires : tie.Need-valid_job-requires
+valid_job-requires c κs = search rules
 
-check-record-requires : tie.Need-check-record-requires
-check-record-requires c κs e = cell_sizes c.before.before.before.before.args.self c.before.before.unit-cell.ensures (sym c.before.valid-job.ensures ∙ e)
+check_record-checked-requires : tie.Need-check_record-checked-requires
+check_record-checked-requires c κs e = cell_sizes c.args.self c.unit_cell-cell.ensures (sym c.valid_job.ensures ∙ e)
 
-enum-known-checked : tie.Need-enum-known-checked
-enum-known-checked c = search rules
+enum_known-checked : tie.Need-enum_known-checked
+enum_known-checked c = search rules
 
-enum_told : tie.Need-enum-told
-enum_told c = search rules
+enum_told-1 : tie.Need-enum_told-1
+enum_told-1 c = search rules
 
-write-images-requires : tie.Need-write-images-requires
-write-images-requires c κs =
-    let a = c.before.before.before.before.before.before.before.before.args in
+write_images-requires : tie.Need-write_images-requires
+write_images-requires c κs =
+    let a = c.args in
     let j = a.self in
     let t = clear c.before in
     let s = both _ _ (not-false _ t.1.1.1.0) in
-    rw c.before.before.before.before.before.before.unit-cell.ensures ((valid_modulus j (not-false _ t.0), record { re = ltb-true _ _ s.0; im = ltb-true _ _ s.1 }, valid_sizes j (not-false _ t.0), within_of (job_cell j) (record { h = a.at.0; k = a.at.1; l = a.at.2 }) (not-false _ t.1.1.0)), eqb-true _ _ (not-false _ t.1.1.1.1.1.0))
+    rw c.unit_cell-cell.ensures ((valid_modulus j (not-false _ t.0), record { re = ltb-true _ _ s.0; im = ltb-true _ _ s.1 }, valid_sizes j (not-false _ t.0), within_of (job_cell j) (record { h = a.at.0; k = a.at.1; l = a.at.2 }) (not-false _ t.1.1.0)), eqb-true _ _ (not-false _ t.1.1.1.1.1.0))
 
-same_length : tie.Need-same-length
-same_length c = search rules
+shape_of-volume-in-Failed : tie.Need-shape_of-volume-in-Failed
+shape_of-volume-in-Failed c = search rules
 
-returns : tie.Need-returns
-returns c =
-    let k = c.before.before.before in
-    let a = k.before.before.before.before.before.args in
-    record_refused a.self a.at a.volume.now a.a a.b c.before.checked.given.0.0 (ap checked_number (sym c.before.checked.given.1) ∙ told k)
+returns-in-Failed : tie.Need-returns-in-Failed
+returns-in-Failed c =
+    let k = c.before in
+    let a = k.args in
+    record_refused a.self a.at a.volume.now a.a a.b c.in-Failed.refusal (ap checked_number (sym c.in-Failed.is) ∙ told k)
 
-same-length-2 : tie.Need-same-length-2
-same-length-2 c = search rules
+shape_of-volume-in-Sound : tie.Need-shape_of-volume-in-Sound
+shape_of-volume-in-Sound c = search rules
 
-returns-2 : tie.Need-returns-2
-returns-2 c =
+returns-in-Sound : tie.Need-returns-in-Sound
+returns-in-Sound c =
     let w = c.before.before in
     let t = w.before.before in
-    let a = t.before.before.before.before.before.before.before.args in
+    let a = t.args in
     record_written a.self a.at a.volume.now a.a a.b _ (none t)
-    (w.write-images.ensures ∙ ap (λ (k : UnitCell). record_on (cell_group k) (cell_halves k) a.self.modulus (index a.at) (value_of a.self.modulus (record { re = a.a; im = a.b })) a.volume.now) t.before.before.before.before.before.unit-cell.ensures)
+    (w.write_images.ensures ∙ ap (λ (k : UnitCell). record_on (cell_group k) (cell_halves k) a.self.modulus (index a.at) (value_of a.self.modulus (record { re = a.a; im = a.b })) a.volume.now) t.unit_cell-cell.ensures)
 
 pub record_spec : {M : Type 1} → statement M
 record_spec =
     tie.close
-    (tie.spec
-    unit-cell-requires
-    valid-job-requires
-    check-record-requires
-    enum-known-checked
-    enum_told
-    write-images-requires
-    same_length
-    returns
-    same-length-2
-    returns-2)
+    (tie.spec unit_cell-cell-requires valid_job-requires check_record-checked-requires enum_known-checked enum_told-1 write_images-requires shape_of-volume-in-Failed returns-in-Failed shape_of-volume-in-Sound returns-in-Sound)

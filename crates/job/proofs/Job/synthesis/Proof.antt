@@ -17,77 +17,65 @@ use Rattle.job.proofs.Job.synthesis.Statement.{statement}
 use Rattle.job.proofs.Job.synthesis.Tie as tie
 
 -- the check's number
-told : (c : tie.After-check-synthesis) → let a = c.before.before.before.before.before.before.args in checked_number c.check-synthesis.result ≡ first (synthesis_tests a.self a.volume.now (length a.scratch.now))
+told : (c : tie.After-check_synthesis-checked) → let a = c.args in checked_number c.check_synthesis-checked.result ≡ first (synthesis_tests a.self a.volume.now (length a.scratch.now))
 told c =
-    let a = c.before.before.before.before.before.before.args in
-    c.check-synthesis.ensures ∙ ap₂ (λ (b : Bool) (k : UnitCell). first (synthesis_tests_of b a.self.state a.self.modulus k.group (cell_lengths k) a.volume.now (length a.scratch.now))) c.before.before.valid-job.ensures c.before.before.before.unit-cell.ensures
+    let a = c.args in
+    c.check_synthesis-checked.ensures ∙ ap₂ (λ (b : Bool) (k : UnitCell). first (synthesis_tests_of b a.self.state a.self.modulus k.group (cell_lengths k) a.volume.now (length a.scratch.now))) c.valid_job.ensures c.unit_cell-cell.ensures
 
 -- no test holds
-none : (c : tie.After-enum-told) → let a = c.before.before.before.before.before.before.before.before.args in 0 ≡ first (synthesis_tests a.self a.volume.now (length a.scratch.now))
-none c = ap checked_number (sym c.enum_told.given.1) ∙ told c.before.before
+none : (c : tie.In-Sound) → let a = c.args in 0 ≡ first (synthesis_tests a.self a.volume.now (length a.scratch.now))
+none c = ap checked_number (sym c.in-Sound.is) ∙ told c.before
 
-unit-cell-requires : tie.Need-unit-cell-requires
-unit-cell-requires c κs = search rules
+unit_cell-cell-requires : tie.Need-unit_cell-cell-requires
+unit_cell-cell-requires c κs = search rules
 
-valid-job-requires : tie.Need-valid-job-requires
-valid-job-requires c κs = search rules
+valid_job-requires : tie.Need-valid_job-requires
+valid_job-requires c κs = search rules
 
-check-synthesis-requires : tie.Need-check-synthesis-requires
-check-synthesis-requires c κs e = cell_sizes c.before.before.before.before.before.args.self c.before.before.unit-cell.ensures (sym c.before.valid-job.ensures ∙ e)
+check_synthesis-checked-requires : tie.Need-check_synthesis-checked-requires
+check_synthesis-checked-requires c κs e = cell_sizes c.args.self c.unit_cell-cell.ensures (sym c.valid_job.ensures ∙ e)
 
-enum-known-checked : tie.Need-enum-known-checked
-enum-known-checked c = search rules
+enum_known-checked : tie.Need-enum_known-checked
+enum_known-checked c = search rules
 
-enum_told : tie.Need-enum-told
-enum_told c = search rules
+enum_told-1 : tie.Need-enum_told-1
+enum_told-1 c = search rules
 
-plan-of-requires : tie.Need-plan-of-requires
-plan-of-requires c κs = search rules
+plan_of-requires : tie.Need-plan_of-requires
+plan_of-requires c κs = search rules
 
-transform-volume-requires : tie.Need-transform-volume-requires
-transform-volume-requires c κs =
+transform_volume-requires : tie.Need-transform_volume-requires
+transform_volume-requires c κs =
     let k = c.before.before.before in
-    let a = k.before.before.before.before.before.before.before.before.args in
-    lent (synthesis_ready a.self a.volume.now (length a.scratch.now) (none k)).0 0 c.before.before.plan-of.result c.before.before.plan-of.ensures (omega arith)
+    let a = k.args in
+    lent (synthesis_ready a.self a.volume.now (length a.scratch.now) (none k)).0 0 c.plan_of.result c.plan_of.ensures (omega arith)
 
-same_length : tie.Need-same-length
-same_length c = search rules
+shape_of-volume-in-Failed : tie.Need-shape_of-volume-in-Failed
+shape_of-volume-in-Failed c = search rules
 
-returns : tie.Need-returns
-returns c =
-    let k = c.before.before.before in
-    let a = k.before.before.before.before.before.before.args in
-    synthesis_refused a.self a.volume.now a.scratch.now c.before.checked.given.0.0 (ap checked_number (sym c.before.checked.given.1) ∙ told k)
+returns-in-Failed : tie.Need-returns-in-Failed
+returns-in-Failed c =
+    let k = c.before in
+    let a = k.args in
+    synthesis_refused a.self a.volume.now a.scratch.now c.in-Failed.refusal (ap checked_number (sym c.in-Failed.is) ∙ told k)
 
-same-length-2 : tie.Need-same-length-2
-same-length-2 c = search rules
+shape_of-volume-in-Sound : tie.Need-shape_of-volume-in-Sound
+shape_of-volume-in-Sound c = search rules
 
-same-length-3 : tie.Need-same-length-3
-same-length-3 c = search rules
+shape_of-scratch : tie.Need-shape_of-scratch
+shape_of-scratch c = search rules
 
-returns-2 : tie.Need-returns-2
-returns-2 c =
+returns-in-Sound : tie.Need-returns-in-Sound
+returns-in-Sound c =
     let w = c.before.before.before.before in
     let k = w.before.before.before in
     let t = k.before in
-    let a = t.before.before.before.before.before.before.before.before.args in
+    let a = t.args in
     synthesis_done a.self a.volume.now a.scratch.now _ _ (none t)
-    (w.transform-volume.ensures.0 ∙ all_synthesised a.self a.volume.now (length a.scratch.now) (none t) k.plan-of.result k.plan-of.ensures)
-    w.transform-volume.ensures.1
+    (w.transform_volume.ensures.0 ∙ all_synthesised a.self a.volume.now (length a.scratch.now) (none t) k.plan_of.result k.plan_of.ensures)
+    w.transform_volume.ensures.1
 
 pub synthesis_spec : {M : Type 1} → statement M
 synthesis_spec =
     tie.close
-    (tie.spec
-    unit-cell-requires
-    valid-job-requires
-    check-synthesis-requires
-    enum-known-checked
-    enum_told
-    plan-of-requires
-    transform-volume-requires
-    same_length
-    returns
-    same-length-2
-    same-length-3
-    returns-2)
+    (tie.spec unit_cell-cell-requires valid_job-requires check_synthesis-checked-requires enum_known-checked enum_told-1 plan_of-requires transform_volume-requires shape_of-volume-in-Failed returns-in-Failed shape_of-volume-in-Sound shape_of-scratch returns-in-Sound)

@@ -17,7 +17,7 @@ axis-requires-3 : tie.Need-axis-requires-3
 axis-requires-3 c κs = let s = c.before.before.before.before.before in (sound_lists (header s) s.requires).2
 
 returns : tie.Need-returns
-returns c = rw (c.before.before.axis.ensures, c.before.axis2.ensures, c.axis3.ensures)
+returns c = rw (c.before.before.axis.ensures, c.before.axis-2.ensures, c.axis-3.ensures)
 
 pub opened_spec : {M : Type 1} → statement M
 opened_spec = tie.close (tie.spec axis-requires axis-requires-2 axis-requires-3 returns)

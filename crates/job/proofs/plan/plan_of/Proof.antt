@@ -3,11 +3,11 @@ use borrow.Author.Rules.{rules}
 use Rattle.job.proofs.plan.plan_of.Statement.{statement}
 use Rattle.job.proofs.plan.plan_of.Tie as tie
 
-unit-cell-requires : tie.Need-unit-cell-requires
-unit-cell-requires c κs = search rules
+unit_cell-requires : tie.Need-unit_cell-requires
+unit_cell-requires c κs = search rules
 
 returns : tie.Need-returns
-returns c = rw c.unit-cell.ensures
+returns c = rw c.unit_cell.ensures
 
 pub plan_of_spec : {M : Type 1} → statement M
-plan_of_spec = tie.close (tie.spec unit-cell-requires returns)
+plan_of_spec = tie.close (tie.spec unit_cell-requires returns)

@@ -6,20 +6,20 @@ use Rattle.job.specs.Answers.{said, reply_of}
 use Rattle.job.proofs.reply.of_answer.Statement.{statement}
 use Rattle.job.proofs.reply.of_answer.Tie as tie
 
-enum_told : tie.Need-enum-told
-enum_told c = search rules
+enum_told-1 : tie.Need-enum_told-1
+enum_told-1 c = search rules
 
-enum-known-answer : tie.Need-enum-known-answer
-enum-known-answer c = search rules
+enum_known-answer : tie.Need-enum_known-answer
+enum_known-answer c = search rules
 
-of-refusal-requires : tie.Need-of-refusal-requires
-of-refusal-requires c κs = search rules
+of_refusal-requires : tie.Need-of_refusal-requires
+of_refusal-requires c κs = search rules
 
-returns : tie.Need-returns
-returns c = ap (λ (a : Answer). reply_of (said a)) (sym c.enum_told.given.1)
+returns-in-Done : tie.Need-returns-in-Done
+returns-in-Done c = ap (λ (a : Answer). reply_of (said a)) (sym c.in-Done.is)
 
-returns-2 : tie.Need-returns-2
-returns-2 c = c.of-refusal.ensures ∙ ap (λ (a : Answer). reply_of (said a)) (sym c.before.before.answer.given.1)
+returns-in-Refused : tie.Need-returns-in-Refused
+returns-in-Refused c = c.of_refusal.ensures ∙ ap (λ (a : Answer). reply_of (said a)) (sym c.in-Refused.is)
 
 pub of_answer_spec : {M : Type 1} → statement M
-of_answer_spec = tie.close (tie.spec enum_told enum-known-answer of-refusal-requires returns returns-2)
+of_answer_spec = tie.close (tie.spec enum_told-1 enum_known-answer of_refusal-requires returns-in-Done returns-in-Refused)

@@ -10,38 +10,31 @@ use Rattle.job.specs.Answers.{said_factor, reply_of}
 use Rattle.job.proofs.reply.of_factor.Statement.{statement}
 use Rattle.job.proofs.reply.of_factor.Tie as tie
 
-enum-known-answer : tie.Need-enum-known-answer
-enum-known-answer c = search rules
+enum_known-answer : tie.Need-enum_known-answer
+enum_known-answer c = search rules
 
-cast-t6 : tie.Need-overflow-cast-t6
-cast-t6 c = search rules
+overflow_cast-result : tie.Need-overflow_cast-result
+overflow_cast-result c = search rules
 
-cast-t7 : tie.Need-overflow-cast-t7
-cast-t7 c = search rules
+overflow_cast-result-in-Factor : tie.Need-overflow_cast-result-in-Factor
+overflow_cast-result-in-Factor c = search rules
 
-enum-known-answer-2 : tie.Need-enum-known-answer-2
-enum-known-answer-2 c = search rules
+enum_known-answer-in-Refused-1 : tie.Need-enum_known-answer-in-Refused-1
+enum_known-answer-in-Refused-1 c = search rules
 
-of-refusal-requires : tie.Need-of-refusal-requires
-of-refusal-requires c κs = search rules
+of_refusal-requires : tie.Need-of_refusal-requires
+of_refusal-requires c κs = search rules
 
-returns : tie.Need-returns
-returns c =
-    let x = c.before.answer.given.0.0 in
-    let y = c.before.answer.given.0.1.0 in
-    ap₂ {C = Reply} (λ x y. record { number = 0; x = x; y = y }) (to_z_pos w64 x (omega arith)) (to_z_pos w64 y (omega arith)) ∙ ap (λ (a : FactorAnswer). reply_of (said_factor a)) (sym c.before.answer.given.1)
+returns-in-Factor : tie.Need-returns-in-Factor
+returns-in-Factor c =
+    let x = c.in-Factor.x in
+    let y = c.in-Factor.y in
+    ap₂ {C = Reply} (λ x y. record { number = 0; x = x; y = y }) (to_z_pos w64 x (omega arith)) (to_z_pos w64 y (omega arith)) ∙ ap (λ (a : FactorAnswer). reply_of (said_factor a)) (sym c.in-Factor.is)
 
-returns-2 : tie.Need-returns-2
-returns-2 c = c.of-refusal.ensures ∙ ap (λ (a : FactorAnswer). reply_of (said_factor a)) (sym c.before.before.answer2.given.1)
+returns-in-Refused : tie.Need-returns-in-Refused
+returns-in-Refused c = c.of_refusal.ensures ∙ ap (λ (a : FactorAnswer). reply_of (said_factor a)) (sym c.in-Refused.is)
 
 pub of_factor_spec : {M : Type 1} → statement M
 of_factor_spec =
     tie.close
-    (tie.spec
-    enum-known-answer
-    cast-t6
-    cast-t7
-    enum-known-answer-2
-    of-refusal-requires
-    returns
-    returns-2)
+    (tie.spec enum_known-answer overflow_cast-result overflow_cast-result-in-Factor enum_known-answer-in-Refused-1 of_refusal-requires returns-in-Factor returns-in-Refused)

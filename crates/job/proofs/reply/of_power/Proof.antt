@@ -11,25 +11,25 @@ use Rattle.job.specs.Answers.{said_power, reply_of}
 use Rattle.job.proofs.reply.of_power.Statement.{statement}
 use Rattle.job.proofs.reply.of_power.Tie as tie
 
-enum-known-answer : tie.Need-enum-known-answer
-enum-known-answer c = search rules
+enum_known-answer : tie.Need-enum_known-answer
+enum_known-answer c = search rules
 
-cast-t5 : tie.Need-overflow-cast-t5
-cast-t5 c = search rules
+overflow_cast-result : tie.Need-overflow_cast-result
+overflow_cast-result c = search rules
 
-enum-known-answer-2 : tie.Need-enum-known-answer-2
-enum-known-answer-2 c = search rules
+enum_known-answer-in-Refused-1 : tie.Need-enum_known-answer-in-Refused-1
+enum_known-answer-in-Refused-1 c = search rules
 
-of-refusal-requires : tie.Need-of-refusal-requires
-of-refusal-requires c κs = search rules
+of_refusal-requires : tie.Need-of_refusal-requires
+of_refusal-requires c κs = search rules
 
-returns : tie.Need-returns
-returns c =
-    let x = c.before.answer.given.0.0 in
-    ap (λ (x : ℤ). record { number = 0; x = x; y = pos 0 }) (to_z_pos w64 x (omega arith)) ∙ ap (λ (a : PowerAnswer). reply_of (said_power a)) (sym c.before.answer.given.1)
+returns-in-Power : tie.Need-returns-in-Power
+returns-in-Power c =
+    let x = c.in-Power.x in
+    ap (λ (x : ℤ). record { number = 0; x = x; y = pos 0 }) (to_z_pos w64 x (omega arith)) ∙ ap (λ (a : PowerAnswer). reply_of (said_power a)) (sym c.in-Power.is)
 
-returns-2 : tie.Need-returns-2
-returns-2 c = c.of-refusal.ensures ∙ ap (λ (a : PowerAnswer). reply_of (said_power a)) (sym c.before.before.answer2.given.1)
+returns-in-Refused : tie.Need-returns-in-Refused
+returns-in-Refused c = c.of_refusal.ensures ∙ ap (λ (a : PowerAnswer). reply_of (said_power a)) (sym c.in-Refused.is)
 
 pub of_power_spec : {M : Type 1} → statement M
-of_power_spec = tie.close (tie.spec enum-known-answer cast-t5 enum-known-answer-2 of-refusal-requires returns returns-2)
+of_power_spec = tie.close (tie.spec enum_known-answer overflow_cast-result enum_known-answer-in-Refused-1 of_refusal-requires returns-in-Power returns-in-Refused)

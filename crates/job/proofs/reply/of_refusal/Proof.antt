@@ -7,11 +7,11 @@ use Rattle.job.specs.declared.reply.Reply.{Reply}
 use Rattle.job.proofs.reply.of_refusal.Statement.{statement}
 use Rattle.job.proofs.reply.of_refusal.Tie as tie
 
-number-of-requires : tie.Need-number-of-requires
-number-of-requires c κs = search rules
+number_of-requires : tie.Need-number_of-requires
+number_of-requires c κs = search rules
 
 returns : tie.Need-returns
-returns c = ap {B = Reply} (λ (n : ℕ). record { number = n; x = pos 0; y = pos 0 }) c.number_of_lem.ensures
+returns c = ap {B = Reply} (λ (n : ℕ). record { number = n; x = pos 0; y = pos 0 }) c.number_of.ensures
 
 pub of_refusal_spec : {M : Type 1} → statement M
-of_refusal_spec = tie.close (tie.spec number-of-requires returns)
+of_refusal_spec = tie.close (tie.spec number_of-requires returns)

@@ -14,51 +14,42 @@ use Rattle.job.proofs.Jobs.{invalid_group, invalid_modulus, invalid_header, vali
 use Rattle.job.proofs.valid.valid_job.Statement.{statement}
 use Rattle.job.proofs.valid.valid_job.Tie as tie
 
-returns : tie.Need-returns
-returns c = invalid_group c.before.before.args.job c.if1.true
+returns-then-job-ge5 : tie.Need-returns-then-job-ge5
+returns-then-job-ge5 c = invalid_group c.args.job c.if-job-ge5.true
 
-is-modulus-requires : tie.Need-is-modulus-requires
-is-modulus-requires c κs = search rules
+is_modulus-requires : tie.Need-is_modulus-requires
+is_modulus-requires c κs = search rules
 
-returns-2 : tie.Need-returns-2
-returns-2 c = let g = c.before.before in invalid_modulus g.before.before.args.job g.if1.false (by_false _ _ c.before.is-modulus.ensures c.if2.true)
+returns-then-not-is_modulus : tie.Need-returns-then-not-is_modulus
+returns-then-not-is_modulus c = invalid_modulus c.args.job c.if-job-ge5.false (by_false _ _ c.is_modulus.ensures c.if-not-is_modulus.true)
 
 -- the modulus is 1 or 2
-known : (c : tie.Else2) → is_modulus c.before.before.before.before.args.job.modulus ≡ true
-known c = by_true _ _ c.before.is-modulus.ensures c.if2.false
+known : (c : tie.Else-not-is_modulus) → is_modulus c.args.job.modulus ≡ true
+known c = by_true _ _ c.is_modulus.ensures c.if-not-is_modulus.false
 
-unit-cell-requires : tie.Need-unit-cell-requires
-unit-cell-requires c κs = search rules
+unit_cell-requires : tie.Need-unit_cell-requires
+unit_cell-requires c κs = search rules
 
 -- what the header's test says of the job
-told : (c : tie.After-valid-header) → c.valid-header.result ≡ eqb (first (axis_tests (header_of c.before.before.before.before.before.before.args.job))) 0
+told : (c : tie.After-valid_header) → c.valid_header.result ≡ eqb (first (axis_tests (header_of c.args.job))) 0
 told c =
-    let j = c.before.before.before.before.before.before.args.job in
-    c.valid-header.ensures ∙ ap (λ (k : UnitCell). eqb (first (axis_tests (cell_header k (octal_digits j.a.factors) (octal_digits j.b.factors) (octal_digits j.c.factors)))) 0) c.before.unit-cell.ensures
+    let j = c.args.job in
+    c.valid_header.ensures ∙ ap (λ (k : UnitCell). eqb (first (axis_tests (cell_header k (octal_digits j.a.factors) (octal_digits j.b.factors) (octal_digits j.c.factors)))) 0) c.unit_cell.ensures
 
-valid-header-requires : tie.Need-valid-header-requires
-valid-header-requires c κs = subst (λ (k : UnitCell). k.group < 5) (sym c.unit-cell.ensures) c.before.before.before.if1.false
+valid_header-requires : tie.Need-valid_header-requires
+valid_header-requires c κs = subst (λ (k : UnitCell). k.group < 5) (sym c.unit_cell.ensures) c.if-job-ge5.false
 
-returns-3 : tie.Need-returns-3
-returns-3 c =
+returns-then-not-valid_header : tie.Need-returns-then-not-valid_header
+returns-then-not-valid_header c =
     let k = c.before.before.before in
-    let g = k.before.before in
-    invalid_header g.before.before.args.job g.if1.false (known k) (told c.before) c.if3.true
+    invalid_header k.args.job k.if-job-ge5.false (known k) (told c.before) c.if-not-valid_header.true
 
-returns-4 : tie.Need-returns-4
-returns-4 c =
+returns : tie.Need-returns
+returns c =
     let k = c.before.before.before.before in
-    let g = k.before.before in
-    valid_state g.before.before.args.job g.if1.false (known k) (told c.before.before) c.before.if3.false
+    valid_state k.args.job k.if-job-ge5.false (known k) (told c.before.before) c.if-not-valid_header.false
 
 pub valid_job_spec : {M : Type 1} → statement M
 valid_job_spec =
     tie.close
-    (tie.spec
-    returns
-    is-modulus-requires
-    returns-2
-    unit-cell-requires
-    valid-header-requires
-    returns-3
-    returns-4)
+    (tie.spec returns-then-job-ge5 is_modulus-requires returns-then-not-is_modulus unit_cell-requires valid_header-requires returns-then-not-valid_header returns)

@@ -12,40 +12,35 @@ use Rattle.job.proofs.check.open.check_volume.Statement.{statement}
 use Rattle.job.proofs.check.open.check_volume.Tie as tie
 
 -- the volume is as long as it must be
-fit : (c : tie.Else1) → let a = c.before.before.before.args in eqb (length a.volume.now) (volume_length (cell_group a.cell) (cell_halves a.cell)) ≡ true
-fit c = by_true _ _ c.before.fits2.ensures c.if1.false
+fit : (c : tie.Else-not-fits) → let a = c.args in eqb (length a.volume.now) (volume_length (cell_group a.cell) (cell_halves a.cell)) ≡ true
+fit c = by_true _ _ c.fits.ensures c.if-not-fits.false
 
 fits-requires : tie.Need-fits-requires
-fits-requires c κs = c.before.requires.0
+fits-requires c κs = c.requires.0
 
-returns : tie.Need-returns
-returns c = stop _ (not_f _ (by_false _ _ c.before.fits2.ensures c.if1.true))
+returns-then-not-fits : tie.Need-returns-then-not-fits
+returns-then-not-fits c = stop _ (not_f _ (by_false _ _ c.fits.ensures c.if-not-fits.true))
 
-returns-2 : tie.Need-returns-2
-returns-2 c =
+returns-then-kind-ne1 : tie.Need-returns-then-kind-ne1
+returns-then-kind-ne1 c =
     let t = c.before in
-    let a = t.before.before.before.args in
-    volume_collects a.modulus a.cell.group (cell_lengths a.cell) a.kind a.volume.now (fit t) c.if2.true
+    let a = t.args in
+    volume_collects a.modulus a.cell.group (cell_lengths a.cell) a.kind a.volume.now (fit t) c.if-kind-ne1.true
 
-check-map-requires : tie.Need-check-map-requires
-check-map-requires c κs =
+check_map-requires : tie.Need-check_map-requires
+check_map-requires c κs =
     let t = c.before in
-    let s = t.before.before.before.requires in
+    let s = t.requires in
     (record { sizes = s.0; long = eqb-true _ _ (fit t) }, s.1)
 
-returns-3 : tie.Need-returns-3
-returns-3 c =
+returns : tie.Need-returns
+returns c =
     let u = c.before in
     let t = u.before in
-    let a = t.before.before.before.args in
-    volume_held a.modulus a.cell.group (cell_lengths a.cell) a.kind a.volume.now (fit t) u.if2.false c.check-map.ensures
+    let a = t.args in
+    volume_held a.modulus a.cell.group (cell_lengths a.cell) a.kind a.volume.now (fit t) u.if-kind-ne1.false c.check_map.ensures
 
 pub check_volume_spec : {M : Type 1} → statement M
 check_volume_spec =
     tie.close
-    (tie.spec
-    fits-requires
-    returns
-    returns-2
-    check-map-requires
-    returns-3)
+    (tie.spec fits-requires returns-then-not-fits returns-then-kind-ne1 check_map-requires returns)

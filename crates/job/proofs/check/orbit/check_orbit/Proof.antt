@@ -10,23 +10,23 @@ use Rattle.cell.specs.Volume.{volume_length}
 use Rattle.job.proofs.check.orbit.check_orbit.Statement.{statement}
 use Rattle.job.proofs.check.orbit.check_orbit.Tie as tie
 
-fit : (c : tie.Else1) → let a = c.before.before.before.args in eqb (length a.volume.now) (volume_length (cell_group a.cell) (cell_halves a.cell)) ≡ true
-fit c = by_true _ _ c.before.fits2.ensures c.if1.false
+fit : (c : tie.Else-not-fits) → let a = c.args in eqb (length a.volume.now) (volume_length (cell_group a.cell) (cell_halves a.cell)) ≡ true
+fit c = by_true _ _ c.fits.ensures c.if-not-fits.false
 
 fits-requires : tie.Need-fits-requires
-fits-requires c κs = c.before.requires.0
+fits-requires c κs = c.requires.0
+
+returns-then-not-fits : tie.Need-returns-then-not-fits
+returns-then-not-fits c = stop _ (not_f _ (by_false _ _ c.fits.ensures c.if-not-fits.true))
+
+orbit_free-requires : tie.Need-orbit_free-requires
+orbit_free-requires c κs = let h = c.requires in ((h.0, h.1), eqb-true _ _ (fit c))
+
+returns-then-not-orbit_free : tie.Need-returns-then-not-orbit_free
+returns-then-not-orbit_free c = pass 6 _ (not_t _ (fit c.before.before)) (stop _ (not_f _ (by_false _ _ c.orbit_free.ensures c.if-not-orbit_free.true)))
 
 returns : tie.Need-returns
-returns c = stop _ (not_f _ (by_false _ _ c.before.fits2.ensures c.if1.true))
-
-orbit-free-requires : tie.Need-orbit-free-requires
-orbit-free-requires c κs = let h = c.before.before.before.requires in ((h.0, h.1), eqb-true _ _ (fit c))
-
-returns-2 : tie.Need-returns-2
-returns-2 c = pass 6 _ (not_t _ (fit c.before.before)) (stop _ (not_f _ (by_false _ _ c.before.orbit_free_lem.ensures c.if2.true)))
-
-returns-3 : tie.Need-returns-3
-returns-3 c = pass 6 _ (not_t _ (fit c.before.before)) (pass 24 _ (not_t _ (by_true _ _ c.before.orbit_free_lem.ensures c.if2.false)) none)
+returns c = pass 6 _ (not_t _ (fit c.before.before)) (pass 24 _ (not_t _ (by_true _ _ c.orbit_free.ensures c.if-not-orbit_free.false)) none)
 
 pub check_orbit_spec : {M : Type 1} → statement M
-check_orbit_spec = tie.close (tie.spec fits-requires returns orbit-free-requires returns-2 returns-3)
+check_orbit_spec = tie.close (tie.spec fits-requires returns-then-not-fits orbit_free-requires returns-then-not-orbit_free returns)

@@ -17,16 +17,16 @@ use Rattle.job.proofs.check.record.check_own.Tie as tie
 
 -- ---- what each test that is passed leaves
 
-inside : (c : tie.Else1) → let a = c.before.before.args in within (cell_lengths a.cell) (triple_of a.at) ≡ true
-inside c = by_true _ _ c.before.inside.ensures c.if1.false
+inside : (c : tie.Else-not-inside) → let a = c.before.before.args in within (cell_lengths a.cell) (triple_of a.at) ≡ true
+inside c = by_true _ _ c.before.inside.ensures c.if-not-inside.false
 
-placed : (c : tie.Else1) → let a = c.before.before.args in Within a.cell a.at
+placed : (c : tie.Else-not-inside) → let a = c.before.before.args in Within a.cell a.at
 placed c = let a = c.before.before.args in within_of a.cell a.at (inside c)
 
-below : (c : tie.Else2) → let a = c.before.before.before.before.args in (ltb a.x.re (prime a.modulus) && ltb a.x.im (prime a.modulus)) ≡ true
-below c = by_true _ _ c.before.residues.ensures c.if2.false
+below : (c : tie.Else-not-residues) → let a = c.before.before.before.before.args in (ltb a.x.re (prime a.modulus) && ltb a.x.im (prime a.modulus)) ≡ true
+below c = by_true _ _ c.before.residues.ensures c.if-not-residues.false
 
-small : (c : tie.Else2) → let a = c.before.before.before.before.args in Small (prime a.modulus) a.x
+small : (c : tie.Else-not-residues) → let a = c.before.before.before.before.args in Small (prime a.modulus) a.x
 small c = let t = both _ _ (below c) in record { re = ltb-true _ _ t.0; im = ltb-true _ _ t.1 }
 
 -- what the test of the value says
@@ -40,14 +40,14 @@ own c =
 inside-requires : tie.Need-inside-requires
 inside-requires c κs = search rules
 
-returns : tie.Need-returns
-returns c = stop _ (not_f _ (by_false _ _ c.before.inside.ensures c.if1.true))
+returns-then-not-inside : tie.Need-returns-then-not-inside
+returns-then-not-inside c = stop _ (not_f _ (by_false _ _ c.before.inside.ensures c.if-not-inside.true))
 
 residues-requires : tie.Need-residues-requires
 residues-requires c κs = c.before.before.requires.1
 
-returns-2 : tie.Need-returns-2
-returns-2 c = pass 10 _ (not_t _ (inside c.before.before)) (stop _ (not_f _ (by_false _ _ c.before.residues.ensures c.if2.true)))
+returns-then-not-residues : tie.Need-returns-then-not-residues
+returns-then-not-residues c = pass 10 _ (not_t _ (inside c.before.before)) (stop _ (not_f _ (by_false _ _ c.before.residues.ensures c.if-not-residues.true)))
 
 agrees-requires : tie.Need-agrees-requires
 agrees-requires c κs =
@@ -55,24 +55,17 @@ agrees-requires c κs =
     let s = i.before.before.requires in
     (s.1, small c, s.0, placed i)
 
-returns-3 : tie.Need-returns-3
-returns-3 c =
+returns-then-not-agrees : tie.Need-returns-then-not-agrees
+returns-then-not-agrees c =
     let s = c.before.before in
-    pass 10 _ (not_t _ (inside s.before.before)) (pass 7 _ (not_t _ (below s)) (stop _ (not_f _ (by_false _ _ (own c.before) c.if3.true))))
+    pass 10 _ (not_t _ (inside s.before.before)) (pass 7 _ (not_t _ (below s)) (stop _ (not_f _ (by_false _ _ (own c.before) c.if-not-agrees.true))))
 
-returns-4 : tie.Need-returns-4
-returns-4 c =
+returns : tie.Need-returns
+returns c =
     let s = c.before.before in
-    pass 10 _ (not_t _ (inside s.before.before)) (pass 7 _ (not_t _ (below s)) (pass 12 _ (not_t _ (by_true _ _ (own c.before) c.if3.false)) none))
+    pass 10 _ (not_t _ (inside s.before.before)) (pass 7 _ (not_t _ (below s)) (pass 12 _ (not_t _ (by_true _ _ (own c.before) c.if-not-agrees.false)) none))
 
 pub check_own_spec : {M : Type 1} → statement M
 check_own_spec =
     tie.close
-    (tie.spec
-    inside-requires
-    returns
-    residues-requires
-    returns-2
-    agrees-requires
-    returns-3
-    returns-4)
+    (tie.spec inside-requires returns-then-not-inside residues-requires returns-then-not-residues agrees-requires returns-then-not-agrees returns)

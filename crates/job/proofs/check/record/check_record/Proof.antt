@@ -14,63 +14,54 @@ use Rattle.job.proofs.check.record.check_record.Statement.{statement}
 use Rattle.job.proofs.check.record.check_record.Tie as tie
 
 -- the job is valid: what is known of its sizes and its modulus
-sizes : (c : tie.Else1) → let a = c.before.before.args in Sizes a.cell × IsModulus a.modulus
-sizes c = c.before.before.requires (not-false _ c.if1.false)
+sizes : (c : tie.Else-not-valid) → let a = c.args in Sizes a.cell × IsModulus a.modulus
+sizes c = c.requires c.if-not-valid.false
 
-collects : (c : tie.Else2) → not (eqb c.before.before.before.args.state 0) ≡ false
-collects c = not_t _ (eq-eqb _ _ c.if2.false)
+collects : (c : tie.Else-state-ne0) → not (eqb c.args.state 0) ≡ false
+collects c = not_t _ (eq-eqb _ _ c.if-state-ne0.false)
 
 -- no test of the record's own holds
-passes : (c : tie.After-enum-told) → let a = c.before.before.before.before.before.before.args in Passed (own_tests a.modulus a.cell.group (cell_lengths a.cell) (triple_of a.at) a.x.re a.x.im)
+passes : (c : tie.In-Sound) → let a = c.args in Passed (own_tests a.modulus a.cell.group (cell_lengths a.cell) (triple_of a.at) a.x.re a.x.im)
 passes c =
-    let a = c.before.before.before.before.before.before.args in
-    passed (own_tests a.modulus a.cell.group (cell_lengths a.cell) (triple_of a.at) a.x.re a.x.im) tt (ap checked_number (sym c.enum_told.given.1) ∙ c.before.before.check-own.ensures)
+    let a = c.args in
+    passed (own_tests a.modulus a.cell.group (cell_lengths a.cell) (triple_of a.at) a.x.re a.x.im) tt (ap checked_number (sym c.in-Sound.is) ∙ c.check_own-own.ensures)
 
-returns : tie.Need-returns
-returns c = stop _ c.if1.true
+returns-then-not-valid : tie.Need-returns-then-not-valid
+returns-then-not-valid c = stop _ (not_f _ c.if-not-valid.true)
 
-returns-2 : tie.Need-returns-2
-returns-2 c = pass 25 _ c.before.if1.false (stop _ (not_f _ (ne_eqb _ _ c.if2.true)))
+returns-then-state-ne0 : tie.Need-returns-then-state-ne0
+returns-then-state-ne0 c = pass 25 _ (not_t _ c.if-not-valid.false) (stop _ (not_f _ (ne_eqb _ _ c.if-state-ne0.true)))
 
-check-own-requires : tie.Need-check-own-requires
-check-own-requires c κs = sizes c.before
+check_own-own-requires : tie.Need-check_own-own-requires
+check_own-own-requires c κs = sizes c.before
 
-enum-known-own : tie.Need-enum-known-own
-enum-known-own c = search rules
+enum_known-own : tie.Need-enum_known-own
+enum_known-own c = search rules
 
-enum_told : tie.Need-enum-told
-enum_told c = search rules
+enum_told-1 : tie.Need-enum_told-1
+enum_told-1 c = search rules
 
-check-orbit-requires : tie.Need-check-orbit-requires
-check-orbit-requires c κs =
-    let e = c.before.before.before in
-    let a = e.before.before.before.args in
+check_orbit-requires : tie.Need-check_orbit-requires
+check_orbit-requires c κs =
+    let e = c.before.before in
+    let a = e.args in
     ((sizes e.before).0, within_of a.cell a.at (not-false _ (passes c).0))
 
-returns-3 : tie.Need-returns-3
-returns-3 c =
-    let k = c.before.before.before in
-    let e = k.before in
-    let a = e.before.before.before.args in
-    let r = c.before.own.given.0.0 in
-    pass 25 _ e.before.if1.false (pass 21 _ (collects e) (append_stop (own_tests a.modulus a.cell.group (cell_lengths a.cell) (triple_of a.at) a.x.re a.x.im) (orbit_tests a.cell.group (cell_lengths a.cell) (triple_of a.at) a.volume.now) (not_zero r) (ap checked_number (sym c.before.own.given.1) ∙ k.check-own.ensures)))
+returns-in-Failed : tie.Need-returns-in-Failed
+returns-in-Failed c =
+    let e = c.before.before in
+    let a = c.args in
+    let r = c.in-Failed.refusal in
+    pass 25 _ (not_t _ e.if-not-valid.false) (pass 21 _ (collects e) (append_stop (own_tests a.modulus a.cell.group (cell_lengths a.cell) (triple_of a.at) a.x.re a.x.im) (orbit_tests a.cell.group (cell_lengths a.cell) (triple_of a.at) a.volume.now) (not_zero r) (ap checked_number (sym c.in-Failed.is) ∙ c.check_own-own.ensures)))
 
-returns-4 : tie.Need-returns-4
-returns-4 c =
+returns-in-Sound : tie.Need-returns-in-Sound
+returns-in-Sound c =
     let t = c.before in
-    let e = t.before.before.before in
+    let e = t.before.before in
     let p = passes t in
-    pass 25 _ e.before.if1.false (pass 21 _ (collects e) (pass 10 _ p.0 (pass 7 _ p.1.0 (pass 12 _ p.1.1.0 c.check-orbit.ensures))))
+    pass 25 _ (not_t _ e.if-not-valid.false) (pass 21 _ (collects e) (pass 10 _ p.0 (pass 7 _ p.1.0 (pass 12 _ p.1.1.0 c.check_orbit.ensures))))
 
 pub check_record_spec : {M : Type 1} → statement M
 check_record_spec =
     tie.close
-    (tie.spec
-    returns
-    returns-2
-    check-own-requires
-    enum-known-own
-    enum_told
-    check-orbit-requires
-    returns-3
-    returns-4)
+    (tie.spec returns-then-not-valid returns-then-state-ne0 check_own-own-requires enum_known-own enum_told-1 check_orbit-requires returns-in-Failed returns-in-Sound)

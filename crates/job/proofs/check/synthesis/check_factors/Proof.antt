@@ -6,30 +6,25 @@ use Rattle.refusals.proofs.Tests.{stop, pass, none, not_t, not_f, by_true, by_fa
 use Rattle.job.proofs.check.synthesis.check_factors.Statement.{statement}
 use Rattle.job.proofs.check.synthesis.check_factors.Tie as tie
 
-all-residues-requires : tie.Need-all-residues-requires
-all-residues-requires c κs = c.before.requires.1
+all_residues-requires : tie.Need-all_residues-requires
+all_residues-requires c κs = c.before.requires.1
 
-returns : tie.Need-returns
-returns c = stop _ (not_f _ (by_false _ _ c.before.all-residues.ensures c.if1.true))
+returns-then-not-all_residues : tie.Need-returns-then-not-all_residues
+returns-then-not-all_residues c = stop _ (not_f _ (by_false _ _ c.before.all_residues.ensures c.if-not-all_residues.true))
 
-consistent-factors-requires : tie.Need-consistent-factors-requires
-consistent-factors-requires c κs =
+consistent_factors-requires : tie.Need-consistent_factors-requires
+consistent_factors-requires c κs =
     let s = c.before.before.before in
     let m = s.args.modulus in
-    (s.requires.0, s.requires.1, below_all_below (prime m) s.args.volume.now (prime_pos m) (by_true _ _ c.before.all-residues.ensures c.if1.false))
+    (s.requires.0, s.requires.1, below_all_below (prime m) s.args.volume.now (prime_pos m) (by_true _ _ c.before.all_residues.ensures c.if-not-all_residues.false))
 
-returns-2 : tie.Need-returns-2
-returns-2 c = let r = c.before.before in pass 7 _ (not_t _ (by_true _ _ r.before.all-residues.ensures r.if1.false)) (stop _ (not_f _ (by_false _ _ c.before.consistent-factors.ensures c.if2.true)))
+returns-then-not-consistent_factors : tie.Need-returns-then-not-consistent_factors
+returns-then-not-consistent_factors c = let r = c.before.before in pass 7 _ (not_t _ (by_true _ _ r.before.all_residues.ensures r.if-not-all_residues.false)) (stop _ (not_f _ (by_false _ _ c.before.consistent_factors.ensures c.if-not-consistent_factors.true)))
 
-returns-3 : tie.Need-returns-3
-returns-3 c = let r = c.before.before in pass 7 _ (not_t _ (by_true _ _ r.before.all-residues.ensures r.if1.false)) (pass 14 _ (not_t _ (by_true _ _ c.before.consistent-factors.ensures c.if2.false)) none)
+returns : tie.Need-returns
+returns c = let r = c.before.before in pass 7 _ (not_t _ (by_true _ _ r.before.all_residues.ensures r.if-not-all_residues.false)) (pass 14 _ (not_t _ (by_true _ _ c.before.consistent_factors.ensures c.if-not-consistent_factors.false)) none)
 
 pub check_factors_spec : {M : Type 1} → statement M
 check_factors_spec =
     tie.close
-    (tie.spec
-    all-residues-requires
-    returns
-    consistent-factors-requires
-    returns-2
-    returns-3)
+    (tie.spec all_residues-requires returns-then-not-all_residues consistent_factors-requires returns-then-not-consistent_factors returns)

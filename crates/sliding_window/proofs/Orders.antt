@@ -1,19 +1,17 @@
 -- The order of the window's refusals, and refusal 34, which no test comes before.
-use mathlib.Core.Path.{◌≡◌, refl, sym, subst}
+use mathlib.Core.Path.{◌≡◌, refl, subst}
 use mathlib.Core.Logic.{◌↔◌}
 use mathlib.Core.Bool.{Bool, true, false}
 use mathlib.Core.List.{List, [], ◌∷◌}
 use Prim.Native.Nat.{ℕ, suc, ◌≤◌}
 use native.Mathlib.Omega.{arith}
 use lib.Dec.{T, eqb, leb, ltb}
-use lib.IntN.{ℤ}
 use lib.ListN.{length}
 use borrow.Author.Tests.{eqb-false, leb-false, ne_eqb, lt-leb}
 use Rattle.refusals.specs.Refusals.{Test, ◌⇒◌, first}
 use Rattle.refusals.proofs.Orders.{others, other_first}
-use Rattle.output.specs.Output.{Filled.not_written}
 use Rattle.output.proofs.Answered.{fill_says}
-use Rattle.sliding_window.specs.Window.{window_count, Extremes, window_tests_of, WindowOutcome, window_step}
+use Rattle.sliding_window.specs.Window.{window_count, window_tests_of, WindowOutcome, window_step}
 use Rattle.sliding_window.specs.Orders.{WindowRefusals}
 
 -- two tests of one number, and others behind them

@@ -11,79 +11,64 @@ use Rattle.slices.proofs.Stores.{storing_more}
 use Rattle.sliding_window.proofs.extremes.extremes.Statement.{statement}
 use Rattle.sliding_window.proofs.extremes.extremes.Tie as tie
 
-abbrev invariant-loop : tie.invariant-loop
-invariant-loop greatest run w count scores₀ places₀ best₀ start₀ scores places best start =
+abbrev invariant-loop-start : tie.invariant-loop-start
+invariant-loop-start greatest run w count scores₀ places₀ best₀ start₀ scores places best start =
     Filling stores (λ j. j) (λ j. best_score greatest run j w) count start scores₀ scores × Filling stores (λ j. j) (λ j. best_of greatest run j w) count start places₀ places × (length best ≡ 64)
 
-abbrev decreases-loop : tie.decreases-loop
-decreases-loop greatest run w count scores₀ places₀ best₀ start₀ scores places best start = count - start
+abbrev decreases-loop-start : tie.decreases-loop-start
+decreases-loop-start greatest run w count scores₀ places₀ best₀ start₀ scores places best start = count - start
 
-loop-holds : tie.Need-loop-init invariant-loop decreases-loop
-loop-holds c = (storing_start, storing_start, refl)
+loop-start-init : tie.Need-loop-start-init invariant-loop-start decreases-loop-start
+loop-start-init c = (storing_start, storing_start, refl)
 
-sub-lesser : tie.Need-overflow-sub-lesser invariant-loop decreases-loop
-sub-lesser c = omega arith
+overflow_sub-count : tie.Need-overflow_sub-count invariant-loop-start decreases-loop-start
+overflow_sub-count c = omega arith
 
-lesser-requires : tie.Need-lesser-requires invariant-loop decreases-loop
-lesser-requires c κs = search rules
+lesser-size-requires : tie.Need-lesser-size-requires invariant-loop-start decreases-loop-start
+lesser-size-requires c κs = search rules
 
-slice-aggregate-suffixes : tie.Need-slice-aggregate-suffixes invariant-loop decreases-loop
-slice-aggregate-suffixes c = sym c.before.before.before.loop.invariant.2
+slice_bounds-suffixes-end : tie.Need-slice_bounds-suffixes-end invariant-loop-start decreases-loop-start
+slice_bounds-suffixes-end c = sym c.loop-start.invariant.2
 
-suffixes-requires : tie.Need-suffixes-requires invariant-loop decreases-loop
+suffixes-requires : tie.Need-suffixes-requires invariant-loop-start decreases-loop-start
 suffixes-requires c κs =
-    let p = c.before.before.before.before.before.requires in
-    (p.0, p.1, omega (arith, p.2), c.before.before.before.loop.invariant.2)
+    let p = c.requires in
+    (p.0, p.1, omega (arith, p.2), c.loop-start.invariant.2)
 
-slice-aggregate-windows : tie.Need-slice-aggregate-windows invariant-loop decreases-loop
-slice-aggregate-windows c = sym c.before.before.suffixes.ensures.long
+slice_bounds-windows-end : tie.Need-slice_bounds-windows-end invariant-loop-start decreases-loop-start
+slice_bounds-windows-end c = sym c.suffixes.ensures.long
 
-windows-requires : tie.Need-windows-requires invariant-loop decreases-loop
+windows-requires : tie.Need-windows-requires invariant-loop-start decreases-loop-start
 windows-requires c κs =
-    let p = c.before.before.before.before.before.before.before.before.before.before.requires in
-    let l = c.before.before.before.before.before.before.before.before.loop in
-    let n = c.before.before.before.before.before.before.lesser.ensures in
-    (record { positive = p.0; short = p.1; some = n.0; inside = omega (arith, p.2, n.1) }, c.before.before.before.before.suffixes.ensures, omega (arith, l.invariant.0.len, p.3, n.1), omega (arith, l.invariant.1.len, p.4, n.1))
+    let p = c.requires in
+    let l = c.loop-start in
+    let n = c.lesser-size.ensures in
+    (record { positive = p.0; short = p.1; some = n.0; inside = omega (arith, p.2, n.1) }, c.suffixes.ensures, omega (arith, l.invariant.0.len, p.3, n.1), omega (arith, l.invariant.1.len, p.4, n.1))
 
-add_start : tie.Need-overflow-add-start invariant-loop decreases-loop
-add_start c = omega arith
+overflow_add-start : tie.Need-overflow_add-start invariant-loop-start decreases-loop-start
+overflow_add-start c = omega arith
 
-loop-less : tie.Need-loop-smaller invariant-loop decreases-loop
-loop-less c = omega (arith, c.before.before.before.before.before.before.before.before.before.before.lesser.ensures.2 c.before.before.before.before.before.before.before.before.before.before.before.before.before.before.requires.0 (omega arith))
+loop-start-smaller : tie.Need-loop-start-smaller invariant-loop-start decreases-loop-start
+loop-start-smaller c = omega (arith, c.lesser-size.ensures.2 c.requires.0 (omega arith))
 
-loop-again : tie.Need-loop-preserved invariant-loop decreases-loop
-loop-again c =
-    let l = c.before.before.before.before.before.before.before.before.before.before.before.before.loop in
-    let n = c.before.before.before.before.before.before.before.before.before.before.lesser in
-    let w = c.before.before.before.windows.ensures in
-    let fits : l.start + n.result ≤ c.before.before.before.before.before.before.before.before.before.before.before.before.before.before.args.count = omega (arith, n.ensures.1) in
-    (storing_more n.result l.invariant.0 fits w.0, storing_more n.result l.invariant.1 fits w.1, c.before.before.before.before.before.before.before.before.suffixes.ensures.long)
+loop-start-preserved : tie.Need-loop-start-preserved invariant-loop-start decreases-loop-start
+loop-start-preserved c =
+    let l = c.loop-start in
+    let n = c.lesser-size in
+    let w = c.windows.ensures in
+    let fits : l.start + n.result ≤ c.args.count = omega (arith, n.ensures.1) in
+    (storing_more n.result l.invariant.0 fits w.0, storing_more n.result l.invariant.1 fits w.1, c.suffixes.ensures.long)
 
-same_length : tie.Need-same-length invariant-loop decreases-loop
-same_length c = c.before.loop.invariant.0.len
+shape_of-scores : tie.Need-shape_of-scores invariant-loop-start decreases-loop-start
+shape_of-scores c = c.loop-start.invariant.0.len
 
-same-length-2 : tie.Need-same-length-2 invariant-loop decreases-loop
-same-length-2 c = c.before.loop.invariant.1.len
+shape_of-places : tie.Need-shape_of-places invariant-loop-start decreases-loop-start
+shape_of-places c = c.loop-start.invariant.1.len
 
-returns : tie.Need-returns invariant-loop decreases-loop
-returns c = (filled_all c.before.loop.invariant.0 c.loop-test.false, filled_all c.before.loop.invariant.1 c.loop-test.false)
+returns : tie.Need-returns invariant-loop-start decreases-loop-start
+returns c = (filled_all c.loop-start.invariant.0 c.loop-start-test.false, filled_all c.loop-start.invariant.1 c.loop-start-test.false)
 
 pub extremes_spec : {M : Type 1} → statement M
 extremes_spec =
     tie.close
-    (tie.spec
-    invariant-loop
-    decreases-loop
-    loop-holds
-    sub-lesser
-    lesser-requires
-    slice-aggregate-suffixes
-    suffixes-requires
-    slice-aggregate-windows
-    windows-requires
-    add_start
-    loop-less
-    loop-again
-    same_length
-    same-length-2
-    returns)
+    (tie.spec invariant-loop-start decreases-loop-start loop-start-init overflow_sub-count lesser-size-requires slice_bounds-suffixes-end suffixes-requires slice_bounds-windows-end windows-requires overflow_add-start loop-start-smaller loop-start-preserved shape_of-scores shape_of-places returns)

@@ -15,128 +15,105 @@ use Rattle.sliding_window.proofs.Blocks.{suffixes_inside, ahead_next, window_is}
 use Rattle.sliding_window.proofs.extremes.windows.Statement.{statement}
 use Rattle.sliding_window.proofs.extremes.windows.Tie as tie
 
-abbrev invariant-loop : tie.invariant-loop
-invariant-loop greatest run start w size best scores₀ places₀ end ahead₀ r₀ scores places ahead r =
+abbrev invariant-loop-r : tie.invariant-loop-r
+invariant-loop-r greatest run start w size best scores₀ places₀ end ahead₀ r₀ scores places ahead r =
     Filling stores (λ k. start + k) (λ k. best_score greatest run (start + k) w) size r scores₀ scores × Filling stores (λ k. start + k) (λ k. best_of greatest run (start + k) w) size r places₀ places × BestAmong greatest run end (end + (r - 1) + 1) ahead
 
-abbrev decreases-loop : tie.decreases-loop
-decreases-loop greatest run start w size best scores₀ places₀ end ahead₀ r₀ scores places ahead r = size - r
+abbrev decreases-loop-r : tie.decreases-loop-r
+decreases-loop-r greatest run start w size best scores₀ places₀ end ahead₀ r₀ scores places ahead r = size - r
 
 -- the best from the block's last entry on, one entry further
-looked : (c : tie.After-better invariant-loop decreases-loop) → let a = c.before.before.before.before.before.args in
-    BestAmong a.greatest a.run.now (a.start + (a.w - 1)) (a.start + (a.w - 1) + (c.before.before.loop.r + 1 - 1) + 1) c.better.result
-looked c = rw c.better.ensures (ahead_next _ _ c.before.before.loop.invariant.2)
+looked : (c : tie.After-better-ahead invariant-loop-r decreases-loop-r) → let a = c.before.before.before.before.before.args in
+    BestAmong a.greatest a.run.now (a.start + (a.w - 1)) (a.start + (a.w - 1) + (c.before.before.loop-r.r + 1 - 1) + 1) c.better-ahead.result
+looked c = rw c.better-ahead.ensures (ahead_next _ _ c.before.before.loop-r.invariant.2)
 
 -- the window's best place, which is one of the run
-found : (c : tie.After-better2 invariant-loop decreases-loop) → let a = c.before.before.before.before.before.before.before.args in
-    c.better2.result ≡ best_of a.greatest a.run.now (a.start + c.before.before.before.before.loop.r) a.w
+found : (c : tie.After-better-place invariant-loop-r decreases-loop-r) → let a = c.before.before.before.before.before.before.before.args in
+    c.better-place.result ≡ best_of a.greatest a.run.now (a.start + c.before.before.before.before.loop-r.r) a.w
 found c =
     let s = c.before.before.before.before.before.before.before in
-    c.better2.ensures ∙ window_is c.before.before.before.before.loop.r s.requires.1 (omega (arith, s.requires.0.some)) (looked c.before.before)
+    c.better-place.ensures ∙ window_is c.before.before.before.before.loop-r.r s.requires.1 (omega (arith, s.requires.0.some)) (looked c.before.before)
 
-inside : (c : tie.After-better2 invariant-loop decreases-loop) → c.better2.result < length c.before.before.before.before.before.before.before.args.run.now
+inside : (c : tie.After-better-place invariant-loop-r decreases-loop-r) → c.better-place.result < length c.before.before.before.before.before.before.before.args.run.now
 inside c =
     let s = c.before.before.before.before.before.before.before in
     let a = s.args in
-    omega (arith, found c, s.requires.0.inside, (first_best a.greatest a.run.now (a.start + c.before.before.before.before.loop.r) a.w s.requires.0.positive).before)
+    omega (arith, found c, s.requires.0.inside, (first_best a.greatest a.run.now (a.start + c.before.before.before.before.loop-r.r) a.w s.requires.0.positive).before)
 
-sub-end : tie.Need-overflow-sub-end invariant-loop decreases-loop
-sub-end c = omega arith
+overflow_sub-end : tie.Need-overflow_sub-end invariant-loop-r decreases-loop-r
+overflow_sub-end c = omega arith
 
-add-end : tie.Need-overflow-add-end invariant-loop decreases-loop
-add-end c = omega arith
+overflow_add-end : tie.Need-overflow_add-end invariant-loop-r decreases-loop-r
+overflow_add-end c = omega arith
 
-loop-holds : tie.Need-loop-init invariant-loop decreases-loop
-loop-holds c = (storing_start, storing_start, best_one _ (omega arith))
+loop-r-init : tie.Need-loop-r-init invariant-loop-r decreases-loop-r
+loop-r-init c = (storing_start, storing_start, best_one _ (omega arith))
 
-add-better : tie.Need-overflow-add-better invariant-loop decreases-loop
-add-better c = omega arith
+overflow_add-end-in-loop-r : tie.Need-overflow_add-end-in-loop-r invariant-loop-r decreases-loop-r
+overflow_add-end-in-loop-r c = omega arith
 
-better-requires : tie.Need-better-requires invariant-loop decreases-loop
-better-requires c κs =
+better-ahead-requires : tie.Need-better-ahead-requires invariant-loop-r decreases-loop-r
+better-ahead-requires c κs =
     let p = c.before.before.before.before.requires.0 in
-    (omega (arith, p.inside, p.positive, c.before.loop.invariant.2.before), omega (arith, p.inside, p.positive))
+    (omega (arith, p.inside, p.positive, c.before.loop-r.invariant.2.before), omega (arith, p.inside, p.positive))
 
-mul-better : tie.Need-overflow-mul-better invariant-loop decreases-loop
-mul-better c = omega arith
+offset_bounds-best-r : tie.Need-offset_bounds-best-r invariant-loop-r decreases-loop-r
+offset_bounds-best-r c = omega arith
 
-shared-slice-read-better : tie.Need-shared-slice-read-better invariant-loop decreases-loop
-shared-slice-read-better c = let p = c.before.before.before.before.before.before.requires in omega (arith, p.1.long, p.0.some, p.0.short)
+bounds-best-r : tie.Need-bounds-best-r invariant-loop-r decreases-loop-r
+bounds-best-r c = let p = c.before.before.before.before.before.before.requires in omega (arith, p.1.long, p.0.some, p.0.short)
 
-better-requires-2 : tie.Need-better-requires-2 invariant-loop decreases-loop
-better-requires-2 c κs =
+better-place-requires : tie.Need-better-place-requires invariant-loop-r decreases-loop-r
+better-place-requires c κs =
     let s = c.before.before.before.before.before.before in
     let p = s.requires.0 in
-    (omega (arith, p.inside, suffixes_inside s.args.best.now 0 c.before.before.before.loop.r s.requires.1 (omega arith) (omega (arith, p.some))), omega (arith, p.inside, p.positive, (looked c.before).before))
+    (omega (arith, p.inside, suffixes_inside s.args.best.now 0 c.before.before.before.loop-r.r s.requires.1 (omega arith) (omega (arith, p.some))), omega (arith, p.inside, p.positive, (looked c.before).before))
 
-add_at : tie.Need-overflow-add-at invariant-loop decreases-loop
-add_at c = omega arith
+overflow_add-at : tie.Need-overflow_add-at invariant-loop-r decreases-loop-r
+overflow_add-at c = omega arith
 
-mul-scores : tie.Need-overflow-mul-scores invariant-loop decreases-loop
-mul-scores c = omega (arith, inside c)
+offset_bounds-run-place : tie.Need-offset_bounds-run-place invariant-loop-r decreases-loop-r
+offset_bounds-run-place c = omega (arith, inside c)
 
-shared-slice-copy-out-scores : tie.Need-shared-slice-copy-out-scores invariant-loop decreases-loop
-shared-slice-copy-out-scores c = inside c
+bounds-run-place : tie.Need-bounds-run-place invariant-loop-r decreases-loop-r
+bounds-run-place c = inside c
 
-mul-t18 : tie.Need-overflow-mul-t18 invariant-loop decreases-loop
-mul-t18 c = omega arith
+offset_bounds-scores-at : tie.Need-offset_bounds-scores-at invariant-loop-r decreases-loop-r
+offset_bounds-scores-at c = omega arith
 
-slice-set-from-scores : tie.Need-slice-set-from-scores invariant-loop decreases-loop
-slice-set-from-scores c = omega (arith, c.before.before.before.before.before.loop.invariant.0.len)
+bounds-scores-at : tie.Need-bounds-scores-at invariant-loop-r decreases-loop-r
+bounds-scores-at c = omega (arith, c.before.before.before.before.before.loop-r.invariant.0.len)
 
-mul-places : tie.Need-overflow-mul-places invariant-loop decreases-loop
-mul-places c = omega arith
+offset_bounds-places-at : tie.Need-offset_bounds-places-at invariant-loop-r decreases-loop-r
+offset_bounds-places-at c = omega arith
 
-slice-write-places : tie.Need-slice-write-places invariant-loop decreases-loop
-slice-write-places c = omega (arith, c.before.before.before.before.before.loop.invariant.1.len)
+bounds-places-at : tie.Need-bounds-places-at invariant-loop-r decreases-loop-r
+bounds-places-at c = omega (arith, c.before.before.before.before.before.loop-r.invariant.1.len)
 
-add_r : tie.Need-overflow-add-r invariant-loop decreases-loop
-add_r c = omega arith
+overflow_add-r : tie.Need-overflow_add-r invariant-loop-r decreases-loop-r
+overflow_add-r c = omega arith
 
-loop-less : tie.Need-loop-smaller invariant-loop decreases-loop
-loop-less c = omega arith
+loop-r-smaller : tie.Need-loop-r-smaller invariant-loop-r decreases-loop-r
+loop-r-smaller c = omega arith
 
-loop-again : tie.Need-loop-preserved invariant-loop decreases-loop
-loop-again c =
+loop-r-preserved : tie.Need-loop-r-preserved invariant-loop-r decreases-loop-r
+loop-r-preserved c =
     let l = c.before.before.before.before.before in
     let b = c.before in
     let a = l.before.before.before.args in
     let f = found b in
-    (storing_value l.loop.invariant.0 (omega arith) (to_z-of_z w64 _ (record { sfits = c.scores.given }) ∙ ap (score a.run.now) f), storing_value l.loop.invariant.1 (omega arith) f, looked b.before.before)
+    (storing_value l.loop-r.invariant.0 (omega arith) (to_z-of_z w64 _ (record { sfits = c.scores-1.given }) ∙ ap (score a.run.now) f), storing_value l.loop-r.invariant.1 (omega arith) f, looked b.before.before)
 
-same_length : tie.Need-same-length invariant-loop decreases-loop
-same_length c = c.before.loop.invariant.0.len
+shape_of-scores : tie.Need-shape_of-scores invariant-loop-r decreases-loop-r
+shape_of-scores c = c.before.loop-r.invariant.0.len
 
-same-length-2 : tie.Need-same-length-2 invariant-loop decreases-loop
-same-length-2 c = c.before.loop.invariant.1.len
+shape_of-places : tie.Need-shape_of-places invariant-loop-r decreases-loop-r
+shape_of-places c = c.before.loop-r.invariant.1.len
 
-returns : tie.Need-returns invariant-loop decreases-loop
-returns c = (filled_all c.before.loop.invariant.0 c.loop-test.false, filled_all c.before.loop.invariant.1 c.loop-test.false)
+returns : tie.Need-returns invariant-loop-r decreases-loop-r
+returns c = (filled_all c.before.loop-r.invariant.0 c.loop-r-test.false, filled_all c.before.loop-r.invariant.1 c.loop-r-test.false)
 
 pub windows_spec : {M : Type 1} → statement M
 windows_spec =
     tie.close
-    (tie.spec
-    invariant-loop
-    decreases-loop
-    sub-end
-    add-end
-    loop-holds
-    add-better
-    better-requires
-    mul-better
-    shared-slice-read-better
-    better-requires-2
-    add_at
-    mul-scores
-    shared-slice-copy-out-scores
-    mul-t18
-    slice-set-from-scores
-    mul-places
-    slice-write-places
-    add_r
-    loop-less
-    loop-again
-    same_length
-    same-length-2
-    returns)
+    (tie.spec invariant-loop-r decreases-loop-r overflow_sub-end overflow_add-end loop-r-init overflow_add-end-in-loop-r better-ahead-requires offset_bounds-best-r bounds-best-r better-place-requires overflow_add-at offset_bounds-run-place bounds-run-place offset_bounds-scores-at bounds-scores-at offset_bounds-places-at bounds-places-at overflow_add-r loop-r-smaller loop-r-preserved shape_of-scores shape_of-places returns)

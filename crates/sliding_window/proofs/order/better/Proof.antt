@@ -12,45 +12,38 @@ use Rattle.sliding_window.specs.Window.{beats, score, better_of}
 use Rattle.sliding_window.proofs.order.better.Statement.{statement}
 use Rattle.sliding_window.proofs.order.better.Tie as tie
 
-mul-is-better : tie.Need-overflow-mul-is-better
-mul-is-better c = search rules
+offset_bounds-run-b : tie.Need-offset_bounds-run-b
+offset_bounds-run-b c = search rules
 
-shared-slice-copy-out-is-better : tie.Need-shared-slice-copy-out-is-better
-shared-slice-copy-out-is-better c = search rules
+bounds-run-b : tie.Need-bounds-run-b
+bounds-run-b c = search rules
 
-mul-is-better-2 : tie.Need-overflow-mul-is-better-2
-mul-is-better-2 c = search rules
+offset_bounds-run-a : tie.Need-offset_bounds-run-a
+offset_bounds-run-a c = search rules
 
-shared-slice-copy-out-is-better-2 : tie.Need-shared-slice-copy-out-is-better-2
-shared-slice-copy-out-is-better-2 c = search rules
+bounds-run-a : tie.Need-bounds-run-a
+bounds-run-a c = search rules
 
-is-better-requires : tie.Need-is-better-requires
-is-better-requires c κs = search rules
+is_better-later-requires : tie.Need-is_better-later-requires
+is_better-later-requires c κs = search rules
 
 -- what the call says of the numbers that it is handed
 told : (g : Bool) (y x : ℤ) (r : Bool) → mag y < 2 ^ 63 → mag x < 2 ^ 63 → r ≡ beats g (to_z w64 (of_z w64 y)) (to_z w64 (of_z w64 x)) → beats g y x ≡ r
 told g y x r f h e = sym (e ∙ (λ i. beats g (to_z-of_z w64 y (record { sfits = f }) i) (to_z-of_z w64 x (record { sfits = h }) i)))
 
-chosen : (c : tie.After-is-better) (t : Bool) → c.is-better.result ≡ t → let a = c.before.before.before.args in
+chosen : (c : tie.After-is_better-later) (t : Bool) → c.is_better-later.result ≡ t → let a = c.before.before.before.args in
     cond t a.b a.a ≡ better_of a.greatest a.run.now a.a a.b
 chosen c t e =
     let a = c.before.before.before.args in
-    sym (ap (λ (t : Bool). cond t a.b a.a) (told a.greatest (score a.run.now a.b) (score a.run.now a.a) _ c.before.before.is-better-arg.given c.before.is-better-arg2.given c.is-better.ensures ∙ e))
+    sym (ap (λ (t : Bool). cond t a.b a.a) (told a.greatest (score a.run.now a.b) (score a.run.now a.a) _ c.before.before.is_better-arg-1.given c.before.is_better-arg-2-1.given c.is_better-later.ensures ∙ e))
 
-returns : tie.Need-returns
-returns c = chosen c.before _ c.if1.true
+returns-then-later : tie.Need-returns-then-later
+returns-then-later c = chosen c.before _ c.if-later.true
 
-returns-2 : tie.Need-returns-2
-returns-2 c = chosen c.before _ c.if1.false
+returns-else-later : tie.Need-returns-else-later
+returns-else-later c = chosen c.before _ c.if-later.false
 
 pub better_spec : {M : Type 1} → statement M
 better_spec =
     tie.close
-    (tie.spec
-    mul-is-better
-    shared-slice-copy-out-is-better
-    mul-is-better-2
-    shared-slice-copy-out-is-better-2
-    is-better-requires
-    returns
-    returns-2)
+    (tie.spec offset_bounds-run-b bounds-run-b offset_bounds-run-a bounds-run-a is_better-later-requires returns-then-later returns-else-later)

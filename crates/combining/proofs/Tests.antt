@@ -34,7 +34,7 @@ pub record Sound (i j : Job) (v w : List ℕ) (room : ℕ) : Type 0 where
   pub second_prime : j.modulus ≡ 2
   pub first_long : length v ≡ volume_length (group_in i) (halves i)
   pub second_long : length w ≡ volume_length (group_in i) (halves i)
-  pub as_long_lem : room ≡ volume_length (group_in i) (halves i)
+  pub as_long : room ≡ volume_length (group_in i) (halves i)
   pub first_below : Below (prime 1) v
   pub second_below : Below (prime 2) w
   pub first_consistent : consistent_map (group_in i) (halves i) v ≡ true
@@ -65,7 +65,7 @@ sound i j v w room e =
       second_prime = eqb-true _ _ rest.2;
       first_long = eqb-true _ _ long.0;
       second_long = eqb-true _ _ long.1;
-      as_long_lem = eqb-true _ _ long.2;
+      as_long = eqb-true _ _ long.2;
       first_below = below_all_below (prime 1) v (prime_pos 1) below.0;
       second_below = below_all_below (prime 2) w (prime_pos 2) below.1;
       first_consistent = maps.0;

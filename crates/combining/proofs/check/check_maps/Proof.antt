@@ -13,57 +13,48 @@ use Rattle.combining.proofs.Tests.{two}
 use Rattle.combining.proofs.check.check_maps.Statement.{statement}
 use Rattle.combining.proofs.check.check_maps.Tie as tie
 
-valid-job-requires : tie.Need-valid-job-requires
-valid-job-requires c κs = search rules
+valid_job-requires : tie.Need-valid_job-requires
+valid_job-requires c κs = search rules
 
-valid-job-requires-2 : tie.Need-valid-job-requires-2
-valid-job-requires-2 c κs = search rules
+valid_job-requires-2 : tie.Need-valid_job-requires-2
+valid_job-requires-2 c κs = search rules
 
-valid : (c : tie.Else1) → let a = c.before.before.before.before.before.args in (valid_job a.i && valid_job a.j) ≡ true
-valid c = by_true _ _ (two c.before.before.valid-job.ensures c.before.valid-job2.ensures) c.if1.false
+valid : (c : tie.Else-not-valid_job) → let a = c.args in (valid_job a.i && valid_job a.j) ≡ true
+valid c = by_true _ _ (two c.valid_job.ensures c.valid_job-2.ensures) c.if-not-valid_job.false
+
+returns-then-not-valid_job : tie.Need-returns-then-not-valid_job
+returns-then-not-valid_job c = stop _ (not_f _ (by_false _ _ (two c.valid_job.ensures c.valid_job-2.ensures) c.if-not-valid_job.true))
+
+returns-then-not-i-j : tie.Need-returns-then-not-i-j
+returns-then-not-i-j c = pass 25 _ (not_t _ (valid c.before.before.before)) (stop _ (not_f _ c.if-not-i-j.true))
+
+of_one_cell-requires : tie.Need-of_one_cell-requires
+of_one_cell-requires c κs = search rules
+
+returns-then-not-of_one_cell : tie.Need-returns-then-not-of_one_cell
+returns-then-not-of_one_cell c =
+    let h = c.before.before in
+    pass 25 _ (not_t _ (valid h.before.before.before)) (pass 22 _ (not_t _ h.if-not-i-j.false) (stop _ (not_f _ (by_false _ _ c.of_one_cell.ensures c.if-not-of_one_cell.true))))
+
+unit_cell-requires : tie.Need-unit_cell-requires
+unit_cell-requires c κs = search rules
+
+check_volumes-requires : tie.Need-check_volumes-requires
+check_volumes-requires c κs =
+    let e = c.before.before.before.before.before.before in
+    let a = e.args in
+    subst Sizes (sym c.unit_cell.ensures) (valid_sizes a.i (both (valid_job a.i) (valid_job a.j) (valid e)).0)
 
 returns : tie.Need-returns
-returns c = stop _ (not_f _ (by_false _ _ (two c.before.before.valid-job.ensures c.before.valid-job2.ensures) c.if1.true))
-
-returns-2 : tie.Need-returns-2
-returns-2 c = pass 25 _ (not_t _ (valid c.before.before.before)) (stop _ c.if2.true)
-
-of-one-cell-requires : tie.Need-of-one-cell-requires
-of-one-cell-requires c κs = search rules
-
-returns-3 : tie.Need-returns-3
-returns-3 c =
-    let h = c.before.before in
-    pass 25 _ (not_t _ (valid h.before.before.before)) (pass 22 _ h.if2.false (stop _ (not_f _ (by_false _ _ c.before.of-one-cell.ensures c.if3.true))))
-
-unit-cell-requires : tie.Need-unit-cell-requires
-unit-cell-requires c κs = search rules
-
-check-volumes-requires : tie.Need-check-volumes-requires
-check-volumes-requires c κs =
-    let e = c.before.before.before.before.before.before in
-    let a = e.before.before.before.before.before.args in
-    subst Sizes (sym c.unit-cell.ensures) (valid_sizes a.i (both (valid_job a.i) (valid_job a.j) (valid e)).0)
-
-returns-4 : tie.Need-returns-4
-returns-4 c =
+returns c =
     let o = c.before.before in
     let h = o.before.before in
     let e = h.before.before.before in
-    let a = e.before.before.before.before.before.args in
-    pass 25 _ (not_t _ (valid e)) (pass 22 _ h.if2.false (pass 27 _ (not_t _ (by_true _ _ o.before.of-one-cell.ensures o.if3.false))
-    (c.check-volumes.ensures ∙ ap (λ (u : UnitCell). first (maps_tests u.group (cell_lengths u) a.first_map.now a.second-map.now a.room)) c.before.unit-cell.ensures)))
+    let a = e.args in
+    pass 25 _ (not_t _ (valid e)) (pass 22 _ (not_t _ h.if-not-i-j.false) (pass 27 _ (not_t _ (by_true _ _ o.of_one_cell.ensures o.if-not-of_one_cell.false))
+    (c.check_volumes.ensures ∙ ap (λ (u : UnitCell). first (maps_tests u.group (cell_lengths u) a.first_map.now a.second_map.now a.room)) c.unit_cell.ensures)))
 
 pub check_maps_spec : {M : Type 1} → statement M
 check_maps_spec =
     tie.close
-    (tie.spec
-    valid-job-requires
-    valid-job-requires-2
-    returns
-    returns-2
-    of-one-cell-requires
-    returns-3
-    unit-cell-requires
-    check-volumes-requires
-    returns-4)
+    (tie.spec valid_job-requires valid_job-requires-2 returns-then-not-valid_job returns-then-not-i-j of_one_cell-requires returns-then-not-of_one_cell unit_cell-requires check_volumes-requires returns)

@@ -5,51 +5,40 @@ use borrow.Author.Rules.{rules}
 use Rattle.window_test.proofs.code.Statement.{statement}
 use Rattle.window_test.proofs.code.Tie as tie
 
-abbrev invariant-loop : tie.invariant-loop
-invariant-loop scores x c₀ c = Unit {0}
+abbrev invariant-loop-c : tie.invariant-loop-c
+invariant-loop-c scores x c₀ c = Unit {0}
 
-abbrev decreases-loop : tie.decreases-loop
-decreases-loop scores x c₀ c = 8 - c
+abbrev decreases-loop-c : tie.decreases-loop-c
+decreases-loop-c scores x c₀ c = 8 - c
 
-loop-holds : tie.Need-loop-init invariant-loop decreases-loop
-loop-holds c = tt
+loop-c-init : tie.Need-loop-c-init invariant-loop-c decreases-loop-c
+loop-c-init c = tt
 
-cast-if1 : tie.Need-overflow-cast-if1 invariant-loop decreases-loop
-cast-if1 c = search rules
+overflow_cast-c : tie.Need-overflow_cast-c invariant-loop-c decreases-loop-c
+overflow_cast-c c = search rules
 
-mul-if1 : tie.Need-overflow-mul-if1 invariant-loop decreases-loop
-mul-if1 c = omega arith
+offset_bounds-scores-c : tie.Need-offset_bounds-scores-c invariant-loop-c decreases-loop-c
+offset_bounds-scores-c c = omega arith
 
-element-copy-out-if1 : tie.Need-element-copy-out-if1 invariant-loop decreases-loop
-element-copy-out-if1 c = search rules
+bounds-scores-c : tie.Need-bounds-scores-c invariant-loop-c decreases-loop-c
+bounds-scores-c c = search rules
 
-returns : tie.Need-returns invariant-loop decreases-loop
+returns-then-x-scores : tie.Need-returns-then-x-scores invariant-loop-c decreases-loop-c
+returns-then-x-scores c = search rules
+
+overflow_add-c : tie.Need-overflow_add-c invariant-loop-c decreases-loop-c
+overflow_add-c c = omega arith
+
+loop-c-smaller : tie.Need-loop-c-smaller invariant-loop-c decreases-loop-c
+loop-c-smaller c = omega arith
+
+loop-c-preserved : tie.Need-loop-c-preserved invariant-loop-c decreases-loop-c
+loop-c-preserved c = tt
+
+returns : tie.Need-returns invariant-loop-c decreases-loop-c
 returns c = search rules
-
-add-c : tie.Need-overflow-add-c invariant-loop decreases-loop
-add-c c = omega arith
-
-loop-less : tie.Need-loop-smaller invariant-loop decreases-loop
-loop-less c = omega arith
-
-loop-again : tie.Need-loop-preserved invariant-loop decreases-loop
-loop-again c = tt
-
-returns-2 : tie.Need-returns-2 invariant-loop decreases-loop
-returns-2 c = search rules
 
 pub code_spec : {M : Type 1} → statement M
 code_spec =
     tie.close
-    (tie.spec
-    invariant-loop
-    decreases-loop
-    loop-holds
-    cast-if1
-    mul-if1
-    element-copy-out-if1
-    returns
-    add-c
-    loop-less
-    loop-again
-    returns-2)
+    (tie.spec invariant-loop-c decreases-loop-c loop-c-init overflow_cast-c offset_bounds-scores-c bounds-scores-c returns-then-x-scores overflow_add-c loop-c-smaller loop-c-preserved returns)

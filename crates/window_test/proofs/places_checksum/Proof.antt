@@ -7,67 +7,52 @@ use borrow.Author.Rules.{rules}
 use Rattle.window_test.proofs.places_checksum.Statement.{statement}
 use Rattle.window_test.proofs.places_checksum.Tie as tie
 
-abbrev invariant-loop : tie.invariant-loop
-invariant-loop v places₀ j₀ places j = (j ≤ length v) × (length places ≡ 256)
+abbrev invariant-loop-j : tie.invariant-loop-j
+invariant-loop-j v places₀ j₀ places j = (j ≤ length v) × (length places ≡ 256)
 
-abbrev decreases-loop : tie.decreases-loop
-decreases-loop v places₀ j₀ places j = length v - j
+abbrev decreases-loop-j : tie.decreases-loop-j
+decreases-loop-j v places₀ j₀ places j = length v - j
 
-loop-holds : tie.Need-loop-init invariant-loop decreases-loop
-loop-holds c = (omega arith, refl)
+loop-j-init : tie.Need-loop-j-init invariant-loop-j decreases-loop-j
+loop-j-init c = (omega arith, refl)
 
-mul-places : tie.Need-overflow-mul-places invariant-loop decreases-loop
-mul-places c = omega arith
+offset_bounds-v-j : tie.Need-offset_bounds-v-j invariant-loop-j decreases-loop-j
+offset_bounds-v-j c = omega arith
 
-shared-slice-read-places : tie.Need-shared-slice-read-places invariant-loop decreases-loop
-shared-slice-read-places c = omega arith
+bounds-v-j : tie.Need-bounds-v-j invariant-loop-j decreases-loop-j
+bounds-v-j c = omega arith
 
-cast-places : tie.Need-overflow-cast-places invariant-loop decreases-loop
-cast-places c = omega arith
+overflow_cast-places : tie.Need-overflow_cast-places invariant-loop-j decreases-loop-j
+overflow_cast-places c = omega arith
 
-mul-places-2 : tie.Need-overflow-mul-places-2 invariant-loop decreases-loop
-mul-places-2 c = omega arith
+offset_bounds-places-j : tie.Need-offset_bounds-places-j invariant-loop-j decreases-loop-j
+offset_bounds-places-j c = omega arith
 
-array-write-places : tie.Need-array-write-places invariant-loop decreases-loop
-array-write-places c = omega arith
+bounds-places-j : tie.Need-bounds-places-j invariant-loop-j decreases-loop-j
+bounds-places-j c = omega arith
 
-add-j : tie.Need-overflow-add-j invariant-loop decreases-loop
-add-j c = omega arith
+overflow_add-j : tie.Need-overflow_add-j invariant-loop-j decreases-loop-j
+overflow_add-j c = omega arith
 
-loop-less : tie.Need-loop-smaller invariant-loop decreases-loop
-loop-less c = omega arith
+loop-j-smaller : tie.Need-loop-j-smaller invariant-loop-j decreases-loop-j
+loop-j-smaller c = omega arith
 
-loop-again : tie.Need-loop-preserved invariant-loop decreases-loop
-loop-again c = (omega arith, simp length-set c.before.before.loop.invariant.1)
+loop-j-preserved : tie.Need-loop-j-preserved invariant-loop-j decreases-loop-j
+loop-j-preserved c = (omega arith, simp length-set c.before.before.loop-j.invariant.1)
 
-array-share-prefix-places : tie.Need-array-share-prefix-places invariant-loop decreases-loop
-array-share-prefix-places c = omega arith
+slice_bounds-places-end : tie.Need-slice_bounds-places-end invariant-loop-j decreases-loop-j
+slice_bounds-places-end c = omega arith
 
-slice-aggregate-checksum : tie.Need-slice-aggregate-checksum invariant-loop decreases-loop
-slice-aggregate-checksum c = simp length-take (omega arith)
+slice_bounds-checksum-end : tie.Need-slice_bounds-checksum-end invariant-loop-j decreases-loop-j
+slice_bounds-checksum-end c = simp length-take (omega arith)
 
-checksum-requires : tie.Need-checksum-requires invariant-loop decreases-loop
+checksum-requires : tie.Need-checksum-requires invariant-loop-j decreases-loop-j
 checksum-requires c κs = search rules
 
-returns : tie.Need-returns invariant-loop decreases-loop
+returns : tie.Need-returns invariant-loop-j decreases-loop-j
 returns c = search rules
 
 pub places_checksum_spec : {M : Type 1} → statement M
 places_checksum_spec =
     tie.close
-    (tie.spec
-    invariant-loop
-    decreases-loop
-    loop-holds
-    mul-places
-    shared-slice-read-places
-    cast-places
-    mul-places-2
-    array-write-places
-    add-j
-    loop-less
-    loop-again
-    array-share-prefix-places
-    slice-aggregate-checksum
-    checksum-requires
-    returns)
+    (tie.spec invariant-loop-j decreases-loop-j loop-j-init offset_bounds-v-j bounds-v-j overflow_cast-places offset_bounds-places-j bounds-places-j overflow_add-j loop-j-smaller loop-j-preserved slice_bounds-places-end slice_bounds-checksum-end checksum-requires returns)

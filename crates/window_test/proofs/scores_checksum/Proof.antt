@@ -7,67 +7,52 @@ use borrow.Author.Rules.{rules}
 use Rattle.window_test.proofs.scores_checksum.Statement.{statement}
 use Rattle.window_test.proofs.scores_checksum.Tie as tie
 
-abbrev invariant-loop : tie.invariant-loop
-invariant-loop v scores codes₀ j₀ codes j = (j ≤ length v) × (length codes ≡ 256)
+abbrev invariant-loop-j : tie.invariant-loop-j
+invariant-loop-j v scores codes₀ j₀ codes j = (j ≤ length v) × (length codes ≡ 256)
 
-abbrev decreases-loop : tie.decreases-loop
-decreases-loop v scores codes₀ j₀ codes j = length v - j
+abbrev decreases-loop-j : tie.decreases-loop-j
+decreases-loop-j v scores codes₀ j₀ codes j = length v - j
 
-loop-holds : tie.Need-loop-init invariant-loop decreases-loop
-loop-holds c = (omega arith, refl)
+loop-j-init : tie.Need-loop-j-init invariant-loop-j decreases-loop-j
+loop-j-init c = (omega arith, refl)
 
-mul-code : tie.Need-overflow-mul-code invariant-loop decreases-loop
-mul-code c = omega arith
+offset_bounds-v-j : tie.Need-offset_bounds-v-j invariant-loop-j decreases-loop-j
+offset_bounds-v-j c = omega arith
 
-shared-slice-copy-out-code : tie.Need-shared-slice-copy-out-code invariant-loop decreases-loop
-shared-slice-copy-out-code c = omega arith
+bounds-v-j : tie.Need-bounds-v-j invariant-loop-j decreases-loop-j
+bounds-v-j c = omega arith
 
-code-requires : tie.Need-code-requires invariant-loop decreases-loop
+code-requires : tie.Need-code-requires invariant-loop-j decreases-loop-j
 code-requires c κs = search rules
 
-mul-codes : tie.Need-overflow-mul-codes invariant-loop decreases-loop
-mul-codes c = omega arith
+offset_bounds-codes-j : tie.Need-offset_bounds-codes-j invariant-loop-j decreases-loop-j
+offset_bounds-codes-j c = omega arith
 
-array-write-codes : tie.Need-array-write-codes invariant-loop decreases-loop
-array-write-codes c = omega arith
+bounds-codes-j : tie.Need-bounds-codes-j invariant-loop-j decreases-loop-j
+bounds-codes-j c = omega arith
 
-add-j : tie.Need-overflow-add-j invariant-loop decreases-loop
-add-j c = omega arith
+overflow_add-j : tie.Need-overflow_add-j invariant-loop-j decreases-loop-j
+overflow_add-j c = omega arith
 
-loop-less : tie.Need-loop-smaller invariant-loop decreases-loop
-loop-less c = omega arith
+loop-j-smaller : tie.Need-loop-j-smaller invariant-loop-j decreases-loop-j
+loop-j-smaller c = omega arith
 
-loop-again : tie.Need-loop-preserved invariant-loop decreases-loop
-loop-again c = (omega arith, simp length-set c.before.before.before.before.loop.invariant.1)
+loop-j-preserved : tie.Need-loop-j-preserved invariant-loop-j decreases-loop-j
+loop-j-preserved c = (omega arith, simp length-set c.before.before.before.before.loop-j.invariant.1)
 
-array-share-prefix-codes : tie.Need-array-share-prefix-codes invariant-loop decreases-loop
-array-share-prefix-codes c = omega arith
+slice_bounds-codes-end : tie.Need-slice_bounds-codes-end invariant-loop-j decreases-loop-j
+slice_bounds-codes-end c = omega arith
 
-slice-aggregate-checksum : tie.Need-slice-aggregate-checksum invariant-loop decreases-loop
-slice-aggregate-checksum c = simp length-take (omega arith)
+slice_bounds-checksum-end : tie.Need-slice_bounds-checksum-end invariant-loop-j decreases-loop-j
+slice_bounds-checksum-end c = simp length-take (omega arith)
 
-checksum-requires : tie.Need-checksum-requires invariant-loop decreases-loop
+checksum-requires : tie.Need-checksum-requires invariant-loop-j decreases-loop-j
 checksum-requires c κs = search rules
 
-returns : tie.Need-returns invariant-loop decreases-loop
+returns : tie.Need-returns invariant-loop-j decreases-loop-j
 returns c = search rules
 
 pub scores_checksum_spec : {M : Type 1} → statement M
 scores_checksum_spec =
     tie.close
-    (tie.spec
-    invariant-loop
-    decreases-loop
-    loop-holds
-    mul-code
-    shared-slice-copy-out-code
-    code-requires
-    mul-codes
-    array-write-codes
-    add-j
-    loop-less
-    loop-again
-    array-share-prefix-codes
-    slice-aggregate-checksum
-    checksum-requires
-    returns)
+    (tie.spec invariant-loop-j decreases-loop-j loop-j-init offset_bounds-v-j bounds-v-j code-requires offset_bounds-codes-j bounds-codes-j overflow_add-j loop-j-smaller loop-j-preserved slice_bounds-codes-end slice_bounds-checksum-end checksum-requires returns)

@@ -29,63 +29,63 @@ module _ (s : tie.Start) where
   records = let a = s.args in records_with a.cell a.modulus a.volume.now
 
   few : s.args.count ≤ 33554432
-  few = let f = s.pre.0.0 in omega (arith, s.pre.1, admitted_few f.volume.sizes s.args.modulus s.args.volume.now f.volume.long s.pre.0.1)
+  few = let f = s.requires.0.0 in omega (arith, s.requires.1, admitted_few f.volume.sizes s.args.modulus s.args.volume.now f.volume.long s.requires.0.1)
 
 -- how long the file is
-long : (c : tie.After-file-length) → let s = c.before.before.before in (c.file_length_lem.result ≡ length (file_of (version s) s.args.modulus (head s) (records s))) × (c.file_length_lem.result ≤ 53 + 14 * s.args.count)
+long : (c : tie.After-file_length-follow) → let s = c.before.before.before in (c.file_length-follow.result ≡ length (file_of (version s) s.args.modulus (head s) (records s))) × (c.file_length-follow.result ≤ 53 + 14 * s.args.count)
 long c =
     let s = c.before.before.before in
     let a = s.args in
-    (c.file_length_lem.ensures.0 a.cell.group a.cell.n1 a.cell.n2 a.cell.n3 (records s) s.requires.1, c.file_length_lem.ensures.1)
+    (c.file_length-follow.ensures.0 a.cell.group a.cell.n1 a.cell.n2 a.cell.n3 (records s) s.requires.1, c.file_length-follow.ensures.1)
 
 -- what follows the first count
-follows : (c : tie.After-file-length) → let s = c.before.before.before in c.file_length_lem.result - 4 ≡ length (body (version s) s.args.modulus (head s) (records s))
+follows : (c : tie.After-file_length-follow) → let s = c.before.before.before in c.file_length-follow.result - 4 ≡ length (body (version s) s.args.modulus (head s) (records s))
 follows c = let s = c.before.before.before in omega (arith, long c, length_file (version s) s.args.modulus (head s) (records s), length_body (version s) s.args.modulus (head s) (records s))
 
-file-length-requires : tie.Need-file-length-requires
-file-length-requires c κs = omega (arith, few c.before.before)
+file_length-follow-requires : tie.Need-file_length-follow-requires
+file_length-follow-requires c κs = omega (arith, few c.before.before)
 
-sub-follow : tie.Need-overflow-sub-follow
-sub-follow c = let s = c.before.before.before in omega (arith, long c, length_file (version s) s.args.modulus (head s) (records s))
+overflow_sub-follow : tie.Need-overflow_sub-follow
+overflow_sub-follow c = let s = c.before.before.before in omega (arith, long c, length_file (version s) s.args.modulus (head s) (records s))
 
-cast-put-four : tie.Need-overflow-cast-put-four
-cast-put-four c = omega (arith, long c.before, few c.before.before.before.before)
+overflow_cast-follow : tie.Need-overflow_cast-follow
+overflow_cast-follow c = omega (arith, long c.before, few c.before.before.before.before)
 
 -- how long its header is at most
-short : (c : tie.After-file-length) → let s = c.before.before.before in length (header_bytes (version s) s.args.modulus (head s)) ≤ 45
+short : (c : tie.After-file_length-follow) → let s = c.before.before.before in length (header_bytes (version s) s.args.modulus (head s)) ≤ 45
 short c = let s = c.before.before.before in omega (arith, long c, s.requires.1, length_file (version s) s.args.modulus (head s) (records s))
 
-put-four-requires : tie.Need-put-four-requires
+put_four-first-requires : tie.Need-put_four-first-requires
 unfolding big_endian
-put-four-requires c κs = record { low = omega arith }
+put_four-first-requires c κs = record { low = omega arith }
 
-put-header-requires : tie.Need-put-header-requires
+put_header-second-requires : tie.Need-put_header-second-requires
 unfolding big_endian
-put-header-requires c κs =
+put_header-second-requires c κs =
     let l = c.before.before.before.before.before in
-    let f = l.before.before.before.requires.0.0 in
+    let f = l.requires.0.0 in
     let z = f.volume.sizes in
     ((omega (arith, f.modulus.high), omega (arith, z.known), omega (arith, z.first.high), omega (arith, z.second.high), omega (arith, z.third.high)), record { low = omega (arith, short l) })
 
-cast-put-four-2 : tie.Need-overflow-cast-put-four-2
-cast-put-four-2 c = omega (arith, few c.before.before.before.before.before.before.before.before.before.before.before.before)
+overflow_cast-count : tie.Need-overflow_cast-count
+overflow_cast-count c = omega (arith, few c.before.before.before.before.before.before.before.before.before.before.before.before)
 
-put-four-requires-2 : tie.Need-put-four-requires-2
+put_four-third-requires : tie.Need-put_four-third-requires
 unfolding big_endian
-put-four-requires-2 c κs = record { low = omega (arith, short c.before.before.before.before.before.before.before.before.before) }
+put_four-third-requires c κs = record { low = omega (arith, short c.before.before.before.before.before.before.before.before.before) }
 
-put-records-requires : tie.Need-put-records-requires
+put_records-requires : tie.Need-put_records-requires
 unfolding big_endian
-put-records-requires c κs =
+put_records-requires c κs =
     let n = c.before.before.before in
     let h = n.before.before.before.before in
     let m = h.before.before.before.before in
     let l = m.before.before in
     let s = l.before.before.before in
-    (s.requires.0.0, record { low = omega (arith, short l, few s, s.requires.1, length_all (records s), m.put_four.ensures.place, h.put-header.ensures.place, n.put-four2.ensures.place) })
+    (s.requires.0.0, record { low = omega (arith, short l, few s, s.requires.1, length_all (records s), m.put_four-first.ensures.place, h.put_header-second.ensures.place, n.put_four-third.ensures.place) })
 
-same_length : tie.Need-same-length
-same_length c = search rules
+shape_of-out : tie.Need-shape_of-out
+shape_of-out c = search rules
 
 returns : tie.Need-returns
 returns c =
@@ -95,19 +95,9 @@ returns c =
     let m = h.before.before.before.before in
     let l = m.before.before in
     let s = l.before.before.before in
-    wrote_as (wrote_append (wrote_append (wrote_append m.put_four.ensures h.put-header.ensures) n.put-four2.ensures) d.put-records.ensures) (file_parts (version s) s.args.modulus (head s) (records s) _ _ (follows l) s.requires.1)
+    wrote_as (wrote_append (wrote_append (wrote_append m.put_four-first.ensures h.put_header-second.ensures) n.put_four-third.ensures) d.put_records.ensures) (file_parts (version s) s.args.modulus (head s) (records s) _ _ (follows l) s.requires.1)
 
 pub put_file_spec : {M : Type 1} → statement M
 put_file_spec =
     tie.close
-    (tie.spec
-    file-length-requires
-    sub-follow
-    cast-put-four
-    put-four-requires
-    put-header-requires
-    cast-put-four-2
-    put-four-requires-2
-    put-records-requires
-    same_length
-    returns)
+    (tie.spec file_length-follow-requires overflow_sub-follow overflow_cast-follow put_four-first-requires put_header-second-requires overflow_cast-count put_four-third-requires put_records-requires shape_of-out returns)

@@ -6,40 +6,31 @@ use Rattle.factor_file.proofs.HeadersRead.{shape_unsound}
 use Rattle.factor_file.proofs.file_header.file_header.Statement.{statement}
 use Rattle.factor_file.proofs.file_header.file_header.Tie as tie
 
-places-of-requires : tie.Need-places-of-requires
-places-of-requires c κs = search rules
+places_of-places-requires : tie.Need-places_of-places-requires
+places_of-places-requires c κs = search rules
 
-check-shape-requires : tie.Need-check-shape-requires
-check-shape-requires c κs = search rules
+check_shape-checked-requires : tie.Need-check_shape-checked-requires
+check_shape-checked-requires c κs = search rules
 
-enum-known-checked : tie.Need-enum-known-checked
-enum-known-checked c = search rules
+enum_known-checked : tie.Need-enum_known-checked
+enum_known-checked c = search rules
 
-returns : tie.Need-returns
-returns c =
-    let k = c.before.before.before in
-    let r = c.before.checked.given in
-    shape_unsound k.before.before.before.args.file.now r.0.0 (ap checked_number (sym r.1) ∙ k.check-shape.ensures)
+returns-in-Failed : tie.Need-returns-in-Failed
+returns-in-Failed c =
+    let r = c.checked-1.given in
+    shape_unsound c.args.file.now r.0.0 (ap checked_number (sym r.1) ∙ c.check_shape-checked.ensures)
 
-enum_told : tie.Need-enum-told
-enum_told c = search rules
+enum_told-1 : tie.Need-enum_told-1
+enum_told-1 c = search rules
 
-sound-header-requires : tie.Need-sound-header-requires
-sound-header-requires c κs =
-    let k = c.before.before in
-    (k.before.places_of.ensures, ap checked_number (sym c.enum_told.given.1) ∙ k.check-shape.ensures)
+sound_header-requires : tie.Need-sound_header-requires
+sound_header-requires c κs =
+    (c.places_of-places.ensures, ap checked_number (sym c.in-Sound.is) ∙ c.check_shape-checked.ensures)
 
-returns-2 : tie.Need-returns-2
-returns-2 c = c.sound-header.ensures
+returns-in-Sound : tie.Need-returns-in-Sound
+returns-in-Sound c = c.sound_header.ensures
 
 pub file_header_spec : {M : Type 1} → statement M
 file_header_spec =
     tie.close
-    (tie.spec
-    places-of-requires
-    check-shape-requires
-    enum-known-checked
-    returns
-    enum_told
-    sound-header-requires
-    returns-2)
+    (tie.spec places_of-places-requires check_shape-checked-requires enum_known-checked returns-in-Failed enum_told-1 sound_header-requires returns-in-Sound)

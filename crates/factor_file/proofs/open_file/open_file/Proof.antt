@@ -6,44 +6,34 @@ use borrow.Author.Rules.{rules}
 use Rattle.factor_file.proofs.open_file.open_file.Statement.{statement}
 use Rattle.factor_file.proofs.open_file.open_file.Tie as tie
 
-places-of-requires : tie.Need-places-of-requires
-places-of-requires c κs = search rules
+places_of-places-requires : tie.Need-places_of-places-requires
+places_of-places-requires c κs = search rules
 
-check-shape-requires : tie.Need-check-shape-requires
-check-shape-requires c κs = search rules
+check_shape-checked-requires : tie.Need-check_shape-checked-requires
+check_shape-checked-requires c κs = search rules
 
-enum-known-checked : tie.Need-enum-known-checked
-enum-known-checked c = search rules
+enum_known-checked : tie.Need-enum_known-checked
+enum_known-checked c = search rules
 
-returns : tie.Need-returns
-returns c =
-    let k = c.before.before.before in
-    let a = k.before.before.before.before.args in
-    shape_refused a.file.now a.volume.now c.before.checked.given.0.0 (ap checked_number (sym c.before.checked.given.1) ∙ k.check-shape.ensures)
+returns-in-Failed : tie.Need-returns-in-Failed
+returns-in-Failed c =
+    let a = c.args in
+    shape_refused a.file.now a.volume.now c.in-Failed.refusal (ap checked_number (sym c.in-Failed.is) ∙ c.check_shape-checked.ensures)
 
-enum_told : tie.Need-enum-told
-enum_told c = search rules
+enum_told-1 : tie.Need-enum_told-1
+enum_told-1 c = search rules
 
-open-sound-requires : tie.Need-open-sound-requires
-open-sound-requires c κs =
-    let k = c.before.before.before in
-    (k.before.places_of.ensures, ap checked_number (sym c.before.enum_told.given.1) ∙ k.check-shape.ensures)
+open_sound-requires : tie.Need-open_sound-requires
+open_sound-requires c κs =
+    (c.places_of-places.ensures, ap checked_number (sym c.in-Sound.is) ∙ c.check_shape-checked.ensures)
 
-same_length : tie.Need-same-length
-same_length c = search rules
+shape_of-volume-in-Sound : tie.Need-shape_of-volume-in-Sound
+shape_of-volume-in-Sound c = search rules
 
-returns-2 : tie.Need-returns-2
-returns-2 c = search rules
+returns-in-Sound : tie.Need-returns-in-Sound
+returns-in-Sound c = search rules
 
 pub open_file_spec : {M : Type 1} → statement M
 open_file_spec =
     tie.close
-    (tie.spec
-    places-of-requires
-    check-shape-requires
-    enum-known-checked
-    returns
-    enum_told
-    open-sound-requires
-    same_length
-    returns-2)
+    (tie.spec places_of-places-requires check_shape-checked-requires enum_known-checked returns-in-Failed enum_told-1 open_sound-requires shape_of-volume-in-Sound returns-in-Sound)

@@ -8,54 +8,39 @@ use borrow.Author.Rules.{rules}
 use Rattle.factor_file.proofs.open_file.open_sound.Statement.{statement}
 use Rattle.factor_file.proofs.open_file.open_sound.Tie as tie
 
-open-header-requires : tie.Need-open-header-requires
-open-header-requires c κs = search rules
+open_header-answer-requires : tie.Need-open_header-answer-requires
+open_header-answer-requires c κs = search rules
 
-enum-known-answer : tie.Need-enum-known-answer
-enum-known-answer c = search rules
+enum_known-answer : tie.Need-enum_known-answer
+enum_known-answer c = search rules
 
-same_length : tie.Need-same-length
-same_length c = search rules
+shape_of-volume-in-Refused : tie.Need-shape_of-volume-in-Refused
+shape_of-volume-in-Refused c = search rules
 
-returns : tie.Need-returns
-returns c =
-    let w = c.before in
-    let h = w.before.before.before.before in
-    let v = h.open-header.new.1.1.0 in
-    header_refused _ _ v h.before.before.before.before.requires.1 w.answer.given.0.0 (ap (λ (x : OpenAnswer). open_outcome x v) (sym w.answer.given.1) ∙ h.open-header.ensures)
+returns-in-Refused : tie.Need-returns-in-Refused
+returns-in-Refused c =
+    let v = c.open_header-answer.new.volume in
+    header_refused _ _ v c.requires.1 c.in-Refused.refusal (ap (λ (x : OpenAnswer). open_outcome x v) (sym c.in-Refused.is) ∙ c.open_header-answer.ensures)
 
-enum-known-answer-2 : tie.Need-enum-known-answer-2
-enum-known-answer-2 c = search rules
+enum_known-answer-in-Opened-1 : tie.Need-enum_known-answer-in-Opened-1
+enum_known-answer-in-Opened-1 c = search rules
 
-feed-records-requires : tie.Need-feed-records-requires
-feed-records-requires c κs =
-    let w = c.before.before in
-    let h = w.before.before.before.before in
-    let s = h.before.before.before.before in
-    let v = h.open-header.new.1.1.0 in
-    let file = s.args.file.now in
-    let e = opened_empty (modulus_in file) (header_in file) s.args.volume.now v w.answer2.given.0.0 (ap (λ (x : OpenAnswer). open_outcome x v) (sym w.answer2.given.1) ∙ h.open-header.ensures) in
-    (s.requires.0, s.requires.1, e.0, e.1)
+feed_records-requires : tie.Need-feed_records-requires
+feed_records-requires c κs =
+    let v = c.open_header-answer.new.volume in
+    let file = c.args.file.now in
+    let e = opened_empty (modulus_in file) (header_in file) c.args.volume.now v c.in-Opened.job (ap (λ (x : OpenAnswer). open_outcome x v) (sym c.in-Opened.is) ∙ c.open_header-answer.ensures) in
+    (c.requires.0, c.requires.1, e.0, e.1)
 
-same-length-2 : tie.Need-same-length-2
-same-length-2 c = search rules
+shape_of-volume-in-Opened : tie.Need-shape_of-volume-in-Opened
+shape_of-volume-in-Opened c = search rules
 
-returns-2 : tie.Need-returns-2
-returns-2 c =
-    let w = c.before.before.before.before.before in
-    let h = w.before.before.before.before in
-    let v = h.open-header.new.1.1.0 in
-    c.before.before.feed-records.ensures ∙ records_decide _ _ v h.before.before.before.before.requires.1 w.answer2.given.0.0 (ap (λ (x : OpenAnswer). open_outcome x v) (sym w.answer2.given.1) ∙ h.open-header.ensures)
+returns-in-Opened : tie.Need-returns-in-Opened
+returns-in-Opened c =
+    let v = c.open_header-answer.new.volume in
+    c.feed_records.ensures ∙ records_decide _ _ v c.requires.1 c.in-Opened.job (ap (λ (x : OpenAnswer). open_outcome x v) (sym c.in-Opened.is) ∙ c.open_header-answer.ensures)
 
 pub open_sound_spec : {M : Type 1} → statement M
 open_sound_spec =
     tie.close
-    (tie.spec
-    open-header-requires
-    enum-known-answer
-    same_length
-    returns
-    enum-known-answer-2
-    feed-records-requires
-    same-length-2
-    returns-2)
+    (tie.spec open_header-answer-requires enum_known-answer shape_of-volume-in-Refused returns-in-Refused enum_known-answer-in-Opened-1 feed_records-requires shape_of-volume-in-Opened returns-in-Opened)

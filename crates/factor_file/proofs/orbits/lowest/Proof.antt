@@ -8,17 +8,17 @@ use Rattle.factor_file.proofs.orbits.PlaceOrder.{lower_lowest}
 use Rattle.factor_file.proofs.orbits.lowest.Statement.{statement}
 use Rattle.factor_file.proofs.orbits.lowest.Tie as tie
 
-returns : tie.Need-returns
-returns c =
+returns-then-j-gt0 : tie.Need-returns-then-j-gt0
+returns-then-j-gt0 c =
     let i = c.before.before.before.before.before in
     let a = i.before.before.args in
-    sym (ap (λ n. is_lowest (group_of n) (cell_halves a.cell) (triple_of a.j)) i.if1.true ∙ lower_lowest (cell_halves a.cell) (triple_of a.j) c.if3.true c.before.before.if2.true)
+    sym (ap (λ n. is_lowest (group_of n) (cell_halves a.cell) (triple_of a.j)) i.if-cell-eq0.true ∙ lower_lowest (cell_halves a.cell) (triple_of a.j) c.if-j-gt0.true c.before.before.if-j-cell.true)
 
-none-before-requires : tie.Need-none-before-requires
-none-before-requires c κs = search rules
+none_before-requires : tie.Need-none_before-requires
+none_before-requires c κs = search rules
 
-returns-2 : tie.Need-returns-2
-returns-2 c = search rules
+returns : tie.Need-returns
+returns c = search rules
 
 pub lowest_spec : {M : Type 1} → statement M
-lowest_spec = tie.close (tie.spec returns none-before-requires returns-2)
+lowest_spec = tie.close (tie.spec returns-then-j-gt0 none_before-requires returns)

@@ -15,113 +15,91 @@ use Rattle.factor_file.proofs.Judging.{Judging, none_marked, judging_start, judg
 use Rattle.factor_file.proofs.records.judge_records.Statement.{statement}
 use Rattle.factor_file.proofs.records.judge_records.Tie as tie
 
-abbrev invariant-loop : tie.invariant-loop
-invariant-loop file start modulus cell marks₀ at₀ place₀ marks at place = (length marks ≡ length marks₀) × Judging modulus cell file marks at place
+abbrev invariant-loop-c : tie.invariant-loop-c
+invariant-loop-c file start modulus cell marks₀ at₀ place₀ marks at place = (length marks ≡ length marks₀) × Judging modulus cell file marks at place
 
-abbrev decreases-loop : tie.decreases-loop
-decreases-loop file start modulus cell marks₀ at₀ place₀ marks at place = length file - at
+abbrev decreases-loop-c : tie.decreases-loop-c
+decreases-loop-c file start modulus cell marks₀ at₀ place₀ marks at place = length file - at
 
 -- the record at the walk's place
-reading : (c : tie.After-found invariant-loop decreases-loop) → Record c.found.given.0.0 ≡ found_at c.before.before.before.before.before.before.args.file.now c.before.before.before.loop.at
-reading c = sym c.found.given.1 ∙ c.before.before.read-record.ensures.0
+reading : (c : tie.In-Record-2 invariant-loop-c decreases-loop-c) → Record c.in-Record.c ≡ found_at c.args.file.now c.loop-c.at
+reading c = sym c.in-Record.is ∙ c.read_record-step.ensures.0
 
 -- its bytes are there, and its place fits
-inside : (c : tie.After-found invariant-loop decreases-loop) → c.before.before.before.loop.at + 14 ≤ length c.before.before.before.before.before.before.args.file.now
-inside c = record_inside _ _ c.found.given.0.0 (reading c)
+inside : (c : tie.In-Record-2 invariant-loop-c decreases-loop-c) → c.loop-c.at + 14 ≤ length c.args.file.now
+inside c = record_inside _ _ c.in-Record.c (reading c)
 
-bytes : (c : tie.After-shared-slice-known invariant-loop decreases-loop) (i : ℕ) → byte_at c.before.args.file.now i < 256
-bytes c i = omega (arith, c.shared-slice-known.given i)
+bytes : (c : tie.After-shared_slice_known-1 invariant-loop-c decreases-loop-c) (i : ℕ) → byte_at c.args.file.now i < 256
+bytes c i = omega (arith, c.shared_slice_known-1.given i)
 
-place_fits : (c : tie.After-found invariant-loop decreases-loop) → c.before.before.before.loop.place + 1 < 4294967296
+place_fits : (c : tie.In-Record-2 invariant-loop-c decreases-loop-c) → c.loop-c.place + 1 < 4294967296
 place_fits c =
     let l = c.before.before.before in
     let s = l.before.before in
-    let file = s.before.args.file.now in
-    omega (arith, record_left l.loop.invariant.1.walked s.before.requires.1 c.found.given.0.0 (reading c), four_bytes_fit file (count_at file) (bytes s))
+    let file = s.args.file.now in
+    omega (arith, record_left l.loop-c.invariant.1.walked s.requires.1 c.in-Record.c (reading c), four_bytes_fit file (count_at file) (bytes s))
 
-loop-holds : tie.Need-loop-init invariant-loop decreases-loop
-loop-holds c =
-    let s = c.before.before in
-    (refl, judging_start s.args.modulus s.args.cell s.args.file.now s.requires.0 (none_marked _ _ (length s.args.marks.now) s.requires.2.zeros))
+loop-c-init : tie.Need-loop-c-init invariant-loop-c decreases-loop-c
+loop-c-init c =
+    (refl, judging_start c.args.modulus c.args.cell c.args.file.now c.requires.0 (none_marked _ _ (length c.args.marks.now) c.requires.2.zeros))
 
-read-record-requires : tie.Need-read-record-requires invariant-loop decreases-loop
-read-record-requires c κs = search rules
+read_record-step-requires : tie.Need-read_record-step-requires invariant-loop-c decreases-loop-c
+read_record-step-requires c κs = search rules
 
-enum-known-found : tie.Need-enum-known-found invariant-loop decreases-loop
-enum-known-found c = search rules
+enum_known-found : tie.Need-enum_known-found invariant-loop-c decreases-loop-c
+enum_known-found c = search rules
 
-enum_told : tie.Need-enum-told invariant-loop decreases-loop
-enum_told c = search rules
+enum_told-1 : tie.Need-enum_told-1 invariant-loop-c decreases-loop-c
+enum_told-1 c = search rules
 
-same_length : tie.Need-same-length invariant-loop decreases-loop
-same_length c = c.before.before.before.loop.invariant.0
+shape_of-marks-in_default : tie.Need-shape_of-marks-in_default invariant-loop-c decreases-loop-c
+shape_of-marks-in_default c = c.loop-c.invariant.0
 
-returns : tie.Need-returns invariant-loop decreases-loop
-returns c =
-    let l = c.before.before.before in
-    judging_end l.loop.invariant.1 l.before.before.before.requires.1 (sym c.enum_told.given.1 ∙ c.before.before.read-record.ensures.0)
+returns-in_default : tie.Need-returns-in_default invariant-loop-c decreases-loop-c
+returns-in_default c =
+    judging_end c.loop-c.invariant.1 c.requires.1 (sym c.in_default.is ∙ c.read_record-step.ensures.0)
 
-judge-record-requires : tie.Need-judge-record-requires invariant-loop decreases-loop
-judge-record-requires c κs =
-    let l = c.before.before.before.before.before in
-    let p = l.before.before.before.requires in
-    (record { sizes = p.2.volume.sizes; long = l.loop.invariant.0 ∙ p.2.volume.long }, p.3)
+judge_record-checked-requires : tie.Need-judge_record-checked-requires invariant-loop-c decreases-loop-c
+judge_record-checked-requires c κs =
+    let p = c.requires in
+    (record { sizes = p.2.volume.sizes; long = c.loop-c.invariant.0 ∙ p.2.volume.long }, p.3)
 
-enum-known-checked : tie.Need-enum-known-checked invariant-loop decreases-loop
-enum-known-checked c = search rules
+enum_known-checked : tie.Need-enum_known-checked invariant-loop-c decreases-loop-c
+enum_known-checked c = search rules
 
-same-length-2 : tie.Need-same-length-2 invariant-loop decreases-loop
-same-length-2 c =
-    let r = c.before.before.before.before.before in
-    r.judge-record.auto.1.1.1.1.0 ∙ r.before.before.before.before.before.before.loop.invariant.0
+shape_of-marks-in-Failed : tie.Need-shape_of-marks-in-Failed invariant-loop-c decreases-loop-c
+shape_of-marks-in-Failed c =
+    c.judge_record-checked.auto.marks ∙ c.loop-c.invariant.0
 
-returns-2 : tie.Need-returns-2 invariant-loop decreases-loop
-returns-2 c =
+returns-in-Failed : tie.Need-returns-in-Failed invariant-loop-c decreases-loop-c
+returns-in-Failed c =
     let k = c.before in
     let r = k.before.before.before.before in
-    let f = r.before.before.before in
-    let l = f.before.before.before in
-    let s = l.loop.invariant.1 in
-    judging_refused s l.before.before.before.requires.1 f.found.given.0.0 (reading f) f.before.before.read-record.ensures.1 k.checked.given.0.0 (ap checked_number (sym k.checked.given.1) ∙ (r.judge-record.ensures s.before s.marked).0)
+    let f = r in
+    let s = f.loop-c.invariant.1 in
+    judging_refused s f.requires.1 f.in-Record.c (reading f) f.read_record-step.ensures.1 k.in-Failed.refusal (ap checked_number (sym k.in-Failed.is) ∙ (r.judge_record-checked.ensures s.before s.marked).0)
 
-enum-told-2 : tie.Need-enum-told-2 invariant-loop decreases-loop
-enum-told-2 c = search rules
+enum_told-in_default-checked : tie.Need-enum_told-in_default-checked invariant-loop-c decreases-loop-c
+enum_told-in_default-checked c = search rules
 
-add-place : tie.Need-overflow-add-place invariant-loop decreases-loop
-add-place c = omega (arith, place_fits c.before.before.before.before.before.before.before)
+overflow_add-place : tie.Need-overflow_add-place invariant-loop-c decreases-loop-c
+overflow_add-place c = omega (arith, place_fits c.before.before.before.before.before.before.before)
 
-loop-less : tie.Need-loop-smaller invariant-loop decreases-loop
-loop-less c =
+loop-c-smaller : tie.Need-loop-c-smaller invariant-loop-c decreases-loop-c
+loop-c-smaller c =
     let f = c.before.before.before.before.before.before.before in
-    omega (arith, inside f, f.before.before.read-record.ensures.1 ∙ record_after _ _ f.found.given.0.0 (reading f))
+    omega (arith, inside f, f.read_record-step.ensures.1 ∙ record_after _ _ f.in-Record.c (reading f))
 
-loop-again : tie.Need-loop-preserved invariant-loop decreases-loop
-loop-again c =
-    let r = c.before.before.before.before in
-    let f = r.before.before.before in
-    let l = f.before.before.before in
-    let s = l.loop.invariant.1 in
-    let e = r.judge-record.ensures s.before s.marked in
-    let sound = ap checked_number c.enum-told2.given.1 in
-    (r.judge-record.auto.1.1.1.1.0 ∙ l.loop.invariant.0, judging_next s l.before.before.before.requires.1 f.found.given.0.0 (reading f) f.before.before.read-record.ensures.1 (sym sound ∙ e.0) (e.1 sound))
+loop-c-preserved : tie.Need-loop-c-preserved invariant-loop-c decreases-loop-c
+loop-c-preserved c =
+    let r = c.before.before.before in
+    let f = r.before.before in
+    let s = f.loop-c.invariant.1 in
+    let e = r.judge_record-checked.ensures s.before s.marked in
+    let sound = ap checked_number c.in_default-checked.is in
+    (r.judge_record-checked.auto.marks ∙ f.loop-c.invariant.0, judging_next s f.requires.1 f.in-Record.c (reading f) f.read_record-step.ensures.1 (sym sound ∙ e.0) (e.1 sound))
 
 pub judge_records_spec : {M : Type 1} → statement M
 judge_records_spec =
     tie.close
-    (tie.spec
-    invariant-loop
-    decreases-loop
-    loop-holds
-    read-record-requires
-    enum-known-found
-    enum_told
-    same_length
-    returns
-    judge-record-requires
-    enum-known-checked
-    same-length-2
-    returns-2
-    enum-told-2
-    add-place
-    loop-less
-    loop-again)
+    (tie.spec invariant-loop-c decreases-loop-c loop-c-init read_record-step-requires enum_known-found enum_told-1 shape_of-marks-in_default returns-in_default judge_record-checked-requires enum_known-checked shape_of-marks-in-Failed returns-in-Failed enum_told-in_default-checked overflow_add-place loop-c-smaller loop-c-preserved)

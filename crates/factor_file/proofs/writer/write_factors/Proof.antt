@@ -25,53 +25,44 @@ module _ (s : tie.Start) where
   file = file_of (version_of s.args.modulus) s.args.modulus head records
 
   few : length records ≤ 33554432
-  few = let f = s.pre.0 in admitted_few f.volume.sizes s.args.modulus s.args.volume.now f.volume.long s.pre.1
+  few = let f = s.requires.0 in admitted_few f.volume.sizes s.args.modulus s.args.volume.now f.volume.long s.requires.1
 
 -- how long the file is
-measured : (c : tie.After-file-length) → let s = c.before.before.before.before in c.file_length_lem.result ≡ length (file s)
+measured : (c : tie.After-file_length) → let s = c.before.before.before.before in c.file_length.result ≡ length (file s)
 measured c =
     let n = c.before in
     let s = n.before.before.before in
     let a = s.args in
-    c.file_length_lem.ensures.0 a.cell.group a.cell.n1 a.cell.n2 a.cell.n3 (records s) n.count-records.ensures
+    c.file_length.ensures.0 a.cell.group a.cell.n1 a.cell.n2 a.cell.n3 (records s) n.count_records-count.ensures
 
-count-records-requires : tie.Need-count-records-requires
-count-records-requires c κs = c.before.before.requires.0
+count_records-count-requires : tie.Need-count_records-count-requires
+count_records-count-requires c κs = c.requires.0
 
-file-length-requires : tie.Need-file-length-requires
-file-length-requires c κs = omega (arith, c.count-records.ensures, few c.before.before.before)
+file_length-requires : tie.Need-file_length-requires
+file_length-requires c κs = omega (arith, c.count_records-count.ensures, few c.before.before.before)
+
+returns-then-out-file_length : tie.Need-returns-then-out-file_length
+returns-then-out-file_length c =
+    let h = c.before in
+    let s = h.before.before.before.before in
+    filed_short (file s) s.args.out.now (omega (arith, measured h, c.if-out-file_length.true))
+
+put_file-written-requires : tie.Need-put_file-written-requires
+put_file-written-requires c κs =
+    ((c.requires.0, c.requires.1), c.count_records-count.ensures)
+
+shape_of-out : tie.Need-shape_of-out
+shape_of-out c = search rules
 
 returns : tie.Need-returns
 returns c =
-    let h = c.before in
-    let s = h.before.before.before.before in
-    filed_short (file s) s.args.out.now (omega (arith, measured h, c.if1.true))
-
-put-file-requires : tie.Need-put-file-requires
-put-file-requires c κs =
-    let h = c.before.before in
-    let n = h.before in
-    let s = n.before.before.before in
-    ((s.requires.0, s.requires.1), n.count-records.ensures)
-
-same_length : tie.Need-same-length
-same_length c = search rules
-
-returns-2 : tie.Need-returns-2
-returns-2 c =
     let p = c.before.before in
     let t = p.before.before in
     let h = t.before in
     let s = h.before.before.before.before in
-    filed_whole (file s) s.args.out.now (omega (arith, measured h, t.if1.false)) p.put-file.ensures
+    filed_whole (file s) s.args.out.now (omega (arith, measured h, t.if-out-file_length.false)) p.put_file-written.ensures
 
 pub write_factors_spec : {M : Type 1} → statement M
 write_factors_spec =
     tie.close
-    (tie.spec
-    count-records-requires
-    file-length-requires
-    returns
-    put-file-requires
-    same_length
-    returns-2)
+    (tie.spec count_records-count-requires file_length-requires returns-then-out-file_length put_file-written-requires shape_of-out returns)

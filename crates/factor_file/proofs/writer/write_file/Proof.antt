@@ -21,70 +21,61 @@ use Rattle.factor_file.proofs.writer.write_file.Statement.{statement}
 use Rattle.factor_file.proofs.writer.write_file.Tie as tie
 
 -- the check's number
-told : (c : tie.After-check-synthesis) → let a = c.before.before.before.before.before.args in checked_number c.check-synthesis.result ≡ first (held a.job a.volume.now a.out.now)
+told : (c : tie.After-check_synthesis-checked) → let a = c.args in checked_number c.check_synthesis-checked.result ≡ first (held a.job a.volume.now a.out.now)
 told c =
-    let a = c.before.before.before.before.before.args in
-    c.check-synthesis.ensures
-    ∙ ap₂ (λ (b : Bool) (k : UnitCell). first (synthesis_tests_of b a.job.state a.job.modulus k.group (cell_lengths k) a.volume.now scratch_length)) c.before.valid-job.ensures c.before.before.unit-cell.ensures
+    let a = c.args in
+    c.check_synthesis-checked.ensures
+    ∙ ap₂ (λ (b : Bool) (k : UnitCell). first (synthesis_tests_of b a.job.state a.job.modulus k.group (cell_lengths k) a.volume.now scratch_length)) c.valid_job.ensures c.unit_cell-cell.ensures
     ∙ held_first a.job a.volume.now a.out.now
 
 -- no test holds
-clear : (c : tie.After-enum-told) → let a = c.before.before.before.before.before.before.before.args in Passed (held a.job a.volume.now a.out.now)
+clear : (c : tie.In-Sound) → let a = c.args in Passed (held a.job a.volume.now a.out.now)
 clear c =
-    let a = c.before.before.before.before.before.before.before.args in
-    passed (held a.job a.volume.now a.out.now) tt (ap checked_number (sym c.enum_told.given.1) ∙ told c.before.before)
+    let a = c.args in
+    passed (held a.job a.volume.now a.out.now) tt (ap checked_number (sym c.in-Sound.is) ∙ told c.before)
 
-unit-cell-requires : tie.Need-unit-cell-requires
-unit-cell-requires c κs = search rules
+unit_cell-cell-requires : tie.Need-unit_cell-cell-requires
+unit_cell-cell-requires c κs = search rules
 
-valid-job-requires : tie.Need-valid-job-requires
-valid-job-requires c κs = search rules
+valid_job-requires : tie.Need-valid_job-requires
+valid_job-requires c κs = search rules
 
-check-synthesis-requires : tie.Need-check-synthesis-requires
-check-synthesis-requires c κs e = cell_sizes c.before.before.before.before.args.job c.before.unit-cell.ensures (sym c.valid-job.ensures ∙ e)
+check_synthesis-checked-requires : tie.Need-check_synthesis-checked-requires
+check_synthesis-checked-requires c κs e = cell_sizes c.args.job c.unit_cell-cell.ensures (sym c.valid_job.ensures ∙ e)
 
-enum-known-checked : tie.Need-enum-known-checked
-enum-known-checked c = search rules
+enum_known-checked : tie.Need-enum_known-checked
+enum_known-checked c = search rules
 
-returns : tie.Need-returns
-returns c =
-    let k = c.before.before.before in
-    let a = k.before.before.before.before.before.args in
-    write_refused a.job a.volume.now a.out.now c.before.checked.given.0.0 (ap checked_number (sym c.before.checked.given.1) ∙ told k)
+returns-in-Failed : tie.Need-returns-in-Failed
+returns-in-Failed c =
+    let k = c.before in
+    let a = k.args in
+    write_refused a.job a.volume.now a.out.now c.in-Failed.refusal (ap checked_number (sym c.in-Failed.is) ∙ told k)
 
-enum_told : tie.Need-enum-told
-enum_told c = search rules
+enum_told-1 : tie.Need-enum_told-1
+enum_told-1 c = search rules
 
-write-factors-requires : tie.Need-write-factors-requires
-write-factors-requires c κs =
+write_factors-requires : tie.Need-write_factors-requires
+write_factors-requires c κs =
     let t = c.before in
-    let a = t.before.before.before.before.before.before.before.args in
+    let a = t.args in
     let p = clear t in
     let ok = not-false _ p.0 in
     let long = eqb-true _ _ (not-false _ p.1.1.0) in
-    rw t.before.before.before.before.unit-cell.ensures (record { modulus = valid_modulus a.job ok; volume = record { sizes = valid_sizes a.job ok; long = long }; small = below_all_below (prime a.job.modulus) a.volume.now (prime_pos a.job.modulus) (not-false _ p.1.1.1.0) }, omega (arith, long, valid_volume a.job ok))
+    rw t.unit_cell-cell.ensures (record { modulus = valid_modulus a.job ok; volume = record { sizes = valid_sizes a.job ok; long = long }; small = below_all_below (prime a.job.modulus) a.volume.now (prime_pos a.job.modulus) (not-false _ p.1.1.1.0) }, omega (arith, long, valid_volume a.job ok))
 
-same_length : tie.Need-same-length
-same_length c = search rules
+shape_of-out : tie.Need-shape_of-out
+shape_of-out c = search rules
 
-returns-2 : tie.Need-returns-2
-returns-2 c =
+returns : tie.Need-returns
+returns c =
     let w = c.before.before in
     let t = w.before.before in
-    let a = t.before.before.before.before.before.before.before.args in
-    write_filed a.job a.volume.now a.out.now w.write-factors.result _ (clear t)
-    (w.write-factors.ensures ∙ ap (λ (k : UnitCell). filed_with a.job.modulus k a.job.a.factors a.job.b.factors a.job.c.factors a.volume.now a.out.now) t.before.before.before.before.unit-cell.ensures)
+    let a = t.args in
+    write_filed a.job a.volume.now a.out.now w.write_factors.result _ (clear t)
+    (w.write_factors.ensures ∙ ap (λ (k : UnitCell). filed_with a.job.modulus k a.job.a.factors a.job.b.factors a.job.c.factors a.volume.now a.out.now) t.unit_cell-cell.ensures)
 
 pub write_file_spec : {M : Type 1} → statement M
 write_file_spec =
     tie.close
-    (tie.spec
-    unit-cell-requires
-    valid-job-requires
-    check-synthesis-requires
-    enum-known-checked
-    returns
-    enum_told
-    write-factors-requires
-    same_length
-    returns-2)
+    (tie.spec unit_cell-cell-requires valid_job-requires check_synthesis-checked-requires enum_known-checked returns-in-Failed enum_told-1 write_factors-requires shape_of-out returns)

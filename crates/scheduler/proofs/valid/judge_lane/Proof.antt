@@ -8,54 +8,43 @@ use Rattle.scheduler.proofs.Contracts.{blank_valid, invalid_lane, mapped_lane, i
 use Rattle.scheduler.proofs.valid.judge_lane.Statement.{statement}
 use Rattle.scheduler.proofs.valid.judge_lane.Tie as tie
 
-is-blank-requires : tie.Need-is-blank-requires
-is-blank-requires c κs = search rules
+is_blank-requires : tie.Need-is_blank-requires
+is_blank-requires c κs = search rules
+
+returns-then-lane-eq0 : tie.Need-returns-then-lane-eq0
+returns-then-lane-eq0 c =
+    let l = c.args.lane in
+    let z = c.if-lane-eq0.true in
+    (c.is_blank.ensures ∙ blank_valid l z, λ v. (sym (held_none l z), sym (served_idle l z)), omega arith, omega arith)
+
+valid_job-requires : tie.Need-valid_job-requires
+valid_job-requires c κs = search rules
+
+returns-then-not-valid_job : tie.Need-returns-then-not-valid_job
+returns-then-not-valid_job c =
+    let l = c.args.lane in
+    impossible l (invalid_lane l c.if-lane-eq0.false c.valid_job.ensures c.if-not-valid_job.true)
+
+returns-then-job-eq2 : tie.Need-returns-then-job-eq2
+returns-then-job-eq2 c =
+    let l = c.args.lane in
+    impossible l (mapped_lane l c.if-lane-eq0.false c.valid_job.ensures c.if-not-valid_job.false c.if-job-eq2.true)
+
+line_count-lines-requires : tie.Need-line_count-lines-requires
+line_count-lines-requires c κs = by_true _ _ c.valid_job.ensures c.if-not-valid_job.false
+
+volume_of-held-requires : tie.Need-volume_of-held-requires
+volume_of-held-requires c κs = by_true _ _ c.valid_job.ensures c.if-not-valid_job.false
+
+returns-then-lane-lines : tie.Need-returns-then-lane-lines
+returns-then-lane-lines c =
+    begun_lane c.args.lane c.if-lane-eq0.false c.valid_job.ensures c.if-not-valid_job.false c.if-job-eq2.false c.line_count-lines.ensures c.volume_of-held.ensures.0 c.volume_of-held.ensures.1 c.if-lane-lines.true
 
 returns : tie.Need-returns
 returns c =
-    let l = c.before.before.before.before.args.lane in
-    let z = c.before.if1.true in
-    (c.is-blank.ensures ∙ blank_valid l z, λ v. (sym (held_none l z), sym (served_idle l z)), omega arith, omega arith)
-
-valid-job-requires : tie.Need-valid-job-requires
-valid-job-requires c κs = search rules
-
-returns-2 : tie.Need-returns-2
-returns-2 c =
-    let l = c.before.before.before.before.before.args.lane in
-    impossible l (invalid_lane l c.before.before.if1.false c.before.valid-job.ensures c.if2.true)
-
-returns-3 : tie.Need-returns-3
-returns-3 c =
-    let l = c.before.before.before.before.before.before.before.args.lane in
-    impossible l (mapped_lane l c.before.before.before.before.if1.false c.before.before.before.valid-job.ensures c.before.before.if2.false c.if3.true)
-
-line-count-requires : tie.Need-line-count-requires
-line-count-requires c κs = by_true _ _ c.before.before.before.valid-job.ensures c.before.before.if2.false
-
-volume-of-requires : tie.Need-volume-of-requires
-volume-of-requires c κs = by_true _ _ c.before.before.before.before.valid-job.ensures c.before.before.before.if2.false
-
-returns-4 : tie.Need-returns-4
-returns-4 c =
-    let j = c.before.before.before.before in
-    begun_lane c.before.before.before.before.before.before.before.before.before.before.before.args.lane j.before.before.before.before.if1.false j.before.before.before.valid-job.ensures j.before.before.if2.false j.if3.false c.before.before.before.line-count.ensures c.before.before.volume-of.ensures.0 c.before.before.volume-of.ensures.1 c.if4.true
-
-returns-5 : tie.Need-returns-5
-returns-5 c =
-    let j = c.before.before.before.before.before in
-    whole_lane c.before.before.before.before.before.before.before.before.before.before.before.before.args.lane j.before.before.before.before.if1.false j.before.before.before.valid-job.ensures j.before.before.if2.false j.if3.false c.before.before.before.before.line-count.ensures c.before.before.before.volume-of.ensures.0 c.before.before.before.volume-of.ensures.1 c.before.if4.false
+    whole_lane c.args.lane c.if-lane-eq0.false c.valid_job.ensures c.if-not-valid_job.false c.if-job-eq2.false c.line_count-lines.ensures c.volume_of-held.ensures.0 c.volume_of-held.ensures.1 c.if-lane-lines.false
 
 pub judge_lane_spec : {M : Type 1} → statement M
 judge_lane_spec =
     tie.close
-    (tie.spec
-    is-blank-requires
-    returns
-    valid-job-requires
-    returns-2
-    returns-3
-    line-count-requires
-    volume-of-requires
-    returns-4
-    returns-5)
+    (tie.spec is_blank-requires returns-then-lane-eq0 valid_job-requires returns-then-not-valid_job returns-then-job-eq2 line_count-lines-requires volume_of-held-requires returns-then-lane-lines returns)

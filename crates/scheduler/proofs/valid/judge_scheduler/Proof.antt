@@ -9,42 +9,37 @@ use Rattle.scheduler.proofs.valid.judge_scheduler.Tie as tie
 eight : (c : tie.Start) → length c.args.s.lanes ≡ 8
 eight c = sym (length-map c.args.s.lanes _) ∙ c.well-formed.0.1.1.0.1.0.1
 
-judge-lanes-requires : tie.Need-judge-lanes-requires
-judge-lanes-requires c κs = search rules
+judge_lanes-all-requires : tie.Need-judge_lanes-all-requires
+judge_lanes-all-requires c κs = search rules
+
+returns-then-not-all : tie.Need-returns-then-not-all
+returns-then-not-all c =
+    let t = c.judge_lanes-all.ensures in
+    let e = invalid_lanes c.args.s t.0 c.if-not-all.true in
+    (e, refuted e, t.2)
+
+returns-then-held-gt16777216 : tie.Need-returns-then-held-gt16777216
+returns-then-held-gt16777216 c =
+    let s = c.args.s in
+    let t = c.judge_lanes-all.ensures in
+    let a = all_lanes s t.0 c.if-not-all.false in
+    let e = over_capacity s a (t.1 a).0 c.if-held-gt16777216.true in
+    (e, refuted e, t.2)
+
+valid_last-valid-requires : tie.Need-valid_last-valid-requires
+valid_last-valid-requires c κs =
+    let t = c.judge_lanes-all.ensures in
+    let a = all_lanes c.args.s t.0 c.if-not-all.false in
+    (a, (t.1 a).1, t.3)
 
 returns : tie.Need-returns
 returns c =
-    let t = c.before.before.judge-lanes.ensures in
-    let e = invalid_lanes c.before.before.before.args.s t.0 c.if1.true in
-    (e, refuted e, t.2)
-
-returns-2 : tie.Need-returns-2
-returns-2 c =
-    let s = c.before.before.before.before.args.s in
-    let t = c.before.before.before.judge-lanes.ensures in
-    let a = all_lanes s t.0 c.before.if1.false in
-    let e = over_capacity s a (t.1 a).0 c.if2.true in
-    (e, refuted e, t.2)
-
-valid-last-requires : tie.Need-valid-last-requires
-valid-last-requires c κs =
-    let t = c.before.before.before.judge-lanes.ensures in
-    let a = all_lanes c.before.before.before.before.args.s t.0 c.before.if1.false in
-    (a, (t.1 a).1, t.3)
-
-returns-3 : tie.Need-returns-3
-returns-3 c =
     let s = c.before.before.before.before.before in
-    let t = c.before.before.before.before.judge-lanes.ensures in
-    let a = all_lanes s.args.s t.0 c.before.before.if1.false in
-    (within_capacity s.args.s a (eight s) (t.1 a).0 c.before.if2.false c.valid-last.ensures, λ v. (t.1 a).0, t.2)
+    let t = c.judge_lanes-all.ensures in
+    let a = all_lanes s.args.s t.0 c.if-not-all.false in
+    (within_capacity s.args.s a (eight s) (t.1 a).0 c.if-held-gt16777216.false c.valid_last-valid.ensures, λ v. (t.1 a).0, t.2)
 
 pub judge_scheduler_spec : {M : Type 1} → statement M
 judge_scheduler_spec =
     tie.close
-    (tie.spec
-    judge-lanes-requires
-    returns
-    returns-2
-    valid-last-requires
-    returns-3)
+    (tie.spec judge_lanes-all-requires returns-then-not-all returns-then-held-gt16777216 valid_last-valid-requires returns)

@@ -16,35 +16,35 @@ use Rattle.factor_file.proofs.file.head.put_header.Tie as tie
 ends : (s : tie.Start) → let a = s.args in a.at + 11 + length (modulus_bytes (version_of a.modulus) a.modulus) + length (octal_digits a.f1) + length (octal_digits a.f2) + length (octal_digits a.f3) ≤ 1152921504606846976
 ends s = let a = s.args in omega (arith, s.requires.1.low, length_header (version_of a.modulus) a.modulus (header_for a.cell a.f1 a.f2 a.f3))
 
-put-numbers-requires : tie.Need-put-numbers-requires
-put-numbers-requires c κs = let s = c.before.before in (s.requires.0.0, s.requires.0.1, record { low = omega (arith, ends s) })
+put_numbers-first_axis-requires : tie.Need-put_numbers-first_axis-requires
+put_numbers-first_axis-requires c κs = let s = c.before.before in (s.requires.0.0, s.requires.0.1, record { low = omega (arith, ends s) })
 
-put-two-requires : tie.Need-put-two-requires
+put_two-second_axis-requires : tie.Need-put_two-second_axis-requires
 unfolding big_endian
-put-two-requires c κs = (omega arith, record { low = omega (arith, ends c.before.before.before.before.before.before) })
+put_two-second_axis-requires c κs = (omega arith, record { low = omega (arith, ends c.before.before.before.before.before.before) })
 
-put-two-requires-2 : tie.Need-put-two-requires-2
+put_two-third_axis-requires : tie.Need-put_two-third_axis-requires
 unfolding big_endian
-put-two-requires-2 c κs = (omega arith, record { low = omega (arith, ends c.before.before.before.before.before.before.before.before.before.before) })
+put_two-third_axis-requires c κs = (omega arith, record { low = omega (arith, ends c.before.before.before.before.before.before.before.before.before.before) })
 
-put-two-requires-3 : tie.Need-put-two-requires-3
+put_two-first_list-requires : tie.Need-put_two-first_list-requires
 unfolding big_endian
-put-two-requires-3 c κs = (omega arith, record { low = omega (arith, ends c.before.before.before.before.before.before.before.before.before.before.before.before.before.before) })
+put_two-first_list-requires c κs = (omega arith, record { low = omega (arith, ends c.before.before.before.before.before.before.before.before.before.before.before.before.before.before) })
 
-put-list-requires : tie.Need-put-list-requires
+put_list-second_list-requires : tie.Need-put_list-second_list-requires
 unfolding big_endian
-put-list-requires c κs = record { low = omega (arith, ends c.before.before.before.before.before.before.before.before.before.before.before.before.before.before.before.before.before.before) }
+put_list-second_list-requires c κs = record { low = omega (arith, ends c.before.before.before.before.before.before.before.before.before.before.before.before.before.before.before.before.before.before) }
 
-put-list-requires-2 : tie.Need-put-list-requires-2
+put_list-third_list-requires : tie.Need-put_list-third_list-requires
 unfolding big_endian
-put-list-requires-2 c κs = record { low = omega (arith, ends c.before.before.before.before.before.before.before.before.before.before.before.before.before.before.before.before.before.before.before.before.before.before) }
+put_list-third_list-requires c κs = record { low = omega (arith, ends c.before.before.before.before.before.before.before.before.before.before.before.before.before.before.before.before.before.before.before.before.before.before) }
 
-put-list-requires-3 : tie.Need-put-list-requires-3
+put_list-requires : tie.Need-put_list-requires
 unfolding big_endian
-put-list-requires-3 c κs = record { low = omega (arith, ends c.before.before.before.before.before.before.before.before.before.before.before.before.before.before.before.before.before.before.before.before.before.before.before.before.before.before) }
+put_list-requires c κs = record { low = omega (arith, ends c.before.before.before.before.before.before.before.before.before.before.before.before.before.before.before.before.before.before.before.before.before.before.before.before.before.before) }
 
-same_length : tie.Need-same-length
-same_length c = search rules
+shape_of-out : tie.Need-shape_of-out
+shape_of-out c = search rules
 
 returns : tie.Need-returns
 unfolding header_bytes
@@ -56,19 +56,10 @@ returns c =
     let p4 = p5.before.before.before.before in
     let p3 = p4.before.before.before.before in
     let p2 = p3.before.before.before.before in
-    let lengths = wrote_append (wrote_append (wrote_append p2.put-numbers.ensures p3.put_two.ensures) p4.put-two2.ensures) p5.put-two3.ensures in
-    wrote_append (wrote_append (wrote_append lengths p6.put-list.ensures) p7.put-list2.ensures) p8.put-list3.ensures
+    let lengths = wrote_append (wrote_append (wrote_append p2.put_numbers-first_axis.ensures p3.put_two-second_axis.ensures) p4.put_two-third_axis.ensures) p5.put_two-first_list.ensures in
+    wrote_append (wrote_append (wrote_append lengths p6.put_list-second_list.ensures) p7.put_list-third_list.ensures) p8.put_list.ensures
 
 pub put_header_spec : {M : Type 1} → statement M
 put_header_spec =
     tie.close
-    (tie.spec
-    put-numbers-requires
-    put-two-requires
-    put-two-requires-2
-    put-two-requires-3
-    put-list-requires
-    put-list-requires-2
-    put-list-requires-3
-    same_length
-    returns)
+    (tie.spec put_numbers-first_axis-requires put_two-second_axis-requires put_two-third_axis-requires put_two-first_list-requires put_list-second_list-requires put_list-third_list-requires put_list-requires shape_of-out returns)

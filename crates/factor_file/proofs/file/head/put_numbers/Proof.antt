@@ -23,71 +23,59 @@ module _ (m group : ℕ) where
   second_bytes : (m ≡ 1 → ⊥) → 2 ∷ group ∷ m ∷ [] ≡ version_of m ∷ group ∷ modulus_bytes (version_of m) m
   second_bytes e = sym (ap numbers (ne_eqb m 1 e))
 
-put-byte-requires : tie.Need-put-byte-requires
-put-byte-requires c κs = record { low = omega (arith, c.before.before.before.requires.2.low) }
+put_byte-next-requires : tie.Need-put_byte-next-requires
+put_byte-next-requires c κs = record { low = omega (arith, c.before.before.before.requires.2.low) }
 
-cast-put-byte : tie.Need-overflow-cast-put-byte
-cast-put-byte c = omega (arith, c.before.before.before.before.before.before.before.requires.1)
+overflow_cast-group : tie.Need-overflow_cast-group
+overflow_cast-group c = omega (arith, c.before.before.before.before.before.before.before.requires.1)
 
-put-byte-requires-2 : tie.Need-put-byte-requires-2
-put-byte-requires-2 c κs = record { low = omega (arith, c.before.before.before.before.before.before.before.requires.2.low, c.before.before.before.put_byte.ensures.place) }
+put_byte-requires : tie.Need-put_byte-requires
+put_byte-requires c κs = record { low = omega (arith, c.before.before.before.before.before.before.before.requires.2.low, c.before.before.before.put_byte-next.ensures.place) }
 
-same_length : tie.Need-same-length
-same_length c = search rules
+shape_of-out-then-modulus-eq1 : tie.Need-shape_of-out-then-modulus-eq1
+shape_of-out-then-modulus-eq1 c = search rules
 
-returns : tie.Need-returns
-returns c =
+returns-then-modulus-eq1 : tie.Need-returns-then-modulus-eq1
+returns-then-modulus-eq1 c =
     let group = c.before.before in
     let version = group.before.before.before.before in
     let t = version.before.before in
     let a = t.before.before.args in
-    wrote_as (wrote_append version.put_byte.ensures group.put-byte2.ensures) (first_bytes a.modulus a.group t.if1.true)
+    wrote_as (wrote_append version.put_byte-next.ensures group.put_byte.ensures) (first_bytes a.modulus a.group t.if-modulus-eq1.true)
 
-put-byte-requires-3 : tie.Need-put-byte-requires-3
-put-byte-requires-3 c κs = record { low = omega (arith, c.before.before.before.requires.2.low) }
+put_byte-next-requires-2 : tie.Need-put_byte-next-requires-2
+put_byte-next-requires-2 c κs = record { low = omega (arith, c.before.before.before.requires.2.low) }
 
-cast-put-byte-2 : tie.Need-overflow-cast-put-byte-2
-cast-put-byte-2 c = omega (arith, c.before.before.before.before.before.before.before.requires.1)
+overflow_cast-group-2 : tie.Need-overflow_cast-group-2
+overflow_cast-group-2 c = omega (arith, c.before.before.before.before.before.before.before.requires.1)
 
-put-byte-requires-4 : tie.Need-put-byte-requires-4
-put-byte-requires-4 c κs = record { low = omega (arith, c.before.before.before.before.before.before.before.requires.2.low, c.before.before.before.put-byte3.ensures.place) }
+put_byte-third-requires : tie.Need-put_byte-third-requires
+put_byte-third-requires c κs = record { low = omega (arith, c.before.before.before.before.before.before.before.requires.2.low, c.before.before.before.put_byte-next-2.ensures.place) }
 
-cast-put-byte-3 : tie.Need-overflow-cast-put-byte-3
-cast-put-byte-3 c = omega (arith, c.before.before.before.before.before.before.before.before.before.before.before.requires.0)
+overflow_cast-modulus : tie.Need-overflow_cast-modulus
+overflow_cast-modulus c = omega (arith, c.before.before.before.before.before.before.before.before.before.before.before.requires.0)
 
-put-byte-requires-5 : tie.Need-put-byte-requires-5
-put-byte-requires-5 c κs =
+put_byte-requires-2 : tie.Need-put_byte-requires-2
+put_byte-requires-2 c κs =
     let group = c.before.before.before in
     let version = group.before.before.before.before in
     let t = version.before.before in
     let s = t.before.before in
-    record { low = omega (arith, s.requires.2.low, version.put-byte3.ensures.place, group.put-byte4.ensures.place, ap length (second_bytes s.args.modulus s.args.group t.if1.false)) }
+    record { low = omega (arith, s.requires.2.low, version.put_byte-next-2.ensures.place, group.put_byte-third.ensures.place, ap length (second_bytes s.args.modulus s.args.group t.if-modulus-eq1.false)) }
 
-same-length-2 : tie.Need-same-length-2
-same-length-2 c = search rules
+shape_of-out : tie.Need-shape_of-out
+shape_of-out c = search rules
 
-returns-2 : tie.Need-returns-2
-returns-2 c =
+returns : tie.Need-returns
+returns c =
     let modulus = c.before.before in
     let group = modulus.before.before.before.before in
     let version = group.before.before.before.before in
     let t = version.before.before in
     let a = t.before.before.args in
-    wrote_as (wrote_append (wrote_append version.put-byte3.ensures group.put-byte4.ensures) modulus.put-byte5.ensures) (second_bytes a.modulus a.group t.if1.false)
+    wrote_as (wrote_append (wrote_append version.put_byte-next-2.ensures group.put_byte-third.ensures) modulus.put_byte-2.ensures) (second_bytes a.modulus a.group t.if-modulus-eq1.false)
 
 pub put_numbers_spec : {M : Type 1} → statement M
 put_numbers_spec =
     tie.close
-    (tie.spec
-    put-byte-requires
-    cast-put-byte
-    put-byte-requires-2
-    same_length
-    returns
-    put-byte-requires-3
-    cast-put-byte-2
-    put-byte-requires-4
-    cast-put-byte-3
-    put-byte-requires-5
-    same-length-2
-    returns-2)
+    (tie.spec put_byte-next-requires overflow_cast-group put_byte-requires shape_of-out-then-modulus-eq1 returns-then-modulus-eq1 put_byte-next-requires-2 overflow_cast-group-2 put_byte-third-requires overflow_cast-modulus put_byte-requires-2 shape_of-out returns)

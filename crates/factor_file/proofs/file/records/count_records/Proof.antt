@@ -13,23 +13,22 @@ use Rattle.factor_file.proofs.file.RecordLaws.{cell_places, cell_few}
 use Rattle.factor_file.proofs.file.records.count_records.Statement.{statement}
 use Rattle.factor_file.proofs.file.records.count_records.Tie as tie
 
-slice-aggregate-put-records : tie.Need-slice-aggregate-put-records
-slice-aggregate-put-records c = search rules
+slice_bounds-put_records-end : tie.Need-slice_bounds-put_records-end
+slice_bounds-put_records-end c = search rules
 
-put-records-requires : tie.Need-put-records-requires
-put-records-requires c κs =
-    let s = c.before.before in
-    let v = s.args.volume.now in
-    let m = s.args.modulus in
-    let z = s.requires.volume.sizes in
-    let some = records_at (cell_group s.args.cell) (cell_halves s.args.cell) m v in
+put_records-requires : tie.Need-put_records-requires
+put_records-requires c κs =
+    let v = c.args.volume.now in
+    let m = c.args.modulus in
+    let z = c.requires.volume.sizes in
+    let some = records_at (cell_group c.args.cell) (cell_halves c.args.cell) m v in
     let most = ap (λ t. length (some t)) (cell_places z) in
-    (s.requires, record { low = omega (arith, length_all (records_with s.args.cell m v), length-map (some (places_of (cell_halves s.args.cell))) (file_record m), most, cell_few z m v) })
+    (c.requires, record { low = omega (arith, length_all (records_with c.args.cell m v), length-map (some (places_of (cell_halves c.args.cell))) (file_record m), most, cell_few z m v) })
 
 returns : tie.Need-returns
 returns c =
-    let a = c.before.before.before.before.args in
-    omega (arith, c.before.put-records.ensures.place, length_all (records_with a.cell a.modulus a.volume.now))
+    let a = c.args in
+    omega (arith, c.put_records.ensures.place, length_all (records_with a.cell a.modulus a.volume.now))
 
 pub count_records_spec : {M : Type 1} → statement M
-count_records_spec = tie.close (tie.spec slice-aggregate-put-records put-records-requires returns)
+count_records_spec = tie.close (tie.spec slice_bounds-put_records-end put_records-requires returns)

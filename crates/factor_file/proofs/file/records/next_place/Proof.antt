@@ -4,38 +4,38 @@ use Rattle.factor_file.proofs.file.Walks.{next_on_line, next_on_plane, next_in_c
 use Rattle.factor_file.proofs.file.records.next_place.Statement.{statement}
 use Rattle.factor_file.proofs.file.records.next_place.Tie as tie
 
-add-if1 : tie.Need-overflow-add-if1
-add-if1 c = search rules
+overflow_add-j : tie.Need-overflow_add-j
+overflow_add-j c = search rules
 
-add-t6 : tie.Need-overflow-add-t6
-add-t6 c = search rules
+overflow_add-result : tie.Need-overflow_add-result
+overflow_add-result c = search rules
 
-add-if2 : tie.Need-overflow-add-if2
-add-if2 c = search rules
+overflow_add-j-else-j-cell : tie.Need-overflow_add-j-else-j-cell
+overflow_add-j-else-j-cell c = search rules
 
-add-t10 : tie.Need-overflow-add-t10
-add-t10 c = search rules
+overflow_add-result-then-j-cell-2 : tie.Need-overflow_add-result-then-j-cell-2
+overflow_add-result-then-j-cell-2 c = search rules
 
-add-t11 : tie.Need-overflow-add-t11
-add-t11 c = search rules
+overflow_add-result-else-j-cell-2 : tie.Need-overflow_add-result-else-j-cell-2
+overflow_add-result-else-j-cell-2 c = search rules
 
-returns : tie.Need-returns
-returns c = let s = c.before.before.before.before in let w = s.requires.1 in next_on_line s.args.cell s.args.j w.h w.k w.l c.before.if1.true
+returns-then-j-cell : tie.Need-returns-then-j-cell
+returns-then-j-cell c = let s = c.before.before.before.before in let w = s.requires.1 in next_on_line s.args.cell s.args.j w.h w.k w.l c.before.if-j-cell.true
 
-returns-2 : tie.Need-returns-2
-returns-2 c =
+returns-then-j-cell-2 : tie.Need-returns-then-j-cell-2
+returns-then-j-cell-2 c =
     let t = c.before.before.before.before in
     let s = t.before.before.before in
     let w = s.requires.1 in
-    next_on_plane s.args.cell s.args.j w.h w.k w.l t.if1.false c.before.if2.true
+    next_on_plane s.args.cell s.args.j w.h w.k w.l t.if-j-cell.false c.before.if-j-cell-2.true
 
-returns-3 : tie.Need-returns-3
-returns-3 c =
+returns-else-j-cell-2 : tie.Need-returns-else-j-cell-2
+returns-else-j-cell-2 c =
     let t = c.before.before.before.before in
     let s = t.before.before.before in
     let w = s.requires.1 in
-    next_in_cell s.args.cell s.args.j w.h w.k w.l t.if1.false c.before.if2.false
+    next_in_cell s.args.cell s.args.j w.h w.k w.l t.if-j-cell.false c.before.if-j-cell-2.false
 
 pub next_place_spec : {M : Type 1} → statement M
 next_place_spec =
-    tie.close (tie.spec add-if1 add-t6 add-if2 add-t10 add-t11 returns returns-2 returns-3)
+    tie.close (tie.spec overflow_add-j overflow_add-result overflow_add-j-else-j-cell overflow_add-result-then-j-cell-2 overflow_add-result-else-j-cell-2 returns-then-j-cell returns-then-j-cell-2 returns-else-j-cell-2)

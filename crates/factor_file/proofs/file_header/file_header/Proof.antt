@@ -17,8 +17,7 @@ enum_known-checked c = search rules
 
 returns-in-Failed : tie.Need-returns-in-Failed
 returns-in-Failed c =
-    let r = c.checked-1.given in
-    shape_unsound c.args.file.now r.0.0 (ap checked_number (sym r.1) ∙ c.check_shape-checked.ensures)
+    shape_unsound c.args.file.now c.in-Failed.refusal (ap checked_number (sym c.in-Failed.is) ∙ c.check_shape-checked.ensures)
 
 enum_told-1 : tie.Need-enum_told-1
 enum_told-1 c = search rules

@@ -13,7 +13,7 @@ abbrev header : tie.Start → Header
 header s = let a = s.args in cell_header a.cell a.f1.now a.f2.now a.f3.now
 
 -- no test holds
-clear : (c : tie.In-Sound) → let s = c.before.before.before.before.before.before in 0 ≡ first (opening_tests s.args.modulus (header s))
+clear : (c : tie.In-Sound) → let s = c.before.before.before.before.before in 0 ≡ first (opening_tests s.args.modulus (header s))
 clear c = ap checked_number (sym c.in-Sound.is) ∙ c.check_opening-checked.ensures
 
 check_opening-checked-requires : tie.Need-check_opening-checked-requires
@@ -26,18 +26,16 @@ enum_told-1 : tie.Need-enum_told-1
 enum_told-1 c = search rules
 
 named-requires : tie.Need-named-requires
-named-requires c κs = let s = c.before.before.before.before.before.before in axes_sound s.args.modulus (header s) s.args.records (clear c)
+named-requires c κs = let s = c.before.before.before.before.before in axes_sound s.args.modulus (header s) s.args.records (clear c)
 
 returns-in-Failed : tie.Need-returns-in-Failed
 returns-in-Failed c =
-    let k = c.before.before.before in
-    let s = k.before.before.before.before in
-    let r = c.checked-1.given in
-    header_unsound s.args.modulus (header s) s.args.records r.0.0 (ap checked_number (sym r.1) ∙ k.check_opening-checked.ensures)
+    let s = c.before.before.before.before.before in
+    header_unsound s.args.modulus (header s) s.args.records c.in-Failed.refusal (ap checked_number (sym c.in-Failed.is) ∙ c.check_opening-checked.ensures)
 
 returns-in-Sound : tie.Need-returns-in-Sound
 returns-in-Sound c =
-    let s = c.before.before.before.before.before.before.before in
+    let s = c.before.before.before.before.before.before in
     ap named c.named.ensures ∙ header_named_lem s.args.modulus (header s) s.args.records (clear c.before)
 
 pub judged_header_spec : {M : Type 1} → statement M

@@ -22,22 +22,20 @@ abbrev decreases-loop-c : tie.decreases-loop-c
 decreases-loop-c file start modulus cell marks₀ at₀ place₀ marks at place = length file - at
 
 -- the record at the walk's place
-reading : (c : tie.In-Record-2 invariant-loop-c decreases-loop-c) → Record c.in-Record.c ≡ found_at c.args.file.now c.loop-c.at
+reading : (c : tie.In-Record invariant-loop-c decreases-loop-c) → Record c.in-Record.c ≡ found_at c.args.file.now c.loop-c.at
 reading c = sym c.in-Record.is ∙ c.read_record-step.ensures.0
 
 -- its bytes are there, and its place fits
-inside : (c : tie.In-Record-2 invariant-loop-c decreases-loop-c) → c.loop-c.at + 14 ≤ length c.args.file.now
+inside : (c : tie.In-Record invariant-loop-c decreases-loop-c) → c.loop-c.at + 14 ≤ length c.args.file.now
 inside c = record_inside _ _ c.in-Record.c (reading c)
 
 bytes : (c : tie.After-shared_slice_known-1 invariant-loop-c decreases-loop-c) (i : ℕ) → byte_at c.args.file.now i < 256
 bytes c i = omega (arith, c.shared_slice_known-1.given i)
 
-place_fits : (c : tie.In-Record-2 invariant-loop-c decreases-loop-c) → c.loop-c.place + 1 < 4294967296
+place_fits : (c : tie.In-Record invariant-loop-c decreases-loop-c) → c.loop-c.place + 1 < 4294967296
 place_fits c =
-    let l = c.before.before.before in
-    let s = l.before.before in
-    let file = s.args.file.now in
-    omega (arith, record_left l.loop-c.invariant.1.walked s.requires.1 c.in-Record.c (reading c), four_bytes_fit file (count_at file) (bytes s))
+    let file = c.args.file.now in
+    omega (arith, record_left c.loop-c.invariant.1.walked c.requires.1 c.in-Record.c (reading c), four_bytes_fit file (count_at file) (bytes c.before.before.before.before))
 
 loop-c-init : tie.Need-loop-c-init invariant-loop-c decreases-loop-c
 loop-c-init c =
@@ -73,31 +71,28 @@ shape_of-marks-in-Failed c =
 
 returns-in-Failed : tie.Need-returns-in-Failed invariant-loop-c decreases-loop-c
 returns-in-Failed c =
-    let k = c.before in
-    let r = k.before.before.before.before in
-    let f = r in
-    let s = f.loop-c.invariant.1 in
-    judging_refused s f.requires.1 f.in-Record.c (reading f) f.read_record-step.ensures.1 k.in-Failed.refusal (ap checked_number (sym k.in-Failed.is) ∙ (r.judge_record-checked.ensures s.before s.marked).0)
+    let f = c.before.before.before.before.before in
+    let s = c.loop-c.invariant.1 in
+    judging_refused s c.requires.1 c.in-Record.c (reading f) c.read_record-step.ensures.1 c.in-Failed.refusal (ap checked_number (sym c.in-Failed.is) ∙ (c.judge_record-checked.ensures s.before s.marked).0)
 
 enum_told-in_default-checked : tie.Need-enum_told-in_default-checked invariant-loop-c decreases-loop-c
 enum_told-in_default-checked c = search rules
 
 overflow_add-place : tie.Need-overflow_add-place invariant-loop-c decreases-loop-c
-overflow_add-place c = omega (arith, place_fits c.before.before.before.before.before.before.before)
+overflow_add-place c = omega (arith, place_fits c.before.before.before.before.before)
 
 loop-c-smaller : tie.Need-loop-c-smaller invariant-loop-c decreases-loop-c
 loop-c-smaller c =
-    let f = c.before.before.before.before.before.before.before in
+    let f = c.before.before.before.before.before in
     omega (arith, inside f, f.read_record-step.ensures.1 ∙ record_after _ _ f.in-Record.c (reading f))
 
 loop-c-preserved : tie.Need-loop-c-preserved invariant-loop-c decreases-loop-c
 loop-c-preserved c =
-    let r = c.before.before.before in
-    let f = r.before.before in
-    let s = f.loop-c.invariant.1 in
-    let e = r.judge_record-checked.ensures s.before s.marked in
+    let f = c.before.before.before.before.before in
+    let s = c.loop-c.invariant.1 in
+    let e = c.judge_record-checked.ensures s.before s.marked in
     let sound = ap checked_number c.in_default-checked.is in
-    (r.judge_record-checked.auto.marks ∙ f.loop-c.invariant.0, judging_next s f.requires.1 f.in-Record.c (reading f) f.read_record-step.ensures.1 (sym sound ∙ e.0) (e.1 sound))
+    (c.judge_record-checked.auto.marks ∙ c.loop-c.invariant.0, judging_next s f.requires.1 f.in-Record.c (reading f) f.read_record-step.ensures.1 (sym sound ∙ e.0) (e.1 sound))
 
 pub judge_records_spec : {M : Type 1} → statement M
 judge_records_spec =

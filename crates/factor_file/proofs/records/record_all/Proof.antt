@@ -28,7 +28,7 @@ abbrev decreases-loop-c : tie.decreases-loop-c
 decreases-loop-c file start modulus cell volume₀ at₀ volume at = length file - at
 
 -- the record at the walk's place
-reading : (c : tie.In-Record-2 invariant-loop-c decreases-loop-c) → Record c.in-Record.c ≡ found_at c.args.file.now c.loop-c.at
+reading : (c : tie.In-Record invariant-loop-c decreases-loop-c) → Record c.in-Record.c ≡ found_at c.args.file.now c.loop-c.at
 reading c = sym c.in-Record.is ∙ c.read_record-step.ensures.0
 
 loop-c-init : tie.Need-loop-c-init invariant-loop-c decreases-loop-c

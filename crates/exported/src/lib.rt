@@ -46,24 +46,21 @@ use line::LineAnswer;
 use scheduler::Scheduler;
 
 // The version of the calls, which RECORDER_VERSION of the header is too.
-#[unsafe(no_mangle)]
-pub extern "C" fn recorder_version() -> u32
+pub fn recorder_version() -> u32
     ensures { result ≡ version }
 {
     20200
 }
 
 // The factor list of a length that comes without one.
-#[unsafe(no_mangle)]
-pub extern "C" fn recorder_factor_list(length: u32, out: &mut [u8]) -> WriteCoded
+pub fn recorder_factor_list(length: u32, out: &mut [u8]) -> WriteCoded
     ensures { (result, out.new) ≡ write_coded (list_step length out.old) }
 {
     crate::answers::filled_coded(factor_lists::factor_list(length, out))
 }
 
 // Opens a job. A refused opening gives a job of zeros, which every call refuses.
-#[unsafe(no_mangle)]
-pub extern "C" fn recorder_open(
+pub fn recorder_open(
     group: u32,
     modulus: u32,
     kind: u32,
@@ -89,40 +86,35 @@ pub extern "C" fn recorder_open(
 }
 
 // Opens a job by a factor file. A refused file gives a job of zeros, which every call refuses.
-#[unsafe(no_mangle)]
-pub extern "C" fn recorder_open_file(file: &[u8], volume: &mut [u32]) -> FileCoded
+pub fn recorder_open_file(file: &[u8], volume: &mut [u32]) -> FileCoded
     ensures { (result, volume.new) ≡ file_coded (file_step file.now volume.old) }
 {
     crate::answers::file_coded(open_file::open_file(file, volume))
 }
 
 // What the header of a factor file names.
-#[unsafe(no_mangle)]
-pub extern "C" fn recorder_file_header(file: &[u8]) -> HeaderCoded
+pub fn recorder_file_header(file: &[u8]) -> HeaderCoded
     ensures { result ≡ header_coded (header_step file.now) }
 {
     crate::answers::header_coded(file_header::file_header(file))
 }
 
 // The fewest records at fault of a factor file.
-#[unsafe(no_mangle)]
-pub extern "C" fn recorder_file_faults(file: &[u8]) -> FaultsCoded
+pub fn recorder_file_faults(file: &[u8]) -> FaultsCoded
     ensures { result ≡ faults_coded (faults_in file.now) }
 {
     crate::answers::faults_coded(faults::file_faults(file))
 }
 
 // How long the factor file of a job that holds factors is.
-#[unsafe(no_mangle)]
-pub extern "C" fn recorder_file_length(held: Job, volume: &[u32]) -> LengthCoded
+pub fn recorder_file_length(held: Job, volume: &[u32]) -> LengthCoded
     ensures { result ≡ length_coded (length_step held volume.now) }
 {
     crate::answers::length_coded(factor_file::writer::file_length(held, volume))
 }
 
 // Writes the factor file of a job that holds factors.
-#[unsafe(no_mangle)]
-pub extern "C" fn recorder_write_file(held: Job, volume: &[u32], out: &mut [u8]) -> WriteCoded
+pub fn recorder_write_file(held: Job, volume: &[u32], out: &mut [u8]) -> WriteCoded
     ensures { (result, out.new)
         ≡ write_coded (write_step held volume.now out.old) }
 {
@@ -130,22 +122,14 @@ pub extern "C" fn recorder_write_file(held: Job, volume: &[u32], out: &mut [u8])
 }
 
 // Records the structure factor a + b i at an index.
-#[unsafe(no_mangle)]
-pub extern "C" fn recorder_record(
-    held: Job,
-    at: Reflection,
-    a: u32,
-    b: u32,
-    volume: &mut [u32],
-) -> JobCoded
+pub fn recorder_record(held: Job, at: Reflection, a: u32, b: u32, volume: &mut [u32]) -> JobCoded
     ensures { (result, volume.new) ≡ record_coded (record_step held at a b volume.old) }
 {
     crate::answers::answered_coded(held.record(at, a, b, volume))
 }
 
 // From factors to the map.
-#[unsafe(no_mangle)]
-pub extern "C" fn recorder_synthesis(held: Job, volume: &mut [u32], scratch: &mut [u32]) -> JobCoded
+pub fn recorder_synthesis(held: Job, volume: &mut [u32], scratch: &mut [u32]) -> JobCoded
     ensures { (result, volume.new, scratch.new)
         ≡ work_coded (synthesis_step held volume.old scratch.old) }
 {
@@ -153,8 +137,7 @@ pub extern "C" fn recorder_synthesis(held: Job, volume: &mut [u32], scratch: &mu
 }
 
 // From the map to its factors.
-#[unsafe(no_mangle)]
-pub extern "C" fn recorder_analysis(held: Job, volume: &mut [u32], scratch: &mut [u32]) -> JobCoded
+pub fn recorder_analysis(held: Job, volume: &mut [u32], scratch: &mut [u32]) -> JobCoded
     ensures { (result, volume.new, scratch.new)
         ≡ work_coded (analysis_step held volume.old scratch.old) }
 {
@@ -162,40 +145,35 @@ pub extern "C" fn recorder_analysis(held: Job, volume: &mut [u32], scratch: &mut
 }
 
 // Reads a point of the map.
-#[unsafe(no_mangle)]
-pub extern "C" fn recorder_point(held: Job, at: GridPoint, volume: &[u32]) -> PointCoded
+pub fn recorder_point(held: Job, at: GridPoint, volume: &[u32]) -> PointCoded
     ensures { result ≡ point_coded (point_step held at volume.now).answer }
 {
     crate::answers::point_coded(held.point(at, volume))
 }
 
 // Reads a structure factor.
-#[unsafe(no_mangle)]
-pub extern "C" fn recorder_factor(held: Job, at: Reflection, volume: &[u32]) -> FactorCoded
+pub fn recorder_factor(held: Job, at: Reflection, volume: &[u32]) -> FactorCoded
     ensures { result ≡ factor_coded (factor_step held at volume.now).answer }
 {
     crate::answers::factor_coded(held.factor(at, volume))
 }
 
 // The power of a map: the sum of its squares over the whole cell, modulo the prime.
-#[unsafe(no_mangle)]
-pub extern "C" fn recorder_map_power(held: Job, volume: &[u32]) -> PowerCoded
+pub fn recorder_map_power(held: Job, volume: &[u32]) -> PowerCoded
     ensures { result ≡ power_coded (map_power_step held volume.now).answer }
 {
     crate::answers::power_coded(held.map_power(volume))
 }
 
 // The power of factors: the sum of F times its conjugate over the whole cell, modulo the prime.
-#[unsafe(no_mangle)]
-pub extern "C" fn recorder_factor_power(held: Job, volume: &[u32]) -> PowerCoded
+pub fn recorder_factor_power(held: Job, volume: &[u32]) -> PowerCoded
     ensures { result ≡ power_coded (factor_power_step held volume.now).answer }
 {
     crate::answers::power_coded(held.factor_power(volume))
 }
 
 // Combines two maps of one cell, one for each prime.
-#[unsafe(no_mangle)]
-pub extern "C" fn recorder_combine(
+pub fn recorder_combine(
     first: Job,
     first_map: &[u32],
     second: Job,
@@ -213,8 +191,7 @@ pub extern "C" fn recorder_combine(
 }
 
 // Reads a point of a combined map.
-#[unsafe(no_mangle)]
-pub extern "C" fn recorder_combined_point(
+pub fn recorder_combined_point(
     group: u32,
     n1: u32,
     n2: u32,
@@ -234,8 +211,7 @@ pub extern "C" fn recorder_combined_point(
 }
 
 // A plane of a combined map as a page of text.
-#[unsafe(no_mangle)]
-pub extern "C" fn recorder_section(
+pub fn recorder_section(
     group: u32,
     n1: u32,
     n2: u32,
@@ -251,8 +227,7 @@ pub extern "C" fn recorder_section(
 }
 
 // The whole cell of a combined map as a file in the format MRC2014.
-#[unsafe(no_mangle)]
-pub extern "C" fn recorder_mrc(
+pub fn recorder_mrc(
     group: u32,
     n1: u32,
     n2: u32,
@@ -271,8 +246,7 @@ pub extern "C" fn recorder_mrc(
 }
 
 // The correlation of two combined maps of P1, at every shift.
-#[unsafe(no_mangle)]
-pub extern "C" fn recorder_correlate(
+pub fn recorder_correlate(
     n1: u32,
     n2: u32,
     n3: u32,
@@ -304,8 +278,7 @@ pub extern "C" fn recorder_correlate(
 }
 
 // Transforms one line.
-#[unsafe(no_mangle)]
-pub extern "C" fn recorder_line(
+pub fn recorder_line(
     modulus: u32,
     kind: u32,
     direction: u32,
@@ -331,8 +304,7 @@ fn line_number(answer: LineAnswer) -> u32
 }
 
 // The least and the greatest score of each window of a run, and the first places of both.
-#[unsafe(no_mangle)]
-pub extern "C" fn recorder_drift(
+pub fn recorder_drift(
     run: &[i64],
     w: u32,
     least: &mut [i64],
@@ -343,14 +315,14 @@ pub extern "C" fn recorder_drift(
     ensures { (
       result,
       record {
-        least = least.exit.now;
+        least = least.new;
         greatest = greatest.new;
         place_of_least = least_at.new;
         place_of_greatest = greatest_at.new;
       },
     )
         ≡ window_coded (window_step run.now w (record {
-          least = least.entry.now;
+          least = least.old;
           greatest = greatest.old;
           place_of_least = least_at.old;
           place_of_greatest = greatest_at.old;
@@ -367,24 +339,21 @@ pub extern "C" fn recorder_drift(
 }
 
 // Eight free lanes, of which none was served.
-#[unsafe(no_mangle)]
-pub extern "C" fn recorder_scheduler_new() -> Scheduler
+pub fn recorder_scheduler_new() -> Scheduler
     ensures { result ≡ new_scheduler }
 {
     Scheduler::new()
 }
 
 // The lane that the next turn serves.
-#[unsafe(no_mangle)]
-pub extern "C" fn recorder_scheduler_next(held: Scheduler) -> NextCoded
+pub fn recorder_scheduler_next(held: Scheduler) -> NextCoded
     ensures { result ≡ next_coded (next_step held) }
 {
     crate::lanes::next_coded(held.next())
 }
 
 // A job enters a lane.
-#[unsafe(no_mangle)]
-pub extern "C" fn recorder_scheduler_enter(
+pub fn recorder_scheduler_enter(
     held: Scheduler,
     lane: u32,
     job: Job,
@@ -398,8 +367,7 @@ pub extern "C" fn recorder_scheduler_enter(
 }
 
 // One line of the lane whose turn is next, in the volume of that lane.
-#[unsafe(no_mangle)]
-pub extern "C" fn recorder_scheduler_turn(
+pub fn recorder_scheduler_turn(
     held: Scheduler,
     volume: &mut [u32],
     scratch: &mut [u32],
@@ -411,8 +379,7 @@ pub extern "C" fn recorder_scheduler_turn(
 }
 
 // A job leaves its lane before it is finished.
-#[unsafe(no_mangle)]
-pub extern "C" fn recorder_scheduler_withdraw(held: Scheduler, lane: u32) -> LaneCoded
+pub fn recorder_scheduler_withdraw(held: Scheduler, lane: u32) -> LaneCoded
     ensures { result ≡ lane_coded (withdraw_step held lane) }
 {
     crate::lanes::lane_coded(held.withdraw(lane))

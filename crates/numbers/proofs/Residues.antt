@@ -1,10 +1,10 @@
 -- Residues modulo any p: what the code does with numbers below p (a sum that is reduced by one subtraction, a difference,
 -- p - a, half of an even number) is the operation of the ring. The last section says what every caller needs at the prime that m chooses.
 use mathlib.Core.Path.{◌≡◌, refl, sym, ◌∙◌, ap}
-use Prim.Native.Nat.{ℕ, zero, suc, ◌+◌, ◌*◌, ◌-◌, ◌%◌, ◌<◌, ◌≤◌}
+use Prim.Native.Nat.{ℕ, zero, suc, ◌+◌, ◌*◌, ◌-◌, ◌<◌, ◌≤◌}
 use native.Mathlib.Nat as N
 use native.Mathlib.Omega.{arith}
-use Rattle.algebra.specs.ring.Ring.{Ops, Res, residue, residues}
+use Rattle.algebra.specs.ring.Ring.{Res, residue, residues}
 use Rattle.algebra.specs.fourier.Axis.{cast}
 use Rattle.algebra.specs.ring.RingLaws.{CRing}
 use Rattle.algebra.proofs.ring.Laws.{along}

@@ -1,7 +1,7 @@
 -- Values a + b i and the pairs that hold them: each stands for the other, the values are a commutative ring with a conjugation,
 -- and what the code does with the two numbers of a pair is the operation of that ring.
 use mathlib.Core.Path.{◌≡◌, refl, ◌∙◌, ap, ap₂}
-use mathlib.Core.List.{List, [], ◌∷◌}
+use mathlib.Core.List.{[], ◌∷◌}
 use Prim.Native.Nat.{ℕ, ◌+◌, ◌*◌, ◌-◌, ◌<◌}
 use Rattle.algebra.specs.ring.Ring.{Ops, residues, gauss, imag}
 use Rattle.algebra.specs.ring.RingLaws.{CRing, Star}

@@ -7,7 +7,7 @@ use Rattle.algebra.specs.ring.Ring.{Ops}
 use Rattle.algebra.specs.ring.RingLaws.{CRing, Star}
 use Rattle.algebra.specs.orbits.Orbit.{Mem, first}
 use Rattle.algebra.specs.fourier.Axis.{Axis, AxisLaws}
-use Rattle.algebra.specs.cells.Cell.{J, Inside, Sym, one, friedel, ◌·◌, Group, P1, P2₁, Pm, Pa, P2₁2₁2₁, ops, full, twice, image_of, point_image, flip, shifted, Cell, at, map_of, factors_of, star, implied_value, implied_density, MapObeys, point_operation}
+use Rattle.algebra.specs.cells.Cell.{J, Inside, Sym, friedel, ◌·◌, Group, P1, P2₁, Pm, Pa, P2₁2₁2₁, ops, full, twice, image_of, point_image, flip, shifted, Cell, at, map_of, factors_of, star, implied_value, implied_density, MapObeys, point_operation}
 use Rattle.algebra.specs.cells.CellSteps.{halves, Obeys, Lawful}
 use Rattle.algebra.proofs.ring.Members.{mem_left, mem_right, mem_append, mem_map}
 use Rattle.algebra.proofs.cells.CellSym as S

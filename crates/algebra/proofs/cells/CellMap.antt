@@ -5,7 +5,7 @@ use Prim.Native.Nat.{ℕ, ◌*◌, ◌<◌}
 use Rattle.algebra.specs.ring.Ring.{Ops, pow, sum, dft}
 use Rattle.algebra.specs.ring.RingLaws.{CRing}
 use Rattle.algebra.specs.fourier.Axis.{Axis, AxisLaws}
-use Rattle.algebra.specs.cells.Cell.{J, Inside, one, Cell, at, map_of, factors_of}
+use Rattle.algebra.specs.cells.Cell.{J, Inside, Cell, at, map_of, factors_of}
 use Rattle.algebra.specs.cells.CellSteps.{halves}
 use Rattle.algebra.proofs.ring.Solver.{ring, quote}
 use Rattle.algebra.proofs.fourier.Sums.{sum_cong, sum_mul_right, sum_swap}

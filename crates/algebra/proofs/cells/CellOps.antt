@@ -6,7 +6,7 @@ use Prim.Native.Nat.{ℕ, ◌*◌, ◌<◌}
 use Rattle.algebra.specs.ring.Ring.{Ops, dft}
 use Rattle.algebra.specs.ring.RingLaws.{CRing, Star}
 use Rattle.algebra.specs.fourier.Axis.{Axis, AxisLaws}
-use Rattle.algebra.specs.cells.Cell.{J, Inside, Sym, sym, one, friedel, image_of, point_image, neg_i, flip, shifted, Cell, at, map_of, sgn, star, implied_value, implied_density, MapObeys}
+use Rattle.algebra.specs.cells.Cell.{J, Inside, Sym, sym, friedel, image_of, point_image, neg_i, flip, shifted, Cell, at, map_of, sgn, star, implied_value, implied_density, MapObeys}
 use Rattle.algebra.specs.cells.CellSteps.{halves, Obeys}
 use Rattle.algebra.proofs.ring.Paths.{triple}
 use Rattle.algebra.proofs.fourier.Transform.{dft_cong, dft_mul}

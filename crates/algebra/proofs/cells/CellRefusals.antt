@@ -4,7 +4,7 @@ use mathlib.Core.Bool.{false}
 use Prim.Native.Nat.{ℕ, ◌*◌, ◌<◌}
 use Rattle.algebra.specs.ring.Ring.{Ops, gauss, conj}
 use Rattle.algebra.specs.ring.RingLaws.{CRing}
-use Rattle.algebra.specs.cells.Cell.{J, one, Pa, neg_i, Cell}
+use Rattle.algebra.specs.cells.Cell.{J, Pa, neg_i, Cell}
 use Rattle.algebra.specs.cells.CellSteps.{Lawful}
 use Rattle.algebra.specs.cells.CellPack.{even}
 use Rattle.algebra.proofs.ring.GaussRing.{gauss_ring, gauss_star}

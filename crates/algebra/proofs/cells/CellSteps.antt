@@ -5,7 +5,7 @@ use Prim.Native.Nat.{ℕ, ◌*◌, ◌<◌}
 use Rattle.algebra.specs.ring.Ring.{Ops}
 use Rattle.algebra.specs.ring.RingLaws.{CRing, Star}
 use Rattle.algebra.specs.fourier.Axis.{Axis, AxisLaws}
-use Rattle.algebra.specs.cells.Cell.{J, Sym, one, friedel, image_of, neg_i, flip, Cell, map_of, factors_of, sgn, star, implied_value, implied_density, MapObeys}
+use Rattle.algebra.specs.cells.Cell.{J, Sym, friedel, image_of, neg_i, flip, Cell, map_of, factors_of, sgn, star, implied_value, implied_density, MapObeys}
 use Rattle.algebra.specs.cells.CellSteps.{halves, Obeys, after_l, after_h, after_k, back_k, back_h, back_l}
 use Rattle.algebra.proofs.ring.Solver.{ring, quote}
 use Rattle.algebra.proofs.fourier.Transform.{dft_cong, dft_mul, inversion_after}

@@ -10,8 +10,8 @@ use Rattle.algebra.specs.ring.Ring.{Ops}
 use Rattle.algebra.specs.ring.RingLaws.{CRing, Star}
 use Rattle.algebra.specs.orbits.Orbit.{Perm, Acts, record_all}
 use Rattle.algebra.specs.orbits.OrbitLaws.{AgreesWithItself, Obeying, Accepted, cell_of, Consistent}
-use Rattle.algebra.specs.cells.Cell.{J, Inside, Sym, Group, P1, P2₁, Pm, Pa, P2₁2₁2₁, ops, full, image_of, point_image, same_j, span, planes, point_operation, Cell, implied_value, factor_acts, below, every_place, stored_t, stored_point_t, agrees_t}
-use Rattle.algebra.specs.cells.CellSteps.{map_acts, Lawful}
+use Rattle.algebra.specs.cells.Cell.{J, Inside, Sym, Group, P1, P2₁, Pm, Pa, P2₁2₁2₁, ops, full, image_of, point_image, same_j, span, planes, point_operation, implied_value, factor_acts, below, every_place, stored_t, stored_point_t, agrees_t}
+use Rattle.algebra.specs.cells.CellSteps.{map_acts}
 use Rattle.algebra.specs.cells.CellPlaces.{Stored, factor_operation, StoredPoint}
 use Rattle.algebra.specs.cells.StoredTests.{consistent_factors_t, consistent_map_t}
 use Rattle.algebra.proofs.ring.Bool.{and_l, and_r, and_i, imply_iff, every_at, every_by, below_at, below_by}

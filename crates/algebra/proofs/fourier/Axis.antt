@@ -1,7 +1,6 @@
 -- What a lawful axis says of its other root, and of 1/N.
 use mathlib.Core.Path.{◌≡◌, sym, ◌∙◌, ap}
 use Prim.Native.Nat.{ℕ, ◌*◌}
-use native.Mathlib.Nat as N
 use Rattle.algebra.specs.ring.Ring.{Ops, pow}
 use Rattle.algebra.specs.ring.RingLaws.{CRing, Star}
 use Rattle.algebra.specs.fourier.Axis.{AxisLaws, Axis}

@@ -11,10 +11,10 @@ use Rattle.algebra.specs.fourier.Axis.{cast, Root}
 use Rattle.algebra.specs.ring.RingLaws.{CRing, Star}
 use Rattle.algebra.specs.lines.Kinds.{Reflected, sign}
 use Rattle.algebra.specs.lines.Packings.{Symmetric, Antisymmetric, Hermitian, AntiHermitian, Alternating}
-use Rattle.algebra.proofs.ring.Laws.{along, add_neg, mul_zero, mul_left_comm, right_distrib, neg_mul, neg_one_mul, neg_one_square, neg_neg, neg_zero, zero_mul, pow_add, mul_neg, mul_one}
+use Rattle.algebra.proofs.ring.Laws.{along, mul_zero, mul_left_comm, right_distrib, neg_mul, neg_one_mul, neg_one_square, neg_neg, neg_zero, zero_mul, pow_add, mul_one}
 use Rattle.algebra.proofs.ring.Solver.{ring, quote, linear}
 use Rattle.algebra.proofs.fourier.Sums.{sum_cong, sum_add, sum_mul, sum_mul_right, sum_append, sum_swap, sum_even_odd, sum_shift_mod, sum_neg_mod, sum_all_zero, sum_single}
-use Rattle.algebra.proofs.fourier.Transform.{pow_zero, pow_mul, pow_cycle, pow_mod, pow_unit, pow_across, dft_cong, dft_add, dft_mul, dft_period, inversion, root_inverse, inverse_cycle, inversion_after}
+use Rattle.algebra.proofs.fourier.Transform.{pow_zero, pow_mul, pow_cycle, pow_mod, pow_unit, pow_across, dft_cong, dft_mul, dft_period, inversion, root_inverse, inversion_after}
 use Rattle.algebra.proofs.ring.Conj.{conj_dft, conj_pow, conj_sign, conj_of_inverse, conj_cast}
 
 module _ {R : Type 0} {𝓞 : Ops R} (𝓡 : CRing 𝓞) where

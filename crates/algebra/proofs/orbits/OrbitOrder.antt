@@ -1,7 +1,7 @@
 -- Records in another order. A zero changes nothing, so what accepted records leave is what those of them leave that are not zero; these are of different orbits, and their order is free.
 use mathlib.Core.Path.{◌≡◌, refl, sym as inv, ◌∙◌, ap, subst}
 use mathlib.Core.Logic.{◌≢◌, ◌↔◌}
-use mathlib.Core.Bool.{Bool, not, cond}
+use mathlib.Core.Bool.{Bool, cond}
 use mathlib.Core.List.{List, [], ◌∷◌}
 use lib.Dec.{T, T_not}
 use Rattle.algebra.specs.orbits.Orbit.{Mem, first, later, Perm, p_nil, p_skip, p_swap, p_trans, Acts, recorded, record_all}

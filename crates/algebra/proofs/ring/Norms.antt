@@ -2,7 +2,7 @@
 use mathlib.Core.Path.{◌≡◌, refl, ◌∙◌, ap}
 use mathlib.Core.Bool.{Bool, true, false}
 use mathlib.Core.List.{[], ◌∷◌}
-use Prim.Native.Nat.{ℕ, zero, suc, ◌+◌}
+use Prim.Native.Nat.{ℕ, zero, suc}
 use Rattle.algebra.specs.ring.Ring.{Ops, pow, sum, gauss, conj, imag}
 use Rattle.algebra.specs.ring.RingLaws.{CRing}
 use Rattle.algebra.specs.cells.CellPack.{of_part}

@@ -1,7 +1,6 @@
 -- Minus i times.
 use borrow.Author.Rules.{rules}
 use mathlib.Core.Path.{sym, ◌∙◌, ap}
-use Rattle.algebra.specs.ring.Ring.{Ops}
 use Rattle.algebra.proofs.ring.Laws.{neg_mul}
 use Rattle.numbers.specs.Value.{field, i, value_of, pair_of}
 use Rattle.numbers.proofs.Values.{small_by, value_by, field_ring}

@@ -1,7 +1,5 @@
 -- The four products of the halves, added with what is carried.
 use borrow.Author.Rules.{rules}
-use native.Mathlib.Omega.{arith}
-use mathlib.Core.Path.{◌∙◌}
 use Rattle.numbers.proofs.Quotients.{high_part}
 use Rattle.numbers.proofs.division.high.Statement.{statement}
 use Rattle.numbers.proofs.division.high.Tie as tie

@@ -29,8 +29,8 @@ unfoldable pub place_of : UnitCell → FileRecord → ℕ
 place_of c r = orbit_place (cell_group c) (cell_halves c) (index_in r)
 
 -- the same of record i of a file, and whether its index lies in the cell
-abbrev pub field_own : (modulus : ℕ) → UnitCell → List ℕ → ℕ → ℕ
-field_own m c file i = own_number m c (record_at file (record_place file i))
+abbrev pub own_at : (modulus : ℕ) → UnitCell → List ℕ → ℕ → ℕ
+own_at m c file i = own_number m c (record_at file (record_place file i))
 
 abbrev pub within_at : UnitCell → List ℕ → ℕ → Bool
 within_at c file i = within (cell_lengths c) (index_in (record_at file (record_place file i)))
@@ -41,7 +41,7 @@ place_at c file i = place_of c (record_at file (record_place file i))
 -- the records before r are refused by none of their own numbers
 pub record SoundTo (m : ℕ) (c : UnitCell) (file : List ℕ) (r : ℕ) : Type 0 where
   pub some : r ≤ record_count file
-  pub each : (i : ℕ) → i < r → 0 ≡ field_own m c file i
+  pub each : (i : ℕ) → i < r → 0 ≡ own_at m c file i
 
 -- their indices lie in the cell, so that their orbits have places
 pub record WithinTo (c : UnitCell) (file : List ℕ) (r : ℕ) : Type 0 where
@@ -51,7 +51,7 @@ pub record WithinTo (c : UnitCell) (file : List ℕ) (r : ℕ) : Type 0 where
 -- r is the first that its own numbers refuse, or there is none
 pub record FirstUnsound (m : ℕ) (c : UnitCell) (file : List ℕ) (r : ℕ) : Type 0 where
   pub sound : SoundTo m c file r
-  pub stops : r < record_count file → field_own m c file r ≡ 0 → ⊥
+  pub stops : r < record_count file → own_at m c file r ≡ 0 → ⊥
 
 -- Of the records before r, none whose orbit has its place from low to below high is of the orbit of an earlier one.
 pub record Apart (c : UnitCell) (file : List ℕ) (low high r : ℕ) : Type 0 where

@@ -6,39 +6,30 @@ use borrow.Author.Rules.{rules}
 use Rattle.faults.proofs.file_faults.Statement.{statement}
 use Rattle.faults.proofs.file_faults.Tie as tie
 
-places-of-requires : tie.Need-places-of-requires
-places-of-requires c κs = search rules
+places_of-places-requires : tie.Need-places_of-places-requires
+places_of-places-requires c κs = search rules
 
-check-shape-requires : tie.Need-check-shape-requires
-check-shape-requires c κs = search rules
+check_shape-checked-requires : tie.Need-check_shape-checked-requires
+check_shape-checked-requires c κs = search rules
 
-enum_told : tie.Need-enum-told
-enum_told c = search rules
+enum_told-1 : tie.Need-enum_told-1
+enum_told-1 c = search rules
 
-returns : tie.Need-returns
-returns c =
-    let k = c.before.before in
-    shape_faults k.before.before.before.args.file.now c.enum_told.given.0.0 (ap checked_number (sym c.enum_told.given.1) ∙ k.check-shape.ensures)
+returns-in-Failed : tie.Need-returns-in-Failed
+returns-in-Failed c =
+    shape_faults c.args.file.now c.in-Failed.field-0 (ap checked_number (sym c.in-Failed.is) ∙ c.check_shape-checked.ensures)
 
-enum-told-2 : tie.Need-enum-told-2
-enum-told-2 c = search rules
+enum_told-in-Sound : tie.Need-enum_told-in-Sound
+enum_told-in-Sound c = search rules
 
-sound-faults-requires : tie.Need-sound-faults-requires
-sound-faults-requires c κs =
-    let k = c.before.before in
-    (k.before.places_of.ensures, ap checked_number (sym c.enum-told2.given.1) ∙ k.check-shape.ensures)
+sound_faults-requires : tie.Need-sound_faults-requires
+sound_faults-requires c κs =
+    (c.places_of-places.ensures, ap checked_number (sym c.in-Sound.is) ∙ c.check_shape-checked.ensures)
 
-returns-2 : tie.Need-returns-2
-returns-2 c = search rules
+returns-in-Sound : tie.Need-returns-in-Sound
+returns-in-Sound c = search rules
 
 pub file_faults_spec : {M : Type 1} → statement M
 file_faults_spec =
     tie.close
-    (tie.spec
-    places-of-requires
-    check-shape-requires
-    enum_told
-    returns
-    enum-told-2
-    sound-faults-requires
-    returns-2)
+    (tie.spec places_of-places-requires check_shape-checked-requires enum_told-1 returns-in-Failed enum_told-in-Sound sound_faults-requires returns-in-Sound)

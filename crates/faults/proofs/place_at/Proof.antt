@@ -13,17 +13,17 @@ use Rattle.faults.proofs.place_at.Lts as lts
 use Rattle.faults.proofs.index_at.Reads as index-at-reads
 use Rattle.volume.proofs.orbit_place.orbit_place.Reads as orbit-place-reads
 
-index-at-requires : tie.Need-index-at-requires
-index-at-requires c κs = search rules
+index_at-j-requires : tie.Need-index_at-j-requires
+index_at-j-requires c κs = search rules
 
-orbit-place-requires : tie.Need-orbit-place-requires
-orbit-place-requires c κs = let s = c.before.before in (s.requires.0, record_within s.args.cell (record_at s.args.file.now s.args.at) c.index_at.result c.index_at.ensures s.requires.2)
+orbit_place-requires : tie.Need-orbit_place-requires
+orbit_place-requires c κs = let s = c.before.before in (s.requires.0, record_within s.args.cell (record_at s.args.file.now s.args.at) c.index_at-j.result c.index_at-j.ensures s.requires.2)
 
 returns : tie.Need-returns
 unfolding place_of
 returns c =
     let a = c.before.before.before.args in
-    (c.orbit-place.ensures.0 ∙ ap (orbit_place (cell_group a.cell) (cell_halves a.cell)) c.before.index_at.ensures, c.orbit-place.ensures.1)
+    (c.orbit_place.ensures.0 ∙ ap (orbit_place (cell_group a.cell) (cell_halves a.cell)) c.before.index_at-j.ensures, c.orbit_place.ensures.1)
 
 pub place_at_spec : {M : Type 1} → statement M
-place_at_spec = tie.close (tie.spec index-at-requires orbit-place-requires returns)
+place_at_spec = tie.close (tie.spec index_at-j-requires orbit_place-requires returns)

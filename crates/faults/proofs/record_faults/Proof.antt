@@ -8,50 +8,34 @@ use borrow.Author.Rules.{rules}
 use Rattle.faults.proofs.record_faults.Statement.{statement}
 use Rattle.faults.proofs.record_faults.Tie as tie
 
-first-unsound-requires : tie.Need-first-unsound-requires
-first-unsound-requires c κs = search rules
+first_unsound-own-requires : tie.Need-first_unsound-own-requires
+first_unsound-own-requires c κs = search rules
 
-first-repeated-requires : tie.Need-first-repeated-requires
-first-repeated-requires c κs = let s = c.before.before.requires in (s.1, sound_within c.first-unsound.ensures.sound, s.3)
+first_repeated-again-requires : tie.Need-first_repeated-again-requires
+first_repeated-again-requires c κs = let s = c.requires in (s.1, sound_within c.first_unsound-own.ensures.sound, s.3)
 
-first-of-orbit-requires : tie.Need-first-of-orbit-requires
-first-of-orbit-requires c κs =
-    let u = c.before.before in
-    (u.before.before.requires.1, within_fewer (sound_within u.first-unsound.ensures.sound) (omega arith))
+first_of_orbit-requires : tie.Need-first_of_orbit-requires
+first_of_orbit-requires c κs =
+    (c.requires.1, within_fewer (sound_within c.first_unsound-own.ensures.sound) (omega arith))
+
+returns-then-again-own : tie.Need-returns-then-again-own
+returns-then-again-own c =
+    let sound = c.first_unsound-own.ensures.sound in
+    let stops = c.first_repeated-again.ensures.1 in
+    let again = c.first_repeated-again.result in
+    faults_two c.args.modulus c.args.cell c.args.file.now c.requires.1.sizes again (sound_fewer _ _ _ sound stops.some) c.first_repeated-again.ensures.0 (omega (arith, sound.some)) (sound.each again c.if-again-own.true) (stops.repeats c.if-again-own.true) c.first_of_orbit.result c.first_of_orbit.ensures
+
+returns-then-own-count : tie.Need-returns-then-own-count
+returns-then-own-count c =
+    let l : c.first_unsound-own.result < record_count c.args.file.now = omega (arith, c.if-own-count.true, c.requires.2) in
+    faults_one c.args.modulus c.args.cell c.args.file.now c.requires.1.sizes c.first_unsound-own.result c.first_unsound-own.ensures.sound (apart_fewer c.first_repeated-again.ensures.0 (omega (arith, c.if-again-own.false))) l (c.first_unsound-own.ensures.stops l)
 
 returns : tie.Need-returns
 returns c =
-    let r = c.before.before in
-    let u = r.before in
-    let s = u.before.before in
-    let sound = u.first-unsound.ensures.sound in
-    let stops = r.first-repeated.ensures.1 in
-    let again = r.first-repeated.result in
-    faults_two s.args.modulus s.args.cell s.args.file.now s.requires.1.sizes again (sound_fewer _ _ _ sound stops.some) r.first-repeated.ensures.0 (omega (arith, sound.some)) (sound.each again c.before.if1.true) (stops.repeats c.before.if1.true) c.first-of-orbit.result c.first-of-orbit.ensures
-
-returns-2 : tie.Need-returns-2
-returns-2 c =
-    let r = c.before.before in
-    let u = r.before in
-    let s = u.before.before in
-    let l : u.first-unsound.result < record_count s.args.file.now = omega (arith, c.if2.true, s.requires.2) in
-    faults_one s.args.modulus s.args.cell s.args.file.now s.requires.1.sizes u.first-unsound.result u.first-unsound.ensures.sound (apart_fewer r.first-repeated.ensures.0 (omega (arith, c.before.if1.false))) l (u.first-unsound.ensures.stops l)
-
-returns-3 : tie.Need-returns-3
-returns-3 c =
-    let r = c.before.before in
-    let u = r.before in
-    let s = u.before.before in
-    let sound = u.first-unsound.ensures.sound in
-    faults_none s.args.modulus s.args.cell s.args.file.now s.requires.1.sizes u.first-unsound.result sound (apart_fewer r.first-repeated.ensures.0 (omega (arith, c.before.if1.false))) (omega (arith, sound.some, c.if2.false, s.requires.2))
+    let sound = c.first_unsound-own.ensures.sound in
+    faults_none c.args.modulus c.args.cell c.args.file.now c.requires.1.sizes c.first_unsound-own.result sound (apart_fewer c.first_repeated-again.ensures.0 (omega (arith, c.if-again-own.false))) (omega (arith, sound.some, c.if-own-count.false, c.requires.2))
 
 pub record_faults_spec : {M : Type 1} → statement M
 record_faults_spec =
     tie.close
-    (tie.spec
-    first-unsound-requires
-    first-repeated-requires
-    first-of-orbit-requires
-    returns
-    returns-2
-    returns-3)
+    (tie.spec first_unsound-own-requires first_repeated-again-requires first_of_orbit-requires returns-then-again-own returns-then-own-count returns)

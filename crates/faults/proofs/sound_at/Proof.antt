@@ -20,41 +20,35 @@ use Rattle.file_format.proofs.reader.standing_record.Reads as standing-record-re
 use Rattle.job.proofs.check.record.check_own.Reads as check-own-reads
 
 -- the number of the check
-own : (c : tie.After-check-own) → let a = c.before.before.before.args in checked_number c.check-own.result ≡ own_number a.modulus a.cell (record_at a.file.now a.at)
+own : (c : tie.After-check_own-checked) → let a = c.args in checked_number c.check_own-checked.result ≡ own_number a.modulus a.cell (record_at a.file.now a.at)
 unfolding own_number
 own c =
-    let a = c.before.before.before.args in
-    c.check-own.ensures ∙ ap (λ (r : FileRecord). first (own_tests a.modulus a.cell.group (cell_lengths a.cell) (index_in r) r.a r.b)) c.before.standing-record.ensures
+    let a = c.args in
+    c.check_own-checked.ensures ∙ ap (λ (r : FileRecord). first (own_tests a.modulus a.cell.group (cell_lengths a.cell) (index_in r) r.a r.b)) c.standing_record-c.ensures
 
-standing-record-requires : tie.Need-standing-record-requires
-standing-record-requires c κs = search rules
+standing_record-c-requires : tie.Need-standing_record-c-requires
+standing_record-c-requires c κs = search rules
 
-check-own-requires : tie.Need-check-own-requires
-check-own-requires c κs = search rules
+check_own-checked-requires : tie.Need-check_own-checked-requires
+check_own-checked-requires c κs = search rules
 
-enum_told : tie.Need-enum-told
-enum_told c = search rules
+enum_told-1 : tie.Need-enum_told-1
+enum_told-1 c = search rules
 
-returns : tie.Need-returns
-returns c =
-    let n = ap checked_number (sym c.enum_told.given.1) ∙ own c.before.before in
-    (λ e. let z : ◌≡◌ {A = ℕ} 0 1 = cc in absurd (omega arith), λ e z. not_zero c.enum_told.given.0.0 (n ∙ z))
+returns-in-Failed : tie.Need-returns-in-Failed
+returns-in-Failed c =
+    let n = ap checked_number (sym c.in-Failed.is) ∙ own c.before in
+    (λ e. let z : ◌≡◌ {A = ℕ} 0 1 = cc in absurd (omega arith), λ e z. not_zero c.in-Failed.field-0 (n ∙ z))
 
-enum-told-2 : tie.Need-enum-told-2
-enum-told-2 c = search rules
+enum_told-in-Sound : tie.Need-enum_told-in-Sound
+enum_told-in-Sound c = search rules
 
-returns-2 : tie.Need-returns-2
-returns-2 c =
-    let n = ap checked_number (sym c.enum-told2.given.1) ∙ own c.before.before in
+returns-in-Sound : tie.Need-returns-in-Sound
+returns-in-Sound c =
+    let n = ap checked_number (sym c.in-Sound.is) ∙ own c.before in
     (λ e. n, λ e. let z : ◌≡◌ {A = ℕ} 0 1 = cc in absurd (omega arith))
 
 pub sound_at_spec : {M : Type 1} → statement M
 sound_at_spec =
     tie.close
-    (tie.spec
-    standing-record-requires
-    check-own-requires
-    enum_told
-    returns
-    enum-told-2
-    returns-2)
+    (tie.spec standing_record-c-requires check_own-checked-requires enum_told-1 returns-in-Failed enum_told-in-Sound returns-in-Sound)

@@ -17,64 +17,52 @@ use Rattle.faults.proofs.sound_faults.Statement.{statement}
 use Rattle.faults.proofs.sound_faults.Tie as tie
 
 -- no test of the header holds
-passes : (c : tie.After-enum-told2) → 0 ≡ (let file = c.before.before.before.before.args.file.now in first (header_tests (modulus_in file) (header_in file)))
-passes c = ap checked_number (sym c.enum-told2.given.1) ∙ c.before.before.check-header.ensures
+passes : (c : tie.In_default) → 0 ≡ (let file = c.args.file.now in first (header_tests (modulus_in file) (header_in file)))
+passes c = ap checked_number (sym c.in_default.is) ∙ c.check_header-checked.ensures
 
-check-header-requires : tie.Need-check-header-requires
-check-header-requires c κs = search rules
+check_header-checked-requires : tie.Need-check_header-checked-requires
+check_header-checked-requires c κs = search rules
 
-enum_told : tie.Need-enum-told
-enum_told c = search rules
+enum_told-1 : tie.Need-enum_told-1
+enum_told-1 c = search rules
 
-returns : tie.Need-returns
-returns c =
-    let k = c.before.before in
-    header_faults k.before.before.args.file.now k.before.before.requires.1 c.enum_told.given.0.0 (ap checked_number (sym c.enum_told.given.1) ∙ k.check-header.ensures)
+returns-in-Failed : tie.Need-returns-in-Failed
+returns-in-Failed c =
+    header_faults c.args.file.now c.requires.1 c.in-Failed.field-0 (ap checked_number (sym c.in-Failed.is) ∙ c.check_header-checked.ensures)
 
-enum-told-2 : tie.Need-enum-told-2
-enum-told-2 c = search rules
+enum_told-in_default : tie.Need-enum_told-in_default
+enum_told-in_default c = search rules
 
-first-record-requires : tie.Need-first-record-requires
-first-record-requires c κs = search rules
+first_record-start-requires : tie.Need-first_record-start-requires
+first_record-start-requires c κs = search rules
 
-header-numbers-requires : tie.Need-header-numbers-requires
-header-numbers-requires c κs = search rules
+header_numbers-header-requires : tie.Need-header_numbers-header-requires
+header_numbers-header-requires c κs = search rules
 
-four-bytes-requires : tie.Need-four-bytes-requires
-four-bytes-requires c κs = let s = c.before.before.before.before.before.before in (ordered s.args.file.now s.args.places s.requires.0 s.requires.1).inside
+four_bytes-count-requires : tie.Need-four_bytes-count-requires
+four_bytes-count-requires c κs = (ordered c.args.file.now c.args.places c.requires.0 c.requires.1).inside
 
-record-faults-requires : tie.Need-record-faults-requires
-record-faults-requires c κs =
+record_faults-requires : tie.Need-record_faults-requires
+record_faults-requires c κs =
     let n = c.before in
-    let t = n.before.before in
-    let s = t.before.before.before.before in
-    let file = s.args.file.now in
-    let h = n.header_numbers.ensures in
+    let t = n.before.before.before in
+    let file = t.args.file.now in
+    let h = n.header_numbers-header.ensures in
     let head = header_sound (modulus_in file) (header_in file) (passes t) in
     let sound = subst (λ (c : UnitCell). Sizes c × (volume_length (cell_group c) (cell_halves c) ≤ 16777216)) (cell_of_lem h) (head.sizes, head.near) in (
       subst IsModulus (sym h.modulus) head.modulus,
-      record { sizes = sound.0; begins = n.before.first-record.ensures ∙ ap (λ q. q + 4) s.requires.0.count; filled = filled_by_lem file s.requires.1 },
-      c.four_bytes.ensures ∙ ap (four_bytes file) s.requires.0.count,
+      record { sizes = sound.0; begins = n.first_record-start.ensures ∙ ap (λ q. q + 4) t.requires.0.count; filled = filled_by_lem file t.requires.1 },
+      c.four_bytes-count.ensures ∙ ap (four_bytes file) t.requires.0.count,
       sound.1,
     )
 
-returns-2 : tie.Need-returns-2
-returns-2 c =
+returns : tie.Need-returns
+returns c =
     let n = c.before.before in
-    let t = n.before.before in
-    let s = t.before.before.before.before in
-    records_fault s.args.file.now s.requires.1 (passes t) n.header_numbers.ensures c.record-faults.ensures
+    let t = n.before.before.before in
+    records_fault t.args.file.now t.requires.1 (passes t) n.header_numbers-header.ensures c.record_faults.ensures
 
 pub sound_faults_spec : {M : Type 1} → statement M
 sound_faults_spec =
     tie.close
-    (tie.spec
-    check-header-requires
-    enum_told
-    returns
-    enum-told-2
-    first-record-requires
-    header-numbers-requires
-    four-bytes-requires
-    record-faults-requires
-    returns-2)
+    (tie.spec check_header-checked-requires enum_told-1 returns-in-Failed enum_told-in_default first_record-start-requires header_numbers-header-requires four_bytes-count-requires record_faults-requires returns)

@@ -36,41 +36,34 @@ module _ (N : ℕ) (output : List ℕ) where
     unfolding list_step
     listed h p = wrote_filled p h ∙ ap (told (chosen_list N) output) (pass 3 _ (not_t _ e) (pass 18 _ (le-ltb (length output) (length (chosen_list N)) h) none))
 
-sound : (c : tie.Else1) → admitted c.before.before.before.args.length ≡ true
-sound c = by_true _ _ c.before.admitted.ensures c.if1.false
+sound : (c : tie.Else-not-admitted) → admitted c.before.before.before.args.length ≡ true
+sound c = by_true _ _ c.before.admitted.ensures c.if-not-admitted.false
 
 admitted-requires : tie.Need-admitted-requires
 admitted-requires c κs = search rules
 
+returns-then-not-admitted : tie.Need-returns-then-not-admitted
+returns-then-not-admitted c = not_admitted _ _ (by_false _ _ c.before.admitted.ensures c.if-not-admitted.true)
+
+count_factors-requires : tie.Need-count_factors-requires
+count_factors-requires c κs = chosen_product _ (sound c)
+
+returns-then-out-count_factors : tie.Need-returns-then-out-count_factors
+returns-then-out-count_factors c = no_room _ _ (sound c.before.before) (omega (arith, c.before.count_factors.ensures, c.if-out-count_factors.true))
+
+put_factors-requires : tie.Need-put_factors-requires
+put_factors-requires c κs = chosen_product _ (sound c.before.before.before)
+
+shape_of-out : tie.Need-shape_of-out
+shape_of-out c = search rules
+
 returns : tie.Need-returns
-returns c = not_admitted _ _ (by_false _ _ c.before.admitted.ensures c.if1.true)
-
-count-factors-requires : tie.Need-count-factors-requires
-count-factors-requires c κs = chosen_product _ (sound c)
-
-returns-2 : tie.Need-returns-2
-returns-2 c = no_room _ _ (sound c.before.before) (omega (arith, c.before.count-factors.ensures, c.if2.true))
-
-put-factors-requires : tie.Need-put-factors-requires
-put-factors-requires c κs = chosen_product _ (sound c.before.before.before)
-
-same_length : tie.Need-same-length
-same_length c = search rules
-
-returns-3 : tie.Need-returns-3
-returns-3 c =
+returns c =
     let p = c.before.before in
     let t = p.before.before in
-    listed _ _ (sound t.before.before) (omega (arith, t.before.count-factors.ensures, t.if2.false)) p.put-factors.ensures
+    listed _ _ (sound t.before.before) (omega (arith, t.before.count_factors.ensures, t.if-out-count_factors.false)) p.put_factors.ensures
 
 pub factor_list_spec : {M : Type 1} → statement M
 factor_list_spec =
     tie.close
-    (tie.spec
-    admitted-requires
-    returns
-    count-factors-requires
-    returns-2
-    put-factors-requires
-    same_length
-    returns-3)
+    (tie.spec admitted-requires returns-then-not-admitted count_factors-requires returns-then-out-count_factors put_factors-requires shape_of-out returns)

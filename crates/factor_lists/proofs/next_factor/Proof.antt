@@ -24,17 +24,17 @@ module _ (n : ℕ) where
   unfolding next_factor
   two u v w = rw (ne_eqb (n % 4) 0 u, ne_eqb (n % 5) 0 v, ne_eqb (n % 3) 0 w)
 
-returns : tie.Need-returns
-returns c = (four _ c.if1.true, omega arith, omega arith)
+returns-then-n-eq0 : tie.Need-returns-then-n-eq0
+returns-then-n-eq0 c = (four _ c.if-n-eq0.true, omega arith, omega arith)
 
-returns-2 : tie.Need-returns-2
-returns-2 c = (five _ c.before.if1.false c.if2.true, omega arith, omega arith)
+returns-then-n-eq0-2 : tie.Need-returns-then-n-eq0-2
+returns-then-n-eq0-2 c = (five _ c.before.if-n-eq0.false c.if-n-eq0-2.true, omega arith, omega arith)
 
-returns-3 : tie.Need-returns-3
-returns-3 c = (three _ c.before.before.if1.false c.before.if2.false c.if3.true, omega arith, omega arith)
+returns-then-n-eq0-3 : tie.Need-returns-then-n-eq0-3
+returns-then-n-eq0-3 c = (three _ c.before.before.if-n-eq0.false c.before.if-n-eq0-2.false c.if-n-eq0-3.true, omega arith, omega arith)
 
-returns-4 : tie.Need-returns-4
-returns-4 c = (two _ c.before.before.if1.false c.before.if2.false c.if3.false, omega arith, omega arith)
+returns-else-n-eq0-3 : tie.Need-returns-else-n-eq0-3
+returns-else-n-eq0-3 c = (two _ c.before.before.if-n-eq0.false c.before.if-n-eq0-2.false c.if-n-eq0-3.false, omega arith, omega arith)
 
 pub next_factor_spec : {M : Type 1} → statement M
-next_factor_spec = tie.close (tie.spec returns returns-2 returns-3 returns-4)
+next_factor_spec = tie.close (tie.spec returns-then-n-eq0 returns-then-n-eq0-2 returns-then-n-eq0-3 returns-else-n-eq0-3)

@@ -7,57 +7,46 @@ use Rattle.factor_lists.proofs.Choosing.{Choosing, choosing_start, choosing_ends
 use Rattle.factor_lists.proofs.put_factors.Statement.{statement}
 use Rattle.factor_lists.proofs.put_factors.Tie as tie
 
-abbrev invariant-loop : tie.invariant-loop
-invariant-loop n out₀ at₀ rest₀ out at rest = Choosing n out₀ rest at out
+abbrev invariant-loop-rest : tie.invariant-loop-rest
+invariant-loop-rest n out₀ at₀ rest₀ out at rest = Choosing n out₀ rest at out
 
-abbrev decreases-loop : tie.decreases-loop
-decreases-loop n out₀ at₀ rest₀ out at rest = rest
+abbrev decreases-loop-rest : tie.decreases-loop-rest
+decreases-loop-rest n out₀ at₀ rest₀ out at rest = rest
 
-loop-holds : tie.Need-loop-init invariant-loop decreases-loop
-loop-holds c = choosing_start _ _ c.before.requires
+loop-rest-init : tie.Need-loop-rest-init invariant-loop-rest decreases-loop-rest
+loop-rest-init c = choosing_start _ _ c.before.requires
 
-next-factor-requires : tie.Need-next-factor-requires invariant-loop decreases-loop
-next-factor-requires c κs = search rules
+next_factor-factor-requires : tie.Need-next_factor-factor-requires invariant-loop-rest decreases-loop-rest
+next_factor-factor-requires c κs = search rules
 
-cast-put-byte : tie.Need-overflow-cast-put-byte invariant-loop decreases-loop
-cast-put-byte c = omega (arith, c.before.next_factor_lem.ensures.2)
+overflow_cast-factor : tie.Need-overflow_cast-factor invariant-loop-rest decreases-loop-rest
+overflow_cast-factor c = omega (arith, c.before.next_factor-factor.ensures.2)
 
-put-byte-requires : tie.Need-put-byte-requires invariant-loop decreases-loop
-put-byte-requires c κs = choosing_ends c.before.before.before.loop.invariant _
+put_byte-at-requires : tie.Need-put_byte-at-requires invariant-loop-rest decreases-loop-rest
+put_byte-at-requires c κs = choosing_ends c.before.before.before.loop-rest.invariant _
 
-div-rest : tie.Need-nonzero-div-rest invariant-loop decreases-loop
-div-rest c = omega (arith, c.before.before.before.before.next_factor_lem.ensures.1)
+nonzero_div-rest : tie.Need-nonzero_div-rest invariant-loop-rest decreases-loop-rest
+nonzero_div-rest c = omega (arith, c.before.before.before.before.next_factor-factor.ensures.1)
 
-loop-less : tie.Need-loop-smaller invariant-loop decreases-loop
-loop-less c =
+loop-rest-smaller : tie.Need-loop-rest-smaller invariant-loop-rest decreases-loop-rest
+loop-rest-smaller c =
     let f = c.before.before.before.before in
-    div-lt_self (omega (arith, f.before.loop-test.true)) (omega (arith, f.next_factor_lem.ensures.1))
+    div-lt_self (omega (arith, f.before.loop-rest-test.true)) (omega (arith, f.next_factor-factor.ensures.1))
 
-loop-again : tie.Need-loop-preserved invariant-loop decreases-loop
-loop-again c =
+loop-rest-preserved : tie.Need-loop-rest-preserved invariant-loop-rest decreases-loop-rest
+loop-rest-preserved c =
     let p = c.before.before in
     let f = p.before.before in
-    let e = f.next_factor_lem.ensures in
-    choosing_next f.before.before.loop.invariant f.before.loop-test.true e.0 e.1 p.put_byte.ensures
+    let e = f.next_factor-factor.ensures in
+    choosing_next f.before.before.loop-rest.invariant f.before.loop-rest-test.true e.0 e.1 p.put_byte-at.ensures
 
-same_length : tie.Need-same-length invariant-loop decreases-loop
-same_length c = wrote_length c.before.loop.invariant.wrote
+shape_of-out : tie.Need-shape_of-out invariant-loop-rest decreases-loop-rest
+shape_of-out c = wrote_length c.before.loop-rest.invariant.wrote
 
-returns : tie.Need-returns invariant-loop decreases-loop
-returns c = choosing_done c.before.loop.invariant c.loop-test.false
+returns : tie.Need-returns invariant-loop-rest decreases-loop-rest
+returns c = choosing_done c.before.loop-rest.invariant c.loop-rest-test.false
 
 pub put_factors_spec : {M : Type 1} → statement M
 put_factors_spec =
     tie.close
-    (tie.spec
-    invariant-loop
-    decreases-loop
-    loop-holds
-    next-factor-requires
-    cast-put-byte
-    put-byte-requires
-    div-rest
-    loop-less
-    loop-again
-    same_length
-    returns)
+    (tie.spec invariant-loop-rest decreases-loop-rest loop-rest-init next_factor-factor-requires overflow_cast-factor put_byte-at-requires nonzero_div-rest loop-rest-smaller loop-rest-preserved shape_of-out returns)

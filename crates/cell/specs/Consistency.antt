@@ -1,6 +1,7 @@
 -- Records, and the tests behind refusals 12, 14 and 24. A record at j implies a value at each image of j under the
 -- group with Friedel's rule (`full g`); an image is written where it is stored.
-use Rattle.algebra.specs.Prelude.{Bool, ◌&&◌, ◌||◌, cond, eqb, ltb, ℕ, ◌+◌, ◌*◌, List, [], ◌∷◌, ◌++◌, get_or, set}
+use Rattle.std.specs.Prelude.{◌&&◌, ◌||◌, ◌+◌, ◌*◌, ◌∷◌, ◌++◌}
+use Rattle.algebra.specs.Prelude.{Bool, cond, eqb, ltb, ℕ, List, [], get_or, set}
 use Rattle.algebra.specs.ring.Ring.{Res}
 use Rattle.algebra.specs.lines.Kinds.{Kind, Kind.plain, Kind.hermitian, Kind.antihermitian, Kind.alternating}
 use Rattle.algebra.specs.lines.Kinds.{Kind.symmetric, Kind.antisymmetric}

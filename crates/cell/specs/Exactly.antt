@@ -1,5 +1,6 @@
 -- What refusal 14 decides, in the paper's words.
-use Rattle.algebra.specs.Prelude.{◌≡◌, ◌↔◌, true, ℕ, ◌≤◌, List, length}
+use Rattle.std.specs.Prelude.{◌≡◌, ◌↔◌, ◌≤◌}
+use Rattle.algebra.specs.Prelude.{true, ℕ, List, length}
 use Rattle.algebra.specs.cells.Cell.{J, Inside, Sym, Group, Cell, ops, MapObeys}
 use Rattle.algebra.specs.cells.Cell as Cell
 use Rattle.algebra.specs.cells.CellSteps.{Lawful}

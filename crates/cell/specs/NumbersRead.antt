@@ -1,6 +1,7 @@
 -- The numbers that a factor is read from. Refusal 7 of a reading asks that they be residues, refusal 24 of a record
 -- that those of each image be zero.
-use Rattle.algebra.specs.Prelude.{◌≡◌, ℕ, ◌<◌, ◌≤◌, List, get_or}
+use Rattle.std.specs.Prelude.{◌≡◌, ◌<◌, ◌≤◌}
+use Rattle.algebra.specs.Prelude.{ℕ, List, get_or}
 use Rattle.algebra.specs.cells.Cell.{J, Inside, Group, at}
 use Rattle.algebra.specs.orbits.Orbit.{Mem}
 use Rattle.numbers.specs.Value.{prime}

@@ -1,6 +1,7 @@
 -- The place of an orbit in a volume: the least of the places that its stored images have. Each orbit has one, and no
 -- two orbits have the same.
-use Rattle.algebra.specs.Prelude.{◌≡◌, ◌↔◌, true, ◌&&◌, cond, eqb, ltb, ℕ, ◌+◌, ◌*◌, ◌<◌, ◌≤◌, List, [], ◌∷◌}
+use Rattle.std.specs.Prelude.{◌≡◌, ◌↔◌, ◌&&◌, ◌+◌, ◌*◌, ◌<◌, ◌≤◌, ◌∷◌}
+use Rattle.algebra.specs.Prelude.{true, cond, eqb, ltb, ℕ, List, []}
 use Rattle.algebra.specs.lines.Kinds.{Kind, Kind.plain, Kind.hermitian, Kind.antihermitian, Kind.alternating}
 use Rattle.algebra.specs.lines.Kinds.{Kind.symmetric, Kind.antisymmetric}
 use Rattle.algebra.specs.cells.Cell.{J, Inside, Sym, Group, full, image_of, same_orbit, stored_t}

@@ -1,8 +1,9 @@
 -- The volume as a list of numbers: the packed factors (the paper's box) and the map with its zeros, and the cells that
 -- both stand for. An axis is known by its half: a = (N1/2, B, A) with N2 = 2 B and N3 = 2 A. A volume has W * N1 * (B +
 -- 1) pairs.
-use Rattle.algebra.specs.Prelude.{Bool, ◌&&◌, ◌||◌, cond, eqb, leb, ltb, ℕ, suc, ◌+◌, ◌*◌, ◌-◌}
-use Rattle.algebra.specs.Prelude.{◌/◌, ◌%◌, min, List, [], ◌∷◌, get_or}
+use Rattle.std.specs.Prelude.{◌&&◌, ◌||◌, ◌+◌, ◌*◌, ◌-◌, ◌/◌, ◌%◌, ◌∷◌}
+use Rattle.algebra.specs.Prelude.{Bool, cond, eqb, leb, ltb, ℕ, suc}
+use Rattle.algebra.specs.Prelude.{min, List, [], get_or}
 use Rattle.algebra.specs.lines.Kinds.{Kind, Kind.plain, Kind.hermitian, Kind.antihermitian, Kind.alternating}
 use Rattle.algebra.specs.lines.Kinds.{Kind.symmetric, Kind.antisymmetric, slots, unfold_before, pack_before}
 use Rattle.algebra.specs.cells.Cell.{J, Group, P1, P2₁, Pm, Pa, P2₁2₁2₁, Cell, point_image, neg_i, planes}

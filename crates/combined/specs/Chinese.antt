@@ -1,6 +1,7 @@
 -- The Chinese remainder theorem for the two primes 86,399 and 302,399: the whole number next to zero with two given
 -- residues.
-use Rattle.algebra.specs.Prelude.{◌≡◌, ℕ, ◌+◌, ◌*◌, ◌-◌, ◌%◌, ◌<◌, ◌≤◌, List, length, get_or, replicate}
+use Rattle.std.specs.Prelude.{◌≡◌, ◌+◌, ◌*◌, ◌-◌, ◌%◌, ◌<◌, ◌≤◌}
+use Rattle.algebra.specs.Prelude.{ℕ, List, length, get_or, replicate}
 use Rattle.signed.specs.Integers.{ℤ, pos, nat_abs, residue_z, centred}
 use Rattle.slices.specs.Filling.{stores}
 

@@ -1,7 +1,8 @@
 -- A combined map, which is the paper's joined map: a cell of signed whole numbers in the layout of a map. For each
 -- stored plane z and each x, both rising, it has the N2 numbers by y, then two zeros, which no call reads.
-use Rattle.algebra.specs.Prelude.{◌≡◌, ◌↔◌, not, cond, eqb, leb, ltb, ℕ, ◌+◌, ◌*◌, ◌/◌, ◌%◌, ◌<◌, List, []}
-use Rattle.algebra.specs.Prelude.{◌∷◌, length, get_or}
+use Rattle.std.specs.Prelude.{◌≡◌, ◌↔◌, ◌+◌, ◌*◌, ◌/◌, ◌%◌, ◌<◌, ◌∷◌}
+use Rattle.algebra.specs.Prelude.{not, cond, eqb, leb, ltb, ℕ, List, []}
+use Rattle.algebra.specs.Prelude.{length, get_or}
 use Rattle.algebra.specs.orbits.Orbit.{Mem}
 use Rattle.algebra.specs.cells.Cell.{J, Inside, Sym, Group, Cell, ops, point_image}
 use Rattle.algebra.specs.cells.Cell as Cell

@@ -1,5 +1,6 @@
 -- The number of a point of a combined map, as a call reads it.
-use Rattle.algebra.specs.Prelude.{◌≡◌, Bool, ◌&&◌, not, ltb, ℕ, List, [], ◌∷◌, ◌++◌, length}
+use Rattle.std.specs.Prelude.{◌≡◌, ◌&&◌, ◌∷◌, ◌++◌}
+use Rattle.algebra.specs.Prelude.{Bool, not, ltb, ℕ, List, [], length}
 use Rattle.algebra.specs.cells.Cell.{J, Cell}
 use Rattle.algebra.specs.cells.Cell as Cell
 use Rattle.signed.specs.Integers.{ℤ}

@@ -1,6 +1,7 @@
 -- The combined map of two jobs of one cell, which is the paper's joined map: the tests of the call in the paper's
 -- order, and what it answers and leaves.
-use Rattle.algebra.specs.Prelude.{Bool, ◌&&◌, not, eqb, ℕ, List, [], ◌∷◌, length}
+use Rattle.std.specs.Prelude.{◌&&◌, ◌∷◌}
+use Rattle.algebra.specs.Prelude.{Bool, not, eqb, ℕ, List, [], length}
 use Rattle.algebra.specs.cells.Cell.{J}
 use Rattle.numbers.specs.Value.{prime}
 use Rattle.signed.specs.Integers.{ℤ}

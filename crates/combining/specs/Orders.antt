@@ -1,5 +1,6 @@
 -- The refusals of the call stand in the papers' order; and what 27 and 14 say.
-use Rattle.algebra.specs.Prelude.{◌≡◌, ℕ, List}
+use Rattle.std.specs.Prelude.{◌≡◌}
+use Rattle.algebra.specs.Prelude.{ℕ, List}
 use Rattle.signed.specs.Integers.{ℤ}
 use Rattle.refusals.specs.Orders.{Ordered, RefusedUnless, of_combining}
 use Rattle.cell.specs.Exactly.{MapConsistent}

@@ -1,5 +1,6 @@
 -- What an accepted call leaves, at every point of the cell and in the words of both jobs' readings.
-use Rattle.algebra.specs.Prelude.{◌≡◌, true, ℕ, ◌≤◌, List, length, get_or}
+use Rattle.std.specs.Prelude.{◌≡◌, ◌≤◌}
+use Rattle.algebra.specs.Prelude.{true, ℕ, List, length, get_or}
 use Rattle.algebra.specs.orbits.Orbit.{Mem}
 use Rattle.algebra.specs.cells.Cell.{J, Inside, Sym, Cell, ops, point_image}
 use Rattle.algebra.specs.cells.Cell as Cell

@@ -1,11 +1,12 @@
 -- The correlation of two combined maps of one cell in P1, which is the paper's overlay of two joined maps: at each
 -- shift the sum over all points of their products, as whole numbers; the tests of the call in the paper's order, and
 -- what it answers and leaves.
-use Rattle.algebra.specs.Prelude.{Bool, ◌&&◌, ◌||◌, not, cond, eqb, ltb, ℕ, zero, suc, ◌+◌, ◌*◌, ◌%◌, List, []}
-use Rattle.algebra.specs.Prelude.{◌∷◌, ◌++◌, length, replicate}
+use Rattle.std.specs.Prelude.{◌&&◌, ◌||◌, ◌+◌, ◌*◌, ◌%◌, ◌∷◌, ◌++◌, ◌*ℤ◌}
+use Rattle.algebra.specs.Prelude.{Bool, not, cond, eqb, ltb, ℕ, zero, suc, List, []}
+use Rattle.algebra.specs.Prelude.{length, replicate}
 use Rattle.algebra.specs.ring.Ring.{sum}
 use Rattle.algebra.specs.cells.Cell.{J, P1}
-use Rattle.signed.specs.Integers.{ℤ, nat_abs, ◌*ℤ◌}
+use Rattle.signed.specs.Integers.{ℤ, nat_abs}
 use Rattle.signed.specs.IntegerRing.{integers}
 use Rattle.refusals.specs.Refusals.{first, Test, ◌⇒◌, accepted}
 use Rattle.lengths.specs.Lengths.{scratch_length, cleared}

@@ -1,9 +1,9 @@
 -- What may be relied on of accepted calls: how the correlation moves with one count, and what it is of a map with
 -- itself at no shift.
-use Rattle.std.specs.Prelude.{◌⊎◌}
-use Rattle.algebra.specs.Prelude.{◌≡◌, ℕ, ◌+◌, ◌*◌, ◌<◌, ◌≤◌, List, length}
+use Rattle.std.specs.Prelude.{◌⊎◌, ◌≡◌, ◌+◌, ◌*◌, ◌<◌, ◌≤◌, ◌+ℤ◌, ◌*ℤ◌}
+use Rattle.algebra.specs.Prelude.{ℕ, List, length}
 use Rattle.algebra.specs.cells.Cell.{J, Inside, P1}
-use Rattle.signed.specs.Integers.{ℤ, nat_abs, ◌+ℤ◌, ◌*ℤ◌}
+use Rattle.signed.specs.Integers.{ℤ, nat_abs}
 use Rattle.header.specs.Header.{Header, half_lengths}
 use Rattle.combined.specs.CombinedMap.{count_of, SamePoints}
 use Rattle.output.specs.Output.{Filled.written}

@@ -1,5 +1,6 @@
 -- The refusals of the call stand in the papers' order; and what 28 says.
-use Rattle.algebra.specs.Prelude.{◌≡◌, ℕ, ◌*◌, ◌≤◌, List}
+use Rattle.std.specs.Prelude.{◌≡◌, ◌*◌, ◌≤◌}
+use Rattle.algebra.specs.Prelude.{ℕ, List}
 use Rattle.algebra.specs.cells.Cell.{J, Inside, P1}
 use Rattle.signed.specs.Integers.{ℤ, pos, nat_abs}
 use Rattle.refusals.specs.Orders.{Ordered, RefusedUnless, of_correlation}

@@ -1,6 +1,7 @@
 -- The steps of the call: the residues of a map's points, the products of two volumes of factors, the magnitudes place
 -- by place.
-use Rattle.algebra.specs.Prelude.{Bool, ◌||◌, cond, ltb, ℕ, suc, ◌+◌, ◌*◌, ◌%◌, List, length, get_or}
+use Rattle.std.specs.Prelude.{◌||◌, ◌+◌, ◌*◌, ◌%◌}
+use Rattle.algebra.specs.Prelude.{Bool, cond, ltb, ℕ, suc, List, length, get_or}
 use Rattle.algebra.specs.ring.Ring.{Ops}
 use Rattle.algebra.specs.cells.Cell.{J, P1, Cell}
 use Rattle.numbers.specs.declared.Pair.{Pair}

@@ -2,9 +2,9 @@
 -- says of the same list. The third demand: over every list of calls from an accepted opening or file on, every answer,
 -- the job and the volume are the model's; and what follows from it. Each statement is the promise of the function of
 -- the same name in src/lib.rt.
-use Rattle.algebra.specs.Prelude.{◌≡◌, ◌↔◌, true, eqb, ℕ, suc, ◌+◌, ◌/◌, ◌%◌, ◌≤◌, List, [], ◌∷◌, ◌++◌, map}
+use Rattle.algebra.specs.Prelude.{true, eqb, ℕ, suc, List, [], map}
 use Rattle.algebra.specs.Prelude.{length, take, replicate}
-use Rattle.std.specs.Prelude.{◌⊎◌}
+use Rattle.std.specs.Prelude.{◌⊎◌, ◌≡◌, ◌↔◌, ◌+◌, ◌/◌, ◌%◌, ◌≤◌, ◌∷◌, ◌++◌}
 use Rattle.algebra.specs.cells.Cell.{J, Sym, ops, full, image_of, point_image, at, factor_acts}
 use Rattle.algebra.specs.orbits.Orbit.{Mem, Perm, record_all}
 use Rattle.numbers.specs.Value.{Value, field, conj, value}

@@ -1,7 +1,8 @@
 -- Power kept, of the model's own two numbers: after any list of calls the sum of the squares of its map over the whole
 -- cell, and that of F × conj F, are real, and the first is N1 × N2 × N3 times the second modulo the prime. That the
 -- two calls answer these numbers is part of EveryList.
-use Rattle.algebra.specs.Prelude.{◌≡◌, ℕ, ◌*◌, ◌%◌, List}
+use Rattle.std.specs.Prelude.{◌≡◌, ◌*◌, ◌%◌}
+use Rattle.algebra.specs.Prelude.{ℕ, List}
 use Rattle.algebra.specs.ring.Ring.{Ops}
 use Rattle.numbers.specs.Value.{prime, Value, field, conj}
 use Rattle.power.specs.Power.{over_cell}

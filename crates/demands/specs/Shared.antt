@@ -1,6 +1,7 @@
 -- A synthesis that shares a scheduler with others: its entering and its turns stand in a job's list of calls as one
 -- synthesis.
-use Rattle.algebra.specs.Prelude.{◌≡◌, ℕ, List, [], ◌∷◌, map}
+use Rattle.std.specs.Prelude.{◌≡◌, ◌∷◌}
+use Rattle.algebra.specs.Prelude.{ℕ, List, [], map}
 use Rattle.job.specs.declared.Job.{Job}
 use Rattle.job.specs.Job.{Call, synthesis, Outcome, done, step}
 use Rattle.model.specs.Model.{Model}

@@ -1,5 +1,6 @@
 -- The unit cell of a viewer's file by the numbers that a program in C hands in: three angles, or gamma alone.
-use Rattle.algebra.specs.Prelude.{◌≡◌, cond, eqb, ℕ, List, length}
+use Rattle.std.specs.Prelude.{◌≡◌}
+use Rattle.algebra.specs.Prelude.{cond, eqb, ℕ, List, length}
 use Rattle.signed.specs.Integers.{ℤ, pos}
 use Rattle.refusals.specs.Refusals.{first}
 use Rattle.cell.specs.declared.operations.UnitCell.{UnitCell}

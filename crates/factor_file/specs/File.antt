@@ -1,7 +1,8 @@
 -- A factor file read, and written: what opening a job by it answers and leaves; the records of a volume, the file of a
 -- job, and what writing it answers and leaves. Its layout, its bytes and the tests of its shape are those of
 -- file_format's Format.
-use Rattle.algebra.specs.Prelude.{ℕ, List, [], ◌∷◌, ◌++◌, length, map, replicate, Bool, not, eqb, ltb}
+use Rattle.std.specs.Prelude.{◌∷◌, ◌++◌}
+use Rattle.algebra.specs.Prelude.{ℕ, List, [], length, map, replicate, Bool, not, eqb, ltb}
 use Rattle.job.specs.declared.Job.{Job}
 use Rattle.job.specs.declared.Reflection.{Reflection}
 use Rattle.job.specs.Job.{half_lengths, opened, not_opened, OpenOutcome, index, own_tests, open_step, header_of, group_in}

@@ -1,6 +1,7 @@
 -- The header of a file, read by itself: what it names, or the refusal that opening the file gives before any record and
 -- whatever volume is lent.
-use Rattle.algebra.specs.Prelude.{◌≡◌, ℕ, List, [], ◌∷◌, ◌++◌, not, leb, length, replicate}
+use Rattle.std.specs.Prelude.{◌≡◌, ◌∷◌, ◌++◌}
+use Rattle.algebra.specs.Prelude.{ℕ, List, [], not, leb, length, replicate}
 use Rattle.lengths.specs.Lengths.{octal}
 use Rattle.refusals.specs.Refusals.{first, accepted, Test, ◌⇒◌}
 use Rattle.refusals.specs.Orders.{numbers_of}

@@ -1,5 +1,6 @@
 -- The marks by which the records of a file are judged: numbers of a volume, each at the place of an orbit.
-use Rattle.algebra.specs.Prelude.{◌≡◌, ℕ, List, length, replicate, get_or}
+use Rattle.std.specs.Prelude.{◌≡◌}
+use Rattle.algebra.specs.Prelude.{ℕ, List, length, replicate, get_or}
 use Rattle.algebra.specs.cells.Cell.{J, Inside, Group}
 use Rattle.algebra.specs.orbits.Orbit.{Mem}
 use Rattle.cell.specs.declared.operations.UnitCell.{UnitCell}

@@ -1,7 +1,8 @@
 -- What refusal 18 of the writer says: the output is shorter than the file. So a caller who is refused so and lends as
 -- many places as the file has bytes is not refused so again. And what the call that measures the file says of the
 -- writer: the places that it names are enough, fewer are not, and where it is refused the writer is refused alike.
-use Rattle.algebra.specs.Prelude.{◌≡◌, ℕ, ◌<◌, ◌≤◌, List, length}
+use Rattle.std.specs.Prelude.{◌≡◌, ◌<◌, ◌≤◌}
+use Rattle.algebra.specs.Prelude.{ℕ, List, length}
 use Rattle.job.specs.declared.Job.{Job}
 use Rattle.output.specs.Output.{not_written, filled, not_filled}
 use Rattle.factor_file.specs.File.{job_file, write_step, bytes, not_sized, length_step}

@@ -1,6 +1,7 @@
 -- The factor list of a length that comes without one, and the call that gives it.
-use Rattle.algebra.specs.Prelude.{◌≡◌, true, not, cond, eqb, leb, ltb, ℕ, zero, suc, ◌/◌, ◌%◌, ◌≤◌, List, []}
-use Rattle.algebra.specs.Prelude.{◌∷◌, length}
+use Rattle.std.specs.Prelude.{◌≡◌, ◌/◌, ◌%◌, ◌≤◌, ◌∷◌}
+use Rattle.algebra.specs.Prelude.{true, not, cond, eqb, leb, ltb, ℕ, zero, suc, List, []}
+use Rattle.algebra.specs.Prelude.{length}
 use Rattle.lengths.specs.Lengths.{product, admitted, factors_ok}
 use Rattle.refusals.specs.Refusals.{Test, ◌⇒◌, first, accepted}
 use Rattle.refusals.specs.Orders.{numbers_of}

@@ -1,7 +1,8 @@
 -- The records at fault of a factor file: of a file that is refused at a record, the places of the fewest records, the
 -- refused one last among them, that alone are refused with the same number. It is judged by the file alone: no volume
 -- is lent, so 6 does not arise.
-use Rattle.algebra.specs.Prelude.{not, ℕ, suc, List, [], ◌∷◌, get_or, map, cond, eqb, leb}
+use Rattle.std.specs.Prelude.{◌∷◌}
+use Rattle.algebra.specs.Prelude.{not, ℕ, suc, List, [], get_or, map, cond, eqb, leb}
 use Rattle.algebra.specs.cells.Cell.{J, Group, same_orbit}
 use Rattle.refusals.specs.Refusals.{Test, ◌⇒◌, first, accepted}
 use Rattle.numbers.specs.Value.{is_modulus}

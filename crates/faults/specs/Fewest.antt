@@ -1,6 +1,7 @@
 -- The records at fault are the fewest: alone they are refused as the file is, no shorter choice that ends in the
 -- refused record is, and no other of their length.
-use Rattle.algebra.specs.Prelude.{◌≡◌, ℕ, suc, ◌-◌, ◌≤◌, List, [], ◌∷◌, length, get_or, map}
+use Rattle.std.specs.Prelude.{◌≡◌, ◌-◌, ◌≤◌, ◌∷◌}
+use Rattle.algebra.specs.Prelude.{ℕ, suc, List, [], length, get_or, map}
 use Rattle.refusals.specs.Refusals.{first}
 use Rattle.file_format.specs.declared.FileRecord.{FileRecord}
 use Rattle.factor_file.specs.File.{Judgement, judged, refused_at, records_in, modulus_in, header_in, shape_tests}

@@ -1,6 +1,7 @@
 -- The same of the opening: the file of the chosen records under the same header, its counts apart, opened on any volume
 -- of the length that the header asks for.
-use Rattle.algebra.specs.Prelude.{◌≡◌, ℕ, ◌-◌, ◌<◌, ◌≤◌, List, length}
+use Rattle.std.specs.Prelude.{◌≡◌, ◌-◌, ◌<◌, ◌≤◌}
+use Rattle.algebra.specs.Prelude.{ℕ, List, length}
 use Rattle.refusals.specs.Refusals.{first}
 use Rattle.header.specs.Header.{needed}
 use Rattle.job.specs.declared.Job.{Job}

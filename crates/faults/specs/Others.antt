@@ -1,7 +1,8 @@
 -- The files without a record at fault, in the words of the opening: those refused for their shape, those whose header
 -- opens no job, those that are accepted. With FewestAreOpened, which speaks of all others, a file has records at fault
 -- exactly if it is refused at a record.
-use Rattle.algebra.specs.Prelude.{◌≡◌, ℕ, List, [], length}
+use Rattle.std.specs.Prelude.{◌≡◌}
+use Rattle.algebra.specs.Prelude.{ℕ, List, [], length}
 use Rattle.refusals.specs.Refusals.{first}
 use Rattle.header.specs.Header.{needed}
 use Rattle.job.specs.declared.Job.{Job}

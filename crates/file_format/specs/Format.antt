@@ -2,8 +2,9 @@
 -- the modulus (1), N1, N2, N3 (2 each), three factor lists (a count byte, then a byte each), record count (4), records
 -- of 14 bytes: h, k, l (2 each), a, b (4 each). Version 1 means the first prime. Numbers are big-endian; a place beyond
 -- the file reads as 0.
-use Rattle.algebra.specs.Prelude.{Bool, ◌||◌, not, cond, eqb, ltb, ℕ, zero, suc, ◌+◌, ◌*◌, ◌-◌, List, [], ◌∷◌}
-use Rattle.algebra.specs.Prelude.{◌++◌, length, get_or, take, drop}
+use Rattle.std.specs.Prelude.{◌||◌, ◌+◌, ◌*◌, ◌-◌, ◌∷◌, ◌++◌}
+use Rattle.algebra.specs.Prelude.{Bool, not, cond, eqb, ltb, ℕ, zero, suc, List, []}
+use Rattle.algebra.specs.Prelude.{length, get_or, take, drop}
 use Rattle.file_format.specs.declared.FileRecord.{FileRecord}
 use Rattle.refusals.specs.Refusals.{Test, ◌⇒◌}
 use Rattle.header.specs.Header.{Header}

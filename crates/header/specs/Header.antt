@@ -1,5 +1,6 @@
 -- What an opening names besides the volume, its tests, and the states of a job as numbers.
-use Rattle.algebra.specs.Prelude.{Bool, ◌&&◌, not, eqb, ltb, ℕ, ◌/◌, List, [], ◌∷◌}
+use Rattle.std.specs.Prelude.{◌&&◌, ◌/◌, ◌∷◌}
+use Rattle.algebra.specs.Prelude.{Bool, not, eqb, ltb, ℕ, List, []}
 use Rattle.algebra.specs.cells.Cell.{J}
 use Rattle.lengths.specs.Lengths.{product, admitted, factors_ok}
 use Rattle.refusals.specs.Refusals.{Test, ◌⇒◌}

@@ -3,8 +3,8 @@
 pub use Rattle.header.specs.Header.{Header, half_lengths, volume_limit, needed, axis_tests, collecting, factors_held}
 pub use Rattle.header.specs.Header.{map_held}
 pub use Rattle.header.specs.Cells.{cell_header}
-use Rattle.algebra.specs.Prelude.{Bool, ◌&&◌, cond, eqb, ltb, ℕ, List, length, get_or, replicate, not, leb, [], ◌∷◌}
-use Rattle.algebra.specs.Prelude.{◌++◌}
+use Rattle.std.specs.Prelude.{◌&&◌, ◌∷◌, ◌++◌}
+use Rattle.algebra.specs.Prelude.{Bool, cond, eqb, ltb, ℕ, List, length, get_or, replicate, not, leb, []}
 use Rattle.algebra.specs.cells.Cell.{J, Group, at, every}
 use Rattle.lengths.specs.Lengths.{octal, octal_digits, cleared, scratch_length}
 use Rattle.refusals.specs.Refusals.{first, Test, accepted, ◌⇒◌}

@@ -1,6 +1,6 @@
 -- The refusals of an opening and of every call of a job stand in the papers' order; and what 26 says.
-use Rattle.algebra.specs.Prelude.{◌≡◌, ◌↔◌, ℕ, List}
-use Rattle.std.specs.Prelude.{◌⊎◌}
+use Rattle.algebra.specs.Prelude.{ℕ, List}
+use Rattle.std.specs.Prelude.{◌⊎◌, ◌≡◌, ◌↔◌}
 use Rattle.algebra.specs.cells.Cell.{J}
 use Rattle.refusals.specs.Orders.{Ordered, RefusedUnless, of_opening, of_record, of_synthesis, of_analysis, of_point}
 use Rattle.refusals.specs.Orders.{of_factor, of_map_power, of_factor_power, of_turn}

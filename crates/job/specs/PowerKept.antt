@@ -1,6 +1,7 @@
 -- Power kept: over the whole cell, the sum of the squares of the map is N1 N2 N3 times the sum of F × conj F, modulo
 -- the prime. So two calls tell a whole entry by one number.
-use Rattle.algebra.specs.Prelude.{◌≡◌, ℕ, ◌*◌, ◌%◌, List}
+use Rattle.std.specs.Prelude.{◌≡◌, ◌*◌, ◌%◌}
+use Rattle.algebra.specs.Prelude.{ℕ, List}
 use Rattle.numbers.specs.Value.{prime}
 use Rattle.job.specs.declared.Job.{Job}
 use Rattle.job.specs.Job.{done, power, synthesis_step, analysis_step, map_power_step, factor_power_step}

@@ -6,7 +6,8 @@
 -- numbers. What becomes of a line is the direct sum of its kind over the whole line; an odd h's line of P2₁2₁2₁
 -- is stored times i, and along l it is divided by i. AxisSums of volume_transform says what all turns along l leave,
 -- and all along l and h.
-use Rattle.algebra.specs.Prelude.{◌≡◌, true, not, ltb, ℕ, zero, suc, ◌+◌, ◌*◌, ◌/◌, ◌≤◌, List, [], ◌∷◌, length}
+use Rattle.std.specs.Prelude.{◌≡◌, ◌+◌, ◌*◌, ◌/◌, ◌≤◌, ◌∷◌}
+use Rattle.algebra.specs.Prelude.{true, not, ltb, ℕ, zero, suc, List, [], length}
 use Rattle.refusals.specs.Refusals.{first, Test, accepted, ◌⇒◌}
 use Rattle.numbers.specs.Value.{prime}
 use Rattle.slices.specs.Pairs.{all_below}

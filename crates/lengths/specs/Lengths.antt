@@ -1,6 +1,7 @@
 -- Factor lists: the factors of a length, 2 to 5 each, packed as octal digits with the first factor lowest.
-use Rattle.algebra.specs.Prelude.{Bool, true, ◌&&◌, cond, eqb, leb, ltb, ℕ, zero, suc, ◌+◌, ◌*◌, ◌/◌, ◌%◌, List, []}
-use Rattle.algebra.specs.Prelude.{◌∷◌, ◌++◌, get_or, drop, replicate}
+use Rattle.std.specs.Prelude.{◌&&◌, ◌+◌, ◌*◌, ◌/◌, ◌%◌, ◌∷◌, ◌++◌}
+use Rattle.algebra.specs.Prelude.{Bool, true, cond, eqb, leb, ltb, ℕ, zero, suc, List, []}
+use Rattle.algebra.specs.Prelude.{get_or, drop, replicate}
 use Rattle.algebra.specs.lines.Kinds.{Kind, plain, hermitian, antihermitian, alternating, symmetric, antisymmetric}
 use Rattle.algebra.specs.lines.Kinds.{slots}
 

@@ -2,7 +2,8 @@
 -- other.
 --
 -- `transform` packs the sums; here the packed result is unfolded again, so that nothing is lost in the packing.
-use Rattle.algebra.specs.Prelude.{◌≡◌, true, ℕ, ◌*◌, ◌-◌, ◌/◌, ◌<◌, List, length}
+use Rattle.std.specs.Prelude.{◌≡◌, ◌*◌, ◌-◌, ◌/◌, ◌<◌}
+use Rattle.algebra.specs.Prelude.{true, ℕ, List, length}
 use Rattle.algebra.specs.ring.Ring.{Ops, pow, sum}
 use Rattle.algebra.specs.lines.Kinds.{unfold_before, unfold_after, pack_before, pack_after, RuleBefore, RuleAfter}
 use Rattle.numbers.specs.Value.{prime, IsModulus, Value, field, conj, part, real, on_values}

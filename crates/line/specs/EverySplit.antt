@@ -1,7 +1,8 @@
 -- Every split that an accepted factor list makes: a line is transformed by the steps of a list, one after the other,
 -- and each step gives the three parts of equation (3) of document 001, as Equation3.antt of `butterflies` has them. The
 -- first step reads the line itself, and after the last stands the direct sum.
-use Rattle.algebra.specs.Prelude.{◌≡◌, true, ℕ, zero, suc, ◌*◌, ◌/◌, ◌≤◌, ◌<◌, List, ◌++◌, length, take, drop}
+use Rattle.std.specs.Prelude.{◌≡◌, ◌*◌, ◌/◌, ◌≤◌, ◌<◌, ◌++◌}
+use Rattle.algebra.specs.Prelude.{true, ℕ, zero, suc, List, length, take, drop}
 use Rattle.numbers.specs.Value.{prime, IsModulus, Value, field}
 use Rattle.slices.specs.Pairs.{Below, values_of, list_of}
 use Rattle.lengths.specs.Lengths.{product, admitted, factors_ok, doubled_list}

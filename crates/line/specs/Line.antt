@@ -2,7 +2,8 @@
 -- what the call refuses, and what it answers and leaves for every input. `unfold_before` and `unfold_after` of algebra's
 -- Kinds are the whole line of what is packed before and after the transform, `forward` and `inverse` the sums, packed
 -- again.
-use Rattle.algebra.specs.Prelude.{not, eqb, leb, ltb, ℕ, ◌*◌, ◌/◌, List, [], ◌∷◌, length, zero, suc}
+use Rattle.std.specs.Prelude.{◌*◌, ◌/◌, ◌∷◌}
+use Rattle.algebra.specs.Prelude.{not, eqb, leb, ltb, ℕ, List, [], length, zero, suc}
 use Rattle.slices.specs.Pairs.{all_below, values_of, list_of}
 use Rattle.lengths.specs.Lengths.{product, admitted, factors_ok, scratch_length, pair_count, cleared, kind_of}
 use Rattle.refusals.specs.Refusals.{Test, ◌⇒◌, first, accepted}

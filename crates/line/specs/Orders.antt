@@ -1,6 +1,6 @@
 -- The refusals of a line stand in the papers' order; and what 26, the first of all for a line, says.
-use Rattle.algebra.specs.Prelude.{◌≡◌, ◌↔◌, ℕ, List}
-use Rattle.std.specs.Prelude.{◌⊎◌}
+use Rattle.algebra.specs.Prelude.{ℕ, List}
+use Rattle.std.specs.Prelude.{◌⊎◌, ◌≡◌, ◌↔◌}
 use Rattle.refusals.specs.Orders.{Ordered, of_line}
 use Rattle.line.specs.Line.{line_tests, line_step}
 

@@ -1,7 +1,8 @@
 -- The reference model (the paper's book): a state, and F for every (h, k, l) of the whole cell. It is fed the calls'
 -- arguments without job and volume, save a volume opened as a map, and knows no packing: its refusals follow from
 -- arguments and state alone.
-use Rattle.algebra.specs.Prelude.{◌&&◌, not, cond, eqb, leb, ltb, ℕ, List, [], ◌∷◌, length}
+use Rattle.std.specs.Prelude.{◌&&◌, ◌∷◌}
+use Rattle.algebra.specs.Prelude.{not, cond, eqb, leb, ltb, ℕ, List, [], length}
 use Rattle.algebra.specs.cells.Cell.{J, Group, Cell, at}
 use Rattle.numbers.specs.Value.{prime, is_modulus, Value, value, field, conj}
 use Rattle.signed.specs.Integers.{ℤ, centred}

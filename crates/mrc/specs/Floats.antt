@@ -1,5 +1,6 @@
 -- Whole numbers as 32-bit floats. The floats are the logic's own, which are those of IEEE 754.
-use Rattle.algebra.specs.Prelude.{◌≡◌, ℕ, zero, suc, ◌+◌, ◌*◌, ◌≤◌, List, [], ◌∷◌}
+use Rattle.std.specs.Prelude.{◌≡◌, ◌+◌, ◌*◌, ◌≤◌, ◌∷◌}
+use Rattle.algebra.specs.Prelude.{ℕ, zero, suc, List, []}
 use Rattle.signed.specs.Integers.{ℤ, pos, nat_abs}
 use Rattle.std.specs.Int.Signed.{lt_z}
 use Rattle.output.specs.Output.{little_endian}

@@ -1,8 +1,8 @@
 -- The header of an MRC2014 file: the record of numbers and floats, and the words of its bytes.
-use Rattle.algebra.specs.Prelude.{◌≡◌, true, not, ℕ, ◌≤◌, List, [], ◌∷◌, ◌++◌, replicate}
+use Rattle.algebra.specs.Prelude.{true, not, ℕ, List, [], replicate}
 use Rattle.algebra.specs.cells.Cell.{J}
 use Rattle.signed.specs.Integers.{ℤ, pos, negsuc, nat_abs}
-use Rattle.std.specs.Prelude.{◌-ℤ◌, T}
+use Rattle.std.specs.Prelude.{◌-ℤ◌, T, ◌≡◌, ◌≤◌, ◌∷◌, ◌++◌}
 use Rattle.mrc.specs.Floats.{Float, float_of, bits, lt, is_nan, exact_limit}
 use Rattle.mrc.specs.declared.parameters.CellParameters.{CellParameters}
 use Rattle.mrc.specs.declared.parameters.CellParameters.TheVariants.{Triclinic, Monoclinic}

@@ -1,8 +1,8 @@
 -- The header of a file that is written, read as a reader of the format does: each word by its number in the table of
 -- MRC2014, which counts them from 1, out of the four bytes where it stands. Every byte of the header is named.
-use Rattle.algebra.specs.Prelude.{◌≡◌, ℕ, ◌+◌, ◌*◌, ◌-◌, ◌<◌, ◌≤◌, List, get_or}
+use Rattle.algebra.specs.Prelude.{ℕ, List, get_or}
 use Rattle.signed.specs.Integers.{ℤ, pos, negsuc, nat_abs}
-use Rattle.std.specs.Prelude.{◌-ℤ◌}
+use Rattle.std.specs.Prelude.{◌-ℤ◌, ◌≡◌, ◌+◌, ◌*◌, ◌-◌, ◌<◌, ◌≤◌}
 use Rattle.std.specs.Int.Signed.{lt_z}
 use Rattle.std.specs.Float.Ieee.Exact.{HasValue}
 use Rattle.output.specs.Output.{little_endian}

@@ -1,5 +1,6 @@
 -- The map of a whole cell in the format MRC2014: its bytes, what the call refuses, and what it answers and leaves.
-use Rattle.algebra.specs.Prelude.{◌≡◌, Bool, true, not, leb, ltb, ℕ, ◌+◌, ◌*◌, ◌<◌, List, [], ◌∷◌, ◌++◌, length}
+use Rattle.std.specs.Prelude.{◌≡◌, ◌+◌, ◌*◌, ◌<◌, ◌∷◌, ◌++◌}
+use Rattle.algebra.specs.Prelude.{Bool, true, not, leb, ltb, ℕ, List, [], length}
 use Rattle.algebra.specs.Prelude.{get_or}
 use Rattle.algebra.specs.cells.Cell.{every_place}
 use Rattle.signed.specs.Integers.{ℤ, nat_abs}

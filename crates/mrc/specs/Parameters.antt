@@ -1,7 +1,7 @@
 -- The unit cell's edges and angles, and what is refused of them.
-use Rattle.algebra.specs.Prelude.{◌≡◌, Bool, true, false, ◌&&◌, not, cond, eqb, ℕ, ◌≤◌}
+use Rattle.algebra.specs.Prelude.{Bool, true, false, not, cond, eqb, ℕ}
 use Rattle.signed.specs.Integers.{pos}
-use Rattle.std.specs.Prelude.{Float}
+use Rattle.std.specs.Prelude.{Float, ◌≡◌, ◌&&◌, ◌≤◌}
 use Rattle.std.specs.Float.Ieee.{Float.nan, Float.inf, Float.fin, lt, eq}
 use Rattle.mrc.specs.Floats.{float_of, binary32, of_bits}
 use Rattle.mrc.specs.declared.parameters.CellParameters.{CellParameters}

@@ -1,5 +1,6 @@
 -- What a file for viewers depends on: the numbers of the cell's points. Those behind the rows are not read.
-use Rattle.algebra.specs.Prelude.{◌≡◌, ℕ, ◌<◌, List, length}
+use Rattle.std.specs.Prelude.{◌≡◌, ◌<◌}
+use Rattle.algebra.specs.Prelude.{ℕ, List, length}
 use Rattle.signed.specs.Integers.{ℤ}
 use Rattle.cell.specs.declared.operations.UnitCell.{UnitCell}
 use Rattle.cell.specs.Operations.{cell_group, cell_halves}

@@ -1,9 +1,9 @@
 -- The least and the greatest of many numbers: of a row of them, of the points of a cell, of those that a map stores.
-use Rattle.algebra.specs.Prelude.{◌≡◌, cond, ℕ, zero, suc, ◌<◌, List}
+use Rattle.algebra.specs.Prelude.{cond, ℕ, zero, suc, List}
 use Rattle.algebra.specs.cells.Cell.{J}
 use Rattle.signed.specs.Integers.{ℤ}
 use Rattle.std.specs.Int.Signed.{lt_z}
-use Rattle.std.specs.Prelude.{◌≤ℤ◌}
+use Rattle.std.specs.Prelude.{◌≤ℤ◌, ◌≡◌, ◌<◌}
 use Rattle.cell.specs.declared.operations.UnitCell.{UnitCell}
 use Rattle.cell.specs.Operations.{cell_group, cell_halves, Sizes}
 use Rattle.cell.specs.Volume.{layers}

@@ -1,6 +1,7 @@
 -- What a viewer finds in a file that is written: the density of each point of the cell, where the header's own numbers
 -- say that it stands; and which maps have no file because a float cannot hold a density.
-use Rattle.algebra.specs.Prelude.{◌≡◌, ◌↔◌, ℕ, ◌+◌, ◌*◌, ◌<◌, List, length, get_or}
+use Rattle.std.specs.Prelude.{◌≡◌, ◌↔◌, ◌+◌, ◌*◌, ◌<◌}
+use Rattle.algebra.specs.Prelude.{ℕ, List, length, get_or}
 use Rattle.algebra.specs.cells.Cell.{Cell}
 use Rattle.signed.specs.Integers.{ℤ, pos, nat_abs}
 use Rattle.std.specs.Int.Signed.{lt_z}

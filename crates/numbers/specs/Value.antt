@@ -1,6 +1,7 @@
 -- The two primes, chosen by the modulus number m: 86,399 at 1 and 302,399 at 2. Both are 2,880 c - 1. At a number that
 -- is no modulus stands the second prime too, as in the code: so what holds of both primes holds at every m.
-use Rattle.algebra.specs.Prelude.{Bool, ◌||◌, cond, eqb, ℕ, ◌+◌, ◌/◌, ◌≤◌}
+use Rattle.std.specs.Prelude.{◌||◌, ◌+◌, ◌/◌, ◌≤◌}
+use Rattle.algebra.specs.Prelude.{Bool, cond, eqb, ℕ}
 use Rattle.algebra.specs.ring.Ring.{Ops, Res, residue, residues}
 use Rattle.algebra.specs.ring.Ring as Gauss
 use Rattle.numbers.specs.declared.Pair.{Pair}

@@ -1,7 +1,7 @@
 -- Decimal text as it is read: a number and its text determine each other.
-use Rattle.algebra.specs.Prelude.{◌≡◌, cond, eqb, ℕ, suc, ◌+◌, ◌*◌, ◌-◌, ◌<◌, ◌≤◌, List, [], ◌∷◌, length, get_or}
+use Rattle.algebra.specs.Prelude.{cond, eqb, ℕ, suc, List, [], length, get_or}
 use Rattle.signed.specs.Integers.{ℤ, pos, negsuc, nat_abs}
-use Rattle.std.specs.Prelude.{neg_ℤ}
+use Rattle.std.specs.Prelude.{neg_ℤ, ◌≡◌, ◌+◌, ◌*◌, ◌-◌, ◌<◌, ◌≤◌, ◌∷◌}
 use Rattle.output.specs.Output.{decimal, signed_decimal}
 
 -- From the left, each digit behind ten times the number so far. In ASCII 48 is the digit 0, 57 the digit 9 and 45 the

@@ -1,6 +1,7 @@
 -- What an output is made of: numbers in decimal, in big-endian or in little-endian bytes, the blank and the line feed,
 -- and things in a row. A text is in ASCII.
-use Rattle.algebra.specs.Prelude.{cond, ltb, ℕ, zero, suc, ◌+◌, ◌/◌, ◌%◌, List, [], ◌∷◌, ◌++◌, length, drop}
+use Rattle.std.specs.Prelude.{◌+◌, ◌/◌, ◌%◌, ◌∷◌, ◌++◌}
+use Rattle.algebra.specs.Prelude.{cond, ltb, ℕ, zero, suc, List, [], length, drop}
 use Rattle.signed.specs.Integers.{ℤ, pos, negsuc}
 
 -- a number in decimal, of at most `count` digits

@@ -1,6 +1,7 @@
 -- The power of a map and of its factors: two sums over the whole cell, unfolded from the volume. They tell a whole
 -- entry by one number.
-use Rattle.algebra.specs.Prelude.{ℕ, ◌*◌, List}
+use Rattle.std.specs.Prelude.{◌*◌}
+use Rattle.algebra.specs.Prelude.{ℕ, List}
 use Rattle.algebra.specs.ring.Ring.{Ops, Res, sum}
 use Rattle.algebra.specs.cells.Cell.{J, Group, Cell}
 use Rattle.numbers.specs.Value.{Value, field, conj}

@@ -1,6 +1,7 @@
 -- The two powers over the stored numbers, as the code adds them: the squares of each row, each layer once or twice, as
 -- often as it stands in the cell.
-use Rattle.algebra.specs.Prelude.{Bool, true, false, ℕ, ◌+◌, ◌*◌, ◌-◌, List, get_or}
+use Rattle.std.specs.Prelude.{◌+◌, ◌*◌, ◌-◌}
+use Rattle.algebra.specs.Prelude.{Bool, true, false, ℕ, List, get_or}
 use Rattle.algebra.specs.ring.Ring.{Ops, sum}
 use Rattle.algebra.specs.fourier.Halves.{doubled, between}
 use Rattle.algebra.specs.cells.Cell.{J, Group, P1, P2₁, Pm, Pa, P2₁2₁2₁}

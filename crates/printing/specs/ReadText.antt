@@ -1,5 +1,6 @@
 -- The text of a map as it is read: numerals with one blank between them, and a line feed behind the last.
-use Rattle.algebra.specs.Prelude.{◌≡◌, ℕ, zero, suc, ◌<◌, List, [], ◌∷◌, ◌++◌, get_or}
+use Rattle.std.specs.Prelude.{◌≡◌, ◌<◌, ◌∷◌, ◌++◌}
+use Rattle.algebra.specs.Prelude.{ℕ, zero, suc, List, [], get_or}
 use Rattle.signed.specs.Integers.{ℤ, pos, centred}
 use Rattle.numbers.specs.Value.{prime}
 use Rattle.output.specs.Numerals.{Numeral, SignedNumeral}

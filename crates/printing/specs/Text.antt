@@ -1,7 +1,8 @@
 -- The text of a map, as the paper shows it: "map", group and lengths; then a line for each stored plane z and each x,
 -- both rising: z, x and the values by y, signed whole numbers, one blank between. Bytes are those of ASCII, and every
 -- line ends with a line feed.
-use Rattle.algebra.specs.Prelude.{Bool, not, cond, eqb, ltb, ℕ, List, [], ◌∷◌, ◌++◌, length, get_or, min, replicate}
+use Rattle.std.specs.Prelude.{◌∷◌, ◌++◌}
+use Rattle.algebra.specs.Prelude.{Bool, not, cond, eqb, ltb, ℕ, List, [], length, get_or, min, replicate}
 use Rattle.algebra.specs.cells.Cell.{below}
 use Rattle.signed.specs.Integers.{centred}
 use Rattle.output.specs.Output.{FillOutcome, filled, not_filled, decimal, signed_decimal, blank, line_feed, each}

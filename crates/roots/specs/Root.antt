@@ -1,5 +1,6 @@
 -- The root r of order 2,880 for the prime that m chooses, e(k/N), and the constant table of the powers of r.
-use Rattle.algebra.specs.Prelude.{cond, eqb, ℕ, ◌*◌, ◌/◌}
+use Rattle.std.specs.Prelude.{◌*◌, ◌/◌}
+use Rattle.algebra.specs.Prelude.{cond, eqb, ℕ}
 use Rattle.algebra.specs.ring.Ring.{pow}
 use Rattle.algebra.specs.fourier.Axis.{Axis}
 use Rattle.prime_shape.specs.Shape.{LeastChoice}

@@ -1,5 +1,6 @@
 -- The refusals of a section stand in the papers' order; and what 28 says.
-use Rattle.algebra.specs.Prelude.{ℕ, ◌<◌, ◌≤◌, List}
+use Rattle.std.specs.Prelude.{◌<◌, ◌≤◌}
+use Rattle.algebra.specs.Prelude.{ℕ, List}
 use Rattle.algebra.specs.cells.Cell.{J}
 use Rattle.signed.specs.Integers.{ℤ, nat_abs}
 use Rattle.refusals.specs.Orders.{Ordered, RefusedUnless, of_section}

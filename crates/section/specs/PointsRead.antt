@@ -1,6 +1,7 @@
 -- What a section depends on: the numbers of its plane's points. Neither those behind the rows nor those of another
 -- plane are read.
-use Rattle.algebra.specs.Prelude.{◌≡◌, ℕ, ◌<◌, List, length}
+use Rattle.std.specs.Prelude.{◌≡◌, ◌<◌}
+use Rattle.algebra.specs.Prelude.{ℕ, List, length}
 use Rattle.algebra.specs.cells.Cell.{J}
 use Rattle.signed.specs.Integers.{ℤ}
 use Rattle.cell.specs.Volume.{group_of}

@@ -1,7 +1,8 @@
 -- The section text, which is the paper's section page: plane z of a combined map as lines of 69 characters and a line
 -- feed. Bytes are those of ASCII.
-use Rattle.algebra.specs.Prelude.{Bool, not, cond, leb, ltb, ℕ, ◌+◌, ◌*◌, ◌-◌, ◌/◌}
-use Rattle.algebra.specs.Prelude.{List, [], ◌∷◌, ◌++◌, length, replicate}
+use Rattle.std.specs.Prelude.{◌+◌, ◌*◌, ◌-◌, ◌/◌, ◌∷◌, ◌++◌}
+use Rattle.algebra.specs.Prelude.{Bool, not, cond, leb, ltb, ℕ}
+use Rattle.algebra.specs.Prelude.{List, [], length, replicate}
 use Rattle.algebra.specs.ring.Ring.{sum}
 use Rattle.algebra.specs.cells.Cell.{J, below}
 use Rattle.signed.specs.Integers.{ℤ, pos, nat_abs, floor_quotient, floor_remainder}

@@ -1,8 +1,9 @@
 -- What holds of every section that is written: what its three last numbers are to each other, and that its lines are of
 -- one width. And what is read for a plane.
-use Rattle.algebra.specs.Prelude.{◌≡◌, ℕ, ◌+◌, ◌*◌, ◌<◌, List, [], ◌∷◌, ◌++◌, length, get_or}
+use Rattle.std.specs.Prelude.{◌≡◌, ◌+◌, ◌*◌, ◌<◌, ◌∷◌, ◌++◌, ◌+ℤ◌, ◌*ℤ◌}
+use Rattle.algebra.specs.Prelude.{ℕ, List, [], length, get_or}
 use Rattle.algebra.specs.cells.Cell.{J, Inside, Cell}
-use Rattle.signed.specs.Integers.{ℤ, pos, ◌+ℤ◌, ◌*ℤ◌}
+use Rattle.signed.specs.Integers.{ℤ, pos}
 use Rattle.output.specs.Output.{line_feed}
 use Rattle.refusals.specs.Refusals.{first}
 use Rattle.cell.specs.Volume.{group_of}

@@ -1,7 +1,8 @@
 -- Where each number of a section that is written stands, in bytes from 0: every byte of the page is named, by its place
 -- alone. A row of N2 numbers has ⌈N2 / 5⌉ lines of 70 bytes; 84, 77, 82, 32 and 10 are T, M, R, the blank and the
 -- line feed in ASCII.
-use Rattle.algebra.specs.Prelude.{◌≡◌, ℕ, ◌+◌, ◌*◌, ◌-◌, ◌/◌, ◌%◌, ◌<◌, ◌≤◌, List, length, get_or, take, drop}
+use Rattle.std.specs.Prelude.{◌≡◌, ◌+◌, ◌*◌, ◌-◌, ◌/◌, ◌%◌, ◌<◌, ◌≤◌}
+use Rattle.algebra.specs.Prelude.{ℕ, List, length, get_or, take, drop}
 use Rattle.algebra.specs.cells.Cell.{J}
 use Rattle.signed.specs.Integers.{ℤ, pos}
 use Rattle.output.specs.Numerals.{SignedNumeral}

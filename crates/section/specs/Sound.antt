@@ -1,6 +1,7 @@
 -- What the work of the call may take for granted: a map of a cell, and a plane of it whose numbers are within the
 -- range.
-use Rattle.algebra.specs.Prelude.{◌≡◌, true, ℕ, ◌<◌, List, length}
+use Rattle.std.specs.Prelude.{◌≡◌, ◌<◌}
+use Rattle.algebra.specs.Prelude.{true, ℕ, List, length}
 use Rattle.signed.specs.Integers.{ℤ}
 use Rattle.cell.specs.declared.operations.UnitCell.{UnitCell}
 use Rattle.cell.specs.Operations.{cell_group, cell_lengths, cell_halves, Sizes}

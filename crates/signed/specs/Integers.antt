@@ -1,5 +1,6 @@
 -- Whole numbers with a sign, and their residues.
-use Rattle.algebra.specs.Prelude.{◌≡◌, cond, leb, ℕ, suc, ◌-◌, ◌/◌, ◌%◌, ◌<◌, ◌≤◌}
+use Rattle.std.specs.Prelude.{◌≡◌, ◌-◌, ◌/◌, ◌%◌, ◌<◌, ◌≤◌}
+use Rattle.algebra.specs.Prelude.{cond, leb, ℕ, suc}
 pub use Rattle.std.specs.Prelude.{ℤ, pos, negsuc, nat_abs, ◌+ℤ◌, ◌*ℤ◌}
 
 -- the residue of a whole number modulo p; negsuc n is -(n + 1)

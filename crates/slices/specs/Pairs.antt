@@ -2,7 +2,8 @@
 --
 -- What a loop leaves is said as a run of stores: at places 0, 1, .. (`fills`), over a whole list (`tab`), or at any
 -- places (`puts`). That all the rest is untouched is then part of the statement.
-use Rattle.algebra.specs.Prelude.{Bool, true, ◌&&◌, ltb, ℕ, zero, suc, ◌+◌, ◌*◌, ◌<◌, List, [], ◌∷◌, get_or, set}
+use Rattle.std.specs.Prelude.{◌&&◌, ◌+◌, ◌*◌, ◌<◌, ◌∷◌}
+use Rattle.algebra.specs.Prelude.{Bool, true, ltb, ℕ, zero, suc, List, [], get_or, set}
 use Rattle.algebra.specs.Prelude.{replicate}
 use Rattle.numbers.specs.declared.Pair.{Pair}
 use Rattle.algebra.specs.ring.Ring.{Res}

@@ -1,8 +1,8 @@
 -- How the windows are worked, w of them at a time. The w windows that start in a block of w entries are each made of
 -- the entries from their start to the block's end, and of those from the block's last one on. The best of the first are
 -- found from the block's end down, those of the second upward, so that an entry costs three comparisons whatever w is.
-use Rattle.algebra.specs.Prelude.{◌≡◌, Bool, ℕ, ◌+◌, ◌<◌, ◌≤◌, List, length, get_or}
-use Rattle.std.specs.Prelude.{ℤ}
+use Rattle.algebra.specs.Prelude.{Bool, ℕ, List, length, get_or}
+use Rattle.std.specs.Prelude.{ℤ, ◌≡◌, ◌+◌, ◌<◌, ◌≤◌}
 use Rattle.sliding_window.specs.FirstBest.{BestAmong}
 
 -- the block of w entries from start on, worked from its end down to entry t: the best of each stretch from there to the

@@ -1,6 +1,6 @@
 -- What the best place of a window is, without the way in which it is found.
-use Rattle.algebra.specs.Prelude.{◌≡◌, Bool, true, false, ℕ, ◌+◌, ◌<◌, ◌≤◌, List, length, get_or}
-use Rattle.std.specs.Prelude.{ℤ, pos}
+use Rattle.algebra.specs.Prelude.{Bool, true, false, ℕ, List, length, get_or}
+use Rattle.std.specs.Prelude.{ℤ, pos, ◌≡◌, ◌+◌, ◌<◌, ◌≤◌}
 use Rattle.output.specs.Output.{Filled.written}
 use Rattle.sliding_window.specs.Window.{beats, score, best_of, Extremes, window_step}
 

@@ -1,6 +1,6 @@
 -- The refusals of the window's call stand in the papers' order; and what 34, the first check, says.
-use Rattle.algebra.specs.Prelude.{◌≡◌, ◌↔◌, ℕ, ◌≤◌, List}
-use Rattle.std.specs.Prelude.{ℤ}
+use Rattle.algebra.specs.Prelude.{ℕ, List}
+use Rattle.std.specs.Prelude.{ℤ, ◌≡◌, ◌↔◌, ◌≤◌}
 use Rattle.refusals.specs.Orders.{Ordered, of_window}
 use Rattle.output.specs.Output.{Filled.not_written}
 use Rattle.sliding_window.specs.Window.{Extremes, window_tests_of, window_step}

@@ -1,8 +1,8 @@
 -- The sliding window over a run of scores: the least and the greatest of every w neighbouring entries, and the first
 -- place of each. What the call refuses, and what it answers and leaves for every input.
-use Rattle.algebra.specs.Prelude.{Bool, true, false, cond, eqb, leb, ltb, ℕ, zero, suc, ◌+◌, ◌-◌, List, [], ◌∷◌}
+use Rattle.algebra.specs.Prelude.{Bool, true, false, cond, eqb, leb, ltb, ℕ, zero, suc, List, []}
 use Rattle.algebra.specs.Prelude.{length, get_or}
-use Rattle.std.specs.Prelude.{ℤ, pos}
+use Rattle.std.specs.Prelude.{ℤ, pos, ◌+◌, ◌-◌, ◌∷◌}
 use Rattle.std.specs.Int.Signed.{lt_z}
 use Rattle.slices.specs.Filling.{stores}
 use Rattle.refusals.specs.Refusals.{Test, ◌⇒◌, first, accepted}

@@ -1,7 +1,8 @@
 -- What the volume holds when all lines of an axis have had their turn: after the lines along l the sums over l of the
 -- factors themselves, after those along h the sums over h of these. An odd h's line of P2₁2₁2₁ is stored times i,
 -- its sum over l is not: it has lost its i in its turn along l.
-use Rattle.algebra.specs.Prelude.{◌≡◌, ℕ, ◌+◌, ◌*◌, ◌/◌, ◌<◌, ◌≤◌}
+use Rattle.std.specs.Prelude.{◌≡◌, ◌+◌, ◌*◌, ◌/◌, ◌<◌, ◌≤◌}
+use Rattle.algebra.specs.Prelude.{ℕ}
 use Rattle.algebra.specs.ring.Ring.{Ops, pow, sum}
 use Rattle.algebra.specs.cells.Cell.{J, Group, Cell}
 use Rattle.algebra.specs.cells.CellSteps.{Lawful}

@@ -1,6 +1,7 @@
 -- The lines of each axis come by rising place of their pair at index 0, in Pa too, where an odd h's line along l begins
 -- at index 1.
-use Rattle.algebra.specs.Prelude.{◌≡◌, ℕ, ◌+◌, ◌<◌, ◌/◌, ◌%◌}
+use Rattle.std.specs.Prelude.{◌≡◌, ◌+◌, ◌<◌, ◌/◌, ◌%◌}
+use Rattle.algebra.specs.Prelude.{ℕ}
 use Rattle.algebra.specs.cells.Cell.{J, Group}
 use Rattle.slices.specs.Sweep.{Layout}
 use Rattle.cell.specs.Volume.{first_pair, rows, columns, pair_place}

@@ -1,7 +1,8 @@
 -- Cells of three even axes: indices going round, operations, groups, which factors and points a volume stores, the map
 -- as a triple sum and its inverse. An axis is known by its half a: its length is 2 * a.
-use Rattle.algebra.specs.Prelude.{◌≡◌, Bool, true, false, ◌&&◌, cond, eqb, ltb, ℕ, suc, ◌+◌, ◌*◌, ◌-◌, ◌%◌}
-use Rattle.algebra.specs.Prelude.{◌<◌, List, [], ◌∷◌, ◌++◌, map, get_or, ◌||◌, not, leb, zero}
+use Rattle.std.specs.Prelude.{◌≡◌, ◌&&◌, ◌+◌, ◌*◌, ◌-◌, ◌%◌, ◌<◌, ◌∷◌, ◌++◌, ◌||◌}
+use Rattle.algebra.specs.Prelude.{Bool, true, false, cond, eqb, ltb, ℕ, suc}
+use Rattle.algebra.specs.Prelude.{List, [], map, get_or, not, leb, zero}
 use Rattle.algebra.specs.ring.Ring.{Ops, pow, sum}
 use Rattle.algebra.specs.fourier.Axis.{Axis}
 use Rattle.algebra.specs.orbits.Orbit.{Acts}

@@ -1,5 +1,5 @@
 -- The order of the places of a cell.
-use Rattle.algebra.specs.Prelude.{◌≡◌, ◌<◌}
+use Rattle.std.specs.Prelude.{◌≡◌, ◌<◌}
 use Rattle.algebra.specs.cells.Cell.{J}
 
 -- i comes before j: at the first of h, k, l in which they differ i has the lower number

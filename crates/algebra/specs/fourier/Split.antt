@@ -1,5 +1,6 @@
 -- The part of a line at q, q + m, .., transformed by itself.
-use Rattle.algebra.specs.Prelude.{ℕ, ◌+◌, ◌*◌}
+use Rattle.std.specs.Prelude.{◌+◌, ◌*◌}
+use Rattle.algebra.specs.Prelude.{ℕ}
 use Rattle.algebra.specs.ring.Ring.{Ops, pow, sum}
 
 module _ {R : Type 0} (𝓞 : Ops R) where

@@ -4,7 +4,8 @@
 -- A line X has N = 2 A values, indices modulo N. `unfold_before` and `unfold_after` are the whole line that a packed one
 -- stands for, `pack_before` and `pack_after` the pairs that are packed of a whole line. The transform, `forward`, and its
 -- inverse are sums over the whole line: no fold stands here.
-use Rattle.algebra.specs.Prelude.{◌≡◌, ℕ, zero, suc, ◌*◌, ◌-◌, ◌/◌, ◌%◌, ◌<◌, ◌+◌}
+use Rattle.std.specs.Prelude.{◌≡◌, ◌*◌, ◌-◌, ◌/◌, ◌%◌, ◌<◌, ◌+◌}
+use Rattle.algebra.specs.Prelude.{ℕ, zero, suc}
 use Prim.Native.Nat.{Ordering}
 use Prim.Native.Nat.{compare}
 use Rattle.algebra.specs.ring.Ring.{Ops, pow, dft}

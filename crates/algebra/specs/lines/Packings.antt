@@ -1,5 +1,6 @@
 -- The rules and the packings of the kinds that are folded, by name: what Kinds says of each.
-use Rattle.algebra.specs.Prelude.{ℕ, ◌+◌, ◌*◌, ◌-◌}
+use Rattle.std.specs.Prelude.{◌+◌, ◌*◌, ◌-◌}
+use Rattle.algebra.specs.Prelude.{ℕ}
 use Rattle.algebra.specs.ring.Ring.{Ops}
 use Rattle.algebra.specs.lines.Kinds.{three, Reflected as reflected, sign, re, im, unfold_by, pack_by}
 use Rattle.algebra.specs.lines.Kinds.{interleave, unit as unit-of}

@@ -1,6 +1,7 @@
 -- Operations that act on places and on values, whatever the places, and records: a value at a place and the implied
 -- value at each image.
-use Rattle.algebra.specs.Prelude.{Bool, cond, List, [], ◌∷◌}
+use Rattle.std.specs.Prelude.{◌∷◌}
+use Rattle.algebra.specs.Prelude.{Bool, cond, List, []}
 
 -- the members of a list
 pub data Mem {S : Type 0} (s : S) : List S → Type 0 where

@@ -1,6 +1,7 @@
 -- Rings: the operations over a carrier, powers and finite sums; residues, pairs of them with an i; the transform. The
 -- laws are in RingLaws.
-use Rattle.algebra.specs.Prelude.{ℕ, zero, suc, ◌≡◌, ◌+◌, ◌*◌, ◌-◌, ◌%◌}
+use Rattle.std.specs.Prelude.{◌≡◌, ◌+◌, ◌*◌, ◌-◌, ◌%◌}
+use Rattle.algebra.specs.Prelude.{ℕ, zero, suc}
 use Rattle.std.proofs.Math.Nat.{mod-mod}
 
 pub record Ops (R : Type 0) : Type 0 where

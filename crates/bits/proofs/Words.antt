@@ -1,6 +1,6 @@
 -- The bits of a word to which 2 ^ k is added where bit k is 0; and the set of words in which no bit is 1.
 use mathlib.Core.Path.{◌≡◌, refl, sym, ◌∙◌, ap}
-use mathlib.Core.Bool.{Bool, true, false, ◌||◌}
+use mathlib.Core.Bool.{true, false, ◌||◌}
 use mathlib.Core.List.{List}
 use Prim.Native.Nat.{ℕ, zero, suc, ◌+◌, ◌*◌, ◌/◌, ◌%◌, ◌^◌, ◌<◌}
 use native.Mathlib.Nat.{pow-suc, div-div-eq-div-mul, mul_comm, zero-div, mod-eq_of_lt}

@@ -5,16 +5,15 @@ use mathlib.Core.Bool.{Bool, true, false, not}
 use mathlib.Core.List.{[], ◌∷◌}
 use Prim.Native.Nat.{ℕ, zero, suc, ◌+◌, ◌*◌, ◌<◌}
 use native.Mathlib.Omega.{arith}
-use Rattle.algebra.specs.ring.Ring.{Ops, pow, dft, Res, residues, gauss}
+use Rattle.algebra.specs.ring.Ring.{Ops, dft, Res, residues, gauss}
 use Rattle.algebra.specs.ring.RingLaws.{CRing, Star}
-use Rattle.algebra.specs.fourier.Axis.{Root, Axis, AxisLaws}
-use Rattle.algebra.specs.lines.Kinds.{Kind, plain, hermitian, alternating, symmetric, antisymmetric, slots, pack_by, unfold_before, unfold_after, pack_before, pack_after, RuleBefore, forward, inverse}
+use Rattle.algebra.specs.fourier.Axis.{Axis, AxisLaws}
+use Rattle.algebra.specs.lines.Kinds.{Kind, plain, hermitian, alternating, symmetric, antisymmetric, slots, pack_by, pack_before, pack_after, RuleBefore, forward, inverse}
 use Rattle.algebra.specs.cells.Cell.{J, Inside, neg_i, Cell, at, Group, P1, P2₁, Pm, Pa, P2₁2₁2₁, friedel, full, image_of, implied_value, factor_acts}
 use Rattle.algebra.specs.cells.CellPlaces.{Stored, factor_operation}
 use Rattle.algebra.specs.cells.CellPack.{even, pack_alt, pack_factors, unpack, times_i, PackedIn, FactorVolume}
 use Rattle.algebra.specs.cells.CellSteps.{Obeys, after_l, after_h, after_k}
 use Rattle.algebra.specs.orbits.OrbitLaws.{cell_of}
-use Rattle.algebra.proofs.ring.Laws.{along}
 use Rattle.algebra.proofs.ring.Solver.{ring, quote}
 use Rattle.algebra.proofs.fourier.Transform.{dft_cong, dft_mul, inversion}
 use Rattle.algebra.proofs.fourier.Properties.{hermitian_real}
@@ -24,13 +23,13 @@ use Rattle.algebra.proofs.lines.Rules.{before_pack, after_pack, transform_rule, 
 use Rattle.algebra.proofs.cells.CellAxis.{neg_zero, neg_pos}
 use Rattle.algebra.proofs.cells.CellGroup.{factor_action, closed, operation_in, operation_stored, point_operation_stored}
 use Rattle.algebra.proofs.cells.CellLawful.{point_read}
-use Rattle.algebra.proofs.cells.CellPack.{real_0, part_c, alt_1, alt_4, pack_alternating, pack_iff}
+use Rattle.algebra.proofs.cells.CellPack.{real_0, part_c, pack_alternating, pack_iff}
 use Rattle.algebra.proofs.cells.CellRecord.{record_packed}
 use Rattle.algebra.proofs.cells.CellRefusals.{zero_pair_lem}
 use Rattle.algebra.proofs.cells.CellSym.{image_inside}
 use Rattle.algebra.proofs.cells.CellTests.{Positive}
 use Rattle.algebra.proofs.orbits.Orbits.{cell_of_obeying}
-use Rattle.prime_shape.specs.Shape.{Value, field, conj, i, part, number, Shape}
+use Rattle.prime_shape.specs.Shape.{Value, field, conj, i, part, Shape}
 use Rattle.prime_shape.specs.Transform.{root_of, axis_of, Of, Rule, Pass, packed_row, map_row, map_for, LineFacts, PassFacts, PackFacts}
 use Rattle.prime_shape.proofs.Inverses.{ring_of}
 use Rattle.prime_shape.proofs.Shapes.{field_ring, field_star, half_law}

@@ -5,7 +5,7 @@
 -- M-103); 26 stands behind 8, and first of all for a line; 27 behind 25 and 22 and before 6, 7 and 14 (M-105). The
 -- other rows are those that the requests name. A text of a map is refused as the writer's file is, in the numbers of a
 -- map that is held.
-use Rattle.std.specs.Prelude.{ℕ, ◌≡◌, ◌↔◌, cond, List, [], ◌∷◌, ◌++◌, eqb}
+use Rattle.std.specs.Prelude.{ℕ, ◌≡◌, ◌↔◌, cond, List, [], ◌∷◌, eqb}
 use Rattle.refusals.specs.Refusals.{Test}
 
 -- ---- the table

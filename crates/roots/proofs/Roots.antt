@@ -9,7 +9,7 @@ use Rattle.algebra.specs.ring.Ring.{pow, Res, residue, residues, gauss}
 use Rattle.algebra.specs.ring.Ring as Gauss
 use Rattle.algebra.specs.fourier.Axis.{Root}
 use Rattle.algebra.proofs.ring.ResidueRing.{val_path}
-use Rattle.numbers.specs.Value.{prime, exponent, IsModulus, Value, field, conj, i, value, real, part}
+use Rattle.numbers.specs.Value.{prime, exponent, IsModulus, field, conj, i, value, real, part}
 use Rattle.prime_shape.specs.Shape.{Candidate, Suits, OrderIs, Shape}
 use Rattle.prime_shape.proofs.TrialDivision.{prime_86399, prime_302399}
 use Rattle.prime_shape.proofs.Orders.{suits_by}

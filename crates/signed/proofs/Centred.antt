@@ -1,5 +1,5 @@
 -- The whole number next to zero that is congruent to a residue: it is one, and there is no other.
-use mathlib.Core.Path.{◌≡◌, refl, sym, ◌∙◌, ap, subst}
+use mathlib.Core.Path.{◌≡◌, refl, sym, ◌∙◌, ap}
 use mathlib.Core.Bool.{Bool, true, false, cond}
 use Prim.Native.Nat.{ℕ, suc, ◌-◌, ◌/◌, ◌%◌, ◌<◌, ◌≤◌}
 use native.Mathlib.Nat.{mod-eq_of_lt}
@@ -7,7 +7,7 @@ use native.Mathlib.Omega.{arith}
 use lib.Dec.{leb}
 use borrow.Author.Tests.{leb-true, leb-false, le-leb, lt-leb}
 use Rattle.algebra.proofs.ring.Laws.{along}
-use Rattle.signed.specs.Integers.{ℤ, pos, negsuc, nat_abs, residue_z, centred, Centre, CentredOnly}
+use Rattle.signed.specs.Integers.{ℤ, pos, negsuc, residue_z, centred, Centre, CentredOnly}
 
 -- ---- the two halves
 

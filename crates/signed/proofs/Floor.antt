@@ -4,7 +4,7 @@ use mathlib.Core.Bool.{cond}
 use Prim.Native.Nat.{ℕ, suc, ◌+◌, ◌*◌, ◌-◌, ◌/◌, ◌%◌, ◌<◌}
 use native.Mathlib.Nat.{mod-lt, div-add-mod'}
 use native.Mathlib.Omega.{arith}
-use lib.IntN.{ℤ, pos, negsuc, neg_ℤ, ◌+ℤ◌}
+use lib.IntN.{pos, negsuc, neg_ℤ, ◌+ℤ◌}
 use borrow.Author.Tests.{lt-ltb}
 use Rattle.algebra.proofs.ring.Laws.{along}
 use Rattle.signed.specs.Integers.{FloorDivision}

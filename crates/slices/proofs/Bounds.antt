@@ -7,9 +7,9 @@ use Prim.Native.Nat.{ℕ, zero, suc, ◌+◌, ◌-◌, ◌*◌, ◌<◌, ◌≤�
 use native.Mathlib.Numerals.{add-one}
 use native.Mathlib.Omega.{arith}
 use lib.Dec.{ltb}
-use lib.ListN.{length, get_or, set, take, drop, replicate, length-take, length-replicate, get_or-replicate, drop_of_length-le, get_or-eq_default, get_or-append}
+use lib.ListN.{length, get_or, set, take, drop, replicate, length-take, length-replicate, get_or-replicate, drop_of_length-le, get_or-eq_default}
 use lib.Seq.{get_or-set_same, get_or-set_other, set_out, drop-cons, get_or-take, get_or-drop}
-use borrow.Author.Tests.{lt-ltb, le-ltb, ltb-true}
+use borrow.Author.Tests.{lt-ltb, ltb-true}
 use Rattle.numbers.specs.declared.Pair.{Pair}
 use Rattle.numbers.specs.Bounds.{Small}
 use Rattle.slices.specs.Pairs.{at, put, puts, tab, Below, all_below}

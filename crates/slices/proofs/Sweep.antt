@@ -8,7 +8,7 @@ use native.Mathlib.Nat.{not-suc-le-zero, eq-or-lt_of_le, le_of_suc-le-suc}
 use native.Mathlib.Omega.{arith}
 use lib.ListN.{length}
 use Rattle.numbers.specs.declared.Pair.{Pair}
-use Rattle.slices.specs.Pairs.{at, Below}
+use Rattle.slices.specs.Pairs.{at}
 use Rattle.slices.specs.Sweep.{Layout, line_of, set_line, sweep, Disjoint, Local, on_lists}
 use Rattle.slices.proofs.Pairs.{length_puts, at_puts, at_puts_other, tab_cong}
 

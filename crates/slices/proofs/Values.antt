@@ -7,7 +7,7 @@ use Rattle.numbers.specs.declared.Pair.{Pair}
 use Rattle.numbers.specs.Value.{prime, Value, value_of, pair_of}
 use Rattle.numbers.proofs.Primes.{prime_pos}
 use Rattle.numbers.proofs.Values.{small_pair, value_pair, pair_value}
-use Rattle.slices.specs.Pairs.{at, tab, Below, values_of, list_of}
+use Rattle.slices.specs.Pairs.{at, Below, values_of, list_of}
 use Rattle.slices.proofs.Pairs.{length_tab, at_tab, tab_cong, is_tab}
 use Rattle.slices.proofs.Bounds.{below_tab, small_at}
 

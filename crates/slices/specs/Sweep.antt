@@ -1,7 +1,6 @@
 -- Sweeps: every line of a volume of pairs is replaced by a function of it, one line after the other.
 use Rattle.std.specs.Prelude.{◌≡◌, List, ℕ, zero, suc, ◌+◌, ◌*◌, ◌/◌, ◌%◌, ◌<◌}
 use Rattle.numbers.specs.declared.Pair.{Pair}
-use Rattle.numbers.specs.Bounds.{Small}
 use Rattle.slices.specs.Pairs.{at, puts, tab}
 
 -- count lines; line y has the size y places place y 0, place y 1, ..

@@ -1,5 +1,5 @@
 -- The next step of a stage: its factor is not 0, and the product of the factors stays small. The stages of a list are its splits.
-use mathlib.Core.Path.{◌≡◌, refl, sym, ◌∙◌, ap, subst}
+use mathlib.Core.Path.{◌≡◌, refl, sym, ◌∙◌, ap}
 use mathlib.Core.Bool.{true}
 use mathlib.Core.List.{List}
 use Prim.Native.Nat.{ℕ, zero, suc, ◌+◌, ◌*◌, ◌/◌, ◌%◌, ◌≤◌, ◌<◌}
@@ -11,7 +11,7 @@ use Rattle.lengths.specs.declared.stage.Stage.{Stage}
 use Rattle.lengths.specs.Stages.{points, after, stage_after, split_stage, Ahead}
 use Rattle.lengths.specs.Lengths.{octal, product, factors_ok}
 use Rattle.lengths.proofs.Factors.{factor_at_lem, octal_drop, product_drop, product_take}
-use Rattle.lengths.proofs.stage.Divisors.{divisor_pos, divisor_le}
+use Rattle.lengths.proofs.stage.Divisors.{divisor_le}
 use Rattle.lengths.proofs.stage.Factoring.{next_factor_lem, next_length, factored_pos}
 
 module _ {s : Stage} (a : Ahead s) where

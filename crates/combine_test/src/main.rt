@@ -51,15 +51,13 @@ fn print_output<W: Write>(to: &mut W, answer: FillAnswer, v: &[i64]) -> io::Resu
 {
     let mut lows = [0u32; 256];
     let mut highs = [0u32; 256];
-    let mut j: usize = 0;
-    while j < v.len() {
-        lows[j] = low(v[j]);
-        highs[j] = high(v[j]);
-        j += 1;
+    for (j, x) in v.iter().enumerate() {
+        lows[j] = low(*x);
+        highs[j] = high(*x);
     }
     let left = [
-        test_io::checksum(&lows[..j]),
-        test_io::checksum(&highs[..j]),
+        test_io::checksum(&lows[..v.len()]),
+        test_io::checksum(&highs[..v.len()]),
     ];
     test_io::print_answer(to, answer, &left)?;
     Ok(())

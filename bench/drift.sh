@@ -3,7 +3,7 @@
 # runs, some seconds once the library is proved.
 set -eu
 cd "$(dirname "$0")/.."
-rt staticlib exported >/dev/null
+bin/build
 out=$(mktemp -d)
 trap 'rm -rf "$out"' EXIT
 gcc -O3 -Iinclude -o "$out/drift" bench/drift.c target/staticlib/libexported.a

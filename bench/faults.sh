@@ -3,7 +3,7 @@
 # once the library is proved.
 set -eu
 cd "$(dirname "$0")/.."
-rt staticlib exported >/dev/null
+bin/build
 out=$(mktemp -d)
 trap 'rm -rf "$out"' EXIT
 gcc -O3 -Wall -Wextra -Iinclude -o "$out/faults" bench/faults.c target/staticlib/libexported.a

@@ -3,7 +3,7 @@
 # processor time, the least of five alternating runs, less than a minute once the library is proved.
 set -eu
 cd "$(dirname "$0")/.."
-rt staticlib exported >/dev/null
+bin/build
 out=$(mktemp -d)
 trap 'rm -rf "$out"' EXIT
 gcc -O3 -Iinclude -o "$out/lanes" bench/lanes.c target/staticlib/libexported.a

@@ -3,7 +3,7 @@
 # algorithm in C at -O3: the least processor time of nine alternating runs, some seconds once the library is proved.
 set -eu
 cd "$(dirname "$0")/.."
-rt staticlib exported >/dev/null
+bin/build
 out=$(mktemp -d)
 trap 'rm -rf "$out"' EXIT
 gcc -O3 -Iinclude -o "$out/lines" bench/lines.c target/staticlib/libexported.a

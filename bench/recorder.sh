@@ -2,14 +2,15 @@
 # Times synthesis and analysis of the proved calls beside the same passes in C at -O3 and FFTW's double transforms, then records and factor
 # files: processor time, the least of five alternating runs, less than three minutes once the library is proved.
 #   --against COMMIT  instead, this version beside that of COMMIT (or of ARCHIVE, its libexported.a) in one alternating run: all groups, both
-#                     primes, the longest axis each way, small grids. Some minutes once both are proved; COMMIT is proved in a folder of its own
+#                     primes, the longest axis each way, small grids. Some minutes once both are proved; COMMIT is proved in a folder of its own, so
+#                     it has to be one that this rt proves
 #   growth            instead, how the cost grows with the volume: figures for plot.py, about a minute
 #   profile           instead, the shares of the proved functions in a synthesis of P1 at 240^3, by perf
 set -eu
 cd "$(dirname "$0")/.."
 out=$(mktemp -d)
 trap 'git worktree remove --force "$out/tree" 2>/dev/null || true; rm -rf "$out"' EXIT
-rt staticlib exported >/dev/null
+bin/build
 library=target/staticlib/libexported.a
 options=(-O3 -Iinclude)
 libraries=()
@@ -28,7 +29,7 @@ against() { # COMMIT or ARCHIVE
     local old=$1
     if [ ! -f "$old" ]; then
         git worktree add --detach "$out/tree" "$old" >/dev/null 2>&1
-        (cd "$out/tree" && rt staticlib exported >/dev/null)
+        (cd "$out/tree" && bin/build)
         old=$out/tree/$library
     fi
     # every function of the old archive gets another name, and what it calls with it

@@ -69,99 +69,87 @@ crates_of() { # [NAME]
             print n
         }
         { sub(/#.*/, "") }
-        i = index($0, ":") { n = substr($0, 1, i - 1); gsub(/[ \t]/, "", n); deps[n] = substr($0, i + 1) }
+        i = index($0, ":") { split(substr($0, 1, i - 1), word, " "); deps[word[1]] = substr($0, i + 1) }
         END { if (ENVIRON["NAME"]) visit(ENVIRON["NAME"]); else for (n in deps) visit(n) }' crates.txt
 }
 
 # A crate is counted once, however often rt names it.
-crate_proved() { # NAME, 1 if it was proved before
-    case $seen in *" $1 "*) return ;; esac
-    seen="$seen$1 " proved=$((proved + 1)) before=$((before + $2))
-    [ "$2" -eq 1 ] || echo "proved $proved of $crates: $1, $(so_far)"
+crate_proved() { # NAME
+    case $seen in *" $1 "*) return 0 ;; esac
+    seen="$seen$1 " proved=$((proved + 1))
+    echo "proved $proved of $crates: $1, $(so_far)"
 }
 
 # Says what is not as it must be, and keeps the first such thing with its error.
 wrong() { # WHAT REASON
-    local reason=${2//"$PWD/"/} place=''
-    [[ ! $reason =~ ^[^\ ]+:[0-9]+:[0-9]+: ]] || place=", at ${BASH_REMATCH[0]%:}"
+    local place=''
+    [[ ! $2 =~ ^[^\ ]+:[0-9]+:[0-9]+: ]] || place=", at ${BASH_REMATCH[0]%:}"
     echo "$1$place, $(so_far)"
-    [ -n "$fault" ] || fault=$1 why=${reason:0:400}
+    [ -n "$fault" ] || fault=$1 why=${2:0:400}
+}
+
+# Keeps the first error that rt tells of the crate that it is at, its file named from here.
+keep_error() { # LINE
+    local said=${1#./}
+    case $said in src/* | specs/* | proofs/*) said=crates/$crate/$said ;; esac
+    error=${error:-${said//"$PWD/"/}}
 }
 
 # A line of rt's own.
 said_by_rt() { # LINE
-    local name=${1%% *} about=${error:-$note}
-    error='' note=''
+    local name=${1%%[ :]*} about=${1#*: }
     case $1 in
+    'chose --jobs '*' for '*) crate=${1##* } alone="crate $crate is NOT PROVED" error='' said='' ;;
     'must-fail '*)
-        edit=$((edit + 1)) name=${1#must-fail } about=${1#*: }
+        edit=$((edit + 1)) name=${1#must-fail } name=${name%%: *}
         case $about in
-        'refused, '*) echo "edit $edit of $edits refused: ${name%%:*}, $(so_far)" ;;
-        *) wrong "edit $edit of $edits is NOT REFUSED: ${name%%:*}" "crates/${name%%/*}/must-fail/$(basename "${name%%:*}").edit: $about" ;;
+        'refused, '*) echo "edit $edit of $edits refused: ${name%.edit}, $(so_far)" ;;
+        *) wrong "edit $edit of $edits is ${about%%: *}: ${name%.edit}" "crates/${name%/*}/must-fail/${name#*/}: ${about#*: }" ;;
         esac
         ;;
-    *' proved (unchanged since it was last proved)') crate_proved "$name" 1 ;;
-    *' proved ('*' s)') crate_proved "$name" 0 ;;
-    'target/staticlib/lib'*' has the functions of '*)
-        name=${1#* has the functions of }
-        crate_proved "${name%% *}" 0
-        ;;
-    *' NOT PROVED: its dependency '*) [ -n "$fault" ] || wrong "crate $name is NOT PROVED" "$1" ;;
-    *' NOT PROVED'*) wrong "crate $name is NOT PROVED" "${about:-$1}" ;;
-    *' ran'*", and wrote what its file 'stdout' has ("*)
+    *': BAD EDIT: '*) wrong "an edit is BAD EDIT: ${1%%: *}" "$1" ;;
+    "$name proved") crate_proved "$name" ;;
+    "$name NOT PROVED: its library "*) [ -n "$fault" ] || wrong "crate $name is NOT PROVED" "$1" ;;
+    "$name NOT PROVED") wrong "crate $name is NOT PROVED" "${error:-${said:-$1}}" ;;
+    "$name ran, and wrote what its file stdout has")
         program=$((program + 1))
         echo "program $program of $programs ran: $name, $(so_far)"
         ;;
-    *' proved, and its run FAILED ('*)
-        program=$((program + 1))
-        wrong "program $program of $programs WENT WRONG: $name" "$about"
-        ;;
-    'in no crate that crates.txt lists, '*) wrong "${1##*: } is NOT PROVED" "$1" ;;
-    'ok, '*) [ "$before" -eq 0 ] || echo "$before of $crates crates were proved before" ;;
-    FAILED:*) ;;
-    *) error=$1 ;;
+    "$name ran (built by "*) echo "and as Rattle's own compiler builds it: $name, $(so_far)" ;;
+    "$name: what the program wrote, "* | "$name: the program "* | "$name (built by "*) wrong "program $name WENT WRONG" "$about" ;;
+    *) said=${1//"$PWD/"/} ;;
     esac
 }
 
-# An error after which rt said nothing of its crate: it stopped there.
-unfinished() { # ERROR
-    local crate=${1#"$PWD"/crates/}
-    case $1 in
-    '') ;;
-    "$PWD"/crates/*) wrong "crate ${crate%%/*} is NOT PROVED" "$1" ;;
-    *) wrong "rt stopped" "$1" ;;
-    esac
-}
-
-# Reads what rt prints. Its status is 1 if it has named an error.
+# Reads what rt prints. Its status is 1 if it has named an error. Under `rt ci` the lines of a crate come together, and then whether it is proved;
+# under `rt lib` they come as they are told, behind the line that names the crate.
 progress() { # how many crates are to be proved
-    local crates=$1 edits programs line seen=' ' proved=0 before=0 edit=0 program=0 error='' note='' fault='' why=''
+    local crates=$1 edits programs line crate='' alone='' seen=' ' proved=0 edit=0 program=0 error='' said='' ended='' fault='' why=''
     edits=$(find crates -path '*/must-fail/*.edit' | wc -l) programs=$(find crates -path '*/src/main.rt' | wc -l)
     while IFS= read -r line; do
         case $line in
-        "$PWD"/crates/*:*:*': error'*) error=${error:-$line} ;;
-        "note: $PWD"/crates/*:*:*) note=${note:-${line#note: }} ;;
         'rt: '*) said_by_rt "${line#rt: }" ;;
+        '== '*) crate=${line#== } crate=${crate%%:*} alone='' error='' said='' ;;
+        'logic=proved '*) [ -z "$alone" ] || { crate_proved "$crate" && alone=''; } ;;
+        *:[0-9]*:[0-9]*': error'* | 'rattle: '*) keep_error "$line" ;;
+        'note: '*:[0-9]*:[0-9]*': '*) keep_error "${line#note: }" ;;
+        'rt ended with status '*) ended=$line ;;
         esac
     done
-    [ -n "$fault" ] || unfinished "${error:-$note}"
-    [ -n "$fault" ] || return 0
-    echo "FAILED: $fault"
-    echo "first error: $why"
-    return 1
+    [ -z "$ended" ] || [ -n "$fault" ] || wrong "${alone:-rt stopped}" "${error:-${said:-$ended}}"
+    if [ -n "$fault" ]; then
+        echo "FAILED: $fault"
+        echo "first error: $why"
+        return 1
+    fi
+    [ "$proved" -eq "$crates" ] || echo "$((crates - proved)) of $crates crates were proved before"
 }
 
-# Runs rt with its whole output in a log, and prints the progress that it makes.
+# Runs rt with its whole output in a log, and prints the progress that it makes. Its status is 1 if rt failed, or told of anything that is not as it must be.
 watched() { # LOG CRATES COMMAND...
-    local log=$1 crates=$2 ended
+    local log=$1 crates=$2
     shift 2
-    "$@" 2>&1 | tee "$log" | progress "$crates" && return
-    ended=("${PIPESTATUS[@]}")
-    if [ "${ended[2]}" -eq 0 ]; then
-        tail -n 5 "$log"
-        echo "FAILED: rt ended with status ${ended[0]}"
-    fi
-    return 1
+    { "$@" || echo "rt ended with status $?"; } 2>&1 | tee "$log" | progress "$crates"
 }
 
 # ---- the library and the tool
@@ -170,18 +158,17 @@ archive=target/staticlib/libexported.a
 # What the archive was built from, and the archive itself: written when it is whole.
 built=target/library.built
 
-# What the library stands on is proved as many crates at a time as rt does; `rt staticlib` alone takes them one by one.
+# rt proves what the library stands on where that has changed, and leaves the archive in the crate's folder.
 prove_library() {
-    # shellcheck disable=SC2046
-    rt check $(crates_of exported | grep -vx exported) && rt staticlib exported
+    (cd crates/exported_c && rt lib) && mkdir -p "${archive%/*}" && cp crates/exported_c/out/libexported_c.a "$archive"
 }
 
-# All that the archive is built from: the toolchain, the list of crates, and every file of those that the library stands on, by name and contents.
-# `rt staticlib` proves the last crate anew each time, however little has changed, so what it would read is compared here.
+# All that the archive is built from: the toolchain, the list of crates, and every file of those that the library stands on, by name and contents,
+# but not what rt keeps in their out/. `rt lib` proves the last crate anew each time, however little has changed, so what it would read is compared here.
 sources() {
     rt version
     # shellcheck disable=SC2046
-    find crates.txt $(crates_of exported | sed 's,^,crates/,') -type f -print0 | sort -z | xargs -0 sha256sum
+    find crates.txt $(crates_of exported_c | sed 's,^,crates/,') -name out -prune -o -type f -print0 | sort -z | xargs -0 sha256sum
 }
 
 # Whether the archive is the one that was built from the sources as they are.
@@ -191,7 +178,7 @@ is_built() { # SOURCES
 
 build() {
     local crates from
-    crates=$(crates_of exported | wc -l)
+    crates=$(crates_of exported_c | wc -l)
     mkdir -p target
     from=$(sources) || fail "the sources of the library cannot be read"
     if is_built "$from"; then

@@ -1,7 +1,7 @@
 /* The recorder from C: the paper's specimens of records, files, maps and lines by every call of include/recorder.h, each held to the
    paper's result. It shows how the calls follow one another, and that the header fits the library.
 
-   rt staticlib exported && gcc -Iinclude -o specimens examples/specimens.c target/staticlib/libexported.a && ./specimens */
+   bin/build && gcc -Iinclude -o specimens examples/specimens.c target/staticlib/libexported.a && ./specimens */
 #include <stdio.h>
 #include <stdlib.h>
 #include <string.h>

@@ -1,4 +1,4 @@
-//! Links the proved library, which `rt staticlib exported` writes to target/staticlib; nothing else is linked. And asks the toolchain that proved it
+//! Links the proved library, which `bin/build` writes to target/staticlib; nothing else is linked. And asks the toolchain that proved it
 //! for its name, which `recorder --version` prints.
 use std::env;
 use std::path::PathBuf;
@@ -11,7 +11,7 @@ fn main() {
     println!("cargo:rerun-if-changed={}", library.display());
     if !library.is_file() {
         eprintln!("The proved library {} is missing.", library.display());
-        eprintln!("Run `rt staticlib exported` in the repository's top folder, then build again.");
+        eprintln!("Run `bin/build` in the repository's top folder, which makes both.");
         exit(1);
     }
     println!("cargo:rustc-link-search=native={}", folder.display());

@@ -1,5 +1,5 @@
-/* The map recorder for programs in C: the functions of crates/exported, which `rt staticlib exported` writes to
-   target/staticlib/libexported.a. Each is proved to do what its contract in crates/exported/src/lib.rt says, for every input.
+/* The map recorder for programs in C: the functions of crates/exported_c, which `bin/build` proves and writes to
+   target/staticlib/libexported.a. Each is proved to do what its contract in crates/exported_c/src/lib.rt says, for every input.
    tools/interface_test.py holds the names and types of this header to that file, and the numbers of refusals to crates/refusals.
 
    Numbers. There are two primes: modulus 1 stands for 86,399 and modulus 2 for 302,399, and a job counts modulo one of them. A residue is

@@ -1,5 +1,5 @@
 #!/usr/bin/env python3
-"""The interface test: include/recorder.h against the functions that crates/exported exports, and the declarations of the tool, host/src/ffi.rs, and
+"""The interface test: include/recorder.h against the functions that crates/exported_c exports, and the declarations of the tool, host/src/ffi.rs, and
 of the Python package, python/recorder/declarations.py, against include/recorder.h.
 
     interface_test.py [HEADER SOURCE FFI PYTHON]
@@ -16,10 +16,10 @@ import re
 import sys
 
 TOP = os.path.join(os.path.dirname(os.path.abspath(__file__)), "..")
-FILES = ["include/recorder.h", "crates/exported/src/lib.rt", "host/src/ffi.rs", "python/recorder/declarations.py"]
-# What the source passes on: the structs of jobs, of schedulers, of their answers and of a unit cell, and the numbers of refusals.
-PASSED_ON = ["crates/job/src/lib.rt", "crates/scheduler/src/lib.rt", "crates/exported/src/answers.rt", "crates/exported/src/lanes.rt",
-             "crates/exported/src/cells.rt", "crates/refusals/src/lib.rt"]
+FILES = ["include/recorder.h", "crates/exported_c/src/lib.rt", "host/src/ffi.rs", "python/recorder/declarations.py"]
+# What the source passes on: the version, the structs of jobs, of schedulers, of their answers and of a unit cell, and the numbers of refusals.
+PASSED_ON = ["crates/exported/src/lib.rt", "crates/job/src/lib.rt", "crates/scheduler/src/lib.rt", "crates/exported/src/answers.rt",
+             "crates/exported/src/lanes.rt", "crates/exported/src/cells.rt", "crates/refusals/src/lib.rt"]
 
 # The names of the header's types in the Rattle source and in the tool.
 SOURCE_NAMES = {"Reflection": "recorder_reflection", "GridPoint": "recorder_grid_point", "Axis": "recorder_axis", "Job": "recorder_job",
@@ -203,8 +203,8 @@ def c_spoken(header):
 
 
 def source_version(source):
-    """The number that recorder_version gives."""
-    return re.findall(r"fn recorder_version\(\).*?\{\s*(\d+)\s*\}", source, re.S)
+    """The number that recorder_version gives, behind its clause; the exported function passes it on."""
+    return re.findall(r"fn recorder_version\(\) -> u32\s+ensures \{[^}]*\}\s*\{\s*(\d+)\s*\}", source)
 
 
 def c_words(commented):
@@ -256,7 +256,7 @@ def differences(header, source, ffi, python):
     commented = header
     header, source, ffi = map(without_comments, (header, source, ffi))
     structs, functions = c_structs(header), c_functions(header)
-    exported = named_functions(source, r'pub extern "C" fn (\w+)\((.*?)\)\s*->\s*(\w+)', SOURCE_NAMES)
+    exported = named_functions(source, r'#\[unsafe\(no_mangle\)\]\s*pub extern "C" fn (\w+)\((.*?)\)\s*->\s*(\w+)', SOURCE_NAMES)
     declared = named_functions(ffi, r"\n    fn (recorder_\w+)\((.*?)\)\s*->\s*(\w+);", FFI_NAMES)
     said = [] if functions else ["no function was found"]
     said += differing("function of header and source:", functions, exported)
@@ -280,7 +280,7 @@ DAMAGES = [
     (1, "Refusal::DifferentCells => 27,", "Refusal::DifferentCells => 26,"), (2, "pub modulus: u32,", ""),
     (0, "uint32_t recorder_line(uint32_t modulus, ", "uint32_t recorder_line("),
     (0, "uint32_t count, first, second;", "uint32_t count, second, first;"), (1, "pub place: u32,", ""), (1, "fn recorder_analysis(", "fn recorder_analyse("),
-    (1, "#[repr(C)]", ""), (2, "#[repr(C)]", ""),
+    (1, "#[repr(C)]", ""), (1, "#[unsafe(no_mangle)]", ""), (2, "#[repr(C)]", ""),
     (0, "int64_t *least, size_t least_length", "uint64_t *least, size_t least_length"),
     (0, "uint32_t number, power;", "uint32_t power, number;"), (0, "RECORDER_REFUSED_MAGNITUDE = 28,", ""),
     (1, "fn recorder_map_power(", "fn recorder_power_of_map("), (0, "uint32_t z, uint8_t *out", "uint8_t *out"),

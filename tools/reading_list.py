@@ -16,10 +16,10 @@ READING = "docs/READING.md"
 CALLS = {"print_file", "map_text", "replay"}
 FUNCTION = re.compile(r"\bpub (?:extern \"C\" )?fn (\w+)\((.*?)\n *\{(\}|)\n", re.S)
 USE = re.compile(r"^\s*(?:(?:ghost|pub|unfoldable|abbrev) )*use ([^\s{;]+?)(?:\.\{(.*)\}|( as \S+))?;?\s*$")
-LIBRARY = re.compile(r"^Rattle·(\w+?)(?:·specs)?\.specs\.(.+)$")
+LIBRARY = re.compile(r"^Rattle\.(\w+)\.specs\.(.+)$")
 DECLARED = re.compile(r"^(\s*)(?:(?:abbrev|unfoldable|pub|record|data) )+(\S+)")
 MEMBER = re.compile(r"^\s+(?:pub )?([^\s:(]+) :")
-TOKEN = re.compile(r"[^\s()\[\]{}⟨⟩⌜⌝,;.«»]+")
+TOKEN = re.compile(r"[^\s()\[\]{}⟨⟩,;.«»]+")
 
 
 class Module:
@@ -72,9 +72,9 @@ def module_at(path):
 
 
 def file_of(module):
-    """The file of a module of specs/, if it is one that is written and not one that the toolchain declares."""
+    """The file of a module of specs/, if it is one that is written and not one that the toolchain has or declares."""
     library = LIBRARY.match(module)
-    if not library or library.group(2).startswith("declared"):
+    if not library or library.group(1) == "std" or library.group(2).startswith("declared"):
         return None
     parts = library.group(2).split(".")
     for count in range(len(parts), 0, -1):
@@ -87,7 +87,7 @@ def file_of(module):
 def contracts(path):
     """The public calls of a file, and its functions that do nothing and promise a statement, each with its contract."""
     for name, contract, empty in FUNCTION.findall(open(path, encoding="utf-8").read()):
-        if path.startswith("crates/exported/") or name in CALLS or (contract.startswith(")") and empty):
+        if path.startswith(("crates/exported/", "crates/exported_c/")) or name in CALLS or (contract.startswith(")") and empty):
             yield name, contract
 
 

@@ -2,7 +2,7 @@
 //!
 //! Each call is lent slices, so what the header asks of a buffer holds: the pointer is not null and is aligned, the memory is initialised, and
 //! no two buffers of a call overlap but those that are only read. The library keeps no pointer. tools/interface_test.py holds the declarations
-//! here to the header and the header to crates/exported/src/lib.rt; the test below holds the structs' layouts to those of a C compiler. The header's
+//! here to the header and the header to crates/exported_c/src/lib.rt; the test below holds the structs' layouts to those of a C compiler. The header's
 //! version is that of the calls, and stays where the tool alone changes: the test holds it to the tool's first number, and to be no later.
 #![allow(unsafe_code)]
 

@@ -1,4 +1,4 @@
-//! The map recorder as a command line tool, over the proved library that `rt staticlib exported` writes. `recorder help` explains it.
+//! The map recorder as a command line tool, over the proved library that `bin/build` writes. `recorder help` explains it.
 #![deny(unsafe_code)]
 
 mod all_faults;

@@ -30,14 +30,6 @@ call_other s (suc (suc (suc (suc (suc zero))))) h k l x y p q r = absurd (q refl
 call_other s (suc (suc (suc (suc (suc (suc zero)))))) h k l x y p q r = absurd (r refl)
 call_other s (suc (suc (suc (suc (suc (suc (suc o))))))) h k l x y p q r = refl
 
--- no number but the first four
-pub four_on : (o : ℕ) → (o ≡ 0 → ⊥) → (o ≡ 1 → ⊥) → (o ≡ 2 → ⊥) → (o ≡ 3 → ⊥) → 4 ≤ o
-four_on zero p q r t = absurd (p refl)
-four_on (suc zero) p q r t = absurd (q refl)
-four_on (suc (suc zero)) p q r t = absurd (r refl)
-four_on (suc (suc (suc zero))) p q r t = absurd (t refl)
-four_on (suc (suc (suc (suc o)))) p q r t = omega arith
-
 module _ (s : List ℕ) (n : CallNumbers) where
   pub is_synthesis : n.operation ≡ 1 → synthesis s ≡ call_said s n
   unfolding call_of

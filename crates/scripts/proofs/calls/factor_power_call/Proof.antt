@@ -6,18 +6,18 @@ use borrow.Author.Rules.{rules}
 use Rattle.scripts.proofs.calls.factor_power_call.Statement.{statement}
 use Rattle.scripts.proofs.calls.factor_power_call.Tie as tie
 
-factor-power-requires : tie.Need-factor-power-requires
-factor-power-requires c κs = search rules
+factor_power-requires : tie.Need-factor_power-requires
+factor_power-requires c κs = search rules
 
-of-power-requires : tie.Need-of-power-requires
-of-power-requires c κs = search rules
+of_power-requires : tie.Need-of_power-requires
+of_power-requires c κs = search rules
 
 returns : tie.Need-returns
 returns c =
-    let w = c.before.factor_power_lem in
+    let w = c.before.factor_power in
     let b = c.before.before.before in
     let a = b.args in
-    λ s. call_factor_power a.job a.volume.now (record { reply = c.of-power.result; job = a.job }) (said_power w.result) c.of-power.ensures refl s a.n b.requires w.ensures
+    λ s. call_factor_power a.job a.volume.now (record { reply = c.of_power.result; job = a.job }) (said_power w.result) c.of_power.ensures refl s a.n b.requires w.ensures
 
 pub factor_power_call_spec : {M : Type 1} → statement M
-factor_power_call_spec = tie.close (tie.spec factor-power-requires of-power-requires returns)
+factor_power_call_spec = tie.close (tie.spec factor_power-requires of_power-requires returns)

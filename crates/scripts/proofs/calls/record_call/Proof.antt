@@ -7,18 +7,17 @@ use Rattle.scripts.proofs.calls.record_call.Tie as tie
 record-requires : tie.Need-record-requires
 record-requires c κs = search rules
 
-of-answered-requires : tie.Need-of-answered-requires
-of-answered-requires c κs = search rules
+of_answered-requires : tie.Need-of_answered-requires
+of_answered-requires c κs = search rules
 
-same_length : tie.Need-same-length
-same_length c = c.before.before.before.«record».auto.1.1.1.1.0
+shape_of-volume : tie.Need-shape_of-volume
+shape_of-volume c = c.«record».auto.volume
 
 returns : tie.Need-returns
 returns c =
-    let w = c.before.before.before.«record» in
-    let b = c.before.before.before.before.before.before in
-    let a = b.args in
-    λ s. call_record a.job a.volume.now c.of-answered.result w.result _ c.of-answered.ensures.0 c.of-answered.ensures.1 s a.n b.requires w.ensures
+    let w = c.«record» in
+    let a = c.args in
+    λ s. call_record a.job a.volume.now c.of_answered.result w.result _ c.of_answered.ensures.0 c.of_answered.ensures.1 s a.n c.requires w.ensures
 
 pub record_call_spec : {M : Type 1} → statement M
-record_call_spec = tie.close (tie.spec record-requires of-answered-requires same_length returns)
+record_call_spec = tie.close (tie.spec record-requires of_answered-requires shape_of-volume returns)

@@ -4,59 +4,59 @@ use mathlib.Core.Path.{refl}
 use Rattle.scripts.proofs.layout.numbers_at.Statement.{statement}
 use Rattle.scripts.proofs.layout.numbers_at.Tie as tie
 
-mul_at : tie.Need-overflow-mul-at
-mul_at c = search rules
+overflow_mul-at : tie.Need-overflow_mul-at
+overflow_mul-at c = search rules
 
-mul-t4 : tie.Need-overflow-mul-t4
-mul-t4 c = search rules
+offset_bounds-script-at : tie.Need-offset_bounds-script-at
+offset_bounds-script-at c = search rules
 
-shared-slice-read-t6 : tie.Need-shared-slice-read-t6
-shared-slice-read-t6 c = search rules
+bounds-script-at : tie.Need-bounds-script-at
+bounds-script-at c = search rules
 
-add-t7 : tie.Need-overflow-add-t7
-add-t7 c = search rules
+overflow_add-result : tie.Need-overflow_add-result
+overflow_add-result c = search rules
 
-mul-t8 : tie.Need-overflow-mul-t8
-mul-t8 c = search rules
+offset_bounds-script-at-2 : tie.Need-offset_bounds-script-at-2
+offset_bounds-script-at-2 c = search rules
 
-shared-slice-read-t10 : tie.Need-shared-slice-read-t10
-shared-slice-read-t10 c = search rules
+bounds-script-at-2 : tie.Need-bounds-script-at-2
+bounds-script-at-2 c = search rules
 
-add-t11 : tie.Need-overflow-add-t11
-add-t11 c = search rules
+overflow_add-result-2 : tie.Need-overflow_add-result-2
+overflow_add-result-2 c = search rules
 
-mul-t12 : tie.Need-overflow-mul-t12
-mul-t12 c = search rules
+offset_bounds-script-at-3 : tie.Need-offset_bounds-script-at-3
+offset_bounds-script-at-3 c = search rules
 
-shared-slice-read-t14 : tie.Need-shared-slice-read-t14
-shared-slice-read-t14 c = search rules
+bounds-script-at-3 : tie.Need-bounds-script-at-3
+bounds-script-at-3 c = search rules
 
-add-t15 : tie.Need-overflow-add-t15
-add-t15 c = search rules
+overflow_add-result-3 : tie.Need-overflow_add-result-3
+overflow_add-result-3 c = search rules
 
-mul-t16 : tie.Need-overflow-mul-t16
-mul-t16 c = search rules
+offset_bounds-script-at-4 : tie.Need-offset_bounds-script-at-4
+offset_bounds-script-at-4 c = search rules
 
-shared-slice-read-t18 : tie.Need-shared-slice-read-t18
-shared-slice-read-t18 c = search rules
+bounds-script-at-4 : tie.Need-bounds-script-at-4
+bounds-script-at-4 c = search rules
 
-add-t19 : tie.Need-overflow-add-t19
-add-t19 c = search rules
+overflow_add-result-4 : tie.Need-overflow_add-result-4
+overflow_add-result-4 c = search rules
 
-mul-t20 : tie.Need-overflow-mul-t20
-mul-t20 c = search rules
+offset_bounds-script-at-5 : tie.Need-offset_bounds-script-at-5
+offset_bounds-script-at-5 c = search rules
 
-shared-slice-read-t22 : tie.Need-shared-slice-read-t22
-shared-slice-read-t22 c = search rules
+bounds-script-at-5 : tie.Need-bounds-script-at-5
+bounds-script-at-5 c = search rules
 
-add-t23 : tie.Need-overflow-add-t23
-add-t23 c = search rules
+overflow_add-result-5 : tie.Need-overflow_add-result-5
+overflow_add-result-5 c = search rules
 
-mul-t24 : tie.Need-overflow-mul-t24
-mul-t24 c = search rules
+offset_bounds-script-at-6 : tie.Need-offset_bounds-script-at-6
+offset_bounds-script-at-6 c = search rules
 
-shared-slice-read-t26 : tie.Need-shared-slice-read-t26
-shared-slice-read-t26 c = search rules
+bounds-script-at-6 : tie.Need-bounds-script-at-6
+bounds-script-at-6 c = search rules
 
 returns : tie.Need-returns
 returns c = refl
@@ -64,23 +64,4 @@ returns c = refl
 pub numbers_at_spec : {M : Type 1} → statement M
 numbers_at_spec =
     tie.close
-    (tie.spec
-    mul_at
-    mul-t4
-    shared-slice-read-t6
-    add-t7
-    mul-t8
-    shared-slice-read-t10
-    add-t11
-    mul-t12
-    shared-slice-read-t14
-    add-t15
-    mul-t16
-    shared-slice-read-t18
-    add-t19
-    mul-t20
-    shared-slice-read-t22
-    add-t23
-    mul-t24
-    shared-slice-read-t26
-    returns)
+    (tie.spec overflow_mul-at offset_bounds-script-at bounds-script-at overflow_add-result offset_bounds-script-at-2 bounds-script-at-2 overflow_add-result-2 offset_bounds-script-at-3 bounds-script-at-3 overflow_add-result-3 offset_bounds-script-at-4 bounds-script-at-4 overflow_add-result-4 offset_bounds-script-at-5 bounds-script-at-5 overflow_add-result-5 offset_bounds-script-at-6 bounds-script-at-6 returns)

@@ -12,62 +12,50 @@ use Rattle.scripts.proofs.layout.Placed.{placed_three}
 use Rattle.scripts.proofs.layout.write_reply.Statement.{statement}
 use Rattle.scripts.proofs.layout.write_reply.Tie as tie
 
-mul_at : tie.Need-overflow-mul-at
-mul_at c = search rules
+overflow_mul-at : tie.Need-overflow_mul-at
+overflow_mul-at c = search rules
 
-cast_number : tie.Need-overflow-cast-number
-cast_number c = search rules
+overflow_cast-number : tie.Need-overflow_cast-number
+overflow_cast-number c = search rules
 
-mul-number : tie.Need-overflow-mul-number
-mul-number c = search rules
+offset_bounds-answers-at : tie.Need-offset_bounds-answers-at
+offset_bounds-answers-at c = search rules
 
-slice-set-from-number : tie.Need-slice-set-from-number
-slice-set-from-number c = search rules
+bounds-answers-at : tie.Need-bounds-answers-at
+bounds-answers-at c = search rules
 
-add-x : tie.Need-overflow-add-x
-add-x c = search rules
+overflow_add-x : tie.Need-overflow_add-x
+overflow_add-x c = search rules
 
-mul-x : tie.Need-overflow-mul-x
-mul-x c = search rules
+offset_bounds-answers-at-2 : tie.Need-offset_bounds-answers-at-2
+offset_bounds-answers-at-2 c = search rules
 
-slice-set-from-x : tie.Need-slice-set-from-x
-slice-set-from-x c = simp length-set (omega arith)
+bounds-answers-at-2 : tie.Need-bounds-answers-at-2
+bounds-answers-at-2 c = simp length-set (omega arith)
 
-add-y : tie.Need-overflow-add-y
-add-y c = search rules
+overflow_add-y : tie.Need-overflow_add-y
+overflow_add-y c = search rules
 
-mul-y : tie.Need-overflow-mul-y
-mul-y c = search rules
+offset_bounds-answers-at-3 : tie.Need-offset_bounds-answers-at-3
+offset_bounds-answers-at-3 c = search rules
 
-slice-set-from-y : tie.Need-slice-set-from-y
-slice-set-from-y c = simp length-set (omega arith)
+bounds-answers-at-3 : tie.Need-bounds-answers-at-3
+bounds-answers-at-3 c = simp length-set (omega arith)
 
-same_length : tie.Need-same-length
-same_length c = search rules
+shape_of-answers : tie.Need-shape_of-answers
+shape_of-answers c = search rules
 
 returns : tie.Need-returns
 returns c =
     let a = c.before.before.before.args in
     let l = a.answers.now in
     let k = 3 * a.i in
-    let n : to_z w64 a.reply.number ≡ pos a.reply.number = to_z_pos w64 a.reply.number (omega (arith, c.before.before.struct_known.given.0)) in
-    let x = to_z-of_z w64 a.reply.x (record { sfits = c.struct-told2.given.1.0.1 }) in
-    let y = to_z-of_z w64 a.reply.y (record { sfits = c.struct-told2.given.1.1.0.1 }) in
+    let n : to_z w64 a.reply.number ≡ pos a.reply.number = to_z_pos w64 a.reply.number (omega (arith, c.before.before.struct_known-1.given.0)) in
+    let x = to_z-of_z w64 a.reply.x (record { sfits = c.struct_told-2-1.given.1.0.1 }) in
+    let y = to_z-of_z w64 a.reply.y (record { sfits = c.struct_told-2-1.given.1.1.0.1 }) in
     (λ i. set (set (set l k (n i)) (k + 1) (x i)) (k + 2) (y i)) ∙ placed_three l k (pos a.reply.number) a.reply.x a.reply.y (omega arith)
 
 pub write_reply_spec : {M : Type 1} → statement M
 write_reply_spec =
     tie.close
-    (tie.spec
-    mul_at
-    cast_number
-    mul-number
-    slice-set-from-number
-    add-x
-    mul-x
-    slice-set-from-x
-    add-y
-    mul-y
-    slice-set-from-y
-    same_length
-    returns)
+    (tie.spec overflow_mul-at overflow_cast-number offset_bounds-answers-at bounds-answers-at overflow_add-x offset_bounds-answers-at-2 bounds-answers-at-2 overflow_add-y offset_bounds-answers-at-3 bounds-answers-at-3 shape_of-answers returns)

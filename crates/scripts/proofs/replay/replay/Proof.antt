@@ -10,73 +10,58 @@ use Rattle.scripts.proofs.replay.Modelled.{replay_modelled}
 use Rattle.scripts.proofs.replay.replay.Statement.{statement}
 use Rattle.scripts.proofs.replay.replay.Tie as tie
 
-abbrev invariant-loop : tie.invariant-loop
-invariant-loop script volume₀ scratch₀ answers₀ count held₀ i₀ volume scratch answers held i =
+abbrev invariant-loop-i : tie.invariant-loop-i
+invariant-loop-i script volume₀ scratch₀ answers₀ count held₀ i₀ volume scratch answers held i =
     (length volume ≡ length volume₀) × Replaying script scratch₀ answers₀ count (replay_step held₀ script volume₀ scratch₀ answers₀) i held volume scratch answers
 
-abbrev decreases-loop : tie.decreases-loop
-decreases-loop script volume₀ scratch₀ answers₀ count held₀ i₀ volume scratch answers held i = count - i
+abbrev decreases-loop-i : tie.decreases-loop-i
+decreases-loop-i script volume₀ scratch₀ answers₀ count held₀ i₀ volume scratch answers held i = count - i
 
-call-count-requires : tie.Need-call-count-requires invariant-loop decreases-loop
-call-count-requires c κs = search rules
+call_count-count-requires : tie.Need-call_count-count-requires invariant-loop-i decreases-loop-i
+call_count-count-requires c κs = search rules
 
-loop-holds : tie.Need-loop-init invariant-loop decreases-loop
-loop-holds c =
-    let a = c.before.before.before.before.args in
-    (refl, record { le = omega arith; scratch_length_lem = refl; output_length = refl; is = resumed_none a.script.now a.volume.now a.scratch.now a.answers.now c.call-count.result a.job c.call-count.ensures })
+loop-i-init : tie.Need-loop-i-init invariant-loop-i decreases-loop-i
+loop-i-init c =
+    let a = c.args in
+    (refl, record { le = omega arith; scratch_length_lem = refl; output_length = refl; is = resumed_none a.script.now a.volume.now a.scratch.now a.answers.now c.call_count-count.result a.job c.call_count-count.ensures })
 
-call-at-requires : tie.Need-call-at-requires invariant-loop decreases-loop
-call-at-requires c κs = omega arith
+call_at-called-requires : tie.Need-call_at-called-requires invariant-loop-i decreases-loop-i
+call_at-called-requires c κs = omega arith
 
-write-reply-requires : tie.Need-write-reply-requires invariant-loop decreases-loop
-write-reply-requires c κs = omega arith
+write_reply-requires : tie.Need-write_reply-requires invariant-loop-i decreases-loop-i
+write_reply-requires c κs = omega arith
 
-add-i : tie.Need-overflow-add-i invariant-loop decreases-loop
-add-i c = omega (arith, c.before.before.before.before.before.before.before.before.before.before.before.before.before.call-count.ensures, c.before.before.before.before.before.before.before.before.before.before.before.before.before.before.before.before.before.well-formed.1.0)
+overflow_add-i : tie.Need-overflow_add-i invariant-loop-i decreases-loop-i
+overflow_add-i c = omega (arith, c.call_count-count.ensures)
 
-loop-less : tie.Need-loop-smaller invariant-loop decreases-loop
-loop-less c = omega arith
+loop-i-smaller : tie.Need-loop-i-smaller invariant-loop-i decreases-loop-i
+loop-i-smaller c = omega arith
 
-loop-again : tie.Need-loop-preserved invariant-loop decreases-loop
-loop-again c =
-    let d = c.before.before.before.before.before.before.before.before.call_at in
-    let l = c.before.before.before.before.before.before.before.before.before.before.before.before in
-    let w = c.before.before.write-reply in
-    (d.auto.1.1.1.0 ∙ l.loop.invariant.0, replaying_next (call_outcome d.result d.new.1.1.1.0 d.new.1.1.1.1.0) w.new.0 l.loop.invariant.1 c.before.before.before.before.before.before.before.before.before.before.before.loop-test.true (omega (arith, l.before.call-count.ensures)) d.auto.1.1.1.1.0 w.auto.0 d.ensures w.ensures)
+loop-i-preserved : tie.Need-loop-i-preserved invariant-loop-i decreases-loop-i
+loop-i-preserved c =
+    let d = c.call_at-called in
+    let w = c.write_reply in
+    (d.auto.volume ∙ c.loop-i.invariant.0, replaying_next (call_outcome d.result d.new.volume d.new.scratch) w.new.answers c.loop-i.invariant.1 c.loop-i-test.true (omega (arith, c.call_count-count.ensures)) d.auto.scratch w.auto.answers d.ensures w.ensures)
 
-mul-t10 : tie.Need-overflow-mul-t10 invariant-loop decreases-loop
-mul-t10 c = omega arith
+overflow_mul-result : tie.Need-overflow_mul-result invariant-loop-i decreases-loop-i
+overflow_mul-result c = omega arith
 
-same_length : tie.Need-same-length invariant-loop decreases-loop
-same_length c = c.before.loop.invariant.0
+shape_of-volume : tie.Need-shape_of-volume invariant-loop-i decreases-loop-i
+shape_of-volume c = c.loop-i.invariant.0
 
-same-length-2 : tie.Need-same-length-2 invariant-loop decreases-loop
-same-length-2 c = c.before.loop.invariant.1.scratch_length_lem
+shape_of-scratch : tie.Need-shape_of-scratch invariant-loop-i decreases-loop-i
+shape_of-scratch c = c.loop-i.invariant.1.scratch_length_lem
 
-same-length-3 : tie.Need-same-length-3 invariant-loop decreases-loop
-same-length-3 c = c.before.loop.invariant.1.output_length
+shape_of-answers : tie.Need-shape_of-answers invariant-loop-i decreases-loop-i
+shape_of-answers c = c.loop-i.invariant.1.output_length
 
-returns : tie.Need-returns invariant-loop decreases-loop
+returns : tie.Need-returns invariant-loop-i decreases-loop-i
 returns c =
-    let a = c.before.before.before.before.before.before.args in
-    let e = replaying_all c.before.loop.invariant.1 (omega arith) in
+    let a = c.args in
+    let e = replaying_all c.loop-i.invariant.1 (omega arith) in
     (e, λ μ s m started. e ∙ replay_modelled μ s m a.job a.script.now a.volume.now a.scratch.now a.answers.now started)
 
 pub replay_spec : {M : Type 1} → statement M
 replay_spec =
     tie.close
-    (tie.spec
-    invariant-loop
-    decreases-loop
-    call-count-requires
-    loop-holds
-    call-at-requires
-    write-reply-requires
-    add-i
-    loop-less
-    loop-again
-    mul-t10
-    same_length
-    same-length-2
-    same-length-3
-    returns)
+    (tie.spec invariant-loop-i decreases-loop-i call_count-count-requires loop-i-init call_at-called-requires write_reply-requires overflow_add-i loop-i-smaller loop-i-preserved overflow_mul-result shape_of-volume shape_of-scratch shape_of-answers returns)

@@ -7,21 +7,21 @@ use Rattle.scripts.proofs.replay.call.analysis_call.Tie as tie
 analysis-requires : tie.Need-analysis-requires
 analysis-requires c κs = search rules
 
-of-answered-requires : tie.Need-of-answered-requires
-of-answered-requires c κs = search rules
+of_answered-requires : tie.Need-of_answered-requires
+of_answered-requires c κs = search rules
 
-same_length : tie.Need-same-length
-same_length c = c.before.before.before.before.before.analysis.auto.1.0
+shape_of-volume : tie.Need-shape_of-volume
+shape_of-volume c = c.analysis.auto.volume
 
-same-length-2 : tie.Need-same-length-2
-same-length-2 c = c.before.before.before.before.before.analysis.auto.1.1.0
+shape_of-scratch : tie.Need-shape_of-scratch
+shape_of-scratch c = c.analysis.auto.scratch
 
 returns : tie.Need-returns
 returns c =
-    let w = c.before.before.before.before.before.analysis in
-    let a = c.before.before.before.before.before.before.before.before.before.before.args in
-    call_analysis a.job a.volume.now c.of-answered.result w.result _ c.of-answered.ensures.0 c.of-answered.ensures.1 a.scratch.now _ w.ensures
+    let w = c.analysis in
+    let a = c.args in
+    call_analysis a.job a.volume.now c.of_answered.result w.result _ c.of_answered.ensures.0 c.of_answered.ensures.1 a.scratch.now _ w.ensures
 
 pub analysis_call_spec : {M : Type 1} → statement M
 analysis_call_spec =
-    tie.close (tie.spec analysis-requires of-answered-requires same_length same-length-2 returns)
+    tie.close (tie.spec analysis-requires of_answered-requires shape_of-volume shape_of-scratch returns)

@@ -7,21 +7,21 @@ use Rattle.scripts.proofs.replay.call.synthesis_call.Tie as tie
 synthesis-requires : tie.Need-synthesis-requires
 synthesis-requires c κs = search rules
 
-of-answered-requires : tie.Need-of-answered-requires
-of-answered-requires c κs = search rules
+of_answered-requires : tie.Need-of_answered-requires
+of_answered-requires c κs = search rules
 
-same_length : tie.Need-same-length
-same_length c = c.before.before.before.before.before.synthesis.auto.1.0
+shape_of-volume : tie.Need-shape_of-volume
+shape_of-volume c = c.synthesis.auto.volume
 
-same-length-2 : tie.Need-same-length-2
-same-length-2 c = c.before.before.before.before.before.synthesis.auto.1.1.0
+shape_of-scratch : tie.Need-shape_of-scratch
+shape_of-scratch c = c.synthesis.auto.scratch
 
 returns : tie.Need-returns
 returns c =
-    let w = c.before.before.before.before.before.synthesis in
-    let a = c.before.before.before.before.before.before.before.before.before.before.args in
-    call_synthesis a.job a.volume.now c.of-answered.result w.result _ c.of-answered.ensures.0 c.of-answered.ensures.1 a.scratch.now _ w.ensures
+    let w = c.synthesis in
+    let a = c.args in
+    call_synthesis a.job a.volume.now c.of_answered.result w.result _ c.of_answered.ensures.0 c.of_answered.ensures.1 a.scratch.now _ w.ensures
 
 pub synthesis_call_spec : {M : Type 1} → statement M
 synthesis_call_spec =
-    tie.close (tie.spec synthesis-requires of-answered-requires same_length same-length-2 returns)
+    tie.close (tie.spec synthesis-requires of_answered-requires shape_of-volume shape_of-scratch returns)

@@ -5,35 +5,26 @@ use Rattle.printing.proofs.Synthesised.{synthesised_text}
 use Rattle.printing.proofs.printer.print_job.Statement.{statement}
 use Rattle.printing.proofs.printer.print_job.Tie as tie
 
-slice-aggregate-synthesis : tie.Need-slice-aggregate-synthesis
-slice-aggregate-synthesis c = search rules
+slice_bounds-synthesis-end : tie.Need-slice_bounds-synthesis-end
+slice_bounds-synthesis-end c = search rules
 
-synthesis-requires : tie.Need-synthesis-requires
-synthesis-requires c κs = search rules
+synthesis-answered-requires : tie.Need-synthesis-answered-requires
+synthesis-answered-requires c κs = search rules
 
-map-text-requires : tie.Need-map-text-requires
-map-text-requires c κs = search rules
+map_text-requires : tie.Need-map_text-requires
+map_text-requires c κs = search rules
 
-same_length : tie.Need-same-length
-same_length c = search rules
+shape_of-volume : tie.Need-shape_of-volume
+shape_of-volume c = search rules
 
-same-length-2 : tie.Need-same-length-2
-same-length-2 c = search rules
+shape_of-out : tie.Need-shape_of-out
+shape_of-out c = search rules
 
 returns : tie.Need-returns
 returns c =
-    let t = c.before.before in
-    let y = t.before.before.before.before.before.before in
-    let s = y.before.before.before.before.before in
-    t.map-text.ensures ∙ synthesised_text s.args.job s.args.volume.now s.requires s.args.out.now y.synthesis.result y.synthesis.ensures
+    c.map_text.ensures ∙ synthesised_text c.args.job c.args.volume.now c.requires c.args.out.now c.synthesis-answered.result c.synthesis-answered.ensures
 
 pub print_job_spec : {M : Type 1} → statement M
 print_job_spec =
     tie.close
-    (tie.spec
-    slice-aggregate-synthesis
-    synthesis-requires
-    map-text-requires
-    same_length
-    same-length-2
-    returns)
+    (tie.spec slice_bounds-synthesis-end synthesis-answered-requires map_text-requires shape_of-volume shape_of-out returns)

@@ -22,65 +22,43 @@ told {v = v} out e q = ap (λ (a : FileAnswer). put_text (opened_text (file_outc
 opened_by : {r : FileAnswer} {j : Job} {v : List ℕ} {o : OpenOutcome} → file_outcome r v ≡ o → r ≡ Opened j → o ≡ record { answer = opened j; volume = v }
 opened_by {v = v} e q = sym e ∙ ap (λ (a : FileAnswer). file_outcome a v) q
 
-open-file-requires : tie.Need-open-file-requires
-open-file-requires c κs = search rules
+open_file-answer-requires : tie.Need-open_file-answer-requires
+open_file-answer-requires c κs = search rules
 
-enum-known-answer : tie.Need-enum-known-answer
-enum-known-answer c = search rules
+enum_known-answer : tie.Need-enum_known-answer
+enum_known-answer c = search rules
 
-refusal-text-requires : tie.Need-refusal-text-requires
-refusal-text-requires c κs = search rules
+refusal_text-requires : tie.Need-refusal_text-requires
+refusal_text-requires c κs = search rules
 
-same_length : tie.Need-same-length
-same_length c = search rules
+shape_of-volume-in-Refused : tie.Need-shape_of-volume-in-Refused
+shape_of-volume-in-Refused c = search rules
 
-same-length-2 : tie.Need-same-length-2
-same-length-2 c = search rules
+shape_of-out-in-Refused : tie.Need-shape_of-out-in-Refused
+shape_of-out-in-Refused c = search rules
 
-returns : tie.Need-returns
-returns c =
-    let t = c.before.before in
-    let a = t.before.before.before in
-    let y = a.before.before.before.before in
-    let s = y.before.before.before.before.before in
-    t.refusal-text.ensures ∙ told s.args.out.now y.open-file.ensures a.answer.given.1
+returns-in-Refused : tie.Need-returns-in-Refused
+returns-in-Refused c =
+    c.refusal_text.ensures ∙ told c.args.out.now c.open_file-answer.ensures c.in-Refused.is
 
-enum-known-answer-2 : tie.Need-enum-known-answer-2
-enum-known-answer-2 c = search rules
+enum_known-answer-in-Opened-1 : tie.Need-enum_known-answer-in-Opened-1
+enum_known-answer-in-Opened-1 c = search rules
 
-print-job-requires : tie.Need-print-job-requires
-print-job-requires c κs =
-    let a = c.before.before.before in
-    let y = a.before.before.before.before in
-    let s = y.before.before.before.before.before in
-    opened_synthesis s.args.file.now s.args.volume.now _ _ (opened_by y.open-file.ensures a.answer2.given.1)
+print_job-requires : tie.Need-print_job-requires
+print_job-requires c κs =
+    opened_synthesis c.args.file.now c.args.volume.now _ _ (opened_by c.open_file-answer.ensures c.in-Opened.is)
 
-same-length-3 : tie.Need-same-length-3
-same-length-3 c = search rules
+shape_of-volume-in-Opened : tie.Need-shape_of-volume-in-Opened
+shape_of-volume-in-Opened c = search rules
 
-same-length-4 : tie.Need-same-length-4
-same-length-4 c = search rules
+shape_of-out-in-Opened : tie.Need-shape_of-out-in-Opened
+shape_of-out-in-Opened c = search rules
 
-returns-2 : tie.Need-returns-2
-returns-2 c =
-    let t = c.before.before.before.before in
-    let a = t.before.before.before.before in
-    let y = a.before.before.before.before in
-    let s = y.before.before.before.before.before in
-    t.print-job.ensures ∙ told s.args.out.now y.open-file.ensures a.answer2.given.1
+returns-in-Opened : tie.Need-returns-in-Opened
+returns-in-Opened c =
+    c.print_job.ensures ∙ told c.args.out.now c.open_file-answer.ensures c.in-Opened.is
 
 pub print_opened_spec : {M : Type 1} → statement M
 print_opened_spec =
     tie.close
-    (tie.spec
-    open-file-requires
-    enum-known-answer
-    refusal-text-requires
-    same_length
-    same-length-2
-    returns
-    enum-known-answer-2
-    print-job-requires
-    same-length-3
-    same-length-4
-    returns-2)
+    (tie.spec open_file-answer-requires enum_known-answer refusal_text-requires shape_of-volume-in-Refused shape_of-out-in-Refused returns-in-Refused enum_known-answer-in-Opened-1 print_job-requires shape_of-volume-in-Opened shape_of-out-in-Opened returns-in-Opened)

@@ -11,57 +11,46 @@ use Rattle.job.proofs.check.Numbers.{number_above, number_below}
 use Rattle.printing.proofs.row_values.are_residues.Statement.{statement}
 use Rattle.printing.proofs.row_values.are_residues.Tie as tie
 
-abbrev invariant-loop : tie.invariant-loop
-invariant-loop p volume start n y₀ y = Passing (λ y. ltb (get_or volume (start + y) 0) p) n y
+abbrev invariant-loop-y : tie.invariant-loop-y
+invariant-loop-y p volume start n y₀ y = Passing (λ y. ltb (get_or volume (start + y) 0) p) n y
 
-abbrev decreases-loop : tie.decreases-loop
-decreases-loop p volume start n y₀ y = n - y
+abbrev decreases-loop-y : tie.decreases-loop-y
+decreases-loop-y p volume start n y₀ y = n - y
 
-loop-holds : tie.Need-loop-init invariant-loop decreases-loop
-loop-holds c = passing_start _ _
+loop-y-init : tie.Need-loop-y-init invariant-loop-y decreases-loop-y
+loop-y-init c = passing_start _ _
 
-add-if1 : tie.Need-overflow-add-if1 invariant-loop decreases-loop
-add-if1 c = omega arith
+overflow_add-start : tie.Need-overflow_add-start invariant-loop-y decreases-loop-y
+overflow_add-start c = omega arith
 
-mul-if1 : tie.Need-overflow-mul-if1 invariant-loop decreases-loop
-mul-if1 c = omega arith
+offset_bounds-volume-start : tie.Need-offset_bounds-volume-start invariant-loop-y decreases-loop-y
+offset_bounds-volume-start c = omega arith
 
-shared-slice-read-if1 : tie.Need-shared-slice-read-if1 invariant-loop decreases-loop
-shared-slice-read-if1 c = omega arith
+bounds-volume-start : tie.Need-bounds-volume-start invariant-loop-y decreases-loop-y
+bounds-volume-start c = omega arith
 
-add-y : tie.Need-overflow-add-y invariant-loop decreases-loop
-add-y c = omega arith
+overflow_add-y : tie.Need-overflow_add-y invariant-loop-y decreases-loop-y
+overflow_add-y c = omega arith
 
-loop-less : tie.Need-loop-smaller invariant-loop decreases-loop
-loop-less c = omega arith
+loop-y-smaller : tie.Need-loop-y-smaller invariant-loop-y decreases-loop-y
+loop-y-smaller c = omega arith
 
-loop-again : tie.Need-loop-preserved invariant-loop decreases-loop
-loop-again c =
+loop-y-preserved : tie.Need-loop-y-preserved invariant-loop-y decreases-loop-y
+loop-y-preserved c =
     let l = c.before.before.before in
     let a = l.before.args in
-    passing_next l.loop.invariant c.before.before.loop-test.true (sym (number_below a.volume.now {q = a.start + l.loop.y} refl refl c.if1.true)) refl
+    passing_next l.loop-y.invariant c.before.before.loop-y-test.true (sym (number_below a.volume.now {q = a.start + l.loop-y.y} refl refl c.if-volume-start.true)) refl
 
-returns : tie.Need-returns invariant-loop decreases-loop
-returns c =
+returns-else-volume-start : tie.Need-returns-else-volume-start invariant-loop-y decreases-loop-y
+returns-else-volume-start c =
     let l = c.before.before.before in
     let a = l.before.args in
-    passing_stop l.loop.invariant c.before.before.loop-test.true (sym (number_above a.volume.now {q = a.start + l.loop.y} refl refl c.if1.false)) refl
+    passing_stop l.loop-y.invariant c.before.before.loop-y-test.true (sym (number_above a.volume.now {q = a.start + l.loop-y.y} refl refl c.if-volume-start.false)) refl
 
-returns-2 : tie.Need-returns-2 invariant-loop decreases-loop
-returns-2 c = passing_done c.before.loop.invariant c.loop-test.false
+returns : tie.Need-returns invariant-loop-y decreases-loop-y
+returns c = passing_done c.before.loop-y.invariant c.loop-y-test.false
 
 pub are_residues_spec : {M : Type 1} → statement M
 are_residues_spec =
     tie.close
-    (tie.spec
-    invariant-loop
-    decreases-loop
-    loop-holds
-    add-if1
-    mul-if1
-    shared-slice-read-if1
-    add-y
-    loop-less
-    loop-again
-    returns
-    returns-2)
+    (tie.spec invariant-loop-y decreases-loop-y loop-y-init overflow_add-start offset_bounds-volume-start bounds-volume-start overflow_add-y loop-y-smaller loop-y-preserved returns-else-volume-start returns)

@@ -17,69 +17,49 @@ use Rattle.printing.proofs.row_values.put_values.Tie as tie
 abbrev field : ℕ → List ℕ → ℕ → ℕ → List ℕ
 field p volume start y = value_text p (get_or volume (start + y) 0)
 
-abbrev invariant-loop : tie.invariant-loop
-invariant-loop out₀ at p volume start n place₀ y₀ out place y = (y ≤ n) × Wrote at (each y (field p volume start)) out₀ place out
+abbrev invariant-loop-y : tie.invariant-loop-y
+invariant-loop-y out₀ at p volume start n place₀ y₀ out place y = (y ≤ n) × Wrote at (each y (field p volume start)) out₀ place out
 
-abbrev decreases-loop : tie.decreases-loop
-decreases-loop out₀ at p volume start n place₀ y₀ out place y = n - y
+abbrev decreases-loop-y : tie.decreases-loop-y
+decreases-loop-y out₀ at p volume start n place₀ y₀ out place y = n - y
 
-loop-holds : tie.Need-loop-init invariant-loop decreases-loop
-loop-holds c = (omega arith, each_none _ _ _)
+loop-y-init : tie.Need-loop-y-init invariant-loop-y decreases-loop-y
+loop-y-init c = (omega arith, each_none _ _ _)
 
-add-value : tie.Need-overflow-add-value invariant-loop decreases-loop
-add-value c = omega arith
+overflow_add-value : tie.Need-overflow_add-value invariant-loop-y decreases-loop-y
+overflow_add-value c = omega arith
 
-mul-value : tie.Need-overflow-mul-value invariant-loop decreases-loop
-mul-value c = omega arith
+offset_bounds-volume-start : tie.Need-offset_bounds-volume-start invariant-loop-y decreases-loop-y
+offset_bounds-volume-start c = omega arith
 
-shared-slice-read-value : tie.Need-shared-slice-read-value invariant-loop decreases-loop
-shared-slice-read-value c = omega arith
+bounds-volume-start : tie.Need-bounds-volume-start invariant-loop-y decreases-loop-y
+bounds-volume-start c = omega arith
 
-put-value-requires : tie.Need-put-value-requires invariant-loop decreases-loop
-put-value-requires c κs =
-    let t = c.before.before in
-    let l = t.before in
-    let s = l.before.before.before in
-    let v = s.args.volume.now in (
-      (ltb-true _ _ (passed_at (λ y. ltb (get_or v (s.args.start + y) 0) s.args.p) s.args.n l.loop.y s.requires.0.1 t.loop-test.true), s.requires.0.2),
-      each_ends (field s.args.p v s.args.start) s.requires.1 t.loop-test.true l.loop.invariant.1,
+put_value-place-requires : tie.Need-put_value-place-requires invariant-loop-y decreases-loop-y
+put_value-place-requires c κs =
+    let v = c.args.volume.now in (
+      (ltb-true _ _ (passed_at (λ y. ltb (get_or v (c.args.start + y) 0) c.args.p) c.args.n c.loop-y.y c.requires.0.1 c.loop-y-test.true), c.requires.0.2),
+      each_ends (field c.args.p v c.args.start) c.requires.1 c.loop-y-test.true c.loop-y.invariant.1,
     )
 
-add-y : tie.Need-overflow-add-y invariant-loop decreases-loop
-add-y c = omega arith
+overflow_add-y : tie.Need-overflow_add-y invariant-loop-y decreases-loop-y
+overflow_add-y c = omega arith
 
-loop-less : tie.Need-loop-smaller invariant-loop decreases-loop
-loop-less c = omega arith
+loop-y-smaller : tie.Need-loop-y-smaller invariant-loop-y decreases-loop-y
+loop-y-smaller c = omega arith
 
-loop-again : tie.Need-loop-preserved invariant-loop decreases-loop
-loop-again c =
-    let d = c.before.before in
-    let l = d.before.before.before.before in
-    let s = l.before.before.before in
-    (omega arith, each_next (field s.args.p s.args.volume.now s.args.start) l.loop.invariant.1 d.put-value.ensures)
+loop-y-preserved : tie.Need-loop-y-preserved invariant-loop-y decreases-loop-y
+loop-y-preserved c =
+    (omega arith, each_next (field c.args.p c.args.volume.now c.args.start) c.loop-y.invariant.1 c.put_value-place.ensures)
 
-same_length : tie.Need-same-length invariant-loop decreases-loop
-same_length c = wrote_length c.before.loop.invariant.1
+shape_of-out : tie.Need-shape_of-out invariant-loop-y decreases-loop-y
+shape_of-out c = wrote_length c.loop-y.invariant.1
 
-returns : tie.Need-returns invariant-loop decreases-loop
+returns : tie.Need-returns invariant-loop-y decreases-loop-y
 returns c =
-    let l = c.before in
-    let s = l.before.before.before in
-    each_done (field s.args.p s.args.volume.now s.args.start) l.loop.invariant.0 c.loop-test.false l.loop.invariant.1
+    each_done (field c.args.p c.args.volume.now c.args.start) c.loop-y.invariant.0 c.loop-y-test.false c.loop-y.invariant.1
 
 pub put_values_spec : {M : Type 1} → statement M
 put_values_spec =
     tie.close
-    (tie.spec
-    invariant-loop
-    decreases-loop
-    loop-holds
-    add-value
-    mul-value
-    shared-slice-read-value
-    put-value-requires
-    add-y
-    loop-less
-    loop-again
-    same_length
-    returns)
+    (tie.spec invariant-loop-y decreases-loop-y loop-y-init overflow_add-value offset_bounds-volume-start bounds-volume-start put_value-place-requires overflow_add-y loop-y-smaller loop-y-preserved shape_of-out returns)

@@ -11,44 +11,36 @@ use Rattle.printing.proofs.map_text.refusal.refusal_text.Statement.{statement}
 use Rattle.printing.proofs.map_text.refusal.refusal_text.Tie as tie
 
 -- the text's length
-measured : (c : tie.After-refusal-length) → let s = c.before.before.before in c.refusal-length.result ≡ length (refusal_text (number_of s.args.refusal) s.args.place)
-measured c = c.refusal-length.ensures ∙ ap (λ (n : ℕ). length (refusal_text n c.before.before.before.args.place)) c.before.number_of_lem.ensures
+measured : (c : tie.After-refusal_length) → c.refusal_length.result ≡ length (refusal_text (number_of c.args.refusal) c.args.place)
+measured c = c.refusal_length.ensures ∙ ap (λ (n : ℕ). length (refusal_text n c.args.place)) c.number_of-number.ensures
 
-number-of-requires : tie.Need-number-of-requires
-number-of-requires c κs = search rules
+number_of-number-requires : tie.Need-number_of-number-requires
+number_of-number-requires c κs = search rules
 
-refusal-length-requires : tie.Need-refusal-length-requires
-refusal-length-requires c κs = search rules
+refusal_length-requires : tie.Need-refusal_length-requires
+refusal_length-requires c κs = search rules
+
+returns-then-out-refusal_length : tie.Need-returns-then-out-refusal_length
+returns-then-out-refusal_length c =
+    let m = c.before in
+    put_refused (refusal_text (number_of m.args.refusal) m.args.place) m.args.out.now (subst (λ (n : ℕ). length m.args.out.now < n) (measured m) c.if-out-refusal_length.true)
+
+put_refusal-requires : tie.Need-put_refusal-requires
+put_refusal-requires c κs = search rules
+
+shape_of-out : tie.Need-shape_of-out
+shape_of-out c = search rules
 
 returns : tie.Need-returns
 returns c =
-    let m = c.before in
-    let s = m.before.before.before in
-    put_refused (refusal_text (number_of s.args.refusal) s.args.place) s.args.out.now (subst (λ (n : ℕ). length s.args.out.now < n) (measured m) c.if1.true)
-
-put-refusal-requires : tie.Need-put-refusal-requires
-put-refusal-requires c κs = search rules
-
-same_length : tie.Need-same-length
-same_length c = search rules
-
-returns-2 : tie.Need-returns-2
-returns-2 c =
     let w = c.before.before in
     let i = w.before.before in
     let m = i.before in
-    let s = m.before.before.before in
     put_written
-    (subst (λ (n : ℕ). Wrote 0 (refusal_text n s.args.place) s.args.out.now w.put-refusal.result w.put-refusal.new.0) m.before.number_of_lem.ensures w.put-refusal.ensures)
-    (subst (λ (n : ℕ). n ≤ length s.args.out.now) (measured m) i.if1.false)
+    (subst (λ (n : ℕ). Wrote 0 (refusal_text n m.args.place) m.args.out.now w.put_refusal.result w.put_refusal.new.out) m.number_of-number.ensures w.put_refusal.ensures)
+    (subst (λ (n : ℕ). n ≤ length m.args.out.now) (measured m) i.if-out-refusal_length.false)
 
 pub refusal_text_spec : {M : Type 1} → statement M
 refusal_text_spec =
     tie.close
-    (tie.spec
-    number-of-requires
-    refusal-length-requires
-    returns
-    put-refusal-requires
-    same_length
-    returns-2)
+    (tie.spec number_of-number-requires refusal_length-requires returns-then-out-refusal_length put_refusal-requires shape_of-out returns)

@@ -4,14 +4,14 @@ use native.Mathlib.Omega.{arith}
 use Rattle.printing.proofs.map_text.text.map_length.Statement.{statement}
 use Rattle.printing.proofs.map_text.text.map_length.Tie as tie
 
-slice-aggregate-put-map : tie.Need-slice-aggregate-put-map
-slice-aggregate-put-map c = search rules
+slice_bounds-put_map-end : tie.Need-slice_bounds-put_map-end
+slice_bounds-put_map-end c = search rules
 
-put-map-requires : tie.Need-put-map-requires
-put-map-requires c κs = search rules
+put_map-requires : tie.Need-put_map-requires
+put_map-requires c κs = search rules
 
 returns : tie.Need-returns
-returns c = omega (arith, c.before.put_map.ensures.place)
+returns c = omega (arith, c.put_map.ensures.place)
 
 pub map_length_spec : {M : Type 1} → statement M
-map_length_spec = tie.close (tie.spec slice-aggregate-put-map put-map-requires returns)
+map_length_spec = tie.close (tie.spec slice_bounds-put_map-end put_map-requires returns)

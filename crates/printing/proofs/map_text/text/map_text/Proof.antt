@@ -10,45 +10,35 @@ use Rattle.printing.proofs.map_text.text.map_text.Statement.{statement}
 use Rattle.printing.proofs.map_text.text.map_text.Tie as tie
 
 -- no test holds
-none : (c : tie.After-enum-told) → let s = c.before.before.before.before.before in 0 ≡ first (text_tests s.args.job s.args.volume.now (length s.args.out.now))
-none c = ap checked_number (sym c.enum_told.given.1) ∙ c.before.before.check-text.ensures
+none : (c : tie.In-Sound) → 0 ≡ first (text_tests c.args.job c.args.volume.now (length c.args.out.now))
+none c = ap checked_number (sym c.in-Sound.is) ∙ c.check_text-checked.ensures
 
-check-text-requires : tie.Need-check-text-requires
-check-text-requires c κs = search rules
+check_text-checked-requires : tie.Need-check_text-checked-requires
+check_text-checked-requires c κs = search rules
 
-enum-known-checked : tie.Need-enum-known-checked
-enum-known-checked c = search rules
+enum_known-checked : tie.Need-enum_known-checked
+enum_known-checked c = search rules
 
-enum_told : tie.Need-enum-told
-enum_told c = search rules
+enum_told-1 : tie.Need-enum_told-1
+enum_told-1 c = search rules
 
-put-map-requires : tie.Need-put-map-requires
-put-map-requires c κs = let t = c.before in let s = t.before.before.before.before.before in text_printable s.args.job s.args.volume.now s.args.out.now (none t)
+put_map-requires : tie.Need-put_map-requires
+put_map-requires c κs = let t = c.before in text_printable t.args.job t.args.volume.now t.args.out.now (none t)
 
-returns : tie.Need-returns
-returns c =
-    let k = c.before.before.before in
-    let s = k.before.before.before in
-    text_refused s.args.job s.args.volume.now s.args.out.now c.before.checked.given.0.0 (ap checked_number (sym c.before.checked.given.1) ∙ k.check-text.ensures)
+returns-in-Failed : tie.Need-returns-in-Failed
+returns-in-Failed c =
+    text_refused c.args.job c.args.volume.now c.args.out.now c.in-Failed.refusal (ap checked_number (sym c.in-Failed.is) ∙ c.check_text-checked.ensures)
 
-same_length : tie.Need-same-length
-same_length c = search rules
+shape_of-out : tie.Need-shape_of-out
+shape_of-out c = search rules
 
-returns-2 : tie.Need-returns-2
-returns-2 c =
+returns-in-Sound : tie.Need-returns-in-Sound
+returns-in-Sound c =
     let w = c.before.before in
     let t = w.before.before in
-    let s = t.before.before.before.before.before in
-    text_written s.args.job s.args.volume.now s.args.out.now (none t) w.put_map.ensures
+    text_written t.args.job t.args.volume.now t.args.out.now (none t) w.put_map.ensures
 
 pub map_text_spec : {M : Type 1} → statement M
 map_text_spec =
     tie.close
-    (tie.spec
-    check-text-requires
-    enum-known-checked
-    enum_told
-    put-map-requires
-    returns
-    same_length
-    returns-2)
+    (tie.spec check_text-checked-requires enum_known-checked enum_told-1 put_map-requires returns-in-Failed shape_of-out returns-in-Sound)

@@ -13,54 +13,37 @@ use Rattle.printing.proofs.map_text.text.put_plane.Tie as tie
 abbrev row : Job → List ℕ → ℕ → ℕ → List ℕ
 row job volume z x = row_line job volume z x
 
-abbrev invariant-loop : tie.invariant-loop
-invariant-loop out₀ at job volume z n1 place₀ x₀ out place x = (x ≤ n1) × Wrote at (each x (row job volume z)) out₀ place out
+abbrev invariant-loop-x : tie.invariant-loop-x
+invariant-loop-x out₀ at job volume z n1 place₀ x₀ out place x = (x ≤ n1) × Wrote at (each x (row job volume z)) out₀ place out
 
-abbrev decreases-loop : tie.decreases-loop
-decreases-loop out₀ at job volume z n1 place₀ x₀ out place x = n1 - x
+abbrev decreases-loop-x : tie.decreases-loop-x
+decreases-loop-x out₀ at job volume z n1 place₀ x₀ out place x = n1 - x
 
-loop-holds : tie.Need-loop-init invariant-loop decreases-loop
-loop-holds c = (omega arith, each_none _ _ _)
+loop-x-init : tie.Need-loop-x-init invariant-loop-x decreases-loop-x
+loop-x-init c = (omega arith, each_none _ _ _)
 
-put-row-requires : tie.Need-put-row-requires invariant-loop decreases-loop
-put-row-requires c κs =
-    let t = c.before in
-    let l = t.before in
-    let s = l.before.before.before in
-    ((s.requires.0.0, s.requires.0.1, t.loop-test.true), each_ends (row s.args.job s.args.volume.now s.args.z) s.requires.1 t.loop-test.true l.loop.invariant.1)
+put_row-place-requires : tie.Need-put_row-place-requires invariant-loop-x decreases-loop-x
+put_row-place-requires c κs =
+    ((c.requires.0.0, c.requires.0.1, c.loop-x-test.true), each_ends (row c.args.job c.args.volume.now c.args.z) c.requires.1 c.loop-x-test.true c.loop-x.invariant.1)
 
-add-x : tie.Need-overflow-add-x invariant-loop decreases-loop
-add-x c = omega arith
+overflow_add-x : tie.Need-overflow_add-x invariant-loop-x decreases-loop-x
+overflow_add-x c = omega arith
 
-loop-less : tie.Need-loop-smaller invariant-loop decreases-loop
-loop-less c = omega arith
+loop-x-smaller : tie.Need-loop-x-smaller invariant-loop-x decreases-loop-x
+loop-x-smaller c = omega arith
 
-loop-again : tie.Need-loop-preserved invariant-loop decreases-loop
-loop-again c =
-    let p = c.before.before in
-    let l = p.before.before.before in
-    let s = l.before.before.before in
-    (omega arith, each_next (row s.args.job s.args.volume.now s.args.z) l.loop.invariant.1 p.put-row.ensures)
+loop-x-preserved : tie.Need-loop-x-preserved invariant-loop-x decreases-loop-x
+loop-x-preserved c =
+    (omega arith, each_next (row c.args.job c.args.volume.now c.args.z) c.loop-x.invariant.1 c.put_row-place.ensures)
 
-same_length : tie.Need-same-length invariant-loop decreases-loop
-same_length c = wrote_length c.before.loop.invariant.1
+shape_of-out : tie.Need-shape_of-out invariant-loop-x decreases-loop-x
+shape_of-out c = wrote_length c.loop-x.invariant.1
 
-returns : tie.Need-returns invariant-loop decreases-loop
+returns : tie.Need-returns invariant-loop-x decreases-loop-x
 returns c =
-    let l = c.before in
-    let s = l.before.before.before in
-    each_done (row s.args.job s.args.volume.now s.args.z) l.loop.invariant.0 c.loop-test.false l.loop.invariant.1
+    each_done (row c.args.job c.args.volume.now c.args.z) c.loop-x.invariant.0 c.loop-x-test.false c.loop-x.invariant.1
 
 pub put_plane_spec : {M : Type 1} → statement M
 put_plane_spec =
     tie.close
-    (tie.spec
-    invariant-loop
-    decreases-loop
-    loop-holds
-    put-row-requires
-    add-x
-    loop-less
-    loop-again
-    same_length
-    returns)
+    (tie.spec invariant-loop-x decreases-loop-x loop-x-init put_row-place-requires overflow_add-x loop-x-smaller loop-x-preserved shape_of-out returns)

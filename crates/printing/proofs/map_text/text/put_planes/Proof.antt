@@ -19,70 +19,53 @@ use Rattle.printing.proofs.map_text.text.put_planes.Tie as tie
 abbrev plane : Job → List ℕ → ℕ → List ℕ
 plane job volume z = each job.a.length (λ x. row_line job volume z x)
 
-abbrev invariant-loop : tie.invariant-loop
-invariant-loop out₀ at job volume planes place₀ z₀ out place z = (z ≤ planes) × Wrote at (each z (plane job volume)) out₀ place out
+abbrev invariant-loop-z : tie.invariant-loop-z
+invariant-loop-z out₀ at job volume planes place₀ z₀ out place z = (z ≤ planes) × Wrote at (each z (plane job volume)) out₀ place out
 
-abbrev decreases-loop : tie.decreases-loop
-decreases-loop out₀ at job volume planes place₀ z₀ out place z = planes - z
+abbrev decreases-loop-z : tie.decreases-loop-z
+decreases-loop-z out₀ at job volume planes place₀ z₀ out place z = planes - z
 
 -- how many planes there are, in the job's own words
-counted : (c : tie.After-layer-count invariant-loop decreases-loop) → let j = c.before.before.before.before.args.job in c.layer-count.result ≡ layers (group_in j) (halves j)
-counted c = c.layer-count.ensures ∙ ap (λ (k : UnitCell). layers (cell_group k) (cell_halves k)) c.before.unit-cell.ensures
+counted : (c : tie.After-layer_count-planes invariant-loop-z decreases-loop-z) → let j = c.args.job in c.layer_count-planes.result ≡ layers (group_in j) (halves j)
+counted c = c.layer_count-planes.ensures ∙ ap (λ (k : UnitCell). layers (cell_group k) (cell_halves k)) c.unit_cell.ensures
 
 -- a plane of the loop is stored
-stored : (c : tie.In-loop invariant-loop decreases-loop) → let s = c.before.before.before.before.before.before in c.before.loop.z < layers (group_in s.args.job) (halves s.args.job)
-stored c = subst (λ (n : ℕ). c.before.loop.z < n) (counted c.before.before) c.loop-test.true
+stored : (c : tie.In-loop-z invariant-loop-z decreases-loop-z) → c.loop-z.z < layers (group_in c.args.job) (halves c.args.job)
+stored c = subst (λ (n : ℕ). c.loop-z.z < n) (counted c.before.before) c.loop-z-test.true
 
-unit-cell-requires : tie.Need-unit-cell-requires invariant-loop decreases-loop
-unit-cell-requires c κs = search rules
+unit_cell-requires : tie.Need-unit_cell-requires invariant-loop-z decreases-loop-z
+unit_cell-requires c κs = search rules
 
-layer-count-requires : tie.Need-layer-count-requires invariant-loop decreases-loop
-layer-count-requires c κs = search rules
+layer_count-planes-requires : tie.Need-layer_count-planes-requires invariant-loop-z decreases-loop-z
+layer_count-planes-requires c κs = search rules
 
-loop-holds : tie.Need-loop-init invariant-loop decreases-loop
-loop-holds c = (omega arith, each_none _ _ _)
+loop-z-init : tie.Need-loop-z-init invariant-loop-z decreases-loop-z
+loop-z-init c = (omega arith, each_none _ _ _)
 
-put-plane-requires : tie.Need-put-plane-requires invariant-loop decreases-loop
-put-plane-requires c κs =
-    let l = c.before.before in
-    let s = l.before.before.before.before.before in
-    ((s.requires.0, stored c.before), each_ends (plane s.args.job s.args.volume.now) s.requires.1 (stored c.before) l.loop.invariant.1)
+put_plane-place-requires : tie.Need-put_plane-place-requires invariant-loop-z decreases-loop-z
+put_plane-place-requires c κs =
+    ((c.requires.0, stored c.before), each_ends (plane c.args.job c.args.volume.now) c.requires.1 (stored c.before) c.loop-z.invariant.1)
 
-add-z : tie.Need-overflow-add-z invariant-loop decreases-loop
-add-z c = omega arith
+overflow_add-z : tie.Need-overflow_add-z invariant-loop-z decreases-loop-z
+overflow_add-z c = omega arith
 
-loop-less : tie.Need-loop-smaller invariant-loop decreases-loop
-loop-less c = omega arith
+loop-z-smaller : tie.Need-loop-z-smaller invariant-loop-z decreases-loop-z
+loop-z-smaller c = omega arith
 
-loop-again : tie.Need-loop-preserved invariant-loop decreases-loop
-loop-again c =
-    let p = c.before.before in
-    let l = p.before.before.before in
-    let s = l.before.before.before.before.before in
-    (omega arith, each_next (plane s.args.job s.args.volume.now) l.loop.invariant.1 p.put-plane.ensures)
+loop-z-preserved : tie.Need-loop-z-preserved invariant-loop-z decreases-loop-z
+loop-z-preserved c =
+    (omega arith, each_next (plane c.args.job c.args.volume.now) c.loop-z.invariant.1 c.put_plane-place.ensures)
 
-same_length : tie.Need-same-length invariant-loop decreases-loop
-same_length c = wrote_length c.before.loop.invariant.1
+shape_of-out : tie.Need-shape_of-out invariant-loop-z decreases-loop-z
+shape_of-out c = wrote_length c.loop-z.invariant.1
 
-returns : tie.Need-returns invariant-loop decreases-loop
+returns : tie.Need-returns invariant-loop-z decreases-loop-z
 returns c =
     let l = c.before in
-    let s = l.before.before.before.before.before in
-    let f = plane s.args.job s.args.volume.now in
-    subst (λ (n : ℕ). Wrote s.args.at (each n f) s.args.out.now l.loop.place l.loop.out) (counted l.before) (each_done f l.loop.invariant.0 c.loop-test.false l.loop.invariant.1)
+    let f = plane l.args.job l.args.volume.now in
+    subst (λ (n : ℕ). Wrote l.args.at (each n f) l.args.out.now l.loop-z.place l.loop-z.out) (counted l.before) (each_done f l.loop-z.invariant.0 c.loop-z-test.false l.loop-z.invariant.1)
 
 pub put_planes_spec : {M : Type 1} → statement M
 put_planes_spec =
     tie.close
-    (tie.spec
-    invariant-loop
-    decreases-loop
-    unit-cell-requires
-    layer-count-requires
-    loop-holds
-    put-plane-requires
-    add-z
-    loop-less
-    loop-again
-    same_length
-    returns)
+    (tie.spec invariant-loop-z decreases-loop-z unit_cell-requires layer_count-planes-requires loop-z-init put_plane-place-requires overflow_add-z loop-z-smaller loop-z-preserved shape_of-out returns)

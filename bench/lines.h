@@ -1,5 +1,5 @@
 /* One packed line of a kind that a synthesis meets, in C: fold, plain transform, and the pass after it, by the formulas of docs/FOLDS.md
-   with the same case distinctions as crates/folded_lines and the passes below it. */
+   with the same case distinctions as crates/folds and the passes below it. */
 #include <string.h>
 #include "plain.h"
 

@@ -15,7 +15,7 @@ use Rattle.lengths.specs.Admitted.{none, one, Factors}
 use Rattle.lengths.proofs.Factors.{factors_of_lem}
 use Rattle.lengths.proofs.AdmittedLengths.{admitted_length}
 use Rattle.refusals.proofs.Tests.{both}
-use Rattle.factor_lists.specs.Chosen.{next_factor, factored, chosen_list, list_tests, ChosenLists}
+use Rattle.factor_lists.specs.Chosen.{next_factor, factored, chosen_list, ChosenLists}
 
 -- ---- each is a list of its length
 

@@ -5,21 +5,21 @@ use Rattle.line.specs.Answers.{said_line}
 use Rattle.exported.proofs.line_number.Statement.{statement}
 use Rattle.exported.proofs.line_number.Tie as tie
 
-enum_told : tie.Need-enum-told
-enum_told c = search rules
+enum_told-1 : tie.Need-enum_told-1
+enum_told-1 c = search rules
 
-enum-known-answer : tie.Need-enum-known-answer
-enum-known-answer c = search rules
+enum_known-answer : tie.Need-enum_known-answer
+enum_known-answer c = search rules
 
-number-of-requires : tie.Need-number-of-requires
-number-of-requires c κs = search rules
+number_of-requires : tie.Need-number_of-requires
+number_of-requires c κs = search rules
 
-returns : tie.Need-returns
-returns c = search rules
+returns-in-Transformed : tie.Need-returns-in-Transformed
+returns-in-Transformed c = search rules
 
-returns-2 : tie.Need-returns-2
-returns-2 c = c.number_of_lem.ensures ∙ ap said_line (sym c.before.before.answer.given.1)
+returns-in-Refused : tie.Need-returns-in-Refused
+returns-in-Refused c = c.number_of.ensures ∙ ap said_line (sym c.in-Refused.is)
 
 pub line_number_spec : {M : Type 1} → statement M
 line_number_spec =
-    tie.close (tie.spec enum_told enum-known-answer number-of-requires returns returns-2)
+    tie.close (tie.spec enum_told-1 enum_known-answer number_of-requires returns-in-Transformed returns-in-Refused)

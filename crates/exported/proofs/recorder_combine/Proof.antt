@@ -4,17 +4,17 @@ use Rattle.exported.proofs.Coding.{combine_coded_lem}
 use Rattle.exported.proofs.recorder_combine.Statement.{statement}
 use Rattle.exported.proofs.recorder_combine.Tie as tie
 
-combine-maps-requires : tie.Need-combine-maps-requires
-combine-maps-requires c κs = search rules
+combine_maps-requires : tie.Need-combine_maps-requires
+combine_maps-requires c κs = search rules
 
-filled-coded-requires : tie.Need-filled-coded-requires
-filled-coded-requires c κs = search rules
+filled_coded-requires : tie.Need-filled_coded-requires
+filled_coded-requires c κs = search rules
 
-same_length : tie.Need-same-length
-same_length c = search rules
+shape_of-output : tie.Need-shape_of-output
+shape_of-output c = search rules
 
 returns : tie.Need-returns
-returns c = let w = c.before.before.combine-maps in combine_coded_lem w.result _ _ _ c.filled-coded.ensures w.ensures
+returns c = let w = c.combine_maps in combine_coded_lem w.result _ _ _ c.filled_coded.ensures w.ensures
 
 pub recorder_combine_spec : {M : Type 1} → statement M
-recorder_combine_spec = tie.close (tie.spec combine-maps-requires filled-coded-requires same_length returns)
+recorder_combine_spec = tie.close (tie.spec combine_maps-requires filled_coded-requires shape_of-output returns)

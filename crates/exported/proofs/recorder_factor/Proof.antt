@@ -7,11 +7,11 @@ use Rattle.exported.proofs.recorder_factor.Tie as tie
 factor-requires : tie.Need-factor-requires
 factor-requires c κs = search rules
 
-factor-coded-requires : tie.Need-factor-coded-requires
-factor-coded-requires c κs = search rules
+factor_coded-requires : tie.Need-factor_coded-requires
+factor_coded-requires c κs = search rules
 
 returns : tie.Need-returns
-returns c = let w = c.before.factor in factor_coded_lem w.result _ _ c.factor_coded_lem.ensures w.ensures
+returns c = let w = c.factor in factor_coded_lem w.result _ _ c.factor_coded.ensures w.ensures
 
 pub recorder_factor_spec : {M : Type 1} → statement M
-recorder_factor_spec = tie.close (tie.spec factor-requires factor-coded-requires returns)
+recorder_factor_spec = tie.close (tie.spec factor-requires factor_coded-requires returns)

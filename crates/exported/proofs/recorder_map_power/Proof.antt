@@ -4,14 +4,14 @@ use Rattle.exported.proofs.Coding.{power_coded_lem}
 use Rattle.exported.proofs.recorder_map_power.Statement.{statement}
 use Rattle.exported.proofs.recorder_map_power.Tie as tie
 
-map-power-requires : tie.Need-map-power-requires
-map-power-requires c κs = search rules
+map_power-requires : tie.Need-map_power-requires
+map_power-requires c κs = search rules
 
-power-coded-requires : tie.Need-power-coded-requires
-power-coded-requires c κs = search rules
+power_coded-requires : tie.Need-power_coded-requires
+power_coded-requires c κs = search rules
 
 returns : tie.Need-returns
-returns c = let w = c.before.map_power_lem in power_coded_lem w.result _ _ c.power_coded_lem.ensures w.ensures
+returns c = let w = c.map_power in power_coded_lem w.result _ _ c.power_coded.ensures w.ensures
 
 pub recorder_map_power_spec : {M : Type 1} → statement M
-recorder_map_power_spec = tie.close (tie.spec map-power-requires power-coded-requires returns)
+recorder_map_power_spec = tie.close (tie.spec map_power-requires power_coded-requires returns)

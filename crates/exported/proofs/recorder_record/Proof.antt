@@ -7,14 +7,14 @@ use Rattle.exported.proofs.recorder_record.Tie as tie
 record-requires : tie.Need-record-requires
 record-requires c κs = search rules
 
-answered-coded-requires : tie.Need-answered-coded-requires
-answered-coded-requires c κs = search rules
+answered_coded-requires : tie.Need-answered_coded-requires
+answered_coded-requires c κs = search rules
 
-same_length : tie.Need-same-length
-same_length c = search rules
+shape_of-volume : tie.Need-shape_of-volume
+shape_of-volume c = search rules
 
 returns : tie.Need-returns
-returns c = let w = c.before.before.before.«record» in record_coded_lem w.result _ c.answered-coded.ensures _ _ w.ensures
+returns c = let w = c.before.before.before.«record» in record_coded_lem w.result _ c.answered_coded.ensures _ _ w.ensures
 
 pub recorder_record_spec : {M : Type 1} → statement M
-recorder_record_spec = tie.close (tie.spec record-requires answered-coded-requires same_length returns)
+recorder_record_spec = tie.close (tie.spec record-requires answered_coded-requires shape_of-volume returns)

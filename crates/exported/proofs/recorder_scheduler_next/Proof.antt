@@ -7,11 +7,11 @@ use Rattle.exported.proofs.recorder_scheduler_next.Tie as tie
 next-requires : tie.Need-next-requires
 next-requires c κs = search rules
 
-next-coded-requires : tie.Need-next-coded-requires
-next-coded-requires c κs = search rules
+next_coded-requires : tie.Need-next_coded-requires
+next_coded-requires c κs = search rules
 
 returns : tie.Need-returns
-returns c = let w = c.before.next in next_coded_lem w.result _ _ c.next_coded_lem.ensures w.ensures
+returns c = let w = c.next in next_coded_lem w.result _ _ c.next_coded.ensures w.ensures
 
 pub recorder_scheduler_next_spec : {M : Type 1} → statement M
-recorder_scheduler_next_spec = tie.close (tie.spec next-requires next-coded-requires returns)
+recorder_scheduler_next_spec = tie.close (tie.spec next-requires next_coded-requires returns)

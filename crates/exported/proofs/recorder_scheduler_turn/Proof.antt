@@ -7,17 +7,17 @@ use Rattle.exported.proofs.recorder_scheduler_turn.Tie as tie
 turn-requires : tie.Need-turn-requires
 turn-requires c κs = search rules
 
-turn-coded-requires : tie.Need-turn-coded-requires
-turn-coded-requires c κs = search rules
+turn_coded-requires : tie.Need-turn_coded-requires
+turn_coded-requires c κs = search rules
 
-same_length : tie.Need-same-length
-same_length c = search rules
+shape_of-volume : tie.Need-shape_of-volume
+shape_of-volume c = search rules
 
-same-length-2 : tie.Need-same-length-2
-same-length-2 c = search rules
+shape_of-scratch : tie.Need-shape_of-scratch
+shape_of-scratch c = search rules
 
 returns : tie.Need-returns
-returns c = let w = c.before.before.before.before.before.turn in turn_coded_lem w.result _ _ _ _ c.turn_coded_lem.ensures w.ensures
+returns c = let w = c.turn in turn_coded_lem w.result _ _ _ _ c.turn_coded.ensures w.ensures
 
 pub recorder_scheduler_turn_spec : {M : Type 1} → statement M
-recorder_scheduler_turn_spec = tie.close (tie.spec turn-requires turn-coded-requires same_length same-length-2 returns)
+recorder_scheduler_turn_spec = tie.close (tie.spec turn-requires turn_coded-requires shape_of-volume shape_of-scratch returns)

@@ -4,17 +4,17 @@ use Rattle.exported.proofs.Coding.{write_coded_lem}
 use Rattle.exported.proofs.recorder_section.Statement.{statement}
 use Rattle.exported.proofs.recorder_section.Tie as tie
 
-section-text-requires : tie.Need-section-text-requires
-section-text-requires c κs = search rules
+section_text-requires : tie.Need-section_text-requires
+section_text-requires c κs = search rules
 
-filled-coded-requires : tie.Need-filled-coded-requires
-filled-coded-requires c κs = search rules
+filled_coded-requires : tie.Need-filled_coded-requires
+filled_coded-requires c κs = search rules
 
-same_length : tie.Need-same-length
-same_length c = search rules
+shape_of-out : tie.Need-shape_of-out
+shape_of-out c = search rules
 
 returns : tie.Need-returns
-returns c = let w = c.before.before.before.section-text in write_coded_lem w.result _ _ _ c.filled-coded.ensures w.ensures
+returns c = let w = c.section_text in write_coded_lem w.result _ _ _ c.filled_coded.ensures w.ensures
 
 pub recorder_section_spec : {M : Type 1} → statement M
-recorder_section_spec = tie.close (tie.spec section-text-requires filled-coded-requires same_length returns)
+recorder_section_spec = tie.close (tie.spec section_text-requires filled_coded-requires shape_of-out returns)

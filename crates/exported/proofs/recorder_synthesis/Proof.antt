@@ -7,17 +7,17 @@ use Rattle.exported.proofs.recorder_synthesis.Tie as tie
 synthesis-requires : tie.Need-synthesis-requires
 synthesis-requires c κs = search rules
 
-answered-coded-requires : tie.Need-answered-coded-requires
-answered-coded-requires c κs = search rules
+answered_coded-requires : tie.Need-answered_coded-requires
+answered_coded-requires c κs = search rules
 
-same_length : tie.Need-same-length
-same_length c = search rules
+shape_of-volume : tie.Need-shape_of-volume
+shape_of-volume c = search rules
 
-same-length-2 : tie.Need-same-length-2
-same-length-2 c = search rules
+shape_of-scratch : tie.Need-shape_of-scratch
+shape_of-scratch c = search rules
 
 returns : tie.Need-returns
-returns c = let w = c.before.before.before.before.before.synthesis in work_coded_lem w.result _ c.answered-coded.ensures _ _ _ w.ensures
+returns c = let w = c.before.before.before.before.before.synthesis in work_coded_lem w.result _ c.answered_coded.ensures _ _ _ w.ensures
 
 pub recorder_synthesis_spec : {M : Type 1} → statement M
-recorder_synthesis_spec = tie.close (tie.spec synthesis-requires answered-coded-requires same_length same-length-2 returns)
+recorder_synthesis_spec = tie.close (tie.spec synthesis-requires answered_coded-requires shape_of-volume shape_of-scratch returns)

@@ -4,17 +4,17 @@ use Rattle.exported.proofs.Coding.{write_coded_lem}
 use Rattle.exported.proofs.recorder_write_file.Statement.{statement}
 use Rattle.exported.proofs.recorder_write_file.Tie as tie
 
-write-file-requires : tie.Need-write-file-requires
-write-file-requires c κs = search rules
+write_file-requires : tie.Need-write_file-requires
+write_file-requires c κs = search rules
 
-filled-coded-requires : tie.Need-filled-coded-requires
-filled-coded-requires c κs = search rules
+filled_coded-requires : tie.Need-filled_coded-requires
+filled_coded-requires c κs = search rules
 
-same_length : tie.Need-same-length
-same_length c = search rules
+shape_of-out : tie.Need-shape_of-out
+shape_of-out c = search rules
 
 returns : tie.Need-returns
-returns c = let w = c.before.before.before.write-file in write_coded_lem w.result _ _ _ c.filled-coded.ensures w.ensures
+returns c = let w = c.write_file in write_coded_lem w.result _ _ _ c.filled_coded.ensures w.ensures
 
 pub recorder_write_file_spec : {M : Type 1} → statement M
-recorder_write_file_spec = tie.close (tie.spec write-file-requires filled-coded-requires same_length returns)
+recorder_write_file_spec = tie.close (tie.spec write_file-requires filled_coded-requires shape_of-out returns)

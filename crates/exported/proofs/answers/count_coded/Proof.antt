@@ -11,25 +11,25 @@ use Rattle.exported.specs.Answers.{count_coded}
 use Rattle.exported.proofs.answers.count_coded.Statement.{statement}
 use Rattle.exported.proofs.answers.count_coded.Tie as tie
 
-enum-known-answer : tie.Need-enum-known-answer
-enum-known-answer c = search rules
+enum_known-answer : tie.Need-enum_known-answer
+enum_known-answer c = search rules
 
-enum-known-answer-2 : tie.Need-enum-known-answer-2
-enum-known-answer-2 c = search rules
+enum_known-answer-in-Refused-1 : tie.Need-enum_known-answer-in-Refused-1
+enum_known-answer-in-Refused-1 c = search rules
 
-number-of-requires : tie.Need-number-of-requires
-number-of-requires c κs = search rules
+number_of-requires : tie.Need-number_of-requires
+number_of-requires c κs = search rules
 
-returns : tie.Need-returns
-returns c =
-    ap {B = CountCoded} (λ (z : ℤ). record { number = 0; density = z }) (to_z-of_z w64 c.before.answer.given.0.0 (record { sfits = c.known-told.given.0.1 }))
-    ∙ ap (λ (a : CountAnswer). count_coded (said_count a)) (sym c.before.answer.given.1)
+returns-in-Count : tie.Need-returns-in-Count
+returns-in-Count c =
+    ap {B = CountCoded} (λ (z : ℤ). record { number = 0; density = z }) (to_z-of_z w64 c.in-Count.density (search rules))
+    ∙ ap (λ (a : CountAnswer). count_coded (said_count a)) (sym c.in-Count.is)
 
-returns-2 : tie.Need-returns-2
-returns-2 c =
-    ap {B = CountCoded} (λ n. record { number = n; density = pos 0 }) c.number_of_lem.ensures
-    ∙ ap (λ (a : CountAnswer). count_coded (said_count a)) (sym c.before.before.answer2.given.1)
+returns-in-Refused : tie.Need-returns-in-Refused
+returns-in-Refused c =
+    ap {B = CountCoded} (λ n. record { number = n; density = pos 0 }) c.number_of.ensures
+    ∙ ap (λ (a : CountAnswer). count_coded (said_count a)) (sym c.in-Refused.is)
 
 pub count_coded_spec : {M : Type 1} → statement M
 count_coded_spec =
-    tie.close (tie.spec enum-known-answer enum-known-answer-2 number-of-requires returns returns-2)
+    tie.close (tie.spec enum_known-answer enum_known-answer-in-Refused-1 number_of-requires returns-in-Count returns-in-Refused)

@@ -8,24 +8,24 @@ use Rattle.exported.specs.Answers.{factor_coded}
 use Rattle.exported.proofs.answers.factor_coded.Statement.{statement}
 use Rattle.exported.proofs.answers.factor_coded.Tie as tie
 
-enum-known-answer : tie.Need-enum-known-answer
-enum-known-answer c = search rules
+enum_known-answer : tie.Need-enum_known-answer
+enum_known-answer c = search rules
 
-enum-known-answer-2 : tie.Need-enum-known-answer-2
-enum-known-answer-2 c = search rules
+enum_known-answer-in-Refused-1 : tie.Need-enum_known-answer-in-Refused-1
+enum_known-answer-in-Refused-1 c = search rules
 
-number-of-requires : tie.Need-number-of-requires
-number-of-requires c κs = search rules
+number_of-requires : tie.Need-number_of-requires
+number_of-requires c κs = search rules
 
-returns : tie.Need-returns
-returns c = ap (λ (a : FactorAnswer). factor_coded (said_factor a)) (sym c.before.answer.given.1)
+returns-in-Factor : tie.Need-returns-in-Factor
+returns-in-Factor c = ap (λ (a : FactorAnswer). factor_coded (said_factor a)) (sym c.in-Factor.is)
 
-returns-2 : tie.Need-returns-2
-returns-2 c =
-    ap {B = FactorCoded} (λ n. record { number = n; a = 0; b = 0 }) c.number_of_lem.ensures
-    ∙ ap (λ (a : FactorAnswer). factor_coded (said_factor a)) (sym c.before.before.answer2.given.1)
+returns-in-Refused : tie.Need-returns-in-Refused
+returns-in-Refused c =
+    ap {B = FactorCoded} (λ n. record { number = n; a = 0; b = 0 }) c.number_of.ensures
+    ∙ ap (λ (a : FactorAnswer). factor_coded (said_factor a)) (sym c.in-Refused.is)
 
 pub factor_coded_spec : {M : Type 1} → statement M
 factor_coded_spec =
     tie.close
-    (tie.spec enum-known-answer enum-known-answer-2 number-of-requires returns returns-2)
+    (tie.spec enum_known-answer enum_known-answer-in-Refused-1 number_of-requires returns-in-Factor returns-in-Refused)

@@ -4,31 +4,25 @@ use Rattle.exported.proofs.answers.Coding.{file_opened_coded, file_refused_coded
 use Rattle.exported.proofs.answers.file_coded.Statement.{statement}
 use Rattle.exported.proofs.answers.file_coded.Tie as tie
 
-enum-known-answer : tie.Need-enum-known-answer
-enum-known-answer c = search rules
+enum_known-answer : tie.Need-enum_known-answer
+enum_known-answer c = search rules
 
-enum-known-answer-2 : tie.Need-enum-known-answer-2
-enum-known-answer-2 c = search rules
+enum_known-answer-in-Refused-1 : tie.Need-enum_known-answer-in-Refused-1
+enum_known-answer-in-Refused-1 c = search rules
 
-number-of-requires : tie.Need-number-of-requires
-number-of-requires c κs = search rules
+number_of-requires : tie.Need-number_of-requires
+number_of-requires c κs = search rules
 
-no-job-requires : tie.Need-no-job-requires
-no-job-requires c κs = search rules
+no_job-requires : tie.Need-no_job-requires
+no_job-requires c κs = search rules
 
-returns : tie.Need-returns
-returns c = file_opened_coded _ _ c.before.answer.given.1
+returns-in-Opened : tie.Need-returns-in-Opened
+returns-in-Opened c = file_opened_coded _ _ c.in-Opened.is
 
-returns-2 : tie.Need-returns-2
-returns-2 c = file_refused_coded _ _ _ _ _ c.before.before.before.answer2.given.1 c.before.number_of_lem.ensures c.no-job.ensures
+returns-in-Refused : tie.Need-returns-in-Refused
+returns-in-Refused c = file_refused_coded _ _ _ _ _ c.in-Refused.is c.number_of.ensures c.no_job.ensures
 
 pub file_coded_spec : {M : Type 1} → statement M
 file_coded_spec =
     tie.close
-    (tie.spec
-    enum-known-answer
-    enum-known-answer-2
-    number-of-requires
-    no-job-requires
-    returns
-    returns-2)
+    (tie.spec enum_known-answer enum_known-answer-in-Refused-1 number_of-requires no_job-requires returns-in-Opened returns-in-Refused)

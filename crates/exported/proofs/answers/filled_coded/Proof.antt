@@ -4,21 +4,21 @@ use Rattle.exported.proofs.answers.Coding.{written_coded, unwritten_coded}
 use Rattle.exported.proofs.answers.filled_coded.Statement.{statement}
 use Rattle.exported.proofs.answers.filled_coded.Tie as tie
 
-enum-known-answer : tie.Need-enum-known-answer
-enum-known-answer c = search rules
+enum_known-answer : tie.Need-enum_known-answer
+enum_known-answer c = search rules
 
-enum-known-answer-2 : tie.Need-enum-known-answer-2
-enum-known-answer-2 c = search rules
+enum_known-answer-in-Refused-1 : tie.Need-enum_known-answer-in-Refused-1
+enum_known-answer-in-Refused-1 c = search rules
 
-number-of-requires : tie.Need-number-of-requires
-number-of-requires c κs = search rules
+number_of-requires : tie.Need-number_of-requires
+number_of-requires c κs = search rules
 
-returns : tie.Need-returns
-returns c = written_coded _ _ c.before.answer.given.1
+returns-in-Written : tie.Need-returns-in-Written
+returns-in-Written c = written_coded _ _ c.in-Written.is
 
-returns-2 : tie.Need-returns-2
-returns-2 c = unwritten_coded _ _ _ c.before.before.answer2.given.1 c.number_of_lem.ensures
+returns-in-Refused : tie.Need-returns-in-Refused
+returns-in-Refused c = unwritten_coded _ _ _ c.in-Refused.is c.number_of.ensures
 
 pub filled_coded_spec : {M : Type 1} → statement M
 filled_coded_spec =
-    tie.close (tie.spec enum-known-answer enum-known-answer-2 number-of-requires returns returns-2)
+    tie.close (tie.spec enum_known-answer enum_known-answer-in-Refused-1 number_of-requires returns-in-Written returns-in-Refused)

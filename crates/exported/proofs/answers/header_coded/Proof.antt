@@ -9,38 +9,31 @@ use Rattle.exported.specs.Answers.{header_coded}
 use Rattle.exported.proofs.answers.header_coded.Statement.{statement}
 use Rattle.exported.proofs.answers.header_coded.Tie as tie
 
-enum-known-answer : tie.Need-enum-known-answer
-enum-known-answer c = search rules
+enum_known-answer : tie.Need-enum_known-answer
+enum_known-answer c = search rules
 
-header-named-requires : tie.Need-header-named-requires
-header-named-requires c κs = search rules
+header_named-requires : tie.Need-header_named-requires
+header_named-requires c κs = search rules
 
-enum-known-answer-2 : tie.Need-enum-known-answer-2
-enum-known-answer-2 c = search rules
+enum_known-answer-in-Refused-1 : tie.Need-enum_known-answer-in-Refused-1
+enum_known-answer-in-Refused-1 c = search rules
 
-number-of-requires : tie.Need-number-of-requires
-number-of-requires c κs = search rules
+number_of-requires : tie.Need-number_of-requires
+number_of-requires c κs = search rules
 
-header-refused-requires : tie.Need-header-refused-requires
-header-refused-requires c κs = search rules
+header_refused-requires : tie.Need-header_refused-requires
+header_refused-requires c κs = search rules
 
-returns : tie.Need-returns
-returns c = c.header_named_lem.ensures ∙ ap (λ (a : HeaderAnswer). header_coded (said_header a)) (sym c.before.before.answer.given.1)
+returns-in-Header : tie.Need-returns-in-Header
+returns-in-Header c = c.header_named.ensures ∙ ap (λ (a : HeaderAnswer). header_coded (said_header a)) (sym c.in-Header.is)
 
-returns-2 : tie.Need-returns-2
-returns-2 c =
+returns-in-Refused : tie.Need-returns-in-Refused
+returns-in-Refused c =
     c.header_refused.ensures
-    ∙ ap (λ (n : ℕ). header_coded (not_named n)) c.before.number_of_lem.ensures
-    ∙ ap (λ (a : HeaderAnswer). header_coded (said_header a)) (sym c.before.before.before.answer2.given.1)
+    ∙ ap (λ (n : ℕ). header_coded (not_named n)) c.number_of.ensures
+    ∙ ap (λ (a : HeaderAnswer). header_coded (said_header a)) (sym c.in-Refused.is)
 
 pub header_coded_spec : {M : Type 1} → statement M
 header_coded_spec =
     tie.close
-    (tie.spec
-    enum-known-answer
-    header-named-requires
-    enum-known-answer-2
-    number-of-requires
-    header-refused-requires
-    returns
-    returns-2)
+    (tie.spec enum_known-answer header_named-requires enum_known-answer-in-Refused-1 number_of-requires header_refused-requires returns-in-Header returns-in-Refused)

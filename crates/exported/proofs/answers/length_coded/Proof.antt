@@ -8,23 +8,23 @@ use Rattle.exported.specs.Answers.{length_coded}
 use Rattle.exported.proofs.answers.length_coded.Statement.{statement}
 use Rattle.exported.proofs.answers.length_coded.Tie as tie
 
-enum-known-answer : tie.Need-enum-known-answer
-enum-known-answer c = search rules
+enum_known-answer : tie.Need-enum_known-answer
+enum_known-answer c = search rules
 
-enum-known-answer-2 : tie.Need-enum-known-answer-2
-enum-known-answer-2 c = search rules
+enum_known-answer-in-Refused-1 : tie.Need-enum_known-answer-in-Refused-1
+enum_known-answer-in-Refused-1 c = search rules
 
-number-of-requires : tie.Need-number-of-requires
-number-of-requires c κs = search rules
+number_of-requires : tie.Need-number_of-requires
+number_of-requires c κs = search rules
 
-returns : tie.Need-returns
-returns c = ap (λ (a : SizeAnswer). length_coded (said_size a)) (sym c.before.answer.given.1)
+returns-in-Bytes : tie.Need-returns-in-Bytes
+returns-in-Bytes c = ap (λ (a : SizeAnswer). length_coded (said_size a)) (sym c.in-Bytes.is)
 
-returns-2 : tie.Need-returns-2
-returns-2 c =
-    ap {B = LengthCoded} (λ n. record { number = n; length = 0 }) c.number_of_lem.ensures
-    ∙ ap (λ (a : SizeAnswer). length_coded (said_size a)) (sym c.before.before.answer2.given.1)
+returns-in-Refused : tie.Need-returns-in-Refused
+returns-in-Refused c =
+    ap {B = LengthCoded} (λ n. record { number = n; length = 0 }) c.number_of.ensures
+    ∙ ap (λ (a : SizeAnswer). length_coded (said_size a)) (sym c.in-Refused.is)
 
 pub length_coded_spec : {M : Type 1} → statement M
 length_coded_spec =
-    tie.close (tie.spec enum-known-answer enum-known-answer-2 number-of-requires returns returns-2)
+    tie.close (tie.spec enum_known-answer enum_known-answer-in-Refused-1 number_of-requires returns-in-Bytes returns-in-Refused)

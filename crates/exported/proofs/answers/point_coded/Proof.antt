@@ -11,26 +11,26 @@ use Rattle.exported.specs.Answers.{point_coded}
 use Rattle.exported.proofs.answers.point_coded.Statement.{statement}
 use Rattle.exported.proofs.answers.point_coded.Tie as tie
 
-enum-known-answer : tie.Need-enum-known-answer
-enum-known-answer c = search rules
+enum_known-answer : tie.Need-enum_known-answer
+enum_known-answer c = search rules
 
-enum-known-answer-2 : tie.Need-enum-known-answer-2
-enum-known-answer-2 c = search rules
+enum_known-answer-in-Refused-1 : tie.Need-enum_known-answer-in-Refused-1
+enum_known-answer-in-Refused-1 c = search rules
 
-number-of-requires : tie.Need-number-of-requires
-number-of-requires c κs = search rules
+number_of-requires : tie.Need-number_of-requires
+number_of-requires c κs = search rules
 
-returns : tie.Need-returns
-returns c =
-    ap {B = PointCoded} (λ (z : ℤ). record { number = 0; density = z }) (to_z-of_z w32 c.before.answer.given.0.0 (record { sfits = c.known-told.given.0.1 }))
-    ∙ ap (λ (a : PointAnswer). point_coded (said_point a)) (sym c.before.answer.given.1)
+returns-in-Density : tie.Need-returns-in-Density
+returns-in-Density c =
+    ap {B = PointCoded} (λ (z : ℤ). record { number = 0; density = z }) (to_z-of_z w32 c.in-Density.density (search rules))
+    ∙ ap (λ (a : PointAnswer). point_coded (said_point a)) (sym c.in-Density.is)
 
-returns-2 : tie.Need-returns-2
-returns-2 c =
-    ap {B = PointCoded} (λ n. record { number = n; density = pos 0 }) c.number_of_lem.ensures
-    ∙ ap (λ (a : PointAnswer). point_coded (said_point a)) (sym c.before.before.answer2.given.1)
+returns-in-Refused : tie.Need-returns-in-Refused
+returns-in-Refused c =
+    ap {B = PointCoded} (λ n. record { number = n; density = pos 0 }) c.number_of.ensures
+    ∙ ap (λ (a : PointAnswer). point_coded (said_point a)) (sym c.in-Refused.is)
 
 pub point_coded_spec : {M : Type 1} → statement M
 point_coded_spec =
     tie.close
-    (tie.spec enum-known-answer enum-known-answer-2 number-of-requires returns returns-2)
+    (tie.spec enum_known-answer enum_known-answer-in-Refused-1 number_of-requires returns-in-Density returns-in-Refused)

@@ -6,16 +6,16 @@ use Rattle.exported.proofs.cells.Angles.{three_given, one_given, others_given}
 use Rattle.exported.proofs.cells.parameters_of.Statement.{statement}
 use Rattle.exported.proofs.cells.parameters_of.Tie as tie
 
-returns : tie.Need-returns
-returns c = sym (three_given c.before.before.args.cell c.if1.true)
+returns-then-cell-eq3 : tie.Need-returns-then-cell-eq3
+returns-then-cell-eq3 c = sym (three_given c.before.before.args.cell c.if-cell-eq3.true)
 
-returns-2 : tie.Need-returns-2
-returns-2 c = sym (one_given c.before.before.before.before.args.cell c.if2.true)
+returns-then-cell-eq1 : tie.Need-returns-then-cell-eq1
+returns-then-cell-eq1 c = sym (one_given c.before.before.before.before.args.cell c.if-cell-eq1.true)
 
-returns-3 : tie.Need-returns-3
-returns-3 c =
+returns-else-cell-eq1 : tie.Need-returns-else-cell-eq1
+returns-else-cell-eq1 c =
     (λ i. P.Monoclinic (sym zero_is i) (sym zero_is i) (sym zero_is i) (sym zero_is i))
-    ∙ sym (others_given c.before.before.before.before.args.cell c.before.before.if1.false c.if2.false)
+    ∙ sym (others_given c.before.before.before.before.args.cell c.before.before.if-cell-eq3.false c.if-cell-eq1.false)
 
 pub parameters_of_spec : {M : Type 1} → statement M
-parameters_of_spec = tie.close (tie.spec returns returns-2 returns-3)
+parameters_of_spec = tie.close (tie.spec returns-then-cell-eq3 returns-then-cell-eq1 returns-else-cell-eq1)

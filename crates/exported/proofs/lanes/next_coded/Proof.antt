@@ -4,35 +4,28 @@ use Rattle.exported.proofs.lanes.Coding.{known_next_coded, refused_next_coded}
 use Rattle.exported.proofs.lanes.next_coded.Statement.{statement}
 use Rattle.exported.proofs.lanes.next_coded.Tie as tie
 
-enum-known-answer : tie.Need-enum-known-answer
-enum-known-answer c = search rules
+enum_known-answer : tie.Need-enum_known-answer
+enum_known-answer c = search rules
 
-enum_told : tie.Need-enum-told
-enum_told c = search rules
+enum_told-1 : tie.Need-enum_told-1
+enum_told-1 c = search rules
 
-enum-known-answer-2 : tie.Need-enum-known-answer-2
-enum-known-answer-2 c = search rules
+enum_known-answer-in-Refused-1 : tie.Need-enum_known-answer-in-Refused-1
+enum_known-answer-in-Refused-1 c = search rules
 
-number-of-requires : tie.Need-number-of-requires
-number-of-requires c κs = search rules
+number_of-requires : tie.Need-number_of-requires
+number_of-requires c κs = search rules
 
-returns : tie.Need-returns
-returns c = known_next_coded _ _ c.before.answer.given.1
+returns-in-Lane : tie.Need-returns-in-Lane
+returns-in-Lane c = known_next_coded _ _ c.in-Lane.is
 
-returns-2 : tie.Need-returns-2
-returns-2 c = known_next_coded _ _ c.enum_told.given.1
+returns-in-Idle : tie.Need-returns-in-Idle
+returns-in-Idle c = known_next_coded _ _ c.in-Idle.is
 
-returns-3 : tie.Need-returns-3
-returns-3 c = refused_next_coded _ _ _ c.before.before.answer2.given.1 c.number_of_lem.ensures
+returns-in-Refused : tie.Need-returns-in-Refused
+returns-in-Refused c = refused_next_coded _ _ _ c.in-Refused.is c.number_of.ensures
 
 pub next_coded_spec : {M : Type 1} → statement M
 next_coded_spec =
     tie.close
-    (tie.spec
-    enum-known-answer
-    enum_told
-    enum-known-answer-2
-    number-of-requires
-    returns
-    returns-2
-    returns-3)
+    (tie.spec enum_known-answer enum_told-1 enum_known-answer-in-Refused-1 number_of-requires returns-in-Lane returns-in-Idle returns-in-Refused)

@@ -4,8 +4,8 @@
 // crate printing. So the printer's refusal, for an output that is too short, never comes.
 #![tactic(auto)]
 
-ghost use Rattle.std.specs.Prelude.{◌≡◌, ◌≤◌, length, take, IfOk, OnOk};
-ghost use Rattle.std.specs.Io.KnownBytes.{Appends, Consumes};
+ghost use Rattle.std.specs.Prelude.{◌≡◌, ◌<◌, ◌≤◌, length, take, IfOk, OnOk};
+ghost use Rattle.std.specs.Io.KnownBytes.{Appends, Consumes, IsAtEnd};
 
 use output::FillAnswer;
 use printing::printer;
@@ -17,6 +17,7 @@ fn read_full<R: Read>(from: &mut R, v: &mut [u8]) -> io::Result<usize>
     ensures len { length v.new ≡ length v.old }
     ensures most { IfOk result (λ n. n ≤ length v.new) }
     ensures bytes { IfOk result (λ n. Consumes (R.remaining from.old) (R.remaining from.new) (take n v.new)) }
+    ensures end { IfOk result (λ n. n < length v.new → IsAtEnd (R.remaining from.new)) }
 {
     let mut done: usize = 0;
     while done < v.len() {

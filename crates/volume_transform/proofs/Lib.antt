@@ -1,4 +1,5 @@
 pub mod GroupTurns
+pub mod PlainGroups
 pub mod RowParts
 pub mod FoldedTurns
 pub mod Turning

@@ -1,6 +1,5 @@
 -- Groups of neighbouring lines, which are turned together.
 use Rattle.std.specs.Prelude.{◌≡◌, ◌⊎◌, false, cond, List, ℕ, zero, suc, ◌+◌, ◌*◌, ◌%◌, ◌<◌, ◌≤◌, eqb, length}
-use Rattle.algebra.specs.ring.Ring.{Ops}
 use Rattle.algebra.specs.lines.Kinds.{slots}
 use Rattle.numbers.specs.Value.{prime, Residue, ring, part}
 use Rattle.slices.specs.Pairs.{Below}
@@ -8,7 +7,7 @@ use Rattle.slices.specs.Sweep.{Layout, sweep, on_lists, along_last}
 use Rattle.lengths.specs.Lengths.{kind_of}
 use Rattle.cell.specs.Volume.{columns}
 use Rattle.batches.specs.Reduction.{ShiftedTable}
-use Rattle.batches.specs.Groups.{neighbours}
+use Rattle.batches.specs.Groups.{neighbours, LinesBelow}
 use Rattle.volume_transform.specs.declared.plan.Line.{Line}
 use Rattle.volume_transform.specs.declared.plan.LineGroup.{LineGroup}
 use Rattle.volume_transform.specs.declared.plan.Plan.{Plan}
@@ -58,12 +57,40 @@ pub record RowGroup (p : Plan) (n : ℕ) (x : Line) (lanes : ℕ) : Type 0 where
       (plan_numbers p (line_of_turn (plan_group p) (plan_halves p) p.direction (n + v))) (shifted x (v * x.count))
 
 -- the line of turn n, with those that are turned together with it
-pub record GroupAt (p : Plan) (n most : ℕ) (g : LineGroup) : Type 0 where
+pub record GroupOfTurn (p : Plan) (n most : ℕ) (g : LineGroup) : Type 0 where
   pub first : LineAt p (line_of_turn (plan_group p) (plan_halves p) p.direction n) g.line
   pub some : 0 < g.lanes
   pub few : g.lanes ≤ most
   pub inside : n + g.lanes ≤ line_count (plan_group p) (plan_halves p)
   pub together : 1 < g.lanes → GatheredGroup p n g.line g.lanes ⊎ RowGroup p n g.line g.lanes
+
+-- ---- groups of plain lines alone
+
+-- line number j and those after it are turned together: plain ones of one row, that a batch has room for
+pub record Batched (p : Plan) (j : ℕ) (x : Line) (lanes : ℕ) : Type 0 where
+  pub plain : x.kind ≡ 0
+  pub unrotated : x.rotated ≡ false
+  pub short : x.count ≤ 360
+  pub numbered : j < (along_l (plan_group p) (plan_halves p)).count + (along_h (plan_group p) (plan_halves p)).count
+  pub row : j % columns (plan_group p) (plan_halves p) + lanes ≤ columns (plan_group p) (plan_halves p)
+
+-- the lines of the turns from n on: that of turn n + v is x, v places further on
+pub record PlainGroup (p : Plan) (n : ℕ) (x : Line) (lanes : ℕ) : Type 0 where
+  pub plain : x.kind ≡ 0
+  pub unrotated : x.rotated ≡ false
+  pub short : x.count ≤ 360
+  pub wide : lanes ≤ x.stride
+  pub each : (v : ℕ) → v < lanes
+      → Gathered p (plan_turn p (n + v))
+      (plan_numbers p (line_of_turn (plan_group p) (plan_halves p) p.direction (n + v))) (shifted x v)
+
+-- the line of turn n, with those that are turned together with it
+pub record GroupAt (p : Plan) (n most : ℕ) (g : LineGroup) : Type 0 where
+  pub first : LineAt p (line_of_turn (plan_group p) (plan_halves p) p.direction n) g.line
+  pub some : 0 < g.lanes
+  pub few : g.lanes ≤ most
+  pub inside : n + g.lanes ≤ line_count (plan_group p) (plan_halves p)
+  pub plain : 1 < g.lanes → PlainGroup p n g.line g.lanes
 
 -- ---- the turn of a group
 
@@ -123,6 +150,24 @@ rows_turn x lanes v = rows_on (rows_from x.start x.count lanes) x v
 -- rows are known by their kind
 abbrev pub group_turned : (x : Line) (lanes : ℕ) → List ℕ → List ℕ
 group_turned x lanes v = cond (eqb x.kind 1) (rows_turn x lanes v) (lines_turn x lanes v)
+
+-- plain lines side by side, whose numbers are residues
+pub record PlainLines (x : Line) (lanes : ℕ) (v : List ℕ) : Type 0 where
+  pub sound : SoundLine x
+  pub plain : x.kind ≡ 0
+  pub unrotated : x.rotated ≡ false
+  pub counted : x.count ≡ 2 * x.half
+  pub short : x.count ≤ 360
+  pub few : lanes ≤ 16
+  pub wide : lanes ≤ x.stride
+  pub fits : 2 * (x.start + x.count * x.stride + lanes) ≤ length v + 2 * x.stride
+  pub below : LinesBelow x.m x.start x.stride x.count lanes v
+
+-- one after the other
+abbrev pub group_turn : (x : Line) (lanes : ℕ) → List ℕ → List ℕ
+group_turn x lanes v =
+    sweep (neighbours x.start x.stride x.count lanes)
+    (on_lists (neighbours x.start x.stride x.count lanes) (λ y. stored_turn x)) lanes v
 
 -- what the transform of n points is multiplied by: 1 in synthesis, 1/n in analysis
 abbrev pub scale_for : (m direction n : ℕ) → Residue m

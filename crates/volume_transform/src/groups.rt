@@ -7,13 +7,13 @@ ghost use Rattle.numbers.specs.Value.{prime, IsModulus};
 ghost use Rattle.batches.specs.Reduction.{ShiftedTable, Holds};
 ghost use Rattle.volume_transform.specs.Lines.{TablesFor, Kept};
 ghost use Rattle.volume_transform.specs.Groups.{PlacedGroup, SpacedLines, RowLines, lines_turn, rows_turn};
-ghost use Rattle.volume_transform.specs.Groups.{group_turned, scale_for};
+ghost use Rattle.volume_transform.specs.Groups.{group_turned, PlainLines, group_turn, scale_for};
 
 use crate::plan::Line;
 use folded_batches::{alternating, hermitian, mirror};
 
 // The lines by their kind.
-pub fn turn_group<'a>(
+pub fn turn_placed_group<'a>(
     m: u32,
     line: Line,
     lanes: usize,
@@ -105,6 +105,32 @@ fn turn_plain<'a>(
     requires shifted_table { ShiftedTable m re.now im.now sre.now sim.now }
     requires in_bounds { (11520 ≤ length scratch.old) × (11520 ≤ length work.old) }
     ensures { (volume.new ≡ lines_turn line lanes volume.old)
+        × Kept scratch.old scratch.new }
+{
+    turn_group(m, line, lanes, re, im, tan, sre, sim, volume, scratch, work);
+}
+
+// As turn_placed_group, of plain lines alone, at line.start, line.start + 1, ..: of the volume's numbers it asks only that those of the
+// lines be residues.
+pub fn turn_group<'a>(
+    m: u32,
+    line: Line,
+    lanes: usize,
+    re: &'a [u32; 2880],
+    im: &'a [u32; 2880],
+    tan: &'a [u32; 1440],
+    sre: &'a [u32; 2880],
+    sim: &'a [u32; 2880],
+    volume: &mut [u32],
+    scratch: &mut [u32],
+    work: &mut [u32],
+)
+    requires plain_lines { PlainLines line lanes volume.old
+        × TablesFor line re.now im.now tan.now
+        × (m ≡ line.m) }
+    requires shifted_table { ShiftedTable m re.now im.now sre.now sim.now }
+    requires in_bounds { (11520 ≤ length scratch.old) × (11520 ≤ length work.old) }
+    ensures { (volume.new ≡ group_turn line lanes volume.old)
         × Kept scratch.old scratch.new }
 {
     let n = line.count;

@@ -118,9 +118,9 @@ fn turn_volume<'a>(
     let count = counts.l + counts.h + counts.k;
     let mut n = 0;
     while n < count {
-        let group = crate::numbering::group_in_turn(plan, counts, n, most);
+        let group = crate::numbering::group_of_turn(plan, counts, n, most);
         if 3 < group.lanes {
-            groups::turn_group(
+            groups::turn_placed_group(
                 m,
                 group.line,
                 group.lanes,

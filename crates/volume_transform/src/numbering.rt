@@ -7,7 +7,8 @@ ghost use Rattle.volume_transform.specs.Axes.{line_count, line_of_turn, turn_of,
 ghost use Rattle.volume_transform.specs.Axes.{turned_l};
 ghost use Rattle.volume_transform.specs.Plans.{plan_group, plan_halves, Planned, Counted, line_turn, plan_numbers};
 ghost use Rattle.volume_transform.specs.Plans.{Gathered, LineAt};
-ghost use Rattle.volume_transform.specs.Groups.{Neighbours, RowsAfter, InBatch, SideBySide, GroupAt};
+ghost use Rattle.volume_transform.specs.Groups.{Neighbours, RowsAfter, InBatch, SideBySide, GroupOfTurn};
+ghost use Rattle.volume_transform.specs.Groups.{Batched, GroupAt};
 
 use crate::plan::{Counts, Line, LineGroup, Plan};
 
@@ -20,23 +21,23 @@ pub fn line_in_turn(plan: Plan, counts: Counts, n: usize) -> Line
 }
 
 // The same with those after it that are turned together with it, `most` lines at the most.
-pub fn group_in_turn(plan: Plan, counts: Counts, n: usize, most: usize) -> LineGroup
+pub fn group_of_turn(plan: Plan, counts: Counts, n: usize, most: usize) -> LineGroup
     requires { Planned plan
         × Counted plan counts
         × (n < line_count (plan_group plan) (plan_halves plan))
         × (0 < most) }
-    ensures { GroupAt plan n most result }
+    ensures { GroupOfTurn plan n most result }
 {
     let j = line_of_turn(plan, counts, n);
     let line = line_at(plan, counts, j);
     LineGroup {
         line,
-        lanes: lanes_from(plan, counts, j, line, most),
+        lanes: lanes_beside(plan, counts, j, line, most),
     }
 }
 
 // How many lines are turned together from line number j on, which is `line`.
-fn lanes_from(plan: Plan, counts: Counts, j: usize, line: Line, most: usize) -> usize
+fn lanes_beside(plan: Plan, counts: Counts, j: usize, line: Line, most: usize) -> usize
     requires { Planned plan
         × Counted plan counts
         × (j < line_count (plan_group plan) (plan_halves plan))
@@ -50,7 +51,7 @@ fn lanes_from(plan: Plan, counts: Counts, j: usize, line: Line, most: usize) -> 
         return 1;
     }
     let left = lines_left(plan, counts, j);
-    if left < most { left } else { most }
+    if most <= left { most } else { left }
 }
 
 // A batch has room for sixteen such lines.
@@ -86,6 +87,50 @@ fn lines_left(plan: Plan, counts: Counts, j: usize) -> usize
     }
     let width = (plan.cell.n2 / 2 + 1) as usize;
     width - j % width
+}
+
+// As group_of_turn, of plain lines of one row alone: any other line is by itself.
+pub fn group_in_turn(plan: Plan, counts: Counts, n: usize, most: usize) -> LineGroup
+    requires { Planned plan
+        × Counted plan counts
+        × (n < line_count (plan_group plan) (plan_halves plan))
+        × (0 < most) }
+    ensures { GroupAt plan n most result }
+{
+    let j = line_of_turn(plan, counts, n);
+    let line = line_at(plan, counts, j);
+    LineGroup {
+        line,
+        lanes: lanes_from(plan, counts, j, line, most),
+    }
+}
+
+// As lanes_beside, of plain lines alone: how many there are to the end of the row of line number j, if a batch has room for them.
+fn lanes_from(plan: Plan, counts: Counts, j: usize, line: Line, most: usize) -> usize
+    requires { Planned plan
+        × Counted plan counts
+        × (j < line_count (plan_group plan) (plan_halves plan))
+        × (0 < most) }
+    ensures { (0 < result) × (result ≤ most) × (1 < result → Batched plan j line result) }
+{
+    if most == 1 {
+        return 1;
+    }
+    if line.kind != 0 {
+        return 1;
+    }
+    if line.rotated {
+        return 1;
+    }
+    if 360 < line.count {
+        return 1;
+    }
+    if counts.l + counts.h <= j {
+        return 1;
+    }
+    let width = (plan.cell.n2 / 2 + 1) as usize;
+    let left = width - j % width;
+    if left < most { left } else { most }
 }
 
 // Its number: analysis takes the axes in the other order.

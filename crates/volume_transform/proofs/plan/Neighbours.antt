@@ -1,6 +1,6 @@
 -- Lines of one row stand side by side: their numbers, their turns and their places rise by one.
 use mathlib.Core.Path.{◌≡◌, refl, sym, ◌∙◌, ap, subst}
-use mathlib.Core.Logic.{◌⊎◌, inl, inr, ⊎_elim}
+use mathlib.Core.Logic.{inl, inr, ⊎_elim}
 use mathlib.Core.Bool.{Bool, false}
 use Prim.Native.Nat.{ℕ, ◌+◌, ◌*◌, ◌-◌, ◌/◌, ◌%◌, ◌<◌, ◌≤◌}
 use native.Mathlib.Nat.{mul-add-mod_self_right, mod-lt}
@@ -15,7 +15,7 @@ use Rattle.cell.specs.Operations.{Sizes}
 use Rattle.volume_transform.specs.Axes.{turn_of, numbers_of, along_l, along_h, along_k, line_count, line_of_turn, turned_l, turned_h, turned_k}
 use Rattle.volume_transform.specs.Lines.{shifted}
 use Rattle.volume_transform.specs.Plans.{plan_group, plan_halves, Planned, Counted, line_turn, plan_numbers, Gathered, Row, LineAt}
-use Rattle.volume_transform.specs.Groups.{Neighbours, RowsAfter, InBatch, SideBySide, GatheredGroup, RowGroup, GroupAt}
+use Rattle.volume_transform.specs.Groups.{Neighbours, RowsAfter, InBatch, SideBySide, GatheredGroup, RowGroup, GroupOfTurn}
 use Rattle.volume_transform.specs.declared.plan.Plan.{Plan}
 use Rattle.volume_transform.specs.declared.plan.Counts.{Counts}
 use Rattle.volume_transform.specs.declared.plan.Line.{Line}
@@ -43,7 +43,7 @@ module _ (q w y v : ℕ) (l : y < q * w) (lv : y % w + v < w) where
 -- ---- the order of the turns
 
 module _ (g : Group) (a : J) (n v : ℕ) where
-  abbrev Further : ℕ → Type 0
+  abbrev pub Further : ℕ → Type 0
   Further direction = (line_of_turn g a direction (n + v) ≡ line_of_turn g a direction n + v) × (n + v < line_count g a)
 
   -- the lines along l and h are those of the rows of both
@@ -123,7 +123,7 @@ module _ (p : Plan) (ok : Planned p) where
       (lt_or_ge p.direction 1)
 
   -- the turns of lines that stand side by side follow each other
-  turns_beside : (n lanes v : ℕ) → n < line_count group halves → SideBySide p (line_of_turn group halves p.direction n) lanes → v < lanes → Further group halves n v p.direction
+  pub turns_beside : (n lanes v : ℕ) → n < line_count group halves → SideBySide p (line_of_turn group halves p.direction n) lanes → v < lanes → Further group halves n v p.direction
   turns_beside n lanes v l h lv = ⊎_elim
       (λ (low : line_of_turn group halves p.direction n < (along_l group halves).count + (along_h group halves).count).
       directions
@@ -255,7 +255,7 @@ module _ (p : Plan) (ok : Planned p) where
     pub group_at : {most : ℕ} → LineAt p number x → lanes ≤ most → (1 < lanes → InBatch x × SideBySide p number lanes)
         → (number < (along_l group halves).count + (along_h group halves).count → Neighbours p (line_turn p) (plan_numbers p) number x)
         → ((along_l group halves).count + (along_h group halves).count ≤ number → RowsAfter p (line_turn p) (plan_numbers p) number (line_count group halves) x)
-        → GroupAt p n most (record { line = x; lanes = lanes })
+        → GroupOfTurn p n most (record { line = x; lanes = lanes })
     group_at first few batched near after = record {
       first = first;
       some = some;
@@ -274,7 +274,7 @@ module _ (p : Plan) (ok : Planned p) where
     pub group_by : {most : ℕ} (j : ℕ) → j ≡ number → LineAt p j x → lanes ≤ most → (1 < lanes → InBatch x × SideBySide p j lanes)
         → (j < (along_l group halves).count + (along_h group halves).count → Neighbours p (line_turn p) (plan_numbers p) j x)
         → ((along_l group halves).count + (along_h group halves).count ≤ j → RowsAfter p (line_turn p) (plan_numbers p) j (line_count group halves) x)
-        → GroupAt p n most (record { line = x; lanes = lanes })
+        → GroupOfTurn p n most (record { line = x; lanes = lanes })
     group_by j e first few batched near after =
         group_at (subst (λ j. LineAt p j x) e first) few (λ more. subst (λ j. InBatch x × SideBySide p j lanes) e (batched more))
         (λ low. subst (λ j. Neighbours p (line_turn p) (plan_numbers p) j x) e (near (omega (arith, e, low))))
@@ -285,7 +285,7 @@ module _ (p : Plan) (ok : Planned p) where
   pub row_left : (j : ℕ) → (0 < width - j % width) × (j % width ≤ width)
   row_left j = let l : j % width < width = mod-lt j (omega arith) in (omega arith, omega arith)
 
-  in_row : (j lanes : ℕ) → lanes ≤ width - j % width → j % columns group halves + lanes ≤ columns group halves
+  pub in_row : (j lanes : ℕ) → lanes ≤ width - j % width → j % columns group halves + lanes ≤ columns group halves
   in_row j lanes l = subst (λ w. j % w + lanes ≤ w) (next sizes) (omega (arith, l, (row_left j).1))
 
   module _ {c : Counts} (counts : Counted p c) (j lanes : ℕ) where

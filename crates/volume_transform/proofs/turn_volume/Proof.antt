@@ -33,15 +33,15 @@ overflow_add-count-2 c = omega (arith, c.line_counts-counts.ensures.low)
 loop-n-init : tie.Need-loop-n-init invariant-loop-n decreases-loop-n
 loop-n-init c = turning_start
 
-group_in_turn-group-requires : tie.Need-group_in_turn-group-requires invariant-loop-n decreases-loop-n
-group_in_turn-group-requires c κs =
+group_of_turn-group-requires : tie.Need-group_of_turn-group-requires invariant-loop-n decreases-loop-n
+group_of_turn-group-requires c κs =
     (c.requires.0.0, c.line_counts-counts.ensures, omega (arith, c.loop-n-test.true, counted_lines c.line_counts-counts.ensures), c.requires.1.0.0)
 
-turn_group-requires : tie.Need-turn_group-requires invariant-loop-n decreases-loop-n
-turn_group-requires c κs =
+turn_placed_group-requires : tie.Need-turn_placed_group-requires invariant-loop-n decreases-loop-n
+turn_placed_group-requires c κs =
     let a = c.args in
-    let x = c.group_in_turn-group.result.line in
-    let found = c.group_in_turn-group.ensures in
+    let x = c.group_of_turn-group.result.line in
+    let found = c.group_of_turn-group.ensures in
     let fits = turning_fits a.plan c.loop-n.invariant c.requires.1.1.0 in
     let j = line_of_turn (plan_group a.plan) (plan_halves a.plan) a.plan.direction c.loop-n.n in
     let room = c.requires.1.0.2 (omega (arith, c.if-group-gt3.true, found.few)) in (
@@ -55,27 +55,27 @@ turn_group-requires c κs =
 
 overflow_add-n : tie.Need-overflow_add-n invariant-loop-n decreases-loop-n
 overflow_add-n c =
-    omega (arith, c.group_in_turn-group.ensures.inside, counted_lines c.line_counts-counts.ensures, c.line_counts-counts.ensures.low)
+    omega (arith, c.group_of_turn-group.ensures.inside, counted_lines c.line_counts-counts.ensures, c.line_counts-counts.ensures.low)
 
 loop-n-smaller-then-group-gt3 : tie.Need-loop-n-smaller-then-group-gt3 invariant-loop-n decreases-loop-n
 loop-n-smaller-then-group-gt3 c =
-    omega (arith, c.group_in_turn-group.ensures.inside, c.group_in_turn-group.ensures.some, counted_lines c.line_counts-counts.ensures)
+    omega (arith, c.group_of_turn-group.ensures.inside, c.group_of_turn-group.ensures.some, counted_lines c.line_counts-counts.ensures)
 
 loop-n-preserved-then-group-gt3 : tie.Need-loop-n-preserved-then-group-gt3 invariant-loop-n decreases-loop-n
 loop-n-preserved-then-group-gt3 c =
     let p = c.args.plan in
-    let g = c.group_in_turn-group.result in
-    let found = c.group_in_turn-group.ensures in
+    let g = c.group_of_turn-group.result in
+    let found = c.group_of_turn-group.ensures in
     turning_more c.loop-n.invariant g.lanes (omega (arith, found.inside, counted_lines c.line_counts-counts.ensures))
-    (c.turn_group.ensures.0
+    (c.turn_placed_group.ensures.0
     ∙ group_turns p g.line found.some (turning_fits p c.loop-n.invariant c.requires.1.1.0) (omega (arith, found.few, c.requires.1.0.1)) (found.together (omega (arith, c.if-group-gt3.true))))
-    c.turn_group.ensures.1 c.scratch-1.given refl c.work-1.given
+    c.turn_placed_group.ensures.1 c.scratch-1.given refl c.work-1.given
 
 turn-requires : tie.Need-turn-requires invariant-loop-n decreases-loop-n
 turn-requires c κs =
     let a = c.args in
-    let x = c.group_in_turn-group.result.line in
-    let found = c.group_in_turn-group.ensures.first in
+    let x = c.group_of_turn-group.result.line in
+    let found = c.group_of_turn-group.ensures.first in
     let j = line_of_turn (plan_group a.plan) (plan_halves a.plan) a.plan.direction c.loop-n.n in
     let ready = line_ready a.plan j x _ a.re.now a.im.now a.tan.now (turning_fits a.plan c.loop-n.invariant c.requires.1.1.0) c.requires.0.1 found in
     ((ready.0.0, ready.0.1, c.requires.0.2 ∙ sym (modulus_is a.plan j x found)), (ready.1, turning_lent c.loop-n.invariant c.requires.1.1.1))
@@ -90,7 +90,7 @@ loop-n-preserved : tie.Need-loop-n-preserved invariant-loop-n decreases-loop-n
 loop-n-preserved c =
     let p = c.args.plan in
     turning_next c.loop-n.invariant c.loop-n-test.true
-    (c.turn.ensures.0 ∙ turned_as p (line_of_turn (plan_group p) (plan_halves p) p.direction c.loop-n.n) c.group_in_turn-group.result.line c.group_in_turn-group.ensures.first _)
+    (c.turn.ensures.0 ∙ turned_as p (line_of_turn (plan_group p) (plan_halves p) p.direction c.loop-n.n) c.group_of_turn-group.result.line c.group_of_turn-group.ensures.first _)
     c.turn.ensures.1 c.scratch-else-group-gt3-1.given c.fold-1.given c.work-else-group-gt3-1.given
 
 clear-requires : tie.Need-clear-requires invariant-loop-n decreases-loop-n
@@ -123,4 +123,4 @@ returns c =
 pub turn_volume_spec : {M : Type 1} → statement M
 turn_volume_spec =
     tie.close
-    (tie.spec invariant-loop-n decreases-loop-n line_counts-counts-requires overflow_add-count overflow_add-count-2 loop-n-init group_in_turn-group-requires turn_group-requires overflow_add-n loop-n-smaller-then-group-gt3 loop-n-preserved-then-group-gt3 turn-requires overflow_add-n-else-group-gt3 loop-n-smaller loop-n-preserved clear-requires shape_of-volume shape_of-scratch shape_of-fold shape_of-work returns)
+    (tie.spec invariant-loop-n decreases-loop-n line_counts-counts-requires overflow_add-count overflow_add-count-2 loop-n-init group_of_turn-group-requires turn_placed_group-requires overflow_add-n loop-n-smaller-then-group-gt3 loop-n-preserved-then-group-gt3 turn-requires overflow_add-n-else-group-gt3 loop-n-smaller loop-n-preserved clear-requires shape_of-volume shape_of-scratch shape_of-fold shape_of-work returns)

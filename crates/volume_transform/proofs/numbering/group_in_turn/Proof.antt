@@ -1,5 +1,5 @@
--- The line of the turn, and the lines beside it.
-use Rattle.volume_transform.proofs.plan.Neighbours.{group_by}
+-- The line of the turn, and the plain lines beside it.
+use Rattle.volume_transform.proofs.PlainGroups.{plain_by}
 use Rattle.volume_transform.proofs.numbering.group_in_turn.Statement.{statement}
 use Rattle.volume_transform.proofs.numbering.group_in_turn.Tie as tie
 
@@ -10,14 +10,13 @@ line_at-line-requires : tie.Need-line_at-line-requires
 line_at-line-requires c κs = (c.requires.0, c.requires.1, c.line_of_turn-j.ensures.1)
 
 lanes_from-requires : tie.Need-lanes_from-requires
-lanes_from-requires c κs =
-    (c.requires.0, c.requires.1, c.line_of_turn-j.ensures.1, c.requires.3)
+lanes_from-requires c κs = (c.requires.0, c.requires.1, c.line_of_turn-j.ensures.1, c.requires.3)
 
 returns : tie.Need-returns
 returns c =
     let lanes = c.lanes_from.ensures in
-    group_by c.args.plan c.requires.0 c.args.n c.requires.2 c.line_at-line.result c.lanes_from.result lanes.0 c.line_of_turn-j.result c.line_of_turn-j.ensures.0
-    c.line_at-line.ensures.0 lanes.1 lanes.2 c.line_at-line.ensures.1.0 c.line_at-line.ensures.1.1
+    plain_by c.args.plan c.requires.0 c.args.n c.requires.2 c.line_at-line.result c.lanes_from.result c.line_of_turn-j.result c.line_of_turn-j.ensures.0
+    c.line_at-line.ensures.0 lanes.0 lanes.1 lanes.2 c.line_at-line.ensures.1.0
 
 pub group_in_turn_spec : {M : Type 1} → statement M
 group_in_turn_spec = tie.close (tie.spec line_of_turn-j-requires line_at-line-requires lanes_from-requires returns)

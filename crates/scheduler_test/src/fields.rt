@@ -31,13 +31,11 @@ fn axis_at(r: &[u32], i: usize) -> Axis
 // The scheduler of the first 81 numbers, whether or not any calls could have left it.
 pub fn scheduler_in(r: &[u32]) -> Scheduler {
     let mut s = Scheduler::new();
-    let mut i: usize = 0;
-    while i < 8 {
+    for i in 0..8 {
         s.lanes[i] = Lane {
             left: test_io::at(r, 10 * i),
             job: job_at(r, 10 * i + 1),
         };
-        i += 1;
     }
     s.last = test_io::at(r, 80);
     s
@@ -45,12 +43,10 @@ pub fn scheduler_in(r: &[u32]) -> Scheduler {
 
 // Its numbers at the first 81 places.
 pub fn put_scheduler(s: Scheduler, r: &mut [u32]) {
-    let mut i: u32 = 0;
-    while i < 8 {
+    for i in 0..8 {
         let lane = s.lanes[i as usize];
         test_io::put_at(r, 10 * i, lane.left);
         put_job(lane.job, 10 * i + 1, r);
-        i += 1;
     }
     test_io::put_at(r, 80, s.last);
 }

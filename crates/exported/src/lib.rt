@@ -1,5 +1,6 @@
-// The recorder for programs in C: each function but the version is a public call of crate line, job, factor_file, faults, combined, combining,
-// section, mrc, correlation, sliding_window, scheduler or factor_lists under a C name, and include/recorder.h declares it again.
+// The recorder as programs in C see it: each function but the version is a public call of crate line, job, factor_file, faults, combined,
+// combining, section, mrc, correlation, sliding_window, scheduler or factor_lists under its C name. Crate exported_c hands them out, and
+// include/recorder.h declares them again.
 //
 // A job, a scheduler, an index and a point go in and come back by value; a buffer is a pointer and a length. Every answer has a number: 0, or
 // the paper's number of the refusal. What only an accepted call gives is zero in a refused one.
